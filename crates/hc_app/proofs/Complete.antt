@@ -16,7 +16,7 @@ use Rattle.hc_sched.specs.Schedule.{Item, Spells}
 use Rattle.hc_sched.proofs.OneReading.{is_read}
 use Rattle.hc_driver.specs.Endings as endings
 use Rattle.hc_driver.specs.Endings.{Reach, IsRead, IsRefusedIn}
-use Rattle.hc_model.proofs.Basics.{some_none}
+use Rattle.hc_effects.proofs.Basics.{some_none}
 use Rattle.hc_contents.specs.Fit.{unfit_of}
 use Rattle.hc_contents.specs.declared.unfit.Unfit.{Unfit}
 use Rattle.hc_contents.specs.declared.unfit.Unfit.TheVariants as unfit

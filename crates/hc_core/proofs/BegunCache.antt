@@ -15,7 +15,7 @@ use Rattle.hc_contents.specs.declared.contents.Contents as coded_all
 use Rattle.hc_contents.specs.Fit.{unfit_of}
 use Rattle.hc_contents.specs.PlainContents.{plain_contents, plain_item}
 use Rattle.hc_contents.proofs.Counting.{begins_by}
-use Rattle.hc_model.proofs.Basics.{and_left, and_right}
+use Rattle.hc_effects.proofs.Basics.{and_left, and_right}
 use Rattle.hc_state.specs.declared.rows.Rows.{Rows}
 use Rattle.hc_state.specs.Good.{StandsAt}
 use Rattle.hc_state.specs.Stands.{RowsStand}

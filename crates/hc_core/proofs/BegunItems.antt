@@ -25,7 +25,7 @@ use Rattle.hc_model.specs.Beginnings.{ascend_from, is_kind_right, is_good, are_g
 use Rattle.hc_model.specs.Entries.{Content, Contents}
 use Rattle.hc_model.specs.Rows.{Representation}
 use Rattle.hc_model.specs.Tables.{first_tables, representation_of_content, last_end, bytes_in}
-use Rattle.hc_model.proofs.Basics.{and_left, and_right, or_false, append_none}
+use Rattle.hc_effects.proofs.Basics.{and_left, and_right, or_false, append_none}
 use Rattle.hc_stored.specs.Entries.{shelf_of}
 use Rattle.hc_state.specs.declared.rows.Rows.{Rows}
 use Rattle.hc_state.specs.Stands.{RowsStand}

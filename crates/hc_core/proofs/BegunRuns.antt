@@ -20,11 +20,11 @@ use Rattle.hc_model.specs.Kinds as kinds
 use Rattle.hc_model.specs.Kinds.{kind_of, is_front}
 use Rattle.hc_model.specs.Tables as tables
 use Rattle.hc_model.specs.Tables.{last_end, bytes_in, representation_of_content}
-use Rattle.hc_model.proofs.Basics.{and_left, and_right}
-use Rattle.hc_model.proofs.Begins.{ends_all}
-use Rattle.hc_model.proofs.HoleLemmas.{bool_cases, covers_all}
-use Rattle.hc_model.proofs.KindsLeft.{kind_by, kind_right, count_is, last_is}
-use Rattle.hc_model.proofs.Positions.{bytes_below}
+use Rattle.hc_effects.proofs.Basics.{and_left, and_right}
+use Rattle.hc_laws.proofs.Begins.{ends_all}
+use Rattle.hc_effects.proofs.HoleLemmas.{bool_cases, covers_all}
+use Rattle.hc_laws.proofs.KindsLeft.{kind_by, kind_right, count_is, last_is}
+use Rattle.hc_laws.proofs.Positions.{bytes_below}
 use Rattle.hc_state.proofs.Words.{false_true}
 
 -- ONE AFTER ANOTHER

@@ -21,11 +21,11 @@ use Rattle.hc_model.specs.Lawful.{Lawful}
 use Rattle.hc_model.specs.Rows.{Tables, Representation}
 use Rattle.hc_model.specs.Sound.{IsStored}
 use Rattle.hc_model.specs.Tables.{tables}
-use Rattle.hc_model.proofs.Basics.{and_left, number_is, same_functions}
-use Rattle.hc_model.proofs.RunsWithinLimits.{heads_come_within_limits}
+use Rattle.hc_effects.proofs.Basics.{and_left, number_is, same_functions}
+use Rattle.hc_laws.proofs.RunsWithinLimits.{heads_come_within_limits}
 use Rattle.hc_laws.proofs.LeavesGood.{leaves_good}
-use Rattle.hc_laws.proofs.LettingGo.{may_let_go}
-use Rattle.hc_model.proofs.PollKeeps.{current_stays}
+use Rattle.hc_effects.proofs.LettingGo.{may_let_go}
+use Rattle.hc_effects.proofs.PollKeeps.{current_stays}
 use Rattle.hc_exch.specs.Exchanges.{next_of}
 use Rattle.hc_contents.specs.declared.contents.Contents as coded_all
 use Rattle.hc_contents.specs.PlainContents.{plain_contents, plain_item}

@@ -8,10 +8,10 @@ use Rattle.hc_model.specs.Keys.{entry_of}
 use Rattle.hc_model.specs.Laws.{OfRuns}
 use Rattle.hc_model.specs.Rows.{Tables, Representation}
 use Rattle.hc_model.specs.Tables.{first_tables, representation_of_content}
-use Rattle.hc_model.proofs.HeadFrom.{HeadFrom, head_from}
-use Rattle.hc_model.proofs.HeadFrom as from
-use Rattle.hc_model.proofs.RepFrom.{RepFrom, rep_from}
-use Rattle.hc_model.proofs.RepFrom as rep
+use Rattle.hc_laws.proofs.HeadFrom.{HeadFrom, head_from}
+use Rattle.hc_laws.proofs.HeadFrom as from
+use Rattle.hc_effects.proofs.RepFrom.{RepFrom, rep_from}
+use Rattle.hc_effects.proofs.RepFrom as rep
 use Rattle.hc_laws.proofs.RunFacts.{in_runs}
 use Rattle.hc_state.proofs.Words.{none_some, some_is}
 

@@ -33,14 +33,14 @@ use Rattle.hc_model.specs.Measures.{Measures}
 use Rattle.hc_model.specs.Rows.{Tables, Exchange, Representation}
 use Rattle.hc_model.specs.Sound.{Among, Sound}
 use Rattle.hc_model.specs.Tables.{first_tables, representation_of_content, numbers, last_end, tables}
-use Rattle.hc_model.proofs.Basics.{and_left, and_right, number_is}
-use Rattle.hc_model.proofs.Closed.{among_filter}
-use Rattle.hc_model.proofs.CurrentKeeps.{current_is}
-use Rattle.hc_model.proofs.KeysKeep.{current_row}
-use Rattle.hc_model.proofs.PollKeeps.{current_stays}
-use Rattle.hc_model.proofs.RunsFrom.{end_is}
+use Rattle.hc_effects.proofs.Basics.{and_left, and_right, number_is}
+use Rattle.hc_effects.proofs.Closed.{among_filter}
+use Rattle.hc_effects.proofs.CurrentKeeps.{current_is}
+use Rattle.hc_effects.proofs.KeysKeep.{current_row}
+use Rattle.hc_effects.proofs.PollKeeps.{current_stays}
+use Rattle.hc_laws.proofs.RunsFrom.{end_is}
 use Rattle.hc_laws.proofs.SoundRuns.{carried, measures_in_runs}
-use Rattle.hc_model.proofs.Sums.{filter_among}
+use Rattle.hc_effects.proofs.Sums.{filter_among}
 use Rattle.hc_state.specs.declared.consumer.Consumer.{Consumer}
 use Rattle.hc_state.specs.declared.rows.Rows.{Rows}
 use Rattle.hc_state.specs.Kept.{KeepsConsumer, KeepsExchange, KeepsRunning}

@@ -11,7 +11,7 @@ use Rattle.hc_model.specs.Rows.{Tables, Exchange, Representation, Consumer}
 use Rattle.hc_model.specs.Sound as sound
 use Rattle.hc_model.specs.Whose.{IsSomebodys, may_own}
 use Rattle.hc_model.specs.Whose as whose
-use Rattle.hc_model.proofs.ExclusiveWriters.{filter_some}
+use Rattle.hc_effects.proofs.ExclusiveWriters.{filter_some}
 use Rattle.hc_state.specs.Kept.{held_for, held_of, held_alone, unread, unstored_bytes}
 use Rattle.hc_state.proofs.LiveCounts.{filter_nothing}
 use Rattle.hc_state.proofs.Words.{false_true, not_true}

@@ -16,7 +16,7 @@ use Rattle.hc_model.specs.Keys.{entry_of}
 use Rattle.hc_model.specs.Rows.{Tables}
 use Rattle.hc_model.specs.Sound.{Sound}
 use Rattle.hc_model.specs.Tables.{after_accepted, opened_after}
-use Rattle.hc_model.proofs.NumbersKeep.{opens_next}
+use Rattle.hc_effects.proofs.NumbersKeep.{opens_next}
 use Rattle.hc_state.specs.declared.rows.Rows.{Rows}
 use Rattle.hc_state.specs.Good.{StandsUntil, rows_with_event}
 use Rattle.hc_state.specs.Stands.{Stands, Answers, gate_of}

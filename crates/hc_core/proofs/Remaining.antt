@@ -7,7 +7,7 @@ use Rattle.hc_sparse.specs.Cells.{Cells, Cell, EndsBy, AreAbsent, IsNext}
 use Rattle.hc_sparse.specs.Stretch.{IsLongest}
 use Rattle.hc_sparse.specs.declared.run.Run.{Run}
 use Rattle.hc_model.specs.Contents.{run_from, with_cell, with_place, runs_from}
-use Rattle.hc_model.proofs.Basics.{and_left, and_right, append_none, split}
+use Rattle.hc_effects.proofs.Basics.{and_left, and_right, append_none, split}
 use Rattle.hc_state.proofs.Words.{eqb-same, false_true, none_some}
 
 -- nothing is there: no run

@@ -8,7 +8,7 @@ use Rattle.hc_sparse.specs.Runs.{cells_of}
 use Rattle.hc_sparse.specs.declared.run.Run.{Run}
 use Rattle.hc_sparse.proofs.CellLemmas.{inside-yes, inside-before, inside-past, inside-cases}
 use Rattle.hc_model.specs.Contents.{run_from, with_cell, with_place, runs_from}
-use Rattle.hc_model.proofs.Basics.{and_left, and_right, split}
+use Rattle.hc_effects.proofs.Basics.{and_left, and_right, split}
 use Rattle.hc_state.proofs.Words.{same_or}
 
 -- ONE MORE IN FRONT

@@ -16,7 +16,7 @@ use Rattle.hc_model.specs.LettingGo.{AreSized}
 use Rattle.hc_model.specs.Numbers.{Numbers}
 use Rattle.hc_model.specs.Rows.{Tables, Representation}
 use Rattle.hc_model.specs.Sizes.{Sizes}
-use Rattle.hc_model.proofs.Positions.{below_past}
+use Rattle.hc_laws.proofs.Positions.{below_past}
 use Rattle.hc_state.specs.declared.rows.Rows.{Rows}
 use Rattle.hc_state.specs.Stands.{RowsStand}
 use Rattle.hc_state.specs.Stored.{KeepsEntry}

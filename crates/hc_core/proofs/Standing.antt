@@ -14,8 +14,8 @@ use Rattle.hc_model.specs.Rows.{Exchange}
 use Rattle.hc_model.specs.Runs.{IsRun}
 use Rattle.hc_model.specs.Tables.{tables}
 use Rattle.hc_laws.proofs.AloneRuns.{alone_in_runs}
-use Rattle.hc_model.proofs.Beside.{goes_on_at}
-use Rattle.hc_model.proofs.RunsWithinLimits.{requests_are_within_limits}
+use Rattle.hc_effects.proofs.Beside.{goes_on_at}
+use Rattle.hc_laws.proofs.RunsWithinLimits.{requests_are_within_limits}
 use Rattle.hc_laws.proofs.BringsRuns.{brings_in_runs}
 use Rattle.hc_laws.proofs.FrontRuns.{fronts_in_runs}
 use Rattle.hc_laws.proofs.FitsRuns.{fits}
@@ -34,7 +34,7 @@ use Rattle.hc_laws.proofs.SizesKeep.{sizes_in_runs}
 use Rattle.hc_laws.proofs.SoundRuns.{carried, measures_in_runs}
 use Rattle.hc_laws.proofs.StoredHeadsKeep.{heads_in_runs}
 use Rattle.hc_laws.proofs.TagRuns.{tags_in_runs}
-use Rattle.hc_laws.proofs.WeightsLeft.{weights_total}
+use Rattle.hc_effects.proofs.WeightsLeft.{weights_total}
 use Rattle.hc_laws.proofs.UnendedRuns.{unended_in_runs}
 use Rattle.hc_laws.proofs.WhoseRuns.{whose_in_runs}
 use Rattle.hc_state.specs.declared.rows.Rows.{Rows}

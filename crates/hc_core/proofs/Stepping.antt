@@ -48,7 +48,7 @@ use Rattle.hc_on_leave.proofs.Sets.{acts_set}
 use Rattle.hc_core.proofs.Standing.{facts_of_runs, sized_of_any, sized_of_some}
 use Rattle.hc_state.proofs.Maps.{merely_below}
 use Rattle.hc_state.proofs.Words.{more_received, none_received, none_some}
-use Rattle.hc_model.proofs.Undenied.{undenied}
+use Rattle.hc_laws.proofs.Undenied.{undenied}
 use Rattle.hc_core.proofs.Denying.{stands_denied, stands_begun}
 use Rattle.hc_core.specs.declared.cache.Cache.{Cache}
 use Rattle.hc_core.specs.Steps.{StandsFor, Steps, KeepsPromises}

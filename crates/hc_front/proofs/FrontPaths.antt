@@ -24,7 +24,7 @@ use Rattle.hc_model.specs.Entries.{Contents, History}
 use Rattle.hc_model.specs.Kinds.{kind_of, kind_at, kind_for}
 use Rattle.hc_model.specs.Rows.{Tables, Representation}
 use Rattle.hc_model.specs.Tables.{tables}
-use Rattle.hc_model.proofs.PollKeeps.{find_passes}
+use Rattle.hc_effects.proofs.PollKeeps.{find_passes}
 use Rattle.hc_core.specs.Steps as core
 use Rattle.hc_core.specs.Steps.{StandsFor}
 use Rattle.hc_condition.specs.External.{is_external}

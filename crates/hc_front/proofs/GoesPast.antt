@@ -32,10 +32,10 @@ use Rattle.hc_model.specs.Polls.{move_of}
 use Rattle.hc_model.specs.Rows.{Tables, Consumer}
 use Rattle.hc_model.specs.Runs.{IsRun, IsOwed, size_flaw, owed}
 use Rattle.hc_model.specs.Weights.{room_for}
-use Rattle.hc_model.proofs.Owed.{goes}
+use Rattle.hc_effects.proofs.Owed.{goes}
 use Rattle.hc_laws.proofs.Faultless.{faultless_are_owed}
 use Rattle.hc_laws.proofs.LawfulRuns.{lawful_in_runs}
-use Rattle.hc_laws.proofs.PollEffects as polls
+use Rattle.hc_effects.proofs.PollEffects as polls
 use Rattle.hc_front.specs.declared.watches.Watched.{Watched}
 use Rattle.hc_condition.specs.External.{none_match_of, are_tags, is_date_or_absent, is_about_copy, asks_more, is_external}
 use Rattle.hc_front.specs.Fronts.{Fronted, Heard, is_ending, handed, told, core_entry}

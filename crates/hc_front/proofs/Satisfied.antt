@@ -33,14 +33,14 @@ use Rattle.hc_model.specs.Polls.{poll_move}
 use Rattle.hc_model.specs.Rows.{Tables, Consumer}
 use Rattle.hc_model.specs.Runs.{IsRun, IsOwed}
 use Rattle.hc_model.specs.Tables.{after}
-use Rattle.hc_model.proofs.ActParts.{far_closing, far_lost_only}
-use Rattle.hc_model.proofs.Basics.{some_none}
-use Rattle.hc_model.proofs.EventsKeep.{poll_live}
-use Rattle.hc_model.proofs.Givers.{some_want}
-use Rattle.hc_model.proofs.OneHead.{one_head_is_shown}
-use Rattle.hc_model.proofs.Owed as owed_by
-use Rattle.hc_model.proofs.Owed.{IsDenied, is_denial, goes, acts_are, denied_gives}
-use Rattle.hc_model.proofs.TurnFacts.{far_from}
+use Rattle.hc_effects.proofs.ActParts.{far_closing, far_lost_only}
+use Rattle.hc_effects.proofs.Basics.{some_none}
+use Rattle.hc_effects.proofs.EventsKeep.{poll_live}
+use Rattle.hc_effects.proofs.Givers.{some_want}
+use Rattle.hc_laws.proofs.OneHead.{one_head_is_shown}
+use Rattle.hc_effects.proofs.Owed as owed_by
+use Rattle.hc_effects.proofs.Owed.{IsDenied, is_denial, goes, acts_are, denied_gives}
+use Rattle.hc_laws.proofs.TurnFacts.{far_from}
 use Rattle.hc_laws.proofs.LawfulRuns.{lawful_in_runs}
 use Rattle.hc_laws.proofs.LiveAfter.{consumer_behind, dead_stays}
 use Rattle.hc_replay.specs.Histories.{run_of}

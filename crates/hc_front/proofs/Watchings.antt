@@ -24,8 +24,8 @@ use Rattle.hc_model.specs.Lawful.{Lawful}
 use Rattle.hc_model.specs.Rows.{Tables, Consumer}
 use Rattle.hc_model.specs.Runs.{IsOwed}
 use Rattle.hc_model.specs.Tables.{tables, after}
-use Rattle.hc_model.proofs.Basics.{some_none}
-use Rattle.hc_model.proofs.Owed.{goes}
+use Rattle.hc_effects.proofs.Basics.{some_none}
+use Rattle.hc_effects.proofs.Owed.{goes}
 use Rattle.hc_laws.proofs.StaysLive.{stays_live}
 use Rattle.hc_laws.proofs.WhoLeaves.{leaver_polls, cancelled_over, told_over}
 use Rattle.hc_front.specs.declared.watches.Watched.{Watched}

@@ -20,7 +20,7 @@ use Rattle.hc_model.specs.Flaws.{flaw_in}
 use Rattle.hc_model.specs.Rows.{Tables, Exchange, Consumer}
 use Rattle.hc_model.specs.Runs.{IsOwed}
 use Rattle.hc_model.specs.Tables.{after, after_accepted, after_denied}
-use Rattle.hc_model.proofs.Undenied.{undenied}
+use Rattle.hc_laws.proofs.Undenied.{undenied}
 
 true_false : {A : Type 0} → true ≡ false → A
 true_false h = absurd (let never : true ≡ false = h in cc)

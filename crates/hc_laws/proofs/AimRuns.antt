@@ -26,19 +26,19 @@ use Rattle.hc_model.specs.Reading.{bound_to}
 use Rattle.hc_model.specs.Rows.{Tables, Exchange, Representation, Consumer}
 use Rattle.hc_model.specs.Sound.{Sound}
 use Rattle.hc_model.specs.Tables.{tables, after_accepted}
-use Rattle.hc_model.proofs.Aimed.{aim_free}
-use Rattle.hc_model.proofs.Asked.{Asked, HasCandidate}
-use Rattle.hc_model.proofs.Basics.{none_some, some_none, some_row, false_true}
-use Rattle.hc_model.proofs.ExchangeFrom.{ExchangeFrom, exchange_from}
-use Rattle.hc_model.proofs.ExchangeFrom as exchange
+use Rattle.hc_laws.proofs.Aimed.{aim_free}
+use Rattle.hc_effects.proofs.Asked.{Asked, HasCandidate}
+use Rattle.hc_effects.proofs.Basics.{none_some, some_none, some_row, false_true}
+use Rattle.hc_effects.proofs.ExchangeFrom.{ExchangeFrom, exchange_from}
+use Rattle.hc_effects.proofs.ExchangeFrom as exchange
 use Rattle.hc_laws.proofs.InRuns.{one_key_in_runs}
-use Rattle.hc_model.proofs.NamesKeep.{current_there}
-use Rattle.hc_model.proofs.OpenedAs.{OpenedAs, Way, opened_as}
-use Rattle.hc_model.proofs.OpenedAs as opened
+use Rattle.hc_effects.proofs.NamesKeep.{current_there}
+use Rattle.hc_effects.proofs.OpenedAs.{OpenedAs, Way, opened_as}
+use Rattle.hc_effects.proofs.OpenedAs as opened
 use Rattle.hc_laws.proofs.Reasons.{aimed}
 use Rattle.hc_laws.proofs.RunFacts.{in_runs}
-use Rattle.hc_model.proofs.Said.{opening_by}
-use Rattle.hc_model.proofs.ShownFrom.{candidate_is}
+use Rattle.hc_effects.proofs.Said.{opening_by}
+use Rattle.hc_effects.proofs.ShownFrom.{candidate_is}
 
 -- what is carried along a run
 record Names (limits : Limits) (t : Tables) : Type 0 where

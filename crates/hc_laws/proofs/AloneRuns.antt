@@ -15,17 +15,17 @@ use Rattle.hc_model.specs.Sound.{Sound, Among, IsBound, IsFirst}
 use Rattle.hc_model.specs.Sound as sound
 use Rattle.hc_model.specs.Tables.{tables, after_denied}
 use Rattle.hc_model.specs.Writers.{came_alone, exclusive, has_more}
-use Rattle.hc_model.proofs.Basics.{false_true, none_some}
-use Rattle.hc_model.proofs.DeniedKeeps.{written_same}
-use Rattle.hc_laws.proofs.Exclusives.{IsExclusive, exclusive_parts}
-use Rattle.hc_laws.proofs.HasBound.{bound_row}
-use Rattle.hc_model.proofs.HoleLemmas.{bool_cases, covers_yes}
-use Rattle.hc_model.proofs.HolesOpened.{stored_ends}
-use Rattle.hc_model.proofs.Losses.{exclusive_is}
+use Rattle.hc_effects.proofs.Basics.{false_true, none_some}
+use Rattle.hc_laws.proofs.DeniedKeeps.{written_same}
+use Rattle.hc_effects.proofs.Exclusives.{IsExclusive, exclusive_parts}
+use Rattle.hc_effects.proofs.HasBound.{bound_row}
+use Rattle.hc_effects.proofs.HoleLemmas.{bool_cases, covers_yes}
+use Rattle.hc_effects.proofs.HolesOpened.{stored_ends}
+use Rattle.hc_effects.proofs.Losses.{exclusive_is}
 use Rattle.hc_laws.proofs.Lone.{AreLone, IsResting, lone_kept, all_three}
 use Rattle.hc_laws.proofs.OrderRuns.{order_in_runs}
-use Rattle.hc_model.proofs.ExclusiveWriters.{same_row, eq-refl}
-use Rattle.hc_model.proofs.PieceKeeps.{eq_cases}
+use Rattle.hc_effects.proofs.ExclusiveWriters.{same_row, eq-refl}
+use Rattle.hc_effects.proofs.PieceKeeps.{eq_cases}
 use Rattle.hc_laws.proofs.RunFacts.{in_runs}
 use Rattle.hc_laws.proofs.SoundRuns.{carried}
 

@@ -36,22 +36,22 @@ use Rattle.hc_model.specs.Runs.{IsRun, IsOwed}
 use Rattle.hc_model.specs.Sound.{Sound}
 use Rattle.hc_model.specs.Tables.{tables, after_accepted, after_denied}
 use Rattle.hc_model.specs.Writers.{brings_body}
-use Rattle.hc_laws.proofs.AboutKeeps.{own_open_of}
+use Rattle.hc_effects.proofs.AboutKeeps.{own_open_of}
 use Rattle.hc_laws.proofs.Barred.{next_tables, denied_tables}
-use Rattle.hc_model.proofs.ActParts.{asks_closed, asks_loss}
-use Rattle.hc_model.proofs.Basics.{false_true, none_some, some_none}
-use Rattle.hc_model.proofs.EventsKeep.{poll_live}
-use Rattle.hc_model.proofs.ExclusiveWriters.{same_row}
-use Rattle.hc_model.proofs.HoleLemmas.{bool_cases}
+use Rattle.hc_effects.proofs.ActParts.{asks_closed, asks_loss}
+use Rattle.hc_effects.proofs.Basics.{false_true, none_some, some_none}
+use Rattle.hc_effects.proofs.EventsKeep.{poll_live}
+use Rattle.hc_effects.proofs.ExclusiveWriters.{same_row}
+use Rattle.hc_effects.proofs.HoleLemmas.{bool_cases}
 use Rattle.hc_laws.proofs.InRuns.{turned_in_runs}
-use Rattle.hc_model.proofs.Owed.{goes}
-use Rattle.hc_model.proofs.PieceKeeps.{eq_cases, some_inj}
-use Rattle.hc_model.proofs.PollKeys.{IsNear, near_polled}
-use Rattle.hc_model.proofs.PollKeys as near
+use Rattle.hc_effects.proofs.Owed.{goes}
+use Rattle.hc_effects.proofs.PieceKeeps.{eq_cases, some_inj}
+use Rattle.hc_effects.proofs.PollKeys.{IsNear, near_polled}
+use Rattle.hc_effects.proofs.PollKeys as near
 use Rattle.hc_laws.proofs.SoundRuns.{carried}
-use Rattle.hc_model.proofs.TurnFacts.{IsTaken, AtPoll, at_poll, told_quiet, is_asking, behind, seen}
-use Rattle.hc_model.proofs.TurnFacts as facts
-use Rattle.hc_model.proofs.TurnStays.{head_opens, head_none, polls_head}
+use Rattle.hc_laws.proofs.TurnFacts.{IsTaken, AtPoll, at_poll, told_quiet, is_asking, behind, seen}
+use Rattle.hc_laws.proofs.TurnFacts as facts
+use Rattle.hc_laws.proofs.TurnStays.{head_opens, head_none, polls_head}
 
 -- what has no head wasn't asked
 pub record AreUnasked (t : Tables) : Type 0 where

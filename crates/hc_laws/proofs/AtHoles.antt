@@ -28,24 +28,24 @@ use Rattle.hc_model.specs.Sound.{Sound, IsBound, InHole}
 use Rattle.hc_model.specs.Sound as sound
 use Rattle.hc_model.specs.Tables.{tables, after_accepted, after_denied}
 use Rattle.hc_laws.proofs.Barred.{next_tables, denied_tables}
-use Rattle.hc_model.proofs.Basics.{none_some, true_false}
-use Rattle.hc_model.proofs.ExclusiveWriters.{bound_some, same_row}
-use Rattle.hc_model.proofs.HoleLemmas.{hole_some}
+use Rattle.hc_effects.proofs.Basics.{none_some, true_false}
+use Rattle.hc_effects.proofs.ExclusiveWriters.{bound_some, same_row}
+use Rattle.hc_effects.proofs.HoleLemmas.{hole_some}
 use Rattle.hc_laws.proofs.InRuns.{turned_in_runs}
-use Rattle.hc_model.proofs.KeysKeep.{same_exchange}
-use Rattle.hc_model.proofs.OpensFrom.{IsHole, hole_is, opens_hole}
-use Rattle.hc_model.proofs.Owed.{goes}
-use Rattle.hc_model.proofs.PieceKeeps.{some_inj}
-use Rattle.hc_model.proofs.PollTree.{OpensHole}
-use Rattle.hc_model.proofs.PollTree as tree
-use Rattle.hc_model.proofs.Said.{OpensBy, opening_by}
+use Rattle.hc_effects.proofs.KeysKeep.{same_exchange}
+use Rattle.hc_effects.proofs.OpensFrom.{IsHole, hole_is, opens_hole}
+use Rattle.hc_effects.proofs.Owed.{goes}
+use Rattle.hc_effects.proofs.PieceKeeps.{some_inj}
+use Rattle.hc_effects.proofs.PollTree.{OpensHole}
+use Rattle.hc_effects.proofs.PollTree as tree
+use Rattle.hc_effects.proofs.Said.{OpensBy, opening_by}
 use Rattle.hc_laws.proofs.SoundRuns.{runs_are_sound}
-use Rattle.hc_model.proofs.TurnFacts.{IsTaken}
-use Rattle.hc_model.proofs.TurnOpens.{OpensFor, opened_at, opener_after}
-use Rattle.hc_model.proofs.TurnOpens as opens
-use Rattle.hc_model.proofs.TurnStays.{after_same}
-use Rattle.hc_model.proofs.TurnsKeep.{WasHeadless, was_headless, same_entry}
-use Rattle.hc_model.proofs.TurnsKeep as keeps
+use Rattle.hc_laws.proofs.TurnFacts.{IsTaken}
+use Rattle.hc_laws.proofs.TurnOpens.{OpensFor, opened_at, opener_after}
+use Rattle.hc_laws.proofs.TurnOpens as opens
+use Rattle.hc_laws.proofs.TurnStays.{after_same}
+use Rattle.hc_laws.proofs.TurnsKeep.{WasHeadless, was_headless, same_entry}
+use Rattle.hc_laws.proofs.TurnsKeep as keeps
 
 -- c waits so with this exchange
 pub record WaitsShown (t : Tables) (x r lo : ℕ) (w : Exchange) (k : Consumer) : Type 0 where

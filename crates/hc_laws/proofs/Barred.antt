@@ -38,29 +38,29 @@ use Rattle.hc_model.specs.Runs.{IsOwed}
 use Rattle.hc_model.specs.Sound.{Sound, IsBound}
 use Rattle.hc_model.specs.Sound as sound
 use Rattle.hc_model.specs.Tables.{tables, after, after_accepted, after_denied, representation_of_content, opened_after}
-use Rattle.hc_model.proofs.Basics.{none_some}
-use Rattle.hc_model.proofs.BoundFrom.{BoundFrom, bound_from}
-use Rattle.hc_model.proofs.BoundFrom as from
-use Rattle.hc_model.proofs.BoundKeeps.{founding_is, planned_at}
-use Rattle.hc_model.proofs.CurrentKeeps.{current_is, WasOrFounded, was_or_founded}
-use Rattle.hc_model.proofs.CurrentKeeps as current
-use Rattle.hc_model.proofs.KeysKeep.{same_exchange}
+use Rattle.hc_effects.proofs.Basics.{none_some}
+use Rattle.hc_effects.proofs.BoundFrom.{BoundFrom, bound_from}
+use Rattle.hc_effects.proofs.BoundFrom as from
+use Rattle.hc_effects.proofs.BoundKeeps.{founding_is, planned_at}
+use Rattle.hc_effects.proofs.CurrentKeeps.{current_is, WasOrFounded, was_or_founded}
+use Rattle.hc_effects.proofs.CurrentKeeps as current
+use Rattle.hc_effects.proofs.KeysKeep.{same_exchange}
 use Rattle.hc_model.specs.StartingOver.{awaited_exchange}
-use Rattle.hc_model.proofs.ExclusiveWriters.{same_row}
-use Rattle.hc_model.proofs.HoleLemmas.{bool_cases}
-use Rattle.hc_model.proofs.Joining.{mix}
-use Rattle.hc_model.proofs.KeyNames.{not_true, key_is, opener_key}
-use Rattle.hc_model.proofs.Owed.{goes}
-use Rattle.hc_model.proofs.PieceKeeps.{eq_cases}
-use Rattle.hc_model.proofs.PollKeeps.{current_stays}
-use Rattle.hc_model.proofs.Said.{ShowsBy, showing_by}
-use Rattle.hc_model.proofs.ShownFrom.{IsPlanned, ShownAs}
-use Rattle.hc_model.proofs.ShownFrom as shown
-use Rattle.hc_model.proofs.TurnFacts.{IsTaken}
-use Rattle.hc_model.proofs.TurnOpens.{opened_at}
-use Rattle.hc_model.proofs.TurnStays.{head_opens, dooms, after_same}
-use Rattle.hc_model.proofs.TurnsKeep.{WasHeadless, was_headless}
-use Rattle.hc_model.proofs.TurnsKeep as keeps
+use Rattle.hc_effects.proofs.ExclusiveWriters.{same_row}
+use Rattle.hc_effects.proofs.HoleLemmas.{bool_cases}
+use Rattle.hc_effects.proofs.Joining.{mix}
+use Rattle.hc_effects.proofs.KeyNames.{not_true, key_is, opener_key}
+use Rattle.hc_effects.proofs.Owed.{goes}
+use Rattle.hc_effects.proofs.PieceKeeps.{eq_cases}
+use Rattle.hc_effects.proofs.PollKeeps.{current_stays}
+use Rattle.hc_effects.proofs.Said.{ShowsBy, showing_by}
+use Rattle.hc_effects.proofs.ShownFrom.{IsPlanned, ShownAs}
+use Rattle.hc_effects.proofs.ShownFrom as shown
+use Rattle.hc_laws.proofs.TurnFacts.{IsTaken}
+use Rattle.hc_laws.proofs.TurnOpens.{opened_at}
+use Rattle.hc_laws.proofs.TurnStays.{head_opens, dooms, after_same}
+use Rattle.hc_laws.proofs.TurnsKeep.{WasHeadless, was_headless}
+use Rattle.hc_laws.proofs.TurnsKeep as keeps
 
 -- THE FOUNDING CASES
 

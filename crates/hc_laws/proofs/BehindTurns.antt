@@ -22,12 +22,12 @@ use Rattle.hc_model.specs.Denials.{is_live_place}
 use Rattle.hc_model.specs.Lines.{turn, turn_with, holder, holds_turn, line, is_in_line, stands_in_line}
 use Rattle.hc_model.specs.Rows.{Tables, Consumer}
 use Rattle.hc_model.specs.Sound.{Among}
-use Rattle.hc_model.proofs.Basics.{false_true, and_left, and_right, not_true}
+use Rattle.hc_effects.proofs.Basics.{false_true, and_left, and_right, not_true}
 use Rattle.hc_laws.proofs.FitsRuns.{find_among}
-use Rattle.hc_laws.proofs.HadKeeps.{among_least}
-use Rattle.hc_model.proofs.Joining.{mix}
-use Rattle.hc_model.proofs.PieceKeeps.{eq_cases}
-use Rattle.hc_model.proofs.Sums.{filter_among}
+use Rattle.hc_effects.proofs.HadKeeps.{among_least}
+use Rattle.hc_effects.proofs.Joining.{mix}
+use Rattle.hc_effects.proofs.PieceKeeps.{eq_cases}
+use Rattle.hc_effects.proofs.Sums.{filter_among}
 
 -- PLANS
 

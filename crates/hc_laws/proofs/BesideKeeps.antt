@@ -13,13 +13,13 @@ use Rattle.hc_model.specs.Rows.{Tables, Representation, Consumer}
 use Rattle.hc_model.specs.Sound.{Sound, IsBound, IsFirst, IsExclusiveWriter}
 use Rattle.hc_model.specs.Sound as sound
 use Rattle.hc_model.specs.Tables.{first_tables, after_accepted, after_denied}
-use Rattle.hc_model.proofs.Basics.{none_some}
-use Rattle.hc_model.proofs.Beside.{IsBeside}
+use Rattle.hc_effects.proofs.Basics.{none_some}
+use Rattle.hc_effects.proofs.Beside.{IsBeside}
 use Rattle.hc_laws.proofs.CachedKeeps.{cached_kept}
 use Rattle.hc_laws.proofs.CoversKept.{covered_kept}
-use Rattle.hc_model.proofs.DeniedKeeps.{written_same, was_bound, was_first, was_exclusive_writer}
-use Rattle.hc_laws.proofs.LossBy.{IsReal}
-use Rattle.hc_model.proofs.Losses.{HasRest}
+use Rattle.hc_laws.proofs.DeniedKeeps.{written_same, was_bound, was_first, was_exclusive_writer}
+use Rattle.hc_effects.proofs.LossBy.{IsReal}
+use Rattle.hc_effects.proofs.Losses.{HasRest}
 use Rattle.hc_laws.proofs.Rests.{rested_kept}
 
 -- nobody reads at the beginning

@@ -25,20 +25,20 @@ use Rattle.hc_model.specs.Owners.{Owners}
 use Rattle.hc_model.specs.Rows.{Tables, Exchange, Representation}
 use Rattle.hc_model.specs.Sound.{Sound}
 use Rattle.hc_model.specs.Tables.{tables, after_accepted, after_denied}
-use Rattle.hc_model.proofs.Basics.{false_true, none_some}
-use Rattle.hc_model.proofs.ExchangeFrom.{ExchangeFrom, exchange_from, IsSame}
-use Rattle.hc_model.proofs.ExchangeFrom as exchange
-use Rattle.hc_model.proofs.Fills.{Fills, fills, IsPiece, brings, length_same}
-use Rattle.hc_model.proofs.Fills as fills_by
-use Rattle.hc_model.proofs.FirstKeeps.{is_new}
-use Rattle.hc_model.proofs.NumbersKeep.{opens_next}
-use Rattle.hc_laws.proofs.OfEntries.{of_real}
-use Rattle.hc_model.proofs.Once.{delivers_once}
+use Rattle.hc_effects.proofs.Basics.{false_true, none_some}
+use Rattle.hc_effects.proofs.ExchangeFrom.{ExchangeFrom, exchange_from, IsSame}
+use Rattle.hc_effects.proofs.ExchangeFrom as exchange
+use Rattle.hc_effects.proofs.Fills.{Fills, fills, IsPiece, brings, length_same}
+use Rattle.hc_effects.proofs.Fills as fills_by
+use Rattle.hc_effects.proofs.FirstKeeps.{is_new}
+use Rattle.hc_effects.proofs.NumbersKeep.{opens_next}
+use Rattle.hc_effects.proofs.OfEntries.{of_real}
+use Rattle.hc_effects.proofs.Once.{delivers_once}
 use Rattle.hc_laws.proofs.OriginRuns.{origins_in_runs}
-use Rattle.hc_model.proofs.ExclusiveWriters.{same_row}
-use Rattle.hc_model.proofs.PieceKeeps.{some_inj}
-use Rattle.hc_model.proofs.RepFrom.{RepFrom, rep_from, IsKept}
-use Rattle.hc_model.proofs.RepFrom as rep
+use Rattle.hc_effects.proofs.ExclusiveWriters.{same_row}
+use Rattle.hc_effects.proofs.PieceKeeps.{some_inj}
+use Rattle.hc_effects.proofs.RepFrom.{RepFrom, rep_from, IsKept}
+use Rattle.hc_effects.proofs.RepFrom as rep
 use Rattle.hc_laws.proofs.SoundRuns.{IsCarried, carried}
 
 -- what comes behind the bytes of w

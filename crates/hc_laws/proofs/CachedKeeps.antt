@@ -25,21 +25,21 @@ use Rattle.hc_model.specs.Reading.{reads}
 use Rattle.hc_model.specs.Rows.{Tables, Exchange, Consumer}
 use Rattle.hc_model.specs.Sound.{Sound}
 use Rattle.hc_model.specs.Tables.{after_accepted}
-use Rattle.hc_model.proofs.Basics.{false_true, none_some}
-use Rattle.hc_model.proofs.Beside.{IsBeside, is_cached_place}
-use Rattle.hc_model.proofs.BoundFrom.{BoundFrom, IsRow, bound_from}
-use Rattle.hc_model.proofs.BoundFrom as from
-use Rattle.hc_model.proofs.BoundKeeps.{planned_at, founding_is}
-use Rattle.hc_model.proofs.FirstKeeps.{case_is, is_new}
-use Rattle.hc_model.proofs.Forward as forward
-use Rattle.hc_model.proofs.FoundBy.{founding_by, founds_way}
-use Rattle.hc_model.proofs.OpenedAs as opened
-use Rattle.hc_model.proofs.OwnersKeep.{is_opened}
-use Rattle.hc_model.proofs.ExclusiveWriters.{same_row}
-use Rattle.hc_model.proofs.PieceKeeps.{eq_cases, some_inj}
-use Rattle.hc_model.proofs.TurnPlaces.{ComesFrom, IsPlain, is_after}
-use Rattle.hc_model.proofs.TurnPlaces as turn
-use Rattle.hc_model.proofs.Waiters.{waiter_of}
+use Rattle.hc_effects.proofs.Basics.{false_true, none_some}
+use Rattle.hc_effects.proofs.Beside.{IsBeside, is_cached_place}
+use Rattle.hc_effects.proofs.BoundFrom.{BoundFrom, IsRow, bound_from}
+use Rattle.hc_effects.proofs.BoundFrom as from
+use Rattle.hc_effects.proofs.BoundKeeps.{planned_at, founding_is}
+use Rattle.hc_effects.proofs.FirstKeeps.{case_is, is_new}
+use Rattle.hc_effects.proofs.Forward as forward
+use Rattle.hc_effects.proofs.FoundBy.{founding_by, founds_way}
+use Rattle.hc_effects.proofs.OpenedAs as opened
+use Rattle.hc_effects.proofs.OwnersKeep.{is_opened}
+use Rattle.hc_effects.proofs.ExclusiveWriters.{same_row}
+use Rattle.hc_effects.proofs.PieceKeeps.{eq_cases, some_inj}
+use Rattle.hc_effects.proofs.TurnPlaces.{ComesFrom, IsPlain, is_after}
+use Rattle.hc_effects.proofs.TurnPlaces as turn
+use Rattle.hc_effects.proofs.Waiters.{waiter_of}
 
 -- who starts stands in the line
 starts_line : (c now : ℕ) (ev : Event) (u : Consumer) → consumer_made c now ev ≡ Some u → u.place ≡ place.Line

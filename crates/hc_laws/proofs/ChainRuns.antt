@@ -16,16 +16,16 @@ use Rattle.hc_model.specs.Rows.{Tables, Consumer}
 use Rattle.hc_model.specs.Sound.{Sound, IsBound}
 use Rattle.hc_model.specs.Sound as sound
 use Rattle.hc_model.specs.Tables.{tables}
-use Rattle.hc_model.proofs.Basics.{false_true}
+use Rattle.hc_effects.proofs.Basics.{false_true}
 use Rattle.hc_laws.proofs.BehindTurns.{StandsInLine, behind_turn, turn_stands, turn_without}
 use Rattle.hc_laws.proofs.LivePolls.{Goes, live_goes}
 use Rattle.hc_laws.proofs.PlaceRuns.{places_in_runs, endings_in_runs}
-use Rattle.hc_model.proofs.Said.{WaitsAs}
-use Rattle.hc_model.proofs.Said as said
+use Rattle.hc_effects.proofs.Said.{WaitsAs}
+use Rattle.hc_effects.proofs.Said as said
 use Rattle.hc_laws.proofs.SoundRuns.{runs_are_sound}
 use Rattle.hc_laws.proofs.UnendedRuns.{unended_in_runs}
-use Rattle.hc_model.proofs.WaitedAs.{waited_as}
-use Rattle.hc_model.proofs.WaitedAs as waited
+use Rattle.hc_effects.proofs.WaitedAs.{waited_as}
+use Rattle.hc_effects.proofs.WaitedAs as waited
 use Rattle.hc_laws.proofs.WaitsInRuns.{waits_in_runs}
 
 module _ (t : Tables) (s : Sound t) (places : Places t) (endings : Endings t) (unended : Unended t) (w : WaitsEnd t) where

@@ -10,8 +10,8 @@ use Rattle.hc_model.specs.Rows.{Tables}
 use Rattle.hc_model.specs.Runs.{IsOwed}
 use Rattle.hc_model.specs.Sound.{Sound}
 use Rattle.hc_model.specs.Tables.{tables, after, after_accepted, after_denied, opened_after}
-use Rattle.hc_model.proofs.NumbersKeep.{opens_next}
-use Rattle.hc_model.proofs.Owed.{goes, acts_are}
+use Rattle.hc_effects.proofs.NumbersKeep.{opens_next}
+use Rattle.hc_effects.proofs.Owed.{goes, acts_are}
 use Rattle.hc_laws.proofs.SoundRuns.{runs_are_sound}
 
 module _ (limits : Limits) (t : Tables) (s : Sound t) (e : Entry) (is : IsOwed limits t e) where

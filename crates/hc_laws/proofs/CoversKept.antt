@@ -30,33 +30,33 @@ use Rattle.hc_model.specs.Sound.{Sound, IsBound, IsFirst, IsExclusiveWriter}
 use Rattle.hc_model.specs.Sound as sound
 use Rattle.hc_model.specs.Tables.{after_accepted}
 use Rattle.hc_model.specs.Writers.{brings_body, came_alone, loses_writing, survivor}
-use Rattle.hc_model.proofs.Basics.{false_true, and_left, none_some, some_row}
-use Rattle.hc_model.proofs.Beside.{IsBeside, goes_on_at}
-use Rattle.hc_model.proofs.BoundFrom.{BoundFrom, IsRow, IsFounded, IsFirstHole, IsShown, bound_from, place_inj}
-use Rattle.hc_model.proofs.BoundFrom as from
-use Rattle.hc_model.proofs.BoundKeeps.{planned_at}
-use Rattle.hc_laws.proofs.Covers.{own_covers, grown, offset_more, later_start, headed_at}
-use Rattle.hc_model.proofs.CoversNew.{founds_within, hole_covers}
-use Rattle.hc_model.proofs.ExchangeFrom.{IsSame, IsHeaded}
-use Rattle.hc_model.proofs.FirstKeeps.{is_new}
-use Rattle.hc_model.proofs.Forward as forward
-use Rattle.hc_laws.proofs.LossBy.{IsReal}
-use Rattle.hc_model.proofs.OwnFrom.{OwnFrom, IsLeft, own_from, after_by}
-use Rattle.hc_model.proofs.OwnFrom as own
-use Rattle.hc_model.proofs.OwnersKeep.{is_opened, new_number}
+use Rattle.hc_effects.proofs.Basics.{false_true, and_left, none_some, some_row}
+use Rattle.hc_effects.proofs.Beside.{IsBeside, goes_on_at}
+use Rattle.hc_effects.proofs.BoundFrom.{BoundFrom, IsRow, IsFounded, IsFirstHole, IsShown, bound_from, place_inj}
+use Rattle.hc_effects.proofs.BoundFrom as from
+use Rattle.hc_effects.proofs.BoundKeeps.{planned_at}
+use Rattle.hc_effects.proofs.Covers.{own_covers, grown, offset_more, later_start, headed_at}
+use Rattle.hc_laws.proofs.CoversNew.{founds_within, hole_covers}
+use Rattle.hc_effects.proofs.ExchangeFrom.{IsSame, IsHeaded}
+use Rattle.hc_effects.proofs.FirstKeeps.{is_new}
+use Rattle.hc_effects.proofs.Forward as forward
+use Rattle.hc_effects.proofs.LossBy.{IsReal}
+use Rattle.hc_effects.proofs.OwnFrom.{OwnFrom, IsLeft, own_from, after_by}
+use Rattle.hc_effects.proofs.OwnFrom as own
+use Rattle.hc_effects.proofs.OwnersKeep.{is_opened, new_number}
 use Rattle.hc_laws.proofs.ExclusiveWriterFrom.{ExclusiveWriterFrom, alone_from, exclusive_writer_from, had_exclusive_writer}
 use Rattle.hc_laws.proofs.ExclusiveWriterFrom as exclusive_writers
-use Rattle.hc_model.proofs.ExclusiveWriters.{same_row}
-use Rattle.hc_model.proofs.PieceKeeps.{eq_cases, some_inj}
-use Rattle.hc_model.proofs.PollKeeps.{current_stays}
-use Rattle.hc_model.proofs.RepFrom.{RepFrom, rep_from, IsKept}
-use Rattle.hc_model.proofs.RepFrom as rep
-use Rattle.hc_model.proofs.Said.{ShowsBy, showing_by}
-use Rattle.hc_model.proofs.ShownFrom.{ShownAs, IsPlanned}
-use Rattle.hc_model.proofs.ShownFrom as shown_as
-use Rattle.hc_laws.proofs.Survives.{goes_on}
-use Rattle.hc_laws.proofs.ToBeShown.{heard_place}
-use Rattle.hc_model.proofs.Waiters.{IsWaiter, waiter_of}
+use Rattle.hc_effects.proofs.ExclusiveWriters.{same_row}
+use Rattle.hc_effects.proofs.PieceKeeps.{eq_cases, some_inj}
+use Rattle.hc_effects.proofs.PollKeeps.{current_stays}
+use Rattle.hc_effects.proofs.RepFrom.{RepFrom, rep_from, IsKept}
+use Rattle.hc_effects.proofs.RepFrom as rep
+use Rattle.hc_effects.proofs.Said.{ShowsBy, showing_by}
+use Rattle.hc_effects.proofs.ShownFrom.{ShownAs, IsPlanned}
+use Rattle.hc_effects.proofs.ShownFrom as shown_as
+use Rattle.hc_effects.proofs.Survives.{goes_on}
+use Rattle.hc_effects.proofs.ToBeShown.{heard_place}
+use Rattle.hc_effects.proofs.Waiters.{IsWaiter, waiter_of}
 
 module _ (limits : Limits) (t : Tables) (now : ℕ) (flaw : Flaw) (s : Sound t) (o : Owners t) (m : Measures t) (i : IsBeside t) (ev : Event) (goes : denial t ev ≡ None) (real : IsReal limits t now ev flaw) where
   abbrev e : Entry

@@ -28,33 +28,33 @@ use Rattle.hc_model.specs.Sound.{Sound, IsBound, IsExclusiveWriter, IsHad}
 use Rattle.hc_model.specs.Sound as sound
 use Rattle.hc_model.specs.Tables.{after_accepted}
 use Rattle.hc_model.specs.Writers.{has_more}
-use Rattle.hc_laws.proofs.AboutKeeps.{own_open_is}
-use Rattle.hc_model.proofs.Basics.{false_true, none_some, some_row}
-use Rattle.hc_model.proofs.Beside.{IsBeside}
-use Rattle.hc_model.proofs.BoundFrom.{BoundFrom, IsRow, bound_from}
-use Rattle.hc_model.proofs.BoundFrom as from
-use Rattle.hc_laws.proofs.Covers.{grown, offset_more, headed_at}
-use Rattle.hc_model.proofs.Dues.{due_none, undue_of, stop_none, loss_at}
-use Rattle.hc_laws.proofs.Exclusives.{IsExclusive}
-use Rattle.hc_model.proofs.ExchangeFrom.{IsSame, IsHeaded}
-use Rattle.hc_model.proofs.Fills.{Brings, brings, length_same}
-use Rattle.hc_model.proofs.Fills as fills_by
-use Rattle.hc_model.proofs.FirstKeeps.{IsNew, is_new}
-use Rattle.hc_model.proofs.Forward as forward
+use Rattle.hc_effects.proofs.AboutKeeps.{own_open_is}
+use Rattle.hc_effects.proofs.Basics.{false_true, none_some, some_row}
+use Rattle.hc_effects.proofs.Beside.{IsBeside}
+use Rattle.hc_effects.proofs.BoundFrom.{BoundFrom, IsRow, bound_from}
+use Rattle.hc_effects.proofs.BoundFrom as from
+use Rattle.hc_effects.proofs.Covers.{grown, offset_more, headed_at}
+use Rattle.hc_effects.proofs.Dues.{due_none, undue_of, stop_none, loss_at}
+use Rattle.hc_effects.proofs.Exclusives.{IsExclusive}
+use Rattle.hc_effects.proofs.ExchangeFrom.{IsSame, IsHeaded}
+use Rattle.hc_effects.proofs.Fills.{Brings, brings, length_same}
+use Rattle.hc_effects.proofs.Fills as fills_by
+use Rattle.hc_effects.proofs.FirstKeeps.{IsNew, is_new}
+use Rattle.hc_effects.proofs.Forward as forward
 use Rattle.hc_laws.proofs.GoAlone.{lost_of, opens_not, shown_not, founds_not, opens_undue, left_loses, unwritten_lost, rest_more}
-use Rattle.hc_laws.proofs.LossBy.{IsReal}
-use Rattle.hc_model.proofs.MeasuresKeep.{piece_taken}
-use Rattle.hc_model.proofs.OwnFrom.{OwnFrom, own_from}
-use Rattle.hc_model.proofs.OwnFrom as own
-use Rattle.hc_model.proofs.OwnNone.{IsShared, own_none}
+use Rattle.hc_effects.proofs.LossBy.{IsReal}
+use Rattle.hc_effects.proofs.MeasuresKeep.{piece_taken}
+use Rattle.hc_effects.proofs.OwnFrom.{OwnFrom, own_from}
+use Rattle.hc_effects.proofs.OwnFrom as own
+use Rattle.hc_laws.proofs.OwnNone.{IsShared, own_none}
 use Rattle.hc_laws.proofs.ExclusiveWriterFrom.{ExclusiveWriterFrom, alone_from}
 use Rattle.hc_laws.proofs.ExclusiveWriterFrom as exclusive_writers
-use Rattle.hc_model.proofs.ExclusiveWriters.{same_row, one_exclusive_writer}
-use Rattle.hc_model.proofs.PieceKeeps.{some_inj}
-use Rattle.hc_model.proofs.RepFrom.{RepFrom, rep_from, IsKept}
-use Rattle.hc_model.proofs.RepFrom as rep
-use Rattle.hc_laws.proofs.Survives.{goes_on}
-use Rattle.hc_model.proofs.Waiters.{waiter_as}
+use Rattle.hc_effects.proofs.ExclusiveWriters.{same_row, one_exclusive_writer}
+use Rattle.hc_effects.proofs.PieceKeeps.{some_inj}
+use Rattle.hc_effects.proofs.RepFrom.{RepFrom, rep_from, IsKept}
+use Rattle.hc_effects.proofs.RepFrom as rep
+use Rattle.hc_effects.proofs.Survives.{goes_on}
+use Rattle.hc_effects.proofs.Waiters.{waiter_as}
 
 -- its own exchange brought nothing, or all is there up to where that goes on
 pub record IsAhead (t : Tables) (v : Representation) (k : Consumer) : Type 0 where

@@ -17,14 +17,14 @@ use Rattle.hc_model.specs.Sound.{Sound, IsFirst, IsExclusiveWriter}
 use Rattle.hc_model.specs.Sound as sound
 use Rattle.hc_model.specs.Tables.{after_accepted}
 use Rattle.hc_model.specs.Writers.{came_alone, loses_writing, survivor, goes_on_with}
-use Rattle.hc_model.proofs.Basics.{or_false}
-use Rattle.hc_laws.proofs.Exclusives.{IsExclusive, exclusive_parts}
-use Rattle.hc_model.proofs.FirstKeeps.{came_kept}
-use Rattle.hc_model.proofs.HoleLemmas.{bool_cases}
-use Rattle.hc_laws.proofs.LossBy.{IsReal, fresh}
-use Rattle.hc_model.proofs.ExclusiveWriters.{same_row}
-use Rattle.hc_model.proofs.RepFrom.{IsKept}
-use Rattle.hc_laws.proofs.ServedKeeps.{lost_alone, kept_alone}
+use Rattle.hc_effects.proofs.Basics.{or_false}
+use Rattle.hc_effects.proofs.Exclusives.{IsExclusive, exclusive_parts}
+use Rattle.hc_effects.proofs.FirstKeeps.{came_kept}
+use Rattle.hc_effects.proofs.HoleLemmas.{bool_cases}
+use Rattle.hc_effects.proofs.LossBy.{IsReal, fresh}
+use Rattle.hc_effects.proofs.ExclusiveWriters.{same_row}
+use Rattle.hc_effects.proofs.RepFrom.{IsKept}
+use Rattle.hc_effects.proofs.ServedKeeps.{lost_alone, kept_alone}
 
 module _ (limits : Limits) (t : Tables) (now : ℕ) (flaw : Flaw) (s : Sound t) (o : Owners t) (m : Measures t) (ev : Event) (goes : denial t ev ≡ None) (real : IsReal limits t now ev flaw) where
   abbrev e : Entry

@@ -31,19 +31,19 @@ use Rattle.hc_model.specs.Runs.{may_stand}
 use Rattle.hc_model.specs.Sound.{Sound}
 use Rattle.hc_model.specs.Tables.{after_accepted, after_denied, first_tables}
 use Rattle.hc_model.specs.Entries.{Contents}
-use Rattle.hc_model.proofs.Basics.{false_true, none_some}
-use Rattle.hc_model.proofs.ExchangeFrom.{IsHeaded}
-use Rattle.hc_model.proofs.Forward.{is_on}
-use Rattle.hc_model.proofs.MoveBy.{MoveBy, IsHeard, move_by}
-use Rattle.hc_model.proofs.MoveBy as by_move
-use Rattle.hc_laws.proofs.PastApart.{IsHeadedRow, unfounded_kept}
-use Rattle.hc_model.proofs.PieceKeeps.{eq_cases, some_inj}
-use Rattle.hc_model.proofs.ExclusiveWriters.{same_row}
-use Rattle.hc_model.proofs.PollActs.{ToOne, to_one}
-use Rattle.hc_model.proofs.PollActs as acts_to
-use Rattle.hc_laws.proofs.ShownStays.{IsIdle, StaysOrIdle, IsFallback, Lands, shown_stays, shown_at}
-use Rattle.hc_laws.proofs.ShownStays as stands
-use Rattle.hc_model.proofs.TurnPlaces.{is_after}
+use Rattle.hc_effects.proofs.Basics.{false_true, none_some}
+use Rattle.hc_effects.proofs.ExchangeFrom.{IsHeaded}
+use Rattle.hc_effects.proofs.Forward.{is_on}
+use Rattle.hc_effects.proofs.MoveBy.{MoveBy, IsHeard, move_by}
+use Rattle.hc_effects.proofs.MoveBy as by_move
+use Rattle.hc_effects.proofs.PastApart.{IsHeadedRow, unfounded_kept}
+use Rattle.hc_effects.proofs.PieceKeeps.{eq_cases, some_inj}
+use Rattle.hc_effects.proofs.ExclusiveWriters.{same_row}
+use Rattle.hc_effects.proofs.PollActs.{ToOne, to_one}
+use Rattle.hc_effects.proofs.PollActs as acts_to
+use Rattle.hc_effects.proofs.ShownStays.{IsIdle, StaysOrIdle, IsFallback, Lands, shown_stays, shown_at}
+use Rattle.hc_effects.proofs.ShownStays as stands
+use Rattle.hc_effects.proofs.TurnPlaces.{is_after}
 
 or_right : (a b : Bool) → b ≡ false → (a || b) ≡ a
 or_right true b off = refl

@@ -26,9 +26,9 @@ use Rattle.hc_model.specs.Rows.{Tables, Exchange}
 use Rattle.hc_model.specs.Runs.{IsOwed, FaultlessAreOwed, may_stand, may_be, may_lose, has_room, flaw_by_room, size_flaw, owed}
 use Rattle.hc_model.specs.Weights.{room_for}
 use Rattle.hc_model.specs.Writes.{written_representation, written_in, head_writes, may_validate, lossless}
-use Rattle.hc_model.proofs.Basics.{false_true, true_false, and_left, and_right, or_cases, number_is}
-use Rattle.hc_model.proofs.FoundCases.{no_loss}
-use Rattle.hc_model.proofs.Undenied.{undenied}
+use Rattle.hc_effects.proofs.Basics.{false_true, true_false, and_left, and_right, or_cases, number_is}
+use Rattle.hc_effects.proofs.FoundCases.{no_loss}
+use Rattle.hc_laws.proofs.Undenied.{undenied}
 
 -- WHAT IS WRITTEN
 

@@ -24,17 +24,17 @@ use Rattle.hc_model.specs.Sound.{Sound, IsBound, IsFirst}
 use Rattle.hc_model.specs.Sound as sound
 use Rattle.hc_model.specs.Tables.{after_accepted}
 use Rattle.hc_model.specs.Writers.{came_alone}
-use Rattle.hc_model.proofs.Basics.{false_true}
-use Rattle.hc_model.proofs.BoundFrom.{BoundFrom, IsRow, IsShown, bound_from}
-use Rattle.hc_model.proofs.BoundFrom as from
-use Rattle.hc_model.proofs.BoundKeeps.{shown_place_is}
-use Rattle.hc_model.proofs.Dues.{undue_of, due_none, due_before}
+use Rattle.hc_effects.proofs.Basics.{false_true}
+use Rattle.hc_effects.proofs.BoundFrom.{BoundFrom, IsRow, IsShown, bound_from}
+use Rattle.hc_effects.proofs.BoundFrom as from
+use Rattle.hc_effects.proofs.BoundKeeps.{shown_place_is}
+use Rattle.hc_effects.proofs.Dues.{undue_of, due_none, due_before}
 use Rattle.hc_laws.proofs.FirstDues.{beside, poll_undue, unlost}
-use Rattle.hc_model.proofs.FirstKeeps.{is_new, came_kept, open_free}
-use Rattle.hc_model.proofs.OwnersKeep.{is_opened}
-use Rattle.hc_model.proofs.PieceKeeps.{eq_cases}
-use Rattle.hc_model.proofs.ExclusiveWriters.{same_row, bound_some}
-use Rattle.hc_model.proofs.Said.{showing_by}
+use Rattle.hc_effects.proofs.FirstKeeps.{is_new, came_kept, open_free}
+use Rattle.hc_effects.proofs.OwnersKeep.{is_opened}
+use Rattle.hc_effects.proofs.PieceKeeps.{eq_cases}
+use Rattle.hc_effects.proofs.ExclusiveWriters.{same_row, bound_some}
+use Rattle.hc_effects.proofs.Said.{showing_by}
 
 module _ (limits : Limits) (t : Tables) (now : ℕ) (flaw : Flaw) (s : Sound t) (o : Owners t) (ev : Event) (goes : denial t ev ≡ None) where
   abbrev e : Entry

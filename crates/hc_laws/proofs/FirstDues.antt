@@ -27,15 +27,15 @@ use Rattle.hc_model.specs.Sound as sound
 use Rattle.hc_model.specs.StartingOver.{starts_over}
 use Rattle.hc_model.specs.Tables.{after_accepted}
 use Rattle.hc_model.specs.Writers.{loses_writing, brings_body}
-use Rattle.hc_model.proofs.Basics.{false_true, and_left, and_right, or_false, not_so, none_some}
-use Rattle.hc_model.proofs.Dues.{IsUndue, undue_parts, undue_of, stop_none, loss_at}
-use Rattle.hc_model.proofs.FirstKeeps.{is_new}
-use Rattle.hc_model.proofs.PieceKeeps.{eq_cases, some_inj}
-use Rattle.hc_model.proofs.ExclusiveWriters.{same_row, writer_some}
-use Rattle.hc_model.proofs.RepFrom.{RepFrom, rep_from}
-use Rattle.hc_model.proofs.RepFrom as rep
-use Rattle.hc_model.proofs.Stops.{source_is}
-use Rattle.hc_model.proofs.Waiters.{waiter_of, own_open_is}
+use Rattle.hc_effects.proofs.Basics.{false_true, and_left, and_right, or_false, not_so, none_some}
+use Rattle.hc_effects.proofs.Dues.{IsUndue, undue_parts, undue_of, stop_none, loss_at}
+use Rattle.hc_effects.proofs.FirstKeeps.{is_new}
+use Rattle.hc_effects.proofs.PieceKeeps.{eq_cases, some_inj}
+use Rattle.hc_effects.proofs.ExclusiveWriters.{same_row, writer_some}
+use Rattle.hc_effects.proofs.RepFrom.{RepFrom, rep_from}
+use Rattle.hc_effects.proofs.RepFrom as rep
+use Rattle.hc_effects.proofs.Stops.{source_is}
+use Rattle.hc_effects.proofs.Waiters.{waiter_of, own_open_is}
 
 module _ (limits : Limits) (t : Tables) (now : ℕ) (flaw : Flaw) (s : Sound t) (o : Owners t) (ev : Event) (goes : denial t ev ≡ None) where
   abbrev e : Entry

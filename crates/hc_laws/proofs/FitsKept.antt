@@ -47,29 +47,29 @@ use Rattle.hc_model.specs.Sound.{Sound, Among, IsBound}
 use Rattle.hc_model.specs.Sound as sound
 use Rattle.hc_model.specs.Tables.{founds, with_item_first, after_accepted}
 use Rattle.hc_model.specs.Weights.{weight, weight_in, weights, idle, is_idle, is_replacing, moves_on, stays_bound, stays_current, room_by, room_for, write_in, write_of_piece, piece_write, first_idle, evicted}
-use Rattle.hc_model.proofs.Basics.{false_true, true_false, and_left, and_right, or_false, none_some, some_row, number_yes}
-use Rattle.hc_model.proofs.BoundFrom.{BoundFrom, IsRow, bound_from, place_inj}
-use Rattle.hc_model.proofs.BoundFrom as from
-use Rattle.hc_model.proofs.BoundKeeps.{planned_at}
-use Rattle.hc_model.proofs.FirstKeeps.{case_is, is_new}
-use Rattle.hc_model.proofs.FoundBy.{FoundingBy, founding_by}
-use Rattle.hc_model.proofs.FoundBy as cases
-use Rattle.hc_model.proofs.HoleLemmas.{bool_cases}
-use Rattle.hc_laws.proofs.LossBy.{IsReal, lost_is}
-use Rattle.hc_model.proofs.OwnersKeep.{is_opened}
-use Rattle.hc_model.proofs.PieceKeeps.{some_inj}
-use Rattle.hc_model.proofs.ExclusiveWriters.{same_row}
-use Rattle.hc_model.proofs.PollKeeps.{current_stays}
-use Rattle.hc_model.proofs.RepFrom.{RepFrom, rep_from, IsKept}
-use Rattle.hc_model.proofs.RepFrom as rep
-use Rattle.hc_model.proofs.Said.{showing_by}
-use Rattle.hc_model.proofs.SaidActs.{loss_is}
-use Rattle.hc_model.proofs.ShownFrom.{ShownAs}
-use Rattle.hc_model.proofs.ShownFrom as shown_as
-use Rattle.hc_model.proofs.Sums.{only_yes, sum_le, sum_two, sum_plus, sum_some, only, only_once, is_in, among_of, in_among, filter_among, filter_once, take_among, take_once, reverse_among, reverse_once, gives_enough}
-use Rattle.hc_laws.proofs.ToBeShown.{heard_place}
-use Rattle.hc_laws.proofs.Weighed.{IsHeld, held, held_in, total, held_is, held_most, held_none, IsFilled, sized, goes_more, case_same}
-use Rattle.hc_laws.proofs.Weighed as weighed
+use Rattle.hc_effects.proofs.Basics.{false_true, true_false, and_left, and_right, or_false, none_some, some_row, number_yes}
+use Rattle.hc_effects.proofs.BoundFrom.{BoundFrom, IsRow, bound_from, place_inj}
+use Rattle.hc_effects.proofs.BoundFrom as from
+use Rattle.hc_effects.proofs.BoundKeeps.{planned_at}
+use Rattle.hc_effects.proofs.FirstKeeps.{case_is, is_new}
+use Rattle.hc_effects.proofs.FoundBy.{FoundingBy, founding_by}
+use Rattle.hc_effects.proofs.FoundBy as cases
+use Rattle.hc_effects.proofs.HoleLemmas.{bool_cases}
+use Rattle.hc_effects.proofs.LossBy.{IsReal, lost_is}
+use Rattle.hc_effects.proofs.OwnersKeep.{is_opened}
+use Rattle.hc_effects.proofs.PieceKeeps.{some_inj}
+use Rattle.hc_effects.proofs.ExclusiveWriters.{same_row}
+use Rattle.hc_effects.proofs.PollKeeps.{current_stays}
+use Rattle.hc_effects.proofs.RepFrom.{RepFrom, rep_from, IsKept}
+use Rattle.hc_effects.proofs.RepFrom as rep
+use Rattle.hc_effects.proofs.Said.{showing_by}
+use Rattle.hc_effects.proofs.SaidActs.{loss_is}
+use Rattle.hc_effects.proofs.ShownFrom.{ShownAs}
+use Rattle.hc_effects.proofs.ShownFrom as shown_as
+use Rattle.hc_effects.proofs.Sums.{only_yes, sum_le, sum_two, sum_plus, sum_some, only, only_once, is_in, among_of, in_among, filter_among, filter_once, take_among, take_once, reverse_among, reverse_once, gives_enough}
+use Rattle.hc_effects.proofs.ToBeShown.{heard_place}
+use Rattle.hc_effects.proofs.Weighed.{IsHeld, held, held_in, total, held_is, held_most, held_none, IsFilled, sized, goes_more, case_same}
+use Rattle.hc_effects.proofs.Weighed as weighed
 
 not_false : (b : Bool) → not b ≡ true → b ≡ false
 not_false true h = absurd (false_true h)
@@ -114,7 +114,7 @@ some_loss (act.Denied refusal ∷ acts) h = some_loss acts h
 
 among_bound : (t : Tables) (r c : ℕ) (k : Consumer) → Sound t → IsBound t r c k → Among c (bound t r)
 unfolding bound
-among_bound t r c k s (sound.is_bound lo hi how row at) = Rattle.hc_model.proofs.Closed.among_filter c (λ d. Rattle.hc_model.specs.Reading.is_bound r (t.consumer d)) t.starts (ap (Rattle.hc_model.specs.Reading.is_bound r) row ∙ (ap (Rattle.hc_model.specs.Reading.is_bound_place r) at ∙ (let test : nat_eq r r ≡ true = grind (arith, nat_tests) in test))) (s.numbered.lists.started c (ap is_some row))
+among_bound t r c k s (sound.is_bound lo hi how row at) = Rattle.hc_effects.proofs.Closed.among_filter c (λ d. Rattle.hc_model.specs.Reading.is_bound r (t.consumer d)) t.starts (ap (Rattle.hc_model.specs.Reading.is_bound r) row ∙ (ap (Rattle.hc_model.specs.Reading.is_bound_place r) at ∙ (let test : nat_eq r r ≡ true = grind (arith, nat_tests) in test))) (s.numbered.lists.started c (ap is_some row))
 
 -- what fits: each of what is founded stands once and has a row, and so does what was used
 pub record Fits (limits : Limits) (t : Tables) : Type 0 where
@@ -281,7 +281,7 @@ module _ (limits : Limits) (t : Tables) (now : ℕ) (flaw : Flaw) (s : Sound t) 
         by_test false more off = refl
 
         now_current : is_current t v.key r ≡ true
-        now_current = number_yes (Rattle.hc_model.specs.Currents.current t v.key) r (Rattle.hc_model.proofs.CurrentKeeps.current_is t v.key r v s there refl not_gone)
+        now_current = number_yes (Rattle.hc_model.specs.Currents.current t v.key) r (Rattle.hc_effects.proofs.CurrentKeeps.current_is t v.key r v s there refl not_gone)
     still_stays r v there (stays c lo hi how k u row at stands) =
         let among = among_bound t r c k s (sound.is_bound lo hi how row.row at) in
         let unmoved : moves_on t e0 c ≡ false = by_test (moves_on t e0 c) (moves_on_not c r lo hi how k u v lossless there row stands unpolled) in

@@ -34,25 +34,25 @@ use Rattle.hc_model.specs.Runs.{IsOwed}
 use Rattle.hc_model.specs.Sound.{Sound, Among}
 use Rattle.hc_model.specs.Tables.{tables, first_tables, representation_of_content, numbers, bytes_in, founds, with_item_first, is_hole, is_reading, binds, binds_by_opening, binds_by_showing, to_front, after_accepted, after_denied}
 use Rattle.hc_model.specs.Weights.{weights}
-use Rattle.hc_model.proofs.Basics.{false_true, and_left, and_right, none_some}
-use Rattle.hc_model.proofs.Closed.{among_filter}
-use Rattle.hc_model.proofs.BoundKeeps.{planned_at, shown_place_is}
-use Rattle.hc_model.proofs.FewGiveWay.{few_give_way}
-use Rattle.hc_model.proofs.FirstKeeps.{is_new}
+use Rattle.hc_effects.proofs.Basics.{false_true, and_left, and_right, none_some}
+use Rattle.hc_effects.proofs.Closed.{among_filter}
+use Rattle.hc_effects.proofs.BoundKeeps.{planned_at, shown_place_is}
+use Rattle.hc_effects.proofs.FewGiveWay.{few_give_way}
+use Rattle.hc_effects.proofs.FirstKeeps.{is_new}
 use Rattle.hc_laws.proofs.FitsKept.{Fits, within_kept}
-use Rattle.hc_model.proofs.HoleLemmas.{bool_cases}
-use Rattle.hc_laws.proofs.LossBy.{IsReal}
-use Rattle.hc_model.proofs.MeasuresBegin.{of_number}
-use Rattle.hc_model.proofs.Owed.{IsDenied, is_denial, acts_are}
-use Rattle.hc_model.proofs.Owed as owed_acts
-use Rattle.hc_model.proofs.PieceKeeps.{eq_cases, some_inj}
-use Rattle.hc_model.proofs.RepFrom as rep
-use Rattle.hc_model.proofs.Said.{showing_by}
-use Rattle.hc_model.proofs.ShownFrom.{ShownAs}
-use Rattle.hc_model.proofs.ShownFrom as shown_as
+use Rattle.hc_effects.proofs.HoleLemmas.{bool_cases}
+use Rattle.hc_effects.proofs.LossBy.{IsReal}
+use Rattle.hc_laws.proofs.MeasuresBegin.{of_number}
+use Rattle.hc_effects.proofs.Owed.{IsDenied, is_denial, acts_are}
+use Rattle.hc_effects.proofs.Owed as owed_acts
+use Rattle.hc_effects.proofs.PieceKeeps.{eq_cases, some_inj}
+use Rattle.hc_effects.proofs.RepFrom as rep
+use Rattle.hc_effects.proofs.Said.{showing_by}
+use Rattle.hc_effects.proofs.ShownFrom.{ShownAs}
+use Rattle.hc_effects.proofs.ShownFrom as shown_as
 use Rattle.hc_laws.proofs.RunFacts.{in_runs}
-use Rattle.hc_model.proofs.Sums.{filter_among, filter_once, reverse_among, reverse_once, reverse_sum}
-use Rattle.hc_laws.proofs.Weighed.{held, held_in, is_held, total, weights_most}
+use Rattle.hc_effects.proofs.Sums.{filter_among, filter_once, reverse_among, reverse_once, reverse_sum}
+use Rattle.hc_effects.proofs.Weighed.{held, held_in, is_held, total, weights_most}
 
 pub find_among : (test : ℕ → Bool) (xs : List ℕ) (r : ℕ) → find test xs ≡ Some r → Among r xs
 find_among test [] r h = absurd (none_some r h)

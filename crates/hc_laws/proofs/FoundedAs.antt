@@ -30,17 +30,17 @@ use Rattle.hc_model.specs.RepresentationRows.{new_representation, writer_at}
 use Rattle.hc_model.specs.Rows.{Tables, Exchange, Representation}
 use Rattle.hc_model.specs.Sound.{Sound}
 use Rattle.hc_model.specs.Tables.{after_accepted}
-use Rattle.hc_model.proofs.ApartKeeps.{written_by}
-use Rattle.hc_model.proofs.Basics.{or_left}
-use Rattle.hc_model.proofs.FirstKeeps.{case_is, is_new}
-use Rattle.hc_model.proofs.FoundBy.{FoundingBy, founding_by}
-use Rattle.hc_model.proofs.FoundBy as cases
-use Rattle.hc_laws.proofs.HasBound.{head_stands}
-use Rattle.hc_model.proofs.HoleLemmas.{bool_cases}
-use Rattle.hc_laws.proofs.LossBy.{IsReal}
-use Rattle.hc_model.proofs.MeasuresKeep.{number_not, asker_by}
-use Rattle.hc_laws.proofs.ServedKeeps.{none_promised}
-use Rattle.hc_model.proofs.Waiters.{waiter_of}
+use Rattle.hc_effects.proofs.ApartKeeps.{written_by}
+use Rattle.hc_effects.proofs.Basics.{or_left}
+use Rattle.hc_effects.proofs.FirstKeeps.{case_is, is_new}
+use Rattle.hc_effects.proofs.FoundBy.{FoundingBy, founding_by}
+use Rattle.hc_effects.proofs.FoundBy as cases
+use Rattle.hc_effects.proofs.HasBound.{head_stands}
+use Rattle.hc_effects.proofs.HoleLemmas.{bool_cases}
+use Rattle.hc_effects.proofs.LossBy.{IsReal}
+use Rattle.hc_effects.proofs.MeasuresKeep.{number_not, asker_by}
+use Rattle.hc_effects.proofs.ServedKeeps.{none_promised}
+use Rattle.hc_effects.proofs.Waiters.{waiter_of}
 
 module _ (limits : Limits) (t : Tables) (now : ℕ) (flaw : Flaw) (s : Sound t) (o : Owners t) (m : Measures t) (ev : Event) (goes : denial t ev ≡ None) (real : IsReal limits t now ev flaw) where
   abbrev e : Entry

@@ -35,37 +35,37 @@ use Rattle.hc_model.specs.Sound.{Sound}
 use Rattle.hc_model.specs.Sound as sound
 use Rattle.hc_model.specs.Tables.{after_accepted}
 use Rattle.hc_model.specs.Writers.{brings_body, loses_writing, survivor}
-use Rattle.hc_laws.proofs.AboutKeeps.{own_open_is}
-use Rattle.hc_model.proofs.Basics.{false_true, none_some, some_row, and_left, and_right}
-use Rattle.hc_model.proofs.Beside.{IsBeside}
-use Rattle.hc_model.proofs.BoundFrom.{BoundFrom, IsRow, IsFounded, IsFirstHole, IsShown, bound_from, place_inj}
-use Rattle.hc_model.proofs.BoundFrom as from
-use Rattle.hc_model.proofs.BoundKeeps.{planned_at, opens_none}
-use Rattle.hc_laws.proofs.Covers.{headed_at, bare_at, later_from, none_before}
+use Rattle.hc_effects.proofs.AboutKeeps.{own_open_is}
+use Rattle.hc_effects.proofs.Basics.{false_true, none_some, some_row, and_left, and_right}
+use Rattle.hc_effects.proofs.Beside.{IsBeside}
+use Rattle.hc_effects.proofs.BoundFrom.{BoundFrom, IsRow, IsFounded, IsFirstHole, IsShown, bound_from, place_inj}
+use Rattle.hc_effects.proofs.BoundFrom as from
+use Rattle.hc_effects.proofs.BoundKeeps.{planned_at, opens_none}
+use Rattle.hc_effects.proofs.Covers.{headed_at, bare_at, later_from, none_before}
 use Rattle.hc_laws.proofs.CoversKept.{own_opened, opened_row}
-use Rattle.hc_model.proofs.CoversNew.{founds_from, hole_begins}
-use Rattle.hc_model.proofs.ExchangeFrom.{IsSame, IsHeaded}
-use Rattle.hc_model.proofs.Fills.{Brings, brings, length_same}
-use Rattle.hc_model.proofs.Fills as fills_by
-use Rattle.hc_model.proofs.FirstKeeps.{is_new, is_opener}
-use Rattle.hc_model.proofs.Forward as forward
-use Rattle.hc_laws.proofs.HeadTo.{told_is, joined, length_is}
-use Rattle.hc_laws.proofs.HeadedAs.{unmet}
-use Rattle.hc_laws.proofs.LossBy.{IsReal}
-use Rattle.hc_model.proofs.OpenedAs as opened_as
-use Rattle.hc_model.proofs.OpensFrom.{opens_hole, hole_is}
-use Rattle.hc_model.proofs.OwnFrom.{OwnFrom, IsLeft, own_from}
-use Rattle.hc_model.proofs.OwnFrom as own
-use Rattle.hc_model.proofs.OwnersKeep.{is_opened, new_number}
-use Rattle.hc_model.proofs.PartTold as told
-use Rattle.hc_model.proofs.ExclusiveWriters.{same_row}
-use Rattle.hc_model.proofs.PieceKeeps.{some_inj}
+use Rattle.hc_laws.proofs.CoversNew.{founds_from, hole_begins}
+use Rattle.hc_effects.proofs.ExchangeFrom.{IsSame, IsHeaded}
+use Rattle.hc_effects.proofs.Fills.{Brings, brings, length_same}
+use Rattle.hc_effects.proofs.Fills as fills_by
+use Rattle.hc_effects.proofs.FirstKeeps.{is_new, is_opener}
+use Rattle.hc_effects.proofs.Forward as forward
+use Rattle.hc_effects.proofs.HeadTo.{told_is, joined, length_is}
+use Rattle.hc_effects.proofs.HeadedAs.{unmet}
+use Rattle.hc_effects.proofs.LossBy.{IsReal}
+use Rattle.hc_effects.proofs.OpenedAs as opened_as
+use Rattle.hc_effects.proofs.OpensFrom.{opens_hole, hole_is}
+use Rattle.hc_effects.proofs.OwnFrom.{OwnFrom, IsLeft, own_from}
+use Rattle.hc_effects.proofs.OwnFrom as own
+use Rattle.hc_effects.proofs.OwnersKeep.{is_opened, new_number}
+use Rattle.hc_effects.proofs.PartTold as told
+use Rattle.hc_effects.proofs.ExclusiveWriters.{same_row}
+use Rattle.hc_effects.proofs.PieceKeeps.{some_inj}
 use Rattle.hc_laws.proofs.RunFacts.{in_runs}
-use Rattle.hc_model.proofs.Said.{ShowsBy, showing_by}
-use Rattle.hc_model.proofs.ShownFrom.{IsPlanned}
-use Rattle.hc_laws.proofs.Survives.{survivor_offset}
-use Rattle.hc_laws.proofs.ToBeShown.{heard_place}
-use Rattle.hc_model.proofs.Waiters.{IsWaiter, waiter_of}
+use Rattle.hc_effects.proofs.Said.{ShowsBy, showing_by}
+use Rattle.hc_effects.proofs.ShownFrom.{IsPlanned}
+use Rattle.hc_effects.proofs.Survives.{survivor_offset}
+use Rattle.hc_effects.proofs.ToBeShown.{heard_place}
+use Rattle.hc_effects.proofs.Waiters.{IsWaiter, waiter_of}
 
 poll_head : (x c want : ℕ) (response : Response) → event.Head x response ≡ event.Poll c want → ⊥
 poll_head x c want response is = cc
@@ -158,7 +158,7 @@ module _ (limits : Limits) (t : Tables) (now : ℕ) (flaw : Flaw) (s : Sound t) 
       later_opened : (q : Opening) → opening_in e.acts ≡ Some q → q.c ≡ c → q.x ≡ x → Begins
       later_opened q opens mine this = by_way (subst (λ (a : Consumer). opened_as.Way t now c a q.need) one (subst (λ d. opened_as.Way t now d by_poll.k q.need) mine by_poll.way.way))
         where
-          by_poll : Rattle.hc_model.proofs.OwnersKeep.IsOpened limits t now flaw s o ev goes q
+          by_poll : Rattle.hc_effects.proofs.OwnersKeep.IsOpened limits t now flaw s o ev goes q
           by_poll = is_opened limits t now flaw s o ev goes q opens
 
           one : by_poll.k ≡ k
@@ -220,7 +220,7 @@ module _ (limits : Limits) (t : Tables) (now : ℕ) (flaw : Flaw) (s : Sound t) 
     founded : (k : Consumer) (y : ℕ) (response : Response) (w : Exchange) → IsRow t e c r lo hi how k u → ev ≡ event.Head y response → t.exchange y ≡ Some w → w.c ≡ c → y ≡ r → IsFounded t e c r lo hi how y response w k (case_at t e) → OwnFrom t e c x u → Begins
     founded k y response w row here w_row mine of_r all own_of = by_own own_of
       where
-        new : Rattle.hc_model.proofs.FirstKeeps.IsNew limits t now flaw s ev goes y w
+        new : Rattle.hc_effects.proofs.FirstKeeps.IsNew limits t now flaw s ev goes y w
         new = is_new limits t now flaw s ev goes y response w here w_row
 
         waits : (q : Consumer) × IsWaiter t w.c y q w

@@ -21,11 +21,11 @@ use Rattle.hc_model.specs.Rows.{Tables, Representation, Consumer}
 use Rattle.hc_model.specs.Sound.{Sound, IsBound}
 use Rattle.hc_model.specs.Sound as sound
 use Rattle.hc_model.specs.Tables.{tables}
-use Rattle.hc_model.proofs.Basics.{false_true, some_row}
-use Rattle.hc_laws.proofs.Bounded.{IsBounded}
-use Rattle.hc_model.proofs.GivenNext.{read_of}
-use Rattle.hc_model.proofs.HoleLemmas.{bool_cases}
-use Rattle.hc_model.proofs.PieceKeeps.{some_inj}
+use Rattle.hc_effects.proofs.Basics.{false_true, some_row}
+use Rattle.hc_effects.proofs.Bounded.{IsBounded}
+use Rattle.hc_effects.proofs.GivenNext.{read_of}
+use Rattle.hc_effects.proofs.HoleLemmas.{bool_cases}
+use Rattle.hc_effects.proofs.PieceKeeps.{some_inj}
 use Rattle.hc_laws.proofs.ReadAs.{IsRead}
 use Rattle.hc_laws.proofs.ReadEnds.{bounded}
 use Rattle.hc_laws.proofs.ReadJoined.{joined_in_runs, is_told}

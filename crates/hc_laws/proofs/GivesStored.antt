@@ -37,19 +37,19 @@ use Rattle.hc_model.specs.Sound.{Sound, IsBound, IsAbout, InHole}
 use Rattle.hc_model.specs.Sound as sound
 use Rattle.hc_model.specs.Steps.{bound_row, stored_from, stored_ahead, read_view, step_move, reading}
 use Rattle.hc_model.specs.Tables.{tables}
-use Rattle.hc_laws.proofs.AboutKeeps.{own_open_of}
+use Rattle.hc_effects.proofs.AboutKeeps.{own_open_of}
 use Rattle.hc_laws.proofs.AtHoles.{AreAtHoles, at_holes_in_runs}
-use Rattle.hc_model.proofs.Basics.{false_true, none_some, some_row}
-use Rattle.hc_model.proofs.ExclusiveWriters.{same_row}
-use Rattle.hc_model.proofs.GivenNext.{given_next}
-use Rattle.hc_model.proofs.Givers.{some_want}
-use Rattle.hc_model.proofs.HoleLemmas.{bool_cases}
+use Rattle.hc_effects.proofs.Basics.{false_true, none_some, some_row}
+use Rattle.hc_effects.proofs.ExclusiveWriters.{same_row}
+use Rattle.hc_effects.proofs.GivenNext.{given_next}
+use Rattle.hc_effects.proofs.Givers.{some_want}
+use Rattle.hc_effects.proofs.HoleLemmas.{bool_cases}
 use Rattle.hc_laws.proofs.InRuns.{turned_in_runs}
-use Rattle.hc_model.proofs.Owed.{goes}
+use Rattle.hc_effects.proofs.Owed.{goes}
 use Rattle.hc_laws.proofs.SoundRuns.{carried}
-use Rattle.hc_model.proofs.TurnFacts.{IsTaken, AtPoll, at_poll, behind}
-use Rattle.hc_model.proofs.TurnFacts as facts
-use Rattle.hc_model.proofs.TurnStays.{head_none}
+use Rattle.hc_laws.proofs.TurnFacts.{IsTaken, AtPoll, at_poll, behind}
+use Rattle.hc_laws.proofs.TurnFacts as facts
+use Rattle.hc_laws.proofs.TurnStays.{head_none}
 
 module _ (t : Tables) (s : Sound t) (o : Owners t) (turns : Turns t) (are : AreAtHoles t) (c r lo : ℕ) (hi : Option ℕ) (how : BoundBy) (k : Consumer) (v : Representation) (row : t.consumer c ≡ Some k) (shown : k.shown ≡ true) (at : k.place ≡ place.Bound r lo hi how) (there : t.representation r ≡ Some v) (stored : is_some (v.stored (offset t k)) ≡ true) where
   reader : IsBound t r c k

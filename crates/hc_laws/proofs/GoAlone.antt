@@ -35,49 +35,49 @@ use Rattle.hc_model.specs.Sound.{Sound, IsBound, IsAbout, IsAlone, IsFirst, IsEx
 use Rattle.hc_model.specs.Sound as sound
 use Rattle.hc_model.specs.Tables.{after_accepted}
 use Rattle.hc_model.specs.Writers.{brings_body, has_more, lacks_some}
-use Rattle.hc_laws.proofs.AboutKeeps.{own_open_of}
-use Rattle.hc_model.proofs.Basics.{false_true, true_false, and_left, and_right, none_some, some_row, split}
-use Rattle.hc_model.proofs.Beside.{IsBeside, goes_on_at}
-use Rattle.hc_model.proofs.BoundFrom.{BoundFrom, IsRow, IsShown, bound_from}
-use Rattle.hc_model.proofs.BoundFrom as from
-use Rattle.hc_model.proofs.BoundKeeps.{planned_at}
-use Rattle.hc_laws.proofs.Covers.{headed_at, offset_more}
+use Rattle.hc_effects.proofs.AboutKeeps.{own_open_of}
+use Rattle.hc_effects.proofs.Basics.{false_true, true_false, and_left, and_right, none_some, some_row, split}
+use Rattle.hc_effects.proofs.Beside.{IsBeside, goes_on_at}
+use Rattle.hc_effects.proofs.BoundFrom.{BoundFrom, IsRow, IsShown, bound_from}
+use Rattle.hc_effects.proofs.BoundFrom as from
+use Rattle.hc_effects.proofs.BoundKeeps.{planned_at}
+use Rattle.hc_effects.proofs.Covers.{headed_at, offset_more}
 use Rattle.hc_laws.proofs.CoversKept.{covered_kept, not_alone}
-use Rattle.hc_model.proofs.Dues.{due_before, due_none, undue_of, stop_none, loss_at}
-use Rattle.hc_model.proofs.EventsKeep.{deliveries_are_kept}
-use Rattle.hc_model.proofs.ExchangeFrom.{IsSame, IsHeaded}
-use Rattle.hc_laws.proofs.Exclusives.{IsExclusive}
-use Rattle.hc_model.proofs.Fills.{Fills, fills, Brings, brings}
-use Rattle.hc_model.proofs.Fills as fills_by
-use Rattle.hc_model.proofs.FirstKeeps.{is_new, is_opener}
-use Rattle.hc_model.proofs.Forward as forward
-use Rattle.hc_model.proofs.HoleLemmas.{covers_yes}
-use Rattle.hc_model.proofs.HolesOpened.{stored_ends}
-use Rattle.hc_laws.proofs.LossBy.{IsReal}
-use Rattle.hc_model.proofs.Losses.{HasRest}
-use Rattle.hc_model.proofs.MeasuresKeep.{IsHeld, held, piece_taken}
-use Rattle.hc_model.proofs.OpenedAs as opened
-use Rattle.hc_model.proofs.OpensFrom.{opens_hole, hole_is}
-use Rattle.hc_model.proofs.OwnFrom.{OwnFrom, own_from}
-use Rattle.hc_model.proofs.OwnFrom as own
-use Rattle.hc_model.proofs.OwnNone.{IsShared, own_none}
-use Rattle.hc_model.proofs.OwnersKeep.{is_opened, there_kept}
+use Rattle.hc_effects.proofs.Dues.{due_before, due_none, undue_of, stop_none, loss_at}
+use Rattle.hc_effects.proofs.EventsKeep.{deliveries_are_kept}
+use Rattle.hc_effects.proofs.ExchangeFrom.{IsSame, IsHeaded}
+use Rattle.hc_effects.proofs.Exclusives.{IsExclusive}
+use Rattle.hc_effects.proofs.Fills.{Fills, fills, Brings, brings}
+use Rattle.hc_effects.proofs.Fills as fills_by
+use Rattle.hc_effects.proofs.FirstKeeps.{is_new, is_opener}
+use Rattle.hc_effects.proofs.Forward as forward
+use Rattle.hc_effects.proofs.HoleLemmas.{covers_yes}
+use Rattle.hc_effects.proofs.HolesOpened.{stored_ends}
+use Rattle.hc_effects.proofs.LossBy.{IsReal}
+use Rattle.hc_effects.proofs.Losses.{HasRest}
+use Rattle.hc_effects.proofs.MeasuresKeep.{IsHeld, held, piece_taken}
+use Rattle.hc_effects.proofs.OpenedAs as opened
+use Rattle.hc_effects.proofs.OpensFrom.{opens_hole, hole_is}
+use Rattle.hc_effects.proofs.OwnFrom.{OwnFrom, own_from}
+use Rattle.hc_effects.proofs.OwnFrom as own
+use Rattle.hc_laws.proofs.OwnNone.{IsShared, own_none}
+use Rattle.hc_effects.proofs.OwnersKeep.{is_opened, there_kept}
 use Rattle.hc_laws.proofs.ExclusiveWriterFrom.{ExclusiveWriterFrom, alone_from}
 use Rattle.hc_laws.proofs.ExclusiveWriterFrom as exclusive_writers
-use Rattle.hc_model.proofs.ExclusiveWriters.{same_row, one_exclusive_writer, has_exclusive_writer, bound_some}
-use Rattle.hc_model.proofs.PieceKeeps.{some_inj}
-use Rattle.hc_model.proofs.PollKeeps.{current_stays, not_come}
-use Rattle.hc_model.proofs.PollTree.{OpensHole}
-use Rattle.hc_model.proofs.PollTree as tree
-use Rattle.hc_model.proofs.RepFrom.{RepFrom, rep_from, IsKept}
-use Rattle.hc_model.proofs.RepFrom as rep
-use Rattle.hc_model.proofs.Said.{ShowsBy, showing_by}
-use Rattle.hc_model.proofs.ShownFrom.{ShownAs, IsPlanned}
-use Rattle.hc_model.proofs.ShownFrom as shown_as
+use Rattle.hc_effects.proofs.ExclusiveWriters.{same_row, one_exclusive_writer, has_exclusive_writer, bound_some}
+use Rattle.hc_effects.proofs.PieceKeeps.{some_inj}
+use Rattle.hc_effects.proofs.PollKeeps.{current_stays, not_come}
+use Rattle.hc_effects.proofs.PollTree.{OpensHole}
+use Rattle.hc_effects.proofs.PollTree as tree
+use Rattle.hc_effects.proofs.RepFrom.{RepFrom, rep_from, IsKept}
+use Rattle.hc_effects.proofs.RepFrom as rep
+use Rattle.hc_effects.proofs.Said.{ShowsBy, showing_by}
+use Rattle.hc_effects.proofs.ShownFrom.{ShownAs, IsPlanned}
+use Rattle.hc_effects.proofs.ShownFrom as shown_as
 use Rattle.hc_laws.proofs.SoundKept.{GoAlone}
-use Rattle.hc_model.proofs.StoreKeeps.{stores_are_kept}
-use Rattle.hc_laws.proofs.Survives.{goes_on}
-use Rattle.hc_laws.proofs.ToBeShown.{heard_place}
+use Rattle.hc_laws.proofs.StoreKeeps.{stores_are_kept}
+use Rattle.hc_effects.proofs.Survives.{goes_on}
+use Rattle.hc_effects.proofs.ToBeShown.{heard_place}
 use Rattle.hc_laws.proofs.TogetherHeads as together
 
 -- where something is lost, there is a loss
@@ -289,7 +289,7 @@ module _ (limits : Limits) (t : Tables) (now : ℕ) (flaw : Flaw) (s : Sound t) 
       own_piece : (y : ℕ) (bytes : List ℕ) (a : Exchange) → is_written t v ≡ false → IsExclusiveWriter t r v c → fills_by.IsPiece t e r y bytes a → k.own ≡ Some y
       own_piece y bytes a off exclusive_writer is = by_had (s.writes.had r y v there (sound.headed a is.row taken.is_open taken.headed is.of_r (ap is_some there)))
         where
-          taken : Rattle.hc_model.proofs.Once.IsTaken a (length bytes)
+          taken : Rattle.hc_effects.proofs.Once.IsTaken a (length bytes)
           taken = piece_taken limits t now flaw s o m ev goes y bytes a is.at is.row
 
           by_row : (d : ℕ) (q : Consumer) → IsBound t r d q → d ≡ c → own_open t q ≡ Some y → k.own ≡ Some y

@@ -35,24 +35,24 @@ use Rattle.hc_model.specs.Rows.{Tables, Exchange, Representation}
 use Rattle.hc_model.specs.Runs.{may_stand}
 use Rattle.hc_model.specs.Sound.{Sound, IsGrowing, InHole, end_from}
 use Rattle.hc_model.specs.Tables.{after_accepted}
-use Rattle.hc_model.proofs.ApartKeeps.{IsOn, is_on, was_written}
-use Rattle.hc_model.proofs.Basics.{false_true, and_left, and_right, none_some, number_is}
-use Rattle.hc_model.proofs.ExchangeFrom.{IsSame, IsHeaded}
-use Rattle.hc_model.proofs.Fills.{Fills, fills, Brings, brings, length_same}
-use Rattle.hc_model.proofs.Fills as fills_by
-use Rattle.hc_model.proofs.FirstKeeps.{case_is, is_new}
-use Rattle.hc_model.proofs.Forward.{after_is}
-use Rattle.hc_model.proofs.Forward as forward
-use Rattle.hc_model.proofs.Founders.{founders_kept}
-use Rattle.hc_model.proofs.HeadKeeps.{IsJoin, is_join}
-use Rattle.hc_model.proofs.HoleLemmas.{bool_cases, covers_all, first_to}
-use Rattle.hc_model.proofs.MeasuresKeep.{held, IsHeld, total_same, one_piece}
-use Rattle.hc_model.proofs.PartTold.{part_told, whole_base, IsTold, part_order}
-use Rattle.hc_model.proofs.PartTold as tells
-use Rattle.hc_model.proofs.PieceKeeps.{some_inj}
-use Rattle.hc_model.proofs.ExclusiveWriters.{same_row}
-use Rattle.hc_model.proofs.RepFrom.{RepFrom, rep_from, IsKept, IsResumed}
-use Rattle.hc_model.proofs.RepFrom as rep
+use Rattle.hc_effects.proofs.ApartKeeps.{IsOn, is_on, was_written}
+use Rattle.hc_effects.proofs.Basics.{false_true, and_left, and_right, none_some, number_is}
+use Rattle.hc_effects.proofs.ExchangeFrom.{IsSame, IsHeaded}
+use Rattle.hc_effects.proofs.Fills.{Fills, fills, Brings, brings, length_same}
+use Rattle.hc_effects.proofs.Fills as fills_by
+use Rattle.hc_effects.proofs.FirstKeeps.{case_is, is_new}
+use Rattle.hc_effects.proofs.Forward.{after_is}
+use Rattle.hc_effects.proofs.Forward as forward
+use Rattle.hc_laws.proofs.Founders.{founders_kept}
+use Rattle.hc_effects.proofs.HeadKeeps.{IsJoin, is_join}
+use Rattle.hc_effects.proofs.HoleLemmas.{bool_cases, covers_all, first_to}
+use Rattle.hc_effects.proofs.MeasuresKeep.{held, IsHeld, total_same, one_piece}
+use Rattle.hc_effects.proofs.PartTold.{part_told, whole_base, IsTold, part_order}
+use Rattle.hc_effects.proofs.PartTold as tells
+use Rattle.hc_effects.proofs.PieceKeeps.{some_inj}
+use Rattle.hc_effects.proofs.ExclusiveWriters.{same_row}
+use Rattle.hc_effects.proofs.RepFrom.{RepFrom, rep_from, IsKept, IsResumed}
+use Rattle.hc_effects.proofs.RepFrom as rep
 
 -- what covers from the first position on isn't past the reach
 covers_reach : (f : Cells) (reach hi : ℕ) → covers f reach 0 hi ≡ true → hi ≤ reach

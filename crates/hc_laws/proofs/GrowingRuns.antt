@@ -24,18 +24,18 @@ use Rattle.hc_model.specs.Rows.{Tables, Exchange, Representation}
 use Rattle.hc_model.specs.Sound.{Sound, Among, IsAbout}
 use Rattle.hc_model.specs.Sound as sound
 use Rattle.hc_model.specs.Tables.{tables, after_accepted, after_denied}
-use Rattle.hc_model.proofs.ApartKeeps.{is_on}
+use Rattle.hc_effects.proofs.ApartKeeps.{is_on}
 use Rattle.hc_laws.proofs.Barred.{next_tables, denied_tables}
-use Rattle.hc_model.proofs.Basics.{false_true, and_left, and_right, none_some, some_row}
-use Rattle.hc_model.proofs.ExchangeFrom.{ExchangeFrom, exchange_from, IsHeaded}
-use Rattle.hc_model.proofs.ExchangeFrom as exchange
-use Rattle.hc_model.proofs.FirstKeeps.{is_new, case_is}
+use Rattle.hc_effects.proofs.Basics.{false_true, and_left, and_right, none_some, some_row}
+use Rattle.hc_effects.proofs.ExchangeFrom.{ExchangeFrom, exchange_from, IsHeaded}
+use Rattle.hc_effects.proofs.ExchangeFrom as exchange
+use Rattle.hc_effects.proofs.FirstKeeps.{is_new, case_is}
 use Rattle.hc_laws.proofs.FitsKept.{any_some}
-use Rattle.hc_model.proofs.HeadKeeps.{is_join, is_aimed}
-use Rattle.hc_model.proofs.HoleLemmas.{bool_cases}
-use Rattle.hc_laws.proofs.OfEntries.{of_real}
-use Rattle.hc_model.proofs.ExclusiveWriters.{writer_some}
-use Rattle.hc_model.proofs.RepFrom as rep
+use Rattle.hc_effects.proofs.HeadKeeps.{is_join, is_aimed}
+use Rattle.hc_effects.proofs.HoleLemmas.{bool_cases}
+use Rattle.hc_effects.proofs.OfEntries.{of_real}
+use Rattle.hc_effects.proofs.ExclusiveWriters.{writer_some}
+use Rattle.hc_effects.proofs.RepFrom as rep
 use Rattle.hc_laws.proofs.SoundRuns.{carried}
 use Rattle.hc_laws.proofs.Unknowns.{Unknown}
 use Rattle.hc_laws.proofs.WaitsInRuns.{unknown_in_runs}
@@ -145,7 +145,7 @@ module _ (limits : Limits) (t : Tables) (now : ℕ) (flaw : Flaw) (s : Sound t) 
           absurd (none_some v (sym new.unfounded ∙ (ap t.representation own ∙ there)))
     ]
       where
-        new : Rattle.hc_model.proofs.FirstKeeps.IsNew limits t now flaw s ev goes y w
+        new : Rattle.hc_effects.proofs.FirstKeeps.IsNew limits t now flaw s ev goes y w
         new = is_new limits t now flaw s ev goes y got.response w got.at row
 
     was_about : ExchangeFrom t e y g.w → IsAbout t r y

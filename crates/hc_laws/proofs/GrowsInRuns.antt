@@ -20,20 +20,20 @@ use Rattle.hc_model.specs.Runs.{IsOwed}
 use Rattle.hc_model.specs.Sound.{Sound}
 use Rattle.hc_model.specs.Tables.{tables, after_accepted, after_denied}
 use Rattle.hc_laws.proofs.Barred.{next_tables, denied_tables}
-use Rattle.hc_model.proofs.Basics.{false_true, and_left, and_right, none_some}
-use Rattle.hc_model.proofs.ExchangeFrom.{IsSame, IsHeaded}
-use Rattle.hc_model.proofs.Fills.{Brings, brings, length_same}
-use Rattle.hc_model.proofs.Fills as fills_by
-use Rattle.hc_model.proofs.FirstKeeps.{is_new}
-use Rattle.hc_model.proofs.Forward as forward
-use Rattle.hc_model.proofs.HoleLemmas.{bool_cases}
-use Rattle.hc_laws.proofs.OfEntries.{of_real}
-use Rattle.hc_model.proofs.PieceKeeps.{some_inj}
-use Rattle.hc_model.proofs.ExclusiveWriters.{same_row}
-use Rattle.hc_model.proofs.RepFrom.{RepFrom, rep_from}
-use Rattle.hc_model.proofs.RepFrom as rep
+use Rattle.hc_effects.proofs.Basics.{false_true, and_left, and_right, none_some}
+use Rattle.hc_effects.proofs.ExchangeFrom.{IsSame, IsHeaded}
+use Rattle.hc_effects.proofs.Fills.{Brings, brings, length_same}
+use Rattle.hc_effects.proofs.Fills as fills_by
+use Rattle.hc_effects.proofs.FirstKeeps.{is_new}
+use Rattle.hc_effects.proofs.Forward as forward
+use Rattle.hc_effects.proofs.HoleLemmas.{bool_cases}
+use Rattle.hc_effects.proofs.OfEntries.{of_real}
+use Rattle.hc_effects.proofs.PieceKeeps.{some_inj}
+use Rattle.hc_effects.proofs.ExclusiveWriters.{same_row}
+use Rattle.hc_effects.proofs.RepFrom.{RepFrom, rep_from}
+use Rattle.hc_effects.proofs.RepFrom as rep
 use Rattle.hc_laws.proofs.SoundRuns.{runs_are_sound}
-use Rattle.hc_model.proofs.Stays.{bodies_are_kept}
+use Rattle.hc_effects.proofs.Stays.{bodies_are_kept}
 
 -- AN ANSWER PAST THE STORE
 

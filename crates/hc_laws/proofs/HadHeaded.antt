@@ -46,29 +46,29 @@ use Rattle.hc_model.specs.Sound as sound
 use Rattle.hc_model.specs.StartingOver.{starts_over}
 use Rattle.hc_model.specs.Tables.{after_accepted}
 use Rattle.hc_model.specs.Writers.{came_alone, status_in, loses_writing}
-use Rattle.hc_laws.proofs.AboutKeeps.{own_open_is}
-use Rattle.hc_model.proofs.ApartKeeps.{written_by}
-use Rattle.hc_model.proofs.Basics.{false_true, and_left, and_right, and_both, or_left, or_right, or_false, not_so, not_true, none_some}
-use Rattle.hc_model.proofs.Dues.{due_none}
-use Rattle.hc_model.proofs.ExchangeFrom.{ExchangeFrom, IsSame, IsHeaded, exchange_from}
-use Rattle.hc_model.proofs.ExchangeFrom as exchange
-use Rattle.hc_model.proofs.FirstKeeps.{case_is, is_new}
-use Rattle.hc_model.proofs.FoundBy.{CaseBy, case_by, FoundingBy, founding_by}
-use Rattle.hc_model.proofs.FoundBy as cases
-use Rattle.hc_model.proofs.Forward as forward
-use Rattle.hc_laws.proofs.HadKeeps.{own_had, settled, bare_had, was_headed}
+use Rattle.hc_effects.proofs.AboutKeeps.{own_open_is}
+use Rattle.hc_effects.proofs.ApartKeeps.{written_by}
+use Rattle.hc_effects.proofs.Basics.{false_true, and_left, and_right, and_both, or_left, or_right, or_false, not_so, not_true, none_some}
+use Rattle.hc_effects.proofs.Dues.{due_none}
+use Rattle.hc_effects.proofs.ExchangeFrom.{ExchangeFrom, IsSame, IsHeaded, exchange_from}
+use Rattle.hc_effects.proofs.ExchangeFrom as exchange
+use Rattle.hc_effects.proofs.FirstKeeps.{case_is, is_new}
+use Rattle.hc_effects.proofs.FoundBy.{CaseBy, case_by, FoundingBy, founding_by}
+use Rattle.hc_effects.proofs.FoundBy as cases
+use Rattle.hc_effects.proofs.Forward as forward
+use Rattle.hc_effects.proofs.HadKeeps.{own_had, settled, bare_had, was_headed}
 use Rattle.hc_laws.proofs.HadNew.{new_had}
-use Rattle.hc_laws.proofs.HasBound.{head_stands, stays_on, joins_place, awaiting_bound}
-use Rattle.hc_model.proofs.HeadKeeps.{is_join}
-use Rattle.hc_model.proofs.HoleLemmas.{bool_cases}
-use Rattle.hc_laws.proofs.LossBy.{IsReal}
-use Rattle.hc_model.proofs.MeasuresKeep.{founder_not, number_not}
-use Rattle.hc_model.proofs.OwnersKeep.{is_opened}
-use Rattle.hc_model.proofs.ExclusiveWriters.{same_row}
-use Rattle.hc_model.proofs.RepFrom.{RepFrom, rep_from, IsKept}
-use Rattle.hc_model.proofs.RepFrom as rep
+use Rattle.hc_effects.proofs.HasBound.{head_stands, stays_on, joins_place, awaiting_bound}
+use Rattle.hc_effects.proofs.HeadKeeps.{is_join}
+use Rattle.hc_effects.proofs.HoleLemmas.{bool_cases}
+use Rattle.hc_effects.proofs.LossBy.{IsReal}
+use Rattle.hc_effects.proofs.MeasuresKeep.{founder_not, number_not}
+use Rattle.hc_effects.proofs.OwnersKeep.{is_opened}
+use Rattle.hc_effects.proofs.ExclusiveWriters.{same_row}
+use Rattle.hc_effects.proofs.RepFrom.{RepFrom, rep_from, IsKept}
+use Rattle.hc_effects.proofs.RepFrom as rep
 use Rattle.hc_laws.proofs.UndueKeeps.{founder_undue, no_cause}
-use Rattle.hc_model.proofs.Waiters.{IsWaiter, waiter_of, unwritten, waits_undue}
+use Rattle.hc_effects.proofs.Waiters.{IsWaiter, waiter_of, unwritten, waits_undue}
 
 -- where nothing is lost, r isn't
 lossless_none : (r : ℕ) (acts : List Act) → has_loss acts ≡ false → loses_in r acts ≡ false

@@ -30,26 +30,26 @@ use Rattle.hc_model.specs.Sound.{Sound, IsBound, IsAbout, IsHad, IsExclusiveWrit
 use Rattle.hc_model.specs.Sound as sound
 use Rattle.hc_model.specs.Tables.{after_accepted}
 use Rattle.hc_model.specs.Writers.{brings_body, came_alone}
-use Rattle.hc_laws.proofs.AboutKeeps.{own_open_is}
-use Rattle.hc_model.proofs.Basics.{false_true, none_some, some_none}
-use Rattle.hc_model.proofs.BoundFrom.{BoundFrom, IsRow, bound_from}
-use Rattle.hc_model.proofs.BoundFrom as from
-use Rattle.hc_model.proofs.BoundKeeps.{opens_none}
-use Rattle.hc_model.proofs.Dues.{undue_of, due_none}
+use Rattle.hc_effects.proofs.AboutKeeps.{own_open_is}
+use Rattle.hc_effects.proofs.Basics.{false_true, none_some, some_none}
+use Rattle.hc_effects.proofs.BoundFrom.{BoundFrom, IsRow, bound_from}
+use Rattle.hc_effects.proofs.BoundFrom as from
+use Rattle.hc_effects.proofs.BoundKeeps.{opens_none}
+use Rattle.hc_effects.proofs.Dues.{undue_of, due_none}
 use Rattle.hc_laws.proofs.FirstDues.{poll_undue}
-use Rattle.hc_model.proofs.FirstKeeps.{came_kept, is_opener, open_free}
-use Rattle.hc_laws.proofs.LossBy.{IsReal, IsSealing, sealed_loss}
-use Rattle.hc_model.proofs.OpensFrom.{opens_hole, hole_is}
-use Rattle.hc_model.proofs.OwnersKeep.{is_opened}
-use Rattle.hc_model.proofs.PieceKeeps.{some_inj}
-use Rattle.hc_model.proofs.ExclusiveWriters.{same_row, bound_some, none_about, has_exclusive_writer, none_about_hole}
-use Rattle.hc_model.proofs.PollKeeps.{current_stays}
-use Rattle.hc_model.proofs.PollTree as tree
-use Rattle.hc_model.proofs.RepFrom.{RepFrom, rep_from, IsKept, IsResumed}
-use Rattle.hc_model.proofs.RepFrom as rep
-use Rattle.hc_model.proofs.Said.{IsOpening, opening_by, showing_by}
-use Rattle.hc_laws.proofs.ServedKeeps.{kept_alone}
-use Rattle.hc_laws.proofs.WaitingKeeps.{waiting_kept}
+use Rattle.hc_effects.proofs.FirstKeeps.{came_kept, is_opener, open_free}
+use Rattle.hc_effects.proofs.LossBy.{IsReal, IsSealing, sealed_loss}
+use Rattle.hc_effects.proofs.OpensFrom.{opens_hole, hole_is}
+use Rattle.hc_effects.proofs.OwnersKeep.{is_opened}
+use Rattle.hc_effects.proofs.PieceKeeps.{some_inj}
+use Rattle.hc_effects.proofs.ExclusiveWriters.{same_row, bound_some, none_about, has_exclusive_writer, none_about_hole}
+use Rattle.hc_effects.proofs.PollKeeps.{current_stays}
+use Rattle.hc_effects.proofs.PollTree as tree
+use Rattle.hc_effects.proofs.RepFrom.{RepFrom, rep_from, IsKept, IsResumed}
+use Rattle.hc_effects.proofs.RepFrom as rep
+use Rattle.hc_effects.proofs.Said.{IsOpening, opening_by, showing_by}
+use Rattle.hc_effects.proofs.ServedKeeps.{kept_alone}
+use Rattle.hc_effects.proofs.WaitingKeeps.{waiting_kept}
 
 some_of : (q : Option Response) → is_some q ≡ true → (response : Response) × (q ≡ Some response)
 some_of None g = absurd (false_true g)
@@ -127,7 +127,7 @@ module _ (limits : Limits) (t : Tables) (now : ℕ) (flaw : Flaw) (s : Sound t) 
     idle : (k : Consumer) → t.consumer c ≡ Some k → bound_to k.place ≡ None → k.due ≡ None
     idle k row free = by_place k.place refl free
       where
-        got : Rattle.hc_model.proofs.OwnersKeep.IsOpened limits t now flaw s o ev goes q
+        got : Rattle.hc_effects.proofs.OwnersKeep.IsOpened limits t now flaw s o ev goes q
         got = is_opened limits t now flaw s o ev goes q opens
 
         one : got.k ≡ k

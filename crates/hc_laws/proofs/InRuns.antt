@@ -14,14 +14,14 @@ use Rattle.hc_model.specs.Sound.{Sound, IsBound}
 use Rattle.hc_model.specs.Sound as sound
 use Rattle.hc_model.specs.Tables.{tables, after_accepted, after_denied}
 use Rattle.hc_laws.proofs.Barred.{next_tables, denied_tables, barrier_is_kept, barrier_begins, binds_behind}
-use Rattle.hc_model.proofs.KeysPlaces.{keys_are_kept, keys_begin}
-use Rattle.hc_model.proofs.OneKey.{law_of_one_key}
-use Rattle.hc_model.proofs.Once.{delivers_once}
-use Rattle.hc_model.proofs.Owed.{goes}
+use Rattle.hc_laws.proofs.KeysPlaces.{keys_are_kept, keys_begin}
+use Rattle.hc_laws.proofs.OneKey.{law_of_one_key}
+use Rattle.hc_effects.proofs.Once.{delivers_once}
+use Rattle.hc_effects.proofs.Owed.{goes}
 use Rattle.hc_laws.proofs.SoundRuns.{runs_are_sound}
-use Rattle.hc_model.proofs.Starts.{numbers_begin}
-use Rattle.hc_model.proofs.TurnFacts.{IsTaken}
-use Rattle.hc_model.proofs.TurnsKeep.{turns_are_kept, turns_begin, turns_are_one, same_entry}
+use Rattle.hc_laws.proofs.Starts.{numbers_begin}
+use Rattle.hc_laws.proofs.TurnFacts.{IsTaken}
+use Rattle.hc_laws.proofs.TurnsKeep.{turns_are_kept, turns_begin, turns_are_one, same_entry}
 
 -- what is of one key and who has the turn, of a run so far
 record Holds (contents : Contents) (h : History) : Type 0 where

@@ -20,12 +20,12 @@ use Rattle.hc_model.specs.RepresentationRows.{representation_heard}
 use Rattle.hc_model.specs.Rows.{Tables, Exchange, Representation}
 use Rattle.hc_model.specs.Sound.{Sound, IsGrowing}
 use Rattle.hc_model.specs.Tables.{after_accepted}
-use Rattle.hc_model.proofs.ApartKeeps.{is_on}
-use Rattle.hc_model.proofs.Basics.{false_true, true_false, or_false}
-use Rattle.hc_model.proofs.HoleLemmas.{bool_cases}
-use Rattle.hc_model.proofs.RepFrom.{RepFrom, rep_from, IsKept, IsResumed, IsEnded}
-use Rattle.hc_model.proofs.RepFrom as rep
-use Rattle.hc_laws.proofs.WritingStops.{IsAll, ends_all}
+use Rattle.hc_effects.proofs.ApartKeeps.{is_on}
+use Rattle.hc_effects.proofs.Basics.{false_true, true_false, or_false}
+use Rattle.hc_effects.proofs.HoleLemmas.{bool_cases}
+use Rattle.hc_effects.proofs.RepFrom.{RepFrom, rep_from, IsKept, IsResumed, IsEnded}
+use Rattle.hc_effects.proofs.RepFrom as rep
+use Rattle.hc_effects.proofs.WritingStops.{IsAll, ends_all}
 
 module _ (limits : Limits) (t : Tables) (now : ℕ) (flaw : Flaw) (s : Sound t) (o : Owners t) (m : Measures t) (ev : Event) (goes : denial t ev ≡ None) where
   abbrev e : Entry

@@ -30,25 +30,25 @@ use Rattle.hc_model.specs.StoredHeads.{StoredHeads, AreWithinLimits, IsOfOne, Ta
 use Rattle.hc_model.specs.StoredHeads as heads
 use Rattle.hc_model.specs.Tables.{tables, bytes_in, last_end}
 use Rattle.hc_model.specs.WithinLimits.{KeysAreTargets}
-use Rattle.hc_model.proofs.Basics.{false_true, and_left, and_right, and_both, none_some}
+use Rattle.hc_effects.proofs.Basics.{false_true, and_left, and_right, and_both, none_some}
 use Rattle.hc_laws.proofs.FitsKept.{Fits}
-use Rattle.hc_model.proofs.HoleLemmas.{bool_cases, covers_yes}
-use Rattle.hc_model.proofs.KindsLeft.{kind_by, kind_right, count_is, last_is}
+use Rattle.hc_effects.proofs.HoleLemmas.{bool_cases, covers_yes}
+use Rattle.hc_laws.proofs.KindsLeft.{kind_by, kind_right, count_is, last_is}
 use Rattle.hc_laws.proofs.OriginRuns.{origins_in_runs}
-use Rattle.hc_model.proofs.ExclusiveWriters.{none_about}
-use Rattle.hc_model.proofs.PieceKeeps.{eq_cases, some_inj}
-use Rattle.hc_model.proofs.PollKeeps.{current_stays}
-use Rattle.hc_model.proofs.RunsFrom.{HasCell, is_of, of_cell, all_of, ascends}
+use Rattle.hc_effects.proofs.ExclusiveWriters.{none_about}
+use Rattle.hc_effects.proofs.PieceKeeps.{eq_cases, some_inj}
+use Rattle.hc_effects.proofs.PollKeeps.{current_stays}
+use Rattle.hc_laws.proofs.RunsFrom.{HasCell, is_of, of_cell, all_of, ascends}
 use Rattle.hc_laws.proofs.SizesKeep.{sized_runs}
 use Rattle.hc_laws.proofs.SoundRuns.{IsCarried, carried}
 use Rattle.hc_laws.proofs.StoredHeadsKeep.{heads_in_runs, within_limits_in_runs}
 use Rattle.hc_laws.proofs.TargetRuns.{keys_stay_targets}
-use Rattle.hc_model.proofs.Sums.{sum_le, sum_some, is_in, among_of, filter_among, filter_once, reverse_among, reverse_once}
+use Rattle.hc_effects.proofs.Sums.{sum_le, sum_some, is_in, among_of, filter_among, filter_once, reverse_among, reverse_once}
 use Rattle.hc_laws.proofs.TagRuns.{tags_in_runs}
 use Rattle.hc_laws.proofs.Unknowns.{Unknown}
 use Rattle.hc_laws.proofs.WaitsInRuns.{unknown_in_runs}
-use Rattle.hc_laws.proofs.Weighed.{IsHeld, held, total, held_is}
-use Rattle.hc_laws.proofs.Weighed as weighed
+use Rattle.hc_effects.proofs.Weighed.{IsHeld, held, total, held_is}
+use Rattle.hc_effects.proofs.Weighed as weighed
 
 not_by : (b : Bool) → b ≡ false → not b ≡ true
 not_by b off = rw off refl

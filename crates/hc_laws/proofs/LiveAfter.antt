@@ -19,7 +19,7 @@ use Rattle.hc_model.specs.Lawful.{Lawful}
 use Rattle.hc_model.specs.Rows.{Tables, Consumer}
 use Rattle.hc_model.specs.Runs.{IsOwed}
 use Rattle.hc_model.specs.Tables.{after, after_accepted, after_denied}
-use Rattle.hc_model.proofs.Owed.{goes, acts_are}
+use Rattle.hc_effects.proofs.Owed.{goes, acts_are}
 use Rattle.hc_laws.proofs.LiveRuns.{stays_over}
 
 -- the consumer starts by the event

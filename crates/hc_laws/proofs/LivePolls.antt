@@ -41,17 +41,17 @@ use Rattle.hc_model.specs.Sound.{Sound, IsBound, IsFirst, IsExclusiveWriter, IsS
 use Rattle.hc_model.specs.Sound as sound
 use Rattle.hc_model.specs.Steps.{bound_row, stored_ahead, stored_from, run_held_for, held_at, held_of_exchange, run_of, read_view, later_hole, step_move, reading, most}
 use Rattle.hc_model.specs.Writers.{came_alone}
-use Rattle.hc_laws.proofs.AboutKeeps.{own_open_of, own_open_is}
-use Rattle.hc_model.proofs.Basics.{false_true, none_some, some_none, some_row, and_left, and_right, not_so}
-use Rattle.hc_model.proofs.GivenNext.{some_ahead}
-use Rattle.hc_model.proofs.HoleLemmas.{bool_cases}
-use Rattle.hc_model.proofs.MoveBy.{MoveBy, IsHeard, move_by}
-use Rattle.hc_model.proofs.MoveBy as by
-use Rattle.hc_model.proofs.ExclusiveWriters.{same_row, shares_source}
-use Rattle.hc_model.proofs.PieceKeeps.{some_inj}
-use Rattle.hc_model.proofs.PlanBy.{PlanBy, plan_by}
-use Rattle.hc_model.proofs.PlanBy as plans
-use Rattle.hc_model.proofs.ShownFrom.{candidate_is}
+use Rattle.hc_effects.proofs.AboutKeeps.{own_open_of, own_open_is}
+use Rattle.hc_effects.proofs.Basics.{false_true, none_some, some_none, some_row, and_left, and_right, not_so}
+use Rattle.hc_effects.proofs.GivenNext.{some_ahead}
+use Rattle.hc_effects.proofs.HoleLemmas.{bool_cases}
+use Rattle.hc_effects.proofs.MoveBy.{MoveBy, IsHeard, move_by}
+use Rattle.hc_effects.proofs.MoveBy as by
+use Rattle.hc_effects.proofs.ExclusiveWriters.{same_row, shares_source}
+use Rattle.hc_effects.proofs.PieceKeeps.{some_inj}
+use Rattle.hc_effects.proofs.PlanBy.{PlanBy, plan_by}
+use Rattle.hc_effects.proofs.PlanBy as plans
+use Rattle.hc_effects.proofs.ShownFrom.{candidate_is}
 
 -- so far no chain goes on
 abbrev pub Goes : Tables → Move → Type 0

@@ -31,15 +31,15 @@ use Rattle.hc_model.specs.Rows.{Tables, Exchange, Consumer}
 use Rattle.hc_model.specs.Sound.{Sound}
 use Rattle.hc_model.specs.StartingOver.{starts_over, waits_at, sends_back, loses_what_it_waits_for}
 use Rattle.hc_model.specs.Tables.{after_accepted, starts_after}
-use Rattle.hc_model.proofs.Basics.{false_true, true_false, none_some, some_none, not_so}
-use Rattle.hc_model.proofs.EventsKeep.{poll_live}
-use Rattle.hc_model.proofs.FirstKeeps.{is_new}
-use Rattle.hc_model.proofs.HoleLemmas.{bool_cases}
-use Rattle.hc_model.proofs.NumbersKeep.{starts_later}
+use Rattle.hc_effects.proofs.Basics.{false_true, true_false, none_some, some_none, not_so}
+use Rattle.hc_effects.proofs.EventsKeep.{poll_live}
+use Rattle.hc_effects.proofs.FirstKeeps.{is_new}
+use Rattle.hc_effects.proofs.HoleLemmas.{bool_cases}
+use Rattle.hc_effects.proofs.NumbersKeep.{starts_later}
 use Rattle.hc_laws.proofs.OrderRuns.{starts_on}
 use Rattle.hc_laws.proofs.RunFacts.{in_runs}
-use Rattle.hc_model.proofs.Standing.{far_by, after_heard, standers_stay, starting_over_is_caused}
-use Rattle.hc_model.proofs.Waiters.{waiter_as, fault_open_of}
+use Rattle.hc_effects.proofs.Standing.{far_by, after_heard, standers_stay, starting_over_is_caused}
+use Rattle.hc_effects.proofs.Waiters.{waiter_as, fault_open_of}
 
 -- NO MORE OF A LIST
 

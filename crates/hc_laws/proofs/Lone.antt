@@ -29,36 +29,36 @@ use Rattle.hc_model.specs.Sound.{Sound, IsBound, IsFirst}
 use Rattle.hc_model.specs.Sound as sound
 use Rattle.hc_model.specs.Tables.{after_accepted}
 use Rattle.hc_model.specs.Writers.{came_alone, may_write, has_more, lacks_some, exclusive, brings_body}
-use Rattle.hc_laws.proofs.AboutKeeps.{own_open_of, own_open_is}
-use Rattle.hc_model.proofs.ApartKeeps.{written_by}
-use Rattle.hc_model.proofs.Basics.{false_true, or_false, and_left, and_right, none_some}
-use Rattle.hc_model.proofs.BoundFrom.{BoundFrom, IsRow, IsShown, bound_from, place_inj}
-use Rattle.hc_model.proofs.BoundFrom as from
-use Rattle.hc_model.proofs.BoundKeeps.{shown_place_is}
-use Rattle.hc_model.proofs.Dues.{due_before}
-use Rattle.hc_model.proofs.ExchangeFrom.{ExchangeFrom, exchange_from}
-use Rattle.hc_model.proofs.ExchangeFrom as exchange
-use Rattle.hc_model.proofs.FirstKeeps.{is_new, is_opener, came_kept, open_free}
-use Rattle.hc_model.proofs.HoleLemmas.{bool_cases}
-use Rattle.hc_laws.proofs.LossBy.{IsReal}
-use Rattle.hc_model.proofs.Losses.{HasRest, exclusive_is, no_more, or_end, or_right}
-use Rattle.hc_model.proofs.OpenedAs as opened
-use Rattle.hc_model.proofs.OpensFrom.{hole_is, opens_hole}
-use Rattle.hc_model.proofs.OwnFrom.{OwnFrom, own_from}
-use Rattle.hc_model.proofs.OwnFrom as own
-use Rattle.hc_model.proofs.OwnersKeep.{is_opened}
-use Rattle.hc_model.proofs.ExclusiveWriters.{IsAtHole, same_row, bound_some, shares_source, writer_some}
-use Rattle.hc_model.proofs.PieceKeeps.{some_inj}
-use Rattle.hc_model.proofs.PollTree.{OpensHole}
-use Rattle.hc_model.proofs.PollTree as tree
-use Rattle.hc_model.proofs.RepFrom.{RepFrom, rep_from, IsKept, IsResumed}
-use Rattle.hc_model.proofs.RepFrom as rep
-use Rattle.hc_model.proofs.Said.{IsShowing, showing_by}
-use Rattle.hc_laws.proofs.ServedKeeps.{rest_by, still_rests, resumed_not}
-use Rattle.hc_model.proofs.ShownFrom.{shown_from}
-use Rattle.hc_model.proofs.Stops.{writer_about}
-use Rattle.hc_laws.proofs.ToBeShown.{heard_place}
-use Rattle.hc_laws.proofs.WriterEnds.{all_stored}
+use Rattle.hc_effects.proofs.AboutKeeps.{own_open_of, own_open_is}
+use Rattle.hc_effects.proofs.ApartKeeps.{written_by}
+use Rattle.hc_effects.proofs.Basics.{false_true, or_false, and_left, and_right, none_some}
+use Rattle.hc_effects.proofs.BoundFrom.{BoundFrom, IsRow, IsShown, bound_from, place_inj}
+use Rattle.hc_effects.proofs.BoundFrom as from
+use Rattle.hc_effects.proofs.BoundKeeps.{shown_place_is}
+use Rattle.hc_effects.proofs.Dues.{due_before}
+use Rattle.hc_effects.proofs.ExchangeFrom.{ExchangeFrom, exchange_from}
+use Rattle.hc_effects.proofs.ExchangeFrom as exchange
+use Rattle.hc_effects.proofs.FirstKeeps.{is_new, is_opener, came_kept, open_free}
+use Rattle.hc_effects.proofs.HoleLemmas.{bool_cases}
+use Rattle.hc_effects.proofs.LossBy.{IsReal}
+use Rattle.hc_effects.proofs.Losses.{HasRest, exclusive_is, no_more, or_end, or_right}
+use Rattle.hc_effects.proofs.OpenedAs as opened
+use Rattle.hc_effects.proofs.OpensFrom.{hole_is, opens_hole}
+use Rattle.hc_effects.proofs.OwnFrom.{OwnFrom, own_from}
+use Rattle.hc_effects.proofs.OwnFrom as own
+use Rattle.hc_effects.proofs.OwnersKeep.{is_opened}
+use Rattle.hc_effects.proofs.ExclusiveWriters.{IsAtHole, same_row, bound_some, shares_source, writer_some}
+use Rattle.hc_effects.proofs.PieceKeeps.{some_inj}
+use Rattle.hc_effects.proofs.PollTree.{OpensHole}
+use Rattle.hc_effects.proofs.PollTree as tree
+use Rattle.hc_effects.proofs.RepFrom.{RepFrom, rep_from, IsKept, IsResumed}
+use Rattle.hc_effects.proofs.RepFrom as rep
+use Rattle.hc_effects.proofs.Said.{IsShowing, showing_by}
+use Rattle.hc_effects.proofs.ServedKeeps.{rest_by, still_rests, resumed_not}
+use Rattle.hc_effects.proofs.ShownFrom.{shown_from}
+use Rattle.hc_effects.proofs.Stops.{writer_about}
+use Rattle.hc_effects.proofs.ToBeShown.{heard_place}
+use Rattle.hc_effects.proofs.WriterEnds.{all_stored}
 
 -- it reads what is stored, and nothing comes for it
 pub record IsResting (t : Tables) (v : Representation) (k : Consumer) : Type 0 where

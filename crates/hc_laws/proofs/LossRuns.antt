@@ -25,13 +25,13 @@ use Rattle.hc_model.specs.Sound.{Sound, IsBound}
 use Rattle.hc_model.specs.Sound as sound
 use Rattle.hc_model.specs.Steps.{run_held_for, held_at, held_of_lost, run_of}
 use Rattle.hc_model.specs.Tables.{tables, first_tables, after, after_accepted, after_denied}
-use Rattle.hc_model.proofs.Basics.{false_true, none_some}
+use Rattle.hc_effects.proofs.Basics.{false_true, none_some}
 use Rattle.hc_laws.proofs.BringsRuns.{brings_in_runs}
 use Rattle.hc_laws.proofs.DueAhead.{IsAhead, AreAhead, ahead_kept}
-use Rattle.hc_model.proofs.HoleLemmas.{bool_cases}
-use Rattle.hc_laws.proofs.OfEntries.{of_real}
-use Rattle.hc_model.proofs.ExclusiveWriters.{eq-refl, same_row}
-use Rattle.hc_model.proofs.PieceKeeps.{some_inj}
+use Rattle.hc_effects.proofs.HoleLemmas.{bool_cases}
+use Rattle.hc_effects.proofs.OfEntries.{of_real}
+use Rattle.hc_effects.proofs.ExclusiveWriters.{eq-refl, same_row}
+use Rattle.hc_effects.proofs.PieceKeeps.{some_inj}
 use Rattle.hc_laws.proofs.SoundRuns.{IsCarried, carried}
 use Rattle.hc_laws.proofs.Tails.{AreTails, IsTail, tails_kept}
 

@@ -23,20 +23,20 @@ use Rattle.hc_model.specs.Sound.{Sound, IsBound}
 use Rattle.hc_model.specs.Sound as sound
 use Rattle.hc_model.specs.Tables.{tables, after_accepted, first_tables, representation_of_content}
 use Rattle.hc_laws.proofs.Barred.{next_tables, denied_tables}
-use Rattle.hc_model.proofs.Basics.{false_true, none_some, some_row}
-use Rattle.hc_laws.proofs.Bounded.{IsBounded}
-use Rattle.hc_model.proofs.ExchangeFrom as exchange
-use Rattle.hc_model.proofs.Fills.{Fills, fills, Brings, brings, length_same}
-use Rattle.hc_model.proofs.Fills as fills_by
-use Rattle.hc_model.proofs.Forward.{is_on}
-use Rattle.hc_model.proofs.MeasuresBegin.{measures_begin, known_item}
-use Rattle.hc_model.proofs.PieceKeeps.{some_inj}
+use Rattle.hc_effects.proofs.Basics.{false_true, none_some, some_row}
+use Rattle.hc_effects.proofs.Bounded.{IsBounded}
+use Rattle.hc_effects.proofs.ExchangeFrom as exchange
+use Rattle.hc_effects.proofs.Fills.{Fills, fills, Brings, brings, length_same}
+use Rattle.hc_effects.proofs.Fills as fills_by
+use Rattle.hc_effects.proofs.Forward.{is_on}
+use Rattle.hc_laws.proofs.MeasuresBegin.{measures_begin, known_item}
+use Rattle.hc_effects.proofs.PieceKeeps.{some_inj}
 use Rattle.hc_laws.proofs.PlaceRuns.{places_in_runs}
 use Rattle.hc_laws.proofs.ReadEnds.{bounded, no_base}
-use Rattle.hc_model.proofs.RepFrom.{RepFrom, rep_from, IsKept, IsEnded}
-use Rattle.hc_model.proofs.RepFrom as rep
+use Rattle.hc_effects.proofs.RepFrom.{RepFrom, rep_from, IsKept, IsEnded}
+use Rattle.hc_effects.proofs.RepFrom as rep
 use Rattle.hc_laws.proofs.SoundRuns.{carried}
-use Rattle.hc_model.proofs.ToldNumbers.{promise_early, founded_early}
+use Rattle.hc_effects.proofs.ToldNumbers.{promise_early, founded_early}
 
 -- OF ONE STATE
 
@@ -121,7 +121,7 @@ module _ (t : Tables) (e : Entry) (was : AreShortRows t) (p : Places t) (q : Pla
   piece_ends : (x : ℕ) (bytes : List ℕ) (w : Exchange) → t.exchange x ≡ Some w → e.event ≡ event.Piece x bytes → front w + length bytes ≤ most now_on
   piece_ends x bytes w row here = by_brings (brings t e x w z.u row z.row)
     where
-      z : Rattle.hc_model.proofs.Forward.IsOn t e x w
+      z : Rattle.hc_effects.proofs.Forward.IsOn t e x w
       z = is_on t e x w row
 
       by_base : ((z.u.head ≡ w.head) × (z.u.joined ≡ w.joined)) ⊎ exchange.IsHeaded t e x w z.u → base z.u ≡ base w

@@ -10,12 +10,12 @@ use Rattle.hc_model.specs.Laws.{OfHistories}
 use Rattle.hc_model.specs.Rows.{Consumer}
 use Rattle.hc_model.specs.Runs.{IsRun, IsOwed}
 use Rattle.hc_model.specs.Tables.{tables}
-use Rattle.hc_model.proofs.Basics.{none_some}
+use Rattle.hc_effects.proofs.Basics.{none_some}
 use Rattle.hc_laws.proofs.InRuns.{turned_in_runs}
-use Rattle.hc_model.proofs.Owed.{denied_opens}
-use Rattle.hc_model.proofs.RepresentationFilters.{runs_are_filtered}
+use Rattle.hc_effects.proofs.Owed.{denied_opens}
+use Rattle.hc_laws.proofs.RepresentationFilters.{runs_are_filtered}
 use Rattle.hc_laws.proofs.SoundRuns.{runs_are_sound}
-use Rattle.hc_model.proofs.TurnOpens.{opened_at}
+use Rattle.hc_laws.proofs.TurnOpens.{opened_at}
 
 by_denial : (limits : Limits) (contents : Contents) (h : History) (e : Entry) (b : Bool) → is_denied e.acts ≡ b → may_begin limits contents ≡ true → IsRun limits contents h → IsOwed limits (tables contents h) e → (o : Opening) → opening_in e.acts ≡ Some o → IsOfItsStart h o
 by_denial limits contents h e true denied may run owed o is = absurd (none_some o (sym (denied_opens e.acts denied) ∙ is))

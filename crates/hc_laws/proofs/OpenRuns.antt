@@ -21,14 +21,14 @@ use Rattle.hc_model.specs.Sound as sound
 use Rattle.hc_model.specs.Tables.{tables}
 use Rattle.hc_model.specs.Whose.{Whose, IsSomebodys, may_own}
 use Rattle.hc_model.specs.Whose as whose
-use Rattle.hc_laws.proofs.AboutKeeps.{own_open_is}
-use Rattle.hc_model.proofs.Basics.{false_true}
-use Rattle.hc_model.proofs.Closed.{among_filter}
-use Rattle.hc_laws.proofs.HasBound.{among_passes, some_among, reader_of}
-use Rattle.hc_model.proofs.ExclusiveWriters.{same_row}
-use Rattle.hc_model.proofs.HoleLemmas.{bool_cases}
+use Rattle.hc_effects.proofs.AboutKeeps.{own_open_is}
+use Rattle.hc_effects.proofs.Basics.{false_true}
+use Rattle.hc_effects.proofs.Closed.{among_filter}
+use Rattle.hc_effects.proofs.HasBound.{among_passes, some_among, reader_of}
+use Rattle.hc_effects.proofs.ExclusiveWriters.{same_row}
+use Rattle.hc_effects.proofs.HoleLemmas.{bool_cases}
 use Rattle.hc_laws.proofs.OrderRuns.{order_in_runs}
-use Rattle.hc_model.proofs.PieceKeeps.{eq_cases}
+use Rattle.hc_effects.proofs.PieceKeeps.{eq_cases}
 use Rattle.hc_laws.proofs.SoundRuns.{runs_are_sound}
 use Rattle.hc_laws.proofs.WhoseRuns.{whose_in_runs}
 

@@ -13,7 +13,7 @@ use Rattle.hc_model.specs.Rows.{Tables}
 use Rattle.hc_model.specs.Sound.{Sound}
 use Rattle.hc_model.specs.Tables.{after_accepted, last_start_after, starts_after, opened_after, openings_after}
 use Rattle.hc_laws.proofs.FitsRuns.{fits}
-use Rattle.hc_model.proofs.NumbersKeep.{opens_next, starts_later}
+use Rattle.hc_effects.proofs.NumbersKeep.{opens_next, starts_later}
 use Rattle.hc_laws.proofs.RunFacts.{in_runs}
 
 -- what only rises along a run

@@ -1,8 +1,8 @@
 -- In every run a number names the bytes of one body alone.
 use Rattle.hc_model.specs.Laws.{OfRuns}
 use Rattle.hc_model.specs.Origins.{Origins}
-use Rattle.hc_model.proofs.OriginsBegin.{origins_begin}
-use Rattle.hc_model.proofs.OriginsKeep.{origins_kept, denied_origins}
+use Rattle.hc_laws.proofs.OriginsBegin.{origins_begin}
+use Rattle.hc_laws.proofs.OriginsKeep.{origins_kept, denied_origins}
 use Rattle.hc_laws.proofs.RunFacts.{in_runs}
 
 pub origins_in_runs : OfRuns Origins

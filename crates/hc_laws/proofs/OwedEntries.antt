@@ -42,10 +42,10 @@ use Rattle.hc_model.specs.Runs.{IsOwed, may_stand, may_be, may_lose, is_kept, fl
 use Rattle.hc_model.specs.Sound.{Sound}
 use Rattle.hc_model.specs.Weights.{room_for, room_by, write_of_piece, piece_write, evicted}
 use Rattle.hc_model.specs.Writes.{written_representation, head_writes, may_validate, piece_writes, unless_lost, lossless}
-use Rattle.hc_model.proofs.Basics.{false_true, and_both, or_left, or_right, number_yes}
-use Rattle.hc_model.proofs.ExchangeFilters.{headless}
-use Rattle.hc_model.proofs.FailsTold.{fails_told}
-use Rattle.hc_model.proofs.FoundCases.{no_loss}
+use Rattle.hc_effects.proofs.Basics.{false_true, and_both, or_left, or_right, number_yes}
+use Rattle.hc_laws.proofs.ExchangeFilters.{headless}
+use Rattle.hc_effects.proofs.FailsTold.{fails_told}
+use Rattle.hc_effects.proofs.FoundCases.{no_loss}
 
 -- THE FLAW THAT ACTS SHOW
 

@@ -22,20 +22,20 @@ use Rattle.hc_model.specs.Tables.{after_accepted, after_denied}
 use Rattle.hc_model.specs.Whose.{IsOwner}
 use Rattle.hc_model.specs.Whose as whose
 use Rattle.hc_model.specs.Writers.{loses_writing, brings_body}
-use Rattle.hc_model.proofs.Basics.{false_true, and_left, and_right, none_some, some_row}
-use Rattle.hc_model.proofs.ExchangeFrom.{ExchangeFrom, exchange_from, IsSame, IsHeaded}
-use Rattle.hc_model.proofs.ExchangeFrom as exchange
-use Rattle.hc_model.proofs.FirstKeeps.{is_new}
-use Rattle.hc_model.proofs.HoleLemmas.{bool_cases}
-use Rattle.hc_laws.proofs.LossBy.{IsReal, fresh}
-use Rattle.hc_model.proofs.OwnFrom.{OwnFrom, own_from, IsLeft}
-use Rattle.hc_model.proofs.OwnFrom as own_by
-use Rattle.hc_model.proofs.OwnersKeep.{new_number}
-use Rattle.hc_model.proofs.ExclusiveWriters.{same_row}
-use Rattle.hc_model.proofs.RepFrom.{RepFrom, rep_from, IsKept}
-use Rattle.hc_model.proofs.RepFrom as rep
+use Rattle.hc_effects.proofs.Basics.{false_true, and_left, and_right, none_some, some_row}
+use Rattle.hc_effects.proofs.ExchangeFrom.{ExchangeFrom, exchange_from, IsSame, IsHeaded}
+use Rattle.hc_effects.proofs.ExchangeFrom as exchange
+use Rattle.hc_effects.proofs.FirstKeeps.{is_new}
+use Rattle.hc_effects.proofs.HoleLemmas.{bool_cases}
+use Rattle.hc_effects.proofs.LossBy.{IsReal, fresh}
+use Rattle.hc_effects.proofs.OwnFrom.{OwnFrom, own_from, IsLeft}
+use Rattle.hc_effects.proofs.OwnFrom as own_by
+use Rattle.hc_effects.proofs.OwnersKeep.{new_number}
+use Rattle.hc_effects.proofs.ExclusiveWriters.{same_row}
+use Rattle.hc_effects.proofs.RepFrom.{RepFrom, rep_from, IsKept}
+use Rattle.hc_effects.proofs.RepFrom as rep
 use Rattle.hc_laws.proofs.RunFacts.{in_runs}
-use Rattle.hc_laws.proofs.ServedKeeps.{lost_alone, kept_alone}
+use Rattle.hc_effects.proofs.ServedKeeps.{lost_alone, kept_alone}
 
 pub record AreFor (limits : Limits) (t : Tables) : Type 0 where
   pub owner : (c x : ℕ) (k : Consumer) (w : Exchange) → t.consumer c ≡ Some k → k.own ≡ Some x → t.exchange x ≡ Some w → IsOwner t x w c

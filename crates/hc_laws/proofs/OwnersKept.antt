@@ -12,16 +12,16 @@ use Rattle.hc_model.specs.Rows.{Tables, Representation}
 use Rattle.hc_model.specs.Runs.{may_stand}
 use Rattle.hc_model.specs.Sound.{Sound}
 use Rattle.hc_model.specs.Tables.{after_accepted, first_tables, representation_of_content}
-use Rattle.hc_model.proofs.ApartKeeps.{apart_kept}
-use Rattle.hc_model.proofs.Basics.{none_some}
+use Rattle.hc_effects.proofs.ApartKeeps.{apart_kept}
+use Rattle.hc_effects.proofs.Basics.{none_some}
 use Rattle.hc_laws.proofs.FirstDueKeeps.{first_due_kept}
 use Rattle.hc_laws.proofs.FirstDues.{idle_kept}
-use Rattle.hc_model.proofs.Founders.{founders_kept}
-use Rattle.hc_model.proofs.OwnersKeep.{openers_kept, there_kept, one_kept, first_kept, writers_kept}
-use Rattle.hc_model.proofs.PassedKeeps.{passed_kept}
-use Rattle.hc_laws.proofs.PastKeeps.{past_kept}
-use Rattle.hc_laws.proofs.ReadingKeeps.{reading_kept}
-use Rattle.hc_laws.proofs.WaitingKeeps.{waiting_kept}
+use Rattle.hc_laws.proofs.Founders.{founders_kept}
+use Rattle.hc_effects.proofs.OwnersKeep.{openers_kept, there_kept, one_kept, first_kept, writers_kept}
+use Rattle.hc_laws.proofs.PassedKeeps.{passed_kept}
+use Rattle.hc_effects.proofs.PastKeeps.{past_kept}
+use Rattle.hc_effects.proofs.ReadingKeeps.{reading_kept}
+use Rattle.hc_effects.proofs.WaitingKeeps.{waiting_kept}
 
 pub owners_kept : (limits : Limits) (t : Tables) (now : ℕ) (flaw : Flaw) → Sound t → Owners t → (ev : Event) → denial t ev ≡ None → may_stand limits t (entry_of limits t now ev flaw) ≡ true → Owners (after_accepted t (entry_of limits t now ev flaw))
 owners_kept limits t now flaw s o ev goes stand = record {

@@ -36,20 +36,20 @@ use Rattle.hc_model.specs.Rows.{Tables, Exchange, Representation, Consumer}
 use Rattle.hc_model.specs.Sound.{Sound}
 use Rattle.hc_model.specs.Sound as sound
 use Rattle.hc_model.specs.Tables.{after_accepted}
-use Rattle.hc_model.proofs.Basics.{false_true, none_some, some_row}
-use Rattle.hc_model.proofs.BoundFrom.{BoundFrom, IsRow, IsFounded, IsInterval, bound_from}
-use Rattle.hc_model.proofs.BoundFrom as from
-use Rattle.hc_laws.proofs.Bounded.{range_order}
-use Rattle.hc_model.proofs.ConsumerFilters.{acted, heard_same}
-use Rattle.hc_model.proofs.FirstKeeps.{case_of_head, whole_200, replaced_200, is_new}
-use Rattle.hc_model.proofs.FoundBy.{CaseBy}
-use Rattle.hc_model.proofs.FoundBy as cases
-use Rattle.hc_model.proofs.ExclusiveWriters.{same_row}
-use Rattle.hc_model.proofs.PieceKeeps.{some_inj}
-use Rattle.hc_model.proofs.RepFrom.{RepFrom, rep_from}
-use Rattle.hc_model.proofs.RepFrom as rep
+use Rattle.hc_effects.proofs.Basics.{false_true, none_some, some_row}
+use Rattle.hc_effects.proofs.BoundFrom.{BoundFrom, IsRow, IsFounded, IsInterval, bound_from}
+use Rattle.hc_effects.proofs.BoundFrom as from
+use Rattle.hc_effects.proofs.Bounded.{range_order}
+use Rattle.hc_effects.proofs.ConsumerFilters.{acted, heard_same}
+use Rattle.hc_effects.proofs.FirstKeeps.{case_of_head, whole_200, replaced_200, is_new}
+use Rattle.hc_effects.proofs.FoundBy.{CaseBy}
+use Rattle.hc_effects.proofs.FoundBy as cases
+use Rattle.hc_effects.proofs.ExclusiveWriters.{same_row}
+use Rattle.hc_effects.proofs.PieceKeeps.{some_inj}
+use Rattle.hc_effects.proofs.RepFrom.{RepFrom, rep_from}
+use Rattle.hc_effects.proofs.RepFrom as rep
 use Rattle.hc_laws.proofs.RunFacts.{in_runs}
-use Rattle.hc_laws.proofs.WantedSpans.{wanted_some}
+use Rattle.hc_effects.proofs.WantedSpans.{wanted_some}
 
 -- A RANGE THAT IS READ
 

@@ -8,12 +8,12 @@ use Rattle.hc_model.specs.Places.{Places}
 use Rattle.hc_model.specs.Reading.{own_open}
 use Rattle.hc_model.specs.Rows.{Tables, Exchange, Consumer}
 use Rattle.hc_model.specs.Tables.{tables}
-use Rattle.hc_model.proofs.Basics.{some_none, some_row}
+use Rattle.hc_effects.proofs.Basics.{some_none, some_row}
 use Rattle.hc_laws.proofs.InRuns.{turned_in_runs}
-use Rattle.hc_model.proofs.KeyNames.{current_key}
+use Rattle.hc_effects.proofs.KeyNames.{current_key}
 use Rattle.hc_laws.proofs.PlacesStand.{Stands, AreStanding}
 use Rattle.hc_laws.proofs.PlaceRuns.{known_in_runs, places_in_runs}
-use Rattle.hc_model.proofs.PollKeeps.{current_stays}
+use Rattle.hc_effects.proofs.PollKeeps.{current_stays}
 use Rattle.hc_laws.proofs.SoundRuns.{owners_in_runs}
 
 module _ (t : Tables) (o : Owners t) (turns : Turns t) (places : Places t) (stands : AreStanding t) where

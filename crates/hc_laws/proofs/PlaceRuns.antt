@@ -24,24 +24,24 @@ use Rattle.hc_model.specs.Runs.{IsOwed}
 use Rattle.hc_model.specs.Sound.{Sound}
 use Rattle.hc_model.specs.Tables.{tables, first_tables, after_accepted, after_denied}
 use Rattle.hc_laws.proofs.Barred.{next_tables, denied_tables}
-use Rattle.hc_model.proofs.Basics.{false_true, none_some}
-use Rattle.hc_model.proofs.Beside.{IsBeside, is_cached_place}
-use Rattle.hc_laws.proofs.Bounded.{IsBounded}
+use Rattle.hc_effects.proofs.Basics.{false_true, none_some}
+use Rattle.hc_effects.proofs.Beside.{IsBeside, is_cached_place}
+use Rattle.hc_effects.proofs.Bounded.{IsBounded}
 use Rattle.hc_laws.proofs.InRuns.{turned_in_runs}
-use Rattle.hc_laws.proofs.OfEntries.{of_real}
-use Rattle.hc_model.proofs.ExclusiveWriters.{same_row}
+use Rattle.hc_effects.proofs.OfEntries.{of_real}
+use Rattle.hc_effects.proofs.ExclusiveWriters.{same_row}
 use Rattle.hc_laws.proofs.PlacesKept.{AreOwn, IsOwnTurn, own_kept, turn_direct, bound_direct, bound_turn}
 use Rattle.hc_laws.proofs.PlacesRead.{AreRead, read_kept}
 use Rattle.hc_laws.proofs.PlacesEnded.{AreEnded, ended_kept}
 use Rattle.hc_laws.proofs.PlacesGiven.{ArePast, past_kept}
 use Rattle.hc_laws.proofs.PlacesShown.{AreReaders, IsReader, readers_kept}
 use Rattle.hc_laws.proofs.PlacesStand.{Stands, AreStanding, standing_kept}
-use Rattle.hc_model.proofs.PlacesTold.{AreTold, told_kept, told_denied, down_told}
+use Rattle.hc_laws.proofs.PlacesTold.{AreTold, told_kept, told_denied, down_told}
 use Rattle.hc_laws.proofs.ReadEnds.{bounded}
 use Rattle.hc_laws.proofs.ReadJoined.{fallback}
-use Rattle.hc_laws.proofs.ShownStays.{IsFallback}
+use Rattle.hc_effects.proofs.ShownStays.{IsFallback}
 use Rattle.hc_laws.proofs.SoundRuns.{IsCarried, carried}
-use Rattle.hc_model.proofs.TurnFacts.{IsTaken}
+use Rattle.hc_laws.proofs.TurnFacts.{IsTaken}
 use Rattle.hc_laws.proofs.Unreached.{unreached}
 
 -- OVER A RUN

@@ -29,28 +29,28 @@ use Rattle.hc_model.specs.Rows.{Tables, Exchange, Consumer}
 use Rattle.hc_model.specs.Sound.{Sound}
 use Rattle.hc_model.specs.StartingOver.{awaited_exchange}
 use Rattle.hc_model.specs.Tables.{after_accepted}
-use Rattle.hc_model.proofs.Basics.{false_true, and_left, and_right, not_so, or_cases, none_some}
-use Rattle.hc_laws.proofs.Bounded.{IsBounded}
-use Rattle.hc_model.proofs.Closed.{before}
-use Rattle.hc_model.proofs.Dues.{due_before, undue_parts}
-use Rattle.hc_model.proofs.ExchangeFrom.{ExchangeFrom, exchange_from}
-use Rattle.hc_model.proofs.ExchangeFrom as exchange
-use Rattle.hc_model.proofs.FirstKeeps.{is_new}
-use Rattle.hc_model.proofs.Forward.{after_is}
-use Rattle.hc_model.proofs.HoleLemmas.{bool_cases}
-use Rattle.hc_model.proofs.MeasuresKeep.{piece_taken, ender}
-use Rattle.hc_model.proofs.Once.{never}
-use Rattle.hc_model.proofs.OwnersKeep.{new_number}
-use Rattle.hc_laws.proofs.PastKeeps.{IsFrom, PlaceFrom, direct_from}
-use Rattle.hc_laws.proofs.PastKeeps as past
-use Rattle.hc_model.proofs.PieceKeeps.{eq_cases, some_inj}
-use Rattle.hc_model.proofs.ExclusiveWriters.{same_row}
+use Rattle.hc_effects.proofs.Basics.{false_true, and_left, and_right, not_so, or_cases, none_some}
+use Rattle.hc_effects.proofs.Bounded.{IsBounded}
+use Rattle.hc_effects.proofs.Closed.{before}
+use Rattle.hc_effects.proofs.Dues.{due_before, undue_parts}
+use Rattle.hc_effects.proofs.ExchangeFrom.{ExchangeFrom, exchange_from}
+use Rattle.hc_effects.proofs.ExchangeFrom as exchange
+use Rattle.hc_effects.proofs.FirstKeeps.{is_new}
+use Rattle.hc_effects.proofs.Forward.{after_is}
+use Rattle.hc_effects.proofs.HoleLemmas.{bool_cases}
+use Rattle.hc_effects.proofs.MeasuresKeep.{piece_taken, ender}
+use Rattle.hc_effects.proofs.Once.{never}
+use Rattle.hc_effects.proofs.OwnersKeep.{new_number}
+use Rattle.hc_effects.proofs.PastKeeps.{IsFrom, PlaceFrom, direct_from}
+use Rattle.hc_effects.proofs.PastKeeps as past
+use Rattle.hc_effects.proofs.PieceKeeps.{eq_cases, some_inj}
+use Rattle.hc_effects.proofs.ExclusiveWriters.{same_row}
 use Rattle.hc_laws.proofs.PlacesKept.{AreOwn, left_past, head_poll, over_direct}
 use Rattle.hc_laws.proofs.ReadEnds.{no_base}
-use Rattle.hc_laws.proofs.ShownStays.{IsFallback}
-use Rattle.hc_laws.proofs.ToBeShown.{heard_place}
-use Rattle.hc_model.proofs.Unclosed.{had_to}
-use Rattle.hc_model.proofs.Waiters.{IsWaiter, waiter_as, case_same, unclosed_unless, unleft, fault_open_of}
+use Rattle.hc_effects.proofs.ShownStays.{IsFallback}
+use Rattle.hc_effects.proofs.ToBeShown.{heard_place}
+use Rattle.hc_effects.proofs.Unclosed.{had_to}
+use Rattle.hc_effects.proofs.Waiters.{IsWaiter, waiter_as, case_same, unclosed_unless, unleft, fault_open_of}
 
 -- all of it came, and where it ends is known
 abbrev pub IsAllCome : Exchange → Type 0

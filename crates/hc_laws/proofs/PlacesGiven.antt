@@ -38,35 +38,35 @@ use Rattle.hc_model.specs.Sound as sound
 use Rattle.hc_model.specs.StartingOver.{starts_over}
 use Rattle.hc_model.specs.Tables.{after_accepted}
 use Rattle.hc_model.specs.Writers.{loses_writing}
-use Rattle.hc_model.proofs.Basics.{false_true, and_right, not_so, none_some}
-use Rattle.hc_laws.proofs.Bounded.{IsBounded}
-use Rattle.hc_model.proofs.ConsumerFilters.{acted, given_by}
-use Rattle.hc_model.proofs.Dues.{undue_of, loss_at, due_none}
-use Rattle.hc_model.proofs.ExchangeFrom.{ExchangeFrom, exchange_from, IsSame}
-use Rattle.hc_model.proofs.ExchangeFrom as exchange
-use Rattle.hc_model.proofs.Fills.{Brings, brings}
-use Rattle.hc_model.proofs.Fills as fills_by
+use Rattle.hc_effects.proofs.Basics.{false_true, and_right, not_so, none_some}
+use Rattle.hc_effects.proofs.Bounded.{IsBounded}
+use Rattle.hc_effects.proofs.ConsumerFilters.{acted, given_by}
+use Rattle.hc_effects.proofs.Dues.{undue_of, loss_at, due_none}
+use Rattle.hc_effects.proofs.ExchangeFrom.{ExchangeFrom, exchange_from, IsSame}
+use Rattle.hc_effects.proofs.ExchangeFrom as exchange
+use Rattle.hc_effects.proofs.Fills.{Brings, brings}
+use Rattle.hc_effects.proofs.Fills as fills_by
 use Rattle.hc_laws.proofs.FirstDues.{poll_undue}
-use Rattle.hc_model.proofs.FirstKeeps.{is_new, is_opener}
-use Rattle.hc_model.proofs.Forward.{is_kept}
-use Rattle.hc_model.proofs.GivenNext.{read_of, given_next}
-use Rattle.hc_model.proofs.Givers.{some_want, gives_of}
-use Rattle.hc_model.proofs.HoleLemmas.{bool_cases}
-use Rattle.hc_model.proofs.MoveBy.{move_by}
-use Rattle.hc_model.proofs.OwnersKeep.{is_opened, new_number}
-use Rattle.hc_laws.proofs.PastKeeps.{IsFrom, PlaceFrom, direct_from}
-use Rattle.hc_laws.proofs.PastKeeps as past
-use Rattle.hc_model.proofs.PieceKeeps.{eq_cases, some_inj}
-use Rattle.hc_model.proofs.ExclusiveWriters.{same_row}
+use Rattle.hc_effects.proofs.FirstKeeps.{is_new, is_opener}
+use Rattle.hc_effects.proofs.Forward.{is_kept}
+use Rattle.hc_effects.proofs.GivenNext.{read_of, given_next}
+use Rattle.hc_effects.proofs.Givers.{some_want, gives_of}
+use Rattle.hc_effects.proofs.HoleLemmas.{bool_cases}
+use Rattle.hc_effects.proofs.MoveBy.{move_by}
+use Rattle.hc_effects.proofs.OwnersKeep.{is_opened, new_number}
+use Rattle.hc_effects.proofs.PastKeeps.{IsFrom, PlaceFrom, direct_from}
+use Rattle.hc_effects.proofs.PastKeeps as past
+use Rattle.hc_effects.proofs.PieceKeeps.{eq_cases, some_inj}
+use Rattle.hc_effects.proofs.ExclusiveWriters.{same_row}
 use Rattle.hc_laws.proofs.PlacesKept.{AreOwn, IsOwnPast, past_unopened, left_past, head_poll, bound_direct, over_direct}
-use Rattle.hc_model.proofs.PollActs.{ToOne, to_one}
-use Rattle.hc_model.proofs.PollActs as acts_to
-use Rattle.hc_model.proofs.ShownOnce as shown_once
-use Rattle.hc_laws.proofs.ShownStays.{IsFallback, StaysOrIdle, shown_stays, unless_same}
-use Rattle.hc_laws.proofs.ShownStays as stands
-use Rattle.hc_laws.proofs.ToBeShown.{heard_place}
-use Rattle.hc_model.proofs.Waiters.{IsWaiter, waiter_as, waits_undue}
-use Rattle.hc_model.proofs.Waiters as waiters
+use Rattle.hc_effects.proofs.PollActs.{ToOne, to_one}
+use Rattle.hc_effects.proofs.PollActs as acts_to
+use Rattle.hc_effects.proofs.ShownOnce as shown_once
+use Rattle.hc_effects.proofs.ShownStays.{IsFallback, StaysOrIdle, shown_stays, unless_same}
+use Rattle.hc_effects.proofs.ShownStays as stands
+use Rattle.hc_effects.proofs.ToBeShown.{heard_place}
+use Rattle.hc_effects.proofs.Waiters.{IsWaiter, waiter_as, waits_undue}
+use Rattle.hc_effects.proofs.Waiters as waiters
 
 -- of who reads the answer of an exchange past the store
 pub record ArePast (t : Tables) : Type 0 where

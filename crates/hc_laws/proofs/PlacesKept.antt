@@ -43,27 +43,27 @@ use Rattle.hc_model.specs.Sound.{Sound}
 use Rattle.hc_model.specs.StartingOver.{starts_over, sends_back}
 use Rattle.hc_model.specs.Tables.{after_accepted}
 use Rattle.hc_model.specs.Writers.{brings_body, loses_writing}
-use Rattle.hc_model.proofs.Basics.{false_true, and_both, or_false, none_some, some_none, some_row}
-use Rattle.hc_model.proofs.BoundFrom.{IsRow}
-use Rattle.hc_model.proofs.ExchangeFrom.{IsHeaded}
-use Rattle.hc_model.proofs.FirstKeeps.{is_new, case_is}
-use Rattle.hc_model.proofs.Forward.{is_on, is_kept, opened_on, is_untouched}
-use Rattle.hc_model.proofs.FoundBy.{CaseBy, case_by}
-use Rattle.hc_model.proofs.FoundBy as cases
-use Rattle.hc_model.proofs.HoleLemmas.{bool_cases}
-use Rattle.hc_model.proofs.MoveBy.{IsHeard}
-use Rattle.hc_model.proofs.Once.{taken, never}
-use Rattle.hc_model.proofs.OwnersKeep.{is_opened, new_number}
-use Rattle.hc_laws.proofs.PastKeeps.{PlaceFrom, direct_from}
-use Rattle.hc_laws.proofs.PastKeeps as past
-use Rattle.hc_model.proofs.PieceKeeps.{eq_cases, some_inj}
-use Rattle.hc_model.proofs.ExclusiveWriters.{same_row}
-use Rattle.hc_laws.proofs.ShownStays.{IsFallback}
-use Rattle.hc_laws.proofs.ToBeShown.{heard_place}
-use Rattle.hc_model.proofs.TurnPlaces.{ComesFrom, StaysOrPlain, is_after}
-use Rattle.hc_model.proofs.TurnPlaces as places
-use Rattle.hc_model.proofs.Waiters.{IsWaiter, waiter_of, waiter_as, unclosed}
-use Rattle.hc_model.proofs.Waiters as waiters
+use Rattle.hc_effects.proofs.Basics.{false_true, and_both, or_false, none_some, some_none, some_row}
+use Rattle.hc_effects.proofs.BoundFrom.{IsRow}
+use Rattle.hc_effects.proofs.ExchangeFrom.{IsHeaded}
+use Rattle.hc_effects.proofs.FirstKeeps.{is_new, case_is}
+use Rattle.hc_effects.proofs.Forward.{is_on, is_kept, opened_on, is_untouched}
+use Rattle.hc_effects.proofs.FoundBy.{CaseBy, case_by}
+use Rattle.hc_effects.proofs.FoundBy as cases
+use Rattle.hc_effects.proofs.HoleLemmas.{bool_cases}
+use Rattle.hc_effects.proofs.MoveBy.{IsHeard}
+use Rattle.hc_effects.proofs.Once.{taken, never}
+use Rattle.hc_effects.proofs.OwnersKeep.{is_opened, new_number}
+use Rattle.hc_effects.proofs.PastKeeps.{PlaceFrom, direct_from}
+use Rattle.hc_effects.proofs.PastKeeps as past
+use Rattle.hc_effects.proofs.PieceKeeps.{eq_cases, some_inj}
+use Rattle.hc_effects.proofs.ExclusiveWriters.{same_row}
+use Rattle.hc_effects.proofs.ShownStays.{IsFallback}
+use Rattle.hc_effects.proofs.ToBeShown.{heard_place}
+use Rattle.hc_effects.proofs.TurnPlaces.{ComesFrom, StaysOrPlain, is_after}
+use Rattle.hc_effects.proofs.TurnPlaces as places
+use Rattle.hc_effects.proofs.Waiters.{IsWaiter, waiter_of, waiter_as, unclosed}
+use Rattle.hc_effects.proofs.Waiters as waiters
 
 -- WHAT IS CARRIED
 

@@ -29,24 +29,24 @@ use Rattle.hc_model.specs.Sound.{Sound}
 use Rattle.hc_model.specs.Sound as sound
 use Rattle.hc_model.specs.StartingOver.{starts_over, sends_back, waits_at, loses_what_it_waits_for}
 use Rattle.hc_model.specs.Tables.{after_accepted}
-use Rattle.hc_model.proofs.Basics.{false_true, and_left, and_right, not_so}
-use Rattle.hc_model.proofs.ExchangeFrom.{ExchangeFrom, exchange_from, IsSame, IsHeaded}
-use Rattle.hc_model.proofs.ExchangeFrom as exchange
-use Rattle.hc_model.proofs.FirstKeeps.{is_new, case_is}
-use Rattle.hc_model.proofs.Forward.{is_kept}
-use Rattle.hc_model.proofs.FoundBy.{CaseBy, case_by}
-use Rattle.hc_model.proofs.FoundBy as cases
-use Rattle.hc_laws.proofs.HeadedAs.{HeadedAs, headed_as, not_refused, not_unmodified}
-use Rattle.hc_laws.proofs.HeadedAs as head
-use Rattle.hc_model.proofs.HoleLemmas.{bool_cases}
-use Rattle.hc_model.proofs.OwnFrom.{IsRow}
-use Rattle.hc_model.proofs.PieceKeeps.{eq_cases, some_inj}
-use Rattle.hc_model.proofs.ExclusiveWriters.{same_row}
+use Rattle.hc_effects.proofs.Basics.{false_true, and_left, and_right, not_so}
+use Rattle.hc_effects.proofs.ExchangeFrom.{ExchangeFrom, exchange_from, IsSame, IsHeaded}
+use Rattle.hc_effects.proofs.ExchangeFrom as exchange
+use Rattle.hc_effects.proofs.FirstKeeps.{is_new, case_is}
+use Rattle.hc_effects.proofs.Forward.{is_kept}
+use Rattle.hc_effects.proofs.FoundBy.{CaseBy, case_by}
+use Rattle.hc_effects.proofs.FoundBy as cases
+use Rattle.hc_effects.proofs.HeadedAs.{HeadedAs, headed_as, not_refused, not_unmodified}
+use Rattle.hc_effects.proofs.HeadedAs as head
+use Rattle.hc_effects.proofs.HoleLemmas.{bool_cases}
+use Rattle.hc_effects.proofs.OwnFrom.{IsRow}
+use Rattle.hc_effects.proofs.PieceKeeps.{eq_cases, some_inj}
+use Rattle.hc_effects.proofs.ExclusiveWriters.{same_row}
 use Rattle.hc_laws.proofs.PlacesKept.{AreOwn, past_unopened, opening_stays, own_free, settled}
-use Rattle.hc_laws.proofs.ReadingKeeps.{reader_stays}
-use Rattle.hc_model.proofs.RepFrom as rep
-use Rattle.hc_laws.proofs.ShownStays.{IsFallback}
-use Rattle.hc_model.proofs.Waiters.{IsWaiter, waiter_of}
+use Rattle.hc_effects.proofs.ReadingKeeps.{reader_stays}
+use Rattle.hc_effects.proofs.RepFrom as rep
+use Rattle.hc_effects.proofs.ShownStays.{IsFallback}
+use Rattle.hc_effects.proofs.Waiters.{IsWaiter, waiter_of}
 
 -- who reads what is open and of no representation
 pub record AreRead (t : Tables) : Type 0 where

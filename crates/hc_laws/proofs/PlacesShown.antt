@@ -37,26 +37,26 @@ use Rattle.hc_model.specs.Rows.{Tables, Exchange, Representation, Consumer}
 use Rattle.hc_model.specs.Sound.{Sound}
 use Rattle.hc_model.specs.StartingOver.{starts_over, sends_back, waits_at, loses_what_it_waits_for}
 use Rattle.hc_model.specs.Tables.{after_accepted}
-use Rattle.hc_model.proofs.ActParts as parts
+use Rattle.hc_effects.proofs.ActParts as parts
 use Rattle.hc_laws.proofs.FallbackKeeps.{landing, new_unshown}
-use Rattle.hc_model.proofs.Basics.{false_true, and_left, and_right, or_cases, not_so}
-use Rattle.hc_model.proofs.FirstKeeps.{is_new, case_is, is_opener}
-use Rattle.hc_model.proofs.FoundBy.{CaseBy, case_by}
-use Rattle.hc_model.proofs.FoundBy as cases
-use Rattle.hc_model.proofs.HoleLemmas.{bool_cases}
-use Rattle.hc_model.proofs.OpenedAs.{opened_as}
-use Rattle.hc_model.proofs.PieceKeeps.{eq_cases}
-use Rattle.hc_model.proofs.ExclusiveWriters.{same_row}
+use Rattle.hc_effects.proofs.Basics.{false_true, and_left, and_right, or_cases, not_so}
+use Rattle.hc_effects.proofs.FirstKeeps.{is_new, case_is, is_opener}
+use Rattle.hc_effects.proofs.FoundBy.{CaseBy, case_by}
+use Rattle.hc_effects.proofs.FoundBy as cases
+use Rattle.hc_effects.proofs.HoleLemmas.{bool_cases}
+use Rattle.hc_effects.proofs.OpenedAs.{opened_as}
+use Rattle.hc_effects.proofs.PieceKeeps.{eq_cases}
+use Rattle.hc_effects.proofs.ExclusiveWriters.{same_row}
 use Rattle.hc_laws.proofs.PlacesKept.{AreOwn, settled}
-use Rattle.hc_model.proofs.Said.{WaitsAs, waiting_by}
-use Rattle.hc_laws.proofs.ShownStays.{IsFallback, way_bound, shows_not, unless_same}
-use Rattle.hc_model.proofs.TurnFacts.{IsTaken, AtPoll, seen, behind, far_behind, opens_behind, misreads_behind, at_poll}
-use Rattle.hc_model.proofs.TurnFacts as facts
-use Rattle.hc_model.proofs.TurnOpens as opens
-use Rattle.hc_model.proofs.TurnPlaces.{is_after}
-use Rattle.hc_model.proofs.WaitedAs.{IsForOthers, waited_as}
-use Rattle.hc_model.proofs.WaitedAs as waited
-use Rattle.hc_model.proofs.Waiters.{IsWaiter, waiter_of}
+use Rattle.hc_effects.proofs.Said.{WaitsAs, waiting_by}
+use Rattle.hc_effects.proofs.ShownStays.{IsFallback, way_bound, shows_not, unless_same}
+use Rattle.hc_laws.proofs.TurnFacts.{IsTaken, AtPoll, seen, behind, far_behind, opens_behind, misreads_behind, at_poll}
+use Rattle.hc_laws.proofs.TurnFacts as facts
+use Rattle.hc_laws.proofs.TurnOpens as opens
+use Rattle.hc_effects.proofs.TurnPlaces.{is_after}
+use Rattle.hc_effects.proofs.WaitedAs.{IsForOthers, waited_as}
+use Rattle.hc_effects.proofs.WaitedAs as waited
+use Rattle.hc_effects.proofs.Waiters.{IsWaiter, waiter_of}
 
 -- it reads there, or is over
 abbrev pub IsReader : Place → Type 0

@@ -44,31 +44,31 @@ use Rattle.hc_model.specs.Rows.{Tables, Exchange, Consumer}
 use Rattle.hc_model.specs.Sound.{Sound}
 use Rattle.hc_model.specs.StartingOver.{starts_over}
 use Rattle.hc_model.specs.Tables.{after_accepted}
-use Rattle.hc_model.proofs.Basics.{false_true, none_some, and_left, and_right}
-use Rattle.hc_model.proofs.BoundFrom.{IsRow}
-use Rattle.hc_model.proofs.FirstKeeps.{is_new, case_is, is_opener}
-use Rattle.hc_model.proofs.Forward.{is_kept}
-use Rattle.hc_model.proofs.FoundBy.{CaseBy, case_by}
-use Rattle.hc_model.proofs.FoundBy as cases
-use Rattle.hc_model.proofs.HoleLemmas.{bool_cases}
-use Rattle.hc_model.proofs.MoveBy.{IsHeard}
-use Rattle.hc_model.proofs.PieceKeeps.{eq_cases}
-use Rattle.hc_model.proofs.ExclusiveWriters.{same_row}
+use Rattle.hc_effects.proofs.Basics.{false_true, none_some, and_left, and_right}
+use Rattle.hc_effects.proofs.BoundFrom.{IsRow}
+use Rattle.hc_effects.proofs.FirstKeeps.{is_new, case_is, is_opener}
+use Rattle.hc_effects.proofs.Forward.{is_kept}
+use Rattle.hc_effects.proofs.FoundBy.{CaseBy, case_by}
+use Rattle.hc_effects.proofs.FoundBy as cases
+use Rattle.hc_effects.proofs.HoleLemmas.{bool_cases}
+use Rattle.hc_effects.proofs.MoveBy.{IsHeard}
+use Rattle.hc_effects.proofs.PieceKeeps.{eq_cases}
+use Rattle.hc_effects.proofs.ExclusiveWriters.{same_row}
 use Rattle.hc_laws.proofs.PlacesKept.{AreOwn, waits_not, past_not, own_poll, own_is, unopened, poll_of, new_is, turn_bare}
 use Rattle.hc_laws.proofs.PlacesShown.{AreReaders, head_same}
-use Rattle.hc_model.proofs.Said.{WaitsAs, waiting_by}
-use Rattle.hc_model.proofs.Said as said
-use Rattle.hc_laws.proofs.ShownStays.{IsFallback, unless_same}
-use Rattle.hc_laws.proofs.ToBeShown.{heard_place}
-use Rattle.hc_model.proofs.TurnFacts.{IsTaken}
-use Rattle.hc_model.proofs.TurnHeads.{valid_aim}
-use Rattle.hc_model.proofs.TurnMoves.{Does, IsNew, Plans, KeptNone, kept_none, does_polled}
-use Rattle.hc_model.proofs.TurnMoves as does
-use Rattle.hc_model.proofs.TurnOpens.{OpensFor, opened_at}
-use Rattle.hc_model.proofs.TurnOpens as opens
-use Rattle.hc_model.proofs.WaitedAs.{WaitedAs, waited_as}
-use Rattle.hc_model.proofs.WaitedAs as waited
-use Rattle.hc_model.proofs.Waiters.{fault_open_of}
+use Rattle.hc_effects.proofs.Said.{WaitsAs, waiting_by}
+use Rattle.hc_effects.proofs.Said as said
+use Rattle.hc_effects.proofs.ShownStays.{IsFallback, unless_same}
+use Rattle.hc_effects.proofs.ToBeShown.{heard_place}
+use Rattle.hc_laws.proofs.TurnFacts.{IsTaken}
+use Rattle.hc_laws.proofs.TurnHeads.{valid_aim}
+use Rattle.hc_effects.proofs.TurnMoves.{Does, IsNew, Plans, KeptNone, kept_none, does_polled}
+use Rattle.hc_effects.proofs.TurnMoves as does
+use Rattle.hc_laws.proofs.TurnOpens.{OpensFor, opened_at}
+use Rattle.hc_laws.proofs.TurnOpens as opens
+use Rattle.hc_effects.proofs.WaitedAs.{WaitedAs, waited_as}
+use Rattle.hc_effects.proofs.WaitedAs as waited
+use Rattle.hc_effects.proofs.Waiters.{fault_open_of}
 
 -- what holds of a consumer's own exchange and request by its place
 abbrev pub Stands : Place → Option ℕ → Request → Type 0
@@ -310,7 +310,7 @@ module _ (limits : Limits) (t : Tables) (now : ℕ) (flaw : Flaw) (s : Sound t) 
         by_place place.Over at none plans = absurd plans
 
     module _ (z : Wait) (told : wait_in c e.acts ≡ Some z) where
-      abbrev at_it : Rattle.hc_model.proofs.Said.WaitsBy t now ev c z
+      abbrev at_it : Rattle.hc_effects.proofs.Said.WaitsBy t now ev c z
       at_it = waiting_by limits t now flaw s ev goes c z told
 
       waits_as : WaitsAs z (move_of t now at_it.want c k)

@@ -32,24 +32,24 @@ use Rattle.hc_model.specs.Rows.{Tables, Exchange, Representation, Consumer}
 use Rattle.hc_model.specs.Sound.{Sound}
 use Rattle.hc_model.specs.Tables.{after_accepted}
 use Rattle.hc_laws.proofs.FallbackKeeps.{IsLanding, shown_headed}
-use Rattle.hc_model.proofs.Basics.{false_true, none_some}
-use Rattle.hc_model.proofs.ExchangeFrom.{IsSame, IsHeaded}
-use Rattle.hc_model.proofs.Fills.{Brings, brings, length_same}
-use Rattle.hc_model.proofs.Fills as fills_by
-use Rattle.hc_model.proofs.FirstKeeps.{is_new}
-use Rattle.hc_model.proofs.Forward.{is_on, after_is}
-use Rattle.hc_model.proofs.GivenNext.{read_of}
-use Rattle.hc_model.proofs.HoleLemmas.{bool_cases}
-use Rattle.hc_model.proofs.MoveBy.{MoveBy, IsHeard, move_by}
-use Rattle.hc_model.proofs.MoveBy as by_move
-use Rattle.hc_model.proofs.Once.{taken}
-use Rattle.hc_laws.proofs.PastApart.{IsHeadedRow}
-use Rattle.hc_model.proofs.PieceKeeps.{eq_cases, some_inj}
-use Rattle.hc_model.proofs.ExclusiveWriters.{same_row}
-use Rattle.hc_model.proofs.RepFrom.{RepFrom, rep_from}
-use Rattle.hc_model.proofs.RepFrom as rep
-use Rattle.hc_laws.proofs.ShownStays.{IsFallback, Lands}
-use Rattle.hc_laws.proofs.ShownStays as stands
+use Rattle.hc_effects.proofs.Basics.{false_true, none_some}
+use Rattle.hc_effects.proofs.ExchangeFrom.{IsSame, IsHeaded}
+use Rattle.hc_effects.proofs.Fills.{Brings, brings, length_same}
+use Rattle.hc_effects.proofs.Fills as fills_by
+use Rattle.hc_effects.proofs.FirstKeeps.{is_new}
+use Rattle.hc_effects.proofs.Forward.{is_on, after_is}
+use Rattle.hc_effects.proofs.GivenNext.{read_of}
+use Rattle.hc_effects.proofs.HoleLemmas.{bool_cases}
+use Rattle.hc_effects.proofs.MoveBy.{MoveBy, IsHeard, move_by}
+use Rattle.hc_effects.proofs.MoveBy as by_move
+use Rattle.hc_effects.proofs.Once.{taken}
+use Rattle.hc_effects.proofs.PastApart.{IsHeadedRow}
+use Rattle.hc_effects.proofs.PieceKeeps.{eq_cases, some_inj}
+use Rattle.hc_effects.proofs.ExclusiveWriters.{same_row}
+use Rattle.hc_effects.proofs.RepFrom.{RepFrom, rep_from}
+use Rattle.hc_effects.proofs.RepFrom as rep
+use Rattle.hc_effects.proofs.ShownStays.{IsFallback, Lands}
+use Rattle.hc_effects.proofs.ShownStays as stands
 
 -- it reads what it was shown, from where and to where it was shown
 pub record IsRead (t : Tables) (k : Consumer) (s : Shown) : Type 0 where

@@ -51,19 +51,19 @@ use Rattle.hc_model.specs.Runs.{IsRun, IsOwed}
 use Rattle.hc_model.specs.Sound.{Sound}
 use Rattle.hc_model.specs.Steps.{step_move, reading, read_view, later_hole}
 use Rattle.hc_model.specs.Tables.{tables, after_accepted}
-use Rattle.hc_model.proofs.ActParts.{IsSaid, said_is}
-use Rattle.hc_model.proofs.ActParts as parts
+use Rattle.hc_effects.proofs.ActParts.{IsSaid, said_is}
+use Rattle.hc_effects.proofs.ActParts as parts
 use Rattle.hc_laws.proofs.Barred.{next_tables, denied_tables}
-use Rattle.hc_model.proofs.Basics.{false_true, and_right, none_some, append_none}
-use Rattle.hc_laws.proofs.Bounded.{IsBounded, bounded_begun, bounded_denied, bounded_kept}
-use Rattle.hc_model.proofs.GivenNext.{read_of}
-use Rattle.hc_model.proofs.HoleLemmas.{bool_cases}
-use Rattle.hc_model.proofs.MoveBy.{MoveBy, move_by}
-use Rattle.hc_model.proofs.MoveBy as by_move
-use Rattle.hc_laws.proofs.OfEntries.{of_real}
-use Rattle.hc_model.proofs.Owed.{IsDenied, is_denial, acts_are}
-use Rattle.hc_model.proofs.Owed as owed_acts
-use Rattle.hc_model.proofs.PieceKeeps.{some_inj}
+use Rattle.hc_effects.proofs.Basics.{false_true, and_right, none_some, append_none}
+use Rattle.hc_effects.proofs.Bounded.{IsBounded, bounded_begun, bounded_denied, bounded_kept}
+use Rattle.hc_effects.proofs.GivenNext.{read_of}
+use Rattle.hc_effects.proofs.HoleLemmas.{bool_cases}
+use Rattle.hc_effects.proofs.MoveBy.{MoveBy, move_by}
+use Rattle.hc_effects.proofs.MoveBy as by_move
+use Rattle.hc_effects.proofs.OfEntries.{of_real}
+use Rattle.hc_effects.proofs.Owed.{IsDenied, is_denial, acts_are}
+use Rattle.hc_effects.proofs.Owed as owed_acts
+use Rattle.hc_effects.proofs.PieceKeeps.{some_inj}
 use Rattle.hc_laws.proofs.ReadAs.{IsRead}
 use Rattle.hc_laws.proofs.ReadJoined.{joined_in_runs, is_told, fallback}
 use Rattle.hc_laws.proofs.ReadNext.{by_said, shown_one}

@@ -30,21 +30,21 @@ use Rattle.hc_model.specs.Sound.{Sound}
 use Rattle.hc_model.specs.Tables.{tables, after_accepted, after_denied}
 use Rattle.hc_laws.proofs.FallbackKeeps.{landing_by, fallback_begun, fallback_denied, fallback_kept}
 use Rattle.hc_laws.proofs.Barred.{next_tables, denied_tables}
-use Rattle.hc_model.proofs.Basics.{false_true, none_some, append_none}
-use Rattle.hc_model.proofs.GivenNext.{read_of, given_next}
-use Rattle.hc_model.proofs.Givers.{some_want, gives_of}
+use Rattle.hc_effects.proofs.Basics.{false_true, none_some, append_none}
+use Rattle.hc_effects.proofs.GivenNext.{read_of, given_next}
+use Rattle.hc_effects.proofs.Givers.{some_want, gives_of}
 use Rattle.hc_laws.proofs.GrowsInRuns.{grows}
-use Rattle.hc_model.proofs.MoveBy.{move_by}
-use Rattle.hc_laws.proofs.OfEntries.{of_real}
-use Rattle.hc_model.proofs.OneHead.{one_head_is_shown}
-use Rattle.hc_model.proofs.Owed.{denied_gives, denied_shows}
-use Rattle.hc_model.proofs.PollActs.{ToOne, to_one}
-use Rattle.hc_model.proofs.PollActs as acts_to
+use Rattle.hc_effects.proofs.MoveBy.{move_by}
+use Rattle.hc_effects.proofs.OfEntries.{of_real}
+use Rattle.hc_laws.proofs.OneHead.{one_head_is_shown}
+use Rattle.hc_effects.proofs.Owed.{denied_gives, denied_shows}
+use Rattle.hc_effects.proofs.PollActs.{ToOne, to_one}
+use Rattle.hc_effects.proofs.PollActs as acts_to
 use Rattle.hc_laws.proofs.ReadAs.{IsRead, read_kept, landed_read}
-use Rattle.hc_model.proofs.ReadFilters.{consumers_are_filtered}
-use Rattle.hc_model.proofs.ShownOnce.{no_first}
-use Rattle.hc_laws.proofs.ShownStays.{IsFallback, StaysOrIdle, shown_stays}
-use Rattle.hc_laws.proofs.ShownStays as stands
+use Rattle.hc_effects.proofs.ReadFilters.{consumers_are_filtered}
+use Rattle.hc_effects.proofs.ShownOnce.{no_first}
+use Rattle.hc_effects.proofs.ShownStays.{IsFallback, StaysOrIdle, shown_stays}
+use Rattle.hc_effects.proofs.ShownStays as stands
 use Rattle.hc_laws.proofs.SoundRuns.{IsCarried, carried}
 
 nil_cons : {A : Type 0} (x : A) (xs : List A) → [] ≡ x ∷ xs → ⊥
@@ -71,7 +71,7 @@ fallback limits contents (e ∷ h) may run = fallback_by limits contents h e (is
 
 -- bytes behind bytes
 holds_more : (t : Tables) (r at : ℕ) (xs ys : List ℕ) → Holds t r at xs → Holds t r (at + length xs) ys → Holds t r at (xs ++ ys)
-holds_more t r at xs ys hx hy i lt = elim (Rattle.hc_model.proofs.HoleLemmas.bool_cases (nat_lt i (length xs))) [
+holds_more t r at xs ys hx hy i lt = elim (Rattle.hc_effects.proofs.HoleLemmas.bool_cases (nat_lt i (length xs))) [
   | inl inside ↦
       let under : i < length xs = grind (arith, nat_tests) in
       let got = hx i under in
@@ -160,12 +160,12 @@ module _ (limits : Limits) (t : Tables) (now : ℕ) (flaw : Flaw) (s : Sound t) 
         by_shown parts.0 parts.1
       where
         by_shown : shown c ≡ [] → record { r = r; why = why; lo = lo; hi = hi } ≡ z → IsRead now_on u z
-        by_shown before same = elim (Rattle.hc_model.proofs.HoleLemmas.bool_cases k.shown) [
+        by_shown before same = elim (Rattle.hc_effects.proofs.HoleLemmas.bool_cases k.shown) [
           | inl already ↦
-              let again : shown_in c e.acts ≡ [] = (Rattle.hc_model.proofs.ShownOnce.by_event limits t now c flaw ev).again k row already in
+              let again : shown_in c e.acts ≡ [] = (Rattle.hc_effects.proofs.ShownOnce.by_event limits t now c flaw ev).again k row already in
               absurd (nil_cons _ [] (sym again ∙ some))
           | inr off ↦
-              let l = landing_by limits t now flaw s o ev goes c k u row after (Rattle.hc_model.proofs.Said.shows_it e.acts (record { c = c; r = r; lo = lo; hi = hi }) showing) (acts_to.shows want q r why head lo hi at there move none some showing) in
+              let l = landing_by limits t now flaw s o ev goes c k u row after (Rattle.hc_effects.proofs.Said.shows_it e.acts (record { c = c; r = r; lo = lo; hi = hi }) showing) (acts_to.shows want q r why head lo hi at there move none some showing) in
               subst (IsRead now_on u) (one_inj _ _ (sym l.told ∙ some) ∙ same) (landed_read limits t now flaw s o ev goes a c k u row off on l)
         ]
 
@@ -199,14 +199,14 @@ module _ (limits : Limits) (t : Tables) (now : ℕ) (flaw : Flaw) (s : Sound t) 
       where
         at_some : (p : Option ℕ) → p ≡ Some m → IfSome p (λ hi. n ≤ hi) → n ≤ m
         at_some None is le = absurd (none_some m is)
-        at_some (Some hi) is le = let one : hi ≡ m = Rattle.hc_model.proofs.PieceKeeps.some_inj hi m is in omega arith
+        at_some (Some hi) is le = let one : hi ≡ m = Rattle.hc_effects.proofs.PieceKeeps.some_inj hi m is in omega arith
 
     pub next_of : (want : ℕ) (k : Consumer) (run : Run) (z : Shown) → ev ≡ event.Poll c want → t.consumer c ≡ Some k → move_of t now want c k ≡ Gives run → shown c ≡ z ∷ [] → IsNextOf z run
     next_of want k run z at row move was =
         let on = was_shown k z k.shown refl row was in
         let g = given_next t want c k run s (some_want t c want ev goes at) (λ x stood. a.apart.unfounded c x k row stood) (gives_of t now c want k run (move_of t now want c k) (move_by t now want c k s row) move on) in
         let read = joined.read c k z row was (read_reads k.place g.0 g.1.number) in
-        let number : g.0 ≡ z.r = Rattle.hc_model.proofs.PieceKeeps.some_inj g.0 z.r (sym g.1.number ∙ read.number) in
+        let number : g.0 ≡ z.r = Rattle.hc_effects.proofs.PieceKeeps.some_inj g.0 z.r (sym g.1.number ∙ read.number) in
         let first : lo_of t k.place ≡ z.lo = read.from in
         let count : k.given ≡ length (given c) = told.count c k row in
         let start : run.at ≡ lo_of t k.place + k.given = g.1.at_is in

@@ -24,15 +24,15 @@ use Rattle.hc_model.specs.Rows.{Tables, Consumer}
 use Rattle.hc_model.specs.Runs.{IsRun}
 use Rattle.hc_model.specs.Tables.{tables}
 use Rattle.hc_model.specs.Weights.{evicted}
-use Rattle.hc_model.proofs.ActParts.{IsAnswer, IsSaid, answer_is, said_is}
-use Rattle.hc_model.proofs.ActParts as parts
-use Rattle.hc_model.proofs.Basics.{append_none}
-use Rattle.hc_model.proofs.OneHead.{one_head_is_shown}
-use Rattle.hc_model.proofs.Owed.{IsDenied, is_denial, acts_are, goes}
-use Rattle.hc_model.proofs.Owed as owed_acts
-use Rattle.hc_model.proofs.ReadFilters.{consumers_are_filtered}
+use Rattle.hc_effects.proofs.ActParts.{IsAnswer, IsSaid, answer_is, said_is}
+use Rattle.hc_effects.proofs.ActParts as parts
+use Rattle.hc_effects.proofs.Basics.{append_none}
+use Rattle.hc_laws.proofs.OneHead.{one_head_is_shown}
+use Rattle.hc_effects.proofs.Owed.{IsDenied, is_denial, acts_are, goes}
+use Rattle.hc_effects.proofs.Owed as owed_acts
+use Rattle.hc_effects.proofs.ReadFilters.{consumers_are_filtered}
 use Rattle.hc_laws.proofs.ReadJoined.{next_of, joined_in_runs, is_told, fallback}
-use Rattle.hc_model.proofs.ShownOnce.{is_giving, unshown_gives}
+use Rattle.hc_effects.proofs.ShownOnce.{is_giving, unshown_gives}
 use Rattle.hc_laws.proofs.SoundRuns.{carried}
 
 -- WHO SAYS IT

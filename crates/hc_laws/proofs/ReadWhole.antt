@@ -20,18 +20,18 @@ use Rattle.hc_model.specs.Rows.{Tables, Consumer}
 use Rattle.hc_model.specs.Runs.{IsRun}
 use Rattle.hc_model.specs.Tables.{tables}
 use Rattle.hc_model.specs.Weights.{evicted}
-use Rattle.hc_model.proofs.ActParts.{IsAnswer, IsSaid, answer_is, said_is}
-use Rattle.hc_model.proofs.ActParts as parts
-use Rattle.hc_model.proofs.Basics.{false_true, append_none}
-use Rattle.hc_model.proofs.Owed.{IsDenied, is_denial, acts_are}
-use Rattle.hc_model.proofs.Owed as owed_acts
+use Rattle.hc_effects.proofs.ActParts.{IsAnswer, IsSaid, answer_is, said_is}
+use Rattle.hc_effects.proofs.ActParts as parts
+use Rattle.hc_effects.proofs.Basics.{false_true, append_none}
+use Rattle.hc_effects.proofs.Owed.{IsDenied, is_denial, acts_are}
+use Rattle.hc_effects.proofs.Owed as owed_acts
 use Rattle.hc_laws.proofs.ReadEnds.{ends_well}
 use Rattle.hc_laws.proofs.ReadJoined.{bodies_are_read, is_told}
 use Rattle.hc_laws.proofs.ReadNext.{gives_next}
 use Rattle.hc_laws.proofs.Reasons.{reason_holds}
-use Rattle.hc_model.proofs.ShownOnce.{is_showing, shown_shows}
+use Rattle.hc_effects.proofs.ShownOnce.{is_showing, shown_shows}
 use Rattle.hc_laws.proofs.SoundRuns.{runs_are_sound}
-use Rattle.hc_model.proofs.WhyShown.{shown_why}
+use Rattle.hc_laws.proofs.WhyShown.{shown_why}
 
 -- ACTS THAT NO READER IS TOLD
 

@@ -37,22 +37,22 @@ use Rattle.hc_model.specs.Rows.{Tables, Exchange, Representation, Consumer}
 use Rattle.hc_model.specs.Runs.{IsRun, IsOwed}
 use Rattle.hc_model.specs.Sound.{Sound}
 use Rattle.hc_model.specs.Tables.{tables, after_accepted, after_denied}
-use Rattle.hc_model.proofs.Aimed.{IsAimed, aimed_begun, aimed_denied, aimed_kept}
+use Rattle.hc_laws.proofs.Aimed.{IsAimed, aimed_begun, aimed_denied, aimed_kept}
 use Rattle.hc_laws.proofs.Barred.{next_tables, denied_tables}
-use Rattle.hc_model.proofs.Basics.{false_true, or_left, or_right, none_some}
-use Rattle.hc_model.proofs.Forward.{is_on}
+use Rattle.hc_effects.proofs.Basics.{false_true, or_left, or_right, none_some}
+use Rattle.hc_effects.proofs.Forward.{is_on}
 use Rattle.hc_laws.proofs.InRuns.{turned_in_runs}
-use Rattle.hc_model.proofs.JoinFilters.{exchanges_are_filtered}
-use Rattle.hc_model.proofs.Joining.{mix}
-use Rattle.hc_laws.proofs.OfEntries.{of_real}
-use Rattle.hc_model.proofs.PassedFrom.{PassedFrom, IsPassedRow, passed_from}
-use Rattle.hc_model.proofs.PassedFrom as passed
-use Rattle.hc_model.proofs.PieceKeeps.{some_inj}
-use Rattle.hc_model.proofs.ReadFilters.{consumers_are_filtered}
-use Rattle.hc_model.proofs.Said.{waiting_by}
+use Rattle.hc_laws.proofs.JoinFilters.{exchanges_are_filtered}
+use Rattle.hc_effects.proofs.Joining.{mix}
+use Rattle.hc_effects.proofs.OfEntries.{of_real}
+use Rattle.hc_laws.proofs.PassedFrom.{PassedFrom, IsPassedRow, passed_from}
+use Rattle.hc_laws.proofs.PassedFrom as passed
+use Rattle.hc_effects.proofs.PieceKeeps.{some_inj}
+use Rattle.hc_effects.proofs.ReadFilters.{consumers_are_filtered}
+use Rattle.hc_effects.proofs.Said.{waiting_by}
 use Rattle.hc_laws.proofs.SoundRuns.{carried}
-use Rattle.hc_model.proofs.WhyShown.{ShownWhy}
-use Rattle.hc_model.proofs.WhyShown as shown_for
+use Rattle.hc_laws.proofs.WhyShown.{ShownWhy}
+use Rattle.hc_laws.proofs.WhyShown as shown_for
 
 same_number : (r : ℕ) → nat_eq r r ≡ true
 same_number r = grind (arith, nat_tests)

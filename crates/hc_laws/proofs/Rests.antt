@@ -44,31 +44,31 @@ use Rattle.hc_model.specs.Sound.{Sound, IsBound, IsFirst, IsExclusiveWriter, IsH
 use Rattle.hc_model.specs.Sound as sound
 use Rattle.hc_model.specs.Tables.{after_accepted}
 use Rattle.hc_model.specs.Writers.{came_alone, status_in}
-use Rattle.hc_laws.proofs.AboutKeeps.{own_open_of}
-use Rattle.hc_model.proofs.ApartKeeps.{written_by}
-use Rattle.hc_model.proofs.Basics.{false_true, true_false, or_false, none_some, some_none}
-use Rattle.hc_model.proofs.Beside.{IsBeside}
-use Rattle.hc_model.proofs.BoundFrom.{BoundFrom, IsRow, IsFounded, IsShown, bound_from, place_inj}
-use Rattle.hc_model.proofs.BoundFrom as from
-use Rattle.hc_model.proofs.Dues.{due_before}
-use Rattle.hc_model.proofs.ExchangeFrom.{IsHeaded}
-use Rattle.hc_model.proofs.FirstKeeps.{case_of_head, whole_200, replaced_200, is_new, came_kept, one_first_kept, founded_came}
-use Rattle.hc_model.proofs.Forward as forward
+use Rattle.hc_effects.proofs.AboutKeeps.{own_open_of}
+use Rattle.hc_effects.proofs.ApartKeeps.{written_by}
+use Rattle.hc_effects.proofs.Basics.{false_true, true_false, or_false, none_some, some_none}
+use Rattle.hc_effects.proofs.Beside.{IsBeside}
+use Rattle.hc_effects.proofs.BoundFrom.{BoundFrom, IsRow, IsFounded, IsShown, bound_from, place_inj}
+use Rattle.hc_effects.proofs.BoundFrom as from
+use Rattle.hc_effects.proofs.Dues.{due_before}
+use Rattle.hc_effects.proofs.ExchangeFrom.{IsHeaded}
+use Rattle.hc_effects.proofs.FirstKeeps.{case_of_head, whole_200, replaced_200, is_new, came_kept, one_first_kept, founded_came}
+use Rattle.hc_effects.proofs.Forward as forward
 use Rattle.hc_laws.proofs.HadHeaded.{had_kept}
-use Rattle.hc_model.proofs.HeadKeeps.{IsJoin}
-use Rattle.hc_model.proofs.HoleLemmas.{bool_cases}
-use Rattle.hc_laws.proofs.LossBy.{IsReal}
-use Rattle.hc_model.proofs.Losses.{HasRest}
-use Rattle.hc_model.proofs.OwnNone.{IsShared, own_none, after_none}
-use Rattle.hc_model.proofs.PartTold.{part_order}
-use Rattle.hc_model.proofs.ExclusiveWriters.{same_row, writer_some}
-use Rattle.hc_model.proofs.PieceKeeps.{eq_cases, some_inj}
-use Rattle.hc_model.proofs.RepFrom.{RepFrom, rep_from, IsKept, IsResumed}
-use Rattle.hc_model.proofs.RepFrom as rep
-use Rattle.hc_laws.proofs.ServedKeeps.{rest_by, still_rests, resumed_not, none_promised}
+use Rattle.hc_effects.proofs.HeadKeeps.{IsJoin}
+use Rattle.hc_effects.proofs.HoleLemmas.{bool_cases}
+use Rattle.hc_effects.proofs.LossBy.{IsReal}
+use Rattle.hc_effects.proofs.Losses.{HasRest}
+use Rattle.hc_laws.proofs.OwnNone.{IsShared, own_none, after_none}
+use Rattle.hc_effects.proofs.PartTold.{part_order}
+use Rattle.hc_effects.proofs.ExclusiveWriters.{same_row, writer_some}
+use Rattle.hc_effects.proofs.PieceKeeps.{eq_cases, some_inj}
+use Rattle.hc_effects.proofs.RepFrom.{RepFrom, rep_from, IsKept, IsResumed}
+use Rattle.hc_effects.proofs.RepFrom as rep
+use Rattle.hc_effects.proofs.ServedKeeps.{rest_by, still_rests, resumed_not, none_promised}
 use Rattle.hc_laws.proofs.TogetherHeads as together
-use Rattle.hc_model.proofs.Waiters.{waiter_of}
-use Rattle.hc_laws.proofs.WriterEnds.{all_stored}
+use Rattle.hc_effects.proofs.Waiters.{waiter_of}
+use Rattle.hc_effects.proofs.WriterEnds.{all_stored}
 
 -- WHO READS GETS A BODY
 
@@ -219,7 +219,7 @@ module _ (limits : Limits) (t : Tables) (now : ℕ) (flaw : Flaw) (s : Sound t) 
           unheaded =
               let opener = o.opener sh.x sh.w sh.row in
               let one : opener.k ≡ k = same_row (t.consumer c) opener.k k (sym (ap t.consumer sh.mine) ∙ opener.row) row.row in
-              let cached : is_disabled k.request ≡ false = i.cached c k row.row (ap Rattle.hc_model.proofs.Beside.is_cached_place at) in
+              let cached : is_disabled k.request ≡ false = i.cached c k row.row (ap Rattle.hc_effects.proofs.Beside.is_cached_place at) in
               let method_is : sh.w.request.method ≡ k.request.method = opener.method_is ∙ ap (λ (q : Consumer). q.request.method) one in
               ap (λ (a : MethodName). bytes_eq a (codes "HEAD")) method_is ∙ not_head k.request (get_of k.request cached)
 
@@ -235,7 +235,7 @@ module _ (limits : Limits) (t : Tables) (now : ℕ) (flaw : Flaw) (s : Sound t) 
     founded_not : (k : Consumer) (x : ℕ) (response : Response) (w : Exchange) → IsRow t e c r lo hi how k u → ev ≡ event.Head x response → t.exchange x ≡ Some w → w.c ≡ c → x ≡ r → how ≡ by.Founding → IsFounded t e c r lo hi how x response w k (case_at t e) → ⊥
     founded_not k x response w row here exchange_row mine of_r by_is all = by_own (own_none t e c k u row.is unowned)
       where
-        new : Rattle.hc_model.proofs.FirstKeeps.IsNew limits t now flaw s ev goes x w
+        new : Rattle.hc_effects.proofs.FirstKeeps.IsNew limits t now flaw s ev goes x w
         new = is_new limits t now flaw s ev goes x response w here exchange_row
 
         status : response.status ≡ 206

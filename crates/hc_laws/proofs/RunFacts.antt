@@ -12,8 +12,8 @@ use Rattle.hc_model.specs.Laws.{OfRunsIn}
 use Rattle.hc_model.specs.Rows.{Tables}
 use Rattle.hc_model.specs.Runs.{IsOwed}
 use Rattle.hc_model.specs.Tables.{tables, first_tables, after, after_accepted, after_denied}
-use Rattle.hc_laws.proofs.LossBy.{IsReal}
-use Rattle.hc_laws.proofs.OfEntries.{of_real}
+use Rattle.hc_effects.proofs.LossBy.{IsReal}
+use Rattle.hc_effects.proofs.OfEntries.{of_real}
 use Rattle.hc_laws.proofs.SoundRuns.{IsCarried, carried}
 
 module _ (P : Limits → Tables → Type 0) where

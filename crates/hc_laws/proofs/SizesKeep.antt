@@ -20,20 +20,20 @@ use Rattle.hc_model.specs.Rows.{Tables, Exchange, Representation}
 use Rattle.hc_model.specs.Sizes.{Sizes}
 use Rattle.hc_model.specs.Sound.{Sound, IsStored}
 use Rattle.hc_model.specs.Tables.{first_tables, representation_of_content, bytes_in, after_accepted, after_denied}
-use Rattle.hc_model.proofs.Basics.{false_true, and_left, and_right, none_some}
+use Rattle.hc_effects.proofs.Basics.{false_true, and_left, and_right, none_some}
 use Rattle.hc_laws.proofs.FitsKept.{Fits, stored_small}
 use Rattle.hc_laws.proofs.FitsRuns.{fits_begin, fits_denied, fits_kept}
-use Rattle.hc_model.proofs.KeyNames.{eq_is}
-use Rattle.hc_laws.proofs.LossBy.{IsReal}
-use Rattle.hc_model.proofs.MeasuresBegin.{ascending_item}
-use Rattle.hc_model.proofs.Once.{delivers_once}
-use Rattle.hc_model.proofs.PieceKeeps.{eq_cases, some_inj}
-use Rattle.hc_model.proofs.Positions.{below_none, below_past, below_put, bytes_below}
-use Rattle.hc_model.proofs.RepFrom.{RepFrom, rep_from}
-use Rattle.hc_model.proofs.RepFrom as rep
+use Rattle.hc_effects.proofs.KeyNames.{eq_is}
+use Rattle.hc_effects.proofs.LossBy.{IsReal}
+use Rattle.hc_laws.proofs.MeasuresBegin.{ascending_item}
+use Rattle.hc_effects.proofs.Once.{delivers_once}
+use Rattle.hc_effects.proofs.PieceKeeps.{eq_cases, some_inj}
+use Rattle.hc_laws.proofs.Positions.{below_none, below_past, below_put, bytes_below}
+use Rattle.hc_effects.proofs.RepFrom.{RepFrom, rep_from}
+use Rattle.hc_effects.proofs.RepFrom as rep
 use Rattle.hc_laws.proofs.RunFacts.{in_runs}
 use Rattle.hc_laws.proofs.SoundRuns.{IsCarried}
-use Rattle.hc_laws.proofs.Weighed.{sized}
+use Rattle.hc_effects.proofs.Weighed.{sized}
 
 -- THE COUNT
 

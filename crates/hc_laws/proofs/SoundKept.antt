@@ -10,20 +10,20 @@ use Rattle.hc_model.specs.Owners.{Owners}
 use Rattle.hc_model.specs.Rows.{Tables, Representation, Consumer}
 use Rattle.hc_model.specs.Sound.{Sound, IsBound, IsAlone}
 use Rattle.hc_model.specs.Tables.{after_accepted}
-use Rattle.hc_laws.proofs.AboutKeeps.{own_about_kept}
-use Rattle.hc_model.proofs.BoundKeeps.{binds_kept}
-use Rattle.hc_model.proofs.CurrentKeeps.{one_current_is_kept}
-use Rattle.hc_model.proofs.EventsKeep.{deliveries_are_kept}
-use Rattle.hc_model.proofs.FirstKeeps.{ends_kept, one_first_kept}
+use Rattle.hc_effects.proofs.AboutKeeps.{own_about_kept}
+use Rattle.hc_effects.proofs.BoundKeeps.{binds_kept}
+use Rattle.hc_effects.proofs.CurrentKeeps.{one_current_is_kept}
+use Rattle.hc_effects.proofs.EventsKeep.{deliveries_are_kept}
+use Rattle.hc_effects.proofs.FirstKeeps.{ends_kept, one_first_kept}
 use Rattle.hc_laws.proofs.GrowingKeeps.{growing_kept}
 use Rattle.hc_laws.proofs.HadHeaded.{had_kept}
-use Rattle.hc_laws.proofs.HasBound.{has_bound_kept}
-use Rattle.hc_laws.proofs.LossBy.{IsReal}
-use Rattle.hc_model.proofs.NamesKeep.{names_are_kept}
-use Rattle.hc_model.proofs.NumbersKeep.{numbers_are_kept}
-use Rattle.hc_laws.proofs.ServedKeeps.{served_kept}
-use Rattle.hc_model.proofs.StoreKeeps.{stores_are_kept}
-use Rattle.hc_laws.proofs.ToBeShown.{unshown_kept}
+use Rattle.hc_effects.proofs.HasBound.{has_bound_kept}
+use Rattle.hc_effects.proofs.LossBy.{IsReal}
+use Rattle.hc_effects.proofs.NamesKeep.{names_are_kept}
+use Rattle.hc_effects.proofs.NumbersKeep.{numbers_are_kept}
+use Rattle.hc_effects.proofs.ServedKeeps.{served_kept}
+use Rattle.hc_laws.proofs.StoreKeeps.{stores_are_kept}
+use Rattle.hc_effects.proofs.ToBeShown.{unshown_kept}
 use Rattle.hc_laws.proofs.UndueKeeps.{undue_kept}
 
 -- the detached reader reads on soundly

@@ -13,18 +13,18 @@ use Rattle.hc_model.specs.Rows.{Tables}
 use Rattle.hc_model.specs.Runs.{IsOwed, may_stand}
 use Rattle.hc_model.specs.Sound.{Sound, RunsAreSound}
 use Rattle.hc_model.specs.Tables.{tables, after, after_accepted}
-use Rattle.hc_model.proofs.Begins.{begun_sound}
-use Rattle.hc_model.proofs.Beside.{IsBeside}
+use Rattle.hc_laws.proofs.Begins.{begun_sound}
+use Rattle.hc_effects.proofs.Beside.{IsBeside}
 use Rattle.hc_laws.proofs.BesideKeeps.{beside_begun, beside_denied, beside_kept}
-use Rattle.hc_model.proofs.DeniedKeeps.{denied_sound, denied_owners, denied_measures}
-use Rattle.hc_model.proofs.EndsKeep.{measures_kept}
+use Rattle.hc_laws.proofs.DeniedKeeps.{denied_sound, denied_owners, denied_measures}
+use Rattle.hc_effects.proofs.EndsKeep.{measures_kept}
 use Rattle.hc_laws.proofs.GoAlone.{go_alone}
-use Rattle.hc_laws.proofs.LossBy.{IsReal}
-use Rattle.hc_model.proofs.MeasuresBegin.{measures_begin}
-use Rattle.hc_model.proofs.Owed.{acts_are, goes}
+use Rattle.hc_effects.proofs.LossBy.{IsReal}
+use Rattle.hc_laws.proofs.MeasuresBegin.{measures_begin}
+use Rattle.hc_effects.proofs.Owed.{acts_are, goes}
 use Rattle.hc_laws.proofs.OwnersKept.{owners_begun, owners_kept}
 use Rattle.hc_laws.proofs.SoundKept.{sound_kept}
-use Rattle.hc_model.proofs.Starts.{starts}
+use Rattle.hc_laws.proofs.Starts.{starts}
 
 -- what is carried along a run
 pub record IsCarried (t : Tables) : Type 0 where

@@ -17,16 +17,16 @@ use Rattle.hc_model.specs.Laws.{OfRuns}
 use Rattle.hc_model.specs.Rows.{Tables, Exchange, Representation}
 use Rattle.hc_model.specs.StoredHeads.{StoredHeads, IsHeadWithinLimits, HeadsAreWithinLimits, AreWithinLimits}
 use Rattle.hc_model.specs.Tables.{tables, first_tables, representation_of_content, after, after_accepted, after_denied}
-use Rattle.hc_model.proofs.Basics.{false_true, and_left, and_right, none_some}
-use Rattle.hc_model.proofs.ExchangeFrom.{ExchangeFrom, exchange_from}
-use Rattle.hc_model.proofs.ExchangeFrom as exchange
-use Rattle.hc_model.proofs.FieldsKeep.{length_kept, range_kept, length_none, range_none, within_limits_kept, within_limits_founded}
-use Rattle.hc_model.proofs.Forward.{after_is}
-use Rattle.hc_model.proofs.HeadFrom.{HeadFrom, head_from}
-use Rattle.hc_model.proofs.HeadFrom as from
-use Rattle.hc_model.proofs.PieceKeeps.{eq_cases, some_inj}
-use Rattle.hc_model.proofs.RepFrom.{RepFrom, rep_from}
-use Rattle.hc_model.proofs.RepFrom as rep
+use Rattle.hc_effects.proofs.Basics.{false_true, and_left, and_right, none_some}
+use Rattle.hc_effects.proofs.ExchangeFrom.{ExchangeFrom, exchange_from}
+use Rattle.hc_effects.proofs.ExchangeFrom as exchange
+use Rattle.hc_effects.proofs.FieldsKeep.{length_kept, range_kept, length_none, range_none, within_limits_kept, within_limits_founded}
+use Rattle.hc_effects.proofs.Forward.{after_is}
+use Rattle.hc_laws.proofs.HeadFrom.{HeadFrom, head_from}
+use Rattle.hc_laws.proofs.HeadFrom as from
+use Rattle.hc_effects.proofs.PieceKeeps.{eq_cases, some_inj}
+use Rattle.hc_effects.proofs.RepFrom.{RepFrom, rep_from}
+use Rattle.hc_effects.proofs.RepFrom as rep
 use Rattle.hc_laws.proofs.RunFacts.{in_runs}
 
 not_yes : (b : Bool) → not b ≡ true → b ≡ false

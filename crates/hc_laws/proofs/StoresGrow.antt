@@ -17,17 +17,17 @@ use Rattle.hc_model.specs.Runs.{IsOwed}
 use Rattle.hc_model.specs.Sound.{Sound, IsStored}
 use Rattle.hc_model.specs.Tables.{tables, after_accepted, after_denied}
 use Rattle.hc_laws.proofs.Barred.{next_tables, denied_tables}
-use Rattle.hc_model.proofs.Basics.{false_true, not_so, none_some, some_row}
-use Rattle.hc_model.proofs.ExclusiveWriters.{same_row}
-use Rattle.hc_model.proofs.Fills.{Fills, IsPiece, fills}
-use Rattle.hc_model.proofs.Fills as fills_by
-use Rattle.hc_model.proofs.HoleLemmas.{none_of}
-use Rattle.hc_laws.proofs.OfEntries.{of_real}
-use Rattle.hc_model.proofs.Once.{delivers_once}
-use Rattle.hc_model.proofs.RepFrom.{RepFrom, IsKept, rep_from}
-use Rattle.hc_model.proofs.RepFrom as rep
+use Rattle.hc_effects.proofs.Basics.{false_true, not_so, none_some, some_row}
+use Rattle.hc_effects.proofs.ExclusiveWriters.{same_row}
+use Rattle.hc_effects.proofs.Fills.{Fills, IsPiece, fills}
+use Rattle.hc_effects.proofs.Fills as fills_by
+use Rattle.hc_effects.proofs.HoleLemmas.{none_of}
+use Rattle.hc_effects.proofs.OfEntries.{of_real}
+use Rattle.hc_effects.proofs.Once.{delivers_once}
+use Rattle.hc_effects.proofs.RepFrom.{RepFrom, IsKept, rep_from}
+use Rattle.hc_effects.proofs.RepFrom as rep
 use Rattle.hc_laws.proofs.SoundRuns.{runs_are_sound}
-use Rattle.hc_model.proofs.Stays.{stays_written}
+use Rattle.hc_effects.proofs.Stays.{stays_written}
 
 module _ (limits : Limits) (t : Tables) (now : ℕ) (flaw : Flaw) (s : Sound t) (ev : Event) (goes : denial t ev ≡ None) where
   abbrev e : Entry

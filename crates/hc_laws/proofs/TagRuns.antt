@@ -17,11 +17,11 @@ use Rattle.hc_model.specs.Rows.{Representation}
 use Rattle.hc_model.specs.StoredHeads.{IsOfOne, Tags}
 use Rattle.hc_model.specs.StoredHeads as heads
 use Rattle.hc_model.specs.Tables.{first_tables, representation_of_content, last_end, bytes_in}
-use Rattle.hc_model.proofs.Basics.{false_true, and_left, and_right, or_false, none_some}
-use Rattle.hc_model.proofs.MeasuresBegin.{ascending_item, known_item}
-use Rattle.hc_model.proofs.OriginsBegin.{byte_of, has_run}
-use Rattle.hc_model.proofs.PieceKeeps.{eq_cases, some_inj}
-use Rattle.hc_model.proofs.Positions.{below_full, bytes_below}
+use Rattle.hc_effects.proofs.Basics.{false_true, and_left, and_right, or_false, none_some}
+use Rattle.hc_laws.proofs.MeasuresBegin.{ascending_item, known_item}
+use Rattle.hc_laws.proofs.OriginsBegin.{byte_of, has_run}
+use Rattle.hc_effects.proofs.PieceKeeps.{eq_cases, some_inj}
+use Rattle.hc_laws.proofs.Positions.{below_full, bytes_below}
 use Rattle.hc_laws.proofs.RunFacts.{in_runs}
 use Rattle.hc_laws.proofs.StoredHeadsKeep.{right_head}
 use Rattle.hc_laws.proofs.TagsKeep.{tags_kept, tags_denied}

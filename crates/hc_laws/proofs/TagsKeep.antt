@@ -36,29 +36,29 @@ use Rattle.hc_model.specs.Sound.{IsGrowing}
 use Rattle.hc_model.specs.StoredHeads.{IsOfOne, Tags}
 use Rattle.hc_model.specs.StoredHeads as heads
 use Rattle.hc_model.specs.Tables.{after_accepted, after_denied}
-use Rattle.hc_model.proofs.ApartKeeps.{written_by, is_on}
-use Rattle.hc_model.proofs.Basics.{false_true, and_left, and_right, none_some, some_none, number_is}
-use Rattle.hc_model.proofs.DeniedKeeps.{written_same}
-use Rattle.hc_model.proofs.EndsKeep.{known_kept}
-use Rattle.hc_model.proofs.ExchangeFrom.{ExchangeFrom, exchange_from, IsSame, IsHeaded}
-use Rattle.hc_model.proofs.ExchangeFrom as exchange
-use Rattle.hc_model.proofs.FieldsKeep.{etag_kept}
-use Rattle.hc_model.proofs.Fills.{Fills, IsPiece, fills}
-use Rattle.hc_model.proofs.Fills as fill
-use Rattle.hc_model.proofs.FirstKeeps.{case_is}
+use Rattle.hc_effects.proofs.ApartKeeps.{written_by, is_on}
+use Rattle.hc_effects.proofs.Basics.{false_true, and_left, and_right, none_some, some_none, number_is}
+use Rattle.hc_laws.proofs.DeniedKeeps.{written_same}
+use Rattle.hc_effects.proofs.EndsKeep.{known_kept}
+use Rattle.hc_effects.proofs.ExchangeFrom.{ExchangeFrom, exchange_from, IsSame, IsHeaded}
+use Rattle.hc_effects.proofs.ExchangeFrom as exchange
+use Rattle.hc_effects.proofs.FieldsKeep.{etag_kept}
+use Rattle.hc_effects.proofs.Fills.{Fills, IsPiece, fills}
+use Rattle.hc_effects.proofs.Fills as fill
+use Rattle.hc_effects.proofs.FirstKeeps.{case_is}
 use Rattle.hc_laws.proofs.FoundedAs.{FoundedAs, founded_as}
 use Rattle.hc_laws.proofs.FoundedAs as founded
-use Rattle.hc_model.proofs.HeadFrom.{joining_kept}
-use Rattle.hc_model.proofs.HeadKeeps.{is_join}
+use Rattle.hc_laws.proofs.HeadFrom.{joining_kept}
+use Rattle.hc_effects.proofs.HeadKeeps.{is_join}
 use Rattle.hc_laws.proofs.Lasting.{was_not_gone, not_lost, lasting}
-use Rattle.hc_laws.proofs.LossBy.{IsReal}
-use Rattle.hc_model.proofs.OriginsKeep.{Brought, from_before}
-use Rattle.hc_model.proofs.ExclusiveWriters.{writer_some}
-use Rattle.hc_model.proofs.PieceKeeps.{some_inj}
-use Rattle.hc_model.proofs.RepFrom.{RepFrom, rep_from, IsKept, IsResumed}
-use Rattle.hc_model.proofs.RepFrom as rep
+use Rattle.hc_effects.proofs.LossBy.{IsReal}
+use Rattle.hc_laws.proofs.OriginsKeep.{Brought, from_before}
+use Rattle.hc_effects.proofs.ExclusiveWriters.{writer_some}
+use Rattle.hc_effects.proofs.PieceKeeps.{some_inj}
+use Rattle.hc_effects.proofs.RepFrom.{RepFrom, rep_from, IsKept, IsResumed}
+use Rattle.hc_effects.proofs.RepFrom as rep
 use Rattle.hc_laws.proofs.SoundRuns.{IsCarried}
-use Rattle.hc_laws.proofs.WritingStops.{IsAll}
+use Rattle.hc_effects.proofs.WritingStops.{IsAll}
 
 -- THE TAG OF A PART THAT FOUNDS
 

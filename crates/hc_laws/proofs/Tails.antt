@@ -25,33 +25,33 @@ use Rattle.hc_model.specs.Rows.{Tables, Exchange, Representation, Consumer}
 use Rattle.hc_model.specs.Sound.{Sound, IsBound, IsAbout, IsExclusiveWriter, IsHad, IsAlone}
 use Rattle.hc_model.specs.Sound as sound
 use Rattle.hc_model.specs.Tables.{after_accepted}
-use Rattle.hc_laws.proofs.AboutKeeps.{own_open_of, own_open_is}
-use Rattle.hc_model.proofs.ApartKeeps.{is_on}
-use Rattle.hc_model.proofs.Basics.{false_true, and_right, none_some}
-use Rattle.hc_model.proofs.Beside.{IsBeside}
-use Rattle.hc_model.proofs.BoundFrom.{BoundFrom, IsRow, bound_from, place_inj}
-use Rattle.hc_model.proofs.BoundFrom as from
-use Rattle.hc_laws.proofs.Covers.{offset_more}
-use Rattle.hc_model.proofs.ExchangeFrom.{ExchangeFrom, exchange_from, IsSame}
-use Rattle.hc_model.proofs.ExchangeFrom as exchange
-use Rattle.hc_model.proofs.Fills.{Fills, fills, IsPiece, brings, length_same}
-use Rattle.hc_model.proofs.Fills as fills_by
-use Rattle.hc_model.proofs.FirstKeeps.{is_new}
+use Rattle.hc_effects.proofs.AboutKeeps.{own_open_of, own_open_is}
+use Rattle.hc_effects.proofs.ApartKeeps.{is_on}
+use Rattle.hc_effects.proofs.Basics.{false_true, and_right, none_some}
+use Rattle.hc_effects.proofs.Beside.{IsBeside}
+use Rattle.hc_effects.proofs.BoundFrom.{BoundFrom, IsRow, bound_from, place_inj}
+use Rattle.hc_effects.proofs.BoundFrom as from
+use Rattle.hc_effects.proofs.Covers.{offset_more}
+use Rattle.hc_effects.proofs.ExchangeFrom.{ExchangeFrom, exchange_from, IsSame}
+use Rattle.hc_effects.proofs.ExchangeFrom as exchange
+use Rattle.hc_effects.proofs.Fills.{Fills, fills, IsPiece, brings, length_same}
+use Rattle.hc_effects.proofs.Fills as fills_by
+use Rattle.hc_effects.proofs.FirstKeeps.{is_new}
 use Rattle.hc_laws.proofs.GoAlone.{bare_front, stored_same, opens_not, shown_not, founds_not, left_loses, lost_of, opens_undue}
-use Rattle.hc_laws.proofs.LossBy.{IsReal}
-use Rattle.hc_model.proofs.MeasuresKeep.{piece_taken}
-use Rattle.hc_model.proofs.Once.{delivers_once}
-use Rattle.hc_model.proofs.OwnFrom.{OwnFrom, own_from}
-use Rattle.hc_model.proofs.OwnFrom as own
-use Rattle.hc_model.proofs.OwnersKeep.{new_number}
+use Rattle.hc_effects.proofs.LossBy.{IsReal}
+use Rattle.hc_effects.proofs.MeasuresKeep.{piece_taken}
+use Rattle.hc_effects.proofs.Once.{delivers_once}
+use Rattle.hc_effects.proofs.OwnFrom.{OwnFrom, own_from}
+use Rattle.hc_effects.proofs.OwnFrom as own
+use Rattle.hc_effects.proofs.OwnersKeep.{new_number}
 use Rattle.hc_laws.proofs.ExclusiveWriterFrom.{ExclusiveWriterFrom, alone_from}
 use Rattle.hc_laws.proofs.ExclusiveWriterFrom as exclusive_writers
-use Rattle.hc_model.proofs.ExclusiveWriters.{same_row, one_exclusive_writer}
-use Rattle.hc_model.proofs.PieceKeeps.{some_inj}
-use Rattle.hc_model.proofs.RepFrom.{RepFrom, rep_from, IsKept}
-use Rattle.hc_model.proofs.RepFrom as rep
-use Rattle.hc_model.proofs.Stops.{writer_about}
-use Rattle.hc_laws.proofs.Survives.{goes_on}
+use Rattle.hc_effects.proofs.ExclusiveWriters.{same_row, one_exclusive_writer}
+use Rattle.hc_effects.proofs.PieceKeeps.{some_inj}
+use Rattle.hc_effects.proofs.RepFrom.{RepFrom, rep_from, IsKept}
+use Rattle.hc_effects.proofs.RepFrom as rep
+use Rattle.hc_effects.proofs.Stops.{writer_about}
+use Rattle.hc_effects.proofs.Survives.{goes_on}
 
 -- from this position on nothing is stored of what its exchange brought
 pub record IsTail (t : Tables) (r : ℕ) (v : Representation) (k : Consumer) (x : ℕ) (w : Exchange) : Type 0 where

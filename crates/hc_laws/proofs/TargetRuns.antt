@@ -10,11 +10,11 @@ use Rattle.hc_model.specs.Keys.{ExchangeKeys}
 use Rattle.hc_model.specs.Rows.{Tables, Representation}
 use Rattle.hc_model.specs.Tables.{tables, first_tables, representation_of_content, after}
 use Rattle.hc_model.specs.WithinLimits.{RequestsAreForTargets, KeysAreTargets, KeysStayTargets}
-use Rattle.hc_model.proofs.Basics.{and_left, and_right, none_some}
-use Rattle.hc_model.proofs.PieceKeeps.{eq_cases, some_inj}
-use Rattle.hc_model.proofs.RepFrom.{RepFrom, rep_from}
-use Rattle.hc_model.proofs.RepFrom as rep
-use Rattle.hc_model.proofs.RunsWithinLimits.{requests_are_for_targets}
+use Rattle.hc_effects.proofs.Basics.{and_left, and_right, none_some}
+use Rattle.hc_effects.proofs.PieceKeeps.{eq_cases, some_inj}
+use Rattle.hc_effects.proofs.RepFrom.{RepFrom, rep_from}
+use Rattle.hc_effects.proofs.RepFrom as rep
+use Rattle.hc_laws.proofs.RunsWithinLimits.{requests_are_for_targets}
 use Rattle.hc_laws.proofs.InRuns.{one_key_in_runs}
 
 -- the key of what is founded is that of its exchange, and so of a consumer

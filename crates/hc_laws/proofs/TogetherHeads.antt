@@ -14,15 +14,15 @@ use Rattle.hc_model.specs.Keys.{entry_of}
 use Rattle.hc_model.specs.Owners.{Owners}
 use Rattle.hc_model.specs.Rows.{Tables, Exchange, Consumer}
 use Rattle.hc_model.specs.Sound.{Sound}
-use Rattle.hc_model.proofs.BoundFrom.{IsRow}
-use Rattle.hc_model.proofs.ExchangeFrom.{IsHeaded, IsSame}
-use Rattle.hc_model.proofs.FirstKeeps.{IsNew, is_new}
-use Rattle.hc_model.proofs.Forward.{IsOn, is_on}
-use Rattle.hc_model.proofs.HeadKeeps.{IsJoin}
-use Rattle.hc_laws.proofs.HeadTo as to
-use Rattle.hc_model.proofs.OwnNone.{IsShared}
-use Rattle.hc_model.proofs.ExclusiveWriters.{same_row}
-use Rattle.hc_model.proofs.Waiters.{IsWaiter, waiter_of}
+use Rattle.hc_effects.proofs.BoundFrom.{IsRow}
+use Rattle.hc_effects.proofs.ExchangeFrom.{IsHeaded, IsSame}
+use Rattle.hc_effects.proofs.FirstKeeps.{IsNew, is_new}
+use Rattle.hc_effects.proofs.Forward.{IsOn, is_on}
+use Rattle.hc_effects.proofs.HeadKeeps.{IsJoin}
+use Rattle.hc_effects.proofs.HeadTo as to
+use Rattle.hc_laws.proofs.OwnNone.{IsShared}
+use Rattle.hc_effects.proofs.ExclusiveWriters.{same_row}
+use Rattle.hc_effects.proofs.Waiters.{IsWaiter, waiter_of}
 
 module _ (limits : Limits) (t : Tables) (now : ℕ) (flaw : Flaw) (s : Sound t) (o : Owners t) (ev : Event) (goes : denial t ev ≡ None) where
   abbrev e : Entry

@@ -30,17 +30,17 @@ use Rattle.hc_model.specs.Tables.{tables}
 use Rattle.hc_model.specs.Tellings.{told_to, tellings, IsOneTo, WaitsLast, TellsOne, TellsBy, TellsWhoPolls}
 use Rattle.hc_model.specs.Tellings as tells
 use Rattle.hc_model.specs.Weights.{evicted}
-use Rattle.hc_model.proofs.ActParts.{leaver_lost, IsAnswer, answer_is}
-use Rattle.hc_model.proofs.ActParts as parts
-use Rattle.hc_model.proofs.Basics.{false_true, true_false}
-use Rattle.hc_model.proofs.EventsKeep.{poll_live}
+use Rattle.hc_effects.proofs.ActParts.{leaver_lost, IsAnswer, answer_is}
+use Rattle.hc_effects.proofs.ActParts as parts
+use Rattle.hc_effects.proofs.Basics.{false_true, true_false}
+use Rattle.hc_effects.proofs.EventsKeep.{poll_live}
 use Rattle.hc_laws.proofs.InRuns.{turned_in_runs}
-use Rattle.hc_model.proofs.Owed.{IsDenied, is_denial, goes}
-use Rattle.hc_model.proofs.Owed as owed_by
+use Rattle.hc_effects.proofs.Owed.{IsDenied, is_denial, goes}
+use Rattle.hc_effects.proofs.Owed as owed_by
 use Rattle.hc_laws.proofs.SoundRuns.{runs_are_sound}
-use Rattle.hc_model.proofs.TurnFacts.{IsTaken, AtPoll, at_poll, acts_is, behind, seen}
-use Rattle.hc_model.proofs.TurnFacts as facts
-use Rattle.hc_model.proofs.TurnOpens.{closes_none, loses_none}
+use Rattle.hc_laws.proofs.TurnFacts.{IsTaken, AtPoll, at_poll, acts_is, behind, seen}
+use Rattle.hc_laws.proofs.TurnFacts as facts
+use Rattle.hc_laws.proofs.TurnOpens.{closes_none, loses_none}
 
 -- WHAT TELLS NOBODY
 

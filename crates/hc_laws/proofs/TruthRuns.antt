@@ -10,13 +10,13 @@ use Rattle.hc_model.specs.Laws.{OfRuns, IsFront, IsTruthful, TruncatedIsFront}
 use Rattle.hc_model.specs.Rows.{Representation}
 use Rattle.hc_model.specs.Sound.{IsStored}
 use Rattle.hc_model.specs.Tables.{tables}
-use Rattle.hc_model.proofs.Basics.{and_left}
-use Rattle.hc_model.proofs.HoleLemmas.{bool_cases, covers_all}
-use Rattle.hc_model.proofs.KeyNames.{and_then}
-use Rattle.hc_model.proofs.Positions.{no_other_below}
+use Rattle.hc_effects.proofs.Basics.{and_left}
+use Rattle.hc_effects.proofs.HoleLemmas.{bool_cases, covers_all}
+use Rattle.hc_effects.proofs.KeyNames.{and_then}
+use Rattle.hc_laws.proofs.Positions.{no_other_below}
 use Rattle.hc_laws.proofs.SizesKeep.{sizes_in_runs}
 use Rattle.hc_laws.proofs.SoundRuns.{runs_are_sound}
-use Rattle.hc_model.proofs.Truthful.{whole_is}
+use Rattle.hc_laws.proofs.Truthful.{whole_is}
 
 front_by : (growing complete front : Bool) → (cond growing kind.Growing (cond complete kind.Whole (cond front kind.Truncated kind.Ranges))) ≡ kind.Truncated → front ≡ true
 front_by growing complete true h = refl

@@ -34,26 +34,26 @@ use Rattle.hc_model.specs.Sound.{Sound, IsBound, IsFirst, IsExclusiveWriter, IsA
 use Rattle.hc_model.specs.Sound as sound
 use Rattle.hc_model.specs.Tables.{after_accepted}
 use Rattle.hc_model.specs.Writers.{loses_writing}
-use Rattle.hc_model.proofs.ApartKeeps.{IsOn, is_on, was_written}
-use Rattle.hc_model.proofs.Basics.{false_true, and_left, and_right, or_false, not_so, not_true, none_some}
-use Rattle.hc_model.proofs.BoundFrom.{BoundFrom, bound_from}
-use Rattle.hc_model.proofs.BoundFrom as from
-use Rattle.hc_model.proofs.BoundKeeps.{founding_is}
-use Rattle.hc_model.proofs.Dues.{undue_of, stop_none, loss_at, loss_free, due_none}
-use Rattle.hc_model.proofs.ExchangeFrom.{ExchangeFrom, exchange_from}
-use Rattle.hc_model.proofs.ExchangeFrom as exchange
+use Rattle.hc_effects.proofs.ApartKeeps.{IsOn, is_on, was_written}
+use Rattle.hc_effects.proofs.Basics.{false_true, and_left, and_right, or_false, not_so, not_true, none_some}
+use Rattle.hc_effects.proofs.BoundFrom.{BoundFrom, bound_from}
+use Rattle.hc_effects.proofs.BoundFrom as from
+use Rattle.hc_effects.proofs.BoundKeeps.{founding_is}
+use Rattle.hc_effects.proofs.Dues.{undue_of, stop_none, loss_at, loss_free, due_none}
+use Rattle.hc_effects.proofs.ExchangeFrom.{ExchangeFrom, exchange_from}
+use Rattle.hc_effects.proofs.ExchangeFrom as exchange
 use Rattle.hc_laws.proofs.FirstDueKeeps.{shown_due}
-use Rattle.hc_model.proofs.FirstKeeps.{case_is, is_new, open_free}
-use Rattle.hc_model.proofs.FoundBy.{case_by, founding_by, founds_way}
-use Rattle.hc_laws.proofs.MemberStays.{head_not}
-use Rattle.hc_model.proofs.OwnersKeep.{is_opened}
-use Rattle.hc_model.proofs.PieceKeeps.{eq_cases, some_inj}
-use Rattle.hc_model.proofs.ExclusiveWriters.{same_row, writer_some}
-use Rattle.hc_model.proofs.RepFrom.{RepFrom, rep_from, IsKept, IsResumed}
-use Rattle.hc_model.proofs.RepFrom as rep
-use Rattle.hc_model.proofs.Stops.{source_is}
-use Rattle.hc_laws.proofs.HasBound.{joins_way}
-use Rattle.hc_model.proofs.Waiters.{IsWaiter, waiter_of, unwritten, waits_undue}
+use Rattle.hc_effects.proofs.FirstKeeps.{case_is, is_new, open_free}
+use Rattle.hc_effects.proofs.FoundBy.{case_by, founding_by, founds_way}
+use Rattle.hc_effects.proofs.MemberStays.{head_not}
+use Rattle.hc_effects.proofs.OwnersKeep.{is_opened}
+use Rattle.hc_effects.proofs.PieceKeeps.{eq_cases, some_inj}
+use Rattle.hc_effects.proofs.ExclusiveWriters.{same_row, writer_some}
+use Rattle.hc_effects.proofs.RepFrom.{RepFrom, rep_from, IsKept, IsResumed}
+use Rattle.hc_effects.proofs.RepFrom as rep
+use Rattle.hc_effects.proofs.Stops.{source_is}
+use Rattle.hc_effects.proofs.HasBound.{joins_way}
+use Rattle.hc_effects.proofs.Waiters.{IsWaiter, waiter_of, unwritten, waits_undue}
 
 -- by a head that founds or joins nothing becomes due
 pub no_cause : (g : Option HeadCase) (x : ℕ) → (is_founding g || is_joining g) ≡ true → cause_by_case g x ≡ None

@@ -34,41 +34,41 @@ use Rattle.hc_model.specs.Sound.{Sound, IsBound, IsFirst, IsGrowing}
 use Rattle.hc_model.specs.Sound as sound
 use Rattle.hc_model.specs.Tables.{after_accepted}
 use Rattle.hc_model.specs.Writers.{brings_body, came_alone, loses_writing, survivor}
-use Rattle.hc_laws.proofs.AboutKeeps.{IsOwn, own_open_of, own_open_is}
-use Rattle.hc_model.proofs.ApartKeeps.{is_on}
-use Rattle.hc_model.proofs.Basics.{false_true, and_left, and_right, not_so, or_cases, none_some}
-use Rattle.hc_model.proofs.Beside.{IsBeside}
-use Rattle.hc_model.proofs.BoundFrom.{BoundFrom, IsRow, bound_from}
-use Rattle.hc_model.proofs.BoundFrom as from
-use Rattle.hc_model.proofs.Closed.{before}
-use Rattle.hc_model.proofs.Dues.{due_before, undue_parts}
-use Rattle.hc_model.proofs.FirstKeeps.{is_new, is_opener}
-use Rattle.hc_model.proofs.Forward.{after_is}
+use Rattle.hc_effects.proofs.AboutKeeps.{IsOwn, own_open_of, own_open_is}
+use Rattle.hc_effects.proofs.ApartKeeps.{is_on}
+use Rattle.hc_effects.proofs.Basics.{false_true, and_left, and_right, not_so, or_cases, none_some}
+use Rattle.hc_effects.proofs.Beside.{IsBeside}
+use Rattle.hc_effects.proofs.BoundFrom.{BoundFrom, IsRow, bound_from}
+use Rattle.hc_effects.proofs.BoundFrom as from
+use Rattle.hc_effects.proofs.Closed.{before}
+use Rattle.hc_effects.proofs.Dues.{due_before, undue_parts}
+use Rattle.hc_effects.proofs.FirstKeeps.{is_new, is_opener}
+use Rattle.hc_effects.proofs.Forward.{after_is}
 use Rattle.hc_laws.proofs.GoAlone.{lost_of, opens_not, shown_not, founds_not, left_loses, unwritten_lost}
-use Rattle.hc_laws.proofs.LossBy.{IsReal}
-use Rattle.hc_model.proofs.OpenedAs as opened
-use Rattle.hc_model.proofs.OpensFrom.{opens_hole, hole_is}
-use Rattle.hc_model.proofs.OwnFrom.{OwnFrom, own_from}
-use Rattle.hc_model.proofs.OwnFrom as own
-use Rattle.hc_model.proofs.OwnNone.{IsShared, own_none}
-use Rattle.hc_model.proofs.OwnersKeep.{is_opened}
+use Rattle.hc_effects.proofs.LossBy.{IsReal}
+use Rattle.hc_effects.proofs.OpenedAs as opened
+use Rattle.hc_effects.proofs.OpensFrom.{opens_hole, hole_is}
+use Rattle.hc_effects.proofs.OwnFrom.{OwnFrom, own_from}
+use Rattle.hc_effects.proofs.OwnFrom as own
+use Rattle.hc_laws.proofs.OwnNone.{IsShared, own_none}
+use Rattle.hc_effects.proofs.OwnersKeep.{is_opened}
 use Rattle.hc_laws.proofs.ExclusiveWriterFrom.{ExclusiveWriterFrom, alone_from}
 use Rattle.hc_laws.proofs.ExclusiveWriterFrom as exclusive_writers
-use Rattle.hc_model.proofs.ExclusiveWriters.{same_row, bound_some, writer_some}
-use Rattle.hc_model.proofs.PieceKeeps.{eq_cases, some_inj}
-use Rattle.hc_model.proofs.PollTree.{OpensHole}
-use Rattle.hc_model.proofs.PollTree as tree
-use Rattle.hc_model.proofs.RepFrom.{RepFrom, rep_from, IsKept, IsEnded}
-use Rattle.hc_model.proofs.RepFrom as rep
+use Rattle.hc_effects.proofs.ExclusiveWriters.{same_row, bound_some, writer_some}
+use Rattle.hc_effects.proofs.PieceKeeps.{eq_cases, some_inj}
+use Rattle.hc_effects.proofs.PollTree.{OpensHole}
+use Rattle.hc_effects.proofs.PollTree as tree
+use Rattle.hc_effects.proofs.RepFrom.{RepFrom, rep_from, IsKept, IsEnded}
+use Rattle.hc_effects.proofs.RepFrom as rep
 use Rattle.hc_laws.proofs.RunFacts.{in_runs}
-use Rattle.hc_model.proofs.Said.{leaving_by}
-use Rattle.hc_model.proofs.SaidActs.{leaver_leaves}
-use Rattle.hc_model.proofs.Stops.{source_is}
-use Rattle.hc_laws.proofs.Survives.{goes_on}
-use Rattle.hc_laws.proofs.ToBeShown.{heard_place}
-use Rattle.hc_model.proofs.Unclosed.{had_to}
-use Rattle.hc_model.proofs.Waiters.{unleft, waiter_as}
-use Rattle.hc_laws.proofs.WritingStops.{ended_total}
+use Rattle.hc_effects.proofs.Said.{leaving_by}
+use Rattle.hc_effects.proofs.SaidActs.{leaver_leaves}
+use Rattle.hc_effects.proofs.Stops.{source_is}
+use Rattle.hc_effects.proofs.Survives.{goes_on}
+use Rattle.hc_effects.proofs.ToBeShown.{heard_place}
+use Rattle.hc_effects.proofs.Unclosed.{had_to}
+use Rattle.hc_effects.proofs.Waiters.{unleft, waiter_as}
+use Rattle.hc_effects.proofs.WritingStops.{ended_total}
 
 or_none : (a : Option ℕ) (n : ℕ) → option_or a (Some n) ≡ None → ⊥
 or_none None n h = none_some n (sym h)

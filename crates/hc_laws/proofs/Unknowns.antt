@@ -24,19 +24,19 @@ use Rattle.hc_model.specs.RepresentationRows.{new_representation, asks_whole, ho
 use Rattle.hc_model.specs.Rows.{Tables, Exchange, Representation}
 use Rattle.hc_model.specs.Sound.{Sound, IsGrowing, end_from}
 use Rattle.hc_model.specs.Tables.{representation_of_content, first_tables, after_accepted}
-use Rattle.hc_model.proofs.ApartKeeps.{written_by, is_on}
-use Rattle.hc_model.proofs.Basics.{false_true, none_some, some_none}
-use Rattle.hc_model.proofs.DeniedKeeps.{written_same}
-use Rattle.hc_laws.proofs.LossBy.{IsReal}
-use Rattle.hc_model.proofs.MeasuresBegin.{known_item}
-use Rattle.hc_model.proofs.PieceKeeps.{some_inj}
-use Rattle.hc_model.proofs.ExclusiveWriters.{writer_some}
-use Rattle.hc_model.proofs.RepFrom.{RepFrom, rep_from, IsKept, IsResumed, IsEnded}
-use Rattle.hc_model.proofs.RepFrom as rep
+use Rattle.hc_effects.proofs.ApartKeeps.{written_by, is_on}
+use Rattle.hc_effects.proofs.Basics.{false_true, none_some, some_none}
+use Rattle.hc_laws.proofs.DeniedKeeps.{written_same}
+use Rattle.hc_effects.proofs.LossBy.{IsReal}
+use Rattle.hc_laws.proofs.MeasuresBegin.{known_item}
+use Rattle.hc_effects.proofs.PieceKeeps.{some_inj}
+use Rattle.hc_effects.proofs.ExclusiveWriters.{writer_some}
+use Rattle.hc_effects.proofs.RepFrom.{RepFrom, rep_from, IsKept, IsResumed, IsEnded}
+use Rattle.hc_effects.proofs.RepFrom as rep
 use Rattle.hc_laws.proofs.Lasting.{was_not_gone, not_lost, lasting}
 use Rattle.hc_laws.proofs.FoundedAs.{FoundedAs, founded_as}
 use Rattle.hc_laws.proofs.FoundedAs as founded
-use Rattle.hc_laws.proofs.WritingStops.{IsAll}
+use Rattle.hc_effects.proofs.WritingStops.{IsAll}
 
 ends_none : (n : ℕ) (q : Option ℕ) → end_from n q ≡ None → q ≡ None
 ends_none n None h = refl

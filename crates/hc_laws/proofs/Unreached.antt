@@ -15,9 +15,9 @@ use Rattle.hc_model.specs.Laws.{OfRunsIn}
 use Rattle.hc_model.specs.Rows.{Tables, Exchange}
 use Rattle.hc_model.specs.Sound.{Sound}
 use Rattle.hc_model.specs.Tables.{after_accepted}
-use Rattle.hc_model.proofs.Basics.{and_right, none_some, false_true}
-use Rattle.hc_model.proofs.FirstKeeps.{is_new}
-use Rattle.hc_model.proofs.PieceKeeps.{eq_cases, some_inj}
+use Rattle.hc_effects.proofs.Basics.{and_right, none_some, false_true}
+use Rattle.hc_effects.proofs.FirstKeeps.{is_new}
+use Rattle.hc_effects.proofs.PieceKeeps.{eq_cases, some_inj}
 use Rattle.hc_laws.proofs.RunFacts.{in_runs}
 
 pub record IsUnreached (limits : Limits) (t : Tables) : Type 0 where

@@ -23,24 +23,24 @@ use Rattle.hc_model.specs.Reading.{is_written, bound, own_open}
 use Rattle.hc_model.specs.Rows.{Tables, Exchange, Representation, Consumer}
 use Rattle.hc_model.specs.Sound.{Sound, IsBound}
 use Rattle.hc_model.specs.Tables.{tables}
-use Rattle.hc_laws.proofs.AboutKeeps.{own_open_is}
-use Rattle.hc_model.proofs.Basics.{false_true, some_none}
-use Rattle.hc_model.proofs.BusyPlans.{BusyBy, busy_by}
-use Rattle.hc_model.proofs.BusyPlans as busy
-use Rattle.hc_laws.proofs.Exclusives.{exclusive_parts}
-use Rattle.hc_model.proofs.Going.{turns_go, readers_go}
-use Rattle.hc_laws.proofs.HadKeeps.{among_least}
-use Rattle.hc_laws.proofs.HasBound.{reader_of}
+use Rattle.hc_effects.proofs.AboutKeeps.{own_open_is}
+use Rattle.hc_effects.proofs.Basics.{false_true, some_none}
+use Rattle.hc_laws.proofs.BusyPlans.{BusyBy, busy_by}
+use Rattle.hc_laws.proofs.BusyPlans as busy
+use Rattle.hc_effects.proofs.Exclusives.{exclusive_parts}
+use Rattle.hc_laws.proofs.Going.{turns_go, readers_go}
+use Rattle.hc_effects.proofs.HadKeeps.{among_least}
+use Rattle.hc_effects.proofs.HasBound.{reader_of}
 use Rattle.hc_laws.proofs.InRuns.{turned_in_runs}
-use Rattle.hc_model.proofs.PollKeeps.{current_stays}
-use Rattle.hc_model.proofs.Said.{WaitsAs}
-use Rattle.hc_model.proofs.Said as said
-use Rattle.hc_model.proofs.ShownFrom.{IsCandidate, candidate_is}
+use Rattle.hc_effects.proofs.PollKeeps.{current_stays}
+use Rattle.hc_effects.proofs.Said.{WaitsAs}
+use Rattle.hc_effects.proofs.Said as said
+use Rattle.hc_effects.proofs.ShownFrom.{IsCandidate, candidate_is}
 use Rattle.hc_laws.proofs.RunFacts.{in_runs}
 use Rattle.hc_laws.proofs.SoundRuns.{IsCarried, carried}
 use Rattle.hc_laws.proofs.Unknowns.{Unknown, unknown_begun, unknown_denied, unknown_kept}
-use Rattle.hc_model.proofs.WaitedAs.{IsForOthers, waited_as}
-use Rattle.hc_model.proofs.WaitedAs as waited
+use Rattle.hc_effects.proofs.WaitedAs.{IsForOthers, waited_as}
+use Rattle.hc_effects.proofs.WaitedAs as waited
 
 some_answer : (t : Tables) (x : ℕ) (w : Exchange) (o : Option Response) → is_some o ≡ true → shows_answer t x w o ≡ None → ⊥
 some_answer t x w None there h = false_true there

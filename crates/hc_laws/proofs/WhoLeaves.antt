@@ -34,16 +34,16 @@ use Rattle.hc_model.specs.Runs.{IsOwed, may_be}
 use Rattle.hc_model.specs.StartingOver.{loses_what_it_waits_for}
 use Rattle.hc_model.specs.Tables.{after, with_item_first}
 use Rattle.hc_model.specs.Writes.{written_representation, written_in, seals_at, stops, first_found, lossless}
-use Rattle.hc_model.proofs.ActParts.{far_closing, far_lost_only}
-use Rattle.hc_model.proofs.Basics.{and_left, none_some, number_is}
-use Rattle.hc_model.proofs.EventsKeep.{poll_live}
-use Rattle.hc_model.proofs.FailsTold.{fails_told}
-use Rattle.hc_model.proofs.LeftBy.{left_passed}
-use Rattle.hc_model.proofs.Owed.{goes, acts_are, is_denial, IsDenied}
-use Rattle.hc_model.proofs.Owed as owed_by
-use Rattle.hc_model.proofs.TurnFacts.{closes_lossless, far_from, may_be_so}
-use Rattle.hc_laws.proofs.LeaveFrames.{IsFront, acts_left, goes_by, itself}
-use Rattle.hc_laws.proofs.LeaveFrames as frames
+use Rattle.hc_effects.proofs.ActParts.{far_closing, far_lost_only}
+use Rattle.hc_effects.proofs.Basics.{and_left, none_some, number_is}
+use Rattle.hc_effects.proofs.EventsKeep.{poll_live}
+use Rattle.hc_effects.proofs.FailsTold.{fails_told}
+use Rattle.hc_effects.proofs.LeftBy.{left_passed}
+use Rattle.hc_effects.proofs.Owed.{goes, acts_are, is_denial, IsDenied}
+use Rattle.hc_effects.proofs.Owed as owed_by
+use Rattle.hc_laws.proofs.TurnFacts.{closes_lossless, far_from, may_be_so}
+use Rattle.hc_effects.proofs.LeaveFrames.{IsFront, acts_left, goes_by, itself}
+use Rattle.hc_effects.proofs.LeaveFrames as frames
 use Rattle.hc_laws.proofs.Accepted.{is_accepted}
 use Rattle.hc_laws.proofs.LiveAfter.{Starts, was_live}
 

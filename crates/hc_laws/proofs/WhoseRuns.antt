@@ -17,11 +17,11 @@ use Rattle.hc_model.specs.Sound as sound
 use Rattle.hc_model.specs.Tables.{tables}
 use Rattle.hc_model.specs.Whose.{Whose, IsSomebodys, IsOwner, IsOfKey, may_own}
 use Rattle.hc_model.specs.Whose as whose
-use Rattle.hc_laws.proofs.AboutKeeps.{own_open_of}
-use Rattle.hc_model.proofs.Basics.{none_some}
+use Rattle.hc_effects.proofs.AboutKeeps.{own_open_of}
+use Rattle.hc_effects.proofs.Basics.{none_some}
 use Rattle.hc_laws.proofs.InRuns.{turned_in_runs}
 use Rattle.hc_laws.proofs.OwnersFor.{owners_for}
-use Rattle.hc_model.proofs.ExclusiveWriters.{none_about}
+use Rattle.hc_effects.proofs.ExclusiveWriters.{none_about}
 use Rattle.hc_laws.proofs.PlaceRuns.{places_in_runs}
 use Rattle.hc_laws.proofs.SoundRuns.{carried}
 

@@ -1,3 +1,2 @@
-//! The definitions over histories: what a run of the cache is, without queue, store or state, and the
-//! lemmas on which the laws of runs stand.
+//! The definitions over histories: what a run of the cache is, without queue, store or state.
 #![tactic(auto)]

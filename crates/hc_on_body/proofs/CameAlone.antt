@@ -14,7 +14,7 @@ use Rattle.hc_model.specs.Rows.{Tables, Representation}
 use Rattle.hc_model.specs.Sound.{Sound, IsBound}
 use Rattle.hc_model.specs.Sound as sound
 use Rattle.hc_model.specs.Writers.{came_alone, status_in}
-use Rattle.hc_laws.proofs.HasBound.{bound_at}
+use Rattle.hc_effects.proofs.HasBound.{bound_at}
 use Rattle.hc_state.specs.Stored.{is_first}
 use Rattle.hc_state.proofs.OneOfEach.{first_by}
 use Rattle.hc_state.proofs.Words.{false_true, none_some}

@@ -7,7 +7,7 @@ use Rattle.hc_rules.specs.Rooms.{grown_by}
 use Rattle.hc_rules.specs.declared.room.Room.{Room}
 use Rattle.hc_rules.specs.declared.room.Room.TheVariants as room
 use Rattle.hc_rules.specs.declared.room.Write.{Write}
-use Rattle.hc_laws.proofs.WeightsLeft.{two_give_way}
+use Rattle.hc_effects.proofs.WeightsLeft.{two_give_way}
 use Rattle.hc_state.specs.declared.rows.Rows.{Rows}
 use Rattle.hc_state.specs.Room.{HasActs, LeavesActs, room_for_write}
 use Rattle.hc_state.specs.Stands.{Stands}

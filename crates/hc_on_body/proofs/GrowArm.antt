@@ -29,14 +29,14 @@ use Rattle.hc_model.specs.Sound.{IsExclusiveWriter, IsBound}
 use Rattle.hc_model.specs.Weights.{evicted}
 use Rattle.hc_model.specs.Writers.{exclusive, has_more, offset_in, survivor}
 use Rattle.hc_model.specs.Writes.{written_representation}
-use Rattle.hc_laws.proofs.Exclusives.{exclusive_parts}
-use Rattle.hc_laws.proofs.HadKeeps.{survivor_bound}
-use Rattle.hc_laws.proofs.HasBound.{reader_of}
-use Rattle.hc_laws.proofs.LettingGo.{may_let_go}
-use Rattle.hc_laws.proofs.PieceEffects as alone_does
-use Rattle.hc_model.proofs.SameTables.{all_go_is, back_from_any, is_in, without}
-use Rattle.hc_laws.proofs.SharedLossEffects as shared_does
-use Rattle.hc_laws.proofs.Survives.{survivor_offset}
+use Rattle.hc_effects.proofs.Exclusives.{exclusive_parts}
+use Rattle.hc_effects.proofs.HadKeeps.{survivor_bound}
+use Rattle.hc_effects.proofs.HasBound.{reader_of}
+use Rattle.hc_effects.proofs.LettingGo.{may_let_go}
+use Rattle.hc_effects.proofs.PieceEffects as alone_does
+use Rattle.hc_effects.proofs.SameTables.{all_go_is, back_from_any, is_in, without}
+use Rattle.hc_effects.proofs.SharedLossEffects as shared_does
+use Rattle.hc_effects.proofs.Survives.{survivor_offset}
 use Rattle.hc_state.specs.declared.rows.Rows.{Rows}
 use Rattle.hc_state.specs.Facts.{Facts}
 use Rattle.hc_state.specs.DetachedReaders.{MayLoseShared, shared_loss}

@@ -28,12 +28,12 @@ use Rattle.hc_model.specs.Rows.{Tables, Exchange, Representation}
 use Rattle.hc_model.specs.Sound as sound
 use Rattle.hc_model.specs.Sound.{Sound, IsExclusiveWriter, IsHad}
 use Rattle.hc_model.specs.Weights.{write_in}
-use Rattle.hc_laws.proofs.AboutKeeps.{own_open_of}
+use Rattle.hc_effects.proofs.AboutKeeps.{own_open_of}
 use Rattle.hc_model.specs.Fronts.{goes_on_at}
-use Rattle.hc_laws.proofs.Covers.{headed_at}
-use Rattle.hc_model.proofs.HoleLemmas.{first_from, first_to, first_before, first_passes}
-use Rattle.hc_model.proofs.Once.{delivers_once}
-use Rattle.hc_laws.proofs.PieceEffects as does
+use Rattle.hc_effects.proofs.Covers.{headed_at}
+use Rattle.hc_effects.proofs.HoleLemmas.{first_from, first_to, first_before, first_passes}
+use Rattle.hc_effects.proofs.Once.{delivers_once}
+use Rattle.hc_effects.proofs.PieceEffects as does
 use Rattle.hc_state.proofs.Ties.{overs_open, writer_then}
 use Rattle.hc_state.specs.declared.rows.Rows.{Rows}
 use Rattle.hc_state.specs.Facts.{Facts}

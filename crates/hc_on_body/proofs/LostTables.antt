@@ -12,7 +12,7 @@ use Rattle.hc_model.specs.Exchanges.{front}
 use Rattle.hc_model.specs.RepresentationRows.{with_stored_bytes}
 use Rattle.hc_model.specs.Rows as rows
 use Rattle.hc_model.specs.Rows.{Tables, Exchange, Representation}
-use Rattle.hc_model.proofs.SameTables.{all_go_is, back_from_any, is_in, without}
+use Rattle.hc_effects.proofs.SameTables.{all_go_is, back_from_any, is_in, without}
 use Rattle.hc_state.specs.DetachedReaders.{shared_loss}
 use Rattle.hc_state.specs.Refused.{brought_lost, own_loss}
 use Rattle.hc_state.proofs.Words.{same_or, eqb-same, eqb-other}

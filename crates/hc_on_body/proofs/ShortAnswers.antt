@@ -26,9 +26,9 @@ use Rattle.hc_model.specs.Rows as rows
 use Rattle.hc_model.specs.Rows.{Tables, Exchange, Representation}
 use Rattle.hc_model.specs.Writes.{written_representation}
 use Rattle.hc_model.specs.Writers.{exclusive}
-use Rattle.hc_laws.proofs.StopEffects as past_effects
-use Rattle.hc_laws.proofs.StopFrames.{end_of}
-use Rattle.hc_laws.proofs.StopSeals as seal_effects
+use Rattle.hc_effects.proofs.StopEffects as past_effects
+use Rattle.hc_effects.proofs.StopFrames.{end_of}
+use Rattle.hc_effects.proofs.StopSeals as seal_effects
 use Rattle.hc_state.specs.declared.rows.Rows.{Rows}
 use Rattle.hc_state.specs.Facts.{Facts}
 use Rattle.hc_state.specs.Stands.{Answered, RowsStand}

@@ -30,8 +30,8 @@ use Rattle.hc_model.specs.Tables.{received_in}
 use Rattle.hc_model.specs.Weights.{write_in}
 use Rattle.hc_model.specs.Writes.{written_representation, sealed_representation, lossless, stops}
 use Rattle.hc_model.specs.Writers.{exclusive}
-use Rattle.hc_laws.proofs.StopEffects as past_effects
-use Rattle.hc_laws.proofs.StopSeals as seal_effects
+use Rattle.hc_effects.proofs.StopEffects as past_effects
+use Rattle.hc_effects.proofs.StopSeals as seal_effects
 use Rattle.hc_state.specs.declared.rows.Rows.{Rows}
 use Rattle.hc_state.specs.Stands.{Answered, RowsStand}
 use Rattle.hc_state.specs.Stopped as stopped

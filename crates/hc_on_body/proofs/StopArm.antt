@@ -30,11 +30,11 @@ use Rattle.hc_model.specs.Sound.{IsBound, IsAbout, IsHad, IsExclusiveWriter}
 use Rattle.hc_model.specs.Whose as whose
 use Rattle.hc_model.specs.Whose.{IsOwner}
 use Rattle.hc_model.specs.Writers.{exclusive, has_more}
-use Rattle.hc_laws.proofs.AboutKeeps.{own_open_of}
-use Rattle.hc_laws.proofs.Exclusives.{exclusive_parts}
-use Rattle.hc_model.proofs.HoleLemmas.{covers_yes}
-use Rattle.hc_laws.proofs.LettingGo.{may_let_go}
-use Rattle.hc_model.proofs.Stops.{writer_about}
+use Rattle.hc_effects.proofs.AboutKeeps.{own_open_of}
+use Rattle.hc_effects.proofs.Exclusives.{exclusive_parts}
+use Rattle.hc_effects.proofs.HoleLemmas.{covers_yes}
+use Rattle.hc_effects.proofs.LettingGo.{may_let_go}
+use Rattle.hc_effects.proofs.Stops.{writer_about}
 use Rattle.hc_state.specs.declared.rows.Rows.{Rows}
 use Rattle.hc_state.specs.declared.stop.Readers.{Readers}
 use Rattle.hc_state.specs.declared.stop.Readers.TheVariants as readers

@@ -44,10 +44,10 @@ use Rattle.hc_model.specs.Sound.{IsAbout, Among, OneCurrent}
 use Rattle.hc_model.specs.Whose as whose
 use Rattle.hc_model.specs.Writes.{written_representation}
 use Rattle.hc_model.specs.Writers.{exclusive, status_in}
-use Rattle.hc_laws.proofs.LettingGo.{may_let_go, bound_let_go}
-use Rattle.hc_laws.proofs.StopEffects as past_effects
-use Rattle.hc_laws.proofs.StopFrames.{end_of}
-use Rattle.hc_laws.proofs.StopSeals as seal_effects
+use Rattle.hc_effects.proofs.LettingGo.{may_let_go, bound_let_go}
+use Rattle.hc_effects.proofs.StopEffects as past_effects
+use Rattle.hc_effects.proofs.StopFrames.{end_of}
+use Rattle.hc_effects.proofs.StopSeals as seal_effects
 use Rattle.hc_state.specs.declared.rows.Rows.{Rows}
 use Rattle.hc_state.specs.Changes.{ChangesAt, ChangesAmong}
 use Rattle.hc_state.specs.Changes as changes

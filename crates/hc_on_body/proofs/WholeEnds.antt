@@ -32,7 +32,7 @@ use Rattle.hc_model.specs.RepresentationRows.{with_total_if_none}
 use Rattle.hc_model.specs.Rows as rows
 use Rattle.hc_model.specs.Rows.{Tables, Exchange, Representation}
 use Rattle.hc_model.specs.Writers.{status_in}
-use Rattle.hc_model.proofs.HoleLemmas.{covers_yes}
+use Rattle.hc_effects.proofs.HoleLemmas.{covers_yes}
 use Rattle.hc_state.specs.declared.consumer.Consumer.{Consumer}
 use Rattle.hc_state.specs.declared.rows.Rows.{Rows}
 use Rattle.hc_state.specs.Changes.{ChangesAt, ChangesAmong}

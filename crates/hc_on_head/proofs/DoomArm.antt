@@ -32,8 +32,8 @@ use Rattle.hc_model.specs.Lines.{is_in_line}
 use Rattle.hc_model.specs.Rows as rows
 use Rattle.hc_model.specs.Rows.{Tables, Exchange, Representation}
 use Rattle.hc_model.specs.StartingOver.{waits_at}
-use Rattle.hc_laws.proofs.LettingGo.{may_let_go}
-use Rattle.hc_model.proofs.SameTables.{all_closed_is}
+use Rattle.hc_effects.proofs.LettingGo.{may_let_go}
+use Rattle.hc_effects.proofs.SameTables.{all_closed_is}
 use Rattle.hc_state.specs.declared.rows.Rows.{Rows}
 use Rattle.hc_state.specs.Changes.{ChangesAmong, once_over}
 use Rattle.hc_state.specs.Dooms.{Closes, IsUnheard, KeepsLine, IsDoomed}

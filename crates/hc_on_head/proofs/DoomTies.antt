@@ -22,8 +22,8 @@ use Rattle.hc_model.specs.Reading.{lo_of, hi_of, base_in, end_in, end_of_direct,
 use Rattle.hc_model.specs.Rows as rows
 use Rattle.hc_model.specs.Rows.{Tables, Exchange, Representation}
 use Rattle.hc_model.specs.StartingOver.{waits_at}
-use Rattle.hc_model.proofs.SameTables as tables
-use Rattle.hc_model.proofs.SameTables.{shut}
+use Rattle.hc_effects.proofs.SameTables as tables
+use Rattle.hc_effects.proofs.SameTables.{shut}
 use Rattle.hc_state.specs.declared.consumer.Consumer.{Consumer}
 use Rattle.hc_state.specs.declared.rows.Rows.{Rows}
 use Rattle.hc_state.specs.Changes.{ChangesAmong, once_over}

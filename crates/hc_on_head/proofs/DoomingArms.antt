@@ -45,10 +45,10 @@ use Rattle.hc_model.specs.Rows.{Tables, Exchange, Representation}
 use Rattle.hc_model.specs.Sound.{Among}
 use Rattle.hc_model.specs.StartingOver.{waits_at}
 use Rattle.hc_model.specs.Tables.{with_item_first}
-use Rattle.hc_model.proofs.Basics.{same_functions}
-use Rattle.hc_model.proofs.SameTables as tables
-use Rattle.hc_model.proofs.SameTables.{without, shut, back_from_any, waits_for_any, some_go_is, all_closed_is}
-use Rattle.hc_laws.proofs.UnsafeEffects.{dooms_taken, dooms_bad}
+use Rattle.hc_effects.proofs.Basics.{same_functions}
+use Rattle.hc_effects.proofs.SameTables as tables
+use Rattle.hc_effects.proofs.SameTables.{without, shut, back_from_any, waits_for_any, some_go_is, all_closed_is}
+use Rattle.hc_effects.proofs.UnsafeEffects.{dooms_taken, dooms_bad}
 use Rattle.hc_state.specs.declared.consumer.Consumer.{Consumer}
 use Rattle.hc_state.specs.declared.rows.Rows.{Rows}
 use Rattle.hc_state.specs.Changes.{ChangesAt, standing_at}

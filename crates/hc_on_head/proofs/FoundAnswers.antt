@@ -40,7 +40,7 @@ use Rattle.hc_model.specs.Rows as rows
 use Rattle.hc_model.specs.Rows.{Tables, Exchange}
 use Rattle.hc_model.specs.Runs.{may_lose}
 use Rattle.hc_model.specs.Weights.{room_for}
-use Rattle.hc_laws.proofs.FoundDoes.{Founds, founds_of}
+use Rattle.hc_effects.proofs.FoundDoes.{Founds, founds_of}
 use Rattle.hc_state.specs.declared.consumer.Consumer.{Consumer}
 use Rattle.hc_state.specs.declared.rows.Rows.{Rows}
 use Rattle.hc_state.specs.declared.founded.Founding.{Founding}

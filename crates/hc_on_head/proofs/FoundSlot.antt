@@ -9,7 +9,7 @@ use Rattle.hc_rules.specs.Lengths.{is_bad, length_of, promise_of}
 use Rattle.hc_rules.specs.RangeTexts.{content_range_of}
 use Rattle.hc_model.specs.Effects.{just_opened}
 use Rattle.hc_model.specs.Heads.{total_of_part}
-use Rattle.hc_model.proofs.ToldNumbers.{founded_early}
+use Rattle.hc_effects.proofs.ToldNumbers.{founded_early}
 use Rattle.hc_entry.specs.declared.keys.KeyTable.{KeyTable}
 use Rattle.hc_entry.specs.Keys as keys
 use Rattle.hc_entry.specs.Kept.{with_current}

@@ -51,9 +51,9 @@ use Rattle.hc_model.specs.Reading.{bound, is_bound}
 use Rattle.hc_model.specs.Sound.{InHole}
 use Rattle.hc_model.specs.Rows as rows
 use Rattle.hc_model.specs.Rows.{Tables, Exchange, Representation}
-use Rattle.hc_laws.proofs.Bounded.{range_order}
-use Rattle.hc_model.proofs.Joining.{filling}
-use Rattle.hc_model.proofs.ExclusiveWriters.{filter_some}
+use Rattle.hc_effects.proofs.Bounded.{range_order}
+use Rattle.hc_effects.proofs.Joining.{filling}
+use Rattle.hc_effects.proofs.ExclusiveWriters.{filter_some}
 use Rattle.hc_state.specs.declared.consumer.Consumer.{Consumer}
 use Rattle.hc_state.specs.declared.rows.Rows.{Rows}
 use Rattle.hc_state.specs.Facts.{Facts}

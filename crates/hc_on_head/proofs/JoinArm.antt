@@ -43,11 +43,11 @@ use Rattle.hc_model.specs.Rows.{Tables, Exchange, Representation}
 use Rattle.hc_model.specs.Runs.{is_kept}
 use Rattle.hc_model.specs.Writers.{exclusive}
 use Rattle.hc_model.specs.Writes.{written_representation, head_writes, may_validate, lossless}
-use Rattle.hc_model.proofs.FirstKeeps.{case_is}
-use Rattle.hc_model.proofs.FoundBy.{case_by}
-use Rattle.hc_model.proofs.ExclusiveWriters.{filter_some}
-use Rattle.hc_model.proofs.LossStands.{joins_again, not_founding}
-use Rattle.hc_laws.proofs.UpdateEffects as does
+use Rattle.hc_effects.proofs.FirstKeeps.{case_is}
+use Rattle.hc_effects.proofs.FoundBy.{case_by}
+use Rattle.hc_effects.proofs.ExclusiveWriters.{filter_some}
+use Rattle.hc_effects.proofs.LossStands.{joins_again, not_founding}
+use Rattle.hc_effects.proofs.UpdateEffects as does
 use Rattle.hc_state.specs.declared.consumer.Consumer.{Consumer}
 use Rattle.hc_state.specs.declared.rows.Rows.{Rows}
 use Rattle.hc_state.specs.Changes.{BecomesAt, ChangesAt, Numbered}

@@ -18,8 +18,8 @@ use Rattle.hc_exch.specs.declared.row.ExchangeView.{ExchangeView}
 use Rattle.hc_exch.specs.declared.row.Open.{Open}
 use Rattle.hc_exch.specs.Exchanges.{table_of}
 use Rattle.hc_exch.specs.Known.{open_view, view_of}
-use Rattle.hc_model.proofs.FoundBy.{CaseBy, case_by}
-use Rattle.hc_model.proofs.FoundBy as cases
+use Rattle.hc_effects.proofs.FoundBy.{CaseBy, case_by}
+use Rattle.hc_effects.proofs.FoundBy as cases
 use Rattle.hc_state.specs.declared.consumer.Consumer.{Consumer}
 use Rattle.hc_state.specs.declared.rows.Rows.{Rows}
 use Rattle.hc_state.specs.Heads.{aim_in, heard_view, is_bad_case, joins_kept, kept_at}

@@ -25,7 +25,7 @@ use Rattle.hc_model.specs.Holes.{covers}
 use Rattle.hc_model.specs.RepresentationRows.{asks_whole, hole_start, is_last_part, resumes}
 use Rattle.hc_model.specs.Rows as rows
 use Rattle.hc_model.specs.Rows.{Tables, Exchange, Representation}
-use Rattle.hc_model.proofs.HoleLemmas as holes
+use Rattle.hc_effects.proofs.HoleLemmas as holes
 use Rattle.hc_state.specs.declared.consumer.Consumer.{Consumer}
 use Rattle.hc_state.specs.declared.rows.Rows.{Rows}
 use Rattle.hc_state.specs.Facts.{Facts}

@@ -37,9 +37,9 @@ use Rattle.hc_model.specs.Owners as owners
 use Rattle.hc_model.specs.Rows as rows
 use Rattle.hc_model.specs.Rows.{Tables, Exchange, Representation}
 use Rattle.hc_model.specs.Sound.{InHole}
-use Rattle.hc_model.proofs.FoundBy.{CaseBy, case_by}
-use Rattle.hc_model.proofs.FoundBy as cases
-use Rattle.hc_model.proofs.Joining.{IsFilling, filling}
+use Rattle.hc_effects.proofs.FoundBy.{CaseBy, case_by}
+use Rattle.hc_effects.proofs.FoundBy as cases
+use Rattle.hc_effects.proofs.Joining.{IsFilling, filling}
 use Rattle.hc_state.specs.declared.rows.Rows.{Rows}
 use Rattle.hc_state.specs.Facts.{Facts}
 use Rattle.hc_state.specs.Heads.{aim_in}

@@ -40,9 +40,9 @@ use Rattle.hc_model.specs.Owners.{IsAwaiting}
 use Rattle.hc_model.specs.Owners as owners
 use Rattle.hc_model.specs.Rows as rows
 use Rattle.hc_model.specs.Rows.{Tables, Exchange, Representation}
-use Rattle.hc_model.proofs.KeysKeep.{current_row}
-use Rattle.hc_model.proofs.PollKeeps.{current_stays}
-use Rattle.hc_laws.proofs.UpdateEffects.{validated}
+use Rattle.hc_effects.proofs.KeysKeep.{current_row}
+use Rattle.hc_effects.proofs.PollKeeps.{current_stays}
+use Rattle.hc_effects.proofs.UpdateEffects.{validated}
 use Rattle.hc_state.specs.declared.rows.Rows.{Rows}
 use Rattle.hc_state.specs.Arms.{IsInKey}
 use Rattle.hc_state.specs.Facts.{Facts}

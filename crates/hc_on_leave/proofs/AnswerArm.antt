@@ -28,7 +28,7 @@ use Rattle.hc_model.specs.Rows.{Tables, Exchange}
 use Rattle.hc_state.specs.declared.consumer.Consumer.{Consumer}
 use Rattle.hc_state.specs.declared.rows.Rows.{Rows}
 use Rattle.hc_state.specs.Changes.{Numbered, ChangesAt, with_answer}
-use Rattle.hc_model.proofs.ToldNumbers.{EndsEarly}
+use Rattle.hc_effects.proofs.ToldNumbers.{EndsEarly}
 use Rattle.hc_state.specs.Heads.{IsReadAlone, EndsInRange, answered_by, end_of_answer, end_from}
 use Rattle.hc_state.specs.Kept.{IsKept, IsRunning, KeepsConsumer, KeepsExchange, KeepsRunning, answer_for, held_for}
 use Rattle.hc_state.specs.Stands.{RowsStand}

@@ -60,15 +60,15 @@ use Rattle.hc_model.specs.Sound.{Among}
 use Rattle.hc_model.specs.Sound as sound
 use Rattle.hc_model.specs.Tables.{with_item_first}
 use Rattle.hc_model.specs.Weights.{evicted, room_for}
-use Rattle.hc_model.proofs.FoundCases.{founding_writes}
-use Rattle.hc_laws.proofs.FoundDoes.{Founds, whole, part, replaced, founds_does, founds_goes, lost_does, replaces, founder, status_is, total_whole, empty_total, part_wanted, founder_unshown, is_part}
-use Rattle.hc_laws.proofs.FoundEffects.{all_one, room_apart, room_one, current_there}
-use Rattle.hc_model.proofs.FoundOrder.{founded_last, past_last}
-use Rattle.hc_laws.proofs.FoundRoom.{room_same, gives_same}
-use Rattle.hc_model.proofs.KeyActs.{HasRow}
-use Rattle.hc_laws.proofs.LettingGo.{may_let_go, keeps_may, keeps_may_all}
-use Rattle.hc_model.proofs.SameTables.{is_in, waits_for_any, back_from_any, without, all_go_is}
-use Rattle.hc_laws.proofs.WeightsLeft.{all_weigh_less, all_weigh_apart, fits_after, one_gives_way}
+use Rattle.hc_effects.proofs.FoundCases.{founding_writes}
+use Rattle.hc_effects.proofs.FoundDoes.{Founds, whole, part, replaced, founds_does, founds_goes, lost_does, replaces, founder, status_is, total_whole, empty_total, part_wanted, founder_unshown, is_part}
+use Rattle.hc_effects.proofs.FoundEffects.{all_one, room_apart, room_one, current_there}
+use Rattle.hc_effects.proofs.FoundOrder.{founded_last, past_last}
+use Rattle.hc_effects.proofs.FoundRoom.{room_same, gives_same}
+use Rattle.hc_effects.proofs.KeyActs.{HasRow}
+use Rattle.hc_effects.proofs.LettingGo.{may_let_go, keeps_may, keeps_may_all}
+use Rattle.hc_effects.proofs.SameTables.{is_in, waits_for_any, back_from_any, without, all_go_is}
+use Rattle.hc_effects.proofs.WeightsLeft.{all_weigh_less, all_weigh_apart, fits_after, one_gives_way}
 use Rattle.hc_state.specs.declared.consumer.Consumer.{Consumer}
 use Rattle.hc_state.specs.declared.rows.Rows.{Rows}
 use Rattle.hc_state.specs.declared.founded.Founding.{Founding}

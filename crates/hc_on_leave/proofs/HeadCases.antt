@@ -8,8 +8,8 @@ use Rattle.hc_rules.specs.declared.need.Route.{Route}
 use Rattle.hc_rules.specs.declared.need.Route.TheVariants as route
 use Rattle.hc_rules.specs.HeadCases.{head_case, case_on}
 use Rattle.hc_rules.specs.Needs.{route_of}
-use Rattle.hc_model.proofs.FoundBy.{CaseBy, case_by}
-use Rattle.hc_model.proofs.FoundBy as cases
+use Rattle.hc_effects.proofs.FoundBy.{CaseBy, case_by}
+use Rattle.hc_effects.proofs.FoundBy as cases
 
 abbrev turned : Bool → Bool → Bool → Bool → HeadCase → HeadCase
 turned bad asked selects kept rest =

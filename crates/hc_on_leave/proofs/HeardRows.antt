@@ -20,7 +20,7 @@ use Rattle.hc_model.specs.Owners.{IsAwaiting, Awaits}
 use Rattle.hc_model.specs.Owners as owners
 use Rattle.hc_model.specs.Rows as rows
 use Rattle.hc_model.specs.Rows.{Tables, Exchange}
-use Rattle.hc_model.proofs.FirstKeeps.{is_new}
+use Rattle.hc_effects.proofs.FirstKeeps.{is_new}
 use Rattle.hc_state.specs.declared.consumer.Consumer.{Consumer}
 use Rattle.hc_state.specs.declared.rows.Rows.{Rows}
 use Rattle.hc_state.specs.Facts.{Facts}

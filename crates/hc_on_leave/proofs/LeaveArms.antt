@@ -28,9 +28,9 @@ use Rattle.hc_model.specs.Runs.{is_kept}
 use Rattle.hc_model.specs.Tables.{with_item_first}
 use Rattle.hc_model.specs.Writes.{written_representation}
 use Rattle.hc_model.specs.Writers.{exclusive}
-use Rattle.hc_model.proofs.FailsTold.{fails_told}
-use Rattle.hc_laws.proofs.LeaveEffects as effects
-use Rattle.hc_laws.proofs.SealEffects as seal_effects
+use Rattle.hc_effects.proofs.FailsTold.{fails_told}
+use Rattle.hc_effects.proofs.LeaveEffects as effects
+use Rattle.hc_effects.proofs.SealEffects as seal_effects
 use Rattle.hc_state.specs.declared.rows.Rows.{Rows}
 use Rattle.hc_state.specs.Left.{HasLeft, quietly, unsealed}
 use Rattle.hc_state.specs.Stands.{Answered, RowsStand}

@@ -34,10 +34,10 @@ use Rattle.hc_model.specs.Planning.{has_passed}
 use Rattle.hc_model.specs.Rows as rows
 use Rattle.hc_model.specs.Rows.{Tables, Exchange, Representation}
 use Rattle.hc_model.specs.Writers.{status_in}
-use Rattle.hc_model.proofs.CurrentKeeps.{usable_row}
-use Rattle.hc_laws.proofs.IdleNow.{filter_both}
-use Rattle.hc_laws.proofs.LettingGo.{current_let_go, bound_let_go, live_let_go, current_may, let_go_nothing}
-use Rattle.hc_model.proofs.PollKeeps.{find_passes}
+use Rattle.hc_effects.proofs.CurrentKeeps.{usable_row}
+use Rattle.hc_effects.proofs.IdleNow.{filter_both}
+use Rattle.hc_effects.proofs.LettingGo.{current_let_go, bound_let_go, live_let_go, current_may, let_go_nothing}
+use Rattle.hc_effects.proofs.PollKeeps.{find_passes}
 use Rattle.hc_state.specs.declared.consumer.Consumer.{Consumer}
 use Rattle.hc_state.specs.declared.rows.Rows.{Rows}
 use Rattle.hc_state.specs.Changes.{ChangesAmong, over_if_passed}

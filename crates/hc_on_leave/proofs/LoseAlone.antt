@@ -14,8 +14,8 @@ use Rattle.hc_model.specs.Rows.{Tables, Exchange, Representation}
 use Rattle.hc_model.specs.Sound as sound
 use Rattle.hc_model.specs.Sound.{IsBound, IsExclusiveWriter}
 use Rattle.hc_model.specs.Writers.{exclusive}
-use Rattle.hc_laws.proofs.Exclusives.{exclusive_parts}
-use Rattle.hc_model.proofs.HoleLemmas.{covers_yes}
+use Rattle.hc_effects.proofs.Exclusives.{exclusive_parts}
+use Rattle.hc_effects.proofs.HoleLemmas.{covers_yes}
 use Rattle.hc_state.specs.Facts.{Facts}
 use Rattle.hc_state.specs.Kept.{held_alone, unstored_bytes, first_lacking}
 use Rattle.hc_state.specs.Stopped.{HoldsNothing}

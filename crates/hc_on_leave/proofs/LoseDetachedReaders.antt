@@ -30,7 +30,7 @@ use Rattle.hc_model.specs.Reading.{bound, is_bound, is_bound_place, offset, lo_o
 use Rattle.hc_model.specs.Rows as rows
 use Rattle.hc_model.specs.Rows.{Tables, Exchange, Representation}
 use Rattle.hc_model.specs.Writers.{survivor, member, offset_in}
-use Rattle.hc_model.proofs.HoleLemmas.{first_from}
+use Rattle.hc_effects.proofs.HoleLemmas.{first_from}
 use Rattle.hc_state.specs.declared.consumer.Consumer.{Consumer}
 use Rattle.hc_state.specs.declared.rows.Rows.{Rows}
 use Rattle.hc_state.specs.DetachedReaders.{ChangesEach, MayLoseShared, LosesShared, detached_reader_of, after_parting, stands_at}

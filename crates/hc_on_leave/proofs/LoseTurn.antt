@@ -44,14 +44,14 @@ use Rattle.hc_model.specs.Runs.{is_kept}
 use Rattle.hc_model.specs.Sound.{IsGrowing}
 use Rattle.hc_model.specs.Writers.{exclusive, survivor, offset_in}
 use Rattle.hc_model.specs.Writes.{written_representation, head_writes, may_validate, lossless}
-use Rattle.hc_model.proofs.FirstKeeps.{case_is}
-use Rattle.hc_model.proofs.FoundBy.{unchanged_founds}
-use Rattle.hc_model.proofs.KeysKeep.{current_row}
-use Rattle.hc_laws.proofs.LettingGo.{may_let_go}
-use Rattle.hc_model.proofs.ExclusiveWriters.{writer_some}
-use Rattle.hc_model.proofs.PollKeeps.{current_stays}
-use Rattle.hc_laws.proofs.UpdateEffects.{validated_lost}
-use Rattle.hc_laws.proofs.WrittenEffects.{validated_lost_written}
+use Rattle.hc_effects.proofs.FirstKeeps.{case_is}
+use Rattle.hc_effects.proofs.FoundBy.{unchanged_founds}
+use Rattle.hc_effects.proofs.KeysKeep.{current_row}
+use Rattle.hc_effects.proofs.LettingGo.{may_let_go}
+use Rattle.hc_effects.proofs.ExclusiveWriters.{writer_some}
+use Rattle.hc_effects.proofs.PollKeeps.{current_stays}
+use Rattle.hc_effects.proofs.UpdateEffects.{validated_lost}
+use Rattle.hc_effects.proofs.WrittenEffects.{validated_lost_written}
 use Rattle.hc_state.specs.declared.rows.Rows.{Rows}
 use Rattle.hc_state.specs.Facts.{Facts}
 use Rattle.hc_state.specs.Heads.{IsUnread, unless_over}

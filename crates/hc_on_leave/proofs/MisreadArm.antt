@@ -19,7 +19,7 @@ use Rattle.hc_model.specs.Places.{IsAway}
 use Rattle.hc_model.specs.Reading.{is_bound}
 use Rattle.hc_model.specs.Rows.{Tables, Consumer}
 use Rattle.hc_model.specs.Tables.{with_item_first}
-use Rattle.hc_laws.proofs.MisreadEffects.{misreads}
+use Rattle.hc_effects.proofs.MisreadEffects.{misreads}
 use Rattle.hc_state.specs.declared.rows.Rows.{Rows}
 use Rattle.hc_state.specs.Plans.{is_idle_at}
 use Rattle.hc_state.specs.Stands.{Answered, RowsStand}

@@ -27,9 +27,9 @@ use Rattle.hc_model.specs.Rows.{Tables, Exchange, Representation, Consumer}
 use Rattle.hc_model.specs.Sound as sound
 use Rattle.hc_model.specs.Sound.{IsAbout}
 use Rattle.hc_model.specs.Tables.{with_item_first}
-use Rattle.hc_laws.proofs.LettingGo.{may_let_go, keeps_may, let_go_nothing}
-use Rattle.hc_laws.proofs.MisreadEffects.{misreads}
-use Rattle.hc_model.proofs.Stops.{writer_about}
+use Rattle.hc_effects.proofs.LettingGo.{may_let_go, keeps_may, let_go_nothing}
+use Rattle.hc_effects.proofs.MisreadEffects.{misreads}
+use Rattle.hc_effects.proofs.Stops.{writer_about}
 use Rattle.hc_state.specs.declared.rows.Rows.{Rows}
 use Rattle.hc_state.specs.Stands.{Answered, RowsStand, KeepsRest}
 use Rattle.hc_state.proofs.CloseArm.{unawaited_go}

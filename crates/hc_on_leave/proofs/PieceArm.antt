@@ -25,8 +25,8 @@ use Rattle.hc_model.specs.Lawful.{Lawful}
 use Rattle.hc_model.specs.Numbers.{Numbers}
 use Rattle.hc_model.specs.Rows.{Tables, Exchange, Representation}
 use Rattle.hc_model.specs.Weights.{write_in}
-use Rattle.hc_model.proofs.Once.{IsTaken, taken}
-use Rattle.hc_laws.proofs.PieceEffects as does
+use Rattle.hc_effects.proofs.Once.{IsTaken, taken}
+use Rattle.hc_effects.proofs.PieceEffects as does
 use Rattle.hc_state.specs.declared.rows.Rows.{Rows}
 use Rattle.hc_state.specs.Facts.{Facts}
 use Rattle.hc_state.specs.Kept.{IsRunning, KeepsRunning, unread, held_of, held_for}

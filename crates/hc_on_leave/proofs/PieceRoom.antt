@@ -29,10 +29,10 @@ use Rattle.hc_model.specs.Runs.{has_room}
 use Rattle.hc_model.specs.Sound as sound
 use Rattle.hc_model.specs.Weights as weights
 use Rattle.hc_model.specs.Weights.{weight, idle, evicted, room_for, room_by, write_in, stays_bound}
-use Rattle.hc_laws.proofs.IdleNow.{idle_but_gone, bound_is}
-use Rattle.hc_laws.proofs.LettingGo.{may_let_go}
-use Rattle.hc_laws.proofs.PieceEffects as does
-use Rattle.hc_model.proofs.SameTables.{is_in}
+use Rattle.hc_effects.proofs.IdleNow.{idle_but_gone, bound_is}
+use Rattle.hc_effects.proofs.LettingGo.{may_let_go}
+use Rattle.hc_effects.proofs.PieceEffects as does
+use Rattle.hc_effects.proofs.SameTables.{is_in}
 use Rattle.hc_state.specs.Facts.{Facts}
 use Rattle.hc_state.proofs.Words.{same_or, eqb-other, false_true, none_some, then_false}
 

@@ -18,7 +18,7 @@ use Rattle.hc_model.specs.ExchangeRows.{promise_in}
 use Rattle.hc_model.specs.Exchanges.{is_reached}
 use Rattle.hc_model.specs.Rows as rows
 use Rattle.hc_model.specs.Rows.{Tables, Exchange}
-use Rattle.hc_model.proofs.Basics.{same_functions}
+use Rattle.hc_effects.proofs.Basics.{same_functions}
 use Rattle.hc_state.specs.declared.rows.Rows.{Rows}
 use Rattle.hc_state.specs.Changes.{BecomesAt}
 use Rattle.hc_state.specs.Heads.{IsBare, IsUnread, unless_over}

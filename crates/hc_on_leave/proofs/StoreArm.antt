@@ -39,9 +39,9 @@ use Rattle.hc_model.specs.Rows.{Tables, Exchange, Representation}
 use Rattle.hc_model.specs.Runs.{has_room}
 use Rattle.hc_model.specs.Sound as sound
 use Rattle.hc_model.specs.Weights.{room_for}
-use Rattle.hc_model.proofs.HoleLemmas.{none_of}
-use Rattle.hc_model.proofs.Once.{IsTaken, delivers_once}
-use Rattle.hc_model.proofs.SameTables.{is_in, without, all_go_is}
+use Rattle.hc_effects.proofs.HoleLemmas.{none_of}
+use Rattle.hc_effects.proofs.Once.{IsTaken, delivers_once}
+use Rattle.hc_effects.proofs.SameTables.{is_in, without, all_go_is}
 use Rattle.hc_state.specs.declared.rows.Rows.{Rows}
 use Rattle.hc_state.specs.Facts.{Facts}
 use Rattle.hc_state.specs.Pieces.{unless_lost, stored_at, stored_by, larger_view, IsLastKind, PutsPiece}
@@ -66,7 +66,7 @@ use Rattle.hc_event.specs.declared.act.LostKind.{LostKind}
 use Rattle.hc_event.specs.declared.act.LostKind.TheVariants as kinds
 use Rattle.hc_rules.specs.declared.room.Write.{Write}
 use Rattle.hc_model.specs.Runs.{may_lose}
-use Rattle.hc_laws.proofs.WeightsLeft.{fits_after}
+use Rattle.hc_effects.proofs.WeightsLeft.{fits_after}
 use Rattle.hc_state.specs.Refused.{Refuses}
 use Rattle.hc_on_leave.proofs.FoundArm.{bound_without, make_gone}
 use Rattle.hc_state.proofs.ReaderSteps.{stands_read}

@@ -41,10 +41,10 @@ use Rattle.hc_model.specs.Rows.{Tables, Exchange, Representation}
 use Rattle.hc_model.specs.Runs.{has_room}
 use Rattle.hc_model.specs.Sound as sound
 use Rattle.hc_model.specs.Weights.{room_for, evicted}
-use Rattle.hc_model.proofs.HoleLemmas.{covers_all}
-use Rattle.hc_model.proofs.Once.{delivers_once}
-use Rattle.hc_laws.proofs.PieceEffects as does
-use Rattle.hc_model.proofs.SameTables.{is_in, back_from_any, without, all_go_is}
+use Rattle.hc_effects.proofs.HoleLemmas.{covers_all}
+use Rattle.hc_effects.proofs.Once.{delivers_once}
+use Rattle.hc_effects.proofs.PieceEffects as does
+use Rattle.hc_effects.proofs.SameTables.{is_in, back_from_any, without, all_go_is}
 use Rattle.hc_state.proofs.Ties.{overs_open, writer_then}
 use Rattle.hc_state.specs.declared.rows.Rows.{Rows}
 use Rattle.hc_state.specs.Facts.{Facts}

@@ -45,12 +45,12 @@ use Rattle.hc_model.specs.Rows as rows
 use Rattle.hc_model.specs.Rows.{Tables, Exchange}
 use Rattle.hc_model.specs.StartingOver.{awaited_exchange}
 use Rattle.hc_model.specs.Weights.{write_in}
-use Rattle.hc_model.proofs.FirstKeeps.{case_is}
-use Rattle.hc_model.proofs.FoundBy.{CaseBy, case_by}
-use Rattle.hc_model.proofs.FoundBy as cases
-use Rattle.hc_laws.proofs.HeadFacts.{stays_open, undue}
-use Rattle.hc_laws.proofs.HeadEffects as does
-use Rattle.hc_laws.proofs.LettingGo.{may_let_go}
+use Rattle.hc_effects.proofs.FirstKeeps.{case_is}
+use Rattle.hc_effects.proofs.FoundBy.{CaseBy, case_by}
+use Rattle.hc_effects.proofs.FoundBy as cases
+use Rattle.hc_effects.proofs.HeadFacts.{stays_open, undue}
+use Rattle.hc_effects.proofs.HeadEffects as does
+use Rattle.hc_effects.proofs.LettingGo.{may_let_go}
 use Rattle.hc_state.specs.declared.rows.Rows.{Rows}
 use Rattle.hc_state.specs.Changes.{ChangesAt, with_due}
 use Rattle.hc_state.specs.Facts.{Facts}

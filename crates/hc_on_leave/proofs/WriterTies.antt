@@ -21,7 +21,7 @@ use Rattle.hc_model.specs.Rows.{Tables, Representation}
 use Rattle.hc_model.specs.Sound as sound
 use Rattle.hc_model.specs.Sound.{IsFirst, IsBound}
 use Rattle.hc_model.specs.Writers.{exclusive, has_more, lacks_some, came_alone}
-use Rattle.hc_laws.proofs.Exclusives.{exclusive_parts}
+use Rattle.hc_effects.proofs.Exclusives.{exclusive_parts}
 use Rattle.hc_state.specs.declared.consumer.Consumer.{Consumer}
 use Rattle.hc_state.specs.declared.rows.Rows.{Rows}
 use Rattle.hc_state.specs.Facts.{Facts}

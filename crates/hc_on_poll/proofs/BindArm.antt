@@ -31,7 +31,7 @@ use Rattle.hc_model.specs.Moves.{Shows, acts_of, span_to}
 use Rattle.hc_model.specs.Polls.{move_of}
 use Rattle.hc_model.specs.Rows as rows
 use Rattle.hc_model.specs.Rows.{Tables, Exchange, Representation}
-use Rattle.hc_laws.proofs.ShowEffects.{shows_new}
+use Rattle.hc_effects.proofs.ShowEffects.{shows_new}
 use Rattle.hc_state.specs.declared.consumer.Consumer.{Consumer}
 use Rattle.hc_state.specs.declared.rows.Rows.{Rows}
 use Rattle.hc_state.specs.Arms.{IsLeft, LeavesLine}

@@ -32,9 +32,9 @@ use Rattle.hc_model.specs.Polls.{move_of}
 use Rattle.hc_model.specs.Reading.{is_bound_place, lo_of, offset}
 use Rattle.hc_model.specs.Rows as rows
 use Rattle.hc_model.specs.Rows.{Tables, Exchange, Representation}
-use Rattle.hc_laws.proofs.AskEffects.{asks}
-use Rattle.hc_laws.proofs.GiveEffects.{gives_bytes}
-use Rattle.hc_laws.proofs.WaitEffects.{waits_on}
+use Rattle.hc_effects.proofs.AskEffects.{asks}
+use Rattle.hc_effects.proofs.GiveEffects.{gives_bytes}
+use Rattle.hc_effects.proofs.WaitEffects.{waits_on}
 use Rattle.hc_state.specs.declared.consumer.Consumer.{Consumer}
 use Rattle.hc_state.specs.declared.rows.Rows.{Rows}
 use Rattle.hc_state.specs.Arms.{asks_or_waits, asked_in, given_acts}

@@ -26,8 +26,8 @@ use Rattle.hc_model.specs.Rows.{Tables, Exchange, Representation}
 use Rattle.hc_model.specs.Sound.{IsBound}
 use Rattle.hc_model.specs.Sound as sound
 use Rattle.hc_model.specs.Steps.{run_held_for, held_at, stored_ahead, stored_from, next_stored, bound_row, run_of, held_of_lost}
-use Rattle.hc_model.proofs.Basics.{same_functions}
-use Rattle.hc_model.proofs.HoleLemmas.{first_from, first_before, first_passes}
+use Rattle.hc_effects.proofs.Basics.{same_functions}
+use Rattle.hc_effects.proofs.HoleLemmas.{first_from, first_before, first_passes}
 use Rattle.hc_state.specs.declared.consumer.Consumer.{Consumer}
 use Rattle.hc_state.specs.declared.rows.Rows.{Rows}
 use Rattle.hc_state.specs.Facts.{Facts}

@@ -47,7 +47,7 @@ use Rattle.hc_model.specs.Reading.{bound, is_bound, is_written, writing_in}
 use Rattle.hc_model.specs.Rows as rows
 use Rattle.hc_model.specs.Rows.{Tables, Representation}
 use Rattle.hc_model.specs.Writers.{exclusive}
-use Rattle.hc_laws.proofs.Bounded.{range_order}
+use Rattle.hc_effects.proofs.Bounded.{range_order}
 use Rattle.hc_fresh.specs.Ages.{age, age_value, corrected_initial_age}
 use Rattle.hc_fresh.specs.Facts.{head_facts, allowed}
 use Rattle.hc_state.specs.declared.consumer.Consumer.{Consumer}

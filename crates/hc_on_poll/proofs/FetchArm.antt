@@ -34,8 +34,8 @@ use Rattle.hc_model.specs.Moves.{Opens, acts_of}
 use Rattle.hc_model.specs.Polls.{move_of}
 use Rattle.hc_model.specs.Rows as rows
 use Rattle.hc_model.specs.Rows.{Tables, Exchange}
-use Rattle.hc_laws.proofs.LettingGo.{may_let_go}
-use Rattle.hc_laws.proofs.TurnEffects.{fetches, bypasses}
+use Rattle.hc_effects.proofs.LettingGo.{may_let_go}
+use Rattle.hc_effects.proofs.TurnEffects.{fetches, bypasses}
 use Rattle.hc_state.specs.declared.consumer.Consumer.{Consumer}
 use Rattle.hc_state.specs.declared.rows.Rows.{Rows}
 use Rattle.hc_state.specs.Changes.{Numbered, ChangesAt, lined_up, with_turn}

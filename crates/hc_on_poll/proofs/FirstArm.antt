@@ -47,7 +47,7 @@ use Rattle.hc_model.specs.Polls.{move_of}
 use Rattle.hc_model.specs.Reading.{bound_to}
 use Rattle.hc_model.specs.Rows as rows
 use Rattle.hc_model.specs.Rows.{Tables, Exchange, Representation}
-use Rattle.hc_laws.proofs.HoleEffects.{fills_first}
+use Rattle.hc_effects.proofs.HoleEffects.{fills_first}
 use Rattle.hc_state.specs.declared.consumer.Consumer.{Consumer}
 use Rattle.hc_state.specs.declared.rows.Rows.{Rows}
 use Rattle.hc_state.specs.Changes.{Numbered, ChangesAt, BecomesAt, bound_first}

@@ -11,9 +11,9 @@ use Rattle.hc_partial.proofs.HoleLemmas.{absent_from_is, present_from_is, first_
 use Rattle.hc_model.specs.Holes.{first_place, absent_from, covers, hole_at, first_hole}
 use Rattle.hc_model.specs.Planning.{hole_of}
 use Rattle.hc_model.specs.Rows.{Representation}
-use Rattle.hc_model.proofs.Basics.{same_functions}
-use Rattle.hc_model.proofs.HoleLemmas.{first_from, first_to, first_before, first_passes, some_of, not_none, hole_absent, hole_some}
-use Rattle.hc_model.proofs.HolesOpened.{first_hole_is}
+use Rattle.hc_effects.proofs.Basics.{same_functions}
+use Rattle.hc_effects.proofs.HoleLemmas.{first_from, first_to, first_before, first_passes, some_of, not_none, hole_absent, hole_some}
+use Rattle.hc_effects.proofs.HolesOpened.{first_hole_is}
 use Rattle.hc_state.specs.Candidates.{hole_in}
 use Rattle.hc_state.proofs.Words.{none_some}
 

@@ -37,13 +37,13 @@ use Rattle.hc_model.specs.Rows.{Tables, Exchange, Representation}
 use Rattle.hc_model.specs.Sound.{IsBound}
 use Rattle.hc_model.specs.Sound as sound
 use Rattle.hc_model.specs.Steps.{held_of_lost}
-use Rattle.hc_laws.proofs.HoleEffects.{fills_later}
-use Rattle.hc_model.proofs.OpensFrom.{opens_hole}
-use Rattle.hc_model.proofs.ExclusiveWriters.{bound_some}
-use Rattle.hc_model.proofs.PollTree.{OpensHole}
-use Rattle.hc_model.proofs.PollTree as tree
-use Rattle.hc_model.proofs.Said.{IsOpening}
-use Rattle.hc_model.proofs.Said as said
+use Rattle.hc_effects.proofs.HoleEffects.{fills_later}
+use Rattle.hc_effects.proofs.OpensFrom.{opens_hole}
+use Rattle.hc_effects.proofs.ExclusiveWriters.{bound_some}
+use Rattle.hc_effects.proofs.PollTree.{OpensHole}
+use Rattle.hc_effects.proofs.PollTree as tree
+use Rattle.hc_effects.proofs.Said.{IsOpening}
+use Rattle.hc_effects.proofs.Said as said
 use Rattle.hc_state.specs.declared.consumer.Consumer.{Consumer}
 use Rattle.hc_state.specs.declared.rows.Rows.{Rows}
 use Rattle.hc_state.specs.Changes.{ChangesAt, BecomesAt, with_own}

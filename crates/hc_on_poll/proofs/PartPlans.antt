@@ -39,10 +39,10 @@ use Rattle.hc_model.specs.Numbers.{Numbers}
 use Rattle.hc_model.specs.Rows as rows
 use Rattle.hc_model.specs.Rows.{Tables, Representation}
 use Rattle.hc_model.specs.Writers.{came_alone}
-use Rattle.hc_model.proofs.EndsKeep.{wanted_within}
-use Rattle.hc_laws.proofs.WantedSpans.{wanted_some}
-use Rattle.hc_model.proofs.PlanBy.{PlanBy, plan_by}
-use Rattle.hc_model.proofs.PlanBy as plans
+use Rattle.hc_effects.proofs.EndsKeep.{wanted_within}
+use Rattle.hc_effects.proofs.WantedSpans.{wanted_some}
+use Rattle.hc_effects.proofs.PlanBy.{PlanBy, plan_by}
+use Rattle.hc_effects.proofs.PlanBy as plans
 use Rattle.hc_state.specs.declared.consumer.Consumer.{Consumer}
 use Rattle.hc_state.specs.declared.rows.Rows.{Rows}
 use Rattle.hc_state.specs.Arms.{queues}

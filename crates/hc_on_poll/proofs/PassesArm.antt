@@ -28,8 +28,8 @@ use Rattle.hc_model.specs.Polls.{move_of}
 use Rattle.hc_model.specs.Reading.{reads}
 use Rattle.hc_model.specs.Rows as rows
 use Rattle.hc_model.specs.Rows.{Tables}
-use Rattle.hc_laws.proofs.PollEffects.{same_consumer}
-use Rattle.hc_laws.proofs.WaitEffects.{waits}
+use Rattle.hc_effects.proofs.PollEffects.{same_consumer}
+use Rattle.hc_effects.proofs.WaitEffects.{waits}
 use Rattle.hc_state.specs.declared.consumer.Consumer.{Consumer}
 use Rattle.hc_state.specs.declared.rows.Rows.{Rows}
 use Rattle.hc_state.specs.Changes.{ChangesAt, passed_for}

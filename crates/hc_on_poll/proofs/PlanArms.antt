@@ -58,12 +58,12 @@ use Rattle.hc_model.specs.Polls.{move_of}
 use Rattle.hc_model.specs.Reading.{is_bound, is_bound_place}
 use Rattle.hc_model.specs.Rows as rows
 use Rattle.hc_model.specs.Rows.{Tables, Representation}
-use Rattle.hc_model.proofs.Asked.{Asked, AskedBy, plan_asks}
-use Rattle.hc_model.proofs.Joining.{mix}
-use Rattle.hc_model.proofs.PlanBy.{PlanBy, plan_by}
-use Rattle.hc_model.proofs.PlanBy as plans
-use Rattle.hc_model.proofs.TurnMoves.{Does, Queues, does_polled}
-use Rattle.hc_model.proofs.TurnMoves as does
+use Rattle.hc_effects.proofs.Asked.{Asked, AskedBy, plan_asks}
+use Rattle.hc_effects.proofs.Joining.{mix}
+use Rattle.hc_effects.proofs.PlanBy.{PlanBy, plan_by}
+use Rattle.hc_effects.proofs.PlanBy as plans
+use Rattle.hc_effects.proofs.TurnMoves.{Does, Queues, does_polled}
+use Rattle.hc_effects.proofs.TurnMoves as does
 use Rattle.hc_state.specs.declared.consumer.Consumer.{Consumer}
 use Rattle.hc_state.specs.declared.rows.Rows.{Rows}
 use Rattle.hc_state.specs.Arms.{queues, IsQueued}

@@ -42,10 +42,10 @@ use Rattle.hc_model.specs.Rows as rows
 use Rattle.hc_model.specs.Rows.{Tables, Exchange, Representation}
 use Rattle.hc_model.specs.Steps as steps
 use Rattle.hc_model.specs.Steps.{reading, step_move, run_held_for, run_of}
-use Rattle.hc_laws.proofs.AskEffects.{asks}
-use Rattle.hc_laws.proofs.GiveEffects.{gives_bytes}
-use Rattle.hc_laws.proofs.ShowEffects.{shows_reader}
-use Rattle.hc_laws.proofs.WaitEffects.{waits_on}
+use Rattle.hc_effects.proofs.AskEffects.{asks}
+use Rattle.hc_effects.proofs.GiveEffects.{gives_bytes}
+use Rattle.hc_effects.proofs.ShowEffects.{shows_reader}
+use Rattle.hc_effects.proofs.WaitEffects.{waits_on}
 use Rattle.hc_state.specs.declared.consumer.Consumer.{Consumer}
 use Rattle.hc_state.specs.declared.rows.Rows.{Rows}
 use Rattle.hc_state.specs.Arms.{IsShown, IsUnshown, past_view, source_in, most, asks_or_waits, asked_in, given_acts}

@@ -44,7 +44,7 @@ use Rattle.hc_model.specs.Rows.{Tables, Exchange, Representation}
 use Rattle.hc_model.specs.Sound as sound
 use Rattle.hc_model.specs.Sound.{IsToBeShown}
 use Rattle.hc_model.specs.Writers.{status_in, came_alone}
-use Rattle.hc_laws.proofs.ShowEffects.{shows_reader}
+use Rattle.hc_effects.proofs.ShowEffects.{shows_reader}
 use Rattle.hc_state.specs.declared.consumer.Consumer.{Consumer}
 use Rattle.hc_state.specs.declared.rows.Rows.{Rows}
 use Rattle.hc_state.specs.Changes.{ChangesAt, once_shown}

@@ -16,7 +16,7 @@ use Rattle.hc_model.specs.Places.{IsAway}
 use Rattle.hc_model.specs.Planning.{planned_move}
 use Rattle.hc_model.specs.Polls.{move_of}
 use Rattle.hc_model.specs.Rows.{Tables, Consumer}
-use Rattle.hc_laws.proofs.WaitEffects.{waits, waits_on}
+use Rattle.hc_effects.proofs.WaitEffects.{waits, waits_on}
 use Rattle.hc_state.specs.declared.rows.Rows.{Rows}
 use Rattle.hc_state.specs.Plans.{is_idle_at, in_line}
 use Rattle.hc_state.specs.Stands.{Answered, RowsStand}

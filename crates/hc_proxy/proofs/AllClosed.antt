@@ -10,7 +10,7 @@ use Rattle.std.proofs.lemmas.Bool.Decides.{nat_tests}
 use Rattle.hc_peers.specs.Clients.{client_of}
 use Rattle.hc_peers.specs.Upstreams.{upstream_of}
 use Rattle.hc_peers.specs.declared.upstream.Upstream as origin
-use Rattle.hc_model.proofs.Basics.{and_left, and_right}
+use Rattle.hc_effects.proofs.Basics.{and_left, and_right}
 use Rattle.hc_store.specs.declared.backend.Backend.{Ghosts}
 use Rattle.hc_wire.specs.Events.{Stage, IsOpen}
 use Rattle.hc_wire.specs.Logs.{Log, Taker, is_numbered, changed_at, shut}

@@ -13,8 +13,8 @@ use Rattle.hc_peers.specs.Renderings.{rendering, form_behind, is_last, closes}
 use Rattle.hc_peers.specs.declared.reply.Reply.{Reply}
 use Rattle.hc_model.specs.Denials.{is_live}
 use Rattle.hc_model.specs.Rows.{Tables}
-use Rattle.hc_model.proofs.Basics.{or_cases}
-use Rattle.hc_model.proofs.PieceKeeps.{some_inj}
+use Rattle.hc_effects.proofs.Basics.{or_cases}
+use Rattle.hc_effects.proofs.PieceKeeps.{some_inj}
 use Rattle.hc_proxy.specs.Carrying.{answered, answers, carried_out, all_carried_out, acts_in, carried}
 use Rattle.hc_proxy.specs.Invariants.{AreOver, IsHolder, HasConsumers}
 use Rattle.hc_proxy.specs.Rows.{Client, Proxy, with_client}

@@ -11,7 +11,7 @@ use Rattle.std.specs.Ordering.{nat_cmp}
 use Rattle.std.proofs.lemmas.Bool.Decides.{nat_tests}
 use Rattle.std.proofs.lemmas.List.Elements.{Contains-append_right, Contains-append_cases}
 use Rattle.hc_core.specs.Steps.{faults_in}
-use Rattle.hc_model.proofs.PieceKeeps.{eq_cases, some_inj}
+use Rattle.hc_effects.proofs.PieceKeeps.{eq_cases, some_inj}
 use Rattle.hc_peers.specs.Clients.{client_of}
 use Rattle.hc_peers.specs.Clients as clients
 use Rattle.hc_peers.specs.Peers as peers

@@ -16,9 +16,9 @@ use Rattle.hc_model.specs.Flaws.{flaw_in}
 use Rattle.hc_model.specs.Rows.{Exchange}
 use Rattle.hc_model.specs.Runs.{IsOwed}
 use Rattle.hc_model.specs.Tables.{after}
-use Rattle.hc_model.proofs.Basics.{or_cases}
-use Rattle.hc_model.proofs.Owed.{acts_are, is_denial, IsDenied, denied}
-use Rattle.hc_model.proofs.Unclosed.{had_row}
+use Rattle.hc_effects.proofs.Basics.{or_cases}
+use Rattle.hc_effects.proofs.Owed.{acts_are, is_denial, IsDenied, denied}
+use Rattle.hc_effects.proofs.Unclosed.{had_row}
 use Rattle.hc_proxy.specs.Invariants.{AreClosed}
 use Rattle.hc_proxy.specs.Rows.{Proxy}
 use Rattle.hc_proxy.proofs.OpenAfter.{was_open}

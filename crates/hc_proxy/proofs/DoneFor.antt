@@ -13,7 +13,7 @@ use Rattle.hc_event.specs.declared.event.Event.TheVariants as event
 use Rattle.hc_model.specs.Exchanges.{is_open, is_wanted}
 use Rattle.hc_model.specs.Lawful.{Lawful}
 use Rattle.hc_model.specs.Tables.{after, after_accepted, after_denied, opened_after}
-use Rattle.hc_model.proofs.PieceKeeps.{eq_cases}
+use Rattle.hc_effects.proofs.PieceKeeps.{eq_cases}
 use Rattle.hc_peers.specs.Peers.{is_same}
 use Rattle.hc_peers.specs.Upstreams.{upstream_of, is_news, is_touched}
 use Rattle.hc_peers.specs.declared.upstream.Upstream as origin

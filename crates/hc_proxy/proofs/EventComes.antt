@@ -7,7 +7,7 @@ use Rattle.std.specs.List.{list_all}
 use Rattle.std.proofs.lemmas.Bool.Decides.{nat_tests}
 use Rattle.std.proofs.Math.Logic.{∥∥₁_map, ∥∥₁_elim}
 use Rattle.hc_event.specs.declared.event.Event.{Event}
-use Rattle.hc_model.proofs.PieceKeeps.{eq_cases}
+use Rattle.hc_effects.proofs.PieceKeeps.{eq_cases}
 use Rattle.hc_peers.specs.Clients.{client_of}
 use Rattle.hc_peers.specs.declared.client.Client as peer
 use Rattle.hc_store.specs.declared.backend.Backend.{Ghosts}

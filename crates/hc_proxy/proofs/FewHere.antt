@@ -14,9 +14,9 @@ use Rattle.hc_model.specs.Orders.{Descends}
 use Rattle.hc_model.specs.Runs.{IsRun}
 use Rattle.hc_model.specs.Sound.{Among}
 use Rattle.hc_model.specs.Tables.{tables}
-use Rattle.hc_model.proofs.Closed.{among_filter}
-use Rattle.hc_model.proofs.PieceKeeps.{eq_cases}
-use Rattle.hc_laws.proofs.HasBound.{among_passes}
+use Rattle.hc_effects.proofs.Closed.{among_filter}
+use Rattle.hc_effects.proofs.PieceKeeps.{eq_cases}
+use Rattle.hc_effects.proofs.HasBound.{among_passes}
 use Rattle.hc_laws.proofs.OpenRuns.{open_in_runs}
 use Rattle.hc_proxy.specs.Handling.{clients_here, is_client}
 use Rattle.hc_proxy.specs.Invariants.{IsHolder, HasConsumers}

@@ -15,7 +15,7 @@ use Rattle.hc_model.specs.Exchanges.{is_open, is_wanted}
 use Rattle.hc_model.specs.Rows.{Exchange}
 use Rattle.hc_model.specs.Runs.{owed}
 use Rattle.hc_model.specs.Tables.{after}
-use Rattle.hc_model.proofs.PieceKeeps.{eq_cases, some_inj}
+use Rattle.hc_effects.proofs.PieceKeeps.{eq_cases, some_inj}
 use Rattle.hc_msg.specs.declared.message.Look.{Look}
 use Rattle.hc_msg.specs.declared.message.Look.TheVariants as look
 use Rattle.hc_msg.specs.declared.message.WirePart.{WirePart}

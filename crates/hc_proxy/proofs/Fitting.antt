@@ -11,7 +11,7 @@ use Rattle.std.proofs.Math.Seq.{take-length}
 use Rattle.std.proofs.lemmas.List.{reverse-append}
 use Rattle.hc_model.specs.Exchanges.{is_open, is_wanted}
 use Rattle.hc_model.specs.Sound.{Sound}
-use Rattle.hc_model.proofs.Basics.{and_left, and_right}
+use Rattle.hc_effects.proofs.Basics.{and_left, and_right}
 use Rattle.hc_peers.specs.Clients.{client_of}
 use Rattle.hc_peers.specs.Peers.{is_idle, is_over}
 use Rattle.hc_peers.specs.Peers as peers

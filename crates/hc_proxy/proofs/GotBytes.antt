@@ -16,7 +16,7 @@ use Rattle.hc_event.specs.declared.event.Event.TheVariants as event
 use Rattle.hc_model.specs.Rows.{Exchange}
 use Rattle.hc_model.specs.Tables.{after}
 use Rattle.hc_model.specs.Lawful.{Lawful}
-use Rattle.hc_model.proofs.PieceKeeps.{some_inj}
+use Rattle.hc_effects.proofs.PieceKeeps.{some_inj}
 use Rattle.hc_peers.specs.Agreement.{is_at}
 use Rattle.hc_peers.specs.Clients.{client_of}
 use Rattle.hc_peers.specs.Clients as clients

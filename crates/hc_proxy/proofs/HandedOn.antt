@@ -20,7 +20,7 @@ use Rattle.hc_model.specs.Lawful.{Lawful}
 use Rattle.hc_model.specs.Rows.{Tables, Exchange}
 use Rattle.hc_model.specs.Sound.{Among}
 use Rattle.hc_model.specs.Tables.{after}
-use Rattle.hc_model.proofs.PieceKeeps.{some_inj}
+use Rattle.hc_effects.proofs.PieceKeeps.{some_inj}
 use Rattle.hc_msg.specs.declared.message.WirePart.TheVariants as part
 use Rattle.hc_msg.specs.Inputs.{Next, Waits, Tells, Brings, Ends, Fails}
 use Rattle.hc_msg.specs.Reading.{Reading, Done, Failed, Answers}

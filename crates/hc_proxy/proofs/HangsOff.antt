@@ -7,7 +7,7 @@ use Rattle.std.specs.Prelude.{nat_eq, Contains, IsSome}
 use Rattle.std.proofs.lemmas.Bool.Decides.{nat_tests}
 use Rattle.std.proofs.lemmas.List.Elements.{Contains-append_left, Contains-append_right, Contains-append_cases}
 use Rattle.hc_model.specs.Exchanges.{is_open}
-use Rattle.hc_model.proofs.PieceKeeps.{eq_cases, some_inj}
+use Rattle.hc_effects.proofs.PieceKeeps.{eq_cases, some_inj}
 use Rattle.hc_peers.specs.Clients.{client_of}
 use Rattle.hc_peers.specs.Upstreams.{upstream_of}
 use Rattle.hc_peers.specs.declared.client.Client as peer

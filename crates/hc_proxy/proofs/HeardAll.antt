@@ -14,7 +14,7 @@ use Rattle.hc_event.specs.Filters.{asks_in}
 use Rattle.hc_model.specs.Exchanges.{is_open, is_wanted}
 use Rattle.hc_model.specs.Lawful.{Lawful}
 use Rattle.hc_model.specs.Live.{open_now}
-use Rattle.hc_model.proofs.PieceKeeps.{eq_cases}
+use Rattle.hc_effects.proofs.PieceKeeps.{eq_cases}
 use Rattle.hc_rules.specs.declared.room.Limits.{Limits}
 use Rattle.hc_peers.specs.Upstreams.{is_news, news_of}
 use Rattle.hc_peers.specs.declared.upstreams.Upstreams.{Upstreams}

@@ -21,8 +21,8 @@ use Rattle.hc_model.specs.Entries.{Entry}
 use Rattle.hc_model.specs.Lawful.{Lawful}
 use Rattle.hc_model.specs.Runs.{IsOwed}
 use Rattle.hc_model.specs.Tables.{after}
-use Rattle.hc_model.proofs.Basics.{or_left, or_right}
-use Rattle.hc_model.proofs.PieceKeeps.{eq_cases, some_inj}
+use Rattle.hc_effects.proofs.Basics.{or_left, or_right}
+use Rattle.hc_effects.proofs.PieceKeeps.{eq_cases, some_inj}
 use Rattle.hc_proxy.specs.Carrying.{acts_in}
 use Rattle.hc_proxy.specs.Handling.{left, client_sends}
 use Rattle.hc_proxy.specs.Invariants.{IsHolder, HasConsumers}

@@ -14,7 +14,7 @@ use Rattle.hc_model.specs.Entries.{Entry}
 use Rattle.hc_model.specs.Exchanges.{is_open, is_wanted}
 use Rattle.hc_model.specs.Runs.{IsOwed}
 use Rattle.hc_model.specs.Tables.{after}
-use Rattle.hc_model.proofs.Basics.{or_left, or_right}
+use Rattle.hc_effects.proofs.Basics.{or_left, or_right}
 use Rattle.hc_peers.specs.Peers.{is_same}
 use Rattle.hc_peers.specs.Upstreams.{upstream_of, is_news, is_touched}
 use Rattle.hc_peers.specs.declared.upstream.Upstream as origin

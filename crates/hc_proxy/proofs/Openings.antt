@@ -26,8 +26,8 @@ use Rattle.hc_model.specs.Runs.{IsOwed, owed}
 use Rattle.hc_model.specs.Sound.{Sound}
 use Rattle.hc_model.specs.Tables.{after, opened_after}
 use Rattle.hc_model.specs.Weights.{evicted}
-use Rattle.hc_model.proofs.NumbersKeep.{opens_next}
-use Rattle.hc_model.proofs.Owed.{goes, acts_are, is_denial, IsDenied, denied}
+use Rattle.hc_effects.proofs.NumbersKeep.{opens_next}
+use Rattle.hc_effects.proofs.Owed.{goes, acts_are, is_denial, IsDenied, denied}
 use Rattle.hc_wire.specs.Logs.{Called}
 use Rattle.hc_proxy.specs.Carrying.{acts_in, carried}
 use Rattle.hc_proxy.specs.Handling.{begun}

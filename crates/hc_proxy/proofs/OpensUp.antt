@@ -20,7 +20,7 @@ use Rattle.hc_model.specs.Rows.{Tables}
 use Rattle.hc_model.specs.Runs.{IsOwed}
 use Rattle.hc_model.specs.Tables.{after, opened_after}
 use Rattle.hc_model.specs.Weights.{evicted}
-use Rattle.hc_model.proofs.Owed.{acts_are, is_denial, IsDenied, denied}
+use Rattle.hc_effects.proofs.Owed.{acts_are, is_denial, IsDenied, denied}
 use Rattle.hc_proxy.specs.Invariants.{OpensUp}
 use Rattle.hc_proxy.specs.Rows.{Proxy}
 use Rattle.hc_proxy.proofs.Openings.{open_both, evicts_open, closes_open, lost_open}

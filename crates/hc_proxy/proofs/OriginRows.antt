@@ -7,7 +7,7 @@ use Rattle.std.specs.Prelude.{nat_eq, option_map, IsSome, Contains}
 use Rattle.std.proofs.lemmas.Bool.Decides.{nat_tests}
 use Rattle.hc_core.specs.Steps.{bytes_received}
 use Rattle.hc_model.specs.Exchanges.{is_open, is_wanted}
-use Rattle.hc_model.proofs.PieceKeeps.{eq_cases, some_inj}
+use Rattle.hc_effects.proofs.PieceKeeps.{eq_cases, some_inj}
 use Rattle.hc_peers.specs.Clients.{client_of}
 use Rattle.hc_peers.specs.Upstreams.{upstream_of, is_news, is_touched, Becomes}
 use Rattle.hc_peers.specs.declared.upstream.Upstream as origin

@@ -20,8 +20,8 @@ use Rattle.hc_model.specs.Rows.{Tables}
 use Rattle.hc_model.specs.Runs.{IsOwed}
 use Rattle.hc_model.specs.Tables.{after}
 use Rattle.hc_model.specs.WithinLimits.{RequestsAreForTargets}
-use Rattle.hc_model.proofs.Basics.{or_left, or_right}
-use Rattle.hc_model.proofs.Owed.{acts_are, is_denial, IsDenied, denied, denied_opens}
+use Rattle.hc_effects.proofs.Basics.{or_left, or_right}
+use Rattle.hc_effects.proofs.Owed.{acts_are, is_denial, IsDenied, denied, denied_opens}
 use Rattle.hc_proxy.specs.Invariants.{ArePlain, OpensUp}
 use Rattle.hc_proxy.specs.Rows.{Proxy}
 use Rattle.hc_proxy.proofs.ClosedActs.{closes_both}

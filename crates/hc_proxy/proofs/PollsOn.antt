@@ -20,7 +20,7 @@ use Rattle.hc_model.specs.Denials.{is_live}
 use Rattle.hc_model.specs.Entries.{Entry, no_contents}
 use Rattle.hc_model.specs.Runs.{owed}
 use Rattle.hc_model.specs.WithinLimits.{RequestsAreForTargets}
-use Rattle.hc_model.proofs.RunsWithinLimits.{requests_are_for_targets}
+use Rattle.hc_laws.proofs.RunsWithinLimits.{requests_are_for_targets}
 use Rattle.hc_peers.specs.Clients.{client_of, consumers_of}
 use Rattle.hc_peers.specs.Clients as peers
 use Rattle.hc_store.specs.declared.backend.Backend.{Ghosts}

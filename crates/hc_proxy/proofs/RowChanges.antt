@@ -5,7 +5,7 @@
 use Rattle.std.proofs.Common.{◌≡◌, ◌⊎◌, inl, inr, ◌≤◌, ℕ, List, [], ◌∷◌, length, Bool, true, false, Option, Some, None, refl, ap, sym, ◌∙◌, subst, arith}
 use Rattle.std.specs.Prelude.{nat_eq, filter, option_map, if◌then◌else◌, IsSome, Contains}
 use Rattle.std.proofs.lemmas.Bool.Decides.{nat_tests}
-use Rattle.hc_model.proofs.PieceKeeps.{eq_cases}
+use Rattle.hc_effects.proofs.PieceKeeps.{eq_cases}
 use Rattle.hc_peers.specs.Clients.{client_of}
 use Rattle.hc_peers.specs.Clients as clients
 use Rattle.hc_peers.specs.Upstreams.{upstream_of}

@@ -15,7 +15,7 @@ use Rattle.hc_model.specs.Entries.{History, no_contents}
 use Rattle.hc_model.specs.Rows.{Tables}
 use Rattle.hc_model.specs.Runs.{IsRun}
 use Rattle.hc_model.specs.Tables.{tables, after}
-use Rattle.hc_model.proofs.Basics.{and_left, and_right}
+use Rattle.hc_effects.proofs.Basics.{and_left, and_right}
 use Rattle.hc_wire.specs.declared.connection.Standing.{Standing}
 use Rattle.hc_wire.specs.Logs.{Called, Log, Taker, is_at_end, is_numbered}
 use Rattle.hc_proxy.specs.Connections.{connection_of, has_unsent, stands}

@@ -17,7 +17,7 @@ use Rattle.hc_model.specs.Entries.{Entry, no_contents}
 use Rattle.hc_model.specs.Exchanges.{is_open}
 use Rattle.hc_model.specs.Lawful.{Lawful}
 use Rattle.hc_model.specs.Runs.{IsOwed, owed}
-use Rattle.hc_model.proofs.PieceKeeps.{eq_cases}
+use Rattle.hc_effects.proofs.PieceKeeps.{eq_cases}
 use Rattle.hc_msg.specs.Inputs.{Next, Waits, Tells, Brings, Ends, Fails, next_in}
 use Rattle.hc_msg.specs.Reading.{Reading, Failed, Token, Asks, Answers, Byte}
 use Rattle.hc_rules.specs.declared.room.Limits.{Limits}

@@ -17,8 +17,8 @@ use Rattle.hc_model.specs.Rows.{Tables}
 use Rattle.hc_model.specs.Runs.{IsRun, IsOwed, owed}
 use Rattle.hc_model.specs.Sound.{Sound}
 use Rattle.hc_model.specs.Tables.{tables, after, opened_after}
-use Rattle.hc_model.proofs.NumbersKeep.{opens_next}
-use Rattle.hc_model.proofs.Owed.{goes, acts_are}
+use Rattle.hc_effects.proofs.NumbersKeep.{opens_next}
+use Rattle.hc_effects.proofs.Owed.{goes, acts_are}
 use Rattle.hc_model.specs.Flaws.{flaw_in}
 use Rattle.hc_laws.proofs.PlaceRuns.{places_in_runs}
 use Rattle.hc_laws.proofs.ReadWhole.{runs_read_whole}

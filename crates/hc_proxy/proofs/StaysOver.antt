@@ -11,7 +11,7 @@ use Rattle.hc_model.specs.Lawful.{Lawful}
 use Rattle.hc_model.specs.Rows.{Tables, Consumer}
 use Rattle.hc_model.specs.Runs.{IsOwed}
 use Rattle.hc_model.specs.Tables.{after}
-use Rattle.hc_model.proofs.Basics.{or_cases}
+use Rattle.hc_effects.proofs.Basics.{or_cases}
 use Rattle.hc_proxy.specs.Carrying.{acts_in}
 use Rattle.hc_proxy.specs.Rows.{Proxy}
 use Rattle.hc_proxy.specs.Steps.{with_entry}

@@ -18,8 +18,8 @@ use Rattle.hc_model.specs.Rows.{Tables}
 use Rattle.hc_model.specs.Runs.{IsRun, IsOwed, owed}
 use Rattle.hc_model.specs.Tables.{tables, after, after_accepted, after_denied, opened_after, last_start_after, received_in}
 use Rattle.hc_model.specs.WithinLimits.{HasTarget}
-use Rattle.hc_model.proofs.NumbersKeep.{opens_next}
-use Rattle.hc_model.proofs.Owed.{goes, acts_are, denied_opens}
+use Rattle.hc_effects.proofs.NumbersKeep.{opens_next}
+use Rattle.hc_effects.proofs.Owed.{goes, acts_are, denied_opens}
 use Rattle.hc_laws.proofs.Faultless.{faultless_are_owed}
 use Rattle.hc_laws.proofs.LawfulRuns.{lawful_in_runs}
 use Rattle.hc_rules.specs.declared.room.Limits.{Limits}

@@ -25,7 +25,7 @@ use Rattle.hc_driver.proofs.Reported.{ends_so}
 use Rattle.hc_model.specs.Entries.{Contents, History, no_contents}
 use Rattle.hc_model.specs.Runs.{IsRun}
 use Rattle.hc_model.specs.Tables.{tables}
-use Rattle.hc_model.proofs.Basics.{some_none}
+use Rattle.hc_effects.proofs.Basics.{some_none}
 use Rattle.hc_laws.proofs.ReadWhole.{runs_read_whole}
 use Rattle.hc_core.specs.declared.cache.Cache.{Cache}
 use Rattle.hc_core.specs.Steps.{StandsFor, Answers, has_failed, limits_in, faults_in, last_moment}

@@ -23,7 +23,7 @@ use Rattle.hc_model.specs.Rows as rows
 use Rattle.hc_model.specs.Rows.{Tables, Exchange, Representation}
 use Rattle.hc_model.specs.Tables.{with_item_first}
 use Rattle.hc_model.specs.Writers.{exclusive}
-use Rattle.hc_model.proofs.SameTables.{same_tables}
+use Rattle.hc_effects.proofs.SameTables.{same_tables}
 use Rattle.hc_state.specs.declared.rows.Rows.{Rows}
 use Rattle.hc_state.specs.Facts.{Facts}
 use Rattle.hc_state.specs.Left as leaving

@@ -12,9 +12,9 @@ use Rattle.hc_model.specs.Currents.{current}
 use Rattle.hc_model.specs.Holes.{covers}
 use Rattle.hc_model.specs.Lawful.{Lawful}
 use Rattle.hc_model.specs.Rows.{Tables, Representation}
-use Rattle.hc_model.proofs.HoleLemmas as holes
-use Rattle.hc_model.proofs.KeysKeep.{current_row}
-use Rattle.hc_model.proofs.PollKeeps.{current_stays}
+use Rattle.hc_effects.proofs.HoleLemmas as holes
+use Rattle.hc_effects.proofs.KeysKeep.{current_row}
+use Rattle.hc_effects.proofs.PollKeeps.{current_stays}
 use Rattle.hc_state.specs.declared.rows.Rows.{Rows}
 use Rattle.hc_state.specs.Stands.{RowsStand}
 use Rattle.hc_state.specs.Stored.{IsEntry, KeepsEntry, TellsLength, told, untold}

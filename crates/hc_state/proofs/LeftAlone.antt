@@ -18,13 +18,13 @@ use Rattle.hc_model.specs.Rows.{Tables, Exchange, Representation, Consumer}
 use Rattle.hc_model.specs.Sound as sound
 use Rattle.hc_model.specs.Sound.{IsBound, IsAbout, IsHad, IsExclusiveWriter}
 use Rattle.hc_model.specs.Writers.{exclusive, has_more}
-use Rattle.hc_laws.proofs.AboutKeeps.{own_open_of}
-use Rattle.hc_model.proofs.Basics.{number_is}
+use Rattle.hc_effects.proofs.AboutKeeps.{own_open_of}
+use Rattle.hc_effects.proofs.Basics.{number_is}
 use Rattle.hc_event.specs.declared.event.Response.{Response}
-use Rattle.hc_laws.proofs.Exclusives.{exclusive_parts}
-use Rattle.hc_model.proofs.KeyActs.{test_some}
-use Rattle.hc_laws.proofs.LettingGo.{may_let_go}
-use Rattle.hc_model.proofs.Stops.{writer_about}
+use Rattle.hc_effects.proofs.Exclusives.{exclusive_parts}
+use Rattle.hc_effects.proofs.KeyActs.{test_some}
+use Rattle.hc_effects.proofs.LettingGo.{may_let_go}
+use Rattle.hc_effects.proofs.Stops.{writer_about}
 use Rattle.hc_state.specs.Kept.{held_alone}
 use Rattle.hc_state.specs.Stopped.{NobodyAwaits, HoldsNothing, MayStop}
 use Rattle.hc_state.proofs.Words.{same_or, eqb-same, eqb-other, then_false, none_some, false_true, some_is, same_row}

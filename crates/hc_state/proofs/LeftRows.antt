@@ -25,8 +25,8 @@ use Rattle.hc_model.specs.Rows as rows
 use Rattle.hc_model.specs.Rows.{Tables, Exchange, Representation}
 use Rattle.hc_model.specs.Sound as sound
 use Rattle.hc_model.specs.Sound.{Among}
-use Rattle.hc_laws.proofs.OfConsumers.{left_open}
-use Rattle.hc_model.proofs.ExclusiveWriters.{filter_some}
+use Rattle.hc_effects.proofs.OfConsumers.{left_open}
+use Rattle.hc_effects.proofs.ExclusiveWriters.{filter_some}
 use Rattle.hc_state.specs.declared.consumer.Consumer.{Consumer}
 use Rattle.hc_state.specs.declared.rows.Rows.{Rows}
 use Rattle.hc_state.specs.Kept.{IsKept, KeepsConsumer, KeepsRunning}

@@ -6,8 +6,8 @@ use Rattle.hc_fields.specs.FieldList.{IsFieldList, IsWithinLimits, size_of}
 use Rattle.hc_record.specs.Head.{Head, IsHead, one_strong_opaque}
 use Rattle.hc_validate.specs.Heads.{FieldPairs}
 use Rattle.hc_validate.specs.Updates.{is_within_limits, updated_fields}
-use Rattle.hc_model.proofs.Basics.{and_left, and_right}
-use Rattle.hc_model.proofs.FieldsKeep.{values_kept, within_limits_kept}
+use Rattle.hc_effects.proofs.Basics.{and_left, and_right}
+use Rattle.hc_effects.proofs.FieldsKeep.{values_kept, within_limits_kept}
 use Rattle.hc_stored.specs.Kept.{Kept, with_head}
 use Rattle.hc_stored.specs.Shelf.{Shelf, Becomes, Stays, head_at, same_order}
 use Rattle.hc_exch.specs.declared.row.Open.{Open}

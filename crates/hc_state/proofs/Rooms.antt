@@ -26,10 +26,10 @@ use Rattle.hc_model.specs.Orders.{AreOnce}
 use Rattle.hc_model.specs.Reading.{bound}
 use Rattle.hc_model.specs.Rows.{Tables, Representation}
 use Rattle.hc_model.specs.Sound.{Among}
-use Rattle.hc_model.proofs.Basics.{same_functions, number_is}
-use Rattle.hc_laws.proofs.IdleNow.{filter_both}
-use Rattle.hc_laws.proofs.LettingGo.{current_may, keeps_may_all, all_more, idle_after}
-use Rattle.hc_model.proofs.PollKeeps.{current_stays}
+use Rattle.hc_effects.proofs.Basics.{same_functions, number_is}
+use Rattle.hc_effects.proofs.IdleNow.{filter_both}
+use Rattle.hc_effects.proofs.LettingGo.{current_may, keeps_may_all, all_more, idle_after}
+use Rattle.hc_effects.proofs.PollKeeps.{current_stays}
 use Rattle.hc_state.specs.declared.rows.Rows.{Rows}
 use Rattle.hc_state.specs.Room.{HasActs, LeavesActs, room_for_write, GivesWay, Appends}
 use Rattle.hc_state.specs.Stands.{RowsStand}

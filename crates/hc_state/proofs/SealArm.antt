@@ -29,7 +29,7 @@ use Rattle.hc_model.specs.Rows.{Tables, Exchange, Representation}
 use Rattle.hc_model.specs.Reading.{bound}
 use Rattle.hc_model.specs.Writers.{exclusive}
 use Rattle.hc_event.specs.declared.event.Response.{Response}
-use Rattle.hc_model.proofs.HoleLemmas as holes
+use Rattle.hc_effects.proofs.HoleLemmas as holes
 use Rattle.hc_state.proofs.Ties.{overs_closed, writer_then}
 use Rattle.hc_state.specs.declared.rows.Rows.{Rows}
 use Rattle.hc_state.specs.Facts.{Facts}

@@ -7,7 +7,7 @@ use Rattle.hc_stored.specs.declared.view.EntryView.{EntryView}
 use Rattle.hc_model.specs.Holes.{covers}
 use Rattle.hc_model.specs.Kinds.{is_complete, is_front, covers_all}
 use Rattle.hc_model.specs.Rows.{Representation}
-use Rattle.hc_model.proofs.HoleLemmas as holes
+use Rattle.hc_effects.proofs.HoleLemmas as holes
 use Rattle.hc_state.specs.Stops.{IsViewOf}
 
 same_test : (a b : Bool) → (a ≡ true → b ≡ true) → (b ≡ true → a ≡ true) → a ≡ b

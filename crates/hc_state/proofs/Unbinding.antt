@@ -21,7 +21,7 @@ use Rattle.hc_model.specs.Rows as rows
 use Rattle.hc_model.specs.Rows.{Tables, Representation}
 use Rattle.hc_model.specs.Sound.{Among}
 use Rattle.hc_model.specs.Writers.{came_alone}
-use Rattle.hc_model.proofs.ExclusiveWriters.{filter_some}
+use Rattle.hc_effects.proofs.ExclusiveWriters.{filter_some}
 use Rattle.hc_state.specs.Leaving.{IsUserAt, UnbindsAt}
 use Rattle.hc_state.specs.Stored.{IsEntry, TellsLength, told, untold, KeepsEntry, KeepsEntries, is_first}
 use Rattle.hc_state.proofs.LiveCounts as counts

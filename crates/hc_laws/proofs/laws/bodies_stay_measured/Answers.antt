@@ -1,6 +1,6 @@
 -- Bodies stay measured.
-use Rattle.hc_model.proofs.MeasuresBegin.{measures_begin}
-use Rattle.hc_model.proofs.EndsKeep.{measures_kept}
+use Rattle.hc_laws.proofs.MeasuresBegin.{measures_begin}
+use Rattle.hc_effects.proofs.EndsKeep.{measures_kept}
 use Rattle.hc_laws.proofs.laws.bodies_stay_measured.Goals as goal
 
 pub returns-clause-begun : goal.returns-clause-begun

@@ -2,9 +2,9 @@
 use Rattle.hc_laws.proofs.GrowsInRuns.{bodies_grow_in_runs}
 use Rattle.hc_laws.proofs.InRuns.{delivers_in_runs}
 use Rattle.hc_laws.proofs.StoresGrow.{stores_grow_in_runs}
-use Rattle.hc_model.proofs.Once.{delivers_once}
-use Rattle.hc_model.proofs.Stays.{bodies_are_kept}
-use Rattle.hc_model.proofs.EventsKeep.{deliveries_are_kept}
+use Rattle.hc_effects.proofs.Once.{delivers_once}
+use Rattle.hc_effects.proofs.Stays.{bodies_are_kept}
+use Rattle.hc_effects.proofs.EventsKeep.{deliveries_are_kept}
 use Rattle.hc_laws.proofs.laws.deliveries_come_once.Goals as goal
 
 pub returns-clause-once : goal.returns-clause-once

@@ -1,5 +1,5 @@
 -- A denied entry changes nothing that soundness speaks of.
-use Rattle.hc_model.proofs.DeniedKeeps.{denied_sound, denied_owners, denied_measures}
+use Rattle.hc_laws.proofs.DeniedKeeps.{denied_sound, denied_owners, denied_measures}
 use Rattle.hc_laws.proofs.laws.denials_keep_soundness.Goals as goal
 
 pub returns-clause-sound : goal.returns-clause-sound

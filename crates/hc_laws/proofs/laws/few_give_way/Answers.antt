@@ -1,5 +1,5 @@
 -- What is stored fits, and few give way.
-use Rattle.hc_model.proofs.FewGiveWay.{few_give_way}
+use Rattle.hc_effects.proofs.FewGiveWay.{few_give_way}
 use Rattle.hc_laws.proofs.FitsRuns.{fits_in_runs, few_in_runs}
 use Rattle.hc_laws.proofs.laws.few_give_way.Goals as goal
 

@@ -1,5 +1,5 @@
-use Rattle.hc_model.proofs.Begins.{begun_sound}
-use Rattle.hc_model.proofs.Starts.{starts}
+use Rattle.hc_laws.proofs.Begins.{begun_sound}
+use Rattle.hc_laws.proofs.Starts.{starts}
 use Rattle.hc_laws.proofs.laws.stores_begin_sound.Goals as goal
 
 pub returns-clause-sound : goal.returns-clause-sound

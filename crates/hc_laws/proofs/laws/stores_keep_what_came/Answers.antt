@@ -1,4 +1,4 @@
-use Rattle.hc_model.proofs.StoreKeeps.{stores_are_kept}
+use Rattle.hc_laws.proofs.StoreKeeps.{stores_are_kept}
 use Rattle.hc_laws.proofs.laws.stores_keep_what_came.Goals as goal
 
 pub returns : goal.returns

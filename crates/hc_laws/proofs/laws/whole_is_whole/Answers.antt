@@ -1,4 +1,4 @@
-use Rattle.hc_model.proofs.Truthful.{whole_is}
+use Rattle.hc_laws.proofs.Truthful.{whole_is}
 use Rattle.hc_laws.proofs.laws.whole_is_whole.Goals as goal
 
 pub returns : goal.returns

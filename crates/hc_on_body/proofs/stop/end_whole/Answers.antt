@@ -6,7 +6,7 @@ use Rattle.hc_stored.specs.Kept.{itself}
 use Rattle.hc_stored.specs.Views.{bound_in}
 use Rattle.hc_sorted.specs.Sorted.{has}
 use Rattle.hc_model.specs.Exchanges.{promised_bytes}
-use Rattle.hc_laws.proofs.LettingGo.{may_let_go}
+use Rattle.hc_effects.proofs.LettingGo.{may_let_go}
 use Rattle.hc_state.specs.Changes.{ChangesAmong, with_end}
 use Rattle.hc_state.specs.Stopped.{SealedWhole}
 use Rattle.hc_state.proofs.Maps.{merely_true, merely_below}

@@ -4,7 +4,7 @@ use Rattle.std.specs.HashMap.{get}
 use Rattle.hc_event.specs.Acts.{act_list}
 use Rattle.hc_stored.specs.Entries.{shelf_of}
 use Rattle.hc_exch.specs.Exchanges.{table_of}
-use Rattle.hc_laws.proofs.LettingGo.{may_let_go}
+use Rattle.hc_effects.proofs.LettingGo.{may_let_go}
 use Rattle.hc_on_head.proofs.JoinArm.{join_of, gone_joined, past_answered, stands_alone, stands_shared, joins_answered, holds_alone, kept_growing, brings_lost, lost_answered}
 use Rattle.hc_on_head.proofs.JoinTold.{joins_of}
 use Rattle.hc_on_head.proofs.TurnArm.{stands_unrenewed}

@@ -1,7 +1,7 @@
 use Rattle.std.proofs.Common.{refl, ap, sym, ◌∙◌, subst}
 use Rattle.std.specs.Prelude.{option_map}
 use Rattle.hc_exch.specs.Openings.{opened_with}
-use Rattle.hc_model.proofs.ToldNumbers.{length_early}
+use Rattle.hc_effects.proofs.ToldNumbers.{length_early}
 use Rattle.hc_state.specs.Heads.{EndsInRange}
 use Rattle.hc_on_leave.proofs.AnswerArm.{ends_in_range, changes_as_told, stands_answered_as}
 use Rattle.hc_on_head.proofs.unstored.have_answer.Goals as goal

@@ -4,7 +4,7 @@ use Rattle.std.specs.Prelude.{is_some, slice_get}
 use Rattle.std.specs.HashMap.{get}
 use Rattle.hc_record.specs.Head.{Head}
 use Rattle.hc_stored.specs.Entries.{shelf_of}
-use Rattle.hc_model.proofs.PollKeeps.{current_stays}
+use Rattle.hc_effects.proofs.PollKeeps.{current_stays}
 use Rattle.hc_state.specs.Candidates.{AllowedIs}
 use Rattle.hc_state.specs.Kept.{KeepsConsumer}
 use Rattle.hc_state.specs.Plans.{HasCurrent}

@@ -5,7 +5,7 @@ use Rattle.hc_event.specs.declared.event.Event.TheVariants as event
 use Rattle.hc_rules.specs.declared.request.RequestClass.{RequestClass}
 use Rattle.hc_stored.specs.Entries.{shelf_of}
 use Rattle.hc_event.specs.declared.place.Place.TheVariants as place
-use Rattle.hc_laws.proofs.StartEffects.{starts}
+use Rattle.hc_effects.proofs.StartEffects.{starts}
 use Rattle.hc_state.specs.Arms.{IsEntered}
 use Rattle.hc_state.proofs.Answering.{does_answered}
 use Rattle.hc_state.proofs.Maps.{inserted, merely_false}

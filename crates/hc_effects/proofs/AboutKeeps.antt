@@ -1,0 +1,160 @@
+-- The open exchange of who is bound is about what that is bound to.
+use Rattle.std.proofs.Common.{◌≡◌, ◌⊎◌, inl, inr, ℕ, Bool, true, Option, Some, None, refl, ap, sym, ◌∙◌}
+use Rattle.std.specs.Prelude.{if◌then◌else◌, is_some, unwrap_or}
+use Rattle.std.specs.Option.{option_and_then}
+use Rattle.hc_event.specs.declared.event.Event.{Event}
+use Rattle.hc_event.specs.declared.event.Event.TheVariants as event
+use Rattle.hc_event.specs.declared.event.Response.{Response}
+use Rattle.hc_rules.specs.declared.room.Limits.{Limits}
+use Rattle.hc_event.specs.declared.place.Place.TheVariants as place
+use Rattle.hc_event.specs.declared.place.BoundBy.{BoundBy}
+use Rattle.hc_model.specs.ConsumerRows.{consumer_heard}
+use Rattle.hc_model.specs.Denials.{denial}
+use Rattle.hc_model.specs.Entries.{Entry}
+use Rattle.hc_model.specs.Exchanges.{is_open, family}
+use Rattle.hc_model.specs.Flaws.{Flaw}
+use Rattle.hc_model.specs.Keys.{entry_of}
+use Rattle.hc_model.specs.Owners.{Owners, IsAwaiting, Awaits, IsReading}
+use Rattle.hc_model.specs.Owners as owners
+use Rattle.hc_model.specs.Reading.{own_open, if_open}
+use Rattle.hc_model.specs.Rows.{Tables, Exchange, Consumer}
+use Rattle.hc_model.specs.Runs.{may_stand}
+use Rattle.hc_model.specs.Sound.{Sound, IsBound, IsAbout}
+use Rattle.hc_model.specs.Sound as sound
+use Rattle.hc_model.specs.Tables.{after_accepted}
+use Rattle.hc_effects.proofs.Basics.{false_true, none_some}
+use Rattle.hc_effects.proofs.BoundFrom as from
+use Rattle.hc_effects.proofs.ExchangeFrom.{ExchangeFrom, IsSame, IsHeaded, exchange_from}
+use Rattle.hc_effects.proofs.ExchangeFrom as exchange
+use Rattle.hc_effects.proofs.FirstKeeps.{is_new}
+use Rattle.hc_effects.proofs.HeadedAs.{HeadedAs, headed_as, heard_at}
+use Rattle.hc_effects.proofs.HeadedAs as head
+use Rattle.hc_effects.proofs.HoleLemmas.{bool_cases}
+use Rattle.hc_effects.proofs.OpensFrom.{hole_is}
+use Rattle.hc_effects.proofs.OwnFrom.{OwnFrom, IsRow, IsLeft, own_from}
+use Rattle.hc_effects.proofs.OwnFrom as own
+use Rattle.hc_effects.proofs.OwnersKeep.{new_number, one_kept, left_writing}
+use Rattle.hc_effects.proofs.PieceKeeps.{some_inj}
+use Rattle.hc_effects.proofs.ExclusiveWriters.{same_row}
+use Rattle.hc_effects.proofs.ReadingKeeps.{reader_stays, head_some, unpolled, left_body}
+use Rattle.hc_effects.proofs.RepFrom as rep
+use Rattle.hc_effects.proofs.WaitingKeeps.{waiting_kept}
+
+-- an own open exchange
+pub record IsOwn (t : Tables) (k : Consumer) (x : ℕ) : Type 0 where
+  pub own : k.own ≡ Some x
+  pub w : Exchange
+  pub row : t.exchange x ≡ Some w
+  pub opened : w.is_open ≡ true
+
+row_by : (t : Tables) (x : ℕ) (z : Option Exchange) → t.exchange x ≡ z → is_open z ≡ true → (w : Exchange) × (t.exchange x ≡ Some w) × (w.is_open ≡ true)
+row_by t x None row on = absurd (false_true on)
+row_by t x (Some w) row on = (w, row, on)
+
+own_by : (t : Tables) (k : Consumer) (x : ℕ) (z : Option ℕ) → k.own ≡ z → option_and_then (if_open t) z ≡ Some x → IsOwn t k x
+own_by t k x None mine h = absurd (none_some x h)
+own_by t k x (Some y) mine h = elim (bool_cases (is_open (t.exchange y))) [
+  | inr off ↦ absurd (none_some x (rw off at h))
+  | inl on ↦
+      let same : y ≡ x = some_inj y x (rw on at h) in
+      let got = row_by t x (t.exchange x) refl (ap (λ n. is_open (t.exchange n)) (sym same) ∙ on) in
+      record { own = mine ∙ ap Some same; w = got.0; row = got.1; opened = got.2 }
+]
+
+pub own_open_of : (t : Tables) (k : Consumer) (x : ℕ) → own_open t k ≡ Some x → IsOwn t k x
+own_open_of t k x h = own_by t k x k.own refl h
+
+pub own_open_is : (t : Tables) (k : Consumer) (x : ℕ) → IsOwn t k x → own_open t k ≡ Some x
+own_open_is t k x is = ap (option_and_then (if_open t)) is.own ∙ ap (λ (v : Bool). if v then Some x else None) (ap is_open is.row ∙ is.opened)
+
+module _ (limits : Limits) (t : Tables) (now : ℕ) (flaw : Flaw) (s : Sound t) (o : Owners t) (ev : Event) (goes : denial t ev ≡ None) where
+  abbrev e : Entry
+  e = entry_of limits t now ev flaw
+
+  abbrev now_on : Tables
+  now_on = after_accepted t e
+
+  -- where its head hasn't come
+  module _ (c r x lo : ℕ) (hi : Option ℕ) (how : BoundBy) (u : Consumer) (row : now_on.consumer c ≡ Some u) (stands : u.place ≡ place.Bound r lo hi how) (is : IsOwn now_on u x) where
+    asking : (a : Consumer) → a ≡ u → is.w.head ≡ None → IsAwaiting x is.w a.place → IsAbout now_on r x
+    asking a same bare (owners.direct way at) = absurd (let no : place.Direct x ≡ place.Bound r lo hi how = sym at ∙ (ap (λ (q : Consumer). q.place) same ∙ stands) in cc)
+    asking a same bare (owners.turn way at) = absurd (let no : place.Turn x ≡ place.Bound r lo hi how = sym at ∙ (ap (λ (q : Consumer). q.place) same ∙ stands) in cc)
+    asking a same bare (owners.hole q l h g way aim at) =
+        let p = from.place_inj q l h g r lo hi how (sym at ∙ (ap (λ (q : Consumer). q.place) same ∙ stands)) in
+        let hole = hole_is is.w.need way in
+        sound.asks is.w hole.from hole.to is.row is.opened bare hole.is (aim ∙ ap Some p.number)
+
+    by_waiting : is.w.head ≡ None → Awaits now_on x is.w → IsAbout now_on r x
+    by_waiting bare a =
+        let mine : is.w.c ≡ c = one_kept limits t now flaw s o ev goes is.w.c c x a.k u a.row row a.own is.own in
+        asking a.k (same_row (now_on.consumer c) a.k u (sym (ap now_on.consumer mine) ∙ a.row) row) bare a.at
+
+    -- WHERE IT HAS COME
+
+    there : (q : ℕ) → is_some (t.representation q) ≡ true → is_some (now_on.representation q) ≡ true
+    there q is_there = rep.stays t e q (t.representation q) is_there
+
+    module _ (headed : is_some is.w.head ≡ true) where
+      of_family : family x is.w ≡ r → is_some (now_on.representation r) ≡ true → IsAbout now_on r x
+      of_family same is_there = sound.headed is.w is.row is.opened headed same is_there
+
+      still : (w : Exchange) → is.w.joined ≡ w.joined → family x w ≡ r → is_some (t.representation r) ≡ true → IsAbout now_on r x
+      still w joined same is_there = of_family (ap (λ (z : Option ℕ). unwrap_or z x) joined ∙ same) (there r is_there)
+
+      was_about : (w : Exchange) → t.exchange x ≡ Some w → is_some w.head ≡ true → is.w.joined ≡ w.joined → IsAbout t r x → IsAbout now_on r x
+      was_about w is_row had joined (sound.headed q row on some fam is_there) = still w joined (ap (family x) (same_row (t.exchange x) w q is_row row) ∙ fam) is_there
+      was_about w is_row had joined (sound.asks q a z row on bare needs aim) = absurd (false_true (sym (ap (λ (p : Option Response). is_some p) bare) ∙ (ap (λ (p : Exchange). is_some p.head) (same_row (t.exchange x) q w row is_row) ∙ had)))
+
+      by_head : (k : Consumer) (w : Exchange) (response : Response) → ev ≡ event.Head x response → t.exchange x ≡ Some w → HeadedAs limits t now flaw s o ev goes x response w k.place u.place is.w → IsAbout now_on r x
+      by_head k w response here is_row (head.direct at) = absurd (let no : place.Direct x ≡ place.Bound r lo hi how = sym at ∙ stands in cc)
+      by_head k w response here is_row (head.founds l h g at on joined) =
+          let p = from.place_inj x l h g r lo hi how (sym at ∙ stands) in
+          let founded : is_some (now_on.representation x) ≡ true = rep.founds t e x response w (t.representation x) here is_row on in
+          of_family (ap (λ (z : Option ℕ). unwrap_or z x) joined ∙ p.number) (ap (λ n. is_some (now_on.representation n)) (sym p.number) ∙ founded)
+      by_head k w response here is_row (head.joins q l h g was at aim on joined) =
+          let p = from.place_inj q l h g r lo hi how (sym at ∙ stands) in
+          of_family (ap (λ (z : Option ℕ). unwrap_or z x) joined ∙ p.number) (there r (ap (λ n. is_some (t.representation n)) (sym p.number) ∙ s.numbered.names.aims x q w is_row aim))
+
+      kept_about : (k : Consumer) (w : Exchange) → IsRow t e c x k u → k.own ≡ Some x → t.exchange x ≡ Some w → IsSame t e x w is.w → IsAbout now_on r x
+      kept_about k w rows mine is_row same = by_heard same.heard_or
+        where
+          by_heard : ((is.w.head ≡ w.head) × (is.w.joined ≡ w.joined)) ⊎ IsHeaded t e x w is.w → IsAbout now_on r x
+          by_heard (inl all) =
+              let had = head_some limits t now flaw s o ev goes w is.w all.0 headed in
+              let reading = o.reading c x k w rows.row mine is_row (same.was_open is.opened) had in
+              let stays : u.place ≡ k.place = reader_stays limits t now flaw s o ev goes c x k u w is.w rows mine is.own is_row had is.row same is.opened reading in
+              let was : IsBound t r c k = sound.is_bound lo hi how rows.row (sym stays ∙ stands) in
+              was_about w is_row had all.1 (s.writes.own_about r c x k was (own_open_is t k x (record { own = mine; w = w; row = is_row; opened = same.was_open is.opened })))
+          by_heard (inr got) = by_head k w got.response got.at is_row (headed_as limits t now flaw s o ev goes c x k u w is.w got.response got.at rows mine is_row is.row same is.opened)
+
+      left_about : (k : Consumer) → IsRow t e c x k u → (l : IsLeft t e c x (consumer_heard t e c ev k).place) → ExchangeFrom t e x is.w → IsAbout now_on r x
+      left_about k rows l (exchange.new p none opens here made) = absurd (none_some _ (sym none ∙ (left_writing limits t now flaw s o ev goes c x _ l).exchange_row))
+      left_about k rows l (exchange.was w is_row same) =
+          let writing = left_writing limits t now flaw s o ev goes c x _ l in
+          let at : u.place ≡ place.Bound l.r l.lo l.hi l.how = heard_at limits t now flaw s o ev goes c x k u (λ d want polls. unpolled limits t now flaw s o ev goes d want polls (left_body limits t now flaw s o ev goes c x _ l)) rows ∙ l.at in
+          let p = from.place_inj l.r l.lo l.hi l.how r lo hi how (sym at ∙ stands) in
+          let one : writing.w ≡ w = same_row (t.exchange x) writing.w w writing.exchange_row is_row in
+          by_heard writing.headed one (ap (family x) (sym one) ∙ (writing.family_is ∙ p.number)) (ap (λ n. is_some (t.representation n)) (sym p.number) ∙ ap is_some writing.row) same.heard_or
+        where
+          by_heard : {q : Exchange} → is_some q.head ≡ true → q ≡ w → family x w ≡ r → is_some (t.representation r) ≡ true → ((is.w.head ≡ w.head) × (is.w.joined ≡ w.joined)) ⊎ IsHeaded t e x w is.w → IsAbout now_on r x
+          by_heard had one fam is_there (inl all) = still w all.1 fam is_there
+          by_heard had one fam is_there (inr got) =
+              let bare = (is_new limits t now flaw s ev goes x got.response w got.at is_row).bare in
+              absurd (false_true (sym (ap (λ (z : Option Response). is_some z) bare) ∙ (ap (λ (z : Exchange). is_some z.head) (sym one) ∙ had)))
+
+      by_from : ExchangeFrom t e x is.w → OwnFrom t e c x u → IsAbout now_on r x
+      by_from (exchange.was w is_row same) (own.kept k rows mine heard) = kept_about k w rows mine is_row same
+      by_from (exchange.new p none opens here made) (own.kept k rows mine heard) = absurd (false_true (ap is_some (sym none) ∙ o.there c x k rows.row mine))
+      by_from (exchange.was w is_row same) (own.opened k p rows opens here this) = absurd (none_some w (sym (new_number limits t now flaw s o ev goes p x opens this) ∙ is_row))
+      by_from (exchange.new q none opens here made) (own.opened k p rows also mine this) = absurd (false_true (ap (λ (a : Exchange). is_some a.head) made ∙ headed))
+      by_from exchange_is (own.left k rows l) = left_about k rows l exchange_is
+
+    by_test : may_stand limits t e ≡ true → (z : Option Response) → is.w.head ≡ z → IsAbout now_on r x
+    by_test stand None bare = by_waiting bare (waiting_kept limits t now flaw s o ev goes stand x is.w is.row is.opened bare)
+    by_test stand (Some response) some = by_from (ap (λ (z : Option Response). is_some z) some) (exchange_from t e x (t.exchange x) is.w refl is.row) (own_from t e c x (t.consumer c) u refl row is.own)
+
+  -- Whose open exchange it is, and who is bound, is bound to what that is about.
+  pub own_about_kept : may_stand limits t e ≡ true → (r c x : ℕ) (u : Consumer) → IsBound now_on r c u → own_open now_on u ≡ Some x → IsAbout now_on r x
+  own_about_kept stand r c x u (sound.is_bound lo hi how row stands) own =
+      let is = own_open_of now_on u x own in
+      by_test c r x lo hi how u row stands is stand is.w.head refl

@@ -1,0 +1,231 @@
+-- The exchange of a writing that is on is nobody's own.
+use Rattle.std.proofs.Common.{◌≡◌, inl, inr, ℕ, Bool, true, false, Option, Some, None, refl, ap, sym, ◌∙◌, subst, arith}
+use Rattle.std.specs.Prelude.{if◌then◌else◌, is_some, ◌&&◌, ◌||◌, ◌==◌, not, nat_eq}
+use Rattle.std.proofs.lemmas.Bool.Decides.{nat_tests}
+use Rattle.hc_event.specs.declared.event.Event.{Event}
+use Rattle.hc_event.specs.declared.event.Event.TheVariants as event
+use Rattle.hc_event.specs.declared.event.Response.{Response}
+use Rattle.hc_rules.specs.declared.heads.HeadCase.{HeadCase}
+use Rattle.hc_rules.specs.declared.heads.HeadCase.TheVariants as case
+use Rattle.hc_rules.specs.declared.room.Limits.{Limits}
+use Rattle.hc_model.specs.ActFilters.{has_loss, loses_in}
+use Rattle.hc_model.specs.Cases.{case_at, head_view, is_founding, is_joining}
+use Rattle.hc_model.specs.ConsumerRows.{consumer_heard, by_head, becomes_shared, is_resumed}
+use Rattle.hc_model.specs.Currents.{is_number, row_of}
+use Rattle.hc_model.specs.Denials.{denial}
+use Rattle.hc_model.specs.Entries.{Entry}
+use Rattle.hc_model.specs.Exchanges.{family, is_open}
+use Rattle.hc_model.specs.Flaws.{Flaw}
+use Rattle.hc_model.specs.Keys.{entry_of}
+use Rattle.hc_model.specs.Owners.{Owners}
+use Rattle.hc_model.specs.Reading.{is_written, is_open_writer}
+use Rattle.hc_model.specs.RepresentationRows.{resumes, writer_at}
+use Rattle.hc_model.specs.Rows.{Tables, Exchange, Representation, Consumer}
+use Rattle.hc_model.specs.Runs.{may_stand}
+use Rattle.hc_model.specs.Sound.{Sound}
+use Rattle.hc_model.specs.Tables.{after_accepted}
+use Rattle.hc_effects.proofs.Basics.{false_true, and_left, and_right, or_false, not_true, none_some, number_is}
+use Rattle.hc_effects.proofs.ExchangeFrom.{ExchangeFrom, exchange_from}
+use Rattle.hc_effects.proofs.ExchangeFrom as exchange
+use Rattle.hc_effects.proofs.FirstKeeps.{case_of_head, is_new}
+use Rattle.hc_effects.proofs.FoundBy.{CaseBy}
+use Rattle.hc_effects.proofs.FoundBy as cases
+use Rattle.hc_effects.proofs.LossStands.{no_loss}
+use Rattle.hc_effects.proofs.OwnFrom.{OwnFrom, own_from, IsLeft}
+use Rattle.hc_effects.proofs.OwnFrom as own
+use Rattle.hc_effects.proofs.OwnersKeep.{is_opened, left_writing, new_number}
+use Rattle.hc_effects.proofs.PieceKeeps.{eq_cases, some_inj}
+use Rattle.hc_effects.proofs.ExclusiveWriters.{same_row}
+use Rattle.hc_effects.proofs.RepFrom.{RepFrom, rep_from, IsKept, IsResumed}
+use Rattle.hc_effects.proofs.RepFrom as rep
+
+-- a writing that is on
+pub record IsOn (t : Tables) (v : Representation) (x : ℕ) : Type 0 where
+  pub kept : v.is_lost ≡ false
+  pub open_now : is_open (t.exchange x) ≡ true
+
+pub is_on : (t : Tables) (v : Representation) (x : ℕ) → is_written t v ≡ true → v.writer ≡ Some x → IsOn t v x
+unfolding is_written
+is_on t v x on writer = record {
+  kept = not_true v.is_lost (and_left (not v.is_lost) _ on);
+  open_now = sym (ap (is_open_writer t) writer) ∙ and_right (not v.is_lost) _ on;
+}
+
+pub written_by : (t : Tables) (v : Representation) (x : ℕ) → v.is_lost ≡ false → v.writer ≡ Some x → is_open (t.exchange x) ≡ true → is_written t v ≡ true
+unfolding is_written
+written_by t v x kept writer on = both (not v.is_lost) (is_open_writer t v.writer) (ap not kept) (ap (is_open_writer t) writer ∙ on)
+  where
+    both : (a b : Bool) → a ≡ true → b ≡ true → (a && b) ≡ true
+    both a b p q = rw (p, q) refl
+
+module _ (limits : Limits) (t : Tables) (now : ℕ) (flaw : Flaw) (s : Sound t) (o : Owners t) (ev : Event) (goes : denial t ev ≡ None) (stand : may_stand limits t (entry_of limits t now ev flaw) ≡ true) where
+  abbrev e : Entry
+  e = entry_of limits t now ev flaw
+
+  abbrev now_on : Tables
+  now_on = after_accepted t e
+
+  -- an exchange that was there is open only if it was
+  was_open : (x : ℕ) (z : Option Exchange) → is_some (t.exchange x) ≡ true → now_on.exchange x ≡ z → is_open z ≡ true → is_open (t.exchange x) ≡ true
+  was_open x None there at on = absurd (false_true on)
+  was_open x (Some u) there at on = by_from (exchange_from t e x (t.exchange x) u refl at)
+    where
+      by_from : ExchangeFrom t e x u → is_open (t.exchange x) ≡ true
+      by_from (exchange.was w row same) = ap is_open row ∙ same.was_open on
+      by_from (exchange.new p none opens here made) = absurd (false_true (sym (ap (λ (q : Option Exchange). is_some q) none) ∙ there))
+
+  -- A WRITING THAT WAS ON
+
+  pub was_written : (r x : ℕ) (v u : Representation) → IsKept t e r v u → IsOn now_on u x → u.writer ≡ v.writer → u.writer ≡ Some x → (is_written t v ≡ true) × (v.writer ≡ Some x) × (loses_in r e.acts ≡ false)
+  was_written r x v u kept on same writer =
+      let parts = or_false (loses_in r e.acts) v.is_lost (sym kept.lost_is ∙ on.kept) in
+      let writes : v.writer ≡ Some x = sym same ∙ writer in
+      (written_by t v x parts.1 writes (was_open x (now_on.exchange x) (o.writers r x v kept.row writes) refl on.open_now), writes, parts.0)
+
+  from_was : (r c x : ℕ) (v : Representation) (u : Consumer) → t.representation r ≡ Some v → is_written t v ≡ true → v.writer ≡ Some x → loses_in r e.acts ≡ false → OwnFrom t e c x u → ⊥
+  from_was r c x v u row on writer kept (own.kept k is before heard) = o.apart r x c v k row on writer is.row before
+  from_was r c x v u row on writer kept (own.opened k p is opens here this) =
+      none_some_exchange (new_number limits t now flaw s o ev goes p x opens this) (o.writers r x v row writer)
+    where
+      none_some_exchange : t.exchange x ≡ None → is_some (t.exchange x) ≡ true → ⊥
+      none_some_exchange none there = false_true (sym (ap (λ (q : Option Exchange). is_some q) none) ∙ there)
+  from_was r c x v u row on writer kept (own.left k is l) =
+      let a = left_writing limits t now flaw s o ev goes c x _ l in
+      let grows = (s.rows r v row).growing x on writer in
+      let g = grows.1 in
+      let one : a.w ≡ grows.0 = same_row (t.exchange x) a.w grows.0 a.exchange_row g.row in
+      let same : l.r ≡ r = sym a.family_is ∙ (ap (family x) one ∙ g.family_is) in
+      false_true (sym kept ∙ (sym (ap (λ n. loses_in n e.acts) same) ∙ a.loses))
+
+  -- ONE THAT BEGINS WITH A HEAD
+
+  -- at a head nothing is opened, and no writing is left by an exchange without a head
+  own_before : (x c : ℕ) (response : Response) (w : Exchange) (u : Consumer) → ev ≡ event.Head x response → t.exchange x ≡ Some w → w.head ≡ None → OwnFrom t e c x u → (k : Consumer) × (t.consumer c ≡ Some k) × (k.own ≡ Some x) × ((consumer_heard t e c ev k).own ≡ Some x)
+  own_before x c response w u here row bare (own.kept k is before heard) = (k, is.row, before, heard)
+  own_before x c response w u here row bare (own.opened k p is opens mine this) =
+      absurd (let polls = (is_opened limits t now flaw s o ev goes p opens) in let no : event.Head x response ≡ event.Poll p.c polls.want = sym here ∙ polls.at in cc)
+  own_before x c response w u here row bare (own.left k is l) =
+      absurd (
+      let a = left_writing limits t now flaw s o ev goes c x _ l in
+      let one : a.w ≡ w = same_row (t.exchange x) a.w w a.exchange_row row in
+      false_true (sym (ap (λ (q : Option Response). is_some q) (ap (λ (z : Exchange). z.head) one ∙ bare)) ∙ a.headed))
+
+  -- the exchange isn't its consumer's own any more
+  given_up : (x c : ℕ) (response : Response) (w : Exchange) (k : Consumer) (z : Option Exchange) → z ≡ Some w → w.c ≡ c → becomes_shared t e response w (case_at t e) ≡ true → (by_head t e c x response z k).own ≡ None
+  given_up x c response w k None is mine shared = absurd (none_some w is)
+  given_up x c response w k (Some q) is mine shared = elim (eq_cases q.c c) [
+    | inr other ↦ absurd (other.1 (ap (λ (p : Exchange). p.c) (some_inj q w is) ∙ mine))
+    | inl here ↦ rw here.0 (cond_none (becomes_shared t e response q (case_at t e)) k.own (ap (λ (p : Exchange). becomes_shared t e response p (case_at t e)) (some_inj q w is) ∙ shared))
+  ]
+    where
+      cond_none : (b : Bool) (a : Option ℕ) → b ≡ true → (if b then None else a) ≡ None
+      cond_none b a on = rw on refl
+
+  from_head : (x c : ℕ) (response : Response) (w : Exchange) (u : Consumer) → ev ≡ event.Head x response → t.exchange x ≡ Some w → becomes_shared t e response w (case_at t e) ≡ true → OwnFrom t e c x u → ⊥
+  from_head x c response w u here row shared from =
+      let new = is_new limits t now flaw s ev goes x response w here row in
+      let got = own_before x c response w u here row new.bare from in
+      let a = o.waiting x w row new.is_open new.bare in
+      let mine : w.c ≡ c = o.one w.c c x a.k got.0 a.row got.1 a.own got.2 in
+      let none : (consumer_heard t e c ev got.0).own ≡ None = ap (λ v. (consumer_heard t e c v got.0).own) here ∙ given_up x c response w got.0 (t.exchange x) row mine shared in
+      none_some x (sym none ∙ got.3)
+
+  shared_by : (response : Response) (w : Exchange) (g : Option HeadCase) → is_joining g ≡ true → is_resumed t e response w (row_of t w.aim) ≡ true → becomes_shared t e response w g ≡ true
+  shared_by response w None joins resumed = absurd (false_true joins)
+  shared_by response w (Some case.FirstJoins) joins resumed = resumed
+  shared_by response w (Some case.LaterJoins) joins resumed = resumed
+  shared_by response w (Some case.DirectBad) joins resumed = absurd (false_true joins)
+  shared_by response w (Some case.DirectTaken) joins resumed = absurd (false_true joins)
+  shared_by response w (Some case.TurnBad) joins resumed = absurd (false_true joins)
+  shared_by response w (Some case.Validated) joins resumed = absurd (false_true joins)
+  shared_by response w (Some case.NotValidated) joins resumed = absurd (false_true joins)
+  shared_by response w (Some case.TurnServerError) joins resumed = absurd (false_true joins)
+  shared_by response w (Some case.FoundsWhole) joins resumed = absurd (false_true joins)
+  shared_by response w (Some case.FoundsRange) joins resumed = absurd (false_true joins)
+  shared_by response w (Some case.PassesBy) joins resumed = absurd (false_true joins)
+  shared_by response w (Some case.FirstBad) joins resumed = absurd (false_true joins)
+  shared_by response w (Some case.FirstServerError) joins resumed = absurd (false_true joins)
+  shared_by response w (Some case.FirstChanged) joins resumed = absurd (false_true joins)
+  shared_by response w (Some case.FirstReplaced) joins resumed = absurd (false_true joins)
+  shared_by response w (Some case.FirstPassesBy) joins resumed = absurd (false_true joins)
+  shared_by response w (Some case.LaterBad) joins resumed = absurd (false_true joins)
+  shared_by response w (Some case.LaterChanged) joins resumed = absurd (false_true joins)
+
+  -- what is resumed is resumed by a head without a loss
+  loss_none : (x r : ℕ) (response : Response) (w : Exchange) → ev ≡ event.Head x response → t.exchange x ≡ Some w → is_joining (case_at t e) ≡ true → w.aim ≡ Some r → loses_in r e.acts ≡ false → has_loss e.acts ≡ false
+  loss_none x r response w here row joins aim kept =
+      subst (λ v. is_joining (case_at t (entry_of limits t now v flaw)) ≡ true → may_stand limits t (entry_of limits t now v flaw) ≡ true → loses_in r (entry_of limits t now v flaw).acts ≡ false → has_loss (entry_of limits t now v flaw).acts ≡ false) (sym here) (λ joining standing keeping. no_loss limits t now flaw s x response w r row joining aim standing keeping) joins stand kept
+
+  all_resumed : (a l h : Bool) → a ≡ true → l ≡ false → h ≡ false → (a && not (l || h)) ≡ true
+  all_resumed a l h p q z = rw (p, q, z) refl
+
+  from_resumed : (r c : ℕ) (v : Representation) (z : Option ℕ) (u : Consumer) → t.representation r ≡ Some v → (R : IsResumed t e r v z) → OwnFrom t e c R.x u → ⊥
+  from_resumed r c v z u row R from =
+      let renews = R.renews in
+      let kept = or_false v.is_lost (loses_in r e.acts) (not_true (v.is_lost || loses_in r e.acts) (and_right _ _ renews)) in
+      let aim : R.w.aim ≡ Some r = number_is R.w.aim r (and_right _ (is_number R.w.aim r) (and_left _ _ renews)) in
+      let none = loss_none R.x r R.response R.w R.at R.row R.joins aim kept.1 in
+      let resumed : is_resumed t e R.response R.w (row_of t R.w.aim) ≡ true = ap (is_resumed t e R.response R.w) (ap (row_of t) aim ∙ row) ∙ all_resumed (resumes t R.response R.w v) v.is_lost (has_loss e.acts) R.resumed kept.0 none in
+      from_head R.x c R.response R.w u R.at R.row (shared_by R.response R.w (case_at t e) R.joins resumed) from
+
+  -- A FOUNDED ONE
+
+  whole_status : (r x : ℕ) (response : Response) → writer_at r response ≡ Some x → (response.status == 206) ≡ false
+  whole_status r x response is = by_test (response.status == 206) is
+    where
+      by_test : (b : Bool) → (if b then None else Some r) ≡ Some x → b ≡ false
+      by_test true h = absurd (none_some x h)
+      by_test false h = refl
+
+  range_206 : (lost : Bool) (w : Exchange) (response : Response) → CaseBy (head_view t lost w response) case.FoundsRange → response.status ≡ 206
+  range_206 lost w response (cases.founds_range way status fits kept good) = status
+
+  pub founded_shared : (r x : ℕ) (response : Response) (w : Exchange) (g : Option HeadCase) → ev ≡ event.Head r response → t.exchange r ≡ Some w → case_at t e ≡ g → is_founding g ≡ true → writer_at r response ≡ Some x → becomes_shared t e response w g ≡ true
+  founded_shared r x response w None here row is on writer = absurd (false_true on)
+  founded_shared r x response w (Some case.FoundsWhole) here row is on writer = refl
+  founded_shared r x response w (Some case.FirstReplaced) here row is on writer = refl
+  founded_shared r x response w (Some case.FoundsRange) here row is on writer =
+      absurd (
+      let status : response.status ≡ 206 = range_206 (has_loss e.acts) w response (case_of_head t e r response w case.FoundsRange here row is) in
+      let test : nat_eq response.status 206 ≡ false = whole_status r x response writer in
+      let other : nat_eq response.status 206 ≡ true = grind (arith, nat_tests) in
+      false_true (sym test ∙ other))
+  founded_shared r x response w (Some case.DirectBad) here row is on writer = absurd (false_true on)
+  founded_shared r x response w (Some case.DirectTaken) here row is on writer = absurd (false_true on)
+  founded_shared r x response w (Some case.TurnBad) here row is on writer = absurd (false_true on)
+  founded_shared r x response w (Some case.Validated) here row is on writer = absurd (false_true on)
+  founded_shared r x response w (Some case.NotValidated) here row is on writer = absurd (false_true on)
+  founded_shared r x response w (Some case.TurnServerError) here row is on writer = absurd (false_true on)
+  founded_shared r x response w (Some case.PassesBy) here row is on writer = absurd (false_true on)
+  founded_shared r x response w (Some case.FirstBad) here row is on writer = absurd (false_true on)
+  founded_shared r x response w (Some case.FirstJoins) here row is on writer = absurd (false_true on)
+  founded_shared r x response w (Some case.FirstServerError) here row is on writer = absurd (false_true on)
+  founded_shared r x response w (Some case.FirstChanged) here row is on writer = absurd (false_true on)
+  founded_shared r x response w (Some case.FirstPassesBy) here row is on writer = absurd (false_true on)
+  founded_shared r x response w (Some case.LaterBad) here row is on writer = absurd (false_true on)
+  founded_shared r x response w (Some case.LaterJoins) here row is on writer = absurd (false_true on)
+  founded_shared r x response w (Some case.LaterChanged) here row is on writer = absurd (false_true on)
+
+  pub writer_is : (r x : ℕ) (response : Response) → writer_at r response ≡ Some x → r ≡ x
+  writer_is r x response is = by_test (response.status == 206) is
+    where
+      by_test : (b : Bool) → (if b then None else Some r) ≡ Some x → r ≡ x
+      by_test true h = absurd (none_some x h)
+      by_test false h = some_inj r x h
+
+  apart_from : (r x c : ℕ) (v : Representation) (u : Consumer) → RepFrom t e r v → IsOn now_on v x → v.writer ≡ Some x → OwnFrom t e c x u → ⊥
+  apart_from r x c v u (rep.was q kept) on writer from = elim kept.writer_is [
+    | inl same ↦ let all = was_written r x q v kept on same writer in from_was r c x q u kept.row all.0 all.1 all.2 from
+    | inr R ↦
+        let one : x ≡ R.x = some_inj x R.x (sym writer ∙ R.writer_is) in
+        from_resumed r c q v.writer u kept.row R (subst (λ n. OwnFrom t e c n u) one from)
+  ]
+  apart_from r x c v u (rep.founded response w none at row founding made) on writer from =
+      let writes : writer_at r response ≡ Some x = ap (λ (z : Representation). z.writer) made ∙ writer in
+      let one : x ≡ r = sym (writer_is r x response writes) in
+      from_head r c response w u at row (founded_shared r x response w (case_at t e) at row refl founding writes) (subst (λ n. OwnFrom t e c n u) one from)
+
+  -- The exchange of a writing that is on is nobody's own.
+  pub apart_kept : (r x c : ℕ) (v : Representation) (u : Consumer) → now_on.representation r ≡ Some v → is_written now_on v ≡ true → v.writer ≡ Some x → now_on.consumer c ≡ Some u → u.own ≡ Some x → ⊥
+  apart_kept r x c v u row on writer also is =
+      apart_from r x c v u (rep_from t e r (t.representation r) v refl row) (is_on now_on v x on writer) writer (own_from t e c x (t.consumer c) u refl also is)

@@ -1,0 +1,355 @@
+-- Where a reader stands is within where it stops reading, and no exchange brings more than it promised.
+use Rattle.std.proofs.Common.{◌≡◌, ◌⊎◌, inl, inr, ℕ, ◌+◌, ◌-◌, ◌<◌, ◌≤◌, List, [], ◌∷◌, length, Bool, true, false, Option, Some, None, refl, ap, sym, ◌∙◌, subst, arith, length-append}
+use Rattle.std.specs.Str.{str_to_ascii_lowercase}
+use Rattle.std.specs.Prelude.{bytes_eq, codes, take, drop, IfSome, nat_lt, nat_le, min, unwrap_or, ◌||◌, ◌&&◌, if◌then◌else◌}
+use Rattle.std.specs.Option.{option_map}
+use Rattle.std.proofs.lemmas.Bool.Decides.{nat_tests}
+use Rattle.hc_range.specs.Spans.{resolved_span, IsInOrder}
+use Rattle.hc_range.specs.declared.range.Asked.{Asked}
+use Rattle.hc_range.specs.declared.range.Asked.TheVariants.{From, FromTo, Last}
+use Rattle.hc_range.specs.declared.range.Span.{Span}
+use Rattle.hc_event.specs.Filters.{opening_in, given_in, shows_in}
+use Rattle.hc_event.specs.declared.event.Event.{Event}
+use Rattle.hc_event.specs.declared.event.Event.TheVariants as event
+use Rattle.hc_event.specs.declared.event.Request.{Request}
+use Rattle.hc_event.specs.declared.event.Response.{Response}
+use Rattle.hc_rules.specs.declared.heads.HeadCase.{HeadCase}
+use Rattle.hc_rules.specs.declared.request.Wanted.TheVariants as wanted
+use Rattle.hc_rules.specs.declared.room.Limits.{Limits}
+use Rattle.hc_rules.specs.RangeTexts.{asked_in, spec_in, positions_from, positions_by, from_to, number_of, split_at, hyphen}
+use Rattle.hc_rules.specs.Refusals as refusals
+use Rattle.hc_rules.specs.Refusals.{overlong, piece_refusal}
+use Rattle.hc_rules.specs.Requests.{range_of, ranges_read, ranges_in, wanted_of, wanted_part, is_disabled}
+use Rattle.hc_event.specs.declared.place.BoundBy.{BoundBy}
+use Rattle.hc_event.specs.declared.place.Place.TheVariants as place
+use Rattle.hc_model.specs.ActFilters.{Showing, showing_in}
+use Rattle.hc_model.specs.Cases.{case_at}
+use Rattle.hc_model.specs.ConsumerRows.{consumer_heard, consumer_acted, consumer_made, consumer_after, by_opening, waiting}
+use Rattle.hc_model.specs.Denials.{denial, as_open}
+use Rattle.hc_model.specs.Entries.{Entry, Contents}
+use Rattle.hc_model.specs.Exchanges.{promised_bytes}
+use Rattle.hc_rules.specs.Lengths.{promise_of}
+use Rattle.hc_model.specs.Flaws.{Flaw}
+use Rattle.hc_model.specs.Keys.{entry_of}
+use Rattle.hc_model.specs.Moves.{Gives}
+use Rattle.hc_model.specs.Owners.{Owners}
+use Rattle.hc_model.specs.Polls.{move_of}
+use Rattle.hc_model.specs.Reading.{reads, lo_of, hi_of}
+use Rattle.hc_model.specs.Rows.{Tables, Exchange, Consumer}
+use Rattle.hc_model.specs.Sound.{Sound}
+use Rattle.hc_model.specs.StartingOver.{starts_over}
+use Rattle.hc_model.specs.Tables.{first_tables, after_accepted, after_denied}
+use Rattle.hc_effects.proofs.Basics.{false_true, none_some}
+use Rattle.hc_effects.proofs.BoundFrom.{BoundFrom, IsRow, IsFounded, IsInterval, IsShown, bound_from}
+use Rattle.hc_effects.proofs.BoundFrom as from
+use Rattle.hc_effects.proofs.BoundKeeps.{shown_place_is}
+use Rattle.hc_effects.proofs.ConsumerFilters.{acted, given_by}
+use Rattle.hc_effects.proofs.ExchangeFrom.{ExchangeFrom, IsSame, IsHeaded, exchange_from}
+use Rattle.hc_effects.proofs.ExchangeFrom as exchange
+use Rattle.hc_effects.proofs.Fills.{Brings, brings, length_same}
+use Rattle.hc_effects.proofs.Fills as fills_by
+use Rattle.hc_effects.proofs.FirstKeeps.{is_new}
+use Rattle.hc_effects.proofs.Forward.{is_kept}
+use Rattle.hc_effects.proofs.GivenNext.{given_next}
+use Rattle.hc_effects.proofs.Givers.{gives_of, some_want}
+use Rattle.hc_effects.proofs.MoveBy.{move_by}
+use Rattle.hc_effects.proofs.Once.{taken}
+use Rattle.hc_effects.proofs.PieceKeeps.{eq_cases, some_inj}
+use Rattle.hc_effects.proofs.ExclusiveWriters.{same_row}
+use Rattle.hc_effects.proofs.PollActs.{ToOne, to_one}
+use Rattle.hc_effects.proofs.PollActs as acts_to
+use Rattle.hc_effects.proofs.Said.{IsShowing, showing_by}
+use Rattle.hc_effects.proofs.ShownFrom.{ShownAs, shown_from}
+use Rattle.hc_effects.proofs.ShownFrom as shown_as
+use Rattle.hc_effects.proofs.ShownOnce as shown_once
+use Rattle.hc_effects.proofs.ShownStays.{IsFallback, StaysOrIdle, shown_stays}
+use Rattle.hc_effects.proofs.ShownStays as stands
+use Rattle.hc_effects.proofs.TurnPlaces.{is_after}
+
+-- INTERVALS
+
+from_order : (a b : Option ℕ) (asked : Asked) → from_to a b ≡ Some asked → IsInOrder asked
+from_order None b asked is = absurd (none_some asked is)
+from_order (Some first) None asked is = absurd (none_some asked is)
+from_order (Some first) (Some last) asked is = elim (Rattle.hc_effects.proofs.HoleLemmas.bool_cases (nat_le first last)) [
+  | inl on ↦ let le : first ≤ last = grind (arith, nat_tests) in subst IsInOrder (some_inj (FromTo first last) asked (rw on at is)) le
+  | inr off ↦ absurd (none_some asked (rw off at is))
+]
+
+map_order : (o : Option ℕ) (f : ℕ → Asked) (asked : Asked) → ((n : ℕ) → IsInOrder (f n)) → option_map f o ≡ Some asked → IsInOrder asked
+map_order None f asked all is = absurd (none_some asked is)
+map_order (Some n) f asked all is = subst IsInOrder (some_inj (f n) asked is) (all n)
+
+positions_order : (first last : List ℕ) (asked : Asked) → positions_by first last ≡ Some asked → IsInOrder asked
+positions_order [] last asked is = map_order (number_of last) Last asked (λ n. tt) is
+positions_order (b ∷ first) [] asked is = map_order (number_of (b ∷ first)) From asked (λ n. tt) is
+positions_order (b ∷ first) (d ∷ last) asked is = from_order (number_of (b ∷ first)) (number_of (d ∷ last)) asked is
+
+split_order : (o : Option (List ℕ × List ℕ)) (asked : Asked) → positions_from o ≡ Some asked → IsInOrder asked
+split_order None asked is = absurd (none_some asked is)
+split_order (Some (first, last)) asked is = positions_order first last asked is
+
+if_order : (b : Bool) (o : Option Asked) (asked : Asked) → ((z : Asked) → o ≡ Some z → IsInOrder z) → (if b then o else None) ≡ Some asked → IsInOrder asked
+if_order true o asked all is = all asked is
+if_order false o asked all is = absurd (none_some asked is)
+
+asked_order : (text : List ℕ) (asked : Asked) → asked_in text ≡ Some asked → IsInOrder asked
+unfolding asked_in
+asked_order text asked is =
+    if_order (bytes_eq (str_to_ascii_lowercase (take 6 text)) (codes "bytes=")) (spec_in (drop 6 text)) asked (λ z it. split_order (split_at hyphen (drop 6 text)) z it) is
+
+values_order : (values : List (List ℕ)) (asked : Asked) → unwrap_or (ranges_read values) None ≡ Some asked → IsInOrder asked
+values_order [] asked is = absurd (none_some asked is)
+values_order (value ∷ []) asked is = by_read (asked_in value) refl is
+  where
+    by_read : (o : Option Asked) → asked_in value ≡ o → unwrap_or (option_map Some o) None ≡ Some asked → IsInOrder asked
+    by_read None read h = absurd (none_some asked h)
+    by_read (Some z) read h = asked_order value asked (read ∙ h)
+values_order (value ∷ other ∷ values) asked is = absurd (none_some asked is)
+
+-- a range that is read is in order
+pub range_order : (request : Request) (asked : Asked) → range_of request ≡ Some asked → IsInOrder asked
+unfolding range_of
+range_order request asked is = by_test (is_disabled request) is
+  where
+    by_test : (b : Bool) → (if b then None else unwrap_or (ranges_read (ranges_in request.fields)) None) ≡ Some asked → IsInOrder asked
+    by_test true h = absurd (none_some asked h)
+    by_test false h = values_order (ranges_in request.fields) asked h
+
+span_if : (b : Bool) (x span : Span) → (b ≡ true → x.lo ≤ x.hi) → (if b then Some x else None) ≡ Some span → span.lo ≤ span.hi
+span_if false x span proper is = absurd (none_some span is)
+span_if true x span proper is = subst (λ (z : Span). z.lo ≤ z.hi) (some_inj x span is) (proper refl)
+
+resolved_proper : (asked : Asked) (total : ℕ) (span : Span) → IsInOrder asked → resolved_span asked total ≡ Some span → span.lo ≤ span.hi
+resolved_proper (From first) total span order is = span_if (nat_lt first total) (record { lo = first; hi = total }) span (λ h. let lt : first < total = grind (arith, nat_tests) in omega arith) is
+resolved_proper (FromTo first last) total span order is = span_if (nat_lt first total) (record { lo = first; hi = min (last + 1) total }) span (λ h. let lt : first < total = grind (arith, nat_tests) in by_numbers first last total order lt) is
+  where
+    by_numbers : (a b n : ℕ) → a ≤ b → a < n → a ≤ min (b + 1) n
+    by_numbers a b n p q = omega arith
+resolved_proper (Last n) total span order is = span_if (nat_lt 0 n && nat_lt 0 total) (record { lo = total - n; hi = total }) span (λ h. omega arith) is
+
+part_proper : (o : Option Span) (span : Span) → ((z : Span) → o ≡ Some z → z.lo ≤ z.hi) → wanted_part o ≡ wanted.Interval span → span.lo ≤ span.hi
+part_proper None span proper is = absurd (let no : wanted.Unsatisfiable ≡ wanted.Interval span = is in cc)
+part_proper (Some z) span proper is = let same : z ≡ span = cc in subst (λ (q : Span). q.lo ≤ q.hi) same (proper z refl)
+
+whole_span : (n : ℕ) (span : Span) → wanted.Interval (record { lo = 0; hi = n }) ≡ wanted.Interval span → span.lo ≤ span.hi
+whole_span n span is = let same : record { lo = 0; hi = n } ≡ span = cc in subst (λ (q : Span). q.lo ≤ q.hi) same (omega arith)
+
+pub wanted_proper : (range : Option Asked) (o : Option ℕ) (span : Span) → ((asked : Asked) → range ≡ Some asked → IsInOrder asked) → wanted_of range o ≡ wanted.Interval span → span.lo ≤ span.hi
+wanted_proper range None span order is = absurd (let no : wanted.TotalUnknown ≡ wanted.Interval span = is in cc)
+wanted_proper None (Some n) span order is = whole_span n span is
+wanted_proper (Some asked) (Some n) span order is = part_proper (resolved_span asked n) span (λ z found. resolved_proper asked n z (order asked refl) found) is
+
+interval_proper : (request : Request) (o : Option ℕ) (lo hi : ℕ) → IsInterval (wanted_of (range_of request) o) lo (Some hi) → lo ≤ hi
+interval_proper request o lo hi i =
+    let le : i.span.lo ≤ i.span.hi = wanted_proper (range_of request) o i.span (range_order request) i.wanted_is in
+    let first : i.span.lo ≡ lo = i.from in
+    let last : i.span.hi ≡ hi = some_inj i.span.hi hi i.to in
+    omega arith
+
+-- IT IS BOUNDED
+
+pub record IsBounded (t : Tables) : Type 0 where
+  pub proper : (c r lo hi : ℕ) (how : BoundBy) (k : Consumer) → t.consumer c ≡ Some k → k.place ≡ place.Bound r lo (Some hi) how → lo ≤ hi
+  pub first : (c r lo : ℕ) (how : BoundBy) (k : Consumer) → t.consumer c ≡ Some k → k.place ≡ place.Bound r lo None how → lo ≡ 0
+  pub fresh : (c : ℕ) (k : Consumer) → t.consumer c ≡ Some k → k.shown ≡ false → k.given ≡ 0
+  pub within : (c r lo hi : ℕ) (how : BoundBy) (k : Consumer) → t.consumer c ≡ Some k → k.place ≡ place.Bound r lo (Some hi) how → lo + k.given ≤ hi
+  pub promise : (x p : ℕ) (w : Exchange) → t.exchange x ≡ Some w → promised_bytes w ≡ Some p → length w.body ≤ p
+
+made_given : (c now : ℕ) (ev : Event) (u : Consumer) → consumer_made c now ev ≡ Some u → u.given ≡ 0
+made_given c now (event.Start d request) u h = elim (eq_cases d c) [
+  | inl here ↦ sym (ap (λ (z : Consumer). z.given) (some_inj _ u (rw here.0 at h)))
+  | inr off ↦ absurd (none_some u (rw off.0 at h))
+]
+made_given c now (event.Poll d want) u h = absurd (none_some u h)
+made_given c now (event.Head x response) u h = absurd (none_some u h)
+made_given c now (event.Piece x bytes) u h = absurd (none_some u h)
+made_given c now (event.End x) u h = absurd (none_some u h)
+made_given c now (event.Fault x) u h = absurd (none_some u h)
+made_given c now (event.Cancel d) u h = absurd (none_some u h)
+made_given c now (event.Doom key) u h = absurd (none_some u h)
+
+new_given : (t : Tables) (e : Entry) (c : ℕ) (q : Option Consumer) (u : Consumer) → q ≡ None → consumer_after t e c q ≡ Some u → u.given ≡ 0
+unfolding consumer_after
+new_given t e c None u none h = made_given c e.now e.event u h
+new_given t e c (Some k) u none h = absurd (let no : Some k ≡ None = none in cc)
+
+or_false : (a b : Bool) → (a || b) ≡ false → b ≡ false
+or_false false b h = h
+or_false true b h = absurd (false_true (sym h))
+
+module _ (limits : Limits) (t : Tables) (now : ℕ) (flaw : Flaw) (s : Sound t) (o : Owners t) (ev : Event) (goes : denial t ev ≡ None) where
+  abbrev e : Entry
+  e = entry_of limits t now ev flaw
+
+  abbrev now_on : Tables
+  now_on = after_accepted t e
+
+  -- WHERE IT READS
+
+  module _ (c r lo : ℕ) (hi : Option ℕ) (how : BoundBy) (u : Consumer) where
+    abbrev came : Type 0
+    came = BoundFrom t e c r lo hi how u
+
+    shown_plan : (k : Consumer) (z : Showing) → IsRow t e c r lo hi how k u → showing_in e.acts ≡ Some z → IsShown t e c r lo hi how z (by_opening t c (opening_in e.acts) (waiting t e c (consumer_heard t e c ev k))).place → ShownAs t now z.c k z.r z.lo z.hi
+    shown_plan k z row is all =
+        let shows = showing_by limits t now flaw s ev goes z is in
+        let placed : (by_opening t c (opening_in e.acts) (waiting t e c (consumer_heard t e c ev k))).place ≡ k.place = subst (λ d. (by_opening t d (opening_in e.acts) (waiting t e d (consumer_heard t e d ev k))).place ≡ k.place) all.at (shown_place_is limits t now flaw s ev goes z k is) in
+        let free : reads k.place ≡ false = sym (ap reads placed) ∙ all.free in
+        let row_z : t.consumer z.c ≡ Some k = ap t.consumer all.at ∙ row.row in
+        let one : shows.k ≡ k = same_row (t.consumer z.c) shows.k k shows.poll.row row_z in
+        let show : IsShowing z (move_of t now shows.want z.c k) = subst (λ (q : Consumer). IsShowing z (move_of t now shows.want z.c q)) one shows.move in
+        (shown_from t now z.c k shows.want z s row_z show free).shown_as
+
+  module _ (b : IsBounded t) where
+    founded_proper : (c r lo hi : ℕ) (how : BoundBy) (x : ℕ) (response : Response) (w : Exchange) (k : Consumer) (g : Option HeadCase) → IsFounded t e c r lo (Some hi) how x response w k g → lo ≤ hi
+    founded_proper c r lo hi how x response w k _ (from.whole lo_is hi_is) = rw lo_is (omega arith)
+    founded_proper c r lo hi how x response w k _ (from.replaced lo_is hi_is) = rw lo_is (omega arith)
+    founded_proper c r lo hi how x response w k _ (from.part i) = interval_proper k.request _ lo hi i
+
+    shown_proper : (c r lo hi : ℕ) (k : Consumer) (z : Showing) → z.lo ≡ lo → z.hi ≡ Some hi → ShownAs t now z.c k z.r z.lo z.hi → lo ≤ hi
+    shown_proper c r lo hi k z from_is to_is (shown_as.joins v current_is there on lo_is hi_is) = let zero : lo ≡ 0 = sym from_is ∙ lo_is in rw zero (omega arith)
+    shown_proper c r lo hi k z from_is to_is (shown_as.stored v span current_is there off wanted_is none lo_is hi_is) =
+        let le : span.lo ≤ span.hi = wanted_proper (range_of k.request) v.head.total span (range_order k.request) wanted_is in
+        let first : lo ≡ span.lo = sym from_is ∙ lo_is in
+        let last : span.hi ≡ hi = some_inj span.hi hi (sym hi_is ∙ to_is) in
+        omega arith
+
+    proper_by : (c r lo hi : ℕ) (how : BoundBy) (u : Consumer) → BoundFrom t e c r lo (Some hi) how u → lo ≤ hi
+    proper_by c r lo hi how u (from.stays k row at) = b.proper c r lo hi how k row.row at
+    proper_by c r lo hi how u (from.founds k x response w row here exchange_row mine of_r by_is all) = founded_proper c r lo hi how x response w k (case_at t e) all
+    proper_by c r lo hi how u (from.opens k p row opens mine free way hole) = interval_proper (waiting t e c (consumer_heard t e c ev k)).request hole.v.head.total lo hi hole.interval
+    proper_by c r lo hi how u (from.shows k z row is all) = shown_proper c r lo hi k z all.from all.to (shown_plan c r lo (Some hi) how u k z row is all)
+
+    founded_first : (c r lo : ℕ) (how : BoundBy) (x : ℕ) (response : Response) (w : Exchange) (k : Consumer) (g : Option HeadCase) → IsFounded t e c r lo None how x response w k g → lo ≡ 0
+    founded_first c r lo how x response w k _ (from.whole lo_is hi_is) = lo_is
+    founded_first c r lo how x response w k _ (from.replaced lo_is hi_is) = lo_is
+    founded_first c r lo how x response w k _ (from.part i) = absurd (let no : Some i.span.hi ≡ None = i.to in cc)
+
+    shown_first : (lo : ℕ) (k : Consumer) (z : Showing) → z.lo ≡ lo → z.hi ≡ None → ShownAs t now z.c k z.r z.lo z.hi → lo ≡ 0
+    shown_first lo k z from_is to_is (shown_as.joins v current_is there on lo_is hi_is) = sym from_is ∙ lo_is
+    shown_first lo k z from_is to_is (shown_as.stored v span current_is there off wanted_is none lo_is hi_is) = absurd (none_some span.hi (sym to_is ∙ hi_is))
+
+    first_by : (c r lo : ℕ) (how : BoundBy) (u : Consumer) → BoundFrom t e c r lo None how u → lo ≡ 0
+    first_by c r lo how u (from.stays k row at) = b.first c r lo how k row.row at
+    first_by c r lo how u (from.founds k x response w row here exchange_row mine of_r by_is all) = founded_first c r lo how x response w k (case_at t e) all
+    first_by c r lo how u (from.opens k p row opens mine free way hole) = absurd (let no : Some hole.interval.span.hi ≡ None = hole.interval.to in cc)
+    first_by c r lo how u (from.shows k z row is all) = shown_first lo k z all.from all.to (shown_plan c r lo None how u k z row is all)
+
+    -- HOW MUCH IT WAS GIVEN
+
+    given_is : (c : ℕ) (k u : Consumer) → t.consumer c ≡ Some k → now_on.consumer c ≡ Some u → u.given ≡ k.given + length (given_in c e.acts)
+    given_is c k u row after =
+        let on = is_kept t e c k row in
+        let one : on.u ≡ u = same_row (now_on.consumer c) on.u u on.row after in
+        sym (ap (λ (z : Consumer). z.given) (on.is ∙ one)) ∙ (given_by (starts_over t e c k) t e c k (consumer_acted t e c (consumer_heard t e c ev k)) ∙ (acted t e c k).given_is)
+
+    fresh_by : (c : ℕ) (q : Option Consumer) (u : Consumer) → t.consumer c ≡ q → now_on.consumer c ≡ Some u → u.shown ≡ false → u.given ≡ 0
+    fresh_by c None u row after off = new_given t e c (t.consumer c) u row after
+    fresh_by c (Some k) u row after off =
+        let its = is_after t e c k u row after in
+        let before : k.shown ≡ false = or_false (shows_in c e.acts) k.shown (sym its.shown ∙ off) in
+        let none : length (given_in c e.acts) ≡ 0 = ap (λ (xs : List ℕ). length xs) ((shown_once.by_event limits t now c flaw ev).before k row before) in
+        let had : k.given ≡ 0 = b.fresh c k row before in
+        let sum : u.given ≡ k.given + length (given_in c e.acts) = given_is c k u row after in
+        omega arith
+
+    module _ (a : IsFallback t) where
+      -- who is given something stays within its end
+      given_within : (c r lo hi : ℕ) (how : BoundBy) (k : Consumer) → t.consumer c ≡ Some k → k.shown ≡ true → k.place ≡ place.Bound r lo (Some hi) how → ToOne t now c ev e.acts → lo + (k.given + length (given_in c e.acts)) ≤ hi
+      given_within c r lo hi how k row on at (acts_to.quiet none quiet off) =
+          let zero : length (given_in c e.acts) ≡ 0 = ap (λ (xs : List ℕ). length xs) none in
+          let had : lo + k.given ≤ hi = b.within c r lo hi how k row at in
+          omega arith
+      given_within c r lo hi how k row on at (acts_to.shows want q r1 why head lo1 hi1 is_at there move none some showing) =
+          let zero : length (given_in c e.acts) ≡ 0 = ap (λ (xs : List ℕ). length xs) none in
+          let had : lo + k.given ≤ hi = b.within c r lo hi how k row at in
+          omega arith
+      given_within c r lo hi how k row on at (acts_to.gives want q run is_at there move bytes quiet off) =
+          let one : q ≡ k = same_row (t.consumer c) q k there row in
+          let its : move_of t now want c k ≡ Gives run = sym (ap (move_of t now want c) one) ∙ move in
+          let g = given_next t want c k run s (some_want t c want ev goes is_at) (λ x stood. a.apart.unfounded c x k row stood) (gives_of t now c want k run (move_of t now want c k) (move_by t now want c k s row) its on) in
+          let le : run.at + length run.bytes ≤ hi = subst (λ z. IfSome z (λ n. run.at + length run.bytes ≤ n)) (ap (hi_of t) at) g.1.within in
+          let first : lo_of t k.place ≡ lo = ap (lo_of t) at in
+          let start : run.at ≡ lo_of t k.place + k.given = g.1.at_is in
+          let count : length (given_in c e.acts) ≡ length run.bytes = ap (λ (xs : List ℕ). length xs) bytes in
+          omega arith
+
+      within_by : (c r lo hi : ℕ) (how : BoundBy) (u : Consumer) (q : Bool) (k : Consumer) → t.consumer c ≡ Some k → k.shown ≡ q → now_on.consumer c ≡ Some u → u.place ≡ place.Bound r lo (Some hi) how → lo ≤ hi → lo + u.given ≤ hi
+      within_by c r lo hi how u false k row off after at proper =
+          let none : length (given_in c e.acts) ≡ 0 = ap (λ (xs : List ℕ). length xs) ((shown_once.by_event limits t now c flaw ev).before k row off) in
+          let had : k.given ≡ 0 = b.fresh c k row off in
+          let sum : u.given ≡ k.given + length (given_in c e.acts) = given_is c k u row after in
+          omega arith
+      within_by c r lo hi how u true k row on after at proper = by_place (shown_stays limits t now flaw s o ev goes a c k row on u after)
+        where
+          by_place : StaysOrIdle k.place u.place → lo + u.given ≤ hi
+          by_place (stands.idle i) = absurd (subst stands.IsIdle at i)
+          by_place (stands.same is) =
+              let le : lo + (k.given + length (given_in c e.acts)) ≤ hi = given_within c r lo hi how k row on (sym is ∙ at) (to_one t now c limits flaw ev) in
+              let sum : u.given ≡ k.given + length (given_in c e.acts) = given_is c k u row after in
+              omega arith
+
+      within_row : (c r lo hi : ℕ) (how : BoundBy) (u : Consumer) (q : Option Consumer) → t.consumer c ≡ q → now_on.consumer c ≡ Some u → u.place ≡ place.Bound r lo (Some hi) how → lo ≤ hi → lo + u.given ≤ hi
+      within_row c r lo hi how u None row after at proper = let none : u.given ≡ 0 = new_given t e c (t.consumer c) u row after in omega arith
+      within_row c r lo hi how u (Some k) row after at proper = within_by c r lo hi how u k.shown k row refl after at proper
+
+      -- WHAT AN EXCHANGE BRINGS
+
+      fits : (p n : ℕ) (z : Option ℕ) → z ≡ Some p → overlong z n ≡ None → n ≤ p
+      fits p n None is h = absurd (none_some p is)
+      fits p n (Some m) is h = elim (Rattle.hc_effects.proofs.HoleLemmas.bool_cases (nat_lt m n)) [
+        | inl over ↦ absurd (Rattle.hc_effects.proofs.Once.never _ (rw over at h))
+        | inr in_time ↦ let same : m ≡ p = some_inj m p is in let le : n ≤ m = grind (arith, nat_tests) in omega arith
+      ]
+
+      piece_fits : (y p : ℕ) (bytes : List ℕ) (w : Exchange) → t.exchange y ≡ Some w → promised_bytes w ≡ Some p → denial t (event.Piece y bytes) ≡ None → length w.body + length bytes ≤ p
+      unfolding refusals.refusal_of
+      piece_fits y p bytes w row is h =
+          let got = taken (length bytes) w (sym (ap (λ z. piece_refusal (as_open z) (length bytes)) row) ∙ h) in
+          fits p (length w.body + length bytes) (promised_bytes w) is got.fits
+
+      brought : (y p : ℕ) (w z : Exchange) → t.exchange y ≡ Some w → promised_bytes w ≡ Some p → Brings t e y w z → length z.body ≤ p
+      brought y p w z row is (fills_by.still none same) =
+          let count : length z.body ≡ length w.body = ap (λ (xs : List ℕ). length xs) same in
+          let le : length w.body ≤ p = b.promise y p w row is in
+          omega arith
+      brought y p w z row is (fills_by.more bytes here more) =
+          let count : length z.body ≡ length w.body + length bytes = ap (λ (xs : List ℕ). length xs) more ∙ length-append w.body bytes in
+          let le : length w.body + length bytes ≤ p = piece_fits y p bytes w row is (sym (ap (denial t) here) ∙ goes) in
+          omega arith
+
+      promise_by : (y p : ℕ) (z : Exchange) → promised_bytes z ≡ Some p → now_on.exchange y ≡ Some z → ExchangeFrom t e y z → length z.body ≤ p
+      promise_by y p z is after (exchange.was w row same) = by_heard same.heard_or
+        where
+          by_heard : ((z.head ≡ w.head) × (z.joined ≡ w.joined)) ⊎ IsHeaded t e y w z → length z.body ≤ p
+          by_heard (inl still) = brought y p w z row (sym (ap promise_of (length_same w z same.need_is same.request_is still.0)) ∙ is) (brings t e y w z row after)
+          by_heard (inr got) =
+              let new = is_new limits t now flaw s ev goes y got.response w got.at row in
+              let empty : z.body ≡ [] = got.body_is ∙ (s.waits.headless y w row new.bare).0 in
+              let zero : length z.body ≡ 0 = ap (λ (xs : List ℕ). length xs) empty in
+              omega arith
+      promise_by y p z is after (exchange.new q none opens here made) =
+          let zero : length z.body ≡ 0 = sym (ap (λ (w : Exchange). length w.body) made) in
+          omega arith
+
+      pub bounded_kept : IsBounded now_on
+      bounded_kept = record {
+        proper = λ c r lo hi how u after at. proper_by c r lo hi how u (bound_from t e c r lo (Some hi) how (t.consumer c) u refl after at);
+        first = λ c r lo how u after at. first_by c r lo how u (bound_from t e c r lo None how (t.consumer c) u refl after at);
+        fresh = λ c u after off. fresh_by c (t.consumer c) u refl after off;
+        within = λ c r lo hi how u after at. within_row c r lo hi how u (t.consumer c) refl after at (proper_by c r lo hi how u (bound_from t e c r lo (Some hi) how (t.consumer c) u refl after at));
+        promise = λ x p z after is. promise_by x p z is after (exchange_from t e x (t.exchange x) z refl after);
+      }
+
+pub bounded_begun : (contents : Contents) → IsBounded (first_tables contents)
+bounded_begun contents = record {
+  proper = λ c r lo hi how k row at. absurd (none_some k row);
+  first = λ c r lo how k row at. absurd (none_some k row);
+  fresh = λ c k row off. absurd (none_some k row);
+  within = λ c r lo hi how k row at. absurd (none_some k row);
+  promise = λ x p w row is. absurd (none_some w row);
+}
+
+pub bounded_denied : (t : Tables) (e : Entry) → IsBounded t → IsBounded (after_denied t e)
+bounded_denied t e b = record { proper = b.proper; first = b.first; fresh = b.fresh; within = b.within; promise = b.promise }

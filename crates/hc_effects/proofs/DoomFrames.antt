@@ -1,0 +1,53 @@
+-- What a doom of a key comes to: who waits for it starts over, what they await is closed, and what is current is let go.
+use Rattle.std.proofs.Common.{◌≡◌, inl, inr, ℕ, List, [], ◌∷◌, Bool, true, false, Option, Some, None, refl, ap, sym, ◌∙◌}
+use Rattle.std.specs.Prelude.{bytes_eq, ◌&&◌, ◌||◌, if◌then◌else◌, is_none, option_map, filter, reverse}
+use Rattle.hc_event.specs.declared.event.Response.{Response}
+use Rattle.hc_model.specs.ConsumerRows.{back_in_line}
+use Rattle.hc_model.specs.Currents.{is_number}
+use Rattle.hc_model.specs.Effects.{sent_back, is_awaited, awaited_and}
+use Rattle.hc_model.specs.Rows.{Tables, Exchange, Representation, Consumer}
+use Rattle.hc_model.specs.Sound.{Sound}
+use Rattle.hc_model.specs.StartingOver.{waits_at}
+use Rattle.hc_model.specs.Closings.{awaits}
+use Rattle.hc_effects.proofs.Basics.{and_left, and_right, false_true, none_some, number_is, not_so, or_cases}
+use Rattle.hc_effects.proofs.HoleLemmas.{bool_cases}
+use Rattle.hc_effects.proofs.SameTables.{is_in, waits_for_any, back_from_any}
+use Rattle.hc_effects.proofs.PieceKeeps.{eq_cases}
+
+-- CONSUMERS
+
+-- whoever waits for the key starts over, and else who waits for what goes
+pub sent_as : (t : Tables) (now : ℕ) (key : List ℕ) (rs : List ℕ) (k : Consumer) → Some (if (bytes_eq key k.request.key && waits_at t k.place) || waits_for_any rs k.place then back_in_line now k else k) ≡ option_map (back_from_any now rs) (Some (sent_back t now key k))
+sent_as t now key rs k = by_test (bytes_eq key k.request.key && waits_at t k.place)
+  where
+    by_test : (b : Bool) → Some (if b || waits_for_any rs k.place then back_in_line now k else k) ≡ Some (back_from_any now rs (if b then back_in_line now k else k))
+    by_test true = refl
+    by_test false = refl
+
+-- EXCHANGES
+
+in_filter : (x : ℕ) (test : ℕ → Bool) (xs : List ℕ) → is_in (filter test xs) x ≡ true → test x ≡ true
+in_filter x test [] h = absurd (false_true h)
+in_filter x test (y ∷ ys) h = elim (bool_cases (test y)) [
+  | inr off ↦ in_filter x test ys (rw off at h)
+  | inl passes ↦ elim (eq_cases y x) [
+    | inl same ↦ sym (ap test same.1) ∙ passes
+    | inr other ↦ in_filter x test ys (rw (passes, other.0) at h)
+  ]
+]
+
+none_of : (o : Option Response) → is_none o ≡ true → o ≡ None
+none_of None h = refl
+none_of (Some a) h = absurd (false_true h)
+
+module _ (t : Tables) (key : List ℕ) (s : Sound t) where
+  -- what is awaited founded nothing yet
+  unfounded_by : (x : ℕ) (o : Option Exchange) → t.exchange x ≡ o → is_awaited t key x o ≡ true → t.representation x ≡ None
+  unfounded_by x None row h = absurd (false_true h)
+  unfounded_by x (Some w) row h = s.numbered.names.unfounded x w row (none_of w.head (and_right w.is_open _ (and_right (bytes_eq key w.request.key) _ (and_left _ (awaits (t.consumer w.c) x) h))))
+
+  pub awaited_apart : (also : Option ℕ) → ((x : ℕ) → also ≡ Some x → t.representation x ≡ None) → (r : ℕ) (v : Representation) → t.representation r ≡ Some v → is_in (awaited_and t key also) r ≡ false
+  awaited_apart also apart r v there = not_so (is_in (awaited_and t key also) r) (λ h. elim (or_cases (is_number also r) (is_awaited t key r (t.exchange r)) (in_filter r (λ x. is_number also x || is_awaited t key x (t.exchange x)) (reverse t.openings) h)) [
+    | inl named ↦ none_some v (sym (apart r (number_is also r named)) ∙ there)
+    | inr awaited ↦ none_some v (sym (unfounded_by r (t.exchange r) refl awaited) ∙ there)
+  ])

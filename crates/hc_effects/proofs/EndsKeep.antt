@@ -1,0 +1,181 @@
+-- What a consumer reads ends within the length of its body, where the end is known; and so all measures stay.
+use Rattle.std.proofs.Common.{◌≡◌, ◌⊎◌, inl, inr, ℕ, ◌+◌, ◌-◌, ◌≤◌, Bool, true, false, Option, Some, None, refl, ap, sym, ◌∙◌, subst, arith, min}
+use Rattle.std.specs.Prelude.{if◌then◌else◌, is_some, ◌&&◌, nat_eq, nat_lt}
+use Rattle.std.specs.Option.{option_or}
+use Rattle.hc_range.specs.declared.range.Asked.{Asked}
+use Rattle.hc_range.specs.declared.range.Asked.TheVariants.{FromTo, From, Last}
+use Rattle.hc_range.specs.declared.range.Span.{Span}
+use Rattle.hc_range.specs.Spans.{resolved_span}
+use Rattle.hc_event.specs.Filters.{opening_in}
+use Rattle.hc_event.specs.declared.event.Event.{Event}
+use Rattle.hc_event.specs.declared.event.Event.TheVariants as event
+use Rattle.hc_event.specs.declared.event.Response.{Response}
+use Rattle.hc_rules.specs.declared.heads.HeadCase.{HeadCase}
+use Rattle.hc_rules.specs.declared.heads.HeadCase.TheVariants as case
+use Rattle.hc_rules.specs.declared.request.Wanted.TheVariants as wanted
+use Rattle.hc_rules.specs.declared.room.Limits.{Limits}
+use Rattle.hc_rules.specs.Requests.{range_of, wanted_of, wanted_part}
+use Rattle.hc_event.specs.declared.place.Place.TheVariants as place
+use Rattle.hc_event.specs.declared.place.BoundBy.{BoundBy}
+use Rattle.hc_model.specs.ActFilters.{Showing, showing_in}
+use Rattle.hc_model.specs.Cases.{case_at}
+use Rattle.hc_model.specs.ConsumerRows.{consumer_heard, by_opening, waiting}
+use Rattle.hc_model.specs.Denials.{denial}
+use Rattle.hc_model.specs.Entries.{Entry}
+use Rattle.hc_model.specs.ExchangeRows.{promise_in}
+use Rattle.hc_model.specs.Flaws.{Flaw}
+use Rattle.hc_model.specs.Heads.{founded_total}
+use Rattle.hc_model.specs.Keys.{entry_of}
+use Rattle.hc_model.specs.Measures.{Measures, EndsWithin}
+use Rattle.hc_model.specs.Owners.{Owners}
+use Rattle.hc_model.specs.Polls.{move_of}
+use Rattle.hc_model.specs.Reading.{reads}
+use Rattle.hc_model.specs.RepresentationRows.{length_in}
+use Rattle.hc_model.specs.Rows.{Tables, Exchange, Representation, Consumer}
+use Rattle.hc_model.specs.Sound.{Sound}
+use Rattle.hc_model.specs.Sound as sound
+use Rattle.hc_model.specs.Tables.{after_accepted}
+use Rattle.hc_effects.proofs.Basics.{false_true, none_some}
+use Rattle.hc_effects.proofs.BoundFrom.{BoundFrom, IsRow, IsInterval, IsShown, IsFounded, bound_from}
+use Rattle.hc_effects.proofs.BoundFrom as from
+use Rattle.hc_effects.proofs.BoundKeeps.{shown_place_is}
+use Rattle.hc_effects.proofs.FirstKeeps.{case_of_head, whole_200, replaced_200, is_new}
+use Rattle.hc_effects.proofs.MeasuresKeep.{brings_kept, tight_kept, within_kept, number_not}
+use Rattle.hc_effects.proofs.PieceKeeps.{some_inj}
+use Rattle.hc_effects.proofs.ExclusiveWriters.{same_row}
+use Rattle.hc_effects.proofs.RepFrom.{RepFrom, rep_from, IsKept, IsEnded}
+use Rattle.hc_effects.proofs.RepFrom as rep
+use Rattle.hc_effects.proofs.Said.{IsShowing, showing_by}
+use Rattle.hc_effects.proofs.ShownFrom.{ShownAs, IsPlanned, shown_from}
+use Rattle.hc_effects.proofs.ShownFrom as shown_as
+
+-- A SPAN THAT IS WANTED
+
+-- a span of a body of this length
+pub record IsSpanOf (o : Option ℕ) (hi : ℕ) : Type 0 where
+  pub total : ℕ
+  pub known : o ≡ Some total
+  pub ends : hi ≤ total
+
+span_if : (b : Bool) (x span : Span) (total : ℕ) → (b ≡ true → x.hi ≤ total) → (if b then Some x else None) ≡ Some span → span.hi ≤ total
+span_if false x span total most is = absurd (none_some span is)
+span_if true x span total most is = let same : x ≡ span = some_inj x span is in let hi : x.hi ≡ span.hi = ap (λ (z : Span). z.hi) same in let le : x.hi ≤ total = most refl in omega arith
+
+resolved_within : (asked : Asked) (total : ℕ) (span : Span) → resolved_span asked total ≡ Some span → span.hi ≤ total
+resolved_within (From first) total span is = span_if (nat_lt first total) (record { lo = first; hi = total }) span total (λ h. omega arith) is
+resolved_within (FromTo first last) total span is = span_if (nat_lt first total) (record { lo = first; hi = min (last + 1) total }) span total (λ h. omega arith) is
+resolved_within (Last n) total span is = span_if (nat_lt 0 n && nat_lt 0 total) (record { lo = total - n; hi = total }) span total (λ h. omega arith) is
+
+interval_inj : (a b : Span) → wanted.Interval a ≡ wanted.Interval b → a ≡ b
+interval_inj a b is = cc
+
+part_within : (o : Option Span) (span : Span) (total : ℕ) → ((z : Span) → o ≡ Some z → z.hi ≤ total) → wanted_part o ≡ wanted.Interval span → span.hi ≤ total
+part_within None span total most is = absurd (let no : wanted.Unsatisfiable ≡ wanted.Interval span = is in cc)
+part_within (Some z) span total most is = let same : z ≡ span = interval_inj z span is in let hi : z.hi ≡ span.hi = ap (λ (q : Span). q.hi) same in let le : z.hi ≤ total = most z refl in omega arith
+
+pub wanted_within : (range : Option Asked) (o : Option ℕ) (span : Span) → wanted_of range o ≡ wanted.Interval span → IsSpanOf o span.hi
+wanted_within range None span is = absurd (let no : wanted.TotalUnknown ≡ wanted.Interval span = is in cc)
+wanted_within None (Some total) span is =
+    let same : (record { lo = 0; hi = total }) ≡ span = interval_inj (record { lo = 0; hi = total }) span is in
+    let hi : total ≡ span.hi = ap (λ (q : Span). q.hi) same in
+    record { total = total; known = refl; ends = omega arith }
+wanted_within (Some asked) (Some total) span is =
+    record { total = total; known = refl; ends = part_within (resolved_span asked total) span total (λ z found. resolved_within asked total z found) is }
+
+interval_within : (range : Option Asked) (o : Option ℕ) (lo hi : ℕ) → IsInterval (wanted_of range o) lo (Some hi) → IsSpanOf o hi
+interval_within range o lo hi i =
+    let w = wanted_within range o i.span i.wanted_is in
+    let same : i.span.hi ≡ hi = some_inj i.span.hi hi i.to in
+    let le : i.span.hi ≤ w.total = w.ends in
+    record { total = w.total; known = w.known; ends = omega arith }
+
+module _ (limits : Limits) (t : Tables) (now : ℕ) (flaw : Flaw) (s : Sound t) (o : Owners t) (m : Measures t) (ev : Event) (goes : denial t ev ≡ None) where
+  abbrev e : Entry
+  e = entry_of limits t now ev flaw
+
+  abbrev now_on : Tables
+  now_on = after_accepted t e
+
+  -- a length that is known stays
+  pub known_kept : (r total : ℕ) (v u : Representation) → IsKept t e r v u → v.head.total ≡ Some total → u.head.total ≡ Some total
+  known_kept r total v u kept known = by_total kept.total_is
+    where
+      by_total : (u.head.total ≡ v.head.total) ⊎ IsEnded t e r v u.head.total → u.head.total ≡ Some total
+      by_total (inl same) = same ∙ known
+      by_total (inr ends) = ends.total_is ∙ ap (λ z. option_or z (Some (length_in (t.exchange r)))) known
+
+  within_as : (u : Representation) (hi : ℕ) (z : Option ℕ) → IsSpanOf z hi → z ≡ u.head.total → EndsWithin u hi
+  within_as u hi z w same = record { total = w.total; known = sym same ∙ w.known; ends = w.ends }
+
+  kept_within : (r hi : ℕ) (v u : Representation) → IsKept t e r v u → EndsWithin v hi → EndsWithin u hi
+  kept_within r hi v u kept w = record { total = w.total; known = known_kept r w.total v u kept w.known; ends = w.ends }
+
+  module _ (r c lo hi : ℕ) (how : BoundBy) (u : Consumer) (v : Representation) (there : now_on.representation r ≡ Some v) where
+    stays_by : (k : Consumer) → t.consumer c ≡ Some k → k.place ≡ place.Bound r lo (Some hi) how → RepFrom t e r v → EndsWithin v hi
+    stays_by k row at (rep.was q kept) = kept_within r hi q v kept (m.ends r c lo hi how k q row at kept.row)
+    stays_by k row at (rep.founded response w none here also on made) = absurd (let is_there = s.numbered.bound_to r c k (sound.is_bound lo (Some hi) how row at) in false_true (sym (ap is_some none) ∙ is_there))
+
+    -- what it founds has the length that its head tells
+    founded_by : (x : ℕ) (response : Response) (w : Exchange) (k : Consumer) (g : Option HeadCase) → ev ≡ event.Head x response → t.exchange x ≡ Some w → case_at t e ≡ g → IsFounded t e c r lo (Some hi) how x response w k g → IsSpanOf (founded_total w response) hi
+    founded_by x response w k _ here row is (from.whole from_is to) = whole_total (whole_200 t _ w response (case_of_head t e x response w case.FoundsWhole here row is)) to
+      where
+        whole_total : response.status ≡ 200 → Some hi ≡ promise_in w response → IsSpanOf (founded_total w response) hi
+        whole_total status to = let off : nat_eq response.status 206 ≡ false = number_not response.status 206 (λ is. let no : 200 ≡ 206 = sym status ∙ is in absurd (omega arith)) in record { total = hi; known = rw off (sym to); ends = omega arith }
+    founded_by x response w k _ here row is (from.replaced from_is to) = whole_total (replaced_200 t _ w response (case_of_head t e x response w case.FirstReplaced here row is)) to
+      where
+        whole_total : response.status ≡ 200 → Some hi ≡ promise_in w response → IsSpanOf (founded_total w response) hi
+        whole_total status to = let off : nat_eq response.status 206 ≡ false = number_not response.status 206 (λ is. let no : 200 ≡ 206 = sym status ∙ is in absurd (omega arith)) in record { total = hi; known = rw off (sym to); ends = omega arith }
+    founded_by x response w k _ here row is (from.part i) = interval_within (range_of k.request) (founded_total w response) lo hi i
+
+    founds_by : (x : ℕ) (response : Response) (w : Exchange) (k : Consumer) → ev ≡ event.Head x response → t.exchange x ≡ Some w → x ≡ r → IsFounded t e c r lo (Some hi) how x response w k (case_at t e) → RepFrom t e r v → EndsWithin v hi
+    founds_by x response w k here row of_r is (rep.was q kept) = absurd (none_some q (sym (is_new limits t now flaw s ev goes x response w here row).unfounded ∙ (ap t.representation of_r ∙ kept.row)))
+    founds_by x response w k here row of_r is (rep.founded answer z none also row_too on made) =
+        let w_is : w ≡ z = same_row (t.exchange r) w z (sym (ap t.exchange of_r) ∙ row) row_too in
+        let answer_is : response ≡ answer = head_inj x r response answer (sym here ∙ also) in
+        let told : founded_total w response ≡ v.head.total = ap (λ (q : Exchange). founded_total q response) w_is ∙ (ap (founded_total z) answer_is ∙ ap (λ (q : Representation). q.head.total) made) in
+        within_as v hi (founded_total w response) (founded_by x response w k (case_at t e) here row refl is) told
+      where
+        head_inj : (a b : ℕ) (p q : Response) → event.Head a p ≡ event.Head b q → p ≡ q
+        head_inj a b p q is = cc
+
+    -- what is current is read as it was before
+    was_by : (q : Representation) → t.representation r ≡ Some q → EndsWithin q hi → RepFrom t e r v → EndsWithin v hi
+    was_by q row w (rep.was p kept) = kept_within r hi p v kept (subst (λ (a : Representation). EndsWithin a hi) (same_row (t.representation r) q p row kept.row) w)
+    was_by q row w (rep.founded response x none here also on made) = absurd (none_some q (sym none ∙ row))
+
+    shown_by : (k : Consumer) (z : Showing) → IsRow t e c r lo (Some hi) how k u → showing_in e.acts ≡ Some z → IsShown t e c r lo (Some hi) how z (by_opening t c (opening_in e.acts) (waiting t e c (consumer_heard t e c ev k))).place → RepFrom t e r v → EndsWithin v hi
+    shown_by k z row is all from_rep =
+        let shows = showing_by limits t now flaw s ev goes z is in
+        let placed : (by_opening t c (opening_in e.acts) (waiting t e c (consumer_heard t e c ev k))).place ≡ k.place = subst (λ d. (by_opening t d (opening_in e.acts) (waiting t e d (consumer_heard t e d ev k))).place ≡ k.place) all.at (shown_place_is limits t now flaw s ev goes z k is) in
+        let free : reads k.place ≡ false = sym (ap reads placed) ∙ all.free in
+        let row_z : t.consumer z.c ≡ Some k = ap t.consumer all.at ∙ row.row in
+        let one : shows.k ≡ k = same_row (t.consumer z.c) shows.k k shows.poll.row row_z in
+        let show : IsShowing z (move_of t now shows.want z.c k) = subst (λ (q : Consumer). IsShowing z (move_of t now shows.want z.c q)) one shows.move in
+        by_plan (shown_from t now z.c k shows.want z s row_z show free).shown_as
+      where
+        by_plan : ShownAs t now z.c k z.r z.lo z.hi → EndsWithin v hi
+        by_plan (shown_as.joins q current_is there on from_is to) =
+            let known : q.head.total ≡ Some hi = sym to ∙ all.to in
+            was_by q (sym (ap t.representation all.of_r) ∙ there) (record { total = hi; known = known; ends = omega arith }) from_rep
+        by_plan (shown_as.stored q span current_is there off wanted_is none from_is to) =
+            let w = wanted_within (range_of k.request) q.head.total span wanted_is in
+            let same : span.hi ≡ hi = some_inj span.hi hi (sym to ∙ all.to) in
+            let le : span.hi ≤ w.total = w.ends in
+            was_by q (sym (ap t.representation all.of_r) ∙ there) (record { total = w.total; known = w.known; ends = omega arith }) from_rep
+
+    ends_by : BoundFrom t e c r lo (Some hi) how u → RepFrom t e r v → EndsWithin v hi
+    ends_by (from.stays k row at) from_rep = stays_by k row.row at from_rep
+    ends_by (from.founds k x response w row here exchange_row mine of_r by_is all) from_rep = founds_by x response w k here exchange_row of_r all from_rep
+    ends_by (from.opens k p row opens mine free way hole) from_rep =
+        let w = interval_within (range_of (waiting t e c (consumer_heard t e c ev k)).request) hole.v.head.total lo hi hole.interval in
+        was_by hole.v hole.row (record { total = w.total; known = w.known; ends = w.ends }) from_rep
+    ends_by (from.shows k z row is all) from_rep = shown_by k z row is all from_rep
+
+  -- Measures stay.
+  pub measures_kept : Measures now_on
+  measures_kept = record {
+    brings = λ x z u after on headed there. brings_kept limits t now flaw s o m ev goes x z u after on headed there;
+    tight = λ r n u row ends. tight_kept limits t now flaw s o m ev goes r n u row ends;
+    within = λ r total u row known. within_kept limits t now flaw s o m ev goes r total u row known;
+    ends = λ r c lo hi how u v row at there. ends_by r c lo hi how u v there (bound_from t e c r lo (Some hi) how (t.consumer c) u refl row at) (rep_from t e r (t.representation r) v refl there);
+  }

@@ -1,0 +1,237 @@
+-- What makes room comes last: an accepted event does what it does without it, and then each of those goes.
+use Rattle.std.proofs.Common.{◌≡◌, inl, inr, ℕ, zero, suc, List, [], ◌∷◌, ◌++◌, Bool, true, false, Option, Some, None, refl, ap, sym, ◌∙◌}
+use Rattle.std.specs.Prelude.{map, filter, take, reverse, is_some, ◌==◌}
+use Rattle.hc_event.specs.Filters.{evicts_in}
+use Rattle.hc_event.specs.declared.act.Act.{Act}
+use Rattle.hc_event.specs.declared.act.Act.TheVariants as act
+use Rattle.hc_event.specs.declared.event.Event.{Event}
+use Rattle.hc_event.specs.declared.event.Event.TheVariants as event
+use Rattle.hc_event.specs.declared.event.Response.{Response}
+use Rattle.hc_rules.specs.declared.heads.HeadCase.{HeadCase}
+use Rattle.hc_rules.specs.declared.heads.HeadCase.TheVariants as case
+use Rattle.hc_rules.specs.declared.request.Wanted.{Wanted}
+use Rattle.hc_rules.specs.declared.request.Wanted.TheVariants as wanted
+use Rattle.hc_rules.specs.declared.room.Limits.{Limits}
+use Rattle.hc_rules.specs.declared.room.Room.{Room}
+use Rattle.hc_rules.specs.declared.room.Room.TheVariants as room
+use Rattle.hc_rules.specs.Requests.{range_of, wanted_of}
+use Rattle.hc_event.specs.declared.place.BoundBy.TheVariants as by
+use Rattle.hc_event.specs.declared.place.Place.{Place}
+use Rattle.hc_event.specs.declared.place.Place.TheVariants as place
+use Rattle.hc_model.specs.ActFilters.{has_loss, fails_in, without_losses}
+use Rattle.hc_model.specs.Answers.{accepted_acts, answer_acts, loss_acts, close_acts}
+use Rattle.hc_model.specs.Cases.{case_at, case_of, head_view}
+use Rattle.hc_model.specs.ConsumerRows.{consumer_heard, consumer_acted, by_head, place_by_case, bound_to_wanted}
+use Rattle.hc_model.specs.Closings.{closing}
+use Rattle.hc_model.specs.Denials.{denial}
+use Rattle.hc_model.specs.Entries.{Entry, entry_without_acts}
+use Rattle.hc_model.specs.Evictions.{evict_all, unevicting, unevicting_entry, EvictsLast, EvictionsComeLast}
+use Rattle.hc_model.specs.Flaws.{Flaw, NoFlaw, Loses, Misreads, flaw_in}
+use Rattle.hc_model.specs.Heads.{founded_total}
+use Rattle.hc_model.specs.Keys.{entry_of}
+use Rattle.hc_model.specs.Owners.{Owners, IsAwaiting}
+use Rattle.hc_model.specs.Owners as owners
+use Rattle.hc_model.specs.Rows.{Tables, Exchange, Representation, Consumer}
+use Rattle.hc_model.specs.Runs.{may_be}
+use Rattle.hc_model.specs.Sound.{Sound}
+use Rattle.hc_model.specs.StartingOver.{starts_over}
+use Rattle.hc_model.specs.Tables.{after_accepted}
+use Rattle.hc_model.specs.Weights.{is_idle, idle, evicted, first_idle, room_for, write_in}
+use Rattle.hc_model.specs.Writes.{written_representation, written_in}
+use Rattle.hc_effects.proofs.ActParts.{evicts_closes, evicts_lost, far_loss, far_closed}
+use Rattle.hc_effects.proofs.Alike.{alike_evicted, written_same}
+use Rattle.hc_effects.proofs.Basics.{false_true}
+use Rattle.hc_effects.proofs.EvictedRows.{tables_last}
+use Rattle.hc_effects.proofs.FirstKeeps.{is_new, case_of_head}
+use Rattle.hc_effects.proofs.FoundBy.{CaseBy}
+use Rattle.hc_effects.proofs.FoundBy as cases
+use Rattle.hc_effects.proofs.GivingWay.{writes_nothing}
+use Rattle.hc_effects.proofs.HoleLemmas.{bool_cases}
+use Rattle.hc_effects.proofs.ExclusiveWriters.{same_row}
+use Rattle.hc_effects.proofs.PieceKeeps.{eq_cases}
+use Rattle.hc_effects.proofs.PieceServes.{IsQuietActs, quiet_acts}
+use Rattle.hc_effects.proofs.PollEffects.{none_waits}
+use Rattle.hc_effects.proofs.SameTables.{is_in, waits_for_any}
+
+-- WHAT MAKES ROOM IS THERE
+
+there_row : (t : Tables) (e : Entry) (r : ℕ) (z : Option Representation) → is_idle t e r z ≡ true → is_some z ≡ true
+there_row t e r None is = absurd (false_true is)
+there_row t e r (Some v) is = refl
+
+there_idle : (t : Tables) (e : Entry) (r : ℕ) (rs : List ℕ) → is_in (filter (λ q. is_idle t e q (t.representation q)) rs) r ≡ true → is_some (t.representation r) ≡ true
+there_idle t e r [] h = absurd (false_true h)
+there_idle t e r (q ∷ rs) h = elim (bool_cases (is_idle t e q (t.representation q))) [
+  | inr off ↦ there_idle t e r rs (rw off at h)
+  | inl on ↦ elim (eq_cases q r) [
+    | inl here ↦ there_row t e r (t.representation r) (sym (ap (λ n. is_idle t e n (t.representation n)) here.1) ∙ on)
+    | inr other ↦ there_idle t e r rs (rw (on, other.0) at h)
+  ]
+]
+
+gone_taken : (n r : ℕ) (rs : List ℕ) → is_in (take n rs) r ≡ true → is_in rs r ≡ true
+gone_taken zero r rs h = absurd (false_true h)
+gone_taken (suc n) r [] h = absurd (false_true h)
+gone_taken (suc n) r (q ∷ rs) h = elim (bool_cases (q == r)) [
+  | inl here ↦ rw here refl
+  | inr other ↦ rw other (gone_taken n r rs (rw other at h))
+]
+
+there_first : (t : Tables) (e : Entry) (r : ℕ) (z : Room) → is_in (first_idle t e z) r ≡ true → is_some (t.representation r) ≡ true
+unfolding idle
+there_first t e r (room.After count) h = there_idle t e r (reverse t.used) (gone_taken count r (filter (λ q. is_idle t e q (t.representation q)) (reverse t.used)) h)
+there_first t e r room.TooLarge h = absurd (false_true h)
+there_first t e r room.Full h = absurd (false_true h)
+
+-- IT SHOWS NO FLAW
+
+flaw_same : (rs : List ℕ) (b : List Act) → flaw_in (map act.Evicted rs ++ b) ≡ flaw_in b
+flaw_same [] b = refl
+flaw_same (r ∷ rs) b = flaw_same rs b
+
+without_same : (rs : List ℕ) (b : List Act) → without_losses (map act.Evicted rs ++ b) ≡ map act.Evicted rs ++ without_losses b
+without_same [] b = refl
+without_same (r ∷ rs) b = ap (λ acts. act.Evicted r ∷ acts) (without_same rs b)
+
+-- A HEAD
+
+-- who waits for a head waits for no representation
+awaiting_waits : (rs : List ℕ) (x : ℕ) (w : Exchange) (p : Place) → IsAwaiting x w p → waits_for_any rs p ≡ false
+awaiting_waits rs x w p (owners.direct way at) = rw at refl
+awaiting_waits rs x w p (owners.turn way at) = rw at refl
+awaiting_waits rs x w p (owners.hole r lo hi how way aim at) = rw at refl
+
+-- what it becomes bound to isn't waited for
+wanted_waits : (rs : List ℕ) (x : ℕ) (z : Wanted) → waits_for_any rs (bound_to_wanted x by.Founding (place.Direct x) z) ≡ false
+wanted_waits rs x wanted.TotalUnknown = refl
+wanted_waits rs x wanted.Unsatisfiable = refl
+wanted_waits rs x (wanted.Interval span) = refl
+
+placed_waits : (rs : List ℕ) (x : ℕ) (response : Response) (w : Exchange) (k : Consumer) (g : Option HeadCase) → (g ≡ Some case.Validated → rs ≡ []) → waits_for_any rs k.place ≡ false → waits_for_any rs (place_by_case x response w k g) ≡ false
+placed_waits rs x response w k (Some case.DirectBad) empty off = refl
+placed_waits rs x response w k (Some case.TurnBad) empty off = refl
+placed_waits rs x response w k (Some case.FirstBad) empty off = refl
+placed_waits rs x response w k (Some case.Validated) empty off = ap (λ ys. waits_for_any ys (place_by_case x response w k (Some case.Validated))) (empty refl) ∙ none_waits (place_by_case x response w k (Some case.Validated))
+placed_waits rs x response w k (Some case.FoundsWhole) empty off = refl
+placed_waits rs x response w k (Some case.FirstReplaced) empty off = refl
+placed_waits rs x response w k (Some case.FoundsRange) empty off = wanted_waits rs x (wanted_of (range_of k.request) (founded_total w response))
+placed_waits rs x response w k (Some case.TurnServerError) empty off = refl
+placed_waits rs x response w k (Some case.PassesBy) empty off = refl
+placed_waits rs x response w k (Some case.FirstServerError) empty off = refl
+placed_waits rs x response w k (Some case.FirstPassesBy) empty off = refl
+placed_waits rs x response w k _ empty off = off
+
+not_lost : (t : Tables) (loss_acts : Bool) (w : Exchange) (response : Response) → CaseBy (head_view t loss_acts w response) case.Validated → loss_acts ≡ false
+not_lost t loss_acts w response (cases.validated way status conditional kept) = kept
+
+module _ (limits : Limits) (t : Tables) (now : ℕ) (ev : Event) (flaw : Flaw) where
+  abbrev rs : List ℕ
+  rs = evicted limits t now ev
+
+  abbrev b : List Act
+  b = loss_acts flaw ++ close_acts t now ev flaw
+
+  abbrev a : List Act
+  a = map act.Evicted rs ++ b
+
+  abbrev f : Entry
+  f = record { now = now; event = ev; acts = b }
+
+  evicts_none : (r : ℕ) → evicts_in r b ≡ false
+  evicts_none r = evicts_lost r flaw (close_acts t now ev flaw) ∙ evicts_closes r (closing t (record { now = now; event = ev; acts = answer_acts t now ev flaw ++ loss_acts flaw }))
+
+  fails_none : (c : ℕ) → fails_in c b ≡ false
+  fails_none c = let far = far_loss c flaw (close_acts t now ev flaw) (far_closed c (closing t (record { now = now; event = ev; acts = answer_acts t now ev flaw ++ loss_acts flaw }))) in far.fails
+
+  quiet : IsQuietActs b
+  quiet = quiet_acts [] (closing t (record { now = now; event = ev; acts = answer_acts t now ev flaw ++ loss_acts flaw })) flaw
+
+  acted_place : (c : ℕ) (h : Consumer) → (consumer_acted t f c h).place ≡ h.place
+  acted_place c h = rw (quiet.waits c, quiet.opens, quiet.leaves c, quiet.showing) refl
+
+  none_evicted : write_in t (entry_without_acts now ev) ev ≡ None → rs ≡ []
+  none_evicted none = (writes_nothing limits t now ev none).1
+
+  -- a 304 makes no room
+  none_validated : (x : ℕ) (response : Response) (w : Exchange) → ev ≡ event.Head x response → t.exchange x ≡ Some w → case_at t f ≡ Some case.Validated → rs ≡ []
+  none_validated x response w here row is =
+      let kept : has_loss b ≡ false = not_lost t (has_loss b) w response (case_of_head t f x response w case.Validated here row is) in
+      let same : case_at t (entry_without_acts now ev) ≡ Some case.Validated = ap (λ l. case_of t l ev) (sym kept) ∙ is in
+      none_evicted (ap (write_in t (entry_without_acts now ev)) here ∙ rw same refl)
+
+  -- what is evicted has a row
+  there : (r : ℕ) → is_in rs r ≡ true → is_some (t.representation r) ≡ true
+  there r h = there_first t (entry_without_acts now ev) r (room_for limits t now ev) h
+
+  module _ (s : Sound t) (o : Owners t) (goes : denial t ev ≡ None) where
+    head_moves : (c x : ℕ) (response : Response) (k : Consumer) (z : Option Exchange) → ev ≡ event.Head x response → t.consumer c ≡ Some k → t.exchange x ≡ z → waits_for_any rs (by_head t f c x response z k).place ≡ waits_for_any rs k.place
+    head_moves c x response k None here row is_row = refl
+    head_moves c x response k (Some w) here row is_row = elim (eq_cases w.c c) [
+      | inr other ↦ rw other.0 refl
+      | inl mine ↦
+          let new = is_new limits t now flaw s ev goes x response w here is_row in
+          let waits = o.waiting x w is_row new.is_open new.bare in
+          let one : waits.k ≡ k = same_row (t.consumer c) waits.k k (sym (ap t.consumer mine.1) ∙ waits.row) row in
+          let off : waits_for_any rs k.place ≡ false = sym (ap (λ (q : Consumer). waits_for_any rs q.place) one) ∙ awaiting_waits rs x w waits.k.place waits.at in
+          rw mine.0 (placed_waits rs x response w k (case_at t f) (none_validated x response w here is_row) off ∙ sym off)
+    ]
+
+    heard_moves : (z : Event) → ev ≡ z → (c : ℕ) (k : Consumer) → t.consumer c ≡ Some k → waits_for_any rs (consumer_heard t f c z k).place ≡ waits_for_any rs k.place
+    heard_moves (event.Start d request) here c k row = refl
+    heard_moves (event.Poll d want) here c k row = refl
+    heard_moves (event.Head x response) here c k row = head_moves c x response k (t.exchange x) here row refl
+    heard_moves (event.Piece x bytes) here c k row = refl
+    heard_moves (event.End x) here c k row = refl
+    heard_moves (event.Fault x) here c k row =
+        let none : rs ≡ [] = none_evicted (ap (write_in t (entry_without_acts now ev)) here) in
+        let off : (p : Place) → waits_for_any rs p ≡ false = λ p. ap (λ ys. waits_for_any ys p) none ∙ none_waits p in
+        off (consumer_heard t f c (event.Fault x) k).place ∙ sym (off k.place)
+    heard_moves (event.Cancel d) here c k row =
+        let none : rs ≡ [] = none_evicted (ap (write_in t (entry_without_acts now ev)) here) in
+        let off : (p : Place) → waits_for_any rs p ≡ false = λ p. ap (λ ys. waits_for_any ys p) none ∙ none_waits p in
+        off (consumer_heard t f c (event.Cancel d) k).place ∙ sym (off k.place)
+    heard_moves (event.Doom key) here c k row = refl
+
+    moves : (c : ℕ) (k : Consumer) → t.consumer c ≡ Some k → starts_over t f c k ≡ false → waits_for_any rs (consumer_acted t f c (consumer_heard t f c ev k)).place ≡ waits_for_any rs k.place
+    moves c k row on = ap (waits_for_any rs) (acted_place c (consumer_heard t f c ev k)) ∙ heard_moves ev refl c k row
+
+    told_last : after_accepted t (record { now = now; event = ev; acts = a }) ≡ evict_all rs (after_accepted t f)
+    told_last = tables_last t now ev rs b evicts_none fails_none there moves
+
+  -- WHAT THE STORE MAY FAIL
+
+  written_last : written_representation t (record { now = now; event = ev; acts = a }) ≡ written_representation t f
+  unfolding written_representation
+  written_last =
+      ap (λ (acts : List Act). written_in t (record { now = now; event = ev; acts = acts }) ev) (without_same rs b)
+      ∙ written_same t now ev (map act.Evicted rs ++ without_losses b) (without_losses b) (alike_evicted rs (without_losses b)) ev
+
+  may_last : (other : Flaw) → may_be limits t (record { now = now; event = ev; acts = a }) other ≡ may_be limits t f other
+  may_last NoFlaw = refl
+  may_last (Loses r kind) = rw written_last refl
+  may_last (Misreads r) = refl
+
+  flaw_last : flaw_in a ≡ flaw_in b
+  flaw_last = flaw_same rs b
+
+  -- an event of its consumer's own makes no room
+  asked_last : write_in t (entry_without_acts now ev) ev ≡ None → accepted_acts limits t now ev flaw ≡ unevicting t now ev flaw → EvictsLast limits t now ev flaw
+  asked_last none same =
+      let empty = none_evicted none in
+      let entry : entry_of limits t now ev flaw ≡ unevicting_entry t now ev flaw = ap (λ (acts : List Act). record { now = now; event = ev; acts = acts }) same in
+      record {
+        acts = same ∙ sym (ap (λ ys. map act.Evicted ys ++ unevicting t now ev flaw) empty);
+        shown = ap flaw_in same;
+        may = λ other. ap (λ (z : Entry). may_be limits t z other) entry;
+        tables = ap (after_accepted t) entry ∙ sym (ap (λ ys. evict_all ys (after_accepted t (unevicting_entry t now ev flaw))) empty);
+      }
+
+pub evictions_come_last : EvictionsComeLast
+evictions_come_last limits t now (event.Start c request) flaw s o goes = record { acts = refl; shown = flaw_last limits t now (event.Start c request) flaw; may = may_last limits t now (event.Start c request) flaw; tables = told_last limits t now (event.Start c request) flaw s o goes }
+evictions_come_last limits t now (event.Poll c want) flaw s o goes = asked_last limits t now (event.Poll c want) flaw refl refl
+evictions_come_last limits t now (event.Head x response) flaw s o goes = record { acts = refl; shown = flaw_last limits t now (event.Head x response) flaw; may = may_last limits t now (event.Head x response) flaw; tables = told_last limits t now (event.Head x response) flaw s o goes }
+evictions_come_last limits t now (event.Piece x bytes) flaw s o goes = record { acts = refl; shown = flaw_last limits t now (event.Piece x bytes) flaw; may = may_last limits t now (event.Piece x bytes) flaw; tables = told_last limits t now (event.Piece x bytes) flaw s o goes }
+evictions_come_last limits t now (event.End x) flaw s o goes = record { acts = refl; shown = flaw_last limits t now (event.End x) flaw; may = may_last limits t now (event.End x) flaw; tables = told_last limits t now (event.End x) flaw s o goes }
+evictions_come_last limits t now (event.Fault x) flaw s o goes = record { acts = refl; shown = flaw_last limits t now (event.Fault x) flaw; may = may_last limits t now (event.Fault x) flaw; tables = told_last limits t now (event.Fault x) flaw s o goes }
+evictions_come_last limits t now (event.Cancel c) flaw s o goes = asked_last limits t now (event.Cancel c) flaw refl refl
+evictions_come_last limits t now (event.Doom key) flaw s o goes = record { acts = refl; shown = flaw_last limits t now (event.Doom key) flaw; may = may_last limits t now (event.Doom key) flaw; tables = told_last limits t now (event.Doom key) flaw s o goes }

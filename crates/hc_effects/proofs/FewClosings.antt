@@ -1,0 +1,65 @@
+-- Where no head is refused, nothing doomed and no writing lost, just what somebody leaves is closed; and nothing makes room where
+-- nothing is written.
+use Rattle.std.proofs.Common.{◌≡◌, ℕ, List, [], ◌∷◌, Bool, false, Option, Some, None, refl, ap, ◌∙◌}
+use mathlib.Core.Path.{fun_ext}
+use Rattle.std.specs.Prelude.{◌&&◌, ◌||◌, filter, reverse}
+use Rattle.hc_event.specs.declared.event.Event.{Event}
+use Rattle.hc_rules.specs.declared.room.Limits.{Limits}
+use Rattle.hc_rules.specs.declared.room.Write.{Write}
+use Rattle.hc_model.specs.Cases.{case_at}
+use Rattle.hc_model.specs.Closings.{closing, closes_row, must_close, is_refused, is_doomed, has_no_survivor, is_left, leaver, brings_head}
+use Rattle.hc_model.specs.Currents.{is_number}
+use Rattle.hc_model.specs.Dooms.{doomed_key_of}
+use Rattle.hc_model.specs.Entries.{Entry, entry_without_acts}
+use Rattle.hc_model.specs.ExchangeRows.{exchange_heard}
+use Rattle.hc_model.specs.Exchanges.{family}
+use Rattle.hc_model.specs.Rows.{Tables, Exchange, Representation}
+use Rattle.hc_model.specs.Weights.{evicted, first_idle, room_by, room_for, write_in}
+use Rattle.hc_model.specs.Writers.{brings_body, loses_writing}
+use Rattle.hc_effects.proofs.Tests.{and_false, then_false}
+
+pub record ClosesLittle (t : Tables) (e : Entry) : Type 0 where
+  pub unrefused : (x : ℕ) → (is_refused (case_at t e) && brings_head x e.event) ≡ false
+  pub undoomed : (x : ℕ) (w : Exchange) → is_doomed t e x w ≡ false
+  pub survives : (x r : ℕ) → has_no_survivor t e x r (t.representation r) ≡ false
+
+-- so where no writing is lost
+pub nothing_lost : (t : Tables) (e : Entry) → ((r : ℕ) (v : Representation) → t.representation r ≡ Some v → loses_writing t e r v ≡ false) → (x r : ℕ) → has_no_survivor t e x r (t.representation r) ≡ false
+nothing_lost t e unlost x r = by_row (t.representation r) refl
+  where
+    by_row : (o : Option Representation) → t.representation r ≡ o → has_no_survivor t e x r o ≡ false
+    by_row None row = refl
+    by_row (Some v) row = and_false (is_number v.writer x && loses_writing t e r v) _ (then_false (is_number v.writer x) (loses_writing t e r v) (unlost r v row))
+
+-- so at an event that brings neither a head nor a piece, and dooms nothing
+pub quiet_closes : (t : Tables) (e : Entry) → case_at t e ≡ None → doomed_key_of t e ≡ None → brings_body e.event ≡ false → ClosesLittle t e
+quiet_closes t e caseless doomless bodiless = record {
+  unrefused = λ x. rw caseless refl;
+  undoomed = λ x w. rw doomless refl;
+  survives = nothing_lost t e (λ r v row. rw bodiless refl);
+}
+
+pub filter_none : (xs : List ℕ) → filter (λ x. false) xs ≡ []
+filter_none [] = refl
+filter_none (x ∷ xs) = filter_none xs
+
+module _ (t : Tables) (e : Entry) (little : ClosesLittle t e) where
+  must_by : (a b c d : Bool) → a ≡ false → b ≡ false → c ≡ false → (a || b || c || d) ≡ d
+  must_by a b c d p q r = rw (p, q, r) refl
+
+  pub must_as : (x : ℕ) (w : Exchange) → must_close t e x w ≡ is_left t x (leaver e)
+  must_as x w = must_by (is_refused (case_at t e) && brings_head x e.event) (is_doomed t e x w) (has_no_survivor t e x (family x w) (t.representation (family x w))) (is_left t x (leaver e)) (little.unrefused x) (little.undoomed x w) (little.survives x (family x w))
+
+  none_row : leaver e ≡ None → (x : ℕ) (o : Option Exchange) → closes_row t e x o ≡ false
+  none_row none x None = refl
+  none_row none x (Some w) = and_false (must_close t e x w) (exchange_heard t e x e.event w).is_open (must_as x w ∙ ap (is_left t x) none)
+
+  -- nothing, where nobody leaves
+  pub closes_nothing : leaver e ≡ None → closing t e ≡ []
+  unfolding closing
+  closes_nothing none = ap (λ (test : ℕ → Bool). filter test (reverse t.openings)) (fun_ext (λ x. none_row none x (t.exchange x))) ∙ filter_none (reverse t.openings)
+
+-- what writes nothing evicts nothing
+pub evicts_nothing : (limits : Limits) (t : Tables) (now : ℕ) (ev : Event) → write_in t (entry_without_acts now ev) ev ≡ None → evicted limits t now ev ≡ []
+unfolding room_for
+evicts_nothing limits t now ev none = ap (λ (o : Option Write). first_idle t (entry_without_acts now ev) (room_by limits t (entry_without_acts now ev) o)) none

@@ -1,0 +1,158 @@
+-- What a head that founds is.
+use Rattle.std.proofs.Common.{◌≡◌, ℕ, Bool, true, false, Some, refl, sym, ◌∙◌, subst, arith}
+use Rattle.std.specs.Prelude.{◌&&◌, ◌||◌, ◌==◌, not, nat_eq, nat_le, if◌then◌else◌}
+use Rattle.std.proofs.lemmas.Bool.Decides.{nat_tests}
+use Rattle.hc_rules.specs.declared.need.Route.{Route}
+use Rattle.hc_rules.specs.declared.need.Route.TheVariants as route
+use Rattle.hc_rules.specs.declared.heads.HeadCase.{HeadCase}
+use Rattle.hc_rules.specs.declared.heads.HeadCase.TheVariants as case
+use Rattle.hc_rules.specs.declared.heads.HeadView.{HeadView}
+use Rattle.hc_rules.specs.HeadCases.{head_case, case_on, direct_case, turn_case, first_case, later_case}
+use Rattle.hc_rules.specs.Needs.{route_of}
+use Rattle.hc_rules.proofs.Cond.{either}
+use Rattle.hc_model.specs.Cases.{is_founding}
+use Rattle.hc_effects.proofs.Basics.{not_true, not_so}
+
+-- the route that a case is of, and whether its consumer was shown a head
+pub record IsWay (v : HeadView) (way : Route) (shown : Bool) : Type 0 where
+  pub way_is : route_of v.need ≡ way
+  pub shown_is : way ≡ route.Hole → v.shown ≡ shown
+
+pub data CaseBy (v : HeadView) : HeadCase → Type 0 where
+  direct_bad : route_of v.need ≡ route.Direct → v.bad ≡ true → CaseBy v case.DirectBad
+  direct_taken : route_of v.need ≡ route.Direct → CaseBy v case.DirectTaken
+  turn_bad : route_of v.need ≡ route.Turn → v.bad ≡ true → CaseBy v case.TurnBad
+  validated : route_of v.need ≡ route.Turn → v.status ≡ 304 → v.conditional ≡ true → v.lost ≡ false → CaseBy v case.Validated
+  not_validated : route_of v.need ≡ route.Turn → v.status ≡ 304 → CaseBy v case.NotValidated
+  turn_server_error : route_of v.need ≡ route.Turn → CaseBy v case.TurnServerError
+  founds_whole : route_of v.need ≡ route.Turn → v.status ≡ 200 → v.lost ≡ false → v.bad ≡ false → CaseBy v case.FoundsWhole
+  founds_range : route_of v.need ≡ route.Turn → v.status ≡ 206 → v.fits ≡ true → v.lost ≡ false → v.bad ≡ false → CaseBy v case.FoundsRange
+  passes_by : route_of v.need ≡ route.Turn → CaseBy v case.PassesBy
+  first_bad : route_of v.need ≡ route.Hole → v.shown ≡ false → v.bad ≡ true → CaseBy v case.FirstBad
+  first_joins : route_of v.need ≡ route.Hole → v.shown ≡ false → v.joins ≡ true → v.bad ≡ false → CaseBy v case.FirstJoins
+  first_server_error : route_of v.need ≡ route.Hole → v.shown ≡ false → CaseBy v case.FirstServerError
+  first_changed : route_of v.need ≡ route.Hole → v.shown ≡ false → CaseBy v case.FirstChanged
+  first_replaced : route_of v.need ≡ route.Hole → v.shown ≡ false → v.status ≡ 200 → v.lost ≡ false → v.bad ≡ false → CaseBy v case.FirstReplaced
+  first_passes_by : route_of v.need ≡ route.Hole → v.shown ≡ false → CaseBy v case.FirstPassesBy
+  later_bad : route_of v.need ≡ route.Hole → v.shown ≡ true → v.bad ≡ true → CaseBy v case.LaterBad
+  later_joins : route_of v.need ≡ route.Hole → v.shown ≡ true → v.joins ≡ true → v.bad ≡ false → CaseBy v case.LaterJoins
+  later_changed : route_of v.need ≡ route.Hole → v.shown ≡ true → CaseBy v case.LaterChanged
+
+left : (a b : Bool) → (a && b) ≡ true → a ≡ true
+left true b h = refl
+left false b h = absurd (let never : false ≡ true = h in cc)
+
+right : (a b : Bool) → (a && b) ≡ true → b ≡ true
+right true b h = h
+right false b h = absurd (let never : false ≡ true = h in cc)
+
+is_number : (a b : ℕ) → (a == b) ≡ true → a ≡ b
+is_number a b h = let test : nat_eq a b ≡ true = h in grind (arith, nat_tests)
+
+module _ (v : HeadView) where
+  direct : route_of v.need ≡ route.Direct → CaseBy v (direct_case v)
+  direct way = either (CaseBy v) v.bad _ _ (direct_bad way) (λ h. direct_taken way)
+
+  turn : route_of v.need ≡ route.Turn → CaseBy v (turn_case v)
+  turn way =
+      either (CaseBy v) v.bad _ _ (turn_bad way) (λ good.
+      either (CaseBy v) (v.status == 304 && v.conditional && v.selects && not v.lost) _ _ (λ h. validated way (is_number v.status 304 (left (v.status == 304) _ (left _ v.selects (left _ (not v.lost) h)))) (right (v.status == 304) v.conditional (left _ v.selects (left _ (not v.lost) h))) (not_true v.lost (right _ (not v.lost) h))) (λ h0.
+      either (CaseBy v) (v.status == 304 && v.conditional) _ _ (λ h. not_validated way (is_number v.status 304 (left (v.status == 304) _ h))) (λ h1.
+      either (CaseBy v) (nat_le 500 v.status) _ _ (λ h. turn_server_error way) (λ h2.
+      either (CaseBy v) (v.status == 200 && v.storable && not v.lost) _ _ (λ h. founds_whole way (is_number v.status 200 (left (v.status == 200) _ (left _ (not v.lost) h))) (not_true v.lost (right _ (not v.lost) h)) good) (λ h3.
+      either (CaseBy v) (v.status == 206 && v.storable && v.fits && not v.lost) _ _ (λ h. founds_range way (is_number v.status 206 (left (v.status == 206) _ (left _ v.fits (left _ (not v.lost) h)))) (right _ v.fits (left _ (not v.lost) h)) (not_true v.lost (right _ (not v.lost) h)) good) (λ h4. passes_by way))))))
+
+  first : route_of v.need ≡ route.Hole → v.shown ≡ false → CaseBy v (first_case v)
+  first way shown =
+      either (CaseBy v) v.bad _ _ (first_bad way shown) (λ good.
+      either (CaseBy v) v.joins _ _ (λ h. first_joins way shown h good) (λ h0.
+      either (CaseBy v) (nat_le 500 v.status) _ _ (λ h. first_server_error way shown) (λ h1.
+      either (CaseBy v) (v.status == 206 || v.status == 304 || v.status == 416) _ _ (λ h. first_changed way shown) (λ h2.
+      either (CaseBy v) (v.status == 200 && v.storable && not v.lost) _ _ (λ h. first_replaced way shown (is_number v.status 200 (left (v.status == 200) _ (left _ (not v.lost) h))) (not_true v.lost (right _ (not v.lost) h)) good) (λ h3. first_passes_by way shown)))))
+
+  later : route_of v.need ≡ route.Hole → v.shown ≡ true → CaseBy v (later_case v)
+  later way shown =
+      either (CaseBy v) v.bad _ _ (later_bad way shown) (λ good.
+      either (CaseBy v) v.joins _ _ (λ h. later_joins way shown h good) (λ h. later_changed way shown))
+
+  by_route : (way : Route) → route_of v.need ≡ way → CaseBy v (case_on way v)
+  by_route route.Direct way = direct way
+  by_route route.Turn way = turn way
+  by_route route.Hole way = either (CaseBy v) v.shown _ _ (later way) (first way)
+
+  pub case_by : CaseBy v (head_case v)
+  unfolding head_case
+  case_by = by_route (route_of v.need) refl
+
+-- WHAT FOUNDS
+
+-- why a head founds
+pub data FoundingBy (v : HeadView) : HeadCase → Type 0 where
+  whole : route_of v.need ≡ route.Turn → v.status ≡ 200 → v.lost ≡ false → FoundingBy v case.FoundsWhole
+  part : route_of v.need ≡ route.Turn → v.status ≡ 206 → v.fits ≡ true → v.lost ≡ false → v.bad ≡ false → FoundingBy v case.FoundsRange
+  replaced : route_of v.need ≡ route.Hole → v.status ≡ 200 → v.lost ≡ false → FoundingBy v case.FirstReplaced
+
+founding_of : (v : HeadView) (g : HeadCase) → CaseBy v g → is_founding (Some g) ≡ true → FoundingBy v g
+founding_of v _ (founds_whole way h l g) on = whole way h l
+founding_of v _ (founds_range way h f l g) on = part way h f l g
+founding_of v _ (first_replaced way shown h l g) on = replaced way h l
+founding_of v _ (direct_bad way h) on = absurd (let never : false ≡ true = on in cc)
+founding_of v _ (direct_taken way) on = absurd (let never : false ≡ true = on in cc)
+founding_of v _ (turn_bad way h) on = absurd (let never : false ≡ true = on in cc)
+founding_of v _ (validated way h d l) on = absurd (let never : false ≡ true = on in cc)
+founding_of v _ (not_validated way h) on = absurd (let never : false ≡ true = on in cc)
+founding_of v _ (turn_server_error way) on = absurd (let never : false ≡ true = on in cc)
+founding_of v _ (passes_by way) on = absurd (let never : false ≡ true = on in cc)
+founding_of v _ (first_bad way shown h) on = absurd (let never : false ≡ true = on in cc)
+founding_of v _ (first_joins way shown h g) on = absurd (let never : false ≡ true = on in cc)
+founding_of v _ (first_server_error way shown) on = absurd (let never : false ≡ true = on in cc)
+founding_of v _ (first_changed way shown) on = absurd (let never : false ≡ true = on in cc)
+founding_of v _ (first_passes_by way shown) on = absurd (let never : false ≡ true = on in cc)
+founding_of v _ (later_bad way shown h) on = absurd (let never : false ≡ true = on in cc)
+founding_of v _ (later_joins way shown h g) on = absurd (let never : false ≡ true = on in cc)
+founding_of v _ (later_changed way shown) on = absurd (let never : false ≡ true = on in cc)
+
+pub founding_by : (v : HeadView) → is_founding (Some (head_case v)) ≡ true → FoundingBy v (head_case v)
+founding_by v on = founding_of v (head_case v) (case_by v) on
+
+turn_direct : route.Turn ≡ route.Direct → ⊥
+turn_direct is = cc
+
+hole_direct : route.Hole ≡ route.Direct → ⊥
+hole_direct is = cc
+
+-- it isn't past the store
+pub founds_way : (v : HeadView) (g : HeadCase) → FoundingBy v g → route_of v.need ≡ route.Direct → ⊥
+founds_way v _ (whole way h l) past = turn_direct (sym way ∙ past)
+founds_way v _ (part way h f l g) past = turn_direct (sym way ∙ past)
+founds_way v _ (replaced way h l) past = hole_direct (sym way ∙ past)
+
+-- a 304 founds nothing
+pub unchanged_founds : (v : HeadView) → v.status ≡ 304 → is_founding (Some (head_case v)) ≡ false
+unchanged_founds v status = not_so (is_founding (Some (head_case v))) (λ on. by_case (founding_by v on))
+  where
+    by_case : {g : HeadCase} → FoundingBy v g → ⊥
+    by_case (whole way h l) = let no : 304 ≡ 200 = sym status ∙ h in omega arith
+    by_case (part way h f l g) = let no : 304 ≡ 206 = sym status ∙ h in omega arith
+    by_case (replaced way h l) = let no : 304 ≡ 200 = sym status ∙ h in omega arith
+
+-- WHAT IS VALIDATED
+
+not_validated_is : (b : Bool) → (if b then case.TurnBad else case.NotValidated) ≡ case.Validated → ⊥
+not_validated_is true h = let no : case.TurnBad ≡ case.Validated = h in cc
+not_validated_is false h = let no : case.NotValidated ≡ case.Validated = h in cc
+
+-- a head that validates selects what is stored
+pub validated_selects : (v : HeadView) → head_case v ≡ case.Validated → v.selects ≡ true
+unfolding head_case
+validated_selects v is = by_case (subst (CaseBy v) is (case_by v))
+  where
+    by_case : CaseBy v case.Validated → v.selects ≡ true
+    by_case (validated way status conditional kept) = by_test v.selects refl
+      where
+        by_test : (b : Bool) → v.selects ≡ b → b ≡ true
+        by_test true on = refl
+        by_test false off =
+            let unchanged : nat_eq v.status 304 ≡ true = let h : v.status ≡ 304 = status in grind (arith, nat_tests) in
+            let other : head_case v ≡ (if v.bad then case.TurnBad else case.NotValidated) = rw (way, unchanged, conditional, off) refl in
+            absurd (not_validated_is v.bad (sym other ∙ is))

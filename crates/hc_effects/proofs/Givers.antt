@@ -1,0 +1,41 @@
+-- A poll that gives is one of a reader, and wants something.
+use Rattle.std.proofs.Common.{◌≡◌, inl, inr, ℕ, zero, suc, ◌<◌, true, None, ap, sym, ◌∙◌, arith}
+use Rattle.std.specs.Prelude.{nat_lt}
+use Rattle.hc_sparse.specs.declared.run.Run.{Run}
+use Rattle.hc_event.specs.declared.act.Wait.TheVariants as wait
+use Rattle.hc_event.specs.declared.event.Event.{Event}
+use Rattle.hc_event.specs.declared.event.Event.TheVariants as event
+use Rattle.hc_rules.specs.Refusals as refusals
+use Rattle.hc_model.specs.Denials.{denial, is_live}
+use Rattle.hc_model.specs.Moves as moves
+use Rattle.hc_model.specs.Moves.{Move, Nothing, Gives, Fails}
+use Rattle.hc_model.specs.Rows.{Tables, Consumer}
+use Rattle.hc_model.specs.Steps.{reading}
+use Rattle.hc_effects.proofs.Basics.{false_true}
+use Rattle.hc_effects.proofs.HoleLemmas.{bool_cases}
+use Rattle.hc_effects.proofs.MoveBy.{MoveBy}
+use Rattle.hc_effects.proofs.MoveBy as by_move
+use Rattle.hc_effects.proofs.Once.{never}
+
+module _ (t : Tables) (c : ℕ) where
+  zero_refused : denial t (event.Poll c 0) ≡ None → ⊥
+  unfolding refusals.refusal_of
+  zero_refused h = elim (bool_cases (nat_lt t.last_start c)) [
+    | inl early ↦ never _ (rw early at h)
+    | inr on ↦ elim (bool_cases (is_live (t.consumer c))) [
+      | inl live ↦ never _ (rw (on, live) at h)
+      | inr over ↦ never _ (rw (on, over) at h)
+    ]
+  ]
+
+  pub some_want : (want : ℕ) (ev : Event) → denial t ev ≡ None → ev ≡ event.Poll c want → 0 < want
+  some_want zero ev goes at = absurd (zero_refused (sym (ap (denial t) at) ∙ goes))
+  some_want (suc n) ev goes at = omega arith
+
+pub gives_of : (t : Tables) (now c want : ℕ) (k : Consumer) (run : Run) (m : Move) → MoveBy t now want c k m → m ≡ Gives run → k.shown ≡ true → reading t want c k ≡ Gives run
+gives_of t now c want k run m (by_move.shows _ unshown at) is on = absurd (false_true (sym unshown ∙ on))
+gives_of t now c want k run _ (by_move.waits x own bare) is on = absurd (let no : moves.Waits (wait.Head x) ≡ Gives run = is in cc)
+gives_of t now c want k run _ (by_move.down why_down at) is on = absurd (let no : Fails why_down ≡ Gives run = is in cc)
+gives_of t now c want k run _ (by_move.over at) is on = absurd (let no : Nothing ≡ Gives run = is in cc)
+gives_of t now c want k run _ (by_move.reads shown_on heard) is on = is
+gives_of t now c want k run _ (by_move.plans unshown free none heard) is on = absurd (false_true (sym unshown ∙ on))

@@ -1,0 +1,390 @@
+-- What is being written for several has a reader.
+use Rattle.std.proofs.Common.{◌≡◌, ◌≢◌, ◌⊎◌, inl, inr, ℕ, List, [], ◌∷◌, Bool, true, false, cond, Option, Some, None, refl, ap, sym, ◌∙◌, subst, arith}
+use Rattle.std.specs.Prelude.{◌&&◌, ◌||◌, ◌==◌, not, nat_eq, filter}
+use Rattle.std.specs.List.{list_all}
+use Rattle.std.proofs.lemmas.Bool.Decides.{nat_tests}
+use Rattle.hc_event.specs.Filters.{leaves_in, closes_in}
+use Rattle.hc_event.specs.declared.event.Event.{Event}
+use Rattle.hc_event.specs.declared.event.Event.TheVariants as event
+use Rattle.hc_event.specs.declared.event.Response.{Response}
+use Rattle.hc_rules.specs.declared.heads.HeadCase.{HeadCase}
+use Rattle.hc_rules.specs.declared.heads.HeadCase.TheVariants as case
+use Rattle.hc_rules.specs.declared.room.Limits.{Limits}
+use Rattle.hc_event.specs.declared.place.Place.{Place}
+use Rattle.hc_event.specs.declared.place.Place.TheVariants as place
+use Rattle.hc_event.specs.declared.place.BoundBy.{BoundBy}
+use Rattle.hc_event.specs.declared.place.BoundBy.TheVariants as by
+use Rattle.hc_model.specs.Cases.{case_at, head_view, is_founding, is_joining}
+use Rattle.hc_model.specs.Closings.{must_close, is_left, is_left_by, is_last_reader, leaver, leaver_by}
+use Rattle.hc_model.specs.ConsumerRows.{consumer_heard, consumer_acted, becomes_shared, by_head, place_by_case, due_after, back_in_line}
+use Rattle.hc_model.specs.Currents.{is_number}
+use Rattle.hc_model.specs.Denials.{denial}
+use Rattle.hc_model.specs.Dooms.{doomed_key_of, doomed_in, doomed_by_head, doomed_by_case, is_key}
+use Rattle.hc_model.specs.Entries.{Entry}
+use Rattle.hc_model.specs.ExchangeRows.{exchange_heard, exchange_acted, promise_in}
+use Rattle.hc_model.specs.Exchanges.{exchange_at, is_for, is_open}
+use Rattle.hc_model.specs.Flaws.{Flaw}
+use Rattle.hc_model.specs.Keys.{entry_of}
+use Rattle.hc_model.specs.Owners.{Owners, IsAwaiting}
+use Rattle.hc_model.specs.Owners as owners
+use Rattle.hc_model.specs.Reading.{is_written, is_bound, is_bound_place, bound, shared_exchange}
+use Rattle.hc_model.specs.Rows.{Tables, Exchange, Representation, Consumer}
+use Rattle.hc_model.specs.Runs.{may_stand}
+use Rattle.hc_model.specs.Sound.{Sound, Numbered, Among, IsBound}
+use Rattle.hc_model.specs.Sound as sound
+use Rattle.hc_model.specs.StartingOver.{starts_over, waits_at, sends_back, loses_what_it_waits_for}
+use Rattle.hc_model.specs.Tables.{after_accepted}
+use Rattle.hc_effects.proofs.ApartKeeps.{is_on, was_written, founded_shared}
+use Rattle.hc_effects.proofs.Basics.{false_true, and_left, and_right, and_both, or_cases, or_right, not_so, none_some, number_is}
+use Rattle.hc_effects.proofs.BoundKeeps.{binds_kept}
+use Rattle.hc_effects.proofs.Closed.{before, closes}
+use Rattle.hc_effects.proofs.FirstKeeps.{case_is, is_new}
+use Rattle.hc_effects.proofs.Forward.{is_kept, after_is}
+use Rattle.hc_effects.proofs.HoleLemmas.{bool_cases}
+use Rattle.hc_effects.proofs.MemberStays.{member_stays}
+use Rattle.hc_effects.proofs.NamesKeep.{names_are_kept}
+use Rattle.hc_effects.proofs.NumbersKeep.{numbers_are_kept}
+use Rattle.hc_effects.proofs.PieceKeeps.{eq_cases, some_inj}
+use Rattle.hc_effects.proofs.ExclusiveWriters.{writer_some, bound_some}
+use Rattle.hc_effects.proofs.RepFrom.{RepFrom, rep_from, IsKept, IsResumed}
+use Rattle.hc_effects.proofs.RepFrom as rep
+use Rattle.hc_effects.proofs.Said.{leaving_by}
+use Rattle.hc_effects.proofs.SaidActs.{leaves_leaver}
+use Rattle.hc_effects.proofs.ToBeShown.{heard_place}
+use Rattle.hc_effects.proofs.FoundBy.{CaseBy, case_by}
+use Rattle.hc_effects.proofs.FoundBy as cases
+use Rattle.hc_rules.specs.declared.need.Route.TheVariants as route
+use Rattle.hc_rules.specs.Needs.{route_of}
+use Rattle.hc_rules.specs.HeadCases.{head_case}
+use Rattle.hc_model.specs.ActFilters.{has_loss}
+use Rattle.hc_model.specs.RepresentationRows.{writer_at}
+use Rattle.hc_effects.proofs.Waiters.{IsWaiter, waiter_of}
+
+-- LISTS OF READERS
+
+pub among_passes : (test : ℕ → Bool) (d : ℕ) (ds : List ℕ) → Among d (filter test ds) → test d ≡ true
+among_passes test d [] there = absurd there
+among_passes test d (z ∷ ds) there = elim (bool_cases (test z)) [
+  | inr off ↦ among_passes test d ds (rw off at there)
+  | inl taken ↦
+      let either : (z ≡ d) ⊎ Among d (filter test ds) = rw taken at there in
+      elim either [
+        | inl here ↦ sym (ap test here) ∙ taken
+        | inr more ↦ among_passes test d ds more
+      ]
+]
+
+pub some_among : (ds : List ℕ) → ds ≢ [] → (d : ℕ) × Among d ds
+some_among [] some = absurd (some refl)
+some_among (d ∷ ds) some = (d, inl refl)
+
+-- one that isn't l, where not all are
+other_among : (l : ℕ) (ds : List ℕ) → list_all (λ d. d == l) ds ≡ false → (d : ℕ) × Among d ds × (d ≡ l → ⊥)
+other_among l [] h = absurd (let no : true ≡ false = h in cc)
+other_among l (d ∷ ds) h = elim (eq_cases d l) [
+  | inr off ↦ (d, inl refl, off.1)
+  | inl here ↦ let all = other_among l ds (rw here.0 at h) in (all.0, inr all.1, all.2)
+]
+
+all_same : (l d : ℕ) (ds : List ℕ) → list_all (λ z. z == l) ds ≡ true → Among d ds → d ≡ l
+all_same l d [] h there = absurd there
+all_same l d (z ∷ ds) h (inl same) = let test : nat_eq z l ≡ true = and_left (z == l) _ h in let here : z ≡ l = grind (arith, nat_tests) in sym same ∙ here
+all_same l d (z ∷ ds) h (inr more) = all_same l d ds (and_right (z == l) _ h) more
+
+-- A READER OF r
+
+pub bound_at : (t : Tables) (r d : ℕ) (k : Consumer) (p : Place) → t.consumer d ≡ Some k → k.place ≡ p → is_bound_place r p ≡ true → IsBound t r d k
+bound_at t r d k place.Line row at h = absurd (false_true h)
+bound_at t r d k (place.Passed q kept) row at h = absurd (false_true h)
+bound_at t r d k (place.Turn x) row at h = absurd (false_true h)
+bound_at t r d k (place.Bound q lo hi how) row at h =
+    let test : nat_eq q r ≡ true = h in
+    let same : q ≡ r = grind (arith, nat_tests) in
+    sound.is_bound lo hi how row (at ∙ ap (λ z. place.Bound z lo hi how) same)
+bound_at t r d k (place.Direct x) row at h = absurd (false_true h)
+bound_at t r d k (place.Down cause) row at h = absurd (false_true h)
+bound_at t r d k place.Over row at h = absurd (false_true h)
+
+pub bound_row : (t : Tables) (r d : ℕ) (z : Option Consumer) → t.consumer d ≡ z → is_bound r z ≡ true → (k : Consumer) × IsBound t r d k
+bound_row t r d None row h = absurd (false_true h)
+bound_row t r d (Some k) row h = (k, bound_at t r d k k.place row refl h)
+
+pub reader_of : (t : Tables) (r d : ℕ) → Among d (bound t r) → (k : Consumer) × IsBound t r d k
+unfolding bound
+reader_of t r d there = bound_row t r d (t.consumer d) refl (among_passes (λ c. is_bound r (t.consumer c)) d t.starts there)
+
+module _ (limits : Limits) (t : Tables) (now : ℕ) (flaw : Flaw) (s : Sound t) (o : Owners t) (ev : Event) (goes : denial t ev ≡ None) (stand : may_stand limits t (entry_of limits t now ev flaw) ≡ true) where
+  abbrev e : Entry
+  e = entry_of limits t now ev flaw
+
+  abbrev b : Entry
+  b = before limits t now flaw s ev
+
+  abbrev now_on : Tables
+  now_on = after_accepted t e
+
+  numbered : Numbered now_on
+  numbered = record {
+    lists = numbers_are_kept limits t now flaw s ev goes;
+    names = names_are_kept limits t now flaw s ev goes;
+    bound_to = λ r c k reader. binds_kept limits t now flaw s ev goes r c k reader;
+  }
+
+  read_by : (r c : ℕ) → (u : Consumer) × IsBound now_on r c u → bound now_on r ≢ []
+  read_by r c all = bound_some now_on r c all.0 numbered all.1
+
+  -- WHO DOESN'T LEAVE
+
+  stays_by : (r c : ℕ) (k : Consumer) (v : Representation) → IsBound t r c k → t.representation r ≡ Some v → is_written t v ≡ true → (leaver b ≡ Some c → ⊥) → (u : Consumer) × IsBound now_on r c u
+  stays_by r c k v (sound.is_bound lo hi how row at) there on stays =
+      member_stays limits t now flaw s o ev goes c r lo hi how k v row at there on (λ here. stays (ap (λ z. leaver_by z b.acts) here)) (not_so (leaves_in c e.acts) (λ leaves. stays (leaves_leaver limits t now flaw s ev c leaves)))
+
+  -- THE LAST READER CLOSES IT
+
+  heard_open : (x : ℕ) (v : Event) (w : Exchange) → (exchange_heard t e x v w).is_open ≡ (exchange_heard t b x v w).is_open
+  heard_open x (event.Start d request) w = refl
+  heard_open x (event.Poll d want) w = refl
+  heard_open x (event.Head y response) w = elim (eq_cases y x) [ inl here ↦ rw here.0 refl | inr off ↦ rw off.0 refl ]
+  heard_open x (event.Piece y bytes) w = elim (eq_cases y x) [ inl here ↦ rw here.0 refl | inr off ↦ rw off.0 refl ]
+  heard_open x (event.End y) w = elim (eq_cases y x) [ inl here ↦ rw here.0 refl | inr off ↦ rw off.0 refl ]
+  heard_open x (event.Fault y) w = elim (eq_cases y x) [ inl here ↦ rw here.0 refl | inr off ↦ rw off.0 refl ]
+  heard_open x (event.Cancel d) w = refl
+  heard_open x (event.Doom key) w = refl
+
+  -- what stays open had not to be closed
+  pub not_must : (x : ℕ) (w : Exchange) → t.exchange x ≡ Some w → is_open (now_on.exchange x) ≡ true → must_close t b x w ≡ true → ⊥
+  not_must x w row on must =
+      let is : now_on.exchange x ≡ Some (exchange_acted x e.acts (exchange_heard t e x ev w)) = after_is t e x w (t.exchange x) row in
+      let acted : (not (closes_in x e.acts) && (exchange_heard t e x ev w).is_open) ≡ true = sym (ap is_open is) ∙ on in
+      let heard : (exchange_heard t b x ev w).is_open ≡ true = sym (heard_open x ev w) ∙ and_right _ _ acted in
+      let shut : closes_in x e.acts ≡ true = closes limits t now flaw s ev x w row must heard in
+      let off : not (closes_in x e.acts) ≡ true = and_left _ _ acted in
+      false_true (sym (ap not shut) ∙ off)
+
+  shared_is : (r l x : ℕ) (k : Consumer) (v : Representation) → IsBound t r l k → t.representation r ≡ Some v → is_written t v ≡ true → v.writer ≡ Some x → list_all (λ d. d == l) (bound t r) ≡ true → is_left_by t x l (Some k) ≡ true
+  shared_is r l x k v (sound.is_bound lo hi how row at) there on writer all =
+      let from : shared_exchange t k.place ≡ Some x = rw (at, there, on) writer in
+      let number : is_number (shared_exchange t k.place) x ≡ true = ap (λ z. is_number z x) from ∙ (let test : nat_eq x x ≡ true = grind (arith, nat_tests) in test) in
+      let last : is_last_reader t l k.place ≡ true = ap (is_last_reader t l) at ∙ all in
+      or_right _ _ (and_both _ _ number last)
+
+  last_closes : (r l x : ℕ) (k : Consumer) (v : Representation) → leaver b ≡ Some l → IsBound t r l k → t.representation r ≡ Some v → is_written t v ≡ true → v.writer ≡ Some x → list_all (λ d. d == l) (bound t r) ≡ true → is_open (now_on.exchange x) ≡ true → ⊥
+  last_closes r l x k v leaves reader there on writer all open_now =
+      let grows = (s.rows r v there).growing x on writer in
+      let left : is_left t x (leaver b) ≡ true = ap (is_left t x) leaves ∙ (ap (is_left_by t x l) (row_of reader) ∙ shared_is r l x k v reader there on writer all) in
+      not_must x grows.0 (grows.1).row open_now (or_right _ _ left)
+    where
+      row_of : IsBound t r l k → t.consumer l ≡ Some k
+      row_of (sound.is_bound lo hi how row at) = row
+
+  number_of : (d l : ℕ) → Some d ≡ Some l → d ≡ l
+  number_of d l is = cc
+
+  by_leaver : (r x : ℕ) (v : Representation) (z : Option ℕ) → leaver b ≡ z → t.representation r ≡ Some v → is_written t v ≡ true → v.writer ≡ Some x → is_open (now_on.exchange x) ≡ true → bound now_on r ≢ []
+  by_leaver r x v None leaves there on writer open_now =
+      let one = some_among (bound t r) (s.writes.has_bound r v there on) in
+      let reader = reader_of t r one.0 one.1 in
+      read_by r one.0 (stays_by r one.0 reader.0 v reader.1 there on (λ is. none_some one.0 (sym leaves ∙ is)))
+  by_leaver r x v (Some l) leaves there on writer open_now = by_test (list_all (λ d. d == l) (bound t r)) refl
+    where
+      by_test : (a : Bool) → list_all (λ d. d == l) (bound t r) ≡ a → bound now_on r ≢ []
+      by_test false some =
+          let other = other_among l (bound t r) some in
+          let reader = reader_of t r other.0 other.1 in
+          read_by r other.0 (stays_by r other.0 reader.0 v reader.1 there on (λ is. other.2 (number_of other.0 l (sym is ∙ leaves))))
+      by_test true all =
+          let one = some_among (bound t r) (s.writes.has_bound r v there on) in
+          let same : one.0 ≡ l = all_same l one.0 (bound t r) all one.1 in
+          let reader = reader_of t r l (subst (λ d. Among d (bound t r)) same one.1) in
+          absurd (last_closes r l x reader.0 v leaves reader.1 there on writer all open_now)
+
+  -- BY A HEAD
+
+  head_leaves : (c x : ℕ) (response : Response) → ev ≡ event.Head x response → leaves_in c e.acts ≡ false
+  head_leaves c x response here = not_so (leaves_in c e.acts) (λ leaves. let by_poll = leaving_by limits t now flaw s ev goes c leaves in let no : event.Head x response ≡ event.Poll c by_poll.want = sym here ∙ by_poll.poll.at in cc)
+
+  head_place : (c x : ℕ) (response : Response) (w : Exchange) (k : Consumer) (z : Option Exchange) → z ≡ Some w → w.c ≡ c → (by_head t e c x response z k).place ≡ place_by_case x response w k (case_at t e)
+  head_place c x response w k None is mine = absurd (none_some w is)
+  head_place c x response w k (Some q) is mine = elim (eq_cases q.c c) [
+    | inl here ↦ rw here.0 (ap (λ (p : Exchange). place_by_case x response p k (case_at t e)) (some_inj q w is))
+    | inr other ↦ absurd (other.1 (ap (λ (p : Exchange). p.c) (some_inj q w is) ∙ mine))
+  ]
+
+  -- a head that binds its consumer, or leaves it bound: it dooms nothing, and sends nobody back
+  binding : (g : Option HeadCase) → ((is_founding g || is_joining g) ≡ true) → (w : Exchange) (response : Response) → (doomed_by_case g w response ≡ None) × (sends_back g ≡ false)
+  binding None h w response = absurd (false_true h)
+  binding (Some case.FoundsWhole) h w response = (refl, refl)
+  binding (Some case.FoundsRange) h w response = (refl, refl)
+  binding (Some case.FirstReplaced) h w response = (refl, refl)
+  binding (Some case.FirstJoins) h w response = (refl, refl)
+  binding (Some case.LaterJoins) h w response = (refl, refl)
+  binding (Some case.DirectBad) h w response = absurd (false_true h)
+  binding (Some case.DirectTaken) h w response = absurd (false_true h)
+  binding (Some case.TurnBad) h w response = absurd (false_true h)
+  binding (Some case.Validated) h w response = absurd (false_true h)
+  binding (Some case.NotValidated) h w response = absurd (false_true h)
+  binding (Some case.TurnServerError) h w response = absurd (false_true h)
+  binding (Some case.PassesBy) h w response = absurd (false_true h)
+  binding (Some case.FirstBad) h w response = absurd (false_true h)
+  binding (Some case.FirstServerError) h w response = absurd (false_true h)
+  binding (Some case.FirstChanged) h w response = absurd (false_true h)
+  binding (Some case.FirstPassesBy) h w response = absurd (false_true h)
+  binding (Some case.LaterBad) h w response = absurd (false_true h)
+  binding (Some case.LaterChanged) h w response = absurd (false_true h)
+
+  module _ (c x : ℕ) (response : Response) (w : Exchange) (k : Consumer) (is : IsWaiter t c x k w) (here : ev ≡ event.Head x response) (binds : (is_founding (case_at t e) || is_joining (case_at t e)) ≡ true) where
+    doomed_none : doomed_key_of t e ≡ None
+    unfolding doomed_key_of
+    doomed_none = ap (doomed_in t e) here ∙ (ap (doomed_by_head t e response) is.exchange_row ∙ (binding (case_at t e) binds w response).0)
+
+    passed_not : (r : ℕ) (kept : Option ℕ) → k.place ≡ place.Passed r kept → IsAwaiting x w k.place → ⊥
+    passed_not r kept at (owners.direct way stands) = let no : place.Direct x ≡ place.Passed r kept = sym stands ∙ at in cc
+    passed_not r kept at (owners.turn way stands) = let no : place.Turn x ≡ place.Passed r kept = sym stands ∙ at in cc
+    passed_not r kept at (owners.hole q lo hi how way aim stands) = let no : place.Bound q lo hi how ≡ place.Passed r kept = sym stands ∙ at in cc
+
+    unpassed : (p : Place) → k.place ≡ p → loses_what_it_waits_for t e c p ≡ true → ⊥
+    unpassed place.Line at h = false_true h
+    unpassed (place.Passed r kept) at h = passed_not r kept at is.at
+    unpassed (place.Turn y) at h = false_true h
+    unpassed (place.Bound r lo hi how) at h = false_true h
+    unpassed (place.Direct y) at h = false_true h
+    unpassed (place.Down cause) at h = false_true h
+    unpassed place.Over at h = false_true h
+
+    pub stays_on : starts_over t e c k ≡ false
+    unfolding starts_over
+    stays_on = not_so _ (λ over. elim (or_cases _ (loses_what_it_waits_for t e c k.place) over) [
+      | inr lost ↦ unpassed k.place refl lost
+      | inl more ↦ elim (or_cases (is_key (doomed_key_of t e) k.request.key && waits_at t k.place) (sends_back (case_at t e) && is_for (exchange_at t ev) c) more) [
+        | inl doom ↦ false_true (sym (ap (λ z. is_key z k.request.key) doomed_none) ∙ and_left _ _ doom)
+        | inr back ↦ false_true (sym (binding (case_at t e) binds w response).1 ∙ and_left _ _ back)
+      ]
+    ])
+
+    settled : (q : Consumer) (over : Bool) → over ≡ false → (cond over (back_in_line e.now q) (due_after t e c k q)) ≡ due_after t e c k q
+    settled q over off = rw off refl
+
+    -- its consumer stands where the head puts it
+    pub head_stands : (u : Consumer) × (now_on.consumer c ≡ Some u) × (u.place ≡ place_by_case x response w k (case_at t e))
+    head_stands =
+        let on = is_kept t e c k is.row in
+        let made : due_after t e c k (consumer_acted t e c (consumer_heard t e c ev k)) ≡ on.u = sym (settled (consumer_acted t e c (consumer_heard t e c ev k)) (starts_over t e c k) stays_on) ∙ on.is in
+        let placed = heard_place limits t now flaw s o ev goes c 0 0 None by.Plan k on.u (λ d want polls. let no : event.Head x response ≡ event.Poll d want = sym here ∙ polls in cc) (record { row = is.row; stays = stays_on; leaves = head_leaves c x response here; is = made }) in
+        (on.u, on.row, placed ∙ (ap (λ v. (consumer_heard t e c v k).place) here ∙ head_place c x response w k (t.exchange x) is.exchange_row is.for_it))
+
+  turn_hole : route.Turn ≡ route.Hole → ⊥
+  turn_hole h = cc
+
+  direct_hole : route.Direct ≡ route.Hole → ⊥
+  direct_hole h = cc
+
+  pub joins_way : (t : Tables) (lost : Bool) (w : Exchange) (response : Response) (g : HeadCase) → CaseBy (head_view t lost w response) g → is_joining (Some g) ≡ true → route_of w.need ≡ route.Hole
+  joins_way t lost w response _ (cases.first_joins way shown joins good) on = way
+  joins_way t lost w response _ (cases.later_joins way shown joins good) on = way
+  joins_way t lost w response _ (cases.direct_bad way h) on = absurd (false_true on)
+  joins_way t lost w response _ (cases.direct_taken way) on = absurd (false_true on)
+  joins_way t lost w response _ (cases.turn_bad way h) on = absurd (false_true on)
+  joins_way t lost w response _ (cases.validated way h d l) on = absurd (false_true on)
+  joins_way t lost w response _ (cases.not_validated way h) on = absurd (false_true on)
+  joins_way t lost w response _ (cases.turn_server_error way) on = absurd (false_true on)
+  joins_way t lost w response _ (cases.founds_whole way h l g) on = absurd (false_true on)
+  joins_way t lost w response _ (cases.founds_range way h f l g) on = absurd (false_true on)
+  joins_way t lost w response _ (cases.passes_by way) on = absurd (false_true on)
+  joins_way t lost w response _ (cases.first_bad way shown h) on = absurd (false_true on)
+  joins_way t lost w response _ (cases.first_server_error way shown) on = absurd (false_true on)
+  joins_way t lost w response _ (cases.first_changed way shown) on = absurd (false_true on)
+  joins_way t lost w response _ (cases.first_replaced way shown h l g) on = absurd (false_true on)
+  joins_way t lost w response _ (cases.first_passes_by way shown) on = absurd (false_true on)
+  joins_way t lost w response _ (cases.later_bad way shown h) on = absurd (false_true on)
+  joins_way t lost w response _ (cases.later_changed way shown) on = absurd (false_true on)
+
+  pub joins_place : (x : ℕ) (response : Response) (w : Exchange) (k : Consumer) (g : Option HeadCase) → is_joining g ≡ true → place_by_case x response w k g ≡ k.place
+  joins_place x response w k None h = absurd (false_true h)
+  joins_place x response w k (Some case.FirstJoins) h = refl
+  joins_place x response w k (Some case.LaterJoins) h = refl
+  joins_place x response w k (Some case.FoundsWhole) h = absurd (false_true h)
+  joins_place x response w k (Some case.FoundsRange) h = absurd (false_true h)
+  joins_place x response w k (Some case.FirstReplaced) h = absurd (false_true h)
+  joins_place x response w k (Some case.DirectBad) h = absurd (false_true h)
+  joins_place x response w k (Some case.DirectTaken) h = absurd (false_true h)
+  joins_place x response w k (Some case.TurnBad) h = absurd (false_true h)
+  joins_place x response w k (Some case.Validated) h = absurd (false_true h)
+  joins_place x response w k (Some case.NotValidated) h = absurd (false_true h)
+  joins_place x response w k (Some case.TurnServerError) h = absurd (false_true h)
+  joins_place x response w k (Some case.PassesBy) h = absurd (false_true h)
+  joins_place x response w k (Some case.FirstBad) h = absurd (false_true h)
+  joins_place x response w k (Some case.FirstServerError) h = absurd (false_true h)
+  joins_place x response w k (Some case.FirstChanged) h = absurd (false_true h)
+  joins_place x response w k (Some case.FirstPassesBy) h = absurd (false_true h)
+  joins_place x response w k (Some case.LaterBad) h = absurd (false_true h)
+  joins_place x response w k (Some case.LaterChanged) h = absurd (false_true h)
+
+  or_left : (a c : Bool) → a ≡ true → (a || c) ≡ true
+  or_left true c h = refl
+  or_left false c h = absurd (false_true h)
+
+  -- the consumer of a head that joins reads what it joins
+  pub awaiting_bound : (x r : ℕ) (w : Exchange) (p : Place) → route_of w.need ≡ route.Hole → w.aim ≡ Some r → IsAwaiting x w p → (lo : ℕ) × (hi : Option ℕ) × (how : BoundBy) × (p ≡ place.Bound r lo hi how)
+  awaiting_bound x r w p hole aim (owners.direct way stands) = absurd (direct_hole (sym way ∙ hole))
+  awaiting_bound x r w p hole aim (owners.turn way stands) = absurd (turn_hole (sym way ∙ hole))
+  awaiting_bound x r w p hole aim (owners.hole q lo hi how way aimed stands) = (lo, hi, how, stands ∙ ap (λ z. place.Bound z lo hi how) (some_inj q r (sym aimed ∙ aim)))
+
+  by_resumed : (r : ℕ) (v : Representation) (z : Option ℕ) → (R : IsResumed t e r v z) → bound now_on r ≢ []
+  by_resumed r v z R =
+      let new = is_new limits t now flaw s ev goes R.x R.response R.w R.at R.row in
+      let got = waiter_of limits t now flaw s o ev goes R.x R.w R.row new.is_open new.bare in
+      let g = head_case (head_view t (has_loss e.acts) R.w R.response) in
+      let is_case = case_is t e R.x R.response R.w R.at R.row in
+      let hole : route_of R.w.need ≡ route.Hole = joins_way t (has_loss e.acts) R.w R.response g (case_by (head_view t (has_loss e.acts) R.w R.response)) (sym (ap is_joining is_case) ∙ R.joins) in
+      let aim : R.w.aim ≡ Some r = number_is R.w.aim r (and_right _ (is_number R.w.aim r) (and_left _ _ R.renews)) in
+      let at = awaiting_bound R.x r R.w got.0.place hole aim got.1.at in
+      let st = head_stands R.w.c R.x R.response R.w got.0 got.1 R.at (or_right _ _ R.joins) in
+      read_by r R.w.c (st.0, sound.is_bound at.0 at.1 at.2 st.1 (st.2 ∙ (joins_place R.x R.response R.w got.0 (case_at t e) R.joins ∙ at.3)))
+
+  -- and that of one that founds with all of a body reads what it founds
+  founds_place : (r x : ℕ) (response : Response) (w : Exchange) (k : Consumer) (g : Option HeadCase) → becomes_shared t e response w g ≡ true → is_founding g ≡ true → place_by_case x response w k g ≡ place.Bound x 0 (promise_in w response) by.Founding
+  founds_place r x response w k None shared_exchange on = absurd (false_true on)
+  founds_place r x response w k (Some case.FoundsWhole) shared_exchange on = refl
+  founds_place r x response w k (Some case.FirstReplaced) shared_exchange on = refl
+  founds_place r x response w k (Some case.FoundsRange) shared_exchange on = absurd (false_true shared_exchange)
+  founds_place r x response w k (Some case.FirstJoins) shared_exchange on = absurd (false_true on)
+  founds_place r x response w k (Some case.LaterJoins) shared_exchange on = absurd (false_true on)
+  founds_place r x response w k (Some case.DirectBad) shared_exchange on = absurd (false_true on)
+  founds_place r x response w k (Some case.DirectTaken) shared_exchange on = absurd (false_true on)
+  founds_place r x response w k (Some case.TurnBad) shared_exchange on = absurd (false_true on)
+  founds_place r x response w k (Some case.Validated) shared_exchange on = absurd (false_true on)
+  founds_place r x response w k (Some case.NotValidated) shared_exchange on = absurd (false_true on)
+  founds_place r x response w k (Some case.TurnServerError) shared_exchange on = absurd (false_true on)
+  founds_place r x response w k (Some case.PassesBy) shared_exchange on = absurd (false_true on)
+  founds_place r x response w k (Some case.FirstBad) shared_exchange on = absurd (false_true on)
+  founds_place r x response w k (Some case.FirstServerError) shared_exchange on = absurd (false_true on)
+  founds_place r x response w k (Some case.FirstChanged) shared_exchange on = absurd (false_true on)
+  founds_place r x response w k (Some case.FirstPassesBy) shared_exchange on = absurd (false_true on)
+  founds_place r x response w k (Some case.LaterBad) shared_exchange on = absurd (false_true on)
+  founds_place r x response w k (Some case.LaterChanged) shared_exchange on = absurd (false_true on)
+
+  by_founded : (r x : ℕ) (response : Response) (w : Exchange) → ev ≡ event.Head r response → t.exchange r ≡ Some w → is_founding (case_at t e) ≡ true → writer_at r response ≡ Some x → bound now_on r ≢ []
+  by_founded r x response w here row on writer =
+      let new = is_new limits t now flaw s ev goes r response w here row in
+      let got = waiter_of limits t now flaw s o ev goes r w row new.is_open new.bare in
+      let shared_exchange = founded_shared limits t now flaw s o ev goes stand r x response w (case_at t e) here row refl on writer in
+      let st = head_stands w.c r response w got.0 got.1 here (or_left _ _ on) in
+      read_by r w.c (st.0, sound.is_bound 0 (promise_in w response) by.Founding st.1 (st.2 ∙ founds_place r r response w got.0 (case_at t e) shared_exchange on))
+
+  reader_from : (r x : ℕ) (v : Representation) → is_written now_on v ≡ true → v.writer ≡ Some x → RepFrom t e r v → bound now_on r ≢ []
+  reader_from r x v on writer (rep.was q kept) = elim kept.writer_is [
+    | inl same ↦
+        let all = was_written limits t now flaw s o ev goes stand r x q v kept (is_on now_on v x on writer) same writer in
+        by_leaver r x q (leaver b) refl kept.row all.0 all.1 (is_on now_on v x on writer).open_now
+    | inr R ↦ by_resumed r q v.writer R
+  ]
+  reader_from r x v on writer (rep.founded response w none here row founding made) =
+      by_founded r x response w here row founding (ap (λ (z : Representation). z.writer) made ∙ writer)
+
+  by_writer : (r : ℕ) (v : Representation) (z : Option ℕ) → v.writer ≡ z → now_on.representation r ≡ Some v → is_written now_on v ≡ true → bound now_on r ≢ []
+  by_writer r v None writer row on = absurd (writer_some now_on v on writer)
+  by_writer r v (Some x) writer row on = reader_from r x v on writer (rep_from t e r (t.representation r) v refl row)
+
+  -- What is being written for several has a reader.
+  pub has_bound_kept : (r : ℕ) (v : Representation) → now_on.representation r ≡ Some v → is_written now_on v ≡ true → bound now_on r ≢ []
+  has_bound_kept r v row on = by_writer r v v.writer refl row on

@@ -1,0 +1,82 @@
+-- What a poll does that opens an exchange for a hole: a first one binds its consumer, and a later one is that of a reader.
+use Rattle.std.proofs.Common.{◌≡◌, ℕ, [], true, Option, Some, None, refl, ap, sym, ◌∙◌, subst}
+use Rattle.hc_range.specs.declared.range.Span.{Span}
+use Rattle.hc_event.specs.declared.act.Need.{Need}
+use Rattle.hc_event.specs.declared.act.Need.TheVariants as need
+use Rattle.hc_event.specs.declared.event.Event.TheVariants as event
+use Rattle.hc_event.specs.declared.event.Request.{Request}
+use Rattle.hc_rules.specs.declared.request.Wanted.TheVariants as wanted
+use Rattle.hc_rules.specs.declared.room.Limits.{Limits}
+use Rattle.hc_rules.specs.Requests.{range_of, wanted_of}
+use Rattle.hc_event.specs.declared.place.Place.TheVariants as place
+use Rattle.hc_event.specs.declared.place.BoundBy.{BoundBy}
+use Rattle.hc_event.specs.declared.place.BoundBy.TheVariants as by
+use Rattle.hc_model.specs.ConsumerRows.{opened_place, place_for_hole, bound_to_wanted, unless_bound}
+use Rattle.hc_rules.specs.declared.need.Route.TheVariants as route
+use Rattle.hc_model.specs.Currents.{current, row_of}
+use Rattle.hc_model.specs.Effects.{Does, with_event, used_last, with_consumer, with_opening, just_opened}
+use Rattle.hc_model.specs.Entries.{Entry}
+use Rattle.hc_model.specs.ExchangeRows.{aim_from}
+use Rattle.hc_model.specs.Flaws.{NoFlaw}
+use Rattle.hc_model.specs.Lawful.{Lawful}
+use Rattle.hc_model.specs.Moves.{Opens, acts_of}
+use Rattle.hc_model.specs.Polls.{move_of}
+use Rattle.hc_model.specs.Reading.{bound_to}
+use Rattle.hc_model.specs.Rows.{Tables, Representation, Consumer}
+use Rattle.hc_model.specs.Tables.{to_front, binds}
+use Rattle.hc_effects.proofs.Basics.{false_true}
+use Rattle.hc_effects.proofs.OfConsumers.{BringsNothing, binds_as}
+use Rattle.hc_effects.proofs.OpenEffects.{e, nothing, why, opens, keeps_all, about_current}
+use Rattle.hc_effects.proofs.PollEffects.{none_waits}
+
+module _ (limits : Limits) (t : Tables) (law : Lawful t) (now c want : ℕ) (k : Consumer) (row : t.consumer c ≡ Some k) (x from to : ℕ) (request : Request) (is : move_of t now want c k ≡ Opens x (need.Hole from to) request) where
+  abbrev n : Need
+  n = need.Hole from to
+
+  abbrev it : Entry
+  it = e limits t law now c want k row x n request is
+
+  said_nothing : BringsNothing t it c
+  said_nothing = nothing limits t law now c want k row x n request is
+
+  -- A FIRST HOLE
+
+  module _ (free : bound_to k.place ≡ None) (r : ℕ) (v : Representation) (span : Span) (now_is : current t k.request.key ≡ Some r) (there : t.representation r ≡ Some v) (wants : wanted_of (range_of k.request) v.head.total ≡ wanted.Interval span) where
+    place_is : unless_bound (bound_to k.place) k.place (opened_place t x k route.Hole) ≡ place.Bound r span.lo (Some span.hi) (by.FirstHole x)
+    place_is =
+        ap (λ (o : Option ℕ). unless_bound o k.place (opened_place t x k route.Hole)) free
+        ∙ (ap (λ (o : Option ℕ). place_for_hole x k.request o (row_of t o)) now_is
+        ∙ (ap (place_for_hole x k.request (Some r)) there
+        ∙ ap (bound_to_wanted r (by.FirstHole x) place.Line) wants))
+
+    binds_it : to_front (binds t it) t.used ≡ to_front (Some r) t.used
+    binds_it =
+        let reason = why limits t law now c want k row x n request is in
+        let bound : binds t it ≡ Some r = binds_as t it c said_nothing ∙ rw (row, reason.unshown free, reason.key_is, now_is) refl in
+        ap (λ (o : Option ℕ). to_front o t.used) bound
+
+    -- its consumer becomes bound to what is current
+    pub fills_first : Does limits t now (event.Poll c want) NoFlaw (acts_of c (Opens x n request))
+        (with_event now (event.Poll c want) (used_last r (with_consumer c (Some (record k { own = Some x; place = place.Bound r span.lo (Some span.hi) (by.FirstHole x) })) (with_opening x (just_opened now c n request (Some r)) t))))
+    fills_first =
+        subst (λ aim. Does limits t now (event.Poll c want) NoFlaw (acts_of c (Opens x n request)) (with_event now (event.Poll c want) (used_last r (with_consumer c (Some (record k { own = Some x; place = place.Bound r span.lo (Some span.hi) (by.FirstHole x) })) (with_opening x (just_opened now c n request aim) t)))))
+        now_is
+        (about_current limits t law now c want k row x n request is free [] (to_front (Some r) t.used) (place.Bound r span.lo (Some span.hi) (by.FirstHole x))
+        (keeps_all limits t law now c want k row x n request is refl) binds_it place_is (λ off. absurd (false_true (sym off))) (none_waits k.place) refl)
+
+  -- A LATER ONE
+
+  module _ (r lo : ℕ) (hi : Option ℕ) (how : BoundBy) (at : k.place ≡ place.Bound r lo hi how) (shown : k.shown ≡ true) where
+    binds_none : to_front (binds t it) t.used ≡ t.used
+    binds_none =
+        let nobody : binds t it ≡ None = binds_as t it c said_nothing ∙ rw (row, shown) refl in
+        ap (λ (o : Option ℕ). to_front o t.used) nobody
+
+    -- its consumer stays where it reads
+    pub fills_later : Does limits t now (event.Poll c want) NoFlaw (acts_of c (Opens x n request))
+        (with_event now (event.Poll c want) (with_consumer c (Some (record k { own = Some x })) (with_opening x (just_opened now c n request (Some r)) t)))
+    fills_later =
+        subst (λ aim. Does limits t now (event.Poll c want) NoFlaw (acts_of c (Opens x n request)) (with_event now (event.Poll c want) (with_consumer c (Some (record k { own = Some x })) (with_opening x (just_opened now c n request aim) t))))
+        (ap (aim_from t k.request.key) at)
+        (opens limits t law now c want k row x n request is [] t.used k.place
+        (keeps_all limits t law now c want k row x n request is refl) binds_none (ap (λ (o : Option ℕ). unless_bound o k.place (opened_place t x k route.Hole)) (ap bound_to at)) (law.owned.idle_due c k row) (none_waits k.place) (none_waits k.place))

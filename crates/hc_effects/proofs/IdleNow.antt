@@ -1,0 +1,163 @@
+-- What is idle at an event: those that are idle before it, but for what the event itself makes gone.
+use Rattle.std.proofs.Common.{◌≡◌, inl, inr, ℕ, List, [], ◌∷◌, length, Bool, true, false, Option, Some, None, refl, ap, sym, ◌∙◌, arith}
+use Rattle.std.specs.Prelude.{filter, reverse, nat_eq, ◌==◌, ◌&&◌, not}
+use Rattle.std.specs.List.{list_any}
+use Rattle.std.proofs.lemmas.Bool.Decides.{nat_tests}
+use Rattle.hc_event.specs.declared.event.Event.{Event}
+use Rattle.hc_event.specs.declared.event.Event.TheVariants as event
+use Rattle.hc_event.specs.declared.event.Response.{Response}
+use Rattle.hc_rules.specs.declared.heads.HeadCase.{HeadCase}
+use Rattle.hc_rules.specs.declared.heads.HeadCase.TheVariants as case
+use Rattle.hc_rules.specs.declared.need.Route.TheVariants as route
+use Rattle.hc_rules.specs.Needs.{route_of}
+use Rattle.hc_rules.specs.declared.room.Limits.{Limits}
+use Rattle.hc_event.specs.declared.place.Place.{Place}
+use Rattle.hc_model.specs.Cases.{case_at, head_view}
+use Rattle.hc_model.specs.Contents as contents
+use Rattle.hc_model.specs.Contents.{idle_now}
+use Rattle.hc_model.specs.Currents.{is_current}
+use Rattle.hc_model.specs.Denials.{denial}
+use Rattle.hc_model.specs.Entries.{Entry, entry_without_acts}
+use Rattle.hc_model.specs.Evictions.{outlasts, outlasts_row, IdleButGone}
+use Rattle.hc_model.specs.Exchanges.{exchange_at, is_for}
+use Rattle.hc_model.specs.Flaws.{NoFlaw}
+use Rattle.hc_model.specs.Gone.{goes_itself, goes_by_case, goes_by_head, goes_by_exchange}
+use Rattle.hc_model.specs.Owners.{Owners, IsAwaiting}
+use Rattle.hc_model.specs.Owners as owners
+use Rattle.hc_model.specs.Reading.{bound, is_bound_place}
+use Rattle.hc_model.specs.Rows.{Tables, Exchange, Representation, Consumer}
+use Rattle.hc_model.specs.Sound.{Sound, Among, IsBound}
+use Rattle.hc_model.specs.Sound as sound
+use Rattle.hc_model.specs.Weights.{idle, is_idle, stays_bound, moves_on, is_replacing}
+use Rattle.hc_effects.proofs.Basics.{false_true, true_false, and_left, and_right, or_left, or_right, number_yes, none_some}
+use Rattle.hc_effects.proofs.FirstKeeps.{is_new, case_of_head}
+use Rattle.hc_effects.proofs.FoundBy.{CaseBy}
+use Rattle.hc_effects.proofs.FoundBy as cases
+use Rattle.hc_effects.proofs.HasBound.{reader_of}
+use Rattle.hc_effects.proofs.HoleLemmas.{bool_cases}
+use Rattle.hc_effects.proofs.ExclusiveWriters.{same_row}
+
+-- LISTS
+
+-- two tests, one after the other
+pub filter_both : (f g h : ℕ → Bool) (xs : List ℕ) → ((n : ℕ) → f n ≡ (h n && g n)) → filter f xs ≡ filter g (filter h xs)
+filter_both f g h [] both = refl
+filter_both f g h (x ∷ xs) both = elim (bool_cases (h x)) [
+  | inr off ↦ let no : f x ≡ false = both x ∙ ap (λ b. b && g x) off in rw (off, no) (filter_both f g h xs both)
+  | inl on ↦
+      let same : f x ≡ g x = both x ∙ ap (λ b. b && g x) on in
+      rw (on, same) (elim (bool_cases (g x)) [
+        | inl passes ↦ rw passes (ap (λ ys. x ∷ ys) (filter_both f g h xs both))
+        | inr fails ↦ rw fails (filter_both f g h xs both)
+      ])
+]
+
+any_first : (test : ℕ → Bool) (xs : List ℕ) → ((n : ℕ) → Among n xs → test n ≡ true) → list_any test xs ≡ not (length xs == 0)
+any_first test [] all = refl
+any_first test (x ∷ xs) all = let first : test x ≡ true = all x (inl refl) in let some : nat_eq (length (x ∷ xs)) 0 ≡ false = grind (arith, nat_tests) in rw (first, some) refl
+
+-- WHO MOVES ON
+
+hole_of : (t : Tables) (lost : Bool) (w : Exchange) (response : Response) → CaseBy (head_view t lost w response) case.FirstReplaced → route_of w.need ≡ route.Hole
+hole_of t lost w response (cases.first_replaced way shown status kept good) = way
+
+replacing_is : (g : Option HeadCase) → is_replacing g ≡ true → g ≡ Some case.FirstReplaced
+replacing_is (Some case.FirstReplaced) h = refl
+replacing_is _ h = absurd (false_true h)
+
+module _ (t : Tables) (now : ℕ) (ev : Event) (s : Sound t) (o : Owners t) (goes : denial t ev ≡ None) where
+  abbrev e : Entry
+  e = entry_without_acts now ev
+
+  abbrev any : Limits
+  any = record { max_entry = 0; max_total = 0 }
+
+  -- who moves on was bound to what goes
+  awaits_at : (r x : ℕ) (w : Exchange) (p : Place) → IsAwaiting x w p → route_of w.need ≡ route.Hole → is_bound_place r p ≡ true → w.aim ≡ Some r
+  awaits_at r x w p (owners.direct way at) hole here = absurd (let no : route.Direct ≡ route.Hole = sym way ∙ hole in cc)
+  awaits_at r x w p (owners.turn way at) hole here = absurd (let no : route.Turn ≡ route.Hole = sym way ∙ hole in cc)
+  awaits_at r x w p (owners.hole q lo hi how way aim at) hole here =
+      let test : nat_eq q r ≡ true = sym (ap (is_bound_place r) at) ∙ here in
+      let same : q ≡ r = grind (arith, nat_tests) in
+      aim ∙ ap Some same
+
+  bound_here : (r c : ℕ) (k : Consumer) → IsBound t r c k → is_bound_place r k.place ≡ true
+  bound_here r c k (sound.is_bound lo hi how row at) = let self : nat_eq r r ≡ true = grind (arith, nat_tests) in ap (is_bound_place r) at ∙ self
+
+  row_here : (r c : ℕ) (k : Consumer) → IsBound t r c k → t.consumer c ≡ Some k
+  row_here r c k (sound.is_bound lo hi how row at) = row
+
+  goes_with : (r : ℕ) (v : Representation) (w : Exchange) → w.aim ≡ Some r → case_at t e ≡ Some case.FirstReplaced → exchange_at t ev ≡ Some w → goes_itself t e r v ≡ true
+  goes_with r v w aim is at =
+      let by_case : goes_by_case t e r (case_at t e) w ≡ true = ap (λ g. goes_by_case t e r g w) is ∙ or_left _ _ (number_yes w.aim r aim) in
+      let by_head : goes_by_head t e r ≡ true = ap (goes_by_exchange t e r) at ∙ by_case in
+      or_left _ _ (or_left _ _ (or_left _ _ (or_right _ _ by_head)))
+
+  mine_is : (x c : ℕ) (response : Response) (r : ℕ) (v : Representation) (k : Consumer) (w : Exchange) → ev ≡ event.Head x response → t.exchange x ≡ Some w → IsBound t r c k → nat_eq w.c c ≡ true → case_at t e ≡ Some case.FirstReplaced → goes_itself t e r v ≡ true
+  mine_is x c response r v k w here row reader mine is =
+      let same : w.c ≡ c = grind (arith, nat_tests) in
+      let new = is_new any t now NoFlaw s ev goes x response w here row in
+      let waits = o.waiting x w row new.is_open new.bare in
+      let one : waits.k ≡ k = same_row (t.consumer c) waits.k k (sym (ap t.consumer same) ∙ waits.row) (row_here r c k reader) in
+      let hole = hole_of t false w response (case_of_head t e x response w case.FirstReplaced here row is) in
+      let aim = awaits_at r x w waits.k.place waits.at hole (ap (λ (q : Consumer). is_bound_place r q.place) one ∙ bound_here r c k reader) in
+      goes_with r v w aim is (ap (exchange_at t) here ∙ row)
+
+  moved_head : (x c : ℕ) (response : Response) (r : ℕ) (v : Representation) (k : Consumer) (z : Option Exchange) → ev ≡ event.Head x response → t.exchange x ≡ z → IsBound t r c k → is_for z c ≡ true → case_at t e ≡ Some case.FirstReplaced → goes_itself t e r v ≡ true
+  moved_head x c response r v k None here row reader mine is = absurd (false_true mine)
+  moved_head x c response r v k (Some w) here row reader mine is = mine_is x c response r v k w here row reader mine is
+
+  no_case : (z : Event) → ev ≡ z → Rattle.hc_model.specs.Cases.case_of t false z ≡ None → case_at t e ≡ Some case.FirstReplaced → ⊥
+  no_case z here none is = none_some case.FirstReplaced (sym (ap (Rattle.hc_model.specs.Cases.case_of t false) here ∙ none) ∙ is)
+
+  moved_by : (z : Event) (r c : ℕ) (v : Representation) (k : Consumer) → ev ≡ z → IsBound t r c k → is_for (exchange_at t z) c ≡ true → case_at t e ≡ Some case.FirstReplaced → goes_itself t e r v ≡ true
+  unfolding Rattle.hc_model.specs.Cases.case_of
+  moved_by (event.Head x response) r c v k here reader mine is = moved_head x c response r v k (t.exchange x) here refl reader mine is
+  moved_by (event.Start d request) r c v k here reader mine is = absurd (no_case _ here refl is)
+  moved_by (event.Poll d want) r c v k here reader mine is = absurd (no_case _ here refl is)
+  moved_by (event.Piece x bytes) r c v k here reader mine is = absurd (no_case _ here refl is)
+  moved_by (event.End x) r c v k here reader mine is = absurd (no_case _ here refl is)
+  moved_by (event.Fault x) r c v k here reader mine is = absurd (no_case _ here refl is)
+  moved_by (event.Cancel d) r c v k here reader mine is = absurd (no_case _ here refl is)
+  moved_by (event.Doom key) r c v k here reader mine is = absurd (no_case _ here refl is)
+
+  -- so who is bound to what doesn't go stays bound
+  stays_there : (r c : ℕ) (v : Representation) → goes_itself t e r v ≡ false → Among c (bound t r) → not (moves_on t e c) ≡ true
+  stays_there r c v stays among = by_test (moves_on t e c) refl
+    where
+      by_test : (b : Bool) → moves_on t e c ≡ b → not b ≡ true
+      by_test false is = refl
+      by_test true is =
+          let reader = reader_of t r c among in
+          let replaced = replacing_is (case_at t e) (and_left (is_replacing (case_at t e)) _ is) in
+          let mine : is_for (exchange_at t ev) c ≡ true = and_right (is_replacing (case_at t e)) _ is in
+          absurd (true_false (sym (moved_by ev r c v reader.0 refl reader.1 mine replaced) ∙ stays))
+
+  pub bound_is : (r : ℕ) (v : Representation) → goes_itself t e r v ≡ false → stays_bound t e r ≡ not (length (bound t r) == 0)
+  bound_is r v stays = any_first (λ c. not (moves_on t e c)) (bound t r) (λ c among. stays_there r c v stays among)
+
+  twice : (b : Bool) → not (not b) ≡ b
+  twice true = refl
+  twice false = refl
+
+  idle_row : (r : ℕ) (z : Option Representation) → is_idle t e r z ≡ (contents.is_idle t r z && outlasts_row t e r z)
+  idle_row r None = refl
+  idle_row r (Some v) = elim (bool_cases (goes_itself t e r v)) [
+    | inl gone ↦ rw gone (by_test (is_current t v.key r) (stays_bound t e r) (length (bound t r) == 0))
+    | inr stays ↦ rw (stays, bound_is r v stays, twice (length (bound t r) == 0)) (by_both (is_current t v.key r) (length (bound t r) == 0))
+  ]
+    where
+      by_test : (a b c : Bool) → ((a && not true) && not b) ≡ ((a && c) && not true)
+      by_test true b true = refl
+      by_test true b false = refl
+      by_test false b c = refl
+
+      by_both : (a b : Bool) → ((a && not false) && b) ≡ ((a && b) && not false)
+      by_both true true = refl
+      by_both true false = refl
+      by_both false b = refl
+
+pub idle_but_gone : IdleButGone
+unfolding idle
+idle_but_gone t now ev s o goes =
+    filter_both (λ r. is_idle t (entry_without_acts now ev) r (t.representation r)) (outlasts t (entry_without_acts now ev)) (λ r. contents.is_idle t r (t.representation r)) (reverse t.used) (λ r. idle_row t now ev s o goes r (t.representation r))

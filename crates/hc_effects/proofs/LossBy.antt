@@ -1,0 +1,182 @@
+-- What is lost by an entry of a run: what its head or piece writes, or what is sealed since an exchange of its family ends without a piece.
+use Rattle.std.proofs.Common.{◌≡◌, ◌⊎◌, inl, inr, ℕ, true, false, Option, Some, None, refl, ap, sym, ◌∙◌, arith}
+use Rattle.std.specs.Prelude.{is_some, ◌==◌, ◌||◌, nat_eq, unwrap_or}
+use Rattle.std.proofs.lemmas.Bool.Decides.{nat_tests}
+use Rattle.hc_event.specs.Filters.{closes_in, is_denied}
+use Rattle.hc_event.specs.declared.act.LostKind.{LostKind}
+use Rattle.hc_event.specs.declared.event.Event.{Event}
+use Rattle.hc_event.specs.declared.event.Event.TheVariants as event
+use Rattle.hc_rules.specs.declared.room.Limits.{Limits}
+use Rattle.hc_model.specs.ActFilters.{loses_in, without_losses}
+use Rattle.hc_model.specs.Answers.{loss_acts, answer_acts, accepted_acts}
+use Rattle.hc_model.specs.Closings.{closing}
+use Rattle.hc_model.specs.Currents.{is_number}
+use Rattle.hc_model.specs.Denials.{denial}
+use Rattle.hc_model.specs.Entries.{Entry}
+use Rattle.hc_model.specs.ExchangeRows.{exchange_heard}
+use Rattle.hc_model.specs.Exchanges.{family}
+use Rattle.hc_model.specs.Flaws.{Flaw, NoFlaw, Loses, Misreads, flaw_in}
+use Rattle.hc_model.specs.Keys.{entry_of}
+use Rattle.hc_model.specs.Measures.{Measures}
+use Rattle.hc_model.specs.Owners.{Owners}
+use Rattle.hc_model.specs.Rows.{Tables, Exchange, Representation}
+use Rattle.hc_model.specs.Runs.{may_stand, may_be, is_kept}
+use Rattle.hc_model.specs.Sound.{Sound, IsAbout}
+use Rattle.hc_model.specs.Sound as sound
+use Rattle.hc_model.specs.Weights.{evicted}
+use Rattle.hc_model.specs.Writers.{brings_body}
+use Rattle.hc_model.specs.Writes.{written_representation, written_in, lossless, seals_at, sealed_by, is_sealed, stops}
+use Rattle.hc_effects.proofs.ActParts.{said_is, said_closes, loses_evicted, loses_closed, loses_before}
+use Rattle.hc_effects.proofs.Basics.{false_true, and_left, and_right, or_cases, not_true, none_some, number_is}
+use Rattle.hc_effects.proofs.Closed.{before}
+use Rattle.hc_effects.proofs.KeyActs.{found_some, closes_lossless, test_some}
+use Rattle.hc_effects.proofs.MeasuresKeep.{ender}
+use Rattle.hc_effects.proofs.PieceKeeps.{eq_cases, some_inj}
+use Rattle.hc_effects.proofs.ExclusiveWriters.{same_row}
+use Rattle.hc_effects.proofs.Unclosed.{had_open}
+use Rattle.hc_effects.proofs.Waiters.{fault_open_of}
+
+-- the flaw of what is lost
+pub record IsLoss (r : ℕ) (flaw : Flaw) : Type 0 where
+  pub kind : LostKind
+  pub is : flaw ≡ Loses r kind
+
+loss_of : (r : ℕ) (flaw : Flaw) → loses_in r (loss_acts flaw) ≡ true → IsLoss r flaw
+loss_of r NoFlaw h = absurd (false_true h)
+loss_of r (Misreads q) h = absurd (false_true h)
+loss_of r (Loses q kind) h = elim (or_cases (q == r) false h) [
+  | inl here ↦ let test : nat_eq q r ≡ true = here in let same : q ≡ r = grind (arith, nat_tests) in record { kind = kind; is = ap (λ n. Loses n kind) same }
+  | inr other ↦ absurd (false_true other)
+]
+
+-- what holds of an entry of a run
+pub record IsReal (limits : Limits) (t : Tables) (now : ℕ) (ev : Event) (flaw : Flaw) : Type 0 where
+  pub stand : may_stand limits t (entry_of limits t now ev flaw) ≡ true
+  pub shown : flaw_in (accepted_acts limits t now ev flaw) ≡ flaw
+  pub taken : is_denied (accepted_acts limits t now ev flaw) ≡ false
+
+module _ (limits : Limits) (t : Tables) (now : ℕ) (flaw : Flaw) (s : Sound t) (o : Owners t) (m : Measures t) (ev : Event) (goes : denial t ev ≡ None) (real : IsReal limits t now ev flaw) where
+  abbrev e : Entry
+  e = entry_of limits t now ev flaw
+
+  abbrev b : Entry
+  b = before limits t now flaw s ev
+
+  pub loses_flaw : (r : ℕ) (v : Event) → loses_in r (accepted_acts limits t now v flaw) ≡ loses_in r (loss_acts flaw)
+  loses_flaw r (event.Start c request) = loses_evicted r (evicted limits t now (event.Start c request)) _ ∙ loses_before r flaw _
+  loses_flaw r (event.Poll c want) = (said_closes 0 r t now (event.Poll c want) flaw (answer_acts t now (event.Poll c want) flaw) _ (said_is t now (event.Poll c want) flaw)).loses ∙ loses_closed r (closing t (before limits t now flaw s (event.Poll c want))) (loss_acts flaw)
+  loses_flaw r (event.Head x response) = loses_evicted r (evicted limits t now (event.Head x response)) _ ∙ loses_before r flaw _
+  loses_flaw r (event.Piece x bytes) = loses_evicted r (evicted limits t now (event.Piece x bytes)) _ ∙ loses_before r flaw _
+  loses_flaw r (event.End x) = loses_evicted r (evicted limits t now (event.End x)) _ ∙ loses_before r flaw _
+  loses_flaw r (event.Fault x) = loses_evicted r (evicted limits t now (event.Fault x)) _ ∙ loses_before r flaw _
+  loses_flaw r (event.Cancel c) = loses_closed r (closing t (before limits t now flaw s (event.Cancel c))) (loss_acts flaw)
+  loses_flaw r (event.Doom key) = loses_evicted r (evicted limits t now (event.Doom key)) _ ∙ loses_before r flaw _
+
+  -- what is lost is what is written, and wasn't lost
+  pub record IsWritten (r : ℕ) : Type 0 where
+    pub is : written_representation t e ≡ Some r
+    pub kept : is_kept (t.representation r) ≡ true
+
+  pub lost_is : (r : ℕ) → loses_in r e.acts ≡ true → IsWritten r
+  unfolding may_stand
+  lost_is r loses =
+      let f = loss_of r flaw (sym (loses_flaw r ev) ∙ loses) in
+      elim (or_cases (is_denied e.acts) (may_be limits t e (flaw_in e.acts)) real.stand) [
+        | inl denied ↦ absurd (false_true (sym real.taken ∙ denied))
+        | inr may ↦
+            let all : may_be limits t e (Loses r f.kind) ≡ true = sym (ap (may_be limits t e) (real.shown ∙ f.is)) ∙ may in
+            record { is = number_is (written_representation t e) r (and_left _ _ (and_left _ _ all)); kept = and_right (is_number (written_representation t e) r) _ (and_left _ _ all) }
+      ]
+
+  pub fresh : (r : ℕ) (v : Representation) → t.representation r ≡ Some v → loses_in r e.acts ≡ true → v.is_lost ≡ false
+  fresh r v there loses = not_true v.is_lost (sym (ap is_kept there) ∙ (lost_is r loses).kept)
+
+  -- SEALED
+
+  -- an open exchange of its family ends without a piece
+  pub record IsSealing (r : ℕ) : Type 0 where
+    pub y : ℕ
+    pub w : Exchange
+    pub row : t.exchange y ≡ Some w
+    pub was_open : w.is_open ≡ true
+    pub headed : is_some w.head ≡ true
+    pub of_r : family y w ≡ r
+    pub ends : (stops y ev ≡ true) ⊎ (closes_in y e.acts ≡ true)
+
+  heard_was : (y : ℕ) (v : Event) (w : Exchange) → (exchange_heard t b y v w).is_open ≡ true → w.is_open ≡ true
+  heard_was y (event.Start c request) w on = on
+  heard_was y (event.Poll c want) w on = on
+  heard_was y (event.Head x response) w on = elim (eq_cases x y) [ inl here ↦ and_right _ _ (rw here.0 at on) | inr off ↦ rw off.0 at on ]
+  heard_was y (event.Piece x bytes) w on = elim (eq_cases x y) [ inl here ↦ and_right _ _ (rw here.0 at on) | inr off ↦ rw off.0 at on ]
+  heard_was y (event.End x) w on = elim (eq_cases x y) [ inl here ↦ absurd (false_true (rw here.0 at on)) | inr off ↦ rw off.0 at on ]
+  heard_was y (event.Fault x) w on = elim (eq_cases x y) [ inl here ↦ absurd (false_true (rw here.0 at on)) | inr off ↦ rw off.0 at on ]
+  heard_was y (event.Cancel c) w on = on
+  heard_was y (event.Doom key) w on = on
+
+  eq_is : (a c : ℕ) → (a == c) ≡ true → a ≡ c
+  eq_is a c h = let test : nat_eq a c ≡ true = h in grind (arith, nat_tests)
+
+  stop_open : (y : ℕ) (v : Event) (w : Exchange) → ev ≡ v → stops y v ≡ true → t.exchange y ≡ Some w → w.is_open ≡ true
+  stop_open y (event.End x) w here h row =
+      let same : x ≡ y = eq_is x y h in
+      let z = ender limits t now flaw s o m ev goes y (here ∙ ap event.End same) in
+      ap (λ (q : Exchange). q.is_open) (same_row (t.exchange y) w z.w row z.row) ∙ z.ending.is_open
+  stop_open y (event.Fault x) w here h row =
+      let same : x ≡ y = eq_is x y h in
+      fault_open_of limits t now flaw s o ev goes y w (sym (ap (denial t) (here ∙ ap event.Fault same)) ∙ goes) row
+  stop_open y (event.Start c request) w here h row = absurd (false_true h)
+  stop_open y (event.Poll c want) w here h row = absurd (false_true h)
+  stop_open y (event.Head x response) w here h row = absurd (false_true h)
+  stop_open y (event.Piece x bytes) w here h row = absurd (false_true h)
+  stop_open y (event.Cancel c) w here h row = absurd (false_true h)
+  stop_open y (event.Doom key) w here h row = absurd (false_true h)
+
+  none_not : {A : Type 0} (q : Option A) → (q ≡ None → ⊥) → is_some q ≡ true
+  none_not None off = absurd (off refl)
+  none_not (Some a) off = refl
+
+  -- it has its head, since what has none founded nothing
+  head_there : (r y : ℕ) (w : Exchange) (v : Representation) → t.exchange y ≡ Some w → t.representation r ≡ Some v → family y w ≡ r → is_some w.head ≡ true
+  head_there r y w v row there of_r = none_not w.head (λ bare.
+      let own : family y w ≡ y = ap (λ (n : Option ℕ). unwrap_or n y) (s.waits.headless y w row bare).1 in
+      let none : t.representation r ≡ None = ap t.representation (sym of_r ∙ own) ∙ s.numbered.names.unfounded y w row bare in
+      none_some v (sym none ∙ there))
+
+  sealing_row : (r y : ℕ) (v : Representation) (z : Option Exchange) → t.representation r ≡ Some v → t.exchange y ≡ z → sealed_by t (lossless e) y z ≡ Some r → (stops y ev ≡ true) ⊎ (closes_in y e.acts ≡ true) → IsSealing r
+  sealing_row r y v None there row h ends = absurd (none_some r h)
+  sealing_row r y v (Some w) there row h ends =
+      let parts = test_some (is_sealed t (lossless e) (family y w) (t.representation (family y w))) (Some (family y w)) r h in
+      let of_r : family y w ≡ r = some_inj (family y w) r parts.1 in
+      record { y = y; w = w; row = row; was_open = by_end ends; headed = head_there r y w v row there of_r; of_r = of_r; ends = ends }
+    where
+      by_end : (stops y ev ≡ true) ⊎ (closes_in y e.acts ≡ true) → w.is_open ≡ true
+      by_end (inl stop) = stop_open y ev w refl stop row
+      by_end (inr shut) = heard_was y ev w (had_open limits t now flaw s ev y w row shut)
+
+  sealing : (r y : ℕ) (v : Representation) → t.representation r ≡ Some v → seals_at t (lossless e) y ≡ Some r → IsSealing r
+  sealing r y v there h =
+      let parts = test_some (stops y ev || closes_in y (without_losses e.acts)) (sealed_by t (lossless e) y (t.exchange y)) r h in
+      sealing_row r y v (t.exchange y) there refl parts.1 (by_test (or_cases (stops y ev) (closes_in y (without_losses e.acts)) parts.0))
+    where
+      by_test : (stops y ev ≡ true) ⊎ (closes_in y (without_losses e.acts) ≡ true) → (stops y ev ≡ true) ⊎ (closes_in y e.acts ≡ true)
+      by_test (inl stop) = inl stop
+      by_test (inr shut) = inr (sym (closes_lossless y e.acts) ∙ shut)
+
+  written_by : (r : ℕ) (v : Representation) (z : Event) → t.representation r ≡ Some v → brings_body z ≡ false → written_in t (lossless e) z ≡ Some r → IsSealing r
+  written_by r v (event.Head x response) there off h = absurd (let no : true ≡ false = off in cc)
+  written_by r v (event.Piece x bytes) there off h = absurd (let no : true ≡ false = off in cc)
+  written_by r v (event.Start c request) there off h = let got = found_some (seals_at t (lossless e)) t.openings r h in sealing r got.0 v there got.1
+  written_by r v (event.Poll c want) there off h = let got = found_some (seals_at t (lossless e)) t.openings r h in sealing r got.0 v there got.1
+  written_by r v (event.End x) there off h = let got = found_some (seals_at t (lossless e)) t.openings r h in sealing r got.0 v there got.1
+  written_by r v (event.Fault x) there off h = let got = found_some (seals_at t (lossless e)) t.openings r h in sealing r got.0 v there got.1
+  written_by r v (event.Cancel c) there off h = let got = found_some (seals_at t (lossless e)) t.openings r h in sealing r got.0 v there got.1
+  written_by r v (event.Doom key) there off h = let got = found_some (seals_at t (lossless e)) t.openings r h in sealing r got.0 v there got.1
+
+  -- What is lost by another event than a head or a piece is sealed by it.
+  pub sealed_loss : (r : ℕ) (v : Representation) → t.representation r ≡ Some v → loses_in r e.acts ≡ true → brings_body ev ≡ false → IsSealing r
+  unfolding written_representation
+  sealed_loss r v there loses off = written_by r v ev there off (lost_is r loses).is
+
+  -- and the exchange that seals it is the one about it
+  pub seals_one : (r x : ℕ) (v : Representation) → t.representation r ≡ Some v → IsAbout t r x → (z : IsSealing r) → z.y ≡ x
+  seals_one r x v there about z = s.one_about r z.y x (sound.headed z.w z.row z.was_open z.headed z.of_r (ap is_some there)) about

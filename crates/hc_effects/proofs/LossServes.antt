@@ -1,0 +1,122 @@
+-- At a piece that is lost, each bound consumer goes on alone, has all that it needs, or gets a failure.
+use Rattle.std.proofs.Common.{◌≡◌, ◌⊎◌, inl, inr, ℕ, List, Bool, true, false, cond, Option, Some, None, refl, ap, sym, ◌∙◌, subst, arith}
+use Rattle.std.specs.Prelude.{not, nat_eq, ◌&&◌, ◌||◌}
+use Rattle.std.specs.Option.{option_or}
+use Rattle.std.proofs.lemmas.Bool.Decides.{nat_tests}
+use Rattle.hc_event.specs.declared.act.Act.{Act}
+use Rattle.hc_event.specs.declared.act.Cause.{Cause}
+use Rattle.hc_model.specs.ActFilters.{loses_in}
+use Rattle.hc_model.specs.Currents.{is_number}
+use Rattle.hc_model.specs.Entries.{Entry}
+use Rattle.hc_model.specs.Exchanges.{front, family}
+use Rattle.hc_model.specs.Failures.{becomes_due, cause_of_stop, cause_of_loss, cause_by_loss}
+use Rattle.hc_model.specs.Reading.{is_written}
+use Rattle.hc_model.specs.RepresentationRows.{representation_after, representation_acted, representation_after_piece, with_stored_bytes}
+use Rattle.hc_model.specs.Rows.{Tables, Exchange, Representation, Consumer}
+use Rattle.hc_model.specs.Sound.{Sound, IsBound, IsServed, IsExclusiveWriter}
+use Rattle.hc_model.specs.Writers.{loses_writing, survivor, goes_on_with}
+use Rattle.hc_event.specs.declared.place.BoundBy.{BoundBy}
+use Rattle.hc_event.specs.declared.place.Place.TheVariants as place
+use Rattle.hc_model.specs.Sound as sound
+use Rattle.hc_effects.proofs.Basics.{and_both, or_left}
+use Rattle.hc_effects.proofs.HoleLemmas.{bool_cases}
+use Rattle.hc_effects.proofs.PieceKeeps.{of_piece, some_inj}
+use Rattle.hc_effects.proofs.Losses.{goes_on_or_rests, HasRest}
+
+-- WHAT THE LOSS LEAVES OF THE ROW
+
+pub record IsLostRow (t : Tables) (e : Entry) (r : ℕ) (v u : Representation) : Type 0 where
+  pub lost : u.is_lost ≡ true
+  pub alone_is : u.alone ≡ goes_on_with t e r v
+  pub stored_is : u.stored ≡ v.stored
+  pub total_is : u.head.total ≡ v.head.total
+
+abbrev KeepsStore : Representation → Representation → Type 0
+KeepsStore v u = (u.stored ≡ v.stored) × (u.head.total ≡ v.head.total) × (u.is_lost ≡ v.is_lost)
+
+keeps_if : (b : Bool) (v u : Representation) → KeepsStore v u → KeepsStore v (cond b u v)
+keeps_if true v u keeps = keeps
+keeps_if false v u keeps = (refl, refl, refl)
+
+not_or : (a l : Bool) → l ≡ true → not (a || l) ≡ false
+not_or true l h = refl
+not_or false true h = refl
+not_or false false h = absurd (let never : false ≡ true = h in cc)
+
+not_kept : (b : Bool) (at x : ℕ) (bytes : List ℕ) (v : Representation) → b ≡ false → KeepsStore v (with_stored_bytes b at x bytes v)
+not_kept true at x bytes v h = absurd (let never : true ≡ false = h in cc)
+not_kept false at x bytes v h = (refl, refl, refl)
+
+-- a piece that is lost isn't stored
+lost_piece : (e : Entry) (r x : ℕ) (bytes : List ℕ) (o : Option Exchange) (v : Representation) → loses_in r e.acts ≡ true → KeepsStore v (representation_after_piece e r x bytes o v)
+lost_piece e r x bytes None v lost = (refl, refl, refl)
+lost_piece e r x bytes (Some w) v lost =
+    let b = not (v.is_lost || loses_in r e.acts) in
+    keeps_if (nat_eq (family x w) r) v (with_stored_bytes b (front w) x bytes v) (not_kept b (front w) x bytes v (not_or v.is_lost (loses_in r e.acts) lost))
+
+cond_left : {A : Type 0} (b : Bool) (x y : A) → b ≡ true → cond b x y ≡ x
+cond_left true x y h = refl
+cond_left false x y h = absurd (let never : false ≡ true = h in cc)
+
+cond_right : {A : Type 0} (b : Bool) (x y : A) → b ≡ false → cond b x y ≡ y
+cond_right true x y h = absurd (let never : true ≡ false = h in cc)
+cond_right false x y h = refl
+
+lost_row : (t : Tables) (now x r : ℕ) (bytes : List ℕ) (acts : List Act) (v u : Representation) → t.representation r ≡ Some v → loses_in r acts ≡ true → v.is_lost ≡ false → representation_after t (of_piece now x bytes acts) r (Some v) ≡ Some u → IsLostRow t (of_piece now x bytes acts) r v u
+unfolding representation_after
+lost_row t now x r bytes acts v u row lost fresh is =
+    let e = of_piece now x bytes acts in
+    let keeps = lost_piece e r x bytes (t.exchange x) v lost in
+    subst (IsLostRow t e r v) (some_inj (representation_acted t e r v (representation_after_piece e r x bytes (t.exchange x) v)) u is) (record {
+      lost = or_left (loses_in r acts) _ lost;
+      alone_is = cond_left (loses_in r acts && not v.is_lost) _ _ (and_both (loses_in r acts) (not v.is_lost) lost (ap not fresh));
+      stored_is = keeps.0;
+      total_is = keeps.1;
+    })
+
+-- WHO IS SERVED
+
+or_none : (o p : Option Cause) → option_or o p ≡ None → (o ≡ None) × (p ≡ None)
+or_none None p h = (refl, h)
+or_none (Some a) p h = absurd (let never : Some a ≡ None = h in cc)
+
+number_is : (o : Option ℕ) (c : ℕ) → is_number o c ≡ true → o ≡ Some c
+number_is None c h = absurd (let never : false ≡ true = h in cc)
+number_is (Some d) c h = let same : d ≡ c = grind (arith, nat_tests) in ap Some same
+
+-- a member to which nothing becomes due at the loss of the writing is the survivor
+pub survives : (b n : Bool) (a : Cause) → b ≡ true → (cond (b && not n) (Some a) None) ≡ None → n ≡ true
+survives b true a on h = refl
+survives true false a on h = absurd (let never : Some a ≡ None = h in cc)
+survives false false a on h = absurd (let never : false ≡ true = on in cc)
+
+undue_loss : (t : Tables) (e : Entry) (r c lo : ℕ) (hi : Option ℕ) (how : BoundBy) (v : Representation) (k : Consumer) → t.representation r ≡ Some v → k.place ≡ place.Bound r lo hi how → becomes_due t e c k ≡ None → cause_by_loss t e c r (Some v) ≡ None
+unfolding becomes_due
+undue_loss t e r c lo hi how v k row place none =
+    let second = (or_none (cause_of_stop t e k) _ none).1 in
+    let third = (or_none (cause_of_loss t e c k.place) _ second).0 in
+    sym (ap (cause_of_loss t e c) place ∙ ap (cause_by_loss t e c r) row) ∙ third
+
+-- Who was bound before the loss of r and has nothing due after it goes on alone with it, or has all that it needs.
+pub loss_serves : (t : Tables) (now x r c lo : ℕ) (hi : Option ℕ) (how : BoundBy) (bytes : List ℕ) (acts : List Act) (v u : Representation) (k : Consumer) → Sound t → t.representation r ≡ Some v → representation_after t (of_piece now x bytes acts) r (Some v) ≡ Some u → loses_in r acts ≡ true → v.is_lost ≡ false
+    → t.consumer c ≡ Some k → k.place ≡ place.Bound r lo hi how → k.due ≡ None → becomes_due t (of_piece now x bytes acts) c k ≡ None
+    → (u.is_lost ≡ true) × ((u.alone ≡ Some c) ⊎ (HasRest t v k × (u.stored ≡ v.stored) × (u.head.total ≡ v.head.total)))
+loss_serves t now x r c lo hi how bytes acts v u k s row after lost fresh is_row place none_due none =
+    let e = of_piece now x bytes acts in
+    let l = lost_row t now x r bytes acts v u row lost fresh after in (
+      l.lost,
+      elim (bool_cases (is_written t v)) [
+        | inl on ↦
+            let losing : loses_writing t e r v ≡ true = and_both (loses_in r acts) (is_written t v) lost on in
+            let survivor_is = number_is (survivor t r v) c (survives (loses_writing t e r v) (is_number (survivor t r v) c) _ losing (undue_loss t e r c lo hi how v k row place none)) in
+            inl (l.alone_is ∙ (cond_left (loses_writing t e r v) _ _ losing ∙ survivor_is))
+        | inr off ↦ elim (goes_on_or_rests t r c v k s row (sound.is_bound lo hi how is_row place) none_due off fresh) [
+          | inl alone ↦ inl (l.alone_is ∙ (cond_right (loses_writing t e r v) _ _ (and_off (loses_in r acts) (is_written t v) off) ∙ alone))
+          | inr rest ↦ inr (rest, l.stored_is, l.total_is)
+        ]
+      ],
+    )
+  where
+    and_off : (a b : Bool) → b ≡ false → (a && b) ≡ false
+    and_off true b h = h
+    and_off false b h = refl

@@ -1,0 +1,148 @@
+-- What it comes to that a shared writing is lost: one of those who read it goes on, to the others a failure is due, and where nobody
+-- goes on its exchange is closed.
+use Rattle.std.proofs.Common.{◌≡◌, inl, inr, ℕ, Bool, true, false, Option, Some, None, refl, ap, sym, ◌∙◌}
+use Rattle.std.specs.Prelude.{◌&&◌, not, nat_eq, if◌then◌else◌, is_none, is_some, unwrap_or}
+use Rattle.std.specs.Option.{option_or}
+use Rattle.hc_event.specs.declared.act.Cause.{Cause}
+use Rattle.hc_event.specs.declared.act.Cause.TheVariants as cause
+use Rattle.hc_event.specs.declared.place.Place.TheVariants as place
+use Rattle.hc_event.specs.declared.place.BoundBy.{BoundBy}
+use Rattle.hc_model.specs.ActFilters.{fails_in}
+use Rattle.hc_model.specs.Closings.{has_no_survivor}
+use Rattle.hc_model.specs.ConsumerRows.{consumer_after, consumer_acted, consumer_settled, own_after}
+use Rattle.hc_model.specs.Currents.{is_number}
+use Rattle.hc_model.specs.Dooms.{doomed_key_of}
+use Rattle.hc_model.specs.Effects.{left_with}
+use Rattle.hc_model.specs.Entries.{Entry}
+use Rattle.hc_model.specs.Exchanges.{family, is_open}
+use Rattle.hc_model.specs.Failures.{becomes_due}
+use Rattle.hc_model.specs.Lawful.{Lawful}
+use Rattle.hc_model.specs.Reading.{is_written, reads}
+use Rattle.hc_model.specs.Rows.{Tables, Exchange, Representation, Consumer}
+use Rattle.hc_model.specs.StartingOver.{starts_over}
+use Rattle.hc_model.specs.Writers.{loses_writing, survivor, goes_on_with}
+use Rattle.hc_effects.proofs.Basics.{and_right, none_some}
+use Rattle.hc_effects.proofs.ExclusiveWriters.{same_row, writer_some}
+use Rattle.hc_effects.proofs.PieceKeeps.{eq_cases, some_inj}
+use Rattle.hc_effects.proofs.PieceServes.{IsQuietActs, acted_quiet}
+use Rattle.hc_effects.proofs.Stops.{writer_open}
+use Rattle.hc_effects.proofs.Tests.{eqb-same}
+use Rattle.hc_effects.proofs.Untouched.{IsApart, or_nothing, starts_as}
+
+-- the exchange of a writing
+pub record IsWriter (t : Tables) (r : ℕ) (v : Representation) : Type 0 where
+  pub y : ℕ
+  pub w : Exchange
+  pub writer : v.writer ≡ Some y
+  pub row : t.exchange y ≡ Some w
+  pub is_open : w.is_open ≡ true
+  pub headed : is_some w.head ≡ true
+  pub of_r : family y w ≡ r
+
+pub writer_of : (t : Tables) (law : Lawful t) (r : ℕ) (v : Representation) → t.representation r ≡ Some v → is_written t v ≡ true → IsWriter t r v
+writer_of t law r v there on = by_writer v.writer refl
+  where
+    by_writer : (o : Option ℕ) → v.writer ≡ o → IsWriter t r v
+    by_writer None none = absurd (writer_some t v on none)
+    by_writer (Some y) writer =
+        let grows = (law.sound.rows r v there).growing y on writer in
+        let g = grows.1 in
+        record { y = y; w = grows.0; writer = writer; row = g.row; is_open = sym (ap is_open g.row) ∙ writer_open t v y on writer; headed = g.headed; of_r = g.family_is }
+
+module _ (t : Tables) (e : Entry) (law : Lawful t) (r : ℕ) (v : Representation) (there : t.representation r ≡ Some v) (losing : loses_writing t e r v ≡ true) where
+  -- it is written
+  pub written_now : is_written t v ≡ true
+  written_now = and_right _ (is_written t v) losing
+
+  -- who goes on
+  pub goes_on_as : goes_on_with t e r v ≡ survivor t r v
+  goes_on_as = rw losing refl
+
+  -- WHO READS IT
+
+  module _ (d lo : ℕ) (hi : Option ℕ) (how : BoundBy) (k : Consumer) (at : k.place ≡ place.Bound r lo hi how) (quiet : IsQuietActs e.acts) (apart : IsApart t e d k) (fails : fails_in d e.acts ≡ false) (doomless : doomed_key_of t e ≡ None) where
+    own_as : own_after t e d k.place k.own ≡ (if is_number (survivor t r v) d then v.writer else k.own)
+    own_as = rw (at, there, losing) refl
+
+    due_as : becomes_due t e d k ≡ (if is_number (survivor t r v) d then None else Some (cause.StoreWrite r))
+    unfolding becomes_due
+    due_as = rw (apart.stops, at, there, losing, apart.heads) (by_test (is_number (survivor t r v) d))
+      where
+        by_test : (b : Bool) → option_or None (option_or (if true && not b then Some (cause.StoreWrite r) else None) None) ≡ (if b then None else Some (cause.StoreWrite r))
+        by_test true = refl
+        by_test false = refl
+
+    stays : starts_over t e d k ≡ false
+    stays = starts_as t e d k fails apart.sends ∙ rw (doomless, at) refl
+
+    pub member_as : consumer_after t e d (Some k) ≡ Some (left_with r (survivor t r v) v.writer d k)
+    unfolding consumer_after
+    member_as =
+        ap (λ (z : Consumer). Some (consumer_settled t e d k (consumer_acted t e d z))) apart.heard
+        ∙ (ap (λ (z : Consumer). Some (consumer_settled t e d k z)) (acted_quiet t e d k quiet)
+        ∙ (let reading : reads k.place ≡ true = ap reads at in
+        rw (stays, own_as, reading, due_as) (by_test (is_number (survivor t r v) d))))
+      where
+        by_test : (b : Bool) → Some (record k { own = if b then v.writer else k.own; due = option_or k.due (if b then None else Some (cause.StoreWrite r)) }) ≡ Some (if b then record k { own = v.writer } else record k { due = option_or k.due (Some (cause.StoreWrite r)) })
+        by_test true = ap (λ (due : Option Cause). Some (record k { own = v.writer; due = due })) (or_nothing k.due)
+        by_test false = refl
+
+  -- WHAT IS CLOSED
+
+  -- the exchange that goes with it
+  abbrev pub closed_with : Option ℕ
+  closed_with = if is_none (survivor t r v) then v.writer else None
+
+  pub writer_now : IsWriter t r v
+  writer_now = writer_of t law r v there written_now
+
+  named : (b : Bool) (y : ℕ) → (if b then v.writer else None) ≡ Some y → v.writer ≡ Some y
+  named true y at = at
+  named false y at = absurd (none_some y at)
+
+  -- is that of the writing
+  pub closed_is : (y : ℕ) → closed_with ≡ Some y → writer_now.y ≡ y
+  closed_is y at = some_inj writer_now.y y (sym writer_now.writer ∙ named (is_none (survivor t r v)) y at)
+
+  pub closed_row : (y : ℕ) → closed_with ≡ Some y → t.exchange y ≡ Some writer_now.w
+  closed_row y at = sym (ap t.exchange (closed_is y at)) ∙ writer_now.row
+
+  -- and no other representation has its number
+  pub closed_apart : (y : ℕ) (u : Representation) → closed_with ≡ Some y → t.representation y ≡ Some u → r ≡ y
+  closed_apart y u at here =
+      let alone : writer_now.w.joined ≡ None = law.owned.founders y writer_now.w u (closed_row y at) here in
+      sym writer_now.of_r ∙ (ap (λ (o : Option ℕ). unwrap_or o writer_now.y) alone ∙ closed_is y at)
+
+  module _ (only : (q : ℕ) (u : Representation) → nat_eq r q ≡ false → t.representation q ≡ Some u → loses_writing t e q u ≡ false) where
+    -- just the exchange of the writing closes by that, where nobody goes on
+    pub no_survivor_as : (y : ℕ) (u : Exchange) → t.exchange y ≡ Some u → has_no_survivor t e y (family y u) (t.representation (family y u)) ≡ is_number closed_with y
+    no_survivor_as y u here = elim (eq_cases writer_now.y y) [
+      | inl same ↦
+          let one : writer_now.w ≡ u = same_row (t.exchange y) writer_now.w u (sym (ap t.exchange same.1) ∙ writer_now.row) here in
+          let fam : family y u ≡ r = ap (λ (q : Exchange). family y q) (sym one) ∙ (ap (λ n. family n writer_now.w) (sym same.1) ∙ writer_now.of_r) in
+          let wrote : v.writer ≡ Some y = writer_now.writer ∙ ap Some same.1 in
+          ap (λ n. has_no_survivor t e y n (t.representation n)) fam ∙ (ap (has_no_survivor t e y r) there ∙ rw (losing, wrote, eqb-same y) (by_test (is_none (survivor t r v))))
+      | inr other ↦ by_row other.0 (t.representation (family y u)) refl ∙ sym (apart_by (is_none (survivor t r v)) other.0)
+    ]
+      where
+        by_test : (b : Bool) → b ≡ is_number (if b then Some y else None) y
+        by_test true = sym (eqb-same y)
+        by_test false = refl
+
+        apart_by : (b : Bool) → nat_eq writer_now.y y ≡ false → is_number (if b then v.writer else None) y ≡ false
+        apart_by true other = ap (λ o. is_number o y) writer_now.writer ∙ other
+        apart_by false other = refl
+
+        off_second : (a b : Bool) → (a && false && b) ≡ false
+        off_second true b = refl
+        off_second false b = refl
+
+        by_row : nat_eq writer_now.y y ≡ false → (o : Option Representation) → t.representation (family y u) ≡ o → has_no_survivor t e y (family y u) o ≡ false
+        by_row other None is = refl
+        by_row other (Some z) is = elim (eq_cases r (family y u)) [
+          | inl same ↦
+              let one : z ≡ v = same_row (t.representation r) z v (ap t.representation same.1 ∙ is) there in
+              let theirs : is_number z.writer y ≡ false = ap (λ (q : Representation). is_number q.writer y) one ∙ (ap (λ o. is_number o y) writer_now.writer ∙ other) in
+              rw theirs refl
+          | inr apart ↦ rw (only (family y u) z apart.0 is) (off_second (is_number z.writer y) (is_none (survivor t (family y u) z)))
+        ]

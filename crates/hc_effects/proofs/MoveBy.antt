@@ -1,0 +1,91 @@
+-- Why a poll does what it does: it shows a head that is there, waits for one, reads, or carries out the plan of a consumer that is bound to nothing.
+use Rattle.std.proofs.Common.{◌≡◌, inl, inr, ℕ, Bool, true, false, cond, Option, Some, None, refl, ap, sym, ◌∙◌}
+use Rattle.std.specs.Prelude.{if◌then◌else◌}
+use Rattle.std.specs.Option.{option_and_then}
+use Rattle.hc_event.specs.declared.act.Cause.{Cause}
+use Rattle.hc_event.specs.declared.act.Wait.TheVariants as wait
+use Rattle.hc_event.specs.declared.place.Place.{Place}
+use Rattle.hc_event.specs.declared.place.Place.TheVariants as place
+use Rattle.hc_event.specs.declared.place.BoundBy.{BoundBy}
+use Rattle.hc_event.specs.declared.place.BoundBy.TheVariants as by
+use Rattle.hc_model.specs.Exchanges.{is_headless}
+use Rattle.hc_model.specs.Moves as moves
+use Rattle.hc_model.specs.Moves.{Move, Nothing, Fails}
+use Rattle.hc_model.specs.Planning.{planned_move}
+use Rattle.hc_model.specs.Polls.{shows_at, shows_head, if_headless, waits_for_head, or_else, by_place, move_of}
+use Rattle.hc_model.specs.Reading.{bound_to, own_open}
+use Rattle.hc_model.specs.Rows.{Tables, Consumer}
+use Rattle.hc_model.specs.Sound.{Sound, IsToBeShown}
+use Rattle.hc_model.specs.Steps.{reading}
+use Rattle.hc_model.specs.Sound as sound
+use Rattle.hc_effects.proofs.HoleLemmas.{bool_cases}
+
+-- it has no open exchange that waits for its head
+abbrev pub IsHeard : Tables → Consumer → Type 0
+IsHeard t k = option_and_then (if_headless t) (own_open t k) ≡ None
+
+pub data MoveBy (t : Tables) (now want c : ℕ) (k : Consumer) : Move → Type 0 where
+  shows : (m : Move) → k.shown ≡ false → shows_at t k k.place ≡ Some m → MoveBy t now want c k m
+  waits : (x : ℕ) → own_open t k ≡ Some x → is_headless (t.exchange x) ≡ true → MoveBy t now want c k (moves.Waits (wait.Head x))
+  down : (cause : Cause) → k.place ≡ place.Down cause → MoveBy t now want c k (Fails cause)
+  over : k.place ≡ place.Over → MoveBy t now want c k Nothing
+  reads : k.shown ≡ true → IsHeard t k → MoveBy t now want c k (reading t want c k)
+  plans : k.shown ≡ false → bound_to k.place ≡ None → shows_at t k k.place ≡ None → IsHeard t k → MoveBy t now want c k (planned_move t now c k)
+
+cond_false : {A : Type 0} (b : Bool) (x y : A) → b ≡ false → cond b x y ≡ y
+cond_false true x y h = absurd (let never : true ≡ false = h in cc)
+cond_false false x y h = refl
+
+module _ (t : Tables) (now want c : ℕ) (k : Consumer) where
+  shows_of : (p : Place) → k.place ≡ p → k.shown ≡ false → shows_head t k ≡ None → shows_at t k p ≡ None
+  shows_of p at shown none = sym (cond_false k.shown None (shows_at t k k.place) shown ∙ ap (shows_at t k) at) ∙ none
+
+  -- who is bound and wasn't shown a head is shown it now, or waits for it
+  never_plans : (r lo : ℕ) (hi : Option ℕ) (how : BoundBy) → k.place ≡ place.Bound r lo hi how → k.shown ≡ false → IsToBeShown t k how → shows_head t k ≡ None → IsHeard t k → ⊥
+  never_plans r lo hi _ at shown sound.founded none heard = let never : shows_at t k (place.Bound r lo hi by.Founding) ≡ None = shows_of _ at shown none in cc
+  never_plans r lo hi _ at shown (sound.joined y joined) none heard = let never : shows_at t k (place.Bound r lo hi (by.FirstHole y)) ≡ None = shows_of _ at shown none in let also = rw joined at never in cc
+  never_plans r lo hi _ at shown (sound.waits y own headless) none heard = let never : Some y ≡ None = rw (own, headless) at heard in cc
+
+  free : (p : Place) → Sound t → t.consumer c ≡ Some k → k.place ≡ p → k.shown ≡ false → shows_head t k ≡ None → IsHeard t k → bound_to p ≡ None
+  free place.Line s row at shown none heard = refl
+  free (place.Passed r kept) s row at shown none heard = refl
+  free (place.Turn x) s row at shown none heard = refl
+  free (place.Bound r lo hi how) s row at shown none heard = absurd (never_plans r lo hi how at shown (s.unshown c r lo hi how k row at shown) none heard)
+  free (place.Direct x) s row at shown none heard = refl
+  free (place.Down cause) s row at shown none heard = refl
+  free place.Over s row at shown none heard = refl
+
+  other_by : (b : Bool) → Sound t → t.consumer c ≡ Some k → k.shown ≡ b → shows_head t k ≡ None → IsHeard t k → MoveBy t now want c k (if b then reading t want c k else planned_move t now c k)
+  other_by true s row shown none heard = reads shown heard
+  other_by false s row shown none heard = plans shown (free k.place s row refl shown none heard) (shows_of k.place refl shown none) heard
+
+  place_by : (p : Place) → Sound t → t.consumer c ≡ Some k → k.place ≡ p → shows_head t k ≡ None → IsHeard t k → MoveBy t now want c k (by_place t now want c k p)
+  place_by place.Line s row at none heard = other_by k.shown s row refl none heard
+  place_by (place.Passed r kept) s row at none heard = other_by k.shown s row refl none heard
+  place_by (place.Turn x) s row at none heard = other_by k.shown s row refl none heard
+  place_by (place.Bound r lo hi how) s row at none heard = other_by k.shown s row refl none heard
+  place_by (place.Direct x) s row at none heard = other_by k.shown s row refl none heard
+  place_by (place.Down cause) s row at none heard = down cause at
+  place_by place.Over s row at none heard = over at
+
+  if_waits : (o : Option ℕ) (x : ℕ) → option_and_then (if_headless t) o ≡ Some x → (o ≡ Some x) × (is_headless (t.exchange x) ≡ true)
+  if_waits None x is = absurd (let never : None ≡ Some x = is in cc)
+  if_waits (Some y) x is = elim (bool_cases (is_headless (t.exchange y))) [
+    | inl bare ↦ let same : y ≡ x = (let eq : Some y ≡ Some x = rw bare at is in cc) in (ap Some same, ap (λ z. is_headless (t.exchange z)) (sym same) ∙ bare)
+    | inr headed ↦ absurd (let never : None ≡ Some x = rw headed at is in cc)
+  ]
+
+  waits_by : (o : Option ℕ) → Sound t → t.consumer c ≡ Some k → option_and_then (if_headless t) (own_open t k) ≡ o → shows_head t k ≡ None → MoveBy t now want c k (or_else (waits_for_head o) (by_place t now want c k k.place))
+  waits_by None s row is none = place_by k.place s row refl none is
+  waits_by (Some x) s row is none = let all = if_waits (own_open t k) x is in waits x all.0 all.1
+
+  shown_by : (o : Option Move) → Sound t → t.consumer c ≡ Some k → shows_head t k ≡ o → MoveBy t now want c k (or_else o (or_else (waits_for_head (option_and_then (if_headless t) (own_open t k))) (by_place t now want c k k.place)))
+  shown_by None s row is = waits_by (option_and_then (if_headless t) (own_open t k)) s row refl is
+  shown_by (Some m) s row is = by_shown k.shown refl
+    where
+      by_shown : (b : Bool) → k.shown ≡ b → MoveBy t now want c k m
+      by_shown true shown = absurd (let never : None ≡ Some m = rw shown at is in cc)
+      by_shown false shown = shows m shown (sym (cond_false k.shown None (shows_at t k k.place) shown) ∙ is)
+
+  pub move_by : Sound t → t.consumer c ≡ Some k → MoveBy t now want c k (move_of t now want c k)
+  move_by s row = shown_by (shows_head t k) s row refl

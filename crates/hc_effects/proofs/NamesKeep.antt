@@ -1,0 +1,169 @@
+-- What exchanges name is there, and none without a head is a representation.
+use Rattle.std.proofs.Common.{◌≡◌, ◌⊎◌, inl, inr, ℕ, ◌+◌, ◌<◌, List, Bool, true, false, Option, Some, None, refl, ap, sym, ◌∙◌, subst, arith}
+use Rattle.std.specs.Prelude.{◌&&◌, is_some, if◌then◌else◌, option_map}
+use Rattle.hc_event.specs.Filters.{Opening, opening_in}
+use Rattle.hc_event.specs.declared.event.Event.{Event}
+use Rattle.hc_event.specs.declared.event.Event.TheVariants as event
+use Rattle.hc_event.specs.declared.event.Response.{Response}
+use Rattle.hc_rules.specs.declared.room.Limits.{Limits}
+use Rattle.hc_event.specs.declared.place.Place.{Place}
+use Rattle.hc_event.specs.declared.place.Place.TheVariants as place
+use Rattle.hc_model.specs.Answers.{accepted_acts}
+use Rattle.hc_model.specs.Cases.{case_at, is_joining, is_founding}
+use Rattle.hc_model.specs.Currents.{current, is_usable}
+use Rattle.hc_model.specs.Denials.{denial}
+use Rattle.hc_model.specs.Entries.{Entry}
+use Rattle.hc_model.specs.ExchangeRows.{exchange_after, exchange_heard, exchange_acted, exchange_made, exchange_opened, aim_of, aim_from}
+use Rattle.hc_model.specs.Flaws.{Flaw}
+use Rattle.hc_model.specs.Laws.{NamesAreKept}
+use Rattle.hc_model.specs.RepresentationRows.{representation_after, founded_at, new_representation}
+use Rattle.hc_model.specs.Rows.{Tables, Exchange, Representation, Consumer}
+use Rattle.hc_model.specs.Sound.{Sound}
+use Rattle.hc_model.specs.Sound as sound
+use Rattle.hc_model.specs.Tables.{after_accepted}
+use Rattle.hc_effects.proofs.Basics.{some_none}
+use Rattle.hc_effects.proofs.NumbersKeep.{opens_next, founded_none, representation_none}
+use Rattle.hc_effects.proofs.PieceKeeps.{eq_cases, some_inj}
+use Rattle.hc_effects.proofs.PollKeeps.{find_passes}
+
+-- what stands stays
+stays : (t : Tables) (e : Entry) (r : ℕ) (o : Option Representation) → is_some o ≡ true → is_some (representation_after t e r o) ≡ true
+unfolding representation_after
+stays t e r None there = absurd (let no : false ≡ true = there in cc)
+stays t e r (Some v) there = refl
+
+-- WHAT A ROW NAMES
+
+-- its aim is as it was, it joined what it had joined or its aim, and it had no head where it has none, and no head came
+record IsNaming (x : ℕ) (ev : Event) (w u : Exchange) : Type 0 where
+  aim_is : u.aim ≡ w.aim
+  joined_is : (u.joined ≡ w.joined) ⊎ (u.joined ≡ w.aim)
+  bare : u.head ≡ None → w.head ≡ None
+  quiet : u.head ≡ None → (response : Response) → ev ≡ event.Head x response → ⊥
+
+joined_by : (b : Bool) (aim joined : Option ℕ) → ((if b then aim else joined) ≡ joined) ⊎ ((if b then aim else joined) ≡ aim)
+joined_by true aim joined = inr refl
+joined_by false aim joined = inl refl
+
+abbrev number_in : Event → ℕ
+number_in (event.Head y response) = y
+number_in _ = 0
+
+naming : (t : Tables) (e : Entry) (x : ℕ) (ev : Event) (w : Exchange) → IsNaming x ev w (exchange_acted x e.acts (exchange_heard t e x ev w))
+naming t e x (event.Start c request) w = record { aim_is = refl; joined_is = inl refl; bare = λ h. h; quiet = λ h response is. cc }
+naming t e x (event.Poll c want) w = record { aim_is = refl; joined_is = inl refl; bare = λ h. h; quiet = λ h response is. cc }
+naming t e x (event.Head y response) w = elim (eq_cases y x) [
+  | inl here ↦ rw here.0 (record { aim_is = refl; joined_is = joined_by (is_joining (case_at t e)) w.aim w.joined; bare = λ h. absurd (some_none response h); quiet = λ h answer is. some_none response h })
+  | inr other ↦ rw other.0 (record { aim_is = refl; joined_is = inl refl; bare = λ h. h; quiet = λ h answer is. other.1 (ap number_in is) })
+]
+naming t e x (event.Piece y bytes) w = elim (eq_cases y x) [
+  | inl here ↦ rw here.0 (record { aim_is = refl; joined_is = inl refl; bare = λ h. h; quiet = λ h response is. cc })
+  | inr other ↦ rw other.0 (record { aim_is = refl; joined_is = inl refl; bare = λ h. h; quiet = λ h response is. cc })
+]
+naming t e x (event.End y) w = elim (eq_cases y x) [
+  | inl here ↦ rw here.0 (record { aim_is = refl; joined_is = inl refl; bare = λ h. h; quiet = λ h response is. cc })
+  | inr other ↦ rw other.0 (record { aim_is = refl; joined_is = inl refl; bare = λ h. h; quiet = λ h response is. cc })
+]
+naming t e x (event.Fault y) w = elim (eq_cases y x) [
+  | inl here ↦ rw here.0 (record { aim_is = refl; joined_is = inl refl; bare = λ h. h; quiet = λ h response is. cc })
+  | inr other ↦ rw other.0 (record { aim_is = refl; joined_is = inl refl; bare = λ h. h; quiet = λ h response is. cc })
+]
+naming t e x (event.Cancel c) w = record { aim_is = refl; joined_is = inl refl; bare = λ h. h; quiet = λ h response is. cc }
+naming t e x (event.Doom key) w = record { aim_is = refl; joined_is = inl refl; bare = λ h. h; quiet = λ h response is. cc }
+
+-- a row was there, or was opened now
+data WasOrOpened (t : Tables) (e : Entry) (x : ℕ) (u : Exchange) : Type 0 where
+  was : (w : Exchange) → t.exchange x ≡ Some w → IsNaming x e.event w u → WasOrOpened t e x u
+  opened : (o : Opening) → opening_in e.acts ≡ Some o → o.x ≡ x → t.exchange x ≡ None → u.aim ≡ aim_of t (t.consumer o.c) → u.joined ≡ None → WasOrOpened t e x u
+
+made : (t : Tables) (e : Entry) (x : ℕ) (o : Option Opening) (u : Exchange) → opening_in e.acts ≡ o → t.exchange x ≡ None → exchange_made t e x o ≡ Some u → WasOrOpened t e x u
+made t e x None u is none h = absurd (let no : None ≡ Some u = h in cc)
+made t e x (Some o) u is none h = elim (eq_cases o.x x) [
+  | inr other ↦ absurd (let no : None ≡ Some u = rw other.0 at h in cc)
+  | inl here ↦
+      let one = some_inj (exchange_opened t e o) u (rw here.0 at h) in
+      opened o is here.1 none (sym (ap (λ (z : Exchange). z.aim) one)) (sym (ap (λ (z : Exchange). z.joined) one))
+]
+
+was_or_opened : (t : Tables) (e : Entry) (x : ℕ) (o : Option Exchange) (u : Exchange) → t.exchange x ≡ o → exchange_after t e x o ≡ Some u → WasOrOpened t e x u
+unfolding exchange_after
+was_or_opened t e x None u row h = made t e x (opening_in e.acts) u refl row h
+was_or_opened t e x (Some w) u row h = was w row (subst (IsNaming x e.event w) (some_inj _ u h) (naming t e x e.event w))
+
+-- THE AIM OF AN OPENING
+
+usable_there : (key : List ℕ) (o : Option Representation) → is_usable key o ≡ true → is_some o ≡ true
+usable_there key None h = absurd (let no : false ≡ true = h in cc)
+usable_there key (Some v) h = refl
+
+pub current_there : (t : Tables) (key : List ℕ) (r : ℕ) → current t key ≡ Some r → is_some (t.representation r) ≡ true
+unfolding current
+current_there t key r is = usable_there key (t.representation r) (find_passes (λ q. is_usable key (t.representation q)) t.founded r is)
+
+aim_there : (t : Tables) (c r : ℕ) (k : Consumer) (p : Place) → Sound t → t.consumer c ≡ Some k → k.place ≡ p → aim_from t k.request.key p ≡ Some r → is_some (t.representation r) ≡ true
+aim_there t c r k place.Line s row at is = current_there t k.request.key r is
+aim_there t c r k (place.Passed q kept) s row at is = current_there t k.request.key r is
+aim_there t c r k (place.Turn x) s row at is = current_there t k.request.key r is
+aim_there t c r k (place.Bound q lo hi by) s row at is = subst (λ n. is_some (t.representation n) ≡ true) (some_inj q r is) (s.numbered.bound_to q c k (sound.is_bound lo hi by row at))
+aim_there t c r k (place.Direct x) s row at is = current_there t k.request.key r is
+aim_there t c r k (place.Down cause) s row at is = current_there t k.request.key r is
+aim_there t c r k place.Over s row at is = current_there t k.request.key r is
+
+opening_there : (t : Tables) (c r : ℕ) (o : Option Consumer) → Sound t → t.consumer c ≡ o → aim_of t o ≡ Some r → is_some (t.representation r) ≡ true
+opening_there t c r None s row is = absurd (let no : None ≡ Some r = is in cc)
+opening_there t c r (Some k) s row is = aim_there t c r k k.place s row refl is
+
+-- WHAT FOUNDS HAS A HEAD
+
+founded_quiet : (t : Tables) (e : Entry) (x : ℕ) (ev : Event) → ((response : Response) → ev ≡ event.Head x response → ⊥) → founded_at t e x ev ≡ None
+founded_quiet t e x (event.Start c request) other = refl
+founded_quiet t e x (event.Poll c want) other = refl
+founded_quiet t e x (event.Head y response) other = elim (eq_cases y x) [
+  | inl here ↦ absurd (other response (ap (λ n. event.Head n response) here.1))
+  | inr apart ↦ rw apart.0 (none_by (is_founding (case_at t e)))
+]
+  where
+    none_by : (b : Bool) → (if b && false then option_map (new_representation x e response) (t.exchange y) else None) ≡ None
+    none_by true = refl
+    none_by false = refl
+founded_quiet t e x (event.Piece y bytes) other = refl
+founded_quiet t e x (event.End y) other = refl
+founded_quiet t e x (event.Fault y) other = refl
+founded_quiet t e x (event.Cancel c) other = refl
+founded_quiet t e x (event.Doom key) other = refl
+
+module _ (limits : Limits) (t : Tables) (now : ℕ) (flaw : Flaw) (s : Sound t) (event : Event) (goes : denial t event ≡ None) where
+  abbrev e : Entry
+  e = record { now = now; event = event; acts = accepted_acts limits t now event flaw }
+
+  there : (r : ℕ) → is_some (t.representation r) ≡ true → is_some ((after_accepted t e).representation r) ≡ true
+  there r was_there = stays t e r (t.representation r) was_there
+
+  aims : (x r : ℕ) (u : Exchange) → WasOrOpened t e x u → u.aim ≡ Some r → is_some (t.representation r) ≡ true
+  aims x r u (was w row is) aim = s.numbered.names.aims x r w row (sym is.aim_is ∙ aim)
+  aims x r u (opened o is here none aimed joined) aim = opening_there t o.c r (t.consumer o.c) s refl (sym aimed ∙ aim)
+
+  joined_of : (x r : ℕ) (u : Exchange) → WasOrOpened t e x u → u.joined ≡ Some r → is_some (t.representation r) ≡ true
+  joined_of x r u (was w row is) joined = elim is.joined_is [
+    | inl before ↦ s.numbered.names.joined x r w row (sym before ∙ joined)
+    | inr now_joined ↦ s.numbered.names.aims x r w row (sym now_joined ∙ joined)
+  ]
+  joined_of x r u (opened o is here none aimed bare) joined = absurd (let no : None ≡ Some r = sym bare ∙ joined in cc)
+
+  unfounded : (x : ℕ) (u : Exchange) → WasOrOpened t e x u → u.head ≡ None → (after_accepted t e).representation x ≡ None
+  unfounded x u (was w row is) bare =
+      representation_none t e x (t.representation x) (s.numbered.names.unfounded x w row (is.bare bare)) (founded_quiet t e x event (is.quiet bare))
+  unfounded x u (opened o is here none aimed joined) bare =
+      let next : o.x ≡ t.opened + 1 = opens_next limits t now flaw s event o goes is in
+      let above : t.opened < x = omega arith in
+      representation_none t e x (t.representation x) (s.numbered.lists.new_representations x above) (founded_none t e x event s.numbered.lists above)
+
+  pub named : sound.IsNamed (after_accepted t e)
+  named = record {
+    unfounded = λ x u row bare. unfounded x u (was_or_opened t e x (t.exchange x) u refl row) bare;
+    aims = λ x r u row aim. there r (aims x r u (was_or_opened t e x (t.exchange x) u refl row) aim);
+    joined = λ x r u row joined. there r (joined_of x r u (was_or_opened t e x (t.exchange x) u refl row) joined);
+  }
+
+pub names_are_kept : NamesAreKept
+names_are_kept limits t now flaw s event goes = named limits t now flaw s event goes

@@ -1,0 +1,203 @@
+-- A poll that opens an exchange closes, loses and evicts nothing, and nobody leaves by it.
+use Rattle.std.proofs.Common.{◌≡◌, inl, inr, ℕ, List, [], ◌∷◌, ◌++◌, Bool, true, false, cond, Option, Some, None, refl, ap, sym, ◌∙◌, subst}
+use Rattle.std.specs.Prelude.{map, nat_eq, ◌&&◌, ◌||◌}
+use Rattle.std.specs.Option.{option_or}
+use Rattle.hc_event.specs.Filters.{Opening, opening_in, leaves_in, closes_in, evicts_in, is_denied}
+use Rattle.hc_event.specs.declared.event.Event.{Event}
+use Rattle.hc_event.specs.declared.event.Event.TheVariants as event
+use Rattle.hc_event.specs.declared.act.Act.{Act}
+use Rattle.hc_event.specs.declared.act.Act.TheVariants as act
+use Rattle.hc_event.specs.declared.act.LostKind.{LostKind}
+use Rattle.hc_rules.specs.declared.room.Limits.{Limits}
+use Rattle.hc_model.specs.ActFilters.{showing_in, loses_in, misreads_in, leaver_in, without_losses}
+use Rattle.hc_model.specs.Answers.{poll_acts, loss_acts}
+use Rattle.hc_model.specs.Cases.{case_at, case_of}
+use Rattle.hc_model.specs.Closings.{closing, must_close, is_refused, is_doomed, brings_head, has_no_survivor, is_left, leaver}
+use Rattle.hc_model.specs.Currents.{is_number}
+use Rattle.hc_model.specs.Dooms.{doomed_key_of, is_key}
+use Rattle.hc_model.specs.Entries.{Entry}
+use Rattle.hc_model.specs.Exchanges.{family}
+use Rattle.hc_model.specs.Flaws.{Flaw, NoFlaw, Loses, Misreads, flaw_in}
+use Rattle.hc_model.specs.Keys.{entry_of}
+use Rattle.hc_model.specs.Moves.{Opens, acts_of}
+use Rattle.hc_model.specs.Polls.{poll_move}
+use Rattle.hc_model.specs.Rows.{Tables, Exchange, Representation}
+use Rattle.hc_model.specs.Runs.{may_stand, may_be}
+use Rattle.hc_model.specs.Sound.{Sound}
+use Rattle.hc_model.specs.Writers.{loses_writing}
+use Rattle.hc_model.specs.Writes.{written_representation, seals_at, first_found, lossless, sealed_by}
+use Rattle.hc_effects.proofs.Basics.{false_true, and_left, and_right, or_cases, not_so, none_some}
+use Rattle.hc_effects.proofs.Closed.{before}
+use Rattle.hc_effects.proofs.PollKeeps.{closes_open_none}
+use Rattle.hc_effects.proofs.SaidActs.{closes_leave}
+use Rattle.hc_effects.proofs.Unclosed.{had_to, had_row}
+
+-- ACTS BEHIND AN OPENING
+
+no_misread : (r : ℕ) (xs : List ℕ) (f : Flaw) → misreads_in r (map act.Close xs ++ loss_acts f) ≡ false
+no_misread r [] NoFlaw = refl
+no_misread r [] (Loses q kind) = refl
+no_misread r [] (Misreads q) = refl
+no_misread r (x ∷ xs) f = no_misread r xs f
+
+no_eviction : (r : ℕ) (xs : List ℕ) (f : Flaw) → evicts_in r (map act.Close xs ++ loss_acts f) ≡ false
+no_eviction r [] NoFlaw = refl
+no_eviction r [] (Loses q kind) = refl
+no_eviction r [] (Misreads q) = refl
+no_eviction r (x ∷ xs) f = no_eviction r xs f
+
+no_showing : (xs : List ℕ) (f : Flaw) → showing_in (map act.Close xs ++ loss_acts f) ≡ None
+no_showing [] NoFlaw = refl
+no_showing [] (Loses q kind) = refl
+no_showing [] (Misreads q) = refl
+no_showing (x ∷ xs) f = no_showing xs f
+
+losses_of : (r : ℕ) (xs : List ℕ) (f : Flaw) → loses_in r (map act.Close xs ++ loss_acts f) ≡ loses_in r (loss_acts f)
+losses_of r [] f = refl
+losses_of r (x ∷ xs) f = losses_of r xs f
+
+flaw_of : (q : ℕ) (kind : LostKind) (xs : List ℕ) → flaw_in (map act.Close xs ++ loss_acts (Loses q kind)) ≡ Loses q kind
+flaw_of q kind [] = refl
+flaw_of q kind (x ∷ xs) = flaw_of q kind xs
+
+no_leaver : (f : Flaw) → leaver_in (loss_acts f) ≡ None
+no_leaver NoFlaw = refl
+no_leaver (Loses q kind) = refl
+no_leaver (Misreads q) = refl
+
+closes_kept : (x : ℕ) (acts : List Act) → closes_in x (without_losses acts) ≡ closes_in x acts
+closes_kept x [] = refl
+closes_kept x (act.Close y ∷ acts) = ap (λ b. nat_eq y x || b) (closes_kept x acts)
+closes_kept x (act.Lost r kind ∷ acts) = closes_kept x acts
+closes_kept x (act.Opened y c need request ∷ acts) = closes_kept x acts
+closes_kept x (act.Ask y ∷ acts) = closes_kept x acts
+closes_kept x (act.Shown c r why status fields lo hi ∷ acts) = closes_kept x acts
+closes_kept x (act.Given c y at bytes ∷ acts) = closes_kept x acts
+closes_kept x (act.Ended c ∷ acts) = closes_kept x acts
+closes_kept x (act.Failed c cause ∷ acts) = closes_kept x acts
+closes_kept x (act.Pending c wait ∷ acts) = closes_kept x acts
+closes_kept x (act.Evicted r ∷ acts) = closes_kept x acts
+closes_kept x (act.Denied refusal ∷ acts) = closes_kept x acts
+
+module _ (limits : Limits) (t : Tables) (now : ℕ) (flaw : Flaw) (s : Sound t) (c want : ℕ) where
+  abbrev ev : Event
+  ev = event.Poll c want
+
+  abbrev e : Entry
+  e = entry_of limits t now ev flaw
+
+  abbrev b : Entry
+  b = before limits t now flaw s ev
+
+  abbrev xs : List ℕ
+  xs = closing t b
+
+  module _ (p : Opening) (here : p.c ≡ c) (opens : opening_in e.acts ≡ Some p) (move_is : poll_move t now want c (t.consumer c) ≡ Opens p.x p.need p.request) where
+    abbrev behind : List Act
+    behind = map act.Close xs ++ loss_acts flaw
+
+    -- a read that fails opens nothing
+    not_misread : (r : ℕ) → flaw ≡ Misreads r → ⊥
+    not_misread r at =
+        let none : opening_in (poll_acts t now want c (Misreads r) ++ behind) ≡ None = closes_open_none xs (loss_acts flaw) (subst (λ f. opening_in (loss_acts f) ≡ None) (sym at) refl) in
+        none_some p (sym none ∙ (sym (ap (λ f. opening_in (poll_acts t now want c f ++ behind)) at) ∙ opens))
+
+    said_is : (f : Flaw) → flaw ≡ f → poll_acts t now want c f ≡ acts_of c (Opens p.x p.need p.request)
+    said_is NoFlaw at = ap (acts_of c) move_is
+    said_is (Loses r kind) at = ap (acts_of c) move_is
+    said_is (Misreads r) at = absurd (not_misread r at)
+
+    pub acts_are : e.acts ≡ acts_of c (Opens p.x p.need p.request) ++ behind
+    acts_are = ap (λ acts. acts ++ behind) (said_is flaw refl)
+
+    before_are : b.acts ≡ acts_of c (Opens p.x p.need p.request) ++ loss_acts flaw
+    before_are = ap (λ acts. acts ++ loss_acts flaw) (said_is flaw refl)
+
+    pub leaves_none : (d : ℕ) → leaves_in d e.acts ≡ false
+    leaves_none d = ap (leaves_in d) acts_are ∙ closes_leave limits t now flaw s d xs flaw
+
+    pub misreads_none : (r : ℕ) → misreads_in r e.acts ≡ false
+    misreads_none r = ap (misreads_in r) acts_are ∙ no_misread r xs flaw
+
+    pub evicts_none : (r : ℕ) → evicts_in r e.acts ≡ false
+    evicts_none r = ap (evicts_in r) acts_are ∙ no_eviction r xs flaw
+
+    pub shows_none : showing_in e.acts ≡ None
+    shows_none = ap showing_in acts_are ∙ no_showing xs flaw
+
+    -- NOTHING IS CLOSED
+
+    case_none : case_at t b ≡ None
+    unfolding case_of
+    case_none = refl
+
+    doomed_none : doomed_key_of t b ≡ None
+    unfolding doomed_key_of
+    doomed_none = refl
+
+    pub doomed_not : doomed_key_of t e ≡ None
+    unfolding doomed_key_of
+    doomed_not = refl
+
+    pub case_not : case_at t e ≡ None
+    unfolding case_of
+    case_not = refl
+
+    lost_none : (x r : ℕ) (z : Option Representation) → has_no_survivor t b x r z ≡ true → ⊥
+    lost_none x r None h = false_true h
+    lost_none x r (Some v) h = let losing : loses_writing t b r v ≡ true = and_right (is_number v.writer x) _ (and_left _ _ h) in false_true losing
+
+    must_not : (x : ℕ) (w : Exchange) → must_close t b x w ≡ true → ⊥
+    must_not x w must = elim (or_cases _ (is_left t x (leaver b)) must) [
+      | inr left ↦ false_true (sym (ap (is_left t x) (ap leaver_in before_are ∙ no_leaver flaw)) ∙ left)
+      | inl more ↦ elim (or_cases _ (has_no_survivor t b x (family x w) (t.representation (family x w))) more) [
+        | inr none ↦ lost_none x (family x w) (t.representation (family x w)) none
+        | inl less ↦ elim (or_cases (is_refused (case_at t b) && brings_head x ev) (is_doomed t b x w) less) [
+          | inl refused ↦ false_true (sym (ap is_refused case_none) ∙ and_left _ _ refused)
+          | inr doom ↦ false_true (sym (ap (λ z. is_key z w.request.key) doomed_none) ∙ and_left _ _ (and_left _ _ doom))
+        ]
+      ]
+    ]
+
+    pub closes_none : (x : ℕ) → closes_in x e.acts ≡ false
+    closes_none x = not_so (closes_in x e.acts) (λ h. by_row (t.exchange x) refl h)
+      where
+        by_row : (z : Option Exchange) → t.exchange x ≡ z → closes_in x e.acts ≡ true → ⊥
+        by_row None row h = had_row limits t now flaw s ev x h row
+        by_row (Some w) row h = must_not x w (had_to limits t now flaw s ev x w row h)
+
+    -- NOTHING IS LOST
+
+    seals_none : (x : ℕ) → seals_at t (lossless e) x ≡ None
+    seals_none x =
+        let shut : closes_in x (without_losses e.acts) ≡ false = closes_kept x e.acts ∙ closes_none x in
+        ap (λ (a : Bool). cond a (sealed_by t (lossless e) x (t.exchange x)) None) shut
+
+    found_none : (ys : List ℕ) → first_found (seals_at t (lossless e)) ys ≡ None
+    found_none [] = refl
+    found_none (x ∷ ys) = ap (λ (z : Option ℕ). option_or z (first_found (seals_at t (lossless e)) ys)) (seals_none x) ∙ found_none ys
+
+    pub written_none : written_representation t e ≡ None
+    unfolding written_representation
+    written_none = found_none t.openings
+
+    loses_not : (q : ℕ) (kind : LostKind) → may_stand limits t e ≡ true → flaw ≡ Loses q kind → ⊥
+    unfolding may_stand
+    loses_not q kind stand at =
+        let flaw_is : flaw_in e.acts ≡ Loses q kind = ap flaw_in acts_are ∙ (ap (λ f. flaw_in (map act.Close xs ++ loss_acts f)) at ∙ flaw_of q kind xs) in
+        let undenied : is_denied e.acts ≡ false = ap is_denied acts_are in
+        elim (or_cases (is_denied e.acts) (may_be limits t e (flaw_in e.acts)) stand) [
+          | inl denied ↦ false_true (sym undenied ∙ denied)
+          | inr may ↦
+              let all : may_be limits t e (Loses q kind) ≡ true = sym (ap (may_be limits t e) flaw_is) ∙ may in
+              let number : is_number (written_representation t e) q ≡ true = and_left _ _ (and_left _ _ all) in
+              false_true (sym (ap (λ z. is_number z q) written_none) ∙ number)
+        ]
+
+    lost_not : (r : ℕ) (f : Flaw) → may_stand limits t e ≡ true → flaw ≡ f → loses_in r (loss_acts f) ≡ false
+    lost_not r NoFlaw stand at = refl
+    lost_not r (Loses q kind) stand at = absurd (loses_not q kind stand at)
+    lost_not r (Misreads q) stand at = refl
+
+    pub loses_none : (r : ℕ) → may_stand limits t e ≡ true → loses_in r e.acts ≡ false
+    loses_none r stand = ap (loses_in r) acts_are ∙ (losses_of r xs flaw ∙ lost_not r flaw stand refl)

@@ -1,0 +1,59 @@
+-- What a poll does that opens an exchange past the store.
+use Rattle.std.proofs.Common.{◌≡◌, ℕ, [], Some, None, refl, ap, sym, ◌∙◌}
+use Rattle.hc_event.specs.declared.act.Need.{Need}
+use Rattle.hc_event.specs.declared.act.Need.TheVariants as need
+use Rattle.hc_event.specs.declared.event.Event.TheVariants as event
+use Rattle.hc_event.specs.declared.event.Request.{Request}
+use Rattle.hc_rules.specs.declared.need.Route.TheVariants as route
+use Rattle.hc_rules.specs.Needs.{route_of}
+use Rattle.hc_rules.specs.declared.room.Limits.{Limits}
+use Rattle.hc_event.specs.declared.place.Place.TheVariants as place
+use Rattle.hc_model.specs.ConsumerRows.{opened_place, unless_bound}
+use Rattle.hc_model.specs.Currents.{current}
+use Rattle.hc_model.specs.Dooms.{bypassed_for}
+use Rattle.hc_model.specs.Effects.{Does, with_event, with_consumer, with_opening, just_opened}
+use Rattle.hc_model.specs.Flaws.{NoFlaw}
+use Rattle.hc_model.specs.Lawful.{Lawful}
+use Rattle.hc_model.specs.Moves.{Opens, acts_of}
+use Rattle.hc_model.specs.Polls.{move_of}
+use Rattle.hc_model.specs.Reading.{bound_to}
+use Rattle.hc_model.specs.Rows.{Tables, Consumer}
+use Rattle.hc_model.specs.Tables.{is_hole}
+use Rattle.hc_effects.proofs.Basics.{false_true}
+use Rattle.hc_effects.proofs.OpenEffects.{why, keeps_all, binds_none, about_current}
+use Rattle.hc_effects.proofs.OpenedAs.{Way}
+use Rattle.hc_effects.proofs.OpenedAs as opened
+use Rattle.hc_effects.proofs.PollEffects.{none_waits}
+
+-- it bypasses nothing
+plain_past : (n : Need) (request : Request) → route_of n ≡ route.Direct → bypassed_for n request.key ≡ None
+plain_past need.Disabled request way = refl
+plain_past need.TimedOut request way = refl
+plain_past need.Bypass request way = absurd (let never : route.Turn ≡ route.Direct = way in cc)
+plain_past need.Miss request way = refl
+plain_past need.Vary request way = refl
+plain_past need.Validate request way = refl
+plain_past (need.Hole from to) request way = refl
+plain_past need.Unsatisfied request way = refl
+
+module _ (limits : Limits) (t : Tables) (law : Lawful t) (now c want : ℕ) (k : Consumer) (row : t.consumer c ≡ Some k) (x : ℕ) (n : Need) (request : Request) (is : move_of t now want c k ≡ Opens x n request) (past : route_of n ≡ route.Direct) where
+  free : bound_to k.place ≡ None
+  free = by_way (why limits t law now c want k row x n request is).way
+    where
+      by_way : Way t now c k n → bound_to k.place ≡ None
+      by_way (opened.passes_by free way) = free
+      by_way (opened.fetches free way cached) = free
+      by_way (opened.fills r v span hole free way now_is there wants found need_is cached) = free
+      by_way (opened.goes_on r lo hi how at way) = absurd (let never : route.Hole ≡ route.Direct = sym way ∙ past in cc)
+
+  place_is : unless_bound (bound_to k.place) k.place (opened_place t x k (route_of n)) ≡ place.Direct x
+  place_is = rw (free, past) refl
+
+  -- its consumer waits for its head, past the store
+  pub passes_by : Does limits t now (event.Poll c want) NoFlaw (acts_of c (Opens x n request))
+      (with_event now (event.Poll c want) (with_consumer c (Some (record k { own = Some x; place = place.Direct x })) (with_opening x (just_opened now c n request (current t k.request.key)) t)))
+  passes_by =
+      about_current limits t law now c want k row x n request is free [] t.used (place.Direct x)
+      (keeps_all limits t law now c want k row x n request is (plain_past n request past))
+      (binds_none limits t law now c want k row x n request is (ap is_hole past))
+      place_is (λ off. absurd (false_true (sym off))) (none_waits k.place) refl

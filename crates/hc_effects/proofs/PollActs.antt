@@ -1,0 +1,83 @@
+-- What an entry shows and gives to one consumer: nothing, but for the move of its own poll.
+use Rattle.std.proofs.Common.{◌≡◌, inl, inr, ℕ, List, [], ◌∷◌, ◌++◌, true, false, Option, Some, None, refl, ap, sym, subst, arith}
+use Rattle.std.specs.Prelude.{map, nat_eq}
+use Rattle.std.proofs.lemmas.Bool.Decides.{nat_tests}
+use Rattle.hc_sparse.specs.declared.run.Run.{Run}
+use Rattle.hc_event.specs.Filters.{given_in, shows_in}
+use Rattle.hc_event.specs.declared.event.Event.{Event}
+use Rattle.hc_event.specs.declared.event.Event.TheVariants as event
+use Rattle.hc_event.specs.declared.event.Response.{Response}
+use Rattle.hc_event.specs.declared.act.Act.{Act}
+use Rattle.hc_event.specs.declared.act.Act.TheVariants as act
+use Rattle.hc_event.specs.declared.act.Why.{Why}
+use Rattle.hc_rules.specs.declared.room.Limits.{Limits}
+use Rattle.hc_model.specs.ActFilters.{showing_in}
+use Rattle.hc_model.specs.Answers.{accepted_acts, poll_acts, loss_acts}
+use Rattle.hc_model.specs.Closings.{closing}
+use Rattle.hc_model.specs.Flaws.{Flaw, NoFlaw, Loses, Misreads}
+use Rattle.hc_model.specs.Histories.{shown_in}
+use Rattle.hc_model.specs.Moves as moves
+use Rattle.hc_model.specs.Moves.{Move, Nothing, Asks, Opens, Shows, Gives, Ends, Fails, acts_of}
+use Rattle.hc_model.specs.Polls.{poll_move, move_of}
+use Rattle.hc_model.specs.Rows.{Tables, Consumer}
+use Rattle.hc_effects.proofs.Basics.{append_none}
+use Rattle.hc_effects.proofs.Named.{IsFar, far_told, far_poll, far_closes, far_lost}
+use Rattle.hc_effects.proofs.PieceKeeps.{eq_cases}
+use Rattle.hc_effects.proofs.ShownOnce.{unshown_of}
+
+module _ (t : Tables) (now c : ℕ) where
+  pub data ToOne (ev : Event) (acts : List Act) : Type 0 where
+    quiet : given_in c acts ≡ [] → shown_in c acts ≡ [] → shows_in c acts ≡ false → ToOne ev acts
+    shows : (want : ℕ) (k : Consumer) (r : ℕ) (why : Why) (head : Response) (lo : ℕ) (hi : Option ℕ) → ev ≡ event.Poll c want → t.consumer c ≡ Some k → move_of t now want c k ≡ Shows r why head lo hi → given_in c acts ≡ [] → shown_in c acts ≡ record { r = r; why = why; lo = lo; hi = hi } ∷ [] → showing_in acts ≡ Some (record { c = c; r = r; lo = lo; hi = hi }) → ToOne ev acts
+    gives : (want : ℕ) (k : Consumer) (run : Run) → ev ≡ event.Poll c want → t.consumer c ≡ Some k → move_of t now want c k ≡ Gives run → given_in c acts ≡ run.bytes → shown_in c acts ≡ [] → shows_in c acts ≡ false → ToOne ev acts
+
+  module _ (ev : Event) (rest : List Act) (f : IsFar c rest) where
+    none_shown : shown_in c rest ≡ []
+    none_shown = unshown_of c rest f
+
+    same : nat_eq c c ≡ true
+    same = grind (arith, nat_tests)
+
+    by_move : (want : ℕ) (k : Consumer) (m : Move) → ev ≡ event.Poll c want → t.consumer c ≡ Some k → move_of t now want c k ≡ m → ToOne ev (acts_of c m ++ rest)
+    by_move want k Nothing at row is = quiet f.gives none_shown f.shows
+    by_move want k (moves.Waits wait) at row is = quiet f.gives none_shown f.shows
+    by_move want k (Asks x) at row is = quiet f.gives none_shown f.shows
+    by_move want k (Opens x n request) at row is = quiet f.gives none_shown f.shows
+    by_move want k (Shows r why head lo hi) at row is =
+        let shown : shown_in c (acts_of c (Shows r why head lo hi) ++ rest) ≡ record { r = r; why = why; lo = lo; hi = hi } ∷ [] = rw (same, none_shown) refl in
+        shows want k r why head lo hi at row is f.gives shown refl
+    by_move want k (Gives run) at row is =
+        let given : given_in c (acts_of c (Gives run) ++ rest) ≡ run.bytes = rw (same, f.gives) (append_none run.bytes) in
+        gives want k run at row is given none_shown f.shows
+    by_move want k Ends at row is = quiet f.gives none_shown f.shows
+    by_move want k (Fails why) at row is = quiet f.gives none_shown f.shows
+
+    by_row : (want : ℕ) (q : Option Consumer) → ev ≡ event.Poll c want → t.consumer c ≡ q → ToOne ev (acts_of c (poll_move t now want c q) ++ rest)
+    by_row want None at row = quiet f.gives none_shown f.shows
+    by_row want (Some k) at row = by_move want k (move_of t now want c k) at row refl
+
+    by_flaw : (want : ℕ) (flaw : Flaw) → ev ≡ event.Poll c want → ToOne ev (poll_acts t now want c flaw ++ rest)
+    by_flaw want NoFlaw at = by_row want (t.consumer c) at refl
+    by_flaw want (Loses r kind) at = by_row want (t.consumer c) at refl
+    by_flaw want (Misreads r) at = quiet f.gives none_shown f.shows
+
+  far_one : (ev : Event) (acts : List Act) → IsFar c acts → ToOne ev acts
+  far_one ev acts f = quiet f.gives (unshown_of c acts f) f.shows
+
+  module _ (limits : Limits) (flaw : Flaw) where
+    -- what an accepted event shows and gives to one consumer
+    pub to_one : (ev : Event) → ToOne ev (accepted_acts limits t now ev flaw)
+    to_one (event.Start d request) = far_one (event.Start d request) _ (far_told limits t now c flaw (event.Start d request))
+    to_one (event.Poll d want) = elim (eq_cases d c) [
+      | inr other ↦ far_one (event.Poll d want) _ (far_poll t now want c d flaw _ other.0 (far_closes c (closing t (record { now = now; event = event.Poll d want; acts = poll_acts t now want d flaw ++ loss_acts flaw })) (loss_acts flaw) (far_lost c flaw)))
+      | inl here ↦
+          let rest = map act.Close (closing t (record { now = now; event = event.Poll d want; acts = poll_acts t now want d flaw ++ loss_acts flaw })) ++ loss_acts flaw in
+          let f = far_closes c (closing t (record { now = now; event = event.Poll d want; acts = poll_acts t now want d flaw ++ loss_acts flaw })) (loss_acts flaw) (far_lost c flaw) in
+          subst (λ n. ToOne (event.Poll d want) (poll_acts t now want n flaw ++ rest)) (sym here.1) (by_flaw (event.Poll d want) rest f want flaw (ap (λ n. event.Poll n want) here.1))
+    ]
+    to_one (event.Head x response) = far_one (event.Head x response) _ (far_told limits t now c flaw (event.Head x response))
+    to_one (event.Piece x bytes) = far_one (event.Piece x bytes) _ (far_told limits t now c flaw (event.Piece x bytes))
+    to_one (event.End x) = far_one (event.End x) _ (far_told limits t now c flaw (event.End x))
+    to_one (event.Fault x) = far_one (event.Fault x) _ (far_told limits t now c flaw (event.Fault x))
+    to_one (event.Cancel d) = far_one (event.Cancel d) _ (far_closes c (closing t (record { now = now; event = event.Cancel d; acts = loss_acts flaw })) (loss_acts flaw) (far_lost c flaw))
+    to_one (event.Doom key) = far_one (event.Doom key) _ (far_told limits t now c flaw (event.Doom key))

@@ -1,0 +1,164 @@
+-- What a poll does after which its consumer stays: its acts, what it leaves as it was, and its consumer.
+use Rattle.std.proofs.Common.{◌≡◌, inl, inr, ℕ, List, [], ◌++◌, Bool, true, false, Option, Some, None, refl, ap, sym, ◌∙◌, subst}
+use mathlib.Core.Path.{fun_ext}
+use Rattle.std.specs.Prelude.{◌==◌, nat_eq, if◌then◌else◌, map}
+use Rattle.hc_sparse.specs.declared.run.Run.{Run}
+use Rattle.hc_event.specs.Filters.{opening_in, closes_in, evicts_in}
+use Rattle.hc_event.specs.declared.act.Act.{Act}
+use Rattle.hc_event.specs.declared.act.Act.TheVariants as act
+use Rattle.hc_event.specs.declared.act.Need.{Need}
+use Rattle.hc_event.specs.declared.act.Wait.{Wait}
+use Rattle.hc_event.specs.declared.act.Why.{Why}
+use Rattle.hc_event.specs.declared.event.Event.{Event}
+use Rattle.hc_event.specs.declared.event.Event.TheVariants as event
+use Rattle.hc_event.specs.declared.event.Request.{Request}
+use Rattle.hc_event.specs.declared.event.Response.{Response}
+use Rattle.hc_rules.specs.declared.room.Limits.{Limits}
+use Rattle.hc_event.specs.declared.place.Place.{Place}
+use Rattle.hc_event.specs.declared.place.Place.TheVariants as place
+use Rattle.hc_model.specs.ActFilters.{loses_in, misreads_in, leaver_in}
+use Rattle.hc_model.specs.Answers.{accepted_acts, answer_acts}
+use Rattle.hc_model.specs.Closings.{closing}
+use Rattle.hc_model.specs.ConsumerRows.{consumer_after, consumer_acted}
+use Rattle.hc_model.specs.Dooms.{bypass_key}
+use Rattle.hc_model.specs.Effects.{Does, with_event, with_consumer, let_all_go}
+use Rattle.hc_model.specs.Entries.{Entry}
+use Rattle.hc_model.specs.ExchangeRows.{exchange_after}
+use Rattle.hc_model.specs.Flaws.{NoFlaw}
+use Rattle.hc_model.specs.Gone.{becomes_gone, goes_in}
+use Rattle.hc_model.specs.Lawful.{Lawful}
+use Rattle.hc_model.specs.Moves as moves
+use Rattle.hc_model.specs.Moves.{Move, Asks, Opens, Shows, Gives, acts_of}
+use Rattle.hc_model.specs.Polls.{move_of, poll_move}
+use Rattle.hc_model.specs.Reading.{reads}
+use Rattle.hc_model.specs.Rows.{Tables, Exchange, Representation, Consumer}
+use Rattle.hc_model.specs.StartingOver.{loses_what_it_waits_for}
+use Rattle.hc_model.specs.Tables.{after_accepted, opened_after, openings_after, to_front, binds}
+use Rattle.hc_effects.proofs.ActParts.{IsFarFrom, far_closed, far_other}
+use Rattle.hc_effects.proofs.Basics.{append_none}
+use Rattle.hc_effects.proofs.ConsumerEffects.{after_by, waits_as, others, representations}
+use Rattle.hc_effects.proofs.FewClosings.{closes_nothing}
+use Rattle.hc_effects.proofs.OfConsumers.{BringsNothing, brings_nothing, little, goes_nothing, consumer_itself}
+use Rattle.hc_effects.proofs.OfConsumers as event_of
+use Rattle.hc_effects.proofs.PieceKeeps.{eq_cases}
+use Rattle.hc_effects.proofs.SameTables.{is_in, waits_for_any}
+use Rattle.hc_effects.proofs.Tests.{and_false}
+use Rattle.hc_effects.proofs.Untouched.{goes_from}
+
+-- a move after which its consumer stays
+pub data Stays : Move → Type 0 where
+  waits : (w : Wait) → Stays (moves.Waits w)
+  asks : (x : ℕ) → Stays (Asks x)
+  opens : (x : ℕ) (n : Need) (request : Request) → Stays (Opens x n request)
+  shows : (r : ℕ) (why : Why) (head : Response) (lo : ℕ) (hi : Option ℕ) → Stays (Shows r why head lo hi)
+  gives : (run : Run) → Stays (Gives run)
+
+-- what its acts don't say
+record IsMild (acts : List Act) : Type 0 where
+  leaves : leaver_in (acts ++ []) ≡ None
+  closes : (x : ℕ) → closes_in x acts ≡ false
+  loses : (r : ℕ) → loses_in r acts ≡ false
+  misreads : (r : ℕ) → misreads_in r acts ≡ false
+  evicts : (r : ℕ) → evicts_in r acts ≡ false
+
+mild : (c : ℕ) (m : Move) → Stays m → IsMild (acts_of c m)
+mild c _ (waits w) = record { leaves = refl; closes = λ x. refl; loses = λ r. refl; misreads = λ r. refl; evicts = λ r. refl }
+mild c _ (asks x) = record { leaves = refl; closes = λ x. refl; loses = λ r. refl; misreads = λ r. refl; evicts = λ r. refl }
+mild c _ (opens x n request) = record { leaves = refl; closes = λ x. refl; loses = λ r. refl; misreads = λ r. refl; evicts = λ r. refl }
+mild c _ (shows r why head lo hi) = record { leaves = refl; closes = λ x. refl; loses = λ r. refl; misreads = λ r. refl; evicts = λ r. refl }
+mild c _ (gives run) = record { leaves = refl; closes = λ x. refl; loses = λ r. refl; misreads = λ r. refl; evicts = λ r. refl }
+
+pub none_waits : (p : Place) → waits_for_any [] p ≡ false
+none_waits (place.Passed r kept) = refl
+none_waits place.Line = refl
+none_waits (place.Turn x) = refl
+none_waits (place.Bound r lo hi how) = refl
+none_waits (place.Direct x) = refl
+none_waits (place.Down why) = refl
+none_waits place.Over = refl
+
+-- who waits for nothing that goes starts over by nothing
+pub loses_none : (t : Tables) (e : Entry) (c : ℕ) (p : Place) → goes_from t e p ≡ false → loses_what_it_waits_for t e c p ≡ false
+loses_none t e c (place.Passed r kept) off = and_false (goes_in t e r (t.representation r)) _ off
+loses_none t e c place.Line off = refl
+loses_none t e c (place.Turn x) off = refl
+loses_none t e c (place.Bound r lo hi how) off = refl
+loses_none t e c (place.Direct x) off = refl
+loses_none t e c (place.Down why) off = refl
+loses_none t e c place.Over off = refl
+
+-- what was due stays due
+pub due_kept : (q : Consumer) (due : _) → q.due ≡ due → (reads q.place ≡ false → due ≡ None) → record q { due = if reads q.place then due else None } ≡ q
+due_kept q due same idle = by_test (reads q.place) refl
+  where
+    by_test : (b : Bool) → reads q.place ≡ b → record q { due = if b then due else None } ≡ q
+    by_test true is = ap (λ z. record q { due = z }) (sym same)
+    by_test false is = ap (λ z. record q { due = z }) (sym (same ∙ idle is))
+
+-- a consumer that is as it was
+pub same_consumer : (t u : Tables) (c : ℕ) (k : Consumer) → u.consumer c ≡ Some k → with_consumer c (Some k) u ≡ u
+same_consumer t u c k row = ap (λ (f : ℕ → Option Consumer). record u { consumer = f }) (fun_ext by_number)
+  where
+    by_number : (d : ℕ) → (if c == d then Some k else u.consumer d) ≡ u.consumer d
+    by_number d = elim (eq_cases c d) [
+      | inl here ↦ rw here.0 (sym row ∙ ap u.consumer here.1)
+      | inr other ↦ rw other.0 refl
+    ]
+
+module _ (limits : Limits) (t : Tables) (law : Lawful t) (now c want : ℕ) (k : Consumer) (row : t.consumer c ≡ Some k) (m : Move) (stays : Stays m) (is : move_of t now want c k ≡ m) where
+  abbrev ev : Event
+  ev = event.Poll c want
+
+  -- the entry of the poll
+  abbrev pub e : Entry
+  e = record { now = now; event = ev; acts = acts_of c m }
+
+  nothing : (acts : List Act) → BringsNothing t (record { now = now; event = ev; acts = acts }) c
+  nothing acts = brings_nothing t now c ev acts (event_of.polls want)
+
+  said_is : answer_acts t now ev NoFlaw ≡ acts_of c m
+  said_is = ap (λ (o : Option Consumer). acts_of c (poll_move t now want c o)) row ∙ ap (acts_of c) is
+
+  closes_none : closing t (record { now = now; event = ev; acts = answer_acts t now ev NoFlaw ++ [] }) ≡ []
+  closes_none = closes_nothing t (record { now = now; event = ev; acts = answer_acts t now ev NoFlaw ++ [] }) (little t (record { now = now; event = ev; acts = answer_acts t now ev NoFlaw ++ [] }) c (nothing (answer_acts t now ev NoFlaw ++ []))) (ap (λ acts. leaver_in (acts ++ [])) said_is ∙ (mild c m stays).leaves)
+
+  -- just what its move says
+  pub acts_are : accepted_acts limits t now ev NoFlaw ≡ acts_of c m
+  acts_are = ap (λ xs. answer_acts t now ev NoFlaw ++ (map act.Close xs ++ [])) closes_none ∙ (append_none (answer_acts t now ev NoFlaw) ∙ said_is)
+
+  far : (d : ℕ) → nat_eq c d ≡ false → IsFarFrom d (acts_of c m)
+  far d other = subst (IsFarFrom d) (append_none (acts_of c m)) (far_other d c m [] other (far_closed d []))
+
+  -- where it bypasses nothing, nothing goes
+  pub nothing_goes : bypass_key e ≡ None → (r : ℕ) (v : Representation) → t.representation r ≡ Some v → becomes_gone t e r v ≡ is_in [] r
+  nothing_goes plain r v there = let a = mild c m stays in goes_nothing t e c (nothing (acts_of c m)) r v plain (a.loses r) (a.misreads r) (a.closes r) (a.evicts r)
+
+  module _ (rs : List ℕ) (goes : (r : ℕ) (v : Representation) → t.representation r ≡ Some v → becomes_gone t e r v ≡ is_in rs r) (q : Consumer) where
+    itself : consumer_acted t e c k ≡ q → q.due ≡ k.due → (reads q.place ≡ false → k.due ≡ None) → waits_for_any rs k.place ≡ false → consumer_after t e c (t.consumer c) ≡ Some q
+    itself acted due idle unwaiting =
+        ap (consumer_after t e c) row
+        ∙ (consumer_itself t e c (nothing (acts_of c m)) c k k q refl acted (loses_none t e c k.place (waits_as t e law rs goes c k row k.place refl ∙ unwaiting))
+        ∙ ap Some (due_kept q k.due due idle))
+
+    -- what it comes to: its consumer, exchanges, and whom it binds
+    pub poll_does : (o : ℕ) (os us : List ℕ) (xs : ℕ → Option Exchange) → opened_after (opening_in (acts_of c m)) t.opened ≡ o → openings_after (opening_in (acts_of c m)) t.openings ≡ os → to_front (binds t e) t.used ≡ us → ((x : ℕ) → exchange_after t e x (t.exchange x) ≡ xs x)
+        → consumer_acted t e c k ≡ q → q.due ≡ k.due → (reads q.place ≡ false → k.due ≡ None) → waits_for_any rs k.place ≡ false → waits_for_any rs q.place ≡ false
+        → Does limits t now ev NoFlaw (acts_of c m) (with_event now ev (let_all_go now rs (with_consumer c (Some q) (record t { opened = o; openings = os; used = us; exchange = xs }))))
+    poll_does o os us xs opened openings used exchange acted due idle unwaiting unwaits = record {
+      acts_are = acts_are;
+      tables_are =
+          ap (λ acts. after_accepted t (record { now = now; event = ev; acts = acts })) acts_are
+          ∙ after_by t e c (nothing (acts_of c m)) rs (record t { opened = o; openings = os; used = us; exchange = xs }) q (record {
+            entries = refl;
+            received = refl;
+            last_start = refl;
+            starts = refl;
+            opened = opened;
+            openings = openings;
+            founded = refl;
+            used = used;
+            exchange = exchange;
+            representation = representations t e c (nothing (acts_of c m)) law far rs goes (mild c m stays).loses;
+            consumer = others t e c (nothing (acts_of c m)) law far rs goes;
+          }) (itself acted due idle unwaiting) unwaits;
+    }

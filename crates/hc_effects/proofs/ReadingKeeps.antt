@@ -1,0 +1,253 @@
+-- Whose open exchange has a head reads it, or what it is bound to, and stands there until it leaves.
+use Rattle.std.proofs.Common.{◌≡◌, ◌⊎◌, inl, inr, ℕ, Bool, true, false, Option, Some, None, refl, ap, sym, ◌∙◌, subst, arith}
+use Rattle.std.specs.Prelude.{if◌then◌else◌, is_some, is_none, ◌&&◌, ◌==◌, not, nat_eq}
+use Rattle.std.specs.Option.{option_and_then}
+use Rattle.std.proofs.lemmas.Bool.Decides.{nat_tests}
+use Rattle.hc_event.specs.Filters.{Opening, opening_in, leaves_in}
+use Rattle.hc_event.specs.declared.event.Event.{Event}
+use Rattle.hc_event.specs.declared.event.Event.TheVariants as event
+use Rattle.hc_event.specs.declared.event.Response.{Response}
+use Rattle.hc_event.specs.declared.act.Wait.{Wait}
+use Rattle.hc_event.specs.declared.act.Wait.TheVariants as wait
+use Rattle.hc_rules.specs.declared.room.Limits.{Limits}
+use Rattle.hc_event.specs.declared.place.Place.{Place}
+use Rattle.hc_event.specs.declared.place.Place.TheVariants as place
+use Rattle.hc_model.specs.ActFilters.{Showing, showing_in, wait_in}
+use Rattle.hc_model.specs.Closings.{must_close, is_left, is_left_by, leaver, leaver_by}
+use Rattle.hc_model.specs.ConsumerRows.{consumer_heard, consumer_acted, by_head, by_fault, by_opening, own_after, shown_place, waiting, waiting_place}
+use Rattle.hc_model.specs.Denials.{denial}
+use Rattle.hc_model.specs.Entries.{Entry}
+use Rattle.hc_model.specs.ExchangeRows.{exchange_heard}
+use Rattle.hc_model.specs.Exchanges.{is_open}
+use Rattle.hc_model.specs.Flaws.{Flaw}
+use Rattle.hc_model.specs.Keys.{entry_of}
+use Rattle.hc_model.specs.Owners.{Owners, IsReading}
+use Rattle.hc_model.specs.Owners as owners
+use Rattle.hc_model.specs.Polls.{shows_at, shows_direct, move_of}
+use Rattle.hc_model.specs.Reading.{own_open, if_open, reads, bound_to}
+use Rattle.hc_model.specs.Rows.{Tables, Exchange, Consumer}
+use Rattle.hc_model.specs.Sound.{Sound}
+use Rattle.hc_model.specs.Tables.{after_accepted}
+use Rattle.hc_model.specs.Writers.{brings_body}
+use Rattle.hc_effects.proofs.Basics.{false_true, and_left, and_right, or_left, or_right, not_so, none_some, some_none, number_yes}
+use Rattle.hc_effects.proofs.Closed.{before, closes}
+use Rattle.hc_effects.proofs.ExchangeFrom.{ExchangeFrom, IsSame, IsHeaded, exchange_from}
+use Rattle.hc_effects.proofs.ExchangeFrom as exchange
+use Rattle.hc_effects.proofs.FirstKeeps.{is_new}
+use Rattle.hc_effects.proofs.Forward.{after_is}
+use Rattle.hc_effects.proofs.HeadedAs.{HeadedAs, headed_as, heard_at}
+use Rattle.hc_effects.proofs.HeadedAs as head
+use Rattle.hc_effects.proofs.HoleLemmas.{bool_cases}
+use Rattle.hc_effects.proofs.OwnFrom.{OwnFrom, IsRow, IsLeft, own_from, after_by}
+use Rattle.hc_effects.proofs.OwnFrom as own
+use Rattle.hc_effects.proofs.OwnersKeep.{is_opened, new_number}
+use Rattle.hc_effects.proofs.PieceKeeps.{eq_cases, some_inj}
+use Rattle.hc_effects.proofs.ExclusiveWriters.{same_row}
+use Rattle.hc_effects.proofs.Said.{WaitsAs, waiting_by}
+use Rattle.hc_effects.proofs.SaidActs.{leaves_leaver}
+use Rattle.hc_effects.proofs.WaitedAs.{IsForOthers, waited_as}
+use Rattle.hc_effects.proofs.WaitedAs as waited
+use Rattle.hc_effects.proofs.Waiters.{waiter_of, fault_open_of}
+
+none_of : (q : Option Response) → is_none q ≡ true → q ≡ None
+none_of None g = refl
+none_of (Some response) g = absurd (false_true g)
+
+some_of : (q : Option Response) → is_some q ≡ true → (response : Response) × (q ≡ Some response)
+some_of None g = absurd (false_true g)
+some_of (Some response) g = (response, refl)
+
+module _ (limits : Limits) (t : Tables) (now : ℕ) (flaw : Flaw) (s : Sound t) (o : Owners t) (ev : Event) (goes : denial t ev ≡ None) where
+  abbrev e : Entry
+  e = entry_of limits t now ev flaw
+
+  abbrev b : Entry
+  b = before limits t now flaw s ev
+
+  abbrev now_on : Tables
+  now_on = after_accepted t e
+
+  -- a lost writing is left to nobody by a poll
+  pub unpolled : (d want : ℕ) → ev ≡ event.Poll d want → brings_body ev ≡ true → ⊥
+  unpolled d want polls brings = false_true (sym (ap brings_body polls) ∙ brings)
+
+  pub left_body : (c x : ℕ) (p : Place) → IsLeft t e c x p → brings_body ev ≡ true
+  left_body c x p l = let losing : (brings_body ev && _) ≡ true = and_left _ _ l.loses in and_left (brings_body ev) _ losing
+
+  -- A READER WITH A HEAD STANDS WHERE IT STOOD
+
+  module _ (c x : ℕ) (k u : Consumer) (w z : Exchange) (row : IsRow t e c x k u) (mine : k.own ≡ Some x) (still : u.own ≡ Some x) (is_row : t.exchange x ≡ Some w) (headed : is_some w.head ≡ true) (after_row : now_on.exchange x ≡ Some z) (same : IsSame t e x w z) (opened : z.is_open ≡ true) where
+    -- it waits for no head
+    no_waiter : (y : ℕ) (q : Exchange) → t.exchange y ≡ Some q → q.is_open ≡ true → q.head ≡ None → q.c ≡ c → ⊥
+    no_waiter y q exchange_row on bare theirs =
+        let got = waiter_of limits t now flaw s o ev goes y q exchange_row on bare in
+        let one : got.0 ≡ k = same_row (t.consumer c) got.0 k (sym (ap t.consumer theirs) ∙ got.1.row) row.row in
+        let number : y ≡ x = some_inj y x (sym got.1.own ∙ (ap (λ (p : Consumer). p.own) one ∙ mine)) in
+        let it : q ≡ w = same_row (t.exchange x) q w (sym (ap t.exchange number) ∙ exchange_row) is_row in
+        false_true (sym (ap (λ (p : Option Response). is_some p) bare) ∙ (ap (λ (p : Exchange). is_some p.head) it ∙ headed))
+
+    own_is : own_open t k ≡ Some x
+    own_is = ap (option_and_then (if_open t)) mine ∙ ap (λ (v : Bool). if v then Some x else None) (ap is_open is_row ∙ same.was_open opened)
+
+    heard_on : (v : Event) → ev ≡ v → (exchange_heard t e x v w).is_open ≡ (exchange_heard t b x v w).is_open
+    heard_on (event.Start d request) here = refl
+    heard_on (event.Poll d want) here = refl
+    heard_on (event.Head y response) here = elim (eq_cases y x) [ inl hit ↦ rw hit.0 refl | inr off ↦ rw off.0 refl ]
+    heard_on (event.Piece y bytes) here = refl
+    heard_on (event.End y) here = refl
+    heard_on (event.Fault y) here = refl
+    heard_on (event.Cancel d) here = refl
+    heard_on (event.Doom key) here = refl
+
+    not_must : must_close t b x w ≡ true → ⊥
+    not_must must =
+        let is = some_inj _ z (sym (after_is t e x w (t.exchange x) is_row) ∙ after_row) in
+        let on : (exchange_heard t e x ev w).is_open ≡ true = and_right _ _ (ap (λ (q : Exchange). q.is_open) is ∙ opened) in
+        false_true (sym (same.unclosed opened) ∙ closes limits t now flaw s ev x w is_row must (sym (heard_on ev refl) ∙ on))
+
+    left_by : leaver b ≡ Some c → ⊥
+    left_by at =
+        let left : is_left_by t x c (Some k) ≡ true = or_left _ _ (number_yes (own_open t k) x own_is) in
+        let leaves : is_left t x (leaver b) ≡ true = ap (is_left t x) at ∙ (ap (is_left_by t x c) row.row ∙ left) in
+        not_must (or_right _ _ leaves)
+
+    stays_in : leaves_in c e.acts ≡ false
+    stays_in = not_so (leaves_in c e.acts) (λ leaves. left_by (leaves_leaver limits t now flaw s ev c leaves))
+
+    not_cancelled : ev ≡ event.Cancel c → ⊥
+    not_cancelled at = left_by (ap (λ v. leaver_by v b.acts) at)
+
+    heard_same : (v : Event) → ev ≡ v → consumer_heard t e c v k ≡ k
+    heard_same (event.Start d request) here = refl
+    heard_same (event.Poll d want) here = refl
+    heard_same (event.Head y response) here = by_row (t.exchange y) refl
+      where
+        by_row : (q : Option Exchange) → t.exchange y ≡ q → by_head t e c y response q k ≡ k
+        by_row None exchange_row = refl
+        by_row (Some q) exchange_row = elim (eq_cases q.c c) [
+          | inl hit ↦ absurd (let new = is_new limits t now flaw s ev goes y response q here exchange_row in no_waiter y q exchange_row new.is_open new.bare hit.1)
+          | inr off ↦ rw off.0 refl
+        ]
+    heard_same (event.Piece y bytes) here = refl
+    heard_same (event.End y) here = refl
+    heard_same (event.Fault y) here = by_row (t.exchange y) refl
+      where
+        of_it : (q : Exchange) → t.exchange y ≡ Some q → (q.c == c) ≡ true → is_none q.head ≡ true → ⊥
+        of_it q exchange_row theirs none =
+            let test : nat_eq q.c c ≡ true = theirs in
+            let it : q.c ≡ c = grind (arith, nat_tests) in
+            no_waiter y q exchange_row (fault_open_of limits t now flaw s o ev goes y q (sym (ap (denial t) here) ∙ goes) exchange_row) (none_of q.head none) it
+
+        by_row : (q : Option Exchange) → t.exchange y ≡ q → by_fault c y q k ≡ k
+        by_row None exchange_row = refl
+        by_row (Some q) exchange_row = elim (bool_cases (q.c == c && is_none q.head && not k.shown)) [
+          | inl hit ↦ absurd (of_it q exchange_row (and_left _ _ (and_left _ _ hit)) (and_right _ _ (and_left _ _ hit)))
+          | inr off ↦ rw off refl
+        ]
+    heard_same (event.Cancel d) here = elim (eq_cases d c) [
+      | inl hit ↦ absurd (not_cancelled (here ∙ ap event.Cancel hit.1))
+      | inr off ↦ rw off.0 refl
+    ]
+    heard_same (event.Doom key) here = refl
+
+    -- nothing is opened for it
+    no_opening : (p : Opening) → opening_in e.acts ≡ Some p → p.c ≡ c → ⊥
+    no_opening p opens hit =
+        let by_poll = is_opened limits t now flaw s o ev goes p opens in
+        let test : nat_eq p.c c ≡ true = grind (arith, nat_tests) in
+        let h = consumer_heard t e c ev k in
+        let owned : (by_opening t c (opening_in e.acts) (waiting t e c h)).own ≡ Some p.x = ap (λ q. (by_opening t c q (waiting t e c h)).own) opens ∙ rw test refl in
+        let is : own_after t e c h.place (Some p.x) ≡ Some x = ap (own_after t e c h.place) (sym owned) ∙ (ap (λ (q : Consumer). q.own) row.is ∙ still) in
+        elim (after_by t e c x h.place (Some p.x) is) [
+          | inl number ↦ none_some w (sym (new_number limits t now flaw s o ev goes p x opens (some_inj p.x x number)) ∙ is_row)
+          | inr left ↦ unpolled p.c by_poll.want by_poll.at (left_body c x h.place left)
+        ]
+
+    shown_here : (p : Place) → k.place ≡ p → IsReading x p → bound_to p ≡ None → shows_at t k p ≡ None → ⊥
+    shown_here p at (owners.bound r lo hi how stands) free none = let no : Some r ≡ None = sym (ap bound_to stands) ∙ free in some_none r no
+    shown_here p at (owners.direct stands) free none =
+        let got = some_of w.head headed in
+        let no : shows_direct t x (t.exchange x) ≡ None = sym (ap (shows_at t k) stands) ∙ none in
+        let also : shows_direct t x (Some w) ≡ None = sym (ap (shows_direct t x) is_row) ∙ no in
+        let never = rw got.1 at also in some_none _ never
+
+    module _ (reading : IsReading x k.place) where
+      told_not : (q : Wait) → IsForOthers q → wait_in c e.acts ≡ Some q → ⊥
+      told_not q others told =
+          let by_poll = waiting_by limits t now flaw s ev goes c q told in
+          let one : by_poll.k ≡ k = same_row (t.consumer c) by_poll.k k by_poll.poll.row row.row in
+          let waits : WaitsAs q (move_of t now by_poll.want c k) = subst (λ (p : Consumer). WaitsAs q (move_of t now by_poll.want c p)) one by_poll.move in
+          let why = waited_as t now c k q others by_poll.want s row.row waits in
+          shown_here k.place refl reading why.free why.none
+
+      waits_on : (q : Option Wait) → wait_in c e.acts ≡ q → waiting_place t k q ≡ k.place
+      waits_on None told = refl
+      waits_on (Some (wait.Turn d)) told = absurd (told_not (wait.Turn d) (waited.turn d) told)
+      waits_on (Some (wait.Busy d)) told = absurd (told_not (wait.Busy d) (waited.busy d) told)
+      waits_on (Some (wait.Head y)) told = refl
+      waits_on (Some (wait.Body y)) told = refl
+
+      is_read : (p : Place) → IsReading x p → reads p ≡ true
+      is_read p (owners.direct stands) = ap reads stands
+      is_read p (owners.bound r lo hi how stands) = ap reads stands
+
+      shows_on : (q : Option Showing) → shown_place c q k.place ≡ k.place
+      shows_on None = refl
+      shows_on (Some q) = elim (eq_cases q.c c) [
+        | inl hit ↦ rw (hit.0, is_read k.place reading) refl
+        | inr off ↦ rw off.0 refl
+      ]
+
+      opens_on : (q : Consumer) (p : Option Opening) → opening_in e.acts ≡ p → by_opening t c p q ≡ q
+      opens_on q None opens = refl
+      opens_on q (Some p) opens = elim (eq_cases p.c c) [
+        | inl hit ↦ absurd (no_opening p opens hit.1)
+        | inr off ↦ rw off.0 refl
+      ]
+
+      plain_place : (h : Consumer) (leaves : Bool) (shows : Option Showing) (opens : Option Opening) (waits : Option Wait) → leaves ≡ false → by_opening t c opens (record h { place = waiting_place t h waits }) ≡ record h { place = waiting_place t h waits } → waiting_place t h waits ≡ h.place → shown_place c shows h.place ≡ h.place → (if leaves then place.Over else shown_place c shows (by_opening t c opens (record h { place = waiting_place t h waits })).place) ≡ h.place
+      plain_place h leaves shows opens waits stay unopened unmoved unshown =
+          let placed : (by_opening t c opens (record h { place = waiting_place t h waits })).place ≡ h.place = ap (λ (q : Consumer). q.place) unopened ∙ unmoved in
+          rw stay (ap (shown_place c shows) placed ∙ unshown)
+
+      pub reader_stays : u.place ≡ k.place
+      reader_stays =
+          let placed : (consumer_acted t e c k).place ≡ k.place = plain_place k (leaves_in c e.acts) (showing_in e.acts) (opening_in e.acts) (wait_in c e.acts) stays_in (opens_on (waiting t e c k) (opening_in e.acts) refl) (waits_on (wait_in c e.acts) refl) (shows_on (showing_in e.acts)) in
+          sym (ap (λ (q : Consumer). q.place) row.is) ∙ (ap (λ (h : Consumer). (consumer_acted t e c h).place) (heard_same ev refl) ∙ placed)
+
+  -- AFTER AN ENTRY
+
+  reading_as : (c x : ℕ) (k u : Consumer) (w z : Exchange) (response : Response) → HeadedAs limits t now flaw s o ev goes x response w k.place u.place z → IsReading x u.place
+  reading_as c x k u w z response (head.direct is) = owners.direct is
+  reading_as c x k u w z response (head.founds lo hi how is on off) = owners.bound x lo hi how is
+  reading_as c x k u w z response (head.joins r lo hi how was is aim on joined) = owners.bound r lo hi how is
+
+  moved : (x : ℕ) (p q : Place) → q ≡ p → IsReading x p → IsReading x q
+  moved x p q same (owners.direct stands) = owners.direct (same ∙ stands)
+  moved x p q same (owners.bound r lo hi how stands) = owners.bound r lo hi how (same ∙ stands)
+
+  pub head_some : (w z : Exchange) → z.head ≡ w.head → is_some z.head ≡ true → is_some w.head ≡ true
+  head_some w z same headed = sym (ap (λ (p : Option Response). is_some p) same) ∙ headed
+
+  kept_reading : (c x : ℕ) (k u : Consumer) (w z : Exchange) → IsRow t e c x k u → k.own ≡ Some x → u.own ≡ Some x → t.exchange x ≡ Some w → now_on.exchange x ≡ Some z → IsSame t e x w z → z.is_open ≡ true → is_some z.head ≡ true → IsReading x u.place
+  kept_reading c x k u w z row mine still is_row after_row same opened headed = by_heard same.heard_or
+    where
+      by_heard : ((z.head ≡ w.head) × (z.joined ≡ w.joined)) ⊎ IsHeaded t e x w z → IsReading x u.place
+      by_heard (inl all) =
+          let was : is_some w.head ≡ true = head_some w z all.0 headed in
+          let reading = o.reading c x k w row.row mine is_row (same.was_open opened) was in
+          moved x k.place u.place (reader_stays c x k u w z row mine still is_row was after_row same opened reading) reading
+      by_heard (inr got) = reading_as c x k u w z got.response (headed_as limits t now flaw s o ev goes c x k u w z got.response got.at row mine is_row after_row same opened)
+
+  by_from : (c x : ℕ) (u : Consumer) (z : Exchange) → u.own ≡ Some x → now_on.exchange x ≡ Some z → z.is_open ≡ true → is_some z.head ≡ true → ExchangeFrom t e x z → OwnFrom t e c x u → IsReading x u.place
+  by_from c x u z still after_row opened headed (exchange.was w is_row same) (own.kept k row mine heard) = kept_reading c x k u w z row mine still is_row after_row same opened headed
+  by_from c x u z still after_row opened headed (exchange.new p none opens here made) (own.kept k row mine heard) = absurd (false_true (ap is_some (sym none) ∙ o.there c x k row.row mine))
+  by_from c x u z still after_row opened headed (exchange.was w is_row same) (own.opened k p row opens here this) = absurd (none_some w (sym (new_number limits t now flaw s o ev goes p x opens this) ∙ is_row))
+  by_from c x u z still after_row opened headed (exchange.new q none opens here made) (own.opened k p row also mine this) = absurd (false_true (ap (λ (a : Exchange). is_some a.head) made ∙ headed))
+  by_from c x u z still after_row opened headed from (own.left k row l) =
+      owners.bound l.r l.lo l.hi l.how (heard_at limits t now flaw s o ev goes c x k u (λ d want polls. unpolled d want polls (left_body c x _ l)) row ∙ l.at)
+
+  -- Whose open exchange has a head reads.
+  pub reading_kept : (c x : ℕ) (u : Consumer) (z : Exchange) → now_on.consumer c ≡ Some u → u.own ≡ Some x → now_on.exchange x ≡ Some z → z.is_open ≡ true → is_some z.head ≡ true → IsReading x u.place
+  reading_kept c x u z row still after_row opened headed =
+      by_from c x u z still after_row opened headed (exchange_from t e x (t.exchange x) z refl after_row) (own_from t e c x (t.consumer c) u refl row still)

@@ -1,0 +1,78 @@
+-- What a start does.
+use Rattle.std.proofs.Common.{◌≡◌, ℕ, [], ◌∷◌, ◌++◌, Bool, true, false, Some, None, refl, ap, ◌∙◌, arith}
+use Rattle.std.specs.Prelude.{nat_eq, nat_le, if◌then◌else◌, map}
+use Rattle.std.proofs.lemmas.Bool.Decides.{nat_tests}
+use Rattle.hc_event.specs.declared.act.Act.TheVariants as act
+use Rattle.hc_event.specs.declared.act.Refusal.TheVariants as refusal
+use Rattle.hc_event.specs.declared.event.Event.{Event}
+use Rattle.hc_event.specs.declared.event.Event.TheVariants as event
+use Rattle.hc_event.specs.declared.event.Request.{Request}
+use Rattle.hc_rules.specs.Refusals as refusals
+use Rattle.hc_rules.specs.declared.room.Limits.{Limits}
+use Rattle.hc_model.specs.Answers.{accepted_acts}
+use Rattle.hc_model.specs.Closings.{closing}
+use Rattle.hc_model.specs.ConsumerRows.{new_consumer, consumer_after}
+use Rattle.hc_model.specs.Denials.{denial, live}
+use Rattle.hc_model.specs.Effects.{Does, with_event, with_start}
+use Rattle.hc_model.specs.Entries.{Entry, entry_without_acts}
+use Rattle.hc_model.specs.Flaws.{NoFlaw}
+use Rattle.hc_model.specs.Lawful.{Lawful}
+use Rattle.hc_model.specs.Rows.{Tables}
+use Rattle.hc_model.specs.Tables.{after_accepted}
+use Rattle.hc_effects.proofs.ActParts.{far_closed}
+use Rattle.hc_effects.proofs.Basics.{some_none}
+use Rattle.hc_effects.proofs.ConsumerEffects.{after_by, others, representations}
+use Rattle.hc_effects.proofs.FewClosings.{closes_nothing, evicts_nothing}
+use Rattle.hc_effects.proofs.OfConsumers.{BringsNothing, IsOf, brings_nothing, little, goes_nothing, exchanges_stay, binds_none}
+use Rattle.hc_effects.proofs.OfConsumers as event_of
+
+module _ (limits : Limits) (t : Tables) (law : Lawful t) (now c : ℕ) (request : Request) where
+  abbrev ev : Event
+  ev = event.Start c request
+
+  abbrev e : Entry
+  e = entry_without_acts now ev
+
+  nothing : BringsNothing t e c
+  nothing = brings_nothing t now c ev [] (event_of.starts request)
+
+  acts_none : accepted_acts limits t now ev NoFlaw ≡ []
+  acts_none =
+      ap (λ rs. map act.Evicted rs ++ map act.Close (closing t e)) (evicts_nothing limits t now ev refl)
+      ∙ ap (λ xs. map act.Close xs) (closes_nothing t e (little t e c nothing) refl)
+
+  by_refusal : (late many : Bool) (n : ℕ) → (if late then Some (refusal.NotRising n) else if many then Some refusal.TooManyConsumers else None) ≡ None → late ≡ false
+  by_refusal true many n h = absurd (some_none _ h)
+  by_refusal false many n h = refl
+
+  -- it is new
+  is_sorted : denial t ev ≡ None → t.consumer c ≡ None
+  unfolding refusals.refusal_of
+  is_sorted goes =
+      let off : nat_le c t.last_start ≡ false = by_refusal (nat_le c t.last_start) (nat_le 1024 (live t)) t.last_start goes in
+      law.sound.numbered.lists.new_consumers c (grind (arith, nat_tests, off))
+
+  row : denial t ev ≡ None → consumer_after t e c (t.consumer c) ≡ Some (new_consumer now request)
+  unfolding consumer_after
+  row goes = ap (consumer_after t e c) (is_sorted goes) ∙ (let self : nat_eq c c ≡ true = grind (arith, nat_tests) in rw self refl)
+
+  -- a consumer starts
+  pub starts : denial t ev ≡ None → Does limits t now ev NoFlaw [] (with_event now ev (with_start now c request t))
+  starts goes = record {
+    acts_are = acts_none;
+    tables_are =
+        ap (λ acts. after_accepted t (record { now = now; event = ev; acts = acts })) acts_none
+        ∙ after_by t e c nothing [] (record t { last_start = c; starts = c ∷ t.starts }) (new_consumer now request) (record {
+          entries = refl;
+          received = refl;
+          last_start = refl;
+          starts = refl;
+          opened = refl;
+          openings = refl;
+          founded = refl;
+          used = binds_none t e c nothing refl refl;
+          exchange = exchanges_stay t e c nothing (λ x. refl) (λ x. refl) refl;
+          representation = representations t e c nothing law (λ d other. far_closed d []) [] (λ r v there. goes_nothing t e c nothing r v refl refl refl refl refl) (λ r. refl);
+          consumer = others t e c nothing law (λ d other. far_closed d []) [] (λ r v there. goes_nothing t e c nothing r v refl refl refl refl refl);
+        }) (row goes) refl;
+  }

@@ -1,0 +1,404 @@
+-- What an end or a fault comes to: who reads from the exchange, what is sealed, lost or let go with it.
+use Rattle.std.proofs.Common.{◌≡◌, inl, inr, ℕ, List, [], ◌++◌, Bool, true, false, Option, Some, None, refl, ap, sym, ◌∙◌, subst}
+use Rattle.std.specs.Prelude.{◌&&◌, ◌||◌, ◌==◌, not, nat_eq, length, is_some, if◌then◌else◌, option_map}
+use Rattle.std.specs.Option.{option_or}
+use Rattle.hc_event.specs.Filters.{closes_in}
+use Rattle.hc_event.specs.declared.act.Act.{Act}
+use Rattle.hc_event.specs.declared.act.Cause.{Cause}
+use Rattle.hc_event.specs.declared.act.Cause.TheVariants as cause
+use Rattle.hc_event.specs.declared.event.Event.{Event}
+use Rattle.hc_event.specs.declared.event.Event.TheVariants as event
+use Rattle.hc_rules.specs.Lengths.{is_same_number}
+use Rattle.hc_rules.specs.Refusals as refusals
+use Rattle.hc_rules.specs.declared.room.Limits.{Limits}
+use Rattle.hc_event.specs.declared.place.Place.{Place}
+use Rattle.hc_event.specs.declared.place.Place.TheVariants as place
+use Rattle.hc_model.specs.ActFilters.{loses_in}
+use Rattle.hc_model.specs.Answers.{loss_acts}
+use Rattle.hc_model.specs.Closings.{closing, leaver, leaver_by}
+use Rattle.hc_model.specs.ConsumerRows.{consumer_after, consumer_heard, own_after}
+use Rattle.hc_model.specs.Currents.{is_current, is_number}
+use Rattle.hc_model.specs.Denials.{denial}
+use Rattle.hc_model.specs.Dooms.{doomed_key_of}
+use Rattle.hc_model.specs.Effects.{Does, with_event, with_exchange, failing, let_all_go, as_gone, over, at_end, is_unkeepable, going_with}
+use Rattle.hc_model.specs.Entries.{Entry, entry_without_acts}
+use Rattle.hc_model.specs.ExchangeRows.{exchange_heard}
+use Rattle.hc_model.specs.Exchanges.{family, exchange_in}
+use Rattle.hc_model.specs.Failures.{becomes_due, cause_of_stop, cause_of_head, stop_cause, short_cause}
+use Rattle.hc_model.specs.Flaws.{Flaw}
+use Rattle.hc_model.specs.Frames.{beside}
+use Rattle.hc_model.specs.Gone.{becomes_gone, ends_early, ends_founding, stops_early, is_short, is_keepable}
+use Rattle.hc_model.specs.Lawful.{Lawful}
+use Rattle.hc_model.specs.Reading.{is_bound_place, is_written, own_open, shared_exchange, source, writing_in, reads}
+use Rattle.hc_model.specs.RepresentationRows.{representation_after, representation_heard, with_total_if_none, length_in}
+use Rattle.hc_model.specs.Rows.{Tables, Exchange, Representation, Consumer}
+use Rattle.hc_model.specs.Sound.{IsBound}
+use Rattle.hc_model.specs.Sound as sound
+use Rattle.hc_model.specs.Weights.{write_in}
+use Rattle.hc_model.specs.Writers.{brings_body}
+use Rattle.hc_effects.proofs.AboutKeeps.{own_open_of, own_open_is}
+use Rattle.hc_effects.proofs.Basics.{none_some, some_none, false_true, number_is}
+use Rattle.hc_effects.proofs.FewClosings.{closes_nothing, quiet_closes}
+use Rattle.hc_effects.proofs.Frames.{undoomed, may_doom}
+use Rattle.hc_effects.proofs.HoleLemmas.{bool_cases}
+use Rattle.hc_effects.proofs.KeyActs.{test_some}
+use Rattle.hc_effects.proofs.OfConsumers.{or_off}
+use Rattle.hc_effects.proofs.ExclusiveWriters.{same_row}
+use Rattle.hc_effects.proofs.PieceEffects.{leaver_none}
+use Rattle.hc_effects.proofs.PieceKeeps.{eq_cases}
+use Rattle.hc_effects.proofs.SameTables.{is_in, back_from_any}
+use Rattle.hc_effects.proofs.Stops.{source_is}
+use Rattle.hc_effects.proofs.Tests.{eqb-same, and_false, then_false}
+use Rattle.hc_effects.proofs.ToldFrames.{IsTold, says_little, exchange_one, goes_as, loses_as, closes_as, representation_by, representation_none, beside_same, consumer_by, told_by, told_plainly}
+use Rattle.hc_effects.proofs.ToldFrames as told
+use Rattle.hc_effects.proofs.Untouched.{IsSpared, own_stays, loss_spared, spared_bodiless, or_nothing}
+
+-- WHAT STOPS
+
+-- x ends or faults
+pub data IsStop (x : ℕ) : Event → Type 0 where
+  ends : IsStop x (event.End x)
+  faults : IsStop x (event.Fault x)
+
+-- what becomes of it, why that is less than it should be, what becomes of what it founded, and whether that ends early
+pub record Stops (t : Tables) (now x : ℕ) (w : Exchange) (ev : Event) : Type 0 where
+  pub is_told : IsTold ev
+  pub names : exchange_in ev ≡ Some x
+  pub bodiless : brings_body ev ≡ false
+  pub calm : may_doom ev ≡ false
+  pub unwritten : write_in t (entry_without_acts now ev) ev ≡ None
+  pub u : Exchange
+  pub heard : (acts : List Act) → exchange_heard t (record { now = now; event = ev; acts = acts }) x ev w ≡ u
+  pub why : Option Cause
+  pub why_is : stop_cause t ev ≡ why
+  pub headless : (c : ℕ) (acts : List Act) → cause_of_head t (record { now = now; event = ev; acts = acts }) c ev ≡ None
+  pub longer : Representation → Representation
+  pub itself : (v : Representation) (acts : List Act) → representation_heard t (record { now = now; event = ev; acts = acts }) x ev v ≡ longer v
+  pub other : (q : ℕ) (v : Representation) (acts : List Act) → nat_eq x q ≡ false → representation_heard t (record { now = now; event = ev; acts = acts }) q ev v ≡ v
+  pub early : Bool
+  pub early_is : (q : ℕ) (z : Exchange) → t.exchange q ≡ Some z → stops_early z q ev ≡ (x == q && early)
+
+abbrev pub end_stops : (t : Tables) (now x : ℕ) (w : Exchange) → t.exchange x ≡ Some w → Stops t now x w (event.End x)
+end_stops t now x w row = record {
+  is_told = told.ends x;
+  names = refl;
+  bodiless = refl;
+  calm = refl;
+  unwritten = refl;
+  u = at_end w;
+  heard = λ acts. rw (eqb-same x) refl;
+  why = short_cause x (Some w);
+  why_is = ap (short_cause x) row;
+  headless = λ c acts. refl;
+  longer = with_total_if_none (length w.body);
+  itself = λ v acts. rw (eqb-same x) (ap (λ z. with_total_if_none (length_in z) v) row);
+  other = λ q v acts apart. rw apart refl;
+  early = is_short w;
+  early_is = λ q z is. elim (eq_cases x q) [
+    | inl same ↦ ap (λ (p : Exchange). nat_eq x q && is_short p) (same_row (t.exchange q) z w is (sym (ap t.exchange same.1) ∙ row))
+    | inr apart ↦ rw apart.0 refl
+  ];
+}
+
+abbrev pub fault_stops : (t : Tables) (now x : ℕ) (w : Exchange) → Stops t now x w (event.Fault x)
+fault_stops t now x w = record {
+  is_told = told.faults x;
+  names = refl;
+  bodiless = refl;
+  calm = refl;
+  unwritten = refl;
+  u = over w;
+  heard = λ acts. rw (eqb-same x) refl;
+  why = Some (cause.Net x);
+  why_is = refl;
+  headless = λ c acts. refl;
+  longer = λ v. v;
+  itself = λ v acts. refl;
+  other = λ q v acts apart. refl;
+  early = true;
+  early_is = λ q z is. by_test (nat_eq x q);
+}
+  where
+    by_test : (b : Bool) → b ≡ (b && true)
+    by_test true = refl
+    by_test false = refl
+
+-- an accepted end is one of an open exchange with a head, and a fault one of an open exchange
+pub record IsEnding (w : Exchange) : Type 0 where
+  pub was_open : w.is_open ≡ true
+  pub headed : is_some w.head ≡ true
+
+pub end_of : (t : Tables) (x : ℕ) (w : Exchange) → t.exchange x ≡ Some w → denial t (event.End x) ≡ None → IsEnding w
+unfolding refusals.refusal_of
+end_of t x w row accepts = by_tests w.is_open (is_some w.head) refl refl
+  where
+    by_tests : (a h : Bool) → w.is_open ≡ a → is_some w.head ≡ h → IsEnding w
+    by_tests false h on head = absurd (some_none _ (rw (row, on) at accepts))
+    by_tests true false on head = absurd (some_none _ (rw (row, on, head) at accepts))
+    by_tests true true on head = record { was_open = on; headed = head }
+
+pub fault_of : (t : Tables) (x : ℕ) (w : Exchange) → t.exchange x ≡ Some w → denial t (event.Fault x) ≡ None → w.is_open ≡ true
+unfolding refusals.refusal_of
+fault_of t x w row accepts = by_test w.is_open refl
+  where
+    by_test : (a : Bool) → w.is_open ≡ a → a ≡ true
+    by_test false on = absurd (some_none _ (rw (row, on) at accepts))
+    by_test true on = refl
+
+-- WHO READS FROM IT
+
+module _ (t : Tables) (law : Lawful t) (x : ℕ) (w : Exchange) (row : t.exchange x ≡ Some w) (on : w.is_open ≡ true) where
+  same_refl : is_same_number (Some x) (Some x) ≡ true
+  same_refl = eqb-same x
+
+  same_is : (o : Option ℕ) → is_same_number o (Some x) ≡ true → o ≡ Some x
+  same_is None h = absurd (false_true h)
+  same_is (Some y) h = number_is (Some y) x h
+
+  same_not : (o : Option ℕ) → (o ≡ Some x → ⊥) → is_same_number o (Some x) ≡ false
+  same_not o never = elim (bool_cases (is_same_number o (Some x))) [ inl here ↦ absurd (never (same_is o here)) | inr off ↦ off ]
+
+  -- what is written together is read by who is bound to it
+  pub record IsShared (k : Consumer) : Type 0 where
+    pub q : ℕ
+    pub v : Representation
+    pub bound_it : is_bound_place q k.place ≡ true
+    pub there : t.representation q ≡ Some v
+    pub written : is_written t v ≡ true
+    pub writer : v.writer ≡ Some x
+
+  shared_row : (k : Consumer) (q : ℕ) (z : Option Representation) → t.representation q ≡ z → is_bound_place q k.place ≡ true → writing_in t z ≡ Some x → IsShared k
+  shared_row k q None there bound_it is = absurd (none_some x is)
+  shared_row k q (Some v) there bound_it is = let both = test_some (is_written t v) v.writer x is in record { q = q; v = v; bound_it = bound_it; there = there; written = both.0; writer = both.1 }
+
+  shared_of : (k : Consumer) (p : Place) → k.place ≡ p → shared_exchange t p ≡ Some x → IsShared k
+  shared_of k (place.Bound q lo hi how) at is = shared_row k q (t.representation q) refl (ap (is_bound_place q) at ∙ eqb-same q) is
+  shared_of k place.Line at is = absurd (none_some x is)
+  shared_of k (place.Passed q old) at is = absurd (none_some x is)
+  shared_of k (place.Turn y) at is = absurd (none_some x is)
+  shared_of k (place.Direct y) at is = absurd (none_some x is)
+  shared_of k (place.Down y) at is = absurd (none_some x is)
+  shared_of k place.Over at is = absurd (none_some x is)
+
+  -- it reads its own, or what is written together
+  pub data IsSource (k : Consumer) : Type 0 where
+    own : k.own ≡ Some x → IsSource k
+    shares : IsShared k → IsSource k
+
+  source_of : (k : Consumer) → source t k ≡ Some x → IsSource k
+  source_of k is = by_own (own_open t k) refl is
+    where
+      by_own : (z : Option ℕ) → own_open t k ≡ z → option_or z (shared_exchange t k.place) ≡ Some x → IsSource k
+      by_own (Some y) mine h = own (own_open_of t k x (mine ∙ h)).own
+      by_own None mine h = shares (shared_of k k.place refl h)
+
+  own_source : (k : Consumer) → k.own ≡ Some x → source t k ≡ Some x
+  own_source k mine = let opened : own_open t k ≡ Some x = own_open_is t k x (record { own = mine; w = w; row = row; opened = on }) in rw opened refl
+
+  -- where one owns it, that one alone
+  pub reads_own : (c d : ℕ) (k z : Consumer) → t.consumer c ≡ Some k → k.own ≡ Some x → t.consumer d ≡ Some z → is_same_number (source t z) (Some x) ≡ nat_eq c d
+  reads_own c d k z here mine there = elim (eq_cases c d) [
+    | inl same ↦
+        let one : k ≡ z = same_row (t.consumer d) k z (sym (ap t.consumer same.1) ∙ here) there in
+        ap (λ o. is_same_number o (Some x)) (own_source z (sym (ap (λ (p : Consumer). p.own) one) ∙ mine)) ∙ (same_refl ∙ sym same.0)
+    | inr apart ↦ same_not (source t z) (λ is. not_it apart.1 (source_of z is)) ∙ sym apart.0
+  ]
+    where
+      not_it : (c ≡ d → ⊥) → IsSource z → ⊥
+      not_it apart (own its) = apart (law.owned.one c d x k z here there mine its)
+      not_it apart (shares s) = law.owned.apart s.q x c s.v k s.there s.written s.writer here mine
+
+  -- where it is written for several, whoever is bound to that
+  pub reads_shared : (r : ℕ) (v : Representation) → t.representation r ≡ Some v → is_written t v ≡ true → v.writer ≡ Some x → (d : ℕ) (z : Consumer) → t.consumer d ≡ Some z → is_same_number (source t z) (Some x) ≡ is_bound_place r z.place
+  reads_shared r v there written writer d z is_row = by_place z.place refl
+    where
+      -- both are of its family
+      one : (s : IsShared z) → s.q ≡ r
+      one s =
+          let a = (law.sound.rows s.q s.v s.there).growing x s.written s.writer in
+          let b = (law.sound.rows r v there).growing x written writer in
+          sym a.1.family_is ∙ (ap (family x) (same_row (t.exchange x) a.0 b.0 a.1.row b.1.row) ∙ b.1.family_is)
+
+      unbound : (p : Place) → z.place ≡ p → is_bound_place r p ≡ false → IsSource z → ⊥
+      unbound p at off (own its) = law.owned.apart r x d v z there written writer is_row its
+      unbound p at off (shares s) = false_true (sym off ∙ (sym (ap (is_bound_place r) at) ∙ (ap (λ n. is_bound_place n z.place) (sym (one s)) ∙ s.bound_it)))
+
+      other : (p : Place) → z.place ≡ p → is_bound_place r p ≡ false → is_same_number (source t z) (Some x) ≡ is_bound_place r p
+      other p at off = same_not (source t z) (λ is. unbound p at off (source_of z is)) ∙ sym off
+
+      by_place : (p : Place) → z.place ≡ p → is_same_number (source t z) (Some x) ≡ is_bound_place r p
+      by_place (place.Bound q lo hi how) at = elim (eq_cases q r) [
+        | inl same ↦
+            ap (λ o. is_same_number o (Some x)) (source_is t r d x v z law.sound there (sound.is_bound lo hi how is_row (at ∙ ap (λ n. place.Bound n lo hi how) same.1)) written writer) ∙ (same_refl ∙ sym same.0)
+        | inr apart ↦ other (place.Bound q lo hi how) at apart.0
+      ]
+      by_place place.Line at = other place.Line at refl
+      by_place (place.Passed q old) at = other (place.Passed q old) at refl
+      by_place (place.Turn y) at = other (place.Turn y) at refl
+      by_place (place.Direct y) at = other (place.Direct y) at refl
+      by_place (place.Down y) at = other (place.Down y) at refl
+      by_place place.Over at = other place.Over at refl
+
+-- THE TABLES
+
+module _ (limits : Limits) (t : Tables) (law : Lawful t) (now x : ℕ) (w : Exchange) (row : t.exchange x ≡ Some w) (on : w.is_open ≡ true) (ev : Event) (s : Stops t now x w ev) (flaw : Flaw) where
+  abbrev pub it : Entry
+  it = told.e t now ev s.is_told flaw []
+
+  abbrev b : Entry
+  b = record { now = now; event = ev; acts = loss_acts flaw }
+
+  doomless : (acts : List Act) → doomed_key_of t (record { now = now; event = ev; acts = acts }) ≡ None
+  doomless acts = undoomed t (record { now = now; event = ev; acts = acts }) s.calm
+
+  leaves_none : leaver b ≡ None
+  leaves_none = by_event s.is_told
+    where
+      by_event : {z : Event} → IsTold z → leaver_by z (loss_acts flaw) ≡ None
+      by_event (told.pieces y bytes) = leaver_none flaw
+      by_event (told.ends y) = leaver_none flaw
+      by_event (told.faults y) = leaver_none flaw
+      by_event (told.dooms key) = leaver_none flaw
+
+  closes_none : closing t b ≡ []
+  closes_none = closes_nothing t b (quiet_closes t b ((says_little t now ev s.is_told).caseless (loss_acts flaw)) (doomless (loss_acts flaw)) s.bodiless) leaves_none
+
+  -- what goes: what is lost, and what it founded, where that is early and can't be completed
+  abbrev pub going : Option ℕ
+  going = if s.early then going_with t (Some x) else None
+
+  pub goes_with : (q : ℕ) (v : Representation) → t.representation q ≡ Some v → becomes_gone t it q v ≡ (loses_in q (loss_acts flaw) || is_number going q)
+  goes_with q v there =
+      goes_as t now ev s.is_told flaw [] q v
+      ∙ rw (doomless it.acts) (drop (is_current t v.key q) (loses_in q (loss_acts flaw)) (ends_early t it q v && not (is_keepable v)) ∙ ap (λ a. loses_in q (loss_acts flaw) || a) (early_by (t.exchange q) refl))
+    where
+      drop : (a c d : Bool) → ((a && false) || c || d) ≡ (c || d)
+      drop true c d = refl
+      drop false c d = refl
+
+      going_is : nat_eq x q ≡ true → x ≡ q → (v.head.status == 200 && not (is_keepable v)) ≡ is_number (going_with t (Some x)) q
+      going_is test same =
+          by_test (v.head.status == 200 && not (is_keepable v)) ∙ sym (ap (λ z. is_number (if is_unkeepable z then Some x else None) q) (ap t.representation same ∙ there))
+        where
+          by_test : (a : Bool) → a ≡ is_number (if a then Some x else None) q
+          by_test true = sym test
+          by_test false = refl
+
+      not_going : nat_eq x q ≡ false → false ≡ is_number going q
+      not_going apart = by_test s.early
+        where
+          by_unkept : (a : Bool) → false ≡ is_number (if a then Some x else None) q
+          by_unkept true = sym apart
+          by_unkept false = refl
+
+          by_test : (a : Bool) → false ≡ is_number (if a then going_with t (Some x) else None) q
+          by_test true = by_unkept (is_unkeepable (t.representation x))
+          by_test false = refl
+
+      founding : (z : Exchange) → t.exchange q ≡ Some z → ends_founding it q (Some z) ≡ (z.is_open && (x == q && s.early))
+      founding z is =
+          ap (λ a. z.is_open && (a || closes_in q it.acts)) (s.early_is q z is)
+          ∙ (ap (λ a. z.is_open && ((x == q && s.early) || a)) (closes_as t now ev s.is_told flaw [] q)
+          ∙ ap (λ a. z.is_open && a) (or_off (x == q && s.early)))
+
+      three : (a c d : Bool) → ((a && (true && (true && c))) && d) ≡ (if c then (a && d) else false)
+      three true true d = refl
+      three false true d = refl
+      three true false d = refl
+      three false false d = refl
+
+      none_off : (a c d f : Bool) → ((a && (c && (false && d))) && f) ≡ false
+      none_off true true d f = refl
+      none_off true false d f = refl
+      none_off false c d f = refl
+
+      going_if : (e : Bool) → (if e then is_number (going_with t (Some x)) q else false) ≡ is_number (if e then going_with t (Some x) else None) q
+      going_if true = refl
+      going_if false = refl
+
+      early_by : (z : Option Exchange) → t.exchange q ≡ z → (ends_early t it q v && not (is_keepable v)) ≡ is_number going q
+      early_by None is =
+          let apart : nat_eq x q ≡ false = elim (eq_cases x q) [ inl same ↦ absurd (none_some w (sym is ∙ (sym (ap t.exchange same.1) ∙ row))) | inr other ↦ other.0 ] in
+          ap (λ z. (v.head.status == 200 && ends_founding it q z) && not (is_keepable v)) is
+          ∙ (and_false (v.head.status == 200 && false) (not (is_keepable v)) (then_false (v.head.status == 200) false refl) ∙ not_going apart)
+      early_by (Some z) is =
+          ap (λ o. (v.head.status == 200 && ends_founding it q o) && not (is_keepable v)) is
+          ∙ (ap (λ a. (v.head.status == 200 && a) && not (is_keepable v)) (founding z is)
+          ∙ elim (eq_cases x q) [
+            | inl same ↦
+                let opened : z.is_open ≡ true = ap (λ (p : Exchange). p.is_open) (same_row (t.exchange q) z w is (sym (ap t.exchange same.1) ∙ row)) ∙ on in
+                rw (opened, same.0) (three (v.head.status == 200) s.early (not (is_keepable v)) ∙ (ap (λ a. if s.early then a else false) (going_is same.0 same.1) ∙ going_if s.early))
+            | inr apart ↦ rw apart.0 (none_off (v.head.status == 200) z.is_open s.early (not (is_keepable v)) ∙ not_going apart.0)
+          ])
+
+  -- REPRESENTATIONS
+
+  abbrev pub longer_row : ℕ → Option Representation → Option Representation
+  longer_row q z = if x == q then option_map s.longer z else z
+
+  pub heard_is : (q : ℕ) (v : Representation) → Some (representation_heard t it q ev v) ≡ longer_row q (Some v)
+  heard_is q v = elim (eq_cases x q) [
+    | inl same ↦ rw same.0 (subst (λ n. Some (representation_heard t it n ev v) ≡ Some (s.longer v)) same.1 (ap Some (s.itself v it.acts)))
+    | inr apart ↦ rw apart.0 (ap Some (s.other q v it.acts apart.0))
+  ]
+
+  -- what isn't lost
+  pub row_by : (q : ℕ) (g : Bool) (z : Option Representation) → t.representation q ≡ z → loses_in q (loss_acts flaw) ≡ false → ((v : Representation) → z ≡ Some v → becomes_gone t it q v ≡ g) → representation_after t it q z ≡ (if g then option_map as_gone (longer_row q z) else longer_row q z)
+  row_by q g None there kept goes = representation_none t now ev s.is_told flaw [] q g ∙ ap (λ o. if g then option_map as_gone o else o) (none_longer (x == q))
+    where
+      none_longer : (a : Bool) → None ≡ (if a then option_map s.longer None else None)
+      none_longer true = refl
+      none_longer false = refl
+  row_by q g (Some v) there kept goes = representation_by t now ev s.is_told flaw [] q v (representation_heard t it q ev v) g refl kept (goes v refl) ∙ ap (λ o. if g then option_map as_gone o else o) (heard_is q v)
+
+  -- CONSUMERS
+
+  spared : (p : Place) → IsSpared t it p
+  spared p = spared_bodiless t it p s.bodiless
+
+  due_by : (c : ℕ) (k : Consumer) → becomes_due t it c k ≡ (if is_same_number (source t k) (Some x) then s.why else None)
+  unfolding becomes_due
+  due_by c k =
+      rw (loss_spared t it c k.place (spared k.place), s.headless c it.acts) (or_nothing (cause_of_stop t it k) ∙ (ap (λ o. if is_same_number (source t k) o then stop_cause t ev else None) s.names ∙ ap (λ o. if is_same_number (source t k) (Some x) then o else None) s.why_is))
+
+  pub unhit : (c : ℕ) (k : Consumer) → t.consumer c ≡ Some k → is_same_number (source t k) (Some x) ≡ false → beside t it c k ≡ k
+  unhit c k here off = beside_same t now ev s.is_told flaw [] c k (due_by c k ∙ ap (λ a. if a then s.why else None) off) (spared k.place) (law.owned.idle_due c k here)
+
+  -- who reads from it fails by it, and nobody else
+  module _ (hit : ℕ → Bool) (hits : (c : ℕ) (k : Consumer) → t.consumer c ≡ Some k → is_same_number (source t k) (Some x) ≡ hit c) (reading : (c : ℕ) (k : Consumer) → t.consumer c ≡ Some k → hit c ≡ true → reads k.place ≡ true) where
+    pub fails : (c : ℕ) → option_map (beside t it c) (t.consumer c) ≡ (if hit c then option_map (failing s.why) (t.consumer c) else t.consumer c)
+    fails c = by_row (t.consumer c) refl
+      where
+        none_left : (a : Bool) → None ≡ (if a then option_map (failing s.why) None else None)
+        none_left true = refl
+        none_left false = refl
+
+        parts : (k : Consumer) (own_now : Option ℕ) (due : Option Cause) (reads_it : Bool) → own_now ≡ k.own → due ≡ s.why → reads_it ≡ true → record k { own = own_now; due = if reads_it then option_or k.due due else None } ≡ failing s.why k
+        parts k own_now due reads_it p q h = rw (p, q, h) refl
+
+        by_test : (k : Consumer) (a : Bool) → t.consumer c ≡ Some k → hit c ≡ a → Some (beside t it c k) ≡ (if a then option_map (failing s.why) (Some k) else Some k)
+        by_test k true here is =
+            ap Some (parts k (own_after t it c k.place k.own) (becomes_due t it c k) (reads k.place) (own_stays t it c k.place k.own (spared k.place)) (due_by c k ∙ ap (λ a. if a then s.why else None) (hits c k here ∙ is)) (reading c k here is))
+        by_test k false here is = ap Some (unhit c k here (hits c k here ∙ is))
+
+        by_row : (z : Option Consumer) → t.consumer c ≡ z → option_map (beside t it c) z ≡ (if hit c then option_map (failing s.why) z else z)
+        by_row None here = none_left (hit c)
+        by_row (Some k) here = by_test k (hit c) here refl
+
+  -- ALL OF IT
+
+  pub stop_does : denial t ev ≡ None → (rs : List ℕ) (vs : ℕ → Option Representation) (ks : ℕ → Option Consumer)
+      → ((r : ℕ) → representation_after t it r (t.representation r) ≡ (if is_in rs r then option_map as_gone (vs r) else vs r))
+      → ((c : ℕ) → consumer_after t it c (t.consumer c) ≡ option_map (back_from_any now rs) (ks c))
+      → Does limits t now ev flaw (loss_acts flaw ++ []) (with_event now ev (let_all_go now rs (record (with_exchange x (Some s.u) t) { representation = vs; consumer = ks })))
+  stop_does accepts rs vs ks rows consumers =
+      told_plainly t now ev s.is_told flaw [] limits law accepts (let_all_go now rs (record (with_exchange x (Some s.u) t) { representation = vs; consumer = ks })) closes_none
+      (told_by t now ev s.is_told flaw [] rs (with_exchange x (Some s.u) t).exchange vs ks
+      (exchange_one t now ev s.is_told flaw [] x w s.u s.names row (s.heard it.acts))
+      rows consumers)
+      s.unwritten
+
+  -- where everybody hears nothing
+  pub others_by : (rs : List ℕ) → ((q : ℕ) (v : Representation) → t.representation q ≡ Some v → becomes_gone t it q v ≡ is_in rs q) → (ks : ℕ → Option Consumer) → (c : ℕ) → ((k : Consumer) → t.consumer c ≡ Some k → consumer_heard t it c ev k ≡ k) → option_map (beside t it c) (t.consumer c) ≡ ks c
+      → consumer_after t it c (t.consumer c) ≡ option_map (back_from_any now rs) (ks c)
+  others_by rs goes ks c quiet same = consumer_by t now ev s.is_told flaw [] law rs goes (doomless it.acts) c quiet ∙ ap (option_map (back_from_any now rs)) same

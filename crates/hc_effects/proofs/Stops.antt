@@ -1,0 +1,96 @@
+-- Where a shared writing stops: its members get a failure, or all that is left for them is stored.
+use Rattle.std.proofs.Common.{◌≡◌, inl, inr, ℕ, ◌+◌, ◌<◌, List, ◌++◌, length, true, false, Option, Some, None, refl, ap, sym, ◌∙◌, arith, length-append}
+use Rattle.std.specs.Prelude.{is_some, nat_lt, nat_eq}
+use Rattle.std.specs.Option.{option_or}
+use Rattle.std.proofs.lemmas.Bool.Decides.{nat_tests}
+use Rattle.hc_event.specs.declared.event.Event.TheVariants as event
+use Rattle.hc_event.specs.declared.act.Cause.{Cause}
+use Rattle.hc_sparse.specs.Cells.{Covers, cells_with}
+use Rattle.hc_sparse.proofs.CellLemmas.{inside-yes, inside-before}
+use Rattle.hc_model.specs.Entries.{Entry}
+use Rattle.hc_model.specs.Exchanges.{base, promised_bytes, front, is_open, is_reached, exchange_in}
+use Rattle.hc_model.specs.Failures.{becomes_due, cause_of_stop, stop_cause, short_of}
+use Rattle.hc_model.specs.Reading.{is_written, is_open_writer, own_open, source, shared_exchange}
+use Rattle.hc_model.specs.Rows.{Tables, Exchange, Representation, Consumer}
+use Rattle.hc_model.specs.Sound.{Sound, IsAbout, IsBound, IsGrowing, IsSoundRepresentation, end_from, promised_end}
+use Rattle.hc_rules.specs.Lengths.{is_same_number}
+use Rattle.hc_model.specs.Sound as sound
+use Rattle.hc_effects.proofs.Basics.{and_right, split}
+use Rattle.hc_effects.proofs.PieceKeeps.{some_inj}
+
+-- WHAT A MEMBER READS FROM
+
+open_row : (o : Option Exchange) (w : Exchange) → o ≡ Some w → is_open o ≡ true → w.is_open ≡ true
+open_row o w is h = sym (ap is_open is) ∙ h
+
+pub writer_open : (t : Tables) (v : Representation) (x : ℕ) → is_written t v ≡ true → v.writer ≡ Some x → is_open (t.exchange x) ≡ true
+unfolding is_written
+writer_open t v x on writer = sym (ap (is_open_writer t) writer) ∙ and_right _ _ on
+
+-- the exchange of the writing is about the representation
+pub writer_about : (t : Tables) (r x : ℕ) (v : Representation) → Sound t → t.representation r ≡ Some v → is_written t v ≡ true → v.writer ≡ Some x → IsAbout t r x
+writer_about t r x v s row on writer =
+    let grows = (s.rows r v row).growing x on writer in
+    let g = grows.1 in
+    sound.headed grows.0 g.row (open_row (t.exchange x) grows.0 g.row (writer_open t v x on writer)) g.headed g.family_is (ap is_some row)
+
+shared_of : (t : Tables) (r c x : ℕ) (v : Representation) (k : Consumer) → t.representation r ≡ Some v → IsBound t r c k → is_written t v ≡ true → v.writer ≡ Some x → shared_exchange t k.place ≡ Some x
+shared_of t r c x v k row (sound.is_bound lo hi how is place) on writer = rw (place, row, on) writer
+
+-- a member reads from the exchange of the writing
+pub source_is : (t : Tables) (r c x : ℕ) (v : Representation) (k : Consumer) → Sound t → t.representation r ≡ Some v → IsBound t r c k → is_written t v ≡ true → v.writer ≡ Some x → source t k ≡ Some x
+source_is t r c x v k s row reader on writer = by_own (own_open t k) refl
+  where
+    by_own : (o : Option ℕ) → own_open t k ≡ o → option_or (own_open t k) (shared_exchange t k.place) ≡ Some x
+    by_own None own = rw own (shared_of t r c x v k row reader on writer)
+    by_own (Some z) own = rw own (ap Some (s.one_about r z x (s.writes.own_about r c z k reader own) (writer_about t r x v s row on writer)))
+
+-- A FAULT AND A SHORT END ARE DUE
+
+same_refl : (x : ℕ) → is_same_number (Some x) (Some x) ≡ true
+same_refl x = grind (arith, nat_tests)
+
+or_first : (o p : Option Cause) → is_some o ≡ true → is_some (option_or o p) ≡ true
+or_first None p h = absurd (let never : false ≡ true = h in cc)
+or_first (Some a) p h = refl
+
+stops : (t : Tables) (e : Entry) (k : Consumer) (x : ℕ) → source t k ≡ Some x → exchange_in e.event ≡ Some x → is_some (stop_cause t e.event) ≡ true → is_some (cause_of_stop t e k) ≡ true
+stops t e k x from brings some = rw (from, brings, same_refl x) some
+
+pub fault_is_due : (t : Tables) (e : Entry) (r c x : ℕ) (v : Representation) (k : Consumer) → Sound t → t.representation r ≡ Some v → IsBound t r c k → is_written t v ≡ true → v.writer ≡ Some x → exchange_in e.event ≡ Some x → is_some (stop_cause t e.event) ≡ true → is_some (becomes_due t e c k) ≡ true
+unfolding becomes_due
+fault_is_due t e r c x v k s row reader on writer brings some =
+    or_first (cause_of_stop t e k) _ (stops t e k x (source_is t r c x v k s row reader on writer) brings some)
+
+-- an End is due as long as less came than was promised
+pub short_due : (t : Tables) (x p : ℕ) (w : Exchange) → t.exchange x ≡ Some w → promised_bytes w ≡ Some p → length w.body < p → is_some (stop_cause t (event.End x)) ≡ true
+short_due t x p w row promise less = rw (row, promise) (short_some p less)
+  where
+    short_some : (p : ℕ) → length w.body < p → is_some (short_of x w (Some p)) ≡ true
+    short_some p less = let test : nat_lt (length w.body) p ≡ true = grind (arith, nat_tests) in rw test refl
+
+-- THE LAST PIECE
+
+eq_of : (a b : ℕ) → nat_eq a b ≡ true → a ≡ b
+eq_of a b h = grind (arith, nat_tests)
+
+-- with the last promised piece, each position below the total is stored
+pub last_piece : (t : Tables) (r x total : ℕ) (bytes : List ℕ) (v : Representation) (w : Exchange) → IsGrowing t r v x w → v.head.total ≡ Some total → is_reached (promised_bytes w) (length (w.body ++ bytes)) ≡ true → Covers (cells_with (front w) x bytes v.stored) 0 total
+last_piece t r x total bytes v w g known reached q lo lt = by_promise (promised_bytes w) refl
+  where
+    by_promise : (o : Option ℕ) → promised_bytes w ≡ o → is_some (cells_with (front w) x bytes v.stored q) ≡ true
+    by_promise None is = absurd (let never : is_reached None (length (w.body ++ bytes)) ≡ true = rw is at reached in let no : false ≡ true = never in cc)
+    by_promise (Some p) is =
+        let all : p ≡ length (w.body ++ bytes) = eq_of p (length (w.body ++ bytes)) (rw is at reached) in
+        let more = length-append w.body bytes in
+        let end : Some total ≡ Some (base w + p) = sym known ∙ (g.promise ∙ ap (end_from (base w)) is) in
+        let total_is : total ≡ base w + p = some_inj total (base w + p) end in
+        let front_is : front w ≡ v.reach = g.front_is in
+        elim (split q (front w)) [
+          | inl before ↦ rw (inside-before (front w) (length bytes) q before) (g.whole q lo (let b : q < front w = before in omega arith))
+          | inr past ↦ rw (inside-yes (front w) (length bytes) q past (omega arith)) refl
+        ]
+
+-- at a clean end of a body whose length wasn't told, each position below what came is stored
+pub clean_end : (t : Tables) (r x : ℕ) (v : Representation) (w : Exchange) → IsGrowing t r v x w → Covers v.stored 0 (length w.body)
+clean_end t r x v w g q lo lt = let front_is : front w ≡ v.reach = g.front_is in g.whole q lo (omega arith)

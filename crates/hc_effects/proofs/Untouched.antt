@@ -1,0 +1,310 @@
+-- Whoever and whatever an entry does not speak of stays as it was, but for what becomes gone, and who waits for that.
+use Rattle.std.proofs.Common.{◌≡◌, ℕ, ◌+◌, List, length, Bool, true, false, Option, Some, None, refl, ap, ap₂, sym, ◌∙◌, arith}
+use Rattle.std.specs.Prelude.{◌&&◌, ◌||◌, not, nat_eq, if◌then◌else◌}
+use Rattle.std.specs.Option.{option_or, option_and_then}
+use Rattle.hc_text.specs.declared.bytes.Key.{Key}
+use Rattle.hc_event.specs.Filters.{Opening, opening_in, asks_in, closes_in, leaves_in, shows_in, given_in}
+use Rattle.hc_event.specs.declared.act.Act.{Act}
+use Rattle.hc_event.specs.declared.event.Event.{Event}
+use Rattle.hc_event.specs.declared.event.Event.TheVariants as event
+use Rattle.hc_event.specs.declared.event.Response.{Response}
+use Rattle.hc_event.specs.declared.place.Place.{Place}
+use Rattle.hc_event.specs.declared.place.Place.TheVariants as place
+use Rattle.hc_event.specs.declared.place.BoundBy.{BoundBy}
+use Rattle.hc_model.specs.ActFilters.{loses_in, fails_in, Showing, showing_in}
+use Rattle.hc_model.specs.Cases.{case_at, case_of, is_founding}
+use Rattle.hc_model.specs.ConsumerRows.{consumer_after, consumer_settled, consumer_acted, consumer_heard, consumer_made, by_head, by_fault, by_opening, waiting, waiting_place, shown_place, own_after, left_to, due_after, back_in_line}
+use Rattle.hc_model.specs.Dooms.{doomed_key_of, is_key}
+use Rattle.hc_model.specs.Effects.{as_gone}
+use Rattle.hc_model.specs.Entries.{Entry}
+use Rattle.hc_model.specs.ExchangeRows.{exchange_after, exchange_heard, exchange_acted, exchange_made}
+use Rattle.hc_model.specs.Exchanges.{family, exchange_in, exchange_at, is_for}
+use Rattle.hc_model.specs.Failures.{becomes_due, cause_of_stop, cause_of_loss, cause_by_loss, cause_of_head}
+use Rattle.hc_model.specs.Gone.{becomes_gone, goes_in}
+use Rattle.hc_model.specs.Reading.{reads, is_written}
+use Rattle.hc_model.specs.RepresentationRows.{representation_after, representation_heard, representation_acted, founded_at, updates, representation_after_head, representation_after_piece}
+use Rattle.hc_model.specs.Rows.{Tables, Exchange, Representation, Consumer}
+use Rattle.hc_model.specs.StartingOver.{starts_over, sends_back, waits_at, loses_what_it_waits_for}
+use Rattle.hc_model.specs.Tables.{founds, binds, starts_after, opened_after, openings_after}
+use Rattle.hc_model.specs.Writers.{loses_writing, brings_body}
+use Rattle.hc_effects.proofs.ActParts.{IsFarFrom}
+use Rattle.hc_effects.proofs.Basics.{none_some}
+use Rattle.hc_effects.proofs.Dues.{undue_of, stop_none}
+use Rattle.hc_effects.proofs.PieceKeeps.{some_inj}
+use Rattle.hc_effects.proofs.Tests.{and_false, then_false}
+
+pub plus_none : (n : ℕ) → n + 0 ≡ n
+plus_none n = omega arith
+
+pub or_nothing : {A : Type 0} (o : Option A) → option_or o None ≡ o
+or_nothing None = refl
+or_nothing (Some a) = refl
+
+-- what the acts make of a consumer that its opening left as q
+abbrev pub acted_by : Tables → Entry → ℕ → Consumer → Consumer → Consumer
+acted_by t e c k q = record q {
+  place = if leaves_in c e.acts then place.Over else shown_place c (showing_in e.acts) q.place;
+  own = own_after t e c k.place q.own;
+  shown = shows_in c e.acts || q.shown;
+  given = q.given + length (given_in c e.acts);
+}
+
+-- EXCHANGES
+
+-- the event brings nothing of it
+pub unheard : (t : Tables) (e : Entry) (y : ℕ) (w : Exchange) (ev : Event) → ((x : ℕ) → exchange_in ev ≡ Some x → nat_eq x y ≡ false) → exchange_heard t e y ev w ≡ w
+unheard t e y w (event.Head x response) other = rw (other x refl) refl
+unheard t e y w (event.Piece x bytes) other = rw (other x refl) refl
+unheard t e y w (event.End x) other = rw (other x refl) refl
+unheard t e y w (event.Fault x) other = rw (other x refl) refl
+unheard t e y w _ other = refl
+
+pub exchange_stays : (t : Tables) (e : Entry) (y : ℕ) (w : Exchange) → exchange_heard t e y e.event w ≡ w → asks_in y e.acts ≡ false → closes_in y e.acts ≡ false
+    → exchange_after t e y (Some w) ≡ Some w
+unfolding exchange_after
+exchange_stays t e y w heard asks closes = ap (λ (u : Exchange). Some (exchange_acted y e.acts u)) heard ∙ rw (asks, closes) refl
+
+pub exchange_absent : (t : Tables) (e : Entry) (y : ℕ) → ((o : Opening) → opening_in e.acts ≡ Some o → nat_eq o.x y ≡ false) → exchange_after t e y None ≡ None
+unfolding exchange_after
+exchange_absent t e y other = by_opening (opening_in e.acts) refl
+  where
+    by_opening : (o : Option Opening) → opening_in e.acts ≡ o → exchange_made t e y o ≡ None
+    by_opening None is = refl
+    by_opening (Some o) is = rw (other o is) refl
+
+-- REPRESENTATIONS
+
+-- the exchange of an event is of another family, and doesn't update it
+pub record IsOutside (t : Tables) (e : Entry) (r : ℕ) (v : Representation) (x : ℕ) (w : Exchange) : Type 0 where
+  pub number : nat_eq x r ≡ false
+  pub family_is : nat_eq (family x w) r ≡ false
+  pub updates : updates t e r w v ≡ false
+
+module _ (t : Tables) (e : Entry) (r : ℕ) (v : Representation) (x : ℕ) (w : Exchange) (row : t.exchange x ≡ Some w) (out : IsOutside t e r v x w) where
+  head_outside : (y : ℕ) (response : Response) (o : Option Exchange) → o ≡ Some w → representation_after_head t e r y response o v ≡ v
+  head_outside y response None is = refl
+  head_outside y response (Some u) is = let off : updates t e r u v ≡ false = ap (λ (z : Exchange). updates t e r z v) (some_inj u w is) ∙ out.updates in rw off refl
+
+  piece_outside : (y : ℕ) (bytes : List ℕ) (o : Option Exchange) → Some y ≡ Some x → o ≡ Some w → representation_after_piece e r y bytes o v ≡ v
+  piece_outside y bytes None same is = refl
+  piece_outside y bytes (Some u) same is = let off : nat_eq (family y u) r ≡ false = ap₂ (λ (z : ℕ) (q : Exchange). nat_eq (family z q) r) (some_inj y x same) (some_inj u w is) ∙ out.family_is in rw off refl
+
+  pub representation_unheard : (ev : Event) → exchange_in ev ≡ Some x → representation_heard t e r ev v ≡ v
+  representation_unheard (event.Head y response) is = head_outside y response (t.exchange y) (ap t.exchange (some_inj y x is) ∙ row)
+  representation_unheard (event.Piece y bytes) is = piece_outside y bytes (t.exchange y) is (ap t.exchange (some_inj y x is) ∙ row)
+  representation_unheard (event.End y) is = let off : nat_eq y r ≡ false = ap (λ n. nat_eq n r) (some_inj y x is) ∙ out.number in rw off refl
+  representation_unheard _ is = refl
+
+-- it stays, or becomes gone
+pub representation_frame : (t : Tables) (e : Entry) (r : ℕ) (v : Representation) → representation_heard t e r e.event v ≡ v → loses_in r e.acts ≡ false
+    → representation_after t e r (Some v) ≡ Some (if becomes_gone t e r v then as_gone v else v)
+unfolding representation_after
+representation_frame t e r v heard lossless = ap (λ (u : Representation). Some (representation_acted t e r v u)) heard ∙ ap Some (rw lossless (by_test (becomes_gone t e r v)))
+  where
+    by_test : (b : Bool) → record v { is_gone = b || v.is_gone } ≡ (if b then as_gone v else v)
+    by_test true = refl
+    by_test false = refl
+
+pub representation_stays : (t : Tables) (e : Entry) (r : ℕ) (v : Representation) → representation_heard t e r e.event v ≡ v → loses_in r e.acts ≡ false → becomes_gone t e r v ≡ false
+    → representation_after t e r (Some v) ≡ Some v
+representation_stays t e r v heard lossless stays = representation_frame t e r v heard lossless ∙ rw stays refl
+
+pub representation_absent : (t : Tables) (e : Entry) (r : ℕ) → founded_at t e r e.event ≡ None → representation_after t e r None ≡ None
+unfolding representation_after
+representation_absent t e r none = none
+
+-- CONSUMERS
+
+-- no writing that it reads with others is lost
+abbrev pub IsSpared : Tables → Entry → Place → Type 0
+IsSpared t e p = (r lo : ℕ) (hi : Option ℕ) (how : BoundBy) (v : Representation) → p ≡ place.Bound r lo hi how → t.representation r ≡ Some v → loses_writing t e r v ≡ false
+
+pub spared_lossless : (t : Tables) (e : Entry) (p : Place) → ((r : ℕ) → loses_in r e.acts ≡ false) → IsSpared t e p
+spared_lossless t e p lossless = λ r lo hi how v at row. and_false (brings_body e.event && loses_in r e.acts) (is_written t v) (then_false (brings_body e.event) (loses_in r e.acts) (lossless r))
+
+pub spared_bodiless : (t : Tables) (e : Entry) (p : Place) → brings_body e.event ≡ false → IsSpared t e p
+spared_bodiless t e p bodiless = λ r lo hi how v at row. and_false (brings_body e.event && loses_in r e.acts) (is_written t v) (and_false (brings_body e.event) (loses_in r e.acts) bodiless)
+
+-- its own exchange stays its own
+pub own_stays : (t : Tables) (e : Entry) (c : ℕ) (p : Place) (own : Option ℕ) → IsSpared t e p → own_after t e c p own ≡ own
+own_stays t e c (place.Bound r lo hi how) own spared = by_row (t.representation r) refl
+  where
+    by_row : (o : Option Representation) → t.representation r ≡ o → left_to t e c r o own ≡ own
+    by_row None row = refl
+    by_row (Some v) row = rw (spared r lo hi how v refl row) refl
+own_stays t e c place.Line own spared = refl
+own_stays t e c (place.Passed r kept) own spared = refl
+own_stays t e c (place.Turn x) own spared = refl
+own_stays t e c (place.Direct x) own spared = refl
+own_stays t e c (place.Down why) own spared = refl
+own_stays t e c place.Over own spared = refl
+
+-- what is due stays due
+pub due_stays : (t : Tables) (e : Entry) (c : ℕ) (k : Consumer) → becomes_due t e c k ≡ None → (reads k.place ≡ false → k.due ≡ None) → due_after t e c k k ≡ k
+due_stays t e c k undue idle = ap (λ o. record k { due = o }) (by_test (reads k.place) refl)
+  where
+    by_test : (b : Bool) → reads k.place ≡ b → (if b then option_or k.due (becomes_due t e c k) else None) ≡ k.due
+    by_test true is = ap (option_or k.due) undue ∙ or_nothing k.due
+    by_test false is = sym (idle is)
+
+-- it waits for what becomes gone
+abbrev pub goes_from : Tables → Entry → Place → Bool
+goes_from t e (place.Passed r kept) = goes_in t e r (t.representation r)
+goes_from t e _ = false
+
+-- who doesn't fail, and whose head doesn't send it back, starts over where its key is doomed while it waits, or what it waits for becomes gone
+pub starts_as : (t : Tables) (e : Entry) (c : ℕ) (k : Consumer) → fails_in c e.acts ≡ false → (sends_back (case_at t e) && is_for (exchange_at t e.event) c) ≡ false
+    → starts_over t e c k ≡ ((is_key (doomed_key_of t e) k.request.key && waits_at t k.place) || goes_from t e k.place)
+unfolding starts_over
+starts_as t e c k fails sends = three (is_key (doomed_key_of t e) k.request.key && waits_at t k.place) (sends_back (case_at t e) && is_for (exchange_at t e.event) c) (loses_what_it_waits_for t e c k.place) (goes_from t e k.place) sends (by_place k.place)
+  where
+    three : (a b d f : Bool) → b ≡ false → d ≡ f → (a || b || d) ≡ (a || f)
+    three true b d f off same = refl
+    three false b d f off same = rw off same
+
+    and_yes : (b : Bool) → (b && not false) ≡ b
+    and_yes true = refl
+    and_yes false = refl
+
+    by_place : (p : Place) → loses_what_it_waits_for t e c p ≡ goes_from t e p
+    by_place (place.Passed r kept) = rw fails (and_yes (goes_in t e r (t.representation r)))
+    by_place place.Line = refl
+    by_place (place.Turn x) = refl
+    by_place (place.Bound r lo hi how) = refl
+    by_place (place.Direct x) = refl
+    by_place (place.Down why) = refl
+    by_place place.Over = refl
+
+-- the event isn't about it: it hears nothing, no head sends it back, and nothing becomes due for it by a stop or a head
+pub record IsApart (t : Tables) (e : Entry) (c : ℕ) (k : Consumer) : Type 0 where
+  pub heard : consumer_heard t e c e.event k ≡ k
+  pub stops : cause_of_stop t e k ≡ None
+  pub heads : cause_of_head t e c e.event ≡ None
+  pub sends : (sends_back (case_at t e) && is_for (exchange_at t e.event) c) ≡ false
+
+-- an event of an exchange that was opened for another
+module _ (t : Tables) (e : Entry) (c : ℕ) (k : Consumer) (x : ℕ) (w : Exchange) (row : t.exchange x ≡ Some w) (other : nat_eq w.c c ≡ false) where
+  row_is : (y : ℕ) → Some y ≡ Some x → t.exchange y ≡ Some w
+  row_is y is = ap t.exchange (some_inj y x is) ∙ row
+
+  head_apart : (y : ℕ) (response : Response) (o : Option Exchange) → o ≡ Some w → by_head t e c y response o k ≡ k
+  head_apart y response None is = refl
+  head_apart y response (Some u) is = let apart : nat_eq u.c c ≡ false = ap (λ (z : Exchange). nat_eq z.c c) (some_inj u w is) ∙ other in rw apart refl
+
+  fault_apart : (y : ℕ) (o : Option Exchange) → o ≡ Some w → by_fault c y o k ≡ k
+  fault_apart y None is = refl
+  fault_apart y (Some u) is = let apart : nat_eq u.c c ≡ false = ap (λ (z : Exchange). nat_eq z.c c) (some_inj u w is) ∙ other in rw apart refl
+
+  heard_apart : (ev : Event) → exchange_in ev ≡ Some x → consumer_heard t e c ev k ≡ k
+  heard_apart (event.Head y response) is = head_apart y response (t.exchange y) (row_is y is)
+  heard_apart (event.Fault y) is = fault_apart y (t.exchange y) (row_is y is)
+  heard_apart (event.Cancel d) is = absurd (none_some x is)
+  heard_apart _ is = refl
+
+  not_for : (o : Option Exchange) → o ≡ Some w → is_for o c ≡ false
+  not_for o is = ap (λ z. is_for z c) is ∙ other
+
+  heads_apart : (ev : Event) → exchange_in ev ≡ Some x → cause_of_head t e c ev ≡ None
+  heads_apart (event.Head y response) is = let off = not_for (t.exchange y) (row_is y is) in rw off refl
+  heads_apart _ is = refl
+
+  -- where nothing is due by its stop
+  pub apart_from : exchange_in e.event ≡ Some x → cause_of_stop t e k ≡ None → IsApart t e c k
+  apart_from is unstopped = record {
+    heard = heard_apart e.event is;
+    stops = unstopped;
+    heads = heads_apart e.event is;
+    sends = then_false (sends_back (case_at t e)) _ (not_for (exchange_at t e.event) (ap (option_and_then t.exchange) is ∙ row));
+  }
+
+-- a piece and a doom say nothing of any consumer, and an end but that what it reads stops
+pub apart_piece : (t : Tables) (now x : ℕ) (bytes : List ℕ) (acts : List Act) (c : ℕ) (k : Consumer) → IsApart t (record { now = now; event = event.Piece x bytes; acts = acts }) c k
+unfolding case_of
+apart_piece t now x bytes acts c k = record { heard = refl; stops = stop_none t (record { now = now; event = event.Piece x bytes; acts = acts }) k refl; heads = refl; sends = refl }
+
+pub apart_doom : (t : Tables) (now : ℕ) (key : Key) (acts : List Act) (c : ℕ) (k : Consumer) → IsApart t (record { now = now; event = event.Doom key; acts = acts }) c k
+unfolding case_of
+apart_doom t now key acts c k = record { heard = refl; stops = stop_none t (record { now = now; event = event.Doom key; acts = acts }) k refl; heads = refl; sends = refl }
+
+pub apart_end : (t : Tables) (now x : ℕ) (acts : List Act) (c : ℕ) (k : Consumer) → cause_of_stop t (record { now = now; event = event.End x; acts = acts }) k ≡ None → IsApart t (record { now = now; event = event.End x; acts = acts }) c k
+unfolding case_of
+apart_end t now x acts c k unstopped = record { heard = refl; stops = unstopped; heads = refl; sends = refl }
+
+-- no failure becomes due by the loss of a writing that it doesn't read
+pub loss_spared : (t : Tables) (e : Entry) (c : ℕ) (p : Place) → IsSpared t e p → cause_of_loss t e c p ≡ None
+loss_spared t e c (place.Bound r lo hi how) spared = by_row (t.representation r) refl
+  where
+    by_row : (o : Option Representation) → t.representation r ≡ o → cause_by_loss t e c r o ≡ None
+    by_row None row = refl
+    by_row (Some v) row = rw (spared r lo hi how v refl row) refl
+loss_spared t e c place.Line spared = refl
+loss_spared t e c (place.Passed r kept) spared = refl
+loss_spared t e c (place.Turn x) spared = refl
+loss_spared t e c (place.Direct x) spared = refl
+loss_spared t e c (place.Down why) spared = refl
+loss_spared t e c place.Over spared = refl
+
+pub undue_apart : (t : Tables) (e : Entry) (c : ℕ) (k : Consumer) → IsApart t e c k → IsSpared t e k.place → becomes_due t e c k ≡ None
+undue_apart t e c k apart spared = undue_of t e c k (record { stop = apart.stops; loss = loss_spared t e c k.place spared; head = apart.heads })
+
+module _ (t : Tables) (e : Entry) (c : ℕ) (k : Consumer) (said : IsFarFrom c e.acts) (spared : IsSpared t e k.place) (heard : consumer_heard t e c e.event k ≡ k) where
+  opening_stays : (o : Option Opening) → opening_in e.acts ≡ o → by_opening t c o k ≡ k
+  opening_stays None is = refl
+  opening_stays (Some o) is = rw (said.opens o is) refl
+
+  showing_stays : (o : Option Showing) → showing_in e.acts ≡ o → shown_place c o k.place ≡ k.place
+  showing_stays None is = refl
+  showing_stays (Some s) is = rw (said.showing s is) refl
+
+  waiting_stays : waiting t e c k ≡ k
+  waiting_stays = ap (λ o. record k { place = waiting_place t k o }) said.waits
+
+  same_parts : (p : Place) (own : Option ℕ) (shown : Bool) (given : ℕ) → p ≡ k.place → own ≡ k.own → shown ≡ k.shown → given ≡ k.given → record k { place = p; own = own; shown = shown; given = given } ≡ k
+  same_parts p own shown given a b d f = rw (a, b, d, f) refl
+
+  pub acted_stays : consumer_acted t e c k ≡ k
+  acted_stays =
+      let q_is : by_opening t c (opening_in e.acts) (waiting t e c k) ≡ k = ap (by_opening t c (opening_in e.acts)) waiting_stays ∙ opening_stays (opening_in e.acts) refl in
+      ap (acted_by t e c k) q_is
+      ∙ same_parts _ _ _ _ (rw said.leaves (showing_stays (showing_in e.acts) refl)) (own_stays t e c k.place k.own spared) (rw said.shows refl) (ap (λ bytes. k.given + length bytes) said.given ∙ plus_none k.given)
+
+  -- it stays, or starts over
+  pub consumer_frame : becomes_due t e c k ≡ None → (reads k.place ≡ false → k.due ≡ None) → consumer_after t e c (Some k) ≡ Some (if starts_over t e c k then back_in_line e.now k else k)
+  unfolding consumer_after
+  consumer_frame undue idle =
+      ap Some (ap (consumer_settled t e c k) (ap (consumer_acted t e c) heard ∙ acted_stays) ∙ ap (λ (q : Consumer). if starts_over t e c k then back_in_line e.now k else q) (due_stays t e c k undue idle))
+
+  pub consumer_stays : becomes_due t e c k ≡ None → (reads k.place ≡ false → k.due ≡ None) → starts_over t e c k ≡ false → consumer_after t e c (Some k) ≡ Some k
+  consumer_stays undue idle goes_on = consumer_frame undue idle ∙ rw goes_on refl
+
+  pub consumer_goes_back : starts_over t e c k ≡ true → consumer_after t e c (Some k) ≡ Some (back_in_line e.now k)
+  unfolding consumer_after
+  consumer_goes_back over =
+      ap Some (ap (consumer_settled t e c k) (ap (consumer_acted t e c) heard ∙ acted_stays) ∙ rw over refl)
+
+-- whom nothing is said of stays, or starts over exactly where its key is doomed while it waits, or what it waits for becomes gone
+pub consumer_apart : (t : Tables) (e : Entry) (c : ℕ) (k : Consumer) → IsFarFrom c e.acts → IsSpared t e k.place → IsApart t e c k → (reads k.place ≡ false → k.due ≡ None)
+    → consumer_after t e c (Some k) ≡ Some (if (is_key (doomed_key_of t e) k.request.key && waits_at t k.place) || goes_from t e k.place then back_in_line e.now k else k)
+consumer_apart t e c k said spared apart idle =
+    consumer_frame t e c k said spared apart.heard (undue_apart t e c k apart spared) idle
+    ∙ ap (λ (b : Bool). Some (if b then back_in_line e.now k else k)) (starts_as t e c k said.fails apart.sends)
+
+pub consumer_absent : (t : Tables) (e : Entry) (c : ℕ) → consumer_made c e.now e.event ≡ None → consumer_after t e c None ≡ None
+unfolding consumer_after
+consumer_absent t e c none = none
+
+-- LISTS
+
+-- nothing is founded, nor is anyone bound
+pub founds_nothing : (t : Tables) (e : Entry) → is_founding (case_at t e) ≡ false → founds t e ≡ None
+founds_nothing t e off = rw off refl
+
+pub opens_nothing : (t : Tables) (e : Entry) → opening_in e.acts ≡ None → (opened_after (opening_in e.acts) t.opened ≡ t.opened) × (openings_after (opening_in e.acts) t.openings ≡ t.openings)
+opens_nothing t e none = (ap (λ (o : Option Opening). opened_after o t.opened) none, ap (λ (o : Option Opening). openings_after o t.openings) none)
+
+pub starts_nobody : (x : ℕ) (ev : Event) (cs : List ℕ) → exchange_in ev ≡ Some x → starts_after ev cs ≡ cs
+starts_nobody x (event.Start c request) cs is = absurd (none_some x is)
+starts_nobody x _ cs is = refl
+
+pub binds_nobody : (t : Tables) (e : Entry) → is_founding (case_at t e) ≡ false → opening_in e.acts ≡ None → showing_in e.acts ≡ None → binds t e ≡ None
+binds_nobody t e off opens shows = rw (off, opens, shows) refl

@@ -1,0 +1,235 @@
+-- Who becomes bound as the only one has all up to where its exchange goes on: nothing, or what is stored before its first hole.
+use Rattle.std.proofs.Common.{◌≡◌, ℕ, ◌-◌, ◌<◌, ◌≤◌, List, [], length, Bool, true, false, Option, Some, None, refl, ap, sym, ◌∙◌, subst, arith, min}
+use Rattle.std.specs.Prelude.{is_some, is_none, nat_eq}
+use Rattle.std.proofs.lemmas.Bool.Decides.{nat_tests}
+use Rattle.hc_sparse.specs.Cells.{Cell, Covers}
+use Rattle.hc_range.specs.declared.range.Asked.{Asked}
+use Rattle.hc_range.specs.declared.range.ContentRange.{ContentRange}
+use Rattle.hc_range.specs.declared.range.ContentRange.TheVariants as range
+use Rattle.hc_range.specs.declared.range.Span.{Span}
+use Rattle.hc_range.specs.Spans.{resolved_span}
+use Rattle.hc_event.specs.Filters.{Opening, opening_in}
+use Rattle.hc_event.specs.declared.act.Need.{Need}
+use Rattle.hc_event.specs.declared.act.Need.TheVariants as need
+use Rattle.hc_event.specs.declared.event.Event.{Event}
+use Rattle.hc_event.specs.declared.event.Event.TheVariants as event
+use Rattle.hc_event.specs.declared.event.Request.{Request}
+use Rattle.hc_event.specs.declared.event.Response.{Response}
+use Rattle.hc_rules.specs.declared.heads.HeadCase.{HeadCase}
+use Rattle.hc_rules.specs.declared.heads.HeadCase.TheVariants as case
+use Rattle.hc_rules.specs.declared.length.Length.{Length}
+use Rattle.hc_rules.specs.declared.need.Route.TheVariants as route
+use Rattle.hc_rules.specs.declared.request.Wanted.TheVariants as wanted
+use Rattle.hc_rules.specs.declared.room.Limits.{Limits}
+use Rattle.hc_rules.specs.HeadCases.{fits_to_found, fits_part, begins_at}
+use Rattle.hc_rules.specs.Lengths.{length_of, base_of, promise_of}
+use Rattle.hc_rules.specs.Needs.{route_of}
+use Rattle.hc_rules.specs.RangeTexts.{content_range_of}
+use Rattle.hc_rules.specs.Requests.{range_of, wanted_of, wanted_part}
+use Rattle.hc_event.specs.declared.place.BoundBy.{BoundBy}
+use Rattle.hc_model.specs.ActFilters.{has_loss}
+use Rattle.hc_model.specs.Cases.{case_at, head_view, fits_asker}
+use Rattle.hc_model.specs.ConsumerRows.{consumer_heard, waiting}
+use Rattle.hc_model.specs.Currents.{current}
+use Rattle.hc_model.specs.Denials.{denial}
+use Rattle.hc_model.specs.Entries.{Entry}
+use Rattle.hc_model.specs.Exchanges.{base, front, length_by}
+use Rattle.hc_model.specs.Flaws.{Flaw}
+use Rattle.hc_model.specs.Heads.{founded_total}
+use Rattle.hc_model.specs.Holes.{first_hole, absent_from}
+use Rattle.hc_model.specs.Keys.{entry_of}
+use Rattle.hc_model.specs.Owners.{Owners}
+use Rattle.hc_model.specs.Reading.{bound_to}
+use Rattle.hc_model.specs.RepresentationRows.{hole_start}
+use Rattle.hc_model.specs.Rows.{Tables, Exchange, Representation, Consumer}
+use Rattle.hc_model.specs.Sound.{Sound}
+use Rattle.hc_model.specs.Tables.{after_accepted}
+use Rattle.hc_effects.proofs.Basics.{false_true, and_left, and_right, none_some}
+use Rattle.hc_effects.proofs.BoundFrom.{IsRow, IsInterval, IsFounded, IsFirstHole}
+use Rattle.hc_effects.proofs.BoundFrom as from
+use Rattle.hc_effects.proofs.ExchangeFrom.{IsSame, IsHeaded}
+use Rattle.hc_effects.proofs.FirstKeeps.{case_of_head, whole_200, replaced_200, is_new, is_opener}
+use Rattle.hc_effects.proofs.FoundBy.{CaseBy}
+use Rattle.hc_effects.proofs.FoundBy as cases
+use Rattle.hc_effects.proofs.HoleLemmas.{first_before, first_from, some_of}
+use Rattle.hc_effects.proofs.HolesOpened.{first_hole_is}
+use Rattle.hc_effects.proofs.MeasuresKeep.{number_not}
+use Rattle.hc_effects.proofs.OpenedAs as opened
+use Rattle.hc_effects.proofs.OwnersKeep.{is_opened}
+use Rattle.hc_effects.proofs.PartTold.{IsTold, part_told, whole_base}
+use Rattle.hc_effects.proofs.PartTold as told
+use Rattle.hc_effects.proofs.ExclusiveWriters.{same_row}
+use Rattle.hc_effects.proofs.PieceKeeps.{some_inj}
+use Rattle.hc_effects.proofs.PollKeeps.{current_stays}
+
+head_inj : (a d : ℕ) (f g : Response) → event.Head a f ≡ event.Head d g → f ≡ g
+head_inj a d f g is = cc
+
+interval_inj : (a b : Span) → wanted.Interval a ≡ wanted.Interval b → a ≡ b
+interval_inj a b is = cc
+
+-- A PART BEGINS WHERE ITS CONSUMER READS
+
+pub record IsPartFrom (response : Response) (lo : ℕ) : Type 0 where
+  pub first : ℕ
+  pub last : ℕ
+  pub total : ℕ
+  pub told : content_range_of response.fields ≡ Some (range.Part first last (Some total))
+  pub starts : first ≡ lo
+
+begins_by : (first last : ℕ) (span : Span) (q : Option Span) → begins_at q first last ≡ true → wanted_part q ≡ wanted.Interval span → first ≡ span.lo
+begins_by first last span None h is = absurd (false_true h)
+begins_by first last span (Some z) h is =
+    let test : nat_eq first z.lo ≡ true = and_left _ _ h in
+    let number : first ≡ z.lo = grind (arith, nat_tests) in
+    let same : z.lo ≡ span.lo = ap (λ (a : Span). a.lo) (interval_inj z span is) in
+    omega arith
+
+module _ (k : Consumer) (w : Exchange) (response : Response) (lo : ℕ) (hi : Option ℕ) (status : response.status ≡ 206) (i : IsInterval (wanted_of (range_of k.request) (founded_total w response)) lo hi) where
+  part_by : (asked : Asked) (z : Option ContentRange) → range_of k.request ≡ Some asked → content_range_of response.fields ≡ z → fits_part asked z ≡ true → IsPartFrom response lo
+  part_by asked None is at h = absurd (false_true h)
+  part_by asked (Some (range.Unsatisfied total)) is at h = absurd (false_true h)
+  part_by asked (Some (range.Part first last None)) is at h = absurd (false_true h)
+  part_by asked (Some (range.Part first last (Some total))) is at h =
+      let on : nat_eq response.status 206 ≡ true = (let st : response.status ≡ 206 = status in grind (arith, nat_tests)) in
+      let told : founded_total w response ≡ Some total = rw (on, at) refl in
+      let wants : wanted_part (resolved_span asked total) ≡ wanted.Interval i.span = sym (ap (λ q. wanted_of q (founded_total w response)) is ∙ ap (wanted_of (Some asked)) told) ∙ i.wanted_is in
+      record { first = first; last = last; total = total; told = at; starts = begins_by first last i.span (resolved_span asked total) h wants ∙ i.from }
+
+  fits_by : (z : Option Asked) → range_of k.request ≡ z → fits_to_found z response ≡ true → IsPartFrom response lo
+  fits_by None is h = absurd (false_true h)
+  fits_by (Some asked) is h = part_by asked (content_range_of response.fields) is refl (and_right _ _ h)
+
+base_by : (first last : ℕ) (l : Length) → IsTold first last l → base_of l ≤ first
+base_by first last l (told.none is) = let none_is : base_of l ≡ 0 = ap base_of is in omega arith
+base_by first last l (told.part is) = let first_is : base_of l ≡ first = ap base_of is in omega arith
+
+module _ (limits : Limits) (t : Tables) (now : ℕ) (flaw : Flaw) (s : Sound t) (o : Owners t) (ev : Event) (goes : denial t ev ≡ None) where
+  abbrev e : Entry
+  e = entry_of limits t now ev flaw
+
+  abbrev now_on : Tables
+  now_on = after_accepted t e
+
+  -- WHAT ITS HEAD FOUNDS
+
+  module _ (c r lo : ℕ) (hi : Option ℕ) (how : BoundBy) (x : ℕ) (response : Response) (w z : Exchange) (k : Consumer) (here : ev ≡ event.Head x response) (exchange_row : t.exchange x ≡ Some w) (mine : w.c ≡ c) (row : t.consumer c ≡ Some k) (same : IsSame t e x w z) (got : IsHeaded t e x w z) where
+    abbrev view : Rattle.hc_rules.specs.declared.heads.HeadView.HeadView
+    view = head_view t (has_loss e.acts) w response
+
+    from_base : base_of (length_of w.need w.request response) ≤ lo → front z ≤ lo
+    from_base le =
+        let answer : got.response ≡ response = head_inj x x got.response response (sym got.at ∙ here) in
+        let told_is : length_by z z.head ≡ length_of w.need w.request response = ap (length_by z) got.head_is ∙ (ap (λ (n : Need). length_of n z.request got.response) same.need_is ∙ (ap (λ (q : Request). length_of w.need q got.response) same.request_is ∙ ap (length_of w.need w.request) answer)) in
+        let first : base z ≡ base_of (length_of w.need w.request response) = ap base_of told_is in
+        let empty : z.body ≡ [] = got.body_is ∙ (s.waits.headless x w exchange_row (is_new limits t now flaw s ev goes x response w here exchange_row).bare).0 in
+        let none_yet : length z.body ≡ 0 = ap (λ (b : List ℕ). length b) empty in
+        omega arith
+
+    whole : response.status ≡ 200 → front z ≤ lo
+    whole status =
+        let off : nat_eq response.status 206 ≡ false = number_not response.status 206 (λ is. let no : 200 ≡ 206 = sym status ∙ is in absurd (omega arith)) in
+        let none_is : base_of (length_of w.need w.request response) ≡ 0 = whole_base w.need w.request response off in
+        from_base (omega arith)
+
+    part : CaseBy view case.FoundsRange → IsInterval (wanted_of (range_of k.request) (founded_total w response)) lo hi → front z ≤ lo
+    part (cases.founds_range way status fits kept good) i =
+        let for_k : fits_to_found (range_of k.request) response ≡ true = sym (ap (λ q. fits_asker q response) (ap t.consumer mine ∙ row)) ∙ fits in
+        let p = fits_by k w response lo hi status i (range_of k.request) refl for_k in
+        let le : base_of (length_of w.need w.request response) ≤ p.first = base_by p.first p.last _ (part_told w.need w.request response p.first p.last p.total (λ past. let no : route.Turn ≡ route.Direct = sym way ∙ past in cc) status p.told good) in
+        let start : p.first ≡ lo = p.starts in
+        from_base (omega arith)
+
+    by_founded : (g : Option HeadCase) → case_at t e ≡ g → IsFounded t e c r lo hi how x response w k g → front z ≤ lo
+    by_founded _ is (from.whole a b) = whole (whole_200 t (has_loss e.acts) w response (case_of_head t e x response w case.FoundsWhole here exchange_row is))
+    by_founded _ is (from.replaced a b) = whole (replaced_200 t (has_loss e.acts) w response (case_of_head t e x response w case.FirstReplaced here exchange_row is))
+    by_founded _ is (from.part i) = part (case_of_head t e x response w case.FoundsRange here exchange_row is) i
+
+    -- and no later, where it is open then
+    from_part : (first last : ℕ) (l : Length) → first ≡ lo → (promise_of l ≡ Some 0 → ⊥) → IsTold first last l → lo ≤ base_of l
+    from_part first last l starts unmet (told.none is) = absurd (unmet (ap promise_of is))
+    from_part first last l starts unmet (told.part is) = let first_is : base_of l ≡ first = ap base_of is in omega (arith, starts, first_is)
+
+    base_then : base z ≡ base_of (length_of w.need w.request response)
+    base_then =
+        let answer : got.response ≡ response = head_inj x x got.response response (sym got.at ∙ here) in
+        ap base_of (ap (length_by z) got.head_is ∙ (ap (λ (n : Need). length_of n z.request got.response) same.need_is ∙ (ap (λ (q : Request). length_of w.need q got.response) same.request_is ∙ ap (length_of w.need w.request) answer)))
+
+    part_from : (promise_of (length_of w.need w.request response) ≡ Some 0 → ⊥) → CaseBy view case.FoundsRange → IsInterval (wanted_of (range_of k.request) (founded_total w response)) lo hi → lo ≤ front z
+    part_from unmet (cases.founds_range way status fits kept good) i =
+        let for_k : fits_to_found (range_of k.request) response ≡ true = sym (ap (λ q. fits_asker q response) (ap t.consumer mine ∙ row)) ∙ fits in
+        let p = fits_by k w response lo hi status i (range_of k.request) refl for_k in
+        let le : lo ≤ base_of (length_of w.need w.request response) = from_part p.first p.last _ p.starts unmet (part_told w.need w.request response p.first p.last p.total (λ past. let no : route.Turn ≡ route.Direct = sym way ∙ past in cc) status p.told good) in
+        let first : base z ≡ base_of (length_of w.need w.request response) = base_then in
+        omega arith
+
+    begins_by_case : (promise_of (length_of w.need w.request response) ≡ Some 0 → ⊥) → (g : Option HeadCase) → case_at t e ≡ g → IsFounded t e c r lo hi how x response w k g → lo ≤ front z
+    begins_by_case unmet _ is (from.whole a b) = let zero_is : lo ≡ 0 = a in omega arith
+    begins_by_case unmet _ is (from.replaced a b) = let zero_is : lo ≡ 0 = a in omega arith
+    begins_by_case unmet _ is (from.part i) = part_from unmet (case_of_head t e x response w case.FoundsRange here exchange_row is) i
+
+    pub founds_from : (promise_of (length_of w.need w.request response) ≡ Some 0 → ⊥) → IsFounded t e c r lo hi how x response w k (case_at t e) → lo ≤ front z
+    founds_from unmet all = begins_by_case unmet (case_at t e) refl all
+
+    pub founds_within : IsFounded t e c r lo hi how x response w k (case_at t e) → front z ≤ lo
+    founds_within all = by_founded (case_at t e) refl all
+
+  -- BEFORE A FIRST HOLE
+
+  -- what stands before the first hole of a span is stored
+  before_hole : (v : Representation) (span hole : Span) → first_hole v.stored v.reach span ≡ Some hole → Covers v.stored span.lo hole.lo
+  before_hole v span hole found d from_lo lt =
+      let same = first_hole_is v.stored v.reach span hole found in
+      let at : hole.lo ≡ absent_from v.stored v.reach span.lo span.hi = ap (λ (a : Span). a.lo) same in
+      let before : d < absent_from v.stored v.reach span.lo span.hi = omega arith in
+      some_of (v.stored d) (first_before is_none v.stored span.lo (min span.hi v.reach - span.lo) d from_lo before)
+
+  module _ (c r lo : ℕ) (hi : Option ℕ) (how : BoundBy) (k u : Consumer) (q : Opening) (row : IsRow t e c r lo hi how k u) (opens : opening_in e.acts ≡ Some q) (mine : q.c ≡ c) (free : bound_to (waiting t e c (consumer_heard t e c ev k)).place ≡ None) (way : route_of q.need ≡ route.Hole) (hole : IsFirstHole t e c r lo hi how q (waiting t e c (consumer_heard t e c ev k))) where
+    stored_body : (v : Representation) (a b : ℕ) → t.representation r ≡ Some v → v.is_gone ≡ false → Covers v.stored a b → Covers v.body a b
+    stored_body v a b there not_gone all d from_a lt = by_test v.is_lost refl
+      where
+        store : Rattle.hc_model.specs.Sound.IsStored v
+        store = (s.rows r v there).store
+
+        by_test : (z : Bool) → v.is_lost ≡ z → is_some (v.body d) ≡ true
+        by_test true lost = absurd (false_true (sym not_gone ∙ store.lost_is_gone lost))
+        by_test false kept = ap (λ (z : Option Cell). is_some z) (sym (store.all_stored kept d)) ∙ all d from_a lt
+
+    -- it is a hole of what its consumer reads, and all before it is there
+    abbrev FillsFrom : Representation → Type 0
+    FillsFrom v = (lo ≤ hole_start q.need) × Covers v.body lo (hole_start q.need)
+
+    filled : (v : Representation) (span gap : Span) → t.representation r ≡ Some v → v.is_gone ≡ false → wanted_of (range_of k.request) v.head.total ≡ wanted.Interval span → first_hole v.stored v.reach span ≡ Some gap → q.need ≡ need.Hole gap.lo gap.hi → wanted_of (range_of k.request) v.head.total ≡ wanted.Interval hole.interval.span → FillsFrom v
+    filled v span gap there not_gone wants found need_is also =
+        let start : hole_start q.need ≡ gap.lo = ap hole_start need_is in
+        let same : span.lo ≡ hole.interval.span.lo = ap (λ (a : Span). a.lo) (interval_inj span hole.interval.span (sym wants ∙ also)) in
+        let first : hole.interval.span.lo ≡ lo = hole.interval.from in
+        let at : gap.lo ≡ absent_from v.stored v.reach span.lo span.hi = ap (λ (a : Span). a.lo) (first_hole_is v.stored v.reach span gap found) in
+        let later : span.lo ≤ absent_from v.stored v.reach span.lo span.hi = first_from is_none v.stored span.lo (min span.hi v.reach - span.lo) in
+        (omega arith, λ d from_lo lt. stored_body v span.lo gap.lo there not_gone (before_hole v span gap found) d (omega arith) (omega arith))
+
+    by_way : t.consumer c ≡ Some k → opened.Way t now c k q.need → consumer_heard t e c ev k ≡ k → bound_to k.place ≡ None → FillsFrom hole.v
+    by_way there (opened.passes_by unbound past) heard none = absurd (let no : route.Direct ≡ route.Hole = sym past ∙ way in cc)
+    by_way there (opened.fetches unbound turn cached) heard none = absurd (let no : route.Turn ≡ route.Hole = sym turn ∙ way in cc)
+    by_way there (opened.goes_on a b d f at hole_way) heard none = absurd (none_some a (sym none ∙ ap bound_to at))
+    by_way there (opened.fills a v span gap unbound hole_way is_current v_row wants found need_is cached) heard none =
+        let request_is : (consumer_heard t e c ev k).request ≡ k.request = ap (λ (z : Consumer). z.request) heard in
+        let number : a ≡ r = some_inj a r (sym is_current ∙ (sym (ap (λ (z : Request). current t z.key) request_is) ∙ hole.current_is)) in
+        let one : v ≡ hole.v = same_row (t.representation r) v hole.v (sym (ap t.representation number) ∙ v_row) hole.row in
+        let not_gone = current_stays t _ r hole.v hole.current_is hole.row in
+        let also : wanted_of (range_of k.request) hole.v.head.total ≡ wanted.Interval hole.interval.span = sym (ap (λ (z : Request). wanted_of (range_of z) hole.v.head.total) request_is) ∙ hole.interval.wanted_is in
+        filled hole.v span gap hole.row not_gone (sym (ap (λ (z : Representation). wanted_of (range_of k.request) z.head.total) one) ∙ wants) (sym (ap (λ (z : Representation). first_hole z.stored z.reach span) one) ∙ found) need_is also
+
+    fills : FillsFrom hole.v
+    fills =
+        let opener = is_opener limits t now flaw s ev goes c k q row.row opens mine in
+        let by_poll = is_opened limits t now flaw s o ev goes q opens in
+        let one : by_poll.k ≡ k = same_row (t.consumer c) by_poll.k k (sym (ap t.consumer mine) ∙ by_poll.row) row.row in
+        let way_k : opened.Way t now c k q.need = subst (λ (z : Consumer). opened.Way t now c z q.need) one (subst (λ d. opened.Way t now d by_poll.k q.need) mine by_poll.way.way) in
+        by_way row.row way_k opener.heard_is (sym (ap bound_to opener.place_is) ∙ free)
+
+    pub hole_begins : lo ≤ hole_start q.need
+    hole_begins = fills.0
+
+    pub hole_covers : Covers hole.v.body lo (hole_start q.need)
+    hole_covers = fills.1

@@ -1,0 +1,296 @@
+-- The columns of exchanges are filters of the list of entries.
+use Rattle.std.proofs.Common.{◌≡◌, inl, inr, ℕ, List, [], ◌∷◌, ◌++◌, length, Bool, true, false, cond, Option, Some, None, refl, ap, sym, ◌∙◌, arith}
+use Rattle.std.specs.Prelude.{if◌then◌else◌, ◌==◌, ◌||◌, ◌&&◌, not, option_map, option_and_then, is_some}
+use Rattle.std.specs.Option.{option_map_or, option_or}
+use Rattle.std.proofs.lemmas.List.{append-nil}
+use Rattle.std.proofs.lemmas.Bool.Decides.{nat_tests}
+use Rattle.hc_event.specs.Filters.{Opening, opening_in, is_denied}
+use Rattle.hc_event.specs.declared.event.Event.{Event}
+use Rattle.hc_event.specs.declared.event.Event.TheVariants as event
+use Rattle.hc_event.specs.declared.event.Response.{Response}
+use Rattle.hc_rules.specs.declared.room.Limits.{Limits}
+use Rattle.hc_rules.specs.Refusals.{head_refusal, piece_refusal, end_refusal}
+use Rattle.hc_rules.specs.Refusals as refusals
+use Rattle.hc_model.specs.Denials.{denial, as_open}
+use Rattle.hc_model.specs.Entries.{Entry, History, Contents}
+use Rattle.hc_model.specs.Exchanges.{promised_bytes}
+use Rattle.hc_model.specs.ExchangeRows.{exchange_after, exchange_heard, exchange_made, with_head, with_piece}
+use Rattle.hc_model.specs.Rows.{Tables, Exchange}
+use Rattle.hc_model.specs.Runs.{IsRun, IsOwed}
+use Rattle.hc_model.specs.Tables.{tables, after}
+use Rattle.hc_model.specs.Histories.{Answered, each, first, if_accepted, opening_at, opening_of, head_in, head_of, bytes_in, delivered_of, ends_in, has_ended, opened_in, answered_in}
+use Rattle.hc_effects.proofs.HoleLemmas.{bool_cases}
+use Rattle.hc_effects.proofs.Once.{never}
+use Rattle.hc_effects.proofs.Owed.{goes, denied_opens}
+use Rattle.hc_effects.proofs.ConsumerFilters.{first_more, or_none}
+
+-- WHAT AN EVENT LEAVES OF A ROW
+
+record IsOpened (w u : Exchange) : Type 0 where
+  c_is : u.c ≡ w.c
+  need_is : u.need ≡ w.need
+  request_is : u.request ≡ w.request
+  opened_is : u.opened ≡ w.opened
+
+opened_same : (w : Exchange) → IsOpened w w
+opened_same w = record { c_is = refl; need_is = refl; request_is = refl; opened_is = refl }
+
+opened_if : (b : Bool) (w u : Exchange) → IsOpened w u → IsOpened w (cond b u w)
+opened_if true w u is = is
+opened_if false w u is = opened_same w
+
+heard_opened : (t : Tables) (e : Entry) (x : ℕ) (ev : Event) (w : Exchange) → IsOpened w (exchange_heard t e x ev w)
+heard_opened t e x (event.Start c request) w = opened_same w
+heard_opened t e x (event.Poll c want) w = opened_same w
+heard_opened t e x (event.Head y response) w = opened_if (y == x) w (with_head t e response w) (record { c_is = refl; need_is = refl; request_is = refl; opened_is = refl })
+heard_opened t e x (event.Piece y bytes) w = opened_if (y == x) w (with_piece bytes w) (record { c_is = refl; need_is = refl; request_is = refl; opened_is = refl })
+heard_opened t e x (event.End y) w = opened_if (y == x) w _ (record { c_is = refl; need_is = refl; request_is = refl; opened_is = refl })
+heard_opened t e x (event.Fault y) w = opened_if (y == x) w _ (record { c_is = refl; need_is = refl; request_is = refl; opened_is = refl })
+heard_opened t e x (event.Cancel c) w = opened_same w
+heard_opened t e x (event.Doom key) w = opened_same w
+
+-- OPENINGS
+
+same_opened : (w u : Exchange) → IsOpened w u → opened_in u ≡ opened_in w
+same_opened w u is = rw (is.c_is, is.need_is, is.request_is, is.opened_is) refl
+
+made_opened : (t : Tables) (e : Entry) (x : ℕ) (o : Option Opening) → option_map opened_in (exchange_made t e x o) ≡ first (opening_at x e.now o)
+made_opened t e x None = refl
+made_opened t e x (Some o) = elim (bool_cases (o.x == x)) [
+  | inl here ↦ rw here refl
+  | inr other ↦ rw other refl
+]
+
+opening_after : (t : Tables) (e : Entry) (x : ℕ) (o : Option Exchange) → option_map opened_in (exchange_after t e x o) ≡ option_or (option_map opened_in o) (first (opening_at x e.now (opening_in e.acts)))
+unfolding exchange_after
+opening_after t e x None = made_opened t e x (opening_in e.acts)
+opening_after t e x (Some w) = ap Some (same_opened w (exchange_heard t e x e.event w) (heard_opened t e x e.event w))
+
+opening_step : (t : Tables) (e : Entry) (x : ℕ) (b : Bool) → is_denied e.acts ≡ b → option_map opened_in ((after t e).exchange x) ≡ option_or (option_map opened_in (t.exchange x)) (first (opening_at x e.now (opening_in e.acts)))
+unfolding after
+opening_step t e x true denied = rw (denied, denied_opens e.acts denied) (sym (or_none _))
+opening_step t e x false denied = rw denied (opening_after t e x (t.exchange x))
+
+pub openings_are : (contents : Contents) (h : History) (x : ℕ) → option_map opened_in ((tables contents h).exchange x) ≡ opening_of x h
+unfolding tables
+openings_are contents [] x = refl
+openings_are contents (e ∷ h) x =
+    first_more (each (λ e. opening_at x e.now (opening_in e.acts)) h) (opening_at x e.now (opening_in e.acts)) _ _ (openings_are contents h x) (opening_step (tables contents h) e x (is_denied e.acts) refl)
+
+-- HEADS
+
+no_head : (is_open : Bool) (o : Option Response) (asked : Bool) (n : ℕ) (p : Option ℕ) → head_refusal (if is_open then Some (record { headed = is_some o; asked = asked; delivered = n; promised = p }) else None) ≡ None → o ≡ None
+no_head false o asked n p h = absurd (never _ h)
+no_head true (Some response) asked n p h = absurd (never _ h)
+no_head true None asked n p h = refl
+
+pub headless : (w : Exchange) → head_refusal (as_open (Some w)) ≡ None → w.head ≡ None
+headless w h = no_head w.is_open w.head w.asked (length w.body) (promised_bytes w) h
+
+abbrev answered : Option Exchange → Option Answered
+answered o = option_and_then answered_in o
+
+made_answered : (t : Tables) (e : Entry) (x : ℕ) (o : Option Opening) → answered (exchange_made t e x o) ≡ None
+made_answered t e x None = refl
+made_answered t e x (Some o) = elim (bool_cases (o.x == x)) [
+  | inl here ↦ rw here refl
+  | inr other ↦ rw other refl
+]
+
+-- a row that isn't there has no head, and one that has a head gets no other
+heard_answered : (t : Tables) (e : Entry) (x : ℕ) (w : Exchange) (ev : Event) → t.exchange x ≡ Some w → denial t ev ≡ None → answered_in (exchange_heard t e x ev w) ≡ option_or (answered_in w) (first (head_in x e.now ev))
+unfolding refusals.refusal_of
+heard_answered t e x w (event.Start c request) row h = sym (or_none _)
+heard_answered t e x w (event.Poll c want) row h = sym (or_none _)
+heard_answered t e x w (event.Head y response) row h = elim (bool_cases (y == x)) [
+  | inr other ↦ rw other (sym (or_none _))
+  | inl here ↦
+      let same : y ≡ x = grind (arith, nat_tests) in
+      let bare : w.head ≡ None = headless w (sym (ap (λ n. head_refusal (as_open (t.exchange n))) same ∙ ap (λ o. head_refusal (as_open o)) row) ∙ h) in
+      rw (here, bare) refl
+]
+heard_answered t e x w (event.Piece y bytes) row h = elim (bool_cases (y == x)) [
+  | inl here ↦ rw here (sym (or_none _))
+  | inr other ↦ rw other (sym (or_none _))
+]
+heard_answered t e x w (event.End y) row h = elim (bool_cases (y == x)) [
+  | inl here ↦ rw here (sym (or_none _))
+  | inr other ↦ rw other (sym (or_none _))
+]
+heard_answered t e x w (event.Fault y) row h = elim (bool_cases (y == x)) [
+  | inl here ↦ rw here (sym (or_none _))
+  | inr other ↦ rw other (sym (or_none _))
+]
+heard_answered t e x w (event.Cancel c) row h = sym (or_none _)
+heard_answered t e x w (event.Doom key) row h = sym (or_none _)
+
+-- an event of an exchange that isn't there is denied
+no_head_in : (t : Tables) (x now : ℕ) (ev : Event) → t.exchange x ≡ None → denial t ev ≡ None → first (head_in x now ev) ≡ None
+unfolding refusals.refusal_of
+no_head_in t x now (event.Start c request) row h = refl
+no_head_in t x now (event.Poll c want) row h = refl
+no_head_in t x now (event.Head y response) row h = elim (bool_cases (y == x)) [
+  | inr other ↦ rw other refl
+  | inl here ↦
+      let same : y ≡ x = grind (arith, nat_tests) in
+      absurd (never _ (sym (ap (λ n. head_refusal (as_open (t.exchange n))) same ∙ ap (λ o. head_refusal (as_open o)) row) ∙ h))
+]
+no_head_in t x now (event.Piece y bytes) row h = refl
+no_head_in t x now (event.End y) row h = refl
+no_head_in t x now (event.Fault y) row h = refl
+no_head_in t x now (event.Cancel c) row h = refl
+no_head_in t x now (event.Doom key) row h = refl
+
+head_after : (t : Tables) (e : Entry) (x : ℕ) (o : Option Exchange) → t.exchange x ≡ o → denial t e.event ≡ None → answered (exchange_after t e x o) ≡ option_or (answered o) (first (head_in x e.now e.event))
+unfolding exchange_after
+head_after t e x None row h = made_answered t e x (opening_in e.acts) ∙ sym (no_head_in t x e.now e.event row h)
+head_after t e x (Some w) row h = heard_answered t e x w e.event row h
+
+head_step : (limits : Limits) (t : Tables) (e : Entry) (x : ℕ) (b : Bool) → IsOwed limits t e → is_denied e.acts ≡ b → answered ((after t e).exchange x) ≡ option_or (answered (t.exchange x)) (first (if_accepted e (head_in x e.now e.event)))
+unfolding after
+head_step limits t e x true owed denied = rw denied (sym (or_none _))
+head_step limits t e x false owed denied = rw denied (head_after t e x (t.exchange x) refl (goes limits t e owed denied))
+
+pub heads_are : (limits : Limits) (contents : Contents) (h : History) (x : ℕ) → IsRun limits contents h → answered ((tables contents h).exchange x) ≡ head_of x h
+unfolding tables
+heads_are limits contents [] x run = refl
+heads_are limits contents (e ∷ h) x run =
+    first_more (each (λ e. if_accepted e (head_in x e.now e.event)) h) (if_accepted e (head_in x e.now e.event)) _ _ (heads_are limits contents h x run.0) (head_step limits (tables contents h) e x (is_denied e.acts) run.1 refl)
+
+-- BODIES
+
+abbrev body : Option Exchange → List ℕ
+body o = option_map_or (λ (w : Exchange). w.body) o []
+
+made_body : (t : Tables) (e : Entry) (x : ℕ) (o : Option Opening) → body (exchange_made t e x o) ≡ []
+made_body t e x None = refl
+made_body t e x (Some o) = elim (bool_cases (o.x == x)) [
+  | inl here ↦ rw here refl
+  | inr other ↦ rw other refl
+]
+
+heard_body : (t : Tables) (e : Entry) (x : ℕ) (w : Exchange) (ev : Event) → (exchange_heard t e x ev w).body ≡ w.body ++ bytes_in x ev
+heard_body t e x w (event.Start c request) = sym (append-nil w.body)
+heard_body t e x w (event.Poll c want) = sym (append-nil w.body)
+heard_body t e x w (event.Head y response) = elim (bool_cases (y == x)) [
+  | inl here ↦ rw here (sym (append-nil w.body))
+  | inr other ↦ rw other (sym (append-nil w.body))
+]
+heard_body t e x w (event.Piece y bytes) = elim (bool_cases (y == x)) [
+  | inl here ↦ rw here refl
+  | inr other ↦ rw other (sym (append-nil w.body))
+]
+heard_body t e x w (event.End y) = elim (bool_cases (y == x)) [
+  | inl here ↦ rw here (sym (append-nil w.body))
+  | inr other ↦ rw other (sym (append-nil w.body))
+]
+heard_body t e x w (event.Fault y) = elim (bool_cases (y == x)) [
+  | inl here ↦ rw here (sym (append-nil w.body))
+  | inr other ↦ rw other (sym (append-nil w.body))
+]
+heard_body t e x w (event.Cancel c) = sym (append-nil w.body)
+heard_body t e x w (event.Doom key) = sym (append-nil w.body)
+
+no_bytes_in : (t : Tables) (x : ℕ) (ev : Event) → t.exchange x ≡ None → denial t ev ≡ None → bytes_in x ev ≡ []
+unfolding refusals.refusal_of
+no_bytes_in t x (event.Start c request) row h = refl
+no_bytes_in t x (event.Poll c want) row h = refl
+no_bytes_in t x (event.Head y response) row h = refl
+no_bytes_in t x (event.Piece y bytes) row h = elim (bool_cases (y == x)) [
+  | inr other ↦ rw other refl
+  | inl here ↦
+      let same : y ≡ x = grind (arith, nat_tests) in
+      absurd (never _ (sym (ap (λ n. piece_refusal (as_open (t.exchange n)) (length bytes)) same ∙ ap (λ o. piece_refusal (as_open o) (length bytes)) row) ∙ h))
+]
+no_bytes_in t x (event.End y) row h = refl
+no_bytes_in t x (event.Fault y) row h = refl
+no_bytes_in t x (event.Cancel c) row h = refl
+no_bytes_in t x (event.Doom key) row h = refl
+
+body_after : (t : Tables) (e : Entry) (x : ℕ) (o : Option Exchange) → t.exchange x ≡ o → denial t e.event ≡ None → body (exchange_after t e x o) ≡ body o ++ bytes_in x e.event
+unfolding exchange_after
+body_after t e x None row h = made_body t e x (opening_in e.acts) ∙ sym (no_bytes_in t x e.event row h)
+body_after t e x (Some w) row h = heard_body t e x w e.event
+
+body_step : (limits : Limits) (t : Tables) (e : Entry) (x : ℕ) (b : Bool) → IsOwed limits t e → is_denied e.acts ≡ b → body ((after t e).exchange x) ≡ body (t.exchange x) ++ if_accepted e (bytes_in x e.event)
+unfolding after
+body_step limits t e x true owed denied = rw denied (sym (append-nil _))
+body_step limits t e x false owed denied = rw denied (body_after t e x (t.exchange x) refl (goes limits t e owed denied))
+
+pub bodies_are : (limits : Limits) (contents : Contents) (h : History) (x : ℕ) → IsRun limits contents h → body ((tables contents h).exchange x) ≡ delivered_of x h
+unfolding tables
+bodies_are limits contents [] x run = refl
+bodies_are limits contents (e ∷ h) x run =
+    body_step limits (tables contents h) e x (is_denied e.acts) run.1 refl
+    ∙ ap (λ (bytes : List ℕ). bytes ++ if_accepted e (bytes_in x e.event)) (bodies_are limits contents h x run.0)
+
+-- ENDS
+
+abbrev ended : Option Exchange → Bool
+ended o = option_map_or (λ (w : Exchange). w.is_ended) o false
+
+made_ended : (t : Tables) (e : Entry) (x : ℕ) (o : Option Opening) → ended (exchange_made t e x o) ≡ false
+made_ended t e x None = refl
+made_ended t e x (Some o) = elim (bool_cases (o.x == x)) [
+  | inl here ↦ rw here refl
+  | inr other ↦ rw other refl
+]
+
+heard_ended : (t : Tables) (e : Entry) (x : ℕ) (w : Exchange) (ev : Event) → (exchange_heard t e x ev w).is_ended ≡ (ends_in x ev || w.is_ended)
+heard_ended t e x w (event.Start c request) = refl
+heard_ended t e x w (event.Poll c want) = refl
+heard_ended t e x w (event.Head y response) = elim (bool_cases (y == x)) [
+  | inl here ↦ rw here refl
+  | inr other ↦ rw other refl
+]
+heard_ended t e x w (event.Piece y bytes) = elim (bool_cases (y == x)) [
+  | inl here ↦ rw here refl
+  | inr other ↦ rw other refl
+]
+heard_ended t e x w (event.End y) = elim (bool_cases (y == x)) [
+  | inl here ↦ rw here refl
+  | inr other ↦ rw other refl
+]
+heard_ended t e x w (event.Fault y) = elim (bool_cases (y == x)) [
+  | inl here ↦ rw here refl
+  | inr other ↦ rw other refl
+]
+heard_ended t e x w (event.Cancel c) = refl
+heard_ended t e x w (event.Doom key) = refl
+
+no_end_in : (t : Tables) (x : ℕ) (ev : Event) → t.exchange x ≡ None → denial t ev ≡ None → ends_in x ev ≡ false
+unfolding refusals.refusal_of
+no_end_in t x (event.Start c request) row h = refl
+no_end_in t x (event.Poll c want) row h = refl
+no_end_in t x (event.Head y response) row h = refl
+no_end_in t x (event.Piece y bytes) row h = refl
+no_end_in t x (event.End y) row h = elim (bool_cases (y == x)) [
+  | inr other ↦ other
+  | inl here ↦
+      let same : y ≡ x = grind (arith, nat_tests) in
+      absurd (never _ (sym (ap (λ n. end_refusal (as_open (t.exchange n))) same ∙ ap (λ o. end_refusal (as_open o)) row) ∙ h))
+]
+no_end_in t x (event.Fault y) row h = refl
+no_end_in t x (event.Cancel c) row h = refl
+no_end_in t x (event.Doom key) row h = refl
+
+or_false : (b : Bool) → (b || false) ≡ b
+or_false true = refl
+or_false false = refl
+
+end_after : (t : Tables) (e : Entry) (x : ℕ) (o : Option Exchange) → t.exchange x ≡ o → denial t e.event ≡ None → ended (exchange_after t e x o) ≡ (ends_in x e.event || ended o)
+unfolding exchange_after
+end_after t e x None row h = made_ended t e x (opening_in e.acts) ∙ sym (or_false (ends_in x e.event) ∙ no_end_in t x e.event row h)
+end_after t e x (Some w) row h = heard_ended t e x w e.event
+
+end_step : (limits : Limits) (t : Tables) (e : Entry) (x : ℕ) (b : Bool) → IsOwed limits t e → is_denied e.acts ≡ b → ended ((after t e).exchange x) ≡ ((not (is_denied e.acts) && ends_in x e.event) || ended (t.exchange x))
+unfolding after
+end_step limits t e x true owed denied = rw denied refl
+end_step limits t e x false owed denied = rw denied (end_after t e x (t.exchange x) refl (goes limits t e owed denied))
+
+pub ends_are : (limits : Limits) (contents : Contents) (h : History) (x : ℕ) → IsRun limits contents h → ended ((tables contents h).exchange x) ≡ has_ended x h
+unfolding tables
+ends_are limits contents [] x run = refl
+ends_are limits contents (e ∷ h) x run =
+    end_step limits (tables contents h) e x (is_denied e.acts) run.1 refl
+    ∙ ap (λ b. (not (is_denied e.acts) && ends_in x e.event) || b) (ends_are limits contents h x run.0)

@@ -1,0 +1,64 @@
+-- The exchange that founded a representation joined no other.
+use Rattle.std.proofs.Common.{◌≡◌, ◌⊎◌, inl, inr, ℕ, Bool, true, false, Some, None, refl, ap, sym, ◌∙◌}
+use Rattle.std.specs.Prelude.{if◌then◌else◌}
+use Rattle.hc_event.specs.declared.event.Event.{Event}
+use Rattle.hc_event.specs.declared.event.Event.TheVariants as event
+use Rattle.hc_event.specs.declared.event.Response.{Response}
+use Rattle.hc_rules.specs.declared.room.Limits.{Limits}
+use Rattle.hc_rules.specs.HeadCases.{head_case}
+use Rattle.hc_model.specs.ActFilters.{has_loss}
+use Rattle.hc_model.specs.Cases.{case_at, head_view, is_founding, is_joining}
+use Rattle.hc_model.specs.Denials.{denial}
+use Rattle.hc_model.specs.Entries.{Entry}
+use Rattle.hc_model.specs.Flaws.{Flaw}
+use Rattle.hc_model.specs.Keys.{entry_of}
+use Rattle.hc_model.specs.Owners.{Owners}
+use Rattle.hc_model.specs.Rows.{Tables, Exchange, Representation}
+use Rattle.hc_model.specs.Sound.{Sound}
+use Rattle.hc_model.specs.Tables.{after_accepted}
+use Rattle.hc_effects.proofs.Basics.{false_true, none_some}
+use Rattle.hc_effects.proofs.ExchangeFrom.{ExchangeFrom, IsHeaded, exchange_from}
+use Rattle.hc_effects.proofs.ExchangeFrom as exchange
+use Rattle.hc_effects.proofs.FirstKeeps.{case_is, is_new}
+use Rattle.hc_effects.proofs.HoleLemmas.{bool_cases}
+use Rattle.hc_effects.proofs.LossStands.{not_founding}
+use Rattle.hc_effects.proofs.RepFrom.{RepFrom, rep_from}
+use Rattle.hc_effects.proofs.RepFrom as rep
+
+module _ (limits : Limits) (t : Tables) (now : ℕ) (flaw : Flaw) (s : Sound t) (o : Owners t) (ev : Event) (goes : denial t ev ≡ None) where
+  abbrev e : Entry
+  e = entry_of limits t now ev flaw
+
+  abbrev now_on : Tables
+  now_on = after_accepted t e
+
+  -- what founds doesn't join
+  founds_alone : (r : ℕ) (response : Response) (w : Exchange) → ev ≡ event.Head r response → t.exchange r ≡ Some w → is_founding (case_at t e) ≡ true → is_joining (case_at t e) ≡ false
+  founds_alone r response w here row on = elim (bool_cases (is_joining (case_at t e))) [
+    | inr off ↦ off
+    | inl joins ↦
+        let g = head_case (head_view t (has_loss e.acts) w response) in
+        let is : case_at t e ≡ Some g = case_is t e r response w here row in
+        let off : is_founding (Some g) ≡ false = not_founding g (sym (ap is_joining is) ∙ joins) in
+        absurd (false_true (sym off ∙ (sym (ap is_founding is) ∙ on)))
+  ]
+
+  -- an exchange without a head joined nothing
+  bare_joined : (r : ℕ) (response : Response) (w : Exchange) → ev ≡ event.Head r response → t.exchange r ≡ Some w → w.joined ≡ None
+  bare_joined r response w here row = (s.waits.headless r w row (is_new limits t now flaw s ev goes r response w here row).bare).1
+
+  was_founder : (r : ℕ) (w u : Exchange) (v : Representation) → t.exchange r ≡ Some w → ((u.head ≡ w.head) × (u.joined ≡ w.joined)) ⊎ IsHeaded t e r w u → RepFrom t e r v → u.joined ≡ None
+  was_founder r w u v row (inl still) (rep.was q kept) = still.1 ∙ o.founders r w q row kept.row
+  was_founder r w u v row (inl still) (rep.founded response z none here also on made) = still.1 ∙ bare_joined r response w here row
+  was_founder r w u v row (inr got) (rep.was q kept) =
+      absurd (none_some q (sym (is_new limits t now flaw s ev goes r got.response w got.at row).unfounded ∙ kept.row))
+  was_founder r w u v row (inr got) (rep.founded response z none here also on made) =
+      let off = founds_alone r response w here row on in
+      got.joined_is ∙ (ap (λ (b : Bool). if b then w.aim else w.joined) off ∙ bare_joined r response w here row)
+
+  founder_from : (r : ℕ) (u : Exchange) (v : Representation) → ExchangeFrom t e r u → RepFrom t e r v → u.joined ≡ None
+  founder_from r u v (exchange.was w row same) from = was_founder r w u v row same.heard_or from
+  founder_from r u v (exchange.new p none opens here made) from = sym (ap (λ (z : Exchange). z.joined) made)
+
+  pub founders_kept : (r : ℕ) (u : Exchange) (v : Representation) → now_on.exchange r ≡ Some u → now_on.representation r ≡ Some v → u.joined ≡ None
+  founders_kept r u v row also = founder_from r u v (exchange_from t e r (t.exchange r) u refl row) (rep_from t e r (t.representation r) v refl also)

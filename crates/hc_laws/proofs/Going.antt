@@ -1,0 +1,93 @@
+-- Who has the turn doesn't wait for it, and who is bound waits for nobody.
+use Rattle.std.proofs.Common.{◌≡◌, inl, inr, ℕ, List, Bool, true, false, Option, Some, None, refl, ap, sym, ◌∙◌, arith}
+use Rattle.std.specs.Prelude.{nat_eq, unwrap_or}
+use Rattle.std.specs.Option.{option_or}
+use Rattle.hc_event.specs.declared.act.Wait.TheVariants as wait
+use Rattle.hc_rules.specs.Least.{least, lesser}
+use Rattle.hc_model.specs.Laws.{Turns, WaitsForNobody, TurnsGo, ReadersGo}
+use Rattle.hc_model.specs.Lines.{turn, turn_with, holder, line}
+use Rattle.hc_model.specs.Moves as moves
+use Rattle.hc_model.specs.Moves.{Move}
+use Rattle.hc_model.specs.Reading.{bound_to}
+use Rattle.hc_model.specs.Rows.{Tables, Consumer}
+use Rattle.hc_model.specs.Sound.{Sound, IsBound}
+use Rattle.hc_model.specs.Sound as sound
+use Rattle.hc_effects.proofs.PieceKeeps.{eq_cases, some_inj}
+use Rattle.hc_effects.proofs.TurnMoves.{Does, does_polled}
+use Rattle.hc_effects.proofs.TurnMoves as does
+
+-- what a move waits for beside an exchange: the turn, or a busy one
+abbrev waits_for : Move → Bool
+waits_for (moves.Waits (wait.Turn d)) = true
+waits_for (moves.Waits (wait.Busy d)) = true
+waits_for _ = false
+
+abbrev is_turn : Move → Bool
+is_turn (moves.Waits (wait.Turn d)) = true
+is_turn _ = false
+
+not_it : {A : Type 0} (test : Move → Bool) (m n : Move) → test n ≡ true → test m ≡ false → m ≡ n → A
+not_it test m n passes fails is = absurd (let no_one : true ≡ false = sym passes ∙ (ap test (sym is) ∙ fails) in cc)
+
+-- WHO HAS THE TURN
+
+with_it : (o least_one : Option ℕ) (c : ℕ) → option_or o least_one ≡ Some c → unwrap_or (option_or o (lesser least_one c)) c ≡ c
+with_it (Some h) least_one c is = some_inj h c is
+with_it None None c is = refl
+with_it None (Some n) c is = let same : n ≡ c = some_inj n c is in omega arith
+
+has_it : (t : Tables) (key : List ℕ) (c : ℕ) → turn t key ≡ Some c → turn_with t key c ≡ c
+unfolding turn
+has_it t key c is = with_it (holder t key) (least (line t key)) c is
+
+eq-refl : (r : ℕ) → nat_eq r r ≡ true
+eq-refl r = elim (eq_cases r r) [ inl same ↦ same.0 | inr other ↦ absurd (other.1 refl) ]
+
+turn_goes : (t : Tables) (c d : ℕ) (k : Consumer) (m : Move) → Does t c k m → turn_with t k.request.key c ≡ c → m ≡ moves.Waits (wait.Turn d) → ⊥
+turn_goes t c d k _ (does.waits_turn d' is_new other back) has is =
+    let no_one : false ≡ true = sym other ∙ (ap (λ n. nat_eq n c) has ∙ eq-refl c) in cc
+turn_goes t c d k _ does.nothing has is = not_it is_turn _ _ refl refl is
+turn_goes t c d k _ (does.passes d' r is_new queues may) has is = not_it is_turn _ _ refl refl is
+turn_goes t c d k _ (does.waits_head x) has is = not_it is_turn _ _ refl refl is
+turn_goes t c d k _ (does.waits_body x) has is = not_it is_turn _ _ refl refl is
+turn_goes t c d k _ (does.asks x) has is = not_it is_turn _ _ refl refl is
+turn_goes t c d k _ (does.past n request way is_new) has is = not_it is_turn _ _ refl refl is
+turn_goes t c d k _ (does.fetches n request way is_new queues turn_is varied bypass) has is = not_it is_turn _ _ refl refl is
+turn_goes t c d k _ (does.first n request r lo hi way is_new bound) has is = not_it is_turn _ _ refl refl is
+turn_goes t c d k _ (does.later n request r lo hi how way shown bound) has is = not_it is_turn _ _ refl refl is
+turn_goes t c d k _ (does.shows r why head lo hi joined) has is = not_it is_turn _ _ refl refl is
+turn_goes t c d k _ (does.given run) has is = not_it is_turn _ _ refl refl is
+turn_goes t c d k _ does.ends has is = not_it is_turn _ _ refl refl is
+turn_goes t c d k _ (does.fails cause) has is = not_it is_turn _ _ refl refl is
+
+pub turns_go : TurnsGo
+turns_go t s turns now c want d k row has is = turn_goes t c d k _ (does_polled t c k s turns row now want) (has_it t k.request.key c has) is
+
+-- WHO IS BOUND
+
+bound_goes : (t : Tables) (c r : ℕ) (k : Consumer) (m : Move) → Does t c k m → bound_to k.place ≡ Some r → waits_for m ≡ false
+bound_goes t c r k _ (does.waits_turn d is_new other back) bound = absurd (let no_one : None ≡ Some r = sym is_new.bound ∙ bound in cc)
+bound_goes t c r k _ (does.passes d q is_new queues may) bound = absurd (let no_one : None ≡ Some r = sym is_new.bound ∙ bound in cc)
+bound_goes t c r k _ does.nothing bound = refl
+bound_goes t c r k _ (does.waits_head x) bound = refl
+bound_goes t c r k _ (does.waits_body x) bound = refl
+bound_goes t c r k _ (does.asks x) bound = refl
+bound_goes t c r k _ (does.past n request way is_new) bound = refl
+bound_goes t c r k _ (does.fetches n request way is_new queues turn_is varied bypass) bound = refl
+bound_goes t c r k _ (does.first n request q lo hi way is_new here) bound = refl
+bound_goes t c r k _ (does.later n request q lo hi how way shown here) bound = refl
+bound_goes t c r k _ (does.shows q why head lo hi joined) bound = refl
+bound_goes t c r k _ (does.given run) bound = refl
+bound_goes t c r k _ does.ends bound = refl
+bound_goes t c r k _ (does.fails cause) bound = refl
+
+readers_by : (t : Tables) (s : Sound t) (turns : Turns t) (now c want r : ℕ) (k : Consumer) → t.consumer c ≡ Some k → bound_to k.place ≡ Some r → WaitsForNobody t now want c k
+readers_by t s turns now c want r k row bound =
+    let goes = bound_goes t c r k _ (does_polled t c k s turns row now want) bound in
+    record {
+      turn = λ d is. not_it waits_for _ (moves.Waits (wait.Turn d)) refl goes is;
+      busy = λ d is. not_it waits_for _ (moves.Waits (wait.Busy d)) refl goes is;
+    }
+
+pub readers_go : ReadersGo
+readers_go t s turns now c want r k (sound.is_bound lo hi how row at) = readers_by t s turns now c want r k row (ap bound_to at)

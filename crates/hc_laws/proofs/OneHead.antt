@@ -1,0 +1,86 @@
+-- Over a whole run, a consumer is shown one head at most, and given nothing before that.
+use Rattle.std.proofs.Common.{◌≡◌, ℕ, ◌≤◌, List, [], ◌∷◌, ◌++◌, length, Bool, true, false, Option, Some, None, refl, ap, sym, ◌∙◌, subst, arith, length-append}
+use Rattle.std.specs.Prelude.{not, is_none}
+use Rattle.std.specs.Option.{option_map_or}
+use Rattle.hc_event.specs.Filters.{is_denied, given_in}
+use Rattle.hc_rules.specs.declared.room.Limits.{Limits}
+use Rattle.hc_model.specs.Entries.{Entry, History, Contents}
+use Rattle.hc_model.specs.Flaws.{flaw_in}
+use Rattle.hc_model.specs.Histories.{Shown, first, shown_in, shown_of, given_of}
+use Rattle.hc_model.specs.Reads.{OneHeadIsShown}
+use Rattle.hc_model.specs.Rows.{Tables, Consumer}
+use Rattle.hc_model.specs.Runs.{IsRun, IsOwed}
+use Rattle.hc_model.specs.Tables.{tables}
+use Rattle.hc_effects.proofs.Owed.{acts_are, denied_gives, denied_shows}
+use Rattle.hc_effects.proofs.ReadFilters.{consumers_are_filtered, far_owed}
+use Rattle.hc_effects.proofs.ShownOnce.{IsShownWell, by_event, no_first, unshown_of}
+
+-- what holds of the list so far
+record IsWell (shown : List Shown) (given : List ℕ) : Type 0 where
+  one : length shown ≤ 1
+  before : shown ≡ [] → given ≡ []
+
+append_none : {A : Type 0} (xs ys : List A) → (xs ++ ys) ≡ [] → (xs ≡ []) × (ys ≡ [])
+append_none [] ys h = (refl, h)
+append_none (x ∷ xs) ys h = absurd (let never : (x ∷ (xs ++ ys)) ≡ [] = h in cc)
+
+both_none : {A : Type 0} (xs ys : List A) → xs ≡ [] → ys ≡ [] → (xs ++ ys) ≡ []
+both_none xs ys a b = rw (a, b) refl
+
+-- an entry that shows nothing more, and gives nothing where none was shown
+well_quiet : (shown more : List Shown) (given bytes : List ℕ) → IsWell shown given → more ≡ [] → (shown ≡ [] → bytes ≡ []) → IsWell (shown ++ more) (given ++ bytes)
+well_quiet shown more given bytes w none quiet =
+    let all = length-append shown more in
+    let few : length more ≡ 0 = ap length none in
+    let one : length shown ≤ 1 = w.one in
+    record {
+      one = omega arith;
+      before = λ h. let parts = append_none shown more h in both_none given bytes (w.before parts.0) (quiet parts.0);
+    }
+
+-- one where none was shown before, and that gives nothing
+well_first : (shown more : List Shown) (given bytes : List ℕ) → IsWell shown given → shown ≡ [] → length more ≤ 1 → bytes ≡ [] → IsWell (shown ++ more) (given ++ bytes)
+well_first shown more given bytes w none few quiet =
+    let all = length-append shown more in
+    let no : length shown ≡ 0 = ap length none in
+    record {
+      one = omega arith;
+      before = λ h. both_none given bytes (w.before none) quiet;
+    }
+
+module _ (limits : Limits) (contents : Contents) (h : History) (e : Entry) (c : ℕ) (run : IsRun limits contents h) (owed : IsOwed limits (tables contents h) e) where
+  abbrev t : Tables
+  t = tables contents h
+
+  filtered : (o : Option Consumer) → t.consumer c ≡ o → option_map_or (λ (k : Consumer). not k.shown) o true ≡ is_none (first (shown_of c h))
+  filtered o row = ap (λ (z : Option Consumer). option_map_or (λ (k : Consumer). not k.shown) z true) (sym row) ∙ (consumers_are_filtered limits contents h run).shown c
+
+  acts_well : is_denied e.acts ≡ false → IsShownWell t c e.acts
+  acts_well accepted = subst (IsShownWell t c) (sym (acts_are limits t e owed accepted)) (by_event limits t e.now c (flaw_in e.acts) e.event)
+
+  by_shown : (k : Consumer) (b : Bool) → t.consumer c ≡ Some k → k.shown ≡ b → is_denied e.acts ≡ false → IsWell (shown_of c h) (given_of c h) → IsWell (shown_of c h ++ shown_in c e.acts) (given_of c h ++ given_in c e.acts)
+  by_shown k true row shown accepted w =
+      well_quiet (shown_of c h) (shown_in c e.acts) (given_of c h) (given_in c e.acts) w ((acts_well accepted).again k row shown) (λ none.
+      let was : not k.shown ≡ is_none (first (shown_of c h)) = filtered (Some k) row in
+      let never : false ≡ true = sym (ap not shown) ∙ (was ∙ ap (λ (xs : List Shown). is_none (first xs)) none) in
+      absurd (let no : false ≡ true = never in cc))
+  by_shown k false row shown accepted w =
+      let none : shown_of c h ≡ [] = no_first (shown_of c h) (sym (filtered (Some k) row) ∙ ap not shown) in
+      well_first (shown_of c h) (shown_in c e.acts) (given_of c h) (given_in c e.acts) w none (acts_well accepted).one ((acts_well accepted).before k row shown)
+
+  by_row : (o : Option Consumer) → t.consumer c ≡ o → is_denied e.acts ≡ false → IsWell (shown_of c h) (given_of c h) → IsWell (shown_of c h ++ shown_in c e.acts) (given_of c h ++ given_in c e.acts)
+  by_row None row accepted w =
+      let far = far_owed limits t e c owed accepted row in
+      well_quiet (shown_of c h) (shown_in c e.acts) (given_of c h) (given_in c e.acts) w (unshown_of c e.acts far) (λ none. far.gives)
+  by_row (Some k) row accepted w = by_shown k k.shown row refl accepted w
+
+  by_denial : (b : Bool) → is_denied e.acts ≡ b → IsWell (shown_of c h) (given_of c h) → IsWell (shown_of c h ++ shown_in c e.acts) (given_of c h ++ given_in c e.acts)
+  by_denial true denied w = well_quiet (shown_of c h) (shown_in c e.acts) (given_of c h) (given_in c e.acts) w (denied_shows c e.acts denied) (λ none. denied_gives c e.acts denied)
+  by_denial false denied w = by_row (t.consumer c) refl denied w
+
+well : (limits : Limits) (contents : Contents) (h : History) (c : ℕ) → IsRun limits contents h → IsWell (shown_of c h) (given_of c h)
+well limits contents [] c run = record { one = omega arith; before = λ h. refl }
+well limits contents (e ∷ h) c run = by_denial limits contents h e c run.0 run.1 (is_denied e.acts) refl (well limits contents h c run.0)
+
+pub one_head_is_shown : OneHeadIsShown
+one_head_is_shown limits contents h run c = let w = well limits contents h c run in (w.one, w.before)

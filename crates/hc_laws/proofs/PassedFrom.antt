@@ -1,0 +1,231 @@
+-- Where it comes from that a consumer waits for a body, and keeps a 304: it did, its 304 came, or it was told to wait.
+use Rattle.std.proofs.Common.{◌≡◌, inl, inr, ℕ, Bool, true, false, cond, Option, Some, None, refl, ap, sym, ◌∙◌}
+use Rattle.std.specs.Prelude.{if◌then◌else◌, ◌==◌, ◌&&◌, not, is_none}
+use Rattle.hc_event.specs.Filters.{Opening, opening_in, leaves_in}
+use Rattle.hc_event.specs.declared.event.Event.{Event}
+use Rattle.hc_event.specs.declared.event.Event.TheVariants as event
+use Rattle.hc_event.specs.declared.event.Request.{Request}
+use Rattle.hc_event.specs.declared.event.Response.{Response}
+use Rattle.hc_event.specs.declared.act.Cause.{Cause}
+use Rattle.hc_event.specs.declared.act.Cause.TheVariants as cause
+use Rattle.hc_event.specs.declared.act.Wait.{Wait}
+use Rattle.hc_event.specs.declared.act.Wait.TheVariants as wait
+use Rattle.hc_rules.specs.declared.heads.HeadCase.{HeadCase}
+use Rattle.hc_rules.specs.declared.heads.HeadCase.TheVariants as case
+use Rattle.hc_rules.specs.declared.need.Route.{Route}
+use Rattle.hc_rules.specs.declared.need.Route.TheVariants as route
+use Rattle.hc_rules.specs.declared.request.Wanted.{Wanted}
+use Rattle.hc_rules.specs.declared.request.Wanted.TheVariants as wanted
+use Rattle.hc_rules.specs.declared.room.Limits.{Limits}
+use Rattle.hc_rules.specs.Needs.{route_of}
+use Rattle.hc_rules.specs.Requests.{range_of, wanted_of}
+use Rattle.hc_event.specs.declared.place.Place.{Place}
+use Rattle.hc_event.specs.declared.place.Place.TheVariants as place
+use Rattle.hc_event.specs.declared.place.BoundBy.{BoundBy}
+use Rattle.hc_event.specs.declared.place.BoundBy.TheVariants as by
+use Rattle.hc_model.specs.ActFilters.{Showing, showing_in, wait_in}
+use Rattle.hc_model.specs.Cases.{case_at}
+use Rattle.hc_model.specs.ConsumerRows.{bound_to_wanted, place_by_case, passed_on, passed_by, kept_by, consumer_heard, by_head, by_fault, waiting_place, waiting, place_for_hole, opened_place, unless_bound, by_opening, shown_place, consumer_acted, consumer_settled, consumer_made, consumer_after, due_after, back_in_line}
+use Rattle.hc_model.specs.Currents.{current, row_of}
+use Rattle.hc_model.specs.Denials.{denial}
+use Rattle.hc_model.specs.Entries.{Entry}
+use Rattle.hc_model.specs.ExchangeRows.{promise_in}
+use Rattle.hc_model.specs.Flaws.{Flaw}
+use Rattle.hc_model.specs.Heads.{founded_total}
+use Rattle.hc_model.specs.Keys.{entry_of}
+use Rattle.hc_model.specs.Owners.{Owners}
+use Rattle.hc_model.specs.Reading.{bound_to, reads}
+use Rattle.hc_model.specs.Rows.{Tables, Exchange, Representation, Consumer}
+use Rattle.hc_model.specs.Sound.{Sound}
+use Rattle.hc_model.specs.StartingOver.{starts_over}
+use Rattle.hc_model.specs.Tables.{after_accepted}
+use Rattle.hc_effects.proofs.HoleLemmas.{bool_cases}
+use Rattle.hc_effects.proofs.PieceKeeps.{eq_cases, some_inj}
+
+-- only what validates is conditional
+module _ (limits : Limits) (t : Tables) (now : ℕ) (flaw : Flaw) (s : Sound t) (o : Owners t) (ev : Event) (goes : denial t ev ≡ None) (c q : ℕ) (kept : Option ℕ) (k : Consumer) (row : t.consumer c ≡ Some k) where
+  abbrev e : Entry
+  e = entry_of limits t now ev flaw
+
+  abbrev now_on : Tables
+  now_on = after_accepted t e
+
+  abbrev at : Place
+  at = place.Passed q kept
+
+  abbrev h : Consumer
+  h = consumer_heard t e c ev k
+
+  pub data PassedFrom : Type 0 where
+    stood : k.place ≡ at → PassedFrom
+    validates : (x : ℕ) (response : Response) (w : Exchange) → ev ≡ event.Head x response → t.exchange x ≡ Some w → w.c ≡ c → case_at t e ≡ Some case.Validated → w.aim ≡ Some q → kept ≡ Some x → PassedFrom
+    busies : (d : ℕ) → wait_in c e.acts ≡ Some (wait.Busy d) → kept ≡ kept_by h.place → current t h.request.key ≡ Some q → PassedFrom
+
+  passed_inj : (r : ℕ) (o : Option ℕ) → place.Passed r o ≡ at → (r ≡ q) × (o ≡ kept)
+  passed_inj r o is = (cc, cc)
+
+  line_passed : place.Line ≡ at → ⊥
+  line_passed is = cc
+
+  direct_passed : (x : ℕ) → place.Direct x ≡ at → ⊥
+  direct_passed x is = cc
+
+  turn_passed : (x : ℕ) → place.Turn x ≡ at → ⊥
+  turn_passed x is = cc
+
+  down_passed : (why : Cause) → place.Down why ≡ at → ⊥
+  down_passed why is = cc
+
+  over_passed : place.Over ≡ at → ⊥
+  over_passed is = cc
+
+  bound_passed : (r lo : ℕ) (hi : Option ℕ) (how : BoundBy) → place.Bound r lo hi how ≡ at → ⊥
+  bound_passed r lo hi how is = cc
+
+  wanted_passed : (r : ℕ) (how : BoundBy) (other : Place) (w : Wanted) → bound_to_wanted r how other w ≡ at → other ≡ at
+  wanted_passed r how other wanted.TotalUnknown is = is
+  wanted_passed r how other wanted.Unsatisfiable is = is
+  wanted_passed r how other (wanted.Interval span) is = absurd (bound_passed r span.lo (Some span.hi) how is)
+
+  before : k.place ≡ at → PassedFrom
+  before is = stood is
+
+  -- THE HEAD OF ITS EXCHANGE
+
+  validated : (x : ℕ) (response : Response) (w : Exchange) (z : Option ℕ) → ev ≡ event.Head x response → t.exchange x ≡ Some w → w.c ≡ c → case_at t e ≡ Some case.Validated → w.aim ≡ z → passed_on x z ≡ at → PassedFrom
+  validated x response w None here there mine is aim p = absurd (line_passed p)
+  validated x response w (Some r) here there mine is aim p = let same = passed_inj r (Some x) p in validates x response w here there mine is (aim ∙ ap Some same.0) (sym same.1)
+
+  placed : (x : ℕ) (response : Response) (w : Exchange) (g : Option HeadCase) → ev ≡ event.Head x response → t.exchange x ≡ Some w → w.c ≡ c → case_at t e ≡ g → place_by_case x response w k g ≡ at → PassedFrom
+  placed x response w None here there mine is p = before p
+  placed x response w (Some case.DirectBad) here there mine is p = absurd (down_passed (cause.BadHead x) p)
+  placed x response w (Some case.DirectTaken) here there mine is p = before p
+  placed x response w (Some case.TurnBad) here there mine is p = absurd (down_passed (cause.BadHead x) p)
+  placed x response w (Some case.Validated) here there mine is p = validated x response w w.aim here there mine is refl p
+  placed x response w (Some case.NotValidated) here there mine is p = before p
+  placed x response w (Some case.TurnServerError) here there mine is p = absurd (direct_passed x p)
+  placed x response w (Some case.FoundsWhole) here there mine is p = absurd (bound_passed x 0 (promise_in w response) by.Founding p)
+  placed x response w (Some case.FoundsRange) here there mine is p = absurd (direct_passed x (wanted_passed x by.Founding (place.Direct x) (wanted_of (range_of k.request) (founded_total w response)) p))
+  placed x response w (Some case.PassesBy) here there mine is p = absurd (direct_passed x p)
+  placed x response w (Some case.FirstBad) here there mine is p = absurd (down_passed (cause.BadHead x) p)
+  placed x response w (Some case.FirstJoins) here there mine is p = before p
+  placed x response w (Some case.FirstServerError) here there mine is p = absurd (direct_passed x p)
+  placed x response w (Some case.FirstChanged) here there mine is p = before p
+  placed x response w (Some case.FirstReplaced) here there mine is p = absurd (bound_passed x 0 (promise_in w response) by.Founding p)
+  placed x response w (Some case.FirstPassesBy) here there mine is p = absurd (direct_passed x p)
+  placed x response w (Some case.LaterBad) here there mine is p = before p
+  placed x response w (Some case.LaterJoins) here there mine is p = before p
+  placed x response w (Some case.LaterChanged) here there mine is p = before p
+
+  headed : (x : ℕ) (response : Response) (z : Option Exchange) → ev ≡ event.Head x response → t.exchange x ≡ z → (by_head t e c x response z k).place ≡ at → PassedFrom
+  headed x response None here there is = before is
+  headed x response (Some w) here there is = elim (eq_cases w.c c) [
+    | inr other ↦ before (rw other.0 at is)
+    | inl mine ↦ placed x response w (case_at t e) here there mine.1 refl (rw mine.0 at is)
+  ]
+
+  faulted : (x : ℕ) (z : Option Exchange) → (by_fault c x z k).place ≡ at → PassedFrom
+  faulted x None is = before is
+  faulted x (Some w) is = elim (bool_cases (w.c == c && is_none w.head && not k.shown)) [
+    | inl here ↦ absurd (down_passed (cause.Net x) (rw here at is))
+    | inr other ↦ before (rw other at is)
+  ]
+
+  heard : (v : Event) → ev ≡ v → (consumer_heard t e c v k).place ≡ at → PassedFrom
+  heard (event.Start d request) here is = before is
+  heard (event.Poll d want) here is = before is
+  heard (event.Head x response) here is = headed x response (t.exchange x) here refl is
+  heard (event.Piece x bytes) here is = before is
+  heard (event.End x) here is = before is
+  heard (event.Fault x) here is = faulted x (t.exchange x) is
+  heard (event.Cancel d) here is = elim (bool_cases (d == c)) [
+    | inl mine ↦ absurd (over_passed (rw mine at is))
+    | inr other ↦ before (rw other at is)
+  ]
+  heard (event.Doom key) here is = before is
+
+  -- THE ACTS
+
+  busy : (d : ℕ) (z : Option ℕ) → wait_in c e.acts ≡ Some (wait.Busy d) → current t h.request.key ≡ z → passed_by (kept_by h.place) z ≡ at → PassedFrom
+  busy d None here is p = absurd (line_passed p)
+  busy d (Some r) here is p = let same = passed_inj r (kept_by h.place) p in busies d here (sym same.1) (is ∙ ap Some same.0)
+
+  waits : (z : Option Wait) → wait_in c e.acts ≡ z → waiting_place t h z ≡ at → PassedFrom
+  waits None here is = heard ev refl is
+  waits (Some (wait.Turn d)) here is = absurd (line_passed is)
+  waits (Some (wait.Busy d)) here is = busy d (current t h.request.key) here refl is
+  waits (Some (wait.Head x)) here is = heard ev refl is
+  waits (Some (wait.Body x)) here is = heard ev refl is
+
+  hole_passed : (x : ℕ) (request : Request) (r : Option ℕ) (v : Option Representation) → place_for_hole x request r v ≡ at → ⊥
+  hole_passed x request None v is = line_passed is
+  hole_passed x request (Some r) None is = line_passed is
+  hole_passed x request (Some r) (Some v) is = line_passed (wanted_passed r (by.FirstHole x) place.Line (wanted_of (range_of request) v.head.total) is)
+
+  opened_passed : (x : ℕ) (z : Consumer) (way : Route) → opened_place t x z way ≡ at → ⊥
+  opened_passed x z route.Direct is = direct_passed x is
+  opened_passed x z route.Turn is = turn_passed x is
+  opened_passed x z route.Hole is = hole_passed x z.request (current t z.request.key) (row_of t (current t z.request.key)) is
+
+  unless : (p : Opening) (z : Consumer) (r : Option ℕ) → unless_bound r z.place (opened_place t p.x z (route_of p.need)) ≡ at → z.place ≡ at
+  unless p z None is = absurd (opened_passed p.x z (route_of p.need) is)
+  unless p z (Some r) is = is
+
+  opened : (z : Consumer) (p : Option Opening) → (by_opening t c p z).place ≡ at → z.place ≡ at
+  opened z None is = is
+  opened z (Some p) is = elim (eq_cases p.c c) [
+    | inr other ↦ rw other.0 at is
+    | inl mine ↦ unless p z (bound_to z.place) (rw mine.0 at is)
+  ]
+
+  shown : (p : Place) (z : Option Showing) → shown_place c z p ≡ at → p ≡ at
+  shown p None is = is
+  shown p (Some z) is = elim (bool_cases ((z.c == c) && not (reads p))) [
+    | inl here ↦ absurd (bound_passed z.r z.lo z.hi by.Plan (rw here at is))
+    | inr other ↦ rw other at is
+  ]
+
+  stays : (p : Place) (leaves : Bool) → (if leaves then place.Over else p) ≡ at → p ≡ at
+  stays p true is = absurd (over_passed is)
+  stays p false is = is
+
+  settled : (z u : Consumer) (over : Bool) → (cond over (back_in_line e.now z) (due_after t e c k z)) ≡ u → u.place ≡ at → z.place ≡ at
+  settled z u true is stands = absurd (line_passed (ap (λ (w : Consumer). w.place) is ∙ stands))
+  settled z u false is stands = ap (λ (w : Consumer). w.place) is ∙ stands
+
+  pub passed_before : (u : Consumer) → consumer_settled t e c k (consumer_acted t e c h) ≡ u → u.place ≡ at → PassedFrom
+  passed_before u is stands =
+      let acted = settled (consumer_acted t e c h) u (starts_over t e c k) is stands in
+      let unshown = stays (shown_place c (showing_in e.acts) (by_opening t c (opening_in e.acts) (waiting t e c h)).place) (leaves_in c e.acts) acted in
+      let unopened = shown (by_opening t c (opening_in e.acts) (waiting t e c h)).place (showing_in e.acts) unshown in
+      waits (wait_in c e.acts) refl (opened (waiting t e c h) (opening_in e.acts) unopened)
+
+module _ (limits : Limits) (t : Tables) (now : ℕ) (flaw : Flaw) (s : Sound t) (o : Owners t) (ev : Event) (goes : denial t ev ≡ None) where
+  abbrev made_e : Entry
+  made_e = entry_of limits t now ev flaw
+
+  started : (c q : ℕ) (kept : Option ℕ) (v : Event) (u : Consumer) → consumer_made c made_e.now v ≡ Some u → u.place ≡ place.Passed q kept → ⊥
+  started c q kept (event.Start d request) u is stands = elim (eq_cases d c) [
+    | inl here ↦ let no : place.Line ≡ place.Passed q kept = ap (λ (z : Consumer). z.place) (some_inj _ u (rw here.0 at is)) ∙ stands in cc
+    | inr other ↦ let no : None ≡ Some u = rw other.0 at is in cc
+  ]
+  started c q kept (event.Poll d want) u is stands = let no : None ≡ Some u = is in cc
+  started c q kept (event.Head x response) u is stands = let no : None ≡ Some u = is in cc
+  started c q kept (event.Piece x bytes) u is stands = let no : None ≡ Some u = is in cc
+  started c q kept (event.End x) u is stands = let no : None ≡ Some u = is in cc
+  started c q kept (event.Fault x) u is stands = let no : None ≡ Some u = is in cc
+  started c q kept (event.Cancel d) u is stands = let no : None ≡ Some u = is in cc
+  started c q kept (event.Doom key) u is stands = let no : None ≡ Some u = is in cc
+
+  pub record IsPassedRow (c q : ℕ) (kept : Option ℕ) : Type 0 where
+    pub k : Consumer
+    pub row : t.consumer c ≡ Some k
+    pub from : PassedFrom limits t now flaw s o ev goes c q kept k row
+
+  by_row : (c q : ℕ) (kept : Option ℕ) (z : Option Consumer) (u : Consumer) → t.consumer c ≡ z → consumer_after t made_e c z ≡ Some u → u.place ≡ place.Passed q kept → IsPassedRow c q kept
+  unfolding consumer_after
+  by_row c q kept None u row is stands = absurd (started c q kept ev u is stands)
+  by_row c q kept (Some k) u row is stands = record { k = k; row = row; from = passed_before limits t now flaw s o ev goes c q kept k row u (some_inj _ u is) stands }
+
+  pub passed_from : (c q : ℕ) (kept : Option ℕ) (u : Consumer) → (after_accepted t made_e).consumer c ≡ Some u → u.place ≡ place.Passed q kept → IsPassedRow c q kept
+  passed_from c q kept u row stands = by_row c q kept (t.consumer c) u refl row stands

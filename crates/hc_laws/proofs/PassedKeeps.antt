@@ -1,0 +1,80 @@
+-- Whoever waits for a body asks for what is stored: its request isn't a bypassing one.
+use Rattle.std.proofs.Common.{◌≡◌, ℕ, Bool, true, false, Option, Some, None, refl, ap, sym, ◌∙◌}
+use Rattle.hc_event.specs.declared.event.Event.{Event}
+use Rattle.hc_event.specs.declared.event.Event.TheVariants as event
+use Rattle.hc_event.specs.declared.event.Request.{Request}
+use Rattle.hc_event.specs.declared.event.Response.{Response}
+use Rattle.hc_event.specs.declared.act.Need.{Need}
+use Rattle.hc_event.specs.declared.act.Need.TheVariants as need
+use Rattle.hc_event.specs.declared.act.Wait.TheVariants as wait
+use Rattle.hc_rules.specs.declared.heads.HeadCase.TheVariants as case
+use Rattle.hc_rules.specs.declared.room.Limits.{Limits}
+use Rattle.hc_rules.specs.HeadCases.{is_conditional}
+use Rattle.hc_rules.specs.Requests.{is_bypassing}
+use Rattle.hc_event.specs.declared.place.Place.TheVariants as place
+use Rattle.hc_model.specs.ActFilters.{wait_in, has_loss}
+use Rattle.hc_model.specs.Cases.{case_at, head_view}
+use Rattle.hc_model.specs.Denials.{denial}
+use Rattle.hc_model.specs.Entries.{Entry}
+use Rattle.hc_model.specs.Flaws.{Flaw}
+use Rattle.hc_model.specs.Keys.{entry_of}
+use Rattle.hc_model.specs.Owners.{Owners}
+use Rattle.hc_model.specs.Rows.{Tables, Exchange, Consumer}
+use Rattle.hc_model.specs.Sound.{Sound}
+use Rattle.hc_model.specs.Tables.{after_accepted}
+use Rattle.hc_effects.proofs.Basics.{false_true}
+use Rattle.hc_effects.proofs.FirstKeeps.{case_of_head}
+use Rattle.hc_effects.proofs.FoundBy.{CaseBy}
+use Rattle.hc_effects.proofs.FoundBy as cases
+use Rattle.hc_effects.proofs.Forward.{is_kept}
+use Rattle.hc_laws.proofs.PassedFrom.{PassedFrom, passed_from}
+use Rattle.hc_laws.proofs.PassedFrom as passed
+use Rattle.hc_effects.proofs.ExclusiveWriters.{same_row}
+use Rattle.hc_effects.proofs.Said.{waiting_by}
+use Rattle.hc_effects.proofs.WaitedAs.{waited_as}
+use Rattle.hc_effects.proofs.WaitedAs as waited
+
+-- only what validates is conditional
+conditional_need : (n : Need) (request : Request) → is_conditional n request ≡ true → n ≡ need.Validate
+conditional_need need.Disabled request h = absurd (false_true h)
+conditional_need need.TimedOut request h = absurd (false_true h)
+conditional_need need.Bypass request h = absurd (false_true h)
+conditional_need need.Miss request h = absurd (false_true h)
+conditional_need need.Vary request h = absurd (false_true h)
+conditional_need need.Validate request h = refl
+conditional_need (need.Hole from to) request h = absurd (false_true h)
+conditional_need need.Unsatisfied request h = absurd (false_true h)
+
+validated_need : (t : Tables) (lost : Bool) (w : Exchange) (response : Response) → CaseBy (head_view t lost w response) case.Validated → w.need ≡ need.Validate
+validated_need t lost w response (cases.validated way status conditional kept) = conditional_need w.need w.request conditional
+
+module _ (limits : Limits) (t : Tables) (now : ℕ) (flaw : Flaw) (s : Sound t) (o : Owners t) (ev : Event) (goes : denial t ev ≡ None) where
+  abbrev e : Entry
+  e = entry_of limits t now ev flaw
+
+  -- those of one consumer are of one request
+  plain_as : (c : ℕ) (u k : Consumer) → t.consumer c ≡ Some u → t.consumer c ≡ Some k → is_bypassing u.request ≡ false → is_bypassing k.request ≡ false
+  plain_as c u k at row plain = sym (ap (λ (z : Consumer). is_bypassing z.request) (same_row (t.consumer c) u k at row)) ∙ plain
+
+  validated : (c x : ℕ) (response : Response) (w : Exchange) (k : Consumer) → t.consumer c ≡ Some k → ev ≡ event.Head x response → t.exchange x ≡ Some w → w.c ≡ c → case_at t e ≡ Some case.Validated → is_bypassing k.request ≡ false
+  validated c x response w k row here there mine is =
+      let asks : w.need ≡ need.Validate = validated_need t (has_loss e.acts) w response (case_of_head t e x response w case.Validated here there is) in
+      let opener = o.opener x w there in
+      plain_as c opener.k k (sym (ap t.consumer mine) ∙ opener.row) row (opener.plain asks)
+
+  busy : (c d : ℕ) (k : Consumer) → t.consumer c ≡ Some k → wait_in c e.acts ≡ Some (wait.Busy d) → is_bypassing k.request ≡ false
+  busy c d k row is =
+      let by_poll = waiting_by limits t now flaw s ev goes c (wait.Busy d) is in
+      plain_as c by_poll.k k by_poll.poll.row row ((waited_as t now c by_poll.k (wait.Busy d) (waited.busy d) by_poll.want s by_poll.poll.row by_poll.move).plain d refl)
+
+  plain_before : (c q : ℕ) (kept : Option ℕ) (k : Consumer) (row : t.consumer c ≡ Some k) → PassedFrom limits t now flaw s o ev goes c q kept k row → is_bypassing k.request ≡ false
+  plain_before c q kept k row (passed.stood is) = o.passed c q kept k row is
+  plain_before c q kept k row (passed.validates x response w here there mine is aim held) = validated c x response w k row here there mine is
+  plain_before c q kept k row (passed.busies d is held stands) = busy c d k row is
+
+  pub passed_kept : (c q : ℕ) (kept : Option ℕ) (u : Consumer) → (after_accepted t e).consumer c ≡ Some u → u.place ≡ place.Passed q kept → is_bypassing u.request ≡ false
+  passed_kept c q kept u row stands =
+      let before = passed_from limits t now flaw s o ev goes c q kept u row stands in
+      let on = is_kept t e c before.k before.row in
+      let same : on.u ≡ u = same_row ((after_accepted t e).consumer c) on.u u on.row row in
+      ap is_bypassing (ap (λ (z : Consumer). z.request) (sym same) ∙ on.request_is) ∙ plain_before c q kept before.k before.row before.from

@@ -1,0 +1,267 @@
+-- What a representation has is a filter of the list of entries.
+use Rattle.std.proofs.Common.{◌≡◌, inl, inr, ℕ, List, [], ◌∷◌, ◌++◌, length, Bool, true, false, cond, Option, Some, None, refl, ap, sym, ◌∙◌, subst}
+use Rattle.std.specs.Prelude.{if◌then◌else◌, ◌==◌, ◌||◌, ◌&&◌, not, is_some, option_map, find}
+use Rattle.std.proofs.lemmas.List.{append-nil}
+use Rattle.hc_event.specs.Filters.{is_denied}
+use Rattle.hc_event.specs.declared.event.Event.{Event}
+use Rattle.hc_event.specs.declared.event.Event.TheVariants as event
+use Rattle.hc_event.specs.declared.event.Response.{Response}
+use Rattle.hc_sparse.specs.Cells.{Cells, nothing, cells_with, inside}
+use Rattle.hc_sparse.specs.declared.run.Run.{Run}
+use Rattle.hc_model.specs.ActFilters.{loses_in}
+use Rattle.hc_model.specs.Entries.{Entry, History, Content, Contents}
+use Rattle.hc_model.specs.Exchanges.{family}
+use Rattle.hc_model.specs.Rows.{Tables, Exchange, Representation}
+use Rattle.hc_model.specs.RepresentationRows.{representation_after, representation_heard, representation_acted, founded_at, new_representation, representation_after_head, with_renewed_head, updates, representation_after_piece, with_total_if_none, length_in}
+use Rattle.hc_model.specs.Tables.{tables, after, first_tables, representation_of_content}
+use Rattle.hc_model.specs.Histories.{if_accepted, piece_by, piece_in, pieces_of, was_lost, stored_of, over, begun_with, cells_in, IsFilteredRow, RunsAreFiltered}
+use Rattle.hc_effects.proofs.HoleLemmas.{bool_cases}
+use Rattle.hc_effects.proofs.Owed.{denied_loses}
+use Rattle.hc_effects.proofs.PieceKeeps.{some_inj}
+use Rattle.hc_effects.proofs.ReadFilters.{consumers_are_filtered}
+use Rattle.hc_laws.proofs.JoinFilters.{exchanges_are_filtered}
+
+-- WHAT AN EVENT ADDS TO A ROW
+
+over_append : (xs ys : List Run) (f : Cells) → over (xs ++ ys) f ≡ over ys (over xs f)
+over_append [] ys f = refl
+over_append (run ∷ xs) ys f = over_append xs ys (cells_with run.at run.x run.bytes f)
+
+-- the same over what has the same at each position
+written_at : (at x q : ℕ) (bytes : List ℕ) (f g : Cells) → f q ≡ g q → cells_with at x bytes f q ≡ cells_with at x bytes g q
+written_at at x q bytes f g same = elim (bool_cases (inside at (length bytes) q)) [
+  | inl here ↦ rw here refl
+  | inr off ↦ rw off same
+]
+
+over_at : (runs : List Run) (f g : Cells) (p : ℕ) → ((q : ℕ) → f q ≡ g q) → over runs f p ≡ over runs g p
+over_at [] f g p same = same p
+over_at (run ∷ runs) f g p same =
+    over_at runs (cells_with run.at run.x run.bytes f) (cells_with run.at run.x run.bytes g) p (λ q. written_at run.at run.x q run.bytes f g (same q))
+
+-- what one event does to a row: it adds these pieces, and stores them where they are kept
+record IsHeard (kept : Bool) (runs : List Run) (v u : Representation) : Type 0 where
+  body_is : u.body ≡ over runs v.body
+  stored_is : u.stored ≡ (if kept then over runs v.stored else v.stored)
+  lost_is : u.is_lost ≡ v.is_lost
+
+none_kept : (kept : Bool) (f : Cells) → f ≡ (if kept then over [] f else f)
+none_kept true f = refl
+none_kept false f = refl
+
+still : (kept : Bool) (v u : Representation) → u.body ≡ v.body → u.stored ≡ v.stored → u.is_lost ≡ v.is_lost → IsHeard kept [] v u
+still kept v u body stored lost = record { body_is = body; stored_is = stored ∙ none_kept kept v.stored; lost_is = lost }
+
+still_if : (b kept : Bool) (v u : Representation) → IsHeard kept [] v u → IsHeard kept [] v (cond b u v)
+still_if true kept v u is = is
+still_if false kept v u is = still kept v v refl refl refl
+
+headed_row : (t : Tables) (e : Entry) (r x : ℕ) (response : Response) (kept : Bool) (o : Option Exchange) (v : Representation) → IsHeard kept [] v (representation_after_head t e r x response o v)
+headed_row t e r x response kept None v = still kept v v refl refl refl
+headed_row t e r x response kept (Some w) v = still_if (updates t e r w v) kept v (with_renewed_head t e x response w v) (still kept v (with_renewed_head t e x response w v) refl refl refl)
+
+pieced_row : (e : Entry) (r x : ℕ) (bytes : List ℕ) (o : Option Exchange) (v : Representation) → IsHeard (not (v.is_lost || loses_in r e.acts)) (piece_by r x bytes o (Some v)) v (representation_after_piece e r x bytes o v)
+pieced_row e r x bytes None v = still _ v v refl refl refl
+pieced_row e r x bytes (Some w) v = elim (bool_cases (family x w == r)) [
+  | inl here ↦ rw here (record { body_is = refl; stored_is = refl; lost_is = refl })
+  | inr other ↦ rw other (still _ v v refl refl refl)
+]
+
+heard_row : (t : Tables) (e : Entry) (r : ℕ) (v : Representation) (ev : Event) → t.representation r ≡ Some v → IsHeard (not (v.is_lost || loses_in r e.acts)) (piece_in t r ev) v (representation_heard t e r ev v)
+heard_row t e r v (event.Start c request) row = still _ v v refl refl refl
+heard_row t e r v (event.Poll c want) row = still _ v v refl refl refl
+heard_row t e r v (event.Head x response) row = headed_row t e r x response _ (t.exchange x) v
+heard_row t e r v (event.Piece x bytes) row = rw row (pieced_row e r x bytes (t.exchange x) v)
+heard_row t e r v (event.End x) row = still_if (x == r) _ v (with_total_if_none (length_in (t.exchange x)) v) (still _ v (with_total_if_none (length_in (t.exchange x)) v) refl refl refl)
+heard_row t e r v (event.Fault x) row = still _ v v refl refl refl
+heard_row t e r v (event.Cancel c) row = still _ v v refl refl refl
+heard_row t e r v (event.Doom key) row = still _ v v refl refl refl
+
+-- WHAT A ROW HAS
+
+-- of what isn't founded nothing has come
+record IsUnfounded (contents : Contents) (r : ℕ) (h : History) : Type 0 where
+  pieces : pieces_of contents r h ≡ []
+  stored : stored_of contents r h ≡ []
+  begun_is : begun_with contents r ≡ nothing
+  lost : was_lost contents r h ≡ false
+
+abbrev IsRow : (contents : Contents) (r : ℕ) (h : History) → Option Representation → Type 0
+IsRow contents r h None = IsUnfounded contents r h
+IsRow contents r h (Some v) = IsFilteredRow contents r h v
+
+module _ (contents : Contents) (r : ℕ) (h : History) (e : Entry) where
+  abbrev t : Tables
+  t = tables contents h
+
+  none_lost : (b l : Bool) → ((b && false) || l) ≡ l
+  none_lost true l = refl
+  none_lost false l = refl
+
+  either_same : (b : Bool) (xs : List Run) → (if b then xs else xs) ≡ xs
+  either_same true xs = refl
+  either_same false xs = refl
+
+  pieces_denied : is_denied e.acts ≡ true → pieces_of contents r (e ∷ h) ≡ pieces_of contents r h
+  pieces_denied denied = rw denied (append-nil (pieces_of contents r h))
+
+  pieces_accepted : is_denied e.acts ≡ false → pieces_of contents r (e ∷ h) ≡ pieces_of contents r h ++ piece_in t r e.event
+  pieces_accepted accepted = rw accepted refl
+
+  stored_denied : is_denied e.acts ≡ true → stored_of contents r (e ∷ h) ≡ stored_of contents r h
+  stored_denied denied = rw denied (ap (λ (runs : List Run). stored_of contents r h ++ runs) (either_same (was_lost contents r (e ∷ h)) []) ∙ append-nil (stored_of contents r h))
+
+  stored_lost : was_lost contents r (e ∷ h) ≡ true → stored_of contents r (e ∷ h) ≡ stored_of contents r h
+  stored_lost lost = rw lost (append-nil (stored_of contents r h))
+
+  stored_kept : was_lost contents r (e ∷ h) ≡ false → is_denied e.acts ≡ false → stored_of contents r (e ∷ h) ≡ stored_of contents r h ++ piece_in t r e.event
+  stored_kept kept accepted = rw (kept, accepted) refl
+
+  over_same : (xs ys : List Run) (p : ℕ) → xs ≡ ys → over xs (begun_with contents r) p ≡ over ys (begun_with contents r) p
+  over_same xs ys p same = ap (λ (runs : List Run). over runs (begun_with contents r) p) same
+
+  -- an entry that is denied adds nothing
+  denied_filtered : (v : Representation) → is_denied e.acts ≡ true → IsFilteredRow contents r h v → IsFilteredRow contents r (e ∷ h) v
+  denied_filtered v denied row =
+      let quiet = denied_loses r e.acts denied in
+      let same : was_lost contents r (e ∷ h) ≡ was_lost contents r h = rw quiet (none_lost (is_some (t.representation r)) (was_lost contents r h)) in
+      record {
+        body = λ p. row.body p ∙ sym (over_same (pieces_of contents r (e ∷ h)) (pieces_of contents r h) p (pieces_denied denied));
+        stored = λ p. row.stored p ∙ sym (over_same (stored_of contents r (e ∷ h)) (stored_of contents r h) p (stored_denied denied));
+        lost = row.lost ∙ sym same;
+      }
+
+  -- what is stored after an accepted one, where something is lost at it or before
+  stored_by : (v : Representation) (a b : Bool) → is_denied e.acts ≡ false → IsFilteredRow contents r h v → was_lost contents r (e ∷ h) ≡ (a || b) → (p : ℕ) → (if not (b || a) then over (piece_in t r e.event) v.stored else v.stored) p ≡ over (stored_of contents r (e ∷ h)) (begun_with contents r) p
+  stored_by v true true accepted row is p = row.stored p ∙ sym (over_same (stored_of contents r (e ∷ h)) (stored_of contents r h) p (stored_lost is))
+  stored_by v true false accepted row is p = row.stored p ∙ sym (over_same (stored_of contents r (e ∷ h)) (stored_of contents r h) p (stored_lost is))
+  stored_by v false true accepted row is p = row.stored p ∙ sym (over_same (stored_of contents r (e ∷ h)) (stored_of contents r h) p (stored_lost is))
+  stored_by v false false accepted row is p =
+      let added : over (piece_in t r e.event) v.stored p ≡ over (piece_in t r e.event) (over (stored_of contents r h) (begun_with contents r)) p = over_at (piece_in t r e.event) v.stored (over (stored_of contents r h) (begun_with contents r)) p row.stored in
+      let joined : over (stored_of contents r h ++ piece_in t r e.event) (begun_with contents r) p ≡ over (piece_in t r e.event) (over (stored_of contents r h) (begun_with contents r)) p = ap (λ (f : Cells). f p) (over_append (stored_of contents r h) (piece_in t r e.event) (begun_with contents r)) in
+      added ∙ (sym joined ∙ sym (over_same (stored_of contents r (e ∷ h)) (stored_of contents r h ++ piece_in t r e.event) p (stored_kept is accepted)))
+
+  -- an accepted one adds its piece, which is stored where nothing of it was lost
+  accepted_filtered : (v u : Representation) → is_denied e.acts ≡ false → t.representation r ≡ Some v → IsFilteredRow contents r h v → IsHeard (not (v.is_lost || loses_in r e.acts)) (piece_in t r e.event) v u → IsFilteredRow contents r (e ∷ h) (representation_acted t e r v u)
+  accepted_filtered v u accepted at row heard =
+      let runs = piece_in t r e.event in
+      let lost_now : was_lost contents r (e ∷ h) ≡ (loses_in r e.acts || v.is_lost) = rw (at, sym row.lost) refl in
+      record {
+        body = λ p.
+            let here : u.body p ≡ over (piece_in t r e.event) v.body p = ap (λ (f : Cells). f p) heard.body_is in
+            let added : over (piece_in t r e.event) v.body p ≡ over (piece_in t r e.event) (over (pieces_of contents r h) (begun_with contents r)) p = over_at (piece_in t r e.event) v.body (over (pieces_of contents r h) (begun_with contents r)) p row.body in
+            let joined : over (pieces_of contents r h ++ piece_in t r e.event) (begun_with contents r) p ≡ over (piece_in t r e.event) (over (pieces_of contents r h) (begun_with contents r)) p = ap (λ (f : Cells). f p) (over_append (pieces_of contents r h) (piece_in t r e.event) (begun_with contents r)) in
+            here ∙ (added ∙ (sym joined ∙ sym (over_same (pieces_of contents r (e ∷ h)) (pieces_of contents r h ++ piece_in t r e.event) p (pieces_accepted accepted))));
+        stored = λ p. ap (λ (f : Cells). f p) heard.stored_is ∙ stored_by v (loses_in r e.acts) v.is_lost accepted row lost_now p;
+        lost = ap (λ b. loses_in r e.acts || b) heard.lost_is ∙ sym lost_now;
+      }
+
+  -- WHAT ISN'T FOUNDED
+
+  no_piece : t.representation r ≡ None → piece_in t r e.event ≡ []
+  no_piece none = by_event e.event
+    where
+      no_row : (x : ℕ) (bytes : List ℕ) (o : Option Exchange) → piece_by r x bytes o None ≡ []
+      no_row x bytes None = refl
+      no_row x bytes (Some w) = refl
+
+      by_event : (ev : Event) → piece_in t r ev ≡ []
+      by_event (event.Start c request) = refl
+      by_event (event.Poll c want) = refl
+      by_event (event.Head x response) = refl
+      by_event (event.Piece x bytes) = rw none (no_row x bytes (t.exchange x))
+      by_event (event.End x) = refl
+      by_event (event.Fault x) = refl
+      by_event (event.Cancel c) = refl
+      by_event (event.Doom key) = refl
+
+  if_same : (b : Bool) (xs : List Run) → xs ≡ [] → (if b then [] else xs) ≡ []
+  if_same true xs none = refl
+  if_same false xs none = none
+
+  accepted_none : t.representation r ≡ None → if_accepted e (piece_in t r e.event) ≡ []
+  accepted_none none = if_same (is_denied e.acts) (piece_in t r e.event) (no_piece none)
+
+  unfounded_still : t.representation r ≡ None → IsUnfounded contents r h → IsUnfounded contents r (e ∷ h)
+  unfounded_still none row = record {
+    pieces = rw (row.pieces, accepted_none none) refl;
+    stored = rw (row.stored, accepted_none none) (either_same (was_lost contents r (e ∷ h)) []);
+    begun_is = row.begun_is;
+    lost = rw none row.lost;
+  }
+
+  founded_filtered : (v : Representation) → t.representation r ≡ None → IsUnfounded contents r h → v.body ≡ nothing → v.stored ≡ nothing → v.is_lost ≡ false → IsFilteredRow contents r (e ∷ h) v
+  founded_filtered v none row body stored lost =
+      let u = unfounded_still none row in
+      record {
+        body = λ p. ap (λ (f : Cells). f p) body ∙ sym (over_same (pieces_of contents r (e ∷ h)) [] p u.pieces ∙ ap (λ (f : Cells). f p) u.begun_is);
+        stored = λ p. ap (λ (f : Cells). f p) stored ∙ sym (over_same (stored_of contents r (e ∷ h)) [] p u.stored ∙ ap (λ (f : Cells). f p) u.begun_is);
+        lost = lost ∙ sym u.lost;
+      }
+
+-- what is founded is empty
+abbrev IsEmpty : Option Representation → Type 0
+IsEmpty None = Unit {0}
+IsEmpty (Some v) = (v.body ≡ nothing) × (v.stored ≡ nothing) × (v.is_lost ≡ false)
+
+founded_empty : (t : Tables) (e : Entry) (r : ℕ) (ev : Event) → IsEmpty (founded_at t e r ev)
+founded_empty t e r (event.Start c request) = tt
+founded_empty t e r (event.Poll c want) = tt
+founded_empty t e r (event.Head x response) = by_test _ (t.exchange x)
+  where
+    by_test : (b : Bool) (o : Option Exchange) → IsEmpty (if b then option_map (new_representation r e response) o else None)
+    by_test false o = tt
+    by_test true None = tt
+    by_test true (Some w) = (refl, refl, refl)
+founded_empty t e r (event.Piece x bytes) = tt
+founded_empty t e r (event.End x) = tt
+founded_empty t e r (event.Fault x) = tt
+founded_empty t e r (event.Cancel c) = tt
+founded_empty t e r (event.Doom key) = tt
+
+-- AFTER AN ENTRY
+
+founded_row : (contents : Contents) (r : ℕ) (h : History) (e : Entry) (o : Option Representation) → (tables contents h).representation r ≡ None → IsUnfounded contents r h → IsEmpty o → IsRow contents r (e ∷ h) o
+founded_row contents r h e None none row empty = unfounded_still contents r h e none row
+founded_row contents r h e (Some v) none row empty = founded_filtered contents r h e v none row empty.0 empty.1 empty.2
+
+row_denied : (contents : Contents) (r : ℕ) (h : History) (e : Entry) (o : Option Representation) → (tables contents h).representation r ≡ o → is_denied e.acts ≡ true → IsRow contents r h o → IsRow contents r (e ∷ h) o
+row_denied contents r h e None at denied row = unfounded_still contents r h e at row
+row_denied contents r h e (Some v) at denied row = denied_filtered contents r h e v denied row
+
+row_accepted : (contents : Contents) (r : ℕ) (h : History) (e : Entry) (o : Option Representation) → (tables contents h).representation r ≡ o → is_denied e.acts ≡ false → IsRow contents r h o → IsRow contents r (e ∷ h) (representation_after (tables contents h) e r o)
+unfolding representation_after
+row_accepted contents r h e None at accepted row = founded_row contents r h e (founded_at (tables contents h) e r e.event) at row (founded_empty (tables contents h) e r e.event)
+row_accepted contents r h e (Some v) at accepted row =
+    accepted_filtered contents r h e v (representation_heard (tables contents h) e r e.event v) accepted at row (heard_row (tables contents h) e r v e.event at)
+
+row_after : (contents : Contents) (r : ℕ) (h : History) (e : Entry) (b : Bool) → is_denied e.acts ≡ b → IsRow contents r h ((tables contents h).representation r) → IsRow contents r (e ∷ h) ((after (tables contents h) e).representation r)
+unfolding after
+row_after contents r h e true denied row = rw denied (row_denied contents r h e ((tables contents h).representation r) refl denied row)
+row_after contents r h e false denied row = rw denied (row_accepted contents r h e ((tables contents h).representation r) refl denied row)
+
+-- AT THE BEGINNING
+
+begun_row : (contents : Contents) (r : ℕ) (o : Option Content) → (first_tables contents).representation r ≡ option_map representation_of_content o → IsRow contents r [] (option_map representation_of_content o)
+begun_row contents r None is = record { pieces = refl; stored = refl; begun_is = ap cells_in is; lost = refl }
+begun_row contents r (Some item) is = record {
+  body = λ p. sym (ap (λ (z : Option Representation). cells_in z p) is);
+  stored = λ p. sym (ap (λ (z : Option Representation). cells_in z p) is);
+  lost = refl;
+}
+
+rows_are : (contents : Contents) (h : History) (r : ℕ) → IsRow contents r h ((tables contents h).representation r)
+unfolding tables
+rows_are contents [] r = begun_row contents r (find (λ (item : Content). item.r == r) contents.items) refl
+rows_are contents (e ∷ h) r = row_after contents r h e (is_denied e.acts) refl (rows_are contents h r)
+
+row_is : (contents : Contents) (r : ℕ) (h : History) (o : Option Representation) (v : Representation) → IsRow contents r h o → o ≡ Some v → IsFilteredRow contents r h v
+row_is contents r h None v row is = absurd (let never : None ≡ Some v = is in cc)
+row_is contents r h (Some u) v row is = subst (IsFilteredRow contents r h) (some_inj u v is) row
+
+pub runs_are_filtered : RunsAreFiltered
+runs_are_filtered limits contents h run = record {
+  exchanges = exchanges_are_filtered limits contents h run;
+  consumers = consumers_are_filtered limits contents h run;
+  representations = λ r v is. row_is contents r h ((tables contents h).representation r) v (rows_are contents h r) is;
+}

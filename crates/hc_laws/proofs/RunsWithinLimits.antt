@@ -1,0 +1,90 @@
+-- What each start brings, each request that is kept has: few and short fields, and a target as its key.
+use Rattle.std.proofs.Common.{◌≡◌, ℕ, List, [], ◌∷◌, ◌++◌, Bool, true, false, Some, ap, sym, ◌∙◌, subst, arith}
+use Rattle.std.specs.Prelude.{option_map, ◌==◌, if◌then◌else◌}
+use Rattle.std.proofs.lemmas.Bool.Decides.{nat_tests}
+use Rattle.hc_event.specs.Filters.{is_denied}
+use Rattle.hc_event.specs.declared.event.Event.{Event}
+use Rattle.hc_event.specs.declared.event.Event.TheVariants as event
+use Rattle.hc_event.specs.declared.event.Request.{Request}
+use Rattle.hc_fields.specs.FieldList.{IsWithinLimits}
+use Rattle.hc_target.specs.Targets.{is_target}
+use Rattle.hc_model.specs.Entries.{Entry, Contents, History}
+use Rattle.hc_model.specs.Histories.{each, first, if_accepted, request_in}
+use Rattle.hc_model.specs.WithinLimits.{HasFieldsWithinLimits, FieldsAreWithinLimits, RequestsStayWithinLimits, HeadsComeWithinLimits, HasTarget, StartsHaveTargets, RequestsStayForTargets}
+use Rattle.hc_model.specs.Rows.{Consumer}
+use Rattle.hc_model.specs.StoredHeads.{IsHeadWithinLimits}
+use Rattle.hc_model.specs.Tables.{tables}
+use Rattle.hc_effects.proofs.Basics.{none_some}
+use Rattle.hc_effects.proofs.ConsumerFilters.{requests_are}
+use Rattle.hc_effects.proofs.PieceKeeps.{some_inj}
+
+-- REQUESTS
+
+-- P of a request, where each event of a history is Q, and so a start has a request of which P holds
+module _ (P : Request → Type 0) (Q : Event → Type 0) (R : History → Type 0) (of_start : (c : ℕ) (request : Request) → Q (event.Start c request) → P request) (of_entry : (e : Entry) (h : History) → R (e ∷ h) → R h × Q e.event) where
+  -- of each of them
+  abbrev Each : List Request → Type 0
+  Each [] = Unit {0}
+  Each (request ∷ rest) = P request × Each rest
+
+  of_both : (xs ys : List Request) → Each xs → Each ys → Each (xs ++ ys)
+  of_both [] ys first rest = rest
+  of_both (x ∷ xs) ys first rest = (first.0, of_both xs ys first.1 rest)
+
+  of_one : (b : Bool) (request : Request) → P request → Each (if b then request ∷ [] else [])
+  of_one true request holds = (holds, tt)
+  of_one false request holds = tt
+
+  of_heard : (c : ℕ) (ev : Event) → Q ev → Each (request_in c ev)
+  of_heard c (event.Start d request) holds = of_one (d == c) request (of_start d request holds)
+  of_heard c (event.Poll d want) holds = tt
+  of_heard c (event.Head x response) holds = tt
+  of_heard c (event.Piece x bytes) holds = tt
+  of_heard c (event.End x) holds = tt
+  of_heard c (event.Fault x) holds = tt
+  of_heard c (event.Cancel d) holds = tt
+  of_heard c (event.Doom key) holds = tt
+
+  of_accepted : (b : Bool) (xs : List Request) → Each xs → Each (if b then [] else xs)
+  of_accepted true xs holds = tt
+  of_accepted false xs holds = holds
+
+  of_brought : (c : ℕ) (h : History) → R h → Each (each (λ e. if_accepted e (request_in c e.event)) h)
+  of_brought c [] holds = tt
+  of_brought c (e ∷ h) holds =
+      let both = of_entry e h holds in
+      of_both (each (λ e. if_accepted e (request_in c e.event)) h) (if_accepted e (request_in c e.event))
+      (of_brought c h both.0) (of_accepted (is_denied e.acts) (request_in c e.event) (of_heard c e.event both.1))
+
+  of_first : (xs : List Request) (request : Request) → Each xs → first xs ≡ Some request → P request
+  of_first [] request holds is = absurd (none_some request is)
+  of_first (x ∷ xs) request holds is = subst P (some_inj x request is) holds.0
+
+  of_consumers : (contents : Contents) (h : History) → R h → (c : ℕ) (k : Consumer) → (tables contents h).consumer c ≡ Some k → P k.request
+  of_consumers contents h holds c k row =
+      of_first (each (λ e. if_accepted e (request_in c e.event)) h) k.request (of_brought c h holds)
+      (sym (requests_are contents h c) ∙ ap (option_map (λ (q : Consumer). q.request)) row)
+
+pub requests_are_within_limits : RequestsStayWithinLimits
+requests_are_within_limits contents h within_limits =
+    of_consumers (λ request. IsWithinLimits request.fields) HasFieldsWithinLimits FieldsAreWithinLimits (λ c request few. few) (λ e h all. all) contents h within_limits
+
+pub requests_are_for_targets : RequestsStayForTargets
+requests_are_for_targets contents h starts =
+    of_consumers (λ request. is_target request.key ≡ true) HasTarget StartsHaveTargets (λ c request target. target) (λ e h all. all) contents h starts
+
+-- HEADS
+
+head_within_limits : (ev : Event) → HasFieldsWithinLimits ev → IsHeadWithinLimits ev
+head_within_limits (event.Start c request) within_limits = tt
+head_within_limits (event.Poll c want) within_limits = tt
+head_within_limits (event.Head x response) within_limits = grind (arith, nat_tests, within_limits.few, within_limits.small)
+head_within_limits (event.Piece x bytes) within_limits = tt
+head_within_limits (event.End x) within_limits = tt
+head_within_limits (event.Fault x) within_limits = tt
+head_within_limits (event.Cancel c) within_limits = tt
+head_within_limits (event.Doom key) within_limits = tt
+
+pub heads_come_within_limits : HeadsComeWithinLimits
+heads_come_within_limits [] within_limits = tt
+heads_come_within_limits (e ∷ h) within_limits = (heads_come_within_limits h within_limits.0, head_within_limits e.event within_limits.1)

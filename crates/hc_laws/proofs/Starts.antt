@@ -1,0 +1,97 @@
+-- Contents by which a store may begin have numbers that were given out, and each has a key of its own.
+use Rattle.std.proofs.Common.{◌≡◌, inl, inr, ℕ, ◌-◌, ◌<◌, ◌≤◌, List, [], ◌∷◌, Bool, true, false, Some, ap, sym, ◌∙◌, arith}
+use Rattle.std.specs.Prelude.{◌==◌, bytes_eq, find, nat_lt}
+use Rattle.std.specs.List.{list_any}
+use Rattle.std.proofs.lemmas.Bool.Decides.{nat_tests}
+use Rattle.hc_rules.specs.declared.room.Limits.{Limits}
+use Rattle.hc_rules.proofs.RangeReads.{bytes_eq-same}
+use Rattle.hc_model.specs.Beginnings.{may_begin, are_good, is_good, is_given_out, has_own_numbers}
+use Rattle.hc_model.specs.Entries.{Content, Contents}
+use Rattle.hc_model.specs.Laws.{AreNumbered, IsStart}
+use Rattle.hc_effects.proofs.Basics.{false_true, and_left, and_right, or_false, not_true, none_some}
+use Rattle.hc_effects.proofs.PieceKeeps.{eq_cases, some_inj}
+
+abbrev of_number : ℕ → Content → Bool
+of_number r item = item.r == r
+
+abbrev has_key : List ℕ → Content → Bool
+has_key key other = bytes_eq other.key key
+
+module _ (limits : Limits) (contents : Contents) where
+  -- a good item has a number that was given out, and its key is that of no earlier one
+  good_parts : (earlier : List Content) (item : Content) (later : List Content) → is_good limits contents earlier item later ≡ true → (is_given_out contents item.r ≡ true) × (list_any (has_key item.key) earlier ≡ false)
+  good_parts earlier item later good =
+      let five = and_left _ _ good in
+      let four = and_left _ _ five in
+      let three = and_left _ _ four in
+      let two = and_left _ _ three in
+      let numbers : has_own_numbers contents earlier item later ≡ true = and_right _ _ two in
+      (and_left _ _ (and_left _ _ numbers), not_true (list_any (has_key item.key) earlier) (and_right _ _ (and_left _ _ two)))
+
+  numbered : (r : ℕ) (a : Content) (earlier items : List Content) → are_good limits contents earlier items ≡ true → find (of_number r) items ≡ Some a → (is_given_out contents a.r ≡ true) × (a.r ≡ r)
+  numbered r a earlier [] good is = absurd (none_some a is)
+  numbered r a earlier (item ∷ later) good is = elim (eq_cases item.r r) [
+    | inl here ↦
+        let same : item ≡ a = some_inj item a (rw here.0 at is) in
+        (ap (λ (z : Content). is_given_out contents z.r) (sym same) ∙ (good_parts earlier item later (and_left _ _ good)).0, ap (λ (z : Content). z.r) (sym same) ∙ here.1)
+    | inr off ↦ numbered r a (item ∷ earlier) later (and_right _ _ good) (rw off.0 at is)
+  ]
+
+  -- its key is that of no earlier one
+  fresh : (q : ℕ) (b : Content) (earlier items : List Content) → are_good limits contents earlier items ≡ true → find (of_number q) items ≡ Some b → list_any (has_key b.key) earlier ≡ false
+  fresh q b earlier [] good is = absurd (none_some b is)
+  fresh q b earlier (item ∷ later) good is = elim (eq_cases item.r q) [
+    | inl here ↦
+        let same : item ≡ b = some_inj item b (rw here.0 at is) in
+        ap (λ (z : Content). list_any (has_key z.key) earlier) (sym same) ∙ (good_parts earlier item later (and_left _ _ good)).1
+    | inr off ↦ (or_false (has_key b.key item) (list_any (has_key b.key) earlier) (fresh q b (item ∷ earlier) later (and_right _ _ good) (rw off.0 at is))).1
+  ]
+
+  -- of two items the later one has another key
+  later_key : (q : ℕ) (a b : Content) (earlier later : List Content) → are_good limits contents (a ∷ earlier) later ≡ true → find (of_number q) later ≡ Some b → a.key ≡ b.key → ⊥
+  later_key q a b earlier later good is same =
+      let off : has_key b.key a ≡ false = (or_false (has_key b.key a) (list_any (has_key b.key) earlier) (fresh q b (a ∷ earlier) later good is)).0 in
+      false_true (sym off ∙ bytes_eq-same a.key b.key same)
+
+  apart : (r q : ℕ) (a b : Content) (earlier items : List Content) → are_good limits contents earlier items ≡ true → find (of_number r) items ≡ Some a → find (of_number q) items ≡ Some b → a.key ≡ b.key → r ≡ q
+  apart r q a b earlier [] good is also same = absurd (none_some a is)
+  apart r q a b earlier (item ∷ later) good is also same = elim (eq_cases item.r r) [
+    | inl here ↦ elim (eq_cases item.r q) [
+      | inl there ↦ sym here.1 ∙ there.1
+      | inr off ↦
+          let one : item ≡ a = some_inj item a (rw here.0 at is) in
+          absurd (later_key q item b earlier later (and_right _ _ good) (rw off.0 at also) (ap (λ (z : Content). z.key) one ∙ same))
+    ]
+    | inr off ↦ elim (eq_cases item.r q) [
+      | inl there ↦
+          let one : item ≡ b = some_inj item b (rw there.0 at also) in
+          absurd (later_key r item a earlier later (and_right _ _ good) (rw off.0 at is) (ap (λ (z : Content). z.key) one ∙ sym same))
+      | inr other ↦ apart r q a b (item ∷ earlier) later (and_right _ _ good) (rw off.0 at is) (rw other.0 at also) same
+    ]
+  ]
+
+  given_below : (n r : ℕ) → is_given_out contents n ≡ true → n ≡ r → r ≤ contents.next_exchange - 1
+  given_below n r given same =
+      let test : nat_lt n contents.next_exchange ≡ true = and_right (nat_lt 0 n) (nat_lt n contents.next_exchange) given in
+      let under : n < contents.next_exchange = grind (arith, nat_tests) in
+      omega arith
+
+  -- numbers begin with 1
+  pub numbers_begin : may_begin limits contents ≡ true → AreNumbered contents
+  unfolding may_begin
+  numbers_begin may r item is =
+      let good : are_good limits contents [] contents.items ≡ true = and_left _ _ (and_left _ _ (and_left _ _ (and_left _ _ (and_left _ _ may)))) in
+      let all = numbered r item [] contents.items good is in
+      let test : nat_lt 0 item.r ≡ true = and_left (nat_lt 0 item.r) (nat_lt item.r contents.next_exchange) all.0 in
+      let same : item.r ≡ r = all.1 in
+      let some : 0 < item.r = grind (arith, nat_tests) in
+      omega arith
+
+  pub starts : may_begin limits contents ≡ true → IsStart contents
+  unfolding may_begin
+  starts may =
+      let good : are_good limits contents [] contents.items ≡ true = and_left _ _ (and_left _ _ (and_left _ _ (and_left _ _ (and_left _ _ may)))) in
+      record {
+        numbered = λ r item is. let all = numbered r item [] contents.items good is in given_below item.r r all.0 all.1;
+        apart = λ r q a b is also same. apart r q a b [] contents.items good is also same;
+      }

@@ -1,0 +1,28 @@
+-- What is called whole is whole.
+use Rattle.std.proofs.Common.{◌≡◌, ℕ, List, Bool, true, false, cond, Option, Some, None, refl, ap, sym, ◌∙◌}
+use Rattle.std.specs.Prelude.{option_map}
+use Rattle.std.specs.Option.{option_and_then}
+use Rattle.hc_record.specs.declared.kind.Kind.TheVariants as kind
+use Rattle.hc_model.specs.Currents.{current}
+use Rattle.hc_model.specs.Kinds.{kind_of, kind_for, kind_at, is_growing, is_complete, is_front, covers_all}
+use Rattle.hc_model.specs.Laws.{IsWhole}
+use Rattle.hc_model.specs.Rows.{Tables, Representation}
+use Rattle.hc_effects.proofs.HoleLemmas as holes
+
+-- of these words only the second is Whole
+complete_by : (growing complete front : Bool) → (cond growing kind.Growing (cond complete kind.Whole (cond front kind.Truncated kind.Ranges))) ≡ kind.Whole → complete ≡ true
+complete_by growing true front h = refl
+complete_by true false front h = absurd (let never : kind.Growing ≡ kind.Whole = h in cc)
+complete_by false false true h = absurd (let never : kind.Truncated ≡ kind.Whole = h in cc)
+complete_by false false false h = absurd (let never : kind.Ranges ≡ kind.Whole = h in cc)
+
+whole_by : (v : Representation) (o : Option ℕ) → v.head.total ≡ o → covers_all v o ≡ true → IsWhole v
+whole_by v None is h = absurd (let never : false ≡ true = h in cc)
+whole_by v (Some total) is h = (total, is, holes.covers_all v.stored v.reach 0 total h)
+
+pub whole_is : (t : Tables) (key : List ℕ) (r : ℕ) (v : Representation) → current t key ≡ Some r → t.representation r ≡ Some v → kind_for t key ≡ Some kind.Whole → IsWhole v
+unfolding kind_of
+whole_is t key r v is row found =
+    let at : option_map (kind_of t r) (Some v) ≡ Some kind.Whole = sym (ap (option_and_then (kind_at t)) is ∙ ap (option_map (kind_of t r)) row) ∙ found in
+    let same : kind_of t r v ≡ kind.Whole = cc in
+    whole_by v v.head.total refl (complete_by (is_growing t r) (is_complete v) (is_front v) same)

@@ -1,0 +1,218 @@
+-- A 304 that validates lets its consumer through: what is current stays so.
+use Rattle.std.proofs.Common.{◌≡◌, ℕ, List, [], ◌∷◌, ◌++◌, Bool, true, false, Option, Some, None, refl, ap, sym, ◌∙◌}
+use Rattle.std.specs.Prelude.{◌&&◌, ◌||◌, ◌==◌, not, is_none, is_some, if◌then◌else◌, nat_le}
+use Rattle.std.specs.Option.{option_map}
+use Rattle.hc_event.specs.Filters.{opening_in}
+use Rattle.hc_event.specs.declared.act.Act.{Act}
+use Rattle.hc_event.specs.declared.act.Act.TheVariants as act
+use Rattle.hc_event.specs.declared.act.Need.{Need}
+use Rattle.hc_event.specs.declared.act.Need.TheVariants as need
+use Rattle.hc_event.specs.declared.event.Event.TheVariants as event
+use Rattle.hc_event.specs.declared.event.Request.{Request}
+use Rattle.hc_event.specs.declared.event.Response.{Response}
+use Rattle.hc_rules.specs.declared.heads.HeadCase.{HeadCase}
+use Rattle.hc_rules.specs.declared.heads.HeadCase.TheVariants as case
+use Rattle.hc_rules.specs.declared.heads.HeadView.{HeadView}
+use Rattle.hc_rules.specs.declared.need.Route.{Route}
+use Rattle.hc_rules.specs.declared.need.Route.TheVariants as route
+use Rattle.hc_rules.specs.declared.room.Limits.{Limits}
+use Rattle.hc_rules.specs.declared.room.Write.{Write}
+use Rattle.hc_rules.specs.declared.room.Write.TheVariants as write
+use Rattle.hc_rules.specs.HeadCases.{head_case, case_on, direct_case, first_case, later_case, is_conditional}
+use Rattle.hc_rules.specs.Lengths.{is_same_number}
+use Rattle.hc_rules.specs.Needs.{route_of}
+use Rattle.hc_model.specs.ActFilters.{has_loss, loses_in, misreads_in, leaver_in}
+use Rattle.hc_model.specs.Answers.{answer_acts, loss_acts}
+use Rattle.hc_model.specs.Cases.{case_at, case_of, head_view, validates, is_founding}
+use Rattle.hc_model.specs.Closings.{must_close, is_doomed, is_left, leaver, leaver_by, is_refused, brings_head, has_no_survivor, awaits}
+use Rattle.hc_model.specs.Currents.{current, is_current, is_number}
+use Rattle.hc_model.specs.Dooms.{doomed_key_of, doomed_in, doomed_by_head, doomed_by_case, bypass_key, bypassed_by, is_key}
+use Rattle.hc_model.specs.Entries.{Entry, entry_without_acts}
+use Rattle.hc_model.specs.Exchanges.{exchange_at, is_headless, family}
+use Rattle.hc_model.specs.Flaws.{flaw_in}
+use Rattle.hc_model.specs.Gone.{becomes_gone, goes_by_head, goes_by_exchange, goes_by_case, ends_early, ends_founding, stops_early, is_keepable}
+use Rattle.hc_model.specs.Reading.{is_written}
+use Rattle.hc_model.specs.Rows.{Tables, Exchange, Representation}
+use Rattle.hc_model.specs.Weights.{evicted, first_idle, room_for, room_by, write_in}
+use Rattle.hc_model.specs.Writers.{brings_body, loses_writing, survivor}
+use Rattle.hc_effects.proofs.ActParts as parts
+use Rattle.hc_effects.proofs.Basics.{and_left}
+use Rattle.hc_effects.proofs.Joining.{mix}
+use Rattle.hc_effects.proofs.KeyNames.{and_then}
+use Rattle.hc_effects.proofs.KeyRows.{same_number}
+use Rattle.hc_effects.proofs.PieceKeeps.{some_inj}
+use Rattle.hc_laws.proofs.TurnFacts as facts
+use Rattle.hc_laws.proofs.TurnFacts.{IsTaken, seen, stays_open, told_quiet, evicts_none, same_case, same_doom}
+
+-- THE CASE
+
+abbrev is_validated : HeadCase → Bool
+is_validated case.Validated = true
+is_validated _ = false
+
+abbrev Other : HeadCase → Type 0
+Other c = is_validated c ≡ false
+
+never_validated : {A : Type 0} (c : HeadCase) → Other c → c ≡ case.Validated → A
+never_validated c other is = absurd (let no_one : true ≡ false = sym (ap is_validated is) ∙ other in cc)
+
+module _ (v : HeadView) where
+  abbrev passes : Bool
+  passes = v.status == 304 && v.conditional && v.selects && not v.lost
+
+  turn_rest : Other (if v.status == 304 && v.conditional then case.NotValidated else if nat_le 500 v.status then case.TurnServerError else if v.status == 200 && v.storable && not v.lost then case.FoundsWhole else if v.status == 206 && v.storable && v.fits && not v.lost then case.FoundsRange else case.PassesBy)
+  turn_rest =
+      mix Other (v.status == 304 && v.conditional) case.NotValidated _ refl
+      (mix Other (nat_le 500 v.status) case.TurnServerError _ refl
+      (mix Other (v.status == 200 && v.storable && not v.lost) case.FoundsWhole _ refl
+      (mix Other (v.status == 206 && v.storable && v.fits && not v.lost) case.FoundsRange case.PassesBy refl refl)))
+
+  by_passing : (b : Bool) (rest : HeadCase) → Other rest → (if b then case.Validated else rest) ≡ case.Validated → b ≡ true
+  by_passing true rest other is = refl
+  by_passing false rest other is = never_validated rest other is
+
+  by_bad : (b : Bool) (rest : HeadCase) → (if b then case.TurnBad else rest) ≡ case.Validated → rest ≡ case.Validated
+  by_bad true rest is = never_validated case.TurnBad refl is
+  by_bad false rest is = is
+
+  first_other : Other (first_case v)
+  first_other =
+      mix Other v.bad case.FirstBad _ refl
+      (mix Other v.joins case.FirstJoins _ refl
+      (mix Other (nat_le 500 v.status) case.FirstServerError _ refl
+      (mix Other (v.status == 206 || v.status == 304 || v.status == 416) case.FirstChanged _ refl
+      (mix Other (v.status == 200 && v.storable && not v.lost) case.FirstReplaced case.FirstPassesBy refl refl))))
+
+  later_other : Other (later_case v)
+  later_other = mix Other v.bad case.LaterBad _ refl (mix Other v.joins case.LaterJoins case.LaterChanged refl refl)
+
+  validated_on : (way : Route) → case_on way v ≡ case.Validated → (way ≡ route.Turn) × (passes ≡ true)
+  validated_on route.Direct is = never_validated (direct_case v) (mix Other v.bad case.DirectBad case.DirectTaken refl refl) is
+  validated_on route.Turn is = (refl, by_passing passes _ turn_rest (by_bad v.bad _ is))
+  validated_on route.Hole is = never_validated (case_on route.Hole v) (mix Other v.shown (later_case v) (first_case v) later_other first_other) is
+
+conditional_need : (n : Need) (request : Request) → is_conditional n request ≡ true → n ≡ need.Validate
+conditional_need need.Validate request h = refl
+conditional_need _ request h = absurd (let no_one : false ≡ true = h in cc)
+
+-- what validating takes: a conditional request that has the turn, for what is still current, and no loss
+pub record IsValid (t : Tables) (e : Entry) (x r : ℕ) (w : Exchange) : Type 0 where
+  pub turn : route_of w.need ≡ route.Turn
+  pub need_is : w.need ≡ need.Validate
+  pub current : current t w.request.key ≡ Some r
+  pub lossless : has_loss e.acts ≡ false
+
+not_yes : (b : Bool) → not b ≡ true → b ≡ false
+not_yes true h = absurd (let no_one : false ≡ true = h in cc)
+not_yes false h = refl
+
+case_is : (t : Tables) (b : Bool) (x : ℕ) (response : Response) (w : Exchange) (c : HeadCase) → t.exchange x ≡ Some w → case_of t b (event.Head x response) ≡ Some c → head_case (head_view t b w response) ≡ c
+unfolding case_of
+case_is t b x response w c row is =
+    some_inj _ c (sym (ap (option_map (λ w. head_case (head_view t b w response))) row) ∙ is)
+
+pub valid_is : (t : Tables) (e : Entry) (x r : ℕ) (response : Response) (w : Exchange) → e.event ≡ event.Head x response → t.exchange x ≡ Some w → case_at t e ≡ Some case.Validated → w.aim ≡ Some r → IsValid t e x r w
+unfolding head_case
+valid_is t e x r response w at row found aim =
+    let here = case_is t (has_loss e.acts) x response w case.Validated row (sym (ap (case_of t (has_loss e.acts)) at) ∙ found) in
+    let both = validated_on (head_view t (has_loss e.acts) w response) (route_of w.need) here in
+    let a = and_left (response.status == 304 && is_conditional w.need w.request && validates t w response) (not (has_loss e.acts)) both.1 in
+    let b = and_left (response.status == 304 && is_conditional w.need w.request) (validates t w response) a in
+    record {
+      turn = both.0;
+      need_is = conditional_need w.need w.request (and_then (response.status == 304) (is_conditional w.need w.request) b);
+      current = same_number (current t w.request.key) w.aim r aim (and_left _ _ (and_then (response.status == 304 && is_conditional w.need w.request) (validates t w response) a));
+      lossless = not_yes (has_loss e.acts) (and_then (response.status == 304 && is_conditional w.need w.request && validates t w response) (not (has_loss e.acts)) both.1);
+    }
+
+-- and it is of an exchange that was opened about something
+pub valid_aim : (t : Tables) (e : Entry) (x : ℕ) (response : Response) (w : Exchange) → e.event ≡ event.Head x response → t.exchange x ≡ Some w → case_at t e ≡ Some case.Validated → is_some w.aim ≡ true
+unfolding head_case
+valid_aim t e x response w at row found =
+    let here = case_is t (has_loss e.acts) x response w case.Validated row (sym (ap (case_of t (has_loss e.acts)) at) ∙ found) in
+    let all = (validated_on (head_view t (has_loss e.acts) w response) (route_of w.need) here).1 in
+    let b = and_left (response.status == 304 && is_conditional w.need w.request && validates t w response) (not (has_loss e.acts)) all in
+    same_some (current t w.request.key) w.aim (and_left _ _ (and_then (response.status == 304 && is_conditional w.need w.request) (validates t w response) b))
+  where
+    same_some : (p q : Option ℕ) → is_same_number p q ≡ true → is_some q ≡ true
+    same_some p (Some n) h = refl
+    same_some None None h = absurd (let no_one : false ≡ true = h in cc)
+    same_some (Some m) None h = absurd (let no_one : false ≡ true = h in cc)
+
+-- IT LEAVES WHAT IS STORED
+
+no_loss : (r : ℕ) (acts : List Act) → has_loss acts ≡ false → loses_in r acts ≡ false
+no_loss r [] h = refl
+no_loss r (act.Lost q kind ∷ acts) h = absurd (let no_one : true ≡ false = h in cc)
+no_loss r (_ ∷ acts) h = no_loss r acts h
+
+and_none : (a : Bool) → (a && false) ≡ false
+and_none true = refl
+and_none false = refl
+
+module _ (limits : Limits) (t : Tables) (e : Entry) (taken : IsTaken limits t e) (x : ℕ) (response : Response) (w : Exchange) (at : e.event ≡ event.Head x response) (row : t.exchange x ≡ Some w) (found : case_at t e ≡ Some case.Validated) (lossless : has_loss e.acts ≡ false) where
+  abbrev saw : Entry
+  saw = seen limits t e taken
+
+  saw_case : case_at t saw ≡ Some case.Validated
+  saw_case = sym (same_case limits t e taken) ∙ found
+
+  doom_at : doomed_key_of t e ≡ None
+  unfolding doomed_key_of
+  doom_at = ap (doomed_in t e) at ∙ (ap (doomed_by_head t e response) row ∙ ap (λ c. doomed_by_case c w response) found)
+
+  saw_lossless : has_loss saw.acts ≡ false
+  saw_lossless = facts.loss_seen limits t e taken ∙ lossless
+
+  silent : answer_acts t e.now e.event (flaw_in e.acts) ≡ []
+  silent = ap (λ ev. answer_acts t e.now ev (flaw_in e.acts)) at
+
+  keeps_writing : (y r : ℕ) (o : Option Representation) → has_no_survivor t saw y r o ≡ false
+  keeps_writing y r None = refl
+  keeps_writing y r (Some v) =
+      let none : loses_writing t saw r v ≡ false = ap (λ b. brings_body e.event && b && is_written t v) (no_loss r saw.acts saw_lossless) ∙ ap (λ b. b && is_written t v) (and_none (brings_body e.event)) in
+      ap (λ b. is_number v.writer y && b && is_none (survivor t r v)) none ∙ ap (λ b. b && is_none (survivor t r v)) (and_none (is_number v.writer y))
+
+  free : (y : ℕ) (u : Exchange) → must_close t saw y u ≡ false
+  free y u = all_false (is_refused (case_at t saw) && brings_head y e.event) (is_doomed t saw y u) (has_no_survivor t saw y (family y u) (t.representation (family y u))) (is_left t y (leaver saw))
+      (ap (λ c. is_refused c && brings_head y e.event) saw_case)
+      (ap (λ o. is_key o u.request.key && is_headless (Some u) && awaits (t.consumer u.c) y) (sym (same_doom limits t e taken) ∙ doom_at))
+      (keeps_writing y (family y u) (t.representation (family y u)))
+      (ap (is_left t y) (ap (λ ev. leaver_by ev saw.acts) at ∙ (ap (λ acts. leaver_in (acts ++ loss_acts (flaw_in e.acts))) silent ∙ parts.leaver_lost (flaw_in e.acts))))
+    where
+      all_false : (a b d f : Bool) → a ≡ false → b ≡ false → d ≡ false → f ≡ false → (a || b || d || f) ≡ false
+      all_false a b d f p q y z = rw (p, q, y, z) refl
+
+  ends_none : (r : ℕ) (o : Option Exchange) → ends_founding e r o ≡ false
+  ends_none r None = refl
+  ends_none r (Some u) = ap (λ b. u.is_open && b) (rw (ap (stops_early u r) at) (stays_open limits t e taken r (λ z there. free r z))) ∙ and_none u.is_open
+
+  opens_none : opening_in e.acts ≡ None
+  opens_none = (told_quiet limits t e taken 0 0 silent (ap facts.is_asking at)).opens
+
+  case_before : case_at t (entry_without_acts e.now e.event) ≡ Some case.Validated
+  case_before = ap (λ b. case_of t b e.event) (sym lossless) ∙ found
+
+  write_none : write_in t (entry_without_acts e.now e.event) e.event ≡ None
+  write_none = ap (write_in t (entry_without_acts e.now e.event)) at ∙ ap (λ c. write_by c) case_before
+    where
+      write_by : Option HeadCase → Option Write
+      write_by c = if is_founding c then Some write.Slot else None
+
+  evicted_none : evicted limits t e.now e.event ≡ []
+  unfolding room_for
+  evicted_none = ap (λ o. first_idle t (entry_without_acts e.now e.event) (room_by limits t (entry_without_acts e.now e.event) o)) write_none
+
+  -- nothing goes
+  pub goes_none : (r : ℕ) (v : Representation) → becomes_gone t e r v ≡ false
+  unfolding becomes_gone
+  goes_none r v =
+      let head : goes_by_head t e r ≡ false = ap (λ ev. goes_by_exchange t e r (exchange_at t ev)) at ∙ (ap (goes_by_exchange t e r) row ∙ ap (λ c. goes_by_case t e r c w) found) in
+      let past : bypass_key e ≡ None = ap bypassed_by opens_none in
+      let reads : misreads_in r e.acts ≡ false = (told_quiet limits t e taken 0 r silent (ap facts.is_asking at)).misreads in
+      let early : ends_early t e r v ≡ false = ap (λ b. v.head.status == 200 && b) (ends_none r (t.exchange r)) ∙ and_none (v.head.status == 200) in
+      rw (doom_at, past, head, no_loss r e.acts lossless, reads, early, evicts_none limits t e taken r evicted_none) (by_current (is_current t v.key r))
+    where
+      by_current : (b : Bool) → (b && (false || false) || false || false || false || (false && not (is_keepable v)) || false) ≡ false
+      by_current true = refl
+      by_current false = refl

@@ -1,0 +1,204 @@
+-- Why a consumer is shown a head: it came for it, its first hole joined, freshness allows it, or it kept a 304.
+use Rattle.std.proofs.Common.{◌≡◌, inl, inr, ℕ, ◌+◌, Bool, true, false, Option, Some, None, refl, ap, sym, ◌∙◌}
+use Rattle.std.specs.Prelude.{is_none, ◌&&◌, nat_le}
+use Rattle.std.specs.Option.{option_map}
+use Rattle.hc_range.specs.declared.range.Span.{Span}
+use Rattle.hc_event.specs.declared.event.Request.{Request}
+use Rattle.hc_event.specs.declared.event.Response.{Response}
+use Rattle.hc_event.specs.declared.act.Need.TheVariants as need
+use Rattle.hc_event.specs.declared.act.Wait.TheVariants as wait
+use Rattle.hc_event.specs.declared.act.Why.{Why}
+use Rattle.hc_event.specs.declared.act.Why.TheVariants as why_is
+use Rattle.hc_rules.specs.declared.plan.Candidate.{Candidate}
+use Rattle.hc_rules.specs.declared.plan.Plan.{Plan}
+use Rattle.hc_rules.specs.declared.plan.Plan.TheVariants as plan
+use Rattle.hc_rules.specs.declared.plan.PlanView.{PlanView}
+use Rattle.hc_rules.specs.declared.request.Wanted.{Wanted}
+use Rattle.hc_rules.specs.declared.request.Wanted.TheVariants as wanted
+use Rattle.hc_rules.specs.Plans.{plan_of, bare_plan, in_time, from_store, by_current, by_why, by_wanted, by_exclusive, by_hole, by_bound, plan_on, why_by, queues}
+use Rattle.hc_fresh.specs.Facts.{allowed}
+use Rattle.hc_event.specs.declared.place.BoundBy.{BoundBy}
+use Rattle.hc_event.specs.declared.place.BoundBy.TheVariants as by
+use Rattle.hc_event.specs.declared.place.Place.{Place}
+use Rattle.hc_event.specs.declared.place.Place.TheVariants as place
+use Rattle.hc_model.specs.ConsumerRows.{kept_by}
+use Rattle.hc_model.specs.Currents.{current, total_in}
+use Rattle.hc_model.specs.Exchanges.{base}
+use Rattle.hc_model.specs.Moves as moves
+use Rattle.hc_model.specs.Moves.{Move, Nothing, Shows, Fails, shows_stored, opens_hole}
+use Rattle.hc_model.specs.Planning.{plan_view, plan_move, candidate, binds_current}
+use Rattle.hc_model.specs.Polls.{move_of, shows_at, shows_bound, shows_direct, shows_answer, has_joined}
+use Rattle.hc_model.specs.Reading.{hi_of}
+use Rattle.hc_model.specs.Rows.{Tables, Exchange, Representation, Consumer}
+use Rattle.hc_model.specs.Sound.{Sound}
+use Rattle.hc_effects.proofs.Basics.{none_some}
+use Rattle.hc_effects.proofs.HoleLemmas.{bool_cases}
+use Rattle.hc_effects.proofs.Joining.{mix}
+use Rattle.hc_effects.proofs.MoveBy.{MoveBy, move_by}
+use Rattle.hc_effects.proofs.MoveBy as by_move
+use Rattle.hc_effects.proofs.PieceKeeps.{some_inj}
+use Rattle.hc_effects.proofs.ShownOnce.{is_showing, shown_shows}
+
+-- A PLAN
+
+-- a plan that binds does so for a reason
+abbrev IsWhy : PlanView → Plan → Type 0
+IsWhy v (plan.Bind why span) = (s : Candidate) × (v.current ≡ Some s) × (why_by v.kept s.allowed ≡ Some why)
+IsWhy v _ = Unit {0}
+
+module _ (v : PlanView) where
+  module _ (s : Candidate) (at : v.current ≡ Some s) where
+    bound_why : (span hole : Span) (o : Option ℕ) → IsWhy v (by_bound v span hole o)
+    bound_why span hole None = tt
+    bound_why span hole (Some d) = tt
+
+    module _ (why : Why) (is : why_by v.kept s.allowed ≡ Some why) where
+      hole_why : (span : Span) (o : Option Span) → IsWhy v (by_hole v s why span o)
+      hole_why span None = (s, at, is)
+      hole_why span (Some hole) = bound_why span hole s.least_bound
+
+      exclusive_why : (span : Span) (o : Option ℕ) → IsWhy v (by_exclusive v s why span o)
+      exclusive_why span None = hole_why span s.hole
+      exclusive_why span (Some d) = tt
+
+      wanted_why : (w : Wanted) → IsWhy v (by_wanted v s why w)
+      wanted_why wanted.TotalUnknown = tt
+      wanted_why wanted.Unsatisfiable = tt
+      wanted_why (wanted.Interval span) = mix (IsWhy v) s.writing _ _ tt (exclusive_why span s.exclusive)
+
+      on_why : IsWhy v (plan_on v s why)
+      on_why = mix (IsWhy v) (is_none v.class.range && s.writing) (plan.Bind why None) (by_wanted v s why s.span) (s, at, is) (wanted_why s.span)
+
+    why_why : (o : Option Why) → why_by v.kept s.allowed ≡ o → IsWhy v (by_why v s o)
+    why_why None is = tt
+    why_why (Some why) is = on_why why is
+
+  current_why : (o : Option Candidate) → v.current ≡ o → IsWhy v (by_current v o)
+  current_why None is = tt
+  current_why (Some s) is = mix (IsWhy v) s.vary (by_why v s (why_by v.kept s.allowed)) _ (why_why s is (why_by v.kept s.allowed) refl) tt
+
+  bare_why : IsWhy v (bare_plan v)
+  bare_why =
+      mix (IsWhy v) v.class.disabled (plan.Direct need.Disabled) _ tt
+      (mix (IsWhy v) (queues v) (plan.Turn v.turn) _ tt
+      (mix (IsWhy v) v.class.bypassing (plan.Fetch need.Bypass) (by_current v v.current) tt (current_why v.current refl)))
+
+  in_time_why : (p : Plan) → IsWhy v p → IsWhy v (in_time v p)
+  in_time_why (plan.Turn d) is = mix (IsWhy v) (nat_le (v.since + 20) v.moment) (plan.Direct need.TimedOut) (plan.Turn d) tt tt
+  in_time_why (plan.Busy d kept) is = mix (IsWhy v) (nat_le (v.since + 20) v.moment) (plan.Direct need.TimedOut) (plan.Busy d kept) tt tt
+  in_time_why plan.Miss is = is
+  in_time_why (plan.Direct n) is = is
+  in_time_why (plan.Fetch n) is = is
+  in_time_why (plan.Bind why span) is = is
+  in_time_why (plan.FirstHole span hole) is = is
+
+  from_store_why : (p : Plan) → IsWhy v p → IsWhy v (from_store p)
+  from_store_why (plan.Turn d) is = tt
+  from_store_why (plan.Busy d kept) is = tt
+  from_store_why plan.Miss is = tt
+  from_store_why (plan.Direct n) is = tt
+  from_store_why (plan.Fetch n) is = tt
+  from_store_why (plan.Bind why span) is = is
+  from_store_why (plan.FirstHole span hole) is = tt
+
+  plan_why : IsWhy v (plan_of v)
+  unfolding plan_of
+  plan_why = mix (IsWhy v) v.class.only (from_store (bare_plan v)) (in_time v (bare_plan v)) (from_store_why (bare_plan v) bare_why) (in_time_why (bare_plan v) bare_why)
+
+-- A HEAD THAT IS SHOWN
+
+module _ (t : Tables) (now c : ℕ) (k : Consumer) (r lo : ℕ) (hi : Option ℕ) (why : Why) (head : Response) where
+  abbrev show : Move
+  show = Shows r why head lo hi
+
+  pub data ShownWhy : Type 0 where
+    fetched : why ≡ why_is.Fetched r → ShownWhy
+    first : (a y : ℕ) (b : Option ℕ) → k.place ≡ place.Bound r a b (by.FirstHole y) → has_joined (t.exchange y) ≡ true → why ≡ why_is.Validated y → ShownWhy
+    allows : (v : Representation) → t.representation r ≡ Some v → allowed v.head k.request now ≡ Some why → ShownWhy
+    keeps : (x : ℕ) → kept_by k.place ≡ Some x → current t k.request.key ≡ Some r → why ≡ why_is.Validated x → ShownWhy
+
+  stored_why : (q : ℕ) (y : Why) (ranged : Bool) (a : ℕ) (b : Option ℕ) (z : Option Representation) → shows_stored q y ranged a b z ≡ show → (q ≡ r) × (y ≡ why)
+  stored_why q y ranged a b None is = absurd (let no : Nothing ≡ show = is in cc)
+  stored_why q y ranged a b (Some v) is = (cc, cc)
+
+  bound_shown : (q a : ℕ) (b d : Option ℕ) (how : BoundBy) → k.place ≡ place.Bound q a b how → shows_bound t k q a d how ≡ Some show → ShownWhy
+  bound_shown q a b d by.Founding at is =
+      let got = stored_why q _ _ a d (t.representation q) (some_inj _ show is) in
+      fetched (sym got.1 ∙ ap why_is.Fetched got.0)
+  bound_shown q a b d (by.FirstHole y) at is = elim (bool_cases (has_joined (t.exchange y))) [
+    | inr off ↦ absurd (none_some show (rw off at is))
+    | inl joined ↦
+        let got = stored_why q _ _ a d (t.representation q) (some_inj _ show (rw joined at is)) in
+        first a y b (at ∙ ap (λ n. place.Bound n a b (by.FirstHole y)) got.0) joined (sym got.1)
+  ]
+  bound_shown q a b d by.Plan at is = absurd (none_some show is)
+
+  answer_shown : (x : ℕ) (w : Exchange) (z : Option Response) → shows_answer t x w z ≡ Some show → ShownWhy
+  answer_shown x w None is = absurd (none_some show is)
+  answer_shown x w (Some response) is =
+      let same : Shows x (why_is.Fetched x) response (base w) (hi_of t (place.Direct x)) ≡ show = some_inj _ show is in
+      let number : x ≡ r = cc in
+      let its : why_is.Fetched x ≡ why = cc in
+      fetched (sym its ∙ ap why_is.Fetched number)
+
+  direct_shown : (x : ℕ) (z : Option Exchange) → shows_direct t x z ≡ Some show → ShownWhy
+  direct_shown x None is = absurd (none_some show is)
+  direct_shown x (Some w) is = answer_shown x w w.head is
+
+  at_shown : (p : Place) → k.place ≡ p → shows_at t k p ≡ Some show → ShownWhy
+  at_shown place.Line at is = absurd (none_some show is)
+  at_shown (place.Passed q kept) at is = absurd (none_some show is)
+  at_shown (place.Turn x) at is = absurd (none_some show is)
+  at_shown (place.Bound q a b how) at is = bound_shown q a b (hi_of t k.place) how at is
+  at_shown (place.Direct x) at is = direct_shown x (t.exchange x) is
+  at_shown (place.Down cause) at is = absurd (none_some show is)
+  at_shown place.Over at is = absurd (none_some show is)
+
+  -- BY ITS PLAN
+
+  candidate_allows : (q : ℕ) (o : Option Representation) (s : Candidate) → t.representation q ≡ o → option_map (λ v. candidate t now q k.request v) o ≡ Some s → (v : Representation) × (t.representation q ≡ Some v) × (s.allowed ≡ allowed v.head k.request now)
+  candidate_allows q None s row is = absurd (none_some s is)
+  candidate_allows q (Some v) s row is = (v, row, sym (ap (λ (z : Candidate). z.allowed) (some_inj (candidate t now q k.request v) s is)))
+
+  current_allows : (q : ℕ) (s : Candidate) → current t k.request.key ≡ Some q → (plan_view t now c k).current ≡ Some s → (v : Representation) × (t.representation q ≡ Some v) × (s.allowed ≡ allowed v.head k.request now)
+  current_allows q s is at = candidate_allows q (t.representation q) s refl (rw is at at)
+
+  by_kept : (s : Candidate) (y : Why) (o : Option ℕ) → kept_by k.place ≡ o → (plan_view t now c k).current ≡ Some s → why_by o s.allowed ≡ Some y → y ≡ why → current t k.request.key ≡ Some r → ShownWhy
+  by_kept s y (Some x) kept at is same number = keeps x kept number (sym same ∙ sym (some_inj (why_is.Validated x) y is))
+  by_kept s y None kept at is same number =
+      let got = current_allows r s number at in
+      allows got.0 got.1 (sym got.2 ∙ (is ∙ ap Some same))
+
+  bind_by : (y : Why) (span : Option Span) (o : Option ℕ) → current t k.request.key ≡ o → IsWhy (plan_view t now c k) (plan.Bind y span) → binds_current t k y span o ≡ show → ShownWhy
+  bind_by y span None at reason is = absurd (let no : Nothing ≡ show = is in cc)
+  bind_by y None (Some q) at reason is =
+      let got = stored_why q y _ 0 (total_in (t.representation q)) (t.representation q) is in
+      by_kept reason.0 y (kept_by k.place) refl reason.1 reason.2 got.1 (at ∙ ap Some got.0)
+  bind_by y (Some span) (Some q) at reason is =
+      let got = stored_why q y _ span.lo (Some span.hi) (t.representation q) is in
+      by_kept reason.0 y (kept_by k.place) refl reason.1 reason.2 got.1 (at ∙ ap Some got.0)
+
+  hole_shows : (request : Request) (o : Option Representation) (hole : Span) → opens_hole t request o hole ≡ show → ⊥
+  hole_shows request None hole is = cc
+  hole_shows request (Some v) hole is = cc
+
+  by_plan : (p : Plan) → IsWhy (plan_view t now c k) p → plan_move t k p ≡ show → ShownWhy
+  by_plan (plan.Direct n) reason is = absurd (let no : moves.opens t n k.request ≡ show = is in cc)
+  by_plan (plan.Turn d) reason is = absurd (let no : moves.Waits (wait.Turn d) ≡ show = is in cc)
+  by_plan (plan.Fetch n) reason is = absurd (let no : moves.opens t n (Rattle.hc_model.specs.Planning.origin_request t k n) ≡ show = is in cc)
+  by_plan (plan.Bind y span) reason is = bind_by y span (current t k.request.key) refl reason is
+  by_plan (plan.FirstHole span hole) reason is = absurd (hole_shows k.request _ hole is)
+  by_plan (plan.Busy d kept) reason is = absurd (let no : moves.Waits (wait.Busy d) ≡ show = is in cc)
+  by_plan plan.Miss reason is = absurd (let no : Fails Rattle.hc_event.specs.declared.act.Cause.TheVariants.Miss ≡ show = is in cc)
+
+  by_moves : (want : ℕ) (m : Move) → MoveBy t now want c k m → m ≡ move_of t now want c k → m ≡ show → ShownWhy
+  by_moves want m (by_move.shows _ unshown at) here is = at_shown k.place refl (at ∙ ap Some is)
+  by_moves want _ (by_move.waits x own bare) here is = absurd (let no : moves.Waits (wait.Head x) ≡ show = is in cc)
+  by_moves want _ (by_move.down cause at) here is = absurd (let no : Fails cause ≡ show = is in cc)
+  by_moves want _ (by_move.over at) here is = absurd (let no : Nothing ≡ show = is in cc)
+  by_moves want _ (by_move.reads on heard) here is =
+      absurd (let none : is_showing (move_of t now want c k) ≡ false = shown_shows t now want c k on in let no : true ≡ false = sym (ap is_showing (sym here ∙ is)) ∙ none in cc)
+  by_moves want _ (by_move.plans unshown free none heard) here is = by_plan (plan_of (plan_view t now c k)) (plan_why (plan_view t now c k)) is
+
+  pub shown_why : (want : ℕ) → Sound t → t.consumer c ≡ Some k → move_of t now want c k ≡ show → ShownWhy
+  shown_why want s row is = by_moves want (move_of t now want c k) (move_by t now want c k s row) refl is

@@ -68,7 +68,7 @@ leaves_by c (act.Pending b wait) acts to d h = inl h
 leaves_by c (act.Lost r kind) acts to d h = inl h
 leaves_by c (act.Evicted r) acts to d h = inl h
 
-last_leaves : (c : ℕ) (a : Act) (acts : List Act) → sent_to a ≡ Some c → is_last a ≡ true → leaves_in c (a ∷ acts) ≡ true
+pub last_leaves : (c : ℕ) (a : Act) (acts : List Act) → sent_to a ≡ Some c → is_last a ≡ true → leaves_in c (a ∷ acts) ≡ true
 last_leaves c (act.Ended b) acts to last = ap (λ (n : ℕ). nat_eq b n || leaves_in n acts) (some_inj c b (sym to)) ∙ rw (same_number b) refl
 last_leaves c (act.Failed b cause) acts to last = ap (λ (n : ℕ). nat_eq b n || leaves_in n acts) (some_inj c b (sym to)) ∙ rw (same_number b) refl
 last_leaves c (act.Shown b r why status fields lo hi) acts to last = absurd (let never : false ≡ true = last in cc)
@@ -82,7 +82,7 @@ last_leaves c (act.Lost r kind) acts to last = absurd (let never : false ≡ tru
 last_leaves c (act.Evicted r) acts to last = absurd (let never : false ≡ true = last in cc)
 
 -- who leaves by the others leaves by all
-later_leaves : (d : ℕ) (a : Act) (acts : List Act) → leaves_in d acts ≡ true → leaves_in d (a ∷ acts) ≡ true
+pub later_leaves : (d : ℕ) (a : Act) (acts : List Act) → leaves_in d acts ≡ true → leaves_in d (a ∷ acts) ≡ true
 later_leaves d (act.Ended b) acts h = or_later (nat_eq b d) (leaves_in d acts) h
   where
     or_later : (x y : Bool) → y ≡ true → (x || y) ≡ true

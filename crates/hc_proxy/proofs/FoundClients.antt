@@ -20,7 +20,7 @@ use Rattle.hc_proxy.proofs.QuietActs.{AreQuiet}
 
 -- WHO IS SENT SOMETHING is told something
 
-sent_told : (a : Act) (c : ℕ) → sent_to a ≡ Some c → told_to a ≡ Some c
+pub sent_told : (a : Act) (c : ℕ) → sent_to a ≡ Some c → told_to a ≡ Some c
 sent_told (act.Shown d r why status fields lo hi) c h = h
 sent_told (act.Given d x at bytes) c h = h
 sent_told (act.Ended d) c h = h
@@ -63,11 +63,11 @@ quiet_not c (act.Pending d wait ∷ acts) quiet = absurd (let never : false ≡ 
 
 -- WHERE TABLES DIFFER IN NEITHER CLIENTS NOR HOLDERS
 
-abbrev answered_clients : Option ℕ → Act → (ℕ → Option Client) → ℕ → Option Client
+abbrev pub answered_clients : Option ℕ → Act → (ℕ → Option Client) → ℕ → Option Client
 answered_clients None a rows = rows
 answered_clients (Some k) a rows = changed k (answered a) rows
 
-abbrev sent_clients : Option ℕ → Act → (ℕ → Option ℕ) → (ℕ → Option Client) → ℕ → Option Client
+abbrev pub sent_clients : Option ℕ → Act → (ℕ → Option ℕ) → (ℕ → Option Client) → ℕ → Option Client
 sent_clients None a holders rows = rows
 sent_clients (Some c) a holders rows = answered_clients (holders c) a rows
 
@@ -75,7 +75,7 @@ answers_are : (o : Option ℕ) (a : Act) (p : Proxy) → (answers o a p).client 
 answers_are None a p = refl
 answers_are (Some k) a p = refl
 
-clients_are : (a : Act) (p : Proxy) → (carried_out a p).client ≡ sent_clients (sent_to a) a p.holder p.client
+pub clients_are : (a : Act) (p : Proxy) → (carried_out a p).client ≡ sent_clients (sent_to a) a p.holder p.client
 clients_are (act.Shown c r why status fields lo hi) p = answers_are (p.holder c) (act.Shown c r why status fields lo hi) p
 clients_are (act.Given c x at bytes) p = answers_are (p.holder c) (act.Given c x at bytes) p
 clients_are (act.Ended c) p = answers_are (p.holder c) (act.Ended c) p
@@ -92,7 +92,7 @@ answers_holder : (o : Option ℕ) (a : Act) (p : Proxy) → (answers o a p).hold
 answers_holder None a p = refl
 answers_holder (Some k) a p = refl
 
-holders_stay : (a : Act) (p : Proxy) → (carried_out a p).holder ≡ p.holder
+pub holders_stay : (a : Act) (p : Proxy) → (carried_out a p).holder ≡ p.holder
 holders_stay (act.Shown c r why status fields lo hi) p = answers_holder (p.holder c) (act.Shown c r why status fields lo hi) p
 holders_stay (act.Given c x at bytes) p = answers_holder (p.holder c) (act.Given c x at bytes) p
 holders_stay (act.Ended c) p = answers_holder (p.holder c) (act.Ended c) p

@@ -1,6 +1,6 @@
--- What stands next of a client is a request, an error, or nothing yet: of requests no other part is told.
-use Rattle.std.proofs.Common.{ℕ, List, [], ◌∷◌, ◌++◌, Bool, true, false, length}
-use Rattle.std.specs.Prelude.{not, nat_lt, if◌then◌else◌}
+-- What stands next of a client is a request, an error, or nothing yet: of requests no other part is told. And who is ready to be read.
+use Rattle.std.proofs.Common.{◌≡◌, ℕ, List, [], ◌∷◌, ◌++◌, Bool, true, false, Option, Some, None, refl, length}
+use Rattle.std.specs.Prelude.{◌&&◌, not, nat_lt, is_none, if◌then◌else◌}
 use Rattle.hc_head.specs.Decoding.{asked_in}
 use Rattle.hc_head.specs.Requests.{Asked, Grants, Denies}
 use Rattle.hc_head.specs.Scans.{scan_byte, is_open}
@@ -9,18 +9,31 @@ use Rattle.hc_head.specs.declared.message.MsgError.TheVariants as error
 use Rattle.hc_head.specs.declared.scan.Scan.{Scan}
 use Rattle.hc_msg.specs.Inputs.{Next, Waits, Tells, Fails, step_of, told_or, next_in}
 use Rattle.hc_msg.specs.Reading.{Reading, Heading, Requests, Failed, Token, Asks, Answers, Byte, Step, Move, Goes, EndsHead, quiet, fails, after_asked, head_move, move_of}
+use Rattle.hc_wire.specs.Logs.{Called}
+use Rattle.hc_proxy.specs.Connections.{has_unsent}
 use Rattle.hc_proxy.specs.Invariants.{IsOfRequests}
+use Rattle.hc_proxy.specs.Rows.{Client}
+use Rattle.hc_proxy.specs.Starts.{is_ready}
+
+-- within the head of a request
+abbrev pub IsHead : Reading → Type 0
+IsHead (Heading Requests scan text) = Unit {0}
+IsHead _ = ⊥
+
+pub of_head : (s : Reading) → IsHead s → IsOfRequests s
+of_head (Heading Requests scan text) is = tt
+of_head _ is = absurd is
 
 abbrev pub IsNextAsked : Next → Type 0
-IsNextAsked (Waits reading) = IsOfRequests reading
-IsNextAsked (Tells (Asks request) reading rest) = IsOfRequests reading
+IsNextAsked (Waits reading) = IsHead reading
+IsNextAsked (Tells (Asks request) reading rest) = IsHead reading
 IsNextAsked (Fails e) = Unit {0}
 IsNextAsked _ = ⊥
 
 -- what is told at a byte, and where the reading stands behind it
 abbrev IsStepAsked : List Token → Reading → Type 0
 IsStepAsked [] next = IsOfRequests next
-IsStepAsked (Asks request ∷ more) next = IsOfRequests next
+IsStepAsked (Asks request ∷ more) next = IsHead next
 IsStepAsked _ next = ⊥
 
 abbrev IsMoveAsked : Move → Type 0
@@ -61,3 +74,16 @@ next_asks most (Heading Requests scan text) (b ∷ input) is =
     let step : Step = step_of (move_of (Heading Requests scan text) b) in
     told_asked step.tokens step.next input (λ s. next_in most s input) (λ s of. next_asks most s input of) (byte_asked scan text b)
 next_asks most _ input is = absurd is
+
+-- WHO IS READY
+
+-- who is ready waits for nothing, and isn't to be closed
+pub ready_idle : (call : Called) (k : ℕ) (r : Client) → is_ready call k r ≡ true → (r.consumer ≡ None) × (r.closing ≡ false)
+ready_idle call k r is = by_parts (nat_lt 0 (length r.input)) r.consumer (has_unsent call k r) r.closing refl refl is
+  where
+    by_parts : (a : Bool) (o : Option ℕ) (b d : Bool) → r.consumer ≡ o → r.closing ≡ d → (a && is_none o && not b && not d) ≡ true → (r.consumer ≡ None) × (r.closing ≡ false)
+    by_parts false o b d x y h = absurd (let never : false ≡ true = h in cc)
+    by_parts true (Some c) b d x y h = absurd (let never : false ≡ true = h in cc)
+    by_parts true None true d x y h = absurd (let never : false ≡ true = h in cc)
+    by_parts true None false true x y h = absurd (let never : false ≡ true = h in cc)
+    by_parts true None false false x y h = (x, y)

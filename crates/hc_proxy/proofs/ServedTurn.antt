@@ -11,11 +11,9 @@ use Rattle.hc_event.specs.Filters.{is_denied}
 use Rattle.hc_event.specs.declared.event.Event.{Event}
 use Rattle.hc_event.specs.declared.event.Event.TheVariants as event
 use Rattle.hc_head.specs.declared.message.WireRequest.{WireRequest}
-use Rattle.hc_laws.proofs.LawfulRuns.{lawful_in_runs}
 use Rattle.hc_model.specs.Denials.{live}
-use Rattle.hc_model.specs.Entries.{Entry, no_contents}
+use Rattle.hc_model.specs.Entries.{Entry}
 use Rattle.hc_model.specs.Exchanges.{is_open}
-use Rattle.hc_model.specs.Lawful.{Lawful}
 use Rattle.hc_model.specs.Runs.{IsOwed, owed}
 use Rattle.hc_effects.proofs.PieceKeeps.{eq_cases}
 use Rattle.hc_msg.specs.Inputs.{Next, Waits, Tells, Brings, Ends, Fails, next_in}
@@ -25,7 +23,7 @@ use Rattle.hc_wire.specs.Logs.{Called}
 use Rattle.hc_wire.specs.declared.event.WireEvent.{WireEvent}
 use Rattle.hc_wire.specs.declared.event.WireEvent.TheVariants as wire
 use Rattle.hc_proxy.specs.Carrying.{acts_in}
-use Rattle.hc_proxy.specs.Connections.{exchange_of, has_unsent}
+use Rattle.hc_proxy.specs.Connections.{exchange_of}
 use Rattle.hc_proxy.specs.Handling.{is_client, clients_here, inserted, client_comes, left, cancelled, leaves, client_sends, origin_sends, origin_ends, sends, ends, broke, handled_by, handled}
 use Rattle.hc_proxy.specs.Invariants.{IsHolder, HasConsumers, AreServed}
 use Rattle.hc_proxy.specs.Keeping.{IsNumbered}
@@ -44,12 +42,13 @@ use Rattle.hc_proxy.proofs.Inserted.{inserted_here, inserted_on, passed_more}
 use Rattle.hc_laws.proofs.LiveAfter.{Starts}
 use Rattle.hc_proxy.proofs.Marked.{among_contained, contained_among}
 use Rattle.hc_proxy.proofs.NetworkKeeps.{is_of_exchange, heard_keeps}
+use Rattle.hc_proxy.proofs.NextAsks.{ready_idle}
 use Rattle.hc_proxy.proofs.Polled.{polls_add}
 use Rattle.hc_proxy.proofs.QuietActs.{AreQuiet, quiet_both, is_quiet_entry}
 use Rattle.hc_proxy.proofs.RowChanges.{fewer}
 use Rattle.hc_proxy.proofs.Served.{served_behind, each_is_by}
 use Rattle.hc_proxy.proofs.SkippedSteps.{among}
-use Rattle.hc_proxy.proofs.Stands.{Stands, begins_well, owed_here, goes_on}
+use Rattle.hc_proxy.proofs.Stands.{Stands, law_of, owed_here, goes_on}
 use Rattle.hc_proxy.proofs.StepOn.{start_by}
 use Rattle.hc_proxy.proofs.Turning.{with_new}
 
@@ -73,9 +72,6 @@ IsHere p k = (r : Client) → p.client k ≡ Some r → r.gone ≡ false
 -- and nobody goes
 abbrev Stay : Proxy → Proxy → Type 0
 Stay p q = (k : ℕ) → IsHere p k → IsHere q k
-
-law_of : (limits : Limits) (p : Proxy) → Stands limits p → Lawful p.tables
-law_of limits p s = subst Lawful (sym s.same) (lawful_in_runs limits no_contents p.history (begins_well limits) s.run)
 
 -- A CHANGE OF A CLIENT
 
@@ -380,17 +376,6 @@ module _ (limits : Limits) where
             (λ s at. refused_keeps e s (ap (λ (c : Client). c.consumer) (some_is s (read_to (Failed e) [] r) (sym at ∙ changed_here k (read_to (Failed e) []) p r row)) ∙ none)) v,
         stay_by k (refused e) (with_client k (read_to (Failed e) []) p) (λ s at. refl),
       ))
-
-  -- who is ready waits for nothing, and isn't to be closed
-  ready_idle : (call : Called) (k : ℕ) (r : Client) → is_ready call k r ≡ true → (r.consumer ≡ None) × (r.closing ≡ false)
-  ready_idle call k r is = by_parts (nat_lt 0 (length r.input)) r.consumer (has_unsent call k r) r.closing refl refl is
-    where
-      by_parts : (a : Bool) (o : Option ℕ) (b d : Bool) → r.consumer ≡ o → r.closing ≡ d → (a && is_none o && not b && not d) ≡ true → (r.consumer ≡ None) × (r.closing ≡ false)
-      by_parts false o b d x y h = absurd (let never : false ≡ true = h in cc)
-      by_parts true (Some c) b d x y h = absurd (let never : false ≡ true = h in cc)
-      by_parts true None true d x y h = absurd (let never : false ≡ true = h in cc)
-      by_parts true None false true x y h = absurd (let never : false ≡ true = h in cc)
-      by_parts true None false false x y h = (x, y)
 
   if_held : (call : Called) (k : ℕ) (o : Option Client) (p : Proxy) → p.client k ≡ o → IsHere p k → WellHeld limits p → Both p (hears_if limits call k o p)
   if_held call k None p row here w = (w, λ j h. h)

@@ -12,6 +12,7 @@ use Rattle.hc_event.specs.declared.event.Event.{Event}
 use Rattle.hc_rules.specs.declared.room.Limits.{Limits}
 use Rattle.hc_model.specs.Beginnings.{may_begin}
 use Rattle.hc_model.specs.Entries.{Entry, no_contents}
+use Rattle.hc_model.specs.Lawful.{Lawful}
 use Rattle.hc_model.specs.Places.{Places}
 use Rattle.hc_model.specs.Rows.{Tables}
 use Rattle.hc_model.specs.Runs.{IsRun, IsOwed, owed}
@@ -20,6 +21,7 @@ use Rattle.hc_model.specs.Tables.{tables, after, opened_after}
 use Rattle.hc_effects.proofs.NumbersKeep.{opens_next}
 use Rattle.hc_effects.proofs.Owed.{goes, acts_are}
 use Rattle.hc_model.specs.Flaws.{flaw_in}
+use Rattle.hc_laws.proofs.LawfulRuns.{lawful_in_runs}
 use Rattle.hc_laws.proofs.PlaceRuns.{places_in_runs}
 use Rattle.hc_laws.proofs.ReadWhole.{runs_read_whole}
 use Rattle.hc_laws.proofs.SoundRuns.{runs_are_sound}
@@ -61,6 +63,10 @@ module _ (limits : Limits) (p : Proxy) (s : Stands limits p) where
 
   pub has_places : Places p.tables
   has_places = subst Places (sym s.same) (places_in_runs limits no_contents p.history (begins_well limits) s.run)
+
+-- its tables are lawful
+pub law_of : (limits : Limits) (p : Proxy) → Stands limits p → Lawful p.tables
+law_of limits p s = subst Lawful (sym s.same) (lawful_in_runs limits no_contents p.history (begins_well limits) s.run)
 
 -- AN ENTRY
 

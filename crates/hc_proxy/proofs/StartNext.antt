@@ -25,7 +25,7 @@ use Rattle.hc_proxy.specs.Invariants.{unread}
 use Rattle.hc_proxy.specs.Keeping.{Frame, Turn, HasCache, StandsForSome, KeepsHeard, IsHeard, IsNext, Stepped, RestStays, Goes, first_ready}
 use Rattle.hc_proxy.specs.Rows.{Proxy}
 use Rattle.hc_proxy.specs.Starts.{hears, each_heard}
-use Rattle.hc_proxy.proofs.NextAsks.{IsNextAsked, next_asks}
+use Rattle.hc_proxy.proofs.NextAsks.{of_head, IsNextAsked, next_asks}
 use Rattle.hc_proxy.proofs.NextSpelled.{told_spelled, start_spelled}
 use Rattle.hc_proxy.proofs.Rows.{holder_of}
 use Rattle.hc_proxy.proofs.StartOne.{nobody_goes, each_is, of_requests, waits_goes, fails_goes, asked_cache, asks_goes}
@@ -138,7 +138,7 @@ module _ {B : Type 0} {g : Ghosts B} where
     goes_nobody (clients.somebody w) = never_nobody w.k (next_in 1 w.client.reader w.client.input) w.result_is
 
     nothing_by : (w : clients.IsHeard (x.starts + 1) x.clients s told.Nothing) (n : Next) → IsNextAsked n → clients.Becomes w.k (Some (hearing (x.starts + 1) n w.client)) x.clients s → told.Nothing ≡ told_by w.k n → Goes (KeepsHeard t) (faults_in x.cache) (record x { clients = s }) (hears t.frame.limits w.k n p)
-    nothing_by w (Waits reading) of becomes is = waits_goes t x p h w.k w.rest w.client w.first w.row reading s of becomes
+    nothing_by w (Waits reading) of becomes is = waits_goes t x p h w.k w.rest w.client w.first w.row reading s (of_head reading of) becomes
     nothing_by w (Tells (Asks request) reading rest) of becomes is = asks_nothing w.k request.request (sym is)
     nothing_by w (Tells (Answers response) reading rest) of becomes is = absurd of
     nothing_by w (Tells (Byte b) reading rest) of becomes is = absurd of
@@ -157,8 +157,8 @@ module _ {B : Type 0} {g : Ghosts B} where
         (stay : RestStays (record x { clients = s; starts = x.starts + 1 }) x') (moved : x'.moved ≡ true) (count : steps x'.cache ≡ steps x.cache + 1) where
       asked_by : (w : clients.IsHeard (x.starts + 1) x.clients s (told.Asks k r)) (n : Next) → IsNextAsked n → clients.Becomes w.k (Some (hearing (x.starts + 1) n w.client)) x.clients s → told.Asks k r ≡ told_by w.k n → Goes (KeepsHeard t) (faults_in x.cache) x' (hears t.frame.limits w.k n p)
       asked_by w (Tells (Asks request) reading left) of becomes is =
-          let c = asked_cache t x p h w.k w.rest w.client w.first w.row request reading left of s becomes in
-          asks_goes t x p h w.k w.rest w.client w.first w.row request reading left of s becomes r (same_request k w.k r request.request is) x'
+          let c = asked_cache t x p h w.k w.rest w.client w.first w.row request reading left (of_head reading of) s becomes in
+          asks_goes t x p h w.k w.rest w.client w.first w.row request reading left (of_head reading of) s becomes r (same_request k w.k r request.request is) x'
           (steps_by t.frame _ c (let all : unread p + bytes_received x.cache ≤ t.frame.bytes = h.quiet.keeps.cache.small in omega arith)) stay moved count
       asked_by w (Waits reading) of becomes is = asks_nothing k r is
       asked_by w (Tells (Answers response) reading rest) of becomes is = absurd of

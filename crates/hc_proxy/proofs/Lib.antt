@@ -98,7 +98,14 @@ mod HearsSome
 mod RoundOnly
 mod Causes
 mod Said
-pub mod Asked
+mod Asked
+mod Owings
+mod OwedActs
+mod ConsumersOf
+mod ClientSteps
+mod ClientEvents
+mod ClientPolls
+pub mod ClientTurns
 mod OpenEnded
 mod DialsHeard
 mod HeardRows

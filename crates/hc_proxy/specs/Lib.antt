@@ -19,6 +19,7 @@ pub mod Sentences
 pub mod Asked
 pub mod Told
 pub mod Ended
+pub mod Rendered
 pub mod Invariants
 pub mod Logging
 pub mod Stops

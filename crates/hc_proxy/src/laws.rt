@@ -2,6 +2,7 @@
 ghost use Rattle.hc_proxy.specs.Asked.{StartsAreAsked};
 ghost use Rattle.hc_proxy.specs.Ended.{EndsAreTold};
 ghost use Rattle.hc_proxy.specs.Laws.{LoopsAreRuns};
+ghost use Rattle.hc_proxy.specs.Rendered.{AnswersAreOwed};
 ghost use Rattle.hc_proxy.specs.Sentences.{LogsAreAsSaid, EndsAreAsSaid};
 ghost use Rattle.hc_proxy.specs.Told.{EventsAreTold};
 
@@ -39,4 +40,10 @@ pub fn events_are_told()
 /// connection makes whole.
 pub fn ends_are_told()
     ensures { EndsAreTold }
+{}
+
+/// Whatever a log says, a client is owed the answers to its first requests, each once and in their order.
+/// Behind them stands an error answer just where the next bytes are no request.
+pub fn answers_are_owed()
+    ensures { AnswersAreOwed }
 {}

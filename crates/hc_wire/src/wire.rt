@@ -1,5 +1,5 @@
 //! What a wire is.
-ghost use Rattle.std.specs.Prelude.{◌≡◌, ◌+◌, ◌<◌, ◌≤◌, ◌^◌, ⊤, ℕ, Option, None, nat_lt, length, take, IfOk, OnOk, OnErr, if◌then◌else◌};
+ghost use Rattle.std.specs.Prelude.{◌≡◌, ◌+◌, ◌<◌, ◌≤◌, ◌^◌, ⊤, ℕ, Option, None, [], ◌==◌, nat_lt, length, take, drop, IfOk, OnOk, OnErr, if◌then◌else◌};
 ghost use Rattle.std.specs.Result.{is_ok};
 
 use crate::event::{Address, WireError, WireEvent};
@@ -83,6 +83,29 @@ pub trait Wire {
         ensures err { OnErr result (log self.new ≡ log self.old) }
         ensures events { events self.new ≡ events self.old }
         ensures cause { HasWireCause (faults self.old) (faults self.new) result };
+
+    /// As `send`, of the bytes of a list from a place on. Where the connection takes all of them, the
+    /// list is empty afterwards, and else as before.
+    fn hand(&mut self, k: u64, from: &mut Vec<u8>, used: usize) -> Result<usize, WireError>
+        requires { used ≤ length from.old.items }
+        ensures within { IfOk result (λ n. n ≤ length (drop used from.old.items)) }
+        ensures stages { (j : ℕ) → stages self.new j ≡ stages self.old j }
+        ensures ok { IfOk result (λ n. Tells (log self.old) (log self.new) (with_sent k
+            (take n (drop used from.old.items)) (nat_lt n (length (drop used from.old.items))))) }
+        ensures err { OnErr result (log self.new ≡ log self.old) }
+        ensures left { IfOk result (λ n. from.new.items
+            ≡ (if n == length (drop used from.old.items) then [] else from.old.items)) }
+        ensures kept { OnErr result (from.new.items ≡ from.old.items) }
+        ensures events { events self.new ≡ events self.old }
+        ensures cause { HasWireCause (faults self.old) (faults self.new) result }
+    {
+        let left = from.len() - used;
+        let n = self.send(k, &from[used..])?;
+        if n == left {
+            from.clear();
+        }
+        Ok(n)
+    }
 
     /// Whether bytes of the connection may be handed out. At first they may.
     fn reads(&mut self, k: u64, on: bool)

@@ -102,8 +102,9 @@ impl Queue {
         if self.is_empty() {
             return Ok(());
         }
-        let n = wire.send(k, self.rest())?;
-        self.skip(n);
+        let left = self.bytes.len() - self.used;
+        let n = wire.hand(k, &mut self.bytes, self.used)?;
+        self.used = if n == left { 0 } else { self.used + n };
         Ok(())
     }
 

@@ -234,6 +234,18 @@ impl<R: Net + Clock + AllocGlobal + Drop> Wire for MioWire<R> {
         Ok(self.table.send(k, from)?)
     }
 
+    fn hand(&mut self, k: u64, from: &mut Vec<u8>, used: usize) -> Result<usize, WireError> {
+        if used == 0 {
+            return Ok(self.table.keep(k, from)?);
+        }
+        let left = from.len() - used;
+        let n = self.table.send(k, &from[used..])?;
+        if n == left {
+            from.clear();
+        }
+        Ok(n)
+    }
+
     fn reads(&mut self, k: u64, on: bool) {
         self.table.read(k, on);
     }

@@ -2,6 +2,7 @@
 #![tactic(auto)]
 
 mod adapter;
+mod held;
 mod socket;
 mod table;
 

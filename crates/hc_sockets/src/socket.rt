@@ -1,13 +1,14 @@
 //! A connection over a socket.
-ghost use Rattle.std.specs.Prelude.{◌≡◌, ◌<◌, ◌≤◌, true, false, length, IfOk, IfSome};
+ghost use Rattle.std.specs.Prelude.{◌≡◌, ◌<◌, ◌≤◌, ◌==◌, [], true, false, length, if◌then◌else◌, IfOk, IfSome, OnErr};
 ghost use Rattle.hc_wire.specs.Events.{FitsIn};
 ghost use Rattle.hc_sockets.specs.Sockets.{IsOf, KeepsStage, ends_by};
 
+use crate::held::Held;
 use hc_wire::WireEvent;
 use mio::event::Event;
 use mio::net::TcpStream;
 use std::alloc::{AllocError, Global};
-use std::io::{ErrorKind, Read, Write};
+use std::io::{ErrorKind, Read};
 
 /// From how many bytes on what is held is sent at once. Then no more are taken until all are sent.
 const HOLD: usize = 65_536;
@@ -17,9 +18,7 @@ const HOLD: usize = 65_536;
 pub(crate) struct Socket {
     /// None where it could not be made.
     stream: Option<TcpStream>,
-    /// The bytes that were taken, of which the first were sent.
-    held: Vec<u8>,
-    sent: usize,
+    held: Held,
     /// The system may have bytes of it.
     readable: bool,
     /// The other side has told its end.
@@ -43,6 +42,21 @@ pub(crate) struct Socket {
     pub(crate) closed: bool,
 }
 
+/// What is to be noted of a connection.
+#[derive(Clone, Copy)]
+pub(crate) struct News {
+    /// It holds bytes.
+    pub(crate) holds: bool,
+    /// An event of it is due.
+    pub(crate) due: bool,
+}
+
+/// Nothing is.
+pub(crate) const NO_NEWS: News = News {
+    holds: false,
+    due: false,
+};
+
 impl Socket {
     /// A connection that isn't closed. Without a stream it is broken.
     pub(crate) fn new(alloc: Global, stream: Option<TcpStream>) -> Socket
@@ -53,8 +67,7 @@ impl Socket {
         let broken = stream.is_none();
         Socket {
             stream,
-            held: Vec::new(alloc),
-            sent: 0,
+            held: Held::new(alloc),
             readable: false,
             ending: false,
             cut: false,
@@ -103,13 +116,16 @@ impl Socket {
         self.queued = false;
     }
 
-    /// Whether it holds bytes, and that isn't noted yet. Then it is noted.
-    pub(crate) fn note_held(&mut self) -> bool
+    /// What isn't noted yet of it. Then it is noted.
+    pub(crate) fn note_news(&mut self) -> News
         ensures { KeepsStage self.old self.new }
     {
-        let more = !self.is_sent() && !self.unsent;
-        self.unsent = self.unsent || more;
-        more
+        let holds = !self.is_sent() && !self.unsent;
+        self.unsent = self.unsent || holds;
+        News {
+            holds,
+            due: self.note_due(),
+        }
     }
 
     /// It isn't noted any more that it holds bytes.
@@ -140,7 +156,7 @@ impl Socket {
 
     /// Whether all that was taken is sent, or never will be.
     pub(crate) fn is_sent(&self) -> bool {
-        self.broken || self.sent >= self.held.len()
+        self.broken || self.held.is_empty()
     }
 
     /// The event that is due of it, if one is. The bytes of a `Got` are copied into the slice.
@@ -207,25 +223,63 @@ impl Socket {
         ensures within { IfOk result (λ n. n ≤ length from.now) }
         ensures kept { KeepsStage self.old self.new }
     {
-        if self.broken || self.closed {
+        if self.is_deaf() {
             return Ok(from.len());
         }
-        if self.held.len() >= HOLD {
-            self.flush();
+        if !from.is_empty() && !self.makes_room() {
+            self.short = true;
+            return Ok(0);
         }
-        let n = if self.held.len() < HOLD {
-            from.len()
-        } else {
-            0
-        };
-        self.held.extend_from_slice(&from[..n])?;
-        if !from.is_empty() {
-            self.short = n < from.len();
+        self.held.copy(from)?;
+        self.has_taken(from.len());
+        Ok(from.len())
+    }
+
+    /// The same of a list, which is empty where all are taken.
+    pub(crate) fn keep(&mut self, from: &mut Vec<u8>) -> Result<usize, AllocError>
+        ensures within { IfOk result (λ n. n ≤ length from.old.items) }
+        ensures left { IfOk result (λ n. from.new.items
+            ≡ (if n == length from.old.items then [] else from.old.items)) }
+        ensures err { OnErr result (from.new.items ≡ from.old.items) }
+        ensures kept { KeepsStage self.old self.new }
+    {
+        let n = from.len();
+        if self.is_deaf() {
+            from.clear();
+            return Ok(n);
         }
-        if self.held.len() >= HOLD {
-            self.flush();
+        if n > 0 && !self.makes_room() {
+            self.short = true;
+            return Ok(0);
         }
+        self.held.keep(from)?;
+        self.has_taken(n);
         Ok(n)
+    }
+
+    /// Whether it takes all bytes, since none of them will come.
+    fn is_deaf(&self) -> bool {
+        self.broken || self.closed
+    }
+
+    /// Whether it takes more. What it holds is sent before where that is enough.
+    fn makes_room(&mut self) -> bool
+        ensures { KeepsStage self.old self.new }
+    {
+        if self.held.taken() >= HOLD {
+            self.flush();
+        }
+        self.held.taken() < HOLD
+    }
+
+    /// It has taken so many more.
+    fn has_taken(&mut self, n: usize)
+        ensures { KeepsStage self.old self.new }
+    {
+        self.short = self.short && n == 0;
+        if self.held.taken() >= HOLD {
+            self.flush();
+        }
     }
 
     /// Reading is on or off.
@@ -249,7 +303,6 @@ impl Socket {
         }
         if self.is_sent() {
             self.held.clear();
-            self.sent = 0;
         }
     }
 
@@ -257,12 +310,12 @@ impl Socket {
     fn write(&mut self)
         ensures { KeepsStage self.old self.new }
     {
-        let Some(mut stream) = self.stream.as_ref() else {
+        let Some(stream) = &self.stream else {
             return;
         };
-        match stream.write(self.held.get(self.sent..).unwrap_or(&[])) {
+        match self.held.write(stream) {
             Ok(0) => self.broken = true,
-            Ok(n) => self.sent = self.sent.saturating_add(n),
+            Ok(_) => {}
             Err(e) if e.kind() == ErrorKind::WouldBlock => self.blocked = true,
             // A signal came first: it is written again.
             Err(e) if e.kind() == ErrorKind::Interrupted => {}

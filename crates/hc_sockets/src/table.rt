@@ -1,9 +1,10 @@
 //! The sockets of a wire, by number.
-ghost use Rattle.std.specs.Prelude.{◌≡◌, ◌<◌, ◌≤◌, ℕ, Some, length, OnOk, OnErr, IfOk, IfSome};
+ghost use Rattle.std.specs.VecDeque.{deque_len, deque_capacity};
+ghost use Rattle.std.specs.Prelude.{◌≡◌, ◌<◌, ◌≤◌, ◌==◌, ℕ, [], Some, length, if◌then◌else◌, OnOk, OnErr, IfOk, IfSome};
 ghost use Rattle.hc_wire.specs.Events.{Closed, Fresh, FitsIn, with_stage, closed_of, reading_of};
 ghost use Rattle.hc_sockets.specs.Sockets.{life, life_of, lives_after, IsOfLive};
 
-use crate::socket::Socket;
+use crate::socket::{NO_NEWS, News, Socket};
 use hc_wire::WireEvent;
 use mio::event::Event;
 use std::alloc::{AllocError, Global};
@@ -123,13 +124,37 @@ impl Table {
         ensures kept { (j : ℕ) → life self.new.sockets j ≡ life self.old.sockets j }
     {
         self.unsent.reserve(1)?;
-        let n = take_in(&mut self.sockets, k, from)?;
-        if hold_in(&mut self.sockets, k) {
+        let (n, news) = take_in(&mut self.sockets, k, from)?;
+        self.note(k, news);
+        Ok(n)
+    }
+
+    /// The same of a list, which is empty where all are taken.
+    pub(crate) fn keep(&mut self, k: u64, from: &mut Vec<u8>) -> Result<usize, AllocError>
+        ensures within { IfOk result (λ n. n ≤ length from.old.items) }
+        ensures left { IfOk result (λ n. from.new.items
+            ≡ (if n == length from.old.items then [] else from.old.items)) }
+        ensures err { OnErr result (from.new.items ≡ from.old.items) }
+        ensures kept { (j : ℕ) → life self.new.sockets j ≡ life self.old.sockets j }
+    {
+        self.unsent.reserve(1)?;
+        let (n, news) = keep_in(&mut self.sockets, k, from)?;
+        self.note(k, news);
+        Ok(n)
+    }
+
+    /// Lists the connection where that is told.
+    fn note(&mut self, k: u64, news: News)
+        requires { deque_len self.old.unsent < deque_capacity self.old.unsent }
+        ensures { (j : ℕ) → life self.new.sockets j ≡ life self.old.sockets j }
+    {
+        if news.holds {
             let since = self.calls;
             self.unsent.push_back_reserved(Unsent { k, since });
         }
-        self.queue(k);
-        Ok(n)
+        if news.due && self.due.push_back(k).is_err() {
+            self.missed = true;
+        }
     }
 
     /// Sends what is held.
@@ -226,24 +251,46 @@ fn event_in(sockets: &mut HashMap<u64, Socket>, k: u64, into: &mut [u8]) -> Opti
     socket.event(k, into)
 }
 
-/// How many bytes the connection takes.
-fn take_in(sockets: &mut HashMap<u64, Socket>, k: u64, from: &[u8]) -> Result<usize, AllocError>
-    ensures within { IfOk result (λ n. n ≤ length from.now) }
+/// How many bytes the connection takes, and what is to be noted of it then.
+fn take_in(
+    sockets: &mut HashMap<u64, Socket>,
+    k: u64,
+    from: &[u8],
+) -> Result<(usize, News), AllocError>
+    ensures within { IfOk result (λ taken. taken.0 ≤ length from.now) }
     ensures kept { (j : ℕ) → life sockets.new j ≡ life sockets.old j }
 {
     match sockets.get_mut(&k) {
-        Some(socket) => socket.take(from),
-        None => Ok(from.len()),
+        Some(socket) => {
+            let n = socket.take(from)?;
+            Ok((n, socket.note_news()))
+        }
+        None => Ok((from.len(), NO_NEWS)),
     }
 }
 
-/// Whether the connection holds bytes, and that isn't noted yet. Then it is noted.
-fn hold_in(sockets: &mut HashMap<u64, Socket>, k: u64) -> bool
-    ensures { (j : ℕ) → life sockets.new j ≡ life sockets.old j }
+/// The same of a list, which is empty where all are taken.
+fn keep_in(
+    sockets: &mut HashMap<u64, Socket>,
+    k: u64,
+    from: &mut Vec<u8>,
+) -> Result<(usize, News), AllocError>
+    ensures within { IfOk result (λ taken. taken.0 ≤ length from.old.items) }
+    ensures left { IfOk result (λ taken. from.new.items
+        ≡ (if taken.0 == length from.old.items then [] else from.old.items)) }
+    ensures err { OnErr result (from.new.items ≡ from.old.items) }
+    ensures kept { (j : ℕ) → life sockets.new j ≡ life sockets.old j }
 {
     match sockets.get_mut(&k) {
-        Some(socket) => socket.note_held(),
-        None => false,
+        Some(socket) => {
+            let n = socket.keep(from)?;
+            Ok((n, socket.note_news()))
+        }
+        None => {
+            let n = from.len();
+            from.clear();
+            Ok((n, NO_NEWS))
+        }
     }
 }
 

@@ -5,6 +5,7 @@ use crate::fault::Fault;
 use crate::pattern::Pattern;
 use hc_sockets::MioWire;
 use hc_wire::{Wire, WireEvent};
+use std::alloc::Global;
 use std::net::Net;
 use std::rt::Clock;
 
@@ -24,17 +25,20 @@ pub(crate) enum Manner {
     /// All bytes and no more. After a send that took less than it was offered it waits until there is
     /// room.
     Patient,
-    /// On and on, whether there is room or not.
+    /// On and on, whether there is room or not. Each second send hands a list over.
     Pressing,
 }
 
 /// One end of a connection, and what was moved through it.
 #[derive(Drop)]
 pub(crate) struct Side<R: Net + Clock + AllocGlobal + Drop> {
+    alloc: Global,
     wire: MioWire<R>,
     /// The connection's number, while it is open here.
     k: Option<u64>,
     manner: Manner,
+    /// The next send hands a list over.
+    hands: bool,
     has_room: bool,
     /// The last send took none.
     is_stuck: bool,
@@ -47,11 +51,13 @@ pub(crate) struct Side<R: Net + Clock + AllocGlobal + Drop> {
 
 impl<R: Net + Clock + AllocGlobal + Drop> Side<R> {
     /// Nothing is moved yet.
-    pub(crate) fn new(wire: MioWire<R>, k: Option<u64>, manner: Manner) -> Side<R> {
+    pub(crate) fn new(alloc: Global, wire: MioWire<R>, k: Option<u64>, manner: Manner) -> Side<R> {
         Side {
+            alloc,
             wire,
             k,
             manner,
+            hands: false,
             has_room: true,
             is_stuck: false,
             sent: 0,
@@ -102,7 +108,7 @@ impl<R: Net + Clock + AllocGlobal + Drop> Side<R> {
         if len == 0 {
             return Ok(false);
         }
-        let n = self.wire.send(k, &bytes[..len])?;
+        let n = self.send(k, &bytes[..len])?;
         self.sent = self.sent.saturating_add(n);
         self.has_room = n == len;
         self.is_stuck = n == 0;
@@ -110,6 +116,20 @@ impl<R: Net + Clock + AllocGlobal + Drop> Side<R> {
             self.full = self.full.saturating_add(1);
         }
         Ok(n > 0)
+    }
+
+    /// How many of these are taken.
+    fn send(&mut self, k: u64, bytes: &[u8]) -> Result<usize, Fault> {
+        self.hands = self.manner == Manner::Pressing && !self.hands;
+        if !self.hands {
+            return Ok(self.wire.send(k, bytes)?);
+        }
+        let mut list = Vec::from_slice(self.alloc, bytes)?;
+        let n = self.wire.hand(k, &mut list, 0)?;
+        if n < bytes.len() && list.as_slice() != bytes {
+            return Err(Fault::OtherBytes(self.sent));
+        }
+        Ok(n)
     }
 
     /// How many bytes are offered next.

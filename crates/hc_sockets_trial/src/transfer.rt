@@ -44,8 +44,8 @@ fn connected<R: Net + Clock + AllocGlobal + Clone + Drop>(
     let (near, mut far) = bound(rt, 20_000)?;
     let k = far.dial()?;
     Ok((
-        Side::new(near, None, Manner::Pressing),
-        Side::new(far, Some(k), Manner::Patient),
+        Side::new(rt.alloc(), near, None, Manner::Pressing),
+        Side::new(rt.alloc(), far, Some(k), Manner::Patient),
     ))
 }
 

@@ -1,0 +1,143 @@
+//! The bytes that a connection has taken and the system hasn't.
+ghost use Rattle.std.specs.Prelude.{◌≡◌, [], OnOk, OnErr};
+
+use mio::net::TcpStream;
+use std::alloc::{AllocError, Global};
+use std::collections::VecDeque;
+use std::io::IoSlice;
+use std::{io, mem};
+
+/// A list of fewer bytes than these is copied.
+const FEW: usize = 4_096;
+
+/// Bytes in order: those that were copied while no list was kept, and behind them lists.
+#[derive(Drop)]
+pub(crate) struct Held {
+    first: Vec<u8>,
+    lists: VecDeque<Vec<u8>>,
+    /// How many bytes of `first` were sent or, where that has none, of the first list.
+    sent: usize,
+    /// How many bytes were taken since none was held.
+    taken: usize,
+}
+
+impl Held {
+    /// No byte.
+    pub(crate) fn new(alloc: Global) -> Held {
+        Held {
+            first: Vec::new(alloc),
+            lists: VecDeque::new(alloc),
+            sent: 0,
+            taken: 0,
+        }
+    }
+
+    pub(crate) fn is_empty(&self) -> bool {
+        self.first.is_empty() && self.lists.is_empty()
+    }
+
+    /// How many bytes were taken since none was held.
+    pub(crate) fn taken(&self) -> usize {
+        self.taken
+    }
+
+    /// None is held any more.
+    pub(crate) fn clear(&mut self) {
+        self.first.clear();
+        self.lists.truncate(0);
+        self.sent = 0;
+        self.taken = 0;
+    }
+
+    /// These come last.
+    pub(crate) fn copy(&mut self, bytes: &[u8]) -> Result<(), AllocError> {
+        match self.lists.back_mut() {
+            None => self.first.extend_from_slice(bytes)?,
+            Some(last) if last.len() < FEW => last.extend_from_slice(bytes)?,
+            Some(last) => {
+                let alloc = *last.allocator();
+                self.lists.push_back(bytes.to_vec(alloc)?)?;
+            }
+        }
+        self.taken = self.taken.saturating_add(bytes.len());
+        Ok(())
+    }
+
+    /// Those of the list come last, which is empty then. It is kept itself, unless it has few.
+    pub(crate) fn keep(&mut self, list: &mut Vec<u8>) -> Result<(), AllocError>
+        ensures ok { OnOk result (list.new.items ≡ []) }
+        ensures err { OnErr result (list.new.items ≡ list.old.items) }
+    {
+        if list.len() < FEW {
+            self.copy(list.as_slice())?;
+            list.clear();
+            return Ok(());
+        }
+        self.lists.reserve(1)?;
+        self.taken = self.taken.saturating_add(list.len());
+        let none = Vec::new(*list.allocator());
+        self.lists.push_back_reserved(mem::replace(list, none));
+        Ok(())
+    }
+
+    /// One write of the first of them. What the system takes isn't held any more.
+    pub(crate) fn write(&mut self, stream: &TcpStream) -> io::Result<usize> {
+        let n = stream.write_vectored(&[
+            IoSlice::new(rest_of(self.first.as_slice(), self.sent)),
+            IoSlice::new(rest_of(self.list(0), self.sent_of_list())),
+            IoSlice::new(self.list(1)),
+            IoSlice::new(self.list(2)),
+            IoSlice::new(self.list(3)),
+        ])?;
+        self.skip(n);
+        Ok(n)
+    }
+
+    /// How many bytes of the first list were sent.
+    fn sent_of_list(&self) -> usize {
+        if self.first.is_empty() { self.sent } else { 0 }
+    }
+
+    /// The list at a place, if there is one.
+    fn list(&self, at: usize) -> &[u8] {
+        match self.lists.get(at) {
+            Some(list) => list.as_slice(),
+            None => &[],
+        }
+    }
+
+    /// So many more were sent.
+    fn skip(&mut self, n: usize) {
+        self.sent = self.sent.saturating_add(n);
+        if self.sent < self.first.len() {
+            return;
+        }
+        self.sent -= self.first.len();
+        self.first.clear();
+        for _ in 0..u64::MAX {
+            let Some(n) = self.sent_whole() else {
+                break;
+            };
+            self.sent = self.sent.saturating_sub(n);
+            self.lists.pop_front();
+        }
+        if self.lists.is_empty() {
+            self.clear();
+        }
+    }
+
+    /// How many bytes the first list has, if all of them were sent.
+    fn sent_whole(&self) -> Option<usize> {
+        let list = self.lists.front()?;
+        if list.len() <= self.sent {
+            Some(list.len())
+        } else {
+            None
+        }
+    }
+}
+
+/// The bytes from a place on.
+fn rest_of(bytes: &[u8], from: usize) -> &[u8] {
+    bytes.get(from..).unwrap_or(&[])
+}

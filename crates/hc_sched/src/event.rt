@@ -8,7 +8,10 @@ use crate::parts::Part::{Number, Text};
 use crate::parts::{write_hex, write_parts};
 use crate::schedule::Timed;
 use hc_event::{Event, Load, Request, Response};
-use hc_text::NoMemory;
+use hc_text::{NoMemory, write_number};
+
+/// A line of a poll has at most this many bytes: a word of 5, two numbers, a space and its end.
+const POLL_LINE: usize = 47;
 
 fn load_text(load: Load) -> &'static [u8]
     ensures { result.now ≡ load_word load }
@@ -44,6 +47,21 @@ fn write_start(c: u64, request: &Request, to: &mut Vec<u8>) -> Result<(), NoMemo
     ];
     write_parts(&parts, to)?;
     request.fields.write_lines(to)
+}
+
+/// Writes the line of a poll. Most lines are of polls, so its parts are appended as they come.
+fn write_poll(c: u64, want: u32, to: &mut Vec<u8>) -> Result<(), NoMemory>
+    ensures ok { OnOk result (to.new.items
+        ≡ to.old.items ++ item_text (Happens (Event.Poll c want))) }
+    ensures err { OnErr result (to.new.items ≡ to.old.items) }
+{
+    to.reserve(POLL_LINE)?;
+    to.extend_from_slice(b"poll ").unwrap();
+    write_number(c, to).unwrap();
+    to.push_reserved(b' ');
+    write_number(u64::from(want), to).unwrap();
+    to.push_reserved(b'\n');
+    Ok(())
 }
 
 /// Writes the lines of a head.
@@ -87,16 +105,7 @@ fn write_item(event: &Event, to: &mut Vec<u8>) -> Result<(), NoMemory>
 {
     match event {
         Event::Start { c, request } => write_start(*c, request, to),
-        Event::Poll { c, want } => {
-            let parts = [
-                Text(b"poll "),
-                Number(*c),
-                Text(b" "),
-                Number(u64::from(*want)),
-                Text(b"\n"),
-            ];
-            write_parts(&parts, to)
-        }
+        Event::Poll { c, want } => write_poll(*c, *want, to),
         Event::Head { x, response } => write_head(*x, response, to),
         Event::Piece { x, bytes } => write_piece(*x, bytes.bytes.as_slice(), to),
         Event::End { x } => write_parts(&[Text(b"end "), Number(*x), Text(b"\n")], to),

@@ -1,0 +1,37 @@
+-- A map by number, changed at one.
+use Rattle.std.proofs.Common.{◌≡◌, ◌⊎◌, inl, inr, ℕ, ◌<◌, List, [], ◌∷◌, length, false, eqb, ltb, Option, None, refl, arith}
+use Rattle.std.specs.Ordering.{nat_cmp}
+use Rattle.std.specs.BTreeMap.{BTreeMap, Updates, btree_map_len, get, is_at}
+use Rattle.std.specs.Map.{lookup}
+use Rattle.std.proofs.lemmas.Bool.{cases_Bool}
+use Rattle.std.proofs.lemmas.Bool.Decides.{nat_tests}
+
+apart : (j k : ℕ) → (j ≡ k → ⊥) → eqb j k ≡ false
+apart j k off = grind (arith, nat_tests)
+
+apart_back : (j k : ℕ) → (j ≡ k → ⊥) → eqb k j ≡ false
+apart_back j k off = grind (arith, nat_tests)
+
+module _ {X : Type 0} (m n : BTreeMap ℕ X) (k : ℕ) (w : Option X) (updates : Updates nat_cmp m n k w) where
+  pub map-own : get nat_cmp n k ≡ w
+  map-own = updates.1
+
+  pub map-other : (j : ℕ) → (j ≡ k → ⊥) → get nat_cmp n j ≡ get nat_cmp m j
+  map-other j off = updates.2 j (elim (cases_Bool (ltb k j)) [
+    | inl less ↦ rw less refl
+    | inr more ↦ rw (more, apart_back j k off) refl
+  ])
+
+-- nothing stands in an empty one
+no_entries : {X : Type 0} (es : List (ℕ × X)) (k : ℕ) → (0 < length es → ⊥) → lookup (is_at (nat_cmp k)) es ≡ None
+no_entries [] k none = refl
+no_entries (e ∷ es) k none = absurd (none (omega arith))
+
+pub map-empty : {X : Type 0} (m : BTreeMap ℕ X) → (0 < btree_map_len m → ⊥) → (k : ℕ) → get nat_cmp m k ≡ None
+map-empty m none k = no_entries m.entries k none
+
+pub same_or_not : (j k : ℕ) → (j ≡ k) ⊎ (j ≡ k → ⊥)
+same_or_not j k = elim (cases_Bool (eqb j k)) [
+  | inl same ↦ inl (grind (arith, nat_tests))
+  | inr off ↦ inr (λ is. grind (arith, nat_tests))
+]

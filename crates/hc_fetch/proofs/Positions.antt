@@ -1,0 +1,106 @@
+-- What is given agrees with what was gathered, and no byte of it is past 2^62.
+--
+-- A body has no byte at or past 2^62 where fewer were received (`below_most`). What an event gives is some bytes of the body that
+-- was shown first, and so is what was gathered before: so both agree (`all_fit`).
+use Rattle.std.proofs.Common.{◌≡◌, ◌≢◌, inl, inr, ℕ, ◌+◌, ◌-◌, ◌<◌, ◌≤◌, ◌^◌, List, [], ◌∷◌, length, Bool, true, false, Option, Some, None, refl, ap, sym, ◌∙◌, arith}
+use Rattle.std.specs.Prelude.{if◌then◌else◌, nat_le, nat_lt, ◌&&◌, slice_index}
+use Rattle.std.proofs.lemmas.Bool.{cases_lt}
+use Rattle.std.proofs.lemmas.Bool.Decides.{nat_tests}
+use Rattle.hc_sparse.specs.Cells.{Cells, Cell, EndsBy, cells_with}
+use Rattle.hc_event.specs.declared.act.Act.{Act}
+use Rattle.hc_event.specs.declared.act.Act.TheVariants as act
+use Rattle.hc_rules.specs.declared.room.Limits.{Limits}
+use Rattle.hc_model.specs.Beginnings.{may_begin}
+use Rattle.hc_model.specs.Entries.{Entry, History, no_contents}
+use Rattle.hc_model.specs.Exchanges.{base, front}
+use Rattle.hc_model.specs.Numbers.{Numbers, AreShort, most}
+use Rattle.hc_model.specs.Reads.{Delivers, Says, body_of, answer_cell, direct_cell, cell_by}
+use Rattle.hc_model.specs.Rows.{Tables, Exchange, Representation}
+use Rattle.hc_model.specs.Runs.{IsRun}
+use Rattle.hc_model.specs.Tables.{tables}
+use Rattle.hc_effects.proofs.Basics.{none_some, and_right}
+use Rattle.hc_effects.proofs.PieceKeeps.{some_inj}
+use Rattle.hc_laws.proofs.LawfulRuns.{lawful_in_runs}
+use Rattle.hc_laws.proofs.NumberRuns.{numbers_in_runs}
+use Rattle.hc_laws.proofs.ReadNext.{gives_next}
+use Rattle.hc_fetch.specs.declared.plan.FetchPlan.{FetchPlan}
+use Rattle.hc_fetch.specs.Ahead.{Fit}
+use Rattle.hc_fetch.specs.Gathering.{gathered}
+use Rattle.hc_fetch.specs.Heads.{Head, first_head}
+use Rattle.hc_fetch.specs.Hearing.{AllFit}
+use Rattle.hc_fetch.specs.Laws.{IsFetchRun}
+use Rattle.hc_fetch.proofs.Bodies.{before, earlier, run_on, gathered_there, gives_of, gives_none, goes_there}
+use Rattle.hc_fetch.proofs.Gathers.{Stands, GivesOf, one_stands}
+
+-- WHERE A BODY ENDS
+
+then_cell : (b : Bool) (one cell : Cell) → (if b then Some one else None) ≡ Some cell → b ≡ true
+then_cell true one cell is = refl
+then_cell false one cell is = absurd (none_some cell is)
+
+past_store : (r p : ℕ) (w : Exchange) (cell : Cell) → answer_cell r p w ≡ Some cell → p < front w
+past_store r p w cell is =
+    let both = then_cell (nat_le (base w) p && nat_lt p (front w)) _ cell is in
+    let under : nat_lt p (front w) ≡ true = and_right (nat_le (base w) p) (nat_lt p (front w)) both in
+    grind (arith, nat_tests, under)
+
+by_exchange : (t : Tables) (r p : ℕ) (cell : Cell) (q : Option Exchange) → t.exchange r ≡ q → Numbers t → direct_cell r p q ≡ Some cell → p < most t
+by_exchange t r p cell None row n is = absurd (none_some cell is)
+by_exchange t r p cell (Some w) row n is = let under = past_store r p w cell is in let le = n.fronts r w row in omega (arith, under, le)
+
+by_row : (t : Tables) (r p : ℕ) (cell : Cell) (q : Option Representation) → t.representation r ≡ q → Numbers t → ((v : Representation) → t.representation r ≡ Some v → EndsBy v.reach v.body)
+    → cell_by t r p q ≡ Some cell → p < most t
+by_row t r p cell None row n ends is = by_exchange t r p cell (t.exchange r) refl n is
+by_row t r p cell (Some v) row n ends is = elim (cases_lt p v.reach) [
+  | inl under ↦ let le = n.reaches r v row in omega (arith, under, le)
+  | inr past ↦ absurd (none_some cell (sym (ends v row p past) ∙ is))
+]
+
+pub below_most : (limits : Limits) (h : History) → may_begin limits no_contents ≡ true → AreShort no_contents → IsRun limits no_contents h → (tables no_contents h).received ≤ 2 ^ 62
+    → (r p : ℕ) (cell : Cell) → body_of (tables no_contents h) r p ≡ Some cell → p < 2 ^ 62
+below_most limits h may short run few r p cell is =
+    let law = lawful_in_runs limits no_contents h may run in
+    let numbers = numbers_in_runs limits no_contents h may short run in
+    let under = by_row (tables no_contents h) r p cell ((tables no_contents h).representation r) refl numbers (λ v row. (law.sound.rows r v row).store.ends) is in
+    omega (arith, under, few)
+
+-- WHAT IS GIVEN
+
+abbrev GivesSome : List Act → Type 0
+GivesSome acts = (c x at : ℕ) (bytes : List ℕ) → Says (act.Given c x at bytes) acts → length bytes ≢ 0
+
+module _ (t : Tables) (r : ℕ) (low : (p : ℕ) (cell : Cell) → body_of t r p ≡ Some cell → p < 2 ^ 62) where
+  one_fits : (x at : ℕ) (bytes : List ℕ) (g : Cells) → length bytes ≢ 0 → Delivers t r at x bytes → Stands t r g → Fit g at bytes
+  one_fits x at bytes g some given stand = record {
+    below = (let last : length bytes - 1 < length bytes = omega (arith, some) in
+        let under = low (at + (length bytes - 1)) _ (given (length bytes - 1) last) in
+        omega (arith, under, some));
+    same = λ i cell lt is. ap (λ (c : Cell). c.byte) (some_inj cell _ (sym (stand (at + i) cell is) ∙ given i lt));
+  }
+
+  fits : (acts : List Act) (g : Cells) → GivesSome acts → GivesOf t r acts → Stands t r g → AllFit acts g
+  fits [] g some gives stand = tt
+  fits (act.Given c x at bytes ∷ acts) g some gives stand =
+      let given = gives c x at bytes (inl refl) in (
+        one_fits x at bytes g (some c x at bytes (inl refl)) given stand,
+        fits acts (cells_with at x bytes g) (λ d y to more says. some d y to more (inr says)) (λ d y to more says. gives d y to more (inr says)) (one_stands t r x at bytes g given stand),
+      )
+  fits (a ∷ acts) g some gives stand = fits acts g (λ d y to more says. some d y to more (inr says)) (λ d y to more says. gives d y to more (inr says)) stand
+
+module _ (limits : Limits) (plan : FetchPlan) (e : Entry) (f : History) (q : IsFetchRun limits plan (e ∷ f)) (short : AreShort no_contents) (few : (tables no_contents (before limits plan e f q)).received ≤ 2 ^ 62) where
+  some_given : GivesSome e.acts
+  some_given c x at bytes says = (gives_next limits no_contents (before limits plan e f q) e q.begins (run_on limits plan e f q) c x at bytes says).2.some
+
+  low : (r p : ℕ) (cell : Cell) → body_of (tables no_contents (before limits plan e f q)) r p ≡ Some cell → p < 2 ^ 62
+  low = below_most limits (before limits plan e f q) q.begins short (run_on limits plan e f q).0 few
+
+  by_first : (was : Rattle.std.specs.Prelude.Option Head) → first_head f ≡ was → AllFit e.acts (gathered f)
+  by_first None is =
+      let so_far = (gathered_there limits plan f (earlier limits plan e f q)).none is 0 in
+      fits (tables no_contents (before limits plan e f q)) 0 (low 0) e.acts (gathered f) some_given (gives_none limits plan e f q is 0) (goes_there limits plan e f q 0 (gathered f) so_far)
+  by_first (Some head) is =
+      let so_far = (gathered_there limits plan f (earlier limits plan e f q)).there head is in
+      fits (tables no_contents (before limits plan e f q)) head.r (low head.r) e.acts (gathered f) some_given (gives_of limits plan e f q head is) (goes_there limits plan e f q head.r (gathered f) so_far)
+
+  pub all_fit : AllFit e.acts (gathered f)
+  all_fit = by_first (first_head f) refl

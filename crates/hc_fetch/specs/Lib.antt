@@ -1,0 +1,12 @@
+pub mod Plans
+pub mod Gathering
+pub mod Ahead
+pub mod Heads
+pub mod Firsts
+pub mod Deciding
+pub mod Fetches
+pub mod Bounds
+pub mod Endings
+pub mod Hearing
+pub mod Steps
+pub mod Laws

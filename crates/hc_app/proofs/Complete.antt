@@ -31,6 +31,8 @@ use Rattle.hc_app.specs.declared.status.Status.TheVariants as status
 use Rattle.hc_wire.specs.Logs.{Log}
 use Rattle.hc_wire.specs.declared.event.Address.{Address}
 use Rattle.hc_app.specs.Commands.{IsCommand, replay, save, reopen, conditional, generate, origin, serve}
+use Rattle.hc_fetch.specs.declared.plan.FetchPlan.{FetchPlan}
+use Rattle.hc_app.specs.Fetching.{IsFetch}
 use Rattle.hc_app.specs.Fronting as fronting
 use Rattle.hc_app.specs.Generating as generates
 use Rattle.hc_app.specs.Generating.{generating}
@@ -60,6 +62,7 @@ faultless status.SinkFailed source sink = sink refl
 faultless status.WireFailed source sink = tt
 faultless status.NoMemory source sink = tt
 faultless status.ImageRefused source sink = tt
+faultless status.FetchStopped source sink = tt
 
 -- the exit number is that of this status, or that of want of memory
 abbrev EndsWith : Status → Status → Type 0
@@ -284,11 +287,29 @@ module _ (left : List ℕ) (out diag : Option (List ℕ)) (o d : ℕ) (after : S
       named_so : bytes_eq (name_of done) (name_of c) ≡ true
       did : Does (duty_of done) start after s
 
-    asked : (s : Status) (c : Command) → bytes_eq (codes "origin") (name_of c) ≡ false → bytes_eq (codes "serve") (name_of c) ≡ false → IsCommand words c → Keeps words start after wire wire' s → Asked c s
-    asked s c off_origin off_serve is (program.obeyed done word did same) = record { done = done; named_so = same_name done c word is; did = did }
-    asked s c off_origin off_serve is (program.answered listen turns word did same) = absurd (differ (command.Origin listen turns) c off_origin word is)
-    asked s c off_origin off_serve is (program.served listen from turns word did same) = absurd (differ (command.Serve listen from turns) c off_serve word is)
-    asked s c off_origin off_serve is (program.told none did same) = absurd (none c is)
+    -- no fetch is a command
+    not_fetch : (c : Command) → bytes_eq (name_of c) (codes "fetch") ≡ true → ⊥
+    not_fetch command.Replay is = false_true is
+    not_fetch (command.Generate seed count) is = false_true is
+    not_fetch (command.Origin listen turns) is = false_true is
+    not_fetch (command.Serve listen from turns) is = false_true is
+    not_fetch command.Save is = false_true is
+    not_fetch command.Open is = false_true is
+    not_fetch command.Conditional is = false_true is
+
+    fetch_apart : (c : Command) → IsCommand words c → (plan : FetchPlan) → IsFetch words plan → ⊥
+    fetch_apart c is plan f =
+        let p = named words c is in
+        let fetch_is : words ≡ codes "fetch" ∷ f.target ∷ f.first ∷ f.second ∷ [] = f.are ∙ ap (λ (w : List ℕ). w ∷ f.target ∷ f.first ∷ f.second ∷ []) f.plan_is.word_is in
+        not_fetch c ((bytes_eq-Decides (name_of c) (codes "fetch")).1 (first_of words (name_of c) (codes "fetch") p.0 (f.target ∷ f.first ∷ f.second ∷ []) p.1 fetch_is))
+
+    asked : (s : Status) → (s ≡ status.NoMemory → ⊥) → (c : Command) → bytes_eq (codes "origin") (name_of c) ≡ false → bytes_eq (codes "serve") (name_of c) ≡ false → IsCommand words c → Keeps words start after wire wire' s → Asked c s
+    asked s off c off_origin off_serve is (program.obeyed done word did same) = record { done = done; named_so = same_name done c word is; did = did }
+    asked s off c off_origin off_serve is (program.answered listen turns word did same) = absurd (differ (command.Origin listen turns) c off_origin word is)
+    asked s off c off_origin off_serve is (program.served listen from turns word did same) = absurd (differ (command.Serve listen from turns) c off_serve word is)
+    asked s off c off_origin off_serve is (program.told none unfetched did same) = absurd (none c is)
+    asked s off c off_origin off_serve is (program.fetched plan f did same) = absurd (fetch_apart c is plan f)
+    asked _ off c off_origin off_serve is (program.wanting same told_same) = absurd (off refl)
 
     did_replay : (c : Command) (s : Status) → bytes_eq (name_of c) (codes "replay") ≡ true → Does (duty_of c) start after s → Does replaying.replaying start after s
     did_replay command.Replay s same did = did
@@ -310,23 +331,37 @@ module _ (left : List ℕ) (out diag : Option (List ℕ)) (o d : ℕ) (after : S
     did_generate (command.Generate seed count) s same did sound = made seed count s did sound
     did_generate _ s same did sound = absurd (false_true same)
 
+    keeps_some : (s : Status) → (s ≡ status.NoMemory → ⊥) → (due : Status) → IsDue words left due → Keeps words start after wire wire' s → IsFaultless s → EndsWith s due
+    keeps_some s off _ (program.spelled items is spells) keeps sound = let q = asked s off command.Replay refl refl is keeps in spelled_replays items spells s (did_replay q.done s q.named_so q.did) sound
+    keeps_some s off _ (program.refused r is refused) keeps sound = let q = asked s off command.Replay refl refl is keeps in refused_replays r refused s (did_replay q.done s q.named_so q.did) sound
+    keeps_some s off _ (program.generated seed count is) keeps sound = let q = asked s off (command.Generate seed count) refl refl is keeps in did_generate q.done s q.named_so q.did sound
+    keeps_some s off _ (program.saved items is spells) keeps sound = let q = asked s off command.Save refl refl is keeps in spelled_saves items spells s (did_save q.done s q.named_so q.did) sound
+    keeps_some s off _ (program.unsaved r is refused) keeps sound = let q = asked s off command.Save refl refl is keeps in refused_saves r refused s (did_save q.done s q.named_so q.did) sound
+    keeps_some s off _ (program.opened contents schedule items is taken spells) keeps sound =
+        let q = asked s off command.Open refl refl is keeps in spelled_opens contents schedule taken items spells s (did_open q.done s q.named_so q.did) sound
+    keeps_some s off _ (program.stopped contents schedule r is taken refused) keeps sound =
+        let q = asked s off command.Open refl refl is keeps in refused_opens contents schedule taken r refused s (did_open q.done s q.named_so q.did) sound
+    keeps_some s off _ (program.no_image e is why) keeps sound = let q = asked s off command.Open refl refl is keeps in refused_image_opens e why s (did_open q.done s q.named_so q.did) sound
+    keeps_some s off _ (program.fronted items is spells) keeps sound = let q = asked s off command.Conditional refl refl is keeps in spelled_fronts items spells s (did_front q.done s q.named_so q.did) sound
+    keeps_some s off _ (program.unfronted r is refused) keeps sound = let q = asked s off command.Conditional refl refl is keeps in refused_fronts r refused s (did_front q.done s q.named_so q.did) sound
+    keeps_some s off _ (program.no_command none unfetched) (program.obeyed word_is word did same) sound = absurd (none word_is word)
+    keeps_some s off _ (program.no_command none unfetched) (program.told other apart did same) sound = told s did sound
+    keeps_some s off _ (program.no_command none unfetched) (program.answered listen turns word did same) sound = absurd (none (command.Origin listen turns) word)
+    keeps_some s off _ (program.no_command none unfetched) (program.served listen from turns word did same) sound = absurd (none (command.Serve listen from turns) word)
+    keeps_some s off _ (program.no_command none unfetched) (program.fetched plan f did same) sound = absurd (unfetched plan f)
+    keeps_some _ off _ (program.no_command none unfetched) (program.wanting same told_same) sound = absurd (off refl)
+
+    -- want of memory is free
     keeps_due : (s due : Status) → IsDue words left due → Keeps words start after wire wire' s → IsFaultless s → EndsWith s due
-    keeps_due s _ (program.spelled items is spells) keeps sound = let q = asked s command.Replay refl refl is keeps in spelled_replays items spells s (did_replay q.done s q.named_so q.did) sound
-    keeps_due s _ (program.refused r is refused) keeps sound = let q = asked s command.Replay refl refl is keeps in refused_replays r refused s (did_replay q.done s q.named_so q.did) sound
-    keeps_due s _ (program.generated seed count is) keeps sound = let q = asked s (command.Generate seed count) refl refl is keeps in did_generate q.done s q.named_so q.did sound
-    keeps_due s _ (program.saved items is spells) keeps sound = let q = asked s command.Save refl refl is keeps in spelled_saves items spells s (did_save q.done s q.named_so q.did) sound
-    keeps_due s _ (program.unsaved r is refused) keeps sound = let q = asked s command.Save refl refl is keeps in refused_saves r refused s (did_save q.done s q.named_so q.did) sound
-    keeps_due s _ (program.opened contents schedule items is taken spells) keeps sound =
-        let q = asked s command.Open refl refl is keeps in spelled_opens contents schedule taken items spells s (did_open q.done s q.named_so q.did) sound
-    keeps_due s _ (program.stopped contents schedule r is taken refused) keeps sound =
-        let q = asked s command.Open refl refl is keeps in refused_opens contents schedule taken r refused s (did_open q.done s q.named_so q.did) sound
-    keeps_due s _ (program.no_image e is why) keeps sound = let q = asked s command.Open refl refl is keeps in refused_image_opens e why s (did_open q.done s q.named_so q.did) sound
-    keeps_due s _ (program.fronted items is spells) keeps sound = let q = asked s command.Conditional refl refl is keeps in spelled_fronts items spells s (did_front q.done s q.named_so q.did) sound
-    keeps_due s _ (program.unfronted r is refused) keeps sound = let q = asked s command.Conditional refl refl is keeps in refused_fronts r refused s (did_front q.done s q.named_so q.did) sound
-    keeps_due s _ (program.no_command none) (program.obeyed word_is word did same) sound = absurd (none word_is word)
-    keeps_due s _ (program.no_command none) (program.told other did same) sound = told s did sound
-    keeps_due s _ (program.no_command none) (program.answered listen turns word did same) sound = absurd (none (command.Origin listen turns) word)
-    keeps_due s _ (program.no_command none) (program.served listen from turns word did same) sound = absurd (none (command.Serve listen from turns) word)
+    keeps_due status.NoMemory due is keeps sound = inr refl
+    keeps_due status.Done due is keeps sound = keeps_some status.Done (λ same. cc) due is keeps sound
+    keeps_due status.Refused due is keeps sound = keeps_some status.Refused (λ same. cc) due is keeps sound
+    keeps_due status.Usage due is keeps sound = keeps_some status.Usage (λ same. cc) due is keeps sound
+    keeps_due status.SourceFailed due is keeps sound = absurd sound
+    keeps_due status.SinkFailed due is keeps sound = absurd sound
+    keeps_due status.WireFailed due is keeps sound = keeps_some status.WireFailed (λ same. cc) due is keeps sound
+    keeps_due status.ImageRefused due is keeps sound = keeps_some status.ImageRefused (λ same. cc) due is keeps sound
+    keeps_due status.FetchStopped due is keeps sound = keeps_some status.FetchStopped (λ same. cc) due is keeps sound
 
     pub completes : (code : ℕ) → Ends code words start after wire wire' → (code ≡ 3 → HasRisen 0 0) → (code ≡ 4 → HasRisen 0 0 ⊎ HasRisen 0 0) → Completes code words left
     completes code ends source sink due is =

@@ -40,10 +40,10 @@ pub not_false : (b : Bool) → not b ≡ false → b ≡ true
 not_false true is = refl
 not_false false is = absurd (let never : true ≡ false = is in cc)
 
-same_text : (a : List ℕ) (b : List ℕ) → bytes_eq a b ≡ true → a ≡ b
+pub same_text : (a : List ℕ) (b : List ℕ) → bytes_eq a b ≡ true → a ≡ b
 same_text a b is = (bytes_eq-Decides a b).0 is
 
-other_text : (a : List ℕ) (b : List ℕ) → bytes_eq a b ≡ false → a ≡ b → ⊥
+pub other_text : (a : List ℕ) (b : List ℕ) → bytes_eq a b ≡ false → a ≡ b → ⊥
 other_text a b is same = let never : false ≡ true = sym is ∙ (bytes_eq-Decides a b).1 same in cc
 
 head_of : (a b : List ℕ) (xs ys : List (List ℕ)) → a ∷ xs ≡ b ∷ ys → a ≡ b

@@ -11,4 +11,5 @@ pub mod Serving
 pub mod Saving
 pub mod Opening
 pub mod Fronting
+pub mod Fetching
 pub mod Program

@@ -1,5 +1,5 @@
 -- What the program does. Read `Owing` first: what any command does with its streams, by its status. Then what each owes:
--- `Replaying`, `Generating`, `Saving`, `Opening` and `Fronting`.
+-- `Replaying`, `Generating`, `Saving`, `Opening`, `Fronting` and `Fetching`.
 use Rattle.std.specs.Prelude.{◌≡◌, ◌⊎◌, ℕ, List, [], Option, Some}
 use Rattle.hc_sched.specs.declared.schedule.Refused.{Refused}
 use Rattle.hc_sched.specs.Laws.{refusal_of}
@@ -15,6 +15,8 @@ use Rattle.hc_app.specs.declared.status.Status.{Status}
 use Rattle.hc_app.specs.declared.status.Status.TheVariants as status
 use Rattle.hc_app.specs.Answering.{AnswersOrigin}
 use Rattle.hc_app.specs.Commands.{IsCommand, IsNoCommand}
+use Rattle.hc_fetch.specs.declared.plan.FetchPlan.{FetchPlan}
+use Rattle.hc_app.specs.Fetching.{IsFetch, NoFetch, fetching}
 use Rattle.hc_app.specs.Fronting.{fronting}
 use Rattle.hc_app.specs.Generating.{generating}
 use Rattle.hc_app.specs.Owing.{Streams, Owed, Saying, Duty, NeverStops, NeverBegins, Does}
@@ -53,7 +55,7 @@ telling_usage = record { Owes = OwesUsage; Stops = NeverStops; Begins = NeverBeg
 
 -- THE PROGRAM
 
--- What the program did, by its status: what the words ask for, and else the usage. The wire is called for
+-- What the program did, by its status: what the words ask for, a command or a fetch, and else the usage. The wire is called for
 -- the test origin, which uses no stream, and for the serving loop, which writes its record.
 pub data Keeps (words : List (List ℕ)) (before after : Streams) (told told' : Option Log) : Status → Type 0 where
   obeyed : {s : Status} (command : Command) → IsCommand words command →
@@ -64,8 +66,12 @@ pub data Keeps (words : List (List ℕ)) (before after : Streams) (told told' : 
       IsCommand words (command.Serve listen origin turns) →
       ServesFrom listen origin turns told told' before.out after.out s → IsSilent before after →
       Keeps words before after told told' s
-  told : {s : Status} → IsNoCommand words → Does telling_usage before after s → told' ≡ told →
-      Keeps words before after told told' s
+  fetched : {s : Status} (plan : FetchPlan) → IsFetch words plan → Does (fetching plan) before after s →
+      told' ≡ told → Keeps words before after told told' s
+  told : {s : Status} → IsNoCommand words → NoFetch words → Does telling_usage before after s →
+      told' ≡ told → Keeps words before after told told' s
+  -- the words could not be read
+  wanting : after ≡ before → told' ≡ told → Keeps words before after told told' status.NoMemory
 
 -- A status with its exit number, and what the program did.
 pub record Ends (code : ℕ) (words : List (List ℕ)) (before after : Streams) (told told' : Option Log) : Type 0 where
@@ -99,7 +105,7 @@ pub data IsDue (words : List (List ℕ)) (input : List ℕ) : Status → Type 0 
       IsDue words input status.Done
   unfronted : (refused : Refused) → IsCommand words command.Conditional →
       refusal_of 0 input ≡ Some refused → IsDue words input status.Refused
-  no_command : IsNoCommand words → IsDue words input status.Usage
+  no_command : IsNoCommand words → NoFetch words → IsDue words input status.Usage
 
 -- it comes, or that of want of memory
 abbrev pub Completes : ℕ → List (List ℕ) → List ℕ → Type 0

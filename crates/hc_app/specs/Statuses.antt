@@ -16,6 +16,7 @@ code_of status.SinkFailed = 4
 code_of status.WireFailed = 5
 code_of status.NoMemory = 6
 code_of status.ImageRefused = 7
+code_of status.FetchStopped = 8
 
 -- how the program ends where a write gave up
 abbrev pub stopped_as : SinkError → Status

@@ -1,11 +1,12 @@
 //! The program. Schedules come in, and their reports go out; or what they leave is saved as an image,
 //! from which a later run goes on. Schedules are generated, and their summary goes out. Clients are
 //! served from an origin, and there is an origin for tests. A schedule is replayed behind a front that
-//! answers requests on condition of a copy.
+//! answers requests on condition of a copy. One resource is read in parts, and its body is written.
 #![tactic(auto)]
 
 mod address;
 mod command;
+mod fetching;
 mod run;
 mod say;
 mod status;

@@ -9,6 +9,7 @@ ghost use Rattle.hc_app.specs.Answering.{AnswersOrigin, IsEndedAs};
 ghost use Rattle.hc_proxy.specs.Endings as serving;
 ghost use Rattle.hc_app.specs.Serving.{ServesFrom, IsServedAs};
 ghost use Rattle.hc_app.specs.Concluding.{Concludes};
+ghost use Rattle.hc_app.specs.Fetching.{NoFetch};
 ghost use Rattle.hc_app.specs.Fronting.{fronting};
 ghost use Rattle.hc_app.specs.Generating.{generating};
 ghost use Rattle.hc_app.specs.Owing.{streams, Does};
@@ -20,6 +21,7 @@ ghost use Rattle.hc_saving.specs.declared.open.OpenEnded.TheVariants as opened;
 ghost use Rattle.hc_sched.specs.declared.schedule.Ended.TheVariants as ended;
 
 use crate::command::{Command, command_of};
+use crate::fetching::{fetch_input, fetch_of};
 use crate::say::{say_image, say_refusal, say_usage};
 use crate::status::{Status, stopped, unbound};
 use hc_core::Cache;
@@ -31,6 +33,7 @@ use hc_replay::{PROGRAM_LIMITS, generate, replay};
 use hc_saving::{OpenEnded, reopen, save};
 use hc_sched::Ended;
 use hc_store::Memory;
+use hc_text::NoMemory;
 use hc_wire::{Address, Wire};
 use std::alloc::Global;
 
@@ -41,8 +44,10 @@ use std::alloc::Global;
 /// test origin over `wire` for so many turns, and uses no stream; `save` reads a schedule from `input`
 /// and writes the image of what it leaves to `out`; `open` reads an image and a schedule behind it from
 /// `input`, and writes the report of that to `out`; `conditional` is `replay` behind a front, which
-/// answers requests on condition of a copy that the caller has. `diag` is written for a refused line, for
-/// a refused image and for the usage alone, and for a refused line only after the whole report.
+/// answers requests on condition of a copy that the caller has; `fetch TARGET N SIZE` reads one resource
+/// in up to N parts, by a schedule without starts and cancels from `input`, and writes its body. `diag` is
+/// written for a refused line, for a refused image, for a fetch that ended early and for the usage alone,
+/// and for a refused line only after the whole report.
 ///
 /// - 0: all that is due is written: the input is a schedule and `out` has its report, which is that of
 ///   a run, or its image, or the summary of the rounds; or the turns are made, and `out` has the record
@@ -58,6 +63,8 @@ use std::alloc::Global;
 /// - 5: `wire` failed, which `serve` and `origin` alone use.
 /// - 6: there was not enough memory. Each has some first part of what was due.
 /// - 7: the words are `open`, and the image is refused. `diag` has why, and `out` nothing.
+/// - 8: the words are `fetch`, and it ended before all of the body was written. `diag` has why, and `out`
+///   all that was given from the first byte on.
 ///
 /// At 4 and 6 all events before the last 16,384 bytes that were read were stepped: nothing is read on
 /// before what was read is stepped and reported. `open` reads all of its input first.
@@ -127,6 +134,44 @@ fn obey<S: Source, K: Sink, D: Sink, W: Wire>(
 ) -> Status
     requires fresh { IfSome (W.log wire.old) IsFresh }
     requires unseen { (k : ℕ) → W.stages wire.old k ≡ Unseen }
+    ensures keeps { Keeps (map string_bytes words.now)
+        (streams (S.left input.old) (K.taken out.old) (D.taken diag.old)
+        (K.faults out.old) (D.faults diag.old))
+        (streams (S.left input.new) (K.taken out.new) (D.taken diag.new)
+        (K.faults out.new) (D.faults diag.new))
+        (W.log wire.old) (W.log wire.new) result }
+    ensures source_failed { result ≡ Status.SourceFailed
+        → HasRisen (S.faults input.old) (S.faults input.new) }
+    ensures source_calm { result ≢ Status.SourceFailed
+        → S.faults input.new ≡ S.faults input.old }
+    ensures sink_failed { result ≡ Status.SinkFailed
+        → HasRisen (K.faults out.old) (K.faults out.new)
+        ⊎ HasRisen (D.faults diag.old) (D.faults diag.new) }
+    ensures sinks_calm { result ≢ Status.SinkFailed → (K.faults out.new ≡ K.faults out.old)
+        × (D.faults diag.new ≡ D.faults diag.old) }
+    ensures wire_failed { result ≡ Status.WireFailed
+        → wires.HasRisen (W.faults wire.old) (W.faults wire.new) }
+    ensures wire_calm { result ≢ Status.WireFailed → W.faults wire.new ≡ W.faults wire.old }
+{
+    match fetch_of(alloc, words) {
+        Ok(Some(plan)) => fetch_input(alloc, plan, input, out, diag),
+        Ok(None) => obey_other(alloc, words, input, out, diag, wire),
+        Err(NoMemory) => Status::NoMemory,
+    }
+}
+
+/// Does what the words say, where they don't ask for a fetch.
+fn obey_other<S: Source, K: Sink, D: Sink, W: Wire>(
+    alloc: Global,
+    words: &[String],
+    input: &mut S,
+    out: &mut K,
+    diag: &mut D,
+    wire: &mut W,
+) -> Status
+    requires fresh { IfSome (W.log wire.old) IsFresh }
+    requires unseen { (k : ℕ) → W.stages wire.old k ≡ Unseen }
+    requires other { NoFetch (map string_bytes words.now) }
     ensures keeps { Keeps (map string_bytes words.now)
         (streams (S.left input.old) (K.taken out.old) (D.taken diag.old)
         (K.faults out.old) (D.faults diag.old))
@@ -408,7 +453,7 @@ fn served(end: Ended) -> Status
 }
 
 /// Tells how a command ended, and answers the status.
-fn conclude<D: Sink>(alloc: Global, end: Ended, diag: &mut D) -> Status
+pub(crate) fn conclude<D: Sink>(alloc: Global, end: Ended, diag: &mut D) -> Status
     requires wireless { end ≢ ended.WireFailed }
     ensures { Concludes (D.taken diag.old) (D.taken diag.new) (D.faults diag.old)
         (D.faults diag.new) end result }

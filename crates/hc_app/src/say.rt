@@ -1,8 +1,12 @@
 //! What is said on the diagnostics.
-ghost use Rattle.std.specs.Prelude.{◌≡◌, ◌++◌, OnOk, IsErrOf};
+ghost use Rattle.std.specs.Prelude.{◌≡◌, ◌∷◌, [], ◌++◌, OnOk, IsErrOf};
+ghost use Rattle.std.specs.Fmt.{decimal};
 ghost use Rattle.hc_io.specs.Sink.{Takes, TakesFront, HasSinkCause};
-ghost use Rattle.hc_app.specs.Texts.{refusal_text, refusal_line, image_text, usage_text};
+ghost use Rattle.hc_sched.specs.Report.{cause_word};
+ghost use Rattle.hc_app.specs.Texts.{refusal_text, refusal_line, image_text, fetch_text, usage_text};
 
+use hc_event::Cause;
+use hc_fetch::FetchEnded;
 use hc_io::{Sink, SinkError, write_all};
 use hc_saving::OpenEnded;
 use hc_sched::{Refused, SchedRefusal};
@@ -84,6 +88,121 @@ fn write_image_refusal(end: OpenEnded, to: &mut Vec<u8>) -> Result<(), NoMemory>
     Ok(())
 }
 
+/// Says why a fetch ended before all of the body was written.
+pub(crate) fn say_fetch<D: Sink>(
+    alloc: Global,
+    end: FetchEnded,
+    diag: &mut D,
+) -> Result<(), SinkError>
+    ensures said { OnOk result (Takes (D.taken diag.old) (D.taken diag.new) (fetch_text end)) }
+    ensures front { TakesFront (D.taken diag.old) (D.taken diag.new) (fetch_text end) }
+    ensures cause { HasSinkCause (D.faults diag.old) (D.faults diag.new) result }
+    ensures calm { OnOk result (D.faults diag.new ≡ D.faults diag.old) }
+    ensures no_fault { IsErrOf result SinkError.NoMemory → D.faults diag.new ≡ D.faults diag.old }
+{
+    let mut text = Vec::new(alloc);
+    write_fetch_ending(end, &mut text)?;
+    write_all(diag, text.as_slice())
+}
+
+/// Appends the text for a fetch that ended early.
+fn write_fetch_ending(end: FetchEnded, to: &mut Vec<u8>) -> Result<(), NoMemory>
+    ensures { OnOk result (to.new.items ≡ to.old.items ++ fetch_text end) }
+{
+    match end {
+        FetchEnded::Foreign { n } => write_line(b"foreign", n, to),
+        FetchEnded::Failed { c, cause } => write_failure(c, cause, to),
+        FetchEnded::Status { c, status } => write_status(c, status, to),
+        FetchEnded::Other { c, r, first } => write_other(c, r, first, to),
+        FetchEnded::Unfinished { written } => write_line(b"unfinished", written, to),
+        _ => Ok(()),
+    }
+}
+
+/// Appends a word, a number and the end of the line.
+fn write_line(word: &[u8], n: u64, to: &mut Vec<u8>) -> Result<(), NoMemory>
+    ensures { OnOk result
+        (to.new.items ≡ to.old.items ++ (word.now ++ (32 ∷ decimal n ++ 10 ∷ []))) }
+{
+    write_words(word, n, to)?;
+    to.push(b'\n')?;
+    Ok(())
+}
+
+/// Appends a word and a number behind a blank.
+fn write_words(word: &[u8], n: u64, to: &mut Vec<u8>) -> Result<(), NoMemory>
+    ensures { OnOk result (to.new.items ≡ to.old.items ++ word.now ++ 32 ∷ decimal n) }
+{
+    to.extend_from_slice(word)?;
+    to.push(b' ')?;
+    write_number(n, to)
+}
+
+/// Appends that a consumer failed, and why.
+fn write_failure(c: u64, cause: Cause, to: &mut Vec<u8>) -> Result<(), NoMemory>
+    ensures { OnOk result (to.new.items ≡ to.old.items ++ fetch_text (FetchEnded.Failed c cause)) }
+{
+    write_words(b"failed", c, to)?;
+    to.push(b' ')?;
+    write_cause(cause, to)?;
+    to.push(b'\n')?;
+    Ok(())
+}
+
+/// Appends which head a consumer was shown.
+fn write_status(c: u64, status: u16, to: &mut Vec<u8>) -> Result<(), NoMemory>
+    ensures { OnOk result
+        (to.new.items ≡ to.old.items ++ fetch_text (FetchEnded.Status c status)) }
+{
+    write_words(b"status", c, to)?;
+    write_line(b"", u64::from(status), to)
+}
+
+/// Appends which representation a consumer was shown, and which the first one was.
+fn write_other(c: u64, r: u64, first: u64, to: &mut Vec<u8>) -> Result<(), NoMemory>
+    ensures { OnOk result (to.new.items ≡ to.old.items ++ fetch_text (FetchEnded.Other c r first)) }
+{
+    write_words(b"other", c, to)?;
+    write_words(b"", r, to)?;
+    write_line(b"", first, to)
+}
+
+/// Appends the cause of a failure.
+fn write_cause(cause: Cause, to: &mut Vec<u8>) -> Result<(), NoMemory>
+    ensures { OnOk result (to.new.items ≡ to.old.items ++ cause_word cause) }
+{
+    match cause {
+        Cause::Net(x) => write_told(b"net:", x, to),
+        Cause::Short { x, got, promised } => write_short(x, got, promised, to),
+        Cause::Changed(x) => write_told(b"changed:", x, to),
+        Cause::StoreWrite(r) => write_told(b"store-write:", r, to),
+        Cause::StoreRead(r) => write_told(b"store-read:", r, to),
+        Cause::Miss => {
+            to.extend_from_slice(b"miss")?;
+            Ok(())
+        }
+        Cause::BadHead(x) => write_told(b"bad-head:", x, to),
+    }
+}
+
+/// Appends a word and a number right behind it.
+fn write_told(word: &[u8], n: u64, to: &mut Vec<u8>) -> Result<(), NoMemory>
+    ensures { OnOk result (to.new.items ≡ to.old.items ++ (word.now ++ decimal n)) }
+{
+    to.extend_from_slice(word)?;
+    write_number(n, to)
+}
+
+/// Appends which exchange ended early, and how early.
+fn write_short(x: u64, got: u64, promised: u64, to: &mut Vec<u8>) -> Result<(), NoMemory>
+    ensures { OnOk result
+        (to.new.items ≡ to.old.items ++ cause_word (Cause.Short x got promised)) }
+{
+    write_told(b"short:", x, to)?;
+    write_told(b":", got, to)?;
+    write_told(b"/", promised, to)
+}
+
 /// Says which words are a command.
 pub(crate) fn say_usage<D: Sink>(diag: &mut D) -> Result<(), SinkError>
     ensures said { OnOk result (Takes (D.taken diag.old) (D.taken diag.new) usage_text) }
@@ -94,6 +213,6 @@ pub(crate) fn say_usage<D: Sink>(diag: &mut D) -> Result<(), SinkError>
 {
     write_all(
         diag,
-        b"usage: replay | generate SEED COUNT | serve LISTEN ORIGIN TURNS | origin LISTEN TURNS | save | open | conditional\n",
+        b"usage: replay | generate SEED COUNT | serve LISTEN ORIGIN TURNS | origin LISTEN TURNS | save | open | conditional | fetch TARGET N SIZE\n",
     )
 }

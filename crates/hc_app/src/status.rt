@@ -25,6 +25,8 @@ pub enum Status {
     NoMemory,
     /// The image is refused. Nothing is written, and `diag` has why.
     ImageRefused,
+    /// The fetch ended before all of the body was written. `diag` has why.
+    FetchStopped,
 }
 
 impl Status {
@@ -41,6 +43,7 @@ impl Status {
             Status::WireFailed => 5,
             Status::NoMemory => 6,
             Status::ImageRefused => 7,
+            Status::FetchStopped => 8,
         }
     }
 }

@@ -1,33 +1,11 @@
-use Rattle.std.proofs.Common.{refl, subst}
-use Rattle.hc_app.specs.Commands.{IsCommand}
-use Rattle.hc_app.specs.Program.{obeyed, answered, served, told}
-use Rattle.hc_app.proofs.Done.{usage_said, usage_unsaid}
+use Rattle.std.proofs.Common.{refl}
+use Rattle.hc_app.specs.Program.{fetched, wanting}
 use Rattle.hc_app.proofs.run.obey.Goals as goal
 
-pub returns-in-Some-Replay-clause-keeps : goal.returns-in-Some-Replay-clause-keeps
-returns-in-Some-Replay-clause-keeps g c = obeyed _ (subst (IsCommand _) c.in-Some-Replay.field-0-is c.in-Some-Replay.ensures.found) c.replay_input.ensures.does refl
+-- src/run.rt:127:1
+pub returns-in-Ok-Some-clause-keeps : goal.returns-in-Ok-Some-clause-keeps
+returns-in-Ok-Some-clause-keeps g c = fetched _ (rw c.in-Ok-Some.field-0-is at c.in-Ok-Some.ensures.found) c.fetch_input.ensures.does refl
 
-pub returns-in-Some-Generate-clause-keeps : goal.returns-in-Some-Generate-clause-keeps
-returns-in-Some-Generate-clause-keeps g c = obeyed _ (subst (IsCommand _) c.in-Some-Generate.field-0-is c.in-Some-Generate.ensures.found) (c.write_summary.ensures.does _) refl
-
-pub returns-in-Ok-clause-keeps : goal.returns-in-Ok-clause-keeps
-returns-in-Ok-clause-keeps g c = told c.in-None.ensures.none (usage_said _ _ _ _ _ _ _ c.in-Ok.ensures.said) refl
-
+-- src/run.rt:127:1
 pub returns-in-Err-clause-keeps : goal.returns-in-Err-clause-keeps
-returns-in-Err-clause-keeps g c = rw c.stopped.ensures (told c.in-None.ensures.none (usage_unsaid _ _ _ _ _ _ _ _ c.say_usage.ensures.front c.in-Err.ensures.cause.failed) refl)
-
-pub returns-in-Some-Origin-clause-keeps : goal.returns-in-Some-Origin-clause-keeps
-returns-in-Some-Origin-clause-keeps g c = answered _ _ (subst (IsCommand _) c.in-Some-Origin.field-0-is c.in-Some-Origin.ensures.found) c.answer.ensures.answers refl
-
-pub returns-in-Some-Serve-clause-keeps : goal.returns-in-Some-Serve-clause-keeps
-returns-in-Some-Serve-clause-keeps g c =
-    served _ _ _ (subst (IsCommand _) c.in-Some-Serve.field-0-is c.in-Some-Serve.ensures.found) c.serve.ensures.serves (record { unread = refl; unsaid = refl; sound = refl })
-
-pub returns-in-Some-Save-clause-keeps : goal.returns-in-Some-Save-clause-keeps
-returns-in-Some-Save-clause-keeps g c = obeyed _ (subst (IsCommand _) c.in-Some-Save.field-0-is c.in-Some-Save.ensures.found) c.save_input.ensures.does refl
-
-pub returns-in-Some-Open-clause-keeps : goal.returns-in-Some-Open-clause-keeps
-returns-in-Some-Open-clause-keeps g c = obeyed _ (subst (IsCommand _) c.in-Some-Open.field-0-is c.in-Some-Open.ensures.found) c.open_input.ensures.does refl
-
-pub returns-in-Some-Conditional-clause-keeps : goal.returns-in-Some-Conditional-clause-keeps
-returns-in-Some-Conditional-clause-keeps g c = obeyed _ (subst (IsCommand _) c.in-Some-Conditional.field-0-is c.in-Some-Conditional.ensures.found) c.front_input.ensures.does refl
+returns-in-Err-clause-keeps g c = wanting refl refl

@@ -96,8 +96,7 @@ AllFit [] g = Unit {0}
 AllFit (act.Given c x at bytes ∷ acts) g = Fit g at bytes × AllFit acts (cells_with at x bytes g)
 AllFit (_ ∷ acts) g = AllFit acts g
 
--- These acts were taken: what they decide, where no more was decided before, what they show, give and end, and what of that can
--- be written.
+-- These acts were taken behind what was decided before: what they decide, show, give and end, and what of it can be written.
 pub record Takes (s u : Fetching) (acts : List Act) (before after : List ℕ) (was result : Option FetchEnded) : Type 0 where
   pub others : KeepsOthers s u
   pub decides : (first : Option Head) → s.first ≡ first_as first →

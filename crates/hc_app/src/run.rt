@@ -50,8 +50,8 @@ use std::alloc::Global;
 /// and for a refused line only after the whole report.
 ///
 /// - 0: all that is due is written: the input is a schedule and `out` has its report, which is that of
-///   a run, or its image, or the summary of the rounds; or the turns are made, and `out` has the record
-///   of `serve`.
+///   a run, or its image, or the body that is fetched, or the summary of the rounds; or the turns are
+///   made, and `out` has the record of `serve`.
 /// - 1: the input is refused at a line, which ends in the last 16,384 bytes that were read. `out`
 ///   has the report of all events before it, or at `save` nothing, and `diag` the line and why.
 /// - 2: the words are no command. `diag` has the usage, and nothing is read.
@@ -101,9 +101,10 @@ pub fn run<S: Source, K: Sink, D: Sink, W: Wire>(
     obey(alloc, words, input, out, diag, wire).code()
 }
 
-/// A run over streams that never fail: it ends with 0 where the input is a schedule, at `open` behind
+/// A run over streams that never fail. It ends with 0 where the input is a schedule, at `open` behind
 /// an image, or the words ask for a summary, with 1 where the schedule is refused, with 2 where the words
-/// are no command, with 7 where the image is refused, or for want of memory with 6.
+/// are no command, with 7 where the image is refused, or for want of memory with 6. Where the words ask
+/// for a fetch, `serve` or `origin`, `ends` alone says how it ends.
 pub fn run_plain<W: Wire>(
     alloc: Global,
     words: &[String],

@@ -49,9 +49,9 @@ stands_begun_with s contents moment may rows = record {
   rows = rows;
 }
 
-pub good_begun_with : {B : Type 0} {g : Ghosts B} (r : Rows B g) (contents : coded_all.Contents) → may_begin r.limits (plain_contents contents) ≡ true → RowsStand r (first_tables (plain_contents contents)) → StandsAt r contents.now
+pub good_begun_with : {B : Type 0} {g : Ghosts B} (r : Rows B g) (contents : coded_all.Contents) → may_begin r.limits (plain_contents contents) ≡ true → RowsStand r (first_tables (plain_contents contents)) → StandsAt r 0 contents.now
 unfolding tables
-good_begun_with r contents may rows = (record { contents = plain_contents contents; h = []; begins = may; short = short_told contents; within_limits = tt; starts = tt; run = tt; received = none_received r.received; rows = rows }, refl)
+good_begun_with r contents may rows = (record { contents = plain_contents contents; h = []; begins = may; short = short_told contents; within_limits = tt; starts = tt; run = tt; received = none_received 0; rows = rows }, refl)
 
 pub next_begun_with : {B : Type 0} {g : Ghosts B} (r : Rows B g) (contents : coded_all.Contents) → may_begin r.limits (plain_contents contents) ≡ true → RowsStand r (first_tables (plain_contents contents)) → next_of r.exchanges ≤ 2 ^ 60 + 0
 next_begun_with r contents may rows = let fits = next_fits r.limits (plain_contents contents) may in let next = rows.next in omega (arith, fits, next)

@@ -290,7 +290,6 @@ pub record AreKept {B : Type 0} {g : Ghosts B} (a u : Rows B g) (contents : Cont
   pub stands : RowsStand u (first_tables (with_items (take i contents.items) contents))
   pub used : (shelf_of u.entries).used ≡ weights_of (take i contents.items)
   pub limits : u.limits ≡ a.limits
-  pub received : u.received ≡ a.received
   pub bounds : (shelf_of u.entries).limits ≡ (shelf_of a.entries).limits
   pub faults : (shelf_of u.entries).faults ≡ (shelf_of a.entries).faults
 
@@ -305,7 +304,7 @@ module _ {B : Type 0} {g : Ghosts B} (r : Rows B g) (contents : Contents) where
       by_row (Some k) (Some v) off e = none_some v (sym off)
 
   pub none_kept : RowsStand r (first_tables (with_items [] contents)) → (shelf_of r.entries).used ≡ 0 → AreKept r r contents 0
-  none_kept stands used = record { stands = stands; used = used; limits = refl; received = refl; bounds = refl; faults = refl }
+  none_kept stands used = record { stands = stands; used = used; limits = refl; bounds = refl; faults = refl }
 
   pub all_kept : (u : Rows B g) (i : ℕ) → length contents.items ≤ i → AreKept r u contents i → RowsStand u (first_tables contents)
   all_kept u i le k = subst (λ (zs : List Content). RowsStand u (first_tables (with_items zs contents))) (take_all i contents.items le) k.stands
@@ -369,7 +368,6 @@ module _ {B : Type 0} {g : Ghosts B} (a r : Rows B g) (contents : coded_all.Cont
         (stands_more r u (plain_contents contents) (take i (map plain_item contents.items)) (plain_item item) item_fits.ascending item_fits.right item_fits.new keeps kept.stands);
     used = used ∙ (ap (λ (n : ℕ). n + weight_of (bytes_in item.runs)) kept.used ∙ sym (weights_more a.limits (plain_contents contents) good i (plain_item item) place at));
     limits = keeps.limits ∙ kept.limits;
-    received = keeps.received ∙ kept.received;
     bounds = keeps.entries.limits ∙ kept.bounds;
     faults = faults ∙ kept.faults;
   }

@@ -39,7 +39,7 @@ use Rattle.hc_state.proofs.Maps.{merely_true}
 use Rattle.hc_state.proofs.ReaderSteps.{stands_read}
 use Rattle.hc_state.proofs.Rooms.{idle_is}
 use Rattle.hc_core.proofs.Standing.{law_of_runs}
-use Rattle.hc_state.proofs.Words.{as_received, false_true, some_is}
+use Rattle.hc_state.proofs.Words.{false_true, some_is}
 use Rattle.hc_core.specs.declared.cache.Cache.{Cache}
 use Rattle.hc_core.specs.Steps.{StandsFor}
 
@@ -152,7 +152,7 @@ contents_told s found moment last next tells contents h stands =
 
 -- a cache may begin with what a good one tells
 pub may_again : {B : Type 0} {g : Ghosts B} (s : Cache B g) (found : coded_all.Contents) → found.now ≡ s.last_moment → found.last_consumer ≡ s.rows.last_start → found.next_exchange ≡ next_of s.rows.exchanges
-    → TellsAll (shelf_of s.rows.entries) (idle (shelf_of s.rows.entries)) (map plain_item found.items) → IsGood s.rows s.last_moment s.steps → found.next_exchange ≤ 2 ^ 60 → may_begin s.rows.limits (plain_contents found) ≡ true
+    → TellsAll (shelf_of s.rows.entries) (idle (shelf_of s.rows.entries)) (map plain_item found.items) → IsGood s.rows s.received s.last_moment s.steps → found.next_exchange ≤ 2 ^ 60 → may_begin s.rows.limits (plain_contents found) ≡ true
 may_again s found moment last next tells good few =
     merely_true (may_begin s.rows.limits (plain_contents found)) good.0 (λ at.
     let some = at.0 in
@@ -168,14 +168,14 @@ may_again s found moment last next tells good few =
     ∙ leaves_good s.rows.limits some.contents some.begins some.h some.run (heads_come_within_limits some.h some.within_limits) some.starts in_limits)
 
 -- the cache stands for the same where what is kept stays
-pub stands_still : {B : Type 0} {g : Ghosts B} (s u : Cache B g) → u.last_moment ≡ s.last_moment → u.rows.limits ≡ s.rows.limits → u.rows.received ≡ s.rows.received → u.rows.last_start ≡ s.rows.last_start → u.rows.consumers ≡ s.rows.consumers → u.rows.exchanges ≡ s.rows.exchanges → u.rows.keys ≡ s.rows.keys
+pub stands_still : {B : Type 0} {g : Ghosts B} (s u : Cache B g) → u.last_moment ≡ s.last_moment → u.rows.limits ≡ s.rows.limits → u.rows.last_start ≡ s.rows.last_start → u.rows.consumers ≡ s.rows.consumers → u.rows.exchanges ≡ s.rows.exchanges → u.rows.keys ≡ s.rows.keys
     → Stays (shelf_of s.rows.entries) (shelf_of u.rows.entries) → (contents : Contents) (h : History) → StandsFor s contents h → StandsFor u contents h
-stands_still s u moment limits received last consumers exchanges same_keys stays contents h stands = record {
+stands_still s u moment limits last consumers exchanges same_keys stays contents h stands = record {
   begins = rw limits stands.begins;
   short = stands.short;
   run = rw limits stands.run;
   moment = moment ∙ stands.moment;
-  rows = stands_read s.rows u.rows (tables contents h) limits received last consumers exchanges same_keys stays stands.rows;
+  rows = stands_read s.rows u.rows (tables contents h) limits last consumers exchanges same_keys stays stands.rows;
 }
 
 -- what is idle is kept
@@ -222,8 +222,8 @@ tells_more s (q ∷ qs) [] r item all one = absurd all
 tells_more s (q ∷ qs) (x ∷ xs) r item all one = (all.0, tells_more s qs xs r item all.1 one)
 
 -- a cache is as good where what is kept stays
-pub good_still : {B : Type 0} {g : Ghosts B} (r u : Rows B g) (moment : ℕ) → u.limits ≡ r.limits → u.received ≡ r.received → u.last_start ≡ r.last_start → u.consumers ≡ r.consumers → u.exchanges ≡ r.exchanges → u.keys ≡ r.keys → Stays (shelf_of r.entries) (shelf_of u.entries) → StandsAt r moment → StandsAt u moment
-good_still r u moment limits received last consumers exchanges same_keys stays at = (
+pub good_still : {B : Type 0} {g : Ghosts B} (r u : Rows B g) (bytes moment : ℕ) → u.limits ≡ r.limits → u.last_start ≡ r.last_start → u.consumers ≡ r.consumers → u.exchanges ≡ r.exchanges → u.keys ≡ r.keys → Stays (shelf_of r.entries) (shelf_of u.entries) → StandsAt r bytes moment → StandsAt u bytes moment
+good_still r u bytes moment limits last consumers exchanges same_keys stays at = (
   record {
     contents = at.0.contents;
     h = at.0.h;
@@ -232,8 +232,8 @@ good_still r u moment limits received last consumers exchanges same_keys stays a
     within_limits = at.0.within_limits;
     starts = at.0.starts;
     run = rw limits at.0.run;
-    received = as_received received at.0.received;
-    rows = stands_read r u (tables at.0.contents at.0.h) limits received last consumers exchanges same_keys stays at.0.rows;
+    received = at.0.received;
+    rows = stands_read r u (tables at.0.contents at.0.h) limits last consumers exchanges same_keys stays at.0.rows;
   },
   at.1,
 )

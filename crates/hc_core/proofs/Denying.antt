@@ -13,13 +13,12 @@ use Rattle.hc_model.specs.Entries.{Entry, no_contents}
 use Rattle.hc_model.specs.Rows.{Tables}
 use Rattle.hc_model.specs.Tables.{first_tables, after_denied, received_in}
 use Rattle.hc_state.specs.declared.rows.Rows.{Rows}
-use Rattle.hc_state.specs.Good.{rows_with_event}
 use Rattle.hc_state.specs.Stands.{RowsStand}
 use Rattle.hc_state.proofs.Counting.{stands_recounted}
 
-pub stands_denied : {B : Type 0} {g : Ghosts B} (r : Rows B g) (t : Tables) (e : Entry) → RowsStand r t → RowsStand (rows_with_event e.event r) (after_denied t e)
+pub stands_denied : {B : Type 0} {g : Ghosts B} (r : Rows B g) (t : Tables) (e : Entry) → RowsStand r t → RowsStand r (after_denied t e)
 stands_denied r t e stands =
-    stands_recounted r (rows_with_event e.event r) t e.now (t.entries + 1) (t.received + received_in e.event) refl refl refl refl refl refl stands
+    stands_recounted r r t e.now (t.entries + 1) (t.received + received_in e.event) refl refl refl refl refl refl stands
 
 -- AT THE BEGINNING
 

@@ -18,7 +18,7 @@ use Rattle.hc_model.specs.Sound.{Sound}
 use Rattle.hc_model.specs.Tables.{after_accepted, opened_after}
 use Rattle.hc_effects.proofs.NumbersKeep.{opens_next}
 use Rattle.hc_state.specs.declared.rows.Rows.{Rows}
-use Rattle.hc_state.specs.Good.{StandsUntil, rows_with_event}
+use Rattle.hc_state.specs.Good.{StandsUntil}
 use Rattle.hc_state.specs.Stands.{Stands, Answers, gate_of}
 use Rattle.hc_state.proofs.Maps.{merely_below}
 use Rattle.hc_on_leave.proofs.Gates.{denies_as}
@@ -32,7 +32,7 @@ opens_one limits t now flaw sound ev free = by_opening (opening_in (accepted_act
     by_opening (Some o) is = let next : o.x ≡ t.opened + 1 = opens_next limits t now flaw sound ev o free is in omega (arith, next)
 
 module _ {B : Type 0} {g : Ghosts B} (r u : Rows B g) (before out : List Act) (now : ℕ) (ev : Event)
-    (denied : (why : Refusal) → refusal_of (gate_of r ev) ev ≡ Some why → (u ≡ rows_with_event ev r) × (out ≡ before ++ act.Denied why ∷ []))
+    (denied : (why : Refusal) → refusal_of (gate_of r ev) ev ≡ Some why → (u ≡ r) × (out ≡ before ++ act.Denied why ∷ []))
     (answers : refusal_of (gate_of r ev) ev ≡ None → Answers r u before out now ev) where
   by_gate : Stands r → (z : Option Refusal) → refusal_of (gate_of r ev) ev ≡ z → next_of u.exchanges ≤ next_of r.exchanges + 1
   by_gate s None is =
@@ -44,7 +44,7 @@ module _ {B : Type 0} {g : Ghosts B} (r u : Rows B g) (before out : List Act) (n
       omega (arith, one, was, after)
   by_gate s (Some why) is = let same : next_of u.exchanges ≡ next_of r.exchanges = ap (λ (z : Rows B g). next_of z.exchanges) (denied why is).0 in omega (arith, same)
 
-  pub next_after : r.received < 2 ^ 61 → (last : ℕ) → ∥ StandsUntil r last ∥₁ → next_of u.exchanges ≤ next_of r.exchanges + 1
-  next_after small last some =
-      let lt = merely_below (next_of u.exchanges) (next_of r.exchanges + 2) some (λ s. (let le = by_gate (stands_of_runs r small s.0) (refusal_of (gate_of r ev) ev) refl in omega (arith, le))) in
+  pub next_after : (bytes : ℕ) → bytes < 2 ^ 61 → (last : ℕ) → ∥ StandsUntil r bytes last ∥₁ → next_of u.exchanges ≤ next_of r.exchanges + 1
+  next_after bytes small last some =
+      let lt = merely_below (next_of u.exchanges) (next_of r.exchanges + 2) some (λ s. (let le = by_gate (stands_of_runs r bytes small s.0) (refusal_of (gate_of r ev) ev) refl in omega (arith, le))) in
       omega (arith, lt)

@@ -1,5 +1,5 @@
 -- The facts that hold of the tables of every run.
-use Rattle.std.proofs.Common.{◌≡◌, ℕ, ◌<◌, ◌≤◌, ◌^◌, true, Option, Some, None, sym, subst}
+use Rattle.std.proofs.Common.{◌≡◌, ℕ, ◌<◌, ◌≤◌, ◌^◌, true, Option, Some, None, sym, subst, arith}
 use Rattle.std.specs.Prelude.{is_some}
 use Rattle.hc_store.specs.declared.backend.Backend.{Ghosts}
 use Rattle.hc_event.specs.declared.event.Response.{Response}
@@ -92,29 +92,32 @@ facts_of_runs limits contents h may run sized =
       unended = unended_in_runs limits contents h may run;
     }
 
--- of what is in use in a run that the rows count, which is few
-pub sized_of_some : {B : Type 0} {g : Ghosts B} (r : Rows B g) → r.received < 2 ^ 61 → (s : StandsForSome r) → AreSized (tables s.contents s.h)
-sized_of_some r small s =
+few_of : {n bytes : ℕ} → n ≤ bytes → bytes < 2 ^ 61 → n < 2 ^ 61
+few_of most small = omega (arith, most, small)
+
+-- of what is in use in a run of few bytes
+pub sized_of_some : {B : Type 0} {g : Ghosts B} (r : Rows B g) (bytes : ℕ) → bytes < 2 ^ 61 → (s : StandsForSome r bytes) → AreSized (tables s.contents s.h)
+sized_of_some r bytes small s =
     sized_here r.limits (tables s.contents s.h) (law_of_runs r.limits s.contents s.h s.begins s.run) (sizes_in_runs r.limits s.contents s.h s.begins s.run)
-    (numbers_in_runs r.limits s.contents s.h s.begins s.short s.run) (few_received s.received small)
+    (numbers_in_runs r.limits s.contents s.h s.begins s.short s.run) (few_received (few_of s.received small))
 
 -- and so in any other run for which they stand
-pub sized_of_any : {B : Type 0} {g : Ghosts B} (r : Rows B g) (contents : Contents) (h : History) → r.received < 2 ^ 61 → ∥ StandsForSome r ∥₁ → may_begin r.limits contents ≡ true → IsRun r.limits contents h → RowsStand r (tables contents h) → AreSized (tables contents h)
-sized_of_any r contents h small some may run rows q v row used =
+pub sized_of_any : {B : Type 0} {g : Ghosts B} (r : Rows B g) (bytes : ℕ) (contents : Contents) (h : History) → bytes < 2 ^ 61 → ∥ StandsForSome r bytes ∥₁ → may_begin r.limits contents ≡ true → IsRun r.limits contents h → RowsStand r (tables contents h) → AreSized (tables contents h)
+sized_of_any r bytes contents h small some may run rows q v row used =
     merely_same v.size (size v.stored) some (λ s.
     sized_alike r (tables contents h) (tables s.contents s.h) (law_of_runs r.limits contents h may run) (sizes_in_runs r.limits contents h may run) rows
-    (law_of_runs r.limits s.contents s.h s.begins s.run) (numbers_in_runs r.limits s.contents s.h s.begins s.short s.run) (few_received s.received small) s.rows q v row used)
+    (law_of_runs r.limits s.contents s.h s.begins s.run) (numbers_in_runs r.limits s.contents s.h s.begins s.short s.run) (few_received (few_of s.received small)) s.rows q v row used)
 
-pub stands_of_runs : {B : Type 0} {g : Ghosts B} (r : Rows B g) → r.received < 2 ^ 61 → StandsForSome r → Stands r
-stands_of_runs r small s = record {
+pub stands_of_runs : {B : Type 0} {g : Ghosts B} (r : Rows B g) (bytes : ℕ) → bytes < 2 ^ 61 → StandsForSome r bytes → Stands r
+stands_of_runs r bytes small s = record {
   t = tables s.contents s.h;
-  facts = facts_of_runs r.limits s.contents s.h s.begins s.run (sized_of_some r small s);
+  facts = facts_of_runs r.limits s.contents s.h s.begins s.run (sized_of_some r bytes small s);
   numbers = numbers_in_runs r.limits s.contents s.h s.begins s.short s.run;
   within_limits = requests_are_within_limits s.contents s.h s.within_limits;
-  received = s.received;
+  received = few_of s.received small;
   rows = s.rows;
 }
 
-pub stands_by : {B : Type 0} {g : Ghosts B} (r : Rows B g) (moment : ℕ) → r.received < 2 ^ 61 → StandsUntil r moment → StandsBy r moment
+pub stands_by : {B : Type 0} {g : Ghosts B} (r : Rows B g) (bytes moment : ℕ) → bytes < 2 ^ 61 → StandsUntil r bytes moment → StandsBy r moment
 unfolding stands_of_runs
-stands_by r moment small (s, until) = (stands_of_runs r small s, until)
+stands_by r bytes moment small (s, until) = (stands_of_runs r bytes small s, until)

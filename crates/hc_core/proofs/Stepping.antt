@@ -39,10 +39,10 @@ use Rattle.hc_laws.proofs.StoresGrow.{stores_grow_in_runs}
 use Rattle.hc_laws.proofs.TruthRuns.{truth_in_runs}
 use Rattle.hc_event.specs.WithinLimits.{IsEventWithinLimits}
 use Rattle.hc_state.specs.declared.rows.Rows.{Rows}
-use Rattle.hc_state.specs.Stands.{RowsStand, Answers, gate_of}
+use Rattle.hc_state.specs.Stands.{RowsStand, StandsForSome, Answers, gate_of}
 use Rattle.hc_model.specs.Flaws.{is_fault}
 use Rattle.hc_state.specs.Facts.{Facts}
-use Rattle.hc_state.specs.Good.{StandsUntil, StandsAt, rows_with_event}
+use Rattle.hc_state.specs.Good.{StandsUntil, StandsAt}
 use Rattle.hc_on_leave.proofs.Gates.{denies_as}
 use Rattle.hc_on_leave.proofs.Sets.{acts_set}
 use Rattle.hc_core.proofs.Standing.{facts_of_runs, sized_of_any, sized_of_some}
@@ -74,9 +74,9 @@ stands_beginning s moment last next count none unopened unawaited unkept order l
   rows = stands_begun s.rows last next count none unopened unawaited unkept order limits;
 }
 
-pub begins_good : {B : Type 0} {g : Ghosts B} (r : Rows B g) → r.last_start ≡ 0 → next_of r.exchanges ≡ 1 → hash_map_len r.consumers ≡ 0 → ((c : ℕ) → get nat_eq r.consumers c ≡ None) → ((x : ℕ) → table_of r.exchanges x ≡ unknown) → ((key : List ℕ) → kept_of r.keys key ≡ nothing) → ((q : ℕ) → (shelf_of r.entries).kept q ≡ None) → (shelf_of r.entries).order ≡ [] → (shelf_of r.entries).limits ≡ r.limits → StandsAt r 0
+pub begins_good : {B : Type 0} {g : Ghosts B} (r : Rows B g) → r.last_start ≡ 0 → next_of r.exchanges ≡ 1 → hash_map_len r.consumers ≡ 0 → ((c : ℕ) → get nat_eq r.consumers c ≡ None) → ((x : ℕ) → table_of r.exchanges x ≡ unknown) → ((key : List ℕ) → kept_of r.keys key ≡ nothing) → ((q : ℕ) → (shelf_of r.entries).kept q ≡ None) → (shelf_of r.entries).order ≡ [] → (shelf_of r.entries).limits ≡ r.limits → StandsAt r 0 0
 unfolding tables
-begins_good r last next count none unopened unawaited unkept order limits = (record { contents = no_contents; h = []; begins = begins r.limits; short = none_long; within_limits = tt; starts = tt; run = tt; received = none_received r.received; rows = stands_begun r last next count none unopened unawaited unkept order limits }, refl)
+begins_good r last next count none unopened unawaited unkept order limits = (record { contents = no_contents; h = []; begins = begins r.limits; short = none_long; within_limits = tt; starts = tt; run = tt; received = none_received 0; rows = stands_begun r last next count none unopened unawaited unkept order limits }, refl)
 
 -- WHAT COMES
 
@@ -136,13 +136,27 @@ received_next : (contents : Contents) (h : History) (e : Entry) → (tables cont
 unfolding tables
 received_next contents h e = received_after (tables contents h) e
 
+-- as few bytes, or more
+abbrev pub fewer : {B : Type 0} {g : Ghosts B} {r : Rows B g} {m n : ℕ} → StandsForSome r m → m ≤ n → StandsForSome r n
+fewer s le = record {
+  contents = s.contents;
+  h = s.h;
+  begins = s.begins;
+  short = s.short;
+  within_limits = s.within_limits;
+  starts = s.starts;
+  run = s.run;
+  received = (let most = s.received in omega (arith, most, le));
+  rows = s.rows;
+}
+
 -- a sum that is small has small parts
 pub small_part : {n : ℕ} (m : ℕ) → n + m < 2 ^ 61 → n < 2 ^ 61
 small_part m fits = omega (arith, fits)
 
 -- until its last moment
-pub until_at : {B : Type 0} {g : Ghosts B} (r : Rows B g) (moment : ℕ) → StandsAt r moment → StandsUntil r moment
-until_at r moment at = (at.0, (let is = at.1 in omega (arith, is)))
+pub until_at : {B : Type 0} {g : Ghosts B} (r : Rows B g) (bytes moment : ℕ) → StandsAt r bytes moment → StandsUntil r bytes moment
+until_at r bytes moment at = (at.0, (let is = at.1 in omega (arith, is)))
 
 -- WHAT IS OWED
 
@@ -196,9 +210,9 @@ one_counted faults after flaw true is caused never = let one = caused is in omeg
 one_counted faults after flaw false is caused never = omega (arith, never)
 
 module _ {B : Type 0} {g : Ghosts B} (r u : Rows B g) (now : ℕ) (ev : Event) (before out : List Act)
-    (denied : (why : Refusal) → refusal_of (gate_of r ev) ev ≡ Some why → (u ≡ rows_with_event ev r) × (out ≡ before ++ act.Denied why ∷ []))
+    (denied : (why : Refusal) → refusal_of (gate_of r ev) ev ≡ Some why → (u ≡ r) × (out ≡ before ++ act.Denied why ∷ []))
     (answered : refusal_of (gate_of r ev) ev ≡ None → Answers r u before out now ev) (limits : u.limits ≡ r.limits) (never : (shelf_of r.entries).faults ≤ (shelf_of u.entries).faults)
-    (small : r.received < 2 ^ 61) (counts : u.received ≡ r.received + received_in ev) where
+    (bytes : ℕ) (small : bytes < 2 ^ 61) where
   module _ (contents : Contents) (h : History) (begun : may_begin r.limits contents ≡ true) (run : IsRun r.limits contents h) (sized : AreSized (tables contents h)) (rows : RowsStand r (tables contents h)) (in_time : (tables contents h).moment ≤ now) where
     abbrev t : Tables
     t = tables contents h
@@ -247,10 +261,10 @@ module _ {B : Type 0} {g : Ghosts B} (r u : Rows B g) (now : ℕ) (ev : Event) (
     pub one_more : Told r u contents h before out now ev
     one_more = by_refusal (refusal_of (gate_of r ev) ev) refl
 
-  abbrev some_more : (last : ℕ) → last ≤ now → (some : StandsUntil r last) → Told r u some.0.contents some.0.h before out now ev
-  some_more last later (s, until) = one_more s.contents s.h s.begins s.run (sized_of_some r small s) s.rows (omega (arith, later, until))
+  abbrev some_more : (last : ℕ) → last ≤ now → (some : StandsUntil r bytes last) → Told r u some.0.contents some.0.h before out now ev
+  some_more last later (s, until) = one_more s.contents s.h s.begins s.run (sized_of_some r bytes small s) s.rows (omega (arith, later, until))
 
-  pub some_after : IsEventWithinLimits ev → (last : ℕ) → last ≤ now → StandsUntil r last → StandsAt u now
+  pub some_after : IsEventWithinLimits ev → (last : ℕ) → last ≤ now → StandsUntil r bytes last → StandsAt u (bytes + received_in ev) now
   some_after within_limits last later (s, until) =
       let more = (some_more last later (s, until)).more in (
         record {
@@ -261,34 +275,34 @@ module _ {B : Type 0} {g : Ghosts B} (r u : Rows B g) (now : ℕ) (ev : Event) (
           within_limits = (s.within_limits, within_limits_fields ev within_limits);
           starts = (s.starts, has_target ev within_limits);
           run = more.run;
-          received = more_received (received_in ev) counts (received_next s.contents s.h (record { now = now; event = ev; acts = acts_in before out })) s.received;
+          received = more_received {a = bytes + received_in ev} (received_in ev) refl (received_next s.contents s.h (record { now = now; event = ev; acts = acts_in before out })) s.received;
           rows = more.rows;
         },
         more.moment,
       )
 
-  pub small_starts : IsEventWithinLimits ev → (last : ℕ) → last ≤ now → ∥ StandsUntil r last ∥₁ → r.last_start < 2 ^ 62 → u.last_start < 2 ^ 62
+  pub small_starts : IsEventWithinLimits ev → (last : ℕ) → last ≤ now → ∥ StandsUntil r bytes last ∥₁ → r.last_start < 2 ^ 62 → u.last_start < 2 ^ 62
   small_starts within_limits last later some small =
       merely_below u.last_start (2 ^ 62) some (λ until.
       let more = (some_more last later until).more in
       let was : (tables until.0.contents until.0.h).last_start < 2 ^ 62 = subst (λ n. n < 2 ^ 62) until.0.rows.last_start small in
       subst (λ n. n < 2 ^ 62) (sym more.rows.last_start) (small_next until.0.contents until.0.h (record { now = now; event = ev; acts = acts_in before out }) within_limits was))
 
-  pub told_after : (last : ℕ) → last ≤ now → ∥ StandsUntil r last ∥₁ → out ≡ before ++ acts_in before out
+  pub told_after : (last : ℕ) → last ≤ now → ∥ StandsUntil r bytes last ∥₁ → out ≡ before ++ acts_in before out
   told_after last later some = ∥∥₁_elim some (acts_set out (before ++ acts_in before out)) (λ s. (some_more last later s).told)
 
-  pub counted_after : (last : ℕ) → last ≤ now → ∥ StandsUntil r last ∥₁ → (shelf_of r.entries).faults + failures_in (acts_in before out) ≤ (shelf_of u.entries).faults
+  pub counted_after : (last : ℕ) → last ≤ now → ∥ StandsUntil r bytes last ∥₁ → (shelf_of r.entries).faults + failures_in (acts_in before out) ≤ (shelf_of u.entries).faults
   counted_after last later some = ∥∥₁_elim some le_prop (λ s. (some_more last later s).more.counted)
 
 module _ {B : Type 0} {g : Ghosts B} (s u : Cache B g) (now : ℕ) (ev : Event) (before out : List Act)
-    (denied : (why : Refusal) → refusal_of (gate_of s.rows ev) ev ≡ Some why → (u.rows ≡ rows_with_event ev s.rows) × (out ≡ before ++ act.Denied why ∷ []))
+    (denied : (why : Refusal) → refusal_of (gate_of s.rows ev) ev ≡ Some why → (u.rows ≡ s.rows) × (out ≡ before ++ act.Denied why ∷ []))
     (answered : refusal_of (gate_of s.rows ev) ev ≡ None → Answers s.rows u.rows before out now ev)
     (later : s.last_moment ≤ now) (moment : u.last_moment ≡ now) (limits : u.rows.limits ≡ s.rows.limits) (never : (shelf_of s.rows.entries).faults ≤ (shelf_of u.rows.entries).faults)
-    (small : s.rows.received < 2 ^ 61) (counts : u.rows.received ≡ s.rows.received + received_in ev) where
-  stands_on : ∥ StandsUntil s.rows s.last_moment ∥₁ → (contents : Contents) (h : History) → StandsFor s contents h → StandsFor u contents (record { now = now; event = ev; acts = acts_in before out } ∷ h)
+    (small : s.received < 2 ^ 61) where
+  stands_on : ∥ StandsUntil s.rows s.received s.last_moment ∥₁ → (contents : Contents) (h : History) → StandsFor s contents h → StandsFor u contents (record { now = now; event = ev; acts = acts_in before out } ∷ h)
   stands_on some contents h stands =
-      let sized = sized_of_any s.rows contents h small (∥∥₁_map some (λ until. until.0)) stands.begins stands.run stands.rows in
-      let more = (one_more s.rows u.rows now ev before out denied answered limits never small counts contents h stands.begins stands.run sized stands.rows (subst (λ m. m ≤ now) stands.moment later)).more in
+      let sized = sized_of_any s.rows s.received contents h small (∥∥₁_map some (λ until. until.0)) stands.begins stands.run stands.rows in
+      let more = (one_more s.rows u.rows now ev before out denied answered limits never s.received small contents h stands.begins stands.run sized stands.rows (subst (λ m. m ≤ now) stands.moment later)).more in
       record {
         begins = more.begins;
         short = stands.short;
@@ -297,14 +311,14 @@ module _ {B : Type 0} {g : Ghosts B} (s u : Cache B g) (now : ℕ) (ev : Event) 
         rows = more.rows;
       }
 
-  pub steps_on : ∥ StandsUntil s.rows s.last_moment ∥₁ → u.steps ≡ s.steps + 1 → Steps s u before out now ev
+  pub steps_on : ∥ StandsUntil s.rows s.received s.last_moment ∥₁ → u.steps ≡ s.steps + 1 → Steps s u before out now ev
   steps_on some one = record {
     acts = acts_in before out;
-    told = told_after s.rows u.rows now ev before out denied answered limits never small counts s.last_moment later some;
+    told = told_after s.rows u.rows now ev before out denied answered limits never s.received small s.last_moment later some;
     answered = record {
       limits = limits;
       stands = stands_on some;
-      counted = counted_after s.rows u.rows now ev before out denied answered limits never small counts s.last_moment later some;
+      counted = counted_after s.rows u.rows now ev before out denied answered limits never s.received small s.last_moment later some;
       number = one;
     };
   }

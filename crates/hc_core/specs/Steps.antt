@@ -33,7 +33,7 @@ abbrev pub steps : {B : Type 0} {g : Ghosts B} → Cache B g → ℕ
 steps s = s.steps
 
 abbrev pub bytes_received : {B : Type 0} {g : Ghosts B} → Cache B g → ℕ
-bytes_received s = s.rows.received
+bytes_received s = s.received
 
 -- how many consumers are live
 abbrev pub live_in : {B : Type 0} {g : Ghosts B} → Cache B g → ℕ

@@ -19,6 +19,8 @@ pub struct Cache<B: Backend> {
     failed: bool,
     last_moment: u64,
     steps: u64,
+    /// How many bytes pieces had so far.
+    received: u64,
     rows: Rows<B>,
-    ghost good: { failed ≡ false → IsGood rows last_moment steps } by { Prim.hlevel props },
+    ghost good: { failed ≡ false → IsGood rows received last_moment steps } by { Prim.hlevel props },
 }

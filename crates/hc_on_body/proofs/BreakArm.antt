@@ -101,15 +101,15 @@ module _ (t : Tables) (law : Lawful t) (x c : ℕ) (w : Exchange) (k : rows.Cons
   ]
 
   pub stands_broken : {B : Type 0} {g : Ghosts B} (r mid down u : Rows B g) (q : Consumer) → RowsStand r t → get nat_eq r.consumers c ≡ Some q → LeavesPlace r mid c q
-      → down.limits ≡ mid.limits → down.received ≡ mid.received → down.last_start ≡ mid.last_start → down.exchanges ≡ mid.exchanges → down.keys ≡ mid.keys → down.entries ≡ mid.entries → ChangesAt mid.consumers down.consumers c (put_down why)
-      → u.limits ≡ down.limits → u.received ≡ down.received → u.last_start ≡ down.last_start → u.consumers ≡ down.consumers → u.keys ≡ down.keys → u.entries ≡ down.entries → exch.Becomes known.without_exchange x down.exchanges u.exchanges
+      → down.limits ≡ mid.limits → down.last_start ≡ mid.last_start → down.exchanges ≡ mid.exchanges → down.keys ≡ mid.keys → down.entries ≡ mid.entries → ChangesAt mid.consumers down.consumers c (put_down why)
+      → u.limits ≡ down.limits → u.last_start ≡ down.last_start → u.consumers ≡ down.consumers → u.keys ≡ down.keys → u.entries ≡ down.entries → exch.Becomes known.without_exchange x down.exchanges u.exchanges
       → RowsStand u (with_consumer c (Some (effects.put_down why k)) (with_exchange x (Some (over w)) t))
-  stands_broken r mid down u q stands at left limits received last exchanges keys entries changes limits_u received_u last_u consumers_u keys_u entries_u closes =
+  stands_broken r mid down u q stands at left limits last exchanges keys entries changes limits_u last_u consumers_u keys_u entries_u closes =
       subst (RowsStand u) (closed_is s x w waits.row)
-      (stands_unstored down u s x now unawaited apart limits_u received_u last_u consumers_u keys_u entries_u closes)
+      (stands_unstored down u s x now unawaited apart limits_u last_u consumers_u keys_u entries_u closes)
     where
       now : RowsStand down s
-      now = stands_down r down t law c q k waits.consumer at stands (limits ∙ left.limits) (received ∙ left.received) (last ∙ left.last_start)
+      now = stands_down r down t law c q k waits.consumer at stands (limits ∙ left.limits) (last ∙ left.last_start)
           (subst (λ z. Rattle.hc_state.specs.Leaving.LeavesKey c q.request.key r.keys z) (sym keys) left.line)
           (subst (λ z. Rattle.hc_state.specs.Leaving.Forgets q.own r.exchanges z) (sym exchanges) left.forgets)
           (subst (λ z. Rattle.hc_state.specs.Leaving.UnbindsAt q.place c (Rattle.hc_stored.specs.Entries.shelf_of r.entries) (Rattle.hc_stored.specs.Entries.shelf_of z)) (sym entries) left.unbinds)

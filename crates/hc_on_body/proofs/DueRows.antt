@@ -149,10 +149,10 @@ module _ (t : Tables) (among : ℕ → Bool) (why : Cause) where
 
 -- ALL OF IT
 
-pub stands_due : {B : Type 0} {g : Ghosts B} (r u : Rows B g) (t : Tables) (among : ℕ → Bool) (why : Cause) → RowsStand r t → u.limits ≡ r.limits → u.received ≡ r.received → u.last_start ≡ r.last_start → u.exchanges ≡ r.exchanges → u.keys ≡ r.keys → u.entries ≡ r.entries
+pub stands_due : {B : Type 0} {g : Ghosts B} (r u : Rows B g) (t : Tables) (among : ℕ → Bool) (why : Cause) → RowsStand r t → u.limits ≡ r.limits → u.last_start ≡ r.last_start → u.exchanges ≡ r.exchanges → u.keys ≡ r.keys → u.entries ≡ r.entries
     → ChangesAmong r.consumers u.consumers among (with_due why) → RowsStand u (with_consumers (due_for t among why) t)
 unfolding current
-stands_due r u t among why stands limits received last exchanges same_keys same_entries changes =
+stands_due r u t among why stands limits last exchanges same_keys same_entries changes =
     let z : Tables = with_consumers (due_for t among why) t in
     record {
       limits = rw (same_entries, limits) stands.limits;

@@ -132,7 +132,7 @@ unless xs false b off = refl
 -- ALL OF IT
 
 module _ {B : Type 0} {g : Ghosts B} (r u : Rows B g) (t : Tables) (stands : RowsStand r t) (now x : ℕ) (bytes : List ℕ) (w : Exchange) (v : Representation) (row : t.exchange x ≡ Some w) (opened : w.is_open ≡ true) (headed : is_some w.head ≡ true) (there : t.representation (family x w) ≡ Some v) (lost : v.is_lost ≡ true) (is_gone : v.is_gone ≡ true) (unended : w.is_ended ≡ false)
-    (limits : u.limits ≡ r.limits) (received : u.received ≡ r.received + length bytes) (last : u.last_start ≡ r.last_start) (same_map : u.consumers ≡ r.consumers) (same_keys : u.keys ≡ r.keys) (same_entries : u.entries ≡ r.entries) where
+    (limits : u.limits ≡ r.limits) (last : u.last_start ≡ r.last_start) (same_map : u.consumers ≡ r.consumers) (same_keys : u.keys ≡ r.keys) (same_entries : u.entries ≡ r.entries) where
   abbrev v2 : Representation
   v2 = with_stored_bytes false (front w) x bytes v
 
@@ -202,7 +202,7 @@ module _ {B : Type 0} {g : Ghosts B} (r u : Rows B g) (t : Tables) (stands : Row
   by_held : (hold : Bool) → exch.Becomes (known.with_piece bytes hold) x r.exchanges u.exchanges → (known.with_piece bytes hold (table_of r.exchanges x)).held ≡ held_for after x (Some (with_piece bytes w)) → ((y : ℕ) (e : Exchange) → x ≢ y → t.exchange y ≡ Some e → held_for after y (Some e) ≡ held_for t y (Some e)) → RowsStand u after
   by_held hold becomes here apart =
       stands_pieced t now x w bytes vs row opened headed r u stands unended like vs_else hold runs.o runs.running
-      received last same_map same_keys becomes here apart
+      last same_map same_keys becomes here apart
       (rw (same_entries, limits) stands.limits) (λ q ne. rw same_entries refl) (rw same_entries refl) its
 
   -- WHO GOES ON

@@ -33,7 +33,7 @@ use Rattle.hc_state.proofs.Words.{same_or, eqb-same, eqb-other, then_false, fals
 
 -- the rows that stand for the tables once a loss was told, and then for those with the piece
 module _ {B : Type 0} {g : Ghosts B} (mid u : Rows B g) (t : Tables) (now r x : ℕ) (bytes : List ℕ) (w : Exchange) (v : Representation) (stands : RowsStand mid t) (row : t.exchange x ≡ Some w) (opened : w.is_open ≡ true) (headed : is_some w.head ≡ true) (of_r : family x w ≡ r) (there : t.representation r ≡ Some v) (lost : v.is_lost ≡ true) (is_gone : v.is_gone ≡ true) (unended : w.is_ended ≡ false)
-    (limits : u.limits ≡ mid.limits) (received : u.received ≡ mid.received + length bytes) (last : u.last_start ≡ mid.last_start) (same_map : u.consumers ≡ mid.consumers) (same_keys : u.keys ≡ mid.keys) (same_entries : u.entries ≡ mid.entries) where
+    (limits : u.limits ≡ mid.limits) (last : u.last_start ≡ mid.last_start) (same_map : u.consumers ≡ mid.consumers) (same_keys : u.keys ≡ mid.keys) (same_entries : u.entries ≡ mid.entries) where
   there_too : t.representation (family x w) ≡ Some v
   there_too = ap t.representation of_r ∙ there
 
@@ -41,18 +41,18 @@ module _ {B : Type 0} {g : Ghosts B} (mid u : Rows B g) (t : Tables) (now r x : 
   as_of n = subst (λ (m : ℕ). RowsStand u (s t now x w bytes (λ q. if m == q then Some (with_stored_bytes false (front w) x bytes v) else t.representation q))) of_r
 
   pub held_lost : 0 < length bytes → MayHold t x w v → exch.Becomes (known.with_piece bytes true) x mid.exchanges u.exchanges → RowsStand u (brought_lost now r x w bytes v t)
-  held_lost some may becomes = as_of r (held_stands mid u t stands now x bytes w v row opened headed there_too lost is_gone unended limits received last same_map same_keys same_entries some may becomes)
+  held_lost some may becomes = as_of r (held_stands mid u t stands now x bytes w v row opened headed there_too lost is_gone unended limits last same_map same_keys same_entries some may becomes)
 
   pub dropped_lost : v.alone ≡ None → exch.Becomes (known.with_piece bytes false) x mid.exchanges u.exchanges → RowsStand u (brought_lost now r x w bytes v t)
-  dropped_lost nobody becomes = as_of r (dropped_stands mid u t stands now x bytes w v row opened headed there_too lost is_gone unended limits received last same_map same_keys same_entries nobody becomes)
+  dropped_lost nobody becomes = as_of r (dropped_stands mid u t stands now x bytes w v row opened headed there_too lost is_gone unended limits last same_map same_keys same_entries nobody becomes)
 
 -- who writes alone goes on
 pub own_stands : {B : Type 0} {g : Ghosts B} (mid u : Rows B g) (t : Tables) (now r x : ℕ) (bytes : List ℕ) (w : Exchange) (v : Representation) (alone : Option ℕ) → 0 < length bytes → MayLoseOwn t now r x w v alone → RowsStand mid (own_loss now r v alone t)
-    → u.limits ≡ mid.limits → u.received ≡ mid.received + length bytes → u.last_start ≡ mid.last_start → u.consumers ≡ mid.consumers → u.keys ≡ mid.keys → u.entries ≡ mid.entries → exch.Becomes (known.with_piece bytes true) x mid.exchanges u.exchanges
+    → u.limits ≡ mid.limits → u.last_start ≡ mid.last_start → u.consumers ≡ mid.consumers → u.keys ≡ mid.keys → u.entries ≡ mid.entries → exch.Becomes (known.with_piece bytes true) x mid.exchanges u.exchanges
     → RowsStand u (brought_lost now r x w bytes (as_gone (lost_to alone v)) (own_loss now r v alone t))
-own_stands mid u t now r x bytes w v alone some may stands limits received last same_map same_keys same_entries becomes =
+own_stands mid u t now r x bytes w v alone some may stands limits last same_map same_keys same_entries becomes =
     let b = may.brings in
-    held_lost mid u (own_loss now r v alone t) now r x bytes w (as_gone (lost_to alone v)) stands b.row b.opened b.headed b.of_r (rw (eqb-same r) refl) refl refl b.unended limits received last same_map same_keys same_entries some may.holds becomes
+    held_lost mid u (own_loss now r v alone t) now r x bytes w (as_gone (lost_to alone v)) stands b.row b.opened b.headed b.of_r (rw (eqb-same r) refl) refl refl b.unended limits last same_map same_keys same_entries some may.holds becomes
 
 -- WHAT IS WRITTEN FOR SEVERAL
 
@@ -62,7 +62,7 @@ is_over false true on = refl
 is_over a false on = false_true on
 
 module _ {B : Type 0} {g : Ghosts B} (mid u : Rows B g) (t : Tables) (now r x : ℕ) (bytes : List ℕ) (w : Exchange) (v : Representation) (kind : LostKind) (some : 0 < length bytes) (may : MayLosePiece t now r x w v) (detached_reader : Option ℕ) (detached_reader_is : detached_reader ≡ survivor t r v) (stands : RowsStand mid (shared_loss now r x v detached_reader t))
-    (limits : u.limits ≡ mid.limits) (received : u.received ≡ mid.received + length bytes) (last : u.last_start ≡ mid.last_start) (same_map : u.consumers ≡ mid.consumers) (same_keys : u.keys ≡ mid.keys) (same_entries : u.entries ≡ mid.entries) (becomes : exch.Becomes (known.with_piece bytes (is_some detached_reader)) x mid.exchanges u.exchanges) where
+    (limits : u.limits ≡ mid.limits) (last : u.last_start ≡ mid.last_start) (same_map : u.consumers ≡ mid.consumers) (same_keys : u.keys ≡ mid.keys) (same_entries : u.entries ≡ mid.entries) (becomes : exch.Becomes (known.with_piece bytes (is_some detached_reader)) x mid.exchanges u.exchanges) where
   b : Brings t r x w v
   b = may.brings
 
@@ -73,8 +73,8 @@ module _ {B : Type 0} {g : Ghosts B} (mid u : Rows B g) (t : Tables) (now r x : 
   then_tables o = brought_lost now r x w bytes (as_gone (lost_to o v)) (lost_tables o)
 
   by_detached_reader : (o : Option ℕ) → o ≡ survivor t r v → RowsStand mid (lost_tables o) → exch.Becomes (known.with_piece bytes (is_some o)) x mid.exchanges u.exchanges → RowsStand u (then_tables o)
-  by_detached_reader None is stood changed = dropped_lost mid u (lost_tables None) now r x bytes w (as_gone (lost_to None v)) stood b.row b.opened b.headed b.of_r (rw (eqb-same r) refl) refl refl b.unended limits received last same_map same_keys same_entries refl changed
-  by_detached_reader (Some d) is stood changed = held_lost mid u (lost_tables (Some d)) now r x bytes w (as_gone (lost_to (Some d) v)) stood b.row b.opened b.headed b.of_r (rw (eqb-same r) refl) refl refl b.unended limits received last same_map same_keys same_entries some (may.holds d (sym is)) changed
+  by_detached_reader None is stood changed = dropped_lost mid u (lost_tables None) now r x bytes w (as_gone (lost_to None v)) stood b.row b.opened b.headed b.of_r (rw (eqb-same r) refl) refl refl b.unended limits last same_map same_keys same_entries refl changed
+  by_detached_reader (Some d) is stood changed = held_lost mid u (lost_tables (Some d)) now r x bytes w (as_gone (lost_to (Some d) v)) stood b.row b.opened b.headed b.of_r (rw (eqb-same r) refl) refl refl b.unended limits last same_map same_keys same_entries some (may.holds d (sym is)) changed
 
   comes : RowsStand u (then_tables detached_reader)
   comes = by_detached_reader detached_reader detached_reader_is stands becomes
@@ -132,7 +132,7 @@ module _ {B : Type 0} {g : Ghosts B} (mid u : Rows B g) (t : Tables) (now r x : 
     ]
 
     closed_too : RowsStand u2 (all_closed (x ∷ []) (then_tables detached_reader))
-    closed_too = stands_unstored u u2 (then_tables detached_reader) x comes unawaited apart rest.limits rest.received rest.last_start same_too rest.keys rest.entries shut
+    closed_too = stands_unstored u u2 (then_tables detached_reader) x comes unawaited apart rest.limits rest.last_start same_too rest.keys rest.entries shut
 
     pub closes_it : (before middle out : List Act) → middle ≡ before ++ (act.Lost r kind ∷ []) → out ≡ middle ++ (act.Close x ∷ []) → LosesPiece u2 t before out now r x bytes w v kind
     closes_it before middle out told closing =

@@ -142,7 +142,7 @@ module _ {limits : Rattle.hc_rules.specs.declared.room.Limits.Limits} (t : Table
 -- A PIECE OF WHAT IS LOST
 
 module _ {B : Type 0} {g : Ghosts B} (r u : Rows B g) (t : Tables) (facts : Facts r.limits t) (stands : RowsStand r t) (now x : ℕ) (bytes : List ℕ) (goes : denial t (event.Piece x bytes) ≡ None) (w : Exchange) (v : Representation) (row : t.exchange x ≡ Some w) (opened : w.is_open ≡ true) (headed : is_some w.head ≡ true) (some : 0 < length bytes) (there : t.representation (family x w) ≡ Some v) (lost : v.is_lost ≡ true)
-    (limits : u.limits ≡ r.limits) (received : u.received ≡ r.received + length bytes) (last : u.last_start ≡ r.last_start) (same_map : u.consumers ≡ r.consumers) (same_keys : u.keys ≡ r.keys) (same_entries : u.entries ≡ r.entries) (becomes : exch.Becomes (known.with_piece bytes true) x r.exchanges u.exchanges) where
+    (limits : u.limits ≡ r.limits) (last : u.last_start ≡ r.last_start) (same_map : u.consumers ≡ r.consumers) (same_keys : u.keys ≡ r.keys) (same_entries : u.entries ≡ r.entries) (becomes : exch.Becomes (known.with_piece bytes true) x r.exchanges u.exchanges) where
   o : Owner t x w v
   o = owner t x w v facts.law.sound row opened headed there (unwritten_lost t v lost)
 
@@ -173,7 +173,7 @@ module _ {B : Type 0} {g : Ghosts B} (r u : Rows B g) (t : Tables) (facts : Fact
   after = s t now x w bytes (λ q. if family x w == q then Some (with_stored_bytes false (front w) x bytes v) else t.representation q)
 
   lost_stands : RowsStand u after
-  lost_stands = held_stands r u t stands now x bytes w v row opened headed there lost is_gone (open_unended t facts.law x w row opened) limits received last same_map same_keys same_entries some may becomes
+  lost_stands = held_stands r u t stands now x bytes w v row opened headed there lost is_gone (open_unended t facts.law x w row opened) limits last same_map same_keys same_entries some may becomes
 
   pub lost_answered : (before : List Act) → Answered r.limits (shelf_of r.entries).faults u t before before now (event.Piece x bytes)
   lost_answered before =
@@ -185,7 +185,7 @@ module _ {B : Type 0} {g : Ghosts B} (r u : Rows B g) (t : Tables) (facts : Fact
 -- WHAT ISN'T STORED
 
 module _ {B : Type 0} {g : Ghosts B} (r u : Rows B g) (t : Tables) (facts : Facts r.limits t) (stands : RowsStand r t) (now x : ℕ) (bytes : List ℕ) (goes : denial t (event.Piece x bytes) ≡ None) (unkept : stored_by r x ≡ None)
-    (limits : u.limits ≡ r.limits) (received : u.received ≡ r.received + length bytes) (last : u.last_start ≡ r.last_start) (same_map : u.consumers ≡ r.consumers) (same_keys : u.keys ≡ r.keys) (same_entries : u.entries ≡ r.entries) (becomes : exch.Becomes (known.with_piece bytes true) x r.exchanges u.exchanges) (before : List Act) where
+    (limits : u.limits ≡ r.limits) (last : u.last_start ≡ r.last_start) (same_map : u.consumers ≡ r.consumers) (same_keys : u.keys ≡ r.keys) (same_entries : u.entries ≡ r.entries) (becomes : exch.Becomes (known.with_piece bytes true) x r.exchanges u.exchanges) (before : List Act) where
   b : Brought t x (length bytes)
   b = brought_of t x bytes goes
 
@@ -204,12 +204,12 @@ module _ {B : Type 0} {g : Ghosts B} (r u : Rows B g) (t : Tables) (facts : Fact
       by_kept (Some k) h kept = sym kept.is_lost ∙ by_test k.is_lost h
 
   by_brought : (o : Option ℕ) → brought_by (table_of r.exchanges x).running ≡ o → Answered r.limits (shelf_of r.entries).faults u t before before now (event.Piece x bytes)
-  by_brought None past = past_answered r u t facts stands now x bytes goes past limits received last same_map same_keys same_entries becomes before
+  by_brought None past = past_answered r u t facts stands now x bytes goes past limits last same_map same_keys same_entries becomes before
   by_brought (Some q) brings =
       let it = brings_it t x q ran.o b.w ran.is b.taken.headed (sym (ap brought_by ran.running) ∙ brings) in
       let v = it.1.0 in
       let lost = is_lost q v it.0 (sym (ap t.representation it.0) ∙ it.1.1) (sym (ap (stored_at (shelf_of r.entries)) brings) ∙ unkept) in
-      lost_answered r u t facts stands now x bytes goes b.w v b.row b.taken.is_open b.taken.headed b.taken.some it.1.1 lost limits received last same_map same_keys same_entries becomes before
+      lost_answered r u t facts stands now x bytes goes b.w v b.row b.taken.is_open b.taken.headed b.taken.some it.1.1 lost limits last same_map same_keys same_entries becomes before
 
   pub held_answered : Answered r.limits (shelf_of r.entries).faults u t before before now (event.Piece x bytes)
   held_answered = by_brought (brought_by (table_of r.exchanges x).running) refl

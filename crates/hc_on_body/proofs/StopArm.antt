@@ -69,7 +69,7 @@ pub data ReadBy (t : Tables) (x : ℕ) (w : Exchange) (by : Readers) : Type 0 wh
   own : (c : ℕ) (k : rows.Consumer) (v : Representation) → t.representation (family x w) ≡ Some v → IsBound t (family x w) c k → own_open t k ≡ Some x → k.due ≡ None → IsExclusiveWriter t (family x w) v c → by ≡ readers.One c → ReadBy t x w by
   shared : (v : Representation) → t.representation (family x w) ≡ Some v → is_written t v ≡ true → v.writer ≡ Some x → by ≡ readers.All (family x w) → ReadBy t x w by
 
-module _ {B : Type 0} {g : Ghosts B} (r : Rows B g) (t : Tables) (facts : Facts r.limits t) (stands : RowsStand r t) (small : r.received < 2 ^ 61) (x : ℕ) (w : Exchange) (row : t.exchange x ≡ Some w) (opened : w.is_open ≡ true) where
+module _ {B : Type 0} {g : Ghosts B} (r : Rows B g) (t : Tables) (facts : Facts r.limits t) (stands : RowsStand r t) (x : ℕ) (w : Exchange) (row : t.exchange x ≡ Some w) (opened : w.is_open ≡ true) where
   abbrev law : Lawful t
   law = facts.law
 
@@ -77,11 +77,11 @@ module _ {B : Type 0} {g : Ghosts B} (r : Rows B g) (t : Tables) (facts : Facts 
   q = family x w
 
   opener_is : opener_of (table_of r.exchanges x).running ≡ w.c
-  opener_is = let runs_on = runs r t facts t.consumer stands small x w row opened in ap opener_of runs_on.there ∙ runs_on.is.c
+  opener_is = let runs_on = runs r t facts t.consumer stands x w row opened in ap opener_of runs_on.there ∙ runs_on.is.c
 
   module _ (v : Representation) (there : t.representation q ≡ Some v) where
     headed : is_some w.head ≡ true
-    headed = head_there r t facts t.consumer stands small x w row opened v there w.head refl
+    headed = head_there r t facts t.consumer stands x w row opened v there w.head refl
 
     about : IsAbout t q x
     about = sound.headed w row opened headed refl (ap (λ z. is_some z) there)
@@ -128,10 +128,10 @@ module _ {B : Type 0} {g : Ghosts B} (r : Rows B g) (t : Tables) (facts : Facts 
     where
       by_row : (o : Option Representation) → t.representation q ≡ o → ReadBy t x w (readers_of x (table_of r.exchanges) (shelf_of r.entries))
       by_row None none =
-          subst (λ o. ReadBy t x w (readers_by x (table_of r.exchanges) (shelf_of r.entries) (opener_of (table_of r.exchanges x).running) o)) (sym (brought_none r t facts t.consumer stands small x w row opened none))
+          subst (λ o. ReadBy t x w (readers_by x (table_of r.exchanges) (shelf_of r.entries) (opener_of (table_of r.exchanges x).running) o)) (sym (brought_none r t facts t.consumer stands x w row opened none))
           (past none (ap (λ n. readers.One n) opener_is))
       by_row (Some v) there =
-          subst (λ o. ReadBy t x w (readers_by x (table_of r.exchanges) (shelf_of r.entries) (opener_of (table_of r.exchanges x).running) o)) (sym (brought_some r t facts t.consumer stands small x w row opened v there))
+          subst (λ o. ReadBy t x w (readers_by x (table_of r.exchanges) (shelf_of r.entries) (opener_of (table_of r.exchanges x).running) o)) (sym (brought_some r t facts t.consumer stands x w row opened v there))
           (by_had v there (is_number (writing_of (table_of r.exchanges) ((shelf_of r.entries).kept q)) x) refl (law.sound.writes.had q x v there (about v there)))
 
   -- whoever is bound is told in both
@@ -278,17 +278,17 @@ module _ (limits : Limits) (t : Tables) (facts : Facts limits t) (x : ℕ) (w : 
 
 -- IT BREAKS OFF
 
-module _ {B : Type 0} {g : Ghosts B} (r mid u : Rows B g) (t : Tables) (facts : Facts r.limits t) (stands : RowsStand r t) (small : r.received < 2 ^ 61) (x : ℕ) (w : Exchange) (broken : IsBroken t x w) (by : Readers) (is : by ≡ readers_of x (table_of r.exchanges) (shelf_of r.entries)) (why : Cause)
+module _ {B : Type 0} {g : Ghosts B} (r mid u : Rows B g) (t : Tables) (facts : Facts r.limits t) (stands : RowsStand r t) (x : ℕ) (w : Exchange) (broken : IsBroken t x w) (by : Readers) (is : by ≡ readers_of x (table_of r.exchanges) (shelf_of r.entries)) (why : Cause)
     (rest : KeepsRest r mid) (same_exchanges : mid.exchanges ≡ r.exchanges) (changes : ChangesAmong r.consumers mid.consumers (reads_from (shelf_of r.entries) by) (with_due why))
     (faults now : ℕ) (before out : List Act) (stops : (f : ℕ → Option rows.Consumer) → MayStop t f x (goes_on by) → RowsStand mid (with_consumers f t) → HasStopped faults u t f before out now x) where
   dues : (among : ℕ → Bool) → ((d : ℕ) → reads_from (shelf_of r.entries) by d ≡ among d) → RowsStand mid (with_consumers (due_for t among why) t)
-  dues among alike = stands_due r mid t among why stands rest.limits rest.received rest.last_start same_exchanges rest.keys rest.entries (among_as r.consumers mid.consumers (reads_from (shelf_of r.entries) by) among (with_due why) alike changes)
+  dues among alike = stands_due r mid t among why stands rest.limits rest.last_start same_exchanges rest.keys rest.entries (among_as r.consumers mid.consumers (reads_from (shelf_of r.entries) by) among (with_due why) alike changes)
 
   reads_one : (c : ℕ) → by ≡ readers.One c → (d : ℕ) → reads_from (shelf_of r.entries) by d ≡ nat_eq c d
   reads_one c one d = ap (λ b. reads_from (shelf_of r.entries) b d) one
 
   pub breaks_off : BrokeOff faults u t before out now x w why
-  breaks_off = by_readers (read_by r t facts stands small x w broken.row broken.is_open)
+  breaks_off = by_readers (read_by r t facts stands x w broken.row broken.is_open)
     where
       one_stops : (c : ℕ) → by ≡ readers.One c → MayStop t (due_for t (λ d. nat_eq c d) why) x (Some c) → HasStopped faults u t (due_for t (λ d. nat_eq c d) why) before out now x
       one_stops c one may = stops (due_for t (λ d. nat_eq c d) why) (subst (λ o. MayStop t (due_for t (λ d. nat_eq c d) why) x o) (sym (ap goes_on one)) may) (dues (λ d. nat_eq c d) (reads_one c one))
@@ -304,4 +304,4 @@ module _ {B : Type 0} {g : Ghosts B} (r mid u : Rows B g) (t : Tables) (facts : 
           stopped.shared v there written writer
           (stops (due_for t (λ d. is_bound (family x w) (t.consumer d)) why)
           (subst (λ o. MayStop t (due_for t (λ d. is_bound (family x w) (t.consumer d)) why) x o) (sym (ap goes_on those)) (may_stop_shared r.limits t facts x w broken v (λ d. is_bound (family x w) (t.consumer d)) why there written))
-          (dues (λ d. is_bound (family x w) (t.consumer d)) (λ d. ap (λ b. reads_from (shelf_of r.entries) b d) those ∙ users_are r t facts stands small x w broken.row broken.is_open v there d)))
+          (dues (λ d. is_bound (family x w) (t.consumer d)) (λ d. ap (λ b. reads_from (shelf_of r.entries) b d) those ∙ users_are r t facts stands x w broken.row broken.is_open v there d)))

@@ -158,14 +158,14 @@ module _ (limits : Limits) (t : Tables) (facts : Facts limits t) (now x : ℕ) (
       by_head (Some response) some is = rw is (then_false w.is_open false refl)
 
   pub past_answered : {B : Type 0} {g : Ghosts B} (faults : ℕ) (r u : Rows B g) (before : List Act) (c n : ℕ) → t.representation (family x w) ≡ None → n ≡ length w.body → c ≡ w.c → RowsStand r t
-      → u.limits ≡ r.limits → u.received ≡ r.received → u.last_start ≡ r.last_start → u.keys ≡ r.keys → u.entries ≡ r.entries → exch.Becomes known.without_exchange x r.exchanges u.exchanges → ChangesAt r.consumers u.consumers c (changes.with_end n)
+      → u.limits ≡ r.limits → u.last_start ≡ r.last_start → u.keys ≡ r.keys → u.entries ≡ r.entries → exch.Becomes known.without_exchange x r.exchanges u.exchanges → ChangesAt r.consumers u.consumers c (changes.with_end n)
       → Answered limits faults u t before before now (event.End x)
-  past_answered faults r u before c n none all its stands same_limits received last keys entries becomes knows =
+  past_answered faults r u before c n none all its stands same_limits last keys entries becomes knows =
       let z : Tables = with_exchange x (Some (at_end w)) t in
       does_answered limits faults u t (with_event now (event.End x) z) before before [] now (event.End x)
       (subst (λ (s : Tables). Does limits t now (event.End x) NoFlaw [] (with_event now (event.End x) s)) (ap (λ o. with_due w.c o z) no_cause ∙ nothing_due z w.c) (past_effects.ends_past limits t law now x w row none accepts))
       refl refl (sym (append-nil before))
-      (stands_counted u z now (event.End x) refl (stands_past r u t law x w row opened headed none tells_none n all stands awaits_none same_limits received last keys entries becomes c its knows))
+      (stands_counted u z now (event.End x) refl (stands_past r u t law x w row opened headed none tells_none n all stands awaits_none same_limits last keys entries becomes c its knows))
 
   -- OF WHAT IS STORED
 
@@ -252,7 +252,7 @@ module _ (limits : Limits) (t : Tables) (facts : Facts limits t) (now x : ℕ) (
         (seal_effects.ends_shared_lost limits t law now x w row x v measured.own here is.written is.writer accepts kind.Fault (kept stays))
 
     module _ {B : Type 0} {g : Ghosts B} (faults : ℕ) (r mid u : Rows B g) (stands : RowsStand r t) (before out : List Act)
-        (same_limits : u.limits ≡ mid.limits) (received : u.received ≡ mid.received) (last : u.last_start ≡ mid.last_start) (keys : u.keys ≡ mid.keys) (entries : u.entries ≡ mid.entries) (becomes : exch.Becomes known.without_exchange x mid.exchanges u.exchanges)
+        (same_limits : u.limits ≡ mid.limits) (last : u.last_start ≡ mid.last_start) (keys : u.keys ≡ mid.keys) (entries : u.entries ≡ mid.entries) (becomes : exch.Becomes known.without_exchange x mid.exchanges u.exchanges)
         (knows : ChangesAmong mid.consumers u.consumers (λ d. has itself d (bound_in ((shelf_of mid.entries).kept x))) (changes.with_end (length w.body))) where
       abbrev n : ℕ
       n = length w.body
@@ -279,8 +279,8 @@ module _ (limits : Limits) (t : Tables) (facts : Facts limits t) (now x : ℕ) (
           let here_now : after.representation x ≡ Some (with_total_if_none n p) = rw (eqb-same x, s_rep) refl in
           let each_now : KeepsEntry after x ((shelf_of u.entries).kept x) (after.representation x) =
           rw (entries, here_now) (gone_longer s x n (Some (at_end w)) p s_rep unknown refl is_gone (subst (λ f. Covers f 0 n) (sym same_body) came) firsts ((shelf_of mid.entries).kept x) (subst (KeepsEntry s x ((shelf_of mid.entries).kept x)) s_rep each)) in
-          stands_whole mid u s x w n p s_row s_rep measured.own unknown rows nobody awaits same_limits received last keys becomes (λ d. has itself d (bound_in ((shelf_of mid.entries).kept x))) users knows (ap (λ z. (shelf_of z).limits) entries)
-          (entries_whole mid u s x w n p s_row s_rep measured.own unknown rows nobody awaits same_limits received last keys becomes (λ d. has itself d (bound_in ((shelf_of mid.entries).kept x))) users knows (ap (λ z. (shelf_of z).limits) entries)
+          stands_whole mid u s x w n p s_row s_rep measured.own unknown rows nobody awaits same_limits last keys becomes (λ d. has itself d (bound_in ((shelf_of mid.entries).kept x))) users knows (ap (λ z. (shelf_of z).limits) entries)
+          (entries_whole mid u s x w n p s_row s_rep measured.own unknown rows nobody awaits same_limits last keys becomes (λ d. has itself d (bound_in ((shelf_of mid.entries).kept x))) users knows (ap (λ z. (shelf_of z).limits) entries)
           (shelf_of u.entries) (ap (λ z. (shelf_of z).order) entries) (λ q ne. ap (λ z. (shelf_of z).kept q) entries) each_now)
 
       pub whole_answered : SealedWhole faults r mid t before out now x v n → Answered limits faults u t before out now (event.End x)
@@ -322,8 +322,8 @@ module _ (limits : Limits) (t : Tables) (facts : Facts limits t) (now x : ℕ) (
               let becomes_r : exch.Becomes known.without_exchange x r.exchanges u.exchanges = subst (λ z. exch.Becomes known.without_exchange x z u.exchanges) rest.exchanges becomes in
               let knows_r : ChangesAmong r.consumers u.consumers (λ d. has itself d (bound_in ((shelf_of mid.entries).kept x))) (changes.with_end n) = subst (λ z. ChangesAmong z u.consumers (λ d. has itself d (bound_in ((shelf_of mid.entries).kept x))) (changes.with_end n)) rest.consumers knows in
               let bounded : (shelf_of u.entries).limits ≡ (shelf_of r.entries).limits = ap (λ z. (shelf_of z).limits) entries ∙ seals.limits in
-              stands_whole r u t x w n v row here measured.own measured.untold stands unread awaits_none (same_limits ∙ rest.limits) (received ∙ rest.received) (last ∙ rest.last_start) (keys ∙ rest.keys) becomes_r (λ d. has itself d (bound_in ((shelf_of mid.entries).kept x))) users_so knows_r bounded
-              (entries_whole r u t x w n v row here measured.own measured.untold stands unread awaits_none (same_limits ∙ rest.limits) (received ∙ rest.received) (last ∙ rest.last_start) (keys ∙ rest.keys) becomes_r (λ d. has itself d (bound_in ((shelf_of mid.entries).kept x))) users_so knows_r bounded
+              stands_whole r u t x w n v row here measured.own measured.untold stands unread awaits_none (same_limits ∙ rest.limits) (last ∙ rest.last_start) (keys ∙ rest.keys) becomes_r (λ d. has itself d (bound_in ((shelf_of mid.entries).kept x))) users_so knows_r bounded
+              (entries_whole r u t x w n v row here measured.own measured.untold stands unread awaits_none (same_limits ∙ rest.limits) (last ∙ rest.last_start) (keys ∙ rest.keys) becomes_r (λ d. has itself d (bound_in ((shelf_of mid.entries).kept x))) users_so knows_r bounded
               (shelf_of u.entries) (ap (λ z. (shelf_of z).order) entries ∙ seals.order) (λ q ne. ap (λ z. (shelf_of z).kept q) entries ∙ (seals.kept q ∙ rw (eqb-other x q ne) refl)) each_now)
       whole_answered (stopped.lost stays told_so failed rows) =
           lossy_answered limits faults u t (with_event now (event.End x) model) before out (act.Lost x kind.Fault ∷ []) now (event.End x) x (loses stays)
@@ -384,26 +384,26 @@ nobody_alone t law q v there stays = (law.sound.rows q v there).store.nobody_alo
     by_test true is = false_true (sym stays ∙ (law.sound.rows q v there).store.lost_is_gone is)
 
 -- what an open exchange brings is kept, and of a length that a store takes
-module _ {B : Type 0} {g : Ghosts B} (r : Rows B g) (t : Tables) (facts : Facts r.limits t) (stands : RowsStand r t) (small : r.received < 2 ^ 61) (x : ℕ) (w : Exchange) (row : t.exchange x ≡ Some w) (opened : w.is_open ≡ true) where
+module _ {B : Type 0} {g : Ghosts B} (r : Rows B g) (t : Tables) (facts : Facts r.limits t) (stands : RowsStand r t) (x : ℕ) (w : Exchange) (row : t.exchange x ≡ Some w) (opened : w.is_open ≡ true) where
   pub brought_row : (q : ℕ) (o : Option ℕ) → o ≡ brought_by (table_of r.exchanges x).running → o ≡ Some q → (v : Representation) × (t.representation (family x w) ≡ Some v) × (q ≡ family x w)
   brought_row q o is some = by_row (t.representation (family x w)) refl
     where
       by_row : (z : Option Representation) → t.representation (family x w) ≡ z → (v : Representation) × (t.representation (family x w) ≡ Some v) × (q ≡ family x w)
-      by_row None none = none_some q (sym (brought_none r t facts t.consumer stands small x w row opened none) ∙ (sym is ∙ some))
-      by_row (Some v) there = (v, there, some_is q (family x w) (sym some ∙ (is ∙ brought_some r t facts t.consumer stands small x w row opened v there)))
+      by_row None none = none_some q (sym (brought_none r t facts t.consumer stands x w row opened none) ∙ (sym is ∙ some))
+      by_row (Some v) there = (v, there, some_is q (family x w) (sym some ∙ (is ∙ brought_some r t facts t.consumer stands x w row opened v there)))
 
   pub unbrought : (o : Option ℕ) → o ≡ brought_by (table_of r.exchanges x).running → o ≡ None → t.representation (family x w) ≡ None
   unbrought o is none = by_row (t.representation (family x w)) refl
     where
       by_row : (z : Option Representation) → t.representation (family x w) ≡ z → z ≡ None
       by_row None at = refl
-      by_row (Some v) there = none_some (family x w) (sym none ∙ (is ∙ brought_some r t facts t.consumer stands small x w row opened v there))
+      by_row (Some v) there = none_some (family x w) (sym none ∙ (is ∙ brought_some r t facts t.consumer stands x w row opened v there))
 
   pub brought_kept : (q : ℕ) (o : Option ℕ) → o ≡ brought_by (table_of r.exchanges x).running → o ≡ Some q → is_some ((shelf_of r.entries).kept q) ≡ true
   brought_kept q o is some =
       let b = brought_row q o is some in
       let there : t.representation q ≡ Some b.0 = ap t.representation b.2 ∙ b.1 in
-      let headed = head_there r t facts t.consumer stands small x w row opened b.0 b.1 w.head refl in
+      let headed = head_there r t facts t.consumer stands x w row opened b.0 b.1 w.head refl in
       let about_it : IsAbout t q x = sound.headed w row opened headed (sym b.2) (ap (λ z. is_some z) there) in
       by_kept b.0 there about_it ((shelf_of r.entries).kept q) (subst (KeepsEntry t q ((shelf_of r.entries).kept q)) there (stands.entries.each q))
     where

@@ -225,7 +225,7 @@ module _ (a : Tables) (x n : ℕ) (z : Option Exchange) (v : Representation) (th
 
 module _ {B : Type 0} {g : Ghosts B} (r u : Rows B g) (t : Tables) (x : ℕ) (w : Exchange) (n : ℕ) (v : Representation) (row : t.exchange x ≡ Some w) (there : t.representation x ≡ Some v) (own : family x w ≡ x) (untold_yet : v.head.total ≡ None) (stands : RowsStand r t)
     (unread : (d : ℕ) (k : rows.Consumer) → t.consumer d ≡ Some k → k.place ≡ place.Direct x → ⊥) (unawaited : NobodyAwaits t x)
-    (limits : u.limits ≡ r.limits) (received : u.received ≡ r.received) (last : u.last_start ≡ r.last_start) (keys : u.keys ≡ r.keys) (becomes : exch.Becomes known.without_exchange x r.exchanges u.exchanges)
+    (limits : u.limits ≡ r.limits) (last : u.last_start ≡ r.last_start) (keys : u.keys ≡ r.keys) (becomes : exch.Becomes known.without_exchange x r.exchanges u.exchanges)
     (users : ℕ → Bool) (users_are : (d : ℕ) → users d ≡ is_bound x (t.consumer d)) (knows : ChangesAmong r.consumers u.consumers users (changes.with_end n)) (bounded : (shelf_of u.entries).limits ≡ (shelf_of r.entries).limits) where
   abbrev mid : Tables
   mid = with_exchange x (Some (at_end w)) t
@@ -325,7 +325,7 @@ module _ {B : Type 0} {g : Ghosts B} (r u : Rows B g) (t : Tables) (x : ℕ) (w 
 -- PAST THE STORE
 
 module _ {B : Type 0} {g : Ghosts B} (r u : Rows B g) (t : Tables) (law : Lawful t) (x : ℕ) (w : Exchange) (row : t.exchange x ≡ Some w) (opened : w.is_open ≡ true) (headed : is_some w.head ≡ true) (none : t.representation (family x w) ≡ None) (tells_none : promised_bytes w ≡ None) (n : ℕ) (all : n ≡ length w.body) (stands : RowsStand r t) (unawaited : NobodyAwaits t x)
-    (limits : u.limits ≡ r.limits) (received : u.received ≡ r.received) (last : u.last_start ≡ r.last_start) (keys : u.keys ≡ r.keys) (entries : u.entries ≡ r.entries) (becomes : exch.Becomes known.without_exchange x r.exchanges u.exchanges) (c : ℕ) (its : c ≡ w.c) (knows : ChangesAt r.consumers u.consumers c (changes.with_end n)) where
+    (limits : u.limits ≡ r.limits) (last : u.last_start ≡ r.last_start) (keys : u.keys ≡ r.keys) (entries : u.entries ≡ r.entries) (becomes : exch.Becomes known.without_exchange x r.exchanges u.exchanges) (c : ℕ) (its : c ≡ w.c) (knows : ChangesAt r.consumers u.consumers c (changes.with_end n)) where
   abbrev pub past : Tables
   past = with_exchange x (Some (at_end w)) t
 

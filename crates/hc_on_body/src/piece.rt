@@ -48,11 +48,9 @@ pub fn take_piece<B: Backend>(
     requires stands { ∥ Stands rows.old ∥₁ }
     requires accepted { piece_refusal (open_at rows.old x) (length bytes.now) ≡ None }
     requires short { length bytes.now ≤ 65536 }
-    requires small { rows.old.received + length bytes.now < 2 ^ 61 }
     requires room { 4 ≤ spare out.old }
     ensures answers { OnOk result (Answers rows.old rows.new (act_list out.old) (act_list out.new)
         now (Piece x bytes.now)) }
-    ensures received { OnOk result (rows.new.received ≡ rows.old.received + length bytes.now) }
     ensures limits { OnOk result (rows.new.limits ≡ rows.old.limits) }
     ensures faults { (shelf_of rows.old.entries).faults ≤ (shelf_of rows.new.entries).faults }
     ensures kept { OnErr result (act_list out.new ≡ act_list out.old) }
@@ -81,11 +79,9 @@ fn grow<B: Backend>(
     requires accepted { piece_refusal (open_at rows.old x) (length bytes.now) ≡ None }
     requires stored { stored_by rows.old x ≡ Some r }
     requires short { length bytes.now ≤ 65536 }
-    requires small { rows.old.received + length bytes.now < 2 ^ 61 }
     requires room { 4 ≤ spare out.old }
     ensures answers { OnOk result (Answers rows.old rows.new (act_list out.old) (act_list out.new)
         now (Piece x bytes.now)) }
-    ensures received { OnOk result (rows.new.received ≡ rows.old.received + length bytes.now) }
     ensures limits { rows.new.limits ≡ rows.old.limits }
     ensures faults { (shelf_of rows.old.entries).faults ≤ (shelf_of rows.new.entries).faults }
     ensures front { take (length (act_list out.old)) (act_list out.new) ≡ act_list out.old }
@@ -114,20 +110,17 @@ fn lose_own_piece<B: Backend>(
     requires there { is_kept (shelf_of rows.old.entries) r ≡ true }
     requires accepted { piece_refusal (open_at rows.old x) (length bytes.now) ≡ None }
     requires below { EndsBelow (length bytes.now) (table_of rows.old.exchanges x).running }
-    requires small { rows.old.received + length bytes.now < 2 ^ 61 }
     requires room { 1 ≤ spare out.old }
     ensures lost { OnOk result ((t : Tables) (w : Exchange) (v : Representation)
         → MayLoseOwn t now r x w v alone → RowsStand rows.old t
         → RowsStand rows.new (brought_lost now r x w bytes.now (as_gone (lost_to alone v))
         (own_loss now r v alone t))) }
     ensures acts { act_list out.new ≡ act_list out.old ++ act.Lost r kind ∷ [] }
-    ensures received { OnOk result (rows.new.received ≡ rows.old.received + length bytes.now) }
     ensures limits { rows.new.limits ≡ rows.old.limits }
     ensures faults { (shelf_of rows.new.entries).faults ≡ (shelf_of rows.old.entries).faults }
 {
     lose_to(rows, now, r, alone, kind, out);
     rows.exchanges.piece(x, bytes, true)?;
-    rows.received += bytes.len() as u64;
     Ok(())
 }
 
@@ -145,19 +138,16 @@ fn lose_shared_piece<B: Backend>(
     requires there { is_kept (shelf_of rows.old.entries) r ≡ true }
     requires accepted { piece_refusal (open_at rows.old x) (length bytes.now) ≡ None }
     requires below { EndsBelow (length bytes.now) (table_of rows.old.exchanges x).running }
-    requires small { rows.old.received + length bytes.now < 2 ^ 61 }
     requires room { 2 ≤ spare out.old }
     ensures lost { OnOk result ((t : Tables) (w : Exchange) (v : Representation)
         → MayLosePiece t now r x w v → RowsStand rows.old t → LosesPiece rows.new t
         (act_list out.old) (act_list out.new) now r x bytes.now w v kind) }
     ensures front { take (length (act_list out.old)) (act_list out.new) ≡ act_list out.old }
-    ensures received { OnOk result (rows.new.received ≡ rows.old.received + length bytes.now) }
     ensures limits { rows.new.limits ≡ rows.old.limits }
     ensures faults { (shelf_of rows.new.entries).faults ≡ (shelf_of rows.old.entries).faults }
 {
     let detached_reader = lose_shared(rows, now, r, x, kind, out);
     let over = rows.exchanges.piece(x, bytes, detached_reader.is_some())?;
-    rows.received += bytes.len() as u64;
     if detached_reader.is_some() {
         return Ok(());
     }
@@ -191,16 +181,14 @@ pub(crate) fn hold_piece<B: Backend>(
     requires stands { ∥ Stands rows.old ∥₁ }
     requires accepted { piece_refusal (open_at rows.old x) (length bytes.now) ≡ None }
     requires unstored { stored_by rows.old x ≡ None }
-    requires small { rows.old.received + length bytes.now < 2 ^ 61 }
+    requires short { length bytes.now ≤ 65536 }
     ensures answers { OnOk result ((now : ℕ) (before : List Act)
         → Answers rows.old rows.new before before now (Piece x bytes.now)) }
-    ensures received { OnOk result (rows.new.received ≡ rows.old.received + length bytes.now) }
     ensures limits { OnOk result (rows.new.limits ≡ rows.old.limits) }
     ensures faults { (shelf_of rows.new.entries).faults ≡ (shelf_of rows.old.entries).faults }
     ensures err { OnErr result (Stays rows.old rows.new) }
 {
     rows.exchanges.piece(x, bytes, true)?;
-    rows.received += bytes.len() as u64;
     Ok(())
 }
 
@@ -217,14 +205,12 @@ pub(crate) fn store_piece<B: Backend>(
     requires stands { ∥ Stands rows.old ∥₁ }
     requires accepted { piece_refusal (open_at rows.old x) (length bytes.now) ≡ None }
     requires stored { stored_by rows.old x ≡ Some r }
-    requires small { rows.old.received + length bytes.now < 2 ^ 61 }
     requires short { length bytes.now ≤ 65536 }
     requires room { 4 ≤ spare out.old }
     ensures answers { result ≡ Ok None → Answers rows.old rows.new (act_list out.old)
         (act_list out.new) now (Piece x bytes.now) }
     ensures refused { (kind : LostKind) → result ≡ Ok (Some kind) → RefusesPiece rows.old
         rows.new now x r bytes.now kind (act_list out.old) (act_list out.new) (spare out.new) }
-    ensures received { result ≡ Ok None → rows.new.received ≡ rows.old.received + length bytes.now }
     ensures limits { rows.new.limits ≡ rows.old.limits }
     ensures faults { (shelf_of rows.old.entries).faults ≤ (shelf_of rows.new.entries).faults }
     ensures front { take (length (act_list out.old)) (act_list out.new) ≡ act_list out.old }
@@ -240,7 +226,6 @@ pub(crate) fn store_piece<B: Backend>(
         return Ok(Some(lost_kind(error)?));
     }
     rows.exchanges.piece(x, bytes, false)?;
-    rows.received += count;
     Ok(None)
 }
 
@@ -265,7 +250,6 @@ fn put_piece<B: Backend>(rows: &mut Rows<B>, x: u64, r: u64, bytes: &[u8]) -> Re
         (shelf_of rows.new.entries).faults result }
     ensures limits { rows.new.limits ≡ rows.old.limits }
     ensures last_start { rows.new.last_start ≡ rows.old.last_start }
-    ensures received { rows.new.received ≡ rows.old.received }
     ensures consumers { rows.new.consumers ≡ rows.old.consumers }
     ensures exchanges { rows.new.exchanges ≡ rows.old.exchanges }
     ensures keys { rows.new.keys ≡ rows.old.keys }

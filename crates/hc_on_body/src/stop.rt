@@ -32,11 +32,9 @@ use hc_store::Backend;
 pub fn fault<B: Backend>(rows: &mut Rows<B>, now: u64, x: u64, out: &mut Acts)
     requires stands { ∥ Stands rows.old ∥₁ }
     requires accepted { fault_refusal (open_at rows.old x) ≡ None }
-    requires small { rows.old.received < 2 ^ 61 }
     requires room { 1 ≤ spare out.old }
     ensures answers { Answers rows.old rows.new (act_list out.old) (act_list out.new)
         now (Fault x) }
-    ensures received { rows.new.received ≡ rows.old.received }
     ensures limits { rows.new.limits ≡ rows.old.limits }
     ensures faults { (shelf_of rows.old.entries).faults ≤ (shelf_of rows.new.entries).faults }
 {
@@ -52,10 +50,8 @@ pub fn fault<B: Backend>(rows: &mut Rows<B>, now: u64, x: u64, out: &mut Acts)
 pub fn end<B: Backend>(rows: &mut Rows<B>, now: u64, x: u64, out: &mut Acts)
     requires stands { ∥ Stands rows.old ∥₁ }
     requires accepted { end_refusal (open_at rows.old x) ≡ None }
-    requires small { rows.old.received < 2 ^ 61 }
     requires room { 1 ≤ spare out.old }
     ensures answers { Answers rows.old rows.new (act_list out.old) (act_list out.new) now (End x) }
-    ensures received { rows.new.received ≡ rows.old.received }
     ensures limits { rows.new.limits ≡ rows.old.limits }
     ensures faults { (shelf_of rows.old.entries).faults ≤ (shelf_of rows.new.entries).faults }
 {
@@ -71,13 +67,11 @@ pub fn end<B: Backend>(rows: &mut Rows<B>, now: u64, x: u64, out: &mut Acts)
 fn end_whole<B: Backend>(rows: &mut Rows<B>, now: u64, x: u64, out: &mut Acts)
     requires stands { ∥ Stands rows.old ∥₁ }
     requires running { is_open x (table_of rows.old.exchanges) ≡ true }
-    requires small { rows.old.received < 2 ^ 61 }
     requires room { 1 ≤ spare out.old }
     ensures answers { (t : Tables) → Facts rows.old.limits t → RowsStand rows.old t
         → denial t (End x) ≡ None → TellsNoLength t x
         → Answered rows.old.limits (shelf_of rows.old.entries).faults rows.new t
         (act_list out.old) (act_list out.new) now (End x) }
-    ensures received { rows.new.received ≡ rows.old.received }
     ensures limits { rows.new.limits ≡ rows.old.limits }
     ensures faults { (shelf_of rows.old.entries).faults ≤ (shelf_of rows.new.entries).faults }
 {
@@ -108,7 +102,6 @@ fn seal_whole<B: Backend>(rows: &mut Rows<B>, now: u64, r: u64, length: u64, out
         → SealedWhole (shelf_of rows.old.entries).faults rows.old rows.new t
         (act_list out.old) (act_list out.new) now r v length }
     ensures exchanges { rows.new.exchanges ≡ rows.old.exchanges }
-    ensures received { rows.new.received ≡ rows.old.received }
     ensures limits { rows.new.limits ≡ rows.old.limits }
     ensures faults { (shelf_of rows.old.entries).faults ≤ (shelf_of rows.new.entries).faults }
 {
@@ -138,7 +131,6 @@ fn break_wait<B: Backend>(rows: &mut Rows<B>, c: u64, x: u64)
         → RowsStand rows.old t → Waited t x c w k → RowsStand rows.new
         (with_consumer c (Some (put_down (cause.Net x) k))
         (with_exchange x (Some (over w)) t)) }
-    ensures received { rows.new.received ≡ rows.old.received }
     ensures limits { rows.new.limits ≡ rows.old.limits }
     ensures faults { (shelf_of rows.new.entries).faults ≡ (shelf_of rows.old.entries).faults }
 {
@@ -152,13 +144,11 @@ fn break_wait<B: Backend>(rows: &mut Rows<B>, c: u64, x: u64)
 fn break_off<B: Backend>(rows: &mut Rows<B>, now: u64, x: u64, cause: Cause, out: &mut Acts)
     requires stands { ∥ Stands rows.old ∥₁ }
     requires running { is_open x (table_of rows.old.exchanges) ≡ true }
-    requires small { rows.old.received < 2 ^ 61 }
     requires room { 1 ≤ spare out.old }
     ensures broken { (t : Tables) (w : Exchange) → Facts rows.old.limits t
         → RowsStand rows.old t → IsBroken t x w
         → BrokeOff (shelf_of rows.old.entries).faults rows.new t
         (act_list out.old) (act_list out.new) now x w cause }
-    ensures received { rows.new.received ≡ rows.old.received }
     ensures limits { rows.new.limits ≡ rows.old.limits }
     ensures faults { (shelf_of rows.old.entries).faults ≤ (shelf_of rows.new.entries).faults }
 {

@@ -287,7 +287,7 @@ module _ (t : Tables) (law : Lawful t) (now : ℕ) (key xs : List ℕ) (bare : (
 
 module _ {B : Type 0} {g : Ghosts B} (r u : Rows B g) (t : Tables) (law : Lawful t) (stands : RowsStand r t) (now : ℕ) (key : List ℕ) (refused : Option ℕ) (before out : List Act) (unheard : (x : ℕ) → refused ≡ Some x → IsUnheard (table_of r.exchanges) key x)
     (closes : Closes r u.exchanges key refused before out) (consumers : ChangesAmong r.consumers u.consumers (λ c. is_in c (line_of r.keys key)) (once_over now)) (lines : keys.Becomes (on_line all_back) key r.keys u.keys)
-    (entries : KeepsEntries (woken now key t) (shelf_of u.entries)) (bounded : (shelf_of u.entries).limits ≡ (shelf_of r.entries).limits) (limits : u.limits ≡ r.limits) (received : u.received ≡ r.received) (last : u.last_start ≡ r.last_start) where
+    (entries : KeepsEntries (woken now key t) (shelf_of u.entries)) (bounded : (shelf_of u.entries).limits ≡ (shelf_of r.entries).limits) (limits : u.limits ≡ r.limits) (last : u.last_start ≡ r.last_start) where
   abbrev xs : List ℕ
   xs = awaited_and t key refused
 
@@ -343,7 +343,7 @@ module _ {B : Type 0} {g : Ghosts B} (r mid u : Rows B g) (now : ℕ) (key : Lis
     (closes : Closes r mid.exchanges key refused before out) (same_consumers : mid.consumers ≡ r.consumers) (rest : KeepsRest r mid)
     (consumers : ChangesAmong mid.consumers u.consumers (λ c. is_in c (line_of mid.keys key)) (once_over now)) (lines : keys.Becomes (on_line all_back) key mid.keys u.keys)
     (entries : (t : Tables) → Lawful t → KeepsLine mid t key → KeepsEntries (woken now key t) (shelf_of u.entries)) (bounded : (shelf_of u.entries).limits ≡ (shelf_of mid.entries).limits)
-    (limits : u.limits ≡ mid.limits) (received : u.received ≡ mid.received) (last : u.last_start ≡ mid.last_start) (exchanges : u.exchanges ≡ mid.exchanges) where
+    (limits : u.limits ≡ mid.limits) (last : u.last_start ≡ mid.last_start) (exchanges : u.exchanges ≡ mid.exchanges) where
   pub dooms : (o : Option ℕ) (w : Rows B g) → o ≡ (kept_of r.keys key).current → ((z : Tables) → MayLetGo z → RowsStand u z → RowsStand w (let_some_go now o z)) → (t : Tables) → Lawful t → RowsStand r t → IsDoomed w t before out now key refused
   dooms o w is goes t law stands =
       doomed r u t law stands now key refused before out (if_some refused (IsUnheard (table_of r.exchanges) key) unheard)
@@ -351,4 +351,4 @@ module _ {B : Type 0} {g : Ghosts B} (r mid u : Rows B g) (now : ℕ) (key : Lis
       (subst (λ (z : KeyTable). ChangesAmong r.consumers u.consumers (λ c. is_in c (line_of z key)) (once_over now)) rest.keys (subst (λ z. ChangesAmong z u.consumers (λ c. is_in c (line_of mid.keys key)) (once_over now)) same_consumers consumers))
       (subst (λ (z : KeyTable). keys.Becomes (on_line all_back) key z u.keys) rest.keys lines)
       (entries t law (keeps_line r mid t key stands same_consumers rest))
-      (bounded ∙ ap (λ z. (shelf_of z).limits) rest.entries) (limits ∙ rest.limits) (received ∙ rest.received) (last ∙ rest.last_start) o w is goes
+      (bounded ∙ ap (λ z. (shelf_of z).limits) rest.entries) (limits ∙ rest.limits) (last ∙ rest.last_start) o w is goes

@@ -249,8 +249,8 @@ module _ {B : Type 0} {g : Ghosts B} (r u : Rows B g) (m : Tables) (c x : ℕ) (
     | inr ne ↦ ap is_live (c_other n (λ h. ne (sym h)))
   ]
 
-  pub stands_down : u.limits ≡ r.limits → u.received ≡ r.received → u.last_start ≡ r.last_start → u.exchanges ≡ r.exchanges → u.keys ≡ r.keys → u.entries ≡ r.entries → ChangesAt r.consumers u.consumers c (standing_at (place.Down why)) → RowsStand u s
-  stands_down limits received last exchanges same_keys same_entries alters =
+  pub stands_down : u.limits ≡ r.limits → u.last_start ≡ r.last_start → u.exchanges ≡ r.exchanges → u.keys ≡ r.keys → u.entries ≡ r.entries → ChangesAt r.consumers u.consumers c (standing_at (place.Down why)) → RowsStand u s
+  stands_down limits last exchanges same_keys same_entries alters =
       stands_then r u m s c x (Some (standing_at (place.Down why) k)) stands limits (last ∙ stands.last_start) (rw exchanges stands.next)
       (alters.len ∙ (stands.count ∙ sym (live_same m s refl lives)))
       (becomes_by r.consumers u.consumers c k (standing_at (place.Down why)) there alters)
@@ -431,9 +431,9 @@ module _ {B : Type 0} {g : Ghosts B} (r : Rows B g) (t : Tables) (facts : Facts 
         (stands_counted u _ now ev refl (subst (RowsStand u) (answer_is None out_of_none) (answers (after None) (alone_doomed None out_of_none) (subst (RowsStand mid) (after_is None) doomed.rows))))
 
     pub dooming_bad : (u : Rows B g) (c : ℕ) → w.c ≡ c → IsUnheard (table_of r.exchanges) key x → head_case (head_view t false w response) ≡ case.DirectBad → IsDoomed mid t before out now key (Some x)
-        → u.limits ≡ mid.limits → u.received ≡ mid.received → u.last_start ≡ mid.last_start → u.exchanges ≡ mid.exchanges → u.keys ≡ mid.keys → u.entries ≡ mid.entries → ChangesAt mid.consumers u.consumers c (standing_at (place.Down (cause.BadHead x)))
+        → u.limits ≡ mid.limits → u.last_start ≡ mid.last_start → u.exchanges ≡ mid.exchanges → u.keys ≡ mid.keys → u.entries ≡ mid.entries → ChangesAt mid.consumers u.consumers c (standing_at (place.Down (cause.BadHead x)))
         → Answered r.limits (shelf_of r.entries).faults u t before out now ev
-    dooming_bad u c for_it unheard is doomed limits received last exchanges same_keys same_entries changes =
+    dooming_bad u c for_it unheard is doomed limits last exchanges same_keys same_entries changes =
         let in_it = in_refused unheard in
         let d : rows.Consumer = down (Some x) in_it in
         let stood = subst (RowsStand mid) (after_is (Some x)) doomed.rows in
@@ -442,7 +442,7 @@ module _ {B : Type 0} {g : Ghosts B} (r : Rows B g) (t : Tables) (facts : Facts 
         (dooms_bad r.limits t facts.law now x response goes w waits.row v waits.asker unsafe is) (unwritten t now x response w case.DirectBad waits.row is refl) (flawless (awaited_and t key (Some x))) doomed.acts
         (stands_counted u _ now ev refl (subst (RowsStand u) (failure_is (Some x) in_it)
         (stands_down mid u (after (Some x)) w.c x (over w) (over z) v k.0 stood (shut_row (Some x) in_it) refl empty unjoined waits.headless (unfounded (Some x))
-        (here (Some x)) at (started (Some x)) (only_it (Some x) in_it) refl empty unjoined k.1 (cause.BadHead x) limits received last exchanges same_keys same_entries
+        (here (Some x)) at (started (Some x)) (only_it (Some x) in_it) refl empty unjoined k.1 (cause.BadHead x) limits last exchanges same_keys same_entries
         (subst (λ (n : ℕ). ChangesAt mid.consumers u.consumers n (standing_at (place.Down (cause.BadHead x)))) (sym for_it) changes))))
 
 -- FROM WHAT THE CODE LOOKED UP

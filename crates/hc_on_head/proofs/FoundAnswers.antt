@@ -78,7 +78,7 @@ key_told r now x c g response f = by_row (get nat_eq r.consumers c)
     by_row None founding o there = absurd founding
     by_row (Some k) founding o there = (founding o there).key
 
-module _ {B : Type 0} {b : Ghosts B} (r r1 r2 r3 : Rows B b) (now x c : ℕ) (gone told : Option ℕ) (key : List ℕ) (accepted : head_refusal (option_map open_view (table_of r.exchanges x).running) ≡ None) (asks : IsAskedBy c (table_of r.exchanges x).running) (small : r.received < 2 ^ 61)
+module _ {B : Type 0} {b : Ghosts B} (r r1 r2 r3 : Rows B b) (now x c : ℕ) (gone told : Option ℕ) (key : List ℕ) (accepted : head_refusal (option_map open_view (table_of r.exchanges x).running) ≡ None) (asks : IsAskedBy c (table_of r.exchanges x).running)
     (key_is : (o : Open) → (table_of r.exchanges x).running ≡ Some o → key ≡ o.request.key) (told_is : told ≡ (kept_of r.keys key).current)
     (falls_back : (t : Tables) (y : ℕ) (w : Exchange) (k : rows.Consumer) → Facts r.limits t → AwaitsHead t y w k → w.c ≡ c → StandsApart y (place.Direct x) → RowsStand r t → RowsStand r1 (with_consumer c (Some (record k { place = place.Direct x })) t))
     (goes_first : (t : Tables) → MayLetGo t → RowsStand r1 t → RowsStand r2 (let_some_go now gone t)) (goes_second : (t : Tables) → MayLetGo t → RowsStand r2 t → RowsStand r3 (let_some_go now told t)) (limits_is : r3.limits ≡ r.limits) where
@@ -220,7 +220,7 @@ module _ {B : Type 0} {b : Ghosts B} (r r1 r2 r3 : Rows B b) (now x c : ℕ) (go
           let stays = unless (λ same. lost_apart error kind lost same) in
           let rest = stays.rest in
           let alone = read_alone r.limits t facts now x response goes w its.v its.awaits g founds is gone same in
-          let rows_y = stands_read u y roomy rest.limits rest.received rest.last_start rest.consumers rest.exchanges rest.keys stays.same (gives t facts stands w row).rows in
+          let rows_y = stands_read u y roomy rest.limits rest.last_start rest.consumers rest.exchanges rest.keys stays.same (gives t facts stands w row).rows in
           lost_answered r.limits t facts now x response goes w its.v its.awaits g founds is gone same u (shelf_of r.entries).faults before mid (gives t facts stands w row) u_limits z kind out
           (past roomy w (record its.v { place = place.Direct x }) alone (for_it t facts stands w row) rows_y) acts (may_by error kind lost within)
           (λ fault. (let more = fault_by error kind (shelf_of u.entries).faults (shelf_of y.entries).faults lost cause fault in subst (λ n. n < (shelf_of z.entries).faults) was (subst (λ n. (shelf_of u.entries).faults < n) (sym after) more)))

@@ -110,7 +110,7 @@ module _ {B : Type 0} {g : Ghosts B} (r u : Rows B g) (m : Tables) (now x q c : 
   gone_joined as_gone brings =
       subst (RowsStand u) (named_rows m now x w.c q response (Some q) w v p j.asker j.there)
       (stands_joined m now x q response w v p j p.head refl p.writer v.own own_apart r u k o stands there running on
-      (ap (λ z. (shelf_of z).limits) brings.entries ∙ (stands.limits ∙ sym brings.limits)) brings.received brings.last_start
+      (ap (λ z. (shelf_of z).limits) brings.entries ∙ (stands.limits ∙ sym brings.limits)) brings.last_start
       (subst (λ (n : Option ℕ). BecomesAt r.consumers u.consumers w.c (Some (record k { own = n }))) its.own (stays_at r.consumers u.consumers w.c k brings.consumers there))
       (known_of (get nat_eq r.consumers w.c) k _ there (subst (λ (d : ℕ). IsSomeAnd (get nat_eq r.consumers d) (λ n. LeavesKey d n.request.key r.keys u.keys)) (sym for_it) brings.line))
       brings.exchanges
@@ -162,7 +162,7 @@ module _ {B : Type 0} {g : Ghosts B} (r u : Rows B g) (m : Tables) (now x q c : 
     pub stands_alone : RowsStand brought (with_consumer w.c (Some (record v { own = v.own })) (with_answer now x response (Some q) w (with_representation q (Some (record p { head = h; writer = p.writer })) m)))
     stands_alone =
         stands_joined m now x q response w v p j h refl p.writer v.own own_apart r brought k o stands there running on
-        (its_shelf.limits ∙ (stands.limits ∙ sym limits_then)) (brings.received ∙ grows.rest.received) (brings.last_start ∙ grows.rest.last_start)
+        (its_shelf.limits ∙ (stands.limits ∙ sym limits_then)) (brings.last_start ∙ grows.rest.last_start)
         (subst (λ (n : Option ℕ). BecomesAt r.consumers brought.consumers w.c (Some (record k { own = n }))) its.own (stays_at r.consumers brought.consumers w.c k (brings.consumers ∙ grows.rest.consumers) there))
         its_line its_exchange
         (entries_joined m now x q response w v p j h refl refl p.writer v.own own_apart (shelf_of r.entries) (shelf_of brought.entries) (with_head news e) stands.entries its_shelf.order others_then kept_then
@@ -172,7 +172,7 @@ module _ {B : Type 0} {g : Ghosts B} (r u : Rows B g) (m : Tables) (now x q c : 
     pub stands_shared : Shares brought u c x q → RowsStand u (with_consumer w.c (Some (record v { own = None })) (with_answer now x response (Some q) w (with_representation q (Some (record p { head = h; writer = Some x })) m)))
     stands_shared shares =
         stands_joined m now x q response w v p j h refl (Some x) None (λ y ne. refl) r u k o stands there running on
-        (shares.entries.limits ∙ (its_shelf.limits ∙ (stands.limits ∙ sym (shares.limits ∙ limits_then)))) (shares.received ∙ (brings.received ∙ grows.rest.received)) (shares.last_start ∙ (brings.last_start ∙ grows.rest.last_start))
+        (shares.entries.limits ∙ (its_shelf.limits ∙ (stands.limits ∙ sym (shares.limits ∙ limits_then)))) (shares.last_start ∙ (brings.last_start ∙ grows.rest.last_start))
         (becomes_by r.consumers u.consumers w.c k without_own there (subst (λ (d : ℕ). ChangesAt r.consumers u.consumers d without_own) (sym for_it) (subst (λ z. ChangesAt z u.consumers c without_own) (brings.consumers ∙ grows.rest.consumers) shares.consumers)))
         (subst (λ z. LeavesKey w.c k.request.key r.keys z) (sym shares.keys) its_line)
         (subst (λ z. exch.Becomes (bringing q response) x r.exchanges z) (sym shares.exchanges) its_exchange)

@@ -69,7 +69,7 @@ module _ {B : Type 0} {g : Ghosts B} (r : Rows B g) (t : Tables) (x : ℕ) (op :
   pub is_start : (a b : ℕ) → op.need.now ≡ need.Hole a b → a ≡ from
   is_start a b is = (let same : need.Hole a b ≡ need.Hole from to = sym is ∙ need_is in cc)
 
-module _ {B : Type 0} {g : Ghosts B} (r : Rows B g) (t : Tables) (facts : Facts r.limits t) (stands : RowsStand r t) (small : r.received < 2 ^ 61) (q c from to : ℕ) (response : Response) (w : Exchange) (p : Representation) (k : Consumer) (e : Kept)
+module _ {B : Type 0} {g : Ghosts B} (r : Rows B g) (t : Tables) (facts : Facts r.limits t) (stands : RowsStand r t) (q c from to : ℕ) (response : Response) (w : Exchange) (p : Representation) (k : Consumer) (e : Kept)
     (hole : w.need ≡ need.Hole from to) (for_it : w.c ≡ c) (there : get nat_eq r.consumers c ≡ Some k) (row : t.representation q ≡ Some p) (stays : p.is_lost ≡ false) (kept : (shelf_of r.entries).kept q ≡ Some e) (told : e.head.total ≡ p.head.total) where
   is : IsEntry t q e p
   is = entry_at r t stands q e kept p row

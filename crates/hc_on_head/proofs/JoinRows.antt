@@ -326,7 +326,7 @@ module _ (t : Tables) (now x q : ℕ) (response : Response) (w : Exchange) (v : 
   -- ALL OF IT
 
   module _ {B : Type 0} {g : Ghosts B} (r u : Rows B g) (k : Consumer) (o : Open) (stands : RowsStand r t) (there : get nat_eq r.consumers w.c ≡ Some k) (running : (table_of r.exchanges x).running ≡ Some o) (on : is_reached (promise_in w response) 0 ≡ false)
-      (limits : (shelf_of u.entries).limits ≡ u.limits) (received : u.received ≡ r.received) (last : u.last_start ≡ r.last_start) (becomes : BecomesAt r.consumers u.consumers w.c (Some (record k { own = own }))) (line : LeavesKey w.c k.request.key r.keys u.keys)
+      (limits : (shelf_of u.entries).limits ≡ u.limits) (last : u.last_start ≡ r.last_start) (becomes : BecomesAt r.consumers u.consumers w.c (Some (record k { own = own }))) (line : LeavesKey w.c k.request.key r.keys u.keys)
       (brings : exch.Becomes (bringing q response) x r.exchanges u.exchanges) (entries : KeepsEntries s (shelf_of u.entries)) where
     is : IsKept t k v
     is = kept_as r t w.c v k stands j.asker there

@@ -70,11 +70,11 @@ module _ (t : Tables) (law : Lawful t) (x : ℕ) (w : Exchange) (v : rows.Consum
   first false on = on
 
   pub stands_through : {B : Type 0} {g : Ghosts B} (r u : Rows B g) (k : Consumer) → get nat_eq r.consumers w.c ≡ Some k → RowsStand r m
-      → u.limits ≡ r.limits → u.received ≡ r.received → u.last_start ≡ r.last_start → u.exchanges ≡ r.exchanges → u.entries ≡ r.entries → ChangesAt r.consumers u.consumers w.c (standing_at (place.Passed q (Some x)))
+      → u.limits ≡ r.limits → u.last_start ≡ r.last_start → u.exchanges ≡ r.exchanges → u.entries ≡ r.entries → ChangesAt r.consumers u.consumers w.c (standing_at (place.Passed q (Some x)))
       → keys.Becomes (on_line (lines.line_after_pass w.c)) k.request.key r.keys u.keys → RowsStand u (with_consumer w.c (Some z) m)
-  stands_through r u k there stands limits received last exchanges entries changes line =
+  stands_through r u k there stands limits last exchanges entries changes line =
       let is = kept_as r m w.c v k stands awaits.asker there in
-      stands_moved r u m w.c v z (standing_at (place.Passed q (Some x)) k) stands awaits.asker (rw at refl) refl limits received last exchanges
+      stands_moved r u m w.c v z (standing_at (place.Passed q (Some x)) k) stands awaits.asker (rw at refl) refl limits last exchanges
       (ap (λ e. (shelf_of e).limits) entries)
       (becomes_by r.consumers u.consumers w.c k (standing_at (place.Passed q (Some x))) there changes) (kept_then k is)
       (keys_with m w.c (Some z) (on_line (lines.line_after_pass w.c)) v.request.key r.keys u.keys stands.keys (subst (λ (q : Request). keys.Becomes (on_line (lines.line_after_pass w.c)) q.key r.keys u.keys) is.request line)
@@ -85,10 +85,10 @@ module _ (t : Tables) (law : Lawful t) (x : ℕ) (w : Exchange) (v : rows.Consum
 
 -- whoever it is called
 pub through_as : {B : Type 0} {g : Ghosts B} (r u : Rows B g) (t : Tables) (law : Lawful t) (x c q : ℕ) (w : Exchange) (v : rows.Consumer) (k : Consumer) (p : Representation) → AwaitsHead t x w v → w.c ≡ c → v.place ≡ place.Turn x → get nat_eq r.consumers c ≡ Some k → RowsStand r (with_representation q (Some p) t)
-    → u.limits ≡ r.limits → u.received ≡ r.received → u.last_start ≡ r.last_start → u.exchanges ≡ r.exchanges → u.entries ≡ r.entries → ChangesAt r.consumers u.consumers c (standing_at (place.Passed q (Some x)))
+    → u.limits ≡ r.limits → u.last_start ≡ r.last_start → u.exchanges ≡ r.exchanges → u.entries ≡ r.entries → ChangesAt r.consumers u.consumers c (standing_at (place.Passed q (Some x)))
     → keys.Becomes (on_line (lines.line_after_pass c)) k.request.key r.keys u.keys → RowsStand u (with_consumer c (Some (record v { place = place.Passed q (Some x) })) (with_representation q (Some p) t))
-through_as r u t law x c q w v k p awaits for_it at there stands limits received last exchanges entries changes line =
+through_as r u t law x c q w v k p awaits for_it at there stands limits last exchanges entries changes line =
     subst (λ (d : ℕ). RowsStand u (with_consumer d (Some (record v { place = place.Passed q (Some x) })) (with_representation q (Some p) t))) for_it
-    (stands_through t law x w v awaits at q p r u k (ap (get nat_eq r.consumers) for_it ∙ there) stands limits received last exchanges entries
+    (stands_through t law x w v awaits at q p r u k (ap (get nat_eq r.consumers) for_it ∙ there) stands limits last exchanges entries
     (subst (λ (d : ℕ). ChangesAt r.consumers u.consumers d (standing_at (place.Passed q (Some x)))) (sym for_it) changes)
     (subst (λ (d : ℕ). keys.Becomes (on_line (lines.line_after_pass d)) k.request.key r.keys u.keys) (sym for_it) line))

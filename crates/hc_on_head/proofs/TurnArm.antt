@@ -60,12 +60,12 @@ use Rattle.hc_on_leave.proofs.RefuseArm.{stands_refused, closes_as}
 use Rattle.hc_on_head.proofs.RenewedArm.{stands_renewed}
 use Rattle.hc_state.proofs.SealArm.{stands_stayed}
 use Rattle.hc_on_leave.proofs.UnstoredArms.{beside, unread_then, unwritten}
-use Rattle.hc_state.proofs.Words.{same_or, eqb-same, eqb-other, and_false, as_received, false_true, none_some}
+use Rattle.hc_state.proofs.Words.{same_or, eqb-same, eqb-other, and_false, false_true, none_some}
 
 -- WHERE WHAT IS STORED STAYS
 
 pub stands_unrenewed : {B : Type 0} {g : Ghosts B} (r u : Rows B g) (t : Tables) → KeepsBeside r u → shelf.Stays (shelf_of r.entries) (shelf_of u.entries) → RowsStand r t → RowsStand u t
-stands_unrenewed r u t rest same stands = stands_stayed r u t rest.limits rest.received rest.last_start rest.consumers rest.exchanges rest.keys same stands
+stands_unrenewed r u t rest same stands = stands_stayed r u t rest.limits rest.last_start rest.consumers rest.exchanges rest.keys same stands
 
 pub past_unrenewed : {B : Type 0} {g : Ghosts B} (r u : Rows B g) → KeepsBeside r u → shelf.Stays (shelf_of r.entries) (shelf_of u.entries) → Stands r → Stands u
 past_unrenewed r u rest same p = record {
@@ -73,7 +73,7 @@ past_unrenewed r u rest same p = record {
   facts = subst (λ (n : Limits). Facts n p.t) (sym rest.limits) p.facts;
   numbers = p.numbers;
   within_limits = p.within_limits;
-  received = as_received rest.received p.received;
+  received = p.received;
   rows = stands_unrenewed r u _ rest same p.rows;
 }
 

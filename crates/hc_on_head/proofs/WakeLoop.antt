@@ -183,7 +183,6 @@ pub record WokenSoFar {B : Type 0} {g : Ghosts B} (r u : Rows B g) (i now : ℕ)
   pub keys : u.keys ≡ r.keys
   pub limits : u.limits ≡ r.limits
   pub last_start : u.last_start ≡ r.last_start
-  pub received : u.received ≡ r.received
   pub exchanges : u.exchanges ≡ r.exchanges
 
 pub begins : {B : Type 0} {g : Ghosts B} (r : Rows B g) (now : ℕ) (key : List ℕ) → WokenSoFar r r 0 now key
@@ -195,7 +194,6 @@ begins r now key = record {
   keys = refl;
   limits = refl;
   last_start = refl;
-  received = refl;
   exchanges = refl;
 }
 
@@ -215,7 +213,6 @@ module _ {B : Type 0} {g : Ghosts B} (r mid : Rows B g) (i now : ℕ) (key : Lis
         keys = so_far.keys;
         limits = so_far.limits;
         last_start = so_far.last_start;
-        received = so_far.received;
         exchanges = so_far.exchanges;
       }
 
@@ -247,7 +244,7 @@ module _ {B : Type 0} {g : Ghosts B} (r mid : Rows B g) (i now : ℕ) (key : Lis
     user some = by_some (get nat_eq mid.consumers c) some user_by
 
     module _ (u : Rows B g) (over : ChangesAt mid.consumers u.consumers c (once_over now)) (unbound : Unbinds (get nat_eq mid.consumers c) c (shelf_of mid.entries) (shelf_of u.entries)) (faults : (shelf_of u.entries).faults ≡ (shelf_of mid.entries).faults)
-        (keys : u.keys ≡ mid.keys) (limits : u.limits ≡ mid.limits) (last : u.last_start ≡ mid.last_start) (received : u.received ≡ mid.received) (exchanges : u.exchanges ≡ mid.exchanges) where
+        (keys : u.keys ≡ mid.keys) (limits : u.limits ≡ mid.limits) (last : u.last_start ≡ mid.last_start) (exchanges : u.exchanges ≡ mid.exchanges) where
       pub one_back : WokenSoFar r u (i + 1) now key
       one_back = record {
         over = one_more r.keys key (once_over now) r.consumers i c mid.consumers u.consumers so_far.over seat in_line alone over;
@@ -257,7 +254,6 @@ module _ {B : Type 0} {g : Ghosts B} (r mid : Rows B g) (i now : ℕ) (key : Lis
         keys = keys ∙ so_far.keys;
         limits = limits ∙ so_far.limits;
         last_start = last ∙ so_far.last_start;
-        received = received ∙ so_far.received;
         exchanges = exchanges ∙ so_far.exchanges;
       }
 

@@ -36,11 +36,9 @@ pub fn lose_asked<B: Backend>(
         (IsInKey rows.old.keys heard.c) }
     requires accepted { head_refusal (open_at rows.old heard.x) ≡ None }
     requires asker { IsAskedBy heard.c (table_of rows.old.exchanges heard.x).running }
-    requires small { rows.old.received < 2 ^ 61 }
     requires room { 3 ≤ spare out.old }
     ensures answers { (faults : ℕ) → AnswersLosing rows.old rows.new (act_list out.old)
         (act_list out.new) faults heard.now heard.x r response.now }
-    ensures received { rows.new.received ≡ rows.old.received }
     ensures limits { rows.new.limits ≡ rows.old.limits }
     ensures faults { (shelf_of rows.new.entries).faults ≡ (shelf_of rows.old.entries).faults }
 {

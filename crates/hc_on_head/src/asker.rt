@@ -28,7 +28,6 @@ pub fn fall_back<B: Backend>(rows: &mut Rows<B>, c: u64, place: Place)
         → RowsStand rows.old t
         → RowsStand rows.new (with_consumer c (Some (record k { place = place })) t) }
     ensures exchanges { rows.new.exchanges ≡ rows.old.exchanges }
-    ensures received { rows.new.received ≡ rows.old.received }
     ensures limits { rows.new.limits ≡ rows.old.limits }
     ensures faults { (shelf_of rows.new.entries).faults ≡ (shelf_of rows.old.entries).faults }
 {
@@ -48,7 +47,6 @@ pub(crate) fn send_back<B: Backend>(rows: &mut Rows<B>, now: u64, c: u64)
         → RowsStand rows.old t
         → RowsStand rows.new (with_consumer c (Some (back_in_line now k)) t) }
     ensures exchanges { rows.new.exchanges ≡ rows.old.exchanges }
-    ensures received { rows.new.received ≡ rows.old.received }
     ensures limits { rows.new.limits ≡ rows.old.limits }
     ensures faults { (shelf_of rows.new.entries).faults ≡ (shelf_of rows.old.entries).faults }
 {
@@ -69,7 +67,6 @@ pub fn let_through<B: Backend>(rows: &mut Rows<B>, c: u64, r: u64, x: u64)
         (Some (record k { place = place.Passed r (Some x) }))
         (with_representation r (Some v) t)) }
     ensures exchanges { rows.new.exchanges ≡ rows.old.exchanges }
-    ensures received { rows.new.received ≡ rows.old.received }
     ensures limits { rows.new.limits ≡ rows.old.limits }
     ensures faults { (shelf_of rows.new.entries).faults ≡ (shelf_of rows.old.entries).faults }
 {

@@ -33,7 +33,6 @@ pub fn take_doom<B: Backend>(rows: &mut Rows<B>, now: u64, key: &Key, out: &mut 
     ensures answers { Answers rows.old rows.new (act_list out.old) (act_list out.new) now
         (Doom key.now) }
     ensures limits { rows.new.limits ≡ rows.old.limits }
-    ensures received { rows.new.received ≡ rows.old.received }
     ensures faults { (shelf_of rows.new.entries).faults ≡ (shelf_of rows.old.entries).faults }
 {
     doom(rows, now, key, None, out);
@@ -56,7 +55,6 @@ pub(crate) fn doom<B: Backend>(
         → IsDoomed rows.new t (act_list out.old) (act_list out.new) now key.now refused }
     ensures limits { rows.new.limits ≡ rows.old.limits }
     ensures last_start { rows.new.last_start ≡ rows.old.last_start }
-    ensures received { rows.new.received ≡ rows.old.received }
     ensures faults { (shelf_of rows.new.entries).faults ≡ (shelf_of rows.old.entries).faults }
 {
     let current = rows.keys.current(key);
@@ -77,7 +75,6 @@ fn wake<B: Backend>(rows: &mut Rows<B>, now: u64, key: &Key)
     ensures faults { (shelf_of rows.new.entries).faults ≡ (shelf_of rows.old.entries).faults }
     ensures limits { rows.new.limits ≡ rows.old.limits }
     ensures last_start { rows.new.last_start ≡ rows.old.last_start }
-    ensures received { rows.new.received ≡ rows.old.received }
     ensures exchanges { rows.new.exchanges ≡ rows.old.exchanges }
 {
     for i in 0..rows.keys.seats(key) {
@@ -98,7 +95,6 @@ fn wake_one<B: Backend>(rows: &mut Rows<B>, now: u64, c: u64)
     ensures keys { rows.new.keys ≡ rows.old.keys }
     ensures limits { rows.new.limits ≡ rows.old.limits }
     ensures last_start { rows.new.last_start ≡ rows.old.last_start }
-    ensures received { rows.new.received ≡ rows.old.received }
     ensures exchanges { rows.new.exchanges ≡ rows.old.exchanges }
 {
     if let Some(consumer) = rows.consumers.get(&c) {

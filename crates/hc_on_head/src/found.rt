@@ -53,11 +53,9 @@ pub(crate) fn found<B: Backend>(
     requires timely { IsTimely heard.now (table_of rows.old.exchanges heard.x).running }
     requires founds { is_founding (Some case) ≡ true }
     requires may { MayFound response.now }
-    requires small { rows.old.received < 2 ^ 61 }
     requires room { 2 ≤ spare out.old }
     ensures answers { OnOk result (AnswersCase rows.old rows.new (act_list out.old)
         (act_list out.new) heard.now heard.x response.now case goes) }
-    ensures received { OnOk result (rows.new.received ≡ rows.old.received) }
     ensures limits { OnOk result (rows.new.limits ≡ rows.old.limits) }
     ensures faults { (shelf_of rows.old.entries).faults ≤ (shelf_of rows.new.entries).faults }
     ensures kept { OnErr result (act_list out.new ≡ act_list out.old) }
@@ -88,11 +86,9 @@ fn found_in_room<B: Backend>(
     requires timely { IsTimely heard.now (table_of rows.old.exchanges heard.x).running }
     requires founds { is_founding (Some case) ≡ true }
     requires may { MayFound response.now }
-    requires small { rows.old.received < 2 ^ 61 }
     requires room { 2 ≤ spare out.old }
     ensures answers { OnOk result (AnswersCase rows.old rows.new (act_list out.old)
         (act_list out.new) heard.now heard.x response.now case goes) }
-    ensures received { OnOk result (rows.new.received ≡ rows.old.received) }
     ensures limits { OnOk result (rows.new.limits ≡ rows.old.limits) }
     ensures faults { (shelf_of rows.old.entries).faults ≤ (shelf_of rows.new.entries).faults }
     ensures appends { Appends (act_list out.old) (act_list out.new) }

@@ -51,11 +51,9 @@ pub fn take_head<B: Backend>(
     requires accepted { head_refusal (open_at rows.old x) ≡ None }
     requires timely { IsTimely now (table_of rows.old.exchanges x).running }
     requires within_limits { IsWithinLimits response.now.fields }
-    requires small { rows.old.received < 2 ^ 61 }
     requires room { most_live ≤ spare out.old }
     ensures answers { OnOk result (Answers rows.old rows.new (act_list out.old) (act_list out.new)
         now (Head x response.now)) }
-    ensures received { OnOk result (rows.new.received ≡ rows.old.received) }
     ensures limits { OnOk result (rows.new.limits ≡ rows.old.limits) }
     ensures faults { (shelf_of rows.old.entries).faults ≤ (shelf_of rows.new.entries).faults }
     ensures kept { OnErr result (act_list out.new ≡ act_list out.old) }
@@ -98,11 +96,9 @@ fn take_case<B: Backend>(
     requires founds { is_founding (Some case) ≡ true → MayFound response.now }
     requires joins { joins_hole case ≡ true → IsAboutKept (shelf_of rows.old.entries)
         (table_of rows.old.exchanges heard.x).running }
-    requires small { rows.old.received < 2 ^ 61 }
     requires room { 2 ≤ spare out.old }
     ensures answers { OnOk result (AnswersCase rows.old rows.new (act_list out.old)
         (act_list out.new) heard.now heard.x response.now case goes) }
-    ensures received { OnOk result (rows.new.received ≡ rows.old.received) }
     ensures limits { OnOk result (rows.new.limits ≡ rows.old.limits) }
     ensures faults { (shelf_of rows.old.entries).faults ≤ (shelf_of rows.new.entries).faults }
     ensures kept { OnErr result (act_list out.new ≡ act_list out.old) }

@@ -49,11 +49,9 @@ pub(crate) fn join<B: Backend>(
     requires good { is_bad (length_by (table_of rows.old.exchanges heard.x).running
         response.now) ≡ false }
     requires timely { IsTimely heard.now (table_of rows.old.exchanges heard.x).running }
-    requires small { rows.old.received < 2 ^ 61 }
     requires room { 1 ≤ spare out.old }
     ensures answers { OnOk result (AnswersJoins rows.old rows.new (act_list out.old)
         (act_list out.new) heard.now heard.x response.now) }
-    ensures received { OnOk result (rows.new.received ≡ rows.old.received) }
     ensures limits { OnOk result (rows.new.limits ≡ rows.old.limits) }
     ensures kept { OnErr result (act_list out.new ≡ act_list out.old) }
     ensures memory { OnErr result
@@ -143,7 +141,6 @@ fn resumes<B: Backend>(rows: &Rows<B>, heard: Heard, response: &Response, r: u64
     requires there { is_kept (shelf_of rows.now.entries) r ≡ true }
     requires live { is_some (get nat_eq rows.now.consumers heard.c) ≡ true }
     requires running { is_open heard.x (table_of rows.now.exchanges) ≡ true }
-    requires small { rows.now.received < 2 ^ 61 }
     ensures { ResumesIs rows.now heard.c heard.x r response.now result }
 {
     let opening = rows.exchanges.opening(heard.x).unwrap();

@@ -44,11 +44,9 @@ pub(crate) fn validate<B: Backend>(
     requires accepted { head_refusal (open_at rows.old heard.x) ≡ None }
     requires asker { IsAskedBy heard.c (table_of rows.old.exchanges heard.x).running }
     requires timely { IsTimely heard.now (table_of rows.old.exchanges heard.x).running }
-    requires small { rows.old.received < 2 ^ 61 }
     requires room { 3 ≤ spare out.old }
     ensures answers { OnOk result (AnswersUnselected rows.old rows.new (act_list out.old)
         (act_list out.new) heard.now heard.x response.now aim) }
-    ensures received { OnOk result (rows.new.received ≡ rows.old.received) }
     ensures limits { OnOk result (rows.new.limits ≡ rows.old.limits) }
     ensures faults { (shelf_of rows.old.entries).faults ≤ (shelf_of rows.new.entries).faults }
     ensures kept { OnErr result (act_list out.new ≡ act_list out.old) }

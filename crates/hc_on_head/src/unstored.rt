@@ -37,7 +37,6 @@ pub fn put_down<B: Backend>(rows: &mut Rows<B>, heard: Heard, response: &Respons
     requires room { 1 ≤ spare out.old }
     ensures answers { (g : HeadCase) → puts_down g ≡ true → AnswersCase rows.old rows.new
         (act_list out.old) (act_list out.new) heard.now heard.x response.now g None }
-    ensures received { rows.new.received ≡ rows.old.received }
     ensures limits { rows.new.limits ≡ rows.old.limits }
     ensures faults { (shelf_of rows.new.entries).faults ≡ (shelf_of rows.old.entries).faults }
 {
@@ -58,7 +57,6 @@ pub fn take_past<B: Backend>(
     ensures answers { OnOk result ((before : List Act)
         → AnswersCase rows.old rows.new before before heard.now heard.x response.now
         case.DirectTaken None) }
-    ensures received { OnOk result (rows.new.received ≡ rows.old.received) }
     ensures limits { OnOk result (rows.new.limits ≡ rows.old.limits) }
     ensures faults { (shelf_of rows.new.entries).faults ≡ (shelf_of rows.old.entries).faults }
 {
@@ -81,7 +79,6 @@ pub fn go_past<B: Backend>(
     ensures answers { OnOk result ((g : HeadCase) (before : List Act) → goes_past g ≡ true
         → AnswersCase rows.old rows.new before before heard.now heard.x response.now
         g goes) }
-    ensures received { OnOk result (rows.new.received ≡ rows.old.received) }
     ensures limits { OnOk result (rows.new.limits ≡ rows.old.limits) }
     ensures faults { (shelf_of rows.new.entries).faults ≡ (shelf_of rows.old.entries).faults }
 {
@@ -108,7 +105,6 @@ pub fn start_anew<B: Backend>(
     requires room { 1 ≤ spare out.old }
     ensures answers { (g : HeadCase) → starts_anew g ≡ true → AnswersCase rows.old rows.new
         (act_list out.old) (act_list out.new) heard.now heard.x response.now g goes }
-    ensures received { rows.new.received ≡ rows.old.received }
     ensures limits { rows.new.limits ≡ rows.old.limits }
     ensures faults { (shelf_of rows.new.entries).faults ≡ (shelf_of rows.old.entries).faults }
 {
@@ -133,7 +129,6 @@ pub fn close_hole<B: Backend>(
     ensures answers { (g : HeadCase) → breaks_off g ≡ true → cause ≡ broken_by heard.x g
         → AnswersCase rows.old rows.new (act_list out.old) (act_list out.new) heard.now heard.x
         response.now g goes }
-    ensures received { rows.new.received ≡ rows.old.received }
     ensures limits { rows.new.limits ≡ rows.old.limits }
     ensures faults { (shelf_of rows.new.entries).faults ≡ (shelf_of rows.old.entries).faults }
 {
@@ -155,7 +150,6 @@ pub fn answer_past<B: Backend>(
         → IsReadAlone t heard.x w k → w.c ≡ heard.c → RowsStand rows.old t
         → RowsStand rows.new
         (with_answer heard.now heard.x response.now w.joined w t)) }
-    ensures received { OnOk result (rows.new.received ≡ rows.old.received) }
     ensures limits { OnOk result (rows.new.limits ≡ rows.old.limits) }
     ensures faults { (shelf_of rows.new.entries).faults ≡ (shelf_of rows.old.entries).faults }
 {
@@ -179,7 +173,6 @@ pub fn have_answer<B: Backend>(
         → IsReadAlone t heard.x w k → w.c ≡ heard.c → RowsStand rows.old t
         → RowsStand rows.new
         (with_answer heard.now heard.x response.now w.joined w t) }
-    ensures received { rows.new.received ≡ rows.old.received }
     ensures limits { rows.new.limits ≡ rows.old.limits }
     ensures faults { (shelf_of rows.new.entries).faults ≡ (shelf_of rows.old.entries).faults }
 {

@@ -52,7 +52,7 @@ known_other f x y a b becomes ne = becomes.table y ∙ rw (eqb-other x y (λ e. 
 
 module _ {B : Type 0} {g : Ghosts B} (r u : Rows B g) (t : Tables) (now x : ℕ) (response copied : Response) (w : Exchange) (v : rows.Consumer) (k : Consumer) (o : Open) (l : Length) (mid : Exchanges) (stands : RowsStand r t) (alone : IsReadAlone t x w v)
     (there : get nat_eq r.consumers w.c ≡ Some k) (running : (table_of r.exchanges x).running ≡ Some o) (told : l ≡ length_of w.need w.request response) (copies : copied ≡ response)
-    (limits : u.limits ≡ r.limits) (received : u.received ≡ r.received) (last : u.last_start ≡ r.last_start) (same_keys : u.keys ≡ r.keys) (same_entries : u.entries ≡ r.entries)
+    (limits : u.limits ≡ r.limits) (last : u.last_start ≡ r.last_start) (same_keys : u.keys ≡ r.keys) (same_entries : u.entries ≡ r.entries)
     (turned : exch.Becomes (known.turned_into role.Direct) x r.exchanges mid) (headed : exch.Becomes (known.with_good_head l) x mid u.exchanges) (changes : ChangesAt r.consumers u.consumers w.c (answered_by copied l)) where
   abbrev z : Exchange
   z = exchange_with_head now response w.joined w
@@ -184,10 +184,10 @@ reader_kept r t c x v stands row at = by_kept (get nat_eq r.consumers c) refl (s
 
 pub stands_answered_as : {B : Type 0} {g : Ghosts B} (r u : Rows B g) (t : Tables) (now x c : ℕ) (response copied : Response) (w : Exchange) (v : rows.Consumer) (op : Opening) (l : Length) (mid : Exchanges) → RowsStand r t → IsReadAlone t x w v → w.c ≡ c
     → head_refusal (option_map open_view (table_of r.exchanges x).running) ≡ None → Some (opened_with op) ≡ option_map begins_with (table_of r.exchanges x).running → l ≡ length_of op.need.now op.request.now response
-    → is_bad (length_by (table_of r.exchanges x).running response) ≡ false → copied ≡ response → u.limits ≡ r.limits → u.received ≡ r.received → u.last_start ≡ r.last_start → u.keys ≡ r.keys → u.entries ≡ r.entries
+    → is_bad (length_by (table_of r.exchanges x).running response) ≡ false → copied ≡ response → u.limits ≡ r.limits → u.last_start ≡ r.last_start → u.keys ≡ r.keys → u.entries ≡ r.entries
     → exch.Becomes (known.turned_into role.Direct) x r.exchanges mid → (is_bad (length_by (table_of mid x).running response) ≡ false → exch.Becomes (known.with_good_head (length_by (table_of mid x).running response)) x mid u.exchanges)
     → ChangesAt r.consumers u.consumers c (answered_by copied l) → RowsStand u (effects.with_answer now x response w.joined w t)
-stands_answered_as r u t now x c response copied w v op l mid stands alone for_it accepted opens told good copies limits received last same_keys same_entries turned headed changes =
+stands_answered_as r u t now x c response copied w v op l mid stands alone for_it accepted opens told good copies limits last same_keys same_entries turned headed changes =
     let h = headless_of (table_of r.exchanges x).running accepted in
     let o = h.o in
     let runs = runs_as r t x o w stands h.there alone.bare.row in
@@ -200,7 +200,7 @@ stands_answered_as r u t now x c response copied w v op l mid stands alone for_i
     ∙ (ap by_role h.there ∙ sym (ap (λ (z : Option Open). length_by z response) h.there)) in
     let here_is : length_by (table_of r.exchanges x).running response ≡ length_of o.need o.request response = ap (λ (z : Option Open). length_by z response) h.there in
     stands_answered r u t now x response copied w v k.0 o l mid stands alone k.1 h.there
-    (told_by ∙ (ap (λ n. length_of n o.request response) runs.need ∙ ap (λ q. length_of w.need q response) runs.request)) copies limits received last same_keys same_entries turned
+    (told_by ∙ (ap (λ n. length_of n o.request response) runs.need ∙ ap (λ q. length_of w.need q response) runs.request)) copies limits last same_keys same_entries turned
     (subst (λ (q : Length). exch.Becomes (known.with_good_head q) x mid u.exchanges) (mid_is ∙ (here_is ∙ sym told_by)) (headed (ap is_bad mid_is ∙ good)))
     (subst (λ (d : ℕ). ChangesAt r.consumers u.consumers d (answered_by copied l)) (sym for_it) changes)
 

@@ -405,11 +405,11 @@ module _ {B : Type 0} {g : Ghosts B} (r u : Rows B g) (t : Tables) (may : MayLet
 
   -- ALL OF IT
 
-  pub stands_without : (mid : KeyTable) → u.limits ≡ r.limits → u.last_start ≡ r.last_start → u.received ≡ r.received → u.exchanges ≡ r.exchanges
+  pub stands_without : (mid : KeyTable) → u.limits ≡ r.limits → u.last_start ≡ r.last_start → u.exchanges ≡ r.exchanges
       → ChangesAmong r.consumers u.consumers (λ c. is_in c (line_of r.keys k.key)) (over_if_passed now)
       → keys.Becomes (on_line passed_back) k.key r.keys mid → keys.Becomes (with_current None) k.key mid u.keys
       → shelves.Becomes (option_and_then kept.kept_as_gone) (taken_out n) n (shelf_of r.entries) (shelf_of u.entries) → RowsStand u s
-  stands_without mid limits last received exchanges consumers line cleared forgot = record {
+  stands_without mid limits last exchanges consumers line cleared forgot = record {
     limits = forgot.limits ∙ (stands.limits ∙ sym limits);
     last_start = last ∙ stands.last_start;
     next = ap next_of exchanges ∙ stands.next;
@@ -435,16 +435,16 @@ kept_key (Some k) key is usable = (k, refl, sym (some_is key k.key is), fresh k.
     fresh false on = refl
 
 pub lets_go : {B : Type 0} {g : Ghosts B} (r u : Rows B g) (now n : ℕ) (key : List ℕ) (mid : KeyTable) → Some key ≡ option_map key_in ((shelf_of r.entries).kept n) → is_usable_kept ((shelf_of r.entries).kept n) ≡ true
-    → u.limits ≡ r.limits → u.last_start ≡ r.last_start → u.received ≡ r.received → u.exchanges ≡ r.exchanges
+    → u.limits ≡ r.limits → u.last_start ≡ r.last_start → u.exchanges ≡ r.exchanges
     → ChangesAmong r.consumers u.consumers (λ c. is_in c (line_of r.keys key)) (over_if_passed now)
     → keys.Becomes (on_line passed_back) key r.keys mid → keys.Becomes (with_current None) key mid u.keys
     → shelves.Becomes (option_and_then kept.kept_as_gone) (taken_out n) n (shelf_of r.entries) (shelf_of u.entries)
     → (t : Tables) → MayLetGo t → RowsStand r t → RowsStand u (let_go now n t)
-lets_go r u now n key mid has_key usable limits last received exchanges consumers line cleared forgot t may stands =
+lets_go r u now n key mid has_key usable limits last exchanges consumers line cleared forgot t may stands =
     let (k, at, of_key, fresh) = kept_key ((shelf_of r.entries).kept n) key has_key usable in
     let (v, row, entry) = entry_row t n k (t.representation n) (subst (λ o. KeepsEntry t n o (t.representation n)) at (stands.entries.each n)) in
     let its : key ≡ k.key = sym of_key in
-    stands_without r u t may stands now n k v at row entry fresh mid limits last received exchanges
+    stands_without r u t may stands now n k v at row entry fresh mid limits last exchanges
     (subst (λ z. ChangesAmong r.consumers u.consumers (λ c. is_in c (line_of r.keys z)) (over_if_passed now)) its consumers)
     (subst (λ z. keys.Becomes (on_line passed_back) z r.keys mid) its line) (subst (λ z. keys.Becomes (with_current None) z mid u.keys) its cleared) forgot
 

@@ -223,11 +223,11 @@ module _ (t : Tables) (q x : ℕ) (v : Representation) (loses : MayLoseShared t 
 -- ALL OF IT
 
 pub loses_shared : {B : Type 0} {g : Ghosts B} (r mid u : Rows B g) (t : Tables) (now q x : ℕ) (v : Representation) (detached_reader : Option ℕ) → MayLoseShared t q x v → RowsStand r t → is_kept (shelf_of r.entries) q ≡ true → detached_reader ≡ detached_reader_of r.consumers ((shelf_of r.entries).kept q)
-    → mid.limits ≡ r.limits → mid.received ≡ r.received → mid.last_start ≡ r.last_start → mid.exchanges ≡ r.exchanges → mid.keys ≡ r.keys → mid.entries ≡ r.entries
+    → mid.limits ≡ r.limits → mid.last_start ≡ r.last_start → mid.exchanges ≡ r.exchanges → mid.keys ≡ r.keys → mid.entries ≡ r.entries
     → ChangesEach r.consumers mid.consumers (λ d. has itself d (bound_in ((shelf_of r.entries).kept q))) (after_parting detached_reader x (cause.StoreWrite q))
     → ((s : Tables) (p : Representation) → MayLetGo s → s.representation q ≡ Some p → p.alone ≡ None → HoldsNothing s q p detached_reader → RowsStand mid s → RowsStand u (let_go now q (with_representation q (Some (lost_to detached_reader p)) s)))
     → LosesShared u t now q x v detached_reader
-loses_shared r mid u t now q x v detached_reader may stands there found limits received last exchanges same_keys same_entries changes loses = by_kept ((shelf_of r.entries).kept q) refl there
+loses_shared r mid u t now q x v detached_reader may stands there found limits last exchanges same_keys same_entries changes loses = by_kept ((shelf_of r.entries).kept q) refl there
   where
     by_kept : (o : Option Kept) → (shelf_of r.entries).kept q ≡ o → is_some o ≡ true → LosesShared u t now q x v detached_reader
     by_kept None at on = false_true on
@@ -239,5 +239,5 @@ loses_shared r mid u t now q x v detached_reader may stands there found limits r
           detached_reader_is = same;
           rows = loses (writing_lost q detached_reader (Some x) t) v (parts.may_part t q x detached_reader may.may) may.there may.nobody
               (subst (λ (o : Option ℕ). HoldsNothing (writing_lost q o (Some x) t) q v o) (sym same) (nothing_held t q x v may))
-              (parts.stands_parted r mid t q x detached_reader v (λ d. has itself d (bound_in ((shelf_of r.entries).kept q))) stands may.there may.nobody limits received last exchanges same_keys same_entries (λ d some. alike d) changes);
+              (parts.stands_parted r mid t q x detached_reader v (λ d. has itself d (bound_in ((shelf_of r.entries).kept q))) stands may.there may.nobody limits last exchanges same_keys same_entries (λ d some. alike d) changes);
         }

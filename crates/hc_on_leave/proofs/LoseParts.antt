@@ -230,10 +230,10 @@ module _ (t : Tables) (q x : ℕ) (detached_reader : Option ℕ) where
 -- ALL OF IT
 
 pub stands_parted : {B : Type 0} {g : Ghosts B} (r u : Rows B g) (t : Tables) (q x : ℕ) (detached_reader : Option ℕ) (v : Representation) (among : ℕ → Bool) → RowsStand r t → t.representation q ≡ Some v → v.alone ≡ None
-    → u.limits ≡ r.limits → u.received ≡ r.received → u.last_start ≡ r.last_start → u.exchanges ≡ r.exchanges → u.keys ≡ r.keys → u.entries ≡ r.entries
+    → u.limits ≡ r.limits → u.last_start ≡ r.last_start → u.exchanges ≡ r.exchanges → u.keys ≡ r.keys → u.entries ≡ r.entries
     → ((d : ℕ) → is_some (t.consumer d) ≡ true → among d ≡ is_bound q (t.consumer d)) → ChangesEach r.consumers u.consumers among (after_parting detached_reader x (cause.StoreWrite q)) → RowsStand u (writing_lost q detached_reader (Some x) t)
 unfolding current
-stands_parted r u t q x detached_reader v among stands there nobody limits received last exchanges same_keys same_entries alike changes =
+stands_parted r u t q x detached_reader v among stands there nobody limits last exchanges same_keys same_entries alike changes =
     let z : Tables = writing_lost q detached_reader (Some x) t in
     record {
       limits = rw (same_entries, limits) stands.limits;

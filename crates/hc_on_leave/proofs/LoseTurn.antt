@@ -80,9 +80,9 @@ use Rattle.hc_state.proofs.Words.{same_or, eqb-same, eqb-other, then_false, fals
 
 -- where nobody goes on, its exchange is closed
 pub closes_loss : {B : Type 0} {g : Ghosts B} (mid u : Rows B g) (t : Tables) (now r x : ℕ) (v : Representation) (detached_reader : Option ℕ) → MayLoseShared t r x v → RowsStand mid (shared_loss now r x v detached_reader t)
-    → u.limits ≡ mid.limits → u.received ≡ mid.received → u.last_start ≡ mid.last_start → u.consumers ≡ mid.consumers → u.keys ≡ mid.keys → u.entries ≡ mid.entries → exch.Becomes known.without_exchange x mid.exchanges u.exchanges → RowsStand u (all_closed (x ∷ []) (shared_loss now r x v detached_reader t))
-closes_loss mid u t now r x v detached_reader may stands limits received last consumers same_keys same_entries becomes =
-    stands_unstored mid u (shared_loss now r x v detached_reader t) x stands unawaited apart limits received last consumers same_keys same_entries becomes
+    → u.limits ≡ mid.limits → u.last_start ≡ mid.last_start → u.consumers ≡ mid.consumers → u.keys ≡ mid.keys → u.entries ≡ mid.entries → exch.Becomes known.without_exchange x mid.exchanges u.exchanges → RowsStand u (all_closed (x ∷ []) (shared_loss now r x v detached_reader t))
+closes_loss mid u t now r x v detached_reader may stands limits last consumers same_keys same_entries becomes =
+    stands_unstored mid u (shared_loss now r x v detached_reader t) x stands unawaited apart limits last consumers same_keys same_entries becomes
   where
     unawaited : NobodyAwaits (shared_loss now r x v detached_reader t) x
     unawaited d n lo hi k is at = ap is_headless may.row ∙ by_head may.w.head may.headed

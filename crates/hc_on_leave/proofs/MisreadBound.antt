@@ -209,4 +209,4 @@ module _ (limits : Limits) (t : Tables) (law : Lawful t) (now c want q : ℕ) (v
         told (tables_after_close x (let_go now q quit)) (act.Close x ∷ [])
         (let does = does_misread (Some x) leaves in record { acts_are = does.acts_are; tables_are = does.tables_are ∙ ap (with_event now ev) (same_closed x how (going_with t (Some x)) refl) })
         (act_and before mid out failed_act (act.Close x ∷ []) first second)
-        (stands_unstored r u (let_go now q quit) x stands (unawaited_go now q quit x (left_unawaited t law c v row x how)) (apart x how) rest.limits rest.received rest.last_start consumers rest.keys rest.entries becomes)
+        (stands_unstored r u (let_go now q quit) x stands (unawaited_go now q quit x (left_unawaited t law c v row x how)) (apart x how) rest.limits rest.last_start consumers rest.keys rest.entries becomes)

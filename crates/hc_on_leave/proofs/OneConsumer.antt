@@ -65,7 +65,7 @@ module _ (t : Tables) (c : ℕ) (v z : rows.Consumer) (row : t.consumer c ≡ So
 -- ALL OF IT
 
 module _ {B : Type 0} {g : Ghosts B} (r u : Rows B g) (t : Tables) (c : ℕ) (v z : rows.Consumer) (k : Consumer) (stands : RowsStand r t) (row : t.consumer c ≡ Some v) (lived : is_live_place v.place ≡ true) (lives : is_live_place z.place ≡ true)
-    (limits : u.limits ≡ r.limits) (received : u.received ≡ r.received) (last : u.last_start ≡ r.last_start) (exchanges : u.exchanges ≡ r.exchanges) (bounded : (shelf_of u.entries).limits ≡ (shelf_of r.entries).limits)
+    (limits : u.limits ≡ r.limits) (last : u.last_start ≡ r.last_start) (exchanges : u.exchanges ≡ r.exchanges) (bounded : (shelf_of u.entries).limits ≡ (shelf_of r.entries).limits)
     (becomes : BecomesAt r.consumers u.consumers c (Some k)) (kept : KeepsConsumer t (Some k) (Some z)) (keys : (key : List ℕ) → KeepsKey (with_consumer c (Some z) t) key (kept_of u.keys key))
     (entries : KeepsEntries (with_consumer c (Some z) t) (shelf_of u.entries)) (much : HoldsAsMuch t c v z row) where
   live_each : (d : ℕ) → is_live ((with_consumer c (Some z) t).consumer d) ≡ is_live (t.consumer d)

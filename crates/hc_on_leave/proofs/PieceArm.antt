@@ -66,23 +66,23 @@ not_too_long o n none =
     let off = third.0 in
     (on_by o.headed first.0, grind (arith, nat_tests, off), λ p is. not_overlong o.promised (o.delivered + n) p third.1 is)
 
-pub piece_below : {B : Type 0} {g : Ghosts B} (r : Rows B g) (t : Tables) (facts : Facts r.limits t) (x n : ℕ) (o : Open) → Numbers t → t.received ≤ r.received → RowsStand r t → (table_of r.exchanges x).running ≡ Some o → r.received + n < 2 ^ 61 → piece_refusal (Some (open_view o)) n ≡ None → o.base + o.delivered + n < 2 ^ 62 + 1
-piece_below r t facts x n o numbers counted stands running small none =
+pub piece_below : {B : Type 0} {g : Ghosts B} (r : Rows B g) (t : Tables) (facts : Facts r.limits t) (x n : ℕ) (o : Open) → Numbers t → t.received < 2 ^ 61 → n < 2 ^ 61 → RowsStand r t → (table_of r.exchanges x).running ≡ Some o → piece_refusal (Some (open_view o)) n ≡ None → o.base + o.delivered + n < 2 ^ 62 + 1
+piece_below r t facts x n o numbers few short stands running none =
     let allowed = not_too_long o n none in
     let h = heard_row r t x o stands running in
     let w = h.w in
-    by_promise w (promised_bytes w) refl h.is.delivered h.is.base_is (facts.law.places.received x w h.row) (λ p is. allowed.2 p (h.is.promised_is ∙ is)) counted (λ none. numbers.unpromised x w h.row none) (λ p is. numbers.promises x p w h.row is)
+    by_promise w (promised_bytes w) refl h.is.delivered h.is.base_is (facts.law.places.received x w h.row) (λ p is. allowed.2 p (h.is.promised_is ∙ is)) (λ none. numbers.unpromised x w h.row none) (λ p is. numbers.promises x p w h.row is)
   where
-    by_promise : (w : Exchange) (p : Option ℕ) → promised_bytes w ≡ p → o.delivered ≡ length w.body → o.base ≡ base w → length w.body ≤ t.received → ((m : ℕ) → promised_bytes w ≡ Some m → o.delivered + n ≤ m) → t.received ≤ r.received
+    by_promise : (w : Exchange) (p : Option ℕ) → promised_bytes w ≡ p → o.delivered ≡ length w.body → o.base ≡ base w → length w.body ≤ t.received → ((m : ℕ) → promised_bytes w ≡ Some m → o.delivered + n ≤ m)
         → (promised_bytes w ≡ None → base w ≡ 0) → ((m : ℕ) → promised_bytes w ≡ Some m → base w + m ≤ 2 ^ 62) → o.base + o.delivered + n < 2 ^ 62 + 1
-    by_promise w None is came begins got fits all start most = let zero : base w ≡ 0 = start is in omega (arith, zero, came, begins, got, small, all)
-    by_promise w (Some m) is came begins got fits all start most = let le = fits m is in let reach = most m is in omega (arith, le, reach, begins)
+    by_promise w None is came begins got fits start most = let zero : base w ≡ 0 = start is in omega (arith, zero, came, begins, got, few, short)
+    by_promise w (Some m) is came begins got fits start most = let le = fits m is in let reach = most m is in omega (arith, le, reach, begins)
 
 -- what the counts of an exchange need
-pub ends_below : {B : Type 0} {g : Ghosts B} (r : Rows B g) (x n : ℕ) → ∥ Stands r ∥₁ → r.received + n < 2 ^ 61 → (running : Option Open) → (table_of r.exchanges x).running ≡ running → piece_refusal (option_map open_view running) n ≡ None → EndsBelow n running
-ends_below r x n some small None is none = tt
-ends_below r x n some small (Some o) is none =
-    let below : o.base + o.delivered + n < 2 ^ 62 + 1 = merely_below (o.base + o.delivered + n) (2 ^ 62 + 1) some (λ p. piece_below r p.t p.facts x n o p.numbers p.received p.rows is small none) in
+pub ends_below : {B : Type 0} {g : Ghosts B} (r : Rows B g) (x n : ℕ) → ∥ Stands r ∥₁ → n < 2 ^ 61 → (running : Option Open) → (table_of r.exchanges x).running ≡ running → piece_refusal (option_map open_view running) n ≡ None → EndsBelow n running
+ends_below r x n some short None is none = tt
+ends_below r x n some short (Some o) is none =
+    let below : o.base + o.delivered + n < 2 ^ 62 + 1 = merely_below (o.base + o.delivered + n) (2 ^ 62 + 1) some (λ p. piece_below r p.t p.facts x n o p.numbers p.received short p.rows is none) in
     omega (arith, below)
 
 -- ITS EXCHANGE
@@ -138,7 +138,7 @@ brings_it t x q o w is headed some = by_row (t.representation (family x w)) refl
 -- PAST THE STORE
 
 module _ {B : Type 0} {g : Ghosts B} (r u : Rows B g) (t : Tables) (facts : Facts r.limits t) (stands : RowsStand r t) (now x : ℕ) (bytes : List ℕ) (goes : denial t (event.Piece x bytes) ≡ None) (past : brought_by (table_of r.exchanges x).running ≡ None)
-    (limits : u.limits ≡ r.limits) (received : u.received ≡ r.received + length bytes) (last : u.last_start ≡ r.last_start) (same_map : u.consumers ≡ r.consumers) (same_keys : u.keys ≡ r.keys) (same_entries : u.entries ≡ r.entries) (becomes : exch.Becomes (known.with_piece bytes true) x r.exchanges u.exchanges) where
+    (limits : u.limits ≡ r.limits) (last : u.last_start ≡ r.last_start) (same_map : u.consumers ≡ r.consumers) (same_keys : u.keys ≡ r.keys) (same_entries : u.entries ≡ r.entries) (becomes : exch.Becomes (known.with_piece bytes true) x r.exchanges u.exchanges) where
   b : Brought t x (length bytes)
   b = brought_of t x bytes goes
 
@@ -177,7 +177,7 @@ module _ {B : Type 0} {g : Ghosts B} (r u : Rows B g) (t : Tables) (facts : Fact
   past_stands : RowsStand u after
   past_stands =
       stands_pieced t now x b.w bytes t.representation b.row b.taken.is_open b.taken.headed r u stands (open_unended t facts.law x b.w b.row b.taken.is_open) (λ q. like_same (t.representation q) (t.representation q) refl) (λ q ne. refl) true runs.o runs.running
-      received last same_map same_keys becomes
+      last same_map same_keys becomes
       (ap (λ (ys : List ℕ). ys ++ bytes) ((stands.exchanges x).held ∙ ap (held_for t x) b.row) ∙ sym held_then)
       (λ y e ne at. held_alike t after (λ d. same refl) y e refl)
       (rw (same_entries, limits) stands.limits) (λ q ne. rw same_entries refl) (rw same_entries refl) kept_none

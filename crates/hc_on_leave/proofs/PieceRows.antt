@@ -203,7 +203,7 @@ module _ (t : Tables) (now x : ℕ) (w : Exchange) (bytes : List ℕ) (vs : ℕ 
     -- ALL OF IT
 
     module _ {B : Type 0} {g : Ghosts B} (r u : Rows B g) (stands : RowsStand r t) (unended : w.is_ended ≡ false) (like : (q : ℕ) → IsLike (t.representation q) (vs q)) (apart : (q : ℕ) → family x w ≢ q → vs q ≡ t.representation q) (hold : Bool) (o : Open) (running : (table_of r.exchanges x).running ≡ Some o)
-        (received : u.received ≡ r.received + length bytes) (last : u.last_start ≡ r.last_start) (same_map : u.consumers ≡ r.consumers) (same_keys : u.keys ≡ r.keys) (becomes : exch.Becomes (known.with_piece bytes hold) x r.exchanges u.exchanges)
+        (last : u.last_start ≡ r.last_start) (same_map : u.consumers ≡ r.consumers) (same_keys : u.keys ≡ r.keys) (becomes : exch.Becomes (known.with_piece bytes hold) x r.exchanges u.exchanges)
         (held_here : (known.with_piece bytes hold (table_of r.exchanges x)).held ≡ held_for s x (Some z)) (held_else : (y : ℕ) (e : Exchange) → x ≢ y → t.exchange y ≡ Some e → held_for s y (Some e) ≡ held_for t y (Some e))
         (bounded : (shelf_of u.entries).limits ≡ u.limits) (kept_else : (q : ℕ) → family x w ≢ q → (shelf_of u.entries).kept q ≡ (shelf_of r.entries).kept q) (order : (shelf_of u.entries).order ≡ (shelf_of r.entries).order)
         (its : KeepsEntry s (family x w) ((shelf_of u.entries).kept (family x w)) (vs (family x w))) where

@@ -40,19 +40,18 @@ shorts u t s numbers few same stands q n k at known =
     (subst (λ o. KeepsEntry s q o (s.representation q)) at (stands.entries.each q)) known
 
 -- before an event
-pub shorts_here : {B : Type 0} {g : Ghosts B} (r : Rows B g) → ∥ Stands r ∥₁ → r.received < 2 ^ 61 → TellsShort (shelf_of r.entries)
-shorts_here r some small q n k at known = merely_below n (2 ^ 62) some (λ s.
+pub shorts_here : {B : Type 0} {g : Ghosts B} (r : Rows B g) → ∥ Stands r ∥₁ → TellsShort (shelf_of r.entries)
+shorts_here r some q n k at known = merely_below n (2 ^ 62) some (λ s.
     let t : Tables = s.t in
-    shorts r t t s.numbers (few_received s.received small) refl s.rows q n k at known)
+    shorts r t t s.numbers (few_received s.received) refl s.rows q n k at known)
 
 -- once a consumer is gone
-pub shorts_left : {B : Type 0} {g : Ghosts B} (r u : Rows B g) (c : ℕ) → ∥ Stands r ∥₁ → is_some (get nat_eq r.consumers c) ≡ true → r.received < 2 ^ 61
-    → ((t : Tables) (k : rows.Consumer) → Lawful t → t.consumer c ≡ Some k → RowsStand r t → RowsStand u (with_consumer c (Some (as_over k)) t)) → TellsShort (shelf_of u.entries)
-shorts_left r u c some lives small leaves q n k at known = merely_below n (2 ^ 62) some (λ s.
+pub shorts_left : {B : Type 0} {g : Ghosts B} (r u : Rows B g) (c : ℕ) → ∥ Stands r ∥₁ → is_some (get nat_eq r.consumers c) ≡ true → ((t : Tables) (k : rows.Consumer) → Lawful t → t.consumer c ≡ Some k → RowsStand r t → RowsStand u (with_consumer c (Some (as_over k)) t)) → TellsShort (shelf_of u.entries)
+shorts_left r u c some lives leaves q n k at known = merely_below n (2 ^ 62) some (λ s.
     let t : Tables = s.t in
     let facts = s.facts in
     let v = live_row r t c lives s.rows in
-    shorts u t (with_consumer c (Some (as_over v.0)) t) s.numbers (few_received s.received small) refl (leaves t v.0 facts.law v.1 s.rows) q n k at known)
+    shorts u t (with_consumer c (Some (as_over v.0)) t) s.numbers (few_received s.received) refl (leaves t v.0 facts.law v.1 s.rows) q n k at known)
 
 -- what is told of what is kept
 pub view_short : (s : Shelf) (q : ℕ) (o : Option EntryView) (entry : EntryView) → TellsShort s → o ≡ option_map view_of (s.kept q) → o ≡ Some entry → IfSome entry.total (λ n. n < 2 ^ 62)

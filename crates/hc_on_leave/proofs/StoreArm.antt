@@ -135,9 +135,9 @@ stored_size r t facts q v k m there used is = size-same k.cells v.stored is.cell
 
 -- THE ROWS AFTER ROOM WAS MADE
 
-module _ {B : Type 0} {g : Ghosts B} (r mid put u : Rows B g) (t : Tables) (facts : Facts r.limits t) (stands : RowsStand r t) (small : r.received < 2 ^ 61) (now x q : ℕ) (bytes : List ℕ) (goes : denial t (event.Piece x bytes) ≡ None) (grows : stored_by r x ≡ Some q) (before out : List Act) (stored : ℕ)
+module _ {B : Type 0} {g : Ghosts B} (r mid put u : Rows B g) (t : Tables) (facts : Facts r.limits t) (stands : RowsStand r t) (now x q : ℕ) (bytes : List ℕ) (goes : denial t (event.Piece x bytes) ≡ None) (grows : stored_by r x ≡ Some q) (before out : List Act) (stored : ℕ)
     (had : (k : Kept) → (shelf_of r.entries).kept q ≡ Some k → stored ≡ size k.cells)
-    (gives : GivesWay mid t now (giving_way r.limits t (write.Piece stored (length bytes))) before out) (mid_limits : mid.limits ≡ r.limits) (mid_received : mid.received ≡ r.received) (mid_last : mid.last_start ≡ r.last_start) (mid_exchanges : mid.exchanges ≡ r.exchanges) where
+    (gives : GivesWay mid t now (giving_way r.limits t (write.Piece stored (length bytes))) before out) (mid_limits : mid.limits ≡ r.limits) (mid_last : mid.last_start ≡ r.last_start) (mid_exchanges : mid.exchanges ≡ r.exchanges) where
   pub it : Stores t x q (length bytes)
   it = stores_of r t facts x q bytes stands goes grows
 
@@ -246,7 +246,7 @@ module _ {B : Type 0} {g : Ghosts B} (r mid put u : Rows B g) (t : Tables) (fact
           by_test false = refl
 
   module _ (puts : PutsPiece mid put x q runs.o bytes) (within : (size_at (shelf_of mid.entries) q + length bytes ≤ (shelf_of mid.entries).limits.max_entry) × ((shelf_of mid.entries).used + length bytes ≤ (shelf_of mid.entries).limits.max_total))
-      (u_entries : u.entries ≡ put.entries) (u_limits : u.limits ≡ mid.limits) (u_received : u.received ≡ mid.received + length bytes) (u_last : u.last_start ≡ mid.last_start) (u_map : u.consumers ≡ mid.consumers) (u_keys : u.keys ≡ mid.keys) (becomes : exch.Becomes (known.with_piece bytes false) x mid.exchanges u.exchanges) where
+      (u_entries : u.entries ≡ put.entries) (u_limits : u.limits ≡ mid.limits) (u_last : u.last_start ≡ mid.last_start) (u_map : u.consumers ≡ mid.consumers) (u_keys : u.keys ≡ mid.keys) (becomes : exch.Becomes (known.with_piece bytes false) x mid.exchanges u.exchanges) where
     puts_here : PutsPiece mid put x (family x w) runs.o bytes
     puts_here = subst (λ n. PutsPiece mid put x n runs.o bytes) (sym it.of_q) puts
 
@@ -276,13 +276,13 @@ module _ {B : Type 0} {g : Ghosts B} (r mid put u : Rows B g) (t : Tables) (fact
     store_answered =
         stored_answered mid u r.limits t facts now x bytes goes w v it.row it.taken.is_open it.taken.headed it.taken.some it.taken.fits it.there it.fresh es kept_apart (shelf_of r.entries).faults before out
         (gives_same r.limits t facts.law now x bytes goes w it.row v it.there it.fresh) had_room gives_es.acts
-        (stored_stands mid u r.limits t facts now x bytes goes w v it.row it.taken.is_open it.taken.headed it.taken.some it.taken.fits it.there it.fresh es kept_apart puts_here.last kind_is mid_stands u_limits u_received u_last u_map u_keys fills becomes)
+        (stored_stands mid u r.limits t facts now x bytes goes w v it.row it.taken.is_open it.taken.headed it.taken.some it.taken.fits it.there it.fresh es kept_apart puts_here.last kind_is mid_stands u_limits u_last u_map u_keys fills becomes)
 
   -- WHERE IT REFUSED IT
 
   module _ (kind : LostKind) (stays : shelf.Stays (shelf_of mid.entries) (shelf_of put.entries)) (faulty : (shelf_of mid.entries).faults ≡ (shelf_of r.entries).faults)
       (why : Refused (shelf_of mid.entries).limits (size_at (shelf_of mid.entries) q + length bytes) ((shelf_of mid.entries).used + length bytes) (shelf_of mid.entries).faults (shelf_of put.entries).faults kind)
-      (put_limits : put.limits ≡ mid.limits) (put_received : put.received ≡ mid.received) (put_last : put.last_start ≡ mid.last_start) (put_map : put.consumers ≡ mid.consumers) (put_exchanges : put.exchanges ≡ mid.exchanges) (put_keys : put.keys ≡ mid.keys) where
+      (put_limits : put.limits ≡ mid.limits) (put_last : put.last_start ≡ mid.last_start) (put_map : put.consumers ≡ mid.consumers) (put_exchanges : put.exchanges ≡ mid.exchanges) (put_keys : put.keys ≡ mid.keys) where
     abbrev wrote : Write
     wrote = write.Piece v.size (length bytes)
 
@@ -326,7 +326,7 @@ module _ {B : Type 0} {g : Ghosts B} (r mid put u : Rows B g) (t : Tables) (fact
         record {
           gives = subst (λ rs. GivesWay put t now rs before out) (sym same) (record {
             acts = gives_es.acts;
-            rows = stands_read mid put left put_limits put_received put_last put_map put_exchanges put_keys stays gives_es.rows;
+            rows = stands_read mid put left put_limits put_last put_map put_exchanges put_keys stays gives_es.rows;
           });
           may = ap (λ a. may_lose a kind) its_room ∙ may_by kind why;
           caused = caused_by kind why;
@@ -342,42 +342,39 @@ pub kept_of : (o : Option Kept) (e : EntryView) → option_map view_of o ≡ Som
 kept_of None e is = none_some e is
 kept_of (Some k) e is = (k, refl, ap (λ (z : EntryView). z.size) (sym (some_is (view_of k) e is)))
 
-module _ {B : Type 0} {g : Ghosts B} (r mid : Rows B g) (now x q : ℕ) (bytes : List ℕ) (some : ∥ Stands r ∥₁) (accepted : piece_refusal (open_at r x) (length bytes) ≡ None) (grows : stored_by r x ≡ Some q) (small : r.received + length bytes < 2 ^ 61) (before out : List Act) (stored : ℕ)
+module _ {B : Type 0} {g : Ghosts B} (r mid : Rows B g) (now x q : ℕ) (bytes : List ℕ) (some : ∥ Stands r ∥₁) (accepted : piece_refusal (open_at r x) (length bytes) ≡ None) (grows : stored_by r x ≡ Some q) (before out : List Act) (stored : ℕ)
     (had : (k : Kept) → (shelf_of r.entries).kept q ≡ Some k → stored ≡ size k.cells)
-    (gives : (t : Tables) → MayMakeRoom t → RowsStand r t → GivesWay mid t now (giving_way r.limits t (write.Piece stored (length bytes))) before out) (mid_limits : mid.limits ≡ r.limits) (mid_received : mid.received ≡ r.received) (mid_last : mid.last_start ≡ r.last_start) (mid_exchanges : mid.exchanges ≡ r.exchanges) where
-  under : r.received < 2 ^ 61
-  under = omega (arith, small)
-
+    (gives : (t : Tables) → MayMakeRoom t → RowsStand r t → GivesWay mid t now (giving_way r.limits t (write.Piece stored (length bytes))) before out) (mid_limits : mid.limits ≡ r.limits) (mid_last : mid.last_start ≡ r.last_start) (mid_exchanges : mid.exchanges ≡ r.exchanges) where
   pub kept_mid : is_kept (shelf_of mid.entries) q ≡ true
   kept_mid = merely_true (is_kept (shelf_of mid.entries) q) some (λ p.
       let t = p.t in
       let facts = p.facts in
       let stands = p.rows in
-      mid_kept r mid mid mid t facts stands under now x q bytes (undenied_piece r t x bytes stands accepted) grows before out stored had (gives t (may_make_room t facts) stands) mid_limits mid_received mid_last mid_exchanges)
+      mid_kept r mid mid mid t facts stands now x q bytes (undenied_piece r t x bytes stands accepted) grows before out stored had (gives t (may_make_room t facts) stands) mid_limits mid_last mid_exchanges)
 
   pub absent_mid : (o : Open) → (table_of mid.exchanges x).running ≡ Some o → AreAbsent (cells_at (shelf_of mid.entries) q) (o.base + o.delivered) (o.base + o.delivered + length bytes)
   absent_mid o running n low high = none_of (cells_at (shelf_of mid.entries) q n) (merely_false (is_some (cells_at (shelf_of mid.entries) q n)) some (λ p.
       let t = p.t in
       let facts = p.facts in
       let stands = p.rows in
-      ap (λ (e : Option Cell). is_some e) (mid_absent r mid mid mid t facts stands under now x q bytes (undenied_piece r t x bytes stands accepted) grows before out stored had (gives t (may_make_room t facts) stands) mid_limits mid_received mid_last mid_exchanges o running n low high)))
+      ap (λ (e : Option Cell). is_some e) (mid_absent r mid mid mid t facts stands now x q bytes (undenied_piece r t x bytes stands accepted) grows before out stored had (gives t (may_make_room t facts) stands) mid_limits mid_last mid_exchanges o running n low high)))
 
   pub answered_mid : (put u : Rows B g) → ((o : Open) → (table_of mid.exchanges x).running ≡ Some o → PutsPiece mid put x q o bytes)
       → (size_at (shelf_of mid.entries) q + length bytes ≤ (shelf_of mid.entries).limits.max_entry) × ((shelf_of mid.entries).used + length bytes ≤ (shelf_of mid.entries).limits.max_total)
-      → u.entries ≡ put.entries → u.limits ≡ mid.limits → u.received ≡ mid.received + length bytes → u.last_start ≡ mid.last_start → u.consumers ≡ mid.consumers → u.keys ≡ mid.keys → exch.Becomes (known.with_piece bytes false) x mid.exchanges u.exchanges
+      → u.entries ≡ put.entries → u.limits ≡ mid.limits → u.last_start ≡ mid.last_start → u.consumers ≡ mid.consumers → u.keys ≡ mid.keys → exch.Becomes (known.with_piece bytes false) x mid.exchanges u.exchanges
       → Answers r u before out now (event.Piece x bytes)
-  answered_mid put u puts within entries limits received last same_map same_keys becomes t facts stands goes =
+  answered_mid put u puts within entries limits last same_map same_keys becomes t facts stands goes =
       let made = gives t (may_make_room t facts) stands in
-      let ran = runs r mid put u t facts stands under now x q bytes goes grows before out stored had made mid_limits mid_received mid_last mid_exchanges in
-      store_answered r mid put u t facts stands under now x q bytes goes grows before out stored had made mid_limits mid_received mid_last mid_exchanges (puts ran.o ran.running) within entries limits received last same_map same_keys becomes
+      let ran = runs r mid put u t facts stands now x q bytes goes grows before out stored had made mid_limits mid_last mid_exchanges in
+      store_answered r mid put u t facts stands now x q bytes goes grows before out stored had made mid_limits mid_last mid_exchanges (puts ran.o ran.running) within entries limits last same_map same_keys becomes
 
   pub refused_mid : (put : Rows B g) (kind : LostKind) → shelf.Stays (shelf_of mid.entries) (shelf_of put.entries) → (shelf_of mid.entries).faults ≡ (shelf_of r.entries).faults
       → Refused (shelf_of mid.entries).limits (size_at (shelf_of mid.entries) q + length bytes) ((shelf_of mid.entries).used + length bytes) (shelf_of mid.entries).faults (shelf_of put.entries).faults kind
-      → put.limits ≡ mid.limits → put.received ≡ mid.received → put.last_start ≡ mid.last_start → put.consumers ≡ mid.consumers → put.exchanges ≡ mid.exchanges → put.keys ≡ mid.keys
+      → put.limits ≡ mid.limits → put.last_start ≡ mid.last_start → put.consumers ≡ mid.consumers → put.exchanges ≡ mid.exchanges → put.keys ≡ mid.keys
       → (t : Tables) → Facts r.limits t → RowsStand r t → denial t (event.Piece x bytes) ≡ None → Refuses r put t now x bytes kind before out
-  refused_mid put kind stays faulty why limits received last same_map exchanges same_keys t facts stands goes =
-      refuses_it r mid put put t facts stands under now x q bytes goes grows before out stored had (gives t (may_make_room t facts) stands) mid_limits mid_received mid_last mid_exchanges
-      kind stays faulty why limits received last same_map exchanges same_keys
+  refused_mid put kind stays faulty why limits last same_map exchanges same_keys t facts stands goes =
+      refuses_it r mid put put t facts stands now x q bytes goes grows before out stored had (gives t (may_make_room t facts) stands) mid_limits mid_last mid_exchanges
+      kind stays faulty why limits last same_map exchanges same_keys
 
   -- what stood there stands there, and what gives way behind it
   pub front_mid : take (length before) out ≡ before

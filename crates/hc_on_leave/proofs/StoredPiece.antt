@@ -251,7 +251,7 @@ module _ {B : Type 0} {g : Ghosts B} (mid u : Rows B g) (limits : Limits) (t : T
 
     -- THE ROWS
 
-    module _ (stands : RowsStand mid m) (same_limits : u.limits ≡ mid.limits) (received : u.received ≡ mid.received + length bytes) (last_start : u.last_start ≡ mid.last_start) (same_map : u.consumers ≡ mid.consumers) (same_keys : u.keys ≡ mid.keys)
+    module _ (stands : RowsStand mid m) (same_limits : u.limits ≡ mid.limits) (last_start : u.last_start ≡ mid.last_start) (same_map : u.consumers ≡ mid.consumers) (same_keys : u.keys ≡ mid.keys)
         (fills : shelf.Becomes (option_map (entry.kept_with_bytes (front w) x bytes last)) same_order (family x w) (shelf_of mid.entries) (shelf_of u.entries)) (becomes : exch.Becomes (known.with_piece bytes false) x mid.exchanges u.exchanges) where
       kept_here : (shelf_of u.entries).kept (family x w) ≡ option_map (entry.kept_with_bytes (front w) x bytes last) ((shelf_of mid.entries).kept (family x w))
       kept_here = fills.kept (family x w) ∙ rw (eqb-same (family x w)) refl
@@ -299,7 +299,7 @@ module _ {B : Type 0} {g : Ghosts B} (mid u : Rows B g) (limits : Limits) (t : T
       pub stored_stands : RowsStand u after
       stored_stands =
           stands_pieced m now x w bytes vs row opened headed mid u stands (open_unended t facts.law x w row opened) like vs_else false runs.o runs.running
-          received last_start same_map same_keys becomes
+          last_start same_map same_keys becomes
           ((stands.exchanges x).held ∙ (ap (held_for m x) row ∙ (held_old ∙ sym held_new)))
           held_else
           (fills.limits ∙ (stands.limits ∙ sym same_limits)) kept_else fills.order its

@@ -542,10 +542,10 @@ module _ {B : Type 0} {g : Ghosts B} (r mid u : Rows B g) (t : Tables) (facts : 
 
 -- the failure of the case becomes due
 pub due_then : {B : Type 0} {g : Ghosts B} (r mid : Rows B g) (t : Tables) (facts : Facts r.limits t) (now x c : ℕ) (response : Response) (w : Exchange) (a : Asker r t x w) (why : Cause) (k : HeadCase) → denial t (event.Head x response) ≡ None → RowsStand r t → w.c ≡ c → why ≡ broken_by x k
-    → mid.limits ≡ r.limits → mid.received ≡ r.received → mid.last_start ≡ r.last_start → mid.exchanges ≡ r.exchanges → mid.keys ≡ r.keys → mid.entries ≡ r.entries → ChangesAt r.consumers mid.consumers c (with_due why)
+    → mid.limits ≡ r.limits → mid.last_start ≡ r.last_start → mid.exchanges ≡ r.exchanges → mid.keys ≡ r.keys → mid.entries ≡ r.entries → ChangesAt r.consumers mid.consumers c (with_due why)
     → RowsStand mid (with_consumer w.c (Some (record a.v { due = Some (broken_by x k) })) t)
-due_then r mid t facts now x c response w a why k goes stands for_it because limits received last exchanges same_keys same_entries changes =
-    stands_due r mid t w.c a.v a.k (broken_by x k) stands a.awaits.asker a.there a.is (undue r.limits t facts.law now x response goes w a.awaits.row a.v a.awaits.asker) limits received last exchanges same_keys same_entries
+due_then r mid t facts now x c response w a why k goes stands for_it because limits last exchanges same_keys same_entries changes =
+    stands_due r mid t w.c a.v a.k (broken_by x k) stands a.awaits.asker a.there a.is (undue r.limits t facts.law now x response goes w a.awaits.row a.v a.awaits.asker) limits last exchanges same_keys same_entries
     (subst (λ (d : ℕ). ChangesAt r.consumers mid.consumers d (with_due (broken_by x k))) (sym for_it) (subst (λ (z : Cause). ChangesAt r.consumers mid.consumers c (with_due z)) because changes))
 
 -- AN ANSWER PAST THE STORE

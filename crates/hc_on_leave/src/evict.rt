@@ -28,7 +28,6 @@ pub(crate) fn let_go<B: Backend>(rows: &mut Rows<B>, now: u64, r: u64)
     ensures live { KeepsLive rows.old.consumers rows.new.consumers }
     ensures limits { rows.new.limits ≡ rows.old.limits }
     ensures last_start { rows.new.last_start ≡ rows.old.last_start }
-    ensures received { rows.new.received ≡ rows.old.received }
     ensures exchanges { rows.new.exchanges ≡ rows.old.exchanges }
     ensures faults { (shelf_of rows.new.entries).faults ≡ (shelf_of rows.old.entries).faults }
 {
@@ -50,7 +49,6 @@ pub fn let_some_go<B: Backend>(rows: &mut Rows<B>, now: u64, r: Option<u64>)
         → RowsStand rows.new (let_some_go now r t) }
     ensures limits { rows.new.limits ≡ rows.old.limits }
     ensures last_start { rows.new.last_start ≡ rows.old.last_start }
-    ensures received { rows.new.received ≡ rows.old.received }
     ensures exchanges { rows.new.exchanges ≡ rows.old.exchanges }
     ensures faults { (shelf_of rows.new.entries).faults ≡ (shelf_of rows.old.entries).faults }
 {
@@ -69,7 +67,6 @@ pub fn make_room<B: Backend>(rows: &mut Rows<B>, now: u64, write: Write, out: &m
     ensures room { LeavesActs (spare out.old) (spare out.new) (room_for_write rows.old write) }
     ensures limits { rows.new.limits ≡ rows.old.limits }
     ensures last_start { rows.new.last_start ≡ rows.old.last_start }
-    ensures received { rows.new.received ≡ rows.old.received }
     ensures exchanges { rows.new.exchanges ≡ rows.old.exchanges }
     ensures faults { (shelf_of rows.new.entries).faults ≡ (shelf_of rows.old.entries).faults }
 {

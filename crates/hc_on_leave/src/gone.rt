@@ -24,7 +24,6 @@ pub(crate) fn remove_consumer<B: Backend>(rows: &mut Rows<B>, c: u64)
     ensures stands { (t : Tables) (k : Consumer) → Lawful t → t.consumer c ≡ Some k
         → RowsStand rows.old t → RowsStand rows.new (with_consumer c (Some (as_over k)) t) }
     ensures limits { rows.new.limits ≡ rows.old.limits }
-    ensures received { rows.new.received ≡ rows.old.received }
     ensures faults { (shelf_of rows.new.entries).faults ≡ (shelf_of rows.old.entries).faults }
 {
     leave_place(rows, c);

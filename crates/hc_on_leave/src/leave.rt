@@ -31,11 +31,9 @@ use hc_store::Backend;
 pub fn cancel<B: Backend>(rows: &mut Rows<B>, now: u64, c: u64, out: &mut Acts)
     requires stands { ∥ Stands rows.old ∥₁ }
     requires live { is_some (get nat_eq rows.old.consumers c) ≡ true }
-    requires small { rows.old.received < 2 ^ 61 }
     requires room { 2 ≤ spare out.old }
     ensures answers { Answers rows.old rows.new (act_list out.old) (act_list out.new)
         now (Cancel c) }
-    ensures received { rows.new.received ≡ rows.old.received }
     ensures limits { rows.new.limits ≡ rows.old.limits }
     ensures faults { (shelf_of rows.old.entries).faults ≤ (shelf_of rows.new.entries).faults }
 {
@@ -46,11 +44,9 @@ pub fn cancel<B: Backend>(rows: &mut Rows<B>, now: u64, c: u64, out: &mut Acts)
 pub fn fail<B: Backend>(rows: &mut Rows<B>, now: u64, c: u64, cause: Cause, out: &mut Acts)
     requires stands { ∥ Stands rows.old ∥₁ }
     requires live { is_some (get nat_eq rows.old.consumers c) ≡ true }
-    requires small { rows.old.received < 2 ^ 61 }
     requires room { 3 ≤ spare out.old }
     ensures answers { (want : ℕ) → AnswersMove rows.old rows.new
         (act_list out.old) (act_list out.new) now c want (Fails cause) }
-    ensures received { rows.new.received ≡ rows.old.received }
     ensures limits { rows.new.limits ≡ rows.old.limits }
     ensures faults { (shelf_of rows.old.entries).faults ≤ (shelf_of rows.new.entries).faults }
 {
@@ -62,11 +58,9 @@ pub fn fail<B: Backend>(rows: &mut Rows<B>, now: u64, c: u64, cause: Cause, out:
 pub fn end_reading<B: Backend>(rows: &mut Rows<B>, now: u64, c: u64, out: &mut Acts)
     requires stands { ∥ Stands rows.old ∥₁ }
     requires live { is_some (get nat_eq rows.old.consumers c) ≡ true }
-    requires small { rows.old.received < 2 ^ 61 }
     requires room { 3 ≤ spare out.old }
     ensures answers { (want : ℕ) → AnswersMove rows.old rows.new
         (act_list out.old) (act_list out.new) now c want Ends }
-    ensures received { rows.new.received ≡ rows.old.received }
     ensures limits { rows.new.limits ≡ rows.old.limits }
     ensures faults { (shelf_of rows.old.entries).faults ≤ (shelf_of rows.new.entries).faults }
 {
@@ -78,11 +72,9 @@ pub fn end_reading<B: Backend>(rows: &mut Rows<B>, now: u64, c: u64, out: &mut A
 pub fn fail_down<B: Backend>(rows: &mut Rows<B>, now: u64, c: u64, cause: Cause, out: &mut Acts)
     requires stands { ∥ Stands rows.old ∥₁ }
     requires down { IsSomeAnd (get nat_eq rows.old.consumers c) (IsDown cause) }
-    requires small { rows.old.received < 2 ^ 61 }
     requires room { 3 ≤ spare out.old }
     ensures answers { (want : ℕ)
         → Answers rows.old rows.new (act_list out.old) (act_list out.new) now (Poll c want) }
-    ensures received { rows.new.received ≡ rows.old.received }
     ensures limits { rows.new.limits ≡ rows.old.limits }
     ensures faults { (shelf_of rows.old.entries).faults ≤ (shelf_of rows.new.entries).faults }
 {
@@ -104,13 +96,11 @@ pub fn leave_line<B: Backend>(rows: &mut Rows<B>, c: u64)
 fn leave<B: Backend>(rows: &mut Rows<B>, now: u64, c: u64, out: &mut Acts)
     requires stands { ∥ Stands rows.old ∥₁ }
     requires live { is_some (get nat_eq rows.old.consumers c) ≡ true }
-    requires small { rows.old.received < 2 ^ 61 }
     requires room { 2 ≤ spare out.old }
     ensures left { (t : Tables) (k : Consumer) → Facts rows.old.limits t
         → RowsStand rows.old t → t.consumer c ≡ Some k
         → HasLeft (shelf_of rows.old.entries).faults rows.new t
         (act_list out.old) (act_list out.new) now c k }
-    ensures received { rows.new.received ≡ rows.old.received }
     ensures limits { rows.new.limits ≡ rows.old.limits }
     ensures faults { (shelf_of rows.old.entries).faults ≤ (shelf_of rows.new.entries).faults }
 {
@@ -172,7 +162,6 @@ fn if_own<B: Backend>(rows: &Rows<B>, c: u64, x: u64) -> Option<u64>
 /// What the consumer left is closed.
 fn close_left<B: Backend>(rows: &mut Rows<B>, now: u64, x: u64, alone: Option<u64>, out: &mut Acts)
     requires running { is_open x (table_of rows.old.exchanges) ≡ true }
-    requires small { rows.old.received < 2 ^ 61 }
     requires short { TellsShort (shelf_of rows.old.entries) }
     requires room { 2 ≤ spare out.old }
     ensures left { (t : Tables) (c : ℕ) (k : Consumer) → Facts rows.old.limits t
@@ -181,7 +170,6 @@ fn close_left<B: Backend>(rows: &mut Rows<B>, now: u64, x: u64, alone: Option<u6
         → RowsStand rows.old (with_consumer c (Some (as_over k)) t)
         → HasLeft (shelf_of rows.old.entries).faults rows.new t
         (act_list out.old) (act_list out.new) now c k }
-    ensures received { rows.new.received ≡ rows.old.received }
     ensures limits { rows.new.limits ≡ rows.old.limits }
     ensures faults { (shelf_of rows.old.entries).faults ≤ (shelf_of rows.new.entries).faults }
 {

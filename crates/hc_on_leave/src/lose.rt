@@ -42,7 +42,6 @@ pub fn lose_shared<B: Backend>(
     ensures exchanges { rows.new.exchanges ≡ rows.old.exchanges }
     ensures last_start { rows.new.last_start ≡ rows.old.last_start }
     ensures limits { rows.new.limits ≡ rows.old.limits }
-    ensures received { rows.new.received ≡ rows.old.received }
     ensures faults { (shelf_of rows.new.entries).faults ≡ (shelf_of rows.old.entries).faults }
 {
     let detached_reader = detached_reader(rows, r);
@@ -74,7 +73,6 @@ pub fn lose_writing<B: Backend>(
         → RowsStand rows.old t
         → LosesWriting rows.new t (act_list out.old) (act_list out.new) now r x v kind }
     ensures limits { rows.new.limits ≡ rows.old.limits }
-    ensures received { rows.new.received ≡ rows.old.received }
     ensures faults { (shelf_of rows.new.entries).faults ≡ (shelf_of rows.old.entries).faults }
 {
     if lose_shared(rows, now, r, x, kind, out).is_none() {

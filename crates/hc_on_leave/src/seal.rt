@@ -67,14 +67,12 @@ pub fn stop_bringing<B: Backend>(
     out: &mut Acts,
 )
     requires running { is_open x (table_of rows.old.exchanges) ≡ true }
-    requires small { rows.old.received < 2 ^ 61 }
     requires short { TellsShort (shelf_of rows.old.entries) }
     requires room { 1 ≤ spare out.old }
     ensures stopped { (t : Tables) (f : ℕ → Option Consumer) → Facts rows.old.limits t
         → MayStop t f x alone → RowsStand rows.old (with_consumers f t)
         → HasStopped (shelf_of rows.old.entries).faults rows.new t f
         (act_list out.old) (act_list out.new) now x }
-    ensures received { rows.new.received ≡ rows.old.received }
     ensures limits { rows.new.limits ≡ rows.old.limits }
     ensures faults { (shelf_of rows.old.entries).faults ≤ (shelf_of rows.new.entries).faults }
 {
@@ -99,7 +97,6 @@ fn seal_stopped<B: Backend>(
 )
     requires running { is_open x (table_of rows.old.exchanges) ≡ true }
     requires there { is_kept (shelf_of rows.old.entries) r ≡ true }
-    requires small { rows.old.received < 2 ^ 61 }
     requires short { TellsShort (shelf_of rows.old.entries) }
     requires room { 1 ≤ spare out.old }
     ensures stopped { (t : Tables) (f : ℕ → Option Consumer) → Facts rows.old.limits t
@@ -108,7 +105,6 @@ fn seal_stopped<B: Backend>(
         ≡ stop.Seal r
         → HasStopped (shelf_of rows.old.entries).faults rows.new t f
         (act_list out.old) (act_list out.new) now x }
-    ensures received { rows.new.received ≡ rows.old.received }
     ensures limits { rows.new.limits ≡ rows.old.limits }
     ensures faults { (shelf_of rows.old.entries).faults ≤ (shelf_of rows.new.entries).faults }
 {
@@ -188,7 +184,6 @@ pub fn lose_to<B: Backend>(
     ensures last_start { rows.new.last_start ≡ rows.old.last_start }
     ensures exchanges { rows.new.exchanges ≡ rows.old.exchanges }
     ensures limits { rows.new.limits ≡ rows.old.limits }
-    ensures received { rows.new.received ≡ rows.old.received }
     ensures faults { (shelf_of rows.new.entries).faults ≡ (shelf_of rows.old.entries).faults }
 {
     put(out, Act::Lost { r, kind });

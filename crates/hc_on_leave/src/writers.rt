@@ -12,7 +12,6 @@ use hc_store::Backend;
 /// Who writes the representation alone: it came alone, has no failure due, and more to come.
 pub fn exclusive<B: Backend>(rows: &Rows<B>, r: u64) -> Option<u64>
     requires stands { ∥ Stands rows.now ∥₁ }
-    requires small { rows.now.received < 2 ^ 61 }
     ensures { ExclusiveIs rows.now r result }
 {
     if writing(rows, r).is_some() {

@@ -204,9 +204,9 @@ module _ (t : Tables) (x : ℕ) where
 
 -- ALL OF IT
 
-pub stands_asked : {B : Type 0} {g : Ghosts B} (r u : Rows B g) (t : Tables) (x : ℕ) → RowsStand r t → u.limits ≡ r.limits → u.received ≡ r.received → u.last_start ≡ r.last_start → u.consumers ≡ r.consumers → u.keys ≡ r.keys
+pub stands_asked : {B : Type 0} {g : Ghosts B} (r u : Rows B g) (t : Tables) (x : ℕ) → RowsStand r t → u.limits ≡ r.limits → u.last_start ≡ r.last_start → u.consumers ≡ r.consumers → u.keys ≡ r.keys
     → exch.Becomes known.with_asking x r.exchanges u.exchanges → shelf.Stays (shelf_of r.entries) (shelf_of u.entries) → RowsStand u (with_ask x t)
-stands_asked r u t x stands limits received last consumers keys becomes read = record {
+stands_asked r u t x stands limits last consumers keys becomes read = record {
   limits = read.limits ∙ (stands.limits ∙ sym limits);
   last_start = last ∙ stands.last_start;
   next = becomes.next ∙ stands.next;
@@ -233,9 +233,9 @@ asked_is z on = by_running z.running refl
     by_running (Some o) is = let asked : o.asked ≡ true = rw is at on in rw (is, asked) refl
 
 -- they are asked for once
-pub stands_asked_already : {B : Type 0} {g : Ghosts B} (r u : Rows B g) (t : Tables) (x : ℕ) → RowsStand r t → asked_in (table_of r.exchanges x).running ≡ true → u.limits ≡ r.limits → u.received ≡ r.received → u.last_start ≡ r.last_start → u.consumers ≡ r.consumers → u.keys ≡ r.keys
+pub stands_asked_already : {B : Type 0} {g : Ghosts B} (r u : Rows B g) (t : Tables) (x : ℕ) → RowsStand r t → asked_in (table_of r.exchanges x).running ≡ true → u.limits ≡ r.limits → u.last_start ≡ r.last_start → u.consumers ≡ r.consumers → u.keys ≡ r.keys
     → exch.Becomes known.with_asking x r.exchanges u.exchanges → shelf.Stays (shelf_of r.entries) (shelf_of u.entries) → RowsStand u t
-stands_asked_already r u t x stands on limits received last consumers keys becomes read = record {
+stands_asked_already r u t x stands on limits last consumers keys becomes read = record {
   limits = read.limits ∙ (stands.limits ∙ sym limits);
   last_start = last ∙ stands.last_start;
   next = becomes.next ∙ stands.next;

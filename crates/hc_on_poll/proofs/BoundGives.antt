@@ -110,7 +110,7 @@ itself t c row = rw (eqb-same c) refl
 -- WHAT IS DONE
 
 module _ {B : Type 0} {g : Ghosts B} (r u : Rows B g) (t : Tables) (facts : Facts r.limits t) (stands : RowsStand r t) (now want c q : ℕ) (how : BoundBy) (k : Consumer) (rd : IsBoundRow t c q how k) (there : get nat_eq r.consumers c ≡ Some k) (before out : List Act)
-    (received : u.received ≡ r.received) (limits : u.limits ≡ r.limits) (last : u.last_start ≡ r.last_start) (same_keys : u.keys ≡ r.keys) (same_entries : u.entries ≡ r.entries) where
+    (limits : u.limits ≡ r.limits) (last : u.last_start ≡ r.last_start) (same_keys : u.keys ≡ r.keys) (same_entries : u.entries ≡ r.entries) where
   abbrev ev : Event
   ev = event.Poll c want
 
@@ -146,7 +146,7 @@ module _ {B : Type 0} {g : Ghosts B} (r u : Rows B g) (t : Tables) (facts : Fact
       stands_given : RowsStand u s
       stands_given =
           let kp = rd.kept in
-          stands_reading t c rd.v rd.v.shown (rd.v.given + l) rd.row r u stands kp.is_there limits received last same_keys next unread_store
+          stands_reading t c rd.v rd.v.shown (rd.v.given + l) rd.row r u stands kp.is_there limits last same_keys next unread_store
           (once_given l k) (becomes_by r.consumers u.consumers c k (once_given l) there changes)
           (record {
             is_there = kp.is_there;
@@ -265,11 +265,11 @@ module _ {B : Type 0} {g : Ghosts B} (r u : Rows B g) (t : Tables) (facts : Fact
     waits_by false is move acts =
         does_answered r.limits (shelf_of r.entries).faults u t (with_event now ev (with_ask x t)) before out (acts_of c (Asks x)) now ev
         (asks r.limits t facts.law now c want rd.v rd.row x move) refl refl acts
-        (stands_counted u (with_ask x t) now ev refl (stands_asked r u t x stands limits received last consumers same_keys becomes unread_store))
+        (stands_counted u (with_ask x t) now ev refl (stands_asked r u t x stands limits last consumers same_keys becomes unread_store))
     waits_by true is move acts =
         does_answered r.limits (shelf_of r.entries).faults u t (with_event now ev t) before out (acts_of c (moves.Waits (wait.Body x))) now ev
         (waits_on r.limits t facts.law now c want rd.v rd.row (wait.Body x) move refl) refl refl acts
-        (stands_counted u t now ev refl (stands_asked_already r u t x stands is limits received last consumers same_keys becomes unread_store))
+        (stands_counted u t now ev refl (stands_asked_already r u t x stands is limits last consumers same_keys becomes unread_store))
 
     pub asks_answered : move_of t now want c rd.v ≡ asks_or_waits (asked_in (table_of r.exchanges x).running) x → out ≡ before ++ acts_of c (asks_or_waits (asked_in (table_of r.exchanges x).running) x) → Answered r.limits (shelf_of r.entries).faults u t before out now ev
     asks_answered move acts = waits_by (asked_in (table_of r.exchanges x).running) refl move acts

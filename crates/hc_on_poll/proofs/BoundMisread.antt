@@ -32,7 +32,7 @@ module _ {B : Type 0} {g : Ghosts B} (r : Rows B g) (a : Entries B g) (stays : S
 -- after a read of the store
 module _ {B : Type 0} {g : Ghosts B} (r mid u : Rows B g) (same : ReadsStore r mid) (before out : List Act) (now c q : ℕ) where
   pub stands_after : (t : Tables) → RowsStand r t → RowsStand mid t
-  stands_after t stands = stands_read r mid t same.limits same.received same.last_start same.consumers same.exchanges same.keys same.entries stands
+  stands_after t stands = stands_read r mid t same.limits same.last_start same.consumers same.exchanges same.keys same.entries stands
 
   module _ (k : Consumer) (there : get nat_eq r.consumers c ≡ Some k) (how : BoundBy) (at : IsBoundBy q how k) where
     pub misread_after : (shelf_of r.entries).faults < (shelf_of mid.entries).faults → AnswersMisread mid u before out now c q → (want : ℕ) (t : Tables) → Facts r.limits t → RowsStand r t → Answered r.limits (shelf_of r.entries).faults u t before out now (event.Poll c want)

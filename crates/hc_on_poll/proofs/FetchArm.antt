@@ -193,7 +193,7 @@ module _ {B : Type 0} {g : Ghosts B} (r mid : Rows B g) (t : Tables) (law : Lawf
 
 module _ {B : Type 0} {g : Ghosts B} (r mid : Rows B g) (e : Exchanges) (b : KeyTable) (m : Numbered Consumer) (t : Tables) (law : Lawful t) (now c x : ℕ) (n : Need) (request : Request) (aim : Option ℕ) (k : Consumer) (v : rows.Consumer) (stands : RowsStand r t) (there : get nat_eq r.consumers c ≡ Some k) (row : t.consumer c ≡ Some v) (idle : is_idle_at k.place ≡ true)
     (next : IsNext r.keys c k) (turns : route_of n ≡ route.Turn) (key_is : request.key ≡ k.request.key) (x_is : x ≡ next_of r.exchanges) (aim_is : aim ≡ (kept_of r.keys request.key).current)
-    (lines_up : StandsInLine r mid c) (first : ChangesAt r.consumers mid.consumers c lined_up) (limits : mid.limits ≡ r.limits) (received : mid.received ≡ r.received) (last : mid.last_start ≡ r.last_start) (same_entries : mid.entries ≡ r.entries) (same_exchanges : mid.exchanges ≡ r.exchanges)
+    (lines_up : StandsInLine r mid c) (first : ChangesAt r.consumers mid.consumers c lined_up) (limits : mid.limits ≡ r.limits) (last : mid.last_start ≡ r.last_start) (same_entries : mid.entries ≡ r.entries) (same_exchanges : mid.exchanges ≡ r.exchanges)
     (next_is : next_of e ≡ next_of mid.exchanges + 1) (launches : Changes (with_new_exchange c (role.Turn aim) n request now) (next_of mid.exchanges) (table_of mid.exchanges) (table_of e))
     (held : keys.Becomes (on_line (held_by c)) request.key mid.keys b) (second : ChangesAt mid.consumers m c (with_turn x)) where
   abbrev u : Rows B g
@@ -225,7 +225,7 @@ module _ {B : Type 0} {g : Ghosts B} (r mid : Rows B g) (e : Exchanges) (b : Key
   pub stands_turned : RowsStand u (tables_in_turn now c x n request v t)
   stands_turned =
       stands_opened r u t law now c x n request request (current t v.request.key) (role.Turn aim) k v (place.Turn x) stands there row (idle_reads v.place idle_it) (idle_lives v.place idle_it) waiting.turned is_next
-      limits received last same_entries (next_is ∙ ap (λ (a : Exchanges). next_of a + 1) same_exchanges) launched_then (becomes_then r.consumers mid.consumers m c k lined_up (with_turn x) there first second) refl (rw turns (ap role.Turn aimed))
+      limits last same_entries (next_is ∙ ap (λ (a : Exchanges). next_of a + 1) same_exchanges) launched_then (becomes_then r.consumers mid.consumers m c k lined_up (with_turn x) there first second) refl (rw turns (ap role.Turn aimed))
       (λ key. key_opened t law c x it (just_opened now c n request (current t v.request.key)) (law.sound.numbered.lists.new_exchanges x (let above = is_next in omega (arith, above))) waiting.turned key (kept_of b key)
       (keys_turned r mid t c k v stands row kept_it idle (lines_up t v law stands row) next x b (subst (λ (key : List ℕ). keys.Becomes (on_line (held_by c)) key mid.keys b) asked_key held) key))
 

@@ -74,7 +74,7 @@ record IsAtHole (t : Tables) (c q : ℕ) (v : rows.Consumer) (p : Representation
 
 module _ {B : Type 0} {g : Ghosts B} (r u : Rows B g) (t : Tables) (facts : Facts r.limits t) (stands : RowsStand r t) (now want c q x from to : ℕ) (how : BoundBy) (k : Consumer) (rd : IsBoundRow t c q how k) (there : get nat_eq r.consumers c ≡ Some k) (shown : k.shown ≡ true) (request copied : Request)
     (moves : move_of t now want c rd.v ≡ Opens (next_of r.exchanges) (need.Hole from to) request) (is_next : x ≡ next_of r.exchanges) (copies : copied ≡ request)
-    (limits : u.limits ≡ r.limits) (received : u.received ≡ r.received) (last : u.last_start ≡ r.last_start) (same_keys : u.keys ≡ r.keys) (same_entries : u.entries ≡ r.entries) (next : next_of u.exchanges ≡ next_of r.exchanges + 1)
+    (limits : u.limits ≡ r.limits) (last : u.last_start ≡ r.last_start) (same_keys : u.keys ≡ r.keys) (same_entries : u.entries ≡ r.entries) (next : next_of u.exchanges ≡ next_of r.exchanges + 1)
     (launches : Changes (with_new_exchange c (role.Hole q) (need.Hole from to) copied now) (next_of r.exchanges) (table_of r.exchanges) (table_of u.exchanges)) (changes : ChangesAt r.consumers u.consumers c (with_own x)) where
   abbrev v : rows.Consumer
   v = rd.v

@@ -32,7 +32,7 @@ use Rattle.hc_state.proofs.Words.{same_or, eqb-same, eqb-other}
 
 module _ {B : Type 0} {g : Ghosts B} (r u : Rows B g) (t : Tables) (law : Lawful t) (now c x : ℕ) (n : Need) (request copied : Request) (aim : Option ℕ) (role : Role) (k : Consumer) (v : rows.Consumer) (p : Place) (stands : RowsStand r t)
     (there : get nat_eq r.consumers c ≡ Some k) (row : t.consumer c ≡ Some v) (idle : reads v.place ≡ false) (lived : is_live_place v.place ≡ true) (at : WaitsFor x p) (is_next : x ≡ t.opened + 1)
-    (limits : u.limits ≡ r.limits) (received : u.received ≡ r.received) (last : u.last_start ≡ r.last_start) (same_entries : u.entries ≡ r.entries) (next : next_of u.exchanges ≡ next_of r.exchanges + 1)
+    (limits : u.limits ≡ r.limits) (last : u.last_start ≡ r.last_start) (same_entries : u.entries ≡ r.entries) (next : next_of u.exchanges ≡ next_of r.exchanges + 1)
     (launches : Changes (with_new_exchange c role n copied now) x (table_of r.exchanges) (table_of u.exchanges)) (becomes : BecomesAt r.consumers u.consumers c (Some (record k { place = p; own = Some x }))) (copies : copied ≡ request) (role_is : role ≡ role_awaited (route_of n) aim) where
   abbrev w : rows.Consumer
   w = record v { own = Some x; place = p }

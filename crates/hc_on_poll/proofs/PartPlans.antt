@@ -250,12 +250,12 @@ module _ {B : Type 0} {g : Ghosts B} (r : Rows B g) (some : ∥ Stands r ∥₁)
         let (v, row, kept) = its_row t s.rows in
         filling_queues r t facts s.rows c it v row kept q held_by_it head read now span hole (filling r t facts s.rows c it v row kept q held_by_it head read now span hole (is t v facts s.rows row)))))
 
-    pub filling_hole : r.received < 2 ^ 61 → IsSomeAnd head.total (IsWithin hole)
-    filling_hole small = merely_within head.total hole some (λ s.
+    pub filling_hole : IsSomeAnd head.total (IsWithin hole)
+    filling_hole = merely_within head.total hole some (λ s.
         let t = s.t in
         let facts = s.facts in
         let (v, row, kept) = its_row t s.rows in
-        filling_within r t facts s.rows c it v row kept q held_by_it head read now span hole (filling r t facts s.rows c it v row kept q held_by_it head read now span hole (is t v facts s.rows row)) s.numbers (few_received s.received small))
+        filling_within r t facts s.rows c it v row kept q held_by_it head read now span hole (filling r t facts s.rows c it v row kept q held_by_it head read now span hole (is t v facts s.rows row)) s.numbers (few_received s.received))
 
     pub filling_alone : admits_first c ((shelf_of r.entries).kept q) ≡ true
     filling_alone = merely_true (admits_first c ((shelf_of r.entries).kept q)) some (λ s.
@@ -284,9 +284,9 @@ module _ {B : Type 0} {g : Ghosts B} (r : Rows B g) (some : ∥ Stands r ∥₁)
         ∙ ap (λ (x : ℕ). Opens x (need.Hole hole.lo hole.hi) (hole_request (plain head) it.request hole (unwrap_or head.total 0))) (sym stands.next)))))
 
   -- a part that it is shown is one
-  pub part_there : r.received < 2 ^ 61 → (why : Why) (span : Option Span) → IsPlanOf r now c (plan.Bind why span) → IsSomeAnd (get nat_eq r.consumers c) (IsShownPart (plain head) span)
-  part_there small why span is = some_that (get nat_eq r.consumers c) it (IsShownPart (plain head) span) there_is (λ ranged part told. merely_within head.total part some (λ s.
+  pub part_there : (why : Why) (span : Option Span) → IsPlanOf r now c (plan.Bind why span) → IsSomeAnd (get nat_eq r.consumers c) (IsShownPart (plain head) span)
+  part_there why span is = some_that (get nat_eq r.consumers c) it (IsShownPart (plain head) span) there_is (λ ranged part told. merely_within head.total part some (λ s.
       let t = s.t in
       let facts = s.facts in
       let (v, row, kept) = its_row t s.rows in
-      part_within r t facts s.rows c it v row kept q held_by_it head read now s.numbers (few_received s.received small) why span (is t v facts s.rows row) ranged part told))
+      part_within r t facts s.rows c it v row kept q held_by_it head read now s.numbers (few_received s.received) why span (is t v facts s.rows row) ranged part told))

@@ -46,7 +46,7 @@ use Rattle.hc_state.proofs.QueueArm.{becomes_by}
 use Rattle.hc_state.proofs.Words.{and_false, then_false, false_true, some_is}
 
 module _ {B : Type 0} {g : Ghosts B} (r u : Rows B g) (t : Tables) (law : Lawful t) (c q : ℕ) (k : Consumer) (v : rows.Consumer) (stands : RowsStand r t) (there : get nat_eq r.consumers c ≡ Some k) (row : t.consumer c ≡ Some v) (now_is : current t v.request.key ≡ Some q)
-    (limits : u.limits ≡ r.limits) (received : u.received ≡ r.received) (last : u.last_start ≡ r.last_start) (exchanges : u.exchanges ≡ r.exchanges) (entries : u.entries ≡ r.entries) where
+    (limits : u.limits ≡ r.limits) (last : u.last_start ≡ r.last_start) (exchanges : u.exchanges ≡ r.exchanges) (entries : u.entries ≡ r.entries) where
   kept : IsKept t k v
   kept = subst (KeepsConsumer t (Some k)) row (subst (λ o. KeepsConsumer t o (t.consumer c)) there (stands.consumers c))
 
@@ -124,7 +124,7 @@ module _ {B : Type 0} {g : Ghosts B} (r u : Rows B g) (t : Tables) (law : Lawful
 
     pub stands_let : RowsStand u (with_consumer c (Some w) t)
     stands_let =
-        falls_back r u t c v w (passed_for q k) stands row (ap reads v_at) refl (ap is_live_place v_at) refl limits received last exchanges entries
+        falls_back r u t c v w (passed_for q k) stands row (ap reads v_at) refl (ap is_live_place v_at) refl limits last exchanges entries
         (becomes_by r.consumers u.consumers c k (passed_for q) there changes) passed_kept keys_then
 
 module _ {B : Type 0} {g : Ghosts B} (limits : Limits) (faults : ℕ) (u : Rows B g) (t : Tables) (law : Lawful t) (now c want q d : ℕ) (v : rows.Consumer) (row : t.consumer c ≡ Some v) (before out : List Act) where

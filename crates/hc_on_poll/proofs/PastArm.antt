@@ -154,7 +154,7 @@ module _ {B : Type 0} {g : Ghosts B} (r mid : Rows B g) (e : Exchanges) (m : Num
   stands_past : RowsStand u s
   stands_past =
       stands_opened r u t law now c x n k.request copied (current t v.request.key) role.Direct k v (place.Direct x) stands there row (idle_reads v.place v_idle) (idle_lives v.place v_idle) past x_is
-      leaves.limits leaves.received leaves.last_start leaves.entries (ap next_of leaves.exchanges ∙ next) launched_then (becomes_by r.consumers m c k (reading_past x) there changed) copies (rw way refl)
+      leaves.limits leaves.last_start leaves.entries (ap next_of leaves.exchanges ∙ next) launched_then (becomes_by r.consumers m c k (reading_past x) there changed) copies (rw way refl)
       (λ key. key_opened t law c x w z (law.sound.numbered.lists.new_exchanges x (let above = x_is in omega (arith, above))) past key (kept_of mid.keys key) (keys_past t law c k v w row kept v_idle (λ other. apart_unsaid t other w refl refl refl) refl r.keys mid.keys stands.keys left key))
 
   pub past_answered : (bounds : Limits) (faults : ℕ) (before out : List Act) → out ≡ before ++ acts_of c (Opens x n copied) → Answered bounds faults u t before out now (event.Poll c want)

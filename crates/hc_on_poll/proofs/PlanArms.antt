@@ -586,7 +586,7 @@ module _ {B : Type 0} {g : Ghosts B} (r : Rows B g) (a : Entries B g) (stays : S
   read = record r { entries = a }
 
   pub read_stands : (t : Tables) → RowsStand r t → RowsStand read t
-  read_stands t stands = stands_stayed r read t refl refl refl refl refl refl stays stands
+  read_stands t stands = stands_stayed r read t refl refl refl refl refl stays stands
 
   pub read_until : (now : ℕ) → ∥ StandsBy r now ∥₁ → ∥ StandsBy read now ∥₁
   read_until now some = ∥∥₁_map some (λ u.

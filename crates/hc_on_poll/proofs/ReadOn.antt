@@ -82,20 +82,20 @@ module _ {B : Type 0} {g : Ghosts B} (r : Rows B g) (c q : ℕ) (k : Consumer) (
     pub kept : is_kept (shelf_of r.entries) q ≡ true
     kept = merely_true (is_kept (shelf_of r.entries) q) some (λ s. bound_kept r (t s) (facts s).law c q reads.0.2 k s.rows (rd s))
 
-    module _ (small : r.received < 2 ^ 61) where
+    module _ where
       pub offset_fits : k.lo + k.given ≤ 2 ^ 62
-      offset_fits = merely_most (k.lo + k.given) (2 ^ 62) some (λ s. bound.offset_small r (t s) (facts s) s.rows c q reads.0.2 k (rd s) s.numbers (few_received s.received small))
+      offset_fits = merely_most (k.lo + k.given) (2 ^ 62) some (λ s. bound.offset_small r (t s) (facts s) s.rows c q reads.0.2 k (rd s) s.numbers (few_received s.received))
 
       module _ (want : ℕ) (wants : 0 < want) (run : Option Run) (run_is : IsRunAhead (shelf_of r.entries) q want run k) where
         end_fits_of : (z : Option Run) → run ≡ z → IfSome z (λ y. end_of y ≤ 2 ^ 62)
         end_fits_of None is = tt
-        end_fits_of (Some z) is = merely_most (end_of z) (2 ^ 62) some (λ s. (bound.run_small r (t s) (facts s) s.rows c q reads.0.2 k (rd s) s.numbers (few_received s.received small) want wants run run_is z is).0)
+        end_fits_of (Some z) is = merely_most (end_of z) (2 ^ 62) some (λ s. (bound.run_small r (t s) (facts s) s.rows c q reads.0.2 k (rd s) s.numbers (few_received s.received) want wants run run_is z is).0)
 
         pub end_fits : IfSome run (λ y. end_of y ≤ 2 ^ 62)
         end_fits = end_fits_of run refl
 
         pub run_fits : (z : Run) → run ≡ Some z → k.given + length z.bytes ≤ 2 ^ 62
-        run_fits z is = merely_most (k.given + length z.bytes) (2 ^ 62) some (λ s. (bound.run_small r (t s) (facts s) s.rows c q reads.0.2 k (rd s) s.numbers (few_received s.received small) want wants run run_is z is).1)
+        run_fits z is = merely_most (k.given + length z.bytes) (2 ^ 62) some (λ s. (bound.run_small r (t s) (facts s) s.rows c q reads.0.2 k (rd s) s.numbers (few_received s.received) want wants run run_is z is).1)
 
         module _ (heard : IsHeard (table_of r.exchanges) k) (view : ReadView) (view_is : ReadViewIs r q c (option_map end_of run) view k) where
           -- where a step reads what is stored there is some
@@ -110,7 +110,7 @@ module _ {B : Type 0} {g : Ghosts B} (r : Rows B g) (c q : ℕ) (k : Consumer) (
           held_fits is x n own = merely_most (k.given + length (take n (table_of r.exchanges x).held)) (2 ^ 62) some (λ s.
               let h = (bound.held_move r (t s) (facts s) s.rows c q reads.0.2 k (rd s) 0 want reads.1 heard wants run run_is view view_is is).0 in
               let same : h.x ≡ x = some_is h.x x (sym h.own ∙ own) in
-              subst (λ (y : ℕ). k.given + length (take n (table_of r.exchanges y).held) < 2 ^ 62 + 1) same (bound.held_small r (t s) (facts s) s.rows c q reads.0.2 k (rd s) s.numbers (few_received s.received small) h n))
+              subst (λ (y : ℕ). k.given + length (take n (table_of r.exchanges y).held) < 2 ^ 62 + 1) same (bound.held_small r (t s) (facts s) s.rows c q reads.0.2 k (rd s) s.numbers (few_received s.received) h n))
 
           -- what it waits for is open
           pub source_runs : (x : ℕ) → read_step view ≡ step.Waits x → known.is_open x (table_of r.exchanges) ≡ true
@@ -120,12 +120,12 @@ module _ {B : Type 0} {g : Ghosts B} (r : Rows B g) (c q : ℕ) (k : Consumer) (
           pub hole_within : (hole : Span) → read_step view ≡ step.Hole hole → IsSomeAnd (head_at (shelf_of r.entries) q) (IsInLength hole)
           hole_within hole is = merely_in_length (head_at (shelf_of r.entries) q) hole some (λ s.
               let f = bound.hole_move r (t s) (facts s) s.rows c q reads.0.2 k (rd s) 0 want reads.1 heard wants run run_is view view_is hole is in
-              (f.head, f.head_is, (f.total, f.known, f.within s.numbers (few_received s.received small))))
+              (f.head, f.head_is, (f.total, f.known, f.within s.numbers (few_received s.received))))
 
   -- WHAT IT DOES
 
   module _ (u : Rows B g) (before out : List Act) (now want : ℕ) (wants : 0 < want) (run : Option Run) (run_is : IsRunAhead (shelf_of r.entries) q want run k) (heard : IsHeard (table_of r.exchanges) k) (view : ReadView) (view_is : ReadViewIs r q c (option_map end_of run) view k)
-      (received : u.received ≡ r.received) (limits : u.limits ≡ r.limits) (last : u.last_start ≡ r.last_start) (same_keys : u.keys ≡ r.keys) (same_entries : u.entries ≡ r.entries) (t : Tables) (facts : Facts r.limits t) (stands : RowsStand r t) where
+      (limits : u.limits ≡ r.limits) (last : u.last_start ≡ r.last_start) (same_keys : u.keys ≡ r.keys) (same_entries : u.entries ≡ r.entries) (t : Tables) (facts : Facts r.limits t) (stands : RowsStand r t) where
     abbrev its : IsBoundRow t c q reads.0.2 k
     its = row_of t facts stands
 
@@ -136,7 +136,7 @@ module _ {B : Type 0} {g : Ghosts B} (r : Rows B g) (c q : ℕ) (k : Consumer) (
         let same : found.0 ≡ z = some_is found.0 z (sym found.1.read_is ∙ read) in
         let m = subst (λ (y : Run). bound.Reads r t facts stands c q reads.0.2 k its now want reads.1 heard wants run run_is view view_is y) same found.1 in
         let a = m.ahead_of in
-        gives.stored_answered r u t facts stands now want c q reads.0.2 k its at before out received limits last same_keys same_entries z a.at a.within a.each m.move_is acts exchanges changes
+        gives.stored_answered r u t facts stands now want c q reads.0.2 k its at before out limits last same_keys same_entries z a.at a.within a.each m.move_is acts exchanges changes
 
     -- what is held is given
     pub gives_held : read_step view ≡ step.Held → (x o n : ℕ) (bytes : List ℕ) → k.own ≡ Some x → o ≡ view.offset → n ≡ most view.hi view.offset want → bytes ≡ take n (table_of r.exchanges x).held → out ≡ before ++ given_acts c x o bytes → exch.Becomes (known.without_first n) x r.exchanges u.exchanges → ChangesAt r.consumers u.consumers c (once_given (length bytes))
@@ -150,7 +150,7 @@ module _ {B : Type 0} {g : Ghosts B} (r : Rows B g) (c q : ℕ) (k : Consumer) (
         let taken : bytes ≡ take (most k.hi (k.lo + k.given) want) (table_of r.exchanges h.x).held = bytes_are ∙ ap₂ (λ (m y : ℕ). take m (table_of r.exchanges y).held) as_many same in
         let told : out ≡ before ++ given_acts c h.x (k.lo + k.given) (take (most k.hi (k.lo + k.given) want) (table_of r.exchanges h.x).held) =
         acts ∙ (ap (λ (y : ℕ). before ++ given_acts c y o bytes) same ∙ (ap (λ (y : ℕ). before ++ given_acts c h.x y bytes) at_offset ∙ ap (λ (ys : List ℕ). before ++ given_acts c h.x (k.lo + k.given) ys) taken)) in
-        gives.held_answered r u t facts stands now want c q reads.0.2 k its at before out received limits last same_keys same_entries h (most k.hi (k.lo + k.given) want)
+        gives.held_answered r u t facts stands now want c q reads.0.2 k its at before out limits last same_keys same_entries h (most k.hi (k.lo + k.given) want)
         (subst (λ (y : ℕ). exch.Becomes (known.without_first (most k.hi (k.lo + k.given) want)) y r.exchanges u.exchanges) same (subst (λ (m : ℕ). exch.Becomes (known.without_first m) x r.exchanges u.exchanges) as_many becomes))
         found.1.move_is told (subst (λ (ys : List ℕ). ChangesAt r.consumers u.consumers c (once_given (length ys))) taken changes)
 
@@ -158,4 +158,4 @@ module _ {B : Type 0} {g : Ghosts B} (r : Rows B g) (c q : ℕ) (k : Consumer) (
     pub asks_for : (x : ℕ) → read_step view ≡ step.Waits x → u.consumers ≡ r.consumers → exch.Becomes known.with_asking x r.exchanges u.exchanges → out ≡ before ++ acts_of c (asks_or_waits (asked_in (table_of r.exchanges x).running) x) → Answered r.limits (shelf_of r.entries).faults u t before out now (event.Poll c want)
     asks_for x is consumers becomes acts =
         let m = bound.waits_move r t facts stands c q reads.0.2 k its now want reads.1 heard wants run run_is view view_is x is in
-        gives.asks_answered r u t facts stands now want c q reads.0.2 k its at before out received limits last same_keys same_entries x consumers becomes m.move_is acts
+        gives.asks_answered r u t facts stands now want c q reads.0.2 k its at before out limits last same_keys same_entries x consumers becomes m.move_is acts

@@ -135,7 +135,7 @@ held_is : (t : Tables) (x c : ℕ) (w : Exchange) (v : rows.Consumer) → t.cons
 held_is t x c w v row for_it at unjoined unfounded = rw (unjoined, unfounded, for_it, row, at, eqb-same x) refl
 
 module _ {B : Type 0} {g : Ghosts B} (r u : Rows B g) (t : Tables) (facts : Facts r.limits t) (now want c x : ℕ) (k : Consumer) (before out : List Act) (stands : RowsStand r t) (there : get nat_eq r.consumers c ≡ Some k) (at : IsUnshown x k)
-    (received : u.received ≡ r.received) (limits : u.limits ≡ r.limits) (last : u.last_start ≡ r.last_start) (same_keys : u.keys ≡ r.keys) (same_entries : u.entries ≡ r.entries) (exchanges : u.exchanges ≡ r.exchanges) (changes : ChangesAt r.consumers u.consumers c once_answered) where
+    (limits : u.limits ≡ r.limits) (last : u.last_start ≡ r.last_start) (same_keys : u.keys ≡ r.keys) (same_entries : u.entries ≡ r.entries) (exchanges : u.exchanges ≡ r.exchanges) (changes : ChangesAt r.consumers u.consumers c once_answered) where
   rd : IsReading t c x k
   rd = reading_of r t facts.law c x k stands there at.0
 
@@ -192,7 +192,7 @@ module _ {B : Type 0} {g : Ghosts B} (r u : Rows B g) (t : Tables) (facts : Fact
       does_answered r.limits (shelf_of r.entries).faults u t (with_event now ev s) before out (acts_of c m) now ev
       (shows_reader r.limits t facts.law now c want v rd.row x (why.Fetched x) head k.lo k.hi (shows_move t now want c x v rd.reads.w rd.at rd.reads.own rd.reads.row head k.lo k.hi unshown (sym answer_is ∙ some) from to) (ap reads rd.at)) refl refl acts
       (stands_counted u s now ev refl
-      (stands_reading t c v true v.given rd.row r u stands kp.is_there limits received last same_keys (ap (λ z. next_of z) exchanges) (subst (λ z. shelf.Stays (shelf_of r.entries) (shelf_of z)) (sym same_entries) (record { kept = λ n. refl; order = refl; used = refl; limits = refl }))
+      (stands_reading t c v true v.given rd.row r u stands kp.is_there limits last same_keys (ap (λ z. next_of z) exchanges) (subst (λ z. shelf.Stays (shelf_of r.entries) (shelf_of z)) (sym same_entries) (record { kept = λ n. refl; order = refl; used = refl; limits = refl }))
       q (subst (λ z. BecomesAt r.consumers u.consumers c (Some z)) change (becomes_by r.consumers u.consumers c k once_answered there changes))
       (record {
         is_there = kp.is_there;
@@ -449,7 +449,7 @@ itself : (t : Tables) (c : ℕ) (row : Option rows.Consumer) → (with_consumer 
 itself t c row = rw (eqb-same c) refl
 
 module _ {B : Type 0} {g : Ghosts B} (r u : Rows B g) (t : Tables) (facts : Facts r.limits t) (now want c x : ℕ) (k : Consumer) (before out : List Act) (stands : RowsStand r t) (there : get nat_eq r.consumers c ≡ Some k) (at : IsShown x k) (wants : 0 < want)
-    (received : u.received ≡ r.received) (limits : u.limits ≡ r.limits) (last : u.last_start ≡ r.last_start) (same_keys : u.keys ≡ r.keys) (same_entries : u.entries ≡ r.entries) where
+    (limits : u.limits ≡ r.limits) (last : u.last_start ≡ r.last_start) (same_keys : u.keys ≡ r.keys) (same_entries : u.entries ≡ r.entries) where
   abbrev ev : Event
   ev = event.Poll c want
 
@@ -479,7 +479,7 @@ module _ {B : Type 0} {g : Ghosts B} (r u : Rows B g) (t : Tables) (facts : Fact
       does_answered r.limits (shelf_of r.entries).faults u t (with_event now ev s) before out (acts_of c (Gives run)) now ev
       (gives_bytes r.limits t facts.law now c want v shown_rd.row run (gives_move r t facts want c x k stands shown_rd at.1 wants now bytes is most_are)) refl refl acts
       (stands_counted u s now ev refl
-      (stands_reading t c v v.shown more shown_rd.row r u stands kp.is_there limits received last same_keys becomes.next unread_store
+      (stands_reading t c v v.shown more shown_rd.row r u stands kp.is_there limits last same_keys becomes.next unread_store
       (once_given (length bytes) k) (becomes_by r.consumers u.consumers c k (once_given (length bytes)) there changes)
       (record {
         is_there = kp.is_there;
@@ -533,11 +533,11 @@ module _ {B : Type 0} {g : Ghosts B} (r u : Rows B g) (t : Tables) (facts : Fact
     waits_by false is move acts =
         does_answered r.limits (shelf_of r.entries).faults u t (with_event now ev (with_ask x t)) before out (acts_of c (Asks x)) now ev
         (asks r.limits t facts.law now c want shown_rd.v shown_rd.row x move) refl refl acts
-        (stands_counted u (with_ask x t) now ev refl (stands_asked r u t x stands limits received last consumers same_keys becomes unread_store))
+        (stands_counted u (with_ask x t) now ev refl (stands_asked r u t x stands limits last consumers same_keys becomes unread_store))
     waits_by true is move acts =
         does_answered r.limits (shelf_of r.entries).faults u t (with_event now ev t) before out (acts_of c (moves.Waits (wait.Body x))) now ev
         (waits_on r.limits t facts.law now c want shown_rd.v shown_rd.row (wait.Body x) move refl) refl refl acts
-        (stands_counted u t now ev refl (stands_asked_already r u t x stands is limits received last consumers same_keys becomes unread_store))
+        (stands_counted u t now ev refl (stands_asked_already r u t x stands is limits last consumers same_keys becomes unread_store))
 
     pub asks_answered : (y : ℕ) → read_step (past_view (table_of r.exchanges x) x (k.lo + k.given) k) ≡ step.Waits y → out ≡ before ++ acts_of c (asks_or_waits (asked_in (table_of r.exchanges x).running) x) → Answered r.limits (shelf_of r.entries).faults u t before out now ev
     asks_answered y is acts = waits_by (asked_in (table_of r.exchanges x).running) refl (asks_move r t facts want c x k stands shown_rd at.1 wants now y is) acts

@@ -287,7 +287,7 @@ module _ (t : Tables) {limits : _} (facts : Facts limits t) (c q : ℕ) (how : B
         by_end (Some m) to is_x = none_some m (sym (none_of e.head.total k.hi none) ∙ to)
 
 -- in some run
-module _ {B : Type 0} {g : Ghosts B} (r : Rows B g) (c q : ℕ) (how : BoundBy) (k : Consumer) (there : get nat_eq r.consumers c ≡ Some k) (at : IsUnshownBy q how k) (head : Head) (stored : head_at (shelf_of r.entries) q ≡ Some head) (small : r.received < 2 ^ 61) (s : Stands r) where
+module _ {B : Type 0} {g : Ghosts B} (r : Rows B g) (c q : ℕ) (how : BoundBy) (k : Consumer) (there : get nat_eq r.consumers c ≡ Some k) (at : IsUnshownBy q how k) (head : Head) (stored : head_at (shelf_of r.entries) q ≡ Some head) (s : Stands r) where
   abbrev t : Tables
   t = s.t
 
@@ -298,7 +298,7 @@ module _ {B : Type 0} {g : Ghosts B} (r : Rows B g) (c q : ℕ) (how : BoundBy) 
   rd = bound_row_of r t facts.law c q at.0.0 at.0.1 how k s.rows there at.0.2
 
   few : t.received < 2 ^ 62
-  few = few_received s.received small
+  few = few_received s.received
 
   unshown : rd.v.shown ≡ false
   unshown = sym rd.kept.shown ∙ at.1
@@ -441,9 +441,9 @@ module _ {B : Type 0} {g : Ghosts B} (r u : Rows B g) (t : Tables) (facts : Fact
 
   pub stored_answered : waits_for_first (table_of r.exchanges) how ≡ false → (head : Head) → head_at (shelf_of r.entries) q ≡ Some head → (total : Option ℕ) → total ≡ option_or head.total k.hi → (answer : Response)
       → answer ≡ shown_response (record head { total = total }) (why_shown q how) (span_to k.lo k.hi) (is_part k.class how head.status) → out ≡ before ++ (act.Shown c q (why_shown q how) answer.status answer.fields k.lo k.hi ∷ [])
-      → u.received ≡ r.received → u.limits ≡ r.limits → u.last_start ≡ r.last_start → u.keys ≡ r.keys → u.entries ≡ r.entries → u.exchanges ≡ r.exchanges → ChangesAt r.consumers u.consumers c once_shown
+      → u.limits ≡ r.limits → u.last_start ≡ r.last_start → u.keys ≡ r.keys → u.entries ≡ r.entries → u.exchanges ≡ r.exchanges → ChangesAt r.consumers u.consumers c once_shown
       → Answered r.limits (shelf_of r.entries).faults u t before out now (event.Poll c want)
-  stored_answered ready head stored total total_at answer answer_is acts received limits last same_keys same_entries exchanges changes =
+  stored_answered ready head stored total total_at answer answer_is acts limits last same_keys same_entries exchanges changes =
       let ev = event.Poll c want in
       let (e, kept_e, head_is) = entry_of_head ((shelf_of r.entries).kept q) head stored in
       let is = bound_entry r t q e mine.p stands kept_e mine.there in
@@ -456,7 +456,7 @@ module _ {B : Type 0} {g : Ghosts B} (r u : Rows B g) (t : Tables) (facts : Fact
       does_answered r.limits (shelf_of r.entries).faults u t (with_event now ev s) before out (acts_of c m) now ev
       (shows_reader r.limits t facts.law now c want v mine.row q (why_shown q how) answer k.lo k.hi (move ∙ ap (λ (h : Response). Shows q (why_shown q how) h k.lo k.hi) same_answer) (ap reads mine.at)) refl refl acts
       (stands_counted u s now ev refl
-      (stands_reading t c v true v.given mine.row r u stands kp.is_there limits received last same_keys (ap (λ z. next_of z) exchanges) (subst (λ z. shelf.Stays (shelf_of r.entries) (shelf_of z)) (sym same_entries) (record { kept = λ n. refl; order = refl; used = refl; limits = refl }))
+      (stands_reading t c v true v.given mine.row r u stands kp.is_there limits last same_keys (ap (λ z. next_of z) exchanges) (subst (λ z. shelf.Stays (shelf_of r.entries) (shelf_of z)) (sym same_entries) (record { kept = λ n. refl; order = refl; used = refl; limits = refl }))
       (once_shown k) (becomes_by r.consumers u.consumers c k once_shown there changes)
       (record {
         is_there = kp.is_there;

@@ -43,7 +43,7 @@ use Rattle.hc_state.proofs.Ties.{kept_none, consumer_same, exchange_same, entry_
 use Rattle.hc_state.proofs.Words.{same_or, eqb-same, eqb-other, then_false}
 
 module _ {B : Type 0} {g : Ghosts B} (r u : Rows B g) (t : Tables) (law : Lawful t) (now c : ℕ) (request copied : Request) (k : Consumer) (stands : RowsStand r t) (ascending : r.last_start < c) (copies : copied ≡ request)
-    (limits : u.limits ≡ r.limits) (received : u.received ≡ r.received) (last : u.last_start ≡ c) (exchanges : u.exchanges ≡ r.exchanges) (same_entries : u.entries ≡ r.entries) (becomes : BecomesAt r.consumers u.consumers c (Some k))
+    (limits : u.limits ≡ r.limits) (last : u.last_start ≡ c) (exchanges : u.exchanges ≡ r.exchanges) (same_entries : u.entries ≡ r.entries) (becomes : BecomesAt r.consumers u.consumers c (Some k))
     (is : k ≡ record { request = copied; class = class_of request; since = now; place = place.Line; own = None; shown = false; answer = None; lo = 0; hi = None; given = 0; due = None }) where
   abbrev s : Tables
   s = with_event now (event.Start c request) (with_start now c request t)

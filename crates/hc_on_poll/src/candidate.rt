@@ -29,7 +29,6 @@ pub(crate) fn candidate<B: Backend>(
 ) -> Candidate
     requires stands { ∥ StandsBy rows.now now ∥₁ }
     requires early { now < 2 ^ 62 }
-    requires small { rows.now.received < 2 ^ 61 }
     requires current { IsSomeAnd (get nat_eq rows.now.consumers c) (HasCurrent rows.now.keys r) }
     requires head { head_at (shelf_of rows.now.entries) r ≡ Some (plain head.now) }
     ensures { CandidateIs rows.now now c r result }

@@ -35,12 +35,10 @@ pub(crate) fn carry_out<B: Backend>(
     requires early { now < 2 ^ 62 }
     requires idle { IsSomeAnd (get nat_eq rows.old.consumers c) IsIdle }
     requires within_limits { IsSomeAnd (get nat_eq rows.old.consumers c) IsRequestWithinLimits }
-    requires small { rows.old.received < 2 ^ 61 }
     requires few { next_of rows.old.exchanges < 2 ^ 62 }
     requires room { 3 ≤ spare out.old }
     ensures answers { OnOk result
         (AnswersPoll rows.old rows.new (act_list out.old) (act_list out.new) now c) }
-    ensures received { OnOk result (rows.new.received ≡ rows.old.received) }
     ensures limits { OnOk result (rows.new.limits ≡ rows.old.limits) }
     ensures faults { (shelf_of rows.old.entries).faults ≤ (shelf_of rows.new.entries).faults }
     ensures kept { OnErr result (act_list out.new ≡ act_list out.old) }
@@ -104,12 +102,10 @@ fn carry_out_with<B: Backend>(
     requires current { IsSomeAnd (get nat_eq rows.old.consumers c) (HasCurrent rows.old.keys r) }
     requires view { IsSomeAnd (get nat_eq rows.old.consumers c)
         (PlanViewIs rows.old now c view.now) }
-    requires small { rows.old.received < 2 ^ 61 }
     requires few { next_of rows.old.exchanges < 2 ^ 62 }
     requires room { 3 ≤ spare out.old }
     ensures answers { OnOk result
         (AnswersPoll rows.old rows.new (act_list out.old) (act_list out.new) now c) }
-    ensures received { OnOk result (rows.new.received ≡ rows.old.received) }
     ensures limits { OnOk result (rows.new.limits ≡ rows.old.limits) }
     ensures faults { (shelf_of rows.old.entries).faults ≤ (shelf_of rows.new.entries).faults }
     ensures kept { OnErr result (act_list out.new ≡ act_list out.old) }
@@ -138,12 +134,10 @@ fn carry_out_on<B: Backend>(
     requires view { IsSomeAnd (get nat_eq rows.old.consumers c)
         (PlanViewIs rows.old now c view.now) }
     requires head { head_at (shelf_of rows.old.entries) r ≡ Some (plain head.now) }
-    requires small { rows.old.received < 2 ^ 61 }
     requires few { next_of rows.old.exchanges < 2 ^ 62 }
     requires room { 3 ≤ spare out.old }
     ensures answers { OnOk result
         (AnswersPoll rows.old rows.new (act_list out.old) (act_list out.new) now c) }
-    ensures received { OnOk result (rows.new.received ≡ rows.old.received) }
     ensures limits { OnOk result (rows.new.limits ≡ rows.old.limits) }
     ensures faults { (shelf_of rows.old.entries).faults ≤ (shelf_of rows.new.entries).faults }
     ensures kept { OnErr result (act_list out.new ≡ act_list out.old) }
@@ -169,12 +163,10 @@ fn carry_out_plan<B: Backend>(
     requires current { IsSomeAnd (get nat_eq rows.old.consumers c) (HasCurrent rows.old.keys r) }
     requires head { head_at (shelf_of rows.old.entries) r ≡ Some (plain head.now) }
     requires plan { IsPlanOf rows.old now c plan }
-    requires small { rows.old.received < 2 ^ 61 }
     requires few { next_of rows.old.exchanges < 2 ^ 62 }
     requires room { 3 ≤ spare out.old }
     ensures answers { OnOk result
         (AnswersPoll rows.old rows.new (act_list out.old) (act_list out.new) now c) }
-    ensures received { OnOk result (rows.new.received ≡ rows.old.received) }
     ensures limits { OnOk result (rows.new.limits ≡ rows.old.limits) }
     ensures faults { (shelf_of rows.old.entries).faults ≤ (shelf_of rows.new.entries).faults }
     ensures kept { OnErr result (act_list out.new ≡ act_list out.old) }
@@ -213,12 +205,10 @@ fn carry_out_bare<B: Backend>(
     requires idle { IsSomeAnd (get nat_eq rows.old.consumers c) IsIdle }
     requires plan { IsPlanOf rows.old now c (plan_of view.now) }
     requires bare { view.now.current ≡ None }
-    requires small { rows.old.received < 2 ^ 61 }
     requires few { next_of rows.old.exchanges < 2 ^ 62 }
     requires room { 3 ≤ spare out.old }
     ensures answers { OnOk result
         (AnswersPoll rows.old rows.new (act_list out.old) (act_list out.new) now c) }
-    ensures received { OnOk result (rows.new.received ≡ rows.old.received) }
     ensures limits { OnOk result (rows.new.limits ≡ rows.old.limits) }
     ensures faults { (shelf_of rows.old.entries).faults ≤ (shelf_of rows.new.entries).faults }
     ensures kept { OnErr result (act_list out.new ≡ act_list out.old) }

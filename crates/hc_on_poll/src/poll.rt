@@ -32,12 +32,10 @@ pub fn poll<B: Backend>(
     requires early { now < 2 ^ 62 }
     requires live { is_some (get nat_eq rows.old.consumers c) ≡ true }
     requires wants { 0 < want }
-    requires small { rows.old.received < 2 ^ 61 }
     requires few { next_of rows.old.exchanges < 2 ^ 62 }
     requires room { 3 ≤ spare out.old }
     ensures answers { OnOk result
         (Answers rows.old rows.new (act_list out.old) (act_list out.new) now (Poll c want)) }
-    ensures received { OnOk result (rows.new.received ≡ rows.old.received) }
     ensures limits { OnOk result (rows.new.limits ≡ rows.old.limits) }
     ensures faults { (shelf_of rows.old.entries).faults ≤ (shelf_of rows.new.entries).faults }
     ensures kept { OnErr result (act_list out.new ≡ act_list out.old) }

@@ -33,11 +33,9 @@ pub(crate) fn await_stored<B: Backend>(
 ) -> Result<(), NoMemory>
     requires stands { ∥ Stands rows.old ∥₁ }
     requires unshown { IsSomeAnd (get nat_eq rows.old.consumers c) (IsUnshownBy r by) }
-    requires small { rows.old.received < 2 ^ 61 }
     requires room { 2 ≤ spare out.old }
     ensures answers { OnOk result ((want : ℕ) → Answers rows.old rows.new
         (act_list out.old) (act_list out.new) now (Poll c want)) }
-    ensures received { OnOk result (rows.new.received ≡ rows.old.received) }
     ensures limits { OnOk result (rows.new.limits ≡ rows.old.limits) }
     ensures faults { (shelf_of rows.old.entries).faults ≤ (shelf_of rows.new.entries).faults }
     ensures kept { OnErr result (act_list out.new ≡ act_list out.old) }
@@ -67,12 +65,10 @@ fn show_stored<B: Backend>(
     requires unshown { IsSomeAnd (get nat_eq rows.old.consumers c) (IsUnshownBy r by) }
     requires headed { waits_for_first (table_of rows.old.exchanges) by ≡ false }
     requires head { head_at (shelf_of rows.old.entries) r ≡ Some (plain head) }
-    requires small { rows.old.received < 2 ^ 61 }
     requires room { 1 ≤ spare out.old }
     ensures answers { OnOk result
         (AnswersPolls rows.old rows.new (act_list out.old) (act_list out.new) c) }
     ensures exchanges { OnOk result (rows.new.exchanges ≡ rows.old.exchanges) }
-    ensures received { OnOk result (rows.new.received ≡ rows.old.received) }
     ensures limits { OnOk result (rows.new.limits ≡ rows.old.limits) }
     ensures faults { (shelf_of rows.new.entries).faults ≡ (shelf_of rows.old.entries).faults }
     ensures kept { OnErr result (act_list out.new ≡ act_list out.old) }

@@ -143,7 +143,7 @@ module _ {B : Type 0} {g : Ghosts B} (limits : Limits) (u : Rows B g) (t : Table
   stopped_nothing r stands rest consumers becomes apart acts = by_test (is_unkeepable (t.representation x)) refl
     where
       rows : RowsStand u (tables_after_close x s)
-      rows = stands_unstored r u s x stands stop.unawaited apart.apart rest.limits rest.received rest.last_start consumers rest.keys rest.entries becomes
+      rows = stands_unstored r u s x stands stop.unawaited apart.apart rest.limits rest.last_start consumers rest.keys rest.entries becomes
 
       by_row : (z : Option Representation) → t.representation x ≡ z → is_unkeepable z ≡ true → let_go now x (tables_after_close x s) ≡ tables_after_close x s
       by_row None at on = false_true on
@@ -162,7 +162,7 @@ module _ {B : Type 0} {g : Ghosts B} (limits : Limits) (u : Rows B g) (t : Table
   stopped_gone : (r : Rows B g) → RowsStand r (let_go now x s) → KeepsRest r u → u.consumers ≡ r.consumers → exch.Becomes known.without_exchange x r.exchanges u.exchanges → GoesWith t x x stop.w → out ≡ before → HasStopped faults u t f before out now x
   stopped_gone r stands rest consumers becomes goes acts =
       quiet (Some x) (rw (goes.row, goes.unkept) refl) acts
-      (stands_unstored r u (let_go now x s) x stands (unawaited_go now x s x stop.unawaited) apart rest.limits rest.received rest.last_start consumers rest.keys rest.entries becomes)
+      (stands_unstored r u (let_go now x s) x stands (unawaited_go now x s x stop.unawaited) apart rest.limits rest.last_start consumers rest.keys rest.entries becomes)
     where
       gone_there : (o : Option Representation) (p : Representation) → option_map as_gone o ≡ Some p → p.is_gone ≡ true
       gone_there None p h = none_some p h

@@ -209,7 +209,7 @@ module _ (t : Tables) (x : ℕ) where
 -- ALL OF IT
 
 module _ {B : Type 0} {g : Ghosts B} (r u : Rows B g) (t : Tables) (x : ℕ) (stands : RowsStand r t) (unawaited : NobodyAwaits t x)
-    (limits : u.limits ≡ r.limits) (received : u.received ≡ r.received) (last : u.last_start ≡ r.last_start) (consumers : u.consumers ≡ r.consumers) (keys : u.keys ≡ r.keys)
+    (limits : u.limits ≡ r.limits) (last : u.last_start ≡ r.last_start) (consumers : u.consumers ≡ r.consumers) (keys : u.keys ≡ r.keys)
     (becomes : exch.Becomes known.without_exchange x r.exchanges u.exchanges) (bounded : (shelf_of u.entries).limits ≡ (shelf_of r.entries).limits) where
   pub stands_closed : KeepsEntries (tables_after_close x t) (shelf_of u.entries) → RowsStand u (tables_after_close x t)
   stands_closed entries = record {
@@ -231,7 +231,7 @@ module _ {B : Type 0} {g : Ghosts B} (r u : Rows B g) (t : Tables) (x : ℕ) (st
 
 -- it brings nothing of what isn't gone
 pub stands_unstored : {B : Type 0} {g : Ghosts B} (r u : Rows B g) (t : Tables) (x : ℕ) → RowsStand r t → NobodyAwaits t x → ((q : ℕ) (v : Representation) → t.representation q ≡ Some v → v.is_gone ≡ false → IsApart t x q)
-    → u.limits ≡ r.limits → u.received ≡ r.received → u.last_start ≡ r.last_start → u.consumers ≡ r.consumers → u.keys ≡ r.keys → u.entries ≡ r.entries → exch.Becomes known.without_exchange x r.exchanges u.exchanges → RowsStand u (tables_after_close x t)
-stands_unstored r u t x stands unawaited apart limits received last consumers keys same_entries becomes =
-    stands_closed r u t x stands unawaited limits received last consumers keys becomes (ap (λ z. (shelf_of z).limits) same_entries)
+    → u.limits ≡ r.limits → u.last_start ≡ r.last_start → u.consumers ≡ r.consumers → u.keys ≡ r.keys → u.entries ≡ r.entries → exch.Becomes known.without_exchange x r.exchanges u.exchanges → RowsStand u (tables_after_close x t)
+stands_unstored r u t x stands unawaited apart limits last consumers keys same_entries becomes =
+    stands_closed r u t x stands unawaited limits last consumers keys becomes (ap (λ z. (shelf_of z).limits) same_entries)
     (subst (λ z. KeepsEntries (tables_after_close x t) (shelf_of z)) (sym same_entries) (entries_closed t x (shelf_of r.entries) apart stands.entries))

@@ -269,7 +269,7 @@ merely_user place.Over c a some h = tt
 -- ALL OF IT
 
 module _ {B : Type 0} {g : Ghosts B} (r u : Rows B g) (t : Tables) (law : Lawful t) (c : ℕ) (k : Consumer) (v : rows.Consumer) (row : t.consumer c ≡ Some v) (at : get nat_eq r.consumers c ≡ Some k) (stands : RowsStand r t)
-    (limits : u.limits ≡ r.limits) (received : u.received ≡ r.received) (last : u.last_start ≡ r.last_start)
+    (limits : u.limits ≡ r.limits) (last : u.last_start ≡ r.last_start)
     (line : LeavesKey c k.request.key r.keys u.keys) (forgets : Forgets k.own r.exchanges u.exchanges) (unbinds : UnbindsAt k.place c (shelf_of r.entries) (shelf_of u.entries)) where
   pub kept : IsKept t k v
   kept = subst (λ o. KeepsConsumer t o (Some v)) at (subst (KeepsConsumer t (get nat_eq r.consumers c)) row (stands.consumers c))

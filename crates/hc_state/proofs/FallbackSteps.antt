@@ -76,7 +76,7 @@ length_same r u t c v q stands row lives becomes =
 
 module _ {B : Type 0} {g : Ghosts B} (r u : Rows B g) (t : Tables) (c : ℕ) (v w : rows.Consumer) (q : Consumer) (stands : RowsStand r t) (row : t.consumer c ≡ Some v)
     (was : reads v.place ≡ false) (is_now : reads w.place ≡ false) (lived : is_live_place v.place ≡ true) (lives : is_live_place w.place ≡ true)
-    (limits : u.limits ≡ r.limits) (received : u.received ≡ r.received) (last : u.last_start ≡ r.last_start) (exchanges : u.exchanges ≡ r.exchanges) (entries : u.entries ≡ r.entries)
+    (limits : u.limits ≡ r.limits) (last : u.last_start ≡ r.last_start) (exchanges : u.exchanges ≡ r.exchanges) (entries : u.entries ≡ r.entries)
     (becomes : BecomesAt r.consumers u.consumers c (Some q)) (kept : KeepsConsumer t (Some q) (Some w)) (keys : (key : List ℕ) → KeepsKey (with_consumer c (Some w) t) key (kept_of u.keys key)) where
   abbrev s : Tables
   s = with_consumer c (Some w) t

@@ -191,9 +191,9 @@ module _ (t : Tables) (r : ℕ) (v : Representation) (alone : Option ℕ) (row :
 -- ALL OF IT
 
 pub stands_lost : {B : Type 0} {g : Ghosts B} (r u : Rows B g) (t : Tables) (q : ℕ) (v : Representation) (alone : Option ℕ) (row : t.representation q ≡ Some v) → RowsStand r t → v.alone ≡ None → HoldsNothing t q v alone
-    → u.limits ≡ r.limits → u.received ≡ r.received → u.last_start ≡ r.last_start → u.consumers ≡ r.consumers → u.keys ≡ r.keys → u.exchanges ≡ r.exchanges
+    → u.limits ≡ r.limits → u.last_start ≡ r.last_start → u.consumers ≡ r.consumers → u.keys ≡ r.keys → u.exchanges ≡ r.exchanges
     → shelf.Becomes (option_map (entry.kept_as_lost alone)) same_order q (shelf_of r.entries) (shelf_of u.entries) → shelf.is_kept (shelf_of r.entries) q ≡ true → RowsStand u (with_representation q (Some (lost_to alone v)) t)
-stands_lost r u t q v alone row stands nobody nothing limits received last consumers keys exchanges becomes there =
+stands_lost r u t q v alone row stands nobody nothing limits last consumers keys exchanges becomes there =
     let z : Tables = with_representation q (Some (lost_to alone v)) t in
     record {
       limits = becomes.limits ∙ (stands.limits ∙ sym limits);

@@ -83,7 +83,7 @@ in_line_kept t k v q how at kept = record {
     by_shown false is = rw (is, at) refl
 
 module _ {B : Type 0} {g : Ghosts B} (r u : Rows B g) (t : Tables) (law : Lawful t) (c : ℕ) (k : Consumer) (v : rows.Consumer) (stands : RowsStand r t) (there : get nat_eq r.consumers c ≡ Some k) (row : t.consumer c ≡ Some v)
-    (limits : u.limits ≡ r.limits) (received : u.received ≡ r.received) (last : u.last_start ≡ r.last_start) (exchanges : u.exchanges ≡ r.exchanges) (entries : u.entries ≡ r.entries) where
+    (limits : u.limits ≡ r.limits) (last : u.last_start ≡ r.last_start) (exchanges : u.exchanges ≡ r.exchanges) (entries : u.entries ≡ r.entries) where
   kept : IsKept t k v
   kept = subst (KeepsConsumer t (Some k)) row (subst (λ o. KeepsConsumer t o (t.consumer c)) there (stands.consumers c))
 
@@ -122,5 +122,5 @@ module _ {B : Type 0} {g : Ghosts B} (r u : Rows B g) (t : Tables) (law : Lawful
 
     pub stands_back : RowsStand u (with_consumer c (Some (in_line v)) t)
     stands_back =
-        falls_back r u t c v (in_line v) (lined_up k) stands row (ap reads v_at) refl (ap is_live_place v_at) refl limits received last exchanges entries
+        falls_back r u t c v (in_line v) (lined_up k) stands row (ap reads v_at) refl (ap is_live_place v_at) refl limits last exchanges entries
         (becomes_by r.consumers u.consumers c k lined_up there changes) (in_line_kept t k v q how v_at kept) keys_then

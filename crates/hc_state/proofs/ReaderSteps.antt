@@ -30,15 +30,15 @@ use Rattle.hc_state.proofs.Fallbacks.{unstored_moved}
 use Rattle.hc_state.proofs.ConsumerSteps.{SaysOfIt, all_kept_with, key_stays, key_with}
 use Rattle.hc_state.proofs.OneOfEach.{entries_same}
 use Rattle.hc_state.proofs.Ties.{exchange_same}
-use Rattle.hc_state.proofs.Words.{same_or, eqb-same, eqb-other, as_received}
+use Rattle.hc_state.proofs.Words.{same_or, eqb-same, eqb-other}
 
 -- what stays of the representations, over a store that was read
 pub entries_read : (t : Tables) (a b : Shelf) → shelf.Stays a b → KeepsEntries t a → KeepsEntries t b
 entries_read t a b stays kept = record { each = λ q. rw (stays.kept q) (kept.each q); order = stays.order ∙ kept.order }
 
 -- what stands over a store stands after a read of it
-pub stands_read : {B : Type 0} {g : Ghosts B} (r u : Rows B g) (t : Tables) → u.limits ≡ r.limits → u.received ≡ r.received → u.last_start ≡ r.last_start → u.consumers ≡ r.consumers → u.exchanges ≡ r.exchanges → u.keys ≡ r.keys → shelf.Stays (shelf_of r.entries) (shelf_of u.entries) → RowsStand r t → RowsStand u t
-stands_read r u t limits received last consumers exchanges same_keys read stands = record {
+pub stands_read : {B : Type 0} {g : Ghosts B} (r u : Rows B g) (t : Tables) → u.limits ≡ r.limits → u.last_start ≡ r.last_start → u.consumers ≡ r.consumers → u.exchanges ≡ r.exchanges → u.keys ≡ r.keys → shelf.Stays (shelf_of r.entries) (shelf_of u.entries) → RowsStand r t → RowsStand u t
+stands_read r u t limits last consumers exchanges same_keys read stands = record {
   limits = read.limits ∙ (stands.limits ∙ sym limits);
   last_start = last ∙ stands.last_start;
   next = ap (λ z. next_of z) exchanges ∙ stands.next;
@@ -49,14 +49,14 @@ stands_read r u t limits received last consumers exchanges same_keys read stands
   entries = entries_read t (shelf_of r.entries) (shelf_of u.entries) read stands.entries;
 }
 
-pub some_read : {B : Type 0} {g : Ghosts B} (r u : Rows B g) → u.limits ≡ r.limits → u.received ≡ r.received → u.last_start ≡ r.last_start → u.consumers ≡ r.consumers → u.exchanges ≡ r.exchanges → u.keys ≡ r.keys → shelf.Stays (shelf_of r.entries) (shelf_of u.entries) → Stands r → Stands u
-some_read r u limits received last consumers exchanges same_keys read s = record {
+pub some_read : {B : Type 0} {g : Ghosts B} (r u : Rows B g) → u.limits ≡ r.limits → u.last_start ≡ r.last_start → u.consumers ≡ r.consumers → u.exchanges ≡ r.exchanges → u.keys ≡ r.keys → shelf.Stays (shelf_of r.entries) (shelf_of u.entries) → Stands r → Stands u
+some_read r u limits last consumers exchanges same_keys read s = record {
   t = s.t;
   facts = rw limits s.facts;
   numbers = s.numbers;
   within_limits = s.within_limits;
-  received = as_received received s.received;
-  rows = stands_read r u s.t limits received last consumers exchanges same_keys read s.rows;
+  received = s.received;
+  rows = stands_read r u s.t limits last consumers exchanges same_keys read s.rows;
 }
 
 -- who answers after a read of the store answers before it
@@ -144,7 +144,7 @@ module _ (t : Tables) (c : ℕ) (v : rows.Consumer) (shown : Bool) (given : ℕ)
   exchange_reading y known same kept = exchange_same t s y known (record { row = refl; brings = λ z at. refl; held = same }) kept
 
   module _ {B : Type 0} {g : Ghosts B} (r u : Rows B g) (stands : RowsStand r t) (lived : is_live_place v.place ≡ true)
-      (limits : u.limits ≡ r.limits) (received : u.received ≡ r.received) (last : u.last_start ≡ r.last_start) (same_keys : u.keys ≡ r.keys) (next : next_of u.exchanges ≡ next_of r.exchanges) (read : shelf.Stays (shelf_of r.entries) (shelf_of u.entries))
+      (limits : u.limits ≡ r.limits) (last : u.last_start ≡ r.last_start) (same_keys : u.keys ≡ r.keys) (next : next_of u.exchanges ≡ next_of r.exchanges) (read : shelf.Stays (shelf_of r.entries) (shelf_of u.entries))
       (q : Consumer) (becomes : BecomesAt r.consumers u.consumers c (Some q)) (kept : IsKept t q w) (exchanges : (y : ℕ) → KeepsExchange s y (table_of u.exchanges y)) where
     pub stands_reading : RowsStand u s
     stands_reading = record {

@@ -182,7 +182,6 @@ pub record HaveGone {B : Type 0} {g : Ghosts B} (r u : Rows B g) (now i : ℕ) (
   pub fits : spare + i ≡ whole
   pub limits : u.limits ≡ r.limits
   pub last_start : u.last_start ≡ r.last_start
-  pub received : u.received ≡ r.received
   pub exchanges : u.exchanges ≡ r.exchanges
   pub faults : (shelf_of u.entries).faults ≡ (shelf_of r.entries).faults
 
@@ -193,7 +192,6 @@ none_gone r now before whole = record {
   fits = omega arith;
   limits = refl;
   last_start = refl;
-  received = refl;
   exchanges = refl;
   faults = refl;
 }
@@ -206,9 +204,9 @@ module _ {B : Type 0} {g : Ghosts B} (r u : Rows B g) (now i : ℕ) (before out 
       ∙ idle_after now (take i (idle_now t)) (drop i (idle_now t)) t law.may law.used (sym (take_rest i (idle_now t)))
 
   pub one_gone : (next : Rows B g) (n : ℕ) (after : List Act) (left : ℕ) → Some n ≡ first_of (idle (shelf_of u.entries)) → after ≡ out ++ (act.Evicted n ∷ []) → left + 1 ≡ spare
-      → ((t : Tables) → MayLetGo t → RowsStand u t → RowsStand next (let_go now n t)) → next.limits ≡ u.limits → next.last_start ≡ u.last_start → next.received ≡ u.received → next.exchanges ≡ u.exchanges
+      → ((t : Tables) → MayLetGo t → RowsStand u t → RowsStand next (let_go now n t)) → next.limits ≡ u.limits → next.last_start ≡ u.last_start → next.exchanges ≡ u.exchanges
       → (shelf_of next.entries).faults ≡ (shelf_of u.entries).faults → HaveGone r next now (i + 1) before after whole left
-  one_gone next n after left first acts less goes limits last received exchanges faults = record {
+  one_gone next n after left first acts less goes limits last exchanges faults = record {
     gone = λ t law stands.
         let xs = idle_now t in
         let was = gone.gone t law stands in
@@ -223,7 +221,6 @@ module _ {B : Type 0} {g : Ghosts B} (r u : Rows B g) (now i : ℕ) (before out 
     fits = (let fits = gone.fits in omega (arith, fits, less));
     limits = limits ∙ gone.limits;
     last_start = last ∙ gone.last_start;
-    received = received ∙ gone.received;
     exchanges = exchanges ∙ gone.exchanges;
     faults = faults ∙ gone.faults;
   }

@@ -66,7 +66,7 @@ Means t s shelf x w stop.Nothing = IsApartNow t x
 Means t s shelf x w (stop.LetGo q) = GoesWith t x q w
 Means t s shelf x w (stop.Seal q) = Stays t s shelf x q w
 
-module _ {B : Type 0} {g : Ghosts B} (r : Rows B g) (t : Tables) (facts : Facts r.limits t) (f : ℕ → Option rows.Consumer) (stands : RowsStand r (with_consumers f t)) (small : r.received < 2 ^ 61)
+module _ {B : Type 0} {g : Ghosts B} (r : Rows B g) (t : Tables) (facts : Facts r.limits t) (f : ℕ → Option rows.Consumer) (stands : RowsStand r (with_consumers f t))
     (x : ℕ) (w : Exchange) (row : t.exchange x ≡ Some w) (opened : w.is_open ≡ true) where
   abbrev s : Tables
   s = with_consumers f t

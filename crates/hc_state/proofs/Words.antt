@@ -99,5 +99,5 @@ pub none_received : (n : ℕ) → 0 ≤ n
 none_received n = omega arith
 
 -- while few are counted, few came
-pub few_received : {a n : ℕ} → n ≤ a → a < 2 ^ 61 → n < 2 ^ 62
-few_received most small = omega (arith, most, small)
+pub few_received : {n : ℕ} → n < 2 ^ 61 → n < 2 ^ 62
+few_received small = omega (arith, small)

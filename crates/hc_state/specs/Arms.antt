@@ -70,7 +70,6 @@ IsEntered true c key before after = keys.Becomes (on_line (line_with c)) key bef
 pub record KeepsRows {B : Type 0} {g : Ghosts B} (r u : Rows B g) : Type 0 where
   pub limits : u.limits ≡ r.limits
   pub last_start : u.last_start ≡ r.last_start
-  pub received : u.received ≡ r.received
   pub consumers : u.consumers ≡ r.consumers
   pub exchanges : u.exchanges ≡ r.exchanges
   pub entries : u.entries ≡ r.entries
@@ -82,7 +81,6 @@ IsLeft before after c k = LeftIf (queues k) c k.request.key before after
 pub record LeavesLine {B : Type 0} {g : Ghosts B} (r u : Rows B g) (c : ℕ) : Type 0 where
   pub limits : u.limits ≡ r.limits
   pub last_start : u.last_start ≡ r.last_start
-  pub received : u.received ≡ r.received
   pub consumers : u.consumers ≡ r.consumers
   pub exchanges : u.exchanges ≡ r.exchanges
   pub entries : u.entries ≡ r.entries
@@ -129,7 +127,6 @@ closes_open x known = if is_some known.running then x ∷ [] else []
 pub record Leaves {B : Type 0} {g : Ghosts B} (r u : Rows B g) (c x : ℕ) : Type 0 where
   pub limits : u.limits ≡ r.limits
   pub last_start : u.last_start ≡ r.last_start
-  pub received : u.received ≡ r.received
   pub keys : u.keys ≡ r.keys
   pub entries : u.entries ≡ r.entries
   pub consumers : BecomesAt r.consumers u.consumers c None

@@ -130,7 +130,6 @@ pub record BeginsFounding {B : Type 0} {g : Ghosts B} (r u : Rows B g) (x c : �
     (response : Response) : Type 0 where
   pub limits : u.limits ≡ r.limits
   pub last_start : u.last_start ≡ r.last_start
-  pub received : u.received ≡ r.received
   pub consumers : ChangesAt r.consumers u.consumers c (founds_with x f.shared f.lo f.hi)
   pub exchanges : exch.Becomes
       (brings_body x (length_by (table_of r.exchanges x).running response)) x

@@ -72,7 +72,6 @@ pub record Brings {B : Type 0} {g : Ghosts B} (a u : Rows B g) (c x r : ℕ)
     (response : Response) : Type 0 where
   pub limits : u.limits ≡ a.limits
   pub last_start : u.last_start ≡ a.last_start
-  pub received : u.received ≡ a.received
   pub consumers : u.consumers ≡ a.consumers
   pub entries : u.entries ≡ a.entries
   pub line : IsSomeAnd (get nat_eq a.consumers c) (λ k. LeavesKey c k.request.key a.keys u.keys)
@@ -88,7 +87,6 @@ without_own k = record k { own = None }
 pub record Shares {B : Type 0} {g : Ghosts B} (a u : Rows B g) (c x r : ℕ) : Type 0 where
   pub limits : u.limits ≡ a.limits
   pub last_start : u.last_start ≡ a.last_start
-  pub received : u.received ≡ a.received
   pub exchanges : u.exchanges ≡ a.exchanges
   pub keys : u.keys ≡ a.keys
   pub consumers : ChangesAt a.consumers u.consumers c without_own

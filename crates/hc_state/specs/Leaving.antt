@@ -72,7 +72,6 @@ UnbindsAt _ c before after = after ≡ before
 pub record LeavesPlace {B : Type 0} {g : Ghosts B} (r u : Rows B g) (c : ℕ) (k : Consumer) : Type 0 where
   pub limits : u.limits ≡ r.limits
   pub last_start : u.last_start ≡ r.last_start
-  pub received : u.received ≡ r.received
   pub consumers : u.consumers ≡ r.consumers
   pub line : LeavesKey c k.request.key r.keys u.keys
   pub forgets : Forgets k.own r.exchanges u.exchanges

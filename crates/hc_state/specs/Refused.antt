@@ -44,7 +44,6 @@ pub record RefusesPiece {B : Type 0} {g : Ghosts B} (r u : Rows B g) (now x q : 
       denial t (event.Piece x bytes) ≡ None → Refuses r u t now x bytes kind before out
   pub there : is_kept (shelf_of u.entries) q ≡ true
   pub exchanges : u.exchanges ≡ r.exchanges
-  pub received : u.received ≡ r.received
   pub room : 2 ≤ spare
 
 -- WHO GOES ON

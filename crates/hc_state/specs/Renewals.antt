@@ -36,7 +36,6 @@ RenewsIf false requested answered from r before after = Stays before after
 pub record KeepsBeside {B : Type 0} {g : Ghosts B} (r u : Rows B g) : Type 0 where
   pub limits : u.limits ≡ r.limits
   pub last_start : u.last_start ≡ r.last_start
-  pub received : u.received ≡ r.received
   pub consumers : u.consumers ≡ r.consumers
   pub exchanges : u.exchanges ≡ r.exchanges
   pub keys : u.keys ≡ r.keys

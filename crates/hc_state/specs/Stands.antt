@@ -1,5 +1,5 @@
 -- The rows stand for what the tables say.
-use Rattle.std.specs.Prelude.{◌≡◌, ℕ, ◌+◌, ◌<◌, ◌≤◌, List, ◌++◌, Bool, true, false, Option, Some, None, is_some, option_map, nat_eq}
+use Rattle.std.specs.Prelude.{◌≡◌, ℕ, ◌+◌, ◌<◌, ◌≤◌, ◌^◌, List, ◌++◌, Bool, true, false, Option, Some, None, is_some, option_map, nat_eq}
 use Rattle.std.specs.Option.{option_and_then}
 use Rattle.std.specs.HashMap.{get, hash_map_len}
 use Rattle.hc_store.specs.declared.backend.Backend.{Ghosts}
@@ -53,8 +53,8 @@ pub record RowsStand {B : Type 0} {g : Ghosts B} (r : Rows B g) (t : Tables) : T
   pub keys : (key : List ℕ) → KeepsKey t key (kept_of r.keys key)
   pub entries : KeepsEntries t (shelf_of r.entries)
 
--- the rows stand for the tables of some run in which what comes is within limits, and counted all its bytes
-pub record StandsForSome {B : Type 0} {g : Ghosts B} (r : Rows B g) : Type 0 where
+-- the rows stand for the tables of some run in which what comes is within limits, and of which so many bytes came at most
+pub record StandsForSome {B : Type 0} {g : Ghosts B} (r : Rows B g) (bytes : ℕ) : Type 0 where
   pub contents : Contents
   pub h : History
   pub begins : may_begin r.limits contents ≡ true
@@ -62,16 +62,16 @@ pub record StandsForSome {B : Type 0} {g : Ghosts B} (r : Rows B g) : Type 0 whe
   pub within_limits : FieldsAreWithinLimits h
   pub starts : StartsHaveTargets h
   pub run : IsRun r.limits contents h
-  pub received : (tables contents h).received ≤ r.received
+  pub received : (tables contents h).received ≤ bytes
   pub rows : RowsStand r (tables contents h)
 
--- the rows stand for tables that have what those of every run have, and counted all their bytes
+-- the rows stand for tables that have what those of every run have, and of which few bytes came
 pub record Stands {B : Type 0} {g : Ghosts B} (r : Rows B g) : Type 0 where
   pub t : Tables
   pub facts : Facts r.limits t
   pub numbers : Numbers t
   pub within_limits : RequestsAreWithinLimits t
-  pub received : t.received ≤ r.received
+  pub received : t.received < 2 ^ 61
   pub rows : RowsStand r t
 
 -- WHAT THE REFUSALS LOOK AT
@@ -98,7 +98,6 @@ gate_of r event = record {
 pub record Stays {B : Type 0} {g : Ghosts B} (r u : Rows B g) : Type 0 where
   pub limits : u.limits ≡ r.limits
   pub last_start : u.last_start ≡ r.last_start
-  pub received : u.received ≡ r.received
   pub consumers : StaysAll r.consumers u.consumers
   pub exchanges : exch.Stays r.exchanges u.exchanges
   pub keys : keys.Stays r.keys u.keys
@@ -108,7 +107,6 @@ pub record Stays {B : Type 0} {g : Ghosts B} (r u : Rows B g) : Type 0 where
 pub record KeepsRest {B : Type 0} {g : Ghosts B} (r u : Rows B g) : Type 0 where
   pub limits : u.limits ≡ r.limits
   pub last_start : u.last_start ≡ r.last_start
-  pub received : u.received ≡ r.received
   pub keys : u.keys ≡ r.keys
   pub entries : u.entries ≡ r.entries
 

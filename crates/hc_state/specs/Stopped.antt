@@ -139,7 +139,6 @@ pub record TellsNoLength (t : Tables) (x : ℕ) : Type 0 where
 pub record KeepsBesideEntries {B : Type 0} {g : Ghosts B} (r u : Rows B g) : Type 0 where
   pub limits : u.limits ≡ r.limits
   pub last_start : u.last_start ≡ r.last_start
-  pub received : u.received ≡ r.received
   pub consumers : u.consumers ≡ r.consumers
   pub exchanges : u.exchanges ≡ r.exchanges
   pub keys : u.keys ≡ r.keys

@@ -15,8 +15,6 @@ pub struct Rows<B: Backend> {
     pub limits: Limits,
     /// The number of the last consumer that started.
     pub last_start: u64,
-    /// How many bytes pieces had so far.
-    pub received: u64,
     /// The live ones, by number.
     pub consumers: HashMap<u64, Consumer>,
     pub exchanges: Exchanges,

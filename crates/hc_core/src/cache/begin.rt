@@ -57,6 +57,7 @@ impl<B: Backend> Cache<B> {
             failed: false,
             last_moment: contents.now,
             steps: 0,
+            received: 0,
             rows,
         })
     }

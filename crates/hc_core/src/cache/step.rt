@@ -5,7 +5,7 @@ ghost use Rattle.hc_event.specs.WithinLimits.{IsEventWithinLimits};
 ghost use Rattle.hc_store.specs.Slots.{no_slots};
 ghost use Rattle.hc_model.specs.Entries.{no_contents};
 ghost use Rattle.hc_model.specs.Tables.{received_in};
-ghost use Rattle.hc_state.specs.Good.{is_refused, takes_no_memory, rows_with_event};
+ghost use Rattle.hc_state.specs.Good.{is_refused, takes_no_memory};
 ghost use Rattle.hc_core.specs.Steps.{StandsFor, Steps, KeepsPromises, has_failed, last_moment, steps, bytes_received, store_in, limits_in};
 
 use crate::cache::Cache;
@@ -38,10 +38,10 @@ impl<B: Backend> Cache<B> {
             failed: false,
             last_moment: 0,
             steps: 0,
+            received: 0,
             rows: Rows {
                 limits,
                 last_start: 0,
-                received: 0,
                 consumers: HashMap::new(alloc),
                 exchanges: Exchanges::new(alloc),
                 keys: KeyTable::new(alloc),
@@ -63,7 +63,7 @@ impl<B: Backend> Cache<B> {
         ensures answered { OnOk result
             (Steps self.old self.new (act_list out.old) (act_list out.new) now event.now) }
         ensures denied { OnOk result (is_refused self.old.rows event.now ≡ true
-            → self.new.rows ≡ rows_with_event event.now self.old.rows) }
+            → self.new.rows ≡ self.old.rows) }
         ensures promised { KeepsPromises self.new }
         ensures moment { OnOk result (last_moment self.new ≡ now) }
         ensures steps { OnOk result (steps self.new ≡ steps self.old + 1) }
@@ -83,7 +83,18 @@ impl<B: Backend> Cache<B> {
         answer(&mut self.rows, now, event, out)?;
         self.last_moment = now;
         self.steps += 1;
+        self.received += received_in(event);
         self.failed = false;
         Ok(())
+    }
+}
+
+/// How many bytes a piece has.
+fn received_in(event: &Event) -> u64
+    ensures { result ≡ received_in event.now }
+{
+    match event {
+        Event::Piece { bytes, .. } => bytes.bytes.len() as u64,
+        _ => 0,
     }
 }

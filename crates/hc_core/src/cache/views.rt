@@ -34,7 +34,7 @@ impl<B: Backend> Cache<B> {
     pub fn received(&self) -> u64
         ensures { result ≡ bytes_received self.now }
     {
-        self.rows.received
+        self.received
     }
 
     /// How many consumers are live.

@@ -1,5 +1,5 @@
 //! An event, denied or accepted.
-ghost use Rattle.std.specs.Prelude.{◌≡◌, ◌+◌, ◌≤◌, ◌<◌, ◌^◌, ◌++◌, ◌∷◌, [], true, None, Some, IsOk, OnOk, OnErr};
+ghost use Rattle.std.specs.Prelude.{◌≡◌, ◌+◌, ◌-◌, ◌≤◌, ◌<◌, ◌^◌, ◌++◌, ◌∷◌, [], true, None, Some, IsOk, OnOk, OnErr};
 ghost use Rattle.hc_event.specs.Acts.{act_list, spare};
 ghost use Rattle.hc_event.specs.declared.act.Act.TheVariants as act;
 ghost use Rattle.hc_event.specs.declared.act.Refusal.{Refusal};
@@ -7,9 +7,8 @@ ghost use Rattle.hc_event.specs.WithinLimits.{IsEventWithinLimits};
 ghost use Rattle.hc_rules.specs.Refusals.{refusal_of};
 ghost use Rattle.hc_stored.specs.Entries.{shelf_of};
 ghost use Rattle.hc_exch.specs.Exchanges.{next_of};
-ghost use Rattle.hc_model.specs.Tables.{received_in};
 ghost use Rattle.hc_state.specs.Stands.{gate_of, Answers};
-ghost use Rattle.hc_state.specs.Good.{StandsUntil, takes_no_memory, rows_with_event};
+ghost use Rattle.hc_state.specs.Good.{StandsUntil, takes_no_memory};
 
 use crate::acts::MOST_ACTS;
 use crate::rows::gate::refuses;
@@ -26,26 +25,24 @@ use hc_state::Rows;
 use hc_store::Backend;
 use hc_text::NoMemory;
 
-/// Appends the acts of an event: Denied and why, or what is owed to it. A denied event is
-/// counted, and changes nothing else. After NoMemory the acts are as before.
+/// Appends the acts of an event: Denied and why, or what is owed to it. A denied event changes
+/// nothing. After NoMemory the acts are as before.
 pub(crate) fn answer<B: Backend>(
     rows: &mut Rows<B>,
     now: u64,
     event: &Event,
     out: &mut Acts,
 ) -> Result<(), NoMemory>
-    requires stands { ∥ StandsUntil rows.old now ∥₁ }
+    requires stands { ∥ StandsUntil rows.old (2 ^ 61 - 1) now ∥₁ }
     requires early { now < 2 ^ 62 }
     requires within_limits { IsEventWithinLimits event.now }
     requires few { next_of rows.old.exchanges < 2 ^ 62 }
-    requires small { rows.old.received + received_in event.now < 2 ^ 61 }
     ensures denied { OnOk result ((why : Refusal)
         → refusal_of (gate_of rows.old event.now) event.now ≡ Some why
-        → (rows.new ≡ rows_with_event event.now rows.old)
+        → (rows.new ≡ rows.old)
         × (act_list out.new ≡ act_list out.old ++ act.Denied why ∷ [])) }
     ensures accepted { OnOk result (refusal_of (gate_of rows.old event.now) event.now ≡ None
         → Answers rows.old rows.new (act_list out.old) (act_list out.new) now event.now) }
-    ensures received { OnOk result (rows.new.received ≡ rows.old.received + received_in event.now) }
     ensures limits { OnOk result (rows.new.limits ≡ rows.old.limits) }
     ensures faults { OnOk result
         ((shelf_of rows.old.entries).faults ≤ (shelf_of rows.new.entries).faults) }
@@ -59,7 +56,6 @@ pub(crate) fn answer<B: Backend>(
         return accept(rows, now, event, out);
     };
     put(out, Act::Denied { refusal });
-    rows.received += received_in(event);
     Ok(())
 }
 
@@ -70,16 +66,14 @@ fn accept<B: Backend>(
     event: &Event,
     out: &mut Acts,
 ) -> Result<(), NoMemory>
-    requires stands { ∥ StandsUntil rows.old now ∥₁ }
+    requires stands { ∥ StandsUntil rows.old (2 ^ 61 - 1) now ∥₁ }
     requires early { now < 2 ^ 62 }
     requires within_limits { IsEventWithinLimits event.now }
     requires accepted { refusal_of (gate_of rows.old event.now) event.now ≡ None }
     requires few { next_of rows.old.exchanges < 2 ^ 62 }
-    requires small { rows.old.received + received_in event.now < 2 ^ 61 }
     requires room { MOST_ACTS ≤ spare out.old }
     ensures answers { OnOk result
         (Answers rows.old rows.new (act_list out.old) (act_list out.new) now event.now) }
-    ensures received { OnOk result (rows.new.received ≡ rows.old.received + received_in event.now) }
     ensures limits { OnOk result (rows.new.limits ≡ rows.old.limits) }
     ensures faults { OnOk result
         ((shelf_of rows.old.entries).faults ≤ (shelf_of rows.new.entries).faults) }
@@ -107,15 +101,5 @@ fn accept<B: Backend>(
             take_doom(rows, now, key, out);
             Ok(())
         }
-    }
-}
-
-/// How many bytes a piece has.
-fn received_in(event: &Event) -> u64
-    ensures { result ≡ received_in event.now }
-{
-    match event {
-        Event::Piece { bytes, .. } => bytes.bytes.len() as u64,
-        _ => 0,
     }
 }

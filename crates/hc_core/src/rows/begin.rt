@@ -39,7 +39,6 @@ pub(crate) fn before<B: Backend>(
         (λ rows. RowsStand rows
         (first_tables (with_items [] (plain_contents contents.entry.now)))) }
     ensures limits { IfOk result (λ rows. rows.limits ≡ limits) }
-    ensures received { IfOk result (λ rows. rows.received ≡ 0) }
     ensures used { IfOk result (λ rows. (shelf_of rows.entries).used ≡ 0) }
     ensures store { IfOk result (λ rows. store_of rows.entries ≡ store) }
     ensures back { IfErr result (λ back. back ≡ store) }
@@ -51,7 +50,6 @@ pub(crate) fn before<B: Backend>(
     Ok(Rows {
         limits,
         last_start: contents.last_consumer,
-        received: 0,
         consumers: HashMap::new(alloc),
         exchanges: Exchanges::from_number(alloc, contents.next_exchange),
         keys: KeyTable::new(alloc),
@@ -71,7 +69,6 @@ pub(crate) fn begin_with<B: Backend>(
     ensures ok { OnOk result
         (RowsStand rows.new (first_tables (plain_contents contents.entry.now))) }
     ensures limits { rows.new.limits ≡ rows.old.limits }
-    ensures received { rows.new.received ≡ rows.old.received }
     ensures bounds { (shelf_of rows.new.entries).limits ≡ (shelf_of rows.old.entries).limits }
     ensures no_limit { HasNoLimit result }
     ensures cause { HasCause (shelf_of rows.old.entries).faults
@@ -96,7 +93,6 @@ fn begin_item<B: Backend>(rows: &mut Rows<B>, item: &Content) -> Result<(), Stor
     ensures used { OnOk result ((shelf_of rows.new.entries).used
         ≡ (shelf_of rows.old.entries).used + weight_of (bytes_in item.now.runs)) }
     ensures limits { rows.new.limits ≡ rows.old.limits }
-    ensures received { rows.new.received ≡ rows.old.received }
     ensures bounds { (shelf_of rows.new.entries).limits ≡ (shelf_of rows.old.entries).limits }
     ensures no_limit { HasNoLimit result }
     ensures cause { HasCause (shelf_of rows.old.entries).faults

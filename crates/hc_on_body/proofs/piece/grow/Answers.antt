@@ -25,14 +25,14 @@ lose_shared_piece-requires-clause-below g c =
     let r = c.args.rows.now in
     let refused = c.in_ok-store_piece.ensures.refused c.in-Some.kind (told c.in_ok-store_piece.field-0 (Some c.in-Some.kind) c.in-Some.is) in
     subst (λ (e : Exchanges). EndsBelow (length c.args.bytes.now) (table_of e c.args.x).running) (sym refused.exchanges)
-    (ends_below r c.args.x (length c.args.bytes.now) c.requires.stands c.requires.small (table_of r.exchanges c.args.x).running refl c.requires.accepted)
+    (ends_below r c.args.x (length c.args.bytes.now) c.requires.stands (let short = c.requires.short in omega (arith, short)) (table_of r.exchanges c.args.x).running refl c.requires.accepted)
 
 pub lose_own_piece-requires-clause-below : goal.lose_own_piece-requires-clause-below
 lose_own_piece-requires-clause-below g c =
     let r = c.args.rows.now in
     let refused = c.in_ok-store_piece.ensures.refused c.in-Some.kind (told c.in_ok-store_piece.field-0 (Some c.in-Some.kind) c.in-Some.is) in
     subst (λ (e : Exchanges). EndsBelow (length c.args.bytes.now) (table_of e c.args.x).running) (sym refused.exchanges)
-    (ends_below r c.args.x (length c.args.bytes.now) c.requires.stands c.requires.small (table_of r.exchanges c.args.x).running refl c.requires.accepted)
+    (ends_below r c.args.x (length c.args.bytes.now) c.requires.stands (let short = c.requires.short in omega (arith, short)) (table_of r.exchanges c.args.x).running refl c.requires.accepted)
 
 some_one : (o : Option ℕ) → is_some o ≡ true → (y : ℕ) × (o ≡ Some y)
 some_one None on = absurd (let never : false ≡ true = on in cc)

@@ -11,4 +11,4 @@ returns-clause-lost g c = λ t w v may stands.
     let taken = accepted_open (table_of r.exchanges c.args.x).running _ c.requires.accepted in
     own_stands c.lose_to.new.rows _ t c.args.now c.args.r c.args.x c.args.bytes.now w v c.args.alone taken.1 may
     (c.lose_to.ensures.lost t v b.may b.there b.nobody may.none stands)
-    refl refl refl refl refl refl c.in_ok-piece.ensures.ok
+    refl refl refl refl refl c.in_ok-piece.ensures.ok

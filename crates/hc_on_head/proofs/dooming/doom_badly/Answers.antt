@@ -19,4 +19,4 @@ returns-clause-answers g c = λ t w facts stands goes row is unsafe.
     dooming_bad r t facts stands now x response w a.v a.awaits past.0 mid (act_list c.args.out.now) _ goes unsafe _ c.args.heard.c for_it
     (subst (λ k. IsUnheard (table_of r.exchanges) k x) past.1 c.requires.unheard) is
     (subst (λ k. IsDoomed mid t (act_list c.args.out.now) (act_list c.doom.new.out) now k (Some x)) past.1 (c.doom.ensures.doomed t facts.law stands))
-    refl refl refl refl refl refl c.stand.ensures
+    refl refl refl refl refl c.stand.ensures

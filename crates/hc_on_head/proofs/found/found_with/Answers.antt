@@ -23,7 +23,6 @@ returns-clause-ok g c =
     record {
       limits = refl;
       last_start = refl;
-      received = refl;
       consumers = c.read_founded.ensures;
       exchanges = brings_founded x c.args.response.now r.exchanges c.turn_into.new.self c.head.new.self c.turn_into.ensures c.requires.good c.head.ensures.good;
       keys = current_of c.unwrap-opening.result (table_of r.exchanges x).running x r.keys c.make_current.new.self (sym (ap (option_map opened_with) c.unwrap-opening.ensures) ∙ c.opening.ensures) c.in_ok-make_current.ensures.ok;

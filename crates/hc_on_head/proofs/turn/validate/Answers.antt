@@ -105,9 +105,6 @@ lose_asked-requires-clause-accepted g c = accepted_on c.args.rows.now c.select.n
 pub lose_asked-requires-clause-asker : goal.lose_asked-requires-clause-asker
 lose_asked-requires-clause-asker g c = asked_on c.args.rows.now c.select.new.rows c.in-Err-Fault.ensures.err.rest c.args.heard.c c.args.heard.x c.requires.asker
 
-pub lose_asked-requires-clause-small : goal.lose_asked-requires-clause-small
-lose_asked-requires-clause-small g c = (let received = c.in-Err-Fault.ensures.err.rest.received in subst (λ (n : ℕ). n < 2 ^ 61) (sym received) c.requires.small)
-
 pub returns-in-Err-Fault-clause-answers : goal.returns-in-Err-Fault-clause-answers
 returns-in-Err-Fault-clause-answers g c = λ t w facts stands goes row about is.
     let r = c.args.rows.now in
@@ -122,9 +119,6 @@ returns-in-Err-Fault-clause-answers g c = λ t w facts stands goes row about is.
     let s = current_still r t x h.0 w c.args.aim q stands h.1 row about (sym c.in-Some.is ∙ h.2) in
     let answered = c.lose_asked.ensures.answers (shelf_of r.entries).faults t w (facts_on r mid kept.rest t facts) (stands_unrenewed r mid t kept.rest kept.same stands) goes row s.named s.cur is (c.select.ensures.cause.fault (c.in-Err-Fault.is ∙ ap Err c.in-Err-Fault.field-0-is)) in
     subst (λ (n : Limits). Answered n (shelf_of r.entries).faults u t (act_list c.args.out.now) (act_list c.lose_asked.new.out) now (event.Head x response)) kept.rest.limits answered
-
-pub returns-in-Err-Fault-clause-received : goal.returns-in-Err-Fault-clause-received
-returns-in-Err-Fault-clause-received g c = c.lose_asked.ensures.received ∙ c.in-Err-Fault.ensures.err.rest.received
 
 pub returns-in-Err-Fault-clause-limits : goal.returns-in-Err-Fault-clause-limits
 returns-in-Err-Fault-clause-limits g c = c.lose_asked.ensures.limits ∙ c.in-Err-Fault.ensures.err.rest.limits

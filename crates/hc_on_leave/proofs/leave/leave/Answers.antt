@@ -23,7 +23,7 @@ close_left-requires-clause-running g c =
 
 pub close_left-requires-clause-short : goal.close_left-requires-clause-short
 close_left-requires-clause-short g c =
-    shorts_left c.args.rows.now c.remove_consumer-in-Some.new.rows c.args.c c.requires.stands c.requires.live c.requires.small c.remove_consumer-in-Some.ensures.stands
+    shorts_left c.args.rows.now c.remove_consumer-in-Some.new.rows c.args.c c.requires.stands c.requires.live c.remove_consumer-in-Some.ensures.stands
 
 pub returns-in-None-clause-left : goal.returns-in-None-clause-left
 returns-in-None-clause-left g c = λ t v facts stands row.

@@ -42,8 +42,8 @@ allowed-requires-clause-answered g c =
     let until = u.1 in
     omega (arith, came, same, until)) in omega (arith, below))
 
-pub exclusive-requires-clause-stands : goal.exclusive-requires-clause-stands
-exclusive-requires-clause-stands g c = ∥∥₁_map c.requires.stands (λ u. u.0)
+pub exclusive-requires : goal.exclusive-requires
+exclusive-requires g c = record { stands = ∥∥₁_map c.requires.stands (λ u. u.0) }
 
 pub returns : goal.returns
 returns g c = λ t v p facts stands row here.

@@ -37,7 +37,7 @@ bind-requires-clause-admits g c = current_admits c.args.rows.now c.requires.stan
 pub bind-requires-clause-part : goal.bind-requires-clause-part
 bind-requires-clause-part g c =
     let r = c.args.rows.now in
-    part_there r c.requires.stands c.args.now c.args.c c.requires.idle c.args.r c.args.head.now c.requires.current c.requires.head c.requires.small c.in-Bind.why c.in-Bind.span
+    part_there r c.requires.stands c.args.now c.args.c c.requires.idle c.args.r c.args.head.now c.requires.current c.requires.head c.in-Bind.why c.in-Bind.span
     (plan_same r c.args.now c.args.c _ (plan.Bind c.in-Bind.why c.in-Bind.span) c.requires.plan c.in-Bind.is)
 
 pub open_first_hole-requires-clause-waits : goal.open_first_hole-requires-clause-waits
@@ -56,7 +56,7 @@ pub open_first_hole-requires-clause-hole : goal.open_first_hole-requires-clause-
 open_first_hole-requires-clause-hole g c =
     let r = c.args.rows.now in
     filling_hole r c.requires.stands c.args.now c.args.c c.requires.idle c.args.r c.args.head.now c.requires.current c.requires.head c.in-FirstHole.span c.in-FirstHole.hole
-    (plan_same r c.args.now c.args.c _ (plan.FirstHole c.in-FirstHole.span c.in-FirstHole.hole) c.requires.plan c.in-FirstHole.is) c.requires.small
+    (plan_same r c.args.now c.args.c _ (plan.FirstHole c.in-FirstHole.span c.in-FirstHole.hole) c.requires.plan c.in-FirstHole.is)
 
 pub wait_for_use-requires-clause-waits : goal.wait_for_use-requires-clause-waits
 wait_for_use-requires-clause-waits g c =

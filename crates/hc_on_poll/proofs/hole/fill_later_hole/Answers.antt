@@ -30,4 +30,4 @@ returns-clause-answers g c =
     let one : v ≡ rd.v = same_row (t.consumer c.args.c) v rd.v row rd.row in
     filled_answered r _ t facts stands c.args.now want c.args.c c.args.r c.in_ok-x.x hole.lo hole.hi reads.0.2 k rd at reads.1 request c.in_ok-request.request
     (subst (λ (z : rows.Consumer). move_of t c.args.now want c.args.c z ≡ Opens (next_of r.exchanges) (need.Hole hole.lo hole.hi) request) one is)
-    launch.number c.in_ok-request.ensures refl refl refl refl refl launch.next launch.ok c.own.ensures (act_list c.args.out.now) (act_list c.open.new.out) c.open.ensures)
+    launch.number c.in_ok-request.ensures refl refl refl refl launch.next launch.ok c.own.ensures (act_list c.args.out.now) (act_list c.open.new.out) c.open.ensures)

@@ -13,7 +13,7 @@ use Rattle.hc_state.proofs.Words.{there, on_ok_two}
 use Rattle.hc_on_poll.proofs.hole.open_later_hole.Goals as goal
 
 pub misread_by-requires-clause-stands : goal.misread_by-requires-clause-stands
-misread_by-requires-clause-stands g c = ∥∥₁_map c.requires.stands (λ s. some_read c.args.rows.now _ refl refl refl refl refl refl c.head.ensures.same s)
+misread_by-requires-clause-stands g c = ∥∥₁_map c.requires.stands (λ s. some_read c.args.rows.now _ refl refl refl refl refl c.head.ensures.same s)
 
 pub returns-in-Err-clause-answers : goal.returns-in-Err-clause-answers
 returns-in-Err-clause-answers g c =

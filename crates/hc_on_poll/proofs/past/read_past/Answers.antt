@@ -20,7 +20,7 @@ small g c =
     merely_below (k.lo + k.given) (2 ^ 62 + 1) c.requires.stands (λ s.
     let t = s.t in
     let facts = s.facts in
-    offset_small r t facts c.args.want c.args.c c.args.x k s.rows (reading_of r t facts.law c.args.c c.args.x k s.rows at shown.0) shown.1 c.requires.wants s.numbers (few_received s.received c.requires.small))
+    offset_small r t facts c.args.want c.args.c c.args.x k s.rows (reading_of r t facts.law c.args.c c.args.x k s.rows at shown.0) shown.1 c.requires.wants s.numbers (few_received s.received))
 
 pub overflow_add-offset : goal.overflow_add-offset
 overflow_add-offset g c = let below = small g c in omega (arith, below)
@@ -34,7 +34,7 @@ most-requires g c =
     let below = merely_below (k.lo + k.given) (2 ^ 62 + 1) c.requires.stands (λ s.
     let t = s.t in
     let facts = s.facts in
-    offset_small r t facts c.args.want c.args.c c.args.x k s.rows (reading_of r t facts.law c.args.c c.args.x k s.rows at shown.0) shown.1 c.requires.wants s.numbers (few_received s.received c.requires.small)) in
+    offset_small r t facts c.args.want c.args.c c.args.x k s.rows (reading_of r t facts.law c.args.c c.args.x k s.rows at shown.0) shown.1 c.requires.wants s.numbers (few_received s.received)) in
     omega (arith, below)
 
 pub give-requires-clause-fits : goal.give-requires-clause-fits
@@ -47,7 +47,7 @@ give-requires-clause-fits g c =
     let below = merely_below (k.given + length bytes) (2 ^ 62 + 1) c.requires.stands (λ s.
     let t = s.t in
     let facts = s.facts in
-    more_fits r t facts c.args.want c.args.c c.args.x k s.rows (reading_of r t facts.law c.args.c c.args.x k s.rows at shown.0) shown.1 c.requires.wants s.numbers (few_received s.received c.requires.small) c.most.result bytes c.in_ok-bytes-in-Held.ensures.bytes) in
+    more_fits r t facts c.args.want c.args.c c.args.x k s.rows (reading_of r t facts.law c.args.c c.args.x k s.rows at shown.0) shown.1 c.requires.wants s.numbers (few_received s.received) c.most.result bytes c.in_ok-bytes-in-Held.ensures.bytes) in
     let fits : k.given + length bytes ≤ 2 ^ 62 = omega (arith, below) in
     some_that (get nat_eq r.consumers c.args.c) k (λ j. j.given + length bytes ≤ 2 ^ 62) at fits
 
@@ -102,7 +102,7 @@ returns-in_ok-bytes-in-Held-clause-answers g c = λ t facts rows accepted.
     let at = lent c.get.result (get nat_eq r.consumers c.args.c) c.unwrap-consumer.result c.get.ensures.value c.unwrap-consumer.ensures in
     let shown = known_of (get nat_eq r.consumers c.args.c) k (IsShown c.args.x) at c.requires.shown in
     let rest = c.give.ensures.rest in
-    given_answered r c.give.new.rows t facts c.args.now c.args.want c.args.c c.args.x k (act_list c.args.out.now) (act_list c.give.new.out) rows at shown c.requires.wants rest.received rest.limits rest.last_start rest.keys rest.entries
+    given_answered r c.give.new.rows t facts c.args.now c.args.want c.args.c c.args.x k (act_list c.args.out.now) (act_list c.give.new.out) rows at shown c.requires.wants rest.limits rest.last_start rest.keys rest.entries
     c.most.result c.in_ok-bytes-in-Held.bytes (sym (ap read_step c.past_view.ensures) ∙ (sym c.read_step.ensures ∙ c.in-Held.is)) c.most.ensures c.in_ok-bytes-in-Held.ensures.bytes c.give.ensures.acts (rw c.give.ensures.exchanges c.in_ok-bytes-in-Held.ensures.ok) c.give.ensures.consumers
 
 pub returns-in-Waits-clause-answers : goal.returns-in-Waits-clause-answers
@@ -112,5 +112,5 @@ returns-in-Waits-clause-answers g c = λ t facts rows accepted.
     let at = lent c.get.result (get nat_eq r.consumers c.args.c) c.unwrap-consumer.result c.get.ensures.value c.unwrap-consumer.ensures in
     let shown = known_of (get nat_eq r.consumers c.args.c) k (IsShown c.args.x) at c.requires.shown in
     let rest = c.ask.ensures.rest in
-    asks_answered r c.ask.new.rows t facts c.args.now c.args.want c.args.c c.args.x k (act_list c.args.out.now) (act_list c.ask.new.out) rows at shown c.requires.wants rest.received rest.limits rest.last_start rest.keys rest.entries
+    asks_answered r c.ask.new.rows t facts c.args.now c.args.want c.args.c c.args.x k (act_list c.args.out.now) (act_list c.ask.new.out) rows at shown c.requires.wants rest.limits rest.last_start rest.keys rest.entries
     c.ask.ensures.consumers c.ask.ensures.asked c.in-Waits.field-0 (sym (ap read_step c.past_view.ensures) ∙ (sym c.read_step.ensures ∙ c.in-Waits.is)) c.ask.ensures.acts

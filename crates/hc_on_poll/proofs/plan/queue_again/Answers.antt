@@ -10,7 +10,7 @@ returns-in-Passed-clause-stands g c = λ t v law rows row.
     let r = c.args.rows.now in
     let k = c.unwrap-consumer.result.now in
     let at = lent c.get.result (get nat_eq r.consumers c.args.c) c.unwrap-consumer.result c.get.ensures.value c.unwrap-consumer.ensures in
-    stands_back r _ t law c.args.c k v rows at row refl refl refl refl refl c.in-Passed.r c.in-Passed.kept c.in-Passed.is c.line_up.ensures c.back.ensures
+    stands_back r _ t law c.args.c k v rows at row refl refl refl refl c.in-Passed.r c.in-Passed.kept c.in-Passed.is c.line_up.ensures c.back.ensures
 
 pub returns-in_default : goal.returns-in_default
 returns-in_default g c =
@@ -19,11 +19,10 @@ returns-in_default g c =
     let at = lent c.get.result (get nat_eq r.consumers c.args.c) c.unwrap-consumer.result c.get.ensures.value c.unwrap-consumer.ensures in
     let line = line_by k (known_of (get nat_eq r.consumers c.args.c) k IsIdle at c.requires.idle) c.in_default.not-Passed in
     record {
-      stands = λ t v law rows row. stands_still r _ t law c.args.c k v rows at row refl refl refl refl refl line refl refl;
+      stands = λ t v law rows row. stands_still r _ t law c.args.c k v rows at row refl refl refl refl line refl refl;
       consumer = changes_still r.consumers c.args.c k at line;
       exchanges = refl;
       entries = refl;
       last = refl;
-      received = refl;
       limits = refl;
     }

@@ -31,7 +31,7 @@ offset-offset-requires g c =
     let k = c.unwrap-consumer.result.now in
     let at = lent c.get.result (get nat_eq r.consumers c.args.c) c.unwrap-consumer.result c.get.ensures.value c.unwrap-consumer.ensures in
     let reads = known_of (get nat_eq r.consumers c.args.c) k (IsShownAt c.args.r) at c.requires.shown in
-    let fits = offset_fits r c.args.c c.args.r k at reads c.requires.stands c.requires.small in
+    let fits = offset_fits r c.args.c c.args.r k at reads c.requires.stands in
     omega (arith, fits)
 
 pub most-count-requires : goal.most-count-requires
@@ -40,7 +40,7 @@ most-count-requires g c =
     let k = c.unwrap-consumer.result.now in
     let at = lent c.get.result (get nat_eq r.consumers c.args.c) c.unwrap-consumer.result c.get.ensures.value c.unwrap-consumer.ensures in
     let reads = known_of (get nat_eq r.consumers c.args.c) k (IsShownAt c.args.r) at c.requires.shown in
-    let fits = offset_fits r c.args.c c.args.r k at reads c.requires.stands c.requires.small in
+    let fits = offset_fits r c.args.c c.args.r k at reads c.requires.stands in
     let same = c.offset-offset.ensures in
     omega (arith, fits, same)
 
@@ -55,12 +55,12 @@ stored_ahead-requires g c =
 pub read_on-requires-clause-stands : goal.read_on-requires-clause-stands
 read_on-requires-clause-stands g c =
     let same = c.stored_ahead.ensures.same in
-    ∥∥₁_map c.requires.stands (λ s. some_read c.args.rows.now c.stored_ahead.new.rows same.limits same.received same.last_start same.consumers same.exchanges same.keys same.entries s)
+    ∥∥₁_map c.requires.stands (λ s. some_read c.args.rows.now c.stored_ahead.new.rows same.limits same.last_start same.consumers same.exchanges same.keys same.entries s)
 
 pub misread_by-requires-clause-stands : goal.misread_by-requires-clause-stands
 misread_by-requires-clause-stands g c =
     let same = c.stored_ahead.ensures.same in
-    ∥∥₁_map c.requires.stands (λ s. some_read c.args.rows.now c.stored_ahead.new.rows same.limits same.received same.last_start same.consumers same.exchanges same.keys same.entries s)
+    ∥∥₁_map c.requires.stands (λ s. some_read c.args.rows.now c.stored_ahead.new.rows same.limits same.last_start same.consumers same.exchanges same.keys same.entries s)
 
 pub returns-in-Ok-clause-answers : goal.returns-in-Ok-clause-answers
 returns-in-Ok-clause-answers g c =

@@ -18,7 +18,7 @@ end_of-requires g c =
     let k = c.unwrap.result.now in
     let at = lent c.get.result (get nat_eq r.consumers c.args.c) c.unwrap.result c.get.ensures.value c.unwrap.ensures in
     let reads = known_of (get nat_eq r.consumers c.args.c) k (IsShownAt c.args.r) at c.requires.shown in
-    end_fits r c.args.c c.args.r k at reads c.requires.stands c.requires.small c.args.want c.requires.wants c.args.run (known_of (get nat_eq r.consumers c.args.c) k _ at c.requires.run)
+    end_fits r c.args.c c.args.r k at reads c.requires.stands c.args.want c.requires.wants c.args.run (known_of (get nat_eq r.consumers c.args.c) k _ at c.requires.run)
 
 pub read_view-view-requires-clause-there : goal.read_view-view-requires-clause-there
 read_view-view-requires-clause-there g c =
@@ -34,7 +34,7 @@ read_view-view-requires-clause-fits g c =
     let k = c.unwrap.result.now in
     let at = lent c.get.result (get nat_eq r.consumers c.args.c) c.unwrap.result c.get.ensures.value c.unwrap.ensures in
     let reads = known_of (get nat_eq r.consumers c.args.c) k (IsShownAt c.args.r) at c.requires.shown in
-    some_that (get nat_eq r.consumers c.args.c) k (λ j. j.lo + j.given ≤ 2 ^ 62) at (offset_fits r c.args.c c.args.r k at reads c.requires.stands c.requires.small)
+    some_that (get nat_eq r.consumers c.args.c) k (λ j. j.lo + j.given ≤ 2 ^ 62) at (offset_fits r c.args.c c.args.r k at reads c.requires.stands)
 
 pub unwrap-run-requires : goal.unwrap-run-requires
 unwrap-run-requires g c =
@@ -47,7 +47,7 @@ unwrap-run-requires g c =
     let heard = known_of (get nat_eq r.consumers c.args.c) k _ at c.requires.heard in
     let ahead = known_of (get nat_eq r.consumers c.args.c) k _ at c.requires.run in
     let view_is = subst (λ z. ReadViewIs r c.args.r c.args.c z view k) c.end_of.ensures (known_of (get nat_eq r.consumers c.args.c) k _ at c.read_view-view.ensures) in
-    run_there r c.args.c c.args.r k at reads c.requires.stands c.requires.small c.args.want c.requires.wants run ahead heard view view_is c.in-Stored.upto (sym c.read_step.ensures ∙ c.in-Stored.is)
+    run_there r c.args.c c.args.r k at reads c.requires.stands c.args.want c.requires.wants run ahead heard view view_is c.in-Stored.upto (sym c.read_step.ensures ∙ c.in-Stored.is)
 
 pub unwrap-x-requires : goal.unwrap-x-requires
 unwrap-x-requires g c =
@@ -60,7 +60,7 @@ unwrap-x-requires g c =
     let heard = known_of (get nat_eq r.consumers c.args.c) k _ at c.requires.heard in
     let ahead = known_of (get nat_eq r.consumers c.args.c) k _ at c.requires.run in
     let view_is = subst (λ z. ReadViewIs r c.args.r c.args.c z view k) c.end_of.ensures (known_of (get nat_eq r.consumers c.args.c) k _ at c.read_view-view.ensures) in
-    own_there r c.args.c c.args.r k at reads c.requires.stands c.requires.small c.args.want c.requires.wants run ahead heard view view_is (sym c.read_step.ensures ∙ c.in-Held.is)
+    own_there r c.args.c c.args.r k at reads c.requires.stands c.args.want c.requires.wants run ahead heard view view_is (sym c.read_step.ensures ∙ c.in-Held.is)
 
 pub give-requires-clause-fits : goal.give-requires-clause-fits
 give-requires-clause-fits g c =
@@ -73,7 +73,7 @@ give-requires-clause-fits g c =
     let heard = known_of (get nat_eq r.consumers c.args.c) k _ at c.requires.heard in
     let ahead = known_of (get nat_eq r.consumers c.args.c) k _ at c.requires.run in
     let view_is = subst (λ z. ReadViewIs r c.args.r c.args.c z view k) c.end_of.ensures (known_of (get nat_eq r.consumers c.args.c) k _ at c.read_view-view.ensures) in
-    some_that (get nat_eq r.consumers c.args.c) k (λ j. j.given + length c.unwrap-run.result.bytes ≤ 2 ^ 62) at (run_fits r c.args.c c.args.r k at reads c.requires.stands c.requires.small c.args.want c.requires.wants run ahead c.unwrap-run.result c.unwrap-run.ensures)
+    some_that (get nat_eq r.consumers c.args.c) k (λ j. j.given + length c.unwrap-run.result.bytes ≤ 2 ^ 62) at (run_fits r c.args.c c.args.r k at reads c.requires.stands c.args.want c.requires.wants run ahead c.unwrap-run.result c.unwrap-run.ensures)
 
 pub most-count-requires : goal.most-count-requires
 most-count-requires g c =
@@ -86,7 +86,7 @@ most-count-requires g c =
     let heard = known_of (get nat_eq r.consumers c.args.c) k _ at c.requires.heard in
     let ahead = known_of (get nat_eq r.consumers c.args.c) k _ at c.requires.run in
     let view_is = subst (λ z. ReadViewIs r c.args.r c.args.c z view k) c.end_of.ensures (known_of (get nat_eq r.consumers c.args.c) k _ at c.read_view-view.ensures) in
-    let fits = offset_fits r c.args.c c.args.r k at reads c.requires.stands c.requires.small in
+    let fits = offset_fits r c.args.c c.args.r k at reads c.requires.stands in
     let same : view.offset ≡ k.lo + k.given = ap (λ (z : ReadView). z.offset) view_is.is in
     omega (arith, fits, same)
 
@@ -102,7 +102,7 @@ give-requires-in-Held-clause-fits g c =
     let ahead = known_of (get nat_eq r.consumers c.args.c) k _ at c.requires.run in
     let view_is = subst (λ z. ReadViewIs r c.args.r c.args.c z view k) c.end_of.ensures (known_of (get nat_eq r.consumers c.args.c) k _ at c.read_view-view.ensures) in
     let bytes = c.in_ok-bytes-in-Held.bytes in
-    let fits = held_fits r c.args.c c.args.r k at reads c.requires.stands c.requires.small c.args.want c.requires.wants run ahead heard view view_is (sym c.read_step.ensures ∙ c.in-Held.is) c.unwrap-x.result c.most-count.result c.unwrap-x.ensures in
+    let fits = held_fits r c.args.c c.args.r k at reads c.requires.stands c.args.want c.requires.wants run ahead heard view view_is (sym c.read_step.ensures ∙ c.in-Held.is) c.unwrap-x.result c.most-count.result c.unwrap-x.ensures in
     let long : length bytes ≡ length (take c.most-count.result (table_of r.exchanges c.unwrap-x.result).held) = ap length c.in_ok-bytes-in-Held.ensures.bytes in
     some_that (get nat_eq r.consumers c.args.c) k (λ j. j.given + length bytes ≤ 2 ^ 62) at (omega (arith, fits, long))
 
@@ -117,7 +117,7 @@ ask-requires-clause-running g c =
     let heard = known_of (get nat_eq r.consumers c.args.c) k _ at c.requires.heard in
     let ahead = known_of (get nat_eq r.consumers c.args.c) k _ at c.requires.run in
     let view_is = subst (λ z. ReadViewIs r c.args.r c.args.c z view k) c.end_of.ensures (known_of (get nat_eq r.consumers c.args.c) k _ at c.read_view-view.ensures) in
-    source_runs r c.args.c c.args.r k at reads c.requires.stands c.requires.small c.args.want c.requires.wants run ahead heard view view_is c.in-Waits.x (sym c.read_step.ensures ∙ c.in-Waits.is)
+    source_runs r c.args.c c.args.r k at reads c.requires.stands c.args.want c.requires.wants run ahead heard view view_is c.in-Waits.x (sym c.read_step.ensures ∙ c.in-Waits.is)
 
 pub open_later_hole-requires-clause-hole : goal.open_later_hole-requires-clause-hole
 open_later_hole-requires-clause-hole g c =
@@ -130,7 +130,7 @@ open_later_hole-requires-clause-hole g c =
     let heard = known_of (get nat_eq r.consumers c.args.c) k _ at c.requires.heard in
     let ahead = known_of (get nat_eq r.consumers c.args.c) k _ at c.requires.run in
     let view_is = subst (λ z. ReadViewIs r c.args.r c.args.c z view k) c.end_of.ensures (known_of (get nat_eq r.consumers c.args.c) k _ at c.read_view-view.ensures) in
-    hole_within r c.args.c c.args.r k at reads c.requires.stands c.requires.small c.args.want c.requires.wants run ahead heard view view_is c.in-Hole.hole (sym c.read_step.ensures ∙ c.in-Hole.is)
+    hole_within r c.args.c c.args.r k at reads c.requires.stands c.args.want c.requires.wants run ahead heard view view_is c.in-Hole.hole (sym c.read_step.ensures ∙ c.in-Hole.is)
 
 pub returns-in-Ended-clause-answers : goal.returns-in-Ended-clause-answers
 returns-in-Ended-clause-answers g c =
@@ -174,7 +174,7 @@ returns-in-Stored-clause-answers g c =
     let ahead = known_of (get nat_eq r.consumers c.args.c) k _ at c.requires.run in
     let view_is = subst (λ z. ReadViewIs r c.args.r c.args.c z view k) c.end_of.ensures (known_of (get nat_eq r.consumers c.args.c) k _ at c.read_view-view.ensures) in
     let rest = c.give.ensures.rest in
-    λ t facts rows accepted. gives_stored r c.args.c c.args.r k at reads c.give.new.rows (act_list c.args.out.now) (act_list c.give.new.out) c.args.now c.args.want c.requires.wants run ahead heard view view_is rest.received rest.limits rest.last_start rest.keys rest.entries t facts rows
+    λ t facts rows accepted. gives_stored r c.args.c c.args.r k at reads c.give.new.rows (act_list c.args.out.now) (act_list c.give.new.out) c.args.now c.args.want c.requires.wants run ahead heard view view_is rest.limits rest.last_start rest.keys rest.entries t facts rows
     c.in-Stored.upto (sym c.read_step.ensures ∙ c.in-Stored.is) c.unwrap-run.result c.unwrap-run.ensures c.give.ensures.acts c.give.ensures.exchanges c.give.ensures.consumers
 
 pub returns-in_ok-bytes-in-Held-clause-answers : goal.returns-in_ok-bytes-in-Held-clause-answers
@@ -190,7 +190,7 @@ returns-in_ok-bytes-in-Held-clause-answers g c =
     let view_is = subst (λ z. ReadViewIs r c.args.r c.args.c z view k) c.end_of.ensures (known_of (get nat_eq r.consumers c.args.c) k _ at c.read_view-view.ensures) in
     let give = c.give-in-Held.ensures in
     let rest = give.rest in
-    λ t facts rows accepted. gives_held r c.args.c c.args.r k at reads c.give-in-Held.new.rows (act_list c.args.out.now) (act_list c.give-in-Held.new.out) c.args.now c.args.want c.requires.wants run ahead heard view view_is rest.received rest.limits rest.last_start rest.keys rest.entries t facts rows
+    λ t facts rows accepted. gives_held r c.args.c c.args.r k at reads c.give-in-Held.new.rows (act_list c.args.out.now) (act_list c.give-in-Held.new.out) c.args.now c.args.want c.requires.wants run ahead heard view view_is rest.limits rest.last_start rest.keys rest.entries t facts rows
     (sym c.read_step.ensures ∙ c.in-Held.is) c.unwrap-x.result view.offset c.most-count.result c.in_ok-bytes-in-Held.bytes c.unwrap-x.ensures refl c.most-count.ensures c.in_ok-bytes-in-Held.ensures.bytes give.acts (rw give.exchanges c.in_ok-bytes-in-Held.ensures.ok) give.consumers
 
 pub returns-in-Waits-clause-answers : goal.returns-in-Waits-clause-answers
@@ -205,7 +205,7 @@ returns-in-Waits-clause-answers g c =
     let ahead = known_of (get nat_eq r.consumers c.args.c) k _ at c.requires.run in
     let view_is = subst (λ z. ReadViewIs r c.args.r c.args.c z view k) c.end_of.ensures (known_of (get nat_eq r.consumers c.args.c) k _ at c.read_view-view.ensures) in
     let rest = c.ask.ensures.rest in
-    λ t facts rows accepted. asks_for r c.args.c c.args.r k at reads c.ask.new.rows (act_list c.args.out.now) (act_list c.ask.new.out) c.args.now c.args.want c.requires.wants run ahead heard view view_is rest.received rest.limits rest.last_start rest.keys rest.entries t facts rows
+    λ t facts rows accepted. asks_for r c.args.c c.args.r k at reads c.ask.new.rows (act_list c.args.out.now) (act_list c.ask.new.out) c.args.now c.args.want c.requires.wants run ahead heard view view_is rest.limits rest.last_start rest.keys rest.entries t facts rows
     c.in-Waits.x (sym c.read_step.ensures ∙ c.in-Waits.is) c.ask.ensures.consumers c.ask.ensures.asked c.ask.ensures.acts
 
 pub returns-in-Hole-clause-answers : goal.returns-in-Hole-clause-answers

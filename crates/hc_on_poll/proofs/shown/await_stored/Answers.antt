@@ -30,10 +30,10 @@ head-requires g c =
     bound_kept r t law c.args.c c.args.r c.args.by k s.rows (bound_row_of r t law c.args.c c.args.r unshown.0.0 unshown.0.1 c.args.by k s.rows at unshown.0.2))
 
 pub show_stored-requires-clause-stands : goal.show_stored-requires-clause-stands
-show_stored-requires-clause-stands g c = ∥∥₁_map c.requires.stands (λ s. some_read c.args.rows.now _ refl refl refl refl refl refl c.head.ensures.same s)
+show_stored-requires-clause-stands g c = ∥∥₁_map c.requires.stands (λ s. some_read c.args.rows.now _ refl refl refl refl refl c.head.ensures.same s)
 
 pub misread_by-requires-clause-stands : goal.misread_by-requires-clause-stands
-misread_by-requires-clause-stands g c = ∥∥₁_map c.requires.stands (λ s. some_read c.args.rows.now _ refl refl refl refl refl refl c.head.ensures.same s)
+misread_by-requires-clause-stands g c = ∥∥₁_map c.requires.stands (λ s. some_read c.args.rows.now _ refl refl refl refl refl c.head.ensures.same s)
 
 pub misread_by-requires-clause-live : goal.misread_by-requires-clause-live
 misread_by-requires-clause-live g c = let (k, at, unshown) = there (get nat_eq c.args.rows.now.consumers c.args.c) (IsUnshownBy c.args.r c.args.by) c.requires.unshown in ap (λ o. is_some o) at

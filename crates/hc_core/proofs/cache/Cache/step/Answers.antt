@@ -1,32 +1,34 @@
-use Rattle.std.proofs.Common.{refl, arith}
+use Rattle.std.proofs.Common.{ℕ, ◌+◌, refl, sym, subst, arith}
 use Rattle.std.proofs.Math.Logic.{∥∥₁_map}
 use Rattle.hc_event.specs.Acts.{act_list}
 use Rattle.hc_rules.specs.Refusals.{refusal_of}
+use Rattle.hc_state.specs.Good.{StandsAt}
 use Rattle.hc_state.specs.Stands.{gate_of}
 use Rattle.hc_state.proofs.Words.{is_there}
 use Rattle.hc_core.proofs.Opened.{next_after}
-use Rattle.hc_core.proofs.Stepping.{small_part, until_at, some_after, small_starts, steps_on, keeps_promises}
+use Rattle.hc_core.proofs.Stepping.{small_part, fewer, until_at, some_after, small_starts, steps_on, keeps_promises}
 use Rattle.hc_core.proofs.cache.Cache.step.Goals as goal
 
 pub answer-requires-clause-stands : goal.answer-requires-clause-stands
 answer-requires-clause-stands g c =
     let good = c.args.self.now.good c.if-self.false in
     let later = c.requires.later in
-    ∥∥₁_map good.0 (λ at. (at.0, (let before = at.1 in omega (arith, before, later))))
+    let small = small_part _ c.requires.small in
+    ∥∥₁_map good.0 (λ at. (fewer at.0 (omega (arith, small)), (let before = at.1 in omega (arith, before, later))))
 
 pub invariant_of-self-2 : goal.invariant_of-self-2
 invariant_of-self-2 g c =
     let good = c.args.self.now.good c.if-self.false in
     let few = good.1 in
-    let some = ∥∥₁_map good.0 (until_at c.args.self.now.rows c.args.self.now.last_moment) in
+    let some = ∥∥₁_map good.0 (until_at c.args.self.now.rows c.args.self.now.received c.args.self.now.last_moment) in
     let done = c.in_ok-answer.ensures in
-    let next = next_after c.args.self.now.rows c.answer.new.rows (act_list c.args.out.now) (act_list c.answer.new.out) c.args.now c.args.event.now done.denied done.accepted (small_part _ c.requires.small) c.args.self.now.last_moment some in
+    let next = next_after c.args.self.now.rows c.answer.new.rows (act_list c.args.out.now) (act_list c.answer.new.out) c.args.now c.args.event.now done.denied done.accepted c.args.self.now.received (small_part _ c.requires.small) c.args.self.now.last_moment some in
     record {
       good = λ _. (
-        ∥∥₁_map some (some_after c.args.self.now.rows c.answer.new.rows c.args.now c.args.event.now (act_list c.args.out.now) (act_list c.answer.new.out) done.denied done.accepted done.limits done.faults (small_part _ c.requires.small) done.received c.requires.within_limits c.args.self.now.last_moment c.requires.later),
+        subst (λ (n : ℕ). ∥ StandsAt c.answer.new.rows (c.args.self.now.received + n) c.args.now ∥₁) (sym c.received_in.ensures) (∥∥₁_map some (some_after c.args.self.now.rows c.answer.new.rows c.args.now c.args.event.now (act_list c.args.out.now) (act_list c.answer.new.out) done.denied done.accepted done.limits done.faults c.args.self.now.received (small_part _ c.requires.small) c.requires.within_limits c.args.self.now.last_moment c.requires.later)),
         omega (arith, few, next),
         c.requires.early,
-        small_starts c.args.self.now.rows c.answer.new.rows c.args.now c.args.event.now (act_list c.args.out.now) (act_list c.answer.new.out) done.denied done.accepted done.limits done.faults (small_part _ c.requires.small) done.received c.requires.within_limits c.args.self.now.last_moment c.requires.later some good.3,
+        small_starts c.args.self.now.rows c.answer.new.rows c.args.now c.args.event.now (act_list c.args.out.now) (act_list c.answer.new.out) done.denied done.accepted done.limits done.faults c.args.self.now.received (small_part _ c.requires.small) c.requires.within_limits c.args.self.now.last_moment c.requires.later some good.3,
       );
     }
 
@@ -34,7 +36,7 @@ pub returns-clause-answered : goal.returns-clause-answered
 returns-clause-answered g c =
     let good = c.args.self.now.good c.if-self.false in
     let done = c.in_ok-answer.ensures in
-    steps_on c.args.self.now _ c.args.now c.args.event.now (act_list c.args.out.now) (act_list c.answer.new.out) done.denied done.accepted c.requires.later refl done.limits done.faults (small_part _ c.requires.small) done.received (∥∥₁_map good.0 (until_at c.args.self.now.rows c.args.self.now.last_moment)) refl
+    steps_on c.args.self.now _ c.args.now c.args.event.now (act_list c.args.out.now) (act_list c.answer.new.out) done.denied done.accepted c.requires.later refl done.limits done.faults (small_part _ c.requires.small) (∥∥₁_map good.0 (until_at c.args.self.now.rows c.args.self.now.received c.args.self.now.last_moment)) refl
 
 pub returns-clause-denied : goal.returns-clause-denied
 returns-clause-denied g c = λ some.

@@ -43,6 +43,3 @@ pub returns-clause-serves : goal.returns-clause-serves
 returns-clause-serves g c =
     let may = subst (λ (l : Limits). may_begin l (plain_contents c.args.contents.now) ≡ true) (sym (c.begin_with.ensures.limits ∙ c.in-Ok.ensures.limits)) (may_by _ _ c.in_default.ensures.none) in
     serves_all _ (plain_contents c.args.contents.now) refl may c.in_default-begin_with.ensures.ok
-
-pub returns-clause-unused : goal.returns-clause-unused
-returns-clause-unused g c = (let after = c.begin_with.ensures.received in let before = c.in-Ok.ensures.received in omega (arith, after, before))

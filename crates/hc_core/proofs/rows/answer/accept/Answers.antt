@@ -1,4 +1,4 @@
-use Rattle.std.proofs.Common.{◌≡◌, ◌≤◌, ap, ◌∙◌, length, arith}
+use Rattle.std.proofs.Common.{◌≡◌, ◌<◌, ◌≤◌, ◌-◌, ◌^◌, ap, ◌∙◌, length, arith}
 use Rattle.std.proofs.Math.Logic.{∥∥₁_map}
 use Rattle.hc_event.specs.declared.event.Event.TheVariants as event
 use Rattle.hc_rules.specs.Refusals.{piece_refusal}
@@ -6,9 +6,11 @@ use Rattle.hc_state.specs.Stands.{gate_of, open_at}
 use Rattle.hc_on_poll.proofs.Accepted.{start_ascends, poll_lives, poll_wants, cancel_lives, head_free, piece_free, end_free, fault_free}
 use Rattle.hc_state.proofs.Kept.{few_kept}
 use Rattle.hc_core.proofs.Standing.{stands_of_runs, stands_by}
-use Rattle.hc_core.proofs.Stepping.{small_part}
 use Rattle.hc_core.proofs.Timely.{timely}
 use Rattle.hc_core.proofs.rows.answer.accept.Goals as goal
+
+few_bytes : 2 ^ 61 - 1 < 2 ^ 61
+few_bytes = omega arith
 
 pub start-requires-clause-ascending : goal.start-requires-clause-ascending
 start-requires-clause-ascending g c = start_ascends (gate_of c.args.rows.now (event.Start c.in-Start.c c.in-Start.request)) c.in-Start.c c.in-Start.request (rw c.in-Start.is at c.requires.accepted)
@@ -37,31 +39,31 @@ pub cancel-requires-clause-live : goal.cancel-requires-clause-live
 cancel-requires-clause-live g c = cancel_lives (gate_of c.args.rows.now (event.Cancel c.in-Cancel.c)) c.in-Cancel.c (rw c.in-Cancel.is at c.requires.accepted)
 
 pub take_doom-requires-clause-room : goal.take_doom-requires-clause-room
-take_doom-requires-clause-room g c = let few = few_kept c.args.rows.now (∥∥₁_map c.requires.stands (λ until. stands_of_runs c.args.rows.now (small_part _ c.requires.small) until.0)) in omega (arith, few)
+take_doom-requires-clause-room g c = let few = few_kept c.args.rows.now (∥∥₁_map c.requires.stands (λ until. stands_of_runs c.args.rows.now _ few_bytes until.0)) in omega (arith, few)
 
 pub start-requires-clause-stands : goal.start-requires-clause-stands
-start-requires-clause-stands g c = ∥∥₁_map c.requires.stands (λ until. stands_of_runs c.args.rows.now (small_part _ c.requires.small) until.0)
+start-requires-clause-stands g c = ∥∥₁_map c.requires.stands (λ until. stands_of_runs c.args.rows.now _ few_bytes until.0)
 
 pub take_head-requires-clause-stands : goal.take_head-requires-clause-stands
-take_head-requires-clause-stands g c = ∥∥₁_map c.requires.stands (λ until. stands_of_runs c.args.rows.now (small_part _ c.requires.small) until.0)
+take_head-requires-clause-stands g c = ∥∥₁_map c.requires.stands (λ until. stands_of_runs c.args.rows.now _ few_bytes until.0)
 
 pub take_piece-requires-clause-stands : goal.take_piece-requires-clause-stands
-take_piece-requires-clause-stands g c = ∥∥₁_map c.requires.stands (λ until. stands_of_runs c.args.rows.now (small_part _ c.requires.small) until.0)
+take_piece-requires-clause-stands g c = ∥∥₁_map c.requires.stands (λ until. stands_of_runs c.args.rows.now _ few_bytes until.0)
 
 pub end-requires-clause-stands : goal.end-requires-clause-stands
-end-requires-clause-stands g c = ∥∥₁_map c.requires.stands (λ until. stands_of_runs c.args.rows.now (small_part _ c.requires.small) until.0)
+end-requires-clause-stands g c = ∥∥₁_map c.requires.stands (λ until. stands_of_runs c.args.rows.now _ few_bytes until.0)
 
 pub fault-requires-clause-stands : goal.fault-requires-clause-stands
-fault-requires-clause-stands g c = ∥∥₁_map c.requires.stands (λ until. stands_of_runs c.args.rows.now (small_part _ c.requires.small) until.0)
+fault-requires-clause-stands g c = ∥∥₁_map c.requires.stands (λ until. stands_of_runs c.args.rows.now _ few_bytes until.0)
 
 pub cancel-requires-clause-stands : goal.cancel-requires-clause-stands
-cancel-requires-clause-stands g c = ∥∥₁_map c.requires.stands (λ until. stands_of_runs c.args.rows.now (small_part _ c.requires.small) until.0)
+cancel-requires-clause-stands g c = ∥∥₁_map c.requires.stands (λ until. stands_of_runs c.args.rows.now _ few_bytes until.0)
 
 pub take_doom-requires-clause-stands : goal.take_doom-requires-clause-stands
-take_doom-requires-clause-stands g c = ∥∥₁_map c.requires.stands (λ until. stands_of_runs c.args.rows.now (small_part _ c.requires.small) until.0)
+take_doom-requires-clause-stands g c = ∥∥₁_map c.requires.stands (λ until. stands_of_runs c.args.rows.now _ few_bytes until.0)
 
 pub take_head-requires-clause-timely : goal.take_head-requires-clause-timely
-take_head-requires-clause-timely g c = timely c.args.rows.now c.in-Head.x c.args.now c.requires.early c.requires.stands
+take_head-requires-clause-timely g c = timely c.args.rows.now _ c.in-Head.x c.args.now c.requires.early c.requires.stands
 
 pub take_piece-requires-clause-short : goal.take_piece-requires-clause-short
 take_piece-requires-clause-short g c =
@@ -70,4 +72,4 @@ take_piece-requires-clause-short g c =
     omega (arith, count, small)
 
 pub poll-requires-clause-stands : goal.poll-requires-clause-stands
-poll-requires-clause-stands g c = ∥∥₁_map c.requires.stands (stands_by c.args.rows.now c.args.now (small_part _ c.requires.small))
+poll-requires-clause-stands g c = ∥∥₁_map c.requires.stands (stands_by c.args.rows.now _ c.args.now few_bytes)

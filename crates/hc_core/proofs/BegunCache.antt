@@ -3,6 +3,7 @@ use Rattle.std.proofs.Common.{◌≡◌, inl, inr, ◌+◌, ◌≤◌, ◌<◌, 
 use Rattle.std.specs.Prelude.{find, nat_lt, ◌==◌}
 use Rattle.std.proofs.lemmas.Bool.{cases_Bool}
 use Rattle.std.proofs.lemmas.Bool.Decides.{nat_tests}
+use Rattle.hc_stored.specs.Entries.{shelf_of}
 use Rattle.hc_store.specs.declared.backend.Backend.{Ghosts}
 use Rattle.hc_rules.specs.declared.room.Limits.{Limits}
 use Rattle.hc_exch.specs.Exchanges.{next_of}
@@ -39,7 +40,7 @@ short_told contents r n item found total = by_items contents.items found
       | inr other ↦ by_items xs (rw other at found)
     ]
 
-pub stands_begun_with : {B : Type 0} {g : Ghosts B} (s : Cache B g) (contents : coded_all.Contents) → s.last_moment ≡ contents.now → may_begin s.rows.limits (plain_contents contents) ≡ true → RowsStand s.rows (first_tables (plain_contents contents)) → StandsFor s (plain_contents contents) []
+pub stands_begun_with : {B : Type 0} {g : Ghosts B} (s : Cache B g) (contents : coded_all.Contents) → s.last_moment ≡ contents.now → may_begin (shelf_of s.rows.entries).limits (plain_contents contents) ≡ true → RowsStand (shelf_of s.rows.entries).limits s.rows (first_tables (plain_contents contents)) → StandsFor s (plain_contents contents) []
 unfolding tables
 stands_begun_with s contents moment may rows = record {
   begins = may;
@@ -49,12 +50,12 @@ stands_begun_with s contents moment may rows = record {
   rows = rows;
 }
 
-pub good_begun_with : {B : Type 0} {g : Ghosts B} (r : Rows B g) (contents : coded_all.Contents) → may_begin r.limits (plain_contents contents) ≡ true → RowsStand r (first_tables (plain_contents contents)) → StandsAt r 0 contents.now
+pub good_begun_with : {B : Type 0} {g : Ghosts B} (r : Rows B g) (contents : coded_all.Contents) → may_begin (shelf_of r.entries).limits (plain_contents contents) ≡ true → RowsStand (shelf_of r.entries).limits r (first_tables (plain_contents contents)) → StandsAt r 0 contents.now
 unfolding tables
 good_begun_with r contents may rows = (record { contents = plain_contents contents; h = []; begins = may; short = short_told contents; within_limits = tt; starts = tt; run = tt; received = none_received 0; rows = rows }, refl)
 
-pub next_begun_with : {B : Type 0} {g : Ghosts B} (r : Rows B g) (contents : coded_all.Contents) → may_begin r.limits (plain_contents contents) ≡ true → RowsStand r (first_tables (plain_contents contents)) → next_of r.exchanges ≤ 2 ^ 60 + 0
-next_begun_with r contents may rows = let fits = next_fits r.limits (plain_contents contents) may in let next = rows.next in omega (arith, fits, next)
+pub next_begun_with : {B : Type 0} {g : Ghosts B} (r : Rows B g) (contents : coded_all.Contents) → may_begin (shelf_of r.entries).limits (plain_contents contents) ≡ true → RowsStand (shelf_of r.entries).limits r (first_tables (plain_contents contents)) → next_of r.exchanges ≤ 2 ^ 60 + 0
+next_begun_with r contents may rows = let fits = next_fits (shelf_of r.entries).limits (plain_contents contents) may in let next = rows.next in omega (arith, fits, next)
 
 -- the moment and the number of who started last are below 2 ^ 62
 pub numbers_fit : (limits : Limits) (contents : Contents) → may_begin limits contents ≡ true → (contents.now < 2 ^ 62) × (contents.last_consumer < 2 ^ 62)
@@ -65,5 +66,5 @@ numbers_fit limits contents may =
     let now : nat_lt contents.now (2 ^ 62) ≡ true = and_right _ _ (and_left _ _ upto_consumer) in
     (grind (arith, nat_tests, now), grind (arith, nat_tests, consumer))
 
-pub small_begun_with : {B : Type 0} {g : Ghosts B} (r : Rows B g) (contents : coded_all.Contents) → may_begin r.limits (plain_contents contents) ≡ true → RowsStand r (first_tables (plain_contents contents)) → r.last_start < 2 ^ 62
-small_begun_with r contents may rows = subst (λ n. n < 2 ^ 62) (sym rows.last_start) (numbers_fit r.limits (plain_contents contents) may).1
+pub small_begun_with : {B : Type 0} {g : Ghosts B} (r : Rows B g) (contents : coded_all.Contents) → may_begin (shelf_of r.entries).limits (plain_contents contents) ≡ true → RowsStand (shelf_of r.entries).limits r (first_tables (plain_contents contents)) → r.last_start < 2 ^ 62
+small_begun_with r contents may rows = subst (λ n. n < 2 ^ 62) (sym rows.last_start) (numbers_fit (shelf_of r.entries).limits (plain_contents contents) may).1

@@ -287,15 +287,14 @@ fit_ends item right short = by_total item.head.total right short
 
 -- so many items are kept
 pub record AreKept {B : Type 0} {g : Ghosts B} (a u : Rows B g) (contents : Contents) (i : ℕ) : Type 0 where
-  pub stands : RowsStand u (first_tables (with_items (take i contents.items) contents))
+  pub stands : RowsStand (shelf_of u.entries).limits u (first_tables (with_items (take i contents.items) contents))
   pub used : (shelf_of u.entries).used ≡ weights_of (take i contents.items)
-  pub limits : u.limits ≡ a.limits
   pub bounds : (shelf_of u.entries).limits ≡ (shelf_of a.entries).limits
   pub faults : (shelf_of u.entries).faults ≡ (shelf_of a.entries).faults
 
 module _ {B : Type 0} {g : Ghosts B} (r : Rows B g) (contents : Contents) where
   -- what has no number there isn't kept
-  pub unkept : (items : List Content) (n : ℕ) → RowsStand r (first_tables (with_items items contents)) → find (λ (o : Content). o.r == n) items ≡ None → (shelf_of r.entries).kept n ≡ None
+  pub unkept : (items : List Content) (n : ℕ) → RowsStand (shelf_of r.entries).limits r (first_tables (with_items items contents)) → find (λ (o : Content). o.r == n) items ≡ None → (shelf_of r.entries).kept n ≡ None
   unkept items n stands none = by_row ((shelf_of r.entries).kept n) (option_map representation_of_content (find (λ (o : Content). o.r == n) items)) (ap (option_map representation_of_content) none) (stands.entries.each n)
     where
       by_row : (k : Option Kept) (z : Option Representation) → z ≡ None → KeepsEntry (first_tables (with_items items contents)) n k z → k ≡ None
@@ -303,11 +302,11 @@ module _ {B : Type 0} {g : Ghosts B} (r : Rows B g) (contents : Contents) where
       by_row (Some k) None off e = absurd e
       by_row (Some k) (Some v) off e = none_some v (sym off)
 
-  pub none_kept : RowsStand r (first_tables (with_items [] contents)) → (shelf_of r.entries).used ≡ 0 → AreKept r r contents 0
-  none_kept stands used = record { stands = stands; used = used; limits = refl; bounds = refl; faults = refl }
+  pub none_kept : RowsStand (shelf_of r.entries).limits r (first_tables (with_items [] contents)) → (shelf_of r.entries).used ≡ 0 → AreKept r r contents 0
+  none_kept stands used = record { stands = stands; used = used; bounds = refl; faults = refl }
 
-  pub all_kept : (u : Rows B g) (i : ℕ) → length contents.items ≤ i → AreKept r u contents i → RowsStand u (first_tables contents)
-  all_kept u i le k = subst (λ (zs : List Content). RowsStand u (first_tables (with_items zs contents))) (take_all i contents.items le) k.stands
+  pub all_kept : (u : Rows B g) (i : ℕ) → length contents.items ≤ i → AreKept r u contents i → RowsStand (shelf_of u.entries).limits u (first_tables contents)
+  all_kept u i le k = subst (λ (zs : List Content). RowsStand (shelf_of u.entries).limits u (first_tables (with_items zs contents))) (take_all i contents.items le) k.stands
 
 told_at : (items : List coded.Content) (i : ℕ) (item : coded.Content) → i < length items → item ≡ get_or items i item → plain_item item ≡ get_or (map plain_item items) i (plain_item item)
 told_at [] i item lt is = absurd (let none : i < 0 = lt in omega arith)
@@ -331,18 +330,18 @@ next_fits limits contents may =
 
 -- what the item at a place needs, and what it leaves
 module _ {B : Type 0} {g : Ghosts B} (a r : Rows B g) (contents : coded_all.Contents) (i : ℕ) (item : coded.Content) (lt : i < length contents.items) (is : item ≡ get_or contents.items i item)
-    (may : may_begin a.limits (plain_contents contents) ≡ true) (kept : AreKept a r (plain_contents contents) i) where
+    (may : may_begin (shelf_of a.entries).limits (plain_contents contents) ≡ true) (kept : AreKept a r (plain_contents contents) i) where
   abbrev place : i < length (map plain_item contents.items)
   place = longer contents.items i lt
 
   abbrev at : plain_item item ≡ get_or (map plain_item contents.items) i (plain_item item)
   at = told_at contents.items i item lt is
 
-  abbrev good : are_good a.limits (plain_contents contents) [] (map plain_item contents.items) ≡ true
-  good = good_of a.limits (plain_contents contents) may
+  abbrev good : are_good (shelf_of a.entries).limits (plain_contents contents) [] (map plain_item contents.items) ≡ true
+  good = good_of (shelf_of a.entries).limits (plain_contents contents) may
 
-  pub item_fits : IsFit a.limits (take i (map plain_item contents.items)) (plain_item item)
-  item_fits = is_fit a.limits (plain_contents contents) good i (plain_item item) place at
+  pub item_fits : IsFit (shelf_of a.entries).limits (take i (map plain_item contents.items)) (plain_item item)
+  item_fits = is_fit (shelf_of a.entries).limits (plain_contents contents) good i (plain_item item) place at
 
   pub item_new : (shelf_of r.entries).kept item.r ≡ None
   item_new = unkept r (plain_contents contents) (take i (map plain_item contents.items)) item.r kept.stands item_fits.new
@@ -350,8 +349,8 @@ module _ {B : Type 0} {g : Ghosts B} (a r : Rows B g) (contents : coded_all.Cont
   pub item_ends : last_end item.runs ≤ 2 ^ 62
   item_ends = fit_ends (plain_item item) item_fits.right item.head.own.small_total
 
-  bounds_are : (shelf_of r.entries).limits ≡ a.limits
-  bounds_are = kept.stands.limits ∙ kept.limits
+  bounds_are : (shelf_of r.entries).limits ≡ (shelf_of a.entries).limits
+  bounds_are = kept.bounds
 
   pub item_small : bytes_in item.runs ≤ (shelf_of r.entries).limits.max_entry
   item_small = subst (λ (l : Limits). bytes_in item.runs ≤ l.max_entry) (sym bounds_are) item_fits.small
@@ -359,15 +358,14 @@ module _ {B : Type 0} {g : Ghosts B} (a r : Rows B g) (contents : coded_all.Cont
   pub item_light : (shelf_of r.entries).used + weight_of (bytes_in item.runs) ≤ (shelf_of r.entries).limits.max_total
   item_light =
       subst (λ (l : Limits). (shelf_of r.entries).used + weight_of (bytes_in item.runs) ≤ l.max_total) (sym bounds_are)
-      (subst (λ (n : ℕ). n + weight_of (bytes_in item.runs) ≤ a.limits.max_total) (sym kept.used) (light a.limits (plain_contents contents) good i (plain_item item) place at (weight_fits a.limits (plain_contents contents) may)))
+      (subst (λ (n : ℕ). n + weight_of (bytes_in item.runs) ≤ (shelf_of a.entries).limits.max_total) (sym kept.used) (light (shelf_of a.entries).limits (plain_contents contents) good i (plain_item item) place at (weight_fits (shelf_of a.entries).limits (plain_contents contents) may)))
 
   pub one_more_kept : (u : Rows B g) → KeepsItem r u (plain_item item) → (shelf_of u.entries).used ≡ (shelf_of r.entries).used + weight_of (bytes_in item.runs) → (shelf_of u.entries).faults ≡ (shelf_of r.entries).faults → AreKept a u (plain_contents contents) (i + 1)
   one_more_kept u keeps used faults = record {
     stands =
-        subst (λ (zs : List Content). RowsStand u (first_tables (with_items zs (plain_contents contents)))) (sym (items_more a.limits (plain_contents contents) good i (plain_item item) place at))
+        subst (λ (zs : List Content). RowsStand (shelf_of u.entries).limits u (first_tables (with_items zs (plain_contents contents)))) (sym (items_more (shelf_of a.entries).limits (plain_contents contents) good i (plain_item item) place at))
         (stands_more r u (plain_contents contents) (take i (map plain_item contents.items)) (plain_item item) item_fits.ascending item_fits.right item_fits.new keeps kept.stands);
-    used = used ∙ (ap (λ (n : ℕ). n + weight_of (bytes_in item.runs)) kept.used ∙ sym (weights_more a.limits (plain_contents contents) good i (plain_item item) place at));
-    limits = keeps.limits ∙ kept.limits;
+    used = used ∙ (ap (λ (n : ℕ). n + weight_of (bytes_in item.runs)) kept.used ∙ sym (weights_more (shelf_of a.entries).limits (plain_contents contents) good i (plain_item item) place at));
     bounds = keeps.entries.limits ∙ kept.bounds;
     faults = faults ∙ kept.faults;
   }

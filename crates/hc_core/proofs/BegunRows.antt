@@ -41,10 +41,10 @@ use Rattle.hc_core.specs.Begins.{with_items, kept_item, KeepsItem}
 
 pub stands_before : {B : Type 0} {g : Ghosts B} (r : Rows B g) (contents : Contents) → r.last_start ≡ contents.last_consumer → next_of r.exchanges ≡ contents.next_exchange → 0 < contents.next_exchange → hash_map_len r.consumers ≡ 0
     → ((c : ℕ) → get nat_eq r.consumers c ≡ None) → ((x : ℕ) → table_of r.exchanges x ≡ unknown) → ((key : List ℕ) → kept_of r.keys key ≡ nothing) → ((q : ℕ) → (shelf_of r.entries).kept q ≡ None) → (shelf_of r.entries).order ≡ []
-    → (shelf_of r.entries).limits ≡ r.limits → RowsStand r (first_tables (with_items [] contents))
+    → RowsStand (shelf_of r.entries).limits r (first_tables (with_items [] contents))
 unfolding current
-stands_before r contents last next some count none unopened unawaited unkept order limits = record {
-  limits = limits;
+stands_before r contents last next some count none unopened unawaited unkept order = record {
+  limits = refl;
   entries = record { each = λ q. rw (unkept q) tt; order = order };
   last_start = last;
   next = omega (arith, next);
@@ -97,7 +97,7 @@ or_none (Some a) = refl
 -- ONE MORE
 
 module _ {B : Type 0} {g : Ghosts B} (r u : Rows B g) (contents : Contents) (items : List Content) (item : Content) (ascends : ascend_from 0 0 item.runs ≡ true) (right : is_kind_right item item.head.total ≡ true)
-    (new : find (λ (other : Content). other.r == item.r) items ≡ None) (keeps : KeepsItem r u item) (stands : RowsStand r (first_tables (with_items items contents))) where
+    (new : find (λ (other : Content). other.r == item.r) items ≡ None) (keeps : KeepsItem r u item) (stands : RowsStand (shelf_of r.entries).limits r (first_tables (with_items items contents))) where
   abbrev more : List Content
   more = items ++ item ∷ []
 
@@ -221,9 +221,9 @@ module _ {B : Type 0} {g : Ghosts B} (r u : Rows B g) (contents : Contents) (ite
       by_key false is = let k = stands.keys key in record { current = k.current ∙ sym is; in_line = k.in_line; passed = k.passed; away = k.away; holder = k.holder }
 
   -- One item more is kept.
-  pub stands_more : RowsStand u (first_tables (with_items (items ++ item ∷ []) contents))
+  pub stands_more : RowsStand (shelf_of u.entries).limits u (first_tables (with_items (items ++ item ∷ []) contents))
   stands_more = record {
-    limits = keeps.entries.limits ∙ (stands.limits ∙ sym keeps.limits);
+    limits = refl;
     last_start = keeps.last_start ∙ stands.last_start;
     next = ap next_of keeps.exchanges ∙ stands.next;
     count = ap hash_map_len keeps.consumers ∙ stands.count;

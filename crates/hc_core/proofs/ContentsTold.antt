@@ -11,6 +11,7 @@ use Rattle.hc_stored.specs.Shelf as shelves
 use Rattle.hc_stored.specs.Shelf.{Shelf, Stays, idle, cells_at, cells_in}
 use Rattle.hc_stored.specs.Views.{key_in}
 use Rattle.hc_model.specs.Beginnings.{may_begin}
+use Rattle.hc_model.specs.Runs.{IsRun}
 use Rattle.hc_model.specs.Contents.{content_of, content_at, contents_of, idle_now, is_idle, runs_from}
 use Rattle.hc_model.specs.Currents.{current, is_current}
 use Rattle.hc_model.specs.Entries.{Content, Contents, History}
@@ -101,7 +102,7 @@ module _ (t : Tables) (s : Shelf) (q : ℕ) (k : Kept) (v : Representation) (ite
 
 -- ALL
 
-module _ {B : Type 0} {g : Ghosts B} (r : Rows B g) (t : Tables) (law : Lawful t) (stands : RowsStand r t) where
+module _ {B : Type 0} {g : Ghosts B} (r : Rows B g) (t : Tables) (law : Lawful t) (stands : RowsStand (shelf_of r.entries).limits r t) where
   abbrev shelf : Shelf
   shelf = shelf_of r.entries
 
@@ -142,7 +143,7 @@ pub contents_told : {B : Type 0} {g : Ghosts B} (s : Cache B g) (found : coded_a
 unfolding contents_of
 contents_told s found moment last next tells contents h stands =
     let t = tables contents h in
-    let law = law_of_runs s.rows.limits contents h stands.begins stands.run in
+    let law = law_of_runs (shelf_of s.rows.entries).limits contents h stands.begins stands.run in
     λ i. record {
       now = (moment ∙ stands.moment) i;
       last_consumer = (last ∙ stands.rows.last_start) i;
@@ -152,9 +153,9 @@ contents_told s found moment last next tells contents h stands =
 
 -- a cache may begin with what a good one tells
 pub may_again : {B : Type 0} {g : Ghosts B} (s : Cache B g) (found : coded_all.Contents) → found.now ≡ s.last_moment → found.last_consumer ≡ s.rows.last_start → found.next_exchange ≡ next_of s.rows.exchanges
-    → TellsAll (shelf_of s.rows.entries) (idle (shelf_of s.rows.entries)) (map plain_item found.items) → IsGood s.rows s.received s.last_moment s.steps → found.next_exchange ≤ 2 ^ 60 → may_begin s.rows.limits (plain_contents found) ≡ true
+    → TellsAll (shelf_of s.rows.entries) (idle (shelf_of s.rows.entries)) (map plain_item found.items) → IsGood s.rows s.received s.last_moment s.steps → found.next_exchange ≤ 2 ^ 60 → may_begin (shelf_of s.rows.entries).limits (plain_contents found) ≡ true
 may_again s found moment last next tells good few =
-    merely_true (may_begin s.rows.limits (plain_contents found)) good.0 (λ at.
+    merely_true (may_begin (shelf_of s.rows.entries).limits (plain_contents found)) good.0 (λ at.
     let some = at.0 in
     let t = tables some.contents some.h in
     let stands : StandsFor s some.contents some.h = record { begins = some.begins; short = some.short; run = some.run; moment = sym at.1; rows = some.rows } in
@@ -164,18 +165,18 @@ may_again s found moment last next tells good few =
       consumers = subst (λ n. n < 2 ^ 62) some.rows.last_start good.3;
       exchanges = omega (arith, few, next, opened);
     } in
-    ap (may_begin s.rows.limits) (contents_told s found moment last next tells some.contents some.h stands)
-    ∙ leaves_good s.rows.limits some.contents some.begins some.h some.run (heads_come_within_limits some.h some.within_limits) some.starts in_limits)
+    ap (may_begin (shelf_of s.rows.entries).limits) (contents_told s found moment last next tells some.contents some.h stands)
+    ∙ leaves_good (shelf_of s.rows.entries).limits some.contents some.begins some.h some.run (heads_come_within_limits some.h some.within_limits) some.starts in_limits)
 
 -- the cache stands for the same where what is kept stays
-pub stands_still : {B : Type 0} {g : Ghosts B} (s u : Cache B g) → u.last_moment ≡ s.last_moment → u.rows.limits ≡ s.rows.limits → u.rows.last_start ≡ s.rows.last_start → u.rows.consumers ≡ s.rows.consumers → u.rows.exchanges ≡ s.rows.exchanges → u.rows.keys ≡ s.rows.keys
+pub stands_still : {B : Type 0} {g : Ghosts B} (s u : Cache B g) → u.last_moment ≡ s.last_moment → u.rows.last_start ≡ s.rows.last_start → u.rows.consumers ≡ s.rows.consumers → u.rows.exchanges ≡ s.rows.exchanges → u.rows.keys ≡ s.rows.keys
     → Stays (shelf_of s.rows.entries) (shelf_of u.rows.entries) → (contents : Contents) (h : History) → StandsFor s contents h → StandsFor u contents h
-stands_still s u moment limits last consumers exchanges same_keys stays contents h stands = record {
-  begins = rw limits stands.begins;
+stands_still s u moment last consumers exchanges same_keys stays contents h stands = record {
+  begins = subst (λ l. may_begin l contents ≡ true) (sym stays.limits) stands.begins;
   short = stands.short;
-  run = rw limits stands.run;
+  run = subst (λ l. IsRun l contents h) (sym stays.limits) stands.run;
   moment = moment ∙ stands.moment;
-  rows = stands_read s.rows u.rows (tables contents h) limits last consumers exchanges same_keys stays stands.rows;
+  rows = subst (λ l. RowsStand l u.rows (tables contents h)) (sym stays.limits) (stands_read s.rows u.rows (tables contents h) last consumers exchanges same_keys stays stands.rows);
 }
 
 -- what is idle is kept
@@ -222,18 +223,18 @@ tells_more s (q ∷ qs) [] r item all one = absurd all
 tells_more s (q ∷ qs) (x ∷ xs) r item all one = (all.0, tells_more s qs xs r item all.1 one)
 
 -- a cache is as good where what is kept stays
-pub good_still : {B : Type 0} {g : Ghosts B} (r u : Rows B g) (bytes moment : ℕ) → u.limits ≡ r.limits → u.last_start ≡ r.last_start → u.consumers ≡ r.consumers → u.exchanges ≡ r.exchanges → u.keys ≡ r.keys → Stays (shelf_of r.entries) (shelf_of u.entries) → StandsAt r bytes moment → StandsAt u bytes moment
-good_still r u bytes moment limits last consumers exchanges same_keys stays at = (
+pub good_still : {B : Type 0} {g : Ghosts B} (r u : Rows B g) (bytes moment : ℕ) → u.last_start ≡ r.last_start → u.consumers ≡ r.consumers → u.exchanges ≡ r.exchanges → u.keys ≡ r.keys → Stays (shelf_of r.entries) (shelf_of u.entries) → StandsAt r bytes moment → StandsAt u bytes moment
+good_still r u bytes moment last consumers exchanges same_keys stays at = (
   record {
     contents = at.0.contents;
     h = at.0.h;
-    begins = rw limits at.0.begins;
+    begins = subst (λ l. may_begin l at.0.contents ≡ true) (sym stays.limits) at.0.begins;
     short = at.0.short;
     within_limits = at.0.within_limits;
     starts = at.0.starts;
-    run = rw limits at.0.run;
+    run = subst (λ l. IsRun l at.0.contents at.0.h) (sym stays.limits) at.0.run;
     received = at.0.received;
-    rows = stands_read r u (tables at.0.contents at.0.h) limits last consumers exchanges same_keys stays at.0.rows;
+    rows = subst (λ l. RowsStand l u (tables at.0.contents at.0.h)) (sym stays.limits) (stands_read r u (tables at.0.contents at.0.h) last consumers exchanges same_keys stays at.0.rows);
   },
   at.1,
 )

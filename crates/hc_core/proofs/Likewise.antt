@@ -157,7 +157,7 @@ module _ (t : Tables) where
 
 -- THE ROWS
 
-module _ {B : Type 0} {g : Ghosts B} (r : Rows B g) (limits : Limits) (t : Tables) (law : Lawful t) (measures : Measures t) (grow : HeadsGrow t) (none : live t ≡ 0) (may : may_begin limits (contents_of t) ≡ true) (stands : RowsStand r (first_tables (contents_of t))) where
+module _ {B : Type 0} {g : Ghosts B} (r : Rows B g) (limits : Limits) (t : Tables) (law : Lawful t) (measures : Measures t) (grow : HeadsGrow t) (none : live t ≡ 0) (may : may_begin limits (contents_of t) ≡ true) (stands : RowsStand (shelf_of r.entries).limits r (first_tables (contents_of t))) where
   abbrev s : Tables
   s = first_tables (contents_of t)
 
@@ -374,7 +374,7 @@ module _ {B : Type 0} {g : Ghosts B} (r : Rows B g) (limits : Limits) (t : Table
   exchange_as : (x : ℕ) (k : Known) → KeepsExchange s x k → KeepsExchange t x k
   exchange_as x k kept = record { running = running_as x k.running kept.running; held = kept.held ∙ sym (none_held t law none x) }
 
-  pub rows_likewise : RowsStand r t
+  pub rows_likewise : RowsStand (shelf_of r.entries).limits r t
   unfolding contents_of
   rows_likewise = record {
     limits = stands.limits;
@@ -389,7 +389,7 @@ module _ {B : Type 0} {g : Ghosts B} (r : Rows B g) (limits : Limits) (t : Table
 
 -- THE CACHE
 
-pub serves_all : {B : Type 0} {g : Ghosts B} (s : Cache B g) (contents : Contents) → s.last_moment ≡ contents.now → may_begin s.rows.limits contents ≡ true → RowsStand s.rows (first_tables contents) → ServesAll s contents
+pub serves_all : {B : Type 0} {g : Ghosts B} (s : Cache B g) (contents : Contents) → s.last_moment ≡ contents.now → may_begin (shelf_of s.rows.entries).limits contents ≡ true → RowsStand (shelf_of s.rows.entries).limits s.rows (first_tables contents) → ServesAll s contents
 unfolding contents_of
 serves_all s contents moment may stands before h begins short run none leaves =
     record {
@@ -398,7 +398,7 @@ serves_all s contents moment may stands before h begins short run none leaves =
       run = run;
       moment = moment ∙ sym (ap (λ (c : Contents). c.now) leaves);
       rows =
-          rows_likewise s.rows s.rows.limits (tables before h) (law_of_runs s.rows.limits before h begins run) (measures_in_runs s.rows.limits before h begins run) (heads_grow s.rows.limits before h begins run) none
-          (subst (λ (c : Contents). may_begin s.rows.limits c ≡ true) (sym leaves) may)
-          (subst (λ (c : Contents). RowsStand s.rows (first_tables c)) (sym leaves) stands);
+          rows_likewise s.rows (shelf_of s.rows.entries).limits (tables before h) (law_of_runs (shelf_of s.rows.entries).limits before h begins run) (measures_in_runs (shelf_of s.rows.entries).limits before h begins run) (heads_grow (shelf_of s.rows.entries).limits before h begins run) none
+          (subst (λ (c : Contents). may_begin (shelf_of s.rows.entries).limits c ≡ true) (sym leaves) may)
+          (subst (λ (c : Contents). RowsStand (shelf_of s.rows.entries).limits s.rows (first_tables c)) (sym leaves) stands);
     }

@@ -1,5 +1,6 @@
 -- An event that is answered opens one exchange at most.
 use Rattle.std.proofs.Common.{◌≡◌, ℕ, ◌+◌, ◌<◌, ◌≤◌, ◌^◌, List, [], ◌∷◌, ◌++◌, Option, Some, None, refl, ap, sym, ◌∙◌, arith}
+use Rattle.hc_stored.specs.Entries.{shelf_of}
 use Rattle.hc_store.specs.declared.backend.Backend.{Ghosts}
 use Rattle.hc_event.specs.declared.act.Act.{Act}
 use Rattle.hc_event.specs.declared.act.Act.TheVariants as act
@@ -37,8 +38,8 @@ module _ {B : Type 0} {g : Ghosts B} (r u : Rows B g) (before out : List Act) (n
   by_gate : Stands r → (z : Option Refusal) → refusal_of (gate_of r ev) ev ≡ z → next_of u.exchanges ≤ next_of r.exchanges + 1
   by_gate s None is =
       let free = sym (denies_as r s.t ev s.rows) ∙ is in
-      let done = answers is s.t s.facts s.rows free in
-      let one = opens_one r.limits s.t now done.flaw s.facts.law.sound ev free in
+      let done = answers is s.limits s.t s.facts s.rows free in
+      let one = opens_one s.limits s.t now done.flaw s.facts.law.sound ev free in
       let was = s.rows.next in
       let after = done.rows.next in
       omega (arith, one, was, after)

@@ -62,8 +62,8 @@ sized_here limits t law sizes numbers few q v row used = sized_by t law limits s
 
 -- IN ANY OTHER
 
-module _ {B : Type 0} {g : Ghosts B} (r : Rows B g) (t s : Tables) (law : Lawful t) (sizes : Sizes r.limits t) (stands : RowsStand r t)
-    (its_law : Lawful s) (numbers : Numbers s) (few : s.received < 2 ^ 62) (stands_too : RowsStand r s) where
+module _ {B : Type 0} {g : Ghosts B} (r : Rows B g) (t s : Tables) (law : Lawful t) (sizes : Sizes (shelf_of r.entries).limits t) (stands : RowsStand (shelf_of r.entries).limits r t)
+    (its_law : Lawful s) (numbers : Numbers s) (few : s.received < 2 ^ 62) (stands_too : RowsStand (shelf_of r.entries).limits r s) where
   abbrev kept : ℕ → Option Kept
   kept = (shelf_of r.entries).kept
 
@@ -80,4 +80,4 @@ module _ {B : Type 0} {g : Ghosts B} (r : Rows B g) (t s : Tables) (law : Lawful
     where
       by_kept : (o : Option Kept) → kept q ≡ o → KeepsEntry t q o (Some v) → v.size ≡ size v.stored
       by_kept None at dropped = absurd (used dropped.gone dropped.unused)
-      by_kept (Some k) at is = sized_by t law r.limits sizes q v row (λ p past. sym (is.cells p) ∙ kept_ends q k at p past)
+      by_kept (Some k) at is = sized_by t law (shelf_of r.entries).limits sizes q v row (λ p past. sym (is.cells p) ∙ kept_ends q k at p past)

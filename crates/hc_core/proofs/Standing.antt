@@ -1,6 +1,7 @@
 -- The facts that hold of the tables of every run.
 use Rattle.std.proofs.Common.{◌≡◌, ℕ, ◌<◌, ◌≤◌, ◌^◌, true, Option, Some, None, sym, subst, arith}
 use Rattle.std.specs.Prelude.{is_some}
+use Rattle.hc_stored.specs.Entries.{shelf_of}
 use Rattle.hc_store.specs.declared.backend.Backend.{Ghosts}
 use Rattle.hc_event.specs.declared.event.Response.{Response}
 use Rattle.hc_sparse.specs.Cells.{Cells, Covers, size}
@@ -98,21 +99,22 @@ few_of most small = omega (arith, most, small)
 -- of what is in use in a run of few bytes
 pub sized_of_some : {B : Type 0} {g : Ghosts B} (r : Rows B g) (bytes : ℕ) → bytes < 2 ^ 61 → (s : StandsForSome r bytes) → AreSized (tables s.contents s.h)
 sized_of_some r bytes small s =
-    sized_here r.limits (tables s.contents s.h) (law_of_runs r.limits s.contents s.h s.begins s.run) (sizes_in_runs r.limits s.contents s.h s.begins s.run)
-    (numbers_in_runs r.limits s.contents s.h s.begins s.short s.run) (few_received (few_of s.received small))
+    sized_here (shelf_of r.entries).limits (tables s.contents s.h) (law_of_runs (shelf_of r.entries).limits s.contents s.h s.begins s.run) (sizes_in_runs (shelf_of r.entries).limits s.contents s.h s.begins s.run)
+    (numbers_in_runs (shelf_of r.entries).limits s.contents s.h s.begins s.short s.run) (few_received (few_of s.received small))
 
 -- and so in any other run for which they stand
-pub sized_of_any : {B : Type 0} {g : Ghosts B} (r : Rows B g) (bytes : ℕ) (contents : Contents) (h : History) → bytes < 2 ^ 61 → ∥ StandsForSome r bytes ∥₁ → may_begin r.limits contents ≡ true → IsRun r.limits contents h → RowsStand r (tables contents h) → AreSized (tables contents h)
+pub sized_of_any : {B : Type 0} {g : Ghosts B} (r : Rows B g) (bytes : ℕ) (contents : Contents) (h : History) → bytes < 2 ^ 61 → ∥ StandsForSome r bytes ∥₁ → may_begin (shelf_of r.entries).limits contents ≡ true → IsRun (shelf_of r.entries).limits contents h → RowsStand (shelf_of r.entries).limits r (tables contents h) → AreSized (tables contents h)
 sized_of_any r bytes contents h small some may run rows q v row used =
     merely_same v.size (size v.stored) some (λ s.
-    sized_alike r (tables contents h) (tables s.contents s.h) (law_of_runs r.limits contents h may run) (sizes_in_runs r.limits contents h may run) rows
-    (law_of_runs r.limits s.contents s.h s.begins s.run) (numbers_in_runs r.limits s.contents s.h s.begins s.short s.run) (few_received (few_of s.received small)) s.rows q v row used)
+    sized_alike r (tables contents h) (tables s.contents s.h) (law_of_runs (shelf_of r.entries).limits contents h may run) (sizes_in_runs (shelf_of r.entries).limits contents h may run) rows
+    (law_of_runs (shelf_of r.entries).limits s.contents s.h s.begins s.run) (numbers_in_runs (shelf_of r.entries).limits s.contents s.h s.begins s.short s.run) (few_received (few_of s.received small)) s.rows q v row used)
 
 pub stands_of_runs : {B : Type 0} {g : Ghosts B} (r : Rows B g) (bytes : ℕ) → bytes < 2 ^ 61 → StandsForSome r bytes → Stands r
 stands_of_runs r bytes small s = record {
+  limits = (shelf_of r.entries).limits;
   t = tables s.contents s.h;
-  facts = facts_of_runs r.limits s.contents s.h s.begins s.run (sized_of_some r bytes small s);
-  numbers = numbers_in_runs r.limits s.contents s.h s.begins s.short s.run;
+  facts = facts_of_runs (shelf_of r.entries).limits s.contents s.h s.begins s.run (sized_of_some r bytes small s);
+  numbers = numbers_in_runs (shelf_of r.entries).limits s.contents s.h s.begins s.short s.run;
   within_limits = requests_are_within_limits s.contents s.h s.within_limits;
   received = few_of s.received small;
   rows = s.rows;

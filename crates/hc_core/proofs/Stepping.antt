@@ -1,6 +1,7 @@
 -- The step of a cache: one entry more, denied or accepted.
 use Rattle.std.proofs.Common.{◌≡◌, ℕ, ◌+◌, ◌≤◌, ◌<◌, ◌^◌, List, [], ◌∷◌, ◌++◌, length, Bool, true, false, Option, Some, None, refl, ap, sym, ◌∙◌, subst, arith}
 use Rattle.std.proofs.lemmas.Bool.Decides.{nat_tests}
+use Rattle.std.proofs.Props.{props}
 use Rattle.std.proofs.Math.Bridge.{le_prop}
 use Rattle.std.proofs.Math.Logic.{∥∥₁_elim, ∥∥₁_map}
 use Rattle.std.proofs.Math.Seq.{drop-append_seam}
@@ -63,20 +64,24 @@ begins : (limits : Limits) → may_begin limits no_contents ≡ true
 unfolding may_begin
 begins limits = let last : nat_le 0 limits.max_total ≡ true = grind (arith, nat_tests) in rw last refl
 
-pub stands_beginning : {B : Type 0} {g : Ghosts B} (s : Cache B g) → s.last_moment ≡ 0 → s.rows.last_start ≡ 0 → next_of s.rows.exchanges ≡ 1 → hash_map_len s.rows.consumers ≡ 0 → ((c : ℕ) → get nat_eq s.rows.consumers c ≡ None) → ((x : ℕ) → table_of s.rows.exchanges x ≡ unknown) → ((key : List ℕ) → kept_of s.rows.keys key ≡ nothing) → ((q : ℕ) → (shelf_of s.rows.entries).kept q ≡ None) → (shelf_of s.rows.entries).order ≡ [] → (shelf_of s.rows.entries).limits ≡ s.rows.limits
+pub stands_beginning : {B : Type 0} {g : Ghosts B} (s : Cache B g) → s.last_moment ≡ 0 → s.rows.last_start ≡ 0 → next_of s.rows.exchanges ≡ 1 → hash_map_len s.rows.consumers ≡ 0 → ((c : ℕ) → get nat_eq s.rows.consumers c ≡ None) → ((x : ℕ) → table_of s.rows.exchanges x ≡ unknown) → ((key : List ℕ) → kept_of s.rows.keys key ≡ nothing) → ((q : ℕ) → (shelf_of s.rows.entries).kept q ≡ None) → (shelf_of s.rows.entries).order ≡ []
     → StandsFor s no_contents []
 unfolding tables
-stands_beginning s moment last next count none unopened unawaited unkept order limits = record {
-  begins = begins s.rows.limits;
+stands_beginning s moment last next count none unopened unawaited unkept order = record {
+  begins = begins (shelf_of s.rows.entries).limits;
   short = none_long;
   run = tt;
   moment = moment;
-  rows = stands_begun s.rows last next count none unopened unawaited unkept order limits;
+  rows = stands_begun s.rows last next count none unopened unawaited unkept order;
 }
 
-pub begins_good : {B : Type 0} {g : Ghosts B} (r : Rows B g) → r.last_start ≡ 0 → next_of r.exchanges ≡ 1 → hash_map_len r.consumers ≡ 0 → ((c : ℕ) → get nat_eq r.consumers c ≡ None) → ((x : ℕ) → table_of r.exchanges x ≡ unknown) → ((key : List ℕ) → kept_of r.keys key ≡ nothing) → ((q : ℕ) → (shelf_of r.entries).kept q ≡ None) → (shelf_of r.entries).order ≡ [] → (shelf_of r.entries).limits ≡ r.limits → StandsAt r 0 0
+pub begins_good : {B : Type 0} {g : Ghosts B} (r : Rows B g) → r.last_start ≡ 0 → next_of r.exchanges ≡ 1 → hash_map_len r.consumers ≡ 0 → ((c : ℕ) → get nat_eq r.consumers c ≡ None) → ((x : ℕ) → table_of r.exchanges x ≡ unknown) → ((key : List ℕ) → kept_of r.keys key ≡ nothing) → ((q : ℕ) → (shelf_of r.entries).kept q ≡ None) → (shelf_of r.entries).order ≡ [] → StandsAt r 0 0
 unfolding tables
-begins_good r last next count none unopened unawaited unkept order limits = (record { contents = no_contents; h = []; begins = begins r.limits; short = none_long; within_limits = tt; starts = tt; run = tt; received = none_received 0; rows = stands_begun r last next count none unopened unawaited unkept order limits }, refl)
+begins_good r last next count none unopened unawaited unkept order = (record { contents = no_contents; h = []; begins = begins (shelf_of r.entries).limits; short = none_long; within_limits = tt; starts = tt; run = tt; received = none_received 0; rows = stands_begun r last next count none unopened unawaited unkept order }, refl)
+
+-- limits are a set: of what is merely there, they tell what is
+limits_set : IsSet Limits
+limits_set = Prim.hlevel props
 
 -- WHAT COMES
 
@@ -188,11 +193,12 @@ acts_in before out = drop (length before) out
 
 -- a run with one entry more, and the rows that stand for it. No failure is told but one that was counted
 pub record OneMore {B : Type 0} {g : Ghosts B} (r u : Rows B g) (contents : Contents) (h : History) (acts : List Act) (now : ℕ) (ev : Event) : Type 0 where
-  pub begins : may_begin u.limits contents ≡ true
-  pub run : IsRun u.limits contents (record { now = now; event = ev; acts = acts } ∷ h)
+  pub begins : may_begin (shelf_of u.entries).limits contents ≡ true
+  pub run : IsRun (shelf_of u.entries).limits contents (record { now = now; event = ev; acts = acts } ∷ h)
   pub moment : (tables contents (record { now = now; event = ev; acts = acts } ∷ h)).moment ≡ now
+  pub bounded : (shelf_of u.entries).limits ≡ (shelf_of r.entries).limits
   pub counted : (shelf_of r.entries).faults + failures_in acts ≤ (shelf_of u.entries).faults
-  pub rows : RowsStand u (tables contents (record { now = now; event = ev; acts = acts } ∷ h))
+  pub rows : RowsStand (shelf_of u.entries).limits u (tables contents (record { now = now; event = ev; acts = acts } ∷ h))
 
 -- its acts are those that were appended
 pub record Told {B : Type 0} {g : Ghosts B} (r u : Rows B g) (contents : Contents) (h : History) (before out : List Act) (now : ℕ) (ev : Event) : Type 0 where
@@ -211,52 +217,54 @@ one_counted faults after flaw false is caused never = omega (arith, never)
 
 module _ {B : Type 0} {g : Ghosts B} (r u : Rows B g) (now : ℕ) (ev : Event) (before out : List Act)
     (denied : (why : Refusal) → refusal_of (gate_of r ev) ev ≡ Some why → (u ≡ r) × (out ≡ before ++ act.Denied why ∷ []))
-    (answered : refusal_of (gate_of r ev) ev ≡ None → Answers r u before out now ev) (limits : u.limits ≡ r.limits) (never : (shelf_of r.entries).faults ≤ (shelf_of u.entries).faults)
+    (answered : refusal_of (gate_of r ev) ev ≡ None → Answers r u before out now ev) (never : (shelf_of r.entries).faults ≤ (shelf_of u.entries).faults)
     (bytes : ℕ) (small : bytes < 2 ^ 61) where
-  module _ (contents : Contents) (h : History) (begun : may_begin r.limits contents ≡ true) (run : IsRun r.limits contents h) (sized : AreSized (tables contents h)) (rows : RowsStand r (tables contents h)) (in_time : (tables contents h).moment ≤ now) where
+  module _ (contents : Contents) (h : History) (begun : may_begin (shelf_of r.entries).limits contents ≡ true) (run : IsRun (shelf_of r.entries).limits contents h) (sized : AreSized (tables contents h)) (rows : RowsStand (shelf_of r.entries).limits r (tables contents h)) (in_time : (tables contents h).moment ≤ now) where
     abbrev t : Tables
     t = tables contents h
 
     abbrev with_acts : List Act → Entry
     with_acts acts = record { now = now; event = ev; acts = acts }
 
-    facts : Facts r.limits t
-    facts = facts_of_runs r.limits contents h begun run sized
+    facts : Facts (shelf_of r.entries).limits t
+    facts = facts_of_runs (shelf_of r.entries).limits contents h begun run sized
 
     -- whatever was owed, the rows stand for it
     stands_with : (acts : List Act) (after : Tables) → after ≡ tables contents (with_acts acts ∷ h) → after.moment ≡ now
-        → IsOwed r.limits t (with_acts acts) → (shelf_of r.entries).faults + failures_in acts ≤ (shelf_of u.entries).faults → RowsStand u after → OneMore r u contents h acts now ev
-    stands_with acts after is now_is owed counts stands = record {
-      begins = ap (λ l. may_begin l contents) limits ∙ begun;
-      run = subst (λ l. IsRun l contents (with_acts acts ∷ h)) (sym limits) (run, owed);
+        → IsOwed (shelf_of r.entries).limits t (with_acts acts) → (shelf_of r.entries).faults + failures_in acts ≤ (shelf_of u.entries).faults → (shelf_of u.entries).limits ≡ (shelf_of r.entries).limits → RowsStand (shelf_of r.entries).limits u after → OneMore r u contents h acts now ev
+    stands_with acts after is now_is owed counts bounded stands = record {
+      begins = ap (λ l. may_begin l contents) bounded ∙ begun;
+      run = subst (λ l. IsRun l contents (with_acts acts ∷ h)) (sym bounded) (run, owed);
       moment = ap (λ (z : Tables). z.moment) (sym is) ∙ now_is;
+      bounded = bounded;
       counted = counts;
-      rows = subst (RowsStand u) is stands;
+      rows = subst (λ l. RowsStand l u (tables contents (with_acts acts ∷ h))) (sym bounded) (subst (RowsStand (shelf_of r.entries).limits u) is stands);
     }
 
     by_refusal : (o : Option Refusal) → refusal_of (gate_of r ev) ev ≡ o → Told r u contents h before out now ev
     by_refusal None is =
         let free : denial t ev ≡ None = sym (denies_as r t ev rows) ∙ is in
-        let done = answered is t facts rows free in
-        let acts = accepted_acts r.limits t now ev done.flaw in
+        let done = answered is (shelf_of r.entries).limits t facts rows free in
+        let acts = accepted_acts (shelf_of r.entries).limits t now ev done.flaw in
         let e : Entry = with_acts acts in
         let counts = one_counted (shelf_of r.entries).faults (shelf_of u.entries).faults done.flaw (is_fault done.flaw) refl done.caused never in
         told_by r u contents h before out acts now ev done.acts
-        (stands_with acts (after_accepted t e) (next_tables contents h e (undenied r.limits t now ev done.flaw)) refl
+        (stands_with acts (after_accepted t e) (next_tables contents h e (undenied (shelf_of r.entries).limits t now ev done.flaw)) refl
         (record {
           later = in_time;
-          acts = sym (ap (answer r.limits t now ev) done.shown ∙ answer_accepted r.limits t now ev done.flaw free);
-          flaw = may_stand_accepted r.limits t e done.flaw done.shown done.may;
-        }) (subst (λ (f : Flaw). (shelf_of r.entries).faults + (if is_fault f then 1 else 0) ≤ (shelf_of u.entries).faults) (sym done.shown) counts) done.rows)
+          acts = sym (ap (answer (shelf_of r.entries).limits t now ev) done.shown ∙ answer_accepted (shelf_of r.entries).limits t now ev done.flaw free);
+          flaw = may_stand_accepted (shelf_of r.entries).limits t e done.flaw done.shown done.may;
+        }) (subst (λ (f : Flaw). (shelf_of r.entries).faults + (if is_fault f then 1 else 0) ≤ (shelf_of u.entries).faults) (sym done.shown) counts) done.rows.limits done.rows)
     by_refusal (Some why) is =
         let some : denial t ev ≡ Some why = sym (denies_as r t ev rows) ∙ is in
         let acts = act.Denied why ∷ [] in
         let e : Entry = with_acts acts in
         told_by r u contents h before out acts now ev (denied why is).1
         (stands_with acts (after_denied t e) (denied_tables contents h e refl) refl
-        (record { later = in_time; acts = sym (answer_denied r.limits t now ev NoFlaw why some); flaw = may_stand_denied r.limits t e refl })
+        (record { later = in_time; acts = sym (answer_denied (shelf_of r.entries).limits t now ev NoFlaw why some); flaw = may_stand_denied (shelf_of r.entries).limits t e refl })
         (omega (arith, never))
-        (subst (λ z. RowsStand z (after_denied t e)) (sym (denied why is).0) (stands_denied r t e rows)))
+        (ap (λ (z : Rows B g). (shelf_of z.entries).limits) (denied why is).0)
+        (subst (λ z. RowsStand (shelf_of r.entries).limits z (after_denied t e)) (sym (denied why is).0) (stands_denied r t e rows)))
 
     pub one_more : Told r u contents h before out now ev
     one_more = by_refusal (refusal_of (gate_of r ev) ev) refl
@@ -288,6 +296,9 @@ module _ {B : Type 0} {g : Ghosts B} (r u : Rows B g) (now : ℕ) (ev : Event) (
       let was : (tables until.0.contents until.0.h).last_start < 2 ^ 62 = subst (λ n. n < 2 ^ 62) until.0.rows.last_start small in
       subst (λ n. n < 2 ^ 62) (sym more.rows.last_start) (small_next until.0.contents until.0.h (record { now = now; event = ev; acts = acts_in before out }) within_limits was))
 
+  pub bounded_after : (last : ℕ) → last ≤ now → ∥ StandsUntil r bytes last ∥₁ → (shelf_of u.entries).limits ≡ (shelf_of r.entries).limits
+  bounded_after last later some = ∥∥₁_elim some (limits_set (shelf_of u.entries).limits (shelf_of r.entries).limits) (λ s. (some_more last later s).more.bounded)
+
   pub told_after : (last : ℕ) → last ≤ now → ∥ StandsUntil r bytes last ∥₁ → out ≡ before ++ acts_in before out
   told_after last later some = ∥∥₁_elim some (acts_set out (before ++ acts_in before out)) (λ s. (some_more last later s).told)
 
@@ -297,12 +308,12 @@ module _ {B : Type 0} {g : Ghosts B} (r u : Rows B g) (now : ℕ) (ev : Event) (
 module _ {B : Type 0} {g : Ghosts B} (s u : Cache B g) (now : ℕ) (ev : Event) (before out : List Act)
     (denied : (why : Refusal) → refusal_of (gate_of s.rows ev) ev ≡ Some why → (u.rows ≡ s.rows) × (out ≡ before ++ act.Denied why ∷ []))
     (answered : refusal_of (gate_of s.rows ev) ev ≡ None → Answers s.rows u.rows before out now ev)
-    (later : s.last_moment ≤ now) (moment : u.last_moment ≡ now) (limits : u.rows.limits ≡ s.rows.limits) (never : (shelf_of s.rows.entries).faults ≤ (shelf_of u.rows.entries).faults)
+    (later : s.last_moment ≤ now) (moment : u.last_moment ≡ now) (never : (shelf_of s.rows.entries).faults ≤ (shelf_of u.rows.entries).faults)
     (small : s.received < 2 ^ 61) where
   stands_on : ∥ StandsUntil s.rows s.received s.last_moment ∥₁ → (contents : Contents) (h : History) → StandsFor s contents h → StandsFor u contents (record { now = now; event = ev; acts = acts_in before out } ∷ h)
   stands_on some contents h stands =
       let sized = sized_of_any s.rows s.received contents h small (∥∥₁_map some (λ until. until.0)) stands.begins stands.run stands.rows in
-      let more = (one_more s.rows u.rows now ev before out denied answered limits never s.received small contents h stands.begins stands.run sized stands.rows (subst (λ m. m ≤ now) stands.moment later)).more in
+      let more = (one_more s.rows u.rows now ev before out denied answered never s.received small contents h stands.begins stands.run sized stands.rows (subst (λ m. m ≤ now) stands.moment later)).more in
       record {
         begins = more.begins;
         short = stands.short;
@@ -314,11 +325,11 @@ module _ {B : Type 0} {g : Ghosts B} (s u : Cache B g) (now : ℕ) (ev : Event) 
   pub steps_on : ∥ StandsUntil s.rows s.received s.last_moment ∥₁ → u.steps ≡ s.steps + 1 → Steps s u before out now ev
   steps_on some one = record {
     acts = acts_in before out;
-    told = told_after s.rows u.rows now ev before out denied answered limits never s.received small s.last_moment later some;
+    told = told_after s.rows u.rows now ev before out denied answered never s.received small s.last_moment later some;
     answered = record {
-      limits = limits;
+      limits = bounded_after s.rows u.rows now ev before out denied answered never s.received small s.last_moment later some;
       stands = stands_on some;
-      counted = counted_after s.rows u.rows now ev before out denied answered limits never s.received small s.last_moment later some;
+      counted = counted_after s.rows u.rows now ev before out denied answered never s.received small s.last_moment later some;
       number = one;
     };
   }
@@ -327,12 +338,12 @@ module _ {B : Type 0} {g : Ghosts B} (s u : Cache B g) (now : ℕ) (ev : Event) 
 
 pub keeps_promises : {B : Type 0} {g : Ghosts B} (s : Cache B g) → KeepsPromises s
 keeps_promises s contents h stands = record {
-  once = delivers_in_runs s.rows.limits contents h stands.begins stands.run;
-  turn = turns_in_runs s.rows.limits contents h stands.begins stands.run;
-  waits = chains_in_runs s.rows.limits contents h stands.begins stands.run;
-  barrier = dooms_in_runs s.rows.limits contents h stands.begins stands.run;
-  truthful = truth_in_runs s.rows.limits contents h stands.begins stands.run;
-  binds = binds_in_runs s.rows.limits contents h stands.begins stands.run;
-  stored = stores_grow_in_runs s.rows.limits contents h stands.begins stands.run;
-  gives = gives_stored_in_runs s.rows.limits contents h stands.begins stands.run;
+  once = delivers_in_runs (shelf_of s.rows.entries).limits contents h stands.begins stands.run;
+  turn = turns_in_runs (shelf_of s.rows.entries).limits contents h stands.begins stands.run;
+  waits = chains_in_runs (shelf_of s.rows.entries).limits contents h stands.begins stands.run;
+  barrier = dooms_in_runs (shelf_of s.rows.entries).limits contents h stands.begins stands.run;
+  truthful = truth_in_runs (shelf_of s.rows.entries).limits contents h stands.begins stands.run;
+  binds = binds_in_runs (shelf_of s.rows.entries).limits contents h stands.begins stands.run;
+  stored = stores_grow_in_runs (shelf_of s.rows.entries).limits contents h stands.begins stands.run;
+  gives = gives_stored_in_runs (shelf_of s.rows.entries).limits contents h stands.begins stands.run;
 }

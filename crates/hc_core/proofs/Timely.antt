@@ -2,6 +2,7 @@
 use Rattle.std.proofs.Common.{◌≡◌, ℕ, ◌<◌, ◌≤◌, ◌^◌, Some, arith}
 use Rattle.std.proofs.Math.Bridge.{le_prop}
 use Rattle.std.proofs.Math.Logic.{∥∥₁_elim}
+use Rattle.hc_stored.specs.Entries.{shelf_of}
 use Rattle.hc_store.specs.declared.backend.Backend.{Ghosts}
 use Rattle.hc_exch.specs.declared.row.Open.{Open}
 use Rattle.hc_exch.specs.Exchanges.{table_of}
@@ -16,7 +17,7 @@ use Rattle.hc_on_leave.proofs.HeardRows.{heard_row}
 use Rattle.hc_laws.proofs.StoredHeadsKeep.{heads_in_runs}
 
 module _ {B : Type 0} {g : Ghosts B} (r : Rows B g) (x : ℕ) (o : Open) (running : (table_of r.exchanges x).running ≡ Some o) where
-  opened_by : (t : Tables) (now : ℕ) → StoredHeads t → RowsStand r t → t.moment ≤ now → o.moment ≤ now
+  opened_by : (t : Tables) (now : ℕ) → StoredHeads t → RowsStand (shelf_of r.entries).limits r t → t.moment ≤ now → o.moment ≤ now
   opened_by t now heads stands until =
       let row = heard_row r t x o stands running in
       let opened = heads.opened x row.w row.row in
@@ -24,7 +25,7 @@ module _ {B : Type 0} {g : Ghosts B} (r : Rows B g) (x : ℕ) (o : Open) (runnin
       omega (arith, opened, same, until)
 
   pub since : (bytes now : ℕ) → StandsUntil r bytes now → o.moment ≤ now
-  since bytes now (s, until) = opened_by (tables s.contents s.h) now (heads_in_runs r.limits s.contents s.h s.begins s.run) s.rows until
+  since bytes now (s, until) = opened_by (tables s.contents s.h) now (heads_in_runs (shelf_of r.entries).limits s.contents s.h s.begins s.run) s.rows until
 
 pub timely : {B : Type 0} {g : Ghosts B} (r : Rows B g) (bytes x now : ℕ) → now < 2 ^ 62 → ∥ StandsUntil r bytes now ∥₁ → IsTimely now (table_of r.exchanges x).running
 timely r bytes x now early some o running = record { later = ∥∥₁_elim some le_prop (λ until. since r x o running bytes now until); small = early }

@@ -31,7 +31,6 @@ kept_item item = entries.with_runs item.runs (entries.kept_at_beginning item.key
 
 -- an item more is kept and current, and all else stays
 pub record KeepsItem {B : Type 0} {g : Ghosts B} (r u : Rows B g) (item : Content) : Type 0 where
-  pub limits : u.limits ≡ r.limits
   pub last_start : u.last_start ≡ r.last_start
   pub consumers : u.consumers ≡ r.consumers
   pub exchanges : u.exchanges ≡ r.exchanges

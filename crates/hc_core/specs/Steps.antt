@@ -43,7 +43,7 @@ abbrev pub store_in : {B : Type 0} {g : Ghosts B} → Cache B g → B
 store_in s = store_of s.rows.entries
 
 abbrev pub limits_in : {B : Type 0} {g : Ghosts B} → Cache B g → Limits
-limits_in s = s.rows.limits
+limits_in {B} {g} s = g.limits (store_in s)
 
 -- how often its store has failed
 abbrev pub faults_in : {B : Type 0} {g : Ghosts B} → Cache B g → ℕ
@@ -52,18 +52,18 @@ faults_in {B} {g} s = g.faults (store_in s)
 -- WHAT IT STANDS FOR
 
 pub record StandsFor {B : Type 0} {g : Ghosts B} (s : Cache B g) (contents : Contents) (h : History) : Type 0 where
-  pub begins : may_begin s.rows.limits contents ≡ true
+  pub begins : may_begin (limits_in s) contents ≡ true
   pub short : AreShort contents
-  pub run : IsRun s.rows.limits contents h
+  pub run : IsRun (limits_in s) contents h
   pub moment : s.last_moment ≡ (tables contents h).moment
-  pub rows : RowsStand s.rows (tables contents h)
+  pub rows : RowsStand (limits_in s) s.rows (tables contents h)
 
 -- The cache stands for each run that leaves these contents, with nobody live: whatever such a cache began with, whatever
 -- happened to it, and however many bytes came.
 abbrev pub ServesAll : {B : Type 0} {g : Ghosts B} → Cache B g → Contents → Type 0
 ServesAll s contents =
-    (before : Contents) (h : History) → may_begin s.rows.limits before ≡ true → AreShort before →
-    IsRun s.rows.limits before h → live (tables before h) ≡ 0 →
+    (before : Contents) (h : History) → may_begin (limits_in s) before ≡ true → AreShort before →
+    IsRun (limits_in s) before h → live (tables before h) ≡ 0 →
     contents_of (tables before h) ≡ contents → StandsFor s before h
 
 -- The acts are those of one entry more, and the cache stands for that, by one step. They tell no failure

@@ -3,6 +3,7 @@ use Rattle.std.proofs.Common.{◌≡◌, ◌≢◌, inl, inr, ℕ, List, [], ◌
 use mathlib.Core.Path.{fun_ext}
 use Rattle.std.specs.Prelude.{is_some, is_none, nat_eq, option_map, ◌&&◌, ◌==◌, if◌then◌else◌}
 use Rattle.std.specs.HashMap.{get}
+use Rattle.hc_rules.specs.declared.room.Limits.{Limits}
 use Rattle.hc_store.specs.declared.backend.Backend.{Ghosts}
 use Rattle.hc_event.specs.declared.act.Cause.{Cause}
 use Rattle.hc_event.specs.declared.act.Cause.TheVariants as cause
@@ -100,16 +101,16 @@ module _ (t : Tables) (law : Lawful t) (x c : ℕ) (w : Exchange) (k : rows.Cons
     | inr ne ↦ then_false w.is_open (nat_eq (family x w) q) (eqb-other (family x w) q ne)
   ]
 
-  pub stands_broken : {B : Type 0} {g : Ghosts B} (r mid down u : Rows B g) (q : Consumer) → RowsStand r t → get nat_eq r.consumers c ≡ Some q → LeavesPlace r mid c q
-      → down.limits ≡ mid.limits → down.last_start ≡ mid.last_start → down.exchanges ≡ mid.exchanges → down.keys ≡ mid.keys → down.entries ≡ mid.entries → ChangesAt mid.consumers down.consumers c (put_down why)
-      → u.limits ≡ down.limits → u.last_start ≡ down.last_start → u.consumers ≡ down.consumers → u.keys ≡ down.keys → u.entries ≡ down.entries → exch.Becomes known.without_exchange x down.exchanges u.exchanges
-      → RowsStand u (with_consumer c (Some (effects.put_down why k)) (with_exchange x (Some (over w)) t))
-  stands_broken r mid down u q stands at left limits last exchanges keys entries changes limits_u last_u consumers_u keys_u entries_u closes =
-      subst (RowsStand u) (closed_is s x w waits.row)
-      (stands_unstored down u s x now unawaited apart limits_u last_u consumers_u keys_u entries_u closes)
+  pub stands_broken : {B : Type 0} {g : Ghosts B} {lim : Limits} (r mid down u : Rows B g) (q : Consumer) → RowsStand lim r t → get nat_eq r.consumers c ≡ Some q → LeavesPlace r mid c q
+      → down.last_start ≡ mid.last_start → down.exchanges ≡ mid.exchanges → down.keys ≡ mid.keys → down.entries ≡ mid.entries → ChangesAt mid.consumers down.consumers c (put_down why)
+      → u.last_start ≡ down.last_start → u.consumers ≡ down.consumers → u.keys ≡ down.keys → u.entries ≡ down.entries → exch.Becomes known.without_exchange x down.exchanges u.exchanges
+      → RowsStand lim u (with_consumer c (Some (effects.put_down why k)) (with_exchange x (Some (over w)) t))
+  stands_broken {lim = lim} r mid down u q stands at left last exchanges keys entries changes last_u consumers_u keys_u entries_u closes =
+      subst (RowsStand lim u) (closed_is s x w waits.row)
+      (stands_unstored down u s x now unawaited apart last_u consumers_u keys_u entries_u closes)
     where
-      now : RowsStand down s
-      now = stands_down r down t law c q k waits.consumer at stands (limits ∙ left.limits) (last ∙ left.last_start)
+      now : RowsStand lim down s
+      now = stands_down r down t law c q k waits.consumer at stands (last ∙ left.last_start)
           (subst (λ z. Rattle.hc_state.specs.Leaving.LeavesKey c q.request.key r.keys z) (sym keys) left.line)
           (subst (λ z. Rattle.hc_state.specs.Leaving.Forgets q.own r.exchanges z) (sym exchanges) left.forgets)
           (subst (λ z. Rattle.hc_state.specs.Leaving.UnbindsAt q.place c (Rattle.hc_stored.specs.Entries.shelf_of r.entries) (Rattle.hc_stored.specs.Entries.shelf_of z)) (sym entries) left.unbinds)

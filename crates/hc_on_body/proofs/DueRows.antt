@@ -3,6 +3,7 @@ use Rattle.std.proofs.Common.{◌≡◌, ℕ, List, Bool, true, false, Option, S
 use Rattle.std.specs.Prelude.{is_some, nat_eq, bytes_eq, option_map, ◌&&◌, if◌then◌else◌}
 use Rattle.std.specs.Option.{option_or}
 use Rattle.std.specs.HashMap.{get}
+use Rattle.hc_rules.specs.declared.room.Limits.{Limits}
 use Rattle.hc_store.specs.declared.backend.Backend.{Ghosts}
 use Rattle.hc_event.specs.declared.act.Cause.{Cause}
 use Rattle.hc_stored.specs.Entries.{shelf_of}
@@ -149,13 +150,13 @@ module _ (t : Tables) (among : ℕ → Bool) (why : Cause) where
 
 -- ALL OF IT
 
-pub stands_due : {B : Type 0} {g : Ghosts B} (r u : Rows B g) (t : Tables) (among : ℕ → Bool) (why : Cause) → RowsStand r t → u.limits ≡ r.limits → u.last_start ≡ r.last_start → u.exchanges ≡ r.exchanges → u.keys ≡ r.keys → u.entries ≡ r.entries
-    → ChangesAmong r.consumers u.consumers among (with_due why) → RowsStand u (with_consumers (due_for t among why) t)
+pub stands_due : {B : Type 0} {g : Ghosts B} {lim : Limits} (r u : Rows B g) (t : Tables) (among : ℕ → Bool) (why : Cause) → RowsStand lim r t → u.last_start ≡ r.last_start → u.exchanges ≡ r.exchanges → u.keys ≡ r.keys → u.entries ≡ r.entries
+    → ChangesAmong r.consumers u.consumers among (with_due why) → RowsStand lim u (with_consumers (due_for t among why) t)
 unfolding current
-stands_due r u t among why stands limits last exchanges same_keys same_entries changes =
+stands_due r u t among why stands last exchanges same_keys same_entries changes =
     let z : Tables = with_consumers (due_for t among why) t in
     record {
-      limits = rw (same_entries, limits) stands.limits;
+      limits = rw same_entries stands.limits;
       last_start = last ∙ stands.last_start;
       next = ap (λ e. next_of e) exchanges ∙ stands.next;
       count = changes.len ∙ (stands.count ∙ sym (live_same t z refl (told_same t among why is_live (λ k. refl))));

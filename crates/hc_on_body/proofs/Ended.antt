@@ -2,6 +2,7 @@
 use Rattle.std.proofs.Common.{◌≡◌, ℕ, ◌+◌, ◌-◌, List, [], length, Bool, true, false, Option, Some, None, refl, ap, sym, ◌∙◌}
 use Rattle.std.specs.Prelude.{nat_eq, bytes_eq, drop, ◌==◌, ◌&&◌, if◌then◌else◌}
 use Rattle.std.specs.HashMap.{get}
+use Rattle.hc_rules.specs.declared.room.Limits.{Limits}
 use Rattle.hc_store.specs.declared.backend.Backend.{Ghosts}
 use Rattle.hc_event.specs.declared.event.Response.{Response}
 use Rattle.hc_rules.specs.Lengths.{base_of, promise_of}
@@ -123,8 +124,8 @@ module _ (t : Tables) (f : ℕ → Option Exchange) (x : ℕ) (w : Exchange) whe
 
 -- ALL OF IT
 
-module _ {B : Type 0} {g : Ghosts B} (u : Rows B g) (t : Tables) (f : ℕ → Option Exchange) (x : ℕ) (w : Exchange) (p : ℕ) (promises : promised_bytes w ≡ Some p) (stands : RowsStand u (with_over x w f t)) where
-  pub stands_ended : RowsStand u (with_end x w f t)
+module _ {B : Type 0} {g : Ghosts B} {lim : Limits} (u : Rows B g) (t : Tables) (f : ℕ → Option Exchange) (x : ℕ) (w : Exchange) (p : ℕ) (promises : promised_bytes w ≡ Some p) (stands : RowsStand lim u (with_over x w f t)) where
+  pub stands_ended : RowsStand lim u (with_end x w f t)
   unfolding current
   stands_ended =
       let before : Tables = with_over x w f t in

@@ -20,7 +20,7 @@ module _ {B : Type 0} {g : Ghosts B} (r : Rows B g) (w : Write) (small : grown_b
       let t = s.t in
       let facts = s.facts in
       let may = may_make_room t facts in
-      two_give_way r.limits t w count facts.fits small (sym (room_is r t may s.rows w) ∙ is)
+      two_give_way s.limits t w count facts.fits small (sym (room_is r t may s.rows w) ∙ is)
 
   pub few_acts : ∥ Stands r ∥₁ → (count : ℕ) → room_for_write r w ≡ room.After count → count ≤ 2
   few_acts some count is = ∥∥₁_elim some le_prop (λ s. few_for count is s)

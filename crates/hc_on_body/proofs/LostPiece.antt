@@ -3,6 +3,7 @@ use Rattle.std.proofs.Common.{◌≡◌, ◌≢◌, inl, inr, ℕ, ◌+◌, ◌-
 use Rattle.std.proofs.lemmas.Bool.Decides.{nat_tests}
 use Rattle.std.proofs.lemmas.List.{append-nil, drop-append-le, length-append}
 use Rattle.std.specs.Prelude.{is_some, is_none, nat_eq, ◌==◌, ◌&&◌, if◌then◌else◌}
+use Rattle.hc_rules.specs.declared.room.Limits.{Limits}
 use Rattle.hc_store.specs.declared.backend.Backend.{Ghosts}
 use Rattle.hc_sparse.specs.Cells.{Cell, Cells, Covers, EndsBy, inside, cells_with}
 use Rattle.hc_event.specs.declared.act.Act.{Act}
@@ -141,8 +142,8 @@ module _ {limits : Rattle.hc_rules.specs.declared.room.Limits.Limits} (t : Table
 
 -- A PIECE OF WHAT IS LOST
 
-module _ {B : Type 0} {g : Ghosts B} (r u : Rows B g) (t : Tables) (facts : Facts r.limits t) (stands : RowsStand r t) (now x : ℕ) (bytes : List ℕ) (goes : denial t (event.Piece x bytes) ≡ None) (w : Exchange) (v : Representation) (row : t.exchange x ≡ Some w) (opened : w.is_open ≡ true) (headed : is_some w.head ≡ true) (some : 0 < length bytes) (there : t.representation (family x w) ≡ Some v) (lost : v.is_lost ≡ true)
-    (limits : u.limits ≡ r.limits) (last : u.last_start ≡ r.last_start) (same_map : u.consumers ≡ r.consumers) (same_keys : u.keys ≡ r.keys) (same_entries : u.entries ≡ r.entries) (becomes : exch.Becomes (known.with_piece bytes true) x r.exchanges u.exchanges) where
+module _ {B : Type 0} {g : Ghosts B} {lim : Limits} (r u : Rows B g) (t : Tables) (facts : Facts lim t) (stands : RowsStand lim r t) (now x : ℕ) (bytes : List ℕ) (goes : denial t (event.Piece x bytes) ≡ None) (w : Exchange) (v : Representation) (row : t.exchange x ≡ Some w) (opened : w.is_open ≡ true) (headed : is_some w.head ≡ true) (some : 0 < length bytes) (there : t.representation (family x w) ≡ Some v) (lost : v.is_lost ≡ true)
+    (last : u.last_start ≡ r.last_start) (same_map : u.consumers ≡ r.consumers) (same_keys : u.keys ≡ r.keys) (same_entries : u.entries ≡ r.entries) (becomes : exch.Becomes (known.with_piece bytes true) x r.exchanges u.exchanges) where
   o : Owner t x w v
   o = owner t x w v facts.law.sound row opened headed there (unwritten_lost t v lost)
 
@@ -172,20 +173,20 @@ module _ {B : Type 0} {g : Ghosts B} (r u : Rows B g) (t : Tables) (facts : Fact
   abbrev after : Tables
   after = s t now x w bytes (λ q. if family x w == q then Some (with_stored_bytes false (front w) x bytes v) else t.representation q)
 
-  lost_stands : RowsStand u after
-  lost_stands = held_stands r u t stands now x bytes w v row opened headed there lost is_gone (open_unended t facts.law x w row opened) limits last same_map same_keys same_entries some may becomes
+  lost_stands : RowsStand lim u after
+  lost_stands = held_stands r u t stands now x bytes w v row opened headed there lost is_gone (open_unended t facts.law x w row opened) last same_map same_keys same_entries some may becomes
 
-  pub lost_answered : (before : List Act) → Answered r.limits (shelf_of r.entries).faults u t before before now (event.Piece x bytes)
+  pub lost_answered : (before : List Act) → Answered lim (shelf_of r.entries).faults u t before before now (event.Piece x bytes)
   lost_answered before =
-      does_answered r.limits (shelf_of r.entries).faults u t after before before [] now (event.Piece x bytes) (does.unstored r.limits t facts.law now x bytes w row goes (family x w) v refl there lost) unwritten refl (sym (append-nil before)) lost_stands
+      does_answered lim (shelf_of r.entries).faults u t after before before [] now (event.Piece x bytes) (does.unstored lim t facts.law now x bytes w row goes (family x w) v refl there lost) unwritten refl (sym (append-nil before)) lost_stands
     where
       unwritten : write_in t (entry_without_acts now (event.Piece x bytes)) (event.Piece x bytes) ≡ None
       unwritten = rw (row, there, lost) refl
 
 -- WHAT ISN'T STORED
 
-module _ {B : Type 0} {g : Ghosts B} (r u : Rows B g) (t : Tables) (facts : Facts r.limits t) (stands : RowsStand r t) (now x : ℕ) (bytes : List ℕ) (goes : denial t (event.Piece x bytes) ≡ None) (unkept : stored_by r x ≡ None)
-    (limits : u.limits ≡ r.limits) (last : u.last_start ≡ r.last_start) (same_map : u.consumers ≡ r.consumers) (same_keys : u.keys ≡ r.keys) (same_entries : u.entries ≡ r.entries) (becomes : exch.Becomes (known.with_piece bytes true) x r.exchanges u.exchanges) (before : List Act) where
+module _ {B : Type 0} {g : Ghosts B} {lim : Limits} (r u : Rows B g) (t : Tables) (facts : Facts lim t) (stands : RowsStand lim r t) (now x : ℕ) (bytes : List ℕ) (goes : denial t (event.Piece x bytes) ≡ None) (unkept : stored_by r x ≡ None)
+    (last : u.last_start ≡ r.last_start) (same_map : u.consumers ≡ r.consumers) (same_keys : u.keys ≡ r.keys) (same_entries : u.entries ≡ r.entries) (becomes : exch.Becomes (known.with_piece bytes true) x r.exchanges u.exchanges) (before : List Act) where
   b : Brought t x (length bytes)
   b = brought_of t x bytes goes
 
@@ -203,13 +204,13 @@ module _ {B : Type 0} {g : Ghosts B} (r u : Rows B g) (t : Tables) (facts : Fact
       by_kept None h kept = absurd (facts.law.whose.unread q x v there kept.unused (sound.headed b.w b.row b.taken.is_open b.taken.headed of_q (ap (λ (o : Option Representation). is_some o) there)))
       by_kept (Some k) h kept = sym kept.is_lost ∙ by_test k.is_lost h
 
-  by_brought : (o : Option ℕ) → brought_by (table_of r.exchanges x).running ≡ o → Answered r.limits (shelf_of r.entries).faults u t before before now (event.Piece x bytes)
-  by_brought None past = past_answered r u t facts stands now x bytes goes past limits last same_map same_keys same_entries becomes before
+  by_brought : (o : Option ℕ) → brought_by (table_of r.exchanges x).running ≡ o → Answered lim (shelf_of r.entries).faults u t before before now (event.Piece x bytes)
+  by_brought None past = past_answered r u t facts stands now x bytes goes past last same_map same_keys same_entries becomes before
   by_brought (Some q) brings =
       let it = brings_it t x q ran.o b.w ran.is b.taken.headed (sym (ap brought_by ran.running) ∙ brings) in
       let v = it.1.0 in
       let lost = is_lost q v it.0 (sym (ap t.representation it.0) ∙ it.1.1) (sym (ap (stored_at (shelf_of r.entries)) brings) ∙ unkept) in
-      lost_answered r u t facts stands now x bytes goes b.w v b.row b.taken.is_open b.taken.headed b.taken.some it.1.1 lost limits last same_map same_keys same_entries becomes before
+      lost_answered r u t facts stands now x bytes goes b.w v b.row b.taken.is_open b.taken.headed b.taken.some it.1.1 lost last same_map same_keys same_entries becomes before
 
-  pub held_answered : Answered r.limits (shelf_of r.entries).faults u t before before now (event.Piece x bytes)
+  pub held_answered : Answered lim (shelf_of r.entries).faults u t before before now (event.Piece x bytes)
   held_answered = by_brought (brought_by (table_of r.exchanges x).running) refl

@@ -2,6 +2,7 @@
 use Rattle.std.proofs.Common.{◌≡◌, ◌⊎◌, inl, inr, ℕ, length, Bool, true, false, Option, Some, None, refl, ap, sym, ◌∙◌, subst}
 use Rattle.std.specs.Prelude.{is_some, option_map, nat_eq}
 use Rattle.std.specs.HashMap.{get}
+use Rattle.hc_rules.specs.declared.room.Limits.{Limits}
 use Rattle.hc_store.specs.declared.backend.Backend.{Ghosts}
 use Rattle.hc_event.specs.declared.event.Response.{Response}
 use Rattle.hc_exch.specs.declared.row.ExchangeView.{ExchangeView}
@@ -33,7 +34,7 @@ pub record Viewed (t : Tables) (x : ℕ) (view : ExchangeView) : Type 0 where
   pub delivered : view.delivered ≡ length w.body
   pub promised_is : view.promised ≡ promised_bytes w
 
-pub viewed : {B : Type 0} {g : Ghosts B} (r : Rows B g) (t : Tables) (x : ℕ) (o : Option ExchangeView) (view : ExchangeView) → RowsStand r t → o ≡ option_map (view_of x) (table_of r.exchanges x).running → o ≡ Some view → Viewed t x view
+pub viewed : {B : Type 0} {g : Ghosts B} {lim : Limits} (r : Rows B g) (t : Tables) (x : ℕ) (o : Option ExchangeView) (view : ExchangeView) → RowsStand lim r t → o ≡ option_map (view_of x) (table_of r.exchanges x).running → o ≡ Some view → Viewed t x view
 viewed r t x o view stands is some = by_open (table_of r.exchanges x).running (t.exchange x) refl (sym is ∙ some) (stands.exchanges x).running
   where
     by_open : (z : Option Open) (e : Option Exchange) → t.exchange x ≡ e → option_map (view_of x) z ≡ Some view → KeepsRunning t x z e → Viewed t x view
@@ -57,7 +58,7 @@ none_of (Some a) off = false_true (sym off)
 
 -- WHO WAITS FOR ITS HEAD
 
-module _ {B : Type 0} {g : Ghosts B} (r : Rows B g) (t : Tables) (stands : RowsStand r t) where
+module _ {B : Type 0} {g : Ghosts B} {lim : Limits} (r : Rows B g) (t : Tables) (stands : RowsStand lim r t) where
   shown_as : (c : ℕ) (k : rows.Consumer) (o : Option Consumer) → KeepsConsumer t o (Some k) → is_live (Some k) ≡ true → is_shown o ≡ k.shown
   shown_as c k None kept lives = false_true (sym kept ∙ lives)
   shown_as c k (Some q) kept lives = kept.shown

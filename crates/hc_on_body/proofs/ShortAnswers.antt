@@ -120,16 +120,16 @@ module _ {B : Type 0} {g : Ghosts B} (limits : Limits) (faults : ℕ) (u : Rows 
   }
 
   -- and so is it answered
-  ends_with : (f : ℕ → Option rows.Consumer) (s : Tables) → s.representation ≡ t.representation → tables_after_close x (with_consumers f t) ≡ with_over x w t.exchange s → StopsBy limits t now x w (event.End x) (with_end x w t.exchange s) → (before out : List Act) → HasStopped faults u t f before out now x → Answered limits faults u t before out now (event.End x)
+  ends_with : (f : ℕ → Option rows.Consumer) (s : Tables) → s.representation ≡ t.representation → tables_after_close x (with_consumers f t) ≡ with_over x w t.exchange s → StopsBy limits t now x w (event.End x) (with_end x w t.exchange s) → (before out : List Act) → HasStopped limits faults u t f before out now x → Answered limits faults u t before out now (event.End x)
   ends_with f s same_rows same by before out has =
       stopped_answered limits faults u t facts.law now x w broken.row (event.End x) (with_end x w t.exchange s) by f same_rows
       (λ o stands. by_going o stands)
-      (λ r v alone stands. stands_ended u (let_go now r (with_representation r (Some (lost_to alone v)) s)) t.exchange x w p promises (subst (λ (a : Tables). RowsStand u (let_go now r (with_representation r (Some (lost_to alone v)) a))) same stands))
+      (λ r v alone stands. stands_ended u (let_go now r (with_representation r (Some (lost_to alone v)) s)) t.exchange x w p promises (subst (λ (a : Tables). RowsStand limits u (let_go now r (with_representation r (Some (lost_to alone v)) a))) same stands))
       before out has
     where
-      by_going : (o : Option ℕ) → RowsStand u (let_some_go now o (tables_after_close x (with_consumers f t))) → RowsStand u (let_some_go now o (with_end x w t.exchange s))
-      by_going None stands = stands_ended u s t.exchange x w p promises (subst (RowsStand u) same stands)
-      by_going (Some q) stands = stands_ended u (let_go now q s) t.exchange x w p promises (subst (λ (a : Tables). RowsStand u (let_go now q a)) same stands)
+      by_going : (o : Option ℕ) → RowsStand limits u (let_some_go now o (tables_after_close x (with_consumers f t))) → RowsStand limits u (let_some_go now o (with_end x w t.exchange s))
+      by_going None stands = stands_ended u s t.exchange x w p promises (subst (RowsStand limits u) same stands)
+      by_going (Some q) stands = stands_ended u (let_go now q s) t.exchange x w p promises (subst (λ (a : Tables). RowsStand limits u (let_go now q a)) same stands)
 
   -- one who fails
   one_is : (c : ℕ) → with_length x (length w.body) (with_due c (short_of x w (promised_bytes w)) (with_exchange x (Some (at_end w)) t)) ≡ with_end x w t.exchange (with_due c (Some why) t)
@@ -138,10 +138,10 @@ module _ {B : Type 0} {g : Ghosts B} (limits : Limits) (faults : ℕ) (u : Rows 
   all_are : (r : ℕ) → with_length x (length w.body) (with_dues r (short_of x w (promised_bytes w)) (with_exchange x (Some (at_end w)) t)) ≡ with_end x w t.exchange (with_dues r (Some why) t)
   all_are r = length_stays (with_dues r (short_of x w (promised_bytes w)) (with_exchange x (Some (at_end w)) t)) x (length w.body) known ∙ ap (λ o. with_dues r o (with_exchange x (Some (at_end w)) t)) due_is
 
-  pub short_answered : (before out : List Act) → BrokeOff faults u t before out now x w why → Answered limits faults u t before out now (event.End x)
+  pub short_answered : (before out : List Act) → BrokeOff limits faults u t before out now x w why → Answered limits faults u t before out now (event.End x)
   short_answered before out (stopped.own c (stopped.past none one) has) =
       let s : Tables = with_due w.c (Some why) t in
-      let has_w : HasStopped faults u t (due_for t (λ d. w.c == d) why) before out now x = subst (λ (n : ℕ). HasStopped faults u t (due_for t (λ d. n == d) why) before out now x) one has in
+      let has_w : HasStopped limits faults u t (due_for t (λ d. w.c == d) why) before out now x = subst (λ (n : ℕ). HasStopped limits faults u t (due_for t (λ d. n == d) why) before out now x) one has in
       let going : (if is_short w then going_with t (Some x) else None) ≡ None = ap (λ b. if b then going_with t (Some x) else None) short ∙ nothing_goes t facts.law x w broken.row none in
       ends_with (due_for t (λ d. w.c == d) why) s refl (own_tables t x w.c w why broken.row)
       (by_end (with_end x w t.exchange s) (with_due w.c (short_of x w (promised_bytes w)) (with_exchange x (Some (at_end w)) t)) (ap (λ o. with_due w.c o (with_exchange x (Some (at_end w)) t)) due_is)

@@ -103,8 +103,8 @@ or_none true = refl
 or_none false = refl
 
 module _ {B : Type 0} {g : Ghosts B} (limits : Limits) (faults : ℕ) (u : Rows B g) (t : Tables) (law : Lawful t) (now x : ℕ) (w : Exchange) (row : t.exchange x ≡ Some w) (ev : Event) (s : Tables) (by : StopsBy limits t now x w ev s) (f : ℕ → Option rows.Consumer)
-    (same_rows : s.representation ≡ t.representation) (goes : (o : Option ℕ) → RowsStand u (let_some_go now o (tables_after_close x (with_consumers f t))) → RowsStand u (let_some_go now o s))
-    (loses : (r : ℕ) (v : Representation) (alone : Option ℕ) → RowsStand u (let_go now r (with_representation r (Some (lost_to alone v)) (tables_after_close x (with_consumers f t)))) → RowsStand u (let_go now r (with_representation r (Some (lost_to alone v)) s))) where
+    (same_rows : s.representation ≡ t.representation) (goes : (o : Option ℕ) → RowsStand limits u (let_some_go now o (tables_after_close x (with_consumers f t))) → RowsStand limits u (let_some_go now o s))
+    (loses : (r : ℕ) (v : Representation) (alone : Option ℕ) → RowsStand limits u (let_go now r (with_representation r (Some (lost_to alone v)) (tables_after_close x (with_consumers f t)))) → RowsStand limits u (let_go now r (with_representation r (Some (lost_to alone v)) s))) where
   not_lost : (r : ℕ) (v : Representation) → t.representation r ≡ Some v → v.is_gone ≡ false → v.is_lost ≡ false
   not_lost r v there stays = by_test v.is_lost refl
     where
@@ -112,7 +112,7 @@ module _ {B : Type 0} {g : Ghosts B} (limits : Limits) (faults : ℕ) (u : Rows 
       by_test false is = refl
       by_test true is = false_true (sym stays ∙ (law.sound.rows r v there).store.lost_is_gone is)
 
-  pub stopped_answered : (before out : List Act) → HasStopped faults u t f before out now x → Answered limits faults u t before out now ev
+  pub stopped_answered : (before out : List Act) → HasStopped limits faults u t f before out now x → Answered limits faults u t before out now ev
   stopped_answered before out (quietly same rows) =
       let z : Tables = let_some_go now (going_with t (Some x)) s in
       does_answered limits faults u t (with_event now ev z) before out [] now ev by.quiet by.unwritten refl (same ∙ sym (append-nil before)) (stands_counted u z now ev by.bodiless (goes (going_with t (Some x)) rows))
@@ -130,7 +130,7 @@ module _ {B : Type 0} {g : Ghosts B} (limits : Limits) (faults : ℕ) (u : Rows 
       ∙ sealed_stopping t law e x w q.r q.v row of_r q.there q.stays q.kept (λ y. or_none (stops y ev) ∙ by.stops_at y) (λ y a on. by.early_at y a (sym (or_none (stops_early a y ev)) ∙ on))))
       (rw (q.there, kept) refl) refl l.failed l.acts
       (stands_counted u z now ev by.bodiless
-      (subst (λ (a : Tables). RowsStand u (let_go now q.r a)) (loss_is s q.r q.v (exclusive t q.r q.v) (ap (λ h. h q.r) same_rows ∙ q.there)) (loses q.r q.v (exclusive t q.r q.v) l.rows)))
+      (subst (λ (a : Tables). RowsStand limits u (let_go now q.r a)) (loss_is s q.r q.v (exclusive t q.r q.v) (ap (λ h. h q.r) same_rows ∙ q.there)) (loses q.r q.v (exclusive t q.r q.v) l.rows)))
 
 -- A FAULT
 
@@ -178,16 +178,16 @@ module _ {B : Type 0} {g : Ghosts B} (limits : Limits) (faults : ℕ) (u : Rows 
     seals = λ acts. refl;
   }
 
-  pub fault_answered : (before out : List Act) → BrokeOff faults u t before out now x w why → Answered limits faults u t before out now (event.Fault x)
+  pub fault_answered : (before out : List Act) → BrokeOff limits faults u t before out now x w why → Answered limits faults u t before out now (event.Fault x)
   fault_answered before out (stopped.own c (stopped.past none one) has) =
       let s : Tables = with_due w.c (Some why) (with_exchange x (Some (over w)) t) in
-      let has_w : HasStopped faults u t (due_for t (λ d. w.c == d) why) before out now x = subst (λ (n : ℕ). HasStopped faults u t (due_for t (λ d. n == d) why) before out now x) one has in
+      let has_w : HasStopped limits faults u t (due_for t (λ d. w.c == d) why) before out now x = subst (λ (n : ℕ). HasStopped limits faults u t (due_for t (λ d. n == d) why) before out now x) one has in
       stopped_answered limits faults u t law now x w broken.row (event.Fault x) s
       (by_fault s (subst (λ o. Does limits t now (event.Fault x) NoFlaw [] (with_event now (event.Fault x) (let_some_go now o s))) (sym (nothing_goes t law x w broken.row none)) (by_head w.head refl))
       (λ r v of_r there kept. none_some v (sym none ∙ (ap t.representation of_r ∙ there))))
       (due_for t (λ d. w.c == d) why) refl
-      (λ o rows. subst (λ (z : Tables). RowsStand u (let_some_go now o z)) (own_tables t x w.c w why broken.row) rows)
-      (λ r v alone rows. subst (λ (z : Tables). RowsStand u (let_go now r (with_representation r (Some (lost_to alone v)) z))) (own_tables t x w.c w why broken.row) rows)
+      (λ o rows. subst (λ (z : Tables). RowsStand limits u (let_some_go now o z)) (own_tables t x w.c w why broken.row) rows)
+      (λ r v alone rows. subst (λ (z : Tables). RowsStand limits u (let_go now r (with_representation r (Some (lost_to alone v)) z))) (own_tables t x w.c w why broken.row) rows)
       before out has_w
     where
       by_head : (h : Option Response) → w.head ≡ h → Does limits t now (event.Fault x) NoFlaw [] (with_event now (event.Fault x) (with_due w.c (Some why) (with_exchange x (Some (over w)) t)))
@@ -202,8 +202,8 @@ module _ {B : Type 0} {g : Ghosts B} (limits : Limits) (faults : ℕ) (u : Rows 
       (by_fault s (seal_effects.faults_own limits t law now x w broken.row (family x w) v refl there c k at owns headed accepts)
       (λ r z of_r here kept. seal_effects.faults_own_lost limits t law now x w broken.row r z of_r here c k at owns headed accepts kind.Fault kept))
       (due_for t (λ d. c == d) why) refl
-      (λ o rows. subst (λ (z : Tables). RowsStand u (let_some_go now o z)) (own_tables t x c w why broken.row) rows)
-      (λ r z alone rows. subst (λ (a : Tables). RowsStand u (let_go now r (with_representation r (Some (lost_to alone z)) a))) (own_tables t x c w why broken.row) rows)
+      (λ o rows. subst (λ (z : Tables). RowsStand limits u (let_some_go now o z)) (own_tables t x c w why broken.row) rows)
+      (λ r z alone rows. subst (λ (a : Tables). RowsStand limits u (let_go now r (with_representation r (Some (lost_to alone z)) a))) (own_tables t x c w why broken.row) rows)
       before out has
   fault_answered before out (stopped.shared v there on writer has) =
       let r : ℕ = family x w in
@@ -217,16 +217,16 @@ module _ {B : Type 0} {g : Ghosts B} (limits : Limits) (faults : ℕ) (u : Rows 
       subst (λ (a : Representation). Does limits t now (event.Fault x) (Loses r kind.Fault) (act.Lost r kind.Fault ∷ []) (with_event now (event.Fault x) (let_go now r (with_loss r (exclusive t r a) s)))) same
       (seal_effects.faults_shared_lost limits t law now x w broken.row r v refl there on writer headed accepts kind.Fault (ap (λ (a : Representation). a.is_lost) same ∙ kept)))))
       (due_for t (λ d. is_bound r (t.consumer d)) why) refl
-      (λ o rows. subst (λ (z : Tables). RowsStand u (let_some_go now o z)) (shared_tables t x r w why broken.row) rows)
-      (λ q z alone rows. subst (λ (a : Tables). RowsStand u (let_go now q (with_representation q (Some (lost_to alone z)) a))) (shared_tables t x r w why broken.row) rows)
+      (λ o rows. subst (λ (z : Tables). RowsStand limits u (let_some_go now o z)) (shared_tables t x r w why broken.row) rows)
+      (λ q z alone rows. subst (λ (a : Tables). RowsStand limits u (let_go now q (with_representation q (Some (lost_to alone z)) a))) (shared_tables t x r w why broken.row) rows)
       before out has
 
 -- BEFORE THE HEAD
 
 pub wait_answered : {B : Type 0} {g : Ghosts B} (limits : Limits) (faults : ℕ) (u : Rows B g) (t : Tables) → Lawful t → (now x c : ℕ) (w : Exchange) (k : rows.Consumer) (before : List Act) → Waited t x c w k → denial t (event.Fault x) ≡ None
-    → RowsStand u (with_consumer c (Some (put_down (cause.Net x) k)) (with_exchange x (Some (over w)) t)) → Answered limits faults u t before before now (event.Fault x)
+    → RowsStand limits u (with_consumer c (Some (put_down (cause.Net x) k)) (with_exchange x (Some (over w)) t)) → Answered limits faults u t before before now (event.Fault x)
 wait_answered limits faults u t law now x c w k before waited accepts rows =
     let s : Tables = with_consumer w.c (Some (put_down (cause.Net x) k)) (with_exchange x (Some (over w)) t) in
     does_answered limits faults u t (with_event now (event.Fault x) s) before before [] now (event.Fault x)
     (past_effects.faults_first limits t law now x w waited.row waited.bare k (ap t.consumer waited.for_it ∙ waited.consumer) accepts waited.unshown) refl refl (sym (append-nil before))
-    (stands_counted u s now (event.Fault x) refl (subst (λ (n : ℕ). RowsStand u (with_consumer n (Some (put_down (cause.Net x) k)) (with_exchange x (Some (over w)) t))) (sym waited.for_it) rows))
+    (stands_counted u s now (event.Fault x) refl (subst (λ (n : ℕ). RowsStand limits u (with_consumer n (Some (put_down (cause.Net x) k)) (with_exchange x (Some (over w)) t))) (sym waited.for_it) rows))

@@ -157,15 +157,15 @@ module _ (limits : Limits) (t : Tables) (facts : Facts limits t) (now x : ℕ) (
       by_head None some is = false_true some
       by_head (Some response) some is = rw is (then_false w.is_open false refl)
 
-  pub past_answered : {B : Type 0} {g : Ghosts B} (faults : ℕ) (r u : Rows B g) (before : List Act) (c n : ℕ) → t.representation (family x w) ≡ None → n ≡ length w.body → c ≡ w.c → RowsStand r t
-      → u.limits ≡ r.limits → u.last_start ≡ r.last_start → u.keys ≡ r.keys → u.entries ≡ r.entries → exch.Becomes known.without_exchange x r.exchanges u.exchanges → ChangesAt r.consumers u.consumers c (changes.with_end n)
+  pub past_answered : {B : Type 0} {g : Ghosts B} (faults : ℕ) (r u : Rows B g) (before : List Act) (c n : ℕ) → t.representation (family x w) ≡ None → n ≡ length w.body → c ≡ w.c → RowsStand limits r t
+      → u.last_start ≡ r.last_start → u.keys ≡ r.keys → u.entries ≡ r.entries → exch.Becomes known.without_exchange x r.exchanges u.exchanges → ChangesAt r.consumers u.consumers c (changes.with_end n)
       → Answered limits faults u t before before now (event.End x)
-  past_answered faults r u before c n none all its stands same_limits last keys entries becomes knows =
+  past_answered faults r u before c n none all its stands last keys entries becomes knows =
       let z : Tables = with_exchange x (Some (at_end w)) t in
       does_answered limits faults u t (with_event now (event.End x) z) before before [] now (event.End x)
       (subst (λ (s : Tables). Does limits t now (event.End x) NoFlaw [] (with_event now (event.End x) s)) (ap (λ o. with_due w.c o z) no_cause ∙ nothing_due z w.c) (past_effects.ends_past limits t law now x w row none accepts))
       refl refl (sym (append-nil before))
-      (stands_counted u z now (event.End x) refl (stands_past r u t law x w row opened headed none tells_none n all stands awaits_none same_limits last keys entries becomes c its knows))
+      (stands_counted u z now (event.End x) refl (stands_past r u t law x w row opened headed none tells_none n all stands awaits_none last keys entries becomes c its knows))
 
   -- OF WHAT IS STORED
 
@@ -251,8 +251,8 @@ module _ (limits : Limits) (t : Tables) (facts : Facts limits t) (now x : ℕ) (
         subst (λ (a : Tables). Does limits t now (event.End x) (Loses x kind.Fault) (act.Lost x kind.Fault ∷ []) (with_event now (event.End x) (let_go now x (with_loss x (exclusive t x v) (with_length x (length w.body) a))))) (ap (λ o. with_dues x o z) no_cause ∙ nothing_dues z x)
         (seal_effects.ends_shared_lost limits t law now x w row x v measured.own here is.written is.writer accepts kind.Fault (kept stays))
 
-    module _ {B : Type 0} {g : Ghosts B} (faults : ℕ) (r mid u : Rows B g) (stands : RowsStand r t) (before out : List Act)
-        (same_limits : u.limits ≡ mid.limits) (last : u.last_start ≡ mid.last_start) (keys : u.keys ≡ mid.keys) (entries : u.entries ≡ mid.entries) (becomes : exch.Becomes known.without_exchange x mid.exchanges u.exchanges)
+    module _ {B : Type 0} {g : Ghosts B} (faults : ℕ) (r mid u : Rows B g) (stands : RowsStand limits r t) (before out : List Act)
+        (last : u.last_start ≡ mid.last_start) (keys : u.keys ≡ mid.keys) (entries : u.entries ≡ mid.entries) (becomes : exch.Becomes known.without_exchange x mid.exchanges u.exchanges)
         (knows : ChangesAmong mid.consumers u.consumers (λ d. has itself d (bound_in ((shelf_of mid.entries).kept x))) (changes.with_end (length w.body))) where
       abbrev n : ℕ
       n = length w.body
@@ -264,14 +264,14 @@ module _ (limits : Limits) (t : Tables) (facts : Facts limits t) (now x : ℕ) (
       users_by s (Some e) None some rep kept_it d = absurd kept_it
       users_by s (Some e) (Some p) some rep kept_it d = kept_it.bound d
 
-      quietly_ends : out ≡ before → RowsStand u (with_length x n (with_exchange x (Some (at_end w)) t)) → Answered limits faults u t before out now (event.End x)
+      quietly_ends : out ≡ before → RowsStand limits u (with_length x n (with_exchange x (Some (at_end w)) t)) → Answered limits faults u t before out now (event.End x)
       quietly_ends same rows =
           let s : Tables = with_length x n (with_exchange x (Some (at_end w)) t) in
           does_answered limits faults u t (with_event now (event.End x) s) before out [] now (event.End x) quiet refl refl (same ∙ sym (append-nil before)) (stands_counted u s now (event.End x) refl rows)
 
       -- what is gone stays
-      gone_stays : (s : Tables) (p : Representation) → RowsStand mid s → s.exchange x ≡ Some w → s.representation x ≡ Some p → p.head.total ≡ None → p.is_gone ≡ true → p.body ≡ v.body → (bound s x ≡ [] → ⊥) → ((d : ℕ) (k : rows.Consumer) → s.consumer d ≡ Some k → k.place ≡ place.Direct x → ⊥) → NobodyAwaits s x → NobodyFirst s x
-          → RowsStand u (with_length x n (with_exchange x (Some (at_end w)) s))
+      gone_stays : (s : Tables) (p : Representation) → RowsStand limits mid s → s.exchange x ≡ Some w → s.representation x ≡ Some p → p.head.total ≡ None → p.is_gone ≡ true → p.body ≡ v.body → (bound s x ≡ [] → ⊥) → ((d : ℕ) (k : rows.Consumer) → s.consumer d ≡ Some k → k.place ≡ place.Direct x → ⊥) → NobodyAwaits s x → NobodyFirst s x
+          → RowsStand limits u (with_length x n (with_exchange x (Some (at_end w)) s))
       gone_stays s p rows s_row s_rep unknown is_gone same_body some nobody awaits firsts =
           let each : KeepsEntry s x ((shelf_of mid.entries).kept x) (s.representation x) = rows.entries.each x in
           let users = users_by s ((shelf_of mid.entries).kept x) (s.representation x) some (ap (λ z. is_some z) s_rep) each in
@@ -279,14 +279,14 @@ module _ (limits : Limits) (t : Tables) (facts : Facts limits t) (now x : ℕ) (
           let here_now : after.representation x ≡ Some (with_total_if_none n p) = rw (eqb-same x, s_rep) refl in
           let each_now : KeepsEntry after x ((shelf_of u.entries).kept x) (after.representation x) =
           rw (entries, here_now) (gone_longer s x n (Some (at_end w)) p s_rep unknown refl is_gone (subst (λ f. Covers f 0 n) (sym same_body) came) firsts ((shelf_of mid.entries).kept x) (subst (KeepsEntry s x ((shelf_of mid.entries).kept x)) s_rep each)) in
-          stands_whole mid u s x w n p s_row s_rep measured.own unknown rows nobody awaits same_limits last keys becomes (λ d. has itself d (bound_in ((shelf_of mid.entries).kept x))) users knows (ap (λ z. (shelf_of z).limits) entries)
-          (entries_whole mid u s x w n p s_row s_rep measured.own unknown rows nobody awaits same_limits last keys becomes (λ d. has itself d (bound_in ((shelf_of mid.entries).kept x))) users knows (ap (λ z. (shelf_of z).limits) entries)
+          stands_whole mid u s x w n p s_row s_rep measured.own unknown rows nobody awaits last keys becomes (λ d. has itself d (bound_in ((shelf_of mid.entries).kept x))) users knows (ap (λ z. (shelf_of z).limits) entries)
+          (entries_whole mid u s x w n p s_row s_rep measured.own unknown rows nobody awaits last keys becomes (λ d. has itself d (bound_in ((shelf_of mid.entries).kept x))) users knows (ap (λ z. (shelf_of z).limits) entries)
           (shelf_of u.entries) (ap (λ z. (shelf_of z).order) entries) (λ q ne. ap (λ z. (shelf_of z).kept q) entries) each_now)
 
-      pub whole_answered : SealedWhole faults r mid t before out now x v n → Answered limits faults u t before out now (event.End x)
+      pub whole_answered : SealedWhole limits faults r mid t before out now x v n → Answered limits faults u t before out now (event.End x)
       unfolding bound written_representation
       whole_answered (stopped.gone is_gone same unchanged) =
-          quietly_ends same (gone_stays t v (subst (λ z. RowsStand z t) (sym unchanged) stands) row here measured.untold is_gone refl used unread awaits_none none_first)
+          quietly_ends same (gone_stays t v (subst (λ z. RowsStand limits z t) (sym unchanged) stands) row here measured.untold is_gone refl used unread awaits_none none_first)
       whole_answered (stopped.sealed stays same rest seals) = quietly_ends same (by_kept ((shelf_of r.entries).kept x) refl (subst (KeepsEntry t x ((shelf_of r.entries).kept x)) here (stands.entries.each x)))
         where
           after : Tables
@@ -310,7 +310,7 @@ module _ (limits : Limits) (t : Tables) (facts : Facts limits t) (now x : ℕ) (
           ends : EndsBy v.reach v.stored
           ends p le = stores p ∙ (law.sound.rows x v here).store.ends p le
 
-          by_kept : (k : Option Kept) → (shelf_of r.entries).kept x ≡ k → KeepsEntry t x k (Some v) → RowsStand u after
+          by_kept : (k : Option Kept) → (shelf_of r.entries).kept x ≡ k → KeepsEntry t x k (Some v) → RowsStand limits u after
           by_kept None at dropped = false_true (sym stays ∙ dropped.gone)
           by_kept (Some e) at is =
               let seals_it : (shelf_of mid.entries).kept x ≡ Some (entry.sealed_kept kinds.Whole (Some n) e) = seals.kept x ∙ rw (eqb-same x, at) refl in
@@ -322,14 +322,14 @@ module _ (limits : Limits) (t : Tables) (facts : Facts limits t) (now x : ℕ) (
               let becomes_r : exch.Becomes known.without_exchange x r.exchanges u.exchanges = subst (λ z. exch.Becomes known.without_exchange x z u.exchanges) rest.exchanges becomes in
               let knows_r : ChangesAmong r.consumers u.consumers (λ d. has itself d (bound_in ((shelf_of mid.entries).kept x))) (changes.with_end n) = subst (λ z. ChangesAmong z u.consumers (λ d. has itself d (bound_in ((shelf_of mid.entries).kept x))) (changes.with_end n)) rest.consumers knows in
               let bounded : (shelf_of u.entries).limits ≡ (shelf_of r.entries).limits = ap (λ z. (shelf_of z).limits) entries ∙ seals.limits in
-              stands_whole r u t x w n v row here measured.own measured.untold stands unread awaits_none (same_limits ∙ rest.limits) (last ∙ rest.last_start) (keys ∙ rest.keys) becomes_r (λ d. has itself d (bound_in ((shelf_of mid.entries).kept x))) users_so knows_r bounded
-              (entries_whole r u t x w n v row here measured.own measured.untold stands unread awaits_none (same_limits ∙ rest.limits) (last ∙ rest.last_start) (keys ∙ rest.keys) becomes_r (λ d. has itself d (bound_in ((shelf_of mid.entries).kept x))) users_so knows_r bounded
+              stands_whole r u t x w n v row here measured.own measured.untold stands unread awaits_none (last ∙ rest.last_start) (keys ∙ rest.keys) becomes_r (λ d. has itself d (bound_in ((shelf_of mid.entries).kept x))) users_so knows_r bounded
+              (entries_whole r u t x w n v row here measured.own measured.untold stands unread awaits_none (last ∙ rest.last_start) (keys ∙ rest.keys) becomes_r (λ d. has itself d (bound_in ((shelf_of mid.entries).kept x))) users_so knows_r bounded
               (shelf_of u.entries) (ap (λ z. (shelf_of z).order) entries ∙ seals.order) (λ q ne. ap (λ z. (shelf_of z).kept q) entries ∙ (seals.kept q ∙ rw (eqb-other x q ne) refl)) each_now)
       whole_answered (stopped.lost stays told_so failed rows) =
           lossy_answered limits faults u t (with_event now (event.End x) model) before out (act.Lost x kind.Fault ∷ []) now (event.End x) x (loses stays)
           (ap (λ (acts : List Act). written_representation t (record { now = now; event = event.End x; acts = acts })) (loses stays).acts_are ∙ written_is)
           (rw (here, kept stays) refl) refl (subst (λ z. faults < (shelf_of z).faults) (sym entries) failed) told_so
-          (stands_counted u model now (event.End x) refl (subst (RowsStand u) (lost_whole t now x n w v (exclusive t x v) here (none_alone limits t facts x w broken x v (coming stays).written))
+          (stands_counted u model now (event.End x) refl (subst (RowsStand limits u) (lost_whole t now x n w v (exclusive t x v) here (none_alone limits t facts x w broken x v (coming stays).written))
           (gone_stays after (as_gone (lost_to None v)) rows row gone_here measured.untold refl refl used_then (unread_go now x before_it x unread) (unawaited_go now x before_it x awaits_none) (nobody_first_go now x x before_it none_first_before))))
         where
           before_it : Tables
@@ -384,7 +384,7 @@ nobody_alone t law q v there stays = (law.sound.rows q v there).store.nobody_alo
     by_test true is = false_true (sym stays ∙ (law.sound.rows q v there).store.lost_is_gone is)
 
 -- what an open exchange brings is kept, and of a length that a store takes
-module _ {B : Type 0} {g : Ghosts B} (r : Rows B g) (t : Tables) (facts : Facts r.limits t) (stands : RowsStand r t) (x : ℕ) (w : Exchange) (row : t.exchange x ≡ Some w) (opened : w.is_open ≡ true) where
+module _ {B : Type 0} {g : Ghosts B} {lim : Limits} (r : Rows B g) (t : Tables) (facts : Facts lim t) (stands : RowsStand lim r t) (x : ℕ) (w : Exchange) (row : t.exchange x ≡ Some w) (opened : w.is_open ≡ true) where
   pub brought_row : (q : ℕ) (o : Option ℕ) → o ≡ brought_by (table_of r.exchanges x).running → o ≡ Some q → (v : Representation) × (t.representation (family x w) ≡ Some v) × (q ≡ family x w)
   brought_row q o is some = by_row (t.representation (family x w)) refl
     where

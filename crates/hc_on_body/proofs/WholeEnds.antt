@@ -4,6 +4,7 @@ use Rattle.std.proofs.lemmas.Bool.Decides.{nat_tests}
 use Rattle.std.specs.Prelude.{is_some, nat_eq, filter, option_map, if◌then◌else◌}
 use Rattle.std.specs.Option.{option_or}
 use Rattle.std.specs.HashMap.{get}
+use Rattle.hc_rules.specs.declared.room.Limits.{Limits}
 use Rattle.hc_store.specs.declared.backend.Backend.{Ghosts}
 use Rattle.hc_event.specs.declared.event.Response.{Response}
 use Rattle.hc_record.specs.declared.kind.Kind.TheVariants as kinds
@@ -223,9 +224,9 @@ module _ (a : Tables) (x n : ℕ) (z : Option Exchange) (v : Representation) (th
 
 -- ALL OF IT
 
-module _ {B : Type 0} {g : Ghosts B} (r u : Rows B g) (t : Tables) (x : ℕ) (w : Exchange) (n : ℕ) (v : Representation) (row : t.exchange x ≡ Some w) (there : t.representation x ≡ Some v) (own : family x w ≡ x) (untold_yet : v.head.total ≡ None) (stands : RowsStand r t)
+module _ {B : Type 0} {g : Ghosts B} {lim : Limits} (r u : Rows B g) (t : Tables) (x : ℕ) (w : Exchange) (n : ℕ) (v : Representation) (row : t.exchange x ≡ Some w) (there : t.representation x ≡ Some v) (own : family x w ≡ x) (untold_yet : v.head.total ≡ None) (stands : RowsStand lim r t)
     (unread : (d : ℕ) (k : rows.Consumer) → t.consumer d ≡ Some k → k.place ≡ place.Direct x → ⊥) (unawaited : NobodyAwaits t x)
-    (limits : u.limits ≡ r.limits) (last : u.last_start ≡ r.last_start) (keys : u.keys ≡ r.keys) (becomes : exch.Becomes known.without_exchange x r.exchanges u.exchanges)
+    (last : u.last_start ≡ r.last_start) (keys : u.keys ≡ r.keys) (becomes : exch.Becomes known.without_exchange x r.exchanges u.exchanges)
     (users : ℕ → Bool) (users_are : (d : ℕ) → users d ≡ is_bound x (t.consumer d)) (knows : ChangesAmong r.consumers u.consumers users (changes.with_end n)) (bounded : (shelf_of u.entries).limits ≡ (shelf_of r.entries).limits) where
   abbrev mid : Tables
   mid = with_exchange x (Some (at_end w)) t
@@ -288,9 +289,9 @@ module _ {B : Type 0} {g : Ghosts B} (r u : Rows B g) (t : Tables) (x : ℕ) (w 
       apart : (q lo : ℕ) (hi : Option ℕ) (how : BoundBy) → c.place ≡ place.Bound q lo hi how → x ≢ q
       apart q lo hi how is e = false_true (sym off ∙ (ap (is_bound_place x) is ∙ (ap (λ m. nat_eq m x) (sym e) ∙ eqb-same x)))
 
-  pub stands_whole : KeepsEntries whole (shelf_of u.entries) → RowsStand u whole
+  pub stands_whole : KeepsEntries whole (shelf_of u.entries) → RowsStand lim u whole
   stands_whole entries = record {
-    limits = bounded ∙ (stands.limits ∙ sym limits);
+    limits = bounded ∙ stands.limits;
     last_start = last ∙ stands.last_start;
     next = becomes.next ∙ stands.next;
     count = knows.len ∙ stands.count;
@@ -324,8 +325,8 @@ module _ {B : Type 0} {g : Ghosts B} (r u : Rows B g) (t : Tables) (x : ℕ) (w 
 
 -- PAST THE STORE
 
-module _ {B : Type 0} {g : Ghosts B} (r u : Rows B g) (t : Tables) (law : Lawful t) (x : ℕ) (w : Exchange) (row : t.exchange x ≡ Some w) (opened : w.is_open ≡ true) (headed : is_some w.head ≡ true) (none : t.representation (family x w) ≡ None) (tells_none : promised_bytes w ≡ None) (n : ℕ) (all : n ≡ length w.body) (stands : RowsStand r t) (unawaited : NobodyAwaits t x)
-    (limits : u.limits ≡ r.limits) (last : u.last_start ≡ r.last_start) (keys : u.keys ≡ r.keys) (entries : u.entries ≡ r.entries) (becomes : exch.Becomes known.without_exchange x r.exchanges u.exchanges) (c : ℕ) (its : c ≡ w.c) (knows : ChangesAt r.consumers u.consumers c (changes.with_end n)) where
+module _ {B : Type 0} {g : Ghosts B} {lim : Limits} (r u : Rows B g) (t : Tables) (law : Lawful t) (x : ℕ) (w : Exchange) (row : t.exchange x ≡ Some w) (opened : w.is_open ≡ true) (headed : is_some w.head ≡ true) (none : t.representation (family x w) ≡ None) (tells_none : promised_bytes w ≡ None) (n : ℕ) (all : n ≡ length w.body) (stands : RowsStand lim r t) (unawaited : NobodyAwaits t x)
+    (last : u.last_start ≡ r.last_start) (keys : u.keys ≡ r.keys) (entries : u.entries ≡ r.entries) (becomes : exch.Becomes known.without_exchange x r.exchanges u.exchanges) (c : ℕ) (its : c ≡ w.c) (knows : ChangesAt r.consumers u.consumers c (changes.with_end n)) where
   abbrev pub past : Tables
   past = with_exchange x (Some (at_end w)) t
 
@@ -390,9 +391,9 @@ module _ {B : Type 0} {g : Ghosts B} (r u : Rows B g) (t : Tables) (law : Lawful
     | inr ne ↦ then_false w.is_open (nat_eq (family x w) q) (eqb-other (family x w) q ne)
   ]
 
-  pub stands_past : RowsStand u past
+  pub stands_past : RowsStand lim u past
   stands_past = record {
-    limits = ap (λ e. (shelf_of e).limits) entries ∙ (stands.limits ∙ sym limits);
+    limits = ap (λ e. (shelf_of e).limits) entries ∙ stands.limits;
     last_start = last ∙ stands.last_start;
     next = becomes.next ∙ stands.next;
     count = knows.len ∙ stands.count;

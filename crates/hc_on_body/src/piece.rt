@@ -18,6 +18,7 @@ ghost use Rattle.hc_exch.specs.Exchanges.{table_of};
 ghost use Rattle.hc_exch.specs.Known.{is_open, is_all, EndsBelow};
 ghost use Rattle.hc_model.specs.Effects.{as_gone, lost_to};
 ghost use Rattle.hc_model.specs.Rows.{Tables, Exchange, Representation};
+ghost use Rattle.hc_rules.specs.declared.room.Limits.{Limits};
 ghost use Rattle.hc_state.specs.Pieces.{stored_by, larger_view, IsLastKind, PutsPiece};
 ghost use Rattle.hc_state.specs.Refused.{brought_lost, own_loss, LosesPiece, MayLoseOwn, MayLosePiece, RefusesPiece};
 ghost use Rattle.hc_state.specs.Stands.{RowsStand, Stays, Answers, Stands, open_at};
@@ -51,7 +52,6 @@ pub fn take_piece<B: Backend>(
     requires room { 4 ≤ spare out.old }
     ensures answers { OnOk result (Answers rows.old rows.new (act_list out.old) (act_list out.new)
         now (Piece x bytes.now)) }
-    ensures limits { OnOk result (rows.new.limits ≡ rows.old.limits) }
     ensures faults { (shelf_of rows.old.entries).faults ≤ (shelf_of rows.new.entries).faults }
     ensures kept { OnErr result (act_list out.new ≡ act_list out.old) }
 {
@@ -82,7 +82,6 @@ fn grow<B: Backend>(
     requires room { 4 ≤ spare out.old }
     ensures answers { OnOk result (Answers rows.old rows.new (act_list out.old) (act_list out.new)
         now (Piece x bytes.now)) }
-    ensures limits { rows.new.limits ≡ rows.old.limits }
     ensures faults { (shelf_of rows.old.entries).faults ≤ (shelf_of rows.new.entries).faults }
     ensures front { take (length (act_list out.old)) (act_list out.new) ≡ act_list out.old }
 {
@@ -111,12 +110,11 @@ fn lose_own_piece<B: Backend>(
     requires accepted { piece_refusal (open_at rows.old x) (length bytes.now) ≡ None }
     requires below { EndsBelow (length bytes.now) (table_of rows.old.exchanges x).running }
     requires room { 1 ≤ spare out.old }
-    ensures lost { OnOk result ((t : Tables) (w : Exchange) (v : Representation)
-        → MayLoseOwn t now r x w v alone → RowsStand rows.old t
-        → RowsStand rows.new (brought_lost now r x w bytes.now (as_gone (lost_to alone v))
+    ensures lost { OnOk result ((lim : Limits) (t : Tables) (w : Exchange) (v : Representation)
+        → MayLoseOwn t now r x w v alone → RowsStand lim rows.old t
+        → RowsStand lim rows.new (brought_lost now r x w bytes.now (as_gone (lost_to alone v))
         (own_loss now r v alone t))) }
     ensures acts { act_list out.new ≡ act_list out.old ++ act.Lost r kind ∷ [] }
-    ensures limits { rows.new.limits ≡ rows.old.limits }
     ensures faults { (shelf_of rows.new.entries).faults ≡ (shelf_of rows.old.entries).faults }
 {
     lose_to(rows, now, r, alone, kind, out);
@@ -139,11 +137,10 @@ fn lose_shared_piece<B: Backend>(
     requires accepted { piece_refusal (open_at rows.old x) (length bytes.now) ≡ None }
     requires below { EndsBelow (length bytes.now) (table_of rows.old.exchanges x).running }
     requires room { 2 ≤ spare out.old }
-    ensures lost { OnOk result ((t : Tables) (w : Exchange) (v : Representation)
-        → MayLosePiece t now r x w v → RowsStand rows.old t → LosesPiece rows.new t
+    ensures lost { OnOk result ((lim : Limits) (t : Tables) (w : Exchange) (v : Representation)
+        → MayLosePiece t now r x w v → RowsStand lim rows.old t → LosesPiece lim rows.new t
         (act_list out.old) (act_list out.new) now r x bytes.now w v kind) }
     ensures front { take (length (act_list out.old)) (act_list out.new) ≡ act_list out.old }
-    ensures limits { rows.new.limits ≡ rows.old.limits }
     ensures faults { (shelf_of rows.new.entries).faults ≡ (shelf_of rows.old.entries).faults }
 {
     let detached_reader = lose_shared(rows, now, r, x, kind, out);
@@ -184,7 +181,6 @@ pub(crate) fn hold_piece<B: Backend>(
     requires short { length bytes.now ≤ 65536 }
     ensures answers { OnOk result ((now : ℕ) (before : List Act)
         → Answers rows.old rows.new before before now (Piece x bytes.now)) }
-    ensures limits { OnOk result (rows.new.limits ≡ rows.old.limits) }
     ensures faults { (shelf_of rows.new.entries).faults ≡ (shelf_of rows.old.entries).faults }
     ensures err { OnErr result (Stays rows.old rows.new) }
 {
@@ -211,7 +207,6 @@ pub(crate) fn store_piece<B: Backend>(
         (act_list out.new) now (Piece x bytes.now) }
     ensures refused { (kind : LostKind) → result ≡ Ok (Some kind) → RefusesPiece rows.old
         rows.new now x r bytes.now kind (act_list out.old) (act_list out.new) (spare out.new) }
-    ensures limits { rows.new.limits ≡ rows.old.limits }
     ensures faults { (shelf_of rows.old.entries).faults ≤ (shelf_of rows.new.entries).faults }
     ensures front { take (length (act_list out.old)) (act_list out.new) ≡ act_list out.old }
 {
@@ -248,7 +243,6 @@ fn put_piece<B: Backend>(rows: &mut Rows<B>, x: u64, r: u64, bytes: &[u8]) -> Re
         ((shelf_of rows.old.entries).used + length bytes.now) result }
     ensures cause { HasCause (shelf_of rows.old.entries).faults
         (shelf_of rows.new.entries).faults result }
-    ensures limits { rows.new.limits ≡ rows.old.limits }
     ensures last_start { rows.new.last_start ≡ rows.old.last_start }
     ensures consumers { rows.new.consumers ≡ rows.old.consumers }
     ensures exchanges { rows.new.exchanges ≡ rows.old.exchanges }

@@ -13,6 +13,7 @@ ghost use Rattle.hc_model.specs.Effects.{with_consumer, with_exchange, put_down,
 ghost use Rattle.hc_model.specs.Denials.{denial};
 ghost use Rattle.hc_model.specs.LettingGo.{MayLetGo};
 ghost use Rattle.hc_model.specs.Rows.{Tables, Exchange, Representation, Consumer};
+ghost use Rattle.hc_rules.specs.declared.room.Limits.{Limits};
 ghost use Rattle.hc_state.specs.Changes.{ChangesAmong, with_due};
 ghost use Rattle.hc_state.specs.Facts.{Facts};
 ghost use Rattle.hc_state.specs.Stands.{Answered, Answers, KeepsRest, RowsStand, Stands, open_at};
@@ -35,7 +36,6 @@ pub fn fault<B: Backend>(rows: &mut Rows<B>, now: u64, x: u64, out: &mut Acts)
     requires room { 1 ≤ spare out.old }
     ensures answers { Answers rows.old rows.new (act_list out.old) (act_list out.new)
         now (Fault x) }
-    ensures limits { rows.new.limits ≡ rows.old.limits }
     ensures faults { (shelf_of rows.old.entries).faults ≤ (shelf_of rows.new.entries).faults }
 {
     let view = rows.exchanges.view(x).unwrap();
@@ -52,7 +52,6 @@ pub fn end<B: Backend>(rows: &mut Rows<B>, now: u64, x: u64, out: &mut Acts)
     requires accepted { end_refusal (open_at rows.old x) ≡ None }
     requires room { 1 ≤ spare out.old }
     ensures answers { Answers rows.old rows.new (act_list out.old) (act_list out.new) now (End x) }
-    ensures limits { rows.new.limits ≡ rows.old.limits }
     ensures faults { (shelf_of rows.old.entries).faults ≤ (shelf_of rows.new.entries).faults }
 {
     let view = rows.exchanges.view(x).unwrap();
@@ -68,11 +67,10 @@ fn end_whole<B: Backend>(rows: &mut Rows<B>, now: u64, x: u64, out: &mut Acts)
     requires stands { ∥ Stands rows.old ∥₁ }
     requires running { is_open x (table_of rows.old.exchanges) ≡ true }
     requires room { 1 ≤ spare out.old }
-    ensures answers { (t : Tables) → Facts rows.old.limits t → RowsStand rows.old t
+    ensures answers { (lim : Limits) (t : Tables) → Facts lim t → RowsStand lim rows.old t
         → denial t (End x) ≡ None → TellsNoLength t x
-        → Answered rows.old.limits (shelf_of rows.old.entries).faults rows.new t
+        → Answered lim (shelf_of rows.old.entries).faults rows.new t
         (act_list out.old) (act_list out.new) now (End x) }
-    ensures limits { rows.new.limits ≡ rows.old.limits }
     ensures faults { (shelf_of rows.old.entries).faults ≤ (shelf_of rows.new.entries).faults }
 {
     let view = rows.exchanges.view(x).unwrap();
@@ -96,13 +94,12 @@ fn seal_whole<B: Backend>(rows: &mut Rows<B>, now: u64, r: u64, length: u64, out
     requires there { is_kept (shelf_of rows.old.entries) r ≡ true }
     requires short { length < 2 ^ 62 }
     requires room { 1 ≤ spare out.old }
-    ensures sealed { (t : Tables) (v : Representation) → MayLetGo t
+    ensures sealed { (lim : Limits) (t : Tables) (v : Representation) → MayLetGo t
         → t.representation r ≡ Some v → (v.is_gone ≡ false → v.alone ≡ None)
-        → RowsStand rows.old t
-        → SealedWhole (shelf_of rows.old.entries).faults rows.old rows.new t
+        → RowsStand lim rows.old t
+        → SealedWhole lim (shelf_of rows.old.entries).faults rows.old rows.new t
         (act_list out.old) (act_list out.new) now r v length }
     ensures exchanges { rows.new.exchanges ≡ rows.old.exchanges }
-    ensures limits { rows.new.limits ≡ rows.old.limits }
     ensures faults { (shelf_of rows.old.entries).faults ≤ (shelf_of rows.new.entries).faults }
 {
     if !is_current(rows, r) {
@@ -127,11 +124,10 @@ fn break_wait<B: Backend>(rows: &mut Rows<B>, c: u64, x: u64)
     requires stands { ∥ Stands rows.old ∥₁ }
     requires live { is_some (get nat_eq rows.old.consumers c) ≡ true }
     requires running { is_open x (table_of rows.old.exchanges) ≡ true }
-    ensures broken { (t : Tables) (w : Exchange) (k : Consumer) → Facts rows.old.limits t
-        → RowsStand rows.old t → Waited t x c w k → RowsStand rows.new
+    ensures broken { (lim : Limits) (t : Tables) (w : Exchange) (k : Consumer) → Facts lim t
+        → RowsStand lim rows.old t → Waited t x c w k → RowsStand lim rows.new
         (with_consumer c (Some (put_down (cause.Net x) k))
         (with_exchange x (Some (over w)) t)) }
-    ensures limits { rows.new.limits ≡ rows.old.limits }
     ensures faults { (shelf_of rows.new.entries).faults ≡ (shelf_of rows.old.entries).faults }
 {
     leave_place(rows, c);
@@ -145,11 +141,10 @@ fn break_off<B: Backend>(rows: &mut Rows<B>, now: u64, x: u64, cause: Cause, out
     requires stands { ∥ Stands rows.old ∥₁ }
     requires running { is_open x (table_of rows.old.exchanges) ≡ true }
     requires room { 1 ≤ spare out.old }
-    ensures broken { (t : Tables) (w : Exchange) → Facts rows.old.limits t
-        → RowsStand rows.old t → IsBroken t x w
-        → BrokeOff (shelf_of rows.old.entries).faults rows.new t
+    ensures broken { (lim : Limits) (t : Tables) (w : Exchange) → Facts lim t
+        → RowsStand lim rows.old t → IsBroken t x w
+        → BrokeOff lim (shelf_of rows.old.entries).faults rows.new t
         (act_list out.old) (act_list out.new) now x w cause }
-    ensures limits { rows.new.limits ≡ rows.old.limits }
     ensures faults { (shelf_of rows.old.entries).faults ≤ (shelf_of rows.new.entries).faults }
 {
     let readers = readers(rows, x);

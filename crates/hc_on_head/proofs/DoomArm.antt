@@ -2,6 +2,7 @@
 -- was current is let go.
 use Rattle.std.proofs.Common.{◌≡◌, inl, inr, ℕ, List, ◌++◌, Bool, true, false, Option, Some, None, refl, ap, sym, ◌∙◌, subst}
 use Rattle.std.specs.Prelude.{IfSome, is_some, nat_eq, bytes_eq, map, option_map, unwrap_or, ◌&&◌, ◌||◌, if◌then◌else◌}
+use Rattle.hc_rules.specs.declared.room.Limits.{Limits}
 use Rattle.hc_store.specs.declared.backend.Backend.{Ghosts}
 use Rattle.hc_event.specs.declared.act.Act.{Act}
 use Rattle.hc_event.specs.declared.act.Act.TheVariants as act
@@ -285,9 +286,9 @@ module _ (t : Tables) (law : Lawful t) (now : ℕ) (key xs : List ℕ) (bare : (
 
 -- ALL OF IT
 
-module _ {B : Type 0} {g : Ghosts B} (r u : Rows B g) (t : Tables) (law : Lawful t) (stands : RowsStand r t) (now : ℕ) (key : List ℕ) (refused : Option ℕ) (before out : List Act) (unheard : (x : ℕ) → refused ≡ Some x → IsUnheard (table_of r.exchanges) key x)
+module _ {B : Type 0} {g : Ghosts B} {lim : Limits} (r u : Rows B g) (t : Tables) (law : Lawful t) (stands : RowsStand lim r t) (now : ℕ) (key : List ℕ) (refused : Option ℕ) (before out : List Act) (unheard : (x : ℕ) → refused ≡ Some x → IsUnheard (table_of r.exchanges) key x)
     (closes : Closes r u.exchanges key refused before out) (consumers : ChangesAmong r.consumers u.consumers (λ c. is_in c (line_of r.keys key)) (once_over now)) (lines : keys.Becomes (on_line all_back) key r.keys u.keys)
-    (entries : KeepsEntries (woken now key t) (shelf_of u.entries)) (bounded : (shelf_of u.entries).limits ≡ (shelf_of r.entries).limits) (limits : u.limits ≡ r.limits) (last : u.last_start ≡ r.last_start) where
+    (entries : KeepsEntries (woken now key t) (shelf_of u.entries)) (bounded : (shelf_of u.entries).limits ≡ (shelf_of r.entries).limits) (last : u.last_start ≡ r.last_start) where
   abbrev xs : List ℕ
   xs = awaited_and t key refused
 
@@ -303,9 +304,9 @@ module _ {B : Type 0} {g : Ghosts B} (r u : Rows B g) (t : Tables) (law : Lawful
   known_is : (x : ℕ) → table_of u.exchanges x ≡ (if is_among x xs then known.without_exchange (table_of r.exchanges x) else table_of r.exchanges x)
   known_is x = subst (λ zs. table_of u.exchanges x ≡ (if is_among x zs then known.without_exchange (table_of r.exchanges x) else table_of r.exchanges x)) are_all (closes.known x)
 
-  stands_woken : RowsStand u (s t law now key xs)
+  stands_woken : RowsStand lim u (s t law now key xs)
   stands_woken = record {
-    limits = bounded ∙ (stands.limits ∙ sym limits);
+    limits = bounded ∙ stands.limits;
     last_start = last ∙ stands.last_start;
     next = closes.next ∙ stands.next;
     count = consumers.len ∙ (stands.count ∙ sym (live_same t (s t law now key xs) refl (lives t law now key xs bare)));
@@ -316,12 +317,12 @@ module _ {B : Type 0} {g : Ghosts B} (r u : Rows B g) (t : Tables) (law : Lawful
   }
 
   -- once what was current is let go
-  pub doomed : (o : Option ℕ) (w : Rows B g) → o ≡ (kept_of r.keys key).current → ((z : Tables) → MayLetGo z → RowsStand u z → RowsStand w (let_some_go now o z)) → IsDoomed w t before out now key refused
+  pub doomed : (o : Option ℕ) (w : Rows B g) → o ≡ (kept_of r.keys key).current → ((z : Tables) → MayLetGo z → RowsStand lim u z → RowsStand lim w (let_some_go now o z)) → IsDoomed lim w t before out now key refused
   doomed o w is goes = record {
     acts = acts;
     rows =
-        subst (λ z. RowsStand w (let_some_go now z (all_closed xs (woken now key t)))) (is ∙ (stands.keys key).current)
-        (subst (λ z. RowsStand w (let_some_go now o z)) (sym (all_closed_is xs (woken now key t)))
+        subst (λ z. RowsStand lim w (let_some_go now z (all_closed xs (woken now key t)))) (is ∙ (stands.keys key).current)
+        (subst (λ z. RowsStand lim w (let_some_go now o z)) (sym (all_closed_is xs (woken now key t)))
         (goes (s t law now key xs) (may_then t law now key xs bare) stands_woken));
   }
 
@@ -332,7 +333,7 @@ if_some None P h a is = none_some a is
 if_some (Some b) P h a is = subst P (some_is b a is) h
 
 -- once what was awaited is closed
-pub keeps_line : {B : Type 0} {g : Ghosts B} (r mid : Rows B g) (t : Tables) (key : List ℕ) → RowsStand r t → mid.consumers ≡ r.consumers → KeepsRest r mid → KeepsLine mid t key
+pub keeps_line : {B : Type 0} {g : Ghosts B} {lim : Limits} (r mid : Rows B g) (t : Tables) (key : List ℕ) → RowsStand lim r t → mid.consumers ≡ r.consumers → KeepsRest r mid → KeepsLine mid t key
 keeps_line r mid t key stands same rest = record {
   consumers = λ c. rw same (stands.consumers c);
   line = (let keys_same = rest.keys in rw keys_same (stands.keys key));
@@ -343,12 +344,12 @@ module _ {B : Type 0} {g : Ghosts B} (r mid u : Rows B g) (now : ℕ) (key : Lis
     (closes : Closes r mid.exchanges key refused before out) (same_consumers : mid.consumers ≡ r.consumers) (rest : KeepsRest r mid)
     (consumers : ChangesAmong mid.consumers u.consumers (λ c. is_in c (line_of mid.keys key)) (once_over now)) (lines : keys.Becomes (on_line all_back) key mid.keys u.keys)
     (entries : (t : Tables) → Lawful t → KeepsLine mid t key → KeepsEntries (woken now key t) (shelf_of u.entries)) (bounded : (shelf_of u.entries).limits ≡ (shelf_of mid.entries).limits)
-    (limits : u.limits ≡ mid.limits) (last : u.last_start ≡ mid.last_start) (exchanges : u.exchanges ≡ mid.exchanges) where
-  pub dooms : (o : Option ℕ) (w : Rows B g) → o ≡ (kept_of r.keys key).current → ((z : Tables) → MayLetGo z → RowsStand u z → RowsStand w (let_some_go now o z)) → (t : Tables) → Lawful t → RowsStand r t → IsDoomed w t before out now key refused
-  dooms o w is goes t law stands =
+    (last : u.last_start ≡ mid.last_start) (exchanges : u.exchanges ≡ mid.exchanges) where
+  pub dooms : (o : Option ℕ) (w : Rows B g) → o ≡ (kept_of r.keys key).current → ((z : Tables) → MayLetGo z → RowsStand lim u z → RowsStand lim w (let_some_go now o z)) → (lim : Limits) (t : Tables) → Lawful t → RowsStand lim r t → IsDoomed lim w t before out now key refused
+  dooms o w is goes lim t law stands =
       doomed r u t law stands now key refused before out (if_some refused (IsUnheard (table_of r.exchanges) key) unheard)
       (subst (λ z. Closes r z key refused before out) (sym exchanges) closes)
       (subst (λ (z : KeyTable). ChangesAmong r.consumers u.consumers (λ c. is_in c (line_of z key)) (once_over now)) rest.keys (subst (λ z. ChangesAmong z u.consumers (λ c. is_in c (line_of mid.keys key)) (once_over now)) same_consumers consumers))
       (subst (λ (z : KeyTable). keys.Becomes (on_line all_back) key z u.keys) rest.keys lines)
       (entries t law (keeps_line r mid t key stands same_consumers rest))
-      (bounded ∙ ap (λ z. (shelf_of z).limits) rest.entries) (limits ∙ rest.limits) (last ∙ rest.last_start) o w is goes
+      (bounded ∙ ap (λ z. (shelf_of z).limits) rest.entries) (last ∙ rest.last_start) o w is goes

@@ -2,6 +2,7 @@
 use Rattle.std.proofs.Common.{◌≡◌, inl, inr, ℕ, zero, suc, ◌+◌, List, [], ◌∷◌, drop, Bool, true, false, eqb, Option, Some, None, refl, ap, sym, ◌∙◌, subst}
 use Rattle.std.specs.Prelude.{nat_eq, bytes_eq, option_map, ◌&&◌, ◌||◌, if◌then◌else◌}
 use Rattle.std.specs.HashMap.{get}
+use Rattle.hc_rules.specs.declared.room.Limits.{Limits}
 use Rattle.hc_store.specs.declared.backend.Backend.{Ghosts}
 use Rattle.hc_event.specs.declared.event.Response.{Response}
 use Rattle.hc_entry.specs.Keys.{line_of}
@@ -210,7 +211,7 @@ module _ (t : Tables) (law : Lawful t) (now : ℕ) (key xs : List ℕ) where
           let of_key : bytes_eq v.request.key key ≡ true = bytes-flip v.request.key key ∙ same in
           rw (of_key, at, cached, plain) refl
 
-  module _ {B : Type 0} {g : Ghosts B} (r u : Rows B g) (stands : RowsStand r t) (consumers : ChangesAmong r.consumers u.consumers (λ c. is_in c (line_of r.keys key)) (once_over now)) where
+  module _ {B : Type 0} {g : Ghosts B} {lim : Limits} (r u : Rows B g) (stands : RowsStand lim r t) (consumers : ChangesAmong r.consumers u.consumers (λ c. is_in c (line_of r.keys key)) (once_over now)) where
     pub in_line_is : (d : ℕ) → is_in d (line_of r.keys key) ≡ stands_for t key (t.consumer d)
     in_line_is d = let line = stands.keys key in rw (line.in_line d, line.passed d, line.away d) refl
 

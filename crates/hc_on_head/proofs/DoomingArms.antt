@@ -2,6 +2,7 @@
 use Rattle.std.proofs.Common.{◌≡◌, ◌≢◌, ◌⊎◌, inl, inr, ℕ, List, [], Bool, true, false, Option, Some, None, refl, ap, sym, ◌∙◌, subst}
 use Rattle.std.specs.Prelude.{is_some, is_none, nat_eq, bytes_eq, map, option_map, not, ◌&&◌, ◌||◌, if◌then◌else◌}
 use Rattle.std.specs.HashMap.{get}
+use Rattle.hc_rules.specs.declared.room.Limits.{Limits}
 use Rattle.hc_store.specs.declared.backend.Backend.{Ghosts}
 use Rattle.hc_event.specs.declared.act.Act.{Act}
 use Rattle.hc_event.specs.declared.act.Act.TheVariants as act
@@ -85,7 +86,7 @@ use Rattle.hc_state.proofs.Words.{same_or, eqb-same, eqb-other, and_false, then_
 -- WHOEVER READS A CLOSED EXCHANGE PAST THE STORE IS TO FAIL
 
 -- what is known of a closed exchange without bytes is that it isn't open
-module _ {B : Type 0} {g : Ghosts B} (r u : Rows B g) (m : Tables) (c x : ℕ) (e z : Exchange) (v : rows.Consumer) (k : Consumer) (stands : RowsStand r m)
+module _ {B : Type 0} {g : Ghosts B} {lim : Limits} (r u : Rows B g) (m : Tables) (c x : ℕ) (e z : Exchange) (v : rows.Consumer) (k : Consumer) (stands : RowsStand lim r m)
     (row : m.exchange x ≡ Some e) (over_now : e.is_open ≡ false) (empty : e.body ≡ []) (unjoined : e.joined ≡ None) (headless : e.head ≡ None) (unfounded : m.representation x ≡ None)
     (here : m.consumer c ≡ Some v) (at : v.place ≡ place.Direct x) (started : (n : ℕ) → is_some (m.consumer n) ≡ true → Among n m.starts)
     (only : (n : ℕ) (q : rows.Consumer) → m.consumer n ≡ Some q → q.place ≡ place.Direct x → n ≡ c)
@@ -249,16 +250,16 @@ module _ {B : Type 0} {g : Ghosts B} (r u : Rows B g) (m : Tables) (c x : ℕ) (
     | inr ne ↦ ap is_live (c_other n (λ h. ne (sym h)))
   ]
 
-  pub stands_down : u.limits ≡ r.limits → u.last_start ≡ r.last_start → u.exchanges ≡ r.exchanges → u.keys ≡ r.keys → u.entries ≡ r.entries → ChangesAt r.consumers u.consumers c (standing_at (place.Down why)) → RowsStand u s
-  stands_down limits last exchanges same_keys same_entries alters =
-      stands_then r u m s c x (Some (standing_at (place.Down why) k)) stands limits (last ∙ stands.last_start) (rw exchanges stands.next)
+  pub stands_down : u.last_start ≡ r.last_start → u.exchanges ≡ r.exchanges → u.keys ≡ r.keys → u.entries ≡ r.entries → ChangesAt r.consumers u.consumers c (standing_at (place.Down why)) → RowsStand lim u s
+  stands_down last exchanges same_keys same_entries alters =
+      stands_then r u m s c x (Some (standing_at (place.Down why) k)) stands (last ∙ stands.last_start) (rw exchanges stands.next)
       (alters.len ∙ (stands.count ∙ sym (live_same m s refl lives)))
       (becomes_by r.consumers u.consumers c k (standing_at (place.Down why)) there alters)
       (λ y ne. rw exchanges refl) c_other s_other (λ q. refl)
       (subst (KeepsConsumer s (Some (standing_at (place.Down why) k))) (sym c_here) consumer_kept)
       (rw exchanges exchange_kept) (λ key. rw same_keys (all_keys key))
       (λ n q ne is_n at_n. ne (only n q is_n at_n)) (λ y q ne at_y. held_else y q ne at_y)
-      (rw (same_entries, limits) stands.limits) (rw same_entries all_entries)
+      (rw same_entries stands.limits) (rw same_entries all_entries)
 
 -- ONCE ITS KEY IS DOOMED
 
@@ -267,7 +268,7 @@ none_gone : (b : Bool) (o : Option Representation) → o ≡ None → (if b then
 none_gone true o none = rw none refl
 none_gone false o none = none
 
-module _ {B : Type 0} {g : Ghosts B} (r : Rows B g) (t : Tables) (facts : Facts r.limits t) (stands : RowsStand r t) (now x : ℕ) (response : Response) (w : Exchange) (v : rows.Consumer) (waits : AwaitsHead t x w v) (at : v.place ≡ place.Direct x) where
+module _ {B : Type 0} {g : Ghosts B} {lim : Limits} (r : Rows B g) (t : Tables) (facts : Facts lim t) (stands : RowsStand lim r t) (now x : ℕ) (response : Response) (w : Exchange) (v : rows.Consumer) (waits : AwaitsHead t x w v) (at : v.place ≡ place.Direct x) where
   abbrev key : List ℕ
   key = w.request.key
 
@@ -423,26 +424,26 @@ module _ {B : Type 0} {g : Ghosts B} (r : Rows B g) (t : Tables) (facts : Facts 
     abbrev ev : Event
     ev = event.Head x response
 
-    pub dooming_taken : (u : Rows B g) → head_case (head_view t false w response) ≡ case.DirectTaken → IsDoomed mid t before out now key None → ((m : Tables) → IsReadAlone m x w v → RowsStand mid m → RowsStand u (with_answer now x response w.joined w m))
-        → Answered r.limits (shelf_of r.entries).faults u t before out now ev
+    pub dooming_taken : (u : Rows B g) → head_case (head_view t false w response) ≡ case.DirectTaken → IsDoomed lim mid t before out now key None → ((m : Tables) → IsReadAlone m x w v → RowsStand lim mid m → RowsStand lim u (with_answer now x response w.joined w m))
+        → Answered lim (shelf_of r.entries).faults u t before out now ev
     dooming_taken u is doomed answers =
-        does_answered r.limits (shelf_of r.entries).faults u t (with_event now ev (let_some_go now (current t key) (all_closed (awaited_and t key None) heard))) before out (map act.Close (awaited_and t key None)) now ev
-        (dooms_taken r.limits t facts.law now x response goes w waits.row v waits.asker unsafe is) (unwritten t now x response w case.DirectTaken waits.row is refl) (flawless (awaited_and t key None)) doomed.acts
-        (stands_counted u _ now ev refl (subst (RowsStand u) (answer_is None out_of_none) (answers (after None) (alone_doomed None out_of_none) (subst (RowsStand mid) (after_is None) doomed.rows))))
+        does_answered lim (shelf_of r.entries).faults u t (with_event now ev (let_some_go now (current t key) (all_closed (awaited_and t key None) heard))) before out (map act.Close (awaited_and t key None)) now ev
+        (dooms_taken lim t facts.law now x response goes w waits.row v waits.asker unsafe is) (unwritten t now x response w case.DirectTaken waits.row is refl) (flawless (awaited_and t key None)) doomed.acts
+        (stands_counted u _ now ev refl (subst (RowsStand lim u) (answer_is None out_of_none) (answers (after None) (alone_doomed None out_of_none) (subst (RowsStand lim mid) (after_is None) doomed.rows))))
 
-    pub dooming_bad : (u : Rows B g) (c : ℕ) → w.c ≡ c → IsUnheard (table_of r.exchanges) key x → head_case (head_view t false w response) ≡ case.DirectBad → IsDoomed mid t before out now key (Some x)
-        → u.limits ≡ mid.limits → u.last_start ≡ mid.last_start → u.exchanges ≡ mid.exchanges → u.keys ≡ mid.keys → u.entries ≡ mid.entries → ChangesAt mid.consumers u.consumers c (standing_at (place.Down (cause.BadHead x)))
-        → Answered r.limits (shelf_of r.entries).faults u t before out now ev
-    dooming_bad u c for_it unheard is doomed limits last exchanges same_keys same_entries changes =
+    pub dooming_bad : (u : Rows B g) (c : ℕ) → w.c ≡ c → IsUnheard (table_of r.exchanges) key x → head_case (head_view t false w response) ≡ case.DirectBad → IsDoomed lim mid t before out now key (Some x)
+        → u.last_start ≡ mid.last_start → u.exchanges ≡ mid.exchanges → u.keys ≡ mid.keys → u.entries ≡ mid.entries → ChangesAt mid.consumers u.consumers c (standing_at (place.Down (cause.BadHead x)))
+        → Answered lim (shelf_of r.entries).faults u t before out now ev
+    dooming_bad u c for_it unheard is doomed last exchanges same_keys same_entries changes =
         let in_it = in_refused unheard in
         let d : rows.Consumer = down (Some x) in_it in
-        let stood = subst (RowsStand mid) (after_is (Some x)) doomed.rows in
+        let stood = subst (RowsStand lim mid) (after_is (Some x)) doomed.rows in
         let k = reader_kept mid (after (Some x)) w.c x v stood (here (Some x)) at in
-        does_answered r.limits (shelf_of r.entries).faults u t (with_event now ev (let_some_go now (current t key) (with_consumer w.c (Some d) (all_closed (awaited_and t key (Some x)) heard)))) before out (map act.Close (awaited_and t key (Some x))) now ev
-        (dooms_bad r.limits t facts.law now x response goes w waits.row v waits.asker unsafe is) (unwritten t now x response w case.DirectBad waits.row is refl) (flawless (awaited_and t key (Some x))) doomed.acts
-        (stands_counted u _ now ev refl (subst (RowsStand u) (failure_is (Some x) in_it)
+        does_answered lim (shelf_of r.entries).faults u t (with_event now ev (let_some_go now (current t key) (with_consumer w.c (Some d) (all_closed (awaited_and t key (Some x)) heard)))) before out (map act.Close (awaited_and t key (Some x))) now ev
+        (dooms_bad lim t facts.law now x response goes w waits.row v waits.asker unsafe is) (unwritten t now x response w case.DirectBad waits.row is refl) (flawless (awaited_and t key (Some x))) doomed.acts
+        (stands_counted u _ now ev refl (subst (RowsStand lim u) (failure_is (Some x) in_it)
         (stands_down mid u (after (Some x)) w.c x (over w) (over z) v k.0 stood (shut_row (Some x) in_it) refl empty unjoined waits.headless (unfounded (Some x))
-        (here (Some x)) at (started (Some x)) (only_it (Some x) in_it) refl empty unjoined k.1 (cause.BadHead x) limits last exchanges same_keys same_entries
+        (here (Some x)) at (started (Some x)) (only_it (Some x) in_it) refl empty unjoined k.1 (cause.BadHead x) last exchanges same_keys same_entries
         (subst (λ (n : ℕ). ChangesAt mid.consumers u.consumers n (standing_at (place.Down (cause.BadHead x)))) (sym for_it) changes))))
 
 -- FROM WHAT THE CODE LOOKED UP
@@ -453,7 +454,7 @@ unheard_as table x op key_is accepted opens copied past =
     record { o = h.o; running = h.there; headless = h.headless; of_key = ap (λ (q : Request). q.key) (sym (opened_as op (table x).running h.o opens h.there).1) ∙ sym copied; past = past h.o h.there }
 
 -- it reads past the store what it waits for
-pub past_place : {B : Type 0} {g : Ghosts B} (r : Rows B g) (t : Tables) (x : ℕ) (w : Exchange) (a : Asker r t x w) (key : List ℕ) → RowsStand r t → IsUnheard (table_of r.exchanges) key x → (a.v.place ≡ place.Direct x) × (key ≡ w.request.key)
+pub past_place : {B : Type 0} {g : Ghosts B} {lim : Limits} (r : Rows B g) (t : Tables) (x : ℕ) (w : Exchange) (a : Asker r t x w) (key : List ℕ) → RowsStand lim r t → IsUnheard (table_of r.exchanges) key x → (a.v.place ≡ place.Direct x) × (key ≡ w.request.key)
 past_place r t x w a key stands u =
     let runs = runs_as r t x u.o w stands u.running a.awaits.row in
     (by_at a.at (ap route_of (sym runs.need) ∙ u.past), sym u.of_key ∙ ap (λ (q : Request). q.key) runs.request)
@@ -471,7 +472,7 @@ merely_accepted o some h = is_none_of (head_refusal (option_map open_view o)) (m
     is_none_of None on = refl
     is_none_of (Some a) on = false_true on
 
-accepted_row : {B : Type 0} {g : Ghosts B} (r : Rows B g) (m : Tables) (x : ℕ) (w : Exchange) → RowsStand r m → m.exchange x ≡ Some w → w.is_open ≡ true → w.head ≡ None → head_refusal (option_map open_view (table_of r.exchanges x).running) ≡ None
+accepted_row : {B : Type 0} {g : Ghosts B} {lim : Limits} (r : Rows B g) (m : Tables) (x : ℕ) (w : Exchange) → RowsStand lim r m → m.exchange x ≡ Some w → w.is_open ≡ true → w.head ≡ None → head_refusal (option_map open_view (table_of r.exchanges x).running) ≡ None
 accepted_row r m x w stands row opened bare = by_running (table_of r.exchanges x).running (subst (KeepsRunning m x (table_of r.exchanges x).running) row (stands.exchanges x).running)
   where
     by_running : (o : Option Open) → KeepsRunning m x o (Some w) → head_refusal (option_map open_view o) ≡ None
@@ -479,12 +480,13 @@ accepted_row r m x w stands row opened bare = by_running (table_of r.exchanges x
     by_running (Some o) keeps = ap (λ (b : Bool). if b then Some refusal.HeadTwice else None) (keeps.headed ∙ ap (λ z. is_some z) bare)
 
 module _ {B : Type 0} {g : Ghosts B} (r mid : Rows B g) (now x : ℕ) (key : List ℕ) (response : Response) (before out : List Act) (unheard : IsUnheard (table_of r.exchanges) key x) (some_past : ∥ Stands r ∥₁)
-    (dooms : (t : Tables) → Lawful t → RowsStand r t → IsDoomed mid t before out now key None) where
+    (dooms : (lim : Limits) (t : Tables) → Lawful t → RowsStand lim r t → IsDoomed lim mid t before out now key None) where
   -- the tables once it is doomed, and its exchange
   record Heard : Type 0 where
+    lim : Limits
     m : Tables
     w : Exchange
-    rows : RowsStand mid m
+    rows : RowsStand lim mid m
     row : m.exchange x ≡ Some w
     is_open : w.is_open ≡ true
     headless : w.head ≡ None
@@ -496,11 +498,12 @@ module _ {B : Type 0} {g : Ghosts B} (r mid : Rows B g) (now x : ℕ) (key : Lis
       let h = heard_as r t facts stands x unheard.o unheard.running unheard.headless in
       let at = past_place r t x h.w h.asked key stands unheard in
       let waits = h.asked.awaits in
-      let doomed = subst (λ (k : List ℕ). IsDoomed mid t before out now k None) at.1 (dooms t facts.law stands) in
+      let doomed = subst (λ (k : List ℕ). IsDoomed p.limits mid t before out now k None) at.1 (dooms _ t facts.law stands) in
       record {
+        lim = p.limits;
         m = after r t facts stands now x response h.w h.asked.v waits at.0 None;
         w = h.w;
-        rows = subst (RowsStand mid) (after_is r t facts stands now x response h.w h.asked.v waits at.0 None) doomed.rows;
+        rows = subst (RowsStand p.limits mid) (after_is r t facts stands now x response h.w h.asked.v waits at.0 None) doomed.rows;
         row = row_doomed r t facts stands now x response h.w h.asked.v waits at.0;
         is_open = waits.is_open;
         headless = waits.headless;

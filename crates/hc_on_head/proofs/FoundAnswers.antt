@@ -80,12 +80,12 @@ key_told r now x c g response f = by_row (get nat_eq r.consumers c)
 
 module _ {B : Type 0} {b : Ghosts B} (r r1 r2 r3 : Rows B b) (now x c : ℕ) (gone told : Option ℕ) (key : List ℕ) (accepted : head_refusal (option_map open_view (table_of r.exchanges x).running) ≡ None) (asks : IsAskedBy c (table_of r.exchanges x).running)
     (key_is : (o : Open) → (table_of r.exchanges x).running ≡ Some o → key ≡ o.request.key) (told_is : told ≡ (kept_of r.keys key).current)
-    (falls_back : (t : Tables) (y : ℕ) (w : Exchange) (k : rows.Consumer) → Facts r.limits t → AwaitsHead t y w k → w.c ≡ c → StandsApart y (place.Direct x) → RowsStand r t → RowsStand r1 (with_consumer c (Some (record k { place = place.Direct x })) t))
-    (goes_first : (t : Tables) → MayLetGo t → RowsStand r1 t → RowsStand r2 (let_some_go now gone t)) (goes_second : (t : Tables) → MayLetGo t → RowsStand r2 t → RowsStand r3 (let_some_go now told t)) (limits_is : r3.limits ≡ r.limits) where
+    (falls_back : (lim : Limits) (t : Tables) (y : ℕ) (w : Exchange) (k : rows.Consumer) → Facts lim t → AwaitsHead t y w k → w.c ≡ c → StandsApart y (place.Direct x) → RowsStand lim r t → RowsStand lim r1 (with_consumer c (Some (record k { place = place.Direct x })) t))
+    (goes_first : (lim : Limits) (t : Tables) → MayLetGo t → RowsStand lim r1 t → RowsStand lim r2 (let_some_go now gone t)) (goes_second : (lim : Limits) (t : Tables) → MayLetGo t → RowsStand lim r2 t → RowsStand lim r3 (let_some_go now told t)) where
   pub h : Headless (table_of r.exchanges x).running
   h = headless_of (table_of r.exchanges x).running accepted
 
-  module _ (t : Tables) (facts : Facts r.limits t) (stands : RowsStand r t) (w : Exchange) (row : t.exchange x ≡ Some w) where
+  module _ {lim : Limits} (t : Tables) (facts : Facts lim t) (stands : RowsStand lim r t) (w : Exchange) (row : t.exchange x ≡ Some w) where
     pub runs : IsRunning t x h.o w
     runs = runs_as r t x h.o w stands h.there row
 
@@ -99,19 +99,19 @@ module _ {B : Type 0} {b : Ghosts B} (r r1 r2 r3 : Rows B b) (now x c : ℕ) (go
     told_now = told_is ∙ ((stands.keys key).current ∙ ap (current t) (key_is h.o h.there ∙ ap (λ (q : Request). q.key) runs.request))
 
     abbrev pub left : Tables
-    left = second r.limits t facts now x w a.v a.awaits gone
+    left = second lim t facts now x w a.v a.awaits gone
 
-    pub stood : RowsStand r3 left
+    pub stood : RowsStand lim r3 left
     stood =
-        subst (λ (o : Option ℕ). RowsStand r3 (let_some_go now o (first r.limits t facts now x w a.v a.awaits gone))) told_now
-        (goes_second (first r.limits t facts now x w a.v a.awaits gone) (may_first r.limits t facts now x w a.v a.awaits gone)
-        (goes_first (fallback r.limits t facts now x w a.v a.awaits gone) (may_fallback r.limits t facts now x w a.v a.awaits gone)
-        (subst (λ (d : ℕ). RowsStand r1 (with_consumer d (Some (record a.v { place = place.Direct x })) t)) (sym for_it) (falls_back t x w a.v facts a.awaits for_it refl stands))))
+        subst (λ (o : Option ℕ). RowsStand lim r3 (let_some_go now o (first lim t facts now x w a.v a.awaits gone))) told_now
+        (goes_second _ (first lim t facts now x w a.v a.awaits gone) (may_first lim t facts now x w a.v a.awaits gone)
+        (goes_first _ (fallback lim t facts now x w a.v a.awaits gone) (may_fallback lim t facts now x w a.v a.awaits gone)
+        (subst (λ (d : ℕ). RowsStand lim r1 (with_consumer d (Some (record a.v { place = place.Direct x })) t)) (sym for_it) (falls_back _ t x w a.v facts a.awaits for_it refl stands))))
 
     pub one_acts : (count : ℕ) → room_for_write r3 write.Slot ≡ room.After count → count ≤ 1
     one_acts count is =
-        one_way r.limits t facts now x w a.v a.awaits gone count
-        (ap (λ (l : Limits). room_now l left write.Slot) (sym limits_is) ∙ (sym (room_is r3 left (make_second r.limits t facts now x w a.v a.awaits gone) stood write.Slot) ∙ is))
+        one_way lim t facts now x w a.v a.awaits gone count
+        (sym (room_is r3 left (make_second lim t facts now x w a.v a.awaits gone) stood write.Slot) ∙ is)
 
   module _ (some : ∥ Stands r ∥₁) where
     few_acts : (count : ℕ) → room_for_write r3 write.Slot ≡ room.After count → count < 2
@@ -137,21 +137,20 @@ module _ {B : Type 0} {b : Ghosts B} (r r1 r2 r3 : Rows B b) (now x c : ℕ) (go
         by_room room.TooLarge is same = omega (arith, le, same)
         by_room room.Full is same = omega (arith, le, same)
 
-  module _ (u : Rows B b) (before mid : List Act) (made : (t : Tables) → MayMakeRoom t → RowsStand r3 t → GivesWay u t now (giving_way r3.limits t write.Slot) before mid) where
-    module _ (t : Tables) (facts : Facts r.limits t) (stands : RowsStand r t) (w : Exchange) (row : t.exchange x ≡ Some w) where
-      pub gives : GivesWay u (left t facts stands w row) now (es r.limits t facts now x w (a t facts stands w row).v (a t facts stands w row).awaits gone) before mid
+  module _ (u : Rows B b) (before mid : List Act) (made : (lim : Limits) (t : Tables) → MayMakeRoom t → RowsStand lim r3 t → GivesWay lim u t now (giving_way lim t write.Slot) before mid) where
+    module _ {lim : Limits} (t : Tables) (facts : Facts lim t) (stands : RowsStand lim r t) (w : Exchange) (row : t.exchange x ≡ Some w) where
+      pub gives : GivesWay lim u (left t facts stands w row) now (es lim t facts now x w (a t facts stands w row).v (a t facts stands w row).awaits gone) before mid
       gives =
-          subst (λ (l : Limits). GivesWay u (left t facts stands w row) now (giving_way l (left t facts stands w row) write.Slot) before mid) limits_is
-          (made (left t facts stands w row) (make_second r.limits t facts now x w (a t facts stands w row).v (a t facts stands w row).awaits gone) (stood t facts stands w row))
+          made _ (left t facts stands w row) (make_second lim t facts now x w (a t facts stands w row).v (a t facts stands w row).awaits gone) (stood t facts stands w row)
 
     pub new_kept : ∥ Stands r ∥₁ → (shelf_of u.entries).kept x ≡ None
     new_kept some = none_of ((shelf_of u.entries).kept x) (merely_false (is_some ((shelf_of u.entries).kept x)) some (λ s.
         let past = past_of_runs r s in
         let row = heard_row r past.0 x h.o past.2 h.there in
         let asker_is = a past.0 past.1 past.2 row.w row.row in
-        let none = m_unfounded r.limits past.0 past.1 now x row.w asker_is.v asker_is.awaits gone in
-        by_kept (m r.limits past.0 past.1 now x row.w asker_is.v asker_is.awaits gone) ((shelf_of u.entries).kept x)
-        (subst (KeepsEntry (m r.limits past.0 past.1 now x row.w asker_is.v asker_is.awaits gone) x ((shelf_of u.entries).kept x)) none ((gives past.0 past.1 past.2 row.w row.row).rows.entries.each x))))
+        let none = m_unfounded s.limits past.0 past.1 now x row.w asker_is.v asker_is.awaits gone in
+        by_kept (m s.limits past.0 past.1 now x row.w asker_is.v asker_is.awaits gone) ((shelf_of u.entries).kept x)
+        (subst (KeepsEntry (m s.limits past.0 past.1 now x row.w asker_is.v asker_is.awaits gone) x ((shelf_of u.entries).kept x)) none ((gives past.0 past.1 past.2 row.w row.row).rows.entries.each x))))
       where
         by_kept : (s : Tables) (o : Option Kept) → KeepsEntry s x o None → is_some o ≡ false
         by_kept s None keeps = refl
@@ -159,7 +158,7 @@ module _ {B : Type 0} {b : Ghosts B} (r r1 r2 r3 : Rows B b) (now x c : ℕ) (go
 
     -- IT IS ANSWERED
 
-    module _ (u_limits : u.limits ≡ r.limits) (u_exchanges : u.exchanges ≡ r.exchanges) (g : HeadCase) (on : is_founding (Some g) ≡ true) (response : Response) (f : Founding) (t : Tables) (facts : Facts r.limits t) (stands : RowsStand r t) (w : Exchange) (goes : denial t (event.Head x response) ≡ None) (row : t.exchange x ≡ Some w) (is : head_case (head_view t false w response) ≡ g) (same : gone ≡ goes_with t w response g) where
+    module _ {lim : Limits} (u_exchanges : u.exchanges ≡ r.exchanges) (g : HeadCase) (on : is_founding (Some g) ≡ true) (response : Response) (f : Founding) (t : Tables) (facts : Facts lim t) (stands : RowsStand lim r t) (w : Exchange) (goes : denial t (event.Head x response) ≡ None) (row : t.exchange x ≡ Some w) (is : head_case (head_view t false w response) ≡ g) (same : gone ≡ goes_with t w response g) where
       founds : Founds g
       founds = founds_of g on
 
@@ -167,32 +166,32 @@ module _ {B : Type 0} {b : Ghosts B} (r r1 r2 r3 : Rows B b) (now x c : ℕ) (go
       its = a t facts stands w row
 
       abbrev roomy : Tables
-      roomy = m r.limits t facts now x w its.v its.awaits gone
+      roomy = m lim t facts now x w its.v its.awaits gone
 
       -- where the store took it
       pub taken : (z : Rows B b) (n : ℕ) → IsSomeAnd (get nat_eq r.consumers c) (λ k. (o : Open) → (table_of r.exchanges x).running ≡ Some o → IsFounding o k g now response f) → BeginsFounding u z x c f response
-          → (result : Result (Unit {0}) StoreError) (v : Unit {0}) → result ≡ Ok v → IsWithin (shelf_of u.entries).limits 0 ((shelf_of u.entries).used + 32768) result → Answered r.limits n z t before mid now (event.Head x response)
+          → (result : Result (Unit {0}) StoreError) (v : Unit {0}) → result ≡ Ok v → IsWithin (shelf_of u.entries).limits 0 ((shelf_of u.entries).used + 32768) result → Answered lim n z t before mid now (event.Head x response)
       taken z n founding begins result v is_ok told =
           let within : IsWithin {T = Unit {0}} (shelf_of u.entries).limits 0 ((shelf_of u.entries).used + 32768) (Ok v) = subst (IsWithin (shelf_of u.entries).limits 0 ((shelf_of u.entries).used + 32768)) is_ok told in
           let asked_at : get nat_eq r.consumers c ≡ Some its.k = ap (get nat_eq r.consumers) (sym (for_it t facts stands w row)) ∙ its.there in
           let made_it = known_of (get nat_eq r.consumers c) its.k (λ k. (o : Open) → (table_of r.exchanges x).running ≡ Some o → IsFounding o k g now response f) asked_at founding h.o h.there in
-          let reader = reader_kept u roomy w.c x (record its.v { place = place.Direct x }) (gives t facts stands w row).rows (m_asker r.limits t facts now x w its.v its.awaits gone) refl in
+          let reader = reader_kept u roomy w.c x (record its.v { place = place.Direct x }) (gives t facts stands w row).rows (m_asker lim t facts now x w its.v its.awaits gone) refl in
           let fits = (within.ok refl).1 in
-          founds_answered r.limits t facts now x response goes w its.v its.awaits g founds is gone same u n before mid (gives t facts stands w row) u_limits z reader.0 its.k h.o f reader.1
+          founds_answered lim t facts now x response goes w its.v its.awaits g founds is gone same u n before mid (gives t facts stands w row) z reader.0 its.k h.o f reader.1
           (ap (λ (e : Exchanges). (table_of e x).running) u_exchanges ∙ h.there) (ap (λ (e : RequestClass). e.range) its.is.class_is ∙ class_range its.v.request) made_it
           (subst (λ (d : ℕ). BeginsFounding u z x d f response) (sym (for_it t facts stands w row)) begins)
-          (subst (λ (l : Limits). (shelf_of u.entries).used + 32768 ≤ l.max_total) ((gives t facts stands w row).rows.limits ∙ u_limits) fits)
+          (subst (λ (l : Limits). (shelf_of u.entries).used + 32768 ≤ l.max_total) (gives t facts stands w row).rows.limits fits)
 
       -- and where it refused it
-      may_by : (error : StoreError) (kind : LostKind) → loss_by error ≡ Some kind → IsWithin {T = Unit {0}} (shelf_of u.entries).limits 0 ((shelf_of u.entries).used + 32768) (Err error) → may_lose (room_for r.limits t now (event.Head x response)) kind ≡ true
-      may_by errors.Fault kind lost within = (let one : kinds.Fault ≡ kind = some_is kinds.Fault kind lost in subst (λ (e : LostKind). may_lose (room_for r.limits t now (event.Head x response)) e ≡ true) one refl)
+      may_by : (error : StoreError) (kind : LostKind) → loss_by error ≡ Some kind → IsWithin {T = Unit {0}} (shelf_of u.entries).limits 0 ((shelf_of u.entries).used + 32768) (Err error) → may_lose (room_for lim t now (event.Head x response)) kind ≡ true
+      may_by errors.Fault kind lost within = (let one : kinds.Fault ≡ kind = some_is kinds.Fault kind lost in subst (λ (e : LostKind). may_lose (room_for lim t now (event.Head x response)) e ≡ true) one refl)
       may_by errors.TooLarge kind lost within = absurd (let never = within.too_large refl in omega (arith, never))
       may_by errors.Full kind lost within =
           let one : kinds.Full ≡ kind = some_is kinds.Full kind lost in
           let past = (within.full refl).1 in
-          subst (λ (e : LostKind). may_lose (room_for r.limits t now (event.Head x response)) e ≡ true) one
-          (full_told r.limits t facts now x response goes w its.v its.awaits g founds is gone same u 0 before mid (gives t facts stands w row) u_limits
-          (subst (λ (l : Limits). l.max_total < (shelf_of u.entries).used + 32768) ((gives t facts stands w row).rows.limits ∙ u_limits) past))
+          subst (λ (e : LostKind). may_lose (room_for lim t now (event.Head x response)) e ≡ true) one
+          (full_told lim t facts now x response goes w its.v its.awaits g founds is gone same u 0 before mid (gives t facts stands w row)
+          (subst (λ (l : Limits). l.max_total < (shelf_of u.entries).used + 32768) (gives t facts stands w row).rows.limits past))
       may_by errors.NoMemory kind lost within = none_some kind lost
 
       fault_by : (error : StoreError) (kind : LostKind) (n k : ℕ) → loss_by error ≡ Some kind → HasCause {T = Unit {0}} n k (Err error) → is_fault (Loses x kind) ≡ true → n < k
@@ -212,15 +211,15 @@ module _ {B : Type 0} {b : Ghosts B} (r r1 r2 r3 : Rows B b) (now x c : ℕ) (go
       pub refused : (y z : Rows B b) (error : StoreError) (kind : LostKind) (out : List Act) → loss_by error ≡ Some kind → (result : Result (Unit {0}) StoreError) → result ≡ Err error → ((err_of error ≡ err_of errors.NoMemory → ⊥) → IsUnrenewed u y)
           → IsWithin (shelf_of u.entries).limits 0 ((shelf_of u.entries).used + 32768) result → HasCause (shelf_of u.entries).faults (shelf_of y.entries).faults result
           → (shelf_of u.entries).faults ≡ (shelf_of r.entries).faults → (shelf_of z.entries).faults ≡ (shelf_of y.entries).faults
-          → ((s : Tables) (e : Exchange) (k : rows.Consumer) → IsReadAlone s x e k → e.c ≡ c → RowsStand y s → RowsStand z (with_answer now x response e.joined e s)) → out ≡ mid ++ (act.Lost x kind ∷ [])
-          → Answered r.limits (shelf_of r.entries).faults z t before out now (event.Head x response)
+          → ((lim : Limits) (s : Tables) (e : Exchange) (k : rows.Consumer) → IsReadAlone s x e k → e.c ≡ c → RowsStand lim y s → RowsStand lim z (with_answer now x response e.joined e s)) → out ≡ mid ++ (act.Lost x kind ∷ [])
+          → Answered lim (shelf_of r.entries).faults z t before out now (event.Head x response)
       refused y z error kind out lost result is_err unless told caused was after past acts =
           let within : IsWithin {T = Unit {0}} (shelf_of u.entries).limits 0 ((shelf_of u.entries).used + 32768) (Err error) = subst (IsWithin (shelf_of u.entries).limits 0 ((shelf_of u.entries).used + 32768)) is_err told in
           let cause : HasCause {T = Unit {0}} (shelf_of u.entries).faults (shelf_of y.entries).faults (Err error) = subst (HasCause (shelf_of u.entries).faults (shelf_of y.entries).faults) is_err caused in
           let stays = unless (λ same. lost_apart error kind lost same) in
           let rest = stays.rest in
-          let alone = read_alone r.limits t facts now x response goes w its.v its.awaits g founds is gone same in
-          let rows_y = stands_read u y roomy rest.limits rest.last_start rest.consumers rest.exchanges rest.keys stays.same (gives t facts stands w row).rows in
-          lost_answered r.limits t facts now x response goes w its.v its.awaits g founds is gone same u (shelf_of r.entries).faults before mid (gives t facts stands w row) u_limits z kind out
-          (past roomy w (record its.v { place = place.Direct x }) alone (for_it t facts stands w row) rows_y) acts (may_by error kind lost within)
+          let alone = read_alone lim t facts now x response goes w its.v its.awaits g founds is gone same in
+          let rows_y = stands_read u y roomy rest.last_start rest.consumers rest.exchanges rest.keys stays.same (gives t facts stands w row).rows in
+          lost_answered lim t facts now x response goes w its.v its.awaits g founds is gone same u (shelf_of r.entries).faults before mid (gives t facts stands w row) z kind out
+          (past _ roomy w (record its.v { place = place.Direct x }) alone (for_it t facts stands w row) rows_y) acts (may_by error kind lost within)
           (λ fault. (let more = fault_by error kind (shelf_of u.entries).faults (shelf_of y.entries).faults lost cause fault in subst (λ n. n < (shelf_of z.entries).faults) was (subst (λ n. (shelf_of u.entries).faults < n) (sym after) more)))

@@ -2,6 +2,7 @@
 use Rattle.std.proofs.Common.{◌≡◌, ◌⊎◌, inl, inr, ℕ, ◌+◌, ◌<◌, List, Bool, true, false, Option, Some, None, refl, ap, ap₂, sym, ◌∙◌, subst, arith}
 use Rattle.std.specs.Prelude.{IsTrue, ◌==◌, is_some, nat_eq, nat_lt, option_map, IsSomeAnd, ◌&&◌, ◌||◌, if◌then◌else◌}
 use Rattle.std.specs.HashMap.{get, hash_map_len}
+use Rattle.hc_rules.specs.declared.room.Limits.{Limits}
 use Rattle.hc_store.specs.declared.backend.Backend.{Ghosts}
 use Rattle.hc_event.specs.declared.event.Request.{Request}
 use Rattle.hc_event.specs.declared.event.Response.{Response}
@@ -89,7 +90,7 @@ good_told running o c response k kept there lives tells off =
 pub viewed_as : (x : ℕ) (running : Option Open) (o : Open) (found : Option ExchangeView) (v : ExchangeView) → running ≡ Some o → found ≡ option_map (view_of x) running → found ≡ Some v → v ≡ view_of x o
 viewed_as x running o found v there is at = sym (some_is (view_of x o) v (sym (ap (option_map (view_of x)) there) ∙ (sym is ∙ at)))
 
-module _ {B : Type 0} {g : Ghosts B} (r : Rows B g) (t : Tables) (facts : Facts r.limits t) (stands : RowsStand r t) (x : ℕ) (o : Open) (there : (table_of r.exchanges x).running ≡ Some o) (headless : o.headed ≡ false) where
+module _ {B : Type 0} {g : Ghosts B} {lim : Limits} (r : Rows B g) (t : Tables) (facts : Facts lim t) (stands : RowsStand lim r t) (x : ℕ) (o : Open) (there : (table_of r.exchanges x).running ≡ Some o) (headless : o.headed ≡ false) where
   -- the exchange, and its consumer
   pub record HeardAs : Type 0 where
     pub w : Exchange
@@ -115,7 +116,7 @@ module _ {B : Type 0} {g : Ghosts B} (r : Rows B g) (t : Tables) (facts : Facts 
   asker_lives c same = (let h = heard_as in ap (λ (z : Option Consumer). is_some z) (ap (get nat_eq r.consumers) (sym (h.for_it ∙ same)) ∙ h.asked.there))
 
 -- whoever waits to found or to join is kept by its key
-waits_in_key : {B : Type 0} {g : Ghosts B} (r : Rows B g) (t : Tables) (facts : Facts r.limits t) (stands : RowsStand r t) (x : ℕ) (w : Exchange) (a : Asker r t x w) → awaited_exchange a.v.place ≡ Some x → is_in w.c (line_of r.keys a.k.request.key) ≡ true
+waits_in_key : {B : Type 0} {g : Ghosts B} {lim : Limits} (r : Rows B g) (t : Tables) (facts : Facts lim t) (stands : RowsStand lim r t) (x : ℕ) (w : Exchange) (a : Asker r t x w) → awaited_exchange a.v.place ≡ Some x → is_in w.c (line_of r.keys a.k.request.key) ≡ true
 waits_in_key r t facts stands x w a waits = by_place a.v.place refl waits
   where
     key : List ℕ
@@ -215,7 +216,7 @@ pub record Told (t : Tables) (x : ℕ) (response : Response) (k : HeadCase) (goe
   pub doomless : doomed_by_case (Some k) w response ≡ None
   pub same : goes ≡ goes_with t w response k
 
-module _ {B : Type 0} {g : Ghosts B} (r : Rows B g) (t : Tables) (facts : Facts r.limits t) (stands : RowsStand r t) (x c : ℕ) (o : Open) (there : (table_of r.exchanges x).running ≡ Some o) (headless : o.headed ≡ false) (same_c : o.c ≡ c) (response : Response) (k : HeadCase)
+module _ {B : Type 0} {g : Ghosts B} {lim : Limits} (r : Rows B g) (t : Tables) (facts : Facts lim t) (stands : RowsStand lim r t) (x c : ℕ) (o : Open) (there : (table_of r.exchanges x).running ≡ Some o) (headless : o.headed ≡ false) (same_c : o.c ≡ c) (response : Response) (k : HeadCase)
     (tells : (q : Open) (u : Consumer) → (table_of r.exchanges x).running ≡ Some q → get nat_eq r.consumers c ≡ Some u → k ≡ head_case (heard_view q u (kept_at (shelf_of r.entries) (aim_in o.role)) response)) where
   h : HeardAs r t facts stands x o there headless
   h = heard_as r t facts stands x o there headless
@@ -378,21 +379,21 @@ module _ {B : Type 0} {g : Ghosts B} (r : Rows B g) (x : ℕ) (response : Respon
         within_limits = within_limits;
       }
 
-  pub waits_as_told : {P : Type 0} → ∥ P ∥₁ → (P → (t : Tables) × Facts r.limits t × RowsStand r t) → is_some (get nat_eq r.consumers v.c) ≡ true → starts_anew k ≡ true → IsSomeAnd (get nat_eq r.consumers v.c) (IsInKey r.keys v.c)
+  pub waits_as_told : ∥ Stands r ∥₁ → ((p : Stands r) → (t : Tables) × Facts p.limits t × RowsStand p.limits r t) → is_some (get nat_eq r.consumers v.c) ≡ true → starts_anew k ≡ true → IsSomeAnd (get nat_eq r.consumers v.c) (IsInKey r.keys v.c)
   waits_as_told some_past past lives on =
       let u = is_there (get nat_eq r.consumers v.c) lives in
       some_that (get nat_eq r.consumers v.c) u.0 (IsInKey r.keys v.c) u.1
       (merely_true (is_in v.c (line_of r.keys u.0.request.key)) some_past
       (λ p. (let s = past p in waits_told r s.0 s.1 s.2 x v.c bare.o bare.there bare.headless for_c response k tells_as on u.0 u.1)))
 
-  pub told_as : (t : Tables) (facts : Facts r.limits t) (stands : RowsStand r t) (d : Bool) (goes : Option ℕ) → ((q : Open) → (table_of r.exchanges x).running ≡ Some q → d ≡ (is_past_case k && changes_by q.request response)) → d ≡ false
+  pub told_as : {lim : Limits} (t : Tables) (facts : Facts lim t) (stands : RowsStand lim r t) (d : Bool) (goes : Option ℕ) → ((q : Open) → (table_of r.exchanges x).running ≡ Some q → d ≡ (is_past_case k && changes_by q.request response)) → d ≡ false
       → ((q : Open) → (table_of r.exchanges x).running ≡ Some q → goes ≡ let_go_by (kept_of r.keys q.request.key).current aim response.status k) → (k ≡ case.NotValidated → ⊥) → Told t x response k goes
   told_as t facts stands d goes dooms off goes_is apart =
       told_of r t facts stands x v.c bare.o bare.there bare.headless for_c response k tells_as apart goes (sym (dooms bare.o bare.there) ∙ off)
       (goes_is bare.o bare.there ∙ ap (λ (a : Option ℕ). let_go_by (kept_of r.keys bare.o.request.key).current a response.status k) aim_as)
 
   -- where it may select what is stored
-  pub told_unselected : (t : Tables) (facts : Facts r.limits t) (stands : RowsStand r t) → k ≡ case.NotValidated → ToldUnselected t x response aim
+  pub told_unselected : {lim : Limits} (t : Tables) (facts : Facts lim t) (stands : RowsStand lim r t) → k ≡ case.NotValidated → ToldUnselected t x response aim
   told_unselected t facts stands is_k =
       let e = h r t facts stands x v.c bare.o bare.there bare.headless for_c response k tells_as in
       let its = here r t facts stands x v.c bare.o bare.there bare.headless for_c response k tells_as in
@@ -419,7 +420,7 @@ module _ {B : Type 0} {g : Ghosts B} (r : Rows B g) (x : ℕ) (response : Respon
         let view : HeadView = heard_view q u.0 (kept_at (shelf_of r.entries) aim) response in
         past_way view k (subst (CaseBy view) (sym (tells q u.0 there u.1)) (case_by view)) parts.0
 
-    pub told_dooming : (t : Tables) (facts : Facts r.limits t) (stands : RowsStand r t) → ToldDooming t x response k
+    pub told_dooming : {lim : Limits} (t : Tables) (facts : Facts lim t) (stands : RowsStand lim r t) → ToldDooming t x response k
     told_dooming t facts stands =
         let e = h r t facts stands x v.c bare.o bare.there bare.headless for_c response k tells_as in
         record {
@@ -475,7 +476,7 @@ anew_case k (inr is) = ap starts_anew is
 
 -- SOME PAST
 
-pub past_of_runs : {B : Type 0} {g : Ghosts B} (r : Rows B g) → Stands r → (t : Tables) × Facts r.limits t × RowsStand r t
+pub past_of_runs : {B : Type 0} {g : Ghosts B} (r : Rows B g) (s : Stands r) → (t : Tables) × Facts s.limits t × RowsStand s.limits r t
 past_of_runs r s = (s.t, s.facts, s.rows)
 
 -- its consumer is kept

@@ -4,6 +4,7 @@ use Rattle.std.proofs.lemmas.Bool.Decides.{nat_tests}
 use Rattle.std.specs.Prelude.{codes, is_some, nat_eq, nat_le, option_and_then, option_map, ◌==◌, if◌then◌else◌}
 use Rattle.std.specs.Option.{IfSome}
 use Rattle.std.specs.HashMap.{get}
+use Rattle.hc_rules.specs.declared.room.Limits.{Limits}
 use Rattle.hc_store.specs.declared.backend.Backend.{Ghosts}
 use Rattle.hc_range.specs.declared.range.Asked.{Asked}
 use Rattle.hc_range.specs.declared.range.Asked.TheVariants.{From, FromTo, Last}
@@ -85,7 +86,7 @@ request_ordered request None is = tt
 request_ordered request (Some asked) is = range_order request asked is
 
 -- what a consumer asks for is in order
-pub range_ordered : {B : Type 0} {g : Ghosts B} (r : Rows B g) (t : Tables) (c : ℕ) (k : Consumer) → get nat_eq r.consumers c ≡ Some k → RowsStand r t → IfSome k.class.range IsInOrder
+pub range_ordered : {B : Type 0} {g : Ghosts B} {lim : Limits} (r : Rows B g) (t : Tables) (c : ℕ) (k : Consumer) → get nat_eq r.consumers c ≡ Some k → RowsStand lim r t → IfSome k.class.range IsInOrder
 unfolding class_of
 range_ordered r t c k at stands =
     let found = kept_row t k (t.consumer c) (subst (λ o. KeepsConsumer t o (t.consumer c)) at (stands.consumers c)) in
@@ -185,7 +186,7 @@ joins_same t r from to e v response is absent = by_length is.length
 
 -- WHAT THE TABLES SAY
 
-module _ {B : Type 0} {g : Ghosts B} (r : Rows B g) (t : Tables) (facts : Facts r.limits t) (stands : RowsStand r t) (x : ℕ) (w : Exchange) (a : Asker r t x w) (o : Open) (running : (table_of r.exchanges x).running ≡ Some o) (response : Response) where
+module _ {B : Type 0} {g : Ghosts B} {lim : Limits} (r : Rows B g) (t : Tables) (facts : Facts lim t) (stands : RowsStand lim r t) (x : ℕ) (w : Exchange) (a : Asker r t x w) (o : Open) (running : (table_of r.exchanges x).running ≡ Some o) (response : Response) where
   runs : IsRunning t x o w
   runs = runs_as r t x o w stands running a.awaits.row
 

@@ -4,6 +4,7 @@ use mathlib.Core.Path.{fun_ext}
 use Rattle.std.proofs.lemmas.List.{append-nil}
 use Rattle.std.specs.Prelude.{is_some, IsSomeAnd, nat_eq, not, option_map, ◌||◌, ◌==◌, if◌then◌else◌}
 use Rattle.std.specs.HashMap.{get, hash_map_len}
+use Rattle.hc_rules.specs.declared.room.Limits.{Limits}
 use Rattle.hc_store.specs.declared.backend.Backend.{Ghosts}
 use Rattle.hc_event.specs.declared.act.Act.{Act}
 use Rattle.hc_event.specs.declared.act.Act.TheVariants as act
@@ -93,7 +94,7 @@ named_rows t now x c q response o w v p consumer representation =
 
 -- ITS ROWS THEN
 
-module _ {B : Type 0} {g : Ghosts B} (r u : Rows B g) (m : Tables) (now x q c : ℕ) (response : Response) (w : Exchange) (v : rows.Consumer) (p : Representation) (j : IsJoinable m x q w v p) (k : Consumer) (o : Open) (e : Kept) (stands : RowsStand r m) (for_it : w.c ≡ c) (there : get nat_eq r.consumers w.c ≡ Some k)
+module _ {B : Type 0} {g : Ghosts B} {lim : Limits} (r u : Rows B g) (m : Tables) (now x q c : ℕ) (response : Response) (w : Exchange) (v : rows.Consumer) (p : Representation) (j : IsJoinable m x q w v p) (k : Consumer) (o : Open) (e : Kept) (stands : RowsStand lim r m) (for_it : w.c ≡ c) (there : get nat_eq r.consumers w.c ≡ Some k)
     (running : (table_of r.exchanges x).running ≡ Some o) (on : is_reached (promise_in w response) 0 ≡ false) (kept : (shelf_of r.entries).kept q ≡ Some e) where
   is : IsEntry m q e p
   is = subst (λ (n : Option Kept). KeepsEntry m q n (Some p)) kept (subst (KeepsEntry m q ((shelf_of r.entries).kept q)) j.there (stands.entries.each q))
@@ -106,11 +107,11 @@ module _ {B : Type 0} {g : Ghosts B} (r u : Rows B g) (m : Tables) (now x q c : 
   own_apart y ne = ap (λ (n : Option ℕ). is_number n y) j.mine ∙ eqb-other x y ne
 
   -- what is gone brings no news
-  pub gone_joined : p.is_gone ≡ true → Brings r u c x q response → RowsStand u (with_answer now x response (Some q) w m)
+  pub gone_joined : p.is_gone ≡ true → Brings r u c x q response → RowsStand lim u (with_answer now x response (Some q) w m)
   gone_joined as_gone brings =
-      subst (RowsStand u) (named_rows m now x w.c q response (Some q) w v p j.asker j.there)
+      subst (RowsStand lim u) (named_rows m now x w.c q response (Some q) w v p j.asker j.there)
       (stands_joined m now x q response w v p j p.head refl p.writer v.own own_apart r u k o stands there running on
-      (ap (λ z. (shelf_of z).limits) brings.entries ∙ (stands.limits ∙ sym brings.limits)) brings.last_start
+      (ap (λ z. (shelf_of z).limits) brings.entries ∙ stands.limits) brings.last_start
       (subst (λ (n : Option ℕ). BecomesAt r.consumers u.consumers w.c (Some (record k { own = n }))) its.own (stays_at r.consumers u.consumers w.c k brings.consumers there))
       (known_of (get nat_eq r.consumers w.c) k _ there (subst (λ (d : ℕ). IsSomeAnd (get nat_eq r.consumers d) (λ n. LeavesKey d n.request.key r.keys u.keys)) (sym for_it) brings.line))
       brings.exchanges
@@ -155,24 +156,21 @@ module _ {B : Type 0} {g : Ghosts B} (r u : Rows B g) (m : Tables) (now x q c : 
     others_then : (n : ℕ) → q ≢ n → (shelf_of brought.entries).kept n ≡ (shelf_of r.entries).kept n
     others_then n ne = its_shelf.kept n ∙ rw (eqb-other q n ne) refl
 
-    limits_then : brought.limits ≡ r.limits
-    limits_then = brings.limits ∙ grows.rest.limits
-
     -- its consumer reads it alone
-    pub stands_alone : RowsStand brought (with_consumer w.c (Some (record v { own = v.own })) (with_answer now x response (Some q) w (with_representation q (Some (record p { head = h; writer = p.writer })) m)))
+    pub stands_alone : RowsStand lim brought (with_consumer w.c (Some (record v { own = v.own })) (with_answer now x response (Some q) w (with_representation q (Some (record p { head = h; writer = p.writer })) m)))
     stands_alone =
         stands_joined m now x q response w v p j h refl p.writer v.own own_apart r brought k o stands there running on
-        (its_shelf.limits ∙ (stands.limits ∙ sym limits_then)) (brings.last_start ∙ grows.rest.last_start)
+        (its_shelf.limits ∙ stands.limits) (brings.last_start ∙ grows.rest.last_start)
         (subst (λ (n : Option ℕ). BecomesAt r.consumers brought.consumers w.c (Some (record k { own = n }))) its.own (stays_at r.consumers brought.consumers w.c k (brings.consumers ∙ grows.rest.consumers) there))
         its_line its_exchange
         (entries_joined m now x q response w v p j h refl refl p.writer v.own own_apart (shelf_of r.entries) (shelf_of brought.entries) (with_head news e) stands.entries its_shelf.order others_then kept_then
         (entry_growing m now x q response w v p j h refl refl p.writer v.own own_apart e news e.writer is on told_so refl refl is.writer))
 
     -- others may
-    pub stands_shared : Shares brought u c x q → RowsStand u (with_consumer w.c (Some (record v { own = None })) (with_answer now x response (Some q) w (with_representation q (Some (record p { head = h; writer = Some x })) m)))
+    pub stands_shared : Shares brought u c x q → RowsStand lim u (with_consumer w.c (Some (record v { own = None })) (with_answer now x response (Some q) w (with_representation q (Some (record p { head = h; writer = Some x })) m)))
     stands_shared shares =
         stands_joined m now x q response w v p j h refl (Some x) None (λ y ne. refl) r u k o stands there running on
-        (shares.entries.limits ∙ (its_shelf.limits ∙ (stands.limits ∙ sym (shares.limits ∙ limits_then)))) (shares.last_start ∙ (brings.last_start ∙ grows.rest.last_start))
+        (shares.entries.limits ∙ (its_shelf.limits ∙ stands.limits)) (shares.last_start ∙ (brings.last_start ∙ grows.rest.last_start))
         (becomes_by r.consumers u.consumers w.c k without_own there (subst (λ (d : ℕ). ChangesAt r.consumers u.consumers d without_own) (sym for_it) (subst (λ z. ChangesAt z u.consumers c without_own) (brings.consumers ∙ grows.rest.consumers) shares.consumers)))
         (subst (λ z. LeavesKey w.c k.request.key r.keys z) (sym shares.keys) its_line)
         (subst (λ z. exch.Becomes (bringing q response) x r.exchanges z) (sym shares.exchanges) its_exchange)
@@ -183,7 +181,7 @@ module _ {B : Type 0} {g : Ghosts B} (r u : Rows B g) (m : Tables) (now x q c : 
 
 -- IT IS ANSWERED
 
-module _ {B : Type 0} {g : Ghosts B} (r u : Rows B g) (t : Tables) (facts : Facts r.limits t) (now x : ℕ) (response : Response) (goes : denial t (event.Head x response) ≡ None) (w : Exchange) (a : Asker r t x w) (case : HeadCase) (how : Joins case) (is : head_case (head_view t false w response) ≡ case) (q : ℕ) (aim : w.aim ≡ Some q) (p : Representation) (there : t.representation q ≡ Some p) (before : List Act) where
+module _ {B : Type 0} {g : Ghosts B} {lim : Limits} (r u : Rows B g) (t : Tables) (facts : Facts lim t) (now x : ℕ) (response : Response) (goes : denial t (event.Head x response) ≡ None) (w : Exchange) (a : Asker r t x w) (case : HeadCase) (how : Joins case) (is : head_case (head_view t false w response) ≡ case) (q : ℕ) (aim : w.aim ≡ Some q) (p : Representation) (there : t.representation q ≡ Some p) (before : List Act) where
   abbrev ev : Event
   ev = event.Head x response
 
@@ -191,7 +189,7 @@ module _ {B : Type 0} {g : Ghosts B} (r u : Rows B g) (t : Tables) (facts : Fact
   on_joins first = refl
   on_joins later = refl
 
-  as_model : {k : HeadCase} → Joins k → does.Joins r.limits t facts.law now x response goes w a.awaits.row a.v a.awaits.asker q p aim there k
+  as_model : {k : HeadCase} → Joins k → does.Joins lim t facts.law now x response goes w a.awaits.row a.v a.awaits.asker q p aim there k
   as_model first = does.first
   as_model later = does.later
 
@@ -199,27 +197,27 @@ module _ {B : Type 0} {g : Ghosts B} (r u : Rows B g) (t : Tables) (facts : Fact
   founds_none = not_founding case (on_joins how)
 
   -- as before, where it was lost
-  pub past_answered : p.is_lost ≡ true → RowsStand u (with_answer now x response (Some q) w t) → Answered r.limits (shelf_of r.entries).faults u t before before now ev
+  pub past_answered : p.is_lost ≡ true → RowsStand lim u (with_answer now x response (Some q) w t) → Answered lim (shelf_of r.entries).faults u t before before now ev
   past_answered lost stood =
-      does_answered r.limits (shelf_of r.entries).faults u t (with_event now ev (with_answer now x response (Some q) w t)) before before [] now ev
-      (does.joins_past r.limits t facts.law now x response goes w a.awaits.row a.v a.awaits.asker q p aim there case (as_model how) is lost) (unwritten t now x response w case a.awaits.row is founds_none) refl (sym (append-nil before))
+      does_answered lim (shelf_of r.entries).faults u t (with_event now ev (with_answer now x response (Some q) w t)) before before [] now ev
+      (does.joins_past lim t facts.law now x response goes w a.awaits.row a.v a.awaits.asker q p aim there case (as_model how) is lost) (unwritten t now x response w case a.awaits.row is founds_none) refl (sym (append-nil before))
       (stands_counted u _ now ev refl stood)
 
   -- updated
   abbrev after : Bool → Tables
   after b = with_consumer w.c (Some (record a.v { own = if b then None else a.v.own })) (with_answer now x response (Some q) w (with_representation q (Some (record p { head = updated_head now response w p.head; writer = if b then Some x else p.writer })) t))
 
-  pub joins_answered : p.is_lost ≡ false → (b : Bool) → b ≡ resumes t response w p → RowsStand u (after b) → (faults : ℕ) → Answered r.limits faults u t before before now ev
+  pub joins_answered : p.is_lost ≡ false → (b : Bool) → b ≡ resumes t response w p → RowsStand lim u (after b) → (faults : ℕ) → Answered lim faults u t before before now ev
   joins_answered kept b same stood faults =
-      does_answered r.limits faults u t (with_event now ev (after (resumes t response w p))) before before [] now ev
-      (does.joins r.limits t facts.law now x response goes w a.awaits.row a.v a.awaits.asker q p aim there case (as_model how) is kept) (unwritten t now x response w case a.awaits.row is founds_none) refl (sym (append-nil before))
-      (stands_counted u _ now ev refl (subst (λ (n : Bool). RowsStand u (after n)) same stood))
+      does_answered lim faults u t (with_event now ev (after (resumes t response w p))) before before [] now ev
+      (does.joins lim t facts.law now x response goes w a.awaits.row a.v a.awaits.asker q p aim there case (as_model how) is kept) (unwritten t now x response w case a.awaits.row is founds_none) refl (sym (append-nil before))
+      (stands_counted u _ now ev refl (subst (λ (n : Bool). RowsStand lim u (after n)) same stood))
 
   -- lost
-  writes_it : written_representation t (entry_of r.limits t now ev (Loses q kind.Fault)) ≡ Some q
+  writes_it : written_representation t (entry_of lim t now ev (Loses q kind.Fault)) ≡ Some q
   unfolding written_representation
   writes_it =
-      let e = entry_of r.limits t now ev (Loses q kind.Fault) in
+      let e = entry_of lim t now ev (Loses q kind.Fault) in
       let k = head_case (head_view t (has_loss (lossless e).acts) w response) in
       let is_it : case_at t (lossless e) ≡ Some k = case_is t (lossless e) x response w refl a.awaits.row in
       let joins : is_joining (Some k) ≡ true = joins_again t false (has_loss (lossless e).acts) w response (head_case (head_view t false w response)) (case_by (head_view t false w response)) (ap (λ z. is_joining (Some z)) is ∙ on_joins how) in
@@ -233,16 +231,16 @@ module _ {B : Type 0} {g : Ghosts B} (r u : Rows B g) (t : Tables) (facts : Fact
 
   -- its consumer writes it alone
   pub alone : p.is_lost ≡ false → exclusive t q p ≡ Some w.c
-  alone kept = does.joins_alone r.limits t facts.law now x response goes w a.awaits.row a.v a.awaits.asker q p aim there case (as_model how) false is kept
+  alone kept = does.joins_alone lim t facts.law now x response goes w a.awaits.row a.v a.awaits.asker q p aim there case (as_model how) false is kept
 
   pub holds_alone : p.is_lost ≡ false → (c : ℕ) → w.c ≡ c → HoldsNothing t q p (Some c)
-  holds_alone kept c for_it = subst (λ (o : Option ℕ). HoldsNothing t q p o) (alone kept ∙ ap Some for_it) (holds_none r.limits t facts q p there kept)
+  holds_alone kept c for_it = subst (λ (o : Option ℕ). HoldsNothing t q p o) (alone kept ∙ ap Some for_it) (holds_none lim t facts q p there kept)
 
-  pub lost_answered : p.is_lost ≡ false → (c : ℕ) → w.c ≡ c → (faults : ℕ) (out : List Act) → out ≡ before ++ (act.Lost q kind.Fault ∷ []) → faults < (shelf_of u.entries).faults → RowsStand u (with_answer now x response (Some q) w (let_go now q (with_representation q (Some (lost_to (Some c) p)) t))) → Answered r.limits faults u t before out now ev
+  pub lost_answered : p.is_lost ≡ false → (c : ℕ) → w.c ≡ c → (faults : ℕ) (out : List Act) → out ≡ before ++ (act.Lost q kind.Fault ∷ []) → faults < (shelf_of u.entries).faults → RowsStand lim u (with_answer now x response (Some q) w (let_go now q (with_representation q (Some (lost_to (Some c) p)) t))) → Answered lim faults u t before out now ev
   lost_answered kept c for_it faults out told failed stood =
-      lossy_answered r.limits faults u t (with_event now ev (let_go now q (with_answer now x response (Some q) w (with_representation q (Some (lost_to (exclusive t q p) p)) t)))) before out (act.Lost q kind.Fault ∷ []) now ev q
-      (does.joins_lost r.limits t facts.law now x response goes w a.awaits.row a.v a.awaits.asker q p aim there case (as_model how) kind.Fault kept (joins_lost_too (head_view t false w response) case how is)) writes_it (ap is_kept there ∙ ap not kept) refl failed told
-      (stands_counted u _ now ev refl (subst (λ (o : Option ℕ). RowsStand u (let_go now q (with_answer now x response (Some q) w (with_representation q (Some (lost_to o p)) t)))) (sym (alone kept ∙ ap Some for_it)) stood))
+      lossy_answered lim faults u t (with_event now ev (let_go now q (with_answer now x response (Some q) w (with_representation q (Some (lost_to (exclusive t q p) p)) t)))) before out (act.Lost q kind.Fault ∷ []) now ev q
+      (does.joins_lost lim t facts.law now x response goes w a.awaits.row a.v a.awaits.asker q p aim there case (as_model how) kind.Fault kept (joins_lost_too (head_view t false w response) case how is)) writes_it (ap is_kept there ∙ ap not kept) refl failed told
+      (stands_counted u _ now ev refl (subst (λ (o : Option ℕ). RowsStand lim u (let_go now q (with_answer now x response (Some q) w (with_representation q (Some (lost_to o p)) t)))) (sym (alone kept ∙ ap Some for_it)) stood))
 
 -- BY WHAT THE CODE LOOKED UP
 
@@ -263,7 +261,7 @@ pub record IsJoin {B : Type 0} {g : Ghosts B} (r : Rows B g) (t : Tables) (x c q
   pub told : e.head.total ≡ p.head.total
   pub hole : (from : ℕ) × (to : ℕ) × (w.need ≡ need.Hole from to)
 
-pub join_of : {B : Type 0} {g : Ghosts B} (r : Rows B g) (t : Tables) (facts : Facts r.limits t) (stands : RowsStand r t) (now x c q : ℕ) (response : Response) (w : Exchange) (row : t.exchange x ≡ Some w) (k : HeadCase) → joins_hole k ≡ true → denial t (event.Head x response) ≡ None → head_case (head_view t false w response) ≡ k
+pub join_of : {B : Type 0} {g : Ghosts B} {lim : Limits} (r : Rows B g) (t : Tables) (facts : Facts lim t) (stands : RowsStand lim r t) (now x c q : ℕ) (response : Response) (w : Exchange) (row : t.exchange x ≡ Some w) (k : HeadCase) → joins_hole k ≡ true → denial t (event.Head x response) ≡ None → head_case (head_view t false w response) ≡ k
     → head_refusal (open_at r x) ≡ None → IsAskedBy c (table_of r.exchanges x).running → IsAbout q (table_of r.exchanges x).running → shelf.is_kept (shelf_of r.entries) q ≡ true → IsJoin r t x c q response w
 join_of r t facts stands now x c q response w row k joins goes is accepted asks opens kept =
     let a = asker_of r t facts now x response w stands goes row in
@@ -323,7 +321,7 @@ module _ {B : Type 0} {g : Ghosts B} (l u : Rows B g) (t : Tables) (law : Lawful
       let on_it : is_bound q (m.consumer w.c) ≡ true = ap (is_bound q) its_place.asker ∙ (ap (is_bound_place q) j.at ∙ eqb-same q) in
       filter_some (λ d. is_bound q (m.consumer d)) w.c m.starts (law.sound.numbered.lists.started w.c (ap (λ (z : Option rows.Consumer). is_some z) j.asker)) on_it none
 
-  pub brings_lost : RowsStand l m → Brings l u c x q response → RowsStand u (with_answer now x response (Some q) w m)
+  pub brings_lost : {lim : Limits} → RowsStand lim l m → Brings l u c x q response → RowsStand lim u (with_answer now x response (Some q) w m)
   brings_lost stands brings =
       let e = by_kept ((shelf_of l.entries).kept q) refl (subst (KeepsEntry m q ((shelf_of l.entries).kept q)) its_place.there (stands.entries.each q)) in
       let k = by_consumer (get nat_eq l.consumers w.c) refl (subst (KeepsConsumer m (get nat_eq l.consumers w.c)) its_place.asker (stands.consumers w.c)) in

@@ -2,6 +2,7 @@
 use Rattle.std.proofs.Common.{◌≡◌, ◌≢◌, ◌⊎◌, inl, inr, ℕ, ◌-◌, List, [], Bool, true, false, Option, Some, None, refl, ap, sym, ◌∙◌, subst}
 use Rattle.std.specs.Prelude.{is_some, nat_eq, drop, bytes_eq, option_map, ◌&&◌, if◌then◌else◌}
 use Rattle.std.specs.HashMap.{get}
+use Rattle.hc_rules.specs.declared.room.Limits.{Limits}
 use Rattle.hc_store.specs.declared.backend.Backend.{Ghosts}
 use Rattle.hc_event.specs.declared.event.Response.{Response}
 use Rattle.hc_record.specs.Head.{Head}
@@ -325,8 +326,8 @@ module _ (t : Tables) (now x q : ℕ) (response : Response) (w : Exchange) (v : 
 
   -- ALL OF IT
 
-  module _ {B : Type 0} {g : Ghosts B} (r u : Rows B g) (k : Consumer) (o : Open) (stands : RowsStand r t) (there : get nat_eq r.consumers w.c ≡ Some k) (running : (table_of r.exchanges x).running ≡ Some o) (on : is_reached (promise_in w response) 0 ≡ false)
-      (limits : (shelf_of u.entries).limits ≡ u.limits) (last : u.last_start ≡ r.last_start) (becomes : BecomesAt r.consumers u.consumers w.c (Some (record k { own = own }))) (line : LeavesKey w.c k.request.key r.keys u.keys)
+  module _ {B : Type 0} {g : Ghosts B} {lim : Limits} (r u : Rows B g) (k : Consumer) (o : Open) (stands : RowsStand lim r t) (there : get nat_eq r.consumers w.c ≡ Some k) (running : (table_of r.exchanges x).running ≡ Some o) (on : is_reached (promise_in w response) 0 ≡ false)
+      (limits : (shelf_of u.entries).limits ≡ lim) (last : u.last_start ≡ r.last_start) (becomes : BecomesAt r.consumers u.consumers w.c (Some (record k { own = own }))) (line : LeavesKey w.c k.request.key r.keys u.keys)
       (brings : exch.Becomes (bringing q response) x r.exchanges u.exchanges) (entries : KeepsEntries s (shelf_of u.entries)) where
     is : IsKept t k v
     is = kept_as r t w.c v k stands j.asker there
@@ -355,7 +356,7 @@ module _ (t : Tables) (now x q : ℕ) (response : Response) (w : Exchange) (v : 
       | inr ne ↦ subst (KeepsExchange s y) (sym (known_other (bringing q response) x y r.exchanges u.exchanges brings (λ e. ne (sym e)))) (exchange_stays y (table_of r.exchanges y) ne (stands.exchanges y))
     ]
 
-    pub stands_joined : RowsStand u s
+    pub stands_joined : RowsStand lim u s
     stands_joined = record {
       limits = limits;
       last_start = last ∙ stands.last_start;

@@ -1,6 +1,7 @@
 -- A head that joins: how long its part is, and who waits for it.
 use Rattle.std.proofs.Common.{◌≡◌, ◌⊎◌, inl, inr, ℕ, ◌+◌, ◌-◌, ◌<◌, ◌≤◌, List, Bool, true, false, Option, Some, None, refl, ap, ap₂, sym, ◌∙◌, subst, arith}
 use Rattle.std.specs.Prelude.{codes, is_some, bytes_eq, not, ◌||◌, ◌==◌, if◌then◌else◌, option_map}
+use Rattle.hc_rules.specs.declared.room.Limits.{Limits}
 use Rattle.hc_store.specs.declared.backend.Backend.{Ghosts}
 use Rattle.hc_stored.specs.Kept.{Kept}
 use Rattle.hc_exch.specs.declared.row.Open.{Open}
@@ -136,7 +137,7 @@ get_is_no_head request off = (let same : request.method ≡ codes "GET" = same_b
     by_tests true a b c d h = refl
     by_tests false a b c d h = false_true (sym h)
 
-module _ {B : Type 0} {g : Ghosts B} (r : Rows B g) (t : Tables) (facts : Facts r.limits t) (x : ℕ) (response : Response) (w : Exchange) (a : Asker r t x w) (view : JoinView (head_view t false w response)) where
+module _ {B : Type 0} {g : Ghosts B} {lim : Limits} (r : Rows B g) (t : Tables) (facts : Facts lim t) (x : ℕ) (response : Response) (w : Exchange) (a : Asker r t x w) (view : JoinView (head_view t false w response)) where
   -- to what its consumer is bound
   pub record IsReader : Type 0 where
     pub q : ℕ

@@ -2,6 +2,7 @@
 use Rattle.std.proofs.Common.{◌≡◌, ◌≢◌, ℕ, List, Bool, true, false, Option, Some, None, refl, ap, sym, ◌∙◌, subst}
 use Rattle.std.specs.Prelude.{is_some, nat_eq, bytes_eq, not, IsSomeAnd, ◌||◌, if◌then◌else◌}
 use Rattle.std.specs.HashMap.{get}
+use Rattle.hc_rules.specs.declared.room.Limits.{Limits}
 use Rattle.hc_store.specs.declared.backend.Backend.{Ghosts}
 use Rattle.hc_event.specs.declared.event.Request.{Request}
 use Rattle.hc_rules.specs.Needs.{route_of}
@@ -45,7 +46,7 @@ use Rattle.hc_state.proofs.Words.{false_true, none_some, same_row, then_false}
 
 -- WHO WAITS FOR ITS KEY
 
-module _ {B : Type 0} {g : Ghosts B} (r : Rows B g) (t : Tables) (facts : Facts r.limits t) (stands : RowsStand r t) (x : ℕ) (w : Exchange) (a : Asker r t x w) (waits : IsSomeAnd (get nat_eq r.consumers w.c) (IsInKey r.keys w.c)) where
+module _ {B : Type 0} {g : Ghosts B} {lim : Limits} (r : Rows B g) (t : Tables) (facts : Facts lim t) (stands : RowsStand lim r t) (x : ℕ) (w : Exchange) (a : Asker r t x w) (waits : IsSomeAnd (get nat_eq r.consumers w.c) (IsInKey r.keys w.c)) where
   abbrev key : List ℕ
   key = a.v.request.key
 
@@ -110,14 +111,14 @@ usable_there (Some e) on = (e, refl, by_test e.is_gone on)
     by_test true h = false_true h
 
 module _ {B : Type 0} {g : Ghosts B} (r first second : Rows B g) (now x c q : ℕ) (some : ∥ Stands r ∥₁) (accepted : head_refusal (open_at r x) ≡ None) (asks : IsAskedBy c (table_of r.exchanges x).running) (waits : IsSomeAnd (get nat_eq r.consumers c) (IsInKey r.keys c)) (usable : is_usable_kept ((shelf_of r.entries).kept q) ≡ true)
-    (sends : (t : Tables) (x : ℕ) (w : Exchange) (k : rows.Consumer) → Facts r.limits t → AwaitsHead t x w k → w.c ≡ c → awaited_exchange k.place ≡ Some x → RowsStand r t → RowsStand first (with_consumer c (Some (back_in_line now k)) t)) (same_entries : second.entries ≡ first.entries) (same_exchanges : first.exchanges ≡ r.exchanges) (becomes : exch.Becomes known.without_exchange x first.exchanges second.exchanges) where
+    (sends : (lim : Limits) (t : Tables) (x : ℕ) (w : Exchange) (k : rows.Consumer) → Facts lim t → AwaitsHead t x w k → w.c ≡ c → awaited_exchange k.place ≡ Some x → RowsStand lim r t → RowsStand lim first (with_consumer c (Some (back_in_line now k)) t)) (same_entries : second.entries ≡ first.entries) (same_exchanges : first.exchanges ≡ r.exchanges) (becomes : exch.Becomes known.without_exchange x first.exchanges second.exchanges) where
   record Now (t : Tables) : Type 0 where
     w : Exchange
     row : t.exchange x ≡ Some w
     a : Asker r t x w
     for_it : w.c ≡ c
 
-  now_of : (t : Tables) → Facts r.limits t → RowsStand r t → Now t
+  now_of : {lim : Limits} (t : Tables) → Facts lim t → RowsStand lim r t → Now t
   now_of t facts stands =
       let h = headless_of (table_of r.exchanges x).running accepted in
       let hr = heard_row r t x h.o stands h.there in
@@ -129,7 +130,7 @@ module _ {B : Type 0} {g : Ghosts B} (r first second : Rows B g) (now x c q : �
   kept_still = ap (λ z. is_kept (shelf_of z) q) same_entries ∙ merely_true (is_kept (shelf_of first.entries) q) some (λ p.
       let s = past_of_runs r p in
       let n = now_of s.0 s.1 s.2 in
-      let stood = sends s.0 x n.w n.a.v s.1 n.a.awaits n.for_it (awaits_it r s.0 s.1 s.2 x n.w n.a (subst (λ (d : ℕ). IsSomeAnd (get nat_eq r.consumers d) (IsInKey r.keys d)) (sym n.for_it) waits)) s.2 in
+      let stood = sends _ s.0 x n.w n.a.v s.1 n.a.awaits n.for_it (awaits_it r s.0 s.1 s.2 x n.w n.a (subst (λ (d : ℕ). IsSomeAnd (get nat_eq r.consumers d) (IsInKey r.keys d)) (sym n.for_it) waits)) s.2 in
       let u = usable_there ((shelf_of r.entries).kept q) usable in
       let e = entry_row r s.0 s.2 q u.0 u.1 in
       by_kept s.0 n.a.v e.0 ((shelf_of first.entries).kept q) refl e.1 (sym e.2.is_gone ∙ u.2) (subst (KeepsEntry (with_consumer c (Some (back_in_line now n.a.v)) s.0) q ((shelf_of first.entries).kept q)) e.1 (stood.entries.each q)))

@@ -2,6 +2,7 @@
 use Rattle.std.proofs.Common.{◌≡◌, ℕ, Bool, true, false, Some, None, refl, ap, sym, ◌∙◌, subst}
 use Rattle.std.specs.Prelude.{bytes_eq, nat_eq, ◌&&◌}
 use Rattle.std.specs.HashMap.{get}
+use Rattle.hc_rules.specs.declared.room.Limits.{Limits}
 use Rattle.hc_store.specs.declared.backend.Backend.{Ghosts}
 use Rattle.hc_event.specs.declared.event.Request.{Request}
 use Rattle.hc_stored.specs.Entries.{shelf_of}
@@ -69,12 +70,12 @@ module _ (t : Tables) (law : Lawful t) (x : ℕ) (w : Exchange) (v : rows.Consum
   first true on = refl
   first false on = on
 
-  pub stands_through : {B : Type 0} {g : Ghosts B} (r u : Rows B g) (k : Consumer) → get nat_eq r.consumers w.c ≡ Some k → RowsStand r m
-      → u.limits ≡ r.limits → u.last_start ≡ r.last_start → u.exchanges ≡ r.exchanges → u.entries ≡ r.entries → ChangesAt r.consumers u.consumers w.c (standing_at (place.Passed q (Some x)))
-      → keys.Becomes (on_line (lines.line_after_pass w.c)) k.request.key r.keys u.keys → RowsStand u (with_consumer w.c (Some z) m)
-  stands_through r u k there stands limits last exchanges entries changes line =
+  pub stands_through : {B : Type 0} {g : Ghosts B} {lim : Limits} (r u : Rows B g) (k : Consumer) → get nat_eq r.consumers w.c ≡ Some k → RowsStand lim r m
+      → u.last_start ≡ r.last_start → u.exchanges ≡ r.exchanges → u.entries ≡ r.entries → ChangesAt r.consumers u.consumers w.c (standing_at (place.Passed q (Some x)))
+      → keys.Becomes (on_line (lines.line_after_pass w.c)) k.request.key r.keys u.keys → RowsStand lim u (with_consumer w.c (Some z) m)
+  stands_through r u k there stands last exchanges entries changes line =
       let is = kept_as r m w.c v k stands awaits.asker there in
-      stands_moved r u m w.c v z (standing_at (place.Passed q (Some x)) k) stands awaits.asker (rw at refl) refl limits last exchanges
+      stands_moved r u m w.c v z (standing_at (place.Passed q (Some x)) k) stands awaits.asker (rw at refl) refl last exchanges
       (ap (λ e. (shelf_of e).limits) entries)
       (becomes_by r.consumers u.consumers w.c k (standing_at (place.Passed q (Some x))) there changes) (kept_then k is)
       (keys_with m w.c (Some z) (on_line (lines.line_after_pass w.c)) v.request.key r.keys u.keys stands.keys (subst (λ (q : Request). keys.Becomes (on_line (lines.line_after_pass w.c)) q.key r.keys u.keys) is.request line)
@@ -84,11 +85,11 @@ module _ (t : Tables) (law : Lawful t) (x : ℕ) (w : Exchange) (v : rows.Consum
       much
 
 -- whoever it is called
-pub through_as : {B : Type 0} {g : Ghosts B} (r u : Rows B g) (t : Tables) (law : Lawful t) (x c q : ℕ) (w : Exchange) (v : rows.Consumer) (k : Consumer) (p : Representation) → AwaitsHead t x w v → w.c ≡ c → v.place ≡ place.Turn x → get nat_eq r.consumers c ≡ Some k → RowsStand r (with_representation q (Some p) t)
-    → u.limits ≡ r.limits → u.last_start ≡ r.last_start → u.exchanges ≡ r.exchanges → u.entries ≡ r.entries → ChangesAt r.consumers u.consumers c (standing_at (place.Passed q (Some x)))
-    → keys.Becomes (on_line (lines.line_after_pass c)) k.request.key r.keys u.keys → RowsStand u (with_consumer c (Some (record v { place = place.Passed q (Some x) })) (with_representation q (Some p) t))
-through_as r u t law x c q w v k p awaits for_it at there stands limits last exchanges entries changes line =
-    subst (λ (d : ℕ). RowsStand u (with_consumer d (Some (record v { place = place.Passed q (Some x) })) (with_representation q (Some p) t))) for_it
-    (stands_through t law x w v awaits at q p r u k (ap (get nat_eq r.consumers) for_it ∙ there) stands limits last exchanges entries
+pub through_as : {B : Type 0} {g : Ghosts B} {lim : Limits} (r u : Rows B g) (t : Tables) (law : Lawful t) (x c q : ℕ) (w : Exchange) (v : rows.Consumer) (k : Consumer) (p : Representation) → AwaitsHead t x w v → w.c ≡ c → v.place ≡ place.Turn x → get nat_eq r.consumers c ≡ Some k → RowsStand lim r (with_representation q (Some p) t)
+    → u.last_start ≡ r.last_start → u.exchanges ≡ r.exchanges → u.entries ≡ r.entries → ChangesAt r.consumers u.consumers c (standing_at (place.Passed q (Some x)))
+    → keys.Becomes (on_line (lines.line_after_pass c)) k.request.key r.keys u.keys → RowsStand lim u (with_consumer c (Some (record v { place = place.Passed q (Some x) })) (with_representation q (Some p) t))
+through_as {lim = lim} r u t law x c q w v k p awaits for_it at there stands last exchanges entries changes line =
+    subst (λ (d : ℕ). RowsStand lim u (with_consumer d (Some (record v { place = place.Passed q (Some x) })) (with_representation q (Some p) t))) for_it
+    (stands_through t law x w v awaits at q p r u k (ap (get nat_eq r.consumers) for_it ∙ there) stands last exchanges entries
     (subst (λ (d : ℕ). ChangesAt r.consumers u.consumers d (standing_at (place.Passed q (Some x)))) (sym for_it) changes)
     (subst (λ (d : ℕ). keys.Becomes (on_line (lines.line_after_pass d)) k.request.key r.keys u.keys) (sym for_it) line))

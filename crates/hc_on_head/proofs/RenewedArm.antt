@@ -2,6 +2,7 @@
 use Rattle.std.proofs.Common.{◌≡◌, ◌≢◌, inl, inr, ℕ, List, [], ◌∷◌, Bool, Option, Some, None, refl, ap, sym, ◌∙◌, subst}
 use Rattle.std.specs.Prelude.{is_some, nat_eq, option_map, filter, find}
 use Rattle.std.specs.HashMap.{get, hash_map_len}
+use Rattle.hc_rules.specs.declared.room.Limits.{Limits}
 use Rattle.hc_store.specs.declared.backend.Backend.{Ghosts}
 use Rattle.hc_event.specs.declared.event.Response.{Response}
 use Rattle.hc_record.specs.Head.{Head}
@@ -135,15 +136,15 @@ module _ (t : Tables) (now : ℕ) (response : Response) (w : Exchange) (r : ℕ)
 
 -- ALL OF IT
 
-pub stands_renewed : {B : Type 0} {g : Ghosts B} (r u : Rows B g) (t : Tables) (now : ℕ) (response : Response) (w : Exchange) (q : ℕ) (v : Representation) (e : Kept) → t.representation q ≡ Some v → RowsStand r t → KeepsBeside r u → (shelf_of r.entries).kept q ≡ Some e
-    → shelf.Becomes (option_map (with_head (renewed_head w.opened now response.fields e.head))) same_order q (shelf_of r.entries) (shelf_of u.entries) → RowsStand u (with_representation q (Some (with_refreshed_head now response w v)) t)
+pub stands_renewed : {B : Type 0} {g : Ghosts B} {lim : Limits} (r u : Rows B g) (t : Tables) (now : ℕ) (response : Response) (w : Exchange) (q : ℕ) (v : Representation) (e : Kept) → t.representation q ≡ Some v → RowsStand lim r t → KeepsBeside r u → (shelf_of r.entries).kept q ≡ Some e
+    → shelf.Becomes (option_map (with_head (renewed_head w.opened now response.fields e.head))) same_order q (shelf_of r.entries) (shelf_of u.entries) → RowsStand lim u (with_representation q (Some (with_refreshed_head now response w v)) t)
 stands_renewed r u t now response w q v e row stands rest at becomes =
     let m : Tables = with_representation q (Some (with_refreshed_head now response w v)) t in
     let consumers = rest.consumers in
     let exchanges = rest.exchanges in
     let same_keys = rest.keys in
     record {
-      limits = becomes.limits ∙ (stands.limits ∙ sym rest.limits);
+      limits = becomes.limits ∙ stands.limits;
       last_start = rest.last_start ∙ stands.last_start;
       next = ap (λ z. next_of z) exchanges ∙ stands.next;
       count = ap (λ z. hash_map_len z) consumers ∙ stands.count;

@@ -181,7 +181,6 @@ pub record WokenSoFar {B : Type 0} {g : Ghosts B} (r u : Rows B g) (i now : ℕ)
   pub bounded : (shelf_of u.entries).limits ≡ (shelf_of r.entries).limits
   pub faults : (shelf_of u.entries).faults ≡ (shelf_of r.entries).faults
   pub keys : u.keys ≡ r.keys
-  pub limits : u.limits ≡ r.limits
   pub last_start : u.last_start ≡ r.last_start
   pub exchanges : u.exchanges ≡ r.exchanges
 
@@ -192,7 +191,6 @@ begins r now key = record {
   bounded = refl;
   faults = refl;
   keys = refl;
-  limits = refl;
   last_start = refl;
   exchanges = refl;
 }
@@ -211,7 +209,6 @@ module _ {B : Type 0} {g : Ghosts B} (r mid : Rows B g) (i now : ℕ) (key : Lis
         bounded = so_far.bounded;
         faults = so_far.faults;
         keys = so_far.keys;
-        limits = so_far.limits;
         last_start = so_far.last_start;
         exchanges = so_far.exchanges;
       }
@@ -244,7 +241,7 @@ module _ {B : Type 0} {g : Ghosts B} (r mid : Rows B g) (i now : ℕ) (key : Lis
     user some = by_some (get nat_eq mid.consumers c) some user_by
 
     module _ (u : Rows B g) (over : ChangesAt mid.consumers u.consumers c (once_over now)) (unbound : Unbinds (get nat_eq mid.consumers c) c (shelf_of mid.entries) (shelf_of u.entries)) (faults : (shelf_of u.entries).faults ≡ (shelf_of mid.entries).faults)
-        (keys : u.keys ≡ mid.keys) (limits : u.limits ≡ mid.limits) (last : u.last_start ≡ mid.last_start) (exchanges : u.exchanges ≡ mid.exchanges) where
+        (keys : u.keys ≡ mid.keys) (last : u.last_start ≡ mid.last_start) (exchanges : u.exchanges ≡ mid.exchanges) where
       pub one_back : WokenSoFar r u (i + 1) now key
       one_back = record {
         over = one_more r.keys key (once_over now) r.consumers i c mid.consumers u.consumers so_far.over seat in_line alone over;
@@ -252,7 +249,6 @@ module _ {B : Type 0} {g : Ghosts B} (r mid : Rows B g) (i now : ℕ) (key : Lis
         bounded = unbound_limits (get nat_eq mid.consumers c) c (shelf_of mid.entries) (shelf_of u.entries) unbound ∙ so_far.bounded;
         faults = faults ∙ so_far.faults;
         keys = keys ∙ so_far.keys;
-        limits = limits ∙ so_far.limits;
         last_start = last ∙ so_far.last_start;
         exchanges = exchanges ∙ so_far.exchanges;
       }

@@ -39,7 +39,6 @@ pub fn lose_asked<B: Backend>(
     requires room { 3 ≤ spare out.old }
     ensures answers { (faults : ℕ) → AnswersLosing rows.old rows.new (act_list out.old)
         (act_list out.new) faults heard.now heard.x r response.now }
-    ensures limits { rows.new.limits ≡ rows.old.limits }
     ensures faults { (shelf_of rows.new.entries).faults ≡ (shelf_of rows.old.entries).faults }
 {
     let writing = writing(rows, r);

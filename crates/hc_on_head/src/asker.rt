@@ -8,6 +8,7 @@ ghost use Rattle.hc_model.specs.Effects.{with_consumer, with_representation};
 ghost use Rattle.hc_model.specs.Lawful.{Lawful};
 ghost use Rattle.hc_model.specs.Rows.{Tables, Exchange, Representation, Consumer};
 ghost use Rattle.hc_model.specs.StartingOver.{awaited_exchange};
+ghost use Rattle.hc_rules.specs.declared.room.Limits.{Limits};
 ghost use Rattle.hc_state.specs.Arms.{IsInKey};
 ghost use Rattle.hc_state.specs.Facts.{Facts};
 ghost use Rattle.hc_state.specs.Heads.{AwaitsHead, StandsApart};
@@ -23,12 +24,11 @@ use hc_store::Backend;
 pub fn fall_back<B: Backend>(rows: &mut Rows<B>, c: u64, place: Place)
     requires stands { ∥ Stands rows.old ∥₁ }
     requires live { is_some (get nat_eq rows.old.consumers c) ≡ true }
-    ensures stands { (t : Tables) (x : ℕ) (w : Exchange) (k : Consumer)
-        → Facts rows.old.limits t → AwaitsHead t x w k → w.c ≡ c → StandsApart x place
-        → RowsStand rows.old t
-        → RowsStand rows.new (with_consumer c (Some (record k { place = place })) t) }
+    ensures stands { (lim : Limits) (t : Tables) (x : ℕ) (w : Exchange) (k : Consumer)
+        → Facts lim t → AwaitsHead t x w k → w.c ≡ c → StandsApart x place
+        → RowsStand lim rows.old t
+        → RowsStand lim rows.new (with_consumer c (Some (record k { place = place })) t) }
     ensures exchanges { rows.new.exchanges ≡ rows.old.exchanges }
-    ensures limits { rows.new.limits ≡ rows.old.limits }
     ensures faults { (shelf_of rows.new.entries).faults ≡ (shelf_of rows.old.entries).faults }
 {
     let consumer = rows.consumers.get(&c).unwrap();
@@ -42,12 +42,11 @@ pub fn fall_back<B: Backend>(rows: &mut Rows<B>, c: u64, place: Place)
 pub(crate) fn send_back<B: Backend>(rows: &mut Rows<B>, now: u64, c: u64)
     requires stands { ∥ Stands rows.old ∥₁ }
     requires waits { IsSomeAnd (get nat_eq rows.old.consumers c) (IsInKey rows.old.keys c) }
-    ensures stands { (t : Tables) (x : ℕ) (w : Exchange) (k : Consumer)
-        → Facts rows.old.limits t → AwaitsHead t x w k → w.c ≡ c → awaited_exchange k.place ≡ Some x
-        → RowsStand rows.old t
-        → RowsStand rows.new (with_consumer c (Some (back_in_line now k)) t) }
+    ensures stands { (lim : Limits) (t : Tables) (x : ℕ) (w : Exchange) (k : Consumer)
+        → Facts lim t → AwaitsHead t x w k → w.c ≡ c → awaited_exchange k.place ≡ Some x
+        → RowsStand lim rows.old t
+        → RowsStand lim rows.new (with_consumer c (Some (back_in_line now k)) t) }
     ensures exchanges { rows.new.exchanges ≡ rows.old.exchanges }
-    ensures limits { rows.new.limits ≡ rows.old.limits }
     ensures faults { (shelf_of rows.new.entries).faults ≡ (shelf_of rows.old.entries).faults }
 {
     let consumer = rows.consumers.get(&c).unwrap();
@@ -60,14 +59,13 @@ pub(crate) fn send_back<B: Backend>(rows: &mut Rows<B>, now: u64, c: u64)
 /// validated.
 pub fn let_through<B: Backend>(rows: &mut Rows<B>, c: u64, r: u64, x: u64)
     requires waits { IsSomeAnd (get nat_eq rows.old.consumers c) (IsInKey rows.old.keys c) }
-    ensures stands { (t : Tables) (w : Exchange) (k : Consumer) (v : Representation)
+    ensures stands { (lim : Limits) (t : Tables) (w : Exchange) (k : Consumer) (v : Representation)
         → Lawful t → AwaitsHead t x w k → w.c ≡ c → k.place ≡ place.Turn x
-        → RowsStand rows.old (with_representation r (Some v) t)
-        → RowsStand rows.new (with_consumer c
+        → RowsStand lim rows.old (with_representation r (Some v) t)
+        → RowsStand lim rows.new (with_consumer c
         (Some (record k { place = place.Passed r (Some x) }))
         (with_representation r (Some v) t)) }
     ensures exchanges { rows.new.exchanges ≡ rows.old.exchanges }
-    ensures limits { rows.new.limits ≡ rows.old.limits }
     ensures faults { (shelf_of rows.new.entries).faults ≡ (shelf_of rows.old.entries).faults }
 {
     let consumer = rows.consumers.get(&c).unwrap();

@@ -12,6 +12,7 @@ ghost use Rattle.hc_exch.specs.Known.{is_open};
 ghost use Rattle.hc_model.specs.Effects.{woken};
 ghost use Rattle.hc_model.specs.Lawful.{Lawful};
 ghost use Rattle.hc_model.specs.Rows.{Tables};
+ghost use Rattle.hc_rules.specs.declared.room.Limits.{Limits};
 ghost use Rattle.hc_state.specs.Changes.{ChangesAt, ChangesAmong, once_over};
 ghost use Rattle.hc_state.specs.Dooms.{awaited_by, IsAwaited, IsToClose, IsNext, AreAtMost, behind, nearer, Closes, IsUnheard, KeepsLine, KeepsSomeLine, IsUser, Unbinds, IsDoomed};
 ghost use Rattle.hc_state.specs.Stands.{Answers, KeepsRest, RowsStand, Stands};
@@ -32,7 +33,6 @@ pub fn take_doom<B: Backend>(rows: &mut Rows<B>, now: u64, key: &Key, out: &mut 
     requires room { hash_map_len rows.old.consumers ≤ spare out.old }
     ensures answers { Answers rows.old rows.new (act_list out.old) (act_list out.new) now
         (Doom key.now) }
-    ensures limits { rows.new.limits ≡ rows.old.limits }
     ensures faults { (shelf_of rows.new.entries).faults ≡ (shelf_of rows.old.entries).faults }
 {
     doom(rows, now, key, None, out);
@@ -51,9 +51,8 @@ pub(crate) fn doom<B: Backend>(
     requires stands { ∥ Stands rows.old ∥₁ }
     requires unheard { IfSome refused (IsUnheard (table_of rows.old.exchanges) key.now) }
     requires room { hash_map_len rows.old.consumers ≤ spare out.old }
-    ensures doomed { (t : Tables) → Lawful t → RowsStand rows.old t
-        → IsDoomed rows.new t (act_list out.old) (act_list out.new) now key.now refused }
-    ensures limits { rows.new.limits ≡ rows.old.limits }
+    ensures doomed { (lim : Limits) (t : Tables) → Lawful t → RowsStand lim rows.old t
+        → IsDoomed lim rows.new t (act_list out.old) (act_list out.new) now key.now refused }
     ensures last_start { rows.new.last_start ≡ rows.old.last_start }
     ensures faults { (shelf_of rows.new.entries).faults ≡ (shelf_of rows.old.entries).faults }
 {
@@ -73,7 +72,6 @@ fn wake<B: Backend>(rows: &mut Rows<B>, now: u64, key: &Key)
         → KeepsEntries (woken now key.now t) (shelf_of rows.new.entries) }
     ensures bounded { (shelf_of rows.new.entries).limits ≡ (shelf_of rows.old.entries).limits }
     ensures faults { (shelf_of rows.new.entries).faults ≡ (shelf_of rows.old.entries).faults }
-    ensures limits { rows.new.limits ≡ rows.old.limits }
     ensures last_start { rows.new.last_start ≡ rows.old.last_start }
     ensures exchanges { rows.new.exchanges ≡ rows.old.exchanges }
 {
@@ -93,7 +91,6 @@ fn wake_one<B: Backend>(rows: &mut Rows<B>, now: u64, c: u64)
         (shelf_of rows.old.entries) (shelf_of rows.new.entries) }
     ensures faults { (shelf_of rows.new.entries).faults ≡ (shelf_of rows.old.entries).faults }
     ensures keys { rows.new.keys ≡ rows.old.keys }
-    ensures limits { rows.new.limits ≡ rows.old.limits }
     ensures last_start { rows.new.last_start ≡ rows.old.last_start }
     ensures exchanges { rows.new.exchanges ≡ rows.old.exchanges }
 {

@@ -40,7 +40,6 @@ pub(crate) fn take_dooming<B: Backend>(
     requires room { hash_map_len rows.old.consumers ≤ spare out.old }
     ensures answers { OnOk result (AnswersDooming rows.old rows.new (act_list out.old)
         (act_list out.new) heard.now heard.x response.now case) }
-    ensures limits { OnOk result (rows.new.limits ≡ rows.old.limits) }
     ensures faults { (shelf_of rows.new.entries).faults ≡ (shelf_of rows.old.entries).faults }
     ensures kept { OnErr result (act_list out.new ≡ act_list out.old) }
 {
@@ -69,7 +68,6 @@ fn doom_badly<B: Backend>(
     requires room { hash_map_len rows.old.consumers ≤ spare out.old }
     ensures answers { AnswersDooming rows.old rows.new (act_list out.old) (act_list out.new)
         heard.now heard.x response.now case.DirectBad }
-    ensures limits { rows.new.limits ≡ rows.old.limits }
     ensures faults { (shelf_of rows.new.entries).faults ≡ (shelf_of rows.old.entries).faults }
 {
     doom(rows, heard.now, key, Some(heard.x), out);
@@ -94,7 +92,6 @@ fn doom_taken<B: Backend>(
     requires room { hash_map_len rows.old.consumers ≤ spare out.old }
     ensures answers { OnOk result (AnswersDooming rows.old rows.new (act_list out.old)
         (act_list out.new) heard.now heard.x response.now case.DirectTaken) }
-    ensures limits { OnOk result (rows.new.limits ≡ rows.old.limits) }
     ensures faults { (shelf_of rows.new.entries).faults ≡ (shelf_of rows.old.entries).faults }
     ensures kept { OnErr result (act_list out.new ≡ act_list out.old) }
 {

@@ -56,7 +56,6 @@ pub(crate) fn found<B: Backend>(
     requires room { 2 ≤ spare out.old }
     ensures answers { OnOk result (AnswersCase rows.old rows.new (act_list out.old)
         (act_list out.new) heard.now heard.x response.now case goes) }
-    ensures limits { OnOk result (rows.new.limits ≡ rows.old.limits) }
     ensures faults { (shelf_of rows.old.entries).faults ≤ (shelf_of rows.new.entries).faults }
     ensures kept { OnErr result (act_list out.new ≡ act_list out.old) }
 {
@@ -89,7 +88,6 @@ fn found_in_room<B: Backend>(
     requires room { 2 ≤ spare out.old }
     ensures answers { OnOk result (AnswersCase rows.old rows.new (act_list out.old)
         (act_list out.new) heard.now heard.x response.now case goes) }
-    ensures limits { OnOk result (rows.new.limits ≡ rows.old.limits) }
     ensures faults { (shelf_of rows.old.entries).faults ≤ (shelf_of rows.new.entries).faults }
     ensures appends { Appends (act_list out.old) (act_list out.new) }
 {

@@ -52,7 +52,6 @@ pub(crate) fn join<B: Backend>(
     requires room { 1 ≤ spare out.old }
     ensures answers { OnOk result (AnswersJoins rows.old rows.new (act_list out.old)
         (act_list out.new) heard.now heard.x response.now) }
-    ensures limits { OnOk result (rows.new.limits ≡ rows.old.limits) }
     ensures kept { OnErr result (act_list out.new ≡ act_list out.old) }
     ensures memory { OnErr result
         ((shelf_of rows.new.entries).faults ≡ (shelf_of rows.old.entries).faults) }

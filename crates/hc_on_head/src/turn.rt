@@ -47,7 +47,6 @@ pub(crate) fn validate<B: Backend>(
     requires room { 3 ≤ spare out.old }
     ensures answers { OnOk result (AnswersUnselected rows.old rows.new (act_list out.old)
         (act_list out.new) heard.now heard.x response.now aim) }
-    ensures limits { OnOk result (rows.new.limits ≡ rows.old.limits) }
     ensures faults { (shelf_of rows.old.entries).faults ≤ (shelf_of rows.new.entries).faults }
     ensures kept { OnErr result (act_list out.new ≡ act_list out.old) }
     ensures memory { OnErr result

@@ -13,6 +13,7 @@ ghost use Rattle.hc_exch.specs.Exchanges.{next_of, table_of, Becomes};
 ghost use Rattle.hc_exch.specs.Known.{is_open, without_exchange, length_by};
 ghost use Rattle.hc_model.specs.Effects.{with_answer};
 ghost use Rattle.hc_model.specs.Rows.{Tables, Exchange, Consumer};
+ghost use Rattle.hc_rules.specs.declared.room.Limits.{Limits};
 ghost use Rattle.hc_state.specs.Arms.{IsInKey};
 ghost use Rattle.hc_state.specs.Heads.{IsAskedBy, IsReadAlone, EndsInRange, end_of_answer, unless_over, puts_down, goes_past, starts_anew, breaks_off, broken_by};
 ghost use Rattle.hc_state.specs.Stands.{AnswersCase, KeepsRest, RowsStand, Stands, open_at};
@@ -37,7 +38,6 @@ pub fn put_down<B: Backend>(rows: &mut Rows<B>, heard: Heard, response: &Respons
     requires room { 1 ≤ spare out.old }
     ensures answers { (g : HeadCase) → puts_down g ≡ true → AnswersCase rows.old rows.new
         (act_list out.old) (act_list out.new) heard.now heard.x response.now g None }
-    ensures limits { rows.new.limits ≡ rows.old.limits }
     ensures faults { (shelf_of rows.new.entries).faults ≡ (shelf_of rows.old.entries).faults }
 {
     fall_back(rows, heard.c, Place::Down(Cause::BadHead(heard.x)));
@@ -57,7 +57,6 @@ pub fn take_past<B: Backend>(
     ensures answers { OnOk result ((before : List Act)
         → AnswersCase rows.old rows.new before before heard.now heard.x response.now
         case.DirectTaken None) }
-    ensures limits { OnOk result (rows.new.limits ≡ rows.old.limits) }
     ensures faults { (shelf_of rows.new.entries).faults ≡ (shelf_of rows.old.entries).faults }
 {
     answer_past(rows, heard, response)
@@ -79,7 +78,6 @@ pub fn go_past<B: Backend>(
     ensures answers { OnOk result ((g : HeadCase) (before : List Act) → goes_past g ≡ true
         → AnswersCase rows.old rows.new before before heard.now heard.x response.now
         g goes) }
-    ensures limits { OnOk result (rows.new.limits ≡ rows.old.limits) }
     ensures faults { (shelf_of rows.new.entries).faults ≡ (shelf_of rows.old.entries).faults }
 {
     fall_back(rows, heard.c, Place::Direct(heard.x));
@@ -105,7 +103,6 @@ pub fn start_anew<B: Backend>(
     requires room { 1 ≤ spare out.old }
     ensures answers { (g : HeadCase) → starts_anew g ≡ true → AnswersCase rows.old rows.new
         (act_list out.old) (act_list out.new) heard.now heard.x response.now g goes }
-    ensures limits { rows.new.limits ≡ rows.old.limits }
     ensures faults { (shelf_of rows.new.entries).faults ≡ (shelf_of rows.old.entries).faults }
 {
     send_back(rows, heard.now, heard.c);
@@ -129,7 +126,6 @@ pub fn close_hole<B: Backend>(
     ensures answers { (g : HeadCase) → breaks_off g ≡ true → cause ≡ broken_by heard.x g
         → AnswersCase rows.old rows.new (act_list out.old) (act_list out.new) heard.now heard.x
         response.now g goes }
-    ensures limits { rows.new.limits ≡ rows.old.limits }
     ensures faults { (shelf_of rows.new.entries).faults ≡ (shelf_of rows.old.entries).faults }
 {
     make_due(&mut rows.consumers, heard.c, cause);
@@ -146,11 +142,10 @@ pub fn answer_past<B: Backend>(
     requires accepted { head_refusal (open_at rows.old heard.x) ≡ None }
     requires good { is_bad (length_by (table_of rows.old.exchanges heard.x).running
         response.now) ≡ false }
-    ensures stands { OnOk result ((t : Tables) (w : Exchange) (k : Consumer)
-        → IsReadAlone t heard.x w k → w.c ≡ heard.c → RowsStand rows.old t
-        → RowsStand rows.new
+    ensures stands { OnOk result ((lim : Limits) (t : Tables) (w : Exchange) (k : Consumer)
+        → IsReadAlone t heard.x w k → w.c ≡ heard.c → RowsStand lim rows.old t
+        → RowsStand lim rows.new
         (with_answer heard.now heard.x response.now w.joined w t)) }
-    ensures limits { OnOk result (rows.new.limits ≡ rows.old.limits) }
     ensures faults { (shelf_of rows.new.entries).faults ≡ (shelf_of rows.old.entries).faults }
 {
     let answer = response.copy()?;
@@ -169,11 +164,10 @@ pub fn have_answer<B: Backend>(
     requires good { is_bad (length_by (table_of rows.old.exchanges heard.x).running
         response.now) ≡ false }
     requires copied { answer ≡ response.now }
-    ensures stands { (t : Tables) (w : Exchange) (k : Consumer)
-        → IsReadAlone t heard.x w k → w.c ≡ heard.c → RowsStand rows.old t
-        → RowsStand rows.new
+    ensures stands { (lim : Limits) (t : Tables) (w : Exchange) (k : Consumer)
+        → IsReadAlone t heard.x w k → w.c ≡ heard.c → RowsStand lim rows.old t
+        → RowsStand lim rows.new
         (with_answer heard.now heard.x response.now w.joined w t) }
-    ensures limits { rows.new.limits ≡ rows.old.limits }
     ensures faults { (shelf_of rows.new.entries).faults ≡ (shelf_of rows.old.entries).faults }
 {
     let opening = rows.exchanges.opening(heard.x).unwrap();

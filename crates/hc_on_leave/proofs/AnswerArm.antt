@@ -2,6 +2,7 @@
 use Rattle.std.proofs.Common.{◌≡◌, ◌≢◌, ℕ, Bool, true, false, cond, Option, Some, None, refl, ap, sym, ◌∙◌, subst, arith}
 use Rattle.std.specs.Prelude.{nat_eq, option_map}
 use Rattle.std.specs.HashMap.{get}
+use Rattle.hc_rules.specs.declared.room.Limits.{Limits}
 use Rattle.hc_store.specs.declared.backend.Backend.{Ghosts}
 use Rattle.hc_event.specs.declared.event.Response.{Response}
 use Rattle.hc_rules.specs.declared.length.Length.{Length}
@@ -50,9 +51,9 @@ known_here f x a b becomes = becomes.table x ∙ rw (eqb-same x) refl
 pub known_other : (f : Known → Known) (x y : ℕ) (a b : Exchanges) → exch.Becomes f x a b → y ≢ x → table_of b y ≡ table_of a y
 known_other f x y a b becomes ne = becomes.table y ∙ rw (eqb-other x y (λ e. ne (sym e))) refl
 
-module _ {B : Type 0} {g : Ghosts B} (r u : Rows B g) (t : Tables) (now x : ℕ) (response copied : Response) (w : Exchange) (v : rows.Consumer) (k : Consumer) (o : Open) (l : Length) (mid : Exchanges) (stands : RowsStand r t) (alone : IsReadAlone t x w v)
+module _ {B : Type 0} {g : Ghosts B} {lim : Limits} (r u : Rows B g) (t : Tables) (now x : ℕ) (response copied : Response) (w : Exchange) (v : rows.Consumer) (k : Consumer) (o : Open) (l : Length) (mid : Exchanges) (stands : RowsStand lim r t) (alone : IsReadAlone t x w v)
     (there : get nat_eq r.consumers w.c ≡ Some k) (running : (table_of r.exchanges x).running ≡ Some o) (told : l ≡ length_of w.need w.request response) (copies : copied ≡ response)
-    (limits : u.limits ≡ r.limits) (last : u.last_start ≡ r.last_start) (same_keys : u.keys ≡ r.keys) (same_entries : u.entries ≡ r.entries)
+    (last : u.last_start ≡ r.last_start) (same_keys : u.keys ≡ r.keys) (same_entries : u.entries ≡ r.entries)
     (turned : exch.Becomes (known.turned_into role.Direct) x r.exchanges mid) (headed : exch.Becomes (known.with_good_head l) x mid u.exchanges) (changes : ChangesAt r.consumers u.consumers w.c (answered_by copied l)) where
   abbrev z : Exchange
   z = exchange_with_head now response w.joined w
@@ -148,9 +149,9 @@ module _ {B : Type 0} {g : Ghosts B} (r u : Rows B g) (t : Tables) (now x : ℕ)
         ∙ sym (ap (held_for s x) s_here ∙ held_empty s x z alone.bare.empty alone.bare.unjoined alone.bare.unfounded)))));
   }
 
-  pub stands_answered : RowsStand u s
+  pub stands_answered : RowsStand lim u s
   stands_answered =
-      stands_then r u t s w.c x (Some (answered_by copied l k)) stands limits (last ∙ stands.last_start) (headed.next ∙ (turned.next ∙ stands.next))
+      stands_then r u t s w.c x (Some (answered_by copied l k)) stands (last ∙ stands.last_start) (headed.next ∙ (turned.next ∙ stands.next))
       (changes.len ∙ stands.count) (becomes_by r.consumers u.consumers w.c k (answered_by copied l) there changes)
       (λ y ne. known_other (known.with_good_head l) x y mid u.exchanges headed ne ∙ known_other (known.turned_into role.Direct) x y r.exchanges mid turned ne)
       (λ d ne. refl) (λ y ne. others t x w z alone.bare alone.bare.unjoined y ne) (λ q. refl)
@@ -158,7 +159,7 @@ module _ {B : Type 0} {g : Ghosts B} (r u : Rows B g) (t : Tables) (now x : ℕ)
       (λ key. rw same_keys (key_heard t x w z alone.bare alone.bare.unjoined key _ (stands.keys key)))
       (λ d j ne row at. ne (alone.only d j row at))
       (λ y e ne row. held_else t x w z alone.bare alone.bare.unjoined y e)
-      (rw (same_entries, limits) stands.limits) (rw same_entries (entries_heard t x w z alone.bare alone.bare.unjoined (shelf_of r.entries) stands.entries))
+      (rw same_entries stands.limits) (rw same_entries (entries_heard t x w z alone.bare alone.bare.unjoined (shelf_of r.entries) stands.entries))
 
 -- BY WHAT THE CODE LOOKED UP
 
@@ -175,19 +176,19 @@ opened_as op running o is at =
     (ap (λ z. z.0) same, ap (λ z. z.1) same)
 
 -- whoever reads past the store is kept
-pub reader_kept : {B : Type 0} {g : Ghosts B} (r : Rows B g) (t : Tables) (c x : ℕ) (v : rows.Consumer) → RowsStand r t → t.consumer c ≡ Some v → v.place ≡ place.Direct x → (k : Consumer) × (get nat_eq r.consumers c ≡ Some k)
+pub reader_kept : {B : Type 0} {g : Ghosts B} {lim : Limits} (r : Rows B g) (t : Tables) (c x : ℕ) (v : rows.Consumer) → RowsStand lim r t → t.consumer c ≡ Some v → v.place ≡ place.Direct x → (k : Consumer) × (get nat_eq r.consumers c ≡ Some k)
 reader_kept r t c x v stands row at = by_kept (get nat_eq r.consumers c) refl (subst (KeepsConsumer t (get nat_eq r.consumers c)) row (stands.consumers c))
   where
     by_kept : (o : Option Consumer) → get nat_eq r.consumers c ≡ o → KeepsConsumer t o (Some v) → (k : Consumer) × (get nat_eq r.consumers c ≡ Some k)
     by_kept None there kept = false_true (sym kept ∙ rw at refl)
     by_kept (Some k) there kept = (k, there)
 
-pub stands_answered_as : {B : Type 0} {g : Ghosts B} (r u : Rows B g) (t : Tables) (now x c : ℕ) (response copied : Response) (w : Exchange) (v : rows.Consumer) (op : Opening) (l : Length) (mid : Exchanges) → RowsStand r t → IsReadAlone t x w v → w.c ≡ c
+pub stands_answered_as : {B : Type 0} {g : Ghosts B} {lim : Limits} (r u : Rows B g) (t : Tables) (now x c : ℕ) (response copied : Response) (w : Exchange) (v : rows.Consumer) (op : Opening) (l : Length) (mid : Exchanges) → RowsStand lim r t → IsReadAlone t x w v → w.c ≡ c
     → head_refusal (option_map open_view (table_of r.exchanges x).running) ≡ None → Some (opened_with op) ≡ option_map begins_with (table_of r.exchanges x).running → l ≡ length_of op.need.now op.request.now response
-    → is_bad (length_by (table_of r.exchanges x).running response) ≡ false → copied ≡ response → u.limits ≡ r.limits → u.last_start ≡ r.last_start → u.keys ≡ r.keys → u.entries ≡ r.entries
+    → is_bad (length_by (table_of r.exchanges x).running response) ≡ false → copied ≡ response → u.last_start ≡ r.last_start → u.keys ≡ r.keys → u.entries ≡ r.entries
     → exch.Becomes (known.turned_into role.Direct) x r.exchanges mid → (is_bad (length_by (table_of mid x).running response) ≡ false → exch.Becomes (known.with_good_head (length_by (table_of mid x).running response)) x mid u.exchanges)
-    → ChangesAt r.consumers u.consumers c (answered_by copied l) → RowsStand u (effects.with_answer now x response w.joined w t)
-stands_answered_as r u t now x c response copied w v op l mid stands alone for_it accepted opens told good copies limits last same_keys same_entries turned headed changes =
+    → ChangesAt r.consumers u.consumers c (answered_by copied l) → RowsStand lim u (effects.with_answer now x response w.joined w t)
+stands_answered_as r u t now x c response copied w v op l mid stands alone for_it accepted opens told good copies last same_keys same_entries turned headed changes =
     let h = headless_of (table_of r.exchanges x).running accepted in
     let o = h.o in
     let runs = runs_as r t x o w stands h.there alone.bare.row in
@@ -200,7 +201,7 @@ stands_answered_as r u t now x c response copied w v op l mid stands alone for_i
     ∙ (ap by_role h.there ∙ sym (ap (λ (z : Option Open). length_by z response) h.there)) in
     let here_is : length_by (table_of r.exchanges x).running response ≡ length_of o.need o.request response = ap (λ (z : Option Open). length_by z response) h.there in
     stands_answered r u t now x response copied w v k.0 o l mid stands alone k.1 h.there
-    (told_by ∙ (ap (λ n. length_of n o.request response) runs.need ∙ ap (λ q. length_of w.need q response) runs.request)) copies limits last same_keys same_entries turned
+    (told_by ∙ (ap (λ n. length_of n o.request response) runs.need ∙ ap (λ q. length_of w.need q response) runs.request)) copies last same_keys same_entries turned
     (subst (λ (q : Length). exch.Becomes (known.with_good_head q) x mid u.exchanges) (mid_is ∙ (here_is ∙ sym told_by)) (headed (ap is_bad mid_is ∙ good)))
     (subst (λ (d : ℕ). ChangesAt r.consumers u.consumers d (answered_by copied l)) (sym for_it) changes)
 

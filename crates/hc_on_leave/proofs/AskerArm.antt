@@ -2,6 +2,7 @@
 use Rattle.std.proofs.Common.{◌≡◌, inl, inr, ℕ, zero, suc, List, [], Bool, true, false, Some, None, refl, ap, sym, ◌∙◌, subst}
 use Rattle.std.specs.Prelude.{nat_eq, drop, bytes_eq, ◌&&◌}
 use Rattle.std.specs.HashMap.{get}
+use Rattle.hc_rules.specs.declared.room.Limits.{Limits}
 use Rattle.hc_store.specs.declared.backend.Backend.{Ghosts}
 use Rattle.hc_event.specs.declared.event.Request.{Request}
 use Rattle.hc_stored.specs.Entries.{shelf_of}
@@ -212,11 +213,11 @@ module _ (t : Tables) (law : Lawful t) (x : ℕ) (w : Exchange) (row : t.exchang
       lost = λ y e b there founded. lost_then y e b ∙ sym (asker_lost y e b there founded);
     }
 
-    pub stands_apart : {B : Type 0} {g : Ghosts B} (r u : Rows B g) (k : Consumer) → get nat_eq r.consumers w.c ≡ Some k → IsKept t k v → RowsStand r t
-        → u.limits ≡ r.limits → u.last_start ≡ r.last_start → u.exchanges ≡ r.exchanges → ChangesAt r.consumers u.consumers w.c (standing_at p)
-        → LeavesKey w.c k.request.key r.keys u.keys → UnbindsAt k.place w.c (shelf_of r.entries) (shelf_of u.entries) → RowsStand u (with_consumer w.c (Some z) t)
-    stands_apart r u k there is stands limits last exchanges changes line unbinds =
-        stands_moved r u t w.c v z (standing_at p k) stands asker (live_at x w v.place at) place_is.live limits last exchanges
+    pub stands_apart : {B : Type 0} {g : Ghosts B} {lim : Limits} (r u : Rows B g) (k : Consumer) → get nat_eq r.consumers w.c ≡ Some k → IsKept t k v → RowsStand lim r t
+        → u.last_start ≡ r.last_start → u.exchanges ≡ r.exchanges → ChangesAt r.consumers u.consumers w.c (standing_at p)
+        → LeavesKey w.c k.request.key r.keys u.keys → UnbindsAt k.place w.c (shelf_of r.entries) (shelf_of u.entries) → RowsStand lim u (with_consumer w.c (Some z) t)
+    stands_apart r u k there is stands last exchanges changes line unbinds =
+        stands_moved r u t w.c v z (standing_at p k) stands asker (live_at x w v.place at) place_is.live last exchanges
         (unbinds_limits k.place w.c (shelf_of r.entries) (shelf_of u.entries) unbinds)
         (becomes_by r.consumers u.consumers w.c k (standing_at p) there changes) (kept_then k is)
         (keys_apart t law w.c v z asker place_is.unbound (λ key. not_lined key z place_is.unlined) (λ key. then_false (bytes_eq v.request.key key) (has_passed p) place_is.unpassed) (λ key. then_false (bytes_eq v.request.key key) (is_away_at t p) (place_is.here t))
@@ -273,11 +274,11 @@ module _ (t : Tables) (law : Lawful t) (x : ℕ) (w : Exchange) (row : t.exchang
       lost = λ y e b there founded. sym (asker_lost y e b there founded);
     }
 
-    pub stands_queued : {B : Type 0} {g : Ghosts B} (r u : Rows B g) (k : Consumer) → get nat_eq r.consumers w.c ≡ Some k → IsKept t k v → RowsStand r t
-        → u.limits ≡ r.limits → u.last_start ≡ r.last_start → u.exchanges ≡ r.exchanges → ChangesAt r.consumers u.consumers w.c (once_over now)
-        → keys.Becomes (on_line (come_back w.c)) k.request.key r.keys u.keys → UnbindsAt k.place w.c (shelf_of r.entries) (shelf_of u.entries) → RowsStand u (with_consumer w.c (Some back) t)
-    stands_queued r u k there is stands limits last exchanges changes line unbinds =
-        stands_moved r u t w.c v back (once_over now k) stands asker (live_at x w v.place at) refl limits last exchanges
+    pub stands_queued : {B : Type 0} {g : Ghosts B} {lim : Limits} (r u : Rows B g) (k : Consumer) → get nat_eq r.consumers w.c ≡ Some k → IsKept t k v → RowsStand lim r t
+        → u.last_start ≡ r.last_start → u.exchanges ≡ r.exchanges → ChangesAt r.consumers u.consumers w.c (once_over now)
+        → keys.Becomes (on_line (come_back w.c)) k.request.key r.keys u.keys → UnbindsAt k.place w.c (shelf_of r.entries) (shelf_of u.entries) → RowsStand lim u (with_consumer w.c (Some back) t)
+    stands_queued r u k there is stands last exchanges changes line unbinds =
+        stands_moved r u t w.c v back (once_over now k) stands asker (live_at x w v.place at) refl last exchanges
         (unbinds_limits k.place w.c (shelf_of r.entries) (shelf_of u.entries) unbinds)
         (becomes_by r.consumers u.consumers w.c k (once_over now) there changes) (back_kept k is)
         (keys_with t w.c (Some back) (on_line (come_back w.c)) v.request.key r.keys u.keys stands.keys (subst (λ (q : Request). keys.Becomes (on_line (come_back w.c)) q.key r.keys u.keys) is.request line)
@@ -288,26 +289,26 @@ module _ (t : Tables) (law : Lawful t) (x : ℕ) (w : Exchange) (row : t.exchang
         back_much
 
 -- whoever it is called
-pub falls_back_as : {B : Type 0} {g : Ghosts B} (r u : Rows B g) (t : Tables) (law : Lawful t) (x c : ℕ) (w : Exchange) (v : rows.Consumer) (k : Consumer) (p : Place) → AwaitsHead t x w v → w.c ≡ c → StandsApart x p → get nat_eq r.consumers c ≡ Some k → RowsStand r t
-    → u.limits ≡ r.limits → u.last_start ≡ r.last_start → u.exchanges ≡ r.exchanges → ChangesAt r.consumers u.consumers c (standing_at p)
-    → LeavesKey c k.request.key r.keys u.keys → UnbindsAt k.place c (shelf_of r.entries) (shelf_of u.entries) → RowsStand u (with_consumer c (Some (record v { place = p })) t)
-falls_back_as r u t law x c w v k p awaits for_it apart there stands limits last exchanges changes line unbinds =
+pub falls_back_as : {B : Type 0} {g : Ghosts B} {lim : Limits} (r u : Rows B g) (t : Tables) (law : Lawful t) (x c : ℕ) (w : Exchange) (v : rows.Consumer) (k : Consumer) (p : Place) → AwaitsHead t x w v → w.c ≡ c → StandsApart x p → get nat_eq r.consumers c ≡ Some k → RowsStand lim r t
+    → u.last_start ≡ r.last_start → u.exchanges ≡ r.exchanges → ChangesAt r.consumers u.consumers c (standing_at p)
+    → LeavesKey c k.request.key r.keys u.keys → UnbindsAt k.place c (shelf_of r.entries) (shelf_of u.entries) → RowsStand lim u (with_consumer c (Some (record v { place = p })) t)
+falls_back_as {lim = lim} r u t law x c w v k p awaits for_it apart there stands last exchanges changes line unbinds =
     let a = waits_as t law x w v awaits in
     let at : get nat_eq r.consumers w.c ≡ Some k = ap (get nat_eq r.consumers) for_it ∙ there in
-    subst (λ (d : ℕ). RowsStand u (with_consumer d (Some (record v { place = p })) t)) for_it
-    (stands_apart t law x w awaits.row awaits.is_open awaits.headless v awaits.asker a.own a.at p apart r u k at (kept_as r t w.c v k stands awaits.asker at) stands limits last exchanges
+    subst (λ (d : ℕ). RowsStand lim u (with_consumer d (Some (record v { place = p })) t)) for_it
+    (stands_apart t law x w awaits.row awaits.is_open awaits.headless v awaits.asker a.own a.at p apart r u k at (kept_as r t w.c v k stands awaits.asker at) stands last exchanges
     (subst (λ (d : ℕ). ChangesAt r.consumers u.consumers d (standing_at p)) (sym for_it) changes)
     (subst (λ (d : ℕ). LeavesKey d k.request.key r.keys u.keys) (sym for_it) line)
     (subst (λ (d : ℕ). UnbindsAt k.place d (shelf_of r.entries) (shelf_of u.entries)) (sym for_it) unbinds))
 
-pub stands_back_as : {B : Type 0} {g : Ghosts B} (r u : Rows B g) (t : Tables) (law : Lawful t) (now x c : ℕ) (w : Exchange) (v : rows.Consumer) (k : Consumer) → AwaitsHead t x w v → w.c ≡ c → awaited_exchange v.place ≡ Some x → get nat_eq r.consumers c ≡ Some k → RowsStand r t
-    → u.limits ≡ r.limits → u.last_start ≡ r.last_start → u.exchanges ≡ r.exchanges → ChangesAt r.consumers u.consumers c (once_over now)
-    → keys.Becomes (on_line (come_back c)) k.request.key r.keys u.keys → UnbindsAt k.place c (shelf_of r.entries) (shelf_of u.entries) → RowsStand u (with_consumer c (Some (back_in_line now v)) t)
-stands_back_as r u t law now x c w v k awaits for_it waits there stands limits last exchanges changes line unbinds =
+pub stands_back_as : {B : Type 0} {g : Ghosts B} {lim : Limits} (r u : Rows B g) (t : Tables) (law : Lawful t) (now x c : ℕ) (w : Exchange) (v : rows.Consumer) (k : Consumer) → AwaitsHead t x w v → w.c ≡ c → awaited_exchange v.place ≡ Some x → get nat_eq r.consumers c ≡ Some k → RowsStand lim r t
+    → u.last_start ≡ r.last_start → u.exchanges ≡ r.exchanges → ChangesAt r.consumers u.consumers c (once_over now)
+    → keys.Becomes (on_line (come_back c)) k.request.key r.keys u.keys → UnbindsAt k.place c (shelf_of r.entries) (shelf_of u.entries) → RowsStand lim u (with_consumer c (Some (back_in_line now v)) t)
+stands_back_as {lim = lim} r u t law now x c w v k awaits for_it waits there stands last exchanges changes line unbinds =
     let a = waits_as t law x w v awaits in
     let at : get nat_eq r.consumers w.c ≡ Some k = ap (get nat_eq r.consumers) for_it ∙ there in
-    subst (λ (d : ℕ). RowsStand u (with_consumer d (Some (back_in_line now v)) t)) for_it
-    (stands_queued t law x w awaits.row awaits.is_open awaits.headless v awaits.asker a.own a.at now waits r u k at (kept_as r t w.c v k stands awaits.asker at) stands limits last exchanges
+    subst (λ (d : ℕ). RowsStand lim u (with_consumer d (Some (back_in_line now v)) t)) for_it
+    (stands_queued t law x w awaits.row awaits.is_open awaits.headless v awaits.asker a.own a.at now waits r u k at (kept_as r t w.c v k stands awaits.asker at) stands last exchanges
     (subst (λ (d : ℕ). ChangesAt r.consumers u.consumers d (once_over now)) (sym for_it) changes)
     (subst (λ (d : ℕ). keys.Becomes (on_line (come_back d)) k.request.key r.keys u.keys) (sym for_it) line)
     (subst (λ (d : ℕ). UnbindsAt k.place d (shelf_of r.entries) (shelf_of u.entries)) (sym for_it) unbinds))

@@ -3,6 +3,7 @@ use Rattle.std.proofs.Common.{◌≡◌, ◌≢◌, inl, inr, ℕ, List, Option,
 use Rattle.std.specs.Prelude.{nat_eq}
 use Rattle.std.specs.Option.{option_or}
 use Rattle.std.specs.HashMap.{get}
+use Rattle.hc_rules.specs.declared.room.Limits.{Limits}
 use Rattle.hc_store.specs.declared.backend.Backend.{Ghosts}
 use Rattle.hc_event.specs.declared.act.Cause.{Cause}
 use Rattle.hc_stored.specs.Entries.{shelf_of}
@@ -24,8 +25,8 @@ use Rattle.hc_state.proofs.OneOfEach.{entries_same}
 use Rattle.hc_state.proofs.QueueArm.{becomes_by}
 use Rattle.hc_state.proofs.Words.{same_or, eqb-same, eqb-other}
 
-module _ {B : Type 0} {g : Ghosts B} (r u : Rows B g) (t : Tables) (c : ℕ) (v : rows.Consumer) (k : Consumer) (why : Cause) (stands : RowsStand r t) (row : t.consumer c ≡ Some v) (there : get nat_eq r.consumers c ≡ Some k) (is : IsKept t k v) (undue : v.due ≡ None)
-    (limits : u.limits ≡ r.limits) (last : u.last_start ≡ r.last_start) (exchanges : u.exchanges ≡ r.exchanges) (same_keys : u.keys ≡ r.keys) (same_entries : u.entries ≡ r.entries) (changes : ChangesAt r.consumers u.consumers c (with_due why)) where
+module _ {B : Type 0} {g : Ghosts B} {lim : Limits} (r u : Rows B g) (t : Tables) (c : ℕ) (v : rows.Consumer) (k : Consumer) (why : Cause) (stands : RowsStand lim r t) (row : t.consumer c ≡ Some v) (there : get nat_eq r.consumers c ≡ Some k) (is : IsKept t k v) (undue : v.due ≡ None)
+    (last : u.last_start ≡ r.last_start) (exchanges : u.exchanges ≡ r.exchanges) (same_keys : u.keys ≡ r.keys) (same_entries : u.entries ≡ r.entries) (changes : ChangesAt r.consumers u.consumers c (with_due why)) where
   abbrev z : rows.Consumer
   z = record v { due = Some why }
 
@@ -70,9 +71,9 @@ module _ {B : Type 0} {g : Ghosts B} (r u : Rows B g) (t : Tables) (c : ℕ) (v 
   keys_then key = rw same_keys (key_with t c (Some z) key (kept_of r.keys key) (kept_of r.keys key) (stands.keys key)
       (key_stays t c (Some z) key (kept_of r.keys key) (stands.keys key) (record { in_line = rw row refl; passed = rw row refl; away = rw row refl; turn = rw row refl })))
 
-  pub stands_due : RowsStand u s
+  pub stands_due : RowsStand lim u s
   stands_due =
-      stands_moved r u t c v z (with_due why k) stands row is.is_there is.is_there limits last exchanges (ap (λ e. (shelf_of e).limits) same_entries)
+      stands_moved r u t c v z (with_due why k) stands row is.is_there is.is_there last exchanges (ap (λ e. (shelf_of e).limits) same_entries)
       (becomes_by r.consumers u.consumers c k (with_due why) there changes) due_then keys_then
       (rw same_entries (entries_same t s (shelf_of r.entries) (λ q. refl) refl refl users firsts (λ q. refl) (λ y on. on) stands.entries))
       (record { past = λ y e at. refl; lost = λ y e b at founded. refl })

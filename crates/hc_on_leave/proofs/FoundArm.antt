@@ -428,7 +428,7 @@ module _ (limits : Limits) (t : Tables) (facts : Facts limits t) (now x : ℕ) (
       ∙ (ap (λ (o : Option ℕ). let_all_go now (es limits t facts now x w v awaits as_gone) (let_some_go now (current t w.request.key) (let_some_go now o s))) (sym gone_is)
       ∙ sym (all_one now as_gone (with_item_first (current t w.request.key) (es limits t facts now x w v awaits as_gone)) s ∙ all_one now (current t w.request.key) (es limits t facts now x w v awaits as_gone) (let_some_go now as_gone s)))
 
-  module _ {B : Type 0} {b : Ghosts B} (a : Rows B b) (faults : ℕ) (before mid : List Act) (gives : GivesWay a left now (es limits t facts now x w v awaits as_gone) before mid) (limits_is : a.limits ≡ limits) where
+  module _ {B : Type 0} {b : Ghosts B} (a : Rows B b) (faults : ℕ) (before mid : List Act) (gives : GivesWay limits a left now (es limits t facts now x w v awaits as_gone) before mid) where
     abbrev fallback_row : rows.Consumer
     fallback_row = past limits t facts now x w v awaits as_gone
 
@@ -469,7 +469,7 @@ module _ (limits : Limits) (t : Tables) (facts : Facts limits t) (now x : ℕ) (
       abbrev founded : rows.Consumer → Tables → Tables
       founded z s = with_consumer w.c (Some z) (with_answer now x response w.joined w (with_founding x (just_founded now x response w) s))
 
-      rows_then : RowsStand u (founded q roomy)
+      rows_then : RowsStand limits u (founded q roomy)
       rows_then =
           founded_stands a u roomy now x response w fallback_row k o f (length_of w.need w.request response) gives.rows read_alone (m_fresh limits t facts now x w v awaits as_gone) there running refl
           founding.key founding.head (founding.shared ∙ (shared_is g founds ∙ ap not (sym (status_is limits t facts.law now x response goes w awaits.row v awaits.asker g founds is))))
@@ -491,11 +491,11 @@ module _ (limits : Limits) (t : Tables) (facts : Facts limits t) (now x : ℕ) (
             shown = ap flaw_in done.acts_are ∙ evicts_quietly (evicted limits t now ev);
             may = ap has_room room_is_left ∙ slot_room limits now left (subst (λ n. n + 32768 ≤ limits.max_total) used_left le);
             caused = λ is. false_true is;
-            rows = subst (RowsStand u) (sym (done.tables_are ∙ ap (with_event now ev) tables_are)) (stands_counted u (founded q roomy) now ev refl rows_then);
+            rows = subst (RowsStand limits u) (sym (done.tables_are ∙ ap (with_event now ev) tables_are)) (stands_counted u (founded q roomy) now ev refl rows_then);
           }
 
     -- and the store refuses it
-    module _ (u : Rows B b) (kind : LostKind) (out : List Act) (rows_then : RowsStand u (with_answer now x response w.joined w roomy)) (told : out ≡ mid ++ (act.Lost x kind ∷ [])) (may : may_lose (room_for limits t now ev) kind ≡ true) (caused : is_fault (Loses x kind) ≡ true → faults < (shelf_of u.entries).faults) where
+    module _ (u : Rows B b) (kind : LostKind) (out : List Act) (rows_then : RowsStand limits u (with_answer now x response w.joined w roomy)) (told : out ≡ mid ++ (act.Lost x kind ∷ [])) (may : may_lose (room_for limits t now ev) kind ≡ true) (caused : is_fault (Loses x kind) ≡ true → faults < (shelf_of u.entries).faults) where
       lost_tables : let_all_go now (evicted limits t now ev) (let_some_go now (current t w.request.key) (let_some_go now (replaces w g) (with_consumer w.c (Some fallback_row) (with_answer now x response w.joined w t)))) ≡ with_answer now x response w.joined w roomy
       lost_tables =
           last_first (with_consumer w.c (Some fallback_row) (with_answer now x response w.joined w t))
@@ -517,7 +517,7 @@ module _ (limits : Limits) (t : Tables) (facts : Facts limits t) (now x : ℕ) (
             shown = ap flaw_in done.acts_are ∙ evicts_lossy (evicted limits t now ev) x kind;
             may = rw (writes, none) (may_fail (may_lose (room_for limits t now ev) kind) may);
             caused = caused;
-            rows = subst (RowsStand u) (sym (done.tables_are ∙ ap (with_event now ev) lost_tables)) (stands_counted u (with_answer now x response w.joined w roomy) now ev refl rows_then);
+            rows = subst (RowsStand limits u) (sym (done.tables_are ∙ ap (with_event now ev) lost_tables)) (stands_counted u (with_answer now x response w.joined w roomy) now ev refl rows_then);
           }
 
     -- it is full where the store says so

@@ -5,6 +5,7 @@ use Rattle.std.specs.Prelude.{◌==◌, ◌&&◌, ◌||◌, not, nat_eq, bytes_e
 use Rattle.std.specs.HashMap.{get}
 use Rattle.std.specs.List.{list_any}
 use Rattle.std.specs.Option.{option_or}
+use Rattle.hc_rules.specs.declared.room.Limits.{Limits}
 use Rattle.hc_store.specs.declared.backend.Backend.{Ghosts}
 use Rattle.hc_sparse.specs.Cells.{Covers, nothing}
 use Rattle.hc_sorted.specs.Sorted.{has}
@@ -99,10 +100,10 @@ filters_but f h x (n ∷ ns) off same = by_number (same_or n x) (filters_but f h
     by_number (inl e) rest = let here : f n ≡ false = ap f e ∙ off in let self : nat_eq n x ≡ true = ap (λ i. nat_eq i x) e ∙ eqb-same x in rw (self, here) rest
     by_number (inr ne) rest = rw (eqb-other n x ne) (by_test ne (f n) refl rest)
 
-module _ {B : Type 0} {g : Ghosts B} (a u : Rows B g) (m : Tables) (now x : ℕ) (response : Response) (w : Exchange) (past : rows.Consumer) (k : Consumer) (o : Open) (f : Founding) (l : Length)
-    (stands : RowsStand a m) (alone : IsReadAlone m x w past) (fresh : IsUnfounded m x) (there : get nat_eq a.consumers w.c ≡ Some k) (running : (table_of a.exchanges x).running ≡ Some o) (told : l ≡ length_of w.need w.request response)
+module _ {B : Type 0} {g : Ghosts B} {lim : Limits} (a u : Rows B g) (m : Tables) (now x : ℕ) (response : Response) (w : Exchange) (past : rows.Consumer) (k : Consumer) (o : Open) (f : Founding) (l : Length)
+    (stands : RowsStand lim a m) (alone : IsReadAlone m x w past) (fresh : IsUnfounded m x) (there : get nat_eq a.consumers w.c ≡ Some k) (running : (table_of a.exchanges x).running ≡ Some o) (told : l ≡ length_of w.need w.request response)
     (key_is : f.key ≡ o.request.key) (head_is : plain f.head ≡ head_by o now response) (shares : f.shared ≡ not (response.status == 206)) (ends : option_or f.hi (founded_total w response) ≡ f.hi) (empties : promise_in w response ≡ Some 0 → founded_total w response ≡ Some 0)
-    (begins : BeginsFounding a u x w.c f response) (length_is : length_by (table_of a.exchanges x).running response ≡ l) (limits_are : (shelf_of a.entries).limits ≡ a.limits) where
+    (begins : BeginsFounding a u x w.c f response) (length_is : length_by (table_of a.exchanges x).running response ≡ l) (limits_are : (shelf_of a.entries).limits ≡ lim) where
   abbrev z : Exchange
   z = exchange_with_head now response w.joined w
 
@@ -555,9 +556,9 @@ module _ {B : Type 0} {g : Ghosts B} (a u : Rows B g) (m : Tables) (now x : ℕ)
 
   -- ALL OF IT
 
-  pub founded_stands : RowsStand u s
+  pub founded_stands : RowsStand lim u s
   founded_stands = record {
-    limits = begins.entries.limits ∙ (limits_are ∙ sym begins.limits);
+    limits = begins.entries.limits ∙ limits_are;
     last_start = begins.last_start ∙ stands.last_start;
     next = begins.exchanges.next ∙ stands.next;
     count = begins.consumers.len ∙ (stands.count ∙ sym (live_same m s refl live_each));

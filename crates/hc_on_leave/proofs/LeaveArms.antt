@@ -83,7 +83,7 @@ module _ {B : Type 0} {g : Ghosts B} (limits : Limits) (faults : ℕ) (u : Rows 
   kept_by : (r : ℕ) (v : Representation) → t.representation r ≡ Some v → v.is_gone ≡ false → is_kept (t.representation r) ≡ true
   kept_by r v there stays = rw (there, not_lost r v there stays) refl
 
-  pub cancel_answered : (before out : List Act) → HasLeft faults u t before out now c k → Answered limits faults u t before out now (event.Cancel c)
+  pub cancel_answered : (before out : List Act) → HasLeft limits faults u t before out now c k → Answered limits faults u t before out now (event.Cancel c)
   unfolding written_representation
   cancel_answered before out (quietly acts rows) =
       let s : Tables = let_some_go now (going_with t (left_by t c k)) (with_leave c k t) in
@@ -124,7 +124,7 @@ module _ {B : Type 0} {g : Ghosts B} (limits : Limits) (faults : ℕ) (u : Rows 
     pub poll_answered : (before mid out : List Act) → mid ≡ before ++ front → Does limits t now (event.Poll c want) NoFlaw (front ++ map act.Close (with_item_first (left_by t c k) [])) (with_event now (event.Poll c want) (let_some_go now (going_with t (left_by t c k)) (with_leave c k t)))
         → ((x : ℕ) (w : rows.Exchange) (r : ℕ) (v : Representation) → left_by t c k ≡ Some x → t.exchange x ≡ Some w → family x w ≡ r → t.representation r ≡ Some v → v.is_lost ≡ false
         → Does limits t now (event.Poll c want) (Loses r kind.Fault) (front ++ (act.Close x ∷ act.Lost r kind.Fault ∷ [])) (with_event now (event.Poll c want) (let_go now r (with_representation r (Some (lost_to (exclusive t r v) v)) (with_leave c k t)))))
-        → HasLeft faults u t mid out now c k → Answered limits faults u t before out now (event.Poll c want)
+        → HasLeft limits faults u t mid out now c k → Answered limits faults u t before out now (event.Poll c want)
     poll_answered before mid out first quiet_does seal_does (quietly acts rows) =
         let s : Tables = let_some_go now (going_with t (left_by t c k)) (with_leave c k t) in
         does_answered limits faults u t (with_event now (event.Poll c want) s) before out (front ++ map act.Close (with_item_first (left_by t c k) [])) now (event.Poll c want) quiet_does refl
@@ -137,12 +137,12 @@ module _ {B : Type 0} {g : Ghosts B} (limits : Limits) (faults : ℕ) (u : Rows 
         (ap (λ acts. written_representation t (record { now = now; event = event.Poll c want; acts = acts })) does.acts_are ∙ writes f.x q.w q.r q.v q.row q.of_r q.there q.stays q.kept)
         (kept_by q.r q.v q.there q.stays) (shows front (act.Close f.x ∷ act.Lost q.r kind.Fault ∷ []) tells) f.failed (then_told before mid out (act.Close f.x ∷ act.Lost q.r kind.Fault ∷ []) first f.acts) (stands_counted u s now (event.Poll c want) refl f.rows)
 
-  pub end_answered : (want : ℕ) (before mid out : List Act) → move_of t now want c k ≡ Ends → mid ≡ before ++ (act.Ended c ∷ []) → HasLeft faults u t mid out now c k → Answered limits faults u t before out now (event.Poll c want)
+  pub end_answered : (want : ℕ) (before mid out : List Act) → move_of t now want c k ≡ Ends → mid ≡ before ++ (act.Ended c ∷ []) → HasLeft limits faults u t mid out now c k → Answered limits faults u t before out now (event.Poll c want)
   end_answered want before mid out is first left =
       poll_answered want (act.Ended c ∷ []) (ended c refl) before mid out first (effects.ends limits t law now c k row want is)
       (λ x w r v out_of ex of_r there kept. seal_effects.seal_ends limits t law now c k row x w r v kind.Fault out_of ex of_r there kept want is) left
 
-  pub fail_answered : (want : ℕ) (why : Cause) (before mid out : List Act) → move_of t now want c k ≡ Fails why → mid ≡ before ++ (act.Failed c why ∷ []) → HasLeft faults u t mid out now c k → Answered limits faults u t before out now (event.Poll c want)
+  pub fail_answered : (want : ℕ) (why : Cause) (before mid out : List Act) → move_of t now want c k ≡ Fails why → mid ≡ before ++ (act.Failed c why ∷ []) → HasLeft limits faults u t mid out now c k → Answered limits faults u t before out now (event.Poll c want)
   fail_answered want why before mid out is first left =
       poll_answered want (act.Failed c why ∷ []) (failed c why (fails_told t now want c k why law.sound law.places row is) refl) before mid out first (effects.fails limits t law now c k row want why is)
       (λ x w r v out_of ex of_r there kept. seal_effects.seal_fails limits t law now c k row x w r v kind.Fault out_of ex of_r there kept want why is) left

@@ -3,6 +3,7 @@ use Rattle.std.proofs.Common.{◌≡◌, ℕ, List, Bool, true, false, cond, Opt
 use Rattle.std.proofs.lemmas.Bool.Decides.{nat_tests}
 use Rattle.std.specs.Prelude.{is_some, nat_eq, bytes_eq, option_map, option_and_then, not, ◌&&◌, ◌||◌, ◌==◌, if◌then◌else◌}
 use Rattle.std.specs.HashMap.{get}
+use Rattle.hc_rules.specs.declared.room.Limits.{Limits}
 use Rattle.hc_store.specs.declared.backend.Backend.{Ghosts}
 use Rattle.hc_stored.specs.Entries.{shelf_of}
 use Rattle.hc_stored.specs.Kept as kept
@@ -73,7 +74,7 @@ gone_there false z = refl
 
 -- WHAT IS LET GO
 
-module _ {B : Type 0} {g : Ghosts B} (r u : Rows B g) (t : Tables) (may : MayLetGo t) (stands : RowsStand r t) (now n : ℕ) (k : Kept) (v : Representation)
+module _ {B : Type 0} {g : Ghosts B} {lim : Limits} (r u : Rows B g) (t : Tables) (may : MayLetGo t) (stands : RowsStand lim r t) (now n : ℕ) (k : Kept) (v : Representation)
     (at : (shelf_of r.entries).kept n ≡ Some k) (row : t.representation n ≡ Some v) (entry : IsEntry t n k v) (fresh : k.is_gone ≡ false) where
   abbrev s : Tables
   s = let_go now n t
@@ -405,12 +406,12 @@ module _ {B : Type 0} {g : Ghosts B} (r u : Rows B g) (t : Tables) (may : MayLet
 
   -- ALL OF IT
 
-  pub stands_without : (mid : KeyTable) → u.limits ≡ r.limits → u.last_start ≡ r.last_start → u.exchanges ≡ r.exchanges
+  pub stands_without : (mid : KeyTable) → u.last_start ≡ r.last_start → u.exchanges ≡ r.exchanges
       → ChangesAmong r.consumers u.consumers (λ c. is_in c (line_of r.keys k.key)) (over_if_passed now)
       → keys.Becomes (on_line passed_back) k.key r.keys mid → keys.Becomes (with_current None) k.key mid u.keys
-      → shelves.Becomes (option_and_then kept.kept_as_gone) (taken_out n) n (shelf_of r.entries) (shelf_of u.entries) → RowsStand u s
-  stands_without mid limits last exchanges consumers line cleared forgot = record {
-    limits = forgot.limits ∙ (stands.limits ∙ sym limits);
+      → shelves.Becomes (option_and_then kept.kept_as_gone) (taken_out n) n (shelf_of r.entries) (shelf_of u.entries) → RowsStand lim u s
+  stands_without mid last exchanges consumers line cleared forgot = record {
+    limits = forgot.limits ∙ stands.limits;
     last_start = last ∙ stands.last_start;
     next = ap next_of exchanges ∙ stands.next;
     count = consumers.len ∙ (stands.count ∙ sym (live_let_go now n t may.one_current));
@@ -435,24 +436,24 @@ kept_key (Some k) key is usable = (k, refl, sym (some_is key k.key is), fresh k.
     fresh false on = refl
 
 pub lets_go : {B : Type 0} {g : Ghosts B} (r u : Rows B g) (now n : ℕ) (key : List ℕ) (mid : KeyTable) → Some key ≡ option_map key_in ((shelf_of r.entries).kept n) → is_usable_kept ((shelf_of r.entries).kept n) ≡ true
-    → u.limits ≡ r.limits → u.last_start ≡ r.last_start → u.exchanges ≡ r.exchanges
+    → u.last_start ≡ r.last_start → u.exchanges ≡ r.exchanges
     → ChangesAmong r.consumers u.consumers (λ c. is_in c (line_of r.keys key)) (over_if_passed now)
     → keys.Becomes (on_line passed_back) key r.keys mid → keys.Becomes (with_current None) key mid u.keys
     → shelves.Becomes (option_and_then kept.kept_as_gone) (taken_out n) n (shelf_of r.entries) (shelf_of u.entries)
-    → (t : Tables) → MayLetGo t → RowsStand r t → RowsStand u (let_go now n t)
-lets_go r u now n key mid has_key usable limits last exchanges consumers line cleared forgot t may stands =
+    → (lim : Limits) (t : Tables) → MayLetGo t → RowsStand lim r t → RowsStand lim u (let_go now n t)
+lets_go r u now n key mid has_key usable last exchanges consumers line cleared forgot lim t may stands =
     let (k, at, of_key, fresh) = kept_key ((shelf_of r.entries).kept n) key has_key usable in
     let (v, row, entry) = entry_row t n k (t.representation n) (subst (λ o. KeepsEntry t n o (t.representation n)) at (stands.entries.each n)) in
     let its : key ≡ k.key = sym of_key in
-    stands_without r u t may stands now n k v at row entry fresh mid limits last exchanges
+    stands_without r u t may stands now n k v at row entry fresh mid last exchanges
     (subst (λ z. ChangesAmong r.consumers u.consumers (λ c. is_in c (line_of r.keys z)) (over_if_passed now)) its consumers)
     (subst (λ z. keys.Becomes (on_line passed_back) z r.keys mid) its line) (subst (λ z. keys.Becomes (with_current None) z mid u.keys) its cleared) forgot
 
 -- what isn't kept, or is gone, isn't let go once more
 pub lets_none_go : {B : Type 0} {g : Ghosts B} (r : Rows B g) (now n : ℕ) → is_usable_kept ((shelf_of r.entries).kept n) ≡ false
-    → (t : Tables) → MayLetGo t → RowsStand r t → RowsStand r (let_go now n t)
-lets_none_go r now n none t may stands =
-    subst (RowsStand r) (sym (let_go_nothing t may now n (λ v row. by_kept ((shelf_of r.entries).kept n) refl v row))) stands
+    → (lim : Limits) (t : Tables) → MayLetGo t → RowsStand lim r t → RowsStand lim r (let_go now n t)
+lets_none_go r now n none lim t may stands =
+    subst (RowsStand lim r) (sym (let_go_nothing t may now n (λ v row. by_kept ((shelf_of r.entries).kept n) refl v row))) stands
   where
     by_entry : (o : Option Kept) (v : Representation) → is_usable_kept o ≡ false → KeepsEntry t n o (Some v) → v.is_gone ≡ true
     by_entry None v off entry = entry.gone

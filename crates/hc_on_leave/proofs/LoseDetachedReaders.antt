@@ -6,6 +6,7 @@ use Rattle.std.proofs.lemmas.List.{append-nil, drop_all, take_more}
 use Rattle.std.proofs.lemmas.List.Elements.{filter-append}
 use Rattle.std.specs.Prelude.{is_some, is_none, nat_eq, filter, map, option_map, ◌&&◌, ◌||◌, ◌==◌, if◌then◌else◌}
 use Rattle.std.specs.HashMap.{get}
+use Rattle.hc_rules.specs.declared.room.Limits.{Limits}
 use Rattle.hc_store.specs.declared.backend.Backend.{Ghosts}
 use Rattle.hc_event.specs.declared.act.Cause.TheVariants as cause
 use Rattle.hc_stored.specs.Entries.{shelf_of}
@@ -114,7 +115,7 @@ survivor_among t q c v is = sym (members_in t v.reach c (bound t q)) ∙ (least_
 
 -- THE HEIR
 
-module _ {B : Type 0} {g : Ghosts B} (r : Rows B g) (t : Tables) (stands : RowsStand r t) (may : MayLetGo t) (q : ℕ) (v : Representation) (row : t.representation q ≡ Some v) (kept : v.is_lost ≡ false) (e : Kept) (there : (shelf_of r.entries).kept q ≡ Some e) where
+module _ {B : Type 0} {g : Ghosts B} {lim : Limits} (r : Rows B g) (t : Tables) (stands : RowsStand lim r t) (may : MayLetGo t) (q : ℕ) (v : Representation) (row : t.representation q ≡ Some v) (kept : v.is_lost ≡ false) (e : Kept) (there : (shelf_of r.entries).kept q ≡ Some e) where
   is : IsEntry t q e v
   is = subst (λ k. KeepsEntry t q k (Some v)) there (subst (KeepsEntry t q ((shelf_of r.entries).kept q)) row (stands.entries.each q))
 
@@ -222,14 +223,14 @@ module _ (t : Tables) (q x : ℕ) (v : Representation) (loses : MayLoseShared t 
 
 -- ALL OF IT
 
-pub loses_shared : {B : Type 0} {g : Ghosts B} (r mid u : Rows B g) (t : Tables) (now q x : ℕ) (v : Representation) (detached_reader : Option ℕ) → MayLoseShared t q x v → RowsStand r t → is_kept (shelf_of r.entries) q ≡ true → detached_reader ≡ detached_reader_of r.consumers ((shelf_of r.entries).kept q)
-    → mid.limits ≡ r.limits → mid.last_start ≡ r.last_start → mid.exchanges ≡ r.exchanges → mid.keys ≡ r.keys → mid.entries ≡ r.entries
+pub loses_shared : {B : Type 0} {g : Ghosts B} {lim : Limits} (r mid u : Rows B g) (t : Tables) (now q x : ℕ) (v : Representation) (detached_reader : Option ℕ) → MayLoseShared t q x v → RowsStand lim r t → is_kept (shelf_of r.entries) q ≡ true → detached_reader ≡ detached_reader_of r.consumers ((shelf_of r.entries).kept q)
+    → mid.last_start ≡ r.last_start → mid.exchanges ≡ r.exchanges → mid.keys ≡ r.keys → mid.entries ≡ r.entries
     → ChangesEach r.consumers mid.consumers (λ d. has itself d (bound_in ((shelf_of r.entries).kept q))) (after_parting detached_reader x (cause.StoreWrite q))
-    → ((s : Tables) (p : Representation) → MayLetGo s → s.representation q ≡ Some p → p.alone ≡ None → HoldsNothing s q p detached_reader → RowsStand mid s → RowsStand u (let_go now q (with_representation q (Some (lost_to detached_reader p)) s)))
-    → LosesShared u t now q x v detached_reader
-loses_shared r mid u t now q x v detached_reader may stands there found limits last exchanges same_keys same_entries changes loses = by_kept ((shelf_of r.entries).kept q) refl there
+    → ((lim : Limits) (s : Tables) (p : Representation) → MayLetGo s → s.representation q ≡ Some p → p.alone ≡ None → HoldsNothing s q p detached_reader → RowsStand lim mid s → RowsStand lim u (let_go now q (with_representation q (Some (lost_to detached_reader p)) s)))
+    → LosesShared lim u t now q x v detached_reader
+loses_shared {lim = lim} r mid u t now q x v detached_reader may stands there found last exchanges same_keys same_entries changes loses = by_kept ((shelf_of r.entries).kept q) refl there
   where
-    by_kept : (o : Option Kept) → (shelf_of r.entries).kept q ≡ o → is_some o ≡ true → LosesShared u t now q x v detached_reader
+    by_kept : (o : Option Kept) → (shelf_of r.entries).kept q ≡ o → is_some o ≡ true → LosesShared lim u t now q x v detached_reader
     by_kept None at on = false_true on
     by_kept (Some e) at on =
         let entry : IsEntry t q e v = subst (λ k. KeepsEntry t q k (Some v)) at (subst (KeepsEntry t q ((shelf_of r.entries).kept q)) may.there (stands.entries.each q)) in
@@ -237,7 +238,7 @@ loses_shared r mid u t now q x v detached_reader may stands there found limits l
         let alike : (d : ℕ) → has itself d (bound_in ((shelf_of r.entries).kept q)) ≡ is_bound q (t.consumer d) = λ d. ap (λ (k : Option Kept). has itself d (bound_in k)) at ∙ entry.bound d in
         record {
           detached_reader_is = same;
-          rows = loses (writing_lost q detached_reader (Some x) t) v (parts.may_part t q x detached_reader may.may) may.there may.nobody
+          rows = loses _ (writing_lost q detached_reader (Some x) t) v (parts.may_part t q x detached_reader may.may) may.there may.nobody
               (subst (λ (o : Option ℕ). HoldsNothing (writing_lost q o (Some x) t) q v o) (sym same) (nothing_held t q x v may))
-              (parts.stands_parted r mid t q x detached_reader v (λ d. has itself d (bound_in ((shelf_of r.entries).kept q))) stands may.there may.nobody limits last exchanges same_keys same_entries (λ d some. alike d) changes);
+              (parts.stands_parted r mid t q x detached_reader v (λ d. has itself d (bound_in ((shelf_of r.entries).kept q))) stands may.there may.nobody last exchanges same_keys same_entries (λ d some. alike d) changes);
         }

@@ -4,6 +4,7 @@ use Rattle.std.proofs.Common.{◌≡◌, ◌≢◌, inl, inr, ℕ, List, [], Boo
 use Rattle.std.specs.Prelude.{is_some, nat_eq, bytes_eq, option_map, ◌&&◌, if◌then◌else◌}
 use Rattle.std.specs.Option.{option_or}
 use Rattle.std.specs.HashMap.{get}
+use Rattle.hc_rules.specs.declared.room.Limits.{Limits}
 use Rattle.hc_store.specs.declared.backend.Backend.{Ghosts}
 use Rattle.hc_event.specs.declared.act.Cause.{Cause}
 use Rattle.hc_event.specs.declared.act.Cause.TheVariants as cause
@@ -229,14 +230,14 @@ module _ (t : Tables) (q x : ℕ) (detached_reader : Option ℕ) where
 
 -- ALL OF IT
 
-pub stands_parted : {B : Type 0} {g : Ghosts B} (r u : Rows B g) (t : Tables) (q x : ℕ) (detached_reader : Option ℕ) (v : Representation) (among : ℕ → Bool) → RowsStand r t → t.representation q ≡ Some v → v.alone ≡ None
-    → u.limits ≡ r.limits → u.last_start ≡ r.last_start → u.exchanges ≡ r.exchanges → u.keys ≡ r.keys → u.entries ≡ r.entries
-    → ((d : ℕ) → is_some (t.consumer d) ≡ true → among d ≡ is_bound q (t.consumer d)) → ChangesEach r.consumers u.consumers among (after_parting detached_reader x (cause.StoreWrite q)) → RowsStand u (writing_lost q detached_reader (Some x) t)
+pub stands_parted : {B : Type 0} {g : Ghosts B} {lim : Limits} (r u : Rows B g) (t : Tables) (q x : ℕ) (detached_reader : Option ℕ) (v : Representation) (among : ℕ → Bool) → RowsStand lim r t → t.representation q ≡ Some v → v.alone ≡ None
+    → u.last_start ≡ r.last_start → u.exchanges ≡ r.exchanges → u.keys ≡ r.keys → u.entries ≡ r.entries
+    → ((d : ℕ) → is_some (t.consumer d) ≡ true → among d ≡ is_bound q (t.consumer d)) → ChangesEach r.consumers u.consumers among (after_parting detached_reader x (cause.StoreWrite q)) → RowsStand lim u (writing_lost q detached_reader (Some x) t)
 unfolding current
-stands_parted r u t q x detached_reader v among stands there nobody limits last exchanges same_keys same_entries alike changes =
+stands_parted r u t q x detached_reader v among stands there nobody last exchanges same_keys same_entries alike changes =
     let z : Tables = writing_lost q detached_reader (Some x) t in
     record {
-      limits = rw (same_entries, limits) stands.limits;
+      limits = rw same_entries stands.limits;
       last_start = last ∙ stands.last_start;
       next = ap (λ e. next_of e) exchanges ∙ stands.next;
       count = changes.len ∙ (stands.count ∙ sym (live_same t z refl (told_same t q x detached_reader is_live (λ k own due. refl))));

@@ -63,12 +63,12 @@ module _ {B : Type 0} {g : Ghosts B} (limits : Limits) (faults : ℕ) (u : Rows 
             ∙ ap (λ (o : Option ℕ). with_event now (event.Poll c want) (let_go now r (let_some_go now (going_with t o) (with_consumer c (Some (as_over v)) (all_closed (with_item_first o []) t))))) none;
       }
 
-  pub fault_answered : current t v.request.key ≡ Some r → faults < (shelf_of u.entries).faults → out ≡ before ++ acts → RowsStand u s → Answered limits faults u t before out now (event.Poll c want)
+  pub fault_answered : current t v.request.key ≡ Some r → faults < (shelf_of u.entries).faults → out ≡ before ++ acts → RowsStand limits u s → Answered limits faults u t before out now (event.Poll c want)
   fault_answered now_is failed told stands = record {
     flaw = Misreads r;
     acts = told ∙ ap (λ z. before ++ z) (sym does_fail.acts_are);
     shown = ap flaw_in does_fail.acts_are;
     may = rw row (or_last (is_bound r (Some v)) (is_number (current t v.request.key) r) (ap (λ (o : Option ℕ). is_number o r) now_is ∙ eqb-same r));
     caused = λ on. failed;
-    rows = subst (RowsStand u) (sym does_fail.tables_are) (stands_counted u s now (event.Poll c want) refl stands);
+    rows = subst (RowsStand limits u) (sym does_fail.tables_are) (stands_counted u s now (event.Poll c want) refl stands);
   }

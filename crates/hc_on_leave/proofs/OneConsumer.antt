@@ -1,5 +1,6 @@
 -- One consumer changes and no exchange: what is kept stands for the tables then, where as much is held for it.
 use Rattle.std.proofs.Common.{◌≡◌, ◌≢◌, inl, inr, ℕ, List, true, Option, Some, None, refl, ap, sym, ◌∙◌}
+use Rattle.hc_rules.specs.declared.room.Limits.{Limits}
 use Rattle.hc_store.specs.declared.backend.Backend.{Ghosts}
 use Rattle.hc_stored.specs.Entries.{shelf_of}
 use Rattle.hc_entry.specs.Keys.{kept_of}
@@ -64,8 +65,8 @@ module _ (t : Tables) (c : ℕ) (v z : rows.Consumer) (row : t.consumer c ≡ So
 
 -- ALL OF IT
 
-module _ {B : Type 0} {g : Ghosts B} (r u : Rows B g) (t : Tables) (c : ℕ) (v z : rows.Consumer) (k : Consumer) (stands : RowsStand r t) (row : t.consumer c ≡ Some v) (lived : is_live_place v.place ≡ true) (lives : is_live_place z.place ≡ true)
-    (limits : u.limits ≡ r.limits) (last : u.last_start ≡ r.last_start) (exchanges : u.exchanges ≡ r.exchanges) (bounded : (shelf_of u.entries).limits ≡ (shelf_of r.entries).limits)
+module _ {B : Type 0} {g : Ghosts B} {lim : Limits} (r u : Rows B g) (t : Tables) (c : ℕ) (v z : rows.Consumer) (k : Consumer) (stands : RowsStand lim r t) (row : t.consumer c ≡ Some v) (lived : is_live_place v.place ≡ true) (lives : is_live_place z.place ≡ true)
+    (last : u.last_start ≡ r.last_start) (exchanges : u.exchanges ≡ r.exchanges) (bounded : (shelf_of u.entries).limits ≡ (shelf_of r.entries).limits)
     (becomes : BecomesAt r.consumers u.consumers c (Some k)) (kept : KeepsConsumer t (Some k) (Some z)) (keys : (key : List ℕ) → KeepsKey (with_consumer c (Some z) t) key (kept_of u.keys key))
     (entries : KeepsEntries (with_consumer c (Some z) t) (shelf_of u.entries)) (much : HoldsAsMuch t c v z row) where
   live_each : (d : ℕ) → is_live ((with_consumer c (Some z) t).consumer d) ≡ is_live (t.consumer d)
@@ -74,9 +75,9 @@ module _ {B : Type 0} {g : Ghosts B} (r u : Rows B g) (t : Tables) (c : ℕ) (v 
     | inr ne ↦ ap is_live (others t c v z row d (λ e. ne (sym e)))
   ]
 
-  pub stands_moved : RowsStand u (with_consumer c (Some z) t)
+  pub stands_moved : RowsStand lim u (with_consumer c (Some z) t)
   stands_moved = record {
-    limits = bounded ∙ (stands.limits ∙ sym limits);
+    limits = bounded ∙ stands.limits;
     last_start = last ∙ stands.last_start;
     next = rw exchanges stands.next;
     count = length_same r u t c v k stands row lived becomes ∙ (stands.count ∙ sym (live_same t (with_consumer c (Some z) t) refl live_each));

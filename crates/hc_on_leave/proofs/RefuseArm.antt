@@ -2,6 +2,7 @@
 use Rattle.std.proofs.Common.{◌≡◌, ◌≢◌, inl, inr, ℕ, [], ◌∷◌, Bool, true, false, Option, Some, None, refl, ap, sym, ◌∙◌, subst}
 use Rattle.std.specs.Prelude.{nat_eq, if◌then◌else◌}
 use Rattle.std.specs.HashMap.{get}
+use Rattle.hc_rules.specs.declared.room.Limits.{Limits}
 use Rattle.hc_store.specs.declared.backend.Backend.{Ghosts}
 use Rattle.hc_event.specs.declared.event.Response.{Response}
 use Rattle.hc_rules.specs.declared.length.Length.{Length}
@@ -30,7 +31,7 @@ use Rattle.hc_state.proofs.OneOfEach.{stands_then}
 use Rattle.hc_state.proofs.Ties.{consumer_same}
 use Rattle.hc_state.proofs.Words.{same_or, eqb-same, eqb-other}
 
-module _ {B : Type 0} {g : Ghosts B} (r u : Rows B g) (t : Tables) (x : ℕ) (w z : Exchange) (stands : RowsStand r t) (unused : IsUnread t x w) (shut : z.is_open ≡ false) (empty : z.body ≡ []) (unjoined : z.joined ≡ None)
+module _ {B : Type 0} {g : Ghosts B} {lim : Limits} (r u : Rows B g) (t : Tables) (x : ℕ) (w z : Exchange) (stands : RowsStand lim r t) (unused : IsUnread t x w) (shut : z.is_open ≡ false) (empty : z.body ≡ []) (unjoined : z.joined ≡ None)
     (rest : KeepsRest r u) (consumers : u.consumers ≡ r.consumers) (becomes : exch.Becomes known.without_exchange x r.exchanges u.exchanges) where
   abbrev s : Tables
   s = with_exchange x (Some z) t
@@ -71,14 +72,14 @@ module _ {B : Type 0} {g : Ghosts B} (r u : Rows B g) (t : Tables) (x : ℕ) (w 
             ∙ sym (ap (held_for s x) s_here ∙ held_empty s x z empty unjoined bare.unfounded))));
       }
 
-  pub stands_shut : RowsStand u s
+  pub stands_shut : RowsStand lim u s
   stands_shut =
-      stands_then r u t s w.c x (get nat_eq r.consumers w.c) stands rest.limits (rest.last_start ∙ stands.last_start) (becomes.next ∙ stands.next)
+      stands_then r u t s w.c x (get nat_eq r.consumers w.c) stands (rest.last_start ∙ stands.last_start) (becomes.next ∙ stands.next)
       (rw consumers stands.count) stays (λ y ne. known_other known.without_exchange x y r.exchanges u.exchanges becomes ne) (λ d ne. refl) s_other (λ q. refl)
       (consumer_same t s (get nat_eq r.consumers w.c) (t.consumer w.c) (λ k row. record { past = λ y at. past_same w.c y k row at; length = λ q lo hi how at. refl }) (stands.consumers w.c))
       exchange_shut (let same_keys = rest.keys in λ key. rw same_keys (key_heard t x w z bare unjoined key _ (stands.keys key)))
       (λ d k ne row at. unused.unread d k row at) (λ y e ne row. held_else t x w z bare unjoined y e)
-      (let same_entries = rest.entries in let same_limits = rest.limits in rw (same_entries, same_limits) stands.limits)
+      (let same_entries = rest.entries in rw same_entries stands.limits)
       (let same_entries = rest.entries in rw same_entries (entries_heard t x w z bare unjoined (shelf_of r.entries) stands.entries))
 
 -- IT IS OVER WITH ITS HEAD, OR CLOSED
@@ -94,27 +95,27 @@ closed_twice t x a =
       | inr ne ↦ rw (eqb-other x y ne) refl
     ]
 
-module _ {B : Type 0} {g : Ghosts B} (r u : Rows B g) (t : Tables) (now x : ℕ) (response : Response) (w : Exchange) (stands : RowsStand r t) (unused : IsUnread t x w)
+module _ {B : Type 0} {g : Ghosts B} {lim : Limits} (r u : Rows B g) (t : Tables) (now x : ℕ) (response : Response) (w : Exchange) (stands : RowsStand lim r t) (unused : IsUnread t x w)
     (rest : KeepsRest r u) (consumers : u.consumers ≡ r.consumers) (becomes : exch.Becomes known.without_exchange x r.exchanges u.exchanges) where
-  by_test : (b : Bool) → is_reached (promise_in w response) 0 ≡ b → RowsStand u (all_closed (if b then [] else x ∷ []) (with_answer now x response w.joined w t))
+  by_test : (b : Bool) → is_reached (promise_in w response) 0 ≡ b → RowsStand lim u (all_closed (if b then [] else x ∷ []) (with_answer now x response w.joined w t))
   by_test true reached = stands_shut r u t x w (exchange_with_head now response w.joined w) stands unused (rw reached refl) unused.bare.empty unused.bare.unjoined rest consumers becomes
   by_test false reached =
-      subst (RowsStand u) (sym (closed_twice t x (exchange_with_head now response w.joined w)))
+      subst (RowsStand lim u) (sym (closed_twice t x (exchange_with_head now response w.joined w)))
       (stands_shut r u t x w (over (exchange_with_head now response w.joined w)) stands unused refl unused.bare.empty unused.bare.unjoined rest consumers becomes)
 
-  pub stands_refused : RowsStand u (all_closed (unless_ended x response w) (with_answer now x response w.joined w t))
+  pub stands_refused : RowsStand lim u (all_closed (unless_ended x response w) (with_answer now x response w.joined w t))
   stands_refused = by_test (is_reached (promise_in w response) 0) refl
 
 -- WHAT IS TOLD
 
 -- what the head says to the exchange
-pub length_as : {B : Type 0} {g : Ghosts B} (r : Rows B g) (t : Tables) (x : ℕ) (w : Exchange) (response : Response) → RowsStand r t → t.exchange x ≡ Some w → w.is_open ≡ true → length_by (table_of r.exchanges x).running response ≡ length_of w.need w.request response
+pub length_as : {B : Type 0} {g : Ghosts B} {lim : Limits} (r : Rows B g) (t : Tables) (x : ℕ) (w : Exchange) (response : Response) → RowsStand lim r t → t.exchange x ≡ Some w → w.is_open ≡ true → length_by (table_of r.exchanges x).running response ≡ length_of w.need w.request response
 length_as r t x w response stands row opened = by_running (table_of r.exchanges x).running refl (subst (KeepsRunning t x (table_of r.exchanges x).running) row (stands.exchanges x).running)
   where
     by_running : (z : Option Open) → (table_of r.exchanges x).running ≡ z → KeepsRunning t x z (Some w) → length_by (table_of r.exchanges x).running response ≡ length_of w.need w.request response
     by_running None at keeps = absurd (let never : false ≡ true = sym keeps ∙ opened in cc)
     by_running (Some o) at keeps = ap (λ (z : Option Open). length_by z response) at ∙ (ap (λ n. length_of n o.request response) keeps.need ∙ ap (λ q. length_of w.need q response) keeps.request)
 
-pub closes_as : {B : Type 0} {g : Ghosts B} (r : Rows B g) (t : Tables) (x : ℕ) (w : Exchange) (response : Response) → RowsStand r t → t.exchange x ≡ Some w → w.is_open ≡ true → unless_over x (length_by (table_of r.exchanges x).running response) ≡ unless_ended x response w
+pub closes_as : {B : Type 0} {g : Ghosts B} {lim : Limits} (r : Rows B g) (t : Tables) (x : ℕ) (w : Exchange) (response : Response) → RowsStand lim r t → t.exchange x ≡ Some w → w.is_open ≡ true → unless_over x (length_by (table_of r.exchanges x).running response) ≡ unless_ended x response w
 closes_as r t x w response stands row opened =
     ap (λ (b : Bool). if b then [] else x ∷ []) (all_reached (promise_of (length_by (table_of r.exchanges x).running response)) 0 ∙ ap (λ (l : Length). is_reached (promise_of l) 0) (length_as r t x w response stands row opened))

@@ -3,6 +3,7 @@ use Rattle.std.proofs.Common.{◌≡◌, ℕ, ◌+◌, ◌<◌, ◌^◌, max, tr
 use Rattle.std.proofs.lemmas.Bool.Decides.{nat_tests}
 use Rattle.std.specs.Prelude.{option_map, nat_eq, is_some, IfSome}
 use Rattle.std.specs.HashMap.{get}
+use Rattle.hc_rules.specs.declared.room.Limits.{Limits}
 use Rattle.hc_store.specs.declared.backend.Backend.{Ghosts}
 use Rattle.hc_stored.specs.declared.view.EntryView.{EntryView}
 use Rattle.hc_stored.specs.Entries.{shelf_of}
@@ -34,7 +35,7 @@ entry_short t q n k (Some v) rows kept known = by_length kept.length
     by_length (untold u) = none_some n (sym u.untold ∙ known)
 
 -- where they stand for tables with the representations of a run
-pub shorts : {B : Type 0} {g : Ghosts B} (u : Rows B g) (t s : Tables) → Numbers t → t.received < 2 ^ 62 → s.representation ≡ t.representation → RowsStand u s → TellsShort (shelf_of u.entries)
+pub shorts : {B : Type 0} {g : Ghosts B} {lim : Limits} (u : Rows B g) (t s : Tables) → Numbers t → t.received < 2 ^ 62 → s.representation ≡ t.representation → RowsStand lim u s → TellsShort (shelf_of u.entries)
 shorts u t s numbers few same stands q n k at known =
     entry_short s q n k (s.representation q) (λ v row is. below_room n t.received (numbers.totals q n v (sym (ap (λ f. f q) same) ∙ row) is) few)
     (subst (λ o. KeepsEntry s q o (s.representation q)) at (stands.entries.each q)) known
@@ -46,12 +47,12 @@ shorts_here r some q n k at known = merely_below n (2 ^ 62) some (λ s.
     shorts r t t s.numbers (few_received s.received) refl s.rows q n k at known)
 
 -- once a consumer is gone
-pub shorts_left : {B : Type 0} {g : Ghosts B} (r u : Rows B g) (c : ℕ) → ∥ Stands r ∥₁ → is_some (get nat_eq r.consumers c) ≡ true → ((t : Tables) (k : rows.Consumer) → Lawful t → t.consumer c ≡ Some k → RowsStand r t → RowsStand u (with_consumer c (Some (as_over k)) t)) → TellsShort (shelf_of u.entries)
+pub shorts_left : {B : Type 0} {g : Ghosts B} (r u : Rows B g) (c : ℕ) → ∥ Stands r ∥₁ → is_some (get nat_eq r.consumers c) ≡ true → ((lim : Limits) (t : Tables) (k : rows.Consumer) → Lawful t → t.consumer c ≡ Some k → RowsStand lim r t → RowsStand lim u (with_consumer c (Some (as_over k)) t)) → TellsShort (shelf_of u.entries)
 shorts_left r u c some lives leaves q n k at known = merely_below n (2 ^ 62) some (λ s.
     let t : Tables = s.t in
     let facts = s.facts in
     let v = live_row r t c lives s.rows in
-    shorts u t (with_consumer c (Some (as_over v.0)) t) s.numbers (few_received s.received) refl (leaves t v.0 facts.law v.1 s.rows) q n k at known)
+    shorts u t (with_consumer c (Some (as_over v.0)) t) s.numbers (few_received s.received) refl (leaves _ t v.0 facts.law v.1 s.rows) q n k at known)
 
 -- what is told of what is kept
 pub view_short : (s : Shelf) (q : ℕ) (o : Option EntryView) (entry : EntryView) → TellsShort s → o ≡ option_map view_of (s.kept q) → o ≡ Some entry → IfSome entry.total (λ n. n < 2 ^ 62)

@@ -86,11 +86,11 @@ pub record Stores (t : Tables) (x q n : ℕ) : Type 0 where
   pub fresh : v.is_lost ≡ false
 
 -- what the code looked at says that it isn't denied
-pub undenied_piece : {B : Type 0} {g : Ghosts B} (r : Rows B g) (t : Tables) (x : ℕ) (bytes : List ℕ) → RowsStand r t → piece_refusal (open_at r x) (length bytes) ≡ None → denial t (event.Piece x bytes) ≡ None
+pub undenied_piece : {B : Type 0} {g : Ghosts B} {lim : Limits} (r : Rows B g) (t : Tables) (x : ℕ) (bytes : List ℕ) → RowsStand lim r t → piece_refusal (open_at r x) (length bytes) ≡ None → denial t (event.Piece x bytes) ≡ None
 unfolding refusals.refusal_of
 undenied_piece r t x bytes stands none = sym (denies_as r t (event.Piece x bytes) stands) ∙ none
 
-pub stores_of : {B : Type 0} {g : Ghosts B} (r : Rows B g) (t : Tables) (facts : Facts r.limits t) (x q : ℕ) (bytes : List ℕ) → RowsStand r t → denial t (event.Piece x bytes) ≡ None → stored_by r x ≡ Some q → Stores t x q (length bytes)
+pub stores_of : {B : Type 0} {g : Ghosts B} {lim : Limits} (r : Rows B g) (t : Tables) (facts : Facts lim t) (x q : ℕ) (bytes : List ℕ) → RowsStand lim r t → denial t (event.Piece x bytes) ≡ None → stored_by r x ≡ Some q → Stores t x q (length bytes)
 stores_of r t facts x q bytes stands goes grows = by_brought (brought_by (table_of r.exchanges x).running) refl (ap (λ o. o) grows)
   where
     b : Brought t x (length bytes)
@@ -130,14 +130,14 @@ ends_then f reach at x bytes p ends past =
     rw (off, none) refl
 
 -- as many bytes are kept as are stored
-pub stored_size : {B : Type 0} {g : Ghosts B} (r : Rows B g) (t : Tables) (facts : Facts r.limits t) (q : ℕ) (v : Representation) (k : Kept) (m : Tables) → t.representation q ≡ Some v → IsInUse t q v → IsEntry m q k v → size k.cells ≡ v.size
+pub stored_size : {B : Type 0} {g : Ghosts B} {lim : Limits} (r : Rows B g) (t : Tables) (facts : Facts lim t) (q : ℕ) (v : Representation) (k : Kept) (m : Tables) → t.representation q ≡ Some v → IsInUse t q v → IsEntry m q k v → size k.cells ≡ v.size
 stored_size r t facts q v k m there used is = size-same k.cells v.stored is.cells ∙ sym (facts.sized q v there used)
 
 -- THE ROWS AFTER ROOM WAS MADE
 
-module _ {B : Type 0} {g : Ghosts B} (r mid put u : Rows B g) (t : Tables) (facts : Facts r.limits t) (stands : RowsStand r t) (now x q : ℕ) (bytes : List ℕ) (goes : denial t (event.Piece x bytes) ≡ None) (grows : stored_by r x ≡ Some q) (before out : List Act) (stored : ℕ)
+module _ {B : Type 0} {g : Ghosts B} {lim : Limits} (r mid put u : Rows B g) (t : Tables) (facts : Facts lim t) (stands : RowsStand lim r t) (now x q : ℕ) (bytes : List ℕ) (goes : denial t (event.Piece x bytes) ≡ None) (grows : stored_by r x ≡ Some q) (before out : List Act) (stored : ℕ)
     (had : (k : Kept) → (shelf_of r.entries).kept q ≡ Some k → stored ≡ size k.cells)
-    (gives : GivesWay mid t now (giving_way r.limits t (write.Piece stored (length bytes))) before out) (mid_limits : mid.limits ≡ r.limits) (mid_last : mid.last_start ≡ r.last_start) (mid_exchanges : mid.exchanges ≡ r.exchanges) where
+    (gives : GivesWay lim mid t now (giving_way lim t (write.Piece stored (length bytes))) before out) (mid_last : mid.last_start ≡ r.last_start) (mid_exchanges : mid.exchanges ≡ r.exchanges) where
   pub it : Stores t x q (length bytes)
   it = stores_of r t facts x q bytes stands goes grows
 
@@ -166,16 +166,16 @@ module _ {B : Type 0} {g : Ghosts B} (r mid put u : Rows B g) (t : Tables) (fact
   stored_is = had first.k (ap (shelf_of r.entries).kept (sym it.of_q) ∙ first.kept) ∙ stored_size r t facts (family x w) v first.k t it.there (λ gone. some_bound) first.is
 
   abbrev pub es : List ℕ
-  es = giving_way r.limits t (write.Piece v.size (length bytes))
+  es = giving_way lim t (write.Piece v.size (length bytes))
 
-  gives_es : GivesWay mid t now es before out
-  gives_es = subst (λ n. GivesWay mid t now (giving_way r.limits t (write.Piece n (length bytes))) before out) stored_is gives
+  gives_es : GivesWay lim mid t now es before out
+  gives_es = subst (λ n. GivesWay lim mid t now (giving_way lim t (write.Piece n (length bytes))) before out) stored_is gives
 
-  mid_stands : RowsStand mid (without now es t)
-  mid_stands = subst (RowsStand mid) (all_go_is now es t) gives_es.rows
+  mid_stands : RowsStand lim mid (without now es t)
+  mid_stands = subst (RowsStand lim mid) (all_go_is now es t) gives_es.rows
 
   kept_apart : is_in es (family x w) ≡ false
-  kept_apart = spared r.limits t facts.law now x bytes goes w it.row v it.there it.fresh it.taken.is_open it.taken.headed
+  kept_apart = spared lim t facts.law now x bytes goes w it.row v it.there it.fresh it.taken.is_open it.taken.headed
 
   m_row : (without now es t).representation (family x w) ≡ Some v
   m_row = (let apart = kept_apart in let there = it.there in rw apart there)
@@ -211,8 +211,8 @@ module _ {B : Type 0} {g : Ghosts B} (r mid put u : Rows B g) (t : Tables) (fact
       ap (λ n. cells_at (shelf_of mid.entries) n p) (sym it.of_q) ∙ (ap (λ (e : Option Kept). cells_in e p) second.kept ∙ (second.is.cells p ∙ none))
 
   -- what it has of it, and may have
-  limits_are : (shelf_of mid.entries).limits ≡ r.limits
-  limits_are = mid_stands.limits ∙ mid_limits
+  limits_are : (shelf_of mid.entries).limits ≡ lim
+  limits_are = mid_stands.limits
 
   size_here : size_at (shelf_of mid.entries) q ≡ v.size
   size_here =
@@ -226,7 +226,7 @@ module _ {B : Type 0} {g : Ghosts B} (r mid put u : Rows B g) (t : Tables) (fact
 
   told : IsViewOf v2 (cells_with (runs.o.base + runs.o.delivered) x bytes second.k.cells) (larger_view (length bytes) (view_of second.k))
   told = record {
-    total = tells mid u r.limits t facts now x bytes goes w v it.row it.taken.is_open it.taken.headed it.taken.some it.taken.fits it.there it.fresh es kept_apart second.k second.is.length;
+    total = tells mid u lim t facts now x bytes goes w v it.row it.taken.is_open it.taken.headed it.taken.some it.taken.fits it.there it.fresh es kept_apart second.k second.is.length;
     size = ap (λ n. n + length bytes) (stored_size r t facts (family x w) v second.k (without now es t) it.there (λ gone. some_bound) second.is);
     stored = λ p. ap (λ n. cells_with n x bytes second.k.cells p) at_front ∙ written_alike second.k.cells v.stored (front w) x bytes p (second.is.cells p);
     ends = λ p past. ends_then v.stored v.reach (front w) x bytes p (λ n le. none_by (v.stored n) (v.body n) ((facts.law.sound.rows (family x w) v it.there).store.some_stored n) ((facts.law.sound.rows (family x w) v it.there).store.ends n le)) past;
@@ -246,7 +246,7 @@ module _ {B : Type 0} {g : Ghosts B} (r mid put u : Rows B g) (t : Tables) (fact
           by_test false = refl
 
   module _ (puts : PutsPiece mid put x q runs.o bytes) (within : (size_at (shelf_of mid.entries) q + length bytes ≤ (shelf_of mid.entries).limits.max_entry) × ((shelf_of mid.entries).used + length bytes ≤ (shelf_of mid.entries).limits.max_total))
-      (u_entries : u.entries ≡ put.entries) (u_limits : u.limits ≡ mid.limits) (u_last : u.last_start ≡ mid.last_start) (u_map : u.consumers ≡ mid.consumers) (u_keys : u.keys ≡ mid.keys) (becomes : exch.Becomes (known.with_piece bytes false) x mid.exchanges u.exchanges) where
+      (u_entries : u.entries ≡ put.entries) (u_last : u.last_start ≡ mid.last_start) (u_map : u.consumers ≡ mid.consumers) (u_keys : u.keys ≡ mid.keys) (becomes : exch.Becomes (known.with_piece bytes false) x mid.exchanges u.exchanges) where
     puts_here : PutsPiece mid put x (family x w) runs.o bytes
     puts_here = subst (λ n. PutsPiece mid put x n runs.o bytes) (sym it.of_q) puts
 
@@ -257,37 +257,37 @@ module _ {B : Type 0} {g : Ghosts B} (r mid put u : Rows B g) (t : Tables) (fact
     fills = subst (λ e. shelf.Becomes (option_map (entry.kept_with_bytes (front w) x bytes puts_here.last)) same_order (family x w) (shelf_of mid.entries) (shelf_of e)) (sym u_entries)
         (subst (λ n. shelf.Becomes (option_map (entry.kept_with_bytes n x bytes puts_here.last)) same_order (family x w) (shelf_of mid.entries) (shelf_of put.entries)) at_front puts_here.fills)
 
-    had_room : has_room (room_for r.limits t now (event.Piece x bytes)) ≡ true
+    had_room : has_room (room_for lim t now (event.Piece x bytes)) ≡ true
     had_room =
-        ap has_room (room_same r.limits t facts.law now x bytes goes w it.row v it.there it.fresh)
-        ∙ room_there r.limits (weights_now t) v.size (length bytes) (map (weight_now t) (idle_now t)) entry_fits sum_fits
+        ap has_room (room_same lim t facts.law now x bytes goes w it.row v it.there it.fresh)
+        ∙ room_there lim (weights_now t) v.size (length bytes) (map (weight_now t) (idle_now t)) entry_fits sum_fits
       where
-        entry_fits : v.size + length bytes ≤ r.limits.max_entry
+        entry_fits : v.size + length bytes ≤ lim.max_entry
         entry_fits = subst (λ (l : Limits). v.size + length bytes ≤ l.max_entry) limits_are (subst (λ n. n + length bytes ≤ (shelf_of mid.entries).limits.max_entry) size_here within.0)
 
-        sum_fits : room_of r.limits (weights_now t) (write.Piece v.size (length bytes)) (map (weight_now t) (idle_now t)) ≡ room.Full → weights_now t + length bytes ≤ r.limits.max_total
+        sum_fits : room_of lim (weights_now t) (write.Piece v.size (length bytes)) (map (weight_now t) (idle_now t)) ≡ room.Full → weights_now t + length bytes ≤ lim.max_total
         sum_fits full =
             let none : es ≡ [] = ap (going.first_idle t) full in
-            let as_before : RowsStand mid t = subst (λ rs. RowsStand mid (let_all_go now rs t)) none gives_es.rows in
+            let as_before : RowsStand lim mid t = subst (λ rs. RowsStand lim mid (let_all_go now rs t)) none gives_es.rows in
             let used : (shelf_of mid.entries).used ≡ weights_now t = used_is mid t (may_make_room t facts) as_before in
             subst (λ (l : Limits). weights_now t + length bytes ≤ l.max_total) limits_are (subst (λ n. n + length bytes ≤ (shelf_of mid.entries).limits.max_total) used within.1)
 
-    pub store_answered : Answered r.limits (shelf_of r.entries).faults u t before out now (event.Piece x bytes)
+    pub store_answered : Answered lim (shelf_of r.entries).faults u t before out now (event.Piece x bytes)
     store_answered =
-        stored_answered mid u r.limits t facts now x bytes goes w v it.row it.taken.is_open it.taken.headed it.taken.some it.taken.fits it.there it.fresh es kept_apart (shelf_of r.entries).faults before out
-        (gives_same r.limits t facts.law now x bytes goes w it.row v it.there it.fresh) had_room gives_es.acts
-        (stored_stands mid u r.limits t facts now x bytes goes w v it.row it.taken.is_open it.taken.headed it.taken.some it.taken.fits it.there it.fresh es kept_apart puts_here.last kind_is mid_stands u_limits u_last u_map u_keys fills becomes)
+        stored_answered mid u lim t facts now x bytes goes w v it.row it.taken.is_open it.taken.headed it.taken.some it.taken.fits it.there it.fresh es kept_apart (shelf_of r.entries).faults before out
+        (gives_same lim t facts.law now x bytes goes w it.row v it.there it.fresh) had_room gives_es.acts
+        (stored_stands mid u lim t facts now x bytes goes w v it.row it.taken.is_open it.taken.headed it.taken.some it.taken.fits it.there it.fresh es kept_apart puts_here.last kind_is mid_stands u_last u_map u_keys fills becomes)
 
   -- WHERE IT REFUSED IT
 
   module _ (kind : LostKind) (stays : shelf.Stays (shelf_of mid.entries) (shelf_of put.entries)) (faulty : (shelf_of mid.entries).faults ≡ (shelf_of r.entries).faults)
       (why : Refused (shelf_of mid.entries).limits (size_at (shelf_of mid.entries) q + length bytes) ((shelf_of mid.entries).used + length bytes) (shelf_of mid.entries).faults (shelf_of put.entries).faults kind)
-      (put_limits : put.limits ≡ mid.limits) (put_last : put.last_start ≡ mid.last_start) (put_map : put.consumers ≡ mid.consumers) (put_exchanges : put.exchanges ≡ mid.exchanges) (put_keys : put.keys ≡ mid.keys) where
+      (put_last : put.last_start ≡ mid.last_start) (put_map : put.consumers ≡ mid.consumers) (put_exchanges : put.exchanges ≡ mid.exchanges) (put_keys : put.keys ≡ mid.keys) where
     abbrev wrote : Write
     wrote = write.Piece v.size (length bytes)
 
-    its_room : room_for r.limits t now (event.Piece x bytes) ≡ room_now r.limits t wrote
-    its_room = room_same r.limits t facts.law now x bytes goes w it.row v it.there it.fresh
+    its_room : room_for lim t now (event.Piece x bytes) ≡ room_now lim t wrote
+    its_room = room_same lim t facts.law now x bytes goes w it.row v it.there it.fresh
 
     abbrev left : Tables
     left = let_all_go now es t
@@ -295,38 +295,38 @@ module _ {B : Type 0} {g : Ghosts B} (r mid put u : Rows B g) (t : Tables) (fact
     sum_here : (shelf_of mid.entries).used ≡ weights_now left
     sum_here = used_is mid left (make_gone now es t (may_make_room t facts)) gives_es.rows
 
-    full_by : (entry : v.size + length bytes ≤ r.limits.max_entry) → r.limits.max_total < weights_now left + length bytes → (a : Room) → room_now r.limits t wrote ≡ a → may_lose a kinds.Full ≡ true
-    full_by entry more (room.After count) is = (let fits = fits_after r.limits now t wrote count (may_make_room t facts) is in absurd (omega (arith, fits, more)))
-    full_by entry more room.TooLarge is = absurd (not_large r.limits (weights_now t) v.size (length bytes) (map (weight_now t) (idle_now t)) entry is)
+    full_by : (entry : v.size + length bytes ≤ lim.max_entry) → lim.max_total < weights_now left + length bytes → (a : Room) → room_now lim t wrote ≡ a → may_lose a kinds.Full ≡ true
+    full_by entry more (room.After count) is = (let fits = fits_after lim now t wrote count (may_make_room t facts) is in absurd (omega (arith, fits, more)))
+    full_by entry more room.TooLarge is = absurd (not_large lim (weights_now t) v.size (length bytes) (map (weight_now t) (idle_now t)) entry is)
     full_by entry more room.Full is = refl
 
-    may_by : (k : LostKind) → Refused (shelf_of mid.entries).limits (size_at (shelf_of mid.entries) q + length bytes) ((shelf_of mid.entries).used + length bytes) (shelf_of mid.entries).faults (shelf_of put.entries).faults k → may_lose (room_now r.limits t wrote) k ≡ true
-    may_by _ (refusals_of.fault failed) = by_room (room_now r.limits t wrote)
+    may_by : (k : LostKind) → Refused (shelf_of mid.entries).limits (size_at (shelf_of mid.entries) q + length bytes) ((shelf_of mid.entries).used + length bytes) (shelf_of mid.entries).faults (shelf_of put.entries).faults k → may_lose (room_now lim t wrote) k ≡ true
+    may_by _ (refusals_of.fault failed) = by_room (room_now lim t wrote)
       where
         by_room : (a : Room) → may_lose a kinds.Fault ≡ true
         by_room (room.After count) = refl
         by_room room.TooLarge = refl
         by_room room.Full = refl
     may_by _ (refusals_of.large more) =
-        let here : r.limits.max_entry < v.size + length bytes = subst (λ (l : Limits). l.max_entry < v.size + length bytes) limits_are (subst (λ n. (shelf_of mid.entries).limits.max_entry < n + length bytes) size_here more) in
-        rw (too_large r.limits (weights_now t) v.size (length bytes) (map (weight_now t) (idle_now t)) here) refl
+        let here : lim.max_entry < v.size + length bytes = subst (λ (l : Limits). l.max_entry < v.size + length bytes) limits_are (subst (λ n. (shelf_of mid.entries).limits.max_entry < n + length bytes) size_here more) in
+        rw (too_large lim (weights_now t) v.size (length bytes) (map (weight_now t) (idle_now t)) here) refl
     may_by _ (refusals_of.full entry more) =
         full_by (subst (λ (l : Limits). v.size + length bytes ≤ l.max_entry) limits_are (subst (λ n. n + length bytes ≤ (shelf_of mid.entries).limits.max_entry) size_here entry))
         (subst (λ (l : Limits). l.max_total < weights_now left + length bytes) limits_are (subst (λ n. (shelf_of mid.entries).limits.max_total < n + length bytes) sum_here more))
-        (room_now r.limits t wrote) refl
+        (room_now lim t wrote) refl
 
     caused_by : (k : LostKind) → Refused (shelf_of mid.entries).limits (size_at (shelf_of mid.entries) q + length bytes) ((shelf_of mid.entries).used + length bytes) (shelf_of mid.entries).faults (shelf_of put.entries).faults k → k ≡ kinds.Fault → (shelf_of r.entries).faults < (shelf_of put.entries).faults
     caused_by _ (refusals_of.fault failed) is = subst (λ n. n < (shelf_of put.entries).faults) faulty failed
     caused_by _ (refusals_of.large more) is = absurd (let never : kinds.TooLarge ≡ kinds.Fault = is in cc)
     caused_by _ (refusals_of.full entry more) is = absurd (let never : kinds.Full ≡ kinds.Fault = is in cc)
 
-    pub refuses_it : Refuses r put t now x bytes kind before out
+    pub refuses_it : Refuses lim r put t now x bytes kind before out
     refuses_it =
-        let same = gives_same r.limits t facts.law now x bytes goes w it.row v it.there it.fresh in
+        let same = gives_same lim t facts.law now x bytes goes w it.row v it.there it.fresh in
         record {
-          gives = subst (λ rs. GivesWay put t now rs before out) (sym same) (record {
+          gives = subst (λ rs. GivesWay lim put t now rs before out) (sym same) (record {
             acts = gives_es.acts;
-            rows = stands_read mid put left put_limits put_last put_map put_exchanges put_keys stays gives_es.rows;
+            rows = stands_read mid put left put_last put_map put_exchanges put_keys stays gives_es.rows;
           });
           may = ap (λ a. may_lose a kind) its_room ∙ may_by kind why;
           caused = caused_by kind why;
@@ -344,42 +344,42 @@ kept_of (Some k) e is = (k, refl, ap (λ (z : EntryView). z.size) (sym (some_is 
 
 module _ {B : Type 0} {g : Ghosts B} (r mid : Rows B g) (now x q : ℕ) (bytes : List ℕ) (some : ∥ Stands r ∥₁) (accepted : piece_refusal (open_at r x) (length bytes) ≡ None) (grows : stored_by r x ≡ Some q) (before out : List Act) (stored : ℕ)
     (had : (k : Kept) → (shelf_of r.entries).kept q ≡ Some k → stored ≡ size k.cells)
-    (gives : (t : Tables) → MayMakeRoom t → RowsStand r t → GivesWay mid t now (giving_way r.limits t (write.Piece stored (length bytes))) before out) (mid_limits : mid.limits ≡ r.limits) (mid_last : mid.last_start ≡ r.last_start) (mid_exchanges : mid.exchanges ≡ r.exchanges) where
+    (gives : (lim : Limits) (t : Tables) → MayMakeRoom t → RowsStand lim r t → GivesWay lim mid t now (giving_way lim t (write.Piece stored (length bytes))) before out) (mid_last : mid.last_start ≡ r.last_start) (mid_exchanges : mid.exchanges ≡ r.exchanges) where
   pub kept_mid : is_kept (shelf_of mid.entries) q ≡ true
   kept_mid = merely_true (is_kept (shelf_of mid.entries) q) some (λ p.
       let t = p.t in
       let facts = p.facts in
       let stands = p.rows in
-      mid_kept r mid mid mid t facts stands now x q bytes (undenied_piece r t x bytes stands accepted) grows before out stored had (gives t (may_make_room t facts) stands) mid_limits mid_last mid_exchanges)
+      mid_kept r mid mid mid t facts stands now x q bytes (undenied_piece r t x bytes stands accepted) grows before out stored had (gives _ t (may_make_room t facts) stands) mid_last mid_exchanges)
 
   pub absent_mid : (o : Open) → (table_of mid.exchanges x).running ≡ Some o → AreAbsent (cells_at (shelf_of mid.entries) q) (o.base + o.delivered) (o.base + o.delivered + length bytes)
   absent_mid o running n low high = none_of (cells_at (shelf_of mid.entries) q n) (merely_false (is_some (cells_at (shelf_of mid.entries) q n)) some (λ p.
       let t = p.t in
       let facts = p.facts in
       let stands = p.rows in
-      ap (λ (e : Option Cell). is_some e) (mid_absent r mid mid mid t facts stands now x q bytes (undenied_piece r t x bytes stands accepted) grows before out stored had (gives t (may_make_room t facts) stands) mid_limits mid_last mid_exchanges o running n low high)))
+      ap (λ (e : Option Cell). is_some e) (mid_absent r mid mid mid t facts stands now x q bytes (undenied_piece r t x bytes stands accepted) grows before out stored had (gives _ t (may_make_room t facts) stands) mid_last mid_exchanges o running n low high)))
 
   pub answered_mid : (put u : Rows B g) → ((o : Open) → (table_of mid.exchanges x).running ≡ Some o → PutsPiece mid put x q o bytes)
       → (size_at (shelf_of mid.entries) q + length bytes ≤ (shelf_of mid.entries).limits.max_entry) × ((shelf_of mid.entries).used + length bytes ≤ (shelf_of mid.entries).limits.max_total)
-      → u.entries ≡ put.entries → u.limits ≡ mid.limits → u.last_start ≡ mid.last_start → u.consumers ≡ mid.consumers → u.keys ≡ mid.keys → exch.Becomes (known.with_piece bytes false) x mid.exchanges u.exchanges
+      → u.entries ≡ put.entries → u.last_start ≡ mid.last_start → u.consumers ≡ mid.consumers → u.keys ≡ mid.keys → exch.Becomes (known.with_piece bytes false) x mid.exchanges u.exchanges
       → Answers r u before out now (event.Piece x bytes)
-  answered_mid put u puts within entries limits last same_map same_keys becomes t facts stands goes =
-      let made = gives t (may_make_room t facts) stands in
-      let ran = runs r mid put u t facts stands now x q bytes goes grows before out stored had made mid_limits mid_last mid_exchanges in
-      store_answered r mid put u t facts stands now x q bytes goes grows before out stored had made mid_limits mid_last mid_exchanges (puts ran.o ran.running) within entries limits last same_map same_keys becomes
+  answered_mid put u puts within entries last same_map same_keys becomes lim t facts stands goes =
+      let made = gives _ t (may_make_room t facts) stands in
+      let ran = runs r mid put u t facts stands now x q bytes goes grows before out stored had made mid_last mid_exchanges in
+      store_answered r mid put u t facts stands now x q bytes goes grows before out stored had made mid_last mid_exchanges (puts ran.o ran.running) within entries last same_map same_keys becomes
 
   pub refused_mid : (put : Rows B g) (kind : LostKind) → shelf.Stays (shelf_of mid.entries) (shelf_of put.entries) → (shelf_of mid.entries).faults ≡ (shelf_of r.entries).faults
       → Refused (shelf_of mid.entries).limits (size_at (shelf_of mid.entries) q + length bytes) ((shelf_of mid.entries).used + length bytes) (shelf_of mid.entries).faults (shelf_of put.entries).faults kind
-      → put.limits ≡ mid.limits → put.last_start ≡ mid.last_start → put.consumers ≡ mid.consumers → put.exchanges ≡ mid.exchanges → put.keys ≡ mid.keys
-      → (t : Tables) → Facts r.limits t → RowsStand r t → denial t (event.Piece x bytes) ≡ None → Refuses r put t now x bytes kind before out
-  refused_mid put kind stays faulty why limits last same_map exchanges same_keys t facts stands goes =
-      refuses_it r mid put put t facts stands now x q bytes goes grows before out stored had (gives t (may_make_room t facts) stands) mid_limits mid_last mid_exchanges
-      kind stays faulty why limits last same_map exchanges same_keys
+      → put.last_start ≡ mid.last_start → put.consumers ≡ mid.consumers → put.exchanges ≡ mid.exchanges → put.keys ≡ mid.keys
+      → (lim : Limits) (t : Tables) → Facts lim t → RowsStand lim r t → denial t (event.Piece x bytes) ≡ None → Refuses lim r put t now x bytes kind before out
+  refused_mid put kind stays faulty why last same_map exchanges same_keys lim t facts stands goes =
+      refuses_it r mid put put t facts stands now x q bytes goes grows before out stored had (gives _ t (may_make_room t facts) stands) mid_last mid_exchanges
+      kind stays faulty why last same_map exchanges same_keys
 
   -- what stood there stands there, and what gives way behind it
   pub front_mid : take (length before) out ≡ before
   front_mid = ∥∥₁_elim some (acts_set (take (length before) out) before) (λ p.
       let t = p.t in
       let facts = p.facts in
-      let made = gives t (may_make_room t facts) p.rows in
-      ap (take (length before)) made.acts ∙ take-append_seam before (map act.Evicted (giving_way r.limits t (write.Piece stored (length bytes)))))
+      let made = gives _ t (may_make_room t facts) p.rows in
+      ap (take (length before)) made.acts ∙ take-append_seam before (map act.Evicted (giving_way p.limits t (write.Piece stored (length bytes)))))

@@ -251,7 +251,7 @@ module _ {B : Type 0} {g : Ghosts B} (mid u : Rows B g) (limits : Limits) (t : T
 
     -- THE ROWS
 
-    module _ (stands : RowsStand mid m) (same_limits : u.limits ≡ mid.limits) (last_start : u.last_start ≡ mid.last_start) (same_map : u.consumers ≡ mid.consumers) (same_keys : u.keys ≡ mid.keys)
+    module _ (stands : RowsStand limits mid m) (last_start : u.last_start ≡ mid.last_start) (same_map : u.consumers ≡ mid.consumers) (same_keys : u.keys ≡ mid.keys)
         (fills : shelf.Becomes (option_map (entry.kept_with_bytes (front w) x bytes last)) same_order (family x w) (shelf_of mid.entries) (shelf_of u.entries)) (becomes : exch.Becomes (known.with_piece bytes false) x mid.exchanges u.exchanges) where
       kept_here : (shelf_of u.entries).kept (family x w) ≡ option_map (entry.kept_with_bytes (front w) x bytes last) ((shelf_of mid.entries).kept (family x w))
       kept_here = fills.kept (family x w) ∙ rw (eqb-same (family x w)) refl
@@ -296,13 +296,13 @@ module _ {B : Type 0} {g : Ghosts B} (mid u : Rows B g) (limits : Limits) (t : T
       runs : Runs mid m x w
       runs = runs_of mid m x w stands row opened
 
-      pub stored_stands : RowsStand u after
+      pub stored_stands : RowsStand limits u after
       stored_stands =
           stands_pieced m now x w bytes vs row opened headed mid u stands (open_unended t facts.law x w row opened) like vs_else false runs.o runs.running
           last_start same_map same_keys becomes
           ((stands.exchanges x).held ∙ (ap (held_for m x) row ∙ (held_old ∙ sym held_new)))
           held_else
-          (fills.limits ∙ (stands.limits ∙ sym same_limits)) kept_else fills.order its
+          (fills.limits ∙ stands.limits) kept_else fills.order its
 
   -- THE TABLES
 
@@ -322,7 +322,7 @@ module _ {B : Type 0} {g : Ghosts B} (mid u : Rows B g) (limits : Limits) (t : T
   evicts_quietly [] = refl
   evicts_quietly (q ∷ qs) = evicts_quietly qs
 
-  pub stored_answered : (faults : ℕ) (before out : List Act) → evicted limits t now (event.Piece x bytes) ≡ es → has_room (room_for limits t now (event.Piece x bytes)) ≡ true → out ≡ before ++ map act.Evicted es → RowsStand u after → Answered limits faults u t before out now (event.Piece x bytes)
+  pub stored_answered : (faults : ℕ) (before out : List Act) → evicted limits t now (event.Piece x bytes) ≡ es → has_room (room_for limits t now (event.Piece x bytes)) ≡ true → out ≡ before ++ map act.Evicted es → RowsStand limits u after → Answered limits faults u t before out now (event.Piece x bytes)
   stored_answered faults before out gives room tells_them stands =
       let done = does.stored limits t facts.law now x bytes w row goes (family x w) v refl there fresh in
       record {
@@ -331,5 +331,5 @@ module _ {B : Type 0} {g : Ghosts B} (mid u : Rows B g) (limits : Limits) (t : T
         shown = ap flaw_in done.acts_are ∙ evicts_quietly (evicted limits t now (event.Piece x bytes));
         may = room;
         caused = λ is. false_true is;
-        rows = subst (RowsStand u) (sym (done.tables_are ∙ (ap (λ rs. with_event now (event.Piece x bytes) (let_all_go now rs (with_representation (family x w) (Some v2) (with_exchange x (Some (with_piece bytes w)) t)))) gives ∙ tables_are))) stands;
+        rows = subst (RowsStand limits u) (sym (done.tables_are ∙ (ap (λ rs. with_event now (event.Piece x bytes) (let_all_go now rs (with_representation (family x w) (Some v2) (with_exchange x (Some (with_piece bytes w)) t)))) gives ∙ tables_are))) stands;
       }

@@ -7,6 +7,7 @@ ghost use Rattle.hc_stored.specs.Entries.{shelf_of};
 ghost use Rattle.hc_model.specs.Effects.{let_go, let_some_go};
 ghost use Rattle.hc_model.specs.LettingGo.{MayMakeRoom, MayLetGo, giving_way};
 ghost use Rattle.hc_model.specs.Rows.{Tables};
+ghost use Rattle.hc_rules.specs.declared.room.Limits.{Limits};
 ghost use Rattle.hc_state.specs.Changes.{ChangesAmong, KeepsLive, over_if_passed};
 ghost use Rattle.hc_state.specs.Room.{HasActs, LeavesActs, room_for_write, GivesWay, Appends};
 ghost use Rattle.hc_state.specs.Stands.{RowsStand};
@@ -23,10 +24,9 @@ use std::collections::HashMap;
 
 /// A representation isn't used for new consumers any more: whoever waits for it starts over.
 pub(crate) fn let_go<B: Backend>(rows: &mut Rows<B>, now: u64, r: u64)
-    ensures stands { (t : Tables) → MayLetGo t → RowsStand rows.old t
-        → RowsStand rows.new (let_go now r t) }
+    ensures stands { (lim : Limits) (t : Tables) → MayLetGo t → RowsStand lim rows.old t
+        → RowsStand lim rows.new (let_go now r t) }
     ensures live { KeepsLive rows.old.consumers rows.new.consumers }
-    ensures limits { rows.new.limits ≡ rows.old.limits }
     ensures last_start { rows.new.last_start ≡ rows.old.last_start }
     ensures exchanges { rows.new.exchanges ≡ rows.old.exchanges }
     ensures faults { (shelf_of rows.new.entries).faults ≡ (shelf_of rows.old.entries).faults }
@@ -45,9 +45,8 @@ pub(crate) fn let_go<B: Backend>(rows: &mut Rows<B>, now: u64, r: u64)
 
 /// There is one, and it is let go.
 pub fn let_some_go<B: Backend>(rows: &mut Rows<B>, now: u64, r: Option<u64>)
-    ensures stands { (t : Tables) → MayLetGo t → RowsStand rows.old t
-        → RowsStand rows.new (let_some_go now r t) }
-    ensures limits { rows.new.limits ≡ rows.old.limits }
+    ensures stands { (lim : Limits) (t : Tables) → MayLetGo t → RowsStand lim rows.old t
+        → RowsStand lim rows.new (let_some_go now r t) }
     ensures last_start { rows.new.last_start ≡ rows.old.last_start }
     ensures exchanges { rows.new.exchanges ≡ rows.old.exchanges }
     ensures faults { (shelf_of rows.new.entries).faults ≡ (shelf_of rows.old.entries).faults }
@@ -60,12 +59,11 @@ pub fn let_some_go<B: Backend>(rows: &mut Rows<B>, now: u64, r: Option<u64>)
 /// Idle representations give way to a write, as few as make room for it, where that can be.
 pub fn make_room<B: Backend>(rows: &mut Rows<B>, now: u64, write: Write, out: &mut Acts)
     requires fits { HasActs (spare out.old) (room_for_write rows.old write) }
-    ensures gives { (t : Tables) → MayMakeRoom t → RowsStand rows.old t
-        → GivesWay rows.new t now (giving_way rows.old.limits t write)
+    ensures gives { (lim : Limits) (t : Tables) → MayMakeRoom t → RowsStand lim rows.old t
+        → GivesWay lim rows.new t now (giving_way lim t write)
         (act_list out.old) (act_list out.new) }
     ensures appends { Appends (act_list out.old) (act_list out.new) }
     ensures room { LeavesActs (spare out.old) (spare out.new) (room_for_write rows.old write) }
-    ensures limits { rows.new.limits ≡ rows.old.limits }
     ensures last_start { rows.new.last_start ≡ rows.old.last_start }
     ensures exchanges { rows.new.exchanges ≡ rows.old.exchanges }
     ensures faults { (shelf_of rows.new.entries).faults ≡ (shelf_of rows.old.entries).faults }

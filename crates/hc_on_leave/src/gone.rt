@@ -6,6 +6,7 @@ ghost use Rattle.hc_exch.specs.Exchanges.{next_of};
 ghost use Rattle.hc_model.specs.Effects.{with_consumer, as_over};
 ghost use Rattle.hc_model.specs.Lawful.{Lawful};
 ghost use Rattle.hc_model.specs.Rows.{Tables, Consumer};
+ghost use Rattle.hc_rules.specs.declared.room.Limits.{Limits};
 ghost use Rattle.hc_state.specs.Leaving.{LeavesKey, Forgets, IsUserAt, UnbindsAt, LeavesPlace};
 ghost use Rattle.hc_state.specs.Stands.{RowsStand, Stands};
 
@@ -21,9 +22,8 @@ use hc_text::Key;
 pub(crate) fn remove_consumer<B: Backend>(rows: &mut Rows<B>, c: u64)
     requires stands { ∥ Stands rows.old ∥₁ }
     requires live { is_some (get nat_eq rows.old.consumers c) ≡ true }
-    ensures stands { (t : Tables) (k : Consumer) → Lawful t → t.consumer c ≡ Some k
-        → RowsStand rows.old t → RowsStand rows.new (with_consumer c (Some (as_over k)) t) }
-    ensures limits { rows.new.limits ≡ rows.old.limits }
+    ensures stands { (lim : Limits) (t : Tables) (k : Consumer) → Lawful t → t.consumer c ≡ Some k
+        → RowsStand lim rows.old t → RowsStand lim rows.new (with_consumer c (Some (as_over k)) t) }
     ensures faults { (shelf_of rows.new.entries).faults ≡ (shelf_of rows.old.entries).faults }
 {
     leave_place(rows, c);

@@ -7,6 +7,7 @@ ghost use Rattle.hc_stored.specs.Entries.{shelf_of};
 ghost use Rattle.hc_exch.specs.Exchanges.{table_of};
 ghost use Rattle.hc_exch.specs.Known.{is_open};
 ghost use Rattle.hc_model.specs.Moves.{Ends, Fails};
+ghost use Rattle.hc_rules.specs.declared.room.Limits.{Limits};
 ghost use Rattle.hc_state.specs.Stands.{Answers, AnswersMove, Stands, RowsStand};
 ghost use Rattle.hc_state.specs.Arms.{IsDown, IsQueued, LeavesLine};
 ghost use Rattle.std.specs.List.{list_all};
@@ -34,7 +35,6 @@ pub fn cancel<B: Backend>(rows: &mut Rows<B>, now: u64, c: u64, out: &mut Acts)
     requires room { 2 ≤ spare out.old }
     ensures answers { Answers rows.old rows.new (act_list out.old) (act_list out.new)
         now (Cancel c) }
-    ensures limits { rows.new.limits ≡ rows.old.limits }
     ensures faults { (shelf_of rows.old.entries).faults ≤ (shelf_of rows.new.entries).faults }
 {
     leave(rows, now, c, out);
@@ -47,7 +47,6 @@ pub fn fail<B: Backend>(rows: &mut Rows<B>, now: u64, c: u64, cause: Cause, out:
     requires room { 3 ≤ spare out.old }
     ensures answers { (want : ℕ) → AnswersMove rows.old rows.new
         (act_list out.old) (act_list out.new) now c want (Fails cause) }
-    ensures limits { rows.new.limits ≡ rows.old.limits }
     ensures faults { (shelf_of rows.old.entries).faults ≤ (shelf_of rows.new.entries).faults }
 {
     put(out, Act::Failed { c, cause });
@@ -61,7 +60,6 @@ pub fn end_reading<B: Backend>(rows: &mut Rows<B>, now: u64, c: u64, out: &mut A
     requires room { 3 ≤ spare out.old }
     ensures answers { (want : ℕ) → AnswersMove rows.old rows.new
         (act_list out.old) (act_list out.new) now c want Ends }
-    ensures limits { rows.new.limits ≡ rows.old.limits }
     ensures faults { (shelf_of rows.old.entries).faults ≤ (shelf_of rows.new.entries).faults }
 {
     put(out, Act::Ended { c });
@@ -75,7 +73,6 @@ pub fn fail_down<B: Backend>(rows: &mut Rows<B>, now: u64, c: u64, cause: Cause,
     requires room { 3 ≤ spare out.old }
     ensures answers { (want : ℕ)
         → Answers rows.old rows.new (act_list out.old) (act_list out.new) now (Poll c want) }
-    ensures limits { rows.new.limits ≡ rows.old.limits }
     ensures faults { (shelf_of rows.old.entries).faults ≤ (shelf_of rows.new.entries).faults }
 {
     fail(rows, now, c, cause, out);
@@ -97,11 +94,10 @@ fn leave<B: Backend>(rows: &mut Rows<B>, now: u64, c: u64, out: &mut Acts)
     requires stands { ∥ Stands rows.old ∥₁ }
     requires live { is_some (get nat_eq rows.old.consumers c) ≡ true }
     requires room { 2 ≤ spare out.old }
-    ensures left { (t : Tables) (k : Consumer) → Facts rows.old.limits t
-        → RowsStand rows.old t → t.consumer c ≡ Some k
-        → HasLeft (shelf_of rows.old.entries).faults rows.new t
+    ensures left { (lim : Limits) (t : Tables) (k : Consumer) → Facts lim t
+        → RowsStand lim rows.old t → t.consumer c ≡ Some k
+        → HasLeft lim (shelf_of rows.old.entries).faults rows.new t
         (act_list out.old) (act_list out.new) now c k }
-    ensures limits { rows.new.limits ≡ rows.old.limits }
     ensures faults { (shelf_of rows.old.entries).faults ≤ (shelf_of rows.new.entries).faults }
 {
     match left_by(rows, c) {
@@ -164,13 +160,12 @@ fn close_left<B: Backend>(rows: &mut Rows<B>, now: u64, x: u64, alone: Option<u6
     requires running { is_open x (table_of rows.old.exchanges) ≡ true }
     requires short { TellsShort (shelf_of rows.old.entries) }
     requires room { 2 ≤ spare out.old }
-    ensures left { (t : Tables) (c : ℕ) (k : Consumer) → Facts rows.old.limits t
+    ensures left { (lim : Limits) (t : Tables) (c : ℕ) (k : Consumer) → Facts lim t
         → t.consumer c ≡ Some k → left_by t c k ≡ Some x
         → alone ≡ (if is_number k.own x then Some c else None)
-        → RowsStand rows.old (with_consumer c (Some (as_over k)) t)
-        → HasLeft (shelf_of rows.old.entries).faults rows.new t
+        → RowsStand lim rows.old (with_consumer c (Some (as_over k)) t)
+        → HasLeft lim (shelf_of rows.old.entries).faults rows.new t
         (act_list out.old) (act_list out.new) now c k }
-    ensures limits { rows.new.limits ≡ rows.old.limits }
     ensures faults { (shelf_of rows.old.entries).faults ≤ (shelf_of rows.new.entries).faults }
 {
     put(out, Act::Close { x });

@@ -8,6 +8,7 @@ ghost use Rattle.hc_stored.specs.Shelf.{is_kept};
 ghost use Rattle.hc_exch.specs.Exchanges.{table_of};
 ghost use Rattle.hc_exch.specs.Known.{is_open};
 ghost use Rattle.hc_model.specs.Rows.{Tables, Representation};
+ghost use Rattle.hc_rules.specs.declared.room.Limits.{Limits};
 ghost use Rattle.hc_state.specs.DetachedReaders.{detached_reader_of, stands_at, MayLoseShared, LosesShared, LosesWriting};
 ghost use Rattle.hc_state.specs.Stands.{RowsStand};
 ghost use Rattle.hc_event.specs.declared.act.LostKind.{LostKind};
@@ -35,13 +36,12 @@ pub fn lose_shared<B: Backend>(
 ) -> Option<u64>
     requires there { is_kept (shelf_of rows.old.entries) r ≡ true }
     requires room { 1 ≤ spare out.old }
-    ensures lost { (t : Tables) (v : Representation) → MayLoseShared t r x v
-        → RowsStand rows.old t → LosesShared rows.new t now r x v result }
+    ensures lost { (lim : Limits) (t : Tables) (v : Representation) → MayLoseShared t r x v
+        → RowsStand lim rows.old t → LosesShared lim rows.new t now r x v result }
     ensures acts { act_list out.new ≡ act_list out.old ++ act.Lost r kind ∷ [] }
     ensures room { spare out.new + 1 ≡ spare out.old }
     ensures exchanges { rows.new.exchanges ≡ rows.old.exchanges }
     ensures last_start { rows.new.last_start ≡ rows.old.last_start }
-    ensures limits { rows.new.limits ≡ rows.old.limits }
     ensures faults { (shelf_of rows.new.entries).faults ≡ (shelf_of rows.old.entries).faults }
 {
     let detached_reader = detached_reader(rows, r);
@@ -69,10 +69,9 @@ pub fn lose_writing<B: Backend>(
     requires there { is_kept (shelf_of rows.old.entries) r ≡ true }
     requires running { is_open x (table_of rows.old.exchanges) ≡ true }
     requires room { 2 ≤ spare out.old }
-    ensures lost { (t : Tables) (v : Representation) → MayLoseShared t r x v
-        → RowsStand rows.old t
-        → LosesWriting rows.new t (act_list out.old) (act_list out.new) now r x v kind }
-    ensures limits { rows.new.limits ≡ rows.old.limits }
+    ensures lost { (lim : Limits) (t : Tables) (v : Representation) → MayLoseShared t r x v
+        → RowsStand lim rows.old t
+        → LosesWriting lim rows.new t (act_list out.old) (act_list out.new) now r x v kind }
     ensures faults { (shelf_of rows.new.entries).faults ≡ (shelf_of rows.old.entries).faults }
 {
     if lose_shared(rows, now, r, x, kind, out).is_none() {

@@ -34,7 +34,6 @@ pub fn misread_by<B: Backend>(
     ensures memory { OnErr result (error ≡ errors.NoMemory) }
     ensures answers { OnOk result (AnswersMisread rows.old rows.new
         (act_list out.old) (act_list out.new) now c r) }
-    ensures limits { OnOk result (rows.new.limits ≡ rows.old.limits) }
     ensures faults { (shelf_of rows.new.entries).faults ≡ (shelf_of rows.old.entries).faults }
     ensures kept { OnErr result (act_list out.new ≡ act_list out.old) }
 {
@@ -55,7 +54,6 @@ pub(crate) fn misread<B: Backend>(rows: &mut Rows<B>, now: u64, c: u64, r: u64, 
     requires room { 2 ≤ spare out.old }
     ensures answers { AnswersMisread rows.old rows.new (act_list out.old) (act_list out.new)
         now c r }
-    ensures limits { rows.new.limits ≡ rows.old.limits }
     ensures faults { (shelf_of rows.new.entries).faults ≡ (shelf_of rows.old.entries).faults }
 {
     let cause = Cause::StoreRead(r);

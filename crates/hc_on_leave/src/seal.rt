@@ -10,6 +10,7 @@ ghost use Rattle.hc_model.specs.Effects.{with_representation, let_go, lost_to};
 ghost use Rattle.hc_model.specs.Kinds.{is_complete, is_front};
 ghost use Rattle.hc_model.specs.LettingGo.{MayLetGo};
 ghost use Rattle.hc_model.specs.Rows.{Tables, Consumer, Representation};
+ghost use Rattle.hc_rules.specs.declared.room.Limits.{Limits};
 ghost use Rattle.hc_state.specs.Changes.{KeepsLive};
 ghost use Rattle.hc_state.specs.Facts.{Facts};
 ghost use Rattle.hc_state.specs.declared.stop.Stop.TheVariants as stop;
@@ -69,11 +70,10 @@ pub fn stop_bringing<B: Backend>(
     requires running { is_open x (table_of rows.old.exchanges) ≡ true }
     requires short { TellsShort (shelf_of rows.old.entries) }
     requires room { 1 ≤ spare out.old }
-    ensures stopped { (t : Tables) (f : ℕ → Option Consumer) → Facts rows.old.limits t
-        → MayStop t f x alone → RowsStand rows.old (with_consumers f t)
-        → HasStopped (shelf_of rows.old.entries).faults rows.new t f
+    ensures stopped { (lim : Limits) (t : Tables) (f : ℕ → Option Consumer) → Facts lim t
+        → MayStop t f x alone → RowsStand lim rows.old (with_consumers f t)
+        → HasStopped lim (shelf_of rows.old.entries).faults rows.new t f
         (act_list out.old) (act_list out.new) now x }
-    ensures limits { rows.new.limits ≡ rows.old.limits }
     ensures faults { (shelf_of rows.old.entries).faults ≤ (shelf_of rows.new.entries).faults }
 {
     match stop_of(rows, x) {
@@ -99,13 +99,12 @@ fn seal_stopped<B: Backend>(
     requires there { is_kept (shelf_of rows.old.entries) r ≡ true }
     requires short { TellsShort (shelf_of rows.old.entries) }
     requires room { 1 ≤ spare out.old }
-    ensures stopped { (t : Tables) (f : ℕ → Option Consumer) → Facts rows.old.limits t
-        → MayStop t f x alone → RowsStand rows.old (with_consumers f t)
+    ensures stopped { (lim : Limits) (t : Tables) (f : ℕ → Option Consumer) → Facts lim t
+        → MayStop t f x alone → RowsStand lim rows.old (with_consumers f t)
         → stop_of x (table_of rows.old.exchanges x).running (shelf_of rows.old.entries)
         ≡ stop.Seal r
-        → HasStopped (shelf_of rows.old.entries).faults rows.new t f
+        → HasStopped lim (shelf_of rows.old.entries).faults rows.new t f
         (act_list out.old) (act_list out.new) now x }
-    ensures limits { rows.new.limits ≡ rows.old.limits }
     ensures faults { (shelf_of rows.old.entries).faults ≤ (shelf_of rows.new.entries).faults }
 {
     let entry = rows.entries.entry(r).unwrap();
@@ -173,17 +172,16 @@ pub fn lose_to<B: Backend>(
 )
     requires there { is_kept (shelf_of rows.old.entries) r ≡ true }
     requires room { 1 ≤ spare out.old }
-    ensures lost { (t : Tables) (v : Representation) → MayLetGo t
+    ensures lost { (lim : Limits) (t : Tables) (v : Representation) → MayLetGo t
         → t.representation r ≡ Some v → v.alone ≡ None → HoldsNothing t r v alone
-        → RowsStand rows.old t
-        → RowsStand rows.new
+        → RowsStand lim rows.old t
+        → RowsStand lim rows.new
         (let_go now r (with_representation r (Some (lost_to alone v)) t)) }
     ensures acts { act_list out.new ≡ act_list out.old ++ act.Lost r kind ∷ [] }
     ensures room { spare out.new + 1 ≡ spare out.old }
     ensures live { KeepsLive rows.old.consumers rows.new.consumers }
     ensures last_start { rows.new.last_start ≡ rows.old.last_start }
     ensures exchanges { rows.new.exchanges ≡ rows.old.exchanges }
-    ensures limits { rows.new.limits ≡ rows.old.limits }
     ensures faults { (shelf_of rows.new.entries).faults ≡ (shelf_of rows.old.entries).faults }
 {
     put(out, Act::Lost { r, kind });

@@ -2,6 +2,7 @@
 use Rattle.std.proofs.Common.{◌≡◌, ◌≢◌, inl, inr, ℕ, ◌+◌, ◌-◌, [], length, Bool, true, false, Option, Some, None, refl, ap, sym, ◌∙◌, subst}
 use Rattle.std.specs.Prelude.{nat_eq, bytes_eq, drop, option_map, ◌&&◌, if◌then◌else◌}
 use Rattle.std.specs.HashMap.{get, hash_map_len}
+use Rattle.hc_rules.specs.declared.room.Limits.{Limits}
 use Rattle.hc_store.specs.declared.backend.Backend.{Ghosts}
 use Rattle.hc_event.specs.declared.event.Response.{Response}
 use Rattle.hc_stored.specs.Entries.{shelf_of}
@@ -204,10 +205,10 @@ module _ (t : Tables) (x : ℕ) where
 
 -- ALL OF IT
 
-pub stands_asked : {B : Type 0} {g : Ghosts B} (r u : Rows B g) (t : Tables) (x : ℕ) → RowsStand r t → u.limits ≡ r.limits → u.last_start ≡ r.last_start → u.consumers ≡ r.consumers → u.keys ≡ r.keys
-    → exch.Becomes known.with_asking x r.exchanges u.exchanges → shelf.Stays (shelf_of r.entries) (shelf_of u.entries) → RowsStand u (with_ask x t)
-stands_asked r u t x stands limits last consumers keys becomes read = record {
-  limits = read.limits ∙ (stands.limits ∙ sym limits);
+pub stands_asked : {B : Type 0} {g : Ghosts B} {lim : Limits} (r u : Rows B g) (t : Tables) (x : ℕ) → RowsStand lim r t → u.last_start ≡ r.last_start → u.consumers ≡ r.consumers → u.keys ≡ r.keys
+    → exch.Becomes known.with_asking x r.exchanges u.exchanges → shelf.Stays (shelf_of r.entries) (shelf_of u.entries) → RowsStand lim u (with_ask x t)
+stands_asked r u t x stands last consumers keys becomes read = record {
+  limits = read.limits ∙ stands.limits;
   last_start = last ∙ stands.last_start;
   next = becomes.next ∙ stands.next;
   count = ap (λ z. hash_map_len z) consumers ∙ stands.count;
@@ -233,10 +234,10 @@ asked_is z on = by_running z.running refl
     by_running (Some o) is = let asked : o.asked ≡ true = rw is at on in rw (is, asked) refl
 
 -- they are asked for once
-pub stands_asked_already : {B : Type 0} {g : Ghosts B} (r u : Rows B g) (t : Tables) (x : ℕ) → RowsStand r t → asked_in (table_of r.exchanges x).running ≡ true → u.limits ≡ r.limits → u.last_start ≡ r.last_start → u.consumers ≡ r.consumers → u.keys ≡ r.keys
-    → exch.Becomes known.with_asking x r.exchanges u.exchanges → shelf.Stays (shelf_of r.entries) (shelf_of u.entries) → RowsStand u t
-stands_asked_already r u t x stands on limits last consumers keys becomes read = record {
-  limits = read.limits ∙ (stands.limits ∙ sym limits);
+pub stands_asked_already : {B : Type 0} {g : Ghosts B} {lim : Limits} (r u : Rows B g) (t : Tables) (x : ℕ) → RowsStand lim r t → asked_in (table_of r.exchanges x).running ≡ true → u.last_start ≡ r.last_start → u.consumers ≡ r.consumers → u.keys ≡ r.keys
+    → exch.Becomes known.with_asking x r.exchanges u.exchanges → shelf.Stays (shelf_of r.entries) (shelf_of u.entries) → RowsStand lim u t
+stands_asked_already r u t x stands on last consumers keys becomes read = record {
+  limits = read.limits ∙ stands.limits;
   last_start = last ∙ stands.last_start;
   next = becomes.next ∙ stands.next;
   count = ap (λ z. hash_map_len z) consumers ∙ stands.count;

@@ -58,7 +58,7 @@ use Rattle.hc_state.proofs.Ties.{exchange_same, key_same}
 use Rattle.hc_state.proofs.Words.{same_or, eqb-same, eqb-other, some_is}
 use Rattle.std.proofs.Common.{inl, inr}
 
-module _ {B : Type 0} {g : Ghosts B} (r mid : Rows B g) (a : Entries B g) (m : Numbered Consumer) (t : Tables) (law : Lawful t) (c q lo : ℕ) (hi : Option ℕ) (k : Consumer) (v : rows.Consumer) (stands : RowsStand r t) (there : get nat_eq r.consumers c ≡ Some k) (row : t.consumer c ≡ Some v) (idle : is_idle_at k.place ≡ true)
+module _ {B : Type 0} {g : Ghosts B} {lim : Limits} (r mid : Rows B g) (a : Entries B g) (m : Numbered Consumer) (t : Tables) (law : Lawful t) (c q lo : ℕ) (hi : Option ℕ) (k : Consumer) (v : rows.Consumer) (stands : RowsStand lim r t) (there : get nat_eq r.consumers c ≡ Some k) (row : t.consumer c ≡ Some v) (idle : is_idle_at k.place ≡ true)
     (now_is : HasCurrent r.keys q k) (ends : hi ≡ option_or hi (total_in (t.representation q))) (leaves : LeavesLine (record r { entries = a }) mid c) (binds : shelf.Becomes (option_map (with_user c)) (moved_first q) q (shelf_of r.entries) (shelf_of a)) (changes : ChangesAt mid.consumers m c (bound_shown q lo hi)) where
   abbrev u : Rows B g
   u = record mid { consumers = m }
@@ -125,14 +125,14 @@ module _ {B : Type 0} {g : Ghosts B} (r mid : Rows B g) (a : Entries B g) (m : N
   unfolding kind_of
   kinds n b at = refl
 
-  shelf_limits : (shelf_of mid.entries).limits ≡ mid.limits
-  shelf_limits = ap (λ (e : Entries B g). (shelf_of e).limits) leaves.entries ∙ (binds.limits ∙ (stands.limits ∙ sym leaves.limits))
+  shelf_limits : (shelf_of mid.entries).limits ≡ lim
+  shelf_limits = ap (λ (e : Entries B g). (shelf_of e).limits) leaves.entries ∙ (binds.limits ∙ stands.limits)
 
-  pub stands_bound : RowsStand u s
+  pub stands_bound : RowsStand lim u s
   stands_bound =
       let now = now_kept r t stands v.request.key q at_q in
       let reads_none = idle_reads v.place v_idle in
-      stands_then r u t s c x (Some (bound_shown q lo hi k)) stands (leaves.limits) (leaves.last_start ∙ stands.last_start) (ap next_of leaves.exchanges ∙ stands.next)
+      stands_then r u t s c x (Some (bound_shown q lo hi k)) stands (leaves.last_start ∙ stands.last_start) (ap next_of leaves.exchanges ∙ stands.next)
       (length_same r u t c v (bound_shown q lo hi k) stands row (idle_lives v.place v_idle) (becomes_by r.consumers m c k (bound_shown q lo hi) there changed) ∙ (stands.count ∙ sym (live_same t s refl live_each)))
       (becomes_by r.consumers m c k (bound_shown q lo hi) there changed) (λ y ne. ap (λ e. table_of e y) leaves.exchanges) others (λ y ne. refl) (λ n. refl) (subst (KeepsConsumer s (Some (bound_shown q lo hi k))) (sym here) bound_kept)
       (subst (λ e. KeepsExchange s x (table_of e x)) (sym leaves.exchanges) (exchange_same t s x (table_of r.exchanges x) (record { row = refl; brings = λ z at. refl; held = held_row x (t.exchange x) }) (stands.exchanges x)))
@@ -171,7 +171,7 @@ part_ends row head None hi to same = by_known hi (to ∙ same)
 part_ends row head (Some span) hi to same = rw to refl
 
 -- the length that is stored of what is current is the one that the tables have
-pub current_total : {B : Type 0} {g : Ghosts B} (r : Rows B g) (t : Tables) (key : List ℕ) (q : ℕ) (head : Head) → RowsStand r t → current t key ≡ Some q → shelf.head_at (shelf_of r.entries) q ≡ Some head → head.total ≡ total_in (t.representation q)
+pub current_total : {B : Type 0} {g : Ghosts B} {lim : Limits} (r : Rows B g) (t : Tables) (key : List ℕ) (q : ℕ) (head : Head) → RowsStand lim r t → current t key ≡ Some q → shelf.head_at (shelf_of r.entries) q ≡ Some head → head.total ≡ total_in (t.representation q)
 current_total r t key q head stands at is =
     let now = now_kept r t stands key q at in
     let same = some_is now.e.head head (sym (ap (option_map (λ (e : Kept). e.head)) now.kept) ∙ is) in

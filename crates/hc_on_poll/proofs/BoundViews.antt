@@ -3,6 +3,7 @@ use Rattle.std.proofs.Common.{◌≡◌, ◌⊎◌, inl, inr, ℕ, zero, suc, �
 use Rattle.std.proofs.lemmas.Bool.Decides.{nat_tests}
 use Rattle.std.specs.Prelude.{is_some, is_none, nat_eq, nat_lt, option_and_then, ◌&&◌, if◌then◌else◌}
 use Rattle.std.specs.Option.{option_or}
+use Rattle.hc_rules.specs.declared.room.Limits.{Limits}
 use Rattle.hc_store.specs.declared.backend.Backend.{Ghosts}
 use Rattle.hc_sparse.specs.Cells.{Cells, Cell, EndsBy, IsNext, AreAbsent}
 use Rattle.hc_sparse.specs.Stretch.{stretch, stretch_of}
@@ -94,7 +95,7 @@ next_as f h reach p (Some n) ends same it = next_is f reach p ends (Some n) (it.
 
 -- WHAT IS HELD
 
-module _ {B : Type 0} {g : Ghosts B} (r : Rows B g) (t : Tables) (facts : Facts r.limits t) (stands : RowsStand r t) (c q : ℕ) (how : BoundBy) (k : Consumer) (rd : IsBoundRow t c q how k) where
+module _ {B : Type 0} {g : Ghosts B} {lim : Limits} (r : Rows B g) (t : Tables) (facts : Facts lim t) (stands : RowsStand lim r t) (c q : ℕ) (how : BoundBy) (k : Consumer) (rd : IsBoundRow t c q how k) where
   -- what is stored ends where all of it does
   pub stored_ends : EndsBy rd.p.reach rd.p.stored
   stored_ends n le = by_cell (rd.p.stored n) refl
@@ -225,7 +226,7 @@ pub record Holds {B : Type 0} {g : Ghosts B} (r : Rows B g) (t : Tables) (c q : 
 
 -- WHAT IS LOOKED AT
 
-module _ {B : Type 0} {g : Ghosts B} (r : Rows B g) (t : Tables) (facts : Facts r.limits t) (stands : RowsStand r t) (c q : ℕ) (how : BoundBy) (k : Consumer) (rd : IsBoundRow t c q how k) where
+module _ {B : Type 0} {g : Ghosts B} {lim : Limits} (r : Rows B g) (t : Tables) (facts : Facts lim t) (stands : RowsStand lim r t) (c q : ℕ) (how : BoundBy) (k : Consumer) (rd : IsBoundRow t c q how k) where
   abbrev o : ℕ
   o = k.lo + k.given
 

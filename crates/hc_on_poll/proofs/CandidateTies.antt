@@ -7,6 +7,7 @@ use Rattle.std.specs.Char.{is_ascii_digit}
 use Rattle.std.specs.List.{list_all}
 use Rattle.std.proofs.lemmas.Bool.Decides.{nat_tests}
 use Rattle.std.specs.Prelude.{codes, nat_lt, not, slice_get, ◌&&◌, if◌then◌else◌}
+use Rattle.hc_rules.specs.declared.room.Limits.{Limits}
 use Rattle.hc_cachectl.specs.Directives.{of_request, of_response}
 use Rattle.hc_cachectl.specs.Seconds.{plain_seconds, most_seconds}
 use Rattle.hc_fields.specs.FirstValues.{first_value}
@@ -187,7 +188,7 @@ written_as t p = by_writer p.writer refl
 
 -- ALL OF IT
 
-module _ {B : Type 0} {g : Ghosts B} (r : Rows B g) (t : Tables) (facts : Facts r.limits t) (stands : RowsStand r t) (now q : ℕ) (k : Consumer) (v : rows.Consumer) (is_kept : IsKept t k v) (p : Representation) (here : t.representation q ≡ Some p) (stays : p.is_gone ≡ false)
+module _ {B : Type 0} {g : Ghosts B} {lim : Limits} (r : Rows B g) (t : Tables) (facts : Facts lim t) (stands : RowsStand lim r t) (now q : ℕ) (k : Consumer) (v : rows.Consumer) (is_kept : IsKept t k v) (p : Representation) (here : t.representation q ≡ Some p) (stays : p.is_gone ≡ false)
     (e : Kept) (kept : (shelf_of r.entries).kept q ≡ Some e) where
   is : IsEntry t q e p
   is = entry_at r t stands q e kept p here

@@ -87,8 +87,8 @@ in_first : (a b d : Bool) → a ≡ true → (a || b || d) ≡ true
 in_first true b d on = refl
 in_first false b d on = false_true on
 
-module _ {B : Type 0} {g : Ghosts B} (r mid : Rows B g) (t : Tables) (c : ℕ) (k : Consumer) (v : rows.Consumer) (stands : RowsStand r t) (row : t.consumer c ≡ Some v) (kept : IsKept t k v) (idle : is_idle_at k.place ≡ true)
-    (lined_up_too : RowsStand mid (with_consumer c (Some (in_line v)) t)) (next : IsNext r.keys c k) where
+module _ {B : Type 0} {g : Ghosts B} {lim : Limits} (r mid : Rows B g) (t : Tables) (c : ℕ) (k : Consumer) (v : rows.Consumer) (stands : RowsStand lim r t) (row : t.consumer c ≡ Some v) (kept : IsKept t k v) (idle : is_idle_at k.place ≡ true)
+    (lined_up_too : RowsStand lim mid (with_consumer c (Some (in_line v)) t)) (next : IsNext r.keys c k) where
   abbrev its : List ℕ
   its = v.request.key
 
@@ -170,7 +170,7 @@ module _ {B : Type 0} {g : Ghosts B} (r mid : Rows B g) (t : Tables) (c : ℕ) (
         ]
 
 -- it may hold the turn
-module _ {B : Type 0} {g : Ghosts B} (r mid : Rows B g) (t : Tables) (law : Lawful t) (c : ℕ) (request : Request) (k : Consumer) (stands : RowsStand r t) (there : get nat_eq r.consumers c ≡ Some k) (idle : is_idle_at k.place ≡ true) (next : IsNext r.keys c k) (key_is : request.key ≡ k.request.key) (lines_up : StandsInLine r mid c) where
+module _ {B : Type 0} {g : Ghosts B} {lim : Limits} (r mid : Rows B g) (t : Tables) (law : Lawful t) (c : ℕ) (request : Request) (k : Consumer) (stands : RowsStand lim r t) (there : get nat_eq r.consumers c ≡ Some k) (idle : is_idle_at k.place ≡ true) (next : IsNext r.keys c k) (key_is : request.key ≡ k.request.key) (lines_up : StandsInLine r mid c) where
   found : (v : rows.Consumer) × (t.consumer c ≡ Some v) × IsKept t k v
   found = kept_row t k (t.consumer c) (subst (λ o. KeepsConsumer t o (t.consumer c)) there (stands.consumers c))
 
@@ -180,8 +180,8 @@ module _ {B : Type 0} {g : Ghosts B} (r mid : Rows B g) (t : Tables) (law : Lawf
   its_key : v.request.key ≡ request.key
   its_key = sym (key_is ∙ ap (λ (z : Request). z.key) found.2.request)
 
-  queued : RowsStand mid (with_consumer c (Some (in_line v)) t)
-  queued = lines_up t v law stands found.1
+  queued : RowsStand lim mid (with_consumer c (Some (in_line v)) t)
+  queued = lines_up _ t v law stands found.1
 
   pub holds_inside : is_in c (line_of mid.keys request.key) ≡ true
   holds_inside = subst (λ (key : List ℕ). is_in c (line_of mid.keys key) ≡ true) its_key (stands_in r mid t c k v stands found.1 found.2 idle queued next)
@@ -191,9 +191,9 @@ module _ {B : Type 0} {g : Ghosts B} (r mid : Rows B g) (t : Tables) (law : Lawf
 
 -- ALL OF IT
 
-module _ {B : Type 0} {g : Ghosts B} (r mid : Rows B g) (e : Exchanges) (b : KeyTable) (m : Numbered Consumer) (t : Tables) (law : Lawful t) (now c x : ℕ) (n : Need) (request : Request) (aim : Option ℕ) (k : Consumer) (v : rows.Consumer) (stands : RowsStand r t) (there : get nat_eq r.consumers c ≡ Some k) (row : t.consumer c ≡ Some v) (idle : is_idle_at k.place ≡ true)
+module _ {B : Type 0} {g : Ghosts B} {lim : Limits} (r mid : Rows B g) (e : Exchanges) (b : KeyTable) (m : Numbered Consumer) (t : Tables) (law : Lawful t) (now c x : ℕ) (n : Need) (request : Request) (aim : Option ℕ) (k : Consumer) (v : rows.Consumer) (stands : RowsStand lim r t) (there : get nat_eq r.consumers c ≡ Some k) (row : t.consumer c ≡ Some v) (idle : is_idle_at k.place ≡ true)
     (next : IsNext r.keys c k) (turns : route_of n ≡ route.Turn) (key_is : request.key ≡ k.request.key) (x_is : x ≡ next_of r.exchanges) (aim_is : aim ≡ (kept_of r.keys request.key).current)
-    (lines_up : StandsInLine r mid c) (first : ChangesAt r.consumers mid.consumers c lined_up) (limits : mid.limits ≡ r.limits) (last : mid.last_start ≡ r.last_start) (same_entries : mid.entries ≡ r.entries) (same_exchanges : mid.exchanges ≡ r.exchanges)
+    (lines_up : StandsInLine r mid c) (first : ChangesAt r.consumers mid.consumers c lined_up) (last : mid.last_start ≡ r.last_start) (same_entries : mid.entries ≡ r.entries) (same_exchanges : mid.exchanges ≡ r.exchanges)
     (next_is : next_of e ≡ next_of mid.exchanges + 1) (launches : Changes (with_new_exchange c (role.Turn aim) n request now) (next_of mid.exchanges) (table_of mid.exchanges) (table_of e))
     (held : keys.Becomes (on_line (held_by c)) request.key mid.keys b) (second : ChangesAt mid.consumers m c (with_turn x)) where
   abbrev u : Rows B g
@@ -222,17 +222,17 @@ module _ {B : Type 0} {g : Ghosts B} (r mid : Rows B g) (e : Exchanges) (b : Key
       subst (λ (y : ℕ). Changes (with_new_exchange c (role.Turn aim) n request now) y (table_of r.exchanges) (table_of e)) (sym x_is)
       (subst (λ (a : Exchanges). Changes (with_new_exchange c (role.Turn aim) n request now) (next_of a) (table_of a) (table_of e)) same_exchanges launches)
 
-  pub stands_turned : RowsStand u (tables_in_turn now c x n request v t)
+  pub stands_turned : RowsStand lim u (tables_in_turn now c x n request v t)
   stands_turned =
       stands_opened r u t law now c x n request request (current t v.request.key) (role.Turn aim) k v (place.Turn x) stands there row (idle_reads v.place idle_it) (idle_lives v.place idle_it) waiting.turned is_next
-      limits last same_entries (next_is ∙ ap (λ (a : Exchanges). next_of a + 1) same_exchanges) launched_then (becomes_then r.consumers mid.consumers m c k lined_up (with_turn x) there first second) refl (rw turns (ap role.Turn aimed))
+      last same_entries (next_is ∙ ap (λ (a : Exchanges). next_of a + 1) same_exchanges) launched_then (becomes_then r.consumers mid.consumers m c k lined_up (with_turn x) there first second) refl (rw turns (ap role.Turn aimed))
       (λ key. key_opened t law c x it (just_opened now c n request (current t v.request.key)) (law.sound.numbered.lists.new_exchanges x (let above = is_next in omega (arith, above))) waiting.turned key (kept_of b key)
-      (keys_turned r mid t c k v stands row kept_it idle (lines_up t v law stands row) next x b (subst (λ (key : List ℕ). keys.Becomes (on_line (held_by c)) key mid.keys b) asked_key held) key))
+      (keys_turned r mid t c k v stands row kept_it idle (lines_up _ t v law stands row) next x b (subst (λ (key : List ℕ). keys.Becomes (on_line (held_by c)) key mid.keys b) asked_key held) key))
 
 -- THE ANSWERS
 
 module _ {B : Type 0} {g : Ghosts B} (limits : Limits) (faults : ℕ) (u : Rows B g) (t : Tables) (law : Lawful t) (now c want x : ℕ) (v : rows.Consumer) (row : t.consumer c ≡ Some v) (request : Request) (before out : List Act) where
-  pub fetch_answered : (n : Need) → route_of n ≡ route.Turn → n ≢ need.Bypass → move_of t now want c v ≡ Opens x n request → out ≡ before ++ acts_of c (Opens x n request) → RowsStand u (tables_in_turn now c x n request v t) → Answered limits faults u t before out now (event.Poll c want)
+  pub fetch_answered : (n : Need) → route_of n ≡ route.Turn → n ≢ need.Bypass → move_of t now want c v ≡ Opens x n request → out ≡ before ++ acts_of c (Opens x n request) → RowsStand limits u (tables_in_turn now c x n request v t) → Answered limits faults u t before out now (event.Poll c want)
   fetch_answered n turns other is told stands =
       does_answered limits faults u t (with_event now (event.Poll c want) (tables_in_turn now c x n request v t)) before out (acts_of c (Opens x n request)) now (event.Poll c want)
       (fetches limits t law now c want v row x n request is turns other) refl refl told (stands_counted u (tables_in_turn now c x n request v t) now (event.Poll c want) refl stands)
@@ -243,21 +243,21 @@ module _ {B : Type 0} {g : Ghosts B} (limits : Limits) (faults : ℕ) (u : Rows 
       let z : Exchange = just_opened now c n request (current t v.request.key) in
       may_with (with_opening x z t) c v (record v { own = Some x; place = place.Turn x }) row refl (may_opened t x z (may_let_go t law))
 
-  pub bypass_answered : move_of t now want c v ≡ Opens x need.Bypass request → out ≡ before ++ acts_of c (Opens x need.Bypass request) → RowsStand u (let_some_go now (current t v.request.key) (tables_in_turn now c x need.Bypass request v t)) → Answered limits faults u t before out now (event.Poll c want)
+  pub bypass_answered : move_of t now want c v ≡ Opens x need.Bypass request → out ≡ before ++ acts_of c (Opens x need.Bypass request) → RowsStand limits u (let_some_go now (current t v.request.key) (tables_in_turn now c x need.Bypass request v t)) → Answered limits faults u t before out now (event.Poll c want)
   bypass_answered is told stands =
       let s : Tables = let_some_go now (current t v.request.key) (tables_in_turn now c x need.Bypass request v t) in
       does_answered limits faults u t (with_event now (event.Poll c want) s) before out (acts_of c (Opens x need.Bypass request)) now (event.Poll c want)
       (bypasses limits t law now c want v row x request is) refl refl told (stands_counted u s now (event.Poll c want) refl stands)
 
 -- a consumer bypasses what is stored with its own request, and what was current is let go
-pub bypassed : {B : Type 0} {g : Ghosts B} (r mid u : Rows B g) (t : Tables) (facts : Facts r.limits t) (now c want x : ℕ) (k : Consumer) (v : rows.Consumer) → RowsStand r t → get nat_eq r.consumers c ≡ Some k → t.consumer c ≡ Some v → (copied : Request) → copied ≡ k.request → (now_is : Option ℕ) → now_is ≡ (kept_of r.keys copied.key).current
-    → move_of t now want c v ≡ Opens (next_of r.exchanges) need.Bypass k.request → x ≡ next_of r.exchanges → BeginsTurn r mid now c need.Bypass copied x → ((s : Tables) → MayLetGo s → RowsStand mid s → RowsStand u (let_some_go now now_is s))
-    → (before out : List Act) → out ≡ before ++ acts_of c (Opens x need.Bypass copied) → Answered r.limits (shelf_of r.entries).faults u t before out now (event.Poll c want)
-bypassed r mid u t facts now c want x k v stands there row copied copies now_is at moves x_is begun goes before out told =
+pub bypassed : {B : Type 0} {g : Ghosts B} {lim : Limits} (r mid u : Rows B g) (t : Tables) (facts : Facts lim t) (now c want x : ℕ) (k : Consumer) (v : rows.Consumer) → RowsStand lim r t → get nat_eq r.consumers c ≡ Some k → t.consumer c ≡ Some v → (copied : Request) → copied ≡ k.request → (now_is : Option ℕ) → now_is ≡ (kept_of r.keys copied.key).current
+    → move_of t now want c v ≡ Opens (next_of r.exchanges) need.Bypass k.request → x ≡ next_of r.exchanges → BeginsTurn r mid now c need.Bypass copied x → ((lim : Limits) (s : Tables) → MayLetGo s → RowsStand lim mid s → RowsStand lim u (let_some_go now now_is s))
+    → (before out : List Act) → out ≡ before ++ acts_of c (Opens x need.Bypass copied) → Answered lim (shelf_of r.entries).faults u t before out now (event.Poll c want)
+bypassed {lim = lim} r mid u t facts now c want x k v stands there row copied copies now_is at moves x_is begun goes before out told =
     let kept : IsKept t k v = subst (KeepsConsumer t (Some k)) row (subst (λ o. KeepsConsumer t o (t.consumer c)) there (stands.consumers c)) in
     let key_is : copied.key ≡ v.request.key = ap (λ (z : Request). z.key) copies ∙ ap (λ (z : Request). z.key) kept.request in
     let same : now_is ≡ current t v.request.key = at ∙ (ap (λ (key : List ℕ). (kept_of r.keys key).current) key_is ∙ (stands.keys v.request.key).current) in
     let is : move_of t now want c v ≡ Opens x need.Bypass copied = moves ∙ (ap (λ (y : ℕ). Opens y need.Bypass k.request) (sym x_is) ∙ ap (λ (z : Request). Opens x need.Bypass z) (sym copies)) in
-    bypass_answered r.limits (shelf_of r.entries).faults u t facts.law now c want x v row copied before out is told
-    (subst (λ (o : Option ℕ). RowsStand u (let_some_go now o (tables_in_turn now c x need.Bypass copied v t))) same
-    (goes (tables_in_turn now c x need.Bypass copied v t) (may_go r.limits 0 u t facts.law now c want x v row copied before out need.Bypass) (begun t v facts stands row)))
+    bypass_answered lim (shelf_of r.entries).faults u t facts.law now c want x v row copied before out is told
+    (subst (λ (o : Option ℕ). RowsStand lim u (let_some_go now o (tables_in_turn now c x need.Bypass copied v t))) same
+    (goes _ (tables_in_turn now c x need.Bypass copied v t) (may_go lim 0 u t facts.law now c want x v row copied before out need.Bypass) (begun _ t v facts stands row)))

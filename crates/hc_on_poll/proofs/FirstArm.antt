@@ -93,8 +93,8 @@ idle_unbound (place.Direct x) on = false_true on
 idle_unbound (place.Down why) on = false_true on
 idle_unbound place.Over on = false_true on
 
-module _ {B : Type 0} {g : Ghosts B} (r : Rows B g) (e : Exchanges) (a : Entries B g) (b : KeyTable) (m : Numbered Consumer) (t : Tables) (law : Lawful t) (now c x q : ℕ) (span : Span) (n : Need) (request : Request) (k : Consumer) (v : rows.Consumer)
-    (stands : RowsStand r t) (there : get nat_eq r.consumers c ≡ Some k) (row : t.consumer c ≡ Some v) (idle : is_idle_at k.place ≡ true) (now_is : HasCurrent r.keys q k) (admits : admits_first c ((shelf_of r.entries).kept q) ≡ true) (by_hole : route_of n ≡ route.Hole) (x_is : x ≡ next_of r.exchanges)
+module _ {B : Type 0} {g : Ghosts B} {lim : Limits} (r : Rows B g) (e : Exchanges) (a : Entries B g) (b : KeyTable) (m : Numbered Consumer) (t : Tables) (law : Lawful t) (now c x q : ℕ) (span : Span) (n : Need) (request : Request) (k : Consumer) (v : rows.Consumer)
+    (stands : RowsStand lim r t) (there : get nat_eq r.consumers c ≡ Some k) (row : t.consumer c ≡ Some v) (idle : is_idle_at k.place ≡ true) (now_is : HasCurrent r.keys q k) (admits : admits_first c ((shelf_of r.entries).kept q) ≡ true) (by_hole : route_of n ≡ route.Hole) (x_is : x ≡ next_of r.exchanges)
     (next : next_of e ≡ next_of r.exchanges + 1) (launches : Changes (with_new_exchange c (role.Hole q) n request now) (next_of r.exchanges) (table_of r.exchanges) (table_of e)) (binds : shelf.Becomes (option_map (with_first c)) (moved_first q) q (shelf_of r.entries) (shelf_of a))
     (goes : keys.Becomes (on_line (gone_away c)) k.request.key r.keys b) (changes : ChangesAt r.consumers m c (bound_first q span x)) where
   abbrev u : Rows B g
@@ -239,10 +239,10 @@ module _ {B : Type 0} {g : Ghosts B} (r : Rows B g) (e : Exchanges) (a : Entries
   held_else : (y : ℕ) (f : Exchange) → held_for s y (Some f) ≡ held_for t y (Some f)
   held_else = held_bound t s law c q span.lo (Some span.hi) (by.FirstHole x) v w at.p row here others (idle_reads v.place v_idle) refl (λ d. refl) refl refl at.row at.stays kinds
 
-  pub stands_filling : RowsStand u s
+  pub stands_filling : RowsStand lim u s
   stands_filling =
       let reads_none = idle_reads v.place v_idle in
-      stands_then r u t s c x (Some (bound_first q span x k)) stands refl stands.last_start
+      stands_then r u t s c x (Some (bound_first q span x k)) stands stands.last_start
       (let before = stands.next in omega (arith, next, before, is_next))
       (length_same r u t c v (bound_first q span x k) stands row (idle_lives v.place v_idle) becomes ∙ (stands.count ∙ sym (live_same t s refl live_each)))
       becomes (λ y ne. launches_at y ∙ rw (eqb-other x y (λ e. ne (sym e))) refl) others exchanges (λ d. refl) (subst (KeepsConsumer s (Some (bound_first q span x k))) (sym here) kept_then) (subst (KeepsExchange s x) (sym known_is) known_then) keys_then

@@ -4,6 +4,7 @@ use Rattle.std.proofs.Math.ListN.{drop_of_length-le}
 use Rattle.std.proofs.lemmas.Bool.Decides.{nat_tests}
 use Rattle.std.specs.Prelude.{is_some, nat_eq, bytes_eq, ◌&&◌, if◌then◌else◌}
 use Rattle.std.specs.HashMap.{get}
+use Rattle.hc_rules.specs.declared.room.Limits.{Limits}
 use Rattle.hc_store.specs.declared.backend.Backend.{Ghosts}
 use Rattle.hc_event.specs.Filters.{Opening}
 use Rattle.hc_event.specs.declared.act.Act.{Act}
@@ -72,9 +73,9 @@ record IsAtHole (t : Tables) (c q : ℕ) (v : rows.Consumer) (p : Representation
   n : ℕ
   none_held : held_of_lost c (offset t v) n (Some p) ≡ None
 
-module _ {B : Type 0} {g : Ghosts B} (r u : Rows B g) (t : Tables) (facts : Facts r.limits t) (stands : RowsStand r t) (now want c q x from to : ℕ) (how : BoundBy) (k : Consumer) (rd : IsBoundRow t c q how k) (there : get nat_eq r.consumers c ≡ Some k) (shown : k.shown ≡ true) (request copied : Request)
+module _ {B : Type 0} {g : Ghosts B} {lim : Limits} (r u : Rows B g) (t : Tables) (facts : Facts lim t) (stands : RowsStand lim r t) (now want c q x from to : ℕ) (how : BoundBy) (k : Consumer) (rd : IsBoundRow t c q how k) (there : get nat_eq r.consumers c ≡ Some k) (shown : k.shown ≡ true) (request copied : Request)
     (moves : move_of t now want c rd.v ≡ Opens (next_of r.exchanges) (need.Hole from to) request) (is_next : x ≡ next_of r.exchanges) (copies : copied ≡ request)
-    (limits : u.limits ≡ r.limits) (last : u.last_start ≡ r.last_start) (same_keys : u.keys ≡ r.keys) (same_entries : u.entries ≡ r.entries) (next : next_of u.exchanges ≡ next_of r.exchanges + 1)
+    (last : u.last_start ≡ r.last_start) (same_keys : u.keys ≡ r.keys) (same_entries : u.entries ≡ r.entries) (next : next_of u.exchanges ≡ next_of r.exchanges + 1)
     (launches : Changes (with_new_exchange c (role.Hole q) (need.Hole from to) copied now) (next_of r.exchanges) (table_of r.exchanges) (table_of u.exchanges)) (changes : ChangesAt r.consumers u.consumers c (with_own x)) where
   abbrev v : rows.Consumer
   v = rd.v
@@ -326,21 +327,21 @@ module _ {B : Type 0} {g : Ghosts B} (r u : Rows B g) (t : Tables) (facts : Fact
   becomes : BecomesAt r.consumers u.consumers c (Some (with_own x k))
   becomes = becomes_by r.consumers u.consumers c k (with_own x) there changes
 
-  stands_filled : RowsStand u s
+  stands_filled : RowsStand lim u s
   stands_filled =
-      stands_then r u t s c x (Some (with_own x k)) stands limits (last ∙ stands.last_start)
+      stands_then r u t s c x (Some (with_own x k)) stands (last ∙ stands.last_start)
       (let before = stands.next in let above = x_is in omega (arith, next, before, above))
       (length_same r u t c v (with_own x k) stands rd.row rd.kept.is_there becomes ∙ (stands.count ∙ sym (live_same t s refl (same_of is_live refl))))
       becomes (λ y ne. launches y ∙ rw (eqb-other (next_of r.exchanges) y (λ e. ne (sym e ∙ sym is_next))) refl) others exchanges (λ a. refl)
       (subst (λ o. KeepsConsumer s (Some (with_own x k)) o) (sym here) kept_then) (subst (KeepsExchange s x) (sym launched_is) known_then) keys_then
       (λ d j ne row at. unread_yet t facts.law x d j free row at)
       (λ y e ne row. held_else y e ne row)
-      (rw (same_entries, limits) stands.limits)
+      (rw same_entries stands.limits)
       (rw same_entries entries_then)
 
-  pub filled_answered : (before out : List Act) → out ≡ before ++ acts_of c (Opens x n copied) → Answered r.limits (shelf_of r.entries).faults u t before out now (event.Poll c want)
+  pub filled_answered : (before out : List Act) → out ≡ before ++ acts_of c (Opens x n copied) → Answered lim (shelf_of r.entries).faults u t before out now (event.Poll c want)
   filled_answered before out told =
       let is : move_of t now want c v ≡ Opens x n request = moves ∙ ap (λ (y : ℕ). Opens y n request) (sym is_next) in
       let v_shown : v.shown ≡ true = sym rd.kept.shown ∙ shown in
-      does_answered r.limits (shelf_of r.entries).faults u t (with_event now (event.Poll c want) s) before out (acts_of c (Opens x n request)) now (event.Poll c want)
-      (fills_later r.limits t facts.law now c want v rd.row x from to request is q rd.lo rd.hi how rd.at v_shown) refl refl (told ∙ ap (λ (a : Request). before ++ acts_of c (Opens x n a)) copies) (stands_counted u s now (event.Poll c want) refl stands_filled)
+      does_answered lim (shelf_of r.entries).faults u t (with_event now (event.Poll c want) s) before out (acts_of c (Opens x n request)) now (event.Poll c want)
+      (fills_later lim t facts.law now c want v rd.row x from to request is q rd.lo rd.hi how rd.at v_shown) refl refl (told ∙ ap (λ (a : Request). before ++ acts_of c (Opens x n a)) copies) (stands_counted u s now (event.Poll c want) refl stands_filled)

@@ -2,6 +2,7 @@
 use Rattle.std.proofs.Common.{◌≡◌, ◌≢◌, inl, inr, ℕ, ◌+◌, List, false, true, Option, Some, None, refl, ap, sym, ◌∙◌, subst, arith}
 use Rattle.std.specs.Prelude.{nat_eq}
 use Rattle.std.specs.HashMap.{get}
+use Rattle.hc_rules.specs.declared.room.Limits.{Limits}
 use Rattle.hc_store.specs.declared.backend.Backend.{Ghosts}
 use Rattle.hc_event.specs.declared.act.Need.{Need}
 use Rattle.hc_event.specs.declared.event.Request.{Request}
@@ -30,9 +31,9 @@ use Rattle.hc_on_poll.proofs.OpenArm.{WaitsFor, unread_yet, held_else, none_held
 use Rattle.hc_on_poll.proofs.OpenRows.{runs, opener_kept, live_then}
 use Rattle.hc_state.proofs.Words.{same_or, eqb-same, eqb-other}
 
-module _ {B : Type 0} {g : Ghosts B} (r u : Rows B g) (t : Tables) (law : Lawful t) (now c x : ℕ) (n : Need) (request copied : Request) (aim : Option ℕ) (role : Role) (k : Consumer) (v : rows.Consumer) (p : Place) (stands : RowsStand r t)
+module _ {B : Type 0} {g : Ghosts B} {lim : Limits} (r u : Rows B g) (t : Tables) (law : Lawful t) (now c x : ℕ) (n : Need) (request copied : Request) (aim : Option ℕ) (role : Role) (k : Consumer) (v : rows.Consumer) (p : Place) (stands : RowsStand lim r t)
     (there : get nat_eq r.consumers c ≡ Some k) (row : t.consumer c ≡ Some v) (idle : reads v.place ≡ false) (lived : is_live_place v.place ≡ true) (at : WaitsFor x p) (is_next : x ≡ t.opened + 1)
-    (limits : u.limits ≡ r.limits) (last : u.last_start ≡ r.last_start) (same_entries : u.entries ≡ r.entries) (next : next_of u.exchanges ≡ next_of r.exchanges + 1)
+    (last : u.last_start ≡ r.last_start) (same_entries : u.entries ≡ r.entries) (next : next_of u.exchanges ≡ next_of r.exchanges + 1)
     (launches : Changes (with_new_exchange c role n copied now) x (table_of r.exchanges) (table_of u.exchanges)) (becomes : BecomesAt r.consumers u.consumers c (Some (record k { place = p; own = Some x }))) (copies : copied ≡ request) (role_is : role ≡ role_awaited (route_of n) aim) where
   abbrev w : rows.Consumer
   w = record v { own = Some x; place = p }
@@ -80,13 +81,13 @@ module _ {B : Type 0} {g : Ghosts B} (r u : Rows B g) (t : Tables) (law : Lawful
   kept_then = subst (KeepsConsumer s (Some (record k { place = p; own = Some x }))) (sym here)
       (opener_kept t now c x n request aim v p idle at k (subst (KeepsConsumer t (Some k)) row (subst (λ o. KeepsConsumer t o (t.consumer c)) there (stands.consumers c))))
 
-  pub stands_opened : ((key : List ℕ) → KeepsKey s key (kept_of u.keys key)) → RowsStand u s
+  pub stands_opened : ((key : List ℕ) → KeepsKey s key (kept_of u.keys key)) → RowsStand lim u s
   stands_opened keys =
-      stands_then r u t s c x (Some (record k { place = p; own = Some x })) stands limits (last ∙ stands.last_start)
+      stands_then r u t s c x (Some (record k { place = p; own = Some x })) stands (last ∙ stands.last_start)
       (let before = stands.next in omega (arith, next, before, is_next))
       (length_same r u t c v (record k { place = p; own = Some x }) stands row lived becomes ∙ (stands.count ∙ sym (live_same t s refl live_each)))
       becomes (λ y ne. launches y ∙ rw (eqb-other x y (λ e. ne (sym e))) refl) others exchanges (λ q. refl) kept_then (subst (KeepsExchange s x) (sym launched_is) known_then) keys
       (λ d j ne is place_is. unread_yet t law x d j free is place_is)
       (λ y e ne is. held_else t s law c x v w z free unfounded row here others opened_is exchanges refl (λ q. refl) refl refl idle at refl refl refl refl y e ne)
-      (rw (same_entries, limits) stands.limits)
+      (rw same_entries stands.limits)
       (rw same_entries (entries_opened t s law c x v w z free unfounded row here others opened_is exchanges refl (λ q. refl) refl refl idle at refl refl refl refl (shelf_of r.entries) stands.entries stands.entries.order))

@@ -3,6 +3,7 @@ use Rattle.std.proofs.Common.{◌≡◌, ℕ, ◌+◌, ◌<◌, ◌≤◌, ◌^�
 use Rattle.std.specs.Prelude.{nat_eq, is_some, is_none, not, option_map, unwrap_or, IsSomeAnd, ◌&&◌, if◌then◌else◌}
 use Rattle.std.specs.Option.{option_and_then}
 use Rattle.std.specs.HashMap.{get}
+use Rattle.hc_rules.specs.declared.room.Limits.{Limits}
 use Rattle.hc_store.specs.declared.backend.Backend.{Ghosts}
 use Rattle.hc_event.specs.declared.act.Act.{Act}
 use Rattle.hc_event.specs.declared.act.Need.TheVariants as need
@@ -79,7 +80,7 @@ fills_asks view span hole is = by_only view.class.only refl is
     by_only false off same = off
     by_only true on same = absurd (from_never (bare_plan view) same)
 
-module _ {B : Type 0} {g : Ghosts B} (r : Rows B g) (t : Tables) (facts : Facts r.limits t) (stands : RowsStand r t) (c : ℕ) (k : Consumer) (v : rows.Consumer) (row : t.consumer c ≡ Some v) (kept : IsKept t k v) (q : ℕ) (held : HasCurrent r.keys q k)
+module _ {B : Type 0} {g : Ghosts B} {lim : Limits} (r : Rows B g) (t : Tables) (facts : Facts lim t) (stands : RowsStand lim r t) (c : ℕ) (k : Consumer) (v : rows.Consumer) (row : t.consumer c ≡ Some v) (kept : IsKept t k v) (q : ℕ) (held : HasCurrent r.keys q k)
     (head : StoredHead) (read : head_at (shelf_of r.entries) q ≡ Some (plain head)) (now : ℕ) where
   abbrev view : PlanView
   view = planning.plan_view t now c v
@@ -239,7 +240,7 @@ module _ {B : Type 0} {g : Ghosts B} (r : Rows B g) (some : ∥ Stands r ∥₁)
   held_by_it : HasCurrent r.keys q it
   held_by_it = known_of (get nat_eq r.consumers c) it (HasCurrent r.keys q) there_is held
 
-  its_row : (t : Tables) → RowsStand r t → (v : rows.Consumer) × (t.consumer c ≡ Some v) × IsKept t it v
+  its_row : {lim : Limits} (t : Tables) → RowsStand lim r t → (v : rows.Consumer) × (t.consumer c ≡ Some v) × IsKept t it v
   its_row t stands = kept_row t it (t.consumer c) (subst (λ o. KeepsConsumer t o (t.consumer c)) there_is (stands.consumers c))
 
   module _ (span hole : Span) (is : IsPlanOf r now c (plan.FirstHole span hole)) where
@@ -248,26 +249,26 @@ module _ {B : Type 0} {g : Ghosts B} (r : Rows B g) (some : ∥ Stands r ∥₁)
         let t = s.t in
         let facts = s.facts in
         let (v, row, kept) = its_row t s.rows in
-        filling_queues r t facts s.rows c it v row kept q held_by_it head read now span hole (filling r t facts s.rows c it v row kept q held_by_it head read now span hole (is t v facts s.rows row)))))
+        filling_queues r t facts s.rows c it v row kept q held_by_it head read now span hole (filling r t facts s.rows c it v row kept q held_by_it head read now span hole (is _ t v facts s.rows row)))))
 
     pub filling_hole : IsSomeAnd head.total (IsWithin hole)
     filling_hole = merely_within head.total hole some (λ s.
         let t = s.t in
         let facts = s.facts in
         let (v, row, kept) = its_row t s.rows in
-        filling_within r t facts s.rows c it v row kept q held_by_it head read now span hole (filling r t facts s.rows c it v row kept q held_by_it head read now span hole (is t v facts s.rows row)) s.numbers (few_received s.received))
+        filling_within r t facts s.rows c it v row kept q held_by_it head read now span hole (filling r t facts s.rows c it v row kept q held_by_it head read now span hole (is _ t v facts s.rows row)) s.numbers (few_received s.received))
 
     pub filling_alone : admits_first c ((shelf_of r.entries).kept q) ≡ true
     filling_alone = merely_true (admits_first c ((shelf_of r.entries).kept q)) some (λ s.
         let t = s.t in
         let facts = s.facts in
         let (v, row, kept) = its_row t s.rows in
-        filling_admits r t facts s.rows c it v row kept q held_by_it head read now span hole (filling r t facts s.rows c it v row kept q held_by_it head read now span hole (is t v facts s.rows row)) (current_admits r some now c idle q held))
+        filling_admits r t facts s.rows c it v row kept q held_by_it head read now span hole (filling r t facts s.rows c it v row kept q held_by_it head read now span hole (is _ t v facts s.rows row)) (current_admits r some now c idle q held))
 
     -- and what is answered
     pub filling_answers : (u : Rows B g) (before out : List Act) → IsSomeAnd (get nat_eq r.consumers c) (AnswersFirst r u before out now c (plain head) span hole) → AnswersPoll r u before out now c
-    filling_answers u before out answers = plan_answers r u before out now c it (plan.FirstHole span hole) there_is (found r some now c idle).2 is (λ want t v facts stands row kept move.
-        let f = filling r t facts stands c it v row kept q held_by_it head read now span hole (is t v facts stands row) in
+    filling_answers u before out answers = plan_answers r u before out now c it (plan.FirstHole span hole) there_is (found r some now c idle).2 is (λ want lim t v facts stands row kept move.
+        let f = filling r t facts stands c it v row kept q held_by_it head read now span hole (is _ t v facts stands row) in
         let here = at r t facts stands c it v row kept q held_by_it head read now in
         let total = total_is r t facts stands c it v row kept q held_by_it head read now in
         let fields = fields_are r t facts stands c it v row kept q held_by_it head read now in
@@ -278,7 +279,7 @@ module _ {B : Type 0} {g : Ghosts B} (r : Rows B g) (some : ∥ Stands r ∥₁)
         hole_alike here.p.head (plain head) v.request hole (unwrap_or here.p.head.total 0) fields
         ∙ (ap (λ (n : Option ℕ). hole_request (plain head) v.request hole (unwrap_or n 0)) (sym total)
         ∙ ap (λ (z : Request). hole_request (plain head) z hole (unwrap_or head.total 0)) (sym kept.request)) in
-        known_of (get nat_eq r.consumers c) it (AnswersFirst r u before out now c (plain head) span hole) there_is answers wants want t v facts stands row
+        known_of (get nat_eq r.consumers c) it (AnswersFirst r u before out now c (plain head) span hole) there_is answers wants want _ t v facts stands row
         (move ∙ (ap (λ (o : Option Representation). opens_hole t v.request o hole) (ap (row_of t) current_is ∙ here.row)
         ∙ (ap (λ (z : Request). Opens (t.opened + 1) (need.Hole hole.lo hole.hi) z) asked
         ∙ ap (λ (x : ℕ). Opens x (need.Hole hole.lo hole.hi) (hole_request (plain head) it.request hole (unwrap_or head.total 0))) (sym stands.next)))))
@@ -289,4 +290,4 @@ module _ {B : Type 0} {g : Ghosts B} (r : Rows B g) (some : ∥ Stands r ∥₁)
       let t = s.t in
       let facts = s.facts in
       let (v, row, kept) = its_row t s.rows in
-      part_within r t facts s.rows c it v row kept q held_by_it head read now s.numbers (few_received s.received) why span (is t v facts s.rows row) ranged part told))
+      part_within r t facts s.rows c it v row kept q held_by_it head read now s.numbers (few_received s.received) why span (is _ t v facts s.rows row) ranged part told))

@@ -118,7 +118,7 @@ module _ (t : Tables) (law : Lawful t) (c : ℕ) (k : Consumer) (v w : rows.Cons
 
 -- ALL OF IT
 
-module _ {B : Type 0} {g : Ghosts B} (r mid : Rows B g) (e : Exchanges) (m : Numbered Consumer) (t : Tables) (law : Lawful t) (now c want : ℕ) (n : Need) (k : Consumer) (v : rows.Consumer) (stands : RowsStand r t) (there : get nat_eq r.consumers c ≡ Some k) (row : t.consumer c ≡ Some v) (idle : is_idle_at k.place ≡ true)
+module _ {B : Type 0} {g : Ghosts B} {lim : Limits} (r mid : Rows B g) (e : Exchanges) (m : Numbered Consumer) (t : Tables) (law : Lawful t) (now c want : ℕ) (n : Need) (k : Consumer) (v : rows.Consumer) (stands : RowsStand lim r t) (there : get nat_eq r.consumers c ≡ Some k) (row : t.consumer c ≡ Some v) (idle : is_idle_at k.place ≡ true)
     (x : ℕ) (copied : Request) (copies : copied ≡ k.request) (way : route_of n ≡ route.Direct) (moves : move_of t now want c v ≡ Opens (next_of r.exchanges) n k.request) (is_next : x ≡ next_of r.exchanges) (next : next_of e ≡ next_of r.exchanges + 1)
     (launches : Changes (with_new_exchange c role.Direct n copied now) (next_of r.exchanges) (table_of r.exchanges) (table_of e)) (leaves : LeavesLine (record r { exchanges = e }) mid c) (changes : ChangesAt mid.consumers m c (reading_past x)) where
   abbrev u : Rows B g
@@ -151,10 +151,10 @@ module _ {B : Type 0} {g : Ghosts B} (r mid : Rows B g) (e : Exchanges) (m : Num
   left : IsLeft r.keys mid.keys c k
   left = known_of (get nat_eq r.consumers c) k (IsLeft r.keys mid.keys c) there leaves.line
 
-  stands_past : RowsStand u s
+  stands_past : RowsStand lim u s
   stands_past =
       stands_opened r u t law now c x n k.request copied (current t v.request.key) role.Direct k v (place.Direct x) stands there row (idle_reads v.place v_idle) (idle_lives v.place v_idle) past x_is
-      leaves.limits leaves.last_start leaves.entries (ap next_of leaves.exchanges ∙ next) launched_then (becomes_by r.consumers m c k (reading_past x) there changed) copies (rw way refl)
+      leaves.last_start leaves.entries (ap next_of leaves.exchanges ∙ next) launched_then (becomes_by r.consumers m c k (reading_past x) there changed) copies (rw way refl)
       (λ key. key_opened t law c x w z (law.sound.numbered.lists.new_exchanges x (let above = x_is in omega (arith, above))) past key (kept_of mid.keys key) (keys_past t law c k v w row kept v_idle (λ other. apart_unsaid t other w refl refl refl) refl r.keys mid.keys stands.keys left key))
 
   pub past_answered : (bounds : Limits) (faults : ℕ) (before out : List Act) → out ≡ before ++ acts_of c (Opens x n copied) → Answered bounds faults u t before out now (event.Poll c want)

@@ -4,6 +4,7 @@ use Rattle.std.proofs.Common.{◌≡◌, ◌≢◌, ℕ, ◌+◌, ◌<◌, ◌�
 use Rattle.std.specs.Prelude.{nat_eq, is_some, not, unwrap_or, IsSomeAnd, ◌&&◌, ◌||◌, if◌then◌else◌}
 use Rattle.std.specs.Option.{option_and_then, option_map}
 use Rattle.std.specs.HashMap.{get}
+use Rattle.hc_rules.specs.declared.room.Limits.{Limits}
 use Rattle.hc_store.specs.declared.backend.Backend.{Ghosts}
 use Rattle.hc_store.specs.declared.error.StoreError.{StoreError}
 use Rattle.hc_store.specs.declared.error.StoreError.TheVariants as errors
@@ -111,7 +112,7 @@ both_off false false on = (refl, refl)
 both_off false true on = false_true on
 both_off true b on = false_true on
 
-module _ {B : Type 0} {g : Ghosts B} (r : Rows B g) (t : Tables) (facts : Facts r.limits t) (stands : RowsStand r t) (c : ℕ) (k : Consumer) (v : rows.Consumer) (row : t.consumer c ≡ Some v) (kept : IsKept t k v) (idle : is_idle_at k.place ≡ true) where
+module _ {B : Type 0} {g : Ghosts B} {lim : Limits} (r : Rows B g) (t : Tables) (facts : Facts lim t) (stands : RowsStand lim r t) (c : ℕ) (k : Consumer) (v : rows.Consumer) (row : t.consumer c ≡ Some v) (kept : IsKept t k v) (idle : is_idle_at k.place ≡ true) where
   abbrev its : List ℕ
   its = v.request.key
 
@@ -290,7 +291,7 @@ module _ {B : Type 0} {g : Ghosts B} (r : Rows B g) (t : Tables) (facts : Facts 
 
   -- the plan with what is current, as the code makes it
   pub some_plan_at : (now : ℕ) (view : PlanView) → view ≡ plan_view r now c k → (q : ℕ) (seen : Candidate) → HasCurrent r.keys q k
-      → ((p : Representation) → Facts r.limits t → RowsStand r t → t.consumer c ≡ Some v → t.representation q ≡ Some p → seen ≡ candidate t now q v.request p)
+      → ((p : Representation) → Facts lim t → RowsStand lim r t → t.consumer c ≡ Some v → t.representation q ≡ Some p → seen ≡ candidate t now q v.request p)
       → (p : Plan) → p ≡ plan_of (record view { current = Some seen }) → plan_of (planning.plan_view t now c v) ≡ p
   some_plan_at now view viewed q seen held sees p made =
       let at = now_kept r t stands its q (current_as r t k v q stands kept held) in
@@ -308,14 +309,14 @@ module _ {B : Type 0} {g : Ghosts B} (r : Rows B g) (t : Tables) (facts : Facts 
 
 -- a plan that its move answers is answered
 pub plan_answers : {B : Type 0} {g : Ghosts B} (r u : Rows B g) (before out : List Act) (now c : ℕ) (k : Consumer) (p : Plan) → get nat_eq r.consumers c ≡ Some k → is_idle_at k.place ≡ true → IsPlanOf r now c p
-    → ((want : ℕ) (t : Tables) (v : rows.Consumer) → Facts r.limits t → RowsStand r t → t.consumer c ≡ Some v → IsKept t k v → move_of t now want c v ≡ plan_move t v p → Answered r.limits (shelf_of r.entries).faults u t before out now (event.Poll c want))
+    → ((want : ℕ) (lim : Limits) (t : Tables) (v : rows.Consumer) → Facts lim t → RowsStand lim r t → t.consumer c ≡ Some v → IsKept t k v → move_of t now want c v ≡ plan_move t v p → Answered lim (shelf_of r.entries).faults u t before out now (event.Poll c want))
     → (want : ℕ) → Answers r u before out now (event.Poll c want)
-plan_answers r u before out now c k p there idle is answers = λ want t facts stands accepted.
+plan_answers r u before out now c k p there idle is answers = λ want lim t facts stands accepted.
     let (v, row, kept) = kept_row t k (t.consumer c) (subst (λ o. KeepsConsumer t o (t.consumer c)) there (stands.consumers c)) in
-    answers want t v facts stands row kept (planned r t facts stands c k v row kept idle now want p (is t v facts stands row))
+    answers want _ t v facts stands row kept (planned r t facts stands c k v row kept idle now want p (is _ t v facts stands row))
 
 -- the next exchange has the next number, and the request is the consumer's
-pub opens_next : {B : Type 0} {g : Ghosts B} (r : Rows B g) (t : Tables) (k : Consumer) (v : rows.Consumer) (n : Need) → RowsStand r t → IsKept t k v → opens t n v.request ≡ Opens (next_of r.exchanges) n k.request
+pub opens_next : {B : Type 0} {g : Ghosts B} {lim : Limits} (r : Rows B g) (t : Tables) (k : Consumer) (v : rows.Consumer) (n : Need) → RowsStand lim r t → IsKept t k v → opens t n v.request ≡ Opens (next_of r.exchanges) n k.request
 opens_next r t k v n stands kept = ap (λ (x : ℕ). Opens x n v.request) (sym stands.next) ∙ ap (λ (z : Request). Opens (next_of r.exchanges) n z) (sym kept.request)
 
 -- who goes past the store has a need for that
@@ -391,7 +392,7 @@ module _ {B : Type 0} {g : Ghosts B} (r : Rows B g) (some : ∥ Stands r ∥₁)
       let t = s.t in
       let facts = s.facts in
       let (v, row, kept) = kept_row t found.0 (t.consumer c) (subst (λ o. KeepsConsumer t o (t.consumer c)) found.1 (s.rows.consumers c)) in
-      next_by r t facts s.rows c found.0 v row kept found.2 now n turns (is t v facts s.rows row)
+      next_by r t facts s.rows c found.0 v row kept found.2 now n turns (is _ t v facts s.rows row)
 
   pub next_there : (n : Need) → route_of n ≡ route.Turn → IsPlanOf r now c (plan.Fetch n) → IsSomeAnd its_row (IsNext r.keys c)
   next_there n turns is =
@@ -405,7 +406,7 @@ module _ {B : Type 0} {g : Ghosts B} (r : Rows B g) (some : ∥ Stands r ∥₁)
       let t = s.t in
       let facts = s.facts in
       let (v, row, kept) = kept_row t found.0 (t.consumer c) (subst (λ o. KeepsConsumer t o (t.consumer c)) found.1 (s.rows.consumers c)) in
-      busy_by r t facts s.rows c found.0 v row kept found.2 now d how (is t v facts s.rows row)
+      busy_by r t facts s.rows c found.0 v row kept found.2 now d how (is _ t v facts s.rows row)
 
   -- who waits for another that uses what is current waits for its key
   pub waiting_there : (d : ℕ) (how : Option ℕ) → IsPlanOf r now c (plan.Busy d how) → IsSomeAnd its_row (IsWaiting r.keys c)
@@ -442,17 +443,17 @@ module _ {B : Type 0} {g : Ghosts B} (r : Rows B g) (some : ∥ Stands r ∥₁)
 
   module _ (u : Rows B g) (before out : List Act) where
     pub direct_answers : (n : Need) → IsPlanOf r now c (plan.Direct n) → IsSomeAnd its_row (AnswersOpening r u before out now c n) → AnswersPoll r u before out now c
-    direct_answers n is answers = plan_answers r u before out now c found.0 (plan.Direct n) found.1 found.2 is (λ want t v facts stands row kept move.
-        known_of its_row found.0 (AnswersOpening r u before out now c n) found.1 answers want t v facts stands row (move ∙ opens_next r t found.0 v n stands kept))
+    direct_answers n is answers = plan_answers r u before out now c found.0 (plan.Direct n) found.1 found.2 is (λ want lim t v facts stands row kept move.
+        known_of its_row found.0 (AnswersOpening r u before out now c n) found.1 answers want _ t v facts stands row (move ∙ opens_next r t found.0 v n stands kept))
 
     pub turn_answers : (d : ℕ) → IsPlanOf r now c (plan.Turn d) → ((moment want : ℕ) → AnswersMove r u before out moment c want (Waits (wait.Turn d))) → AnswersPoll r u before out now c
-    turn_answers d is answers = plan_answers r u before out now c found.0 (plan.Turn d) found.1 found.2 is (λ want t v facts stands row kept move. answers now want t v facts stands row move)
+    turn_answers d is answers = plan_answers r u before out now c found.0 (plan.Turn d) found.1 found.2 is (λ want lim t v facts stands row kept move. answers now want _ t v facts stands row move)
 
     pub busy_answers : (d : ℕ) (how : Option ℕ) → IsPlanOf r now c (plan.Busy d how) → ((moment want : ℕ) → AnswersMove r u before out moment c want (Waits (wait.Busy d))) → AnswersPoll r u before out now c
-    busy_answers d how is answers = plan_answers r u before out now c found.0 (plan.Busy d how) found.1 found.2 is (λ want t v facts stands row kept move. answers now want t v facts stands row move)
+    busy_answers d how is answers = plan_answers r u before out now c found.0 (plan.Busy d how) found.1 found.2 is (λ want lim t v facts stands row kept move. answers now want _ t v facts stands row move)
 
     pub miss_answers : IsPlanOf r now c plan.Miss → ((want : ℕ) → AnswersMove r u before out now c want (Fails cause.Miss)) → AnswersPoll r u before out now c
-    miss_answers is answers = plan_answers r u before out now c found.0 plan.Miss found.1 found.2 is (λ want t v facts stands row kept move. answers want t v facts stands row move)
+    miss_answers is answers = plan_answers r u before out now c found.0 plan.Miss found.1 found.2 is (λ want lim t v facts stands row kept move. answers want _ t v facts stands row move)
 
     fetched_plain : (t : Tables) (v : rows.Consumer) (n : Need) → n ≢ need.Validate → planning.origin_request t v n ≡ v.request
     fetched_plain t v need.Validate other = absurd (other refl)
@@ -465,13 +466,13 @@ module _ {B : Type 0} {g : Ghosts B} (r : Rows B g) (some : ∥ Stands r ∥₁)
     fetched_plain t v need.Unsatisfied other = refl
 
     pub fetch_answers : (n : Need) → n ≢ need.Validate → IsPlanOf r now c (plan.Fetch n) → IsSomeAnd its_row (AnswersOpening r u before out now c n) → AnswersPoll r u before out now c
-    fetch_answers n other is answers = plan_answers r u before out now c found.0 (plan.Fetch n) found.1 found.2 is (λ want t v facts stands row kept move.
-        known_of its_row found.0 (AnswersOpening r u before out now c n) found.1 answers want t v facts stands row (move ∙ (ap (opens t n) (fetched_plain t v n other) ∙ opens_next r t found.0 v n stands kept)))
+    fetch_answers n other is answers = plan_answers r u before out now c found.0 (plan.Fetch n) found.1 found.2 is (λ want lim t v facts stands row kept move.
+        known_of its_row found.0 (AnswersOpening r u before out now c n) found.1 answers want _ t v facts stands row (move ∙ (ap (opens t n) (fetched_plain t v n other) ∙ opens_next r t found.0 v n stands kept)))
 
     pub ask_answers : (n : Need) (q : ℕ) (head : StoredHead) → IsSomeAnd its_row (HasCurrent r.keys q) → head_at (shelf_of r.entries) q ≡ Some (plain head) → IsPlanOf r now c (plan.Fetch n) → IsSomeAnd its_row (AnswersAsking r u before out now c n (plain head)) → AnswersPoll r u before out now c
-    ask_answers n q head held read is answers = plan_answers r u before out now c found.0 (plan.Fetch n) found.1 found.2 is (λ want t v facts stands row kept move.
+    ask_answers n q head held read is answers = plan_answers r u before out now c found.0 (plan.Fetch n) found.1 found.2 is (λ want lim t v facts stands row kept move.
         let at = now_kept r t stands v.request.key q (current_as r t found.0 v q stands kept (known_of its_row found.0 (HasCurrent r.keys q) found.1 held)) in
-        known_of its_row found.0 (AnswersAsking r u before out now c n (plain head)) found.1 answers want t v facts stands row
+        known_of its_row found.0 (AnswersAsking r u before out now c n (plain head)) found.1 answers want _ t v facts stands row
         (move ∙ (ap (opens t n) (fetched_as t v n at.p (current_row_is t v q at.p (current_as r t found.0 v q stands kept (known_of its_row found.0 (HasCurrent r.keys q) found.1 held)) at.row) (plain head) at.e (head_is q head read at.e at.kept) at.is)
         ∙ (ap (λ (x : ℕ). Opens x n (asked_by (plain head) n v.request)) (sym stands.next) ∙ ap (λ (z : Request). Opens (next_of r.exchanges) n (asked_by (plain head) n z)) (sym kept.request)))))
       where
@@ -493,18 +494,18 @@ module _ {B : Type 0} {g : Ghosts B} (r : Rows B g) (some : ∥ Stands r ∥₁)
 
     -- what it is shown is what its plan says of what is stored
     pub bind_answers : (why : Why) (span : Option Span) (q : ℕ) (head : StoredHead) → IsSomeAnd its_row (HasCurrent r.keys q) → head_at (shelf_of r.entries) q ≡ Some (plain head) → IsPlanOf r now c (plan.Bind why span) → IsSomeAnd its_row (AnswersShowing r u before out c q (plain head) why span) → AnswersPoll r u before out now c
-    bind_answers why span q head held read is answers = plan_answers r u before out now c found.0 (plan.Bind why span) found.1 found.2 is (λ want t v facts stands row kept move.
+    bind_answers why span q head held read is answers = plan_answers r u before out now c found.0 (plan.Bind why span) found.1 found.2 is (λ want lim t v facts stands row kept move.
         let current_is = current_as r t found.0 v q stands kept (known_of its_row found.0 (HasCurrent r.keys q) found.1 held) in
         let at = now_kept r t stands v.request.key q current_is in
         let same = head_at_is ((shelf_of r.entries).kept q) at.e head at.kept read in
         let total = sym (total_told t q at.e at.p at.is at.stays) ∙ ap (λ (h : Head). h.total) same in
         let fields = sym (ap (λ (h : Head). h.fields) at.is.head) ∙ ap (λ (h : Head). h.fields) same in
-        known_of its_row found.0 (AnswersShowing r u before out c q (plain head) why span) found.1 answers now want t v facts stands row
+        known_of its_row found.0 (AnswersShowing r u before out c q (plain head) why span) found.1 answers now want _ t v facts stands row
         (move ∙ (ap (planning.binds_current t v why span) current_is ∙ binds_shows t v q at.p why (plain head) span found.0 at.row total fields (ranged_as found.0 v t kept))))
 
 -- the same plan
 pub plan_same : {B : Type 0} {g : Ghosts B} (r : Rows B g) (now c : ℕ) (p q : Plan) → IsPlanOf r now c p → p ≡ q → IsPlanOf r now c q
-plan_same r now c p q is same = λ t v facts stands row. is t v facts stands row ∙ same
+plan_same r now c p q is same = λ lim t v facts stands row. is _ t v facts stands row ∙ same
 
 -- a plan that looks at nothing stored neither asks whether that still holds, nor reads it
 pub bare_validates : (view : PlanView) (n : Need) → view.current ≡ None → plan_of view ≡ plan.Fetch n → n ≢ need.Validate
@@ -585,8 +586,8 @@ module _ {B : Type 0} {g : Ghosts B} (r : Rows B g) (a : Entries B g) (stays : S
   abbrev read : Rows B g
   read = record r { entries = a }
 
-  pub read_stands : (t : Tables) → RowsStand r t → RowsStand read t
-  read_stands t stands = stands_stayed r read t refl refl refl refl refl stays stands
+  pub read_stands : {lim : Limits} (t : Tables) → RowsStand lim r t → RowsStand lim read t
+  read_stands t stands = stands_stayed r read t refl refl refl refl stays stands
 
   pub read_until : (now : ℕ) → ∥ StandsBy r now ∥₁ → ∥ StandsBy read now ∥₁
   read_until now some = ∥∥₁_map some (λ u.
@@ -596,19 +597,19 @@ module _ {B : Type 0} {g : Ghosts B} (r : Rows B g) (a : Entries B g) (stays : S
   read_some now some = ∥∥₁_map (read_until now some) (λ u. u.0)
 
   pub read_answers : (shelf_of r.entries).faults ≤ (shelf_of a).faults → (u : Rows B g) (before out : List Act) (now c : ℕ) → AnswersPoll read u before out now c → AnswersPoll r u before out now c
-  read_answers later u before out now c answers = λ want t facts stands accepted.
-      let is = answers want t facts (read_stands t stands) accepted in
+  read_answers later u before out now c answers = λ want lim t facts stands accepted.
+      let is = answers want _ t facts (read_stands t stands) accepted in
       record { flaw = is.flaw; acts = is.acts; shown = is.shown; may = is.may; caused = λ on. (let less = is.caused on in omega (arith, later, less)); rows = is.rows }
 
   -- it failed, for who reads nothing yet
   pub read_fault : (shelf_of r.entries).faults < (shelf_of a).faults → (u : Rows B g) (before out : List Act) (now c q : ℕ) → IsSomeAnd (get nat_eq r.consumers c) IsIdle → IsSomeAnd (get nat_eq r.consumers c) (HasCurrent r.keys q)
       → AnswersMisread read u before out now c q → AnswersPoll r u before out now c
-  read_fault failed u before out now c q idle held answers = λ want t facts stands accepted.
+  read_fault failed u before out now c q idle held answers = λ want lim t facts stands accepted.
       let (v, row) = polled_row t c want accepted in
       let (k, at, resting) = there (get nat_eq r.consumers c) IsIdle idle in
       let kept = subst (KeepsConsumer t (Some k)) row (subst (λ o. KeepsConsumer t o (t.consumer c)) at (stands.consumers c)) in
       let now_is = current_as r t k v q stands kept (known_of (get nat_eq r.consumers c) k (HasCurrent r.keys q) at held) in
-      answers want (shelf_of r.entries).faults t v failed facts (read_stands t stands) row (reads.planned (sym (ap is_idle_at kept.place) ∙ resting) now_is)
+      answers want (shelf_of r.entries).faults _ t v failed facts (read_stands t stands) row (reads.planned (sym (ap is_idle_at kept.place) ∙ resting) now_is)
 
 -- who asks the origin with the turn has a need for that, also by the plan of the tables
 pub planned_route : {B : Type 0} {g : Ghosts B} (r : Rows B g) (some : ∥ Stands r ∥₁) (now c : ℕ) → IsSomeAnd (get nat_eq r.consumers c) IsIdle → (n : Need) → IsPlanOf r now c (plan.Fetch n) → route_of n ≡ route.Turn
@@ -630,7 +631,7 @@ planned_route r some now c idle n is = turn_is (route_of n) on
         let facts = s.facts in
         let (k, at, resting) = there (get nat_eq r.consumers c) IsIdle idle in
         let (v, row, kept) = kept_row t k (t.consumer c) (subst (λ o. KeepsConsumer t o (t.consumer c)) at (s.rows.consumers c)) in
-        ap is_turn (fetch_route (planning.plan_view t now c v) n (is t v facts s.rows row)))
+        ap is_turn (fetch_route (planning.plan_view t now c v) n (is _ t v facts s.rows row)))
 
 pub planned_past : {B : Type 0} {g : Ghosts B} (r : Rows B g) (some : ∥ Stands r ∥₁) (now c : ℕ) → IsSomeAnd (get nat_eq r.consumers c) IsIdle → (n : Need) → IsPlanOf r now c (plan.Direct n) → route_of n ≡ route.Direct
 planned_past r some now c idle n is = past_is (route_of n) on
@@ -651,4 +652,4 @@ planned_past r some now c idle n is = past_is (route_of n) on
         let facts = s.facts in
         let (k, at, resting) = there (get nat_eq r.consumers c) IsIdle idle in
         let (v, row, kept) = kept_row t k (t.consumer c) (subst (λ o. KeepsConsumer t o (t.consumer c)) at (s.rows.consumers c)) in
-        ap is_past (past_route (planning.plan_view t now c v) n (is t v facts s.rows row)))
+        ap is_past (past_route (planning.plan_view t now c v) n (is _ t v facts s.rows row)))

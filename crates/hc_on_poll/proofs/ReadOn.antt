@@ -3,6 +3,7 @@ use Rattle.std.proofs.Common.{◌≡◌, ℕ, ◌+◌, ◌<◌, ◌≤◌, ◌^�
 use Rattle.std.proofs.lemmas.Grind.{not_there}
 use Rattle.std.specs.Prelude.{is_some, nat_eq, option_map, IsSomeAnd, IfSome}
 use Rattle.std.specs.HashMap.{get}
+use Rattle.hc_rules.specs.declared.room.Limits.{Limits}
 use Rattle.hc_store.specs.declared.backend.Backend.{Ghosts}
 use Rattle.hc_event.specs.declared.act.Act.{Act}
 use Rattle.hc_event.specs.declared.event.Event.TheVariants as event
@@ -64,7 +65,7 @@ merely_in_length (Some head) x some h = merely_within head.total x some (λ p.
 
 module _ {B : Type 0} {g : Ghosts B} (r : Rows B g) (c q : ℕ) (k : Consumer) (at : get nat_eq r.consumers c ≡ Some k) (reads : IsShownAt q k) where
   -- its row
-  pub row_of : (t : Tables) → Facts r.limits t → RowsStand r t → IsBoundRow t c q reads.0.2 k
+  pub row_of : {lim : Limits} (t : Tables) → Facts lim t → RowsStand lim r t → IsBoundRow t c q reads.0.2 k
   row_of t facts stands = bound_row_of r t facts.law c q reads.0.0 reads.0.1 reads.0.2 k stands at reads.0.3
 
   module _ (some : ∥ Stands r ∥₁) where
@@ -72,7 +73,7 @@ module _ {B : Type 0} {g : Ghosts B} (r : Rows B g) (c q : ℕ) (k : Consumer) (
       abbrev t : Tables
       t = s.t
 
-      facts : Facts r.limits t
+      facts : Facts s.limits t
       facts = s.facts
 
       rd : IsBoundRow t c q reads.0.2 k
@@ -124,23 +125,23 @@ module _ {B : Type 0} {g : Ghosts B} (r : Rows B g) (c q : ℕ) (k : Consumer) (
 
   -- WHAT IT DOES
 
-  module _ (u : Rows B g) (before out : List Act) (now want : ℕ) (wants : 0 < want) (run : Option Run) (run_is : IsRunAhead (shelf_of r.entries) q want run k) (heard : IsHeard (table_of r.exchanges) k) (view : ReadView) (view_is : ReadViewIs r q c (option_map end_of run) view k)
-      (limits : u.limits ≡ r.limits) (last : u.last_start ≡ r.last_start) (same_keys : u.keys ≡ r.keys) (same_entries : u.entries ≡ r.entries) (t : Tables) (facts : Facts r.limits t) (stands : RowsStand r t) where
+  module _ {lim : Limits} (u : Rows B g) (before out : List Act) (now want : ℕ) (wants : 0 < want) (run : Option Run) (run_is : IsRunAhead (shelf_of r.entries) q want run k) (heard : IsHeard (table_of r.exchanges) k) (view : ReadView) (view_is : ReadViewIs r q c (option_map end_of run) view k)
+      (last : u.last_start ≡ r.last_start) (same_keys : u.keys ≡ r.keys) (same_entries : u.entries ≡ r.entries) (t : Tables) (facts : Facts lim t) (stands : RowsStand lim r t) where
     abbrev its : IsBoundRow t c q reads.0.2 k
     its = row_of t facts stands
 
     -- what is stored is given
-    pub gives_stored : (n : ℕ) → read_step view ≡ step.Stored n → (z : Run) → run ≡ Some z → out ≡ before ++ given_acts c z.x z.at z.bytes → u.exchanges ≡ r.exchanges → ChangesAt r.consumers u.consumers c (once_given (length z.bytes)) → Answered r.limits (shelf_of r.entries).faults u t before out now (event.Poll c want)
+    pub gives_stored : (n : ℕ) → read_step view ≡ step.Stored n → (z : Run) → run ≡ Some z → out ≡ before ++ given_acts c z.x z.at z.bytes → u.exchanges ≡ r.exchanges → ChangesAt r.consumers u.consumers c (once_given (length z.bytes)) → Answered lim (shelf_of r.entries).faults u t before out now (event.Poll c want)
     gives_stored n is z read acts exchanges changes =
         let found = bound.stored_move r t facts stands c q reads.0.2 k its now want reads.1 heard wants run run_is view view_is n is in
         let same : found.0 ≡ z = some_is found.0 z (sym found.1.read_is ∙ read) in
         let m = subst (λ (y : Run). bound.Reads r t facts stands c q reads.0.2 k its now want reads.1 heard wants run run_is view view_is y) same found.1 in
         let a = m.ahead_of in
-        gives.stored_answered r u t facts stands now want c q reads.0.2 k its at before out limits last same_keys same_entries z a.at a.within a.each m.move_is acts exchanges changes
+        gives.stored_answered r u t facts stands now want c q reads.0.2 k its at before out last same_keys same_entries z a.at a.within a.each m.move_is acts exchanges changes
 
     -- what is held is given
     pub gives_held : read_step view ≡ step.Held → (x o n : ℕ) (bytes : List ℕ) → k.own ≡ Some x → o ≡ view.offset → n ≡ most view.hi view.offset want → bytes ≡ take n (table_of r.exchanges x).held → out ≡ before ++ given_acts c x o bytes → exch.Becomes (known.without_first n) x r.exchanges u.exchanges → ChangesAt r.consumers u.consumers c (once_given (length bytes))
-        → Answered r.limits (shelf_of r.entries).faults u t before out now (event.Poll c want)
+        → Answered lim (shelf_of r.entries).faults u t before out now (event.Poll c want)
     gives_held is x o n bytes own o_is n_is bytes_are acts becomes changes =
         let found = bound.held_move r t facts stands c q reads.0.2 k its now want reads.1 heard wants run run_is view view_is is in
         let h = found.0 in
@@ -150,12 +151,12 @@ module _ {B : Type 0} {g : Ghosts B} (r : Rows B g) (c q : ℕ) (k : Consumer) (
         let taken : bytes ≡ take (most k.hi (k.lo + k.given) want) (table_of r.exchanges h.x).held = bytes_are ∙ ap₂ (λ (m y : ℕ). take m (table_of r.exchanges y).held) as_many same in
         let told : out ≡ before ++ given_acts c h.x (k.lo + k.given) (take (most k.hi (k.lo + k.given) want) (table_of r.exchanges h.x).held) =
         acts ∙ (ap (λ (y : ℕ). before ++ given_acts c y o bytes) same ∙ (ap (λ (y : ℕ). before ++ given_acts c h.x y bytes) at_offset ∙ ap (λ (ys : List ℕ). before ++ given_acts c h.x (k.lo + k.given) ys) taken)) in
-        gives.held_answered r u t facts stands now want c q reads.0.2 k its at before out limits last same_keys same_entries h (most k.hi (k.lo + k.given) want)
+        gives.held_answered r u t facts stands now want c q reads.0.2 k its at before out last same_keys same_entries h (most k.hi (k.lo + k.given) want)
         (subst (λ (y : ℕ). exch.Becomes (known.without_first (most k.hi (k.lo + k.given) want)) y r.exchanges u.exchanges) same (subst (λ (m : ℕ). exch.Becomes (known.without_first m) x r.exchanges u.exchanges) as_many becomes))
         found.1.move_is told (subst (λ (ys : List ℕ). ChangesAt r.consumers u.consumers c (once_given (length ys))) taken changes)
 
     -- it asks, or waits
-    pub asks_for : (x : ℕ) → read_step view ≡ step.Waits x → u.consumers ≡ r.consumers → exch.Becomes known.with_asking x r.exchanges u.exchanges → out ≡ before ++ acts_of c (asks_or_waits (asked_in (table_of r.exchanges x).running) x) → Answered r.limits (shelf_of r.entries).faults u t before out now (event.Poll c want)
+    pub asks_for : (x : ℕ) → read_step view ≡ step.Waits x → u.consumers ≡ r.consumers → exch.Becomes known.with_asking x r.exchanges u.exchanges → out ≡ before ++ acts_of c (asks_or_waits (asked_in (table_of r.exchanges x).running) x) → Answered lim (shelf_of r.entries).faults u t before out now (event.Poll c want)
     asks_for x is consumers becomes acts =
         let m = bound.waits_move r t facts stands c q reads.0.2 k its now want reads.1 heard wants run run_is view view_is x is in
-        gives.asks_answered r u t facts stands now want c q reads.0.2 k its at before out limits last same_keys same_entries x consumers becomes m.move_is acts
+        gives.asks_answered r u t facts stands now want c q reads.0.2 k its at before out last same_keys same_entries x consumers becomes m.move_is acts

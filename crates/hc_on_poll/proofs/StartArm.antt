@@ -2,6 +2,7 @@
 use Rattle.std.proofs.Common.{◌≡◌, ◌≢◌, inl, inr, ℕ, ◌+◌, ◌<◌, List, [], ◌∷◌, Bool, true, false, cond, eqb, Option, Some, None, refl, ap, sym, ◌∙◌, subst, arith}
 use Rattle.std.specs.Prelude.{nat_eq, bytes_eq, filter, not, ◌&&◌, ◌||◌}
 use Rattle.std.specs.HashMap.{get, hash_map_len}
+use Rattle.hc_rules.specs.declared.room.Limits.{Limits}
 use Rattle.hc_store.specs.declared.backend.Backend.{Ghosts}
 use Rattle.hc_event.specs.declared.event.Event.TheVariants as event
 use Rattle.hc_event.specs.declared.event.Request.{Request}
@@ -42,8 +43,8 @@ use Rattle.hc_state.proofs.ConsumerSteps.{KeyAfter, SaysOfIt, key_with, key_stay
 use Rattle.hc_state.proofs.Ties.{kept_none, consumer_same, exchange_same, entry_same, key_same}
 use Rattle.hc_state.proofs.Words.{same_or, eqb-same, eqb-other, then_false}
 
-module _ {B : Type 0} {g : Ghosts B} (r u : Rows B g) (t : Tables) (law : Lawful t) (now c : ℕ) (request copied : Request) (k : Consumer) (stands : RowsStand r t) (ascending : r.last_start < c) (copies : copied ≡ request)
-    (limits : u.limits ≡ r.limits) (last : u.last_start ≡ c) (exchanges : u.exchanges ≡ r.exchanges) (same_entries : u.entries ≡ r.entries) (becomes : BecomesAt r.consumers u.consumers c (Some k))
+module _ {B : Type 0} {g : Ghosts B} {lim : Limits} (r u : Rows B g) (t : Tables) (law : Lawful t) (now c : ℕ) (request copied : Request) (k : Consumer) (stands : RowsStand lim r t) (ascending : r.last_start < c) (copies : copied ≡ request)
+    (last : u.last_start ≡ c) (exchanges : u.exchanges ≡ r.exchanges) (same_entries : u.entries ≡ r.entries) (becomes : BecomesAt r.consumers u.consumers c (Some k))
     (is : k ≡ record { request = copied; class = class_of request; since = now; place = place.Line; own = None; shown = false; answer = None; lo = 0; hi = None; given = 0; due = None }) where
   abbrev s : Tables
   s = with_event now (event.Start c request) (with_start now c request t)
@@ -205,9 +206,9 @@ module _ {B : Type 0} {g : Ghosts B} (r u : Rows B g) (t : Tables) (law : Lawful
       let all : hash_map_len u.consumers ≡ counts.counted h (c ∷ t.starts) = omega (arith, alike, more, lives, len, before) in
       all
 
-  pub stands_started : IsEntered queues c request.key r.keys u.keys → RowsStand u s
+  pub stands_started : IsEntered queues c request.key r.keys u.keys → RowsStand lim u s
   stands_started entered = record {
-    limits = rw (same_entries, limits) stands.limits;
+    limits = rw same_entries stands.limits;
     last_start = last;
     next = rw exchanges stands.next;
     count = count;
@@ -220,7 +221,7 @@ module _ {B : Type 0} {g : Ghosts B} (r u : Rows B g) (t : Tables) (law : Lawful
 -- WHAT ENTERING NEEDS
 
 -- who hasn't started stands in no line
-pub not_in_yet : {B : Type 0} {g : Ghosts B} (r : Rows B g) (t : Tables) (law : Lawful t) (c : ℕ) (key : List ℕ) → RowsStand r t → r.last_start < c → is_in c (line_of r.keys key) ≡ false
+pub not_in_yet : {B : Type 0} {g : Ghosts B} {lim : Limits} (r : Rows B g) (t : Tables) (law : Lawful t) (c : ℕ) (key : List ℕ) → RowsStand lim r t → r.last_start < c → is_in c (line_of r.keys key) ≡ false
 not_in_yet r t law c key stands ascending =
     let same = stands.last_start in
     let fresh : t.consumer c ≡ None = law.sound.numbered.lists.new_consumers c (rw same at ascending) in

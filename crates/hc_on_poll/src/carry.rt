@@ -39,7 +39,6 @@ pub(crate) fn carry_out<B: Backend>(
     requires room { 3 ≤ spare out.old }
     ensures answers { OnOk result
         (AnswersPoll rows.old rows.new (act_list out.old) (act_list out.new) now c) }
-    ensures limits { OnOk result (rows.new.limits ≡ rows.old.limits) }
     ensures faults { (shelf_of rows.old.entries).faults ≤ (shelf_of rows.new.entries).faults }
     ensures kept { OnErr result (act_list out.new ≡ act_list out.old) }
 {
@@ -106,7 +105,6 @@ fn carry_out_with<B: Backend>(
     requires room { 3 ≤ spare out.old }
     ensures answers { OnOk result
         (AnswersPoll rows.old rows.new (act_list out.old) (act_list out.new) now c) }
-    ensures limits { OnOk result (rows.new.limits ≡ rows.old.limits) }
     ensures faults { (shelf_of rows.old.entries).faults ≤ (shelf_of rows.new.entries).faults }
     ensures kept { OnErr result (act_list out.new ≡ act_list out.old) }
 {
@@ -138,7 +136,6 @@ fn carry_out_on<B: Backend>(
     requires room { 3 ≤ spare out.old }
     ensures answers { OnOk result
         (AnswersPoll rows.old rows.new (act_list out.old) (act_list out.new) now c) }
-    ensures limits { OnOk result (rows.new.limits ≡ rows.old.limits) }
     ensures faults { (shelf_of rows.old.entries).faults ≤ (shelf_of rows.new.entries).faults }
     ensures kept { OnErr result (act_list out.new ≡ act_list out.old) }
 {
@@ -167,7 +164,6 @@ fn carry_out_plan<B: Backend>(
     requires room { 3 ≤ spare out.old }
     ensures answers { OnOk result
         (AnswersPoll rows.old rows.new (act_list out.old) (act_list out.new) now c) }
-    ensures limits { OnOk result (rows.new.limits ≡ rows.old.limits) }
     ensures faults { (shelf_of rows.old.entries).faults ≤ (shelf_of rows.new.entries).faults }
     ensures kept { OnErr result (act_list out.new ≡ act_list out.old) }
 {
@@ -209,7 +205,6 @@ fn carry_out_bare<B: Backend>(
     requires room { 3 ≤ spare out.old }
     ensures answers { OnOk result
         (AnswersPoll rows.old rows.new (act_list out.old) (act_list out.new) now c) }
-    ensures limits { OnOk result (rows.new.limits ≡ rows.old.limits) }
     ensures faults { (shelf_of rows.old.entries).faults ≤ (shelf_of rows.new.entries).faults }
     ensures kept { OnErr result (act_list out.new ≡ act_list out.old) }
 {

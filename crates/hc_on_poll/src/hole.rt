@@ -49,7 +49,6 @@ pub(crate) fn open_first_hole<B: Backend>(
     ensures answers { OnOk result (IsSomeAnd (get nat_eq rows.old.consumers c)
         (AnswersFirst rows.old rows.new (act_list out.old) (act_list out.new)
         now c (plain head.now) span hole)) }
-    ensures limits { OnOk result (rows.new.limits ≡ rows.old.limits) }
     ensures faults { (shelf_of rows.new.entries).faults ≡ (shelf_of rows.old.entries).faults }
     ensures kept { OnErr result (act_list out.new ≡ act_list out.old) }
 {
@@ -86,7 +85,6 @@ pub(crate) fn open_later_hole<B: Backend>(
     requires room { 2 ≤ spare out.old }
     ensures answers { OnOk result (IsSomeAnd (get nat_eq rows.old.consumers c)
         (AnswersHole rows.old rows.new (act_list out.old) (act_list out.new) now c r hole)) }
-    ensures limits { OnOk result (rows.new.limits ≡ rows.old.limits) }
     ensures faults { (shelf_of rows.old.entries).faults ≤ (shelf_of rows.new.entries).faults }
     ensures kept { OnErr result (act_list out.new ≡ act_list out.old) }
 {
@@ -114,7 +112,6 @@ fn fill_later_hole<B: Backend>(
     ensures answers { OnOk result (IsSomeAnd (get nat_eq rows.old.consumers c)
         (AnswersFilling rows.old rows.new (act_list out.old) (act_list out.new)
         now c (plain head.now) hole)) }
-    ensures limits { OnOk result (rows.new.limits ≡ rows.old.limits) }
     ensures faults { (shelf_of rows.new.entries).faults ≡ (shelf_of rows.old.entries).faults }
     ensures kept { OnErr result (act_list out.new ≡ act_list out.old) }
 {

@@ -26,7 +26,6 @@ pub(crate) fn await_answer<B: Backend>(rows: &mut Rows<B>, c: u64, x: u64, out: 
     ensures answers { (now want : ℕ)
         → Answers rows.old rows.new (act_list out.old) (act_list out.new) now (Poll c want) }
     ensures exchanges { rows.new.exchanges ≡ rows.old.exchanges }
-    ensures limits { rows.new.limits ≡ rows.old.limits }
     ensures faults { (shelf_of rows.new.entries).faults ≡ (shelf_of rows.old.entries).faults }
 {
     let consumer = rows.consumers.get(&c).unwrap();
@@ -53,7 +52,6 @@ pub(crate) fn read_past<B: Backend>(
     requires room { 3 ≤ spare out.old }
     ensures answers { OnOk result
         (Answers rows.old rows.new (act_list out.old) (act_list out.new) now (Poll c want)) }
-    ensures limits { OnOk result (rows.new.limits ≡ rows.old.limits) }
     ensures faults { (shelf_of rows.old.entries).faults ≤ (shelf_of rows.new.entries).faults }
     ensures kept { OnErr result (act_list out.new ≡ act_list out.old) }
 {

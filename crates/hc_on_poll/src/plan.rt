@@ -36,7 +36,6 @@ pub(crate) fn wait_for_turn<B: Backend>(rows: &mut Rows<B>, c: u64, d: u64, out:
     ensures answers { (now want : ℕ) → AnswersMove rows.old rows.new (act_list out.old)
         (act_list out.new) now c want (Waits (waits.Turn d)) }
     ensures exchanges { rows.new.exchanges ≡ rows.old.exchanges }
-    ensures limits { rows.new.limits ≡ rows.old.limits }
     ensures faults { (shelf_of rows.new.entries).faults ≡ (shelf_of rows.old.entries).faults }
 {
     queue_again(rows, c);
@@ -52,7 +51,6 @@ fn queue_again<B: Backend>(rows: &mut Rows<B>, c: u64)
     ensures exchanges { rows.new.exchanges ≡ rows.old.exchanges }
     ensures entries { rows.new.entries ≡ rows.old.entries }
     ensures last { rows.new.last_start ≡ rows.old.last_start }
-    ensures limits { rows.new.limits ≡ rows.old.limits }
 {
     let consumer = rows.consumers.get(&c).unwrap();
     if let Place::Passed { .. } = consumer.place {
@@ -70,7 +68,6 @@ pub(crate) fn wait_for_use<B: Backend>(rows: &mut Rows<B>, c: u64, r: u64, d: u6
     ensures answers { (now want : ℕ) → AnswersMove rows.old rows.new (act_list out.old)
         (act_list out.new) now c want (Waits (waits.Busy d)) }
     ensures exchanges { rows.new.exchanges ≡ rows.old.exchanges }
-    ensures limits { rows.new.limits ≡ rows.old.limits }
     ensures faults { (shelf_of rows.new.entries).faults ≡ (shelf_of rows.old.entries).faults }
 {
     pass(rows, c, r);
@@ -83,7 +80,6 @@ fn pass<B: Backend>(rows: &mut Rows<B>, c: u64, r: u64)
     requires waits { IsSomeAnd (get nat_eq rows.old.consumers c) (IsWaiting rows.old.keys c) }
     ensures stands { StandsPassed rows.old rows.new c r }
     ensures exchanges { rows.new.exchanges ≡ rows.old.exchanges }
-    ensures limits { rows.new.limits ≡ rows.old.limits }
     ensures faults { (shelf_of rows.new.entries).faults ≡ (shelf_of rows.old.entries).faults }
 {
     let consumer = rows.consumers.get(&c).unwrap();
@@ -108,7 +104,6 @@ pub(crate) fn open_past<B: Backend>(
     requires room { 2 ≤ spare out.old }
     ensures answers { OnOk result (IsSomeAnd (get nat_eq rows.old.consumers c)
         (AnswersOpening rows.old rows.new (act_list out.old) (act_list out.new) now c need)) }
-    ensures limits { OnOk result (rows.new.limits ≡ rows.old.limits) }
     ensures faults { (shelf_of rows.new.entries).faults ≡ (shelf_of rows.old.entries).faults }
     ensures kept { OnErr result (act_list out.new ≡ act_list out.old) }
 {
@@ -142,7 +137,6 @@ fn fetch<B: Backend>(
     ensures answers { OnOk result ((want : ℕ) → AnswersMove rows.old rows.new
         (act_list out.old) (act_list out.new) now c want
         (Opens (next_of rows.old.exchanges) need request)) }
-    ensures limits { OnOk result (rows.new.limits ≡ rows.old.limits) }
     ensures faults { (shelf_of rows.new.entries).faults ≡ (shelf_of rows.old.entries).faults }
     ensures kept { OnErr result (act_list out.new ≡ act_list out.old) }
 {
@@ -168,7 +162,6 @@ pub(crate) fn fetch_bare<B: Backend>(
     requires room { 2 ≤ spare out.old }
     ensures answers { OnOk result (IsSomeAnd (get nat_eq rows.old.consumers c)
         (AnswersOpening rows.old rows.new (act_list out.old) (act_list out.new) now c need)) }
-    ensures limits { OnOk result (rows.new.limits ≡ rows.old.limits) }
     ensures faults { (shelf_of rows.new.entries).faults ≡ (shelf_of rows.old.entries).faults }
     ensures kept { OnErr result (act_list out.new ≡ act_list out.old) }
 {
@@ -198,7 +191,6 @@ pub(crate) fn fetch_with<B: Backend>(
     ensures answers { OnOk result (IsSomeAnd (get nat_eq rows.old.consumers c)
         (AnswersAsking rows.old rows.new (act_list out.old) (act_list out.new)
         now c need (plain head.now))) }
-    ensures limits { OnOk result (rows.new.limits ≡ rows.old.limits) }
     ensures faults { (shelf_of rows.new.entries).faults ≡ (shelf_of rows.old.entries).faults }
     ensures kept { OnErr result (act_list out.new ≡ act_list out.old) }
 {
@@ -226,7 +218,6 @@ fn fetch_as_it_is<B: Backend>(
     requires room { 2 ≤ spare out.old }
     ensures answers { OnOk result (IsSomeAnd (get nat_eq rows.old.consumers c)
         (AnswersOpening rows.old rows.new (act_list out.old) (act_list out.new) now c need)) }
-    ensures limits { OnOk result (rows.new.limits ≡ rows.old.limits) }
     ensures faults { (shelf_of rows.new.entries).faults ≡ (shelf_of rows.old.entries).faults }
     ensures kept { OnErr result (act_list out.new ≡ act_list out.old) }
 {
@@ -253,7 +244,6 @@ fn revalidate<B: Backend>(
     ensures answers { OnOk result (IsSomeAnd (get nat_eq rows.old.consumers c)
         (AnswersValidating rows.old rows.new (act_list out.old) (act_list out.new)
         now c (plain head.now))) }
-    ensures limits { OnOk result (rows.new.limits ≡ rows.old.limits) }
     ensures faults { (shelf_of rows.new.entries).faults ≡ (shelf_of rows.old.entries).faults }
     ensures kept { OnErr result (act_list out.new ≡ act_list out.old) }
 {
@@ -273,7 +263,6 @@ fn bypass<B: Backend>(rows: &mut Rows<B>, now: u64, c: u64, out: &mut Acts) -> R
     ensures answers { OnOk result (IsSomeAnd (get nat_eq rows.old.consumers c)
         (AnswersOpening rows.old rows.new (act_list out.old) (act_list out.new) now c
         needs.Bypass)) }
-    ensures limits { OnOk result (rows.new.limits ≡ rows.old.limits) }
     ensures faults { (shelf_of rows.new.entries).faults ≡ (shelf_of rows.old.entries).faults }
     ensures kept { OnErr result (act_list out.new ≡ act_list out.old) }
 {
@@ -304,7 +293,6 @@ fn begin_turn<B: Backend>(
     ensures number { IfOk result (λ x. x ≡ next_of rows.old.exchanges) }
     ensures begun { IfOk result (BeginsTurn rows.old rows.new now c need request.now) }
     ensures entries { OnOk result (rows.new.entries ≡ rows.old.entries) }
-    ensures limits { OnOk result (rows.new.limits ≡ rows.old.limits) }
     ensures faults { (shelf_of rows.new.entries).faults ≡ (shelf_of rows.old.entries).faults }
 {
     let aim = rows.keys.current(&request.key);

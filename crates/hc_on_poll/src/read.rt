@@ -49,7 +49,6 @@ pub(crate) fn read_bound<B: Backend>(
     requires room { 3 ≤ spare out.old }
     ensures answers { OnOk result
         (Answers rows.old rows.new (act_list out.old) (act_list out.new) now (Poll c want)) }
-    ensures limits { OnOk result (rows.new.limits ≡ rows.old.limits) }
     ensures faults { (shelf_of rows.old.entries).faults ≤ (shelf_of rows.new.entries).faults }
     ensures kept { OnErr result (act_list out.new ≡ act_list out.old) }
 {
@@ -88,7 +87,6 @@ fn read_on<B: Backend>(
     requires room { 3 ≤ spare out.old }
     ensures answers { OnOk result
         (Answers rows.old rows.new (act_list out.old) (act_list out.new) now (Poll c want)) }
-    ensures limits { OnOk result (rows.new.limits ≡ rows.old.limits) }
     ensures faults { (shelf_of rows.old.entries).faults ≤ (shelf_of rows.new.entries).faults }
     ensures kept { OnErr result (act_list out.new ≡ act_list out.old) }
 {

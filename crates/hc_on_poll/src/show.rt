@@ -43,7 +43,6 @@ pub(crate) fn bind<B: Backend>(
         (AnswersShowing rows.old rows.new (act_list out.old) (act_list out.new)
         c r (plain head.now) why span)) }
     ensures exchanges { OnOk result (rows.new.exchanges ≡ rows.old.exchanges) }
-    ensures limits { OnOk result (rows.new.limits ≡ rows.old.limits) }
     ensures faults { (shelf_of rows.new.entries).faults ≡ (shelf_of rows.old.entries).faults }
     ensures kept { OnErr result (act_list out.new ≡ act_list out.old) }
 {

@@ -36,7 +36,6 @@ pub(crate) fn await_stored<B: Backend>(
     requires room { 2 ≤ spare out.old }
     ensures answers { OnOk result ((want : ℕ) → Answers rows.old rows.new
         (act_list out.old) (act_list out.new) now (Poll c want)) }
-    ensures limits { OnOk result (rows.new.limits ≡ rows.old.limits) }
     ensures faults { (shelf_of rows.old.entries).faults ≤ (shelf_of rows.new.entries).faults }
     ensures kept { OnErr result (act_list out.new ≡ act_list out.old) }
 {
@@ -69,7 +68,6 @@ fn show_stored<B: Backend>(
     ensures answers { OnOk result
         (AnswersPolls rows.old rows.new (act_list out.old) (act_list out.new) c) }
     ensures exchanges { OnOk result (rows.new.exchanges ≡ rows.old.exchanges) }
-    ensures limits { OnOk result (rows.new.limits ≡ rows.old.limits) }
     ensures faults { (shelf_of rows.new.entries).faults ≡ (shelf_of rows.old.entries).faults }
     ensures kept { OnErr result (act_list out.new ≡ act_list out.old) }
 {

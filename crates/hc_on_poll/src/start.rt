@@ -26,7 +26,6 @@ pub fn start<B: Backend>(
     ensures answers { OnOk result ((before : List Act)
         → Answers rows.old rows.new before before now (Start c request.now)) }
     ensures exchanges { rows.new.exchanges ≡ rows.old.exchanges }
-    ensures limits { rows.new.limits ≡ rows.old.limits }
     ensures faults { (shelf_of rows.new.entries).faults ≡ (shelf_of rows.old.entries).faults }
 {
     let consumer = Consumer::new(request.copy()?, class_of(request), now);

@@ -2,6 +2,7 @@
 use Rattle.std.proofs.Common.{◌≡◌, ℕ, ◌+◌, refl, ◌∙◌}
 use Rattle.std.specs.Prelude.{nat_eq}
 use Rattle.std.specs.HashMap.{get}
+use Rattle.hc_rules.specs.declared.room.Limits.{Limits}
 use Rattle.hc_store.specs.declared.backend.Backend.{Ghosts}
 use Rattle.hc_stored.specs.Entries.{shelf_of}
 use Rattle.hc_entry.specs.Keys.{kept_of}
@@ -21,13 +22,13 @@ use Rattle.hc_state.proofs.Ties.{consumer_same, key_same, entry_same, exchange_s
 abbrev pub recounted : ℕ → ℕ → ℕ → Tables → Tables
 recounted moment entries received t = record t { moment = moment; entries = entries; received = received }
 
-pub stands_recounted : {B : Type 0} {g : Ghosts B} (r u : Rows B g) (t : Tables) (moment entries received : ℕ) → u.limits ≡ r.limits → u.last_start ≡ r.last_start
-    → u.consumers ≡ r.consumers → u.exchanges ≡ r.exchanges → u.keys ≡ r.keys → u.entries ≡ r.entries → RowsStand r t → RowsStand u (recounted moment entries received t)
+pub stands_recounted : {B : Type 0} {g : Ghosts B} {lim : Limits} (r u : Rows B g) (t : Tables) (moment entries received : ℕ) → u.last_start ≡ r.last_start
+    → u.consumers ≡ r.consumers → u.exchanges ≡ r.exchanges → u.keys ≡ r.keys → u.entries ≡ r.entries → RowsStand lim r t → RowsStand lim u (recounted moment entries received t)
 unfolding current bound kind_of
-stands_recounted r u t moment entries received limits last consumers exchanges same_keys same_entries stands =
+stands_recounted r u t moment entries received last consumers exchanges same_keys same_entries stands =
     let s : Tables = recounted moment entries received t in
     record {
-      limits = rw (same_entries, limits) stands.limits;
+      limits = rw same_entries stands.limits;
       last_start = last ∙ stands.last_start;
       next = rw exchanges stands.next;
       count = rw consumers stands.count;
@@ -41,6 +42,6 @@ stands_recounted r u t moment entries received limits last consumers exchanges s
     }
 
 -- an event that brings no bytes is counted
-pub stands_counted : {B : Type 0} {g : Ghosts B} (u : Rows B g) (t : Tables) (now : ℕ) (event : Event) → received_in event ≡ 0 → RowsStand u t → RowsStand u (with_event now event t)
+pub stands_counted : {B : Type 0} {g : Ghosts B} {lim : Limits} (u : Rows B g) (t : Tables) (now : ℕ) (event : Event) → received_in event ≡ 0 → RowsStand lim u t → RowsStand lim u (with_event now event t)
 stands_counted u t now event none stands =
-    stands_recounted u u t now (t.entries + 1) (t.received + received_in event) refl refl refl refl refl refl stands
+    stands_recounted u u t now (t.entries + 1) (t.received + received_in event) refl refl refl refl refl stands

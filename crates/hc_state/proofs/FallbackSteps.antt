@@ -2,6 +2,7 @@
 use Rattle.std.proofs.Common.{◌≡◌, ◌≢◌, inl, inr, ℕ, List, [], ◌∷◌, length, Bool, true, false, Option, Some, None, refl, ap, sym, ◌∙◌, subst, arith}
 use Rattle.std.specs.Prelude.{is_some, nat_eq, filter, not}
 use Rattle.std.specs.HashMap.{get, hash_map_len}
+use Rattle.hc_rules.specs.declared.room.Limits.{Limits}
 use Rattle.hc_store.specs.declared.backend.Backend.{Ghosts}
 use Rattle.hc_stored.specs.Entries.{shelf_of}
 use Rattle.hc_entry.specs.Keys.{kept_of}
@@ -61,7 +62,7 @@ one_is None is = false_true is
 one_is (Some a) is = refl
 
 -- what stays there isn't counted anew
-pub length_same : {B : Type 0} {g : Ghosts B} (r u : Rows B g) (t : Tables) (c : ℕ) (v : rows.Consumer) (q : Consumer) → RowsStand r t → t.consumer c ≡ Some v → is_live_place v.place ≡ true → BecomesAt r.consumers u.consumers c (Some q) → hash_map_len u.consumers ≡ hash_map_len r.consumers
+pub length_same : {B : Type 0} {g : Ghosts B} {lim : Limits} (r u : Rows B g) (t : Tables) (c : ℕ) (v : rows.Consumer) (q : Consumer) → RowsStand lim r t → t.consumer c ≡ Some v → is_live_place v.place ≡ true → BecomesAt r.consumers u.consumers c (Some q) → hash_map_len u.consumers ≡ hash_map_len r.consumers
 length_same r u t c v q stands row lives becomes =
     let kept : KeepsConsumer t (get nat_eq r.consumers c) (Some v) = subst (KeepsConsumer t (get nat_eq r.consumers c)) row (stands.consumers c) in
     let before : one (get nat_eq r.consumers c) ≡ 1 = one_is (get nat_eq r.consumers c) (some_by (get nat_eq r.consumers c) kept) in
@@ -74,9 +75,9 @@ length_same r u t c v q stands row lives becomes =
 
 -- ALL OF IT
 
-module _ {B : Type 0} {g : Ghosts B} (r u : Rows B g) (t : Tables) (c : ℕ) (v w : rows.Consumer) (q : Consumer) (stands : RowsStand r t) (row : t.consumer c ≡ Some v)
+module _ {B : Type 0} {g : Ghosts B} {lim : Limits} (r u : Rows B g) (t : Tables) (c : ℕ) (v w : rows.Consumer) (q : Consumer) (stands : RowsStand lim r t) (row : t.consumer c ≡ Some v)
     (was : reads v.place ≡ false) (is_now : reads w.place ≡ false) (lived : is_live_place v.place ≡ true) (lives : is_live_place w.place ≡ true)
-    (limits : u.limits ≡ r.limits) (last : u.last_start ≡ r.last_start) (exchanges : u.exchanges ≡ r.exchanges) (entries : u.entries ≡ r.entries)
+    (last : u.last_start ≡ r.last_start) (exchanges : u.exchanges ≡ r.exchanges) (entries : u.entries ≡ r.entries)
     (becomes : BecomesAt r.consumers u.consumers c (Some q)) (kept : KeepsConsumer t (Some q) (Some w)) (keys : (key : List ℕ) → KeepsKey (with_consumer c (Some w) t) key (kept_of u.keys key)) where
   abbrev s : Tables
   s = with_consumer c (Some w) t
@@ -103,9 +104,9 @@ module _ {B : Type 0} {g : Ghosts B} (r u : Rows B g) (t : Tables) (c : ℕ) (v 
   held x None = refl
   held x (Some z) = held_alike t s alike x z refl
 
-  pub falls_back : RowsStand u s
+  pub falls_back : RowsStand lim u s
   falls_back = record {
-    limits = rw (entries, limits) stands.limits;
+    limits = rw entries stands.limits;
     last_start = last ∙ stands.last_start;
     next = rw exchanges stands.next;
     count = length_same r u t c v q stands row lived becomes ∙ (stands.count ∙ sym (live_same t s refl live_each));

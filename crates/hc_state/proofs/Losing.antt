@@ -2,6 +2,7 @@
 use Rattle.std.proofs.Common.{◌≡◌, ◌≢◌, inl, inr, ℕ, List, [], ◌∷◌, Bool, true, Option, Some, None, refl, ap, sym, ◌∙◌, subst}
 use Rattle.std.specs.Prelude.{is_some, nat_eq, find, filter, option_map}
 use Rattle.std.specs.HashMap.{get, hash_map_len}
+use Rattle.hc_rules.specs.declared.room.Limits.{Limits}
 use Rattle.hc_store.specs.declared.backend.Backend.{Ghosts}
 use Rattle.hc_stored.specs.Entries.{shelf_of}
 use Rattle.hc_stored.specs.Kept as entry
@@ -190,13 +191,13 @@ module _ (t : Tables) (r : ℕ) (v : Representation) (alone : Option ℕ) (row :
 
 -- ALL OF IT
 
-pub stands_lost : {B : Type 0} {g : Ghosts B} (r u : Rows B g) (t : Tables) (q : ℕ) (v : Representation) (alone : Option ℕ) (row : t.representation q ≡ Some v) → RowsStand r t → v.alone ≡ None → HoldsNothing t q v alone
-    → u.limits ≡ r.limits → u.last_start ≡ r.last_start → u.consumers ≡ r.consumers → u.keys ≡ r.keys → u.exchanges ≡ r.exchanges
-    → shelf.Becomes (option_map (entry.kept_as_lost alone)) same_order q (shelf_of r.entries) (shelf_of u.entries) → shelf.is_kept (shelf_of r.entries) q ≡ true → RowsStand u (with_representation q (Some (lost_to alone v)) t)
-stands_lost r u t q v alone row stands nobody nothing limits last consumers keys exchanges becomes there =
+pub stands_lost : {B : Type 0} {g : Ghosts B} {lim : Limits} (r u : Rows B g) (t : Tables) (q : ℕ) (v : Representation) (alone : Option ℕ) (row : t.representation q ≡ Some v) → RowsStand lim r t → v.alone ≡ None → HoldsNothing t q v alone
+    → u.last_start ≡ r.last_start → u.consumers ≡ r.consumers → u.keys ≡ r.keys → u.exchanges ≡ r.exchanges
+    → shelf.Becomes (option_map (entry.kept_as_lost alone)) same_order q (shelf_of r.entries) (shelf_of u.entries) → shelf.is_kept (shelf_of r.entries) q ≡ true → RowsStand lim u (with_representation q (Some (lost_to alone v)) t)
+stands_lost r u t q v alone row stands nobody nothing last consumers keys exchanges becomes there =
     let z : Tables = with_representation q (Some (lost_to alone v)) t in
     record {
-      limits = becomes.limits ∙ (stands.limits ∙ sym limits);
+      limits = becomes.limits ∙ stands.limits;
       last_start = last ∙ stands.last_start;
       next = ap (λ z. next_of z) exchanges ∙ stands.next;
       count = ap (λ z. hash_map_len z) consumers ∙ stands.count;

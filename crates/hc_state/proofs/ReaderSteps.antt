@@ -37,9 +37,9 @@ pub entries_read : (t : Tables) (a b : Shelf) → shelf.Stays a b → KeepsEntri
 entries_read t a b stays kept = record { each = λ q. rw (stays.kept q) (kept.each q); order = stays.order ∙ kept.order }
 
 -- what stands over a store stands after a read of it
-pub stands_read : {B : Type 0} {g : Ghosts B} (r u : Rows B g) (t : Tables) → u.limits ≡ r.limits → u.last_start ≡ r.last_start → u.consumers ≡ r.consumers → u.exchanges ≡ r.exchanges → u.keys ≡ r.keys → shelf.Stays (shelf_of r.entries) (shelf_of u.entries) → RowsStand r t → RowsStand u t
-stands_read r u t limits last consumers exchanges same_keys read stands = record {
-  limits = read.limits ∙ (stands.limits ∙ sym limits);
+pub stands_read : {B : Type 0} {g : Ghosts B} {lim : Limits} (r u : Rows B g) (t : Tables) → u.last_start ≡ r.last_start → u.consumers ≡ r.consumers → u.exchanges ≡ r.exchanges → u.keys ≡ r.keys → shelf.Stays (shelf_of r.entries) (shelf_of u.entries) → RowsStand lim r t → RowsStand lim u t
+stands_read r u t last consumers exchanges same_keys read stands = record {
+  limits = read.limits ∙ stands.limits;
   last_start = last ∙ stands.last_start;
   next = ap (λ z. next_of z) exchanges ∙ stands.next;
   count = ap (λ z. hash_map_len z) consumers ∙ stands.count;
@@ -49,14 +49,15 @@ stands_read r u t limits last consumers exchanges same_keys read stands = record
   entries = entries_read t (shelf_of r.entries) (shelf_of u.entries) read stands.entries;
 }
 
-pub some_read : {B : Type 0} {g : Ghosts B} (r u : Rows B g) → u.limits ≡ r.limits → u.last_start ≡ r.last_start → u.consumers ≡ r.consumers → u.exchanges ≡ r.exchanges → u.keys ≡ r.keys → shelf.Stays (shelf_of r.entries) (shelf_of u.entries) → Stands r → Stands u
-some_read r u limits last consumers exchanges same_keys read s = record {
+pub some_read : {B : Type 0} {g : Ghosts B} (r u : Rows B g) → u.last_start ≡ r.last_start → u.consumers ≡ r.consumers → u.exchanges ≡ r.exchanges → u.keys ≡ r.keys → shelf.Stays (shelf_of r.entries) (shelf_of u.entries) → Stands r → Stands u
+some_read r u last consumers exchanges same_keys read s = record {
+  limits = s.limits;
   t = s.t;
-  facts = rw limits s.facts;
+  facts = s.facts;
   numbers = s.numbers;
   within_limits = s.within_limits;
   received = s.received;
-  rows = stands_read r u s.t limits last consumers exchanges same_keys read s.rows;
+  rows = stands_read r u s.t last consumers exchanges same_keys read s.rows;
 }
 
 -- who answers after a read of the store answers before it
@@ -143,12 +144,12 @@ module _ (t : Tables) (c : ℕ) (v : rows.Consumer) (shown : Bool) (given : ℕ)
   pub exchange_reading : (y : ℕ) (known : Known) → held_for s y (t.exchange y) ≡ held_for t y (t.exchange y) → KeepsExchange t y known → KeepsExchange s y known
   exchange_reading y known same kept = exchange_same t s y known (record { row = refl; brings = λ z at. refl; held = same }) kept
 
-  module _ {B : Type 0} {g : Ghosts B} (r u : Rows B g) (stands : RowsStand r t) (lived : is_live_place v.place ≡ true)
-      (limits : u.limits ≡ r.limits) (last : u.last_start ≡ r.last_start) (same_keys : u.keys ≡ r.keys) (next : next_of u.exchanges ≡ next_of r.exchanges) (read : shelf.Stays (shelf_of r.entries) (shelf_of u.entries))
+  module _ {B : Type 0} {g : Ghosts B} {lim : Limits} (r u : Rows B g) (stands : RowsStand lim r t) (lived : is_live_place v.place ≡ true)
+      (last : u.last_start ≡ r.last_start) (same_keys : u.keys ≡ r.keys) (next : next_of u.exchanges ≡ next_of r.exchanges) (read : shelf.Stays (shelf_of r.entries) (shelf_of u.entries))
       (q : Consumer) (becomes : BecomesAt r.consumers u.consumers c (Some q)) (kept : IsKept t q w) (exchanges : (y : ℕ) → KeepsExchange s y (table_of u.exchanges y)) where
-    pub stands_reading : RowsStand u s
+    pub stands_reading : RowsStand lim u s
     stands_reading = record {
-      limits = read.limits ∙ (stands.limits ∙ sym limits);
+      limits = read.limits ∙ stands.limits;
       last_start = last ∙ stands.last_start;
       next = next ∙ stands.next;
       count = length_same r u t c v q stands row lived becomes ∙ (stands.count ∙ sym (live_same t s refl live_each));

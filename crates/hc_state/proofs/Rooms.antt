@@ -4,6 +4,7 @@ use Rattle.std.proofs.lemmas.List.{append_assoc, append-nil}
 use Rattle.std.proofs.lemmas.Bool.Decides.{nat_tests}
 use Rattle.std.specs.Prelude.{is_some, nat_eq, filter, map, reverse, not, ◌&&◌, ◌||◌, ◌==◌}
 use Rattle.std.specs.List.{sum_by, IsDistinct}
+use Rattle.hc_rules.specs.declared.room.Limits.{Limits}
 use Rattle.hc_store.specs.declared.backend.Backend.{Ghosts}
 use Rattle.hc_stored.specs.Entries.{shelf_of}
 use Rattle.hc_stored.specs.Kept.{Kept, itself, is_nobody}
@@ -63,7 +64,7 @@ distinct_once (n ∷ ns) once = distinct-first n ns (not_among n ns once.0) (dis
 
 -- WHAT THE SHELF SAYS
 
-module _ {B : Type 0} {g : Ghosts B} (r : Rows B g) (t : Tables) (may : MayLetGo t) (stands : RowsStand r t) where
+module _ {B : Type 0} {g : Ghosts B} {lim : Limits} (r : Rows B g) (t : Tables) (may : MayLetGo t) (stands : RowsStand lim r t) where
   abbrev shelf : Shelf
   shelf = shelf_of r.entries
 
@@ -95,7 +96,7 @@ module _ {B : Type 0} {g : Ghosts B} (r : Rows B g) (t : Tables) (may : MayLetGo
       ∙ sym (filter_both (λ q. is_idle t q (t.representation q)) (λ q. is_unused (shelf.kept q)) (λ q. is_usable_row (t.representation q)) (reverse t.used)
       (λ q. row_idle q (shelf.kept q) (t.representation q) refl (stands.entries.each q))))
 
-module _ {B : Type 0} {g : Ghosts B} (r : Rows B g) (t : Tables) (law : MayMakeRoom t) (stands : RowsStand r t) where
+module _ {B : Type 0} {g : Ghosts B} {lim : Limits} (r : Rows B g) (t : Tables) (law : MayMakeRoom t) (stands : RowsStand lim r t) where
   abbrev its : Shelf
   its = shelf_of r.entries
 
@@ -135,10 +136,10 @@ module _ {B : Type 0} {g : Ghosts B} (r : Rows B g) (t : Tables) (law : MayMakeR
       ∙ ap (λ f. sum_by f t.founded) (same_functions (weight_at its) (weight_now t) weight_is)
 
   -- so the room is
-  pub room_is : (write : Write) → room_of its.limits its.used write (map (weight_at its) (idle its)) ≡ room_now r.limits t write
+  pub room_is : (write : Write) → room_of its.limits its.used write (map (weight_at its) (idle its)) ≡ room_now lim t write
   room_is write =
       rw (stands.limits, used_is, idle_is r t law.may stands)
-      (ap (λ f. room_of r.limits (weights_now t) write (map f (idle_now t))) (same_functions (weight_at its) (weight_now t) weight_is))
+      (ap (λ f. room_of lim (weights_now t) write (map f (idle_now t))) (same_functions (weight_at its) (weight_now t) weight_is))
 
 -- THE LOOP
 
@@ -177,20 +178,18 @@ map-append (x ∷ xs) ys = ap (λ zs. act.Evicted x ∷ zs) (map-append xs ys)
 
 -- The first i of those that were idle are evicted.
 pub record HaveGone {B : Type 0} {g : Ghosts B} (r u : Rows B g) (now i : ℕ) (before out : List Act) (whole spare : ℕ) : Type 0 where
-  pub gone : (t : Tables) → MayMakeRoom t → RowsStand r t → GivesWay u t now (take i (idle_now t)) before out
+  pub gone : (lim : Limits) (t : Tables) → MayMakeRoom t → RowsStand lim r t → GivesWay lim u t now (take i (idle_now t)) before out
   pub appends : Appends before out
   pub fits : spare + i ≡ whole
-  pub limits : u.limits ≡ r.limits
   pub last_start : u.last_start ≡ r.last_start
   pub exchanges : u.exchanges ≡ r.exchanges
   pub faults : (shelf_of u.entries).faults ≡ (shelf_of r.entries).faults
 
 pub none_gone : {B : Type 0} {g : Ghosts B} (r : Rows B g) (now : ℕ) (before : List Act) (whole : ℕ) → HaveGone r r now 0 before before whole whole
 none_gone r now before whole = record {
-  gone = λ t law stands. record { acts = sym (append-nil before); rows = stands };
+  gone = λ lim t law stands. record { acts = sym (append-nil before); rows = stands };
   appends = ([], sym (append-nil before));
   fits = omega arith;
-  limits = refl;
   last_start = refl;
   exchanges = refl;
   faults = refl;
@@ -198,54 +197,53 @@ none_gone r now before whole = record {
 
 module _ {B : Type 0} {g : Ghosts B} (r u : Rows B g) (now i : ℕ) (before out : List Act) (whole spare : ℕ) (gone : HaveGone r u now i before out whole spare) where
   -- what is idle then
-  idle_then : (t : Tables) → MayMakeRoom t → RowsStand r t → idle (shelf_of u.entries) ≡ drop i (idle_now t)
+  idle_then : {lim : Limits} (t : Tables) → MayMakeRoom t → RowsStand lim r t → idle (shelf_of u.entries) ≡ drop i (idle_now t)
   idle_then t law stands =
-      idle_is u (let_all_go now (take i (idle_now t)) t) (keeps_may_all now (take i (idle_now t)) t law.may) (gone.gone t law stands).rows
+      idle_is u (let_all_go now (take i (idle_now t)) t) (keeps_may_all now (take i (idle_now t)) t law.may) (gone.gone _ t law stands).rows
       ∙ idle_after now (take i (idle_now t)) (drop i (idle_now t)) t law.may law.used (sym (take_rest i (idle_now t)))
 
   pub one_gone : (next : Rows B g) (n : ℕ) (after : List Act) (left : ℕ) → Some n ≡ first_of (idle (shelf_of u.entries)) → after ≡ out ++ (act.Evicted n ∷ []) → left + 1 ≡ spare
-      → ((t : Tables) → MayLetGo t → RowsStand u t → RowsStand next (let_go now n t)) → next.limits ≡ u.limits → next.last_start ≡ u.last_start → next.exchanges ≡ u.exchanges
+      → ((lim : Limits) (t : Tables) → MayLetGo t → RowsStand lim u t → RowsStand lim next (let_go now n t)) → next.last_start ≡ u.last_start → next.exchanges ≡ u.exchanges
       → (shelf_of next.entries).faults ≡ (shelf_of u.entries).faults → HaveGone r next now (i + 1) before after whole left
-  one_gone next n after left first acts less goes limits last exchanges faults = record {
-    gone = λ t law stands.
+  one_gone next n after left first acts less goes last exchanges faults = record {
+    gone = λ lim t law stands.
         let xs = idle_now t in
-        let was = gone.gone t law stands in
+        let was = gone.gone _ t law stands in
         let found = first_is (drop i xs) n (first ∙ ap first_of (idle_then t law stands)) in
         let more : take (i + 1) xs ≡ take i xs ++ n ∷ [] = take_next i n xs found.0 found.1 in
         record {
           acts = acts ∙ (ap (λ zs. zs ++ (act.Evicted n ∷ [])) was.acts ∙ (append_assoc before (map act.Evicted (take i xs)) (act.Evicted n ∷ [])
               ∙ (ap (λ zs. before ++ zs) (sym (map-append (take i xs) (n ∷ []))) ∙ ap (λ zs. before ++ map act.Evicted zs) (sym more))));
-          rows = subst (RowsStand next) (sym (ap (λ zs. let_all_go now zs t) more ∙ all_more now (take i xs) (n ∷ []) t)) (goes (let_all_go now (take i xs) t) (keeps_may_all now (take i xs) t law.may) was.rows);
+          rows = subst (RowsStand lim next) (sym (ap (λ zs. let_all_go now zs t) more ∙ all_more now (take i xs) (n ∷ []) t)) (goes _ (let_all_go now (take i xs) t) (keeps_may_all now (take i xs) t law.may) was.rows);
         };
     appends = (gone.appends.0 ++ (act.Evicted n ∷ []), acts ∙ (ap (λ zs. zs ++ (act.Evicted n ∷ [])) gone.appends.1 ∙ append_assoc before gone.appends.0 (act.Evicted n ∷ [])));
     fits = (let fits = gone.fits in omega (arith, fits, less));
-    limits = limits ∙ gone.limits;
     last_start = last ∙ gone.last_start;
     exchanges = exchanges ∙ gone.exchanges;
     faults = faults ∙ gone.faults;
   }
 
   -- the room is that of the tables
-  way_is : (write : Write) (count : ℕ) → room_for_write r write ≡ room.After count → (t : Tables) → MayMakeRoom t → RowsStand r t → giving_way r.limits t write ≡ take count (idle_now t)
-  way_is write count is t law stands = ap (first_idle t) (sym (room_is r t law stands write) ∙ is)
+  way_is : (write : Write) (count : ℕ) → room_for_write r write ≡ room.After count → (lim : Limits) (t : Tables) → MayMakeRoom t → RowsStand lim r t → giving_way lim t write ≡ take count (idle_now t)
+  way_is write count is lim t law stands = ap (first_idle t) (sym (room_is r t law stands write) ∙ is)
 
-  pub all_gone : (write : Write) (count : ℕ) → room_for_write r write ≡ room.After count → i ≡ count → (t : Tables) → MayMakeRoom t → RowsStand r t → GivesWay u t now (giving_way r.limits t write) before out
-  all_gone write count is end t law stands =
-      subst (λ zs. GivesWay u t now zs before out) (ap (λ n. take n (idle_now t)) end ∙ sym (way_is write count is t law stands)) (gone.gone t law stands)
+  pub all_gone : (write : Write) (count : ℕ) → room_for_write r write ≡ room.After count → i ≡ count → (lim : Limits) (t : Tables) → MayMakeRoom t → RowsStand lim r t → GivesWay lim u t now (giving_way lim t write) before out
+  all_gone write count is end lim t law stands =
+      subst (λ zs. GivesWay lim u t now zs before out) (ap (λ n. take n (idle_now t)) end ∙ sym (way_is write count is _ t law stands)) (gone.gone _ t law stands)
 
   -- nothing more is idle
-  pub no_more : (write : Write) (count : ℕ) → room_for_write r write ≡ room.After count → i ≤ count → None ≡ first_of (idle (shelf_of u.entries)) → (t : Tables) → MayMakeRoom t → RowsStand r t → GivesWay u t now (giving_way r.limits t write) before out
-  no_more write count is le none t law stands =
+  pub no_more : (write : Write) (count : ℕ) → room_for_write r write ≡ room.After count → i ≤ count → None ≡ first_of (idle (shelf_of u.entries)) → (lim : Limits) (t : Tables) → MayMakeRoom t → RowsStand lim r t → GivesWay lim u t now (giving_way lim t write) before out
+  no_more write count is le none lim t law stands =
       let empty : drop i (idle_now t) ≡ [] = none_first (drop i (idle_now t)) (none ∙ ap first_of (idle_then t law stands)) in
-      subst (λ zs. GivesWay u t now zs before out) (sym (take_all i count (idle_now t) le empty) ∙ sym (way_is write count is t law stands)) (gone.gone t law stands)
+      subst (λ zs. GivesWay lim u t now zs before out) (sym (take_all i count (idle_now t) le empty) ∙ sym (way_is write count is _ t law stands)) (gone.gone _ t law stands)
 
 -- nothing gives way where that makes no room
-pub none_way : {B : Type 0} {g : Ghosts B} (r : Rows B g) (now : ℕ) (write : Write) (before : List Act) → ((count : ℕ) → room_for_write r write ≡ room.After count → ⊥) → (t : Tables) → MayMakeRoom t → RowsStand r t
-    → GivesWay r t now (giving_way r.limits t write) before before
-none_way r now write before never t law stands =
-    subst (λ zs. GivesWay r t now zs before before) (sym (by_room (room_for_write r write) refl)) (record { acts = sym (append-nil before); rows = stands })
+pub none_way : {B : Type 0} {g : Ghosts B} (r : Rows B g) (now : ℕ) (write : Write) (before : List Act) → ((count : ℕ) → room_for_write r write ≡ room.After count → ⊥) → (lim : Limits) (t : Tables) → MayMakeRoom t → RowsStand lim r t
+    → GivesWay lim r t now (giving_way lim t write) before before
+none_way r now write before never lim t law stands =
+    subst (λ zs. GivesWay lim r t now zs before before) (sym (by_room (room_for_write r write) refl)) (record { acts = sym (append-nil before); rows = stands })
   where
-    by_room : (z : Room) → room_for_write r write ≡ z → giving_way r.limits t write ≡ []
+    by_room : (z : Room) → room_for_write r write ≡ z → giving_way lim t write ≡ []
     by_room (room.After count) is = absurd (never count is)
     by_room room.TooLarge is = ap (first_idle t) (sym (room_is r t law stands write) ∙ is)
     by_room room.Full is = ap (first_idle t) (sym (room_is r t law stands write) ∙ is)

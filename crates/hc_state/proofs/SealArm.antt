@@ -159,11 +159,11 @@ module _ {B : Type 0} {g : Ghosts B} (limits : Limits) (r u : Rows B g) (t : Tab
   after = with_consumers f t
 
   -- it is sealed
-  pub stopped_sealed : RowsStand r after → u.limits ≡ r.limits → u.last_start ≡ r.last_start → u.consumers ≡ r.consumers → u.keys ≡ r.keys → exch.Becomes known.without_exchange x r.exchanges u.exchanges
-      → (sort : Kind) (total : Option ℕ) → sort ≡ kind_left stays.p → total ≡ stays.e.head.total → shelf.Becomes (option_map (entry.sealed_kept sort total)) same_order q (shelf_of r.entries) (shelf_of u.entries) → out ≡ before → HasStopped faults u t f before out now x
-  stopped_sealed stands same_limits last consumers keys becomes sort total sort_is total_is seals acts =
+  pub stopped_sealed : RowsStand limits r after → u.last_start ≡ r.last_start → u.consumers ≡ r.consumers → u.keys ≡ r.keys → exch.Becomes known.without_exchange x r.exchanges u.exchanges
+      → (sort : Kind) (total : Option ℕ) → sort ≡ kind_left stays.p → total ≡ stays.e.head.total → shelf.Becomes (option_map (entry.sealed_kept sort total)) same_order q (shelf_of r.entries) (shelf_of u.entries) → out ≡ before → HasStopped limits faults u t f before out now x
+  stopped_sealed stands last consumers keys becomes sort total sort_is total_is seals acts =
       quiet limits u t facts f x alone stop now faults before out None stays.keeps acts
-      (stands_closed r u after x stands stop.unawaited same_limits last consumers keys becomes seals.limits
+      (stands_closed r u after x stands stop.unawaited last consumers keys becomes seals.limits
       (entries_sealed limits t facts f x stop.w stop.row stop.is_open (shelf_of r.entries) q stays (shelf_of u.entries) sort total sort_is total_is stands.entries seals))
 
   not_lost : stays.p.is_lost ≡ false
@@ -190,14 +190,14 @@ module _ {B : Type 0} {g : Ghosts B} (limits : Limits) (r u : Rows B g) (t : Tab
   lost_now = with_representation q (Some (lost_to alone stays.p)) after
 
   -- its seal failed
-  pub stopped_lost : (mid : Rows B g) → RowsStand mid (let_go now q lost_now) → KeepsRest mid u → u.consumers ≡ mid.consumers → exch.Becomes known.without_exchange x mid.exchanges u.exchanges → faults < (shelf_of u.entries).faults → out ≡ before ++ (act.Lost q kind.Fault ∷ []) → HasStopped faults u t f before out now x
+  pub stopped_lost : (mid : Rows B g) → RowsStand limits mid (let_go now q lost_now) → KeepsRest mid u → u.consumers ≡ mid.consumers → exch.Becomes known.without_exchange x mid.exchanges u.exchanges → faults < (shelf_of u.entries).faults → out ≡ before ++ (act.Lost q kind.Fault ∷ []) → HasStopped limits faults u t f before out now x
   stopped_lost mid stands rest consumers becomes failed acts = unsealed (record {
     sealed = record { w = stop.w; r = q; v = stays.p; row = stop.row; of_r = stays.of_q; there = stays.row; stays = stays.stays; kept = stays.keeps };
     acts = acts;
     failed = failed;
     rows =
-        subst (λ (z : Option ℕ). RowsStand u (let_go now q (with_representation q (Some (lost_to z stays.p)) (tables_after_close x after)))) who_is
-        (stands_unstored mid u (let_go now q lost_now) x stands (unawaited_go now q lost_now x stop.unawaited) apart rest.limits rest.last_start consumers rest.keys rest.entries becomes);
+        subst (λ (z : Option ℕ). RowsStand limits u (let_go now q (with_representation q (Some (lost_to z stays.p)) (tables_after_close x after)))) who_is
+        (stands_unstored mid u (let_go now q lost_now) x stands (unawaited_go now q lost_now x stop.unawaited) apart rest.last_start consumers rest.keys rest.entries becomes);
   })
     where
       gone_there : (o : Option Representation) (p : Representation) → option_map as_gone o ≡ Some p → p.is_gone ≡ true
@@ -215,10 +215,10 @@ module _ {B : Type 0} {g : Ghosts B} (limits : Limits) (r u : Rows B g) (t : Tab
 -- WHAT A SEAL LEAVES
 
 -- where it failed, all that is kept stays
-pub stands_stayed : {B : Type 0} {g : Ghosts B} (r u : Rows B g) (t : Tables) → u.limits ≡ r.limits → u.last_start ≡ r.last_start → u.consumers ≡ r.consumers → u.exchanges ≡ r.exchanges → u.keys ≡ r.keys
-    → shelf.Stays (shelf_of r.entries) (shelf_of u.entries) → RowsStand r t → RowsStand u t
-stands_stayed r u t limits last consumers exchanges same_keys stays stands = record {
-  limits = stays.limits ∙ (stands.limits ∙ sym limits);
+pub stands_stayed : {B : Type 0} {g : Ghosts B} {lim : Limits} (r u : Rows B g) (t : Tables) → u.last_start ≡ r.last_start → u.consumers ≡ r.consumers → u.exchanges ≡ r.exchanges → u.keys ≡ r.keys
+    → shelf.Stays (shelf_of r.entries) (shelf_of u.entries) → RowsStand lim r t → RowsStand lim u t
+stands_stayed r u t last consumers exchanges same_keys stays stands = record {
+  limits = stays.limits ∙ stands.limits;
   last_start = last ∙ stands.last_start;
   next = ap (λ z. next_of z) exchanges ∙ stands.next;
   count = ap (λ z. hash_map_len z) consumers ∙ stands.count;

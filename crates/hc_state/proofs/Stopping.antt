@@ -2,6 +2,7 @@
 use Rattle.std.proofs.Common.{◌≡◌, ◌≢◌, ℕ, ◌<◌, ◌^◌, Bool, true, false, Option, Some, None, refl, ap, sym, ◌∙◌, subst, arith}
 use Rattle.std.proofs.lemmas.Bool.Decides.{nat_tests}
 use Rattle.std.specs.Prelude.{is_some, is_none, nat_eq, not, ◌&&◌, if◌then◌else◌}
+use Rattle.hc_rules.specs.declared.room.Limits.{Limits}
 use Rattle.hc_store.specs.declared.backend.Backend.{Ghosts}
 use Rattle.hc_event.specs.declared.event.Response.{Response}
 use Rattle.hc_record.specs.Head.{Head}
@@ -66,7 +67,7 @@ Means t s shelf x w stop.Nothing = IsApartNow t x
 Means t s shelf x w (stop.LetGo q) = GoesWith t x q w
 Means t s shelf x w (stop.Seal q) = Stays t s shelf x q w
 
-module _ {B : Type 0} {g : Ghosts B} (r : Rows B g) (t : Tables) (facts : Facts r.limits t) (f : ℕ → Option rows.Consumer) (stands : RowsStand r (with_consumers f t))
+module _ {B : Type 0} {g : Ghosts B} {lim : Limits} (r : Rows B g) (t : Tables) (facts : Facts lim t) (f : ℕ → Option rows.Consumer) (stands : RowsStand lim r (with_consumers f t))
     (x : ℕ) (w : Exchange) (row : t.exchange x ≡ Some w) (opened : w.is_open ≡ true) where
   abbrev s : Tables
   s = with_consumers f t

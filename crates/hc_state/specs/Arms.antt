@@ -68,7 +68,6 @@ IsEntered true c key before after = keys.Becomes (on_line (line_with c)) key bef
 
 -- all but what is kept by key stays
 pub record KeepsRows {B : Type 0} {g : Ghosts B} (r u : Rows B g) : Type 0 where
-  pub limits : u.limits ≡ r.limits
   pub last_start : u.last_start ≡ r.last_start
   pub consumers : u.consumers ≡ r.consumers
   pub exchanges : u.exchanges ≡ r.exchanges
@@ -79,7 +78,6 @@ IsLeft before after c k = LeftIf (queues k) c k.request.key before after
 
 -- A consumer is in no line any more.
 pub record LeavesLine {B : Type 0} {g : Ghosts B} (r u : Rows B g) (c : ℕ) : Type 0 where
-  pub limits : u.limits ≡ r.limits
   pub last_start : u.last_start ≡ r.last_start
   pub consumers : u.consumers ≡ r.consumers
   pub exchanges : u.exchanges ≡ r.exchanges
@@ -125,7 +123,6 @@ closes_open x known = if is_some known.running then x ∷ [] else []
 
 -- A consumer is gone, and nothing is known of its exchange any more.
 pub record Leaves {B : Type 0} {g : Ghosts B} (r u : Rows B g) (c x : ℕ) : Type 0 where
-  pub limits : u.limits ≡ r.limits
   pub last_start : u.last_start ≡ r.last_start
   pub keys : u.keys ≡ r.keys
   pub entries : u.entries ≡ r.entries

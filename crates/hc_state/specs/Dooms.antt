@@ -1,6 +1,7 @@
 -- What a doom changes: whoever waits for the key starts over, what heads they waited for are closed, and what is current is let go.
 use Rattle.std.specs.Prelude.{◌≡◌, ℕ, ◌+◌, ◌<◌, ◌≤◌, ◌⊎◌, List, ◌++◌, length, map, true, false, Option, Some, None, option_and_then, nat_eq, nat_le, if◌then◌else◌}
 use Rattle.std.specs.HashMap.{get}
+use Rattle.hc_rules.specs.declared.room.Limits.{Limits}
 use Rattle.hc_store.specs.declared.backend.Backend.{Ghosts}
 use Rattle.hc_event.specs.declared.act.Act.{Act}
 use Rattle.hc_event.specs.declared.act.Act.TheVariants as act
@@ -114,8 +115,8 @@ Unbinds (Some k) c before after = UnbindsAt k.place c before after
 -- ALL OF IT
 
 -- The key is doomed: the acts, and the tables for which the rows stand.
-pub record IsDoomed {B : Type 0} {g : Ghosts B} (u : Rows B g) (t : Tables) (before out : List Act) (now : ℕ) (key : List ℕ) (refused : Option ℕ) : Type 0 where
+pub record IsDoomed {B : Type 0} {g : Ghosts B} (lim : Limits) (u : Rows B g) (t : Tables) (before out : List Act) (now : ℕ) (key : List ℕ) (refused : Option ℕ) : Type 0 where
   pub acts : out ≡ before ++ map act.Close (awaited_and t key refused)
-  pub rows : RowsStand u
+  pub rows : RowsStand lim u
       (let_some_go now (current t key)
       (all_closed (awaited_and t key refused) (woken now key t)))

@@ -128,7 +128,6 @@ pub record IsFounding (o : Open) (k : Consumer) (g : HeadCase) (now : ℕ) (resp
 -- The exchange x founds this for c: that is current, and x brings it.
 pub record BeginsFounding {B : Type 0} {g : Ghosts B} (r u : Rows B g) (x c : ℕ) (f : Founding)
     (response : Response) : Type 0 where
-  pub limits : u.limits ≡ r.limits
   pub last_start : u.last_start ≡ r.last_start
   pub consumers : ChangesAt r.consumers u.consumers c (founds_with x f.shared f.lo f.hi)
   pub exchanges : exch.Becomes

@@ -1,6 +1,7 @@
 -- Heads that bring bytes of holes of what is stored.
 use Rattle.std.specs.Prelude.{◌≡◌, ℕ, List, Bool, true, false, Option, Some, None, IsSomeAnd, nat_eq, option_map}
 use Rattle.std.specs.HashMap.{get}
+use Rattle.hc_rules.specs.declared.room.Limits.{Limits}
 use Rattle.hc_store.specs.declared.backend.Backend.{Ghosts}
 use Rattle.hc_event.specs.declared.act.Act.{Act}
 use Rattle.hc_event.specs.declared.act.Need.TheVariants as need
@@ -70,7 +71,6 @@ bringing r response known =
 -- x brings r, and c, which waited for its head, waits for its key no more
 pub record Brings {B : Type 0} {g : Ghosts B} (a u : Rows B g) (c x r : ℕ)
     (response : Response) : Type 0 where
-  pub limits : u.limits ≡ a.limits
   pub last_start : u.last_start ≡ a.last_start
   pub consumers : u.consumers ≡ a.consumers
   pub entries : u.entries ≡ a.entries
@@ -85,7 +85,6 @@ without_own k = record k { own = None }
 
 -- x writes r for several, and isn't c's own any more
 pub record Shares {B : Type 0} {g : Ghosts B} (a u : Rows B g) (c x r : ℕ) : Type 0 where
-  pub limits : u.limits ≡ a.limits
   pub last_start : u.last_start ≡ a.last_start
   pub exchanges : u.exchanges ≡ a.exchanges
   pub keys : u.keys ≡ a.keys
@@ -107,8 +106,8 @@ LacksOnly from response (Some k) =
 -- asked for the whole
 abbrev pub ResumesIs : {B : Type 0} {g : Ghosts B} → Rows B g → ℕ → ℕ → ℕ → Response → Bool → Type 0
 ResumesIs r c x q response result =
-    (t : Tables) (w : Exchange) (p : Representation) (k : Kept) (from to : ℕ) →
-    Facts r.limits t → RowsStand r t → t.exchange x ≡ Some w → w.is_open ≡ true →
+    (lim : Limits) (t : Tables) (w : Exchange) (p : Representation) (k : Kept) (from to : ℕ) →
+    Facts lim t → RowsStand lim r t → t.exchange x ≡ Some w → w.is_open ≡ true →
     w.need ≡ need.Hole from to → w.c ≡ c → t.representation q ≡ Some p → p.is_lost ≡ false →
     (shelf_of r.entries).kept q ≡ Some k → k.head.total ≡ p.head.total →
     result ≡ resumes t response w p

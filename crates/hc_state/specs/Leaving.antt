@@ -70,7 +70,6 @@ UnbindsAt _ c before after = after ≡ before
 
 -- A consumer stands nowhere any more.
 pub record LeavesPlace {B : Type 0} {g : Ghosts B} (r u : Rows B g) (c : ℕ) (k : Consumer) : Type 0 where
-  pub limits : u.limits ≡ r.limits
   pub last_start : u.last_start ≡ r.last_start
   pub consumers : u.consumers ≡ r.consumers
   pub line : LeavesKey c k.request.key r.keys u.keys

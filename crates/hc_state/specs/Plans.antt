@@ -1,6 +1,7 @@
 -- The plan of a consumer that reads nothing yet: what it looks at.
 use Rattle.std.specs.Prelude.{◌≡◌, ℕ, List, Bool, true, false, Option, Some, None, unwrap_or, is_some, IsSomeAnd, ◌==◌, ◌&&◌, not, if◌then◌else◌}
 use Rattle.std.specs.Option.{ForSome}
+use Rattle.hc_rules.specs.declared.room.Limits.{Limits}
 use Rattle.hc_store.specs.declared.backend.Backend.{Ghosts}
 use Rattle.hc_event.specs.declared.act.Act.{Act}
 use Rattle.hc_range.specs.declared.range.Span.{Span}
@@ -86,8 +87,8 @@ in_line k = record k { place = place.Line }
 -- the rows stand for tables in which it is in line
 abbrev pub StandsInLine : {B : Type 0} {g : Ghosts B} → Rows B g → Rows B g → ℕ → Type 0
 StandsInLine r u c =
-    (t : Tables) (k : rows.Consumer) → Lawful t → RowsStand r t → t.consumer c ≡ Some k →
-    RowsStand u (with_consumer c (Some (in_line k)) t)
+    (lim : Limits) (t : Tables) (k : rows.Consumer) → Lawful t → RowsStand lim r t → t.consumer c ≡ Some k →
+    RowsStand lim u (with_consumer c (Some (in_line k)) t)
 
 -- WHO OPENS AN EXCHANGE
 
@@ -115,8 +116,8 @@ tables_in_turn now c x need request v t =
 -- the rows stand for tables in which it does
 abbrev pub BeginsTurn : {B : Type 0} {g : Ghosts B} → Rows B g → Rows B g → ℕ → ℕ → Need → Request → ℕ → Type 0
 BeginsTurn r u now c need request x =
-    (t : Tables) (v : rows.Consumer) → Facts r.limits t → RowsStand r t → t.consumer c ≡ Some v →
-    RowsStand u (tables_in_turn now c x need request v t)
+    (lim : Limits) (t : Tables) (v : rows.Consumer) → Facts lim t → RowsStand lim r t → t.consumer c ≡ Some v →
+    RowsStand lim u (tables_in_turn now c x need request v t)
 
 -- the poll is answered where c asks whether this stored head still holds
 abbrev pub AnswersValidating : {B : Type 0} {g : Ghosts B} → Rows B g → Rows B g → List Act → List Act → ℕ → ℕ → Head → Consumer → Type 0
@@ -154,9 +155,9 @@ let_through r k = record k { place = place.Passed r (kept_by k.place) }
 -- the rows stand for tables in which it has
 abbrev pub StandsPassed : {B : Type 0} {g : Ghosts B} → Rows B g → Rows B g → ℕ → ℕ → Type 0
 StandsPassed r u c q =
-    (t : Tables) (k : rows.Consumer) → Lawful t → RowsStand r t → t.consumer c ≡ Some k →
+    (lim : Limits) (t : Tables) (k : rows.Consumer) → Lawful t → RowsStand lim r t → t.consumer c ≡ Some k →
     current t k.request.key ≡ Some q →
-    RowsStand u (with_consumer c (Some (let_through q k)) t)
+    RowsStand lim u (with_consumer c (Some (let_through q k)) t)
 
 -- WHICH PLAN IS CARRIED OUT
 
@@ -172,7 +173,7 @@ IsLookedAt keys view seen k =
 -- the plan of the consumer, by whatever tables the rows stand for
 abbrev pub IsPlanOf : {B : Type 0} {g : Ghosts B} → Rows B g → ℕ → ℕ → Plan → Type 0
 IsPlanOf r now c plan =
-    (t : Tables) (v : rows.Consumer) → Facts r.limits t → RowsStand r t → t.consumer c ≡ Some v →
+    (lim : Limits) (t : Tables) (v : rows.Consumer) → Facts lim t → RowsStand lim r t → t.consumer c ≡ Some v →
     plan_of (planning.plan_view t now c v) ≡ plan
 
 -- each poll of it is answered

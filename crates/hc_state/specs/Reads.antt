@@ -1,6 +1,7 @@
 -- What is done for a consumer that is bound.
 use Rattle.std.specs.Prelude.{◌≡◌, ◌<◌, ℕ, ◌+◌, List, length, Bool, true, false, Option, Some, None, is_some, nat_lt, not, ◌==◌, ◌&&◌, if◌then◌else◌, IsSomeAnd}
 use Rattle.std.specs.Option.{option_or}
+use Rattle.hc_rules.specs.declared.room.Limits.{Limits}
 use Rattle.hc_store.specs.declared.backend.Backend.{Ghosts}
 use Rattle.hc_event.specs.declared.act.Act.{Act}
 use Rattle.hc_event.specs.declared.act.Why.{Why}
@@ -46,9 +47,9 @@ pub data MayMisread (t : Tables) (q : ℕ) (k : rows.Consumer) : Type 0 where
 -- the poll of c, which may read q, is answered where the store has failed since so many faults
 abbrev pub AnswersMisread : {B : Type 0} {g : Ghosts B} → Rows B g → Rows B g → List Act → List Act → ℕ → ℕ → ℕ → Type 0
 AnswersMisread r u before out now c q =
-    (want faults : ℕ) (t : Tables) (k : rows.Consumer) → faults < (shelf_of r.entries).faults →
-    Facts r.limits t → RowsStand r t → t.consumer c ≡ Some k → MayMisread t q k →
-    Answered r.limits faults u t before out now (event.Poll c want)
+    (want faults : ℕ) (lim : Limits) (t : Tables) (k : rows.Consumer) → faults < (shelf_of r.entries).faults →
+    Facts lim t → RowsStand lim r t → t.consumer c ≡ Some k → MayMisread t q k →
+    Answered lim faults u t before out now (event.Poll c want)
 
 -- WHO IS TO BE SHOWN A HEAD
 
@@ -127,7 +128,6 @@ run_ahead s q o count = if count == 0 then None else stretch (cells_at s q) o co
 
 -- All but the count of faults stays.
 pub record ReadsStore {B : Type 0} {g : Ghosts B} (r u : Rows B g) : Type 0 where
-  pub limits : u.limits ≡ r.limits
   pub last_start : u.last_start ≡ r.last_start
   pub consumers : u.consumers ≡ r.consumers
   pub exchanges : u.exchanges ≡ r.exchanges

@@ -34,7 +34,6 @@ RenewsIf false requested answered from r before after = Stays before after
 
 -- all but what is kept of representations stays
 pub record KeepsBeside {B : Type 0} {g : Ghosts B} (r u : Rows B g) : Type 0 where
-  pub limits : u.limits ≡ r.limits
   pub last_start : u.last_start ≡ r.last_start
   pub consumers : u.consumers ≡ r.consumers
   pub exchanges : u.exchanges ≡ r.exchanges

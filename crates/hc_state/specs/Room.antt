@@ -1,5 +1,6 @@
 -- What gives way to a write.
 use Rattle.std.specs.Prelude.{◌≡◌, ℕ, ◌+◌, ◌≤◌, List, ◌++◌, map, Option, Some, None}
+use Rattle.hc_rules.specs.declared.room.Limits.{Limits}
 use Rattle.hc_store.specs.declared.backend.Backend.{Ghosts}
 use Rattle.hc_store.specs.declared.error.StoreError.{StoreError}
 use Rattle.hc_store.specs.declared.error.StoreError.TheVariants as errors
@@ -47,7 +48,7 @@ loss_by errors.Full = Some kind.Full
 loss_by errors.NoMemory = None
 
 -- These are evicted, one after another: it is told, and the rows stand for the tables without them.
-pub record GivesWay {B : Type 0} {g : Ghosts B} (u : Rows B g) (t : Tables) (now : ℕ) (rs : List ℕ)
+pub record GivesWay {B : Type 0} {g : Ghosts B} (lim : Limits) (u : Rows B g) (t : Tables) (now : ℕ) (rs : List ℕ)
     (before out : List Act) : Type 0 where
   pub acts : out ≡ before ++ map act.Evicted rs
-  pub rows : RowsStand u (let_all_go now rs t)
+  pub rows : RowsStand lim u (let_all_go now rs t)

@@ -1,4 +1,4 @@
--- The rows stand for what the tables say.
+-- The rows, over a store that may hold so much, stand for what the tables say.
 use Rattle.std.specs.Prelude.{◌≡◌, ℕ, ◌+◌, ◌<◌, ◌≤◌, ◌^◌, List, ◌++◌, Bool, true, false, Option, Some, None, is_some, option_map, nat_eq}
 use Rattle.std.specs.Option.{option_and_then}
 use Rattle.std.specs.HashMap.{get, hash_map_len}
@@ -43,8 +43,8 @@ use Rattle.hc_state.specs.Kept.{KeepsConsumer, KeepsExchange}
 use Rattle.hc_state.specs.Lines.{KeepsKey}
 use Rattle.hc_state.specs.Stored.{KeepsEntries}
 
-pub record RowsStand {B : Type 0} {g : Ghosts B} (r : Rows B g) (t : Tables) : Type 0 where
-  pub limits : (shelf_of r.entries).limits ≡ r.limits
+pub record RowsStand {B : Type 0} {g : Ghosts B} (lim : Limits) (r : Rows B g) (t : Tables) : Type 0 where
+  pub limits : (shelf_of r.entries).limits ≡ lim
   pub last_start : r.last_start ≡ t.last_start
   pub next : next_of r.exchanges ≡ t.opened + 1
   pub count : hash_map_len r.consumers ≡ live t
@@ -57,22 +57,23 @@ pub record RowsStand {B : Type 0} {g : Ghosts B} (r : Rows B g) (t : Tables) : T
 pub record StandsForSome {B : Type 0} {g : Ghosts B} (r : Rows B g) (bytes : ℕ) : Type 0 where
   pub contents : Contents
   pub h : History
-  pub begins : may_begin r.limits contents ≡ true
+  pub begins : may_begin (shelf_of r.entries).limits contents ≡ true
   pub short : AreShort contents
   pub within_limits : FieldsAreWithinLimits h
   pub starts : StartsHaveTargets h
-  pub run : IsRun r.limits contents h
+  pub run : IsRun (shelf_of r.entries).limits contents h
   pub received : (tables contents h).received ≤ bytes
-  pub rows : RowsStand r (tables contents h)
+  pub rows : RowsStand (shelf_of r.entries).limits r (tables contents h)
 
 -- the rows stand for tables that have what those of every run have, and of which few bytes came
 pub record Stands {B : Type 0} {g : Ghosts B} (r : Rows B g) : Type 0 where
+  pub limits : Limits
   pub t : Tables
-  pub facts : Facts r.limits t
+  pub facts : Facts limits t
   pub numbers : Numbers t
   pub within_limits : RequestsAreWithinLimits t
   pub received : t.received < 2 ^ 61
-  pub rows : RowsStand r t
+  pub rows : RowsStand limits r t
 
 -- WHAT THE REFUSALS LOOK AT
 
@@ -96,7 +97,6 @@ gate_of r event = record {
 
 -- The rows hold what they held.
 pub record Stays {B : Type 0} {g : Ghosts B} (r u : Rows B g) : Type 0 where
-  pub limits : u.limits ≡ r.limits
   pub last_start : u.last_start ≡ r.last_start
   pub consumers : StaysAll r.consumers u.consumers
   pub exchanges : exch.Stays r.exchanges u.exchanges
@@ -105,7 +105,6 @@ pub record Stays {B : Type 0} {g : Ghosts B} (r u : Rows B g) : Type 0 where
 
 -- but for consumers and exchanges
 pub record KeepsRest {B : Type 0} {g : Ghosts B} (r u : Rows B g) : Type 0 where
-  pub limits : u.limits ≡ r.limits
   pub last_start : u.last_start ≡ r.last_start
   pub keys : u.keys ≡ r.keys
   pub entries : u.entries ≡ r.entries
@@ -118,42 +117,42 @@ pub record Answered {B : Type 0} {g : Ghosts B} (limits : Limits) (faults : ℕ)
   pub shown : flaw_in (accepted_acts limits t now event flaw) ≡ flaw
   pub may : may_be limits t (entry_of limits t now event flaw) flaw ≡ true
   pub caused : is_fault flaw ≡ true → faults < (shelf_of u.entries).faults
-  pub rows : RowsStand u (after_accepted t (entry_of limits t now event flaw))
+  pub rows : RowsStand limits u (after_accepted t (entry_of limits t now event flaw))
 
 -- whatever tables the rows stand for that have what those of every run have
 abbrev pub Answers : {B : Type 0} {g : Ghosts B} → Rows B g → Rows B g → List Act → List Act → ℕ → Event → Type 0
 Answers r u before out now event =
-    (t : Tables) → Facts r.limits t → RowsStand r t → denial t event ≡ None →
-    Answered r.limits (shelf_of r.entries).faults u t before out now event
+    (lim : Limits) (t : Tables) → Facts lim t → RowsStand lim r t → denial t event ≡ None →
+    Answered lim (shelf_of r.entries).faults u t before out now event
 
 -- and at which the poll of c makes this move
 abbrev pub AnswersMove : {B : Type 0} {g : Ghosts B} → Rows B g → Rows B g → List Act → List Act → ℕ → ℕ → ℕ → Move → Type 0
 AnswersMove r u before out now c want move =
-    (t : Tables) (k : Consumer) → Facts r.limits t → RowsStand r t → t.consumer c ≡ Some k →
+    (lim : Limits) (t : Tables) (k : Consumer) → Facts lim t → RowsStand lim r t → t.consumer c ≡ Some k →
     move_of t now want c k ≡ move →
-    Answered r.limits (shelf_of r.entries).faults u t before out now (event.Poll c want)
+    Answered lim (shelf_of r.entries).faults u t before out now (event.Poll c want)
 
 -- The head of an exchange is answered, where its case is this, it dooms nothing, and this isn't used any more.
 abbrev pub AnswersCase : {B : Type 0} {g : Ghosts B} → Rows B g → Rows B g → List Act → List Act → ℕ → ℕ → Response → HeadCase → Option ℕ → Type 0
 AnswersCase r u before out now x response case goes =
-    (t : Tables) (w : Exchange) → Facts r.limits t → RowsStand r t →
+    (lim : Limits) (t : Tables) (w : Exchange) → Facts lim t → RowsStand lim r t →
     denial t (event.Head x response) ≡ None → t.exchange x ≡ Some w →
     head_case (head_view t false w response) ≡ case → doomed_by_case (Some case) w response ≡ None →
     goes ≡ goes_with t w response case →
-    Answered r.limits (shelf_of r.entries).faults u t before out now (event.Head x response)
+    Answered lim (shelf_of r.entries).faults u t before out now (event.Head x response)
 
 -- the same, where it dooms its key
 abbrev pub AnswersDooming : {B : Type 0} {g : Ghosts B} → Rows B g → Rows B g → List Act → List Act → ℕ → ℕ → Response → HeadCase → Type 0
 AnswersDooming r u before out now x response case =
-    (t : Tables) (w : Exchange) → Facts r.limits t → RowsStand r t →
+    (lim : Limits) (t : Tables) (w : Exchange) → Facts lim t → RowsStand lim r t →
     denial t (event.Head x response) ≡ None → t.exchange x ≡ Some w →
     head_case (head_view t false w response) ≡ case → changes w response ≡ true →
-    Answered r.limits (shelf_of r.entries).faults u t before out now (event.Head x response)
+    Answered lim (shelf_of r.entries).faults u t before out now (event.Head x response)
 
 -- the same, where it is a 304 to a conditional request that was made about this, and may select that
 abbrev pub AnswersUnselected : {B : Type 0} {g : Ghosts B} → Rows B g → Rows B g → List Act → List Act → ℕ → ℕ → Response → Option ℕ → Type 0
 AnswersUnselected r u before out now x response aim =
-    (t : Tables) (w : Exchange) → Facts r.limits t → RowsStand r t →
+    (lim : Limits) (t : Tables) (w : Exchange) → Facts lim t → RowsStand lim r t →
     denial t (event.Head x response) ≡ None → t.exchange x ≡ Some w → aim ≡ w.aim →
     head_case (record (head_view t false w response) { selects = false }) ≡ heads.NotValidated →
-    Answered r.limits (shelf_of r.entries).faults u t before out now (event.Head x response)
+    Answered lim (shelf_of r.entries).faults u t before out now (event.Head x response)

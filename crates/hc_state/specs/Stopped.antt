@@ -1,5 +1,6 @@
 -- An exchange stops: what that takes, and what becomes of what it brought.
 use Rattle.std.specs.Prelude.{◌≡◌, ◌<◌, ℕ, List, [], ◌∷◌, ◌++◌, Bool, true, false, Option, Some, None, is_some, option_map, if◌then◌else◌, ◌==◌}
+use Rattle.hc_rules.specs.declared.room.Limits.{Limits}
 use Rattle.hc_store.specs.declared.backend.Backend.{Ghosts}
 use Rattle.hc_event.specs.declared.act.Act.{Act}
 use Rattle.hc_event.specs.declared.act.Act.TheVariants as act
@@ -74,23 +75,23 @@ pub record IsSealed (t : Tables) (x : ℕ) : Type 0 where
   pub kept : going_with t (Some x) ≡ None
 
 -- its seal failed: it is lost, and let go
-pub record SealFailed {B : Type 0} {g : Ghosts B} (faults : ℕ) (u : Rows B g)
+pub record SealFailed {B : Type 0} {g : Ghosts B} (lim : Limits) (faults : ℕ) (u : Rows B g)
     (t : Tables) (f : ℕ → Option Consumer) (before out : List Act) (now x : ℕ) : Type 0 where
   pub sealed : IsSealed t x
   pub acts : out ≡ before ++ (act.Lost sealed.r kind.Fault ∷ [])
   pub failed : faults < (shelf_of u.entries).faults
-  pub rows : RowsStand u (let_go now sealed.r
+  pub rows : RowsStand lim u (let_go now sealed.r
       (with_representation sealed.r
       (Some (lost_to (exclusive t sealed.r sealed.v) sealed.v))
       (tables_after_close x (with_consumers f t))))
 
 -- x is closed, and what it brought is sealed or let go
-pub data HasStopped {B : Type 0} {g : Ghosts B} (faults : ℕ) (u : Rows B g)
+pub data HasStopped {B : Type 0} {g : Ghosts B} (lim : Limits) (faults : ℕ) (u : Rows B g)
     (t : Tables) (f : ℕ → Option Consumer) (before out : List Act) (now x : ℕ) : Type 0 where
   quietly : out ≡ before →
-      RowsStand u (let_some_go now (going_with t (Some x)) (tables_after_close x (with_consumers f t))) →
-      HasStopped faults u t f before out now x
-  unsealed : SealFailed faults u t f before out now x → HasStopped faults u t f before out now x
+      RowsStand lim u (let_some_go now (going_with t (Some x)) (tables_after_close x (with_consumers f t))) →
+      HasStopped lim faults u t f before out now x
+  unsealed : SealFailed lim faults u t f before out now x → HasStopped lim faults u t f before out now x
 
 -- WHERE IT BREAKS OFF
 
@@ -107,16 +108,16 @@ pub data IsOwn (t : Tables) (x c : ℕ) (w : Exchange) : Type 0 where
       t.consumer c ≡ Some k → k.own ≡ Some x → IsOwn t x c w
 
 -- to whoever reads from it the failure is due, and it has stopped
-pub data BrokeOff {B : Type 0} {g : Ghosts B} (faults : ℕ) (u : Rows B g) (t : Tables)
+pub data BrokeOff {B : Type 0} {g : Ghosts B} (lim : Limits) (faults : ℕ) (u : Rows B g) (t : Tables)
     (before out : List Act) (now x : ℕ) (w : Exchange) (why : Cause) : Type 0 where
   own : (c : ℕ) → IsOwn t x c w →
-      HasStopped faults u t (due_for t (λ d. c == d) why) before out now x →
-      BrokeOff faults u t before out now x w why
+      HasStopped lim faults u t (due_for t (λ d. c == d) why) before out now x →
+      BrokeOff lim faults u t before out now x w why
   shared : (v : Representation) → t.representation (family x w) ≡ Some v →
       is_written t v ≡ true → v.writer ≡ Some x →
-      HasStopped faults u t (due_for t (λ d. is_bound (family x w) (t.consumer d)) why)
+      HasStopped lim faults u t (due_for t (λ d. is_bound (family x w) (t.consumer d)) why)
       before out now x →
-      BrokeOff faults u t before out now x w why
+      BrokeOff lim faults u t before out now x w why
 
 -- c, which was shown nothing, waits for its head
 pub record Waited (t : Tables) (x c : ℕ) (w : Exchange) (k : Consumer) : Type 0 where
@@ -137,22 +138,21 @@ pub record TellsNoLength (t : Tables) (x : ℕ) : Type 0 where
 
 -- all but representations stays
 pub record KeepsBesideEntries {B : Type 0} {g : Ghosts B} (r u : Rows B g) : Type 0 where
-  pub limits : u.limits ≡ r.limits
   pub last_start : u.last_start ≡ r.last_start
   pub consumers : u.consumers ≡ r.consumers
   pub exchanges : u.exchanges ≡ r.exchanges
   pub keys : u.keys ≡ r.keys
 
 -- what is stored is gone, or sealed as whole and so long, or lost and let go
-pub data SealedWhole {B : Type 0} {g : Ghosts B} (faults : ℕ) (r u : Rows B g)
+pub data SealedWhole {B : Type 0} {g : Ghosts B} (lim : Limits) (faults : ℕ) (r u : Rows B g)
     (t : Tables) (before out : List Act) (now q : ℕ) (v : Representation) (n : ℕ) : Type 0 where
   gone : v.is_gone ≡ true → out ≡ before → u ≡ r →
-      SealedWhole faults r u t before out now q v n
+      SealedWhole lim faults r u t before out now q v n
   sealed : v.is_gone ≡ false → out ≡ before → KeepsBesideEntries r u →
       Becomes (option_map (entry.sealed_kept kinds.Whole (Some n))) same_order q
       (shelf_of r.entries) (shelf_of u.entries) →
-      SealedWhole faults r u t before out now q v n
+      SealedWhole lim faults r u t before out now q v n
   lost : v.is_gone ≡ false → out ≡ before ++ (act.Lost q kind.Fault ∷ []) →
       faults < (shelf_of u.entries).faults →
-      RowsStand u (let_go now q (with_representation q (Some (lost_to None v)) t)) →
-      SealedWhole faults r u t before out now q v n
+      RowsStand lim u (let_go now q (with_representation q (Some (lost_to None v)) t)) →
+      SealedWhole lim faults r u t before out now q v n

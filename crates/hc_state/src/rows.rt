@@ -2,7 +2,6 @@
 use crate::consumer::Consumer;
 use hc_entry::KeyTable;
 use hc_exch::Exchanges;
-use hc_rules::Limits;
 use hc_store::Backend;
 use hc_stored::Entries;
 use std::collections::HashMap;
@@ -12,7 +11,6 @@ use std::collections::HashMap;
 /// it, and that it stands for the tables of a run, is said by the contracts of those who do it.
 #[derive(Drop)]
 pub struct Rows<B: Backend> {
-    pub limits: Limits,
     /// The number of the last consumer that started.
     pub last_start: u64,
     /// The live ones, by number.

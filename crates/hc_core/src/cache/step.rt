@@ -40,7 +40,6 @@ impl<B: Backend> Cache<B> {
             steps: 0,
             received: 0,
             rows: Rows {
-                limits,
                 last_start: 0,
                 consumers: HashMap::new(alloc),
                 exchanges: Exchanges::new(alloc),

@@ -43,7 +43,6 @@ pub(crate) fn answer<B: Backend>(
         × (act_list out.new ≡ act_list out.old ++ act.Denied why ∷ [])) }
     ensures accepted { OnOk result (refusal_of (gate_of rows.old event.now) event.now ≡ None
         → Answers rows.old rows.new (act_list out.old) (act_list out.new) now event.now) }
-    ensures limits { OnOk result (rows.new.limits ≡ rows.old.limits) }
     ensures faults { OnOk result
         ((shelf_of rows.old.entries).faults ≤ (shelf_of rows.new.entries).faults) }
     ensures kept { OnErr result (act_list out.new ≡ act_list out.old) }
@@ -74,7 +73,6 @@ fn accept<B: Backend>(
     requires room { MOST_ACTS ≤ spare out.old }
     ensures answers { OnOk result
         (Answers rows.old rows.new (act_list out.old) (act_list out.new) now event.now) }
-    ensures limits { OnOk result (rows.new.limits ≡ rows.old.limits) }
     ensures faults { OnOk result
         ((shelf_of rows.old.entries).faults ≤ (shelf_of rows.new.entries).faults) }
     ensures kept { OnErr result (act_list out.new ≡ act_list out.old) }

@@ -36,9 +36,9 @@ pub(crate) fn before<B: Backend>(
     requires first { 0 < contents.now.next_exchange }
     requires below { contents.now.next_exchange < 2 ^ 62 }
     ensures stands { IfOk result
-        (λ rows. RowsStand rows
+        (λ rows. RowsStand (shelf_of rows.entries).limits rows
         (first_tables (with_items [] (plain_contents contents.entry.now)))) }
-    ensures limits { IfOk result (λ rows. rows.limits ≡ limits) }
+    ensures limits { IfOk result (λ rows. (shelf_of rows.entries).limits ≡ limits) }
     ensures used { IfOk result (λ rows. (shelf_of rows.entries).used ≡ 0) }
     ensures store { IfOk result (λ rows. store_of rows.entries ≡ store) }
     ensures back { IfErr result (λ back. back ≡ store) }
@@ -48,7 +48,6 @@ pub(crate) fn before<B: Backend>(
         Err(store) => return Err(store),
     };
     Ok(Rows {
-        limits,
         last_start: contents.last_consumer,
         consumers: HashMap::new(alloc),
         exchanges: Exchanges::from_number(alloc, contents.next_exchange),
@@ -62,13 +61,13 @@ pub(crate) fn begin_with<B: Backend>(
     rows: &mut Rows<B>,
     contents: &Contents,
 ) -> Result<(), StoreError>
-    requires fit { may_begin rows.old.limits (plain_contents contents.now) ≡ true }
-    requires start { RowsStand rows.old
+    requires fit { may_begin (shelf_of rows.old.entries).limits (plain_contents contents.now) ≡ true }
+    requires start { RowsStand (shelf_of rows.old.entries).limits rows.old
         (first_tables (with_items [] (plain_contents contents.now))) }
     requires none { (shelf_of rows.old.entries).used ≡ 0 }
     ensures ok { OnOk result
-        (RowsStand rows.new (first_tables (plain_contents contents.entry.now))) }
-    ensures limits { rows.new.limits ≡ rows.old.limits }
+        (RowsStand (shelf_of rows.new.entries).limits rows.new
+        (first_tables (plain_contents contents.entry.now))) }
     ensures bounds { (shelf_of rows.new.entries).limits ≡ (shelf_of rows.old.entries).limits }
     ensures no_limit { HasNoLimit result }
     ensures cause { HasCause (shelf_of rows.old.entries).faults
@@ -92,7 +91,6 @@ fn begin_item<B: Backend>(rows: &mut Rows<B>, item: &Content) -> Result<(), Stor
     ensures ok { OnOk result (KeepsItem rows.old rows.new (plain_item item.now)) }
     ensures used { OnOk result ((shelf_of rows.new.entries).used
         ≡ (shelf_of rows.old.entries).used + weight_of (bytes_in item.now.runs)) }
-    ensures limits { rows.new.limits ≡ rows.old.limits }
     ensures bounds { (shelf_of rows.new.entries).limits ≡ (shelf_of rows.old.entries).limits }
     ensures no_limit { HasNoLimit result }
     ensures cause { HasCause (shelf_of rows.old.entries).faults

@@ -46,7 +46,7 @@ from_same : {a b : ℕ} → b ≡ a → a ≤ b
 from_same is = omega (arith, is)
 
 pub returns-in-Some-clause-answers : goal.returns-in-Some-clause-answers
-returns-in-Some-clause-answers g c = on_ok_by c.lose_shared_piece.result c.lose_shared_piece.ensures.lost (λ lost t facts stands goes.
+returns-in-Some-clause-answers g c = on_ok_by c.lose_shared_piece.result c.lose_shared_piece.ensures.lost (λ lost lim t facts stands goes.
     let r = c.args.rows.now in
     let put = c.store_piece.new.rows in
     let refused = c.in_ok-store_piece.ensures.refused c.in-Some.kind (told c.in_ok-store_piece.field-0 (Some c.in-Some.kind) c.in-Some.is) in
@@ -54,17 +54,17 @@ returns-in-Some-clause-answers g c = on_ok_by c.lose_shared_piece.result c.lose_
     let there = sym (ap t.representation it.of_q) ∙ it.there in
     let writes = some_one c.writing.result (sym c.is_some-writing.ensures ∙ c.if-writing.true) in
     let on = (writes_it r t facts stands c.args.r it.v there writes.0 (sym c.writing.ensures ∙ writes.1)).0 in
-    shared_answered r put t facts stands c.args.now c.args.x c.args.r c.args.bytes.now goes it c.in-Some.kind (act_list c.args.out.now) (act_list c.store_piece.new.out) (refused.refuses t facts stands goes) on
-    c.lose_shared_piece.new.rows (act_list c.lose_shared_piece.new.out) (λ may stood. lost (let_all_go c.args.now (evicted r.limits t c.args.now (event.Piece c.args.x c.args.bytes.now)) t) it.w it.v may stood) (from_same c.lose_shared_piece.ensures.faults))
+    shared_answered r put t facts stands c.args.now c.args.x c.args.r c.args.bytes.now goes it c.in-Some.kind (act_list c.args.out.now) (act_list c.store_piece.new.out) (refused.refuses _ t facts stands goes) on
+    c.lose_shared_piece.new.rows (act_list c.lose_shared_piece.new.out) (λ may stood. lost _ (let_all_go c.args.now (evicted lim t c.args.now (event.Piece c.args.x c.args.bytes.now)) t) it.w it.v may stood) (from_same c.lose_shared_piece.ensures.faults))
 
 pub returns-in-Some-2-clause-answers : goal.returns-in-Some-2-clause-answers
-returns-in-Some-2-clause-answers g c = on_ok_by c.lose_own_piece.result c.lose_own_piece.ensures.lost (λ lost t facts stands goes.
+returns-in-Some-2-clause-answers g c = on_ok_by c.lose_own_piece.result c.lose_own_piece.ensures.lost (λ lost lim t facts stands goes.
     let r = c.args.rows.now in
     let put = c.store_piece.new.rows in
     let refused = c.in_ok-store_piece.ensures.refused c.in-Some.kind (told c.in_ok-store_piece.field-0 (Some c.in-Some.kind) c.in-Some.is) in
     let it = stores_of r t facts c.args.x c.args.r c.args.bytes.now stands goes c.requires.stored in
     let there = sym (ap t.representation it.of_q) ∙ it.there in
     let off = unwritten r t facts stands c.args.r it.v there (sym c.writing.ensures ∙ none_at c.writing.result (sym c.is_some-writing.ensures ∙ c.if-writing.false)) in
-    own_answered r put t facts stands c.args.now c.args.x c.args.r c.args.bytes.now goes it c.in-Some.kind (act_list c.args.out.now) (act_list c.store_piece.new.out) (refused.refuses t facts stands goes) off
-    c.exclusive-alone.result (c.exclusive-alone.ensures t it.v facts stands there it.fresh)
-    c.lose_own_piece.new.rows (act_list c.lose_own_piece.new.out) (λ may stood. lost (let_all_go c.args.now (evicted r.limits t c.args.now (event.Piece c.args.x c.args.bytes.now)) t) it.w it.v may stood) c.lose_own_piece.ensures.acts (from_same c.lose_own_piece.ensures.faults))
+    own_answered r put t facts stands c.args.now c.args.x c.args.r c.args.bytes.now goes it c.in-Some.kind (act_list c.args.out.now) (act_list c.store_piece.new.out) (refused.refuses _ t facts stands goes) off
+    c.exclusive-alone.result (c.exclusive-alone.ensures _ t it.v facts stands there it.fresh)
+    c.lose_own_piece.new.rows (act_list c.lose_own_piece.new.out) (λ may stood. lost _ (let_all_go c.args.now (evicted lim t c.args.now (event.Piece c.args.x c.args.bytes.now)) t) it.w it.v may stood) c.lose_own_piece.ensures.acts (from_same c.lose_own_piece.ensures.faults))

@@ -10,5 +10,5 @@ piece-requires-clause-below g c =
     ends_below r c.args.x _ c.requires.stands (let short = c.requires.short in omega (arith, short)) (table_of r.exchanges c.args.x).running refl c.requires.accepted
 
 pub returns-clause-answers : goal.returns-clause-answers
-returns-clause-answers g c = λ now before t facts stands goes.
-    held_answered c.args.rows.now _ t facts stands now c.args.x c.args.bytes.now goes c.requires.unstored refl refl refl refl refl c.in_ok-piece.ensures.ok before
+returns-clause-answers g c = λ now before lim t facts stands goes.
+    held_answered c.args.rows.now _ t facts stands now c.args.x c.args.bytes.now goes c.requires.unstored refl refl refl refl c.in_ok-piece.ensures.ok before

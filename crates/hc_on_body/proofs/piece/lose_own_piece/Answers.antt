@@ -5,10 +5,10 @@ use Rattle.hc_on_leave.proofs.StoreArm.{accepted_open}
 use Rattle.hc_on_body.proofs.piece.lose_own_piece.Goals as goal
 
 pub returns-clause-lost : goal.returns-clause-lost
-returns-clause-lost g c = λ t w v may stands.
+returns-clause-lost g c = λ lim t w v may stands.
     let b = may.brings in
     let r = c.args.rows.now in
     let taken = accepted_open (table_of r.exchanges c.args.x).running _ c.requires.accepted in
     own_stands c.lose_to.new.rows _ t c.args.now c.args.r c.args.x c.args.bytes.now w v c.args.alone taken.1 may
-    (c.lose_to.ensures.lost t v b.may b.there b.nobody may.none stands)
-    refl refl refl refl refl c.in_ok-piece.ensures.ok
+    (c.lose_to.ensures.lost _ t v b.may b.there b.nobody may.none stands)
+    refl refl refl refl c.in_ok-piece.ensures.ok

@@ -32,7 +32,7 @@ put_piece-requires-clause-there g c =
     let k = kept_of ((shelf_of r.entries).kept c.args.r) c.unwrap-entry.result (sym c.entry.ensures ∙ c.unwrap-entry.ensures) in
     let had : (q : Kept) → (shelf_of r.entries).kept c.args.r ≡ Some q → c.unwrap-entry.result.size ≡ size q.cells = λ q at. k.2 ∙ ap (λ (z : Kept). size z.cells) (same_row ((shelf_of r.entries).kept c.args.r) k.0 q k.1 at) in
     let made = c.make_room.ensures in
-    kept_mid r c.make_room.new.rows c.args.now c.args.x c.args.r c.args.bytes.now c.requires.stands c.requires.accepted c.requires.stored (act_list c.args.out.now) (act_list c.make_room.new.out) c.unwrap-entry.result.size had made.gives made.limits made.last_start made.exchanges
+    kept_mid r c.make_room.new.rows c.args.now c.args.x c.args.r c.args.bytes.now c.requires.stands c.requires.accepted c.requires.stored (act_list c.args.out.now) (act_list c.make_room.new.out) c.unwrap-entry.result.size had made.gives made.last_start made.exchanges
 
 pub put_piece-requires-clause-absent : goal.put_piece-requires-clause-absent
 put_piece-requires-clause-absent g c =
@@ -40,7 +40,7 @@ put_piece-requires-clause-absent g c =
     let k = kept_of ((shelf_of r.entries).kept c.args.r) c.unwrap-entry.result (sym c.entry.ensures ∙ c.unwrap-entry.ensures) in
     let had : (q : Kept) → (shelf_of r.entries).kept c.args.r ≡ Some q → c.unwrap-entry.result.size ≡ size q.cells = λ q at. k.2 ∙ ap (λ (z : Kept). size z.cells) (same_row ((shelf_of r.entries).kept c.args.r) k.0 q k.1 at) in
     let made = c.make_room.ensures in
-    absent_mid r c.make_room.new.rows c.args.now c.args.x c.args.r c.args.bytes.now c.requires.stands c.requires.accepted c.requires.stored (act_list c.args.out.now) (act_list c.make_room.new.out) c.unwrap-entry.result.size had made.gives made.limits made.last_start made.exchanges
+    absent_mid r c.make_room.new.rows c.args.now c.args.x c.args.r c.args.bytes.now c.requires.stands c.requires.accepted c.requires.stored (act_list c.args.out.now) (act_list c.make_room.new.out) c.unwrap-entry.result.size had made.gives made.last_start made.exchanges
 
 pub put_piece-requires-clause-below : goal.put_piece-requires-clause-below
 put_piece-requires-clause-below g c =
@@ -61,9 +61,9 @@ returns-clause-answers g c =
     let had : (q : Kept) → (shelf_of r.entries).kept c.args.r ≡ Some q → c.unwrap-entry.result.size ≡ size q.cells = λ q at. k.2 ∙ ap (λ (z : Kept). size z.cells) (same_row ((shelf_of r.entries).kept c.args.r) k.0 q k.1 at) in
     let made = c.make_room.ensures in
     let puts = c.put_piece.ensures in
-    λ _. answered_mid r c.make_room.new.rows c.args.now c.args.x c.args.r c.args.bytes.now c.requires.stands c.requires.accepted c.requires.stored (act_list c.args.out.now) (act_list c.make_room.new.out) c.unwrap-entry.result.size had made.gives made.limits made.last_start made.exchanges
+    λ _. answered_mid r c.make_room.new.rows c.args.now c.args.x c.args.r c.args.bytes.now c.requires.stands c.requires.accepted c.requires.stored (act_list c.args.out.now) (act_list c.make_room.new.out) c.unwrap-entry.result.size had made.gives made.last_start made.exchanges
     c.put_piece.new.rows _ c.in_default.ensures.ok (c.in_default.ensures.within.ok refl)
-    refl puts.limits puts.last_start puts.consumers puts.keys
+    refl puts.last_start puts.consumers puts.keys
     (subst (λ (e : Exchanges). Becomes (with_piece c.args.bytes.now false) c.args.x e c.piece.new.self) puts.exchanges c.in_ok-piece.ensures.ok)
 
 told_kind : (a b : LostKind) → (let told : Result (Option LostKind) NoMemory = Ok (Some a) in told) ≡ Ok (Some b) → a ≡ b
@@ -80,12 +80,12 @@ returns-in-Err-clause-refused g c = λ kind is.
     let puts = c.put_piece.ensures in
     let short = c.requires.short in
     let loss : loss_by c.in-Err.error ≡ Some kind = c.in_ok-lost_kind.ensures.lost ∙ ap (λ (z : LostKind). Some z) (told_kind c.in_ok-lost_kind.field-0 kind is) in
-    let kept = kept_mid r mid c.args.now c.args.x c.args.r c.args.bytes.now c.requires.stands c.requires.accepted c.requires.stored (act_list c.args.out.now) (act_list c.make_room.new.out) c.unwrap-entry.result.size had made.gives made.limits made.last_start made.exchanges in
+    let kept = kept_mid r mid c.args.now c.args.x c.args.r c.args.bytes.now c.requires.stands c.requires.accepted c.requires.stored (act_list c.args.out.now) (act_list c.make_room.new.out) c.unwrap-entry.result.size had made.gives made.last_start made.exchanges in
     record {
-      refuses = refused_mid r mid c.args.now c.args.x c.args.r c.args.bytes.now c.requires.stands c.requires.accepted c.requires.stored (act_list c.args.out.now) (act_list c.make_room.new.out) c.unwrap-entry.result.size had made.gives made.limits made.last_start made.exchanges
+      refuses = refused_mid r mid c.args.now c.args.x c.args.r c.args.bytes.now c.requires.stands c.requires.accepted c.requires.stored (act_list c.args.out.now) (act_list c.make_room.new.out) c.unwrap-entry.result.size had made.gives made.last_start made.exchanges
           put kind c.in-Err.ensures.err made.faults
           (refused_by (shelf_of mid.entries).limits (size_at (shelf_of mid.entries) c.args.r + length c.args.bytes.now) ((shelf_of mid.entries).used + length c.args.bytes.now) (shelf_of mid.entries).faults (shelf_of put.entries).faults (let e : Result (Unit {0}) StoreError = Err c.in-Err.error in e) c.in-Err.error kind refl loss c.in-Err.ensures.within c.in-Err.ensures.cause)
-          puts.limits puts.last_start puts.consumers puts.exchanges puts.keys;
+          puts.last_start puts.consumers puts.exchanges puts.keys;
       there = ap (λ (o : Option Kept). is_some o) (c.in-Err.ensures.err.kept c.args.r) ∙ kept;
       exchanges = puts.exchanges ∙ made.exchanges;
       room = leaves_two r (write.Piece c.unwrap-entry.result.size (length c.args.bytes.now)) (omega (arith, short)) c.requires.stands (spare c.args.out.now) (spare c.make_room.new.out) c.requires.room made.room;

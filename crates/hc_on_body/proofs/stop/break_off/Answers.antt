@@ -14,12 +14,12 @@ pub stop_bringing-requires-clause-short : goal.stop_bringing-requires-clause-sho
 stop_bringing-requires-clause-short g c = subst (λ z. TellsShort (shelf_of z)) (sym c.make_due_to.ensures.rest.entries) (shorts_here c.args.rows.now c.requires.stands)
 
 pub returns-clause-broken : goal.returns-clause-broken
-returns-clause-broken g c = λ t w facts stands broken.
+returns-clause-broken g c = λ lim t w facts stands broken.
     let r = c.args.rows.now in
     let mid = c.make_due_to.new.rows in
     let due = c.make_due_to.ensures in
     breaks_off r mid _ t facts stands c.args.x w broken c.readers-readers.result c.readers-readers.ensures c.args.cause due.rest due.exchanges due.consumers
     (shelf_of r.entries).faults c.args.now (act_list c.args.out.now) _
     (λ f may rows.
-    subst (λ n. HasStopped n c.stop_bringing.new.rows t f (act_list c.args.out.now) (act_list c.stop_bringing.new.out) c.args.now c.args.x) (ap (λ z. (shelf_of z).faults) due.rest.entries)
-    (c.stop_bringing.ensures.stopped t f (subst (λ l. Facts l t) (sym due.rest.limits) facts) (subst (λ o. MayStop t f c.args.x o) (sym c.alone.ensures) may) rows))
+    subst (λ n. HasStopped lim n c.stop_bringing.new.rows t f (act_list c.args.out.now) (act_list c.stop_bringing.new.out) c.args.now c.args.x) (ap (λ z. (shelf_of z).faults) due.rest.entries)
+    (c.stop_bringing.ensures.stopped _ t f facts (subst (λ o. MayStop t f c.args.x o) (sym c.alone.ensures) may) rows))

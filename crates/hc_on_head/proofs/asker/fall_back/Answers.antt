@@ -15,9 +15,9 @@ unbind_from-requires g c =
     (λ s. user_of r s.t s.facts.law c.args.c k at s.rows)
 
 pub returns-clause-stands : goal.returns-clause-stands
-returns-clause-stands g c = λ t x w v facts awaits for_it apart stands.
+returns-clause-stands g c = λ lim t x w v facts awaits for_it apart stands.
     let r = c.args.rows.now in
     let k = c.unwrap-consumer.result.now in
     let at = lent c.get.result (get nat_eq r.consumers c.args.c) c.unwrap-consumer.result c.get.ensures.value c.unwrap-consumer.ensures in
-    falls_back_as r _ t facts.law x c.args.c w v k c.args.place awaits for_it apart at stands refl refl refl
+    falls_back_as r _ t facts.law x c.args.c w v k c.args.place awaits for_it apart at stands refl refl
     c.stand.ensures c.leave_key.ensures c.unbind_from.ensures.unbound

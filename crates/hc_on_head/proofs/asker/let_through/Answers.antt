@@ -12,8 +12,8 @@ pass-requires g c =
     known_of (get nat_eq r.consumers c.args.c) c.unwrap-consumer.result.now (IsInKey r.keys c.args.c) at c.requires.waits
 
 pub returns-clause-stands : goal.returns-clause-stands
-returns-clause-stands g c = λ t w v p law awaits for_it stood stands.
+returns-clause-stands g c = λ lim t w v p law awaits for_it stood stands.
     let r = c.args.rows.now in
     let k = c.unwrap-consumer.result.now in
     let at = lent c.get.result (get nat_eq r.consumers c.args.c) c.unwrap-consumer.result c.get.ensures.value c.unwrap-consumer.ensures in
-    through_as r _ t law c.args.x c.args.c c.args.r w v k p awaits for_it stood at stands refl refl refl refl c.stand.ensures c.pass.ensures
+    through_as r _ t law c.args.x c.args.c c.args.r w v k p awaits for_it stood at stands refl refl refl c.stand.ensures c.pass.ensures

@@ -15,9 +15,9 @@ unbind_from-requires g c =
     (λ s. user_of r s.t s.facts.law c.args.c k at s.rows)
 
 pub returns-clause-stands : goal.returns-clause-stands
-returns-clause-stands g c = λ t x w v facts awaits for_it waits stands.
+returns-clause-stands g c = λ lim t x w v facts awaits for_it waits stands.
     let r = c.args.rows.now in
     let k = c.unwrap-consumer.result.now in
     let at = lent c.get.result (get nat_eq r.consumers c.args.c) c.unwrap-consumer.result c.get.ensures.value c.unwrap-consumer.ensures in
-    stands_back_as r _ t facts.law c.args.now x c.args.c w v k awaits for_it waits at stands refl refl refl
+    stands_back_as r _ t facts.law c.args.now x c.args.c w v k awaits for_it waits at stands refl refl
     c.start_over.ensures c.back.ensures c.unbind_from.ensures.unbound

@@ -10,7 +10,7 @@ pub loop-x-init : goal.loop-x-init
 loop-x-init g c = record {
   closed = none_closed c.args.rows.now c.args.key.now c.args.refused (act_list c.args.out.now) (spare c.args.out.now);
   consumers = refl;
-  rest = record { limits = refl; last_start = refl; keys = refl; entries = refl };
+  rest = record { last_start = refl; keys = refl; entries = refl };
 }
 
 pub close-requires-clause-running : goal.close-requires-clause-running
@@ -39,7 +39,6 @@ loop-x-preserved g c =
           c.close.new.rows.exchanges (act_list c.close.new.out) (spare c.close.new.out) step.acts step.room step.closed;
       consumers = step.consumers ∙ i.consumers;
       rest = record {
-        limits = step.rest.limits ∙ i.rest.limits;
         last_start = step.rest.last_start ∙ i.rest.last_start;
         keys = step.rest.keys ∙ i.rest.keys;
         entries = step.rest.entries ∙ i.rest.entries;

@@ -7,7 +7,7 @@ use Rattle.hc_on_leave.proofs.HeardRows.{asker_of, asked_by}
 use Rattle.hc_on_head.proofs.dooming.doom_badly.Goals as goal
 
 pub returns-clause-answers : goal.returns-clause-answers
-returns-clause-answers g c = λ t w facts stands goes row is unsafe.
+returns-clause-answers g c = λ lim t w facts stands goes row is unsafe.
     let r = c.args.rows.now in
     let mid = c.doom.new.rows in
     let now = c.args.heard.now in
@@ -18,5 +18,5 @@ returns-clause-answers g c = λ t w facts stands goes row is unsafe.
     let past = past_place r t x w a c.args.key.now stands c.requires.unheard in
     dooming_bad r t facts stands now x response w a.v a.awaits past.0 mid (act_list c.args.out.now) _ goes unsafe _ c.args.heard.c for_it
     (subst (λ k. IsUnheard (table_of r.exchanges) k x) past.1 c.requires.unheard) is
-    (subst (λ k. IsDoomed mid t (act_list c.args.out.now) (act_list c.doom.new.out) now k (Some x)) past.1 (c.doom.ensures.doomed t facts.law stands))
-    refl refl refl refl refl c.stand.ensures
+    (subst (λ k. IsDoomed lim mid t (act_list c.args.out.now) (act_list c.doom.new.out) now k (Some x)) past.1 (c.doom.ensures.doomed _ t facts.law stands))
+    refl refl refl refl c.stand.ensures

@@ -14,7 +14,7 @@ have_answer-requires-clause-good g c =
     good_then c.args.rows.now c.doom.new.rows c.args.heard.now c.args.heard.x c.args.key.now c.args.response.now (act_list c.args.out.now) _ c.requires.unheard c.requires.stands c.doom.ensures.doomed c.requires.good
 
 pub returns-clause-answers : goal.returns-clause-answers
-returns-clause-answers g c = λ t w facts stands goes row is unsafe.
+returns-clause-answers g c = λ lim t w facts stands goes row is unsafe.
     let r = c.args.rows.now in
     let mid = c.doom.new.rows in
     let now = c.args.heard.now in
@@ -24,5 +24,5 @@ returns-clause-answers g c = λ t w facts stands goes row is unsafe.
     let for_it = asked_by r t x c.args.heard.c w stands c.requires.accepted c.requires.asker row in
     let past = past_place r t x w a c.args.key.now stands c.requires.unheard in
     dooming_taken r t facts stands now x response w a.v a.awaits past.0 mid (act_list c.args.out.now) _ goes unsafe _ is
-    (subst (λ k. IsDoomed mid t (act_list c.args.out.now) (act_list c.doom.new.out) now k None) past.1 (c.doom.ensures.doomed t facts.law stands))
-    (λ m alone stood. c.have_answer.ensures.stands m w a.v alone for_it stood)
+    (subst (λ k. IsDoomed lim mid t (act_list c.args.out.now) (act_list c.doom.new.out) now k None) past.1 (c.doom.ensures.doomed _ t facts.law stands))
+    (λ m alone stood. c.have_answer.ensures.stands _ m w a.v alone for_it stood)

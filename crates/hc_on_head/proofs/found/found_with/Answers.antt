@@ -21,7 +21,6 @@ returns-clause-ok g c =
       | else-shared w ↦ w.writer-is ∙ sym (ap (λ b. writer_by b x) w.if-shared.false)
     ] in
     record {
-      limits = refl;
       last_start = refl;
       consumers = c.read_founded.ensures;
       exchanges = brings_founded x c.args.response.now r.exchanges c.turn_into.new.self c.head.new.self c.turn_into.ensures c.requires.good c.head.ensures.good;

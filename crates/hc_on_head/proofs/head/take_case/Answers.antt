@@ -18,13 +18,13 @@ pub start_anew-requires-clause-waits : goal.start_anew-requires-clause-waits
 start_anew-requires-clause-waits g c = c.requires.waits (anew_case c.args.case (inr c.in-FirstChanged.is))
 
 pub returns-in-DirectBad-clause-answers : goal.returns-in-DirectBad-clause-answers
-returns-in-DirectBad-clause-answers g c = λ t w facts stands goes row is doomless same.
+returns-in-DirectBad-clause-answers g c = λ lim t w facts stands goes row is doomless same.
     let on = down_case c.args.case c.in-DirectBad.is in
-    c.put_down.ensures.answers c.args.case on t w facts stands goes row is doomless (downs_none t w c.args.response.now c.args.case on)
+    c.put_down.ensures.answers c.args.case on _ t w facts stands goes row is doomless (downs_none t w c.args.response.now c.args.case on)
 
 pub returns-in-DirectTaken-clause-answers : goal.returns-in-DirectTaken-clause-answers
-returns-in-DirectTaken-clause-answers g c = ok_then c.take_past.result c.take_past.ensures.answers (λ answers t w facts stands goes row is doomless same.
-    answers (act_list c.args.out.now) t w facts stands goes row (is ∙ c.in-DirectTaken.is) (ap (λ (q : HeadCase). doomed_by_case (Some q) w c.args.response.now) (sym c.in-DirectTaken.is) ∙ doomless) refl)
+returns-in-DirectTaken-clause-answers g c = ok_then c.take_past.result c.take_past.ensures.answers (λ answers lim t w facts stands goes row is doomless same.
+    answers (act_list c.args.out.now) _ t w facts stands goes row (is ∙ c.in-DirectTaken.is) (ap (λ (q : HeadCase). doomed_by_case (Some q) w c.args.response.now) (sym c.in-DirectTaken.is) ∙ doomless) refl)
 
 pub returns-in-TurnServerError-clause-answers : goal.returns-in-TurnServerError-clause-answers
 returns-in-TurnServerError-clause-answers g c = ok_then c.go_past.result c.go_past.ensures.answers (λ answers. answers c.args.case (act_list c.args.out.now) (past_case c.args.case c.in-TurnServerError.is))

@@ -11,7 +11,7 @@ use Rattle.hc_on_head.proofs.TurnArm.{stands_unrenewed}
 use Rattle.hc_on_head.proofs.join.join.Goals as goal
 
 pub returns-then-is_lost-clause-answers : goal.returns-then-is_lost-clause-answers
-returns-then-is_lost-clause-answers g c = λ k any joins t w facts stands goes row is doomless same.
+returns-then-is_lost-clause-answers g c = λ k any joins lim t w facts stands goes row is doomless same.
     let r = c.args.rows.now in
     let now = c.args.heard.now in
     let x = c.args.heard.x in
@@ -33,7 +33,7 @@ returns-then-resumes-clause-faults g c =
     omega (arith, same, later)
 
 pub returns-then-resumes-clause-answers : goal.returns-then-resumes-clause-answers
-returns-then-resumes-clause-answers g c = λ k any joins t w facts stands goes row is doomless same.
+returns-then-resumes-clause-answers g c = λ k any joins lim t w facts stands goes row is doomless same.
     let r = c.args.rows.now in
     let now = c.args.heard.now in
     let x = c.args.heard.x in
@@ -41,13 +41,13 @@ returns-then-resumes-clause-answers g c = λ k any joins t w facts stands goes r
     let response = c.args.response.now in
     let j = join_of r t facts stands now x c.args.heard.c q response w row k joins goes is c.requires.accepted c.requires.asker c.requires.about c.requires.there in
     let kept = sym j.is.is_lost ∙ (sym (c.is_lost.ensures j.e j.kept) ∙ c.if-is_lost.false) in
-    let resumed = sym c.if-resumes.true ∙ c.resumes-resumes.ensures t w j.p j.e j.hole.0 j.hole.1 facts stands row j.a.awaits.is_open j.hole.2 j.for_it j.row kept j.kept j.told in
+    let resumed = sym c.if-resumes.true ∙ c.resumes-resumes.ensures _ t w j.p j.e j.hole.0 j.hole.1 facts stands row j.a.awaits.is_open j.hole.2 j.for_it j.row kept j.kept j.told in
     joins_answered r c.share.new.rows t facts now x response goes w j.a k (joins_of k joins) is q j.aim j.p j.row (act_list c.args.out.now) kept true resumed
     (stands_shared r c.share.new.rows t now x q c.args.heard.c response w j.a.v j.p j.can j.a.k j.o j.e stands j.for_it j.a.there j.running j.on j.kept c.renew_growing.new.rows c.bring-in-Ok.new.rows c.in-Ok.ensures.ok c.bring-in-Ok.ensures c.share.ensures)
     (shelf_of r.entries).faults
 
 pub returns-else-resumes-clause-answers : goal.returns-else-resumes-clause-answers
-returns-else-resumes-clause-answers g c = λ k any joins t w facts stands goes row is doomless same.
+returns-else-resumes-clause-answers g c = λ k any joins lim t w facts stands goes row is doomless same.
     let r = c.args.rows.now in
     let now = c.args.heard.now in
     let x = c.args.heard.x in
@@ -55,7 +55,7 @@ returns-else-resumes-clause-answers g c = λ k any joins t w facts stands goes r
     let response = c.args.response.now in
     let j = join_of r t facts stands now x c.args.heard.c q response w row k joins goes is c.requires.accepted c.requires.asker c.requires.about c.requires.there in
     let kept = sym j.is.is_lost ∙ (sym (c.is_lost.ensures j.e j.kept) ∙ c.if-is_lost.false) in
-    let resumed = sym c.if-resumes.false ∙ c.resumes-resumes.ensures t w j.p j.e j.hole.0 j.hole.1 facts stands row j.a.awaits.is_open j.hole.2 j.for_it j.row kept j.kept j.told in
+    let resumed = sym c.if-resumes.false ∙ c.resumes-resumes.ensures _ t w j.p j.e j.hole.0 j.hole.1 facts stands row j.a.awaits.is_open j.hole.2 j.for_it j.row kept j.kept j.told in
     joins_answered r c.bring-in-Ok.new.rows t facts now x response goes w j.a k (joins_of k joins) is q j.aim j.p j.row (act_list c.args.out.now) kept false resumed
     (stands_alone r c.bring-in-Ok.new.rows t now x q c.args.heard.c response w j.a.v j.p j.can j.a.k j.o j.e stands j.for_it j.a.there j.running j.on j.kept c.renew_growing.new.rows c.bring-in-Ok.new.rows c.in-Ok.ensures.ok c.bring-in-Ok.ensures)
     (shelf_of r.entries).faults
@@ -65,7 +65,7 @@ bring-requires-in-Err-Fault-clause-live g c =
     c.lose_to.ensures.live c.args.heard.c ∙ (ap (λ z. is_some (get nat_eq z c.args.heard.c)) c.in-Err-Fault.ensures.err.rest.consumers ∙ c.requires.live)
 
 pub returns-in-Err-Fault-clause-answers : goal.returns-in-Err-Fault-clause-answers
-returns-in-Err-Fault-clause-answers g c = λ k any joins t w facts stands goes row is doomless same.
+returns-in-Err-Fault-clause-answers g c = λ k any joins lim t w facts stands goes row is doomless same.
     let r = c.args.rows.now in
     let mid = c.renew_growing.new.rows in
     let l = c.lose_to.new.rows in
@@ -79,7 +79,7 @@ returns-in-Err-Fault-clause-answers g c = λ k any joins t w facts stands goes r
     let j = join_of r t facts stands now x d q response w row k joins goes is c.requires.accepted c.requires.asker c.requires.about c.requires.there in
     let kept = sym j.is.is_lost ∙ (sym (c.is_lost.ensures j.e j.kept) ∙ c.if-is_lost.false) in
     let holds = holds_alone r u t facts now x response goes w j.a k (joins_of k joins) is q j.aim j.p j.row (act_list c.args.out.now) kept d j.for_it in
-    let lost = c.lose_to.ensures.lost t j.p (may_let_go t facts.law) j.row ((facts.law.sound.rows q j.p j.row).store.nobody_alone kept) holds (stands_unrenewed r mid t stayed.rest stayed.same stands) in
+    let lost = c.lose_to.ensures.lost _ t j.p (may_let_go t facts.law) j.row ((facts.law.sound.rows q j.p j.row).store.nobody_alone kept) holds (stands_unrenewed r mid t stayed.rest stayed.same stands) in
     let running = ap (λ z. (table_of z x).running) (c.lose_to.ensures.exchanges ∙ stayed.rest.exchanges) ∙ j.running in
     let failed = subst (λ (n : ℕ). (shelf_of r.entries).faults < n) (sym (ap (λ z. (shelf_of z).faults) c.bring-in-Err-Fault.ensures.entries ∙ c.lose_to.ensures.faults)) (c.renew_growing.ensures.cause.fault (c.in-Err-Fault.is ∙ ap Err c.in-Err-Fault.field-0-is)) in
     lost_answered r u t facts now x response goes w j.a k (joins_of k joins) is q j.aim j.p j.row (act_list c.args.out.now) kept d j.for_it (shelf_of r.entries).faults (act_list c.lose_to.new.out) c.lose_to.ensures.acts failed

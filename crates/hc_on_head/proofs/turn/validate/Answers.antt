@@ -19,13 +19,13 @@ use Rattle.hc_on_head.proofs.TurnArm.{accepted_on, answered_on, asked_on, usable
 use Rattle.hc_on_head.proofs.turn.validate.Goals as goal
 
 pub returns-in_default-clause-answers : goal.returns-in_default-clause-answers
-returns-in_default-clause-answers g c = λ t w facts stands goes row about is.
+returns-in_default-clause-answers g c = λ lim t w facts stands goes row about is.
     let r = c.args.rows.now in
     let x = c.args.heard.x in
     let response = c.args.response.now in
     let h = key_heard r x c.args.aim c.still_current.result c.requires.accepted c.still_current.ensures in
     let off = not_still (kept_of r.keys h.0.request.key).current c.args.aim (sym (none_is c.still_current.result c.in_default.not-Some) ∙ h.2) in
-    c.start_anew.ensures.answers case.NotValidated refl t w facts stands goes row (case_unselected (head_view t false w response) is (unstill_as r t x h.0 w c.args.aim response stands h.1 row about off)) refl about
+    c.start_anew.ensures.answers case.NotValidated refl _ t w facts stands goes row (case_unselected (head_view t false w response) is (unstill_as r t x h.0 w c.args.aim response stands h.1 row about off)) refl about
 
 pub select-requires-clause-there : goal.select-requires-clause-there
 select-requires-clause-there g c =
@@ -45,7 +45,7 @@ start_anew-requires-in-Ok-false-clause-stands g c =
     ∥∥₁_map c.requires.stands (λ p. past_unrenewed r mid sel.rest (sel.head h.0 h.1) p)
 
 pub returns-in-Ok-true-clause-answers : goal.returns-in-Ok-true-clause-answers
-returns-in-Ok-true-clause-answers g c = λ t w facts stands goes row about is.
+returns-in-Ok-true-clause-answers g c = λ lim t w facts stands goes row about is.
     let r = c.args.rows.now in
     let mid = c.select.new.rows in
     let thr = c.let_through.new.rows in
@@ -61,13 +61,13 @@ returns-in-Ok-true-clause-answers g c = λ t w facts stands goes row about is.
     let for_it = asked_by r t x c.args.heard.c w stands c.requires.accepted c.requires.asker row in
     let found : c.select.result ≡ Ok true = cc in
     let sel = selected_of r mid x now q response c.select.result true found c.select.ensures.ok in
-    let stood = subst (λ (d : ℕ). RowsStand thr (with_consumer d (Some (record a.v { place = place.Passed q (Some x) })) (with_representation q (Some (with_refreshed_head now response w s.v)) t))) (sym for_it)
-    (c.let_through.ensures.stands t w a.v (with_refreshed_head now response w s.v) facts.law a.awaits for_it (at_turn r mid thr u t facts stands now x response goes w a is q s.v s.named s.cur s.row before before) (stands_selected r mid t x now h.0 w q response stands h.1 row s sel)) in
+    let stood = subst (λ (d : ℕ). RowsStand lim thr (with_consumer d (Some (record a.v { place = place.Passed q (Some x) })) (with_representation q (Some (with_refreshed_head now response w s.v)) t))) (sym for_it)
+    (c.let_through.ensures.stands _ t w a.v (with_refreshed_head now response w s.v) facts.law a.awaits for_it (at_turn r mid thr u t facts stands now x response goes w a is q s.v s.named s.cur s.row before before) (stands_selected r mid t x now h.0 w q response stands h.1 row s sel)) in
     validated_answered r mid thr u t facts stands now x response goes w a is q s.v s.named s.cur s.row before (act_list c.refuse.new.out)
     (sym (tells_selected r mid t x now h.0 w q response stands h.1 row s true sel)) stood c.refuse.ensures.acts c.refuse.ensures.rest c.refuse.ensures.consumers c.refuse.ensures.closed
 
 pub returns-in-Ok-false-clause-answers : goal.returns-in-Ok-false-clause-answers
-returns-in-Ok-false-clause-answers g c = λ t w facts stands goes row about is.
+returns-in-Ok-false-clause-answers g c = λ lim t w facts stands goes row about is.
     let r = c.args.rows.now in
     let mid = c.select.new.rows in
     let u = c.start_anew-in-Ok-false.new.rows in
@@ -83,7 +83,7 @@ returns-in-Ok-false-clause-answers g c = λ t w facts stands goes row about is.
     let sel = selected_of r mid x now q response c.select.result false found c.select.ensures.ok in
     let off = sym (tells_selected r mid t x now h.0 w q response stands h.1 row s false sel) in
     answered_on r mid sel.rest u t before (act_list c.start_anew-in-Ok-false.new.out) now (event.Head x response) c.select.ensures.cause.later
-    (c.start_anew-in-Ok-false.ensures.answers case.NotValidated refl t w (facts_on r mid sel.rest t facts) (stands_unrenewed r mid t sel.rest (sel.head h.0 h.1) stands) goes row
+    (c.start_anew-in-Ok-false.ensures.answers case.NotValidated refl _ t w (facts_on r mid sel.rest t facts) (stands_unrenewed r mid t sel.rest (sel.head h.0 h.1) stands) goes row
     (unselected_case r mid mid u t facts stands now x response goes w a is q s.v s.named s.cur s.row before before off) refl about)
 
 pub lose_asked-requires-clause-stands : goal.lose_asked-requires-clause-stands
@@ -106,7 +106,7 @@ pub lose_asked-requires-clause-asker : goal.lose_asked-requires-clause-asker
 lose_asked-requires-clause-asker g c = asked_on c.args.rows.now c.select.new.rows c.in-Err-Fault.ensures.err.rest c.args.heard.c c.args.heard.x c.requires.asker
 
 pub returns-in-Err-Fault-clause-answers : goal.returns-in-Err-Fault-clause-answers
-returns-in-Err-Fault-clause-answers g c = λ t w facts stands goes row about is.
+returns-in-Err-Fault-clause-answers g c = λ lim t w facts stands goes row about is.
     let r = c.args.rows.now in
     let mid = c.select.new.rows in
     let u = c.lose_asked.new.rows in
@@ -117,8 +117,4 @@ returns-in-Err-Fault-clause-answers g c = λ t w facts stands goes row about is.
     let kept = c.in-Err-Fault.ensures.err in
     let h = key_heard r x c.args.aim c.still_current.result c.requires.accepted c.still_current.ensures in
     let s = current_still r t x h.0 w c.args.aim q stands h.1 row about (sym c.in-Some.is ∙ h.2) in
-    let answered = c.lose_asked.ensures.answers (shelf_of r.entries).faults t w (facts_on r mid kept.rest t facts) (stands_unrenewed r mid t kept.rest kept.same stands) goes row s.named s.cur is (c.select.ensures.cause.fault (c.in-Err-Fault.is ∙ ap Err c.in-Err-Fault.field-0-is)) in
-    subst (λ (n : Limits). Answered n (shelf_of r.entries).faults u t (act_list c.args.out.now) (act_list c.lose_asked.new.out) now (event.Head x response)) kept.rest.limits answered
-
-pub returns-in-Err-Fault-clause-limits : goal.returns-in-Err-Fault-clause-limits
-returns-in-Err-Fault-clause-limits g c = c.lose_asked.ensures.limits ∙ c.in-Err-Fault.ensures.err.rest.limits
+    c.lose_asked.ensures.answers (shelf_of r.entries).faults _ t w facts (stands_unrenewed r mid t kept.rest kept.same stands) goes row s.named s.cur is (c.select.ensures.cause.fault (c.in-Err-Fault.is ∙ ap Err c.in-Err-Fault.field-0-is))

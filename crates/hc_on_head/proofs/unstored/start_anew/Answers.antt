@@ -8,7 +8,7 @@ use Rattle.hc_on_leave.proofs.UnstoredArms.{awaits_anew, anew_answered}
 use Rattle.hc_on_head.proofs.unstored.start_anew.Goals as goal
 
 pub returns-clause-answers : goal.returns-clause-answers
-returns-clause-answers g c = λ k on t w facts stands goes row is doomless same.
+returns-clause-answers g c = λ k on lim t w facts stands goes row is doomless same.
     let r = c.args.rows.now in
     let now = c.args.heard.now in
     let x = c.args.heard.x in
@@ -19,6 +19,6 @@ returns-clause-answers g c = λ k on t w facts stands goes row is doomless same.
     let for_it = asked_by r t x c.args.heard.c w stands c.requires.accepted c.requires.asker row in
     anew_answered r first mid t facts now x response goes w a.v a.awaits (act_list c.args.out.now) _ c.refuse.ensures.acts c.refuse.ensures.rest c.refuse.ensures.consumers c.refuse.ensures.closed
     _ c.args.goes k on is same
-    (subst (λ (d : ℕ). RowsStand first (with_consumer d (Some (back_in_line now a.v)) t)) (sym for_it)
-    (c.send_back.ensures.stands t x w a.v facts a.awaits for_it (awaits_anew t x w a.v response k a.awaits.asker a.stands on is) stands))
-    (λ m may after. c.let_some_go.ensures.stands m may after)
+    (subst (λ (d : ℕ). RowsStand lim first (with_consumer d (Some (back_in_line now a.v)) t)) (sym for_it)
+    (c.send_back.ensures.stands _ t x w a.v facts a.awaits for_it (awaits_anew t x w a.v response k a.awaits.asker a.stands on is) stands))
+    (λ m may after. c.let_some_go.ensures.stands _ m may after)

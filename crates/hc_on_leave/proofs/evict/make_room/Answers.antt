@@ -10,7 +10,6 @@ returns-in_default g c = record {
   gives = none_way c.args.rows.now c.args.now c.args.write (act_list c.args.out.now) (λ count is. c.in_default.not-After count (c.room.ensures ∙ is));
   appends = ([], sym (append-nil (act_list c.args.out.now)));
   room = leaves_all (spare c.args.out.now) (room_for_write c.args.rows.now c.args.write) (λ count is. c.in_default.not-After count (c.room.ensures ∙ is));
-  limits = refl;
   last_start = refl;
   exchanges = refl;
   faults = refl;
@@ -25,7 +24,7 @@ pub loop-i-preserved : goal.loop-i-preserved
 loop-i-preserved g c =
     one_gone c.args.rows.now c.loop-i.rows c.args.now c.loop-i.i (act_list c.args.out.now) (act_list c.loop-i.out) (spare c.args.out.now) (spare c.loop-i.out) c.loop-i.invariant
     c.let_go.new.rows c.in-Some.r (act_list c.put.new.out) (spare c.put.new.out) (sym c.in-Some.is ∙ c.first_idle.ensures) c.put.ensures.acts c.put.ensures.room
-    c.let_go.ensures.stands c.let_go.ensures.limits c.let_go.ensures.last_start c.let_go.ensures.exchanges c.let_go.ensures.faults
+    c.let_go.ensures.stands c.let_go.ensures.last_start c.let_go.ensures.exchanges c.let_go.ensures.faults
 
 pub returns-clause-gives : goal.returns-clause-gives
 returns-clause-gives g c =

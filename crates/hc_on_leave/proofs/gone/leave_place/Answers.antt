@@ -20,4 +20,4 @@ returns-clause-place g c =
     let k = c.unwrap-consumer.result.now in
     let at = lent c.get.result (get nat_eq r.consumers c.args.c) c.unwrap-consumer.result c.get.ensures.value c.unwrap-consumer.ensures in
     some_that (get nat_eq r.consumers c.args.c) k (LeavesPlace r _ c.args.c) at
-    (record { limits = refl; last_start = refl; consumers = refl; line = c.leave_key.ensures; forgets = c.forget_own.ensures; unbinds = c.unbind_from.ensures.unbound })
+    (record { last_start = refl; consumers = refl; line = c.leave_key.ensures; forgets = c.forget_own.ensures; unbinds = c.unbind_from.ensures.unbound })

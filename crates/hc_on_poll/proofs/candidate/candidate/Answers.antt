@@ -46,7 +46,7 @@ pub exclusive-requires : goal.exclusive-requires
 exclusive-requires g c = record { stands = ∥∥₁_map c.requires.stands (λ u. u.0) }
 
 pub returns : goal.returns
-returns g c = λ t v p facts stands row here.
+returns g c = λ lim t v p facts stands row here.
     let r = c.args.rows.now in
     let q = c.args.r in
     let k = c.unwrap-consumer.result.now in
@@ -59,4 +59,4 @@ returns g c = λ t v p facts stands row here.
     (record { allowed = c.allowed.result; vary = c.vary_matches.result; span = c.wanted_of-span.result; hole = c.hole_of.result; writing = c.is_some.result; exclusive = c.exclusive.result; least_bound = c.copied.result })
     c.unwrap-entry.result c.args.head.now (known_of shelved e2 (AllowedIs k.request c.args.now c.allowed.result) kept2 c.allowed.ensures) seen
     (head_at_is shelved e2 c.args.head.now kept2 c.requires.head) c.vary_matches.ensures c.wanted_of-span.ensures c.hole_of.ensures (c.is_some.ensures ∙ ap (λ (o : Option ℕ). is_some o) c.writing.ensures)
-    (c.exclusive.ensures t p facts stands here (stays_stored t facts.law q p here stays)) (c.copied.ensures ∙ (c.first.ensures.value ∙ ap (λ (z : List ℕ). slice_get z 0) c.bound.ensures))
+    (c.exclusive.ensures _ t p facts stands here (stays_stored t facts.law q p here stays)) (c.copied.ensures ∙ (c.first.ensures.value ∙ ap (λ (z : List ℕ). slice_get z 0) c.bound.ensures))

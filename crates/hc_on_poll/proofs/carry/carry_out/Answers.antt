@@ -12,7 +12,7 @@ pub carry_out_bare-requires-clause-stands : goal.carry_out_bare-requires-clause-
 carry_out_bare-requires-clause-stands g c = ∥∥₁_map c.requires.stands (λ u. u.0)
 
 pub carry_out_bare-requires-clause-plan : goal.carry_out_bare-requires-clause-plan
-carry_out_bare-requires-clause-plan g c = λ t v facts stands row.
+carry_out_bare-requires-clause-plan g c = λ lim t v facts stands row.
     let r = c.args.rows.now in
     let at_row = get nat_eq r.consumers c.args.c in
     let (k, at, idle) = there at_row IsIdle c.requires.idle in

@@ -13,7 +13,7 @@ use Rattle.hc_state.proofs.Words.{there, on_ok_two}
 use Rattle.hc_on_poll.proofs.hole.open_later_hole.Goals as goal
 
 pub misread_by-requires-clause-stands : goal.misread_by-requires-clause-stands
-misread_by-requires-clause-stands g c = ∥∥₁_map c.requires.stands (λ s. some_read c.args.rows.now _ refl refl refl refl refl c.head.ensures.same s)
+misread_by-requires-clause-stands g c = ∥∥₁_map c.requires.stands (λ s. some_read c.args.rows.now _ refl refl refl refl c.head.ensures.same s)
 
 pub returns-in-Err-clause-answers : goal.returns-in-Err-clause-answers
 returns-in-Err-clause-answers g c =
@@ -21,5 +21,5 @@ returns-in-Err-clause-answers g c =
     let (k, at, reads) = there (get nat_eq r.consumers c.args.c) (IsShownAt c.args.r) c.requires.shown in
     let (head, head_is, within) = there (head_at (shelf_of r.entries) c.args.r) (IsInLength c.args.hole) c.requires.hole in
     on_ok_two c.misread_by.result c.misread_by.ensures.failed c.misread_by.ensures.answers (λ other answers.
-    some_that (get nat_eq r.consumers c.args.c) k _ at (some_that (head_at (shelf_of r.entries) c.args.r) head _ head_is (λ want t v facts stands row is.
-    misread_answered r c.head.new.self c.head.ensures.same (c.head.ensures.cause.fault (fault_only c.head.result c.in-Err.error c.in-Err.is c.head.ensures.no_limit other)) c.misread_by.new.rows (act_list c.args.out.now) (act_list c.misread_by.new.out) c.args.now c.args.c c.args.r k at reads.0.2 (reads.0.0, reads.0.1, reads.0.3) answers want t facts stands)))
+    some_that (get nat_eq r.consumers c.args.c) k _ at (some_that (head_at (shelf_of r.entries) c.args.r) head _ head_is (λ want lim t v facts stands row is.
+    misread_answered r c.head.new.self c.head.ensures.same (c.head.ensures.cause.fault (fault_only c.head.result c.in-Err.error c.in-Err.is c.head.ensures.no_limit other)) c.misread_by.new.rows (act_list c.args.out.now) (act_list c.misread_by.new.out) c.args.now c.args.c c.args.r k at reads.0.2 (reads.0.0, reads.0.1, reads.0.3) answers want _ t facts stands)))

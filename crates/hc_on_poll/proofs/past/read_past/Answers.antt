@@ -78,39 +78,39 @@ unreachable-requires g c =
     ])
 
 pub returns-in-Ended-clause-answers : goal.returns-in-Ended-clause-answers
-returns-in-Ended-clause-answers g c = λ t facts rows accepted.
+returns-in-Ended-clause-answers g c = λ lim t facts rows accepted.
     let r = c.args.rows.now in
     let k = c.unwrap-consumer.result.now in
     let at = lent c.get.result (get nat_eq r.consumers c.args.c) c.unwrap-consumer.result c.get.ensures.value c.unwrap-consumer.ensures in
     let shown = known_of (get nat_eq r.consumers c.args.c) k (IsShown c.args.x) at c.requires.shown in
     let rd = reading_of r t facts.law c.args.c c.args.x k rows at shown.0 in
-    c.end_reading.ensures.answers c.args.want t rd.v facts rows rd.row (ends_move r t facts c.args.want c.args.c c.args.x k rows rd shown.1 c.requires.wants c.args.now (sym (ap read_step c.past_view.ensures) ∙ (sym c.read_step.ensures ∙ c.in-Ended.is)))
+    c.end_reading.ensures.answers c.args.want _ t rd.v facts rows rd.row (ends_move r t facts c.args.want c.args.c c.args.x k rows rd shown.1 c.requires.wants c.args.now (sym (ap read_step c.past_view.ensures) ∙ (sym c.read_step.ensures ∙ c.in-Ended.is)))
 
 pub returns-in-Failed-clause-answers : goal.returns-in-Failed-clause-answers
-returns-in-Failed-clause-answers g c = λ t facts rows accepted.
+returns-in-Failed-clause-answers g c = λ lim t facts rows accepted.
     let r = c.args.rows.now in
     let k = c.unwrap-consumer.result.now in
     let at = lent c.get.result (get nat_eq r.consumers c.args.c) c.unwrap-consumer.result c.get.ensures.value c.unwrap-consumer.ensures in
     let shown = known_of (get nat_eq r.consumers c.args.c) k (IsShown c.args.x) at c.requires.shown in
     let rd = reading_of r t facts.law c.args.c c.args.x k rows at shown.0 in
-    c.fail.ensures.answers c.args.want t rd.v facts rows rd.row (fails_move r t facts c.args.want c.args.c c.args.x k rows rd shown.1 c.requires.wants c.args.now c.in-Failed.cause (sym (ap read_step c.past_view.ensures) ∙ (sym c.read_step.ensures ∙ c.in-Failed.is)))
+    c.fail.ensures.answers c.args.want _ t rd.v facts rows rd.row (fails_move r t facts c.args.want c.args.c c.args.x k rows rd shown.1 c.requires.wants c.args.now c.in-Failed.cause (sym (ap read_step c.past_view.ensures) ∙ (sym c.read_step.ensures ∙ c.in-Failed.is)))
 
 pub returns-in_ok-bytes-in-Held-clause-answers : goal.returns-in_ok-bytes-in-Held-clause-answers
-returns-in_ok-bytes-in-Held-clause-answers g c = λ t facts rows accepted.
+returns-in_ok-bytes-in-Held-clause-answers g c = λ lim t facts rows accepted.
     let r = c.args.rows.now in
     let k = c.unwrap-consumer.result.now in
     let at = lent c.get.result (get nat_eq r.consumers c.args.c) c.unwrap-consumer.result c.get.ensures.value c.unwrap-consumer.ensures in
     let shown = known_of (get nat_eq r.consumers c.args.c) k (IsShown c.args.x) at c.requires.shown in
     let rest = c.give.ensures.rest in
-    given_answered r c.give.new.rows t facts c.args.now c.args.want c.args.c c.args.x k (act_list c.args.out.now) (act_list c.give.new.out) rows at shown c.requires.wants rest.limits rest.last_start rest.keys rest.entries
+    given_answered r c.give.new.rows t facts c.args.now c.args.want c.args.c c.args.x k (act_list c.args.out.now) (act_list c.give.new.out) rows at shown c.requires.wants rest.last_start rest.keys rest.entries
     c.most.result c.in_ok-bytes-in-Held.bytes (sym (ap read_step c.past_view.ensures) ∙ (sym c.read_step.ensures ∙ c.in-Held.is)) c.most.ensures c.in_ok-bytes-in-Held.ensures.bytes c.give.ensures.acts (rw c.give.ensures.exchanges c.in_ok-bytes-in-Held.ensures.ok) c.give.ensures.consumers
 
 pub returns-in-Waits-clause-answers : goal.returns-in-Waits-clause-answers
-returns-in-Waits-clause-answers g c = λ t facts rows accepted.
+returns-in-Waits-clause-answers g c = λ lim t facts rows accepted.
     let r = c.args.rows.now in
     let k = c.unwrap-consumer.result.now in
     let at = lent c.get.result (get nat_eq r.consumers c.args.c) c.unwrap-consumer.result c.get.ensures.value c.unwrap-consumer.ensures in
     let shown = known_of (get nat_eq r.consumers c.args.c) k (IsShown c.args.x) at c.requires.shown in
     let rest = c.ask.ensures.rest in
-    asks_answered r c.ask.new.rows t facts c.args.now c.args.want c.args.c c.args.x k (act_list c.args.out.now) (act_list c.ask.new.out) rows at shown c.requires.wants rest.limits rest.last_start rest.keys rest.entries
+    asks_answered r c.ask.new.rows t facts c.args.now c.args.want c.args.c c.args.x k (act_list c.args.out.now) (act_list c.ask.new.out) rows at shown c.requires.wants rest.last_start rest.keys rest.entries
     c.ask.ensures.consumers c.ask.ensures.asked c.in-Waits.field-0 (sym (ap read_step c.past_view.ensures) ∙ (sym c.read_step.ensures ∙ c.in-Waits.is)) c.ask.ensures.acts

@@ -26,7 +26,7 @@ hold-requires-clause-turn g c =
     (known_of row k IsIdle at c.requires.idle) next (known_of row k (IsOfItsKey c.args.request.now) at c.requires.key) c.queue_again.ensures.stands)
 
 pub returns-clause-begun : goal.returns-clause-begun
-returns-clause-begun g c = λ t v facts stands row_is.
+returns-clause-begun g c = λ lim t v facts stands row_is.
     let r = c.args.rows.now in
     let row = get nat_eq r.consumers c.args.c in
     let (k, at, next) = there row (IsNext r.keys c.args.c) c.requires.turn in
@@ -34,4 +34,4 @@ returns-clause-begun g c = λ t v facts stands row_is.
     let launch = c.in_ok-x.ensures in
     stands_turned r c.queue_again.new.rows c.launch.new.self c.hold.new.self c.take_turn.new.consumers t facts.law c.args.now c.args.c c.in_ok-x.x c.args.need c.args.request.now c.current-aim.result k v stands at row_is
     (known_of row k IsIdle at c.requires.idle) next c.requires.turns (known_of row k (IsOfItsKey c.args.request.now) at c.requires.key) (launch.number ∙ ap (λ e. next_of e) queued.exchanges) c.current-aim.ensures
-    queued.stands queued.consumer queued.limits queued.last queued.entries queued.exchanges launch.next launch.ok c.hold.ensures c.take_turn.ensures
+    queued.stands queued.consumer queued.last queued.entries queued.exchanges launch.next launch.ok c.hold.ensures c.take_turn.ensures

@@ -6,11 +6,11 @@ use Rattle.hc_state.proofs.QueueArm.{stands_still, stands_back, line_by, changes
 use Rattle.hc_on_poll.proofs.plan.queue_again.Goals as goal
 
 pub returns-in-Passed-clause-stands : goal.returns-in-Passed-clause-stands
-returns-in-Passed-clause-stands g c = λ t v law rows row.
+returns-in-Passed-clause-stands g c = λ lim t v law rows row.
     let r = c.args.rows.now in
     let k = c.unwrap-consumer.result.now in
     let at = lent c.get.result (get nat_eq r.consumers c.args.c) c.unwrap-consumer.result c.get.ensures.value c.unwrap-consumer.ensures in
-    stands_back r _ t law c.args.c k v rows at row refl refl refl refl c.in-Passed.r c.in-Passed.kept c.in-Passed.is c.line_up.ensures c.back.ensures
+    stands_back r _ t law c.args.c k v rows at row refl refl refl c.in-Passed.r c.in-Passed.kept c.in-Passed.is c.line_up.ensures c.back.ensures
 
 pub returns-in_default : goal.returns-in_default
 returns-in_default g c =
@@ -19,10 +19,9 @@ returns-in_default g c =
     let at = lent c.get.result (get nat_eq r.consumers c.args.c) c.unwrap-consumer.result c.get.ensures.value c.unwrap-consumer.ensures in
     let line = line_by k (known_of (get nat_eq r.consumers c.args.c) k IsIdle at c.requires.idle) c.in_default.not-Passed in
     record {
-      stands = λ t v law rows row. stands_still r _ t law c.args.c k v rows at row refl refl refl refl line refl refl;
+      stands = λ lim t v law rows row. stands_still r _ t law c.args.c k v rows at row refl refl refl line refl refl;
       consumer = changes_still r.consumers c.args.c k at line;
       exchanges = refl;
       entries = refl;
       last = refl;
-      limits = refl;
     }

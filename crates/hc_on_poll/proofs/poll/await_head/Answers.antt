@@ -11,10 +11,10 @@ use Rattle.hc_on_poll.proofs.poll.await_head.Goals as goal
 
 pub returns : goal.returns
 returns g c = record {
-  answers = λ now want t facts rows accepted.
+  answers = λ now want lim t facts rows accepted.
       let r = c.args.rows.now in
       let (k, at, turned) = there (get nat_eq r.consumers c.args.c) (HasTurn c.args.x) c.requires.turn in
       let (v, row, kept) = kept_row t k (t.consumer c.args.c) (subst (λ o. KeepsConsumer t o (t.consumer c.args.c)) at (rows.consumers c.args.c)) in
-      head_waits r.limits (shelf_of r.entries).faults r t facts.law now c.args.c want v row (act_list c.args.out.now) (act_list c.wait.new.out) c.args.x
+      head_waits lim (shelf_of r.entries).faults r t facts.law now c.args.c want v row (act_list c.args.out.now) (act_list c.wait.new.out) c.args.x
       (turn_move t facts.law now want c.args.c c.args.x v row (sym kept.place ∙ turned)) c.wait.ensures.acts rows;
 }

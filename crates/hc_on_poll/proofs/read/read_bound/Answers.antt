@@ -21,9 +21,9 @@ returns-in-Some-clause-answers g c =
     let k = c.unwrap-consumer.result.now in
     let at = lent c.get.result (get nat_eq r.consumers c.args.c) c.unwrap-consumer.result c.get.ensures.value c.unwrap-consumer.ensures in
     let reads = known_of (get nat_eq r.consumers c.args.c) k (IsShownAt c.args.r) at c.requires.shown in
-    λ t facts rows accepted.
+    λ lim t facts rows accepted.
     let rd = row_of r c.args.c c.args.r k at reads t facts rows in
-    head_waits r.limits (shelf_of r.entries).faults r t facts.law c.args.now c.args.c c.args.want rd.v rd.row (act_list c.args.out.now) (act_list c.wait.new.out) c.in-Some.x (head_move r t facts rows c.args.c c.args.r reads.0.2 k rd c.args.now c.args.want reads.1 c.in-Some.x (sym c.headless_own.ensures ∙ c.in-Some.is)) c.wait.ensures.acts rows
+    head_waits lim (shelf_of r.entries).faults r t facts.law c.args.now c.args.c c.args.want rd.v rd.row (act_list c.args.out.now) (act_list c.wait.new.out) c.in-Some.x (head_move r t facts rows c.args.c c.args.r reads.0.2 k rd c.args.now c.args.want reads.1 c.in-Some.x (sym c.headless_own.ensures ∙ c.in-Some.is)) c.wait.ensures.acts rows
 
 pub offset-offset-requires : goal.offset-offset-requires
 offset-offset-requires g c =
@@ -55,12 +55,12 @@ stored_ahead-requires g c =
 pub read_on-requires-clause-stands : goal.read_on-requires-clause-stands
 read_on-requires-clause-stands g c =
     let same = c.stored_ahead.ensures.same in
-    ∥∥₁_map c.requires.stands (λ s. some_read c.args.rows.now c.stored_ahead.new.rows same.limits same.last_start same.consumers same.exchanges same.keys same.entries s)
+    ∥∥₁_map c.requires.stands (λ s. some_read c.args.rows.now c.stored_ahead.new.rows same.last_start same.consumers same.exchanges same.keys same.entries s)
 
 pub misread_by-requires-clause-stands : goal.misread_by-requires-clause-stands
 misread_by-requires-clause-stands g c =
     let same = c.stored_ahead.ensures.same in
-    ∥∥₁_map c.requires.stands (λ s. some_read c.args.rows.now c.stored_ahead.new.rows same.limits same.last_start same.consumers same.exchanges same.keys same.entries s)
+    ∥∥₁_map c.requires.stands (λ s. some_read c.args.rows.now c.stored_ahead.new.rows same.last_start same.consumers same.exchanges same.keys same.entries s)
 
 pub returns-in-Ok-clause-answers : goal.returns-in-Ok-clause-answers
 returns-in-Ok-clause-answers g c =
@@ -73,5 +73,5 @@ returns-in-Err-clause-answers g c =
     let at = lent c.get.result (get nat_eq r.consumers c.args.c) c.unwrap-consumer.result c.get.ensures.value c.unwrap-consumer.ensures in
     let reads = known_of (get nat_eq r.consumers c.args.c) k (IsShownAt c.args.r) at c.requires.shown in
     on_ok_two c.misread_by.result c.misread_by.ensures.failed c.misread_by.ensures.answers (λ other answers.
-    λ t facts rows accepted. misread_after r c.stored_ahead.new.rows c.misread_by.new.rows c.stored_ahead.ensures.same (act_list c.args.out.now) (act_list c.misread_by.new.out) c.args.now c.args.c c.args.r k at reads.0.2 (reads.0.0, reads.0.1, reads.0.3)
-    (c.stored_ahead.ensures.cause.fault (fault_only c.stored_ahead.result c.in-Err.error c.in-Err.is c.stored_ahead.ensures.no_limit other)) answers c.args.want t facts rows)
+    λ lim t facts rows accepted. misread_after r c.stored_ahead.new.rows c.misread_by.new.rows c.stored_ahead.ensures.same (act_list c.args.out.now) (act_list c.misread_by.new.out) c.args.now c.args.c c.args.r k at reads.0.2 (reads.0.0, reads.0.1, reads.0.3)
+    (c.stored_ahead.ensures.cause.fault (fault_only c.stored_ahead.result c.in-Err.error c.in-Err.is c.stored_ahead.ensures.no_limit other)) answers c.args.want _ t facts rows)

@@ -22,7 +22,7 @@ returns-clause-answers g c =
     let at = lent c.get.result at_row c.unwrap-consumer.result c.get.ensures.value c.unwrap-consumer.ensures in
     let idle = known_of at_row k IsIdle at c.requires.idle in
     let now_is = known_of at_row k (HasCurrent r.keys c.args.r) at c.requires.current in
-    some_that at_row k _ at (λ now want t v facts stands row is.
+    some_that at_row k _ at (λ now want lim t v facts stands row is.
     let kept = subst (KeepsConsumer t (Some k)) row (subst (λ o. KeepsConsumer t o (t.consumer c.args.c)) at (stands.consumers c.args.c)) in
     let same = current_total r t v.request.key c.args.r head stands (current_as r t k v c.args.r stands kept now_is) c.requires.head in
     let response : Response = record { status = c.in_ok-shown.shown.status; fields = c.in_ok-shown.shown.fields } in
@@ -30,5 +30,5 @@ returns-clause-answers g c =
     let to = c.bounds_of-lo.ensures.to in
     bind_answered r c.leave_line.new.rows c.bind.new.self c.bind_shown.new.consumers t facts.law c.args.c c.args.r lo hi k v stands at row idle now_is
     (part_ends (t.representation c.args.r) head c.args.span hi to same)
-    c.leave_line.ensures c.in_ok-bind.ensures.ok c.bind_shown.ensures r.limits _ now want c.args.why response (act_list c.args.out.now) (act_list c.put_shown.new.out)
+    c.leave_line.ensures c.in_ok-bind.ensures.ok c.bind_shown.ensures lim _ now want c.args.why response (act_list c.args.out.now) (act_list c.put_shown.new.out)
     (is ∙ shows_told c.args.r head c.args.why c.args.span k lo hi _ response from to c.is_some-ranged.ensures (c.in_ok-shown.ensures ∙ ap (λ s. shown_response head c.args.why s c.is_some-ranged.result) c.span_to.ensures)) c.put_shown.ensures)

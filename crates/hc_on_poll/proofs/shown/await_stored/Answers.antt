@@ -15,7 +15,7 @@ use Rattle.hc_state.proofs.Words.{there, on_ok_by, on_ok_two}
 use Rattle.hc_on_poll.proofs.shown.await_stored.Goals as goal
 
 pub returns-then-is_headless-clause-answers : goal.returns-then-is_headless-clause-answers
-returns-then-is_headless-clause-answers g c = λ want t facts rows accepted.
+returns-then-is_headless-clause-answers g c = λ want lim t facts rows accepted.
     let r = c.args.rows.now in
     let (k, at, unshown) = there (get nat_eq r.consumers c.args.c) (IsUnshownBy c.args.r c.args.by) c.requires.unshown in
     first_waits_answered r r t facts rows c.args.now want c.args.c c.args.r c.args.by k at unshown (act_list c.args.out.now) (act_list c.wait.new.out) c.in-FirstHole.x c.in-FirstHole.is (sym c.is_headless.ensures ∙ c.if-is_headless.true) c.wait.ensures.acts
@@ -30,10 +30,10 @@ head-requires g c =
     bound_kept r t law c.args.c c.args.r c.args.by k s.rows (bound_row_of r t law c.args.c c.args.r unshown.0.0 unshown.0.1 c.args.by k s.rows at unshown.0.2))
 
 pub show_stored-requires-clause-stands : goal.show_stored-requires-clause-stands
-show_stored-requires-clause-stands g c = ∥∥₁_map c.requires.stands (λ s. some_read c.args.rows.now _ refl refl refl refl refl c.head.ensures.same s)
+show_stored-requires-clause-stands g c = ∥∥₁_map c.requires.stands (λ s. some_read c.args.rows.now _ refl refl refl refl c.head.ensures.same s)
 
 pub misread_by-requires-clause-stands : goal.misread_by-requires-clause-stands
-misread_by-requires-clause-stands g c = ∥∥₁_map c.requires.stands (λ s. some_read c.args.rows.now _ refl refl refl refl refl c.head.ensures.same s)
+misread_by-requires-clause-stands g c = ∥∥₁_map c.requires.stands (λ s. some_read c.args.rows.now _ refl refl refl refl c.head.ensures.same s)
 
 pub misread_by-requires-clause-live : goal.misread_by-requires-clause-live
 misread_by-requires-clause-live g c = let (k, at, unshown) = there (get nat_eq c.args.rows.now.consumers c.args.c) (IsUnshownBy c.args.r c.args.by) c.requires.unshown in ap (λ o. is_some o) at
@@ -48,4 +48,4 @@ returns-in-Err-clause-answers g c =
     let r = c.args.rows.now in
     let (k, at, unshown) = there (get nat_eq r.consumers c.args.c) (IsUnshownBy c.args.r c.args.by) c.requires.unshown in
     on_ok_two c.misread_by.result c.misread_by.ensures.failed c.misread_by.ensures.answers (λ other answers.
-    λ want t facts rows accepted. misread_answered r c.head.new.self c.head.ensures.same (c.head.ensures.cause.fault (fault_only c.head.result c.in-Err.error c.in-Err.is c.head.ensures.no_limit other)) c.misread_by.new.rows (act_list c.args.out.now) (act_list c.misread_by.new.out) c.args.now c.args.c c.args.r k at c.args.by unshown.0 answers want t facts rows)
+    λ want lim t facts rows accepted. misread_answered r c.head.new.self c.head.ensures.same (c.head.ensures.cause.fault (fault_only c.head.result c.in-Err.error c.in-Err.is c.head.ensures.no_limit other)) c.misread_by.new.rows (act_list c.args.out.now) (act_list c.misread_by.new.out) c.args.now c.args.c c.args.r k at c.args.by unshown.0 answers want _ t facts rows)

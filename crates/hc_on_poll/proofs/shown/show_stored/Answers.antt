@@ -61,7 +61,7 @@ shown-requires g c = λ on x span.
     by_result x (Some n) never some within small = let lt = within n refl in record { not_empty = some n refl; within = omega (arith, lt); small = small n refl }
 
 pub returns-clause-answers : goal.returns-clause-answers
-returns-clause-answers g c = λ now want t facts rows accepted.
+returns-clause-answers g c = λ now want lim t facts rows accepted.
     let r = c.args.rows.now in
     let k = c.unwrap-consumer.result.now in
     let answer = c.in_ok-shown.shown in
@@ -70,4 +70,4 @@ returns-clause-answers g c = λ now want t facts rows accepted.
     stored_answered r _ t facts rows now want c.args.c c.args.r c.args.by k at unshown (act_list c.args.out.now) (act_list c.put_shown.new.out) c.requires.headed (plain c.args.head) c.requires.head c.or-head.result c.or-head.ensures answer
     (c.in_ok-shown.ensures ∙ same_shown (record (plain c.args.head) { total = c.or-head.result }) _ _ _ _ _ _ c.why_shown-why.ensures c.span_to.ensures c.is_part-ranged.ensures)
     (c.put_shown.ensures ∙ ap (λ (z : Why). act_list c.args.out.now ++ (act.Shown c.args.c c.args.r z answer.status answer.fields k.lo k.hi ∷ [])) c.why_shown-why.ensures)
-    refl refl refl refl refl c.show.ensures
+    refl refl refl refl c.show.ensures

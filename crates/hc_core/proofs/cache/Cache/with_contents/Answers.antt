@@ -23,7 +23,7 @@ begin_with-requires-clause-fit g c = subst (λ (l : Limits). may_begin l (plain_
 
 pub invariant_of-result : goal.invariant_of-result
 invariant_of-result g c =
-    let may = subst (λ (l : Limits). may_begin l (plain_contents c.args.contents.now) ≡ true) (sym (c.begin_with.ensures.limits ∙ c.in-Ok.ensures.limits)) (may_by _ _ c.in_default.ensures.none) in
+    let may = subst (λ (l : Limits). may_begin l (plain_contents c.args.contents.now) ≡ true) (sym (c.begin_with.ensures.bounds ∙ c.in-Ok.ensures.limits)) (may_by _ _ c.in_default.ensures.none) in
     let rows = c.in_default-begin_with.ensures.ok in
     record {
       good = λ _. (
@@ -36,10 +36,13 @@ invariant_of-result g c =
 
 pub returns-clause-stands : goal.returns-clause-stands
 returns-clause-stands g c =
-    let may = subst (λ (l : Limits). may_begin l (plain_contents c.args.contents.now) ≡ true) (sym (c.begin_with.ensures.limits ∙ c.in-Ok.ensures.limits)) (may_by _ _ c.in_default.ensures.none) in
+    let may = subst (λ (l : Limits). may_begin l (plain_contents c.args.contents.now) ≡ true) (sym (c.begin_with.ensures.bounds ∙ c.in-Ok.ensures.limits)) (may_by _ _ c.in_default.ensures.none) in
     stands_begun_with _ c.args.contents.now refl may c.in_default-begin_with.ensures.ok
 
 pub returns-clause-serves : goal.returns-clause-serves
 returns-clause-serves g c =
-    let may = subst (λ (l : Limits). may_begin l (plain_contents c.args.contents.now) ≡ true) (sym (c.begin_with.ensures.limits ∙ c.in-Ok.ensures.limits)) (may_by _ _ c.in_default.ensures.none) in
+    let may = subst (λ (l : Limits). may_begin l (plain_contents c.args.contents.now) ≡ true) (sym (c.begin_with.ensures.bounds ∙ c.in-Ok.ensures.limits)) (may_by _ _ c.in_default.ensures.none) in
     serves_all _ (plain_contents c.args.contents.now) refl may c.in_default-begin_with.ensures.ok
+
+pub returns-clause-limits : goal.returns-clause-limits
+returns-clause-limits g c = c.begin_with.ensures.bounds ∙ c.in-Ok.ensures.limits

@@ -1,0 +1,8 @@
+use Rattle.std.proofs.Common.{ℕ, Option, sym, subst}
+use Rattle.hc_model.specs.Effects.{let_some_go}
+use Rattle.hc_state.specs.Stands.{RowsStand}
+use Rattle.hc_on_leave.proofs.evict.let_some_go.Goals as goal
+
+pub returns-in-Some-clause-stands : goal.returns-in-Some-clause-stands
+returns-in-Some-clause-stands g c = λ lim t may stands.
+    subst (λ (o : Option ℕ). RowsStand lim c.let_go.new.rows (let_some_go c.args.now o t)) (sym c.in-Some.is) (c.let_go.ensures.stands lim t may stands)

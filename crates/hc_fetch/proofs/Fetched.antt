@@ -17,7 +17,7 @@ use Rattle.hc_sched.specs.declared.schedule.Ended.TheVariants as course
 use Rattle.hc_sched.specs.declared.schedule.Timed.{Timed}
 use Rattle.hc_sched.specs.Schedule.{events_of}
 use Rattle.hc_driver.specs.Courses as courses
-use Rattle.hc_driver.specs.Courses.{Goes, Leads, TakesThenFront, text_of, text_before, last_text}
+use Rattle.hc_driver.specs.Courses.{Goes, TakesThenFront, text_of, text_before, last_text}
 use Rattle.hc_driver.specs.Endings as endings
 use Rattle.hc_driver.specs.Endings.{How, Wholly, UpToEnd, UpToLast, UpToWant, Ends, IsSteppedAtOnce, events_from}
 use Rattle.hc_rules.specs.declared.room.Limits.{Limits}
@@ -31,7 +31,7 @@ use Rattle.hc_fetch.specs.declared.plan.FetchPlan.{FetchPlan}
 use Rattle.hc_fetch.specs.Bounds.{IsPlan}
 use Rattle.hc_fetch.specs.Deciding.{by_failure, by_head, by_heads, by_other, fits, decided_by, is_undecided}
 use Rattle.hc_fetch.specs.Endings as fetches
-use Rattle.hc_fetch.specs.Endings.{events_in, IsFetched, WritesAll, AreEvents, WritesSome, IsWholeBody, Fetches, ended_as}
+use Rattle.hc_fetch.specs.Endings.{events_in, IsFetched, WritesAll, WritesSome, IsWholeBody, Fetches, ended_as}
 use Rattle.hc_fetch.specs.Fetches.{ended_with, is_done_by}
 use Rattle.hc_fetch.specs.Gathering.{written_of, written_before, written_last}
 use Rattle.hc_fetch.specs.Heads.{Head, heads_in, first_in, first_head}

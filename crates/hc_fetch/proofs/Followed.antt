@@ -24,7 +24,7 @@ use Rattle.hc_fetch.specs.Endings.{IsFetched, events_in, failures}
 use Rattle.hc_fetch.specs.Fetches.{cache_history}
 use Rattle.hc_fetch.specs.Gathering.{written_of, written_before, written_last}
 use Rattle.hc_fetch.specs.Steps as steps
-use Rattle.hc_fetch.specs.Steps.{HasHeard, StandsForFetch, Hears, Answers, Tells}
+use Rattle.hc_fetch.specs.Steps.{HasHeard, StandsForFetch, Answers, Tells}
 use Rattle.hc_fetch.proofs.Bodies.{writes_the_body}
 use Rattle.hc_fetch.proofs.Shows.{was_undecided}
 

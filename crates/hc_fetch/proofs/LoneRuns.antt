@@ -41,7 +41,7 @@ use Rattle.hc_rules.proofs.Cond.{either}
 use Rattle.hc_model.specs.ActFilters.{Showing, showing_in, wait_in, has_loss}
 use Rattle.hc_model.specs.Aims.{Aims}
 use Rattle.hc_model.specs.Cases.{case_at, case_of, head_view, is_founding, fits_asker}
-use Rattle.hc_model.specs.ConsumerRows.{bound_to_wanted, place_by_case, consumer_heard, by_head, by_fault, waiting_place, waiting, opened_place, unless_bound, with_opening, by_opening, shown_place, consumer_acted, consumer_settled, consumer_made, consumer_after}
+use Rattle.hc_model.specs.ConsumerRows.{bound_to_wanted, place_by_case, consumer_heard, by_head, by_fault, waiting_place, waiting, opened_place, unless_bound, by_opening, shown_place, consumer_acted, consumer_settled, consumer_made, consumer_after}
 use Rattle.hc_model.specs.Currents.{current}
 use Rattle.hc_model.specs.Denials.{denial}
 use Rattle.hc_model.specs.Dooms.{doomed_key_of, doomed_in, is_key}
@@ -55,14 +55,14 @@ use Rattle.hc_model.specs.Owners.{IsPast, IsAwaiting}
 use Rattle.hc_model.specs.Owners as owners
 use Rattle.hc_model.specs.Passed.{Passed}
 use Rattle.hc_model.specs.Polls.{move_of, shows_head, shows_at, shows_bound, shows_direct, shows_answer, has_joined, or_else, waits_for_head, if_headless, by_place}
-use Rattle.hc_model.specs.Reading.{own_open, bound_to, hi_of}
+use Rattle.hc_model.specs.Reading.{own_open, bound_to}
 use Rattle.hc_model.specs.Rows.{Tables, Exchange, Representation, Consumer}
 use Rattle.hc_model.specs.RepresentationRows.{new_representation, length_in}
 use Rattle.hc_model.specs.StartingOver.{starts_over, waits_at, sends_back, loses_what_it_waits_for}
 use Rattle.hc_model.specs.Tables.{after_accepted, after_denied}
 use Rattle.hc_effects.proofs.BoundFrom.{place_inj}
 use Rattle.hc_effects.proofs.Basics.{none_some, some_none, false_true, true_false, and_left, and_right, or_cases, some_row}
-use Rattle.hc_effects.proofs.ExchangeFrom.{IsSame, IsHeaded, ExchangeFrom, exchange_from}
+use Rattle.hc_effects.proofs.ExchangeFrom.{IsHeaded, ExchangeFrom, exchange_from}
 use Rattle.hc_effects.proofs.ExchangeFrom as exchange
 use Rattle.hc_effects.proofs.FirstKeeps.{case_is, is_new}
 use Rattle.hc_effects.proofs.HoleLemmas.{bool_cases}

@@ -29,7 +29,7 @@ use Rattle.hc_rules.proofs.RangeReads.{content_range_in-spelled, bytes_eq-same}
 use Rattle.hc_validate.specs.Heads.{FieldPairs, with_one}
 use Rattle.hc_validate.specs.Showing.{with_age, with_range, part_of, shown_as, shown_response}
 use Rattle.hc_model.specs.Currents.{total_in}
-use Rattle.hc_model.specs.Exchanges.{base, promised_bytes}
+use Rattle.hc_model.specs.Exchanges.{base}
 use Rattle.hc_model.specs.Moves.{Move, Shows, shows_stored, span_to}
 use Rattle.hc_model.specs.Parts.{Parts}
 use Rattle.hc_model.specs.Places.{Places}
@@ -39,7 +39,7 @@ use Rattle.hc_model.specs.Reading.{hi_of, end_in, end_of_direct}
 use Rattle.hc_model.specs.Reads.{end_by}
 use Rattle.hc_model.specs.Rows.{Tables, Exchange, Representation, Consumer}
 use Rattle.hc_model.specs.Sound as sound
-use Rattle.hc_effects.proofs.Basics.{none_some, some_none, false_true, true_false, some_row}
+use Rattle.hc_effects.proofs.Basics.{none_some, false_true, some_row}
 use Rattle.hc_effects.proofs.HoleLemmas.{bool_cases}
 use Rattle.hc_effects.proofs.PartTold.{part_within, whole_base}
 use Rattle.hc_effects.proofs.PieceKeeps.{some_inj}

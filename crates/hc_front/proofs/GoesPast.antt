@@ -9,7 +9,6 @@ use Rattle.hc_fields.specs.FirstValues.{has_field}
 use Rattle.hc_cachectl.specs.Directives.{of_request}
 use Rattle.hc_event.specs.Filters.{is_denied}
 use Rattle.hc_event.specs.declared.act.Act.{Act}
-use Rattle.hc_event.specs.declared.act.Act.TheVariants as act
 use Rattle.hc_event.specs.declared.act.Need.TheVariants as need
 use Rattle.hc_event.specs.declared.act.Refusal.{Refusal}
 use Rattle.hc_event.specs.declared.event.Event.{Event}
@@ -20,26 +19,23 @@ use Rattle.hc_rules.specs.Requests.{is_get, disables, has_condition, ranges_read
 use Rattle.hc_rules.specs.declared.plan.Plan.TheVariants as plan
 use Rattle.hc_rules.specs.declared.room.Limits.{Limits}
 use Rattle.hc_model.specs.Answers.{answer, accepted_acts, denied_or}
-use Rattle.hc_model.specs.Beginnings.{may_begin}
 use Rattle.hc_model.specs.ConsumerRows.{new_consumer}
-use Rattle.hc_model.specs.Denials.{denial}
-use Rattle.hc_model.specs.Entries.{Entry, Contents}
+use Rattle.hc_model.specs.Entries.{Entry}
 use Rattle.hc_model.specs.Flaws.{NoFlaw, failures_in}
 use Rattle.hc_model.specs.Lawful.{Lawful}
 use Rattle.hc_model.specs.Moves.{Opens, acts_of}
 use Rattle.hc_model.specs.Planning.{plan_view, plan_move}
 use Rattle.hc_model.specs.Polls.{move_of}
 use Rattle.hc_model.specs.Rows.{Tables, Consumer}
-use Rattle.hc_model.specs.Runs.{IsRun, IsOwed, size_flaw, owed}
+use Rattle.hc_model.specs.Runs.{IsOwed, size_flaw, owed}
 use Rattle.hc_model.specs.Weights.{room_for}
 use Rattle.hc_effects.proofs.Owed.{goes}
 use Rattle.hc_laws.proofs.Faultless.{faultless_are_owed}
 use Rattle.hc_laws.proofs.LawfulRuns.{lawful_in_runs}
 use Rattle.hc_effects.proofs.PollEffects as polls
-use Rattle.hc_front.specs.declared.watches.Watched.{Watched}
 use Rattle.hc_condition.specs.External.{none_match_of, are_tags, is_date_or_absent, is_about_copy, asks_more, is_external}
 use Rattle.hc_front.specs.Fronts.{Fronted, Heard, is_ending, handed, told, core_entry}
-use Rattle.hc_front.specs.FrontHistories.{FrontHistory, fronted, core_of}
+use Rattle.hc_front.specs.FrontHistories.{fronted, core_of}
 use Rattle.hc_front.specs.Laws.{ConditionsGoOn}
 use Rattle.hc_front.proofs.Watchings.{core_is}
 

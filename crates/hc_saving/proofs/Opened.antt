@@ -5,14 +5,14 @@
 -- so an image of such contents is never refused (`always_taken`). A cache that begins with contents stands for their
 -- beginning, and for each run that leaves them. Its store counts no failure, so no act tells one. So what was replayed
 -- is a run from the contents, and goes on behind whatever left them (`continued`), at each ending (`ends_continued`).
-use Rattle.std.proofs.Common.{◌≡◌, ◌≢◌, ◌≤◌, ℕ, ◌+◌, List, [], ◌∷◌, ◌++◌, length, true, false, Option, Some, None, refl, ap, sym, ◌∙◌, subst, arith}
+use Rattle.std.proofs.Common.{◌≡◌, ◌≢◌, ◌≤◌, ℕ, ◌+◌, List, [], ◌∷◌, ◌++◌, true, false, Option, Some, None, refl, sym, ◌∙◌, subst, arith}
 use Rattle.std.specs.Prelude.{is_none}
 use Rattle.std.proofs.lemmas.List.{append-nil}
 use Rattle.hc_io.specs.Source.{GivesAll}
 use Rattle.hc_sched.specs.declared.schedule.Ended.{Ended}
 use Rattle.hc_sched.specs.declared.schedule.Ended.TheVariants as ended
 use Rattle.hc_sched.specs.declared.schedule.Timed.{Timed}
-use Rattle.hc_sched.specs.Schedule.{Item, Spells}
+use Rattle.hc_sched.specs.Schedule.{Spells}
 use Rattle.hc_driver.specs.Endings.{How, Ends}
 use Rattle.hc_driver.specs.Stepping as steps
 use Rattle.hc_driver.proofs.Reported.{ends_so}
@@ -31,7 +31,7 @@ use Rattle.hc_core.specs.declared.begin.ContentsError.{ContentsError}
 use Rattle.hc_core.specs.declared.begin.ContentsError.TheVariants as error
 use Rattle.hc_core.specs.declared.cache.Cache.{Cache}
 use Rattle.hc_core.specs.Steps.{StandsFor, ServesAll, faults_in, limits_in, last_moment}
-use Rattle.hc_replay.specs.Histories.{run_of, failures}
+use Rattle.hc_replay.specs.Histories.{run_of}
 use Rattle.hc_replay.specs.Replays as replays
 use Rattle.hc_replay.specs.Replays.{IsWholeRun, IsReplayed, Replays}
 use Rattle.hc_image.specs.Readings.{BeginsWithNone}

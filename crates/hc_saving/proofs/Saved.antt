@@ -14,7 +14,7 @@ use Rattle.hc_sched.specs.declared.schedule.Ended.{Ended}
 use Rattle.hc_sched.specs.declared.schedule.Ended.TheVariants as ended
 use Rattle.hc_sched.specs.declared.schedule.Timed.{Timed}
 use Rattle.hc_sched.specs.Laws.{AreTimed}
-use Rattle.hc_sched.specs.Schedule.{Item, Spells, IsSmall, events_of}
+use Rattle.hc_sched.specs.Schedule.{Item, Spells, events_of}
 use Rattle.hc_sched.proofs.OneReading.{is_read, brings_timed}
 use Rattle.hc_driver.specs.Courses as courses
 use Rattle.hc_driver.specs.Courses.{Goes}
@@ -27,13 +27,13 @@ use Rattle.hc_rules.specs.declared.room.Limits.{Limits}
 use Rattle.hc_store.specs.declared.backend.Backend.{Ghosts}
 use Rattle.hc_model.specs.Beginnings.{may_begin}
 use Rattle.hc_model.specs.Contents.{contents_of}
-use Rattle.hc_model.specs.Entries.{Entry, History, Contents, no_contents}
+use Rattle.hc_model.specs.Entries.{History, Contents, no_contents}
 use Rattle.hc_model.specs.Runs.{IsRun}
 use Rattle.hc_model.specs.Tables.{tables, after, after_accepted, after_denied}
 use Rattle.hc_laws.proofs.CountedOpenings.{openings_counted}
 use Rattle.hc_laws.proofs.ReadWhole.{runs_read_whole}
 use Rattle.hc_core.specs.declared.cache.Cache.{Cache}
-use Rattle.hc_core.specs.Steps.{StandsFor, Answers, faults_in, limits_in, last_moment, steps as steps_in}
+use Rattle.hc_core.specs.Steps.{StandsFor, Answers, limits_in, last_moment, steps as steps_in}
 use Rattle.hc_replay.specs.Histories.{run_of, failures}
 use Rattle.hc_replay.specs.Replays.{IsWholeRun, IsReplayed}
 use Rattle.hc_replay.proofs.Reported.{replayed, leads_limits}

@@ -1,4 +1,4 @@
-use Rattle.std.proofs.Common.{rules, refl, arith, ◌∙◌, subst, ◌≤◌, ◌+◌, ◌^◌}
+use Rattle.std.proofs.Common.{rules, arith, ◌∙◌, ◌≤◌, ◌+◌, ◌^◌}
 use Rattle.hc_contents.specs.PlainContents.{plain_contents}
 use Rattle.hc_model.specs.Entries.{no_contents}
 use Rattle.hc_core.specs.Steps.{limits_in}

@@ -1,11 +1,10 @@
-use Rattle.std.proofs.Common.{refl, sym, ◌∙◌, subst, arith, ◌≡◌}
+use Rattle.std.proofs.Common.{refl, ◌∙◌, subst, arith, ◌≡◌}
 use Rattle.hc_rules.specs.declared.room.Limits.{Limits}
-use Rattle.hc_core.specs.Steps.{limits_in}
 use Rattle.hc_model.specs.Entries.{no_contents}
 use Rattle.hc_replay.specs.Histories.{run_of, failures}
 use Rattle.hc_replay.proofs.Reported.{new_moment}
 use Rattle.hc_saving.specs.Saves.{Writes}
-use Rattle.hc_saving.proofs.Saved.{GoneThrough, gone_through, not_saved, image_saved, never_risen, no_source}
+use Rattle.hc_saving.proofs.Saved.{gone_through, not_saved, image_saved, never_risen, no_source}
 use Rattle.hc_saving.proofs.saving.save.Goals as goal
 
 pub go_through-requires-clause-later : goal.go_through-requires-clause-later

@@ -37,6 +37,7 @@ use Rattle.hc_effects.proofs.ActParts.{far_closing, far_lost_only}
 use Rattle.hc_effects.proofs.Basics.{some_none}
 use Rattle.hc_effects.proofs.EventsKeep.{poll_live}
 use Rattle.hc_effects.proofs.Givers.{some_want}
+use Rattle.hc_effects.proofs.HoleLemmas.{bool_cases}
 use Rattle.hc_laws.proofs.OneHead.{one_head_is_shown}
 use Rattle.hc_effects.proofs.Owed as owed_by
 use Rattle.hc_effects.proofs.Owed.{IsDenied, is_denial, goes, acts_are, denied_gives}
@@ -204,10 +205,6 @@ ungiven_before limits contents c e f run some =
 data IsQuiet (t : Fronted) (c : ℕ) : Type 0 where
   satisfied : (w : Watched) → t.watched c ≡ Some w → w.satisfied ≡ true → IsQuiet t c
   over : (k : Consumer) → t.core.consumer c ≡ Some k → k.place ≡ place.Over → IsQuiet t c
-
-bool_cases : (b : Bool) → (b ≡ true) ⊎ (b ≡ false)
-bool_cases true = inl refl
-bool_cases false = inr refl
 
 over_is : (p : Place) → is_live_place p ≡ false → p ≡ place.Over
 over_is place.Over dead = refl

@@ -1,6 +1,5 @@
 -- The step of a cache: one entry more, denied or accepted.
 use Rattle.std.proofs.Common.{◌≡◌, ℕ, ◌+◌, ◌≤◌, ◌<◌, ◌^◌, List, [], ◌∷◌, ◌++◌, length, Bool, true, false, Option, Some, None, refl, ap, sym, ◌∙◌, subst, arith}
-use Rattle.std.proofs.lemmas.Bool.Decides.{nat_tests}
 use Rattle.std.proofs.Props.{props}
 use Rattle.std.proofs.Math.Bridge.{le_prop}
 use Rattle.std.proofs.Math.Logic.{∥∥₁_elim, ∥∥₁_map}
@@ -50,6 +49,7 @@ use Rattle.hc_core.proofs.Standing.{facts_of_runs, sized_of_any, sized_of_some}
 use Rattle.hc_state.proofs.Maps.{merely_below}
 use Rattle.hc_state.proofs.Words.{more_received, none_received, none_some}
 use Rattle.hc_laws.proofs.Undenied.{undenied}
+use Rattle.hc_laws.proofs.FromNothing.{begins_well}
 use Rattle.hc_core.proofs.Denying.{stands_denied, stands_begun}
 use Rattle.hc_core.specs.declared.cache.Cache.{Cache}
 use Rattle.hc_core.specs.Steps.{StandsFor, Steps, KeepsPromises}
@@ -60,15 +60,11 @@ use Rattle.hc_model.specs.Flaws.{failures_in}
 none_long : AreShort no_contents
 none_long r n item there is = none_some item there
 
-begins : (limits : Limits) → may_begin limits no_contents ≡ true
-unfolding may_begin
-begins limits = let last : nat_le 0 limits.max_total ≡ true = grind (arith, nat_tests) in rw last refl
-
 pub stands_beginning : {B : Type 0} {g : Ghosts B} (s : Cache B g) → s.last_moment ≡ 0 → s.rows.last_start ≡ 0 → next_of s.rows.exchanges ≡ 1 → hash_map_len s.rows.consumers ≡ 0 → ((c : ℕ) → get nat_eq s.rows.consumers c ≡ None) → ((x : ℕ) → table_of s.rows.exchanges x ≡ unknown) → ((key : List ℕ) → kept_of s.rows.keys key ≡ nothing) → ((q : ℕ) → (shelf_of s.rows.entries).kept q ≡ None) → (shelf_of s.rows.entries).order ≡ []
     → StandsFor s no_contents []
 unfolding tables
 stands_beginning s moment last next count none unopened unawaited unkept order = record {
-  begins = begins (shelf_of s.rows.entries).limits;
+  begins = begins_well (shelf_of s.rows.entries).limits;
   short = none_long;
   run = tt;
   moment = moment;
@@ -77,7 +73,7 @@ stands_beginning s moment last next count none unopened unawaited unkept order =
 
 pub begins_good : {B : Type 0} {g : Ghosts B} (r : Rows B g) → r.last_start ≡ 0 → next_of r.exchanges ≡ 1 → hash_map_len r.consumers ≡ 0 → ((c : ℕ) → get nat_eq r.consumers c ≡ None) → ((x : ℕ) → table_of r.exchanges x ≡ unknown) → ((key : List ℕ) → kept_of r.keys key ≡ nothing) → ((q : ℕ) → (shelf_of r.entries).kept q ≡ None) → (shelf_of r.entries).order ≡ [] → StandsAt r 0 0
 unfolding tables
-begins_good r last next count none unopened unawaited unkept order = (record { contents = no_contents; h = []; begins = begins (shelf_of r.entries).limits; short = none_long; within_limits = tt; starts = tt; run = tt; received = none_received 0; rows = stands_begun r last next count none unopened unawaited unkept order }, refl)
+begins_good r last next count none unopened unawaited unkept order = (record { contents = no_contents; h = []; begins = begins_well (shelf_of r.entries).limits; short = none_long; within_limits = tt; starts = tt; run = tt; received = none_received 0; rows = stands_begun r last next count none unopened unawaited unkept order }, refl)
 
 -- limits are a set: of what is merely there, they tell what is
 limits_set : IsSet Limits

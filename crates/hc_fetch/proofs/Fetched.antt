@@ -36,7 +36,8 @@ use Rattle.hc_fetch.specs.Fetches.{ended_with, is_done_by}
 use Rattle.hc_fetch.specs.Gathering.{written_of, written_before, written_last}
 use Rattle.hc_fetch.specs.Heads.{Head, heads_in, first_in, first_head}
 use Rattle.hc_fetch.specs.Steps.{StandsForFetch, Tells}
-use Rattle.hc_fetch.proofs.Followed.{IsAt, at_open, at_decision, at_foreign, begins_well, followed, last_is, all_joined, last_joined, over}
+use Rattle.hc_laws.proofs.FromNothing.{begins_well}
+use Rattle.hc_fetch.proofs.Followed.{IsAt, at_open, at_decision, at_foreign, followed, last_is, all_joined, last_joined, over}
 use Rattle.hc_fetch.proofs.Shows.{was_undecided}
 use Rattle.hc_fetch.proofs.Whole.{writes_all_of_it}
 

@@ -3,16 +3,15 @@
 -- By induction on its events: where nothing was decided, the fetch stands for them (`at_open`); else the last one decided
 -- (`at_decision`), or comes from nobody and wasn't stepped (`at_foreign`). What was told is what is written of them.
 use Rattle.std.proofs.Common.{◌≡◌, ℕ, ◌+◌, List, [], ◌∷◌, ◌++◌, length, drop, Bool, true, false, Option, Some, None, refl, ap, sym, ◌∙◌, subst, arith}
-use Rattle.std.specs.Prelude.{is_some, nat_le}
-use Rattle.std.proofs.lemmas.Bool.Decides.{nat_tests}
+use Rattle.std.specs.Prelude.{is_some}
 use Rattle.hc_sched.specs.declared.schedule.Timed.{Timed}
 use Rattle.hc_driver.specs.Courses as courses
 use Rattle.hc_driver.specs.Courses.{Told, Leads, text_of, text_before, last_text}
 use Rattle.hc_rules.specs.declared.room.Limits.{Limits}
-use Rattle.hc_model.specs.Beginnings.{may_begin}
 use Rattle.hc_model.specs.Entries.{Entry, History, no_contents}
 use Rattle.hc_model.specs.Runs.{IsRun}
 use Rattle.hc_effects.proofs.Basics.{true_false}
+use Rattle.hc_laws.proofs.FromNothing.{begins_well}
 use Rattle.hc_laws.proofs.ReadWhole.{runs_read_whole}
 use Rattle.hc_core.specs.Steps.{limits_in}
 use Rattle.hc_fetch.specs.declared.ended.FetchEnded.{FetchEnded}
@@ -27,13 +26,6 @@ use Rattle.hc_fetch.specs.Steps as steps
 use Rattle.hc_fetch.specs.Steps.{HasHeard, StandsForFetch, Answers, Tells}
 use Rattle.hc_fetch.proofs.Bodies.{writes_the_body}
 use Rattle.hc_fetch.proofs.Shows.{was_undecided}
-
-no_weight : (n : ℕ) → nat_le 0 n ≡ true
-no_weight n = grind (arith, nat_tests)
-
-pub begins_well : (limits : Limits) → may_begin limits no_contents ≡ true
-unfolding may_begin
-begins_well limits = no_weight limits.max_total
 
 pub fetched : (limits : Limits) (plan : FetchPlan) (f : History) → IsRun limits no_contents (cache_history plan f) → is_undecided_before plan f ≡ true → failures f ≡ 0 → has_foreign f ≡ false → IsFetched limits plan f
 fetched limits plan f run before sound own = record {

@@ -113,6 +113,7 @@ pub mod PartRuns
 pub mod AimRuns
 pub mod FrontRuns
 pub mod UnendedRuns
+pub mod FromNothing
 pub mod Accepted
 pub mod CountedOpenings
 pub mod LeaverGoes

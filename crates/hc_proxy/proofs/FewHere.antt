@@ -22,7 +22,7 @@ use Rattle.hc_proxy.specs.Handling.{clients_here, is_client}
 use Rattle.hc_proxy.specs.Invariants.{IsHolder, HasConsumers}
 use Rattle.hc_proxy.specs.Rows.{Client, Proxy}
 use Rattle.hc_proxy.proofs.Ascending.{filter_falls}
-use Rattle.hc_proxy.proofs.Stands.{begins_well}
+use Rattle.hc_laws.proofs.FromNothing.{begins_well}
 
 -- HOW MANY
 

@@ -24,7 +24,8 @@ use Rattle.hc_proxy.specs.Rows.{Proxy}
 use Rattle.hc_proxy.specs.Steps.{with_entry}
 use Rattle.hc_proxy.proofs.ServedActs.{IsTold, TellsUp, UpBy}
 use Rattle.hc_proxy.proofs.SkippedSteps.{Ascends, among}
-use Rattle.hc_proxy.proofs.Stands.{Stands, begins_well, moment_by}
+use Rattle.hc_laws.proofs.FromNothing.{begins_well}
+use Rattle.hc_proxy.proofs.Stands.{Stands, moment_by}
 
 -- LISTS OF ACTS
 

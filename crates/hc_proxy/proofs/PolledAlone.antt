@@ -17,7 +17,7 @@ use Rattle.hc_model.specs.Tellings.{told_to, tellings, IsOneTo, TellsOne, TellsB
 use Rattle.hc_model.specs.Tellings as tells
 use Rattle.hc_laws.proofs.Told.{told_in_runs}
 use Rattle.hc_laws.proofs.Accepted.{is_accepted}
-use Rattle.hc_proxy.proofs.Stands.{begins_well}
+use Rattle.hc_laws.proofs.FromNothing.{begins_well}
 use Rattle.hc_laws.proofs.WhoLeaves.{has_started}
 
 -- ACCEPTED

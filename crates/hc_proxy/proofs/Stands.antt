@@ -5,12 +5,9 @@
 -- the beginning of a turn, which takes the greater moment. So what holds of the empty run holds of each turn.
 -- An entry opens the next exchange or none, so the number of the last one only grows.
 use Rattle.std.proofs.Common.{◌≡◌, ◌≤◌, ℕ, ◌+◌, Bool, true, false, List, [], ◌∷◌, Option, Some, None, refl, ap, sym, ◌∙◌, subst, arith}
-use Rattle.std.proofs.lemmas.Bool.Decides.{nat_tests}
-use Rattle.std.specs.Prelude.{nat_le}
 use Rattle.hc_event.specs.Filters.{Opening, opening_in, is_denied}
 use Rattle.hc_event.specs.declared.event.Event.{Event}
 use Rattle.hc_rules.specs.declared.room.Limits.{Limits}
-use Rattle.hc_model.specs.Beginnings.{may_begin}
 use Rattle.hc_model.specs.Entries.{Entry, no_contents}
 use Rattle.hc_model.specs.Lawful.{Lawful}
 use Rattle.hc_model.specs.Places.{Places}
@@ -21,6 +18,7 @@ use Rattle.hc_model.specs.Tables.{tables, after, opened_after}
 use Rattle.hc_effects.proofs.NumbersKeep.{opens_next}
 use Rattle.hc_effects.proofs.Owed.{goes, acts_are}
 use Rattle.hc_model.specs.Flaws.{flaw_in}
+use Rattle.hc_laws.proofs.FromNothing.{begins_well}
 use Rattle.hc_laws.proofs.LawfulRuns.{lawful_in_runs}
 use Rattle.hc_laws.proofs.PlaceRuns.{places_in_runs}
 use Rattle.hc_laws.proofs.ReadWhole.{runs_read_whole}
@@ -49,13 +47,6 @@ abbrev pub StandsOn : Limits → Proxy → Proxy → Type 0
 StandsOn limits p q = Stands limits p → Goes limits p q
 
 -- A RUN FROM NOTHING
-
-no_weight : (n : ℕ) → nat_le 0 n ≡ true
-no_weight n = grind (arith, nat_tests)
-
-pub begins_well : (limits : Limits) → may_begin limits no_contents ≡ true
-unfolding may_begin
-begins_well limits = no_weight limits.max_total
 
 module _ (limits : Limits) (p : Proxy) (s : Stands limits p) where
   pub is_sound : Sound p.tables

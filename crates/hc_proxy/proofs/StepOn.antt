@@ -34,7 +34,8 @@ use Rattle.hc_proxy.specs.Steps.{with_entry}
 use Rattle.hc_proxy.specs.Turns.{record_of}
 use Rattle.hc_proxy.proofs.HeadsStay.{headed_on}
 use Rattle.hc_proxy.proofs.OpenAfter.{OpensIt}
-use Rattle.hc_proxy.proofs.Stands.{Stands, begins_well, is_sound, grows_by}
+use Rattle.hc_laws.proofs.FromNothing.{begins_well}
+use Rattle.hc_proxy.proofs.Stands.{Stands, is_sound, grows_by}
 use Rattle.hc_proxy.proofs.Texts.{record_more}
 use Rattle.hc_proxy.proofs.Unread.{unread_entry}
 

@@ -1,0 +1,14 @@
+-- A store may begin with nothing.
+use Rattle.std.proofs.Common.{◌≡◌, ℕ, true, arith}
+use Rattle.std.specs.Prelude.{nat_le}
+use Rattle.std.proofs.lemmas.Bool.Decides.{nat_tests}
+use Rattle.hc_rules.specs.declared.room.Limits.{Limits}
+use Rattle.hc_model.specs.Beginnings.{may_begin}
+use Rattle.hc_model.specs.Entries.{no_contents}
+
+no_weight : (n : ℕ) → nat_le 0 n ≡ true
+no_weight n = grind (arith, nat_tests)
+
+pub begins_well : (limits : Limits) → may_begin limits no_contents ≡ true
+unfolding may_begin
+begins_well limits = no_weight limits.max_total

@@ -1,5 +1,5 @@
 -- What an ending says of the status that it comes to.
-use Rattle.std.proofs.Common.{◌≡◌, ◌≢◌, ◌⊎◌, ℕ, List, Option, Err, refl, sym, subst, inl, inr}
+use Rattle.std.proofs.Common.{◌≡◌, ◌≢◌, ℕ, List, Option, Err, refl, sym, subst, inl, inr}
 use Rattle.std.specs.Result.{IsErrOf}
 use Rattle.hc_io.specs.Faults.{HasRisen}
 use Rattle.hc_io.specs.Sink.{Takes, TakesFront}
@@ -10,9 +10,11 @@ use Rattle.hc_sched.specs.declared.schedule.Ended.TheVariants as ended
 use Rattle.hc_sched.specs.declared.schedule.Refused.{Refused}
 use Rattle.hc_app.specs.declared.status.Status.{Status}
 use Rattle.hc_app.specs.declared.status.Status.TheVariants as status
+use Rattle.hc_app.specs.Failing.{IsStreamStatus}
 use Rattle.hc_app.specs.Concluding.{IsQuiet, Concludes, done, unreadable, unwritten, wanting, quiet, told, untold, wanting_word}
 use Rattle.hc_app.specs.Statuses.{stopped_as}
 use Rattle.hc_app.specs.Texts.{refusal_text}
+use Rattle.hc_app.proofs.Failed.{all_calm, diag_risen}
 
 pub is_quiet : (diag : Option (List ℕ)) (d : ℕ) (e x : Ended) (s : Status) → e ≡ x → IsQuiet x s → Concludes diag diag d d e s
 is_quiet diag d e x s is q = subst (λ (y : Ended). Concludes diag diag d d y s) (sym is) (quiet x s q refl refl)
@@ -30,52 +32,29 @@ module _ (diag diag' : Option (List ℕ)) (d d' : ℕ) where
       → (IsErrOf {T = Unit {0}} (Err error) sink.NoMemory → d' ≡ d) → Concludes diag diag' d d' e (stopped_as error)
   is_untold e r error is front failed calm = subst (λ (y : Ended). Concludes diag diag' d d' y (stopped_as error)) (sym is) (untold_by r error front failed calm)
 
-  -- THE INPUT
+  -- THE STREAMS
 
-  pub source_failed : (e : Ended) (s : Status) → Concludes diag diag' d d' e s → s ≡ status.SourceFailed → e ≡ ended.SourceFailed
-  source_failed _ _ (quiet _ _ done same calm) is = cc
-  source_failed _ _ (quiet _ _ unreadable same calm) is = refl
-  source_failed _ _ (quiet _ _ unwritten same calm) is = cc
-  source_failed _ _ (quiet _ _ wanting same calm) is = cc
-  source_failed _ _ (told r said calm) is = cc
-  source_failed _ _ (untold r said failed) is = cc
-  source_failed _ _ (wanting_word r said calm) is = cc
-
-  pub source_calm : (e : Ended) (s : Status) → Concludes diag diag' d d' e s → s ≢ status.SourceFailed → e ≢ ended.SourceFailed
-  source_calm _ _ (quiet _ _ done same calm) off = λ is. cc
-  source_calm _ _ (quiet _ _ unreadable same calm) off = λ is. off refl
-  source_calm _ _ (quiet _ _ unwritten same calm) off = λ is. cc
-  source_calm _ _ (quiet _ _ wanting same calm) off = λ is. cc
-  source_calm _ _ (told r said calm) off = λ is. cc
-  source_calm _ _ (untold r said failed) off = λ is. cc
-  source_calm _ _ (wanting_word r said calm) off = λ is. cc
-
-  -- THE OUTPUTS
-
-  pub sink_failed : (e : Ended) (s : Status) → Concludes diag diag' d d' e s → s ≡ status.SinkFailed → (e ≡ ended.SinkFailed) ⊎ HasRisen d d'
-  sink_failed _ _ (quiet _ _ done same calm) is = cc
-  sink_failed _ _ (quiet _ _ unreadable same calm) is = cc
-  sink_failed _ _ (quiet _ _ unwritten same calm) is = inl refl
-  sink_failed _ _ (quiet _ _ wanting same calm) is = cc
-  sink_failed _ _ (told r said calm) is = cc
-  sink_failed _ _ (untold r said failed) is = inr failed
-  sink_failed _ _ (wanting_word r said calm) is = cc
-
-  pub either_failed : {P : Type 0} (e : Ended) (s : Status) → Concludes diag diag' d d' e s → (e ≡ ended.SinkFailed → P) → s ≡ status.SinkFailed → P ⊎ HasRisen d d'
-  either_failed {P = P} e s by out is = by_case (sink_failed e s by is)
-    where
-      by_case : (e ≡ ended.SinkFailed) ⊎ HasRisen d d' → P ⊎ HasRisen d d'
-      by_case (inl at_out) = inl (out at_out)
-      by_case (inr at_diag) = inr at_diag
-
-  pub sinks_calm : (e : Ended) (s : Status) → Concludes diag diag' d d' e s → s ≢ status.SinkFailed → (e ≢ ended.SinkFailed) × (d' ≡ d)
-  sinks_calm _ _ (quiet _ _ done same calm) off = (λ is. cc, calm)
-  sinks_calm _ _ (quiet _ _ unreadable same calm) off = (λ is. cc, calm)
-  sinks_calm _ _ (quiet _ _ unwritten same calm) off = absurd (off refl)
-  sinks_calm _ _ (quiet _ _ wanting same calm) off = (λ is. cc, calm)
-  sinks_calm _ _ (told r said calm) off = (λ is. cc, calm)
-  sinks_calm _ _ (untold r said failed) off = absurd (off refl)
-  sinks_calm _ _ (wanting_word r said calm) off = (λ is. cc, calm)
+  module _ (input input' out out' : ℕ) where
+    -- by the ending, which tells of the input and of the output
+    pub stream_status : (e : Ended) (s : Status) → Concludes diag diag' d d' e s → (e ≡ ended.SourceFailed → HasRisen input input') → (e ≢ ended.SourceFailed → input' ≡ input) → (e ≡ ended.SinkFailed → HasRisen out out') → (e ≢ ended.SinkFailed → out' ≡ out)
+        → IsStreamStatus input input' out out' d d' s
+    stream_status _ _ (quiet _ _ done same calm) source still sinks kept = all_calm input input' out out' d d' status.Done (λ is. cc) (λ is. cc) (still (λ is. cc)) (kept (λ is. cc)) calm
+    stream_status _ _ (quiet _ _ unreadable same calm) source still sinks kept = record {
+      source_failed = λ is. source refl;
+      source_calm = λ off. absurd (off refl);
+      sink_failed = λ is. cc;
+      sinks_calm = λ off. (kept (λ is. cc), calm);
+    }
+    stream_status _ _ (quiet _ _ unwritten same calm) source still sinks kept = record {
+      source_failed = λ is. cc;
+      source_calm = λ off. still (λ is. cc);
+      sink_failed = λ is. inl (sinks refl);
+      sinks_calm = λ off. absurd (off refl);
+    }
+    stream_status _ _ (quiet _ _ wanting same calm) source still sinks kept = all_calm input input' out out' d d' status.NoMemory (λ is. cc) (λ is. cc) (still (λ is. cc)) (kept (λ is. cc)) calm
+    stream_status _ _ (told r said calm) source still sinks kept = all_calm input input' out out' d d' status.Refused (λ is. cc) (λ is. cc) (still (λ is. cc)) (kept (λ is. cc)) calm
+    stream_status _ _ (untold r said risen) source still sinks kept = diag_risen input input' out out' d d' risen (still (λ is. cc))
+    stream_status _ _ (wanting_word r said calm) source still sinks kept = all_calm input input' out out' d d' status.NoMemory (λ is. cc) (λ is. cc) (still (λ is. cc)) (kept (λ is. cc)) calm
 
   -- NO WIRE
 

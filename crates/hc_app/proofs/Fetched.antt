@@ -3,7 +3,7 @@
 -- What the words spell is a plan, or none (`is_plan`, `no_plan`, `no_parts`, `no_size`, `no_target`). A fetch ends as schedules do, or what
 -- ended it early is told (`stopped_told`, `stopped_untold`). Each ending of a fetch is one of what is owed, or begun
 -- (`does_fetch`). What a status says of faults it says of the ending that it comes from.
-use Rattle.std.proofs.Common.{◌≡◌, ◌≢◌, ◌⊎◌, ℕ, ◌+◌, ◌≤◌, ◌^◌, List, [], ◌∷◌, length, Bool, true, false, Option, Some, None, Err, refl, sym, ap, ◌∙◌, subst, inl, inr, arith}
+use Rattle.std.proofs.Common.{◌≡◌, ◌≢◌, ℕ, ◌+◌, ◌≤◌, ◌^◌, List, [], ◌∷◌, length, Bool, true, false, Option, Some, None, Err, refl, sym, ap, ◌∙◌, subst, arith}
 use Rattle.std.specs.Prelude.{codes, bytes_eq, ◌==◌, if◌then◌else◌}
 use Rattle.std.specs.Option.{option_or}
 use Rattle.std.specs.Result.{IsErrOf}
@@ -40,6 +40,7 @@ use Rattle.hc_app.specs.declared.status.Status.{Status}
 use Rattle.hc_app.specs.declared.status.Status.TheVariants as status
 use Rattle.hc_app.specs.Concluding as concluding
 use Rattle.hc_app.specs.Concluding.{Concludes}
+use Rattle.hc_app.specs.Failing.{IsStreamStatus}
 use Rattle.hc_app.specs.Fetching as fetching
 use Rattle.hc_app.specs.Fetching.{IsPlanOf, NoPlan, IsFetch, NoFetch, IsWritten, OwesFetch, StopsFetch, BeginsFetch, IsStopped, IsEndedAs, ConcludesFetch}
 use Rattle.hc_app.specs.Owing as owing
@@ -48,6 +49,7 @@ use Rattle.hc_app.specs.Replaying.{store_limits}
 use Rattle.hc_app.specs.Statuses.{stopped_as}
 use Rattle.hc_app.specs.Texts.{fetch_text}
 use Rattle.hc_app.proofs.Concluded as concluded
+use Rattle.hc_app.proofs.Failed.{all_calm, diag_risen}
 use Rattle.hc_app.proofs.Wording.{same_text, other_text}
 
 -- THE WORDS
@@ -129,57 +131,25 @@ module _ (diag diag' : Option (List ℕ)) (d d' : ℕ) where
 
   -- WHAT ITS STATUS SAYS
 
-  source_end : (end : FetchEnded) (e : Ended) → IsEndedAs end e → e ≡ ended.SourceFailed → end ≡ fetched.SourceFailed
-  source_end _ _ (fetching.done total) is = cc
-  source_end _ _ (fetching.refused r) is = cc
-  source_end _ _ fetching.unreadable is = refl
-  source_end _ _ fetching.unwritten is = cc
-  source_end _ _ fetching.wanting is = cc
+  -- it is that of the schedule's ending
+  same_end : (end : FetchEnded) (e : Ended) → IsEndedAs end e → ((e ≡ ended.SourceFailed → end ≡ fetched.SourceFailed) × (end ≡ fetched.SourceFailed → e ≡ ended.SourceFailed)) × ((e ≡ ended.SinkFailed → end ≡ fetched.SinkFailed) × (end ≡ fetched.SinkFailed → e ≡ ended.SinkFailed))
+  same_end _ _ (fetching.done total) = ((λ is. cc, λ is. cc), (λ is. cc, λ is. cc))
+  same_end _ _ (fetching.refused r) = ((λ is. cc, λ is. cc), (λ is. cc, λ is. cc))
+  same_end _ _ fetching.unreadable = ((λ is. refl, λ is. refl), (λ is. cc, λ is. cc))
+  same_end _ _ fetching.unwritten = ((λ is. cc, λ is. cc), (λ is. refl, λ is. refl))
+  same_end _ _ fetching.wanting = ((λ is. cc, λ is. cc), (λ is. cc, λ is. cc))
 
-  end_source : (end : FetchEnded) (e : Ended) → IsEndedAs end e → end ≡ fetched.SourceFailed → e ≡ ended.SourceFailed
-  end_source _ _ (fetching.done total) is = cc
-  end_source _ _ (fetching.refused r) is = cc
-  end_source _ _ fetching.unreadable is = refl
-  end_source _ _ fetching.unwritten is = cc
-  end_source _ _ fetching.wanting is = cc
-
-  sink_end : (end : FetchEnded) (e : Ended) → IsEndedAs end e → e ≡ ended.SinkFailed → end ≡ fetched.SinkFailed
-  sink_end _ _ (fetching.done total) is = cc
-  sink_end _ _ (fetching.refused r) is = cc
-  sink_end _ _ fetching.unreadable is = cc
-  sink_end _ _ fetching.unwritten is = refl
-  sink_end _ _ fetching.wanting is = cc
-
-  end_sink : (end : FetchEnded) (e : Ended) → IsEndedAs end e → end ≡ fetched.SinkFailed → e ≡ ended.SinkFailed
-  end_sink _ _ (fetching.done total) is = cc
-  end_sink _ _ (fetching.refused r) is = cc
-  end_sink _ _ fetching.unreadable is = cc
-  end_sink _ _ fetching.unwritten is = refl
-  end_sink _ _ fetching.wanting is = cc
-
-  pub source_failed : (end : FetchEnded) (s : Status) → ConcludesFetch diag diag' d d' end s → s ≡ status.SourceFailed → end ≡ fetched.SourceFailed
-  source_failed end s (fetching.as_schedule _ e _ as_is by) is = source_end end e as_is (concluded.source_failed diag diag' d d' e s by is)
-  source_failed end _ (fetching.told _ stopped said calm) is = cc
-  source_failed end _ (fetching.untold _ stopped said failed) is = cc
-  source_failed end _ (fetching.wanting_word _ stopped said calm) is = cc
-
-  pub source_calm : (end : FetchEnded) (s : Status) → ConcludesFetch diag diag' d d' end s → s ≢ status.SourceFailed → end ≢ fetched.SourceFailed
-  source_calm end s (fetching.as_schedule _ e _ as_is by) off = λ is. concluded.source_calm diag diag' d d' e s by off (end_source end e as_is is)
-  source_calm end _ (fetching.told _ stopped said calm) off = λ is. subst IsStopped is stopped
-  source_calm end _ (fetching.untold _ stopped said failed) off = λ is. subst IsStopped is stopped
-  source_calm end _ (fetching.wanting_word _ stopped said calm) off = λ is. subst IsStopped is stopped
-
-  pub either_failed : {P : Type 0} (end : FetchEnded) (s : Status) → ConcludesFetch diag diag' d d' end s → (end ≡ fetched.SinkFailed → P) → s ≡ status.SinkFailed → P ⊎ HasRisen d d'
-  either_failed end s (fetching.as_schedule _ e _ as_is by) out is = concluded.either_failed diag diag' d d' e s by (λ at_out. out (sink_end end e as_is at_out)) is
-  either_failed end _ (fetching.told _ stopped said calm) out is = cc
-  either_failed end _ (fetching.untold _ stopped said failed) out is = inr failed
-  either_failed end _ (fetching.wanting_word _ stopped said calm) out is = cc
-
-  pub sinks_calm : (end : FetchEnded) (s : Status) → ConcludesFetch diag diag' d d' end s → s ≢ status.SinkFailed → (end ≢ fetched.SinkFailed) × (d' ≡ d)
-  sinks_calm end s (fetching.as_schedule _ e _ as_is by) off = let calm = concluded.sinks_calm diag diag' d d' e s by off in (λ is. calm.0 (end_sink end e as_is is), calm.1)
-  sinks_calm end _ (fetching.told _ stopped said calm) off = (λ is. subst IsStopped is stopped, calm)
-  sinks_calm end _ (fetching.untold _ stopped said failed) off = absurd (off refl)
-  sinks_calm end _ (fetching.wanting_word _ stopped said calm) off = (λ is. subst IsStopped is stopped, calm)
+  module _ (input input' out out' : ℕ) where
+    pub stream_status : (end : FetchEnded) (s : Status) → ConcludesFetch diag diag' d d' end s → (end ≡ fetched.SourceFailed → HasRisen input input') → (end ≢ fetched.SourceFailed → input' ≡ input)
+        → (end ≡ fetched.SinkFailed → HasRisen out out') → (end ≢ fetched.SinkFailed → out' ≡ out) → IsStreamStatus input input' out out' d d' s
+    stream_status end s (fetching.as_schedule _ e _ as_is by) source still sinks kept =
+        let same = same_end end e as_is in
+        concluded.stream_status diag diag' d d' input input' out out' e s by (λ is. source (same.0.0 is)) (λ off. still (λ is. off (same.0.1 is))) (λ is. sinks (same.1.0 is)) (λ off. kept (λ is. off (same.1.1 is)))
+    stream_status end _ (fetching.told _ stopped said calm) source still sinks kept =
+        all_calm input input' out out' d d' status.FetchStopped (λ is. cc) (λ is. cc) (still (λ is. subst IsStopped is stopped)) (kept (λ is. subst IsStopped is stopped)) calm
+    stream_status end _ (fetching.untold _ stopped said risen) source still sinks kept = diag_risen input input' out out' d d' risen (still (λ is. subst IsStopped is stopped))
+    stream_status end _ (fetching.wanting_word _ stopped said calm) source still sinks kept =
+        all_calm input input' out out' d d' status.NoMemory (λ is. cc) (λ is. cc) (still (λ is. subst IsStopped is stopped)) (kept (λ is. subst IsStopped is stopped)) calm
 
   pub wireless : (end : FetchEnded) (s : Status) → ConcludesFetch diag diag' d d' end s → s ≢ status.WireFailed
   wireless end s (fetching.as_schedule _ e _ as_is by) = concluded.wireless diag diag' d d' e s by

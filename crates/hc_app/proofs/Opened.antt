@@ -3,7 +3,7 @@
 -- Where the image is refused its text is told, and nothing was written (`does_refuse`). Else the schedule was run: what
 -- went on behind the image is the report that is owed or begun (`reported`, `begun`), at each ending (`does_run`). An
 -- ending says of its status what that of the schedule says, and no status but 7 comes of a refused image.
-use Rattle.std.proofs.Common.{◌≡◌, ◌≢◌, ◌⊎◌, ℕ, List, [], ◌∷◌, Option, Some, None, Err, refl, sym, ap, subst, inl, inr}
+use Rattle.std.proofs.Common.{◌≡◌, ◌≢◌, ℕ, List, [], ◌∷◌, Option, Some, None, Err, refl, sym, ap, subst}
 use Rattle.std.specs.Result.{IsErrOf}
 use Rattle.hc_io.specs.Faults.{HasRisen}
 use Rattle.hc_io.specs.Sink.{Takes, TakesFront}
@@ -29,6 +29,7 @@ use Rattle.hc_app.specs.declared.status.Status.{Status}
 use Rattle.hc_app.specs.declared.status.Status.TheVariants as status
 use Rattle.hc_app.specs.Concluding as concluding
 use Rattle.hc_app.specs.Concluding.{Concludes}
+use Rattle.hc_app.specs.Failing.{IsStreamStatus}
 use Rattle.hc_app.specs.Opening as opening
 use Rattle.hc_app.specs.Opening.{IsRefusedImage, IsTaken, IsReportFrom, BeginsReport, IsImageRefused, ConcludesOpen}
 use Rattle.hc_app.specs.Owing as owing
@@ -37,6 +38,7 @@ use Rattle.hc_app.specs.Replaying.{store_limits}
 use Rattle.hc_app.specs.Statuses.{stopped_as}
 use Rattle.hc_app.specs.Texts.{image_text}
 use Rattle.hc_app.proofs.Concluded as concluded
+use Rattle.hc_app.proofs.Failed.{all_calm, diag_risen}
 use Rattle.hc_app.proofs.Done.{never_wire}
 use Rattle.hc_app.proofs.Saved.{untaken, none_taken}
 
@@ -65,35 +67,19 @@ module _ (diag diag' : Option (List ℕ)) (d d' : ℕ) where
 
   -- WHAT ITS STATUS SAYS
 
-  pub source_failed : (e : OpenEnded) (s : Status) → ConcludesOpen diag diag' d d' e s → s ≡ status.SourceFailed → e ≡ opened.Ran ended.SourceFailed
-  source_failed _ s (opening.ran e _ by) is = ap opened.Ran (concluded.source_failed diag diag' d d' e s by is)
-  source_failed e _ (opening.told _ refused said calm) is = cc
-  source_failed e _ (opening.untold _ refused said failed) is = cc
-  source_failed e _ (opening.wanting_word _ refused said calm) is = cc
+  ran_once : (a b : Ended) → opened.Ran a ≡ opened.Ran b → a ≡ b
+  ran_once a b same = cc
 
-  pub source_calm : (e : OpenEnded) (s : Status) → ConcludesOpen diag diag' d d' e s → s ≢ status.SourceFailed → e ≢ opened.Ran ended.SourceFailed
-  source_calm _ s (opening.ran e _ by) off = λ is. concluded.source_calm diag diag' d d' e s by off (inner is)
-    where
-      inner : opened.Ran e ≡ opened.Ran ended.SourceFailed → e ≡ ended.SourceFailed
-      inner same = cc
-  source_calm e _ (opening.told _ refused said calm) off = λ is. subst IsImageRefused is refused
-  source_calm e _ (opening.untold _ refused said failed) off = λ is. subst IsImageRefused is refused
-  source_calm e _ (opening.wanting_word _ refused said calm) off = λ is. subst IsImageRefused is refused
-
-  pub either_failed : {P : Type 0} (e : OpenEnded) (s : Status) → ConcludesOpen diag diag' d d' e s → (e ≡ opened.Ran ended.SinkFailed → P) → s ≡ status.SinkFailed → P ⊎ HasRisen d d'
-  either_failed _ s (opening.ran e _ by) out is = concluded.either_failed diag diag' d d' e s by (λ at_out. out (ap opened.Ran at_out)) is
-  either_failed e _ (opening.told _ refused said calm) out is = cc
-  either_failed e _ (opening.untold _ refused said failed) out is = inr failed
-  either_failed e _ (opening.wanting_word _ refused said calm) out is = cc
-
-  pub sinks_calm : (e : OpenEnded) (s : Status) → ConcludesOpen diag diag' d d' e s → s ≢ status.SinkFailed → (e ≢ opened.Ran ended.SinkFailed) × (d' ≡ d)
-  sinks_calm _ s (opening.ran e _ by) off = let calm = concluded.sinks_calm diag diag' d d' e s by off in (λ is. calm.0 (inner is), calm.1)
-    where
-      inner : opened.Ran e ≡ opened.Ran ended.SinkFailed → e ≡ ended.SinkFailed
-      inner same = cc
-  sinks_calm e _ (opening.told _ refused said calm) off = (λ is. subst IsImageRefused is refused, calm)
-  sinks_calm e _ (opening.untold _ refused said failed) off = absurd (off refl)
-  sinks_calm e _ (opening.wanting_word _ refused said calm) off = (λ is. subst IsImageRefused is refused, calm)
+  module _ (input input' out out' : ℕ) where
+    pub stream_status : (e : OpenEnded) (s : Status) → ConcludesOpen diag diag' d d' e s → (e ≡ opened.Ran ended.SourceFailed → HasRisen input input') → (e ≢ opened.Ran ended.SourceFailed → input' ≡ input)
+        → (e ≡ opened.Ran ended.SinkFailed → HasRisen out out') → (e ≢ opened.Ran ended.SinkFailed → out' ≡ out) → IsStreamStatus input input' out out' d d' s
+    stream_status _ s (opening.ran e _ by) source still sinks kept =
+        concluded.stream_status diag diag' d d' input input' out out' e s by (λ is. source (ap opened.Ran is)) (λ off. still (λ is. off (ran_once e ended.SourceFailed is))) (λ is. sinks (ap opened.Ran is)) (λ off. kept (λ is. off (ran_once e ended.SinkFailed is)))
+    stream_status e _ (opening.told _ refused said calm) source still sinks kept =
+        all_calm input input' out out' d d' status.ImageRefused (λ is. cc) (λ is. cc) (still (λ is. subst IsImageRefused is refused)) (kept (λ is. subst IsImageRefused is refused)) calm
+    stream_status e _ (opening.untold _ refused said risen) source still sinks kept = diag_risen input input' out out' d d' risen (still (λ is. subst IsImageRefused is refused))
+    stream_status e _ (opening.wanting_word _ refused said calm) source still sinks kept =
+        all_calm input input' out out' d d' status.NoMemory (λ is. cc) (λ is. cc) (still (λ is. subst IsImageRefused is refused)) (kept (λ is. subst IsImageRefused is refused)) calm
 
   pub wireless : (e : OpenEnded) (s : Status) → ConcludesOpen diag diag' d d' e s → s ≢ status.WireFailed
   wireless _ s (opening.ran e _ by) = concluded.wireless diag diag' d d' e s by

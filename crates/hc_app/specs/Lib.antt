@@ -3,6 +3,7 @@ pub mod Commands
 pub mod Texts
 pub mod Statuses
 pub mod Owing
+pub mod Failing
 pub mod Concluding
 pub mod Replaying
 pub mod Generating

@@ -1,9 +1,9 @@
 //! One resource is read in parts, and its body is written.
-ghost use Rattle.std.specs.Prelude.{◌≡◌, ◌≢◌, ◌⊎◌, ◌≤◌, ◌^◌, ℕ, List, map, IfNone, IfSome, IfOk};
+ghost use Rattle.std.specs.Prelude.{◌≡◌, ◌≢◌, ◌≤◌, ℕ, map, IfNone, IfSome, IfOk};
 ghost use Rattle.std.specs.String.{string_bytes};
-ghost use Rattle.hc_io.specs.Faults.{HasRisen};
 ghost use Rattle.hc_text.specs.Numbers.{IsPlain};
 ghost use Rattle.hc_fetch.specs.Bounds.{IsPlan};
+ghost use Rattle.hc_app.specs.Failing.{IsStreamStatus};
 ghost use Rattle.hc_app.specs.Fetching.{ConcludesFetch, IsFetch, NoFetch, IsPlanOf, NoPlan, fetching};
 ghost use Rattle.hc_app.specs.Owing.{streams, Does};
 
@@ -95,15 +95,8 @@ pub(crate) fn fetch_input<S: Source, K: Sink, D: Sink>(
         (streams (S.left input.new) (K.taken out.new) (D.taken diag.new)
         (K.faults out.new) (D.faults diag.new))
         result }
-    ensures source_failed { result ≡ Status.SourceFailed
-        → HasRisen (S.faults input.old) (S.faults input.new) }
-    ensures source_calm { result ≢ Status.SourceFailed
-        → S.faults input.new ≡ S.faults input.old }
-    ensures sink_failed { result ≡ Status.SinkFailed
-        → HasRisen (K.faults out.old) (K.faults out.new)
-        ⊎ HasRisen (D.faults diag.old) (D.faults diag.new) }
-    ensures sinks_calm { result ≢ Status.SinkFailed → (K.faults out.new ≡ K.faults out.old)
-        × (D.faults diag.new ≡ D.faults diag.old) }
+    ensures stream_faults { IsStreamStatus (S.faults input.old) (S.faults input.new)
+        (K.faults out.old) (K.faults out.new) (D.faults diag.old) (D.faults diag.new) result }
     ensures wireless { result ≢ Status.WireFailed }
 {
     let store = Memory::new(alloc, PROGRAM_LIMITS);

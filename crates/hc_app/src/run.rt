@@ -9,6 +9,7 @@ ghost use Rattle.hc_app.specs.Answering.{AnswersOrigin, IsEndedAs};
 ghost use Rattle.hc_proxy.specs.Endings as serving;
 ghost use Rattle.hc_app.specs.Serving.{ServesFrom, IsServedAs};
 ghost use Rattle.hc_app.specs.Concluding.{Concludes};
+ghost use Rattle.hc_app.specs.Failing.{IsStreamStatus, IsWireStatus};
 ghost use Rattle.hc_app.specs.Fetching.{NoFetch};
 ghost use Rattle.hc_app.specs.Fronting.{fronting};
 ghost use Rattle.hc_app.specs.Generating.{generating};
@@ -141,18 +142,9 @@ fn obey<S: Source, K: Sink, D: Sink, W: Wire>(
         (streams (S.left input.new) (K.taken out.new) (D.taken diag.new)
         (K.faults out.new) (D.faults diag.new))
         (W.log wire.old) (W.log wire.new) result }
-    ensures source_failed { result ≡ Status.SourceFailed
-        → HasRisen (S.faults input.old) (S.faults input.new) }
-    ensures source_calm { result ≢ Status.SourceFailed
-        → S.faults input.new ≡ S.faults input.old }
-    ensures sink_failed { result ≡ Status.SinkFailed
-        → HasRisen (K.faults out.old) (K.faults out.new)
-        ⊎ HasRisen (D.faults diag.old) (D.faults diag.new) }
-    ensures sinks_calm { result ≢ Status.SinkFailed → (K.faults out.new ≡ K.faults out.old)
-        × (D.faults diag.new ≡ D.faults diag.old) }
-    ensures wire_failed { result ≡ Status.WireFailed
-        → wires.HasRisen (W.faults wire.old) (W.faults wire.new) }
-    ensures wire_calm { result ≢ Status.WireFailed → W.faults wire.new ≡ W.faults wire.old }
+    ensures stream_faults { IsStreamStatus (S.faults input.old) (S.faults input.new)
+        (K.faults out.old) (K.faults out.new) (D.faults diag.old) (D.faults diag.new) result }
+    ensures wire_faults { IsWireStatus (W.faults wire.old) (W.faults wire.new) result }
 {
     match fetch_of(alloc, words) {
         Ok(Some(plan)) => fetch_input(alloc, plan, input, out, diag),
@@ -179,18 +171,9 @@ fn obey_other<S: Source, K: Sink, D: Sink, W: Wire>(
         (streams (S.left input.new) (K.taken out.new) (D.taken diag.new)
         (K.faults out.new) (D.faults diag.new))
         (W.log wire.old) (W.log wire.new) result }
-    ensures source_failed { result ≡ Status.SourceFailed
-        → HasRisen (S.faults input.old) (S.faults input.new) }
-    ensures source_calm { result ≢ Status.SourceFailed
-        → S.faults input.new ≡ S.faults input.old }
-    ensures sink_failed { result ≡ Status.SinkFailed
-        → HasRisen (K.faults out.old) (K.faults out.new)
-        ⊎ HasRisen (D.faults diag.old) (D.faults diag.new) }
-    ensures sinks_calm { result ≢ Status.SinkFailed → (K.faults out.new ≡ K.faults out.old)
-        × (D.faults diag.new ≡ D.faults diag.old) }
-    ensures wire_failed { result ≡ Status.WireFailed
-        → wires.HasRisen (W.faults wire.old) (W.faults wire.new) }
-    ensures wire_calm { result ≢ Status.WireFailed → W.faults wire.new ≡ W.faults wire.old }
+    ensures stream_faults { IsStreamStatus (S.faults input.old) (S.faults input.new)
+        (K.faults out.old) (K.faults out.new) (D.faults diag.old) (D.faults diag.new) result }
+    ensures wire_faults { IsWireStatus (W.faults wire.old) (W.faults wire.new) result }
 {
     match command_of(words) {
         Some(Command::Replay) => replay_input(alloc, input, out, diag),
@@ -226,15 +209,8 @@ fn replay_input<S: Source, K: Sink, D: Sink>(
         (streams (S.left input.new) (K.taken out.new) (D.taken diag.new)
         (K.faults out.new) (D.faults diag.new))
         result }
-    ensures source_failed { result ≡ Status.SourceFailed
-        → HasRisen (S.faults input.old) (S.faults input.new) }
-    ensures source_calm { result ≢ Status.SourceFailed
-        → S.faults input.new ≡ S.faults input.old }
-    ensures sink_failed { result ≡ Status.SinkFailed
-        → HasRisen (K.faults out.old) (K.faults out.new)
-        ⊎ HasRisen (D.faults diag.old) (D.faults diag.new) }
-    ensures sinks_calm { result ≢ Status.SinkFailed → (K.faults out.new ≡ K.faults out.old)
-        × (D.faults diag.new ≡ D.faults diag.old) }
+    ensures stream_faults { IsStreamStatus (S.faults input.old) (S.faults input.new)
+        (K.faults out.old) (K.faults out.new) (D.faults diag.old) (D.faults diag.new) result }
     ensures wireless { result ≢ Status.WireFailed }
 {
     let store = Memory::new(alloc, PROGRAM_LIMITS);
@@ -258,15 +234,8 @@ fn save_input<S: Source, K: Sink, D: Sink>(
         (streams (S.left input.new) (K.taken out.new) (D.taken diag.new)
         (K.faults out.new) (D.faults diag.new))
         result }
-    ensures source_failed { result ≡ Status.SourceFailed
-        → HasRisen (S.faults input.old) (S.faults input.new) }
-    ensures source_calm { result ≢ Status.SourceFailed
-        → S.faults input.new ≡ S.faults input.old }
-    ensures sink_failed { result ≡ Status.SinkFailed
-        → HasRisen (K.faults out.old) (K.faults out.new)
-        ⊎ HasRisen (D.faults diag.old) (D.faults diag.new) }
-    ensures sinks_calm { result ≢ Status.SinkFailed → (K.faults out.new ≡ K.faults out.old)
-        × (D.faults diag.new ≡ D.faults diag.old) }
+    ensures stream_faults { IsStreamStatus (S.faults input.old) (S.faults input.new)
+        (K.faults out.old) (K.faults out.new) (D.faults diag.old) (D.faults diag.new) result }
     ensures wireless { result ≢ Status.WireFailed }
 {
     let store = Memory::new(alloc, PROGRAM_LIMITS);
@@ -290,15 +259,8 @@ fn open_input<S: Source, K: Sink, D: Sink>(
         (streams (S.left input.new) (K.taken out.new) (D.taken diag.new)
         (K.faults out.new) (D.faults diag.new))
         result }
-    ensures source_failed { result ≡ Status.SourceFailed
-        → HasRisen (S.faults input.old) (S.faults input.new) }
-    ensures source_calm { result ≢ Status.SourceFailed
-        → S.faults input.new ≡ S.faults input.old }
-    ensures sink_failed { result ≡ Status.SinkFailed
-        → HasRisen (K.faults out.old) (K.faults out.new)
-        ⊎ HasRisen (D.faults diag.old) (D.faults diag.new) }
-    ensures sinks_calm { result ≢ Status.SinkFailed → (K.faults out.new ≡ K.faults out.old)
-        × (D.faults diag.new ≡ D.faults diag.old) }
+    ensures stream_faults { IsStreamStatus (S.faults input.old) (S.faults input.new)
+        (K.faults out.old) (K.faults out.new) (D.faults diag.old) (D.faults diag.new) result }
     ensures wireless { result ≢ Status.WireFailed }
 {
     let end = reopen(alloc, PROGRAM_LIMITS, input, out);
@@ -333,15 +295,8 @@ fn front_input<S: Source, K: Sink, D: Sink>(
         (streams (S.left input.new) (K.taken out.new) (D.taken diag.new)
         (K.faults out.new) (D.faults diag.new))
         result }
-    ensures source_failed { result ≡ Status.SourceFailed
-        → HasRisen (S.faults input.old) (S.faults input.new) }
-    ensures source_calm { result ≢ Status.SourceFailed
-        → S.faults input.new ≡ S.faults input.old }
-    ensures sink_failed { result ≡ Status.SinkFailed
-        → HasRisen (K.faults out.old) (K.faults out.new)
-        ⊎ HasRisen (D.faults diag.old) (D.faults diag.new) }
-    ensures sinks_calm { result ≢ Status.SinkFailed → (K.faults out.new ≡ K.faults out.old)
-        × (D.faults diag.new ≡ D.faults diag.old) }
+    ensures stream_faults { IsStreamStatus (S.faults input.old) (S.faults input.new)
+        (K.faults out.old) (K.faults out.new) (D.faults diag.old) (D.faults diag.new) result }
     ensures wireless { result ≢ Status.WireFailed }
 {
     let store = Memory::new(alloc, PROGRAM_LIMITS);
@@ -366,12 +321,8 @@ fn write_summary<K: Sink, D: Sink>(
         (streams left (K.taken out.old) (D.taken diag.old) (K.faults out.old) (D.faults diag.old))
         (streams left (K.taken out.new) (D.taken diag.new) (K.faults out.new) (D.faults diag.new))
         result }
-    ensures unread { result ≢ Status.SourceFailed }
-    ensures sink_failed { result ≡ Status.SinkFailed
-        → HasRisen (K.faults out.old) (K.faults out.new)
-        ⊎ HasRisen (D.faults diag.old) (D.faults diag.new) }
-    ensures sinks_calm { result ≢ Status.SinkFailed → (K.faults out.new ≡ K.faults out.old)
-        × (D.faults diag.new ≡ D.faults diag.old) }
+    ensures stream_faults { (unread : ℕ) → IsStreamStatus unread unread
+        (K.faults out.old) (K.faults out.new) (D.faults diag.old) (D.faults diag.new) result }
     ensures wireless { result ≢ Status.WireFailed }
 {
     let end = generate(alloc, seed, count, out);
@@ -385,9 +336,7 @@ fn answer<W: Wire>(alloc: Global, listen: Address, turns: u64, wire: &mut W) -> 
     ensures answers { AnswersOrigin listen turns (W.log wire.old) (W.log wire.new) result }
     ensures unread { result ≢ Status.SourceFailed }
     ensures unwritten { result ≢ Status.SinkFailed }
-    ensures wire_failed { result ≡ Status.WireFailed
-        → wires.HasRisen (W.faults wire.old) (W.faults wire.new) }
-    ensures wire_calm { result ≢ Status.WireFailed → W.faults wire.new ≡ W.faults wire.old }
+    ensures wire_faults { IsWireStatus (W.faults wire.old) (W.faults wire.new) result }
 {
     match wire.bind(Some(listen), None) {
         Ok(()) => answered(origin_on(alloc, wire, turns)),
@@ -425,9 +374,7 @@ fn serve<K: Sink, W: Wire>(
     ensures sink_failed { result ≡ Status.SinkFailed
         → HasRisen (K.faults out.old) (K.faults out.new) }
     ensures sink_calm { result ≢ Status.SinkFailed → K.faults out.new ≡ K.faults out.old }
-    ensures wire_failed { result ≡ Status.WireFailed
-        → wires.HasRisen (W.faults wire.old) (W.faults wire.new) }
-    ensures wire_calm { result ≢ Status.WireFailed → W.faults wire.new ≡ W.faults wire.old }
+    ensures wire_faults { IsWireStatus (W.faults wire.old) (W.faults wire.new) result }
 {
     let store = Memory::new(alloc, PROGRAM_LIMITS);
     let Ok(cache) = Cache::new(store, PROGRAM_LIMITS, alloc) else {

@@ -3,7 +3,7 @@ use Rattle.hc_rules.specs.declared.room.Limits.{Limits}
 use Rattle.hc_fetch.specs.Endings.{Fetches}
 use Rattle.hc_app.specs.Owing.{wanting_all}
 use Rattle.hc_app.specs.Replaying.{store_limits}
-use Rattle.hc_app.proofs.Fetched.{does_fetch, source_failed, source_calm, either_failed, sinks_calm, wireless}
+use Rattle.hc_app.proofs.Fetched.{does_fetch, stream_status, wireless}
 use Rattle.hc_app.proofs.fetching.fetch_input.Goals as goal
 
 pub returns-in_default-clause-does : goal.returns-in_default-clause-does
@@ -15,17 +15,8 @@ returns-clause-does g c =
     (subst (λ (l : Limits). Fetches l c.args.plan (g.S.Source.left c.args.input.now) (g.S.Source.left c.fetch-end.new.turns) (g.K.Sink.taken c.args.out.now) (g.K.Sink.taken c.fetch-end.new.sink) c.fetch-end.result) c.in-Ok.ensures.limits c.fetch-end.ensures.ends)
     c.conclude_fetch.ensures c.fetch-end.ensures.sink c.fetch-end.ensures.sink_calm
 
-pub returns-clause-source_failed : goal.returns-clause-source_failed
-returns-clause-source_failed g c = λ is. c.fetch-end.ensures.source (source_failed _ _ _ _ _ _ c.conclude_fetch.ensures is)
-
-pub returns-clause-source_calm : goal.returns-clause-source_calm
-returns-clause-source_calm g c = λ off. c.fetch-end.ensures.source_calm (source_calm _ _ _ _ _ _ c.conclude_fetch.ensures off)
-
-pub returns-clause-sink_failed : goal.returns-clause-sink_failed
-returns-clause-sink_failed g c = λ is. either_failed _ _ _ _ _ _ c.conclude_fetch.ensures c.fetch-end.ensures.sink is
-
-pub returns-clause-sinks_calm : goal.returns-clause-sinks_calm
-returns-clause-sinks_calm g c = λ off. let calm = sinks_calm _ _ _ _ _ _ c.conclude_fetch.ensures off in (c.fetch-end.ensures.sink_calm calm.0, calm.1)
+pub returns-clause-stream_faults : goal.returns-clause-stream_faults
+returns-clause-stream_faults g c = stream_status _ _ _ _ _ _ _ _ _ _ c.conclude_fetch.ensures c.fetch-end.ensures.source c.fetch-end.ensures.source_calm c.fetch-end.ensures.sink c.fetch-end.ensures.sink_calm
 
 pub returns-clause-wireless : goal.returns-clause-wireless
 returns-clause-wireless g c = wireless _ _ _ _ _ _ c.conclude_fetch.ensures

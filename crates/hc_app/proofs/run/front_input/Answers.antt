@@ -4,7 +4,7 @@ use Rattle.hc_model.specs.Entries.{no_contents}
 use Rattle.hc_app.specs.Owing.{wanting_all}
 use Rattle.hc_app.proofs.Done.{never_wire}
 use Rattle.hc_app.proofs.Fronted.{does_front}
-use Rattle.hc_app.proofs.Concluded.{wireless, source_failed, source_calm, either_failed, sinks_calm}
+use Rattle.hc_app.proofs.Concluded.{wireless, stream_status}
 use Rattle.hc_app.proofs.run.front_input.Goals as goal
 
 pub returns-in_default-clause-does : goal.returns-in_default-clause-does
@@ -24,17 +24,8 @@ returns-clause-does g c =
     does_front c.new-front.result (c.new-front.ensures.stands no_contents c.in-Ok.ensures.stands) (c.new-front.ensures.limits ∙ c.in-Ok.ensures.limits) (λ u. refl) _ _ _ _ _ _ _ _ _ _ _ _ _
     c.replay_front-end.ensures.ends c.conclude.ensures c.replay_front-end.ensures.sink c.replay_front-end.ensures.sink_calm
 
-pub returns-clause-source_failed : goal.returns-clause-source_failed
-returns-clause-source_failed g c = λ is. c.replay_front-end.ensures.source (source_failed _ _ _ _ _ _ c.conclude.ensures is)
-
-pub returns-clause-source_calm : goal.returns-clause-source_calm
-returns-clause-source_calm g c = λ off. c.replay_front-end.ensures.source_calm (source_calm _ _ _ _ _ _ c.conclude.ensures off)
-
-pub returns-clause-sink_failed : goal.returns-clause-sink_failed
-returns-clause-sink_failed g c = λ is. either_failed _ _ _ _ _ _ c.conclude.ensures c.replay_front-end.ensures.sink is
-
-pub returns-clause-sinks_calm : goal.returns-clause-sinks_calm
-returns-clause-sinks_calm g c = λ off. let calm = sinks_calm _ _ _ _ _ _ c.conclude.ensures off in (c.replay_front-end.ensures.sink_calm calm.0, calm.1)
+pub returns-clause-stream_faults : goal.returns-clause-stream_faults
+returns-clause-stream_faults g c = stream_status _ _ _ _ _ _ _ _ _ _ c.conclude.ensures c.replay_front-end.ensures.source c.replay_front-end.ensures.source_calm c.replay_front-end.ensures.sink c.replay_front-end.ensures.sink_calm
 
 pub returns-clause-wireless : goal.returns-clause-wireless
 returns-clause-wireless g c = wireless _ _ _ _ _ _ c.conclude.ensures

@@ -1,7 +1,9 @@
-use Rattle.std.proofs.Common.{refl, subst}
+use Rattle.std.proofs.Common.{refl, subst, inl}
 use Rattle.hc_app.specs.Commands.{IsCommand}
 use Rattle.hc_app.specs.Program.{obeyed, answered, served, told}
+use Rattle.hc_app.specs.declared.status.Status.TheVariants as status
 use Rattle.hc_app.proofs.Done.{usage_said, usage_unsaid}
+use Rattle.hc_app.proofs.Failed.{all_calm, stopped_status, stopped_wireless, wire_still}
 use Rattle.hc_app.proofs.run.obey_other.Goals as goal
 
 pub returns-in-Some-Replay-clause-keeps : goal.returns-in-Some-Replay-clause-keeps
@@ -31,3 +33,44 @@ returns-in-Some-Open-clause-keeps g c = obeyed _ (subst (IsCommand _) c.in-Some-
 
 pub returns-in-Some-Conditional-clause-keeps : goal.returns-in-Some-Conditional-clause-keeps
 returns-in-Some-Conditional-clause-keeps g c = obeyed _ (subst (IsCommand _) c.in-Some-Conditional.field-0-is c.in-Some-Conditional.ensures.found) c.front_input.ensures.does refl
+
+pub returns-in-Some-Replay-clause-wire_faults : goal.returns-in-Some-Replay-clause-wire_faults
+returns-in-Some-Replay-clause-wire_faults g c = wire_still _ _ c.replay_input.ensures.wireless
+
+pub returns-in-Some-Generate-clause-wire_faults : goal.returns-in-Some-Generate-clause-wire_faults
+returns-in-Some-Generate-clause-wire_faults g c = wire_still _ _ c.write_summary.ensures.wireless
+
+pub returns-in-Some-Save-clause-wire_faults : goal.returns-in-Some-Save-clause-wire_faults
+returns-in-Some-Save-clause-wire_faults g c = wire_still _ _ c.save_input.ensures.wireless
+
+pub returns-in-Some-Open-clause-wire_faults : goal.returns-in-Some-Open-clause-wire_faults
+returns-in-Some-Open-clause-wire_faults g c = wire_still _ _ c.open_input.ensures.wireless
+
+pub returns-in-Some-Conditional-clause-wire_faults : goal.returns-in-Some-Conditional-clause-wire_faults
+returns-in-Some-Conditional-clause-wire_faults g c = wire_still _ _ c.front_input.ensures.wireless
+
+pub returns-in-Some-Generate-clause-stream_faults : goal.returns-in-Some-Generate-clause-stream_faults
+returns-in-Some-Generate-clause-stream_faults g c = c.write_summary.ensures.stream_faults _
+
+pub returns-in-Some-Origin-clause-stream_faults : goal.returns-in-Some-Origin-clause-stream_faults
+returns-in-Some-Origin-clause-stream_faults g c = all_calm _ _ _ _ _ _ _ c.answer.ensures.unread c.answer.ensures.unwritten refl refl refl
+
+pub returns-in-Some-Serve-clause-stream_faults : goal.returns-in-Some-Serve-clause-stream_faults
+returns-in-Some-Serve-clause-stream_faults g c = record {
+  source_failed = λ is. absurd (c.serve.ensures.unread is);
+  source_calm = λ off. refl;
+  sink_failed = λ is. inl (c.serve.ensures.sink_failed is);
+  sinks_calm = λ off. (c.serve.ensures.sink_calm off, refl);
+}
+
+pub returns-in-Ok-clause-stream_faults : goal.returns-in-Ok-clause-stream_faults
+returns-in-Ok-clause-stream_faults g c = all_calm _ _ _ _ _ _ status.Usage (λ is. cc) (λ is. cc) refl refl c.in-Ok.ensures.calm
+
+pub returns-in-Ok-clause-wire_faults : goal.returns-in-Ok-clause-wire_faults
+returns-in-Ok-clause-wire_faults g c = wire_still _ status.Usage (λ is. cc)
+
+pub returns-in-Err-clause-stream_faults : goal.returns-in-Err-clause-stream_faults
+returns-in-Err-clause-stream_faults g c = rw c.stopped.ensures (stopped_status _ _ _ _ _ c.in-Err.ensures.cause.failed c.in-Err.ensures.no_fault)
+
+pub returns-in-Err-clause-wire_faults : goal.returns-in-Err-clause-wire_faults
+returns-in-Err-clause-wire_faults g c = rw c.stopped.ensures (wire_still _ _ (stopped_wireless _))

@@ -2,7 +2,7 @@ use Rattle.std.proofs.Common.{refl}
 use Rattle.hc_replay.proofs.Reported.{new_moment}
 use Rattle.hc_app.specs.Owing.{wanting_all}
 use Rattle.hc_app.proofs.Done.{does_replay, never_wire}
-use Rattle.hc_app.proofs.Concluded.{wireless, source_failed, source_calm, either_failed, sinks_calm}
+use Rattle.hc_app.proofs.Concluded.{wireless, stream_status}
 use Rattle.hc_app.proofs.run.replay_input.Goals as goal
 
 pub returns-in_default-clause-does : goal.returns-in_default-clause-does
@@ -17,17 +17,8 @@ conclude-requires g c = record { wireless = never_wire _ _ _ _ _ c.replay-end.en
 pub returns-clause-does : goal.returns-clause-does
 returns-clause-does g c = does_replay c.in-Ok.cache c.in-Ok.ensures.stands c.in-Ok.ensures.limits (λ u. refl) _ _ _ _ _ _ _ _ _ _ _ _ _ c.replay-end.ensures.ends c.conclude.ensures c.replay-end.ensures.sink c.replay-end.ensures.sink_calm
 
-pub returns-clause-source_failed : goal.returns-clause-source_failed
-returns-clause-source_failed g c = λ is. c.replay-end.ensures.source (source_failed _ _ _ _ _ _ c.conclude.ensures is)
-
-pub returns-clause-source_calm : goal.returns-clause-source_calm
-returns-clause-source_calm g c = λ off. c.replay-end.ensures.source_calm (source_calm _ _ _ _ _ _ c.conclude.ensures off)
-
-pub returns-clause-sink_failed : goal.returns-clause-sink_failed
-returns-clause-sink_failed g c = λ is. either_failed _ _ _ _ _ _ c.conclude.ensures c.replay-end.ensures.sink is
-
-pub returns-clause-sinks_calm : goal.returns-clause-sinks_calm
-returns-clause-sinks_calm g c = λ off. let calm = sinks_calm _ _ _ _ _ _ c.conclude.ensures off in (c.replay-end.ensures.sink_calm calm.0, calm.1)
+pub returns-clause-stream_faults : goal.returns-clause-stream_faults
+returns-clause-stream_faults g c = stream_status _ _ _ _ _ _ _ _ _ _ c.conclude.ensures c.replay-end.ensures.source c.replay-end.ensures.source_calm c.replay-end.ensures.sink c.replay-end.ensures.sink_calm
 
 pub returns-clause-wireless : goal.returns-clause-wireless
 returns-clause-wireless g c = wireless _ _ _ _ _ _ c.conclude.ensures

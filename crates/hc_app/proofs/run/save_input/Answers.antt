@@ -4,7 +4,7 @@ use Rattle.hc_saving.specs.Saves.{Saves}
 use Rattle.hc_app.specs.Owing.{wanting_all}
 use Rattle.hc_app.specs.Replaying.{store_limits}
 use Rattle.hc_app.proofs.Saved.{does_save, never_wired}
-use Rattle.hc_app.proofs.Concluded.{wireless, source_failed, source_calm, either_failed, sinks_calm}
+use Rattle.hc_app.proofs.Concluded.{wireless, stream_status}
 use Rattle.hc_app.proofs.run.save_input.Goals as goal
 
 pub returns-in_default-clause-does : goal.returns-in_default-clause-does
@@ -22,17 +22,8 @@ returns-clause-does g c =
     (subst (λ (l : Limits). Saves l (g.S.Source.left c.args.input.now) (g.S.Source.left c.save-end.new.source) (g.K.Sink.taken c.args.out.now) (g.K.Sink.taken c.save-end.new.sink) c.save-end.result) c.in-Ok.ensures.limits c.save-end.ensures.ends)
     c.conclude.ensures c.save-end.ensures.sink c.save-end.ensures.sink_calm
 
-pub returns-clause-source_failed : goal.returns-clause-source_failed
-returns-clause-source_failed g c = λ is. c.save-end.ensures.source (source_failed _ _ _ _ _ _ c.conclude.ensures is)
-
-pub returns-clause-source_calm : goal.returns-clause-source_calm
-returns-clause-source_calm g c = λ off. c.save-end.ensures.source_calm (source_calm _ _ _ _ _ _ c.conclude.ensures off)
-
-pub returns-clause-sink_failed : goal.returns-clause-sink_failed
-returns-clause-sink_failed g c = λ is. either_failed _ _ _ _ _ _ c.conclude.ensures c.save-end.ensures.sink is
-
-pub returns-clause-sinks_calm : goal.returns-clause-sinks_calm
-returns-clause-sinks_calm g c = λ off. let calm = sinks_calm _ _ _ _ _ _ c.conclude.ensures off in (c.save-end.ensures.sink_calm calm.0, calm.1)
+pub returns-clause-stream_faults : goal.returns-clause-stream_faults
+returns-clause-stream_faults g c = stream_status _ _ _ _ _ _ _ _ _ _ c.conclude.ensures c.save-end.ensures.source c.save-end.ensures.source_calm c.save-end.ensures.sink c.save-end.ensures.sink_calm
 
 pub returns-clause-wireless : goal.returns-clause-wireless
 returns-clause-wireless g c = wireless _ _ _ _ _ _ c.conclude.ensures

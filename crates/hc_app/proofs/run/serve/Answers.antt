@@ -25,12 +25,11 @@ returns-in-Ok-bind-clause-sink_failed g c = λ is. c.serve_on.ensures.sink (sink
 pub returns-in-Ok-bind-clause-sink_calm : goal.returns-in-Ok-bind-clause-sink_calm
 returns-in-Ok-bind-clause-sink_calm g c = λ off. c.serve_on.ensures.sink_calm (sink_off _ _ c.served.ensures off)
 
-pub returns-in-Ok-bind-clause-wire_failed : goal.returns-in-Ok-bind-clause-wire_failed
-returns-in-Ok-bind-clause-wire_failed g c = λ is.
-    subst (λ (n : ℕ). HasRisen n (g.W.Wire.faults c.serve_on.new.wire)) c.in-Ok-bind.ensures.cause.calm (c.serve_on.ensures.wire (wire_is _ _ c.served.ensures is))
-
-pub returns-in-Ok-bind-clause-wire_calm : goal.returns-in-Ok-bind-clause-wire_calm
-returns-in-Ok-bind-clause-wire_calm g c = λ off. c.serve_on.ensures.wire_calm (wire_off _ _ c.served.ensures off) ∙ c.in-Ok-bind.ensures.cause.calm
+pub returns-in-Ok-bind-clause-wire_faults : goal.returns-in-Ok-bind-clause-wire_faults
+returns-in-Ok-bind-clause-wire_faults g c = record {
+  failed = λ is. subst (λ (n : ℕ). HasRisen n (g.W.Wire.faults c.serve_on.new.wire)) c.in-Ok-bind.ensures.cause.calm (c.serve_on.ensures.wire (wire_is _ _ c.served.ensures is));
+  calm = λ off. c.serve_on.ensures.wire_calm (wire_off _ _ c.served.ensures off) ∙ c.in-Ok-bind.ensures.cause.calm;
+}
 
 pub returns-in-Err-clause-serves : goal.returns-in-Err-clause-serves
 returns-in-Err-clause-serves g c = rw c.unbound.ensures (unbound_serves _ _ _ _ _ _ _ _ c.in-Err.ensures.err refl)

@@ -6,7 +6,6 @@ use Rattle.hc_sched.specs.declared.schedule.Ended.{Ended}
 use Rattle.hc_sched.specs.declared.schedule.Ended.TheVariants as ended
 use Rattle.hc_wire.specs.Events.{Stage, Unseen, IsOpen}
 use Rattle.hc_wire.specs.Logs.{Log, Tells, with_binding}
-use Rattle.hc_wire.specs.Wires.{HasRisen}
 use Rattle.hc_wire.specs.declared.event.Address.{Address}
 use Rattle.hc_wire.specs.declared.event.WireError.{WireError}
 use Rattle.hc_wire.specs.declared.event.WireError.TheVariants as wire

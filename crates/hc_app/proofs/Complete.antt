@@ -5,7 +5,7 @@
 -- (`refusal_is`), and a text that spells items isn't refused. A text begins with one image at most, which is refused
 -- or not (`image_apart`). So the status is the one that is due, or that of want of memory, and the other cases contradict the
 -- words or the input.
-use Rattle.std.proofs.Common.{◌≡◌, ◌⊎◌, ℕ, List, Option, Some, None, [], ◌∷◌, Bool, true, false, refl, ap, sym, ◌∙◌, subst, inl, inr, arith}
+use Rattle.std.proofs.Common.{◌≡◌, ◌⊎◌, ℕ, List, Option, Some, None, [], ◌∷◌, true, false, refl, ap, sym, ◌∙◌, subst, inl, inr, arith}
 use Rattle.std.specs.Prelude.{codes, bytes_eq}
 use Rattle.std.proofs.lemmas.Slice.Eq.{bytes_eq-Decides}
 use Rattle.hc_io.specs.Faults.{HasRisen}
@@ -18,18 +18,15 @@ use Rattle.hc_driver.specs.Endings as endings
 use Rattle.hc_driver.specs.Endings.{Reach, IsRead, IsRefusedIn}
 use Rattle.hc_effects.proofs.Basics.{some_none}
 use Rattle.hc_contents.specs.Fit.{unfit_of}
-use Rattle.hc_contents.specs.declared.unfit.Unfit.{Unfit}
 use Rattle.hc_contents.specs.declared.unfit.Unfit.TheVariants as unfit
 use Rattle.hc_model.specs.Entries.{Contents}
 use Rattle.hc_saving.specs.declared.open.OpenEnded.{OpenEnded}
-use Rattle.hc_saving.specs.Opens.{IsOpened}
 use Rattle.hc_saving.proofs.Opened.{opened_once}
 use Rattle.hc_app.specs.declared.command.Command.{Command}
 use Rattle.hc_app.specs.declared.command.Command.TheVariants as command
 use Rattle.hc_app.specs.declared.status.Status.{Status}
 use Rattle.hc_app.specs.declared.status.Status.TheVariants as status
 use Rattle.hc_wire.specs.Logs.{Log}
-use Rattle.hc_wire.specs.declared.event.Address.{Address}
 use Rattle.hc_app.specs.Commands.{IsCommand, replay, save, reopen, conditional, generate, origin, serve}
 use Rattle.hc_fetch.specs.declared.plan.FetchPlan.{FetchPlan}
 use Rattle.hc_app.specs.Fetching.{IsFetch}

@@ -10,7 +10,7 @@ use Rattle.std.specs.Result.{IsErrOf}
 use Rattle.std.proofs.lemmas.Fmt.{decimal_injective}
 use Rattle.hc_io.specs.Faults.{HasRisen}
 use Rattle.hc_io.specs.Sink.{Takes, TakesFront}
-use Rattle.hc_io.specs.Source.{Gives, GivesAll}
+use Rattle.hc_io.specs.Source.{GivesAll}
 use Rattle.hc_io.specs.declared.sink.SinkError.{SinkError}
 use Rattle.hc_io.specs.declared.sink.SinkError.TheVariants as sink
 use Rattle.hc_text.specs.Numbers.{IsPlain}
@@ -42,7 +42,7 @@ use Rattle.hc_app.specs.Concluding as concluding
 use Rattle.hc_app.specs.Concluding.{Concludes}
 use Rattle.hc_app.specs.Failing.{IsStreamStatus}
 use Rattle.hc_app.specs.Fetching as fetching
-use Rattle.hc_app.specs.Fetching.{IsPlanOf, NoPlan, IsFetch, NoFetch, IsWritten, OwesFetch, StopsFetch, BeginsFetch, IsStopped, IsEndedAs, ConcludesFetch}
+use Rattle.hc_app.specs.Fetching.{IsPlanOf, NoPlan, IsFetch, NoFetch, IsWritten, OwesFetch, BeginsFetch, IsStopped, IsEndedAs, ConcludesFetch}
 use Rattle.hc_app.specs.Owing as owing
 use Rattle.hc_app.specs.Owing.{Streams, Saying, Does}
 use Rattle.hc_app.specs.Replaying.{store_limits}

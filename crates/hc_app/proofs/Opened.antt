@@ -16,7 +16,7 @@ use Rattle.hc_sched.specs.declared.schedule.Timed.{Timed}
 use Rattle.hc_sched.specs.Schedule.{Spells}
 use Rattle.hc_driver.specs.Endings as endings
 use Rattle.hc_driver.specs.Endings.{How, UpToEnd, ToEnd, IsSteppedAtOnce}
-use Rattle.hc_driver.specs.Stepping.{History, events_in, report_of, report_before, last_entry}
+use Rattle.hc_driver.specs.Stepping.{History, report_of, report_before, last_entry}
 use Rattle.hc_driver.proofs.Reported.{all_reported}
 use Rattle.hc_contents.specs.Fit.{unfit_of}
 use Rattle.hc_model.specs.Entries.{Contents}
@@ -31,7 +31,7 @@ use Rattle.hc_app.specs.Concluding as concluding
 use Rattle.hc_app.specs.Concluding.{Concludes}
 use Rattle.hc_app.specs.Failing.{IsStreamStatus}
 use Rattle.hc_app.specs.Opening as opening
-use Rattle.hc_app.specs.Opening.{IsRefusedImage, IsTaken, IsReportFrom, BeginsReport, IsImageRefused, ConcludesOpen}
+use Rattle.hc_app.specs.Opening.{IsRefusedImage, IsTaken, IsReportFrom, IsImageRefused, ConcludesOpen}
 use Rattle.hc_app.specs.Owing as owing
 use Rattle.hc_app.specs.Owing.{Streams, Does}
 use Rattle.hc_app.specs.Replaying.{store_limits}

@@ -1,4 +1,4 @@
-use Rattle.std.proofs.Common.{refl, sym, subst}
+use Rattle.std.proofs.Common.{refl}
 use Rattle.hc_sched.specs.declared.schedule.Ended.TheVariants as ended
 use Rattle.hc_fetch.specs.declared.ended.FetchEnded.TheVariants as fetched
 use Rattle.hc_app.specs.declared.status.Status.TheVariants as status

@@ -2,7 +2,6 @@ use Rattle.std.proofs.Common.{refl, subst}
 use Rattle.hc_rules.specs.declared.room.Limits.{Limits}
 use Rattle.hc_fetch.specs.Endings.{Fetches}
 use Rattle.hc_app.specs.Owing.{wanting_all}
-use Rattle.hc_app.specs.Replaying.{store_limits}
 use Rattle.hc_app.proofs.Fetched.{does_fetch, stream_status, wireless}
 use Rattle.hc_app.proofs.fetching.fetch_input.Goals as goal
 

@@ -17,7 +17,6 @@ use Rattle.hc_rules.specs.declared.room.Limits.{Limits}
 use Rattle.hc_sched.specs.declared.schedule.Ended.{Ended}
 use Rattle.hc_sched.specs.declared.schedule.Ended.TheVariants as ended
 use Rattle.hc_sched.specs.declared.schedule.Timed.{Timed}
-use Rattle.hc_driver.specs.Courses.{TakesThenFront}
 use Rattle.hc_driver.specs.Endings as endings
 use Rattle.hc_driver.specs.Endings.{How, UpToEnd, SoFar, ToEnd, IsSteppedAtOnce}
 use Rattle.hc_driver.specs.Stepping.{History, report_of, report_before, last_entry}
@@ -42,6 +41,7 @@ use Rattle.hc_app.specs.Replaying as replaying
 use Rattle.hc_app.specs.Replaying.{store_limits, IsWhole, IsReport, BeginsReplay}
 use Rattle.hc_app.specs.Statuses.{stopped_as}
 use Rattle.hc_app.specs.Texts.{usage_text}
+use Rattle.hc_app.proofs.Saved.{then_front}
 
 -- NO WIRE IS USED
 
@@ -125,15 +125,12 @@ module _ (seed n : ℕ) (left out out' diag diag' : Option (List ℕ)) (o o' d d
   begins : (text : List ℕ) → Rattle.hc_replay.specs.Summaries.IsSummary store_limits seed n text → generating.BeginsSummary seed n [] [] text
   begins text is = record { unread = refl; nothing = refl; is_summary = is }
 
-  then_front : (text : List ℕ) → TakesFront out out' text → TakesThenFront out out' [] text
-  then_front text takes = record { part = takes.front; rest = takes.rest; whole = takes.whole; takes = takes.takes }
-
   pub does_generate : (e : Ended) (st : Status) → generates.Generates store_limits seed n out out' e → Concludes diag diag' d d' e st → (e ≡ ended.SinkFailed → HasRisen o o') → (e ≢ ended.SinkFailed → o' ≡ o)
       → Does (generating.generating seed n) at_first at_last st
   does_generate _ _ (generates.done text is takes) (concluding.quiet _ _ concluding.done same sound) failed kept = owing.done SoFar [] text (gives_none left) (generating.made text is) takes same
   does_generate _ _ (generates.unwritten text is takes) (concluding.quiet _ _ concluding.unwritten same sound) failed kept =
-      owing.unwritten [] [] text (gives_none left) (begins text is) (then_front text takes) (record { failed = failed refl; unsaid = same; sound = sound })
-  does_generate _ _ (generates.wanting text is takes) (concluding.quiet _ _ concluding.wanting same sound) failed kept = owing.wanting [] [] text (gives_none left) (begins text is) (then_front text takes) same
+      owing.unwritten [] [] text (gives_none left) (begins text is) (then_front out out' text takes) (record { failed = failed refl; unsaid = same; sound = sound })
+  does_generate _ _ (generates.wanting text is takes) (concluding.quiet _ _ concluding.wanting same sound) failed kept = owing.wanting [] [] text (gives_none left) (begins text is) (then_front out out' text takes) same
   does_generate _ _ (generates.unfinished unwritten) (concluding.quiet _ _ concluding.wanting same sound) failed kept =
       let o_same : o' ≡ o = kept (λ other. cc) in
       owing.wanting_all (rw (unwritten, same, sound, o_same) refl)

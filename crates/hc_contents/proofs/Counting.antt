@@ -91,13 +91,6 @@ module _ (limits : Limits) (contents : Contents) (items : List coded.Content) wh
         let same : count_good limits contents (plain_item item ∷ before i) (drop (i + 1) told) ≡ count_good limits contents (before (i + 1)) (drop (i + 1) told) = ap (λ xs. count_good limits contents xs (drop (i + 1) told)) more_before in
         record { count = omega arith }
 
-  -- all are good
-  pub all_counted : (i : ℕ) → i ≤ length items → length items ≤ i → IsCounted i → length items ≡ count_good limits contents [] told
-  all_counted i le ge c =
-      let none : drop i told ≡ [] = drop_all i told (let count : length told ≡ length items = length-map items plain_item in omega arith) in
-      let all : count_good limits contents [] told ≡ i + 0 = c.count ∙ ap (λ ys. i + count_good limits contents (before i) ys) none in
-      omega arith
-
 -- ALL
 
 -- all are good where none stops the count

@@ -138,12 +138,6 @@ module _ (t : Tables) (now : ℕ) (ev : Event) (a b : List Act) (k : AreAlike a 
   heard_same r v (event.Piece x bytes) = pieced_same r x bytes v (t.exchange x)
   heard_same r v _ = refl
 
-  pub writing_same : (r : ℕ) (v : Representation) → loses_writing t e r v ≡ loses_writing t f r v
-  writing_same r v = rw (k.loses r) refl
-
-  pub goes_on_same : (r : ℕ) (v : Representation) → goes_on_with t e r v ≡ goes_on_with t f r v
-  goes_on_same r v = rw (k.loses r) refl
-
   -- CONSUMERS
 
   resumed_same : (response : Response) (w : Exchange) (z : Option Representation) → is_resumed t e response w z ≡ is_resumed t f response w z

@@ -221,9 +221,6 @@ module _ (t : Tables) (now x : ℕ) (bytes : List ℕ) (r : ℕ) (v : Representa
   spared (frames.by_stop w row on status off h) = false_true h
   spared (frames.by_eviction h) = false_true h
 
-  pub piece_spares : goes_itself t brings r v ≡ false
-  piece_spares = not_so (goes_itself t brings r v) (λ h. spared (caused_itself t brings r v h))
-
 -- A WHOLE ROW
 
 number_of : (o : Option ℕ) (n : ℕ) → is_number o n ≡ false → o ≡ Some n → ⊥
@@ -353,10 +350,6 @@ undoomed t e off = by_event e.event off
     by_event (event.Head x response) h = absurd (true_false h)
     by_event (event.Doom key) h = absurd (true_false h)
     by_event _ h = refl
-
--- an entry that dooms nothing and opens nothing speaks of what its event and its acts do
-pub unspoken : (t : Tables) (e : Entry) (r : ℕ) → doomed_key_of t e ≡ None → opening_in e.acts ≡ None → is_event_of t e r e.event ≡ false → are_acts_of r e ≡ false → speaks_of t e r ≡ false
-unspoken t e r undoomed unopened event_off acts_off = rw (undoomed, unopened, event_off, acts_off) refl
 
 pub others_stay : OthersStay
 others_stay t e r silent = row_stays t e r silent (t.representation r)

@@ -185,10 +185,6 @@ module _ (t : Tables) (want c : ℕ) (k : Consumer) (run : Run) where
       let there : body_of t r (run.at + i) ≡ v.body (p + i) = ap (cell_by t r (run.at + i)) row ∙ ap (λ m. v.body (m + i)) s.at_is in
       there ∙ (sym here ∙ cell)
 
-  cut_most : (o : Option ℕ) (m : ℕ) → IfSome o (λ hi. cut_at o m ≤ hi)
-  cut_most None m = tt
-  cut_most (Some hi) m = min-le_left hi m
-
   -- up to the end, where that isn't there yet
   within_by : (o : Option ℕ) (m p : ℕ) → run.at ≡ p → is_at_end o p ≡ false → length run.bytes ≤ cut_at o m - p → IfSome o (λ hi. run.at + length run.bytes ≤ hi)
   within_by None m p at before few = tt

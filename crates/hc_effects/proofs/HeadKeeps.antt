@@ -76,9 +76,6 @@ in_hole from to p u _ (join.within n inside) good is le ends =
 abbrev pub of_head : ℕ → ℕ → Response → List Act → Entry
 of_head now x response acts = record { now = now; event = event.Head x response; acts = acts }
 
-abbrev with_response : Tables → ℕ → ℕ → Response → List Act → Exchange → Exchange
-with_response t now x response acts w = exchange_acted x acts (exchange_heard t (of_head now x response acts) x (event.Head x response) w)
-
 -- an exchange after the head: another one is the same, and its own has the head, and joined what it joins
 data HeadRow (t : Tables) (now x : ℕ) (response : Response) (acts : List Act) (y : ℕ) (u : Exchange) : Type 0 where
   same : (w : Exchange) → x ≢ y → t.exchange y ≡ Some w → IsSame y w u → HeadRow t now x response acts y u

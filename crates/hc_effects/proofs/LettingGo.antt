@@ -96,27 +96,6 @@ module _ (now r : ℕ) (t : Tables) where
     waits = λ c q kept k row at. let still = still_waits c q kept k row at in waits_on q k still.off (may.waits c q kept k still.row at);
   }
 
-  other_current : (q : ℕ) → nat_eq r q ≡ false → unless_it r (Some q) ≡ Some q
-  other_current q off = let flipped : nat_eq q r ≡ false = grind (arith, nat_tests) in rw flipped refl
-
-  pub keeps_passed : OneCurrent t → Passed t → Passed (let_go now r t)
-  keeps_passed one passed = record {
-    waits = λ c q kept k row at.
-        let still = still_waits c q kept k row at in
-        let w = passed.waits c q kept k still.row at in
-        record {
-          v = w.v;
-          row = other_row q still.off ∙ w.row;
-          key_is = w.key_is;
-          not_gone = w.not_gone;
-          current_is = current_let_go one k.request.key ∙ (ap (unless_it r) w.current_is ∙ other_current q still.off);
-        };
-    kept = λ c q x k row at.
-        let o = passed.kept c q x k (still_waits c q (Some x) k row at).row at in
-        record { own = o.own; w = o.w; row = o.row; over = o.over };
-    unkept = λ c q k row at. passed.unkept c q k (still_waits c q None k row at).row at;
-  }
-
 -- WHAT IS CURRENT
 
 module _ (t : Tables) (may : MayLetGo t) where

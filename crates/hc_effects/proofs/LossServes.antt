@@ -58,10 +58,6 @@ cond_left : {A : Type 0} (b : Bool) (x y : A) → b ≡ true → cond b x y ≡ 
 cond_left true x y h = refl
 cond_left false x y h = absurd (let never : false ≡ true = h in cc)
 
-cond_right : {A : Type 0} (b : Bool) (x y : A) → b ≡ false → cond b x y ≡ y
-cond_right true x y h = absurd (let never : true ≡ false = h in cc)
-cond_right false x y h = refl
-
 lost_row : (t : Tables) (now x r : ℕ) (bytes : List ℕ) (acts : List Act) (v u : Representation) → t.representation r ≡ Some v → loses_in r acts ≡ true → v.is_lost ≡ false → representation_after t (of_piece now x bytes acts) r (Some v) ≡ Some u → IsLostRow t (of_piece now x bytes acts) r v u
 unfolding representation_after
 lost_row t now x r bytes acts v u row lost fresh is =
@@ -89,34 +85,3 @@ pub survives : (b n : Bool) (a : Cause) → b ≡ true → (cond (b && not n) (S
 survives b true a on h = refl
 survives true false a on h = absurd (let never : Some a ≡ None = h in cc)
 survives false false a on h = absurd (let never : false ≡ true = on in cc)
-
-undue_loss : (t : Tables) (e : Entry) (r c lo : ℕ) (hi : Option ℕ) (how : BoundBy) (v : Representation) (k : Consumer) → t.representation r ≡ Some v → k.place ≡ place.Bound r lo hi how → becomes_due t e c k ≡ None → cause_by_loss t e c r (Some v) ≡ None
-unfolding becomes_due
-undue_loss t e r c lo hi how v k row place none =
-    let second = (or_none (cause_of_stop t e k) _ none).1 in
-    let third = (or_none (cause_of_loss t e c k.place) _ second).0 in
-    sym (ap (cause_of_loss t e c) place ∙ ap (cause_by_loss t e c r) row) ∙ third
-
--- Who was bound before the loss of r and has nothing due after it goes on alone with it, or has all that it needs.
-pub loss_serves : (t : Tables) (now x r c lo : ℕ) (hi : Option ℕ) (how : BoundBy) (bytes : List ℕ) (acts : List Act) (v u : Representation) (k : Consumer) → Sound t → t.representation r ≡ Some v → representation_after t (of_piece now x bytes acts) r (Some v) ≡ Some u → loses_in r acts ≡ true → v.is_lost ≡ false
-    → t.consumer c ≡ Some k → k.place ≡ place.Bound r lo hi how → k.due ≡ None → becomes_due t (of_piece now x bytes acts) c k ≡ None
-    → (u.is_lost ≡ true) × ((u.alone ≡ Some c) ⊎ (HasRest t v k × (u.stored ≡ v.stored) × (u.head.total ≡ v.head.total)))
-loss_serves t now x r c lo hi how bytes acts v u k s row after lost fresh is_row place none_due none =
-    let e = of_piece now x bytes acts in
-    let l = lost_row t now x r bytes acts v u row lost fresh after in (
-      l.lost,
-      elim (bool_cases (is_written t v)) [
-        | inl on ↦
-            let losing : loses_writing t e r v ≡ true = and_both (loses_in r acts) (is_written t v) lost on in
-            let survivor_is = number_is (survivor t r v) c (survives (loses_writing t e r v) (is_number (survivor t r v) c) _ losing (undue_loss t e r c lo hi how v k row place none)) in
-            inl (l.alone_is ∙ (cond_left (loses_writing t e r v) _ _ losing ∙ survivor_is))
-        | inr off ↦ elim (goes_on_or_rests t r c v k s row (sound.is_bound lo hi how is_row place) none_due off fresh) [
-          | inl alone ↦ inl (l.alone_is ∙ (cond_right (loses_writing t e r v) _ _ (and_off (loses_in r acts) (is_written t v) off) ∙ alone))
-          | inr rest ↦ inr (rest, l.stored_is, l.total_is)
-        ]
-      ],
-    )
-  where
-    and_off : (a b : Bool) → b ≡ false → (a && b) ≡ false
-    and_off true b h = h
-    and_off false b h = refl

@@ -45,9 +45,6 @@ later_again : (v : HeadView) → route_of v.need ≡ route.Hole → v.shown ≡ 
 unfolding head_case
 later_again v way shown joins good = rw (way, shown, good, joins) refl
 
-not_joining : (c : HeadCase) → is_joining (Some c) ≡ false → is_joining (Some c) ≡ true → ⊥
-not_joining c off on = false_true (sym off ∙ on)
-
 -- a head that joins would join without its loss
 pub joins_again : (t : Tables) (a b : Bool) (w : Exchange) (response : Response) (c : HeadCase) → CaseBy (head_view t a w response) c → is_joining (Some c) ≡ true → is_joining (Some (head_case (head_view t b w response))) ≡ true
 joins_again t a b w response _ (cases.first_joins way shown joins good) on = ap (λ g. is_joining (Some g)) (first_again (head_view t b w response) way shown joins good)

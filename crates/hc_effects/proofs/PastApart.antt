@@ -93,9 +93,6 @@ module _ (limits : Limits) (t : Tables) (now : ℕ) (flaw : Flaw) (s : Sound t) 
   abbrev now_on : Tables
   now_on = after_accepted t e
 
-  case_by_row : (x : ℕ) (response : Response) (w : Exchange) → ev ≡ event.Head x response → t.exchange x ≡ Some w → CaseBy (head_view t (has_loss e.acts) w response) (head_case (head_view t (has_loss e.acts) w response))
-  case_by_row x response w here row = case_by (head_view t (has_loss e.acts) w response)
-
   unfounding : (x : ℕ) (response : Response) (w : Exchange) → ev ≡ event.Head x response → t.exchange x ≡ Some w → route_of w.need ≡ route.Direct → is_founding (case_at t e) ≡ true → ⊥
   unfounding x response w here row way on =
       let view = head_view t (has_loss e.acts) w response in

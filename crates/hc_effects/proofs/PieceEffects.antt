@@ -40,15 +40,6 @@ use Rattle.hc_effects.proofs.Tests.{eqb-same, then_false}
 use Rattle.hc_effects.proofs.ToldFrames.{pieces, says_little, e, exchange_one, goes_as, loses_as, closes_as, representation_by, representation_none, lost_by, beside_same, consumer_by, told_by, told_does, told_plainly}
 use Rattle.hc_effects.proofs.Untouched.{IsSpared, loss_spared}
 
--- without room nothing gives way
-pub roomless : (limits : Limits) (t : Tables) (now : ℕ) (ev : Event) → has_room (room_for limits t now ev) ≡ false → evicted limits t now ev ≡ []
-roomless limits t now ev none = by_room (room_for limits t now ev) none
-  where
-    by_room : (z : Room) → has_room z ≡ false → first_idle t (entry_without_acts now ev) z ≡ []
-    by_room (room.After count) h = absurd (true_false h)
-    by_room room.TooLarge h = refl
-    by_room room.Full h = refl
-
 pub leaver_none : (flaw : Flaw) → leaver_in (loss_acts flaw) ≡ None
 leaver_none NoFlaw = refl
 leaver_none (Loses r kind) = refl

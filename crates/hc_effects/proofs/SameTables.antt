@@ -139,25 +139,6 @@ nothing_due k = ap (λ (o : Option Cause). record k { due = o }) (or_none k.due)
     or_none None = refl
     or_none (Some why) = refl
 
-pub no_due : (c : ℕ) (t : Tables) → with_due c None t ≡ t
-no_due c t = ap (λ (f : ℕ → Option Consumer). record t { consumer = f }) (fun_ext (λ d. by_test (c == d) (t.consumer d)))
-  where
-    by_test : (b : Bool) (z : Option Consumer) → (if b then option_map (failing None) z else z) ≡ z
-    by_test true None = refl
-    by_test true (Some k) = ap Some (nothing_due k)
-    by_test false z = refl
-
-pub no_dues : (r : ℕ) (t : Tables) → with_dues r None t ≡ t
-no_dues r t = ap (λ (f : ℕ → Option Consumer). record t { consumer = f }) (fun_ext (λ d. by_row (t.consumer d)))
-  where
-    by_test : (b : Bool) (k : Consumer) → (if b then failing None k else k) ≡ k
-    by_test true k = nothing_due k
-    by_test false k = refl
-
-    by_row : (z : Option Consumer) → option_map (if_bound r (failing None)) z ≡ z
-    by_row None = refl
-    by_row (Some k) = ap Some (by_test (is_bound_place r k.place) k)
-
 -- what founded nothing tells no length, nor what tells one already
 pub no_length : (x n : ℕ) (t : Tables) → t.representation x ≡ None → with_length x n t ≡ t
 no_length x n t none = ap (λ (f : ℕ → Option Representation). record t { representation = f }) (fun_ext by_number)
@@ -165,17 +146,5 @@ no_length x n t none = ap (λ (f : ℕ → Option Representation). record t { re
     by_number : (q : ℕ) → (if x == q then option_map (with_total_if_none n) (t.representation q) else t.representation q) ≡ t.representation q
     by_number q = elim (eq_cases x q) [
       | inl same ↦ (let there : t.representation q ≡ None = ap t.representation (sym same.1) ∙ none in rw (same.0, there) refl)
-      | inr apart ↦ rw apart.0 refl
-    ]
-
-pub known_length : (x n m : ℕ) (v : Representation) (t : Tables) → t.representation x ≡ Some v → v.head.total ≡ Some m → with_length x n t ≡ t
-known_length x n m v t row known = ap (λ (f : ℕ → Option Representation). record t { representation = f }) (fun_ext by_number)
-  where
-    same_length : with_total_if_none n v ≡ v
-    same_length = ap (λ (o : Option ℕ). record v { head = record v.head { total = o } }) (ap (λ (o : Option ℕ). option_or o (Some n)) known ∙ sym known)
-
-    by_number : (q : ℕ) → (if x == q then option_map (with_total_if_none n) (t.representation q) else t.representation q) ≡ t.representation q
-    by_number q = elim (eq_cases x q) [
-      | inl same ↦ (let there : t.representation q ≡ Some v = ap t.representation (sym same.1) ∙ row in rw (same.0, there) (ap Some same_length))
       | inr apart ↦ rw apart.0 refl
     ]

@@ -57,18 +57,6 @@ or_first (Some a) p h = refl
 stops : (t : Tables) (e : Entry) (k : Consumer) (x : ℕ) → source t k ≡ Some x → exchange_in e.event ≡ Some x → is_some (stop_cause t e.event) ≡ true → is_some (cause_of_stop t e k) ≡ true
 stops t e k x from brings some = rw (from, brings, same_refl x) some
 
-pub fault_is_due : (t : Tables) (e : Entry) (r c x : ℕ) (v : Representation) (k : Consumer) → Sound t → t.representation r ≡ Some v → IsBound t r c k → is_written t v ≡ true → v.writer ≡ Some x → exchange_in e.event ≡ Some x → is_some (stop_cause t e.event) ≡ true → is_some (becomes_due t e c k) ≡ true
-unfolding becomes_due
-fault_is_due t e r c x v k s row reader on writer brings some =
-    or_first (cause_of_stop t e k) _ (stops t e k x (source_is t r c x v k s row reader on writer) brings some)
-
--- an End is due as long as less came than was promised
-pub short_due : (t : Tables) (x p : ℕ) (w : Exchange) → t.exchange x ≡ Some w → promised_bytes w ≡ Some p → length w.body < p → is_some (stop_cause t (event.End x)) ≡ true
-short_due t x p w row promise less = rw (row, promise) (short_some p less)
-  where
-    short_some : (p : ℕ) → length w.body < p → is_some (short_of x w (Some p)) ≡ true
-    short_some p less = let test : nat_lt (length w.body) p ≡ true = grind (arith, nat_tests) in rw test refl
-
 -- THE LAST PIECE
 
 eq_of : (a b : ℕ) → nat_eq a b ≡ true → a ≡ b

@@ -181,9 +181,6 @@ module _ (t : Tables) (c : ℕ) (k : Consumer) where
   does_stored r why ranged lo hi None joined = nothing
   does_stored r why ranged lo hi (Some v) joined = shows r why _ lo hi joined
 
-  other_place : {A : Type 0} (p q : Place) → k.place ≡ p → k.place ≡ q → (p ≡ q → A) → A
-  other_place p q a b f = f (sym a ∙ b)
-
   does_answer : (x : ℕ) (w : Exchange) (o : Option Response) (n : Move) → Joined → shows_answer t x w o ≡ Some n → Does t c k n
   does_answer x w None n joined is = absurd (none_some n is)
   does_answer x w (Some response) n joined is = subst (Does t c k) (some_inj _ n is) (shows _ _ _ _ _ joined)

@@ -80,21 +80,6 @@ pub record IsOutside (t : Tables) (e : Entry) (r : ℕ) (v : Representation) (x 
   pub family_is : nat_eq (family x w) r ≡ false
   pub updates : updates t e r w v ≡ false
 
-module _ (t : Tables) (e : Entry) (r : ℕ) (v : Representation) (x : ℕ) (w : Exchange) (row : t.exchange x ≡ Some w) (out : IsOutside t e r v x w) where
-  head_outside : (y : ℕ) (response : Response) (o : Option Exchange) → o ≡ Some w → representation_after_head t e r y response o v ≡ v
-  head_outside y response None is = refl
-  head_outside y response (Some u) is = let off : updates t e r u v ≡ false = ap (λ (z : Exchange). updates t e r z v) (some_inj u w is) ∙ out.updates in rw off refl
-
-  piece_outside : (y : ℕ) (bytes : List ℕ) (o : Option Exchange) → Some y ≡ Some x → o ≡ Some w → representation_after_piece e r y bytes o v ≡ v
-  piece_outside y bytes None same is = refl
-  piece_outside y bytes (Some u) same is = let off : nat_eq (family y u) r ≡ false = ap₂ (λ (z : ℕ) (q : Exchange). nat_eq (family z q) r) (some_inj y x same) (some_inj u w is) ∙ out.family_is in rw off refl
-
-  pub representation_unheard : (ev : Event) → exchange_in ev ≡ Some x → representation_heard t e r ev v ≡ v
-  representation_unheard (event.Head y response) is = head_outside y response (t.exchange y) (ap t.exchange (some_inj y x is) ∙ row)
-  representation_unheard (event.Piece y bytes) is = piece_outside y bytes (t.exchange y) is (ap t.exchange (some_inj y x is) ∙ row)
-  representation_unheard (event.End y) is = let off : nat_eq y r ≡ false = ap (λ n. nat_eq n r) (some_inj y x is) ∙ out.number in rw off refl
-  representation_unheard _ is = refl
-
 -- it stays, or becomes gone
 pub representation_frame : (t : Tables) (e : Entry) (r : ℕ) (v : Representation) → representation_heard t e r e.event v ≡ v → loses_in r e.acts ≡ false
     → representation_after t e r (Some v) ≡ Some (if becomes_gone t e r v then as_gone v else v)
@@ -118,9 +103,6 @@ representation_absent t e r none = none
 -- no writing that it reads with others is lost
 abbrev pub IsSpared : Tables → Entry → Place → Type 0
 IsSpared t e p = (r lo : ℕ) (hi : Option ℕ) (how : BoundBy) (v : Representation) → p ≡ place.Bound r lo hi how → t.representation r ≡ Some v → loses_writing t e r v ≡ false
-
-pub spared_lossless : (t : Tables) (e : Entry) (p : Place) → ((r : ℕ) → loses_in r e.acts ≡ false) → IsSpared t e p
-spared_lossless t e p lossless = λ r lo hi how v at row. and_false (brings_body e.event && loses_in r e.acts) (is_written t v) (then_false (brings_body e.event) (loses_in r e.acts) (lossless r))
 
 pub spared_bodiless : (t : Tables) (e : Entry) (p : Place) → brings_body e.event ≡ false → IsSpared t e p
 spared_bodiless t e p bodiless = λ r lo hi how v at row. and_false (brings_body e.event && loses_in r e.acts) (is_written t v) (and_false (brings_body e.event) (loses_in r e.acts) bodiless)
@@ -222,14 +204,6 @@ pub apart_piece : (t : Tables) (now x : ℕ) (bytes : List ℕ) (acts : List Act
 unfolding case_of
 apart_piece t now x bytes acts c k = record { heard = refl; stops = stop_none t (record { now = now; event = event.Piece x bytes; acts = acts }) k refl; heads = refl; sends = refl }
 
-pub apart_doom : (t : Tables) (now : ℕ) (key : Key) (acts : List Act) (c : ℕ) (k : Consumer) → IsApart t (record { now = now; event = event.Doom key; acts = acts }) c k
-unfolding case_of
-apart_doom t now key acts c k = record { heard = refl; stops = stop_none t (record { now = now; event = event.Doom key; acts = acts }) k refl; heads = refl; sends = refl }
-
-pub apart_end : (t : Tables) (now x : ℕ) (acts : List Act) (c : ℕ) (k : Consumer) → cause_of_stop t (record { now = now; event = event.End x; acts = acts }) k ≡ None → IsApart t (record { now = now; event = event.End x; acts = acts }) c k
-unfolding case_of
-apart_end t now x acts c k unstopped = record { heard = refl; stops = unstopped; heads = refl; sends = refl }
-
 -- no failure becomes due by the loss of a writing that it doesn't read
 pub loss_spared : (t : Tables) (e : Entry) (c : ℕ) (p : Place) → IsSpared t e p → cause_of_loss t e c p ≡ None
 loss_spared t e c (place.Bound r lo hi how) spared = by_row (t.representation r) refl
@@ -277,11 +251,6 @@ module _ (t : Tables) (e : Entry) (c : ℕ) (k : Consumer) (said : IsFarFrom c e
   pub consumer_stays : becomes_due t e c k ≡ None → (reads k.place ≡ false → k.due ≡ None) → starts_over t e c k ≡ false → consumer_after t e c (Some k) ≡ Some k
   consumer_stays undue idle goes_on = consumer_frame undue idle ∙ rw goes_on refl
 
-  pub consumer_goes_back : starts_over t e c k ≡ true → consumer_after t e c (Some k) ≡ Some (back_in_line e.now k)
-  unfolding consumer_after
-  consumer_goes_back over =
-      ap Some (ap (consumer_settled t e c k) (ap (consumer_acted t e c) heard ∙ acted_stays) ∙ rw over refl)
-
 -- whom nothing is said of stays, or starts over exactly where its key is doomed while it waits, or what it waits for becomes gone
 pub consumer_apart : (t : Tables) (e : Entry) (c : ℕ) (k : Consumer) → IsFarFrom c e.acts → IsSpared t e k.place → IsApart t e c k → (reads k.place ≡ false → k.due ≡ None)
     → consumer_after t e c (Some k) ≡ Some (if (is_key (doomed_key_of t e) k.request.key && waits_at t k.place) || goes_from t e k.place then back_in_line e.now k else k)
@@ -294,17 +263,6 @@ unfolding consumer_after
 consumer_absent t e c none = none
 
 -- LISTS
-
--- nothing is founded, nor is anyone bound
-pub founds_nothing : (t : Tables) (e : Entry) → is_founding (case_at t e) ≡ false → founds t e ≡ None
-founds_nothing t e off = rw off refl
-
-pub opens_nothing : (t : Tables) (e : Entry) → opening_in e.acts ≡ None → (opened_after (opening_in e.acts) t.opened ≡ t.opened) × (openings_after (opening_in e.acts) t.openings ≡ t.openings)
-opens_nothing t e none = (ap (λ (o : Option Opening). opened_after o t.opened) none, ap (λ (o : Option Opening). openings_after o t.openings) none)
-
-pub starts_nobody : (x : ℕ) (ev : Event) (cs : List ℕ) → exchange_in ev ≡ Some x → starts_after ev cs ≡ cs
-starts_nobody x (event.Start c request) cs is = absurd (none_some x is)
-starts_nobody x _ cs is = refl
 
 pub binds_nobody : (t : Tables) (e : Entry) → is_founding (case_at t e) ≡ false → opening_in e.acts ≡ None → showing_in e.acts ≡ None → binds t e ≡ None
 binds_nobody t e off opens shows = rw (off, opens, shows) refl

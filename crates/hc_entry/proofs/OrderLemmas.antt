@@ -47,17 +47,6 @@ gone c cs = rw (has-without itself c c cs, eq-eqb c c refl) refl
 pub gone-from : (c : ℕ) (l : Line) → is_in c (apart c l) ≡ false
 gone-from c l = none-in c (apart c l) (gone c l.in_line) (gone c l.passed) (gone c l.away)
 
-pub orderly-nobody : IsOrderly nobody
-orderly-nobody = record {
-  in_line = refl;
-  passed = refl;
-  away = refl;
-  in_line_or_passed = λ c is. refl;
-  in_line_or_away = λ c is. refl;
-  passed_or_away = λ c is. refl;
-  holder = refl;
-}
-
 pub orderly-apart : (c : ℕ) (l : Line) → IsOrderly l → IsOrderly (apart c l)
 orderly-apart c l o = record {
   in_line = is_sorted-filter itself (λ (x : ℕ). not (numbered itself c x)) l.in_line o.in_line;
@@ -247,15 +236,6 @@ in-some c l is = ne_eqb (length l.in_line + length l.passed + length l.away) 0 (
     let out = none-in c l a b d in
     absurd (cc)) where
       none : (cs : List ℕ) → length cs ≡ 0 → is_among c cs ≡ false
-      none [] e = refl
-      none (d ∷ ds) e = absurd (omega arith)
-
--- an empty line has nobody
-pub empty-lists : (l : Line) → is_empty l ≡ true → (l.in_line ≡ []) × (l.passed ≡ []) × (l.away ≡ [])
-empty-lists l e =
-    let h : length l.in_line + length l.passed + length l.away ≡ 0 = eqb-true (length l.in_line + length l.passed + length l.away) 0 e in
-    (none l.in_line (omega arith), none l.passed (omega arith), none l.away (omega arith)) where
-      none : (cs : List ℕ) → length cs ≡ 0 → cs ≡ []
       none [] e = refl
       none (d ∷ ds) e = absurd (omega arith)
 

@@ -74,23 +74,6 @@ module _ (nodes : List (Option ℕ)) (played : IsPlayed nodes) where
         ];
   }
 
--- no places, no number
-pub none-wins : (numbers : List (Option ℕ)) → length numbers ≡ 0 → IsLeastAt None numbers
-none-wins numbers empty = record {
-  there = λ n is. absurd (cc);
-  none_lower = λ k n has. let none = get_or_past numbers k None (omega arith) in absurd (cc);
-}
-
--- another number at a node leaves one round to play
-pub set-open : (nodes : List (Option ℕ)) (node : ℕ) (number : Option ℕ) → length nodes ≤ node + node → IsPlayed nodes → IsPlayedBut (node / 2) (set nodes node number)
-set-open nodes node number leaf played i some within off =
-    let size = length-set nodes node number in
-    let before = played i some (omega arith) (omega arith) in
-    get_or-set_other nodes node i number None (omega arith)
-    ∙ (before
-    ∙ sym (ap (λ (o : Option ℕ). lesser_of o (at (set nodes node number) (i + i + 1))) (get_or-set_other nodes node (i + i) number None (omega arith))
-    ∙ ap (lesser_of (at nodes (i + i))) (get_or-set_other nodes node (i + i + 1) number None (omega arith))))
-
 -- a round that is played leaves the one above it
 pub round-open : (nodes : List (Option ℕ)) (below node : ℕ) → node ≡ below / 2 → 1 ≤ node → node + node + 1 < length nodes → IsPlayedBut (below / 2) nodes
     → IsPlayedBut (node / 2) (set nodes node (lesser_of (at nodes (2 * node)) (at nodes (2 * node + 1))))

@@ -84,10 +84,6 @@ module _ (way : BoundKind) where
   all-same other [] same = refl
   all-same other (c ∷ cs) same = rw (same, all-same other cs same) refl
 
-  pub none-map : (cs : List ℕ) → map (bound_as way) cs ≡ [] → cs ≡ []
-  none-map [] none = refl
-  none-map (c ∷ cs) none = absurd (cc)
-
 same_kind : (v w : BoundKind) → is_same_kind v w ≡ true → v ≡ w
 same_kind kind.Shared kind.Shared is = refl
 same_kind kind.Exclusive kind.Exclusive is = refl

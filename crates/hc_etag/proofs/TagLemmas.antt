@@ -149,15 +149,6 @@ read_tag text read rest b after weak opaque left e no_b no_c is_opaque rest_is s
   place = so_far.place ∙ ap (λ (l : List ℕ). so_far.before ++ l) rest_is ∙ sym (append_assoc so_far.before (tag_text weak opaque) left);
 }
 
--- no tag may come here
-pub read_none : (text : List ℕ) (read : List (Bool × List ℕ)) (may_come : Bool) (rest : List ℕ) (b : ℕ) (after : List ℕ)
-    → rest ≡ b ∷ after → is_blank b ≡ false → b ≢ comma → (may_come ≡ true → ¬ (BeginsTag rest))
-    → IsReadUpTo text read may_come rest → (all : List (Bool × List ℕ)) → ¬ (SpellsTags true text all)
-read_none text read may_come rest b after e no_b no_c barred so_far all spelled =
-    let d = so_far.down all spelled in
-    let f = at_tag may_come b after d.0 no_b no_c (subst (λ (l : List ℕ). SpellsTags may_come l d.0) e d.1) in
-    barred f.0 (f.1.weak, f.1.opaque, f.1.rest, f.1.is_opaque, e ∙ f.1.text_is)
-
 -- the whole text is read
 pub read_end : (text : List ℕ) (read : List (Bool × List ℕ)) (may_come : Bool) → IsReadUpTo text read may_come []
     → SpellsTags true text read × ((all : List (Bool × List ℕ)) → SpellsTags true text all → read ≡ all)

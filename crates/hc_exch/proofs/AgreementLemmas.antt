@@ -41,9 +41,6 @@ agrees-leaves x w t h none =
     agrees-at x w (leaves x w) t h (λ y ne. without-other x y w.wanted ne) (λ y ne. without-other x y w.idle ne)
     (without-same x w.wanted ∙ sym (ap is_wanted none)) (without-same x w.idle ∙ sym (ap is_idle none))
 
-idle-not : (o : Open) → is_idle (Some o) ≡ not (is_wanted (Some o))
-idle-not o = refl
-
 pub agrees-asks : (x : ℕ) (w : Wished) (t : Table) (o : Open) → AgreesBut x w t → (t x).running ≡ Some o → is_wanted (Some o) ≡ true → Agrees (asks x w) t
 agrees-asks x w t o h is on =
     agrees-at x w (asks x w) t h (λ y ne. with-other x y w.wanted ne) (λ y ne. without-other x y w.idle ne)
@@ -63,11 +60,6 @@ agrees-wanted x w t o h is on not_idle =
     ])
     (not_idle ∙ sym (ap is_idle is ∙ ap not on))
 
-pub agrees-idle : (x : ℕ) (w : Wished) (t : Table) (o : Open) → AgreesBut x w t → (t x).running ≡ Some o → is_wanted (Some o) ≡ false → is_among x w.wanted ≡ false → Agrees w t
-agrees-idle x w t o h is off not_wanted =
-    agrees-at x w w t h (λ y ne. refl) (λ y ne. refl)
-    (not_wanted ∙ sym (ap is_wanted is ∙ off)) (h.there (ap is_some is) not_wanted ∙ sym (ap is_idle is ∙ ap not off))
-
 pub agrees-same : (w : Wished) (t u : Table) → ((y : ℕ) → u y ≡ t y) → Agrees w t → Agrees w u
 agrees-same w t u same h =
     record { wanted = λ y. h.wanted y ∙ ap (λ (k : Known). is_wanted k.running) (sym (same y)); idle = λ y. h.idle y ∙ ap (λ (k : Known). is_idle k.running) (sym (same y)) }
@@ -85,18 +77,6 @@ changes-other f x t u change y ne = let off : eqb x y ≡ false = ne_eqb x y (λ
 
 pub changes-same : (f : Known → Known) (x : ℕ) (t u : Table) → Changes f x t u → u x ≡ f (t x)
 changes-same f x t u change = let on : eqb x x ≡ true = eq-eqb x x refl in rw on at (change x)
-
--- one changes, which is open or stays as it is
-pub agrees_but : (f : Known → Known) (x : ℕ) (w : Wished) (t u : Table) → Agrees w t → Changes f x t u → (is_some (f (t x)).running ≡ true → is_some (t x).running ≡ true) → AgreesBut x w u
-agrees_but f x w t u h change was =
-    record {
-      wanted = λ y ne. h.wanted y ∙ ap (λ (k : Known). is_wanted k.running) (sym (changes-other f x t u change y ne));
-      idle = λ y ne. h.idle y ∙ ap (λ (k : Known). is_idle k.running) (sym (changes-other f x t u change y ne));
-      once = λ on. h.idle x ∙ once (t x).running (sym (h.wanted x) ∙ on);
-      there = λ some off.
-          let is = changes-same f x t u change in
-          h.idle x ∙ there (t x).running (was (ap (λ (k : Known). is_some k.running) (sym is) ∙ some)) (sym (h.wanted x) ∙ off);
-    }
 
 -- a number that is still to come stands in the list of the wanted ones
 pub agrees_but-new : (x : ℕ) (w : Wished) (t u : Table) → Agrees w t → t x ≡ unknown → ((y : ℕ) → y ≢ x → u y ≡ t y) → AgreesBut x (wants_more x w) u

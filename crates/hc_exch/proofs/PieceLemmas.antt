@@ -96,14 +96,3 @@ IsCounted-take pieces now read left count next taken h few took =
     let front = took.front in
     let whole = first-joined now in
     record { all = omega arith; front = front }
-
--- a whole piece is taken
-pub takes-piece : (pieces now : List (List ℕ)) (piece : List ℕ) (read count : ℕ) → read ≡ 0 → pieces ≡ piece ∷ now → first_length pieces ≡ count
-    → TakesFront count (drop read (bytes_of_pieces pieces)) now piece 0
-takes-piece pieces now piece read count none is len =
-    let size : length piece ≡ count = ap first_length (sym is) ∙ len in
-    record {
-      bytes = rw (none, is) (taken_is piece (bytes_of_pieces now) (piece ++ bytes_of_pieces now) count refl size);
-      rest = rw (none, is) (rest_is piece (bytes_of_pieces now) (piece ++ bytes_of_pieces now) count refl size);
-      front = omega arith;
-    }

@@ -213,17 +213,6 @@ module _ (f : Cells) (ahead : Ahead) (written at : ℕ) (bytes : List ℕ) (k : 
         },
       )
 
-  pub nothing_on : length bytes ≤ written - at → (text : List ℕ) → Keeps ahead written f × Appends f written written text text
-  nothing_on none text =
-      let begins = k.begins in (
-        record {
-          covers = k.covers;
-          stand = k.stand;
-          all = λ p cell le there. elim (k.all p cell le there) [ inl it ↦ it | inr here ↦ let past = here.1 in absurd (omega arith) ];
-        },
-        appends_none f written text,
-      )
-
 -- WHAT IS NEXT
 
 pub taken : (f : Cells) (ahead after : Ahead) (written at : ℕ) (bytes : List ℕ) → Keeps ahead written f → at ≤ written → get nat_cmp ahead at ≡ Some bytes → Updates nat_cmp ahead after at None → KeepsBut after written f at bytes

@@ -168,17 +168,6 @@ takes_shown s u c r why status fields lo hi text decides sees = record {
 pub data IsOther : Act → Type 0 where
   other : (a : Act) → heads_in (a ∷ []) ≡ [] → ends_in 1 (a ∷ []) ≡ false → ((g : Cells) → gathered_in (a ∷ []) g ≡ g) → IsOther a
 
-pub takes_other : (s : Fetching) (a : Act) (text : List ℕ) → IsOther a → Takes s s (a ∷ []) text text None None
-takes_other s a text (other _ heads ends gathered) = record {
-  others = record { plan = refl; cache = refl; moment = refl; count = refl; decided = refl };
-  decides = λ first is. ap (λ (l : List Head). by_heads s.plan first l) (sym heads);
-  first = λ first is. is ∙ ap first_as (sym (or_none first) ∙ ap (λ (l : List Head). option_or first (first_in l)) (sym heads));
-  stays = λ some. refl;
-  ended = sym (or_false s.has_ended) ∙ ap (λ (b : Bool). s.has_ended || b) (sym ends);
-  keeps = λ g k fit. subst (λ (f : Cells). KeepsAll s.gathered.ahead s.gathered.written f) (sym (gathered g)) k;
-  text = λ g k fit. subst (λ (f : Cells). Appends f s.gathered.written s.gathered.written text text) (sym (gathered g)) (appends_none g s.gathered.written text);
-}
-
 pub is_other : (a : Act) → ((c r : ℕ) (why : Why) (status : ℕ) (fields : List (List ℕ × List ℕ)) (lo : ℕ) (hi : Option ℕ) → a ≡ act.Shown c r why status fields lo hi → ⊥)
     → ((c x at : ℕ) (bytes : List ℕ) → a ≡ act.Given c x at bytes → ⊥) → ((c : ℕ) → a ≡ act.Ended c → ⊥) → IsOther a
 is_other (act.Shown c r why status fields lo hi) shown given ended = absurd (shown c r why status fields lo hi refl)

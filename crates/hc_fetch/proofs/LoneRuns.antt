@@ -212,9 +212,6 @@ behind_is z _ (said.opens x n request is) = ap is_for_others is
 head_response : (x y : ℕ) (response other : Response) → event.Head x response ≡ event.Head y other → response ≡ other
 head_response x y response other is = cc
 
-head_number : (x y : ℕ) (response other : Response) → event.Head x response ≡ event.Head y other → x ≡ y
-head_number x y response other is = cc
-
 -- nothing is founded but by the head of an exchange that is there
 unfounded_head : (t : Tables) (e : Entry) (x : ℕ) (response : Response) → e.event ≡ event.Head x response → t.exchange x ≡ None → is_founding (case_at t e) ≡ false
 unfolding case_of

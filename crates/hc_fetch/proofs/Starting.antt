@@ -107,17 +107,6 @@ others_on s t u one two = record {
   limits = two.limits ∙ one.limits;
 }
 
-pub starts_none : (s : Fetching) (now total count : ℕ) → last_moment s.cache ≡ now → StartsOn s s now total count 2
-starts_none s now total count moment = record {
-  rest = record { plan = refl; moment = refl; count = refl; first = refl; ended = refl; gathered = refl; decided = refl; limits = refl };
-  some = omega arith;
-  within = omega arith;
-  stands = λ h stands has. stands;
-  moment = moment;
-  received = refl;
-  few = omega arith;
-}
-
 -- one more starts
 pub starts_next : (s t u : Fetching) (now total count part : ℕ) (acts : List Act) → StartsOn s t now total count part → part < count + 1 → count ≤ 1000 → KeepsRest t u → Answers t.cache u.cache now (part_start s.plan total part) acts → failures_in acts ≡ 0
     → last_moment u.cache ≡ now → bytes_received u.cache ≡ bytes_received t.cache → StartsOn s u now total count (part + 1)
@@ -192,18 +181,6 @@ begins_one s u now acts one few rest answered sound moment received = record {
   moment = omega (arith, moment);
   received = received;
   few = (let none = few.1 in let number = answered.number in let least = least_allowed s.first in (omega (arith, none, number, least, one), omega (arith, none, number, one)));
-}
-
--- the event is answered behind that
-pub steps_more : (s t u : Fetching) (now : ℕ) (event : Event) (acts : List Act) → Begins s t now → KeepsRest t u → Answers t.cache u.cache now event acts → failures_in acts ≡ 0
-    → last_moment u.cache ≡ now → bytes_received u.cache ≡ bytes_received t.cache + received_in event → Steps s u now event acts
-steps_more s t u now event acts begun rest answered sound moment received = record {
-  rest = others_on s t u begun.rest rest;
-  stands = λ f behind. answered.stands no_contents (started s.plan now (cache_history s.plan f)) (begun.stands f behind);
-  sound = sound;
-  moment = moment;
-  received = (let before = begun.received in omega (arith, received, before));
-  few = (let few = begun.few in let one = few.0 in let two = few.1 in let number = answered.number in (omega (arith, one, number), omega (arith, two, number)));
 }
 
 -- COUNTS

@@ -90,11 +90,6 @@ IsKept-put text marks size name value at new_text new_marks in_order new_order k
           text-put text marks (lowercase name) value at at new_text new_marks lines is both.1 (omega arith) (kept.text_is both.0);
     }
 
--- what was tested with the count and the size holds of the list
-pub IsAllowed-kept : (text : List ℕ) (marks : List Mark) (count size : ℕ) (name value : List ℕ) (in_order : Bool) → IsKept text marks size in_order → count ≡ length marks → HasPlace count size name value → IsAllowed (fields_at text marks) name value
-IsAllowed-kept text marks count size name value in_order kept count_is h =
-    rw (length-fields_at text marks, ← count_is, ← kept.size_is) h
-
 -- the fields of a name, as a part of the list
 pub fields_at-named : (text : List ℕ) (marks : List Mark) (name : List ℕ) (start end : ℕ) → is_sorted (fields_at text marks) ≡ true → start ≡ start_of name (fields_at text marks) → end ≡ end_of name (fields_at text marks) → fields_at text (take (end - start) (drop start marks)) ≡ filter (has_name name) (fields_at text marks)
 fields_at-named text marks name start end sorted start_is end_is =

@@ -9,10 +9,6 @@ use Rattle.hc_fields.specs.Lines.{field_text}
 use Rattle.hc_fields.specs.Marks.{field_at, fields_at, mark_of, IsLineAt, IsPacked}
 use Rattle.hc_fields.proofs.LineLemmas.{fields_text-push}
 
-pub length-range : (text : List ℕ) (i j : ℕ) → i ≤ j → j ≤ length text → length (slice_range text i j) ≡ j - i
-length-range text i j order within =
-    length-take-le (j - i) (drop i text) (omega (arith, length-drop i text))
-
 -- a range of a text stays where the text grows
 pub range-grown : (text more : List ℕ) (i j : ℕ) → i ≤ j → j ≤ length text → slice_range (text ++ more) i j ≡ slice_range text i j
 range-grown text more i j order within =

@@ -26,10 +26,6 @@ abbrev pub IsAscending : (Pair → Bool) → List Pair → Type 0
 IsAscending test fs =
     (i j : ℕ) → i ≤ j → j < length fs → test (get_or fs j ([], [])) ≡ false → test (get_or fs i ([], [])) ≡ false
 
-pub searched_none : (test : Pair → Bool) (fs : List Pair) (high : ℕ) → high ≡ length fs → Searched test fs 0 high
-searched_none test fs high is =
-    record { order = omega arith; within = omega arith; fails = λ k lt. absurd (omega arith); passes = λ k le lt. absurd (omega arith) }
-
 pub searched_right : (test : Pair → Bool) (fs : List Pair) (low middle high : ℕ) → IsAscending test fs → Searched test fs low high → middle < high → test (get_or fs middle ([], [])) ≡ false → Searched test fs (middle + 1) high
 searched_right test fs low middle high ascending s lt here =
     let within = s.within in

@@ -38,21 +38,6 @@ leaves_in-any c (act.Lost r kind ∷ acts) = leaves_in-any c acts
 leaves_in-any c (act.Evicted r ∷ acts) = leaves_in-any c acts
 leaves_in-any c (act.Denied refusal ∷ acts) = leaves_in-any c acts
 
--- an act that opens nothing is passed over
-pub opening_in-skips : (a : Act) (acts : List Act) → ((x c : ℕ) (need : Need) (request : Request) → a ≡ act.Opened x c need request → ⊥)
-    → opening_in (a ∷ acts) ≡ opening_in acts
-opening_in-skips (act.Opened y c need request) acts not = absurd (not y c need request refl)
-opening_in-skips (act.Ask y) acts not = refl
-opening_in-skips (act.Close y) acts not = refl
-opening_in-skips (act.Shown c r why status fields lo hi) acts not = refl
-opening_in-skips (act.Given c y at bytes) acts not = refl
-opening_in-skips (act.Ended c) acts not = refl
-opening_in-skips (act.Failed c cause) acts not = refl
-opening_in-skips (act.Pending c wait) acts not = refl
-opening_in-skips (act.Lost r kind) acts not = refl
-opening_in-skips (act.Evicted r) acts not = refl
-opening_in-skips (act.Denied refusal) acts not = refl
-
 -- those of which no act says so
 pub still_open-any : (acts : List Act) (exchanges : List Exchange) → filter (λ (e : Exchange). not (list_any (closes e.x) acts)) exchanges ≡ still_open acts exchanges
 still_open-any acts [] = refl

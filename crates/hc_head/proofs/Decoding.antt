@@ -27,9 +27,6 @@ version_plain zero h = refl
 version_plain (suc zero) h = refl
 version_plain (suc (suc n)) h = absurd (omega arith)
 
-some_line : (b : ℕ) (text : List ℕ) (end : LineEnd) → is_empty (record { text = b ∷ text; end = end }) ≡ false
-some_line b text end = ne_eqb (length (b ∷ text)) 0 (omega arith)
-
 word_line : (word rest : List ℕ) (end : LineEnd) → 0 < length word → is_empty (record { text = word ++ rest; end = end }) ≡ false
 word_line word rest end some = ne_eqb (length (word ++ rest)) 0 (λ e. omega (arith, e, length-append word rest))
 

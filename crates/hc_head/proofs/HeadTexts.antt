@@ -35,9 +35,6 @@ token_all f h = list_all-from_AllPass is_token_byte f.name h.name.1
 value_all : (f : Field) → IsField f → list_all is_value_byte f.raw ≡ true
 value_all f h = list_all-from_AllPass is_value_byte f.raw h.raw
 
-token_not : (c : ℕ) → is_token_byte c ≡ false → (bytes : List ℕ) → list_all is_token_byte bytes ≡ true → list_all (is_not c) bytes ≡ true
-token_not c lacks bytes h = all_not is_token_byte c lacks bytes h
-
 pub token_plain : (bytes : List ℕ) → list_all is_token_byte bytes ≡ true → list_all is_plain bytes ≡ true
 unfolding is_token_byte
 token_plain bytes h = all_plain is_token_byte refl refl bytes h

@@ -15,15 +15,6 @@ scan_all-append scan (x ∷ xs) ys = scan_all-append (scan_byte scan x) xs ys
 pub not_equal : (b c : ℕ) → not (b == c) ≡ true → (b == c) ≡ false
 not_equal b c h = elim (cases_Bool (b == c)) [ inl hit ↦ (let e : false ≡ true = rw hit at h in cc) | inr miss ↦ miss ]
 
--- a byte that ends no line keeps the search open
-pub open_byte : (scan : Scan) (b : ℕ) → is_open scan ≡ true → (b == 10) ≡ false → is_open (scan_byte scan b) ≡ true
-open_byte Before b h miss = elim (cases_Bool (b == 13)) [ inl hit ↦ rw (miss, hit) refl | inr other ↦ rw (miss, other) refl ]
-open_byte BeforeReturn b h miss = rw miss refl
-open_byte Within b h miss = rw miss refl
-open_byte Beginning b h miss = elim (cases_Bool (b == 13)) [ inl hit ↦ rw (miss, hit) refl | inr other ↦ rw (miss, other) refl ]
-open_byte BeginningReturn b h miss = rw miss refl
-open_byte Ended b h miss = cc
-
 -- it leads into the line, where it is no carriage return at its beginning
 within_byte : (b : ℕ) → (b == 10) ≡ false → scan_byte Within b ≡ Within
 within_byte b miss = rw miss refl
@@ -58,9 +49,6 @@ pub record Passed (scan : Scan) (bytes : List ℕ) (used : ℕ) (next : Scan) (r
   pub len : used ≡ length front
   pub leads : next ≡ scan_all scan front
   pub still_open : is_open next ≡ true
-
-pub Passed-none : (scan : Scan) (bytes : List ℕ) → is_open scan ≡ true → Passed scan bytes 0 scan bytes
-Passed-none scan bytes h = record { front = []; whole = refl; len = refl; leads = refl; still_open = h }
 
 closed : (scan : Scan) → is_open scan ≡ false → scan ≡ Ended
 closed Before h = cc

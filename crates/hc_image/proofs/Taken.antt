@@ -16,11 +16,6 @@ number_taken e old new text None below lacking is found none = λ n after small 
 number_taken e old new text (Some n) below lacking is found none =
     (found.0, append_assoc (decimal n) (e ∷ []) new ∙ (ap (λ (l : List ℕ). l ++ e ∷ new) (sym found.1) ∙ is))
 
--- a text that is too short for so many bytes and a line feed
-pub no_block : (count : ℕ) (text bytes after : List ℕ) → length text ≤ count → length bytes ≡ count → bytes ++ 10 ∷ after ≢ text
-no_block count text bytes after short len same =
-    omega (arith, short, len, ap length same, length-append bytes (10 ∷ after))
-
 -- a text in which another byte, or none, stands behind so many
 pub no_end : (count : ℕ) (text bytes after : List ℕ) → length bytes ≡ count → bytes ++ 10 ∷ after ≡ text → drop count text ≡ 10 ∷ after
 no_end count text bytes after len same = ap (drop count) (sym same) ∙ drop_at bytes (10 ∷ after) count len

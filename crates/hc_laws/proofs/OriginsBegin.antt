@@ -73,12 +73,6 @@ module _ (limits : Limits) (contents : Contents) where
         alone = not_true (list_any (of_number a.run.x) later) (and_right _ _ a.passes);
       })
 
-  row_fresh : (x : ℕ) (earlier : List Content) (item : Content) (later : List Content) → is_good limits contents earlier item later ≡ true → item.r ≡ x → list_any (says x) earlier ≡ false
-  row_fresh x earlier item later good same =
-      let two = and_left _ _ (and_left _ _ (and_left _ _ (and_left _ _ good))) in
-      let own : (is_given_out contents item.r && not (list_any (says item.r) earlier)) ≡ true = and_left _ _ (and_right _ _ two) in
-      rw (← same) (not_true (list_any (says item.r) earlier) (and_right _ _ own))
-
   -- an item says a number: as that of its representation, or of a run
   says_run : (x : ℕ) (item : Content) → has_run x item ≡ true → says x item ≡ true
   says_run x item has = or_right (of_number x item) (has_run x item) has

@@ -113,10 +113,6 @@ stands_bare x k _ (laws.later r lo hi how at on) = subst KeptNone (sym at) tt
 
 -- WHO WAITS FOR OTHERS
 
-abbrev wait_of : Move → Option Wait
-wait_of (moves.Waits z) = Some z
-wait_of _ = None
-
 abbrev is_turn : Move → Bool
 is_turn (moves.Waits (wait.Turn d)) = true
 is_turn _ = false

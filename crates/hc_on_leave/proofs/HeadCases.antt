@@ -77,15 +77,6 @@ module _ (v : HeadView) (unselected : head_case (record v { selects = false }) �
   pub case_unselected : v.selects ≡ false → head_case v ≡ case.NotValidated
   case_unselected off = ap (λ (b : Bool). head_case (record v { selects = b })) off ∙ unselected
 
-  -- it is lost
-  pub case_lost : v.lost ≡ true → head_case v ≡ case.NotValidated
-  unfolding head_case
-  case_lost on = ap (λ (way : Route). case_on way v) it_is.0 ∙ (with_it v.selects (not v.lost) ∙ by_test v.selects)
-    where
-      by_test : (b : Bool) → (if b && not v.lost then case.Validated else case.NotValidated) ≡ case.NotValidated
-      by_test true = rw on refl
-      by_test false = refl
-
   -- and so it is where it is lost now
   pub case_lost_too : head_case (record v { lost = true }) ≡ case.NotValidated
   unfolding head_case

@@ -85,9 +85,6 @@ module _ (t : Tables) (law : Lawful t) (c q : ℕ) (v : Consumer) (row : t.consu
   going_is : (x n : ℕ) → HowLeft t c x v → going_with t (Some x) ≡ Some n → n ≡ q
   going_is x n how going = by_row (t.representation x) refl going
     where
-      row_of_it : (o : Option Exchange) → t.exchange x ≡ o → is_some o ≡ true → (w : Exchange) × (t.exchange x ≡ Some w)
-      row_of_it None is on = false_true on
-      row_of_it (Some w) is on = (w, is)
 
       there : IsAbout t q x → (w : Exchange) × (t.exchange x ≡ Some w)
       there (sound.headed z ex on headed of_q some) = (z, ex)

@@ -198,9 +198,6 @@ module _ {B : Type 0} {g : Ghosts B} {lim : Limits} (r mid put u : Rows B g) (t 
   pub mid_kept : is_kept (shelf_of mid.entries) q ≡ true
   mid_kept = ap (λ n. is_kept (shelf_of mid.entries) n) (sym it.of_q) ∙ ap (λ (o : Option Kept). is_some o) second.kept
 
-  pub mid_open : is_open x (table_of mid.exchanges) ≡ true
-  mid_open = ap (λ (o : Option Open). is_some o) runs.running
-
   pub mid_absent : (o : Open) → (table_of mid.exchanges x).running ≡ Some o → AreAbsent (cells_at (shelf_of mid.entries) q) (o.base + o.delivered) (o.base + o.delivered + length bytes)
   mid_absent o running p low high =
       let one : runs.o ≡ o = some_is runs.o o (sym runs.running ∙ running) in

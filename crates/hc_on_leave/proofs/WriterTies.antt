@@ -101,10 +101,6 @@ module _ {B : Type 0} {g : Ghosts B} {lim : Limits} (r : Rows B g) (t : Tables) 
     first_is : (c : ℕ) → e.first ≡ Some c → is_first t q (t.consumer c) ≡ true
     first_is c at = sym (is.first c) ∙ (ap (λ (o : Option ℕ). is_number o c) at ∙ eqb-same c)
 
-    -- nobody came alone
-    pub exclusive_none : e.first ≡ None → None ≡ exclusive t q p
-    exclusive_none none = none_by (exclusive t q p) refl (λ c at. (let on = first_on c (exclusive_parts t q c p at).first in let never : false ≡ true = rw none at on in cc))
-
     -- who came alone is there
     pub record IsAlone (c : ℕ) : Type 0 where
       pub v : rows.Consumer

@@ -61,8 +61,3 @@ fault_free g x none = none
 not_only : (b : Bool) → not b ≡ true → b ≡ false
 not_only false plain = refl
 not_only true plain = sym plain
-
--- a start that is built
-pub past_by_class : (request : Request) (class : RequestClass) → class ≡ class_of request → class.disabled ≡ true → not class.only ≡ true → (is_disabled request ≡ true) × (is_only request ≡ false)
-unfolding class_of
-past_by_class request class is disabled plain = (sym (ap (λ (z : RequestClass). z.disabled) is) ∙ disabled, sym (ap (λ (z : RequestClass). z.only) is) ∙ not_only class.only plain)

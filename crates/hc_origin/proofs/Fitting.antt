@@ -121,9 +121,6 @@ some_asked : {A : Type 0} (o : Option A) (x : A) → is_some o ≡ false → o �
 some_asked None x is some = cc
 some_asked (Some y) x is some = cc
 
-no_some : {A : Type 0} (o : Option A) → o ≡ None → is_some o ≡ false
-no_some o is = ap is_some is
-
 asks-right : (came : Came) (c : Taker) (n : ℕ) (reading : Reading) → IsAsking came c reading → StandsRight came (standing_of n c)
 asks-right came c n reading is =
     let none = waits-none came reading is.waits in record {

@@ -71,15 +71,3 @@ module _ (k : ℕ) (bytes : List ℕ) (before : Came) (log : Log) (asking new : 
 is_none : {A : Type 0} (o : Option A) → is_some o ≡ false → o ≡ None
 is_none None is = refl
 is_none (Some x) is = absurd (cc)
-
-the_some : {A : Type 0} (o : Option A) → is_some o ≡ true → (x : A) × (o ≡ Some x)
-the_some None is = absurd (cc)
-the_some (Some x) is = (x, refl)
-
-module _ (k : ℕ) (before : Came) (log : Log) (asking : ℕ → Option Reading) (owed : List Unsent) (hears : Hears k before (with_stop before) log asking owed) where
-  pub none-stops : is_some (asking k) ≡ false → Keeps log asking owed
-  none-stops none =
-      answered-kept k before (with_stop before) log asking asking owed (λ text is. answer-stop before text is) hears (is_none (asking k) none) (is_none (asking k) none) (λ j off. refl)
-
-  pub some-stops : is_some (asking k) ≡ true → Leaves k log asking owed
-  some-stops some = let is = the_some (asking k) some in stop-leaves k before log asking owed is.0 hears is.1

@@ -34,34 +34,10 @@ pub offers-false : (told mid : Option Log) (u v : Unsent) (b : Bool) → Offers 
 offers-false told mid u v true is off = absurd (cc)
 offers-false told mid u v false is off = is
 
--- before the first is offered what it lacks
-pub none-offered : (log : Log) (asking : ℕ → Option Reading) (left offered : List Unsent) → Keeps log asking left → offered ≡ [] → AreOffered asking left offered log
-none-offered log asking left offered keeps none = subst (λ (us : List Unsent). AreOffered asking left us log) (sym none)
-    (subst (λ (us : List Unsent). Keeps log asking us) (sym (append-nil left)) keeps, λ k. tt)
-
--- the last of those that are left is offered now
-pub next-offered : (log : Log) (asking : ℕ → Option Reading) (all left offered : List Unsent) (u : Unsent) → all ≡ left ++ u ∷ [] → AreOffered asking all offered log
-    → Keeps log asking (left ++ u ∷ offered)
-next-offered log asking all left offered u is kept =
-    subst (λ (us : List Unsent). Keeps log asking us) (append_assoc left (u ∷ []) offered)
-    (subst (λ (us : List Unsent). Keeps log asking (us ++ offered)) is kept.0)
-
--- once all were
-pub all-offered : (log : Log) (asking : ℕ → Option Reading) (left offered : List Unsent) → left ≡ [] → AreOffered asking left offered log → Rests log asking offered
-all-offered log asking left offered none kept = record {
-  keeps = subst (λ (us : List Unsent). Keeps log asking (us ++ offered)) none kept.0;
-  lacking = kept.1;
-}
-
 pub stops-offer : (tells : Bool) (origin : Origin) (log : Log) (told : Option Log) (stages : ℕ → Stage) (P : Stop → Type 0) (result : Result (Unit {0}) Stop) → IsErrAnd result P
     → GoesTo tells log told stages IsLog → OffersTo tells origin log told stages result
 stops-offer tells origin log told stages P (Ok done) stops is = absurd stops
 stops-offer tells origin log told stages P (Err e) stops is = is
-
-pub stops-send : (tells : Bool) (origin : Origin) (log : Log) (told : Option Log) (stages : ℕ → Stage) (P : Stop → Type 0) (result : Result (Unit {0}) Stop) → IsErrAnd result P
-    → GoesTo tells log told stages IsLog → SendsTo tells origin log told stages result
-stops-send tells origin log told stages P (Ok done) stops is = absurd stops
-stops-send tells origin log told stages P (Err e) stops is = is
 
 -- A TURN
 

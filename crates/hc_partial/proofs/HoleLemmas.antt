@@ -52,31 +52,9 @@ present_from-next f lo hi n le next = elim (cases_lt n hi) [
 pub present_from-none : (f : Cells) (lo hi : ℕ) → lo ≤ hi → IsNext f lo None → hi ≡ present_from f lo hi
 present_from-none f lo hi le next = present_from_is f lo hi hi le (omega arith) (λ k low high. next k low) (λ lt. absurd (omega arith))
 
--- a longer stretch
-pub Covers-join : (f : Cells) (lo middle hi : ℕ) → Covers f lo middle → Covers f middle hi → Covers f lo hi
-Covers-join f lo middle hi first rest k low high = elim (cases_lt k middle) [
-  | inl before ↦ first k low before
-  | inr after ↦ rest k after high
-]
-
 -- one position that isn't stored
 pub not_covered : (f : Cells) (lo hi : ℕ) → hi ≡ lo + 1 → (Covers f lo hi → ⊥) → is_some (f lo) ≡ true → ⊥
 not_covered f lo hi next off there = off (λ k low high. let same : lo ≡ k = omega arith in ap (λ (j : ℕ). is_some (f j)) (sym same) ∙ there)
-
--- what isn't covered in front isn't covered at all
-pub not_covered-front : (f : Cells) (lo middle hi : ℕ) → middle ≤ hi → (Covers f lo middle → ⊥) → Covers f lo hi → ⊥
-not_covered-front f lo middle hi le off all = off (λ k low high. all k low (omega arith))
-
-pub Covers-none : (f : Cells) (lo : ℕ) → Covers f lo lo
-Covers-none f lo k low high = absurd (omega arith)
-
--- a position is stored where it is the next one that is
-pub is_some-next : (f : Cells) (p : ℕ) (o : Option ℕ) → IsNext f p o → (o ≡ Some p → is_some (f p) ≡ true) × ((o ≡ Some p → ⊥) → is_some (f p) ≡ false)
-is_some-next f p None next = ((λ e. absurd (cc)), λ off. none-some (f p) (next p (omega arith)))
-is_some-next f p (Some n) next = (
-  (λ e. let same : n ≡ p = cc in ap (λ (j : ℕ). is_some (f j)) (sym same) ∙ next.1),
-  λ off. let ne : n ≢ p = λ e. off (ap Some e) in let le = next.0 in none-some (f p) (next.2 p (omega arith) (omega arith)),
-)
 
 -- the place where a stretch ends is in the interval
 first_place-low : (test : Option Cell → Bool) (f : Cells) (n p : ℕ) → (p ≤ first_place test f p n) × (first_place test f p n ≤ p + n)
@@ -85,10 +63,6 @@ first_place-low test f (suc n) p = elim (cases_Bool (test (f p))) [
   | inl here ↦ rw here (omega arith, omega arith)
   | inr off ↦ let h = first_place-low test f n (p + 1) in rw off (let low = h.0 in omega arith, let high = h.1 in omega arith)
 ]
-
-pub absent_from-within : (f : Cells) (lo hi : ℕ) → lo ≤ hi → (lo ≤ absent_from f lo hi) × (absent_from f lo hi ≤ hi)
-unfolding absent_from
-absent_from-within f lo hi le = let h = first_place-low is_none f (hi - lo) lo in (h.0, let high = h.1 in omega arith)
 
 pub first_hole-none : (f : Cells) (span : Span) (a : ℕ) → a ≡ absent_from f span.lo span.hi → span.hi ≤ a → None ≡ first_hole f span
 unfolding first_hole

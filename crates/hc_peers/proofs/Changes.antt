@@ -55,10 +55,6 @@ at-each P k here apart q = elim (cases_Bool (eqb q k)) [
   | inr off ↦ apart q (eqb-false q k off)
 ]
 
--- an insertion, whether or not memory was refused
-pub tree-unchanged : {X : Type 0} (m n : BTreeMap ℕ X) → tree.IsUnchanged m n → (q : ℕ) → tree.get nat_cmp n q ≡ tree.get nat_cmp m q
-tree-unchanged m n same q = ap (lookup (is_at (nat_cmp q))) same
-
 pub hash-unchanged : {X S : Type 0} (m n : HashMap ℕ X S) → hash.IsUnchanged m n → (q : ℕ) → hash.get nat_eq n q ≡ hash.get nat_eq m q
 hash-unchanged m n same q = ap (lookup (nat_eq q)) same
 

@@ -278,17 +278,9 @@ pub acts_keep : (acts : List Act) (p : Proxy) → AreFound acts p → AreOver ac
 acts_keep [] p found over h = h
 acts_keep (a ∷ acts) p found over h = acts_keep acts (carried_out a p) found.1 (over_later a acts p over) (act_keeps a acts p found.0 over h)
 
--- Behind a turn each consumer that a client waits for is live.
-pub carried_holds : (p : Proxy) → AreFound (acts_in p.part) p → AreOver (acts_in p.part) p → HasConsumers p → HeldBy [] (carried p)
-unfolding carried
-carried_holds p found over h = acts_keep (acts_in p.part) p found over (held_of p h)
-
 pub all_live : (p : Proxy) → HeldBy [] p → (k c : ℕ) → IsHolder p k c → is_live (p.tables.consumer c) ≡ true
 all_live p h k c w = elim (h.alive k c w) as (λ _. is_live (p.tables.consumer c) ≡ true) [ inl on ↦ on | inr leaves ↦ absurd (let never : false ≡ true = leaves in cc) ]
 
 -- so it is between turns
 pub rests_of : (p : Proxy) → HeldBy [] p → HasConsumers p
 rests_of p h = record { held = h.held; started = h.started; live = h.live; alive = λ k c w. inl (all_live p h k c w); idle = h.idle }
-
-pub held_at_rest : (p : Proxy) → HasConsumers p → ((k c : ℕ) → IsHolder p k c → is_live (p.tables.consumer c) ≡ true) → HeldBy [] p
-held_at_rest p h lives = record { held = h.held; started = h.started; live = h.live; alive = λ k c w. inl (lives k c w); idle = h.idle }

@@ -198,14 +198,6 @@ one_found (a ∷ acts) p k c is w = by_told (told_to a) refl (one_found acts (ca
         let first = one_rest c a (tellings acts) rest in
         (λ b sent. (k, subst (IsHolder p k) (some_is b first.0 (sent_told a b sent)) w), untold_found acts (carried_out a p) first.1)
 
--- Behind a poll each act of the turn finds its client, where those before it do and were sent to others.
-pub polled_found : (p : Proxy) (e : Entry) (k c : ℕ) → AreNamed p → IsHolder p k c → AreNotTo c (acts_in p.part) → IsOneTo c (tellings e.acts) → AreFound (acts_in p.part) p → AreFound (acts_in (with_entry e p).part) (with_entry e p)
-unfolding with_entry
-polled_found p e k c named w others alone found =
-    found_alike (acts_in p.part ++ e.acts) p (with_entry e p) refl refl
-    (found_both (acts_in p.part) e.acts p found
-    (one_found e.acts (all_carried_out (acts_in p.part) p) k c alone (waits_on (acts_in p.part) p k c found named others w)))
-
 -- Before the polls nothing is sent.
 pub quiet_found : (acts : List Act) (p : Proxy) → ((c : ℕ) → AreNotTo c acts) → AreFound acts p
 quiet_found [] p none = tt

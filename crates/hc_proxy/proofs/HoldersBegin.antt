@@ -153,9 +153,3 @@ passes : (test : ℕ → Bool) (ks : List ℕ) (k : ℕ) → list_all test ks �
 passes test [] k all (n, within, is) = absurd (omega arith)
 passes test (j ∷ ks) k all (zero, within, is) = ap test (sym is) ∙ and_left (test j) (list_all test ks) all
 passes test (j ∷ ks) k all (suc n, within, is) = passes test ks k (and_right (test j) (list_all test ks) all) (n, omega arith, is)
-
-pub fitting_stand : (call : Called) (dialled : List ℕ) (p : Proxy) → stand_right call dialled p ≡ true → ((k : ℕ) → IsSome (p.client k) → Contains p.accepted k) → AllStand call p
-fitting_stand call dialled p right listed k r row =
-    let these : list_all (λ j. client_stands call p j (p.client j)) p.accepted ≡ true =
-    and_right (list_all (is_right call dialled p) call.standings) _ (and_left _ (list_all (exchange_stands call dialled) (open_exchanges p.tables)) right) in
-    sym (ap (client_stands call p k) row) ∙ passes (λ j. client_stands call p j (p.client j)) p.accepted k these (listed k (rw row refl))

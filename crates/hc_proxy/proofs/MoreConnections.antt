@@ -101,14 +101,6 @@ connection_was dialled k x j h = by_test (nat_eq x 0) refl h
 
 -- NO NUMBER TWICE
 
-pub names_none : NamesOne []
-names_none x k h = by_test (nat_eq x 0) (x - 1) h
-  where
-    by_test : (b : Bool) (n : ℕ) → (if b then None else first_of (drop n [])) ≡ Some k → None ≡ Some x
-    by_test true n g = none_some k g
-    by_test false zero g = none_some k g
-    by_test false (suc n) g = none_some k g
-
 -- one more, whose number is new
 pub names_more : (dialled : List ℕ) (k : ℕ) → exchange_of dialled k ≡ None → NamesOne dialled → NamesOne (dialled ++ k ∷ [])
 names_more dialled k new names x j h =

@@ -52,10 +52,6 @@ not_listed k (x ∷ ks) off = by_test (not_listed k ks) (nat_eq k x) refl off
     by_test rest true here none = absurd (let never : true ≡ false = none in cc)
     by_test rest false there none = rw (other_number k x there) (rest none)
 
--- the next one, and who is left behind it
-abbrev pub LeftBehind : ℕ → List ℕ → ℕ → Type 0
-LeftBehind k left j = (list_any (nat_eq j) (k ∷ left) ≡ false)
-
 left_off : (j k : ℕ) (left : List ℕ) → nat_eq j k ≡ false → list_any (nat_eq j) left ≡ false → list_any (nat_eq j) (k ∷ left) ≡ false
 left_off j k left off none = rw off none
 

@@ -20,16 +20,6 @@ use Rattle.hc_laws.proofs.Accepted.{is_accepted}
 use Rattle.hc_laws.proofs.FromNothing.{begins_well}
 use Rattle.hc_laws.proofs.WhoLeaves.{has_started}
 
--- ACCEPTED
-
-module _ (limits : Limits) (t : Tables) (e : Entry) (law : Lawful t) (is : IsOwed limits t e) (c : ℕ) (at : e.event ≡ event.Poll c 16384) (live : is_live (t.consumer c) ≡ true) where
-  pub poll_goes : denial t e.event ≡ None
-  unfolding refusals.refusal_of
-  poll_goes = ap (denial t) at ∙ rw (has_started limits t e law is c live, live) refl
-
-  pub poll_accepted : is_denied e.acts ≡ false
-  poll_accepted = is_accepted limits t e is poll_goes
-
 -- TOLD
 
 -- whoever is told something by these acts is c

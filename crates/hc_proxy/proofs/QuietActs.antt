@@ -45,20 +45,6 @@ quiet_lost (Misreads r) = refl
 pub quiet_both : (xs ys : List Act) → AreQuiet xs → AreQuiet ys → AreQuiet (xs ++ ys)
 quiet_both xs ys a b = list_all-append is_quiet xs ys ∙ (ap (λ (p : Bool). p && list_all is_quiet ys) a ∙ b)
 
-first_true : (a b : Bool) → (a && b) ≡ true → a ≡ true
-first_true true b h = refl
-first_true false b h = absurd (let never : false ≡ true = h in cc)
-
-second_true : (a b : Bool) → (a && b) ≡ true → b ≡ true
-second_true true b h = h
-second_true false b h = absurd (let never : false ≡ true = h in cc)
-
-pub quiet_first : (xs ys : List Act) → AreQuiet (xs ++ ys) → AreQuiet xs
-quiet_first xs ys h = first_true (list_all is_quiet xs) (list_all is_quiet ys) (sym (list_all-append is_quiet xs ys) ∙ h)
-
-pub quiet_second : (xs ys : List Act) → AreQuiet (xs ++ ys) → AreQuiet ys
-quiet_second xs ys h = second_true (list_all is_quiet xs) (list_all is_quiet ys) (sym (list_all-append is_quiet xs ys) ∙ h)
-
 -- AN ENTRY
 
 module _ (limits : Limits) (t : Tables) where

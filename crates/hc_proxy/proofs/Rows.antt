@@ -79,15 +79,6 @@ module _ (call : Called) (k : ℕ) (c : peer.Client) (r : Client) (h : IsClient 
 module _ {B : Type 0} {g : Ghosts B} (t : Turn) (x : loop.Proxy B g) (p : Proxy) (h : HasClients t x p) where
   -- BY CONNECTION
 
-  -- one whose next request is to be read is one of the definitions'. One that is gone isn't, in the code
-  ready_rows : (k : ℕ) (o : Option peer.Client) (r : Option Client) → IsClientAt (taken_at t.call k) o r → ready_at o ≡ true → ready_by t.frame.limits t.call k r ≡ true
-  ready_rows k None r is on = absurd (let never : false ≡ true = on in cc)
-  ready_rows k (Some c) None is on = absurd is
-  ready_rows k (Some c) (Some row) is on = sym (readies t.call k c row is) ∙ on
-
-  pub ready_there : (k : ℕ) → ready_at (client_of x.clients k) ≡ true → ready_by t.frame.limits t.call k (p.client k) ≡ true
-  ready_there k on = ready_rows k (client_of x.clients k) (p.client k) (h.rows k) on
-
   here_rows : (k : ℕ) (o : Option peer.Client) (r : Option Client) (row : Client) → IsClientAt (taken_at t.call k) o r → r ≡ Some row → row.gone ≡ false → (c : peer.Client) × (o ≡ Some c) × IsClient (taken_at t.call k) c row
   here_rows k None None row is at here = absurd (let never : None ≡ Some row = at in cc)
   here_rows k None (Some r) row is at here = absurd (let same : r ≡ row = some_is r row at in let never : true ≡ false = sym is ∙ (ap (λ (z : Client). z.gone) same ∙ here) in cc)

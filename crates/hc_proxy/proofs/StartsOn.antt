@@ -105,9 +105,6 @@ module _ {B : Type 0} {g : Ghosts B} where
     pub later : faults_in old.cache ≤ faults_in x.cache
     pub same : faults_in x.cache ≡ faults_in old.cache → each_heard t.frame.limits t.call left q ≡ each_heard t.frame.limits t.call (ready_of old.clients) p
 
-  pub starts_begin : (t : Turn) (x : loop.Proxy B g) (p : Proxy) → KeepsHeard t x p → StartsTo t x x p (ready_of x.clients)
-  starts_begin t x p k = record { q = p; keeps = k; later = omega arith; same = λ none. refl }
-
   pub starts_next : (t : Turn) (old x x' : loop.Proxy B g) (p : Proxy) (k : ℕ) (rest : List ℕ) → ready_of x.clients ≡ k ∷ rest → StartsTo t old x p (ready_of x.clients) → ((q : Proxy) → KeepsHeard t x q → Goes (KeepsHeard t) (faults_in x.cache) x' (each_heard t.frame.limits t.call (first_ready (ready_of x.clients)) q)) → StartsTo t old x' p rest
   starts_next t old x x' p k rest first to goes =
       let s = goes to.q to.keeps in

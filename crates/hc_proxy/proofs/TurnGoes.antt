@@ -174,9 +174,6 @@ module _ {B : Type 0} {g : Ghosts B} (n : ℕ) (f : Frame) (x : loop.Proxy B g) 
         (begins.new_one n f x p log told told' stages stages' s wait moment what slice of_open stand fits early many)
         (λ j none. (s.rests.seen j (ap stage_from none)).0)
 
-    sent_carried : list_all (was_sent log'.dialled (carried owed_by)) log'.takers ≡ true
-    sent_carried = subst (λ (r : Proxy). list_all (was_sent log'.dialled r) log'.takers ≡ true) turned_is sent_turned
-
     -- where it was cut short behind the call, and nothing was written
     pub cut_early : (out : Option (List ℕ)) → IsCutShort f.limits log' f.written out out
     cut_early out =

@@ -84,6 +84,3 @@ filter_both test (x ∷ xs) ys = by_test (test x) (filter_both test xs ys)
 
 pub passes_one : (test : ℕ → Bool) (x : ℕ) (xs : List ℕ) → test x ≡ true → length (filter test (x ∷ xs)) ≡ length (filter test xs) + 1
 passes_one test x xs on = rw on (omega arith)
-
-pub passes_none : (test : ℕ → Bool) (x : ℕ) (xs : List ℕ) → test x ≡ false → length (filter test (x ∷ xs)) ≡ length (filter test xs)
-passes_none test x xs off = rw off refl

@@ -14,12 +14,6 @@ use Rattle.hc_fields.specs.FirstValues.{only_of}
 use Rattle.hc_record.specs.Head.{inside_of, strong_opaque, one_strong_opaque}
 use Rattle.hc_record.specs.Lines.{joining_text}
 
--- where no value stands alone, no tag does
-pub none_unless_only : (vs : List (List ℕ)) → only_of vs ≡ None → one_strong_opaque vs ≡ None
-none_unless_only [] h = refl
-none_unless_only (v ∷ []) h = absurd (none-some _ (sym h))
-none_unless_only (v ∷ w ∷ vs) h = refl
-
 inside-tag : (opaque : List ℕ) → inside_of (tag_text false opaque) ≡ opaque
 inside-tag opaque =
     let count : length (tag_text false opaque) - 2 ≡ length opaque = omega (arith, length-append opaque (quote ∷ [])) in
@@ -61,11 +55,6 @@ lacks-tag (b ∷ opaque) h =
 pub lacks-joining : (vs : List (List ℕ)) (joining : Option (List ℕ)) → joining ≡ one_strong_opaque vs → lacks 10 (joining_text joining) ≡ true
 lacks-joining vs None is = refl
 lacks-joining vs (Some opaque) is = lacks-tag opaque (own_tag vs opaque (sym is)).0
-
--- the one value is the text of its tag
-pub joining_text-value : (vs : List (List ℕ)) (joining : Option (List ℕ)) → joining ≡ one_strong_opaque vs → is_some joining ≡ true → slice_get vs 0 ≡ Some (joining_text joining)
-joining_text-value vs None is some = absurd (both_ways _ refl some)
-joining_text-value vs (Some opaque) is some = rw ((own_tag vs opaque (sym is)).1) refl
 
 pub only_value_is : (vs : List (List ℕ)) (v : List ℕ) → only_of vs ≡ Some v → vs ≡ v ∷ []
 only_value_is [] v is = absurd (none-some _ is)

@@ -157,22 +157,6 @@ module _ (head : Head) (own : IsHead head) (version : Version) (text : List ℕ)
       after_fields fs gs left end of_fs is_fs of_gs is_gs =
           fields_once gs head.fields end [] of_gs.list.fields own.list.fields (of_gs.count_is ∙ sym fields_of.count_is) (is_gs ∙ ((after_vary fs left of_fs is_fs).1 ∙ sym (append-nil (fields_text head.fields))))
 
-pub has_first_lines : (first : FirstLines) (text rest : List ℕ) → AreFirst first → first_text first ++ rest ≡ text → HasFirstLines text
-has_first_lines first text rest fit is =
-    record {
-      version = first.version;
-      kind = first.seal.kind;
-      total = first.seal.total;
-      status = first.numbers.status;
-      requested = first.numbers.requested;
-      answered = first.numbers.answered;
-      vary_count = first.numbers.vary_count;
-      count = first.numbers.count;
-      rest = rest;
-      known_status = rw fit.status_is at fit.known_status;
-      text_is = sym (first_parts first rest) ∙ is;
-    }
-
 -- the parts that were read are the record of the head that they make
 pub assembled : (head : Head) (first : FirstLines) (text rest tag lines left end : List ℕ) → AreFirst first → first_text first ++ rest ≡ text → tag_line first.version tag ++ lines ≡ rest → fields_text head.vary_fields ++ left ≡ lines → fields_text head.fields ++ end ≡ left → end ≡ [] → tag_line first.version tag ≡ tag_line first.version (joining_text head.joining) → head.kind ≡ first.seal.kind → head.total ≡ first.seal.total → head.status ≡ first.numbers.status → head.requested ≡ first.numbers.requested → head.answered ≡ first.numbers.answered → length head.vary_fields ≡ first.numbers.vary_count → length head.fields ≡ first.numbers.count → spelling first.version head ≡ text
 assembled head first text rest tag lines left end fit is tag_is vary_is fields_is none own kind total status requested answered vary_count count =
@@ -181,24 +165,11 @@ assembled head first text rest tag lines left end fit is tag_is vary_is fields_i
     let later : rest_lines first.version head ≡ rest = rw (behind, ← own) tag_is in
     spelling-parts first.version head ∙ rw (kind, total, status, requested, answered, vary_count, count, later) is
 
--- a text that begins with neither version's line
-pub no_version : (text mid : List ℕ) → ((after : List ℕ) → version_line Second ++ after ≢ text) → mid ≡ text → ((after : List ℕ) → version_line First ++ after ≢ mid) → (version : Version) (after : List ℕ) → version_line version ++ after ≢ text
-no_version text mid no_second is no_first First after same = no_first after (same ∙ sym is)
-no_version text mid no_second is no_first Second after same = no_second after same
-
 tag_regroup : (t r : List ℕ) → tag_line Second t ++ r ≡ codes "tag " ++ (t ++ 10 ∷ r)
 tag_regroup t r = ap (λ (l : List ℕ). codes "tag " ++ l) (append_assoc t (10 ∷ []) r)
 
 pub no_tag : (text : List ℕ) → ((after : List ℕ) → codes "tag " ++ after ≢ text) → (tag after : List ℕ) → tag_line Second tag ++ after ≢ text
 no_tag text none tag after same = none (tag ++ 10 ∷ after) (sym (tag_regroup tag after) ∙ same)
-
-pub no_tag_end : (text mid : List ℕ) → codes "tag " ++ mid ≡ text → lacks 10 mid ≡ true → (tag after : List ℕ) → tag_line Second tag ++ after ≢ text
-no_tag_end text mid is lacking tag after same =
-    let behind : tag ++ 10 ∷ after ≡ mid = append_cancel_left (codes "tag ") _ _ (sym (tag_regroup tag after) ∙ (same ∙ sym is)) in
-    lacks-not 10 tag after (rw (← behind) at lacking)
-
-pub tag_taken : (text mid tag rest : List ℕ) → codes "tag " ++ mid ≡ text → tag ++ 10 ∷ rest ≡ mid → tag_line Second tag ++ rest ≡ text
-tag_taken text mid tag rest is tag_is = tag_regroup tag rest ∙ (ap (λ (l : List ℕ). codes "tag " ++ l) tag_is ∙ is)
 
 -- a text without a line of numbers behind kind and total
 pub no_numbers : (version : Version) (seal : Seal) (text one two : List ℕ) → version_line version ++ one ≡ text → IsSmallSeal seal → seal_text seal ++ two ≡ one → ((n : Numbers) (after : List ℕ) → AreSmall n → numbers_text n ++ after ≢ two) → (first : FirstLines) (after : List ℕ) → AreFirst first → first_text first ++ after ≢ text
@@ -214,6 +185,3 @@ no_status version seal n text one two three version_is small seal_is small_n n_i
     let seals = seal_once first.seal.kind seal.kind first.seal.total seal.total _ two fit.seal small (versions.1 ∙ sym seal_is) in
     let ns = numbers_once first.numbers n after three fit.numbers small_n (seals.rest ∙ sym n_is) in
     status_cases n.status (rw (fit.status_is ∙ ns.status) at fit.known_status) other
-
-pub tag_text_once : (t u : List ℕ) → tag_line Second t ≡ tag_line Second u → t ≡ u
-tag_text_once t u same = append_cancel_right t u (10 ∷ []) (append_cancel_left (codes "tag ") _ _ same)

@@ -6,8 +6,3 @@ use Rattle.std.specs.Prelude.{◌&&◌}
 pub either : {A : Type 0} (P : A → Type 0) (b : Bool) (x y : A) → (b ≡ true → P x) → (b ≡ false → P y) → P (cond b x y)
 either P true x y then else = then refl
 either P false x y then else = else refl
-
--- a test of two is false where one is
-pub one_fails : (a b : Bool) → (a && b) ≡ false → (a ≡ false) ⊎ (b ≡ false)
-one_fails true b h = inr h
-one_fails false b h = inl refl

@@ -154,13 +154,6 @@ pub record Still (start : Progress) (piece : List ℕ) (old : List Timed) (p : P
   pub adds : out ≡ old ++ some
 
 module _ (start : Progress) (piece : List ℕ) (old : List Timed) where
-  pub Still-first : (p : Place) (line : List ℕ) → start ≡ Reads p line → Still start piece old p line piece old
-  Still-first p line is = record {
-    some = [];
-    leads = ap (λ (s : Progress). after s piece) is;
-    brings = ap (λ (s : Progress). events_in s piece) is;
-    adds = sym (append-nil old);
-  }
 
   -- one line more
   pub Still-next : (p q : Place) (line seg rest text : List ℕ) (out more : List Timed) → Still start piece old p line text out → lacks 10 seg ≡ true
@@ -208,19 +201,6 @@ module _ (start : Progress) (piece : List ℕ) (old : List Timed) where
       → Takes (join_line p (line ++ seg)) taken q out new → taken ≡ Err e → given ≡ Err e → Feeds start piece given s old new
   Still-fails p q line seg rest text out new e taken given s h none le is takes was same =
       rw same (Still-error p q line seg rest text out new e s h none le is (rw was at takes))
-
-  -- the rest has no line feed
-  pub Still-end : (p q : Place) (line text end : List ℕ) (out : List Timed) (result : Result (Unit {0}) FeedError) → Still start piece old p line text out
-      → Feeds (Reads p line) text result (Reads q end) [] [] → Feeds start piece result (Reads q end) old out
-  Still-end p q line text end out (Ok done) h feeds = record {
-    leads = h.leads ∙ feeds.leads;
-    adds = h.adds ∙ ap (λ (l : List Timed). old ++ l) (sym (h.brings ∙ (ap (λ (l : List Timed). h.some ++ l) (sym feeds.adds) ∙ append-nil h.some)));
-  }
-  Still-end p q line text end out (Err (error.Refused r)) h feeds = record {
-    leads = h.leads ∙ feeds.leads;
-    adds = h.adds ∙ ap (λ (l : List Timed). old ++ l) (sym (h.brings ∙ (ap (λ (l : List Timed). h.some ++ l) (sym feeds.adds) ∙ append-nil h.some)));
-  }
-  Still-end p q line text end out (Err error.NoMemory) h feeds = Still-spent p line text out out h refl
 
 -- The ends of a reader's work.
 

@@ -65,13 +65,6 @@ pub lacks-decimal : (b n : ℕ) → b < 48 → n < 2 ^ 62 → lacks b (decimal n
 lacks-decimal b n low h =
     list_all-digits (λ x. not (x == b)) (λ c range. not_same c b (omega (arith, range))) (decimal n) (AllDigits-decimal n h)
 
-pub IsPlain-some : (text : List ℕ) → IsSome (plain_of text) → (n : ℕ) × IsPlain text n
-IsPlain-some text h =
-    elim (none_or_some (plain_of text)) [
-      | inl none ↦ cc (rw none at h)
-      | inr some ↦ (some.0, IsPlain-plain_of text some.0 some.1)
-    ]
-
 -- such a number has at most 19 digits
 pub plain-short : (text : List ℕ) (n : ℕ) → IsPlain text n → length text ≤ 19
 plain-short text n h = rw h.1 (length-decimal-le 19 n (omega arith) (omega (arith, h.0)) (omega (arith, h.0)))

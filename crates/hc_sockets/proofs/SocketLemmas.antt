@@ -30,8 +30,6 @@ after-same f g same (Some (event.Room k)) j = same j
 after-same f g same (Some event.Quiet) j = same j
 
 module _ {S : Type 0} (next : ℕ) (old new : HashMap ℕ Socket S) where
-  live-open : IsBelow next old → (k : ℕ) → IsOpen (life old k) → stage_at next old k ≡ life old k
-  live-open below k is = rw (lt-ltb k next (below k is)) refl
 
   is_open : (s : Stage) → s ≡ Open true false → IsOpen s
   is_open s is = subst IsOpen (sym is) tt
@@ -40,33 +38,3 @@ module _ {S : Type 0} (next : ℕ) (old new : HashMap ℕ Socket S) where
   unended_open Unseen is = is
   unended_open (Open reads ended) is = tt
   unended_open Closed is = is
-
-  -- what is live was handed out
-  pub of-live : IsBelow next old → (e : WireEvent) → IsOfLive (life old) e → IsOfOpen e (stage_at next old)
-  of-live below (event.Accepted k) of = absurd of
-  of-live below (event.Got k n) of = live-open below k (is_open (life old k) of) ∙ of
-  of-live below (event.Ended k) of = subst IsUnended (sym (live-open below k (unended_open (life old k) of))) of
-  of-live below (event.Broke k) of = subst IsOpen (sym (live-open below k of)) of
-  of-live below (event.Room k) of = subst IsOpen (sym (live-open below k of)) of
-  of-live below event.Quiet of = absurd of
-
-  -- and an event of it changes its stage alone
-  pub stages-after : IsBelow next old → (e : WireEvent) → IsOfLive (life old) e → ((k : ℕ) → life new k ≡ stages_after e (life old) k) → (k : ℕ)
-      → stage_at next new k ≡ stages_after e (stage_at next old) k
-  stages-after below (event.Accepted j) of after k = absurd of
-  stages-after below (event.Got j n) of after k = ap (λ (s : Stage). if ltb k next then s else Unseen) (after k)
-  stages-after below (event.Ended j) of after k =
-      let open_old = live-open below j (unended_open (life old j) of) in
-      let within : ltb j next ≡ true = lt-ltb j next (below j (unended_open (life old j) of)) in
-      elim (cases_eq k j) [
-        | inl e ↦
-            let here : eqb k j ≡ true = eq-eqb k j e in
-            let at : ltb k next ≡ true = ap (λ (n : ℕ). ltb n next) e ∙ within in
-            rw (at, here, within) (after k ∙ rw here refl)
-        | inr off ↦
-            let there : eqb k j ≡ false = ne_eqb k j off in
-            rw there (ap (λ (s : Stage). if ltb k next then s else Unseen) (after k ∙ rw there refl))
-      ]
-  stages-after below (event.Broke j) of after k = ap (λ (s : Stage). if ltb k next then s else Unseen) (after k)
-  stages-after below (event.Room j) of after k = ap (λ (s : Stage). if ltb k next then s else Unseen) (after k)
-  stages-after below event.Quiet of after k = absurd of

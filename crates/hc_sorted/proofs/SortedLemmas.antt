@@ -104,9 +104,6 @@ module _ {X : Type 0} (number : X → ℕ) where
   place_is n [] i within split = omega arith
   place_is n (x ∷ xs) i within split = point_is n (x ∷ xs) i x within split
 
-  pub place-le : (n : ℕ) (xs : List X) → place number n xs ≤ length xs
-  place-le n xs = prefix_len-le-length (λ x. not (leb n (number x))) xs
-
   -- that with a number stands at its place, in a list whose numbers rise
   pub place-has : (n : ℕ) (xs : List X) → is_sorted number xs ≡ true → has number n xs ≡ true → place number n xs < length xs
   place-has n [] up there = absurd (let h : false ≡ true = there in cc)

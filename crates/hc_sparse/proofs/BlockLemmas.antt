@@ -23,17 +23,6 @@ block-is p i lt = omega arith
 offset-is : (p i : ℕ) → p % 4096 + i < 4096 → (p + i) % 4096 ≡ p % 4096 + i
 offset-is p i lt = omega arith
 
-pub number-below : (p : ℕ) → p < 2 ^ 62 → p / 4096 < 2 ^ 50
-number-below p lt = omega arith
-
--- What is nobody's is absent, and what is absent is nobody's.
-pub mark-none : (bytes : List ℕ) (o : Option Mark) → cell_of bytes o ≡ None → o ≡ None
-mark-none bytes None is = refl
-mark-none bytes (Some mark) is = absurd cc
-
-pub absent-free : (f : Marks) (bytes : List ℕ) (lo hi : ℕ) → AreAbsent (cells_by f bytes) lo hi → AreFree f lo hi
-absent-free f bytes lo hi absent q ge lt = mark-none bytes (f q) (absent q ge lt)
-
 -- An offset's mark, by the position.
 pub marks-here : (m : BTreeMap ℕ Block) (p i : ℕ) (b : Block) → get nat_cmp m (p / 4096) ≡ Some b → p % 4096 + i < 4096 → marks m (p + i) ≡ marks_in b (p % 4096 + i)
 marks-here m p i b there lt = rw (block-is p i lt, offset-is p i lt, there) refl
@@ -45,9 +34,6 @@ free-here m p len b there within free q ge lt =
     let here = marks-here m p i b there (omega arith) in
     let none = free (p + i) (omega arith) (omega arith) in
     rw place at (sym here ∙ none)
-
-pub below-others : (m n : BTreeMap ℕ Block) (k : ℕ) → k < 2 ^ 50 → AreBelow m → ((j : ℕ) → j ≢ k → get nat_cmp n j ≡ get nat_cmp m j) → AreBelow n
-below-others m n k lt below others j le = rw (others j (λ same. absurd (omega arith))) (below j le)
 
 kept-cell : (bytes piece : List ℕ) (o : Option Mark) → is_within (length bytes) o ≡ true → cell_of (bytes ++ piece) o ≡ cell_of bytes o
 kept-cell bytes piece None within = refl

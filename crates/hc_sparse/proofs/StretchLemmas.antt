@@ -18,14 +18,6 @@ bytes-append f x (b ∷ bs) p m h =
     let rest = bytes-append f x bs (p + 1) m (λ i lt. let e : p + 1 + i ≡ p + suc i = omega arith in rw e (h (suc i) (omega arith))) in
     rw (more, here, same, ends, rest) refl
 
-pub bytes-absent : (f : Cells) (x p most : ℕ) → f p ≡ None → bytes_from f x p most ≡ []
-bytes-absent f x p zero none = refl
-bytes-absent f x p (suc n) none = rw none refl
-
-pub bytes-other : (f : Cells) (x p most : ℕ) (cell : Cell) → f p ≡ Some cell → cell.x ≢ x → bytes_from f x p most ≡ []
-bytes-other f x p zero cell is other = refl
-bytes-other f x p (suc n) cell is other = let off : eqb cell.x x ≡ false = grind (arith, nat_tests) in rw (is, off) refl
-
 -- Bytes of x from p on, at most n, behind which none of x stands where there are fewer.
 pub record IsFront (f : Cells) (x p n : ℕ) (bytes : List ℕ) : Type 0 where
   pub most : length bytes ≤ n

@@ -91,7 +91,3 @@ filter-reverse f (x ∷ xs) =
     by_test : (b : Bool) → f x ≡ b → reverse (filter f xs) ++ filter f (x ∷ []) ≡ reverse (filter f (x ∷ xs))
     by_test true is = rw is (sym (reverse-append (x ∷ []) (filter f xs)))
     by_test false is = rw is (append-nil (reverse (filter f xs)))
-
--- of these in their order
-pub only_in_order : (f : ℕ → Bool) (c n : ℕ) (xs : List ℕ) → Descends n xs → Among c xs → f c ≡ true → ((d : ℕ) → d ≢ c → f d ≡ false) → filter f (reverse xs) ≡ c ∷ []
-only_in_order f c n xs d h passes others = filter-reverse f xs ∙ ap reverse (filter_only f c n xs d h passes others)

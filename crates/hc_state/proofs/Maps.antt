@@ -75,17 +75,8 @@ merely_within (Some n) span some h =
       small = merely_below n (2 ^ 62) some (λ p. (let is = h p in is.small));
     }
 
--- the same change, of what is the same
-pub changes_as : {A : Type 0} (m n u : Numbered A) (c d : ℕ) (f h : A → A) → u ≡ n → c ≡ d → f ≡ h → ChangesAt m n c f → ChangesAt m u d h
-changes_as m n u c d f h same_map same_place same_change changes =
-    subst (λ z. ChangesAt m z d h) (sym same_map) (subst (λ z. ChangesAt m n z h) same_place (subst (λ z. ChangesAt m n c z) same_change changes))
-
 pub some_that : {A : Type 0} (row : Option A) (k : A) (P : A → Type 0) → row ≡ Some k → P k → IsSomeAnd row P
 some_that row k P is p = rw is p
-
--- it is kept that a consumer stands in line
-pub merely_queued : {P : Type 0} (keys : KeyTable) (c : ℕ) (k : Consumer) → ∥ P ∥₁ → (P → IsQueued keys c k) → IsQueued keys c k
-merely_queued keys c k some h = λ on. merely_true (is_in c (line_of keys k.request.key)) some (λ p. h p on)
 
 pub held_is : (c : ℕ) (o : Option ℕ) → is_held_by c o ≡ true → o ≡ Some c
 held_is c None on = absurd (let never : false ≡ true = on in cc)

@@ -248,14 +248,6 @@ none_way r now write before never lim t law stands =
     by_room room.TooLarge is = ap (first_idle t) (sym (room_is r t law stands write) ∙ is)
     by_room room.Full is = ap (first_idle t) (sym (room_is r t law stands write) ∙ is)
 
-pub has_acts : (spare count : ℕ) (z : Room) → z ≡ room.After count → HasActs spare z → count ≤ spare
-has_acts spare count (room.After n) is has = let same : n ≡ count = cc in omega (arith, has, same)
-has_acts spare count room.TooLarge is has = cc
-has_acts spare count room.Full is has = cc
-
-pub leaves_acts : (before after count : ℕ) (z : Room) → z ≡ room.After count → before ≤ after + count → LeavesActs before after z
-leaves_acts before after count z is le = rw is le
-
 pub leaves_all : (before : ℕ) (z : Room) → ((count : ℕ) → z ≡ room.After count → ⊥) → LeavesActs before before z
 leaves_all before (room.After count) never = absurd (never count refl)
 leaves_all before room.TooLarge never = refl

@@ -33,11 +33,6 @@ pub is_there : {A : Type 0} (o : Option A) → is_some o ≡ true → (k : A) ×
 is_there None h = false_true h
 is_there (Some k) h = (k, refl)
 
--- what holds, where a call failed
-pub err_with : {A E P : Type 0} (r : Result A E) → P → OnErr r P
-err_with (Ok x) p = tt
-err_with (Err e) p = p
-
 pub or_false : (a b : Bool) → a ≡ false → b ≡ false → (a || b) ≡ false
 or_false false b p q = q
 or_false true b p q = false_true (sym p)
@@ -86,10 +81,6 @@ on_ok_two (Ok x) p q f = f p q
 on_ok_two (Err e) p q f = tt
 
 -- HOW MANY BYTES CAME
-
--- no more came than were counted: so it stays where the count stays
-pub as_received : {a b n : ℕ} → a ≡ b → n ≤ b → n ≤ a
-as_received count most = omega (arith, count, most)
 
 -- and where both grow by as many
 pub more_received : {a b m n : ℕ} (more : ℕ) → a ≡ b + more → n ≡ m + more → m ≤ b → n ≤ a

@@ -102,17 +102,6 @@ weight-new a b n head lt gone is =
 pub weight-gone : (a b : Slots) (n : ℕ) → n < 2 ^ 64 → ((m : ℕ) → b m ≡ with_slot n None a m) → weight b + weigh (a n) ≡ weight a
 weight-gone a b n lt is = let one = weight-slot a b n None lt is in omega arith
 
-weigh-at : (o : Option Held) → is_some o ≡ true → weigh o ≡ 32768 + size (λ p. cells_held o p)
-weigh-at None is = absurd (let never : false ≡ true = is in cc)
-weigh-at (Some h) is = refl
-
--- What a live slot weighs.
-pub weigh-live : (a : Slots) (n : ℕ) → is_some (a n) ≡ true → weigh (a n) ≡ 32768 + size_in a n
-weigh-live a n live = weigh-at (a n) live
-
-pub size-fits : (a : Slots) (n : ℕ) → size_in a n ≤ 2 ^ 62
-size-fits a n = size-le (cells_in a n)
-
 -- What a write to a live slot leaves.
 written : (entries : Slab Entry) (n : ℕ) (old new : Entry) → get entries n ≡ Some old → Updates entries (with_value entries n new) n (Some new)
 written entries n old new there = Updates-with_value entries n new (rw there refl)

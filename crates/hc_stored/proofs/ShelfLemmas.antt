@@ -36,9 +36,6 @@ module _ {rows : Rows} {order : List ℕ} {slots : Slots} (good : AreShelved row
 
 -- A CHANGE
 
-same-or-other : (r q : ℕ) → (eqb r q ≡ true → r ≡ q)
-same-or-other r q same = eqb-true r q same
-
 module _ {rows : Rows} {order : List ℕ} {slots : Slots} (good : AreShelved rows order slots) (r : ℕ) (row : Row) (there : rows r ≡ Some row) where
   -- another row is of another slot
   apart-from : (q : ℕ) (b : Row) → eqb r q ≡ false → rows q ≡ Some b → eqb row.slot b.slot ≡ false

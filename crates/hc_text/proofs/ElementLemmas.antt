@@ -56,10 +56,6 @@ cut_on text start at to first place next from on so_far more =
     ∙ begin_with-begin_with (slice_range text start at) (slice_range text at to) (cut_pieces next (drop to text))
     ∙ ap (λ (p : List ℕ). begin_with p (cut_pieces next (drop to text))) (slices_join text start at to from on)
 
--- at the end of the text nothing is left in any place
-pub cut_end : (text : List ℕ) (at : ℕ) (place next : Place) → length text ≤ at → cut_pieces place (drop at text) ≡ cut_pieces next (drop at text)
-cut_end text at place next past = at_drop_all (cut_pieces place) text at past ∙ sym (at_drop_all (cut_pieces next) text at past)
-
 -- a blank or a comma in front is no part of an element
 trimmed-blank : (b : ℕ) (bytes : List ℕ) → is_blank b ≡ true → trimmed_text (b ∷ bytes) ≡ trimmed_text bytes
 trimmed-blank b bytes blank = ap trim_end (cond-true (is_blank b) (skip_blanks bytes) (b ∷ bytes) blank)

@@ -77,13 +77,6 @@ own-content_range span total within =
     (simp length-append (omega arith))
     (simp list_all-append (rw (values-decimal span.lo first_fits, values-decimal (span.hi - 1) last_fits) refl)) refl
 
-pub short-content_range : (span : Span) (total : ℕ) → IsWithin span total → length (content_range_text span total) ≤ 68
-short-content_range span total within =
-    let last_fits : span.hi - 1 < 2 ^ 64 = omega (arith, within.within, within.small) in
-    let first_fits : span.lo < 2 ^ 64 = omega (arith, within.not_empty, within.within, within.small) in
-    let total_fits : total < 2 ^ 64 = omega (arith, within.small) in
-    simp length-append (omega (arith, short-decimal span.lo first_fits, short-decimal (span.hi - 1) last_fits, short-decimal total total_fits))
-
 -- a text that begins with no blank and ends with one more byte, which is none, is a value of a field
 own-last : (front : List ℕ) (b : ℕ) → 0 < length front → list_all is_value_byte front ≡ true → is_blank (slice_index front 0) ≡ false → is_value_byte b ≡ true → is_blank b ≡ false → is_own_value (front ++ b ∷ []) ≡ true
 own-last front b longer bytes first value last =
@@ -140,6 +133,3 @@ length-quoted n h = simp length-append (omega (arith, short-decimal n h))
 -- a length that no range fits is a value of a field
 pub own-unsatisfied : (n : ℕ) → n < 2 ^ 64 → is_own_value (codes "bytes */" ++ decimal n) ≡ true
 own-unsatisfied n h = own-ends (codes "bytes */") n h (omega arith) refl refl
-
-pub short-unsatisfied : (n : ℕ) → n < 2 ^ 64 → length (codes "bytes */" ++ decimal n) ≤ 28
-short-unsatisfied n h = simp length-append (omega (arith, short-decimal n h))

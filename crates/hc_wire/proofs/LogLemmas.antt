@@ -162,26 +162,3 @@ module _ (k : ℕ) (f : Taker → Taker) where
   ]
 
 -- HOW ONE IS, BY WHAT WAS FOUND
-
-pub found_open : (o : Option Taker) → live_from o ≡ true → IsOpen (stage_from o)
-found_open None is = cc
-found_open (Some c) is = by_life c.live is where
-  by_life : (live : Bool) → live ≡ true → IsOpen (if live then Open c.reads c.ended else Closed)
-  by_life true is = tt
-  by_life false is = cc
-
-pub found_unended : (o : Option Taker) → unended_from o ≡ true → IsUnended (stage_from o)
-found_unended None is = cc
-found_unended (Some c) is = by_life c.live c.ended is where
-  by_life : (live ended : Bool) → (live && not ended) ≡ true → IsUnended (if live then Open c.reads ended else Closed)
-  by_life true false is = refl
-  by_life true true is = cc
-  by_life false ended is = cc
-
-pub found_read : (o : Option Taker) → reads_from o ≡ true → unended_from o ≡ true → stage_from o ≡ Open true false
-found_read None is going = cc
-found_read (Some c) is going = by_life c.live c.ended is going where
-  by_life : (live ended : Bool) → c.reads ≡ true → (live && not ended) ≡ true → (if live then Open c.reads ended else Closed) ≡ Open true false
-  by_life true false is going = ap (λ (b : Bool). Open b false) is
-  by_life true true is going = cc
-  by_life false ended is going = cc

@@ -8,6 +8,7 @@ use Rattle.std.specs.Prelude.{codes, bytes_eq, ◌==◌, if◌then◌else◌}
 use Rattle.std.specs.Option.{option_or}
 use Rattle.std.specs.Result.{IsErrOf}
 use Rattle.std.proofs.lemmas.Fmt.{decimal_injective}
+use Rattle.hc_text.proofs.Basics.{not_some as none_some, some_inj}
 use Rattle.hc_io.specs.Faults.{HasRisen}
 use Rattle.hc_io.specs.Sink.{Takes, TakesFront}
 use Rattle.hc_io.specs.Source.{GivesAll}
@@ -21,8 +22,6 @@ use Rattle.hc_sched.specs.declared.schedule.Refused.{Refused}
 use Rattle.hc_sched.specs.declared.schedule.Timed.{Timed}
 use Rattle.hc_sched.specs.Schedule.{Item, Spells, events_of}
 use Rattle.hc_driver.specs.Endings.{Reach, ToEnd, SoFar, IsRead, IsSteppedAtOnce}
-use Rattle.hc_effects.proofs.Basics.{none_some}
-use Rattle.hc_effects.proofs.PieceKeeps.{some_inj}
 use Rattle.hc_model.specs.Entries.{History}
 use Rattle.hc_fetch.specs.declared.ended.FetchEnded.{FetchEnded}
 use Rattle.hc_fetch.specs.declared.ended.FetchEnded.TheVariants as fetched

@@ -4,6 +4,7 @@ use Rattle.std.specs.Prelude.{not, codes, bytes_eq}
 use Rattle.std.specs.declared.string.String.{String}
 use Rattle.std.proofs.lemmas.Fmt.{decimal_injective}
 use Rattle.std.proofs.lemmas.Slice.Eq.{bytes_eq-Decides}
+use Rattle.hc_text.proofs.Basics.{not_false}
 use Rattle.hc_text.specs.Numbers.{IsPlain}
 use Rattle.hc_app.specs.declared.command.Command.TheVariants as command
 use Rattle.hc_wire.specs.declared.event.Address.{Address}
@@ -35,10 +36,6 @@ other_count words not_one not_three not_four _ (origin first second listen turns
 other_count words not_one not_three not_four _ (serve first second third listen from turns is first_is second_is third_is) = not_four (ap length is)
 
 -- BY THEIR TEXT
-
-pub not_false : (b : Bool) → not b ≡ false → b ≡ true
-not_false true is = refl
-not_false false is = absurd (let never : true ≡ false = is in cc)
 
 pub same_text : (a : List ℕ) (b : List ℕ) → bytes_eq a b ≡ true → a ≡ b
 same_text a b is = (bytes_eq-Decides a b).0 is

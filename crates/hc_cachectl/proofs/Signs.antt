@@ -6,6 +6,7 @@ use Rattle.std.proofs.lemmas.Option.{same_Some}
 use Rattle.std.proofs.lemmas.List.{take_all, length-drop}
 use Rattle.std.proofs.lemmas.List.Folds.{list_any_at}
 use Rattle.std.proofs.lemmas.List.Sums.{passes_at_first}
+use Rattle.hc_text.proofs.Basics.{rest_is as to_end}
 
 module _ (p : ℕ → Bool) where
   none : (xs : List ℕ) → length xs ≤ position_or_len p xs → list_any p xs ≡ false
@@ -28,6 +29,3 @@ module _ (p : ℕ → Bool) where
         (list_any_at p xs (position_or_len p xs) 0 lt (passes_at_first p xs 0 lt), sym (same_Some _ _ is))
     | inr le ↦ let is = rw (le-ltb (position_or_len p xs) (length xs) le) at is in absurd cc
   ]
-
-pub to_end : (i : ℕ) (xs : List ℕ) → take (length xs - i) (drop i xs) ≡ drop i xs
-to_end i xs = take_all (length xs - i) (drop i xs) (omega (arith, length-drop i xs))

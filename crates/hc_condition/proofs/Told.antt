@@ -10,6 +10,7 @@ use Rattle.std.proofs.lemmas.Bool.{cases_Bool, both_ways}
 use Rattle.std.proofs.lemmas.List.{append_assoc, drop_more}
 use Rattle.std.proofs.lemmas.Option.{slice_get_within, get_or_from_slice_get}
 use Rattle.std.proofs.lemmas.Slice.Eq.{bytes_eq-Decides}
+use Rattle.hc_text.proofs.Basics.{or_right as or_after, or_left as or_before}
 use Rattle.hc_event.specs.Filters.{leaves_in}
 use Rattle.hc_event.specs.declared.act.Act.{Act}
 use Rattle.hc_event.specs.declared.act.Act.TheVariants as act
@@ -64,14 +65,6 @@ untold-told from i g is told = rw (drop_more from i g (slice_get_within from i g
 Marks : FieldPairs → FieldPairs → Type 0
 Marks new [] = Unit {0}
 Marks new (f ∷ fields) = (is_told f ≡ false → is_renewed new f ≡ true) × Marks new fields
-
-or_after : (a b : Bool) → b ≡ true → (a || b) ≡ true
-or_after true b h = refl
-or_after false b h = h
-
-or_before : (a b : Bool) → a ≡ true → (a || b) ≡ true
-or_before true b h = refl
-or_before false b h = absurd (let never : false ≡ true = h in cc)
 
 marks-more : (g : List ℕ × List ℕ) (new fields : FieldPairs) → Marks new fields → Marks (g ∷ new) fields
 unfolding Marks

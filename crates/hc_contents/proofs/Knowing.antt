@@ -12,6 +12,7 @@ use Rattle.std.specs.HashSet.{HashSet, contains, contains_by, PutsKey}
 use Rattle.std.proofs.lemmas.Cmp.{nat_list_eq_equiv}
 use Rattle.std.proofs.lemmas.List.Sorted.{list_any-IsPermutation}
 use Rattle.std.proofs.lemmas.Slice.Eq.{bytes_eq-Decides}
+use Rattle.hc_text.proofs.Basics.{or_false as or_none}
 use Rattle.hc_sparse.specs.declared.run.Run.{Run}
 use Rattle.hc_model.specs.Beginnings.{says}
 use Rattle.hc_model.specs.Entries.{Content}
@@ -23,10 +24,6 @@ drop_append : {A : Type 0} (i : ℕ) (xs ys : List A) → i ≤ length xs → dr
 drop_append zero xs ys le = refl
 drop_append (suc i) [] ys le = absurd (let no_such : suc i ≤ 0 = le in omega arith)
 drop_append (suc i) (x ∷ xs) ys le = drop_append i xs ys (omega arith)
-
-or_none : (b : Bool) → (b || false) ≡ b
-or_none true = refl
-or_none false = refl
 
 module _ (last now : ℕ → Option ℕ) (items : List Content) (item : Content) (tells : TellsLast last items) (updates : (x : ℕ) → now x ≡ cond (nat_eq item.r x) (Some (length items)) (last x)) where
   one_more : length (items ++ item ∷ []) ≡ length items + 1

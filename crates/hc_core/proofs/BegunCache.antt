@@ -3,6 +3,7 @@ use Rattle.std.proofs.Common.{◌≡◌, inl, inr, ◌+◌, ◌≤◌, ◌<◌, 
 use Rattle.std.specs.Prelude.{find, nat_lt, ◌==◌}
 use Rattle.std.proofs.lemmas.Bool.{cases_Bool}
 use Rattle.std.proofs.lemmas.Bool.Decides.{nat_tests}
+use Rattle.hc_text.proofs.Basics.{and_left, and_right, some_inj as some_is}
 use Rattle.hc_stored.specs.Entries.{shelf_of}
 use Rattle.hc_store.specs.declared.backend.Backend.{Ghosts}
 use Rattle.hc_rules.specs.declared.room.Limits.{Limits}
@@ -16,11 +17,10 @@ use Rattle.hc_contents.specs.declared.contents.Contents as coded_all
 use Rattle.hc_contents.specs.Fit.{unfit_of}
 use Rattle.hc_contents.specs.PlainContents.{plain_contents, plain_item}
 use Rattle.hc_contents.proofs.Counting.{begins_by}
-use Rattle.hc_effects.proofs.Basics.{and_left, and_right}
 use Rattle.hc_state.specs.declared.rows.Rows.{Rows}
 use Rattle.hc_state.specs.Good.{StandsAt}
 use Rattle.hc_state.specs.Stands.{RowsStand}
-use Rattle.hc_state.proofs.Words.{none_received, none_some, some_is}
+use Rattle.hc_state.proofs.Words.{none_received, none_some}
 use Rattle.hc_core.specs.declared.cache.Cache.{Cache}
 use Rattle.hc_core.specs.Steps.{StandsFor}
 use Rattle.hc_core.proofs.BegunItems.{next_fits}

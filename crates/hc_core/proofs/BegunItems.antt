@@ -11,6 +11,7 @@ use Rattle.hc_store.specs.declared.backend.Backend.{Ghosts}
 use Rattle.hc_store.specs.declared.error.StoreError.TheVariants as error
 use Rattle.hc_store.specs.Causes.{HasCause}
 use Rattle.std.proofs.lemmas.List.Sums.{sum_by-cons, sum_by-append, sum_by-take-le}
+use Rattle.hc_text.proofs.Basics.{and_left, and_right, eqb-same, false_true, not_true as not_is}
 use Rattle.hc_sparse.specs.Cells.{Cells, AreAbsent, EndsBy, size, cells_with}
 use Rattle.hc_sparse.specs.Runs.{end_of}
 use Rattle.hc_sparse.specs.declared.run.Run.{Run}
@@ -25,7 +26,7 @@ use Rattle.hc_model.specs.Beginnings.{ascend_from, is_kind_right, is_good, are_g
 use Rattle.hc_model.specs.Entries.{Content, Contents}
 use Rattle.hc_model.specs.Rows.{Representation}
 use Rattle.hc_model.specs.Tables.{first_tables, representation_of_content, last_end, bytes_in}
-use Rattle.hc_effects.proofs.Basics.{and_left, and_right, or_false, append_none}
+use Rattle.hc_effects.proofs.Basics.{or_false, append_none}
 use Rattle.hc_stored.specs.Entries.{shelf_of}
 use Rattle.hc_state.specs.declared.rows.Rows.{Rows}
 use Rattle.hc_state.specs.Stands.{RowsStand}
@@ -36,7 +37,7 @@ use Rattle.hc_contents.specs.declared.contents.Contents as coded_all
 use Rattle.hc_contents.specs.PlainContents.{plain_contents, plain_item}
 use Rattle.hc_contents.proofs.Counting.{longer}
 use Rattle.hc_core.proofs.BegunRuns.{runs_more}
-use Rattle.hc_state.proofs.Words.{eqb-same, false_true, none_some}
+use Rattle.hc_state.proofs.Words.{none_some}
 use Rattle.hc_core.proofs.BegunRows.{stands_more}
 
 -- RUN BY RUN
@@ -230,10 +231,6 @@ pub record IsFit (limits : Limits) (before : List Content) (item : Content) : Ty
   pub right : is_kind_right item item.head.total ≡ true
   pub small : bytes_in item.runs ≤ limits.max_entry
   pub moments : item.head.requested ≤ item.head.answered
-
-not_is : (b : Bool) → not b ≡ true → b ≡ false
-not_is true h = false_true h
-not_is false h = refl
 
 fit_by : (limits : Limits) (contents : Contents) (before : List Content) (item : Content) (later : List Content) → is_good limits contents (reverse before) item later ≡ true → IsFit limits before item
 fit_by limits contents before item later good =

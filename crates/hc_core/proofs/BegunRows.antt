@@ -7,6 +7,7 @@ use Rattle.std.proofs.lemmas.Bool.{cases_Bool, eqb-true}
 use Rattle.std.proofs.lemmas.Bool.Decides.{nat_tests}
 use Rattle.std.proofs.lemmas.List.{map-append, reverse-append}
 use Rattle.std.proofs.lemmas.List.Folds.{find-append}
+use Rattle.hc_text.proofs.Basics.{eqb-same, false_true, or_none}
 use Rattle.hc_store.specs.declared.backend.Backend.{Ghosts}
 use Rattle.hc_sparse.specs.Runs.{cells_of}
 use Rattle.hc_record.specs.declared.kind.Kind.TheVariants as kind
@@ -34,7 +35,7 @@ use Rattle.hc_state.specs.Stands.{RowsStand}
 use Rattle.hc_state.specs.Stored.{IsEntry, KeepsEntry, KeepsEntries, TellsLength, is_usable_row}
 use Rattle.hc_state.specs.Stored as stored
 use Rattle.hc_core.proofs.BegunRuns.{runs_cells, runs_reach, runs_rest, kind_begun, whole_begun}
-use Rattle.hc_state.proofs.Words.{eqb-same, false_true, none_some}
+use Rattle.hc_state.proofs.Words.{none_some}
 use Rattle.hc_core.specs.Begins.{with_items, kept_item, KeepsItem}
 
 -- BEFORE THE FIRST
@@ -89,10 +90,6 @@ find_same : (n : ℕ) (f h : ℕ → Bool) (qs : List ℕ) → AllOff n qs → (
 unfolding AllOff
 find_same n f h [] off same = refl
 find_same n f h (q ∷ qs) off same = rw (same q off.0, find_same n f h qs off.1 same) refl
-
-or_none : {A : Type 0} (o : Option A) → option_or o None ≡ o
-or_none None = refl
-or_none (Some a) = refl
 
 -- ONE MORE
 

@@ -3,6 +3,7 @@ use Rattle.std.proofs.Common.{◌≡◌, ◌⊎◌, inl, inr, ℕ, ◌+◌, ◌-
 use Rattle.std.specs.Prelude.{is_some, nat_eq, nat_le, nat_lt, ◌==◌, ◌&&◌, not, if◌then◌else◌}
 use Rattle.std.specs.Option.{option_or}
 use Rattle.std.proofs.lemmas.Bool.Decides.{nat_tests}
+use Rattle.hc_text.proofs.Basics.{and_left, and_right, bool_cases, false_true}
 use Rattle.hc_sparse.specs.Cells.{Cells, Covers, EndsBy, nothing, cells_with, size_below}
 use Rattle.hc_sparse.specs.Runs.{cells_of, end_of}
 use Rattle.hc_sparse.specs.declared.run.Run.{Run}
@@ -20,12 +21,10 @@ use Rattle.hc_model.specs.Kinds as kinds
 use Rattle.hc_model.specs.Kinds.{kind_of, is_front}
 use Rattle.hc_model.specs.Tables as tables
 use Rattle.hc_model.specs.Tables.{last_end, bytes_in, representation_of_content}
-use Rattle.hc_effects.proofs.Basics.{and_left, and_right}
 use Rattle.hc_laws.proofs.Begins.{ends_all}
-use Rattle.hc_effects.proofs.HoleLemmas.{bool_cases, covers_all}
+use Rattle.hc_effects.proofs.HoleLemmas.{covers_all}
 use Rattle.hc_laws.proofs.KindsLeft.{kind_by, kind_right, count_is, last_is}
 use Rattle.hc_laws.proofs.Positions.{bytes_below}
-use Rattle.hc_state.proofs.Words.{false_true}
 
 -- ONE AFTER ANOTHER
 

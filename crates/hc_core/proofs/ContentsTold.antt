@@ -2,6 +2,7 @@
 use Rattle.std.proofs.Common.{◌≡◌, inl, inr, ℕ, zero, suc, get_or, ◌<◌, ◌≤◌, ◌^◌, List, [], ◌∷◌, ◌++◌, map, Bool, true, false, Option, Some, None, refl, ap, sym, ◌∙◌, subst, arith}
 use Rattle.std.specs.Prelude.{is_some, option_map, filter, filter_map, reverse, ◌==◌, length}
 use Rattle.std.proofs.lemmas.Bool.{cases_Bool}
+use Rattle.hc_text.proofs.Basics.{and_left, false_true, some_inj as some_is}
 use Rattle.hc_store.specs.declared.backend.Backend.{Ghosts}
 use Rattle.hc_sparse.specs.Cells.{Cells, EndsBy}
 use Rattle.hc_record.specs.Head.{Head, sealed_head}
@@ -22,7 +23,7 @@ use Rattle.hc_model.specs.Lawful.{Lawful}
 use Rattle.hc_model.specs.Rows.{Tables, Representation}
 use Rattle.hc_model.specs.Sound.{IsStored}
 use Rattle.hc_model.specs.Tables.{tables}
-use Rattle.hc_effects.proofs.Basics.{and_left, number_is, same_functions}
+use Rattle.hc_effects.proofs.Basics.{number_is, same_functions}
 use Rattle.hc_laws.proofs.RunsWithinLimits.{heads_come_within_limits}
 use Rattle.hc_laws.proofs.LeavesGood.{leaves_good}
 use Rattle.hc_effects.proofs.LettingGo.{may_let_go}
@@ -40,7 +41,6 @@ use Rattle.hc_state.proofs.Maps.{merely_true}
 use Rattle.hc_state.proofs.ReaderSteps.{stands_read}
 use Rattle.hc_state.proofs.Rooms.{idle_is}
 use Rattle.hc_core.proofs.Standing.{law_of_runs}
-use Rattle.hc_state.proofs.Words.{false_true, some_is}
 use Rattle.hc_core.specs.declared.cache.Cache.{Cache}
 use Rattle.hc_core.specs.Steps.{StandsFor}
 

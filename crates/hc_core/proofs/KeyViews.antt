@@ -2,6 +2,7 @@
 use Rattle.std.proofs.Common.{◌≡◌, ℕ, List, Option, Some, None, refl, ap, sym, ◌∙◌}
 use Rattle.std.specs.Prelude.{option_map}
 use Rattle.std.specs.Option.{option_and_then}
+use Rattle.hc_text.proofs.Basics.{some_inj as some_is}
 use Rattle.hc_store.specs.declared.backend.Backend.{Ghosts}
 use Rattle.hc_stored.specs.declared.view.EntryView.{EntryView}
 use Rattle.hc_stored.specs.Entries.{shelf_of}
@@ -18,7 +19,7 @@ use Rattle.hc_model.specs.Tables.{tables}
 use Rattle.hc_laws.proofs.SoundRuns.{runs_are_sound}
 use Rattle.hc_state.proofs.CurrentTies.{IsNow, now_kept}
 use Rattle.hc_state.proofs.TurnTies.{turn_of_is}
-use Rattle.hc_state.proofs.Words.{none_some, some_is}
+use Rattle.hc_state.proofs.Words.{none_some}
 use Rattle.hc_core.specs.declared.cache.Cache.{Cache}
 use Rattle.hc_core.specs.Steps.{StandsFor}
 

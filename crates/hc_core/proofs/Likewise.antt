@@ -4,6 +4,7 @@ use Rattle.std.specs.Prelude.{bytes_eq, is_some, nat_eq, filter, filter_map, fin
 use Rattle.std.specs.HashMap.{get}
 use Rattle.std.proofs.lemmas.Bool.{cases_Bool}
 use Rattle.std.proofs.lemmas.List.{reverse-append, reverse-reverse}
+use Rattle.hc_text.proofs.Basics.{and_left, and_right, eqb-other, eqb-same, false_true, filter_same as filters_as, never_true as not_true, same_or, same_some as same_row, some_inj as some_is, and_off as then_false}
 use Rattle.hc_store.specs.declared.backend.Backend.{Ghosts}
 use Rattle.hc_sparse.specs.Cells.{EndsBy}
 use Rattle.hc_sparse.specs.Runs.{cells_of}
@@ -33,7 +34,7 @@ use Rattle.hc_model.specs.Measures.{Measures}
 use Rattle.hc_model.specs.Rows.{Tables, Exchange, Representation}
 use Rattle.hc_model.specs.Sound.{Among, Sound}
 use Rattle.hc_model.specs.Tables.{first_tables, representation_of_content, numbers, last_end, tables}
-use Rattle.hc_effects.proofs.Basics.{and_left, and_right, number_is}
+use Rattle.hc_effects.proofs.Basics.{number_is}
 use Rattle.hc_effects.proofs.Closed.{among_filter}
 use Rattle.hc_effects.proofs.CurrentKeeps.{current_is}
 use Rattle.hc_effects.proofs.KeysKeep.{current_row}
@@ -55,7 +56,7 @@ use Rattle.hc_state.proofs.LiveCounts.{filter-reverse}
 use Rattle.hc_core.proofs.NobodyLive.{nobody, nobody_says, unbound, none_bound, shut, none_held}
 use Rattle.hc_core.proofs.RunsBack.{cells_back}
 use Rattle.hc_core.proofs.Standing.{law_of_runs}
-use Rattle.hc_state.proofs.Words.{same_or, eqb-same, eqb-other, false_true, none_some, not_true, same_row, some_is, then_false}
+use Rattle.hc_state.proofs.Words.{none_some}
 use Rattle.hc_core.specs.declared.cache.Cache.{Cache}
 use Rattle.hc_core.specs.Steps.{ServesAll}
 
@@ -84,10 +85,6 @@ unfolding tables
 begun_sound limits contents may = (carried limits contents [] may tt).is_sound
 
 -- LISTS
-
-filters_as : (f h : ℕ → Bool) → ((q : ℕ) → f q ≡ h q) → (qs : List ℕ) → filter f qs ≡ filter h qs
-filters_as f h same [] = refl
-filters_as f h same (q ∷ qs) = rw (same q, filters_as f h same qs) refl
 
 filter_twice : (f : ℕ → Bool) (qs : List ℕ) → filter f (filter f qs) ≡ filter f qs
 filter_twice f [] = refl

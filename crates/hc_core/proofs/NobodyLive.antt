@@ -1,6 +1,7 @@
 -- Where nobody is live nobody is bound, waits or has a turn, no exchange is open, and nothing is held.
 use Rattle.std.proofs.Common.{◌≡◌, ℕ, List, [], ◌∷◌, length, Bool, true, false, Option, Some, None, refl, ap, sym, ◌∙◌, arith}
 use Rattle.std.specs.Prelude.{is_some, filter}
+use Rattle.hc_text.proofs.Basics.{false_true, none_long, never_true as not_true}
 use Rattle.hc_event.specs.declared.place.Place.{Place}
 use Rattle.hc_event.specs.declared.place.Place.TheVariants as place
 use Rattle.hc_model.specs.Denials.{live, is_live, is_live_place}
@@ -14,11 +15,6 @@ use Rattle.hc_model.specs.Whose as whose
 use Rattle.hc_effects.proofs.ExclusiveWriters.{filter_some}
 use Rattle.hc_state.specs.Kept.{held_for, held_of, held_alone, unread, unstored_bytes}
 use Rattle.hc_state.proofs.LiveCounts.{filter_nothing}
-use Rattle.hc_state.proofs.Words.{false_true, not_true}
-
-none_long : (xs : List ℕ) → length xs ≡ 0 → xs ≡ []
-none_long [] none = refl
-none_long (x ∷ xs) none = absurd (omega (arith, none))
 
 over_by : (p : Place) → is_live_place p ≡ false → p ≡ place.Over
 over_by place.Over off = refl

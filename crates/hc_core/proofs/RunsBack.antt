@@ -3,13 +3,12 @@ use Rattle.std.proofs.Common.{◌≡◌, ◌≢◌, ◌⊎◌, inl, inr, ℕ, ze
 use Rattle.std.specs.Prelude.{nat_eq, ◌==◌, ◌&&◌, if◌then◌else◌}
 use Rattle.std.proofs.lemmas.Bool.{cases_Bool}
 use Rattle.std.proofs.lemmas.Bool.Decides.{nat_tests}
+use Rattle.hc_text.proofs.Basics.{and_left, and_right, same_or, lt_or as split}
 use Rattle.hc_sparse.specs.Cells.{Cells, Cell, EndsBy, inside}
 use Rattle.hc_sparse.specs.Runs.{cells_of}
 use Rattle.hc_sparse.specs.declared.run.Run.{Run}
 use Rattle.hc_sparse.proofs.CellLemmas.{inside-yes, inside-before, inside-past, inside-cases}
 use Rattle.hc_model.specs.Contents.{run_from, with_cell, with_place, runs_from}
-use Rattle.hc_effects.proofs.Basics.{and_left, and_right, split}
-use Rattle.hc_state.proofs.Words.{same_or}
 
 -- ONE MORE IN FRONT
 

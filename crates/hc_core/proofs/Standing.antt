@@ -1,6 +1,7 @@
 -- The facts that hold of the tables of every run.
 use Rattle.std.proofs.Common.{◌≡◌, ℕ, ◌<◌, ◌≤◌, ◌^◌, true, Option, Some, None, sym, subst, arith}
 use Rattle.std.specs.Prelude.{is_some}
+use Rattle.hc_text.proofs.Basics.{false_true}
 use Rattle.hc_stored.specs.Entries.{shelf_of}
 use Rattle.hc_store.specs.declared.backend.Backend.{Ghosts}
 use Rattle.hc_event.specs.declared.event.Response.{Response}
@@ -42,7 +43,7 @@ use Rattle.hc_state.specs.declared.rows.Rows.{Rows}
 use Rattle.hc_state.specs.Facts.{Facts}
 use Rattle.hc_state.specs.Stands.{RowsStand, StandsForSome, Stands}
 use Rattle.hc_state.specs.Good.{StandsUntil, StandsBy}
-use Rattle.hc_state.proofs.Words.{false_true, few_received}
+use Rattle.hc_state.proofs.Words.{few_received}
 use Rattle.hc_core.proofs.SizedAlike.{merely_same, sized_alike, sized_here}
 
 -- with its head it goes on at its front

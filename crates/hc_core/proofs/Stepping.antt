@@ -6,6 +6,7 @@ use Rattle.std.proofs.Math.Logic.{∥∥₁_elim, ∥∥₁_map}
 use Rattle.std.proofs.Math.Seq.{drop-append_seam}
 use Rattle.std.specs.Prelude.{nat_eq, nat_le, ◌||◌, drop, if◌then◌else◌}
 use Rattle.std.specs.HashMap.{get, hash_map_len}
+use Rattle.hc_text.proofs.Basics.{or_right as or_second}
 use Rattle.hc_store.specs.declared.backend.Backend.{Ghosts}
 use Rattle.hc_event.specs.Filters.{is_denied}
 use Rattle.hc_event.specs.declared.event.Event.{Event}
@@ -168,10 +169,6 @@ answer_accepted limits t now ev flaw none = ap (λ o. denied_or o (accepted_acts
 answer_denied : (limits : Limits) (t : Tables) (now : ℕ) (ev : Event) (flaw : Flaw) (why : Refusal) → denial t ev ≡ Some why → answer limits t now ev flaw ≡ act.Denied why ∷ []
 unfolding answer
 answer_denied limits t now ev flaw why some = ap (λ o. denied_or o (accepted_acts limits t now ev flaw)) some
-
-or_second : (a b : Bool) → b ≡ true → (a || b) ≡ true
-or_second true b on = refl
-or_second false b on = on
 
 may_stand_accepted : (limits : Limits) (t : Tables) (e : Entry) (flaw : Flaw) → flaw_in e.acts ≡ flaw → may_be limits t e flaw ≡ true → may_stand limits t e ≡ true
 unfolding may_stand

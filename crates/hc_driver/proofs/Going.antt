@@ -9,6 +9,7 @@ use Rattle.std.proofs.Common.{◌≡◌, ℕ, suc, ◌+◌, ◌<◌, ◌≤◌, 
 use Rattle.std.proofs.lemmas.List.{append-nil, take-append-drop, take_more, length-take}
 use Rattle.std.proofs.Math.Seq.{drop-cons}
 use Rattle.std.specs.Result.{IsErrAnd}
+use Rattle.hc_text.proofs.Basics.{nothing_first}
 use Rattle.hc_event.specs.declared.event.Event.{Event}
 use Rattle.hc_io.specs.Sink.{Takes, TakesFront}
 use Rattle.hc_io.specs.declared.sink.SinkError.{SinkError}
@@ -42,10 +43,6 @@ from xs i x lt is = let step : i + 1 ≡ suc i = omega arith in rw step (drop-co
 
 pub front : (xs : List Timed) (i : ℕ) (x : Timed) → i < length xs → x ≡ get_or xs i x → take (i + 1) xs ≡ take i xs ++ x ∷ []
 front xs i x lt is = take_more xs i x lt ∙ ap (λ (y : Timed). take i xs ++ y ∷ []) (sym is)
-
-nothing_first : (xs ys : List ℕ) → xs ++ ys ≡ [] → xs ≡ []
-nothing_first [] ys is = refl
-nothing_first (x ∷ xs) ys is = cc
 
 -- HISTORIES THAT JOIN
 

@@ -1,6 +1,7 @@
 -- What the parts of an answer say: what makes room, what is lost, what is closed, and what is said to the consumer of a poll.
 use Rattle.std.proofs.Common.{◌≡◌, inl, inr, ℕ, List, [], ◌∷◌, ◌++◌, Bool, true, false, Option, Some, None, refl, ap, sym, ◌∙◌}
 use Rattle.std.specs.Prelude.{map, filter, ◌==◌, ◌||◌, nat_eq}
+use Rattle.hc_text.proofs.Basics.{bool_cases, some_inj as some_is}
 use Rattle.hc_event.specs.Filters.{Opening, opening_in, asks_in, closes_in, shows_in, given_in, leaves_in, evicts_in}
 use Rattle.hc_event.specs.declared.act.Act.{Act}
 use Rattle.hc_event.specs.declared.act.Act.TheVariants as act
@@ -16,7 +17,6 @@ use Rattle.hc_model.specs.Moves.{Move, Nothing, Asks, Opens, Shows, Gives, Ends,
 use Rattle.hc_model.specs.Polls.{poll_move}
 use Rattle.hc_model.specs.Rows.{Tables, Consumer}
 use Rattle.hc_model.specs.Weights.{evicted}
-use Rattle.hc_effects.proofs.HoleLemmas.{bool_cases}
 use Rattle.hc_effects.proofs.PieceKeeps.{eq_cases}
 use Rattle.hc_effects.proofs.PollKeys.{IsNear, near_polled}
 
@@ -225,10 +225,6 @@ far_closed c (y ∷ ys) = let f = far_closed c ys in record { waits = f.waits; l
 pub far_evicted : (c : ℕ) (rs : List ℕ) (rest : List Act) → IsFarFrom c rest → IsFarFrom c (map act.Evicted rs ++ rest)
 far_evicted c [] rest far = far
 far_evicted c (r ∷ rs) rest far = let f = far_evicted c rs rest far in record { waits = f.waits; leaves = f.leaves; fails = f.fails; shows = f.shows; given = f.given; opens = f.opens; showing = f.showing }
-
--- those of another consumer's move
-some_is : {A : Type 0} (a b : A) → Some a ≡ Some b → a ≡ b
-some_is a b h = cc
 
 pub far_other : (c d : ℕ) (m : Move) (rest : List Act) → nat_eq d c ≡ false → IsFarFrom c rest → IsFarFrom c (acts_of d m ++ rest)
 far_other c d Nothing rest other far = far

@@ -2,6 +2,7 @@
 use Rattle.std.proofs.Common.{◌≡◌, ◌⊎◌, inl, inr, ℕ, ◌<◌, ◌≤◌, List, [], ◌∷◌, ◌++◌, Bool, true, false, Option, Some, None, refl, ap, arith}
 use Rattle.std.specs.Prelude.{is_some, ◌&&◌, ◌||◌, not, nat_eq}
 use Rattle.std.proofs.lemmas.Bool.Decides.{nat_tests}
+use Rattle.hc_text.proofs.Basics.{both_true as and_both, and_left, and_right, not_some as none_some, never_true as not_so, not_true, or_cases, or_left, or_right, lt_or as split}
 use Rattle.hc_model.specs.Currents.{is_number}
 
 -- TESTS
@@ -12,46 +13,11 @@ false_true h = cc
 pub true_false : true ≡ false → ⊥
 true_false h = cc
 
-pub and_left : (a b : Bool) → (a && b) ≡ true → a ≡ true
-and_left true b h = refl
-and_left false b h = absurd (false_true h)
-
-pub and_right : (a b : Bool) → (a && b) ≡ true → b ≡ true
-and_right true b h = h
-and_right false b h = absurd (false_true h)
-
-pub and_both : (a b : Bool) → a ≡ true → b ≡ true → (a && b) ≡ true
-and_both true b p q = q
-and_both false b p q = absurd (false_true p)
-
-pub or_cases : (a b : Bool) → (a || b) ≡ true → (a ≡ true) ⊎ (b ≡ true)
-or_cases true b h = inl refl
-or_cases false b h = inr h
-
-pub or_left : (a b : Bool) → a ≡ true → (a || b) ≡ true
-or_left true b h = refl
-or_left false b h = absurd (false_true h)
-
-pub or_right : (a b : Bool) → b ≡ true → (a || b) ≡ true
-or_right true b h = refl
-or_right false b h = h
-
 pub or_false : (a b : Bool) → (a || b) ≡ false → (a ≡ false) × (b ≡ false)
 or_false false b h = (refl, h)
 or_false true b h = absurd (true_false h)
 
-pub not_so : (b : Bool) → (b ≡ true → ⊥) → b ≡ false
-not_so true off = absurd (off refl)
-not_so false off = refl
-
-pub not_true : (b : Bool) → not b ≡ true → b ≡ false
-not_true true h = absurd (false_true h)
-not_true false h = refl
-
 -- OPTIONS
-
-pub none_some : {A : Type 0} (a : A) → None ≡ Some a → ⊥
-none_some a is = cc
 
 pub some_none : {A : Type 0} (a : A) → Some a ≡ None → ⊥
 some_none a is = cc
@@ -79,6 +45,3 @@ same_functions f g same = λ i. λ a. same a i
 pub append_none : {A : Type 0} (xs : List A) → (xs ++ []) ≡ xs
 append_none [] = refl
 append_none (x ∷ xs) = ap (λ ys. x ∷ ys) (append_none xs)
-
-pub split : (a b : ℕ) → (a < b) ⊎ (b ≤ a)
-split a b = grind (arith, nat_tests)

@@ -1,6 +1,7 @@
 -- How a consumer that is bound after an entry became bound: it was, its head founds, its first hole is opened, or its plan shows it what is current.
 use Rattle.std.proofs.Common.{◌≡◌, ◌⊎◌, inl, inr, ℕ, Bool, true, false, Option, Some, None, refl, ap, sym, ◌∙◌}
 use Rattle.std.specs.Prelude.{if◌then◌else◌, ◌==◌, ◌&&◌, not, is_none}
+use Rattle.hc_text.proofs.Basics.{bool_cases, some_inj}
 use Rattle.hc_event.specs.Filters.{Opening, opening_in, leaves_in}
 use Rattle.hc_event.specs.declared.event.Event.{Event}
 use Rattle.hc_event.specs.declared.event.Event.TheVariants as event
@@ -32,8 +33,7 @@ use Rattle.hc_model.specs.Heads.{founded_total}
 use Rattle.hc_model.specs.Reading.{bound_to, reads}
 use Rattle.hc_model.specs.Rows.{Tables, Exchange, Representation, Consumer}
 use Rattle.hc_model.specs.StartingOver.{starts_over}
-use Rattle.hc_effects.proofs.PieceKeeps.{eq_cases, some_inj}
-use Rattle.hc_effects.proofs.HoleLemmas.{bool_cases}
+use Rattle.hc_effects.proofs.PieceKeeps.{eq_cases}
 
 -- the parts of a bound place
 pub record IsSamePlace (q a : ℕ) (b : Option ℕ) (d : BoundBy) (r lo : ℕ) (hi : Option ℕ) (how : BoundBy) : Type 0 where

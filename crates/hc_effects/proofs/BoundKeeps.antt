@@ -1,6 +1,7 @@
 -- Whoever is bound is bound to what is there, one at most became bound as the only one, and that one knows its end.
 use Rattle.std.proofs.Common.{◌≡◌, ℕ, true, false, Option, Some, None, refl, ap, sym, ◌∙◌, subst}
 use Rattle.std.specs.Prelude.{is_some}
+use Rattle.hc_text.proofs.Basics.{same_some as same_row}
 use Rattle.hc_event.specs.Filters.{Opening, opening_in}
 use Rattle.hc_event.specs.declared.event.Event.{Event}
 use Rattle.hc_event.specs.declared.event.Event.TheVariants as event
@@ -22,7 +23,6 @@ use Rattle.hc_model.specs.Tables.{after_accepted}
 use Rattle.hc_model.specs.Sound as sound
 use Rattle.hc_effects.proofs.BoundFrom.{BoundFrom, IsFounded, IsFirstHole, IsShown, IsRow, bound_from}
 use Rattle.hc_effects.proofs.BoundFrom as from
-use Rattle.hc_effects.proofs.ExclusiveWriters.{same_row}
 use Rattle.hc_effects.proofs.RepFrom.{stays, founds}
 use Rattle.hc_event.specs.declared.act.Wait.{Wait}
 use Rattle.hc_effects.proofs.Said.{ShowsBy, OpensBy, IsPoll, IsOpening, IsShowing, WaitsAs, opening_by, showing_by, waiting_by}

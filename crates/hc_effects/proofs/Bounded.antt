@@ -4,6 +4,7 @@ use Rattle.std.specs.Str.{str_to_ascii_lowercase}
 use Rattle.std.specs.Prelude.{bytes_eq, codes, take, drop, IfSome, nat_lt, nat_le, min, unwrap_or, ◌||◌, ◌&&◌, if◌then◌else◌}
 use Rattle.std.specs.Option.{option_map}
 use Rattle.std.proofs.lemmas.Bool.Decides.{nat_tests}
+use Rattle.hc_text.proofs.Basics.{not_some as none_some, or_off_right as or_false, same_some as same_row, some_inj}
 use Rattle.hc_range.specs.Spans.{resolved_span, IsInOrder}
 use Rattle.hc_range.specs.declared.range.Asked.{Asked}
 use Rattle.hc_range.specs.declared.range.Asked.TheVariants.{From, FromTo, Last}
@@ -39,7 +40,7 @@ use Rattle.hc_model.specs.Rows.{Tables, Exchange, Consumer}
 use Rattle.hc_model.specs.Sound.{Sound}
 use Rattle.hc_model.specs.StartingOver.{starts_over}
 use Rattle.hc_model.specs.Tables.{first_tables, after_accepted, after_denied}
-use Rattle.hc_effects.proofs.Basics.{false_true, none_some}
+use Rattle.hc_effects.proofs.Basics.{false_true}
 use Rattle.hc_effects.proofs.BoundFrom.{BoundFrom, IsRow, IsFounded, IsInterval, IsShown, bound_from}
 use Rattle.hc_effects.proofs.BoundFrom as from
 use Rattle.hc_effects.proofs.BoundKeeps.{shown_place_is}
@@ -54,8 +55,7 @@ use Rattle.hc_effects.proofs.GivenNext.{given_next}
 use Rattle.hc_effects.proofs.Givers.{gives_of, some_want}
 use Rattle.hc_effects.proofs.MoveBy.{move_by}
 use Rattle.hc_effects.proofs.Once.{taken}
-use Rattle.hc_effects.proofs.PieceKeeps.{eq_cases, some_inj}
-use Rattle.hc_effects.proofs.ExclusiveWriters.{same_row}
+use Rattle.hc_effects.proofs.PieceKeeps.{eq_cases}
 use Rattle.hc_effects.proofs.PollActs.{ToOne, to_one}
 use Rattle.hc_effects.proofs.PollActs as acts_to
 use Rattle.hc_effects.proofs.Said.{IsShowing, showing_by}
@@ -173,10 +173,6 @@ new_given : (t : Tables) (e : Entry) (c : ℕ) (q : Option Consumer) (u : Consum
 unfolding consumer_after
 new_given t e c None u none h = made_given c e.now e.event u h
 new_given t e c (Some k) u none h = absurd (let no : Some k ≡ None = none in cc)
-
-or_false : (a b : Bool) → (a || b) ≡ false → b ≡ false
-or_false false b h = h
-or_false true b h = absurd (false_true (sym h))
 
 module _ (limits : Limits) (t : Tables) (now : ℕ) (flaw : Flaw) (s : Sound t) (o : Owners t) (ev : Event) (goes : denial t ev ≡ None) where
   abbrev e : Entry

@@ -3,6 +3,7 @@ use Rattle.std.proofs.Common.{◌≡◌, inl, inr, ℕ, List, [], ◌∷◌, ◌
 use Rattle.std.specs.Prelude.{map, filter, reverse, nat_eq, is_some}
 use Rattle.std.proofs.lemmas.Bool.Decides.{nat_tests}
 use Rattle.std.proofs.lemmas.List.{reverse-append}
+use Rattle.hc_text.proofs.Basics.{both_true as and_both, bool_cases, eq_itself as eq_refl, or_right, reverse_is as reversed_is}
 use Rattle.hc_event.specs.Filters.{closes_in}
 use Rattle.hc_event.specs.declared.event.Event.{Event}
 use Rattle.hc_event.specs.declared.event.Event.TheVariants as event
@@ -17,8 +18,6 @@ use Rattle.hc_model.specs.Flaws.{Flaw, NoFlaw, Loses, Misreads}
 use Rattle.hc_model.specs.Rows.{Tables, Exchange}
 use Rattle.hc_model.specs.Sound.{Sound, Among}
 use Rattle.hc_model.specs.Weights.{evicted}
-use Rattle.hc_effects.proofs.Basics.{and_both, or_right}
-use Rattle.hc_effects.proofs.HoleLemmas.{bool_cases}
 
 -- LISTS
 
@@ -39,9 +38,6 @@ among_filter x test (z ∷ xs) passes (inr there) = elim (bool_cases (test z)) [
   | inr left ↦ rw left (among_filter x test xs passes there)
 ]
 
-reversed_is : (z : ℕ) (xs : List ℕ) → reverse (z ∷ xs) ≡ reverse xs ++ (z ∷ [])
-reversed_is z xs = reverse-append (z ∷ []) xs
-
 pub reversed : (x : ℕ) (xs : List ℕ) → Among x xs → Among x (reverse xs)
 reversed x [] there = absurd there
 reversed x (z ∷ xs) (inl here) = subst (Among x) (sym (reversed_is z xs)) (among_append_right x (reverse xs) (z ∷ []) (inl here))
@@ -57,9 +53,6 @@ closes_lost : (x : ℕ) (flaw : Flaw) (rest : List Act) → closes_in x rest ≡
 closes_lost x NoFlaw rest closes = closes
 closes_lost x (Loses r kind) rest closes = closes
 closes_lost x (Misreads r) rest closes = closes
-
-eq_refl : (x : ℕ) → nat_eq x x ≡ true
-eq_refl x = grind (arith, nat_tests)
 
 closes_list : (x : ℕ) (xs : List ℕ) (rest : List Act) → Among x xs → closes_in x (map act.Close xs ++ rest) ≡ true
 closes_list x [] rest there = absurd there

@@ -2,6 +2,7 @@
 use Rattle.std.proofs.Common.{◌≡◌, inl, inr, ℕ, ◌+◌, List, [], ◌∷◌, ◌++◌, length, Bool, true, false, cond, Option, Some, None, refl, ap, sym, ◌∙◌}
 use Rattle.std.specs.Prelude.{if◌then◌else◌, ◌==◌, ◌||◌, option_map}
 use Rattle.std.specs.Option.{option_or}
+use Rattle.hc_text.proofs.Basics.{bool_cases, or_none}
 use Rattle.hc_event.specs.Filters.{Opening, opening_in, is_denied, given_in, shows_in}
 use Rattle.hc_event.specs.declared.event.Event.{Event}
 use Rattle.hc_event.specs.declared.event.Event.TheVariants as event
@@ -12,17 +13,12 @@ use Rattle.hc_model.specs.ConsumerRows.{consumer_after, consumer_made, consumer_
 use Rattle.hc_event.specs.declared.place.Place.TheVariants as place
 use Rattle.hc_model.specs.Tables.{tables, after}
 use Rattle.hc_model.specs.Histories.{each, each_after, first, last, if_accepted, request_in, request_of, since_of, start_in, start_at, starts_over_at}
-use Rattle.hc_effects.proofs.HoleLemmas.{bool_cases}
 
 -- LISTS
 
 pub first_append : {A : Type 0} (xs ys : List A) → first (xs ++ ys) ≡ option_or (first xs) (first ys)
 first_append [] ys = refl
 first_append (x ∷ xs) ys = refl
-
-pub or_none : {A : Type 0} (o : Option A) → option_or o None ≡ o
-or_none None = refl
-or_none (Some a) = refl
 
 -- with one more entry
 pub first_more : {A : Type 0} (xs ys : List A) (o p : Option A) → o ≡ first xs → p ≡ option_or o (first ys) → p ≡ first (xs ++ ys)

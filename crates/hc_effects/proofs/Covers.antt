@@ -1,6 +1,7 @@
 -- The exclusive writer has all up to where its exchange goes on.
 use Rattle.std.proofs.Common.{◌≡◌, ◌⊎◌, inl, inr, ℕ, ◌+◌, ◌<◌, ◌≤◌, List, length, true, Option, Some, None, refl, ap, sym, ◌∙◌, subst, arith, length-append}
 use Rattle.std.specs.Prelude.{is_some}
+use Rattle.hc_text.proofs.Basics.{same_some as same_row, some_inj, lt_or as split}
 use Rattle.hc_sparse.specs.Cells.{Cells, Cell, Covers, cells_with}
 use Rattle.hc_sparse.proofs.CellLemmas.{inside-yes}
 use Rattle.hc_event.specs.Filters.{Opening, opening_in, given_in}
@@ -28,7 +29,7 @@ use Rattle.hc_model.specs.Sound.{Sound, IsBound, IsAbout, IsExclusiveWriter}
 use Rattle.hc_model.specs.Sound as sound
 use Rattle.hc_model.specs.Tables.{after_accepted}
 use Rattle.hc_effects.proofs.AboutKeeps.{own_open_is}
-use Rattle.hc_effects.proofs.Basics.{false_true, split}
+use Rattle.hc_effects.proofs.Basics.{false_true}
 use Rattle.hc_effects.proofs.Beside.{IsBeside, goes_on_at}
 use Rattle.hc_effects.proofs.BoundFrom.{IsRow}
 use Rattle.hc_effects.proofs.ConsumerFilters.{acted}
@@ -41,8 +42,7 @@ use Rattle.hc_effects.proofs.HeadTo.{front_within}
 use Rattle.hc_effects.proofs.LossBy.{IsReal}
 use Rattle.hc_effects.proofs.MeasuresKeep.{IsHeld, held, piece_taken}
 use Rattle.hc_effects.proofs.OpensFrom.{IsHole, opens_hole}
-use Rattle.hc_effects.proofs.ExclusiveWriters.{same_row, bound_some}
-use Rattle.hc_effects.proofs.PieceKeeps.{some_inj}
+use Rattle.hc_effects.proofs.ExclusiveWriters.{bound_some}
 use Rattle.hc_effects.proofs.PollTree.{OpensHole}
 use Rattle.hc_effects.proofs.PollTree as tree
 use Rattle.hc_effects.proofs.RepFrom.{IsKept}

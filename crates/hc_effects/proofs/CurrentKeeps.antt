@@ -2,6 +2,7 @@
 use Rattle.std.proofs.Common.{◌≡◌, inl, inr, ℕ, List, [], ◌∷◌, Bool, true, false, cond, Option, Some, None, refl, ap, sym, ◌∙◌, arith}
 use Rattle.std.specs.Prelude.{◌&&◌, ◌||◌, not, ◌==◌, nat_eq, bytes_eq, find, is_some, if◌then◌else◌, option_map}
 use Rattle.std.proofs.lemmas.Bool.Decides.{nat_tests}
+use Rattle.hc_text.proofs.Basics.{and_both, bool_cases, eq_itself as eq-refl, not_true as not_gone, or_left, or_right, some_inj}
 use Rattle.hc_event.specs.declared.event.Event.{Event}
 use Rattle.hc_event.specs.declared.event.Event.TheVariants as event
 use Rattle.hc_event.specs.declared.event.Response.{Response}
@@ -19,9 +20,7 @@ use Rattle.hc_model.specs.Exchanges.{family, exchange_at}
 use Rattle.hc_model.specs.Rows.{Tables, Exchange, Representation}
 use Rattle.hc_model.specs.Sound.{Sound, Among, OneCurrent}
 use Rattle.hc_model.specs.Tables.{after_accepted}
-use Rattle.hc_effects.proofs.Basics.{or_left, or_right, or_false}
-use Rattle.hc_effects.proofs.HoleLemmas.{bool_cases}
-use Rattle.hc_effects.proofs.PieceKeeps.{some_inj}
+use Rattle.hc_effects.proofs.Basics.{or_false}
 
 -- WHAT A ROW KEEPS
 
@@ -58,11 +57,6 @@ heard_same t e r (event.Doom key) v = same v
 pub data WasOrFounded (t : Tables) (e : Entry) (r : ℕ) (u : Representation) : Type 0 where
   was : (v : Representation) → t.representation r ≡ Some v → u.key ≡ v.key → u.is_gone ≡ (becomes_gone t e r v || v.is_gone) → WasOrFounded t e r u
   founded : (x : ℕ) (response : Response) (w : Exchange) → e.event ≡ event.Head x response → x ≡ r → is_founding (case_at t e) ≡ true → t.exchange x ≡ Some w → u.key ≡ w.request.key → t.representation r ≡ None → WasOrFounded t e r u
-
-and_both : (a b : Bool) → (a && b) ≡ true → (a ≡ true) × (b ≡ true)
-and_both true true h = (refl, refl)
-and_both true false h = absurd (let never : false ≡ true = h in cc)
-and_both false b h = absurd (let never : false ≡ true = h in cc)
 
 made : (t : Tables) (e : Entry) (r x : ℕ) (response : Response) (u : Representation) (b : Bool) (o : Option Exchange) → e.event ≡ event.Head x response → t.representation r ≡ None → (b ≡ true → (is_founding (case_at t e) ≡ true) × (x ≡ r)) → t.exchange x ≡ o → (if b then option_map (new_representation r e response) o else None) ≡ Some u → WasOrFounded t e r u
 made t e r x response u false o at none is row h = absurd (let never : None ≡ Some u = h in cc)
@@ -127,9 +121,6 @@ goes_too t e q x response w v at row is now =
 
 -- WHAT ISN'T GONE IS CURRENT
 
-eq-refl : (r : ℕ) → nat_eq r r ≡ true
-eq-refl r = grind (arith, nat_tests)
-
 pub usable : (key : List ℕ) (o : Option Representation) (v : Representation) → o ≡ Some v → v.key ≡ key → v.is_gone ≡ false → is_usable key o ≡ true
 usable key o v row of_key fresh = rw (row, fresh) (and_true (bytes_eq v.key key) (bytes_eq-same v.key key of_key))
   where
@@ -154,10 +145,6 @@ pub record IsUsable (t : Tables) (key : List ℕ) (n : ℕ) : Type 0 where
   pub row : t.representation n ≡ Some v
   pub of_key : v.key ≡ key
   pub fresh : v.is_gone ≡ false
-
-not_gone : (b : Bool) → not b ≡ true → b ≡ false
-not_gone true h = absurd (let never : false ≡ true = h in cc)
-not_gone false h = refl
 
 pub usable_row : (t : Tables) (key : List ℕ) (n : ℕ) (o : Option Representation) → t.representation n ≡ o → is_usable key o ≡ true → IsUsable t key n
 usable_row t key n None row h = absurd (let never : false ≡ true = h in cc)

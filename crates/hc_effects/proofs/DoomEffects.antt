@@ -2,6 +2,7 @@
 use Rattle.std.proofs.Common.{◌≡◌, inl, inr, ℕ, List, [], Bool, true, false, Option, Some, None, refl, ap, ap₂, sym, ◌∙◌}
 use mathlib.Core.Path.{fun_ext}
 use Rattle.std.specs.Prelude.{◌&&◌, ◌||◌, ◌==◌, is_none, bytes_eq, if◌then◌else◌, map, filter, reverse, option_map}
+use Rattle.hc_text.proofs.Basics.{and_left, and_right, bool_cases, not_some as none_some, never_true as not_so, and_off as then_false}
 use Rattle.hc_text.specs.declared.bytes.Key.{Key}
 use Rattle.hc_event.specs.declared.act.Act.TheVariants as act
 use Rattle.hc_event.specs.declared.event.Event.{Event}
@@ -24,16 +25,14 @@ use Rattle.hc_model.specs.Lawful.{Lawful}
 use Rattle.hc_model.specs.RepresentationRows.{representation_after}
 use Rattle.hc_model.specs.Rows.{Tables, Exchange, Representation, Consumer}
 use Rattle.hc_model.specs.Tables.{after_accepted, with_item_first}
-use Rattle.hc_effects.proofs.Basics.{none_some, false_true, and_left, and_right, not_so, number_is}
+use Rattle.hc_effects.proofs.Basics.{false_true, number_is}
 use Rattle.hc_effects.proofs.ConsumerEffects.{some_all}
 use Rattle.hc_effects.proofs.DoomFrames.{sent_as, awaited_apart}
 use Rattle.hc_effects.proofs.FewClosings.{nothing_lost}
-use Rattle.hc_effects.proofs.HoleLemmas.{bool_cases}
 use Rattle.hc_effects.proofs.KeyNames.{current_key}
 use Rattle.hc_effects.proofs.SameTables.{is_in, in_one, back_from_any, all_closed_is}
 use Rattle.hc_effects.proofs.Standing.{after_heard}
 use Rattle.hc_effects.proofs.Dues.{undue_of, stop_none}
-use Rattle.hc_effects.proofs.Tests.{then_false}
 use Rattle.hc_effects.proofs.ToldFrames.{dooms, says_little, exchange_other, goes_as, closes_as, far, representation_by, representation_none, beside_same, starts_is, told_by, told_plainly}
 use Rattle.hc_effects.proofs.ToldFrames as told
 use Rattle.hc_effects.proofs.Untouched.{loss_spared, spared_bodiless, consumer_absent}

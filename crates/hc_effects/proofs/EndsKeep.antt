@@ -2,6 +2,7 @@
 use Rattle.std.proofs.Common.{◌≡◌, ◌⊎◌, inl, inr, ℕ, ◌+◌, ◌-◌, ◌≤◌, Bool, true, false, Option, Some, None, refl, ap, sym, ◌∙◌, subst, arith, min}
 use Rattle.std.specs.Prelude.{if◌then◌else◌, is_some, ◌&&◌, nat_eq, nat_lt}
 use Rattle.std.specs.Option.{option_or}
+use Rattle.hc_text.proofs.Basics.{not_some as none_some, number_not, same_some as same_row, some_inj}
 use Rattle.hc_range.specs.declared.range.Asked.{Asked}
 use Rattle.hc_range.specs.declared.range.Asked.TheVariants.{FromTo, From, Last}
 use Rattle.hc_range.specs.declared.range.Span.{Span}
@@ -35,14 +36,12 @@ use Rattle.hc_model.specs.Rows.{Tables, Exchange, Representation, Consumer}
 use Rattle.hc_model.specs.Sound.{Sound}
 use Rattle.hc_model.specs.Sound as sound
 use Rattle.hc_model.specs.Tables.{after_accepted}
-use Rattle.hc_effects.proofs.Basics.{false_true, none_some}
+use Rattle.hc_effects.proofs.Basics.{false_true}
 use Rattle.hc_effects.proofs.BoundFrom.{BoundFrom, IsRow, IsInterval, IsShown, IsFounded, bound_from}
 use Rattle.hc_effects.proofs.BoundFrom as from
 use Rattle.hc_effects.proofs.BoundKeeps.{shown_place_is}
 use Rattle.hc_effects.proofs.FirstKeeps.{case_of_head, whole_200, replaced_200, is_new}
-use Rattle.hc_effects.proofs.MeasuresKeep.{brings_kept, tight_kept, within_kept, number_not}
-use Rattle.hc_effects.proofs.PieceKeeps.{some_inj}
-use Rattle.hc_effects.proofs.ExclusiveWriters.{same_row}
+use Rattle.hc_effects.proofs.MeasuresKeep.{brings_kept, tight_kept, within_kept}
 use Rattle.hc_effects.proofs.RepFrom.{RepFrom, rep_from, IsKept, IsEnded}
 use Rattle.hc_effects.proofs.RepFrom as rep
 use Rattle.hc_effects.proofs.Said.{IsShowing, showing_by}

@@ -1,6 +1,7 @@
 -- The rows after an entry that makes room are those after it without that, once what makes room is evicted.
 use Rattle.std.proofs.Common.{◌≡◌, inl, inr, ℕ, List, [], ◌∷◌, ◌++◌, Bool, true, false, Option, Some, None, refl, ap, sym, ◌∙◌}
 use Rattle.std.specs.Prelude.{map, ◌==◌, ◌||◌, ◌&&◌, not, is_some, if◌then◌else◌, option_map}
+use Rattle.hc_text.proofs.Basics.{bool_cases, or_false as or_off}
 use Rattle.hc_event.specs.Filters.{evicts_in}
 use Rattle.hc_event.specs.declared.act.Act.{Act}
 use Rattle.hc_event.specs.declared.act.Act.TheVariants as act
@@ -23,7 +24,6 @@ use Rattle.hc_model.specs.StartingOver.{starts_over, waits_at, sends_back, loses
 use Rattle.hc_model.specs.Tables.{after_accepted, with_item_first, to_front, opened_after, openings_after}
 use Rattle.hc_effects.proofs.Alike.{AreAlike, alike_evicted, case_same, doomed_same, itself_same, exchange_same, founds_same, binds_same, founded_same, heard_same, heard_consumer, acted_same, due_same}
 use Rattle.hc_effects.proofs.Basics.{false_true}
-use Rattle.hc_effects.proofs.HoleLemmas.{bool_cases}
 use Rattle.hc_effects.proofs.SameTables.{same_tables, is_in, waits_for_any, back_from_any, without, all_go_is}
 
 -- AMONG WHAT MAKES ROOM
@@ -33,10 +33,6 @@ evicts_are r [] b none = none
 evicts_are r (q ∷ rs) b none = ap (λ z. (q == r) || z) (evicts_are r rs b none)
 
 -- THE ROWS
-
-or_off : (b : Bool) → (b || false) ≡ b
-or_off true = refl
-or_off false = refl
 
 waiting_shift : (i h : Bool) → ((i || h) && true) ≡ ((i && true) || h)
 waiting_shift true h = refl

@@ -2,6 +2,7 @@
 use Rattle.std.proofs.Common.{◌≡◌, inl, inr, ℕ, List, [], ◌∷◌, length, Bool, true, false, Option, Some, None, refl, ap, sym, ◌∙◌, arith}
 use Rattle.std.specs.Prelude.{find, filter, bytes_eq, nat_eq, ◌==◌, ◌&&◌, not, if◌then◌else◌, option_map}
 use Rattle.std.proofs.lemmas.Bool.Decides.{nat_tests}
+use Rattle.hc_text.proofs.Basics.{bool_cases, not_some as none_some, eq_itself as self_is, some_inj}
 use Rattle.hc_event.specs.declared.place.Place.{Place}
 use Rattle.hc_event.specs.declared.place.Place.TheVariants as place
 use Rattle.hc_model.specs.ConsumerRows.{back_in_line}
@@ -12,10 +13,9 @@ use Rattle.hc_model.specs.Evictions.{evict, evict_all, unless_it, EvictsOne, Any
 use Rattle.hc_model.specs.Reading.{bound, is_bound, is_bound_place}
 use Rattle.hc_model.specs.Rows.{Tables, Representation, Consumer}
 use Rattle.hc_model.specs.Sound.{OneCurrent}
-use Rattle.hc_effects.proofs.Basics.{same_functions, false_true, none_some}
+use Rattle.hc_effects.proofs.Basics.{same_functions, false_true}
 use Rattle.hc_effects.proofs.CurrentKeeps.{one_current_after, usable_row}
-use Rattle.hc_effects.proofs.HoleLemmas.{bool_cases}
-use Rattle.hc_effects.proofs.PieceKeeps.{eq_cases, some_inj}
+use Rattle.hc_effects.proofs.PieceKeeps.{eq_cases}
 use Rattle.hc_effects.proofs.PollKeeps.{find_passes}
 
 -- WHO STANDS WHERE
@@ -66,9 +66,6 @@ no_more key r q (Some v) here = rw here (by_key (bytes_eq v.key key))
     by_key : (b : Bool) → (b && not true) ≡ false
     by_key true = refl
     by_key false = refl
-
-self_is : (r : ℕ) → nat_eq r r ≡ true
-self_is r = grind (arith, nat_tests)
 
 module _ (t : Tables) (r : ℕ) (one : OneCurrent t) (key : List ℕ) where
   abbrev before : ℕ → Bool

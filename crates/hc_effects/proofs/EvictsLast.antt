@@ -1,6 +1,7 @@
 -- What makes room comes last: an accepted event does what it does without it, and then each of those goes.
 use Rattle.std.proofs.Common.{◌≡◌, inl, inr, ℕ, zero, suc, List, [], ◌∷◌, ◌++◌, Bool, true, false, Option, Some, None, refl, ap, sym, ◌∙◌}
 use Rattle.std.specs.Prelude.{map, filter, take, reverse, is_some, ◌==◌}
+use Rattle.hc_text.proofs.Basics.{bool_cases, same_some as same_row}
 use Rattle.hc_event.specs.Filters.{evicts_in}
 use Rattle.hc_event.specs.declared.act.Act.{Act}
 use Rattle.hc_event.specs.declared.act.Act.TheVariants as act
@@ -46,8 +47,6 @@ use Rattle.hc_effects.proofs.FirstKeeps.{is_new, case_of_head}
 use Rattle.hc_effects.proofs.FoundBy.{CaseBy}
 use Rattle.hc_effects.proofs.FoundBy as cases
 use Rattle.hc_effects.proofs.GivingWay.{writes_nothing}
-use Rattle.hc_effects.proofs.HoleLemmas.{bool_cases}
-use Rattle.hc_effects.proofs.ExclusiveWriters.{same_row}
 use Rattle.hc_effects.proofs.PieceKeeps.{eq_cases}
 use Rattle.hc_effects.proofs.PieceServes.{IsQuietActs, quiet_acts}
 use Rattle.hc_effects.proofs.PollEffects.{none_waits}

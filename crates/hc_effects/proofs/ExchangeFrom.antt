@@ -1,6 +1,7 @@
 -- Where the row of an exchange after an entry is from: it was there, or it is opened.
 use Rattle.std.proofs.Common.{◌≡◌, ◌⊎◌, inl, inr, ℕ, Bool, true, false, Option, Some, None, refl, ap, sym, ◌∙◌, subst}
 use Rattle.std.specs.Prelude.{◌&&◌, not, is_some}
+use Rattle.hc_text.proofs.Basics.{and_right, not_some as none_some, some_inj}
 use Rattle.hc_event.specs.Filters.{Opening, opening_in, closes_in}
 use Rattle.hc_event.specs.declared.event.Event.{Event}
 use Rattle.hc_event.specs.declared.event.Event.TheVariants as event
@@ -8,8 +9,8 @@ use Rattle.hc_event.specs.declared.event.Response.{Response}
 use Rattle.hc_model.specs.Entries.{Entry}
 use Rattle.hc_model.specs.ExchangeRows.{exchange_after, exchange_heard, exchange_acted, exchange_made, exchange_opened, joined_at}
 use Rattle.hc_model.specs.Rows.{Tables, Exchange}
-use Rattle.hc_effects.proofs.Basics.{false_true, and_right, none_some, some_none}
-use Rattle.hc_effects.proofs.PieceKeeps.{eq_cases, some_inj}
+use Rattle.hc_effects.proofs.Basics.{false_true, some_none}
+use Rattle.hc_effects.proofs.PieceKeeps.{eq_cases}
 
 -- its head comes, by which it may join what it is about
 pub record IsHeaded (t : Tables) (e : Entry) (x : ℕ) (w u : Exchange) : Type 0 where

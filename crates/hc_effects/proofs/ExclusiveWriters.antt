@@ -3,15 +3,11 @@ use Rattle.std.proofs.Common.{◌≡◌, ◌≢◌, inl, inr, ℕ, ◌<◌, List
 use Rattle.std.specs.Prelude.{is_some, nat_lt, filter, ◌&&◌, not}
 use Rattle.std.specs.Option.{option_or}
 use Rattle.std.proofs.lemmas.Bool.Decides.{nat_tests}
+use Rattle.hc_text.proofs.Basics.{bool_cases, same_some as same_row}
 use Rattle.hc_model.specs.Reading.{is_written, bound, offset, hi_of, own_open, source, is_bound, shared_exchange}
 use Rattle.hc_model.specs.Rows.{Tables, Representation, Consumer}
 use Rattle.hc_model.specs.Sound.{Sound, Numbered, Among, IsAbout, IsBound, IsFirst, IsExclusiveWriter, IsServed, IsHad, Writes}
 use Rattle.hc_model.specs.Sound as sound
-use Rattle.hc_effects.proofs.HoleLemmas.{bool_cases}
-
--- two values of one row are the same
-pub same_row : {A : Type 0} (o : Option A) (a b : A) → o ≡ Some a → o ≡ Some b → a ≡ b
-same_row o a b is also = cc
 
 -- what stands in a list and passes stays among those that pass
 pub filter_some : (test : ℕ → Bool) (c : ℕ) (cs : List ℕ) → Among c cs → test c ≡ true → filter test cs ≢ []

@@ -1,5 +1,6 @@
 -- Where its poll doesn't misread, nobody fails for a failed read of the store.
 use Rattle.std.proofs.Common.{◌≡◌, inl, inr, ℕ, Bool, true, false, cond, Option, Some, None, refl, ap, sym, ◌∙◌}
+use Rattle.hc_text.proofs.Basics.{bool_cases, some_inj}
 use Rattle.hc_range.specs.declared.range.Span.{Span}
 use Rattle.hc_sparse.specs.declared.run.Run.{Run}
 use Rattle.hc_event.specs.declared.event.Request.{Request}
@@ -30,11 +31,9 @@ use Rattle.hc_model.specs.Reading.{source, hi_of}
 use Rattle.hc_model.specs.Rows.{Tables, Exchange, Representation, Consumer}
 use Rattle.hc_model.specs.Sound.{Sound}
 use Rattle.hc_model.specs.Steps.{read_view, step_move, later_hole, bound_row, reading}
-use Rattle.hc_effects.proofs.HoleLemmas.{bool_cases}
 use Rattle.hc_effects.proofs.Joining.{mix}
 use Rattle.hc_effects.proofs.MoveBy.{MoveBy, move_by}
 use Rattle.hc_effects.proofs.MoveBy as by
-use Rattle.hc_effects.proofs.PieceKeeps.{some_inj}
 
 module _ (t : Tables) (now want c : ℕ) (k : Consumer) (why : Cause) where
   gives_fails : (o : Option Run) → gives o ≡ Fails why → ⊥

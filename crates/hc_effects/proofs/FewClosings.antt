@@ -3,6 +3,7 @@
 use Rattle.std.proofs.Common.{◌≡◌, ℕ, List, [], ◌∷◌, Bool, false, Option, Some, None, refl, ap, ◌∙◌}
 use mathlib.Core.Path.{fun_ext}
 use Rattle.std.specs.Prelude.{◌&&◌, ◌||◌, filter, reverse}
+use Rattle.hc_text.proofs.Basics.{and_off as then_false}
 use Rattle.hc_event.specs.declared.event.Event.{Event}
 use Rattle.hc_rules.specs.declared.room.Limits.{Limits}
 use Rattle.hc_rules.specs.declared.room.Write.{Write}
@@ -16,7 +17,7 @@ use Rattle.hc_model.specs.Exchanges.{family}
 use Rattle.hc_model.specs.Rows.{Tables, Exchange, Representation}
 use Rattle.hc_model.specs.Weights.{evicted, first_idle, room_by, room_for, write_in}
 use Rattle.hc_model.specs.Writers.{brings_body, loses_writing}
-use Rattle.hc_effects.proofs.Tests.{and_false, then_false}
+use Rattle.hc_effects.proofs.Tests.{and_false}
 
 pub record ClosesLittle (t : Tables) (e : Entry) : Type 0 where
   pub unrefused : (x : ℕ) → (is_refused (case_at t e) && brings_head x e.event) ≡ false

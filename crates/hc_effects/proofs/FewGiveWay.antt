@@ -3,6 +3,7 @@ use Rattle.std.proofs.Common.{◌≡◌, inl, inr, ℕ, zero, suc, ◌+◌, ◌-
 use Rattle.std.specs.Prelude.{nat_le, map, filter, reverse, take, if◌then◌else◌}
 use Rattle.std.specs.Option.{option_and_then, option_map}
 use Rattle.std.proofs.lemmas.Bool.Decides.{nat_tests}
+use Rattle.hc_text.proofs.Basics.{and_left, bool_cases, not_some as none_some, some_inj}
 use Rattle.hc_event.specs.declared.act.Act.{Act}
 use Rattle.hc_event.specs.declared.act.Act.TheVariants as act
 use Rattle.hc_event.specs.declared.event.Event.{Event}
@@ -27,9 +28,6 @@ use Rattle.hc_model.specs.Rows.{Tables, Exchange, Representation}
 use Rattle.hc_model.specs.Weights.{weight, weight_in, weights, idle, is_idle, stays_current, evicted, first_idle, room_for, room_by, write_in, write_of_piece, piece_write}
 use Rattle.hc_effects.proofs.ActParts.{IsAnswer, IsSaid, answer_is, said_is}
 use Rattle.hc_effects.proofs.ActParts as parts
-use Rattle.hc_effects.proofs.Basics.{and_left, none_some}
-use Rattle.hc_effects.proofs.HoleLemmas.{bool_cases}
-use Rattle.hc_effects.proofs.PieceKeeps.{some_inj}
 
 -- HOW MANY
 

@@ -3,6 +3,7 @@ use Rattle.std.proofs.Common.{◌≡◌, ◌≢◌, inl, inr, ℕ, ◌≤◌, Li
 use Rattle.std.specs.Prelude.{bytes_eq, nat_le, nat_lt, if◌then◌else◌, codes}
 use Rattle.std.specs.List.{list_any}
 use Rattle.std.proofs.lemmas.Bool.Decides.{nat_tests}
+use Rattle.hc_text.proofs.Basics.{and_left, and_right, bool_cases, never_true as not_true}
 use Rattle.hc_fields.specs.FieldList.{values_of, has_name, field_list_with, without, size_of}
 use Rattle.hc_fields.specs.FirstValues.{has_field}
 use Rattle.hc_fields.proofs.Edits.{values_of-put_other, values_of-without_same, values_of-without_other}
@@ -11,9 +12,7 @@ use Rattle.hc_validate.specs.Heads.{FieldPairs}
 use Rattle.hc_validate.specs.Updates.{fixed_names, is_fixed, changeable_fields, is_renewed, with_all, left_by, fields_with, is_within_limits, updated_fields}
 use Rattle.hc_validate.proofs.Settings.{length-without, size_of-without}
 use Rattle.hc_model.specs.Heads.{kept_fields}
-use Rattle.hc_effects.proofs.Basics.{false_true, and_left, and_right}
-use Rattle.hc_effects.proofs.HoleLemmas.{bool_cases}
-use Rattle.hc_effects.proofs.KeyNames.{not_true}
+use Rattle.hc_effects.proofs.Basics.{false_true}
 
 -- A NAME THAT NO UPDATE CHANGES
 

@@ -1,6 +1,7 @@
 -- What stays of a row: of an exchange whose it is and what it asks for, of a consumer its request.
 use Rattle.std.proofs.Common.{◌≡◌, inl, inr, ℕ, Bool, true, false, Option, Some, None, refl, ap, sym, ◌∙◌}
 use Rattle.std.specs.Prelude.{is_some}
+use Rattle.hc_text.proofs.Basics.{same_some as same_row, some_inj}
 use Rattle.hc_event.specs.Filters.{Opening, opening_in, closes_in}
 use Rattle.hc_event.specs.declared.event.Event.{Event}
 use Rattle.hc_event.specs.declared.event.Event.TheVariants as event
@@ -13,8 +14,7 @@ use Rattle.hc_model.specs.StartingOver.{starts_over}
 use Rattle.hc_effects.proofs.ConsumerFilters.{acted}
 use Rattle.hc_effects.proofs.ExchangeFrom.{IsSame, ExchangeFrom, exchange_from, stays}
 use Rattle.hc_effects.proofs.ExchangeFrom as exchange
-use Rattle.hc_effects.proofs.ExclusiveWriters.{same_row}
-use Rattle.hc_effects.proofs.PieceKeeps.{eq_cases, some_inj}
+use Rattle.hc_effects.proofs.PieceKeeps.{eq_cases}
 
 module _ (t : Tables) (e : Entry) where
   -- an exchange goes on

@@ -2,6 +2,7 @@
 use Rattle.std.proofs.Common.{◌≡◌, ℕ, Bool, true, false, Some, refl, sym, ◌∙◌, subst, arith}
 use Rattle.std.specs.Prelude.{◌&&◌, ◌||◌, ◌==◌, not, nat_eq, nat_le, if◌then◌else◌}
 use Rattle.std.proofs.lemmas.Bool.Decides.{nat_tests}
+use Rattle.hc_text.proofs.Basics.{either, eq_is as is_number, and_left as left, never_true as not_so, not_true, and_right as right}
 use Rattle.hc_rules.specs.declared.need.Route.{Route}
 use Rattle.hc_rules.specs.declared.need.Route.TheVariants as route
 use Rattle.hc_rules.specs.declared.heads.HeadCase.{HeadCase}
@@ -9,9 +10,7 @@ use Rattle.hc_rules.specs.declared.heads.HeadCase.TheVariants as case
 use Rattle.hc_rules.specs.declared.heads.HeadView.{HeadView}
 use Rattle.hc_rules.specs.HeadCases.{head_case, case_on, direct_case, turn_case, first_case, later_case}
 use Rattle.hc_rules.specs.Needs.{route_of}
-use Rattle.hc_rules.proofs.Cond.{either}
 use Rattle.hc_model.specs.Cases.{is_founding}
-use Rattle.hc_effects.proofs.Basics.{not_true, not_so}
 
 -- the route that a case is of, and whether its consumer was shown a head
 pub record IsWay (v : HeadView) (way : Route) (shown : Bool) : Type 0 where
@@ -37,17 +36,6 @@ pub data CaseBy (v : HeadView) : HeadCase → Type 0 where
   later_bad : route_of v.need ≡ route.Hole → v.shown ≡ true → v.bad ≡ true → CaseBy v case.LaterBad
   later_joins : route_of v.need ≡ route.Hole → v.shown ≡ true → v.joins ≡ true → v.bad ≡ false → CaseBy v case.LaterJoins
   later_changed : route_of v.need ≡ route.Hole → v.shown ≡ true → CaseBy v case.LaterChanged
-
-left : (a b : Bool) → (a && b) ≡ true → a ≡ true
-left true b h = refl
-left false b h = absurd (let never : false ≡ true = h in cc)
-
-right : (a b : Bool) → (a && b) ≡ true → b ≡ true
-right true b h = h
-right false b h = absurd (let never : false ≡ true = h in cc)
-
-is_number : (a b : ℕ) → (a == b) ≡ true → a ≡ b
-is_number a b h = let test : nat_eq a b ≡ true = h in grind (arith, nat_tests)
 
 module _ (v : HeadView) where
   direct : route_of v.need ≡ route.Direct → CaseBy v (direct_case v)

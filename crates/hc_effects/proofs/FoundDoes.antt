@@ -1,6 +1,7 @@
 -- What heads that found do, in one: who reads what, and what goes; and where it is lost.
 use Rattle.std.proofs.Common.{◌≡◌, ◌≢◌, ℕ, ◌+◌, ◌-◌, ◌≤◌, List, [], ◌∷◌, ◌++◌, Bool, true, false, Option, Some, None, refl, ap, sym, ◌∙◌, subst, arith}
 use Rattle.std.specs.Prelude.{◌==◌, ◌||◌, bytes_eq, codes, is_some, map, if◌then◌else◌}
+use Rattle.hc_text.proofs.Basics.{and_left, and_right, not_some as none_some}
 use Rattle.hc_range.specs.declared.range.Asked.{Asked}
 use Rattle.hc_range.specs.declared.range.Span.{Span}
 use Rattle.hc_range.specs.declared.range.ContentRange.{ContentRange}
@@ -44,7 +45,7 @@ use Rattle.hc_model.specs.Owners as owners
 use Rattle.hc_model.specs.Rows.{Tables, Exchange, Consumer}
 use Rattle.hc_model.specs.Tables.{with_item_first}
 use Rattle.hc_model.specs.Weights.{evicted}
-use Rattle.hc_effects.proofs.Basics.{false_true, and_left, and_right, none_some}
+use Rattle.hc_effects.proofs.Basics.{false_true}
 use Rattle.hc_effects.proofs.FoundBy.{CaseBy, case_by}
 use Rattle.hc_effects.proofs.FoundBy as cases
 use Rattle.hc_effects.proofs.FoundCases.{whole_lost, range_lost, replaced_lost, range_storable}

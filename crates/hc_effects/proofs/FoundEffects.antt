@@ -1,6 +1,7 @@
 -- What heads do that found: with the turn, and in place of what had a first hole. And where that is lost.
 use Rattle.std.proofs.Common.{◌≡◌, inl, inr, ℕ, List, [], ◌∷◌, ◌++◌, Bool, true, false, Option, Some, None, refl, ap, sym, ◌∙◌, subst}
 use Rattle.std.specs.Prelude.{◌&&◌, ◌||◌, not, nat_eq, if◌then◌else◌, map, option_map}
+use Rattle.hc_text.proofs.Basics.{not_some as none_some, never_true as not_so, and_off as then_false}
 use Rattle.hc_event.specs.declared.act.Act.TheVariants as act
 use Rattle.hc_event.specs.declared.act.LostKind.{LostKind}
 use Rattle.hc_event.specs.declared.event.Event.{Event}
@@ -31,13 +32,12 @@ use Rattle.hc_model.specs.Rows.{Tables, Exchange, Representation, Consumer}
 use Rattle.hc_model.specs.Tables.{with_item_first, to_front}
 use Rattle.hc_model.specs.Weights.{evicted}
 use Rattle.hc_effects.proofs.ActParts.{AllPass}
-use Rattle.hc_effects.proofs.Basics.{append_none, none_some, not_so, false_true, some_row}
+use Rattle.hc_effects.proofs.Basics.{append_none, false_true, some_row}
 use Rattle.hc_effects.proofs.HeadFacts.{new, not_it, head_does, goes_on, rows, is_it, rows_stay}
 use Rattle.hc_effects.proofs.HeadFrames.{e, row_founds, has_as, heard}
 use Rattle.hc_effects.proofs.KeyActs.{HasRow, evicted_rows}
 use Rattle.hc_effects.proofs.PieceKeeps.{eq_cases}
 use Rattle.hc_effects.proofs.SameTables.{is_in, waits_for_any}
-use Rattle.hc_effects.proofs.Tests.{then_false}
 use Rattle.hc_model.specs.Closings.{is_refused}
 use Rattle.hc_model.specs.Dooms.{doomed_by_case}
 use Rattle.hc_model.specs.Exchanges.{is_reached}

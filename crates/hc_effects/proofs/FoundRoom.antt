@@ -4,6 +4,7 @@ use mathlib.Core.Path.{fun_ext}
 use Rattle.std.proofs.lemmas.Bool.Decides.{nat_tests}
 use Rattle.std.specs.Prelude.{◌&&◌, ◌||◌, ◌==◌, not, nat_eq, if◌then◌else◌, option_map, map, filter, reverse}
 use Rattle.std.specs.List.{list_any, sum_by}
+use Rattle.hc_text.proofs.Basics.{or_false as or_off}
 use Rattle.hc_event.specs.declared.event.Event.{Event}
 use Rattle.hc_event.specs.declared.event.Event.TheVariants as event
 use Rattle.hc_event.specs.declared.event.Response.{Response}
@@ -42,7 +43,6 @@ use Rattle.hc_effects.proofs.FoundBy as cases
 use Rattle.hc_effects.proofs.HeadFacts.{waiter}
 use Rattle.hc_effects.proofs.HeadFrames.{doomed_is, goes_by}
 use Rattle.hc_effects.proofs.LettingGo.{bound_all, current_all}
-use Rattle.hc_effects.proofs.OfConsumers.{or_off}
 use Rattle.hc_effects.proofs.PieceKeeps.{eq_cases}
 use Rattle.hc_effects.proofs.SameTables.{is_in, all_go_is}
 

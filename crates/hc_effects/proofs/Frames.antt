@@ -2,6 +2,7 @@
 use Rattle.std.proofs.Common.{◌≡◌, inl, inr, ℕ, List, Bool, true, false, Option, Some, None, refl, ap, sym, ◌∙◌, arith}
 use Rattle.std.specs.Prelude.{nat_eq, ◌==◌, ◌||◌, ◌&&◌, not, if◌then◌else◌, option_map}
 use Rattle.std.proofs.lemmas.Bool.Decides.{nat_tests}
+use Rattle.hc_text.proofs.Basics.{and_left, and_right, bool_cases, not_some as none_some, not_true as not_keepable, never_true as not_so, or_cases, some_inj}
 use Rattle.hc_event.specs.Filters.{Opening, opening_in, asks_in, closes_in, evicts_in}
 use Rattle.hc_event.specs.declared.event.Event.{Event}
 use Rattle.hc_event.specs.declared.event.Event.TheVariants as event
@@ -20,10 +21,8 @@ use Rattle.hc_model.specs.Frames as frames
 use Rattle.hc_model.specs.Gone.{becomes_gone, goes_itself, goes_by_case, goes_by_exchange, goes_by_head, is_current_of, ends_early, ends_founding, stops_early, is_keepable}
 use Rattle.hc_model.specs.RepresentationRows.{representation_after, representation_heard, representation_acted, representation_after_head, updates, representation_after_piece, with_total_if_none, length_in, founded_at, new_representation}
 use Rattle.hc_model.specs.Rows.{Tables, Exchange, Representation}
-use Rattle.hc_effects.proofs.Basics.{false_true, true_false, and_left, and_right, or_cases, or_false, number_is, number_yes, not_so, none_some}
-use Rattle.hc_effects.proofs.HoleLemmas.{bool_cases}
+use Rattle.hc_effects.proofs.Basics.{false_true, true_false, or_false, number_is, number_yes}
 use Rattle.hc_effects.proofs.KeyNames.{key_is}
-use Rattle.hc_effects.proofs.PieceKeeps.{some_inj}
 
 -- THE PARTS OF A REPRESENTATION
 
@@ -136,10 +135,6 @@ parts_are_kept t e r v row =
     record { u = representation_acted t e r v u; row = row_after t e r v (t.representation r) row; parts = acts_part t e r v u (hears t e r v e.event) }
 
 -- WHY IT GOES
-
-not_keepable : (b : Bool) → not b ≡ true → b ≡ false
-not_keepable true h = absurd (false_true h)
-not_keepable false h = refl
 
 status_is : (n : ℕ) → (n == 200) ≡ true → n ≡ 200
 status_is n h = let test : nat_eq n 200 ≡ true = h in grind (arith, nat_tests)

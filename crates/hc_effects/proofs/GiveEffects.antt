@@ -1,5 +1,6 @@
 -- What a poll does that gives bytes.
 use Rattle.std.proofs.Common.{◌≡◌, ℕ, ◌+◌, [], length, Some, refl}
+use Rattle.hc_text.proofs.Basics.{eqb-same}
 use Rattle.hc_sparse.specs.declared.run.Run.{Run}
 use Rattle.hc_event.specs.declared.event.Event.TheVariants as event
 use Rattle.hc_rules.specs.declared.room.Limits.{Limits}
@@ -16,7 +17,6 @@ use Rattle.hc_effects.proofs.OfConsumers.{BringsNothing, brings_nothing, binds_n
 use Rattle.hc_effects.proofs.OfConsumers as event_of
 use Rattle.hc_effects.proofs.PollEffects.{none_waits, nothing_goes, poll_does}
 use Rattle.hc_effects.proofs.PollEffects as polls
-use Rattle.hc_effects.proofs.Tests.{eqb-same}
 use Rattle.hc_effects.proofs.Untouched.{own_stays, spared_bodiless}
 
 module _ (limits : Limits) (t : Tables) (law : Lawful t) (now c want : ℕ) (k : Consumer) (row : t.consumer c ≡ Some k) (run : Run) (is : move_of t now want c k ≡ Gives run) where

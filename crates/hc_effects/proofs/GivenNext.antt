@@ -5,6 +5,7 @@ use Rattle.std.specs.Option.{option_and_then, option_map}
 use Rattle.std.proofs.Math.Nat.{min-le_left}
 use Rattle.std.proofs.lemmas.List.{get_or-drop, get_or-take, length-take, length-drop}
 use Rattle.std.proofs.lemmas.Bool.Decides.{nat_tests}
+use Rattle.hc_text.proofs.Basics.{bool_cases, min_few, not_some as none_some, some_inj}
 use Rattle.hc_range.specs.declared.range.Span.{Span}
 use Rattle.hc_sparse.proofs.StretchLemmas.{front, stretch-longest}
 use Rattle.hc_sparse.specs.Cells.{Cells, Cell, EndsBy}
@@ -29,9 +30,6 @@ use Rattle.hc_model.specs.Reads.{Delivers, answer_cell, cell_by, body_of, direct
 use Rattle.hc_model.specs.Rows.{Tables, Exchange, Representation, Consumer}
 use Rattle.hc_model.specs.Sound.{Sound, IsStored}
 use Rattle.hc_model.specs.Steps.{stored_from, stored_ahead, run_of, held_of_exchange, held_of_lost, held_at, run_held_for, read_view, most, later_hole, step_move, reading}
-use Rattle.hc_effects.proofs.Basics.{none_some}
-use Rattle.hc_effects.proofs.HoleLemmas.{bool_cases}
-use Rattle.hc_effects.proofs.PieceKeeps.{some_inj}
 
 -- A STRETCH
 
@@ -39,9 +37,6 @@ record IsStretch (f : Cells) (p n : ℕ) (run : Run) : Type 0 where
   at_is : run.at ≡ p
   few : length run.bytes ≤ n
   each : (i : ℕ) → i < length run.bytes → f (p + i) ≡ Some (record { byte = slice_index run.bytes i; x = run.x })
-
-min_few : (a b : ℕ) → min a b ≤ a
-min_few a b = min-le_left a b
 
 module _ (f : Cells) (reach p n : ℕ) (run : Run) where
   by_cell : (o : Option Cell) → f p ≡ o → stretch_of f p (min n (reach - p)) o ≡ Some run → IsStretch f p n run

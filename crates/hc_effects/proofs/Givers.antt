@@ -1,6 +1,7 @@
 -- A poll that gives is one of a reader, and wants something.
 use Rattle.std.proofs.Common.{◌≡◌, inl, inr, ℕ, zero, suc, ◌<◌, true, None, ap, sym, ◌∙◌, arith}
 use Rattle.std.specs.Prelude.{nat_lt}
+use Rattle.hc_text.proofs.Basics.{bool_cases}
 use Rattle.hc_sparse.specs.declared.run.Run.{Run}
 use Rattle.hc_event.specs.declared.act.Wait.TheVariants as wait
 use Rattle.hc_event.specs.declared.event.Event.{Event}
@@ -12,7 +13,6 @@ use Rattle.hc_model.specs.Moves.{Move, Nothing, Gives, Fails}
 use Rattle.hc_model.specs.Rows.{Tables, Consumer}
 use Rattle.hc_model.specs.Steps.{reading}
 use Rattle.hc_effects.proofs.Basics.{false_true}
-use Rattle.hc_effects.proofs.HoleLemmas.{bool_cases}
 use Rattle.hc_effects.proofs.MoveBy.{MoveBy}
 use Rattle.hc_effects.proofs.MoveBy as by_move
 use Rattle.hc_effects.proofs.Once.{never}

@@ -3,6 +3,7 @@ use Rattle.std.proofs.Common.{◌≡◌, ◌⊎◌, inl, inr, ℕ, ◌<◌, ◌�
 use Rattle.std.specs.Prelude.{if◌then◌else◌, is_some, is_none, nat_le, map, filter}
 use Rattle.std.specs.Option.{option_or}
 use Rattle.std.proofs.lemmas.Bool.Decides.{nat_tests}
+use Rattle.hc_text.proofs.Basics.{both_true as and_both, and_left, and_right, bool_cases, not_some as none_some, never_true as not_so, or_left, or_right, same_some as same_row, some_inj}
 use Rattle.hc_event.specs.Filters.{Opening, opening_in, leaves_in}
 use Rattle.hc_event.specs.declared.event.Event.{Event}
 use Rattle.hc_event.specs.declared.event.Event.TheVariants as event
@@ -41,7 +42,7 @@ use Rattle.hc_model.specs.Tables.{after_accepted}
 use Rattle.hc_model.specs.Writers.{brings_body, came_alone, loses_writing, survivor, member, may_write}
 use Rattle.hc_effects.proofs.AboutKeeps.{own_open_of, own_open_is}
 use Rattle.hc_effects.proofs.ApartKeeps.{written_by, is_on}
-use Rattle.hc_effects.proofs.Basics.{false_true, and_left, and_right, and_both, or_left, or_right, not_so, none_some, some_none, number_is, number_yes}
+use Rattle.hc_effects.proofs.Basics.{false_true, some_none, number_is, number_yes}
 use Rattle.hc_effects.proofs.BoundStays.{Stays, bound_stays}
 use Rattle.hc_effects.proofs.Closed.{before}
 use Rattle.hc_effects.proofs.Dues.{undue_of, stop_none, other_stop, loss_at, due_none}
@@ -50,15 +51,14 @@ use Rattle.hc_effects.proofs.FirstKeeps.{came_kept, case_is, is_new}
 use Rattle.hc_effects.proofs.Forward as forward
 use Rattle.hc_effects.proofs.HasBound.{not_must, reader_of}
 use Rattle.hc_effects.proofs.HeadKeeps.{is_join}
-use Rattle.hc_effects.proofs.HoleLemmas.{bool_cases}
 use Rattle.hc_effects.proofs.Losses.{exclusive_is}
 use Rattle.hc_effects.proofs.LossBy.{IsReal, sealed_loss, seals_one, fresh}
 use Rattle.hc_effects.proofs.MemberStays as member
 use Rattle.hc_effects.proofs.OpensFrom.{opens_hole, hole_is}
 use Rattle.hc_effects.proofs.OpenedAs as opened
 use Rattle.hc_effects.proofs.OwnersKeep.{is_opened}
-use Rattle.hc_effects.proofs.PieceKeeps.{eq_cases, some_inj}
-use Rattle.hc_effects.proofs.ExclusiveWriters.{same_row, writer_some, bound_some}
+use Rattle.hc_effects.proofs.PieceKeeps.{eq_cases}
+use Rattle.hc_effects.proofs.ExclusiveWriters.{writer_some, bound_some}
 use Rattle.hc_effects.proofs.PollTree as tree
 use Rattle.hc_effects.proofs.RepFrom.{RepFrom, rep_from, IsKept, IsResumed}
 use Rattle.hc_effects.proofs.RepFrom as rep

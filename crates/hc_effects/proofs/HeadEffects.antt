@@ -1,6 +1,7 @@
 -- What heads do that write nothing: past the store, and with the turn where nothing is validated or founded.
 use Rattle.std.proofs.Common.{◌≡◌, ℕ, List, [], ◌∷◌, Bool, true, false, Option, Some, None, refl, ap, sym, ◌∙◌, subst}
 use Rattle.std.specs.Prelude.{◌&&◌, ◌||◌, not, nat_lt, if◌then◌else◌, map}
+use Rattle.hc_text.proofs.Basics.{and_true, or_false as or_off, and_off as then_false}
 use Rattle.hc_event.specs.declared.act.Act.TheVariants as act
 use Rattle.hc_event.specs.declared.act.Cause.{Cause}
 use Rattle.hc_event.specs.declared.act.Cause.TheVariants as cause
@@ -41,10 +42,8 @@ use Rattle.hc_effects.proofs.FoundBy as cases
 use Rattle.hc_effects.proofs.HeadFrames.{e, heard}
 use Rattle.hc_effects.proofs.HeadFacts.{stays_open, waiter, evicts_none, goes_on, goes_back, fails, rows_stay, head_does}
 use Rattle.hc_effects.proofs.ConsumerEffects.{some_all}
-use Rattle.hc_effects.proofs.OfConsumers.{or_off, and_true}
 use Rattle.hc_effects.proofs.PollEffects.{none_waits, same_consumer}
 use Rattle.hc_effects.proofs.SameTables.{is_in, in_one, waits_for_any}
-use Rattle.hc_effects.proofs.Tests.{then_false}
 
 -- a head that puts its consumer down
 data PutsDown : HeadCase → Type 0 where

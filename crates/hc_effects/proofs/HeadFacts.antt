@@ -2,6 +2,7 @@
 use Rattle.std.proofs.Common.{◌≡◌, inl, inr, ℕ, ◌+◌, List, [], ◌++◌, Bool, true, false, Option, Some, None, refl, ap, sym, ◌∙◌, subst}
 use mathlib.Core.Path.{fun_ext}
 use Rattle.std.specs.Prelude.{◌&&◌, ◌||◌, ◌==◌, not, nat_eq, if◌then◌else◌, option_map, map, filter, reverse, is_none, is_some}
+use Rattle.hc_text.proofs.Basics.{eqb-same, not_some as none_some, or_false as or_off, same_some as same_row, some_inj}
 use Rattle.hc_event.specs.declared.act.Act.TheVariants as act
 use Rattle.hc_event.specs.declared.act.Cause.{Cause}
 use Rattle.hc_event.specs.declared.event.Event.{Event}
@@ -34,17 +35,15 @@ use Rattle.hc_model.specs.Tables.{with_item_first, after_accepted, to_front}
 use Rattle.hc_model.specs.Weights.{evicted}
 use Rattle.hc_model.specs.Writers.{survivor}
 use Rattle.hc_effects.proofs.ActParts.{leaver_lost}
-use Rattle.hc_effects.proofs.Basics.{none_some, some_row, false_true}
+use Rattle.hc_effects.proofs.Basics.{some_row, false_true}
 use Rattle.hc_effects.proofs.Closed.{reversed}
 use Rattle.hc_effects.proofs.FewClosings.{evicts_nothing}
 use Rattle.hc_effects.proofs.FirstKeeps.{IsNew, is_new, case_is}
 use Rattle.hc_effects.proofs.HeadFrames.{e, has_as, heard, asker_goes_on, asker_goes_back, asker_fails, after_head, others, goes_by, rows_but, row_by, doomed_is, spared_as}
-use Rattle.hc_effects.proofs.OfConsumers.{one_of, descends_once, or_off}
-use Rattle.hc_effects.proofs.ExclusiveWriters.{same_row}
-use Rattle.hc_effects.proofs.PieceKeeps.{eq_cases, some_inj}
+use Rattle.hc_effects.proofs.OfConsumers.{one_of, descends_once}
+use Rattle.hc_effects.proofs.PieceKeeps.{eq_cases}
 use Rattle.hc_effects.proofs.SameTables.{is_in, waits_for_any}
 use Rattle.hc_effects.proofs.Sums.{reverse_once}
-use Rattle.hc_effects.proofs.Tests.{eqb-same}
 use Rattle.hc_effects.proofs.Waiters.{IsWaiter, waiter_as, waits_undue}
 use Rattle.hc_model.specs.Reading.{is_written, reads}
 use Rattle.hc_model.specs.Gone.{goes_by_case, becomes_gone}

@@ -2,6 +2,7 @@
 use Rattle.std.proofs.Common.{◌≡◌, inl, inr, ℕ, List, [], ◌∷◌, ◌++◌, Bool, true, false, Option, Some, None, refl, ap, sym, ◌∙◌, subst}
 use Rattle.std.specs.Prelude.{◌&&◌, ◌||◌, ◌==◌, not, nat_eq, if◌then◌else◌, map, option_map}
 use Rattle.std.specs.Option.{option_or}
+use Rattle.hc_text.proofs.Basics.{eqb-same, not_some as none_some, or_left, or_false as or_off, or_right, and_off as then_false}
 use Rattle.hc_event.specs.Filters.{opening_in, asks_in, closes_in, evicts_in}
 use Rattle.hc_event.specs.declared.act.Act.{Act}
 use Rattle.hc_event.specs.declared.act.Act.TheVariants as act
@@ -32,16 +33,13 @@ use Rattle.hc_model.specs.StartingOver.{starts_over, sends_back, waits_at, loses
 use Rattle.hc_model.specs.Tables.{after_accepted, with_item_first, founds, binds, to_front, opened_after, openings_after}
 use Rattle.hc_model.specs.Writers.{loses_writing, goes_on_with}
 use Rattle.hc_effects.proofs.ActParts.{IsFarFrom, closes_evicted, closes_lost, asks_evicted, asks_lost, asks_closes, loses_evicted, loses_before, evicts_lost, evicts_closes, far_evicted, far_loss, far_closed}
-use Rattle.hc_effects.proofs.Basics.{none_some, or_left, or_right}
 use Rattle.hc_effects.proofs.ConsumerEffects.{waits_as}
 use Rattle.hc_effects.proofs.Dues.{stop_none}
 use Rattle.hc_effects.proofs.LeaveFrames.{closes_are}
-use Rattle.hc_effects.proofs.OfConsumers.{or_off}
 use Rattle.hc_effects.proofs.PieceKeeps.{eq_cases}
 use Rattle.hc_effects.proofs.PieceServes.{quiet_acts, acted_quiet}
 use Rattle.hc_effects.proofs.SaidActs.{told_loss}
 use Rattle.hc_effects.proofs.SameTables.{same_tables, is_in, waits_for_any, back_from_any, without, all_go_is, shut, all_closed_is}
-use Rattle.hc_effects.proofs.Tests.{eqb-same, then_false}
 use Rattle.hc_effects.proofs.Untouched.{IsSpared, own_stays, loss_spared, exchange_absent, representation_frame, representation_absent, consumer_apart, consumer_absent, IsApart, apart_from, goes_from}
 
 -- what makes room

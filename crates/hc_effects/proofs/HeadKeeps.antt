@@ -2,6 +2,7 @@
 use Rattle.std.proofs.Common.{◌≡◌, ◌≢◌, ◌⊎◌, inl, inr, ℕ, ◌+◌, ◌<◌, ◌≤◌, List, [], Bool, true, false, cond, Option, Some, None, refl, ap, sym, ◌∙◌, subst, arith}
 use Rattle.std.specs.Prelude.{is_some, is_none, nat_eq, option_map, unwrap_or}
 use Rattle.std.proofs.lemmas.Bool.Decides.{nat_tests}
+use Rattle.hc_text.proofs.Basics.{and_right, none_by as or_none, same_some as same_row, some_inj, not_some as some_none}
 use Rattle.hc_event.specs.Filters.{opening_in}
 use Rattle.hc_event.specs.declared.event.Event.TheVariants as event
 use Rattle.hc_event.specs.declared.event.Response.{Response}
@@ -24,9 +25,7 @@ use Rattle.hc_rules.specs.HeadCases.{head_case}
 use Rattle.hc_rules.specs.declared.length.Length.{Length}
 use Rattle.hc_rules.specs.Lengths.{length_of, base_of, promise_of, is_bad}
 use Rattle.hc_model.specs.Sound as sound
-use Rattle.hc_effects.proofs.Basics.{and_right}
-use Rattle.hc_effects.proofs.ExclusiveWriters.{same_row}
-use Rattle.hc_effects.proofs.PieceKeeps.{eq_cases, some_inj, ends_same}
+use Rattle.hc_effects.proofs.PieceKeeps.{eq_cases, ends_same}
 use Rattle.hc_effects.proofs.QuietKeeps.{IsSame, IsKept, closed_only}
 use Rattle.hc_effects.proofs.Joining.{MayJoin, may_join, IsFilling, filling, LiesIn, lies}
 use Rattle.hc_effects.proofs.Joining as join
@@ -116,13 +115,6 @@ rep_row t now x r response acts (Some v) u is row =
     kept (subst (IsKept t r) (some_inj (representation_acted t e r v (representation_heard t e r (event.Head x response) v)) u row) (record { v = v; row = is; body_is = headed_body t e r x response (t.exchange x) v }))
 
 -- THE ARM
-
-some_none : {A : Type 0} (a : A) → None ≡ Some a → ⊥
-some_none a h = cc
-
-or_none : {A : Type 0} (o : Option A) → is_none o ≡ true → o ≡ None
-or_none None h = refl
-or_none (Some a) h = absurd (let never : false ≡ true = h in cc)
 
 none_is : {A : Type 0} (o : Option A) → o ≡ None → is_none o ≡ true
 none_is None h = refl

@@ -2,6 +2,7 @@
 use Rattle.std.proofs.Common.{◌≡◌, ◌⊎◌, inl, inr, ℕ, true, false, Option, Some, None, refl, ap, sym, ◌∙◌, subst, arith}
 use Rattle.std.specs.Prelude.{◌&&◌, ◌||◌, ◌==◌, not, nat_eq}
 use Rattle.std.proofs.lemmas.Bool.Decides.{nat_tests}
+use Rattle.hc_text.proofs.Basics.{both_true as and_both, and_right, not_some as none_some, never_true as not_so, or_left, or_right, same_some as same_row, some_inj}
 use Rattle.hc_event.specs.Filters.{leaves_in, closes_in}
 use Rattle.hc_event.specs.declared.event.Event.{Event}
 use Rattle.hc_event.specs.declared.event.Event.TheVariants as event
@@ -38,7 +39,7 @@ use Rattle.hc_model.specs.Rows.{Tables, Exchange, Consumer}
 use Rattle.hc_model.specs.Sound.{Sound}
 use Rattle.hc_model.specs.StartingOver.{starts_over, sends_back}
 use Rattle.hc_model.specs.Tables.{after_accepted}
-use Rattle.hc_effects.proofs.Basics.{false_true, and_right, and_both, or_left, or_right, or_false, not_so, none_some}
+use Rattle.hc_effects.proofs.Basics.{false_true, or_false}
 use Rattle.hc_effects.proofs.Closed.{before, closes}
 use Rattle.hc_effects.proofs.ExchangeFrom.{IsSame, IsHeaded}
 use Rattle.hc_effects.proofs.FirstKeeps.{case_is, is_new}
@@ -46,8 +47,7 @@ use Rattle.hc_effects.proofs.FoundBy.{CaseBy, case_by}
 use Rattle.hc_effects.proofs.FoundBy as cases
 use Rattle.hc_effects.proofs.Forward.{after_is}
 use Rattle.hc_effects.proofs.OwnFrom.{IsRow}
-use Rattle.hc_effects.proofs.PieceKeeps.{eq_cases, some_inj}
-use Rattle.hc_effects.proofs.ExclusiveWriters.{same_row}
+use Rattle.hc_effects.proofs.PieceKeeps.{eq_cases}
 use Rattle.hc_effects.proofs.Said.{leaving_by}
 use Rattle.hc_effects.proofs.ToBeShown.{heard_place}
 use Rattle.hc_effects.proofs.Waiters.{IsWaiter, waiter_of, case_same}

@@ -2,12 +2,9 @@
 use Rattle.std.proofs.Common.{◌≡◌, ◌⊎◌, inl, inr, ℕ, zero, suc, ◌+◌, ◌-◌, ◌<◌, ◌≤◌, Bool, true, false, Option, Some, None, refl, sym, arith, min}
 use Rattle.std.specs.Prelude.{is_some, is_none, nat_lt}
 use Rattle.std.proofs.lemmas.Bool.Decides.{nat_tests}
+use Rattle.hc_text.proofs.Basics.{bool_cases, lt_cases}
 use Rattle.hc_sparse.specs.Cells.{Cells, Cell, EndsBy, Covers}
 use Rattle.hc_model.specs.Holes.{first_place, absent_from, covers, hole_at}
-
-pub bool_cases : (b : Bool) → (b ≡ true) ⊎ (b ≡ false)
-bool_cases true = inl refl
-bool_cases false = inr refl
 
 pub none_of : (o : Option Cell) → is_some o ≡ false → o ≡ None
 none_of None h = refl
@@ -23,9 +20,6 @@ not_none (Some cell) h = absurd (let never : false ≡ true = h in cc)
 
 next_or : (p q : ℕ) → p ≤ q → (p ≡ q) ⊎ (p + 1 ≤ q)
 next_or p q le = grind (arith, nat_tests)
-
-lt_cases : (a b : ℕ) → ((nat_lt a b ≡ true) × (a < b)) ⊎ ((nat_lt a b ≡ false) × (b ≤ a))
-lt_cases a b = grind (arith, nat_tests)
 
 module _ (test : Option Cell → Bool) (f : Cells) where
   -- the place that is found is within the n positions, or behind them

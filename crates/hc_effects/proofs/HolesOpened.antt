@@ -1,6 +1,7 @@
 -- The holes for which exchanges are opened are absent.
 use Rattle.std.proofs.Common.{◌≡◌, inl, inr, ℕ, ◌<◌, ◌≤◌, true, false, Some, None, sym, ◌∙◌, arith}
 use Rattle.std.specs.Prelude.{is_some}
+use Rattle.hc_text.proofs.Basics.{bool_cases, lt_or as split}
 use Rattle.hc_range.specs.declared.range.Span.{Span}
 use Rattle.hc_sparse.specs.Cells.{Cells, EndsBy}
 use Rattle.hc_model.specs.Exchanges.{front}
@@ -9,8 +10,7 @@ use Rattle.hc_model.specs.Reading.{offset}
 use Rattle.hc_model.specs.Rows.{Tables, Representation, Consumer}
 use Rattle.hc_model.specs.Sound.{Sound, IsSoundRepresentation, IsAlone, IsExclusiveWriter, IsAbout}
 use Rattle.hc_model.specs.Sound as sound
-use Rattle.hc_effects.proofs.Basics.{split}
-use Rattle.hc_effects.proofs.HoleLemmas.{bool_cases, none_of, hole_absent}
+use Rattle.hc_effects.proofs.HoleLemmas.{none_of, hole_absent}
 use Rattle.hc_effects.proofs.ExclusiveWriters.{IsAtHole, has_exclusive_writer}
 
 -- what is stored ends where the body ends

@@ -3,6 +3,7 @@ use Rattle.std.proofs.Common.{◌≡◌, inl, inr, ℕ, List, [], ◌∷◌, len
 use Rattle.std.specs.Prelude.{filter, reverse, nat_eq, ◌==◌, ◌&&◌, not}
 use Rattle.std.specs.List.{list_any}
 use Rattle.std.proofs.lemmas.Bool.Decides.{nat_tests}
+use Rattle.hc_text.proofs.Basics.{and_left, and_right, bool_cases, not_some as none_some, or_left, or_right, same_some as same_row}
 use Rattle.hc_event.specs.declared.event.Event.{Event}
 use Rattle.hc_event.specs.declared.event.Event.TheVariants as event
 use Rattle.hc_event.specs.declared.event.Response.{Response}
@@ -29,13 +30,11 @@ use Rattle.hc_model.specs.Rows.{Tables, Exchange, Representation, Consumer}
 use Rattle.hc_model.specs.Sound.{Sound, Among, IsBound}
 use Rattle.hc_model.specs.Sound as sound
 use Rattle.hc_model.specs.Weights.{idle, is_idle, stays_bound, moves_on, is_replacing}
-use Rattle.hc_effects.proofs.Basics.{false_true, true_false, and_left, and_right, or_left, or_right, number_yes, none_some}
+use Rattle.hc_effects.proofs.Basics.{false_true, true_false, number_yes}
 use Rattle.hc_effects.proofs.FirstKeeps.{is_new, case_of_head}
 use Rattle.hc_effects.proofs.FoundBy.{CaseBy}
 use Rattle.hc_effects.proofs.FoundBy as cases
 use Rattle.hc_effects.proofs.HasBound.{reader_of}
-use Rattle.hc_effects.proofs.HoleLemmas.{bool_cases}
-use Rattle.hc_effects.proofs.ExclusiveWriters.{same_row}
 
 -- LISTS
 

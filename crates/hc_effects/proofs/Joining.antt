@@ -2,6 +2,7 @@
 use Rattle.std.proofs.Common.{◌≡◌, ◌≢◌, ℕ, ◌+◌, ◌-◌, ◌<◌, ◌≤◌, Bool, true, false, cond, List, Option, Some, None, refl, sym, ◌∙◌, subst, arith}
 use Rattle.std.specs.Prelude.{codes, ◌==◌}
 use Rattle.std.proofs.lemmas.Bool.Decides.{nat_tests}
+use Rattle.hc_text.proofs.Basics.{either}
 use Rattle.hc_range.specs.declared.range.ContentRange.TheVariants as range
 use Rattle.hc_event.specs.declared.event.Response.{Response}
 use Rattle.hc_event.specs.declared.event.Request.{Request}
@@ -18,7 +19,6 @@ use Rattle.hc_rules.specs.HeadCases.{head_case, case_on, direct_case, turn_case,
 use Rattle.hc_rules.specs.Lengths.{length_of, content_length_of, part_length, has_no_body}
 use Rattle.hc_rules.specs.Needs.{route_of}
 use Rattle.hc_rules.specs.RangeTexts.{content_range_of}
-use Rattle.hc_rules.proofs.Cond.{either}
 use Rattle.hc_rules.proofs.JoinLaws.{joins-right}
 use Rattle.hc_fields.specs.FieldElements.{elements_in}
 use Rattle.hc_model.specs.Rows.{Representation}

@@ -2,6 +2,7 @@
 use Rattle.std.proofs.Common.{◌≡◌, ◌⊎◌, inl, inr, ℕ, List, [], ◌∷◌, ◌++◌, Bool, true, false, Option, Some, None, refl, ap, sym, ◌∙◌, subst}
 use Rattle.std.specs.Prelude.{◌||◌, ◌==◌, nat_eq, if◌then◌else◌, map, filter, reverse, take, zero, suc}
 use Rattle.std.specs.Option.{option_or, option_map}
+use Rattle.hc_text.proofs.Basics.{and_left, and_right as and_then, bool_cases, eq_tells as eq_is, not_some as none_some, never_true as not_true, or_cases, some_inj}
 use Rattle.hc_event.specs.Filters.{Opening, opening_in, asks_in, closes_in, evicts_in}
 use Rattle.hc_event.specs.declared.act.Act.{Act}
 use Rattle.hc_event.specs.declared.act.Act.TheVariants as act
@@ -35,10 +36,9 @@ use Rattle.hc_model.specs.Writers.{brings_body, loses_writing}
 use Rattle.hc_model.specs.Writes.{written_representation, written_in, head_writes, may_validate, piece_writes, unless_lost, sealed_representation, seals_at, sealed_by, stops, first_found, lossless}
 use Rattle.hc_effects.proofs.ActParts.{IsAnswer, IsSaid, IsFarFrom, AllPass, answer_is, said_is, asks_evicted, asks_closed, asks_closes, asks_lost, asks_loss, closes_evicted, closes_lost, closes_before, closes_filter, loses_evicted, loses_closed, loses_before, evicts_closes, evicts_lost, evicts_closed, evicts_all, said_closes, far_loss, far_lost_only, far_closing, far_closed, far_evicted, far_said, leaver_lost}
 use Rattle.hc_effects.proofs.ActParts as parts
-use Rattle.hc_effects.proofs.Basics.{and_left, or_cases, none_some, number_is}
-use Rattle.hc_effects.proofs.HoleLemmas.{bool_cases}
-use Rattle.hc_effects.proofs.KeyNames.{aims_key, writer_key, not_true, and_then, eq_is, key_is, IsOther, not_other, doomed_key, family_key, own_key, shared_key, source_key, near_key}
-use Rattle.hc_effects.proofs.PieceKeeps.{eq_cases, some_inj}
+use Rattle.hc_effects.proofs.Basics.{number_is}
+use Rattle.hc_effects.proofs.KeyNames.{aims_key, writer_key, key_is, IsOther, not_other, doomed_key, family_key, own_key, shared_key, source_key, near_key}
+use Rattle.hc_effects.proofs.PieceKeeps.{eq_cases}
 use Rattle.hc_effects.proofs.PollKeys.{IsNear}
 use Rattle.hc_effects.proofs.PollKeys as polls
 

@@ -4,6 +4,7 @@ use Rattle.std.specs.Prelude.{bytes_eq, ◌&&◌, ◌||◌, if◌then◌else◌,
 use Rattle.std.proofs.Common.{arith}
 use Rattle.std.specs.Option.{option_and_then, option_or}
 use Rattle.std.proofs.lemmas.Bool.Decides.{nat_tests}
+use Rattle.hc_text.proofs.Basics.{and_left, and_right as and_then, bool_cases, eq_tells as eq_is, never_true as not_so, never_true as not_true, or_cases, same_some as same_row, some_inj}
 use Rattle.hc_event.specs.declared.event.Event.{Event}
 use Rattle.hc_event.specs.declared.event.Event.TheVariants as event
 use Rattle.hc_event.specs.declared.event.Response.{Response}
@@ -23,24 +24,10 @@ use Rattle.hc_model.specs.Reading.{own_open, if_open, shared_exchange, writing_i
 use Rattle.hc_model.specs.Rows.{Tables, Exchange, Representation, Consumer}
 use Rattle.hc_model.specs.Sound.{IsBound}
 use Rattle.hc_model.specs.Sound as sound
-use Rattle.hc_effects.proofs.Basics.{and_left, or_cases, number_is, not_so, true_false}
-use Rattle.hc_effects.proofs.ExclusiveWriters.{same_row}
-use Rattle.hc_effects.proofs.PieceKeeps.{some_inj}
+use Rattle.hc_effects.proofs.Basics.{number_is, true_false}
 use Rattle.hc_effects.proofs.PollKeeps.{find_passes}
-use Rattle.hc_effects.proofs.HoleLemmas.{bool_cases}
 
 -- WORDS
-
-pub not_true : (b : Bool) → (b ≡ true → ⊥) → b ≡ false
-not_true true h = absurd (h refl)
-not_true false h = refl
-
-pub and_then : (a b : Bool) → (a && b) ≡ true → b ≡ true
-and_then true b h = h
-and_then false b h = absurd (let never : false ≡ true = h in cc)
-
-pub eq_is : (a b : ℕ) → nat_eq a b ≡ true → a ≡ b
-eq_is a b h = grind (arith, nat_tests)
 
 pub key_is : (o : Option (List ℕ)) (key : List ℕ) → is_key o key ≡ true → o ≡ Some key
 key_is None key h = absurd (let never : false ≡ true = h in cc)

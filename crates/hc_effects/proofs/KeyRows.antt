@@ -2,6 +2,7 @@
 use Rattle.std.proofs.Common.{◌≡◌, inl, inr, ℕ, ◌+◌, List, length, Bool, true, false, Option, Some, None, refl, ap, sym, ◌∙◌, subst, ◌⊎◌, arith}
 use Rattle.std.specs.Prelude.{◌&&◌, ◌||◌, ◌==◌, nat_eq, not, if◌then◌else◌, is_none}
 use Rattle.std.specs.Option.{option_or, option_map}
+use Rattle.hc_text.proofs.Basics.{and_left, and_right as and_then, bool_cases, eq_tells as eq_is, not_some as none_some, never_true as not_true, or_cases, both_false as or_none, or_none as or_nothing, plus_none, some_inj}
 use Rattle.hc_event.specs.Filters.{Opening, opening_in, asks_in, closes_in, evicts_in, leaves_in, shows_in, given_in}
 use Rattle.hc_event.specs.declared.event.Event.{Event}
 use Rattle.hc_event.specs.declared.event.Event.TheVariants as event
@@ -29,16 +30,11 @@ use Rattle.hc_model.specs.Rows.{Tables, Exchange, Representation, Consumer}
 use Rattle.hc_model.specs.StartingOver.{starts_over, sends_back, loses_what_it_waits_for, waits_at}
 use Rattle.hc_model.specs.Writers.{loses_writing}
 use Rattle.hc_effects.proofs.ActParts.{IsFarFrom}
-use Rattle.hc_effects.proofs.Basics.{and_left, or_cases, none_some, number_is}
-use Rattle.hc_effects.proofs.HoleLemmas.{bool_cases}
-use Rattle.hc_effects.proofs.KeyNames.{aims_key, opener_key, of_row, not_true, and_then, eq_is, key_is, IsOther, not_other, doomed_key, family_key, current_key, source_key, bound_key}
-use Rattle.hc_effects.proofs.PieceKeeps.{eq_cases, some_inj}
+use Rattle.hc_effects.proofs.Basics.{number_is}
+use Rattle.hc_effects.proofs.KeyNames.{aims_key, opener_key, of_row, key_is, IsOther, not_other, doomed_key, family_key, current_key, source_key, bound_key}
+use Rattle.hc_effects.proofs.PieceKeeps.{eq_cases}
 
 -- WORDS
-
-pub or_none : (a b : Bool) → a ≡ false → b ≡ false → (a || b) ≡ false
-or_none false b p q = q
-or_none true b p q = absurd (let never : true ≡ false = p in cc)
 
 all_none : (a b c d f : Bool) → a ≡ false → b ≡ false → c ≡ false → d ≡ false → f ≡ false → (a || b || c || d || f) ≡ false
 all_none a b c d f p q x y z = rw (p, q, x, y, z) refl
@@ -48,16 +44,9 @@ same_number None p x is h = absurd (let never : false ≡ true = h in cc)
 same_number (Some m) None x is h = absurd (let never : false ≡ true = h in cc)
 same_number (Some m) (Some n) x is h = ap Some (eq_is m n h) ∙ is
 
-plus_none : (n : ℕ) → n + 0 ≡ n
-plus_none n = omega arith
-
 and_yes : (b : Bool) → (b && not false) ≡ b
 and_yes true = refl
 and_yes false = refl
-
-or_nothing : {A : Type 0} (o : Option A) → option_or o None ≡ o
-or_nothing None = refl
-or_nothing (Some a) = refl
 
 no_none : (o : Option ℕ) → is_same_number o None ≡ true → ⊥
 no_none None h = let never : false ≡ true = h in cc

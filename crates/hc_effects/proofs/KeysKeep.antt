@@ -3,6 +3,7 @@ use Rattle.std.proofs.Common.{◌≡◌, ◌⊎◌, inl, inr, ℕ, List, ◌++�
 use Rattle.std.specs.Prelude.{◌&&◌, ◌==◌, nat_eq, if◌then◌else◌}
 use Rattle.std.specs.Option.{option_map}
 use Rattle.std.proofs.lemmas.Bool.Decides.{nat_tests}
+use Rattle.hc_text.proofs.Basics.{and_left, and_right as and_then, bool_cases, eq_itself as eq-refl, eq_tells as eq_is, not_some as none_some, some_inj}
 use Rattle.hc_model.specs.Exchanges.{family}
 use Rattle.hc_event.specs.Filters.{Opening, opening_in}
 use Rattle.hc_event.specs.declared.act.Act.{Act}
@@ -27,11 +28,9 @@ use Rattle.hc_model.specs.Tables.{after_accepted}
 use Rattle.hc_model.specs.Weights.{evicted}
 use Rattle.hc_effects.proofs.ActParts.{IsAnswer, IsSaid, answer_is, said_is, asks_evicted, asks_closed, asks_closes, asks_lost, asks_loss}
 use Rattle.hc_effects.proofs.ActParts as parts
-use Rattle.hc_effects.proofs.Basics.{and_left, none_some, number_is}
+use Rattle.hc_effects.proofs.Basics.{number_is}
 use Rattle.hc_effects.proofs.CurrentKeeps.{heard_same}
-use Rattle.hc_effects.proofs.HoleLemmas.{bool_cases}
-use Rattle.hc_effects.proofs.KeyNames.{and_then, eq_is}
-use Rattle.hc_effects.proofs.PieceKeeps.{eq_cases, some_inj}
+use Rattle.hc_effects.proofs.PieceKeeps.{eq_cases}
 use Rattle.hc_effects.proofs.PollKeeps.{find_passes}
 use Rattle.hc_effects.proofs.PollKeys.{IsNear}
 use Rattle.hc_effects.proofs.PollKeys as polls
@@ -100,9 +99,6 @@ joined_by false w = inl refl
 
 abbrev renews : Bool → ℕ → Option ℕ → Option ℕ
 renews b x old = if b then Some x else old
-
-eq-refl : (r : ℕ) → nat_eq r r ≡ true
-eq-refl r = grind (arith, nat_tests)
 
 module _ (t : Tables) (e : Entry) where
   same_if : (x : ℕ) (b : Bool) (w z : Exchange) → IsSameExchange w (exchange_acted x e.acts z) → IsSameExchange w (exchange_acted x e.acts (if b then z else w))

@@ -1,6 +1,7 @@
 -- What each leave closes, and what goes with it: that of who ends, fails or is cancelled.
 use Rattle.std.proofs.Common.{◌≡◌, inl, inr, ℕ, List, [], ◌∷◌, ◌++◌, Bool, true, false, Option, Some, None, refl, ap, sym, ◌∙◌}
 use Rattle.std.specs.Prelude.{◌&&◌, ◌||◌, ◌==◌, not, nat_eq, if◌then◌else◌, map, option_map}
+use Rattle.hc_text.proofs.Basics.{bool_cases, eqb-same, not_some as none_some, or_false as or_off, or_rest, plus_none, and_off as then_false}
 use Rattle.hc_event.specs.Filters.{Opening, opening_in, asks_in, closes_in, evicts_in, leaves_in, shows_in, given_in}
 use Rattle.hc_event.specs.declared.act.Act.{Act}
 use Rattle.hc_event.specs.declared.act.Act.TheVariants as act
@@ -28,14 +29,12 @@ use Rattle.hc_model.specs.Rows.{Tables, Exchange, Representation, Consumer}
 use Rattle.hc_model.specs.StartingOver.{loses_what_it_waits_for}
 use Rattle.hc_model.specs.Tables.{after_accepted, with_item_first, starts_after, last_start_after, opened_after, openings_after}
 use Rattle.hc_effects.proofs.ActParts.{IsFarFrom, far_closing, far_lost_only, closes_before, evicts_closed, loses_closed, asks_closed, asks_loss}
-use Rattle.hc_effects.proofs.Basics.{none_some, false_true, number_is}
+use Rattle.hc_effects.proofs.Basics.{false_true, number_is}
 use Rattle.hc_effects.proofs.ConsumerEffects.{after_by, others}
-use Rattle.hc_effects.proofs.OfConsumers.{IsOf, BringsNothing, brings_nothing, left_open, or_off, closes_left, goes_as, row_acted, consumer_itself, binds_none}
+use Rattle.hc_effects.proofs.OfConsumers.{IsOf, BringsNothing, brings_nothing, left_open, closes_left, goes_as, row_acted, consumer_itself, binds_none}
 use Rattle.hc_effects.proofs.OfConsumers as event_of
-use Rattle.hc_effects.proofs.HoleLemmas.{bool_cases}
 use Rattle.hc_effects.proofs.SameTables.{is_in, in_one, shut}
-use Rattle.hc_effects.proofs.Tests.{eqb-same, then_false}
-use Rattle.hc_effects.proofs.Untouched.{plus_none, own_stays, spared_bodiless, exchange_absent}
+use Rattle.hc_effects.proofs.Untouched.{own_stays, spared_bodiless, exchange_absent}
 
 -- WHAT IS SAID TO WHO LEAVES
 
@@ -63,10 +62,6 @@ record Fronts (c : ℕ) (ev : Event) (o : Option ℕ) (front rest : List Act) : 
   misreads : (r : ℕ) → misreads_in r rest ≡ false → misreads_in r (front ++ rest) ≡ is_number o r
   opens : opening_in (front ++ rest) ≡ opening_in rest
   shows : showing_in (front ++ rest) ≡ showing_in rest
-
-or_rest : (a b : Bool) → b ≡ false → (a || b) ≡ a
-or_rest true b off = refl
-or_rest false b off = off
 
 not_misread : (why : Cause) (r : ℕ) (rest : List Act) → is_failed_read (Some why) ≡ false → misreads_in r rest ≡ false → misreads_in r (act.Failed 0 why ∷ rest) ≡ false
 not_misread (cause.StoreRead q) r rest told none = absurd (false_true (sym told))

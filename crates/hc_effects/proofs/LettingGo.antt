@@ -2,6 +2,7 @@
 use Rattle.std.proofs.Common.{◌≡◌, inl, inr, ℕ, List, [], ◌∷◌, ◌++◌, length, Bool, true, false, Option, Some, None, refl, ap, sym, ◌∙◌, subst, arith}
 use Rattle.std.specs.Prelude.{nat_eq, option_map, is_some, filter, reverse, ◌&&◌, ◌||◌, not, ◌==◌, if◌then◌else◌}
 use Rattle.std.proofs.lemmas.Bool.Decides.{nat_tests}
+use Rattle.hc_text.proofs.Basics.{not_some as none_some, some_inj}
 use Rattle.hc_event.specs.declared.place.Place.{Place}
 use Rattle.hc_event.specs.declared.place.Place.TheVariants as place
 use Rattle.hc_model.specs.ConsumerRows.{back_in_line}
@@ -17,11 +18,11 @@ use Rattle.hc_model.specs.Passed.{Passed}
 use Rattle.hc_model.specs.Reading.{bound}
 use Rattle.hc_model.specs.Rows.{Tables, Representation, Consumer}
 use Rattle.hc_model.specs.Sound.{Among, OneCurrent}
-use Rattle.hc_effects.proofs.Basics.{same_functions, false_true, none_some}
+use Rattle.hc_effects.proofs.Basics.{same_functions, false_true}
 use Rattle.hc_effects.proofs.CurrentKeeps.{find_only, usable, usable_row}
 use Rattle.hc_effects.proofs.Evicting.{evicts_one}
 use Rattle.hc_effects.proofs.IdleNow.{filter_both}
-use Rattle.hc_effects.proofs.PieceKeeps.{some_inj, eq_cases}
+use Rattle.hc_effects.proofs.PieceKeeps.{eq_cases}
 use Rattle.hc_effects.proofs.SameTables.{is_in}
 use Rattle.hc_effects.proofs.Sums.{filter_once, reverse_once}
 

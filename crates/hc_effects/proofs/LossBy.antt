@@ -2,6 +2,7 @@
 use Rattle.std.proofs.Common.{◌≡◌, ◌⊎◌, inl, inr, ℕ, true, false, Option, Some, None, refl, ap, sym, ◌∙◌, arith}
 use Rattle.std.specs.Prelude.{is_some, ◌==◌, ◌||◌, nat_eq, unwrap_or}
 use Rattle.std.proofs.lemmas.Bool.Decides.{nat_tests}
+use Rattle.hc_text.proofs.Basics.{and_left, and_right, not_some as none_some, not_true, or_cases, same_some as same_row, some_inj}
 use Rattle.hc_event.specs.Filters.{closes_in, is_denied}
 use Rattle.hc_event.specs.declared.act.LostKind.{LostKind}
 use Rattle.hc_event.specs.declared.event.Event.{Event}
@@ -27,12 +28,11 @@ use Rattle.hc_model.specs.Weights.{evicted}
 use Rattle.hc_model.specs.Writers.{brings_body}
 use Rattle.hc_model.specs.Writes.{written_representation, written_in, lossless, seals_at, sealed_by, is_sealed, stops}
 use Rattle.hc_effects.proofs.ActParts.{said_is, said_closes, loses_evicted, loses_closed, loses_before}
-use Rattle.hc_effects.proofs.Basics.{false_true, and_left, and_right, or_cases, not_true, none_some, number_is}
+use Rattle.hc_effects.proofs.Basics.{false_true, number_is}
 use Rattle.hc_effects.proofs.Closed.{before}
 use Rattle.hc_effects.proofs.KeyActs.{found_some, closes_lossless, test_some}
 use Rattle.hc_effects.proofs.MeasuresKeep.{ender}
-use Rattle.hc_effects.proofs.PieceKeeps.{eq_cases, some_inj}
-use Rattle.hc_effects.proofs.ExclusiveWriters.{same_row}
+use Rattle.hc_effects.proofs.PieceKeeps.{eq_cases}
 use Rattle.hc_effects.proofs.Unclosed.{had_open}
 use Rattle.hc_effects.proofs.Waiters.{fault_open_of}
 

@@ -3,6 +3,7 @@ use Rattle.std.proofs.Common.{◌≡◌, ◌⊎◌, inl, inr, ℕ, List, Bool, t
 use Rattle.std.specs.Prelude.{not, nat_eq, ◌&&◌, ◌||◌}
 use Rattle.std.specs.Option.{option_or}
 use Rattle.std.proofs.lemmas.Bool.Decides.{nat_tests}
+use Rattle.hc_text.proofs.Basics.{both_true as and_both, bool_cases, cond_true as cond_left, or_left, some_inj}
 use Rattle.hc_event.specs.declared.act.Act.{Act}
 use Rattle.hc_event.specs.declared.act.Cause.{Cause}
 use Rattle.hc_model.specs.ActFilters.{loses_in}
@@ -18,9 +19,7 @@ use Rattle.hc_model.specs.Writers.{loses_writing, survivor, goes_on_with}
 use Rattle.hc_event.specs.declared.place.BoundBy.{BoundBy}
 use Rattle.hc_event.specs.declared.place.Place.TheVariants as place
 use Rattle.hc_model.specs.Sound as sound
-use Rattle.hc_effects.proofs.Basics.{and_both, or_left}
-use Rattle.hc_effects.proofs.HoleLemmas.{bool_cases}
-use Rattle.hc_effects.proofs.PieceKeeps.{of_piece, some_inj}
+use Rattle.hc_effects.proofs.PieceKeeps.{of_piece}
 use Rattle.hc_effects.proofs.Losses.{goes_on_or_rests, HasRest}
 
 -- WHAT THE LOSS LEAVES OF THE ROW
@@ -53,10 +52,6 @@ lost_piece e r x bytes None v lost = (refl, refl, refl)
 lost_piece e r x bytes (Some w) v lost =
     let b = not (v.is_lost || loses_in r e.acts) in
     keeps_if (nat_eq (family x w) r) v (with_stored_bytes b (front w) x bytes v) (not_kept b (front w) x bytes v (not_or v.is_lost (loses_in r e.acts) lost))
-
-cond_left : {A : Type 0} (b : Bool) (x y : A) → b ≡ true → cond b x y ≡ x
-cond_left true x y h = refl
-cond_left false x y h = absurd (let never : false ≡ true = h in cc)
 
 lost_row : (t : Tables) (now x r : ℕ) (bytes : List ℕ) (acts : List Act) (v u : Representation) → t.representation r ≡ Some v → loses_in r acts ≡ true → v.is_lost ≡ false → representation_after t (of_piece now x bytes acts) r (Some v) ≡ Some u → IsLostRow t (of_piece now x bytes acts) r v u
 unfolding representation_after

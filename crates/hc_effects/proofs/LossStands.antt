@@ -2,6 +2,7 @@
 use Rattle.std.proofs.Common.{◌≡◌, inl, inr, ℕ, List, [], ◌∷◌, ◌++◌, Bool, true, false, Option, Some, None, refl, ap, sym, ◌∙◌, arith}
 use Rattle.std.specs.Prelude.{if◌then◌else◌, map, nat_eq, ◌||◌}
 use Rattle.std.proofs.lemmas.Bool.Decides.{nat_tests}
+use Rattle.hc_text.proofs.Basics.{and_left, or_cases}
 use Rattle.hc_event.specs.Filters.{is_denied}
 use Rattle.hc_event.specs.declared.event.Event.{Event}
 use Rattle.hc_event.specs.declared.event.Event.TheVariants as event
@@ -28,7 +29,7 @@ use Rattle.hc_model.specs.Runs.{may_stand, may_be}
 use Rattle.hc_model.specs.Sound.{Sound}
 use Rattle.hc_model.specs.Weights.{evicted}
 use Rattle.hc_model.specs.Writes.{written_representation, head_writes, may_validate, lossless}
-use Rattle.hc_effects.proofs.Basics.{false_true, and_left, or_cases}
+use Rattle.hc_effects.proofs.Basics.{false_true}
 use Rattle.hc_effects.proofs.Closed.{before}
 use Rattle.hc_effects.proofs.FirstKeeps.{case_is}
 use Rattle.hc_effects.proofs.FoundBy.{CaseBy, case_by}

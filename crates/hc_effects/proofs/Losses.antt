@@ -3,6 +3,7 @@ use Rattle.std.proofs.Common.{◌≡◌, ◌≢◌, ◌⊎◌, inl, inr, ℕ, Li
 use Rattle.std.specs.Prelude.{is_some, is_none, not, ◌&&◌, ◌||◌, filter, map}
 use Rattle.std.specs.Option.{option_or}
 use Rattle.std.proofs.lemmas.Bool.Decides.{nat_tests}
+use Rattle.hc_text.proofs.Basics.{bool_cases, or_off_right as or_right, same_some as same_row}
 use Rattle.hc_sparse.specs.Cells.{Covers}
 use Rattle.hc_model.specs.Holes.{covers}
 use Rattle.hc_model.specs.Reading.{is_written, bound, is_bound_place, is_bound, offset, hi_of}
@@ -15,8 +16,7 @@ use Rattle.hc_rules.specs.Admissions.{is_of, is_same_kind, numbers}
 use Rattle.hc_rules.specs.declared.admission.BoundKind.TheVariants as kind
 use Rattle.hc_event.specs.declared.place.Place.TheVariants as place
 use Rattle.hc_model.specs.Sound as sound
-use Rattle.hc_effects.proofs.HoleLemmas.{bool_cases, covers_all}
-use Rattle.hc_effects.proofs.ExclusiveWriters.{same_row}
+use Rattle.hc_effects.proofs.HoleLemmas.{covers_all}
 
 -- THE LEAST OF A LIST OF ONE NUMBER
 
@@ -140,10 +140,6 @@ no_more t v k (Some hi) is some none = record { hi = hi; end = is; covered = cov
     not_false : (b : Bool) → not b ≡ false → b ≡ true
     not_false true h = refl
     not_false false h = absurd (let never : true ≡ false = h in cc)
-
-pub or_right : (a b : Bool) → (a || b) ≡ false → b ≡ false
-or_right true b h = absurd (let never : true ≡ false = h in cc)
-or_right false b h = h
 
 pub or_end : (hi o : Option ℕ) → is_some hi ≡ true → is_some (option_or hi o) ≡ true
 or_end None o some = absurd (let never : false ≡ true = some in cc)

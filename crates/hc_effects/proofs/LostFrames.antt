@@ -3,6 +3,7 @@
 use Rattle.std.proofs.Common.{◌≡◌, inl, inr, ℕ, Bool, true, false, Option, Some, None, refl, ap, sym, ◌∙◌}
 use Rattle.std.specs.Prelude.{◌&&◌, not, nat_eq, if◌then◌else◌, is_none, is_some, unwrap_or}
 use Rattle.std.specs.Option.{option_or}
+use Rattle.hc_text.proofs.Basics.{and_right, eqb-same, not_some as none_some, or_none as or_nothing, same_some as same_row, some_inj}
 use Rattle.hc_event.specs.declared.act.Cause.{Cause}
 use Rattle.hc_event.specs.declared.act.Cause.TheVariants as cause
 use Rattle.hc_event.specs.declared.place.Place.TheVariants as place
@@ -21,13 +22,11 @@ use Rattle.hc_model.specs.Reading.{is_written, reads}
 use Rattle.hc_model.specs.Rows.{Tables, Exchange, Representation, Consumer}
 use Rattle.hc_model.specs.StartingOver.{starts_over}
 use Rattle.hc_model.specs.Writers.{loses_writing, survivor, goes_on_with}
-use Rattle.hc_effects.proofs.Basics.{and_right, none_some}
-use Rattle.hc_effects.proofs.ExclusiveWriters.{same_row, writer_some}
-use Rattle.hc_effects.proofs.PieceKeeps.{eq_cases, some_inj}
+use Rattle.hc_effects.proofs.ExclusiveWriters.{writer_some}
+use Rattle.hc_effects.proofs.PieceKeeps.{eq_cases}
 use Rattle.hc_effects.proofs.PieceServes.{IsQuietActs, acted_quiet}
 use Rattle.hc_effects.proofs.Stops.{writer_open}
-use Rattle.hc_effects.proofs.Tests.{eqb-same}
-use Rattle.hc_effects.proofs.Untouched.{IsApart, or_nothing, starts_as}
+use Rattle.hc_effects.proofs.Untouched.{IsApart, starts_as}
 
 -- the exchange of a writing
 pub record IsWriter (t : Tables) (r : ℕ) (v : Representation) : Type 0 where

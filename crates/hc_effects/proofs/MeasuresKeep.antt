@@ -3,6 +3,7 @@ use Rattle.std.proofs.Common.{◌≡◌, ◌⊎◌, inl, inr, ℕ, ◌+◌, ◌<
 use Rattle.std.specs.Prelude.{if◌then◌else◌, is_some, nat_eq, nat_lt, unwrap_or}
 use Rattle.std.specs.Option.{option_or}
 use Rattle.std.proofs.lemmas.Bool.Decides.{nat_tests}
+use Rattle.hc_text.proofs.Basics.{and_right, bool_cases, not_some as none_some, number_not, same_some as same_row, some_inj}
 use Rattle.hc_sparse.specs.Cells.{cells_with}
 use Rattle.hc_sparse.proofs.CellLemmas.{inside-cases}
 use Rattle.hc_range.specs.declared.range.Asked.{Asked}
@@ -38,7 +39,7 @@ use Rattle.hc_model.specs.Rows.{Tables, Exchange, Representation, Consumer}
 use Rattle.hc_model.specs.Sound.{Sound, IsAbout}
 use Rattle.hc_model.specs.Sound as sound
 use Rattle.hc_model.specs.Tables.{after_accepted}
-use Rattle.hc_effects.proofs.Basics.{false_true, and_right, none_some}
+use Rattle.hc_effects.proofs.Basics.{false_true}
 use Rattle.hc_effects.proofs.ExchangeFrom.{ExchangeFrom, IsSame, IsHeaded, exchange_from}
 use Rattle.hc_effects.proofs.ExchangeFrom as exchange
 use Rattle.hc_effects.proofs.Fills.{Fills, fills, Brings, brings, length_same}
@@ -47,16 +48,10 @@ use Rattle.hc_effects.proofs.FirstKeeps.{case_is, is_new}
 use Rattle.hc_effects.proofs.FoundBy.{CaseBy, case_by, FoundingBy, founding_by}
 use Rattle.hc_effects.proofs.FoundBy as cases
 use Rattle.hc_effects.proofs.HeadKeeps.{is_join}
-use Rattle.hc_effects.proofs.HoleLemmas.{bool_cases}
 use Rattle.hc_effects.proofs.Once.{taken, IsTaken, never}
 use Rattle.hc_effects.proofs.PartTold.{part_within, whole_base, IsWithin}
-use Rattle.hc_effects.proofs.PieceKeeps.{some_inj}
-use Rattle.hc_effects.proofs.ExclusiveWriters.{same_row}
 use Rattle.hc_effects.proofs.RepFrom.{RepFrom, rep_from, IsKept, IsEnded}
 use Rattle.hc_effects.proofs.RepFrom as rep
-
-pub number_not : (n m : ℕ) → (n ≡ m → ⊥) → nat_eq n m ≡ false
-number_not n m off = grind (arith, nat_tests)
 
 -- a part that fits to found tells its length
 pub record IsPart (response : Response) : Type 0 where

@@ -2,6 +2,7 @@
 use Rattle.std.proofs.Common.{◌≡◌, inl, inr, ℕ, Bool, true, false, cond, Option, Some, None, refl, ap, sym, ◌∙◌, arith}
 use Rattle.std.specs.Prelude.{if◌then◌else◌, is_none, ◌&&◌, ◌==◌, not, nat_eq}
 use Rattle.std.proofs.lemmas.Bool.Decides.{nat_tests}
+use Rattle.hc_text.proofs.Basics.{and_left, and_right, bool_cases, not_some as none_some, never_true as not_so, or_cases, same_some as same_row}
 use Rattle.hc_event.specs.Filters.{Opening, opening_in, leaves_in}
 use Rattle.hc_event.specs.declared.event.Event.{Event}
 use Rattle.hc_event.specs.declared.event.Event.TheVariants as event
@@ -29,12 +30,10 @@ use Rattle.hc_model.specs.Sound.{Sound, IsBound}
 use Rattle.hc_model.specs.Sound as sound
 use Rattle.hc_model.specs.StartingOver.{starts_over, waits_at, sends_back, loses_what_it_waits_for}
 use Rattle.hc_model.specs.Tables.{after_accepted}
-use Rattle.hc_effects.proofs.Basics.{false_true, and_left, and_right, or_cases, not_so, none_some}
+use Rattle.hc_effects.proofs.Basics.{false_true}
 use Rattle.hc_effects.proofs.FirstKeeps.{is_new}
 use Rattle.hc_effects.proofs.Forward.{is_kept}
-use Rattle.hc_effects.proofs.HoleLemmas.{bool_cases}
 use Rattle.hc_effects.proofs.PieceKeeps.{eq_cases}
-use Rattle.hc_effects.proofs.ExclusiveWriters.{same_row}
 use Rattle.hc_effects.proofs.Said.{waiting_by}
 use Rattle.hc_effects.proofs.WaitedAs.{IsForOthers, waited_as}
 use Rattle.hc_effects.proofs.WaitedAs as waited

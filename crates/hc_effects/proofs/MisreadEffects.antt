@@ -1,6 +1,7 @@
 -- What a poll does at which a read of the store fails: its consumer fails, and what it was to read is let go.
 use Rattle.std.proofs.Common.{◌≡◌, ℕ, List, [], ◌∷◌, ◌++◌, Bool, true, false, Option, Some, None, refl, ap, sym, ◌∙◌}
 use Rattle.std.specs.Prelude.{◌||◌, ◌==◌, not, nat_eq, map}
+use Rattle.hc_text.proofs.Basics.{eqb-same, and_off as then_false}
 use Rattle.hc_event.specs.declared.act.Act.{Act}
 use Rattle.hc_event.specs.declared.act.Act.TheVariants as act
 use Rattle.hc_event.specs.declared.act.Cause.TheVariants as cause
@@ -26,7 +27,6 @@ use Rattle.hc_effects.proofs.LeaveFrames.{IsFront, e, rest, nothing, far, acts_l
 use Rattle.hc_effects.proofs.LeaveFrames as front_of
 use Rattle.hc_effects.proofs.OfConsumers.{BringsNothing}
 use Rattle.hc_effects.proofs.SameTables.{is_in, all_closed_is}
-use Rattle.hc_effects.proofs.Tests.{eqb-same, then_false}
 
 module _ (limits : Limits) (t : Tables) (law : Lawful t) (now c want : ℕ) (k : Consumer) (row : t.consumer c ≡ Some k) (r : ℕ) where
   abbrev ev : Event

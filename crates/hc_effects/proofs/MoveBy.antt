@@ -2,6 +2,7 @@
 use Rattle.std.proofs.Common.{◌≡◌, inl, inr, ℕ, Bool, true, false, cond, Option, Some, None, refl, ap, sym, ◌∙◌}
 use Rattle.std.specs.Prelude.{if◌then◌else◌}
 use Rattle.std.specs.Option.{option_and_then}
+use Rattle.hc_text.proofs.Basics.{bool_cases, cond_false}
 use Rattle.hc_event.specs.declared.act.Cause.{Cause}
 use Rattle.hc_event.specs.declared.act.Wait.TheVariants as wait
 use Rattle.hc_event.specs.declared.place.Place.{Place}
@@ -18,7 +19,6 @@ use Rattle.hc_model.specs.Rows.{Tables, Consumer}
 use Rattle.hc_model.specs.Sound.{Sound, IsToBeShown}
 use Rattle.hc_model.specs.Steps.{reading}
 use Rattle.hc_model.specs.Sound as sound
-use Rattle.hc_effects.proofs.HoleLemmas.{bool_cases}
 
 -- it has no open exchange that waits for its head
 abbrev pub IsHeard : Tables → Consumer → Type 0
@@ -31,10 +31,6 @@ pub data MoveBy (t : Tables) (now want c : ℕ) (k : Consumer) : Move → Type 0
   over : k.place ≡ place.Over → MoveBy t now want c k Nothing
   reads : k.shown ≡ true → IsHeard t k → MoveBy t now want c k (reading t want c k)
   plans : k.shown ≡ false → bound_to k.place ≡ None → shows_at t k k.place ≡ None → IsHeard t k → MoveBy t now want c k (planned_move t now c k)
-
-cond_false : {A : Type 0} (b : Bool) (x y : A) → b ≡ false → cond b x y ≡ y
-cond_false true x y h = absurd (let never : true ≡ false = h in cc)
-cond_false false x y h = refl
 
 module _ (t : Tables) (now want c : ℕ) (k : Consumer) where
   shows_of : (p : Place) → k.place ≡ p → k.shown ≡ false → shows_head t k ≡ None → shows_at t k p ≡ None

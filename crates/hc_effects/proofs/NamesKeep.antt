@@ -1,6 +1,7 @@
 -- What exchanges name is there, and none without a head is a representation.
 use Rattle.std.proofs.Common.{◌≡◌, ◌⊎◌, inl, inr, ℕ, ◌+◌, ◌<◌, List, Bool, true, false, Option, Some, None, refl, ap, sym, ◌∙◌, subst, arith}
 use Rattle.std.specs.Prelude.{◌&&◌, is_some, if◌then◌else◌, option_map}
+use Rattle.hc_text.proofs.Basics.{some_inj}
 use Rattle.hc_event.specs.Filters.{Opening, opening_in}
 use Rattle.hc_event.specs.declared.event.Event.{Event}
 use Rattle.hc_event.specs.declared.event.Event.TheVariants as event
@@ -23,7 +24,7 @@ use Rattle.hc_model.specs.Sound as sound
 use Rattle.hc_model.specs.Tables.{after_accepted}
 use Rattle.hc_effects.proofs.Basics.{some_none}
 use Rattle.hc_effects.proofs.NumbersKeep.{opens_next, founded_none, representation_none}
-use Rattle.hc_effects.proofs.PieceKeeps.{eq_cases, some_inj}
+use Rattle.hc_effects.proofs.PieceKeeps.{eq_cases}
 use Rattle.hc_effects.proofs.PollKeeps.{find_passes}
 
 -- what stands stays

@@ -3,6 +3,7 @@ use Rattle.std.proofs.Common.{◌≡◌, ◌≢◌, inl, inr, ℕ, ◌+◌, ◌<
 use mathlib.Core.Path.{fun_ext}
 use Rattle.std.specs.Prelude.{◌&&◌, ◌||◌, ◌==◌, not, nat_eq, if◌then◌else◌, filter, reverse, is_some}
 use Rattle.std.specs.Option.{option_or}
+use Rattle.hc_text.proofs.Basics.{and_true, not_some as none_some, or_none as or_nothing, or_false as or_off, some_inj, and_off as then_false}
 use Rattle.hc_event.specs.Filters.{opening_in, asks_in, closes_in, evicts_in}
 use Rattle.hc_event.specs.declared.act.Act.{Act}
 use Rattle.hc_event.specs.declared.act.Cause.{Cause}
@@ -36,16 +37,15 @@ use Rattle.hc_model.specs.Writers.{brings_body}
 use Rattle.hc_effects.proofs.AboutKeeps.{own_open_of}
 use Rattle.hc_effects.proofs.ActParts.{IsFarFrom}
 use Rattle.hc_effects.proofs.ApartKeeps.{is_on}
-use Rattle.hc_effects.proofs.Basics.{none_some, number_is}
+use Rattle.hc_effects.proofs.Basics.{number_is}
 use Rattle.hc_effects.proofs.Closed.{reversed}
 use Rattle.hc_effects.proofs.Dues.{undue_of, other_stop}
 use Rattle.hc_effects.proofs.FewClosings.{ClosesLittle, filter_none, must_as, quiet_closes}
 use Rattle.hc_effects.proofs.KeyActs.{test_some}
-use Rattle.hc_effects.proofs.PieceKeeps.{eq_cases, some_inj}
+use Rattle.hc_effects.proofs.PieceKeeps.{eq_cases}
 use Rattle.hc_effects.proofs.Stops.{writer_about}
 use Rattle.hc_effects.proofs.Sums.{reverse_once}
-use Rattle.hc_effects.proofs.Tests.{then_false}
-use Rattle.hc_effects.proofs.Untouched.{or_nothing, exchange_stays, exchange_absent, binds_nobody, loss_spared, spared_bodiless, consumer_frame, starts_as, goes_from}
+use Rattle.hc_effects.proofs.Untouched.{exchange_stays, exchange_absent, binds_nobody, loss_spared, spared_bodiless, consumer_frame, starts_as, goes_from}
 
 pub data IsOf (c : ℕ) : Event → Type 0 where
   starts : (request : Request) → IsOf c (event.Start c request)
@@ -111,14 +111,6 @@ all_below n m [] falls there = absurd there
 pub descends_once : (n : ℕ) (xs : List ℕ) → Descends n xs → AreOnce xs
 descends_once n [] falls = tt
 descends_once n (x ∷ xs) falls = (λ there. (let never = all_below x x xs falls.1 there in absurd (omega (arith, never))), descends_once x xs falls.1)
-
-pub and_true : (b : Bool) → (b && true) ≡ b
-and_true true = refl
-and_true false = refl
-
-pub or_off : (b : Bool) → (b || false) ≡ b
-or_off true = refl
-or_off false = refl
 
 pub and_so : (a b : Bool) → (a ≡ true → b ≡ true) → (a && b) ≡ a
 and_so true b so = so refl

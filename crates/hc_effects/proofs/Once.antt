@@ -2,6 +2,7 @@
 use Rattle.std.proofs.Common.{◌≡◌, inl, inr, ℕ, ◌+◌, ◌<◌, ◌≤◌, length, Bool, true, false, Option, Some, None, refl, arith}
 use Rattle.std.specs.Prelude.{is_some, nat_lt, if◌then◌else◌, ◌==◌}
 use Rattle.std.proofs.lemmas.Bool.Decides.{nat_tests}
+use Rattle.hc_text.proofs.Basics.{bool_cases}
 use Rattle.hc_event.specs.declared.act.Refusal.TheVariants as refusal
 use Rattle.hc_model.specs.Denials.{as_open}
 use Rattle.hc_model.specs.Exchanges.{promised_bytes, front}
@@ -11,7 +12,6 @@ use Rattle.hc_model.specs.Sound.{Sound, IsPromised}
 use Rattle.hc_rules.specs.Refusals.{piece_refusal, overlong}
 use Rattle.hc_rules.specs.Refusals as refusals
 use Rattle.hc_rules.specs.declared.refusal.OpenExchange.{OpenExchange}
-use Rattle.hc_effects.proofs.HoleLemmas.{bool_cases}
 
 pub never : {A : Type 0} (a : A) → (Some a ≡ None) → ⊥
 never a h = cc

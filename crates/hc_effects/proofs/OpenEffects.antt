@@ -1,6 +1,7 @@
 -- What each poll does that opens an exchange: its number is new, its row, and its consumer owns it.
 use Rattle.std.proofs.Common.{◌≡◌, inl, inr, ℕ, ◌+◌, List, [], ◌∷◌, false, Option, Some, None, refl, ap, sym, ◌∙◌, subst, arith}
 use Rattle.std.specs.Prelude.{◌==◌, nat_eq, if◌then◌else◌}
+use Rattle.hc_text.proofs.Basics.{eqb-same, plus_none, some_inj}
 use Rattle.hc_event.specs.Filters.{Opening, opening_in}
 use Rattle.hc_event.specs.declared.act.Need.{Need}
 use Rattle.hc_event.specs.declared.event.Event.TheVariants as event
@@ -27,15 +28,14 @@ use Rattle.hc_effects.proofs.Basics.{some_none}
 use Rattle.hc_effects.proofs.OfConsumers.{BringsNothing, brings_nothing, row_unsaid, binds_as}
 use Rattle.hc_effects.proofs.OfConsumers as event_of
 use Rattle.hc_effects.proofs.OpenedAs.{OpenedAs, opened_as}
-use Rattle.hc_effects.proofs.PieceKeeps.{eq_cases, some_inj}
+use Rattle.hc_effects.proofs.PieceKeeps.{eq_cases}
 use Rattle.hc_effects.proofs.PollEffects.{acts_are, nothing_goes, poll_does}
 use Rattle.hc_effects.proofs.PollEffects as polls
 use Rattle.hc_effects.proofs.PollKeeps.{poll_opens_next}
 use Rattle.hc_effects.proofs.Said.{IsOpening}
 use Rattle.hc_effects.proofs.Said as said
 use Rattle.hc_effects.proofs.SameTables.{is_in, waits_for_any}
-use Rattle.hc_effects.proofs.Tests.{eqb-same}
-use Rattle.hc_effects.proofs.Untouched.{plus_none, own_stays, spared_bodiless, exchange_absent}
+use Rattle.hc_effects.proofs.Untouched.{own_stays, spared_bodiless, exchange_absent}
 
 -- who is bound to nothing asks about what is current
 pub aim_free : (t : Tables) (key : List ℕ) (p : Place) → bound_to p ≡ None → aim_from t key p ≡ current t key

@@ -1,5 +1,6 @@
 -- What an exchange is opened as: past the store, with the turn, for a first hole, or for a later one of who is bound.
 use Rattle.std.proofs.Common.{◌≡◌, inl, inr, ℕ, ◌+◌, Bool, true, false, cond, Option, Some, None, refl, ap, sym, ◌∙◌, subst}
+use Rattle.hc_text.proofs.Basics.{bool_cases, some_inj}
 use Rattle.hc_text.specs.declared.bytes.Key.{Key}
 use Rattle.hc_text.specs.declared.bytes.MethodName.{MethodName}
 use Rattle.hc_range.specs.declared.range.Span.{Span}
@@ -36,10 +37,8 @@ use Rattle.hc_model.specs.Rows.{Tables, Exchange, Representation, Consumer}
 use Rattle.hc_model.specs.Sound.{Sound}
 use Rattle.hc_model.specs.Steps.{read_view, step_move, later_hole, bound_row}
 use Rattle.hc_effects.proofs.Asked.{Asked, AskedBy, plan_asks}
-use Rattle.hc_effects.proofs.HoleLemmas.{bool_cases}
 use Rattle.hc_effects.proofs.MoveBy.{MoveBy, IsHeard, move_by}
 use Rattle.hc_effects.proofs.MoveBy as by
-use Rattle.hc_effects.proofs.PieceKeeps.{some_inj}
 use Rattle.hc_effects.proofs.PlanBy.{PlanBy, plan_by}
 use Rattle.hc_effects.proofs.PlanBy as plans
 use Rattle.hc_effects.proofs.Said.{IsOpening}

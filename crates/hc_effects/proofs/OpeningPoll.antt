@@ -2,6 +2,7 @@
 use Rattle.std.proofs.Common.{◌≡◌, inl, inr, ℕ, List, [], ◌∷◌, ◌++◌, Bool, true, false, cond, Option, Some, None, refl, ap, sym, ◌∙◌, subst}
 use Rattle.std.specs.Prelude.{map, nat_eq, ◌&&◌, ◌||◌}
 use Rattle.std.specs.Option.{option_or}
+use Rattle.hc_text.proofs.Basics.{and_left, and_right, not_some as none_some, never_true as not_so, or_cases}
 use Rattle.hc_event.specs.Filters.{Opening, opening_in, leaves_in, closes_in, evicts_in, is_denied}
 use Rattle.hc_event.specs.declared.event.Event.{Event}
 use Rattle.hc_event.specs.declared.event.Event.TheVariants as event
@@ -26,7 +27,7 @@ use Rattle.hc_model.specs.Runs.{may_stand, may_be}
 use Rattle.hc_model.specs.Sound.{Sound}
 use Rattle.hc_model.specs.Writers.{loses_writing}
 use Rattle.hc_model.specs.Writes.{written_representation, seals_at, first_found, lossless, sealed_by}
-use Rattle.hc_effects.proofs.Basics.{false_true, and_left, and_right, or_cases, not_so, none_some}
+use Rattle.hc_effects.proofs.Basics.{false_true}
 use Rattle.hc_effects.proofs.Closed.{before}
 use Rattle.hc_effects.proofs.PollKeeps.{closes_open_none}
 use Rattle.hc_effects.proofs.SaidActs.{closes_leave}

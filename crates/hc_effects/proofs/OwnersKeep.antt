@@ -1,6 +1,7 @@
 -- Whose an exchange is stays told: what is opened is of its consumer's key, and an own exchange is of one consumer alone.
 use Rattle.std.proofs.Common.{◌≡◌, inl, inr, ℕ, ◌+◌, Bool, true, false, cond, Option, Some, None, refl, ap, sym, ◌∙◌, subst, arith}
 use Rattle.std.specs.Prelude.{is_some}
+use Rattle.hc_text.proofs.Basics.{and_left, and_right, same_some as same_row}
 use Rattle.hc_event.specs.Filters.{Opening, opening_in}
 use Rattle.hc_event.specs.declared.event.Event.{Event}
 use Rattle.hc_event.specs.declared.event.Event.TheVariants as event
@@ -25,7 +26,6 @@ use Rattle.hc_model.specs.Rows.{Tables, Exchange, Representation, Consumer}
 use Rattle.hc_model.specs.Sound.{Sound}
 use Rattle.hc_model.specs.Tables.{after_accepted}
 use Rattle.hc_model.specs.Writers.{loses_writing, survivor}
-use Rattle.hc_effects.proofs.Basics.{and_left, and_right}
 use Rattle.hc_effects.proofs.BoundFrom.{BoundFrom, bound_from}
 use Rattle.hc_effects.proofs.BoundFrom as bound
 use Rattle.hc_effects.proofs.ExchangeFrom.{ExchangeFrom, exchange_from, IsSame}
@@ -35,7 +35,6 @@ use Rattle.hc_effects.proofs.NumbersKeep.{opens_next}
 use Rattle.hc_effects.proofs.OpenedAs.{OpenedAs, opened_as}
 use Rattle.hc_effects.proofs.OwnFrom.{OwnFrom, own_from, IsLeft}
 use Rattle.hc_effects.proofs.OwnFrom as own
-use Rattle.hc_effects.proofs.ExclusiveWriters.{same_row}
 use Rattle.hc_effects.proofs.RepFrom.{RepFrom, rep_from}
 use Rattle.hc_effects.proofs.RepFrom as rep
 use Rattle.hc_effects.proofs.Said.{opening_by}

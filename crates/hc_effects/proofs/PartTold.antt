@@ -4,6 +4,7 @@ use Rattle.std.specs.Prelude.{nat_eq, nat_lt, nat_le, codes, bytes_eq, if◌then
 use Rattle.std.specs.Option.{option_and_then}
 use Rattle.std.specs.Str.{str_to_ascii_lowercase}
 use Rattle.std.proofs.lemmas.Bool.Decides.{nat_tests}
+use Rattle.hc_text.proofs.Basics.{bool_cases, not_some as none_some, some_inj}
 use Rattle.hc_fields.specs.FieldElements.{elements_in}
 use Rattle.hc_fields.specs.FieldList.{values_of}
 use Rattle.hc_fields.specs.FirstValues.{only_of}
@@ -21,11 +22,6 @@ use Rattle.hc_rules.specs.Lengths.{length_of, base_of, promise_of, is_bad, part_
 use Rattle.hc_rules.specs.Lengths as lengths
 use Rattle.hc_rules.specs.Needs.{route_of}
 use Rattle.hc_rules.specs.RangeTexts.{content_range_of, content_range_in, response_in, response_from, content_range_from, with_total, without_part, spec_in, positions_from, positions_by, from_to, number_of, split_at, hyphen, slash}
-use Rattle.hc_effects.proofs.Basics.{none_some}
-use Rattle.hc_effects.proofs.HoleLemmas.{bool_cases}
-
-some_inj : {A : Type 0} (a b : A) → Some a ≡ Some b → a ≡ b
-some_inj a b is = cc
 
 -- POSITIONS IN ORDER
 

@@ -1,6 +1,7 @@
 -- What a piece does that is brought past the store, that is stored, or whose write is refused where it isn't written for several.
 use Rattle.std.proofs.Common.{◌≡◌, inl, inr, ℕ, List, [], ◌∷◌, ◌++◌, Bool, true, false, Option, Some, None, refl, ap, sym, ◌∙◌, subst}
 use Rattle.std.specs.Prelude.{◌&&◌, ◌||◌, ◌==◌, not, nat_eq, if◌then◌else◌, map, option_map}
+use Rattle.hc_text.proofs.Basics.{eqb-same, not_some as none_some, same_some as same_row, and_off as then_false}
 use Rattle.hc_event.specs.declared.act.Act.TheVariants as act
 use Rattle.hc_event.specs.declared.act.LostKind.{LostKind}
 use Rattle.hc_event.specs.declared.event.Event.{Event}
@@ -29,14 +30,12 @@ use Rattle.hc_model.specs.Runs.{has_room}
 use Rattle.hc_model.specs.Tables.{after_accepted}
 use Rattle.hc_model.specs.Weights.{evicted, first_idle, room_for, write_in}
 use Rattle.hc_model.specs.Writers.{exclusive, goes_on_with}
-use Rattle.hc_effects.proofs.Basics.{true_false, false_true, none_some, append_none}
+use Rattle.hc_effects.proofs.Basics.{true_false, false_true, append_none}
 use Rattle.hc_effects.proofs.Dues.{undue_of, stop_none}
 use Rattle.hc_effects.proofs.FewClosings.{ClosesLittle, nothing_lost, closes_nothing}
 use Rattle.hc_effects.proofs.Frames.{undoomed}
-use Rattle.hc_effects.proofs.ExclusiveWriters.{same_row}
 use Rattle.hc_effects.proofs.PieceKeeps.{eq_cases}
 use Rattle.hc_effects.proofs.SameTables.{is_in, back_from_any}
-use Rattle.hc_effects.proofs.Tests.{eqb-same, then_false}
 use Rattle.hc_effects.proofs.ToldFrames.{pieces, says_little, e, exchange_one, goes_as, loses_as, closes_as, representation_by, representation_none, lost_by, beside_same, consumer_by, told_by, told_does, told_plainly}
 use Rattle.hc_effects.proofs.Untouched.{IsSpared, loss_spared}
 

@@ -2,6 +2,7 @@
 use Rattle.std.proofs.Common.{◌≡◌, ◌≢◌, ◌⊎◌, inl, inr, ℕ, ◌+◌, ◌≤◌, List, [], ◌++◌, length, Bool, true, false, cond, Option, Some, None, refl, ap, sym, ◌∙◌, arith, subst, length-append}
 use Rattle.std.specs.Prelude.{is_some, nat_eq}
 use Rattle.std.proofs.lemmas.Bool.Decides.{nat_tests}
+use Rattle.hc_text.proofs.Basics.{and_right, same_some as same_row, some_inj}
 use Rattle.hc_event.specs.Filters.{opening_in}
 use Rattle.hc_event.specs.declared.event.Event.TheVariants as event
 use Rattle.hc_event.specs.declared.act.Act.{Act}
@@ -17,8 +18,6 @@ use Rattle.hc_model.specs.Rows.{Tables, Exchange, Representation}
 use Rattle.hc_model.specs.Sound.{Waits, Sound, OneAbout, IsAbout, IsPromised, InHole}
 use Rattle.hc_model.specs.Tables.{after_accepted}
 use Rattle.hc_model.specs.Sound as sound
-use Rattle.hc_effects.proofs.Basics.{and_right}
-use Rattle.hc_effects.proofs.ExclusiveWriters.{same_row}
 
 abbrev pub of_piece : ℕ → ℕ → List ℕ → List Act → Entry
 of_piece now x bytes acts = record { now = now; event = event.Piece x bytes; acts = acts }
@@ -43,9 +42,6 @@ pub record WasExchange (t : Tables) (x y : ℕ) (bytes : List ℕ) (u : Exchange
 -- the row after the piece, of the exchange that brought it and of another
 abbrev with_bytes : Tables → ℕ → List ℕ → List Act → Exchange → Exchange
 with_bytes t x bytes acts w = exchange_acted x acts (exchange_heard t (of_piece 0 x bytes acts) x (event.Piece x bytes) w)
-
-pub some_inj : {A : Type 0} (a b : A) → Some a ≡ Some b → a ≡ b
-some_inj a b h = cc
 
 -- a row was there before
 pub was_exchange : (t : Tables) (now x y : ℕ) (bytes : List ℕ) (acts : List Act) (o : Option Exchange) (u : Exchange) → t.exchange y ≡ o → opening_in acts ≡ None → exchange_after t (of_piece now x bytes acts) y o ≡ Some u → WasExchange t x y bytes u

@@ -2,6 +2,7 @@
 use Rattle.std.proofs.Common.{◌≡◌, ℕ, ◌+◌, List, [], ◌∷◌, ◌++◌, Bool, true, false, cond, Option, Some, None, refl, ap, sym, ◌∙◌, subst, arith}
 use Rattle.std.specs.Prelude.{map}
 use Rattle.std.specs.Option.{option_or}
+use Rattle.hc_text.proofs.Basics.{plus_none, some_inj}
 use Rattle.hc_event.specs.Filters.{opening_in, shows_in, given_in, leaves_in}
 use Rattle.hc_event.specs.declared.act.Act.{Act}
 use Rattle.hc_event.specs.declared.act.Act.TheVariants as act
@@ -16,7 +17,7 @@ use Rattle.hc_model.specs.Rows.{Tables, Consumer}
 use Rattle.hc_model.specs.StartingOver.{starts_over}
 use Rattle.hc_event.specs.declared.place.BoundBy.{BoundBy}
 use Rattle.hc_event.specs.declared.place.Place.TheVariants as place
-use Rattle.hc_effects.proofs.PieceKeeps.{of_piece, some_inj}
+use Rattle.hc_effects.proofs.PieceKeeps.{of_piece}
 
 -- acts that speak of no consumer
 pub record IsQuietActs (acts : List Act) : Type 0 where
@@ -52,9 +53,6 @@ pub record WasBound (t : Tables) (e : Entry) (c : ℕ) (u : Consumer) : Type 0 w
   pub given_is : u.given ≡ k.given
   pub due_is : u.due ≡ option_or k.due (becomes_due t e c k)
   pub own_is : u.own ≡ own_after t e c k.place k.own
-
-plus_none : (n : ℕ) → n + 0 ≡ n
-plus_none n = omega arith
 
 abbrev given_is : Consumer → ℕ → Consumer
 given_is k n = record k { given = n }

@@ -1,6 +1,7 @@
 -- Why a plan is what it is, in all that binds its consumer or opens an exchange for it.
 use Rattle.std.proofs.Common.{◌≡◌, ℕ, true, false, Option, Some, None, refl}
 use Rattle.std.specs.Prelude.{is_none, ◌&&◌}
+use Rattle.hc_text.proofs.Basics.{and_left, and_right, either}
 use Rattle.hc_range.specs.declared.range.Span.{Span}
 use Rattle.hc_event.specs.declared.act.Need.{Need}
 use Rattle.hc_event.specs.declared.act.Need.TheVariants as need
@@ -14,8 +15,6 @@ use Rattle.hc_rules.specs.declared.plan.Candidate.{Candidate}
 use Rattle.hc_rules.specs.declared.plan.PlanView.{PlanView}
 use Rattle.hc_rules.specs.Needs.{route_of}
 use Rattle.hc_rules.specs.Plans.{plan_of, bare_plan, in_time, from_store, by_current, by_why, by_wanted, by_exclusive, by_hole, by_bound, plan_on, why_by}
-use Rattle.hc_rules.proofs.Cond.{either}
-use Rattle.hc_effects.proofs.Basics.{and_left, and_right}
 use Rattle.hc_effects.proofs.Joining.{mix}
 
 -- what is current is read whole, as it is written

@@ -2,6 +2,7 @@
 use Rattle.std.proofs.Common.{◌≡◌, inl, inr, ℕ, ◌+◌, ◌<◌, ◌≤◌, List, [], ◌∷◌, ◌++◌, Bool, true, false, cond, Option, Some, None, refl, ap, sym, ◌∙◌, subst, arith}
 use Rattle.std.specs.Prelude.{find, map, ◌&&◌}
 use Rattle.std.proofs.lemmas.Bool.Decides.{nat_tests}
+use Rattle.hc_text.proofs.Basics.{and_right, both_true as and_true, bool_cases, not_true, same_some as same_row, some_inj}
 use Rattle.hc_sparse.specs.Cells.{Cells, Cell}
 use Rattle.hc_sparse.specs.Stretch.{stretch, stretch_of}
 use Rattle.hc_event.specs.Filters.{Opening, opening_in}
@@ -29,10 +30,7 @@ use Rattle.hc_model.specs.Tables.{after_accepted}
 use Rattle.hc_event.specs.declared.place.Place.{Place}
 use Rattle.hc_rules.specs.declared.room.Limits.{Limits}
 use Rattle.hc_model.specs.Sound as sound
-use Rattle.hc_effects.proofs.Basics.{and_right, not_true}
-use Rattle.hc_effects.proofs.HoleLemmas.{bool_cases}
-use Rattle.hc_effects.proofs.ExclusiveWriters.{IsAtHole, same_row, has_exclusive_writer, none_about, none_about_hole}
-use Rattle.hc_effects.proofs.PieceKeeps.{some_inj}
+use Rattle.hc_effects.proofs.ExclusiveWriters.{IsAtHole, has_exclusive_writer, none_about, none_about_hole}
 use Rattle.hc_effects.proofs.QuietKeeps.{OpensWell, waits_kept, one_about_kept}
 use Rattle.hc_effects.proofs.HolesOpened.{first_absent, later_absent}
 use Rattle.hc_effects.proofs.PollTree.{OpensHole, FineMove, fine_polled}
@@ -75,10 +73,6 @@ opened_by c (Shows r why head lo hi) rest o none is = absurd (let never : None �
 opened_by c (Gives run) rest o none is = absurd (let never : None ≡ Some o = rw none at is in cc)
 opened_by c Ends rest o none is = absurd (let never : None ≡ Some o = rw none at is in cc)
 opened_by c (Fails cause) rest o none is = absurd (let never : None ≡ Some o = rw none at is in cc)
-
-and_true : (a b : Bool) → a ≡ true → b ≡ true → (a && b) ≡ true
-and_true true b p q = q
-and_true false b p q = absurd (let never : false ≡ true = p in cc)
 
 cond_none : {A : Type 0} (b : Bool) (o : Option A) → b ≡ true → cond b o None ≡ None → o ≡ None
 cond_none true o b h = h

@@ -2,6 +2,7 @@
 use Rattle.std.proofs.Common.{◌≡◌, inl, inr, ℕ, Bool, true, false, cond, Option, Some, None, refl, ap, sym, ◌∙◌, subst}
 use Rattle.std.specs.Prelude.{if◌then◌else◌}
 use Rattle.std.specs.Option.{option_and_then}
+use Rattle.hc_text.proofs.Basics.{bool_cases, some_inj}
 use Rattle.hc_range.specs.declared.range.Span.{Span}
 use Rattle.hc_sparse.specs.declared.run.Run.{Run}
 use Rattle.hc_event.specs.declared.event.Request.{Request}
@@ -31,9 +32,7 @@ use Rattle.hc_model.specs.Moves.{Move, Nothing, Asks, Opens, Shows, Gives, Ends,
 use Rattle.hc_model.specs.Planning.{plan_view, plan_move, planned_move, origin_request, conditional_on, current_row, binds_current}
 use Rattle.hc_model.specs.Steps.{bound_row, most, run_held_for, read_view, later_hole, step_move, reading}
 use Rattle.hc_model.specs.Polls.{shows_answer, shows_direct, shows_bound, shows_at, shows_head, has_joined, if_headless, waits_for_head, or_else, by_place, poll_move}
-use Rattle.hc_effects.proofs.HoleLemmas.{bool_cases}
 use Rattle.hc_effects.proofs.Joining.{mix}
-use Rattle.hc_effects.proofs.PieceKeeps.{some_inj}
 
 -- a move that asks for what its consumer reads from, or opens for its key
 pub data IsNear (t : Tables) (k : Consumer) : Move → Type 0 where

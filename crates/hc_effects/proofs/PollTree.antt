@@ -3,6 +3,7 @@ use Rattle.std.proofs.Common.{◌≡◌, ◌≢◌, inl, inr, ℕ, ◌+◌, ◌<
 use Rattle.std.specs.Prelude.{if◌then◌else◌, is_some}
 use Rattle.std.specs.Option.{option_and_then, option_map}
 use Rattle.std.proofs.lemmas.Bool.Decides.{nat_tests}
+use Rattle.hc_text.proofs.Basics.{bool_cases, cond_false, none_of as not_some, some_inj}
 use Rattle.hc_range.specs.declared.range.Span.{Span}
 use Rattle.hc_sparse.specs.Cells.{Cells, Cell}
 use Rattle.hc_sparse.specs.Runs.{end_of}
@@ -39,10 +40,8 @@ use Rattle.hc_model.specs.Steps.{bound_row, stored_ahead, stored_from, run_held_
 use Rattle.hc_model.specs.Polls.{shows_answer, shows_direct, shows_bound, shows_at, shows_head, has_joined, if_headless, waits_for_head, or_else, by_place, poll_move}
 use Rattle.hc_model.specs.Sound.{Sound, IsBound, IsToBeShown}
 use Rattle.hc_model.specs.Sound as sound
-use Rattle.hc_effects.proofs.HoleLemmas.{bool_cases}
 use Rattle.hc_effects.proofs.Joining.{mix}
 use Rattle.hc_effects.proofs.ExclusiveWriters.{IsAtHole}
-use Rattle.hc_effects.proofs.PieceKeeps.{some_inj}
 use Rattle.hc_effects.proofs.PlanTree.{IsFree, Fine, fine_plan}
 use Rattle.hc_effects.proofs.PlanTree as plans
 
@@ -72,14 +71,6 @@ to_in _ = 0
 
 pub hole-inj : (a b c d : ℕ) → need.Hole a b ≡ need.Hole c d → (a ≡ c) × (b ≡ d)
 hole-inj a b c d same = (ap from_in same, ap to_in same)
-
-cond_false : {A : Type 0} (b : Bool) (x y : A) → b ≡ false → cond b x y ≡ y
-cond_false true x y h = absurd (let never : true ≡ false = h in cc)
-cond_false false x y h = refl
-
-not_some : {A : Type 0} (o : Option A) → is_some o ≡ false → o ≡ None
-not_some None h = refl
-not_some (Some a) h = absurd (let never : true ≡ false = h in cc)
 
 -- the hole ahead, where the end is known
 ahead_is : (hi o : ℕ) (next : Option ℕ) → hole_end (Some hi) o next ≡ end_by hi next

@@ -2,6 +2,7 @@
 -- representation, if the exchange that they open is alone about its hole, which is absent.
 use Rattle.std.proofs.Common.{◌≡◌, inl, inr, ℕ, ◌≤◌, List, [], Bool, true, false, cond, Option, Some, None, refl, ap, sym, ◌∙◌, subst}
 use Rattle.std.specs.Prelude.{is_some, nat_eq, not}
+use Rattle.hc_text.proofs.Basics.{and_right, same_some as same_row, some_inj}
 use Rattle.hc_event.specs.Filters.{Opening, opening_in, closes_in}
 use Rattle.hc_event.specs.declared.event.Event.{Event}
 use Rattle.hc_event.specs.declared.event.Event.TheVariants as event
@@ -16,9 +17,7 @@ use Rattle.hc_model.specs.Rows.{Tables, Exchange, Representation}
 use Rattle.hc_model.specs.Sound.{Waits, Sound, OneAbout, IsAbout, IsPromised, InHole}
 use Rattle.hc_model.specs.Tables.{after_accepted}
 use Rattle.hc_model.specs.Sound as sound
-use Rattle.hc_effects.proofs.Basics.{and_right}
-use Rattle.hc_effects.proofs.ExclusiveWriters.{same_row}
-use Rattle.hc_effects.proofs.PieceKeeps.{eq_cases, some_inj, ends_same}
+use Rattle.hc_effects.proofs.PieceKeeps.{eq_cases, ends_same}
 
 -- it brings neither a head nor a piece
 abbrev pub is_quiet : Event → Bool

@@ -2,6 +2,7 @@
 use Rattle.std.proofs.Common.{◌≡◌, inl, inr, ℕ, ◌+◌, List, [], ◌∷◌, ◌++◌, length, Bool, true, false, Option, Some, None, refl, ap, sym, ◌∙◌, length-append, arith}
 use Rattle.std.specs.Prelude.{◌==◌, ◌||◌, ◌&&◌, not, is_none}
 use Rattle.std.specs.Option.{option_map_or}
+use Rattle.hc_text.proofs.Basics.{bool_cases}
 use Rattle.hc_event.specs.Filters.{is_denied, given_in, shows_in}
 use Rattle.hc_event.specs.declared.event.Event.{Event}
 use Rattle.hc_event.specs.declared.event.Event.TheVariants as event
@@ -16,7 +17,6 @@ use Rattle.hc_model.specs.ConsumerRows.{consumer_after, consumer_made, consumer_
 use Rattle.hc_model.specs.Tables.{tables, after}
 use Rattle.hc_model.specs.Runs.{IsRun, IsOwed}
 use Rattle.hc_model.specs.Histories.{Shown, first, given_of, shown_of, shown_in, ConsumersAreFiltered}
-use Rattle.hc_effects.proofs.HoleLemmas.{bool_cases}
 use Rattle.hc_effects.proofs.Owed.{goes, acts_are, denied_gives, denied_shows}
 use Rattle.hc_effects.proofs.Named.{IsFar, far}
 use Rattle.hc_effects.proofs.ConsumerFilters.{acted, given_by, shown_by, requests_are, starts_are}

@@ -3,6 +3,7 @@ use Rattle.std.proofs.Common.{◌≡◌, ◌⊎◌, inl, inr, ℕ, Bool, true, f
 use Rattle.std.specs.Prelude.{if◌then◌else◌, is_some, is_none, ◌&&◌, ◌==◌, not, nat_eq}
 use Rattle.std.specs.Option.{option_and_then}
 use Rattle.std.proofs.lemmas.Bool.Decides.{nat_tests}
+use Rattle.hc_text.proofs.Basics.{and_left, and_right, bool_cases, not_some as none_some, never_true as not_so, or_left, or_right, same_some as same_row, some_inj}
 use Rattle.hc_event.specs.Filters.{Opening, opening_in, leaves_in}
 use Rattle.hc_event.specs.declared.event.Event.{Event}
 use Rattle.hc_event.specs.declared.event.Event.TheVariants as event
@@ -29,7 +30,7 @@ use Rattle.hc_model.specs.Rows.{Tables, Exchange, Consumer}
 use Rattle.hc_model.specs.Sound.{Sound}
 use Rattle.hc_model.specs.Tables.{after_accepted}
 use Rattle.hc_model.specs.Writers.{brings_body}
-use Rattle.hc_effects.proofs.Basics.{false_true, and_left, and_right, or_left, or_right, not_so, none_some, some_none, number_yes}
+use Rattle.hc_effects.proofs.Basics.{false_true, some_none, number_yes}
 use Rattle.hc_effects.proofs.Closed.{before, closes}
 use Rattle.hc_effects.proofs.ExchangeFrom.{ExchangeFrom, IsSame, IsHeaded, exchange_from}
 use Rattle.hc_effects.proofs.ExchangeFrom as exchange
@@ -37,12 +38,10 @@ use Rattle.hc_effects.proofs.FirstKeeps.{is_new}
 use Rattle.hc_effects.proofs.Forward.{after_is}
 use Rattle.hc_effects.proofs.HeadedAs.{HeadedAs, headed_as, heard_at}
 use Rattle.hc_effects.proofs.HeadedAs as head
-use Rattle.hc_effects.proofs.HoleLemmas.{bool_cases}
 use Rattle.hc_effects.proofs.OwnFrom.{OwnFrom, IsRow, IsLeft, own_from, after_by}
 use Rattle.hc_effects.proofs.OwnFrom as own
 use Rattle.hc_effects.proofs.OwnersKeep.{is_opened, new_number}
-use Rattle.hc_effects.proofs.PieceKeeps.{eq_cases, some_inj}
-use Rattle.hc_effects.proofs.ExclusiveWriters.{same_row}
+use Rattle.hc_effects.proofs.PieceKeeps.{eq_cases}
 use Rattle.hc_effects.proofs.Said.{WaitsAs, waiting_by}
 use Rattle.hc_effects.proofs.SaidActs.{leaves_leaver}
 use Rattle.hc_effects.proofs.WaitedAs.{IsForOthers, waited_as}

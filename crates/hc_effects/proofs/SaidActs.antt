@@ -2,6 +2,7 @@
 use Rattle.std.proofs.Common.{◌≡◌, ℕ, List, [], ◌∷◌, ◌++◌, Bool, true, false, Some, None, refl, ap, sym, ◌∙◌, arith}
 use Rattle.std.specs.Prelude.{map, ◌||◌, nat_eq}
 use Rattle.std.proofs.lemmas.Bool.Decides.{nat_tests}
+use Rattle.hc_text.proofs.Basics.{or_false}
 use Rattle.hc_event.specs.Filters.{leaves_in}
 use Rattle.hc_event.specs.declared.event.Event.{Event}
 use Rattle.hc_event.specs.declared.event.Event.TheVariants as event
@@ -48,10 +49,6 @@ all_lose (x ∷ xs) = all_lose xs
 evicted_lose : (rs : List ℕ) (rest : List Act) → has_loss (map act.Evicted rs ++ rest) ≡ has_loss rest
 evicted_lose [] rest = refl
 evicted_lose (r ∷ rs) rest = evicted_lose rs rest
-
-or_false : (b : Bool) → (b || false) ≡ b
-or_false true = refl
-or_false false = refl
 
 -- beside what makes room and what is closed
 pub told_loss : (rs xs : List ℕ) (flaw : Flaw) → has_loss (map act.Evicted rs ++ (loss_acts flaw ++ map act.Close xs)) ≡ has_loss (loss_acts flaw)

@@ -1,6 +1,7 @@
 -- What it does that a consumer leaves and the seal of what it leaves fails: that is lost, and let go.
 use Rattle.std.proofs.Common.{◌≡◌, inl, inr, ℕ, List, [], ◌∷◌, ◌++◌, Bool, true, false, Option, Some, None, refl, ap, sym, ◌∙◌, subst}
 use Rattle.std.specs.Prelude.{◌||◌, ◌==◌, nat_eq, if◌then◌else◌, map, option_map}
+use Rattle.hc_text.proofs.Basics.{eqb-same, not_some as none_some}
 use Rattle.hc_event.specs.declared.act.Act.{Act}
 use Rattle.hc_event.specs.declared.act.Act.TheVariants as act
 use Rattle.hc_event.specs.declared.act.Cause.{Cause}
@@ -27,7 +28,7 @@ use Rattle.hc_model.specs.StartingOver.{loses_what_it_waits_for}
 use Rattle.hc_model.specs.Tables.{after_accepted, with_item_first}
 use Rattle.hc_model.specs.Writers.{exclusive}
 use Rattle.hc_effects.proofs.ActParts.{IsFarFrom}
-use Rattle.hc_effects.proofs.Basics.{none_some, number_is}
+use Rattle.hc_effects.proofs.Basics.{number_is}
 use Rattle.hc_effects.proofs.ConsumerEffects.{waits_as}
 use Rattle.hc_effects.proofs.FailsTold.{fails_told}
 use Rattle.hc_effects.proofs.KeyActs.{test_some}
@@ -38,7 +39,6 @@ use Rattle.hc_effects.proofs.OfConsumers.{BringsNothing}
 use Rattle.hc_effects.proofs.PieceKeeps.{eq_cases}
 use Rattle.hc_effects.proofs.PollEffects.{loses_none}
 use Rattle.hc_effects.proofs.SameTables.{is_in, waits_for_any, all_closed_is}
-use Rattle.hc_effects.proofs.Tests.{eqb-same}
 use Rattle.hc_effects.proofs.Untouched.{representation_frame, representation_absent}
 
 module _ (limits : Limits) (t : Tables) (law : Lawful t) (now c : ℕ) (k : Consumer) (row : t.consumer c ≡ Some k) (x : ℕ) (w : Exchange) (r : ℕ) (v : Representation) (kind : LostKind) (left : left_by t c k ≡ Some x) (is_row : t.exchange x ≡ Some w) (of_family : family x w ≡ r) (there : t.representation r ≡ Some v) (kept : v.is_lost ≡ false) where

@@ -3,6 +3,7 @@ use Rattle.std.proofs.Common.{◌≡◌, ◌⊎◌, inl, inr, ℕ, ◌+◌, ◌�
 use Rattle.std.specs.Prelude.{if◌then◌else◌, is_some, is_none, ◌==◌, ◌&&◌, ◌||◌, not, nat_eq, unwrap_or}
 use Rattle.std.specs.Option.{option_or}
 use Rattle.std.proofs.lemmas.Bool.Decides.{nat_tests}
+use Rattle.hc_text.proofs.Basics.{both_true as and_both, and_left, and_right, bool_cases, not_some as none_some, both_false as or_false, same_some as same_row, some_inj}
 use Rattle.hc_sparse.specs.Cells.{Cells, Covers, cells_with}
 use Rattle.hc_sparse.proofs.CellLemmas.{inside-cases}
 use Rattle.hc_range.specs.declared.range.Span.{Span}
@@ -41,7 +42,7 @@ use Rattle.hc_model.specs.Tables.{after_accepted}
 use Rattle.hc_model.specs.Writers.{brings_body, came_alone, loses_writing, survivor, goes_on_with, status_in}
 use Rattle.hc_model.specs.Writes.{stops}
 use Rattle.hc_effects.proofs.ApartKeeps.{written_by, is_on}
-use Rattle.hc_effects.proofs.Basics.{false_true, and_left, and_right, and_both, none_some, number_is}
+use Rattle.hc_effects.proofs.Basics.{false_true, number_is}
 use Rattle.hc_effects.proofs.BoundFrom.{BoundFrom, IsRow, IsFounded, IsFirstHole, IsShown, bound_from}
 use Rattle.hc_effects.proofs.BoundFrom as from
 use Rattle.hc_effects.proofs.BoundKeeps.{planned_at}
@@ -56,13 +57,12 @@ use Rattle.hc_effects.proofs.FoundBy.{CaseBy, case_by}
 use Rattle.hc_effects.proofs.FoundBy as cases
 use Rattle.hc_effects.proofs.Forward.{after_is}
 use Rattle.hc_effects.proofs.Forward as forward
-use Rattle.hc_effects.proofs.HoleLemmas.{bool_cases, covers_all}
+use Rattle.hc_effects.proofs.HoleLemmas.{covers_all}
 use Rattle.hc_effects.proofs.LossBy.{IsReal, IsSealing, sealed_loss, seals_one, fresh}
 use Rattle.hc_effects.proofs.LossServes.{survives}
 use Rattle.hc_effects.proofs.Losses.{HasRest, goes_on_or_rests}
 use Rattle.hc_effects.proofs.OwnersKeep.{is_opened}
-use Rattle.hc_effects.proofs.PieceKeeps.{some_inj}
-use Rattle.hc_effects.proofs.ExclusiveWriters.{same_row, writer_some, none_about}
+use Rattle.hc_effects.proofs.ExclusiveWriters.{writer_some, none_about}
 use Rattle.hc_effects.proofs.PollKeeps.{current_stays}
 use Rattle.hc_effects.proofs.RepFrom.{RepFrom, rep_from, IsKept, IsResumed}
 use Rattle.hc_effects.proofs.RepFrom as rep
@@ -75,9 +75,6 @@ use Rattle.hc_effects.proofs.Unclosed.{had_to}
 use Rattle.hc_effects.proofs.Waiters.{waiter_of, doomed_same, case_same}
 use Rattle.hc_effects.proofs.WriterEnds.{all_stored}
 use Rattle.hc_effects.proofs.WritingStops.{IsAll}
-
-or_false : (a b : Bool) → a ≡ false → b ≡ false → (a || b) ≡ false
-or_false a b p q = rw (p, q) refl
 
 -- what was written over stays there
 pub written_covers : (at x lo hi : ℕ) (bytes : List ℕ) (f : Cells) → Covers f lo hi → Covers (cells_with at x bytes f) lo hi

@@ -3,6 +3,7 @@ use Rattle.std.proofs.Common.{◌≡◌, inl, inr, ℕ, ◌+◌, List, [], ◌�
 use mathlib.Core.Path.{fun_ext}
 use Rattle.std.specs.Prelude.{◌&&◌, ◌||◌, ◌==◌, not, nat_eq, length, is_some, is_none, if◌then◌else◌, map, filter, reverse, option_map}
 use Rattle.std.specs.Option.{option_or}
+use Rattle.hc_text.proofs.Basics.{both_true as and_both, eqb-same, not_some as none_some, or_none as or_nothing, same_some as same_row, some_inj, and_off as then_false}
 use Rattle.hc_event.specs.declared.act.Act.TheVariants as act
 use Rattle.hc_event.specs.declared.act.Cause.{Cause}
 use Rattle.hc_event.specs.declared.act.Cause.TheVariants as cause
@@ -37,22 +38,22 @@ use Rattle.hc_model.specs.Tables.{with_item_first}
 use Rattle.hc_model.specs.Weights.{evicted}
 use Rattle.hc_model.specs.Writers.{survivor, loses_writing}
 use Rattle.hc_effects.proofs.ApartKeeps.{is_on}
-use Rattle.hc_effects.proofs.Basics.{none_some, false_true, and_both, number_yes}
+use Rattle.hc_effects.proofs.Basics.{false_true, number_yes}
 use Rattle.hc_effects.proofs.Closed.{reversed}
 use Rattle.hc_effects.proofs.Dues.{stop_none}
 use Rattle.hc_effects.proofs.FewClosings.{ClosesLittle, closes_nothing}
 use Rattle.hc_effects.proofs.Frames.{undoomed}
 use Rattle.hc_effects.proofs.OfConsumers.{one_of, descends_once}
 use Rattle.hc_effects.proofs.Once.{IsTaken, taken}
-use Rattle.hc_effects.proofs.ExclusiveWriters.{same_row, writer_some}
+use Rattle.hc_effects.proofs.ExclusiveWriters.{writer_some}
 use Rattle.hc_effects.proofs.PieceEffects.{it, leaver_none, piece_goes, piece_brings, rows_by, lost_row}
-use Rattle.hc_effects.proofs.PieceKeeps.{eq_cases, some_inj}
+use Rattle.hc_effects.proofs.PieceKeeps.{eq_cases}
 use Rattle.hc_effects.proofs.SameTables.{is_in, back_from_any, all_closed_is}
 use Rattle.hc_effects.proofs.Stops.{writer_about}
 use Rattle.hc_effects.proofs.Sums.{reverse_once}
-use Rattle.hc_effects.proofs.Tests.{eqb-same, and_false, then_false}
+use Rattle.hc_effects.proofs.Tests.{and_false}
 use Rattle.hc_effects.proofs.ToldFrames.{pieces, says_little, beside_same, consumer_by, told_by, told_does}
-use Rattle.hc_effects.proofs.Untouched.{IsSpared, loss_spared, or_nothing}
+use Rattle.hc_effects.proofs.Untouched.{IsSpared, loss_spared}
 
 module _ (limits : Limits) (t : Tables) (law : Lawful t) (now x : ℕ) (bytes : List ℕ) (w : Exchange) (row : t.exchange x ≡ Some w) (accepts : denial t (event.Piece x bytes) ≡ None) (r : ℕ) (v : Representation) (of_r : family x w ≡ r) (there : t.representation r ≡ Some v) (kind : LostKind) (on : is_written t v ≡ true) where
   abbrev ev : Rattle.hc_event.specs.declared.event.Event.Event

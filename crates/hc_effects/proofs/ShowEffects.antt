@@ -1,5 +1,6 @@
 -- What a poll does that shows a head: to who reads already, or by its plan, which binds.
 use Rattle.std.proofs.Common.{◌≡◌, ℕ, [], true, false, Option, Some, None, refl, ap, sym, ◌∙◌}
+use Rattle.hc_text.proofs.Basics.{eqb-same, plus_none}
 use Rattle.hc_event.specs.declared.act.Why.{Why}
 use Rattle.hc_event.specs.declared.event.Event.TheVariants as event
 use Rattle.hc_event.specs.declared.event.Response.{Response}
@@ -21,8 +22,7 @@ use Rattle.hc_effects.proofs.OfConsumers.{BringsNothing, brings_nothing, binds_a
 use Rattle.hc_effects.proofs.OfConsumers as event_of
 use Rattle.hc_effects.proofs.PollEffects.{none_waits, nothing_goes, poll_does}
 use Rattle.hc_effects.proofs.PollEffects as polls
-use Rattle.hc_effects.proofs.Tests.{eqb-same}
-use Rattle.hc_effects.proofs.Untouched.{plus_none, own_stays, spared_bodiless}
+use Rattle.hc_effects.proofs.Untouched.{own_stays, spared_bodiless}
 
 module _ (limits : Limits) (t : Tables) (law : Lawful t) (now c want : ℕ) (k : Consumer) (row : t.consumer c ≡ Some k) (r : ℕ) (why : Why) (head : Response) (lo : ℕ) (hi : Option ℕ) (is : move_of t now want c k ≡ Shows r why head lo hi) where
   abbrev e : Entry

@@ -1,6 +1,7 @@
 -- Whoever is shown a head by its plan is shown what is current for its key: all that its writing brings, or an interval that is stored.
 use Rattle.std.proofs.Common.{◌≡◌, ℕ, ◌+◌, Bool, true, false, Option, Some, None, refl, ap, sym, ◌∙◌}
 use Rattle.std.specs.Option.{option_map}
+use Rattle.hc_text.proofs.Basics.{not_some as none_some, same_some as same_row, some_inj}
 use Rattle.hc_range.specs.declared.range.Span.{Span}
 use Rattle.hc_event.specs.declared.event.Response.{Response}
 use Rattle.hc_event.specs.declared.event.Request.{Request}
@@ -26,11 +27,9 @@ use Rattle.hc_model.specs.Reading.{is_written, bound, bound_to, reads}
 use Rattle.hc_model.specs.Rows.{Tables, Representation, Consumer}
 use Rattle.hc_model.specs.Sound.{Sound}
 use Rattle.hc_model.specs.Writers.{exclusive}
-use Rattle.hc_effects.proofs.Basics.{false_true, none_some}
+use Rattle.hc_effects.proofs.Basics.{false_true}
 use Rattle.hc_effects.proofs.MoveBy.{MoveBy, IsHeard, move_by}
 use Rattle.hc_effects.proofs.MoveBy as by
-use Rattle.hc_effects.proofs.ExclusiveWriters.{same_row}
-use Rattle.hc_effects.proofs.PieceKeeps.{some_inj}
 use Rattle.hc_effects.proofs.PlanBy.{PlanBy, plan_by}
 use Rattle.hc_effects.proofs.PlanBy as plans
 use Rattle.hc_effects.proofs.Said.{IsShowing}

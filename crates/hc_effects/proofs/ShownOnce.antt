@@ -2,6 +2,7 @@
 use Rattle.std.proofs.Common.{◌≡◌, inl, inr, ℕ, ◌≤◌, List, [], ◌∷◌, ◌++◌, length, Bool, true, false, cond, Option, Some, None, refl, ap, sym, ◌∙◌, subst, arith}
 use Rattle.std.specs.Prelude.{map, not, is_none, ◌==◌}
 use Rattle.std.specs.Option.{option_and_then}
+use Rattle.hc_text.proofs.Basics.{bool_cases, cond_false, cond_true, same_some as same_row, some_inj}
 use Rattle.hc_range.specs.declared.range.Span.{Span}
 use Rattle.hc_sparse.specs.declared.run.Run.{Run}
 use Rattle.hc_event.specs.Filters.{given_in}
@@ -35,10 +36,8 @@ use Rattle.hc_model.specs.Flaws.{Flaw, NoFlaw, Loses, Misreads}
 use Rattle.hc_model.specs.Histories.{Shown, first, shown_in}
 use Rattle.hc_model.specs.Reading.{own_open}
 use Rattle.hc_model.specs.Polls.{if_headless}
-use Rattle.hc_effects.proofs.HoleLemmas.{bool_cases}
 use Rattle.hc_effects.proofs.Named.{IsFar, far_told, far_poll, far_closes, far_lost}
-use Rattle.hc_effects.proofs.ExclusiveWriters.{same_row}
-use Rattle.hc_effects.proofs.PieceKeeps.{eq_cases, some_inj}
+use Rattle.hc_effects.proofs.PieceKeeps.{eq_cases}
 use Rattle.hc_effects.proofs.ReadFilters.{shows_are}
 
 -- A MOVE THAT SHOWS, AND ONE THAT GIVES
@@ -118,14 +117,6 @@ place_shows t now want c k (place.Bound r lo hi how) shown = rw shown (step_show
 place_shows t now want c k (place.Direct x) shown = rw shown (step_shows t want c k (read_step (read_view t want c k)))
 place_shows t now want c k (place.Down cause) shown = refl
 place_shows t now want c k place.Over shown = refl
-
-cond_true : {A : Type 0} (b : Bool) (x y : A) → b ≡ true → cond b x y ≡ x
-cond_true true x y h = refl
-cond_true false x y h = absurd (let never : false ≡ true = h in cc)
-
-cond_false : {A : Type 0} (b : Bool) (x y : A) → b ≡ false → cond b x y ≡ y
-cond_false true x y h = absurd (let never : true ≡ false = h in cc)
-cond_false false x y h = refl
 
 pub shown_shows : (t : Tables) (now want c : ℕ) (k : Consumer) → k.shown ≡ true → is_showing (move_of t now want c k) ≡ false
 shown_shows t now want c k shown =

@@ -11,6 +11,7 @@ use Rattle.hc_event.specs.declared.act.Cause.{Cause}
 use Rattle.hc_rules.specs.declared.room.Limits.{Limits}
 use Rattle.hc_rules.specs.Lengths.{is_same_number}
 use Rattle.std.specs.Option.{option_or}
+use Rattle.hc_text.proofs.Basics.{and_left, and_right, bool_cases, not_some as none_some, or_cases, plus_none, some_inj}
 use Rattle.hc_rules.proofs.RangeReads.{bytes_eq-same}
 use Rattle.hc_event.specs.declared.place.Place.{Place}
 use Rattle.hc_event.specs.declared.place.Place.TheVariants as place
@@ -38,18 +39,13 @@ use Rattle.hc_model.specs.Tables.{after_accepted, founds, with_item_first, start
 use Rattle.hc_model.specs.Weights.{evicted}
 use Rattle.hc_effects.proofs.ActParts.{IsAnswer, IsFarFrom, answer_is, said_is, far_evicted, far_loss, far_closed, far_said, far_closing, far_lost_only}
 use Rattle.hc_effects.proofs.ActParts as parts
-use Rattle.hc_effects.proofs.Basics.{same_functions, false_true, none_some, and_left, and_right, or_cases, or_false, some_row}
+use Rattle.hc_effects.proofs.Basics.{same_functions, false_true, or_false, some_row}
 use Rattle.hc_effects.proofs.CurrentKeeps.{WasOrFounded, was_or_founded, current_is, usable, usable_row, find_only}
 use Rattle.hc_effects.proofs.CurrentKeeps as currents
 use Rattle.hc_effects.proofs.Frames.{parts_are_kept}
-use Rattle.hc_effects.proofs.HoleLemmas.{bool_cases}
 use Rattle.hc_effects.proofs.KeyNames.{current_key, key_is}
 use Rattle.hc_effects.proofs.NamesKeep.{current_there}
 use Rattle.hc_effects.proofs.NumbersKeep.{starts_later}
-use Rattle.hc_effects.proofs.PieceKeeps.{some_inj}
-
-plus_none : (n : ℕ) → n + 0 ≡ n
-plus_none n = omega arith
 
 -- CONSUMERS
 

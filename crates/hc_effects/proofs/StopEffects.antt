@@ -1,6 +1,7 @@
 -- What an end or a fault does of an exchange that is read past the store, and a fault before the head of one.
 use Rattle.std.proofs.Common.{◌≡◌, inl, inr, ℕ, [], Bool, true, false, Option, Some, None, refl, ap, sym, ◌∙◌, subst}
 use Rattle.std.specs.Prelude.{◌&&◌, ◌==◌, not, nat_eq, is_some, is_none, if◌then◌else◌, option_map}
+use Rattle.hc_text.proofs.Basics.{eqb-same, not_some as none_some, same_some as same_row}
 use Rattle.hc_event.specs.declared.act.Cause.TheVariants as cause
 use Rattle.hc_event.specs.declared.event.Event.{Event}
 use Rattle.hc_event.specs.declared.event.Event.TheVariants as event
@@ -24,15 +25,13 @@ use Rattle.hc_model.specs.Reading.{reads}
 use Rattle.hc_model.specs.RepresentationRows.{representation_after}
 use Rattle.hc_model.specs.Rows.{Tables, Exchange, Representation, Consumer}
 use Rattle.hc_model.specs.StartingOver.{starts_over}
-use Rattle.hc_effects.proofs.Basics.{none_some, true_false, false_true}
+use Rattle.hc_effects.proofs.Basics.{true_false, false_true}
 use Rattle.hc_effects.proofs.Frames.{undoomed}
-use Rattle.hc_effects.proofs.ExclusiveWriters.{same_row}
 use Rattle.hc_effects.proofs.PieceKeeps.{eq_cases}
 use Rattle.hc_effects.proofs.PollEffects.{none_waits}
 use Rattle.hc_effects.proofs.SameTables.{is_in, waits_for_any, back_from_any}
 use Rattle.hc_effects.proofs.Standing.{acted}
 use Rattle.hc_effects.proofs.StopFrames.{Stops, end_stops, fault_stops, end_of, fault_of, reads_own, it, goes_with, row_by, unhit, fails, stop_does, others_by}
-use Rattle.hc_effects.proofs.Tests.{eqb-same}
 use Rattle.hc_effects.proofs.ToldFrames.{far, starts_is}
 
 -- a fault says nothing to who isn't put down by it

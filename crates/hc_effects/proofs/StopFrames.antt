@@ -2,6 +2,7 @@
 use Rattle.std.proofs.Common.{◌≡◌, inl, inr, ℕ, List, [], ◌++◌, Bool, true, false, Option, Some, None, refl, ap, sym, ◌∙◌, subst}
 use Rattle.std.specs.Prelude.{◌&&◌, ◌||◌, ◌==◌, not, nat_eq, length, is_some, if◌then◌else◌, option_map}
 use Rattle.std.specs.Option.{option_or}
+use Rattle.hc_text.proofs.Basics.{bool_cases, eqb-same, not_some as none_some, or_none as or_nothing, or_false as or_off, same_some as same_row, and_off as then_false}
 use Rattle.hc_event.specs.Filters.{closes_in}
 use Rattle.hc_event.specs.declared.act.Act.{Act}
 use Rattle.hc_event.specs.declared.act.Cause.{Cause}
@@ -37,21 +38,18 @@ use Rattle.hc_model.specs.Sound as sound
 use Rattle.hc_model.specs.Weights.{write_in}
 use Rattle.hc_model.specs.Writers.{brings_body}
 use Rattle.hc_effects.proofs.AboutKeeps.{own_open_of, own_open_is}
-use Rattle.hc_effects.proofs.Basics.{none_some, some_none, false_true, number_is}
+use Rattle.hc_effects.proofs.Basics.{some_none, false_true, number_is}
 use Rattle.hc_effects.proofs.FewClosings.{closes_nothing, quiet_closes}
 use Rattle.hc_effects.proofs.Frames.{undoomed, may_doom}
-use Rattle.hc_effects.proofs.HoleLemmas.{bool_cases}
 use Rattle.hc_effects.proofs.KeyActs.{test_some}
-use Rattle.hc_effects.proofs.OfConsumers.{or_off}
-use Rattle.hc_effects.proofs.ExclusiveWriters.{same_row}
 use Rattle.hc_effects.proofs.PieceEffects.{leaver_none}
 use Rattle.hc_effects.proofs.PieceKeeps.{eq_cases}
 use Rattle.hc_effects.proofs.SameTables.{is_in, back_from_any}
 use Rattle.hc_effects.proofs.Stops.{source_is}
-use Rattle.hc_effects.proofs.Tests.{eqb-same, and_false, then_false}
+use Rattle.hc_effects.proofs.Tests.{and_false}
 use Rattle.hc_effects.proofs.ToldFrames.{IsTold, says_little, exchange_one, goes_as, loses_as, closes_as, representation_by, representation_none, beside_same, consumer_by, told_by, told_plainly}
 use Rattle.hc_effects.proofs.ToldFrames as told
-use Rattle.hc_effects.proofs.Untouched.{IsSpared, own_stays, loss_spared, spared_bodiless, or_nothing}
+use Rattle.hc_effects.proofs.Untouched.{IsSpared, own_stays, loss_spared, spared_bodiless}
 
 -- WHAT STOPS
 

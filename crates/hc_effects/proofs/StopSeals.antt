@@ -2,6 +2,7 @@
 use Rattle.std.proofs.Common.{◌≡◌, inl, inr, ℕ, [], ◌∷◌, Bool, true, false, Option, Some, None, refl, ap, sym, ◌∙◌, subst}
 use mathlib.Core.Path.{fun_ext}
 use Rattle.std.specs.Prelude.{◌&&◌, ◌||◌, ◌==◌, not, nat_eq, length, is_some, is_none, if◌then◌else◌, option_map}
+use Rattle.hc_text.proofs.Basics.{eqb-same, not_some as none_some, same_some as same_row, some_inj}
 use Rattle.hc_event.specs.declared.act.Act.TheVariants as act
 use Rattle.hc_event.specs.declared.act.Cause.{Cause}
 use Rattle.hc_event.specs.declared.act.Cause.TheVariants as cause
@@ -29,15 +30,13 @@ use Rattle.hc_model.specs.RepresentationRows.{representation_after, representati
 use Rattle.hc_model.specs.Rows.{Tables, Exchange, Representation, Consumer}
 use Rattle.hc_model.specs.Tables.{with_item_first}
 use Rattle.hc_model.specs.Writers.{exclusive}
-use Rattle.hc_effects.proofs.Basics.{none_some, false_true, number_is}
+use Rattle.hc_effects.proofs.Basics.{false_true, number_is}
 use Rattle.hc_effects.proofs.ConsumerEffects.{some_all}
 use Rattle.hc_effects.proofs.KeyActs.{test_some}
-use Rattle.hc_effects.proofs.ExclusiveWriters.{same_row}
-use Rattle.hc_effects.proofs.PieceKeeps.{eq_cases, some_inj}
+use Rattle.hc_effects.proofs.PieceKeeps.{eq_cases}
 use Rattle.hc_effects.proofs.SameTables.{is_in, in_one}
 use Rattle.hc_effects.proofs.StopEffects.{fault_unheard}
 use Rattle.hc_effects.proofs.StopFrames.{Stops, IsEnding, end_stops, fault_stops, end_of, fault_of, reads_own, reads_shared, it, going, goes_with, longer_row, heard_is, row_by, fails, stop_does, others_by}
-use Rattle.hc_effects.proofs.Tests.{eqb-same}
 use Rattle.hc_effects.proofs.ToldFrames.{lost_by}
 
 module _ (limits : Limits) (t : Tables) (law : Lawful t) (now x : ℕ) (w : Exchange) (row : t.exchange x ≡ Some w) (r : ℕ) (v : Representation) (of_r : family x w ≡ r) (there : t.representation r ≡ Some v) where

@@ -3,6 +3,7 @@ use Rattle.std.proofs.Common.{◌≡◌, inl, inr, ℕ, ◌+◌, ◌<◌, List, 
 use Rattle.std.specs.Prelude.{is_some, nat_lt, nat_eq}
 use Rattle.std.specs.Option.{option_or}
 use Rattle.std.proofs.lemmas.Bool.Decides.{nat_tests}
+use Rattle.hc_text.proofs.Basics.{and_right, eq_tells as eq_of, some_inj, lt_or as split}
 use Rattle.hc_event.specs.declared.event.Event.TheVariants as event
 use Rattle.hc_event.specs.declared.act.Cause.{Cause}
 use Rattle.hc_sparse.specs.Cells.{Covers, cells_with}
@@ -15,8 +16,6 @@ use Rattle.hc_model.specs.Rows.{Tables, Exchange, Representation, Consumer}
 use Rattle.hc_model.specs.Sound.{Sound, IsAbout, IsBound, IsGrowing, IsSoundRepresentation, end_from, promised_end}
 use Rattle.hc_rules.specs.Lengths.{is_same_number}
 use Rattle.hc_model.specs.Sound as sound
-use Rattle.hc_effects.proofs.Basics.{and_right, split}
-use Rattle.hc_effects.proofs.PieceKeeps.{some_inj}
 
 -- WHAT A MEMBER READS FROM
 
@@ -58,9 +57,6 @@ stops : (t : Tables) (e : Entry) (k : Consumer) (x : ℕ) → source t k ≡ Som
 stops t e k x from brings some = rw (from, brings, same_refl x) some
 
 -- THE LAST PIECE
-
-eq_of : (a b : ℕ) → nat_eq a b ≡ true → a ≡ b
-eq_of a b h = grind (arith, nat_tests)
 
 -- with the last promised piece, each position below the total is stored
 pub last_piece : (t : Tables) (r x total : ℕ) (bytes : List ℕ) (v : Representation) (w : Exchange) → IsGrowing t r v x w → v.head.total ≡ Some total → is_reached (promised_bytes w) (length (w.body ++ bytes)) ≡ true → Covers (cells_with (front w) x bytes v.stored) 0 total

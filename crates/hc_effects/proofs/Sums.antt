@@ -6,12 +6,12 @@ use Rattle.std.specs.Option.{option_map}
 use Rattle.std.proofs.lemmas.Bool.Decides.{nat_tests}
 use Rattle.std.proofs.lemmas.List.Sums.{sum_by-cons, sum_by-append}
 use Rattle.std.proofs.lemmas.List.{reverse-append}
+use Rattle.hc_text.proofs.Basics.{bool_cases, not_some as none_some, reverse_is, some_inj}
 use Rattle.hc_rules.specs.Rooms.{gives_way}
 use Rattle.hc_model.specs.Orders.{AreOnce}
 use Rattle.hc_model.specs.Sound.{Among}
-use Rattle.hc_effects.proofs.Basics.{false_true, none_some}
-use Rattle.hc_effects.proofs.HoleLemmas.{bool_cases}
-use Rattle.hc_effects.proofs.PieceKeeps.{eq_cases, some_inj}
+use Rattle.hc_effects.proofs.Basics.{false_true}
+use Rattle.hc_effects.proofs.PieceKeeps.{eq_cases}
 
 pub sum_le : (f g : ℕ → ℕ) (rs : List ℕ) → ((r : ℕ) → Among r rs → f r ≤ g r) → sum_by f rs ≤ sum_by g rs
 sum_le f g [] le = omega arith
@@ -77,9 +77,6 @@ append_among : (r : ℕ) (xs ys : List ℕ) → Among r (xs ++ ys) → Among r x
 append_among r [] ys among = inr among
 append_among r (x ∷ xs) ys (inl here) = inl (inl here)
 append_among r (x ∷ xs) ys (inr there) = elim (append_among r xs ys there) [ inl a ↦ inl (inr a) | inr b ↦ inr b ]
-
-reverse_is : (x : ℕ) (xs : List ℕ) → reverse (x ∷ xs) ≡ reverse xs ++ (x ∷ [])
-reverse_is x xs = reverse-append (x ∷ []) xs
 
 pub reverse_among : (r : ℕ) (xs : List ℕ) → Among r (reverse xs) → Among r xs
 reverse_among r [] among = absurd among

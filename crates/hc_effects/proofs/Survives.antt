@@ -2,6 +2,7 @@
 use Rattle.std.proofs.Common.{◌≡◌, ◌⊎◌, inl, inr, ℕ, ◌+◌, ◌<◌, ◌≤◌, List, [], ◌∷◌, length, true, Option, Some, None, refl, ap, sym, ◌∙◌, subst, arith, min, length-append}
 use Rattle.std.specs.Prelude.{if◌then◌else◌, is_some, ◌||◌, not, nat_eq, nat_le, map, filter}
 use Rattle.std.proofs.lemmas.Bool.Decides.{nat_tests}
+use Rattle.hc_text.proofs.Basics.{both_true as and_both, and_left, and_right, bool_cases, not_some as none_some, never_true as not_so, same_some as same_row, some_inj}
 use Rattle.hc_sparse.specs.Cells.{Cells, Covers, cells_with}
 use Rattle.hc_sparse.proofs.CellLemmas.{inside-past, inside-yes}
 use Rattle.hc_event.specs.Filters.{leaves_in, given_in, opening_in}
@@ -31,7 +32,7 @@ use Rattle.hc_model.specs.Sound.{Sound, IsBound, IsAlone, IsGrowing}
 use Rattle.hc_model.specs.Sound as sound
 use Rattle.hc_model.specs.Tables.{after_accepted}
 use Rattle.hc_model.specs.Writers.{brings_body, loses_writing, survivor, member, offset_in}
-use Rattle.hc_effects.proofs.Basics.{false_true, and_left, and_right, and_both, not_so, none_some, number_yes}
+use Rattle.hc_effects.proofs.Basics.{false_true, number_yes}
 use Rattle.hc_effects.proofs.BoundStays.{bound_stays}
 use Rattle.hc_effects.proofs.ConsumerFilters.{acted}
 use Rattle.hc_effects.proofs.ExchangeFrom.{IsSame, IsHeaded}
@@ -41,12 +42,10 @@ use Rattle.hc_effects.proofs.FirstKeeps.{is_new}
 use Rattle.hc_effects.proofs.Forward as forward
 use Rattle.hc_effects.proofs.ApartKeeps.{is_on}
 use Rattle.hc_effects.proofs.HadKeeps.{survivor_bound}
-use Rattle.hc_effects.proofs.HoleLemmas.{bool_cases}
 use Rattle.hc_effects.proofs.LossBy.{IsReal, fresh}
 use Rattle.hc_effects.proofs.MeasuresKeep.{IsHeld, held, one_piece}
 use Rattle.hc_effects.proofs.MemberStays as member_stays
-use Rattle.hc_effects.proofs.PieceKeeps.{some_inj}
-use Rattle.hc_effects.proofs.ExclusiveWriters.{same_row, writer_some}
+use Rattle.hc_effects.proofs.ExclusiveWriters.{writer_some}
 use Rattle.hc_effects.proofs.OfEntries.{of_real}
 use Rattle.hc_effects.proofs.HasBound.{reader_of}
 use Rattle.hc_effects.proofs.RepFrom.{RepFrom, rep_from, IsKept}

@@ -1,6 +1,7 @@
 -- What a piece, an end, a fault or a doom comes to but for what makes room: what is lost and closed, and who and what stays or is let go.
 use Rattle.std.proofs.Common.{◌≡◌, inl, inr, ℕ, List, [], ◌++◌, Bool, true, false, Option, Some, None, refl, ap, sym, ◌∙◌, subst}
 use Rattle.std.specs.Prelude.{◌&&◌, ◌||◌, ◌==◌, not, nat_eq, if◌then◌else◌, map, option_map}
+use Rattle.hc_text.proofs.Basics.{not_some as none_some, or_false as or_off}
 use Rattle.hc_event.specs.Filters.{opening_in, asks_in, closes_in, evicts_in}
 use Rattle.hc_event.specs.declared.act.Act.{Act}
 use Rattle.hc_event.specs.declared.act.Act.TheVariants as act
@@ -34,12 +35,10 @@ use Rattle.hc_model.specs.Tables.{after_accepted, with_item_first, starts_after,
 use Rattle.hc_model.specs.Weights.{evicted, write_in}
 use Rattle.hc_model.specs.Writers.{goes_on_with}
 use Rattle.hc_effects.proofs.ActParts.{IsFarFrom, asks_lost, asks_closes, closes_lost, loses_before, evicts_lost, evicts_closes, far_loss, far_closed}
-use Rattle.hc_effects.proofs.Basics.{none_some}
 use Rattle.hc_effects.proofs.ConsumerEffects.{waits_as}
 use Rattle.hc_effects.proofs.EvictsLast.{evictions_come_last}
 use Rattle.hc_effects.proofs.FewClosings.{evicts_nothing}
 use Rattle.hc_effects.proofs.LeaveFrames.{closes_are}
-use Rattle.hc_effects.proofs.OfConsumers.{or_off}
 use Rattle.hc_effects.proofs.PieceKeeps.{eq_cases}
 use Rattle.hc_effects.proofs.PieceServes.{quiet_acts}
 use Rattle.hc_effects.proofs.SameTables.{same_tables, is_in, waits_for_any, back_from_any, without, all_go_is}

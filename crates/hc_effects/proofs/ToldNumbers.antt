@@ -1,6 +1,7 @@
 -- What heads tell is below 2^62: positions and lengths. So what is promised ends by 2^62.
 use Rattle.std.proofs.Common.{◌≡◌, ◌≤◌, ◌<◌, inl, inr, ℕ, ◌+◌, ◌-◌, ◌^◌, List, [], ◌∷◌, codes, Bool, true, false, Option, Some, None, refl, arith}
 use Rattle.std.specs.Prelude.{if◌then◌else◌, ◌==◌, option_and_then}
+use Rattle.hc_text.proofs.Basics.{bool_cases, not_some as none_some, some_inj}
 use Rattle.hc_fields.specs.FieldElements.{elements_in}
 use Rattle.hc_fields.specs.FieldList.{values_of}
 use Rattle.hc_fields.specs.FirstValues.{only_of}
@@ -21,9 +22,6 @@ use Rattle.hc_rules.proofs.RangeReads.{content_range_in-some}
 use Rattle.hc_model.specs.Exchanges.{base, promised_bytes, length_by}
 use Rattle.hc_model.specs.Heads.{total_of_part, founded_total}
 use Rattle.hc_model.specs.Rows.{Exchange}
-use Rattle.hc_effects.proofs.Basics.{none_some}
-use Rattle.hc_effects.proofs.HoleLemmas.{bool_cases}
-use Rattle.hc_effects.proofs.PieceKeeps.{some_inj}
 
 -- what a head says of the length ends by 2^62
 abbrev pub EndsEarly : Length → Type 0

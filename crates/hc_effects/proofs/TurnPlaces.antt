@@ -1,6 +1,7 @@
 -- Where a consumer's place comes from, as far as it waits.
 use Rattle.std.proofs.Common.{◌≡◌, ℕ, Bool, true, false, Option, Some, None, refl, ap, sym, ◌∙◌, subst}
 use Rattle.std.specs.Prelude.{◌&&◌, ◌||◌, ◌==◌, not, is_none, if◌then◌else◌}
+use Rattle.hc_text.proofs.Basics.{eq_tells as eq_is, some_inj}
 use Rattle.hc_event.specs.Filters.{Opening, opening_in, leaves_in, shows_in}
 use Rattle.hc_event.specs.declared.act.Wait.{Wait}
 use Rattle.hc_event.specs.declared.act.Wait.TheVariants as wait
@@ -30,8 +31,6 @@ use Rattle.hc_model.specs.Reading.{reads, bound_to}
 use Rattle.hc_model.specs.Rows.{Tables, Exchange, Representation, Consumer}
 use Rattle.hc_model.specs.StartingOver.{starts_over}
 use Rattle.hc_effects.proofs.ConsumerFilters.{acted}
-use Rattle.hc_effects.proofs.KeyNames.{eq_is}
-use Rattle.hc_effects.proofs.PieceKeeps.{some_inj}
 
 -- it waits neither with the turn, nor for a body, nor with a first hole
 abbrev pub IsPlain : Place → Type 0

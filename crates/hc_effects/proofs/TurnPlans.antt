@@ -1,6 +1,7 @@
 -- What a plan comes to, and why: who fetches has the turn, and who waits for a body may read what is current.
 use Rattle.std.proofs.Common.{◌≡◌, ℕ, Bool, true, false, Option, Some, None, refl, ap, sym, ◌∙◌}
 use Rattle.std.specs.Prelude.{◌&&◌, ◌||◌, ◌==◌, not, is_none, if◌then◌else◌}
+use Rattle.hc_text.proofs.Basics.{and_left, and_right as and_then, eq_tells as eq_is, not_true as not_same}
 use Rattle.hc_event.specs.declared.act.Need.{Need}
 use Rattle.hc_event.specs.declared.act.Need.TheVariants as need
 use Rattle.hc_event.specs.declared.act.Why.{Why}
@@ -15,9 +16,7 @@ use Rattle.hc_rules.specs.declared.request.Wanted.{Wanted}
 use Rattle.hc_rules.specs.declared.request.Wanted.TheVariants as wanted
 use Rattle.hc_rules.specs.Needs.{route_of}
 use Rattle.hc_rules.specs.Plans.{plan_of, bare_plan, queues, is_back, allowed_by, by_current, by_why, why_by, by_wanted, by_exclusive, by_hole, by_bound, in_time, from_store}
-use Rattle.hc_effects.proofs.Basics.{and_left}
 use Rattle.hc_effects.proofs.Joining.{mix}
-use Rattle.hc_effects.proofs.KeyNames.{eq_is, and_then}
 
 -- what is current answers the request too
 pub record IsVaried (v : PlanView) : Type 0 where
@@ -61,10 +60,6 @@ kept_none : (passed : Bool) (kept : Option ℕ) (none : Bool) → passed ≡ tru
 kept_none passed None none is h = refl
 kept_none false (Some x) none is h = absurd (let no_one : false ≡ true = is in cc)
 kept_none true (Some x) none is h = absurd (let no_one : false ≡ true = h in cc)
-
-not_same : (b : Bool) → not b ≡ true → b ≡ false
-not_same true h = absurd (let no_one : false ≡ true = h in cc)
-not_same false h = refl
 
 -- v is let through with what it has passed for
 module _ (v : PlanView) (through : v.passed ≡ true → (v.class.bypassing ≡ false) × IsVaried v) where

@@ -2,6 +2,7 @@
 use Rattle.std.proofs.Common.{◌≡◌, ◌⊎◌, inl, inr, ℕ, List, [], ◌∷◌, ◌++◌, Bool, true, Option, Some, None, ap, sym, ◌∙◌, arith}
 use Rattle.std.specs.Prelude.{map, filter, reverse, nat_eq}
 use Rattle.std.proofs.lemmas.Bool.Decides.{nat_tests}
+use Rattle.hc_text.proofs.Basics.{and_left, and_right, bool_cases, or_cases}
 use Rattle.hc_event.specs.Filters.{closes_in}
 use Rattle.hc_event.specs.declared.event.Event.{Event}
 use Rattle.hc_event.specs.declared.event.Event.TheVariants as event
@@ -18,9 +19,8 @@ use Rattle.hc_model.specs.Polls.{poll_move}
 use Rattle.hc_model.specs.Rows.{Tables, Exchange}
 use Rattle.hc_model.specs.Sound.{Sound, Among}
 use Rattle.hc_model.specs.Weights.{evicted}
-use Rattle.hc_effects.proofs.Basics.{false_true, and_left, and_right, or_cases}
+use Rattle.hc_effects.proofs.Basics.{false_true}
 use Rattle.hc_effects.proofs.Closed.{before}
-use Rattle.hc_effects.proofs.HoleLemmas.{bool_cases}
 
 among_test : (x : ℕ) (test : ℕ → Bool) (xs : List ℕ) → Among x (filter test xs) → test x ≡ true
 among_test x test [] there = absurd there

@@ -2,6 +2,7 @@
 use Rattle.std.proofs.Common.{◌≡◌, inl, inr, ℕ, List, [], ◌++◌, Bool, true, false, Option, Some, None, refl, ap, sym, ◌∙◌, subst}
 use mathlib.Core.Path.{fun_ext}
 use Rattle.std.specs.Prelude.{bytes_eq, ◌&&◌, ◌||◌, not, nat_eq, if◌then◌else◌, is_none, option_map, map, filter, reverse}
+use Rattle.hc_text.proofs.Basics.{eqb-same, not_some as none_some, some_inj, and_off as then_false}
 use Rattle.hc_event.specs.declared.act.Act.TheVariants as act
 use Rattle.hc_event.specs.declared.act.Cause.TheVariants as cause
 use Rattle.hc_event.specs.declared.event.Event.{Event}
@@ -37,7 +38,6 @@ use Rattle.hc_model.specs.Reading.{is_written}
 use Rattle.hc_model.specs.Rows.{Tables, Exchange, Representation, Consumer}
 use Rattle.hc_model.specs.StartingOver.{sends_back, waits_at}
 use Rattle.hc_model.specs.Tables.{after_accepted, with_item_first}
-use Rattle.hc_effects.proofs.Basics.{none_some}
 use Rattle.hc_effects.proofs.ConsumerEffects.{waits_as, some_all}
 use Rattle.hc_effects.proofs.DoomFrames.{sent_as, awaited_apart}
 use Rattle.hc_effects.proofs.FoundBy.{CaseBy, case_by}
@@ -45,10 +45,9 @@ use Rattle.hc_effects.proofs.FoundBy as cases
 use Rattle.hc_effects.proofs.HeadFacts.{stays_open, new, waiter, undue, case_on, case_before, evicts_none, no_survivor}
 use Rattle.hc_effects.proofs.HeadFrames.{e, spared_as, heard, doomed_is, goes_as, row_by, other_by, asker_goes_on, after_head}
 use Rattle.hc_effects.proofs.KeyNames.{current_test}
-use Rattle.hc_effects.proofs.PieceKeeps.{eq_cases, some_inj}
+use Rattle.hc_effects.proofs.PieceKeeps.{eq_cases}
 use Rattle.hc_effects.proofs.PollEffects.{same_consumer}
 use Rattle.hc_effects.proofs.SameTables.{is_in, in_one, waits_for_any, back_from_any, all_closed_is}
-use Rattle.hc_effects.proofs.Tests.{eqb-same, then_false}
 use Rattle.hc_effects.proofs.Untouched.{consumer_absent, IsSpared}
 
 two_off : (a : Bool) → (a || false || false) ≡ a

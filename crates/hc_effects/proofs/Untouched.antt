@@ -2,6 +2,7 @@
 use Rattle.std.proofs.Common.{◌≡◌, ℕ, ◌+◌, List, length, Bool, true, false, Option, Some, None, refl, ap, ap₂, sym, ◌∙◌, arith}
 use Rattle.std.specs.Prelude.{◌&&◌, ◌||◌, not, nat_eq, if◌then◌else◌}
 use Rattle.std.specs.Option.{option_or, option_and_then}
+use Rattle.hc_text.proofs.Basics.{not_some as none_some, or_none as or_nothing, plus_none, some_inj, and_off as then_false}
 use Rattle.hc_text.specs.declared.bytes.Key.{Key}
 use Rattle.hc_event.specs.Filters.{Opening, opening_in, asks_in, closes_in, leaves_in, shows_in, given_in}
 use Rattle.hc_event.specs.declared.act.Act.{Act}
@@ -28,17 +29,8 @@ use Rattle.hc_model.specs.StartingOver.{starts_over, sends_back, waits_at, loses
 use Rattle.hc_model.specs.Tables.{founds, binds, starts_after, opened_after, openings_after}
 use Rattle.hc_model.specs.Writers.{loses_writing, brings_body}
 use Rattle.hc_effects.proofs.ActParts.{IsFarFrom}
-use Rattle.hc_effects.proofs.Basics.{none_some}
 use Rattle.hc_effects.proofs.Dues.{undue_of, stop_none}
-use Rattle.hc_effects.proofs.PieceKeeps.{some_inj}
-use Rattle.hc_effects.proofs.Tests.{and_false, then_false}
-
-pub plus_none : (n : ℕ) → n + 0 ≡ n
-plus_none n = omega arith
-
-pub or_nothing : {A : Type 0} (o : Option A) → option_or o None ≡ o
-or_nothing None = refl
-or_nothing (Some a) = refl
+use Rattle.hc_effects.proofs.Tests.{and_false}
 
 -- what the acts make of a consumer that its opening left as q
 abbrev pub acted_by : Tables → Entry → ℕ → Consumer → Consumer → Consumer

@@ -1,6 +1,7 @@
 -- What heads do that update what is stored: a 304 that validates it, and a 206 that joins it. And where that is lost.
 use Rattle.std.proofs.Common.{◌≡◌, inl, inr, ℕ, List, [], ◌∷◌, Bool, true, false, Option, Some, None, refl, ap, sym, ◌∙◌, subst}
 use Rattle.std.specs.Prelude.{◌&&◌, ◌||◌, ◌==◌, not, nat_eq, if◌then◌else◌, option_map}
+use Rattle.hc_text.proofs.Basics.{and_left, and_true, eqb-same, never_true as not_so, same_some as same_row, some_inj, and_off as then_false}
 use Rattle.hc_event.specs.declared.act.Act.TheVariants as act
 use Rattle.hc_event.specs.declared.act.LostKind.{LostKind}
 use Rattle.hc_event.specs.declared.event.Event.{Event}
@@ -38,20 +39,17 @@ use Rattle.hc_model.specs.StartingOver.{sends_back}
 use Rattle.hc_model.specs.Tables.{with_item_first}
 use Rattle.hc_model.specs.Weights.{evicted}
 use Rattle.hc_model.specs.Writers.{exclusive, goes_on_with}
-use Rattle.hc_effects.proofs.Basics.{and_left, false_true, not_so, true_false}
+use Rattle.hc_effects.proofs.Basics.{false_true, true_false}
 use Rattle.hc_effects.proofs.FoundBy.{CaseBy, case_by, unchanged_founds, validated_selects}
 use Rattle.hc_effects.proofs.FoundBy as cases
 use Rattle.hc_effects.proofs.HeadFacts.{waiter, evicts_none, head_does, goes_on, goes_back, goes_it, rows, rows_same, is_it}
 use Rattle.hc_effects.proofs.HeadFrames.{e, heard, has_as, row_updates, row_loses, spared_as}
 use Rattle.hc_effects.proofs.KeyRows.{same_number}
 use Rattle.hc_effects.proofs.LossStands.{joins_again, not_founding}
-use Rattle.hc_effects.proofs.OfConsumers.{and_true}
-use Rattle.hc_effects.proofs.ExclusiveWriters.{same_row}
-use Rattle.hc_effects.proofs.PieceKeeps.{eq_cases, some_inj}
+use Rattle.hc_effects.proofs.PieceKeeps.{eq_cases}
 use Rattle.hc_effects.proofs.PollEffects.{none_waits, same_consumer}
 use Rattle.hc_effects.proofs.PollKeeps.{current_stays}
 use Rattle.hc_effects.proofs.SameTables.{is_in, waits_for_any}
-use Rattle.hc_effects.proofs.Tests.{eqb-same, then_false}
 use Rattle.hc_effects.proofs.Waiters.{unwritten, waits_undue, own_open_is}
 use Rattle.hc_event.specs.declared.place.BoundBy.{BoundBy}
 use Rattle.hc_model.specs.Sound.{IsFirst, IsExclusiveWriter}

@@ -1,5 +1,6 @@
 -- What a poll does that waits.
 use Rattle.std.proofs.Common.{◌≡◌, ℕ, [], false, Option, Some, None, refl, ap, sym, ◌∙◌, subst}
+use Rattle.hc_text.proofs.Basics.{eqb-same, plus_none}
 use Rattle.hc_event.specs.declared.act.Wait.{Wait}
 use Rattle.hc_event.specs.declared.act.Wait.TheVariants as wait
 use Rattle.hc_event.specs.declared.event.Event.TheVariants as event
@@ -24,8 +25,7 @@ use Rattle.hc_effects.proofs.PollEffects.{none_waits, same_consumer, nothing_goe
 use Rattle.hc_effects.proofs.PollEffects as polls
 use Rattle.hc_effects.proofs.Said.{WaitsAs}
 use Rattle.hc_effects.proofs.Said as said
-use Rattle.hc_effects.proofs.Tests.{eqb-same}
-use Rattle.hc_effects.proofs.Untouched.{plus_none, own_stays, spared_bodiless}
+use Rattle.hc_effects.proofs.Untouched.{own_stays, spared_bodiless}
 use Rattle.hc_effects.proofs.WaitedAs.{IsForOthers, waited_as}
 use Rattle.hc_effects.proofs.WaitedAs as waited
 

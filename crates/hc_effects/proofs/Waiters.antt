@@ -3,6 +3,7 @@ use Rattle.std.proofs.Common.{◌≡◌, ◌⊎◌, inl, inr, ℕ, Bool, true, f
 use Rattle.std.specs.Prelude.{if◌then◌else◌, is_some, is_none, ◌&&◌, ◌==◌, not, nat_eq, unwrap_or}
 use Rattle.std.specs.Option.{option_and_then}
 use Rattle.std.proofs.lemmas.Bool.Decides.{nat_tests}
+use Rattle.hc_text.proofs.Basics.{both_true as and_both, and_left, and_right, bool_cases, not_some as none_some, never_true as not_so, or_cases, or_left, same_some as same_row, some_inj}
 use Rattle.hc_event.specs.Filters.{Opening, opening_in, leaves_in, closes_in}
 use Rattle.hc_event.specs.declared.event.Event.{Event}
 use Rattle.hc_event.specs.declared.event.Event.TheVariants as event
@@ -30,16 +31,15 @@ use Rattle.hc_model.specs.Sound.{Sound, IsAbout, IsExclusiveWriter}
 use Rattle.hc_model.specs.Sound as sound
 use Rattle.hc_model.specs.StartingOver.{starts_over, waits_at, awaited_exchange}
 use Rattle.hc_model.specs.Writers.{loses_writing, survivor}
-use Rattle.hc_effects.proofs.Basics.{false_true, and_left, and_right, and_both, not_so, or_cases, or_left, none_some, number_is}
+use Rattle.hc_effects.proofs.Basics.{false_true, number_is}
 use Rattle.hc_effects.proofs.BoundFrom.{place_inj}
 use Rattle.hc_effects.proofs.Closed.{before}
 use Rattle.hc_effects.proofs.FirstKeeps.{is_new}
-use Rattle.hc_effects.proofs.HoleLemmas.{bool_cases}
 use Rattle.hc_effects.proofs.MoveBy.{IsHeard}
 use Rattle.hc_effects.proofs.OpensFrom.{hole_is}
 use Rattle.hc_effects.proofs.OwnersKeep.{is_opened}
-use Rattle.hc_effects.proofs.PieceKeeps.{eq_cases, some_inj}
-use Rattle.hc_effects.proofs.ExclusiveWriters.{same_row, row_of, writer_some}
+use Rattle.hc_effects.proofs.PieceKeeps.{eq_cases}
+use Rattle.hc_effects.proofs.ExclusiveWriters.{row_of, writer_some}
 use Rattle.hc_effects.proofs.SaidActs.{loss_is, leaver_leaves}
 use Rattle.hc_effects.proofs.Stops.{writer_about}
 use Rattle.hc_effects.proofs.Unclosed.{had_to}

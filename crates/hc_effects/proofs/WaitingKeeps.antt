@@ -2,6 +2,7 @@
 use Rattle.std.proofs.Common.{◌≡◌, inl, inr, ℕ, List, length, Bool, true, false, cond, Option, Some, None, refl, ap, sym, ◌∙◌, subst, arith}
 use Rattle.std.specs.Prelude.{if◌then◌else◌, is_some, is_none, ◌&&◌, ◌==◌, nat_eq}
 use Rattle.std.proofs.lemmas.Bool.Decides.{nat_tests}
+use Rattle.hc_text.proofs.Basics.{both_true as and_both, and_left, and_right, bool_cases, not_some as none_some, never_true as not_so, or_cases, or_left, or_right, eq_yes as same_number, same_some as same_row, some_inj}
 use Rattle.hc_event.specs.Filters.{Opening, opening_in, leaves_in, closes_in}
 use Rattle.hc_event.specs.declared.event.Event.{Event}
 use Rattle.hc_event.specs.declared.event.Event.TheVariants as event
@@ -35,15 +36,13 @@ use Rattle.hc_model.specs.Rows.{Tables, Exchange, Consumer}
 use Rattle.hc_model.specs.Sound.{Sound}
 use Rattle.hc_model.specs.StartingOver.{starts_over, waits_at, awaited_exchange, sends_back, loses_what_it_waits_for}
 use Rattle.hc_model.specs.Tables.{after_accepted}
-use Rattle.hc_effects.proofs.Basics.{false_true, and_left, and_right, and_both, or_cases, or_left, or_right, not_so, none_some, number_yes}
+use Rattle.hc_effects.proofs.Basics.{false_true, number_yes}
 use Rattle.hc_effects.proofs.Closed.{before, closes}
 use Rattle.hc_effects.proofs.ExchangeFrom.{ExchangeFrom, IsSame, exchange_from}
 use Rattle.hc_effects.proofs.ExchangeFrom as exchange
 use Rattle.hc_effects.proofs.Forward.{heard_other, is_kept}
-use Rattle.hc_effects.proofs.HoleLemmas.{bool_cases}
 use Rattle.hc_effects.proofs.Once.{taken}
-use Rattle.hc_effects.proofs.PieceKeeps.{eq_cases, some_inj}
-use Rattle.hc_effects.proofs.ExclusiveWriters.{same_row}
+use Rattle.hc_effects.proofs.PieceKeeps.{eq_cases}
 use Rattle.hc_effects.proofs.Said.{IsShowing, WaitsAs, showing_by, waiting_by, opening_by}
 use Rattle.hc_effects.proofs.SaidActs.{leaves_leaver}
 use Rattle.hc_effects.proofs.ShownFrom.{shown_from}
@@ -54,9 +53,6 @@ use Rattle.hc_effects.proofs.OpenedAs.{opened_as, opening_is}
 use Rattle.hc_model.specs.Moves.{Opens}
 use Rattle.hc_model.specs.Runs.{may_stand}
 use Rattle.hc_effects.proofs.Waiters.{IsWaiter, waiter_of, heard_same, own_acted, own_open_is, not_heard, head_is_own, opening_stays, doomed_same, headless_is}
-
-same_number : (n m : ℕ) → n ≡ m → (n == m) ≡ true
-same_number n m same = let test : nat_eq n m ≡ true = grind (arith, nat_tests) in test
 
 headless_parts : (z : Option Exchange) → is_headless z ≡ true → (w : Exchange) × (z ≡ Some w) × (w.is_open ≡ true) × (w.head ≡ None)
 headless_parts None h = absurd (false_true h)

@@ -2,6 +2,7 @@
 use Rattle.std.proofs.Common.{◌≡◌, ◌⊎◌, inl, inr, ℕ, ◌+◌, ◌≤◌, List, [], ◌∷◌, length, Bool, true, false, Option, Some, None, refl, ap, sym, ◌∙◌, subst, arith}
 use Rattle.std.specs.Prelude.{if◌then◌else◌, ◌&&◌, ◌||◌, ◌==◌, not}
 use Rattle.std.specs.List.{list_any, sum_by}
+use Rattle.hc_text.proofs.Basics.{and_left, bool_cases, or_cases, or_left, or_right}
 use Rattle.hc_event.specs.declared.event.Event.{Event}
 use Rattle.hc_event.specs.declared.event.Event.TheVariants as event
 use Rattle.hc_event.specs.declared.event.Response.{Response}
@@ -20,10 +21,9 @@ use Rattle.hc_model.specs.RepresentationRows.{representation_heard, representati
 use Rattle.hc_model.specs.Rows.{Tables, Exchange, Representation, Consumer}
 use Rattle.hc_model.specs.Sound.{Sound, Among, IsBound}
 use Rattle.hc_model.specs.Weights.{weight, weight_in, weights, moves_on, stays_current, stays_bound}
-use Rattle.hc_effects.proofs.Basics.{false_true, and_left, or_cases, or_left, or_right, number_is, number_yes}
+use Rattle.hc_effects.proofs.Basics.{false_true, number_is, number_yes}
 use Rattle.hc_effects.proofs.CurrentKeeps.{current_is}
 use Rattle.hc_effects.proofs.HasBound.{reader_of}
-use Rattle.hc_effects.proofs.HoleLemmas.{bool_cases}
 use Rattle.hc_effects.proofs.PieceKeeps.{eq_cases}
 use Rattle.hc_effects.proofs.ExclusiveWriters.{bound_some}
 use Rattle.hc_effects.proofs.PollKeeps.{current_stays}

@@ -3,6 +3,7 @@ use Rattle.std.proofs.Common.{◌≡◌, inl, inr, ℕ, ◌+◌, ◌≤◌, List
 use Rattle.std.proofs.lemmas.Bool.Decides.{nat_tests}
 use Rattle.std.specs.Prelude.{is_some, ◌&&◌, ◌||◌, ◌==◌, not, nat_eq, if◌then◌else◌, option_map, map, filter, reverse}
 use Rattle.std.specs.List.{sum_by}
+use Rattle.hc_text.proofs.Basics.{and_left, and_right, bool_cases}
 use Rattle.hc_rules.specs.declared.room.Limits.{Limits}
 use Rattle.hc_rules.specs.declared.room.Room.TheVariants as room
 use Rattle.hc_rules.specs.declared.room.Write.{Write}
@@ -16,9 +17,8 @@ use Rattle.hc_model.specs.Orders.{AreOnce}
 use Rattle.hc_model.specs.Reading.{bound, is_bound, is_bound_place}
 use Rattle.hc_model.specs.Rows.{Tables, Representation, Consumer}
 use Rattle.hc_model.specs.Sound.{Among}
-use Rattle.hc_effects.proofs.Basics.{same_functions, false_true, and_left, and_right}
+use Rattle.hc_effects.proofs.Basics.{same_functions, false_true}
 use Rattle.hc_effects.proofs.FewGiveWay.{AreHeavy, one_gives, two_give}
-use Rattle.hc_effects.proofs.HoleLemmas.{bool_cases}
 use Rattle.hc_effects.proofs.LettingGo.{bound_all, current_all}
 use Rattle.hc_effects.proofs.PieceKeeps.{eq_cases}
 use Rattle.hc_effects.proofs.SameTables as tables

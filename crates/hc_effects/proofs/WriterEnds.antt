@@ -4,6 +4,7 @@ use Rattle.std.specs.Prelude.{if◌then◌else◌, is_some, is_none, ◌==◌, �
 use Rattle.std.specs.List.{list_all}
 use Rattle.std.specs.Option.{option_and_then}
 use Rattle.std.proofs.lemmas.Bool.Decides.{nat_tests}
+use Rattle.hc_text.proofs.Basics.{and_left, and_right, bool_cases, not_some as none_some, or_cases, same_some as same_row, some_inj}
 use Rattle.hc_event.specs.Filters.{leaves_in, closes_in}
 use Rattle.hc_event.specs.declared.event.Event.{Event}
 use Rattle.hc_event.specs.declared.event.Event.TheVariants as event
@@ -36,14 +37,11 @@ use Rattle.hc_model.specs.Tables.{after_accepted}
 use Rattle.hc_model.specs.Writers.{brings_body, loses_writing}
 use Rattle.hc_effects.proofs.ActParts.{said_is, said_closes}
 use Rattle.hc_effects.proofs.ApartKeeps.{is_on}
-use Rattle.hc_effects.proofs.Basics.{false_true, and_left, and_right, or_cases, none_some, some_none, number_is}
+use Rattle.hc_effects.proofs.Basics.{false_true, some_none, number_is}
 use Rattle.hc_effects.proofs.BoundFrom.{IsRow}
 use Rattle.hc_effects.proofs.Closed.{before, among_filter}
 use Rattle.hc_effects.proofs.Dues.{undue_parts}
-use Rattle.hc_effects.proofs.HoleLemmas.{bool_cases}
 use Rattle.hc_effects.proofs.LossBy.{IsReal, loses_flaw}
-use Rattle.hc_effects.proofs.PieceKeeps.{some_inj}
-use Rattle.hc_effects.proofs.ExclusiveWriters.{same_row}
 use Rattle.hc_effects.proofs.RepFrom.{IsKept}
 use Rattle.hc_effects.proofs.SaidActs.{leaver_leaves}
 use Rattle.hc_effects.proofs.Stops.{source_is}

@@ -2,6 +2,7 @@
 use Rattle.std.proofs.Common.{◌≡◌, ℕ, ◌+◌, ◌<◌, List, [], Bool, true, false, not, eqb, Option, Some, None, refl, sym, ap, ◌∙◌, inl, inr, arith}
 use Rattle.std.specs.Prelude.{◌||◌}
 use Rattle.std.proofs.lemmas.Bool.{cases_Bool, cases_eq, eqb-true, eqb-false}
+use Rattle.hc_text.proofs.Basics.{turned-false}
 use Rattle.hc_sorted.specs.Sorted.{is_sorted, is_at as numbered, without}
 use Rattle.hc_sorted.proofs.SortedLemmas.{has-with, has-without, is_sorted-with, is_sorted-filter}
 use Rattle.hc_entry.specs.Users.{itself}
@@ -156,10 +157,6 @@ still-held c (Some d) cs is out = elim (cases_Bool (eqb d c)) [
   | inl on ↦ let in_it = ap (λ (n : ℕ). is_among n cs) (eqb-true d c on) in absurd (cc)
   | inr off ↦ rw off refl
 ]
-
-turned-false : (a b : Bool) → (a ≡ true → b ≡ false) → b ≡ true → a ≡ false
-turned-false true b off on = let h = off refl in absurd (cc)
-turned-false false b off on = refl
 
 pub passed-back-next : (i c : ℕ) (old l : Line) → ArePassedBackBelow i old l → consumer_at l i ≡ Some c → is_among c l.passed ≡ true → ArePassedBackBelow (i + 1) old (come_back c l)
 passed-back-next i c old l was there is = record {

@@ -2,15 +2,12 @@
 use Rattle.std.proofs.Common.{◌≡◌, ℕ, suc, ◌+◌, List, [], ◌∷◌, length, Bool, true, false, not, eqb, Option, Some, None, refl, sym, ap, ◌∙◌, inl, inr, arith}
 use Rattle.std.specs.Prelude.{◌||◌, nat_le}
 use Rattle.std.proofs.lemmas.Bool.{cases_Bool, eqb-true, eq-eqb, ne_eqb}
+use Rattle.hc_text.proofs.Basics.{turned-false as flip}
 use Rattle.hc_sorted.specs.Sorted.{is_sorted, is_at as numbered, with_item, without}
 use Rattle.hc_sorted.proofs.SortedLemmas.{is_sorted-above, has-above, has-with, has-without, is_sorted-with, is_sorted-filter}
 use Rattle.hc_entry.specs.Users.{itself}
 use Rattle.hc_entry.specs.Lines.{Line, nobody, is_among, is_in, is_empty, union_of, all_back, passed_back, apart, line_with, line_after_pass, gone_away, come_back, held_by, turn_of, stands, IsOrderly}
 use Rattle.hc_entry.proofs.LineLemmas.{stands-left, stands-with, stands-held}
-
-flip : (a b : Bool) → (a ≡ true → b ≡ false) → b ≡ true → a ≡ false
-flip true b off on = let h = off refl in absurd (cc)
-flip false b off on = refl
 
 neither : (a b : Bool) → a || b ≡ false → (a ≡ false) × (b ≡ false)
 neither true b out = absurd (cc)

@@ -5,6 +5,7 @@ use Rattle.std.specs.Map.{keys_of}
 use Rattle.std.specs.List.{AllByRecursion, IsDistinct}
 use Rattle.std.proofs.lemmas.Bool.{cases_Bool, cases_eq, cases_lt, eqb-true, eqb-false, eq-eqb, ne_eqb}
 use Rattle.std.proofs.lemmas.List.{get_or_past}
+use Rattle.hc_text.proofs.Basics.{same_consumer}
 use Rattle.hc_sorted.specs.Sorted.{above, is_sorted, is_at as numbered, with_item, without}
 use Rattle.hc_sorted.proofs.SortedLemmas.{is_sorted-above, has-above, has-with, has-without, is_sorted-with, is_sorted-filter, without-none}
 use Rattle.hc_rules.specs.Least.{least}
@@ -169,9 +170,6 @@ some-seat (Some seat) is = (seat, refl)
 
 same_seat : (o : Option Seat) (a b : Seat) → o ≡ Some a → o ≡ Some b → a ≡ b
 same_seat o a b is has = cc
-
-same_consumer : (o : Option ℕ) (a b : ℕ) → o ≡ Some a → o ≡ Some b → a ≡ b
-same_consumer o a b is has = cc
 
 module _ (es : List (ℕ × Seat)) (places playing : List (Option ℕ)) (h : Option ℕ) (was : IsSeated es places playing h) where
   -- a consumer has one place

@@ -5,6 +5,7 @@ use Rattle.std.specs.Map.{keys_of}
 use Rattle.std.specs.List.{IsDistinct}
 use Rattle.std.proofs.lemmas.Bool.{cases_lt, eq-eqb, ne_eqb}
 use Rattle.std.proofs.lemmas.List.{get_or_past}
+use Rattle.hc_text.proofs.Basics.{none_or as none-there}
 use Rattle.hc_sorted.specs.Sorted.{with_item}
 use Rattle.hc_entry.specs.Users.{itself}
 use Rattle.hc_entry.specs.declared.seat.Seat.{Seat}
@@ -100,7 +101,3 @@ orderly-seated es places playing h was = record {
   passed_away stand.InLine on = refl
   passed_away stand.Passed on = refl
   passed_away stand.Away on = absurd (cc)
-
-pub none-there : {X : Type 0} (o : Option X) → ((x : X) → o ≡ Some x → ⊥) → o ≡ None
-none-there None none = refl
-none-there (Some x) none = absurd (none x refl)

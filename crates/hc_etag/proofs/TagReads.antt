@@ -6,14 +6,9 @@ use Rattle.std.proofs.lemmas.Bool.{cases_Bool, and_parts, and_from, eqb-true}
 use Rattle.std.proofs.lemmas.Bool.Decides.{nat_tests}
 use Rattle.std.proofs.lemmas.List.{take_more, length-append}
 use Rattle.std.proofs.Math.Seq.{take-length, take-append_seam}
+use Rattle.hc_text.proofs.Basics.{le-leb, leb-le}
 use Rattle.hc_etag.specs.Etags.{is_etagc, SpellsTag}
 use Rattle.hc_etag.specs.TagTexts.{inner, is_quoted, strong_in}
-
-leb-le : (m n : ℕ) → leb m n ≡ true → m ≤ n
-leb-le m n h = grind (arith, nat_tests)
-
-le-leb : (m n : ℕ) → m ≤ n → leb m n ≡ true
-le-leb m n h = grind (arith, nat_tests)
 
 -- a list is what stands before its last element, and that
 last-split : (xs : List ℕ) (n : ℕ) → length xs ≡ n + 1 → xs ≡ take n xs ++ get_or xs n 0 ∷ []

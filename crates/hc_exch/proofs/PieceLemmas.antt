@@ -4,6 +4,7 @@ use Rattle.std.proofs.lemmas.List.{drop-append-le, take-append-le, append-nil}
 use Rattle.std.proofs.Math.Seq.{take-length, drop-append_seam}
 use Rattle.std.specs.Prelude.{min}
 use Rattle.std.proofs.lemmas.Bool.{cases_lt}
+use Rattle.hc_text.proofs.Basics.{drop-whole}
 use Rattle.hc_exch.specs.Pieces.{bytes_of_pieces, first_length, IsCounted, TakesFront}
 
 drop-none : (n : ℕ) → drop n (let e : List ℕ = [] in e) ≡ []
@@ -16,9 +17,6 @@ pub some_left : (pieces : List (List ℕ)) (read : ℕ) (taken all : List ℕ) (
 some_left [] read taken all count is few there =
     absurd (let same : length all ≡ length taken = sym (ap length is) ∙ (ap (λ (l : List ℕ). length (taken ++ l)) (drop-none read) ∙ ap length (append-nil taken)) in omega arith)
 some_left (piece ∷ pieces) read taken all count is few there = omega arith
-
-drop-whole : (xs ys : List ℕ) → drop (length xs) (xs ++ ys) ≡ ys
-drop-whole xs ys = drop-append_seam xs ys
 
 -- what is taken, where it is as long as it is to be
 pub taken_is : (taken rest all : List ℕ) (count : ℕ) → taken ++ rest ≡ all → length taken ≡ count → taken ≡ take count all

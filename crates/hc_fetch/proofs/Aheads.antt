@@ -12,17 +12,13 @@ use Rattle.std.proofs.Math.Seq.{drop-cons}
 use Rattle.std.proofs.lemmas.Bool.{cases_lt}
 use Rattle.std.proofs.lemmas.List.{append-nil, drop_all, take_all, length-drop}
 use Rattle.std.proofs.lemmas.Map.Keys.{le_from_not_gt}
+use Rattle.hc_text.proofs.Basics.{none_or, not_some as none_some, rest_is, some_inj}
 use Rattle.hc_sparse.specs.Cells.{Cells, Cell, Covers, nothing, inside, cells_with}
 use Rattle.hc_sparse.proofs.CellLemmas.{inside-cases, inside-before}
-use Rattle.hc_effects.proofs.Basics.{none_some, false_true}
-use Rattle.hc_effects.proofs.PieceKeeps.{some_inj}
+use Rattle.hc_effects.proofs.Basics.{false_true}
 use Rattle.hc_fetch.specs.Ahead.{Ahead, Stand, Fit, IsIn, IsAhead, KeepsBut, Keeps, KeepsAll, Appends}
 use Rattle.hc_fetch.specs.Gathering.{byte_before, bytes_on}
 use Rattle.hc_fetch.proofs.Maps.{map-own, map-other, map-empty, same_or_not}
-
-none_or : {A : Type 0} (q : Option A) → ((a : A) → q ≡ Some a → ⊥) → q ≡ None
-none_or None off = refl
-none_or (Some a) off = absurd (off a refl)
 
 pub there_is : {A : Type 0} (q : Option A) → is_some q ≡ true → (a : A) × (q ≡ Some a)
 there_is None is = absurd (false_true is)
@@ -267,10 +263,6 @@ some_taken ahead after written at bytes (Some p) there le least value updates =
 -- where these bytes end
 pub end_is : (written at len now : ℕ) → at ≤ written → written - at < len → at + len ≤ 2 ^ 62 → now ≡ min (written + (len - (written - at))) (2 ^ 64 - 1) → now ≡ at + len
 end_is written at len now begins some below is = omega arith
-
--- all that is left of bytes
-pub rest_is : (k : ℕ) (xs : List ℕ) → take (length xs - k) (drop k xs) ≡ drop k xs
-rest_is k xs = take_all (length xs - k) (drop k xs) (let l = length-drop k xs in omega arith)
 
 pub on_map : {A E : Type 0} {P Q : Type 0} (r : Result A E) → (P → Q) → OnOk r P → OnOk r Q
 on_map (Ok a) f p = f p

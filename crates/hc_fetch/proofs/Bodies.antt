@@ -6,6 +6,7 @@
 use Rattle.std.proofs.Common.{◌≡◌, ℕ, zero, suc, ◌+◌, ◌<◌, List, [], ◌∷◌, ◌++◌, length, true, Option, Some, None, refl, ap, sym, ◌∙◌, subst, arith}
 use Rattle.std.specs.Prelude.{slice_index}
 use Rattle.std.specs.Option.{option_or}
+use Rattle.hc_text.proofs.Basics.{not_some as none_some, some_inj}
 use Rattle.hc_sparse.specs.Cells.{Cells, Cell}
 use Rattle.hc_event.specs.declared.act.Act.TheVariants as act
 use Rattle.hc_rules.specs.declared.room.Limits.{Limits}
@@ -17,8 +18,7 @@ use Rattle.hc_model.specs.Reads.{Delivers, Says, body_of}
 use Rattle.hc_model.specs.Rows.{Tables}
 use Rattle.hc_model.specs.Runs.{IsRun}
 use Rattle.hc_model.specs.Tables.{tables}
-use Rattle.hc_effects.proofs.Basics.{append_none, none_some}
-use Rattle.hc_effects.proofs.PieceKeeps.{some_inj}
+use Rattle.hc_effects.proofs.Basics.{append_none}
 use Rattle.hc_laws.proofs.GrowsInRuns.{bodies_grow_in_runs}
 use Rattle.hc_laws.proofs.ReadNext.{gives_next}
 use Rattle.hc_fetch.specs.declared.plan.FetchPlan.{FetchPlan}

@@ -8,6 +8,7 @@ use Rattle.std.proofs.Common.{◌≡◌, ◌≢◌, ℕ, ◌+◌, List, [], ◌�
 use Rattle.std.specs.Prelude.{is_some, if◌then◌else◌}
 use Rattle.std.specs.Option.{option_or}
 use Rattle.std.proofs.lemmas.List.{append-nil}
+use Rattle.hc_text.proofs.Basics.{nothing_first as nothing_more}
 use Rattle.hc_event.specs.declared.act.Act.{Act}
 use Rattle.hc_event.specs.declared.act.Act.TheVariants as act
 use Rattle.hc_io.specs.Sink.{Takes}
@@ -107,10 +108,6 @@ front_of out out' f joined takes = record {
   whole = append-nil (written_last f);
   takes = subst (Takes out out') (sym joined) takes;
 }
-
-nothing_more : (part rest : List ℕ) → part ++ rest ≡ [] → part ≡ []
-nothing_more [] rest is = refl
-nothing_more (x ∷ part) rest is = absurd (let no : x ∷ (part ++ rest) ≡ [] = is in cc)
 
 all_taken : (out out' : Option (List ℕ)) (h : courses.History) (text : List ℕ) → text_of h ≡ text → text_before h ≡ text → TakesThenFront out out' (text_before h) (last_text h) → Takes out out' text
 all_taken out out' h text is before took =

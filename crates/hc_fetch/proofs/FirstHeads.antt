@@ -5,6 +5,7 @@
 use Rattle.std.proofs.Common.{◌≡◌, inl, inr, ℕ, List, [], ◌∷◌, ◌++◌, Bool, true, false, Option, Some, None, refl, ap, sym, ◌∙◌, subst}
 use Rattle.std.specs.Prelude.{◌==◌, ◌&&◌, is_none, if◌then◌else◌}
 use Rattle.std.specs.Option.{option_or}
+use Rattle.hc_text.proofs.Basics.{bool_cases, not_some as none_some, some_inj}
 use Rattle.hc_event.specs.Filters.{is_denied, shows_in}
 use Rattle.hc_event.specs.declared.act.Act.{Act}
 use Rattle.hc_event.specs.declared.act.Act.TheVariants as act
@@ -35,10 +36,9 @@ use Rattle.hc_model.specs.Runs.{IsRun}
 use Rattle.hc_model.specs.Tables.{tables, after_accepted}
 use Rattle.hc_effects.proofs.ActParts.{IsSaid, said_is}
 use Rattle.hc_effects.proofs.ActParts as parts
-use Rattle.hc_effects.proofs.Basics.{none_some, some_none, or_false}
-use Rattle.hc_effects.proofs.HoleLemmas.{bool_cases}
+use Rattle.hc_effects.proofs.Basics.{some_none, or_false}
 use Rattle.hc_effects.proofs.Owed.{acts_are, denied_shows}
-use Rattle.hc_effects.proofs.PieceKeeps.{eq_cases, some_inj}
+use Rattle.hc_effects.proofs.PieceKeeps.{eq_cases}
 use Rattle.hc_laws.proofs.TurnFacts.{IsTaken}
 use Rattle.hc_laws.proofs.AimRuns.{aims_in_runs}
 use Rattle.hc_laws.proofs.Barred.{next_tables, denied_tables}

@@ -4,6 +4,7 @@
 -- (`at_decision`), or comes from nobody and wasn't stepped (`at_foreign`). What was told is what is written of them.
 use Rattle.std.proofs.Common.{◌≡◌, ℕ, ◌+◌, List, [], ◌∷◌, ◌++◌, length, drop, Bool, true, false, Option, Some, None, refl, ap, sym, ◌∙◌, subst, arith}
 use Rattle.std.specs.Prelude.{is_some}
+use Rattle.hc_text.proofs.Basics.{drop-whole as drop_front}
 use Rattle.hc_sched.specs.declared.schedule.Timed.{Timed}
 use Rattle.hc_driver.specs.Courses as courses
 use Rattle.hc_driver.specs.Courses.{Told, Leads, text_of, text_before, last_text}
@@ -46,11 +47,6 @@ pub data IsAt (limits : Limits) (plan : FetchPlan) (u : Fetching) (h : courses.H
   at_foreign : (f : History) (next : Timed) → IsFetched limits plan f → is_undecided plan f ≡ true → written_before f ++ written_last f ≡ written_of f →
       events_in f ++ next ∷ [] ≡ courses.events_in h → text_of h ≡ written_of f → text_before h ≡ written_of f → is_foreign next.event ≡ true →
       u.decided ≡ Some (ended.Foreign (length f + 1)) → IsAt limits plan u h
-
--- the text of the last one is all that is written behind it
-drop_front : (xs ys : List ℕ) → drop (length xs) (xs ++ ys) ≡ ys
-drop_front [] ys = refl
-drop_front (x ∷ xs) ys = drop_front xs ys
 
 pub last_joined : (h : courses.History) → text_of h ≡ text_before h ++ last_text h
 last_joined [] = refl

@@ -6,6 +6,7 @@
 use Rattle.std.proofs.Common.{◌≡◌, inl, inr, ℕ, ◌+◌, ◌<◌, ◌≤◌, List, [], ◌∷◌, ◌++◌, length, true, false, refl, ap, sym, ◌∙◌, subst, arith, append_assoc, length-append}
 use Rattle.std.specs.Prelude.{◌==◌, is_some}
 use Rattle.std.proofs.lemmas.Bool.{cases_lt}
+use Rattle.hc_text.proofs.Basics.{bool_cases}
 use Rattle.hc_sparse.specs.Cells.{Cells, cells_with}
 use Rattle.hc_sparse.proofs.CellLemmas.{inside-cases}
 use Rattle.hc_event.specs.Filters.{given_in}
@@ -16,7 +17,6 @@ use Rattle.hc_model.specs.Entries.{Entry, History, no_contents}
 use Rattle.hc_model.specs.Histories.{Shown, shown_in, shown_of, given_of}
 use Rattle.hc_model.specs.Reads.{ReadsAct, ReadsActs, shown_before, given_before}
 use Rattle.hc_effects.proofs.Basics.{append_none}
-use Rattle.hc_effects.proofs.HoleLemmas.{bool_cases}
 use Rattle.hc_laws.proofs.ReadWhole.{runs_read_whole}
 use Rattle.hc_fetch.specs.declared.plan.FetchPlan.{FetchPlan}
 use Rattle.hc_fetch.specs.Fetches.{started, starts_behind, cache_history}

@@ -10,11 +10,12 @@ use Rattle.std.specs.Option.{option_or}
 use Rattle.std.proofs.Math.Seq.{drop-cons}
 use Rattle.std.proofs.lemmas.Bool.Decides.{nat_tests}
 use Rattle.std.proofs.lemmas.List.{drop_all}
+use Rattle.hc_text.proofs.Basics.{none_of as none_is, not_some as none_some, or_false, or_none}
 use Rattle.hc_sparse.specs.Cells.{Cells, cells_with}
 use Rattle.hc_event.specs.declared.act.Act.{Act}
 use Rattle.hc_event.specs.declared.act.Act.TheVariants as act
 use Rattle.hc_event.specs.declared.act.Why.{Why}
-use Rattle.hc_effects.proofs.Basics.{none_some, false_true, true_false}
+use Rattle.hc_effects.proofs.Basics.{false_true, true_false}
 use Rattle.hc_fetch.specs.declared.ended.FetchEnded.{FetchEnded}
 use Rattle.hc_fetch.specs.declared.fetching.Fetching.{Fetching}
 use Rattle.hc_fetch.specs.declared.gathering.Gathered.{Gathered}
@@ -29,14 +30,6 @@ use Rattle.hc_fetch.specs.Hearing.{KeepsOthers, Sees, AllFit, Takes}
 use Rattle.hc_fetch.proofs.Aheads.{appends_none, appends_more}
 use Rattle.hc_fetch.proofs.Overs.{appends_over}
 use Rattle.hc_fetch.proofs.Shows.{or_assoc}
-
-or_none : {A : Type 0} (q : Option A) → option_or q None ≡ q
-or_none None = refl
-or_none (Some x) = refl
-
-or_false : (b : Bool) → (b || false) ≡ b
-or_false true = refl
-or_false false = refl
 
 or_both : (a b c : Bool) → ((a || b) || c) ≡ (a || (b || c))
 or_both true b c = refl
@@ -176,10 +169,6 @@ is_other (act.Ended c) shown given ended = absurd (ended c refl)
 is_other a shown given ended = other a refl refl (λ g. refl)
 
 -- A HEAD
-
-pub none_is : {A : Type 0} (q : Option A) → is_some q ≡ false → q ≡ None
-none_is None is = refl
-none_is (Some x) is = absurd (true_false is)
 
 -- the first consumer was shown one before, or it is another's
 pub sees_same : (s : Fetching) (head : Head) (decides : Option FetchEnded) → ((first : Option Head) → s.first ≡ first_as first → decides ≡ by_head s.plan first head)

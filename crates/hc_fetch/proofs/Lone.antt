@@ -8,6 +8,7 @@ use Rattle.std.proofs.Common.{◌≡◌, inl, inr, ℕ, ◌-◌, ◌<◌, ◌^�
 use Rattle.std.specs.Prelude.{◌==◌, ◌&&◌, ◌||◌, not, codes, nat_lt, filter, find, unwrap_or, if◌then◌else◌}
 use Rattle.std.specs.Option.{option_or}
 use Rattle.std.specs.Fmt.{decimal}
+use Rattle.hc_text.proofs.Basics.{bool_cases}
 use Rattle.hc_event.specs.declared.act.Need.TheVariants as need
 use Rattle.hc_range.specs.declared.range.Asked.{Asked}
 use Rattle.hc_range.specs.declared.range.Asked.TheVariants.{FromTo}
@@ -28,7 +29,6 @@ use Rattle.hc_model.specs.Lines.{line, holder, turn_with, is_in_line, holds_turn
 use Rattle.hc_model.specs.Moves.{opens}
 use Rattle.hc_model.specs.Planning.{plan_view, planned_move}
 use Rattle.hc_model.specs.Rows.{Tables, Consumer}
-use Rattle.hc_effects.proofs.HoleLemmas.{bool_cases}
 use Rattle.hc_fetch.specs.declared.plan.FetchPlan.{FetchPlan}
 use Rattle.hc_fetch.specs.Bounds.{IsPlan}
 use Rattle.hc_fetch.specs.Plans.{first_fields, fields_for, request_of}

@@ -7,6 +7,7 @@ use Rattle.std.proofs.Common.{◌≡◌, ◌⊎◌, inl, inr, ℕ, ◌+◌, ◌<
 use Rattle.std.specs.Prelude.{◌==◌, ◌&&◌, ◌||◌, not, nat_eq, nat_le, is_none, is_some, if◌then◌else◌}
 use Rattle.std.specs.Option.{option_and_then, option_or}
 use Rattle.std.proofs.lemmas.Bool.Decides.{nat_tests}
+use Rattle.hc_text.proofs.Basics.{and_left, and_right, bool_cases, either, not_some as none_some, or_cases, some_inj, eq_is as status_is}
 use Rattle.hc_event.specs.Filters.{Opening, opening_in, leaves_in, shows_in}
 use Rattle.hc_event.specs.declared.act.Cause.{Cause}
 use Rattle.hc_event.specs.declared.act.Cause.TheVariants as cause
@@ -37,7 +38,6 @@ use Rattle.hc_rules.specs.HeadCases.{head_case, turn_case, case_on, fits_to_foun
 use Rattle.hc_rules.specs.Lengths.{length_of, is_bad}
 use Rattle.hc_rules.specs.Needs.{route_of}
 use Rattle.hc_rules.specs.Requests.{is_disabled, is_only, is_bypassing, range_of, wanted_of}
-use Rattle.hc_rules.proofs.Cond.{either}
 use Rattle.hc_model.specs.ActFilters.{Showing, showing_in, wait_in, has_loss}
 use Rattle.hc_model.specs.Aims.{Aims}
 use Rattle.hc_model.specs.Cases.{case_at, case_of, head_view, is_founding, fits_asker}
@@ -61,15 +61,13 @@ use Rattle.hc_model.specs.RepresentationRows.{new_representation, length_in}
 use Rattle.hc_model.specs.StartingOver.{starts_over, waits_at, sends_back, loses_what_it_waits_for}
 use Rattle.hc_model.specs.Tables.{after_accepted, after_denied}
 use Rattle.hc_effects.proofs.BoundFrom.{place_inj}
-use Rattle.hc_effects.proofs.Basics.{none_some, some_none, false_true, true_false, and_left, and_right, or_cases, some_row}
+use Rattle.hc_effects.proofs.Basics.{some_none, false_true, true_false, some_row}
 use Rattle.hc_effects.proofs.ExchangeFrom.{IsHeaded, ExchangeFrom, exchange_from}
 use Rattle.hc_effects.proofs.ExchangeFrom as exchange
 use Rattle.hc_effects.proofs.FirstKeeps.{case_is, is_new}
-use Rattle.hc_effects.proofs.HoleLemmas.{bool_cases}
 use Rattle.hc_effects.proofs.MoveBy.{MoveBy, IsHeard, move_by}
 use Rattle.hc_effects.proofs.MoveBy as by_move
 use Rattle.hc_effects.proofs.Owed.{acts_are, goes}
-use Rattle.hc_effects.proofs.PieceKeeps.{some_inj}
 use Rattle.hc_effects.proofs.RepFrom.{RepFrom, rep_from}
 use Rattle.hc_effects.proofs.RepFrom as rep
 use Rattle.hc_effects.proofs.Said.{shows_it, IsOpening, WaitsAs, opening_by, waiting_by}
@@ -164,9 +162,6 @@ data IsMissCase (v : HeadView) : HeadCase → Type 0 where
   founds_whole : v.status ≡ 200 → IsMissCase v case.FoundsWhole
   founds_part : v.bad ≡ false → v.status ≡ 206 → v.fits ≡ true → IsMissCase v case.FoundsRange
   passes_by : v.bad ≡ false → IsMissCase v case.PassesBy
-
-status_is : (a b : ℕ) → (a == b) ≡ true → a ≡ b
-status_is a b is = let test : nat_eq a b ≡ true = is in grind (arith, nat_tests)
 
 turn_miss : (v : HeadView) → v.conditional ≡ false → IsMissCase v (turn_case v)
 turn_miss v plain =

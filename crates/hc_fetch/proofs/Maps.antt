@@ -5,6 +5,7 @@ use Rattle.std.specs.BTreeMap.{BTreeMap, Updates, btree_map_len, get, is_at}
 use Rattle.std.specs.Map.{lookup}
 use Rattle.std.proofs.lemmas.Bool.{cases_Bool}
 use Rattle.std.proofs.lemmas.Bool.Decides.{nat_tests}
+use Rattle.hc_text.proofs.Basics.{no_entries}
 
 apart : (j k : ℕ) → (j ≡ k → ⊥) → eqb j k ≡ false
 apart j k off = grind (arith, nat_tests)
@@ -21,11 +22,6 @@ module _ {X : Type 0} (m n : BTreeMap ℕ X) (k : ℕ) (w : Option X) (updates :
     | inl less ↦ rw less refl
     | inr more ↦ rw (more, apart_back j k off) refl
   ])
-
--- nothing stands in an empty one
-no_entries : {X : Type 0} (es : List (ℕ × X)) (k : ℕ) → (0 < length es → ⊥) → lookup (is_at (nat_cmp k)) es ≡ None
-no_entries [] k none = refl
-no_entries (e ∷ es) k none = absurd (none (omega arith))
 
 pub map-empty : {X : Type 0} (m : BTreeMap ℕ X) → (0 < btree_map_len m → ⊥) → (k : ℕ) → get nat_cmp m k ≡ None
 map-empty m none k = no_entries m.entries k none

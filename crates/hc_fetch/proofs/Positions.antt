@@ -6,6 +6,7 @@ use Rattle.std.proofs.Common.{◌≡◌, ◌≢◌, inl, inr, ℕ, ◌+◌, ◌-
 use Rattle.std.specs.Prelude.{if◌then◌else◌, nat_le, nat_lt, ◌&&◌}
 use Rattle.std.proofs.lemmas.Bool.{cases_lt}
 use Rattle.std.proofs.lemmas.Bool.Decides.{nat_tests}
+use Rattle.hc_text.proofs.Basics.{and_right, not_some as none_some, some_inj}
 use Rattle.hc_sparse.specs.Cells.{Cells, Cell, EndsBy, cells_with}
 use Rattle.hc_event.specs.declared.act.Act.{Act}
 use Rattle.hc_event.specs.declared.act.Act.TheVariants as act
@@ -18,8 +19,6 @@ use Rattle.hc_model.specs.Reads.{Delivers, Says, body_of, answer_cell, direct_ce
 use Rattle.hc_model.specs.Rows.{Tables, Exchange, Representation}
 use Rattle.hc_model.specs.Runs.{IsRun}
 use Rattle.hc_model.specs.Tables.{tables}
-use Rattle.hc_effects.proofs.Basics.{none_some, and_right}
-use Rattle.hc_effects.proofs.PieceKeeps.{some_inj}
 use Rattle.hc_laws.proofs.LawfulRuns.{lawful_in_runs}
 use Rattle.hc_laws.proofs.NumberRuns.{numbers_in_runs}
 use Rattle.hc_laws.proofs.ReadNext.{gives_next}

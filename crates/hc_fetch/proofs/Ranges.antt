@@ -10,14 +10,11 @@ use Rattle.std.proofs.lemmas.List.Folds.{list_all-append}
 use Rattle.std.proofs.lemmas.Str.Parse.{digit_at}
 use Rattle.std.proofs.lemmas.Bool.Decides.{nat_tests}
 use Rattle.std.specs.Int.{IsInRange}
+use Rattle.hc_text.proofs.Basics.{and_left, some-decimal as some}
 use Rattle.http_header.specs.Token.{is_value_byte}
 use Rattle.hc_text.specs.Elements.{is_blank}
 use Rattle.hc_fields.specs.FieldList.{is_own_value, has_own_ends}
 use Rattle.hc_validate.proofs.Numbers.{own-decimal}
-use Rattle.hc_effects.proofs.Basics.{and_left}
-
-some : (n : ℕ) → n < 2 ^ 64 → 0 < length (decimal n)
-some n h = (decimal_is_IsNumeral n (omega (arith, h))).0.0
 
 values : (n : ℕ) → n < 2 ^ 64 → list_all is_value_byte (decimal n) ≡ true
 values n h = and_left (list_all is_value_byte (decimal n)) (has_own_ends (decimal n)) (own-decimal n h)

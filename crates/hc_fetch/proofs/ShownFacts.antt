@@ -8,6 +8,7 @@ use Rattle.std.specs.Prelude.{◌==◌, ◌&&◌, codes, map, filter, bytes_eq, 
 use Rattle.std.specs.Option.{option_or, option_and_then}
 use Rattle.std.specs.Fmt.{decimal}
 use Rattle.std.proofs.lemmas.Bool.Decides.{nat_tests}
+use Rattle.hc_text.proofs.Basics.{bool_cases, not_some as none_some, same_bytes as same_name, some_inj}
 use Rattle.hc_fields.specs.FieldList.{comes_before, field_list_with, has_name, values_of, without}
 use Rattle.hc_fields.specs.FirstValues.{only_of}
 use Rattle.hc_range.specs.declared.range.ContentRange.{ContentRange}
@@ -39,10 +40,8 @@ use Rattle.hc_model.specs.Reading.{hi_of, end_in, end_of_direct}
 use Rattle.hc_model.specs.Reads.{end_by}
 use Rattle.hc_model.specs.Rows.{Tables, Exchange, Representation, Consumer}
 use Rattle.hc_model.specs.Sound as sound
-use Rattle.hc_effects.proofs.Basics.{none_some, false_true, some_row}
-use Rattle.hc_effects.proofs.HoleLemmas.{bool_cases}
+use Rattle.hc_effects.proofs.Basics.{false_true, some_row}
 use Rattle.hc_effects.proofs.PartTold.{part_within, whole_base}
-use Rattle.hc_effects.proofs.PieceKeeps.{some_inj}
 use Rattle.hc_laws.proofs.SoundRuns.{IsCarried}
 use Rattle.hc_fetch.specs.declared.plan.FetchPlan.{FetchPlan}
 use Rattle.hc_fetch.specs.Heads.{Head, total_of, total_by}
@@ -50,9 +49,6 @@ use Rattle.hc_fetch.proofs.Ends.{KnownEnd, KnownHead}
 use Rattle.hc_fetch.proofs.LoneRuns.{IsLone}
 
 -- A FIELD THAT STANDS ONCE
-
-same_name : (name : List ℕ) → bytes_eq name name ≡ true
-same_name name = bytes_eq-same name name refl
 
 none_left : (name : List ℕ) (fs : FieldPairs) → filter (has_name name) (without name fs) ≡ []
 none_left name [] = refl

@@ -7,6 +7,7 @@
 use Rattle.std.proofs.Common.{◌≡◌, ℕ, zero, suc, ◌+◌, ◌≤◌, List, [], ◌∷◌, ◌++◌, length, Bool, true, false, Option, Some, None, refl, ap, sym, ◌∙◌, subst, arith}
 use Rattle.std.specs.Prelude.{if◌then◌else◌, is_none, ◌&&◌, ◌==◌, filter}
 use Rattle.std.specs.Option.{option_or}
+use Rattle.hc_text.proofs.Basics.{filter_short as few_pass}
 use Rattle.hc_event.specs.Filters.{is_denied}
 use Rattle.hc_event.specs.Counting as counting
 use Rattle.hc_event.specs.declared.event.Event.{Event}
@@ -58,14 +59,6 @@ unfolding tables
 none_started = record { last = omega arith; starts = omega arith }
 
 -- HOW MANY ARE LIVE
-
-few_pass : (p : ℕ → Bool) (xs : List ℕ) → length (filter p xs) ≤ length xs
-few_pass p [] = omega arith
-few_pass p (x ∷ xs) = by_test (p x) (few_pass p xs)
-  where
-    by_test : (b : Bool) → length (filter p xs) ≤ length xs → length (if b then x ∷ filter p xs else filter p xs) ≤ suc (length xs)
-    by_test true rest = omega (arith, rest)
-    by_test false rest = omega (arith, rest)
 
 pub few_live : (h : History) (n : ℕ) → HasStarted h n → live (tables no_contents h) ≤ n
 few_live h n has =

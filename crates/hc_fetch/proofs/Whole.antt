@@ -7,6 +7,7 @@
 use Rattle.std.proofs.Common.{◌≡◌, ◌⊎◌, inl, inr, ℕ, zero, suc, ◌+◌, ◌<◌, ◌≤◌, List, [], ◌∷◌, ◌++◌, length, true, false, Option, Some, None, refl, ap, sym, ◌∙◌, subst, arith, length-append}
 use Rattle.std.specs.Prelude.{◌==◌, ◌||◌, is_some, if◌then◌else◌}
 use Rattle.std.specs.Option.{option_or}
+use Rattle.hc_text.proofs.Basics.{bool_cases, nil_cons, not_some as none_some, some_inj}
 use Rattle.hc_sparse.specs.Cells.{Cells, Cell, cells_with}
 use Rattle.hc_event.specs.declared.act.Act.{Act}
 use Rattle.hc_event.specs.declared.act.Act.TheVariants as act
@@ -17,10 +18,8 @@ use Rattle.hc_model.specs.Histories.{Shown, shown_in, shown_of, given_of}
 use Rattle.hc_model.specs.Reads.{Says, IsEnd, end_of}
 use Rattle.hc_model.specs.Runs.{IsRun}
 use Rattle.hc_model.specs.Tables.{tables}
-use Rattle.hc_effects.proofs.Basics.{append_none, none_some, false_true, or_false}
-use Rattle.hc_effects.proofs.HoleLemmas.{bool_cases}
+use Rattle.hc_effects.proofs.Basics.{append_none, false_true, or_false}
 use Rattle.hc_laws.proofs.OneHead.{one_head_is_shown}
-use Rattle.hc_effects.proofs.PieceKeeps.{some_inj}
 use Rattle.hc_laws.proofs.ReadEnds.{ends_well}
 use Rattle.hc_fetch.specs.declared.ended.FetchEnded.TheVariants as ended
 use Rattle.hc_fetch.specs.declared.plan.FetchPlan.{FetchPlan}
@@ -38,9 +37,6 @@ use Rattle.hc_fetch.proofs.Shows.{started_shows}
 use Rattle.hc_fetch.proofs.ShownFacts.{TellsPart, tells_part, FirstShown}
 
 -- LISTS OF ACTS
-
-nil_cons : {A : Type 0} (x : A) (xs : List A) → [] ≡ x ∷ xs → ⊥
-nil_cons x xs is = cc
 
 one_inj : (x y : Shown) → x ∷ [] ≡ y ∷ [] → x ≡ y
 one_inj x y is = cc

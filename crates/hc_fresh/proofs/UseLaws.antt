@@ -2,6 +2,7 @@
 use Rattle.std.proofs.Common.{◌≡◌, ◌≢◌, ◌⊎◌, ℕ, ◌+◌, ◌-◌, ◌<◌, ◌≤◌, Bool, true, false, cond, eqb, leb, ltb, Option, Some, None, refl, inl, inr, arith, subst}
 use Rattle.std.specs.Prelude.{IfSome, ◌||◌}
 use Rattle.std.proofs.lemmas.Bool.Decides.{nat_tests}
+use Rattle.hc_text.proofs.Basics.{either, leb-le, ltb-le, ltb-lt}
 use Rattle.hc_event.specs.declared.event.Load.{Load}
 use Rattle.hc_event.specs.declared.event.Load.TheVariants as load
 use Rattle.hc_event.specs.declared.event.Request.{Request}
@@ -15,24 +16,10 @@ use Rattle.hc_fresh.specs.Facts.{allowed}
 use Rattle.hc_fresh.specs.Lifetimes.{lifetime}
 use Rattle.hc_fresh.specs.Laws.{AcceptsStale, IsRightUse, NeedsNone, UsesAreRight}
 
--- what holds of each side holds of the choice
-either : {A : Type 0} (P : A → Type 0) (b : Bool) (x y : A) → (b ≡ true → P x) → (b ≡ false → P y) → P (cond b x y)
-either P true x y then else = then refl
-either P false x y then else = else refl
-
 -- what an answer says, where there is one
 abbrev IsRight : Head → Request → ℕ → Option Why → Type 0
 IsRight head request now None = Unit {0}
 IsRight head request now (Some reason) = IsRightUse head request now reason
-
-ltb-lt : (m n : ℕ) → ltb m n ≡ true → m < n
-ltb-lt m n h = grind (arith, nat_tests)
-
-ltb-le : (m n : ℕ) → ltb m n ≡ false → n ≤ m
-ltb-le m n h = grind (arith, nat_tests)
-
-leb-le : (m n : ℕ) → leb m n ≡ true → m ≤ n
-leb-le m n h = grind (arith, nat_tests)
 
 not_zero : (most : Option ℕ) → is_zero most ≡ false → most ≢ Some 0
 not_zero most h e = let z : true ≡ false = rw e at h in absurd (cc)

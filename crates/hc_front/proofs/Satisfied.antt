@@ -8,6 +8,7 @@ use Rattle.std.proofs.Common.{◌≡◌, ◌⊎◌, inl, inr, ℕ, ◌+◌, ◌�
 use Rattle.std.specs.Prelude.{◌&&◌, ◌||◌, not, nat_eq, nat_lt, if◌then◌else◌}
 use Rattle.std.specs.List.{list_any}
 use Rattle.std.proofs.lemmas.Bool.Decides.{nat_tests}
+use Rattle.hc_text.proofs.Basics.{bool_cases}
 use Rattle.hc_event.specs.Filters.{is_denied, given_in}
 use Rattle.hc_event.specs.declared.act.Act.{Act}
 use Rattle.hc_event.specs.declared.act.Act.TheVariants as act
@@ -37,7 +38,6 @@ use Rattle.hc_effects.proofs.ActParts.{far_closing, far_lost_only}
 use Rattle.hc_effects.proofs.Basics.{some_none}
 use Rattle.hc_effects.proofs.EventsKeep.{poll_live}
 use Rattle.hc_effects.proofs.Givers.{some_want}
-use Rattle.hc_effects.proofs.HoleLemmas.{bool_cases}
 use Rattle.hc_laws.proofs.OneHead.{one_head_is_shown}
 use Rattle.hc_effects.proofs.Owed as owed_by
 use Rattle.hc_effects.proofs.Owed.{IsDenied, is_denial, goes, acts_are, denied_gives}

@@ -9,6 +9,7 @@ use Rattle.std.specs.Prelude.{◌&&◌, ◌||◌, not, nat_eq, nat_le, if◌then
 use Rattle.std.specs.List.{list_any}
 use Rattle.std.proofs.lemmas.Bool.{eqb-true, both_ways}
 use Rattle.std.proofs.lemmas.Bool.Decides.{nat_tests}
+use Rattle.hc_text.proofs.Basics.{eq_itself as itself}
 use Rattle.hc_event.specs.Filters.{is_denied, leaves_in}
 use Rattle.hc_event.specs.declared.act.Act.{Act}
 use Rattle.hc_event.specs.declared.act.Refusal.TheVariants as refusal
@@ -82,9 +83,6 @@ one_and_others d P own others c = by_test (nat_eq c d) refl
 
 pub other_way : (c d : ℕ) → nat_eq c d ≡ false → nat_eq d c ≡ false
 other_way c d off = grind (arith, nat_tests, off)
-
-pub itself : (d : ℕ) → nat_eq d d ≡ true
-itself d = grind (arith, nat_tests)
 
 abbrev whom : Event → ℕ
 whom (event.Poll c want) = c

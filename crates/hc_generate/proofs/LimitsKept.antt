@@ -5,6 +5,7 @@ use Rattle.std.proofs.lemmas.Bool.Decides.{nat_tests}
 use Rattle.std.specs.Prelude.{codes, bytes_eq, nat_le, nat_lt, ◌==◌, ◌&&◌, if◌then◌else◌, drop, take}
 use Rattle.std.specs.Fmt.{decimal}
 use Rattle.std.specs.Str.Parse.{digits_value}
+use Rattle.hc_text.proofs.Basics.{and_right as both, some_same as some_is}
 use Rattle.hc_event.specs.declared.event.Request.{Request}
 use Rattle.hc_fields.specs.FieldList.{IsWithinLimits, size_of}
 use Rattle.hc_range.specs.declared.range.Asked.{Asked}
@@ -25,16 +26,9 @@ use Rattle.hc_generate.proofs.RangeTexts.{short-range}
 
 -- HOW LONG A REPRESENTATION IS
 
-some_is : (v n : ℕ) → Some v ≡ Some n → v ≡ n
-some_is v n is = cc
-
 then_some : (b : Bool) (o : Option ℕ) (n : ℕ) → (if b then o else None) ≡ Some n → (b ≡ true) × (o ≡ Some n)
 then_some true o n is = (refl, is)
 then_some false o n is = absurd (let never : None ≡ Some n = is in cc)
-
-both : (a b : Bool) → (a && b) ≡ true → b ≡ true
-both true b on = on
-both false b on = absurd (let never : false ≡ true = on in cc)
 
 in_small : (text : List ℕ) (n : ℕ) → size_in text ≡ Some n → n ≤ 1048576
 in_small text n is =

@@ -2,6 +2,7 @@
 use Rattle.std.proofs.Common.{◌≡◌, ℕ, ◌<◌, ◌≤◌, List, [], ◌++◌, length, drop, length-drop, refl, sym, ap, subst, ◌∙◌, inl, inr, arith}
 use Rattle.std.specs.Prelude.{Option, Some, Result, Err}
 use Rattle.std.proofs.lemmas.List.{drop_all, append-nil}
+use Rattle.hc_text.proofs.Basics.{same_some as same_value}
 use Rattle.httparse.specs.Grammar.{RequestHead, ReadsRequest}
 use Rattle.httparse.proofs.GrammarLemmas.{request_unique}
 use Rattle.hc_head.specs.declared.message.MsgError.{MsgError}
@@ -49,9 +50,6 @@ whole_call text len method target minor fields h result reads whole few method_i
       gives = subst (Gives result) same gives;
       comes = inl (h, record { reads = subst (λ (rest : List ℕ). ReadsRequest text h rest) (drop_all len text whole) reads; few = few }, refl);
     }
-
-pub same_value : {A : Type 0} (o : Option A) (a b : A) → o ≡ Some a → o ≡ Some b → a ≡ b
-same_value o a b x y = cc
 
 -- it comes to one thing
 pub asked_one : (text : List ℕ) (a b : Asked) → IsAskedBy text a → IsAskedBy text b → a ≡ b

@@ -6,6 +6,7 @@ use Rattle.std.proofs.lemmas.Bool.{cases_Bool, ne_eqb}
 use Rattle.std.proofs.lemmas.List.Sums.{list_all-from_AllPass, sum_by-cons}
 use Rattle.std.proofs.lemmas.List.{length-reverse, reverse-append, reverse-reverse, get_or_append_left}
 use Rattle.std.proofs.Math.Seq.{get_or-append_seam}
+use Rattle.hc_text.proofs.Basics.{cond_either}
 use Rattle.http_header.specs.Token.{lowercase}
 use Rattle.http_header.specs.Token as header
 use Rattle.httparse.specs.Grammar as grammar
@@ -66,10 +67,6 @@ size_fields (f ∷ fs) =
     let lower = lower_len f.name in
     rw (sum_by-cons (λ (g : List ℕ × List ℕ). length g.0 + length g.1) (lowercase_field (name_and_value f)) (fields_of fs))
     (simp length-append (omega (arith, value, rest, lower)))
-
-cond_either : (b : Bool) → (b || true) ≡ true
-cond_either true = refl
-cond_either false = refl
 
 -- a value has no blanks at its ends
 skip_suffix : (xs : List ℕ) → (p : List ℕ) × (xs ≡ p ++ skip_ows xs)

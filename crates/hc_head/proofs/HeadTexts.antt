@@ -11,10 +11,11 @@ use Rattle.std.proofs.lemmas.List.{append-nil}
 use Rattle.std.proofs.lemmas.List.Elements.{All-cons, All-head, All-tail}
 use Rattle.std.proofs.lemmas.List.Sums.{AllPass-from_list_all, list_all-from_AllPass}
 use Rattle.std.proofs.lemmas.Slice.Eq.{bytes_eq-Decides}
+use Rattle.hc_text.proofs.Basics.{mapped_from, not_some, some_inj as some_same}
 use Rattle.httparse.specs.Grammar.{LineEnd, print_end, print_blank, print_version, Field, print_field, IsField, print_section, is_token, is_token_byte, is_value_byte}
 use Rattle.httparse.proofs.GrammarLemmas.{cons-append}
 use Rattle.hc_head.specs.HeadLines.{Line, lines_behind, is_empty, blank_in, behind_blank, is_not, has_byte, before, behind, minor_of, is_field, if_field, field_of, Section, with_field, section_of}
-use Rattle.hc_head.proofs.LineTexts.{is_plain, all_not, all_plain, plain_append, print_line, line_printed, not_some, some_same, mapped_from, cut_before, cut_behind, cut_has, cut_makes}
+use Rattle.hc_head.proofs.LineTexts.{is_plain, all_not, all_plain, plain_append, print_line, line_printed, cut_before, cut_behind, cut_has, cut_makes}
 
 -- what stands behind another thing that is found
 pub bound_from : {A B : Type 0} (f : A → Option B) (o : Option A) (b : B) → option_and_then f o ≡ Some b → (a : A) × (o ≡ Some a) × (f a ≡ Some b)

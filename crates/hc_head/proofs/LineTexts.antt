@@ -8,6 +8,7 @@ use Rattle.std.specs.List.{list_all, prefix_len, flat_map}
 use Rattle.std.proofs.lemmas.Bool.{cases_Bool, and_parts, eqb-true, eq-eqb, false_from_ne_true, ne_eqb, lt-ltb}
 use Rattle.std.proofs.lemmas.List.{append-nil, take_at, drop_at, take-append-drop}
 use Rattle.std.proofs.lemmas.Slice.Eq.{bytes_eq-Decides}
+use Rattle.hc_text.proofs.Basics.{mapped_from, not_some, some_inj as some_same}
 use Rattle.httparse.specs.Grammar.{LineEnd, crlf, lf, print_end}
 use Rattle.hc_head.specs.HeadLines.{Line, front, line_of, with_line, lines_behind, is_not, has_byte, before, behind}
 
@@ -104,17 +105,6 @@ line_made text = elim (cases_Bool (bytes_eq (drop (length text - 1) text) (13 �
       rw hit (ap (λ (l : List ℕ). front text ++ (l ++ 10 ∷ [])) (sym last) ∙ sym (append_assoc (front text) (drop (length text - 1) text) (10 ∷ [])) ∙ ap (λ (l : List ℕ). l ++ 10 ∷ []) (take-append-drop (length text - 1) text)))
   | inr miss ↦ rw miss refl
 ]
-
-pub not_some : {A : Type 0} (a : A) → None ≡ Some a → ⊥
-not_some a h = cc
-
-pub some_same : {A : Type 0} (a b : A) → Some a ≡ Some b → a ≡ b
-some_same a b h = cc
-
--- what a map gave comes from something
-pub mapped_from : {A B : Type 0} (f : A → B) (o : Option A) (b : B) → option_map f o ≡ Some b → (a : A) × (o ≡ Some a) × (f a ≡ b)
-mapped_from f None b h = absurd (not_some b h)
-mapped_from f (Some a) b h = (a, refl, some_same (f a) b h)
 
 pub lines_make : (text bytes : List ℕ) (lines : List Line) → lines_behind text bytes ≡ Some lines → text ++ bytes ≡ flat_map print_line lines
 lines_make [] [] lines h = ap (flat_map print_line) (some_same [] lines h)

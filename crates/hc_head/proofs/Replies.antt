@@ -2,6 +2,7 @@
 use Rattle.std.proofs.Common.{◌≡◌, ℕ, ◌<◌, ◌≤◌, Bool, List, [], ◌++◌, length, drop, length-drop, refl, sym, ap, subst, ◌∙◌, inl, inr, arith}
 use Rattle.std.specs.Prelude.{Option, Some, Result, Err}
 use Rattle.std.proofs.lemmas.List.{drop_all, append-nil}
+use Rattle.hc_text.proofs.Basics.{same_consumer as same_some}
 use Rattle.httparse.specs.Grammar.{ResponseHead, ReadsResponse, status_code}
 use Rattle.httparse.proofs.GrammarLemmas.{response_unique}
 use Rattle.hc_head.specs.declared.message.MsgError.{MsgError}
@@ -47,9 +48,6 @@ whole_reply told text len status fields h result reads whole few status_is field
       (subst (λ (n : ℕ). Hears result (heard_of told n fields)) status_is hears);
   comes = inl (h, record { reads = subst (λ (rest : List ℕ). ReadsResponse text h rest) (drop_all len text whole) reads; few = few }, refl);
 }
-
-pub same_some : (o : Option ℕ) (a b : ℕ) → o ≡ Some a → o ≡ Some b → a ≡ b
-same_some o a b x y = cc
 
 -- it comes to one thing
 pub heard_one : (told : Bool) (text : List ℕ) (a b : Heard) → IsHeardIn told text a → IsHeardIn told text b → a ≡ b

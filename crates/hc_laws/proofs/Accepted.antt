@@ -2,6 +2,7 @@
 use Rattle.std.proofs.Common.{◌≡◌, ◌<◌, ℕ, Bool, true, false, Option, Some, None, refl, ap, sym, ◌∙◌, arith}
 use Rattle.std.specs.Prelude.{◌&&◌, not, is_some, nat_eq, nat_le, if◌then◌else◌}
 use Rattle.std.proofs.lemmas.Bool.Decides.{nat_tests}
+use Rattle.hc_text.proofs.Basics.{eq_itself as itself, and_off as shut_by, true_false}
 use Rattle.hc_event.specs.Filters.{closes_in, is_denied}
 use Rattle.hc_event.specs.declared.act.Refusal.{Refusal}
 use Rattle.hc_event.specs.declared.event.Event.{Event}
@@ -22,9 +23,6 @@ use Rattle.hc_model.specs.Runs.{IsOwed}
 use Rattle.hc_model.specs.Tables.{after, after_accepted, after_denied}
 use Rattle.hc_laws.proofs.Undenied.{undenied}
 
-true_false : {A : Type 0} → true ≡ false → A
-true_false h = absurd (let never : true ≡ false = h in cc)
-
 module _ (limits : Limits) (t : Tables) (e : Entry) (is : IsOwed limits t e) where
   -- an event that no refusal applies to
   pub is_accepted : denial t e.event ≡ None → is_denied e.acts ≡ false
@@ -41,13 +39,6 @@ module _ (limits : Limits) (t : Tables) (e : Entry) (is : IsOwed limits t e) whe
 
 opened_as : (w : Exchange) → w.is_open ≡ true → as_open (Some w) ≡ Some (open_exchange w)
 opened_as w h = rw h refl
-
-shut_by : (a b : Bool) → b ≡ false → (a && b) ≡ false
-shut_by true b h = h
-shut_by false b h = refl
-
-itself : (n : ℕ) → nat_eq n n ≡ true
-itself n = grind (arith, nat_tests)
 
 module _ (limits : Limits) (t : Tables) (e : Entry) (is : IsOwed limits t e) (x : ℕ) (w : Exchange) (row : t.exchange x ≡ Some w) (runs : w.is_open ≡ true) where
   row_behind : denial t e.event ≡ None → (after t e).exchange x ≡ Some (exchange_acted x e.acts (exchange_heard t e x e.event w))

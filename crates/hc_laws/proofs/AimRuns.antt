@@ -2,6 +2,7 @@
 use Rattle.std.proofs.Common.{◌≡◌, ℕ, Bool, true, false, Option, Some, None, refl, ap, sym, ◌∙◌, subst}
 use Rattle.std.specs.Prelude.{is_some, ◌==◌, ◌&&◌, not}
 use Rattle.std.specs.Option.{option_map, option_and_then}
+use Rattle.hc_text.proofs.Basics.{not_some as none_some}
 use Rattle.hc_event.specs.declared.event.Event.{Event}
 use Rattle.hc_event.specs.declared.act.Need.{Need}
 use Rattle.hc_event.specs.declared.act.Need.TheVariants as need
@@ -28,7 +29,7 @@ use Rattle.hc_model.specs.Sound.{Sound}
 use Rattle.hc_model.specs.Tables.{tables, after_accepted}
 use Rattle.hc_laws.proofs.Aimed.{aim_free}
 use Rattle.hc_effects.proofs.Asked.{Asked, HasCandidate}
-use Rattle.hc_effects.proofs.Basics.{none_some, some_none, some_row, false_true}
+use Rattle.hc_effects.proofs.Basics.{some_none, some_row, false_true}
 use Rattle.hc_effects.proofs.ExchangeFrom.{ExchangeFrom, exchange_from}
 use Rattle.hc_effects.proofs.ExchangeFrom as exchange
 use Rattle.hc_laws.proofs.InRuns.{one_key_in_runs}

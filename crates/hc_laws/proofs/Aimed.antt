@@ -1,5 +1,6 @@
 -- What an exchange joined is what it is about, and the exchange of a first hole is about what its consumer is bound to.
 use Rattle.std.proofs.Common.{◌≡◌, ◌⊎◌, inl, inr, ℕ, List, Bool, true, false, cond, Option, Some, None, refl, ap, sym, ◌∙◌}
+use Rattle.hc_text.proofs.Basics.{not_some as none_some, same_some as same_row}
 use Rattle.hc_event.specs.declared.event.Event.{Event}
 use Rattle.hc_event.specs.declared.event.Request.{Request}
 use Rattle.hc_rules.specs.declared.room.Limits.{Limits}
@@ -19,7 +20,6 @@ use Rattle.hc_model.specs.Reading.{bound_to}
 use Rattle.hc_model.specs.Rows.{Tables, Exchange, Consumer}
 use Rattle.hc_model.specs.Sound.{Sound}
 use Rattle.hc_model.specs.Tables.{first_tables, after_accepted, after_denied}
-use Rattle.hc_effects.proofs.Basics.{none_some}
 use Rattle.hc_effects.proofs.BoundFrom.{BoundFrom, bound_from}
 use Rattle.hc_effects.proofs.BoundFrom as from
 use Rattle.hc_effects.proofs.ExchangeFrom.{ExchangeFrom, IsSame, IsHeaded, exchange_from}
@@ -27,7 +27,6 @@ use Rattle.hc_effects.proofs.ExchangeFrom as exchange
 use Rattle.hc_effects.proofs.FirstKeeps.{is_new, is_opener}
 use Rattle.hc_effects.proofs.Forward.{is_on, opened_on}
 use Rattle.hc_effects.proofs.OwnersKeep.{new_number}
-use Rattle.hc_effects.proofs.ExclusiveWriters.{same_row}
 
 pub record IsAimed (t : Tables) : Type 0 where
   pub first : (c r lo y : ℕ) (hi : Option ℕ) (k : Consumer) (w : Exchange) → t.consumer c ≡ Some k → k.place ≡ place.Bound r lo hi (by.FirstHole y) → t.exchange y ≡ Some w → w.aim ≡ Some r

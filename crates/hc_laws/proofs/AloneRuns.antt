@@ -1,6 +1,7 @@
 -- Who writes alone is the only one that is bound, in every run.
 use Rattle.std.proofs.Common.{◌≡◌, ◌<◌, inl, inr, ℕ, ◌+◌, List, [], ◌∷◌, Bool, true, false, Option, Some, None, refl, ap, sym, ◌∙◌, arith}
 use Rattle.std.specs.Prelude.{◌↔◌, filter, is_some, is_none}
+use Rattle.hc_text.proofs.Basics.{all_three, bool_cases, not_some as none_some, same_some as same_row}
 use Rattle.hc_event.specs.declared.act.Cause.{Cause}
 use Rattle.hc_sparse.specs.Cells.{EndsBy}
 use Rattle.hc_event.specs.declared.place.Place.TheVariants as place
@@ -15,16 +16,16 @@ use Rattle.hc_model.specs.Sound.{Sound, Among, IsBound, IsFirst}
 use Rattle.hc_model.specs.Sound as sound
 use Rattle.hc_model.specs.Tables.{tables, after_denied}
 use Rattle.hc_model.specs.Writers.{came_alone, exclusive, has_more}
-use Rattle.hc_effects.proofs.Basics.{false_true, none_some}
+use Rattle.hc_effects.proofs.Basics.{false_true}
 use Rattle.hc_laws.proofs.DeniedKeeps.{written_same}
 use Rattle.hc_effects.proofs.Exclusives.{IsExclusive, exclusive_parts}
 use Rattle.hc_effects.proofs.HasBound.{bound_row}
-use Rattle.hc_effects.proofs.HoleLemmas.{bool_cases, covers_yes}
+use Rattle.hc_effects.proofs.HoleLemmas.{covers_yes}
 use Rattle.hc_effects.proofs.HolesOpened.{stored_ends}
 use Rattle.hc_effects.proofs.Losses.{exclusive_is}
-use Rattle.hc_laws.proofs.Lone.{AreLone, IsResting, lone_kept, all_three}
+use Rattle.hc_laws.proofs.Lone.{AreLone, IsResting, lone_kept}
 use Rattle.hc_laws.proofs.OrderRuns.{order_in_runs}
-use Rattle.hc_effects.proofs.ExclusiveWriters.{same_row, eq-refl}
+use Rattle.hc_effects.proofs.ExclusiveWriters.{eq-refl}
 use Rattle.hc_effects.proofs.PieceKeeps.{eq_cases}
 use Rattle.hc_laws.proofs.RunFacts.{in_runs}
 use Rattle.hc_laws.proofs.SoundRuns.{carried}

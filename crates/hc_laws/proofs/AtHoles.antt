@@ -3,6 +3,7 @@
 -- Such an exchange was opened where its consumer stood, which is where the hole begins, and isn't empty. Until its head comes
 -- the consumer is given nothing, and the exchange asks for the same hole.
 use Rattle.std.proofs.Common.{◌≡◌, ℕ, ◌+◌, ◌<◌, ◌≤◌, [], ◌∷◌, Bool, true, false, Option, Some, None, refl, ap, sym, ◌∙◌, subst, arith}
+use Rattle.hc_text.proofs.Basics.{not_some as none_some, same_some as same_row, some_inj}
 use Rattle.hc_event.specs.Filters.{Opening, opening_in, is_denied}
 use Rattle.hc_event.specs.declared.act.Need.{Need}
 use Rattle.hc_event.specs.declared.act.Need.TheVariants as need
@@ -28,14 +29,13 @@ use Rattle.hc_model.specs.Sound.{Sound, IsBound, InHole}
 use Rattle.hc_model.specs.Sound as sound
 use Rattle.hc_model.specs.Tables.{tables, after_accepted, after_denied}
 use Rattle.hc_laws.proofs.Barred.{next_tables, denied_tables}
-use Rattle.hc_effects.proofs.Basics.{none_some, true_false}
-use Rattle.hc_effects.proofs.ExclusiveWriters.{bound_some, same_row}
+use Rattle.hc_effects.proofs.Basics.{true_false}
+use Rattle.hc_effects.proofs.ExclusiveWriters.{bound_some}
 use Rattle.hc_effects.proofs.HoleLemmas.{hole_some}
 use Rattle.hc_laws.proofs.InRuns.{turned_in_runs}
 use Rattle.hc_effects.proofs.KeysKeep.{same_exchange}
 use Rattle.hc_effects.proofs.OpensFrom.{IsHole, hole_is, opens_hole}
 use Rattle.hc_effects.proofs.Owed.{goes}
-use Rattle.hc_effects.proofs.PieceKeeps.{some_inj}
 use Rattle.hc_effects.proofs.PollTree.{OpensHole}
 use Rattle.hc_effects.proofs.PollTree as tree
 use Rattle.hc_effects.proofs.Said.{OpensBy, opening_by}

@@ -2,6 +2,7 @@
 use Rattle.std.proofs.Common.{◌≡◌, ◌≢◌, ◌⊎◌, inl, inr, ℕ, ◌+◌, ◌<◌, ◌≤◌, List, ◌∷◌, Bool, true, false, Option, Some, None, refl, ap, sym, ◌∙◌, subst, arith}
 use Rattle.std.specs.Prelude.{◌||◌, nat_eq, if◌then◌else◌}
 use Rattle.std.specs.Option.{option_map}
+use Rattle.hc_text.proofs.Basics.{bool_cases, not_some as none_some, never_true as not_true, same_some as same_row}
 use Rattle.hc_event.specs.Filters.{Opening, opening_in, is_denied}
 use Rattle.hc_event.specs.declared.event.Event.TheVariants as event
 use Rattle.hc_event.specs.declared.event.Request.{Request}
@@ -38,7 +39,6 @@ use Rattle.hc_model.specs.Runs.{IsOwed}
 use Rattle.hc_model.specs.Sound.{Sound, IsBound}
 use Rattle.hc_model.specs.Sound as sound
 use Rattle.hc_model.specs.Tables.{tables, after, after_accepted, after_denied, representation_of_content, opened_after}
-use Rattle.hc_effects.proofs.Basics.{none_some}
 use Rattle.hc_effects.proofs.BoundFrom.{BoundFrom, bound_from}
 use Rattle.hc_effects.proofs.BoundFrom as from
 use Rattle.hc_effects.proofs.BoundKeeps.{founding_is, planned_at}
@@ -46,10 +46,8 @@ use Rattle.hc_effects.proofs.CurrentKeeps.{current_is, WasOrFounded, was_or_foun
 use Rattle.hc_effects.proofs.CurrentKeeps as current
 use Rattle.hc_effects.proofs.KeysKeep.{same_exchange}
 use Rattle.hc_model.specs.StartingOver.{awaited_exchange}
-use Rattle.hc_effects.proofs.ExclusiveWriters.{same_row}
-use Rattle.hc_effects.proofs.HoleLemmas.{bool_cases}
 use Rattle.hc_effects.proofs.Joining.{mix}
-use Rattle.hc_effects.proofs.KeyNames.{not_true, key_is, opener_key}
+use Rattle.hc_effects.proofs.KeyNames.{key_is, opener_key}
 use Rattle.hc_effects.proofs.Owed.{goes}
 use Rattle.hc_effects.proofs.PieceKeeps.{eq_cases}
 use Rattle.hc_effects.proofs.PollKeeps.{current_stays}

@@ -3,6 +3,7 @@ use Rattle.std.proofs.Common.{◌≡◌, inl, inr, ℕ, ◌-◌, ◌<◌, ◌≤
 use Rattle.std.specs.Prelude.{is_some, find, map, reverse, option_map, nat_eq}
 use Rattle.std.proofs.lemmas.Bool.Decides.{nat_tests}
 use Rattle.std.proofs.lemmas.List.{reverse-append}
+use Rattle.hc_text.proofs.Basics.{bool_cases, not_some as none_some, some_inj}
 use Rattle.hc_sparse.specs.Cells.{EndsBy}
 use Rattle.hc_sparse.specs.Runs.{cells_of, end_of}
 use Rattle.hc_sparse.specs.declared.run.Run.{Run}
@@ -14,9 +15,7 @@ use Rattle.hc_model.specs.Rows.{Representation, Consumer}
 use Rattle.hc_model.specs.Sound.{Waits, Sound, Numbered, OneAbout, Writes, Among, IsAbout, IsBound, IsFirst, IsSoundRepresentation}
 use Rattle.hc_model.specs.Tables.{first_tables, representation_of_content, last_end, numbers}
 use Rattle.hc_model.specs.Sound as sound
-use Rattle.hc_effects.proofs.Basics.{false_true, none_some}
-use Rattle.hc_effects.proofs.HoleLemmas.{bool_cases}
-use Rattle.hc_effects.proofs.PieceKeeps.{some_inj}
+use Rattle.hc_effects.proofs.Basics.{false_true}
 
 -- a row of the begun tables is a loaded item
 record IsLoaded (contents : Contents) (r : ℕ) (v : Representation) : Type 0 where

@@ -2,6 +2,7 @@
 use Rattle.std.proofs.Common.{◌≡◌, inl, inr, ℕ, List, Bool, true, false, Option, Some, None, refl, ap, sym, ◌∙◌, arith}
 use Rattle.std.specs.Prelude.{◌+◌, is_none, min, nat_le, nat_eq, not, unwrap_or, ◌&&◌}
 use Rattle.std.specs.Option.{option_or}
+use Rattle.hc_text.proofs.Basics.{and_left, and_right, either, not_true}
 use Rattle.hc_event.specs.declared.act.Need.TheVariants as need
 use Rattle.hc_event.specs.declared.act.Why.{Why}
 use Rattle.hc_range.specs.declared.range.Span.{Span}
@@ -14,7 +15,6 @@ use Rattle.hc_rules.specs.declared.request.Wanted.TheVariants as wanted
 use Rattle.hc_rules.specs.Least.{least, lesser}
 use Rattle.hc_rules.specs.Plans.{plan_of, bare_plan, in_time, from_store, queues, by_current, by_why, by_wanted, by_exclusive, by_hole, by_bound, why_by}
 use Rattle.hc_rules.specs.Requests.{is_disabled, is_only}
-use Rattle.hc_rules.proofs.Cond.{either}
 use Rattle.hc_rules.proofs.RangeReads.{same_bytes}
 use Rattle.hc_event.specs.declared.place.Place.{Place}
 use Rattle.hc_event.specs.declared.place.Place.TheVariants as place
@@ -22,7 +22,7 @@ use Rattle.hc_model.specs.Denials.{is_live_place}
 use Rattle.hc_model.specs.Lines.{turn, turn_with, holder, holds_turn, line, is_in_line, stands_in_line}
 use Rattle.hc_model.specs.Rows.{Tables, Consumer}
 use Rattle.hc_model.specs.Sound.{Among}
-use Rattle.hc_effects.proofs.Basics.{false_true, and_left, and_right, not_true}
+use Rattle.hc_effects.proofs.Basics.{false_true}
 use Rattle.hc_laws.proofs.FitsRuns.{find_among}
 use Rattle.hc_effects.proofs.HadKeeps.{among_least}
 use Rattle.hc_effects.proofs.Joining.{mix}

@@ -1,5 +1,6 @@
 -- What is beside soundness holds from the beginning, and stays so at each entry.
 use Rattle.std.proofs.Common.{◌≡◌, ℕ, None, sym, ◌∙◌}
+use Rattle.hc_text.proofs.Basics.{not_some as none_some}
 use Rattle.hc_event.specs.declared.event.Event.{Event}
 use Rattle.hc_rules.specs.declared.room.Limits.{Limits}
 use Rattle.hc_model.specs.Denials.{denial}
@@ -13,7 +14,6 @@ use Rattle.hc_model.specs.Rows.{Tables, Representation, Consumer}
 use Rattle.hc_model.specs.Sound.{Sound, IsBound, IsFirst, IsExclusiveWriter}
 use Rattle.hc_model.specs.Sound as sound
 use Rattle.hc_model.specs.Tables.{first_tables, after_accepted, after_denied}
-use Rattle.hc_effects.proofs.Basics.{none_some}
 use Rattle.hc_effects.proofs.Beside.{IsBeside}
 use Rattle.hc_laws.proofs.CachedKeeps.{cached_kept}
 use Rattle.hc_laws.proofs.CoversKept.{covered_kept}

@@ -3,6 +3,7 @@ use Rattle.std.proofs.Common.{◌≡◌, ◌≤◌, ◌<◌, ◌⊎◌, inl, inr
 use Rattle.std.specs.Prelude.{is_some, slice_index, unwrap_or}
 use Rattle.std.proofs.Math.ListN.{get_or-append}
 use Rattle.std.proofs.Math.Seq.{get_or-append_right}
+use Rattle.hc_text.proofs.Basics.{not_some as none_some, same_some as same_row, some_inj}
 use Rattle.hc_sparse.specs.Cells.{Cell, inside, cells_with}
 use Rattle.hc_sparse.proofs.CellLemmas.{inside-cases}
 use Rattle.hc_event.specs.Filters.{is_denied}
@@ -25,7 +26,7 @@ use Rattle.hc_model.specs.Owners.{Owners}
 use Rattle.hc_model.specs.Rows.{Tables, Exchange, Representation}
 use Rattle.hc_model.specs.Sound.{Sound}
 use Rattle.hc_model.specs.Tables.{tables, after_accepted, after_denied}
-use Rattle.hc_effects.proofs.Basics.{false_true, none_some}
+use Rattle.hc_effects.proofs.Basics.{false_true}
 use Rattle.hc_effects.proofs.ExchangeFrom.{ExchangeFrom, exchange_from, IsSame}
 use Rattle.hc_effects.proofs.ExchangeFrom as exchange
 use Rattle.hc_effects.proofs.Fills.{Fills, fills, IsPiece, brings, length_same}
@@ -35,8 +36,6 @@ use Rattle.hc_effects.proofs.NumbersKeep.{opens_next}
 use Rattle.hc_effects.proofs.OfEntries.{of_real}
 use Rattle.hc_effects.proofs.Once.{delivers_once}
 use Rattle.hc_laws.proofs.OriginRuns.{origins_in_runs}
-use Rattle.hc_effects.proofs.ExclusiveWriters.{same_row}
-use Rattle.hc_effects.proofs.PieceKeeps.{some_inj}
 use Rattle.hc_effects.proofs.RepFrom.{RepFrom, rep_from, IsKept}
 use Rattle.hc_effects.proofs.RepFrom as rep
 use Rattle.hc_laws.proofs.SoundRuns.{IsCarried, carried}

@@ -1,5 +1,6 @@
 -- Who waits for its head with the turn, or is bound, isn't past the store.
 use Rattle.std.proofs.Common.{◌≡◌, inl, inr, ℕ, true, false, Option, Some, None, refl, ap, sym, ◌∙◌, subst}
+use Rattle.hc_text.proofs.Basics.{not_some as none_some, same_some as same_row, some_inj}
 use Rattle.hc_event.specs.Filters.{Opening, opening_in}
 use Rattle.hc_event.specs.declared.event.Event.{Event}
 use Rattle.hc_event.specs.declared.event.Event.TheVariants as event
@@ -25,7 +26,7 @@ use Rattle.hc_model.specs.Reading.{reads}
 use Rattle.hc_model.specs.Rows.{Tables, Exchange, Consumer}
 use Rattle.hc_model.specs.Sound.{Sound}
 use Rattle.hc_model.specs.Tables.{after_accepted}
-use Rattle.hc_effects.proofs.Basics.{false_true, none_some}
+use Rattle.hc_effects.proofs.Basics.{false_true}
 use Rattle.hc_effects.proofs.Beside.{IsBeside, is_cached_place}
 use Rattle.hc_effects.proofs.BoundFrom.{BoundFrom, IsRow, bound_from}
 use Rattle.hc_effects.proofs.BoundFrom as from
@@ -35,8 +36,7 @@ use Rattle.hc_effects.proofs.Forward as forward
 use Rattle.hc_effects.proofs.FoundBy.{founding_by, founds_way}
 use Rattle.hc_effects.proofs.OpenedAs as opened
 use Rattle.hc_effects.proofs.OwnersKeep.{is_opened}
-use Rattle.hc_effects.proofs.ExclusiveWriters.{same_row}
-use Rattle.hc_effects.proofs.PieceKeeps.{eq_cases, some_inj}
+use Rattle.hc_effects.proofs.PieceKeeps.{eq_cases}
 use Rattle.hc_effects.proofs.TurnPlaces.{ComesFrom, IsPlain, is_after}
 use Rattle.hc_effects.proofs.TurnPlaces as turn
 use Rattle.hc_effects.proofs.Waiters.{waiter_of}

@@ -2,6 +2,7 @@
 use Rattle.std.proofs.Common.{◌≡◌, ℕ, ◌-◌, ◌<◌, ◌≤◌, List, [], length, Bool, true, false, Option, Some, None, refl, ap, sym, ◌∙◌, subst, arith, min}
 use Rattle.std.specs.Prelude.{is_some, is_none, nat_eq}
 use Rattle.std.proofs.lemmas.Bool.Decides.{nat_tests}
+use Rattle.hc_text.proofs.Basics.{and_left, and_right, not_some as none_some, number_not, same_some as same_row, some_inj}
 use Rattle.hc_sparse.specs.Cells.{Cell, Covers}
 use Rattle.hc_range.specs.declared.range.Asked.{Asked}
 use Rattle.hc_range.specs.declared.range.ContentRange.{ContentRange}
@@ -44,7 +45,7 @@ use Rattle.hc_model.specs.RepresentationRows.{hole_start}
 use Rattle.hc_model.specs.Rows.{Tables, Exchange, Representation, Consumer}
 use Rattle.hc_model.specs.Sound.{Sound}
 use Rattle.hc_model.specs.Tables.{after_accepted}
-use Rattle.hc_effects.proofs.Basics.{false_true, and_left, and_right, none_some}
+use Rattle.hc_effects.proofs.Basics.{false_true}
 use Rattle.hc_effects.proofs.BoundFrom.{IsRow, IsInterval, IsFounded, IsFirstHole}
 use Rattle.hc_effects.proofs.BoundFrom as from
 use Rattle.hc_effects.proofs.ExchangeFrom.{IsSame, IsHeaded}
@@ -53,13 +54,10 @@ use Rattle.hc_effects.proofs.FoundBy.{CaseBy}
 use Rattle.hc_effects.proofs.FoundBy as cases
 use Rattle.hc_effects.proofs.HoleLemmas.{first_before, first_from, some_of}
 use Rattle.hc_effects.proofs.HolesOpened.{first_hole_is}
-use Rattle.hc_effects.proofs.MeasuresKeep.{number_not}
 use Rattle.hc_effects.proofs.OpenedAs as opened
 use Rattle.hc_effects.proofs.OwnersKeep.{is_opened}
 use Rattle.hc_effects.proofs.PartTold.{IsTold, part_told, whole_base}
 use Rattle.hc_effects.proofs.PartTold as told
-use Rattle.hc_effects.proofs.ExclusiveWriters.{same_row}
-use Rattle.hc_effects.proofs.PieceKeeps.{some_inj}
 use Rattle.hc_effects.proofs.PollKeeps.{current_stays}
 
 head_inj : (a d : ℕ) (f g : Response) → event.Head a f ≡ event.Head d g → f ≡ g

@@ -4,6 +4,7 @@ use Rattle.std.specs.Prelude.{if◌then◌else◌, ◌==◌, ◌||◌, ◌&&◌,
 use Rattle.std.specs.Option.{option_map_or, option_or}
 use Rattle.std.proofs.lemmas.List.{append-nil}
 use Rattle.std.proofs.lemmas.Bool.Decides.{nat_tests}
+use Rattle.hc_text.proofs.Basics.{bool_cases, or_false, or_none}
 use Rattle.hc_event.specs.Filters.{Opening, opening_in, is_denied}
 use Rattle.hc_event.specs.declared.event.Event.{Event}
 use Rattle.hc_event.specs.declared.event.Event.TheVariants as event
@@ -19,10 +20,9 @@ use Rattle.hc_model.specs.Rows.{Tables, Exchange}
 use Rattle.hc_model.specs.Runs.{IsRun, IsOwed}
 use Rattle.hc_model.specs.Tables.{tables, after}
 use Rattle.hc_model.specs.Histories.{Answered, each, first, if_accepted, opening_at, opening_of, head_in, head_of, bytes_in, delivered_of, ends_in, has_ended, opened_in, answered_in}
-use Rattle.hc_effects.proofs.HoleLemmas.{bool_cases}
 use Rattle.hc_effects.proofs.Once.{never}
 use Rattle.hc_effects.proofs.Owed.{goes, denied_opens}
-use Rattle.hc_effects.proofs.ConsumerFilters.{first_more, or_none}
+use Rattle.hc_effects.proofs.ConsumerFilters.{first_more}
 
 -- WHAT AN EVENT LEAVES OF A ROW
 
@@ -273,10 +273,6 @@ no_end_in t x (event.End y) row h = elim (bool_cases (y == x)) [
 no_end_in t x (event.Fault y) row h = refl
 no_end_in t x (event.Cancel c) row h = refl
 no_end_in t x (event.Doom key) row h = refl
-
-or_false : (b : Bool) → (b || false) ≡ b
-or_false true = refl
-or_false false = refl
 
 end_after : (t : Tables) (e : Entry) (x : ℕ) (o : Option Exchange) → t.exchange x ≡ o → denial t e.event ≡ None → ended (exchange_after t e x o) ≡ (ends_in x e.event || ended o)
 unfolding exchange_after

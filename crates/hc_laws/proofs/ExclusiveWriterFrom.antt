@@ -1,6 +1,7 @@
 -- Whoever is bound before and after an entry and is the exclusive writer after it was so before, survives the loss of a shared writing, or wrote alone what is lost.
 use Rattle.std.proofs.Common.{◌≡◌, ◌⊎◌, inl, inr, ℕ, true, false, Option, Some, None, ap, sym, ◌∙◌, subst}
 use Rattle.std.specs.Prelude.{is_some}
+use Rattle.hc_text.proofs.Basics.{bool_cases, same_some as same_row}
 use Rattle.hc_event.specs.declared.event.Event.{Event}
 use Rattle.hc_rules.specs.declared.room.Limits.{Limits}
 use Rattle.hc_event.specs.declared.place.Place.TheVariants as place
@@ -20,9 +21,7 @@ use Rattle.hc_model.specs.Writers.{came_alone, loses_writing, survivor, goes_on_
 use Rattle.hc_effects.proofs.Basics.{or_false}
 use Rattle.hc_effects.proofs.Exclusives.{IsExclusive, exclusive_parts}
 use Rattle.hc_effects.proofs.FirstKeeps.{came_kept}
-use Rattle.hc_effects.proofs.HoleLemmas.{bool_cases}
 use Rattle.hc_effects.proofs.LossBy.{IsReal, fresh}
-use Rattle.hc_effects.proofs.ExclusiveWriters.{same_row}
 use Rattle.hc_effects.proofs.RepFrom.{IsKept}
 use Rattle.hc_effects.proofs.ServedKeeps.{lost_alone, kept_alone}
 

@@ -2,6 +2,7 @@
 use Rattle.std.proofs.Common.{◌≡◌, ◌⊎◌, inl, inr, ℕ, [], ◌∷◌, Bool, true, false, cond, Option, Some, None, refl, ap, sym, ◌∙◌, subst}
 use Rattle.std.specs.Prelude.{is_some, ◌&&◌, ◌||◌, not}
 use Rattle.std.specs.Option.{option_and_then}
+use Rattle.hc_text.proofs.Basics.{and_off as and_none, not_some as none_some, or_rest as or_right, same_some as same_row, some_inj}
 use Rattle.hc_event.specs.Filters.{is_denied, opening_in, shows_in, closes_in}
 use Rattle.hc_event.specs.declared.event.Event.{Event}
 use Rattle.hc_event.specs.declared.event.Event.TheVariants as event
@@ -31,27 +32,18 @@ use Rattle.hc_model.specs.Runs.{may_stand}
 use Rattle.hc_model.specs.Sound.{Sound}
 use Rattle.hc_model.specs.Tables.{after_accepted, after_denied, first_tables}
 use Rattle.hc_model.specs.Entries.{Contents}
-use Rattle.hc_effects.proofs.Basics.{false_true, none_some}
+use Rattle.hc_effects.proofs.Basics.{false_true}
 use Rattle.hc_effects.proofs.ExchangeFrom.{IsHeaded}
 use Rattle.hc_effects.proofs.Forward.{is_on}
 use Rattle.hc_effects.proofs.MoveBy.{MoveBy, IsHeard, move_by}
 use Rattle.hc_effects.proofs.MoveBy as by_move
 use Rattle.hc_effects.proofs.PastApart.{IsHeadedRow, unfounded_kept}
-use Rattle.hc_effects.proofs.PieceKeeps.{eq_cases, some_inj}
-use Rattle.hc_effects.proofs.ExclusiveWriters.{same_row}
+use Rattle.hc_effects.proofs.PieceKeeps.{eq_cases}
 use Rattle.hc_effects.proofs.PollActs.{ToOne, to_one}
 use Rattle.hc_effects.proofs.PollActs as acts_to
 use Rattle.hc_effects.proofs.ShownStays.{IsIdle, StaysOrIdle, IsFallback, Lands, shown_stays, shown_at}
 use Rattle.hc_effects.proofs.ShownStays as stands
 use Rattle.hc_effects.proofs.TurnPlaces.{is_after}
-
-or_right : (a b : Bool) → b ≡ false → (a || b) ≡ a
-or_right true b off = refl
-or_right false b off = off
-
-and_none : (a b : Bool) → b ≡ false → (a && b) ≡ false
-and_none true b off = off
-and_none false b off = refl
 
 -- A NEW CONSUMER
 

@@ -5,6 +5,7 @@
 -- same whatever else the acts say. So the flaw is the one of the sizes, and the acts are those that are owed with it.
 use Rattle.std.proofs.Common.{◌≡◌, inl, inr, ℕ, List, Bool, true, false, Option, Some, None, refl, ap, sym, ◌∙◌}
 use Rattle.std.specs.Prelude.{if◌then◌else◌, ◌||◌}
+use Rattle.hc_text.proofs.Basics.{and_left, and_right, or_cases}
 use Rattle.hc_event.specs.Filters.{is_denied}
 use Rattle.hc_event.specs.declared.act.Act.{Act}
 use Rattle.hc_event.specs.declared.act.LostKind.{LostKind}
@@ -26,7 +27,7 @@ use Rattle.hc_model.specs.Rows.{Tables, Exchange}
 use Rattle.hc_model.specs.Runs.{IsOwed, FaultlessAreOwed, may_stand, may_be, may_lose, has_room, flaw_by_room, size_flaw, owed}
 use Rattle.hc_model.specs.Weights.{room_for}
 use Rattle.hc_model.specs.Writes.{written_representation, written_in, head_writes, may_validate, lossless}
-use Rattle.hc_effects.proofs.Basics.{false_true, true_false, and_left, and_right, or_cases, number_is}
+use Rattle.hc_effects.proofs.Basics.{false_true, true_false, number_is}
 use Rattle.hc_effects.proofs.FoundCases.{no_loss}
 use Rattle.hc_laws.proofs.Undenied.{undenied}
 

@@ -1,6 +1,7 @@
 -- As long as nothing is due for the one that became bound alone, nothing is due for whoever reads beside it: after each accepted event too.
 use Rattle.std.proofs.Common.{◌≡◌, inl, inr, ℕ, true, false, Option, Some, None, refl, ap, sym, ◌∙◌, subst}
 use Rattle.std.specs.Prelude.{is_some}
+use Rattle.hc_text.proofs.Basics.{same_some as same_row}
 use Rattle.hc_event.specs.Filters.{Opening, opening_in}
 use Rattle.hc_event.specs.declared.event.Event.{Event}
 use Rattle.hc_event.specs.declared.event.Event.TheVariants as event
@@ -33,7 +34,7 @@ use Rattle.hc_laws.proofs.FirstDues.{beside, poll_undue, unlost}
 use Rattle.hc_effects.proofs.FirstKeeps.{is_new, came_kept, open_free}
 use Rattle.hc_effects.proofs.OwnersKeep.{is_opened}
 use Rattle.hc_effects.proofs.PieceKeeps.{eq_cases}
-use Rattle.hc_effects.proofs.ExclusiveWriters.{same_row, bound_some}
+use Rattle.hc_effects.proofs.ExclusiveWriters.{bound_some}
 use Rattle.hc_effects.proofs.Said.{showing_by}
 
 module _ (limits : Limits) (t : Tables) (now : ℕ) (flaw : Flaw) (s : Sound t) (o : Owners t) (ev : Event) (goes : denial t ev ≡ None) where

@@ -5,6 +5,7 @@ use Rattle.std.specs.List.{list_any, sum_by}
 use Rattle.std.specs.Option.{option_or, option_and_then}
 use Rattle.std.proofs.lemmas.Bool.Decides.{nat_tests}
 use Rattle.std.proofs.lemmas.List.Sums.{sum_by-cons}
+use Rattle.hc_text.proofs.Basics.{and_left, and_right, bool_cases, not_some as none_some, not_true as not_false, same_some as same_row, some_inj}
 use Rattle.hc_event.specs.Filters.{opening_in, evicts_in, is_denied}
 use Rattle.hc_event.specs.declared.act.Act.{Act}
 use Rattle.hc_event.specs.declared.act.Act.TheVariants as act
@@ -47,18 +48,15 @@ use Rattle.hc_model.specs.Sound.{Sound, Among, IsBound}
 use Rattle.hc_model.specs.Sound as sound
 use Rattle.hc_model.specs.Tables.{founds, with_item_first, after_accepted}
 use Rattle.hc_model.specs.Weights.{weight, weight_in, weights, idle, is_idle, is_replacing, moves_on, stays_bound, stays_current, room_by, room_for, write_in, write_of_piece, piece_write, first_idle, evicted}
-use Rattle.hc_effects.proofs.Basics.{false_true, true_false, and_left, and_right, or_false, none_some, some_row, number_yes}
+use Rattle.hc_effects.proofs.Basics.{false_true, true_false, or_false, some_row, number_yes}
 use Rattle.hc_effects.proofs.BoundFrom.{BoundFrom, IsRow, bound_from, place_inj}
 use Rattle.hc_effects.proofs.BoundFrom as from
 use Rattle.hc_effects.proofs.BoundKeeps.{planned_at}
 use Rattle.hc_effects.proofs.FirstKeeps.{case_is, is_new}
 use Rattle.hc_effects.proofs.FoundBy.{FoundingBy, founding_by}
 use Rattle.hc_effects.proofs.FoundBy as cases
-use Rattle.hc_effects.proofs.HoleLemmas.{bool_cases}
 use Rattle.hc_effects.proofs.LossBy.{IsReal, lost_is}
 use Rattle.hc_effects.proofs.OwnersKeep.{is_opened}
-use Rattle.hc_effects.proofs.PieceKeeps.{some_inj}
-use Rattle.hc_effects.proofs.ExclusiveWriters.{same_row}
 use Rattle.hc_effects.proofs.PollKeeps.{current_stays}
 use Rattle.hc_effects.proofs.RepFrom.{RepFrom, rep_from, IsKept}
 use Rattle.hc_effects.proofs.RepFrom as rep
@@ -70,10 +68,6 @@ use Rattle.hc_effects.proofs.Sums.{only_yes, sum_le, sum_two, sum_plus, sum_some
 use Rattle.hc_effects.proofs.ToBeShown.{heard_place}
 use Rattle.hc_effects.proofs.Weighed.{IsHeld, held, held_in, total, held_is, held_most, held_none, IsFilled, sized, goes_more, case_same}
 use Rattle.hc_effects.proofs.Weighed as weighed
-
-not_false : (b : Bool) → not b ≡ true → b ≡ false
-not_false true h = absurd (false_true h)
-not_false false h = refl
 
 any_none : (test : ℕ → Bool) (c : ℕ) (cs : List ℕ) → Among c cs → list_any test cs ≡ false → test c ≡ false
 any_none test c [] among h = absurd among

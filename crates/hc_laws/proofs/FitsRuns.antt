@@ -5,6 +5,7 @@ use Rattle.std.specs.List.{list_any, sum_by}
 use Rattle.std.specs.Option.{option_or}
 use Rattle.std.proofs.lemmas.Bool.Decides.{nat_tests}
 use Rattle.std.proofs.lemmas.List.Sums.{sum_by-cons}
+use Rattle.hc_text.proofs.Basics.{and_left, and_right, bool_cases, not_some as none_some, some_inj}
 use Rattle.hc_event.specs.Filters.{Opening, opening_in, is_denied}
 use Rattle.hc_event.specs.declared.event.Event.{Event}
 use Rattle.hc_event.specs.declared.event.Event.TheVariants as event
@@ -34,18 +35,17 @@ use Rattle.hc_model.specs.Runs.{IsOwed}
 use Rattle.hc_model.specs.Sound.{Sound, Among}
 use Rattle.hc_model.specs.Tables.{tables, first_tables, representation_of_content, numbers, bytes_in, founds, with_item_first, is_hole, is_reading, binds, binds_by_opening, binds_by_showing, to_front, after_accepted, after_denied}
 use Rattle.hc_model.specs.Weights.{weights}
-use Rattle.hc_effects.proofs.Basics.{false_true, and_left, and_right, none_some}
+use Rattle.hc_effects.proofs.Basics.{false_true}
 use Rattle.hc_effects.proofs.Closed.{among_filter}
 use Rattle.hc_effects.proofs.BoundKeeps.{planned_at, shown_place_is}
 use Rattle.hc_effects.proofs.FewGiveWay.{few_give_way}
 use Rattle.hc_effects.proofs.FirstKeeps.{is_new}
 use Rattle.hc_laws.proofs.FitsKept.{Fits, within_kept}
-use Rattle.hc_effects.proofs.HoleLemmas.{bool_cases}
 use Rattle.hc_effects.proofs.LossBy.{IsReal}
 use Rattle.hc_laws.proofs.MeasuresBegin.{of_number}
 use Rattle.hc_effects.proofs.Owed.{IsDenied, is_denial, acts_are}
 use Rattle.hc_effects.proofs.Owed as owed_acts
-use Rattle.hc_effects.proofs.PieceKeeps.{eq_cases, some_inj}
+use Rattle.hc_effects.proofs.PieceKeeps.{eq_cases}
 use Rattle.hc_effects.proofs.RepFrom as rep
 use Rattle.hc_effects.proofs.Said.{showing_by}
 use Rattle.hc_effects.proofs.ShownFrom.{ShownAs}

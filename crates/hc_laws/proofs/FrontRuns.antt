@@ -2,6 +2,7 @@
 use Rattle.std.proofs.Common.{◌≡◌, ◌⊎◌, inl, inr, ℕ, ◌+◌, ◌≤◌, List, length, ◌++◌, Bool, true, false, Option, Some, None, refl, ap, sym, ◌∙◌, subst, arith, length-append}
 use Rattle.std.specs.Prelude.{is_some}
 use Rattle.std.specs.Option.{option_and_then}
+use Rattle.hc_text.proofs.Basics.{and_left, and_right, not_some as none_some, same_some as same_row, some_inj}
 use Rattle.hc_event.specs.Filters.{Opening, opening_in}
 use Rattle.hc_event.specs.declared.event.Event.{Event}
 use Rattle.hc_event.specs.declared.event.Event.TheVariants as event
@@ -36,7 +37,7 @@ use Rattle.hc_model.specs.Sound as sound
 use Rattle.hc_model.specs.Tables.{after_accepted}
 use Rattle.hc_model.specs.Writers.{brings_body, loses_writing, survivor}
 use Rattle.hc_effects.proofs.AboutKeeps.{own_open_is}
-use Rattle.hc_effects.proofs.Basics.{false_true, none_some, some_row, and_left, and_right}
+use Rattle.hc_effects.proofs.Basics.{false_true, some_row}
 use Rattle.hc_effects.proofs.Beside.{IsBeside}
 use Rattle.hc_effects.proofs.BoundFrom.{BoundFrom, IsRow, IsFounded, IsFirstHole, IsShown, bound_from, place_inj}
 use Rattle.hc_effects.proofs.BoundFrom as from
@@ -58,8 +59,6 @@ use Rattle.hc_effects.proofs.OwnFrom.{OwnFrom, IsLeft, own_from}
 use Rattle.hc_effects.proofs.OwnFrom as own
 use Rattle.hc_effects.proofs.OwnersKeep.{is_opened, new_number}
 use Rattle.hc_effects.proofs.PartTold as told
-use Rattle.hc_effects.proofs.ExclusiveWriters.{same_row}
-use Rattle.hc_effects.proofs.PieceKeeps.{some_inj}
 use Rattle.hc_laws.proofs.RunFacts.{in_runs}
 use Rattle.hc_effects.proofs.Said.{ShowsBy, showing_by}
 use Rattle.hc_effects.proofs.ShownFrom.{IsPlanned}

@@ -3,6 +3,7 @@ use Rattle.std.proofs.Common.{◌≡◌, ◌≤◌, ◌<◌, ◌⊎◌, inl, inr
 use Rattle.std.specs.Prelude.{is_some, nat_lt}
 use Rattle.std.specs.Option.{option_or}
 use Rattle.std.proofs.lemmas.Bool.Decides.{nat_tests}
+use Rattle.hc_text.proofs.Basics.{bool_cases, some_inj}
 use Rattle.hc_sparse.specs.Cells.{Cell, Covers}
 use Rattle.hc_event.specs.declared.place.Place.TheVariants as place
 use Rattle.hc_event.specs.declared.place.BoundBy.{BoundBy}
@@ -24,8 +25,6 @@ use Rattle.hc_model.specs.Tables.{tables}
 use Rattle.hc_effects.proofs.Basics.{false_true, some_row}
 use Rattle.hc_effects.proofs.Bounded.{IsBounded}
 use Rattle.hc_effects.proofs.GivenNext.{read_of}
-use Rattle.hc_effects.proofs.HoleLemmas.{bool_cases}
-use Rattle.hc_effects.proofs.PieceKeeps.{some_inj}
 use Rattle.hc_laws.proofs.ReadAs.{IsRead}
 use Rattle.hc_laws.proofs.ReadEnds.{bounded}
 use Rattle.hc_laws.proofs.ReadJoined.{joined_in_runs, is_told}

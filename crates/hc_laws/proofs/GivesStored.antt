@@ -6,6 +6,7 @@ use Rattle.std.proofs.Common.{◌≡◌, inl, inr, ℕ, ◌+◌, ◌-◌, ◌<�
 use Rattle.std.specs.Prelude.{is_some, if◌then◌else◌, IfSome, nat_eq}
 use Rattle.std.specs.Option.{option_and_then, option_map}
 use Rattle.std.proofs.lemmas.Bool.Decides.{nat_tests}
+use Rattle.hc_text.proofs.Basics.{bool_cases, not_some as none_some, same_some as same_row}
 use Rattle.hc_sparse.specs.Cells.{Cells, Cell}
 use Rattle.hc_sparse.specs.Runs.{end_of}
 use Rattle.hc_sparse.specs.Stretch.{stretch, stretch_of}
@@ -39,11 +40,9 @@ use Rattle.hc_model.specs.Steps.{bound_row, stored_from, stored_ahead, read_view
 use Rattle.hc_model.specs.Tables.{tables}
 use Rattle.hc_effects.proofs.AboutKeeps.{own_open_of}
 use Rattle.hc_laws.proofs.AtHoles.{AreAtHoles, at_holes_in_runs}
-use Rattle.hc_effects.proofs.Basics.{false_true, none_some, some_row}
-use Rattle.hc_effects.proofs.ExclusiveWriters.{same_row}
+use Rattle.hc_effects.proofs.Basics.{false_true, some_row}
 use Rattle.hc_effects.proofs.GivenNext.{given_next}
 use Rattle.hc_effects.proofs.Givers.{some_want}
-use Rattle.hc_effects.proofs.HoleLemmas.{bool_cases}
 use Rattle.hc_laws.proofs.InRuns.{turned_in_runs}
 use Rattle.hc_effects.proofs.Owed.{goes}
 use Rattle.hc_laws.proofs.SoundRuns.{carried}

@@ -2,6 +2,7 @@
 use Rattle.std.proofs.Common.{◌≡◌, ◌⊎◌, inl, inr, ℕ, ◌+◌, ◌≤◌, List, [], ◌∷◌, length, Bool, true, false, Option, Some, None, refl, ap, sym, ◌∙◌, subst, arith, length-append}
 use Rattle.std.specs.Prelude.{if◌then◌else◌, is_some, ◌||◌, not}
 use Rattle.std.specs.Option.{option_and_then}
+use Rattle.hc_text.proofs.Basics.{and_left, and_right, not_some as none_some, same_some as same_row, some_inj, lt_or as split}
 use Rattle.hc_sparse.specs.Cells.{Cells, Covers, cells_with}
 use Rattle.hc_sparse.proofs.CellLemmas.{inside-past}
 use Rattle.hc_event.specs.Filters.{Opening, opening_in}
@@ -36,7 +37,7 @@ use Rattle.hc_model.specs.Sound as sound
 use Rattle.hc_model.specs.Tables.{after_accepted}
 use Rattle.hc_model.specs.Writers.{brings_body, has_more, lacks_some}
 use Rattle.hc_effects.proofs.AboutKeeps.{own_open_of}
-use Rattle.hc_effects.proofs.Basics.{false_true, true_false, and_left, and_right, none_some, some_row, split}
+use Rattle.hc_effects.proofs.Basics.{false_true, true_false, some_row}
 use Rattle.hc_effects.proofs.Beside.{IsBeside, goes_on_at}
 use Rattle.hc_effects.proofs.BoundFrom.{BoundFrom, IsRow, IsShown, bound_from}
 use Rattle.hc_effects.proofs.BoundFrom as from
@@ -64,8 +65,7 @@ use Rattle.hc_laws.proofs.OwnNone.{IsShared, own_none}
 use Rattle.hc_effects.proofs.OwnersKeep.{is_opened, there_kept}
 use Rattle.hc_laws.proofs.ExclusiveWriterFrom.{ExclusiveWriterFrom, alone_from}
 use Rattle.hc_laws.proofs.ExclusiveWriterFrom as exclusive_writers
-use Rattle.hc_effects.proofs.ExclusiveWriters.{same_row, one_exclusive_writer, has_exclusive_writer, bound_some}
-use Rattle.hc_effects.proofs.PieceKeeps.{some_inj}
+use Rattle.hc_effects.proofs.ExclusiveWriters.{one_exclusive_writer, has_exclusive_writer, bound_some}
 use Rattle.hc_effects.proofs.PollKeeps.{current_stays, not_come}
 use Rattle.hc_effects.proofs.PollTree.{OpensHole}
 use Rattle.hc_effects.proofs.PollTree as tree

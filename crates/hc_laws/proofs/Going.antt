@@ -2,6 +2,7 @@
 use Rattle.std.proofs.Common.{◌≡◌, inl, inr, ℕ, List, Bool, true, false, Option, Some, None, refl, ap, sym, ◌∙◌, arith}
 use Rattle.std.specs.Prelude.{nat_eq, unwrap_or}
 use Rattle.std.specs.Option.{option_or}
+use Rattle.hc_text.proofs.Basics.{eq_itself as eq-refl, some_inj}
 use Rattle.hc_event.specs.declared.act.Wait.TheVariants as wait
 use Rattle.hc_rules.specs.Least.{least, lesser}
 use Rattle.hc_model.specs.Laws.{Turns, WaitsForNobody, TurnsGo, ReadersGo}
@@ -12,7 +13,7 @@ use Rattle.hc_model.specs.Reading.{bound_to}
 use Rattle.hc_model.specs.Rows.{Tables, Consumer}
 use Rattle.hc_model.specs.Sound.{Sound, IsBound}
 use Rattle.hc_model.specs.Sound as sound
-use Rattle.hc_effects.proofs.PieceKeeps.{eq_cases, some_inj}
+use Rattle.hc_effects.proofs.PieceKeeps.{eq_cases}
 use Rattle.hc_effects.proofs.TurnMoves.{Does, does_polled}
 use Rattle.hc_effects.proofs.TurnMoves as does
 
@@ -39,9 +40,6 @@ with_it None (Some n) c is = let same : n ≡ c = some_inj n c is in omega arith
 has_it : (t : Tables) (key : List ℕ) (c : ℕ) → turn t key ≡ Some c → turn_with t key c ≡ c
 unfolding turn
 has_it t key c is = with_it (holder t key) (least (line t key)) c is
-
-eq-refl : (r : ℕ) → nat_eq r r ≡ true
-eq-refl r = elim (eq_cases r r) [ inl same ↦ same.0 | inr other ↦ absurd (other.1 refl) ]
 
 turn_goes : (t : Tables) (c d : ℕ) (k : Consumer) (m : Move) → Does t c k m → turn_with t k.request.key c ≡ c → m ≡ moves.Waits (wait.Turn d) → ⊥
 turn_goes t c d k _ (does.waits_turn d' is_new other back) has is =

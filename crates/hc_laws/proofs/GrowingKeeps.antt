@@ -2,6 +2,7 @@
 use Rattle.std.proofs.Common.{◌≡◌, ◌⊎◌, inl, inr, ℕ, zero, suc, ◌+◌, ◌-◌, ◌<◌, ◌≤◌, List, length, Bool, true, false, Option, Some, None, refl, ap, sym, ◌∙◌, subst, arith, max, min, length-append}
 use Rattle.std.specs.Prelude.{if◌then◌else◌, is_some, is_none, ◌==◌, ◌&&◌, ◌||◌, not, nat_eq, nat_le, unwrap_or}
 use Rattle.std.proofs.lemmas.Bool.Decides.{nat_tests}
+use Rattle.hc_text.proofs.Basics.{and_left, and_right, bool_cases, not_some as none_some, same_some as same_row, some_inj}
 use Rattle.hc_sparse.specs.Cells.{cells_with, Cells, Covers}
 use Rattle.hc_sparse.proofs.CellLemmas.{inside-cases}
 use Rattle.hc_range.specs.declared.range.ContentRange.TheVariants as range
@@ -36,7 +37,7 @@ use Rattle.hc_model.specs.Runs.{may_stand}
 use Rattle.hc_model.specs.Sound.{Sound, IsGrowing, InHole, end_from}
 use Rattle.hc_model.specs.Tables.{after_accepted}
 use Rattle.hc_effects.proofs.ApartKeeps.{IsOn, is_on, was_written}
-use Rattle.hc_effects.proofs.Basics.{false_true, and_left, and_right, none_some, number_is}
+use Rattle.hc_effects.proofs.Basics.{false_true, number_is}
 use Rattle.hc_effects.proofs.ExchangeFrom.{IsSame, IsHeaded}
 use Rattle.hc_effects.proofs.Fills.{Fills, fills, Brings, brings, length_same}
 use Rattle.hc_effects.proofs.Fills as fills_by
@@ -45,12 +46,10 @@ use Rattle.hc_effects.proofs.Forward.{after_is}
 use Rattle.hc_effects.proofs.Forward as forward
 use Rattle.hc_laws.proofs.Founders.{founders_kept}
 use Rattle.hc_effects.proofs.HeadKeeps.{IsJoin, is_join}
-use Rattle.hc_effects.proofs.HoleLemmas.{bool_cases, covers_all, first_to}
+use Rattle.hc_effects.proofs.HoleLemmas.{covers_all, first_to}
 use Rattle.hc_effects.proofs.MeasuresKeep.{held, IsHeld, total_same, one_piece}
 use Rattle.hc_effects.proofs.PartTold.{part_told, whole_base, IsTold, part_order}
 use Rattle.hc_effects.proofs.PartTold as tells
-use Rattle.hc_effects.proofs.PieceKeeps.{some_inj}
-use Rattle.hc_effects.proofs.ExclusiveWriters.{same_row}
 use Rattle.hc_effects.proofs.RepFrom.{RepFrom, rep_from, IsKept, IsResumed}
 use Rattle.hc_effects.proofs.RepFrom as rep
 

@@ -1,6 +1,7 @@
 -- Whose an exchange is that is opened for a hole, or whose head comes.
 use Rattle.std.proofs.Common.{◌≡◌, ℕ, Bool, true, false, Option, Some, None, refl, ap, sym, ◌∙◌, subst}
 use Rattle.std.specs.Prelude.{is_some}
+use Rattle.hc_text.proofs.Basics.{not_some as none_some, same_some as same_row, some_inj}
 use Rattle.hc_event.specs.Filters.{Opening, opening_in}
 use Rattle.hc_event.specs.declared.event.Event.{Event}
 use Rattle.hc_event.specs.declared.event.Event.TheVariants as event
@@ -31,7 +32,7 @@ use Rattle.hc_model.specs.Sound as sound
 use Rattle.hc_model.specs.Tables.{after_accepted}
 use Rattle.hc_model.specs.Writers.{brings_body, came_alone}
 use Rattle.hc_effects.proofs.AboutKeeps.{own_open_is}
-use Rattle.hc_effects.proofs.Basics.{false_true, none_some, some_none}
+use Rattle.hc_effects.proofs.Basics.{false_true, some_none}
 use Rattle.hc_effects.proofs.BoundFrom.{BoundFrom, IsRow, bound_from}
 use Rattle.hc_effects.proofs.BoundFrom as from
 use Rattle.hc_effects.proofs.BoundKeeps.{opens_none}
@@ -41,8 +42,7 @@ use Rattle.hc_effects.proofs.FirstKeeps.{came_kept, is_opener, open_free}
 use Rattle.hc_effects.proofs.LossBy.{IsReal, IsSealing, sealed_loss}
 use Rattle.hc_effects.proofs.OpensFrom.{opens_hole, hole_is}
 use Rattle.hc_effects.proofs.OwnersKeep.{is_opened}
-use Rattle.hc_effects.proofs.PieceKeeps.{some_inj}
-use Rattle.hc_effects.proofs.ExclusiveWriters.{same_row, bound_some, none_about, has_exclusive_writer, none_about_hole}
+use Rattle.hc_effects.proofs.ExclusiveWriters.{bound_some, none_about, has_exclusive_writer, none_about_hole}
 use Rattle.hc_effects.proofs.PollKeeps.{current_stays}
 use Rattle.hc_effects.proofs.PollTree as tree
 use Rattle.hc_effects.proofs.RepFrom.{RepFrom, rep_from, IsKept, IsResumed}

@@ -3,6 +3,7 @@ use Rattle.std.proofs.Common.{◌≡◌, inl, inr, ℕ, List, [], ◌∷◌, Boo
 use Rattle.std.specs.Prelude.{if◌then◌else◌, ◌==◌, option_and_then}
 use Rattle.std.specs.Option.{option_map_or, option_or}
 use Rattle.std.proofs.lemmas.Bool.Decides.{nat_tests}
+use Rattle.hc_text.proofs.Basics.{bool_cases, or_none}
 use Rattle.hc_event.specs.Filters.{Opening, opening_in, is_denied}
 use Rattle.hc_event.specs.declared.event.Event.{Event}
 use Rattle.hc_event.specs.declared.event.Event.TheVariants as event
@@ -18,9 +19,8 @@ use Rattle.hc_model.specs.Runs.{IsRun, IsOwed}
 use Rattle.hc_model.specs.Tables.{tables, after}
 use Rattle.hc_model.specs.Histories.{each_after, first, if_accepted, joining_in, joining_at, joined_of, ExchangesAreFiltered}
 use Rattle.hc_effects.proofs.Basics.{some_none}
-use Rattle.hc_effects.proofs.HoleLemmas.{bool_cases}
 use Rattle.hc_effects.proofs.Owed.{goes}
-use Rattle.hc_effects.proofs.ConsumerFilters.{first_more, or_none}
+use Rattle.hc_effects.proofs.ConsumerFilters.{first_more}
 use Rattle.hc_laws.proofs.ExchangeFilters.{headless, openings_are, heads_are, bodies_are, ends_are}
 
 -- WHO HAS NO HEAD JOINED NOTHING

@@ -3,6 +3,7 @@ use Rattle.std.proofs.Common.{◌≡◌, ◌⊎◌, inl, inr, ℕ, List, [], ◌
 use Rattle.std.specs.Prelude.{◌&&◌, ◌==◌, nat_eq, not, if◌then◌else◌, map, find, is_none}
 use Rattle.std.specs.Option.{option_or, option_map}
 use Rattle.std.proofs.lemmas.Bool.Decides.{nat_tests}
+use Rattle.hc_text.proofs.Basics.{eq_itself as eq-refl, eq_tells as eq_is, not_some as none_some, same_some as same_row, some_inj}
 use Rattle.hc_event.specs.Filters.{Opening, opening_in, leaves_in}
 use Rattle.hc_event.specs.declared.act.Act.{Act}
 use Rattle.hc_event.specs.declared.act.Act.TheVariants as act
@@ -51,13 +52,10 @@ use Rattle.hc_model.specs.Weights.{evicted}
 use Rattle.hc_model.specs.Writers.{loses_writing, survivor}
 use Rattle.hc_effects.proofs.ActParts.{IsAnswer, IsSaid, answer_is, said_is}
 use Rattle.hc_effects.proofs.ActParts as parts
-use Rattle.hc_effects.proofs.Basics.{none_some}
-use Rattle.hc_effects.proofs.KeyNames.{eq_is, opener_key, aims_key}
+use Rattle.hc_effects.proofs.KeyNames.{opener_key, aims_key}
 use Rattle.hc_effects.proofs.KeysKeep.{HasExchange, IsOpening, current_row, opened_is, exchange_stays, exchange_new, representation_stays}
 use Rattle.hc_effects.proofs.KeysKeep as keeps
 use Rattle.hc_effects.proofs.NumbersKeep.{opens_next}
-use Rattle.hc_effects.proofs.ExclusiveWriters.{same_row}
-use Rattle.hc_effects.proofs.PieceKeeps.{some_inj}
 use Rattle.hc_effects.proofs.PollKeys.{IsNear}
 use Rattle.hc_effects.proofs.PollKeys as polls
 
@@ -139,9 +137,6 @@ OwnIs P (Some x) = P x
 own_if : (P : ℕ → Type 0) (b : Bool) (o p : Option ℕ) → OwnIs P o → OwnIs P p → OwnIs P (if b then o else p)
 own_if P true o p a z = a
 own_if P false o p a z = z
-
-eq-refl : (r : ℕ) → nat_eq r r ≡ true
-eq-refl r = grind (arith, nat_tests)
 
 module _ (limits : Limits) (t : Tables) (now : ℕ) (flaw : Flaw) (s : Sound t) (one : IsOfOneKey t) (ev : Event) (goes : denial t ev ≡ None) where
   abbrev e : Entry

@@ -2,6 +2,7 @@
 use Rattle.std.proofs.Common.{◌≡◌, inl, inr, ℕ, ◌+◌, ◌-◌, ◌<◌, ◌≤◌, Bool, true, false, refl, ap, sym, ◌∙◌, arith}
 use Rattle.std.specs.Prelude.{is_some, nat_eq, nat_lt, ◌==◌, ◌&&◌, if◌then◌else◌}
 use Rattle.std.proofs.lemmas.Bool.Decides.{nat_tests}
+use Rattle.hc_text.proofs.Basics.{both_true as and_both, and_left, and_right, bool_cases, eq_is, eq_yes, same_test}
 use Rattle.hc_record.specs.declared.kind.Kind.{Kind}
 use Rattle.hc_record.specs.declared.kind.Kind.TheVariants as kind
 use Rattle.hc_sparse.specs.Cells.{Cells, Covers, EndsBy, size_below}
@@ -9,22 +10,10 @@ use Rattle.hc_model.specs.Beginnings.{kind_of_runs, same_kind}
 use Rattle.hc_model.specs.Contents.{runs_from}
 use Rattle.hc_model.specs.Holes.{covers}
 use Rattle.hc_model.specs.Tables.{last_end, bytes_in}
-use Rattle.hc_effects.proofs.Basics.{false_true, and_left, and_right, and_both}
-use Rattle.hc_effects.proofs.HoleLemmas.{bool_cases, covers_all, covers_yes}
+use Rattle.hc_effects.proofs.Basics.{false_true}
+use Rattle.hc_effects.proofs.HoleLemmas.{covers_all, covers_yes}
 use Rattle.hc_laws.proofs.Positions.{below_full, below_most, full_below, no_other_below}
 use Rattle.hc_laws.proofs.RunsFrom.{bytes_from, end_is}
-
--- tests of which each follows from the other
-same_test : (a b : Bool) → (a ≡ true → b ≡ true) → (b ≡ true → a ≡ true) → a ≡ b
-same_test true b to back = sym (to refl)
-same_test false true to back = back refl
-same_test false false to back = refl
-
-eq_is : (a b : ℕ) → (a == b) ≡ true → a ≡ b
-eq_is a b h = let test : nat_eq a b ≡ true = h in grind (arith, nat_tests)
-
-eq_yes : (a b : ℕ) → a ≡ b → (a == b) ≡ true
-eq_yes a b h = let test : nat_eq a b ≡ true = grind (arith, nat_tests) in test
 
 same_self : (k : Kind) → same_kind k k ≡ true
 same_self kind.Growing = refl

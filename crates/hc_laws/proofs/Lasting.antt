@@ -2,6 +2,7 @@
 use Rattle.std.proofs.Common.{◌≡◌, ◌⊎◌, inl, inr, ℕ, ◌≤◌, length, Bool, true, false, Some, None, refl, ap, sym, ◌∙◌, arith}
 use Rattle.std.specs.Prelude.{◌&&◌, ◌||◌, ◌==◌, not, nat_eq, nat_lt}
 use Rattle.std.proofs.lemmas.Bool.Decides.{nat_tests}
+use Rattle.hc_text.proofs.Basics.{bool_cases}
 use Rattle.hc_event.specs.Filters.{closes_in}
 use Rattle.hc_event.specs.declared.event.Event.{Event}
 use Rattle.hc_event.specs.declared.event.Event.TheVariants as event
@@ -22,7 +23,6 @@ use Rattle.hc_model.specs.Sound.{Sound, IsGrowing}
 use Rattle.hc_model.specs.Tables.{after_accepted}
 use Rattle.hc_effects.proofs.ApartKeeps.{is_on}
 use Rattle.hc_effects.proofs.Basics.{false_true, true_false, or_false}
-use Rattle.hc_effects.proofs.HoleLemmas.{bool_cases}
 use Rattle.hc_effects.proofs.RepFrom.{RepFrom, rep_from, IsKept, IsResumed, IsEnded}
 use Rattle.hc_effects.proofs.RepFrom as rep
 use Rattle.hc_effects.proofs.WritingStops.{IsAll, ends_all}

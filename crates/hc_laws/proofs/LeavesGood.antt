@@ -4,6 +4,7 @@ use Rattle.std.specs.Prelude.{is_some, nat_eq, nat_le, nat_lt, bytes_eq, codes, 
 use Rattle.std.specs.List.{list_any, list_all, sum_by}
 use Rattle.std.proofs.lemmas.Bool.Decides.{nat_tests}
 use Rattle.std.proofs.lemmas.List.Sums.{sum_by-cons}
+use Rattle.hc_text.proofs.Basics.{both_true as and_both, and_left, and_right, bool_cases, not_some as none_some, some_inj}
 use Rattle.hc_record.specs.declared.kind.Kind.TheVariants as kind
 use Rattle.hc_rules.proofs.RangeReads.{same_bytes}
 use Rattle.hc_rules.specs.Rooms.{weight_of}
@@ -30,13 +31,13 @@ use Rattle.hc_model.specs.StoredHeads.{StoredHeads, AreWithinLimits, IsOfOne, Ta
 use Rattle.hc_model.specs.StoredHeads as heads
 use Rattle.hc_model.specs.Tables.{tables, bytes_in, last_end}
 use Rattle.hc_model.specs.WithinLimits.{KeysAreTargets}
-use Rattle.hc_effects.proofs.Basics.{false_true, and_left, and_right, and_both, none_some}
+use Rattle.hc_effects.proofs.Basics.{false_true}
 use Rattle.hc_laws.proofs.FitsKept.{Fits}
-use Rattle.hc_effects.proofs.HoleLemmas.{bool_cases, covers_yes}
+use Rattle.hc_effects.proofs.HoleLemmas.{covers_yes}
 use Rattle.hc_laws.proofs.KindsLeft.{kind_by, kind_right, count_is, last_is}
 use Rattle.hc_laws.proofs.OriginRuns.{origins_in_runs}
 use Rattle.hc_effects.proofs.ExclusiveWriters.{none_about}
-use Rattle.hc_effects.proofs.PieceKeeps.{eq_cases, some_inj}
+use Rattle.hc_effects.proofs.PieceKeeps.{eq_cases}
 use Rattle.hc_effects.proofs.PollKeeps.{current_stays}
 use Rattle.hc_laws.proofs.RunsFrom.{HasCell, is_of, of_cell, all_of, ascends}
 use Rattle.hc_laws.proofs.SizesKeep.{sized_runs}

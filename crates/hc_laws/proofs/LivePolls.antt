@@ -4,6 +4,7 @@ use Rattle.std.specs.Prelude.{is_some, is_none, min, ◌&&◌, ◌||◌}
 use Rattle.std.specs.Option.{option_and_then, option_map, option_or}
 use Rattle.std.proofs.lemmas.Bool.Decides.{nat_tests}
 use Rattle.std.proofs.lemmas.List.{length-drop, length-take}
+use Rattle.hc_text.proofs.Basics.{and_left, and_right, bool_cases, either, not_some as none_some, never_true as not_so, same_some as same_row, some_inj}
 use Rattle.hc_range.specs.declared.range.Span.{Span}
 use Rattle.hc_sparse.specs.Cells.{Cells, Cell}
 use Rattle.hc_sparse.specs.Runs.{end_of}
@@ -20,7 +21,6 @@ use Rattle.hc_rules.specs.declared.reading.ReadView.{ReadView}
 use Rattle.hc_rules.specs.Plans.{plan_of}
 use Rattle.hc_rules.specs.Readings.{read_step, is_at_end, stored_or, held_or, fails_or, waits_or}
 use Rattle.hc_rules.specs.Readings as readings
-use Rattle.hc_rules.proofs.Cond.{either}
 use Rattle.hc_event.specs.declared.place.Place.{Place}
 use Rattle.hc_event.specs.declared.place.Place.TheVariants as place
 use Rattle.hc_event.specs.declared.place.BoundBy.{BoundBy}
@@ -42,13 +42,11 @@ use Rattle.hc_model.specs.Sound as sound
 use Rattle.hc_model.specs.Steps.{bound_row, stored_ahead, stored_from, run_held_for, held_at, held_of_exchange, run_of, read_view, later_hole, step_move, reading, most}
 use Rattle.hc_model.specs.Writers.{came_alone}
 use Rattle.hc_effects.proofs.AboutKeeps.{own_open_of, own_open_is}
-use Rattle.hc_effects.proofs.Basics.{false_true, none_some, some_none, some_row, and_left, and_right, not_so}
+use Rattle.hc_effects.proofs.Basics.{false_true, some_none, some_row}
 use Rattle.hc_effects.proofs.GivenNext.{some_ahead}
-use Rattle.hc_effects.proofs.HoleLemmas.{bool_cases}
 use Rattle.hc_effects.proofs.MoveBy.{MoveBy, IsHeard, move_by}
 use Rattle.hc_effects.proofs.MoveBy as by
-use Rattle.hc_effects.proofs.ExclusiveWriters.{same_row, shares_source}
-use Rattle.hc_effects.proofs.PieceKeeps.{some_inj}
+use Rattle.hc_effects.proofs.ExclusiveWriters.{shares_source}
 use Rattle.hc_effects.proofs.PlanBy.{PlanBy, plan_by}
 use Rattle.hc_effects.proofs.PlanBy as plans
 use Rattle.hc_effects.proofs.ShownFrom.{candidate_is}

@@ -2,6 +2,7 @@
 use Rattle.std.proofs.Common.{◌≡◌, inl, inr, ℕ, ◌+◌, ◌<◌, ◌≤◌, List, [], ◌∷◌, length, Bool, true, false, Option, Some, None, refl, ap, sym, ◌∙◌, arith}
 use Rattle.std.specs.Prelude.{filter, nat_eq, nat_lt, nat_le, is_none, ◌||◌, ◌&&◌, not, if◌then◌else◌}
 use Rattle.std.proofs.lemmas.Bool.Decides.{nat_tests}
+use Rattle.hc_text.proofs.Basics.{bool_cases, not_some as none_some, never_true as not_so, and_off as right_off}
 use Rattle.hc_event.specs.declared.act.Refusal.TheVariants as refusal
 use Rattle.hc_event.specs.declared.event.Event.{Event}
 use Rattle.hc_event.specs.declared.event.Event.TheVariants as event
@@ -31,10 +32,9 @@ use Rattle.hc_model.specs.Rows.{Tables, Exchange, Consumer}
 use Rattle.hc_model.specs.Sound.{Sound}
 use Rattle.hc_model.specs.StartingOver.{starts_over, waits_at, sends_back, loses_what_it_waits_for}
 use Rattle.hc_model.specs.Tables.{after_accepted, starts_after}
-use Rattle.hc_effects.proofs.Basics.{false_true, true_false, none_some, some_none, not_so}
+use Rattle.hc_effects.proofs.Basics.{false_true, true_false, some_none}
 use Rattle.hc_effects.proofs.EventsKeep.{poll_live}
 use Rattle.hc_effects.proofs.FirstKeeps.{is_new}
-use Rattle.hc_effects.proofs.HoleLemmas.{bool_cases}
 use Rattle.hc_effects.proofs.NumbersKeep.{starts_later}
 use Rattle.hc_laws.proofs.OrderRuns.{starts_on}
 use Rattle.hc_laws.proofs.RunFacts.{in_runs}
@@ -91,10 +91,6 @@ three_off : (a b c : Bool) → a ≡ false → b ≡ false → c ≡ false → (
 three_off false false c p q r = r
 three_off false true c p q r = absurd (true_false q)
 three_off true b c p q r = absurd (true_false p)
-
-right_off : (a b : Bool) → b ≡ false → (a && b) ≡ false
-right_off true b off = off
-right_off false b off = refl
 
 module _ (limits : Limits) (t : Tables) (now : ℕ) (flaw : Flaw) (s : Sound t) (o : Owners t) (ev : Event) (goes : denial t ev ≡ None) where
   abbrev e : Entry

@@ -1,6 +1,7 @@
 -- Beside who came alone others are bound only where that has neither an open exchange of its own nor a hole ahead: at each entry.
 use Rattle.std.proofs.Common.{◌≡◌, ◌⊎◌, inl, inr, ℕ, ◌<◌, Bool, true, false, Option, Some, None, refl, ap, sym, ◌∙◌, subst, arith}
 use Rattle.std.specs.Prelude.{is_some, is_none, ◌&&◌, ◌||◌}
+use Rattle.hc_text.proofs.Basics.{all_three, and_left, and_right, bool_cases, not_some as none_some, or_off_right as or_right, same_some as same_row, some_inj}
 use Rattle.hc_event.specs.Filters.{Opening, opening_in}
 use Rattle.hc_event.specs.declared.event.Event.{Event}
 use Rattle.hc_event.specs.declared.event.Event.TheVariants as event
@@ -31,7 +32,7 @@ use Rattle.hc_model.specs.Tables.{after_accepted}
 use Rattle.hc_model.specs.Writers.{came_alone, may_write, has_more, lacks_some, exclusive, brings_body}
 use Rattle.hc_effects.proofs.AboutKeeps.{own_open_of, own_open_is}
 use Rattle.hc_effects.proofs.ApartKeeps.{written_by}
-use Rattle.hc_effects.proofs.Basics.{false_true, or_false, and_left, and_right, none_some}
+use Rattle.hc_effects.proofs.Basics.{false_true, or_false}
 use Rattle.hc_effects.proofs.BoundFrom.{BoundFrom, IsRow, IsShown, bound_from, place_inj}
 use Rattle.hc_effects.proofs.BoundFrom as from
 use Rattle.hc_effects.proofs.BoundKeeps.{shown_place_is}
@@ -39,16 +40,14 @@ use Rattle.hc_effects.proofs.Dues.{due_before}
 use Rattle.hc_effects.proofs.ExchangeFrom.{ExchangeFrom, exchange_from}
 use Rattle.hc_effects.proofs.ExchangeFrom as exchange
 use Rattle.hc_effects.proofs.FirstKeeps.{is_new, is_opener, came_kept, open_free}
-use Rattle.hc_effects.proofs.HoleLemmas.{bool_cases}
 use Rattle.hc_effects.proofs.LossBy.{IsReal}
-use Rattle.hc_effects.proofs.Losses.{HasRest, exclusive_is, no_more, or_end, or_right}
+use Rattle.hc_effects.proofs.Losses.{HasRest, exclusive_is, no_more, or_end}
 use Rattle.hc_effects.proofs.OpenedAs as opened
 use Rattle.hc_effects.proofs.OpensFrom.{hole_is, opens_hole}
 use Rattle.hc_effects.proofs.OwnFrom.{OwnFrom, own_from}
 use Rattle.hc_effects.proofs.OwnFrom as own
 use Rattle.hc_effects.proofs.OwnersKeep.{is_opened}
-use Rattle.hc_effects.proofs.ExclusiveWriters.{IsAtHole, same_row, bound_some, shares_source, writer_some}
-use Rattle.hc_effects.proofs.PieceKeeps.{some_inj}
+use Rattle.hc_effects.proofs.ExclusiveWriters.{IsAtHole, bound_some, shares_source, writer_some}
 use Rattle.hc_effects.proofs.PollTree.{OpensHole}
 use Rattle.hc_effects.proofs.PollTree as tree
 use Rattle.hc_effects.proofs.RepFrom.{RepFrom, rep_from, IsKept, IsResumed}
@@ -67,9 +66,6 @@ pub record IsResting (t : Tables) (v : Representation) (k : Consumer) : Type 0 w
 
 pub record AreLone (t : Tables) : Type 0 where
   pub lone : (r c d : ℕ) (v : Representation) (k u : Consumer) → t.representation r ≡ Some v → v.is_lost ≡ false → is_written t v ≡ false → IsFirst t r c → t.consumer c ≡ Some k → k.due ≡ None → IsBound t r d u → (d ≡ c → ⊥) → IsResting t v k
-
-pub all_three : (a b c : Bool) → a ≡ true → b ≡ true → c ≡ true → (a && b && c) ≡ true
-all_three a b c p q r = rw (p, q, r) refl
 
 -- where it isn't the exclusive writer
 pub resting_is : (t : Tables) (r c lo : ℕ) (hi : Option ℕ) (how : BoundBy) (v : Representation) (k : Consumer) → Sound t → t.consumer c ≡ Some k → k.place ≡ place.Bound r lo hi how → came_alone t (place.Bound r lo hi how) ≡ true → k.due ≡ None → is_written t v ≡ false → exclusive t r v ≡ None → IsResting t v k

@@ -2,6 +2,7 @@
 use Rattle.std.proofs.Common.{◌≡◌, Bool, ℕ, length, true, false, Option, Some, None, refl, ap, sym, ◌∙◌}
 use Rattle.std.specs.Prelude.{if◌then◌else◌, ◌==◌, ◌&&◌}
 use Rattle.std.specs.Option.{option_map}
+use Rattle.hc_text.proofs.Basics.{not_some as none_some, some_inj}
 use Rattle.hc_event.specs.Filters.{Opening, opening_in, evicts_in, is_denied}
 use Rattle.hc_event.specs.declared.event.Event.{Event}
 use Rattle.hc_event.specs.declared.event.Event.TheVariants as event
@@ -20,13 +21,11 @@ use Rattle.hc_model.specs.Cases.{case_at, is_founding}
 use Rattle.hc_model.specs.RepresentationRows.{new_representation, founded_at, representation_after}
 use Rattle.hc_model.specs.Rows.{Tables, Exchange, Representation, Consumer}
 use Rattle.hc_model.specs.Runs.{IsOwed, may_stand, may_be}
-use Rattle.hc_effects.proofs.Basics.{none_some}
 use Rattle.hc_effects.proofs.KeyActs as acts
 use Rattle.hc_effects.proofs.KeyNames.{IsOther}
 use Rattle.hc_effects.proofs.KeyRows.{IsFarEntry, exchange_stays, representation_row, consumer_row}
 use Rattle.hc_effects.proofs.Once.{never}
 use Rattle.hc_effects.proofs.Owed.{acts_are, goes}
-use Rattle.hc_effects.proofs.PieceKeeps.{some_inj}
 
 -- an accepted event of an exchange is of one that is there
 came : (o : Option Exchange) → (o ≡ None → ⊥) → (w : Exchange) × (o ≡ Some w)

@@ -7,6 +7,7 @@
 use Rattle.std.proofs.Common.{◌≡◌, ◌⊎◌, inl, inr, ℕ, suc, ◌+◌, ◌<◌, ◌≤◌, List, [], ◌∷◌, length, map, Bool, true, Option, Some, None, refl, ap, sym, ◌∙◌, arith}
 use Rattle.std.specs.Prelude.{filter, is_some, if◌then◌else◌, ◌==◌, unwrap_or}
 use Rattle.std.specs.Option.{option_or}
+use Rattle.hc_text.proofs.Basics.{bool_cases, map_long, same_some as same_row}
 use Rattle.hc_event.specs.declared.place.Place.{Place}
 use Rattle.hc_event.specs.declared.place.Place.TheVariants as place
 use Rattle.hc_model.specs.Denials.{live, is_live, is_live_place}
@@ -25,8 +26,6 @@ use Rattle.hc_effects.proofs.AboutKeeps.{own_open_is}
 use Rattle.hc_effects.proofs.Basics.{false_true}
 use Rattle.hc_effects.proofs.Closed.{among_filter}
 use Rattle.hc_effects.proofs.HasBound.{among_passes, some_among, reader_of}
-use Rattle.hc_effects.proofs.ExclusiveWriters.{same_row}
-use Rattle.hc_effects.proofs.HoleLemmas.{bool_cases}
 use Rattle.hc_laws.proofs.OrderRuns.{order_in_runs}
 use Rattle.hc_effects.proofs.PieceKeeps.{eq_cases}
 use Rattle.hc_laws.proofs.SoundRuns.{runs_are_sound}
@@ -151,10 +150,6 @@ among_mapped : (f : ℕ → ℕ) (c x : ℕ) (cs : List ℕ) → f c ≡ x → A
 among_mapped f c x [] is there = there
 among_mapped f c x (d ∷ ds) is (inl here) = inl (ap f here ∙ is)
 among_mapped f c x (d ∷ ds) is (inr more) = inr (among_mapped f c x ds is more)
-
-map_long : (f : ℕ → ℕ) (cs : List ℕ) → length (map f cs) ≡ length cs
-map_long f [] = refl
-map_long f (c ∷ cs) = let rest = map_long f cs in omega (arith, rest)
 
 module _ (t : Tables) (s : Sound t) (w : Whose t) (order : InOrder t) where
   abbrev source_in : Option Consumer → Option ℕ

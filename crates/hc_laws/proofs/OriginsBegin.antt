@@ -3,6 +3,7 @@ use Rattle.std.proofs.Common.{◌≡◌, inl, inr, ℕ, ◌-◌, ◌<◌, ◌≤
 use Rattle.std.specs.Prelude.{is_some, find, nat_eq, nat_lt, option_map, ◌==◌, ◌&&◌, not}
 use Rattle.std.specs.List.{list_any, list_all}
 use Rattle.std.proofs.lemmas.Bool.Decides.{nat_tests}
+use Rattle.hc_text.proofs.Basics.{and_left, and_right, bool_cases, not_some as none_some, not_true, or_right, some_inj}
 use Rattle.hc_rules.specs.declared.room.Limits.{Limits}
 use Rattle.hc_sparse.proofs.CellLemmas.{inside-cases}
 use Rattle.hc_sparse.specs.Cells.{Cell}
@@ -14,9 +15,8 @@ use Rattle.hc_model.specs.Origins.{HasByte, Origins}
 use Rattle.hc_model.specs.Origins as origins
 use Rattle.hc_model.specs.Rows.{Representation}
 use Rattle.hc_model.specs.Tables.{first_tables, representation_of_content}
-use Rattle.hc_effects.proofs.Basics.{false_true, and_left, and_right, or_right, or_false, not_true, none_some}
-use Rattle.hc_effects.proofs.HoleLemmas.{bool_cases}
-use Rattle.hc_effects.proofs.PieceKeeps.{eq_cases, some_inj}
+use Rattle.hc_effects.proofs.Basics.{false_true, or_false}
+use Rattle.hc_effects.proofs.PieceKeeps.{eq_cases}
 use Rattle.hc_laws.proofs.Starts.{numbers_begin}
 
 abbrev pub of_number : ℕ → Content → Bool

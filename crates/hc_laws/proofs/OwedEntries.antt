@@ -7,6 +7,7 @@
 use Rattle.std.proofs.Common.{◌≡◌, ◌≤◌, ℕ, List, [], ◌∷◌, ◌++◌, length, Bool, true, false, Option, Some, None, refl, ap, sym, ◌∙◌, subst}
 use Rattle.std.specs.Prelude.{if◌then◌else◌, ◌||◌, not, map}
 use Rattle.std.specs.Option.{option_and_then}
+use Rattle.hc_text.proofs.Basics.{both_true as and_both, or_left, or_right}
 use Rattle.hc_event.specs.Filters.{is_denied}
 use Rattle.hc_event.specs.declared.act.Act.{Act}
 use Rattle.hc_event.specs.declared.act.Act.TheVariants as act
@@ -42,7 +43,7 @@ use Rattle.hc_model.specs.Runs.{IsOwed, may_stand, may_be, may_lose, is_kept, fl
 use Rattle.hc_model.specs.Sound.{Sound}
 use Rattle.hc_model.specs.Weights.{room_for, room_by, write_of_piece, piece_write, evicted}
 use Rattle.hc_model.specs.Writes.{written_representation, head_writes, may_validate, piece_writes, unless_lost, lossless}
-use Rattle.hc_effects.proofs.Basics.{false_true, and_both, or_left, or_right, number_yes}
+use Rattle.hc_effects.proofs.Basics.{false_true, number_yes}
 use Rattle.hc_laws.proofs.ExchangeFilters.{headless}
 use Rattle.hc_effects.proofs.FailsTold.{fails_told}
 use Rattle.hc_effects.proofs.FoundCases.{no_loss}

@@ -1,6 +1,7 @@
 -- Who has no own exchange after an entry had none before, or its own one becomes that of a shared writing.
 use Rattle.std.proofs.Common.{◌≡◌, ◌⊎◌, inl, inr, ℕ, Bool, true, false, Option, Some, None, refl, ap, ◌∙◌}
 use Rattle.std.specs.Prelude.{if◌then◌else◌, is_none, ◌==◌, ◌&&◌, not}
+use Rattle.hc_text.proofs.Basics.{and_left, and_right, bool_cases}
 use Rattle.hc_event.specs.Filters.{Opening, opening_in}
 use Rattle.hc_event.specs.declared.event.Event.{Event}
 use Rattle.hc_event.specs.declared.event.Event.TheVariants as event
@@ -13,8 +14,7 @@ use Rattle.hc_model.specs.Currents.{is_number}
 use Rattle.hc_model.specs.Entries.{Entry}
 use Rattle.hc_model.specs.Rows.{Tables, Exchange, Representation, Consumer}
 use Rattle.hc_model.specs.Writers.{loses_writing, survivor}
-use Rattle.hc_effects.proofs.Basics.{and_left, and_right, some_none}
-use Rattle.hc_effects.proofs.HoleLemmas.{bool_cases}
+use Rattle.hc_effects.proofs.Basics.{some_none}
 use Rattle.hc_effects.proofs.PieceKeeps.{eq_cases}
 use Rattle.hc_effects.proofs.ExclusiveWriters.{writer_some}
 

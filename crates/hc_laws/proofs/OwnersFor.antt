@@ -1,6 +1,7 @@
 -- Whose own an exchange may be: that of its consumer, or of the detached reader of what it wrote for several, in every run.
 use Rattle.std.proofs.Common.{◌≡◌, inl, inr, ℕ, true, Option, Some, None, refl, ap, sym, ◌∙◌, subst}
 use Rattle.std.specs.Prelude.{is_some, unwrap_or, ◌&&◌}
+use Rattle.hc_text.proofs.Basics.{and_left, and_right, bool_cases, not_some as none_some, same_some as same_row}
 use Rattle.hc_event.specs.Filters.{Opening, opening_in}
 use Rattle.hc_event.specs.declared.event.Event.{Event}
 use Rattle.hc_event.specs.declared.event.Event.TheVariants as event
@@ -22,16 +23,14 @@ use Rattle.hc_model.specs.Tables.{after_accepted, after_denied}
 use Rattle.hc_model.specs.Whose.{IsOwner}
 use Rattle.hc_model.specs.Whose as whose
 use Rattle.hc_model.specs.Writers.{loses_writing, brings_body}
-use Rattle.hc_effects.proofs.Basics.{false_true, and_left, and_right, none_some, some_row}
+use Rattle.hc_effects.proofs.Basics.{false_true, some_row}
 use Rattle.hc_effects.proofs.ExchangeFrom.{ExchangeFrom, exchange_from, IsSame, IsHeaded}
 use Rattle.hc_effects.proofs.ExchangeFrom as exchange
 use Rattle.hc_effects.proofs.FirstKeeps.{is_new}
-use Rattle.hc_effects.proofs.HoleLemmas.{bool_cases}
 use Rattle.hc_effects.proofs.LossBy.{IsReal, fresh}
 use Rattle.hc_effects.proofs.OwnFrom.{OwnFrom, own_from, IsLeft}
 use Rattle.hc_effects.proofs.OwnFrom as own_by
 use Rattle.hc_effects.proofs.OwnersKeep.{new_number}
-use Rattle.hc_effects.proofs.ExclusiveWriters.{same_row}
 use Rattle.hc_effects.proofs.RepFrom.{RepFrom, rep_from, IsKept}
 use Rattle.hc_effects.proofs.RepFrom as rep
 use Rattle.hc_laws.proofs.RunFacts.{in_runs}

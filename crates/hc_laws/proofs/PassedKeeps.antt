@@ -1,5 +1,6 @@
 -- Whoever waits for a body asks for what is stored: its request isn't a bypassing one.
 use Rattle.std.proofs.Common.{◌≡◌, ℕ, Bool, true, false, Option, Some, None, refl, ap, sym, ◌∙◌}
+use Rattle.hc_text.proofs.Basics.{same_some as same_row}
 use Rattle.hc_event.specs.declared.event.Event.{Event}
 use Rattle.hc_event.specs.declared.event.Event.TheVariants as event
 use Rattle.hc_event.specs.declared.event.Request.{Request}
@@ -29,7 +30,6 @@ use Rattle.hc_effects.proofs.FoundBy as cases
 use Rattle.hc_effects.proofs.Forward.{is_kept}
 use Rattle.hc_laws.proofs.PassedFrom.{PassedFrom, passed_from}
 use Rattle.hc_laws.proofs.PassedFrom as passed
-use Rattle.hc_effects.proofs.ExclusiveWriters.{same_row}
 use Rattle.hc_effects.proofs.Said.{waiting_by}
 use Rattle.hc_effects.proofs.WaitedAs.{waited_as}
 use Rattle.hc_effects.proofs.WaitedAs as waited

@@ -1,6 +1,7 @@
 -- What holds of a consumer by its place holds in every run.
 use Rattle.std.proofs.Common.{◌≡◌, ℕ, [], ◌∷◌, Bool, true, false, Option, Some, None, refl, ap, sym, ◌∙◌, subst}
 use Rattle.std.specs.Prelude.{is_some}
+use Rattle.hc_text.proofs.Basics.{not_some as none_some, same_some as same_row}
 use Rattle.hc_event.specs.Filters.{is_denied}
 use Rattle.hc_event.specs.declared.event.Response.{Response}
 use Rattle.hc_rules.specs.declared.need.Route.TheVariants as route
@@ -24,12 +25,11 @@ use Rattle.hc_model.specs.Runs.{IsOwed}
 use Rattle.hc_model.specs.Sound.{Sound}
 use Rattle.hc_model.specs.Tables.{tables, first_tables, after_accepted, after_denied}
 use Rattle.hc_laws.proofs.Barred.{next_tables, denied_tables}
-use Rattle.hc_effects.proofs.Basics.{false_true, none_some}
+use Rattle.hc_effects.proofs.Basics.{false_true}
 use Rattle.hc_effects.proofs.Beside.{IsBeside, is_cached_place}
 use Rattle.hc_effects.proofs.Bounded.{IsBounded}
 use Rattle.hc_laws.proofs.InRuns.{turned_in_runs}
 use Rattle.hc_effects.proofs.OfEntries.{of_real}
-use Rattle.hc_effects.proofs.ExclusiveWriters.{same_row}
 use Rattle.hc_laws.proofs.PlacesKept.{AreOwn, IsOwnTurn, own_kept, turn_direct, bound_direct, bound_turn}
 use Rattle.hc_laws.proofs.PlacesRead.{AreRead, read_kept}
 use Rattle.hc_laws.proofs.PlacesEnded.{AreEnded, ended_kept}

@@ -3,6 +3,7 @@ use Rattle.std.proofs.Common.{◌≡◌, inl, inr, ℕ, ◌+◌, ◌≤◌, List
 use Rattle.std.specs.Prelude.{if◌then◌else◌, ◌==◌, ◌&&◌, not, nat_eq, nat_lt, unwrap_or}
 use Rattle.std.specs.Option.{option_or}
 use Rattle.std.proofs.lemmas.Bool.Decides.{nat_tests}
+use Rattle.hc_text.proofs.Basics.{and_left, and_right, bool_cases, not_some as none_some, never_true as not_so, or_cases, same_some as same_row, some_inj}
 use Rattle.hc_event.specs.Filters.{closes_in}
 use Rattle.hc_event.specs.declared.act.Act.{Act}
 use Rattle.hc_event.specs.declared.event.Event.{Event}
@@ -29,7 +30,7 @@ use Rattle.hc_model.specs.Rows.{Tables, Exchange, Consumer}
 use Rattle.hc_model.specs.Sound.{Sound}
 use Rattle.hc_model.specs.StartingOver.{awaited_exchange}
 use Rattle.hc_model.specs.Tables.{after_accepted}
-use Rattle.hc_effects.proofs.Basics.{false_true, and_left, and_right, not_so, or_cases, none_some}
+use Rattle.hc_effects.proofs.Basics.{false_true}
 use Rattle.hc_effects.proofs.Bounded.{IsBounded}
 use Rattle.hc_effects.proofs.Closed.{before}
 use Rattle.hc_effects.proofs.Dues.{due_before, undue_parts}
@@ -37,14 +38,12 @@ use Rattle.hc_effects.proofs.ExchangeFrom.{ExchangeFrom, exchange_from}
 use Rattle.hc_effects.proofs.ExchangeFrom as exchange
 use Rattle.hc_effects.proofs.FirstKeeps.{is_new}
 use Rattle.hc_effects.proofs.Forward.{after_is}
-use Rattle.hc_effects.proofs.HoleLemmas.{bool_cases}
 use Rattle.hc_effects.proofs.MeasuresKeep.{piece_taken, ender}
 use Rattle.hc_effects.proofs.Once.{never}
 use Rattle.hc_effects.proofs.OwnersKeep.{new_number}
 use Rattle.hc_effects.proofs.PastKeeps.{IsFrom, PlaceFrom, direct_from}
 use Rattle.hc_effects.proofs.PastKeeps as past
-use Rattle.hc_effects.proofs.PieceKeeps.{eq_cases, some_inj}
-use Rattle.hc_effects.proofs.ExclusiveWriters.{same_row}
+use Rattle.hc_effects.proofs.PieceKeeps.{eq_cases}
 use Rattle.hc_laws.proofs.PlacesKept.{AreOwn, left_past, head_poll, over_direct}
 use Rattle.hc_laws.proofs.ReadEnds.{no_base}
 use Rattle.hc_effects.proofs.ShownStays.{IsFallback}

@@ -3,6 +3,7 @@ use Rattle.std.proofs.Common.{◌≡◌, inl, inr, ℕ, ◌+◌, ◌-◌, ◌<�
 use Rattle.std.specs.Prelude.{if◌then◌else◌, is_some, ◌&&◌, nat_le, nat_lt}
 use Rattle.std.specs.Option.{option_or}
 use Rattle.std.proofs.lemmas.Bool.Decides.{nat_tests}
+use Rattle.hc_text.proofs.Basics.{and_right, bool_cases, not_some as none_some, never_true as not_so, same_some as same_row, some_inj}
 use Rattle.hc_sparse.specs.Cells.{Cell}
 use Rattle.hc_sparse.specs.declared.run.Run.{Run}
 use Rattle.hc_event.specs.Filters.{Opening, opening_in, given_in, leaves_in}
@@ -38,7 +39,7 @@ use Rattle.hc_model.specs.Sound as sound
 use Rattle.hc_model.specs.StartingOver.{starts_over}
 use Rattle.hc_model.specs.Tables.{after_accepted}
 use Rattle.hc_model.specs.Writers.{loses_writing}
-use Rattle.hc_effects.proofs.Basics.{false_true, and_right, not_so, none_some}
+use Rattle.hc_effects.proofs.Basics.{false_true}
 use Rattle.hc_effects.proofs.Bounded.{IsBounded}
 use Rattle.hc_effects.proofs.ConsumerFilters.{acted, given_by}
 use Rattle.hc_effects.proofs.Dues.{undue_of, loss_at, due_none}
@@ -51,13 +52,11 @@ use Rattle.hc_effects.proofs.FirstKeeps.{is_new, is_opener}
 use Rattle.hc_effects.proofs.Forward.{is_kept}
 use Rattle.hc_effects.proofs.GivenNext.{read_of, given_next}
 use Rattle.hc_effects.proofs.Givers.{some_want, gives_of}
-use Rattle.hc_effects.proofs.HoleLemmas.{bool_cases}
 use Rattle.hc_effects.proofs.MoveBy.{move_by}
 use Rattle.hc_effects.proofs.OwnersKeep.{is_opened, new_number}
 use Rattle.hc_effects.proofs.PastKeeps.{IsFrom, PlaceFrom, direct_from}
 use Rattle.hc_effects.proofs.PastKeeps as past
-use Rattle.hc_effects.proofs.PieceKeeps.{eq_cases, some_inj}
-use Rattle.hc_effects.proofs.ExclusiveWriters.{same_row}
+use Rattle.hc_effects.proofs.PieceKeeps.{eq_cases}
 use Rattle.hc_laws.proofs.PlacesKept.{AreOwn, IsOwnPast, past_unopened, left_past, head_poll, bound_direct, over_direct}
 use Rattle.hc_effects.proofs.PollActs.{ToOne, to_one}
 use Rattle.hc_effects.proofs.PollActs as acts_to

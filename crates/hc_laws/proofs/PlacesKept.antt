@@ -2,6 +2,7 @@
 use Rattle.std.proofs.Common.{◌≡◌, ◌⊎◌, inl, inr, ℕ, List, length, Bool, true, false, cond, Option, Some, None, refl, ap, sym, ◌∙◌, subst}
 use Rattle.std.specs.Prelude.{if◌then◌else◌, is_some, is_none, ◌==◌, ◌&&◌, not}
 use Rattle.std.specs.Option.{option_and_then}
+use Rattle.hc_text.proofs.Basics.{both_true as and_both, bool_cases, not_some as none_some, same_some as same_row, some_inj}
 use Rattle.hc_event.specs.Filters.{Opening, opening_in}
 use Rattle.hc_event.specs.declared.act.Cause.{Cause}
 use Rattle.hc_event.specs.declared.event.Event.{Event}
@@ -43,21 +44,19 @@ use Rattle.hc_model.specs.Sound.{Sound}
 use Rattle.hc_model.specs.StartingOver.{starts_over, sends_back}
 use Rattle.hc_model.specs.Tables.{after_accepted}
 use Rattle.hc_model.specs.Writers.{brings_body, loses_writing}
-use Rattle.hc_effects.proofs.Basics.{false_true, and_both, or_false, none_some, some_none, some_row}
+use Rattle.hc_effects.proofs.Basics.{false_true, or_false, some_none, some_row}
 use Rattle.hc_effects.proofs.BoundFrom.{IsRow}
 use Rattle.hc_effects.proofs.ExchangeFrom.{IsHeaded}
 use Rattle.hc_effects.proofs.FirstKeeps.{is_new, case_is}
 use Rattle.hc_effects.proofs.Forward.{is_on, is_kept, opened_on, is_untouched}
 use Rattle.hc_effects.proofs.FoundBy.{CaseBy, case_by}
 use Rattle.hc_effects.proofs.FoundBy as cases
-use Rattle.hc_effects.proofs.HoleLemmas.{bool_cases}
 use Rattle.hc_effects.proofs.MoveBy.{IsHeard}
 use Rattle.hc_effects.proofs.Once.{taken, never}
 use Rattle.hc_effects.proofs.OwnersKeep.{is_opened, new_number}
 use Rattle.hc_effects.proofs.PastKeeps.{PlaceFrom, direct_from}
 use Rattle.hc_effects.proofs.PastKeeps as past
-use Rattle.hc_effects.proofs.PieceKeeps.{eq_cases, some_inj}
-use Rattle.hc_effects.proofs.ExclusiveWriters.{same_row}
+use Rattle.hc_effects.proofs.PieceKeeps.{eq_cases}
 use Rattle.hc_effects.proofs.ShownStays.{IsFallback}
 use Rattle.hc_effects.proofs.ToBeShown.{heard_place}
 use Rattle.hc_effects.proofs.TurnPlaces.{ComesFrom, StaysOrPlain, is_after}

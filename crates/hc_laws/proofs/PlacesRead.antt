@@ -1,6 +1,7 @@
 -- What an open exchange brings that is of no representation is read past the store, at each entry.
 use Rattle.std.proofs.Common.{◌≡◌, ◌⊎◌, inl, inr, ℕ, Bool, true, false, Option, Some, None, refl, ap, sym, ◌∙◌}
 use Rattle.std.specs.Prelude.{is_some, is_none, ◌==◌, ◌&&◌, ◌||◌, not, unwrap_or}
+use Rattle.hc_text.proofs.Basics.{all_false, and_left, and_off, and_right, bool_cases, never_true as not_so, same_some as same_row, some_inj}
 use Rattle.hc_event.specs.Filters.{opening_in}
 use Rattle.hc_event.specs.declared.event.Event.{Event}
 use Rattle.hc_event.specs.declared.event.Event.TheVariants as event
@@ -29,7 +30,7 @@ use Rattle.hc_model.specs.Sound.{Sound}
 use Rattle.hc_model.specs.Sound as sound
 use Rattle.hc_model.specs.StartingOver.{starts_over, sends_back, waits_at, loses_what_it_waits_for}
 use Rattle.hc_model.specs.Tables.{after_accepted}
-use Rattle.hc_effects.proofs.Basics.{false_true, and_left, and_right, not_so}
+use Rattle.hc_effects.proofs.Basics.{false_true}
 use Rattle.hc_effects.proofs.ExchangeFrom.{ExchangeFrom, exchange_from, IsSame, IsHeaded}
 use Rattle.hc_effects.proofs.ExchangeFrom as exchange
 use Rattle.hc_effects.proofs.FirstKeeps.{is_new, case_is}
@@ -38,10 +39,8 @@ use Rattle.hc_effects.proofs.FoundBy.{CaseBy, case_by}
 use Rattle.hc_effects.proofs.FoundBy as cases
 use Rattle.hc_effects.proofs.HeadedAs.{HeadedAs, headed_as, not_refused, not_unmodified}
 use Rattle.hc_effects.proofs.HeadedAs as head
-use Rattle.hc_effects.proofs.HoleLemmas.{bool_cases}
 use Rattle.hc_effects.proofs.OwnFrom.{IsRow}
-use Rattle.hc_effects.proofs.PieceKeeps.{eq_cases, some_inj}
-use Rattle.hc_effects.proofs.ExclusiveWriters.{same_row}
+use Rattle.hc_effects.proofs.PieceKeeps.{eq_cases}
 use Rattle.hc_laws.proofs.PlacesKept.{AreOwn, past_unopened, opening_stays, own_free, settled}
 use Rattle.hc_effects.proofs.ReadingKeeps.{reader_stays}
 use Rattle.hc_effects.proofs.RepFrom as rep
@@ -51,13 +50,6 @@ use Rattle.hc_effects.proofs.Waiters.{IsWaiter, waiter_of}
 -- who reads what is open and of no representation
 pub record AreRead (t : Tables) : Type 0 where
   pub read : (x : ℕ) (w : Exchange) → t.exchange x ≡ Some w → w.is_open ≡ true → is_some w.head ≡ true → t.representation (family x w) ≡ None → IsReadPast t x w
-
-all_false : (p q r : Bool) → p ≡ false → q ≡ false → r ≡ false → ((p || q) || r) ≡ false
-all_false p q r a b d = rw (a, b, d) refl
-
-and_off : (p q : Bool) → q ≡ false → (p && q) ≡ false
-and_off true q off = off
-and_off false q off = refl
 
 module _ (limits : Limits) (t : Tables) (now : ℕ) (flaw : Flaw) (s : Sound t) (o : Owners t) (a : IsFallback t) (g : AreOwn t) (ev : Event) (goes : denial t ev ≡ None) where
   abbrev e : Entry

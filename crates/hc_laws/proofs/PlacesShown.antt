@@ -1,6 +1,7 @@
 -- Who was shown a head reads, or is over, at each entry.
 use Rattle.std.proofs.Common.{◌≡◌, inl, inr, ℕ, ◌++◌, Bool, true, false, Option, Some, None, refl, ap, sym, ◌∙◌, subst}
 use Rattle.std.specs.Prelude.{if◌then◌else◌, is_none, is_some, ◌==◌, ◌&&◌, ◌||◌, not}
+use Rattle.hc_text.proofs.Basics.{all_false, and_left, and_off, and_right, bool_cases, never_true as not_so, or_cases, same_some as same_row}
 use Rattle.hc_event.specs.Filters.{Opening, opening_in, leaves_in, shows_in}
 use Rattle.hc_event.specs.declared.event.Event.{Event}
 use Rattle.hc_event.specs.declared.event.Event.TheVariants as event
@@ -39,14 +40,12 @@ use Rattle.hc_model.specs.StartingOver.{starts_over, sends_back, waits_at, loses
 use Rattle.hc_model.specs.Tables.{after_accepted}
 use Rattle.hc_effects.proofs.ActParts as parts
 use Rattle.hc_laws.proofs.FallbackKeeps.{landing, new_unshown}
-use Rattle.hc_effects.proofs.Basics.{false_true, and_left, and_right, or_cases, not_so}
+use Rattle.hc_effects.proofs.Basics.{false_true}
 use Rattle.hc_effects.proofs.FirstKeeps.{is_new, case_is, is_opener}
 use Rattle.hc_effects.proofs.FoundBy.{CaseBy, case_by}
 use Rattle.hc_effects.proofs.FoundBy as cases
-use Rattle.hc_effects.proofs.HoleLemmas.{bool_cases}
 use Rattle.hc_effects.proofs.OpenedAs.{opened_as}
 use Rattle.hc_effects.proofs.PieceKeeps.{eq_cases}
-use Rattle.hc_effects.proofs.ExclusiveWriters.{same_row}
 use Rattle.hc_laws.proofs.PlacesKept.{AreOwn, settled}
 use Rattle.hc_effects.proofs.Said.{WaitsAs, waiting_by}
 use Rattle.hc_effects.proofs.ShownStays.{IsFallback, way_bound, shows_not, unless_same}
@@ -76,13 +75,6 @@ reads_reader (place.Bound r lo hi how) h = tt
 reads_reader (place.Direct x) h = tt
 reads_reader (place.Down why) h = false_true h
 reads_reader place.Over h = tt
-
-all_false : (p q r : Bool) → p ≡ false → q ≡ false → r ≡ false → ((p || q) || r) ≡ false
-all_false p q r a b d = rw (a, b, d) refl
-
-and_off : (p q : Bool) → q ≡ false → (p && q) ≡ false
-and_off true q off = off
-and_off false q off = refl
 
 self : (c : ℕ) → (c == c) ≡ true
 self c = elim (eq_cases c c) [

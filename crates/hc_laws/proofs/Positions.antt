@@ -3,15 +3,14 @@ use Rattle.std.proofs.Common.{◌≡◌, inl, inr, ℕ, zero, suc, ◌+◌, ◌-
 use Rattle.std.specs.Prelude.{is_some, nat_le, nat_lt}
 use Rattle.std.proofs.lemmas.Bool.Decides.{nat_tests}
 use Rattle.std.proofs.lemmas.List.Sums.{sum_by-cons}
+use Rattle.hc_text.proofs.Basics.{and_left, and_right, bool_cases}
 use Rattle.hc_sparse.specs.Cells.{Cells, Covers, EndsBy, AreAbsent, cells_with, size_below}
 use Rattle.hc_sparse.specs.Runs.{cells_of, end_of}
 use Rattle.hc_sparse.specs.declared.run.Run.{Run}
 use Rattle.hc_sparse.proofs.CellLemmas.{inside-cases, inside-before}
 use Rattle.hc_model.specs.Beginnings.{ascend_from}
 use Rattle.hc_model.specs.Tables.{last_end, bytes_in}
-use Rattle.hc_effects.proofs.Basics.{and_left, and_right}
 use Rattle.hc_laws.proofs.Begins.{ends_all}
-use Rattle.hc_effects.proofs.HoleLemmas.{bool_cases}
 
 pub below_none : (f : Cells) (n : ℕ) → EndsBy 0 f → size_below f n ≡ 0
 unfolding size_below

@@ -3,6 +3,7 @@ use Rattle.std.proofs.Common.{◌≡◌, inl, inr, ℕ, ◌+◌, ◌-◌, ◌<�
 use Rattle.std.specs.Prelude.{is_some, nat_le, nat_lt, ◌&&◌, if◌then◌else◌}
 use Rattle.std.specs.Option.{option_or}
 use Rattle.std.proofs.lemmas.Bool.Decides.{nat_tests}
+use Rattle.hc_text.proofs.Basics.{and_right, bool_cases, not_some as none_some, some_inj}
 use Rattle.hc_range.specs.declared.range.Span.{Span}
 use Rattle.hc_sparse.specs.Cells.{Cell}
 use Rattle.hc_sparse.specs.declared.run.Run.{Run}
@@ -54,16 +55,14 @@ use Rattle.hc_model.specs.Tables.{tables, after_accepted}
 use Rattle.hc_effects.proofs.ActParts.{IsSaid, said_is}
 use Rattle.hc_effects.proofs.ActParts as parts
 use Rattle.hc_laws.proofs.Barred.{next_tables, denied_tables}
-use Rattle.hc_effects.proofs.Basics.{false_true, and_right, none_some, append_none}
+use Rattle.hc_effects.proofs.Basics.{false_true, append_none}
 use Rattle.hc_effects.proofs.Bounded.{IsBounded, bounded_begun, bounded_denied, bounded_kept}
 use Rattle.hc_effects.proofs.GivenNext.{read_of}
-use Rattle.hc_effects.proofs.HoleLemmas.{bool_cases}
 use Rattle.hc_effects.proofs.MoveBy.{MoveBy, move_by}
 use Rattle.hc_effects.proofs.MoveBy as by_move
 use Rattle.hc_effects.proofs.OfEntries.{of_real}
 use Rattle.hc_effects.proofs.Owed.{IsDenied, is_denial, acts_are}
 use Rattle.hc_effects.proofs.Owed as owed_acts
-use Rattle.hc_effects.proofs.PieceKeeps.{some_inj}
 use Rattle.hc_laws.proofs.ReadAs.{IsRead}
 use Rattle.hc_laws.proofs.ReadJoined.{joined_in_runs, is_told, fallback}
 use Rattle.hc_laws.proofs.ReadNext.{by_said, shown_one}

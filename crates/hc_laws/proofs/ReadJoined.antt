@@ -5,6 +5,7 @@ use Rattle.std.specs.Option.{option_map_or}
 use Rattle.std.proofs.Math.ListN.{get_or-append}
 use Rattle.std.proofs.Math.Seq.{get_or-append_right}
 use Rattle.std.proofs.lemmas.Bool.Decides.{nat_tests}
+use Rattle.hc_text.proofs.Basics.{nil_cons, not_some as none_some}
 use Rattle.hc_sparse.specs.declared.run.Run.{Run}
 use Rattle.hc_event.specs.Filters.{is_denied, given_in}
 use Rattle.hc_event.specs.declared.event.Event.{Event}
@@ -30,7 +31,7 @@ use Rattle.hc_model.specs.Sound.{Sound}
 use Rattle.hc_model.specs.Tables.{tables, after_accepted, after_denied}
 use Rattle.hc_laws.proofs.FallbackKeeps.{landing_by, fallback_begun, fallback_denied, fallback_kept}
 use Rattle.hc_laws.proofs.Barred.{next_tables, denied_tables}
-use Rattle.hc_effects.proofs.Basics.{false_true, none_some, append_none}
+use Rattle.hc_effects.proofs.Basics.{false_true, append_none}
 use Rattle.hc_effects.proofs.GivenNext.{read_of, given_next}
 use Rattle.hc_effects.proofs.Givers.{some_want, gives_of}
 use Rattle.hc_laws.proofs.GrowsInRuns.{grows}
@@ -46,9 +47,6 @@ use Rattle.hc_effects.proofs.ShownOnce.{no_first}
 use Rattle.hc_effects.proofs.ShownStays.{IsFallback, StaysOrIdle, shown_stays}
 use Rattle.hc_effects.proofs.ShownStays as stands
 use Rattle.hc_laws.proofs.SoundRuns.{IsCarried, carried}
-
-nil_cons : {A : Type 0} (x : A) (xs : List A) → [] ≡ x ∷ xs → ⊥
-nil_cons x xs is = cc
 
 one_inj : (x y : Shown) → x ∷ [] ≡ y ∷ [] → x ≡ y
 one_inj x y is = cc

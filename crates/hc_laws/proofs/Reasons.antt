@@ -3,6 +3,7 @@ use Rattle.std.proofs.Common.{◌≡◌, ℕ, ◌-◌, [], ◌∷◌, Bool, true
 use Rattle.std.specs.Prelude.{is_some, nat_eq, nat_lt, ◌||◌}
 use Rattle.std.specs.Option.{option_map, option_and_then}
 use Rattle.std.proofs.lemmas.Bool.Decides.{nat_tests}
+use Rattle.hc_text.proofs.Basics.{not_some as none_some, or_left, or_right, eq_itself as same_number, some_inj}
 use Rattle.hc_event.specs.Filters.{is_denied}
 use Rattle.hc_event.specs.declared.act.Wait.TheVariants as wait
 use Rattle.hc_event.specs.declared.act.Why.{Why}
@@ -39,7 +40,7 @@ use Rattle.hc_model.specs.Sound.{Sound}
 use Rattle.hc_model.specs.Tables.{tables, after_accepted, after_denied}
 use Rattle.hc_laws.proofs.Aimed.{IsAimed, aimed_begun, aimed_denied, aimed_kept}
 use Rattle.hc_laws.proofs.Barred.{next_tables, denied_tables}
-use Rattle.hc_effects.proofs.Basics.{false_true, or_left, or_right, none_some}
+use Rattle.hc_effects.proofs.Basics.{false_true}
 use Rattle.hc_effects.proofs.Forward.{is_on}
 use Rattle.hc_laws.proofs.InRuns.{turned_in_runs}
 use Rattle.hc_laws.proofs.JoinFilters.{exchanges_are_filtered}
@@ -47,15 +48,11 @@ use Rattle.hc_effects.proofs.Joining.{mix}
 use Rattle.hc_effects.proofs.OfEntries.{of_real}
 use Rattle.hc_laws.proofs.PassedFrom.{PassedFrom, IsPassedRow, passed_from}
 use Rattle.hc_laws.proofs.PassedFrom as passed
-use Rattle.hc_effects.proofs.PieceKeeps.{some_inj}
 use Rattle.hc_effects.proofs.ReadFilters.{consumers_are_filtered}
 use Rattle.hc_effects.proofs.Said.{waiting_by}
 use Rattle.hc_laws.proofs.SoundRuns.{carried}
 use Rattle.hc_laws.proofs.WhyShown.{ShownWhy}
 use Rattle.hc_laws.proofs.WhyShown as shown_for
-
-same_number : (r : ℕ) → nat_eq r r ≡ true
-same_number r = grind (arith, nat_tests)
 
 -- WHAT FRESHNESS ALLOWS
 

@@ -3,6 +3,7 @@ use Rattle.std.proofs.Common.{◌≡◌, ◌⊎◌, inl, inr, ℕ, ◌+◌, ◌-
 use Rattle.std.specs.Prelude.{if◌then◌else◌, is_some, ◌==◌, nat_eq, bytes_eq, codes, unwrap_or}
 use Rattle.std.proofs.lemmas.Bool.Decides.{nat_tests}
 use Rattle.std.proofs.lemmas.Slice.Eq.{bytes_eq-Decides}
+use Rattle.hc_text.proofs.Basics.{bool_cases, not_some as none_some, same_some as same_row, some_inj}
 use Rattle.hc_range.specs.declared.range.ContentRange.TheVariants as range
 use Rattle.hc_text.specs.declared.bytes.MethodName.{MethodName}
 use Rattle.hc_event.specs.Filters.{Opening, opening_in}
@@ -46,7 +47,7 @@ use Rattle.hc_model.specs.Tables.{after_accepted}
 use Rattle.hc_model.specs.Writers.{came_alone, status_in}
 use Rattle.hc_effects.proofs.AboutKeeps.{own_open_of}
 use Rattle.hc_effects.proofs.ApartKeeps.{written_by}
-use Rattle.hc_effects.proofs.Basics.{false_true, true_false, or_false, none_some, some_none}
+use Rattle.hc_effects.proofs.Basics.{false_true, true_false, or_false, some_none}
 use Rattle.hc_effects.proofs.Beside.{IsBeside}
 use Rattle.hc_effects.proofs.BoundFrom.{BoundFrom, IsRow, IsFounded, IsShown, bound_from, place_inj}
 use Rattle.hc_effects.proofs.BoundFrom as from
@@ -56,13 +57,12 @@ use Rattle.hc_effects.proofs.FirstKeeps.{case_of_head, whole_200, replaced_200, 
 use Rattle.hc_effects.proofs.Forward as forward
 use Rattle.hc_laws.proofs.HadHeaded.{had_kept}
 use Rattle.hc_effects.proofs.HeadKeeps.{IsJoin}
-use Rattle.hc_effects.proofs.HoleLemmas.{bool_cases}
 use Rattle.hc_effects.proofs.LossBy.{IsReal}
 use Rattle.hc_effects.proofs.Losses.{HasRest}
 use Rattle.hc_laws.proofs.OwnNone.{IsShared, own_none, after_none}
 use Rattle.hc_effects.proofs.PartTold.{part_order}
-use Rattle.hc_effects.proofs.ExclusiveWriters.{same_row, writer_some}
-use Rattle.hc_effects.proofs.PieceKeeps.{eq_cases, some_inj}
+use Rattle.hc_effects.proofs.ExclusiveWriters.{writer_some}
+use Rattle.hc_effects.proofs.PieceKeeps.{eq_cases}
 use Rattle.hc_effects.proofs.RepFrom.{RepFrom, rep_from, IsKept, IsResumed}
 use Rattle.hc_effects.proofs.RepFrom as rep
 use Rattle.hc_effects.proofs.ServedKeeps.{rest_by, still_rests, resumed_not, none_promised}

@@ -4,14 +4,14 @@ use Rattle.std.specs.Prelude.{is_some, nat_eq, nat_le, nat_lt, ◌==◌, ◌&&�
 use Rattle.std.specs.List.{list_any, list_all}
 use Rattle.std.proofs.lemmas.Bool.Decides.{nat_tests}
 use Rattle.std.proofs.lemmas.List.Sums.{sum_by-cons}
+use Rattle.hc_text.proofs.Basics.{and_left, and_right, bool_cases, or_right}
 use Rattle.hc_sparse.specs.Cells.{Cells, Cell, size_below}
 use Rattle.hc_sparse.specs.Runs.{end_of}
 use Rattle.hc_sparse.specs.declared.run.Run.{Run}
 use Rattle.hc_model.specs.Beginnings.{ascend_from}
 use Rattle.hc_model.specs.Contents.{run_from, with_cell, with_place, runs_from}
 use Rattle.hc_model.specs.Tables.{last_end, bytes_in}
-use Rattle.hc_effects.proofs.Basics.{false_true, and_left, and_right, or_right}
-use Rattle.hc_effects.proofs.HoleLemmas.{bool_cases}
+use Rattle.hc_effects.proofs.Basics.{false_true}
 
 -- whether the first run goes on
 abbrev goes_on : ℕ → Cell → Run → Bool

@@ -2,6 +2,7 @@
 use Rattle.std.proofs.Common.{◌≡◌, ℕ, List, [], ◌∷◌, ◌++◌, Bool, true, false, Some, ap, sym, ◌∙◌, subst, arith}
 use Rattle.std.specs.Prelude.{option_map, ◌==◌, if◌then◌else◌}
 use Rattle.std.proofs.lemmas.Bool.Decides.{nat_tests}
+use Rattle.hc_text.proofs.Basics.{not_some as none_some, some_inj}
 use Rattle.hc_event.specs.Filters.{is_denied}
 use Rattle.hc_event.specs.declared.event.Event.{Event}
 use Rattle.hc_event.specs.declared.event.Event.TheVariants as event
@@ -14,9 +15,7 @@ use Rattle.hc_model.specs.WithinLimits.{HasFieldsWithinLimits, FieldsAreWithinLi
 use Rattle.hc_model.specs.Rows.{Consumer}
 use Rattle.hc_model.specs.StoredHeads.{IsHeadWithinLimits}
 use Rattle.hc_model.specs.Tables.{tables}
-use Rattle.hc_effects.proofs.Basics.{none_some}
 use Rattle.hc_effects.proofs.ConsumerFilters.{requests_are}
-use Rattle.hc_effects.proofs.PieceKeeps.{some_inj}
 
 -- REQUESTS
 

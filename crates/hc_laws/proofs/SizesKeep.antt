@@ -2,6 +2,7 @@
 use Rattle.std.proofs.Common.{◌≡◌, inl, inr, ℕ, ◌+◌, ◌≤◌, List, [], ◌∷◌, length, Bool, true, false, Option, Some, None, refl, ap, sym, ◌∙◌, subst, arith, max}
 use Rattle.std.specs.Prelude.{is_some, ◌||◌, ◌==◌, not, nat_le, find, if◌then◌else◌, option_map}
 use Rattle.std.proofs.lemmas.Bool.Decides.{nat_tests}
+use Rattle.hc_text.proofs.Basics.{and_left, and_right, eq_tells as eq_is, not_some as none_some, some_inj}
 use Rattle.hc_event.specs.declared.event.Event.{Event}
 use Rattle.hc_event.specs.declared.event.Event.TheVariants as event
 use Rattle.hc_event.specs.declared.event.Response.{Response}
@@ -20,14 +21,13 @@ use Rattle.hc_model.specs.Rows.{Tables, Exchange, Representation}
 use Rattle.hc_model.specs.Sizes.{Sizes}
 use Rattle.hc_model.specs.Sound.{Sound, IsStored}
 use Rattle.hc_model.specs.Tables.{first_tables, representation_of_content, bytes_in, after_accepted, after_denied}
-use Rattle.hc_effects.proofs.Basics.{false_true, and_left, and_right, none_some}
+use Rattle.hc_effects.proofs.Basics.{false_true}
 use Rattle.hc_laws.proofs.FitsKept.{Fits, stored_small}
 use Rattle.hc_laws.proofs.FitsRuns.{fits_begin, fits_denied, fits_kept}
-use Rattle.hc_effects.proofs.KeyNames.{eq_is}
 use Rattle.hc_effects.proofs.LossBy.{IsReal}
 use Rattle.hc_laws.proofs.MeasuresBegin.{ascending_item}
 use Rattle.hc_effects.proofs.Once.{delivers_once}
-use Rattle.hc_effects.proofs.PieceKeeps.{eq_cases, some_inj}
+use Rattle.hc_effects.proofs.PieceKeeps.{eq_cases}
 use Rattle.hc_laws.proofs.Positions.{below_none, below_past, below_put, bytes_below}
 use Rattle.hc_effects.proofs.RepFrom.{RepFrom, rep_from}
 use Rattle.hc_effects.proofs.RepFrom as rep

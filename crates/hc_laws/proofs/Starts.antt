@@ -3,13 +3,14 @@ use Rattle.std.proofs.Common.{◌≡◌, inl, inr, ℕ, ◌-◌, ◌<◌, ◌≤
 use Rattle.std.specs.Prelude.{◌==◌, bytes_eq, find, nat_lt}
 use Rattle.std.specs.List.{list_any}
 use Rattle.std.proofs.lemmas.Bool.Decides.{nat_tests}
+use Rattle.hc_text.proofs.Basics.{and_left, and_right, not_some as none_some, not_true, some_inj}
 use Rattle.hc_rules.specs.declared.room.Limits.{Limits}
 use Rattle.hc_rules.proofs.RangeReads.{bytes_eq-same}
 use Rattle.hc_model.specs.Beginnings.{may_begin, are_good, is_good, is_given_out, has_own_numbers}
 use Rattle.hc_model.specs.Entries.{Content, Contents}
 use Rattle.hc_model.specs.Laws.{AreNumbered, IsStart}
-use Rattle.hc_effects.proofs.Basics.{false_true, and_left, and_right, or_false, not_true, none_some}
-use Rattle.hc_effects.proofs.PieceKeeps.{eq_cases, some_inj}
+use Rattle.hc_effects.proofs.Basics.{false_true, or_false}
+use Rattle.hc_effects.proofs.PieceKeeps.{eq_cases}
 
 abbrev of_number : ℕ → Content → Bool
 of_number r item = item.r == r

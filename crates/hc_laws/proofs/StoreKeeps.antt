@@ -2,6 +2,7 @@
 use Rattle.std.proofs.Common.{◌≡◌, ◌⊎◌, inl, inr, ℕ, ◌+◌, ◌≤◌, List, length, Bool, true, false, cond, Option, Some, None, refl, ap, sym, ◌∙◌, subst, arith, max}
 use Rattle.std.specs.Prelude.{◌&&◌, ◌||◌, not, ◌==◌, nat_eq, is_some, if◌then◌else◌, option_map}
 use Rattle.std.proofs.lemmas.Bool.Decides.{nat_tests}
+use Rattle.hc_text.proofs.Basics.{bool_cases, or_cases as lost_or, or_left, or_right, some_inj}
 use Rattle.hc_event.specs.declared.event.Event.{Event}
 use Rattle.hc_event.specs.declared.event.Event.TheVariants as event
 use Rattle.hc_sparse.specs.Cells.{Cells, Cell, EndsBy, AreAbsent, cells_with}
@@ -16,10 +17,8 @@ use Rattle.hc_model.specs.Laws.{StoresAreKept}
 use Rattle.hc_model.specs.RepresentationRows.{representation_after, representation_heard, representation_acted, founded_at, new_representation, representation_after_head, with_renewed_head, updates, representation_after_piece, with_stored_bytes, with_total_if_none, length_in}
 use Rattle.hc_model.specs.Rows.{Tables, Exchange, Representation}
 use Rattle.hc_model.specs.Sound.{Sound, IsStored}
-use Rattle.hc_effects.proofs.Basics.{or_left, or_right, or_false}
-use Rattle.hc_effects.proofs.HoleLemmas.{bool_cases}
+use Rattle.hc_effects.proofs.Basics.{or_false}
 use Rattle.hc_effects.proofs.Once.{delivers_once}
-use Rattle.hc_effects.proofs.PieceKeeps.{some_inj}
 use Rattle.hc_effects.proofs.CurrentKeeps.{heard_same}
 
 -- WHAT AN EVENT LEAVES OF A ROW
@@ -133,10 +132,6 @@ piece_kept v loses at x bytes s absent = by_loss (v.is_lost || loses) refl
 loss_goes : (t : Tables) (e : Entry) (r : ℕ) (v : Representation) → loses_in r e.acts ≡ true → becomes_gone t e r v ≡ true
 unfolding becomes_gone
 loss_goes t e r v lost = or_left _ _ (or_left _ _ (or_left _ _ (or_right _ _ lost)))
-
-lost_or : (a b : Bool) → (a || b) ≡ true → (a ≡ true) ⊎ (b ≡ true)
-lost_or true b h = inl refl
-lost_or false b h = inr h
 
 alone_if : (b : Bool) (l : Bool) (x o : Option ℕ) → b ≡ false → (if b && l then x else o) ≡ o
 alone_if true l x o h = absurd (let never : true ≡ false = h in cc)

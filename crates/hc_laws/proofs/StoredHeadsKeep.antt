@@ -2,6 +2,7 @@
 use Rattle.std.proofs.Common.{◌≡◌, inl, inr, ℕ, ◌≤◌, List, [], ◌∷◌, Bool, true, false, None, Option, Some, refl, ap, sym, ◌∙◌, subst, arith}
 use Rattle.std.specs.Prelude.{◌==◌, not, nat_le, find, option_map, codes}
 use Rattle.std.proofs.lemmas.Bool.Decides.{nat_tests}
+use Rattle.hc_text.proofs.Basics.{and_left, and_right, not_some as none_some, not_true as not_yes, some_inj}
 use Rattle.hc_event.specs.Filters.{is_denied}
 use Rattle.hc_event.specs.declared.event.Event.{Event}
 use Rattle.hc_event.specs.declared.event.Event.TheVariants as event
@@ -17,21 +18,17 @@ use Rattle.hc_model.specs.Laws.{OfRuns}
 use Rattle.hc_model.specs.Rows.{Tables, Exchange, Representation}
 use Rattle.hc_model.specs.StoredHeads.{StoredHeads, IsHeadWithinLimits, HeadsAreWithinLimits, AreWithinLimits}
 use Rattle.hc_model.specs.Tables.{tables, first_tables, representation_of_content, after, after_accepted, after_denied}
-use Rattle.hc_effects.proofs.Basics.{false_true, and_left, and_right, none_some}
+use Rattle.hc_effects.proofs.Basics.{false_true}
 use Rattle.hc_effects.proofs.ExchangeFrom.{ExchangeFrom, exchange_from}
 use Rattle.hc_effects.proofs.ExchangeFrom as exchange
 use Rattle.hc_effects.proofs.FieldsKeep.{length_kept, range_kept, length_none, range_none, within_limits_kept, within_limits_founded}
 use Rattle.hc_effects.proofs.Forward.{after_is}
 use Rattle.hc_laws.proofs.HeadFrom.{HeadFrom, head_from}
 use Rattle.hc_laws.proofs.HeadFrom as from
-use Rattle.hc_effects.proofs.PieceKeeps.{eq_cases, some_inj}
+use Rattle.hc_effects.proofs.PieceKeeps.{eq_cases}
 use Rattle.hc_effects.proofs.RepFrom.{RepFrom, rep_from}
 use Rattle.hc_effects.proofs.RepFrom as rep
 use Rattle.hc_laws.proofs.RunFacts.{in_runs}
-
-not_yes : (b : Bool) → not b ≡ true → b ≡ false
-not_yes true h = absurd (false_true h)
-not_yes false h = refl
 
 -- the moment of its opening stays
 opened_heard : (t : Tables) (e : Entry) (x : ℕ) (ev : Event) (w : Exchange) → (exchange_heard t e x ev w).opened ≡ w.opened

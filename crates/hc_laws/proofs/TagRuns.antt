@@ -3,6 +3,7 @@ use Rattle.std.proofs.Common.{◌≡◌, ◌≢◌, inl, inr, ℕ, List, [], ◌
 use Rattle.std.specs.Prelude.{is_some, ◌||◌, ◌==◌, not, nat_eq, find, option_map, if◌then◌else◌}
 use Rattle.std.specs.List.{list_any}
 use Rattle.std.proofs.lemmas.Bool.Decides.{nat_tests}
+use Rattle.hc_text.proofs.Basics.{and_left, and_right, not_some as none_some, not_false as not_no, not_true as not_yes, some_inj}
 use Rattle.hc_record.specs.declared.kind.Kind.{Kind}
 use Rattle.hc_record.specs.declared.kind.Kind.TheVariants as kind
 use Rattle.hc_rules.specs.declared.room.Limits.{Limits}
@@ -17,22 +18,14 @@ use Rattle.hc_model.specs.Rows.{Representation}
 use Rattle.hc_model.specs.StoredHeads.{IsOfOne, Tags}
 use Rattle.hc_model.specs.StoredHeads as heads
 use Rattle.hc_model.specs.Tables.{first_tables, representation_of_content, last_end, bytes_in}
-use Rattle.hc_effects.proofs.Basics.{false_true, and_left, and_right, or_false, none_some}
+use Rattle.hc_effects.proofs.Basics.{false_true, or_false}
 use Rattle.hc_laws.proofs.MeasuresBegin.{ascending_item, known_item}
 use Rattle.hc_laws.proofs.OriginsBegin.{byte_of, has_run}
-use Rattle.hc_effects.proofs.PieceKeeps.{eq_cases, some_inj}
+use Rattle.hc_effects.proofs.PieceKeeps.{eq_cases}
 use Rattle.hc_laws.proofs.Positions.{below_full, bytes_below}
 use Rattle.hc_laws.proofs.RunFacts.{in_runs}
 use Rattle.hc_laws.proofs.StoredHeadsKeep.{right_head}
 use Rattle.hc_laws.proofs.TagsKeep.{tags_kept, tags_denied}
-
-not_yes : (b : Bool) → not b ≡ true → b ≡ false
-not_yes true h = absurd (false_true h)
-not_yes false h = refl
-
-not_no : (b : Bool) → not b ≡ false → b ≡ true
-not_no true h = refl
-not_no false h = absurd (let no : true ≡ false = h in cc)
 
 -- an item without a tag
 record IsUntagged (item : Content) : Type 0 where

@@ -2,6 +2,7 @@
 use Rattle.std.proofs.Common.{◌≡◌, ◌≢◌, ◌⊎◌, inl, inr, ℕ, List, [], ◌∷◌, length, Bool, true, false, Option, Some, None, refl, ap, sym, ◌∙◌, arith}
 use Rattle.std.specs.Prelude.{is_some, ◌||◌, not, unwrap_or, if◌then◌else◌, codes}
 use Rattle.std.specs.Option.{option_and_then}
+use Rattle.hc_text.proofs.Basics.{and_left, and_right, not_some as none_some, some_inj}
 use Rattle.hc_etag.specs.TagTexts.{strong_in}
 use Rattle.hc_event.specs.declared.event.Event.{Event}
 use Rattle.hc_event.specs.declared.event.Event.TheVariants as event
@@ -37,7 +38,7 @@ use Rattle.hc_model.specs.StoredHeads.{IsOfOne, Tags}
 use Rattle.hc_model.specs.StoredHeads as heads
 use Rattle.hc_model.specs.Tables.{after_accepted, after_denied}
 use Rattle.hc_effects.proofs.ApartKeeps.{written_by, is_on}
-use Rattle.hc_effects.proofs.Basics.{false_true, and_left, and_right, none_some, some_none, number_is}
+use Rattle.hc_effects.proofs.Basics.{false_true, some_none, number_is}
 use Rattle.hc_laws.proofs.DeniedKeeps.{written_same}
 use Rattle.hc_effects.proofs.EndsKeep.{known_kept}
 use Rattle.hc_effects.proofs.ExchangeFrom.{ExchangeFrom, exchange_from, IsSame, IsHeaded}
@@ -54,7 +55,6 @@ use Rattle.hc_laws.proofs.Lasting.{was_not_gone, not_lost, lasting}
 use Rattle.hc_effects.proofs.LossBy.{IsReal}
 use Rattle.hc_laws.proofs.OriginsKeep.{Brought, from_before}
 use Rattle.hc_effects.proofs.ExclusiveWriters.{writer_some}
-use Rattle.hc_effects.proofs.PieceKeeps.{some_inj}
 use Rattle.hc_effects.proofs.RepFrom.{RepFrom, rep_from, IsKept, IsResumed}
 use Rattle.hc_effects.proofs.RepFrom as rep
 use Rattle.hc_laws.proofs.SoundRuns.{IsCarried}

@@ -1,6 +1,7 @@
 -- Where each start asks for a target, each representation has one as its key.
 use Rattle.std.proofs.Common.{◌≡◌, inl, inr, ℕ, List, [], ◌∷◌, Bool, true, false, None, Option, Some, refl, ap, sym, ◌∙◌}
 use Rattle.std.specs.Prelude.{◌==◌, find, option_map}
+use Rattle.hc_text.proofs.Basics.{and_left, and_right, not_some as none_some, some_inj}
 use Rattle.hc_event.specs.Filters.{is_denied}
 use Rattle.hc_target.specs.Targets.{is_target}
 use Rattle.hc_rules.specs.declared.room.Limits.{Limits}
@@ -10,8 +11,7 @@ use Rattle.hc_model.specs.Keys.{ExchangeKeys}
 use Rattle.hc_model.specs.Rows.{Tables, Representation}
 use Rattle.hc_model.specs.Tables.{tables, first_tables, representation_of_content, after}
 use Rattle.hc_model.specs.WithinLimits.{RequestsAreForTargets, KeysAreTargets, KeysStayTargets}
-use Rattle.hc_effects.proofs.Basics.{and_left, and_right, none_some}
-use Rattle.hc_effects.proofs.PieceKeeps.{eq_cases, some_inj}
+use Rattle.hc_effects.proofs.PieceKeeps.{eq_cases}
 use Rattle.hc_effects.proofs.RepFrom.{RepFrom, rep_from}
 use Rattle.hc_effects.proofs.RepFrom as rep
 use Rattle.hc_laws.proofs.RunsWithinLimits.{requests_are_for_targets}

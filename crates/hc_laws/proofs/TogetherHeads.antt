@@ -1,5 +1,6 @@
 -- Whose exchange is written together from now on had its head come: that joined what it is bound to.
 use Rattle.std.proofs.Common.{◌≡◌, ◌⊎◌, inl, inr, ℕ, true, Option, Some, None, ap, sym, ◌∙◌}
+use Rattle.hc_text.proofs.Basics.{same_some as same_row}
 use Rattle.hc_event.specs.declared.event.Event.{Event}
 use Rattle.hc_rules.specs.Needs.{route_of}
 use Rattle.hc_rules.specs.declared.need.Route.TheVariants as route
@@ -21,7 +22,6 @@ use Rattle.hc_effects.proofs.Forward.{IsOn, is_on}
 use Rattle.hc_effects.proofs.HeadKeeps.{IsJoin}
 use Rattle.hc_effects.proofs.HeadTo as to
 use Rattle.hc_laws.proofs.OwnNone.{IsShared}
-use Rattle.hc_effects.proofs.ExclusiveWriters.{same_row}
 use Rattle.hc_effects.proofs.Waiters.{IsWaiter, waiter_of}
 
 module _ (limits : Limits) (t : Tables) (now : ℕ) (flaw : Flaw) (s : Sound t) (o : Owners t) (ev : Event) (goes : denial t ev ≡ None) where

@@ -2,6 +2,7 @@
 -- after which nobody leaves closes and loses nothing.
 use Rattle.std.proofs.Common.{◌≡◌, ◌⊎◌, inl, inr, ℕ, List, [], ◌∷◌, ◌++◌, Bool, true, false, Option, Some, None, refl, ap, sym, ◌∙◌, subst}
 use Rattle.std.specs.Prelude.{◌||◌, ◌==◌, nat_eq, map, filter, reverse}
+use Rattle.hc_text.proofs.Basics.{bool_cases, or_cases, or_right as or_yes}
 use mathlib.Core.List.{reverse_aux}
 use Rattle.hc_event.specs.Filters.{is_denied, closes_in, evicts_in, opening_in, leaves_in}
 use Rattle.hc_event.specs.declared.act.Act.{Act}
@@ -29,8 +30,6 @@ use Rattle.hc_model.specs.Sound.{Sound, Among}
 use Rattle.hc_model.specs.Weights.{evicted}
 use Rattle.hc_effects.proofs.ActParts.{IsAnswer, IsSaid, IsFarFrom, answer_is, said_is, asks_evicted, asks_closed, asks_closes, asks_lost, asks_loss, closes_evicted, closes_lost, closes_before, loses_evicted, loses_closed, loses_before, evicts_closed, said_closes, move_closes, far_loss, far_lost_only, far_closing, far_closed, far_evicted, far_said}
 use Rattle.hc_effects.proofs.ActParts as parts
-use Rattle.hc_effects.proofs.Basics.{or_cases}
-use Rattle.hc_effects.proofs.HoleLemmas.{bool_cases}
 use Rattle.hc_effects.proofs.Owed.{acts_are}
 use Rattle.hc_effects.proofs.PieceKeeps.{eq_cases}
 use Rattle.hc_effects.proofs.TurnMoves.{Does, does_polled}
@@ -46,10 +45,6 @@ among_aux x (y ∷ xs) ys (inr there) = among_aux x xs (y ∷ ys) (inr (inr ther
 
 eq-refl : (x : ℕ) → (x == x) ≡ true
 eq-refl x = elim (eq_cases x x) [ inl same ↦ same.0 | inr other ↦ absurd (other.1 refl) ]
-
-or_yes : (a b : Bool) → b ≡ true → (a || b) ≡ true
-or_yes true b h = refl
-or_yes false b h = h
 
 -- what passes the test and is in the list is closed
 closes_passing : (x : ℕ) (test : ℕ → Bool) (ys : List ℕ) → Among x ys → test x ≡ true → closes_in x (map act.Close (filter test ys)) ≡ true

@@ -2,6 +2,7 @@
 use Rattle.std.proofs.Common.{◌≡◌, ℕ, List, [], ◌∷◌, ◌++◌, Bool, true, false, Option, Some, None, refl, ap, sym, ◌∙◌}
 use Rattle.std.specs.Prelude.{◌&&◌, ◌||◌, ◌==◌, not, is_none, is_some, if◌then◌else◌, nat_le}
 use Rattle.std.specs.Option.{option_map}
+use Rattle.hc_text.proofs.Basics.{and_left, and_none, and_right as and_then, not_true as not_yes, some_inj}
 use Rattle.hc_event.specs.Filters.{opening_in}
 use Rattle.hc_event.specs.declared.act.Act.{Act}
 use Rattle.hc_event.specs.declared.act.Act.TheVariants as act
@@ -36,11 +37,8 @@ use Rattle.hc_model.specs.Rows.{Tables, Exchange, Representation}
 use Rattle.hc_model.specs.Weights.{evicted, first_idle, room_for, room_by, write_in}
 use Rattle.hc_model.specs.Writers.{brings_body, loses_writing, survivor}
 use Rattle.hc_effects.proofs.ActParts as parts
-use Rattle.hc_effects.proofs.Basics.{and_left}
 use Rattle.hc_effects.proofs.Joining.{mix}
-use Rattle.hc_effects.proofs.KeyNames.{and_then}
 use Rattle.hc_effects.proofs.KeyRows.{same_number}
-use Rattle.hc_effects.proofs.PieceKeeps.{some_inj}
 use Rattle.hc_laws.proofs.TurnFacts as facts
 use Rattle.hc_laws.proofs.TurnFacts.{IsTaken, seen, stays_open, told_quiet, evicts_none, same_case, same_doom}
 
@@ -102,10 +100,6 @@ pub record IsValid (t : Tables) (e : Entry) (x r : ℕ) (w : Exchange) : Type 0 
   pub current : current t w.request.key ≡ Some r
   pub lossless : has_loss e.acts ≡ false
 
-not_yes : (b : Bool) → not b ≡ true → b ≡ false
-not_yes true h = absurd (let no_one : false ≡ true = h in cc)
-not_yes false h = refl
-
 case_is : (t : Tables) (b : Bool) (x : ℕ) (response : Response) (w : Exchange) (c : HeadCase) → t.exchange x ≡ Some w → case_of t b (event.Head x response) ≡ Some c → head_case (head_view t b w response) ≡ c
 unfolding case_of
 case_is t b x response w c row is =
@@ -145,10 +139,6 @@ no_loss : (r : ℕ) (acts : List Act) → has_loss acts ≡ false → loses_in r
 no_loss r [] h = refl
 no_loss r (act.Lost q kind ∷ acts) h = absurd (let no_one : true ≡ false = h in cc)
 no_loss r (_ ∷ acts) h = no_loss r acts h
-
-and_none : (a : Bool) → (a && false) ≡ false
-and_none true = refl
-and_none false = refl
 
 module _ (limits : Limits) (t : Tables) (e : Entry) (taken : IsTaken limits t e) (x : ℕ) (response : Response) (w : Exchange) (at : e.event ≡ event.Head x response) (row : t.exchange x ≡ Some w) (found : case_at t e ≡ Some case.Validated) (lossless : has_loss e.acts ≡ false) where
   abbrev saw : Entry

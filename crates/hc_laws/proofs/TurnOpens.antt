@@ -2,6 +2,7 @@
 use Rattle.std.proofs.Common.{◌≡◌, ◌⊎◌, inl, inr, ℕ, ◌+◌, List, [], ◌∷◌, ◌++◌, length, Bool, true, false, Option, Some, None, refl, ap, sym, ◌∙◌, subst, arith}
 use Rattle.std.specs.Prelude.{◌&&◌, ◌||◌, ◌==◌, nat_eq, not, is_none, if◌then◌else◌}
 use Rattle.std.proofs.lemmas.Bool.Decides.{nat_tests}
+use Rattle.hc_text.proofs.Basics.{and_left, and_none, eq_itself as eq-refl, not_some as none_some, plus_none, some_inj}
 use Rattle.hc_event.specs.Filters.{Opening, opening_in, closes_in, leaves_in, shows_in, given_in}
 use Rattle.hc_event.specs.declared.act.Act.{Act}
 use Rattle.hc_event.specs.declared.act.Need.{Need}
@@ -42,22 +43,13 @@ use Rattle.hc_model.specs.StartingOver.{starts_over, sends_back, loses_what_it_w
 use Rattle.hc_model.specs.Writers.{brings_body, loses_writing, survivor}
 use Rattle.hc_model.specs.Writes.{written_representation, written_in, seals_at, stops, first_found, lossless}
 use Rattle.hc_effects.proofs.ActParts as parts
-use Rattle.hc_effects.proofs.Basics.{and_left, none_some, number_is}
+use Rattle.hc_effects.proofs.Basics.{number_is}
 use Rattle.hc_effects.proofs.KeysKeep.{IsOpening, opened_is}
 use Rattle.hc_effects.proofs.KeysKeep as keeps
-use Rattle.hc_effects.proofs.PieceKeeps.{some_inj}
 use Rattle.hc_laws.proofs.TurnFacts.{IsTaken, AtPoll, acts_is, seen, behind, far_behind, opens_behind, at_poll, stays_open, loses_as, misreads_behind, evicts_asked, closes_lossless, may_be_so}
 use Rattle.hc_laws.proofs.TurnFacts as facts
 use Rattle.hc_effects.proofs.TurnMoves.{Does}
 use Rattle.hc_effects.proofs.TurnMoves as does
-use Rattle.hc_effects.proofs.Untouched.{plus_none}
-
-eq-refl : (r : ℕ) → nat_eq r r ≡ true
-eq-refl r = grind (arith, nat_tests)
-
-and_none : (a : Bool) → (a && false) ≡ false
-and_none true = refl
-and_none false = refl
 
 abbrev is_poll : Event → Bool
 is_poll (event.Poll c want) = true

@@ -3,6 +3,7 @@ use Rattle.std.proofs.Common.{◌≡◌, ◌⊎◌, inl, inr, ℕ, List, [], ◌
 use Rattle.std.specs.Prelude.{length, ◌&&◌, ◌||◌, ◌==◌, nat_eq, not, is_none, is_some, if◌then◌else◌, filter, find, unwrap_or, bytes_eq}
 use Rattle.std.specs.Option.{option_or}
 use Rattle.std.proofs.lemmas.Bool.Decides.{nat_tests}
+use Rattle.hc_text.proofs.Basics.{and_left, and_right as and_then, bool_cases, eq_itself as eq-refl, not_some as none_some, never_true as not_true, or_cases, or_off_right as or_last, same_some as same_row, some_inj}
 use Rattle.hc_event.specs.Filters.{Opening, opening_in, closes_in, leaves_in, shows_in}
 use Rattle.hc_event.specs.declared.act.Act.{Act}
 use Rattle.hc_event.specs.declared.act.Need.{Need}
@@ -54,16 +55,13 @@ use Rattle.hc_model.specs.Sound.{Sound, Among, IsListed, OneCurrent}
 use Rattle.hc_model.specs.StartingOver.{starts_over, loses_what_it_waits_for, sends_back, waits_at}
 use Rattle.hc_model.specs.Tables.{after_accepted}
 use Rattle.hc_effects.proofs.ActParts as parts
-use Rattle.hc_effects.proofs.Basics.{and_left, or_cases, none_some}
 use Rattle.hc_effects.proofs.CurrentKeeps.{heard_same, find_only, usable, usable_row, one_current_is_kept}
-use Rattle.hc_effects.proofs.HoleLemmas.{bool_cases}
-use Rattle.hc_effects.proofs.KeyNames.{not_true, and_then, opener_key, current_key}
+use Rattle.hc_effects.proofs.KeyNames.{opener_key, current_key}
 use Rattle.hc_effects.proofs.KeysKeep.{same_exchange, representation_stays, exchange_was, IsOpening, opened_is}
 use Rattle.hc_effects.proofs.KeysKeep as keeps
 use Rattle.hc_effects.proofs.NumbersKeep.{numbers_are_kept}
 use Rattle.hc_effects.proofs.Owed.{goes}
-use Rattle.hc_effects.proofs.ExclusiveWriters.{same_row}
-use Rattle.hc_effects.proofs.PieceKeeps.{eq_cases, some_inj}
+use Rattle.hc_effects.proofs.PieceKeeps.{eq_cases}
 use Rattle.hc_effects.proofs.PollKeeps.{current_stays}
 use Rattle.hc_laws.proofs.TurnFacts.{IsTaken, AtPoll, acts_is, seen, behind, far_behind, opens_behind, misreads_behind, at_poll, far_from, fails_leaves}
 use Rattle.hc_laws.proofs.TurnFacts as facts
@@ -77,9 +75,6 @@ use Rattle.hc_effects.proofs.TurnPlaces.{ComesFrom, IsPlain, IsAfter, StaysOrPla
 use Rattle.hc_effects.proofs.TurnPlaces as places
 use Rattle.hc_laws.proofs.TurnStays.{head_opens, head_none, stands_on}
 use Rattle.hc_laws.proofs.VaryKeeps.{same_agreement}
-
-eq-refl : (r : ℕ) → nat_eq r r ≡ true
-eq-refl r = grind (arith, nat_tests)
 
 -- WHOSE TURN IT IS
 
@@ -238,10 +233,6 @@ opens_turn t c k x n (opens.fetches way is_new queues turn_is varied bypass) is 
 opens_turn t c k x n (opens.past way is_new) is = absurd (let no_one : route.Direct ≡ route.Turn = sym way ∙ is in cc)
 opens_turn t c k x n (opens.first r lo hi way is_new bound) is = absurd (let no_one : route.Hole ≡ route.Turn = sym way ∙ is in cc)
 opens_turn t c k x n (opens.later r lo hi how way shown at) is = absurd (let no_one : route.Hole ≡ route.Turn = sym way ∙ is in cc)
-
-or_last : (a b : Bool) → (a || b) ≡ false → b ≡ false
-or_last true b h = absurd (let no_one : true ≡ false = h in cc)
-or_last false b h = h
 
 and_first : (a b : Bool) → b ≡ false → (a && not b) ≡ false → a ≡ false
 and_first true b fails h = absurd (let no_one : true ≡ false = sym (ap not fails) ∙ h in cc)

@@ -2,6 +2,7 @@
 use Rattle.std.proofs.Common.{◌≡◌, ◌⊎◌, inl, inr, ℕ, ◌+◌, Bool, true, false, Option, Some, None, refl, ap, sym, ◌∙◌}
 use Rattle.std.specs.Prelude.{is_some, ◌&&◌, ◌==◌, not, nat_lt, unwrap_or, option_map}
 use Rattle.std.specs.Option.{option_or}
+use Rattle.hc_text.proofs.Basics.{not_some as none_some, some_inj}
 use Rattle.hc_event.specs.declared.event.Event.{Event}
 use Rattle.hc_event.specs.declared.event.Event.TheVariants as event
 use Rattle.hc_event.specs.declared.event.Response.{Response}
@@ -25,11 +26,10 @@ use Rattle.hc_model.specs.Rows.{Tables, Exchange, Representation}
 use Rattle.hc_model.specs.Sound.{Sound, IsGrowing, end_from}
 use Rattle.hc_model.specs.Tables.{representation_of_content, first_tables, after_accepted}
 use Rattle.hc_effects.proofs.ApartKeeps.{written_by, is_on}
-use Rattle.hc_effects.proofs.Basics.{false_true, none_some, some_none}
+use Rattle.hc_effects.proofs.Basics.{false_true, some_none}
 use Rattle.hc_laws.proofs.DeniedKeeps.{written_same}
 use Rattle.hc_effects.proofs.LossBy.{IsReal}
 use Rattle.hc_laws.proofs.MeasuresBegin.{known_item}
-use Rattle.hc_effects.proofs.PieceKeeps.{some_inj}
 use Rattle.hc_effects.proofs.ExclusiveWriters.{writer_some}
 use Rattle.hc_effects.proofs.RepFrom.{RepFrom, rep_from, IsKept, IsResumed, IsEnded}
 use Rattle.hc_effects.proofs.RepFrom as rep

@@ -1,6 +1,7 @@
 -- An open exchange has yet to bring some of what it promised, in every run.
 use Rattle.std.proofs.Common.{◌≡◌, inl, inr, ℕ, List, length, Bool, true, false, Option, Some, None, refl, ap, sym, ◌∙◌}
 use Rattle.std.specs.Prelude.{◌&&◌, ◌++◌, not, nat_eq, if◌then◌else◌}
+use Rattle.hc_text.proofs.Basics.{and_right, not_some as none_some, some_inj}
 use Rattle.hc_event.specs.Filters.{Opening, opening_in, closes_in}
 use Rattle.hc_event.specs.declared.event.Event.{Event}
 use Rattle.hc_event.specs.declared.event.Event.TheVariants as event
@@ -15,9 +16,9 @@ use Rattle.hc_model.specs.Laws.{OfRunsIn}
 use Rattle.hc_model.specs.Rows.{Tables, Exchange}
 use Rattle.hc_model.specs.Sound.{Sound}
 use Rattle.hc_model.specs.Tables.{after_accepted}
-use Rattle.hc_effects.proofs.Basics.{and_right, none_some, false_true}
+use Rattle.hc_effects.proofs.Basics.{false_true}
 use Rattle.hc_effects.proofs.FirstKeeps.{is_new}
-use Rattle.hc_effects.proofs.PieceKeeps.{eq_cases, some_inj}
+use Rattle.hc_effects.proofs.PieceKeeps.{eq_cases}
 use Rattle.hc_laws.proofs.RunFacts.{in_runs}
 
 pub record IsUnreached (limits : Limits) (t : Tables) : Type 0 where

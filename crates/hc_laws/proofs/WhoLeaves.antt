@@ -6,6 +6,7 @@
 use Rattle.std.proofs.Common.{◌≡◌, ◌⊎◌, inl, inr, ℕ, List, [], ◌∷◌, ◌++◌, Bool, true, false, Option, Some, None, refl, ap, sym, ◌∙◌, subst, arith}
 use Rattle.std.specs.Prelude.{◌&&◌, map, nat_eq, nat_lt}
 use Rattle.std.proofs.lemmas.Bool.Decides.{nat_tests}
+use Rattle.hc_text.proofs.Basics.{and_left, bool_cases, false_true, not_some as none_some, eq_itself as same_number}
 use Rattle.hc_event.specs.Filters.{closes_in, is_denied, leaves_in}
 use Rattle.hc_event.specs.declared.act.Act.{Act}
 use Rattle.hc_event.specs.declared.act.Act.TheVariants as act
@@ -35,7 +36,7 @@ use Rattle.hc_model.specs.StartingOver.{loses_what_it_waits_for}
 use Rattle.hc_model.specs.Tables.{after, with_item_first}
 use Rattle.hc_model.specs.Writes.{written_representation, written_in, seals_at, stops, first_found, lossless}
 use Rattle.hc_effects.proofs.ActParts.{far_closing, far_lost_only}
-use Rattle.hc_effects.proofs.Basics.{and_left, none_some, number_is}
+use Rattle.hc_effects.proofs.Basics.{number_is}
 use Rattle.hc_effects.proofs.EventsKeep.{poll_live}
 use Rattle.hc_effects.proofs.FailsTold.{fails_told}
 use Rattle.hc_effects.proofs.LeftBy.{left_passed}
@@ -47,17 +48,7 @@ use Rattle.hc_effects.proofs.LeaveFrames as frames
 use Rattle.hc_laws.proofs.Accepted.{is_accepted}
 use Rattle.hc_laws.proofs.LiveAfter.{Starts, was_live}
 
-false_true : {A : Type 0} → false ≡ true → A
-false_true h = absurd (let never : false ≡ true = h in cc)
-
-bool_cases : (b : Bool) → (b ≡ true) ⊎ (b ≡ false)
-bool_cases true = inl refl
-bool_cases false = inr refl
-
 -- WHAT IS SAID TO WHO LEAVES
-
-same_number : (n : ℕ) → nat_eq n n ≡ true
-same_number n = grind (arith, nat_tests)
 
 -- it is told a failure, or no read failed
 fails_or : (c : ℕ) (ev : Event) (o : Option ℕ) (front rest : List Act) → IsFront c ev o front → (fails_in c (front ++ rest) ≡ true) ⊎ (o ≡ None)

@@ -1,6 +1,7 @@
 -- Each open exchange is somebody's, in every run.
 use Rattle.std.proofs.Common.{◌≡◌, ℕ, true, Option, Some, None, refl, ap, sym, ◌∙◌}
 use Rattle.std.specs.Prelude.{is_some, unwrap_or}
+use Rattle.hc_text.proofs.Basics.{not_some as none_some}
 use Rattle.hc_event.specs.declared.event.Response.{Response}
 use Rattle.hc_event.specs.declared.place.Place.{Place}
 use Rattle.hc_event.specs.declared.place.Place.TheVariants as place
@@ -18,7 +19,6 @@ use Rattle.hc_model.specs.Tables.{tables}
 use Rattle.hc_model.specs.Whose.{Whose, IsSomebodys, IsOwner, IsOfKey, may_own}
 use Rattle.hc_model.specs.Whose as whose
 use Rattle.hc_effects.proofs.AboutKeeps.{own_open_of}
-use Rattle.hc_effects.proofs.Basics.{none_some}
 use Rattle.hc_laws.proofs.InRuns.{turned_in_runs}
 use Rattle.hc_laws.proofs.OwnersFor.{owners_for}
 use Rattle.hc_effects.proofs.ExclusiveWriters.{none_about}

@@ -10,8 +10,8 @@ use Rattle.std.proofs.lemmas.Bool.{cases_Bool, and_parts, eqb-true, ltb-true, lt
 use Rattle.std.proofs.lemmas.List.{append-nil, take_at, drop_at, take-append-drop}
 use Rattle.std.proofs.lemmas.List.Sums.{AllPass-from_list_all, list_all-from_AllPass}
 use Rattle.std.proofs.lemmas.Slice.Eq.{bytes_eq-Decides}
+use Rattle.hc_text.proofs.Basics.{not_some, some_inj as some_same}
 use Rattle.httparse.specs.Grammar.{ChunkLine, IsChunkLine, print_chunk_line, print_extension, IsExtension, chunk_size, is_ows, is_extension_byte}
-use Rattle.hc_head.proofs.LineTexts.{not_some, some_same}
 use Rattle.hc_msg.specs.Chunks.{IsLineOf, LineSays}
 use Rattle.hc_msg.specs.Sizes.{digits_in, behind_digits, behind_pad, is_extension, is_chunk_line, size_by, size_in}
 

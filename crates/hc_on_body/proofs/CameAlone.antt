@@ -2,6 +2,7 @@
 use Rattle.std.proofs.Common.{◌≡◌, ℕ, Bool, true, false, Option, Some, None, refl, ap, sym, ◌∙◌, subst}
 use Rattle.std.proofs.lemmas.Bool.Decides.{nat_tests}
 use Rattle.std.specs.Prelude.{is_some, option_map, ◌&&◌, ◌==◌, if◌then◌else◌}
+use Rattle.hc_text.proofs.Basics.{false_true, and_both as parts_on}
 use Rattle.hc_event.specs.declared.place.Place.{Place}
 use Rattle.hc_event.specs.declared.place.Place.TheVariants as place
 use Rattle.hc_event.specs.declared.place.BoundBy.{BoundBy}
@@ -17,15 +18,10 @@ use Rattle.hc_model.specs.Writers.{came_alone, status_in}
 use Rattle.hc_effects.proofs.HasBound.{bound_at}
 use Rattle.hc_state.specs.Stored.{is_first}
 use Rattle.hc_state.proofs.OneOfEach.{first_by}
-use Rattle.hc_state.proofs.Words.{false_true, none_some}
+use Rattle.hc_state.proofs.Words.{none_some}
 
 abbrev pub NobodyFirst : Tables → ℕ → Type 0
 NobodyFirst t x = (d : ℕ) → is_first t x (t.consumer d) ≡ false
-
-parts_on : (a b : Bool) → (a && b) ≡ true → (a ≡ true) × (b ≡ true)
-parts_on true true on = (refl, refl)
-parts_on true false on = (refl, on)
-parts_on false b on = false_true on
 
 pub nobody_first : (t : Tables) (x : ℕ) (v : Representation) → Sound t → Measures t → t.representation x ≡ Some v → v.head.total ≡ None → NobodyFirst t x
 nobody_first t x v s measures there unknown d = by_row (t.consumer d) refl

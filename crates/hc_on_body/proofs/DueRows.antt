@@ -3,6 +3,7 @@ use Rattle.std.proofs.Common.{◌≡◌, ℕ, List, Bool, true, false, Option, S
 use Rattle.std.specs.Prelude.{is_some, nat_eq, bytes_eq, option_map, ◌&&◌, if◌then◌else◌}
 use Rattle.std.specs.Option.{option_or}
 use Rattle.std.specs.HashMap.{get}
+use Rattle.hc_text.proofs.Basics.{some_inj as some_is}
 use Rattle.hc_rules.specs.declared.room.Limits.{Limits}
 use Rattle.hc_store.specs.declared.backend.Backend.{Ghosts}
 use Rattle.hc_event.specs.declared.act.Cause.{Cause}
@@ -33,7 +34,7 @@ use Rattle.hc_state.proofs.FallbackSteps.{live_same}
 use Rattle.hc_state.proofs.Fallbacks.{unstored_moved}
 use Rattle.hc_state.proofs.OneOfEach.{entries_same}
 use Rattle.hc_state.proofs.Ties.{consumer_same, exchange_same, key_same, kept_same}
-use Rattle.hc_state.proofs.Words.{none_some, some_is}
+use Rattle.hc_state.proofs.Words.{none_some}
 
 module _ (t : Tables) (among : ℕ → Bool) (why : Cause) where
   abbrev pub s : Tables

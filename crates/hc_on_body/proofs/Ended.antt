@@ -2,6 +2,7 @@
 use Rattle.std.proofs.Common.{◌≡◌, ℕ, ◌+◌, ◌-◌, List, [], length, Bool, true, false, Option, Some, None, refl, ap, sym, ◌∙◌}
 use Rattle.std.specs.Prelude.{nat_eq, bytes_eq, drop, ◌==◌, ◌&&◌, if◌then◌else◌}
 use Rattle.std.specs.HashMap.{get}
+use Rattle.hc_text.proofs.Basics.{false_true}
 use Rattle.hc_rules.specs.declared.room.Limits.{Limits}
 use Rattle.hc_store.specs.declared.backend.Backend.{Ghosts}
 use Rattle.hc_event.specs.declared.event.Response.{Response}
@@ -31,7 +32,6 @@ use Rattle.hc_state.proofs.Closing.{base_over, promise_over}
 use Rattle.hc_state.proofs.OneOfEach.{entries_same, growing_same}
 use Rattle.hc_state.proofs.PastRows.{consumer_alike}
 use Rattle.hc_state.proofs.Ties.{key_same, runs_same}
-use Rattle.hc_state.proofs.Words.{false_true}
 
 pub base_end : (w : Exchange) → base (at_end w) ≡ base w
 base_end w = by_head w.head

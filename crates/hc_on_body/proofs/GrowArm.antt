@@ -2,6 +2,7 @@
 use Rattle.std.proofs.Common.{◌≡◌, ℕ, ◌+◌, ◌≤◌, List, [], ◌∷◌, ◌++◌, length, Bool, true, false, Option, Some, None, refl, ap, sym, ◌∙◌, subst, arith}
 use Rattle.std.proofs.lemmas.List.{append_assoc}
 use Rattle.std.specs.Prelude.{is_some, map, option_map, ◌&&◌, ◌==◌}
+use Rattle.hc_text.proofs.Basics.{eqb-same, false_true, some_inj as some_is, and_off as then_false}
 use Rattle.hc_rules.specs.declared.room.Limits.{Limits}
 use Rattle.hc_store.specs.declared.backend.Backend.{Ghosts}
 use Rattle.hc_event.specs.declared.act.Act.{Act}
@@ -55,7 +56,6 @@ use Rattle.hc_on_body.proofs.LostTables.{own_tables, open_tables, fails_tables}
 use Rattle.hc_on_leave.proofs.PieceArm.{open_unended}
 use Rattle.hc_on_leave.proofs.PieceRoom.{may_make_room, gives_same, spared}
 use Rattle.hc_on_leave.proofs.StoreArm.{Stores}
-use Rattle.hc_state.proofs.Words.{eqb-same, false_true, some_is, then_false}
 
 -- the acts show what is lost
 flaw_closes : (q : ℕ) (kind : LostKind) (xs rs : List ℕ) → flaw_in (map act.Evicted rs ++ (act.Lost q kind ∷ map act.Close xs)) ≡ Loses q kind

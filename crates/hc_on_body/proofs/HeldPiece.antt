@@ -3,6 +3,7 @@ use Rattle.std.proofs.Common.{◌≡◌, ◌≢◌, inl, inr, ℕ, ◌+◌, ◌-
 use Rattle.std.proofs.lemmas.Bool.Decides.{nat_tests}
 use Rattle.std.proofs.lemmas.List.{append-nil, drop-append-le, length-append}
 use Rattle.std.specs.Prelude.{is_some, is_none, nat_eq, ◌==◌, ◌&&◌, if◌then◌else◌}
+use Rattle.hc_text.proofs.Basics.{eqb-other, eqb-same, false_true, none_long as no_bytes, order, same_or, same_some as same_row, some_inj as some_is}
 use Rattle.hc_rules.specs.declared.room.Limits.{Limits}
 use Rattle.hc_store.specs.declared.backend.Backend.{Ghosts}
 use Rattle.hc_sparse.specs.Cells.{Cell, Cells, Covers, EndsBy, inside, cells_with}
@@ -50,16 +51,9 @@ use Rattle.hc_on_leave.proofs.HeardExchange.{drop_none}
 use Rattle.hc_state.proofs.OneOfEach.{first_by}
 use Rattle.hc_on_leave.proofs.PieceArm.{Brought, brought_of, Runs, runs_of, open_unended, brings_it, past_answered}
 use Rattle.hc_on_leave.proofs.PieceRows.{s, z, IsLike, like_same, stands_pieced}
-use Rattle.hc_state.proofs.Words.{same_or, eqb-same, eqb-other, false_true, none_some, some_is, same_row}
+use Rattle.hc_state.proofs.Words.{none_some}
 
 -- WHAT IS HELD, WITH MORE BYTES
-
-order : (a b : ℕ) → (a < b) ⊎ ((a ≡ b) ⊎ (b < a))
-order a b = grind (arith, nat_tests)
-
-no_bytes : (xs : List ℕ) → length xs ≡ 0 → xs ≡ []
-no_bytes [] none = refl
-no_bytes (x ∷ xs) none = absurd (omega (arith, none))
 
 module _ (f : Cells) (offset base reach : ℕ) (body bytes : List ℕ) (within : offset ≤ base + length body) (absent : f (base + length body) ≡ None) (some : 0 < length bytes) (ends : (p : ℕ) → reach ≤ p → p + 1 ≡ base + length body → length body ≡ 0) (reached : (p : ℕ) → reach ≤ p → f p ≡ None) where
   abbrev old : ℕ

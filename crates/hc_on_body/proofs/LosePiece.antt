@@ -1,6 +1,7 @@
 -- A piece that the store refuses is lost: what is kept stands for the tables then.
 use Rattle.std.proofs.Common.{◌≡◌, ◌⊎◌, inl, inr, ℕ, ◌+◌, ◌<◌, List, [], ◌∷◌, ◌++◌, length, Bool, true, false, Option, Some, None, refl, ap, sym, ◌∙◌, subst}
 use Rattle.std.specs.Prelude.{is_some, is_none, nat_eq, not, map, ◌==◌, ◌&&◌, if◌then◌else◌}
+use Rattle.hc_text.proofs.Basics.{eqb-other, eqb-same, false_true, same_or, same_some as same_row, and_off as then_false}
 use Rattle.hc_rules.specs.declared.room.Limits.{Limits}
 use Rattle.hc_store.specs.declared.backend.Backend.{Ghosts}
 use Rattle.hc_event.specs.declared.act.Act.{Act}
@@ -30,7 +31,6 @@ use Rattle.hc_on_body.proofs.HeldPiece.{held_stands, dropped_stands}
 use Rattle.hc_state.proofs.Maps.{act_and}
 use Rattle.hc_on_leave.proofs.PieceArm.{Runs, runs_of}
 use Rattle.hc_on_leave.proofs.PieceRows.{s, like_same, last_is}
-use Rattle.hc_state.proofs.Words.{same_or, eqb-same, eqb-other, then_false, false_true, same_row}
 
 -- the rows that stand for the tables once a loss was told, and then for those with the piece
 module _ {B : Type 0} {g : Ghosts B} {lim : Limits} (mid u : Rows B g) (t : Tables) (now r x : ℕ) (bytes : List ℕ) (w : Exchange) (v : Representation) (stands : RowsStand lim mid t) (row : t.exchange x ≡ Some w) (opened : w.is_open ≡ true) (headed : is_some w.head ≡ true) (of_r : family x w ≡ r) (there : t.representation r ≡ Some v) (lost : v.is_lost ≡ true) (is_gone : v.is_gone ≡ true) (unended : w.is_ended ≡ false)

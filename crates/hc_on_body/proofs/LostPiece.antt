@@ -3,6 +3,7 @@ use Rattle.std.proofs.Common.{◌≡◌, ◌≢◌, inl, inr, ℕ, ◌+◌, ◌-
 use Rattle.std.proofs.lemmas.Bool.Decides.{nat_tests}
 use Rattle.std.proofs.lemmas.List.{append-nil, drop-append-le, length-append}
 use Rattle.std.specs.Prelude.{is_some, is_none, nat_eq, ◌==◌, ◌&&◌, if◌then◌else◌}
+use Rattle.hc_text.proofs.Basics.{eqb-other, eqb-same, false_true, order, same_or, same_some as same_row, some_inj as some_is}
 use Rattle.hc_rules.specs.declared.room.Limits.{Limits}
 use Rattle.hc_store.specs.declared.backend.Backend.{Ghosts}
 use Rattle.hc_sparse.specs.Cells.{Cell, Cells, Covers, EndsBy, inside, cells_with}
@@ -50,7 +51,7 @@ use Rattle.hc_on_body.proofs.HeldPiece.{held_stands}
 use Rattle.hc_state.proofs.OneOfEach.{first_by}
 use Rattle.hc_on_leave.proofs.PieceArm.{Brought, brought_of, Runs, runs_of, open_unended, brings_it, past_answered}
 use Rattle.hc_on_leave.proofs.PieceRows.{s, z, IsLike, like_same, stands_pieced}
-use Rattle.hc_state.proofs.Words.{same_or, eqb-same, eqb-other, false_true, none_some, some_is, same_row}
+use Rattle.hc_state.proofs.Words.{none_some}
 
 -- whose an open exchange is that isn't the writing's
 pub record Owner (t : Tables) (x : ℕ) (w : Exchange) (v : Representation) : Type 0 where
@@ -93,9 +94,6 @@ unwritten_lost t v lost = rw lost refl
 none_by : (stored body : Option Cell) → (is_some stored ≡ true → stored ≡ body) → body ≡ None → stored ≡ None
 none_by None body same none = refl
 none_by (Some cell) body same none = same refl ∙ none
-
-order : (a b : ℕ) → (a < b) ⊎ ((a ≡ b) ⊎ (b < a))
-order a b = grind (arith, nat_tests)
 
 -- what begins to be read isn't past what its own exchange brings
 starts_within : {limits : Rattle.hc_rules.specs.declared.room.Limits.Limits} (t : Tables) (facts : Facts limits t) (x : ℕ) (w : Exchange) (v : Representation) (o : Owner t x w v) → t.exchange x ≡ Some w → w.is_open ≡ true → is_some w.head ≡ true → o.lo ≤ front w

@@ -2,6 +2,7 @@
 use Rattle.std.proofs.Common.{◌≡◌, inl, inr, ℕ, List, [], ◌∷◌, Bool, true, false, Option, Some, None, refl, ap, ap₂, sym, ◌∙◌}
 use mathlib.Core.Path.{fun_ext}
 use Rattle.std.specs.Prelude.{◌==◌, option_map, if◌then◌else◌}
+use Rattle.hc_text.proofs.Basics.{eqb-other, eqb-same, same_or}
 use Rattle.hc_event.specs.declared.event.Event.TheVariants as event
 use Rattle.hc_event.specs.declared.place.Place.{Place}
 use Rattle.hc_event.specs.declared.place.Place.TheVariants as place
@@ -15,7 +16,6 @@ use Rattle.hc_model.specs.Rows.{Tables, Exchange, Representation}
 use Rattle.hc_effects.proofs.SameTables.{all_go_is, back_from_any, is_in, without}
 use Rattle.hc_state.specs.DetachedReaders.{shared_loss}
 use Rattle.hc_state.specs.Refused.{brought_lost, own_loss}
-use Rattle.hc_state.proofs.Words.{same_or, eqb-same, eqb-other}
 
 -- WHO WAITED, AND WHO READS
 

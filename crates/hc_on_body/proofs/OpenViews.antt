@@ -2,6 +2,7 @@
 use Rattle.std.proofs.Common.{◌≡◌, ◌⊎◌, inl, inr, ℕ, length, Bool, true, false, Option, Some, None, refl, ap, sym, ◌∙◌, subst}
 use Rattle.std.specs.Prelude.{is_some, option_map, nat_eq}
 use Rattle.std.specs.HashMap.{get}
+use Rattle.hc_text.proofs.Basics.{false_true, none_of, same_some as same_row, some_inj as some_is}
 use Rattle.hc_rules.specs.declared.room.Limits.{Limits}
 use Rattle.hc_store.specs.declared.backend.Backend.{Ghosts}
 use Rattle.hc_event.specs.declared.event.Response.{Response}
@@ -23,7 +24,7 @@ use Rattle.hc_state.specs.Kept.{IsRunning, KeepsRunning, KeepsConsumer}
 use Rattle.hc_state.specs.Stands.{RowsStand}
 use Rattle.hc_state.specs.Stopped.{IsBroken, Waited}
 use Rattle.hc_state.specs.Stops.{is_shown}
-use Rattle.hc_state.proofs.Words.{none_some, false_true, some_is, same_row}
+use Rattle.hc_state.proofs.Words.{none_some}
 
 pub record Viewed (t : Tables) (x : ℕ) (view : ExchangeView) : Type 0 where
   pub w : Exchange
@@ -51,10 +52,6 @@ viewed r t x o view stands is some = by_open (table_of r.exchanges x).running (t
           delivered = ap (λ (z : ExchangeView). z.delivered) (sym same) ∙ kept.delivered;
           promised_is = ap (λ (z : ExchangeView). z.promised) (sym same) ∙ kept.promised_is;
         }
-
-none_of : {A : Type 0} (o : Option A) → is_some o ≡ false → o ≡ None
-none_of None off = refl
-none_of (Some a) off = false_true (sym off)
 
 -- WHO WAITS FOR ITS HEAD
 

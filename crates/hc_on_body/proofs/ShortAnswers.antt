@@ -4,6 +4,7 @@ use mathlib.Core.Path.{fun_ext}
 use Rattle.std.proofs.lemmas.Bool.Decides.{nat_tests}
 use Rattle.std.specs.Prelude.{is_some, nat_eq, nat_lt, option_map, ◌==◌, ◌&&◌, if◌then◌else◌}
 use Rattle.std.specs.Option.{option_or}
+use Rattle.hc_text.proofs.Basics.{eqb-other, eqb-same, false_true, same_or, same_some as same_row, some_inj as some_is}
 use Rattle.hc_store.specs.declared.backend.Backend.{Ghosts}
 use Rattle.hc_event.specs.declared.act.Act.{Act}
 use Rattle.hc_event.specs.declared.act.Act.TheVariants as act
@@ -36,7 +37,7 @@ use Rattle.hc_state.specs.Stopped as stopped
 use Rattle.hc_state.specs.Stopped.{with_consumers, due_for, HasStopped, IsBroken, BrokeOff}
 use Rattle.hc_on_body.proofs.Ended.{with_over, with_end, stands_ended}
 use Rattle.hc_on_body.proofs.StopAnswers.{StopsBy, stopped_answered, own_tables, shared_tables, nothing_goes}
-use Rattle.hc_state.proofs.Words.{same_or, eqb-same, eqb-other, none_some, false_true, some_is, same_row}
+use Rattle.hc_state.proofs.Words.{none_some}
 
 -- A LENGTH THAT IS KNOWN STAYS
 

@@ -3,6 +3,7 @@ use Rattle.std.proofs.Common.{◌≡◌, inl, inr, ℕ, ◌<◌, List, [], ◌�
 use mathlib.Core.Path.{fun_ext}
 use Rattle.std.proofs.lemmas.List.{append-nil}
 use Rattle.std.specs.Prelude.{is_some, nat_eq, option_map, ◌==◌, ◌||◌, if◌then◌else◌}
+use Rattle.hc_text.proofs.Basics.{eqb-other, eqb-same, false_true, or_false as or_none, same_or, same_some as same_row, some_inj as some_is}
 use Rattle.hc_store.specs.declared.backend.Backend.{Ghosts}
 use Rattle.hc_event.specs.declared.act.Act.{Act}
 use Rattle.hc_event.specs.declared.act.Act.TheVariants as act
@@ -40,7 +41,7 @@ use Rattle.hc_state.proofs.Answering.{does_answered, lossy_answered}
 use Rattle.hc_on_body.proofs.BreakArm.{closed_is}
 use Rattle.hc_state.proofs.Counting.{stands_counted}
 use Rattle.hc_state.proofs.SealWritten.{sealed_stopping}
-use Rattle.hc_state.proofs.Words.{same_or, eqb-same, eqb-other, none_some, false_true, some_is, same_row}
+use Rattle.hc_state.proofs.Words.{none_some}
 
 -- THE TABLES, AS THE EVENT LEAVES THEM
 
@@ -97,10 +98,6 @@ pub record StopsBy (limits : Limits) (t : Tables) (now x : ℕ) (w : Exchange) (
   pub stops_at : (y : ℕ) → stops y ev ≡ nat_eq x y
   pub early_at : (y : ℕ) (z : Exchange) → stops_early z y ev ≡ true → nat_eq x y ≡ true
   pub seals : (acts : List Act) → written_representation t (record { now = now; event = ev; acts = acts }) ≡ sealed_representation t (lossless (record { now = now; event = ev; acts = acts }))
-
-or_none : (b : Bool) → (b || false) ≡ b
-or_none true = refl
-or_none false = refl
 
 module _ {B : Type 0} {g : Ghosts B} (limits : Limits) (faults : ℕ) (u : Rows B g) (t : Tables) (law : Lawful t) (now x : ℕ) (w : Exchange) (row : t.exchange x ≡ Some w) (ev : Event) (s : Tables) (by : StopsBy limits t now x w ev s) (f : ℕ → Option rows.Consumer)
     (same_rows : s.representation ≡ t.representation) (goes : (o : Option ℕ) → RowsStand limits u (let_some_go now o (tables_after_close x (with_consumers f t))) → RowsStand limits u (let_some_go now o s))

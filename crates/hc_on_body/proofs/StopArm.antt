@@ -4,6 +4,7 @@ use Rattle.std.proofs.lemmas.Bool.Decides.{nat_tests}
 use Rattle.std.proofs.lemmas.List.{drop_all}
 use Rattle.std.specs.Prelude.{is_some, is_none, nat_eq, nat_le, drop, unwrap_or, option_map, not, ◌&&◌, ◌==◌, if◌then◌else◌}
 use Rattle.std.specs.HashMap.{get}
+use Rattle.hc_text.proofs.Basics.{eqb-other, eqb-same, false_true, same_or, same_some as same_row, some_inj as some_is, and_off as then_false}
 use Rattle.hc_store.specs.declared.backend.Backend.{Ghosts}
 use Rattle.hc_event.specs.declared.act.Act.{Act}
 use Rattle.hc_event.specs.declared.act.Cause.{Cause}
@@ -52,7 +53,7 @@ use Rattle.hc_on_body.proofs.DueRows.{told_same, may_due, awaits_due, stands_due
 use Rattle.hc_state.proofs.LeftAlone.{unwritten_none}
 use Rattle.hc_state.proofs.LeftRows.{writing_as}
 use Rattle.hc_state.proofs.Stopping.{runs, head_there, brought_some, brought_none}
-use Rattle.hc_state.proofs.Words.{same_or, eqb-same, eqb-other, then_false, none_some, false_true, some_is, same_row}
+use Rattle.hc_state.proofs.Words.{none_some}
 
 -- the same ones, told otherwise
 pub among_as : {A : Type 0} (old new : Numbered A) (f h : ℕ → Bool) (change : A → A) → ((d : ℕ) → f d ≡ h d) → ChangesAmong old new f change → ChangesAmong old new h change

@@ -5,6 +5,7 @@ use Rattle.std.proofs.lemmas.Bool.Decides.{nat_tests}
 use Rattle.std.proofs.lemmas.List.{append-nil}
 use Rattle.std.specs.Prelude.{is_some, nat_eq, option_map, ◌==◌, ◌||◌, ◌&&◌, if◌then◌else◌}
 use Rattle.std.specs.Option.{option_or}
+use Rattle.hc_text.proofs.Basics.{any_none, eqb-other, eqb-same, false_true, same_or, same_some as same_row, some_inj as some_is, and_off as then_false}
 use Rattle.hc_store.specs.declared.backend.Backend.{Ghosts}
 use Rattle.hc_event.specs.declared.act.Act.{Act}
 use Rattle.hc_event.specs.declared.act.Act.TheVariants as act
@@ -63,12 +64,12 @@ use Rattle.hc_state.proofs.CloseArm.{unread_go, unawaited_go}
 use Rattle.hc_state.proofs.Counting.{stands_counted}
 use Rattle.hc_state.proofs.Losing.{may_lost}
 use Rattle.hc_state.proofs.OneOfEach.{first_by}
-use Rattle.hc_state.proofs.SealArm.{any_none, nothing_else}
+use Rattle.hc_state.proofs.SealArm.{nothing_else}
 use Rattle.hc_state.proofs.SealWritten.{sealed_lasting}
 use Rattle.hc_on_body.proofs.StopArm.{none_alone}
 use Rattle.hc_state.proofs.Stopping.{head_there, brought_some, brought_none}
 use Rattle.hc_on_body.proofs.WholeEnds.{stands_whole, entries_whole, gone_longer, sealed_longer, stands_past}
-use Rattle.hc_state.proofs.Words.{same_or, eqb-same, eqb-other, then_false, none_some, false_true, some_is, same_row}
+use Rattle.hc_state.proofs.Words.{none_some}
 
 -- A FAILURE THAT NONE IS
 

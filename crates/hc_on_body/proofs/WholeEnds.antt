@@ -4,6 +4,7 @@ use Rattle.std.proofs.lemmas.Bool.Decides.{nat_tests}
 use Rattle.std.specs.Prelude.{is_some, nat_eq, filter, option_map, if◌then◌else◌}
 use Rattle.std.specs.Option.{option_or}
 use Rattle.std.specs.HashMap.{get}
+use Rattle.hc_text.proofs.Basics.{eq_tells, eqb-other, eqb-same, false_true, filters_same, finds_same, same_or, same_some as same_row, and_off as then_false}
 use Rattle.hc_rules.specs.declared.room.Limits.{Limits}
 use Rattle.hc_store.specs.declared.backend.Backend.{Ghosts}
 use Rattle.hc_event.specs.declared.event.Response.{Response}
@@ -48,13 +49,9 @@ use Rattle.hc_on_body.proofs.BreakArm.{closed_is}
 use Rattle.hc_on_body.proofs.CameAlone.{NobodyFirst}
 use Rattle.hc_state.proofs.Closing.{exchange_closed, key_closed, entries_closed}
 use Rattle.hc_on_body.proofs.Ended.{with_over, told_alike, runs_end, held_end, away_end, base_end, promise_end}
-use Rattle.hc_state.proofs.Losing.{finds_same, filters_same}
 use Rattle.hc_state.proofs.OneOfEach.{first_by, growing_same, kind_same, entries_same}
 use Rattle.hc_state.proofs.Ties.{entry_same, exchange_same, key_same, kept_same, put_over, writer_then}
-use Rattle.hc_state.proofs.Words.{same_or, eqb-same, eqb-other, then_false, none_some, false_true, same_row}
-
-eq_tells : (a b : ℕ) → nat_eq a b ≡ true → a ≡ b
-eq_tells a b is = grind (arith, nat_tests, is)
+use Rattle.hc_state.proofs.Words.{none_some}
 
 -- THE EXCHANGE
 

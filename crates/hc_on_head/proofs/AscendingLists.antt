@@ -3,23 +3,12 @@ use Rattle.std.proofs.Common.{◌≡◌, ◌⊎◌, inl, inr, ℕ, ◌<◌, ◌�
 use Rattle.std.proofs.lemmas.Bool.Decides.{nat_tests}
 use Rattle.std.proofs.lemmas.List.{reverse-append}
 use Rattle.std.specs.Prelude.{reverse, nat_lt, ◌||◌}
+use Rattle.hc_text.proofs.Basics.{bool_cases, eq_by, eqb-same, false_true, or_cases as in_either}
 use Rattle.hc_entry.specs.Lines.{is_among}
 use Rattle.hc_entry.specs.Users.{itself}
 use Rattle.hc_model.specs.Orders.{Descends}
 use Rattle.hc_sorted.specs.Sorted.{above, is_sorted}
 use Rattle.hc_sorted.proofs.SortedLemmas.{has-above}
-use Rattle.hc_state.proofs.Words.{eqb-same, false_true}
-
-bool_cases : (b : Bool) → (b ≡ true) ⊎ (b ≡ false)
-bool_cases true = inl refl
-bool_cases false = inr refl
-
-in_either : (a b : Bool) → (a || b) ≡ true → (a ≡ true) ⊎ (b ≡ true)
-in_either true b on = inl refl
-in_either false b on = inr on
-
-eq_by : (a b : ℕ) → eqb a b ≡ true → a ≡ b
-eq_by a b on = grind (arith, nat_tests, on)
 
 -- MEMBERS
 

@@ -2,6 +2,7 @@
 -- was current is let go.
 use Rattle.std.proofs.Common.{◌≡◌, inl, inr, ℕ, List, ◌++◌, Bool, true, false, Option, Some, None, refl, ap, sym, ◌∙◌, subst}
 use Rattle.std.specs.Prelude.{IfSome, is_some, nat_eq, bytes_eq, map, option_map, unwrap_or, ◌&&◌, ◌||◌, if◌then◌else◌}
+use Rattle.hc_text.proofs.Basics.{eqb-other, false_true, mapped, same_or, same_some as same_row, some_inj as some_is, and_off as then_false}
 use Rattle.hc_rules.specs.declared.room.Limits.{Limits}
 use Rattle.hc_store.specs.declared.backend.Backend.{Ghosts}
 use Rattle.hc_event.specs.declared.act.Act.{Act}
@@ -47,16 +48,12 @@ use Rattle.hc_on_head.proofs.DoomTies.{s, exchange_is, over_row, line_row, same_
 use Rattle.hc_state.proofs.OneOfEach.{first_row, bound_same, growing_same, kind_same}
 use Rattle.hc_state.proofs.Ties.{entry_same, key_same, overs_closed}
 use Rattle.hc_on_head.proofs.Woken.{stands_for, Stood, nobody, back, beside, stays, stood, waiting_lives, bytes-flip}
-use Rattle.hc_state.proofs.Words.{same_or, eqb-other, none_some, some_is, same_row, false_true, then_false, and_false}
+use Rattle.hc_state.proofs.Words.{none_some, and_false}
 
 or_offs : (a b d : Bool) → (a || b || d) ≡ false → (a ≡ false) × ((b ≡ false) × (d ≡ false))
 or_offs false false d off = (refl, (refl, off))
 or_offs false true d off = false_true (sym off)
 or_offs true b d off = false_true (sym off)
-
-mapped : {A : Type 0} (f : A → A) (o : Option A) → is_some (option_map f o) ≡ is_some o
-mapped f None = refl
-mapped f (Some a) = refl
 
 module _ (t : Tables) (law : Lawful t) (now : ℕ) (key xs : List ℕ) (bare : (x : ℕ) → is_among x xs ≡ true → IsBare t key x) where
   abbrev after : Tables

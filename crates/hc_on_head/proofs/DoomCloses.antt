@@ -3,6 +3,7 @@ use Rattle.std.proofs.Common.{◌≡◌, ◌≢◌, ◌⊎◌, inl, inr, ℕ, �
 use Rattle.std.proofs.lemmas.Bool.Decides.{nat_tests}
 use Rattle.std.specs.Prelude.{filter, reverse, is_some, is_none, bytes_eq, option_and_then, nat_eq, ◌==◌, ◌&&◌, ◌||◌, if◌then◌else◌}
 use Rattle.std.specs.HashMap.{get, hash_map_len}
+use Rattle.hc_text.proofs.Basics.{and_both as both_parts, or_cases as either_part, eqb-other, eqb-same, false_true, none_by, none_of, same_or, same_some as same_row, some_inj as some_is}
 use Rattle.hc_rules.specs.declared.room.Limits.{Limits}
 use Rattle.hc_store.specs.declared.backend.Backend.{Ghosts}
 use Rattle.hc_event.specs.declared.event.Request.{Request}
@@ -43,15 +44,7 @@ use Rattle.hc_on_head.proofs.AscendingLists.{above_first, among_first, among_lat
 use Rattle.hc_state.proofs.Ties.{kept_row}
 use Rattle.hc_state.proofs.TurnTies.{among_in, filter_in}
 use Rattle.hc_on_head.proofs.Woken.{stands_for, Stood, nobody, back, beside, stays, stood, Waits, waits_of, waiting_lives}
-use Rattle.hc_state.proofs.Words.{same_or, eqb-same, eqb-other, false_true, none_some, some_is, same_row}
-
-both_parts : (a b : Bool) → (a && b) ≡ true → (a ≡ true) × (b ≡ true)
-both_parts true b on = (refl, on)
-both_parts false b on = false_true on
-
-either_part : (a b : Bool) → (a || b) ≡ true → (a ≡ true) ⊎ (b ≡ true)
-either_part true b on = inl refl
-either_part false b on = inr on
+use Rattle.hc_state.proofs.Words.{none_some}
 
 pub number_is : (o : Option ℕ) (x : ℕ) → is_number o x ≡ true → o ≡ Some x
 number_is None x on = false_true on
@@ -59,14 +52,6 @@ number_is (Some y) x on = let same : y ≡ x = grind (arith, nat_tests, on) in a
 
 is_the_number : (o : Option ℕ) (x : ℕ) → o ≡ Some x → is_number o x ≡ true
 is_the_number o x is = rw is (eqb-same x)
-
-none_of : {A : Type 0} (o : Option A) → is_some o ≡ false → o ≡ None
-none_of None off = refl
-none_of (Some a) off = false_true (sym off)
-
-none_by : {A : Type 0} (o : Option A) → is_none o ≡ true → o ≡ None
-none_by None on = refl
-none_by (Some a) on = false_true on
 
 -- NO MORE THAN THERE ARE
 

@@ -4,6 +4,7 @@ use Rattle.std.proofs.lemmas.Bool.Decides.{nat_tests}
 use Rattle.std.proofs.lemmas.List.{append_assoc, append-nil}
 use Rattle.std.specs.Prelude.{map, nat_eq, nat_le, option_and_then, ◌||◌}
 use Rattle.std.specs.HashMap.{get}
+use Rattle.hc_text.proofs.Basics.{eqb-other, eqb-same, false_true, same_or, some_inj as some_is}
 use Rattle.hc_store.specs.declared.backend.Backend.{Ghosts}
 use Rattle.hc_event.specs.declared.act.Act.{Act}
 use Rattle.hc_event.specs.declared.act.Act.TheVariants as act
@@ -23,7 +24,7 @@ use Rattle.hc_state.specs.declared.consumer.Consumer.{Consumer}
 use Rattle.hc_state.specs.declared.rows.Rows.{Rows}
 use Rattle.hc_state.specs.Dooms.{awaited_by, IsAwaited, IsToClose, IsNext, AreAtMost, nearer, Closes}
 use Rattle.hc_on_head.proofs.AscendingLists.{among-append, among_first, among_cases, is_first, is_later, ascends_last}
-use Rattle.hc_state.proofs.Words.{same_or, eqb-same, eqb-other, none_some, some_is, false_true}
+use Rattle.hc_state.proofs.Words.{none_some}
 
 -- THE NEXT ONE
 

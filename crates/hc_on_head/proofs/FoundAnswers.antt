@@ -2,6 +2,7 @@
 use Rattle.std.proofs.Common.{◌≡◌, ℕ, ◌+◌, ◌<◌, ◌≤◌, ◌^◌, List, [], ◌∷◌, ◌++◌, true, false, Option, Some, None, Result, Ok, Err, refl, ap, sym, ◌∙◌, subst, arith}
 use Rattle.std.specs.Prelude.{IsSomeAnd, is_some, nat_eq, option_map}
 use Rattle.std.specs.HashMap.{get}
+use Rattle.hc_text.proofs.Basics.{none_of, some_inj as some_is}
 use Rattle.hc_store.specs.Causes.{HasCause, IsWithin}
 use Rattle.hc_store.specs.declared.backend.Backend.{Ghosts}
 use Rattle.hc_store.specs.declared.error.StoreError.{StoreError}
@@ -60,7 +61,7 @@ use Rattle.hc_on_leave.proofs.HeardRows.{Asker, Headless, asker, head_none, head
 use Rattle.hc_state.proofs.Maps.{known_of, merely_below, merely_false}
 use Rattle.hc_state.proofs.ReaderSteps.{stands_read}
 use Rattle.hc_state.proofs.Rooms.{room_is}
-use Rattle.hc_state.proofs.Words.{none_of, none_some, some_is}
+use Rattle.hc_state.proofs.Words.{none_some}
 
 class_range : (request : Request) → (class_of request).range ≡ range_of request
 unfolding class_of

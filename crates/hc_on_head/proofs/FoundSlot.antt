@@ -1,6 +1,7 @@
 -- A slot is taken for what is founded: what changes with it.
 use Rattle.std.proofs.Common.{◌≡◌, ◌≢◌, inl, inr, ℕ, ◌<◌, ◌^◌, false, Option, Some, None, refl, ap, sym, ◌∙◌, subst}
 use Rattle.std.specs.Prelude.{option_map, ◌==◌, if◌then◌else◌}
+use Rattle.hc_text.proofs.Basics.{eqb-other, eqb-same, same_or}
 use Rattle.hc_event.specs.declared.act.Need.{Need}
 use Rattle.hc_event.specs.declared.event.Request.{Request}
 use Rattle.hc_event.specs.declared.event.Response.{Response}
@@ -23,7 +24,6 @@ use Rattle.hc_exch.specs.Known.{Known, with_good_head, turned_into, length_by, b
 use Rattle.hc_exch.specs.Openings.{opened_with}
 use Rattle.hc_state.specs.Founding.{brings_body}
 use Rattle.hc_on_leave.proofs.AnswerArm.{known_here, known_other, opened_as}
-use Rattle.hc_state.proofs.Words.{same_or, eqb-same, eqb-other}
 
 -- its length doesn't look at what it is to the cache
 length_turned : (kind : Role) (running : Option Open) (response : Response) → length_by (option_map (λ (o : Open). record o { role = kind }) running) response ≡ length_by running response

@@ -2,6 +2,7 @@
 use Rattle.std.proofs.Common.{◌≡◌, ◌⊎◌, inl, inr, ℕ, ◌+◌, ◌<◌, List, Bool, true, false, Option, Some, None, refl, ap, ap₂, sym, ◌∙◌, subst, arith}
 use Rattle.std.specs.Prelude.{IsTrue, ◌==◌, is_some, nat_eq, nat_lt, option_map, IsSomeAnd, ◌&&◌, ◌||◌, if◌then◌else◌}
 use Rattle.std.specs.HashMap.{get, hash_map_len}
+use Rattle.hc_text.proofs.Basics.{and_both as both_of, false_true, same_some as same_row, some_inj as some_is}
 use Rattle.hc_rules.specs.declared.room.Limits.{Limits}
 use Rattle.hc_store.specs.declared.backend.Backend.{Ghosts}
 use Rattle.hc_event.specs.declared.event.Request.{Request}
@@ -53,7 +54,7 @@ use Rattle.hc_on_leave.proofs.HeardRows.{Asker, Headless, asker, headless_of, he
 use Rattle.hc_state.proofs.KeySteps.{lined}
 use Rattle.hc_state.proofs.Maps.{merely_true, merely_below, some_that}
 use Rattle.hc_on_leave.proofs.UnstoredArms.{awaits_viewed}
-use Rattle.hc_state.proofs.Words.{false_true, is_there, none_some, some_is, same_row}
+use Rattle.hc_state.proofs.Words.{is_there, none_some}
 
 -- A BAD HEAD IS OF A BAD CASE
 
@@ -301,10 +302,6 @@ taken_case case.LaterChanged on off = false_true on
 
 past_apart : (k : HeadCase) → is_past_case k ≡ true → k ≡ case.NotValidated → ⊥
 past_apart k on is = false_true (sym (ap is_past_case is) ∙ on)
-
-both_of : (a b : Bool) → (a && b) ≡ true → (a ≡ true) × (b ≡ true)
-both_of true b on = (refl, on)
-both_of false b on = false_true on
 
 -- the row of its exchange and its case, and that it may have changed something
 pub record ToldDooming (t : Tables) (x : ℕ) (response : Response) (k : HeadCase) : Type 0 where

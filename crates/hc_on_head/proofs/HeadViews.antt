@@ -4,6 +4,7 @@ use Rattle.std.proofs.lemmas.Bool.Decides.{nat_tests}
 use Rattle.std.specs.Prelude.{codes, is_some, nat_eq, nat_le, option_and_then, option_map, ◌==◌, if◌then◌else◌}
 use Rattle.std.specs.Option.{IfSome}
 use Rattle.std.specs.HashMap.{get}
+use Rattle.hc_text.proofs.Basics.{eqb-same, false_true, some_inj as some_is}
 use Rattle.hc_rules.specs.declared.room.Limits.{Limits}
 use Rattle.hc_store.specs.declared.backend.Backend.{Ghosts}
 use Rattle.hc_range.specs.declared.range.Asked.{Asked}
@@ -66,7 +67,7 @@ use Rattle.hc_on_leave.proofs.HeadCases.{case_same}
 use Rattle.hc_on_leave.proofs.HeardRows.{Asker, runs_as}
 use Rattle.hc_state.proofs.Maps.{merely_true}
 use Rattle.hc_state.proofs.Ties.{kept_row}
-use Rattle.hc_state.proofs.Words.{eqb-same, none_some, some_is, false_true}
+use Rattle.hc_state.proofs.Words.{none_some}
 
 -- THE RANGE
 

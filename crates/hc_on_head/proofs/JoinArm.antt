@@ -4,6 +4,7 @@ use mathlib.Core.Path.{fun_ext}
 use Rattle.std.proofs.lemmas.List.{append-nil}
 use Rattle.std.specs.Prelude.{is_some, IsSomeAnd, nat_eq, not, option_map, ◌||◌, ◌==◌, if◌then◌else◌}
 use Rattle.std.specs.HashMap.{get, hash_map_len}
+use Rattle.hc_text.proofs.Basics.{eqb-other, eqb-same, false_true, same_or}
 use Rattle.hc_rules.specs.declared.room.Limits.{Limits}
 use Rattle.hc_store.specs.declared.backend.Backend.{Ghosts}
 use Rattle.hc_event.specs.declared.act.Act.{Act}
@@ -72,7 +73,7 @@ use Rattle.hc_on_leave.proofs.LoseAlone.{holds_none}
 use Rattle.hc_state.proofs.Maps.{known_of}
 use Rattle.hc_state.proofs.QueueArm.{becomes_by}
 use Rattle.hc_on_leave.proofs.UnstoredArms.{unwritten}
-use Rattle.hc_state.proofs.Words.{same_or, eqb-same, eqb-other, false_true, is_there}
+use Rattle.hc_state.proofs.Words.{is_there}
 
 -- ROWS THAT STAY
 

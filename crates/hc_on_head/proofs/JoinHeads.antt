@@ -2,6 +2,7 @@
 use Rattle.std.proofs.Common.{◌≡◌, ◌⊎◌, inl, inr, ℕ, Bool, true, false, Option, Some, None, refl, ap, sym, ◌∙◌, subst}
 use Rattle.std.specs.Prelude.{is_some, IsSomeAnd, nat_eq, option_map}
 use Rattle.std.specs.HashMap.{get}
+use Rattle.hc_text.proofs.Basics.{false_true, some_inj as some_is}
 use Rattle.hc_store.specs.declared.backend.Backend.{Ghosts}
 use Rattle.hc_event.specs.declared.act.Need.{Need}
 use Rattle.hc_event.specs.declared.act.Need.TheVariants as need
@@ -27,7 +28,7 @@ use Rattle.hc_state.specs.Joining.{IsAbout, IsAboutKept, joins_hole}
 use Rattle.hc_on_leave.proofs.HeadCases.{case_unvalidated}
 use Rattle.hc_on_head.proofs.HeadTold.{viewed_as}
 use Rattle.hc_on_leave.proofs.HeardRows.{Headless, headless_of}
-use Rattle.hc_state.proofs.Words.{false_true, is_there, some_is}
+use Rattle.hc_state.proofs.Words.{is_there}
 
 -- nothing joins what isn't kept
 unkept : (n : Need) (response : Response) → joins_kept n None response ≡ true → {A : Type 0} → A

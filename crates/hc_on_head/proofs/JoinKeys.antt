@@ -1,6 +1,7 @@
 -- A consumer waits for its key no more: what is kept by key stands for the tables without it.
 use Rattle.std.proofs.Common.{◌≡◌, ℕ, List, Bool, true, false, Some, None, refl, ap, sym, ◌∙◌, subst}
 use Rattle.std.specs.Prelude.{bytes_eq, ◌||◌}
+use Rattle.hc_text.proofs.Basics.{false_true}
 use Rattle.hc_rules.proofs.RangeReads.{same_bytes}
 use Rattle.hc_entry.specs.declared.keys.KeyTable.{KeyTable}
 use Rattle.hc_entry.specs.Kept as keyed
@@ -16,7 +17,7 @@ use Rattle.hc_state.specs.Leaving.{LeavesKey}
 use Rattle.hc_state.specs.Lines.{KeepsKey, has_turn, is_passed, is_away}
 use Rattle.hc_state.proofs.ConsumerSteps.{SaysOfIt, key_with, key_stays, keys_with}
 use Rattle.hc_state.proofs.KeySteps.{leaves_key, off_line, off_passed, off_away}
-use Rattle.hc_state.proofs.Words.{false_true, and_false}
+use Rattle.hc_state.proofs.Words.{and_false}
 
 or_offs : (a b d : Bool) → (a || b || d) ≡ false → (a ≡ false) × ((b ≡ false) × (d ≡ false))
 or_offs false false d off = (refl, (refl, off))

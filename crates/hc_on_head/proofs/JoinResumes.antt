@@ -3,6 +3,7 @@ use Rattle.std.proofs.Common.{◌≡◌, ℕ, ◌<◌, ◌^◌, Bool, true, fals
 use Rattle.std.proofs.lemmas.Bool.Decides.{nat_tests}
 use Rattle.std.specs.Prelude.{is_some, is_none, nat_eq, option_map, ◌&&◌, ◌==◌, ◌↔◌, IsTrue}
 use Rattle.std.specs.HashMap.{get}
+use Rattle.hc_text.proofs.Basics.{eqb-same, false_true, some_inj as some_is}
 use Rattle.hc_rules.specs.declared.room.Limits.{Limits}
 use Rattle.hc_store.specs.declared.backend.Backend.{Ghosts}
 use Rattle.hc_sparse.specs.Cells.{Covers, size}
@@ -38,7 +39,7 @@ use Rattle.hc_on_leave.proofs.AnswerArm.{opened_as}
 use Rattle.hc_state.proofs.CurrentTies.{covers_as, entry_at, stored_ends}
 use Rattle.hc_on_leave.proofs.StoreArm.{stored_size}
 use Rattle.hc_state.proofs.Ties.{kept_row}
-use Rattle.hc_state.proofs.Words.{eqb-same, false_true, none_some, some_is}
+use Rattle.hc_state.proofs.Words.{none_some}
 
 -- a request for the whole has no range
 whole_as : (k : Consumer) (v : rows.Consumer) → k.class ≡ class_of v.request → is_none k.class.range ≡ asks_whole (Some v)

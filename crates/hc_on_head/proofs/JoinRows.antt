@@ -2,6 +2,7 @@
 use Rattle.std.proofs.Common.{◌≡◌, ◌≢◌, ◌⊎◌, inl, inr, ℕ, ◌-◌, List, [], Bool, true, false, Option, Some, None, refl, ap, sym, ◌∙◌, subst}
 use Rattle.std.specs.Prelude.{is_some, nat_eq, drop, bytes_eq, option_map, ◌&&◌, if◌then◌else◌}
 use Rattle.std.specs.HashMap.{get}
+use Rattle.hc_text.proofs.Basics.{eqb-other, eqb-same, finds_same, same_or, and_off as then_false}
 use Rattle.hc_rules.specs.declared.room.Limits.{Limits}
 use Rattle.hc_store.specs.declared.backend.Backend.{Ghosts}
 use Rattle.hc_event.specs.declared.event.Response.{Response}
@@ -47,9 +48,8 @@ use Rattle.hc_on_leave.proofs.HeardExchange.{drop_none, held_empty}
 use Rattle.hc_on_leave.proofs.HeardRows.{kept_as, runs_as}
 use Rattle.hc_on_head.proofs.JoinKeys.{keys_left}
 use Rattle.hc_state.proofs.KeySteps.{not_lined}
-use Rattle.hc_state.proofs.Losing.{finds_same}
 use Rattle.hc_state.proofs.Ties.{consumer_same, exchange_same, key_same, kept_same}
-use Rattle.hc_state.proofs.Words.{same_or, eqb-same, eqb-other, and_false, then_false}
+use Rattle.hc_state.proofs.Words.{and_false}
 
 -- x, of which nothing came yet, waits for its head for a consumer that is bound to q and reads on from it
 pub record IsJoinable (t : Tables) (x q : ℕ) (w : Exchange) (v : rows.Consumer) (p : Representation) : Type 0 where

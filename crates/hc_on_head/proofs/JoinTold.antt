@@ -1,6 +1,7 @@
 -- A head that joins: how long its part is, and who waits for it.
 use Rattle.std.proofs.Common.{◌≡◌, ◌⊎◌, inl, inr, ℕ, ◌+◌, ◌-◌, ◌<◌, ◌≤◌, List, Bool, true, false, Option, Some, None, refl, ap, ap₂, sym, ◌∙◌, subst, arith}
 use Rattle.std.specs.Prelude.{codes, is_some, bytes_eq, not, ◌||◌, ◌==◌, if◌then◌else◌, option_map}
+use Rattle.hc_text.proofs.Basics.{eqb-other, eqb-same, false_true, same_or, same_some as same_row, some_inj as some_is}
 use Rattle.hc_rules.specs.declared.room.Limits.{Limits}
 use Rattle.hc_store.specs.declared.backend.Backend.{Ghosts}
 use Rattle.hc_stored.specs.Kept.{Kept}
@@ -50,7 +51,7 @@ use Rattle.hc_state.specs.Stored.{IsEntry, TellsLength, told, untold}
 use Rattle.hc_on_head.proofs.HeadViews.{no_hole_left, part_within}
 use Rattle.hc_on_leave.proofs.HeardRows.{Asker}
 use Rattle.hc_on_head.proofs.JoinRows.{IsJoinable}
-use Rattle.hc_state.proofs.Words.{same_or, eqb-same, eqb-other, false_true, none_some, some_is, same_row}
+use Rattle.hc_state.proofs.Words.{none_some}
 
 -- WHICH CASE IT IS
 

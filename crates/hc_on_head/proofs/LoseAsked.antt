@@ -2,6 +2,7 @@
 use Rattle.std.proofs.Common.{◌≡◌, ◌≢◌, ℕ, List, Bool, true, false, Option, Some, None, refl, ap, sym, ◌∙◌, subst}
 use Rattle.std.specs.Prelude.{is_some, nat_eq, bytes_eq, not, IsSomeAnd, ◌||◌, if◌then◌else◌}
 use Rattle.std.specs.HashMap.{get}
+use Rattle.hc_text.proofs.Basics.{false_true, same_some as same_row, and_off as then_false}
 use Rattle.hc_rules.specs.declared.room.Limits.{Limits}
 use Rattle.hc_store.specs.declared.backend.Backend.{Ghosts}
 use Rattle.hc_event.specs.declared.event.Request.{Request}
@@ -42,7 +43,7 @@ use Rattle.hc_on_leave.proofs.HeardRows.{Asker, asker, asked_by, head_none, head
 use Rattle.hc_state.proofs.KeySteps.{not_lined}
 use Rattle.hc_on_leave.proofs.LoseTurn.{grows}
 use Rattle.hc_state.proofs.Maps.{known_of, merely_true}
-use Rattle.hc_state.proofs.Words.{false_true, none_some, same_row, then_false}
+use Rattle.hc_state.proofs.Words.{none_some}
 
 -- WHO WAITS FOR ITS KEY
 

@@ -2,6 +2,7 @@
 use Rattle.std.proofs.Common.{◌≡◌, ℕ, Bool, true, false, Some, None, refl, ap, sym, ◌∙◌, subst}
 use Rattle.std.specs.Prelude.{bytes_eq, nat_eq, ◌&&◌}
 use Rattle.std.specs.HashMap.{get}
+use Rattle.hc_text.proofs.Basics.{and_off as then_false}
 use Rattle.hc_rules.specs.declared.room.Limits.{Limits}
 use Rattle.hc_store.specs.declared.backend.Backend.{Ghosts}
 use Rattle.hc_event.specs.declared.event.Request.{Request}
@@ -30,7 +31,6 @@ use Rattle.hc_state.proofs.KeySteps.{not_lined, passes_key, says_elsewhere}
 use Rattle.hc_on_leave.proofs.OneConsumer.{HoldsAsMuch, stands_moved}
 use Rattle.hc_state.proofs.QueueArm.{becomes_by}
 use Rattle.hc_state.proofs.Unbinding.{entries_unbound}
-use Rattle.hc_state.proofs.Words.{then_false}
 
 module _ (t : Tables) (law : Lawful t) (x : ℕ) (w : Exchange) (v : rows.Consumer) (awaits : AwaitsHead t x w v) (at : v.place ≡ place.Turn x) (q : ℕ) (p : Representation) where
   abbrev m : Tables

@@ -2,6 +2,7 @@
 use Rattle.std.proofs.Common.{◌≡◌, ◌≢◌, inl, inr, ℕ, List, [], ◌∷◌, Bool, Option, Some, None, refl, ap, sym, ◌∙◌, subst}
 use Rattle.std.specs.Prelude.{is_some, nat_eq, option_map, filter, find}
 use Rattle.std.specs.HashMap.{get, hash_map_len}
+use Rattle.hc_text.proofs.Basics.{eqb-other, eqb-same, filters_same, finds_same, same_or}
 use Rattle.hc_rules.specs.declared.room.Limits.{Limits}
 use Rattle.hc_store.specs.declared.backend.Backend.{Ghosts}
 use Rattle.hc_event.specs.declared.event.Response.{Response}
@@ -29,15 +30,6 @@ use Rattle.hc_state.specs.Stored.{IsEntry, TellsLength, told, untold, KeepsEntry
 use Rattle.hc_state.proofs.Fallbacks.{unstored_moved}
 use Rattle.hc_state.proofs.OneOfEach.{first_by}
 use Rattle.hc_state.proofs.Ties.{consumer_same, exchange_same, entry_same, key_same}
-use Rattle.hc_state.proofs.Words.{same_or, eqb-same, eqb-other}
-
-filters_same : (f h : ℕ → Bool) → ((q : ℕ) → h q ≡ f q) → (qs : List ℕ) → filter h qs ≡ filter f qs
-filters_same f h alike [] = refl
-filters_same f h alike (q ∷ qs) = rw (alike q, filters_same f h alike qs) refl
-
-finds_same : (f h : ℕ → Bool) → ((q : ℕ) → h q ≡ f q) → (qs : List ℕ) → find h qs ≡ find f qs
-finds_same f h alike [] = refl
-finds_same f h alike (q ∷ qs) = rw (alike q, finds_same f h alike qs) refl
 
 module _ (t : Tables) (now : ℕ) (response : Response) (w : Exchange) (r : ℕ) (v : Representation) (row : t.representation r ≡ Some v) where
   abbrev z : Representation

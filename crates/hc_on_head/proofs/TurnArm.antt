@@ -3,6 +3,7 @@ use Rattle.std.proofs.Common.{◌≡◌, inl, inr, ℕ, ◌≤◌, List, [], ◌
 use Rattle.std.proofs.lemmas.Bool.Decides.{nat_tests}
 use Rattle.std.specs.Prelude.{is_some, IfOk, IsSomeAnd, nat_eq, map, option_map, not, ◌||◌, if◌then◌else◌}
 use Rattle.std.specs.HashMap.{get}
+use Rattle.hc_text.proofs.Basics.{eqb-other, eqb-same, false_true, same_or}
 use Rattle.hc_store.specs.declared.backend.Backend.{Ghosts}
 use Rattle.hc_store.specs.declared.error.StoreError.{StoreError}
 use Rattle.hc_event.specs.declared.act.Act.{Act}
@@ -60,7 +61,7 @@ use Rattle.hc_on_leave.proofs.RefuseArm.{stands_refused, closes_as}
 use Rattle.hc_on_head.proofs.RenewedArm.{stands_renewed}
 use Rattle.hc_state.proofs.SealArm.{stands_stayed}
 use Rattle.hc_on_leave.proofs.UnstoredArms.{beside, unread_then, unwritten}
-use Rattle.hc_state.proofs.Words.{same_or, eqb-same, eqb-other, and_false, false_true, none_some}
+use Rattle.hc_state.proofs.Words.{and_false, none_some}
 
 -- WHERE WHAT IS STORED STAYS
 

@@ -2,6 +2,7 @@
 use Rattle.std.proofs.Common.{◌≡◌, ◌≢◌, ◌⊎◌, inl, inr, ℕ, ◌+◌, ◌<◌, ◌≤◌, List, Bool, true, false, Option, Some, None, refl, ap, sym, ◌∙◌, subst, arith}
 use Rattle.std.specs.Prelude.{is_some, nat_eq, option_map}
 use Rattle.std.specs.HashMap.{get}
+use Rattle.hc_text.proofs.Basics.{eqb-other, eqb-same, false_true, mapped, same_or, same_some as same_row, some_inj as some_is}
 use Rattle.hc_store.specs.declared.backend.Backend.{Ghosts}
 use Rattle.hc_stored.specs.Entries.{shelf_of}
 use Rattle.hc_stored.specs.Shelf.{Shelf}
@@ -34,11 +35,7 @@ use Rattle.hc_on_leave.proofs.SeatLoops.{AreChangedBelow, none_changed, nobody_m
 use Rattle.hc_state.proofs.Ties.{kept_row}
 use Rattle.hc_state.proofs.Unbinding.{entries_unbound, user_kept}
 use Rattle.hc_on_head.proofs.Woken.{stands_for, Stood, nobody, back, beside, stays, stood, Waits, waits_of, starts_over, stays_so, waiting_lives}
-use Rattle.hc_state.proofs.Words.{same_or, eqb-same, eqb-other, none_some, some_is, same_row, false_true}
-
-mapped : {A : Type 0} (f : A → A) (o : Option A) → is_some (option_map f o) ≡ is_some o
-mapped f None = refl
-mapped f (Some a) = refl
+use Rattle.hc_state.proofs.Words.{none_some}
 
 last_or : (j i : ℕ) → j < i + 1 → (j ≡ i) ⊎ (j < i)
 last_or j i lt = elim (same_or j i) [ inl same ↦ inl same | inr ne ↦ inr (omega (arith, lt, ne)) ]

@@ -1,6 +1,7 @@
 -- Who waits for a key that is doomed: where it stood, and that it is bound to nothing once it starts over.
 use Rattle.std.proofs.Common.{◌≡◌, ℕ, List, Bool, true, false, Option, Some, None, refl, ap, sym, ◌∙◌}
 use Rattle.std.specs.Prelude.{bytes_eq, not, option_map, ◌&&◌, ◌||◌}
+use Rattle.hc_text.proofs.Basics.{false_true, and_off as then_false}
 use Rattle.hc_rules.specs.Requests.{is_disabled, is_only}
 use Rattle.hc_rules.proofs.RangeReads.{same_bytes, bytes_eq-same}
 use Rattle.hc_event.specs.declared.place.Place.{Place}
@@ -17,7 +18,6 @@ use Rattle.hc_model.specs.Rows as rows
 use Rattle.hc_model.specs.Rows.{Tables}
 use Rattle.hc_model.specs.StartingOver.{waits_at}
 use Rattle.hc_state.specs.Lines.{is_passed, is_away}
-use Rattle.hc_state.proofs.Words.{false_true, then_false}
 
 pub bytes-flip : (a b : List ℕ) → bytes_eq a b ≡ bytes_eq b a
 bytes-flip a b = by_tests (bytes_eq a b) (bytes_eq b a) refl refl

@@ -2,6 +2,7 @@
 use Rattle.std.proofs.Common.{◌≡◌, ◌≢◌, ℕ, Bool, true, false, cond, Option, Some, None, refl, ap, sym, ◌∙◌, subst, arith}
 use Rattle.std.specs.Prelude.{nat_eq, option_map}
 use Rattle.std.specs.HashMap.{get}
+use Rattle.hc_text.proofs.Basics.{eqb-other, eqb-same, false_true, some_inj as some_is}
 use Rattle.hc_rules.specs.declared.room.Limits.{Limits}
 use Rattle.hc_store.specs.declared.backend.Backend.{Ghosts}
 use Rattle.hc_event.specs.declared.event.Response.{Response}
@@ -37,7 +38,7 @@ use Rattle.hc_on_leave.proofs.HeardExchange.{held_empty, held_else, here, others
 use Rattle.hc_on_leave.proofs.HeardRows.{headless_of, runs_as, kept_as}
 use Rattle.hc_state.proofs.OneOfEach.{stands_then}
 use Rattle.hc_state.proofs.QueueArm.{becomes_by}
-use Rattle.hc_state.proofs.Words.{eqb-same, eqb-other, false_true, none_some, some_is}
+use Rattle.hc_state.proofs.Words.{none_some}
 
 -- all that is promised has come
 pub all_reached : (o : Option ℕ) (n : ℕ) → is_all o n ≡ is_reached o n

@@ -2,6 +2,7 @@
 use Rattle.std.proofs.Common.{◌≡◌, inl, inr, ℕ, zero, suc, List, [], Bool, true, false, Some, None, refl, ap, sym, ◌∙◌, subst}
 use Rattle.std.specs.Prelude.{nat_eq, drop, bytes_eq, ◌&&◌}
 use Rattle.std.specs.HashMap.{get}
+use Rattle.hc_text.proofs.Basics.{eqb-other, eqb-same, false_true, same_or, same_some as same_row, and_off as then_false}
 use Rattle.hc_rules.specs.declared.room.Limits.{Limits}
 use Rattle.hc_store.specs.declared.backend.Backend.{Ghosts}
 use Rattle.hc_event.specs.declared.event.Request.{Request}
@@ -42,7 +43,7 @@ use Rattle.hc_on_leave.proofs.HeardRows.{live_at, waits_as, kept_as}
 use Rattle.hc_state.proofs.KeySteps.{not_lined, lined, comes_back, says_elsewhere}
 use Rattle.hc_on_leave.proofs.OneConsumer.{HoldsAsMuch, stands_moved}
 use Rattle.hc_state.proofs.QueueArm.{becomes_by}
-use Rattle.hc_state.proofs.Words.{eqb-same, eqb-other, same_or, then_false, false_true, none_some, same_row}
+use Rattle.hc_state.proofs.Words.{none_some}
 
 -- WHERE NOTHING IS READ
 

@@ -3,6 +3,7 @@ use Rattle.std.proofs.Common.{◌≡◌, ◌≢◌, inl, inr, ℕ, List, Option,
 use Rattle.std.specs.Prelude.{nat_eq}
 use Rattle.std.specs.Option.{option_or}
 use Rattle.std.specs.HashMap.{get}
+use Rattle.hc_text.proofs.Basics.{eqb-other, eqb-same, same_or}
 use Rattle.hc_rules.specs.declared.room.Limits.{Limits}
 use Rattle.hc_store.specs.declared.backend.Backend.{Ghosts}
 use Rattle.hc_event.specs.declared.act.Cause.{Cause}
@@ -23,7 +24,6 @@ use Rattle.hc_state.proofs.ConsumerSteps.{key_with, key_stays}
 use Rattle.hc_on_leave.proofs.OneConsumer.{stands_moved}
 use Rattle.hc_state.proofs.OneOfEach.{entries_same}
 use Rattle.hc_state.proofs.QueueArm.{becomes_by}
-use Rattle.hc_state.proofs.Words.{same_or, eqb-same, eqb-other}
 
 module _ {B : Type 0} {g : Ghosts B} {lim : Limits} (r u : Rows B g) (t : Tables) (c : ℕ) (v : rows.Consumer) (k : Consumer) (why : Cause) (stands : RowsStand lim r t) (row : t.consumer c ≡ Some v) (there : get nat_eq r.consumers c ≡ Some k) (is : IsKept t k v) (undue : v.due ≡ None)
     (last : u.last_start ≡ r.last_start) (exchanges : u.exchanges ≡ r.exchanges) (same_keys : u.keys ≡ r.keys) (same_entries : u.entries ≡ r.entries) (changes : ChangesAt r.consumers u.consumers c (with_due why)) where

@@ -6,6 +6,7 @@ use Rattle.std.proofs.lemmas.List.{append_assoc}
 use Rattle.std.specs.Prelude.{◌==◌, ◌&&◌, not, is_some, nat_eq, nat_le, filter, map, option_map, unwrap_or, if◌then◌else◌}
 use Rattle.std.specs.HashMap.{get}
 use Rattle.std.specs.Option.{option_or}
+use Rattle.hc_text.proofs.Basics.{eqb-other, eqb-same, false_true, same_or, some_inj as some_is}
 use Rattle.hc_store.specs.declared.backend.Backend.{Ghosts}
 use Rattle.hc_range.specs.declared.range.Span.{Span}
 use Rattle.hc_event.specs.declared.act.Act.{Act}
@@ -86,7 +87,7 @@ use Rattle.hc_on_leave.proofs.PieceRoom.{may_make_room}
 use Rattle.hc_state.proofs.OneOfEach.{bound_same}
 use Rattle.hc_state.proofs.Rooms.{used_is}
 use Rattle.hc_on_leave.proofs.UnstoredArms.{may_moved, read_then}
-use Rattle.hc_state.proofs.Words.{same_or, eqb-same, eqb-other, false_true, none_some, some_is}
+use Rattle.hc_state.proofs.Words.{none_some}
 
 -- WHAT WAS LET GO
 

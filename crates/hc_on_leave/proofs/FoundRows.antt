@@ -5,6 +5,7 @@ use Rattle.std.specs.Prelude.{◌==◌, ◌&&◌, ◌||◌, not, nat_eq, bytes_e
 use Rattle.std.specs.HashMap.{get}
 use Rattle.std.specs.List.{list_any}
 use Rattle.std.specs.Option.{option_or}
+use Rattle.hc_text.proofs.Basics.{any_none, eqb-other, eqb-same, false_true, never_true as not_true, same_or, some_inj as some_is}
 use Rattle.hc_rules.specs.declared.room.Limits.{Limits}
 use Rattle.hc_store.specs.declared.backend.Backend.{Ghosts}
 use Rattle.hc_sparse.specs.Cells.{Covers, nothing}
@@ -66,7 +67,7 @@ use Rattle.hc_state.proofs.KeySteps.{IsUnsaid, apart_unsaid}
 use Rattle.hc_state.proofs.OneOfEach.{bound_same, kind_same}
 use Rattle.hc_state.proofs.QueueArm.{becomes_by}
 use Rattle.hc_state.proofs.Ties.{consumer_same, entry_same, exchange_same}
-use Rattle.hc_state.proofs.Words.{same_or, eqb-same, eqb-other, false_true, not_true, some_is, and_false}
+use Rattle.hc_state.proofs.Words.{and_false}
 use Rattle.hc_model.specs.Lines.{is_in_line}
 
 -- It is listed, nobody is bound to what has its number, and no other exchange brings that.
@@ -83,10 +84,6 @@ any_some f n (m ∷ ns) (inr there) on = let rest : list_any f ns ≡ true = any
     either : (b : Bool) → (b || true) ≡ true
     either true = refl
     either false = refl
-
-any_none : (f : ℕ → Bool) (ns : List ℕ) → ((n : ℕ) → f n ≡ false) → list_any f ns ≡ false
-any_none f [] off = refl
-any_none f (n ∷ ns) off = rw (off n, any_none f ns off) refl
 
 filters_but : (f h : ℕ → Bool) (x : ℕ) (ns : List ℕ) → f x ≡ false → ((n : ℕ) → n ≢ x → h n ≡ f n) → filter h (filter (λ n. not (n == x)) ns) ≡ filter f ns
 filters_but f h x [] off same = refl

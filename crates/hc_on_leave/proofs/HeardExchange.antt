@@ -1,6 +1,7 @@
 -- An exchange of which nothing came yet is another: what is kept by key, of representations and of other exchanges stays.
 use Rattle.std.proofs.Common.{◌≡◌, ◌≢◌, inl, inr, ℕ, zero, suc, List, [], Bool, true, false, Option, Some, None, refl, ap, sym, ◌∙◌, subst}
 use Rattle.std.specs.Prelude.{nat_eq, drop, bytes_eq, ◌&&◌}
+use Rattle.hc_text.proofs.Basics.{eqb-other, eqb-same, same_or, and_off as then_false}
 use Rattle.hc_stored.specs.Shelf.{Shelf}
 use Rattle.hc_entry.specs.Kept as keyed
 use Rattle.hc_event.specs.declared.place.Place.{Place}
@@ -19,7 +20,7 @@ use Rattle.hc_state.specs.Stored.{KeepsEntries}
 use Rattle.hc_state.proofs.Fallbacks.{same, held_alike}
 use Rattle.hc_state.proofs.OneOfEach.{bound_same, first_row, growing_same, kind_same}
 use Rattle.hc_state.proofs.Ties.{key_same, entry_same, overs_open}
-use Rattle.hc_state.proofs.Words.{same_or, eqb-same, eqb-other, then_false, none_some}
+use Rattle.hc_state.proofs.Words.{none_some}
 
 abbrev none : List ℕ
 none = []

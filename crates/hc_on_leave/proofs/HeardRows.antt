@@ -2,6 +2,7 @@
 use Rattle.std.proofs.Common.{◌≡◌, ℕ, Bool, true, false, Option, Some, None, refl, ap, sym, ◌∙◌, subst}
 use Rattle.std.specs.Prelude.{is_some, nat_eq, option_map, if◌then◌else◌}
 use Rattle.std.specs.HashMap.{get}
+use Rattle.hc_text.proofs.Basics.{false_true, same_some as same_row}
 use Rattle.hc_rules.specs.declared.room.Limits.{Limits}
 use Rattle.hc_store.specs.declared.backend.Backend.{Ghosts}
 use Rattle.hc_event.specs.declared.act.Refusal.TheVariants as refusal
@@ -28,7 +29,7 @@ use Rattle.hc_state.specs.Facts.{Facts}
 use Rattle.hc_state.specs.Heads.{AwaitsHead, IsAskedBy}
 use Rattle.hc_state.specs.Kept.{IsKept, IsRunning, KeepsConsumer, KeepsRunning}
 use Rattle.hc_state.specs.Stands.{RowsStand}
-use Rattle.hc_state.proofs.Words.{false_true, none_some, same_row}
+use Rattle.hc_state.proofs.Words.{none_some}
 
 -- WHAT ISN'T DENIED
 

@@ -2,6 +2,7 @@
 use Rattle.std.proofs.Common.{◌≡◌, ℕ, List, [], ◌∷◌, ◌++◌, Bool, true, false, Option, Some, None, refl, ap, sym, ◌∙◌, subst}
 use Rattle.std.proofs.lemmas.List.{append_assoc}
 use Rattle.std.specs.Prelude.{nat_eq, map, not, ◌||◌}
+use Rattle.hc_text.proofs.Basics.{false_true}
 use Rattle.hc_store.specs.declared.backend.Backend.{Ghosts}
 use Rattle.hc_event.specs.declared.act.Act.{Act}
 use Rattle.hc_event.specs.declared.act.Act.TheVariants as act
@@ -37,7 +38,6 @@ use Rattle.hc_state.specs.Stands.{Answered, RowsStand}
 use Rattle.hc_state.proofs.Answering.{does_answered, lossy_answered}
 use Rattle.hc_state.proofs.Counting.{stands_counted}
 use Rattle.hc_state.proofs.SealWritten.{sealed_leaving}
-use Rattle.hc_state.proofs.Words.{false_true}
 
 -- who is down fails by that
 pub down_fails : (t : Tables) (law : Lawful t) (now want c : ℕ) (k : rows.Consumer) (why : Cause) → t.consumer c ≡ Some k → k.place ≡ place.Down why → move_of t now want c k ≡ Fails why

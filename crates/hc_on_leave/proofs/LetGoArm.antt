@@ -3,6 +3,7 @@ use Rattle.std.proofs.Common.{◌≡◌, ℕ, List, Bool, true, false, cond, Opt
 use Rattle.std.proofs.lemmas.Bool.Decides.{nat_tests}
 use Rattle.std.specs.Prelude.{is_some, nat_eq, bytes_eq, option_map, option_and_then, not, ◌&&◌, ◌||◌, ◌==◌, if◌then◌else◌}
 use Rattle.std.specs.HashMap.{get}
+use Rattle.hc_text.proofs.Basics.{eqb-same, false_true, mapped, some_inj as some_is, and_off as then_false}
 use Rattle.hc_rules.specs.declared.room.Limits.{Limits}
 use Rattle.hc_store.specs.declared.backend.Backend.{Ghosts}
 use Rattle.hc_stored.specs.Entries.{shelf_of}
@@ -50,11 +51,6 @@ use Rattle.hc_state.proofs.Fallbacks.{IsAlike, same, fallback, held_gone, users_
 use Rattle.hc_state.proofs.BoundLists.{bound_none, bound_some}
 use Rattle.hc_state.proofs.OneOfEach.{first_by, kind_same}
 use Rattle.hc_state.proofs.Ties.{consumer_same, key_same, entry_same, exchange_same, SaysSame, UsesSame}
-use Rattle.hc_state.proofs.Words.{eqb-same, some_is, false_true, then_false}
-
-mapped : {A : Type 0} (f : A → A) (o : Option A) → is_some (option_map f o) ≡ is_some o
-mapped f None = refl
-mapped f (Some a) = refl
 
 -- ROWS THAT ARE GONE
 

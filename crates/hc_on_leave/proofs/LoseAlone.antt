@@ -3,6 +3,7 @@ use Rattle.std.proofs.Common.{◌≡◌, ℕ, ◌-◌, ◌≤◌, [], length, dr
 use Rattle.std.proofs.lemmas.Bool.Decides.{nat_tests}
 use Rattle.std.proofs.lemmas.List.{drop_all}
 use Rattle.std.specs.Prelude.{is_some, nat_eq, nat_le, ◌&&◌, if◌then◌else◌}
+use Rattle.hc_text.proofs.Basics.{and_off as then_false}
 use Rattle.hc_event.specs.declared.event.Response.{Response}
 use Rattle.hc_rules.specs.declared.room.Limits.{Limits}
 use Rattle.hc_sparse.specs.Cells.{Cell, EndsBy, Covers}
@@ -20,7 +21,6 @@ use Rattle.hc_state.specs.Facts.{Facts}
 use Rattle.hc_state.specs.Kept.{held_alone, unstored_bytes, first_lacking}
 use Rattle.hc_state.specs.Stopped.{HoldsNothing}
 use Rattle.hc_on_leave.proofs.HeardExchange.{drop_none}
-use Rattle.hc_state.proofs.Words.{then_false}
 
 module _ (limits : Limits) (t : Tables) (facts : Facts limits t) (q : ℕ) (v : Representation) (there : t.representation q ≡ Some v) (kept : v.is_lost ≡ false) where
   stores : (p : ℕ) → v.stored p ≡ v.body p

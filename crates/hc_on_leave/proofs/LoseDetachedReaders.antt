@@ -6,6 +6,7 @@ use Rattle.std.proofs.lemmas.List.{append-nil, drop_all, take_more}
 use Rattle.std.proofs.lemmas.List.Elements.{filter-append}
 use Rattle.std.specs.Prelude.{is_some, is_none, nat_eq, filter, map, option_map, ◌&&◌, ◌||◌, ◌==◌, if◌then◌else◌}
 use Rattle.std.specs.HashMap.{get}
+use Rattle.hc_text.proofs.Basics.{eqb-same, false_true, same_some as same_row, and_off as then_false}
 use Rattle.hc_rules.specs.declared.room.Limits.{Limits}
 use Rattle.hc_store.specs.declared.backend.Backend.{Ghosts}
 use Rattle.hc_event.specs.declared.act.Cause.TheVariants as cause
@@ -41,7 +42,6 @@ use Rattle.hc_state.specs.Stopped.{HoldsNothing}
 use Rattle.hc_state.specs.Stored.{IsEntry, KeepsEntry}
 use Rattle.hc_on_leave.proofs.LoseParts as parts
 use Rattle.hc_state.proofs.TurnTies.{least_alike, least_some, filter_in, among_in}
-use Rattle.hc_state.proofs.Words.{eqb-same, then_false, same_row, false_true}
 
 -- STEP BY STEP
 

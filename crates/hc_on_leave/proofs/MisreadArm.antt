@@ -1,6 +1,7 @@
 -- The stored head of what is current can't be read: who asked for it fails, and what is current is let go.
 use Rattle.std.proofs.Common.{◌≡◌, ℕ, ◌<◌, List, [], ◌∷◌, ◌++◌, Bool, true, false, Option, Some, None, refl, ap, sym, ◌∙◌, subst}
 use Rattle.std.specs.Prelude.{map, ◌||◌}
+use Rattle.hc_text.proofs.Basics.{eqb-same, false_true, or_right as or_last}
 use Rattle.hc_store.specs.declared.backend.Backend.{Ghosts}
 use Rattle.hc_stored.specs.Entries.{shelf_of}
 use Rattle.hc_event.specs.declared.act.Act.{Act}
@@ -24,7 +25,6 @@ use Rattle.hc_state.specs.declared.rows.Rows.{Rows}
 use Rattle.hc_state.specs.Plans.{is_idle_at}
 use Rattle.hc_state.specs.Stands.{Answered, RowsStand}
 use Rattle.hc_state.proofs.Counting.{stands_counted}
-use Rattle.hc_state.proofs.Words.{eqb-same, false_true}
 
 -- who reads nothing leaves no exchange
 pub idle_leaves : (t : Tables) (law : Lawful t) (c : ℕ) (v : Consumer) → t.consumer c ≡ Some v → is_idle_at v.place ≡ true → left_by t c v ≡ None
@@ -41,10 +41,6 @@ idle_leaves t law c v row idle = by_place v.place refl
     by_place (place.Direct x) at = false_true (sym (ap is_idle_at at) ∙ idle)
     by_place (place.Down why) at = false_true (sym (ap is_idle_at at) ∙ idle)
     by_place place.Over at = false_true (sym (ap is_idle_at at) ∙ idle)
-
-or_last : (a b : Bool) → b ≡ true → (a || b) ≡ true
-or_last true b on = refl
-or_last false b on = on
 
 module _ {B : Type 0} {g : Ghosts B} (limits : Limits) (faults : ℕ) (u : Rows B g) (t : Tables) (law : Lawful t) (now c want r : ℕ) (v : Consumer) (row : t.consumer c ≡ Some v) (idle : is_idle_at v.place ≡ true) (before out : List Act) where
   abbrev s : Tables

@@ -2,6 +2,7 @@
 use Rattle.std.proofs.Common.{◌≡◌, ◌≢◌, inl, inr, ℕ, ◌<◌, List, [], ◌∷◌, ◌++◌, Bool, true, false, Option, Some, None, refl, ap, sym, ◌∙◌, subst, arith}
 use Rattle.std.proofs.lemmas.Bool.Decides.{nat_tests}
 use Rattle.std.specs.Prelude.{is_some, nat_eq, map, option_map, ◌||◌, ◌&&◌, if◌then◌else◌}
+use Rattle.hc_text.proofs.Basics.{eqb-other, eqb-same, false_true, or_left as or_first, same_or, same_some as same_row, some_inj as some_is, and_off as then_false}
 use Rattle.hc_store.specs.declared.backend.Backend.{Ghosts}
 use Rattle.hc_stored.specs.Entries.{shelf_of}
 use Rattle.hc_event.specs.declared.act.Act.{Act}
@@ -39,7 +40,7 @@ use Rattle.hc_state.proofs.LeftAlone.{HowLeft, how_left, left_unawaited}
 use Rattle.hc_state.proofs.LeftAlone as left
 use Rattle.hc_state.proofs.Maps.{act_and}
 use Rattle.hc_on_leave.proofs.MayGo.{may_with}
-use Rattle.hc_state.proofs.Words.{same_or, eqb-same, eqb-other, false_true, none_some, some_is, same_row, then_false}
+use Rattle.hc_state.proofs.Words.{none_some}
 
 -- where it is bound
 pub record BoundAt (q : ℕ) (p : Place) : Type 0 where
@@ -119,10 +120,6 @@ module _ (t : Tables) (law : Lawful t) (c q : ℕ) (v : Consumer) (row : t.consu
     gone_with : (x : ℕ) → HowLeft t c x v → (o : Option ℕ) → going_with t (Some x) ≡ o → let_go now q (let_some_go now o s) ≡ let_go now q s
     gone_with x how None going = refl
     gone_with x how (Some n) going = ap (λ (m : ℕ). let_go now q (let_go now m s)) (going_is x n how going) ∙ let_go_twice
-
-or_first : (a b : Bool) → a ≡ true → (a || b) ≡ true
-or_first true b on = refl
-or_first false b on = false_true on
 
 module _ (limits : Limits) (t : Tables) (law : Lawful t) (now c want q : ℕ) (v : Consumer) (row : t.consumer c ≡ Some v) (bound : is_bound_place q v.place ≡ true) where
   abbrev ev : Event

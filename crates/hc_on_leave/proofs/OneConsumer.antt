@@ -1,5 +1,6 @@
 -- One consumer changes and no exchange: what is kept stands for the tables then, where as much is held for it.
 use Rattle.std.proofs.Common.{◌≡◌, ◌≢◌, inl, inr, ℕ, List, true, Option, Some, None, refl, ap, sym, ◌∙◌}
+use Rattle.hc_text.proofs.Basics.{eqb-other, eqb-same, same_or}
 use Rattle.hc_rules.specs.declared.room.Limits.{Limits}
 use Rattle.hc_store.specs.declared.backend.Backend.{Ghosts}
 use Rattle.hc_stored.specs.Entries.{shelf_of}
@@ -21,7 +22,6 @@ use Rattle.hc_state.proofs.Fallbacks.{unstored_moved}
 use Rattle.hc_state.proofs.FallbackSteps.{length_same, live_same}
 use Rattle.hc_state.proofs.ConsumerSteps.{all_kept_with}
 use Rattle.hc_state.proofs.Ties.{exchange_same}
-use Rattle.hc_state.proofs.Words.{same_or, eqb-same, eqb-other}
 
 module _ (t : Tables) (c : ℕ) (v z : rows.Consumer) (row : t.consumer c ≡ Some v) where
   abbrev pub s : Tables

@@ -3,6 +3,7 @@ use Rattle.std.proofs.Common.{◌≡◌, ℕ, ◌+◌, ◌<◌, ◌≤◌, ◌^�
 use Rattle.std.proofs.lemmas.Bool.Decides.{nat_tests}
 use Rattle.std.proofs.lemmas.List.{append-nil, drop-append-le}
 use Rattle.std.specs.Prelude.{is_some, is_none, nat_lt, not, option_map, ◌==◌}
+use Rattle.hc_text.proofs.Basics.{eqb-same, false_true, never_true as not_true, not_false as on_by, same_some as same_row, some_inj as some_is}
 use Rattle.hc_rules.specs.declared.room.Limits.{Limits}
 use Rattle.hc_store.specs.declared.backend.Backend.{Ghosts}
 use Rattle.hc_event.specs.declared.act.Act.{Act}
@@ -39,17 +40,13 @@ use Rattle.hc_state.proofs.Fallbacks.{held_alike, same}
 use Rattle.hc_on_leave.proofs.HeardRows.{heard_row}
 use Rattle.hc_state.proofs.Maps.{merely_below}
 use Rattle.hc_on_leave.proofs.PieceRows.{s, like_same, stands_pieced}
-use Rattle.hc_state.proofs.Words.{eqb-same, false_true, none_some, some_is, same_row, not_true}
+use Rattle.hc_state.proofs.Words.{none_some}
 
 -- HOW FAR IT REACHES
 
 test_off : (b : Bool) (r : Refusal) (rest : Option Refusal) → cond b (Some r) rest ≡ None → (b ≡ false) × (rest ≡ None)
 test_off false r rest is = (refl, is)
 test_off true r rest is = none_some r (sym is)
-
-on_by : (b : Bool) → not b ≡ false → b ≡ true
-on_by true is = refl
-on_by false is = sym is
 
 within : (p got : ℕ) (r : Refusal) → cond (nat_lt p got) (Some r) None ≡ None → got ≤ p
 within p got r is = let off = (test_off (nat_lt p got) r None is).0 in grind (arith, nat_tests, off)

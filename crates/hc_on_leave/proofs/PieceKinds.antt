@@ -2,6 +2,7 @@
 use Rattle.std.proofs.Common.{◌≡◌, ℕ, ◌+◌, ◌<◌, ◌≤◌, ◌^◌, List, length, Bool, true, false, Option, Some, None, refl, ap, sym, ◌∙◌, subst, arith}
 use Rattle.std.proofs.lemmas.Bool.Decides.{nat_tests}
 use Rattle.std.specs.Prelude.{nat_lt, nat_le, option_map, ◌&&◌, ◌↔◌, IsTrue, if◌then◌else◌}
+use Rattle.hc_text.proofs.Basics.{some_inj as some_is}
 use Rattle.hc_record.specs.declared.kind.Kind.TheVariants as kind
 use Rattle.hc_sparse.specs.Cells.{Covers, inside, cells_with}
 use Rattle.hc_sparse.proofs.SizeLemmas.{size-le}
@@ -14,7 +15,7 @@ use Rattle.hc_model.specs.Rows.{Representation}
 use Rattle.hc_state.specs.Pieces.{larger_view}
 use Rattle.hc_state.specs.Stops.{IsViewOf, kind_left}
 use Rattle.hc_state.proofs.StoredKinds.{complete_as, incomplete_as, front_as}
-use Rattle.hc_state.proofs.Words.{none_some, some_is}
+use Rattle.hc_state.proofs.Words.{none_some}
 
 -- behind the piece it brings nothing
 pub outside_behind : (at p : ℕ) (bytes : List ℕ) → at + length bytes ≤ p → inside at (length bytes) p ≡ false

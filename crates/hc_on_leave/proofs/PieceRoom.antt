@@ -4,6 +4,7 @@ use mathlib.Core.Path.{fun_ext}
 use Rattle.std.proofs.lemmas.Bool.Decides.{nat_tests}
 use Rattle.std.specs.Prelude.{is_some, nat_eq, nat_le, nat_lt, filter, map, reverse, not, ◌==◌, ◌&&◌, ◌||◌, if◌then◌else◌}
 use Rattle.std.specs.List.{sum_by}
+use Rattle.hc_text.proofs.Basics.{and_true, eqb-other, false_true, or_off_left as or_first, same_or, and_off as then_false}
 use Rattle.hc_event.specs.declared.event.Event.TheVariants as event
 use Rattle.hc_rules.specs.declared.room.Limits.{Limits}
 use Rattle.hc_rules.specs.declared.room.Room.{Room}
@@ -34,7 +35,7 @@ use Rattle.hc_effects.proofs.LettingGo.{may_let_go}
 use Rattle.hc_effects.proofs.PieceEffects as does
 use Rattle.hc_effects.proofs.SameTables.{is_in}
 use Rattle.hc_state.specs.Facts.{Facts}
-use Rattle.hc_state.proofs.Words.{same_or, eqb-other, false_true, none_some, then_false}
+use Rattle.hc_state.proofs.Words.{none_some}
 
 -- LISTS
 
@@ -70,14 +71,6 @@ not_taken (suc count) n (x ∷ xs) off = by_tests (nat_eq x n) (is_in xs n) refl
 some_list : (xs : List ℕ) → xs ≢ [] → nat_eq (length xs) 0 ≡ false
 some_list [] some = absurd (some refl)
 some_list (x ∷ xs) some = grind (arith, nat_tests)
-
-or_first : (a b : Bool) → (a || b) ≡ false → a ≡ false
-or_first true b off = off
-or_first false b off = refl
-
-and_true : (a : Bool) → (a && true) ≡ a
-and_true true = refl
-and_true false = refl
 
 -- WHAT THE RUN ALLOWS
 

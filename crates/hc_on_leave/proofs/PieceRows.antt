@@ -3,6 +3,7 @@ use Rattle.std.proofs.Common.{◌≡◌, ◌≢◌, inl, inr, ℕ, ◌+◌, List
 use Rattle.std.proofs.lemmas.List.{length-append}
 use Rattle.std.specs.Prelude.{is_some, is_none, nat_eq, bytes_eq, ◌&&◌, if◌then◌else◌}
 use Rattle.std.specs.HashMap.{get}
+use Rattle.hc_text.proofs.Basics.{eqb-other, eqb-same, false_true, filters_same, finds_same, same_or, and_off as then_false}
 use Rattle.hc_rules.specs.declared.room.Limits.{Limits}
 use Rattle.hc_store.specs.declared.backend.Backend.{Ghosts}
 use Rattle.hc_event.specs.declared.event.Event.TheVariants as event
@@ -36,11 +37,9 @@ use Rattle.hc_state.specs.Lines.{KeepsKey, is_away, is_away_at}
 use Rattle.hc_state.specs.Stands.{RowsStand}
 use Rattle.hc_state.specs.Stored.{KeepsEntry, KeepsEntries, is_usable_row}
 use Rattle.hc_on_leave.proofs.AnswerArm.{all_reached, known_here, known_other}
-use Rattle.hc_state.proofs.Losing.{finds_same, filters_same}
 use Rattle.hc_state.proofs.OneOfEach.{first_by, bound_same, growing_same, kind_same}
 use Rattle.hc_state.proofs.PastRows.{SeesAlike, consumer_alike}
 use Rattle.hc_state.proofs.Ties.{key_same, entry_same, exchange_same, overs_open}
-use Rattle.hc_state.proofs.Words.{same_or, eqb-same, eqb-other, then_false, false_true}
 
 -- what bytes don't change of a representation
 pub record IsLike (o p : Option Representation) : Type 0 where

@@ -2,6 +2,7 @@
 use Rattle.std.proofs.Common.{◌≡◌, ◌≢◌, inl, inr, ℕ, [], ◌∷◌, Bool, true, false, Option, Some, None, refl, ap, sym, ◌∙◌, subst}
 use Rattle.std.specs.Prelude.{nat_eq, if◌then◌else◌}
 use Rattle.std.specs.HashMap.{get}
+use Rattle.hc_text.proofs.Basics.{eqb-other, eqb-same, same_or}
 use Rattle.hc_rules.specs.declared.room.Limits.{Limits}
 use Rattle.hc_store.specs.declared.backend.Backend.{Ghosts}
 use Rattle.hc_event.specs.declared.event.Response.{Response}
@@ -29,7 +30,6 @@ use Rattle.hc_on_leave.proofs.AnswerArm.{all_reached, known_here, known_other}
 use Rattle.hc_on_leave.proofs.HeardExchange.{held_empty, held_else, here, others, key_heard, entries_heard}
 use Rattle.hc_state.proofs.OneOfEach.{stands_then}
 use Rattle.hc_state.proofs.Ties.{consumer_same}
-use Rattle.hc_state.proofs.Words.{same_or, eqb-same, eqb-other}
 
 module _ {B : Type 0} {g : Ghosts B} {lim : Limits} (r u : Rows B g) (t : Tables) (x : ℕ) (w z : Exchange) (stands : RowsStand lim r t) (unused : IsUnread t x w) (shut : z.is_open ≡ false) (empty : z.body ≡ []) (unjoined : z.joined ≡ None)
     (rest : KeepsRest r u) (consumers : u.consumers ≡ r.consumers) (becomes : exch.Becomes known.without_exchange x r.exchanges u.exchanges) where

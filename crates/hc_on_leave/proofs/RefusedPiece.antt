@@ -2,6 +2,7 @@
 use Rattle.std.proofs.Common.{◌≡◌, ℕ, ◌+◌, ◌<◌, ◌≤◌, List, true, false, Option, Some, None, refl, subst, arith}
 use Rattle.std.proofs.lemmas.Bool.Decides.{nat_tests}
 use Rattle.std.specs.Prelude.{nat_lt, Result, Ok, Err, if◌then◌else◌}
+use Rattle.hc_text.proofs.Basics.{some_inj as some_is}
 use Rattle.hc_store.specs.Causes.{HasCause, IsWithin}
 use Rattle.hc_store.specs.declared.error.StoreError.{StoreError}
 use Rattle.hc_store.specs.declared.error.StoreError.TheVariants as errors
@@ -13,7 +14,6 @@ use Rattle.hc_rules.specs.declared.room.Limits.{Limits}
 use Rattle.hc_rules.specs.declared.room.Room.TheVariants as room
 use Rattle.hc_rules.specs.declared.room.Write.TheVariants as write
 use Rattle.hc_state.specs.Room.{loss_by}
-use Rattle.hc_state.proofs.Words.{some_is}
 
 -- WHY
 

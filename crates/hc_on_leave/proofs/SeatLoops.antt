@@ -2,12 +2,13 @@
 use Rattle.std.proofs.Common.{◌≡◌, ◌≢◌, ◌⊎◌, inl, inr, ℕ, ◌+◌, ◌<◌, ◌≤◌, List, Bool, true, false, cond, Option, Some, None, refl, ap, sym, ◌∙◌, subst, arith}
 use Rattle.std.specs.Prelude.{nat_eq, option_map}
 use Rattle.std.specs.HashMap.{get, hash_map_len}
+use Rattle.hc_text.proofs.Basics.{eqb-other, eqb-same, false_true, none_or as none_is, same_or, some_inj as some_is}
 use Rattle.hc_entry.specs.declared.keys.KeyTable.{KeyTable}
 use Rattle.hc_entry.specs.Keys.{line_of, seated_at, AllAreSeatedBelow, IsItsSeat}
 use Rattle.hc_entry.specs.Lines.{is_in}
 use Rattle.hc_state.specs.declared.consumer.Consumer.{Consumer}
 use Rattle.hc_state.specs.Changes.{Numbered, ChangesAt, ChangesAmong}
-use Rattle.hc_state.proofs.Words.{same_or, eqb-same, eqb-other, none_some, some_is, false_true}
+use Rattle.hc_state.proofs.Words.{none_some}
 
 -- Those with a seat below i changed so, and nobody else changed.
 pub record AreChangedBelow (i : ℕ) (kept : KeyTable) (key : List ℕ) (f : Consumer → Consumer) (old new : Numbered Consumer) : Type 0 where
@@ -63,7 +64,3 @@ module _ (kept : KeyTable) (key : List ℕ) (f : Consumer → Consumer) (old : N
       by_test : (d : ℕ) (b : Bool) → is_in d (line_of kept key) ≡ b → get nat_eq new d ≡ cond b (option_map f (get nat_eq old d)) (get nat_eq old d)
       by_test d true on = let (j, lt, there) = seated d on in was.changed j d (omega (arith, lt, le)) there
       by_test d false off = was.rest d (λ j lt is. false_true (sym off ∙ was.inside j d lt is))
-
-pub none_is : {A : Type 0} (o : Option A) → ((a : A) → o ≡ Some a → ⊥) → o ≡ None
-none_is None none = refl
-none_is (Some c) none = absurd (none c refl)

@@ -3,6 +3,7 @@ use Rattle.std.proofs.Common.{◌≡◌, ◌≢◌, inl, inr, ℕ, ◌+◌, ◌-
 use mathlib.Core.Path.{fun_ext}
 use Rattle.std.specs.Prelude.{is_some, is_none, nat_eq, nat_lt, not, slice_index, map, option_map, ◌==◌, ◌&&◌, if◌then◌else◌}
 use Rattle.std.specs.List.{list_any}
+use Rattle.hc_text.proofs.Basics.{eqb-other, eqb-same, false_true, any_none as none_passes, never_true as not_true, same_or, same_some as same_row, some_inj as some_is}
 use Rattle.hc_store.specs.declared.backend.Backend.{Ghosts}
 use Rattle.hc_store.specs.Heads.{with_kind}
 use Rattle.hc_sparse.specs.Cells.{Cell, Cells, Covers, inside, cells_with}
@@ -57,11 +58,7 @@ use Rattle.hc_state.proofs.Fallbacks.{unstored_moved}
 use Rattle.hc_state.proofs.OneOfEach.{first_by}
 use Rattle.hc_on_leave.proofs.PieceArm.{Runs, runs_of, open_unended, not_overlong}
 use Rattle.hc_on_leave.proofs.PieceRows.{s, z, IsLike, like_same, grows_on, stands_pieced}
-use Rattle.hc_state.proofs.Words.{same_or, eqb-same, eqb-other, false_true, none_some, some_is, same_row, not_true}
-
-none_passes : (f : ℕ → Bool) (xs : List ℕ) → ((n : ℕ) → f n ≡ false) → list_any f xs ≡ false
-none_passes f [] off = refl
-none_passes f (x ∷ xs) off = rw (off x, none_passes f xs off) refl
+use Rattle.hc_state.proofs.Words.{none_some}
 
 still_there : (a : Bool) (cell : Cell) (o : Option Cell) → is_some o ≡ true → is_some (if a then Some cell else o) ≡ true
 still_there true cell o on = refl

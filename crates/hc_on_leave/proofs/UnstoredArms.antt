@@ -2,6 +2,7 @@
 use Rattle.std.proofs.Common.{◌≡◌, ◌≢◌, ◌⊎◌, inl, inr, ℕ, List, [], ◌∷◌, ◌++◌, Bool, true, false, Option, Some, None, refl, ap, sym, ◌∙◌, subst}
 use Rattle.std.proofs.lemmas.List.{append-nil}
 use Rattle.std.specs.Prelude.{is_some, map, ◌||◌, if◌then◌else◌}
+use Rattle.hc_text.proofs.Basics.{eqb-other, eqb-same, false_true, same_or, same_some as same_row, some_inj as some_is}
 use Rattle.hc_store.specs.declared.backend.Backend.{Ghosts}
 use Rattle.hc_event.specs.declared.act.Act.{Act}
 use Rattle.hc_event.specs.declared.act.Act.TheVariants as act
@@ -62,7 +63,7 @@ use Rattle.hc_state.proofs.Counting.{stands_counted}
 use Rattle.hc_on_leave.proofs.DueArm.{stands_due}
 use Rattle.hc_on_leave.proofs.HeardRows.{Asker, waits_as}
 use Rattle.hc_on_leave.proofs.RefuseArm.{stands_refused, closes_as}
-use Rattle.hc_state.proofs.Words.{same_or, eqb-same, eqb-other, false_true, none_some, some_is, same_row}
+use Rattle.hc_state.proofs.Words.{none_some}
 
 -- THE EXCHANGE, WHERE ITS CONSUMER STANDS ELSEWHERE
 

@@ -4,6 +4,7 @@ use Rattle.std.proofs.lemmas.Bool.Decides.{nat_tests}
 use Rattle.std.specs.Prelude.{is_some, nat_eq, not, ◌&&◌, ◌↔◌, IsTrue}
 use Rattle.std.specs.Option.{option_and_then}
 use Rattle.std.specs.HashMap.{get}
+use Rattle.hc_text.proofs.Basics.{eqb-same, false_true, some_inj as some_is}
 use Rattle.hc_rules.specs.declared.room.Limits.{Limits}
 use Rattle.hc_store.specs.declared.backend.Backend.{Ghosts}
 use Rattle.hc_sparse.specs.Cells.{Covers}
@@ -32,7 +33,6 @@ use Rattle.hc_state.specs.Stands.{RowsStand}
 use Rattle.hc_state.specs.Stored.{IsEntry, is_first}
 use Rattle.hc_state.proofs.CurrentTies.{stored_ends, covers_as, kept_entry}
 use Rattle.hc_state.proofs.LeftRows.{running_as, writing_as}
-use Rattle.hc_state.proofs.Words.{eqb-same, false_true, some_is}
 
 -- HAS MORE
 

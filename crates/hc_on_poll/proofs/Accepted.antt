@@ -2,6 +2,7 @@
 use Rattle.std.proofs.Common.{◌≡◌, ℕ, ◌<◌, List, length, Bool, true, false, Option, Some, None, refl, ap, sym, ◌∙◌, arith}
 use Rattle.std.proofs.lemmas.Bool.Decides.{nat_tests}
 use Rattle.std.specs.Prelude.{nat_le, nat_lt, ◌==◌, if◌then◌else◌, not}
+use Rattle.hc_text.proofs.Basics.{not_false as not_off, not_true as not_only}
 use Rattle.hc_event.specs.declared.event.Event.TheVariants as event
 use Rattle.hc_event.specs.declared.event.Request.{Request}
 use Rattle.hc_event.specs.declared.event.Response.{Response}
@@ -19,10 +20,6 @@ first_off true r rest is = none_some r (sym is)
 rest_off : (b : Bool) (r : Refusal) (rest : Option Refusal) → (if b then Some r else rest) ≡ None → rest ≡ None
 rest_off false r rest is = is
 rest_off true r rest is = none_some r (sym is)
-
-not_off : (b : Bool) → not b ≡ false → b ≡ true
-not_off true is = refl
-not_off false is = sym is
 
 pub start_ascends : (g : Gate) (c : ℕ) (request : Request) → refusal_of g (event.Start c request) ≡ None → g.last_start < c
 unfolding refusal_of
@@ -57,7 +54,3 @@ end_free g x none = none
 pub fault_free : (g : Gate) (x : ℕ) → refusal_of g (event.Fault x) ≡ None → fault_refusal g.exchange ≡ None
 unfolding refusal_of
 fault_free g x none = none
-
-not_only : (b : Bool) → not b ≡ true → b ≡ false
-not_only false plain = refl
-not_only true plain = sym plain

@@ -2,6 +2,7 @@
 use Rattle.std.proofs.Common.{◌≡◌, ◌⊎◌, inl, inr, ℕ, ◌+◌, ◌-◌, ◌<◌, ◌≤◌, length, min, true, false, Option, Some, None, refl, ap, sym, ◌∙◌, subst, arith}
 use Rattle.std.proofs.lemmas.Bool.Decides.{nat_tests}
 use Rattle.std.specs.Prelude.{is_some, slice_index}
+use Rattle.hc_text.proofs.Basics.{false_true, lt_or, some_inj as some_is}
 use Rattle.hc_sparse.specs.Cells.{Cells, Cell, EndsBy}
 use Rattle.hc_sparse.specs.Runs.{end_of}
 use Rattle.hc_sparse.specs.Stretch.{stretch, IsLongest}
@@ -11,7 +12,7 @@ use Rattle.hc_rules.specs.Readings.{is_at_end, cut_at}
 use Rattle.hc_model.specs.Holes.{stretch_to}
 use Rattle.hc_state.specs.Arms.{most}
 use Rattle.hc_on_poll.proofs.ReadLemmas.{some_more}
-use Rattle.hc_state.proofs.Words.{none_some, false_true, some_is}
+use Rattle.hc_state.proofs.Words.{none_some}
 
 -- what is read from the store, and how the tables see that
 pub record IsAhead (f : Cells) (reach o want : ℕ) (hi : Option ℕ) (run : Run) : Type 0 where
@@ -24,9 +25,6 @@ pub record IsAhead (f : Cells) (reach o want : ℕ) (hi : Option ℕ) (run : Run
   pub some : 0 < length run.bytes
   pub within : end_of run ≤ reach
   pub each : (p : ℕ) → o ≤ p → p < o + length run.bytes → is_some (f p) ≡ true
-
-lt_or : (a b : ℕ) → (a < b) ⊎ (b ≤ a)
-lt_or a b = grind (arith, nat_tests)
 
 longest_of : (o : Option Run) (P : Run → Type 0) → Rattle.std.specs.Option.IfSome o P → (run : Run) → o ≡ Some run → P run
 longest_of None P h run is = none_some run is

@@ -55,8 +55,8 @@ use Rattle.hc_on_poll.proofs.PassesArm.{current_as}
 use Rattle.hc_on_poll.proofs.PastArm.{idle_reads, idle_lives, keys_past}
 use Rattle.hc_state.proofs.QueueArm.{becomes_by}
 use Rattle.hc_state.proofs.Ties.{exchange_same, key_same}
-use Rattle.hc_state.proofs.Words.{same_or, eqb-same, eqb-other, some_is}
 use Rattle.std.proofs.Common.{inl, inr}
+use Rattle.hc_text.proofs.Basics.{eqb-other, eqb-same, same_or, some_inj as some_is}
 
 module _ {B : Type 0} {g : Ghosts B} {lim : Limits} (r mid : Rows B g) (a : Entries B g) (m : Numbered Consumer) (t : Tables) (law : Lawful t) (c q lo : ℕ) (hi : Option ℕ) (k : Consumer) (v : rows.Consumer) (stands : RowsStand lim r t) (there : get nat_eq r.consumers c ≡ Some k) (row : t.consumer c ≡ Some v) (idle : is_idle_at k.place ≡ true)
     (now_is : HasCurrent r.keys q k) (ends : hi ≡ option_or hi (total_in (t.representation q))) (leaves : LeavesLine (record r { entries = a }) mid c) (binds : shelf.Becomes (option_map (with_user c)) (moved_first q) q (shelf_of r.entries) (shelf_of a)) (changes : ChangesAt mid.consumers m c (bound_shown q lo hi)) where

@@ -1,6 +1,7 @@
 -- A consumer that read nothing becomes bound to what is current: what is held, and the representations, stand for the tables then.
 use Rattle.std.proofs.Common.{◌≡◌, ◌≢◌, inl, inr, ℕ, List, [], ◌∷◌, Bool, true, false, Option, Some, None, refl, ap, sym, ◌∙◌, subst}
 use Rattle.std.specs.Prelude.{filter, not, option_map, ◌==◌, ◌&&◌}
+use Rattle.hc_text.proofs.Basics.{eqb-other, eqb-same, false_true, same_or, same_some as same_row, and_off as then_false}
 use Rattle.hc_sorted.specs.Sorted.{has, with_item, without}
 use Rattle.hc_sorted.proofs.SortedLemmas.{has-with}
 use Rattle.hc_stored.specs.Kept.{Kept, itself, with_user, with_first}
@@ -25,7 +26,7 @@ use Rattle.hc_state.proofs.FallbackSteps.{first_fallback}
 use Rattle.hc_state.proofs.CurrentTies.{stays_stored, total_told}
 use Rattle.hc_state.proofs.OneOfEach.{first_row, bound_same}
 use Rattle.hc_state.proofs.Ties.{entry_same, OversStay, writer_then}
-use Rattle.hc_state.proofs.Words.{same_or, eqb-same, eqb-other, and_false, then_false, false_true, none_some, same_row}
+use Rattle.hc_state.proofs.Words.{and_false, none_some}
 
 -- LISTS
 

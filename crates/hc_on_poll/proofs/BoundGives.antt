@@ -5,6 +5,7 @@ use Rattle.std.proofs.lemmas.Bool.Decides.{nat_tests}
 use Rattle.std.proofs.lemmas.Grind.{common_steps}
 use Rattle.std.specs.Prelude.{is_some, is_none, nat_eq, nat_lt, ◌&&◌, if◌then◌else◌}
 use Rattle.std.specs.HashMap.{get}
+use Rattle.hc_text.proofs.Basics.{and_both as both_true, eqb-other, eqb-same, false_true, lt_cases as lt_or, same_or, same_some as same_row}
 use Rattle.hc_rules.specs.declared.room.Limits.{Limits}
 use Rattle.hc_store.specs.declared.backend.Backend.{Ghosts}
 use Rattle.hc_event.specs.declared.act.Act.{Act}
@@ -45,18 +46,14 @@ use Rattle.hc_state.specs.Kept.{KeepsExchange, KeepsRunning, held_for, held_of, 
 use Rattle.hc_state.specs.Stands.{RowsStand, Answered}
 use Rattle.hc_state.proofs.Answering.{does_answered}
 use Rattle.hc_on_poll.proofs.Asking.{stands_asked, stands_asked_already}
-use Rattle.hc_on_poll.proofs.BoundViews.{Holds, both_true, absent_here, offset_is, unstored_own, unread_bound}
+use Rattle.hc_on_poll.proofs.BoundViews.{Holds, absent_here, offset_is, unstored_own, unread_bound}
 use Rattle.hc_state.proofs.Counting.{stands_counted}
 use Rattle.hc_state.proofs.QueueArm.{becomes_by}
 use Rattle.hc_state.proofs.ReaderSteps.{held_same, exchange_reading, stands_reading}
 use Rattle.hc_on_poll.proofs.ShowStored.{IsBoundRow}
 use Rattle.hc_state.proofs.Ties.{runs_same}
-use Rattle.hc_state.proofs.Words.{same_or, eqb-same, eqb-other, false_true, same_row}
 
 -- WHAT ISN'T STORED, PAST WHAT IS
-
-lt_or : (a b : ℕ) → ((nat_lt a b ≡ true) × (a < b)) ⊎ ((nat_lt a b ≡ false) × (b ≤ a))
-lt_or a b = grind (arith, nat_tests)
 
 there_not : (o : Option Cell) → is_some o ≡ true → is_none o ≡ false
 there_not None on = false_true on

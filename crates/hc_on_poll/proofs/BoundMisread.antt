@@ -2,6 +2,7 @@
 use Rattle.std.proofs.Common.{◌≡◌, ℕ, ◌<◌, ◌≤◌, List, Some, ap, sym, ◌∙◌, subst}
 use Rattle.std.specs.Prelude.{nat_eq}
 use Rattle.std.specs.HashMap.{get}
+use Rattle.hc_text.proofs.Basics.{eqb-same}
 use Rattle.hc_store.specs.declared.backend.Backend.{Ghosts}
 use Rattle.hc_event.specs.declared.act.Act.{Act}
 use Rattle.hc_event.specs.declared.event.Event.{Event}
@@ -21,7 +22,6 @@ use Rattle.hc_state.specs.Stands.{RowsStand, Answered, Answers}
 use Rattle.hc_on_poll.proofs.PlanArms.{read_stands}
 use Rattle.hc_state.proofs.ReaderSteps.{stands_read, answered_since}
 use Rattle.hc_on_poll.proofs.ShowStored.{bound_row_of}
-use Rattle.hc_state.proofs.Words.{eqb-same}
 
 module _ {B : Type 0} {g : Ghosts B} (r : Rows B g) (a : Entries B g) (stays : Stays (shelf_of r.entries) (shelf_of a)) (failed : (shelf_of r.entries).faults < (shelf_of a).faults) (u : Rows B g) (before out : List Act) (now c q : ℕ) (k : Consumer) (there : get nat_eq r.consumers c ≡ Some k) where
   pub misread_answered : (how : _) → IsBoundBy q how k → AnswersMisread (record r { entries = a }) u before out now c q → (want : ℕ) (lim : Limits) (t : Tables) → Facts lim t → RowsStand lim r t → Answered lim (shelf_of r.entries).faults u t before out now (event.Poll c want)

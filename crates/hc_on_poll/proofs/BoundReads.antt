@@ -4,6 +4,7 @@ use Rattle.std.proofs.lemmas.Bool.Decides.{nat_tests}
 use Rattle.std.proofs.lemmas.List.{length-drop, length-take}
 use Rattle.std.specs.Prelude.{List, length, take, unwrap_or, is_some, is_none, nat_eq, nat_lt, option_and_then, option_map, ◌==◌, ◌&&◌, if◌then◌else◌}
 use Rattle.std.specs.Option.{option_or}
+use Rattle.hc_text.proofs.Basics.{eqb-same, false_true, none_of, same_or, same_some as same_row, some_inj as some_is}
 use Rattle.hc_rules.specs.declared.room.Limits.{Limits}
 use Rattle.hc_store.specs.declared.backend.Backend.{Ghosts}
 use Rattle.hc_event.specs.declared.act.Cause.{Cause}
@@ -63,7 +64,7 @@ use Rattle.hc_on_poll.proofs.BoundViews.{Holds, next_as, offset_is, entry_there,
 use Rattle.hc_on_poll.proofs.ReadLemmas as lemmas
 use Rattle.hc_on_poll.proofs.ReadLemmas.{third_is, some_more}
 use Rattle.hc_on_poll.proofs.ShowStored.{IsBoundRow, headless_as}
-use Rattle.hc_state.proofs.Words.{same_or, eqb-same, none_some, false_true, some_is, same_row, none_of}
+use Rattle.hc_state.proofs.Words.{none_some}
 
 -- THE STEP, BY ITS PARTS
 

@@ -3,6 +3,7 @@ use Rattle.std.proofs.Common.{◌≡◌, ◌⊎◌, inl, inr, ℕ, zero, suc, �
 use Rattle.std.proofs.lemmas.Bool.Decides.{nat_tests}
 use Rattle.std.specs.Prelude.{is_some, is_none, nat_eq, nat_lt, option_and_then, ◌&&◌, if◌then◌else◌}
 use Rattle.std.specs.Option.{option_or}
+use Rattle.hc_text.proofs.Basics.{and_both as both_true, eqb-same, false_true, lt_cases as lt_or, same_or, same_some as same_row, some_inj as some_is}
 use Rattle.hc_rules.specs.declared.room.Limits.{Limits}
 use Rattle.hc_store.specs.declared.backend.Backend.{Ghosts}
 use Rattle.hc_sparse.specs.Cells.{Cells, Cell, EndsBy, IsNext, AreAbsent}
@@ -40,12 +41,9 @@ use Rattle.hc_state.specs.Stored.{IsEntry}
 use Rattle.hc_state.proofs.LeftRows.{running_as, writing_as}
 use Rattle.hc_on_poll.proofs.ReadLemmas.{run_some}
 use Rattle.hc_on_poll.proofs.ShowStored.{IsBoundRow, bound_entry, bound_kept}
-use Rattle.hc_state.proofs.Words.{same_or, eqb-same, none_some, false_true, some_is, same_row, is_there}
+use Rattle.hc_state.proofs.Words.{none_some, is_there}
 
 -- THE NEXT BYTE
-
-lt_or : (a b : ℕ) → ((nat_lt a b ≡ true) × (a < b)) ⊎ ((nat_lt a b ≡ false) × (b ≤ a))
-lt_or a b = grind (arith, nat_tests)
 
 some_not : {P : Type 0} (o : Option Cell) → o ≡ None → is_some o ≡ true → P
 some_not o none on = false_true (sym (ap (λ (z : Option Cell). is_some z) none) ∙ on)
@@ -200,10 +198,6 @@ begins_with f p n run is = by_cell (f p) refl
 run_x : (x o : ℕ) (bytes : List ℕ) (run : Run) → run_of x o bytes ≡ Some run → run.x ≡ x
 run_x x o [] run is = none_some run is
 run_x x o (b ∷ bytes) run is = ap (λ (z : Run). z.x) (sym (some_is _ run is))
-
-pub both_true : (a b : Bool) → (a && b) ≡ true → (a ≡ true) × (b ≡ true)
-both_true true b on = (refl, on)
-both_true false b on = false_true on
 
 is_it : (o : Option ℕ) (c : ℕ) → is_number o c ≡ true → o ≡ Some c
 is_it None c on = false_true on

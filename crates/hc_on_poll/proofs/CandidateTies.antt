@@ -7,6 +7,7 @@ use Rattle.std.specs.Char.{is_ascii_digit}
 use Rattle.std.specs.List.{list_all}
 use Rattle.std.proofs.lemmas.Bool.Decides.{nat_tests}
 use Rattle.std.specs.Prelude.{codes, nat_lt, not, slice_get, ◌&&◌, if◌then◌else◌}
+use Rattle.hc_text.proofs.Basics.{and_both as and_parts, some_inj as some_is}
 use Rattle.hc_rules.specs.declared.room.Limits.{Limits}
 use Rattle.hc_cachectl.specs.Directives.{of_request, of_response}
 use Rattle.hc_cachectl.specs.Seconds.{plain_seconds, most_seconds}
@@ -62,8 +63,8 @@ use Rattle.hc_state.specs.Stored.{IsEntry}
 use Rattle.hc_state.proofs.CurrentTies.{stored_ends, stays_stored, total_told, entry_at}
 use Rattle.hc_on_poll.proofs.HoleTies.{hole_as}
 use Rattle.hc_state.proofs.LeftRows.{writing_as}
-use Rattle.hc_state.proofs.TurnTies.{least_alike, filter_in, among_in, and_parts}
-use Rattle.hc_state.proofs.Words.{none_some, some_is}
+use Rattle.hc_state.proofs.TurnTies.{least_alike, filter_in, among_in}
+use Rattle.hc_state.proofs.Words.{none_some}
 
 -- AGES
 

@@ -2,6 +2,7 @@
 use Rattle.std.proofs.Common.{◌≡◌, ◌≢◌, inl, inr, ℕ, ◌+◌, List, ◌++◌, Bool, true, false, Option, Some, None, refl, ap, sym, ◌∙◌, subst, arith}
 use Rattle.std.specs.Prelude.{nat_eq, bytes_eq, not, ◌&&◌, ◌||◌}
 use Rattle.std.specs.HashMap.{get}
+use Rattle.hc_text.proofs.Basics.{and_both as both_true, eqb-other, eqb-same, false_true, not_true as not_on, same_or, and_off as then_false}
 use Rattle.hc_store.specs.declared.backend.Backend.{Ghosts}
 use Rattle.hc_stored.specs.Entries.{shelf_of}
 use Rattle.hc_entry.specs.declared.keys.KeyTable.{KeyTable}
@@ -57,7 +58,6 @@ use Rattle.hc_on_poll.proofs.OpenStands.{stands_opened}
 use Rattle.hc_on_poll.proofs.PastArm.{idle_reads, idle_lives, queues_as}
 use Rattle.hc_state.proofs.Ties.{key_same, kept_row}
 use Rattle.hc_state.proofs.TurnTies.{turn_next}
-use Rattle.hc_state.proofs.Words.{same_or, eqb-same, eqb-other, then_false, false_true}
 
 -- WHO IS NEXT
 
@@ -73,15 +73,6 @@ idle_turn key v idle = then_false (is_in_line key (Some v)) (holds_place v.place
     by_place (place.Direct x) on = refl
     by_place (place.Down why) on = refl
     by_place place.Over on = refl
-
-both_true : (a b : Bool) → (a && b) ≡ true → (a ≡ true) × (b ≡ true)
-both_true true true on = (refl, refl)
-both_true true false on = false_true on
-both_true false b on = false_true on
-
-not_on : (b : Bool) → not b ≡ true → b ≡ false
-not_on true on = false_true on
-not_on false on = refl
 
 in_first : (a b d : Bool) → a ≡ true → (a || b || d) ≡ true
 in_first true b d on = refl

@@ -2,6 +2,7 @@
 use Rattle.std.proofs.Common.{◌≡◌, ◌≢◌, inl, inr, ℕ, ◌+◌, List, [], ◌++◌, Bool, true, false, Option, Some, None, refl, ap, sym, ◌∙◌, subst, arith}
 use Rattle.std.specs.Prelude.{bytes_eq, nat_eq, is_none, not, option_map, ◌&&◌}
 use Rattle.std.specs.HashMap.{get}
+use Rattle.hc_text.proofs.Basics.{eqb-other, eqb-same, false_true, same_or, and_off as then_false}
 use Rattle.hc_store.specs.declared.backend.Backend.{Ghosts}
 use Rattle.hc_event.specs.declared.act.Act.{Act}
 use Rattle.hc_event.specs.declared.act.Need.{Need}
@@ -72,7 +73,7 @@ use Rattle.hc_on_poll.proofs.PassesArm.{current_as}
 use Rattle.hc_on_poll.proofs.PastArm.{idle_reads, idle_lives}
 use Rattle.hc_state.proofs.QueueArm.{becomes_by}
 use Rattle.hc_state.proofs.Ties.{key_same, overs_opened}
-use Rattle.hc_state.proofs.Words.{same_or, eqb-same, eqb-other, and_false, then_false, false_true}
+use Rattle.hc_state.proofs.Words.{and_false}
 
 -- nobody came to it alone
 first_none : (c : ℕ) (o : Option Kept) (e : Kept) → o ≡ Some e → admits_first c o ≡ true → e.first ≡ None

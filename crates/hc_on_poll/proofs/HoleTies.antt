@@ -2,6 +2,7 @@
 use Rattle.std.proofs.Common.{◌≡◌, ◌⊎◌, inl, inr, ℕ, ◌+◌, ◌-◌, ◌<◌, ◌≤◌, true, false, min, Option, Some, None, refl, ap, sym, ◌∙◌, subst, arith}
 use Rattle.std.proofs.lemmas.Bool.Decides.{nat_tests}
 use Rattle.std.specs.Prelude.{is_some, is_none, nat_lt, nat_le}
+use Rattle.hc_text.proofs.Basics.{le_or, lt_cases as lt_or}
 use Rattle.hc_range.specs.declared.range.Span.{Span}
 use Rattle.hc_sparse.specs.Cells.{Cells, Cell, EndsBy, Covers}
 use Rattle.hc_rules.specs.declared.request.Wanted.{Wanted}
@@ -16,12 +17,6 @@ use Rattle.hc_effects.proofs.HoleLemmas.{first_from, first_to, first_before, fir
 use Rattle.hc_effects.proofs.HolesOpened.{first_hole_is}
 use Rattle.hc_state.specs.Candidates.{hole_in}
 use Rattle.hc_state.proofs.Words.{none_some}
-
-lt_or : (a b : ℕ) → ((nat_lt a b ≡ true) × (a < b)) ⊎ ((nat_lt a b ≡ false) × (b ≤ a))
-lt_or a b = grind (arith, nat_tests)
-
-le_or : (a b : ℕ) → ((nat_le a b ≡ true) × (a ≤ b)) ⊎ ((nat_le a b ≡ false) × (b < a))
-le_or a b = grind (arith, nat_tests)
 
 none_is : (o : Option Cell) → o ≡ None → is_some o ≡ true → ⊥
 none_is o none some = let never : false ≡ true = rw none at some in cc

@@ -4,6 +4,7 @@ use Rattle.std.proofs.Math.ListN.{drop_of_length-le}
 use Rattle.std.proofs.lemmas.Bool.Decides.{nat_tests}
 use Rattle.std.specs.Prelude.{is_some, nat_eq, bytes_eq, ◌&&◌, if◌then◌else◌}
 use Rattle.std.specs.HashMap.{get}
+use Rattle.hc_text.proofs.Basics.{and_both as both_true, eqb-other, eqb-same, false_true, same_or, same_some as same_row, some_inj as some_is}
 use Rattle.hc_rules.specs.declared.room.Limits.{Limits}
 use Rattle.hc_store.specs.declared.backend.Backend.{Ghosts}
 use Rattle.hc_event.specs.Filters.{Opening}
@@ -56,7 +57,7 @@ use Rattle.hc_state.specs.Stored.{KeepsEntries, is_first}
 use Rattle.hc_state.proofs.Answering.{does_answered}
 use Rattle.hc_state.proofs.FallbackSteps.{length_same, live_same}
 use Rattle.hc_state.proofs.Fallbacks.{unstored_moved}
-use Rattle.hc_on_poll.proofs.BoundViews.{both_true, unstored_own, absent_here, lost_run, unread_bound}
+use Rattle.hc_on_poll.proofs.BoundViews.{unstored_own, absent_here, lost_run, unread_bound}
 use Rattle.hc_state.proofs.Counting.{stands_counted}
 use Rattle.hc_state.proofs.OneOfEach.{stands_then, bound_same, first_row}
 use Rattle.hc_on_poll.proofs.OpenArm.{unread_yet}
@@ -64,7 +65,7 @@ use Rattle.hc_on_poll.proofs.OpenKinds.{kinds_opened}
 use Rattle.hc_state.proofs.QueueArm.{becomes_by}
 use Rattle.hc_on_poll.proofs.ShowStored.{IsBoundRow}
 use Rattle.hc_state.proofs.Ties.{entry_same, key_same, overs_opened}
-use Rattle.hc_state.proofs.Words.{same_or, eqb-same, eqb-other, none_some, false_true, some_is, same_row}
+use Rattle.hc_state.proofs.Words.{none_some}
 
 -- where it stands before a hole
 record IsAtHole (t : Tables) (c q : ℕ) (v : rows.Consumer) (p : Representation) : Type 0 where

@@ -1,6 +1,7 @@
 -- A consumer that reads nothing opens an exchange, for whose head it waits: what is kept stands for the tables then.
 use Rattle.std.proofs.Common.{◌≡◌, ◌≢◌, inl, inr, ℕ, zero, suc, List, [], ◌∷◌, false, Option, Some, None, refl, ap, sym, ◌∙◌, subst}
 use Rattle.std.specs.Prelude.{drop, filter, not}
+use Rattle.hc_text.proofs.Basics.{eqb-other, eqb-same, false_true, same_or}
 use Rattle.hc_stored.specs.Shelf.{Shelf}
 use Rattle.hc_event.specs.declared.place.Place.{Place}
 use Rattle.hc_event.specs.declared.place.Place.TheVariants as place
@@ -16,7 +17,7 @@ use Rattle.hc_state.proofs.FallbackSteps.{first_fallback}
 use Rattle.hc_state.proofs.OneOfEach.{bound_same, first_row}
 use Rattle.hc_on_poll.proofs.OpenKinds.{kinds_opened}
 use Rattle.hc_state.proofs.Ties.{entry_same, overs_opened}
-use Rattle.hc_state.proofs.Words.{same_or, eqb-same, eqb-other, false_true, none_some}
+use Rattle.hc_state.proofs.Words.{none_some}
 
 -- past the store, or with the turn
 pub data WaitsFor (x : ℕ) : Place → Type 0 where

@@ -1,6 +1,7 @@
 -- An exchange that is opened changes nothing of what is kept by key.
 use Rattle.std.proofs.Common.{◌≡◌, ◌≢◌, inl, inr, ℕ, List, Bool, Option, Some, None, refl, ap, sym, ◌∙◌}
 use Rattle.std.specs.Prelude.{bytes_eq, ◌&&◌}
+use Rattle.hc_text.proofs.Basics.{eqb-other, eqb-same, same_or}
 use Rattle.hc_entry.specs.Kept as keyed
 use Rattle.hc_event.specs.declared.place.Place.{Place}
 use Rattle.hc_event.specs.declared.place.Place.TheVariants as place
@@ -13,7 +14,7 @@ use Rattle.hc_model.specs.Rows.{Tables, Exchange}
 use Rattle.hc_state.specs.Lines.{KeepsKey, is_away, is_away_at}
 use Rattle.hc_on_poll.proofs.OpenArm.{WaitsFor, past, turned}
 use Rattle.hc_state.proofs.Ties.{key_same}
-use Rattle.hc_state.proofs.Words.{same_or, eqb-same, eqb-other, none_some}
+use Rattle.hc_state.proofs.Words.{none_some}
 
 module _ (t : Tables) (law : Lawful t) (x : ℕ) (z : Exchange) (free : t.exchange x ≡ None) where
   abbrev o : Tables

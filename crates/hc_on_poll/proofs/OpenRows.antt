@@ -1,5 +1,6 @@
 -- The rows of a consumer that opens an exchange, and of that exchange.
 use Rattle.std.proofs.Common.{◌≡◌, ℕ, Bool, true, false, Option, Some, None, refl, ap, sym, ◌∙◌}
+use Rattle.hc_text.proofs.Basics.{eqb-same, false_true}
 use Rattle.hc_event.specs.declared.act.Need.{Need}
 use Rattle.hc_event.specs.declared.event.Request.{Request}
 use Rattle.hc_rules.specs.Needs.{route_of}
@@ -16,7 +17,6 @@ use Rattle.hc_state.specs.declared.consumer.Consumer.{Consumer}
 use Rattle.hc_state.specs.Kept.{IsKept, IsRunning, answer_for, role_awaited}
 use Rattle.hc_state.proofs.Fallbacks.{answer_fallback}
 use Rattle.hc_on_poll.proofs.OpenArm.{WaitsFor, past, turned}
-use Rattle.hc_state.proofs.Words.{eqb-same, false_true}
 
 module _ (t : Tables) (now c x : ℕ) (n : Need) (request : Request) (aim : Option ℕ) (v : rows.Consumer) (p : Place) (idle : reads v.place ≡ false) (at : WaitsFor x p) where
   abbrev pub w : rows.Consumer

@@ -2,6 +2,7 @@
 use Rattle.std.proofs.Common.{◌≡◌, ◌≢◌, inl, inr, ℕ, ◌+◌, List, false, true, Option, Some, None, refl, ap, sym, ◌∙◌, subst, arith}
 use Rattle.std.specs.Prelude.{nat_eq}
 use Rattle.std.specs.HashMap.{get}
+use Rattle.hc_text.proofs.Basics.{eqb-other, eqb-same, same_or}
 use Rattle.hc_rules.specs.declared.room.Limits.{Limits}
 use Rattle.hc_store.specs.declared.backend.Backend.{Ghosts}
 use Rattle.hc_event.specs.declared.act.Need.{Need}
@@ -29,7 +30,6 @@ use Rattle.hc_state.proofs.FallbackSteps.{length_same, live_same}
 use Rattle.hc_state.proofs.OneOfEach.{stands_then}
 use Rattle.hc_on_poll.proofs.OpenArm.{WaitsFor, unread_yet, held_else, none_held, entries_opened}
 use Rattle.hc_on_poll.proofs.OpenRows.{runs, opener_kept, live_then}
-use Rattle.hc_state.proofs.Words.{same_or, eqb-same, eqb-other}
 
 module _ {B : Type 0} {g : Ghosts B} {lim : Limits} (r u : Rows B g) (t : Tables) (law : Lawful t) (now c x : ℕ) (n : Need) (request copied : Request) (aim : Option ℕ) (role : Role) (k : Consumer) (v : rows.Consumer) (p : Place) (stands : RowsStand lim r t)
     (there : get nat_eq r.consumers c ≡ Some k) (row : t.consumer c ≡ Some v) (idle : reads v.place ≡ false) (lived : is_live_place v.place ≡ true) (at : WaitsFor x p) (is_next : x ≡ t.opened + 1)

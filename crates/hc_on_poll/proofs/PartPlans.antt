@@ -3,6 +3,7 @@ use Rattle.std.proofs.Common.{◌≡◌, ℕ, ◌+◌, ◌<◌, ◌≤◌, ◌^�
 use Rattle.std.specs.Prelude.{nat_eq, is_some, is_none, not, option_map, unwrap_or, IsSomeAnd, ◌&&◌, if◌then◌else◌}
 use Rattle.std.specs.Option.{option_and_then}
 use Rattle.std.specs.HashMap.{get}
+use Rattle.hc_text.proofs.Basics.{eqb-same, false_true, some_inj as some_is}
 use Rattle.hc_rules.specs.declared.room.Limits.{Limits}
 use Rattle.hc_store.specs.declared.backend.Backend.{Ghosts}
 use Rattle.hc_event.specs.declared.act.Act.{Act}
@@ -60,7 +61,7 @@ use Rattle.hc_on_poll.proofs.PassesArm.{current_as}
 use Rattle.hc_on_poll.proofs.PlanArms.{found, waits_there, current_admits, plan_answers}
 use Rattle.hc_state.proofs.Ties.{kept_row}
 use Rattle.hc_state.proofs.TurnTies.{least_none, among_in, filter_in}
-use Rattle.hc_state.proofs.Words.{and_false, eqb-same, false_true, some_is, few_received}
+use Rattle.hc_state.proofs.Words.{and_false, few_received}
 
 -- who fills a hole may ask the origin
 fills_asks : (view : PlanView) (span hole : Span) → plan_of view ≡ plan.FirstHole span hole → view.class.only ≡ false

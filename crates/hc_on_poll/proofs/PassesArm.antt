@@ -2,6 +2,7 @@
 use Rattle.std.proofs.Common.{◌≡◌, ℕ, List, [], ◌∷◌, ◌++◌, Bool, true, false, Option, Some, None, refl, ap, sym, ◌∙◌, subst}
 use Rattle.std.specs.Prelude.{nat_eq, bytes_eq}
 use Rattle.std.specs.HashMap.{get}
+use Rattle.hc_text.proofs.Basics.{false_true, some_inj as some_is, and_off as then_false}
 use Rattle.hc_store.specs.declared.backend.Backend.{Ghosts}
 use Rattle.hc_entry.specs.Keys as keys
 use Rattle.hc_entry.specs.Keys.{kept_of}
@@ -43,7 +44,7 @@ use Rattle.hc_state.proofs.ConsumerSteps.{keys_with}
 use Rattle.hc_state.proofs.Counting.{stands_counted}
 use Rattle.hc_state.proofs.KeySteps.{says_elsewhere, not_lined, passes_key}
 use Rattle.hc_state.proofs.QueueArm.{becomes_by}
-use Rattle.hc_state.proofs.Words.{and_false, then_false, false_true, some_is}
+use Rattle.hc_state.proofs.Words.{and_false}
 
 module _ {B : Type 0} {g : Ghosts B} {lim : Limits} (r u : Rows B g) (t : Tables) (law : Lawful t) (c q : ℕ) (k : Consumer) (v : rows.Consumer) (stands : RowsStand lim r t) (there : get nat_eq r.consumers c ≡ Some k) (row : t.consumer c ≡ Some v) (now_is : current t v.request.key ≡ Some q)
     (last : u.last_start ≡ r.last_start) (exchanges : u.exchanges ≡ r.exchanges) (entries : u.entries ≡ r.entries) where

@@ -1,6 +1,7 @@
 -- The plan of a consumer, but for what is current, is that of the tables.
 use Rattle.std.proofs.Common.{◌≡◌, ℕ, List, Bool, true, false, cond, eqb, Option, Some, None, refl, ap, sym, ◌∙◌}
 use Rattle.std.specs.Prelude.{is_none, unwrap_or, ◌&&◌}
+use Rattle.hc_text.proofs.Basics.{false_true}
 use Rattle.hc_rules.specs.declared.room.Limits.{Limits}
 use Rattle.hc_store.specs.declared.backend.Backend.{Ghosts}
 use Rattle.hc_range.specs.declared.range.Span.{Span}
@@ -30,7 +31,6 @@ use Rattle.hc_state.specs.Kept.{IsKept}
 use Rattle.hc_state.specs.Plans.{plan_view, looks_at_stored}
 use Rattle.hc_state.specs.Stands.{RowsStand}
 use Rattle.hc_state.proofs.TurnTies.{turn_with_is}
-use Rattle.hc_state.proofs.Words.{false_true}
 
 -- SINCE WHEN IT WAITS
 

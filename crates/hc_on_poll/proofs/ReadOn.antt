@@ -3,6 +3,7 @@ use Rattle.std.proofs.Common.{◌≡◌, ℕ, ◌+◌, ◌<◌, ◌≤◌, ◌^�
 use Rattle.std.proofs.lemmas.Grind.{not_there}
 use Rattle.std.specs.Prelude.{is_some, nat_eq, option_map, IsSomeAnd, IfSome}
 use Rattle.std.specs.HashMap.{get}
+use Rattle.hc_text.proofs.Basics.{some_inj as some_is}
 use Rattle.hc_rules.specs.declared.room.Limits.{Limits}
 use Rattle.hc_store.specs.declared.backend.Backend.{Ghosts}
 use Rattle.hc_event.specs.declared.act.Act.{Act}
@@ -34,7 +35,7 @@ use Rattle.hc_on_poll.proofs.BoundReads as bound
 use Rattle.hc_on_poll.proofs.BoundReads.{FillsHole}
 use Rattle.hc_state.proofs.Maps.{merely_true, merely_below}
 use Rattle.hc_on_poll.proofs.ShowStored.{IsBoundRow, bound_row_of, bound_kept}
-use Rattle.hc_state.proofs.Words.{few_received, none_some, some_is}
+use Rattle.hc_state.proofs.Words.{few_received, none_some}
 
 -- WHEREVER THERE IS SOME PAST
 

@@ -4,6 +4,7 @@ use Rattle.std.proofs.lemmas.Bool.Decides.{nat_tests}
 use Rattle.std.specs.Prelude.{is_some, is_none, nat_eq, option_and_then, option_map, not, ◌&&◌, if◌then◌else◌}
 use Rattle.std.specs.Option.{option_or}
 use Rattle.std.specs.HashMap.{get}
+use Rattle.hc_text.proofs.Basics.{eqb-same, false_true, some_inj as some_is}
 use Rattle.hc_rules.specs.declared.room.Limits.{Limits}
 use Rattle.hc_store.specs.declared.backend.Backend.{Ghosts}
 use Rattle.hc_event.specs.declared.act.Act.{Act}
@@ -63,7 +64,7 @@ use Rattle.hc_state.proofs.ReaderSteps.{held_same, exchange_reading, stands_read
 use Rattle.hc_state.proofs.Ties.{kept_row}
 use Rattle.hc_state.proofs.Unbinding.{user_kept}
 use Rattle.hc_on_poll.proofs.WaitArms.{head_waits}
-use Rattle.hc_state.proofs.Words.{eqb-same, none_some, false_true, some_is, few_received}
+use Rattle.hc_state.proofs.Words.{none_some, few_received}
 
 -- WHO IS BOUND
 

@@ -2,6 +2,7 @@
 use Rattle.std.proofs.Common.{◌≡◌, ◌≢◌, inl, inr, ℕ, ◌+◌, ◌<◌, List, [], ◌∷◌, Bool, true, false, cond, eqb, Option, Some, None, refl, ap, sym, ◌∙◌, subst, arith}
 use Rattle.std.specs.Prelude.{nat_eq, bytes_eq, filter, not, ◌&&◌, ◌||◌}
 use Rattle.std.specs.HashMap.{get, hash_map_len}
+use Rattle.hc_text.proofs.Basics.{eqb-other, eqb-same, same_or, and_off as then_false}
 use Rattle.hc_rules.specs.declared.room.Limits.{Limits}
 use Rattle.hc_store.specs.declared.backend.Backend.{Ghosts}
 use Rattle.hc_event.specs.declared.event.Event.TheVariants as event
@@ -41,7 +42,6 @@ use Rattle.hc_state.proofs.Fallbacks.{IsAlike, same, fallback, held_alike, users
 use Rattle.hc_state.proofs.LiveCounts as counts
 use Rattle.hc_state.proofs.ConsumerSteps.{KeyAfter, SaysOfIt, key_with, key_stays, keys_with, at_it}
 use Rattle.hc_state.proofs.Ties.{kept_none, consumer_same, exchange_same, entry_same, key_same}
-use Rattle.hc_state.proofs.Words.{same_or, eqb-same, eqb-other, then_false}
 
 module _ {B : Type 0} {g : Ghosts B} {lim : Limits} (r u : Rows B g) (t : Tables) (law : Lawful t) (now c : ℕ) (request copied : Request) (k : Consumer) (stands : RowsStand lim r t) (ascending : r.last_start < c) (copies : copied ≡ request)
     (last : u.last_start ≡ c) (exchanges : u.exchanges ≡ r.exchanges) (same_entries : u.entries ≡ r.entries) (becomes : BecomesAt r.consumers u.consumers c (Some k))

@@ -1,5 +1,6 @@
 -- Polls that wait without a look at what is stored: in line for the turn, and with it for a head.
 use Rattle.std.proofs.Common.{◌≡◌, ℕ, List, [], ◌∷◌, ◌++◌, true, Some, refl, ap, sym, ◌∙◌}
+use Rattle.hc_text.proofs.Basics.{false_true}
 use Rattle.hc_store.specs.declared.backend.Backend.{Ghosts}
 use Rattle.hc_event.specs.declared.event.Event.TheVariants as event
 use Rattle.hc_event.specs.declared.act.Act.{Act}
@@ -22,7 +23,6 @@ use Rattle.hc_state.specs.Plans.{is_idle_at, in_line}
 use Rattle.hc_state.specs.Stands.{Answered, RowsStand}
 use Rattle.hc_state.proofs.Answering.{does_answered}
 use Rattle.hc_state.proofs.Counting.{stands_counted}
-use Rattle.hc_state.proofs.Words.{false_true}
 
 -- whoever waits in line, or has passed, does what its plan says
 pub plans_move : (t : Tables) (law : Lawful t) (now want c : ℕ) (v : Consumer) → t.consumer c ≡ Some v → is_idle_at v.place ≡ true → move_of t now want c v ≡ planned_move t now c v

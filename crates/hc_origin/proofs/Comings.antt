@@ -7,6 +7,7 @@ use Rattle.std.proofs.Common.{◌≡◌, ℕ, List, [], ◌∷◌, ◌++◌, Boo
 use Rattle.std.specs.Prelude.{if◌then◌else◌, ◌||◌, ◌&&◌, is_some}
 use Rattle.std.proofs.lemmas.List.{append-nil}
 use Rattle.std.proofs.lemmas.Bool.{cases_Bool}
+use Rattle.hc_text.proofs.Basics.{cond_either as or_all, or_false as or_none}
 use Rattle.hc_event.specs.declared.event.Request.{Request}
 use Rattle.hc_wire.specs.Logs.{Called}
 use Rattle.hc_wire.specs.Scripts.{is_got_by}
@@ -18,14 +19,6 @@ use Rattle.hc_origin.specs.Answering.{IsAnswer}
 use Rattle.hc_origin.specs.Going.{with_bytes, with_stop}
 
 -- ONE MORE CALL
-
-or_none : (b : Bool) → (b || false) ≡ b
-or_none true = refl
-or_none false = refl
-
-or_all : (b : Bool) → (b || true) ≡ true
-or_all true = refl
-or_all false = refl
 
 or_more : (b x y z : Bool) → x ≡ (y || z) → (b || x) ≡ ((b || y) || z)
 or_more true x y z is = refl

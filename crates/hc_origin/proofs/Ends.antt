@@ -6,6 +6,7 @@
 use Rattle.std.proofs.Common.{◌≡◌, ℕ, ◌+◌, ◌<◌, ◌≤◌, List, [], ◌∷◌, ◌++◌, length, Bool, true, false, eqb, Option, Some, None, Ok, Err, refl, sym, ap, subst, ◌∙◌, inl, inr, arith}
 use Rattle.std.specs.Prelude.{Result, IsErrAnd, find, is_some, IfSome}
 use Rattle.std.specs.Option.{option_map}
+use Rattle.hc_text.proofs.Basics.{asked_none}
 use Rattle.hc_sched.specs.declared.schedule.Ended.{Ended}
 use Rattle.hc_sched.specs.declared.schedule.Ended.TheVariants as ended
 use Rattle.hc_origin.specs.declared.origin.Origin.{Origin}
@@ -71,10 +72,6 @@ fresh-calls None is = refl
 fresh-calls (Some log) is = ap length is.uncalled
 
 -- THE END
-
-asked_none : {A : Type 0} (o : Option A) → is_some o ≡ true → o ≡ None → ⊥
-asked_none None is none = cc
-asked_none (Some x) is none = cc
 
 closes-answered : (calls : List Called) (came : Came) (c : Taker) → Closes came c.sent → IsAnswered calls came c
 closes-answered calls came c (refused is none) = λ asked. absurd (asked_none (request_in came) asked (refused-none came is))

@@ -9,6 +9,7 @@ use Rattle.std.specs.List.{list_any}
 use Rattle.std.specs.Option.{option_map}
 use Rattle.std.proofs.lemmas.List.{append-nil}
 use Rattle.std.proofs.lemmas.Bool.{cases_Bool, eqb-true, eq-eqb}
+use Rattle.hc_text.proofs.Basics.{and_none as and_false, asked_none}
 use Rattle.hc_wire.specs.declared.event.WireEvent.{WireEvent}
 use Rattle.hc_wire.specs.Events.{Unseen, Closed}
 use Rattle.hc_wire.specs.Following.{is_live, live_from}
@@ -112,11 +113,6 @@ at_end : (o : Option ℕ) (n : ℕ) → o ≡ Some n → is_at_end o n ≡ true
 at_end None n is = absurd (cc)
 at_end (Some m) n is = let same : m ≡ n = cc in eq-eqb m n same
 
--- one that was asked lacks bytes
-asked_none : {A : Type 0} (o : Option A) → is_some o ≡ true → o ≡ None → ⊥
-asked_none None is none = cc
-asked_none (Some x) is none = cc
-
 some_asked : {A : Type 0} (o : Option A) (x : A) → is_some o ≡ false → o ≡ Some x → ⊥
 some_asked None x is some = cc
 some_asked (Some y) x is some = cc
@@ -130,10 +126,6 @@ asks-right came c n reading is =
       unasked = λ _. ap length is.unsent;
       lacks = λ some. absurd (asked_none (request_in came) some none);
     }
-
-and_false : (b : Bool) → (b && false) ≡ false
-and_false true = refl
-and_false false = refl
 
 owes-right : (came : Came) (c : Taker) (n : ℕ) (bytes : List ℕ) → IsOwing came c bytes → 0 < length bytes → c.short ≡ Some n → StandsRight came (standing_of n c)
 owes-right came c n bytes is some short =

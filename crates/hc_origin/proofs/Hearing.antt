@@ -4,6 +4,7 @@
 -- kept the connection is answered already, and stays so. The same where it ends or breaks.
 use Rattle.std.proofs.Common.{◌≡◌, ℕ, List, Bool, true, false, eqb, Option, Some, None, Ok, Err, refl, inl, inr}
 use Rattle.std.specs.Prelude.{Result, OnOk, drop, is_some}
+use Rattle.hc_text.proofs.Basics.{none_of as is_none}
 use Rattle.hc_text.specs.declared.memory.NoMemory.{NoMemory}
 use Rattle.hc_head.specs.declared.message.MsgError.{MsgError}
 use Rattle.hc_head.specs.declared.message.WireRequest.{WireRequest}
@@ -67,7 +68,3 @@ module _ (k : ℕ) (bytes : List ℕ) (before : Came) (log : Log) (asking new : 
       let is = reads-some (asking k) (new k) bytes read own in taken-on is.0 is.1 read is.2 is.3 is.4
 
 -- AN END
-
-is_none : {A : Type 0} (o : Option A) → is_some o ≡ false → o ≡ None
-is_none None is = refl
-is_none (Some x) is = absurd (cc)

@@ -4,6 +4,7 @@ use Rattle.std.specs.Ordering.{nat_cmp}
 use Rattle.std.specs.BTreeMap.{BTreeMap, Updates, btree_map_len, get, is_at}
 use Rattle.std.specs.Map.{lookup}
 use Rattle.std.proofs.lemmas.Bool.{cases_Bool}
+use Rattle.hc_text.proofs.Basics.{no_entries}
 use Rattle.hc_origin.proofs.Takers.{apart_sym}
 
 module _ {X : Type 0} (m n : BTreeMap ℕ X) (k : ℕ) (w : Option X) (updates : Updates nat_cmp m n k w) where
@@ -15,11 +16,6 @@ module _ {X : Type 0} (m n : BTreeMap ℕ X) (k : ℕ) (w : Option X) (updates :
     | inl less ↦ rw less refl
     | inr more ↦ rw (more, apart_sym j k off) refl
   ])
-
--- nothing stands in an empty one
-no_entries : {X : Type 0} (es : List (ℕ × X)) (k : ℕ) → (0 < length es → ⊥) → lookup (is_at (nat_cmp k)) es ≡ None
-no_entries [] k none = refl
-no_entries (e ∷ es) k none = absurd (none (omega arith))
 
 pub map-empty : {X : Type 0} (m : BTreeMap ℕ X) → (0 < btree_map_len m → ⊥) → (k : ℕ) → get nat_cmp m k ≡ None
 map-empty m none k = no_entries m.entries k none

@@ -12,12 +12,10 @@ use Rattle.std.specs.BTreeSet as set
 use Rattle.std.specs.BTreeSet.{BTreeSet}
 use Rattle.std.specs.Ordering.{nat_cmp}
 use Rattle.std.proofs.lemmas.Bool.{cases_Bool, eqb-true, eqb-false}
+use Rattle.hc_text.proofs.Basics.{some_same as some-same}
 use Rattle.hc_peers.specs.declared.client.Client.{Client}
 use Rattle.hc_peers.specs.Agreement.{IsLiveTable, IsReadySet, IsTouchedSet, consumer_at, ready_at, settled_at}
 use Rattle.hc_peers.proofs.Changes.{Changed, at-each, changed-by}
-
-some-same : (a b : ℕ) → Some a ≡ Some b → a ≡ b
-some-same a b e = cc
 
 module _ {S : Type 0} (rows now : HashMap ℕ Client S) (k : ℕ) (after : Option Client)
     (change : Changed k after (hash.get nat_eq rows) (hash.get nat_eq now)) where

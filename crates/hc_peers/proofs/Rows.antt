@@ -7,6 +7,7 @@ use Rattle.std.proofs.Common.{◌≡◌, ◌≢◌, ℕ, zero, suc, ◌<◌, Lis
 use Rattle.std.specs.Prelude.{is_none, ◌&&◌}
 use Rattle.std.proofs.lemmas.Bool.{cases_Bool, eqb-true, eq-eqb, ne_eqb}
 use Rattle.std.proofs.lemmas.List.{nil_from_length}
+use Rattle.hc_text.proofs.Basics.{and_none as and-false, falls, falls as not-before}
 use Rattle.hc_event.specs.declared.act.Act.{Act}
 use Rattle.hc_head.specs.declared.message.MsgError.{MsgError}
 use Rattle.hc_head.specs.declared.message.MsgError.TheVariants as error
@@ -19,17 +20,6 @@ use Rattle.hc_peers.specs.Agreement.{consumer_at, ready_at}
 use Rattle.hc_peers.specs.Peers.{is_ready, is_idle, is_settled, is_over, is_same, Reads, IsRead, asks, refused, answered, addressee}
 use Rattle.hc_peers.specs.Clients.{hearing, told_by, answered_in, is_same_consumer}
 use Rattle.hc_peers.specs.Offering.{sent_more}
-
-and-false : (a : Bool) → (a && false) ≡ false
-and-false true = refl
-and-false false = refl
-
-falls : (a b : Bool) → (a ≡ true → b ≡ true) → b ≡ false → a ≡ false
-falls true b up off = absurd (let on = up refl in cc)
-falls false b up off = refl
-
-pub not-before : (a b : Bool) → (a ≡ true → b ≡ true) → b ≡ false → a ≡ false
-not-before a b up off = falls a b up off
 
 -- WHO ISN'T TO BE READ
 

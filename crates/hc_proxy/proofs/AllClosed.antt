@@ -7,10 +7,10 @@ use Rattle.std.proofs.Common.{◌≡◌, ◌⊎◌, inl, inr, ℕ, List, [], ◌
 use Rattle.std.specs.Prelude.{◌&&◌, ◌||◌, nat_eq, find, map, Contains, IsSome, if◌then◌else◌}
 use Rattle.std.specs.List.{list_all}
 use Rattle.std.proofs.lemmas.Bool.Decides.{nat_tests}
+use Rattle.hc_text.proofs.Basics.{and_left, and_right, both_true as both_hold}
 use Rattle.hc_peers.specs.Clients.{client_of}
 use Rattle.hc_peers.specs.Upstreams.{upstream_of}
 use Rattle.hc_peers.specs.declared.upstream.Upstream as origin
-use Rattle.hc_effects.proofs.Basics.{and_left, and_right}
 use Rattle.hc_store.specs.declared.backend.Backend.{Ghosts}
 use Rattle.hc_wire.specs.Events.{Stage, IsOpen}
 use Rattle.hc_wire.specs.Logs.{Log, Taker, is_numbered, changed_at, shut}
@@ -25,10 +25,6 @@ use Rattle.hc_proxy.proofs.Marked.{among_contained}
 use Rattle.hc_proxy.proofs.SkippedSteps.{among}
 use Rattle.hc_proxy.proofs.Takers.{apart_stays}
 use Rattle.hc_proxy.proofs.TakersStand.{all_found, taker_stage}
-
-both_hold : (a b : Bool) → a ≡ true → b ≡ true → (a && b) ≡ true
-both_hold true b x y = y
-both_hold false b x y = x
 
 -- one that is open is among these
 abbrev is_among : List ℕ → Taker → Bool

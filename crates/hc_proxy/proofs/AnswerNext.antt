@@ -6,6 +6,7 @@
 use Rattle.std.proofs.Common.{◌≡◌, ℕ, ◌+◌, ◌-◌, ◌++◌, List, [], ◌∷◌, length, Bool, true, false, Option, Some, None, refl, sym, arith}
 use Rattle.std.specs.Prelude.{◌==◌, nat_le, nat_lt, min, if◌then◌else◌}
 use Rattle.std.proofs.lemmas.Bool.Decides.{nat_tests}
+use Rattle.hc_text.proofs.Basics.{true_false}
 use Rattle.hc_head.specs.Decoding.{heard_in}
 use Rattle.hc_head.specs.Responses.{Heard, Skips, Shows, Refuses}
 use Rattle.hc_head.specs.Scans.{scan_byte, is_open}
@@ -40,9 +41,6 @@ IsStep (Byte b ∷ more) next = ⊥
 
 abbrev IsAnswerStep : Step → Type 0
 IsAnswerStep step = IsStep step.tokens step.next
-
-true_false : {A : Type 0} → true ≡ false → A
-true_false h = absurd (let never : true ≡ false = h in cc)
 
 counts_answer : (n : ℕ) → is_answer (counts n) ≡ true
 counts_answer n = by_test (n == 0) refl

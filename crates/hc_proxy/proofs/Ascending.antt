@@ -7,6 +7,7 @@ use Rattle.std.proofs.Common.{◌≡◌, inl, inr, ◌≤◌, ◌<◌, ℕ, ◌+
 use mathlib.Core.List.{reverse_aux}
 use Rattle.std.specs.Prelude.{◌||◌, filter, is_some, nat_eq, reverse, if◌then◌else◌}
 use Rattle.std.proofs.lemmas.Bool.Decides.{nat_tests}
+use Rattle.hc_text.proofs.Basics.{or_false as or_none}
 use Rattle.hc_model.specs.Denials.{is_live}
 use Rattle.hc_model.specs.Exchanges.{is_open}
 use Rattle.hc_model.specs.Lawful.{Lawful}
@@ -51,10 +52,6 @@ among_aux x (y ∷ xs) ys = among_aux x xs (y ∷ ys) ∙ turn (nat_eq x y) (amo
     turn true true c = refl
     turn true false c = refl
     turn false b c = refl
-
-or_none : (a : Bool) → (a || false) ≡ a
-or_none true = refl
-or_none false = refl
 
 pub among_reverse : (x : ℕ) (xs : List ℕ) → among x (reverse xs) ≡ among x xs
 among_reverse x xs = among_aux x xs [] ∙ or_none (among x xs)

@@ -12,6 +12,7 @@ use Rattle.std.specs.Cmp.{nat_eq_equiv}
 use Rattle.std.proofs.lemmas.Map.Views.{Contains-from_any, list_any-from_Contains}
 use Rattle.std.proofs.lemmas.List.Elements.{Contains-append_cases}
 use Rattle.std.proofs.lemmas.Bool.Decides.{nat_tests}
+use Rattle.hc_text.proofs.Basics.{eq_tells as same_of}
 use Rattle.hc_event.specs.Acts.{act_list}
 use Rattle.hc_event.specs.declared.act.Act.{Act}
 use Rattle.hc_model.specs.Rows.{Tables}
@@ -32,9 +33,6 @@ use Rattle.hc_proxy.specs.Underway.{Closes, KeepsUnderway, OnWire, GoesOn, IsNex
 use Rattle.hc_proxy.proofs.Holders.{HeldBy, held_of}
 use Rattle.hc_proxy.proofs.CarriedOut.{same_tables, all_live, rests_of}
 use Rattle.hc_proxy.proofs.Closings.{dials_none}
-
-same_of : (x y : ℕ) → nat_eq x y ≡ true → x ≡ y
-same_of x y is = grind (arith, nat_tests)
 
 -- DIALS ONE BEHIND ANOTHER
 

@@ -6,6 +6,7 @@
 use Rattle.std.proofs.Common.{◌≡◌, ◌⊎◌, inl, inr, ℕ, List, [], ◌∷◌, ◌++◌, Bool, true, false, Option, Some, None, refl, ap, sym, ◌∙◌, subst, arith}
 use Rattle.std.specs.Prelude.{◌||◌, nat_eq, length, if◌then◌else◌}
 use Rattle.std.proofs.lemmas.Bool.Decides.{nat_tests}
+use Rattle.hc_text.proofs.Basics.{or_cases, eq_itself as same_number, some_inj}
 use Rattle.hc_event.specs.Filters.{leaves_in}
 use Rattle.hc_event.specs.declared.act.Act.{Act}
 use Rattle.hc_event.specs.declared.act.Act.TheVariants as act
@@ -13,8 +14,6 @@ use Rattle.hc_peers.specs.Renderings.{rendering, form_behind, is_last, closes}
 use Rattle.hc_peers.specs.declared.reply.Reply.{Reply}
 use Rattle.hc_model.specs.Denials.{is_live}
 use Rattle.hc_model.specs.Rows.{Tables}
-use Rattle.hc_effects.proofs.Basics.{or_cases}
-use Rattle.hc_effects.proofs.PieceKeeps.{some_inj}
 use Rattle.hc_proxy.specs.Carrying.{answered, answers, carried_out, all_carried_out, acts_in, carried}
 use Rattle.hc_proxy.specs.Invariants.{AreOver, IsHolder, HasConsumers}
 use Rattle.hc_proxy.specs.Rows.{Client, Proxy, with_client}
@@ -42,9 +41,6 @@ closes_last reply (act.Given c x at bytes) h = h
 closes_last reply (act.Pending c wait) h = h
 closes_last reply (act.Lost r kind) h = h
 closes_last reply (act.Evicted r) h = h
-
-same_number : (n : ℕ) → nat_eq n n ≡ true
-same_number n = grind (arith, nat_tests)
 
 -- who leaves by these acts leaves by the first, which is its last, or by the others
 leaves_by : (c : ℕ) (a : Act) (acts : List Act) → sent_to a ≡ Some c → (d : ℕ) → leaves_in d (a ∷ acts) ≡ true → (leaves_in d acts ≡ true) ⊎ ((is_last a ≡ true) × (c ≡ d))

@@ -10,8 +10,9 @@ use Rattle.std.specs.List.Sorted.{IsStrictlySortedBy}
 use Rattle.std.specs.Ordering.{nat_cmp}
 use Rattle.std.proofs.lemmas.Bool.Decides.{nat_tests}
 use Rattle.std.proofs.lemmas.List.Elements.{Contains-append_right, Contains-append_cases}
+use Rattle.hc_text.proofs.Basics.{none_some, eq_itself as same_number, some_inj}
 use Rattle.hc_core.specs.Steps.{faults_in}
-use Rattle.hc_effects.proofs.PieceKeeps.{eq_cases, some_inj}
+use Rattle.hc_effects.proofs.PieceKeeps.{eq_cases}
 use Rattle.hc_peers.specs.Clients.{client_of}
 use Rattle.hc_peers.specs.Clients as clients
 use Rattle.hc_peers.specs.Peers as peers
@@ -38,12 +39,6 @@ use Rattle.hc_proxy.proofs.Marked.{among_contained, contained_among}
 use Rattle.hc_proxy.proofs.SkippedSteps.{among}
 use Rattle.hc_proxy.proofs.StartsOn.{just_here, here_order}
 use Rattle.hc_proxy.proofs.Turning.{with_new}
-
-none_some : {A B : Type 0} (it : B) → None ≡ Some it → A
-none_some it h = absurd (let never : None ≡ Some it = h in cc)
-
-same_number : (n : ℕ) → nat_eq n n ≡ true
-same_number n = grind (arith, nat_tests)
 
 one_of : (k j : ℕ) → Contains (j ∷ []) k → j ≡ k
 one_of k j (zero, within, is) = is

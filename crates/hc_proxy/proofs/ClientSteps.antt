@@ -7,6 +7,7 @@
 use Rattle.std.proofs.Common.{◌≡◌, ◌⊎◌, inl, inr, ◌≤◌, ◌<◌, ℕ, ◌+◌, List, [], ◌∷◌, ◌++◌, Bool, true, false, Option, Some, None, refl, ap, sym, ◌∙◌, subst, arith, append-nil}
 use Rattle.std.specs.Prelude.{nat_eq, IsSome, option_map, if◌then◌else◌}
 use Rattle.std.proofs.lemmas.Bool.Decides.{nat_tests}
+use Rattle.hc_text.proofs.Basics.{some_inj as some_is}
 use Rattle.hc_event.specs.declared.event.Event.{Event}
 use Rattle.hc_event.specs.declared.event.Event.TheVariants as event
 use Rattle.hc_event.specs.declared.event.Request.{Request}
@@ -51,9 +52,6 @@ starts_other c (event.Doom d) off is = is
 no_error : (s : Reading) → IsHead s → error_answer s ≡ []
 no_error (Heading Requests scan text) is = refl
 no_error _ is = absurd is
-
-some_is : {A : Type 0} (a b : A) → Some a ≡ Some b → a ≡ b
-some_is a b h = cc
 
 module _ (limits : Limits) (ev : Event) (p : Proxy) (s : Stands limits p) where
   abbrev e : Entry

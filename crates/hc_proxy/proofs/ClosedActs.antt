@@ -5,6 +5,7 @@
 use Rattle.std.proofs.Common.{◌≡◌, inl, inr, ◌≤◌, ℕ, ◌+◌, List, [], ◌∷◌, ◌++◌, Bool, true, false, Option, Some, None, refl, ap, sym, ◌∙◌, arith}
 use Rattle.std.specs.Prelude.{◌||◌, nat_eq, nat_lt}
 use Rattle.std.proofs.lemmas.Bool.Decides.{nat_tests}
+use Rattle.hc_text.proofs.Basics.{or_cases, true_false}
 use Rattle.hc_event.specs.Filters.{closes_in, is_denied}
 use Rattle.hc_event.specs.declared.act.Act.{Act}
 use Rattle.hc_event.specs.declared.act.Act.TheVariants as act
@@ -16,7 +17,6 @@ use Rattle.hc_model.specs.Flaws.{flaw_in}
 use Rattle.hc_model.specs.Rows.{Exchange}
 use Rattle.hc_model.specs.Runs.{IsOwed}
 use Rattle.hc_model.specs.Tables.{after}
-use Rattle.hc_effects.proofs.Basics.{or_cases}
 use Rattle.hc_effects.proofs.Owed.{acts_are, is_denial, IsDenied, denied}
 use Rattle.hc_effects.proofs.Unclosed.{had_row}
 use Rattle.hc_proxy.specs.Invariants.{AreClosed}
@@ -24,9 +24,6 @@ use Rattle.hc_proxy.specs.Rows.{Proxy}
 use Rattle.hc_proxy.proofs.OpenAfter.{was_open}
 use Rattle.hc_proxy.proofs.Stands.{Stands, is_sound}
 use Rattle.hc_proxy.proofs.StepOn.{opens_behind, opened_grows}
-
-true_false : {A : Type 0} → true ≡ false → A
-true_false h = absurd (let never : true ≡ false = h in cc)
 
 -- LISTS OF ACTS
 

@@ -8,6 +8,7 @@ use Rattle.std.specs.Prelude.{◌^◌, nat_eq, Result, Ok, Err}
 use Rattle.std.specs.Result.{is_ok, is_err}
 use Rattle.std.proofs.Math.Logic.{∥∥₁_map}
 use Rattle.std.proofs.lemmas.Bool.Decides.{nat_tests}
+use Rattle.hc_text.proofs.Basics.{eq_itself as same_number}
 use Rattle.hc_core.specs.Steps.{steps, faults_in, bytes_received}
 use Rattle.hc_event.specs.declared.event.Event.TheVariants as event
 use Rattle.hc_head.specs.declared.message.MsgError.{MsgError}
@@ -31,9 +32,6 @@ use Rattle.hc_proxy.specs.Rows.{Proxy}
 use Rattle.hc_proxy.proofs.FinishedOn.{cut_finished, whole_finished}
 use Rattle.hc_proxy.proofs.HandedOn.{rows, apart_both}
 use Rattle.hc_proxy.proofs.TakenParts.{TakenNone, waits_taken, looks_waits}
-
-same_number : (n : ℕ) → nat_eq n n ≡ true
-same_number n = grind (arith, nat_tests)
 
 -- where more is waited for, the read fails by want of memory alone
 pub only_memory : (z : ℕ) (old new : Upstreams) (out : Result (Option WirePart) MsgError) (e : MsgError) → look_at (upstream_of old z) ≡ look.Waits

@@ -17,6 +17,7 @@ use Rattle.hc_event.specs.declared.event.Request.{Request}
 use Rattle.hc_model.specs.Exchanges.{is_open, is_wanted}
 use Rattle.hc_target.specs.Targets.{is_short_word, is_target}
 use Rattle.std.specs.Str.{is_utf8}
+use Rattle.hc_text.proofs.Basics.{eq_itself as same_number, some_inj as some_is}
 use Rattle.url.specs.Parts.{Parts}
 use Rattle.url.specs.Parser.{Parsed, parse_url}
 use Rattle.hc_msg.specs.Writing.{request_text}
@@ -44,12 +45,6 @@ use Rattle.hc_proxy.specs.Underway.{DialsOne, Opens, KeepsUnderway, OnWire, Goes
 use Rattle.hc_proxy.proofs.CarriedOut.{act_keeps}
 use Rattle.hc_proxy.proofs.Closings.{told_on}
 use Rattle.hc_proxy.proofs.MoreConnections.{connection_stays, connection_comes, nobodys_stays, names_more}
-
-some_is : {A : Type 0} (a b : A) → Some a ≡ Some b → a ≡ b
-some_is a b h = cc
-
-same_number : (n : ℕ) → nat_eq n n ≡ true
-same_number n = grind (arith, nat_tests)
 
 -- THE LOG
 

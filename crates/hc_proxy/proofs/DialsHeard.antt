@@ -5,6 +5,7 @@
 use Rattle.std.proofs.Common.{◌≡◌, ◌≤◌, ◌<◌, ℕ, zero, suc, ◌+◌, ◌-◌, List, [], ◌∷◌, ◌++◌, Bool, true, false, Option, Some, None, refl, ap, ◌∙◌, arith}
 use Rattle.std.specs.Prelude.{◌||◌, nat_eq, length, take, drop, Ok, Err, Contains, if◌then◌else◌, option_map}
 use Rattle.std.proofs.lemmas.Bool.Decides.{nat_tests}
+use Rattle.hc_text.proofs.Basics.{false_true as never_true}
 use Rattle.hc_event.specs.declared.act.Act.{Act}
 use Rattle.hc_event.specs.declared.event.Event.{Event}
 use Rattle.hc_event.specs.declared.event.Event.TheVariants as event
@@ -116,9 +117,6 @@ ended_more (Some k) calls call is = any_more k calls call is
 abbrev pub is_end : ℕ → Event → Bool
 is_end x (event.End y) = nat_eq x y
 is_end x _ = false
-
-pub never_true : {A : Type 0} → false ≡ true → A
-never_true h = absurd (let never : false ≡ true = h in cc)
 
 -- what the close comes to is an end, or an error
 pub end_is : (t : Reading) (p : WirePart) → ending t ≡ Ok p → ending t ≡ Ok part.End

@@ -6,7 +6,7 @@ use Rattle.std.proofs.Common.{◌≡◌, ℕ, zero, suc, ◌+◌, List, [], ◌�
 use Rattle.std.specs.Prelude.{nat_eq, find, length, Contains, if◌then◌else◌}
 use Rattle.std.specs.List.{list_all}
 use Rattle.std.proofs.lemmas.Bool.Decides.{nat_tests}
-use Rattle.hc_effects.proofs.Basics.{and_left, and_right}
+use Rattle.hc_text.proofs.Basics.{and_left, and_right}
 use Rattle.hc_wire.specs.Events.{Unseen, Open, Closed}
 use Rattle.hc_wire.specs.Logs.{Log, Taker, is_numbered, stage_from, stage_in, sent_in, sent_from}
 use Rattle.hc_proxy.specs.Connections.{place_from, exchange_of}

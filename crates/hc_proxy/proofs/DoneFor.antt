@@ -5,6 +5,7 @@
 use Rattle.std.proofs.Common.{◌≡◌, ◌⊎◌, inl, inr, ◌≤◌, ℕ, ◌+◌, List, [], ◌++◌, length, Bool, true, false, Some, None, refl, ap, sym, ◌∙◌, subst, arith}
 use Rattle.std.specs.Prelude.{◌||◌, ◌&&◌, if◌then◌else◌, nat_eq, not, IsSome, Contains}
 use Rattle.std.specs.List.{list_all}
+use Rattle.hc_text.proofs.Basics.{or_right, true_false}
 use Rattle.hc_core.specs.Steps.{steps}
 use Rattle.hc_event.specs.Filters.{opening_in, asks_in, closes_in, is_denied}
 use Rattle.hc_event.specs.declared.act.Act.{Act}
@@ -36,13 +37,6 @@ use Rattle.hc_proxy.proofs.QuietActs.{AreQuiet, quiet_both, is_quiet_entry, quie
 use Rattle.hc_proxy.proofs.Stands.{Stands}
 use Rattle.hc_proxy.proofs.StepOn.{stands_of, law_of}
 use Rattle.hc_laws.proofs.LiveAfter.{Starts}
-
-or_right : (a b : Bool) → b ≡ true → (a || b) ≡ true
-or_right true b h = refl
-or_right false b h = h
-
-true_false : {A : Type 0} → true ≡ false → A
-true_false h = absurd (let never : true ≡ false = h in cc)
 
 -- the event says something of z, or of no exchange
 abbrev pub IsOfOnly : ℕ → Event → Type 0

@@ -5,6 +5,7 @@
 -- In every run no more exchanges are open than consumers are live.
 use Rattle.std.proofs.Common.{◌≡◌, ◌⊎◌, inl, inr, ◌≤◌, ◌<◌, ℕ, zero, suc, ◌+◌, List, [], ◌∷◌, length, map, true, Option, Some, None, refl, ap, sym, ◌∙◌, arith}
 use Rattle.std.specs.Prelude.{Contains, IsSome, filter, nat_eq, unwrap_or, if◌then◌else◌}
+use Rattle.hc_text.proofs.Basics.{map_long}
 use Rattle.hc_rules.specs.declared.room.Limits.{Limits}
 use Rattle.hc_model.specs.Denials.{is_live, live}
 use Rattle.hc_model.specs.Entries.{History, no_contents}
@@ -77,10 +78,6 @@ among_mapped : (f : ℕ → ℕ) (k c : ℕ) (ks : List ℕ) → f k ≡ c → A
 among_mapped f k c [] is there = there
 among_mapped f k c (j ∷ js) is (inl here) = inl (ap f here ∙ is)
 among_mapped f k c (j ∷ js) is (inr more) = inr (among_mapped f k c js is more)
-
-map_long : (f : ℕ → ℕ) (ks : List ℕ) → length (map f ks) ≡ length ks
-map_long f [] = refl
-map_long f (k ∷ ks) = let rest = map_long f ks in omega (arith, rest)
 
 among_of : (k : ℕ) (ks : List ℕ) → Contains ks k → Among k ks
 among_of k [] (n, within, is) = absurd (omega arith)

@@ -6,6 +6,7 @@
 use Rattle.std.proofs.Common.{◌≡◌, inl, inr, ◌≤◌, ◌<◌, ℕ, ◌+◌, [], Bool, true, false, Option, Some, None, refl, ap, sym, ◌∙◌, subst, arith}
 use Rattle.std.specs.Prelude.{◌&&◌, nat_eq, option_map, if◌then◌else◌, Result, Ok, Err}
 use Rattle.std.specs.Result.{is_ok}
+use Rattle.hc_text.proofs.Basics.{some_inj, true_false}
 use Rattle.hc_core.specs.Steps.{faults_in, steps, bytes_received}
 use Rattle.hc_event.specs.declared.event.Event.{Event}
 use Rattle.hc_event.specs.declared.event.Event.TheVariants as event
@@ -15,7 +16,7 @@ use Rattle.hc_model.specs.Exchanges.{is_open, is_wanted}
 use Rattle.hc_model.specs.Rows.{Exchange}
 use Rattle.hc_model.specs.Runs.{owed}
 use Rattle.hc_model.specs.Tables.{after}
-use Rattle.hc_effects.proofs.PieceKeeps.{eq_cases, some_inj}
+use Rattle.hc_effects.proofs.PieceKeeps.{eq_cases}
 use Rattle.hc_msg.specs.declared.message.Look.{Look}
 use Rattle.hc_msg.specs.declared.message.Look.TheVariants as look
 use Rattle.hc_msg.specs.declared.message.WirePart.{WirePart}
@@ -45,9 +46,6 @@ use Rattle.hc_proxy.proofs.QuietActs.{AreQuiet, is_quiet_entry, quiet_opens_none
 use Rattle.hc_proxy.proofs.TakenParts.{TakenNone, looks_fails}
 use Rattle.hc_proxy.proofs.Unread.{unread_entry}
 use Rattle.hc_proxy.specs.Waiting.{is_poll}
-
-true_false : {A : Type 0} → true ≡ false → A
-true_false h = absurd (let never : true ≡ false = h in cc)
 
 -- READ TO THE END OF THE CONNECTION
 

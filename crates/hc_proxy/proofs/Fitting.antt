@@ -9,9 +9,9 @@ use Rattle.std.specs.List.{list_all}
 use Rattle.std.proofs.lemmas.Bool.Decides.{nat_tests}
 use Rattle.std.proofs.Math.Seq.{take-length}
 use Rattle.std.proofs.lemmas.List.{reverse-append}
+use Rattle.hc_text.proofs.Basics.{and_left, and_right, both_true as both_hold, some_inj as some_is}
 use Rattle.hc_model.specs.Exchanges.{is_open, is_wanted}
 use Rattle.hc_model.specs.Sound.{Sound}
-use Rattle.hc_effects.proofs.Basics.{and_left, and_right}
 use Rattle.hc_peers.specs.Clients.{client_of}
 use Rattle.hc_peers.specs.Peers.{is_idle, is_over}
 use Rattle.hc_peers.specs.Peers as peers
@@ -40,13 +40,6 @@ use Rattle.hc_proxy.proofs.Rows.{sent_all}
 use Rattle.hc_proxy.proofs.Stands.{is_sound}
 use Rattle.hc_proxy.proofs.StepOn.{stands_of}
 use Rattle.hc_proxy.proofs.TakersStand.{found_number, taken_found, stands_found, stands_missing, standings_all, taker_stage, sent_found, open_taker}
-
-some_is : {A : Type 0} (a b : A) → Some a ≡ Some b → a ≡ b
-some_is a b h = cc
-
-both_hold : (a b : Bool) → a ≡ true → b ≡ true → (a && b) ≡ true
-both_hold true b x y = y
-both_hold false b x y = x
 
 -- LISTS
 

@@ -4,6 +4,7 @@
 -- the log. Most fields speak of a row that is there, of which there is none. The counts are 0.
 use Rattle.std.proofs.Common.{◌≡◌, ℕ, zero, suc, ◌-◌, List, [], ◌++◌, length, drop, Bool, true, false, Some, None, refl, ap, sym, ◌∙◌, subst, arith}
 use Rattle.std.specs.Prelude.{nat_eq, if◌then◌else◌, IsSome, Contains}
+use Rattle.hc_text.proofs.Basics.{false_true, none_some}
 use Rattle.hc_core.specs.Steps.{last_moment, bytes_received}
 use Rattle.hc_event.specs.Acts.{act_list}
 use Rattle.hc_model.specs.Denials.{is_live}
@@ -26,12 +27,6 @@ use Rattle.hc_proxy.specs.Records.{text_of, last_of}
 use Rattle.hc_proxy.specs.Resting.{IsRestingAt, Rests, resting_call}
 use Rattle.hc_proxy.specs.Rows.{unused}
 use Rattle.hc_proxy.proofs.Inserted.{ascends_sorted}
-
-none_some : {A B : Type 0} (it : B) → None ≡ Some it → A
-none_some it h = absurd (let never : None ≡ Some it = h in cc)
-
-false_true : {A : Type 0} → false ≡ true → A
-false_true h = absurd (let never : false ≡ true = h in cc)
 
 none_in : {A : Type 0} (k : ℕ) → Contains [] k → A
 none_in k (n, within, is) = absurd (omega arith)

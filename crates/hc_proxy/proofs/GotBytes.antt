@@ -9,6 +9,7 @@ use Rattle.std.proofs.Math.Bridge.{le_prop}
 use Rattle.std.proofs.Math.Logic.{∥∥₁_map, ∥∥₁_elim}
 use Rattle.std.proofs.lemmas.Bool.Decides.{nat_tests}
 use Rattle.std.proofs.lemmas.List.{length-append}
+use Rattle.hc_text.proofs.Basics.{none_some, eq_itself as same_number, some_inj, true_false}
 use Rattle.hc_core.specs.Steps.{faults_in, steps, bytes_received}
 use Rattle.hc_event.specs.Filters.{asks_in, closes_in}
 use Rattle.hc_model.specs.Exchanges.{is_open, is_wanted}
@@ -16,7 +17,6 @@ use Rattle.hc_event.specs.declared.event.Event.TheVariants as event
 use Rattle.hc_model.specs.Rows.{Exchange}
 use Rattle.hc_model.specs.Tables.{after}
 use Rattle.hc_model.specs.Lawful.{Lawful}
-use Rattle.hc_effects.proofs.PieceKeeps.{some_inj}
 use Rattle.hc_peers.specs.Agreement.{is_at}
 use Rattle.hc_peers.specs.Clients.{client_of}
 use Rattle.hc_peers.specs.Clients as clients
@@ -48,15 +48,6 @@ use Rattle.hc_proxy.proofs.OriginRows.{row_changed}
 use Rattle.hc_proxy.proofs.RowChanges.{ChangesClient, changed_clients, row_was, wire_same, seen_still, upstreams_with}
 use Rattle.hc_proxy.proofs.StepOn.{law_of}
 use Rattle.hc_proxy.proofs.Unread.{unread_grows}
-
-none_some : {A B : Type 0} (it : B) → None ≡ Some it → A
-none_some it h = absurd (let never : None ≡ Some it = h in cc)
-
-true_false : {A : Type 0} → true ≡ false → A
-true_false h = absurd (let never : true ≡ false = h in cc)
-
-same_number : (n : ℕ) → nat_eq n n ≡ true
-same_number n = grind (arith, nat_tests)
 
 at_number : (k : ℕ) (u : origin.Upstream) → is_at k (Some u) ≡ true → u.k ≡ k
 at_number k u h = grind (arith, nat_tests)

@@ -7,6 +7,7 @@
 use Rattle.std.proofs.Common.{◌≡◌, ◌⊎◌, inl, inr, ◌≤◌, ℕ, ◌+◌, List, [], ◌∷◌, length, Bool, true, false, Option, Some, None, refl, ap, sym, ◌∙◌, subst, arith}
 use Rattle.std.specs.Prelude.{◌&&◌, ◌||◌, is_some, nat_eq, nat_lt, option_map}
 use Rattle.std.proofs.lemmas.Bool.Decides.{nat_tests}
+use Rattle.hc_text.proofs.Basics.{eq_itself as same_number, some_inj, true_false}
 use Rattle.hc_core.specs.Steps.{faults_in, steps, bytes_received}
 use Rattle.hc_event.specs.Filters.{is_denied}
 use Rattle.hc_event.specs.declared.act.Act.{Act}
@@ -20,7 +21,6 @@ use Rattle.hc_model.specs.Lawful.{Lawful}
 use Rattle.hc_model.specs.Rows.{Tables, Exchange}
 use Rattle.hc_model.specs.Sound.{Among}
 use Rattle.hc_model.specs.Tables.{after}
-use Rattle.hc_effects.proofs.PieceKeeps.{some_inj}
 use Rattle.hc_msg.specs.declared.message.WirePart.TheVariants as part
 use Rattle.hc_msg.specs.Inputs.{Next, Waits, Tells, Brings, Ends, Fails}
 use Rattle.hc_msg.specs.Reading.{Reading, Done, Failed, Answers}
@@ -52,12 +52,6 @@ use Rattle.hc_proxy.proofs.QuietActs.{AreQuiet, is_quiet_entry, quiet_opens_none
 use Rattle.hc_proxy.proofs.StepOn.{law_of}
 use Rattle.hc_proxy.proofs.TakenParts.{news_same, next_same, TakenNone, TakenErr, IsTakenAs, IsReadOff, brought_off, told_off}
 use Rattle.hc_proxy.proofs.Unread.{among, unread_grows, unread_falls}
-
-true_false : {A : Type 0} → true ≡ false → A
-true_false h = absurd (let never : true ≡ false = h in cc)
-
-same_number : (n : ℕ) → nat_eq n n ≡ true
-same_number n = grind (arith, nat_tests)
 
 -- quiet acts open nothing
 pub quiet_up : (acts : List Act) (n m : ℕ) → AreQuiet acts → OpensUp n acts m → n ≡ m

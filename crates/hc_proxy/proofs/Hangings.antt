@@ -4,6 +4,7 @@
 use Rattle.std.proofs.Common.{◌≡◌, ◌⊎◌, inl, inr, ◌≤◌, ℕ, List, ◌∷◌, Bool, true, false, Some, None, refl, sym, ◌∙◌, subst, arith}
 use Rattle.std.specs.Prelude.{nat_eq, ◌||◌, IsSome}
 use Rattle.std.proofs.lemmas.Bool.Decides.{nat_tests}
+use Rattle.hc_text.proofs.Basics.{eq_itself as same_number}
 use Rattle.hc_core.specs.Steps.{steps}
 use Rattle.hc_event.specs.Filters.{closes_in}
 use Rattle.hc_event.specs.declared.act.Act.{Act}
@@ -18,7 +19,7 @@ use Rattle.hc_proxy.specs.Rows.{Proxy}
 use Rattle.hc_proxy.specs.Underway.{HasHolders, KeepsUnderway}
 use Rattle.hc_proxy.proofs.Alike.{cache_moves, clients_move}
 use Rattle.hc_proxy.proofs.CarriedOut.{act_keeps}
-use Rattle.hc_proxy.proofs.HangsOff.{same_number, off_row, was_there, open_apart, rows_left, some_there, wire_left, known_left}
+use Rattle.hc_proxy.proofs.HangsOff.{off_row, was_there, open_apart, rows_left, some_there, wire_left, known_left}
 
 module _ {B : Type 0} {g : Ghosts B} (t : Turn) (z : ℕ) (acts : List Act) (x x' : loop.Proxy B g) (p : Proxy) (h : KeepsUnderway t (act.Close z ∷ acts) x p) (u : HangsUp z x x') where
   abbrev ups : HasUpstreams t x p (act.Close z ∷ acts)

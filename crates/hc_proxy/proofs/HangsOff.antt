@@ -6,8 +6,9 @@ use Rattle.std.proofs.Common.{◌≡◌, ◌≢◌, ◌⊎◌, inl, inr, ◌≤�
 use Rattle.std.specs.Prelude.{nat_eq, Contains, IsSome}
 use Rattle.std.proofs.lemmas.Bool.Decides.{nat_tests}
 use Rattle.std.proofs.lemmas.List.Elements.{Contains-append_left, Contains-append_right, Contains-append_cases}
+use Rattle.hc_text.proofs.Basics.{none_some, eq_itself as same_number, some_inj, true_false}
 use Rattle.hc_model.specs.Exchanges.{is_open}
-use Rattle.hc_effects.proofs.PieceKeeps.{eq_cases, some_inj}
+use Rattle.hc_effects.proofs.PieceKeeps.{eq_cases}
 use Rattle.hc_peers.specs.Clients.{client_of}
 use Rattle.hc_peers.specs.Upstreams.{upstream_of}
 use Rattle.hc_peers.specs.declared.client.Client as peer
@@ -20,15 +21,6 @@ use Rattle.hc_proxy.specs.Connections.{exchange_of, connection_of, taken_at}
 use Rattle.hc_proxy.specs.Invariants.{NamesOne}
 use Rattle.hc_proxy.specs.Keeping.{Turn, HasClients, IsUpstreamAt, IsClientAt, AtWire, AreKnown, HangsUp, closed_by}
 use Rattle.hc_proxy.specs.Rows.{Client, Proxy}
-
-none_some : {A B : Type 0} (it : B) → None ≡ Some it → A
-none_some it h = absurd (let never : None ≡ Some it = h in cc)
-
-true_false : {A : Type 0} → true ≡ false → A
-true_false h = absurd (let never : true ≡ false = h in cc)
-
-pub same_number : (n : ℕ) → nat_eq n n ≡ true
-same_number n = grind (arith, nat_tests)
 
 -- a client that is kept has a row
 pub has_row : (taken : ℕ) (o : Option peer.Client) (r : Option Client) (c : peer.Client) → IsClientAt taken o r → o ≡ Some c → IsSome r

@@ -9,6 +9,7 @@ use Rattle.std.specs.Prelude.{◌^◌, ◌&&◌, ◌||◌, not, filter}
 use Rattle.std.specs.List.Sorted.{IsStrictlySortedBy}
 use Rattle.std.specs.Ordering.{nat_cmp}
 use Rattle.std.proofs.lemmas.List.{length-reverse}
+use Rattle.hc_text.proofs.Basics.{true_false}
 use Rattle.hc_core.specs.Steps.{faults_in, steps}
 use Rattle.hc_event.specs.Filters.{asks_in}
 use Rattle.hc_model.specs.Exchanges.{is_open, is_wanted}
@@ -38,9 +39,6 @@ use Rattle.hc_proxy.proofs.SkippedSteps.{among, Ascends, same_each}
 use Rattle.hc_proxy.proofs.Stands.{Stands}
 use Rattle.hc_proxy.proofs.StepOn.{stands_of, law_of, run_of}
 use Rattle.hc_proxy.proofs.UpShort.{up_short, filter_up, filter_both, passes_one}
-
-true_false : {A : Type 0} → true ≡ false → A
-true_false h = absurd (let never : true ≡ false = h in cc)
 
 -- who stands in the list of the news
 pub news_among : (s : Upstreams) (y : ℕ) → among y (news_of s) ≡ is_news s y

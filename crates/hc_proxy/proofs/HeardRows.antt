@@ -8,6 +8,7 @@
 use Rattle.std.proofs.Common.{◌≡◌, ◌≤◌, ◌<◌, ◌⊎◌, inl, inr, ℕ, ◌+◌, List, [], ◌∷◌, ◌++◌, Bool, true, false, Option, Some, None, refl, ap, sym, ◌∙◌, subst, arith, append_assoc, append-nil}
 use Rattle.std.specs.Prelude.{◌&&◌, nat_eq, nat_lt, length, take, is_none, Result, Ok, Err, if◌then◌else◌, option_map, Contains}
 use Rattle.std.proofs.lemmas.Bool.Decides.{nat_tests}
+use Rattle.hc_text.proofs.Basics.{false_true as never_true}
 use Rattle.hc_event.specs.declared.act.Act.{Act}
 use Rattle.hc_event.specs.declared.act.Act.TheVariants as act
 use Rattle.hc_event.specs.declared.act.Need.{Need}
@@ -54,7 +55,7 @@ use Rattle.hc_proxy.proofs.Later.{carried_is_same}
 use Rattle.hc_proxy.proofs.OpenEnded.{never_done}
 use Rattle.hc_proxy.proofs.Openings.{StandsKnown, open_more, turn_opens, turns_know, unused_known}
 use Rattle.hc_proxy.proofs.Turning.{OpenOnly, with_new, with_opened, happened_keeps}
-use Rattle.hc_proxy.proofs.DialsHeard.{no_row, place_before, place_after, connection_at, came_by, new_by, came_more, ended_by, any_last, ended_more, is_end, never_true, end_is, none_came, among_all, IsCutBy}
+use Rattle.hc_proxy.proofs.DialsHeard.{no_row, place_before, place_after, connection_at, came_by, new_by, came_more, ended_by, any_last, ended_more, is_end, end_is, none_came, among_all, IsCutBy}
 
 module _ (limits : Limits) (dialled : List ℕ) (x : ℕ) where
   abbrev pub came : List Called → List ℕ

@@ -6,6 +6,7 @@ use Rattle.std.proofs.Common.{◌≡◌, ◌≤◌, ℕ, List, [], ◌∷◌, �
 use Rattle.std.specs.Prelude.{◌&&◌, ◌||◌, not, nat_eq, nat_lt}
 use Rattle.std.specs.List.{list_any}
 use Rattle.std.proofs.lemmas.Bool.Decides.{nat_tests}
+use Rattle.hc_text.proofs.Basics.{true_false}
 use Rattle.hc_model.specs.Exchanges.{is_open, is_wanted}
 use Rattle.hc_model.specs.Lawful.{Lawful}
 use Rattle.hc_model.specs.Rows.{Exchange}
@@ -30,9 +31,6 @@ use Rattle.hc_proxy.proofs.SkippedSteps.{among}
 use Rattle.hc_proxy.proofs.StepOn.{law_of}
 use Rattle.hc_proxy.proofs.TakenParts.{news_same, next_same}
 use Rattle.hc_proxy.proofs.Waited.{brings_by, brings, nothing_brought}
-
-true_false : {A : Type 0} → true ≡ false → A
-true_false h = absurd (let never : true ≡ false = h in cc)
 
 -- LISTS
 

@@ -7,6 +7,7 @@
 use Rattle.std.proofs.Common.{◌≡◌, ◌⊎◌, inl, inr, ◌≤◌, ◌<◌, ℕ, ◌+◌, List, [], ◌∷◌, ◌++◌, Bool, true, false, Option, Some, None, refl, ap, sym, ◌∙◌, subst, arith}
 use Rattle.std.specs.Prelude.{◌||◌, nat_eq, option_map, if◌then◌else◌}
 use Rattle.std.proofs.lemmas.Bool.Decides.{nat_tests}
+use Rattle.hc_text.proofs.Basics.{number_not as apart, or_left, or_right, eq_itself as same_number, some_inj}
 use Rattle.hc_event.specs.Filters.{leaves_in}
 use Rattle.hc_event.specs.declared.act.Act.{Act}
 use Rattle.hc_event.specs.declared.act.Act.TheVariants as act
@@ -21,8 +22,7 @@ use Rattle.hc_model.specs.Entries.{Entry}
 use Rattle.hc_model.specs.Lawful.{Lawful}
 use Rattle.hc_model.specs.Runs.{IsOwed}
 use Rattle.hc_model.specs.Tables.{after}
-use Rattle.hc_effects.proofs.Basics.{or_left, or_right}
-use Rattle.hc_effects.proofs.PieceKeeps.{eq_cases, some_inj}
+use Rattle.hc_effects.proofs.PieceKeeps.{eq_cases}
 use Rattle.hc_proxy.specs.Carrying.{acts_in}
 use Rattle.hc_proxy.specs.Handling.{left, client_sends}
 use Rattle.hc_proxy.specs.Invariants.{IsHolder, HasConsumers}
@@ -81,12 +81,6 @@ changed_row k change p j r is =
     by_row : (o : Option Client) → p.client j ≡ o → j ≡ k → option_map change o ≡ Some r → IsChanged k change p j r
     by_row None at here made = absurd (let never : None ≡ Some r = made in cc)
     by_row (Some old) at here made = record { same = here; old = old; at = at; is = sym (some_inj (change old) r made) }
-
-same_number : (n : ℕ) → nat_eq n n ≡ true
-same_number n = grind (arith, nat_tests)
-
-apart : (j k : ℕ) → (j ≡ k → ⊥) → nat_eq j k ≡ false
-apart j k other = elim (eq_cases j k) [ inl here ↦ absurd (other here.1) | inr off ↦ off.0 ]
 
 pub changed_here : (k : ℕ) (change : Client → Client) (p : Proxy) (r : Client) → p.client k ≡ Some r → (with_client k change p).client k ≡ Some (change r)
 changed_here k change p r at = rw (same_number k, at) refl

@@ -5,11 +5,11 @@
 use Rattle.std.proofs.Common.{◌≡◌, inl, inr, ℕ, zero, suc, List, [], ◌∷◌, Bool, true, false, Option, Some, None, refl, ap, sym, ◌∙◌, arith}
 use Rattle.std.specs.Prelude.{◌||◌, Contains, IsSome, option_map, if◌then◌else◌}
 use Rattle.std.specs.List.{list_all}
+use Rattle.hc_text.proofs.Basics.{and_left, and_right, some_inj}
 use Rattle.hc_event.specs.declared.act.Act.{Act}
 use Rattle.hc_model.specs.Denials.{is_live}
 use Rattle.hc_model.specs.Rows.{Tables}
-use Rattle.hc_effects.proofs.Basics.{and_left, and_right}
-use Rattle.hc_effects.proofs.PieceKeeps.{eq_cases, some_inj}
+use Rattle.hc_effects.proofs.PieceKeeps.{eq_cases}
 use Rattle.hc_wire.specs.Logs.{Called}
 use Rattle.hc_proxy.specs.Carrying.{acts_in}
 use Rattle.hc_proxy.specs.Connections.{stands}

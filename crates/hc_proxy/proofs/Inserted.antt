@@ -11,6 +11,7 @@ use Rattle.std.specs.Ordering.{nat_cmp}
 use Rattle.std.specs.Cmp.{nat_cmp_is}
 use Rattle.std.specs.declared.cmp.Ordering.TheVariants.{Less}
 use Rattle.std.proofs.lemmas.Bool.Decides.{nat_tests}
+use Rattle.hc_text.proofs.Basics.{or_off_left as or_first, or_right as or_later, or_off_right as or_second, eq_itself as same_here}
 use Rattle.hc_proxy.specs.Handling.{inserted}
 use Rattle.hc_proxy.proofs.Marked.{sorted_ascends}
 use Rattle.hc_proxy.proofs.SkippedSteps.{among, Ascends}
@@ -27,14 +28,6 @@ pub ascends_sorted : (n : ℕ) (xs : List ℕ) → Ascends n xs → IsStrictlySo
 unfolding IsStrictlySortedBy
 ascends_sorted n [] up = tt
 ascends_sorted n (x ∷ xs) up = (all_less x (x + 1) xs (omega arith) up.1, ascends_sorted (x + 1) xs up.1)
-
-or_first : (a b : Bool) → (a || b) ≡ false → a ≡ false
-or_first true b h = h
-or_first false b h = refl
-
-or_second : (a b : Bool) → (a || b) ≡ false → b ≡ false
-or_second true b h = absurd (let never : true ≡ false = h in cc)
-or_second false b h = h
 
 inserted_up : (n k : ℕ) (xs : List ℕ) → n ≤ k → among k xs ≡ false → Ascends n xs → Ascends n (inserted k xs)
 inserted_up n k [] le off up = (le, tt)
@@ -54,13 +47,6 @@ pub inserted_sorted : (k : ℕ) (xs : List ℕ) → among k xs ≡ false → IsS
 inserted_sorted k xs off order = ascends_sorted 0 (inserted k xs) (inserted_up 0 k xs (omega arith) off (sorted_ascends xs order))
 
 -- WHO STANDS THERE
-
-same_here : (k : ℕ) → nat_eq k k ≡ true
-same_here k = grind (arith, nat_tests)
-
-or_later : (a b : Bool) → b ≡ true → (a || b) ≡ true
-or_later true b h = refl
-or_later false b h = h
 
 pub inserted_here : (k : ℕ) (xs : List ℕ) → among k (inserted k xs) ≡ true
 inserted_here k [] = rw (same_here k) refl

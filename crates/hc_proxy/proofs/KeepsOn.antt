@@ -5,6 +5,7 @@
 -- ask for it, or it is that next one. So the lists of the code still have whoever is to be looked at.
 use Rattle.std.proofs.Common.{◌≡◌, ◌⊎◌, inl, inr, ◌≤◌, ◌<◌, ℕ, zero, suc, ◌+◌, ◌-◌, Bool, true, false, List, [], ◌∷◌, ◌++◌, Option, Some, None, refl, ap, sym, ◌∙◌, subst, arith}
 use Rattle.std.specs.Prelude.{◌||◌, nat_eq, length, drop, Contains, if◌then◌else◌}
+use Rattle.hc_text.proofs.Basics.{or_off_left as or_first, or_left, or_right, or_off_right as or_second}
 use Rattle.hc_core.specs.Steps.{steps}
 use Rattle.hc_event.specs.Filters.{opening_in, asks_in, closes_in}
 use Rattle.hc_event.specs.declared.act.Act.{Act}
@@ -14,7 +15,6 @@ use Rattle.hc_model.specs.Entries.{Entry}
 use Rattle.hc_model.specs.Exchanges.{is_open, is_wanted}
 use Rattle.hc_model.specs.Runs.{IsOwed}
 use Rattle.hc_model.specs.Tables.{after}
-use Rattle.hc_effects.proofs.Basics.{or_left, or_right}
 use Rattle.hc_peers.specs.Peers.{is_same}
 use Rattle.hc_peers.specs.Upstreams.{upstream_of, is_news, is_touched}
 use Rattle.hc_peers.specs.declared.upstream.Upstream as origin
@@ -35,14 +35,6 @@ use Rattle.hc_proxy.proofs.Stands.{Stands}
 use Rattle.hc_proxy.proofs.StepOn.{stands_of, opens_behind, opened_little}
 
 -- LISTS OF ACTS
-
-or_first : (a b : Bool) → (a || b) ≡ false → a ≡ false
-or_first true b h = h
-or_first false b h = refl
-
-or_second : (a b : Bool) → (a || b) ≡ false → b ≡ false
-or_second true b h = absurd (let never : true ≡ false = h in cc)
-or_second false b h = h
 
 pub asks_both : (x : ℕ) (xs ys : List Act) → asks_in x (xs ++ ys) ≡ (asks_in x xs || asks_in x ys)
 asks_both x [] ys = refl

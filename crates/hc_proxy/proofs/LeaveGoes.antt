@@ -6,6 +6,7 @@ use Rattle.std.specs.Prelude.{◌&&◌, nat_eq, not, option_map, if◌then◌els
 use Rattle.std.specs.List.{list_all}
 use Rattle.std.proofs.lemmas.Bool.Decides.{nat_tests}
 use Rattle.std.proofs.lemmas.List.Elements.{Contains-append_left, Contains-append_right, Contains-append_cases}
+use Rattle.hc_text.proofs.Basics.{none_some, some_inj, true_false}
 use Rattle.hc_core.specs.Steps.{faults_in, steps, bytes_received}
 use Rattle.hc_event.specs.Acts.{act_list}
 use Rattle.hc_event.specs.Filters.{closes_in}
@@ -14,7 +15,7 @@ use Rattle.hc_event.specs.declared.event.Event.TheVariants as event
 use Rattle.hc_model.specs.Exchanges.{is_open, is_wanted}
 use Rattle.hc_model.specs.Lawful.{Lawful}
 use Rattle.hc_model.specs.Tables.{after}
-use Rattle.hc_effects.proofs.PieceKeeps.{eq_cases, some_inj}
+use Rattle.hc_effects.proofs.PieceKeeps.{eq_cases}
 use Rattle.hc_peers.specs.Agreement.{is_at}
 use Rattle.hc_peers.specs.Clients.{client_of}
 use Rattle.hc_peers.specs.Clients as clients
@@ -42,12 +43,6 @@ use Rattle.hc_proxy.proofs.Holders.{leave_keeps, idle_leave_keeps}
 use Rattle.hc_proxy.proofs.QuietActs.{AreQuiet, is_quiet_entry, quiet_both}
 use Rattle.hc_proxy.proofs.RowChanges.{ChangesClient, changed_clients, reads_as, none_stays, row_was, seen_still, upstreams_with}
 use Rattle.hc_proxy.proofs.StepOn.{law_of, stands_of}
-
-none_some : {A B : Type 0} (it : B) → None ≡ Some it → A
-none_some it h = absurd (let never : None ≡ Some it = h in cc)
-
-true_false : {A : Type 0} → true ≡ false → A
-true_false h = absurd (let never : true ≡ false = h in cc)
 
 -- WHAT IS KEPT BESIDE ANY ONE is kept of all
 

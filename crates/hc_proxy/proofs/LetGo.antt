@@ -4,6 +4,7 @@
 -- let go is gone from then on.
 use Rattle.std.proofs.Common.{◌≡◌, ℕ, Bool, true, false, List, [], ◌∷◌, ◌++◌, length, Option, Some, None, refl, ap, sym, ◌∙◌}
 use Rattle.std.specs.Prelude.{nat_eq, ◌||◌, if◌then◌else◌, option_map}
+use Rattle.hc_text.proofs.Basics.{some_inj as some_is}
 use Rattle.hc_event.specs.declared.act.Act.{Act}
 use Rattle.hc_model.specs.Entries.{Entry}
 use Rattle.hc_peers.specs.Renderings.{rendering, form_behind, is_last, closes}
@@ -17,9 +18,6 @@ use Rattle.hc_proxy.specs.Steps.{with_entry}
 use Rattle.hc_proxy.specs.Turns.{so_far, happened, turned, turned_by}
 use Rattle.hc_proxy.proofs.Turning.{IsChange, IsKept, IsCarried, happened_keeps, carried_keeps, open_any}
 use Rattle.hc_proxy.proofs.Turning as kinds
-
-some_is : {A : Type 0} (a b : A) → Some a ≡ Some b → a ≡ b
-some_is a b h = cc
 
 -- it was let go before, too, and is gone if it was
 pub record WasLetGo (o : Option Client) (new : Client) : Type 0 where

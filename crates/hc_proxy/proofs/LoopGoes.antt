@@ -7,6 +7,7 @@ use Rattle.std.specs.Prelude.{◌&&◌, ◌||◌, not, nat_eq, nat_lt, find, fil
 use Rattle.std.specs.List.{list_all}
 use Rattle.std.proofs.lemmas.Bool.Decides.{nat_tests}
 use Rattle.std.proofs.lemmas.List.{length-drop}
+use Rattle.hc_text.proofs.Basics.{both_true as both_hold, or_left, or_right}
 use Rattle.hc_core.specs.Steps.{steps, faults_in}
 use Rattle.hc_io.specs.Sink.{Takes, TakesFront}
 use Rattle.hc_model.specs.Exchanges.{is_open}
@@ -199,14 +200,6 @@ shut_taken : (calls n : ℕ) (o : Option Taker) → is_taken calls n (option_map
 shut_taken calls n None = refl
 shut_taken calls n (Some c) = refl
 
-or_right : (a b : Bool) → b ≡ true → (a || b) ≡ true
-or_right true b is = refl
-or_right false b is = is
-
-or_left : (a b : Bool) → a ≡ true → (a || b) ≡ true
-or_left true b is = refl
-or_left false b is = absurd (let never : false ≡ true = is in cc)
-
 not_less : (m n : ℕ) → n ≤ m → not (nat_lt m n) ≡ true
 not_less m n le = grind (arith, nat_tests)
 
@@ -224,10 +217,6 @@ owed_resting log k w row is = by_lack is.lacks
     by_lack : (w.unsent ≡ []) ⊎ (is_short log k ≡ true) → (length row.owed ≤ length (sent_in log.takers k)) ⊎ (is_short log k ≡ true)
     by_lack (inl none) = inl (none_left (length (sent_in log.takers k)) row.owed w.unsent is.is_client.within is.is_client.unsent none)
     by_lack (inr short) = inr short
-
-both_hold : (a b : Bool) → a ≡ true → b ≡ true → (a && b) ≡ true
-both_hold true b x y = y
-both_hold false b x y = x
 
 each_holds : (test : ℕ → Bool) (ks : List ℕ) → ((k : ℕ) → test k ≡ true) → list_all test ks ≡ true
 each_holds test [] each = refl

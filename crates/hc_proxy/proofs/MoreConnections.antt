@@ -6,14 +6,9 @@
 use Rattle.std.proofs.Common.{◌≡◌, ◌⊎◌, inl, inr, ℕ, zero, suc, ◌+◌, ◌-◌, List, [], ◌∷◌, ◌++◌, length, drop, Bool, true, false, Some, None, refl, ap, sym, ◌∙◌, subst, arith}
 use Rattle.std.specs.Prelude.{nat_eq, if◌then◌else◌}
 use Rattle.std.proofs.lemmas.Bool.Decides.{nat_tests}
+use Rattle.hc_text.proofs.Basics.{eq_itself as same_number, some_same}
 use Rattle.hc_proxy.specs.Connections.{place_from, exchange_of, first_of, connection_of}
 use Rattle.hc_proxy.specs.Invariants.{NamesOne}
-
-same_number : (n : ℕ) → nat_eq n n ≡ true
-same_number n = grind (arith, nat_tests)
-
-some_same : (k j : ℕ) → Some k ≡ Some j → k ≡ j
-some_same k j h = cc
 
 none_some : {A : Type 0} (k : ℕ) → None ≡ Some k → A
 none_some k h = absurd (let never : None ≡ Some k = h in cc)

@@ -11,6 +11,7 @@ use Rattle.std.proofs.Math.Logic.{∥∥₁_elim, ∥∥₁_map}
 use Rattle.std.proofs.Math.Seq.{drop-cons}
 use Rattle.std.proofs.lemmas.Bool.Decides.{nat_tests}
 use Rattle.std.proofs.lemmas.List.{take_more, take_all, drop_all, take-append-drop}
+use Rattle.hc_text.proofs.Basics.{eq_itself as same_number, true_false}
 use Rattle.hc_core.specs.Steps.{faults_in, steps}
 use Rattle.hc_peers.specs.Upstreams.{is_news, news_of}
 use Rattle.hc_store.specs.declared.backend.Backend.{Ghosts}
@@ -22,12 +23,6 @@ use Rattle.hc_proxy.specs.Rows.{Proxy}
 use Rattle.hc_proxy.proofs.HeardAll.{HearsTo, hears_begin, hears_next, hears_may, hears_count, hears_end, news_among}
 use Rattle.hc_proxy.proofs.Marked.{sorted_ascends}
 use Rattle.hc_proxy.proofs.SkippedSteps.{among, Ascends, not_below}
-
-true_false : {A : Type 0} → true ≡ false → A
-true_false h = absurd (let never : true ≡ false = h in cc)
-
-same_number : (n : ℕ) → nat_eq n n ≡ true
-same_number n = grind (arith, nat_tests)
 
 -- THE LIST AT AN INDEX
 

@@ -1,6 +1,7 @@
 -- What stands next where a head is still read: no body and no end. So whoever reads behind a head was told that.
 use Rattle.std.proofs.Common.{◌≡◌, ℕ, ◌++◌, List, [], ◌∷◌, length, Bool, true, false, refl, sym, ◌∙◌, subst}
 use Rattle.std.specs.Prelude.{nat_lt, not, if◌then◌else◌}
+use Rattle.hc_text.proofs.Basics.{true_false}
 use Rattle.hc_head.specs.Decoding.{asked_in, heard_in}
 use Rattle.hc_head.specs.Requests.{Asked, Grants, Denies}
 use Rattle.hc_head.specs.Responses.{Heard, Skips, Shows, Refuses}
@@ -52,9 +53,6 @@ byte_off kind scan text b = by_length (nat_lt (length text) 32768)
 told_off : (tokens : List Token) (s : Reading) (rest : List ℕ) (go_on : Reading → Next) → (tokens ≡ [] → IsUnbegun (go_on s)) → IsUnbegun (told_or tokens s rest go_on)
 told_off [] s rest go_on h = h refl
 told_off (token ∷ more) s rest go_on h = tt
-
-true_false : {A : Type 0} → true ≡ false → A
-true_false h = absurd (let never : true ≡ false = h in cc)
 
 pub unbegun : (most : ℕ) (s : Reading) (input : List ℕ) → is_begun s ≡ false → IsUnbegun (next_in most s input)
 unfolding next_in

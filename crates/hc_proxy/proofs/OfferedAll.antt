@@ -10,6 +10,7 @@ use Rattle.std.specs.Ordering.{is_eq, nat_cmp}
 use Rattle.std.specs.declared.cmp.Ordering.TheVariants.{Less, Equal, Greater}
 use Rattle.std.proofs.lemmas.Bool.Decides.{nat_tests}
 use Rattle.std.proofs.lemmas.List.{nil_from_length}
+use Rattle.hc_text.proofs.Basics.{eq_itself as same_number}
 use Rattle.hc_model.specs.Exchanges.{is_wanted}
 use Rattle.hc_wire.specs.Events.{Stage}
 use Rattle.hc_wire.specs.Logs.{Log}
@@ -32,9 +33,6 @@ use Rattle.hc_proxy.proofs.OfferedClients.{client_goes, client_fails}
 use Rattle.hc_proxy.proofs.OfferedOrigins.{origin_goes, origin_fails}
 
 -- WHO IS LEFT
-
-same_number : (n : ℕ) → nat_eq n n ≡ true
-same_number n = grind (arith, nat_tests)
 
 other_number : (k x : ℕ) → nat_eq k x ≡ false → is_at (nat_cmp k) x ≡ false
 other_number k x off = by_less (nat_lt k x)

@@ -7,6 +7,7 @@ use Rattle.std.specs.Prelude.{nat_eq, nat_lt, ◌&&◌, ◌==◌, find, IsSome}
 use Rattle.std.proofs.lemmas.Bool.Decides.{nat_tests}
 use Rattle.std.proofs.lemmas.List.{length-take-le, drop_all}
 use Rattle.std.proofs.Math.Seq.{drop-nil}
+use Rattle.hc_text.proofs.Basics.{eq_itself as same_number, some_inj as some_is}
 use Rattle.hc_wire.specs.Events.{Stage, Open, Closed, with_stage, closed_of, reading_of, IsOpen}
 use Rattle.hc_wire.specs.Logs.{Log, Taker, is_numbered, is_at_end, stage_from, sent_from, stage_in, sent_in, with_sent, with_reading, with_closed}
 use Rattle.hc_peers.specs.Clients.{client_of, Becomes}
@@ -28,14 +29,8 @@ use Rattle.hc_proxy.specs.Unsent.{taken_in, IsKnownAt, HasConnections, IsSentAt,
 use Rattle.hc_proxy.proofs.Followed.{told_on, follows_sent, follows_closed, follows_reading}
 use Rattle.hc_proxy.proofs.Taken.{MovesAt, client_front, moves_sent, moves_closed, moves_reading, none_front, some_sent}
 
-same_number : (n : ℕ) → nat_eq n n ≡ true
-same_number n = grind (arith, nat_tests)
-
 none_some : {A : Type 0} {X : Type 0} (v : A) → None ≡ Some v → X
 none_some v is = absurd (let never : None ≡ Some v = is in cc)
-
-some_is : {A : Type 0} (a b : A) → Some a ≡ Some b → a ≡ b
-some_is a b h = cc
 
 -- NUMBERS
 

@@ -7,6 +7,7 @@ use Rattle.std.specs.Prelude.{nat_eq, nat_lt, ◌&&◌, ◌==◌, not, IsSome}
 use Rattle.std.proofs.lemmas.Bool.Decides.{nat_tests}
 use Rattle.std.proofs.lemmas.List.{length-take-le, drop_all, nil_from_length}
 use Rattle.std.proofs.Math.Seq.{drop-nil}
+use Rattle.hc_text.proofs.Basics.{eq_itself as same_number, some_inj as some_is}
 use Rattle.hc_model.specs.Exchanges.{is_open, is_wanted}
 use Rattle.hc_wire.specs.Events.{Stage, Open, with_stage, reading_of, IsOpen}
 use Rattle.hc_wire.specs.Logs.{Log, stage_in, sent_in, with_sent, with_reading}
@@ -31,14 +32,8 @@ use Rattle.hc_proxy.proofs.Followed.{told_on, follows_sent, follows_reading}
 use Rattle.hc_proxy.proofs.Taken.{MovesAt, origin_front, moves_sent, moves_reading, none_front, some_sent}
 use Rattle.hc_proxy.proofs.OfferedClients.{drop_more, same_is, was_same, known_same, sent_same, upstream_same, taken_off, stage_off, short_off}
 
-same_number : (n : ℕ) → nat_eq n n ≡ true
-same_number n = grind (arith, nat_tests)
-
 none_some : {A : Type 0} {X : Type 0} (v : A) → None ≡ Some v → X
 none_some v is = absurd (let never : None ≡ Some v = is in cc)
-
-some_is : {A : Type 0} (a b : A) → Some a ≡ Some b → a ≡ b
-some_is a b h = cc
 
 -- nobody is known of whom the tables tell nothing
 known_none : (log log' : Log) (j : ℕ) (o : Option peer.Client) → IsKnownAt log j o None → IsKnownAt log' j o None

@@ -5,6 +5,7 @@
 use Rattle.std.proofs.Common.{◌≡◌, ◌⊎◌, inl, inr, ℕ, Bool, true, false, Option, Some, None, refl, ap, sym, ◌∙◌, subst, arith}
 use Rattle.std.specs.Prelude.{◌&&◌, ◌||◌, not, is_none, nat_eq, if◌then◌else◌}
 use Rattle.std.proofs.lemmas.Bool.Decides.{nat_tests}
+use Rattle.hc_text.proofs.Basics.{and_left as and_first, and_right as and_second, eq_tells as same_number}
 use Rattle.hc_event.specs.Filters.{Opening, opening_in, asks_in, closes_in, is_denied}
 use Rattle.hc_event.specs.declared.event.Event.{Event}
 use Rattle.hc_event.specs.declared.event.Event.TheVariants as event
@@ -31,9 +32,6 @@ pub record OpensIt (x : ℕ) (o : Option Opening) : Type 0 where
   pub opens : o ≡ Some q
   pub number : q.x ≡ x
 
-same_number : (m n : ℕ) → nat_eq m n ≡ true → m ≡ n
-same_number m n h = grind (arith, nat_tests)
-
 made_open : (t : Tables) (e : Entry) (x : ℕ) (o : Option Opening) → is_open (exchange_made t e x o) ≡ true → OpensIt x o
 made_open t e x None h = absurd (let never : false ≡ true = h in cc)
 made_open t e x (Some o) h = by_test (nat_eq o.x x) refl h
@@ -43,14 +41,6 @@ made_open t e x (Some o) h = by_test (nat_eq o.x x) refl h
     by_test false is g = absurd (let never : false ≡ true = g in cc)
 
 -- AN OPEN ROW BEHIND AN ENTRY
-
-and_second : (a b : Bool) → (a && b) ≡ true → b ≡ true
-and_second true b h = h
-and_second false b h = absurd (let never : false ≡ true = h in cc)
-
-and_first : (a b : Bool) → (a && b) ≡ true → a ≡ true
-and_first true b h = refl
-and_first false b h = absurd (let never : false ≡ true = h in cc)
 
 if_open : (b : Bool) (u w : Exchange) → (if b then u else w).is_open ≡ true → (u.is_open ≡ true → w.is_open ≡ true) → w.is_open ≡ true
 if_open true u w h f = f h

@@ -5,9 +5,10 @@
 use Rattle.std.proofs.Common.{◌≡◌, ◌⊎◌, inl, inr, ◌≤◌, ◌<◌, ℕ, ◌+◌, length, true, false, Option, Some, None, refl, ap, sym, ◌∙◌, subst, arith}
 use Rattle.std.specs.Prelude.{nat_eq, option_map, IsSome, Contains}
 use Rattle.std.proofs.lemmas.Bool.Decides.{nat_tests}
+use Rattle.hc_text.proofs.Basics.{none_some, eq_itself as same_number, some_inj}
 use Rattle.hc_core.specs.Steps.{bytes_received}
 use Rattle.hc_model.specs.Exchanges.{is_open, is_wanted}
-use Rattle.hc_effects.proofs.PieceKeeps.{eq_cases, some_inj}
+use Rattle.hc_effects.proofs.PieceKeeps.{eq_cases}
 use Rattle.hc_peers.specs.Clients.{client_of}
 use Rattle.hc_peers.specs.Upstreams.{upstream_of, is_news, is_touched, Becomes}
 use Rattle.hc_peers.specs.declared.upstream.Upstream as origin
@@ -22,12 +23,6 @@ use Rattle.hc_proxy.specs.Invariants.{IsHolder, is_due_by, unread}
 use Rattle.hc_proxy.specs.Keeping.{Turn, HasCache, HasUpstreamsBut, IsUpstream, IsUpstreamAt, AtWire, KeepsBut}
 use Rattle.hc_proxy.specs.Rows.{Upstream, Proxy, with_upstream}
 use Rattle.hc_proxy.proofs.Alike.{cache_moves, cache_rows}
-
-none_some : {A B : Type 0} (it : B) → None ≡ Some it → A
-none_some it h = absurd (let never : None ≡ Some it = h in cc)
-
-same_number : (n : ℕ) → nat_eq n n ≡ true
-same_number n = grind (arith, nat_tests)
 
 -- a row that is kept has one in the definitions
 pub record HasRow (taken : ℕ → ℕ) (u : origin.Upstream) (o : Option Upstream) : Type 0 where

@@ -7,6 +7,7 @@
 use Rattle.std.proofs.Common.{◌≡◌, ◌⊎◌, inl, inr, ◌<◌, ℕ, suc, List, [], ◌∷◌, ◌++◌, Bool, true, false, Option, Some, None, refl, ap, sym, ◌∙◌, subst, arith, length, append_assoc, append-nil}
 use Rattle.std.specs.Prelude.{nat_eq, filter, if◌then◌else◌}
 use Rattle.std.proofs.lemmas.Bool.Decides.{nat_tests}
+use Rattle.hc_text.proofs.Basics.{eq_itself as itself}
 use Rattle.hc_event.specs.declared.act.Act.{Act}
 use Rattle.hc_event.specs.declared.act.Act.TheVariants as act
 use Rattle.hc_event.specs.declared.event.Event.TheVariants as event
@@ -110,9 +111,6 @@ answer_alone c (a ∷ acts) h = answer_alone c acts (alone a ∷ h) ∙ by_test 
 
 pub to_other : (c : ℕ) (a : Act) (h : History) → is_answer_to c a ≡ false → answer_to c (alone a ∷ h) ≡ answer_to c h
 to_other c a h off = ap (λ (b : Bool). answer_to c h ++ (if b then a ∷ [] else [])) off ∙ append-nil (answer_to c h)
-
-itself : (n : ℕ) → nat_eq n n ≡ true
-itself n = grind (arith, nat_tests)
 
 pub to_it : (c : ℕ) (a : Act) (h : History) → addressee a ≡ Some c → answer_to c (alone a ∷ h) ≡ answer_to c h ++ a ∷ []
 to_it c a h to = ap (λ (b : Bool). answer_to c h ++ (if b then a ∷ [] else [])) (answers_whom c a ∙ (ap (is_number c) to ∙ itself c))

@@ -6,6 +6,7 @@
 use Rattle.std.proofs.Common.{◌≡◌, ◌⊎◌, inl, inr, ℕ, ◌+◌, List, [], ◌∷◌, ◌++◌, Bool, true, false, Option, Some, None, refl, ap, sym, ◌∙◌, subst, arith}
 use Rattle.std.specs.Prelude.{nat_eq}
 use Rattle.std.proofs.lemmas.Bool.Decides.{nat_tests}
+use Rattle.hc_text.proofs.Basics.{false_true, eq_itself as itself, or_left, or_right}
 use Rattle.hc_event.specs.Filters.{Opening, opening_in, closes_in, is_denied}
 use Rattle.hc_event.specs.declared.act.Act.{Act}
 use Rattle.hc_event.specs.declared.act.Act.TheVariants as act
@@ -20,7 +21,6 @@ use Rattle.hc_model.specs.Rows.{Tables}
 use Rattle.hc_model.specs.Runs.{IsOwed}
 use Rattle.hc_model.specs.Tables.{after}
 use Rattle.hc_model.specs.WithinLimits.{RequestsAreForTargets}
-use Rattle.hc_effects.proofs.Basics.{or_left, or_right}
 use Rattle.hc_effects.proofs.Owed.{acts_are, is_denial, IsDenied, denied, denied_opens}
 use Rattle.hc_proxy.specs.Invariants.{ArePlain, OpensUp}
 use Rattle.hc_proxy.specs.Rows.{Proxy}
@@ -95,9 +95,6 @@ both_plain t u (act.Evicted r ∷ xs) ys stays a b = both_plain t u xs ys stays 
 
 -- quiet acts open nothing
 
-false_true : {A : Type 0} → false ≡ true → A
-false_true h = absurd (let never : false ≡ true = h in cc)
-
 pub quiet_plain : (acts : List Act) (t : Tables) → AreQuiet acts → ArePlain acts t
 quiet_plain [] t h = tt
 quiet_plain (act.Denied refusal ∷ acts) t h = quiet_plain acts t h
@@ -127,9 +124,6 @@ quiet_up (act.Lost r kind ∷ acts) n m h up = quiet_up acts n m h up
 quiet_up (act.Evicted r ∷ acts) n m h up = quiet_up acts n m h up
 
 -- AN ENTRY
-
-itself : (n : ℕ) → nat_eq n n ≡ true
-itself n = grind (arith, nat_tests)
 
 denied_once : (acts : List Act) → IsDenied acts → OpenOnce acts
 denied_once _ (denied refusal) = tt

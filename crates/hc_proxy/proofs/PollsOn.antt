@@ -12,6 +12,7 @@ use Rattle.std.specs.Ordering.{nat_cmp}
 use Rattle.std.proofs.Math.Bridge.{le_prop}
 use Rattle.std.proofs.Math.Logic.{∥∥₁_elim}
 use Rattle.std.proofs.lemmas.List.Kept.{IsStrictlySortedBy-filter}
+use Rattle.hc_text.proofs.Basics.{filter_short}
 use Rattle.hc_core.specs.Steps.{faults_in, steps}
 use Rattle.hc_event.specs.declared.event.Event.{Event}
 use Rattle.hc_event.specs.declared.event.Event.TheVariants as event
@@ -70,15 +71,6 @@ module _ (limits : Limits) (call : Called) where
   may_alike : (p q : Proxy) → q.client ≡ p.client → (o : Option ℕ) → may_be_polled call q o ≡ may_be_polled call p o
   may_alike p q same None = refl
   may_alike p q same (Some k) = ap (λ (f : ℕ → Option Client). takes_more call k (f k)) same
-
--- a part is no longer
-filter_short : (test : ℕ → Bool) (xs : List ℕ) → length (filter test xs) ≤ length xs
-filter_short test [] = omega arith
-filter_short test (x ∷ xs) = by_test (test x) (filter_short test xs)
-  where
-    by_test : (b : Bool) → length (filter test xs) ≤ length xs → length (if b then x ∷ filter test xs else filter test xs) ≤ length (x ∷ xs)
-    by_test true le = omega arith
-    by_test false le = omega arith
 
 -- it moved before, or doesn't wait
 moved_more : (a w : Bool) → (not a || not w) ≡ not (w && a)

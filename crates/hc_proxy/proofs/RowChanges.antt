@@ -5,6 +5,7 @@
 use Rattle.std.proofs.Common.{◌≡◌, ◌⊎◌, inl, inr, ◌≤◌, ℕ, List, [], ◌∷◌, length, Bool, true, false, Option, Some, None, refl, ap, sym, ◌∙◌, subst, arith}
 use Rattle.std.specs.Prelude.{nat_eq, filter, option_map, if◌then◌else◌, IsSome, Contains}
 use Rattle.std.proofs.lemmas.Bool.Decides.{nat_tests}
+use Rattle.hc_text.proofs.Basics.{none_some, eq_itself as same_number}
 use Rattle.hc_effects.proofs.PieceKeeps.{eq_cases}
 use Rattle.hc_peers.specs.Clients.{client_of}
 use Rattle.hc_peers.specs.Clients as clients
@@ -20,12 +21,6 @@ use Rattle.hc_proxy.specs.Connections.{exchange_of, taken_at}
 use Rattle.hc_proxy.specs.Handling.{is_client, clients_here}
 use Rattle.hc_proxy.specs.Keeping.{Turn, HasClients, HasUpstreams, IsClientAt, AtWire}
 use Rattle.hc_proxy.specs.Rows.{Client, Proxy, with_client}
-
-none_some : {A B : Type 0} (it : B) → None ≡ Some it → A
-none_some it h = absurd (let never : None ≡ Some it = h in cc)
-
-same_number : (n : ℕ) → nat_eq n n ≡ true
-same_number n = grind (arith, nat_tests)
 
 -- no more pass a test that passes less
 pub fewer : (f h : ℕ → Bool) (xs : List ℕ) → ((n : ℕ) → h n ≡ true → f n ≡ true) → length (filter h xs) ≤ length (filter f xs)

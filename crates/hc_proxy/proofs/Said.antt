@@ -8,6 +8,7 @@ use Rattle.std.specs.Prelude.{◌&&◌, ◌||◌, nat_lt, not, length, take, map
 use Rattle.std.specs.List.{list_all}
 use Rattle.std.proofs.lemmas.Bool.Decides.{nat_tests}
 use Rattle.std.proofs.lemmas.List.{take_all, map-append, reverse-append}
+use Rattle.hc_text.proofs.Basics.{and_left, and_right, both_false as both_off, not_true as not_false}
 use Rattle.hc_event.specs.declared.act.Act.{Act}
 use Rattle.hc_event.specs.declared.act.Act.TheVariants as act
 use Rattle.hc_rules.specs.declared.room.Limits.{Limits}
@@ -15,7 +16,6 @@ use Rattle.hc_model.specs.Entries.{History, no_contents}
 use Rattle.hc_model.specs.Rows.{Tables}
 use Rattle.hc_model.specs.Runs.{IsRun}
 use Rattle.hc_model.specs.Tables.{tables, after}
-use Rattle.hc_effects.proofs.Basics.{and_left, and_right}
 use Rattle.hc_wire.specs.declared.connection.Standing.{Standing}
 use Rattle.hc_wire.specs.Logs.{Called, Log, Taker, is_at_end, is_numbered}
 use Rattle.hc_proxy.specs.Connections.{connection_of, has_unsent, stands}
@@ -52,14 +52,6 @@ or_first false b is off = absurd (let never : false ≡ true = sym off ∙ is in
 or_second : (a b : Bool) → (a || b) ≡ true → a ≡ false → b ≡ true
 or_second true b is off = absurd (let never : true ≡ false = off in cc)
 or_second false b is off = is
-
-both_off : (a b : Bool) → a ≡ false → b ≡ false → (a || b) ≡ false
-both_off true b first second = first
-both_off false b first second = second
-
-not_false : (b : Bool) → not b ≡ true → b ≡ false
-not_false false is = refl
-not_false true is = absurd (let never : false ≡ true = is in cc)
 
 is_less : (m n : ℕ) → m < n → not (nat_lt m n) ≡ false
 is_less m n lt = let on : nat_lt m n ≡ true = grind (arith, nat_tests) in ap not on

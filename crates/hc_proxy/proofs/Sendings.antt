@@ -8,6 +8,7 @@ use Rattle.std.proofs.Common.{◌≡◌, inl, inr, ℕ, ◌≤◌, List, [], ◌
 use Rattle.std.specs.Prelude.{nat_eq, not, ◌||◌, filter, option_map, IsSome, if◌then◌else◌}
 use Rattle.std.proofs.lemmas.Bool.Decides.{nat_tests}
 use Rattle.std.proofs.lemmas.List.{drop-append-le}
+use Rattle.hc_text.proofs.Basics.{filter_same, eq_itself as same_number, some_inj as some_is}
 use Rattle.hc_event.specs.declared.act.Act.{Act}
 use Rattle.hc_store.specs.declared.backend.Backend.{Ghosts}
 use Rattle.hc_wire.specs.Events.{Open}
@@ -25,18 +26,8 @@ use Rattle.hc_proxy.specs.Invariants.{IsHolder}
 use Rattle.hc_proxy.specs.Keeping.{Turn, HasClients, HasUpstreams, AtWire, AreSeen, IsClient, IsClientAt}
 use Rattle.hc_proxy.specs.Rows.{Client, Proxy, with_client}
 
-some_is : {A : Type 0} (a b : A) → Some a ≡ Some b → a ≡ b
-some_is a b h = cc
-
 pub both : {A C D : Type 0} (f : A → C → D) {a a' : A} {b b' : C} → a ≡ a' → b ≡ b' → f a b ≡ f a' b'
 both f {a} {a'} {b} {b'} one two = ap (λ x. f x b) one ∙ ap (λ y. f a' y) two
-
-same_number : (n : ℕ) → nat_eq n n ≡ true
-same_number n = grind (arith, nat_tests)
-
-filter_same : (f g : ℕ → Bool) → ((n : ℕ) → f n ≡ g n) → (ns : List ℕ) → filter f ns ≡ filter g ns
-filter_same f g same [] = refl
-filter_same f g same (n ∷ ns) = rw (same n, filter_same f g same ns) refl
 
 -- ONE ACT
 

@@ -9,6 +9,7 @@ use Rattle.std.specs.List.{list_all}
 use Rattle.std.proofs.lemmas.Bool.Decides.{nat_tests}
 use Rattle.std.proofs.lemmas.List.{take-append-le, length-take}
 use Rattle.std.proofs.lemmas.Slice.Eq.{bytes_eq-Decides}
+use Rattle.hc_text.proofs.Basics.{all_three, both_of, some_inj as some_is}
 use Rattle.hc_rules.specs.declared.room.Limits.{Limits}
 use Rattle.hc_wire.specs.Logs.{Log, Taker, Called, is_numbered, sent_in, sent_from, with_call}
 use Rattle.hc_wire.specs.declared.event.WireEvent.{WireEvent}
@@ -32,9 +33,6 @@ use Rattle.hc_proxy.proofs.NetworkKeeps.{same_clients}
 use Rattle.hc_proxy.proofs.Openings.{StandsKnown, origin_grows}
 use Rattle.hc_proxy.proofs.TakersStand.{all_found, found_number, sent_found, taken_within, taken_missing}
 use Rattle.hc_proxy.proofs.TurnBegins.{called, sent_by_call}
-
-some_is : {A : Type 0} (a b : A) → Some a ≡ Some b → a ≡ b
-some_is a b h = cc
 
 -- FRONTS
 
@@ -66,17 +64,6 @@ origin_still sent (Some v) o' stays is =
     ap (upstream_was_sent sent) w.1 ∙ (ap (is_front sent) w.2 ∙ is)
 
 -- ONE CLIENT
-
-all_three : (a b d : Bool) → a ≡ true → b ≡ true → d ≡ true → (a && b && d) ≡ true
-all_three true true d x y z = z
-all_three true false d x y z = absurd (let never : false ≡ true = y in cc)
-all_three false b d x y z = absurd (let never : false ≡ true = x in cc)
-
-both_of : (a b d : Bool) → (a && b && d) ≡ true → (a ≡ true) × (b ≡ true) × (d ≡ true)
-both_of true true true h = (refl, refl, refl)
-both_of true true false h = absurd (let never : false ≡ true = h in cc)
-both_of true false d h = absurd (let never : false ≡ true = h in cc)
-both_of false b d h = absurd (let never : false ≡ true = h in cc)
 
 -- who was let go has taken all
 gone_all : (go : Bool) (m n : ℕ) → (go ≡ true → m ≡ n) → (not go || nat_eq m n) ≡ true

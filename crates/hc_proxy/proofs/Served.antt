@@ -4,6 +4,7 @@
 -- consumer alone, and each is polled once. So no act of a turn goes to a client that was told something by an act before it.
 use Rattle.std.proofs.Common.{◌≡◌, ◌⊎◌, inl, inr, ℕ, List, [], ◌∷◌, Bool, true, false, Option, Some, None, refl, ap, sym, ◌∙◌, subst, arith}
 use Rattle.std.specs.Prelude.{◌&&◌, not, nat_lt, length, if◌then◌else◌}
+use Rattle.hc_text.proofs.Basics.{some_inj as some_is}
 use Rattle.hc_event.specs.declared.act.Act.{Act}
 use Rattle.hc_event.specs.declared.act.Act.TheVariants as act
 use Rattle.hc_event.specs.declared.event.Event.TheVariants as event
@@ -23,9 +24,6 @@ use Rattle.hc_proxy.proofs.QuietActs.{AreQuiet}
 use Rattle.hc_proxy.proofs.ServedActs.{IsTold, TellsUp, are_served}
 use Rattle.hc_proxy.proofs.SkippedSteps.{among}
 use Rattle.hc_proxy.proofs.Stands.{Stands, owed_here}
-
-some_is : {A : Type 0} (a b : A) → Some a ≡ Some b → a ≡ b
-some_is a b h = cc
 
 -- QUIET ACTS ARE SENT TO NOBODY
 

@@ -5,15 +5,13 @@
 use Rattle.std.proofs.Common.{◌≡◌, ◌⊎◌, inl, inr, ◌≤◌, ℕ, ◌+◌, List, [], ◌∷◌, Bool, true, false, Option, Some, None, refl, ap, sym, ◌∙◌, subst, arith}
 use Rattle.std.specs.Prelude.{nat_eq}
 use Rattle.std.proofs.lemmas.Bool.Decides.{nat_tests}
+use Rattle.hc_text.proofs.Basics.{some_inj as some_is}
 use Rattle.hc_event.specs.declared.act.Act.{Act}
 use Rattle.hc_event.specs.declared.act.Act.TheVariants as act
 use Rattle.hc_wire.specs.Logs.{Called}
 use Rattle.hc_proxy.specs.Carrying.{answered, answers, carried_out}
 use Rattle.hc_proxy.specs.Invariants.{IsHolder, IsServed, AreServed, addressee}
 use Rattle.hc_proxy.specs.Rows.{Client, Proxy, with_client}
-
-some_is : {A : Type 0} (a b : A) → Some a ≡ Some b → a ≡ b
-some_is a b h = cc
 
 -- this consumer is sent something by one of the acts
 abbrev pub IsTold : ℕ → List Act → Type 0

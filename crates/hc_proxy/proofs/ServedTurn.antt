@@ -7,6 +7,7 @@
 use Rattle.std.proofs.Common.{◌≡◌, inl, inr, ◌≤◌, ◌<◌, ℕ, ◌+◌, List, [], ◌∷◌, ◌++◌, Bool, true, false, Option, Some, None, refl, ap, sym, ◌∙◌, subst, arith}
 use Rattle.std.specs.Prelude.{◌&&◌, not, nat_eq, nat_lt, is_none, length, filter, option_map, Contains, IsSome, if◌then◌else◌}
 use Rattle.std.proofs.lemmas.Bool.Decides.{nat_tests}
+use Rattle.hc_text.proofs.Basics.{some_inj as some_is}
 use Rattle.hc_event.specs.Filters.{is_denied}
 use Rattle.hc_event.specs.declared.event.Event.{Event}
 use Rattle.hc_event.specs.declared.event.Event.TheVariants as event
@@ -51,9 +52,6 @@ use Rattle.hc_proxy.proofs.SkippedSteps.{among}
 use Rattle.hc_proxy.proofs.Stands.{Stands, law_of, owed_here, goes_on}
 use Rattle.hc_proxy.proofs.StepOn.{start_by}
 use Rattle.hc_proxy.proofs.Turning.{with_new}
-
-some_is : {A : Type 0} (a b : A) → Some a ≡ Some b → a ≡ b
-some_is a b h = cc
 
 -- WHAT IS KEPT
 

@@ -6,6 +6,7 @@
 use Rattle.std.proofs.Common.{◌≡◌, ◌⊎◌, inl, inr, ℕ, Bool, true, false, Option, Some, None, refl, sym, ◌∙◌, subst, arith}
 use Rattle.std.specs.Prelude.{◌&&◌, nat_eq, not, IsSome, Contains}
 use Rattle.std.proofs.lemmas.Bool.Decides.{nat_tests}
+use Rattle.hc_text.proofs.Basics.{eq_itself as same_number, true_false}
 use Rattle.hc_model.specs.Exchanges.{is_open, is_wanted}
 use Rattle.hc_peers.specs.Clients.{client_of}
 use Rattle.hc_peers.specs.Upstreams.{upstream_of, is_news, is_touched, has_news_at, Stays, Marks}
@@ -24,12 +25,6 @@ use Rattle.hc_proxy.specs.Rows.{Upstream, Proxy}
 use Rattle.hc_proxy.proofs.Alike.{cache_moves, clients_move}
 use Rattle.hc_proxy.proofs.DoneFor.{done_all}
 use Rattle.hc_proxy.proofs.HandedOn.{wants_not}
-
-true_false : {A : Type 0} → true ≡ false → A
-true_false h = absurd (let never : true ≡ false = h in cc)
-
-same_number : (n : ℕ) → nat_eq n n ≡ true
-same_number n = grind (arith, nat_tests)
 
 module _ {B : Type 0} {g : Ghosts B} where
   -- OTHER LISTS

@@ -10,6 +10,7 @@ use Rattle.std.specs.List.{list_all}
 use Rattle.std.proofs.Math.Path.{fun_ext}
 use Rattle.std.proofs.lemmas.Bool.Decides.{nat_tests}
 use Rattle.std.proofs.lemmas.List.{length-append, drop-append-le}
+use Rattle.hc_text.proofs.Basics.{none_some, not_true as not_so, eq_itself as same_number}
 use Rattle.hc_core.specs.Steps.{faults_in, steps}
 use Rattle.hc_event.specs.declared.event.Event.TheVariants as event
 use Rattle.hc_event.specs.declared.event.Request.{Request}
@@ -52,12 +53,6 @@ use Rattle.hc_proxy.proofs.Rows.{readies}
 use Rattle.hc_proxy.proofs.SkippedSteps.{among}
 use Rattle.hc_proxy.proofs.StepOn.{law_of, stands_of}
 
-none_some : {A B : Type 0} (it : B) → None ≡ Some it → A
-none_some it h = absurd (let never : None ≡ Some it = h in cc)
-
-same_number : (n : ℕ) → nat_eq n n ≡ true
-same_number n = grind (arith, nat_tests)
-
 -- ONE THAT IS READY
 
 ready_parts : (a b d e : Bool) → (a && b && d && e) ≡ true → (b ≡ true) × (e ≡ true)
@@ -67,10 +62,6 @@ ready_parts _ _ _ _ h = absurd (let never : false ≡ true = h in cc)
 none_of : (o : Option ℕ) → is_none o ≡ true → o ≡ None
 none_of None h = refl
 none_of (Some c) h = absurd (let never : false ≡ true = h in cc)
-
-not_so : (b : Bool) → not b ≡ true → b ≡ false
-not_so true h = absurd (let never : false ≡ true = h in cc)
-not_so false h = refl
 
 -- TWO CHANGES of one row are one
 

@@ -11,6 +11,7 @@ use Rattle.std.proofs.Math.Seq.{take-append-add, drop-nil}
 use Rattle.std.proofs.lemmas.Bool.{cases_Bool}
 use Rattle.std.proofs.lemmas.Bool.Decides.{nat_tests}
 use Rattle.std.proofs.lemmas.List.{take-append-drop, length-take, take_min, append-nil}
+use Rattle.hc_text.proofs.Basics.{all_three, and_left as and_first, and_right as and_second, eq_itself as same_number, both_of as three}
 use Rattle.hc_rules.proofs.RangeReads.{bytes_eq-same, same_bytes}
 use Rattle.hc_wire.specs.Events.{Stage, Unseen, Open, Closed, reading_of}
 use Rattle.hc_wire.specs.Logs.{Log, Taker, is_numbered, is_at_end, stage_of, stage_from, sent_from, stage_in, sent_in, changed_at, taking, reading, shut, with_sent, with_reading, with_closed}
@@ -24,19 +25,7 @@ use Rattle.hc_proxy.specs.TurnSteps.{SentSome}
 use Rattle.hc_proxy.specs.Unsent.{Sends}
 use Rattle.hc_proxy.proofs.Followed.{KeepsNumber, found, told_on}
 
-same_number : (n : ℕ) → nat_eq n n ≡ true
-same_number n = grind (arith, nat_tests)
-
 -- FIRST PARTS
-
-three : (a b d : Bool) → (a && b && d) ≡ true → (a ≡ true) × (b ≡ true) × (d ≡ true)
-three true true true is = (refl, refl, refl)
-three true true false is = absurd (let never : false ≡ true = is in cc)
-three true false d is = absurd (let never : false ≡ true = is in cc)
-three false b d is = absurd (let never : false ≡ true = is in cc)
-
-all_three : (a b d : Bool) → a ≡ true → b ≡ true → d ≡ true → (a && b && d) ≡ true
-all_three a b d one two three = rw (one, two, three) refl
 
 -- what comes next is taken
 front_more : (sent owed unsent : List ℕ) (n : ℕ) → unsent ≡ drop (length sent) owed → is_front sent owed ≡ true → is_front (sent ++ take n unsent) owed ≡ true
@@ -89,14 +78,6 @@ found_number k (c ∷ cs) d is = elim (cases_Bool (eqb c.k k)) [
   where
     some_is : (a b : Taker) → Some a ≡ Some b → a ≡ b
     some_is a b h = cc
-
-and_first : (a b : Bool) → (a && b) ≡ true → a ≡ true
-and_first true b is = refl
-and_first false b is = absurd (let never : false ≡ true = is in cc)
-
-and_second : (a b : Bool) → (a && b) ≡ true → b ≡ true
-and_second true b is = is
-and_second false b is = absurd (let never : false ≡ true = is in cc)
 
 -- all still pass a test, where the one that changes does
 pub all_changed : (k : ℕ) (change : Taker → Taker) (test : Taker → Bool) (cs : List Taker)

@@ -9,6 +9,7 @@ use Rattle.std.specs.Prelude.{Result, Ok, Err, ◌||◌, ◌==◌, nat_lt, not, 
 use Rattle.std.specs.Result.{is_err}
 use Rattle.std.proofs.lemmas.Bool.Decides.{nat_tests}
 use Rattle.std.proofs.lemmas.List.{length-append}
+use Rattle.hc_text.proofs.Basics.{min_few as least}
 use Rattle.hc_head.specs.declared.message.MsgError.{MsgError}
 use Rattle.hc_head.specs.declared.message.MsgError.TheVariants as error
 use Rattle.hc_msg.specs.declared.message.Look.TheVariants as look
@@ -127,9 +128,6 @@ waits_taken old new r reading is fine (inr taken) = record { reading = reading; 
 pub record IsReadOff (bytes rest input : List ℕ) : Type 0 where
   pub all : length rest + length bytes ≤ length input
   pub most : length bytes ≤ 16384
-
-least : (m n : ℕ) → min m n ≤ m
-least m n = omega arith
 
 pub brought_off : (s : Reading) (input bytes : List ℕ) (t : Reading) (rest : List ℕ) → next_in 16384 s input ≡ Brings bytes t rest → IsReadOff bytes rest input
 brought_off s input bytes t rest is = of_first (subst (StandsNext 16384 s input) is (stands_next 16384 s input))

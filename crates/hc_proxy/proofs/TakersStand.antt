@@ -6,17 +6,12 @@ use Rattle.std.proofs.Common.{◌≡◌, ◌≤◌, ℕ, List, [], ◌∷◌, Bo
 use Rattle.std.specs.Prelude.{◌&&◌, ◌||◌, nat_eq, find, filter, map, length, is_some, if◌then◌else◌}
 use Rattle.std.specs.List.{list_all, list_any}
 use Rattle.std.proofs.lemmas.Bool.Decides.{nat_tests}
+use Rattle.hc_text.proofs.Basics.{both_true as both_hold, eq_itself as same_test, some_inj as some_is}
 use Rattle.hc_wire.specs.Events.{Stage, Unseen, Open, Closed}
 use Rattle.hc_wire.specs.Logs.{Log, Taker, Called, is_numbered, is_taking, standing_of, standings_in, stage_from, stage_in, sent_from, sent_in}
 use Rattle.hc_wire.specs.declared.connection.Standing.{Standing}
 use Rattle.hc_proxy.specs.Connections.{is_of, stands, taken_at, taken_by}
 use Rattle.hc_proxy.specs.Logging.{AreApart}
-
-some_is : {A : Type 0} (a b : A) → Some a ≡ Some b → a ≡ b
-some_is a b h = cc
-
-pub same_test : (k : ℕ) → nat_eq k k ≡ true
-same_test k = grind (arith, nat_tests)
 
 -- WHOEVER IS FOUND
 
@@ -45,10 +40,6 @@ found_first c cs = by_test (nat_eq c.k c.k) (same_test c.k)
     by_test : (b : Bool) → b ≡ true → (if b then Some c else find (is_numbered c.k) cs) ≡ Some c
     by_test true is = refl
     by_test false is = absurd (let never : false ≡ true = is in cc)
-
-both_hold : (a b : Bool) → a ≡ true → b ≡ true → (a && b) ≡ true
-both_hold true b x y = y
-both_hold false b x y = x
 
 pub all_found : (test : Taker → Bool) (cs : List Taker) → AreApart cs → ((c : Taker) → find (is_numbered c.k) cs ≡ Some c → test c ≡ true) → list_all test cs ≡ true
 all_found test [] apart each = refl

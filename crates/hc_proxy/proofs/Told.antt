@@ -2,6 +2,7 @@
 use Rattle.std.proofs.Common.{◌≡◌, ◌⊎◌, inl, inr, ℕ, List, [], ◌∷◌, ◌++◌, Bool, true, Option, Some, None, refl, ap, sym, ◌∙◌, subst, arith}
 use Rattle.std.specs.Prelude.{nat_eq}
 use Rattle.std.proofs.lemmas.Bool.Decides.{nat_tests}
+use Rattle.hc_text.proofs.Basics.{nothing_first as front_nil, false_true as never_true}
 use Rattle.hc_model.specs.Entries.{Entry, History}
 use Rattle.hc_msg.specs.Reading.{Reading, Responses, Whole, Token, Leads, heading}
 use Rattle.hc_rules.specs.declared.room.Limits.{Limits}
@@ -12,12 +13,8 @@ use Rattle.hc_proxy.specs.Rows.{Upstream, Proxy, unused}
 use Rattle.hc_proxy.specs.Told.{told_of, HasSent, IsTold, nothing, since, EventsAreTold}
 use Rattle.hc_proxy.specs.Ended.{IsClosed, IsWhole, EndsAreTold}
 use Rattle.hc_proxy.specs.Turns.{so_far, turned_by, behind_all}
-use Rattle.hc_proxy.proofs.DialsHeard.{came_by, is_end, never_true, IsCutBy}
+use Rattle.hc_proxy.proofs.DialsHeard.{came_by, is_end, IsCutBy}
 use Rattle.hc_proxy.proofs.HeardRows.{IsHeard, IsEnd, HasEnds, HasHeard, turns_on}
-
-front_nil : (xs ys : List ℕ) → xs ++ ys ≡ [] → xs ≡ []
-front_nil [] ys is = refl
-front_nil (x ∷ xs) ys is = absurd (let never : x ∷ (xs ++ ys) ≡ [] = is in cc)
 
 module _ (limits : Limits) (log : Log) (x : ℕ) where
   is_sent : (v : Upstream) (tokens : List Token) → IsHeard limits log.dialled x (so_far (behind_all limits log) log.dialled) log.calls v tokens → IsTold limits log x tokens

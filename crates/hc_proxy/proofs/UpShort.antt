@@ -2,17 +2,11 @@
 use Rattle.std.proofs.Common.{◌≡◌, ◌≤◌, ◌<◌, ℕ, ◌+◌, List, [], ◌∷◌, ◌++◌, length, Bool, true, false, refl, sym, ◌∙◌, arith}
 use Rattle.std.specs.Prelude.{◌||◌, nat_eq, nat_lt, filter, if◌then◌else◌}
 use Rattle.std.proofs.lemmas.Bool.Decides.{nat_tests}
+use Rattle.hc_text.proofs.Basics.{or_right as either_right, true_false}
 use Rattle.hc_proxy.proofs.SkippedSteps.{among, Ascends, weaken, not_below}
-
-true_false : {A : Type 0} → true ≡ false → A
-true_false h = absurd (let never : true ≡ false = h in cc)
 
 abbrev Within : List ℕ → List ℕ → Type 0
 Within xs ys = (x : ℕ) → among x xs ≡ true → among x ys ≡ true
-
-either_right : (a b : Bool) → b ≡ true → (a || b) ≡ true
-either_right true b h = refl
-either_right false b h = h
 
 among_first : (x : ℕ) (xs : List ℕ) → among x (x ∷ xs) ≡ true
 among_first x xs = let one : nat_eq x x ≡ true = grind (arith, nat_tests) in rw one refl

@@ -8,6 +8,7 @@ use Rattle.std.proofs.Common.{◌≡◌, inl, inr, ◌≤◌, ℕ, ◌+◌, List
 use Rattle.std.specs.Prelude.{◌&&◌, ◌||◌, ◌==◌, nat_eq, not, if◌then◌else◌}
 use Rattle.std.specs.List.{list_any}
 use Rattle.std.proofs.lemmas.Bool.Decides.{nat_tests}
+use Rattle.hc_text.proofs.Basics.{true_false}
 use Rattle.hc_event.specs.declared.event.Event.TheVariants as event
 use Rattle.hc_model.specs.Exchanges.{is_open, is_wanted}
 use Rattle.hc_model.specs.Rows.{Exchange}
@@ -25,9 +26,6 @@ use Rattle.hc_proxy.proofs.AnswerNext.{IsAnswerNext, answer_next}
 use Rattle.hc_proxy.proofs.IdleExchanges.{Idle, heard_one, idle_skips}
 use Rattle.hc_proxy.proofs.NetworkKeeps.{IsKeptByNetwork, closed_by, each_keeps}
 use Rattle.hc_proxy.proofs.SkippedSteps.{among, Ascends, not_below}
-
-true_false : {A : Type 0} → true ≡ false → A
-true_false h = absurd (let never : true ≡ false = h in cc)
 
 -- something is brought
 abbrev pub brings_by : Bool → Option Upstream → Bool

@@ -3,20 +3,13 @@ use Rattle.std.proofs.Common.{◌≡◌, ℕ, ◌≤◌, Bool, true, false, eqb,
 use Rattle.std.specs.Prelude.{◌&&◌, ◌||◌, not}
 use Rattle.std.proofs.lemmas.Bool.{and_parts, eqb-true}
 use Rattle.std.proofs.lemmas.Bool.Decides.{nat_tests}
+use Rattle.hc_text.proofs.Basics.{either, leb-le, not_true as not_lost}
 use Rattle.hc_rules.specs.declared.need.Route.{Route}
 use Rattle.hc_rules.specs.declared.need.Route.TheVariants.{Direct, Turn, Hole}
 use Rattle.hc_rules.specs.declared.heads.HeadView.{HeadView}
 use Rattle.hc_rules.specs.Needs.{route_of}
 use Rattle.hc_rules.specs.HeadCases.{head_case, case_on, direct_case, turn_case, first_case, later_case}
 use Rattle.hc_rules.specs.Laws.{IsRightCase, CasesAreRight}
-use Rattle.hc_rules.proofs.Cond.{either}
-
-not_lost : (b : Bool) → not b ≡ true → b ≡ false
-not_lost true h = absurd (cc)
-not_lost false h = refl
-
-leb-le : (m n : ℕ) → leb m n ≡ true → m ≤ n
-leb-le m n h = grind (arith, nat_tests)
 
 direct-right : (v : HeadView) → IsRightCase v (direct_case v)
 direct-right v = either (IsRightCase v) v.bad _ _ (λ bad. bad) (λ good. good)

@@ -3,6 +3,7 @@ use Rattle.std.proofs.Common.{◌≡◌, ◌≢◌, ℕ, ◌+◌, ◌<◌, ◌�
 use Rattle.std.specs.Prelude.{not}
 use Rattle.std.proofs.lemmas.Bool.{eqb-true}
 use Rattle.std.proofs.lemmas.Bool.Decides.{nat_tests}
+use Rattle.hc_text.proofs.Basics.{not_true as denied, either, not_false as granted, leb-le, leb-lt, ltb-le, ltb-lt}
 use Rattle.hc_event.specs.declared.event.Event.TheVariants.{Start, Poll, Head, Piece, End, Fault, Cancel, Doom}
 use Rattle.hc_event.specs.declared.act.Refusal.{Refusal}
 use Rattle.hc_event.specs.declared.act.Refusal.TheVariants.{NotRising, TooManyConsumers, NoConsumer, Finished, WantZero, NoExchange, HeadTwice, NoHeadYet, NotAsked, EmptyPiece, Overlong}
@@ -10,30 +11,9 @@ use Rattle.hc_rules.specs.declared.refusal.Gate.{Gate}
 use Rattle.hc_rules.specs.declared.refusal.OpenExchange.{OpenExchange}
 use Rattle.hc_rules.specs.Refusals.{refusal_of, start_refusal, poll_refusal, consumer_refusal, head_refusal, piece_refusal, end_refusal, fault_refusal, overlong}
 use Rattle.hc_rules.specs.Laws.{rank, IsLeast, StopsClosed, DenialsAreLeast, StopsStart, StopsPoll, StopsCancel, StopsHead, StopsPiece, StopsEnd, StopsFault}
-use Rattle.hc_rules.proofs.Cond.{either}
-
-leb-le : (m n : ℕ) → leb m n ≡ true → m ≤ n
-leb-le m n h = grind (arith, nat_tests)
-
-leb-lt : (m n : ℕ) → leb m n ≡ false → n < m
-leb-lt m n h = grind (arith, nat_tests)
-
-ltb-lt : (m n : ℕ) → ltb m n ≡ true → m < n
-ltb-lt m n h = grind (arith, nat_tests)
-
-ltb-le : (m n : ℕ) → ltb m n ≡ false → n ≤ m
-ltb-le m n h = grind (arith, nat_tests)
 
 eqb-other : (m n : ℕ) → eqb m n ≡ false → m ≢ n
 eqb-other m n h = grind (arith, nat_tests)
-
-denied : (b : Bool) → not b ≡ true → b ≡ false
-denied true h = absurd (cc)
-denied false h = refl
-
-granted : (b : Bool) → not b ≡ false → b ≡ true
-granted true h = refl
-granted false h = absurd (cc)
 
 -- STARTS
 

@@ -3,6 +3,7 @@ use Rattle.std.proofs.Common.{◌≡◌, ℕ, ◌+◌, ◌<◌, Bool, true, fals
 use Rattle.std.specs.Prelude.{◌&&◌, not, bytes_eq}
 use Rattle.std.proofs.lemmas.Bool.{and_parts, and_from, eqb-true}
 use Rattle.std.proofs.lemmas.Bool.Decides.{nat_tests}
+use Rattle.hc_text.proofs.Basics.{not_true as denied, eqb-same}
 use Rattle.hc_range.specs.declared.range.Span.{Span}
 use Rattle.hc_range.specs.declared.range.ContentRange.{ContentRange}
 use Rattle.hc_range.specs.declared.range.ContentRange.TheVariants.{Part, Unsatisfied}
@@ -12,7 +13,6 @@ use Rattle.hc_rules.specs.RangeTexts.{content_range_of}
 use Rattle.hc_rules.specs.TagTexts.{strong_of, strongly_equals, is_same_tag}
 use Rattle.hc_rules.specs.Joins.{joins, fills}
 use Rattle.hc_rules.specs.Laws.{IsJoin, JoinsAreRight}
-use Rattle.hc_rules.proofs.Numbers.{eqb-same}
 use Rattle.hc_rules.proofs.RangeReads.{seen, same_bytes, bytes_eq-same}
 
 leb-lt : (m n : ℕ) → leb (m + 1) n ≡ true → m < n
@@ -20,10 +20,6 @@ leb-lt m n h = grind (arith, nat_tests)
 
 lt-leb : (m n : ℕ) → m < n → leb (m + 1) n ≡ true
 lt-leb m n h = grind (arith, nat_tests)
-
-denied : (b : Bool) → not b ≡ true → b ≡ false
-denied true h = absurd (cc)
-denied false h = refl
 
 same_part : (first last n start total : ℕ) → first ≡ start → n ≡ total → Some (Part first last (Some n)) ≡ Some (Part start last (Some total))
 same_part first last n start total a b = cc

@@ -4,6 +4,7 @@ use Rattle.std.specs.Prelude.{All}
 use Rattle.std.specs.List.{list_all}
 use Rattle.std.proofs.lemmas.Bool.{and_parts, eqb-true, both_ways}
 use Rattle.std.proofs.lemmas.List.Elements.{All-nil, All-cons}
+use Rattle.hc_text.proofs.Basics.{either}
 use Rattle.hc_range.specs.declared.range.ContentRange.{ContentRange}
 use Rattle.hc_range.specs.declared.range.ContentRange.TheVariants as range
 use Rattle.hc_event.specs.declared.event.Request.{Request}
@@ -17,7 +18,6 @@ use Rattle.hc_rules.specs.Needs.{route_of}
 use Rattle.hc_rules.specs.Lengths.{is_same_number, promised_or_bad, all_tell, content_length_of, has_no_body, agrees, part_length, tells_part, length_of}
 use Rattle.hc_rules.specs.RangeTexts.{number_of, content_range_of}
 use Rattle.hc_rules.specs.Laws.{declared_in, AllSay, IsRightLength, LengthsAreRight}
-use Rattle.hc_rules.proofs.Cond.{either}
 
 same : (n : ℕ) (o : Option ℕ) → is_same_number (Some n) o ≡ true → o ≡ Some n
 same n None h = absurd (both_ways _ refl h)

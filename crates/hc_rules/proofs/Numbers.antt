@@ -7,25 +7,11 @@ use Rattle.std.specs.Str.Parse.{digits_value, IsNumeral}
 use Rattle.std.proofs.lemmas.Bool.{cases_Bool, and_parts}
 use Rattle.std.proofs.lemmas.Bool.Decides.{nat_tests}
 use Rattle.std.proofs.lemmas.Str.Parse.{IsNumeralModel, numerals_by_value, tells_all_ascii_digits}
+use Rattle.hc_text.proofs.Basics.{eqb-other, eqb-same, le-leb, leb-le, ltb-lt}
 use Rattle.hc_rules.specs.RangeTexts.{number_of}
 
 digits : IsNumeralModel (λ ds. all_ascii_digits ds ≡ true) (digits_value 10)
 digits = numerals_by_value _ tells_all_ascii_digits
-
-pub eqb-same : (c : ℕ) → eqb c c ≡ true
-eqb-same c = grind (arith, nat_tests)
-
-pub eqb-other : (c d : ℕ) → c ≢ d → eqb c d ≡ false
-eqb-other c d differ = grind (arith, nat_tests)
-
-le-leb : (m n : ℕ) → m ≤ n → leb m n ≡ true
-le-leb m n h = grind (arith, nat_tests)
-
-leb-le : (m n : ℕ) → leb m n ≡ true → m ≤ n
-leb-le m n h = grind (arith, nat_tests)
-
-ltb-lt : (m n : ℕ) → ltb m n ≡ true → m < n
-ltb-lt m n h = grind (arith, nat_tests)
 
 abbrev is_number : List ℕ → Bool
 is_number text = leb 1 (length text) && leb (length text) 20 && all_ascii_digits text && ltb (digits_value 10 text) (2 ^ 62)

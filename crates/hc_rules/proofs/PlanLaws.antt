@@ -3,6 +3,7 @@ use Rattle.std.proofs.Common.{◌≡◌, ◌≢◌, ℕ, ◌+◌, ◌<◌, ◌�
 use Rattle.std.specs.Prelude.{IsSome, ◌&&◌, ◌||◌, not, is_none}
 use Rattle.std.proofs.lemmas.Bool.{cases_Bool, eqb-true, and_parts}
 use Rattle.std.proofs.lemmas.Bool.Decides.{nat_tests}
+use Rattle.hc_text.proofs.Basics.{either, leb-lt}
 use Rattle.hc_range.specs.declared.range.Span.{Span}
 use Rattle.hc_event.specs.declared.act.Why.{Why}
 use Rattle.hc_rules.specs.declared.need.Route.TheVariants as route
@@ -15,7 +16,6 @@ use Rattle.hc_rules.specs.declared.plan.PlanView.{PlanView}
 use Rattle.hc_rules.specs.Needs.{route_of}
 use Rattle.hc_rules.specs.Plans.{plan_of, bare_plan, by_current, by_why, by_wanted, by_exclusive, by_hole, by_bound, why_by, allowed_by, is_back, queues, in_time, from_store}
 use Rattle.hc_rules.specs.Laws.{IsRightPlan, HasTurn, MayRead, PlansAreRight}
-use Rattle.hc_rules.proofs.Cond.{either}
 
 -- what the first row that applies says, before the exceptions
 abbrev IsBare : PlanView → Plan → Type 0
@@ -90,9 +90,6 @@ bare-right v =
     either (IsBare v) (queues v) _ _ (λ waits. turn_other (not v.passed || is_back v) v.turn v.c v.class.only waits) (λ free.
     let turn : v.class.only ≡ false → HasTurn v = λ plain. turn_held v.passed v.class.only v.kept (allowed_by v.current) v.turn v.c plain free in
     either (IsBare v) v.class.bypassing _ _ (λ _. (refl, turn)) (λ _. current-right v v.current turn refl)))
-
-leb-lt : (m n : ℕ) → leb m n ≡ false → n < m
-leb-lt m n h = grind (arith, nat_tests)
 
 timed-right : (v : PlanView) (p : Plan) → v.class.only ≡ false → IsBare v p → IsRightPlan v (in_time v p)
 timed-right v (Direct n) plain h = (plain, h)

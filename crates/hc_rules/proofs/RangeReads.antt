@@ -8,6 +8,7 @@ use Rattle.std.proofs.lemmas.Bool.{cases_Bool, and_parts, and_from, eqb-true, no
 use Rattle.std.proofs.lemmas.Bool.Decides.{nat_tests}
 use Rattle.std.proofs.lemmas.List.{append_assoc, take-append-drop}
 use Rattle.std.proofs.lemmas.Slice.Eq.{bytes_eq-Decides}
+use Rattle.hc_text.proofs.Basics.{eqb-same, le-leb, leb-le, ltb-lt}
 use Rattle.hc_text.specs.Numbers.{IsNumber}
 use Rattle.hc_range.specs.Bytes.{LacksByte}
 use Rattle.hc_range.specs.declared.range.Asked.{Asked}
@@ -17,7 +18,7 @@ use Rattle.hc_range.specs.declared.range.ContentRange.TheVariants.{Part, Unsatis
 use Rattle.hc_range.specs.Ranges.{SpellsPositions, SpellsSpec, SpellsRange, SpellsTotal, SpellsResponse, SpellsContentRange}
 use Rattle.hc_range.proofs.ReadLemmas.{range_at, content_range_at, number_some}
 use Rattle.hc_rules.specs.RangeTexts.{number_of, with_byte, split_at, from_to, positions_by, positions_from, spec_in, asked_in, with_total, without_part, content_range_from, response_from, response_in, content_range_in}
-use Rattle.hc_rules.proofs.Numbers.{eqb-same, number_of-number, IsNumber-told}
+use Rattle.hc_rules.proofs.Numbers.{number_of-number, IsNumber-told}
 
 -- an option is None or Some
 pub seen : {A : Type 0} → (o : Option A) → (o ≡ None) ⊎ ((x : A) × (o ≡ Some x))
@@ -88,15 +89,6 @@ LacksByte-digits c (b ∷ text) past h =
 
 LacksByte-number : (c : ℕ) (text : List ℕ) (n : ℕ) → 10 ≤ digit_value c → IsNumber text n → LacksByte c text
 LacksByte-number c text n past h = LacksByte-digits c text past h.1.1
-
-le-leb : (m n : ℕ) → m ≤ n → leb m n ≡ true
-le-leb m n h = grind (arith, nat_tests)
-
-leb-le : (m n : ℕ) → leb m n ≡ true → m ≤ n
-leb-le m n h = grind (arith, nat_tests)
-
-ltb-lt : (m n : ℕ) → ltb m n ≡ true → m < n
-ltb-lt m n h = grind (arith, nat_tests)
 
 -- positions of which a number stands before the hyphen, and one or none behind it
 from-number : (a : List ℕ) (n : ℕ) → IsNumber a n → positions_by a [] ≡ Some (From n)

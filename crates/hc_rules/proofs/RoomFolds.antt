@@ -2,10 +2,8 @@
 use Rattle.std.proofs.Common.{◌≡◌, ℕ, ◌+◌, ◌≤◌, true, leb, List, [], ◌∷◌, Option, Some, refl, sym, ap, ◌∙◌, arith}
 use Rattle.std.specs.Prelude.{option_map}
 use Rattle.std.proofs.lemmas.Bool.Decides.{nat_tests}
+use Rattle.hc_text.proofs.Basics.{le-leb}
 use Rattle.hc_rules.specs.Rooms.{gives_way}
-
-le-leb : (m n : ℕ) → m ≤ n → leb m n ≡ true
-le-leb m n h = grind (arith, nat_tests)
 
 -- where the sum fits, none gives way
 none_gives_way : (most sum : ℕ) (idle : List ℕ) → sum ≤ most → gives_way most sum idle ≡ Some 0

@@ -3,15 +3,9 @@ use Rattle.std.proofs.Common.{◌≡◌, ℕ, suc, zero, ◌+◌, ◌-◌, ◌<�
 use Rattle.std.specs.Prelude.{sum, option_map}
 use Rattle.std.proofs.lemmas.Bool.Decides.{nat_tests}
 use Rattle.std.proofs.lemmas.List.Sums.{sum_by-cons}
-use Rattle.hc_rules.proofs.Cond.{either}
+use Rattle.hc_text.proofs.Basics.{either, leb-le, leb-lt}
 use Rattle.hc_rules.specs.Rooms.{gives_way}
 use Rattle.hc_rules.specs.Laws.{IsShortest, ShortestGivesWay, sum_without}
-
-leb-le : (m n : ℕ) → leb m n ≡ true → m ≤ n
-leb-le m n h = grind (arith, nat_tests)
-
-leb-lt : (m n : ℕ) → leb m n ≡ false → n < m
-leb-lt m n h = grind (arith, nat_tests)
 
 none-first : (most all : ℕ) (idle : List ℕ) → all ≤ most → IsShortest most all idle (Some 0)
 none-first most all idle fits = (omega arith, let e : all - 0 ≤ most = omega arith in e, λ fewer below. absurd (omega arith))

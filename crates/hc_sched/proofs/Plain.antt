@@ -9,6 +9,7 @@ use Rattle.std.proofs.lemmas.Str.Parse.{digit_from_value}
 use Rattle.std.proofs.lemmas.Bool.{cases_Bool, and_parts, ltb-true, ne_eqb}
 use Rattle.std.proofs.lemmas.Fmt.{decimal_is_IsNumeral, length-decimal-le}
 use Rattle.std.proofs.lemmas.Slice.Eq.{bytes_eq-Decides}
+use Rattle.hc_text.proofs.Basics.{list_all-digits}
 use Rattle.hc_text.specs.Numbers.{IsPlain}
 use Rattle.hc_sched.specs.Words.{plain_of}
 use Rattle.hc_text.proofs.Cutting.{none_or_some}
@@ -48,11 +49,6 @@ plain_of_is text None found none =
       | inl e ↦ sym e
       | inr some ↦ absurd (none some.0 (IsPlain-plain_of text some.0 some.1))
     ]
-
--- what holds of each digit holds of each byte of a number
-pub list_all-digits : (p : ℕ → Bool) → ((c : ℕ) → IsInRange 48 57 c → p c ≡ true) → (ds : List ℕ) → AllDigits 10 ds → list_all p ds ≡ true
-list_all-digits p each [] h = refl
-list_all-digits p each (c ∷ ds) h = rw (each c (digit_from_value c h.0)) (list_all-digits p each ds h.1)
 
 pub AllDigits-decimal : (n : ℕ) → n < 2 ^ 62 → AllDigits 10 (decimal n)
 AllDigits-decimal n h = (decimal_is_IsNumeral n (omega (arith, h))).0.1

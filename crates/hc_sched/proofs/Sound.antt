@@ -4,6 +4,7 @@ use Rattle.std.specs.Prelude.{codes, nat_le, bytes_eq, option_map, if◌then◌e
 use Rattle.std.specs.Fmt.{decimal}
 use Rattle.std.proofs.lemmas.Bool.{cases_Bool, and_parts}
 use Rattle.std.proofs.lemmas.Slice.Eq.{bytes_eq-Decides}
+use Rattle.hc_text.proofs.Basics.{mapped_from as option_map-parts}
 use Rattle.hc_text.specs.Texts.{IsSmall}
 use Rattle.hc_event.specs.declared.event.Event.TheVariants as event
 use Rattle.hc_event.specs.declared.event.Load.{Load}
@@ -200,10 +201,6 @@ doom_of-parts : (line words : List ℕ) (f : First) → codes "doom " ++ words �
 unfolding doom_of
 doom_of-parts line words f is h =
     let passes = test_passes (is_word words) (Dooms words) f h in subst (λ g. Says line g) passes.1 is
-
-option_map-parts : {A B : Type 0} (f : A → B) (o : Option A) (y : B) → option_map f o ≡ Some y → (x : A) × (o ≡ Some x) × (f x ≡ y)
-option_map-parts f None y h = cc h
-option_map-parts f (Some x) y h = (x, refl, cc h)
 
 or_else-parts : {A B : Type 0} (o : Option A) (f : A → Option B) (other : Option B) (y : B) → or_else o f other ≡ Some y
     → ((x : A) × (o ≡ Some x) × (f x ≡ Some y)) ⊎ (other ≡ Some y)

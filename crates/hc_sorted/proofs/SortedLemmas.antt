@@ -5,6 +5,7 @@ use Rattle.std.specs.List.{list_any, insert, remove}
 use Rattle.std.specs.List.Sorted.{IsNonDecreasingBy, IsPartitionPoint}
 use Rattle.std.proofs.lemmas.Bool.{cases_Bool, and_parts, le-leb, lt-leb, ltb-true, ltb-false, leb-true, leb-false, eqb-true, eqb-false, eq-eqb, ne_eqb}
 use Rattle.std.proofs.lemmas.List.Sums.{position_or_len_is, prefix_len-le-length}
+use Rattle.hc_text.proofs.Basics.{and_false}
 use Rattle.hc_sorted.specs.Sorted.{above, is_sorted, is_at, has, item_with, with_item, without, with_replacement, place}
 
 or_swap : (a b c : Bool) → a || (b || c) ≡ b || (a || c)
@@ -12,10 +13,6 @@ or_swap true true c = refl
 or_swap true false c = refl
 or_swap false true c = refl
 or_swap false false c = refl
-
-and_false : (a : Bool) → a && false ≡ false
-and_false true = refl
-and_false false = refl
 
 and_or : (a b : Bool) → not a && b ≡ not a && (a || b)
 and_or true b = refl

@@ -8,6 +8,7 @@ use Rattle.std.specs.Prelude.{slice_range, Result, Ok, Err, OnOk, OnErr}
 use Rattle.hc_sparse.proofs.SizeLemmas.{size-put, size-same}
 use Rattle.std.specs.Ordering.{nat_cmp}
 use Rattle.std.specs.BTreeMap.{BTreeMap, get}
+use Rattle.hc_text.proofs.Basics.{lt_or as split}
 use Rattle.hc_sparse.specs.Cells.{cells_with, AreAbsent, size}
 use Rattle.hc_sparse.specs.Extents.{Mark, Marks, mark, claimed_marks, end_of, AreFree, IsExtentFrom}
 use Rattle.hc_sparse.specs.Stretch.{IsPart}
@@ -15,7 +16,7 @@ use Rattle.hc_sparse.specs.declared.extents.Extent.{Extent}
 use Rattle.hc_sparse.specs.Blocks.{marks_in}
 use Rattle.hc_sparse.specs.BlockMaps.{cells_by, cell_of, marks, AreBelow, is_within, AreWithin}
 use Rattle.hc_sparse.specs.declared.block.Block.{Block}
-use Rattle.hc_sparse.proofs.CellLemmas.{inside-cases, split}
+use Rattle.hc_sparse.proofs.CellLemmas.{inside-cases}
 
 block-is : (p i : ℕ) → p % 4096 + i < 4096 → (p + i) / 4096 ≡ p / 4096
 block-is p i lt = omega arith

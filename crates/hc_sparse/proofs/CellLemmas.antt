@@ -2,6 +2,7 @@
 use Rattle.std.proofs.Common.{◌≡◌, ◌⊎◌, ℕ, ◌+◌, ◌<◌, ◌≤◌, true, false, arith, List, ◌++◌, length, inl, inr, refl, ◌-◌, length-append}
 use Rattle.std.proofs.lemmas.List.{get_or_append_left, get_or-append-add}
 use Rattle.std.proofs.lemmas.Bool.Decides.{nat_tests}
+use Rattle.hc_text.proofs.Basics.{lt_or as split}
 use Rattle.hc_sparse.specs.Cells.{Cells, cells_with, inside}
 
 pub inside-yes : (at n p : ℕ) → at ≤ p → p < at + n → inside at n p ≡ true
@@ -34,6 +35,3 @@ written-append at x bytes more f p =
             rw (out.0, off.0, miss) refl
       ]
     ]
-
-pub split : (a b : ℕ) → (a < b) ⊎ (b ≤ a)
-split a b = grind (arith, nat_tests)

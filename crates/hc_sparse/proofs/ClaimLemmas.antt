@@ -3,11 +3,11 @@ use Rattle.std.proofs.Common.{◌≡◌, inl, inr, ℕ, zero, suc, ◌+◌, ◌-
 use Rattle.std.specs.Prelude.{Result, Ok, Err, IsOk, is_ok}
 use Rattle.std.proofs.lemmas.Bool.Decides.{nat_tests}
 use Rattle.std.specs.List.{insert}
+use Rattle.hc_text.proofs.Basics.{le_or as le_cases}
 use Rattle.hc_sparse.specs.Cells.{inside}
 use Rattle.hc_sparse.specs.Extents.{Mark, Marks, mark, marks_of, ascend, place_of, end_of, longer_extent, claimed_marks, AreFree}
 use Rattle.hc_sparse.specs.declared.extents.Extent.{Extent}
 use Rattle.hc_sparse.proofs.CellLemmas.{inside-yes, inside-before, inside-past, inside-cases}
-use Rattle.hc_sparse.proofs.RunLemmas.{le_cases}
 use Rattle.hc_sparse.proofs.ExtentLemmas.{ascend-cons, ascend-with, at-from}
 
 -- Extents none of which has an offset up to one ascend from there.

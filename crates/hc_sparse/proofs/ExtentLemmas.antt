@@ -4,10 +4,10 @@ use Rattle.std.proofs.Common.{◌≡◌, inl, inr, ℕ, zero, suc, ◌<◌, ◌�
 use Rattle.std.proofs.lemmas.Bool.{leb-true, le-leb}
 use Rattle.std.proofs.lemmas.Bool.Decides.{nat_tests}
 use Rattle.std.specs.Prelude.{nat_le}
+use Rattle.hc_text.proofs.Basics.{le_or as le_cases}
 use Rattle.hc_sparse.specs.Extents.{marks_of, ascend, place_of, end_of, IsExtentFrom}
 use Rattle.hc_sparse.specs.declared.extents.Extent.{Extent}
 use Rattle.hc_sparse.proofs.CellLemmas.{inside-yes, inside-before, inside-past}
-use Rattle.hc_sparse.proofs.RunLemmas.{le_cases}
 
 pub ascend-cons : (n : ℕ) (e : Extent) (es : List Extent) → ascend n (e ∷ es) ≡ true → (n ≤ e.at) × (0 < e.len) × (ascend (end_of e) es ≡ true)
 ascend-cons n e es asc = grind (arith, nat_tests)

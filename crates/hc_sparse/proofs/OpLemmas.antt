@@ -2,12 +2,11 @@
 use Rattle.std.proofs.Common.{◌≡◌, inl, inr, ℕ, zero, suc, ◌+◌, ◌<◌, ◌≤◌, List, [], ◌∷◌, ◌++◌, length, take, Bool, true, false, Option, Some, None, refl, sym, ap, ◌∙◌, arith, add-one, get_or}
 use Rattle.std.proofs.Math.Seq.{take-suc}
 use Rattle.std.specs.Prelude.{is_some, not, ◌&&◌, nat_le, Result, Ok, Err, OnErr}
+use Rattle.hc_text.proofs.Basics.{le_or as le_cases, never_true as one-of, lt_or as split}
 use Rattle.hc_sparse.specs.Cells.{Cells, Cell, AreAbsent, IsNext}
 use Rattle.hc_sparse.specs.Ops.{are_absent, after, cells_after, IsAnswer, AreAnswers, HasAnswered}
 use Rattle.hc_sparse.specs.declared.ops.SparseOp.{SparseOp}
 use Rattle.hc_sparse.specs.declared.ops.SparseAnswer.{SparseAnswer}
-use Rattle.hc_sparse.proofs.CellLemmas.{split}
-use Rattle.hc_sparse.proofs.RunLemmas.{le_cases}
 
 absent-is : (o : Option Cell) → is_some o ≡ false → o ≡ None
 absent-is None is = refl
@@ -30,10 +29,6 @@ all-absent f p (suc n) is q ge lt =
       | inl past ↦ all-absent f (p + 1) n parts.1 q (omega arith) (omega arith)
       | inr by ↦ let here : q ≡ p = omega arith in rw here (absent-is (f p) parts.0)
     ]
-
-one-of : (b : Bool) → (b ≡ true → ⊥) → b ≡ false
-one-of true never = absurd (never refl)
-one-of false never = refl
 
 pub present-not : (f : Cells) (p n q : ℕ) → is_some (f q) ≡ true → p ≤ q → q < p + n → are_absent f p n ≡ false
 present-not f p n q here ge lt = one-of (are_absent f p n) (λ is. let none = all-absent f p n is q ge lt in let never : false ≡ true = rw none at here in cc)

@@ -4,6 +4,7 @@ use Rattle.std.proofs.Common.{◌≡◌, ◌⊎◌, inl, inr, ℕ, zero, suc, �
 use Rattle.std.proofs.lemmas.Bool.{leb-true, le-leb}
 use Rattle.std.proofs.lemmas.Bool.Decides.{nat_tests}
 use Rattle.std.specs.Prelude.{nat_le}
+use Rattle.hc_text.proofs.Basics.{le_or as le_cases}
 use Rattle.hc_sparse.specs.Cells.{EndsBy, IsNext}
 use Rattle.hc_sparse.specs.Runs.{cells_of, ascend, place_of, end_of, IsRunFrom}
 use Rattle.hc_sparse.specs.declared.run.Run.{Run}
@@ -31,9 +32,6 @@ cells-past n (r ∷ rs) asc p le =
     let parts = ascend-cons n r rs asc in
     let end = ascend-end (end_of r) rs parts.2 in
     rw (inside-past r.at (length r.bytes) p (omega arith)) (cells-past (end_of r) rs parts.2 p le)
-
-pub le_cases : (a b : ℕ) → ((nat_le a b ≡ true) × (a ≤ b)) ⊎ ((nat_le a b ≡ false) × (b < a))
-le_cases a b = grind (arith, nat_tests)
 
 -- The run at the place of a position is the first that ends past it.
 record IsAt (n p : ℕ) (rs : List Run) (r : Run) : Type 0 where

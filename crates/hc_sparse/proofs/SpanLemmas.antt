@@ -4,9 +4,10 @@ use Rattle.std.proofs.lemmas.Bool.{cases_eq}
 use Rattle.std.proofs.lemmas.Grind.{common_steps}
 use Rattle.std.specs.Ordering.{nat_cmp}
 use Rattle.std.specs.BTreeMap.{BTreeMap, get, Updates}
+use Rattle.hc_text.proofs.Basics.{lt_or as split}
 use Rattle.hc_sparse.specs.Extents.{Marks, HaveAll, claimed_marks}
 use Rattle.hc_sparse.specs.SpanMaps.{IsSpan, AllHad}
-use Rattle.hc_sparse.proofs.CellLemmas.{split, inside-yes, inside-cases}
+use Rattle.hc_sparse.proofs.CellLemmas.{inside-yes, inside-cases}
 
 -- A span that is put over two beside it, of which the first goes.
 pub record IsJoined (m n : BTreeMap ℕ ℕ) (at begin last : ℕ) : Type 0 where

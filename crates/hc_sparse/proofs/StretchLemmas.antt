@@ -2,10 +2,11 @@
 use Rattle.std.proofs.Common.{◌≡◌, ◌≢◌, inl, inr, ℕ, zero, suc, ◌+◌, ◌-◌, ◌<◌, ◌≤◌, List, [], ◌∷◌, ◌++◌, length, true, false, eqb, Option, Some, None, refl, sym, ap, ◌∙◌, arith, get_or, take, zero-add, append_assoc}
 use Rattle.std.proofs.lemmas.Bool.Decides.{nat_tests, eqb_tells}
 use Rattle.std.specs.Prelude.{◌↔◌, IfSome}
+use Rattle.hc_text.proofs.Basics.{lt_or as split}
 use Rattle.hc_sparse.specs.Cells.{Cells, Cell, AreOf, AreAbsent, cells_with}
 use Rattle.hc_sparse.specs.Stretch.{bytes_from, goes_on, stretch, stretch_of, IsLongest}
 use Rattle.hc_sparse.specs.declared.run.Run.{Run}
-use Rattle.hc_sparse.proofs.CellLemmas.{inside-yes, inside-before, inside-past, inside-cases, split}
+use Rattle.hc_sparse.proofs.CellLemmas.{inside-yes, inside-before, inside-past, inside-cases}
 
 -- Bytes of x that stand one after another.
 pub bytes-append : (f : Cells) (x : ℕ) (bytes : List ℕ) (p m : ℕ) → ((i : ℕ) → i < length bytes → f (p + i) ≡ Some (record { byte = get_or bytes i 0; x = x })) → bytes_from f x p (length bytes + m) ≡ bytes ++ bytes_from f x (p + length bytes) m

@@ -1,6 +1,7 @@
 -- An event is answered, where it is known what it does.
 use Rattle.std.proofs.Common.{◌≡◌, ℕ, ◌+◌, ◌<◌, List, ◌++◌, Bool, true, false, Option, Some, None, refl, ap, sym, ◌∙◌, subst}
 use Rattle.std.specs.Prelude.{nat_eq, ◌&&◌}
+use Rattle.hc_text.proofs.Basics.{eqb-same, false_true}
 use Rattle.hc_store.specs.declared.backend.Backend.{Ghosts}
 use Rattle.hc_event.specs.declared.event.Event.{Event}
 use Rattle.hc_event.specs.declared.act.Act.{Act}
@@ -18,7 +19,6 @@ use Rattle.hc_model.specs.Weights.{room_for, write_in}
 use Rattle.hc_model.specs.Entries.{entry_without_acts}
 use Rattle.hc_state.specs.declared.rows.Rows.{Rows}
 use Rattle.hc_state.specs.Stands.{Answered, RowsStand}
-use Rattle.hc_state.proofs.Words.{eqb-same, false_true}
 
 -- what writes nothing has room
 unwritten : (limits : Limits) (t : Tables) (now : ℕ) (event : Event) → write_in t (entry_without_acts now event) event ≡ None → has_room (room_for limits t now event) ≡ true

@@ -2,6 +2,7 @@
 -- the tables then.
 use Rattle.std.proofs.Common.{◌≡◌, ◌≢◌, ℕ, List, Bool, true, false, Some, refl, ap, sym, ◌∙◌, subst}
 use Rattle.std.specs.Prelude.{bytes_eq, ◌||◌}
+use Rattle.hc_text.proofs.Basics.{eqb-other, eqb-same, false_true}
 use Rattle.hc_rules.proofs.RangeReads.{same_bytes}
 use Rattle.hc_entry.specs.declared.keys.KeyTable.{KeyTable}
 use Rattle.hc_entry.specs.Keys.{kept_of, line_of}
@@ -23,7 +24,7 @@ use Rattle.hc_state.specs.Stored.{KeepsEntries}
 use Rattle.hc_state.proofs.ConsumerSteps.{SaysOfIt, key_with, key_stays, keys_with}
 use Rattle.hc_state.proofs.KeySteps.{leaves_key}
 use Rattle.hc_state.proofs.Unbinding.{entries_unbound, user_kept}
-use Rattle.hc_state.proofs.Words.{eqb-same, eqb-other, false_true, and_false}
+use Rattle.hc_state.proofs.Words.{and_false}
 
 -- TESTS
 

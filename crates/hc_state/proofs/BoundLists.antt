@@ -2,6 +2,7 @@
 use Rattle.std.proofs.Common.{◌≡◌, ◌≢◌, inl, inr, ℕ, List, [], ◌∷◌, length, Bool, true, false, Option, Some, None, refl, ap, sym, ◌∙◌, arith}
 use Rattle.std.proofs.lemmas.Bool.Decides.{nat_tests}
 use Rattle.std.specs.Prelude.{is_some, filter, ◌==◌}
+use Rattle.hc_text.proofs.Basics.{eqb-same, false_true}
 use Rattle.hc_stored.specs.Kept.{Kept, itself, is_nobody}
 use Rattle.hc_sorted.specs.Sorted.{has}
 use Rattle.hc_model.specs.Reading.{bound, is_bound}
@@ -9,7 +10,6 @@ use Rattle.hc_model.specs.Rows as rows
 use Rattle.hc_model.specs.Rows.{Tables, Representation}
 use Rattle.hc_model.specs.Sound.{Among}
 use Rattle.hc_state.specs.Stored.{IsEntry}
-use Rattle.hc_state.proofs.Words.{eqb-same, false_true}
 
 nobody_passes : (f : ℕ → Bool) → ((c : ℕ) → f c ≡ false) → (cs : List ℕ) → filter f cs ≡ []
 nobody_passes f none [] = refl

@@ -2,6 +2,7 @@
 use Rattle.std.proofs.Common.{◌≡◌, ◌≢◌, inl, inr, ℕ, ◌+◌, ◌-◌, List, [], length, Bool, true, false, Option, Some, None, refl, ap, sym, ◌∙◌, subst}
 use Rattle.std.specs.Prelude.{nat_eq, bytes_eq, drop, option_map, ◌&&◌, if◌then◌else◌}
 use Rattle.std.specs.HashMap.{get, hash_map_len}
+use Rattle.hc_text.proofs.Basics.{eqb-other, eqb-same, same_or}
 use Rattle.hc_rules.specs.declared.room.Limits.{Limits}
 use Rattle.hc_store.specs.declared.backend.Backend.{Ghosts}
 use Rattle.hc_event.specs.declared.event.Response.{Response}
@@ -37,7 +38,6 @@ use Rattle.hc_state.proofs.Fallbacks.{same, held_alike}
 use Rattle.hc_state.proofs.OneOfEach.{first_row, growing_same, kind_same}
 use Rattle.hc_state.proofs.PastRows.{consumer_alike}
 use Rattle.hc_state.proofs.Ties.{exchange_same, key_same, overs_closed, writer_then}
-use Rattle.hc_state.proofs.Words.{same_or, eqb-same, eqb-other}
 
 -- WHAT IS OVER BROUGHT AS MUCH
 

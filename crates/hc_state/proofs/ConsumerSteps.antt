@@ -2,6 +2,7 @@
 use Rattle.std.proofs.Common.{◌≡◌, ◌≢◌, ◌⊎◌, inl, inr, ℕ, ◌+◌, List, [], Bool, true, false, cond, eqb, Option, Some, None, refl, ap, sym, ◌∙◌, subst}
 use Rattle.std.specs.Prelude.{is_some, nat_eq, bytes_eq, ◌==◌, if◌then◌else◌}
 use Rattle.std.specs.HashMap.{get, hash_map_len}
+use Rattle.hc_text.proofs.Basics.{eqb-other, eqb-same, same_or}
 use Rattle.hc_store.specs.declared.backend.Backend.{Ghosts}
 use Rattle.hc_entry.specs.declared.keys.KeyTable.{KeyTable}
 use Rattle.hc_entry.specs.Keys as keys
@@ -21,7 +22,6 @@ use Rattle.hc_state.specs.Changes.{BecomesAt}
 use Rattle.hc_state.specs.Kept.{KeepsConsumer}
 use Rattle.hc_state.specs.Lines.{KeepsKey, has_turn, is_passed, is_away}
 use Rattle.hc_state.proofs.Ties.{SeesSame, consumer_same}
-use Rattle.hc_state.proofs.Words.{same_or, eqb-same, eqb-other}
 
 -- CONSUMERS
 

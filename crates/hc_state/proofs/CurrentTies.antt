@@ -1,6 +1,7 @@
 -- What is stored of a representation is what the tables say, and what is current is kept.
 use Rattle.std.proofs.Common.{◌≡◌, ℕ, List, Bool, true, false, Option, Some, None, refl, ap, sym, ◌∙◌, subst}
 use Rattle.std.specs.Prelude.{is_some, option_map, ◌↔◌, IsTrue}
+use Rattle.hc_text.proofs.Basics.{false_true, same_test, some_inj as some_is}
 use Rattle.hc_rules.specs.declared.room.Limits.{Limits}
 use Rattle.hc_store.specs.declared.backend.Backend.{Ghosts}
 use Rattle.hc_sparse.specs.Cells.{EndsBy, Covers}
@@ -19,12 +20,7 @@ use Rattle.hc_effects.proofs.PollKeeps.{current_stays}
 use Rattle.hc_state.specs.declared.rows.Rows.{Rows}
 use Rattle.hc_state.specs.Stands.{RowsStand}
 use Rattle.hc_state.specs.Stored.{IsEntry, KeepsEntry, TellsLength, told, untold}
-use Rattle.hc_state.proofs.Words.{false_true, none_some, some_is}
-
-same_test : (a b : Bool) → (a ≡ true → b ≡ true) → (b ≡ true → a ≡ true) → a ≡ b
-same_test true b to back = sym (to refl)
-same_test false true to back = back refl
-same_test false false to back = refl
+use Rattle.hc_state.proofs.Words.{none_some}
 
 -- WHAT IS STORED
 

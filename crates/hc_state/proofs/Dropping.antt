@@ -3,6 +3,7 @@ use Rattle.std.proofs.Common.{◌≡◌, ◌≢◌, inl, inr, ℕ, ◌+◌, List
 use Rattle.std.proofs.lemmas.Bool.Decides.{nat_tests}
 use Rattle.std.specs.Prelude.{is_some, nat_eq, bytes_eq, drop, not, ◌&&◌, if◌then◌else◌}
 use Rattle.std.specs.HashMap.{get, hash_map_len}
+use Rattle.hc_text.proofs.Basics.{eqb-other, eqb-same, false_true, same_or, and_off as then_false}
 use Rattle.hc_rules.specs.declared.room.Limits.{Limits}
 use Rattle.hc_store.specs.declared.backend.Backend.{Ghosts}
 use Rattle.hc_event.specs.declared.act.Cause.{Cause}
@@ -44,7 +45,7 @@ use Rattle.hc_state.proofs.Maps.{merely_true}
 use Rattle.hc_state.proofs.FallbackSteps.{live_same}
 use Rattle.hc_state.proofs.QueueArm.{becomes_by}
 use Rattle.hc_state.proofs.Ties.{exchange_same, kept_row, runs_same}
-use Rattle.hc_state.proofs.Words.{same_or, eqb-same, eqb-other, false_true, then_false, and_false}
+use Rattle.hc_state.proofs.Words.{and_false}
 
 -- TESTS
 

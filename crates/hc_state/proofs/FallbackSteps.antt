@@ -2,6 +2,7 @@
 use Rattle.std.proofs.Common.{◌≡◌, ◌≢◌, inl, inr, ℕ, List, [], ◌∷◌, length, Bool, true, false, Option, Some, None, refl, ap, sym, ◌∙◌, subst, arith}
 use Rattle.std.specs.Prelude.{is_some, nat_eq, filter, not}
 use Rattle.std.specs.HashMap.{get, hash_map_len}
+use Rattle.hc_text.proofs.Basics.{eqb-other, eqb-same, false_true, filters_same, same_or}
 use Rattle.hc_rules.specs.declared.room.Limits.{Limits}
 use Rattle.hc_store.specs.declared.backend.Backend.{Ghosts}
 use Rattle.hc_stored.specs.Entries.{shelf_of}
@@ -25,7 +26,6 @@ use Rattle.hc_state.proofs.Fallbacks.{IsAlike, same, fallback, is_fallback, held
 use Rattle.hc_state.proofs.ConsumerSteps.{all_kept_with}
 use Rattle.hc_state.proofs.OneOfEach.{entries_same}
 use Rattle.hc_state.proofs.Ties.{exchange_same}
-use Rattle.hc_state.proofs.Words.{same_or, eqb-same, eqb-other, false_true}
 
 -- WHO CAME ALONE
 
@@ -48,10 +48,6 @@ first_alike t q o p (same is) = ap (is_first t q) is
 first_alike t q o p (fallback was is) = first_fallback t q p is ∙ sym (first_fallback t q o was)
 
 -- HOW MANY ARE LIVE
-
-filters_same : (f h : ℕ → Bool) → ((d : ℕ) → h d ≡ f d) → (cs : List ℕ) → filter h cs ≡ filter f cs
-filters_same f h alike [] = refl
-filters_same f h alike (d ∷ cs) = rw (alike d, filters_same f h alike cs) refl
 
 -- as many as before, where whoever is live is the same
 pub live_same : (t s : Tables) → s.starts ≡ t.starts → ((d : ℕ) → is_live (s.consumer d) ≡ is_live (t.consumer d)) → live s ≡ live t

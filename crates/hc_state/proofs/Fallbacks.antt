@@ -1,6 +1,7 @@
 -- Consumers that read nothing: nothing is held for them, and they are bound to nothing.
 use Rattle.std.proofs.Common.{◌≡◌, ℕ, [], Bool, true, false, Option, Some, None, refl, ap, sym, ◌∙◌}
 use Rattle.std.specs.Prelude.{not, option_map, if◌then◌else◌}
+use Rattle.hc_text.proofs.Basics.{false_true}
 use Rattle.hc_event.specs.declared.place.Place.{Place}
 use Rattle.hc_event.specs.declared.place.Place.TheVariants as place
 use Rattle.hc_model.specs.Effects.{as_gone}
@@ -8,7 +9,6 @@ use Rattle.hc_model.specs.Exchanges.{family}
 use Rattle.hc_model.specs.Reading.{reads, is_bound}
 use Rattle.hc_model.specs.Rows.{Tables, Exchange, Representation, Consumer}
 use Rattle.hc_state.specs.Kept.{answer_for, unread, unstored_bytes, held_alone, held_of, held_for}
-use Rattle.hc_state.proofs.Words.{false_true}
 
 -- it isn't there, or reads nothing
 abbrev pub is_fallback : Option Consumer → Bool

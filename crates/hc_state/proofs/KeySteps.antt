@@ -1,6 +1,7 @@
 -- What is kept of a consumer's key where it is in line again, leaves, or takes the turn; of another key the same is said.
 use Rattle.std.proofs.Common.{◌≡◌, inl, inr, ℕ, List, Bool, true, false, cond, eqb, Option, Some, None, refl, ap, sym, ◌∙◌}
 use Rattle.std.specs.Prelude.{bytes_eq, ◌&&◌, ◌||◌, not}
+use Rattle.hc_text.proofs.Basics.{eqb-other, eqb-same, false_true, same_or, and_off as then_false}
 use Rattle.hc_entry.specs.Kept as keyed
 use Rattle.hc_entry.specs.Kept.{on_line}
 use Rattle.hc_entry.specs.Lines as lines
@@ -17,7 +18,7 @@ use Rattle.hc_model.specs.Rows as rows
 use Rattle.hc_model.specs.Rows.{Tables}
 use Rattle.hc_state.specs.Lines.{KeepsKey, has_turn, is_passed, is_away, is_away_at}
 use Rattle.hc_state.proofs.ConsumerSteps.{KeyAfter, SaysOfIt, at_it}
-use Rattle.hc_state.proofs.Words.{same_or, eqb-same, eqb-other, and_false, then_false, false_true}
+use Rattle.hc_state.proofs.Words.{and_false}
 
 -- WHAT IS SAID OF IT
 

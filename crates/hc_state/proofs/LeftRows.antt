@@ -5,6 +5,7 @@ use Rattle.std.specs.Prelude.{is_some, IsSomeAnd, nat_eq, filter, not, ◌&&◌,
 use Rattle.std.specs.List.{list_all}
 use Rattle.std.specs.Option.{option_or, option_and_then}
 use Rattle.std.specs.HashMap.{get}
+use Rattle.hc_text.proofs.Basics.{both_true as and_both, and_left as and_first, and_right as and_then, eqb-same, false_true, never_true as not_true, or_right as or_then, same_test}
 use Rattle.hc_rules.specs.declared.room.Limits.{Limits}
 use Rattle.hc_store.specs.declared.backend.Backend.{Ghosts}
 use Rattle.hc_sorted.specs.Sorted.{has}
@@ -37,30 +38,9 @@ use Rattle.hc_state.specs.Leaving.{if_running, writing_of, last_read, left_of}
 use Rattle.hc_state.specs.Stands.{RowsStand}
 use Rattle.hc_state.specs.Stored.{KeepsEntry, TellsWriter, as_written, forgotten, is_over}
 use Rattle.hc_state.proofs.Ties.{kept_row}
-use Rattle.hc_state.proofs.Words.{eqb-same, false_true, there, is_there, not_true}
+use Rattle.hc_state.proofs.Words.{there, is_there}
 
 -- LISTS
-
-same_test : (a b : Bool) → (a ≡ true → b ≡ true) → (b ≡ true → a ≡ true) → a ≡ b
-same_test true b to back = sym (to refl)
-same_test false true to back = back refl
-same_test false false to back = refl
-
-and_both : (a b : Bool) → a ≡ true → b ≡ true → (a && b) ≡ true
-and_both true b on also = also
-and_both false b on also = false_true on
-
-and_first : (a b : Bool) → (a && b) ≡ true → a ≡ true
-and_first true b on = refl
-and_first false b on = false_true on
-
-and_then : (a b : Bool) → (a && b) ≡ true → b ≡ true
-and_then true b on = on
-and_then false b on = false_true on
-
-or_then : (a b : Bool) → b ≡ true → (a || b) ≡ true
-or_then true b on = refl
-or_then false b on = on
 
 all_has : (test : ℕ → Bool) (cs : List ℕ) → ((d : ℕ) → has itself d cs ≡ true → test d ≡ true) → list_all test cs ≡ true
 all_has test [] each = refl

@@ -2,6 +2,7 @@
 use Rattle.std.proofs.Common.{◌≡◌, ◌≢◌, inl, inr, ℕ, List, [], ◌∷◌, Bool, true, Option, Some, None, refl, ap, sym, ◌∙◌, subst}
 use Rattle.std.specs.Prelude.{is_some, nat_eq, find, filter, option_map}
 use Rattle.std.specs.HashMap.{get, hash_map_len}
+use Rattle.hc_text.proofs.Basics.{eqb-other, eqb-same, false_true, filters_same, finds_same, same_or, same_some as same_row}
 use Rattle.hc_rules.specs.declared.room.Limits.{Limits}
 use Rattle.hc_store.specs.declared.backend.Backend.{Ghosts}
 use Rattle.hc_stored.specs.Entries.{shelf_of}
@@ -30,15 +31,6 @@ use Rattle.hc_state.specs.Stopped.{HoldsNothing}
 use Rattle.hc_state.specs.Stored.{IsEntry, TellsLength, told, untold, KeepsEntry, KeepsEntries, is_first, is_usable_row}
 use Rattle.hc_state.proofs.Fallbacks.{unstored_moved}
 use Rattle.hc_state.proofs.Ties.{consumer_same, exchange_same, key_same, entry_same}
-use Rattle.hc_state.proofs.Words.{same_or, eqb-same, eqb-other, false_true, same_row}
-
-pub finds_same : (f h : ℕ → Bool) → ((q : ℕ) → h q ≡ f q) → (qs : List ℕ) → find h qs ≡ find f qs
-finds_same f h alike [] = refl
-finds_same f h alike (q ∷ qs) = rw (alike q, finds_same f h alike qs) refl
-
-pub filters_same : (f h : ℕ → Bool) → ((q : ℕ) → h q ≡ f q) → (qs : List ℕ) → filter h qs ≡ filter f qs
-filters_same f h alike [] = refl
-filters_same f h alike (q ∷ qs) = rw (alike q, filters_same f h alike qs) refl
 
 module _ (t : Tables) (r : ℕ) (v : Representation) (alone : Option ℕ) (row : t.representation r ≡ Some v) where
   abbrev pub s : Tables

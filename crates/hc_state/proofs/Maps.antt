@@ -6,6 +6,7 @@ use Rattle.std.proofs.lemmas.List.{append_assoc}
 use Rattle.std.specs.Prelude.{is_some, nat_eq, nat_lt, option_map, if◌then◌else◌, IsSomeAnd, IfSome}
 use Rattle.std.specs.Option.{option_copied}
 use Rattle.std.specs.HashMap.{get, get_by, hash_map_len, UpdatesBy}
+use Rattle.hc_text.proofs.Basics.{eqb-other, eqb-same, same_or}
 use Rattle.hc_range.specs.declared.range.Asked.{Asked}
 use Rattle.hc_range.specs.declared.range.Asked.TheVariants as asked
 use Rattle.hc_range.specs.declared.range.Span.{Span}
@@ -17,7 +18,6 @@ use Rattle.hc_entry.specs.Lines.{is_in, is_held_by}
 use Rattle.hc_state.specs.declared.consumer.Consumer.{Consumer}
 use Rattle.hc_state.specs.Arms.{IsQueued}
 use Rattle.hc_state.specs.Changes.{Numbered, ChangesAt, BecomesAt, one}
-use Rattle.hc_state.proofs.Words.{same_or, eqb-same, eqb-other}
 
 -- MAPS
 

@@ -3,6 +3,7 @@ use Rattle.std.proofs.Common.{◌≡◌, ◌≢◌, inl, inr, ℕ, ◌+◌, List
 use Rattle.std.specs.Prelude.{is_some, nat_eq, filter}
 use Rattle.std.specs.List.{list_any}
 use Rattle.std.specs.HashMap.{get, hash_map_len}
+use Rattle.hc_text.proofs.Basics.{eqb-other, eqb-same, filters_same, same_or}
 use Rattle.hc_rules.specs.declared.room.Limits.{Limits}
 use Rattle.hc_store.specs.declared.backend.Backend.{Ghosts}
 use Rattle.hc_stored.specs.Entries.{shelf_of}
@@ -28,7 +29,6 @@ use Rattle.hc_state.specs.Lines.{KeepsKey}
 use Rattle.hc_state.specs.Stands.{RowsStand}
 use Rattle.hc_state.specs.Stored.{KeepsEntry, KeepsEntries, is_first, is_usable_row}
 use Rattle.hc_state.proofs.Ties.{consumer_same, exchange_same, entry_same, OversStay}
-use Rattle.hc_state.proofs.Words.{same_or, eqb-same, eqb-other}
 
 -- REPRESENTATIONS
 
@@ -50,10 +50,6 @@ first_by t s same q (Some k) = by_place k.place refl
 
 pub first_row : (t s : Tables) → ((q : ℕ) → s.representation q ≡ t.representation q) → (q : ℕ) (row : Option rows.Consumer) → is_first s q row ≡ is_first t q row
 first_row t s same q row = first_by t s (λ n. ap status_in (same n)) q row
-
-filters_same : (f h : ℕ → Bool) → ((d : ℕ) → h d ≡ f d) → (cs : List ℕ) → filter h cs ≡ filter f cs
-filters_same f h same [] = refl
-filters_same f h same (d ∷ cs) = rw (same d, filters_same f h same cs) refl
 
 pub bound_same : (t s : Tables) (q : ℕ) → s.starts ≡ t.starts → ((d : ℕ) → is_bound q (s.consumer d) ≡ is_bound q (t.consumer d)) → bound s q ≡ bound t q
 unfolding bound

@@ -2,6 +2,7 @@
 use Rattle.std.proofs.Common.{◌≡◌, inl, inr, ℕ, ◌+◌, List, Bool, true, false, Option, Some, refl, ap, sym, ◌∙◌, subst}
 use Rattle.std.specs.Prelude.{nat_eq, bytes_eq, option_map, ◌==◌, if◌then◌else◌}
 use Rattle.std.specs.HashMap.{get}
+use Rattle.hc_text.proofs.Basics.{eqb-other, eqb-same, false_true, same_or, and_off as then_false}
 use Rattle.hc_rules.specs.declared.room.Limits.{Limits}
 use Rattle.hc_store.specs.declared.backend.Backend.{Ghosts}
 use Rattle.hc_entry.specs.Keys as keys
@@ -29,7 +30,6 @@ use Rattle.hc_state.specs.Stands.{RowsStand}
 use Rattle.hc_state.proofs.FallbackSteps.{falls_back}
 use Rattle.hc_state.proofs.ConsumerSteps.{keys_with}
 use Rattle.hc_state.proofs.KeySteps.{says_elsewhere, lined, comes_back}
-use Rattle.hc_state.proofs.Words.{same_or, eqb-same, eqb-other, then_false, false_true}
 
 -- a consumer that is there is another
 pub becomes_by : (r u : Numbered Consumer) (c : ℕ) (k : Consumer) (f : Consumer → Consumer) → get nat_eq r c ≡ Some k → ChangesAt r u c f → BecomesAt r u c (Some (f k))

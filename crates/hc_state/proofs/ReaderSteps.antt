@@ -1,6 +1,7 @@
 -- A consumer that reads stays where it stands, and is given more, or was shown its head: what is kept stands for the tables then.
 use Rattle.std.proofs.Common.{◌≡◌, ◌≢◌, inl, inr, ℕ, ◌≤◌, List, arith, Bool, true, Option, Some, None, refl, ap, sym, ◌∙◌}
 use Rattle.std.specs.HashMap.{hash_map_len}
+use Rattle.hc_text.proofs.Basics.{eqb-other, eqb-same, same_or}
 use Rattle.hc_store.specs.declared.backend.Backend.{Ghosts}
 use Rattle.hc_event.specs.declared.event.Event.{Event}
 use Rattle.hc_event.specs.declared.act.Act.{Act}
@@ -30,7 +31,6 @@ use Rattle.hc_state.proofs.Fallbacks.{unstored_moved}
 use Rattle.hc_state.proofs.ConsumerSteps.{SaysOfIt, all_kept_with, key_stays, key_with}
 use Rattle.hc_state.proofs.OneOfEach.{entries_same}
 use Rattle.hc_state.proofs.Ties.{exchange_same}
-use Rattle.hc_state.proofs.Words.{same_or, eqb-same, eqb-other}
 
 -- what stays of the representations, over a store that was read
 pub entries_read : (t : Tables) (a b : Shelf) → shelf.Stays a b → KeepsEntries t a → KeepsEntries t b

@@ -4,6 +4,7 @@ use Rattle.std.proofs.lemmas.List.{append_assoc, append-nil}
 use Rattle.std.proofs.lemmas.Bool.Decides.{nat_tests}
 use Rattle.std.specs.Prelude.{is_some, nat_eq, filter, map, reverse, not, ◌&&◌, ◌||◌, ◌==◌}
 use Rattle.std.specs.List.{sum_by, IsDistinct}
+use Rattle.hc_text.proofs.Basics.{eqb-other, eqb-same, false_true, same_or, some_inj as some_is}
 use Rattle.hc_rules.specs.declared.room.Limits.{Limits}
 use Rattle.hc_store.specs.declared.backend.Backend.{Ghosts}
 use Rattle.hc_stored.specs.Entries.{shelf_of}
@@ -37,7 +38,7 @@ use Rattle.hc_state.specs.Stands.{RowsStand}
 use Rattle.hc_state.specs.Stored.{KeepsEntry, is_usable_row}
 use Rattle.hc_state.proofs.BoundLists.{nobody_bound}
 use Rattle.hc_state.proofs.LiveCounts.{filter-reverse}
-use Rattle.hc_state.proofs.Words.{eqb-same, eqb-other, false_true, same_or, some_is, none_some}
+use Rattle.hc_state.proofs.Words.{none_some}
 
 -- LISTS OF NUMBERS
 

@@ -41,19 +41,13 @@ use Rattle.hc_stored.specs.declared.view.EntryView.{EntryView}
 use Rattle.hc_exch.specs.declared.row.Open.{Open}
 use Rattle.hc_exch.specs.Exchanges.{next_of}
 use Rattle.std.specs.HashMap.{hash_map_len}
+use Rattle.hc_text.proofs.Basics.{any_none, eq_tells, eqb-other, eqb-same, false_true, same_or, some_inj as some_is, and_off as then_false}
 use Rattle.hc_state.specs.Stored.{IsEntry, TellsLength, told, untold, KeepsEntry, KeepsEntries}
 use Rattle.hc_state.proofs.CloseArm.{quiet, unawaited_go}
 use Rattle.hc_state.proofs.Closing.{entry_closed, stands_closed, stands_unstored}
 use Rattle.hc_state.proofs.OneOfEach.{first_row}
 use Rattle.hc_state.proofs.Stopping.{Stays}
-use Rattle.hc_state.proofs.Words.{same_or, eqb-same, eqb-other, then_false, none_some, false_true, some_is}
-
-eq_tells : (a b : ℕ) → nat_eq a b ≡ true → a ≡ b
-eq_tells a b is = grind (arith, nat_tests, is)
-
-pub any_none : (test : ℕ → Bool) (xs : List ℕ) → ((y : ℕ) → test y ≡ false) → list_any test xs ≡ false
-any_none test [] off = refl
-any_none test (x ∷ xs) off = rw (off x) (any_none test xs off)
+use Rattle.hc_state.proofs.Words.{none_some}
 
 -- what is called whole is
 whole_covers : (v : Representation) (n : ℕ) → kind_left v ≡ kinds.Whole → v.head.total ≡ Some n → Covers v.stored 0 n

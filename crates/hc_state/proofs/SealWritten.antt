@@ -3,6 +3,7 @@ use Rattle.std.proofs.Common.{◌≡◌, ◌≢◌, inl, inr, ℕ, List, [], ◌
 use Rattle.std.proofs.lemmas.Bool.Decides.{nat_tests}
 use Rattle.std.specs.Prelude.{is_some, nat_eq, not, ◌&&◌, ◌||◌, ◌==◌, if◌then◌else◌}
 use Rattle.std.specs.Option.{option_or}
+use Rattle.hc_text.proofs.Basics.{eq_tells, eqb-other, eqb-same, false_true, same_or, same_some as same_row}
 use Rattle.hc_event.specs.Filters.{closes_in}
 use Rattle.hc_event.specs.declared.event.Event.{Event}
 use Rattle.hc_model.specs.Effects.{is_unkeepable, going_with}
@@ -13,10 +14,7 @@ use Rattle.hc_model.specs.Lawful.{Lawful}
 use Rattle.hc_model.specs.Rows.{Tables, Exchange, Representation}
 use Rattle.hc_model.specs.Sound.{Among}
 use Rattle.hc_model.specs.Writes.{sealed_representation, seals_at, sealed_by, is_sealed, stops, first_found}
-use Rattle.hc_state.proofs.Words.{same_or, eqb-same, eqb-other, none_some, false_true, same_row}
-
-eq_tells : (a b : ℕ) → nat_eq a b ≡ true → a ≡ b
-eq_tells a b is = grind (arith, nat_tests, is)
+use Rattle.hc_state.proofs.Words.{none_some}
 
 found_only : (f : ℕ → Option ℕ) (x r : ℕ) (ys : List ℕ) → Among x ys → f x ≡ Some r → ((y : ℕ) → x ≢ y → f y ≡ None) → first_found f ys ≡ Some r
 found_only f x r [] among is off = absurd among

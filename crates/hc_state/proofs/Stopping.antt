@@ -2,6 +2,7 @@
 use Rattle.std.proofs.Common.{◌≡◌, ◌≢◌, ℕ, ◌<◌, ◌^◌, Bool, true, false, Option, Some, None, refl, ap, sym, ◌∙◌, subst, arith}
 use Rattle.std.proofs.lemmas.Bool.Decides.{nat_tests}
 use Rattle.std.specs.Prelude.{is_some, is_none, nat_eq, not, ◌&&◌, if◌then◌else◌}
+use Rattle.hc_text.proofs.Basics.{eqb-other, eqb-same, false_true, same_some as same_row, and_off as then_false}
 use Rattle.hc_rules.specs.declared.room.Limits.{Limits}
 use Rattle.hc_store.specs.declared.backend.Backend.{Ghosts}
 use Rattle.hc_event.specs.declared.event.Response.{Response}
@@ -33,7 +34,7 @@ use Rattle.hc_state.specs.Stands.{RowsStand}
 use Rattle.hc_state.specs.Stopped.{with_consumers}
 use Rattle.hc_state.specs.Stops.{body_of, brought_by, may_complete, goes_with, stop_by, stop_at, stop_of, IsViewOf}
 use Rattle.hc_state.specs.Stored.{IsEntry, KeepsEntry, TellsLength, told, untold}
-use Rattle.hc_state.proofs.Words.{eqb-same, eqb-other, then_false, none_some, false_true, same_row}
+use Rattle.hc_state.proofs.Words.{none_some}
 
 -- nothing is stored by it that isn't gone
 pub record IsApartNow (t : Tables) (x : ℕ) : Type 0 where

@@ -2,6 +2,7 @@
 use Rattle.std.proofs.Common.{◌≡◌, ℕ, ◌<◌, Bool, true, false, Option, Some, None, refl, ap, sym, ◌∙◌, subst, arith}
 use Rattle.std.proofs.lemmas.Bool.Decides.{nat_tests}
 use Rattle.std.specs.Prelude.{is_some, nat_lt, ◌&&◌, ◌↔◌, IsTrue}
+use Rattle.hc_text.proofs.Basics.{same_test}
 use Rattle.hc_sparse.specs.Cells.{Cells, Covers}
 use Rattle.hc_stored.specs.declared.view.EntryView.{EntryView}
 use Rattle.hc_model.specs.Holes.{covers}
@@ -9,11 +10,6 @@ use Rattle.hc_model.specs.Kinds.{is_complete, is_front, covers_all}
 use Rattle.hc_model.specs.Rows.{Representation}
 use Rattle.hc_effects.proofs.HoleLemmas as holes
 use Rattle.hc_state.specs.Stops.{IsViewOf}
-
-same_test : (a b : Bool) → (a ≡ true → b ≡ true) → (b ≡ true → a ≡ true) → a ≡ b
-same_test true b to back = sym (to refl)
-same_test false true to back = back refl
-same_test false false to back = refl
 
 module _ (v : Representation) (cells : Cells) (entry : EntryView) (is : IsViewOf v cells entry) where
   -- what the store covers is covered

@@ -1,6 +1,7 @@
 -- What is kept stands for other tables too, item by item: what neither changes nor looks at what changes stays tied.
 use Rattle.std.proofs.Common.{◌≡◌, ◌≢◌, inl, inr, ℕ, List, Bool, true, false, Option, Some, None, refl, ap, sym, ◌∙◌, subst}
 use Rattle.std.specs.Prelude.{is_some, is_none, not, option_map, if◌then◌else◌}
+use Rattle.hc_text.proofs.Basics.{false_true, same_or}
 use Rattle.hc_entry.specs.Kept as keyed
 use Rattle.hc_rules.specs.Needs.{route_of}
 use Rattle.hc_exch.specs.Known.{Known}
@@ -24,7 +25,6 @@ use Rattle.hc_state.specs.declared.consumer.Consumer.{Consumer}
 use Rattle.hc_state.specs.Kept.{IsKept, IsRunning, KeepsConsumer, KeepsExchange, KeepsRunning, answer_for, held_for, role_awaited}
 use Rattle.hc_state.specs.Lines.{KeepsKey, has_turn, is_passed, is_away}
 use Rattle.hc_state.specs.Stored.{KeepsEntry, TellsWriter, as_written, forgotten, is_first, is_over}
-use Rattle.hc_state.proofs.Words.{same_or, false_true}
 
 -- CONSUMERS
 

@@ -3,6 +3,7 @@ use Rattle.std.proofs.Common.{◌≡◌, ◌≢◌, ◌⊎◌, inl, inr, ℕ, �
 use Rattle.std.proofs.lemmas.Bool.Decides.{nat_tests}
 use Rattle.std.specs.Prelude.{filter, find, is_some, unwrap_or, ◌&&◌, ◌||◌}
 use Rattle.std.specs.Option.{option_or}
+use Rattle.hc_text.proofs.Basics.{and_both as and_parts, bool_cases, eq_by, eqb-same, false_true, or_cases as in_either, or_right as later_in, same_or, some_inj as some_is}
 use Rattle.hc_entry.specs.Kept.{Kept, line_in}
 use Rattle.hc_entry.specs.Lines.{is_among, is_held_by, turn_of, turn_with}
 use Rattle.hc_rules.specs.Least.{least, lesser}
@@ -11,24 +12,9 @@ use Rattle.hc_model.specs.Lines.{is_in_line, holds_turn, line, holder}
 use Rattle.hc_model.specs.Rows.{Tables, Consumer}
 use Rattle.hc_model.specs.Sound.{Among, IsListed}
 use Rattle.hc_state.specs.Lines.{KeepsKey, has_turn}
-use Rattle.hc_state.proofs.Words.{same_or, false_true, none_some, some_is, eqb-same}
+use Rattle.hc_state.proofs.Words.{none_some}
 
 -- THE LEAST
-
-bool_cases : (b : Bool) → (b ≡ true) ⊎ (b ≡ false)
-bool_cases true = inl refl
-bool_cases false = inr refl
-
-eq_by : (a b : ℕ) → eqb a b ≡ true → a ≡ b
-eq_by a b on = grind (arith, nat_tests, on)
-
-in_either : (a b : Bool) → (a || b) ≡ true → (a ≡ true) ⊎ (b ≡ true)
-in_either true b on = inl refl
-in_either false b on = inr on
-
-later_in : (a b : Bool) → b ≡ true → (a || b) ≡ true
-later_in true b on = refl
-later_in false b on = on
 
 pub record IsLeast (m : ℕ) (xs : List ℕ) : Type 0 where
   pub among : is_among m xs ≡ true
@@ -165,11 +151,6 @@ find_on g (x ∷ xs) c there on = by_test (λ later. find_on g xs c later on) (g
       | inl here ↦ false_true (sym is ∙ (ap g (eq_by x c here) ∙ on))
       | inr later ↦ more (rest later) is
     ]
-
-pub and_parts : (a b : Bool) → (a && b) ≡ true → (a ≡ true) × (b ≡ true)
-and_parts true true on = (refl, refl)
-and_parts true false on = false_true on
-and_parts false b on = false_true on
 
 and_then : (a b : Bool) → (a && b) ≡ false → a ≡ true → b ≡ false
 and_then true b off on = off

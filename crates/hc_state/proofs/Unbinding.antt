@@ -2,6 +2,7 @@
 use Rattle.std.proofs.Common.{◌≡◌, ◌≢◌, inl, inr, ℕ, List, [], ◌∷◌, Bool, true, false, cond, eqb, Option, Some, None, refl, ap, sym, ◌∙◌, subst}
 use Rattle.std.specs.Prelude.{is_some, not, ◌&&◌, if◌then◌else◌}
 use Rattle.std.specs.Option.{option_and_then}
+use Rattle.hc_text.proofs.Basics.{eqb-other, eqb-same, false_true, same_or}
 use Rattle.hc_sorted.specs.Sorted.{has, without}
 use Rattle.hc_sorted.proofs.SortedLemmas.{has-without}
 use Rattle.hc_stored.specs.Kept as entry
@@ -27,7 +28,7 @@ use Rattle.hc_state.specs.Stored.{IsEntry, TellsLength, told, untold, KeepsEntry
 use Rattle.hc_state.proofs.LiveCounts as counts
 use Rattle.hc_state.proofs.OneOfEach.{bound_same}
 use Rattle.hc_state.proofs.Ties.{entry_same}
-use Rattle.hc_state.proofs.Words.{same_or, eqb-same, eqb-other, false_true, and_false}
+use Rattle.hc_state.proofs.Words.{and_false}
 
 -- it isn't among them any more
 pub without_is : (c : ℕ) (cs : List ℕ) (d : ℕ) → is_among d (without itself c cs) ≡ cond (eqb c d) false (is_among d cs)

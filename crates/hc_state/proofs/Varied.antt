@@ -4,6 +4,7 @@ use Rattle.std.specs.Prelude.{◌||◌, bytes_eq, codes, filter, slice_get}
 use Rattle.std.specs.List.{list_any}
 use Rattle.std.proofs.lemmas.List.{append_assoc, drop_more}
 use Rattle.std.proofs.lemmas.Option.{slice_get_within, get_or_from_slice_get}
+use Rattle.hc_text.proofs.Basics.{false_true}
 use Rattle.http_header.specs.Token.{lowercase}
 use Rattle.hc_fields.specs.FieldElements.{elements_in}
 use Rattle.hc_fields.specs.FieldList.{IsFieldList, IsWithinLimits, has_name, without}
@@ -14,7 +15,6 @@ use Rattle.hc_validate.specs.Updates.{is_renewed, left_by}
 use Rattle.hc_validate.proofs.Renewals.{field_at, left_by-more}
 use Rattle.hc_model.specs.Heads.{is_varied, kept_fields, varied_by}
 use Rattle.hc_state.specs.Founding.{is_named_by}
-use Rattle.hc_state.proofs.Words.{false_true}
 
 abbrev pub Pair : Type 0
 Pair = List ℕ × List ℕ

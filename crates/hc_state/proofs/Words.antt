@@ -2,27 +2,10 @@
 use Rattle.std.proofs.Common.{◌≡◌, ◌≢◌, ◌⊎◌, inl, inr, ℕ, ◌+◌, ◌<◌, ◌≤◌, ◌^◌, Bool, true, false, cond, eqb, Option, Some, None, Result, Ok, Err, refl, sym, ◌∙◌, arith}
 use Rattle.std.proofs.lemmas.Bool.Decides.{nat_tests, eqb_tells}
 use Rattle.std.specs.Prelude.{is_some, IsSomeAnd, OnOk, OnErr, ◌||◌, ◌&&◌}
-
-pub same_or : (c d : ℕ) → (c ≡ d) ⊎ (c ≢ d)
-same_or c d = elim (eqb_tells c d) [ inl e ↦ inl e.1 | inr e ↦ inr e.1 ]
-
-pub eqb-same : (c : ℕ) → eqb c c ≡ true
-eqb-same c = grind (arith, nat_tests)
-
-pub eqb-other : (c d : ℕ) → c ≢ d → eqb c d ≡ false
-eqb-other c d ne = grind (arith, nat_tests)
+use Rattle.hc_text.proofs.Basics.{eqb-other, eqb-same, false_true, none_of, never_true as not_true, both_false as or_false, same_or, same_some as same_row, some_inj as some_is, and_off as then_false}
 
 pub none_some : {A P : Type 0} (a : A) → None ≡ Some a → P
 none_some a h = absurd (let never : None ≡ Some a = h in cc)
-
-pub false_true : {P : Type 0} → false ≡ true → P
-false_true h = absurd (let never : false ≡ true = h in cc)
-
-pub some_is : {A : Type 0} (a b : A) → Some a ≡ Some b → a ≡ b
-some_is a b h = cc
-
-pub same_row : {A : Type 0} (o : Option A) (a b : A) → o ≡ Some a → o ≡ Some b → a ≡ b
-same_row o a b is at = some_is a b (sym is ∙ at)
 
 -- a value that is there, and what is known of it
 pub there : {A : Type 0} (o : Option A) (P : A → Type 0) → IsSomeAnd o P → (k : A) × (o ≡ Some k) × P k
@@ -33,21 +16,9 @@ pub is_there : {A : Type 0} (o : Option A) → is_some o ≡ true → (k : A) ×
 is_there None h = false_true h
 is_there (Some k) h = (k, refl)
 
-pub or_false : (a b : Bool) → a ≡ false → b ≡ false → (a || b) ≡ false
-or_false false b p q = q
-or_false true b p q = false_true (sym p)
-
 pub and_false : (a b : Bool) → a ≡ false → (a && b) ≡ false
 and_false false b p = refl
 and_false true b p = false_true (sym p)
-
-pub then_false : (a b : Bool) → b ≡ false → (a && b) ≡ false
-then_false false b p = refl
-then_false true b p = p
-
-pub not_true : (b : Bool) → (b ≡ true → ⊥) → b ≡ false
-not_true true off = absurd (off refl)
-not_true false off = refl
 
 pub or_none : {A : Type 0} (o : Option A) → cond (is_some o) o None ≡ o
 or_none None = refl
@@ -61,10 +32,6 @@ on_ok (Err e) p q s f = tt
 pub ok_then : {A E P Q : Type 0} (r : Result A E) → OnOk r P → (P → Q) → OnOk r Q
 ok_then (Ok x) p f = f p
 ok_then (Err e) p f = tt
-
-pub none_of : {A : Type 0} (o : Option A) → is_some o ≡ false → o ≡ None
-none_of None off = refl
-none_of (Some a) off = false_true (sym off)
 
 -- what is none isn't there
 pub none_there : {A P : Type 0} (o : Option A) → o ≡ None → is_some o ≡ true → P

@@ -1,3 +1,4 @@
+pub mod Basics
 pub mod NumberLemmas
 pub mod ElementLemmas
 pub mod LawLemmas

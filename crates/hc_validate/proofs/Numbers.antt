@@ -11,16 +11,12 @@ use Rattle.std.proofs.lemmas.Fmt.{decimal_is_IsNumeral, length-decimal-le}
 use Rattle.std.proofs.lemmas.List.{append-nil, get_or-append_right, get_or_append_left}
 use Rattle.std.proofs.lemmas.List.Folds.{list_all-append}
 use Rattle.std.proofs.lemmas.Str.Parse.{digit_at, digit_from_value}
+use Rattle.hc_text.proofs.Basics.{list_all-digits, some-decimal}
 use Rattle.http_header.specs.Token.{is_value_byte}
 use Rattle.hc_text.specs.Elements.{is_blank}
 use Rattle.hc_fields.specs.FieldList.{is_own_value}
 use Rattle.hc_range.specs.declared.range.Span.{Span}
 use Rattle.hc_range.specs.Spans.{IsWithin, content_range_text, range_text}
-
--- what holds of each digit holds of each byte of a number
-list_all-digits : (p : ℕ → Bool) → ((c : ℕ) → IsInRange 48 57 c → p c ≡ true) → (ds : List ℕ) → AllDigits 10 ds → list_all p ds ≡ true
-list_all-digits p each [] h = refl
-list_all-digits p each (c ∷ ds) h = rw (each c (digit_from_value c h.0)) (list_all-digits p each ds h.1)
 
 is_value_byte-digit : (c : ℕ) → IsInRange 48 57 c → is_value_byte c ≡ true
 is_value_byte-digit c h = grind (arith, nat_tests)
@@ -30,9 +26,6 @@ is_blank-digit c h = grind (arith, nat_tests)
 
 AllDigits-decimal : (n : ℕ) → n < 2 ^ 64 → AllDigits 10 (decimal n)
 AllDigits-decimal n h = (decimal_is_IsNumeral n (omega (arith, h))).0.1
-
-some-decimal : (n : ℕ) → n < 2 ^ 64 → 0 < length (decimal n)
-some-decimal n h = (decimal_is_IsNumeral n (omega (arith, h))).0.0
 
 values-decimal : (n : ℕ) → n < 2 ^ 64 → list_all is_value_byte (decimal n) ≡ true
 values-decimal n h = list_all-digits is_value_byte is_value_byte-digit (decimal n) (AllDigits-decimal n h)

@@ -5,17 +5,12 @@ use Rattle.std.specs.Str.Parse.{digits_value}
 use Rattle.std.proofs.lemmas.Bool.Decides.{nat_tests}
 use Rattle.std.proofs.lemmas.Slice.Eq.{bytes_eq-Decides}
 use Rattle.std.proofs.lemmas.Fmt.{decimal_is_IsNumeral}
+use Rattle.hc_text.proofs.Basics.{le-leb as leb-from, same_bytes}
 use Rattle.hc_text.specs.Numbers.{IsPlain}
 use Rattle.hc_validate.specs.Origin.{size_in}
 
-leb-from : (m n : ℕ) → m ≤ n → leb m n ≡ true
-leb-from m n h = grind (arith, nat_tests)
-
 leb-not : (m n : ℕ) → n < m → leb m n ≡ false
 leb-not m n h = grind (arith, nat_tests)
-
-same_bytes : (text : List ℕ) → bytes_eq text text ≡ true
-same_bytes text = (bytes_eq-Decides text text).1 refl
 
 value : (text : List ℕ) (n : ℕ) → IsPlain text n → digits_value 10 text ≡ n
 value text n is = rw is.1 ((decimal_is_IsNumeral n (omega (arith, is.0))).1)

@@ -1,5 +1,6 @@
 use Rattle.std.proofs.Common.{sym, ◌∙◌}
-use Rattle.hc_app.proofs.Wording.{is_generation, too_many, not_false}
+use Rattle.hc_text.proofs.Basics.{not_false}
+use Rattle.hc_app.proofs.Wording.{is_generation, too_many}
 use Rattle.hc_app.proofs.command.generation_by.Goals as goal
 
 pub returns-then-count-gt-MOST_ROUNDS-clause-none : goal.returns-then-count-gt-MOST_ROUNDS-clause-none

@@ -1,7 +1,8 @@
 use Rattle.std.proofs.Common.{sym, ◌∙◌, subst, ℕ, List}
+use Rattle.hc_text.proofs.Basics.{not_false}
 use Rattle.hc_wire.specs.declared.event.Address.{Address}
 use Rattle.hc_app.specs.Addresses.{IsAddress}
-use Rattle.hc_app.proofs.Wording.{is_serving, no_listen, no_from, not_false}
+use Rattle.hc_app.proofs.Wording.{is_serving, no_listen, no_from}
 use Rattle.hc_app.proofs.command.serving_by.Goals as goal
 
 pub returns-in_default-clause-none : goal.returns-in_default-clause-none

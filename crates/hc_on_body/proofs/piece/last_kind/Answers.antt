@@ -1,7 +1,7 @@
 use Rattle.std.proofs.Common.{◌≡◌, ◌+◌, nat_eq, true, Some, refl, ap, ◌∙◌}
+use Rattle.hc_text.proofs.Basics.{eqb-same}
 use Rattle.hc_exch.specs.Known.{is_all}
 use Rattle.hc_state.specs.Pieces.{ends}
-use Rattle.hc_state.proofs.Words.{eqb-same}
 use Rattle.hc_on_body.proofs.piece.last_kind.Goals as goal
 
 pub returns : goal.returns

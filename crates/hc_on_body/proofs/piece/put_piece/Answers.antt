@@ -1,5 +1,6 @@
 use Rattle.std.proofs.Common.{◌≡◌, ◌+◌, length, refl, ap, sym, ◌∙◌, subst}
 use Rattle.std.specs.Prelude.{option_map}
+use Rattle.hc_text.proofs.Basics.{some_inj as some_is}
 use Rattle.hc_sparse.specs.Cells.{cells_with}
 use Rattle.hc_stored.specs.Entries.{shelf_of}
 use Rattle.hc_stored.specs.Kept.{kept_with_bytes}
@@ -10,7 +11,7 @@ use Rattle.hc_exch.specs.declared.row.ExchangeView.{ExchangeView}
 use Rattle.hc_exch.specs.Known.{view_of, is_all}
 use Rattle.hc_state.specs.Pieces.{larger_view, IsLastKind}
 use Rattle.hc_state.specs.Stops.{IsViewOf}
-use Rattle.hc_state.proofs.Words.{some_is, ok_then}
+use Rattle.hc_state.proofs.Words.{ok_then}
 use Rattle.hc_on_body.proofs.piece.put_piece.Goals as goal
 
 pub returns-clause-ok : goal.returns-clause-ok

@@ -13,11 +13,11 @@ use Rattle.hc_event.specs.declared.act.LostKind.{LostKind}
 use Rattle.hc_stored.specs.Shelf.{size_at}
 use Rattle.hc_state.specs.Room.{loss_by}
 use Rattle.std.specs.Prelude.{Result, Ok, Err, is_some}
+use Rattle.hc_text.proofs.Basics.{same_some as same_row}
 use Rattle.hc_on_body.proofs.FewActs.{has_few, leaves_two}
 use Rattle.hc_on_leave.proofs.PieceArm.{ends_below}
 use Rattle.hc_on_leave.proofs.RefusedPiece.{refused_by}
 use Rattle.hc_on_leave.proofs.StoreArm.{kept_of, kept_mid, absent_mid, answered_mid, refused_mid, front_mid}
-use Rattle.hc_state.proofs.Words.{same_row}
 use Rattle.hc_on_body.proofs.piece.store_piece.Goals as goal
 
 pub make_room-requires : goal.make_room-requires

@@ -1,5 +1,6 @@
 use Rattle.std.proofs.Common.{◌≡◌, ℕ, ◌^◌, None, refl, ap, ◌∙◌, subst}
 use Rattle.std.specs.Prelude.{is_some}
+use Rattle.hc_text.proofs.Basics.{same_some as same_row}
 use Rattle.hc_event.specs.Acts.{act_list}
 use Rattle.hc_stored.specs.Entries.{shelf_of}
 use Rattle.hc_stored.specs.Kept.{itself}
@@ -12,7 +13,7 @@ use Rattle.hc_state.specs.Stopped.{SealedWhole}
 use Rattle.hc_state.proofs.Maps.{merely_true, merely_below}
 use Rattle.hc_on_body.proofs.OpenViews.{viewed}
 use Rattle.hc_on_body.proofs.WholeAnswers.{past_answered, whole_answered, brought_row, unbrought, brought_kept, delivered_short, nobody_alone, own_family}
-use Rattle.hc_state.proofs.Words.{few_received, same_row}
+use Rattle.hc_state.proofs.Words.{few_received}
 use Rattle.hc_on_body.proofs.stop.end_whole.Goals as goal
 
 pub seal_whole-requires-clause-there : goal.seal_whole-requires-clause-there

@@ -1,5 +1,5 @@
 use Rattle.std.proofs.Common.{◌+◌, sym, ◌∙◌, subst}
-use Rattle.hc_on_leave.proofs.SeatLoops.{none_is}
+use Rattle.hc_text.proofs.Basics.{none_or as none_is}
 use Rattle.hc_on_head.proofs.WakeLoop.{WokenSoFar, begins, no_seat, user, one_back, all_over, entries_then, all_lined}
 use Rattle.hc_on_head.proofs.doom.wake.Goals.{in-Some, in_default}
 use Rattle.hc_on_head.proofs.doom.wake.Goals as goal

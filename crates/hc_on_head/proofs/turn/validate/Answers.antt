@@ -1,5 +1,6 @@
 use Rattle.std.proofs.Common.{◌≡◌, ◌<◌, ◌^◌, ℕ, true, false, Some, Ok, Err, refl, ap, sym, ◌∙◌, subst}
 use Rattle.std.proofs.Math.Logic.{∥∥₁_map}
+use Rattle.hc_text.proofs.Basics.{none_or as none_is}
 use Rattle.hc_event.specs.Acts.{act_list}
 use Rattle.hc_event.specs.declared.event.Event.TheVariants as event
 use Rattle.hc_rules.specs.declared.heads.HeadCase.TheVariants as case
@@ -14,7 +15,6 @@ use Rattle.hc_state.specs.Stands.{Answered, RowsStand}
 use Rattle.hc_state.specs.Stored.{is_usable_kept}
 use Rattle.hc_on_leave.proofs.HeadCases.{case_unselected}
 use Rattle.hc_on_leave.proofs.HeardRows.{asker_of, asked_by}
-use Rattle.hc_on_leave.proofs.SeatLoops.{none_is}
 use Rattle.hc_on_head.proofs.TurnArm.{accepted_on, answered_on, asked_on, usable_still, waits_on, at_turn, current_still, facts_on, key_heard, not_still, past_unrenewed, selected_of, stands_selected, stands_unrenewed, still, tells_selected, there_still, unselected_case, unstill_as, validated_answered}
 use Rattle.hc_on_head.proofs.turn.validate.Goals as goal
 

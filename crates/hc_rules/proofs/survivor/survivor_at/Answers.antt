@@ -1,6 +1,6 @@
 use Rattle.std.proofs.Common.{◌∙◌}
 use Rattle.std.proofs.lemmas.Bool.{eq-eqb}
-use Rattle.hc_rules.proofs.Numbers.{eqb-other}
+use Rattle.hc_text.proofs.Basics.{eqb-other}
 use Rattle.hc_rules.specs.Survivors.{stands_at}
 use Rattle.hc_rules.specs.declared.survivor.Member.{Member}
 use Rattle.hc_rules.proofs.LeastFolds.{least_taken, least_left}

@@ -1,6 +1,7 @@
 use Rattle.std.proofs.Common.{sym, ◌+◌, refl}
+use Rattle.hc_text.proofs.Basics.{rest_is as to_end}
 use Rattle.hc_cachectl.specs.Directives.{is_equals}
-use Rattle.hc_cachectl.proofs.Signs.{stands, stands_nowhere, to_end}
+use Rattle.hc_cachectl.proofs.Signs.{stands, stands_nowhere}
 use Rattle.hc_cachectl.proofs.element.Directive.read.Goals as goal
 
 pub returns-in-None-clause-argument : goal.returns-in-None-clause-argument

@@ -1,5 +1,6 @@
 use Rattle.std.proofs.Common.{◌∙◌, ◌++◌, ◌-◌, List, ℕ, ap, length}
-use Rattle.hc_fetch.proofs.Aheads.{written_on, end_is, rest_is}
+use Rattle.hc_text.proofs.Basics.{rest_is}
+use Rattle.hc_fetch.proofs.Aheads.{written_on, end_is}
 use Rattle.hc_fetch.proofs.gathering.Gathered.write.Goals as goal
 
 pub returns-in_ok-extend_from_slice-clause-keeps : goal.returns-in_ok-extend_from_slice-clause-keeps

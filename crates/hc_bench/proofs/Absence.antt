@@ -1,10 +1,7 @@
 -- Nothing is yet at the places of the pieces that are to come.
-use Rattle.std.proofs.Common.{◌≡◌, ℕ, ◌+◌, ◌*◌, ◌<◌, ◌≤◌, List, length, None, inl, inr, ap, ◌∙◌, arith}
-use Rattle.std.proofs.lemmas.Bool.Decides.{nat_tests}
-use Rattle.hc_sparse.specs.Cells.{Cells, AreAbsent, cells_with}
-use Rattle.hc_sparse.proofs.CellLemmas.{inside-cases, inside-past}
+use Rattle.std.proofs.Common.{◌≡◌, ℕ, ◌+◌, ◌*◌, ◌<◌, ◌≤◌, ◌∙◌}
+use Rattle.hc_sparse.specs.Cells.{Cells, AreAbsent}
 use Rattle.hc_bench.specs.declared.order.Order.{Order}
-use Rattle.hc_bench.specs.declared.order.Order.TheVariants.{Forward, Backward, Alternate}
 use Rattle.hc_bench.specs.Places.{place_of}
 
 -- nothing is at the places of all pieces but the first k that come

@@ -1,7 +1,7 @@
 -- How many items are good, told item by item, and why contents don't fit.
 use Rattle.std.proofs.Common.{◌≡◌, ℕ, zero, suc, ◌+◌, ◌<◌, ◌≤◌, map, reverse, List, [], ◌∷◌, length, take, drop, get_or, Bool, true, false, cond, Option, Some, None, refl, ap, sym, ◌∙◌, arith}
 use Rattle.std.proofs.lemmas.Bool.Decides.{nat_tests}
-use Rattle.std.proofs.lemmas.List.{drop_all, length-map, reverse-append}
+use Rattle.std.proofs.lemmas.List.{length-map, reverse-append}
 use Rattle.std.specs.Prelude.{◌^◌, nat_le, nat_lt, not, is_none, ◌&&◌, if◌then◌else◌}
 use Rattle.hc_target.specs.Targets.{is_target}
 use Rattle.hc_rules.specs.declared.room.Limits.{Limits}

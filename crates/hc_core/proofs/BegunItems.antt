@@ -1,7 +1,7 @@
 -- Items of contents, run by run and one by one.
 use Rattle.std.proofs.Common.{◌≡◌, ◌⊎◌, ℕ, zero, suc, ◌+◌, ◌<◌, ◌≤◌, ◌^◌, max, map, reverse, List, [], ◌∷◌, ◌++◌, length, take, drop, get_or, Bool, true, false, cond, eqb, Option, Some, None, refl, ap, sym, ◌∙◌, subst, inl, inr, arith, take_all}
-use Rattle.std.specs.Prelude.{Ok, Err, is_some, option_map, find, nat_eq, nat_le, nat_lt, ◌==◌, ◌&&◌, ◌||◌, not, if◌then◌else◌}
-use Rattle.std.specs.List.{list_any, sum_by}
+use Rattle.std.specs.Prelude.{Ok, Err, is_some, option_map, find, nat_le, nat_lt, ◌==◌, ◌&&◌, ◌||◌, not, if◌then◌else◌}
+use Rattle.std.specs.List.{list_any}
 use Rattle.std.specs.Option.{ForSome}
 use Rattle.std.proofs.lemmas.Bool.{cases_Bool, eqb-true}
 use Rattle.std.proofs.lemmas.Bool.Decides.{nat_tests}
@@ -12,7 +12,7 @@ use Rattle.hc_store.specs.declared.error.StoreError.TheVariants as error
 use Rattle.hc_store.specs.Causes.{HasCause}
 use Rattle.std.proofs.lemmas.List.Sums.{sum_by-cons, sum_by-append, sum_by-take-le}
 use Rattle.hc_text.proofs.Basics.{and_left, and_right, eqb-same, false_true, not_true as not_is}
-use Rattle.hc_sparse.specs.Cells.{Cells, AreAbsent, EndsBy, size, cells_with}
+use Rattle.hc_sparse.specs.Cells.{AreAbsent, EndsBy, size, cells_with}
 use Rattle.hc_sparse.specs.Runs.{end_of}
 use Rattle.hc_sparse.specs.declared.run.Run.{Run}
 use Rattle.hc_sparse.proofs.CellLemmas.{inside-past}

@@ -1,17 +1,16 @@
 -- What runs that are put one after another leave, and of what kind that is.
-use Rattle.std.proofs.Common.{◌≡◌, ◌⊎◌, inl, inr, ℕ, ◌+◌, ◌-◌, ◌<◌, ◌≤◌, max, List, [], ◌∷◌, ◌++◌, length, Bool, true, false, Option, Some, None, refl, ap, sym, ◌∙◌, subst, arith}
-use Rattle.std.specs.Prelude.{is_some, nat_eq, nat_le, nat_lt, ◌==◌, ◌&&◌, not, if◌then◌else◌}
+use Rattle.std.proofs.Common.{◌≡◌, ◌⊎◌, inl, inr, ℕ, ◌+◌, ◌-◌, ◌<◌, ◌≤◌, max, List, [], ◌∷◌, ◌++◌, length, Bool, true, false, Option, Some, None, refl, ap, sym, ◌∙◌, arith}
+use Rattle.std.specs.Prelude.{is_some, nat_le, nat_lt, ◌==◌, ◌&&◌, if◌then◌else◌}
 use Rattle.std.specs.Option.{option_or}
 use Rattle.std.proofs.lemmas.Bool.Decides.{nat_tests}
-use Rattle.hc_text.proofs.Basics.{and_left, and_right, bool_cases, false_true}
-use Rattle.hc_sparse.specs.Cells.{Cells, Covers, EndsBy, nothing, cells_with, size_below}
+use Rattle.hc_text.proofs.Basics.{and_left, and_right, false_true}
+use Rattle.hc_sparse.specs.Cells.{Cells, Covers, size_below}
 use Rattle.hc_sparse.specs.Runs.{cells_of, end_of}
 use Rattle.hc_sparse.specs.declared.run.Run.{Run}
 use Rattle.hc_sparse.proofs.CellLemmas.{inside-cases, inside-before}
 use Rattle.hc_record.specs.declared.kind.Kind.{Kind}
 use Rattle.hc_record.specs.declared.kind.Kind.TheVariants as kind
-use Rattle.hc_record.specs.Head.{Head}
-use Rattle.hc_stored.specs.Begun.{kept_at_beginning, with_runs}
+use Rattle.hc_stored.specs.Begun.{with_runs}
 use Rattle.hc_stored.specs.Kept.{Kept, kept_with_bytes}
 use Rattle.hc_model.specs.Beginnings.{ascend_from, kind_of_runs, same_kind, is_kind_right}
 use Rattle.hc_model.specs.Contents.{runs_from}

@@ -1,12 +1,11 @@
 -- What a cache tells of a key: whose turn it is, and how much is stored of what is current.
-use Rattle.std.proofs.Common.{◌≡◌, ℕ, List, Option, Some, None, refl, ap, sym, ◌∙◌}
+use Rattle.std.proofs.Common.{◌≡◌, ℕ, List, Some, None, ap, sym, ◌∙◌}
 use Rattle.std.specs.Prelude.{option_map}
 use Rattle.std.specs.Option.{option_and_then}
 use Rattle.hc_text.proofs.Basics.{some_inj as some_is}
 use Rattle.hc_store.specs.declared.backend.Backend.{Ghosts}
 use Rattle.hc_stored.specs.declared.view.EntryView.{EntryView}
 use Rattle.hc_stored.specs.Entries.{shelf_of}
-use Rattle.hc_stored.specs.Kept.{Kept}
 use Rattle.hc_stored.specs.Views.{view_of}
 use Rattle.hc_entry.specs.Keys.{kept_of, line_of}
 use Rattle.hc_entry.specs.Lines.{turn_of}
@@ -14,7 +13,7 @@ use Rattle.hc_model.specs.Currents.{current}
 use Rattle.hc_model.specs.Entries.{Contents, History}
 use Rattle.hc_model.specs.Kinds.{kind_of, kind_at, kind_for}
 use Rattle.hc_model.specs.Lines.{turn}
-use Rattle.hc_model.specs.Rows.{Tables, Representation}
+use Rattle.hc_model.specs.Rows.{Tables}
 use Rattle.hc_model.specs.Tables.{tables}
 use Rattle.hc_laws.proofs.SoundRuns.{runs_are_sound}
 use Rattle.hc_state.proofs.CurrentTies.{IsNow, now_kept}

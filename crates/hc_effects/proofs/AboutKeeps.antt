@@ -15,7 +15,7 @@ use Rattle.hc_model.specs.Entries.{Entry}
 use Rattle.hc_model.specs.Exchanges.{is_open, family}
 use Rattle.hc_model.specs.Flaws.{Flaw}
 use Rattle.hc_model.specs.Keys.{entry_of}
-use Rattle.hc_model.specs.Owners.{Owners, IsAwaiting, Awaits, IsReading}
+use Rattle.hc_model.specs.Owners.{Owners, IsAwaiting, Awaits}
 use Rattle.hc_model.specs.Owners as owners
 use Rattle.hc_model.specs.Reading.{own_open, if_open}
 use Rattle.hc_model.specs.Rows.{Tables, Exchange, Consumer}

@@ -24,7 +24,6 @@ use Rattle.hc_model.specs.Gone.{goes_by_case, goes_by_exchange, ends_founding, i
 use Rattle.hc_model.specs.RepresentationRows.{representation_heard, representation_after_head, representation_after_piece, founded_at}
 use Rattle.hc_model.specs.Rows.{Tables, Exchange, Representation, Consumer}
 use Rattle.hc_model.specs.Tables.{founds, binds}
-use Rattle.hc_model.specs.Writers.{loses_writing, goes_on_with}
 use Rattle.hc_model.specs.Writes.{written_in, head_writes, first_found, sealed_representation, seals_at, sealed_by, is_sealed, stops}
 
 -- the acts say the same but for what makes room

@@ -32,7 +32,7 @@ use Rattle.hc_effects.proofs.FirstKeeps.{case_of_head, is_new}
 use Rattle.hc_effects.proofs.FoundBy.{CaseBy}
 use Rattle.hc_effects.proofs.FoundBy as cases
 use Rattle.hc_effects.proofs.LossStands.{no_loss}
-use Rattle.hc_effects.proofs.OwnFrom.{OwnFrom, own_from, IsLeft}
+use Rattle.hc_effects.proofs.OwnFrom.{OwnFrom, own_from}
 use Rattle.hc_effects.proofs.OwnFrom as own
 use Rattle.hc_effects.proofs.OwnersKeep.{is_opened, left_writing, new_number}
 use Rattle.hc_effects.proofs.PieceKeeps.{eq_cases}

@@ -1,8 +1,8 @@
 -- Small lemmas of tests, options and numbers, which many proofs use.
-use Rattle.std.proofs.Common.{◌≡◌, ◌⊎◌, inl, inr, ℕ, ◌<◌, ◌≤◌, List, [], ◌∷◌, ◌++◌, Bool, true, false, Option, Some, None, refl, ap, arith}
-use Rattle.std.specs.Prelude.{is_some, ◌&&◌, ◌||◌, not, nat_eq}
+use Rattle.std.proofs.Common.{◌≡◌, ◌⊎◌, ℕ, ◌<◌, ◌≤◌, List, [], ◌∷◌, ◌++◌, Bool, true, false, Option, Some, None, refl, ap, arith}
+use Rattle.std.specs.Prelude.{is_some, ◌&&◌, ◌||◌, nat_eq}
 use Rattle.std.proofs.lemmas.Bool.Decides.{nat_tests}
-use Rattle.hc_text.proofs.Basics.{both_true as and_both, and_left, and_right, not_some as none_some, never_true as not_so, not_true, or_cases, or_left, or_right, lt_or as split}
+use Rattle.hc_text.proofs.Basics.{not_some as none_some}
 use Rattle.hc_model.specs.Currents.{is_number}
 
 -- TESTS

@@ -1,5 +1,5 @@
 -- Facts beside soundness, by which the detached reader stays sound: the exclusive writer has all up to where its exchange goes on, and all the rest where it has none; and who waits with the turn or is bound isn't past the store.
-use Rattle.std.proofs.Common.{◌≡◌, ℕ, Bool, true, false, Option, Some, None}
+use Rattle.std.proofs.Common.{◌≡◌, ℕ, Bool, true, false, Some, None}
 use Rattle.hc_sparse.specs.Cells.{Covers}
 use Rattle.hc_rules.specs.Requests.{is_disabled}
 use Rattle.hc_event.specs.declared.place.Place.{Place}

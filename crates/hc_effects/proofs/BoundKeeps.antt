@@ -21,11 +21,11 @@ use Rattle.hc_model.specs.Rows.{Tables, Exchange, Consumer}
 use Rattle.hc_model.specs.Sound.{Sound, IsBound}
 use Rattle.hc_model.specs.Tables.{after_accepted}
 use Rattle.hc_model.specs.Sound as sound
-use Rattle.hc_effects.proofs.BoundFrom.{BoundFrom, IsFounded, IsFirstHole, IsShown, IsRow, bound_from}
+use Rattle.hc_effects.proofs.BoundFrom.{BoundFrom, IsFounded, bound_from}
 use Rattle.hc_effects.proofs.BoundFrom as from
 use Rattle.hc_effects.proofs.RepFrom.{stays, founds}
 use Rattle.hc_event.specs.declared.act.Wait.{Wait}
-use Rattle.hc_effects.proofs.Said.{ShowsBy, OpensBy, IsPoll, IsOpening, IsShowing, WaitsAs, opening_by, showing_by, waiting_by}
+use Rattle.hc_effects.proofs.Said.{ShowsBy, IsPoll, IsOpening, IsShowing, WaitsAs, opening_by, showing_by, waiting_by}
 use Rattle.hc_effects.proofs.Said as said
 use Rattle.hc_model.specs.Moves.{Move}
 use Rattle.hc_model.specs.Polls.{move_of}

@@ -40,12 +40,11 @@ use Rattle.hc_model.specs.Rows.{Tables, Exchange, Consumer}
 use Rattle.hc_model.specs.Sound.{Sound}
 use Rattle.hc_model.specs.StartingOver.{starts_over}
 use Rattle.hc_model.specs.Tables.{first_tables, after_accepted, after_denied}
-use Rattle.hc_effects.proofs.Basics.{false_true}
 use Rattle.hc_effects.proofs.BoundFrom.{BoundFrom, IsRow, IsFounded, IsInterval, IsShown, bound_from}
 use Rattle.hc_effects.proofs.BoundFrom as from
 use Rattle.hc_effects.proofs.BoundKeeps.{shown_place_is}
 use Rattle.hc_effects.proofs.ConsumerFilters.{acted, given_by}
-use Rattle.hc_effects.proofs.ExchangeFrom.{ExchangeFrom, IsSame, IsHeaded, exchange_from}
+use Rattle.hc_effects.proofs.ExchangeFrom.{ExchangeFrom, IsHeaded, exchange_from}
 use Rattle.hc_effects.proofs.ExchangeFrom as exchange
 use Rattle.hc_effects.proofs.Fills.{Brings, brings, length_same}
 use Rattle.hc_effects.proofs.Fills as fills_by

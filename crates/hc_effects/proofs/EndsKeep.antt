@@ -45,7 +45,7 @@ use Rattle.hc_effects.proofs.MeasuresKeep.{brings_kept, tight_kept, within_kept}
 use Rattle.hc_effects.proofs.RepFrom.{RepFrom, rep_from, IsKept, IsEnded}
 use Rattle.hc_effects.proofs.RepFrom as rep
 use Rattle.hc_effects.proofs.Said.{IsShowing, showing_by}
-use Rattle.hc_effects.proofs.ShownFrom.{ShownAs, IsPlanned, shown_from}
+use Rattle.hc_effects.proofs.ShownFrom.{ShownAs, shown_from}
 use Rattle.hc_effects.proofs.ShownFrom as shown_as
 
 -- A SPAN THAT IS WANTED

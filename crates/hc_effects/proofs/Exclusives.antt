@@ -1,5 +1,5 @@
 -- Who writes alone is bound, came alone, has nothing due and more to come.
-use Rattle.std.proofs.Common.{◌≡◌, ◌⊎◌, inl, inr, ℕ, List, [], ◌∷◌, Bool, true, false, Option, Some, None, refl, ap, sym, ◌∙◌}
+use Rattle.std.proofs.Common.{◌≡◌, ◌⊎◌, inl, inr, ℕ, List, [], ◌∷◌, Bool, true, false, Some, None, refl, ap, sym, ◌∙◌}
 use Rattle.std.specs.Prelude.{if◌then◌else◌, is_none, ◌&&◌, map, filter}
 use Rattle.hc_text.proofs.Basics.{and_left, and_right, bool_cases, none_by as none_of}
 use Rattle.hc_rules.specs.Admissions.{is_of, is_same_kind, numbers}

@@ -23,7 +23,7 @@ use Rattle.hc_event.specs.declared.place.BoundBy.{BoundBy}
 use Rattle.hc_event.specs.declared.place.BoundBy.TheVariants as by_how
 use Rattle.hc_model.specs.Currents.{current}
 use Rattle.hc_model.specs.Moves as moves
-use Rattle.hc_model.specs.Moves.{Move, Nothing, Asks, Opens, Ends, Fails, gives, waits_for, opens_hole, shows_stored}
+use Rattle.hc_model.specs.Moves.{Move, Nothing, Asks, Ends, Fails, gives, waits_for, opens_hole, shows_stored}
 use Rattle.hc_model.specs.Places.{Places, is_failed_read}
 use Rattle.hc_model.specs.Planning.{plan_view, plan_move, origin_request, current_row, binds_current}
 use Rattle.hc_model.specs.Polls.{move_of, shows_at, shows_bound, shows_direct, shows_answer, has_joined}

@@ -22,7 +22,7 @@ use Rattle.hc_model.specs.Flaws.{Flaw}
 use Rattle.hc_model.specs.Keys.{entry_of}
 use Rattle.hc_model.specs.Reading.{bound, bound_to}
 use Rattle.hc_model.specs.Rows.{Tables, Exchange, Representation, Consumer}
-use Rattle.hc_model.specs.Sound.{Sound, IsBound, IsFirst, OneFirst}
+use Rattle.hc_model.specs.Sound.{Sound, IsFirst, OneFirst}
 use Rattle.hc_model.specs.Tables.{after_accepted}
 use Rattle.hc_model.specs.Writers.{came_alone, status_in}
 use Rattle.hc_model.specs.Sound as sound

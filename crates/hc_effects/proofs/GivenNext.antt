@@ -24,7 +24,7 @@ use Rattle.hc_model.specs.Exchanges.{base}
 use Rattle.hc_model.specs.Exchanges as exchanges
 use Rattle.hc_model.specs.Holes.{stretch_to}
 use Rattle.hc_model.specs.Moves as moves
-use Rattle.hc_model.specs.Moves.{Move, Nothing, Gives, Ends, Fails, gives, waits_for, opens_hole}
+use Rattle.hc_model.specs.Moves.{Nothing, Gives, Ends, Fails, gives, waits_for, opens_hole}
 use Rattle.hc_model.specs.Reading.{bound_to, offset, hi_of, lo_of}
 use Rattle.hc_model.specs.Reads.{Delivers, answer_cell, cell_by, body_of, direct_cell}
 use Rattle.hc_model.specs.Rows.{Tables, Exchange, Representation, Consumer}

@@ -30,12 +30,12 @@ use Rattle.hc_model.specs.Failures.{becomes_due, cause_of_stop, cause_of_loss, c
 use Rattle.hc_model.specs.Flaws.{Flaw}
 use Rattle.hc_model.specs.Keys.{entry_of}
 use Rattle.hc_model.specs.Measures.{Measures}
-use Rattle.hc_model.specs.Owners.{Owners, IsAwaiting, Awaits}
+use Rattle.hc_model.specs.Owners.{Owners, IsAwaiting}
 use Rattle.hc_model.specs.Owners as owners
 use Rattle.hc_model.specs.Polls.{move_of}
 use Rattle.hc_model.specs.Reading.{is_written, bound, bound_to, own_open, reads, source, shared_exchange}
 use Rattle.hc_model.specs.Rows.{Tables, Exchange, Representation, Consumer}
-use Rattle.hc_model.specs.Sound.{Sound, Among, IsBound, IsAbout, IsHad, IsExclusiveWriter, IsFirst, IsGrowing}
+use Rattle.hc_model.specs.Sound.{Sound, Among, IsBound, IsAbout, IsHad, IsExclusiveWriter, IsFirst}
 use Rattle.hc_model.specs.Sound as sound
 use Rattle.hc_model.specs.StartingOver.{starts_over}
 use Rattle.hc_model.specs.Tables.{after_accepted}

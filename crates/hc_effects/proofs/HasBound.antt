@@ -46,7 +46,7 @@ use Rattle.hc_effects.proofs.NamesKeep.{names_are_kept}
 use Rattle.hc_effects.proofs.NumbersKeep.{numbers_are_kept}
 use Rattle.hc_effects.proofs.PieceKeeps.{eq_cases}
 use Rattle.hc_effects.proofs.ExclusiveWriters.{writer_some, bound_some}
-use Rattle.hc_effects.proofs.RepFrom.{RepFrom, rep_from, IsKept, IsResumed}
+use Rattle.hc_effects.proofs.RepFrom.{RepFrom, rep_from, IsResumed}
 use Rattle.hc_effects.proofs.RepFrom as rep
 use Rattle.hc_effects.proofs.Said.{leaving_by}
 use Rattle.hc_effects.proofs.SaidActs.{leaves_leaver}

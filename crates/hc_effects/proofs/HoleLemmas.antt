@@ -1,6 +1,6 @@
 -- Holes are absent, and what has none is covered.
 use Rattle.std.proofs.Common.{◌≡◌, ◌⊎◌, inl, inr, ℕ, zero, suc, ◌+◌, ◌-◌, ◌<◌, ◌≤◌, Bool, true, false, Option, Some, None, refl, sym, arith, min}
-use Rattle.std.specs.Prelude.{is_some, is_none, nat_lt}
+use Rattle.std.specs.Prelude.{is_some, is_none}
 use Rattle.std.proofs.lemmas.Bool.Decides.{nat_tests}
 use Rattle.hc_text.proofs.Basics.{bool_cases, lt_cases}
 use Rattle.hc_sparse.specs.Cells.{Cells, Cell, EndsBy, Covers}

@@ -8,7 +8,7 @@ use Rattle.hc_model.specs.Exchanges.{front}
 use Rattle.hc_model.specs.Holes.{first_hole, hole_at, absent_from, covers}
 use Rattle.hc_model.specs.Reading.{offset}
 use Rattle.hc_model.specs.Rows.{Tables, Representation, Consumer}
-use Rattle.hc_model.specs.Sound.{Sound, IsSoundRepresentation, IsAlone, IsExclusiveWriter, IsAbout}
+use Rattle.hc_model.specs.Sound.{Sound, IsSoundRepresentation, IsExclusiveWriter}
 use Rattle.hc_model.specs.Sound as sound
 use Rattle.hc_effects.proofs.HoleLemmas.{none_of, hole_absent}
 use Rattle.hc_effects.proofs.ExclusiveWriters.{IsAtHole, has_exclusive_writer}

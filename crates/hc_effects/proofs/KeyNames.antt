@@ -1,10 +1,8 @@
 -- What an event names is of its key: the representation of an exchange, and what a consumer reads from.
 use Rattle.std.proofs.Common.{◌≡◌, inl, inr, ℕ, List, Bool, true, false, Option, Some, None, refl, ap, sym, ◌∙◌}
-use Rattle.std.specs.Prelude.{bytes_eq, ◌&&◌, ◌||◌, if◌then◌else◌, unwrap_or, nat_eq}
-use Rattle.std.proofs.Common.{arith}
+use Rattle.std.specs.Prelude.{bytes_eq, ◌&&◌, ◌||◌, if◌then◌else◌, unwrap_or}
 use Rattle.std.specs.Option.{option_and_then, option_or}
-use Rattle.std.proofs.lemmas.Bool.Decides.{nat_tests}
-use Rattle.hc_text.proofs.Basics.{and_left, and_right as and_then, bool_cases, eq_tells as eq_is, never_true as not_so, never_true as not_true, or_cases, same_some as same_row, some_inj}
+use Rattle.hc_text.proofs.Basics.{and_left, bool_cases, eq_tells as eq_is, never_true as not_so, or_cases, same_some as same_row, some_inj}
 use Rattle.hc_event.specs.declared.event.Event.{Event}
 use Rattle.hc_event.specs.declared.event.Event.TheVariants as event
 use Rattle.hc_event.specs.declared.event.Response.{Response}
@@ -22,7 +20,6 @@ use Rattle.hc_model.specs.Exchanges.{family, is_open}
 use Rattle.hc_model.specs.Keys.{HasRow, key_of, is_of_key, key_of_exchange, ExchangeKeys, ConsumerKeys}
 use Rattle.hc_model.specs.Reading.{own_open, if_open, shared_exchange, writing_in, is_written, source, is_bound, is_bound_place}
 use Rattle.hc_model.specs.Rows.{Tables, Exchange, Representation, Consumer}
-use Rattle.hc_model.specs.Sound.{IsBound}
 use Rattle.hc_model.specs.Sound as sound
 use Rattle.hc_effects.proofs.Basics.{number_is, true_false}
 use Rattle.hc_effects.proofs.PollKeeps.{find_passes}

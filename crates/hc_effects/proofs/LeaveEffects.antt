@@ -24,7 +24,7 @@ use Rattle.hc_effects.proofs.ActParts.{IsFarFrom}
 use Rattle.hc_effects.proofs.Basics.{append_none}
 use Rattle.hc_effects.proofs.ConsumerEffects.{waits_as, representations, some_all}
 use Rattle.hc_effects.proofs.FailsTold.{fails_told}
-use Rattle.hc_effects.proofs.LeaveFrames.{IsFront, e, rest, nothing, far, acts_left, loses_as, goes_by, leaves}
+use Rattle.hc_effects.proofs.LeaveFrames.{IsFront, e, nothing, far, acts_left, loses_as, goes_by, leaves}
 use Rattle.hc_effects.proofs.LeaveFrames as front_of
 use Rattle.hc_effects.proofs.LeftBy.{left_passed}
 use Rattle.hc_effects.proofs.OfConsumers.{BringsNothing}

@@ -1,17 +1,11 @@
 -- What each consumer leaves by its place, and what goes with that: only what a 200 founded.
-use Rattle.std.proofs.Common.{◌≡◌, ℕ, Bool, true, false, Option, Some, None, refl, ap, sym, ◌∙◌}
+use Rattle.std.proofs.Common.{◌≡◌, ℕ, Option, Some, None, refl, ◌∙◌}
 use Rattle.std.specs.Prelude.{if◌then◌else◌}
-use Rattle.std.specs.Option.{option_or, option_and_then}
-use Rattle.hc_event.specs.declared.act.Cause.{Cause}
-use Rattle.hc_event.specs.declared.place.Place.{Place}
 use Rattle.hc_event.specs.declared.place.Place.TheVariants as place
-use Rattle.hc_model.specs.Closings.{is_last_reader}
-use Rattle.hc_model.specs.Effects.{left_by, is_unkeepable, going_with}
-use Rattle.hc_model.specs.Exchanges.{is_open}
+use Rattle.hc_model.specs.Effects.{left_by}
 use Rattle.hc_model.specs.Lawful.{Lawful}
-use Rattle.hc_model.specs.Reading.{own_open, shared_exchange, if_open}
-use Rattle.hc_model.specs.Rows.{Tables, Exchange, Representation, Consumer}
-use Rattle.hc_effects.proofs.Basics.{some_none}
+use Rattle.hc_model.specs.Reading.{own_open}
+use Rattle.hc_model.specs.Rows.{Tables, Consumer}
 
 -- WHAT IS LEFT
 

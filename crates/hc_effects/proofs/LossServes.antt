@@ -1,26 +1,19 @@
 -- At a piece that is lost, each bound consumer goes on alone, has all that it needs, or gets a failure.
-use Rattle.std.proofs.Common.{◌≡◌, ◌⊎◌, inl, inr, ℕ, List, Bool, true, false, cond, Option, Some, None, refl, ap, sym, ◌∙◌, subst, arith}
+use Rattle.std.proofs.Common.{◌≡◌, ◌⊎◌, ℕ, List, Bool, true, false, cond, Option, Some, None, refl, ap, ◌∙◌, subst, arith}
 use Rattle.std.specs.Prelude.{not, nat_eq, ◌&&◌, ◌||◌}
 use Rattle.std.specs.Option.{option_or}
 use Rattle.std.proofs.lemmas.Bool.Decides.{nat_tests}
-use Rattle.hc_text.proofs.Basics.{both_true as and_both, bool_cases, cond_true as cond_left, or_left, some_inj}
+use Rattle.hc_text.proofs.Basics.{both_true as and_both, cond_true as cond_left, or_left, some_inj}
 use Rattle.hc_event.specs.declared.act.Act.{Act}
 use Rattle.hc_event.specs.declared.act.Cause.{Cause}
 use Rattle.hc_model.specs.ActFilters.{loses_in}
 use Rattle.hc_model.specs.Currents.{is_number}
 use Rattle.hc_model.specs.Entries.{Entry}
 use Rattle.hc_model.specs.Exchanges.{front, family}
-use Rattle.hc_model.specs.Failures.{becomes_due, cause_of_stop, cause_of_loss, cause_by_loss}
-use Rattle.hc_model.specs.Reading.{is_written}
 use Rattle.hc_model.specs.RepresentationRows.{representation_after, representation_acted, representation_after_piece, with_stored_bytes}
-use Rattle.hc_model.specs.Rows.{Tables, Exchange, Representation, Consumer}
-use Rattle.hc_model.specs.Sound.{Sound, IsBound, IsServed, IsExclusiveWriter}
-use Rattle.hc_model.specs.Writers.{loses_writing, survivor, goes_on_with}
-use Rattle.hc_event.specs.declared.place.BoundBy.{BoundBy}
-use Rattle.hc_event.specs.declared.place.Place.TheVariants as place
-use Rattle.hc_model.specs.Sound as sound
+use Rattle.hc_model.specs.Rows.{Tables, Exchange, Representation}
+use Rattle.hc_model.specs.Writers.{goes_on_with}
 use Rattle.hc_effects.proofs.PieceKeeps.{of_piece}
-use Rattle.hc_effects.proofs.Losses.{goes_on_or_rests, HasRest}
 
 -- WHAT THE LOSS LEAVES OF THE ROW
 

@@ -8,7 +8,7 @@ use Rattle.hc_sparse.specs.Cells.{Covers}
 use Rattle.hc_model.specs.Holes.{covers}
 use Rattle.hc_model.specs.Reading.{is_written, bound, is_bound_place, is_bound, offset, hi_of}
 use Rattle.hc_model.specs.Rows.{Tables, Representation, Consumer}
-use Rattle.hc_model.specs.Sound.{Sound, Among, IsBound, IsFirst, IsExclusiveWriter, IsServed}
+use Rattle.hc_model.specs.Sound.{Sound, Among, IsBound, IsFirst, IsExclusiveWriter}
 use Rattle.hc_model.specs.Writers.{may_write, bound_kind, bound_as, exclusive, came_alone, has_more, lacks_some}
 use Rattle.hc_event.specs.declared.place.Place.{Place}
 use Rattle.hc_rules.specs.Least.{least, lesser}

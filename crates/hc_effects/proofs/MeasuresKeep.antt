@@ -45,7 +45,7 @@ use Rattle.hc_effects.proofs.ExchangeFrom as exchange
 use Rattle.hc_effects.proofs.Fills.{Fills, fills, Brings, brings, length_same}
 use Rattle.hc_effects.proofs.Fills as fills_by
 use Rattle.hc_effects.proofs.FirstKeeps.{case_is, is_new}
-use Rattle.hc_effects.proofs.FoundBy.{CaseBy, case_by, FoundingBy, founding_by}
+use Rattle.hc_effects.proofs.FoundBy.{FoundingBy, founding_by}
 use Rattle.hc_effects.proofs.FoundBy as cases
 use Rattle.hc_effects.proofs.HeadKeeps.{is_join}
 use Rattle.hc_effects.proofs.Once.{taken, IsTaken, never}

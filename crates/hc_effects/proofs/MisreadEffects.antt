@@ -23,7 +23,7 @@ use Rattle.hc_model.specs.Tables.{after_accepted, with_item_first}
 use Rattle.hc_effects.proofs.ActParts.{IsFarFrom}
 use Rattle.hc_effects.proofs.Basics.{append_none}
 use Rattle.hc_effects.proofs.ConsumerEffects.{representations, two_all}
-use Rattle.hc_effects.proofs.LeaveFrames.{IsFront, e, rest, nothing, far, acts_left, loses_as, goes_by, leaves}
+use Rattle.hc_effects.proofs.LeaveFrames.{IsFront, e, nothing, far, acts_left, loses_as, goes_by, leaves}
 use Rattle.hc_effects.proofs.LeaveFrames as front_of
 use Rattle.hc_effects.proofs.OfConsumers.{BringsNothing}
 use Rattle.hc_effects.proofs.SameTables.{is_in, all_closed_is}

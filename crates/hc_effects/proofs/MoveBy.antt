@@ -1,5 +1,5 @@
 -- Why a poll does what it does: it shows a head that is there, waits for one, reads, or carries out the plan of a consumer that is bound to nothing.
-use Rattle.std.proofs.Common.{◌≡◌, inl, inr, ℕ, Bool, true, false, cond, Option, Some, None, refl, ap, sym, ◌∙◌}
+use Rattle.std.proofs.Common.{◌≡◌, inl, inr, ℕ, Bool, true, false, Option, Some, None, refl, ap, sym, ◌∙◌}
 use Rattle.std.specs.Prelude.{if◌then◌else◌}
 use Rattle.std.specs.Option.{option_and_then}
 use Rattle.hc_text.proofs.Basics.{bool_cases, cond_false}

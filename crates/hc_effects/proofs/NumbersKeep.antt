@@ -8,7 +8,6 @@ use Rattle.hc_event.specs.declared.event.Event.TheVariants as event
 use Rattle.hc_event.specs.declared.event.Request.{Request}
 use Rattle.hc_event.specs.declared.act.Refusal.TheVariants as refusal
 use Rattle.hc_rules.specs.declared.room.Limits.{Limits}
-use Rattle.hc_rules.specs.Refusals.{poll_refusal, start_refusal}
 use Rattle.hc_rules.specs.Refusals as refusals
 use Rattle.hc_model.specs.Answers.{accepted_acts}
 use Rattle.hc_model.specs.Cases.{case_at, is_founding}

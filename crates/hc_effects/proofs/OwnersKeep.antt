@@ -28,7 +28,7 @@ use Rattle.hc_model.specs.Tables.{after_accepted}
 use Rattle.hc_model.specs.Writers.{loses_writing, survivor}
 use Rattle.hc_effects.proofs.BoundFrom.{BoundFrom, bound_from}
 use Rattle.hc_effects.proofs.BoundFrom as bound
-use Rattle.hc_effects.proofs.ExchangeFrom.{ExchangeFrom, exchange_from, IsSame}
+use Rattle.hc_effects.proofs.ExchangeFrom.{ExchangeFrom, exchange_from}
 use Rattle.hc_effects.proofs.ExchangeFrom as exchange
 use Rattle.hc_effects.proofs.Forward.{is_on, is_kept, opened_on}
 use Rattle.hc_effects.proofs.NumbersKeep.{opens_next}

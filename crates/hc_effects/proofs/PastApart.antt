@@ -39,7 +39,7 @@ use Rattle.hc_model.specs.Sound.{Sound}
 use Rattle.hc_model.specs.Tables.{after_accepted}
 use Rattle.hc_effects.proofs.Basics.{false_true}
 use Rattle.hc_effects.proofs.FirstKeeps.{is_new, case_is}
-use Rattle.hc_effects.proofs.FoundBy.{CaseBy, case_by, FoundingBy, founding_by, founds_way}
+use Rattle.hc_effects.proofs.FoundBy.{FoundingBy, founding_by, founds_way}
 use Rattle.hc_effects.proofs.FoundBy as cases
 use Rattle.hc_effects.proofs.NumbersKeep.{opens_next}
 use Rattle.hc_effects.proofs.Once.{never}

@@ -37,7 +37,7 @@ use Rattle.hc_model.specs.Exchanges.{exchange_in}
 use Rattle.hc_model.specs.Flaws.{Flaw}
 use Rattle.hc_model.specs.Heads.{founded_total}
 use Rattle.hc_model.specs.Keys.{entry_of}
-use Rattle.hc_model.specs.Owners.{Owners, IsPast, Awaits}
+use Rattle.hc_model.specs.Owners.{Owners, IsPast}
 use Rattle.hc_model.specs.Owners as owners
 use Rattle.hc_model.specs.Reading.{reads, bound_to}
 use Rattle.hc_model.specs.Rows.{Tables, Exchange, Representation, Consumer}

@@ -7,8 +7,6 @@ use Rattle.hc_event.specs.declared.act.LostKind.{LostKind}
 use Rattle.hc_event.specs.declared.event.Event.{Event}
 use Rattle.hc_event.specs.declared.event.Event.TheVariants as event
 use Rattle.hc_rules.specs.declared.room.Limits.{Limits}
-use Rattle.hc_rules.specs.declared.room.Room.{Room}
-use Rattle.hc_rules.specs.declared.room.Room.TheVariants as room
 use Rattle.hc_event.specs.declared.place.Place.{Place}
 use Rattle.hc_model.specs.ActFilters.{loses_in, leaver_in}
 use Rattle.hc_model.specs.Answers.{loss_acts}
@@ -26,11 +24,10 @@ use Rattle.hc_model.specs.Lawful.{Lawful}
 use Rattle.hc_model.specs.Reading.{is_written}
 use Rattle.hc_model.specs.RepresentationRows.{representation_after, representation_heard, representation_after_piece, with_stored_bytes}
 use Rattle.hc_model.specs.Rows.{Tables, Exchange, Representation, Consumer}
-use Rattle.hc_model.specs.Runs.{has_room}
 use Rattle.hc_model.specs.Tables.{after_accepted}
-use Rattle.hc_model.specs.Weights.{evicted, first_idle, room_for, write_in}
+use Rattle.hc_model.specs.Weights.{evicted, write_in}
 use Rattle.hc_model.specs.Writers.{exclusive, goes_on_with}
-use Rattle.hc_effects.proofs.Basics.{true_false, false_true, append_none}
+use Rattle.hc_effects.proofs.Basics.{false_true, append_none}
 use Rattle.hc_effects.proofs.Dues.{undue_of, stop_none}
 use Rattle.hc_effects.proofs.FewClosings.{ClosesLittle, nothing_lost, closes_nothing}
 use Rattle.hc_effects.proofs.Frames.{undoomed}

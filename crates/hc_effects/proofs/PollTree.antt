@@ -22,7 +22,7 @@ use Rattle.hc_rules.specs.declared.reading.ReadStep.{ReadStep}
 use Rattle.hc_rules.specs.declared.reading.ReadStep.TheVariants as step
 use Rattle.hc_rules.specs.declared.reading.ReadView.{ReadView}
 use Rattle.hc_rules.specs.Least.{least, lesser}
-use Rattle.hc_rules.specs.Readings.{read_step, is_at_end, cut_at, hole_end, stored_or, held_or, fails_or, waits_or}
+use Rattle.hc_rules.specs.Readings.{read_step, is_at_end, hole_end, stored_or, held_or, fails_or, waits_or}
 use Rattle.hc_rules.specs.Readings as readings
 use Rattle.hc_event.specs.declared.place.Place.{Place}
 use Rattle.hc_event.specs.declared.place.Place.TheVariants as place
@@ -38,7 +38,7 @@ use Rattle.hc_model.specs.Moves.{Move, Nothing, Asks, Opens, Shows, Gives, Ends,
 use Rattle.hc_model.specs.Planning.{plan_view, plan_move, planned_move, candidate, candidate_at, hole_of, binds_current}
 use Rattle.hc_model.specs.Steps.{bound_row, stored_ahead, stored_from, run_held_for, held_at, held_of_lost, read_view, later_hole, step_move, reading, most}
 use Rattle.hc_model.specs.Polls.{shows_answer, shows_direct, shows_bound, shows_at, shows_head, has_joined, if_headless, waits_for_head, or_else, by_place, poll_move}
-use Rattle.hc_model.specs.Sound.{Sound, IsBound, IsToBeShown}
+use Rattle.hc_model.specs.Sound.{Sound, IsToBeShown}
 use Rattle.hc_model.specs.Sound as sound
 use Rattle.hc_effects.proofs.Joining.{mix}
 use Rattle.hc_effects.proofs.ExclusiveWriters.{IsAtHole}

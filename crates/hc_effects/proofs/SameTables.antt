@@ -8,8 +8,7 @@ use Rattle.hc_event.specs.declared.place.Place.{Place}
 use Rattle.hc_event.specs.declared.place.Place.TheVariants as place
 use Rattle.hc_model.specs.ConsumerRows.{back_in_line}
 use Rattle.hc_model.specs.Currents.{is_number}
-use Rattle.hc_model.specs.Effects.{waits_for, back_from, as_gone, let_go, let_all_go, let_some_go, over, tables_after_close, all_closed, failing, if_bound, with_due, with_dues, with_length}
-use Rattle.hc_model.specs.Reading.{is_bound_place}
+use Rattle.hc_model.specs.Effects.{waits_for, back_from, as_gone, let_go, let_all_go, let_some_go, over, tables_after_close, all_closed, failing, with_length}
 use Rattle.hc_model.specs.RepresentationRows.{with_total_if_none}
 use Rattle.hc_model.specs.Rows.{Tables, Exchange, Representation, Consumer}
 use Rattle.hc_model.specs.Tables.{with_item_first}

@@ -32,7 +32,7 @@ use Rattle.hc_effects.proofs.Basics.{number_is}
 use Rattle.hc_effects.proofs.ConsumerEffects.{waits_as}
 use Rattle.hc_effects.proofs.FailsTold.{fails_told}
 use Rattle.hc_effects.proofs.KeyActs.{test_some}
-use Rattle.hc_effects.proofs.LeaveFrames.{IsFront, e, rest, nothing, far, acts_left, loses_as, goes_by, leaves}
+use Rattle.hc_effects.proofs.LeaveFrames.{IsFront, e, nothing, far, acts_left, loses_as, goes_by, leaves}
 use Rattle.hc_effects.proofs.LeaveFrames as front_of
 use Rattle.hc_effects.proofs.LeftBy.{left_passed}
 use Rattle.hc_effects.proofs.OfConsumers.{BringsNothing}

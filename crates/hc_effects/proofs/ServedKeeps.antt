@@ -3,7 +3,7 @@ use Rattle.std.proofs.Common.{◌≡◌, ◌⊎◌, inl, inr, ℕ, ◌+◌, ◌�
 use Rattle.std.specs.Prelude.{if◌then◌else◌, is_some, is_none, ◌==◌, ◌&&◌, ◌||◌, not, nat_eq, unwrap_or}
 use Rattle.std.specs.Option.{option_or}
 use Rattle.std.proofs.lemmas.Bool.Decides.{nat_tests}
-use Rattle.hc_text.proofs.Basics.{both_true as and_both, and_left, and_right, bool_cases, not_some as none_some, both_false as or_false, same_some as same_row, some_inj}
+use Rattle.hc_text.proofs.Basics.{both_true as and_both, and_left, and_right, bool_cases, not_some as none_some, same_some as same_row, some_inj}
 use Rattle.hc_sparse.specs.Cells.{Cells, Covers, cells_with}
 use Rattle.hc_sparse.proofs.CellLemmas.{inside-cases}
 use Rattle.hc_range.specs.declared.range.Span.{Span}
@@ -18,10 +18,10 @@ use Rattle.hc_event.specs.declared.place.Place.TheVariants as place
 use Rattle.hc_event.specs.declared.place.BoundBy.{BoundBy}
 use Rattle.hc_event.specs.declared.place.BoundBy.TheVariants as by
 use Rattle.hc_model.specs.ActFilters.{Showing, showing_in, loses_in, has_loss}
-use Rattle.hc_model.specs.Cases.{case_at, head_view, is_founding}
+use Rattle.hc_model.specs.Cases.{case_at, head_view}
 use Rattle.hc_model.specs.Closings.{must_close, is_refused, brings_head, is_doomed, has_no_survivor, is_left, leaver, leaver_by}
 use Rattle.hc_model.specs.ConsumerRows.{consumer_heard, consumer_acted, by_opening, waiting}
-use Rattle.hc_model.specs.Currents.{is_number, current}
+use Rattle.hc_model.specs.Currents.{is_number}
 use Rattle.hc_model.specs.Denials.{denial}
 use Rattle.hc_model.specs.Dooms.{doomed_key_of, doomed_in, doomed_by_head, doomed_by_case, is_key}
 use Rattle.hc_model.specs.Entries.{Entry}
@@ -53,7 +53,7 @@ use Rattle.hc_effects.proofs.EndsKeep.{known_kept, measures_kept}
 use Rattle.hc_effects.proofs.Fills.{Fills, fills}
 use Rattle.hc_effects.proofs.Fills as fills_by
 use Rattle.hc_effects.proofs.FirstKeeps.{IsNew, came_kept, case_of_head, case_is, is_new, open_free, whole_200, replaced_200}
-use Rattle.hc_effects.proofs.FoundBy.{CaseBy, case_by}
+use Rattle.hc_effects.proofs.FoundBy.{CaseBy}
 use Rattle.hc_effects.proofs.FoundBy as cases
 use Rattle.hc_effects.proofs.Forward.{after_is}
 use Rattle.hc_effects.proofs.Forward as forward

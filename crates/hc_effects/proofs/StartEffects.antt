@@ -23,7 +23,7 @@ use Rattle.hc_effects.proofs.ActParts.{far_closed}
 use Rattle.hc_effects.proofs.Basics.{some_none}
 use Rattle.hc_effects.proofs.ConsumerEffects.{after_by, others, representations}
 use Rattle.hc_effects.proofs.FewClosings.{closes_nothing, evicts_nothing}
-use Rattle.hc_effects.proofs.OfConsumers.{BringsNothing, IsOf, brings_nothing, little, goes_nothing, exchanges_stay, binds_none}
+use Rattle.hc_effects.proofs.OfConsumers.{BringsNothing, brings_nothing, little, goes_nothing, exchanges_stay, binds_none}
 use Rattle.hc_effects.proofs.OfConsumers as event_of
 
 module _ (limits : Limits) (t : Tables) (law : Lawful t) (now c : ℕ) (request : Request) where

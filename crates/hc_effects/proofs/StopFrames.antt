@@ -33,7 +33,6 @@ use Rattle.hc_model.specs.Lawful.{Lawful}
 use Rattle.hc_model.specs.Reading.{is_bound_place, is_written, own_open, shared_exchange, source, writing_in, reads}
 use Rattle.hc_model.specs.RepresentationRows.{representation_after, representation_heard, with_total_if_none, length_in}
 use Rattle.hc_model.specs.Rows.{Tables, Exchange, Representation, Consumer}
-use Rattle.hc_model.specs.Sound.{IsBound}
 use Rattle.hc_model.specs.Sound as sound
 use Rattle.hc_model.specs.Weights.{write_in}
 use Rattle.hc_model.specs.Writers.{brings_body}
@@ -47,7 +46,7 @@ use Rattle.hc_effects.proofs.PieceKeeps.{eq_cases}
 use Rattle.hc_effects.proofs.SameTables.{is_in, back_from_any}
 use Rattle.hc_effects.proofs.Stops.{source_is}
 use Rattle.hc_effects.proofs.Tests.{and_false}
-use Rattle.hc_effects.proofs.ToldFrames.{IsTold, says_little, exchange_one, goes_as, loses_as, closes_as, representation_by, representation_none, beside_same, consumer_by, told_by, told_plainly}
+use Rattle.hc_effects.proofs.ToldFrames.{IsTold, says_little, exchange_one, goes_as, closes_as, representation_by, representation_none, beside_same, consumer_by, told_by, told_plainly}
 use Rattle.hc_effects.proofs.ToldFrames as told
 use Rattle.hc_effects.proofs.Untouched.{IsSpared, own_stays, loss_spared, spared_bodiless}
 

@@ -1,6 +1,6 @@
 -- Where a shared writing stops: its members get a failure, or all that is left for them is stored.
 use Rattle.std.proofs.Common.{◌≡◌, inl, inr, ℕ, ◌+◌, ◌<◌, List, ◌++◌, length, true, false, Option, Some, None, refl, ap, sym, ◌∙◌, arith, length-append}
-use Rattle.std.specs.Prelude.{is_some, nat_lt, nat_eq}
+use Rattle.std.specs.Prelude.{is_some}
 use Rattle.std.specs.Option.{option_or}
 use Rattle.std.proofs.lemmas.Bool.Decides.{nat_tests}
 use Rattle.hc_text.proofs.Basics.{and_right, eq_tells as eq_of, some_inj, lt_or as split}
@@ -10,10 +10,10 @@ use Rattle.hc_sparse.specs.Cells.{Covers, cells_with}
 use Rattle.hc_sparse.proofs.CellLemmas.{inside-yes, inside-before}
 use Rattle.hc_model.specs.Entries.{Entry}
 use Rattle.hc_model.specs.Exchanges.{base, promised_bytes, front, is_open, is_reached, exchange_in}
-use Rattle.hc_model.specs.Failures.{becomes_due, cause_of_stop, stop_cause, short_of}
+use Rattle.hc_model.specs.Failures.{cause_of_stop, stop_cause}
 use Rattle.hc_model.specs.Reading.{is_written, is_open_writer, own_open, source, shared_exchange}
 use Rattle.hc_model.specs.Rows.{Tables, Exchange, Representation, Consumer}
-use Rattle.hc_model.specs.Sound.{Sound, IsAbout, IsBound, IsGrowing, IsSoundRepresentation, end_from, promised_end}
+use Rattle.hc_model.specs.Sound.{Sound, IsAbout, IsBound, IsGrowing, end_from}
 use Rattle.hc_rules.specs.Lengths.{is_same_number}
 use Rattle.hc_model.specs.Sound as sound
 

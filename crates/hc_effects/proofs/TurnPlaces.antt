@@ -22,7 +22,7 @@ use Rattle.hc_event.specs.declared.place.Place.{Place}
 use Rattle.hc_event.specs.declared.place.Place.TheVariants as place
 use Rattle.hc_model.specs.ActFilters.{wait_in, Showing, showing_in}
 use Rattle.hc_model.specs.Cases.{case_at}
-use Rattle.hc_model.specs.ConsumerRows.{bound_by_total, bound_to_wanted, place_by_case, passed_on, by_head, by_fault, by_opening, consumer_after, consumer_settled, consumer_acted, consumer_heard, waiting, waiting_place, passed_by, kept_by, opened_place, place_for_hole, unless_bound, with_opening, shown_place, own_after, due_after, back_in_line}
+use Rattle.hc_model.specs.ConsumerRows.{bound_to_wanted, place_by_case, passed_on, by_head, by_fault, by_opening, consumer_after, consumer_acted, consumer_heard, waiting, waiting_place, passed_by, kept_by, opened_place, place_for_hole, unless_bound, with_opening, shown_place, due_after, back_in_line}
 use Rattle.hc_model.specs.ConsumerRows as rows
 use Rattle.hc_model.specs.Currents.{current, row_of}
 use Rattle.hc_model.specs.Entries.{Entry}

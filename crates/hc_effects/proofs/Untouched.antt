@@ -1,9 +1,8 @@
 -- Whoever and whatever an entry does not speak of stays as it was, but for what becomes gone, and who waits for that.
-use Rattle.std.proofs.Common.{◌≡◌, ℕ, ◌+◌, List, length, Bool, true, false, Option, Some, None, refl, ap, ap₂, sym, ◌∙◌, arith}
+use Rattle.std.proofs.Common.{◌≡◌, ℕ, ◌+◌, List, length, Bool, true, false, Option, Some, None, refl, ap, sym, ◌∙◌}
 use Rattle.std.specs.Prelude.{◌&&◌, ◌||◌, not, nat_eq, if◌then◌else◌}
 use Rattle.std.specs.Option.{option_or, option_and_then}
 use Rattle.hc_text.proofs.Basics.{not_some as none_some, or_none as or_nothing, plus_none, some_inj, and_off as then_false}
-use Rattle.hc_text.specs.declared.bytes.Key.{Key}
 use Rattle.hc_event.specs.Filters.{Opening, opening_in, asks_in, closes_in, leaves_in, shows_in, given_in}
 use Rattle.hc_event.specs.declared.act.Act.{Act}
 use Rattle.hc_event.specs.declared.event.Event.{Event}
@@ -23,10 +22,10 @@ use Rattle.hc_model.specs.Exchanges.{family, exchange_in, exchange_at, is_for}
 use Rattle.hc_model.specs.Failures.{becomes_due, cause_of_stop, cause_of_loss, cause_by_loss, cause_of_head}
 use Rattle.hc_model.specs.Gone.{becomes_gone, goes_in}
 use Rattle.hc_model.specs.Reading.{reads, is_written}
-use Rattle.hc_model.specs.RepresentationRows.{representation_after, representation_heard, representation_acted, founded_at, updates, representation_after_head, representation_after_piece}
+use Rattle.hc_model.specs.RepresentationRows.{representation_after, representation_heard, representation_acted, founded_at, updates}
 use Rattle.hc_model.specs.Rows.{Tables, Exchange, Representation, Consumer}
 use Rattle.hc_model.specs.StartingOver.{starts_over, sends_back, waits_at, loses_what_it_waits_for}
-use Rattle.hc_model.specs.Tables.{founds, binds, starts_after, opened_after, openings_after}
+use Rattle.hc_model.specs.Tables.{binds}
 use Rattle.hc_model.specs.Writers.{loses_writing, brings_body}
 use Rattle.hc_effects.proofs.ActParts.{IsFarFrom}
 use Rattle.hc_effects.proofs.Dues.{undue_of, stop_none}

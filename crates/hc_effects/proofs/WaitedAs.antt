@@ -22,7 +22,7 @@ use Rattle.hc_event.specs.declared.place.BoundBy.{BoundBy}
 use Rattle.hc_event.specs.declared.place.BoundBy.TheVariants as by_how
 use Rattle.hc_model.specs.Currents.{current}
 use Rattle.hc_model.specs.Moves as moves
-use Rattle.hc_model.specs.Moves.{Move, Nothing, Fails, Opens, gives, waits_for, opens_hole, shows_stored}
+use Rattle.hc_model.specs.Moves.{Move, Nothing, Fails, gives, waits_for, opens_hole, shows_stored}
 use Rattle.hc_model.specs.Planning.{plan_view, plan_move, origin_request, binds_current, current_row}
 use Rattle.hc_model.specs.Polls.{shows_at, shows_bound, shows_direct, shows_answer, has_joined, move_of}
 use Rattle.hc_model.specs.Reading.{bound_to}

@@ -23,7 +23,7 @@ use Rattle.hc_model.specs.Entries.{Entry}
 use Rattle.hc_model.specs.Exchanges.{family, exchange_in, is_headless, is_open}
 use Rattle.hc_model.specs.Flaws.{Flaw}
 use Rattle.hc_model.specs.Keys.{entry_of}
-use Rattle.hc_model.specs.Owners.{Owners, IsAwaiting, Awaits}
+use Rattle.hc_model.specs.Owners.{Owners, IsAwaiting}
 use Rattle.hc_model.specs.Owners as owners
 use Rattle.hc_model.specs.Reading.{own_open, if_open, is_written, shared_exchange, writing_in}
 use Rattle.hc_model.specs.Rows.{Tables, Exchange, Representation, Consumer}

@@ -44,7 +44,7 @@ use Rattle.hc_model.specs.Tables.{after_accepted}
 use Rattle.hc_effects.proofs.Basics.{false_true}
 use Rattle.hc_effects.proofs.FirstKeeps.{is_opener}
 use Rattle.hc_effects.proofs.Forward.{is_kept}
-use Rattle.hc_effects.proofs.OpenedAs.{OpenedAs, Way, opening_is}
+use Rattle.hc_effects.proofs.OpenedAs.{OpenedAs, Way}
 use Rattle.hc_effects.proofs.OpenedAs as opened
 use Rattle.hc_effects.proofs.OpeningPoll.{leaves_none, misreads_none, evicts_none, shows_none, doomed_not, case_not, closes_none, loses_none}
 

@@ -30,7 +30,7 @@ use Rattle.hc_model.specs.Writers.{brings_body}
 use Rattle.hc_effects.proofs.ApartKeeps.{is_on}
 use Rattle.hc_effects.proofs.Basics.{false_true}
 use Rattle.hc_effects.proofs.EndsKeep.{known_kept}
-use Rattle.hc_effects.proofs.Fills.{Fills, fills, IsPiece}
+use Rattle.hc_effects.proofs.Fills.{Fills, fills}
 use Rattle.hc_effects.proofs.Fills as fills_by
 use Rattle.hc_effects.proofs.FirstKeeps.{is_new}
 use Rattle.hc_effects.proofs.Forward.{after_is}

@@ -5,7 +5,6 @@ use Rattle.std.specs.Map.{keys_of}
 use Rattle.std.specs.List.{IsDistinct}
 use Rattle.std.proofs.lemmas.Bool.{cases_lt, eq-eqb, ne_eqb}
 use Rattle.std.proofs.lemmas.List.{get_or_past}
-use Rattle.hc_text.proofs.Basics.{none_or as none-there}
 use Rattle.hc_sorted.specs.Sorted.{with_item}
 use Rattle.hc_entry.specs.Users.{itself}
 use Rattle.hc_entry.specs.declared.seat.Seat.{Seat}

@@ -2,7 +2,7 @@
 use Rattle.std.proofs.Common.{◌≡◌, ◌≢◌, ◌⊎◌, ℕ, Bool, true, false, eqb, List, [], ◌∷◌, ◌++◌, length, get_or, refl, sym, ap, ◌∙◌, subst, inl, inr}
 use Rattle.std.proofs.lemmas.Bool.{both_ways}
 use Rattle.std.proofs.lemmas.List.{append_assoc, append-nil, nil_from_length}
-use Rattle.hc_etag.specs.Etags.{IsOpaque, tag_text, BeginsTag}
+use Rattle.hc_etag.specs.Etags.{IsOpaque, tag_text}
 use Rattle.hc_text.specs.Elements.{comma, is_blank}
 use Rattle.hc_etag.specs.Tags.{SpellsTags, ends, blank, separator, tag}
 use Rattle.hc_etag.proofs.EtagLemmas.{tag_unique}

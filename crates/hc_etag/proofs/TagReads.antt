@@ -3,10 +3,9 @@ use Rattle.std.proofs.Common.{◌≡◌, ℕ, suc, ◌+◌, ◌-◌, ◌≤◌, 
 use Rattle.std.specs.Prelude.{◌&&◌}
 use Rattle.std.specs.List.{list_all}
 use Rattle.std.proofs.lemmas.Bool.{cases_Bool, and_parts, and_from, eqb-true}
-use Rattle.std.proofs.lemmas.Bool.Decides.{nat_tests}
 use Rattle.std.proofs.lemmas.List.{take_more, length-append}
 use Rattle.std.proofs.Math.Seq.{take-length, take-append_seam}
-use Rattle.hc_text.proofs.Basics.{le-leb, leb-le}
+use Rattle.hc_text.proofs.Basics.{le-leb}
 use Rattle.hc_etag.specs.Etags.{is_etagc, SpellsTag}
 use Rattle.hc_etag.specs.TagTexts.{inner, is_quoted, strong_in}
 

@@ -4,7 +4,7 @@
 -- stored; one past the store brings a part of its whole, and isn't bad: so the end is known, and no later than what is told
 -- (`part`). A 200 begins at the first position, and where an end is shown that is the end of the body (`whole`).
 use Rattle.std.proofs.Common.{◌≡◌, ℕ, ◌+◌, ◌-◌, ◌<◌, ◌≤◌, List, [], ◌∷◌, Bool, true, false, inl, inr, Option, Some, None, refl, ap, sym, ◌∙◌, subst, arith}
-use Rattle.std.specs.Prelude.{◌==◌, ◌&&◌, codes, map, filter, bytes_eq, nat_eq, is_some}
+use Rattle.std.specs.Prelude.{◌==◌, ◌&&◌, codes, map, filter, nat_eq, is_some}
 use Rattle.std.specs.Option.{option_or, option_and_then}
 use Rattle.std.specs.Fmt.{decimal}
 use Rattle.std.proofs.lemmas.Bool.Decides.{nat_tests}
@@ -26,7 +26,7 @@ use Rattle.hc_rules.specs.Lengths.{length_of, base_of, promise_of}
 use Rattle.hc_rules.specs.declared.need.Route.TheVariants as route
 use Rattle.hc_rules.specs.Needs.{route_of}
 use Rattle.hc_rules.specs.RangeTexts.{content_range_of, content_range_in}
-use Rattle.hc_rules.proofs.RangeReads.{content_range_in-spelled, bytes_eq-same}
+use Rattle.hc_rules.proofs.RangeReads.{content_range_in-spelled}
 use Rattle.hc_validate.specs.Heads.{FieldPairs, with_one}
 use Rattle.hc_validate.specs.Showing.{with_age, with_range, part_of, shown_as, shown_response}
 use Rattle.hc_model.specs.Currents.{total_in}

@@ -5,7 +5,7 @@
 -- then (`one_started`). An entry brings the bytes of its event, denied or not (`brings`), and the fetch's own starts bring none
 -- (`starts_bring`).
 use Rattle.std.proofs.Common.{◌≡◌, ℕ, zero, suc, ◌+◌, ◌≤◌, List, [], ◌∷◌, ◌++◌, length, Bool, true, false, Option, Some, None, refl, ap, sym, ◌∙◌, subst, arith}
-use Rattle.std.specs.Prelude.{if◌then◌else◌, is_none, ◌&&◌, ◌==◌, filter}
+use Rattle.std.specs.Prelude.{if◌then◌else◌, is_none, ◌&&◌, ◌==◌}
 use Rattle.std.specs.Option.{option_or}
 use Rattle.hc_text.proofs.Basics.{filter_short as few_pass}
 use Rattle.hc_event.specs.Filters.{is_denied}

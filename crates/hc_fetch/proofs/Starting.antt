@@ -5,9 +5,7 @@
 use Rattle.std.proofs.Common.{◌≡◌, ℕ, zero, suc, ◌+◌, ◌-◌, ◌*◌, ◌<◌, ◌≤◌, List, [], ◌∷◌, ◌++◌, length, Bool, true, false, Option, Some, None, refl, ap, sym, ◌∙◌, subst, arith, min, max, ◌/◌}
 use Rattle.std.specs.Prelude.{if◌then◌else◌, ◌==◌}
 use Rattle.std.proofs.lemmas.Bool.Decides.{nat_tests}
-use Rattle.hc_event.specs.Counting.{received_in}
 use Rattle.hc_event.specs.declared.act.Act.{Act}
-use Rattle.hc_event.specs.declared.event.Event.{Event}
 use Rattle.hc_event.specs.declared.event.Event.TheVariants as event
 use Rattle.hc_event.specs.declared.event.Request.{Request}
 use Rattle.hc_rules.specs.declared.room.Limits.{Limits}
@@ -24,7 +22,7 @@ use Rattle.hc_fetch.specs.declared.first.First.{First}
 use Rattle.hc_fetch.specs.declared.plan.FetchPlan.{FetchPlan}
 use Rattle.hc_fetch.specs.Bounds.{AreFew, starts_allowed}
 use Rattle.hc_fetch.specs.Fetches.{started, parts_start, cache_history, starts_behind}
-use Rattle.hc_fetch.specs.Hearing.{HasStarted, KeepsRest, Begins, Starts, Steps}
+use Rattle.hc_fetch.specs.Hearing.{HasStarted, KeepsRest, Begins, Starts}
 use Rattle.hc_fetch.specs.Plans.{part_start, part_count, request_of, fields_for, last_position, first_start, first_fields}
 use Rattle.hc_fetch.proofs.Started.{few_live, none_started, started_more}
 use Rattle.hc_fetch.proofs.Starts.{start_silent}

@@ -1,13 +1,11 @@
 -- What a use without validation says of its head and request.
-use Rattle.std.proofs.Common.{◌≡◌, ◌≢◌, ◌⊎◌, ℕ, ◌+◌, ◌-◌, ◌<◌, ◌≤◌, Bool, true, false, cond, eqb, leb, ltb, Option, Some, None, refl, inl, inr, arith, subst}
+use Rattle.std.proofs.Common.{◌≡◌, ◌≢◌, ◌⊎◌, ℕ, ◌+◌, ◌-◌, ◌<◌, ◌≤◌, true, false, ltb, Option, Some, None, refl, inl, inr, subst}
 use Rattle.std.specs.Prelude.{IfSome, ◌||◌}
-use Rattle.std.proofs.lemmas.Bool.Decides.{nat_tests}
 use Rattle.hc_text.proofs.Basics.{either, leb-le, ltb-le, ltb-lt}
 use Rattle.hc_event.specs.declared.event.Load.{Load}
 use Rattle.hc_event.specs.declared.event.Load.TheVariants as load
 use Rattle.hc_event.specs.declared.event.Request.{Request}
 use Rattle.hc_event.specs.declared.act.Why.{Why}
-use Rattle.hc_event.specs.declared.act.Why.TheVariants as why
 use Rattle.hc_cachectl.specs.Directives.{of_request, of_response}
 use Rattle.hc_record.specs.Head.{Head}
 use Rattle.hc_fresh.specs.Ages.{age}

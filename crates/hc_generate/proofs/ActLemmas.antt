@@ -4,9 +4,7 @@ use Rattle.std.specs.Prelude.{filter}
 use Rattle.std.specs.List.{list_any}
 use Rattle.hc_event.specs.declared.act.Act.{Act}
 use Rattle.hc_event.specs.declared.act.Act.TheVariants as act
-use Rattle.hc_event.specs.declared.act.Need.{Need}
-use Rattle.hc_event.specs.declared.event.Request.{Request}
-use Rattle.hc_event.specs.Filters.{opening_in, closes_in, leaves_in}
+use Rattle.hc_event.specs.Filters.{closes_in, leaves_in}
 use Rattle.hc_generate.specs.declared.exchange.Exchange.{Exchange}
 use Rattle.hc_generate.specs.Hearing.{closes, leaves, still_live, still_open}
 

@@ -21,7 +21,7 @@ use Rattle.hc_validate.proofs.Numbers.{short-decimal}
 use Rattle.hc_validate.proofs.Settings.{length-with_one, size_of-with_one}
 use Rattle.hc_generate.specs.Draws.{draw_below, state_after_draw}
 use Rattle.hc_generate.specs.Requests as made
-use Rattle.hc_generate.specs.Requests.{drawn_request, drawn_fields, range_from, range_text}
+use Rattle.hc_generate.specs.Requests.{drawn_request, range_from}
 use Rattle.hc_generate.proofs.RangeTexts.{short-range}
 
 -- HOW LONG A REPRESENTATION IS

@@ -1,5 +1,5 @@
 -- What the grammar of a head says of its fields.
-use Rattle.std.proofs.Common.{◌≡◌, ℕ, zero, suc, ◌+◌, ◌-◌, ◌<◌, ◌≤◌, ◌==◌, Bool, true, false, List, [], ◌∷◌, ◌++◌, length, reverse, get_or, refl, sym, ap, subst, ◌∙◌, inl, inr, arith, length-append}
+use Rattle.std.proofs.Common.{◌≡◌, ℕ, zero, suc, ◌+◌, ◌-◌, ◌<◌, ◌≤◌, ◌==◌, true, false, List, [], ◌∷◌, ◌++◌, length, reverse, get_or, refl, sym, ap, subst, ◌∙◌, inl, inr, arith, length-append}
 use Rattle.std.specs.Prelude.{◌⊎◌, ◌||◌, map, All, IsTrue}
 use Rattle.std.specs.List.{list_all, flat_map}
 use Rattle.std.proofs.lemmas.Bool.{cases_Bool, ne_eqb}
@@ -10,7 +10,7 @@ use Rattle.hc_text.proofs.Basics.{cond_either}
 use Rattle.http_header.specs.Token.{lowercase}
 use Rattle.http_header.specs.Token as header
 use Rattle.httparse.specs.Grammar as grammar
-use Rattle.httparse.specs.Grammar.{Field, IsField, AllPass, skip_ows, trim_ows, is_ows, field_value, print_field, print_section, print_end, LineEnd, crlf, lf, RequestHead, print_request, ResponseHead, print_response, ReadsRequest, ReadsResponse}
+use Rattle.httparse.specs.Grammar.{Field, IsField, AllPass, skip_ows, trim_ows, is_ows, print_field, RequestHead, print_request, ResponseHead, print_response, ReadsRequest, ReadsResponse}
 use Rattle.httparse.specs.declared.borrowed.Header.{Header}
 use Rattle.httparse.specs.Borrowed.{header_parts}
 use Rattle.httparse.specs.Spans.{name_and_value}

@@ -3,7 +3,7 @@
 -- (`line_printed`), and a word before the first byte of a kind is found as that word (`cut_word`). The other way, lines
 -- that were read make the text again (`lines_make`), and so does a word, the byte behind it and the rest (`cut_makes`).
 use Rattle.std.proofs.Common.{◌≡◌, ℕ, suc, ◌+◌, ◌-◌, ◌<◌, ◌==◌, Bool, true, false, true≢false, List, [], ◌∷◌, ◌++◌, length, drop, refl, sym, ap, ◌∙◌, inl, inr, arith, append_assoc, length-append, length-drop}
-use Rattle.std.specs.Prelude.{◌&&◌, not, bytes_eq, Option, Some, None, option_map}
+use Rattle.std.specs.Prelude.{◌&&◌, not, bytes_eq, Some, option_map}
 use Rattle.std.specs.List.{list_all, prefix_len, flat_map}
 use Rattle.std.proofs.lemmas.Bool.{cases_Bool, and_parts, eqb-true, eq-eqb, false_from_ne_true, ne_eqb, lt-ltb}
 use Rattle.std.proofs.lemmas.List.{append-nil, take_at, drop_at, take-append-drop}

@@ -10,10 +10,9 @@ use Rattle.std.proofs.lemmas.Bool.{cases_Bool, and_parts, or_parts, leb-true, le
 use Rattle.std.proofs.lemmas.List.Elements.{All-cons, All-head, All-tail, All-filter}
 use Rattle.std.proofs.lemmas.List.Sums.{list_all-from_AllPass, sum_by-cons}
 use Rattle.std.proofs.lemmas.List.Filters.{length-filter_both, sum_by-filter_both}
-use Rattle.http_header.specs.Token.{lowercase}
 use Rattle.http_header.specs.Token as header
 use Rattle.httparse.specs.Grammar as grammar
-use Rattle.httparse.specs.Grammar.{RequestHead, ResponseHead, Field, status_code, print_request, print_response}
+use Rattle.httparse.specs.Grammar.{Field, status_code, print_request, print_response}
 use Rattle.httparse.specs.Spans.{name_and_value}
 use Rattle.hc_fields.specs.FieldList.{IsField, IsFieldList, field_list_with, size_of}
 use Rattle.hc_fields.proofs.Kept.{IsField-lowered, length-lowercase}

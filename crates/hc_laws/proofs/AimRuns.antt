@@ -34,7 +34,7 @@ use Rattle.hc_effects.proofs.ExchangeFrom.{ExchangeFrom, exchange_from}
 use Rattle.hc_effects.proofs.ExchangeFrom as exchange
 use Rattle.hc_laws.proofs.InRuns.{one_key_in_runs}
 use Rattle.hc_effects.proofs.NamesKeep.{current_there}
-use Rattle.hc_effects.proofs.OpenedAs.{OpenedAs, Way, opened_as}
+use Rattle.hc_effects.proofs.OpenedAs.{Way, opened_as}
 use Rattle.hc_effects.proofs.OpenedAs as opened
 use Rattle.hc_laws.proofs.Reasons.{aimed}
 use Rattle.hc_laws.proofs.RunFacts.{in_runs}

@@ -22,7 +22,7 @@ use Rattle.hc_model.specs.Sound.{Sound}
 use Rattle.hc_model.specs.Tables.{first_tables, after_accepted, after_denied}
 use Rattle.hc_effects.proofs.BoundFrom.{BoundFrom, bound_from}
 use Rattle.hc_effects.proofs.BoundFrom as from
-use Rattle.hc_effects.proofs.ExchangeFrom.{ExchangeFrom, IsSame, IsHeaded, exchange_from}
+use Rattle.hc_effects.proofs.ExchangeFrom.{ExchangeFrom, IsHeaded, exchange_from}
 use Rattle.hc_effects.proofs.ExchangeFrom as exchange
 use Rattle.hc_effects.proofs.FirstKeeps.{is_new, is_opener}
 use Rattle.hc_effects.proofs.Forward.{is_on, opened_on}

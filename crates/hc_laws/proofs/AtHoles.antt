@@ -25,7 +25,7 @@ use Rattle.hc_model.specs.Laws.{OfRuns, Turns}
 use Rattle.hc_model.specs.Reading.{bound, bound_to, lo_of, offset}
 use Rattle.hc_model.specs.Rows.{Tables, Exchange, Consumer}
 use Rattle.hc_model.specs.Runs.{IsRun, IsOwed}
-use Rattle.hc_model.specs.Sound.{Sound, IsBound, InHole}
+use Rattle.hc_model.specs.Sound.{Sound, InHole}
 use Rattle.hc_model.specs.Sound as sound
 use Rattle.hc_model.specs.Tables.{tables, after_accepted, after_denied}
 use Rattle.hc_laws.proofs.Barred.{next_tables, denied_tables}

@@ -31,7 +31,7 @@ use Rattle.hc_model.specs.Exchanges.{is_headless}
 use Rattle.hc_model.specs.Flaws.{Flaw, flaw_in}
 use Rattle.hc_model.specs.Gone.{becomes_gone}
 use Rattle.hc_model.specs.Keys.{IsOfOneKey}
-use Rattle.hc_model.specs.Laws.{Turns, StandsFor, IsBarred, IsBehindDooms, BarrierIsKept, BarrierBegins, AreNumbered, IsNewlyBound, IsBoundBehindDooms, barrier, barrier_at, item_of}
+use Rattle.hc_model.specs.Laws.{Turns, StandsFor, IsBarred, BarrierIsKept, BarrierBegins, AreNumbered, IsNewlyBound, IsBoundBehindDooms, barrier, barrier_at, item_of}
 use Rattle.hc_model.specs.Laws as laws
 use Rattle.hc_model.specs.Reading.{reads}
 use Rattle.hc_model.specs.Rows.{Tables, Exchange, Representation, Consumer}

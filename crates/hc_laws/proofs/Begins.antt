@@ -12,7 +12,7 @@ use Rattle.hc_model.specs.Entries.{Content, Contents}
 use Rattle.hc_model.specs.Laws.{IsStart, StartsAreSound, item_of}
 use Rattle.hc_model.specs.Reading.{is_written}
 use Rattle.hc_model.specs.Rows.{Representation, Consumer}
-use Rattle.hc_model.specs.Sound.{Waits, Sound, Numbered, OneAbout, Writes, Among, IsAbout, IsBound, IsFirst, IsSoundRepresentation}
+use Rattle.hc_model.specs.Sound.{Among, IsAbout, IsBound, IsFirst, IsSoundRepresentation}
 use Rattle.hc_model.specs.Tables.{first_tables, representation_of_content, last_end, numbers}
 use Rattle.hc_model.specs.Sound as sound
 use Rattle.hc_effects.proofs.Basics.{false_true}

@@ -11,7 +11,7 @@ use Rattle.hc_model.specs.Laws.{AfterDenials}
 use Rattle.hc_model.specs.Measures.{Measures}
 use Rattle.hc_model.specs.Owners.{Owners}
 use Rattle.hc_model.specs.Rows.{Tables, Representation, Consumer}
-use Rattle.hc_model.specs.Sound.{Sound, IsBound, IsFirst, IsExclusiveWriter}
+use Rattle.hc_model.specs.Sound.{Sound, IsBound}
 use Rattle.hc_model.specs.Sound as sound
 use Rattle.hc_model.specs.Tables.{first_tables, after_accepted, after_denied}
 use Rattle.hc_effects.proofs.Beside.{IsBeside}

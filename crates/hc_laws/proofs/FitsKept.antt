@@ -2,7 +2,7 @@
 use Rattle.std.proofs.Common.{◌≡◌, ◌⊎◌, inl, inr, ℕ, ◌+◌, ◌≤◌, List, [], ◌∷◌, ◌++◌, length, Bool, true, false, Option, Some, None, refl, ap, sym, ◌∙◌, subst, arith}
 use Rattle.std.specs.Prelude.{if◌then◌else◌, is_some, ◌&&◌, ◌||◌, ◌==◌, not, nat_eq, nat_lt, map, take, reverse}
 use Rattle.std.specs.List.{list_any, sum_by}
-use Rattle.std.specs.Option.{option_or, option_and_then}
+use Rattle.std.specs.Option.{option_and_then}
 use Rattle.std.proofs.lemmas.Bool.Decides.{nat_tests}
 use Rattle.std.proofs.lemmas.List.Sums.{sum_by-cons}
 use Rattle.hc_text.proofs.Basics.{and_left, and_right, bool_cases, not_some as none_some, not_true as not_false, same_some as same_row, some_inj}
@@ -66,7 +66,7 @@ use Rattle.hc_effects.proofs.ShownFrom.{ShownAs}
 use Rattle.hc_effects.proofs.ShownFrom as shown_as
 use Rattle.hc_effects.proofs.Sums.{only_yes, sum_le, sum_two, sum_plus, sum_some, only, only_once, is_in, among_of, in_among, filter_among, filter_once, take_among, take_once, reverse_among, reverse_once, gives_enough}
 use Rattle.hc_effects.proofs.ToBeShown.{heard_place}
-use Rattle.hc_effects.proofs.Weighed.{IsHeld, held, held_in, total, held_is, held_most, held_none, IsFilled, sized, goes_more, case_same}
+use Rattle.hc_effects.proofs.Weighed.{IsHeld, held, total, held_is, held_most, held_none, IsFilled, sized, goes_more, case_same}
 use Rattle.hc_effects.proofs.Weighed as weighed
 
 any_none : (test : ℕ → Bool) (c : ℕ) (cs : List ℕ) → Among c cs → list_any test cs ≡ false → test c ≡ false

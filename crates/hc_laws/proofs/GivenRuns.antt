@@ -19,7 +19,7 @@ use Rattle.hc_model.specs.Measures.{Measures}
 use Rattle.hc_model.specs.Reading.{hi_of, lo_of, reads}
 use Rattle.hc_model.specs.Reads.{Holds, cell_by}
 use Rattle.hc_model.specs.Rows.{Tables, Representation, Consumer}
-use Rattle.hc_model.specs.Sound.{Sound, IsBound}
+use Rattle.hc_model.specs.Sound.{Sound}
 use Rattle.hc_model.specs.Sound as sound
 use Rattle.hc_model.specs.Tables.{tables}
 use Rattle.hc_effects.proofs.Basics.{false_true, some_row}

@@ -32,7 +32,7 @@ use Rattle.hc_model.specs.Owners.{Owners}
 use Rattle.hc_model.specs.Reading.{is_written, own_open, if_open, bound_to, offset, hi_of, reads}
 use Rattle.hc_model.specs.RepresentationRows.{resumes}
 use Rattle.hc_model.specs.Rows.{Tables, Exchange, Representation, Consumer}
-use Rattle.hc_model.specs.Sound.{Sound, IsBound, IsAbout, IsAlone, IsFirst, IsExclusiveWriter, IsHad}
+use Rattle.hc_model.specs.Sound.{Sound, IsBound, IsAlone, IsExclusiveWriter, IsHad}
 use Rattle.hc_model.specs.Sound as sound
 use Rattle.hc_model.specs.Tables.{after_accepted}
 use Rattle.hc_model.specs.Writers.{brings_body, has_more, lacks_some}

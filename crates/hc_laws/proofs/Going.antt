@@ -1,5 +1,5 @@
 -- Who has the turn doesn't wait for it, and who is bound waits for nobody.
-use Rattle.std.proofs.Common.{◌≡◌, inl, inr, ℕ, List, Bool, true, false, Option, Some, None, refl, ap, sym, ◌∙◌, arith}
+use Rattle.std.proofs.Common.{◌≡◌, ℕ, List, Bool, true, false, Option, Some, None, refl, ap, sym, ◌∙◌, arith}
 use Rattle.std.specs.Prelude.{nat_eq, unwrap_or}
 use Rattle.std.specs.Option.{option_or}
 use Rattle.hc_text.proofs.Basics.{eq_itself as eq-refl, some_inj}
@@ -11,9 +11,8 @@ use Rattle.hc_model.specs.Moves as moves
 use Rattle.hc_model.specs.Moves.{Move}
 use Rattle.hc_model.specs.Reading.{bound_to}
 use Rattle.hc_model.specs.Rows.{Tables, Consumer}
-use Rattle.hc_model.specs.Sound.{Sound, IsBound}
+use Rattle.hc_model.specs.Sound.{Sound}
 use Rattle.hc_model.specs.Sound as sound
-use Rattle.hc_effects.proofs.PieceKeeps.{eq_cases}
 use Rattle.hc_effects.proofs.TurnMoves.{Does, does_polled}
 use Rattle.hc_effects.proofs.TurnMoves as does
 

@@ -39,7 +39,7 @@ use Rattle.hc_model.specs.Tables.{after_accepted}
 use Rattle.hc_effects.proofs.ApartKeeps.{IsOn, is_on, was_written}
 use Rattle.hc_effects.proofs.Basics.{false_true, number_is}
 use Rattle.hc_effects.proofs.ExchangeFrom.{IsSame, IsHeaded}
-use Rattle.hc_effects.proofs.Fills.{Fills, fills, Brings, brings, length_same}
+use Rattle.hc_effects.proofs.Fills.{Fills, fills, Brings, brings}
 use Rattle.hc_effects.proofs.Fills as fills_by
 use Rattle.hc_effects.proofs.FirstKeeps.{case_is, is_new}
 use Rattle.hc_effects.proofs.Forward.{after_is}

@@ -22,7 +22,7 @@ use Rattle.hc_model.specs.Measures.{Measures, IsMeasured}
 use Rattle.hc_model.specs.Measures as measures
 use Rattle.hc_model.specs.Reading.{is_written}
 use Rattle.hc_model.specs.Rows.{Tables, Exchange, Representation}
-use Rattle.hc_model.specs.Sound.{Sound, Among, IsAbout}
+use Rattle.hc_model.specs.Sound.{Sound, IsAbout}
 use Rattle.hc_model.specs.Sound as sound
 use Rattle.hc_model.specs.Tables.{tables, after_accepted, after_denied}
 use Rattle.hc_effects.proofs.ApartKeeps.{is_on}

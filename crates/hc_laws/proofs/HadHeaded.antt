@@ -42,7 +42,7 @@ use Rattle.hc_model.specs.Owners.{Owners}
 use Rattle.hc_model.specs.Reading.{is_written, reads}
 use Rattle.hc_model.specs.RepresentationRows.{representation_heard, new_representation, resumes, updates, writer_at, with_renewed_head, representation_after_head}
 use Rattle.hc_model.specs.Rows.{Tables, Exchange, Representation, Consumer}
-use Rattle.hc_model.specs.Sound.{Sound, IsBound, IsAbout, IsHad, IsExclusiveWriter}
+use Rattle.hc_model.specs.Sound.{Sound, IsAbout, IsHad}
 use Rattle.hc_model.specs.Sound as sound
 use Rattle.hc_model.specs.StartingOver.{starts_over}
 use Rattle.hc_model.specs.Tables.{after_accepted}
@@ -54,7 +54,7 @@ use Rattle.hc_effects.proofs.Dues.{due_none}
 use Rattle.hc_effects.proofs.ExchangeFrom.{ExchangeFrom, IsSame, IsHeaded, exchange_from}
 use Rattle.hc_effects.proofs.ExchangeFrom as exchange
 use Rattle.hc_effects.proofs.FirstKeeps.{case_is, is_new}
-use Rattle.hc_effects.proofs.FoundBy.{CaseBy, case_by, FoundingBy, founding_by}
+use Rattle.hc_effects.proofs.FoundBy.{FoundingBy, founding_by}
 use Rattle.hc_effects.proofs.FoundBy as cases
 use Rattle.hc_effects.proofs.Forward as forward
 use Rattle.hc_effects.proofs.HadKeeps.{own_had, settled, bare_had, was_headed}

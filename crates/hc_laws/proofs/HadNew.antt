@@ -45,7 +45,7 @@ use Rattle.hc_effects.proofs.OwnersKeep.{is_opened}
 use Rattle.hc_effects.proofs.ExclusiveWriters.{bound_some, none_about, has_exclusive_writer, none_about_hole}
 use Rattle.hc_effects.proofs.PollKeeps.{current_stays}
 use Rattle.hc_effects.proofs.PollTree as tree
-use Rattle.hc_effects.proofs.RepFrom.{RepFrom, rep_from, IsKept, IsResumed}
+use Rattle.hc_effects.proofs.RepFrom.{RepFrom, rep_from, IsKept}
 use Rattle.hc_effects.proofs.RepFrom as rep
 use Rattle.hc_effects.proofs.Said.{IsOpening, opening_by, showing_by}
 use Rattle.hc_effects.proofs.ServedKeeps.{kept_alone}

@@ -1,8 +1,7 @@
 -- What is of one key stays so: what consumers read, wait for and have of their own.
 use Rattle.std.proofs.Common.{◌≡◌, ◌⊎◌, inl, inr, ℕ, List, [], ◌∷◌, ◌++◌, Bool, true, false, Option, Some, None, refl, ap, sym, ◌∙◌, subst, arith}
-use Rattle.std.specs.Prelude.{◌&&◌, ◌==◌, nat_eq, not, if◌then◌else◌, map, find, is_none}
+use Rattle.std.specs.Prelude.{◌&&◌, ◌==◌, not, if◌then◌else◌, map, find, is_none}
 use Rattle.std.specs.Option.{option_or, option_map}
-use Rattle.std.proofs.lemmas.Bool.Decides.{nat_tests}
 use Rattle.hc_text.proofs.Basics.{eq_itself as eq-refl, eq_tells as eq_is, not_some as none_some, same_some as same_row, some_inj}
 use Rattle.hc_event.specs.Filters.{Opening, opening_in, leaves_in}
 use Rattle.hc_event.specs.declared.act.Act.{Act}

@@ -7,7 +7,7 @@ use Rattle.hc_event.specs.Filters.{closes_in}
 use Rattle.hc_event.specs.declared.event.Event.{Event}
 use Rattle.hc_event.specs.declared.event.Event.TheVariants as event
 use Rattle.hc_rules.specs.declared.room.Limits.{Limits}
-use Rattle.hc_model.specs.ActFilters.{loses_in, has_loss}
+use Rattle.hc_model.specs.ActFilters.{loses_in}
 use Rattle.hc_model.specs.Denials.{denial}
 use Rattle.hc_model.specs.Entries.{Entry}
 use Rattle.hc_model.specs.Exchanges.{promised_bytes, is_open}
@@ -23,7 +23,7 @@ use Rattle.hc_model.specs.Sound.{Sound, IsGrowing}
 use Rattle.hc_model.specs.Tables.{after_accepted}
 use Rattle.hc_effects.proofs.ApartKeeps.{is_on}
 use Rattle.hc_effects.proofs.Basics.{false_true, true_false, or_false}
-use Rattle.hc_effects.proofs.RepFrom.{RepFrom, rep_from, IsKept, IsResumed, IsEnded}
+use Rattle.hc_effects.proofs.RepFrom.{IsKept}
 use Rattle.hc_effects.proofs.RepFrom as rep
 use Rattle.hc_effects.proofs.WritingStops.{IsAll, ends_all}
 

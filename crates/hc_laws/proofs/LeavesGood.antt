@@ -1,7 +1,7 @@
 -- A store may begin with what a run leaves.
 use Rattle.std.proofs.Common.{◌≡◌, ◌≢◌, inl, inr, ℕ, ◌+◌, ◌<◌, ◌≤◌, ◌^◌, List, [], ◌∷◌, length, Bool, true, false, Option, Some, None, refl, ap, sym, ◌∙◌, subst, arith}
-use Rattle.std.specs.Prelude.{is_some, nat_eq, nat_le, nat_lt, bytes_eq, codes, ◌==◌, ◌&&◌, ◌||◌, not, filter, filter_map, reverse, option_map, if◌then◌else◌}
-use Rattle.std.specs.List.{list_any, list_all, sum_by}
+use Rattle.std.specs.Prelude.{is_some, nat_eq, nat_le, nat_lt, bytes_eq, ◌==◌, ◌&&◌, ◌||◌, not, filter, filter_map, reverse, option_map, if◌then◌else◌}
+use Rattle.std.specs.List.{list_any, sum_by}
 use Rattle.std.proofs.lemmas.Bool.Decides.{nat_tests}
 use Rattle.std.proofs.lemmas.List.Sums.{sum_by-cons}
 use Rattle.hc_text.proofs.Basics.{both_true as and_both, and_left, and_right, bool_cases, not_some as none_some, some_inj}
@@ -48,7 +48,7 @@ use Rattle.hc_effects.proofs.Sums.{sum_le, sum_some, is_in, among_of, filter_amo
 use Rattle.hc_laws.proofs.TagRuns.{tags_in_runs}
 use Rattle.hc_laws.proofs.Unknowns.{Unknown}
 use Rattle.hc_laws.proofs.WaitsInRuns.{unknown_in_runs}
-use Rattle.hc_effects.proofs.Weighed.{IsHeld, held, total, held_is}
+use Rattle.hc_effects.proofs.Weighed.{held, total, held_is}
 use Rattle.hc_effects.proofs.Weighed as weighed
 
 not_by : (b : Bool) → b ≡ false → not b ≡ true

@@ -37,14 +37,14 @@ use Rattle.hc_model.specs.Planning.{plan_view, plan_move, binds_current, current
 use Rattle.hc_model.specs.Polls.{shows_at, shows_bound, shows_direct, shows_answer, has_joined, move_of}
 use Rattle.hc_model.specs.Reading.{bound_to, offset, lo_of, hi_of, own_open, source, shared_exchange, writing_in, is_written, is_open_writer, base_in}
 use Rattle.hc_model.specs.Rows.{Tables, Exchange, Representation, Consumer}
-use Rattle.hc_model.specs.Sound.{Sound, IsBound, IsFirst, IsExclusiveWriter, IsServed}
+use Rattle.hc_model.specs.Sound.{Sound, IsBound, IsServed}
 use Rattle.hc_model.specs.Sound as sound
 use Rattle.hc_model.specs.Steps.{bound_row, stored_ahead, stored_from, run_held_for, held_at, held_of_exchange, run_of, read_view, later_hole, step_move, reading, most}
 use Rattle.hc_model.specs.Writers.{came_alone}
 use Rattle.hc_effects.proofs.AboutKeeps.{own_open_of, own_open_is}
 use Rattle.hc_effects.proofs.Basics.{false_true, some_none, some_row}
 use Rattle.hc_effects.proofs.GivenNext.{some_ahead}
-use Rattle.hc_effects.proofs.MoveBy.{MoveBy, IsHeard, move_by}
+use Rattle.hc_effects.proofs.MoveBy.{MoveBy, move_by}
 use Rattle.hc_effects.proofs.MoveBy as by
 use Rattle.hc_effects.proofs.ExclusiveWriters.{shares_source}
 use Rattle.hc_effects.proofs.PlanBy.{PlanBy, plan_by}

@@ -20,7 +20,7 @@ use Rattle.hc_model.specs.Places.{Places}
 use Rattle.hc_model.specs.RepresentationRows.{length_in}
 use Rattle.hc_model.specs.Rows.{Tables, Exchange, Representation, Consumer}
 use Rattle.hc_model.specs.Runs.{IsRun}
-use Rattle.hc_model.specs.Sound.{Sound, IsBound}
+use Rattle.hc_model.specs.Sound.{Sound}
 use Rattle.hc_model.specs.Sound as sound
 use Rattle.hc_model.specs.Tables.{tables, after_accepted, first_tables, representation_of_content}
 use Rattle.hc_laws.proofs.Barred.{next_tables, denied_tables}
@@ -33,7 +33,7 @@ use Rattle.hc_effects.proofs.Forward.{is_on}
 use Rattle.hc_laws.proofs.MeasuresBegin.{measures_begin, known_item}
 use Rattle.hc_laws.proofs.PlaceRuns.{places_in_runs}
 use Rattle.hc_laws.proofs.ReadEnds.{bounded, no_base}
-use Rattle.hc_effects.proofs.RepFrom.{RepFrom, rep_from, IsKept, IsEnded}
+use Rattle.hc_effects.proofs.RepFrom.{RepFrom, rep_from}
 use Rattle.hc_effects.proofs.RepFrom as rep
 use Rattle.hc_laws.proofs.SoundRuns.{carried}
 use Rattle.hc_effects.proofs.ToldNumbers.{promise_early, founded_early}

@@ -1,6 +1,6 @@
 -- With what a store may begin, a number names the bytes of one body alone.
 use Rattle.std.proofs.Common.{◌≡◌, inl, inr, ℕ, ◌-◌, ◌<◌, ◌≤◌, List, [], ◌∷◌, length, Bool, true, false, Option, Some, None, refl, ap, sym, ◌∙◌, arith}
-use Rattle.std.specs.Prelude.{is_some, find, nat_eq, nat_lt, option_map, ◌==◌, ◌&&◌, not}
+use Rattle.std.specs.Prelude.{is_some, find, nat_eq, nat_lt, option_map, ◌==◌, ◌&&◌}
 use Rattle.std.specs.List.{list_any, list_all}
 use Rattle.std.proofs.lemmas.Bool.Decides.{nat_tests}
 use Rattle.hc_text.proofs.Basics.{and_left, and_right, bool_cases, not_some as none_some, not_true, or_right, some_inj}

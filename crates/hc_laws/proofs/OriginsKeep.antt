@@ -21,7 +21,7 @@ use Rattle.hc_model.specs.Rows.{Tables, Exchange, Representation}
 use Rattle.hc_model.specs.Sound.{Sound}
 use Rattle.hc_model.specs.Tables.{after_accepted, after_denied, opened_after}
 use Rattle.hc_effects.proofs.Basics.{false_true}
-use Rattle.hc_effects.proofs.ExchangeFrom.{ExchangeFrom, exchange_from, IsSame}
+use Rattle.hc_effects.proofs.ExchangeFrom.{ExchangeFrom, exchange_from}
 use Rattle.hc_effects.proofs.ExchangeFrom as exchange
 use Rattle.hc_effects.proofs.Fills.{Fills, IsPiece, fills}
 use Rattle.hc_effects.proofs.Fills as fill

@@ -24,7 +24,7 @@ use Rattle.hc_model.specs.Whose.{IsOwner}
 use Rattle.hc_model.specs.Whose as whose
 use Rattle.hc_model.specs.Writers.{loses_writing, brings_body}
 use Rattle.hc_effects.proofs.Basics.{false_true, some_row}
-use Rattle.hc_effects.proofs.ExchangeFrom.{ExchangeFrom, exchange_from, IsSame, IsHeaded}
+use Rattle.hc_effects.proofs.ExchangeFrom.{ExchangeFrom, exchange_from, IsSame}
 use Rattle.hc_effects.proofs.ExchangeFrom as exchange
 use Rattle.hc_effects.proofs.FirstKeeps.{is_new}
 use Rattle.hc_effects.proofs.LossBy.{IsReal, fresh}

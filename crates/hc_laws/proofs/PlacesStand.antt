@@ -34,7 +34,7 @@ use Rattle.hc_model.specs.Exchanges.{is_headless}
 use Rattle.hc_model.specs.Flaws.{Flaw}
 use Rattle.hc_model.specs.Heads.{founded_total}
 use Rattle.hc_model.specs.Keys.{entry_of}
-use Rattle.hc_model.specs.Laws.{Turns, IsAwaited, StandsFor}
+use Rattle.hc_model.specs.Laws.{Turns, StandsFor}
 use Rattle.hc_model.specs.Laws as laws
 use Rattle.hc_model.specs.Moves.{Move}
 use Rattle.hc_model.specs.Moves as moves

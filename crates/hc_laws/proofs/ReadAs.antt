@@ -40,7 +40,7 @@ use Rattle.hc_effects.proofs.Fills as fills_by
 use Rattle.hc_effects.proofs.FirstKeeps.{is_new}
 use Rattle.hc_effects.proofs.Forward.{is_on, after_is}
 use Rattle.hc_effects.proofs.GivenNext.{read_of}
-use Rattle.hc_effects.proofs.MoveBy.{MoveBy, IsHeard, move_by}
+use Rattle.hc_effects.proofs.MoveBy.{MoveBy, move_by}
 use Rattle.hc_effects.proofs.MoveBy as by_move
 use Rattle.hc_effects.proofs.Once.{taken}
 use Rattle.hc_effects.proofs.PastApart.{IsHeadedRow}

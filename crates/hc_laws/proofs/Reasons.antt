@@ -1,8 +1,7 @@
 -- The reason for which a consumer is shown a head holds, in every run.
-use Rattle.std.proofs.Common.{◌≡◌, ℕ, ◌-◌, [], ◌∷◌, Bool, true, false, Option, Some, None, refl, ap, sym, ◌∙◌, subst, arith}
+use Rattle.std.proofs.Common.{◌≡◌, ℕ, ◌-◌, [], ◌∷◌, Bool, true, false, Option, Some, None, refl, ap, sym, ◌∙◌, subst}
 use Rattle.std.specs.Prelude.{is_some, nat_eq, nat_lt, ◌||◌}
 use Rattle.std.specs.Option.{option_map, option_and_then}
-use Rattle.std.proofs.lemmas.Bool.Decides.{nat_tests}
 use Rattle.hc_text.proofs.Basics.{not_some as none_some, or_left, or_right, eq_itself as same_number, some_inj}
 use Rattle.hc_event.specs.Filters.{is_denied}
 use Rattle.hc_event.specs.declared.act.Wait.TheVariants as wait
@@ -46,7 +45,7 @@ use Rattle.hc_laws.proofs.InRuns.{turned_in_runs}
 use Rattle.hc_laws.proofs.JoinFilters.{exchanges_are_filtered}
 use Rattle.hc_effects.proofs.Joining.{mix}
 use Rattle.hc_effects.proofs.OfEntries.{of_real}
-use Rattle.hc_laws.proofs.PassedFrom.{PassedFrom, IsPassedRow, passed_from}
+use Rattle.hc_laws.proofs.PassedFrom.{PassedFrom, passed_from}
 use Rattle.hc_laws.proofs.PassedFrom as passed
 use Rattle.hc_effects.proofs.ReadFilters.{consumers_are_filtered}
 use Rattle.hc_effects.proofs.Said.{waiting_by}

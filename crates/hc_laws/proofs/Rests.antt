@@ -49,7 +49,7 @@ use Rattle.hc_effects.proofs.AboutKeeps.{own_open_of}
 use Rattle.hc_effects.proofs.ApartKeeps.{written_by}
 use Rattle.hc_effects.proofs.Basics.{false_true, true_false, or_false, some_none}
 use Rattle.hc_effects.proofs.Beside.{IsBeside}
-use Rattle.hc_effects.proofs.BoundFrom.{BoundFrom, IsRow, IsFounded, IsShown, bound_from, place_inj}
+use Rattle.hc_effects.proofs.BoundFrom.{BoundFrom, IsRow, IsFounded, bound_from}
 use Rattle.hc_effects.proofs.BoundFrom as from
 use Rattle.hc_effects.proofs.Dues.{due_before}
 use Rattle.hc_effects.proofs.ExchangeFrom.{IsHeaded}

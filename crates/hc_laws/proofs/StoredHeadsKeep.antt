@@ -1,6 +1,6 @@
 -- The moments of stored heads stay in order, and no length stands among their fields.
 use Rattle.std.proofs.Common.{◌≡◌, inl, inr, ℕ, ◌≤◌, List, [], ◌∷◌, Bool, true, false, None, Option, Some, refl, ap, sym, ◌∙◌, subst, arith}
-use Rattle.std.specs.Prelude.{◌==◌, not, nat_le, find, option_map, codes}
+use Rattle.std.specs.Prelude.{◌==◌, nat_le, find, option_map, codes}
 use Rattle.std.proofs.lemmas.Bool.Decides.{nat_tests}
 use Rattle.hc_text.proofs.Basics.{and_left, and_right, not_some as none_some, not_true as not_yes, some_inj}
 use Rattle.hc_event.specs.Filters.{is_denied}
@@ -18,7 +18,6 @@ use Rattle.hc_model.specs.Laws.{OfRuns}
 use Rattle.hc_model.specs.Rows.{Tables, Exchange, Representation}
 use Rattle.hc_model.specs.StoredHeads.{StoredHeads, IsHeadWithinLimits, HeadsAreWithinLimits, AreWithinLimits}
 use Rattle.hc_model.specs.Tables.{tables, first_tables, representation_of_content, after, after_accepted, after_denied}
-use Rattle.hc_effects.proofs.Basics.{false_true}
 use Rattle.hc_effects.proofs.ExchangeFrom.{ExchangeFrom, exchange_from}
 use Rattle.hc_effects.proofs.ExchangeFrom as exchange
 use Rattle.hc_effects.proofs.FieldsKeep.{length_kept, range_kept, length_none, range_none, within_limits_kept, within_limits_founded}

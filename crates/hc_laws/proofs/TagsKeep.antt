@@ -28,7 +28,7 @@ use Rattle.hc_model.specs.Exchanges.{is_open, front}
 use Rattle.hc_model.specs.Flaws.{Flaw}
 use Rattle.hc_model.specs.Gone.{is_keepable}
 use Rattle.hc_model.specs.Keys.{entry_of}
-use Rattle.hc_model.specs.Origins.{HasByte, Origins}
+use Rattle.hc_model.specs.Origins.{HasByte}
 use Rattle.hc_model.specs.Origins as origins
 use Rattle.hc_model.specs.Reading.{is_written}
 use Rattle.hc_model.specs.RepresentationRows.{new_representation}
@@ -41,10 +41,10 @@ use Rattle.hc_effects.proofs.ApartKeeps.{written_by, is_on}
 use Rattle.hc_effects.proofs.Basics.{false_true, some_none, number_is}
 use Rattle.hc_laws.proofs.DeniedKeeps.{written_same}
 use Rattle.hc_effects.proofs.EndsKeep.{known_kept}
-use Rattle.hc_effects.proofs.ExchangeFrom.{ExchangeFrom, exchange_from, IsSame, IsHeaded}
+use Rattle.hc_effects.proofs.ExchangeFrom.{ExchangeFrom, exchange_from, IsHeaded}
 use Rattle.hc_effects.proofs.ExchangeFrom as exchange
 use Rattle.hc_effects.proofs.FieldsKeep.{etag_kept}
-use Rattle.hc_effects.proofs.Fills.{Fills, IsPiece, fills}
+use Rattle.hc_effects.proofs.Fills.{Fills, fills}
 use Rattle.hc_effects.proofs.Fills as fill
 use Rattle.hc_effects.proofs.FirstKeeps.{case_is}
 use Rattle.hc_laws.proofs.FoundedAs.{FoundedAs, founded_as}

@@ -27,7 +27,7 @@ use Rattle.hc_model.specs.Rows.{Tables, Consumer}
 use Rattle.hc_model.specs.Runs.{IsOwed}
 use Rattle.hc_model.specs.Sound.{Sound}
 use Rattle.hc_model.specs.Tables.{tables}
-use Rattle.hc_model.specs.Tellings.{told_to, tellings, IsOneTo, WaitsLast, TellsOne, TellsBy, TellsWhoPolls}
+use Rattle.hc_model.specs.Tellings.{tellings, IsOneTo, WaitsLast, TellsOne, TellsBy, TellsWhoPolls}
 use Rattle.hc_model.specs.Tellings as tells
 use Rattle.hc_model.specs.Weights.{evicted}
 use Rattle.hc_effects.proofs.ActParts.{leaver_lost, IsAnswer, answer_is}

@@ -28,7 +28,7 @@ use Rattle.hc_model.specs.Rows.{Tables, Exchange, Consumer}
 use Rattle.hc_model.specs.Runs.{IsOwed, may_stand, may_be}
 use Rattle.hc_model.specs.Sound.{Sound, Among}
 use Rattle.hc_model.specs.Weights.{evicted}
-use Rattle.hc_effects.proofs.ActParts.{IsAnswer, IsSaid, IsFarFrom, answer_is, said_is, asks_evicted, asks_closed, asks_closes, asks_lost, asks_loss, closes_evicted, closes_lost, closes_before, loses_evicted, loses_closed, loses_before, evicts_closed, said_closes, move_closes, far_loss, far_lost_only, far_closing, far_closed, far_evicted, far_said}
+use Rattle.hc_effects.proofs.ActParts.{IsAnswer, IsSaid, IsFarFrom, answer_is, said_is, asks_evicted, asks_closed, asks_closes, asks_lost, asks_loss, closes_evicted, closes_lost, closes_before, loses_evicted, loses_closed, loses_before, evicts_closed, said_closes, far_loss, far_lost_only, far_closing, far_closed, far_evicted, far_said}
 use Rattle.hc_effects.proofs.ActParts as parts
 use Rattle.hc_effects.proofs.Owed.{acts_are}
 use Rattle.hc_effects.proofs.PieceKeeps.{eq_cases}

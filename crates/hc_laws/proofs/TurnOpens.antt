@@ -1,7 +1,6 @@
 -- Who opens an exchange waits for its head; and a poll after which nobody leaves closes and loses nothing.
-use Rattle.std.proofs.Common.{◌≡◌, ◌⊎◌, inl, inr, ℕ, ◌+◌, List, [], ◌∷◌, ◌++◌, length, Bool, true, false, Option, Some, None, refl, ap, sym, ◌∙◌, subst, arith}
+use Rattle.std.proofs.Common.{◌≡◌, ◌⊎◌, inl, inr, ℕ, ◌+◌, List, [], ◌∷◌, ◌++◌, length, Bool, true, false, Option, Some, None, refl, ap, sym, ◌∙◌, subst}
 use Rattle.std.specs.Prelude.{◌&&◌, ◌||◌, ◌==◌, nat_eq, not, is_none, if◌then◌else◌}
-use Rattle.std.proofs.lemmas.Bool.Decides.{nat_tests}
 use Rattle.hc_text.proofs.Basics.{and_left, and_none, eq_itself as eq-refl, not_some as none_some, plus_none, some_inj}
 use Rattle.hc_event.specs.Filters.{Opening, opening_in, closes_in, leaves_in, shows_in, given_in}
 use Rattle.hc_event.specs.declared.act.Act.{Act}

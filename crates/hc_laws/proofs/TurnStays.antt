@@ -1,8 +1,7 @@
 -- Who waits for a head goes on waiting, as long as no head comes.
-use Rattle.std.proofs.Common.{◌≡◌, inl, inr, ℕ, ◌+◌, List, [], ◌∷◌, ◌++◌, Bool, true, false, cond, Option, Some, None, refl, ap, sym, ◌∙◌, subst, arith}
+use Rattle.std.proofs.Common.{◌≡◌, inl, inr, ℕ, ◌+◌, List, [], ◌∷◌, ◌++◌, Bool, true, false, cond, Option, Some, None, refl, ap, sym, ◌∙◌, subst}
 use Rattle.std.specs.Prelude.{length, ◌&&◌, ◌||◌, ◌==◌, nat_eq, not, is_none, is_some, if◌then◌else◌}
 use Rattle.std.specs.Option.{option_and_then}
-use Rattle.std.proofs.lemmas.Bool.Decides.{nat_tests}
 use Rattle.hc_text.proofs.Basics.{and_left, and_right as and_then, bool_cases, eq_itself as eq-refl, eq_tells as eq_is, never_true as not_true, plus_none, same_some as same_row, some_inj}
 use Rattle.hc_event.specs.Filters.{Opening, opening_in, closes_in, leaves_in, shows_in, given_in}
 use Rattle.hc_event.specs.declared.act.Act.{Act}
@@ -38,7 +37,7 @@ use Rattle.hc_model.specs.Moves.{Move, acts_of}
 use Rattle.hc_model.specs.Polls.{poll_move, shows_head, shows_at, shows_direct, shows_answer, if_headless, waits_for_head, or_else, by_place, has_joined}
 use Rattle.hc_model.specs.Reading.{own_open, if_open, is_written, is_open_writer}
 use Rattle.hc_model.specs.Rows.{Tables, Exchange, Representation, Consumer}
-use Rattle.hc_model.specs.Sound.{Sound, IsAbout, IsBound}
+use Rattle.hc_model.specs.Sound.{Sound, IsAbout}
 use Rattle.hc_model.specs.Sound as sound
 use Rattle.hc_model.specs.StartingOver.{starts_over, sends_back, waits_at, awaited_exchange, loses_what_it_waits_for}
 use Rattle.hc_model.specs.Writers.{loses_writing}
@@ -46,7 +45,7 @@ use Rattle.hc_effects.proofs.ActParts.{IsFarFrom}
 use Rattle.hc_effects.proofs.KeyNames.{opener_key}
 use Rattle.hc_effects.proofs.Once.{never}
 use Rattle.hc_effects.proofs.Owed.{goes}
-use Rattle.hc_laws.proofs.TurnFacts.{IsTaken, AtPoll, seen, behind, far_behind, at_poll, far_from, is_closed, same_case, same_doom}
+use Rattle.hc_laws.proofs.TurnFacts.{IsTaken, AtPoll, seen, behind, far_behind, at_poll, far_from, is_closed, same_doom}
 use Rattle.hc_laws.proofs.TurnFacts as facts
 
 abbrev poller : Event → ℕ

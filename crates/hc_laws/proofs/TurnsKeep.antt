@@ -1,8 +1,7 @@
 -- Of a key at most one exchange of the turn waits for its head, and its consumer has the turn.
-use Rattle.std.proofs.Common.{◌≡◌, ◌⊎◌, inl, inr, ℕ, List, [], ◌∷◌, ◌++◌, Bool, true, false, Option, Some, None, refl, ap, sym, ◌∙◌, subst, arith}
-use Rattle.std.specs.Prelude.{length, ◌&&◌, ◌||◌, ◌==◌, nat_eq, not, is_none, is_some, if◌then◌else◌, filter, find, unwrap_or, bytes_eq}
+use Rattle.std.proofs.Common.{◌≡◌, ◌⊎◌, inl, inr, ℕ, List, [], ◌∷◌, ◌++◌, Bool, true, false, Option, Some, None, refl, ap, sym, ◌∙◌, subst}
+use Rattle.std.specs.Prelude.{length, ◌&&◌, ◌||◌, ◌==◌, not, is_none, is_some, if◌then◌else◌, filter, find, unwrap_or, bytes_eq}
 use Rattle.std.specs.Option.{option_or}
-use Rattle.std.proofs.lemmas.Bool.Decides.{nat_tests}
 use Rattle.hc_text.proofs.Basics.{and_left, and_right as and_then, bool_cases, eq_itself as eq-refl, not_some as none_some, never_true as not_true, or_cases, or_off_right as or_last, same_some as same_row, some_inj}
 use Rattle.hc_event.specs.Filters.{Opening, opening_in, closes_in, leaves_in, shows_in}
 use Rattle.hc_event.specs.declared.act.Act.{Act}
@@ -36,13 +35,13 @@ use Rattle.hc_model.specs.Currents.{current, is_usable}
 use Rattle.hc_model.specs.Denials.{denial, as_open}
 use Rattle.hc_model.specs.Dooms.{bypassed_by, doomed_key_of, is_key}
 use Rattle.hc_model.specs.Entries.{Entry}
-use Rattle.hc_model.specs.ExchangeRows.{exchange_after, exchange_heard, exchange_acted, exchange_opened, aim_of, aim_from, promise_in}
+use Rattle.hc_model.specs.ExchangeRows.{exchange_after, exchange_heard, exchange_acted, exchange_opened, aim_of, aim_from}
 use Rattle.hc_model.specs.ExchangeRows as exchanges
 use Rattle.hc_model.specs.Exchanges.{is_headless, exchange_at, is_for, promised_bytes, is_reached}
 use Rattle.hc_model.specs.Flaws.{flaw_in}
 use Rattle.hc_model.specs.Gone.{becomes_gone, goes_in}
 use Rattle.hc_model.specs.Keys.{IsOfOneKey, entry_of}
-use Rattle.hc_model.specs.Laws.{Turns, IsAwaited, StandsFor, HasPassed, IsInTurn, HasOneTurn, TurnsAreKept, TurnsBegin, TurnsAreOne, NumbersAreKept}
+use Rattle.hc_model.specs.Laws.{Turns, IsAwaited, StandsFor, HasPassed, IsInTurn, HasOneTurn, TurnsAreKept, TurnsBegin, TurnsAreOne}
 use Rattle.hc_model.specs.Laws as laws
 use Rattle.hc_model.specs.Lines.{turn, turn_with, holder, holds_turn, holds_place, line, is_in_line, stands_in_line}
 use Rattle.hc_model.specs.Moves as moves
@@ -57,7 +56,7 @@ use Rattle.hc_model.specs.Tables.{after_accepted}
 use Rattle.hc_effects.proofs.ActParts as parts
 use Rattle.hc_effects.proofs.CurrentKeeps.{heard_same, find_only, usable, usable_row, one_current_is_kept}
 use Rattle.hc_effects.proofs.KeyNames.{opener_key, current_key}
-use Rattle.hc_effects.proofs.KeysKeep.{same_exchange, representation_stays, exchange_was, IsOpening, opened_is}
+use Rattle.hc_effects.proofs.KeysKeep.{same_exchange, exchange_was}
 use Rattle.hc_effects.proofs.KeysKeep as keeps
 use Rattle.hc_effects.proofs.NumbersKeep.{numbers_are_kept}
 use Rattle.hc_effects.proofs.Owed.{goes}
@@ -65,7 +64,7 @@ use Rattle.hc_effects.proofs.PieceKeeps.{eq_cases}
 use Rattle.hc_effects.proofs.PollKeeps.{current_stays}
 use Rattle.hc_laws.proofs.TurnFacts.{IsTaken, AtPoll, acts_is, seen, behind, far_behind, opens_behind, misreads_behind, at_poll, far_from, fails_leaves}
 use Rattle.hc_laws.proofs.TurnFacts as facts
-use Rattle.hc_laws.proofs.TurnHeads.{IsValid, valid_is}
+use Rattle.hc_laws.proofs.TurnHeads.{valid_is}
 use Rattle.hc_laws.proofs.TurnHeads as heads
 use Rattle.hc_effects.proofs.TurnMoves.{Does, MayRead, Queues}
 use Rattle.hc_effects.proofs.TurnMoves as does

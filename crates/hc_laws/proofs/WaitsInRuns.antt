@@ -14,7 +14,6 @@ use Rattle.hc_model.specs.Currents.{current}
 use Rattle.hc_model.specs.Exchanges.{is_headless}
 use Rattle.hc_model.specs.Laws.{OfRuns, WaitsEnd, WaitsForNobody}
 use Rattle.hc_model.specs.Moves as moves
-use Rattle.hc_model.specs.Moves.{Move}
 use Rattle.hc_model.specs.Owners.{Owners, IsPast}
 use Rattle.hc_model.specs.Owners as owners
 use Rattle.hc_model.specs.Planning.{plan_view}

@@ -13,7 +13,7 @@ use Rattle.hc_model.specs.Owners as owners
 use Rattle.hc_model.specs.Places.{Places}
 use Rattle.hc_model.specs.Reading.{own_open}
 use Rattle.hc_model.specs.Rows.{Tables, Exchange, Representation, Consumer}
-use Rattle.hc_model.specs.Sound.{Sound, IsHad, IsAbout}
+use Rattle.hc_model.specs.Sound.{Sound, IsHad}
 use Rattle.hc_model.specs.Sound as sound
 use Rattle.hc_model.specs.Tables.{tables}
 use Rattle.hc_model.specs.Whose.{Whose, IsSomebodys, IsOwner, IsOfKey, may_own}

@@ -1,23 +1,19 @@
 -- An exchange breaks: before its head its consumer is put down, and else whoever reads from it fails.
-use Rattle.std.proofs.Common.{◌≡◌, ◌≢◌, inl, inr, ℕ, List, [], ◌∷◌, ◌++◌, Bool, true, false, Option, Some, None, refl, ap, sym, ◌∙◌, subst}
+use Rattle.std.proofs.Common.{◌≡◌, ◌≢◌, inl, inr, ℕ, [], ◌∷◌, ◌++◌, true, false, Option, Some, None, refl, ap, sym, ◌∙◌, subst}
 use mathlib.Core.Path.{fun_ext}
-use Rattle.std.specs.Prelude.{is_some, is_none, nat_eq, option_map, ◌&&◌, ◌==◌, if◌then◌else◌}
+use Rattle.std.specs.Prelude.{nat_eq, option_map, ◌&&◌, ◌==◌, if◌then◌else◌}
 use Rattle.std.specs.HashMap.{get}
-use Rattle.hc_text.proofs.Basics.{eqb-other, eqb-same, false_true, same_or, same_some as same_row, some_inj as some_is, and_off as then_false}
+use Rattle.hc_text.proofs.Basics.{eqb-other, eqb-same, same_or, same_some as same_row, some_inj as some_is, and_off as then_false}
 use Rattle.hc_rules.specs.declared.room.Limits.{Limits}
 use Rattle.hc_store.specs.declared.backend.Backend.{Ghosts}
 use Rattle.hc_event.specs.declared.act.Cause.{Cause}
-use Rattle.hc_event.specs.declared.act.Cause.TheVariants as cause
-use Rattle.hc_event.specs.declared.event.Response.{Response}
 use Rattle.hc_exch.specs.Exchanges as exch
 use Rattle.hc_exch.specs.Known as known
-use Rattle.hc_event.specs.declared.place.Place.{Place}
 use Rattle.hc_event.specs.declared.place.Place.TheVariants as place
-use Rattle.hc_event.specs.declared.place.BoundBy.{BoundBy}
 use Rattle.hc_event.specs.declared.place.BoundBy.TheVariants as by
 use Rattle.hc_model.specs.Effects.{tables_after_close, over, with_consumer, with_exchange}
 use Rattle.hc_model.specs.Effects as effects
-use Rattle.hc_model.specs.Exchanges.{family, is_headless}
+use Rattle.hc_model.specs.Exchanges.{family}
 use Rattle.hc_model.specs.Kinds.{brings_to}
 use Rattle.hc_model.specs.Lawful.{Lawful}
 use Rattle.hc_model.specs.Owners.{IsAwaiting}

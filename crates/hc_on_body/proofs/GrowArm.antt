@@ -25,7 +25,6 @@ use Rattle.hc_model.specs.LettingGo.{MayLetGo}
 use Rattle.hc_model.specs.Reading.{is_bound, is_bound_place, is_written, offset}
 use Rattle.hc_model.specs.Rows as rows
 use Rattle.hc_model.specs.Rows.{Tables, Exchange, Representation}
-use Rattle.hc_model.specs.Runs.{may_lose}
 use Rattle.hc_model.specs.Sound as sound
 use Rattle.hc_model.specs.Sound.{IsExclusiveWriter, IsBound}
 use Rattle.hc_model.specs.Weights.{evicted}

@@ -1,14 +1,11 @@
 -- A piece of what was lost is held for its detached reader: what is kept stands for the tables then.
-use Rattle.std.proofs.Common.{◌≡◌, ◌≢◌, inl, inr, ℕ, ◌+◌, ◌-◌, ◌<◌, ◌≤◌, ◌⊎◌, List, [], ◌∷◌, ◌++◌, length, drop, max, min, Bool, true, false, cond, Option, Some, None, refl, ap, sym, ◌∙◌, subst, arith}
-use Rattle.std.proofs.lemmas.Bool.Decides.{nat_tests}
-use Rattle.std.proofs.lemmas.List.{append-nil, drop-append-le, length-append}
-use Rattle.std.specs.Prelude.{is_some, is_none, nat_eq, ◌==◌, ◌&&◌, if◌then◌else◌}
-use Rattle.hc_text.proofs.Basics.{eqb-other, eqb-same, false_true, none_long as no_bytes, order, same_or, same_some as same_row, some_inj as some_is}
+use Rattle.std.proofs.Common.{◌≡◌, ◌≢◌, inl, inr, ℕ, ◌+◌, ◌-◌, ◌<◌, ◌≤◌, ◌⊎◌, List, [], ◌∷◌, ◌++◌, length, drop, max, min, Bool, true, false, Option, Some, None, refl, ap, sym, ◌∙◌, subst, arith}
+use Rattle.std.proofs.lemmas.List.{drop-append-le, length-append}
+use Rattle.std.specs.Prelude.{is_some, is_none, ◌==◌, ◌&&◌, if◌then◌else◌}
+use Rattle.hc_text.proofs.Basics.{eqb-other, eqb-same, false_true, order, same_or}
 use Rattle.hc_rules.specs.declared.room.Limits.{Limits}
 use Rattle.hc_store.specs.declared.backend.Backend.{Ghosts}
-use Rattle.hc_sparse.specs.Cells.{Cell, Cells, Covers, EndsBy, inside, cells_with}
-use Rattle.hc_event.specs.declared.act.Act.{Act}
-use Rattle.hc_event.specs.declared.event.Event.TheVariants as event
+use Rattle.hc_sparse.specs.Cells.{Cell, Cells, inside}
 use Rattle.hc_stored.specs.Entries.{shelf_of}
 use Rattle.hc_stored.specs.Kept.{Kept}
 use Rattle.hc_stored.specs.declared.entries.Entries.{Entries}
@@ -16,42 +13,24 @@ use Rattle.hc_exch.specs.Exchanges as exch
 use Rattle.hc_exch.specs.Exchanges.{table_of}
 use Rattle.hc_exch.specs.Known as known
 use Rattle.hc_event.specs.declared.place.Place.TheVariants as place
-use Rattle.hc_event.specs.declared.place.BoundBy.{BoundBy}
 use Rattle.hc_model.specs.Currents.{is_number}
-use Rattle.hc_model.specs.Denials.{denial}
-use Rattle.hc_model.specs.Entries.{entry_without_acts}
 use Rattle.hc_model.specs.ExchangeRows.{with_piece}
 use Rattle.hc_model.specs.Exchanges.{family, base, front}
 use Rattle.hc_model.specs.Holes.{first_place, absent_from}
-use Rattle.hc_model.specs.Reading.{bound, is_bound_place, is_written}
+use Rattle.hc_model.specs.Reading.{bound, is_bound_place}
 use Rattle.hc_model.specs.RepresentationRows.{with_stored_bytes}
-use Rattle.hc_model.specs.Rows as rows
 use Rattle.hc_model.specs.Rows.{Tables, Exchange, Representation}
-use Rattle.hc_model.specs.Sound as sound
-use Rattle.hc_model.specs.Sound.{Sound, IsExclusiveWriter, IsHad}
-use Rattle.hc_model.specs.Weights.{write_in}
-use Rattle.hc_effects.proofs.AboutKeeps.{own_open_of}
-use Rattle.hc_model.specs.Fronts.{goes_on_at}
-use Rattle.hc_effects.proofs.Covers.{headed_at}
 use Rattle.hc_effects.proofs.HoleLemmas.{first_from, first_to, first_before, first_passes}
-use Rattle.hc_effects.proofs.Once.{delivers_once}
-use Rattle.hc_effects.proofs.PieceEffects as does
 use Rattle.hc_state.proofs.Ties.{overs_open, writer_then}
 use Rattle.hc_state.specs.declared.rows.Rows.{Rows}
-use Rattle.hc_state.specs.Facts.{Facts}
 use Rattle.hc_state.specs.Kept.{first_lacking, unstored_bytes, held_alone, held_of, held_for}
-use Rattle.hc_state.specs.Pieces.{unless_lost, stored_at, stored_by}
 use Rattle.hc_state.specs.Refused.{GoesOn, MayHold}
 use Rattle.hc_state.specs.Stands.{RowsStand}
-use Rattle.hc_state.specs.Stops.{brought_by}
 use Rattle.hc_state.specs.Stored.{IsEntry, TellsLength, told, untold, KeepsEntry}
-use Rattle.hc_state.proofs.Answering.{does_answered}
 use Rattle.hc_state.proofs.Fallbacks.{unstored_moved}
-use Rattle.hc_on_leave.proofs.HeardExchange.{drop_none}
 use Rattle.hc_state.proofs.OneOfEach.{first_by}
-use Rattle.hc_on_leave.proofs.PieceArm.{Brought, brought_of, Runs, runs_of, open_unended, brings_it, past_answered}
-use Rattle.hc_on_leave.proofs.PieceRows.{s, z, IsLike, like_same, stands_pieced}
-use Rattle.hc_state.proofs.Words.{none_some}
+use Rattle.hc_on_leave.proofs.PieceArm.{Runs, runs_of}
+use Rattle.hc_on_leave.proofs.PieceRows.{s, IsLike, like_same, stands_pieced}
 
 -- WHAT IS HELD, WITH MORE BYTES
 

@@ -4,7 +4,7 @@ use mathlib.Core.Path.{fun_ext}
 use Rattle.std.proofs.lemmas.Bool.Decides.{nat_tests}
 use Rattle.std.specs.Prelude.{is_some, nat_eq, nat_lt, option_map, ◌==◌, ◌&&◌, if◌then◌else◌}
 use Rattle.std.specs.Option.{option_or}
-use Rattle.hc_text.proofs.Basics.{eqb-other, eqb-same, false_true, same_or, same_some as same_row, some_inj as some_is}
+use Rattle.hc_text.proofs.Basics.{eqb-other, eqb-same, false_true, same_or, same_some as same_row}
 use Rattle.hc_store.specs.declared.backend.Backend.{Ghosts}
 use Rattle.hc_event.specs.declared.act.Act.{Act}
 use Rattle.hc_event.specs.declared.act.Act.TheVariants as act
@@ -12,13 +12,12 @@ use Rattle.hc_event.specs.declared.act.Cause.{Cause}
 use Rattle.hc_event.specs.declared.act.Cause.TheVariants as cause
 use Rattle.hc_event.specs.declared.act.LostKind.TheVariants as kind
 use Rattle.hc_event.specs.declared.event.Event.TheVariants as event
-use Rattle.hc_record.specs.Head.{Head}
 use Rattle.hc_rules.specs.declared.room.Limits.{Limits}
 use Rattle.hc_model.specs.Denials.{denial}
 use Rattle.hc_model.specs.Effects.{Does, with_event, tables_after_close, at_end, with_due, with_dues, with_exchange, with_length, with_loss, with_representation, let_go, let_some_go, lost_to, going_with}
 use Rattle.hc_model.specs.Exchanges.{family, promised_bytes, is_reached}
 use Rattle.hc_model.specs.Failures.{short_of}
-use Rattle.hc_model.specs.Flaws.{Flaw, NoFlaw, Loses}
+use Rattle.hc_model.specs.Flaws.{NoFlaw, Loses}
 use Rattle.hc_model.specs.Gone.{is_short, is_below, stops_early}
 use Rattle.hc_model.specs.Measures.{IsMeasured, told, untold}
 use Rattle.hc_model.specs.Reading.{is_bound}

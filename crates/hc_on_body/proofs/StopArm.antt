@@ -1,16 +1,16 @@
 -- An exchange stops with less than it should have brought: who reads from it, and that it may be closed.
-use Rattle.std.proofs.Common.{◌≡◌, ◌≢◌, inl, inr, ℕ, ◌+◌, ◌-◌, ◌<◌, ◌≤◌, ◌^◌, List, [], length, Bool, true, false, Option, Some, None, refl, ap, sym, ◌∙◌, subst, arith}
+use Rattle.std.proofs.Common.{◌≡◌, ◌≢◌, ℕ, ◌+◌, ◌-◌, ◌<◌, ◌≤◌, ◌^◌, List, [], length, Bool, true, false, Option, Some, None, refl, ap, sym, ◌∙◌, subst, arith}
 use Rattle.std.proofs.lemmas.Bool.Decides.{nat_tests}
 use Rattle.std.proofs.lemmas.List.{drop_all}
-use Rattle.std.specs.Prelude.{is_some, is_none, nat_eq, nat_le, drop, unwrap_or, option_map, not, ◌&&◌, ◌==◌, if◌then◌else◌}
+use Rattle.std.specs.Prelude.{is_some, nat_eq, nat_le, drop, unwrap_or, option_map, ◌&&◌, ◌==◌, if◌then◌else◌}
 use Rattle.std.specs.HashMap.{get}
-use Rattle.hc_text.proofs.Basics.{eqb-other, eqb-same, false_true, same_or, same_some as same_row, some_inj as some_is, and_off as then_false}
+use Rattle.hc_text.proofs.Basics.{eqb-same, false_true, same_some as same_row, and_off as then_false}
 use Rattle.hc_store.specs.declared.backend.Backend.{Ghosts}
 use Rattle.hc_event.specs.declared.act.Act.{Act}
 use Rattle.hc_event.specs.declared.act.Cause.{Cause}
 use Rattle.hc_event.specs.declared.event.Response.{Response}
 use Rattle.hc_rules.specs.declared.room.Limits.{Limits}
-use Rattle.hc_sparse.specs.Cells.{Cell, Cells, Covers, EndsBy}
+use Rattle.hc_sparse.specs.Cells.{Cell, Covers, EndsBy}
 use Rattle.hc_sorted.specs.Sorted.{has}
 use Rattle.hc_stored.specs.Entries.{shelf_of}
 use Rattle.hc_stored.specs.Kept.{Kept, itself}
@@ -20,9 +20,7 @@ use Rattle.hc_event.specs.declared.place.Place.TheVariants as place
 use Rattle.hc_event.specs.declared.place.BoundBy.{BoundBy}
 use Rattle.hc_model.specs.Currents.{is_number}
 use Rattle.hc_model.specs.Exchanges.{base, front, family, is_headless}
-use Rattle.hc_model.specs.Holes.{absent_from}
 use Rattle.hc_model.specs.Lawful.{Lawful}
-use Rattle.hc_model.specs.Owners as owners
 use Rattle.hc_model.specs.Reading.{own_open, is_bound, is_bound_place, is_written, writing_in, offset}
 use Rattle.hc_model.specs.Rows as rows
 use Rattle.hc_model.specs.Rows.{Tables, Exchange, Representation}
@@ -46,7 +44,7 @@ use Rattle.hc_state.specs.Leaving.{writing_of}
 use Rattle.hc_state.specs.Stands.{RowsStand, KeepsRest}
 use Rattle.hc_state.specs.Stopped as stopped
 use Rattle.hc_state.specs.Stopped.{with_consumers, due_for, NobodyAwaits, MayStop, IsBroken, HasStopped, BrokeOff}
-use Rattle.hc_state.specs.Stops.{readers_of, readers_by, reads_from, goes_on, opener_of, alone_in, brought_by}
+use Rattle.hc_state.specs.Stops.{readers_of, readers_by, reads_from, goes_on, opener_of, alone_in}
 use Rattle.hc_state.specs.Stored.{KeepsEntry}
 use Rattle.hc_state.proofs.Fallbacks.{unstored_moved}
 use Rattle.hc_on_body.proofs.DueRows.{told_same, may_due, awaits_due, stands_due}

@@ -26,7 +26,7 @@ use Rattle.hc_exch.specs.Exchanges.{table_of}
 use Rattle.hc_exch.specs.Known as known
 use Rattle.hc_event.specs.declared.place.Place.TheVariants as place
 use Rattle.hc_model.specs.Denials.{denial}
-use Rattle.hc_model.specs.Effects.{Does, with_event, at_end, failing, if_bound, with_due, with_dues, with_exchange, with_length, with_loss, with_representation, let_go, let_some_go, as_gone, lost_to, going_with, back_from}
+use Rattle.hc_model.specs.Effects.{Does, with_event, at_end, failing, if_bound, with_due, with_dues, with_exchange, with_length, with_loss, with_representation, let_go, let_some_go, as_gone, lost_to, going_with}
 use Rattle.hc_model.specs.Entries.{Entry}
 use Rattle.hc_model.specs.Exchanges.{base, front, family, promised_bytes, is_headless}
 use Rattle.hc_model.specs.Failures.{short_of}
@@ -41,7 +41,7 @@ use Rattle.hc_model.specs.RepresentationRows.{with_total_if_none}
 use Rattle.hc_model.specs.Rows as rows
 use Rattle.hc_model.specs.Rows.{Tables, Exchange, Representation}
 use Rattle.hc_model.specs.Sound as sound
-use Rattle.hc_model.specs.Sound.{IsAbout, Among, OneCurrent}
+use Rattle.hc_model.specs.Sound.{IsAbout}
 use Rattle.hc_model.specs.Whose as whose
 use Rattle.hc_model.specs.Writes.{written_representation}
 use Rattle.hc_model.specs.Writers.{exclusive, status_in}

@@ -16,7 +16,6 @@ use Rattle.hc_exch.specs.declared.exchanges.Exchanges.{Exchanges}
 use Rattle.hc_exch.specs.Exchanges as exch
 use Rattle.hc_exch.specs.Exchanges.{table_of, next_of}
 use Rattle.hc_exch.specs.Known as known
-use Rattle.hc_exch.specs.Known.{Known, is_open}
 use Rattle.hc_sorted.specs.Sorted.{is_sorted}
 use Rattle.hc_rules.specs.Least.{lesser}
 use Rattle.hc_model.specs.StartingOver.{awaited_exchange}

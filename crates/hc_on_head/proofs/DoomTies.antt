@@ -1,8 +1,8 @@
 -- A doom: what is kept of consumers, and of exchanges, stands for the tables in which whoever waits has started over.
-use Rattle.std.proofs.Common.{◌≡◌, inl, inr, ℕ, zero, suc, ◌+◌, List, [], ◌∷◌, drop, Bool, true, false, eqb, Option, Some, None, refl, ap, sym, ◌∙◌, subst}
+use Rattle.std.proofs.Common.{◌≡◌, ℕ, zero, suc, ◌+◌, List, [], ◌∷◌, drop, Bool, true, false, eqb, Option, Some, None, refl, ap, sym, ◌∙◌, subst}
 use Rattle.std.specs.Prelude.{nat_eq, bytes_eq, option_map, ◌&&◌, ◌||◌, if◌then◌else◌}
 use Rattle.std.specs.HashMap.{get}
-use Rattle.hc_text.proofs.Basics.{eqb-same, false_true, same_or, same_some as same_row, some_inj as some_is}
+use Rattle.hc_text.proofs.Basics.{false_true, same_some as same_row, some_inj as some_is}
 use Rattle.hc_rules.specs.declared.room.Limits.{Limits}
 use Rattle.hc_store.specs.declared.backend.Backend.{Ghosts}
 use Rattle.hc_event.specs.declared.event.Response.{Response}
@@ -36,7 +36,6 @@ use Rattle.hc_state.proofs.Closing.{base_over, of_over}
 use Rattle.hc_on_head.proofs.DoomCloses.{headless_row, number_is}
 use Rattle.hc_state.proofs.Ties.{kept_none, exchange_same}
 use Rattle.hc_on_head.proofs.Woken.{bytes-flip, stands_for, Stood, nobody, back, beside, stays, stood, starts_over, stays_so, waiting_lives}
-use Rattle.hc_state.proofs.Words.{none_some}
 
 -- AN EXCHANGE THAT IS OVER
 

@@ -36,7 +36,7 @@ use Rattle.hc_model.specs.Currents.{current}
 use Rattle.hc_model.specs.Denials.{denial}
 use Rattle.hc_model.specs.Effects.{let_some_go, with_consumer, with_answer}
 use Rattle.hc_model.specs.Flaws.{Loses}
-use Rattle.hc_model.specs.LettingGo.{MayMakeRoom, MayLetGo, giving_way, room_now}
+use Rattle.hc_model.specs.LettingGo.{MayMakeRoom, MayLetGo, giving_way}
 use Rattle.hc_model.specs.Rows as rows
 use Rattle.hc_model.specs.Rows.{Tables, Exchange}
 use Rattle.hc_model.specs.Runs.{may_lose}

@@ -36,7 +36,6 @@ use Rattle.hc_model.specs.Lines.{is_in_line}
 use Rattle.hc_model.specs.Live.{most_live}
 use Rattle.hc_model.specs.Rows.{Tables, Exchange}
 use Rattle.hc_model.specs.StartingOver.{awaited_exchange}
-use Rattle.hc_model.specs.Tables.{tables}
 use Rattle.hc_effects.proofs.FoundBy.{CaseBy, case_by}
 use Rattle.hc_effects.proofs.FoundBy as cases
 use Rattle.hc_state.specs.declared.consumer.Consumer.{Consumer}

@@ -15,7 +15,7 @@ use Rattle.hc_entry.specs.Kept as keyed
 use Rattle.hc_exch.specs.declared.role.Role.TheVariants as role
 use Rattle.hc_exch.specs.declared.row.Open.{Open}
 use Rattle.hc_exch.specs.Exchanges as exch
-use Rattle.hc_exch.specs.Exchanges.{table_of, next_of}
+use Rattle.hc_exch.specs.Exchanges.{table_of}
 use Rattle.hc_exch.specs.Known.{Known, is_all, length_by}
 use Rattle.hc_event.specs.declared.place.Place.{Place}
 use Rattle.hc_event.specs.declared.place.Place.TheVariants as place

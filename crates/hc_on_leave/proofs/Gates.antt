@@ -13,7 +13,7 @@ use Rattle.hc_exch.specs.Exchanges.{table_of}
 use Rattle.hc_exch.specs.Known.{open_view}
 use Rattle.hc_exch.specs.declared.row.Open.{Open}
 use Rattle.hc_model.specs.Denials.{denial, gate, as_open, names_live}
-use Rattle.hc_model.specs.Exchanges.{exchange_in, exchange_at}
+use Rattle.hc_model.specs.Exchanges.{exchange_in}
 use Rattle.hc_model.specs.Rows.{Tables, Exchange}
 use Rattle.hc_state.specs.declared.rows.Rows.{Rows}
 use Rattle.hc_state.specs.Kept.{KeepsRunning, IsRunning}

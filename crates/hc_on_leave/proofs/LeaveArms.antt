@@ -1,7 +1,7 @@
 -- Who is cancelled, ends or fails: the event is answered.
-use Rattle.std.proofs.Common.{◌≡◌, ℕ, List, [], ◌∷◌, ◌++◌, Bool, true, false, Option, Some, None, refl, ap, sym, ◌∙◌, subst}
+use Rattle.std.proofs.Common.{◌≡◌, ℕ, List, [], ◌∷◌, ◌++◌, Bool, true, false, Some, None, refl, ap, sym, ◌∙◌}
 use Rattle.std.proofs.lemmas.List.{append_assoc}
-use Rattle.std.specs.Prelude.{nat_eq, map, not, ◌||◌}
+use Rattle.std.specs.Prelude.{nat_eq, map, ◌||◌}
 use Rattle.hc_text.proofs.Basics.{false_true}
 use Rattle.hc_store.specs.declared.backend.Backend.{Ghosts}
 use Rattle.hc_event.specs.declared.act.Act.{Act}
@@ -9,18 +9,14 @@ use Rattle.hc_event.specs.declared.act.Act.TheVariants as act
 use Rattle.hc_event.specs.declared.act.Cause.{Cause}
 use Rattle.hc_event.specs.declared.act.Cause.TheVariants as cause
 use Rattle.hc_event.specs.declared.act.LostKind.TheVariants as kind
-use Rattle.hc_event.specs.declared.event.Event.{Event}
 use Rattle.hc_event.specs.declared.event.Event.TheVariants as event
 use Rattle.hc_rules.specs.declared.room.Limits.{Limits}
 use Rattle.hc_event.specs.declared.place.Place.TheVariants as place
-use Rattle.hc_model.specs.Answers.{accepted_acts}
 use Rattle.hc_model.specs.Effects.{Does, with_event, let_some_go, let_go, left_by, going_with, with_leave, with_representation, lost_to}
-use Rattle.hc_model.specs.Entries.{Entry}
 use Rattle.hc_model.specs.Exchanges.{family}
 use Rattle.hc_model.specs.Flaws.{NoFlaw, Loses, flaw_in}
-use Rattle.hc_model.specs.Keys.{entry_of}
 use Rattle.hc_model.specs.Lawful.{Lawful}
-use Rattle.hc_model.specs.Moves.{Ends, Fails, acts_of}
+use Rattle.hc_model.specs.Moves.{Ends, Fails}
 use Rattle.hc_model.specs.Places.{is_failed_read}
 use Rattle.hc_model.specs.Polls.{move_of}
 use Rattle.hc_model.specs.Rows as rows
@@ -34,7 +30,7 @@ use Rattle.hc_effects.proofs.LeaveEffects as effects
 use Rattle.hc_effects.proofs.SealEffects as seal_effects
 use Rattle.hc_state.specs.declared.rows.Rows.{Rows}
 use Rattle.hc_state.specs.Left.{HasLeft, quietly, unsealed}
-use Rattle.hc_state.specs.Stands.{Answered, RowsStand}
+use Rattle.hc_state.specs.Stands.{Answered}
 use Rattle.hc_state.proofs.Answering.{does_answered, lossy_answered}
 use Rattle.hc_state.proofs.Counting.{stands_counted}
 use Rattle.hc_state.proofs.SealWritten.{sealed_leaving}

@@ -8,10 +8,10 @@ use Rattle.hc_rules.specs.declared.room.Limits.{Limits}
 use Rattle.hc_store.specs.declared.backend.Backend.{Ghosts}
 use Rattle.hc_stored.specs.Entries.{shelf_of}
 use Rattle.hc_stored.specs.Kept as kept
-use Rattle.hc_stored.specs.Kept.{Kept, itself, is_nobody, while_used}
+use Rattle.hc_stored.specs.Kept.{Kept, itself, is_nobody}
 use Rattle.hc_stored.specs.Shelf as shelves
 use Rattle.hc_stored.specs.Views.{key_in}
-use Rattle.hc_stored.specs.Shelf.{Shelf, taken_out}
+use Rattle.hc_stored.specs.Shelf.{taken_out}
 use Rattle.hc_entry.specs.declared.keys.KeyTable.{KeyTable}
 use Rattle.hc_entry.specs.Keys as keys
 use Rattle.hc_entry.specs.Keys.{kept_of, line_of}
@@ -43,7 +43,7 @@ use Rattle.hc_effects.proofs.PollKeeps.{find_passes}
 use Rattle.hc_state.specs.declared.consumer.Consumer.{Consumer}
 use Rattle.hc_state.specs.declared.rows.Rows.{Rows}
 use Rattle.hc_state.specs.Changes.{ChangesAmong, over_if_passed}
-use Rattle.hc_state.specs.Kept.{IsKept, KeepsConsumer, KeepsExchange, held_for}
+use Rattle.hc_state.specs.Kept.{KeepsConsumer, KeepsExchange, held_for}
 use Rattle.hc_state.specs.Lines.{KeepsKey, has_turn, is_passed, is_away}
 use Rattle.hc_state.specs.Stands.{RowsStand}
 use Rattle.hc_state.specs.Stored.{IsEntry, TellsLength, told, untold, KeepsEntry, KeepsEntries, is_first, is_usable_row, is_usable_kept}

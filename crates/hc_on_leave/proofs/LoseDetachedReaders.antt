@@ -19,7 +19,6 @@ use Rattle.hc_sorted.specs.Sorted.{has}
 use Rattle.hc_rules.specs.declared.survivor.Member.{Member}
 use Rattle.hc_rules.specs.Least.{least, lesser}
 use Rattle.hc_rules.proofs.LeastFolds.{least-append}
-use Rattle.hc_rules.specs.Survivors.{survivor_at}
 use Rattle.hc_rules.specs.Survivors as members
 use Rattle.hc_event.specs.declared.place.Place.{Place}
 use Rattle.hc_event.specs.declared.place.Place.TheVariants as place

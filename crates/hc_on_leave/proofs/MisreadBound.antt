@@ -1,8 +1,8 @@
 -- What a consumer is bound to can't be read: it fails, what nobody reads any more is closed, and that is let go.
-use Rattle.std.proofs.Common.{◌≡◌, ◌≢◌, inl, inr, ℕ, ◌<◌, List, [], ◌∷◌, ◌++◌, Bool, true, false, Option, Some, None, refl, ap, sym, ◌∙◌, subst, arith}
+use Rattle.std.proofs.Common.{◌≡◌, ◌≢◌, ℕ, ◌<◌, List, [], ◌∷◌, ◌++◌, Bool, true, false, Option, Some, None, refl, ap, sym, ◌∙◌, subst, arith}
 use Rattle.std.proofs.lemmas.Bool.Decides.{nat_tests}
 use Rattle.std.specs.Prelude.{is_some, nat_eq, map, option_map, ◌||◌, ◌&&◌, if◌then◌else◌}
-use Rattle.hc_text.proofs.Basics.{eqb-other, eqb-same, false_true, or_left as or_first, same_or, same_some as same_row, some_inj as some_is, and_off as then_false}
+use Rattle.hc_text.proofs.Basics.{eqb-other, eqb-same, false_true, or_left as or_first, same_some as same_row, some_inj as some_is, and_off as then_false}
 use Rattle.hc_store.specs.declared.backend.Backend.{Ghosts}
 use Rattle.hc_stored.specs.Entries.{shelf_of}
 use Rattle.hc_event.specs.declared.act.Act.{Act}
@@ -16,8 +16,8 @@ use Rattle.hc_rules.specs.declared.room.Limits.{Limits}
 use Rattle.hc_event.specs.declared.place.Place.{Place}
 use Rattle.hc_event.specs.declared.place.Place.TheVariants as place
 use Rattle.hc_event.specs.declared.place.BoundBy.{BoundBy}
-use Rattle.hc_model.specs.Currents.{current, is_current}
-use Rattle.hc_model.specs.Effects.{Does, with_event, with_consumer, let_go, let_some_go, as_gone, tables_after_close, all_closed, as_over, left_by, going_with, with_leave, is_unkeepable}
+use Rattle.hc_model.specs.Currents.{is_current}
+use Rattle.hc_model.specs.Effects.{Does, with_event, with_consumer, let_go, let_some_go, as_gone, tables_after_close, all_closed, as_over, left_by, going_with, is_unkeepable}
 use Rattle.hc_model.specs.Exchanges.{family}
 use Rattle.hc_model.specs.Flaws.{Misreads, flaw_in}
 use Rattle.hc_model.specs.Kinds.{brings_to}

@@ -17,7 +17,7 @@ use Rattle.hc_stored.specs.declared.entries.Entries.{Entries}
 use Rattle.hc_exch.specs.Exchanges as exch
 use Rattle.hc_exch.specs.Exchanges.{table_of}
 use Rattle.hc_exch.specs.Known as known
-use Rattle.hc_exch.specs.Known.{Known, open_view, EndsBelow}
+use Rattle.hc_exch.specs.Known.{open_view, EndsBelow}
 use Rattle.hc_exch.specs.declared.row.Open.{Open}
 use Rattle.hc_model.specs.Denials.{denial, as_open}
 use Rattle.hc_model.specs.Entries.{entry_without_acts}

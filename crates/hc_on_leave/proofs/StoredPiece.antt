@@ -1,9 +1,8 @@
 -- A piece is stored, after what is idle made room for it: what is kept stands for the tables then.
-use Rattle.std.proofs.Common.{◌≡◌, ◌≢◌, inl, inr, ℕ, ◌+◌, ◌-◌, ◌<◌, ◌≤◌, ◌⊎◌, List, [], ◌∷◌, ◌++◌, length, max, Bool, true, false, cond, Option, Some, None, refl, ap, sym, ◌∙◌, subst, arith}
+use Rattle.std.proofs.Common.{◌≡◌, ◌≢◌, inl, inr, ℕ, ◌+◌, ◌-◌, ◌<◌, ◌≤◌, ◌⊎◌, List, [], ◌∷◌, ◌++◌, length, max, Bool, true, false, Option, Some, None, refl, ap, sym, ◌∙◌, subst, arith}
 use mathlib.Core.Path.{fun_ext}
-use Rattle.std.specs.Prelude.{is_some, is_none, nat_eq, nat_lt, not, slice_index, map, option_map, ◌==◌, ◌&&◌, if◌then◌else◌}
-use Rattle.std.specs.List.{list_any}
-use Rattle.hc_text.proofs.Basics.{eqb-other, eqb-same, false_true, any_none as none_passes, never_true as not_true, same_or, same_some as same_row, some_inj as some_is}
+use Rattle.std.specs.Prelude.{is_some, nat_eq, not, slice_index, map, option_map, ◌==◌, ◌&&◌, if◌then◌else◌}
+use Rattle.hc_text.proofs.Basics.{eqb-other, eqb-same, false_true, any_none as none_passes, never_true as not_true, same_or, some_inj as some_is}
 use Rattle.hc_store.specs.declared.backend.Backend.{Ghosts}
 use Rattle.hc_store.specs.Heads.{with_kind}
 use Rattle.hc_sparse.specs.Cells.{Cell, Cells, Covers, inside, cells_with}
@@ -12,7 +11,6 @@ use Rattle.hc_record.specs.declared.kind.Kind.{Kind}
 use Rattle.hc_record.specs.declared.kind.Kind.TheVariants as kinds
 use Rattle.hc_event.specs.declared.act.Act.{Act}
 use Rattle.hc_event.specs.declared.act.Act.TheVariants as act
-use Rattle.hc_event.specs.declared.event.Event.{Event}
 use Rattle.hc_event.specs.declared.event.Event.TheVariants as event
 use Rattle.hc_event.specs.declared.event.Response.{Response}
 use Rattle.hc_stored.specs.Entries.{shelf_of}
@@ -21,14 +19,13 @@ use Rattle.hc_stored.specs.Kept.{Kept}
 use Rattle.hc_stored.specs.Shelf as shelf
 use Rattle.hc_stored.specs.Shelf.{same_order}
 use Rattle.hc_exch.specs.Exchanges as exch
-use Rattle.hc_exch.specs.Exchanges.{table_of}
 use Rattle.hc_exch.specs.Known as known
 use Rattle.hc_rules.specs.Refusals.{overlong}
 use Rattle.hc_rules.specs.declared.room.Limits.{Limits}
 use Rattle.hc_model.specs.Denials.{denial}
 use Rattle.hc_model.specs.Effects.{with_event, let_all_go, with_exchange, with_representation, as_gone}
 use Rattle.hc_model.specs.ExchangeRows.{with_piece}
-use Rattle.hc_model.specs.Exchanges.{family, front, base, promised_bytes}
+use Rattle.hc_model.specs.Exchanges.{family, front, promised_bytes}
 use Rattle.hc_model.specs.Flaws.{NoFlaw, flaw_in}
 use Rattle.hc_model.specs.Growing.{Grows}
 use Rattle.hc_model.specs.Measures.{IsMeasured}
@@ -45,7 +42,7 @@ use Rattle.hc_model.specs.Weights.{room_for, evicted}
 use Rattle.hc_effects.proofs.HoleLemmas.{covers_all}
 use Rattle.hc_effects.proofs.Once.{delivers_once}
 use Rattle.hc_effects.proofs.PieceEffects as does
-use Rattle.hc_effects.proofs.SameTables.{is_in, back_from_any, without, all_go_is}
+use Rattle.hc_effects.proofs.SameTables.{is_in, without, all_go_is}
 use Rattle.hc_state.proofs.Ties.{overs_open, writer_then}
 use Rattle.hc_state.specs.declared.rows.Rows.{Rows}
 use Rattle.hc_state.specs.Facts.{Facts}
@@ -57,7 +54,7 @@ use Rattle.hc_state.specs.Stored.{IsEntry, TellsLength, told, untold, KeepsEntry
 use Rattle.hc_state.proofs.Fallbacks.{unstored_moved}
 use Rattle.hc_state.proofs.OneOfEach.{first_by}
 use Rattle.hc_on_leave.proofs.PieceArm.{Runs, runs_of, open_unended, not_overlong}
-use Rattle.hc_on_leave.proofs.PieceRows.{s, z, IsLike, like_same, grows_on, stands_pieced}
+use Rattle.hc_on_leave.proofs.PieceRows.{s, IsLike, like_same, grows_on, stands_pieced}
 use Rattle.hc_state.proofs.Words.{none_some}
 
 still_there : (a : Bool) (cell : Cell) (o : Option Cell) → is_some o ≡ true → is_some (if a then Some cell else o) ≡ true

@@ -1,15 +1,13 @@
 -- What an event says that isn't denied.
-use Rattle.std.proofs.Common.{◌≡◌, ℕ, ◌<◌, List, length, Bool, true, false, Option, Some, None, refl, ap, sym, ◌∙◌, arith}
+use Rattle.std.proofs.Common.{◌≡◌, ℕ, ◌<◌, List, length, Bool, true, false, Option, Some, None, refl, sym, ◌∙◌, arith}
 use Rattle.std.proofs.lemmas.Bool.Decides.{nat_tests}
 use Rattle.std.specs.Prelude.{nat_le, nat_lt, ◌==◌, if◌then◌else◌, not}
-use Rattle.hc_text.proofs.Basics.{not_false as not_off, not_true as not_only}
+use Rattle.hc_text.proofs.Basics.{not_false as not_off}
 use Rattle.hc_event.specs.declared.event.Event.TheVariants as event
 use Rattle.hc_event.specs.declared.event.Request.{Request}
 use Rattle.hc_event.specs.declared.event.Response.{Response}
 use Rattle.hc_event.specs.declared.act.Refusal.{Refusal}
 use Rattle.hc_rules.specs.declared.refusal.Gate.{Gate}
-use Rattle.hc_rules.specs.declared.request.RequestClass.{RequestClass}
-use Rattle.hc_rules.specs.Requests.{class_of, is_disabled, is_only}
 use Rattle.hc_rules.specs.Refusals.{refusal_of, head_refusal, piece_refusal, end_refusal, fault_refusal}
 use Rattle.hc_state.proofs.Words.{none_some}
 

@@ -19,7 +19,7 @@ use Rattle.hc_model.specs.Rows as rows
 use Rattle.hc_model.specs.Rows.{Tables, Exchange, Representation}
 use Rattle.hc_model.specs.Writers.{came_alone}
 use Rattle.hc_state.specs.Kept.{held_for, held_of, held_alone, unread, unstored_bytes}
-use Rattle.hc_state.specs.Stored.{IsEntry, KeepsEntry, KeepsEntries, TellsLength, is_first, is_usable_row}
+use Rattle.hc_state.specs.Stored.{IsEntry, KeepsEntry, KeepsEntries, is_first, is_usable_row}
 use Rattle.hc_state.specs.Stored as stored
 use Rattle.hc_state.proofs.Fallbacks.{unread_fallback, unstored_fallback, unstored_moved}
 use Rattle.hc_state.proofs.FallbackSteps.{first_fallback}

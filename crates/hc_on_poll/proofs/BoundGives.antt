@@ -3,7 +3,7 @@ use Rattle.std.proofs.Common.{◌≡◌, ◌≢◌, ◌⊎◌, inl, inr, ℕ, ze
 use Rattle.std.proofs.Math.ListN.{drop_of_length-le}
 use Rattle.std.proofs.lemmas.Bool.Decides.{nat_tests}
 use Rattle.std.proofs.lemmas.Grind.{common_steps}
-use Rattle.std.specs.Prelude.{is_some, is_none, nat_eq, nat_lt, ◌&&◌, if◌then◌else◌}
+use Rattle.std.specs.Prelude.{is_some, is_none, nat_eq, ◌&&◌, if◌then◌else◌}
 use Rattle.std.specs.HashMap.{get}
 use Rattle.hc_text.proofs.Basics.{and_both as both_true, eqb-other, eqb-same, false_true, lt_cases as lt_or, same_or, same_some as same_row}
 use Rattle.hc_rules.specs.declared.room.Limits.{Limits}
@@ -29,7 +29,7 @@ use Rattle.hc_model.specs.Exchanges.{base, front, family}
 use Rattle.hc_model.specs.Flaws.{NoFlaw}
 use Rattle.hc_model.specs.Holes.{first_place, absent_from}
 use Rattle.hc_model.specs.Moves as moves
-use Rattle.hc_model.specs.Moves.{Move, Gives, Asks, acts_of}
+use Rattle.hc_model.specs.Moves.{Gives, Asks, acts_of}
 use Rattle.hc_model.specs.Polls.{move_of}
 use Rattle.hc_model.specs.Reading.{is_bound_place, lo_of, offset}
 use Rattle.hc_model.specs.Rows as rows

@@ -44,12 +44,12 @@ use Rattle.hc_model.specs.Reading.{own_open, shared_exchange, source, offset, hi
 use Rattle.hc_model.specs.Numbers.{Numbers}
 use Rattle.hc_model.specs.Rows as rows
 use Rattle.hc_model.specs.Rows.{Tables, Exchange, Representation}
-use Rattle.hc_model.specs.Sound.{IsBound, IsFirst, IsExclusiveWriter, IsServed, IsAlone}
+use Rattle.hc_model.specs.Sound.{IsBound, IsFirst, IsExclusiveWriter, IsServed}
 use Rattle.hc_model.specs.Sound as sound
 use Rattle.hc_model.specs.Writers.{came_alone}
 use Rattle.hc_effects.proofs.ExclusiveWriters.{writer_some}
 use Rattle.hc_model.specs.Steps as steps
-use Rattle.hc_model.specs.Steps.{bound_row, reading, step_move, later_hole, run_held_for, stored_ahead, next_stored, run_of}
+use Rattle.hc_model.specs.Steps.{reading, step_move, later_hole, run_held_for, stored_ahead, next_stored, run_of}
 use Rattle.hc_state.specs.declared.consumer.Consumer.{Consumer}
 use Rattle.hc_state.specs.declared.rows.Rows.{Rows}
 use Rattle.hc_state.specs.Arms.{most, asks_or_waits, asked_in}

@@ -51,7 +51,6 @@ use Rattle.hc_state.proofs.Counting.{stands_counted}
 use Rattle.hc_state.proofs.KeySteps.{says_elsewhere, lined, holds_key}
 use Rattle.hc_state.proofs.Maps.{becomes_then}
 use Rattle.hc_on_leave.proofs.MayGo.{may_opened, may_with}
-use Rattle.hc_on_poll.proofs.OpenArm.{WaitsFor}
 use Rattle.hc_on_poll.proofs.OpenArm as waiting
 use Rattle.hc_on_poll.proofs.OpenKeys.{key_opened}
 use Rattle.hc_on_poll.proofs.OpenStands.{stands_opened}

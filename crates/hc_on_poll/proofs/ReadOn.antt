@@ -32,7 +32,6 @@ use Rattle.hc_state.specs.Reads.{IsShownAt, IsHeard, IsRunAhead, IsInLength, Rea
 use Rattle.hc_state.specs.Stands.{RowsStand, Stands, Answered}
 use Rattle.hc_on_poll.proofs.BoundGives as gives
 use Rattle.hc_on_poll.proofs.BoundReads as bound
-use Rattle.hc_on_poll.proofs.BoundReads.{FillsHole}
 use Rattle.hc_state.proofs.Maps.{merely_true, merely_below}
 use Rattle.hc_on_poll.proofs.ShowStored.{IsBoundRow, bound_row_of, bound_kept}
 use Rattle.hc_state.proofs.Words.{few_received, none_some}

@@ -17,7 +17,7 @@ use Rattle.hc_head.specs.declared.scan.Scan.{Scan}
 use Rattle.hc_msg.specs.Chunks.{trailer_place, trail_on, trail}
 use Rattle.hc_msg.specs.declared.trailer.Trailer.{Trailer}
 use Rattle.hc_msg.specs.declared.trailer.Trailer.TheVariants as trailer
-use Rattle.hc_msg.specs.Inputs.{Next, Waits, Tells, Brings, Fails, next_in, stopped, told_or, step_of, is_in_body, brought, body_behind}
+use Rattle.hc_msg.specs.Inputs.{Next, Waits, Tells, Brings, Fails, next_in, told_or, step_of}
 use Rattle.hc_msg.specs.Inputs as inputs
 use Rattle.hc_msg.specs.Reading.{Requests, Responses, Reading, Heading, Counts, Runs, Sizing, Chunk, ChunkEnd, ChunkReturn, Trailing, Whole, Done, Failed, Token, Asks, Answers, Byte, Step, Goes, EndsHead, EndsLine, quiet, fails, counts, chunk, body, after_heard, after_line, after_trail, reading_of_chunk, head_move, line_move, move_of}
 use Rattle.hc_msg.specs.Sizes.{size_in}

@@ -14,10 +14,10 @@ use Rattle.hc_peers.specs.Renderings.{rendering, form_behind, is_last, closes}
 use Rattle.hc_peers.specs.declared.reply.Reply.{Reply}
 use Rattle.hc_model.specs.Denials.{is_live}
 use Rattle.hc_model.specs.Rows.{Tables}
-use Rattle.hc_proxy.specs.Carrying.{answered, answers, carried_out, all_carried_out, acts_in, carried}
+use Rattle.hc_proxy.specs.Carrying.{answered, answers, carried_out, all_carried_out}
 use Rattle.hc_proxy.specs.Invariants.{AreOver, IsHolder, HasConsumers}
 use Rattle.hc_proxy.specs.Rows.{Client, Proxy, with_client}
-use Rattle.hc_proxy.proofs.Holders.{IsAlive, HeldBy, held_of, one_holder, one_held, IsChanged, changed_row, changed_here, changed_off}
+use Rattle.hc_proxy.proofs.Holders.{IsAlive, HeldBy, one_holder, one_held, IsChanged, changed_row, changed_here, changed_off}
 
 -- THE CONSUMER THAT AN ACT IS SENT TO
 

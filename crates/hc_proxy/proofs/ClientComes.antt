@@ -10,7 +10,7 @@ use Rattle.std.specs.List.Sorted.{IsStrictlySortedBy}
 use Rattle.std.specs.Ordering.{nat_cmp}
 use Rattle.std.proofs.lemmas.Bool.Decides.{nat_tests}
 use Rattle.std.proofs.lemmas.List.Elements.{Contains-append_right, Contains-append_cases}
-use Rattle.hc_text.proofs.Basics.{none_some, eq_itself as same_number, some_inj}
+use Rattle.hc_text.proofs.Basics.{eq_itself as same_number, some_inj}
 use Rattle.hc_core.specs.Steps.{faults_in}
 use Rattle.hc_effects.proofs.PieceKeeps.{eq_cases}
 use Rattle.hc_peers.specs.Clients.{client_of}

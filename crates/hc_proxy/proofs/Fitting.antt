@@ -13,7 +13,7 @@ use Rattle.hc_text.proofs.Basics.{and_left, and_right, both_true as both_hold, s
 use Rattle.hc_model.specs.Exchanges.{is_open, is_wanted}
 use Rattle.hc_model.specs.Sound.{Sound}
 use Rattle.hc_peers.specs.Clients.{client_of}
-use Rattle.hc_peers.specs.Peers.{is_idle, is_over}
+use Rattle.hc_peers.specs.Peers.{is_idle}
 use Rattle.hc_peers.specs.Peers as peers
 use Rattle.hc_peers.specs.Upstreams.{upstream_of}
 use Rattle.hc_peers.specs.declared.client.Client as peer

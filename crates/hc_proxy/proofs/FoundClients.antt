@@ -6,13 +6,11 @@ use Rattle.std.proofs.Common.{◌≡◌, ℕ, List, [], ◌∷◌, ◌++◌, tru
 use Rattle.std.specs.Prelude.{is_some, if◌then◌else◌}
 use Rattle.hc_event.specs.declared.act.Act.{Act}
 use Rattle.hc_event.specs.declared.act.Act.TheVariants as act
-use Rattle.hc_model.specs.Entries.{Entry}
 use Rattle.hc_model.specs.Tellings.{told_to, tellings, IsOneTo}
 use Rattle.hc_model.specs.Tellings as tells
-use Rattle.hc_proxy.specs.Carrying.{answered, answers, carried_out, all_carried_out, acts_in}
+use Rattle.hc_proxy.specs.Carrying.{answered, answers, carried_out, all_carried_out}
 use Rattle.hc_proxy.specs.Invariants.{IsHolder}
 use Rattle.hc_proxy.specs.Rows.{Client, Proxy, changed}
-use Rattle.hc_proxy.specs.Steps.{with_entry}
 use Rattle.hc_proxy.proofs.CarriedOut.{sent_to, AreFound, back, on}
 use Rattle.hc_proxy.proofs.Holders.{one_held}
 use Rattle.hc_proxy.proofs.PolledAlone.{AreTo}

@@ -3,7 +3,7 @@
 -- A connection that is open is a client's or an exchange's, and none is to be closed yet. So where no exchange has it, it is a client's,
 -- whose number is that of none that was dialled.
 use Rattle.std.proofs.Common.{◌≡◌, inl, inr, ◌≤◌, ◌<◌, ℕ, ◌+◌, List, [], ◌++◌, length, Bool, true, false, Option, Some, None, refl, ap, sym, ◌∙◌, subst, arith}
-use Rattle.std.specs.Prelude.{◌^◌, nat_eq, nat_lt, not, option_map, if◌then◌else◌, IsSome, Contains}
+use Rattle.std.specs.Prelude.{◌^◌, nat_lt, not, option_map, if◌then◌else◌, IsSome, Contains}
 use Rattle.std.specs.Option.{is_some}
 use Rattle.std.proofs.Math.Bridge.{le_prop}
 use Rattle.std.proofs.Math.Logic.{∥∥₁_map, ∥∥₁_elim}

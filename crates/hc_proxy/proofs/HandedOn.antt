@@ -7,7 +7,7 @@
 use Rattle.std.proofs.Common.{◌≡◌, ◌⊎◌, inl, inr, ◌≤◌, ℕ, ◌+◌, List, [], ◌∷◌, length, Bool, true, false, Option, Some, None, refl, ap, sym, ◌∙◌, subst, arith}
 use Rattle.std.specs.Prelude.{◌&&◌, ◌||◌, is_some, nat_eq, nat_lt, option_map}
 use Rattle.std.proofs.lemmas.Bool.Decides.{nat_tests}
-use Rattle.hc_text.proofs.Basics.{eq_itself as same_number, some_inj, true_false}
+use Rattle.hc_text.proofs.Basics.{some_inj, true_false}
 use Rattle.hc_core.specs.Steps.{faults_in, steps, bytes_received}
 use Rattle.hc_event.specs.Filters.{is_denied}
 use Rattle.hc_event.specs.declared.act.Act.{Act}

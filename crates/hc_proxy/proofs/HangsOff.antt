@@ -4,7 +4,6 @@
 -- number is no exchange's, and that of no other exchange, since each number names one. So it is closed alone.
 use Rattle.std.proofs.Common.{◌≡◌, ◌≢◌, ◌⊎◌, inl, inr, ◌≤◌, ℕ, zero, suc, [], ◌∷◌, length, true, false, Option, Some, None, refl, ap, sym, ◌∙◌, subst, arith}
 use Rattle.std.specs.Prelude.{nat_eq, Contains, IsSome}
-use Rattle.std.proofs.lemmas.Bool.Decides.{nat_tests}
 use Rattle.std.proofs.lemmas.List.Elements.{Contains-append_left, Contains-append_right, Contains-append_cases}
 use Rattle.hc_text.proofs.Basics.{none_some, eq_itself as same_number, some_inj, true_false}
 use Rattle.hc_model.specs.Exchanges.{is_open}

@@ -3,7 +3,7 @@
 -- A turn begins with no acts, so whoever is waited for must be live: so it is behind the acts of the turn before. A client whose
 -- connection doesn't stand any more was to be closed, and waits for nobody.
 use Rattle.std.proofs.Common.{◌≡◌, inl, inr, ℕ, zero, suc, List, [], ◌∷◌, Bool, true, false, Option, Some, None, refl, ap, sym, ◌∙◌, arith}
-use Rattle.std.specs.Prelude.{◌||◌, Contains, IsSome, option_map, if◌then◌else◌}
+use Rattle.std.specs.Prelude.{◌||◌, Contains, option_map, if◌then◌else◌}
 use Rattle.std.specs.List.{list_all}
 use Rattle.hc_text.proofs.Basics.{and_left, and_right, some_inj}
 use Rattle.hc_event.specs.declared.act.Act.{Act}
@@ -15,9 +15,7 @@ use Rattle.hc_proxy.specs.Carrying.{acts_in}
 use Rattle.hc_proxy.specs.Connections.{stands}
 use Rattle.hc_proxy.specs.Handling.{seen_at, begun}
 use Rattle.hc_proxy.specs.Invariants.{IsHolder, HasConsumers}
-use Rattle.hc_proxy.specs.Network.{open_exchanges}
 use Rattle.hc_proxy.specs.Rows.{Client, Upstream, Proxy, new_client, with_upstream}
-use Rattle.hc_proxy.specs.Standings.{client_stands, exchange_stands, is_right, stand_right}
 use Rattle.hc_proxy.proofs.Holders.{IsAlive, HeldBy, held_of, of_held}
 use Rattle.hc_proxy.proofs.Turning.{with_new}
 

@@ -17,7 +17,7 @@ use Rattle.hc_proxy.specs.Handling.{begun, seen_at}
 use Rattle.hc_proxy.specs.Rows.{Client, Upstream, Proxy}
 use Rattle.hc_proxy.specs.Steps.{with_entry}
 use Rattle.hc_proxy.specs.Turns.{so_far, happened, turned, turned_by}
-use Rattle.hc_proxy.proofs.Turning.{IsChange, IsOriginChange, IsKept, IsCarried, OpenOnly, with_new, with_opened, carried_keeps, open_any, turned_keeps}
+use Rattle.hc_proxy.proofs.Turning.{IsChange, IsOriginChange, IsKept, IsCarried, OpenOnly, carried_keeps, open_any, turned_keeps}
 use Rattle.hc_proxy.proofs.Turning as kinds
 
 -- ONE CLIENT

@@ -2,9 +2,8 @@
 --
 -- Where both rows are changed alike, what is kept stays kept. The exchange keeps its connection, so the numbers stay, and the wire reads
 -- on as it was told. No more bytes are unread than there is room for. Its answer is read behind its head only where it has that.
-use Rattle.std.proofs.Common.{◌≡◌, ◌⊎◌, inl, inr, ◌≤◌, ◌<◌, ℕ, ◌+◌, length, true, false, Option, Some, None, refl, ap, sym, ◌∙◌, subst, arith}
+use Rattle.std.proofs.Common.{◌≡◌, ◌⊎◌, inl, inr, ◌≤◌, ◌<◌, ℕ, ◌+◌, length, true, false, Option, Some, None, refl, ap, sym, ◌∙◌, subst}
 use Rattle.std.specs.Prelude.{nat_eq, option_map, IsSome, Contains}
-use Rattle.std.proofs.lemmas.Bool.Decides.{nat_tests}
 use Rattle.hc_text.proofs.Basics.{none_some, eq_itself as same_number, some_inj}
 use Rattle.hc_core.specs.Steps.{bytes_received}
 use Rattle.hc_model.specs.Exchanges.{is_open, is_wanted}

@@ -4,8 +4,6 @@
 -- asks for, and each consumer asks for a target. What was open stays so, unless the acts of a later entry close it: so it is where no
 -- event says anything of it.
 use Rattle.std.proofs.Common.{◌≡◌, ◌⊎◌, inl, inr, ℕ, ◌+◌, List, [], ◌∷◌, ◌++◌, Bool, true, false, Option, Some, None, refl, ap, sym, ◌∙◌, subst, arith}
-use Rattle.std.specs.Prelude.{nat_eq}
-use Rattle.std.proofs.lemmas.Bool.Decides.{nat_tests}
 use Rattle.hc_text.proofs.Basics.{false_true, eq_itself as itself, or_left, or_right}
 use Rattle.hc_event.specs.Filters.{Opening, opening_in, closes_in, is_denied}
 use Rattle.hc_event.specs.declared.act.Act.{Act}

@@ -13,7 +13,7 @@ use Rattle.hc_rules.specs.declared.room.Limits.{Limits}
 use Rattle.hc_model.specs.Entries.{Entry, no_contents}
 use Rattle.hc_model.specs.Runs.{IsRun, IsOwed}
 use Rattle.hc_model.specs.Tables.{tables, after}
-use Rattle.hc_model.specs.Tellings.{told_to, tellings, IsOneTo, TellsOne, TellsBy}
+use Rattle.hc_model.specs.Tellings.{told_to, tellings, IsOneTo, TellsBy}
 use Rattle.hc_model.specs.Tellings as tells
 use Rattle.hc_wire.specs.Logs.{Called}
 use Rattle.hc_laws.proofs.Told.{told_in_runs}

@@ -1,24 +1,17 @@
 -- A poll of a live consumer is accepted, and tells nobody anything but that consumer.
-use Rattle.std.proofs.Common.{◌≡◌, ℕ, List, [], ◌∷◌, true, false, Option, Some, None, refl, ap, sym, ◌∙◌, subst}
+use Rattle.std.proofs.Common.{◌≡◌, ℕ, List, [], ◌∷◌, Option, Some, None, refl, sym, ◌∙◌, subst}
 use Rattle.std.specs.Prelude.{is_some, if◌then◌else◌}
-use Rattle.hc_event.specs.Filters.{is_denied}
 use Rattle.hc_event.specs.declared.act.Act.{Act}
 use Rattle.hc_event.specs.declared.event.Event.{Event}
 use Rattle.hc_event.specs.declared.event.Event.TheVariants as event
-use Rattle.hc_rules.specs.Refusals as refusals
 use Rattle.hc_rules.specs.declared.room.Limits.{Limits}
-use Rattle.hc_model.specs.Denials.{denial, is_live}
 use Rattle.hc_model.specs.Entries.{Entry, History, no_contents}
-use Rattle.hc_model.specs.Lawful.{Lawful}
-use Rattle.hc_model.specs.Rows.{Tables}
 use Rattle.hc_model.specs.Runs.{IsOwed, IsRun}
 use Rattle.hc_model.specs.Tables.{tables}
 use Rattle.hc_model.specs.Tellings.{told_to, tellings, IsOneTo, TellsOne, TellsBy}
 use Rattle.hc_model.specs.Tellings as tells
 use Rattle.hc_laws.proofs.Told.{told_in_runs}
-use Rattle.hc_laws.proofs.Accepted.{is_accepted}
 use Rattle.hc_laws.proofs.FromNothing.{begins_well}
-use Rattle.hc_laws.proofs.WhoLeaves.{has_started}
 
 -- TOLD
 

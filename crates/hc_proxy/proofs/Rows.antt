@@ -9,7 +9,7 @@ use Rattle.std.specs.Ordering.{nat_cmp}
 use Rattle.std.proofs.lemmas.Bool.Decides.{nat_tests}
 use Rattle.std.proofs.lemmas.List.{length-drop}
 use Rattle.hc_text.proofs.Basics.{some_inj as some_is}
-use Rattle.hc_peers.specs.Agreement.{consumer_at, ready_at}
+use Rattle.hc_peers.specs.Agreement.{consumer_at}
 use Rattle.hc_peers.specs.Clients.{client_of, has_all, is_taking}
 use Rattle.hc_peers.specs.Clients as peers
 use Rattle.hc_peers.specs.Peers as peers_by
@@ -23,7 +23,6 @@ use Rattle.hc_proxy.specs.Keeping.{Turn, IsClient, IsClientAt, HasClients}
 use Rattle.hc_proxy.specs.Polls.{takes_more}
 use Rattle.hc_proxy.specs.Rows.{Client, Proxy}
 use Rattle.hc_proxy.specs.Starts.{is_ready}
-use Rattle.hc_proxy.proofs.IdleClients.{ready_by}
 
 -- ONE CLIENT
 

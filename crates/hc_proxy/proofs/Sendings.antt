@@ -5,7 +5,7 @@
 -- is a first part of what it was owed, so the bytes behind it are the same ones on both sides. All other clients stay, and so do
 -- the tables, the connections to the origin and the wire.
 use Rattle.std.proofs.Common.{◌≡◌, inl, inr, ℕ, ◌≤◌, List, [], ◌∷◌, ◌++◌, Bool, true, false, Option, Some, None, refl, ap, sym, ◌∙◌, subst, arith, length, length-append}
-use Rattle.std.specs.Prelude.{nat_eq, not, ◌||◌, filter, option_map, IsSome, if◌then◌else◌}
+use Rattle.std.specs.Prelude.{nat_eq, not, ◌||◌, option_map, IsSome, if◌then◌else◌}
 use Rattle.std.proofs.lemmas.Bool.Decides.{nat_tests}
 use Rattle.std.proofs.lemmas.List.{drop-append-le}
 use Rattle.hc_text.proofs.Basics.{filter_same, eq_itself as same_number, some_inj as some_is}

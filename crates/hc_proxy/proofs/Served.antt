@@ -4,7 +4,6 @@
 -- consumer alone, and each is polled once. So no act of a turn goes to a client that was told something by an act before it.
 use Rattle.std.proofs.Common.{◌≡◌, ◌⊎◌, inl, inr, ℕ, List, [], ◌∷◌, Bool, true, false, Option, Some, None, refl, ap, sym, ◌∙◌, subst, arith}
 use Rattle.std.specs.Prelude.{◌&&◌, not, nat_lt, length, if◌then◌else◌}
-use Rattle.hc_text.proofs.Basics.{some_inj as some_is}
 use Rattle.hc_event.specs.declared.act.Act.{Act}
 use Rattle.hc_event.specs.declared.act.Act.TheVariants as act
 use Rattle.hc_event.specs.declared.event.Event.TheVariants as event
@@ -18,7 +17,7 @@ use Rattle.hc_proxy.specs.Invariants.{IsServed, AreServed, HasConsumers}
 use Rattle.hc_proxy.specs.Polls.{takes_more, may_be_polled, each_polled}
 use Rattle.hc_proxy.specs.Rows.{Client, Proxy}
 use Rattle.hc_proxy.specs.Steps.{with_entry, stepped}
-use Rattle.hc_proxy.proofs.Polled.{PollsBy, IsPollOf, Adds, entry_stands, told_either, tells_both, tells_less}
+use Rattle.hc_proxy.proofs.Polled.{PollsBy, Adds, entry_stands, told_either, tells_both}
 use Rattle.hc_proxy.proofs.Polled as by
 use Rattle.hc_proxy.proofs.QuietActs.{AreQuiet}
 use Rattle.hc_proxy.proofs.ServedActs.{IsTold, TellsUp, are_served}

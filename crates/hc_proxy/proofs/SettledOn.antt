@@ -3,9 +3,8 @@
 -- The lists tell nothing of the rows, so a change of them alone keeps all that is kept while something is done for the exchange. What is
 -- open stands among those that are looked at when all is sent. It leaves the list of the news only where no part is wanted, or none may
 -- stand next: there nothing is due, since of a connection that has ended a part stands next.
-use Rattle.std.proofs.Common.{◌≡◌, ◌⊎◌, inl, inr, ℕ, Bool, true, false, Option, Some, None, refl, sym, ◌∙◌, subst, arith}
+use Rattle.std.proofs.Common.{◌≡◌, ◌⊎◌, inl, inr, ℕ, Bool, true, false, Option, Some, None, refl, sym, ◌∙◌, subst}
 use Rattle.std.specs.Prelude.{◌&&◌, nat_eq, not, IsSome, Contains}
-use Rattle.std.proofs.lemmas.Bool.Decides.{nat_tests}
 use Rattle.hc_text.proofs.Basics.{eq_itself as same_number, true_false}
 use Rattle.hc_model.specs.Exchanges.{is_open, is_wanted}
 use Rattle.hc_peers.specs.Clients.{client_of}

@@ -8,7 +8,6 @@ use Rattle.std.proofs.Common.{◌≡◌, ◌⊎◌, inl, inr, ◌≤◌, ◌<◌
 use Rattle.std.specs.Prelude.{◌&&◌, nat_eq, nat_lt, not, is_none, option_map, if◌then◌else◌, IsSome, Contains}
 use Rattle.std.specs.List.{list_all}
 use Rattle.std.proofs.Math.Path.{fun_ext}
-use Rattle.std.proofs.lemmas.Bool.Decides.{nat_tests}
 use Rattle.std.proofs.lemmas.List.{length-append, drop-append-le}
 use Rattle.hc_text.proofs.Basics.{none_some, not_true as not_so, eq_itself as same_number}
 use Rattle.hc_core.specs.Steps.{faults_in, steps}

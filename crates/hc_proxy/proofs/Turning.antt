@@ -24,7 +24,7 @@ use Rattle.hc_wire.specs.declared.event.WireEvent.TheVariants as wire
 use Rattle.hc_proxy.specs.Carrying.{answered, answers, opened, all_carried_out, carried, acts_in}
 use Rattle.hc_proxy.specs.Connections.{exchange_of}
 use Rattle.hc_proxy.specs.Handling.{begun, inserted, clients_here, left, cancelled, leaves, client_sends, origin_sends, origin_ends, breaks, sends, ends, broke, handled_by, handled}
-use Rattle.hc_proxy.specs.Network.{open_exchanges, is_last_denied, unless_denied, has_news, next_of, hands_head, hands, hands_if, event_at_close, closes, closes_if, handed, closed, heard}
+use Rattle.hc_proxy.specs.Network.{open_exchanges, is_last_denied, unless_denied, next_of, hands_head, hands, hands_if, event_at_close, closes, closes_if, handed, closed, heard}
 use Rattle.hc_proxy.specs.Network as network
 use Rattle.hc_proxy.specs.Polls.{live_consumers, may_be_polled, polled, each_polled, polled_all}
 use Rattle.hc_proxy.specs.Rows.{Client, Upstream, Proxy, new_client, with, with_client, with_upstream}

@@ -1,6 +1,6 @@
 -- The one strong tag of a list of values.
 use Rattle.std.proofs.Common.{◌≡◌, ℕ, ◌-◌, Bool, true, false, List, [], ◌∷◌, ◌++◌, length, Option, Some, None, refl, sym, ap, ◌∙◌, inl, inr, arith, length-append}
-use Rattle.std.specs.Prelude.{bytes_eq, ◌&&◌, is_some, slice_get, Result, Ok, Err, OnErr}
+use Rattle.std.specs.Prelude.{bytes_eq, ◌&&◌, Result, Ok, Err, OnErr}
 use Rattle.std.specs.List.{list_all}
 use Rattle.std.proofs.lemmas.Bool.{cases_Bool, cases_eq, ne_eqb, not_from_false, and_parts, and_from, both_ways}
 use Rattle.std.proofs.lemmas.List.{take_at}

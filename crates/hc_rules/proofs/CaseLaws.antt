@@ -1,8 +1,7 @@
 -- What the cases of heads say of their heads.
-use Rattle.std.proofs.Common.{◌≡◌, ℕ, ◌≤◌, Bool, true, false, eqb, leb, refl, arith}
+use Rattle.std.proofs.Common.{◌≡◌, ◌≤◌, eqb, leb}
 use Rattle.std.specs.Prelude.{◌&&◌, ◌||◌, not}
 use Rattle.std.proofs.lemmas.Bool.{and_parts, eqb-true}
-use Rattle.std.proofs.lemmas.Bool.Decides.{nat_tests}
 use Rattle.hc_text.proofs.Basics.{either, leb-le, not_true as not_lost}
 use Rattle.hc_rules.specs.declared.need.Route.{Route}
 use Rattle.hc_rules.specs.declared.need.Route.TheVariants.{Direct, Turn, Hole}

@@ -1,4 +1,3 @@
 -- Facts about a choice.
-use Rattle.std.proofs.Common.{◌≡◌, ◌⊎◌, Bool, true, false, cond, refl, inl, inr}
+use Rattle.std.proofs.Common.{◌≡◌, ◌⊎◌}
 use Rattle.std.specs.Prelude.{◌&&◌}
-use Rattle.hc_text.proofs.Basics.{either}

@@ -1,13 +1,12 @@
 -- What is read as a number is one, and what isn't is none.
-use Rattle.std.proofs.Common.{◌≡◌, ◌≢◌, ℕ, ◌<◌, ◌≤◌, ◌^◌, List, length, Bool, true, false, eqb, leb, ltb, Option, Some, None, refl, sym, arith, lt-ltb, inl, inr}
+use Rattle.std.proofs.Common.{◌≡◌, ◌≢◌, ℕ, ◌<◌, ◌≤◌, ◌^◌, List, length, Bool, true, leb, ltb, Option, Some, None, refl, sym, arith, lt-ltb, inl, inr}
 use Rattle.std.specs.Prelude.{◌&&◌, IfSome, IfNone}
 use Rattle.hc_text.specs.Numbers.{IsNumber}
 use Rattle.std.specs.Str.{all_ascii_digits}
 use Rattle.std.specs.Str.Parse.{digits_value, IsNumeral}
 use Rattle.std.proofs.lemmas.Bool.{cases_Bool, and_parts}
-use Rattle.std.proofs.lemmas.Bool.Decides.{nat_tests}
 use Rattle.std.proofs.lemmas.Str.Parse.{IsNumeralModel, numerals_by_value, tells_all_ascii_digits}
-use Rattle.hc_text.proofs.Basics.{eqb-other, eqb-same, le-leb, leb-le, ltb-lt}
+use Rattle.hc_text.proofs.Basics.{le-leb, leb-le, ltb-lt}
 use Rattle.hc_rules.specs.RangeTexts.{number_of}
 
 digits : IsNumeralModel (λ ds. all_ascii_digits ds ≡ true) (digits_value 10)

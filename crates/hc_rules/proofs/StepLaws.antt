@@ -1,8 +1,7 @@
 -- What the steps of reading say of their views.
-use Rattle.std.proofs.Common.{◌≡◌, ℕ, ◌≤◌, true, leb, Option, Some, None, refl, arith}
+use Rattle.std.proofs.Common.{◌≡◌, ℕ, ◌≤◌, true, Option, Some, None, refl, arith}
 use Rattle.std.proofs.Math.Nat.{min-le_left, min-le_right}
 use Rattle.std.specs.Prelude.{IsSome, IfSome}
-use Rattle.std.proofs.lemmas.Bool.Decides.{nat_tests}
 use Rattle.hc_text.proofs.Basics.{either, leb-le}
 use Rattle.hc_event.specs.declared.act.Cause.{Cause}
 use Rattle.hc_rules.specs.declared.reading.ReadView.{ReadView}

@@ -1,13 +1,12 @@
 -- Events of sockets, and the numbers that were handed out.
-use Rattle.std.proofs.Common.{◌≡◌, ℕ, true, false, eqb, ltb, Option, None, Some, refl, sym, ap, subst, ◌∙◌, inl, inr, lt-ltb}
+use Rattle.std.proofs.Common.{◌≡◌, ℕ, true, false, eqb, Option, None, Some, sym, ap, subst, ◌∙◌}
 use Rattle.std.specs.Prelude.{if◌then◌else◌}
-use Rattle.std.proofs.lemmas.Bool.{cases_eq, eq-eqb, ne_eqb}
 use Rattle.std.specs.HashMap.{HashMap}
 use Rattle.hc_wire.specs.declared.event.WireEvent.{WireEvent}
 use Rattle.hc_wire.specs.declared.event.WireEvent.TheVariants as event
 use Rattle.hc_sockets.specs.declared.socket.Socket.{Socket}
-use Rattle.hc_wire.specs.Events.{Stage, Unseen, Open, Closed, Fresh, ended_of, IsOpen, IsUnended, IsOfOpen, stages_after}
-use Rattle.hc_sockets.specs.Sockets.{life, stage_at, lives_after, IsOfLive, IsBelow}
+use Rattle.hc_wire.specs.Events.{Stage, Unseen, Open, Closed, Fresh, ended_of, IsOpen, IsUnended}
+use Rattle.hc_sockets.specs.Sockets.{lives_after, IsOfLive}
 
 -- what is live before is live after
 pub live-same : (f g : ℕ → Stage) → ((k : ℕ) → g k ≡ f k) → (e : WireEvent) → IsOfLive g e → IsOfLive f e

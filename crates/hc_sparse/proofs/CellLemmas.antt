@@ -2,7 +2,6 @@
 use Rattle.std.proofs.Common.{◌≡◌, ◌⊎◌, ℕ, ◌+◌, ◌<◌, ◌≤◌, true, false, arith, List, ◌++◌, length, inl, inr, refl, ◌-◌, length-append}
 use Rattle.std.proofs.lemmas.List.{get_or_append_left, get_or-append-add}
 use Rattle.std.proofs.lemmas.Bool.Decides.{nat_tests}
-use Rattle.hc_text.proofs.Basics.{lt_or as split}
 use Rattle.hc_sparse.specs.Cells.{Cells, cells_with, inside}
 
 pub inside-yes : (at n p : ℕ) → at ≤ p → p < at + n → inside at n p ≡ true

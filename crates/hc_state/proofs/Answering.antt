@@ -1,5 +1,5 @@
 -- An event is answered, where it is known what it does.
-use Rattle.std.proofs.Common.{◌≡◌, ℕ, ◌+◌, ◌<◌, List, ◌++◌, Bool, true, false, Option, Some, None, refl, ap, sym, ◌∙◌, subst}
+use Rattle.std.proofs.Common.{◌≡◌, ℕ, ◌+◌, ◌<◌, List, ◌++◌, Bool, true, false, Some, None, refl, ap, sym, ◌∙◌, subst}
 use Rattle.std.specs.Prelude.{nat_eq, ◌&&◌}
 use Rattle.hc_text.proofs.Basics.{eqb-same, false_true}
 use Rattle.hc_store.specs.declared.backend.Backend.{Ghosts}
@@ -8,12 +8,11 @@ use Rattle.hc_event.specs.declared.act.Act.{Act}
 use Rattle.hc_event.specs.declared.act.LostKind.TheVariants as kind
 use Rattle.hc_stored.specs.Entries.{shelf_of}
 use Rattle.hc_rules.specs.declared.room.Limits.{Limits}
-use Rattle.hc_model.specs.Answers.{accepted_acts}
 use Rattle.hc_model.specs.Effects.{Does}
-use Rattle.hc_model.specs.Flaws.{Flaw, NoFlaw, Loses, flaw_in}
+use Rattle.hc_model.specs.Flaws.{NoFlaw, Loses, flaw_in}
 use Rattle.hc_model.specs.Keys.{entry_of}
 use Rattle.hc_model.specs.Rows.{Tables}
-use Rattle.hc_model.specs.Runs.{may_be, is_kept, has_room}
+use Rattle.hc_model.specs.Runs.{is_kept, has_room}
 use Rattle.hc_model.specs.Writes.{written_representation}
 use Rattle.hc_model.specs.Weights.{room_for, write_in}
 use Rattle.hc_model.specs.Entries.{entry_without_acts}

@@ -1,7 +1,7 @@
 -- One consumer's row is another: what is kept of it, of its key and of the representations stands for the tables then.
-use Rattle.std.proofs.Common.{◌≡◌, ◌≢◌, ◌⊎◌, inl, inr, ℕ, ◌+◌, List, [], Bool, true, false, cond, eqb, Option, Some, None, refl, ap, sym, ◌∙◌, subst}
-use Rattle.std.specs.Prelude.{is_some, nat_eq, bytes_eq, ◌==◌, if◌then◌else◌}
-use Rattle.std.specs.HashMap.{get, hash_map_len}
+use Rattle.std.proofs.Common.{◌≡◌, ◌≢◌, ◌⊎◌, inl, inr, ℕ, ◌+◌, List, [], Bool, true, false, cond, eqb, Option, refl, sym, ◌∙◌, subst}
+use Rattle.std.specs.Prelude.{nat_eq, bytes_eq, ◌==◌, if◌then◌else◌}
+use Rattle.std.specs.HashMap.{get}
 use Rattle.hc_text.proofs.Basics.{eqb-other, eqb-same, same_or}
 use Rattle.hc_store.specs.declared.backend.Backend.{Ghosts}
 use Rattle.hc_entry.specs.declared.keys.KeyTable.{KeyTable}
@@ -9,7 +9,6 @@ use Rattle.hc_entry.specs.Keys as keys
 use Rattle.hc_entry.specs.Keys.{kept_of}
 use Rattle.hc_entry.specs.Kept as keyed
 use Rattle.hc_entry.specs.Lines.{is_among, is_held_by}
-use Rattle.hc_exch.specs.Exchanges.{table_of, next_of}
 use Rattle.hc_model.specs.Currents.{current}
 use Rattle.hc_model.specs.Effects.{with_consumer}
 use Rattle.hc_model.specs.Lines.{is_in_line}

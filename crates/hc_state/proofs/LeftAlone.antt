@@ -1,6 +1,6 @@
 -- What a consumer leaves nobody else reads.
 use Rattle.std.proofs.Common.{◌≡◌, ◌≢◌, ◌⊎◌, inl, inr, ℕ, [], Bool, true, false, Option, Some, None, refl, ap, sym, ◌∙◌, subst}
-use Rattle.std.specs.Prelude.{is_some, is_none, nat_eq, not, ◌==◌, ◌&&◌, ◌||◌, if◌then◌else◌}
+use Rattle.std.specs.Prelude.{is_some, is_none, not, ◌==◌, ◌&&◌, ◌||◌, if◌then◌else◌}
 use Rattle.std.specs.Option.{option_or}
 use Rattle.hc_text.proofs.Basics.{eqb-other, eqb-same, false_true, same_or, same_some as same_row, some_inj as some_is, and_off as then_false}
 use Rattle.hc_event.specs.declared.place.Place.{Place}
@@ -11,7 +11,6 @@ use Rattle.hc_model.specs.Closings.{is_last_reader}
 use Rattle.hc_model.specs.Currents.{is_number}
 use Rattle.hc_model.specs.Effects.{with_consumer, as_over, left_by}
 use Rattle.hc_model.specs.Exchanges.{family, is_open, is_headless}
-use Rattle.hc_model.specs.Kinds.{brings_to}
 use Rattle.hc_model.specs.Lawful.{Lawful}
 use Rattle.hc_model.specs.LettingGo.{MayLetGo}
 use Rattle.hc_model.specs.Reading.{own_open, shared_exchange, writing_in, is_written}

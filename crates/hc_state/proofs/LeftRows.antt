@@ -22,7 +22,7 @@ use Rattle.hc_model.specs.Currents.{is_number}
 use Rattle.hc_model.specs.Effects.{left_by, with_consumer, as_over}
 use Rattle.hc_model.specs.Exchanges.{is_open}
 use Rattle.hc_model.specs.Lawful.{Lawful}
-use Rattle.hc_model.specs.Reading.{bound, is_bound, own_open, if_open, shared_exchange, writing_in, is_written, is_open_writer}
+use Rattle.hc_model.specs.Reading.{bound, is_bound, if_open, shared_exchange, writing_in, is_written, is_open_writer}
 use Rattle.hc_model.specs.Rows as rows
 use Rattle.hc_model.specs.Rows.{Tables, Exchange, Representation}
 use Rattle.hc_model.specs.Sound as sound

@@ -1,5 +1,5 @@
 -- What a call of a map leaves, and what holds wherever there is some past.
-use Rattle.std.proofs.Common.{◌≡◌, ◌≢◌, inl, inr, ℕ, ◌+◌, ◌<◌, ◌≤◌, ◌^◌, List, [], ◌∷◌, ◌++◌, Bool, true, false, Option, Some, None, Bor, refl, ap, sym, ◌∙◌, subst, arith}
+use Rattle.std.proofs.Common.{◌≡◌, ◌≢◌, inl, inr, ℕ, ◌+◌, ◌<◌, ◌≤◌, ◌^◌, List, [], ◌∷◌, ◌++◌, Bool, true, false, Option, Some, None, Bor, refl, ap, sym, ◌∙◌, arith}
 use Rattle.std.proofs.lemmas.Bool.Decides.{nat_tests}
 use Rattle.std.proofs.lemmas.Grind.{not_there}
 use Rattle.std.proofs.lemmas.List.{append_assoc}
@@ -12,11 +12,7 @@ use Rattle.hc_range.specs.declared.range.Asked.TheVariants as asked
 use Rattle.hc_range.specs.declared.range.Span.{Span}
 use Rattle.hc_range.specs.Spans.{IsInOrder, IsWithin}
 use Rattle.hc_event.specs.declared.act.Act.{Act}
-use Rattle.hc_entry.specs.declared.keys.KeyTable.{KeyTable}
-use Rattle.hc_entry.specs.Keys.{line_of}
-use Rattle.hc_entry.specs.Lines.{is_in, is_held_by}
-use Rattle.hc_state.specs.declared.consumer.Consumer.{Consumer}
-use Rattle.hc_state.specs.Arms.{IsQueued}
+use Rattle.hc_entry.specs.Lines.{is_held_by}
 use Rattle.hc_state.specs.Changes.{Numbered, ChangesAt, BecomesAt, one}
 
 -- MAPS

@@ -33,7 +33,7 @@ use Rattle.hc_effects.proofs.IdleNow.{filter_both}
 use Rattle.hc_effects.proofs.LettingGo.{current_may, keeps_may_all, all_more, idle_after}
 use Rattle.hc_effects.proofs.PollKeeps.{current_stays}
 use Rattle.hc_state.specs.declared.rows.Rows.{Rows}
-use Rattle.hc_state.specs.Room.{HasActs, LeavesActs, room_for_write, GivesWay, Appends}
+use Rattle.hc_state.specs.Room.{LeavesActs, room_for_write, GivesWay, Appends}
 use Rattle.hc_state.specs.Stands.{RowsStand}
 use Rattle.hc_state.specs.Stored.{KeepsEntry, is_usable_row}
 use Rattle.hc_state.proofs.BoundLists.{nobody_bound}

@@ -1,11 +1,8 @@
 -- What an exchange that stops brought is what the event writes, where that is sealed.
-use Rattle.std.proofs.Common.{◌≡◌, ◌≢◌, inl, inr, ℕ, List, [], ◌∷◌, Bool, true, false, Option, Some, None, refl, ap, sym, ◌∙◌, subst, arith}
-use Rattle.std.proofs.lemmas.Bool.Decides.{nat_tests}
+use Rattle.std.proofs.Common.{◌≡◌, ◌≢◌, inl, inr, ℕ, List, [], ◌∷◌, Bool, true, false, Option, Some, None, refl, ap, sym, ◌∙◌}
 use Rattle.std.specs.Prelude.{is_some, nat_eq, not, ◌&&◌, ◌||◌, ◌==◌, if◌then◌else◌}
-use Rattle.std.specs.Option.{option_or}
-use Rattle.hc_text.proofs.Basics.{eq_tells, eqb-other, eqb-same, false_true, same_or, same_some as same_row}
+use Rattle.hc_text.proofs.Basics.{eq_tells, eqb-other, eqb-same, same_or}
 use Rattle.hc_event.specs.Filters.{closes_in}
-use Rattle.hc_event.specs.declared.event.Event.{Event}
 use Rattle.hc_model.specs.Effects.{is_unkeepable, going_with}
 use Rattle.hc_model.specs.Entries.{Entry}
 use Rattle.hc_model.specs.Exchanges.{family}

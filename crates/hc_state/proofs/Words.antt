@@ -1,8 +1,7 @@
 -- Small facts on tests, options and numbers.
-use Rattle.std.proofs.Common.{◌≡◌, ◌≢◌, ◌⊎◌, inl, inr, ℕ, ◌+◌, ◌<◌, ◌≤◌, ◌^◌, Bool, true, false, cond, eqb, Option, Some, None, Result, Ok, Err, refl, sym, ◌∙◌, arith}
-use Rattle.std.proofs.lemmas.Bool.Decides.{nat_tests, eqb_tells}
-use Rattle.std.specs.Prelude.{is_some, IsSomeAnd, OnOk, OnErr, ◌||◌, ◌&&◌}
-use Rattle.hc_text.proofs.Basics.{eqb-other, eqb-same, false_true, none_of, never_true as not_true, both_false as or_false, same_or, same_some as same_row, some_inj as some_is, and_off as then_false}
+use Rattle.std.proofs.Common.{◌≡◌, ◌≢◌, ◌⊎◌, ℕ, ◌+◌, ◌<◌, ◌≤◌, ◌^◌, Bool, true, false, cond, Option, Some, None, Result, Ok, Err, refl, sym, ◌∙◌, arith}
+use Rattle.std.specs.Prelude.{is_some, IsSomeAnd, OnOk, ◌||◌, ◌&&◌}
+use Rattle.hc_text.proofs.Basics.{false_true}
 
 pub none_some : {A P : Type 0} (a : A) → None ≡ Some a → P
 none_some a h = absurd (let never : None ≡ Some a = h in cc)

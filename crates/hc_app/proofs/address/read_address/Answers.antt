@@ -1,5 +1,4 @@
-use Rattle.std.proofs.Common.{refl}
-use Rattle.hc_app.proofs.Addressing.{Never, if_none, off_two, off_three, off_four, off_port, address_is}
+use Rattle.hc_app.proofs.Addressing.{Never, if_none, off_two, off_three, off_four, off_port}
 use Rattle.hc_app.proofs.address.read_address.Goals as goal
 
 pub returns-in_err-two-clause-none : goal.returns-in_err-two-clause-none

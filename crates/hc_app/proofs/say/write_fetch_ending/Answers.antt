@@ -1,4 +1,3 @@
-use Rattle.std.proofs.Common.{refl}
 use Rattle.hc_app.proofs.say.write_fetch_ending.Goals as goal
 
 pub returns-in-Unfinished : goal.returns-in-Unfinished

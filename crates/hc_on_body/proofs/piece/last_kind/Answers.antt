@@ -1,4 +1,4 @@
-use Rattle.std.proofs.Common.{◌≡◌, ◌+◌, nat_eq, true, Some, refl, ap, ◌∙◌}
+use Rattle.std.proofs.Common.{◌≡◌, ◌+◌, nat_eq, true, Some, ap, ◌∙◌}
 use Rattle.hc_text.proofs.Basics.{eqb-same}
 use Rattle.hc_exch.specs.Known.{is_all}
 use Rattle.hc_state.specs.Pieces.{ends}

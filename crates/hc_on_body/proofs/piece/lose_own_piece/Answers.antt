@@ -1,4 +1,4 @@
-use Rattle.std.proofs.Common.{refl, ◌∙◌, ap}
+use Rattle.std.proofs.Common.{refl, ◌∙◌}
 use Rattle.hc_exch.specs.Exchanges.{table_of}
 use Rattle.hc_on_body.proofs.LosePiece.{own_stands}
 use Rattle.hc_on_leave.proofs.StoreArm.{accepted_open}

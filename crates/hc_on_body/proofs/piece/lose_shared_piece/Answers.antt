@@ -1,5 +1,5 @@
-use Rattle.std.proofs.Common.{◌≡◌, inl, inr, Bool, true, false, length, refl, ◌∙◌, sym, ap, subst}
-use Rattle.std.specs.Prelude.{not, is_some, is_none}
+use Rattle.std.proofs.Common.{◌≡◌, inl, inr, Bool, true, false, refl, ◌∙◌, sym, ap, subst}
+use Rattle.std.specs.Prelude.{not, is_some}
 use Rattle.hc_event.specs.Acts.{act_list}
 use Rattle.hc_exch.specs.Exchanges.{table_of, Becomes}
 use Rattle.hc_exch.specs.Known.{with_piece}

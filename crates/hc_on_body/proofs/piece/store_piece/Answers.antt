@@ -1,4 +1,4 @@
-use Rattle.std.proofs.Common.{◌≡◌, ℕ, ◌+◌, length, false, Option, Some, refl, ap, sym, ◌∙◌, subst, arith}
+use Rattle.std.proofs.Common.{◌≡◌, ◌+◌, length, false, Option, Some, refl, ap, sym, ◌∙◌, subst, arith}
 use Rattle.hc_sparse.specs.Cells.{size}
 use Rattle.hc_event.specs.Acts.{act_list, spare}
 use Rattle.hc_rules.specs.declared.room.Write.TheVariants as write
@@ -17,7 +17,7 @@ use Rattle.hc_text.proofs.Basics.{same_some as same_row}
 use Rattle.hc_on_body.proofs.FewActs.{has_few, leaves_two}
 use Rattle.hc_on_leave.proofs.PieceArm.{ends_below}
 use Rattle.hc_on_leave.proofs.RefusedPiece.{refused_by}
-use Rattle.hc_on_leave.proofs.StoreArm.{kept_of, kept_mid, absent_mid, answered_mid, refused_mid, front_mid}
+use Rattle.hc_on_leave.proofs.StoreArm.{kept_of, kept_mid, absent_mid, answered_mid, refused_mid}
 use Rattle.hc_on_body.proofs.piece.store_piece.Goals as goal
 
 pub make_room-requires : goal.make_room-requires

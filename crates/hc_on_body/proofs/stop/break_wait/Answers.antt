@@ -1,4 +1,4 @@
-use Rattle.std.proofs.Common.{nat_eq, refl, ap, sym, ◌∙◌}
+use Rattle.std.proofs.Common.{nat_eq, refl, ◌∙◌}
 use Rattle.std.specs.HashMap.{get}
 use Rattle.hc_event.specs.declared.act.Cause.TheVariants as cause
 use Rattle.hc_state.specs.Leaving.{LeavesPlace}

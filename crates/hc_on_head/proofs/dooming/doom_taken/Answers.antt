@@ -1,4 +1,4 @@
-use Rattle.std.proofs.Common.{None, refl, subst}
+use Rattle.std.proofs.Common.{None, subst}
 use Rattle.hc_event.specs.Acts.{act_list}
 use Rattle.hc_state.specs.Dooms.{IsDoomed}
 use Rattle.hc_on_head.proofs.DoomingArms.{past_place, accepted_then, good_then, dooming_taken}

@@ -1,4 +1,4 @@
-use Rattle.std.proofs.Common.{nat_eq, None, subst, sym, ◌∙◌, ap}
+use Rattle.std.proofs.Common.{nat_eq, None, subst, ◌∙◌}
 use Rattle.std.specs.HashMap.{get}
 use Rattle.hc_state.specs.Changes.{BecomesAt}
 use Rattle.hc_state.specs.Leaving.{LeavesPlace}

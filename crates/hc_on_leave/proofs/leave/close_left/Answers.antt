@@ -1,4 +1,3 @@
-use Rattle.std.proofs.Common.{Some, refl}
 use Rattle.hc_event.specs.Acts.{act_list}
 use Rattle.hc_state.proofs.CloseArm.{has_left}
 use Rattle.hc_state.proofs.LeftAlone.{once_left, leave_stops}

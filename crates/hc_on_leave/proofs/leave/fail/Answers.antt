@@ -1,9 +1,6 @@
-use Rattle.std.proofs.Common.{◌≡◌, ℕ, List, [], ◌∷◌, ◌++◌, true, Option, Some, None, refl, ap, sym, ◌∙◌, subst}
-use Rattle.std.specs.Prelude.{is_some, nat_eq}
-use Rattle.std.specs.HashMap.{get}
+use Rattle.std.proofs.Common.{◌≡◌, [], ◌∷◌, ◌++◌, ◌∙◌}
 use Rattle.hc_event.specs.Acts.{act_list}
 use Rattle.hc_stored.specs.Entries.{shelf_of}
-use Rattle.hc_exch.specs.Exchanges.{table_of}
 use Rattle.hc_on_leave.proofs.LeaveArms.{fail_answered}
 use Rattle.hc_on_leave.proofs.leave.fail.Goals as goal
 

@@ -1,10 +1,4 @@
-use Rattle.std.proofs.Common.{◌≡◌, ℕ, List, [], ◌∷◌, ◌++◌, true, Option, Some, None, refl, ap, sym, ◌∙◌, subst}
-use Rattle.std.specs.Prelude.{is_some, nat_eq}
-use Rattle.std.specs.HashMap.{get}
-use Rattle.hc_event.specs.Acts.{act_list}
-use Rattle.hc_stored.specs.Entries.{shelf_of}
-use Rattle.hc_exch.specs.Exchanges.{table_of}
-use Rattle.hc_state.specs.Arms.{IsDown}
+use Rattle.std.proofs.Common.{◌≡◌, [], ◌∷◌, ◌++◌, ◌∙◌}
 use Rattle.hc_on_leave.proofs.LeaveArms.{down_fails}
 use Rattle.hc_state.proofs.LeftRows.{down_row}
 use Rattle.hc_on_leave.proofs.leave.fail_down.Goals as goal

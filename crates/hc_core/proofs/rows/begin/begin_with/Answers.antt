@@ -1,7 +1,7 @@
-use Rattle.std.proofs.Common.{◌≡◌, ℕ, ◌<◌, List, length, get_or, ap, sym, ◌∙◌, subst, arith}
+use Rattle.std.proofs.Common.{◌≡◌, ◌<◌, List, length, get_or, ◌∙◌, subst}
 use Rattle.hc_contents.specs.declared.contents.Content as coded
-use Rattle.hc_contents.specs.PlainContents.{plain_contents, plain_item}
-use Rattle.hc_core.proofs.BegunItems.{item_fits, item_new, item_ends, item_small, item_light, one_more_kept, none_kept, all_kept, calm_ok}
+use Rattle.hc_contents.specs.PlainContents.{plain_contents}
+use Rattle.hc_core.proofs.BegunItems.{item_fits, item_new, item_ends, item_small, item_light, one_more_kept, none_kept, calm_ok}
 use Rattle.hc_core.proofs.rows.begin.begin_with.Goals as goal
 
 pub loop-item-init : goal.loop-item-init

@@ -1,7 +1,7 @@
-use Rattle.std.proofs.Common.{◌≡◌, ℕ, ◌+◌, ◌-◌, ◌≤◌, ◌<◌, ◌^◌, List, [], ◌∷◌, ◌++◌, length, true, None, Some, Option, refl, ap, sym, ◌∙◌, subst, arith}
+use Rattle.std.proofs.Common.{◌≡◌, ℕ, ◌+◌, ◌-◌, ◌≤◌, ◌<◌, ◌^◌, List, [], ◌∷◌, ◌++◌, length, None, Some, Option, refl, ap, sym, ◌∙◌, subst, arith}
 use Rattle.std.specs.Prelude.{is_some, IfSome}
 use Rattle.hc_text.proofs.Basics.{false_true}
-use Rattle.hc_sparse.specs.Cells.{Cells, EndsBy, IsNext}
+use Rattle.hc_sparse.specs.Cells.{Cells, IsNext}
 use Rattle.hc_sparse.specs.Stretch.{stretch, IsLongest}
 use Rattle.hc_sparse.specs.declared.run.Run.{Run}
 use Rattle.hc_sparse.proofs.StretchLemmas.{stretch-absent, stretch-longest}

@@ -17,15 +17,10 @@ use Rattle.hc_sparse.specs.Runs.{end_of}
 use Rattle.hc_sparse.specs.declared.run.Run.{Run}
 use Rattle.hc_sparse.proofs.CellLemmas.{inside-past}
 use Rattle.hc_sparse.proofs.SizeLemmas.{size-put}
-use Rattle.hc_rules.specs.declared.room.Limits.{Limits}
-use Rattle.hc_rules.specs.Rooms.{weight_of}
+use Rattle.hc_effects.proofs.Vocabulary.{Limits, weight_of, ascend_from, is_kind_right, is_good, are_good, says, has_own_numbers, weights_of, may_begin, has_right_head, Content, Contents, Representation, first_tables, representation_of_content, last_end, bytes_in}
 use Rattle.hc_stored.specs.Begun.{with_runs}
 use Rattle.hc_stored.specs.Kept.{Kept, kept_with_bytes}
 use Rattle.hc_stored.specs.Shelf.{Shelf, Becomes, is_kept, cells_in, cells_at, size_at, same_order}
-use Rattle.hc_model.specs.Beginnings.{ascend_from, is_kind_right, is_good, are_good, says, has_own_numbers, weights_of, may_begin, has_right_head}
-use Rattle.hc_model.specs.Entries.{Content, Contents}
-use Rattle.hc_model.specs.Rows.{Representation}
-use Rattle.hc_model.specs.Tables.{first_tables, representation_of_content, last_end, bytes_in}
 use Rattle.hc_effects.proofs.Basics.{or_false, append_none}
 use Rattle.hc_stored.specs.Entries.{shelf_of}
 use Rattle.hc_state.specs.declared.rows.Rows.{Rows}

@@ -18,13 +18,7 @@ use Rattle.hc_entry.specs.Keys.{kept_of}
 use Rattle.hc_exch.specs.Exchanges.{table_of, next_of}
 use Rattle.hc_exch.specs.Known.{unknown}
 use Rattle.hc_exch.specs.declared.row.Open.{Open}
-use Rattle.hc_model.specs.Beginnings.{ascend_from, is_kind_right}
-use Rattle.hc_model.specs.Currents.{current, is_usable}
-use Rattle.hc_model.specs.Entries.{Content, Contents}
-use Rattle.hc_model.specs.Kinds.{kind_of}
-use Rattle.hc_model.specs.Reading.{bound}
-use Rattle.hc_model.specs.Rows.{Tables, Representation}
-use Rattle.hc_model.specs.Tables.{first_tables, representation_of_content, numbers, last_end}
+use Rattle.hc_effects.proofs.Vocabulary.{ascend_from, is_kind_right, current, is_usable, Content, Contents, kind_of, bound, Tables, Representation, first_tables, representation_of_content, numbers, last_end}
 use Rattle.hc_state.specs.declared.rows.Rows.{Rows}
 use Rattle.hc_state.specs.declared.consumer.Consumer.{Consumer}
 use Rattle.hc_state.specs.Kept.{KeepsConsumer, KeepsExchange, KeepsRunning}

@@ -12,14 +12,9 @@ use Rattle.hc_record.specs.declared.kind.Kind.{Kind}
 use Rattle.hc_record.specs.declared.kind.Kind.TheVariants as kind
 use Rattle.hc_stored.specs.Begun.{with_runs}
 use Rattle.hc_stored.specs.Kept.{Kept, kept_with_bytes}
-use Rattle.hc_model.specs.Beginnings.{ascend_from, kind_of_runs, same_kind, is_kind_right}
-use Rattle.hc_model.specs.Contents.{runs_from}
-use Rattle.hc_model.specs.Entries.{Content, Contents}
-use Rattle.hc_model.specs.Holes.{covers}
+use Rattle.hc_effects.proofs.Vocabulary.{ascend_from, kind_of_runs, same_kind, is_kind_right, runs_from, Content, Contents, covers, kind_of, is_front, last_end, bytes_in, representation_of_content}
 use Rattle.hc_model.specs.Kinds as kinds
-use Rattle.hc_model.specs.Kinds.{kind_of, is_front}
 use Rattle.hc_model.specs.Tables as tables
-use Rattle.hc_model.specs.Tables.{last_end, bytes_in, representation_of_content}
 use Rattle.hc_laws.proofs.Begins.{ends_all}
 use Rattle.hc_effects.proofs.HoleLemmas.{covers_all}
 use Rattle.hc_laws.proofs.KindsLeft.{kind_by, kind_right, count_is, last_is}

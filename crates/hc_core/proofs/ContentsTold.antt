@@ -11,18 +11,8 @@ use Rattle.hc_stored.specs.Kept.{Kept}
 use Rattle.hc_stored.specs.Shelf as shelves
 use Rattle.hc_stored.specs.Shelf.{Shelf, Stays, idle, cells_at, cells_in}
 use Rattle.hc_stored.specs.Views.{key_in}
-use Rattle.hc_model.specs.Beginnings.{may_begin}
-use Rattle.hc_model.specs.Runs.{IsRun}
-use Rattle.hc_model.specs.Contents.{content_of, content_at, contents_of, idle_now, is_idle, runs_from}
-use Rattle.hc_model.specs.Currents.{current, is_current}
-use Rattle.hc_model.specs.Entries.{Content, Contents, History}
-use Rattle.hc_model.specs.Kinds.{kind_of}
-use Rattle.hc_model.specs.Laws.{IsInLimits}
-use Rattle.hc_model.specs.Reading.{bound}
-use Rattle.hc_model.specs.Lawful.{Lawful}
-use Rattle.hc_model.specs.Rows.{Tables, Representation}
-use Rattle.hc_model.specs.Sound.{IsStored}
-use Rattle.hc_model.specs.Tables.{tables}
+use Rattle.hc_effects.proofs.Vocabulary.{may_begin, IsRun, content_of, content_at, contents_of, idle_now, runs_from, current, is_current, Content, Contents, History, kind_of, IsInLimits, bound, Lawful, Tables, Representation, IsStored, tables}
+use Rattle.hc_model.specs.Contents.{is_idle}
 use Rattle.hc_effects.proofs.Basics.{number_is, same_functions}
 use Rattle.hc_laws.proofs.RunsWithinLimits.{heads_come_within_limits}
 use Rattle.hc_laws.proofs.LeavesGood.{leaves_good}

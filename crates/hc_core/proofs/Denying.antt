@@ -8,10 +8,7 @@ use Rattle.hc_entry.specs.Keys.{kept_of}
 use Rattle.hc_entry.specs.Kept.{nothing}
 use Rattle.hc_exch.specs.Exchanges.{table_of, next_of}
 use Rattle.hc_exch.specs.Known.{unknown}
-use Rattle.hc_model.specs.Currents.{current}
-use Rattle.hc_model.specs.Entries.{Entry, no_contents}
-use Rattle.hc_model.specs.Rows.{Tables}
-use Rattle.hc_model.specs.Tables.{first_tables, after_denied, received_in}
+use Rattle.hc_effects.proofs.Vocabulary.{current, Entry, no_contents, Tables, first_tables, after_denied, received_in}
 use Rattle.hc_state.specs.declared.rows.Rows.{Rows}
 use Rattle.hc_state.specs.Stands.{RowsStand}
 use Rattle.hc_state.proofs.Counting.{stands_recounted}

@@ -4,11 +4,7 @@ use Rattle.std.specs.Prelude.{find, option_map, ◌==◌}
 use Rattle.hc_text.proofs.Basics.{some_inj as some_is}
 use Rattle.hc_record.specs.Head.{Head}
 use Rattle.hc_record.specs.declared.kind.Kind.TheVariants as kind
-use Rattle.hc_model.specs.Entries.{Entry, Content, Contents}
-use Rattle.hc_model.specs.Keys.{entry_of}
-use Rattle.hc_model.specs.Laws.{OfRuns}
-use Rattle.hc_model.specs.Rows.{Tables, Representation}
-use Rattle.hc_model.specs.Tables.{first_tables, representation_of_content}
+use Rattle.hc_effects.proofs.Vocabulary.{Entry, Content, Contents, entry_of, OfRuns, Tables, Representation, first_tables, representation_of_content}
 use Rattle.hc_laws.proofs.HeadFrom.{HeadFrom, head_from}
 use Rattle.hc_laws.proofs.HeadFrom as from
 use Rattle.hc_effects.proofs.RepFrom.{RepFrom, rep_from}

@@ -9,12 +9,7 @@ use Rattle.hc_stored.specs.Entries.{shelf_of}
 use Rattle.hc_stored.specs.Views.{view_of}
 use Rattle.hc_entry.specs.Keys.{kept_of, line_of}
 use Rattle.hc_entry.specs.Lines.{turn_of}
-use Rattle.hc_model.specs.Currents.{current}
-use Rattle.hc_model.specs.Entries.{Contents, History}
-use Rattle.hc_model.specs.Kinds.{kind_of, kind_at, kind_for}
-use Rattle.hc_model.specs.Lines.{turn}
-use Rattle.hc_model.specs.Rows.{Tables}
-use Rattle.hc_model.specs.Tables.{tables}
+use Rattle.hc_effects.proofs.Vocabulary.{current, Contents, History, kind_of, kind_at, kind_for, turn, Tables, tables}
 use Rattle.hc_laws.proofs.SoundRuns.{runs_are_sound}
 use Rattle.hc_state.proofs.CurrentTies.{IsNow, now_kept}
 use Rattle.hc_state.proofs.TurnTies.{turn_of_is}

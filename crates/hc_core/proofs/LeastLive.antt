@@ -6,9 +6,7 @@ use Rattle.std.specs.Set.{is_member}
 use Rattle.std.proofs.lemmas.Bool.Decides.{nat_tests}
 use Rattle.std.proofs.lemmas.Map.Entries.{length-keys_of}
 use Rattle.std.proofs.lemmas.Map.Made.{is_some-lookup}
-use Rattle.hc_model.specs.Denials.{is_live}
-use Rattle.hc_model.specs.Entries.{Contents, History}
-use Rattle.hc_model.specs.Tables.{tables}
+use Rattle.hc_effects.proofs.Vocabulary.{is_live, Contents, History, tables}
 use Rattle.hc_state.proofs.Ties.{kept_lives}
 use Rattle.hc_store.specs.declared.backend.Backend.{Ghosts}
 use Rattle.hc_core.specs.Steps.{StandsFor, IsLeastLive, live_in}

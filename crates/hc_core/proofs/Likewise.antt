@@ -10,7 +10,7 @@ use Rattle.hc_sparse.specs.Cells.{EndsBy}
 use Rattle.hc_sparse.specs.Runs.{cells_of}
 use Rattle.hc_record.specs.Head.{sealed_head}
 use Rattle.hc_record.specs.declared.kind.Kind.TheVariants as kinds
-use Rattle.hc_rules.specs.declared.room.Limits.{Limits}
+use Rattle.hc_effects.proofs.Vocabulary.{Limits, is_disabled, is_only, may_begin, are_good, is_good, ascend_from, is_kind_right, content_of, content_at, contents_of, idle_now, current, is_current, is_number, live, Content, Contents, is_open, is_in_line, holds_turn, bound, Lawful, Measures, Tables, Exchange, Representation, Among, Sound, first_tables, representation_of_content, numbers, last_end, tables}
 use Rattle.hc_stored.specs.Entries.{shelf_of}
 use Rattle.hc_stored.specs.Kept.{Kept}
 use Rattle.hc_entry.specs.Kept as keyed
@@ -18,22 +18,9 @@ use Rattle.hc_entry.specs.Keys.{kept_of}
 use Rattle.hc_exch.specs.Exchanges.{table_of, next_of}
 use Rattle.hc_exch.specs.Known.{Known}
 use Rattle.hc_exch.specs.declared.row.Open.{Open}
-use Rattle.hc_rules.specs.Requests.{is_disabled, is_only}
 use Rattle.hc_event.specs.declared.place.Place.TheVariants as place
-use Rattle.hc_model.specs.Beginnings.{may_begin, are_good, is_good, ascend_from, is_kind_right}
-use Rattle.hc_model.specs.Contents.{content_of, content_at, contents_of, idle_now, is_idle}
-use Rattle.hc_model.specs.Currents.{current, is_current, is_number}
-use Rattle.hc_model.specs.Denials.{live}
-use Rattle.hc_model.specs.Entries.{Content, Contents}
-use Rattle.hc_model.specs.Exchanges.{is_open}
-use Rattle.hc_model.specs.Lines.{is_in_line, holds_turn}
-use Rattle.hc_model.specs.Reading.{bound}
+use Rattle.hc_model.specs.Contents.{is_idle}
 use Rattle.hc_model.specs.Rows as rows
-use Rattle.hc_model.specs.Lawful.{Lawful}
-use Rattle.hc_model.specs.Measures.{Measures}
-use Rattle.hc_model.specs.Rows.{Tables, Exchange, Representation}
-use Rattle.hc_model.specs.Sound.{Among, Sound}
-use Rattle.hc_model.specs.Tables.{first_tables, representation_of_content, numbers, last_end, tables}
 use Rattle.hc_effects.proofs.Basics.{number_is}
 use Rattle.hc_effects.proofs.Closed.{among_filter}
 use Rattle.hc_effects.proofs.CurrentKeeps.{current_is}

@@ -2,15 +2,9 @@
 use Rattle.std.proofs.Common.{◌≡◌, ℕ, [], ◌∷◌, Bool, true, false, Option, Some, None, refl, ap, sym, ◌∙◌}
 use Rattle.std.specs.Prelude.{is_some, filter}
 use Rattle.hc_text.proofs.Basics.{false_true, none_long, never_true as not_true}
-use Rattle.hc_event.specs.declared.place.Place.{Place}
+use Rattle.hc_effects.proofs.Vocabulary.{Place, live, is_live, is_live_place, is_open, family, Lawful, bound, is_bound, Tables, Exchange, Representation, Consumer, IsSomebodys, may_own}
 use Rattle.hc_event.specs.declared.place.Place.TheVariants as place
-use Rattle.hc_model.specs.Denials.{live, is_live, is_live_place}
-use Rattle.hc_model.specs.Exchanges.{is_open, family}
-use Rattle.hc_model.specs.Lawful.{Lawful}
-use Rattle.hc_model.specs.Reading.{bound, is_bound}
-use Rattle.hc_model.specs.Rows.{Tables, Exchange, Representation, Consumer}
 use Rattle.hc_model.specs.Sound as sound
-use Rattle.hc_model.specs.Whose.{IsSomebodys, may_own}
 use Rattle.hc_model.specs.Whose as whose
 use Rattle.hc_effects.proofs.ExclusiveWriters.{filter_some}
 use Rattle.hc_state.specs.Kept.{held_for, held_of, held_alone, unread, unstored_bytes}

@@ -1,21 +1,9 @@
 -- An event that is answered opens one exchange at most.
 use Rattle.std.proofs.Common.{◌≡◌, ℕ, ◌+◌, ◌<◌, ◌≤◌, ◌^◌, List, [], ◌∷◌, ◌++◌, Option, Some, None, refl, ap, sym, ◌∙◌, arith}
 use Rattle.hc_store.specs.declared.backend.Backend.{Ghosts}
-use Rattle.hc_event.specs.declared.act.Act.{Act}
+use Rattle.hc_effects.proofs.Vocabulary.{Act, Refusal, Event, Limits, refusal_of, accepted_acts, denial, Opening, opening_in, Flaw, entry_of, Tables, Sound, after_accepted, opened_after}
 use Rattle.hc_event.specs.declared.act.Act.TheVariants as act
-use Rattle.hc_event.specs.declared.act.Refusal.{Refusal}
-use Rattle.hc_event.specs.declared.event.Event.{Event}
-use Rattle.hc_rules.specs.declared.room.Limits.{Limits}
-use Rattle.hc_rules.specs.Refusals.{refusal_of}
 use Rattle.hc_exch.specs.Exchanges.{next_of}
-use Rattle.hc_model.specs.Answers.{accepted_acts}
-use Rattle.hc_model.specs.Denials.{denial}
-use Rattle.hc_event.specs.Filters.{Opening, opening_in}
-use Rattle.hc_model.specs.Flaws.{Flaw}
-use Rattle.hc_model.specs.Keys.{entry_of}
-use Rattle.hc_model.specs.Rows.{Tables}
-use Rattle.hc_model.specs.Sound.{Sound}
-use Rattle.hc_model.specs.Tables.{after_accepted, opened_after}
 use Rattle.hc_effects.proofs.NumbersKeep.{opens_next}
 use Rattle.hc_state.specs.declared.rows.Rows.{Rows}
 use Rattle.hc_state.specs.Good.{StandsUntil}

@@ -7,7 +7,7 @@ use Rattle.hc_text.proofs.Basics.{and_left, and_right, eqb-same, false_true, lt_
 use Rattle.hc_sparse.specs.Cells.{Cells, Cell, EndsBy, AreAbsent, IsNext}
 use Rattle.hc_sparse.specs.Stretch.{IsLongest}
 use Rattle.hc_sparse.specs.declared.run.Run.{Run}
-use Rattle.hc_model.specs.Contents.{run_from, with_cell, with_place, runs_from}
+use Rattle.hc_effects.proofs.Vocabulary.{run_from, with_cell, with_place, runs_from}
 use Rattle.hc_effects.proofs.Basics.{append_none}
 use Rattle.hc_state.proofs.Words.{none_some}
 

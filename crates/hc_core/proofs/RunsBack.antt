@@ -8,7 +8,7 @@ use Rattle.hc_sparse.specs.Cells.{Cells, Cell, EndsBy, inside}
 use Rattle.hc_sparse.specs.Runs.{cells_of}
 use Rattle.hc_sparse.specs.declared.run.Run.{Run}
 use Rattle.hc_sparse.proofs.CellLemmas.{inside-yes, inside-before, inside-past, inside-cases}
-use Rattle.hc_model.specs.Contents.{run_from, with_cell, with_place, runs_from}
+use Rattle.hc_effects.proofs.Vocabulary.{run_from, with_cell, with_place, runs_from}
 
 -- ONE MORE IN FRONT
 

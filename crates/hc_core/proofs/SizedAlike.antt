@@ -8,14 +8,9 @@ use Rattle.std.proofs.lemmas.Bool.Decides.{nat_tests}
 use Rattle.std.specs.Prelude.{is_some, nat_eq, nat_le}
 use Rattle.hc_store.specs.declared.backend.Backend.{Ghosts}
 use Rattle.hc_sparse.specs.Cells.{Cell, Cells, EndsBy, size, size_below}
-use Rattle.hc_rules.specs.declared.room.Limits.{Limits}
+use Rattle.hc_effects.proofs.Vocabulary.{Limits, Lawful, AreSized, Numbers, Tables, Representation, Sizes}
 use Rattle.hc_stored.specs.Entries.{shelf_of}
 use Rattle.hc_stored.specs.Kept.{Kept}
-use Rattle.hc_model.specs.Lawful.{Lawful}
-use Rattle.hc_model.specs.LettingGo.{AreSized}
-use Rattle.hc_model.specs.Numbers.{Numbers}
-use Rattle.hc_model.specs.Rows.{Tables, Representation}
-use Rattle.hc_model.specs.Sizes.{Sizes}
 use Rattle.hc_laws.proofs.Positions.{below_past}
 use Rattle.hc_state.specs.declared.rows.Rows.{Rows}
 use Rattle.hc_state.specs.Stands.{RowsStand}

@@ -4,17 +4,8 @@ use Rattle.std.specs.Prelude.{is_some}
 use Rattle.hc_text.proofs.Basics.{false_true}
 use Rattle.hc_stored.specs.Entries.{shelf_of}
 use Rattle.hc_store.specs.declared.backend.Backend.{Ghosts}
-use Rattle.hc_event.specs.declared.event.Response.{Response}
+use Rattle.hc_effects.proofs.Vocabulary.{Response, Limits, may_begin, Contents, History, front, Lawful, AreSized, Exchange, IsRun, tables}
 use Rattle.hc_sparse.specs.Cells.{Cells, Covers, size}
-use Rattle.hc_rules.specs.declared.room.Limits.{Limits}
-use Rattle.hc_model.specs.Beginnings.{may_begin}
-use Rattle.hc_model.specs.Entries.{Contents, History}
-use Rattle.hc_model.specs.Exchanges.{front}
-use Rattle.hc_model.specs.Lawful.{Lawful}
-use Rattle.hc_model.specs.LettingGo.{AreSized}
-use Rattle.hc_model.specs.Rows.{Exchange}
-use Rattle.hc_model.specs.Runs.{IsRun}
-use Rattle.hc_model.specs.Tables.{tables}
 use Rattle.hc_laws.proofs.AloneRuns.{alone_in_runs}
 use Rattle.hc_effects.proofs.Beside.{goes_on_at}
 use Rattle.hc_laws.proofs.RunsWithinLimits.{requests_are_within_limits}

@@ -8,40 +8,22 @@ use Rattle.std.specs.Prelude.{nat_eq, ◌||◌, drop, if◌then◌else◌}
 use Rattle.std.specs.HashMap.{get, hash_map_len}
 use Rattle.hc_text.proofs.Basics.{or_right as or_second}
 use Rattle.hc_store.specs.declared.backend.Backend.{Ghosts}
-use Rattle.hc_event.specs.Filters.{is_denied}
-use Rattle.hc_event.specs.declared.event.Event.{Event}
+use Rattle.hc_effects.proofs.Vocabulary.{is_denied, Event, Act, Refusal, Limits, refusal_of, answer, accepted_acts, denied_or, may_begin, denial, Entry, History, Contents, no_contents, Flaw, NoFlaw, flaw_in, AreSized, HasFieldsWithinLimits, HasTarget, AreShort, Tables, IsRun, IsOwed, may_stand, may_be, tables, last_start_after, received_in, after, after_accepted, after_denied, IsEventWithinLimits, is_fault, failures_in}
 use Rattle.hc_event.specs.declared.event.Event.TheVariants as event
-use Rattle.hc_event.specs.declared.act.Act.{Act}
 use Rattle.hc_event.specs.declared.act.Act.TheVariants as act
-use Rattle.hc_event.specs.declared.act.Refusal.{Refusal}
-use Rattle.hc_rules.specs.declared.room.Limits.{Limits}
-use Rattle.hc_rules.specs.Refusals.{refusal_of}
 use Rattle.hc_exch.specs.Exchanges.{table_of, next_of}
 use Rattle.hc_exch.specs.Known.{unknown}
 use Rattle.hc_stored.specs.Entries.{shelf_of}
 use Rattle.hc_entry.specs.Keys.{kept_of}
 use Rattle.hc_entry.specs.Kept.{nothing}
-use Rattle.hc_model.specs.Answers.{answer, accepted_acts, denied_or}
-use Rattle.hc_model.specs.Beginnings.{may_begin}
-use Rattle.hc_model.specs.Denials.{denial}
-use Rattle.hc_model.specs.Entries.{Entry, History, Contents, no_contents}
-use Rattle.hc_model.specs.Flaws.{Flaw, NoFlaw, flaw_in}
-use Rattle.hc_model.specs.LettingGo.{AreSized}
-use Rattle.hc_model.specs.WithinLimits.{HasFieldsWithinLimits, HasTarget}
-use Rattle.hc_model.specs.Numbers.{AreShort}
-use Rattle.hc_model.specs.Rows.{Tables}
-use Rattle.hc_model.specs.Runs.{IsRun, IsOwed, may_stand, may_be}
-use Rattle.hc_model.specs.Tables.{tables, last_start_after, received_in, after, after_accepted, after_denied}
 use Rattle.hc_laws.proofs.Barred.{next_tables, denied_tables}
 use Rattle.hc_laws.proofs.ChainRuns.{chains_in_runs}
 use Rattle.hc_laws.proofs.GivesStored.{gives_stored_in_runs}
 use Rattle.hc_laws.proofs.InRuns.{delivers_in_runs, turns_in_runs, dooms_in_runs, binds_in_runs}
 use Rattle.hc_laws.proofs.StoresGrow.{stores_grow_in_runs}
 use Rattle.hc_laws.proofs.TruthRuns.{truth_in_runs}
-use Rattle.hc_event.specs.WithinLimits.{IsEventWithinLimits}
 use Rattle.hc_state.specs.declared.rows.Rows.{Rows}
 use Rattle.hc_state.specs.Stands.{RowsStand, StandsForSome, Answers, gate_of}
-use Rattle.hc_model.specs.Flaws.{is_fault}
 use Rattle.hc_state.specs.Facts.{Facts}
 use Rattle.hc_state.specs.Good.{StandsUntil, StandsAt}
 use Rattle.hc_on_leave.proofs.Gates.{denies_as}
@@ -54,7 +36,6 @@ use Rattle.hc_laws.proofs.FromNothing.{begins_well}
 use Rattle.hc_core.proofs.Denying.{stands_denied, stands_begun}
 use Rattle.hc_core.specs.declared.cache.Cache.{Cache}
 use Rattle.hc_core.specs.Steps.{StandsFor, Steps, KeepsPromises}
-use Rattle.hc_model.specs.Flaws.{failures_in}
 
 -- THE BEGINNING
 

@@ -6,9 +6,7 @@ use Rattle.hc_stored.specs.Entries.{shelf_of}
 use Rattle.hc_store.specs.declared.backend.Backend.{Ghosts}
 use Rattle.hc_exch.specs.declared.row.Open.{Open}
 use Rattle.hc_exch.specs.Exchanges.{table_of}
-use Rattle.hc_model.specs.Rows.{Tables}
-use Rattle.hc_model.specs.StoredHeads.{StoredHeads}
-use Rattle.hc_model.specs.Tables.{tables}
+use Rattle.hc_effects.proofs.Vocabulary.{Tables, StoredHeads, tables}
 use Rattle.hc_state.specs.declared.rows.Rows.{Rows}
 use Rattle.hc_state.specs.Good.{StandsUntil}
 use Rattle.hc_state.specs.Heads.{IsTimely}

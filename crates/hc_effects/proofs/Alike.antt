@@ -1,30 +1,11 @@
 -- Two entries of one event whose acts say the same but for what makes room do the same but for that.
 use Rattle.std.proofs.Common.{◌≡◌, ℕ, List, [], ◌∷◌, ◌++◌, Bool, Option, Some, None, refl, ap, ◌∙◌}
 use Rattle.std.specs.Prelude.{map, ◌==◌, ◌||◌, ◌&&◌, not, if◌then◌else◌}
-use Rattle.hc_event.specs.Filters.{Opening, opening_in, asks_in, closes_in, shows_in, given_in, leaves_in}
-use Rattle.hc_event.specs.declared.act.Act.{Act}
+use Rattle.hc_effects.proofs.Vocabulary.{Opening, opening_in, asks_in, closes_in, shows_in, given_in, leaves_in, Act, Event, Response, HeadCase, Place, loses_in, has_loss, misreads_in, fails_in, wait_in, showing_in, case_at, case_of, consumer_heard, by_head, becomes_shared, is_resumed, waiting, by_opening, own_after, left_to, consumer_acted, row_of, is_current, doomed_key_of, doomed_in, doomed_by_head, doomed_by_case, bypass_key, bypassed_by, is_key, Entry, exchange_after, exchange_heard, exchange_acted, exchange_made, exchange_at, family, becomes_due, cause_of_loss, cause_by_loss, cause_of_head, goes_by_case, goes_by_exchange, ends_founding, is_keepable, goes_itself, representation_heard, representation_after_head, representation_after_piece, founded_at, Tables, Exchange, Representation, Consumer, founds, binds, written_in, head_writes, first_found, sealed_representation, seals_at, sealed_by, is_sealed, stops}
 use Rattle.hc_event.specs.declared.act.Act.TheVariants as act
-use Rattle.hc_event.specs.declared.event.Event.{Event}
 use Rattle.hc_event.specs.declared.event.Event.TheVariants as event
-use Rattle.hc_event.specs.declared.event.Response.{Response}
-use Rattle.hc_rules.specs.declared.heads.HeadCase.{HeadCase}
 use Rattle.hc_rules.specs.declared.heads.HeadCase.TheVariants as case
-use Rattle.hc_event.specs.declared.place.Place.{Place}
 use Rattle.hc_event.specs.declared.place.Place.TheVariants as place
-use Rattle.hc_model.specs.ActFilters.{loses_in, has_loss, misreads_in, fails_in, wait_in, showing_in}
-use Rattle.hc_model.specs.Cases.{case_at, case_of}
-use Rattle.hc_model.specs.ConsumerRows.{consumer_heard, by_head, becomes_shared, is_resumed, waiting, by_opening, own_after, left_to, consumer_acted}
-use Rattle.hc_model.specs.Currents.{row_of, is_current}
-use Rattle.hc_model.specs.Dooms.{doomed_key_of, doomed_in, doomed_by_head, doomed_by_case, bypass_key, bypassed_by, is_key}
-use Rattle.hc_model.specs.Entries.{Entry}
-use Rattle.hc_model.specs.ExchangeRows.{exchange_after, exchange_heard, exchange_acted, exchange_made}
-use Rattle.hc_model.specs.Exchanges.{exchange_at, family}
-use Rattle.hc_model.specs.Failures.{becomes_due, cause_of_loss, cause_by_loss, cause_of_head}
-use Rattle.hc_model.specs.Gone.{goes_by_case, goes_by_exchange, ends_founding, is_keepable, goes_itself}
-use Rattle.hc_model.specs.RepresentationRows.{representation_heard, representation_after_head, representation_after_piece, founded_at}
-use Rattle.hc_model.specs.Rows.{Tables, Exchange, Representation, Consumer}
-use Rattle.hc_model.specs.Tables.{founds, binds}
-use Rattle.hc_model.specs.Writes.{written_in, head_writes, first_found, sealed_representation, seals_at, sealed_by, is_sealed, stops}
 
 -- the acts say the same but for what makes room
 pub record AreAlike (a b : List Act) : Type 0 where

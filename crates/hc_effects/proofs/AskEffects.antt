@@ -3,16 +3,7 @@ use Rattle.std.proofs.Common.{◌≡◌, ℕ, [], Bool, true, false, Option, Som
 use Rattle.std.specs.Prelude.{◌==◌, ◌||◌, nat_eq, if◌then◌else◌, option_map}
 use Rattle.hc_text.proofs.Basics.{eqb-same, not_some as none_some, plus_none}
 use Rattle.hc_event.specs.declared.event.Event.TheVariants as event
-use Rattle.hc_rules.specs.declared.room.Limits.{Limits}
-use Rattle.hc_model.specs.ConsumerRows.{consumer_acted}
-use Rattle.hc_model.specs.Effects.{Does, with_event, to_bring, with_ask}
-use Rattle.hc_model.specs.Entries.{Entry}
-use Rattle.hc_model.specs.ExchangeRows.{exchange_after}
-use Rattle.hc_model.specs.Flaws.{NoFlaw}
-use Rattle.hc_model.specs.Lawful.{Lawful}
-use Rattle.hc_model.specs.Moves.{Asks, acts_of}
-use Rattle.hc_model.specs.Polls.{move_of}
-use Rattle.hc_model.specs.Rows.{Tables, Exchange, Consumer}
+use Rattle.hc_effects.proofs.Vocabulary.{Limits, consumer_acted, Does, with_event, to_bring, with_ask, Entry, exchange_after, NoFlaw, Lawful, Asks, acts_of, move_of, Tables, Exchange, Consumer}
 use Rattle.hc_effects.proofs.OfConsumers.{BringsNothing, brings_nothing, row_acted, binds_none}
 use Rattle.hc_effects.proofs.OfConsumers as event_of
 use Rattle.hc_effects.proofs.PollEffects.{none_waits, same_consumer, nothing_goes, poll_does}

@@ -3,7 +3,7 @@ use Rattle.std.proofs.Common.{◌≡◌, ◌⊎◌, ℕ, ◌<◌, ◌≤◌, Lis
 use Rattle.std.specs.Prelude.{is_some, ◌&&◌, ◌||◌, nat_eq}
 use Rattle.std.proofs.lemmas.Bool.Decides.{nat_tests}
 use Rattle.hc_text.proofs.Basics.{not_some as none_some}
-use Rattle.hc_model.specs.Currents.{is_number}
+use Rattle.hc_effects.proofs.Vocabulary.{is_number}
 
 -- TESTS
 

@@ -1,13 +1,9 @@
 -- Facts beside soundness, by which the detached reader stays sound: the exclusive writer has all up to where its exchange goes on, and all the rest where it has none; and who waits with the turn or is bound isn't past the store.
 use Rattle.std.proofs.Common.{◌≡◌, ℕ, Bool, true, false, Some, None}
 use Rattle.hc_sparse.specs.Cells.{Covers}
-use Rattle.hc_rules.specs.Requests.{is_disabled}
-use Rattle.hc_event.specs.declared.place.Place.{Place}
+use Rattle.hc_effects.proofs.Vocabulary.{is_disabled, Place, is_written, offset, Tables, Exchange, Representation, Consumer, IsBound, IsFirst, IsExclusiveWriter}
 use Rattle.hc_event.specs.declared.place.Place.TheVariants as place
 pub use Rattle.hc_model.specs.Fronts.{goes_on_at}
-use Rattle.hc_model.specs.Reading.{is_written, offset}
-use Rattle.hc_model.specs.Rows.{Tables, Exchange, Representation, Consumer}
-use Rattle.hc_model.specs.Sound.{IsBound, IsFirst, IsExclusiveWriter}
 use Rattle.hc_effects.proofs.Losses.{HasRest}
 
 -- it waits for its head with the turn, or is bound

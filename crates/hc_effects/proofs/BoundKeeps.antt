@@ -2,33 +2,14 @@
 use Rattle.std.proofs.Common.{◌≡◌, ℕ, true, false, Option, Some, None, refl, ap, sym, ◌∙◌, subst}
 use Rattle.std.specs.Prelude.{is_some}
 use Rattle.hc_text.proofs.Basics.{same_some as same_row}
-use Rattle.hc_event.specs.Filters.{Opening, opening_in}
-use Rattle.hc_event.specs.declared.event.Event.{Event}
+use Rattle.hc_effects.proofs.Vocabulary.{Opening, opening_in, Event, Response, HeadCase, Limits, BoundBy, Showing, showing_in, wait_in, case_at, is_founding, consumer_heard, by_opening, waiting, waiting_place, denial, Entry, Flaw, entry_of, reads, Tables, Exchange, Consumer, Sound, IsBound, after_accepted, Wait, Move, move_of}
 use Rattle.hc_event.specs.declared.event.Event.TheVariants as event
-use Rattle.hc_event.specs.declared.event.Response.{Response}
-use Rattle.hc_rules.specs.declared.heads.HeadCase.{HeadCase}
-use Rattle.hc_rules.specs.declared.room.Limits.{Limits}
-use Rattle.hc_event.specs.declared.place.BoundBy.{BoundBy}
-use Rattle.hc_model.specs.ActFilters.{Showing, showing_in, wait_in}
-use Rattle.hc_model.specs.Cases.{case_at, is_founding}
-use Rattle.hc_model.specs.ConsumerRows.{consumer_heard, by_opening, waiting, waiting_place}
-use Rattle.hc_model.specs.Denials.{denial}
-use Rattle.hc_model.specs.Entries.{Entry}
-use Rattle.hc_model.specs.Flaws.{Flaw}
-use Rattle.hc_model.specs.Keys.{entry_of}
-use Rattle.hc_model.specs.Reading.{reads}
-use Rattle.hc_model.specs.Rows.{Tables, Exchange, Consumer}
-use Rattle.hc_model.specs.Sound.{Sound, IsBound}
-use Rattle.hc_model.specs.Tables.{after_accepted}
 use Rattle.hc_model.specs.Sound as sound
 use Rattle.hc_effects.proofs.BoundFrom.{BoundFrom, IsFounded, bound_from}
 use Rattle.hc_effects.proofs.BoundFrom as from
 use Rattle.hc_effects.proofs.RepFrom.{stays, founds}
-use Rattle.hc_event.specs.declared.act.Wait.{Wait}
 use Rattle.hc_effects.proofs.Said.{ShowsBy, IsPoll, IsOpening, IsShowing, WaitsAs, opening_by, showing_by, waiting_by}
 use Rattle.hc_effects.proofs.Said as said
-use Rattle.hc_model.specs.Moves.{Move}
-use Rattle.hc_model.specs.Polls.{move_of}
 use Rattle.hc_effects.proofs.ShownFrom.{IsPlanned, ShownAs, shown_from}
 use Rattle.hc_effects.proofs.ShownFrom as shown
 

@@ -9,37 +9,11 @@ use Rattle.hc_range.specs.Spans.{resolved_span, IsInOrder}
 use Rattle.hc_range.specs.declared.range.Asked.{Asked}
 use Rattle.hc_range.specs.declared.range.Asked.TheVariants.{From, FromTo, Last}
 use Rattle.hc_range.specs.declared.range.Span.{Span}
-use Rattle.hc_event.specs.Filters.{opening_in, given_in, shows_in}
-use Rattle.hc_event.specs.declared.event.Event.{Event}
+use Rattle.hc_effects.proofs.Vocabulary.{opening_in, given_in, shows_in, Event, Request, Response, HeadCase, Limits, asked_in, spec_in, positions_from, positions_by, from_to, number_of, split_at, hyphen, overlong, piece_refusal, range_of, ranges_read, ranges_in, wanted_of, wanted_part, is_disabled, BoundBy, Showing, showing_in, case_at, consumer_heard, consumer_acted, consumer_made, consumer_after, by_opening, waiting, denial, as_open, Entry, Contents, promised_bytes, promise_of, Flaw, entry_of, Gives, Owners, move_of, reads, lo_of, hi_of, Tables, Exchange, Consumer, Sound, starts_over, first_tables, after_accepted, after_denied}
 use Rattle.hc_event.specs.declared.event.Event.TheVariants as event
-use Rattle.hc_event.specs.declared.event.Request.{Request}
-use Rattle.hc_event.specs.declared.event.Response.{Response}
-use Rattle.hc_rules.specs.declared.heads.HeadCase.{HeadCase}
 use Rattle.hc_rules.specs.declared.request.Wanted.TheVariants as wanted
-use Rattle.hc_rules.specs.declared.room.Limits.{Limits}
-use Rattle.hc_rules.specs.RangeTexts.{asked_in, spec_in, positions_from, positions_by, from_to, number_of, split_at, hyphen}
 use Rattle.hc_rules.specs.Refusals as refusals
-use Rattle.hc_rules.specs.Refusals.{overlong, piece_refusal}
-use Rattle.hc_rules.specs.Requests.{range_of, ranges_read, ranges_in, wanted_of, wanted_part, is_disabled}
-use Rattle.hc_event.specs.declared.place.BoundBy.{BoundBy}
 use Rattle.hc_event.specs.declared.place.Place.TheVariants as place
-use Rattle.hc_model.specs.ActFilters.{Showing, showing_in}
-use Rattle.hc_model.specs.Cases.{case_at}
-use Rattle.hc_model.specs.ConsumerRows.{consumer_heard, consumer_acted, consumer_made, consumer_after, by_opening, waiting}
-use Rattle.hc_model.specs.Denials.{denial, as_open}
-use Rattle.hc_model.specs.Entries.{Entry, Contents}
-use Rattle.hc_model.specs.Exchanges.{promised_bytes}
-use Rattle.hc_rules.specs.Lengths.{promise_of}
-use Rattle.hc_model.specs.Flaws.{Flaw}
-use Rattle.hc_model.specs.Keys.{entry_of}
-use Rattle.hc_model.specs.Moves.{Gives}
-use Rattle.hc_model.specs.Owners.{Owners}
-use Rattle.hc_model.specs.Polls.{move_of}
-use Rattle.hc_model.specs.Reading.{reads, lo_of, hi_of}
-use Rattle.hc_model.specs.Rows.{Tables, Exchange, Consumer}
-use Rattle.hc_model.specs.Sound.{Sound}
-use Rattle.hc_model.specs.StartingOver.{starts_over}
-use Rattle.hc_model.specs.Tables.{first_tables, after_accepted, after_denied}
 use Rattle.hc_effects.proofs.BoundFrom.{BoundFrom, IsRow, IsFounded, IsInterval, IsShown, bound_from}
 use Rattle.hc_effects.proofs.BoundFrom as from
 use Rattle.hc_effects.proofs.BoundKeeps.{shown_place_is}

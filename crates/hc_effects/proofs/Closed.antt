@@ -2,20 +2,9 @@
 use Rattle.std.proofs.Common.{◌≡◌, inl, inr, ℕ, List, [], ◌∷◌, ◌++◌, Bool, true, Some, refl, ap, sym, ◌∙◌, subst}
 use Rattle.std.specs.Prelude.{map, filter, reverse, nat_eq, is_some}
 use Rattle.hc_text.proofs.Basics.{both_true as and_both, bool_cases, eq_itself as eq_refl, or_right, reverse_is as reversed_is}
-use Rattle.hc_event.specs.Filters.{closes_in}
-use Rattle.hc_event.specs.declared.event.Event.{Event}
+use Rattle.hc_effects.proofs.Vocabulary.{closes_in, Event, Act, Limits, accepted_acts, poll_acts, answer_acts, loss_acts, closing, closes_row, must_close, Entry, exchange_heard, Flaw, NoFlaw, Loses, Misreads, Tables, Exchange, Sound, Among, evicted}
 use Rattle.hc_event.specs.declared.event.Event.TheVariants as event
-use Rattle.hc_event.specs.declared.act.Act.{Act}
 use Rattle.hc_event.specs.declared.act.Act.TheVariants as act
-use Rattle.hc_rules.specs.declared.room.Limits.{Limits}
-use Rattle.hc_model.specs.Answers.{accepted_acts, poll_acts, answer_acts, loss_acts}
-use Rattle.hc_model.specs.Closings.{closing, closes_row, must_close}
-use Rattle.hc_model.specs.Entries.{Entry}
-use Rattle.hc_model.specs.ExchangeRows.{exchange_heard}
-use Rattle.hc_model.specs.Flaws.{Flaw, NoFlaw, Loses, Misreads}
-use Rattle.hc_model.specs.Rows.{Tables, Exchange}
-use Rattle.hc_model.specs.Sound.{Sound, Among}
-use Rattle.hc_model.specs.Weights.{evicted}
 
 -- LISTS
 

@@ -1,19 +1,8 @@
 -- What an event of a consumer comes to: itself, what is let go, and what it makes of exchanges and lists.
 use Rattle.std.proofs.Common.{◌≡◌, inl, inr, ℕ, ◌+◌, List, [], ◌∷◌, Bool, true, false, Option, Some, None, refl, ap, sym, ◌∙◌, subst}
 use Rattle.std.specs.Prelude.{◌==◌, nat_eq, if◌then◌else◌, option_map}
-use Rattle.hc_event.specs.Filters.{opening_in}
-use Rattle.hc_event.specs.declared.place.Place.{Place}
+use Rattle.hc_effects.proofs.Vocabulary.{opening_in, Place, loses_in, consumer_after, back_in_line, with_consumer, with_event, as_gone, let_go, let_all_go, let_some_go, Entry, exchange_after, becomes_gone, goes_in, Lawful, representation_after, Tables, Representation, Consumer, after_accepted, last_start_after, starts_after, opened_after, openings_after, received_in, with_item_first, to_front, binds}
 use Rattle.hc_event.specs.declared.place.Place.TheVariants as place
-use Rattle.hc_model.specs.ActFilters.{loses_in}
-use Rattle.hc_model.specs.ConsumerRows.{consumer_after, back_in_line}
-use Rattle.hc_model.specs.Effects.{with_consumer, with_event, as_gone, let_go, let_all_go, let_some_go}
-use Rattle.hc_model.specs.Entries.{Entry}
-use Rattle.hc_model.specs.ExchangeRows.{exchange_after}
-use Rattle.hc_model.specs.Gone.{becomes_gone, goes_in}
-use Rattle.hc_model.specs.Lawful.{Lawful}
-use Rattle.hc_model.specs.RepresentationRows.{representation_after}
-use Rattle.hc_model.specs.Rows.{Tables, Representation, Consumer}
-use Rattle.hc_model.specs.Tables.{after_accepted, last_start_after, starts_after, opened_after, openings_after, received_in, with_item_first, to_front, binds}
 use Rattle.hc_effects.proofs.ActParts.{IsFarFrom}
 use Rattle.hc_effects.proofs.OfConsumers.{BringsNothing, consumer_alone, founds_nobody}
 use Rattle.hc_effects.proofs.PieceKeeps.{eq_cases}

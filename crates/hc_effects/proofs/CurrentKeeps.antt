@@ -3,23 +3,11 @@ use Rattle.std.proofs.Common.{◌≡◌, inl, inr, ℕ, List, [], ◌∷◌, Boo
 use Rattle.std.specs.Prelude.{◌&&◌, ◌||◌, not, ◌==◌, nat_eq, bytes_eq, find, is_some, if◌then◌else◌, option_map}
 use Rattle.std.proofs.lemmas.Bool.Decides.{nat_tests}
 use Rattle.hc_text.proofs.Basics.{and_both, bool_cases, eq_itself as eq-refl, not_true as not_gone, or_left, or_right, some_inj}
-use Rattle.hc_event.specs.declared.event.Event.{Event}
+use Rattle.hc_effects.proofs.Vocabulary.{Event, Response, HeadCase, accepted_acts, case_at, is_founding, current, is_usable, is_number, Entry, becomes_gone, goes_by_head, goes_by_exchange, goes_by_case, is_current_of, representation_after, representation_heard, representation_acted, founded_at, new_representation, representation_after_head, with_renewed_head, updates, representation_after_piece, with_total_if_none, length_in, family, exchange_at, Tables, Exchange, Representation, Sound, Among, OneCurrent, after_accepted}
 use Rattle.hc_event.specs.declared.event.Event.TheVariants as event
-use Rattle.hc_event.specs.declared.event.Response.{Response}
-use Rattle.hc_rules.specs.declared.heads.HeadCase.{HeadCase}
 use Rattle.hc_rules.specs.declared.heads.HeadCase.TheVariants as case
 use Rattle.hc_rules.proofs.RangeReads.{bytes_eq-same, same_bytes}
-use Rattle.hc_model.specs.Answers.{accepted_acts}
-use Rattle.hc_model.specs.Cases.{case_at, is_founding}
-use Rattle.hc_model.specs.Currents.{current, is_usable, is_number}
-use Rattle.hc_model.specs.Entries.{Entry}
-use Rattle.hc_model.specs.Gone.{becomes_gone, goes_by_head, goes_by_exchange, goes_by_case, is_current_of}
 use Rattle.hc_model.specs.Laws.{OneCurrentIsKept}
-use Rattle.hc_model.specs.RepresentationRows.{representation_after, representation_heard, representation_acted, founded_at, new_representation, representation_after_head, with_renewed_head, updates, representation_after_piece, with_total_if_none, length_in}
-use Rattle.hc_model.specs.Exchanges.{family, exchange_at}
-use Rattle.hc_model.specs.Rows.{Tables, Exchange, Representation}
-use Rattle.hc_model.specs.Sound.{Sound, Among, OneCurrent}
-use Rattle.hc_model.specs.Tables.{after_accepted}
 use Rattle.hc_effects.proofs.Basics.{or_false}
 
 -- WHAT A ROW KEEPS

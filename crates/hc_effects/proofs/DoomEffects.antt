@@ -5,26 +5,10 @@ use Rattle.std.specs.Prelude.{◌&&◌, ◌||◌, ◌==◌, is_none, bytes_eq, i
 use Rattle.hc_text.proofs.Basics.{and_left, and_right, bool_cases, not_some as none_some, never_true as not_so, and_off as then_false}
 use Rattle.hc_text.specs.declared.bytes.Key.{Key}
 use Rattle.hc_event.specs.declared.act.Act.TheVariants as act
-use Rattle.hc_event.specs.declared.event.Event.{Event}
+use Rattle.hc_effects.proofs.Vocabulary.{Event, Limits, closing, closes_row, awaits, consumer_after, back_in_line, current, is_current, is_number, denial, doomed_key_of, Does, with_event, let_some_go, let_all_go, as_gone, over, all_closed, sent_back, woken, is_awaited, awaited_and, Entry, family, NoFlaw, beside, becomes_gone, ends_early, ends_founding, Lawful, representation_after, Tables, Exchange, Representation, Consumer, after_accepted, with_item_first}
 use Rattle.hc_event.specs.declared.event.Event.TheVariants as event
 use Rattle.hc_rules.specs.Refusals as refusals
-use Rattle.hc_rules.specs.declared.room.Limits.{Limits}
 use Rattle.hc_rules.proofs.RangeReads.{bytes_eq-same, same_bytes}
-use Rattle.hc_model.specs.Closings.{closing, closes_row, awaits}
-use Rattle.hc_model.specs.ConsumerRows.{consumer_after, back_in_line}
-use Rattle.hc_model.specs.Currents.{current, is_current, is_number}
-use Rattle.hc_model.specs.Denials.{denial}
-use Rattle.hc_model.specs.Dooms.{doomed_key_of}
-use Rattle.hc_model.specs.Effects.{Does, with_event, let_some_go, let_all_go, as_gone, over, all_closed, sent_back, woken, is_awaited, awaited_and}
-use Rattle.hc_model.specs.Entries.{Entry}
-use Rattle.hc_model.specs.Exchanges.{family}
-use Rattle.hc_model.specs.Flaws.{NoFlaw}
-use Rattle.hc_model.specs.Frames.{beside}
-use Rattle.hc_model.specs.Gone.{becomes_gone, ends_early, ends_founding}
-use Rattle.hc_model.specs.Lawful.{Lawful}
-use Rattle.hc_model.specs.RepresentationRows.{representation_after}
-use Rattle.hc_model.specs.Rows.{Tables, Exchange, Representation, Consumer}
-use Rattle.hc_model.specs.Tables.{after_accepted, with_item_first}
 use Rattle.hc_effects.proofs.Basics.{false_true, number_is}
 use Rattle.hc_effects.proofs.ConsumerEffects.{some_all}
 use Rattle.hc_effects.proofs.DoomFrames.{sent_as, awaited_apart}

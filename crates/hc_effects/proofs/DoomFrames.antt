@@ -2,14 +2,7 @@
 use Rattle.std.proofs.Common.{◌≡◌, inl, inr, ℕ, List, [], ◌∷◌, Bool, true, false, Option, Some, None, refl, ap, sym, ◌∙◌}
 use Rattle.std.specs.Prelude.{bytes_eq, ◌&&◌, ◌||◌, if◌then◌else◌, is_none, option_map, filter, reverse}
 use Rattle.hc_text.proofs.Basics.{and_left, and_right, bool_cases, not_some as none_some, never_true as not_so, or_cases}
-use Rattle.hc_event.specs.declared.event.Response.{Response}
-use Rattle.hc_model.specs.ConsumerRows.{back_in_line}
-use Rattle.hc_model.specs.Currents.{is_number}
-use Rattle.hc_model.specs.Effects.{sent_back, is_awaited, awaited_and}
-use Rattle.hc_model.specs.Rows.{Tables, Exchange, Representation, Consumer}
-use Rattle.hc_model.specs.Sound.{Sound}
-use Rattle.hc_model.specs.StartingOver.{waits_at}
-use Rattle.hc_model.specs.Closings.{awaits}
+use Rattle.hc_effects.proofs.Vocabulary.{Response, back_in_line, is_number, sent_back, is_awaited, awaited_and, Tables, Exchange, Representation, Consumer, Sound, waits_at, awaits}
 use Rattle.hc_effects.proofs.Basics.{false_true, number_is}
 use Rattle.hc_effects.proofs.SameTables.{is_in, waits_for_any, back_from_any}
 use Rattle.hc_effects.proofs.PieceKeeps.{eq_cases}

@@ -2,18 +2,8 @@
 use Rattle.std.proofs.Common.{◌≡◌, ℕ, Bool, true, false, Option, Some, None, refl, ap, sym, ◌∙◌}
 use Rattle.std.specs.Prelude.{if◌then◌else◌}
 use Rattle.std.specs.Option.{option_or}
-use Rattle.hc_event.specs.declared.act.Cause.{Cause}
-use Rattle.hc_rules.specs.Lengths.{is_same_number}
-use Rattle.hc_event.specs.declared.place.Place.{Place}
+use Rattle.hc_effects.proofs.Vocabulary.{Cause, is_same_number, Place, BoundBy, due_after, Entry, exchange_in, becomes_due, cause_of_stop, cause_of_loss, cause_by_loss, cause_of_head, stop_cause, source, reads, Tables, Representation, Consumer, loses_writing}
 use Rattle.hc_event.specs.declared.place.Place.TheVariants as place
-use Rattle.hc_event.specs.declared.place.BoundBy.{BoundBy}
-use Rattle.hc_model.specs.ConsumerRows.{due_after}
-use Rattle.hc_model.specs.Entries.{Entry}
-use Rattle.hc_model.specs.Exchanges.{exchange_in}
-use Rattle.hc_model.specs.Failures.{becomes_due, cause_of_stop, cause_of_loss, cause_by_loss, cause_of_head, stop_cause}
-use Rattle.hc_model.specs.Reading.{source, reads}
-use Rattle.hc_model.specs.Rows.{Tables, Representation, Consumer}
-use Rattle.hc_model.specs.Writers.{loses_writing}
 use Rattle.hc_effects.proofs.Basics.{some_none}
 
 -- the parts of what becomes due

@@ -7,35 +7,13 @@ use Rattle.hc_range.specs.declared.range.Asked.{Asked}
 use Rattle.hc_range.specs.declared.range.Asked.TheVariants.{FromTo, From, Last}
 use Rattle.hc_range.specs.declared.range.Span.{Span}
 use Rattle.hc_range.specs.Spans.{resolved_span}
-use Rattle.hc_event.specs.Filters.{opening_in}
-use Rattle.hc_event.specs.declared.event.Event.{Event}
+use Rattle.hc_effects.proofs.Vocabulary.{opening_in, Event, Response, HeadCase, Limits, range_of, wanted_of, wanted_part, BoundBy, Showing, showing_in, case_at, consumer_heard, by_opening, waiting, denial, Entry, promise_in, Flaw, founded_total, entry_of, Measures, Owners, move_of, reads, length_in, Tables, Exchange, Representation, Consumer, Sound, after_accepted}
 use Rattle.hc_event.specs.declared.event.Event.TheVariants as event
-use Rattle.hc_event.specs.declared.event.Response.{Response}
-use Rattle.hc_rules.specs.declared.heads.HeadCase.{HeadCase}
 use Rattle.hc_rules.specs.declared.heads.HeadCase.TheVariants as case
 use Rattle.hc_rules.specs.declared.request.Wanted.TheVariants as wanted
-use Rattle.hc_rules.specs.declared.room.Limits.{Limits}
-use Rattle.hc_rules.specs.Requests.{range_of, wanted_of, wanted_part}
 use Rattle.hc_event.specs.declared.place.Place.TheVariants as place
-use Rattle.hc_event.specs.declared.place.BoundBy.{BoundBy}
-use Rattle.hc_model.specs.ActFilters.{Showing, showing_in}
-use Rattle.hc_model.specs.Cases.{case_at}
-use Rattle.hc_model.specs.ConsumerRows.{consumer_heard, by_opening, waiting}
-use Rattle.hc_model.specs.Denials.{denial}
-use Rattle.hc_model.specs.Entries.{Entry}
-use Rattle.hc_model.specs.ExchangeRows.{promise_in}
-use Rattle.hc_model.specs.Flaws.{Flaw}
-use Rattle.hc_model.specs.Heads.{founded_total}
-use Rattle.hc_model.specs.Keys.{entry_of}
-use Rattle.hc_model.specs.Measures.{Measures, EndsWithin}
-use Rattle.hc_model.specs.Owners.{Owners}
-use Rattle.hc_model.specs.Polls.{move_of}
-use Rattle.hc_model.specs.Reading.{reads}
-use Rattle.hc_model.specs.RepresentationRows.{length_in}
-use Rattle.hc_model.specs.Rows.{Tables, Exchange, Representation, Consumer}
-use Rattle.hc_model.specs.Sound.{Sound}
+use Rattle.hc_model.specs.Measures.{EndsWithin}
 use Rattle.hc_model.specs.Sound as sound
-use Rattle.hc_model.specs.Tables.{after_accepted}
 use Rattle.hc_effects.proofs.Basics.{false_true}
 use Rattle.hc_effects.proofs.BoundFrom.{BoundFrom, IsRow, IsInterval, IsShown, IsFounded, bound_from}
 use Rattle.hc_effects.proofs.BoundFrom as from

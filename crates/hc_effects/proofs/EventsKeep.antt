@@ -2,26 +2,11 @@
 use Rattle.std.proofs.Common.{◌≡◌, ℕ, List, [], ◌∷◌, ◌++◌, length, Bool, true, false, Option, Some, None, refl}
 use Rattle.std.specs.Prelude.{is_some, map, not, nat_lt, ◌==◌, if◌then◌else◌}
 use Rattle.hc_event.specs.declared.act.Refusal.TheVariants as refusal
-use Rattle.hc_event.specs.Filters.{opening_in}
-use Rattle.hc_event.specs.declared.event.Event.{Event}
+use Rattle.hc_effects.proofs.Vocabulary.{opening_in, Event, Response, Act, accepted_acts, loss_acts, closing, is_live, denial, as_open, gate, Entry, promised_bytes, Flaw, NoFlaw, Loses, Misreads, Tables, Exchange, Consumer, Sound, after_accepted, evicted, head_refusal, piece_refusal, poll_refusal, Limits}
 use Rattle.hc_event.specs.declared.event.Event.TheVariants as event
-use Rattle.hc_event.specs.declared.event.Response.{Response}
-use Rattle.hc_event.specs.declared.act.Act.{Act}
 use Rattle.hc_event.specs.declared.act.Act.TheVariants as act
-use Rattle.hc_model.specs.Answers.{accepted_acts, loss_acts}
-use Rattle.hc_model.specs.Closings.{closing}
-use Rattle.hc_model.specs.Denials.{is_live, denial, as_open, gate}
-use Rattle.hc_model.specs.Entries.{Entry}
-use Rattle.hc_model.specs.Exchanges.{promised_bytes}
-use Rattle.hc_model.specs.Flaws.{Flaw, NoFlaw, Loses, Misreads}
 use Rattle.hc_model.specs.Laws.{KeepsDeliveries, DeliveriesAreKept}
-use Rattle.hc_model.specs.Rows.{Tables, Exchange, Consumer}
-use Rattle.hc_model.specs.Sound.{Sound}
-use Rattle.hc_model.specs.Tables.{after_accepted}
-use Rattle.hc_model.specs.Weights.{evicted}
 use Rattle.hc_rules.specs.Refusals as refusals
-use Rattle.hc_rules.specs.Refusals.{head_refusal, piece_refusal, poll_refusal}
-use Rattle.hc_rules.specs.declared.room.Limits.{Limits}
 use Rattle.hc_effects.proofs.QuietKeeps.{OpensWell, is_quiet, waits_kept, one_about_kept}
 use Rattle.hc_effects.proofs.PieceKeeps.{IsPiece, piece_waits, piece_one_about}
 use Rattle.hc_effects.proofs.HeadKeeps.{IsHead, head_waits, head_one_about}

@@ -3,16 +3,10 @@ use Rattle.std.proofs.Common.{◌≡◌, inl, inr, ℕ, List, [], ◌∷◌, len
 use Rattle.std.specs.Prelude.{find, filter, bytes_eq, nat_eq, ◌==◌, ◌&&◌, not, if◌then◌else◌, option_map}
 use Rattle.std.proofs.lemmas.Bool.Decides.{nat_tests}
 use Rattle.hc_text.proofs.Basics.{bool_cases, not_some as none_some, eq_itself as self_is, some_inj}
-use Rattle.hc_event.specs.declared.place.Place.{Place}
+use Rattle.hc_effects.proofs.Vocabulary.{Place, back_in_line, current, is_usable, live, is_live, is_live_place, back_from, as_gone, evict, evict_all, unless_it, bound, is_bound, is_bound_place, Tables, Representation, Consumer, OneCurrent}
 use Rattle.hc_event.specs.declared.place.Place.TheVariants as place
-use Rattle.hc_model.specs.ConsumerRows.{back_in_line}
-use Rattle.hc_model.specs.Currents.{current, is_usable}
-use Rattle.hc_model.specs.Denials.{live, is_live, is_live_place}
-use Rattle.hc_model.specs.Effects.{waits_for, back_from, as_gone}
-use Rattle.hc_model.specs.Evictions.{evict, evict_all, unless_it, EvictsOne, AnyLeavesOneCurrent}
-use Rattle.hc_model.specs.Reading.{bound, is_bound, is_bound_place}
-use Rattle.hc_model.specs.Rows.{Tables, Representation, Consumer}
-use Rattle.hc_model.specs.Sound.{OneCurrent}
+use Rattle.hc_model.specs.Effects.{waits_for}
+use Rattle.hc_model.specs.Evictions.{EvictsOne, AnyLeavesOneCurrent}
 use Rattle.hc_effects.proofs.Basics.{same_functions, false_true}
 use Rattle.hc_effects.proofs.CurrentKeeps.{one_current_after, usable_row}
 use Rattle.hc_effects.proofs.PieceKeeps.{eq_cases}

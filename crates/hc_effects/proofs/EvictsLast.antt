@@ -2,43 +2,16 @@
 use Rattle.std.proofs.Common.{◌≡◌, inl, inr, ℕ, zero, suc, List, [], ◌∷◌, ◌++◌, Bool, true, false, Option, Some, None, refl, ap, sym, ◌∙◌}
 use Rattle.std.specs.Prelude.{map, filter, take, reverse, is_some, ◌==◌}
 use Rattle.hc_text.proofs.Basics.{bool_cases, same_some as same_row}
-use Rattle.hc_event.specs.Filters.{evicts_in}
-use Rattle.hc_event.specs.declared.act.Act.{Act}
+use Rattle.hc_effects.proofs.Vocabulary.{evicts_in, Act, Event, Response, HeadCase, Wanted, Limits, Room, range_of, wanted_of, Place, has_loss, fails_in, without_losses, accepted_acts, answer_acts, loss_acts, close_acts, case_at, case_of, head_view, consumer_heard, consumer_acted, by_head, place_by_case, bound_to_wanted, closing, denial, Entry, entry_without_acts, evict_all, unevicting, Flaw, NoFlaw, Loses, Misreads, flaw_in, founded_total, entry_of, Owners, IsAwaiting, Tables, Exchange, Representation, Consumer, may_be, Sound, starts_over, after_accepted, is_idle, idle, evicted, first_idle, room_for, write_in, written_representation, written_in}
 use Rattle.hc_event.specs.declared.act.Act.TheVariants as act
-use Rattle.hc_event.specs.declared.event.Event.{Event}
 use Rattle.hc_event.specs.declared.event.Event.TheVariants as event
-use Rattle.hc_event.specs.declared.event.Response.{Response}
-use Rattle.hc_rules.specs.declared.heads.HeadCase.{HeadCase}
 use Rattle.hc_rules.specs.declared.heads.HeadCase.TheVariants as case
-use Rattle.hc_rules.specs.declared.request.Wanted.{Wanted}
 use Rattle.hc_rules.specs.declared.request.Wanted.TheVariants as wanted
-use Rattle.hc_rules.specs.declared.room.Limits.{Limits}
-use Rattle.hc_rules.specs.declared.room.Room.{Room}
 use Rattle.hc_rules.specs.declared.room.Room.TheVariants as room
-use Rattle.hc_rules.specs.Requests.{range_of, wanted_of}
 use Rattle.hc_event.specs.declared.place.BoundBy.TheVariants as by
-use Rattle.hc_event.specs.declared.place.Place.{Place}
 use Rattle.hc_event.specs.declared.place.Place.TheVariants as place
-use Rattle.hc_model.specs.ActFilters.{has_loss, fails_in, without_losses}
-use Rattle.hc_model.specs.Answers.{accepted_acts, answer_acts, loss_acts, close_acts}
-use Rattle.hc_model.specs.Cases.{case_at, case_of, head_view}
-use Rattle.hc_model.specs.ConsumerRows.{consumer_heard, consumer_acted, by_head, place_by_case, bound_to_wanted}
-use Rattle.hc_model.specs.Closings.{closing}
-use Rattle.hc_model.specs.Denials.{denial}
-use Rattle.hc_model.specs.Entries.{Entry, entry_without_acts}
-use Rattle.hc_model.specs.Evictions.{evict_all, unevicting, unevicting_entry, EvictsLast, EvictionsComeLast}
-use Rattle.hc_model.specs.Flaws.{Flaw, NoFlaw, Loses, Misreads, flaw_in}
-use Rattle.hc_model.specs.Heads.{founded_total}
-use Rattle.hc_model.specs.Keys.{entry_of}
-use Rattle.hc_model.specs.Owners.{Owners, IsAwaiting}
+use Rattle.hc_model.specs.Evictions.{unevicting_entry, EvictsLast, EvictionsComeLast}
 use Rattle.hc_model.specs.Owners as owners
-use Rattle.hc_model.specs.Rows.{Tables, Exchange, Representation, Consumer}
-use Rattle.hc_model.specs.Runs.{may_be}
-use Rattle.hc_model.specs.Sound.{Sound}
-use Rattle.hc_model.specs.StartingOver.{starts_over}
-use Rattle.hc_model.specs.Tables.{after_accepted}
-use Rattle.hc_model.specs.Weights.{is_idle, idle, evicted, first_idle, room_for, write_in}
-use Rattle.hc_model.specs.Writes.{written_representation, written_in}
 use Rattle.hc_effects.proofs.ActParts.{evicts_closes, evicts_lost, far_loss, far_closed}
 use Rattle.hc_effects.proofs.Alike.{alike_evicted, written_same}
 use Rattle.hc_effects.proofs.Basics.{false_true}

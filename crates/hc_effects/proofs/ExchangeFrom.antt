@@ -2,13 +2,8 @@
 use Rattle.std.proofs.Common.{◌≡◌, ◌⊎◌, inl, inr, ℕ, Bool, true, false, Option, Some, None, refl, ap, sym, ◌∙◌, subst}
 use Rattle.std.specs.Prelude.{◌&&◌, not, is_some}
 use Rattle.hc_text.proofs.Basics.{and_right, not_some as none_some, some_inj}
-use Rattle.hc_event.specs.Filters.{Opening, opening_in, closes_in}
-use Rattle.hc_event.specs.declared.event.Event.{Event}
+use Rattle.hc_effects.proofs.Vocabulary.{Opening, opening_in, closes_in, Event, Response, Entry, exchange_after, exchange_heard, exchange_acted, exchange_made, exchange_opened, joined_at, Tables, Exchange}
 use Rattle.hc_event.specs.declared.event.Event.TheVariants as event
-use Rattle.hc_event.specs.declared.event.Response.{Response}
-use Rattle.hc_model.specs.Entries.{Entry}
-use Rattle.hc_model.specs.ExchangeRows.{exchange_after, exchange_heard, exchange_acted, exchange_made, exchange_opened, joined_at}
-use Rattle.hc_model.specs.Rows.{Tables, Exchange}
 use Rattle.hc_effects.proofs.Basics.{false_true, some_none}
 use Rattle.hc_effects.proofs.PieceKeeps.{eq_cases}
 

@@ -4,9 +4,7 @@ use Rattle.std.specs.Prelude.{filter, ◌&&◌, not}
 use Rattle.std.specs.Option.{option_or}
 use Rattle.std.proofs.lemmas.Bool.Decides.{nat_tests}
 use Rattle.hc_text.proofs.Basics.{bool_cases, same_some as same_row}
-use Rattle.hc_model.specs.Reading.{is_written, bound, offset, hi_of, own_open, source, is_bound, shared_exchange}
-use Rattle.hc_model.specs.Rows.{Tables, Representation, Consumer}
-use Rattle.hc_model.specs.Sound.{Sound, Numbered, Among, IsAbout, IsBound, IsExclusiveWriter}
+use Rattle.hc_effects.proofs.Vocabulary.{is_written, bound, offset, hi_of, own_open, source, is_bound, shared_exchange, Tables, Representation, Consumer, Sound, Numbered, Among, IsAbout, IsBound, IsExclusiveWriter}
 use Rattle.hc_model.specs.Sound as sound
 
 -- what stands in a list and passes stays among those that pass

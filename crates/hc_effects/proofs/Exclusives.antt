@@ -2,13 +2,10 @@
 use Rattle.std.proofs.Common.{◌≡◌, ◌⊎◌, inl, inr, ℕ, List, [], ◌∷◌, Bool, true, false, Some, None, refl, ap, sym, ◌∙◌}
 use Rattle.std.specs.Prelude.{if◌then◌else◌, is_none, ◌&&◌, map, filter}
 use Rattle.hc_text.proofs.Basics.{and_left, and_right, bool_cases, none_by as none_of}
-use Rattle.hc_rules.specs.Admissions.{is_of, is_same_kind, numbers}
+use Rattle.hc_effects.proofs.Vocabulary.{is_of, is_same_kind, is_written, bound, Tables, Representation, Consumer, Among, IsBound, IsFirst, may_write, has_more, came_alone, bound_kind, bound_as, exclusive}
+use Rattle.hc_rules.specs.Admissions.{numbers}
 use Rattle.hc_rules.specs.declared.admission.BoundKind.TheVariants as kind
-use Rattle.hc_model.specs.Reading.{is_written, bound}
-use Rattle.hc_model.specs.Rows.{Tables, Representation, Consumer}
-use Rattle.hc_model.specs.Sound.{Among, IsBound, IsFirst}
 use Rattle.hc_model.specs.Sound as sound
-use Rattle.hc_model.specs.Writers.{may_write, has_more, came_alone, bound_kind, bound_as, exclusive}
 use Rattle.hc_effects.proofs.Basics.{false_true}
 use Rattle.hc_effects.proofs.HadKeeps.{among_least}
 use Rattle.hc_effects.proofs.HasBound.{reader_of}

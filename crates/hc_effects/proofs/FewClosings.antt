@@ -4,19 +4,7 @@ use Rattle.std.proofs.Common.{◌≡◌, ℕ, List, [], ◌∷◌, Bool, false, 
 use mathlib.Core.Path.{fun_ext}
 use Rattle.std.specs.Prelude.{◌&&◌, ◌||◌, filter, reverse}
 use Rattle.hc_text.proofs.Basics.{and_off as then_false}
-use Rattle.hc_event.specs.declared.event.Event.{Event}
-use Rattle.hc_rules.specs.declared.room.Limits.{Limits}
-use Rattle.hc_rules.specs.declared.room.Write.{Write}
-use Rattle.hc_model.specs.Cases.{case_at}
-use Rattle.hc_model.specs.Closings.{closing, closes_row, must_close, is_refused, is_doomed, has_no_survivor, is_left, leaver, brings_head}
-use Rattle.hc_model.specs.Currents.{is_number}
-use Rattle.hc_model.specs.Dooms.{doomed_key_of}
-use Rattle.hc_model.specs.Entries.{Entry, entry_without_acts}
-use Rattle.hc_model.specs.ExchangeRows.{exchange_heard}
-use Rattle.hc_model.specs.Exchanges.{family}
-use Rattle.hc_model.specs.Rows.{Tables, Exchange, Representation}
-use Rattle.hc_model.specs.Weights.{evicted, first_idle, room_by, room_for, write_in}
-use Rattle.hc_model.specs.Writers.{brings_body, loses_writing}
+use Rattle.hc_effects.proofs.Vocabulary.{Event, Limits, Write, case_at, closing, closes_row, must_close, is_refused, is_doomed, has_no_survivor, is_left, leaver, brings_head, is_number, doomed_key_of, Entry, entry_without_acts, exchange_heard, family, Tables, Exchange, Representation, evicted, first_idle, room_by, room_for, write_in, brings_body, loses_writing}
 use Rattle.hc_effects.proofs.Tests.{and_false}
 
 pub record ClosesLittle (t : Tables) (e : Entry) : Type 0 where

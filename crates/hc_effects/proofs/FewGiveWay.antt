@@ -4,28 +4,14 @@ use Rattle.std.specs.Prelude.{nat_le, map, filter, reverse, take, if◌then◌el
 use Rattle.std.specs.Option.{option_and_then, option_map}
 use Rattle.std.proofs.lemmas.Bool.Decides.{nat_tests}
 use Rattle.hc_text.proofs.Basics.{and_left, bool_cases, not_some as none_some, some_inj}
-use Rattle.hc_event.specs.declared.act.Act.{Act}
+use Rattle.hc_effects.proofs.Vocabulary.{Act, Event, gives_way, room_of, grown_by, is_too_large, Limits, Room, Write, answer_acts, loss_acts, case_at, is_founding, closing, Entry, entry_without_acts, family, Flaw, NoFlaw, Loses, Misreads, count_evicted, IsSmallPiece, Move, acts_of, Tables, Exchange, Representation, weight, weight_in, weights, idle, is_idle, stays_current, evicted, first_idle, room_for, room_by, write_in, write_of_piece, piece_write}
 use Rattle.hc_event.specs.declared.act.Act.TheVariants as act
-use Rattle.hc_event.specs.declared.event.Event.{Event}
 use Rattle.hc_event.specs.declared.event.Event.TheVariants as event
-use Rattle.hc_rules.specs.Rooms.{gives_way, room_of, grown_by, is_too_large}
 use Rattle.hc_rules.specs.Rooms as rooms
-use Rattle.hc_rules.specs.declared.room.Limits.{Limits}
-use Rattle.hc_rules.specs.declared.room.Room.{Room}
 use Rattle.hc_rules.specs.declared.room.Room.TheVariants as room
-use Rattle.hc_rules.specs.declared.room.Write.{Write}
 use Rattle.hc_rules.specs.declared.room.Write.TheVariants as write
-use Rattle.hc_model.specs.Answers.{answer_acts, loss_acts}
-use Rattle.hc_model.specs.Cases.{case_at, is_founding}
-use Rattle.hc_model.specs.Closings.{closing}
-use Rattle.hc_model.specs.Entries.{Entry, entry_without_acts}
-use Rattle.hc_model.specs.Exchanges.{family}
-use Rattle.hc_model.specs.Flaws.{Flaw, NoFlaw, Loses, Misreads}
-use Rattle.hc_model.specs.Laws.{count_evicted, IsSmallPiece, FewGiveWay}
+use Rattle.hc_model.specs.Laws.{FewGiveWay}
 use Rattle.hc_model.specs.Moves as moves
-use Rattle.hc_model.specs.Moves.{Move, acts_of}
-use Rattle.hc_model.specs.Rows.{Tables, Exchange, Representation}
-use Rattle.hc_model.specs.Weights.{weight, weight_in, weights, idle, is_idle, stays_current, evicted, first_idle, room_for, room_by, write_in, write_of_piece, piece_write}
 use Rattle.hc_effects.proofs.ActParts.{IsAnswer, IsSaid, answer_is, said_is}
 use Rattle.hc_effects.proofs.ActParts as parts
 

@@ -11,7 +11,7 @@ use Rattle.hc_rules.proofs.RangeReads.{same_bytes, bytes_eq-same}
 use Rattle.hc_validate.specs.Heads.{FieldPairs}
 use Rattle.hc_validate.specs.Updates.{fixed_names, is_fixed, changeable_fields, is_renewed, with_all, left_by, fields_with, is_within_limits, updated_fields}
 use Rattle.hc_validate.proofs.Settings.{length-without, size_of-without}
-use Rattle.hc_model.specs.Heads.{kept_fields}
+use Rattle.hc_effects.proofs.Vocabulary.{kept_fields}
 use Rattle.hc_effects.proofs.Basics.{false_true}
 
 -- A NAME THAT NO UPDATE CHANGES

@@ -3,28 +3,12 @@ use Rattle.std.proofs.Common.{◌≡◌, ℕ, [], Bool, true, false, Option, Som
 use Rattle.std.specs.Prelude.{is_some, ◌==◌, nat_eq}
 use Rattle.std.proofs.lemmas.Bool.Decides.{nat_tests}
 use Rattle.hc_text.proofs.Basics.{same_some as same_row, some_inj}
-use Rattle.hc_event.specs.Filters.{Opening, opening_in}
-use Rattle.hc_event.specs.declared.event.Event.{Event}
+use Rattle.hc_effects.proofs.Vocabulary.{Opening, opening_in, Event, Response, HeadCase, Limits, head_case, BoundBy, has_loss, wait_in, case_at, case_of, head_view, denial, as_open, Entry, Flaw, entry_of, bound, bound_to, Tables, Exchange, Representation, Consumer, Sound, IsFirst, after_accepted, came_alone, status_in, Wait, Move, move_of, head_refusal, route_of, consumer_heard, waiting, waiting_place, current}
 use Rattle.hc_event.specs.declared.event.Event.TheVariants as event
-use Rattle.hc_event.specs.declared.event.Response.{Response}
-use Rattle.hc_rules.specs.declared.heads.HeadCase.{HeadCase}
 use Rattle.hc_rules.specs.declared.heads.HeadCase.TheVariants as case
-use Rattle.hc_rules.specs.declared.room.Limits.{Limits}
-use Rattle.hc_rules.specs.HeadCases.{head_case}
 use Rattle.hc_event.specs.declared.place.Place.TheVariants as place
-use Rattle.hc_event.specs.declared.place.BoundBy.{BoundBy}
 use Rattle.hc_event.specs.declared.place.BoundBy.TheVariants as by
-use Rattle.hc_model.specs.ActFilters.{has_loss, wait_in}
-use Rattle.hc_model.specs.Cases.{case_at, case_of, head_view}
-use Rattle.hc_model.specs.Denials.{denial, as_open}
-use Rattle.hc_model.specs.Entries.{Entry}
-use Rattle.hc_model.specs.Flaws.{Flaw}
-use Rattle.hc_model.specs.Keys.{entry_of}
-use Rattle.hc_model.specs.Reading.{bound, bound_to}
-use Rattle.hc_model.specs.Rows.{Tables, Exchange, Representation, Consumer}
-use Rattle.hc_model.specs.Sound.{Sound, IsFirst, OneFirst}
-use Rattle.hc_model.specs.Tables.{after_accepted}
-use Rattle.hc_model.specs.Writers.{came_alone, status_in}
+use Rattle.hc_model.specs.Sound.{OneFirst}
 use Rattle.hc_model.specs.Sound as sound
 use Rattle.hc_effects.proofs.BoundFrom.{BoundFrom, IsFounded, bound_from}
 use Rattle.hc_effects.proofs.BoundFrom as from
@@ -36,17 +20,10 @@ use Rattle.hc_effects.proofs.RepFrom.{RepFrom, rep_from, stays}
 use Rattle.hc_effects.proofs.RepFrom as rep
 use Rattle.hc_effects.proofs.Said.{IsPoll, IsOpening, WaitsAs, opening_by, waiting_by}
 use Rattle.hc_effects.proofs.Said as said
-use Rattle.hc_event.specs.declared.act.Wait.{Wait}
 use Rattle.hc_event.specs.declared.act.Wait.TheVariants as wait
-use Rattle.hc_model.specs.Moves.{Move}
-use Rattle.hc_model.specs.Polls.{move_of}
 use Rattle.hc_effects.proofs.EventsKeep.{head_taken}
-use Rattle.hc_rules.specs.Refusals.{head_refusal}
 use Rattle.hc_rules.specs.Refusals as refusals
-use Rattle.hc_rules.specs.Needs.{route_of}
 use Rattle.hc_rules.specs.declared.need.Route.TheVariants as route
-use Rattle.hc_model.specs.ConsumerRows.{consumer_heard, waiting, waiting_place}
-use Rattle.hc_model.specs.Currents.{current}
 
 -- THE CASE OF A HEAD
 

@@ -2,15 +2,8 @@
 use Rattle.std.proofs.Common.{◌≡◌, inl, inr, ℕ, Bool, true, false, Option, Some, None, refl, ap, sym, ◌∙◌}
 use Rattle.std.specs.Prelude.{is_some}
 use Rattle.hc_text.proofs.Basics.{same_some as same_row, some_inj}
-use Rattle.hc_event.specs.Filters.{Opening, opening_in, closes_in}
-use Rattle.hc_event.specs.declared.event.Event.{Event}
+use Rattle.hc_effects.proofs.Vocabulary.{Opening, opening_in, closes_in, Event, exchange_in, consumer_after, consumer_settled, consumer_acted, consumer_heard, Entry, exchange_after, exchange_heard, exchange_acted, exchange_made, exchange_opened, Tables, Exchange, Consumer, starts_over}
 use Rattle.hc_event.specs.declared.event.Event.TheVariants as event
-use Rattle.hc_model.specs.Exchanges.{exchange_in}
-use Rattle.hc_model.specs.ConsumerRows.{consumer_after, consumer_settled, consumer_acted, consumer_heard}
-use Rattle.hc_model.specs.Entries.{Entry}
-use Rattle.hc_model.specs.ExchangeRows.{exchange_after, exchange_heard, exchange_acted, exchange_made, exchange_opened}
-use Rattle.hc_model.specs.Rows.{Tables, Exchange, Consumer}
-use Rattle.hc_model.specs.StartingOver.{starts_over}
 use Rattle.hc_effects.proofs.ConsumerFilters.{acted}
 use Rattle.hc_effects.proofs.ExchangeFrom.{IsSame, ExchangeFrom, exchange_from, stays}
 use Rattle.hc_effects.proofs.ExchangeFrom as exchange

@@ -8,43 +8,17 @@ use Rattle.hc_range.specs.declared.range.ContentRange.{ContentRange}
 use Rattle.hc_range.specs.declared.range.ContentRange.TheVariants as range
 use Rattle.hc_range.specs.Spans.{resolved_span}
 use Rattle.hc_event.specs.declared.act.Act.TheVariants as act
-use Rattle.hc_event.specs.declared.act.LostKind.{LostKind}
-use Rattle.hc_event.specs.declared.event.Event.{Event}
+use Rattle.hc_effects.proofs.Vocabulary.{LostKind, Event, Request, Response, HeadCase, Limits, head_case, is_storable, fits_to_found, fits_part, begins_at, length_of, content_length_of, part_length, promise_of, agrees, is_head, route_of, content_range_of, is_get, range_of, wanted_of, strong_of, head_view, is_founding, fits_asker, was_shown, bound_by_total, current, is_number, denial, Does, with_event, let_all_go, let_some_go, with_consumer, with_answer, with_founding, just_founded, entry_without_acts, promise_in, NoFlaw, Loses, goes_by_case, founded_total, total_of_part, Lawful, IsAwaiting, Tables, Exchange, Consumer, with_item_first, evicted}
 use Rattle.hc_event.specs.declared.event.Event.TheVariants as event
-use Rattle.hc_event.specs.declared.event.Request.{Request}
-use Rattle.hc_event.specs.declared.event.Response.{Response}
-use Rattle.hc_rules.specs.declared.heads.HeadCase.{HeadCase}
 use Rattle.hc_rules.specs.declared.heads.HeadCase.TheVariants as case
 use Rattle.hc_rules.specs.declared.length.Length.TheVariants as says
 use Rattle.hc_rules.specs.declared.need.Route.TheVariants as route
 use Rattle.hc_rules.specs.declared.request.Wanted.TheVariants as wanted
-use Rattle.hc_rules.specs.declared.room.Limits.{Limits}
-use Rattle.hc_rules.specs.HeadCases.{head_case, is_storable, fits_to_found, fits_part, begins_at}
-use Rattle.hc_rules.specs.Lengths.{length_of, content_length_of, part_length, promise_of, agrees, is_head}
-use Rattle.hc_rules.specs.Needs.{route_of}
-use Rattle.hc_rules.specs.RangeTexts.{content_range_of}
-use Rattle.hc_rules.specs.Requests.{is_get, range_of, wanted_of}
-use Rattle.hc_rules.specs.TagTexts.{strong_of}
 use Rattle.hc_rules.proofs.RangeReads.{same_bytes}
 use Rattle.hc_fields.specs.FieldElements.{elements_in}
 use Rattle.hc_event.specs.declared.place.Place.TheVariants as place
 use Rattle.hc_event.specs.declared.place.BoundBy.TheVariants as by
-use Rattle.hc_model.specs.Cases.{head_view, is_founding, fits_asker, was_shown}
-use Rattle.hc_model.specs.ConsumerRows.{bound_by_total}
-use Rattle.hc_model.specs.Currents.{current, is_number}
-use Rattle.hc_model.specs.Denials.{denial}
-use Rattle.hc_model.specs.Effects.{Does, with_event, let_all_go, let_some_go, with_consumer, with_answer, with_founding, just_founded}
-use Rattle.hc_model.specs.Entries.{entry_without_acts}
-use Rattle.hc_model.specs.ExchangeRows.{promise_in}
-use Rattle.hc_model.specs.Flaws.{NoFlaw, Loses}
-use Rattle.hc_model.specs.Gone.{goes_by_case}
-use Rattle.hc_model.specs.Heads.{founded_total, total_of_part}
-use Rattle.hc_model.specs.Lawful.{Lawful}
-use Rattle.hc_model.specs.Owners.{IsAwaiting}
 use Rattle.hc_model.specs.Owners as owners
-use Rattle.hc_model.specs.Rows.{Tables, Exchange, Consumer}
-use Rattle.hc_model.specs.Tables.{with_item_first}
-use Rattle.hc_model.specs.Weights.{evicted}
 use Rattle.hc_effects.proofs.Basics.{false_true}
 use Rattle.hc_effects.proofs.FoundBy.{CaseBy, case_by}
 use Rattle.hc_effects.proofs.FoundBy as cases

@@ -3,34 +3,12 @@ use Rattle.std.proofs.Common.{◌≡◌, inl, inr, ℕ, List, [], ◌∷◌, ◌
 use Rattle.std.specs.Prelude.{◌&&◌, ◌||◌, not, nat_eq, if◌then◌else◌, map, option_map}
 use Rattle.hc_text.proofs.Basics.{not_some as none_some, never_true as not_so, and_off as then_false}
 use Rattle.hc_event.specs.declared.act.Act.TheVariants as act
-use Rattle.hc_event.specs.declared.act.LostKind.{LostKind}
-use Rattle.hc_event.specs.declared.event.Event.{Event}
+use Rattle.hc_effects.proofs.Vocabulary.{LostKind, Event, Response, HeadCase, Wanted, Limits, head_case, range_of, wanted_of, head_view, is_founding, case_at, is_updating, is_joining, bound_by_total, bound_to_wanted, current, is_number, denial, Does, with_event, let_all_go, let_some_go, with_consumer, with_answer, with_founding, just_founded, as_gone, promise_in, NoFlaw, Loses, goes_by_case, founded_total, Lawful, is_written, representation_after, Tables, Exchange, Representation, Consumer, with_item_first, to_front, evicted, is_refused, doomed_by_case, is_reached, sends_back, cause_by_case, loses_in, loss_acts}
 use Rattle.hc_event.specs.declared.event.Event.TheVariants as event
-use Rattle.hc_event.specs.declared.event.Response.{Response}
-use Rattle.hc_rules.specs.declared.heads.HeadCase.{HeadCase}
 use Rattle.hc_rules.specs.declared.heads.HeadCase.TheVariants as case
-use Rattle.hc_rules.specs.declared.request.Wanted.{Wanted}
 use Rattle.hc_rules.specs.declared.request.Wanted.TheVariants as wanted
-use Rattle.hc_rules.specs.declared.room.Limits.{Limits}
-use Rattle.hc_rules.specs.HeadCases.{head_case}
-use Rattle.hc_rules.specs.Requests.{range_of, wanted_of}
 use Rattle.hc_event.specs.declared.place.Place.TheVariants as place
 use Rattle.hc_event.specs.declared.place.BoundBy.TheVariants as by
-use Rattle.hc_model.specs.Cases.{head_view, is_founding, case_at, is_updating, is_joining}
-use Rattle.hc_model.specs.ConsumerRows.{bound_by_total, bound_to_wanted}
-use Rattle.hc_model.specs.Currents.{current, is_number}
-use Rattle.hc_model.specs.Denials.{denial}
-use Rattle.hc_model.specs.Effects.{Does, with_event, let_all_go, let_some_go, with_consumer, with_answer, with_founding, just_founded, as_gone}
-use Rattle.hc_model.specs.ExchangeRows.{promise_in}
-use Rattle.hc_model.specs.Flaws.{NoFlaw, Loses}
-use Rattle.hc_model.specs.Gone.{goes_by_case}
-use Rattle.hc_model.specs.Heads.{founded_total}
-use Rattle.hc_model.specs.Lawful.{Lawful}
-use Rattle.hc_model.specs.Reading.{is_written}
-use Rattle.hc_model.specs.RepresentationRows.{representation_after}
-use Rattle.hc_model.specs.Rows.{Tables, Exchange, Representation, Consumer}
-use Rattle.hc_model.specs.Tables.{with_item_first, to_front}
-use Rattle.hc_model.specs.Weights.{evicted}
 use Rattle.hc_effects.proofs.ActParts.{AllPass}
 use Rattle.hc_effects.proofs.Basics.{append_none, false_true, some_row}
 use Rattle.hc_effects.proofs.HeadFacts.{new, not_it, head_does, goes_on, rows, is_it, rows_stay}
@@ -38,13 +16,6 @@ use Rattle.hc_effects.proofs.HeadFrames.{e, row_founds, has_as, heard}
 use Rattle.hc_effects.proofs.KeyActs.{HasRow, evicted_rows}
 use Rattle.hc_effects.proofs.PieceKeeps.{eq_cases}
 use Rattle.hc_effects.proofs.SameTables.{is_in, waits_for_any}
-use Rattle.hc_model.specs.Closings.{is_refused}
-use Rattle.hc_model.specs.Dooms.{doomed_by_case}
-use Rattle.hc_model.specs.Exchanges.{is_reached}
-use Rattle.hc_model.specs.StartingOver.{sends_back}
-use Rattle.hc_model.specs.Failures.{cause_by_case}
-use Rattle.hc_model.specs.ActFilters.{loses_in}
-use Rattle.hc_model.specs.Answers.{loss_acts}
 use Rattle.hc_effects.proofs.KeysKeep.{current_row}
 
 -- WHAT GOES

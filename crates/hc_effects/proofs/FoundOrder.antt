@@ -2,9 +2,7 @@
 use Rattle.std.proofs.Common.{◌≡◌, inl, inr, ℕ, List, false, Option, Some, refl, ap, ap₂, sym, ◌∙◌}
 use mathlib.Core.Path.{fun_ext}
 use Rattle.std.specs.Prelude.{◌==◌, if◌then◌else◌, option_map}
-use Rattle.hc_event.specs.declared.event.Response.{Response}
-use Rattle.hc_model.specs.Effects.{as_gone, let_all_go, with_consumer, with_answer, with_founding}
-use Rattle.hc_model.specs.Rows.{Tables, Exchange, Representation, Consumer}
+use Rattle.hc_effects.proofs.Vocabulary.{Response, as_gone, let_all_go, with_consumer, with_answer, with_founding, Tables, Exchange, Representation, Consumer}
 use Rattle.hc_effects.proofs.PieceKeeps.{eq_cases}
 use Rattle.hc_effects.proofs.SameTables.{is_in, waits_for_any, back_from_any, all_go_is}
 

@@ -5,38 +5,16 @@ use Rattle.std.proofs.lemmas.Bool.Decides.{nat_tests}
 use Rattle.std.specs.Prelude.{◌&&◌, ◌||◌, ◌==◌, not, nat_eq, if◌then◌else◌, option_map, map, filter, reverse}
 use Rattle.std.specs.List.{list_any, sum_by}
 use Rattle.hc_text.proofs.Basics.{or_false as or_off}
-use Rattle.hc_event.specs.declared.event.Event.{Event}
+use Rattle.hc_effects.proofs.Vocabulary.{Event, Response, HeadCase, Limits, Room, head_case, route_of, room_of, weight_of, case_at, head_view, is_founding, idle_now, current, is_current, denial, doomed_by_case, as_gone, let_all_go, with_consumer, Entry, entry_without_acts, NoFlaw, goes_itself, goes_by_case, becomes_gone, Lawful, MayLetGo, weight_now, room_now, giving_way, IsAwaiting, bound, is_bound, is_bound_place, Tables, Exchange, Representation, Consumer, weight, idle, evicted, room_for, room_by, write_in, moves_on, stays_bound, stays_current, is_idle}
 use Rattle.hc_event.specs.declared.event.Event.TheVariants as event
-use Rattle.hc_event.specs.declared.event.Response.{Response}
-use Rattle.hc_rules.specs.declared.heads.HeadCase.{HeadCase}
 use Rattle.hc_rules.specs.declared.need.Route.TheVariants as route
-use Rattle.hc_rules.specs.declared.room.Limits.{Limits}
-use Rattle.hc_rules.specs.declared.room.Room.{Room}
 use Rattle.hc_rules.specs.declared.room.Room.TheVariants as room
 use Rattle.hc_rules.specs.declared.room.Write.TheVariants as write
-use Rattle.hc_rules.specs.HeadCases.{head_case}
-use Rattle.hc_rules.specs.Needs.{route_of}
-use Rattle.hc_rules.specs.Rooms.{room_of, weight_of}
 use Rattle.hc_event.specs.declared.place.Place.TheVariants as place
-use Rattle.hc_model.specs.Cases.{case_at, head_view, is_founding}
 use Rattle.hc_model.specs.Contents as contents
-use Rattle.hc_model.specs.Contents.{idle_now}
-use Rattle.hc_model.specs.Currents.{current, is_current}
-use Rattle.hc_model.specs.Denials.{denial}
-use Rattle.hc_model.specs.Dooms.{doomed_by_case}
-use Rattle.hc_model.specs.Effects.{as_gone, let_all_go, with_consumer}
-use Rattle.hc_model.specs.Entries.{Entry, entry_without_acts}
-use Rattle.hc_model.specs.Flaws.{NoFlaw}
-use Rattle.hc_model.specs.Gone.{goes_itself, goes_by_case, becomes_gone}
-use Rattle.hc_model.specs.Lawful.{Lawful}
 use Rattle.hc_model.specs.LettingGo as going
-use Rattle.hc_model.specs.LettingGo.{MayLetGo, weight_now, room_now, giving_way}
-use Rattle.hc_model.specs.Owners.{IsAwaiting}
 use Rattle.hc_model.specs.Owners as owners
-use Rattle.hc_model.specs.Reading.{bound, is_bound, is_bound_place}
-use Rattle.hc_model.specs.Rows.{Tables, Exchange, Representation, Consumer}
 use Rattle.hc_model.specs.Weights as weights
-use Rattle.hc_model.specs.Weights.{weight, idle, evicted, room_for, room_by, write_in, moves_on, stays_bound, stays_current, is_idle}
 use Rattle.hc_effects.proofs.FirstKeeps.{case_is}
 use Rattle.hc_effects.proofs.FoundBy.{FoundingBy, founding_by}
 use Rattle.hc_effects.proofs.FoundBy as cases

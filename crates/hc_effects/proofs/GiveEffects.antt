@@ -3,15 +3,7 @@ use Rattle.std.proofs.Common.{◌≡◌, ℕ, ◌+◌, [], length, Some, refl}
 use Rattle.hc_text.proofs.Basics.{eqb-same}
 use Rattle.hc_sparse.specs.declared.run.Run.{Run}
 use Rattle.hc_event.specs.declared.event.Event.TheVariants as event
-use Rattle.hc_rules.specs.declared.room.Limits.{Limits}
-use Rattle.hc_model.specs.ConsumerRows.{consumer_acted}
-use Rattle.hc_model.specs.Effects.{Does, with_event, with_consumer}
-use Rattle.hc_model.specs.Entries.{Entry}
-use Rattle.hc_model.specs.Flaws.{NoFlaw}
-use Rattle.hc_model.specs.Lawful.{Lawful}
-use Rattle.hc_model.specs.Moves.{Gives, acts_of}
-use Rattle.hc_model.specs.Polls.{move_of}
-use Rattle.hc_model.specs.Rows.{Tables, Consumer}
+use Rattle.hc_effects.proofs.Vocabulary.{Limits, consumer_acted, Does, with_event, with_consumer, Entry, NoFlaw, Lawful, Gives, acts_of, move_of, Tables, Consumer}
 use Rattle.hc_effects.proofs.Basics.{append_none}
 use Rattle.hc_effects.proofs.OfConsumers.{BringsNothing, brings_nothing, binds_none, exchanges_stay}
 use Rattle.hc_effects.proofs.OfConsumers as event_of

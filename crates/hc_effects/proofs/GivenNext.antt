@@ -12,24 +12,11 @@ use Rattle.hc_sparse.specs.Cells.{Cells, Cell, EndsBy}
 use Rattle.hc_sparse.specs.Runs.{end_of}
 use Rattle.hc_sparse.specs.Stretch.{stretch, stretch_of, bytes_from, IsLongest}
 use Rattle.hc_sparse.specs.declared.run.Run.{Run}
-use Rattle.hc_event.specs.declared.act.Cause.{Cause}
+use Rattle.hc_effects.proofs.Vocabulary.{Cause, Request, read_step, is_at_end, cut_at, stored_or, held_or, fails_or, waits_or, opens, ReadView, Place, row_of, is_number, base, stretch_to, Nothing, Gives, Ends, Fails, gives, waits_for, opens_hole, bound_to, offset, hi_of, lo_of, Delivers, answer_cell, cell_by, body_of, direct_cell, Tables, Exchange, Representation, Consumer, Sound, IsStored, stored_from, stored_ahead, run_of, held_of_exchange, held_of_lost, held_at, run_held_for, read_view, most, later_hole, step_move, reading}
 use Rattle.hc_event.specs.declared.act.Wait.TheVariants as wait
-use Rattle.hc_event.specs.declared.event.Request.{Request}
-use Rattle.hc_rules.specs.Readings.{read_step, is_at_end, cut_at, stored_or, held_or, fails_or, waits_or, opens}
-use Rattle.hc_rules.specs.declared.reading.ReadView.{ReadView}
-use Rattle.hc_event.specs.declared.place.Place.{Place}
 use Rattle.hc_event.specs.declared.place.Place.TheVariants as place
-use Rattle.hc_model.specs.Currents.{row_of, is_number}
-use Rattle.hc_model.specs.Exchanges.{base}
 use Rattle.hc_model.specs.Exchanges as exchanges
-use Rattle.hc_model.specs.Holes.{stretch_to}
 use Rattle.hc_model.specs.Moves as moves
-use Rattle.hc_model.specs.Moves.{Nothing, Gives, Ends, Fails, gives, waits_for, opens_hole}
-use Rattle.hc_model.specs.Reading.{bound_to, offset, hi_of, lo_of}
-use Rattle.hc_model.specs.Reads.{Delivers, answer_cell, cell_by, body_of, direct_cell}
-use Rattle.hc_model.specs.Rows.{Tables, Exchange, Representation, Consumer}
-use Rattle.hc_model.specs.Sound.{Sound, IsStored}
-use Rattle.hc_model.specs.Steps.{stored_from, stored_ahead, run_of, held_of_exchange, held_of_lost, held_at, run_held_for, read_view, most, later_hole, step_move, reading}
 
 -- A STRETCH
 

@@ -4,14 +4,10 @@ use Rattle.std.specs.Prelude.{nat_lt}
 use Rattle.hc_text.proofs.Basics.{bool_cases}
 use Rattle.hc_sparse.specs.declared.run.Run.{Run}
 use Rattle.hc_event.specs.declared.act.Wait.TheVariants as wait
-use Rattle.hc_event.specs.declared.event.Event.{Event}
+use Rattle.hc_effects.proofs.Vocabulary.{Event, denial, is_live, Move, Nothing, Gives, Fails, Tables, Consumer, reading}
 use Rattle.hc_event.specs.declared.event.Event.TheVariants as event
 use Rattle.hc_rules.specs.Refusals as refusals
-use Rattle.hc_model.specs.Denials.{denial, is_live}
 use Rattle.hc_model.specs.Moves as moves
-use Rattle.hc_model.specs.Moves.{Move, Nothing, Gives, Fails}
-use Rattle.hc_model.specs.Rows.{Tables, Consumer}
-use Rattle.hc_model.specs.Steps.{reading}
 use Rattle.hc_effects.proofs.Basics.{false_true}
 use Rattle.hc_effects.proofs.MoveBy.{MoveBy}
 use Rattle.hc_effects.proofs.MoveBy as by_move

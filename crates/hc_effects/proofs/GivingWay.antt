@@ -6,17 +6,11 @@ use Rattle.std.specs.Option.{option_map}
 use Rattle.std.proofs.lemmas.Bool.Decides.{nat_tests}
 use Rattle.std.proofs.lemmas.List.Sums.{sum_by-cons}
 use Rattle.hc_text.proofs.Basics.{bool_cases}
-use Rattle.hc_event.specs.declared.event.Event.{Event}
+use Rattle.hc_effects.proofs.Vocabulary.{Event, gives_way, room_of, grown_by, is_too_large, Limits, Write, Entry, entry_without_acts, Tables, weight, weights, idle, write_in, room_by, room_for, first_idle}
 use Rattle.hc_rules.specs.Rooms as rooms
-use Rattle.hc_rules.specs.Rooms.{gives_way, room_of, grown_by, is_too_large}
-use Rattle.hc_rules.specs.declared.room.Limits.{Limits}
 use Rattle.hc_rules.specs.declared.room.Room.TheVariants as room
-use Rattle.hc_rules.specs.declared.room.Write.{Write}
-use Rattle.hc_model.specs.Entries.{Entry, entry_without_acts}
 use Rattle.hc_model.specs.Evictions.{GivesWay, MakesRoom, SomeGiveWay, HasNoRoom, HasTooLarge, WritesNothing}
 use Rattle.hc_model.specs.Evictions as evictions
-use Rattle.hc_model.specs.Rows.{Tables}
-use Rattle.hc_model.specs.Weights.{weight, weights, idle, write_in, room_by, room_for, first_idle}
 
 -- HOW MANY
 

@@ -4,37 +4,13 @@ use Rattle.std.specs.Prelude.{◌&&◌, ◌||◌, ◌==◌, not, nat_eq, filter}
 use Rattle.std.specs.List.{list_all}
 use Rattle.std.proofs.lemmas.Bool.Decides.{nat_tests}
 use Rattle.hc_text.proofs.Basics.{both_true as and_both, and_left, and_right, bool_cases, not_some as none_some, never_true as not_so, or_cases, or_right, some_inj}
-use Rattle.hc_event.specs.Filters.{leaves_in, closes_in}
-use Rattle.hc_event.specs.declared.event.Event.{Event}
+use Rattle.hc_effects.proofs.Vocabulary.{leaves_in, closes_in, Event, Response, HeadCase, Limits, Place, BoundBy, case_at, head_view, is_founding, is_joining, must_close, is_left, is_left_by, is_last_reader, leaver, leaver_by, consumer_heard, consumer_acted, becomes_shared, by_head, place_by_case, due_after, back_in_line, is_number, denial, doomed_key_of, doomed_in, doomed_by_head, doomed_by_case, is_key, Entry, exchange_heard, exchange_acted, promise_in, exchange_at, is_for, is_open, Flaw, entry_of, Owners, IsAwaiting, is_written, is_bound, is_bound_place, bound, shared_exchange, Tables, Exchange, Representation, Consumer, may_stand, Sound, Numbered, Among, IsBound, starts_over, waits_at, sends_back, loses_what_it_waits_for, after_accepted, route_of, head_case, has_loss, writer_at}
 use Rattle.hc_event.specs.declared.event.Event.TheVariants as event
-use Rattle.hc_event.specs.declared.event.Response.{Response}
-use Rattle.hc_rules.specs.declared.heads.HeadCase.{HeadCase}
 use Rattle.hc_rules.specs.declared.heads.HeadCase.TheVariants as case
-use Rattle.hc_rules.specs.declared.room.Limits.{Limits}
-use Rattle.hc_event.specs.declared.place.Place.{Place}
 use Rattle.hc_event.specs.declared.place.Place.TheVariants as place
-use Rattle.hc_event.specs.declared.place.BoundBy.{BoundBy}
 use Rattle.hc_event.specs.declared.place.BoundBy.TheVariants as by
-use Rattle.hc_model.specs.Cases.{case_at, head_view, is_founding, is_joining}
-use Rattle.hc_model.specs.Closings.{must_close, is_left, is_left_by, is_last_reader, leaver, leaver_by}
-use Rattle.hc_model.specs.ConsumerRows.{consumer_heard, consumer_acted, becomes_shared, by_head, place_by_case, due_after, back_in_line}
-use Rattle.hc_model.specs.Currents.{is_number}
-use Rattle.hc_model.specs.Denials.{denial}
-use Rattle.hc_model.specs.Dooms.{doomed_key_of, doomed_in, doomed_by_head, doomed_by_case, is_key}
-use Rattle.hc_model.specs.Entries.{Entry}
-use Rattle.hc_model.specs.ExchangeRows.{exchange_heard, exchange_acted, promise_in}
-use Rattle.hc_model.specs.Exchanges.{exchange_at, is_for, is_open}
-use Rattle.hc_model.specs.Flaws.{Flaw}
-use Rattle.hc_model.specs.Keys.{entry_of}
-use Rattle.hc_model.specs.Owners.{Owners, IsAwaiting}
 use Rattle.hc_model.specs.Owners as owners
-use Rattle.hc_model.specs.Reading.{is_written, is_bound, is_bound_place, bound, shared_exchange}
-use Rattle.hc_model.specs.Rows.{Tables, Exchange, Representation, Consumer}
-use Rattle.hc_model.specs.Runs.{may_stand}
-use Rattle.hc_model.specs.Sound.{Sound, Numbered, Among, IsBound}
 use Rattle.hc_model.specs.Sound as sound
-use Rattle.hc_model.specs.StartingOver.{starts_over, waits_at, sends_back, loses_what_it_waits_for}
-use Rattle.hc_model.specs.Tables.{after_accepted}
 use Rattle.hc_effects.proofs.ApartKeeps.{is_on, was_written, founded_shared}
 use Rattle.hc_effects.proofs.Basics.{false_true, number_is}
 use Rattle.hc_effects.proofs.BoundKeeps.{binds_kept}
@@ -54,10 +30,6 @@ use Rattle.hc_effects.proofs.ToBeShown.{heard_place}
 use Rattle.hc_effects.proofs.FoundBy.{CaseBy, case_by}
 use Rattle.hc_effects.proofs.FoundBy as cases
 use Rattle.hc_rules.specs.declared.need.Route.TheVariants as route
-use Rattle.hc_rules.specs.Needs.{route_of}
-use Rattle.hc_rules.specs.HeadCases.{head_case}
-use Rattle.hc_model.specs.ActFilters.{has_loss}
-use Rattle.hc_model.specs.RepresentationRows.{writer_at}
 use Rattle.hc_effects.proofs.Waiters.{IsWaiter, waiter_of}
 
 -- LISTS OF READERS

@@ -3,40 +3,13 @@ use Rattle.std.proofs.Common.{◌≡◌, ℕ, List, [], ◌∷◌, Bool, true, f
 use Rattle.std.specs.Prelude.{◌&&◌, ◌||◌, not, nat_lt, if◌then◌else◌, map}
 use Rattle.hc_text.proofs.Basics.{and_true, or_false as or_off, and_off as then_false}
 use Rattle.hc_event.specs.declared.act.Act.TheVariants as act
-use Rattle.hc_event.specs.declared.act.Cause.{Cause}
+use Rattle.hc_effects.proofs.Vocabulary.{Cause, Event, Response, HeadCase, HeadView, Limits, head_case, length_of, is_bad, route_of, head_view, is_founding, is_updating, is_joining, is_refused, consumer_after, back_in_line, current, is_number, denial, doomed_by_case, changes, Does, with_event, let_all_go, let_some_go, tables_after_close, all_closed, with_consumer, with_answer, unless_ended, promise_in, is_reached, cause_by_case, NoFlaw, goes_by_case, Lawful, IsAwaiting, is_written, reads, Tables, Exchange, Representation, Consumer, sends_back, with_item_first, evicted}
 use Rattle.hc_event.specs.declared.act.Cause.TheVariants as cause
-use Rattle.hc_event.specs.declared.event.Event.{Event}
 use Rattle.hc_event.specs.declared.event.Event.TheVariants as event
-use Rattle.hc_event.specs.declared.event.Response.{Response}
-use Rattle.hc_rules.specs.declared.heads.HeadCase.{HeadCase}
 use Rattle.hc_rules.specs.declared.heads.HeadCase.TheVariants as case
-use Rattle.hc_rules.specs.declared.heads.HeadView.{HeadView}
 use Rattle.hc_rules.specs.declared.need.Route.TheVariants as route
-use Rattle.hc_rules.specs.declared.room.Limits.{Limits}
-use Rattle.hc_rules.specs.HeadCases.{head_case}
-use Rattle.hc_rules.specs.Lengths.{length_of, is_bad}
-use Rattle.hc_rules.specs.Needs.{route_of}
 use Rattle.hc_event.specs.declared.place.Place.TheVariants as place
-use Rattle.hc_model.specs.Cases.{head_view, is_founding, is_updating, is_joining}
-use Rattle.hc_model.specs.Closings.{is_refused}
-use Rattle.hc_model.specs.ConsumerRows.{consumer_after, back_in_line}
-use Rattle.hc_model.specs.Currents.{current, is_number}
-use Rattle.hc_model.specs.Denials.{denial}
-use Rattle.hc_model.specs.Dooms.{doomed_by_case, changes}
-use Rattle.hc_model.specs.Effects.{Does, with_event, let_all_go, let_some_go, tables_after_close, all_closed, with_consumer, with_answer, unless_ended}
-use Rattle.hc_model.specs.ExchangeRows.{promise_in}
-use Rattle.hc_model.specs.Exchanges.{is_reached}
-use Rattle.hc_model.specs.Failures.{cause_by_case}
-use Rattle.hc_model.specs.Flaws.{NoFlaw}
-use Rattle.hc_model.specs.Gone.{goes_by_case}
-use Rattle.hc_model.specs.Lawful.{Lawful}
-use Rattle.hc_model.specs.Owners.{IsAwaiting}
 use Rattle.hc_model.specs.Owners as owners
-use Rattle.hc_model.specs.Reading.{is_written, reads}
-use Rattle.hc_model.specs.Rows.{Tables, Exchange, Representation, Consumer}
-use Rattle.hc_model.specs.StartingOver.{sends_back}
-use Rattle.hc_model.specs.Tables.{with_item_first}
-use Rattle.hc_model.specs.Weights.{evicted}
 use Rattle.hc_effects.proofs.FoundBy.{CaseBy, case_by}
 use Rattle.hc_effects.proofs.FoundBy as cases
 use Rattle.hc_effects.proofs.HeadFrames.{e, heard}

@@ -4,36 +4,11 @@ use mathlib.Core.Path.{fun_ext}
 use Rattle.std.specs.Prelude.{◌&&◌, ◌||◌, ◌==◌, not, nat_eq, if◌then◌else◌, option_map, map, filter, reverse, is_none, is_some}
 use Rattle.hc_text.proofs.Basics.{eqb-same, not_some as none_some, or_false as or_off, same_some as same_row, some_inj}
 use Rattle.hc_event.specs.declared.act.Act.TheVariants as act
-use Rattle.hc_event.specs.declared.act.Cause.{Cause}
-use Rattle.hc_event.specs.declared.event.Event.{Event}
+use Rattle.hc_effects.proofs.Vocabulary.{Cause, Event, Response, HeadCase, Length, Limits, head_case, length_of, is_bad, promise_of, has_loss, loses_in, accepted_acts, loss_acts, case_at, head_view, is_founding, is_updating, is_joining, closing, closes_row, is_refused, has_no_survivor, is_number, denial, doomed_key_of, doomed_by_case, Does, with_event, let_all_go, all_closed, with_consumer, with_answer, as_gone, Entry, entry_without_acts, promise_in, is_reached, family, Flaw, NoFlaw, Lawful, IsAwaiting, Tables, Exchange, Representation, Consumer, with_item_first, after_accepted, to_front, evicted, survivor, is_written, reads, goes_by_case, becomes_gone, sends_back, cause_by_case, consumer_after, back_in_line, representation_after, updates, Place}
 use Rattle.hc_event.specs.declared.event.Event.TheVariants as event
-use Rattle.hc_event.specs.declared.event.Response.{Response}
-use Rattle.hc_rules.specs.declared.heads.HeadCase.{HeadCase}
-use Rattle.hc_rules.specs.declared.length.Length.{Length}
 use Rattle.hc_rules.specs.declared.length.Length.TheVariants as told
-use Rattle.hc_rules.specs.declared.room.Limits.{Limits}
 use Rattle.hc_rules.specs.declared.room.Write.TheVariants as write
-use Rattle.hc_rules.specs.HeadCases.{head_case}
-use Rattle.hc_rules.specs.Lengths.{length_of, is_bad, promise_of}
-use Rattle.hc_model.specs.ActFilters.{has_loss, loses_in}
-use Rattle.hc_model.specs.Answers.{accepted_acts, loss_acts}
-use Rattle.hc_model.specs.Cases.{case_at, head_view, is_founding, is_updating, is_joining}
-use Rattle.hc_model.specs.Closings.{closing, closes_row, is_refused, has_no_survivor}
-use Rattle.hc_model.specs.Currents.{is_number}
-use Rattle.hc_model.specs.Denials.{denial}
-use Rattle.hc_model.specs.Dooms.{doomed_key_of, doomed_by_case}
-use Rattle.hc_model.specs.Effects.{Does, with_event, let_all_go, all_closed, with_consumer, with_answer, as_gone}
-use Rattle.hc_model.specs.Entries.{Entry, entry_without_acts}
-use Rattle.hc_model.specs.ExchangeRows.{promise_in}
-use Rattle.hc_model.specs.Exchanges.{is_reached, family}
-use Rattle.hc_model.specs.Flaws.{Flaw, NoFlaw}
-use Rattle.hc_model.specs.Lawful.{Lawful}
-use Rattle.hc_model.specs.Owners.{IsAwaiting}
 use Rattle.hc_model.specs.Owners as owners
-use Rattle.hc_model.specs.Rows.{Tables, Exchange, Representation, Consumer}
-use Rattle.hc_model.specs.Tables.{with_item_first, after_accepted, to_front}
-use Rattle.hc_model.specs.Weights.{evicted}
-use Rattle.hc_model.specs.Writers.{survivor}
 use Rattle.hc_effects.proofs.ActParts.{leaver_lost}
 use Rattle.hc_effects.proofs.Basics.{some_row, false_true}
 use Rattle.hc_effects.proofs.Closed.{reversed}
@@ -45,14 +20,7 @@ use Rattle.hc_effects.proofs.PieceKeeps.{eq_cases}
 use Rattle.hc_effects.proofs.SameTables.{is_in, waits_for_any}
 use Rattle.hc_effects.proofs.Sums.{reverse_once}
 use Rattle.hc_effects.proofs.Waiters.{IsWaiter, waiter_as, waits_undue}
-use Rattle.hc_model.specs.Reading.{is_written, reads}
-use Rattle.hc_model.specs.Gone.{goes_by_case, becomes_gone}
-use Rattle.hc_model.specs.StartingOver.{sends_back}
-use Rattle.hc_model.specs.Failures.{cause_by_case}
-use Rattle.hc_model.specs.ConsumerRows.{consumer_after, back_in_line}
-use Rattle.hc_model.specs.RepresentationRows.{representation_after, updates}
 use Rattle.hc_effects.proofs.Untouched.{IsSpared}
-use Rattle.hc_event.specs.declared.place.Place.{Place}
 
 -- a bad head promises nothing
 pub stays_open : (w : Exchange) (response : Response) → is_bad (length_of w.need w.request response) ≡ true → is_reached (promise_in w response) 0 ≡ false

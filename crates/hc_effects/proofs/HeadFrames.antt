@@ -3,35 +3,10 @@ use Rattle.std.proofs.Common.{◌≡◌, inl, inr, ℕ, List, [], ◌∷◌, ◌
 use Rattle.std.specs.Prelude.{◌&&◌, ◌||◌, ◌==◌, not, nat_eq, if◌then◌else◌, map, option_map}
 use Rattle.std.specs.Option.{option_or}
 use Rattle.hc_text.proofs.Basics.{eqb-same, not_some as none_some, or_left, or_false as or_off, or_right, and_off as then_false}
-use Rattle.hc_event.specs.Filters.{opening_in, asks_in, closes_in, evicts_in}
-use Rattle.hc_event.specs.declared.act.Act.{Act}
+use Rattle.hc_effects.proofs.Vocabulary.{opening_in, asks_in, closes_in, evicts_in, Act, Cause, Response, HeadCase, Place, loses_in, has_loss, misreads_in, loss_acts, case_at, is_founding, is_joining, is_updating, consumer_after, consumer_heard, consumer_settled, consumer_acted, place_by_case, becomes_shared, back_in_line, is_current, is_number, doomed_key_of, doomed_by_case, is_key, with_event, as_gone, let_all_go, over, all_closed, with_consumer, with_answer, exchange_with_head, with_refreshed_head, just_founded, lost_to, Entry, exchange_after, joined_at, becomes_due, cause_by_case, Flaw, becomes_gone, goes_by_case, ends_early, ends_founding, Lawful, IsAwaiting, reads, is_written, representation_after, updates, representation_heard, representation_acted, with_renewed_head, resumes, Tables, Exchange, Representation, Consumer, starts_over, sends_back, waits_at, loses_what_it_waits_for, after_accepted, with_item_first, founds, binds, to_front, opened_after, openings_after, loses_writing, goes_on_with}
 use Rattle.hc_event.specs.declared.act.Act.TheVariants as act
-use Rattle.hc_event.specs.declared.act.Cause.{Cause}
 use Rattle.hc_event.specs.declared.event.Event.TheVariants as event
-use Rattle.hc_event.specs.declared.event.Response.{Response}
-use Rattle.hc_rules.specs.declared.heads.HeadCase.{HeadCase}
-use Rattle.hc_event.specs.declared.place.Place.{Place}
-use Rattle.hc_model.specs.ActFilters.{loses_in, has_loss, misreads_in}
-use Rattle.hc_model.specs.Answers.{loss_acts}
-use Rattle.hc_model.specs.Cases.{case_at, is_founding, is_joining, is_updating}
-use Rattle.hc_model.specs.ConsumerRows.{consumer_after, consumer_heard, consumer_settled, consumer_acted, place_by_case, becomes_shared, back_in_line}
-use Rattle.hc_model.specs.Currents.{is_current, is_number}
-use Rattle.hc_model.specs.Dooms.{doomed_key_of, doomed_by_case, is_key}
-use Rattle.hc_model.specs.Effects.{with_event, as_gone, let_all_go, over, all_closed, with_consumer, with_answer, exchange_with_head, with_refreshed_head, just_founded, lost_to}
-use Rattle.hc_model.specs.Entries.{Entry}
-use Rattle.hc_model.specs.ExchangeRows.{exchange_after, joined_at}
-use Rattle.hc_model.specs.Failures.{becomes_due, cause_by_case}
-use Rattle.hc_model.specs.Flaws.{Flaw}
-use Rattle.hc_model.specs.Gone.{becomes_gone, goes_by_case, ends_early, ends_founding}
-use Rattle.hc_model.specs.Lawful.{Lawful}
-use Rattle.hc_model.specs.Owners.{IsAwaiting}
 use Rattle.hc_model.specs.Owners as owners
-use Rattle.hc_model.specs.Reading.{reads, is_written}
-use Rattle.hc_model.specs.RepresentationRows.{representation_after, updates, representation_heard, representation_acted, with_renewed_head, resumes}
-use Rattle.hc_model.specs.Rows.{Tables, Exchange, Representation, Consumer}
-use Rattle.hc_model.specs.StartingOver.{starts_over, sends_back, waits_at, loses_what_it_waits_for}
-use Rattle.hc_model.specs.Tables.{after_accepted, with_item_first, founds, binds, to_front, opened_after, openings_after}
-use Rattle.hc_model.specs.Writers.{loses_writing, goes_on_with}
 use Rattle.hc_effects.proofs.ActParts.{IsFarFrom, closes_evicted, closes_lost, asks_evicted, asks_lost, asks_closes, loses_evicted, loses_before, evicts_lost, evicts_closes, far_evicted, far_loss, far_closed}
 use Rattle.hc_effects.proofs.ConsumerEffects.{waits_as}
 use Rattle.hc_effects.proofs.Dues.{stop_none}

@@ -3,27 +3,10 @@ use Rattle.std.proofs.Common.{◌≡◌, ◌≢◌, ◌⊎◌, inl, inr, ℕ, �
 use Rattle.std.specs.Prelude.{is_some, is_none, nat_eq, option_map, unwrap_or}
 use Rattle.std.proofs.lemmas.Bool.Decides.{nat_tests}
 use Rattle.hc_text.proofs.Basics.{and_right, same_some as same_row, some_inj, not_some as some_none}
-use Rattle.hc_event.specs.Filters.{opening_in}
+use Rattle.hc_effects.proofs.Vocabulary.{opening_in, Response, Act, Need, has_loss, is_joining, case_of, case_at, head_view, Entry, joined_at, exchange_after, exchange_heard, exchange_acted, base, promised_bytes, front, family, length_by, row_of, representation_after_head, representation_after, representation_heard, representation_acted, with_renewed_head, new_representation, Tables, Exchange, Representation, Waits, Sound, OneAbout, IsAbout, IsPromised, InHole, after_accepted, HeadCase, head_case, Length, length_of, base_of, promise_of, is_bad}
 use Rattle.hc_event.specs.declared.event.Event.TheVariants as event
-use Rattle.hc_event.specs.declared.event.Response.{Response}
-use Rattle.hc_event.specs.declared.act.Act.{Act}
-use Rattle.hc_event.specs.declared.act.Need.{Need}
 use Rattle.hc_event.specs.declared.act.Need.TheVariants as need
 use Rattle.hc_sparse.specs.Cells.{Cells}
-use Rattle.hc_model.specs.ActFilters.{has_loss}
-use Rattle.hc_model.specs.Cases.{is_joining, case_of, case_at, head_view}
-use Rattle.hc_model.specs.Entries.{Entry}
-use Rattle.hc_model.specs.ExchangeRows.{joined_at, exchange_after, exchange_heard, exchange_acted}
-use Rattle.hc_model.specs.Exchanges.{base, promised_bytes, front, family, length_by}
-use Rattle.hc_model.specs.Currents.{row_of}
-use Rattle.hc_model.specs.RepresentationRows.{representation_after_head, representation_after, representation_heard, representation_acted, with_renewed_head, new_representation}
-use Rattle.hc_model.specs.Rows.{Tables, Exchange, Representation}
-use Rattle.hc_model.specs.Sound.{Waits, Sound, OneAbout, IsAbout, IsPromised, InHole}
-use Rattle.hc_model.specs.Tables.{after_accepted}
-use Rattle.hc_rules.specs.declared.heads.HeadCase.{HeadCase}
-use Rattle.hc_rules.specs.HeadCases.{head_case}
-use Rattle.hc_rules.specs.declared.length.Length.{Length}
-use Rattle.hc_rules.specs.Lengths.{length_of, base_of, promise_of, is_bad}
 use Rattle.hc_model.specs.Sound as sound
 use Rattle.hc_effects.proofs.PieceKeeps.{eq_cases, ends_same}
 use Rattle.hc_effects.proofs.QuietKeeps.{IsSame, IsKept, closed_only}

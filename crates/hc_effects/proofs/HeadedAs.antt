@@ -3,42 +3,13 @@ use Rattle.std.proofs.Common.{◌≡◌, ◌⊎◌, inl, inr, ℕ, true, false, 
 use Rattle.std.specs.Prelude.{◌&&◌, ◌||◌, ◌==◌, not, nat_eq}
 use Rattle.std.proofs.lemmas.Bool.Decides.{nat_tests}
 use Rattle.hc_text.proofs.Basics.{both_true as and_both, and_right, not_some as none_some, never_true as not_so, or_left, or_right, same_some as same_row, some_inj}
-use Rattle.hc_event.specs.Filters.{leaves_in, closes_in}
-use Rattle.hc_event.specs.declared.event.Event.{Event}
+use Rattle.hc_effects.proofs.Vocabulary.{leaves_in, closes_in, Event, Request, Response, Need, HeadCase, Wanted, Limits, head_case, length_of, promise_of, is_head, route_of, range_of, wanted_of, Place, BoundBy, has_loss, case_at, head_view, is_founding, is_joining, must_close, is_refused, brings_head, consumer_heard, by_head, place_by_case, bound_to_wanted, denial, Entry, exchange_heard, exchange_acted, promise_in, exchange_at, is_for, is_reached, Flaw, founded_total, entry_of, Owners, IsAwaiting, Tables, Exchange, Consumer, Sound, starts_over, sends_back, after_accepted}
 use Rattle.hc_event.specs.declared.event.Event.TheVariants as event
-use Rattle.hc_event.specs.declared.event.Request.{Request}
-use Rattle.hc_event.specs.declared.event.Response.{Response}
-use Rattle.hc_event.specs.declared.act.Need.{Need}
-use Rattle.hc_rules.specs.declared.heads.HeadCase.{HeadCase}
 use Rattle.hc_rules.specs.declared.need.Route.TheVariants as route
-use Rattle.hc_rules.specs.declared.request.Wanted.{Wanted}
 use Rattle.hc_rules.specs.declared.request.Wanted.TheVariants as wanted
-use Rattle.hc_rules.specs.declared.room.Limits.{Limits}
-use Rattle.hc_rules.specs.HeadCases.{head_case}
-use Rattle.hc_rules.specs.Lengths.{length_of, promise_of, is_head}
-use Rattle.hc_rules.specs.Needs.{route_of}
-use Rattle.hc_rules.specs.Requests.{range_of, wanted_of}
-use Rattle.hc_event.specs.declared.place.Place.{Place}
 use Rattle.hc_event.specs.declared.place.Place.TheVariants as place
-use Rattle.hc_event.specs.declared.place.BoundBy.{BoundBy}
 use Rattle.hc_event.specs.declared.place.BoundBy.TheVariants as by
-use Rattle.hc_model.specs.ActFilters.{has_loss}
-use Rattle.hc_model.specs.Cases.{case_at, head_view, is_founding, is_joining}
-use Rattle.hc_model.specs.Closings.{must_close, is_refused, brings_head}
-use Rattle.hc_model.specs.ConsumerRows.{consumer_heard, by_head, place_by_case, bound_to_wanted}
-use Rattle.hc_model.specs.Denials.{denial}
-use Rattle.hc_model.specs.Entries.{Entry}
-use Rattle.hc_model.specs.ExchangeRows.{exchange_heard, exchange_acted, promise_in}
-use Rattle.hc_model.specs.Exchanges.{exchange_at, is_for, is_reached}
-use Rattle.hc_model.specs.Flaws.{Flaw}
-use Rattle.hc_model.specs.Heads.{founded_total}
-use Rattle.hc_model.specs.Keys.{entry_of}
-use Rattle.hc_model.specs.Owners.{Owners, IsAwaiting}
 use Rattle.hc_model.specs.Owners as owners
-use Rattle.hc_model.specs.Rows.{Tables, Exchange, Consumer}
-use Rattle.hc_model.specs.Sound.{Sound}
-use Rattle.hc_model.specs.StartingOver.{starts_over, sends_back}
-use Rattle.hc_model.specs.Tables.{after_accepted}
 use Rattle.hc_effects.proofs.Basics.{false_true, or_false}
 use Rattle.hc_effects.proofs.Closed.{before, closes}
 use Rattle.hc_effects.proofs.ExchangeFrom.{IsSame, IsHeaded}

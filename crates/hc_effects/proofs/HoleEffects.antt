@@ -1,29 +1,13 @@
 -- What a poll does that opens an exchange for a hole: a first one binds its consumer, and a later one is that of a reader.
 use Rattle.std.proofs.Common.{◌≡◌, ℕ, [], true, Option, Some, None, refl, ap, sym, ◌∙◌, subst}
 use Rattle.hc_range.specs.declared.range.Span.{Span}
-use Rattle.hc_event.specs.declared.act.Need.{Need}
+use Rattle.hc_effects.proofs.Vocabulary.{Need, Request, Limits, range_of, wanted_of, BoundBy, opened_place, place_for_hole, bound_to_wanted, unless_bound, current, row_of, Does, with_event, used_last, with_consumer, with_opening, just_opened, Entry, aim_from, NoFlaw, Lawful, Opens, acts_of, move_of, bound_to, Tables, Representation, Consumer, to_front, binds}
 use Rattle.hc_event.specs.declared.act.Need.TheVariants as need
 use Rattle.hc_event.specs.declared.event.Event.TheVariants as event
-use Rattle.hc_event.specs.declared.event.Request.{Request}
 use Rattle.hc_rules.specs.declared.request.Wanted.TheVariants as wanted
-use Rattle.hc_rules.specs.declared.room.Limits.{Limits}
-use Rattle.hc_rules.specs.Requests.{range_of, wanted_of}
 use Rattle.hc_event.specs.declared.place.Place.TheVariants as place
-use Rattle.hc_event.specs.declared.place.BoundBy.{BoundBy}
 use Rattle.hc_event.specs.declared.place.BoundBy.TheVariants as by
-use Rattle.hc_model.specs.ConsumerRows.{opened_place, place_for_hole, bound_to_wanted, unless_bound}
 use Rattle.hc_rules.specs.declared.need.Route.TheVariants as route
-use Rattle.hc_model.specs.Currents.{current, row_of}
-use Rattle.hc_model.specs.Effects.{Does, with_event, used_last, with_consumer, with_opening, just_opened}
-use Rattle.hc_model.specs.Entries.{Entry}
-use Rattle.hc_model.specs.ExchangeRows.{aim_from}
-use Rattle.hc_model.specs.Flaws.{NoFlaw}
-use Rattle.hc_model.specs.Lawful.{Lawful}
-use Rattle.hc_model.specs.Moves.{Opens, acts_of}
-use Rattle.hc_model.specs.Polls.{move_of}
-use Rattle.hc_model.specs.Reading.{bound_to}
-use Rattle.hc_model.specs.Rows.{Tables, Representation, Consumer}
-use Rattle.hc_model.specs.Tables.{to_front, binds}
 use Rattle.hc_effects.proofs.Basics.{false_true}
 use Rattle.hc_effects.proofs.OfConsumers.{BringsNothing, binds_as}
 use Rattle.hc_effects.proofs.OpenEffects.{e, nothing, why, opens, keeps_all, about_current}

@@ -4,7 +4,7 @@ use Rattle.std.specs.Prelude.{is_some, is_none}
 use Rattle.std.proofs.lemmas.Bool.Decides.{nat_tests}
 use Rattle.hc_text.proofs.Basics.{bool_cases, lt_cases}
 use Rattle.hc_sparse.specs.Cells.{Cells, Cell, EndsBy, Covers}
-use Rattle.hc_model.specs.Holes.{first_place, absent_from, covers, hole_at}
+use Rattle.hc_effects.proofs.Vocabulary.{first_place, absent_from, covers, hole_at}
 
 pub none_of : (o : Option Cell) → is_some o ≡ false → o ≡ None
 none_of None h = refl

@@ -4,11 +4,7 @@ use Rattle.std.specs.Prelude.{is_some}
 use Rattle.hc_text.proofs.Basics.{bool_cases, lt_or as split}
 use Rattle.hc_range.specs.declared.range.Span.{Span}
 use Rattle.hc_sparse.specs.Cells.{Cells, EndsBy}
-use Rattle.hc_model.specs.Exchanges.{front}
-use Rattle.hc_model.specs.Holes.{first_hole, hole_at, absent_from, covers}
-use Rattle.hc_model.specs.Reading.{offset}
-use Rattle.hc_model.specs.Rows.{Tables, Representation, Consumer}
-use Rattle.hc_model.specs.Sound.{Sound, IsSoundRepresentation, IsExclusiveWriter}
+use Rattle.hc_effects.proofs.Vocabulary.{front, first_hole, hole_at, absent_from, covers, offset, Tables, Representation, Consumer, Sound, IsSoundRepresentation, IsExclusiveWriter}
 use Rattle.hc_model.specs.Sound as sound
 use Rattle.hc_effects.proofs.HoleLemmas.{none_of, hole_absent}
 use Rattle.hc_effects.proofs.ExclusiveWriters.{IsAtHole, has_exclusive_writer}

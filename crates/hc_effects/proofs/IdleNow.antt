@@ -4,31 +4,14 @@ use Rattle.std.specs.Prelude.{filter, reverse, nat_eq, ◌==◌, ◌&&◌, not}
 use Rattle.std.specs.List.{list_any}
 use Rattle.std.proofs.lemmas.Bool.Decides.{nat_tests}
 use Rattle.hc_text.proofs.Basics.{and_left, and_right, bool_cases, not_some as none_some, or_left, or_right, same_some as same_row}
-use Rattle.hc_event.specs.declared.event.Event.{Event}
+use Rattle.hc_effects.proofs.Vocabulary.{Event, Response, HeadCase, route_of, Limits, Place, case_at, head_view, is_current, denial, Entry, entry_without_acts, outlasts, outlasts_row, exchange_at, is_for, NoFlaw, goes_itself, goes_by_case, goes_by_head, goes_by_exchange, Owners, IsAwaiting, bound, is_bound_place, Tables, Exchange, Representation, Consumer, Sound, Among, IsBound, idle, is_idle, stays_bound, moves_on, is_replacing}
 use Rattle.hc_event.specs.declared.event.Event.TheVariants as event
-use Rattle.hc_event.specs.declared.event.Response.{Response}
-use Rattle.hc_rules.specs.declared.heads.HeadCase.{HeadCase}
 use Rattle.hc_rules.specs.declared.heads.HeadCase.TheVariants as case
 use Rattle.hc_rules.specs.declared.need.Route.TheVariants as route
-use Rattle.hc_rules.specs.Needs.{route_of}
-use Rattle.hc_rules.specs.declared.room.Limits.{Limits}
-use Rattle.hc_event.specs.declared.place.Place.{Place}
-use Rattle.hc_model.specs.Cases.{case_at, head_view}
 use Rattle.hc_model.specs.Contents as contents
-use Rattle.hc_model.specs.Currents.{is_current}
-use Rattle.hc_model.specs.Denials.{denial}
-use Rattle.hc_model.specs.Entries.{Entry, entry_without_acts}
-use Rattle.hc_model.specs.Evictions.{outlasts, outlasts_row, IdleButGone}
-use Rattle.hc_model.specs.Exchanges.{exchange_at, is_for}
-use Rattle.hc_model.specs.Flaws.{NoFlaw}
-use Rattle.hc_model.specs.Gone.{goes_itself, goes_by_case, goes_by_head, goes_by_exchange}
-use Rattle.hc_model.specs.Owners.{Owners, IsAwaiting}
+use Rattle.hc_model.specs.Evictions.{IdleButGone}
 use Rattle.hc_model.specs.Owners as owners
-use Rattle.hc_model.specs.Reading.{bound, is_bound_place}
-use Rattle.hc_model.specs.Rows.{Tables, Exchange, Representation, Consumer}
-use Rattle.hc_model.specs.Sound.{Sound, Among, IsBound}
 use Rattle.hc_model.specs.Sound as sound
-use Rattle.hc_model.specs.Weights.{idle, is_idle, stays_bound, moves_on, is_replacing}
 use Rattle.hc_effects.proofs.Basics.{false_true, true_false, number_yes}
 use Rattle.hc_effects.proofs.FirstKeeps.{is_new, case_of_head}
 use Rattle.hc_effects.proofs.FoundBy.{CaseBy}

@@ -4,25 +4,13 @@ use Rattle.std.specs.Prelude.{codes, ◌==◌}
 use Rattle.std.proofs.lemmas.Bool.Decides.{nat_tests}
 use Rattle.hc_text.proofs.Basics.{either}
 use Rattle.hc_range.specs.declared.range.ContentRange.TheVariants as range
-use Rattle.hc_event.specs.declared.event.Response.{Response}
-use Rattle.hc_event.specs.declared.event.Request.{Request}
-use Rattle.hc_event.specs.declared.act.Need.{Need}
+use Rattle.hc_effects.proofs.Vocabulary.{Response, Request, Need, Route, HeadCase, HeadView, Length, head_case, case_on, direct_case, turn_case, first_case, later_case, length_of, content_length_of, part_length, has_no_body, route_of, content_range_of, Representation, is_joining, joins_row, joins_by}
 use Rattle.hc_event.specs.declared.act.Need.TheVariants as need
-use Rattle.hc_rules.specs.declared.need.Route.{Route}
 use Rattle.hc_rules.specs.declared.need.Route.TheVariants as route
-use Rattle.hc_rules.specs.declared.heads.HeadCase.{HeadCase}
 use Rattle.hc_rules.specs.declared.heads.HeadCase.TheVariants as case
-use Rattle.hc_rules.specs.declared.heads.HeadView.{HeadView}
-use Rattle.hc_rules.specs.declared.length.Length.{Length}
 use Rattle.hc_rules.specs.declared.length.Length.TheVariants as told
-use Rattle.hc_rules.specs.HeadCases.{head_case, case_on, direct_case, turn_case, first_case, later_case}
-use Rattle.hc_rules.specs.Lengths.{length_of, content_length_of, part_length, has_no_body}
-use Rattle.hc_rules.specs.Needs.{route_of}
-use Rattle.hc_rules.specs.RangeTexts.{content_range_of}
 use Rattle.hc_rules.proofs.JoinLaws.{joins-right}
 use Rattle.hc_fields.specs.FieldElements.{elements_in}
-use Rattle.hc_model.specs.Rows.{Representation}
-use Rattle.hc_model.specs.Cases.{is_joining, joins_row, joins_by}
 
 -- why a head is one that joins
 pub data MayJoin (v : HeadView) : HeadCase → Type 0 where

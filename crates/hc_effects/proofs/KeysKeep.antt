@@ -3,28 +3,9 @@ use Rattle.std.proofs.Common.{◌≡◌, ◌⊎◌, inl, inr, ℕ, List, ◌++�
 use Rattle.std.specs.Prelude.{◌&&◌, ◌==◌, if◌then◌else◌}
 use Rattle.std.specs.Option.{option_map}
 use Rattle.hc_text.proofs.Basics.{and_left, and_right as and_then, bool_cases, eq_itself as eq-refl, eq_tells as eq_is, not_some as none_some, some_inj}
-use Rattle.hc_model.specs.Exchanges.{family}
-use Rattle.hc_event.specs.Filters.{Opening, opening_in}
-use Rattle.hc_event.specs.declared.act.Act.{Act}
-use Rattle.hc_event.specs.declared.event.Event.{Event}
+use Rattle.hc_effects.proofs.Vocabulary.{family, Opening, opening_in, Act, Event, Request, Response, Limits, accepted_acts, answer_acts, loss_acts, case_at, is_founding, is_joining, closing, current, is_usable, Entry, exchange_after, exchange_heard, exchange_acted, exchange_made, exchange_opened, Flaw, HasRow, Move, acts_of, representation_after, representation_heard, representation_acted, founded_at, new_representation, representation_after_head, with_renewed_head, updates, resumes, representation_after_piece, with_total_if_none, length_in, writer_at, Tables, Exchange, Representation, Consumer, after_accepted, evicted}
 use Rattle.hc_event.specs.declared.event.Event.TheVariants as event
-use Rattle.hc_event.specs.declared.event.Request.{Request}
-use Rattle.hc_event.specs.declared.event.Response.{Response}
-use Rattle.hc_rules.specs.declared.room.Limits.{Limits}
 use Rattle.hc_rules.proofs.RangeReads.{same_bytes}
-use Rattle.hc_model.specs.Answers.{accepted_acts, answer_acts, loss_acts}
-use Rattle.hc_model.specs.Cases.{case_at, is_founding, is_joining}
-use Rattle.hc_model.specs.Closings.{closing}
-use Rattle.hc_model.specs.Currents.{current, is_usable}
-use Rattle.hc_model.specs.Entries.{Entry}
-use Rattle.hc_model.specs.ExchangeRows.{exchange_after, exchange_heard, exchange_acted, exchange_made, exchange_opened}
-use Rattle.hc_model.specs.Flaws.{Flaw}
-use Rattle.hc_model.specs.Keys.{HasRow}
-use Rattle.hc_model.specs.Moves.{Move, acts_of}
-use Rattle.hc_model.specs.RepresentationRows.{representation_after, representation_heard, representation_acted, founded_at, new_representation, representation_after_head, with_renewed_head, updates, resumes, representation_after_piece, with_total_if_none, length_in, writer_at}
-use Rattle.hc_model.specs.Rows.{Tables, Exchange, Representation, Consumer}
-use Rattle.hc_model.specs.Tables.{after_accepted}
-use Rattle.hc_model.specs.Weights.{evicted}
 use Rattle.hc_effects.proofs.ActParts.{IsAnswer, IsSaid, answer_is, said_is, asks_evicted, asks_closed, asks_closes, asks_lost, asks_loss}
 use Rattle.hc_effects.proofs.ActParts as parts
 use Rattle.hc_effects.proofs.Basics.{number_is}

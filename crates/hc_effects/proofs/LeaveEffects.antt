@@ -1,25 +1,10 @@
 -- What it does that a consumer ends, fails or is cancelled: it is over, and what nobody reads any more is closed.
 use Rattle.std.proofs.Common.{◌≡◌, ℕ, List, [], ◌++◌, false, Option, Some, None, refl, ap, sym, ◌∙◌}
 use Rattle.std.specs.Prelude.{map, nat_eq}
-use Rattle.hc_event.specs.declared.act.Act.{Act}
+use Rattle.hc_effects.proofs.Vocabulary.{Act, Cause, Event, Limits, Place, answer_acts, Does, with_event, with_consumer, let_some_go, let_all_go, as_over, left_by, going_with, with_leave, Entry, NoFlaw, becomes_gone, Lawful, Ends, Fails, acts_of, move_of, poll_move, Tables, Representation, Consumer, loses_what_it_waits_for, after_accepted, with_item_first}
 use Rattle.hc_event.specs.declared.act.Act.TheVariants as act
-use Rattle.hc_event.specs.declared.act.Cause.{Cause}
-use Rattle.hc_event.specs.declared.event.Event.{Event}
 use Rattle.hc_event.specs.declared.event.Event.TheVariants as event
-use Rattle.hc_rules.specs.declared.room.Limits.{Limits}
-use Rattle.hc_event.specs.declared.place.Place.{Place}
 use Rattle.hc_event.specs.declared.place.Place.TheVariants as place
-use Rattle.hc_model.specs.Answers.{answer_acts}
-use Rattle.hc_model.specs.Effects.{Does, with_event, with_consumer, let_some_go, let_all_go, as_over, left_by, going_with, with_leave}
-use Rattle.hc_model.specs.Entries.{Entry}
-use Rattle.hc_model.specs.Flaws.{NoFlaw}
-use Rattle.hc_model.specs.Gone.{becomes_gone}
-use Rattle.hc_model.specs.Lawful.{Lawful}
-use Rattle.hc_model.specs.Moves.{Ends, Fails, acts_of}
-use Rattle.hc_model.specs.Polls.{move_of, poll_move}
-use Rattle.hc_model.specs.Rows.{Tables, Representation, Consumer}
-use Rattle.hc_model.specs.StartingOver.{loses_what_it_waits_for}
-use Rattle.hc_model.specs.Tables.{after_accepted, with_item_first}
 use Rattle.hc_effects.proofs.ActParts.{IsFarFrom}
 use Rattle.hc_effects.proofs.Basics.{append_none}
 use Rattle.hc_effects.proofs.ConsumerEffects.{waits_as, representations, some_all}

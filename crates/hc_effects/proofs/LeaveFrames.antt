@@ -2,32 +2,11 @@
 use Rattle.std.proofs.Common.{◌≡◌, inl, inr, ℕ, List, [], ◌∷◌, ◌++◌, Bool, true, false, Option, Some, None, refl, ap, sym, ◌∙◌}
 use Rattle.std.specs.Prelude.{◌&&◌, ◌||◌, ◌==◌, not, nat_eq, if◌then◌else◌, map, option_map}
 use Rattle.hc_text.proofs.Basics.{bool_cases, eqb-same, not_some as none_some, or_false as or_off, or_rest, plus_none, and_off as then_false}
-use Rattle.hc_event.specs.Filters.{Opening, opening_in, asks_in, closes_in, evicts_in, leaves_in, shows_in, given_in}
-use Rattle.hc_event.specs.declared.act.Act.{Act}
+use Rattle.hc_effects.proofs.Vocabulary.{Opening, opening_in, asks_in, closes_in, evicts_in, leaves_in, shows_in, given_in, Act, Cause, Event, Limits, loses_in, misreads_in, showing_in, wait_in, accepted_acts, answer_acts, loss_acts, is_asked, closing, leaver_by, consumer_after, consumer_acted, consumer_heard, is_current, is_number, with_event, with_consumer, let_all_go, over, as_gone, as_over, left_by, is_unkeepable, going_with, Entry, exchange_after, is_open, Flaw, NoFlaw, Loses, Misreads, becomes_gone, ends_early, ends_founding, is_keepable, Lawful, is_failed_read, representation_after, Tables, Exchange, Representation, Consumer, loses_what_it_waits_for, after_accepted, with_item_first, starts_after, last_start_after, opened_after, openings_after}
 use Rattle.hc_event.specs.declared.act.Act.TheVariants as act
-use Rattle.hc_event.specs.declared.act.Cause.{Cause}
 use Rattle.hc_event.specs.declared.act.Cause.TheVariants as cause
-use Rattle.hc_event.specs.declared.event.Event.{Event}
 use Rattle.hc_event.specs.declared.event.Event.TheVariants as event
-use Rattle.hc_rules.specs.declared.room.Limits.{Limits}
 use Rattle.hc_event.specs.declared.place.Place.TheVariants as place
-use Rattle.hc_model.specs.ActFilters.{loses_in, misreads_in, showing_in, wait_in}
-use Rattle.hc_model.specs.Answers.{accepted_acts, answer_acts, loss_acts, is_asked}
-use Rattle.hc_model.specs.Closings.{closing, leaver_by}
-use Rattle.hc_model.specs.ConsumerRows.{consumer_after, consumer_acted, consumer_heard}
-use Rattle.hc_model.specs.Currents.{is_current, is_number}
-use Rattle.hc_model.specs.Effects.{with_event, with_consumer, let_all_go, over, as_gone, as_over, left_by, is_unkeepable, going_with}
-use Rattle.hc_model.specs.Entries.{Entry}
-use Rattle.hc_model.specs.ExchangeRows.{exchange_after}
-use Rattle.hc_model.specs.Exchanges.{is_open}
-use Rattle.hc_model.specs.Flaws.{Flaw, NoFlaw, Loses, Misreads}
-use Rattle.hc_model.specs.Gone.{becomes_gone, ends_early, ends_founding, is_keepable}
-use Rattle.hc_model.specs.Lawful.{Lawful}
-use Rattle.hc_model.specs.Places.{is_failed_read}
-use Rattle.hc_model.specs.RepresentationRows.{representation_after}
-use Rattle.hc_model.specs.Rows.{Tables, Exchange, Representation, Consumer}
-use Rattle.hc_model.specs.StartingOver.{loses_what_it_waits_for}
-use Rattle.hc_model.specs.Tables.{after_accepted, with_item_first, starts_after, last_start_after, opened_after, openings_after}
 use Rattle.hc_effects.proofs.ActParts.{IsFarFrom, far_closing, far_lost_only, closes_before, evicts_closed, loses_closed, asks_closed, asks_loss}
 use Rattle.hc_effects.proofs.Basics.{false_true, number_is}
 use Rattle.hc_effects.proofs.ConsumerEffects.{after_by, others}

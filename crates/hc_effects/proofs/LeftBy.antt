@@ -2,10 +2,7 @@
 use Rattle.std.proofs.Common.{◌≡◌, ℕ, Option, Some, None, refl, ◌∙◌}
 use Rattle.std.specs.Prelude.{if◌then◌else◌}
 use Rattle.hc_event.specs.declared.place.Place.TheVariants as place
-use Rattle.hc_model.specs.Effects.{left_by}
-use Rattle.hc_model.specs.Lawful.{Lawful}
-use Rattle.hc_model.specs.Reading.{own_open}
-use Rattle.hc_model.specs.Rows.{Tables, Consumer}
+use Rattle.hc_effects.proofs.Vocabulary.{left_by, Lawful, own_open, Tables, Consumer}
 
 -- WHAT IS LEFT
 
@@ -14,7 +11,6 @@ pub left_own : (t : Tables) (c x : ℕ) (k : Consumer) → own_open t k ≡ Some
 left_own t c x k own = rw own refl
 
 module _ (t : Tables) (law : Lawful t) (c : ℕ) (k : Consumer) (row : t.consumer c ≡ Some k) where
-
   -- who waits for a body leaves nothing
   pub left_passed : (r : ℕ) (kept : Option ℕ) → k.place ≡ place.Passed r kept → left_by t c k ≡ None
   left_passed r kept at = rw ((law.places.passed c r kept k row at).unowned, at) refl

@@ -3,21 +3,10 @@ use Rattle.std.proofs.Common.{◌≡◌, inl, inr, ℕ, List, [], ◌∷◌, ◌
 use Rattle.std.specs.Prelude.{nat_eq, option_map, is_some, filter, reverse, ◌&&◌, ◌||◌, not, ◌==◌, if◌then◌else◌}
 use Rattle.std.proofs.lemmas.Bool.Decides.{nat_tests}
 use Rattle.hc_text.proofs.Basics.{not_some as none_some, some_inj}
-use Rattle.hc_event.specs.declared.place.Place.{Place}
+use Rattle.hc_effects.proofs.Vocabulary.{Place, back_in_line, idle_now, current, is_usable, is_number, live, back_from, as_gone, let_go, let_all_go, evict, unless_it, Lawful, WaitsOn, MayLetGo, AreOnce, Passed, bound, Tables, Representation, Consumer, Among, OneCurrent}
 use Rattle.hc_event.specs.declared.place.Place.TheVariants as place
-use Rattle.hc_model.specs.ConsumerRows.{back_in_line}
-use Rattle.hc_model.specs.Contents.{idle_now, is_idle}
-use Rattle.hc_model.specs.Currents.{current, is_usable, is_number}
-use Rattle.hc_model.specs.Denials.{live}
-use Rattle.hc_model.specs.Effects.{waits_for, back_from, as_gone, let_go, let_all_go}
-use Rattle.hc_model.specs.Evictions.{evict, unless_it}
-use Rattle.hc_model.specs.Lawful.{Lawful}
-use Rattle.hc_model.specs.LettingGo.{WaitsOn, MayLetGo}
-use Rattle.hc_model.specs.Orders.{AreOnce}
-use Rattle.hc_model.specs.Passed.{Passed}
-use Rattle.hc_model.specs.Reading.{bound}
-use Rattle.hc_model.specs.Rows.{Tables, Representation, Consumer}
-use Rattle.hc_model.specs.Sound.{Among, OneCurrent}
+use Rattle.hc_model.specs.Contents.{is_idle}
+use Rattle.hc_model.specs.Effects.{waits_for}
 use Rattle.hc_effects.proofs.Basics.{same_functions, false_true}
 use Rattle.hc_effects.proofs.CurrentKeeps.{find_only, usable, usable_row}
 use Rattle.hc_effects.proofs.Evicting.{evicts_one}

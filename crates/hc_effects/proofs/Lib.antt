@@ -1,3 +1,4 @@
+pub mod Vocabulary
 pub mod Basics
 pub mod HoleLemmas
 pub mod Once

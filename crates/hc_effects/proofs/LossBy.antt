@@ -3,30 +3,9 @@ use Rattle.std.proofs.Common.{◌≡◌, ◌⊎◌, inl, inr, ℕ, true, false, 
 use Rattle.std.specs.Prelude.{is_some, ◌==◌, ◌||◌, nat_eq, unwrap_or}
 use Rattle.std.proofs.lemmas.Bool.Decides.{nat_tests}
 use Rattle.hc_text.proofs.Basics.{and_left, and_right, not_some as none_some, not_true, or_cases, same_some as same_row, some_inj}
-use Rattle.hc_event.specs.Filters.{closes_in, is_denied}
-use Rattle.hc_event.specs.declared.act.LostKind.{LostKind}
-use Rattle.hc_event.specs.declared.event.Event.{Event}
+use Rattle.hc_effects.proofs.Vocabulary.{closes_in, is_denied, LostKind, Event, Limits, loses_in, without_losses, loss_acts, answer_acts, accepted_acts, closing, is_number, denial, Entry, exchange_heard, family, Flaw, NoFlaw, Loses, Misreads, flaw_in, entry_of, Measures, Owners, Tables, Exchange, Representation, may_stand, may_be, is_kept, Sound, IsAbout, evicted, brings_body, written_representation, written_in, lossless, seals_at, sealed_by, is_sealed, stops}
 use Rattle.hc_event.specs.declared.event.Event.TheVariants as event
-use Rattle.hc_rules.specs.declared.room.Limits.{Limits}
-use Rattle.hc_model.specs.ActFilters.{loses_in, without_losses}
-use Rattle.hc_model.specs.Answers.{loss_acts, answer_acts, accepted_acts}
-use Rattle.hc_model.specs.Closings.{closing}
-use Rattle.hc_model.specs.Currents.{is_number}
-use Rattle.hc_model.specs.Denials.{denial}
-use Rattle.hc_model.specs.Entries.{Entry}
-use Rattle.hc_model.specs.ExchangeRows.{exchange_heard}
-use Rattle.hc_model.specs.Exchanges.{family}
-use Rattle.hc_model.specs.Flaws.{Flaw, NoFlaw, Loses, Misreads, flaw_in}
-use Rattle.hc_model.specs.Keys.{entry_of}
-use Rattle.hc_model.specs.Measures.{Measures}
-use Rattle.hc_model.specs.Owners.{Owners}
-use Rattle.hc_model.specs.Rows.{Tables, Exchange, Representation}
-use Rattle.hc_model.specs.Runs.{may_stand, may_be, is_kept}
-use Rattle.hc_model.specs.Sound.{Sound, IsAbout}
 use Rattle.hc_model.specs.Sound as sound
-use Rattle.hc_model.specs.Weights.{evicted}
-use Rattle.hc_model.specs.Writers.{brings_body}
-use Rattle.hc_model.specs.Writes.{written_representation, written_in, lossless, seals_at, sealed_by, is_sealed, stops}
 use Rattle.hc_effects.proofs.ActParts.{said_is, said_closes, loses_evicted, loses_closed, loses_before}
 use Rattle.hc_effects.proofs.Basics.{false_true, number_is}
 use Rattle.hc_effects.proofs.Closed.{before}

@@ -4,15 +4,7 @@ use Rattle.std.specs.Prelude.{not, nat_eq, ◌&&◌, ◌||◌}
 use Rattle.std.specs.Option.{option_or}
 use Rattle.std.proofs.lemmas.Bool.Decides.{nat_tests}
 use Rattle.hc_text.proofs.Basics.{both_true as and_both, cond_true as cond_left, or_left, some_inj}
-use Rattle.hc_event.specs.declared.act.Act.{Act}
-use Rattle.hc_event.specs.declared.act.Cause.{Cause}
-use Rattle.hc_model.specs.ActFilters.{loses_in}
-use Rattle.hc_model.specs.Currents.{is_number}
-use Rattle.hc_model.specs.Entries.{Entry}
-use Rattle.hc_model.specs.Exchanges.{front, family}
-use Rattle.hc_model.specs.RepresentationRows.{representation_after, representation_acted, representation_after_piece, with_stored_bytes}
-use Rattle.hc_model.specs.Rows.{Tables, Exchange, Representation}
-use Rattle.hc_model.specs.Writers.{goes_on_with}
+use Rattle.hc_effects.proofs.Vocabulary.{Act, Cause, loses_in, is_number, Entry, front, family, representation_after, representation_acted, representation_after_piece, with_stored_bytes, Tables, Exchange, Representation, goes_on_with}
 use Rattle.hc_effects.proofs.PieceKeeps.{of_piece}
 
 -- WHAT THE LOSS LEAVES OF THE ROW

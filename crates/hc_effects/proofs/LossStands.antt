@@ -3,32 +3,11 @@ use Rattle.std.proofs.Common.{◌≡◌, inl, inr, ℕ, List, [], ◌∷◌, ◌
 use Rattle.std.specs.Prelude.{if◌then◌else◌, map, nat_eq, ◌||◌}
 use Rattle.std.proofs.lemmas.Bool.Decides.{nat_tests}
 use Rattle.hc_text.proofs.Basics.{and_left, or_cases}
-use Rattle.hc_event.specs.Filters.{is_denied}
-use Rattle.hc_event.specs.declared.event.Event.{Event}
+use Rattle.hc_effects.proofs.Vocabulary.{is_denied, Event, Response, LostKind, HeadCase, HeadView, Limits, head_case, route_of, has_loss, loses_in, loss_acts, case_at, head_view, is_founding, is_joining, closing, is_number, Entry, Flaw, NoFlaw, Loses, Misreads, flaw_in, entry_of, Tables, Exchange, may_stand, may_be, Sound, evicted, written_representation, head_writes, may_validate, lossless}
 use Rattle.hc_event.specs.declared.event.Event.TheVariants as event
-use Rattle.hc_event.specs.declared.event.Response.{Response}
 use Rattle.hc_event.specs.declared.act.Act.TheVariants as act
-use Rattle.hc_event.specs.declared.act.LostKind.{LostKind}
-use Rattle.hc_rules.specs.declared.heads.HeadCase.{HeadCase}
 use Rattle.hc_rules.specs.declared.heads.HeadCase.TheVariants as case
-use Rattle.hc_rules.specs.declared.heads.HeadView.{HeadView}
 use Rattle.hc_rules.specs.declared.need.Route.TheVariants as route
-use Rattle.hc_rules.specs.declared.room.Limits.{Limits}
-use Rattle.hc_rules.specs.HeadCases.{head_case}
-use Rattle.hc_rules.specs.Needs.{route_of}
-use Rattle.hc_model.specs.ActFilters.{has_loss, loses_in}
-use Rattle.hc_model.specs.Answers.{loss_acts}
-use Rattle.hc_model.specs.Cases.{case_at, head_view, is_founding, is_joining}
-use Rattle.hc_model.specs.Closings.{closing}
-use Rattle.hc_model.specs.Currents.{is_number}
-use Rattle.hc_model.specs.Entries.{Entry}
-use Rattle.hc_model.specs.Flaws.{Flaw, NoFlaw, Loses, Misreads, flaw_in}
-use Rattle.hc_model.specs.Keys.{entry_of}
-use Rattle.hc_model.specs.Rows.{Tables, Exchange}
-use Rattle.hc_model.specs.Runs.{may_stand, may_be}
-use Rattle.hc_model.specs.Sound.{Sound}
-use Rattle.hc_model.specs.Weights.{evicted}
-use Rattle.hc_model.specs.Writes.{written_representation, head_writes, may_validate, lossless}
 use Rattle.hc_effects.proofs.Basics.{false_true}
 use Rattle.hc_effects.proofs.Closed.{before}
 use Rattle.hc_effects.proofs.FirstKeeps.{case_is}

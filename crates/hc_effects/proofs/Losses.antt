@@ -5,14 +5,8 @@ use Rattle.std.specs.Option.{option_or}
 use Rattle.std.proofs.lemmas.Bool.Decides.{nat_tests}
 use Rattle.hc_text.proofs.Basics.{bool_cases, or_off_right as or_right, same_some as same_row}
 use Rattle.hc_sparse.specs.Cells.{Covers}
-use Rattle.hc_model.specs.Holes.{covers}
-use Rattle.hc_model.specs.Reading.{is_written, bound, is_bound_place, is_bound, offset, hi_of}
-use Rattle.hc_model.specs.Rows.{Tables, Representation, Consumer}
-use Rattle.hc_model.specs.Sound.{Sound, Among, IsBound, IsFirst, IsExclusiveWriter}
-use Rattle.hc_model.specs.Writers.{may_write, bound_kind, bound_as, exclusive, came_alone, has_more, lacks_some}
-use Rattle.hc_event.specs.declared.place.Place.{Place}
-use Rattle.hc_rules.specs.Least.{least, lesser}
-use Rattle.hc_rules.specs.Admissions.{is_of, is_same_kind, numbers}
+use Rattle.hc_effects.proofs.Vocabulary.{covers, is_written, bound, is_bound_place, is_bound, offset, hi_of, Tables, Representation, Consumer, Sound, Among, IsBound, IsFirst, IsExclusiveWriter, may_write, bound_kind, bound_as, exclusive, came_alone, has_more, lacks_some, Place, least, lesser, is_of, is_same_kind}
+use Rattle.hc_rules.specs.Admissions.{numbers}
 use Rattle.hc_rules.specs.declared.admission.BoundKind.TheVariants as kind
 use Rattle.hc_event.specs.declared.place.Place.TheVariants as place
 use Rattle.hc_model.specs.Sound as sound

@@ -2,24 +2,11 @@
 use Rattle.std.proofs.Common.{◌≡◌, ℕ, List, [], ◌∷◌, ◌++◌, Bool, true, false, Option, Some, None, refl, ap, sym, ◌∙◌}
 use Rattle.std.specs.Prelude.{◌||◌, ◌==◌, not, nat_eq, map}
 use Rattle.hc_text.proofs.Basics.{eqb-same, and_off as then_false}
-use Rattle.hc_event.specs.declared.act.Act.{Act}
+use Rattle.hc_effects.proofs.Vocabulary.{Act, Event, Limits, Place, fails_in, is_number, Does, with_event, with_consumer, let_go, let_some_go, let_all_go, as_over, left_by, going_with, with_leave, Entry, Flaw, Misreads, becomes_gone, goes_in, Lawful, Tables, Representation, Consumer, loses_what_it_waits_for, after_accepted, with_item_first}
 use Rattle.hc_event.specs.declared.act.Act.TheVariants as act
 use Rattle.hc_event.specs.declared.act.Cause.TheVariants as cause
-use Rattle.hc_event.specs.declared.event.Event.{Event}
 use Rattle.hc_event.specs.declared.event.Event.TheVariants as event
-use Rattle.hc_rules.specs.declared.room.Limits.{Limits}
-use Rattle.hc_event.specs.declared.place.Place.{Place}
 use Rattle.hc_event.specs.declared.place.Place.TheVariants as place
-use Rattle.hc_model.specs.ActFilters.{fails_in}
-use Rattle.hc_model.specs.Currents.{is_number}
-use Rattle.hc_model.specs.Effects.{Does, with_event, with_consumer, let_go, let_some_go, let_all_go, as_over, left_by, going_with, with_leave}
-use Rattle.hc_model.specs.Entries.{Entry}
-use Rattle.hc_model.specs.Flaws.{Flaw, Misreads}
-use Rattle.hc_model.specs.Gone.{becomes_gone, goes_in}
-use Rattle.hc_model.specs.Lawful.{Lawful}
-use Rattle.hc_model.specs.Rows.{Tables, Representation, Consumer}
-use Rattle.hc_model.specs.StartingOver.{loses_what_it_waits_for}
-use Rattle.hc_model.specs.Tables.{after_accepted, with_item_first}
 use Rattle.hc_effects.proofs.ActParts.{IsFarFrom}
 use Rattle.hc_effects.proofs.Basics.{append_none}
 use Rattle.hc_effects.proofs.ConsumerEffects.{representations, two_all}

@@ -3,21 +3,11 @@ use Rattle.std.proofs.Common.{◌≡◌, inl, inr, ℕ, Bool, true, false, Optio
 use Rattle.std.specs.Prelude.{if◌then◌else◌}
 use Rattle.std.specs.Option.{option_and_then}
 use Rattle.hc_text.proofs.Basics.{bool_cases, cond_false}
-use Rattle.hc_event.specs.declared.act.Cause.{Cause}
+use Rattle.hc_effects.proofs.Vocabulary.{Cause, Place, BoundBy, is_headless, Move, Nothing, Fails, planned_move, shows_at, shows_head, if_headless, waits_for_head, or_else, by_place, move_of, bound_to, own_open, Tables, Consumer, Sound, IsToBeShown, reading}
 use Rattle.hc_event.specs.declared.act.Wait.TheVariants as wait
-use Rattle.hc_event.specs.declared.place.Place.{Place}
 use Rattle.hc_event.specs.declared.place.Place.TheVariants as place
-use Rattle.hc_event.specs.declared.place.BoundBy.{BoundBy}
 use Rattle.hc_event.specs.declared.place.BoundBy.TheVariants as by
-use Rattle.hc_model.specs.Exchanges.{is_headless}
 use Rattle.hc_model.specs.Moves as moves
-use Rattle.hc_model.specs.Moves.{Move, Nothing, Fails}
-use Rattle.hc_model.specs.Planning.{planned_move}
-use Rattle.hc_model.specs.Polls.{shows_at, shows_head, if_headless, waits_for_head, or_else, by_place, move_of}
-use Rattle.hc_model.specs.Reading.{bound_to, own_open}
-use Rattle.hc_model.specs.Rows.{Tables, Consumer}
-use Rattle.hc_model.specs.Sound.{Sound, IsToBeShown}
-use Rattle.hc_model.specs.Steps.{reading}
 use Rattle.hc_model.specs.Sound as sound
 
 -- it has no open exchange that waits for its head

@@ -1,24 +1,12 @@
 -- What the acts of an accepted event say of a consumer that hasn't started: nothing.
 use Rattle.std.proofs.Common.{◌≡◌, inl, inr, ℕ, List, [], ◌∷◌, ◌++◌, Bool, true, false, Some, None, refl, ap, sym, ◌∙◌}
 use Rattle.std.specs.Prelude.{map, nat_eq, nat_lt, not, ◌==◌, if◌then◌else◌}
-use Rattle.hc_event.specs.Filters.{given_in, shows_in}
-use Rattle.hc_event.specs.declared.event.Event.{Event}
+use Rattle.hc_effects.proofs.Vocabulary.{given_in, shows_in, Event, Act, Limits, poll_refusal, accepted_acts, poll_acts, loss_acts, closing, denial, gate, is_live, Flaw, NoFlaw, Loses, Misreads, Move, Nothing, Asks, Opens, Shows, Gives, Ends, Fails, acts_of, poll_move, Tables, evicted}
 use Rattle.hc_event.specs.declared.event.Event.TheVariants as event
-use Rattle.hc_event.specs.declared.act.Act.{Act}
 use Rattle.hc_event.specs.declared.act.Act.TheVariants as act
 use Rattle.hc_event.specs.declared.act.Refusal.TheVariants as refusal
-use Rattle.hc_rules.specs.declared.room.Limits.{Limits}
-use Rattle.hc_rules.specs.Refusals.{poll_refusal}
 use Rattle.hc_rules.specs.Refusals as refusals
-use Rattle.hc_model.specs.Answers.{accepted_acts, poll_acts, loss_acts}
-use Rattle.hc_model.specs.Closings.{closing}
-use Rattle.hc_model.specs.Denials.{denial, gate, is_live}
-use Rattle.hc_model.specs.Flaws.{Flaw, NoFlaw, Loses, Misreads}
 use Rattle.hc_model.specs.Moves as moves
-use Rattle.hc_model.specs.Moves.{Move, Nothing, Asks, Opens, Shows, Gives, Ends, Fails, acts_of}
-use Rattle.hc_model.specs.Polls.{poll_move}
-use Rattle.hc_model.specs.Rows.{Tables}
-use Rattle.hc_model.specs.Weights.{evicted}
 use Rattle.hc_effects.proofs.Once.{never}
 use Rattle.hc_effects.proofs.PieceKeeps.{eq_cases}
 use Rattle.hc_effects.proofs.PieceServes.{IsQuietActs, quiet_acts}

@@ -2,26 +2,11 @@
 use Rattle.std.proofs.Common.{◌≡◌, ◌⊎◌, inl, inr, ℕ, ◌+◌, ◌<◌, List, Bool, true, false, Option, Some, None, refl, ap, sym, ◌∙◌, subst, arith}
 use Rattle.std.specs.Prelude.{◌&&◌, is_some, if◌then◌else◌, option_map}
 use Rattle.hc_text.proofs.Basics.{some_inj}
-use Rattle.hc_event.specs.Filters.{Opening, opening_in}
-use Rattle.hc_event.specs.declared.event.Event.{Event}
+use Rattle.hc_effects.proofs.Vocabulary.{Opening, opening_in, Event, Response, Limits, Place, accepted_acts, case_at, is_joining, is_founding, current, is_usable, denial, Entry, exchange_after, exchange_heard, exchange_acted, exchange_made, exchange_opened, aim_of, aim_from, Flaw, representation_after, founded_at, new_representation, Tables, Exchange, Representation, Consumer, Sound, after_accepted}
 use Rattle.hc_event.specs.declared.event.Event.TheVariants as event
-use Rattle.hc_event.specs.declared.event.Response.{Response}
-use Rattle.hc_rules.specs.declared.room.Limits.{Limits}
-use Rattle.hc_event.specs.declared.place.Place.{Place}
 use Rattle.hc_event.specs.declared.place.Place.TheVariants as place
-use Rattle.hc_model.specs.Answers.{accepted_acts}
-use Rattle.hc_model.specs.Cases.{case_at, is_joining, is_founding}
-use Rattle.hc_model.specs.Currents.{current, is_usable}
-use Rattle.hc_model.specs.Denials.{denial}
-use Rattle.hc_model.specs.Entries.{Entry}
-use Rattle.hc_model.specs.ExchangeRows.{exchange_after, exchange_heard, exchange_acted, exchange_made, exchange_opened, aim_of, aim_from}
-use Rattle.hc_model.specs.Flaws.{Flaw}
 use Rattle.hc_model.specs.Laws.{NamesAreKept}
-use Rattle.hc_model.specs.RepresentationRows.{representation_after, founded_at, new_representation}
-use Rattle.hc_model.specs.Rows.{Tables, Exchange, Representation, Consumer}
-use Rattle.hc_model.specs.Sound.{Sound}
 use Rattle.hc_model.specs.Sound as sound
-use Rattle.hc_model.specs.Tables.{after_accepted}
 use Rattle.hc_effects.proofs.Basics.{some_none}
 use Rattle.hc_effects.proofs.NumbersKeep.{opens_next, founded_none, representation_none}
 use Rattle.hc_effects.proofs.PieceKeeps.{eq_cases}

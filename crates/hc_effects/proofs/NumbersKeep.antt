@@ -2,26 +2,11 @@
 use Rattle.std.proofs.Common.{◌≡◌, inl, inr, ℕ, ◌+◌, ◌<◌, List, Bool, true, false, Option, Some, None, refl, ap, sym, ◌∙◌, arith}
 use Rattle.std.specs.Prelude.{◌&&◌, nat_eq, nat_le, is_some, if◌then◌else◌, option_map}
 use Rattle.std.proofs.lemmas.Bool.Decides.{nat_tests}
-use Rattle.hc_event.specs.Filters.{Opening, opening_in}
-use Rattle.hc_event.specs.declared.event.Event.{Event}
+use Rattle.hc_effects.proofs.Vocabulary.{Opening, opening_in, Event, Request, Limits, accepted_acts, case_at, is_founding, consumer_after, consumer_made, denial, is_live, Entry, exchange_after, exchange_made, exchange_in, Flaw, representation_after, founded_at, new_representation, Tables, Exchange, Representation, Consumer, Sound, Among, IsListed, last_start_after, starts_after, opened_after, openings_after, founds, with_item_first}
 use Rattle.hc_event.specs.declared.event.Event.TheVariants as event
-use Rattle.hc_event.specs.declared.event.Request.{Request}
 use Rattle.hc_event.specs.declared.act.Refusal.TheVariants as refusal
-use Rattle.hc_rules.specs.declared.room.Limits.{Limits}
 use Rattle.hc_rules.specs.Refusals as refusals
-use Rattle.hc_model.specs.Answers.{accepted_acts}
-use Rattle.hc_model.specs.Cases.{case_at, is_founding}
-use Rattle.hc_model.specs.ConsumerRows.{consumer_after, consumer_made}
-use Rattle.hc_model.specs.Denials.{denial, is_live}
-use Rattle.hc_model.specs.Entries.{Entry}
-use Rattle.hc_model.specs.ExchangeRows.{exchange_after, exchange_made}
-use Rattle.hc_model.specs.Exchanges.{exchange_in}
-use Rattle.hc_model.specs.Flaws.{Flaw}
 use Rattle.hc_model.specs.Laws.{NumbersAreKept}
-use Rattle.hc_model.specs.RepresentationRows.{representation_after, founded_at, new_representation}
-use Rattle.hc_model.specs.Rows.{Tables, Exchange, Representation, Consumer}
-use Rattle.hc_model.specs.Sound.{Sound, Among, IsListed}
-use Rattle.hc_model.specs.Tables.{last_start_after, starts_after, opened_after, openings_after, founds, with_item_first}
 use Rattle.hc_effects.proofs.EventsKeep.{told, cancels, poll_live}
 use Rattle.hc_effects.proofs.Once.{never}
 use Rattle.hc_effects.proofs.PieceKeeps.{eq_cases}

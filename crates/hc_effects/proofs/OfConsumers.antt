@@ -4,36 +4,10 @@ use mathlib.Core.Path.{fun_ext}
 use Rattle.std.specs.Prelude.{◌&&◌, ◌||◌, ◌==◌, not, nat_eq, if◌then◌else◌, filter, reverse, is_some}
 use Rattle.std.specs.Option.{option_or}
 use Rattle.hc_text.proofs.Basics.{and_true, not_some as none_some, or_none as or_nothing, or_false as or_off, some_inj, and_off as then_false}
-use Rattle.hc_event.specs.Filters.{opening_in, asks_in, closes_in, evicts_in}
-use Rattle.hc_event.specs.declared.act.Act.{Act}
-use Rattle.hc_event.specs.declared.act.Cause.{Cause}
-use Rattle.hc_event.specs.declared.event.Event.{Event}
+use Rattle.hc_effects.proofs.Vocabulary.{opening_in, asks_in, closes_in, evicts_in, Act, Cause, Event, Request, is_same_number, Place, loses_in, misreads_in, fails_in, showing_in, case_at, case_of, is_founding, closing, closes_row, is_left, is_left_by, leaver, is_last_reader, consumer_after, consumer_heard, consumer_made, consumer_acted, consumer_settled, back_in_line, is_current, is_number, doomed_key_of, bypass_key, is_key, left_by, Entry, exchange_after, exchange_heard, exchange_acted, exchange_in, exchange_at, is_open, becomes_due, cause_of_head, becomes_gone, ends_early, ends_founding, stops_early, is_keepable, Descends, AreOnce, InOrder, Owners, reads, own_open, shared_exchange, writing_in, is_written, source, representation_heard, founded_at, Tables, Exchange, Representation, Consumer, Sound, Among, IsBound, starts_over, loses_what_it_waits_for, with_item_first, founds, binds, binds_by_opening, binds_by_showing, to_front, brings_body}
 use Rattle.hc_event.specs.declared.event.Event.TheVariants as event
-use Rattle.hc_event.specs.declared.event.Request.{Request}
-use Rattle.hc_rules.specs.Lengths.{is_same_number}
-use Rattle.hc_event.specs.declared.place.Place.{Place}
 use Rattle.hc_event.specs.declared.place.Place.TheVariants as place
-use Rattle.hc_model.specs.ActFilters.{loses_in, misreads_in, fails_in, showing_in}
-use Rattle.hc_model.specs.Cases.{case_at, case_of, is_founding}
-use Rattle.hc_model.specs.Closings.{closing, closes_row, is_left, is_left_by, leaver, is_last_reader}
-use Rattle.hc_model.specs.ConsumerRows.{consumer_after, consumer_heard, consumer_made, consumer_acted, consumer_settled, back_in_line}
-use Rattle.hc_model.specs.Currents.{is_current, is_number}
-use Rattle.hc_model.specs.Dooms.{doomed_key_of, bypass_key, is_key}
-use Rattle.hc_model.specs.Effects.{left_by}
-use Rattle.hc_model.specs.Entries.{Entry}
-use Rattle.hc_model.specs.ExchangeRows.{exchange_after, exchange_heard, exchange_acted}
-use Rattle.hc_model.specs.Exchanges.{exchange_in, exchange_at, is_open}
-use Rattle.hc_model.specs.Failures.{becomes_due, cause_of_head}
-use Rattle.hc_model.specs.Gone.{becomes_gone, ends_early, ends_founding, stops_early, is_keepable}
-use Rattle.hc_model.specs.Orders.{Descends, AreOnce, InOrder}
-use Rattle.hc_model.specs.Owners.{Owners}
-use Rattle.hc_model.specs.Reading.{reads, own_open, shared_exchange, writing_in, is_written, source}
-use Rattle.hc_model.specs.RepresentationRows.{representation_heard, founded_at}
-use Rattle.hc_model.specs.Rows.{Tables, Exchange, Representation, Consumer}
-use Rattle.hc_model.specs.Sound.{Sound, Among, IsBound, is_bound}
-use Rattle.hc_model.specs.StartingOver.{starts_over, loses_what_it_waits_for}
-use Rattle.hc_model.specs.Tables.{with_item_first, founds, binds, binds_by_opening, binds_by_showing, to_front}
-use Rattle.hc_model.specs.Writers.{brings_body}
+use Rattle.hc_model.specs.Sound.{is_bound}
 use Rattle.hc_effects.proofs.AboutKeeps.{own_open_of}
 use Rattle.hc_effects.proofs.ActParts.{IsFarFrom}
 use Rattle.hc_effects.proofs.ApartKeeps.{is_on}

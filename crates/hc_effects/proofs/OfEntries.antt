@@ -1,20 +1,7 @@
 -- What is kept by each real entry is kept by each owed one.
 use Rattle.std.proofs.Common.{◌≡◌, false, ℕ, List, None, ap, sym, ◌∙◌, subst}
-use Rattle.hc_event.specs.Filters.{is_denied}
-use Rattle.hc_event.specs.declared.event.Event.{Event}
-use Rattle.hc_event.specs.declared.act.Act.{Act}
-use Rattle.hc_rules.specs.declared.room.Limits.{Limits}
-use Rattle.hc_model.specs.Denials.{denial}
-use Rattle.hc_model.specs.Entries.{Entry}
-use Rattle.hc_model.specs.Flaws.{Flaw, flaw_in}
-use Rattle.hc_model.specs.Keys.{entry_of}
+use Rattle.hc_effects.proofs.Vocabulary.{is_denied, Event, Act, Limits, denial, Entry, Flaw, flaw_in, entry_of, Measures, Owners, Tables, IsOwed, may_stand, Sound, after_accepted}
 use Rattle.hc_model.specs.Laws.{KeptByEntries}
-use Rattle.hc_model.specs.Measures.{Measures}
-use Rattle.hc_model.specs.Owners.{Owners}
-use Rattle.hc_model.specs.Rows.{Tables}
-use Rattle.hc_model.specs.Runs.{IsOwed, may_stand}
-use Rattle.hc_model.specs.Sound.{Sound}
-use Rattle.hc_model.specs.Tables.{after_accepted}
 use Rattle.hc_effects.proofs.LossBy.{IsReal}
 use Rattle.hc_effects.proofs.Owed.{acts_are, goes}
 

@@ -4,12 +4,7 @@ use Rattle.std.specs.Prelude.{is_some, nat_lt, if◌then◌else◌, ◌==◌}
 use Rattle.std.proofs.lemmas.Bool.Decides.{nat_tests}
 use Rattle.hc_text.proofs.Basics.{bool_cases}
 use Rattle.hc_event.specs.declared.act.Refusal.TheVariants as refusal
-use Rattle.hc_model.specs.Denials.{as_open}
-use Rattle.hc_model.specs.Exchanges.{promised_bytes, front}
-use Rattle.hc_model.specs.Laws.{DeliversOnce}
-use Rattle.hc_model.specs.Rows.{Tables, Exchange}
-use Rattle.hc_model.specs.Sound.{Sound, IsPromised}
-use Rattle.hc_rules.specs.Refusals.{piece_refusal, overlong}
+use Rattle.hc_effects.proofs.Vocabulary.{as_open, promised_bytes, front, DeliversOnce, Tables, Exchange, Sound, IsPromised, piece_refusal, overlong}
 use Rattle.hc_rules.specs.Refusals as refusals
 use Rattle.hc_rules.specs.declared.refusal.OpenExchange.{OpenExchange}
 

@@ -2,28 +2,9 @@
 use Rattle.std.proofs.Common.{◌≡◌, inl, inr, ℕ, ◌+◌, List, [], ◌∷◌, false, Option, Some, None, refl, ap, sym, ◌∙◌, subst, arith}
 use Rattle.std.specs.Prelude.{◌==◌, nat_eq, if◌then◌else◌}
 use Rattle.hc_text.proofs.Basics.{eqb-same, plus_none, some_inj}
-use Rattle.hc_event.specs.Filters.{Opening, opening_in}
-use Rattle.hc_event.specs.declared.act.Need.{Need}
+use Rattle.hc_effects.proofs.Vocabulary.{Opening, opening_in, Need, Request, route_of, Limits, Place, consumer_acted, opened_place, unless_bound, current, bypassed_for, Does, with_event, with_consumer, with_opening, just_opened, let_all_go, Entry, exchange_after, exchange_made, aim_from, aim_of, NoFlaw, becomes_gone, Lawful, Opens, acts_of, move_of, bound_to, reads, Tables, Exchange, Representation, Consumer, to_front, binds, is_hole}
 use Rattle.hc_event.specs.declared.event.Event.TheVariants as event
-use Rattle.hc_event.specs.declared.event.Request.{Request}
-use Rattle.hc_rules.specs.Needs.{route_of}
-use Rattle.hc_rules.specs.declared.room.Limits.{Limits}
-use Rattle.hc_event.specs.declared.place.Place.{Place}
 use Rattle.hc_event.specs.declared.place.Place.TheVariants as place
-use Rattle.hc_model.specs.ConsumerRows.{consumer_acted, opened_place, unless_bound}
-use Rattle.hc_model.specs.Currents.{current}
-use Rattle.hc_model.specs.Dooms.{bypassed_for}
-use Rattle.hc_model.specs.Effects.{Does, with_event, with_consumer, with_opening, just_opened, let_all_go}
-use Rattle.hc_model.specs.Entries.{Entry}
-use Rattle.hc_model.specs.ExchangeRows.{exchange_after, exchange_made, aim_from, aim_of}
-use Rattle.hc_model.specs.Flaws.{NoFlaw}
-use Rattle.hc_model.specs.Gone.{becomes_gone}
-use Rattle.hc_model.specs.Lawful.{Lawful}
-use Rattle.hc_model.specs.Moves.{Opens, acts_of}
-use Rattle.hc_model.specs.Polls.{move_of}
-use Rattle.hc_model.specs.Reading.{bound_to, reads}
-use Rattle.hc_model.specs.Rows.{Tables, Exchange, Representation, Consumer}
-use Rattle.hc_model.specs.Tables.{to_front, binds, is_hole}
 use Rattle.hc_effects.proofs.Basics.{some_none}
 use Rattle.hc_effects.proofs.OfConsumers.{BringsNothing, brings_nothing, row_unsaid, binds_as}
 use Rattle.hc_effects.proofs.OfConsumers as event_of

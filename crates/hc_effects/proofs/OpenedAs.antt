@@ -5,37 +5,16 @@ use Rattle.hc_text.specs.declared.bytes.Key.{Key}
 use Rattle.hc_text.specs.declared.bytes.MethodName.{MethodName}
 use Rattle.hc_range.specs.declared.range.Span.{Span}
 use Rattle.hc_sparse.specs.declared.run.Run.{Run}
-use Rattle.hc_event.specs.Filters.{Opening}
-use Rattle.hc_event.specs.declared.event.Request.{Request}
-use Rattle.hc_event.specs.declared.event.Response.{Response}
+use Rattle.hc_effects.proofs.Vocabulary.{Opening, Request, Response, Need, Why, Plan, ReadStep, route_of, plan_of, read_step, class_of, is_bypassing, is_disabled, range_of, wanted_of, Place, BoundBy, current, row_of, first_hole, Move, Nothing, Fails, Opens, gives, waits_for, opens_hole, shows_stored, plan_view, plan_move, origin_request, conditional_on, current_row, binds_current, hole_of, shows_at, shows_bound, shows_direct, shows_answer, has_joined, move_of, bound_to, Tables, Exchange, Representation, Consumer, Sound, read_view, step_move, later_hole, bound_row}
 use Rattle.hc_event.specs.declared.act.Cause.TheVariants as cause
-use Rattle.hc_event.specs.declared.act.Need.{Need}
 use Rattle.hc_event.specs.declared.act.Need.TheVariants as need
 use Rattle.hc_event.specs.declared.act.Wait.TheVariants as wait
-use Rattle.hc_event.specs.declared.act.Why.{Why}
 use Rattle.hc_rules.specs.declared.need.Route.TheVariants as route
-use Rattle.hc_rules.specs.declared.plan.Plan.{Plan}
-use Rattle.hc_rules.specs.declared.reading.ReadStep.{ReadStep}
 use Rattle.hc_rules.specs.declared.reading.ReadStep.TheVariants as step
 use Rattle.hc_rules.specs.declared.request.Wanted.TheVariants as wanted
-use Rattle.hc_rules.specs.Needs.{route_of}
-use Rattle.hc_rules.specs.Plans.{plan_of}
-use Rattle.hc_rules.specs.Readings.{read_step}
-use Rattle.hc_rules.specs.Requests.{class_of, is_bypassing, is_disabled, range_of, wanted_of}
-use Rattle.hc_event.specs.declared.place.Place.{Place}
 use Rattle.hc_event.specs.declared.place.Place.TheVariants as place
-use Rattle.hc_event.specs.declared.place.BoundBy.{BoundBy}
 use Rattle.hc_event.specs.declared.place.BoundBy.TheVariants as by_how
-use Rattle.hc_model.specs.Currents.{current, row_of}
-use Rattle.hc_model.specs.Holes.{first_hole}
 use Rattle.hc_model.specs.Moves as moves
-use Rattle.hc_model.specs.Moves.{Move, Nothing, Fails, Opens, gives, waits_for, opens_hole, shows_stored}
-use Rattle.hc_model.specs.Planning.{plan_view, plan_move, origin_request, conditional_on, current_row, binds_current, hole_of}
-use Rattle.hc_model.specs.Polls.{shows_at, shows_bound, shows_direct, shows_answer, has_joined, move_of}
-use Rattle.hc_model.specs.Reading.{bound_to}
-use Rattle.hc_model.specs.Rows.{Tables, Exchange, Representation, Consumer}
-use Rattle.hc_model.specs.Sound.{Sound}
-use Rattle.hc_model.specs.Steps.{read_view, step_move, later_hole, bound_row}
 use Rattle.hc_effects.proofs.Asked.{Asked, AskedBy, plan_asks}
 use Rattle.hc_effects.proofs.MoveBy.{MoveBy, IsHeard, move_by}
 use Rattle.hc_effects.proofs.MoveBy as by

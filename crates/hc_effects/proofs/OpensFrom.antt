@@ -1,17 +1,9 @@
 -- An exchange for a hole is opened for a consumer that is bound to nothing only where nobody is bound to what is current.
 use Rattle.std.proofs.Common.{◌≡◌, ℕ, [], Some, None, refl, sym, ◌∙◌}
 use Rattle.hc_text.proofs.Basics.{some_inj}
-use Rattle.hc_event.specs.Filters.{Opening}
-use Rattle.hc_event.specs.declared.act.Need.{Need}
+use Rattle.hc_effects.proofs.Vocabulary.{Opening, Need, route_of, current, Move, move_of, bound, bound_to, Tables, Consumer, Sound, IsBound}
 use Rattle.hc_event.specs.declared.act.Need.TheVariants as need
 use Rattle.hc_rules.specs.declared.need.Route.TheVariants as route
-use Rattle.hc_rules.specs.Needs.{route_of}
-use Rattle.hc_model.specs.Currents.{current}
-use Rattle.hc_model.specs.Moves.{Move}
-use Rattle.hc_model.specs.Polls.{move_of}
-use Rattle.hc_model.specs.Reading.{bound, bound_to}
-use Rattle.hc_model.specs.Rows.{Tables, Consumer}
-use Rattle.hc_model.specs.Sound.{Sound, IsBound}
 use Rattle.hc_model.specs.Sound as sound
 use Rattle.hc_effects.proofs.PollTree.{OpensHole, FineMove, fine_polled}
 use Rattle.hc_effects.proofs.PollTree as tree

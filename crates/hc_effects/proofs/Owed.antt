@@ -1,18 +1,7 @@
 -- What an entry of a run is: denied by the first refusal, or accepted, with the acts that are owed.
 use Rattle.std.proofs.Common.{◌≡◌, ℕ, List, [], ◌∷◌, true, false, Option, Some, None, refl, ap, sym, ◌∙◌}
-use Rattle.hc_event.specs.Filters.{opening_in, is_denied, given_in}
-use Rattle.hc_event.specs.declared.act.Act.{Act}
+use Rattle.hc_effects.proofs.Vocabulary.{opening_in, is_denied, given_in, Act, Refusal, Limits, loses_in, answer, accepted_acts, denied_or, denial, Entry, flaw_in, shown_in, Tables, IsOwed}
 use Rattle.hc_event.specs.declared.act.Act.TheVariants as act
-use Rattle.hc_event.specs.declared.act.Refusal.{Refusal}
-use Rattle.hc_rules.specs.declared.room.Limits.{Limits}
-use Rattle.hc_model.specs.ActFilters.{loses_in}
-use Rattle.hc_model.specs.Answers.{answer, accepted_acts, denied_or}
-use Rattle.hc_model.specs.Denials.{denial}
-use Rattle.hc_model.specs.Entries.{Entry}
-use Rattle.hc_model.specs.Flaws.{flaw_in}
-use Rattle.hc_model.specs.Histories.{shown_in}
-use Rattle.hc_model.specs.Rows.{Tables}
-use Rattle.hc_model.specs.Runs.{IsOwed}
 
 goes_by : (o : Option Refusal) (acts : List Act) → is_denied (denied_or o acts) ≡ false → o ≡ None
 goes_by None acts h = refl

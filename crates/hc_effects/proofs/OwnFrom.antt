@@ -3,19 +3,9 @@ use Rattle.std.proofs.Common.{◌≡◌, ◌⊎◌, inl, inr, ℕ, Bool, true, f
 use Rattle.std.specs.Prelude.{if◌then◌else◌, ◌==◌, ◌&&◌, not, is_none}
 use Rattle.std.proofs.lemmas.Bool.Decides.{nat_tests}
 use Rattle.hc_text.proofs.Basics.{bool_cases, some_inj}
-use Rattle.hc_event.specs.Filters.{Opening, opening_in}
-use Rattle.hc_event.specs.declared.event.Event.{Event}
+use Rattle.hc_effects.proofs.Vocabulary.{Opening, opening_in, Event, Place, BoundBy, case_at, consumer_heard, by_head, by_fault, becomes_shared, by_opening, own_after, left_to, waiting, consumer_acted, consumer_settled, consumer_made, consumer_after, due_after, is_number, Entry, Tables, Exchange, Representation, Consumer, starts_over, loses_writing, survivor}
 use Rattle.hc_event.specs.declared.event.Event.TheVariants as event
-use Rattle.hc_event.specs.declared.place.Place.{Place}
 use Rattle.hc_event.specs.declared.place.Place.TheVariants as place
-use Rattle.hc_event.specs.declared.place.BoundBy.{BoundBy}
-use Rattle.hc_model.specs.Cases.{case_at}
-use Rattle.hc_model.specs.ConsumerRows.{consumer_heard, by_head, by_fault, becomes_shared, by_opening, own_after, left_to, waiting, consumer_acted, consumer_settled, consumer_made, consumer_after, due_after}
-use Rattle.hc_model.specs.Currents.{is_number}
-use Rattle.hc_model.specs.Entries.{Entry}
-use Rattle.hc_model.specs.Rows.{Tables, Exchange, Representation, Consumer}
-use Rattle.hc_model.specs.StartingOver.{starts_over}
-use Rattle.hc_model.specs.Writers.{loses_writing, survivor}
 use Rattle.hc_effects.proofs.PieceKeeps.{eq_cases}
 
 module _ (t : Tables) (e : Entry) (c x : ℕ) where

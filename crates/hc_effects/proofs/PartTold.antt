@@ -11,17 +11,11 @@ use Rattle.hc_fields.specs.FirstValues.{only_of}
 use Rattle.hc_range.specs.declared.range.Asked.{Asked}
 use Rattle.hc_range.specs.declared.range.Asked.TheVariants.{FromTo, From, Last}
 use Rattle.hc_range.specs.declared.range.ContentRange.TheVariants as range
-use Rattle.hc_event.specs.declared.event.Request.{Request}
-use Rattle.hc_event.specs.declared.event.Response.{Response}
-use Rattle.hc_event.specs.declared.act.Need.{Need}
-use Rattle.hc_rules.specs.declared.length.Length.{Length}
+use Rattle.hc_effects.proofs.Vocabulary.{Request, Response, Need, Length, Route, length_of, base_of, promise_of, is_bad, part_length, agrees, content_length_of, has_no_body, tells_part, all_tell, route_of, content_range_of, content_range_in, spec_in, positions_from, positions_by, from_to, number_of, split_at, hyphen}
 use Rattle.hc_rules.specs.declared.length.Length.TheVariants as told
-use Rattle.hc_rules.specs.declared.need.Route.{Route}
 use Rattle.hc_rules.specs.declared.need.Route.TheVariants as route
-use Rattle.hc_rules.specs.Lengths.{length_of, base_of, promise_of, is_bad, part_length, agrees, content_length_of, has_no_body, tells_part, all_tell}
 use Rattle.hc_rules.specs.Lengths as lengths
-use Rattle.hc_rules.specs.Needs.{route_of}
-use Rattle.hc_rules.specs.RangeTexts.{content_range_of, content_range_in, response_in, response_from, content_range_from, with_total, without_part, spec_in, positions_from, positions_by, from_to, number_of, split_at, hyphen, slash}
+use Rattle.hc_rules.specs.RangeTexts.{response_in, response_from, content_range_from, with_total, without_part, slash}
 
 -- POSITIONS IN ORDER
 

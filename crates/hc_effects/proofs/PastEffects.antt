@@ -1,24 +1,10 @@
 -- What a poll does that opens an exchange past the store.
 use Rattle.std.proofs.Common.{◌≡◌, ℕ, [], Some, None, refl, ap, sym, ◌∙◌}
-use Rattle.hc_event.specs.declared.act.Need.{Need}
+use Rattle.hc_effects.proofs.Vocabulary.{Need, Request, route_of, Limits, opened_place, unless_bound, current, bypassed_for, Does, with_event, with_consumer, with_opening, just_opened, NoFlaw, Lawful, Opens, acts_of, move_of, bound_to, Tables, Consumer, is_hole}
 use Rattle.hc_event.specs.declared.act.Need.TheVariants as need
 use Rattle.hc_event.specs.declared.event.Event.TheVariants as event
-use Rattle.hc_event.specs.declared.event.Request.{Request}
 use Rattle.hc_rules.specs.declared.need.Route.TheVariants as route
-use Rattle.hc_rules.specs.Needs.{route_of}
-use Rattle.hc_rules.specs.declared.room.Limits.{Limits}
 use Rattle.hc_event.specs.declared.place.Place.TheVariants as place
-use Rattle.hc_model.specs.ConsumerRows.{opened_place, unless_bound}
-use Rattle.hc_model.specs.Currents.{current}
-use Rattle.hc_model.specs.Dooms.{bypassed_for}
-use Rattle.hc_model.specs.Effects.{Does, with_event, with_consumer, with_opening, just_opened}
-use Rattle.hc_model.specs.Flaws.{NoFlaw}
-use Rattle.hc_model.specs.Lawful.{Lawful}
-use Rattle.hc_model.specs.Moves.{Opens, acts_of}
-use Rattle.hc_model.specs.Polls.{move_of}
-use Rattle.hc_model.specs.Reading.{bound_to}
-use Rattle.hc_model.specs.Rows.{Tables, Consumer}
-use Rattle.hc_model.specs.Tables.{is_hole}
 use Rattle.hc_effects.proofs.Basics.{false_true}
 use Rattle.hc_effects.proofs.OpenEffects.{why, keeps_all, binds_none, about_current}
 use Rattle.hc_effects.proofs.OpenedAs.{Way}

@@ -3,30 +3,8 @@ use Rattle.std.proofs.Common.{◌≡◌, inl, inr, ℕ, List, [], ◌∷◌, ◌
 use Rattle.std.specs.Prelude.{◌&&◌, ◌||◌, ◌==◌, not, nat_eq, if◌then◌else◌, map, option_map}
 use Rattle.hc_text.proofs.Basics.{eqb-same, not_some as none_some, same_some as same_row, and_off as then_false}
 use Rattle.hc_event.specs.declared.act.Act.TheVariants as act
-use Rattle.hc_event.specs.declared.act.LostKind.{LostKind}
-use Rattle.hc_event.specs.declared.event.Event.{Event}
+use Rattle.hc_effects.proofs.Vocabulary.{LostKind, Event, Limits, Place, loses_in, leaver_in, loss_acts, closing, is_current, denial, Does, with_event, with_exchange, with_representation, let_go, let_all_go, as_gone, over, lost_to, Entry, entry_without_acts, exchange_after, with_piece, family, front, Flaw, NoFlaw, Loses, Misreads, beside, becomes_gone, ends_early, ends_founding, is_keepable, Lawful, is_written, representation_after, representation_heard, representation_after_piece, with_stored_bytes, Tables, Exchange, Representation, Consumer, after_accepted, evicted, write_in, exclusive, goes_on_with}
 use Rattle.hc_event.specs.declared.event.Event.TheVariants as event
-use Rattle.hc_rules.specs.declared.room.Limits.{Limits}
-use Rattle.hc_event.specs.declared.place.Place.{Place}
-use Rattle.hc_model.specs.ActFilters.{loses_in, leaver_in}
-use Rattle.hc_model.specs.Answers.{loss_acts}
-use Rattle.hc_model.specs.Closings.{closing}
-use Rattle.hc_model.specs.Currents.{is_current}
-use Rattle.hc_model.specs.Denials.{denial}
-use Rattle.hc_model.specs.Effects.{Does, with_event, with_exchange, with_representation, let_go, let_all_go, as_gone, over, lost_to}
-use Rattle.hc_model.specs.Entries.{Entry, entry_without_acts}
-use Rattle.hc_model.specs.ExchangeRows.{exchange_after, with_piece}
-use Rattle.hc_model.specs.Exchanges.{family, front}
-use Rattle.hc_model.specs.Flaws.{Flaw, NoFlaw, Loses, Misreads}
-use Rattle.hc_model.specs.Frames.{beside}
-use Rattle.hc_model.specs.Gone.{becomes_gone, ends_early, ends_founding, is_keepable}
-use Rattle.hc_model.specs.Lawful.{Lawful}
-use Rattle.hc_model.specs.Reading.{is_written}
-use Rattle.hc_model.specs.RepresentationRows.{representation_after, representation_heard, representation_after_piece, with_stored_bytes}
-use Rattle.hc_model.specs.Rows.{Tables, Exchange, Representation, Consumer}
-use Rattle.hc_model.specs.Tables.{after_accepted}
-use Rattle.hc_model.specs.Weights.{evicted, write_in}
-use Rattle.hc_model.specs.Writers.{exclusive, goes_on_with}
 use Rattle.hc_effects.proofs.Basics.{false_true, append_none}
 use Rattle.hc_effects.proofs.Dues.{undue_of, stop_none}
 use Rattle.hc_effects.proofs.FewClosings.{ClosesLittle, nothing_lost, closes_nothing}

@@ -3,20 +3,11 @@ use Rattle.std.proofs.Common.{◌≡◌, ◌≢◌, ◌⊎◌, inl, inr, ℕ, �
 use Rattle.std.specs.Prelude.{is_some, nat_eq}
 use Rattle.std.proofs.lemmas.Bool.Decides.{nat_tests}
 use Rattle.hc_text.proofs.Basics.{and_right, same_some as same_row, some_inj}
-use Rattle.hc_event.specs.Filters.{opening_in}
+use Rattle.hc_effects.proofs.Vocabulary.{opening_in, Act, Need, Entry, exchange_after, exchange_heard, exchange_acted, base, promised_bytes, front, family, representation_after, representation_heard, representation_acted, representation_after_piece, Tables, Exchange, Representation, Waits, Sound, OneAbout, IsAbout, IsPromised, InHole, after_accepted}
 use Rattle.hc_event.specs.declared.event.Event.TheVariants as event
-use Rattle.hc_event.specs.declared.act.Act.{Act}
-use Rattle.hc_event.specs.declared.act.Need.{Need}
 use Rattle.hc_event.specs.declared.act.Need.TheVariants as need
 use Rattle.hc_sparse.specs.Cells.{Cells, cells_with}
 use Rattle.hc_sparse.proofs.CellLemmas.{inside-past}
-use Rattle.hc_model.specs.Entries.{Entry}
-use Rattle.hc_model.specs.ExchangeRows.{exchange_after, exchange_heard, exchange_acted}
-use Rattle.hc_model.specs.Exchanges.{base, promised_bytes, front, family}
-use Rattle.hc_model.specs.RepresentationRows.{representation_after, representation_heard, representation_acted, representation_after_piece}
-use Rattle.hc_model.specs.Rows.{Tables, Exchange, Representation}
-use Rattle.hc_model.specs.Sound.{Waits, Sound, OneAbout, IsAbout, IsPromised, InHole}
-use Rattle.hc_model.specs.Tables.{after_accepted}
 use Rattle.hc_model.specs.Sound as sound
 
 abbrev pub of_piece : ℕ → ℕ → List ℕ → List Act → Entry

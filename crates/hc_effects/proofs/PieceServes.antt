@@ -3,19 +3,8 @@ use Rattle.std.proofs.Common.{◌≡◌, ℕ, ◌+◌, List, [], ◌∷◌, ◌+
 use Rattle.std.specs.Prelude.{map}
 use Rattle.std.specs.Option.{option_or}
 use Rattle.hc_text.proofs.Basics.{plus_none, some_inj}
-use Rattle.hc_event.specs.Filters.{opening_in, shows_in, given_in, leaves_in}
-use Rattle.hc_event.specs.declared.act.Act.{Act}
+use Rattle.hc_effects.proofs.Vocabulary.{opening_in, shows_in, given_in, leaves_in, Act, wait_in, showing_in, loss_acts, consumer_after, consumer_acted, consumer_settled, own_after, Entry, becomes_due, Flaw, NoFlaw, Loses, Misreads, reads, Tables, Consumer, starts_over, BoundBy}
 use Rattle.hc_event.specs.declared.act.Act.TheVariants as act
-use Rattle.hc_model.specs.ActFilters.{wait_in, showing_in}
-use Rattle.hc_model.specs.Answers.{loss_acts}
-use Rattle.hc_model.specs.ConsumerRows.{consumer_after, consumer_acted, consumer_settled, own_after}
-use Rattle.hc_model.specs.Entries.{Entry}
-use Rattle.hc_model.specs.Failures.{becomes_due}
-use Rattle.hc_model.specs.Flaws.{Flaw, NoFlaw, Loses, Misreads}
-use Rattle.hc_model.specs.Reading.{reads}
-use Rattle.hc_model.specs.Rows.{Tables, Consumer}
-use Rattle.hc_model.specs.StartingOver.{starts_over}
-use Rattle.hc_event.specs.declared.place.BoundBy.{BoundBy}
 use Rattle.hc_event.specs.declared.place.Place.TheVariants as place
 use Rattle.hc_effects.proofs.PieceKeeps.{of_piece}
 

@@ -3,37 +3,11 @@ use Rattle.std.proofs.Common.{◌≡◌, inl, inr, ℕ, List, [], ◌++◌, Bool
 use mathlib.Core.Path.{fun_ext}
 use Rattle.std.specs.Prelude.{◌==◌, nat_eq, if◌then◌else◌, map}
 use Rattle.hc_sparse.specs.declared.run.Run.{Run}
-use Rattle.hc_event.specs.Filters.{opening_in, closes_in, evicts_in}
-use Rattle.hc_event.specs.declared.act.Act.{Act}
+use Rattle.hc_effects.proofs.Vocabulary.{opening_in, closes_in, evicts_in, Act, Need, Wait, Why, Event, Request, Response, Limits, Place, loses_in, misreads_in, leaver_in, accepted_acts, answer_acts, closing, consumer_after, consumer_acted, bypass_key, Does, with_event, with_consumer, let_all_go, Entry, exchange_after, NoFlaw, becomes_gone, goes_in, Lawful, Move, Asks, Opens, Shows, Gives, acts_of, move_of, poll_move, reads, Tables, Exchange, Representation, Consumer, loses_what_it_waits_for, after_accepted, opened_after, openings_after, to_front, binds}
 use Rattle.hc_event.specs.declared.act.Act.TheVariants as act
-use Rattle.hc_event.specs.declared.act.Need.{Need}
-use Rattle.hc_event.specs.declared.act.Wait.{Wait}
-use Rattle.hc_event.specs.declared.act.Why.{Why}
-use Rattle.hc_event.specs.declared.event.Event.{Event}
 use Rattle.hc_event.specs.declared.event.Event.TheVariants as event
-use Rattle.hc_event.specs.declared.event.Request.{Request}
-use Rattle.hc_event.specs.declared.event.Response.{Response}
-use Rattle.hc_rules.specs.declared.room.Limits.{Limits}
-use Rattle.hc_event.specs.declared.place.Place.{Place}
 use Rattle.hc_event.specs.declared.place.Place.TheVariants as place
-use Rattle.hc_model.specs.ActFilters.{loses_in, misreads_in, leaver_in}
-use Rattle.hc_model.specs.Answers.{accepted_acts, answer_acts}
-use Rattle.hc_model.specs.Closings.{closing}
-use Rattle.hc_model.specs.ConsumerRows.{consumer_after, consumer_acted}
-use Rattle.hc_model.specs.Dooms.{bypass_key}
-use Rattle.hc_model.specs.Effects.{Does, with_event, with_consumer, let_all_go}
-use Rattle.hc_model.specs.Entries.{Entry}
-use Rattle.hc_model.specs.ExchangeRows.{exchange_after}
-use Rattle.hc_model.specs.Flaws.{NoFlaw}
-use Rattle.hc_model.specs.Gone.{becomes_gone, goes_in}
-use Rattle.hc_model.specs.Lawful.{Lawful}
 use Rattle.hc_model.specs.Moves as moves
-use Rattle.hc_model.specs.Moves.{Move, Asks, Opens, Shows, Gives, acts_of}
-use Rattle.hc_model.specs.Polls.{move_of, poll_move}
-use Rattle.hc_model.specs.Reading.{reads}
-use Rattle.hc_model.specs.Rows.{Tables, Exchange, Representation, Consumer}
-use Rattle.hc_model.specs.StartingOver.{loses_what_it_waits_for}
-use Rattle.hc_model.specs.Tables.{after_accepted, opened_after, openings_after, to_front, binds}
 use Rattle.hc_effects.proofs.ActParts.{IsFarFrom, far_closed, far_other}
 use Rattle.hc_effects.proofs.Basics.{append_none}
 use Rattle.hc_effects.proofs.ConsumerEffects.{after_by, waits_as, others, representations}

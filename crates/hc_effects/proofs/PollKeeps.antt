@@ -5,30 +5,12 @@ use Rattle.std.proofs.lemmas.Bool.Decides.{nat_tests}
 use Rattle.hc_text.proofs.Basics.{and_right, both_true as and_true, bool_cases, not_true, same_some as same_row, some_inj}
 use Rattle.hc_sparse.specs.Cells.{Cells, Cell}
 use Rattle.hc_sparse.specs.Stretch.{stretch, stretch_of}
-use Rattle.hc_event.specs.Filters.{Opening, opening_in}
+use Rattle.hc_effects.proofs.Vocabulary.{Opening, opening_in, Request, Act, Need, poll_acts, loss_acts, accepted_acts, closing, current, is_usable, is_number, Entry, aim_of, aim_from, Flaw, NoFlaw, Loses, Misreads, stretch_to, Move, Nothing, Asks, Opens, Shows, Gives, Ends, Fails, acts_of, poll_move, offset, Tables, Representation, Consumer, Sound, OneAbout, IsAbout, InHole, IsExclusiveWriter, held_of_lost, after_accepted, Place, Limits}
 use Rattle.hc_event.specs.declared.event.Event.TheVariants as event
-use Rattle.hc_event.specs.declared.event.Request.{Request}
-use Rattle.hc_event.specs.declared.act.Act.{Act}
 use Rattle.hc_event.specs.declared.act.Act.TheVariants as act
-use Rattle.hc_event.specs.declared.act.Need.{Need}
 use Rattle.hc_event.specs.declared.act.Need.TheVariants as need
-use Rattle.hc_model.specs.Answers.{poll_acts, loss_acts, accepted_acts}
-use Rattle.hc_model.specs.Closings.{closing}
-use Rattle.hc_model.specs.Currents.{current, is_usable, is_number}
-use Rattle.hc_model.specs.Entries.{Entry}
-use Rattle.hc_model.specs.ExchangeRows.{aim_of, aim_from}
-use Rattle.hc_model.specs.Flaws.{Flaw, NoFlaw, Loses, Misreads}
-use Rattle.hc_model.specs.Holes.{stretch_to}
 use Rattle.hc_model.specs.Moves as moves
-use Rattle.hc_model.specs.Moves.{Move, Nothing, Asks, Opens, Shows, Gives, Ends, Fails, acts_of}
-use Rattle.hc_model.specs.Polls.{poll_move}
-use Rattle.hc_model.specs.Reading.{offset}
-use Rattle.hc_model.specs.Rows.{Tables, Representation, Consumer}
-use Rattle.hc_model.specs.Sound.{Sound, Waits as StillWaits, OneAbout, IsAbout, InHole, IsExclusiveWriter}
-use Rattle.hc_model.specs.Steps.{held_of_lost}
-use Rattle.hc_model.specs.Tables.{after_accepted}
-use Rattle.hc_event.specs.declared.place.Place.{Place}
-use Rattle.hc_rules.specs.declared.room.Limits.{Limits}
+use Rattle.hc_model.specs.Sound.{Waits as StillWaits}
 use Rattle.hc_model.specs.Sound as sound
 use Rattle.hc_effects.proofs.ExclusiveWriters.{IsAtHole, has_exclusive_writer, none_about, none_about_hole}
 use Rattle.hc_effects.proofs.QuietKeeps.{OpensWell, waits_kept, one_about_kept}

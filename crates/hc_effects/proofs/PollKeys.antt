@@ -5,33 +5,14 @@ use Rattle.std.specs.Option.{option_and_then}
 use Rattle.hc_text.proofs.Basics.{bool_cases, some_inj}
 use Rattle.hc_range.specs.declared.range.Span.{Span}
 use Rattle.hc_sparse.specs.declared.run.Run.{Run}
-use Rattle.hc_event.specs.declared.event.Request.{Request}
-use Rattle.hc_event.specs.declared.event.Response.{Response}
-use Rattle.hc_event.specs.declared.act.Need.{Need}
+use Rattle.hc_effects.proofs.Vocabulary.{Request, Response, Need, Wait, Why, Cause, Plan, ReadStep, ReadView, plan_of, read_step, is_at_end, stored_or, held_or, fails_or, waits_or, Place, BoundBy, Tables, Exchange, Representation, Consumer, current, reads, hi_of, own_open, source, Move, Nothing, Asks, Opens, Shows, Gives, Ends, Fails, opens_hole, shows_stored, gives, waits_for, plan_view, plan_move, planned_move, origin_request, conditional_on, current_row, binds_current, bound_row, most, run_held_for, read_view, later_hole, step_move, reading, shows_answer, shows_direct, shows_bound, shows_at, shows_head, has_joined, if_headless, waits_for_head, or_else, by_place, poll_move}
 use Rattle.hc_event.specs.declared.act.Need.TheVariants as need
-use Rattle.hc_event.specs.declared.act.Wait.{Wait}
-use Rattle.hc_event.specs.declared.act.Why.{Why}
-use Rattle.hc_event.specs.declared.act.Cause.{Cause}
-use Rattle.hc_rules.specs.declared.plan.Plan.{Plan}
 use Rattle.hc_rules.specs.declared.plan.Plan.TheVariants as plan
-use Rattle.hc_rules.specs.declared.reading.ReadStep.{ReadStep}
 use Rattle.hc_rules.specs.declared.reading.ReadStep.TheVariants as step
-use Rattle.hc_rules.specs.declared.reading.ReadView.{ReadView}
-use Rattle.hc_rules.specs.Plans.{plan_of}
-use Rattle.hc_rules.specs.Readings.{read_step, is_at_end, stored_or, held_or, fails_or, waits_or}
 use Rattle.hc_rules.specs.Readings as readings
-use Rattle.hc_event.specs.declared.place.Place.{Place}
 use Rattle.hc_event.specs.declared.place.Place.TheVariants as place
-use Rattle.hc_event.specs.declared.place.BoundBy.{BoundBy}
 use Rattle.hc_event.specs.declared.place.BoundBy.TheVariants as by
-use Rattle.hc_model.specs.Rows.{Tables, Exchange, Representation, Consumer}
-use Rattle.hc_model.specs.Currents.{current}
-use Rattle.hc_model.specs.Reading.{reads, hi_of, own_open, source}
 use Rattle.hc_model.specs.Moves as moves
-use Rattle.hc_model.specs.Moves.{Move, Nothing, Asks, Opens, Shows, Gives, Ends, Fails, opens_hole, shows_stored, gives, waits_for}
-use Rattle.hc_model.specs.Planning.{plan_view, plan_move, planned_move, origin_request, conditional_on, current_row, binds_current}
-use Rattle.hc_model.specs.Steps.{bound_row, most, run_held_for, read_view, later_hole, step_move, reading}
-use Rattle.hc_model.specs.Polls.{shows_answer, shows_direct, shows_bound, shows_at, shows_head, has_joined, if_headless, waits_for_head, or_else, by_place, poll_move}
 use Rattle.hc_effects.proofs.Joining.{mix}
 
 -- a move that asks for what its consumer reads from, or opens for its key

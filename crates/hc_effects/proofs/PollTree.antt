@@ -9,36 +9,14 @@ use Rattle.hc_sparse.specs.Cells.{Cells, Cell}
 use Rattle.hc_sparse.specs.Runs.{end_of}
 use Rattle.hc_sparse.specs.Stretch.{stretch, stretch_of}
 use Rattle.hc_sparse.specs.declared.run.Run.{Run}
-use Rattle.hc_event.specs.declared.event.Request.{Request}
-use Rattle.hc_event.specs.declared.event.Response.{Response}
-use Rattle.hc_event.specs.declared.act.Need.{Need}
+use Rattle.hc_effects.proofs.Vocabulary.{Request, Response, Need, Wait, Why, Cause, Plan, Candidate, ReadStep, ReadView, least, lesser, read_step, is_at_end, hole_end, stored_or, held_or, fails_or, waits_or, Place, BoundBy, Tables, Exchange, Representation, Consumer, current, row_of, first_hole, hole_at, next_from, bound, bound_to, offset, hi_of, own_open, source, aim_from, Move, Nothing, Asks, Opens, Shows, Gives, Ends, Fails, opens_hole, shows_stored, gives, waits_for, plan_view, plan_move, planned_move, candidate, candidate_at, hole_of, binds_current, bound_row, stored_ahead, stored_from, run_held_for, held_at, held_of_lost, read_view, later_hole, step_move, reading, most, shows_answer, shows_direct, shows_bound, shows_at, shows_head, has_joined, if_headless, waits_for_head, or_else, by_place, poll_move, Sound, IsToBeShown}
 use Rattle.hc_event.specs.declared.act.Need.TheVariants as need
-use Rattle.hc_event.specs.declared.act.Wait.{Wait}
-use Rattle.hc_event.specs.declared.act.Why.{Why}
-use Rattle.hc_event.specs.declared.act.Cause.{Cause}
-use Rattle.hc_rules.specs.declared.plan.Plan.{Plan}
-use Rattle.hc_rules.specs.declared.plan.Candidate.{Candidate}
-use Rattle.hc_rules.specs.declared.reading.ReadStep.{ReadStep}
 use Rattle.hc_rules.specs.declared.reading.ReadStep.TheVariants as step
-use Rattle.hc_rules.specs.declared.reading.ReadView.{ReadView}
-use Rattle.hc_rules.specs.Least.{least, lesser}
-use Rattle.hc_rules.specs.Readings.{read_step, is_at_end, hole_end, stored_or, held_or, fails_or, waits_or}
 use Rattle.hc_rules.specs.Readings as readings
-use Rattle.hc_event.specs.declared.place.Place.{Place}
 use Rattle.hc_event.specs.declared.place.Place.TheVariants as place
-use Rattle.hc_event.specs.declared.place.BoundBy.{BoundBy}
 use Rattle.hc_event.specs.declared.place.BoundBy.TheVariants as by
-use Rattle.hc_model.specs.Rows.{Tables, Exchange, Representation, Consumer}
-use Rattle.hc_model.specs.Currents.{current, row_of}
-use Rattle.hc_model.specs.Holes.{first_hole, hole_at, next_from, end_by}
-use Rattle.hc_model.specs.Reading.{bound, bound_to, offset, hi_of, own_open, source}
-use Rattle.hc_model.specs.ExchangeRows.{aim_from}
+use Rattle.hc_model.specs.Holes.{end_by}
 use Rattle.hc_model.specs.Moves as moves
-use Rattle.hc_model.specs.Moves.{Move, Nothing, Asks, Opens, Shows, Gives, Ends, Fails, opens_hole, shows_stored, gives, waits_for}
-use Rattle.hc_model.specs.Planning.{plan_view, plan_move, planned_move, candidate, candidate_at, hole_of, binds_current}
-use Rattle.hc_model.specs.Steps.{bound_row, stored_ahead, stored_from, run_held_for, held_at, held_of_lost, read_view, later_hole, step_move, reading, most}
-use Rattle.hc_model.specs.Polls.{shows_answer, shows_direct, shows_bound, shows_at, shows_head, has_joined, if_headless, waits_for_head, or_else, by_place, poll_move}
-use Rattle.hc_model.specs.Sound.{Sound, IsToBeShown}
 use Rattle.hc_model.specs.Sound as sound
 use Rattle.hc_effects.proofs.Joining.{mix}
 use Rattle.hc_effects.proofs.ExclusiveWriters.{IsAtHole}

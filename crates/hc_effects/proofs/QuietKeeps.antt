@@ -3,19 +3,10 @@
 use Rattle.std.proofs.Common.{◌≡◌, inl, inr, ℕ, ◌≤◌, List, [], Bool, true, false, cond, Option, Some, None, refl, ap, sym, ◌∙◌, subst}
 use Rattle.std.specs.Prelude.{is_some, nat_eq, not}
 use Rattle.hc_text.proofs.Basics.{and_right, same_some as same_row, some_inj}
-use Rattle.hc_event.specs.Filters.{Opening, opening_in, closes_in}
-use Rattle.hc_event.specs.declared.event.Event.{Event}
+use Rattle.hc_effects.proofs.Vocabulary.{Opening, opening_in, closes_in, Event, Act, Entry, exchange_after, exchange_heard, exchange_acted, exchange_made, aim_of, base, promised_bytes, front, family, representation_after, representation_heard, founded_at, with_total_if_none, length_in, Tables, Exchange, Representation, Waits, Sound, OneAbout, IsAbout, IsPromised, InHole, after_accepted}
 use Rattle.hc_event.specs.declared.event.Event.TheVariants as event
-use Rattle.hc_event.specs.declared.act.Act.{Act}
 use Rattle.hc_event.specs.declared.act.Need.TheVariants as need
 use Rattle.hc_sparse.specs.Cells.{Cells}
-use Rattle.hc_model.specs.Entries.{Entry}
-use Rattle.hc_model.specs.ExchangeRows.{exchange_after, exchange_heard, exchange_acted, exchange_made, aim_of}
-use Rattle.hc_model.specs.Exchanges.{base, promised_bytes, front, family}
-use Rattle.hc_model.specs.RepresentationRows.{representation_after, representation_heard, founded_at, with_total_if_none, length_in}
-use Rattle.hc_model.specs.Rows.{Tables, Exchange, Representation}
-use Rattle.hc_model.specs.Sound.{Waits, Sound, OneAbout, IsAbout, IsPromised, InHole}
-use Rattle.hc_model.specs.Tables.{after_accepted}
 use Rattle.hc_model.specs.Sound as sound
 use Rattle.hc_effects.proofs.PieceKeeps.{eq_cases, ends_same}
 

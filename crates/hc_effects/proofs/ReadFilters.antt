@@ -3,20 +3,10 @@ use Rattle.std.proofs.Common.{◌≡◌, inl, inr, ℕ, ◌+◌, List, [], ◌�
 use Rattle.std.specs.Prelude.{◌==◌, ◌||◌, ◌&&◌, not, is_none}
 use Rattle.std.specs.Option.{option_map_or}
 use Rattle.hc_text.proofs.Basics.{bool_cases}
-use Rattle.hc_event.specs.Filters.{is_denied, given_in, shows_in}
-use Rattle.hc_event.specs.declared.event.Event.{Event}
+use Rattle.hc_effects.proofs.Vocabulary.{is_denied, given_in, shows_in, Event, Act, Limits, Entry, History, Contents, flaw_in, Tables, Consumer, starts_over, consumer_after, consumer_made, consumer_heard, consumer_acted, tables, after, IsRun, IsOwed, Shown, first, given_of, shown_of, shown_in}
 use Rattle.hc_event.specs.declared.event.Event.TheVariants as event
-use Rattle.hc_event.specs.declared.act.Act.{Act}
 use Rattle.hc_event.specs.declared.act.Act.TheVariants as act
-use Rattle.hc_rules.specs.declared.room.Limits.{Limits}
-use Rattle.hc_model.specs.Entries.{Entry, History, Contents}
-use Rattle.hc_model.specs.Flaws.{flaw_in}
-use Rattle.hc_model.specs.Rows.{Tables, Consumer}
-use Rattle.hc_model.specs.StartingOver.{starts_over}
-use Rattle.hc_model.specs.ConsumerRows.{consumer_after, consumer_made, consumer_heard, consumer_acted}
-use Rattle.hc_model.specs.Tables.{tables, after}
-use Rattle.hc_model.specs.Runs.{IsRun, IsOwed}
-use Rattle.hc_model.specs.Histories.{Shown, first, given_of, shown_of, shown_in, ConsumersAreFiltered}
+use Rattle.hc_model.specs.Histories.{ConsumersAreFiltered}
 use Rattle.hc_effects.proofs.Owed.{goes, acts_are, denied_gives, denied_shows}
 use Rattle.hc_effects.proofs.Named.{IsFar, far}
 use Rattle.hc_effects.proofs.ConsumerFilters.{acted, given_by, shown_by, requests_are, starts_are}

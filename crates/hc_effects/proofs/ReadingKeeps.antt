@@ -4,32 +4,11 @@ use Rattle.std.specs.Prelude.{if◌then◌else◌, is_some, is_none, ◌&&◌, �
 use Rattle.std.specs.Option.{option_and_then}
 use Rattle.std.proofs.lemmas.Bool.Decides.{nat_tests}
 use Rattle.hc_text.proofs.Basics.{and_left, and_right, bool_cases, not_some as none_some, never_true as not_so, or_left, or_right, same_some as same_row, some_inj}
-use Rattle.hc_event.specs.Filters.{Opening, opening_in, leaves_in}
-use Rattle.hc_event.specs.declared.event.Event.{Event}
+use Rattle.hc_effects.proofs.Vocabulary.{Opening, opening_in, leaves_in, Event, Response, Wait, Limits, Place, Showing, showing_in, wait_in, must_close, is_left, is_left_by, leaver, leaver_by, consumer_heard, consumer_acted, by_head, by_fault, by_opening, own_after, shown_place, waiting, waiting_place, denial, Entry, exchange_heard, is_open, Flaw, entry_of, Owners, IsReading, shows_at, shows_direct, move_of, own_open, if_open, reads, bound_to, Tables, Exchange, Consumer, Sound, after_accepted, brings_body}
 use Rattle.hc_event.specs.declared.event.Event.TheVariants as event
-use Rattle.hc_event.specs.declared.event.Response.{Response}
-use Rattle.hc_event.specs.declared.act.Wait.{Wait}
 use Rattle.hc_event.specs.declared.act.Wait.TheVariants as wait
-use Rattle.hc_rules.specs.declared.room.Limits.{Limits}
-use Rattle.hc_event.specs.declared.place.Place.{Place}
 use Rattle.hc_event.specs.declared.place.Place.TheVariants as place
-use Rattle.hc_model.specs.ActFilters.{Showing, showing_in, wait_in}
-use Rattle.hc_model.specs.Closings.{must_close, is_left, is_left_by, leaver, leaver_by}
-use Rattle.hc_model.specs.ConsumerRows.{consumer_heard, consumer_acted, by_head, by_fault, by_opening, own_after, shown_place, waiting, waiting_place}
-use Rattle.hc_model.specs.Denials.{denial}
-use Rattle.hc_model.specs.Entries.{Entry}
-use Rattle.hc_model.specs.ExchangeRows.{exchange_heard}
-use Rattle.hc_model.specs.Exchanges.{is_open}
-use Rattle.hc_model.specs.Flaws.{Flaw}
-use Rattle.hc_model.specs.Keys.{entry_of}
-use Rattle.hc_model.specs.Owners.{Owners, IsReading}
 use Rattle.hc_model.specs.Owners as owners
-use Rattle.hc_model.specs.Polls.{shows_at, shows_direct, move_of}
-use Rattle.hc_model.specs.Reading.{own_open, if_open, reads, bound_to}
-use Rattle.hc_model.specs.Rows.{Tables, Exchange, Consumer}
-use Rattle.hc_model.specs.Sound.{Sound}
-use Rattle.hc_model.specs.Tables.{after_accepted}
-use Rattle.hc_model.specs.Writers.{brings_body}
 use Rattle.hc_effects.proofs.Basics.{false_true, some_none, number_yes}
 use Rattle.hc_effects.proofs.Closed.{before, closes}
 use Rattle.hc_effects.proofs.ExchangeFrom.{ExchangeFrom, IsSame, IsHeaded, exchange_from}

@@ -5,15 +5,8 @@ use Rattle.std.specs.Option.{option_or}
 use Rattle.std.proofs.Common.{arith}
 use Rattle.std.proofs.lemmas.Bool.Decides.{nat_tests}
 use Rattle.hc_text.proofs.Basics.{bool_cases, some_inj}
-use Rattle.hc_event.specs.declared.event.Event.{Event}
+use Rattle.hc_effects.proofs.Vocabulary.{Event, Response, loses_in, case_at, is_founding, is_joining, Entry, representation_after, representation_heard, representation_acted, founded_at, new_representation, representation_after_head, with_renewed_head, updates, resumes, representation_after_piece, with_stored_bytes, with_total_if_none, length_in, family, front, Tables, Exchange, Representation}
 use Rattle.hc_event.specs.declared.event.Event.TheVariants as event
-use Rattle.hc_event.specs.declared.event.Response.{Response}
-use Rattle.hc_model.specs.ActFilters.{loses_in}
-use Rattle.hc_model.specs.Cases.{case_at, is_founding, is_joining}
-use Rattle.hc_model.specs.Entries.{Entry}
-use Rattle.hc_model.specs.RepresentationRows.{representation_after, representation_heard, representation_acted, founded_at, new_representation, representation_after_head, with_renewed_head, updates, resumes, representation_after_piece, with_stored_bytes, with_total_if_none, length_in}
-use Rattle.hc_model.specs.Exchanges.{family, front}
-use Rattle.hc_model.specs.Rows.{Tables, Exchange, Representation}
 use Rattle.hc_effects.proofs.PieceKeeps.{eq_cases}
 
 -- the writing of r begins again: this joining head resumes it

@@ -3,15 +3,9 @@ use Rattle.std.proofs.Common.{◌≡◌, inl, inr, ℕ, List, [], ◌∷◌, Boo
 use mathlib.Core.Path.{fun_ext}
 use Rattle.std.specs.Prelude.{◌==◌, ◌||◌, if◌then◌else◌, option_map}
 use Rattle.std.specs.Option.{option_or}
-use Rattle.hc_event.specs.declared.act.Cause.{Cause}
-use Rattle.hc_event.specs.declared.place.Place.{Place}
+use Rattle.hc_effects.proofs.Vocabulary.{Cause, Place, back_in_line, is_number, back_from, as_gone, let_go, let_all_go, let_some_go, over, tables_after_close, all_closed, failing, with_length, with_total_if_none, Tables, Exchange, Representation, Consumer, with_item_first}
 use Rattle.hc_event.specs.declared.place.Place.TheVariants as place
-use Rattle.hc_model.specs.ConsumerRows.{back_in_line}
-use Rattle.hc_model.specs.Currents.{is_number}
-use Rattle.hc_model.specs.Effects.{waits_for, back_from, as_gone, let_go, let_all_go, let_some_go, over, tables_after_close, all_closed, failing, with_length}
-use Rattle.hc_model.specs.RepresentationRows.{with_total_if_none}
-use Rattle.hc_model.specs.Rows.{Tables, Exchange, Representation, Consumer}
-use Rattle.hc_model.specs.Tables.{with_item_first}
+use Rattle.hc_model.specs.Effects.{waits_for}
 use Rattle.hc_effects.proofs.PieceKeeps.{eq_cases}
 
 -- PARTS

@@ -2,31 +2,10 @@
 use Rattle.std.proofs.Common.{◌≡◌, inl, inr, ℕ, List, [], ◌∷◌, ◌++◌, Bool, true, false, Option, Some, None, refl, ap, sym, ◌∙◌, subst}
 use Rattle.std.specs.Prelude.{◌||◌, ◌==◌, nat_eq, if◌then◌else◌, map, option_map}
 use Rattle.hc_text.proofs.Basics.{eqb-same, not_some as none_some}
-use Rattle.hc_event.specs.declared.act.Act.{Act}
+use Rattle.hc_effects.proofs.Vocabulary.{Act, Cause, LostKind, Event, Limits, Place, loses_in, answer_acts, is_number, Does, with_event, with_consumer, with_representation, let_go, as_gone, as_over, left_by, is_unkeepable, going_with, with_leave, lost_to, Entry, family, Flaw, Loses, becomes_gone, Lawful, Ends, Fails, acts_of, move_of, poll_move, representation_after, representation_acted, Tables, Exchange, Representation, Consumer, loses_what_it_waits_for, after_accepted, with_item_first, exclusive}
 use Rattle.hc_event.specs.declared.act.Act.TheVariants as act
-use Rattle.hc_event.specs.declared.act.Cause.{Cause}
-use Rattle.hc_event.specs.declared.act.LostKind.{LostKind}
-use Rattle.hc_event.specs.declared.event.Event.{Event}
 use Rattle.hc_event.specs.declared.event.Event.TheVariants as event
-use Rattle.hc_rules.specs.declared.room.Limits.{Limits}
-use Rattle.hc_event.specs.declared.place.Place.{Place}
 use Rattle.hc_event.specs.declared.place.Place.TheVariants as place
-use Rattle.hc_model.specs.ActFilters.{loses_in}
-use Rattle.hc_model.specs.Answers.{answer_acts}
-use Rattle.hc_model.specs.Currents.{is_number}
-use Rattle.hc_model.specs.Effects.{Does, with_event, with_consumer, with_representation, let_go, as_gone, as_over, left_by, is_unkeepable, going_with, with_leave, lost_to}
-use Rattle.hc_model.specs.Entries.{Entry}
-use Rattle.hc_model.specs.Exchanges.{family}
-use Rattle.hc_model.specs.Flaws.{Flaw, Loses}
-use Rattle.hc_model.specs.Gone.{becomes_gone}
-use Rattle.hc_model.specs.Lawful.{Lawful}
-use Rattle.hc_model.specs.Moves.{Ends, Fails, acts_of}
-use Rattle.hc_model.specs.Polls.{move_of, poll_move}
-use Rattle.hc_model.specs.RepresentationRows.{representation_after, representation_acted}
-use Rattle.hc_model.specs.Rows.{Tables, Exchange, Representation, Consumer}
-use Rattle.hc_model.specs.StartingOver.{loses_what_it_waits_for}
-use Rattle.hc_model.specs.Tables.{after_accepted, with_item_first}
-use Rattle.hc_model.specs.Writers.{exclusive}
 use Rattle.hc_effects.proofs.ActParts.{IsFarFrom}
 use Rattle.hc_effects.proofs.Basics.{number_is}
 use Rattle.hc_effects.proofs.ConsumerEffects.{waits_as}

@@ -7,40 +7,12 @@ use Rattle.hc_text.proofs.Basics.{both_true as and_both, and_left, and_right, bo
 use Rattle.hc_sparse.specs.Cells.{Cells, Covers, cells_with}
 use Rattle.hc_sparse.proofs.CellLemmas.{inside-cases}
 use Rattle.hc_range.specs.declared.range.Span.{Span}
-use Rattle.hc_event.specs.Filters.{Opening, opening_in, leaves_in, closes_in, given_in}
-use Rattle.hc_event.specs.declared.event.Event.{Event}
+use Rattle.hc_effects.proofs.Vocabulary.{Opening, opening_in, leaves_in, closes_in, given_in, Event, Response, HeadCase, Limits, BoundBy, Showing, showing_in, loses_in, has_loss, case_at, head_view, must_close, is_refused, brings_head, is_doomed, has_no_survivor, is_left, leaver, leaver_by, consumer_heard, consumer_acted, by_opening, waiting, is_number, denial, doomed_key_of, doomed_in, doomed_by_head, doomed_by_case, is_key, Entry, exchange_heard, promise_in, is_open, is_reached, family, becomes_due, cause_by_loss, Flaw, first_hole, covers, entry_of, Measures, Owners, is_written, bound, hi_of, offset, reads, new_representation, writer_at, Tables, Exchange, Representation, Consumer, Sound, IsBound, IsServed, IsExclusiveWriter, IsFirst, IsGrowing, after_accepted, brings_body, came_alone, loses_writing, survivor, goes_on_with, status_in, stops}
 use Rattle.hc_event.specs.declared.event.Event.TheVariants as event
-use Rattle.hc_event.specs.declared.event.Response.{Response}
-use Rattle.hc_rules.specs.declared.heads.HeadCase.{HeadCase}
 use Rattle.hc_rules.specs.declared.heads.HeadCase.TheVariants as case
-use Rattle.hc_rules.specs.declared.room.Limits.{Limits}
 use Rattle.hc_event.specs.declared.place.Place.TheVariants as place
-use Rattle.hc_event.specs.declared.place.BoundBy.{BoundBy}
 use Rattle.hc_event.specs.declared.place.BoundBy.TheVariants as by
-use Rattle.hc_model.specs.ActFilters.{Showing, showing_in, loses_in, has_loss}
-use Rattle.hc_model.specs.Cases.{case_at, head_view}
-use Rattle.hc_model.specs.Closings.{must_close, is_refused, brings_head, is_doomed, has_no_survivor, is_left, leaver, leaver_by}
-use Rattle.hc_model.specs.ConsumerRows.{consumer_heard, consumer_acted, by_opening, waiting}
-use Rattle.hc_model.specs.Currents.{is_number}
-use Rattle.hc_model.specs.Denials.{denial}
-use Rattle.hc_model.specs.Dooms.{doomed_key_of, doomed_in, doomed_by_head, doomed_by_case, is_key}
-use Rattle.hc_model.specs.Entries.{Entry}
-use Rattle.hc_model.specs.ExchangeRows.{exchange_heard, promise_in}
-use Rattle.hc_model.specs.Exchanges.{is_open, is_reached, family}
-use Rattle.hc_model.specs.Failures.{becomes_due, cause_by_loss}
-use Rattle.hc_model.specs.Flaws.{Flaw}
-use Rattle.hc_model.specs.Holes.{first_hole, covers}
-use Rattle.hc_model.specs.Keys.{entry_of}
-use Rattle.hc_model.specs.Measures.{Measures}
-use Rattle.hc_model.specs.Owners.{Owners}
-use Rattle.hc_model.specs.Reading.{is_written, bound, hi_of, offset, reads}
-use Rattle.hc_model.specs.RepresentationRows.{new_representation, writer_at}
-use Rattle.hc_model.specs.Rows.{Tables, Exchange, Representation, Consumer}
-use Rattle.hc_model.specs.Sound.{Sound, IsBound, IsServed, IsExclusiveWriter, IsFirst, IsGrowing}
 use Rattle.hc_model.specs.Sound as sound
-use Rattle.hc_model.specs.Tables.{after_accepted}
-use Rattle.hc_model.specs.Writers.{brings_body, came_alone, loses_writing, survivor, goes_on_with, status_in}
-use Rattle.hc_model.specs.Writes.{stops}
 use Rattle.hc_effects.proofs.ApartKeeps.{written_by, is_on}
 use Rattle.hc_effects.proofs.Basics.{false_true, number_is}
 use Rattle.hc_effects.proofs.BoundFrom.{BoundFrom, IsRow, IsFounded, IsFirstHole, IsShown, bound_from}

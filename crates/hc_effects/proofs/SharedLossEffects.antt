@@ -5,38 +5,12 @@ use Rattle.std.specs.Prelude.{◌&&◌, ◌||◌, ◌==◌, not, nat_eq, length,
 use Rattle.std.specs.Option.{option_or}
 use Rattle.hc_text.proofs.Basics.{both_true as and_both, eqb-same, not_some as none_some, or_none as or_nothing, same_some as same_row, some_inj, and_off as then_false}
 use Rattle.hc_event.specs.declared.act.Act.TheVariants as act
-use Rattle.hc_event.specs.declared.act.Cause.{Cause}
+use Rattle.hc_effects.proofs.Vocabulary.{Cause, LostKind, piece_refusal, Limits, Place, BoundBy, loses_in, loss_acts, closing, closes_row, has_no_survivor, own_after, left_to, is_number, denial, as_open, Does, with_event, with_exchange, with_representation, left_with, if_bound, writing_lost, let_go, let_all_go, over, all_closed, lost_to, unless_reached, Entry, with_piece, family, front, becomes_due, cause_of_loss, cause_by_loss, Flaw, Loses, beside, becomes_gone, Lawful, is_bound_place, is_written, reads, with_stored_bytes, Tables, Exchange, Representation, Consumer, with_item_first, evicted, survivor, loses_writing}
 use Rattle.hc_event.specs.declared.act.Cause.TheVariants as cause
-use Rattle.hc_event.specs.declared.act.LostKind.{LostKind}
 use Rattle.hc_event.specs.declared.event.Event.TheVariants as event
 use Rattle.hc_rules.specs.Refusals as refusals
-use Rattle.hc_rules.specs.Refusals.{piece_refusal}
-use Rattle.hc_rules.specs.declared.room.Limits.{Limits}
-use Rattle.hc_event.specs.declared.place.Place.{Place}
 use Rattle.hc_event.specs.declared.place.Place.TheVariants as place
-use Rattle.hc_event.specs.declared.place.BoundBy.{BoundBy}
-use Rattle.hc_model.specs.ActFilters.{loses_in}
-use Rattle.hc_model.specs.Answers.{loss_acts}
-use Rattle.hc_model.specs.Closings.{closing, closes_row, has_no_survivor}
-use Rattle.hc_model.specs.ConsumerRows.{own_after, left_to}
-use Rattle.hc_model.specs.Currents.{is_number}
-use Rattle.hc_model.specs.Denials.{denial, as_open}
-use Rattle.hc_model.specs.Effects.{Does, with_event, with_exchange, with_representation, left_with, if_bound, writing_lost, let_go, let_all_go, over, all_closed, lost_to, unless_reached}
-use Rattle.hc_model.specs.Entries.{Entry}
-use Rattle.hc_model.specs.ExchangeRows.{with_piece}
-use Rattle.hc_model.specs.Exchanges.{family, front}
-use Rattle.hc_model.specs.Failures.{becomes_due, cause_of_loss, cause_by_loss}
-use Rattle.hc_model.specs.Flaws.{Flaw, Loses}
-use Rattle.hc_model.specs.Frames.{beside}
-use Rattle.hc_model.specs.Gone.{becomes_gone}
-use Rattle.hc_model.specs.Lawful.{Lawful}
-use Rattle.hc_model.specs.Reading.{is_bound_place, is_written, reads}
-use Rattle.hc_model.specs.RepresentationRows.{with_stored_bytes}
-use Rattle.hc_model.specs.Rows.{Tables, Exchange, Representation, Consumer}
 use Rattle.hc_model.specs.Sound as sound
-use Rattle.hc_model.specs.Tables.{with_item_first}
-use Rattle.hc_model.specs.Weights.{evicted}
-use Rattle.hc_model.specs.Writers.{survivor, loses_writing}
 use Rattle.hc_effects.proofs.ApartKeeps.{is_on}
 use Rattle.hc_effects.proofs.Basics.{false_true, number_yes}
 use Rattle.hc_effects.proofs.Closed.{reversed}

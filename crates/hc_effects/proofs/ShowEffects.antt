@@ -1,22 +1,10 @@
 -- What a poll does that shows a head: to who reads already, or by its plan, which binds.
 use Rattle.std.proofs.Common.{◌≡◌, ℕ, [], true, false, Option, Some, None, refl, ap, sym, ◌∙◌}
 use Rattle.hc_text.proofs.Basics.{eqb-same, plus_none}
-use Rattle.hc_event.specs.declared.act.Why.{Why}
+use Rattle.hc_effects.proofs.Vocabulary.{Why, Response, Limits, consumer_acted, Does, with_event, used_last, with_consumer, Entry, NoFlaw, Lawful, Shows, acts_of, move_of, reads, Tables, Consumer, to_front, binds}
 use Rattle.hc_event.specs.declared.event.Event.TheVariants as event
-use Rattle.hc_event.specs.declared.event.Response.{Response}
-use Rattle.hc_rules.specs.declared.room.Limits.{Limits}
 use Rattle.hc_event.specs.declared.place.Place.TheVariants as place
 use Rattle.hc_event.specs.declared.place.BoundBy.TheVariants as by
-use Rattle.hc_model.specs.ConsumerRows.{consumer_acted}
-use Rattle.hc_model.specs.Effects.{Does, with_event, used_last, with_consumer}
-use Rattle.hc_model.specs.Entries.{Entry}
-use Rattle.hc_model.specs.Flaws.{NoFlaw}
-use Rattle.hc_model.specs.Lawful.{Lawful}
-use Rattle.hc_model.specs.Moves.{Shows, acts_of}
-use Rattle.hc_model.specs.Polls.{move_of}
-use Rattle.hc_model.specs.Reading.{reads}
-use Rattle.hc_model.specs.Rows.{Tables, Consumer}
-use Rattle.hc_model.specs.Tables.{to_front, binds}
 use Rattle.hc_effects.proofs.Basics.{false_true}
 use Rattle.hc_effects.proofs.OfConsumers.{BringsNothing, brings_nothing, binds_as, exchanges_stay}
 use Rattle.hc_effects.proofs.OfConsumers as event_of

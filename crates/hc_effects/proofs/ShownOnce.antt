@@ -5,37 +5,15 @@ use Rattle.std.specs.Option.{option_and_then}
 use Rattle.hc_text.proofs.Basics.{bool_cases, cond_false, cond_true, same_some as same_row, some_inj}
 use Rattle.hc_range.specs.declared.range.Span.{Span}
 use Rattle.hc_sparse.specs.declared.run.Run.{Run}
-use Rattle.hc_event.specs.Filters.{given_in}
-use Rattle.hc_event.specs.declared.event.Event.{Event}
+use Rattle.hc_effects.proofs.Vocabulary.{given_in, Event, Request, Response, Act, Why, Plan, ReadStep, read_step, Place, BoundBy, Move, Nothing, Asks, Opens, Shows, Gives, Ends, Fails, acts_of, gives, waits_for, opens_hole, shows_stored, plan_move, binds_current, poll_move, move_of, by_place, shows_head, shows_at, shows_bound, shows_direct, shows_answer, waits_for_head, or_else, has_joined, Tables, Exchange, Representation, Consumer, step_move, later_hole, read_view, Limits, accepted_acts, poll_acts, loss_acts, closing, Flaw, NoFlaw, Loses, Misreads, Shown, first, shown_in, own_open, if_headless}
 use Rattle.hc_event.specs.declared.event.Event.TheVariants as event
-use Rattle.hc_event.specs.declared.event.Request.{Request}
-use Rattle.hc_event.specs.declared.event.Response.{Response}
 use Rattle.hc_event.specs.declared.act.Wait.TheVariants as wait
-use Rattle.hc_event.specs.declared.act.Act.{Act}
 use Rattle.hc_event.specs.declared.act.Act.TheVariants as act
-use Rattle.hc_event.specs.declared.act.Why.{Why}
-use Rattle.hc_rules.specs.declared.plan.Plan.{Plan}
 use Rattle.hc_rules.specs.declared.plan.Plan.TheVariants as plan
-use Rattle.hc_rules.specs.declared.reading.ReadStep.{ReadStep}
 use Rattle.hc_rules.specs.declared.reading.ReadStep.TheVariants as step
-use Rattle.hc_rules.specs.Readings.{read_step}
-use Rattle.hc_event.specs.declared.place.Place.{Place}
 use Rattle.hc_event.specs.declared.place.Place.TheVariants as place
-use Rattle.hc_event.specs.declared.place.BoundBy.{BoundBy}
 use Rattle.hc_event.specs.declared.place.BoundBy.TheVariants as by
 use Rattle.hc_model.specs.Moves as moves
-use Rattle.hc_model.specs.Moves.{Move, Nothing, Asks, Opens, Shows, Gives, Ends, Fails, acts_of, gives, waits_for, opens_hole, shows_stored}
-use Rattle.hc_model.specs.Planning.{plan_move, binds_current}
-use Rattle.hc_model.specs.Polls.{poll_move, move_of, by_place, shows_head, shows_at, shows_bound, shows_direct, shows_answer, waits_for_head, or_else, has_joined}
-use Rattle.hc_model.specs.Rows.{Tables, Exchange, Representation, Consumer}
-use Rattle.hc_model.specs.Steps.{step_move, later_hole, read_view}
-use Rattle.hc_rules.specs.declared.room.Limits.{Limits}
-use Rattle.hc_model.specs.Answers.{accepted_acts, poll_acts, loss_acts}
-use Rattle.hc_model.specs.Closings.{closing}
-use Rattle.hc_model.specs.Flaws.{Flaw, NoFlaw, Loses, Misreads}
-use Rattle.hc_model.specs.Histories.{Shown, first, shown_in}
-use Rattle.hc_model.specs.Reading.{own_open}
-use Rattle.hc_model.specs.Polls.{if_headless}
 use Rattle.hc_effects.proofs.Named.{IsFar, far_told, far_poll, far_closes, far_lost}
 use Rattle.hc_effects.proofs.PieceKeeps.{eq_cases}
 use Rattle.hc_effects.proofs.ReadFilters.{shows_are}

@@ -3,38 +3,13 @@ use Rattle.std.proofs.Common.{◌≡◌, inl, inr, ℕ, Bool, true, false, cond,
 use Rattle.std.specs.Prelude.{if◌then◌else◌, is_none, ◌==◌, ◌&&◌, not, nat_eq}
 use Rattle.std.proofs.lemmas.Bool.Decides.{nat_tests}
 use Rattle.hc_text.proofs.Basics.{bool_cases, not_some as none_some, same_some as same_row}
-use Rattle.hc_event.specs.Filters.{Opening, opening_in, leaves_in}
-use Rattle.hc_event.specs.declared.event.Event.{Event}
+use Rattle.hc_effects.proofs.Vocabulary.{Opening, opening_in, leaves_in, Event, Response, Wait, Why, HeadCase, Limits, head_case, route_of, Place, Showing, showing_in, wait_in, has_loss, case_at, head_view, was_shown, consumer_heard, consumer_acted, by_head, by_fault, by_opening, place_by_case, passed_on, passed_by, kept_by, waiting, waiting_place, unless_bound, shown_place, due_after, back_in_line, current, denial, Entry, Flaw, entry_of, Move, Shows, Owners, IsAwaiting, move_of, bound_to, reads, Tables, Exchange, Consumer, Sound, starts_over, after_accepted}
 use Rattle.hc_event.specs.declared.event.Event.TheVariants as event
-use Rattle.hc_event.specs.declared.event.Response.{Response}
-use Rattle.hc_event.specs.declared.act.Wait.{Wait}
 use Rattle.hc_event.specs.declared.act.Wait.TheVariants as wait
-use Rattle.hc_event.specs.declared.act.Why.{Why}
-use Rattle.hc_rules.specs.declared.heads.HeadCase.{HeadCase}
 use Rattle.hc_rules.specs.declared.need.Route.TheVariants as route
-use Rattle.hc_rules.specs.declared.room.Limits.{Limits}
-use Rattle.hc_rules.specs.HeadCases.{head_case}
-use Rattle.hc_rules.specs.Needs.{route_of}
 use Rattle.hc_event.specs.declared.place.BoundBy.TheVariants as by
-use Rattle.hc_event.specs.declared.place.Place.{Place}
 use Rattle.hc_event.specs.declared.place.Place.TheVariants as place
-use Rattle.hc_model.specs.ActFilters.{Showing, showing_in, wait_in, has_loss}
-use Rattle.hc_model.specs.Cases.{case_at, head_view, was_shown}
-use Rattle.hc_model.specs.ConsumerRows.{consumer_heard, consumer_acted, by_head, by_fault, by_opening, place_by_case, passed_on, passed_by, kept_by, waiting, waiting_place, unless_bound, shown_place, due_after, back_in_line}
-use Rattle.hc_model.specs.Currents.{current}
-use Rattle.hc_model.specs.Denials.{denial}
-use Rattle.hc_model.specs.Entries.{Entry}
-use Rattle.hc_model.specs.Flaws.{Flaw}
-use Rattle.hc_model.specs.Keys.{entry_of}
-use Rattle.hc_model.specs.Moves.{Move, Shows}
-use Rattle.hc_model.specs.Owners.{Owners, IsAwaiting}
 use Rattle.hc_model.specs.Owners as owners
-use Rattle.hc_model.specs.Polls.{move_of}
-use Rattle.hc_model.specs.Reading.{bound_to, reads}
-use Rattle.hc_model.specs.Rows.{Tables, Exchange, Consumer}
-use Rattle.hc_model.specs.Sound.{Sound}
-use Rattle.hc_model.specs.StartingOver.{starts_over}
-use Rattle.hc_model.specs.Tables.{after_accepted}
 use Rattle.hc_effects.proofs.Basics.{false_true}
 use Rattle.hc_effects.proofs.FirstKeeps.{is_new, case_is, is_opener}
 use Rattle.hc_effects.proofs.Forward.{is_kept}

@@ -4,21 +4,9 @@ use Rattle.std.specs.Prelude.{nat_eq, nat_le, if◌then◌else◌, map}
 use Rattle.std.proofs.lemmas.Bool.Decides.{nat_tests}
 use Rattle.hc_event.specs.declared.act.Act.TheVariants as act
 use Rattle.hc_event.specs.declared.act.Refusal.TheVariants as refusal
-use Rattle.hc_event.specs.declared.event.Event.{Event}
+use Rattle.hc_effects.proofs.Vocabulary.{Event, Request, Limits, accepted_acts, closing, new_consumer, consumer_after, denial, live, Does, with_event, with_start, Entry, entry_without_acts, NoFlaw, Lawful, Tables, after_accepted}
 use Rattle.hc_event.specs.declared.event.Event.TheVariants as event
-use Rattle.hc_event.specs.declared.event.Request.{Request}
 use Rattle.hc_rules.specs.Refusals as refusals
-use Rattle.hc_rules.specs.declared.room.Limits.{Limits}
-use Rattle.hc_model.specs.Answers.{accepted_acts}
-use Rattle.hc_model.specs.Closings.{closing}
-use Rattle.hc_model.specs.ConsumerRows.{new_consumer, consumer_after}
-use Rattle.hc_model.specs.Denials.{denial, live}
-use Rattle.hc_model.specs.Effects.{Does, with_event, with_start}
-use Rattle.hc_model.specs.Entries.{Entry, entry_without_acts}
-use Rattle.hc_model.specs.Flaws.{NoFlaw}
-use Rattle.hc_model.specs.Lawful.{Lawful}
-use Rattle.hc_model.specs.Rows.{Tables}
-use Rattle.hc_model.specs.Tables.{after_accepted}
 use Rattle.hc_effects.proofs.ActParts.{far_closed}
 use Rattle.hc_effects.proofs.Basics.{some_none}
 use Rattle.hc_effects.proofs.ConsumerEffects.{after_by, others, representations}

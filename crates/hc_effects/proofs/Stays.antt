@@ -4,22 +4,11 @@ use Rattle.std.specs.Prelude.{nat_eq}
 use Rattle.std.proofs.lemmas.Bool.Decides.{nat_tests}
 use Rattle.hc_text.proofs.Basics.{same_some as same_row}
 use Rattle.hc_event.specs.declared.event.Event.TheVariants as event
-use Rattle.hc_event.specs.declared.event.Response.{Response}
-use Rattle.hc_event.specs.declared.act.Act.{Act}
+use Rattle.hc_effects.proofs.Vocabulary.{Response, Act, denial, Event, Limits, Flaw, accepted_acts, Entry, front, family, Tables, Exchange, Representation, Sound, after_accepted}
 use Rattle.hc_sparse.specs.Cells.{Cells, Cell, cells_with, AreAbsent}
 use Rattle.hc_sparse.proofs.CellLemmas.{inside-cases}
-use Rattle.hc_model.specs.Denials.{denial}
-use Rattle.hc_event.specs.declared.event.Event.{Event}
-use Rattle.hc_rules.specs.declared.room.Limits.{Limits}
 use Rattle.hc_rules.specs.Refusals as refusals
-use Rattle.hc_model.specs.Flaws.{Flaw}
-use Rattle.hc_model.specs.Answers.{accepted_acts}
 use Rattle.hc_model.specs.Laws.{BodiesAreKept}
-use Rattle.hc_model.specs.Entries.{Entry}
-use Rattle.hc_model.specs.Exchanges.{front, family}
-use Rattle.hc_model.specs.Rows.{Tables, Exchange, Representation}
-use Rattle.hc_model.specs.Sound.{Sound}
-use Rattle.hc_model.specs.Tables.{after_accepted}
 use Rattle.hc_effects.proofs.Once.{delivers_once, never}
 use Rattle.hc_effects.proofs.PieceKeeps.{was_representation, of_piece}
 use Rattle.hc_effects.proofs.QuietKeeps.{is_quiet, is_kept}

@@ -3,28 +3,10 @@ use Rattle.std.proofs.Common.{◌≡◌, inl, inr, ℕ, [], Bool, true, false, O
 use Rattle.std.specs.Prelude.{◌&&◌, ◌==◌, not, nat_eq, is_some, is_none, if◌then◌else◌, option_map}
 use Rattle.hc_text.proofs.Basics.{eqb-same, not_some as none_some, same_some as same_row}
 use Rattle.hc_event.specs.declared.act.Cause.TheVariants as cause
-use Rattle.hc_event.specs.declared.event.Event.{Event}
+use Rattle.hc_effects.proofs.Vocabulary.{Event, Response, Limits, consumer_after, consumer_heard, consumer_acted, consumer_settled, by_fault, is_number, denial, Does, with_event, with_consumer, with_exchange, with_due, put_down, over, at_end, going_with, Entry, family, promised_bytes, short_of, NoFlaw, beside, becomes_gone, Lawful, Awaits, IsAwaiting, reads, representation_after, Tables, Exchange, Representation, Consumer, starts_over}
 use Rattle.hc_event.specs.declared.event.Event.TheVariants as event
-use Rattle.hc_event.specs.declared.event.Response.{Response}
-use Rattle.hc_rules.specs.declared.room.Limits.{Limits}
 use Rattle.hc_event.specs.declared.place.Place.TheVariants as place
-use Rattle.hc_model.specs.ConsumerRows.{consumer_after, consumer_heard, consumer_acted, consumer_settled, by_fault}
-use Rattle.hc_model.specs.Currents.{is_number}
-use Rattle.hc_model.specs.Denials.{denial}
-use Rattle.hc_model.specs.Effects.{Does, with_event, with_consumer, with_exchange, with_due, put_down, over, at_end, going_with}
-use Rattle.hc_model.specs.Entries.{Entry}
-use Rattle.hc_model.specs.Exchanges.{family, promised_bytes}
-use Rattle.hc_model.specs.Failures.{short_of}
-use Rattle.hc_model.specs.Flaws.{NoFlaw}
-use Rattle.hc_model.specs.Frames.{beside}
-use Rattle.hc_model.specs.Gone.{becomes_gone}
-use Rattle.hc_model.specs.Lawful.{Lawful}
-use Rattle.hc_model.specs.Owners.{Awaits, IsAwaiting}
 use Rattle.hc_model.specs.Owners as owners
-use Rattle.hc_model.specs.Reading.{reads}
-use Rattle.hc_model.specs.RepresentationRows.{representation_after}
-use Rattle.hc_model.specs.Rows.{Tables, Exchange, Representation, Consumer}
-use Rattle.hc_model.specs.StartingOver.{starts_over}
 use Rattle.hc_effects.proofs.Basics.{true_false, false_true}
 use Rattle.hc_effects.proofs.Frames.{undoomed}
 use Rattle.hc_effects.proofs.PieceKeeps.{eq_cases}

@@ -5,16 +5,9 @@ use Rattle.std.specs.Option.{option_or}
 use Rattle.std.proofs.lemmas.Bool.Decides.{nat_tests}
 use Rattle.hc_text.proofs.Basics.{and_right, eq_tells as eq_of, some_inj, lt_or as split}
 use Rattle.hc_event.specs.declared.event.Event.TheVariants as event
-use Rattle.hc_event.specs.declared.act.Cause.{Cause}
+use Rattle.hc_effects.proofs.Vocabulary.{Cause, Entry, base, promised_bytes, front, is_open, is_reached, exchange_in, cause_of_stop, stop_cause, is_written, is_open_writer, own_open, source, shared_exchange, Tables, Exchange, Representation, Consumer, Sound, IsAbout, IsBound, IsGrowing, end_from, is_same_number}
 use Rattle.hc_sparse.specs.Cells.{Covers, cells_with}
 use Rattle.hc_sparse.proofs.CellLemmas.{inside-yes, inside-before}
-use Rattle.hc_model.specs.Entries.{Entry}
-use Rattle.hc_model.specs.Exchanges.{base, promised_bytes, front, is_open, is_reached, exchange_in}
-use Rattle.hc_model.specs.Failures.{cause_of_stop, stop_cause}
-use Rattle.hc_model.specs.Reading.{is_written, is_open_writer, own_open, source, shared_exchange}
-use Rattle.hc_model.specs.Rows.{Tables, Exchange, Representation, Consumer}
-use Rattle.hc_model.specs.Sound.{Sound, IsAbout, IsBound, IsGrowing, end_from}
-use Rattle.hc_rules.specs.Lengths.{is_same_number}
 use Rattle.hc_model.specs.Sound as sound
 
 -- WHAT A MEMBER READS FROM

@@ -6,9 +6,7 @@ use Rattle.std.specs.Option.{option_map}
 use Rattle.std.proofs.lemmas.Bool.Decides.{nat_tests}
 use Rattle.std.proofs.lemmas.List.Sums.{sum_by-cons, sum_by-append}
 use Rattle.hc_text.proofs.Basics.{bool_cases, not_some as none_some, reverse_is, some_inj}
-use Rattle.hc_rules.specs.Rooms.{gives_way}
-use Rattle.hc_model.specs.Orders.{AreOnce}
-use Rattle.hc_model.specs.Sound.{Among}
+use Rattle.hc_effects.proofs.Vocabulary.{gives_way, AreOnce, Among}
 use Rattle.hc_effects.proofs.Basics.{false_true}
 use Rattle.hc_effects.proofs.PieceKeeps.{eq_cases}
 

@@ -5,33 +5,11 @@ use Rattle.std.proofs.lemmas.Bool.Decides.{nat_tests}
 use Rattle.hc_text.proofs.Basics.{both_true as and_both, and_left, and_right, bool_cases, not_some as none_some, never_true as not_so, same_some as same_row, some_inj}
 use Rattle.hc_sparse.specs.Cells.{Cells, Covers, cells_with}
 use Rattle.hc_sparse.proofs.CellLemmas.{inside-past, inside-yes}
-use Rattle.hc_event.specs.Filters.{leaves_in, given_in, opening_in}
-use Rattle.hc_event.specs.declared.event.Event.{Event}
+use Rattle.hc_effects.proofs.Vocabulary.{leaves_in, given_in, opening_in, Event, Response, Limits, Member, least, lesser, stands_at, BoundBy, loses_in, by_opening, own_after, left_to, waiting, is_number, denial, Entry, base, front, is_open, Flaw, flaw_in, entry_of, Measures, Owners, is_written, bound, offset, lo_of, Tables, Exchange, Representation, Consumer, Sound, IsBound, IsAlone, IsGrowing, after_accepted, brings_body, loses_writing, survivor, member, offset_in}
 use Rattle.hc_event.specs.declared.event.Event.TheVariants as event
-use Rattle.hc_event.specs.declared.event.Response.{Response}
-use Rattle.hc_rules.specs.declared.room.Limits.{Limits}
-use Rattle.hc_rules.specs.declared.survivor.Member.{Member}
-use Rattle.hc_rules.specs.Least.{least, lesser}
-use Rattle.hc_rules.specs.Survivors.{stands_at}
 use Rattle.hc_event.specs.declared.place.Place.TheVariants as place
-use Rattle.hc_event.specs.declared.place.BoundBy.{BoundBy}
-use Rattle.hc_model.specs.ActFilters.{loses_in}
-use Rattle.hc_model.specs.ConsumerRows.{by_opening, own_after, left_to, waiting}
-use Rattle.hc_model.specs.Currents.{is_number}
-use Rattle.hc_model.specs.Denials.{denial}
-use Rattle.hc_model.specs.Entries.{Entry}
-use Rattle.hc_model.specs.Exchanges.{base, front, is_open}
-use Rattle.hc_model.specs.Flaws.{Flaw, flaw_in}
 use Rattle.hc_model.specs.Laws.{SurvivorsGoOn}
-use Rattle.hc_model.specs.Keys.{entry_of}
-use Rattle.hc_model.specs.Measures.{Measures}
-use Rattle.hc_model.specs.Owners.{Owners}
-use Rattle.hc_model.specs.Reading.{is_written, bound, offset, lo_of}
-use Rattle.hc_model.specs.Rows.{Tables, Exchange, Representation, Consumer}
-use Rattle.hc_model.specs.Sound.{Sound, IsBound, IsAlone, IsGrowing}
 use Rattle.hc_model.specs.Sound as sound
-use Rattle.hc_model.specs.Tables.{after_accepted}
-use Rattle.hc_model.specs.Writers.{brings_body, loses_writing, survivor, member, offset_in}
 use Rattle.hc_effects.proofs.Basics.{false_true, number_yes}
 use Rattle.hc_effects.proofs.BoundStays.{bound_stays}
 use Rattle.hc_effects.proofs.ConsumerFilters.{acted}

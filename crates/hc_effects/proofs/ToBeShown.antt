@@ -4,41 +4,16 @@ use Rattle.std.specs.Prelude.{if◌then◌else◌, is_some, is_none, ◌&&◌, �
 use Rattle.std.specs.Option.{option_and_then}
 use Rattle.std.proofs.lemmas.Bool.Decides.{nat_tests}
 use Rattle.hc_text.proofs.Basics.{and_left, and_right, not_some as none_some, same_some as same_row, some_inj}
-use Rattle.hc_event.specs.Filters.{Opening, opening_in, leaves_in, shows_in}
-use Rattle.hc_event.specs.declared.event.Event.{Event}
+use Rattle.hc_effects.proofs.Vocabulary.{Opening, opening_in, leaves_in, shows_in, Event, Response, Wait, HeadCase, Limits, head_case, route_of, Place, BoundBy, Showing, has_loss, showing_in, wait_in, case_at, head_view, was_shown, is_joining, consumer_heard, by_head, by_fault, place_by_case, by_opening, shown_place, waiting, waiting_place, own_after, denial, as_open, Entry, exchange_opened, exchange_in, exchange_at, is_for, is_headless, is_open, Flaw, entry_of, Owners, IsAwaiting, has_joined, own_open, if_open, bound_to, Tables, Exchange, Consumer, Sound, IsToBeShown, starts_over, sends_back, after_accepted, piece_refusal}
 use Rattle.hc_event.specs.declared.event.Event.TheVariants as event
-use Rattle.hc_event.specs.declared.event.Response.{Response}
 use Rattle.hc_event.specs.declared.act.Cause.TheVariants as cause
-use Rattle.hc_event.specs.declared.act.Wait.{Wait}
-use Rattle.hc_rules.specs.declared.heads.HeadCase.{HeadCase}
 use Rattle.hc_rules.specs.declared.heads.HeadCase.TheVariants as case
 use Rattle.hc_rules.specs.declared.need.Route.TheVariants as route
-use Rattle.hc_rules.specs.declared.room.Limits.{Limits}
-use Rattle.hc_rules.specs.HeadCases.{head_case}
-use Rattle.hc_rules.specs.Needs.{route_of}
 use Rattle.hc_rules.specs.Refusals as refusals
-use Rattle.hc_event.specs.declared.place.Place.{Place}
 use Rattle.hc_event.specs.declared.place.Place.TheVariants as place
-use Rattle.hc_event.specs.declared.place.BoundBy.{BoundBy}
 use Rattle.hc_event.specs.declared.place.BoundBy.TheVariants as by
-use Rattle.hc_model.specs.ActFilters.{Showing, has_loss, showing_in, wait_in}
-use Rattle.hc_model.specs.Cases.{case_at, head_view, was_shown, is_joining}
-use Rattle.hc_model.specs.ConsumerRows.{consumer_heard, by_head, by_fault, place_by_case, by_opening, shown_place, waiting, waiting_place, own_after}
-use Rattle.hc_model.specs.Denials.{denial, as_open}
-use Rattle.hc_model.specs.Entries.{Entry}
-use Rattle.hc_model.specs.ExchangeRows.{exchange_opened}
-use Rattle.hc_model.specs.Exchanges.{exchange_in, exchange_at, is_for, is_headless, is_open}
-use Rattle.hc_model.specs.Flaws.{Flaw}
-use Rattle.hc_model.specs.Keys.{entry_of}
-use Rattle.hc_model.specs.Owners.{Owners, IsAwaiting}
 use Rattle.hc_model.specs.Owners as owners
-use Rattle.hc_model.specs.Polls.{has_joined}
-use Rattle.hc_model.specs.Reading.{own_open, if_open, bound_to}
-use Rattle.hc_model.specs.Rows.{Tables, Exchange, Consumer}
-use Rattle.hc_model.specs.Sound.{Sound, IsToBeShown}
 use Rattle.hc_model.specs.Sound as sound
-use Rattle.hc_model.specs.StartingOver.{starts_over, sends_back}
-use Rattle.hc_model.specs.Tables.{after_accepted}
 use Rattle.hc_effects.proofs.Basics.{false_true, or_false}
 use Rattle.hc_effects.proofs.BoundFrom.{BoundFrom, IsRow, bound_from}
 use Rattle.hc_effects.proofs.BoundFrom as bound
@@ -49,7 +24,6 @@ use Rattle.hc_effects.proofs.Forward.{is_on, opened_on, is_untouched}
 use Rattle.hc_effects.proofs.FoundBy.{CaseBy, case_by}
 use Rattle.hc_effects.proofs.FoundBy as cases
 use Rattle.hc_effects.proofs.Once.{never, taken}
-use Rattle.hc_rules.specs.Refusals.{piece_refusal}
 use Rattle.hc_effects.proofs.OwnersKeep.{is_opened, new_number}
 use Rattle.hc_effects.proofs.PieceKeeps.{eq_cases}
 use Rattle.hc_effects.proofs.Said.{shows_it, showing_by, waiting_by}

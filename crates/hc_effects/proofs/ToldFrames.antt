@@ -2,38 +2,10 @@
 use Rattle.std.proofs.Common.{◌≡◌, inl, inr, ℕ, List, [], ◌++◌, Bool, true, false, Option, Some, None, refl, ap, sym, ◌∙◌, subst}
 use Rattle.std.specs.Prelude.{◌&&◌, ◌||◌, ◌==◌, not, nat_eq, if◌then◌else◌, map, option_map}
 use Rattle.hc_text.proofs.Basics.{not_some as none_some, or_false as or_off}
-use Rattle.hc_event.specs.Filters.{opening_in, asks_in, closes_in, evicts_in}
-use Rattle.hc_event.specs.declared.act.Act.{Act}
+use Rattle.hc_effects.proofs.Vocabulary.{opening_in, asks_in, closes_in, evicts_in, Act, Event, Limits, loses_in, misreads_in, loss_acts, answer_acts, is_asked, case_at, case_of, is_founding, closing, consumer_after, consumer_heard, consumer_made, due_after, back_in_line, is_current, denial, doomed_key_of, is_key, Does, with_event, as_gone, let_all_go, over, lost_to, Entry, entry_without_acts, evict_all, unevicting, exchange_after, exchange_heard, exchange_acted, exchange_at, exchange_in, becomes_due, Flaw, beside, becomes_gone, goes_by_exchange, ends_early, is_keepable, Lawful, reads, representation_after, representation_heard, representation_acted, founded_at, Tables, Exchange, Representation, Consumer, starts_over, waits_at, after_accepted, with_item_first, starts_after, last_start_after, opened_after, openings_after, to_front, founds, evicted, write_in, goes_on_with}
 use Rattle.hc_event.specs.declared.act.Act.TheVariants as act
-use Rattle.hc_event.specs.declared.event.Event.{Event}
 use Rattle.hc_event.specs.declared.event.Event.TheVariants as event
 use Rattle.hc_text.specs.declared.bytes.Key.{Key}
-use Rattle.hc_rules.specs.declared.room.Limits.{Limits}
-use Rattle.hc_model.specs.ActFilters.{loses_in, misreads_in}
-use Rattle.hc_model.specs.Answers.{loss_acts, answer_acts, is_asked}
-use Rattle.hc_model.specs.Cases.{case_at, case_of, is_founding}
-use Rattle.hc_model.specs.Closings.{closing}
-use Rattle.hc_model.specs.ConsumerRows.{consumer_after, consumer_heard, consumer_made, due_after, back_in_line}
-use Rattle.hc_model.specs.Currents.{is_current}
-use Rattle.hc_model.specs.Denials.{denial}
-use Rattle.hc_model.specs.Dooms.{doomed_key_of, is_key}
-use Rattle.hc_model.specs.Effects.{Does, with_event, as_gone, let_all_go, over, lost_to}
-use Rattle.hc_model.specs.Entries.{Entry, entry_without_acts}
-use Rattle.hc_model.specs.Evictions.{evict_all, unevicting}
-use Rattle.hc_model.specs.ExchangeRows.{exchange_after, exchange_heard, exchange_acted}
-use Rattle.hc_model.specs.Exchanges.{exchange_at, exchange_in}
-use Rattle.hc_model.specs.Failures.{becomes_due}
-use Rattle.hc_model.specs.Flaws.{Flaw}
-use Rattle.hc_model.specs.Frames.{beside}
-use Rattle.hc_model.specs.Gone.{becomes_gone, goes_by_exchange, ends_early, is_keepable}
-use Rattle.hc_model.specs.Lawful.{Lawful}
-use Rattle.hc_model.specs.Reading.{reads}
-use Rattle.hc_model.specs.RepresentationRows.{representation_after, representation_heard, representation_acted, founded_at}
-use Rattle.hc_model.specs.Rows.{Tables, Exchange, Representation, Consumer}
-use Rattle.hc_model.specs.StartingOver.{starts_over, waits_at}
-use Rattle.hc_model.specs.Tables.{after_accepted, with_item_first, starts_after, last_start_after, opened_after, openings_after, to_front, founds}
-use Rattle.hc_model.specs.Weights.{evicted, write_in}
-use Rattle.hc_model.specs.Writers.{goes_on_with}
 use Rattle.hc_effects.proofs.ActParts.{IsFarFrom, asks_lost, asks_closes, closes_lost, loses_before, evicts_lost, evicts_closes, far_loss, far_closed}
 use Rattle.hc_effects.proofs.ConsumerEffects.{waits_as}
 use Rattle.hc_effects.proofs.EvictsLast.{evictions_come_last}

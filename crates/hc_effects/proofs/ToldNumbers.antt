@@ -7,21 +7,12 @@ use Rattle.hc_fields.specs.FieldList.{values_of}
 use Rattle.hc_fields.specs.FirstValues.{only_of}
 use Rattle.hc_range.specs.declared.range.ContentRange.{ContentRange}
 use Rattle.hc_range.specs.declared.range.ContentRange.TheVariants as range
-use Rattle.hc_event.specs.declared.event.Request.{Request}
-use Rattle.hc_event.specs.declared.event.Response.{Response}
-use Rattle.hc_event.specs.declared.act.Need.{Need}
-use Rattle.hc_rules.specs.declared.length.Length.{Length}
-use Rattle.hc_rules.specs.declared.need.Route.{Route}
+use Rattle.hc_effects.proofs.Vocabulary.{Request, Response, Need, Length, Route, length_of, content_length_of, part_length, all_tell, agrees, has_no_body, tells_part, base_of, promise_of, route_of, number_of, content_range_of, content_range_in, base, promised_bytes, length_by, total_of_part, founded_total, Exchange}
 use Rattle.hc_rules.specs.declared.need.Route.TheVariants as route
 use Rattle.hc_rules.specs.declared.length.Length.TheVariants as says
-use Rattle.hc_rules.specs.Lengths.{length_of, content_length_of, part_length, all_tell, promised_or_bad, agrees, has_no_body, tells_part, base_of, promise_of}
-use Rattle.hc_rules.specs.Needs.{route_of}
-use Rattle.hc_rules.specs.RangeTexts.{number_of, content_range_of, content_range_in}
+use Rattle.hc_rules.specs.Lengths.{promised_or_bad}
 use Rattle.hc_rules.proofs.Numbers.{IsNumber-told}
 use Rattle.hc_rules.proofs.RangeReads.{content_range_in-some}
-use Rattle.hc_model.specs.Exchanges.{base, promised_bytes, length_by}
-use Rattle.hc_model.specs.Heads.{total_of_part, founded_total}
-use Rattle.hc_model.specs.Rows.{Exchange}
 
 -- what a head says of the length ends by 2^62
 abbrev pub EndsEarly : Length → Type 0

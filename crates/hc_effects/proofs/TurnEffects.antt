@@ -1,28 +1,11 @@
 -- What a poll does that opens an exchange with the turn: past what is stored, what is current is let go.
 use Rattle.std.proofs.Common.{◌≡◌, ◌≢◌, ℕ, [], Bool, true, false, Some, None, refl, ap, sym, ◌∙◌}
 use Rattle.std.specs.Prelude.{◌&&◌, ◌||◌, bytes_eq}
-use Rattle.hc_event.specs.declared.act.Need.{Need}
+use Rattle.hc_effects.proofs.Vocabulary.{Need, Request, route_of, Limits, Place, opened_place, unless_bound, current, is_current, bypassed_for, Does, with_event, with_consumer, with_opening, just_opened, let_some_go, Entry, NoFlaw, becomes_gone, Lawful, Opens, acts_of, move_of, bound_to, Tables, Representation, Consumer, with_item_first, is_hole}
 use Rattle.hc_event.specs.declared.act.Need.TheVariants as need
 use Rattle.hc_event.specs.declared.event.Event.TheVariants as event
-use Rattle.hc_event.specs.declared.event.Request.{Request}
 use Rattle.hc_rules.specs.declared.need.Route.TheVariants as route
-use Rattle.hc_rules.specs.Needs.{route_of}
-use Rattle.hc_rules.specs.declared.room.Limits.{Limits}
-use Rattle.hc_event.specs.declared.place.Place.{Place}
 use Rattle.hc_event.specs.declared.place.Place.TheVariants as place
-use Rattle.hc_model.specs.ConsumerRows.{opened_place, unless_bound}
-use Rattle.hc_model.specs.Currents.{current, is_current}
-use Rattle.hc_model.specs.Dooms.{bypassed_for}
-use Rattle.hc_model.specs.Effects.{Does, with_event, with_consumer, with_opening, just_opened, let_some_go}
-use Rattle.hc_model.specs.Entries.{Entry}
-use Rattle.hc_model.specs.Flaws.{NoFlaw}
-use Rattle.hc_model.specs.Gone.{becomes_gone}
-use Rattle.hc_model.specs.Lawful.{Lawful}
-use Rattle.hc_model.specs.Moves.{Opens, acts_of}
-use Rattle.hc_model.specs.Polls.{move_of}
-use Rattle.hc_model.specs.Reading.{bound_to}
-use Rattle.hc_model.specs.Rows.{Tables, Representation, Consumer}
-use Rattle.hc_model.specs.Tables.{with_item_first, is_hole}
 use Rattle.hc_effects.proofs.Basics.{false_true}
 use Rattle.hc_effects.proofs.ConsumerEffects.{some_all}
 use Rattle.hc_effects.proofs.KeyNames.{current_test}

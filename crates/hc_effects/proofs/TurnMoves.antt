@@ -5,43 +5,17 @@ use Rattle.std.specs.Option.{option_and_then, option_map}
 use Rattle.hc_text.proofs.Basics.{bool_cases, not_some as none_some, some_inj}
 use Rattle.hc_range.specs.declared.range.Span.{Span}
 use Rattle.hc_sparse.specs.declared.run.Run.{Run}
-use Rattle.hc_event.specs.declared.event.Request.{Request}
-use Rattle.hc_event.specs.declared.event.Response.{Response}
-use Rattle.hc_event.specs.declared.act.Need.{Need}
+use Rattle.hc_effects.proofs.Vocabulary.{Request, Response, Need, Why, Cause, Candidate, Plan, PlanView, ReadStep, ReadView, route_of, plan_of, read_step, is_at_end, stored_or, held_or, fails_or, waits_or, class_of, is_bypassing, is_disabled, is_only, wanted_of, range_of, Place, BoundBy, opened_place, place_for_hole, bound_to_wanted, kept_by, current, row_of, HasPassed, Turns, turn_with, Move, Nothing, Asks, Opens, Shows, Gives, Ends, Fails, opens_hole, shows_stored, gives, waits_for, plan_view, plan_move, planned_move, has_passed, candidate, candidate_at, current_row, binds_current, shows_answer, shows_direct, shows_bound, shows_at, shows_head, has_joined, if_headless, waits_for_head, or_else, by_place, poll_move, bound_to, hi_of, own_open, source, Tables, Exchange, Representation, Consumer, Sound, bound_row, most, run_held_for, read_view, later_hole, step_move, reading}
 use Rattle.hc_event.specs.declared.act.Need.TheVariants as need
 use Rattle.hc_event.specs.declared.act.Wait.TheVariants as wait
-use Rattle.hc_event.specs.declared.act.Why.{Why}
-use Rattle.hc_event.specs.declared.act.Cause.{Cause}
 use Rattle.hc_fresh.specs.Vary.{matches_vary}
 use Rattle.hc_rules.specs.declared.need.Route.TheVariants as route
-use Rattle.hc_rules.specs.declared.plan.Candidate.{Candidate}
-use Rattle.hc_rules.specs.declared.plan.Plan.{Plan}
-use Rattle.hc_rules.specs.declared.plan.PlanView.{PlanView}
-use Rattle.hc_rules.specs.declared.reading.ReadStep.{ReadStep}
 use Rattle.hc_rules.specs.declared.reading.ReadStep.TheVariants as step
-use Rattle.hc_rules.specs.declared.reading.ReadView.{ReadView}
 use Rattle.hc_rules.specs.declared.request.Wanted.TheVariants as wanted
-use Rattle.hc_rules.specs.Needs.{route_of}
-use Rattle.hc_rules.specs.Plans.{plan_of}
-use Rattle.hc_rules.specs.Readings.{read_step, is_at_end, stored_or, held_or, fails_or, waits_or}
 use Rattle.hc_rules.specs.Readings as readings
-use Rattle.hc_rules.specs.Requests.{class_of, is_bypassing, is_disabled, is_only, wanted_of, range_of}
-use Rattle.hc_event.specs.declared.place.Place.{Place}
 use Rattle.hc_event.specs.declared.place.Place.TheVariants as place
-use Rattle.hc_event.specs.declared.place.BoundBy.{BoundBy}
 use Rattle.hc_event.specs.declared.place.BoundBy.TheVariants as by
-use Rattle.hc_model.specs.ConsumerRows.{opened_place, place_for_hole, bound_to_wanted, kept_by}
-use Rattle.hc_model.specs.Currents.{current, row_of}
-use Rattle.hc_model.specs.Laws.{HasPassed, Turns}
-use Rattle.hc_model.specs.Lines.{turn_with}
 use Rattle.hc_model.specs.Moves as moves
-use Rattle.hc_model.specs.Moves.{Move, Nothing, Asks, Opens, Shows, Gives, Ends, Fails, opens_hole, shows_stored, gives, waits_for}
-use Rattle.hc_model.specs.Planning.{plan_view, plan_move, planned_move, has_passed, candidate, candidate_at, current_row, binds_current}
-use Rattle.hc_model.specs.Polls.{shows_answer, shows_direct, shows_bound, shows_at, shows_head, has_joined, if_headless, waits_for_head, or_else, by_place, poll_move}
-use Rattle.hc_model.specs.Reading.{bound_to, hi_of, own_open, source}
-use Rattle.hc_model.specs.Rows.{Tables, Exchange, Representation, Consumer}
-use Rattle.hc_model.specs.Sound.{Sound}
-use Rattle.hc_model.specs.Steps.{bound_row, most, run_held_for, read_view, later_hole, step_move, reading}
 use Rattle.hc_effects.proofs.Joining.{mix}
 use Rattle.hc_effects.proofs.PollTree.{never_plans}
 use Rattle.hc_effects.proofs.TurnPlans.{Planned, IsVaried, IsQueueing, plan_is}

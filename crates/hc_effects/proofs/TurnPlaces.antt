@@ -2,34 +2,16 @@
 use Rattle.std.proofs.Common.{◌≡◌, ℕ, Bool, true, false, Option, Some, None, refl, ap, sym, ◌∙◌, subst}
 use Rattle.std.specs.Prelude.{◌&&◌, ◌||◌, ◌==◌, not, is_none, if◌then◌else◌}
 use Rattle.hc_text.proofs.Basics.{eq_tells as eq_is, some_inj}
-use Rattle.hc_event.specs.Filters.{Opening, opening_in, leaves_in, shows_in}
-use Rattle.hc_event.specs.declared.act.Wait.{Wait}
+use Rattle.hc_effects.proofs.Vocabulary.{Opening, opening_in, leaves_in, shows_in, Wait, Event, Response, Request, HeadCase, Route, Wanted, route_of, wanted_of, range_of, Place, wait_in, Showing, showing_in, case_at, bound_to_wanted, place_by_case, passed_on, by_head, by_fault, by_opening, consumer_after, consumer_acted, consumer_heard, waiting, waiting_place, passed_by, kept_by, opened_place, place_for_hole, unless_bound, shown_place, due_after, back_in_line, current, row_of, Entry, founded_total, reads, bound_to, Tables, Exchange, Representation, Consumer, starts_over}
 use Rattle.hc_event.specs.declared.act.Wait.TheVariants as wait
-use Rattle.hc_event.specs.declared.event.Event.{Event}
 use Rattle.hc_event.specs.declared.event.Event.TheVariants as event
-use Rattle.hc_event.specs.declared.event.Response.{Response}
-use Rattle.hc_event.specs.declared.event.Request.{Request}
-use Rattle.hc_rules.specs.declared.heads.HeadCase.{HeadCase}
 use Rattle.hc_rules.specs.declared.heads.HeadCase.TheVariants as case
-use Rattle.hc_rules.specs.declared.need.Route.{Route}
 use Rattle.hc_rules.specs.declared.need.Route.TheVariants as route
-use Rattle.hc_rules.specs.declared.request.Wanted.{Wanted}
 use Rattle.hc_rules.specs.declared.request.Wanted.TheVariants as wanted
-use Rattle.hc_rules.specs.Needs.{route_of}
-use Rattle.hc_rules.specs.Requests.{wanted_of, range_of}
 use Rattle.hc_event.specs.declared.place.BoundBy.TheVariants as by
-use Rattle.hc_event.specs.declared.place.Place.{Place}
 use Rattle.hc_event.specs.declared.place.Place.TheVariants as place
-use Rattle.hc_model.specs.ActFilters.{wait_in, Showing, showing_in}
-use Rattle.hc_model.specs.Cases.{case_at}
-use Rattle.hc_model.specs.ConsumerRows.{bound_to_wanted, place_by_case, passed_on, by_head, by_fault, by_opening, consumer_after, consumer_acted, consumer_heard, waiting, waiting_place, passed_by, kept_by, opened_place, place_for_hole, unless_bound, with_opening, shown_place, due_after, back_in_line}
+use Rattle.hc_model.specs.ConsumerRows.{with_opening}
 use Rattle.hc_model.specs.ConsumerRows as rows
-use Rattle.hc_model.specs.Currents.{current, row_of}
-use Rattle.hc_model.specs.Entries.{Entry}
-use Rattle.hc_model.specs.Heads.{founded_total}
-use Rattle.hc_model.specs.Reading.{reads, bound_to}
-use Rattle.hc_model.specs.Rows.{Tables, Exchange, Representation, Consumer}
-use Rattle.hc_model.specs.StartingOver.{starts_over}
 use Rattle.hc_effects.proofs.ConsumerFilters.{acted}
 
 -- it waits neither with the turn, nor for a body, nor with a first hole

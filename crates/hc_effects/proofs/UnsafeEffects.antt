@@ -5,39 +5,12 @@ use Rattle.std.specs.Prelude.{bytes_eq, ◌&&◌, ◌||◌, not, nat_eq, if◌th
 use Rattle.hc_text.proofs.Basics.{eqb-same, not_some as none_some, some_inj, and_off as then_false}
 use Rattle.hc_event.specs.declared.act.Act.TheVariants as act
 use Rattle.hc_event.specs.declared.act.Cause.TheVariants as cause
-use Rattle.hc_event.specs.declared.event.Event.{Event}
+use Rattle.hc_effects.proofs.Vocabulary.{Event, Response, HeadCase, HeadView, Limits, head_case, route_of, Place, accepted_acts, case_at, head_view, is_founding, is_updating, is_joining, closing, closes_row, is_refused, awaits, has_no_survivor, consumer_after, back_in_line, current, is_number, is_current, denial, doomed_key_of, doomed_by_case, changes, is_key, Does, with_event, let_some_go, all_closed, with_consumer, with_answer, sent_back, woken, is_awaited, awaited_and, Entry, promise_in, is_reached, family, cause_by_case, NoFlaw, becomes_gone, goes_by_case, Lawful, IsAwaiting, is_written, Tables, Exchange, Representation, Consumer, sends_back, waits_at, after_accepted, with_item_first}
 use Rattle.hc_event.specs.declared.event.Event.TheVariants as event
-use Rattle.hc_event.specs.declared.event.Response.{Response}
-use Rattle.hc_rules.specs.declared.heads.HeadCase.{HeadCase}
 use Rattle.hc_rules.specs.declared.heads.HeadCase.TheVariants as case
-use Rattle.hc_rules.specs.declared.heads.HeadView.{HeadView}
 use Rattle.hc_rules.specs.declared.need.Route.TheVariants as route
-use Rattle.hc_rules.specs.declared.room.Limits.{Limits}
-use Rattle.hc_rules.specs.HeadCases.{head_case}
-use Rattle.hc_rules.specs.Needs.{route_of}
-use Rattle.hc_event.specs.declared.place.Place.{Place}
 use Rattle.hc_event.specs.declared.place.Place.TheVariants as place
-use Rattle.hc_model.specs.Answers.{accepted_acts}
-use Rattle.hc_model.specs.Cases.{case_at, head_view, is_founding, is_updating, is_joining}
-use Rattle.hc_model.specs.Closings.{closing, closes_row, is_refused, awaits, has_no_survivor}
-use Rattle.hc_model.specs.ConsumerRows.{consumer_after, back_in_line}
-use Rattle.hc_model.specs.Currents.{current, is_number, is_current}
-use Rattle.hc_model.specs.Denials.{denial}
-use Rattle.hc_model.specs.Dooms.{doomed_key_of, doomed_by_case, changes, is_key}
-use Rattle.hc_model.specs.Effects.{Does, with_event, let_some_go, all_closed, with_consumer, with_answer, sent_back, woken, is_awaited, awaited_and}
-use Rattle.hc_model.specs.Entries.{Entry}
-use Rattle.hc_model.specs.ExchangeRows.{promise_in}
-use Rattle.hc_model.specs.Exchanges.{is_reached, family}
-use Rattle.hc_model.specs.Failures.{cause_by_case}
-use Rattle.hc_model.specs.Flaws.{NoFlaw}
-use Rattle.hc_model.specs.Gone.{becomes_gone, goes_by_case}
-use Rattle.hc_model.specs.Lawful.{Lawful}
-use Rattle.hc_model.specs.Owners.{IsAwaiting}
 use Rattle.hc_model.specs.Owners as owners
-use Rattle.hc_model.specs.Reading.{is_written}
-use Rattle.hc_model.specs.Rows.{Tables, Exchange, Representation, Consumer}
-use Rattle.hc_model.specs.StartingOver.{sends_back, waits_at}
-use Rattle.hc_model.specs.Tables.{after_accepted, with_item_first}
 use Rattle.hc_effects.proofs.ConsumerEffects.{waits_as, some_all}
 use Rattle.hc_effects.proofs.DoomFrames.{sent_as, awaited_apart}
 use Rattle.hc_effects.proofs.FoundBy.{CaseBy, case_by}

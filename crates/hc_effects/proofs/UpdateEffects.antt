@@ -3,42 +3,13 @@ use Rattle.std.proofs.Common.{◌≡◌, inl, inr, ℕ, List, [], ◌∷◌, Boo
 use Rattle.std.specs.Prelude.{◌&&◌, ◌||◌, ◌==◌, not, nat_eq, if◌then◌else◌, option_map}
 use Rattle.hc_text.proofs.Basics.{and_left, and_true, eqb-same, never_true as not_so, same_some as same_row, some_inj, and_off as then_false}
 use Rattle.hc_event.specs.declared.act.Act.TheVariants as act
-use Rattle.hc_event.specs.declared.act.LostKind.{LostKind}
-use Rattle.hc_event.specs.declared.event.Event.{Event}
+use Rattle.hc_effects.proofs.Vocabulary.{LostKind, Event, Response, HeadCase, HeadView, Limits, head_case, route_of, loses_in, has_loss, loss_acts, case_at, head_view, is_founding, is_updating, is_joining, is_refused, becomes_shared, back_in_line, consumer_after, current, is_number, denial, doomed_by_case, Does, with_event, let_go, with_consumer, with_representation, with_answer, with_refreshed_head, lost_to, as_gone, promise_in, is_reached, cause_by_case, Flaw, NoFlaw, Loses, goes_by_case, Lawful, IsAwaiting, is_written, representation_after, updates, resumes, Tables, Exchange, Representation, Consumer, sends_back, with_item_first, evicted, exclusive, goes_on_with, BoundBy, IsFirst, IsExclusiveWriter}
 use Rattle.hc_event.specs.declared.event.Event.TheVariants as event
-use Rattle.hc_event.specs.declared.event.Response.{Response}
-use Rattle.hc_rules.specs.declared.heads.HeadCase.{HeadCase}
 use Rattle.hc_rules.specs.declared.heads.HeadCase.TheVariants as case
-use Rattle.hc_rules.specs.declared.heads.HeadView.{HeadView}
 use Rattle.hc_rules.specs.declared.need.Route.TheVariants as route
-use Rattle.hc_rules.specs.declared.room.Limits.{Limits}
-use Rattle.hc_rules.specs.HeadCases.{head_case}
-use Rattle.hc_rules.specs.Needs.{route_of}
 use Rattle.hc_event.specs.declared.place.Place.TheVariants as place
-use Rattle.hc_model.specs.ActFilters.{loses_in, has_loss}
-use Rattle.hc_model.specs.Answers.{loss_acts}
-use Rattle.hc_model.specs.Cases.{case_at, head_view, is_founding, is_updating, is_joining}
-use Rattle.hc_model.specs.Closings.{is_refused}
-use Rattle.hc_model.specs.ConsumerRows.{becomes_shared, back_in_line, consumer_after}
-use Rattle.hc_model.specs.Currents.{current, is_number}
-use Rattle.hc_model.specs.Denials.{denial}
-use Rattle.hc_model.specs.Dooms.{doomed_by_case}
-use Rattle.hc_model.specs.Effects.{Does, with_event, let_go, with_consumer, with_representation, with_answer, with_refreshed_head, with_resumption, lost_to, as_gone}
-use Rattle.hc_model.specs.ExchangeRows.{promise_in}
-use Rattle.hc_model.specs.Exchanges.{is_reached}
-use Rattle.hc_model.specs.Failures.{cause_by_case}
-use Rattle.hc_model.specs.Flaws.{Flaw, NoFlaw, Loses}
-use Rattle.hc_model.specs.Gone.{goes_by_case}
-use Rattle.hc_model.specs.Lawful.{Lawful}
-use Rattle.hc_model.specs.Owners.{IsAwaiting}
+use Rattle.hc_model.specs.Effects.{with_resumption}
 use Rattle.hc_model.specs.Owners as owners
-use Rattle.hc_model.specs.Reading.{is_written}
-use Rattle.hc_model.specs.RepresentationRows.{representation_after, updates, resumes}
-use Rattle.hc_model.specs.Rows.{Tables, Exchange, Representation, Consumer}
-use Rattle.hc_model.specs.StartingOver.{sends_back}
-use Rattle.hc_model.specs.Tables.{with_item_first}
-use Rattle.hc_model.specs.Weights.{evicted}
-use Rattle.hc_model.specs.Writers.{exclusive, goes_on_with}
 use Rattle.hc_effects.proofs.Basics.{false_true, true_false}
 use Rattle.hc_effects.proofs.FoundBy.{CaseBy, case_by, unchanged_founds, validated_selects}
 use Rattle.hc_effects.proofs.FoundBy as cases
@@ -51,8 +22,6 @@ use Rattle.hc_effects.proofs.PollEffects.{none_waits, same_consumer}
 use Rattle.hc_effects.proofs.PollKeeps.{current_stays}
 use Rattle.hc_effects.proofs.SameTables.{is_in, waits_for_any}
 use Rattle.hc_effects.proofs.Waiters.{unwritten, waits_undue, own_open_is}
-use Rattle.hc_event.specs.declared.place.BoundBy.{BoundBy}
-use Rattle.hc_model.specs.Sound.{IsFirst, IsExclusiveWriter}
 use Rattle.hc_model.specs.Sound as sound
 
 unchanged : {z : HeadView} → CaseBy z case.NotValidated → z.status ≡ 304

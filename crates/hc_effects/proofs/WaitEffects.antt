@@ -1,23 +1,11 @@
 -- What a poll does that waits.
 use Rattle.std.proofs.Common.{◌≡◌, ℕ, [], false, Option, Some, None, refl, ap, sym, ◌∙◌, subst}
 use Rattle.hc_text.proofs.Basics.{eqb-same, plus_none}
-use Rattle.hc_event.specs.declared.act.Wait.{Wait}
+use Rattle.hc_effects.proofs.Vocabulary.{Wait, Response, Limits, Place, waiting_place, consumer_acted, Does, with_event, with_consumer, Entry, NoFlaw, Lawful, acts_of, move_of, shows_at, shows_direct, shows_answer, reads, bound_to, Tables, Exchange, Consumer}
 use Rattle.hc_event.specs.declared.act.Wait.TheVariants as wait
 use Rattle.hc_event.specs.declared.event.Event.TheVariants as event
-use Rattle.hc_event.specs.declared.event.Response.{Response}
-use Rattle.hc_rules.specs.declared.room.Limits.{Limits}
-use Rattle.hc_event.specs.declared.place.Place.{Place}
 use Rattle.hc_event.specs.declared.place.Place.TheVariants as place
-use Rattle.hc_model.specs.ConsumerRows.{waiting_place, consumer_acted}
-use Rattle.hc_model.specs.Effects.{Does, with_event, with_consumer}
-use Rattle.hc_model.specs.Entries.{Entry}
-use Rattle.hc_model.specs.Flaws.{NoFlaw}
-use Rattle.hc_model.specs.Lawful.{Lawful}
 use Rattle.hc_model.specs.Moves as moves
-use Rattle.hc_model.specs.Moves.{acts_of}
-use Rattle.hc_model.specs.Polls.{move_of, shows_at, shows_direct, shows_answer}
-use Rattle.hc_model.specs.Reading.{reads, bound_to}
-use Rattle.hc_model.specs.Rows.{Tables, Exchange, Consumer}
 use Rattle.hc_effects.proofs.Basics.{some_none}
 use Rattle.hc_effects.proofs.OfConsumers.{brings_nothing, exchanges_stay, binds_none}
 use Rattle.hc_effects.proofs.OfConsumers as event_of

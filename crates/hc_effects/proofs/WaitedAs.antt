@@ -3,32 +3,14 @@ use Rattle.std.proofs.Common.{◌≡◌, inl, inr, ℕ, Bool, true, false, cond,
 use Rattle.hc_text.proofs.Basics.{bool_cases, some_inj}
 use Rattle.hc_range.specs.declared.range.Span.{Span}
 use Rattle.hc_sparse.specs.declared.run.Run.{Run}
-use Rattle.hc_event.specs.declared.event.Request.{Request}
-use Rattle.hc_event.specs.declared.event.Response.{Response}
+use Rattle.hc_effects.proofs.Vocabulary.{Request, Response, Wait, Why, Plan, ReadStep, plan_of, read_step, class_of, is_bypassing, Place, BoundBy, current, Move, Nothing, Fails, gives, waits_for, opens_hole, shows_stored, plan_view, plan_move, origin_request, binds_current, current_row, shows_at, shows_bound, shows_direct, shows_answer, has_joined, move_of, bound_to, Tables, Exchange, Representation, Consumer, Sound, read_view, step_move, later_hole, bound_row}
 use Rattle.hc_event.specs.declared.act.Cause.TheVariants as cause
-use Rattle.hc_event.specs.declared.act.Wait.{Wait}
 use Rattle.hc_event.specs.declared.act.Wait.TheVariants as wait
-use Rattle.hc_event.specs.declared.act.Why.{Why}
-use Rattle.hc_rules.specs.declared.plan.Plan.{Plan}
 use Rattle.hc_rules.specs.declared.plan.Plan.TheVariants as plan
-use Rattle.hc_rules.specs.declared.reading.ReadStep.{ReadStep}
 use Rattle.hc_rules.specs.declared.reading.ReadStep.TheVariants as step
-use Rattle.hc_rules.specs.Plans.{plan_of}
-use Rattle.hc_rules.specs.Readings.{read_step}
-use Rattle.hc_rules.specs.Requests.{class_of, is_bypassing}
-use Rattle.hc_event.specs.declared.place.Place.{Place}
 use Rattle.hc_event.specs.declared.place.Place.TheVariants as place
-use Rattle.hc_event.specs.declared.place.BoundBy.{BoundBy}
 use Rattle.hc_event.specs.declared.place.BoundBy.TheVariants as by_how
-use Rattle.hc_model.specs.Currents.{current}
 use Rattle.hc_model.specs.Moves as moves
-use Rattle.hc_model.specs.Moves.{Move, Nothing, Fails, gives, waits_for, opens_hole, shows_stored}
-use Rattle.hc_model.specs.Planning.{plan_view, plan_move, origin_request, binds_current, current_row}
-use Rattle.hc_model.specs.Polls.{shows_at, shows_bound, shows_direct, shows_answer, has_joined, move_of}
-use Rattle.hc_model.specs.Reading.{bound_to}
-use Rattle.hc_model.specs.Rows.{Tables, Exchange, Representation, Consumer}
-use Rattle.hc_model.specs.Sound.{Sound}
-use Rattle.hc_model.specs.Steps.{read_view, step_move, later_hole, bound_row}
 use Rattle.hc_effects.proofs.MoveBy.{MoveBy, IsHeard, move_by}
 use Rattle.hc_effects.proofs.MoveBy as by
 use Rattle.hc_effects.proofs.PlanBy.{PlanBy, plan_by}

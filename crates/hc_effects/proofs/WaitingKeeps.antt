@@ -3,39 +3,13 @@ use Rattle.std.proofs.Common.{◌≡◌, inl, inr, ℕ, List, length, Bool, true
 use Rattle.std.specs.Prelude.{if◌then◌else◌, is_some, is_none, ◌&&◌, ◌==◌, nat_eq}
 use Rattle.std.proofs.lemmas.Bool.Decides.{nat_tests}
 use Rattle.hc_text.proofs.Basics.{both_true as and_both, and_left, and_right, bool_cases, not_some as none_some, never_true as not_so, or_cases, or_left, or_right, same_some as same_row, some_inj}
-use Rattle.hc_event.specs.Filters.{Opening, opening_in, leaves_in, closes_in}
-use Rattle.hc_event.specs.declared.event.Event.{Event}
+use Rattle.hc_effects.proofs.Vocabulary.{Opening, opening_in, leaves_in, closes_in, Event, Response, Wait, Limits, route_of, piece_refusal, Place, BoundBy, Showing, showing_in, wait_in, case_at, case_of, must_close, is_doomed, awaits, is_left, is_left_by, leaver, leaver_by, consumer_heard, consumer_acted, by_opening, shown_place, waiting, waiting_place, due_after, back_in_line, denial, as_open, doomed_key_of, is_key, Entry, exchange_heard, exchange_opened, exchange_in, exchange_at, is_for, is_headless, Flaw, entry_of, Owners, IsAwaiting, Awaits, poll_move, move_of, own_open, reads, Tables, Exchange, Consumer, Sound, starts_over, waits_at, awaited_exchange, sends_back, loses_what_it_waits_for, after_accepted, Opens, may_stand}
 use Rattle.hc_event.specs.declared.event.Event.TheVariants as event
-use Rattle.hc_event.specs.declared.event.Response.{Response}
-use Rattle.hc_event.specs.declared.act.Wait.{Wait}
 use Rattle.hc_event.specs.declared.act.Wait.TheVariants as wait
-use Rattle.hc_rules.specs.declared.room.Limits.{Limits}
-use Rattle.hc_rules.specs.Needs.{route_of}
 use Rattle.hc_rules.specs.Refusals as refusals
-use Rattle.hc_rules.specs.Refusals.{piece_refusal}
-use Rattle.hc_event.specs.declared.place.Place.{Place}
 use Rattle.hc_event.specs.declared.place.Place.TheVariants as place
-use Rattle.hc_event.specs.declared.place.BoundBy.{BoundBy}
 use Rattle.hc_event.specs.declared.place.BoundBy.TheVariants as by
-use Rattle.hc_model.specs.ActFilters.{Showing, showing_in, wait_in}
-use Rattle.hc_model.specs.Cases.{case_at, case_of}
-use Rattle.hc_model.specs.Closings.{must_close, is_doomed, awaits, is_left, is_left_by, leaver, leaver_by}
-use Rattle.hc_model.specs.ConsumerRows.{consumer_heard, consumer_acted, by_opening, shown_place, waiting, waiting_place, due_after, back_in_line}
-use Rattle.hc_model.specs.Denials.{denial, as_open}
-use Rattle.hc_model.specs.Dooms.{doomed_key_of, is_key}
-use Rattle.hc_model.specs.Entries.{Entry}
-use Rattle.hc_model.specs.ExchangeRows.{exchange_heard, exchange_opened}
-use Rattle.hc_model.specs.Exchanges.{exchange_in, exchange_at, is_for, is_headless}
-use Rattle.hc_model.specs.Flaws.{Flaw}
-use Rattle.hc_model.specs.Keys.{entry_of}
-use Rattle.hc_model.specs.Owners.{Owners, IsAwaiting, Awaits}
 use Rattle.hc_model.specs.Owners as owners
-use Rattle.hc_model.specs.Polls.{poll_move, move_of}
-use Rattle.hc_model.specs.Reading.{own_open, reads}
-use Rattle.hc_model.specs.Rows.{Tables, Exchange, Consumer}
-use Rattle.hc_model.specs.Sound.{Sound}
-use Rattle.hc_model.specs.StartingOver.{starts_over, waits_at, awaited_exchange, sends_back, loses_what_it_waits_for}
-use Rattle.hc_model.specs.Tables.{after_accepted}
 use Rattle.hc_effects.proofs.Basics.{false_true, number_yes}
 use Rattle.hc_effects.proofs.Closed.{before, closes}
 use Rattle.hc_effects.proofs.ExchangeFrom.{ExchangeFrom, IsSame, exchange_from}
@@ -50,8 +24,6 @@ use Rattle.hc_effects.proofs.WaitedAs.{IsForOthers, waited_as}
 use Rattle.hc_effects.proofs.WaitedAs as waited
 use Rattle.hc_effects.proofs.WaitingNew.{awaits as new_awaits}
 use Rattle.hc_effects.proofs.OpenedAs.{opened_as, opening_is}
-use Rattle.hc_model.specs.Moves.{Opens}
-use Rattle.hc_model.specs.Runs.{may_stand}
 use Rattle.hc_effects.proofs.Waiters.{IsWaiter, waiter_of, heard_same, own_acted, own_open_is, not_heard, head_is_own, opening_stays, doomed_same, headless_is}
 
 headless_parts : (z : Option Exchange) → is_headless z ≡ true → (w : Exchange) × (z ≡ Some w) × (w.is_open ≡ true) × (w.head ≡ None)

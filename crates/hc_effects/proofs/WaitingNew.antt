@@ -4,43 +4,14 @@ use Rattle.std.specs.Prelude.{if◌then◌else◌, ◌&&◌, ◌||◌, ◌==◌,
 use Rattle.std.proofs.lemmas.Bool.Decides.{nat_tests}
 use Rattle.hc_text.proofs.Basics.{and_left, and_right, never_true as not_so, or_cases}
 use Rattle.hc_range.specs.declared.range.Span.{Span}
-use Rattle.hc_event.specs.Filters.{Opening, opening_in, leaves_in, closes_in}
-use Rattle.hc_event.specs.declared.event.Event.{Event}
+use Rattle.hc_effects.proofs.Vocabulary.{Opening, opening_in, leaves_in, closes_in, Event, Need, Route, Limits, route_of, is_bypassing, range_of, wanted_of, Place, BoundBy, Showing, showing_in, loses_in, misreads_in, case_at, opened_place, unless_bound, by_opening, shown_place, own_after, left_to, waiting, consumer_acted, due_after, back_in_line, current, is_current, denial, doomed_key_of, bypass_key, bypassed_by, bypassed_for, is_key, Entry, exchange_opened, aim_from, aim_of, exchange_at, is_for, Flaw, becomes_gone, goes_itself, goes_in, goes_by_head, ends_early, ends_founding, is_keepable, entry_of, Opens, Owners, IsAwaiting, Awaits, poll_move, bound_to, Tables, Exchange, Representation, Consumer, may_stand, Sound, starts_over, waits_at, sends_back, loses_what_it_waits_for, after_accepted}
 use Rattle.hc_event.specs.declared.event.Event.TheVariants as event
-use Rattle.hc_event.specs.declared.act.Need.{Need}
 use Rattle.hc_event.specs.declared.act.Need.TheVariants as need
-use Rattle.hc_rules.specs.declared.need.Route.{Route}
 use Rattle.hc_rules.specs.declared.need.Route.TheVariants as route
 use Rattle.hc_rules.specs.declared.request.Wanted.TheVariants as wanted
-use Rattle.hc_rules.specs.declared.room.Limits.{Limits}
-use Rattle.hc_rules.specs.Needs.{route_of}
-use Rattle.hc_rules.specs.Requests.{is_bypassing, range_of, wanted_of}
-use Rattle.hc_event.specs.declared.place.Place.{Place}
 use Rattle.hc_event.specs.declared.place.Place.TheVariants as place
-use Rattle.hc_event.specs.declared.place.BoundBy.{BoundBy}
 use Rattle.hc_event.specs.declared.place.BoundBy.TheVariants as by
-use Rattle.hc_model.specs.ActFilters.{Showing, showing_in, loses_in, misreads_in}
-use Rattle.hc_model.specs.Cases.{case_at}
-use Rattle.hc_model.specs.ConsumerRows.{opened_place, unless_bound, by_opening, shown_place, own_after, left_to, waiting, consumer_acted, due_after, back_in_line}
-use Rattle.hc_model.specs.Currents.{current, is_current}
-use Rattle.hc_model.specs.Denials.{denial}
-use Rattle.hc_model.specs.Dooms.{doomed_key_of, bypass_key, bypassed_by, bypassed_for, is_key}
-use Rattle.hc_model.specs.Entries.{Entry}
-use Rattle.hc_model.specs.ExchangeRows.{exchange_opened, aim_from, aim_of}
-use Rattle.hc_model.specs.Exchanges.{exchange_at, is_for}
-use Rattle.hc_model.specs.Flaws.{Flaw}
-use Rattle.hc_model.specs.Gone.{becomes_gone, goes_itself, goes_in, goes_by_head, ends_early, ends_founding, is_keepable}
-use Rattle.hc_model.specs.Keys.{entry_of}
-use Rattle.hc_model.specs.Moves.{Opens}
-use Rattle.hc_model.specs.Owners.{Owners, IsAwaiting, Awaits}
 use Rattle.hc_model.specs.Owners as owners
-use Rattle.hc_model.specs.Polls.{poll_move}
-use Rattle.hc_model.specs.Reading.{bound_to}
-use Rattle.hc_model.specs.Rows.{Tables, Exchange, Representation, Consumer}
-use Rattle.hc_model.specs.Runs.{may_stand}
-use Rattle.hc_model.specs.Sound.{Sound}
-use Rattle.hc_model.specs.StartingOver.{starts_over, waits_at, sends_back, loses_what_it_waits_for}
-use Rattle.hc_model.specs.Tables.{after_accepted}
 use Rattle.hc_effects.proofs.Basics.{false_true}
 use Rattle.hc_effects.proofs.FirstKeeps.{is_opener}
 use Rattle.hc_effects.proofs.Forward.{is_kept}

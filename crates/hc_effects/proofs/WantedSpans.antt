@@ -8,7 +8,7 @@ use Rattle.hc_range.specs.declared.range.Asked.{Asked}
 use Rattle.hc_range.specs.declared.range.Asked.TheVariants.{From, FromTo, Last}
 use Rattle.hc_range.specs.declared.range.Span.{Span}
 use Rattle.hc_rules.specs.declared.request.Wanted.TheVariants as wanted
-use Rattle.hc_rules.specs.Requests.{wanted_of, wanted_part}
+use Rattle.hc_effects.proofs.Vocabulary.{wanted_of, wanted_part}
 use Rattle.hc_effects.proofs.Basics.{false_true}
 
 span_if : (b : Bool) (x span : Span) → (b ≡ true → x.lo < x.hi) → (if b then Some x else None) ≡ Some span → span.lo < span.hi

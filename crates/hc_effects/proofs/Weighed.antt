@@ -3,24 +3,9 @@ use Rattle.std.proofs.Common.{◌≡◌, ◌⊎◌, inl, inr, ℕ, ◌+◌, ◌�
 use Rattle.std.specs.Prelude.{if◌then◌else◌, ◌&&◌, ◌||◌, ◌==◌, not}
 use Rattle.std.specs.List.{list_any, sum_by}
 use Rattle.hc_text.proofs.Basics.{and_left, bool_cases, or_cases, or_left, or_right}
-use Rattle.hc_event.specs.declared.event.Event.{Event}
+use Rattle.hc_effects.proofs.Vocabulary.{Event, Response, HeadCase, weight_of, loses_in, has_loss, case_at, current, is_current, is_number, doomed_key_of, doomed_in, doomed_by_head, is_key, Entry, entry_without_acts, front, family, exchange_at, goes_by_case, goes_by_exchange, goes_by_head, goes_itself, ends_early, ends_founding, stops_early, is_keepable, bound, representation_heard, representation_acted, representation_after_head, with_renewed_head, updates, representation_after_piece, with_stored_bytes, with_total_if_none, length_in, Tables, Exchange, Representation, Consumer, Sound, Among, IsBound, weight, weight_in, weights, moves_on, stays_current, stays_bound}
 use Rattle.hc_event.specs.declared.event.Event.TheVariants as event
-use Rattle.hc_event.specs.declared.event.Response.{Response}
-use Rattle.hc_rules.specs.declared.heads.HeadCase.{HeadCase}
 use Rattle.hc_rules.specs.declared.heads.HeadCase.TheVariants as case
-use Rattle.hc_rules.specs.Rooms.{weight_of}
-use Rattle.hc_model.specs.ActFilters.{loses_in, has_loss}
-use Rattle.hc_model.specs.Cases.{case_at}
-use Rattle.hc_model.specs.Currents.{current, is_current, is_number}
-use Rattle.hc_model.specs.Dooms.{doomed_key_of, doomed_in, doomed_by_head, is_key}
-use Rattle.hc_model.specs.Entries.{Entry, entry_without_acts}
-use Rattle.hc_model.specs.Exchanges.{front, family, exchange_at}
-use Rattle.hc_model.specs.Gone.{goes_by_case, goes_by_exchange, goes_by_head, goes_itself, ends_early, ends_founding, stops_early, is_keepable}
-use Rattle.hc_model.specs.Reading.{bound}
-use Rattle.hc_model.specs.RepresentationRows.{representation_heard, representation_acted, representation_after_head, with_renewed_head, updates, representation_after_piece, with_stored_bytes, with_total_if_none, length_in}
-use Rattle.hc_model.specs.Rows.{Tables, Exchange, Representation, Consumer}
-use Rattle.hc_model.specs.Sound.{Sound, Among, IsBound}
-use Rattle.hc_model.specs.Weights.{weight, weight_in, weights, moves_on, stays_current, stays_bound}
 use Rattle.hc_effects.proofs.Basics.{false_true, number_is, number_yes}
 use Rattle.hc_effects.proofs.CurrentKeeps.{current_is}
 use Rattle.hc_effects.proofs.HasBound.{reader_of}

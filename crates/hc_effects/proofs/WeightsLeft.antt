@@ -4,19 +4,11 @@ use Rattle.std.proofs.lemmas.Bool.Decides.{nat_tests}
 use Rattle.std.specs.Prelude.{is_some, ◌&&◌, ◌||◌, ◌==◌, not, nat_eq, if◌then◌else◌, option_map, map, filter, reverse}
 use Rattle.std.specs.List.{sum_by}
 use Rattle.hc_text.proofs.Basics.{and_left, and_right, bool_cases}
-use Rattle.hc_rules.specs.declared.room.Limits.{Limits}
+use Rattle.hc_effects.proofs.Vocabulary.{Limits, Write, room_of, gives_way, grown_by, is_too_large, weight_of, idle_now, current, is_current, as_gone, let_all_go, with_consumer, MayLetGo, MayMakeRoom, weight_now, weights_now, room_now, giving_way, AreOnce, bound, is_bound, is_bound_place, Tables, Representation, Consumer, Among}
 use Rattle.hc_rules.specs.declared.room.Room.TheVariants as room
-use Rattle.hc_rules.specs.declared.room.Write.{Write}
 use Rattle.hc_rules.specs.Rooms as rooms
-use Rattle.hc_rules.specs.Rooms.{room_of, gives_way, grown_by, is_too_large, weight_of}
-use Rattle.hc_model.specs.Contents.{idle_now, is_idle}
-use Rattle.hc_model.specs.Currents.{current, is_current}
-use Rattle.hc_model.specs.Effects.{as_gone, let_all_go, with_consumer}
-use Rattle.hc_model.specs.LettingGo.{MayLetGo, MayMakeRoom, weight_in, weight_now, weights_now, room_now, first_idle, giving_way}
-use Rattle.hc_model.specs.Orders.{AreOnce}
-use Rattle.hc_model.specs.Reading.{bound, is_bound, is_bound_place}
-use Rattle.hc_model.specs.Rows.{Tables, Representation, Consumer}
-use Rattle.hc_model.specs.Sound.{Among}
+use Rattle.hc_model.specs.Contents.{is_idle}
+use Rattle.hc_model.specs.LettingGo.{weight_in, first_idle}
 use Rattle.hc_effects.proofs.Basics.{same_functions, false_true}
 use Rattle.hc_effects.proofs.FewGiveWay.{AreHeavy, one_gives, two_give}
 use Rattle.hc_effects.proofs.LettingGo.{bound_all, current_all}

@@ -5,36 +5,11 @@ use Rattle.std.specs.List.{list_all}
 use Rattle.std.specs.Option.{option_and_then}
 use Rattle.std.proofs.lemmas.Bool.Decides.{nat_tests}
 use Rattle.hc_text.proofs.Basics.{and_left, and_right, bool_cases, not_some as none_some, or_cases, same_some as same_row, some_inj}
-use Rattle.hc_event.specs.Filters.{leaves_in, closes_in}
-use Rattle.hc_event.specs.declared.event.Event.{Event}
+use Rattle.hc_effects.proofs.Vocabulary.{leaves_in, closes_in, Event, Response, is_same_number, Limits, Place, BoundBy, loses_in, answer_acts, loss_acts, must_close, is_refused, brings_head, is_doomed, has_no_survivor, is_left, is_left_by, is_last_reader, leaver, leaver_by, case_at, consumer_heard, is_number, denial, Entry, exchange_in, is_open, family, promised_bytes, becomes_due, stop_cause, short_cause, short_of, Flaw, entry_of, Measures, Owners, is_written, bound, is_bound, own_open, if_open, shared_exchange, writing_in, source, Tables, Exchange, Representation, Consumer, Sound, Among, IsBound, IsGrowing, after_accepted, brings_body, loses_writing}
 use Rattle.hc_event.specs.declared.event.Event.TheVariants as event
-use Rattle.hc_event.specs.declared.event.Response.{Response}
 use Rattle.hc_event.specs.declared.act.Cause.TheVariants as cause
-use Rattle.hc_rules.specs.Lengths.{is_same_number}
-use Rattle.hc_rules.specs.declared.room.Limits.{Limits}
-use Rattle.hc_event.specs.declared.place.Place.{Place}
 use Rattle.hc_event.specs.declared.place.Place.TheVariants as place
-use Rattle.hc_event.specs.declared.place.BoundBy.{BoundBy}
-use Rattle.hc_model.specs.ActFilters.{loses_in}
-use Rattle.hc_model.specs.Answers.{answer_acts, loss_acts}
-use Rattle.hc_model.specs.Closings.{must_close, is_refused, brings_head, is_doomed, has_no_survivor, is_left, is_left_by, is_last_reader, leaver, leaver_by}
-use Rattle.hc_model.specs.Cases.{case_at}
-use Rattle.hc_model.specs.ConsumerRows.{consumer_heard}
-use Rattle.hc_model.specs.Currents.{is_number}
-use Rattle.hc_model.specs.Denials.{denial}
-use Rattle.hc_model.specs.Entries.{Entry}
-use Rattle.hc_model.specs.Exchanges.{exchange_in, is_open, family, promised_bytes}
-use Rattle.hc_model.specs.Failures.{becomes_due, stop_cause, short_cause, short_of}
-use Rattle.hc_model.specs.Flaws.{Flaw}
-use Rattle.hc_model.specs.Keys.{entry_of}
-use Rattle.hc_model.specs.Measures.{Measures}
-use Rattle.hc_model.specs.Owners.{Owners}
-use Rattle.hc_model.specs.Reading.{is_written, bound, is_bound, own_open, if_open, shared_exchange, writing_in, source}
-use Rattle.hc_model.specs.Rows.{Tables, Exchange, Representation, Consumer}
-use Rattle.hc_model.specs.Sound.{Sound, Among, IsBound, IsGrowing}
 use Rattle.hc_model.specs.Sound as sound
-use Rattle.hc_model.specs.Tables.{after_accepted}
-use Rattle.hc_model.specs.Writers.{brings_body, loses_writing}
 use Rattle.hc_effects.proofs.ActParts.{said_is, said_closes}
 use Rattle.hc_effects.proofs.ApartKeeps.{is_on}
 use Rattle.hc_effects.proofs.Basics.{false_true, some_none, number_is}

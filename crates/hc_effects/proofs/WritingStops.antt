@@ -5,28 +5,9 @@ use Rattle.std.specs.Option.{option_or}
 use Rattle.std.proofs.lemmas.Bool.Decides.{nat_tests}
 use Rattle.hc_text.proofs.Basics.{not_some as none_some, same_some as same_row}
 use Rattle.hc_sparse.specs.Cells.{Cells, Covers, cells_with}
-use Rattle.hc_event.specs.Filters.{closes_in}
-use Rattle.hc_event.specs.declared.event.Event.{Event}
+use Rattle.hc_effects.proofs.Vocabulary.{closes_in, Event, Response, Limits, loses_in, brings_head, denial, Entry, exchange_heard, is_open, is_reached, front, base, promised_bytes, Flaw, entry_of, Measures, IsMeasured, Owners, is_written, representation_heard, length_in, Tables, Exchange, Representation, Sound, IsGrowing, end_from, after_accepted, brings_body}
 use Rattle.hc_event.specs.declared.event.Event.TheVariants as event
-use Rattle.hc_event.specs.declared.event.Response.{Response}
-use Rattle.hc_rules.specs.declared.room.Limits.{Limits}
-use Rattle.hc_model.specs.ActFilters.{loses_in}
-use Rattle.hc_model.specs.Closings.{brings_head}
-use Rattle.hc_model.specs.Denials.{denial}
-use Rattle.hc_model.specs.Entries.{Entry}
-use Rattle.hc_model.specs.ExchangeRows.{exchange_heard}
-use Rattle.hc_model.specs.Exchanges.{is_open, is_reached, front, base, promised_bytes}
-use Rattle.hc_model.specs.Flaws.{Flaw}
-use Rattle.hc_model.specs.Keys.{entry_of}
-use Rattle.hc_model.specs.Measures.{Measures, IsMeasured}
 use Rattle.hc_model.specs.Measures as measures
-use Rattle.hc_model.specs.Owners.{Owners}
-use Rattle.hc_model.specs.Reading.{is_written}
-use Rattle.hc_model.specs.RepresentationRows.{representation_heard, length_in}
-use Rattle.hc_model.specs.Rows.{Tables, Exchange, Representation}
-use Rattle.hc_model.specs.Sound.{Sound, IsGrowing, end_from}
-use Rattle.hc_model.specs.Tables.{after_accepted}
-use Rattle.hc_model.specs.Writers.{brings_body}
 use Rattle.hc_effects.proofs.ApartKeeps.{is_on}
 use Rattle.hc_effects.proofs.Basics.{false_true}
 use Rattle.hc_effects.proofs.EndsKeep.{known_kept}

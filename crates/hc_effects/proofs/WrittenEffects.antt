@@ -6,41 +6,13 @@ use Rattle.std.specs.Option.{option_or}
 use Rattle.hc_text.proofs.Basics.{and_left, bool_cases, eqb-same, not_some as none_some, never_true as not_so, not_true, or_false as or_off, same_some as same_row}
 use Rattle.hc_event.specs.declared.act.Act.TheVariants as act
 use Rattle.hc_event.specs.declared.act.Cause.TheVariants as cause
-use Rattle.hc_event.specs.declared.act.LostKind.{LostKind}
-use Rattle.hc_event.specs.declared.event.Event.{Event}
+use Rattle.hc_effects.proofs.Vocabulary.{LostKind, Event, Response, HeadView, Limits, head_case, route_of, Place, BoundBy, accepted_acts, loss_acts, case_at, head_view, is_joining, closing, closes_row, must_close, consumer_after, back_in_line, is_number, denial, doomed_key_of, Does, with_event, as_gone, let_go, all_closed, with_consumer, with_representation, with_answer, lost_to, left_with, if_bound, writing_lost, unless_survived, Entry, exchange_heard, Flaw, Loses, becomes_gone, Lawful, IsAwaiting, is_written, is_bound_place, representation_after, Tables, Exchange, Representation, Consumer, IsBound, after_accepted, loses_writing, survivor}
 use Rattle.hc_event.specs.declared.event.Event.TheVariants as event
-use Rattle.hc_event.specs.declared.event.Response.{Response}
 use Rattle.hc_rules.specs.declared.heads.HeadCase.TheVariants as case
-use Rattle.hc_rules.specs.declared.heads.HeadView.{HeadView}
 use Rattle.hc_rules.specs.declared.need.Route.TheVariants as route
-use Rattle.hc_rules.specs.declared.room.Limits.{Limits}
-use Rattle.hc_rules.specs.HeadCases.{head_case}
-use Rattle.hc_rules.specs.Needs.{route_of}
-use Rattle.hc_event.specs.declared.place.Place.{Place}
 use Rattle.hc_event.specs.declared.place.Place.TheVariants as place
-use Rattle.hc_event.specs.declared.place.BoundBy.{BoundBy}
-use Rattle.hc_model.specs.Answers.{accepted_acts, loss_acts}
-use Rattle.hc_model.specs.Cases.{case_at, head_view, is_joining}
-use Rattle.hc_model.specs.Closings.{closing, closes_row, must_close}
-use Rattle.hc_model.specs.ConsumerRows.{consumer_after, back_in_line}
-use Rattle.hc_model.specs.Currents.{is_number}
-use Rattle.hc_model.specs.Denials.{denial}
-use Rattle.hc_model.specs.Dooms.{doomed_key_of}
-use Rattle.hc_model.specs.Effects.{Does, with_event, as_gone, let_go, all_closed, with_consumer, with_representation, with_answer, lost_to, left_with, if_bound, writing_lost, unless_survived}
-use Rattle.hc_model.specs.Entries.{Entry}
-use Rattle.hc_model.specs.ExchangeRows.{exchange_heard}
-use Rattle.hc_model.specs.Flaws.{Flaw, Loses}
-use Rattle.hc_model.specs.Gone.{becomes_gone}
-use Rattle.hc_model.specs.Lawful.{Lawful}
-use Rattle.hc_model.specs.Owners.{IsAwaiting}
 use Rattle.hc_model.specs.Owners as owners
-use Rattle.hc_model.specs.Reading.{is_written, is_bound_place}
-use Rattle.hc_model.specs.RepresentationRows.{representation_after}
-use Rattle.hc_model.specs.Rows.{Tables, Exchange, Representation, Consumer}
-use Rattle.hc_model.specs.Sound.{IsBound}
 use Rattle.hc_model.specs.Sound as sound
-use Rattle.hc_model.specs.Tables.{after_accepted}
-use Rattle.hc_model.specs.Writers.{loses_writing, survivor}
 use Rattle.hc_effects.proofs.Basics.{false_true, number_is}
 use Rattle.hc_effects.proofs.Closed.{reversed}
 use Rattle.hc_effects.proofs.FoundBy.{CaseBy, case_by, unchanged_founds}

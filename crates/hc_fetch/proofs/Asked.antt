@@ -3,7 +3,7 @@ use Rattle.std.proofs.Common.{ℕ, ◌-◌, ◌*◌, ◌^◌, ◌<◌, ◌≤◌
 use Rattle.std.specs.Prelude.{codes, if◌then◌else◌, ◌==◌}
 use Rattle.std.specs.Fmt.{decimal}
 use Rattle.std.proofs.lemmas.Nat.{mul-le}
-use Rattle.hc_event.specs.WithinLimits.{IsEventWithinLimits}
+use Rattle.hc_effects.proofs.Vocabulary.{IsEventWithinLimits}
 use Rattle.hc_fields.specs.FieldList.{IsWithinLimits}
 use Rattle.hc_validate.proofs.Numbers.{short-decimal}
 use Rattle.hc_fetch.specs.declared.plan.FetchPlan.{FetchPlan}

@@ -9,15 +9,8 @@ use Rattle.std.specs.Option.{option_or}
 use Rattle.hc_text.proofs.Basics.{not_some as none_some, some_inj}
 use Rattle.hc_sparse.specs.Cells.{Cells, Cell}
 use Rattle.hc_event.specs.declared.act.Act.TheVariants as act
-use Rattle.hc_rules.specs.declared.room.Limits.{Limits}
-use Rattle.hc_model.specs.Beginnings.{may_begin}
-use Rattle.hc_model.specs.Entries.{Entry, History, no_contents}
-use Rattle.hc_model.specs.Histories.{shown_of}
+use Rattle.hc_effects.proofs.Vocabulary.{Limits, may_begin, Entry, History, no_contents, shown_of, Delivers, Says, body_of, Tables, IsRun, tables}
 use Rattle.hc_model.specs.Laws.{Grows}
-use Rattle.hc_model.specs.Reads.{Delivers, Says, body_of}
-use Rattle.hc_model.specs.Rows.{Tables}
-use Rattle.hc_model.specs.Runs.{IsRun}
-use Rattle.hc_model.specs.Tables.{tables}
 use Rattle.hc_effects.proofs.Basics.{append_none}
 use Rattle.hc_laws.proofs.GrowsInRuns.{bodies_grow_in_runs}
 use Rattle.hc_laws.proofs.ReadNext.{gives_next}

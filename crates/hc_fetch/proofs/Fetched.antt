@@ -9,7 +9,7 @@ use Rattle.std.specs.Prelude.{is_some, if◌then◌else◌}
 use Rattle.std.specs.Option.{option_or}
 use Rattle.std.proofs.lemmas.List.{append-nil}
 use Rattle.hc_text.proofs.Basics.{nothing_first as nothing_more}
-use Rattle.hc_event.specs.declared.act.Act.{Act}
+use Rattle.hc_effects.proofs.Vocabulary.{Act, Limits, History}
 use Rattle.hc_event.specs.declared.act.Act.TheVariants as act
 use Rattle.hc_io.specs.Sink.{Takes}
 use Rattle.hc_io.specs.Source.{Gives}
@@ -21,8 +21,6 @@ use Rattle.hc_driver.specs.Courses as courses
 use Rattle.hc_driver.specs.Courses.{Goes, TakesThenFront, text_of, text_before, last_text}
 use Rattle.hc_driver.specs.Endings as endings
 use Rattle.hc_driver.specs.Endings.{How, Wholly, UpToEnd, UpToLast, UpToWant, Ends, IsSteppedAtOnce, events_from}
-use Rattle.hc_rules.specs.declared.room.Limits.{Limits}
-use Rattle.hc_model.specs.Entries.{History}
 use Rattle.hc_effects.proofs.Basics.{true_false}
 use Rattle.hc_core.specs.Steps.{limits_in}
 use Rattle.hc_fetch.specs.declared.ended.FetchEnded.{FetchEnded}

@@ -6,34 +6,13 @@ use Rattle.std.proofs.Common.{◌≡◌, inl, inr, ℕ, List, [], ◌∷◌, ◌
 use Rattle.std.specs.Prelude.{◌==◌, ◌&&◌, is_none, if◌then◌else◌}
 use Rattle.std.specs.Option.{option_or}
 use Rattle.hc_text.proofs.Basics.{bool_cases, not_some as none_some, some_inj}
-use Rattle.hc_event.specs.Filters.{is_denied, shows_in}
-use Rattle.hc_event.specs.declared.act.Act.{Act}
+use Rattle.hc_effects.proofs.Vocabulary.{is_denied, shows_in, Act, Why, Event, Response, Limits, answer_acts, may_begin, case_of, consumer_after, new_consumer, current, Entry, History, no_contents, entry_without_acts, exchange_after, Flaw, flaw_in, Shown, shown_in, Move, Nothing, Asks, Opens, Shows, Gives, Ends, Fails, acts_of, move_of, Says, representation_after, Tables, Consumer, IsRun, tables, after_accepted}
 use Rattle.hc_event.specs.declared.act.Act.TheVariants as act
 use Rattle.hc_event.specs.declared.act.Cause.TheVariants as cause
 use Rattle.hc_event.specs.declared.act.Wait.TheVariants as wait
-use Rattle.hc_event.specs.declared.act.Why.{Why}
-use Rattle.hc_event.specs.declared.event.Event.{Event}
 use Rattle.hc_event.specs.declared.event.Event.TheVariants as event
-use Rattle.hc_event.specs.declared.event.Response.{Response}
 use Rattle.hc_event.specs.declared.place.Place.TheVariants as place
-use Rattle.hc_rules.specs.declared.room.Limits.{Limits}
-use Rattle.hc_model.specs.Answers.{answer_acts}
-use Rattle.hc_model.specs.Beginnings.{may_begin}
-use Rattle.hc_model.specs.Cases.{case_of}
-use Rattle.hc_model.specs.ConsumerRows.{consumer_after, new_consumer}
-use Rattle.hc_model.specs.Currents.{current}
-use Rattle.hc_model.specs.Entries.{Entry, History, no_contents, entry_without_acts}
-use Rattle.hc_model.specs.ExchangeRows.{exchange_after}
-use Rattle.hc_model.specs.Flaws.{Flaw, flaw_in}
-use Rattle.hc_model.specs.Histories.{Shown, shown_in}
 use Rattle.hc_model.specs.Moves as moves
-use Rattle.hc_model.specs.Moves.{Move, Nothing, Asks, Opens, Shows, Gives, Ends, Fails, acts_of}
-use Rattle.hc_model.specs.Polls.{move_of}
-use Rattle.hc_model.specs.Reads.{Says}
-use Rattle.hc_model.specs.RepresentationRows.{representation_after}
-use Rattle.hc_model.specs.Rows.{Tables, Consumer}
-use Rattle.hc_model.specs.Runs.{IsRun}
-use Rattle.hc_model.specs.Tables.{tables, after_accepted}
 use Rattle.hc_effects.proofs.ActParts.{IsSaid, said_is}
 use Rattle.hc_effects.proofs.ActParts as parts
 use Rattle.hc_effects.proofs.Basics.{some_none, or_false}

@@ -4,7 +4,7 @@ use Rattle.std.specs.Prelude.{if◌then◌else◌, is_some, is_none, not, ◌&&�
 use Rattle.std.specs.Option.{option_or}
 use Rattle.std.proofs.lemmas.Bool.Decides.{nat_tests}
 use Rattle.hc_text.proofs.Basics.{and_right, not_some as none_some}
-use Rattle.hc_model.specs.Entries.{History}
+use Rattle.hc_effects.proofs.Vocabulary.{History}
 use Rattle.hc_effects.proofs.Basics.{false_true}
 use Rattle.hc_fetch.specs.declared.ended.FetchEnded.TheVariants as ended
 use Rattle.hc_fetch.specs.declared.fetching.Fetching.{Fetching}

@@ -8,9 +8,7 @@ use Rattle.hc_text.proofs.Basics.{drop-whole as drop_front}
 use Rattle.hc_sched.specs.declared.schedule.Timed.{Timed}
 use Rattle.hc_driver.specs.Courses as courses
 use Rattle.hc_driver.specs.Courses.{Told, Leads, text_of, text_before, last_text}
-use Rattle.hc_rules.specs.declared.room.Limits.{Limits}
-use Rattle.hc_model.specs.Entries.{Entry, History, no_contents}
-use Rattle.hc_model.specs.Runs.{IsRun}
+use Rattle.hc_effects.proofs.Vocabulary.{Limits, Entry, History, no_contents, IsRun}
 use Rattle.hc_effects.proofs.Basics.{true_false}
 use Rattle.hc_laws.proofs.FromNothing.{begins_well}
 use Rattle.hc_laws.proofs.ReadWhole.{runs_read_whole}

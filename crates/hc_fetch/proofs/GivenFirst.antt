@@ -9,13 +9,9 @@ use Rattle.std.proofs.lemmas.Bool.{cases_lt}
 use Rattle.hc_text.proofs.Basics.{bool_cases}
 use Rattle.hc_sparse.specs.Cells.{Cells, cells_with}
 use Rattle.hc_sparse.proofs.CellLemmas.{inside-cases}
-use Rattle.hc_event.specs.Filters.{given_in}
-use Rattle.hc_event.specs.declared.act.Act.{Act}
+use Rattle.hc_effects.proofs.Vocabulary.{given_in, Act, Limits, Entry, History, no_contents, Shown, shown_in, shown_of, given_of, ReadsAct, ReadsActs}
 use Rattle.hc_event.specs.declared.act.Act.TheVariants as act
-use Rattle.hc_rules.specs.declared.room.Limits.{Limits}
-use Rattle.hc_model.specs.Entries.{Entry, History, no_contents}
-use Rattle.hc_model.specs.Histories.{Shown, shown_in, shown_of, given_of}
-use Rattle.hc_model.specs.Reads.{ReadsAct, ReadsActs, shown_before, given_before}
+use Rattle.hc_model.specs.Reads.{shown_before, given_before}
 use Rattle.hc_effects.proofs.Basics.{append_none}
 use Rattle.hc_laws.proofs.ReadWhole.{runs_read_whole}
 use Rattle.hc_fetch.specs.declared.plan.FetchPlan.{FetchPlan}

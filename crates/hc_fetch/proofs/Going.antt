@@ -10,10 +10,7 @@ use Rattle.std.specs.Option.{option_or}
 use Rattle.hc_text.proofs.Basics.{both_true as and_both, not_some as none_some}
 use Rattle.hc_sparse.specs.Cells.{nothing}
 use Rattle.hc_event.specs.Counting.{received_in}
-use Rattle.hc_event.specs.declared.act.Act.{Act}
-use Rattle.hc_event.specs.declared.event.Event.{Event}
-use Rattle.hc_model.specs.Entries.{Entry, History, no_contents}
-use Rattle.hc_model.specs.Tables.{tables}
+use Rattle.hc_effects.proofs.Vocabulary.{Act, Event, Entry, History, no_contents, tables}
 use Rattle.hc_effects.proofs.Basics.{true_false}
 use Rattle.hc_core.specs.Steps.{StandsFor, limits_in, bytes_received, last_moment, steps}
 use Rattle.hc_fetch.specs.declared.ended.FetchEnded.{FetchEnded}

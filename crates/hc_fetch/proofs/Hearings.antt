@@ -12,9 +12,8 @@ use Rattle.std.proofs.lemmas.Bool.Decides.{nat_tests}
 use Rattle.std.proofs.lemmas.List.{drop_all}
 use Rattle.hc_text.proofs.Basics.{not_some as none_some, or_false, or_none}
 use Rattle.hc_sparse.specs.Cells.{Cells, cells_with}
-use Rattle.hc_event.specs.declared.act.Act.{Act}
+use Rattle.hc_effects.proofs.Vocabulary.{Act, Why}
 use Rattle.hc_event.specs.declared.act.Act.TheVariants as act
-use Rattle.hc_event.specs.declared.act.Why.{Why}
 use Rattle.hc_effects.proofs.Basics.{false_true}
 use Rattle.hc_fetch.specs.declared.ended.FetchEnded.{FetchEnded}
 use Rattle.hc_fetch.specs.declared.fetching.Fetching.{Fetching}

@@ -13,22 +13,12 @@ use Rattle.hc_event.specs.declared.act.Need.TheVariants as need
 use Rattle.hc_range.specs.declared.range.Asked.{Asked}
 use Rattle.hc_range.specs.declared.range.Asked.TheVariants.{FromTo}
 use Rattle.hc_range.specs.declared.range.Span.{Span}
-use Rattle.hc_rules.specs.declared.request.Wanted.{Wanted}
+use Rattle.hc_effects.proofs.Vocabulary.{Wanted, Plan, PlanView, least, lesser, plan_of, bare_plan, in_time, from_store, queues, is_back, asked_in, class_of, is_disabled, is_only, is_bypassing, range_of, wanted_of, current, line, holder, turn_with, is_in_line, holds_turn, plan_view, planned_move, Tables, Consumer}
 use Rattle.hc_rules.specs.declared.request.Wanted.TheVariants as wanted
-use Rattle.hc_rules.specs.declared.plan.Plan.{Plan}
 use Rattle.hc_rules.specs.declared.plan.Plan.TheVariants as plans
-use Rattle.hc_rules.specs.declared.plan.PlanView.{PlanView}
-use Rattle.hc_rules.specs.Least.{least, lesser}
-use Rattle.hc_rules.specs.Plans.{plan_of, bare_plan, in_time, from_store, queues, is_back}
-use Rattle.hc_rules.specs.RangeTexts.{asked_in}
-use Rattle.hc_rules.specs.Requests.{class_of, is_disabled, is_only, is_bypassing, range_of, wanted_of}
 use Rattle.hc_rules.proofs.RangeReads.{asked_in-spelled}
 use Rattle.hc_text.proofs.NumberLemmas.{IsNumber-decimal}
-use Rattle.hc_model.specs.Currents.{current}
-use Rattle.hc_model.specs.Lines.{line, holder, turn_with, is_in_line, holds_turn}
 use Rattle.hc_model.specs.Moves.{opens}
-use Rattle.hc_model.specs.Planning.{plan_view, planned_move}
-use Rattle.hc_model.specs.Rows.{Tables, Consumer}
 use Rattle.hc_fetch.specs.declared.plan.FetchPlan.{FetchPlan}
 use Rattle.hc_fetch.specs.Bounds.{IsPlan}
 use Rattle.hc_fetch.specs.Plans.{first_fields, fields_for, request_of}

@@ -7,58 +7,20 @@ use Rattle.std.proofs.Common.{◌≡◌, ◌⊎◌, inl, inr, ℕ, ◌+◌, ◌<
 use Rattle.std.specs.Prelude.{◌==◌, ◌&&◌, ◌||◌, not, nat_eq, nat_le, is_none, is_some, if◌then◌else◌}
 use Rattle.std.specs.Option.{option_and_then, option_or}
 use Rattle.hc_text.proofs.Basics.{and_left, and_right, bool_cases, either, not_some as none_some, or_cases, some_inj, eq_is as status_is}
-use Rattle.hc_event.specs.Filters.{Opening, opening_in, leaves_in, shows_in}
-use Rattle.hc_event.specs.declared.act.Cause.{Cause}
+use Rattle.hc_effects.proofs.Vocabulary.{Opening, opening_in, leaves_in, shows_in, Cause, Need, Wait, Why, Event, Request, Response, BoundBy, Place, content_range_of, HeadCase, HeadView, Wanted, Limits, head_case, turn_case, case_on, fits_to_found, fits_part, length_of, is_bad, route_of, is_disabled, is_only, is_bypassing, range_of, wanted_of, Showing, showing_in, wait_in, has_loss, Aims, case_at, case_of, head_view, is_founding, fits_asker, bound_to_wanted, place_by_case, consumer_heard, by_head, by_fault, waiting_place, waiting, opened_place, unless_bound, by_opening, shown_place, consumer_acted, consumer_settled, consumer_made, consumer_after, current, denial, doomed_key_of, doomed_in, is_key, Entry, is_headless, exchange_at, is_for, flaw_in, founded_total, total_of_part, Move, Nothing, Opens, Shows, Fails, shows_stored, IsPast, IsAwaiting, Passed, move_of, shows_head, shows_at, shows_bound, shows_direct, shows_answer, has_joined, or_else, waits_for_head, if_headless, by_place, own_open, bound_to, Tables, Exchange, Representation, Consumer, new_representation, length_in, starts_over, waits_at, sends_back, loses_what_it_waits_for, after_accepted, after_denied}
 use Rattle.hc_event.specs.declared.act.Cause.TheVariants as cause
-use Rattle.hc_event.specs.declared.act.Need.{Need}
 use Rattle.hc_event.specs.declared.act.Need.TheVariants as need
-use Rattle.hc_event.specs.declared.act.Wait.{Wait}
 use Rattle.hc_event.specs.declared.act.Wait.TheVariants as wait
-use Rattle.hc_event.specs.declared.act.Why.{Why}
-use Rattle.hc_event.specs.declared.event.Event.{Event}
 use Rattle.hc_event.specs.declared.event.Event.TheVariants as event
-use Rattle.hc_event.specs.declared.event.Request.{Request}
-use Rattle.hc_event.specs.declared.event.Response.{Response}
-use Rattle.hc_event.specs.declared.place.BoundBy.{BoundBy}
 use Rattle.hc_event.specs.declared.place.BoundBy.TheVariants as by
-use Rattle.hc_event.specs.declared.place.Place.{Place}
 use Rattle.hc_event.specs.declared.place.Place.TheVariants as place
 use Rattle.hc_range.specs.declared.range.Asked.{Asked}
 use Rattle.hc_range.specs.declared.range.ContentRange.{ContentRange}
 use Rattle.hc_range.specs.declared.range.ContentRange.TheVariants as range
-use Rattle.hc_rules.specs.RangeTexts.{content_range_of}
-use Rattle.hc_rules.specs.declared.heads.HeadCase.{HeadCase}
 use Rattle.hc_rules.specs.declared.heads.HeadCase.TheVariants as case
-use Rattle.hc_rules.specs.declared.heads.HeadView.{HeadView}
-use Rattle.hc_rules.specs.declared.request.Wanted.{Wanted}
 use Rattle.hc_rules.specs.declared.request.Wanted.TheVariants as wanted
-use Rattle.hc_rules.specs.declared.room.Limits.{Limits}
-use Rattle.hc_rules.specs.HeadCases.{head_case, turn_case, case_on, fits_to_found, fits_part}
-use Rattle.hc_rules.specs.Lengths.{length_of, is_bad}
-use Rattle.hc_rules.specs.Needs.{route_of}
-use Rattle.hc_rules.specs.Requests.{is_disabled, is_only, is_bypassing, range_of, wanted_of}
-use Rattle.hc_model.specs.ActFilters.{Showing, showing_in, wait_in, has_loss}
-use Rattle.hc_model.specs.Aims.{Aims}
-use Rattle.hc_model.specs.Cases.{case_at, case_of, head_view, is_founding, fits_asker}
-use Rattle.hc_model.specs.ConsumerRows.{bound_to_wanted, place_by_case, consumer_heard, by_head, by_fault, waiting_place, waiting, opened_place, unless_bound, by_opening, shown_place, consumer_acted, consumer_settled, consumer_made, consumer_after}
-use Rattle.hc_model.specs.Currents.{current}
-use Rattle.hc_model.specs.Denials.{denial}
-use Rattle.hc_model.specs.Dooms.{doomed_key_of, doomed_in, is_key}
-use Rattle.hc_model.specs.Entries.{Entry}
-use Rattle.hc_model.specs.Exchanges.{is_headless, exchange_at, is_for}
-use Rattle.hc_model.specs.Flaws.{flaw_in}
-use Rattle.hc_model.specs.Heads.{founded_total, total_of_part}
 use Rattle.hc_model.specs.Moves as moves
-use Rattle.hc_model.specs.Moves.{Move, Nothing, Opens, Shows, Fails, shows_stored}
-use Rattle.hc_model.specs.Owners.{IsPast, IsAwaiting}
 use Rattle.hc_model.specs.Owners as owners
-use Rattle.hc_model.specs.Passed.{Passed}
-use Rattle.hc_model.specs.Polls.{move_of, shows_head, shows_at, shows_bound, shows_direct, shows_answer, has_joined, or_else, waits_for_head, if_headless, by_place}
-use Rattle.hc_model.specs.Reading.{own_open, bound_to}
-use Rattle.hc_model.specs.Rows.{Tables, Exchange, Representation, Consumer}
-use Rattle.hc_model.specs.RepresentationRows.{new_representation, length_in}
-use Rattle.hc_model.specs.StartingOver.{starts_over, waits_at, sends_back, loses_what_it_waits_for}
-use Rattle.hc_model.specs.Tables.{after_accepted, after_denied}
 use Rattle.hc_effects.proofs.BoundFrom.{place_inj}
 use Rattle.hc_effects.proofs.Basics.{some_none, false_true, true_false, some_row}
 use Rattle.hc_effects.proofs.ExchangeFrom.{IsHeaded, ExchangeFrom, exchange_from}

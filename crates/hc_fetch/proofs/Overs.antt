@@ -9,9 +9,8 @@ use Rattle.std.proofs.lemmas.List.{append-nil}
 use Rattle.hc_text.proofs.Basics.{not_some as none_some}
 use Rattle.hc_sparse.specs.Cells.{Cells, Cell, Covers, cells_with}
 use Rattle.hc_sparse.proofs.CellLemmas.{inside-cases}
-use Rattle.hc_event.specs.declared.act.Act.{Act}
+use Rattle.hc_effects.proofs.Vocabulary.{Act, Entry, History}
 use Rattle.hc_event.specs.declared.act.Act.TheVariants as act
-use Rattle.hc_model.specs.Entries.{Entry, History}
 use Rattle.hc_fetch.specs.Ahead.{KeepsAll, Appends, Ahead}
 use Rattle.hc_fetch.specs.Gathering.{byte_before, bytes_on, gathered, gathered_in, given_end, given_end_in, written_of}
 use Rattle.hc_fetch.specs.Hearing.{AllFit}

@@ -8,17 +8,9 @@ use Rattle.std.proofs.lemmas.Bool.{cases_lt}
 use Rattle.std.proofs.lemmas.Bool.Decides.{nat_tests}
 use Rattle.hc_text.proofs.Basics.{and_right, not_some as none_some, some_inj}
 use Rattle.hc_sparse.specs.Cells.{Cells, Cell, EndsBy, cells_with}
-use Rattle.hc_event.specs.declared.act.Act.{Act}
+use Rattle.hc_effects.proofs.Vocabulary.{Act, Limits, may_begin, Entry, History, no_contents, base, front, Numbers, AreShort, Delivers, Says, body_of, answer_cell, direct_cell, cell_by, Tables, Exchange, Representation, IsRun, tables}
 use Rattle.hc_event.specs.declared.act.Act.TheVariants as act
-use Rattle.hc_rules.specs.declared.room.Limits.{Limits}
-use Rattle.hc_model.specs.Beginnings.{may_begin}
-use Rattle.hc_model.specs.Entries.{Entry, History, no_contents}
-use Rattle.hc_model.specs.Exchanges.{base, front}
-use Rattle.hc_model.specs.Numbers.{Numbers, AreShort, most}
-use Rattle.hc_model.specs.Reads.{Delivers, Says, body_of, answer_cell, direct_cell, cell_by}
-use Rattle.hc_model.specs.Rows.{Tables, Exchange, Representation}
-use Rattle.hc_model.specs.Runs.{IsRun}
-use Rattle.hc_model.specs.Tables.{tables}
+use Rattle.hc_model.specs.Numbers.{most}
 use Rattle.hc_laws.proofs.LawfulRuns.{lawful_in_runs}
 use Rattle.hc_laws.proofs.NumberRuns.{numbers_in_runs}
 use Rattle.hc_laws.proofs.ReadNext.{gives_next}

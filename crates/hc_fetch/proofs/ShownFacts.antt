@@ -16,29 +16,14 @@ use Rattle.hc_range.specs.declared.range.ContentRange.TheVariants as range
 use Rattle.hc_range.specs.declared.range.Span.{Span}
 use Rattle.hc_range.specs.Spans.{IsWithin, content_range_text}
 use Rattle.hc_range.proofs.RangeLemmas.{content_range_text_spells}
-use Rattle.hc_event.specs.declared.act.Why.{Why}
+use Rattle.hc_effects.proofs.Vocabulary.{Why, Response, Place, length_of, base_of, promise_of, route_of, content_range_of, content_range_in, total_in, base, Move, Shows, shows_stored, span_to, Parts, Places, is_ranged, shows_at, shows_direct, shows_answer, hi_of, end_in, end_of_direct, end_by, Tables, Exchange, Representation, Consumer}
 use Rattle.hc_event.specs.declared.act.Why.TheVariants as why_is
-use Rattle.hc_event.specs.declared.event.Response.{Response}
 use Rattle.hc_event.specs.declared.place.BoundBy.TheVariants as by
-use Rattle.hc_event.specs.declared.place.Place.{Place}
 use Rattle.hc_event.specs.declared.place.Place.TheVariants as place
-use Rattle.hc_rules.specs.Lengths.{length_of, base_of, promise_of}
 use Rattle.hc_rules.specs.declared.need.Route.TheVariants as route
-use Rattle.hc_rules.specs.Needs.{route_of}
-use Rattle.hc_rules.specs.RangeTexts.{content_range_of, content_range_in}
 use Rattle.hc_rules.proofs.RangeReads.{content_range_in-spelled}
 use Rattle.hc_validate.specs.Heads.{FieldPairs, with_one}
 use Rattle.hc_validate.specs.Showing.{with_age, with_range, part_of, shown_as, shown_response}
-use Rattle.hc_model.specs.Currents.{total_in}
-use Rattle.hc_model.specs.Exchanges.{base}
-use Rattle.hc_model.specs.Moves.{Move, Shows, shows_stored, span_to}
-use Rattle.hc_model.specs.Parts.{Parts}
-use Rattle.hc_model.specs.Places.{Places}
-use Rattle.hc_model.specs.Planning.{is_ranged}
-use Rattle.hc_model.specs.Polls.{shows_at, shows_direct, shows_answer}
-use Rattle.hc_model.specs.Reading.{hi_of, end_in, end_of_direct}
-use Rattle.hc_model.specs.Reads.{end_by}
-use Rattle.hc_model.specs.Rows.{Tables, Exchange, Representation, Consumer}
 use Rattle.hc_model.specs.Sound as sound
 use Rattle.hc_effects.proofs.Basics.{false_true, some_row}
 use Rattle.hc_effects.proofs.PartTold.{part_within, whole_base}

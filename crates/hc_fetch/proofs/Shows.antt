@@ -7,10 +7,8 @@ use Rattle.std.proofs.Common.{◌≡◌, ℕ, zero, suc, ◌+◌, ◌==◌, List
 use Rattle.std.specs.Prelude.{if◌then◌else◌, is_none, ◌&&◌}
 use Rattle.std.specs.Option.{option_or}
 use Rattle.hc_text.proofs.Basics.{and_left, and_right, not_some as none_some}
-use Rattle.hc_event.specs.declared.act.Act.{Act}
+use Rattle.hc_effects.proofs.Vocabulary.{Act, Entry, History, entry_without_acts, Shown, shown_in, shown_of}
 use Rattle.hc_event.specs.declared.act.Act.TheVariants as act
-use Rattle.hc_model.specs.Entries.{Entry, History, entry_without_acts}
-use Rattle.hc_model.specs.Histories.{Shown, shown_in, shown_of}
 use Rattle.hc_effects.proofs.Basics.{append_none, false_true, some_none}
 use Rattle.hc_fetch.specs.declared.ended.FetchEnded.{FetchEnded}
 use Rattle.hc_fetch.specs.declared.plan.FetchPlan.{FetchPlan}

@@ -8,15 +8,9 @@ use Rattle.std.proofs.Common.{◌≡◌, ℕ, zero, suc, ◌+◌, ◌≤◌, Lis
 use Rattle.std.specs.Prelude.{if◌then◌else◌, is_none, ◌&&◌, ◌==◌}
 use Rattle.std.specs.Option.{option_or}
 use Rattle.hc_text.proofs.Basics.{filter_short as few_pass}
-use Rattle.hc_event.specs.Filters.{is_denied}
+use Rattle.hc_effects.proofs.Vocabulary.{is_denied, Event, Request, live, is_live, Entry, History, no_contents, entry_without_acts, Tables, tables, after, after_accepted, after_denied, last_start_after, starts_after, received_in}
 use Rattle.hc_event.specs.Counting as counting
-use Rattle.hc_event.specs.declared.event.Event.{Event}
 use Rattle.hc_event.specs.declared.event.Event.TheVariants as event
-use Rattle.hc_event.specs.declared.event.Request.{Request}
-use Rattle.hc_model.specs.Denials.{live, is_live}
-use Rattle.hc_model.specs.Entries.{Entry, History, no_contents, entry_without_acts}
-use Rattle.hc_model.specs.Rows.{Tables}
-use Rattle.hc_model.specs.Tables.{tables, after, after_accepted, after_denied, last_start_after, starts_after, received_in}
 use Rattle.hc_effects.proofs.Basics.{or_false, false_true}
 use Rattle.hc_fetch.specs.declared.plan.FetchPlan.{FetchPlan}
 use Rattle.hc_fetch.specs.Deciding.{is_foreign, has_foreign, decided_by}

@@ -2,19 +2,9 @@
 use Rattle.std.proofs.Common.{◌≡◌, ℕ, ◌<◌, [], false, None, refl, ap, ◌∙◌, arith}
 use Rattle.std.specs.Prelude.{nat_le}
 use Rattle.std.proofs.lemmas.Bool.Decides.{nat_tests}
-use Rattle.hc_event.specs.declared.event.Event.{Event}
+use Rattle.hc_effects.proofs.Vocabulary.{Event, Request, Limits, answer, accepted_acts, denied_or, denial, live, Entry, NoFlaw, failures_in, Lawful, Tables, IsOwed, size_flaw, owed, room_for}
 use Rattle.hc_event.specs.declared.event.Event.TheVariants as event
-use Rattle.hc_event.specs.declared.event.Request.{Request}
 use Rattle.hc_rules.specs.Refusals as refusals
-use Rattle.hc_rules.specs.declared.room.Limits.{Limits}
-use Rattle.hc_model.specs.Answers.{answer, accepted_acts, denied_or}
-use Rattle.hc_model.specs.Denials.{denial, live}
-use Rattle.hc_model.specs.Entries.{Entry}
-use Rattle.hc_model.specs.Flaws.{NoFlaw, failures_in}
-use Rattle.hc_model.specs.Lawful.{Lawful}
-use Rattle.hc_model.specs.Rows.{Tables}
-use Rattle.hc_model.specs.Runs.{IsOwed, size_flaw, owed}
-use Rattle.hc_model.specs.Weights.{room_for}
 use Rattle.hc_laws.proofs.Faultless.{faultless_are_owed}
 use Rattle.hc_effects.proofs.StartEffects.{starts}
 

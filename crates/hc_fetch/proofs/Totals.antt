@@ -4,7 +4,7 @@ use Rattle.std.specs.Prelude.{if◌then◌else◌, nat_lt}
 use Rattle.std.proofs.lemmas.Bool.Decides.{nat_tests}
 use Rattle.hc_range.specs.declared.range.ContentRange.{ContentRange}
 use Rattle.hc_range.specs.declared.range.ContentRange.TheVariants.{Part, Unsatisfied}
-use Rattle.hc_rules.specs.RangeTexts.{content_range_of}
+use Rattle.hc_effects.proofs.Vocabulary.{content_range_of}
 use Rattle.hc_effects.proofs.ToldNumbers.{range_early}
 use Rattle.hc_fetch.specs.declared.ended.FetchEnded.{FetchEnded}
 use Rattle.hc_fetch.specs.declared.first.First.{First}

@@ -9,15 +9,8 @@ use Rattle.std.specs.Prelude.{◌==◌, ◌||◌, is_some, if◌then◌else◌}
 use Rattle.std.specs.Option.{option_or}
 use Rattle.hc_text.proofs.Basics.{bool_cases, nil_cons, not_some as none_some, some_inj}
 use Rattle.hc_sparse.specs.Cells.{Cells, Cell, cells_with}
-use Rattle.hc_event.specs.declared.act.Act.{Act}
+use Rattle.hc_effects.proofs.Vocabulary.{Act, Limits, may_begin, Entry, History, no_contents, Shown, shown_in, shown_of, given_of, Says, IsEnd, end_of, IsRun, tables}
 use Rattle.hc_event.specs.declared.act.Act.TheVariants as act
-use Rattle.hc_rules.specs.declared.room.Limits.{Limits}
-use Rattle.hc_model.specs.Beginnings.{may_begin}
-use Rattle.hc_model.specs.Entries.{Entry, History, no_contents}
-use Rattle.hc_model.specs.Histories.{Shown, shown_in, shown_of, given_of}
-use Rattle.hc_model.specs.Reads.{Says, IsEnd, end_of}
-use Rattle.hc_model.specs.Runs.{IsRun}
-use Rattle.hc_model.specs.Tables.{tables}
 use Rattle.hc_effects.proofs.Basics.{append_none, false_true, or_false}
 use Rattle.hc_laws.proofs.OneHead.{one_head_is_shown}
 use Rattle.hc_laws.proofs.ReadEnds.{ends_well}

@@ -4,15 +4,8 @@
 -- what came, and what is told is what was heard (`plain_else`).
 use Rattle.std.proofs.Common.{◌≡◌, ℕ, Bool, true, false, List, [], ◌∷◌, Option, Some, None, refl, sym, ap, ◌∙◌}
 use Rattle.std.specs.Prelude.{◌&&◌, not, nat_eq, if◌then◌else◌}
-use Rattle.hc_event.specs.Filters.{is_denied}
-use Rattle.hc_event.specs.declared.act.Act.{Act}
-use Rattle.hc_event.specs.declared.event.Event.{Event}
+use Rattle.hc_effects.proofs.Vocabulary.{is_denied, Act, Event, Request, is_live, Entry, History, Contents, Tables, Consumer, after}
 use Rattle.hc_event.specs.declared.event.Event.TheVariants as event
-use Rattle.hc_event.specs.declared.event.Request.{Request}
-use Rattle.hc_model.specs.Denials.{is_live}
-use Rattle.hc_model.specs.Entries.{Entry, History, Contents}
-use Rattle.hc_model.specs.Rows.{Tables, Consumer}
-use Rattle.hc_model.specs.Tables.{after}
 use Rattle.hc_replay.specs.Histories.{run_of}
 use Rattle.hc_front.specs.declared.watches.Watched.{Watched}
 use Rattle.hc_condition.specs.External.{is_external}

@@ -9,21 +9,12 @@ use Rattle.std.proofs.lemmas.List.{append_assoc, length-append}
 use Rattle.std.proofs.Math.Seq.{take-append_seam, drop-append_seam, take-length}
 use Rattle.hc_fields.specs.FieldList.{without}
 use Rattle.hc_validate.proofs.Settings.{length-without, size_of-without}
-use Rattle.hc_event.specs.WithinLimits.{IsEventWithinLimits}
+use Rattle.hc_effects.proofs.Vocabulary.{IsEventWithinLimits, is_denied, leaves_in, Act, Event, Request, current, is_usable, Contents, History, kind_of, kind_at, kind_for, Tables, Representation, tables}
 use Rattle.hc_store.specs.declared.backend.Backend.{Ghosts}
 use Rattle.hc_event.specs.Counting.{received_in}
-use Rattle.hc_event.specs.Filters.{is_denied, leaves_in}
-use Rattle.hc_event.specs.declared.act.Act.{Act}
 use Rattle.hc_event.specs.declared.act.Act.TheVariants as act
-use Rattle.hc_event.specs.declared.event.Event.{Event}
 use Rattle.hc_event.specs.declared.event.Event.TheVariants as event
-use Rattle.hc_event.specs.declared.event.Request.{Request}
 use Rattle.hc_record.specs.declared.kind.Kind.{Kind}
-use Rattle.hc_model.specs.Currents.{current, is_usable}
-use Rattle.hc_model.specs.Entries.{Contents, History}
-use Rattle.hc_model.specs.Kinds.{kind_of, kind_at, kind_for}
-use Rattle.hc_model.specs.Rows.{Tables, Representation}
-use Rattle.hc_model.specs.Tables.{tables}
 use Rattle.hc_effects.proofs.PollKeeps.{find_passes}
 use Rattle.hc_core.specs.Steps as core
 use Rattle.hc_core.specs.Steps.{StandsFor}

@@ -5,17 +5,13 @@
 -- the cache is a run then, in which consumers read whole, by a law (`goes_on`).
 use Rattle.std.proofs.Common.{◌≡◌, ℕ, ◌+◌, ◌≤◌, List, [], ◌∷◌, ◌++◌, length, true, Option, refl, ap, sym, ◌∙◌, subst, arith}
 use Rattle.hc_store.specs.declared.backend.Backend.{Ghosts}
-use Rattle.hc_event.specs.declared.act.Act.{Act}
-use Rattle.hc_event.specs.declared.event.Event.{Event}
-use Rattle.hc_rules.specs.declared.room.Limits.{Limits}
+use Rattle.hc_effects.proofs.Vocabulary.{Act, Event, Limits, Contents, IsRun}
 use Rattle.hc_sched.specs.declared.schedule.Ended.{Ended}
 use Rattle.hc_sched.specs.declared.schedule.Timed.{Timed}
 use Rattle.hc_driver.specs.Endings.{How, Ends}
 use Rattle.hc_driver.specs.Stepping as steps
 use Rattle.hc_driver.specs.Stepping.{events_in, Leads, nothing, more, Steps}
 use Rattle.hc_driver.proofs.Reported.{ends_so}
-use Rattle.hc_model.specs.Entries.{Contents}
-use Rattle.hc_model.specs.Runs.{IsRun}
 use Rattle.hc_laws.proofs.ReadWhole.{runs_read_whole}
 use Rattle.hc_replay.specs.Histories.{failures}
 use Rattle.hc_front.specs.declared.front.Front.{Front}

@@ -7,28 +7,11 @@ use Rattle.std.proofs.Common.{◌≡◌, ℕ, ◌+◌, Bool, true, false, List, 
 use Rattle.std.specs.Prelude.{◌&&◌, ◌||◌, not, codes, is_none, if◌then◌else◌}
 use Rattle.hc_fields.specs.FirstValues.{has_field}
 use Rattle.hc_cachectl.specs.Directives.{of_request}
-use Rattle.hc_event.specs.Filters.{is_denied}
-use Rattle.hc_event.specs.declared.act.Act.{Act}
+use Rattle.hc_effects.proofs.Vocabulary.{is_denied, Act, Refusal, Event, Request, plan_of, is_get, ranges_read, ranges_in, is_disabled, is_only, class_of, Limits, answer, accepted_acts, denied_or, new_consumer, Entry, NoFlaw, failures_in, Lawful, Opens, acts_of, plan_view, plan_move, move_of, Tables, Consumer, IsOwed, size_flaw, owed, room_for}
 use Rattle.hc_event.specs.declared.act.Need.TheVariants as need
-use Rattle.hc_event.specs.declared.act.Refusal.{Refusal}
-use Rattle.hc_event.specs.declared.event.Event.{Event}
 use Rattle.hc_event.specs.declared.event.Event.TheVariants as event
-use Rattle.hc_event.specs.declared.event.Request.{Request}
-use Rattle.hc_rules.specs.Plans.{plan_of}
-use Rattle.hc_rules.specs.Requests.{is_get, disables, has_condition, ranges_read, ranges_in, is_disabled, is_only, class_of}
+use Rattle.hc_rules.specs.Requests.{disables, has_condition}
 use Rattle.hc_rules.specs.declared.plan.Plan.TheVariants as plan
-use Rattle.hc_rules.specs.declared.room.Limits.{Limits}
-use Rattle.hc_model.specs.Answers.{answer, accepted_acts, denied_or}
-use Rattle.hc_model.specs.ConsumerRows.{new_consumer}
-use Rattle.hc_model.specs.Entries.{Entry}
-use Rattle.hc_model.specs.Flaws.{NoFlaw, failures_in}
-use Rattle.hc_model.specs.Lawful.{Lawful}
-use Rattle.hc_model.specs.Moves.{Opens, acts_of}
-use Rattle.hc_model.specs.Planning.{plan_view, plan_move}
-use Rattle.hc_model.specs.Polls.{move_of}
-use Rattle.hc_model.specs.Rows.{Tables, Consumer}
-use Rattle.hc_model.specs.Runs.{IsOwed, size_flaw, owed}
-use Rattle.hc_model.specs.Weights.{room_for}
 use Rattle.hc_effects.proofs.Owed.{goes}
 use Rattle.hc_laws.proofs.Faultless.{faultless_are_owed}
 use Rattle.hc_laws.proofs.LawfulRuns.{lawful_in_runs}

@@ -10,21 +10,10 @@ use Rattle.std.specs.List.{list_any}
 use Rattle.std.proofs.lemmas.Bool.{eqb-true, both_ways}
 use Rattle.std.proofs.lemmas.Bool.Decides.{nat_tests}
 use Rattle.hc_text.proofs.Basics.{eq_itself as itself}
-use Rattle.hc_event.specs.Filters.{is_denied, leaves_in}
-use Rattle.hc_event.specs.declared.act.Act.{Act}
+use Rattle.hc_effects.proofs.Vocabulary.{is_denied, leaves_in, Act, Event, Request, Limits, consumer_after, denial, is_live, live, Entry, Contents, Lawful, Tables, Consumer, IsOwed, tables, after}
 use Rattle.hc_event.specs.declared.act.Refusal.TheVariants as refusal
-use Rattle.hc_event.specs.declared.event.Event.{Event}
 use Rattle.hc_event.specs.declared.event.Event.TheVariants as event
-use Rattle.hc_event.specs.declared.event.Request.{Request}
 use Rattle.hc_rules.specs.Refusals as refusals
-use Rattle.hc_rules.specs.declared.room.Limits.{Limits}
-use Rattle.hc_model.specs.ConsumerRows.{consumer_after}
-use Rattle.hc_model.specs.Denials.{denial, is_live, live}
-use Rattle.hc_model.specs.Entries.{Entry, Contents}
-use Rattle.hc_model.specs.Lawful.{Lawful}
-use Rattle.hc_model.specs.Rows.{Tables, Consumer}
-use Rattle.hc_model.specs.Runs.{IsOwed}
-use Rattle.hc_model.specs.Tables.{tables, after}
 use Rattle.hc_effects.proofs.Basics.{some_none}
 use Rattle.hc_effects.proofs.Owed.{goes}
 use Rattle.hc_laws.proofs.StaysLive.{stays_live}

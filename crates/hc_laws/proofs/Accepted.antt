@@ -3,24 +3,10 @@ use Rattle.std.proofs.Common.{◌≡◌, ◌<◌, ℕ, Bool, true, false, Option
 use Rattle.std.specs.Prelude.{◌&&◌, not, is_some, nat_eq, nat_le, if◌then◌else◌}
 use Rattle.std.proofs.lemmas.Bool.Decides.{nat_tests}
 use Rattle.hc_text.proofs.Basics.{eq_itself as itself, and_off as shut_by}
-use Rattle.hc_event.specs.Filters.{closes_in, is_denied}
-use Rattle.hc_event.specs.declared.act.Refusal.{Refusal}
-use Rattle.hc_event.specs.declared.event.Event.{Event}
+use Rattle.hc_effects.proofs.Vocabulary.{closes_in, is_denied, Refusal, Event, Request, Response, Limits, answer, accepted_acts, denied_or, consumer_after, consumer_made, denial, is_live, live, as_open, Entry, exchange_after, exchange_heard, exchange_acted, with_head, is_open, flaw_in, Tables, Exchange, Consumer, IsOwed, after, after_accepted, after_denied}
 use Rattle.hc_event.specs.declared.event.Event.TheVariants as event
-use Rattle.hc_event.specs.declared.event.Request.{Request}
-use Rattle.hc_event.specs.declared.event.Response.{Response}
 use Rattle.hc_rules.specs.Refusals as refusals
-use Rattle.hc_rules.specs.declared.room.Limits.{Limits}
-use Rattle.hc_model.specs.Answers.{answer, accepted_acts, denied_or}
-use Rattle.hc_model.specs.ConsumerRows.{consumer_after, consumer_made}
-use Rattle.hc_model.specs.Denials.{denial, is_live, live, as_open, open_exchange}
-use Rattle.hc_model.specs.Entries.{Entry}
-use Rattle.hc_model.specs.ExchangeRows.{exchange_after, exchange_heard, exchange_acted, with_head}
-use Rattle.hc_model.specs.Exchanges.{is_open}
-use Rattle.hc_model.specs.Flaws.{flaw_in}
-use Rattle.hc_model.specs.Rows.{Tables, Exchange, Consumer}
-use Rattle.hc_model.specs.Runs.{IsOwed}
-use Rattle.hc_model.specs.Tables.{after, after_accepted, after_denied}
+use Rattle.hc_model.specs.Denials.{open_exchange}
 use Rattle.hc_laws.proofs.Undenied.{undenied}
 
 module _ (limits : Limits) (t : Tables) (e : Entry) (is : IsOwed limits t e) where

@@ -3,30 +3,11 @@ use Rattle.std.proofs.Common.{◌≡◌, ℕ, Bool, true, false, Option, Some, N
 use Rattle.std.specs.Prelude.{is_some, ◌==◌, ◌&&◌, not}
 use Rattle.std.specs.Option.{option_map, option_and_then}
 use Rattle.hc_text.proofs.Basics.{not_some as none_some}
-use Rattle.hc_event.specs.declared.event.Event.{Event}
-use Rattle.hc_event.specs.declared.act.Need.{Need}
+use Rattle.hc_effects.proofs.Vocabulary.{Event, Need, Response, head_case, is_conditional, Limits, route_of, Place, Aims, head_view, validates, joins_row, current, denial, Entry, aim_of, aim_from, Flaw, IsOfOneKey, entry_of, OfRuns, OfRunsIn, plan_view, candidate, candidate_at, bound_to, Tables, Exchange, Representation, Consumer, Sound, tables, after_accepted}
 use Rattle.hc_event.specs.declared.act.Need.TheVariants as need
-use Rattle.hc_event.specs.declared.event.Response.{Response}
-use Rattle.hc_rules.specs.HeadCases.{head_case, is_conditional}
 use Rattle.hc_rules.specs.declared.need.Route.TheVariants as route
-use Rattle.hc_rules.specs.declared.room.Limits.{Limits}
-use Rattle.hc_rules.specs.Needs.{route_of}
-use Rattle.hc_event.specs.declared.place.Place.{Place}
 use Rattle.hc_event.specs.declared.place.Place.TheVariants as place
-use Rattle.hc_model.specs.Aims.{Aims, HasAim, CaseWithoutAim, is_about_some, needs_aim}
-use Rattle.hc_model.specs.Cases.{head_view, validates, joins_row}
-use Rattle.hc_model.specs.Currents.{current}
-use Rattle.hc_model.specs.Denials.{denial}
-use Rattle.hc_model.specs.Entries.{Entry}
-use Rattle.hc_model.specs.ExchangeRows.{aim_of, aim_from}
-use Rattle.hc_model.specs.Flaws.{Flaw}
-use Rattle.hc_model.specs.Keys.{IsOfOneKey, entry_of}
-use Rattle.hc_model.specs.Laws.{OfRuns, OfRunsIn}
-use Rattle.hc_model.specs.Planning.{plan_view, candidate, candidate_at}
-use Rattle.hc_model.specs.Reading.{bound_to}
-use Rattle.hc_model.specs.Rows.{Tables, Exchange, Representation, Consumer}
-use Rattle.hc_model.specs.Sound.{Sound}
-use Rattle.hc_model.specs.Tables.{tables, after_accepted}
+use Rattle.hc_model.specs.Aims.{HasAim, CaseWithoutAim, is_about_some, needs_aim}
 use Rattle.hc_laws.proofs.Aimed.{aim_free}
 use Rattle.hc_effects.proofs.Asked.{Asked, HasCandidate}
 use Rattle.hc_effects.proofs.Basics.{some_none, some_row, false_true}

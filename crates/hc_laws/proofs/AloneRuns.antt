@@ -2,20 +2,11 @@
 use Rattle.std.proofs.Common.{◌≡◌, ◌<◌, inl, inr, ℕ, ◌+◌, List, [], ◌∷◌, Bool, true, false, Option, Some, None, refl, ap, sym, ◌∙◌, arith}
 use Rattle.std.specs.Prelude.{◌↔◌, filter, is_some, is_none}
 use Rattle.hc_text.proofs.Basics.{all_three, bool_cases, not_some as none_some, same_some as same_row}
-use Rattle.hc_event.specs.declared.act.Cause.{Cause}
+use Rattle.hc_effects.proofs.Vocabulary.{Cause, Entry, covers, OfRuns, Descends, InOrder, is_written, is_bound, is_bound_place, bound, offset, Tables, Representation, Consumer, Sound, Among, IsBound, IsFirst, tables, after_denied, came_alone, exclusive, has_more}
 use Rattle.hc_sparse.specs.Cells.{EndsBy}
 use Rattle.hc_event.specs.declared.place.Place.TheVariants as place
 use Rattle.hc_model.specs.Alone.{Alone, IsOnly}
-use Rattle.hc_model.specs.Entries.{Entry}
-use Rattle.hc_model.specs.Holes.{covers}
-use Rattle.hc_model.specs.Laws.{OfRuns}
-use Rattle.hc_model.specs.Orders.{Descends, InOrder}
-use Rattle.hc_model.specs.Reading.{is_written, is_bound, is_bound_place, bound, offset}
-use Rattle.hc_model.specs.Rows.{Tables, Representation, Consumer}
-use Rattle.hc_model.specs.Sound.{Sound, Among, IsBound, IsFirst}
 use Rattle.hc_model.specs.Sound as sound
-use Rattle.hc_model.specs.Tables.{tables, after_denied}
-use Rattle.hc_model.specs.Writers.{came_alone, exclusive, has_more}
 use Rattle.hc_effects.proofs.Basics.{false_true}
 use Rattle.hc_laws.proofs.DeniedKeeps.{written_same}
 use Rattle.hc_effects.proofs.Exclusives.{IsExclusive, exclusive_parts}

@@ -7,36 +7,13 @@ use Rattle.std.proofs.Common.{◌≡◌, inl, inr, ℕ, [], ◌∷◌, ◌++◌,
 use Rattle.std.specs.Prelude.{is_some, if◌then◌else◌, ◌==◌, ◌||◌}
 use Rattle.std.specs.Option.{option_or}
 use Rattle.hc_text.proofs.Basics.{bool_cases, not_some as none_some, same_some as same_row, some_inj}
-use Rattle.hc_event.specs.Filters.{Opening, opening_in, asks_in, is_denied}
+use Rattle.hc_effects.proofs.Vocabulary.{Opening, opening_in, asks_in, is_denied, Event, Response, head_refusal, Limits, Place, accepted_acts, answer_acts, loss_acts, may_begin, closing, denial, as_open, is_live, Entry, History, Contents, exchange_after, exchange_acted, exchange_heard, exchange_made, exchange_opened, with_head, with_piece, exchange_in, is_headless, flaw_in, OfRuns, OfHistories, Turns, Move, Nothing, Asks, Opens, Shows, Gives, Ends, Fails, acts_of, Owners, poll_move, is_written, own_open, shared_exchange, writing_in, source, Tables, Exchange, Representation, Consumer, IsRun, IsOwed, Sound, tables, after_accepted, after_denied, brings_body}
 use Rattle.hc_event.specs.declared.act.Wait.TheVariants as wait
-use Rattle.hc_event.specs.declared.event.Event.{Event}
 use Rattle.hc_event.specs.declared.event.Event.TheVariants as event
-use Rattle.hc_event.specs.declared.event.Response.{Response}
 use Rattle.hc_rules.specs.Refusals as refusals
-use Rattle.hc_rules.specs.Refusals.{head_refusal}
-use Rattle.hc_rules.specs.declared.room.Limits.{Limits}
-use Rattle.hc_event.specs.declared.place.Place.{Place}
 use Rattle.hc_event.specs.declared.place.Place.TheVariants as place
-use Rattle.hc_model.specs.Answers.{accepted_acts, answer_acts, loss_acts}
 use Rattle.hc_model.specs.Asking.{AsksAnew}
-use Rattle.hc_model.specs.Beginnings.{may_begin}
-use Rattle.hc_model.specs.Closings.{closing}
-use Rattle.hc_model.specs.Denials.{denial, as_open, is_live}
-use Rattle.hc_model.specs.Entries.{Entry, History, Contents}
-use Rattle.hc_model.specs.ExchangeRows.{exchange_after, exchange_acted, exchange_heard, exchange_made, exchange_opened, with_head, with_piece}
-use Rattle.hc_model.specs.Exchanges.{exchange_in, is_headless}
-use Rattle.hc_model.specs.Flaws.{flaw_in}
-use Rattle.hc_model.specs.Laws.{OfRuns, OfHistories, Turns}
 use Rattle.hc_model.specs.Moves as moves
-use Rattle.hc_model.specs.Moves.{Move, Nothing, Asks, Opens, Shows, Gives, Ends, Fails, acts_of}
-use Rattle.hc_model.specs.Owners.{Owners}
-use Rattle.hc_model.specs.Polls.{poll_move}
-use Rattle.hc_model.specs.Reading.{is_written, own_open, shared_exchange, writing_in, source}
-use Rattle.hc_model.specs.Rows.{Tables, Exchange, Representation, Consumer}
-use Rattle.hc_model.specs.Runs.{IsRun, IsOwed}
-use Rattle.hc_model.specs.Sound.{Sound}
-use Rattle.hc_model.specs.Tables.{tables, after_accepted, after_denied}
-use Rattle.hc_model.specs.Writers.{brings_body}
 use Rattle.hc_effects.proofs.AboutKeeps.{own_open_of}
 use Rattle.hc_laws.proofs.Barred.{next_tables, denied_tables}
 use Rattle.hc_effects.proofs.ActParts.{asks_closed, asks_loss}

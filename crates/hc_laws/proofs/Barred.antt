@@ -3,49 +3,21 @@ use Rattle.std.proofs.Common.{◌≡◌, ◌≢◌, ◌⊎◌, inl, inr, ℕ, �
 use Rattle.std.specs.Prelude.{◌||◌, nat_eq, if◌then◌else◌}
 use Rattle.std.specs.Option.{option_map}
 use Rattle.hc_text.proofs.Basics.{bool_cases, not_some as none_some, never_true as not_true, same_some as same_row}
-use Rattle.hc_event.specs.Filters.{Opening, opening_in, is_denied}
+use Rattle.hc_effects.proofs.Vocabulary.{Opening, opening_in, is_denied, Request, Response, route_of, head_refusal, head_case, case_on, direct_case, first_case, later_case, HeadCase, HeadView, Route, Limits, BoundBy, has_loss, Showing, showing_in, case_at, case_of, head_view, is_founding, was_shown, consumer_heard, by_opening, waiting, is_current, is_number, denial, as_open, doomed_key_of, doomed_in, doomed_by_head, doomed_by_case, is_key, Entry, History, Content, Contents, exchange_heard, is_headless, Flaw, flaw_in, becomes_gone, IsOfOneKey, Turns, StandsFor, IsBarred, AreNumbered, IsBoundBehindDooms, item_of, reads, Tables, Exchange, Representation, Consumer, IsOwed, Sound, IsBound, tables, after, after_accepted, after_denied, representation_of_content, opened_after, awaited_exchange}
 use Rattle.hc_event.specs.declared.event.Event.TheVariants as event
-use Rattle.hc_event.specs.declared.event.Request.{Request}
-use Rattle.hc_event.specs.declared.event.Response.{Response}
-use Rattle.hc_rules.specs.Needs.{route_of}
 use Rattle.hc_rules.specs.Refusals as refusals
-use Rattle.hc_rules.specs.Refusals.{head_refusal}
-use Rattle.hc_rules.specs.HeadCases.{head_case, case_on, direct_case, first_case, later_case}
-use Rattle.hc_rules.specs.declared.heads.HeadCase.{HeadCase}
 use Rattle.hc_rules.specs.declared.heads.HeadCase.TheVariants as case
-use Rattle.hc_rules.specs.declared.heads.HeadView.{HeadView}
-use Rattle.hc_rules.specs.declared.need.Route.{Route}
 use Rattle.hc_rules.specs.declared.need.Route.TheVariants as route
-use Rattle.hc_rules.specs.declared.room.Limits.{Limits}
-use Rattle.hc_event.specs.declared.place.BoundBy.{BoundBy}
-use Rattle.hc_model.specs.ActFilters.{has_loss, Showing, showing_in}
-use Rattle.hc_model.specs.Cases.{case_at, case_of, head_view, is_founding, was_shown}
-use Rattle.hc_model.specs.ConsumerRows.{consumer_heard, by_opening, waiting}
-use Rattle.hc_model.specs.Currents.{is_current, is_number}
 use Rattle.hc_model.specs.Currents.{current as current_of}
-use Rattle.hc_model.specs.Denials.{denial, as_open}
-use Rattle.hc_model.specs.Dooms.{doomed_key_of, doomed_in, doomed_by_head, doomed_by_case, is_key}
-use Rattle.hc_model.specs.Entries.{Entry, History, Content, Contents}
-use Rattle.hc_model.specs.ExchangeRows.{exchange_heard}
-use Rattle.hc_model.specs.Exchanges.{is_headless}
-use Rattle.hc_model.specs.Flaws.{Flaw, flaw_in}
-use Rattle.hc_model.specs.Gone.{becomes_gone}
-use Rattle.hc_model.specs.Keys.{IsOfOneKey}
-use Rattle.hc_model.specs.Laws.{Turns, StandsFor, IsBarred, BarrierIsKept, BarrierBegins, AreNumbered, IsNewlyBound, IsBoundBehindDooms, barrier, barrier_at, item_of}
+use Rattle.hc_model.specs.Laws.{BarrierIsKept, BarrierBegins, IsNewlyBound, barrier, barrier_at}
 use Rattle.hc_model.specs.Laws as laws
-use Rattle.hc_model.specs.Reading.{reads}
-use Rattle.hc_model.specs.Rows.{Tables, Exchange, Representation, Consumer}
-use Rattle.hc_model.specs.Runs.{IsOwed}
-use Rattle.hc_model.specs.Sound.{Sound, IsBound}
 use Rattle.hc_model.specs.Sound as sound
-use Rattle.hc_model.specs.Tables.{tables, after, after_accepted, after_denied, representation_of_content, opened_after}
 use Rattle.hc_effects.proofs.BoundFrom.{BoundFrom, bound_from}
 use Rattle.hc_effects.proofs.BoundFrom as from
 use Rattle.hc_effects.proofs.BoundKeeps.{founding_is, planned_at}
 use Rattle.hc_effects.proofs.CurrentKeeps.{current_is, WasOrFounded, was_or_founded}
 use Rattle.hc_effects.proofs.CurrentKeeps as current
 use Rattle.hc_effects.proofs.KeysKeep.{same_exchange}
-use Rattle.hc_model.specs.StartingOver.{awaited_exchange}
 use Rattle.hc_effects.proofs.Joining.{mix}
 use Rattle.hc_effects.proofs.KeyNames.{key_is, opener_key}
 use Rattle.hc_effects.proofs.Owed.{goes}

@@ -8,12 +8,8 @@ use Rattle.hc_sparse.specs.Cells.{EndsBy}
 use Rattle.hc_sparse.specs.Runs.{cells_of, end_of}
 use Rattle.hc_sparse.specs.declared.run.Run.{Run}
 use Rattle.hc_sparse.proofs.CellLemmas.{inside-past}
-use Rattle.hc_model.specs.Entries.{Content, Contents}
-use Rattle.hc_model.specs.Laws.{IsStart, StartsAreSound, item_of}
-use Rattle.hc_model.specs.Reading.{is_written}
-use Rattle.hc_model.specs.Rows.{Representation, Consumer}
-use Rattle.hc_model.specs.Sound.{Among, IsAbout, IsBound, IsFirst, IsSoundRepresentation}
-use Rattle.hc_model.specs.Tables.{first_tables, representation_of_content, last_end, numbers}
+use Rattle.hc_effects.proofs.Vocabulary.{Content, Contents, IsStart, item_of, is_written, Representation, Consumer, Among, IsAbout, IsBound, IsFirst, IsSoundRepresentation, first_tables, representation_of_content, last_end, numbers}
+use Rattle.hc_model.specs.Laws.{StartsAreSound}
 use Rattle.hc_model.specs.Sound as sound
 use Rattle.hc_effects.proofs.Basics.{false_true}
 

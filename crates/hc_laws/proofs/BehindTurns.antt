@@ -4,24 +4,12 @@ use Rattle.std.specs.Prelude.{◌+◌, is_none, min, nat_le, nat_eq, not, unwrap
 use Rattle.std.specs.Option.{option_or}
 use Rattle.hc_text.proofs.Basics.{and_left, and_right, either, not_true}
 use Rattle.hc_event.specs.declared.act.Need.TheVariants as need
-use Rattle.hc_event.specs.declared.act.Why.{Why}
+use Rattle.hc_effects.proofs.Vocabulary.{Why, Candidate, Plan, PlanView, Wanted, least, lesser, plan_of, bare_plan, in_time, from_store, queues, by_current, by_why, by_wanted, by_exclusive, by_hole, by_bound, why_by, is_disabled, is_only, Place, is_live_place, turn, turn_with, holder, holds_turn, line, is_in_line, stands_in_line, Tables, Consumer, Among}
 use Rattle.hc_range.specs.declared.range.Span.{Span}
-use Rattle.hc_rules.specs.declared.plan.Candidate.{Candidate}
-use Rattle.hc_rules.specs.declared.plan.Plan.{Plan}
 use Rattle.hc_rules.specs.declared.plan.Plan.TheVariants as plan
-use Rattle.hc_rules.specs.declared.plan.PlanView.{PlanView}
-use Rattle.hc_rules.specs.declared.request.Wanted.{Wanted}
 use Rattle.hc_rules.specs.declared.request.Wanted.TheVariants as wanted
-use Rattle.hc_rules.specs.Least.{least, lesser}
-use Rattle.hc_rules.specs.Plans.{plan_of, bare_plan, in_time, from_store, queues, by_current, by_why, by_wanted, by_exclusive, by_hole, by_bound, why_by}
-use Rattle.hc_rules.specs.Requests.{is_disabled, is_only}
 use Rattle.hc_rules.proofs.RangeReads.{same_bytes}
-use Rattle.hc_event.specs.declared.place.Place.{Place}
 use Rattle.hc_event.specs.declared.place.Place.TheVariants as place
-use Rattle.hc_model.specs.Denials.{is_live_place}
-use Rattle.hc_model.specs.Lines.{turn, turn_with, holder, holds_turn, line, is_in_line, stands_in_line}
-use Rattle.hc_model.specs.Rows.{Tables, Consumer}
-use Rattle.hc_model.specs.Sound.{Among}
 use Rattle.hc_effects.proofs.Basics.{false_true}
 use Rattle.hc_laws.proofs.FitsRuns.{find_among}
 use Rattle.hc_effects.proofs.HadKeeps.{among_least}

@@ -1,19 +1,8 @@
 -- What is beside soundness holds from the beginning, and stays so at each entry.
 use Rattle.std.proofs.Common.{◌≡◌, ℕ, None, sym, ◌∙◌}
 use Rattle.hc_text.proofs.Basics.{not_some as none_some}
-use Rattle.hc_event.specs.declared.event.Event.{Event}
-use Rattle.hc_rules.specs.declared.room.Limits.{Limits}
-use Rattle.hc_model.specs.Denials.{denial}
-use Rattle.hc_model.specs.Entries.{Entry, Contents}
-use Rattle.hc_model.specs.Flaws.{Flaw}
-use Rattle.hc_model.specs.Keys.{entry_of}
-use Rattle.hc_model.specs.Laws.{AfterDenials}
-use Rattle.hc_model.specs.Measures.{Measures}
-use Rattle.hc_model.specs.Owners.{Owners}
-use Rattle.hc_model.specs.Rows.{Tables, Representation, Consumer}
-use Rattle.hc_model.specs.Sound.{Sound, IsBound}
+use Rattle.hc_effects.proofs.Vocabulary.{Event, Limits, denial, Entry, Contents, Flaw, entry_of, AfterDenials, Measures, Owners, Tables, Representation, Consumer, Sound, IsBound, first_tables, after_accepted, after_denied}
 use Rattle.hc_model.specs.Sound as sound
-use Rattle.hc_model.specs.Tables.{first_tables, after_accepted, after_denied}
 use Rattle.hc_effects.proofs.Beside.{IsBeside}
 use Rattle.hc_laws.proofs.CachedKeeps.{cached_kept}
 use Rattle.hc_laws.proofs.CoversKept.{covered_kept}

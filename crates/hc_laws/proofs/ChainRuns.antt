@@ -2,20 +2,10 @@
 use Rattle.std.proofs.Common.{◌≡◌, ℕ, ◌<◌, true, false, Option, Some, None, refl, ap, sym, ◌∙◌, subst}
 use Rattle.std.specs.Prelude.{nat_eq}
 use Rattle.hc_event.specs.declared.act.Wait.TheVariants as wait
-use Rattle.hc_model.specs.Chains.{MoveEnds, PollsEnd, ChainEnds, ChainsEnd}
-use Rattle.hc_model.specs.Denials.{is_live, is_live_place}
-use Rattle.hc_model.specs.Endings.{Endings, Unended}
-use Rattle.hc_model.specs.Laws.{OfRuns, WaitsEnd, WaitsForNobody}
-use Rattle.hc_model.specs.Lines.{turn}
+use Rattle.hc_effects.proofs.Vocabulary.{MoveEnds, is_live, is_live_place, Endings, Unended, OfRuns, WaitsEnd, WaitsForNobody, turn, Move, Places, plan_view, move_of, poll_move, Tables, Consumer, Sound, IsBound, tables}
+use Rattle.hc_model.specs.Chains.{PollsEnd, ChainEnds, ChainsEnd}
 use Rattle.hc_model.specs.Moves as moves
-use Rattle.hc_model.specs.Moves.{Move}
-use Rattle.hc_model.specs.Places.{Places}
-use Rattle.hc_model.specs.Planning.{plan_view}
-use Rattle.hc_model.specs.Polls.{move_of, poll_move}
-use Rattle.hc_model.specs.Rows.{Tables, Consumer}
-use Rattle.hc_model.specs.Sound.{Sound, IsBound}
 use Rattle.hc_model.specs.Sound as sound
-use Rattle.hc_model.specs.Tables.{tables}
 use Rattle.hc_effects.proofs.Basics.{false_true}
 use Rattle.hc_laws.proofs.BehindTurns.{StandsInLine, behind_turn, turn_stands, turn_without}
 use Rattle.hc_laws.proofs.LivePolls.{Goes, live_goes}

@@ -1,15 +1,8 @@
 -- An event opens one exchange at most, the next. So no more were opened than events came.
 use Rattle.std.proofs.Common.{◌≡◌, ◌≤◌, ◌+◌, ◌-◌, Bool, true, false, [], ◌∷◌, length, Option, Some, None, refl, ap, sym, ◌∙◌, arith}
 use Rattle.std.specs.Prelude.{if◌then◌else◌}
-use Rattle.hc_event.specs.Filters.{Opening, opening_in, is_denied}
-use Rattle.hc_rules.specs.declared.room.Limits.{Limits}
-use Rattle.hc_model.specs.Entries.{Entry}
-use Rattle.hc_model.specs.Flaws.{flaw_in}
+use Rattle.hc_effects.proofs.Vocabulary.{Opening, opening_in, is_denied, Limits, Entry, flaw_in, Tables, IsOwed, Sound, tables, after, after_accepted, after_denied, opened_after}
 use Rattle.hc_model.specs.Live.{OpeningsAreCounted}
-use Rattle.hc_model.specs.Rows.{Tables}
-use Rattle.hc_model.specs.Runs.{IsOwed}
-use Rattle.hc_model.specs.Sound.{Sound}
-use Rattle.hc_model.specs.Tables.{tables, after, after_accepted, after_denied, opened_after}
 use Rattle.hc_effects.proofs.NumbersKeep.{opens_next}
 use Rattle.hc_effects.proofs.Owed.{goes, acts_are}
 use Rattle.hc_laws.proofs.SoundRuns.{runs_are_sound}

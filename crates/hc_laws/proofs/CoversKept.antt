@@ -3,34 +3,12 @@ use Rattle.std.proofs.Common.{◌≡◌, ◌⊎◌, inl, inr, ℕ, ◌+◌, ◌<
 use Rattle.std.specs.Prelude.{is_some, nat_eq}
 use Rattle.hc_text.proofs.Basics.{and_left, not_some as none_some, same_some as same_row, some_inj}
 use Rattle.hc_sparse.specs.Cells.{Covers}
-use Rattle.hc_event.specs.Filters.{Opening, opening_in}
-use Rattle.hc_event.specs.declared.event.Event.{Event}
+use Rattle.hc_effects.proofs.Vocabulary.{Opening, opening_in, Event, Response, Limits, route_of, BoundBy, Showing, showing_in, case_at, consumer_heard, consumer_acted, by_opening, waiting, due_after, denial, Entry, exchange_opened, front, Flaw, entry_of, Measures, Owners, bound_to, offset, lo_of, reads, hole_start, Tables, Exchange, Representation, Consumer, Sound, IsBound, IsExclusiveWriter, after_accepted, brings_body, came_alone, loses_writing, survivor}
 use Rattle.hc_event.specs.declared.event.Event.TheVariants as event
-use Rattle.hc_event.specs.declared.event.Response.{Response}
 use Rattle.hc_rules.specs.declared.need.Route.TheVariants as route
-use Rattle.hc_rules.specs.declared.room.Limits.{Limits}
-use Rattle.hc_rules.specs.Needs.{route_of}
 use Rattle.hc_event.specs.declared.place.Place.TheVariants as place
-use Rattle.hc_event.specs.declared.place.BoundBy.{BoundBy}
 use Rattle.hc_event.specs.declared.place.BoundBy.TheVariants as by
-use Rattle.hc_model.specs.ActFilters.{Showing, showing_in}
-use Rattle.hc_model.specs.Cases.{case_at}
-use Rattle.hc_model.specs.ConsumerRows.{consumer_heard, consumer_acted, by_opening, waiting, due_after}
-use Rattle.hc_model.specs.Denials.{denial}
-use Rattle.hc_model.specs.Entries.{Entry}
-use Rattle.hc_model.specs.ExchangeRows.{exchange_opened}
-use Rattle.hc_model.specs.Exchanges.{front}
-use Rattle.hc_model.specs.Flaws.{Flaw}
-use Rattle.hc_model.specs.Keys.{entry_of}
-use Rattle.hc_model.specs.Measures.{Measures}
-use Rattle.hc_model.specs.Owners.{Owners}
-use Rattle.hc_model.specs.Reading.{bound_to, offset, lo_of, reads}
-use Rattle.hc_model.specs.RepresentationRows.{hole_start}
-use Rattle.hc_model.specs.Rows.{Tables, Exchange, Representation, Consumer}
-use Rattle.hc_model.specs.Sound.{Sound, IsBound, IsExclusiveWriter}
 use Rattle.hc_model.specs.Sound as sound
-use Rattle.hc_model.specs.Tables.{after_accepted}
-use Rattle.hc_model.specs.Writers.{brings_body, came_alone, loses_writing, survivor}
 use Rattle.hc_effects.proofs.Basics.{false_true, some_row}
 use Rattle.hc_effects.proofs.Beside.{IsBeside, goes_on_at}
 use Rattle.hc_effects.proofs.BoundFrom.{BoundFrom, IsRow, IsFounded, IsFirstHole, IsShown, bound_from, place_inj}

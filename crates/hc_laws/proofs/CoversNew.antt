@@ -9,42 +9,12 @@ use Rattle.hc_range.specs.declared.range.ContentRange.{ContentRange}
 use Rattle.hc_range.specs.declared.range.ContentRange.TheVariants as range
 use Rattle.hc_range.specs.declared.range.Span.{Span}
 use Rattle.hc_range.specs.Spans.{resolved_span}
-use Rattle.hc_event.specs.Filters.{Opening, opening_in}
-use Rattle.hc_event.specs.declared.act.Need.{Need}
+use Rattle.hc_effects.proofs.Vocabulary.{Opening, opening_in, Need, Event, Request, Response, HeadCase, Length, Limits, fits_to_found, fits_part, begins_at, length_of, base_of, promise_of, route_of, content_range_of, range_of, wanted_of, wanted_part, BoundBy, has_loss, case_at, head_view, fits_asker, consumer_heard, waiting, current, denial, Entry, base, front, length_by, Flaw, founded_total, first_hole, absent_from, entry_of, Owners, bound_to, hole_start, Tables, Exchange, Representation, Consumer, Sound, after_accepted}
 use Rattle.hc_event.specs.declared.act.Need.TheVariants as need
-use Rattle.hc_event.specs.declared.event.Event.{Event}
 use Rattle.hc_event.specs.declared.event.Event.TheVariants as event
-use Rattle.hc_event.specs.declared.event.Request.{Request}
-use Rattle.hc_event.specs.declared.event.Response.{Response}
-use Rattle.hc_rules.specs.declared.heads.HeadCase.{HeadCase}
 use Rattle.hc_rules.specs.declared.heads.HeadCase.TheVariants as case
-use Rattle.hc_rules.specs.declared.length.Length.{Length}
 use Rattle.hc_rules.specs.declared.need.Route.TheVariants as route
 use Rattle.hc_rules.specs.declared.request.Wanted.TheVariants as wanted
-use Rattle.hc_rules.specs.declared.room.Limits.{Limits}
-use Rattle.hc_rules.specs.HeadCases.{fits_to_found, fits_part, begins_at}
-use Rattle.hc_rules.specs.Lengths.{length_of, base_of, promise_of}
-use Rattle.hc_rules.specs.Needs.{route_of}
-use Rattle.hc_rules.specs.RangeTexts.{content_range_of}
-use Rattle.hc_rules.specs.Requests.{range_of, wanted_of, wanted_part}
-use Rattle.hc_event.specs.declared.place.BoundBy.{BoundBy}
-use Rattle.hc_model.specs.ActFilters.{has_loss}
-use Rattle.hc_model.specs.Cases.{case_at, head_view, fits_asker}
-use Rattle.hc_model.specs.ConsumerRows.{consumer_heard, waiting}
-use Rattle.hc_model.specs.Currents.{current}
-use Rattle.hc_model.specs.Denials.{denial}
-use Rattle.hc_model.specs.Entries.{Entry}
-use Rattle.hc_model.specs.Exchanges.{base, front, length_by}
-use Rattle.hc_model.specs.Flaws.{Flaw}
-use Rattle.hc_model.specs.Heads.{founded_total}
-use Rattle.hc_model.specs.Holes.{first_hole, absent_from}
-use Rattle.hc_model.specs.Keys.{entry_of}
-use Rattle.hc_model.specs.Owners.{Owners}
-use Rattle.hc_model.specs.Reading.{bound_to}
-use Rattle.hc_model.specs.RepresentationRows.{hole_start}
-use Rattle.hc_model.specs.Rows.{Tables, Exchange, Representation, Consumer}
-use Rattle.hc_model.specs.Sound.{Sound}
-use Rattle.hc_model.specs.Tables.{after_accepted}
 use Rattle.hc_effects.proofs.Basics.{false_true}
 use Rattle.hc_effects.proofs.BoundFrom.{IsRow, IsInterval, IsFounded, IsFirstHole}
 use Rattle.hc_effects.proofs.BoundFrom as from

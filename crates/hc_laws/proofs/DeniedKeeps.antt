@@ -1,15 +1,8 @@
 -- A denied entry changes nothing that soundness speaks of.
 use Rattle.std.proofs.Common.{◌≡◌, ℕ, refl, sym, ◌∙◌}
-use Rattle.hc_model.specs.Entries.{Entry}
-use Rattle.hc_model.specs.Measures.{Measures}
-use Rattle.hc_model.specs.Owners.{Owners, IsPast}
+use Rattle.hc_effects.proofs.Vocabulary.{Entry, Measures, Owners, IsPast, is_written, bound, Tables, Exchange, Representation, Consumer, Sound, IsBound, IsAbout, IsFirst, IsExclusiveWriter, IsServed, IsHad, IsGrowing, IsAlone, IsToBeShown, after_denied, BoundBy}
 use Rattle.hc_model.specs.Owners as owners
-use Rattle.hc_model.specs.Reading.{is_written, bound}
-use Rattle.hc_model.specs.Rows.{Tables, Exchange, Representation, Consumer}
-use Rattle.hc_model.specs.Sound.{Sound, IsBound, IsAbout, IsFirst, IsExclusiveWriter, IsServed, IsHad, IsGrowing, IsAlone, IsToBeShown}
 use Rattle.hc_model.specs.Sound as sound
-use Rattle.hc_model.specs.Tables.{after_denied}
-use Rattle.hc_event.specs.declared.place.BoundBy.{BoundBy}
 
 module _ (t : Tables) (e : Entry) where
   abbrev pub u : Tables

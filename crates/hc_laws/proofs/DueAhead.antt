@@ -3,32 +3,11 @@ use Rattle.std.proofs.Common.{◌≡◌, ◌⊎◌, inl, inr, ℕ, ◌≤◌, Li
 use Rattle.std.specs.Prelude.{◌&&◌, if◌then◌else◌}
 use Rattle.hc_text.proofs.Basics.{not_some as none_some, same_some as same_row, some_inj}
 use Rattle.hc_sparse.specs.Cells.{Covers}
-use Rattle.hc_event.specs.declared.act.Cause.{Cause}
-use Rattle.hc_event.specs.declared.event.Event.{Event}
+use Rattle.hc_effects.proofs.Vocabulary.{Cause, Event, Response, base_of, HeadCase, Limits, BoundBy, case_at, consumer_heard, consumer_acted, becomes_shared, denial, Entry, base, front, is_for, becomes_due, stop_cause, cause_of_head, cause_by_case, Flaw, entry_of, Measures, Owners, is_written, offset, own_open, reads, Tables, Exchange, Representation, Consumer, Sound, IsBound, IsExclusiveWriter, IsHad, after_accepted, has_more}
 use Rattle.hc_event.specs.declared.event.Event.TheVariants as event
-use Rattle.hc_event.specs.declared.event.Response.{Response}
-use Rattle.hc_rules.specs.Lengths.{base_of}
-use Rattle.hc_rules.specs.declared.heads.HeadCase.{HeadCase}
 use Rattle.hc_rules.specs.declared.heads.HeadCase.TheVariants as case
-use Rattle.hc_rules.specs.declared.room.Limits.{Limits}
-use Rattle.hc_event.specs.declared.place.BoundBy.{BoundBy}
 use Rattle.hc_event.specs.declared.place.Place.TheVariants as place
-use Rattle.hc_model.specs.Cases.{case_at}
-use Rattle.hc_model.specs.ConsumerRows.{consumer_heard, consumer_acted, becomes_shared}
-use Rattle.hc_model.specs.Denials.{denial}
-use Rattle.hc_model.specs.Entries.{Entry}
-use Rattle.hc_model.specs.Exchanges.{base, front, is_for}
-use Rattle.hc_model.specs.Failures.{becomes_due, stop_cause, cause_of_head, cause_by_case}
-use Rattle.hc_model.specs.Flaws.{Flaw}
-use Rattle.hc_model.specs.Keys.{entry_of}
-use Rattle.hc_model.specs.Measures.{Measures}
-use Rattle.hc_model.specs.Owners.{Owners}
-use Rattle.hc_model.specs.Reading.{is_written, offset, own_open, reads}
-use Rattle.hc_model.specs.Rows.{Tables, Exchange, Representation, Consumer}
-use Rattle.hc_model.specs.Sound.{Sound, IsBound, IsExclusiveWriter, IsHad}
 use Rattle.hc_model.specs.Sound as sound
-use Rattle.hc_model.specs.Tables.{after_accepted}
-use Rattle.hc_model.specs.Writers.{has_more}
 use Rattle.hc_effects.proofs.AboutKeeps.{own_open_is}
 use Rattle.hc_effects.proofs.Basics.{false_true, some_row}
 use Rattle.hc_effects.proofs.Beside.{IsBeside}

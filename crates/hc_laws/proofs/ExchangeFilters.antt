@@ -5,21 +5,10 @@ use Rattle.std.specs.Option.{option_map_or, option_or}
 use Rattle.std.proofs.lemmas.List.{append-nil}
 use Rattle.std.proofs.lemmas.Bool.Decides.{nat_tests}
 use Rattle.hc_text.proofs.Basics.{bool_cases, or_false, or_none}
-use Rattle.hc_event.specs.Filters.{Opening, opening_in, is_denied}
-use Rattle.hc_event.specs.declared.event.Event.{Event}
+use Rattle.hc_effects.proofs.Vocabulary.{Opening, opening_in, is_denied, Event, Response, Limits, head_refusal, piece_refusal, end_refusal, denial, as_open, Entry, History, Contents, promised_bytes, exchange_after, exchange_heard, exchange_made, with_head, with_piece, Tables, Exchange, IsRun, IsOwed, tables, after, each, first, if_accepted, opening_of, opened_in}
 use Rattle.hc_event.specs.declared.event.Event.TheVariants as event
-use Rattle.hc_event.specs.declared.event.Response.{Response}
-use Rattle.hc_rules.specs.declared.room.Limits.{Limits}
-use Rattle.hc_rules.specs.Refusals.{head_refusal, piece_refusal, end_refusal}
 use Rattle.hc_rules.specs.Refusals as refusals
-use Rattle.hc_model.specs.Denials.{denial, as_open}
-use Rattle.hc_model.specs.Entries.{Entry, History, Contents}
-use Rattle.hc_model.specs.Exchanges.{promised_bytes}
-use Rattle.hc_model.specs.ExchangeRows.{exchange_after, exchange_heard, exchange_made, with_head, with_piece}
-use Rattle.hc_model.specs.Rows.{Tables, Exchange}
-use Rattle.hc_model.specs.Runs.{IsRun, IsOwed}
-use Rattle.hc_model.specs.Tables.{tables, after}
-use Rattle.hc_model.specs.Histories.{Answered, each, first, if_accepted, opening_at, opening_of, head_in, head_of, bytes_in, delivered_of, ends_in, has_ended, opened_in, answered_in}
+use Rattle.hc_model.specs.Histories.{Answered, opening_at, head_in, head_of, bytes_in, delivered_of, ends_in, has_ended, answered_in}
 use Rattle.hc_effects.proofs.Once.{never}
 use Rattle.hc_effects.proofs.Owed.{goes, denied_opens}
 use Rattle.hc_effects.proofs.ConsumerFilters.{first_more}

@@ -2,22 +2,9 @@
 use Rattle.std.proofs.Common.{◌≡◌, ◌⊎◌, inl, inr, ℕ, true, false, Option, Some, None, ap, sym, ◌∙◌, subst}
 use Rattle.std.specs.Prelude.{is_some}
 use Rattle.hc_text.proofs.Basics.{bool_cases, same_some as same_row}
-use Rattle.hc_event.specs.declared.event.Event.{Event}
-use Rattle.hc_rules.specs.declared.room.Limits.{Limits}
+use Rattle.hc_effects.proofs.Vocabulary.{Event, Limits, BoundBy, loses_in, denial, Entry, Flaw, entry_of, Measures, Owners, Tables, Representation, Consumer, Sound, IsFirst, IsExclusiveWriter, after_accepted, came_alone, loses_writing, survivor, goes_on_with}
 use Rattle.hc_event.specs.declared.place.Place.TheVariants as place
-use Rattle.hc_event.specs.declared.place.BoundBy.{BoundBy}
-use Rattle.hc_model.specs.ActFilters.{loses_in}
-use Rattle.hc_model.specs.Denials.{denial}
-use Rattle.hc_model.specs.Entries.{Entry}
-use Rattle.hc_model.specs.Flaws.{Flaw}
-use Rattle.hc_model.specs.Keys.{entry_of}
-use Rattle.hc_model.specs.Measures.{Measures}
-use Rattle.hc_model.specs.Owners.{Owners}
-use Rattle.hc_model.specs.Rows.{Tables, Representation, Consumer}
-use Rattle.hc_model.specs.Sound.{Sound, IsFirst, IsExclusiveWriter}
 use Rattle.hc_model.specs.Sound as sound
-use Rattle.hc_model.specs.Tables.{after_accepted}
-use Rattle.hc_model.specs.Writers.{came_alone, loses_writing, survivor, goes_on_with}
 use Rattle.hc_effects.proofs.Basics.{or_false}
 use Rattle.hc_effects.proofs.Exclusives.{IsExclusive, exclusive_parts}
 use Rattle.hc_effects.proofs.FirstKeeps.{came_kept}

@@ -3,35 +3,13 @@ use Rattle.std.proofs.Common.{◌≡◌, ◌⊎◌, inl, inr, ℕ, [], ◌∷◌
 use Rattle.std.specs.Prelude.{is_some, ◌&&◌, ◌||◌, not}
 use Rattle.std.specs.Option.{option_and_then}
 use Rattle.hc_text.proofs.Basics.{and_off as and_none, not_some as none_some, or_rest as or_right, same_some as same_row, some_inj}
-use Rattle.hc_event.specs.Filters.{opening_in, shows_in, closes_in}
-use Rattle.hc_event.specs.declared.event.Event.{Event}
+use Rattle.hc_effects.proofs.Vocabulary.{opening_in, shows_in, closes_in, Event, Response, Why, Limits, Place, consumer_made, consumer_after, denial, Entry, exchange_after, exchange_heard, exchange_acted, exchange_made, is_headless, Flaw, shown_in, entry_of, Move, Nothing, Shows, Fails, Owners, IsPast, move_of, if_headless, shows_at, shows_direct, shows_answer, reads, own_open, Tables, Exchange, Consumer, may_stand, Sound, after_accepted, after_denied, first_tables, Contents}
 use Rattle.hc_event.specs.declared.event.Event.TheVariants as event
-use Rattle.hc_event.specs.declared.event.Response.{Response}
 use Rattle.hc_event.specs.declared.act.Wait.TheVariants as wait
-use Rattle.hc_event.specs.declared.act.Why.{Why}
-use Rattle.hc_rules.specs.declared.room.Limits.{Limits}
 use Rattle.hc_event.specs.declared.place.BoundBy.TheVariants as by
-use Rattle.hc_event.specs.declared.place.Place.{Place}
 use Rattle.hc_event.specs.declared.place.Place.TheVariants as place
-use Rattle.hc_model.specs.ConsumerRows.{consumer_made, consumer_after}
-use Rattle.hc_model.specs.Denials.{denial}
-use Rattle.hc_model.specs.Entries.{Entry}
-use Rattle.hc_model.specs.ExchangeRows.{exchange_after, exchange_heard, exchange_acted, exchange_made}
-use Rattle.hc_model.specs.Exchanges.{is_headless}
-use Rattle.hc_model.specs.Flaws.{Flaw}
-use Rattle.hc_model.specs.Histories.{shown_in}
-use Rattle.hc_model.specs.Keys.{entry_of}
 use Rattle.hc_model.specs.Moves as moves
-use Rattle.hc_model.specs.Moves.{Move, Nothing, Shows, Fails}
-use Rattle.hc_model.specs.Owners.{Owners, IsPast}
 use Rattle.hc_model.specs.Owners as owners
-use Rattle.hc_model.specs.Polls.{move_of, if_headless, shows_at, shows_direct, shows_answer}
-use Rattle.hc_model.specs.Reading.{reads, own_open}
-use Rattle.hc_model.specs.Rows.{Tables, Exchange, Consumer}
-use Rattle.hc_model.specs.Runs.{may_stand}
-use Rattle.hc_model.specs.Sound.{Sound}
-use Rattle.hc_model.specs.Tables.{after_accepted, after_denied, first_tables}
-use Rattle.hc_model.specs.Entries.{Contents}
 use Rattle.hc_effects.proofs.Basics.{false_true}
 use Rattle.hc_effects.proofs.ExchangeFrom.{IsHeaded}
 use Rattle.hc_effects.proofs.Forward.{is_on}

@@ -6,27 +6,11 @@
 use Rattle.std.proofs.Common.{◌≡◌, inl, inr, ℕ, List, Bool, true, false, Option, Some, None, refl, ap, sym, ◌∙◌}
 use Rattle.std.specs.Prelude.{if◌then◌else◌, ◌||◌}
 use Rattle.hc_text.proofs.Basics.{and_left, and_right, or_cases}
-use Rattle.hc_event.specs.Filters.{is_denied}
-use Rattle.hc_event.specs.declared.act.Act.{Act}
-use Rattle.hc_event.specs.declared.act.LostKind.{LostKind}
+use Rattle.hc_effects.proofs.Vocabulary.{is_denied, Act, LostKind, Refusal, Event, Response, Limits, Room, has_loss, without_losses, answer, accepted_acts, denied_or, case_of, is_founding, is_joining, denial, Entry, entry_without_acts, Flaw, NoFlaw, Loses, Misreads, flaw_in, is_fault, failures_in, Tables, Exchange, IsOwed, may_stand, may_be, may_lose, has_room, flaw_by_room, size_flaw, owed, room_for, written_representation, written_in, head_writes, may_validate, lossless}
 use Rattle.hc_event.specs.declared.act.LostKind.TheVariants as kind
-use Rattle.hc_event.specs.declared.act.Refusal.{Refusal}
-use Rattle.hc_event.specs.declared.event.Event.{Event}
 use Rattle.hc_event.specs.declared.event.Event.TheVariants as event
-use Rattle.hc_event.specs.declared.event.Response.{Response}
-use Rattle.hc_rules.specs.declared.room.Limits.{Limits}
-use Rattle.hc_rules.specs.declared.room.Room.{Room}
 use Rattle.hc_rules.specs.declared.room.Room.TheVariants as room
-use Rattle.hc_model.specs.ActFilters.{has_loss, without_losses}
-use Rattle.hc_model.specs.Answers.{answer, accepted_acts, denied_or}
-use Rattle.hc_model.specs.Cases.{case_of, is_founding, is_joining}
-use Rattle.hc_model.specs.Denials.{denial}
-use Rattle.hc_model.specs.Entries.{Entry, entry_without_acts}
-use Rattle.hc_model.specs.Flaws.{Flaw, NoFlaw, Loses, Misreads, flaw_in, is_fault, failures_in}
-use Rattle.hc_model.specs.Rows.{Tables, Exchange}
-use Rattle.hc_model.specs.Runs.{IsOwed, FaultlessAreOwed, may_stand, may_be, may_lose, has_room, flaw_by_room, size_flaw, owed}
-use Rattle.hc_model.specs.Weights.{room_for}
-use Rattle.hc_model.specs.Writes.{written_representation, written_in, head_writes, may_validate, lossless}
+use Rattle.hc_model.specs.Runs.{FaultlessAreOwed}
 use Rattle.hc_effects.proofs.Basics.{false_true, true_false, number_is}
 use Rattle.hc_effects.proofs.FoundCases.{no_loss}
 use Rattle.hc_laws.proofs.Undenied.{undenied}

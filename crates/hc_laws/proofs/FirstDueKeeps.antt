@@ -2,29 +2,11 @@
 use Rattle.std.proofs.Common.{◌≡◌, inl, inr, ℕ, true, false, Option, Some, None, refl, ap, sym, ◌∙◌, subst}
 use Rattle.std.specs.Prelude.{is_some}
 use Rattle.hc_text.proofs.Basics.{same_some as same_row}
-use Rattle.hc_event.specs.Filters.{Opening, opening_in}
-use Rattle.hc_event.specs.declared.event.Event.{Event}
+use Rattle.hc_effects.proofs.Vocabulary.{Opening, opening_in, Event, Response, Limits, BoundBy, Showing, showing_in, consumer_heard, consumer_acted, by_opening, waiting, route_of, current, denial, Entry, Flaw, entry_of, Owners, bound_to, reads, Tables, Exchange, Representation, Consumer, Sound, IsBound, IsFirst, after_accepted, came_alone}
 use Rattle.hc_event.specs.declared.event.Event.TheVariants as event
-use Rattle.hc_event.specs.declared.event.Response.{Response}
-use Rattle.hc_rules.specs.declared.room.Limits.{Limits}
 use Rattle.hc_event.specs.declared.place.Place.TheVariants as place
-use Rattle.hc_event.specs.declared.place.BoundBy.{BoundBy}
-use Rattle.hc_model.specs.ActFilters.{Showing, showing_in}
-use Rattle.hc_model.specs.ConsumerRows.{consumer_heard, consumer_acted, by_opening, waiting}
-use Rattle.hc_rules.specs.Needs.{route_of}
 use Rattle.hc_rules.specs.declared.need.Route.TheVariants as route
-use Rattle.hc_model.specs.Currents.{current}
-use Rattle.hc_model.specs.Denials.{denial}
-use Rattle.hc_model.specs.Entries.{Entry}
-use Rattle.hc_model.specs.Flaws.{Flaw}
-use Rattle.hc_model.specs.Keys.{entry_of}
-use Rattle.hc_model.specs.Owners.{Owners}
-use Rattle.hc_model.specs.Reading.{bound_to, reads}
-use Rattle.hc_model.specs.Rows.{Tables, Exchange, Representation, Consumer}
-use Rattle.hc_model.specs.Sound.{Sound, IsBound, IsFirst}
 use Rattle.hc_model.specs.Sound as sound
-use Rattle.hc_model.specs.Tables.{after_accepted}
-use Rattle.hc_model.specs.Writers.{came_alone}
 use Rattle.hc_effects.proofs.Basics.{false_true}
 use Rattle.hc_effects.proofs.BoundFrom.{BoundFrom, IsRow, IsShown, bound_from}
 use Rattle.hc_effects.proofs.BoundFrom as from

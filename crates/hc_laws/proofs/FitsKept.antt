@@ -6,48 +6,16 @@ use Rattle.std.specs.Option.{option_and_then}
 use Rattle.std.proofs.lemmas.Bool.Decides.{nat_tests}
 use Rattle.std.proofs.lemmas.List.Sums.{sum_by-cons}
 use Rattle.hc_text.proofs.Basics.{and_left, and_right, bool_cases, not_some as none_some, not_true as not_false, same_some as same_row, some_inj}
-use Rattle.hc_event.specs.Filters.{opening_in, evicts_in, is_denied}
-use Rattle.hc_event.specs.declared.act.Act.{Act}
+use Rattle.hc_effects.proofs.Vocabulary.{opening_in, evicts_in, is_denied, Act, Event, Response, HeadCase, Limits, Room, Write, head_case, weight_of, gives_way, grown_by, is_too_large, room_of, AreOnce, BoundBy, loses_in, has_loss, answer_acts, loss_acts, close_acts, case_at, case_of, head_view, is_founding, consumer_heard, by_head, place_by_case, by_opening, waiting, is_current, denial, Entry, entry_without_acts, promise_in, family, exchange_at, is_for, Flaw, NoFlaw, Loses, Misreads, flaw_in, becomes_gone, goes_itself, entry_of, Measures, Owners, bound, reads, representation_heard, Tables, Exchange, Representation, Consumer, may_stand, may_be, may_misread, has_room, Sound, Among, IsBound, founds, with_item_first, after_accepted, weight, weight_in, weights, idle, is_idle, is_replacing, moves_on, stays_bound, stays_current, room_by, room_for, write_in, write_of_piece, piece_write, first_idle, evicted}
 use Rattle.hc_event.specs.declared.act.Act.TheVariants as act
-use Rattle.hc_event.specs.declared.event.Event.{Event}
 use Rattle.hc_event.specs.declared.event.Event.TheVariants as event
-use Rattle.hc_event.specs.declared.event.Response.{Response}
-use Rattle.hc_rules.specs.declared.heads.HeadCase.{HeadCase}
 use Rattle.hc_rules.specs.declared.heads.HeadCase.TheVariants as case
-use Rattle.hc_rules.specs.declared.room.Limits.{Limits}
-use Rattle.hc_rules.specs.declared.room.Room.{Room}
 use Rattle.hc_rules.specs.declared.room.Room.TheVariants as room
-use Rattle.hc_rules.specs.declared.room.Write.{Write}
 use Rattle.hc_rules.specs.declared.room.Write.TheVariants as write
-use Rattle.hc_rules.specs.HeadCases.{head_case}
-use Rattle.hc_rules.specs.Rooms.{weight_of, gives_way, grown_by, is_too_large, room_of}
 use Rattle.hc_rules.specs.Rooms as rooms
-use Rattle.hc_model.specs.Orders.{AreOnce}
 use Rattle.hc_event.specs.declared.place.Place.TheVariants as place
-use Rattle.hc_event.specs.declared.place.BoundBy.{BoundBy}
 use Rattle.hc_event.specs.declared.place.BoundBy.TheVariants as by
-use Rattle.hc_model.specs.ActFilters.{loses_in, has_loss}
-use Rattle.hc_model.specs.Answers.{answer_acts, loss_acts, close_acts}
-use Rattle.hc_model.specs.Cases.{case_at, case_of, head_view, is_founding}
-use Rattle.hc_model.specs.ConsumerRows.{consumer_heard, by_head, place_by_case, by_opening, waiting}
-use Rattle.hc_model.specs.Currents.{is_current}
-use Rattle.hc_model.specs.Denials.{denial}
-use Rattle.hc_model.specs.Entries.{Entry, entry_without_acts}
-use Rattle.hc_model.specs.ExchangeRows.{promise_in}
-use Rattle.hc_model.specs.Exchanges.{family, exchange_at, is_for}
-use Rattle.hc_model.specs.Flaws.{Flaw, NoFlaw, Loses, Misreads, flaw_in}
-use Rattle.hc_model.specs.Gone.{becomes_gone, goes_itself}
-use Rattle.hc_model.specs.Keys.{entry_of}
-use Rattle.hc_model.specs.Measures.{Measures}
-use Rattle.hc_model.specs.Owners.{Owners}
-use Rattle.hc_model.specs.Reading.{bound, reads}
-use Rattle.hc_model.specs.RepresentationRows.{representation_heard}
-use Rattle.hc_model.specs.Rows.{Tables, Exchange, Representation, Consumer}
-use Rattle.hc_model.specs.Runs.{may_stand, may_be, may_misread, has_room}
-use Rattle.hc_model.specs.Sound.{Sound, Among, IsBound}
 use Rattle.hc_model.specs.Sound as sound
-use Rattle.hc_model.specs.Tables.{founds, with_item_first, after_accepted}
-use Rattle.hc_model.specs.Weights.{weight, weight_in, weights, idle, is_idle, is_replacing, moves_on, stays_bound, stays_current, room_by, room_for, write_in, write_of_piece, piece_write, first_idle, evicted}
 use Rattle.hc_effects.proofs.Basics.{false_true, true_false, or_false, some_row, number_yes}
 use Rattle.hc_effects.proofs.BoundFrom.{BoundFrom, IsRow, bound_from, place_inj}
 use Rattle.hc_effects.proofs.BoundFrom as from

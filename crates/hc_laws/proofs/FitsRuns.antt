@@ -6,35 +6,10 @@ use Rattle.std.specs.Option.{option_or}
 use Rattle.std.proofs.lemmas.Bool.Decides.{nat_tests}
 use Rattle.std.proofs.lemmas.List.Sums.{sum_by-cons}
 use Rattle.hc_text.proofs.Basics.{and_left, and_right, bool_cases, not_some as none_some, some_inj}
-use Rattle.hc_event.specs.Filters.{Opening, opening_in, is_denied}
-use Rattle.hc_event.specs.declared.event.Event.{Event}
+use Rattle.hc_effects.proofs.Vocabulary.{Opening, opening_in, is_denied, Event, Response, Act, Limits, head_case, route_of, weight_of, Showing, showing_in, has_loss, accepted_acts, may_begin, are_good, is_good, says, weights_of, case_at, case_of, head_view, is_founding, was_shown, current, is_usable, denial, Entry, Content, Contents, entry_without_acts, exchange_in, Flaw, flaw_in, entry_of, OfRunsIn, IsSmallPiece, count_evicted, Measures, AreOnce, Owners, bound, reads, Tables, Exchange, Representation, Consumer, IsOwed, Sound, Among, tables, first_tables, representation_of_content, numbers, bytes_in, founds, with_item_first, is_hole, binds, binds_by_opening, binds_by_showing, to_front, after_accepted, after_denied, weights}
 use Rattle.hc_event.specs.declared.event.Event.TheVariants as event
-use Rattle.hc_event.specs.declared.event.Response.{Response}
-use Rattle.hc_event.specs.declared.act.Act.{Act}
-use Rattle.hc_rules.specs.declared.room.Limits.{Limits}
-use Rattle.hc_rules.specs.HeadCases.{head_case}
-use Rattle.hc_rules.specs.Needs.{route_of}
-use Rattle.hc_rules.specs.Rooms.{weight_of}
-use Rattle.hc_model.specs.ActFilters.{Showing, showing_in, has_loss}
-use Rattle.hc_model.specs.Answers.{accepted_acts}
-use Rattle.hc_model.specs.Beginnings.{may_begin, are_good, is_good, says, weights_of}
-use Rattle.hc_model.specs.Cases.{case_at, case_of, head_view, is_founding, was_shown}
-use Rattle.hc_model.specs.Currents.{current, is_usable}
-use Rattle.hc_model.specs.Denials.{denial}
-use Rattle.hc_model.specs.Entries.{Entry, Content, Contents, entry_without_acts}
-use Rattle.hc_model.specs.Exchanges.{exchange_in}
-use Rattle.hc_model.specs.Flaws.{Flaw, flaw_in}
-use Rattle.hc_model.specs.Keys.{entry_of}
-use Rattle.hc_model.specs.Laws.{OfRunsIn, FitsInRuns, FewInRuns, IsSmallPiece, count_evicted}
-use Rattle.hc_model.specs.Measures.{Measures}
-use Rattle.hc_model.specs.Orders.{AreOnce}
-use Rattle.hc_model.specs.Owners.{Owners}
-use Rattle.hc_model.specs.Reading.{bound, reads}
-use Rattle.hc_model.specs.Rows.{Tables, Exchange, Representation, Consumer}
-use Rattle.hc_model.specs.Runs.{IsOwed}
-use Rattle.hc_model.specs.Sound.{Sound, Among}
-use Rattle.hc_model.specs.Tables.{tables, first_tables, representation_of_content, numbers, bytes_in, founds, with_item_first, is_hole, is_reading, binds, binds_by_opening, binds_by_showing, to_front, after_accepted, after_denied}
-use Rattle.hc_model.specs.Weights.{weights}
+use Rattle.hc_model.specs.Laws.{FitsInRuns, FewInRuns}
+use Rattle.hc_model.specs.Tables.{is_reading}
 use Rattle.hc_effects.proofs.Basics.{false_true}
 use Rattle.hc_effects.proofs.Closed.{among_filter}
 use Rattle.hc_effects.proofs.BoundKeeps.{planned_at, shown_place_is}

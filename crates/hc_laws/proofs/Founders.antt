@@ -2,21 +2,8 @@
 use Rattle.std.proofs.Common.{◌≡◌, ◌⊎◌, inl, inr, ℕ, Bool, true, false, Some, None, refl, ap, sym, ◌∙◌}
 use Rattle.std.specs.Prelude.{if◌then◌else◌}
 use Rattle.hc_text.proofs.Basics.{bool_cases, not_some as none_some}
-use Rattle.hc_event.specs.declared.event.Event.{Event}
+use Rattle.hc_effects.proofs.Vocabulary.{Event, Response, Limits, head_case, has_loss, case_at, head_view, is_founding, is_joining, denial, Entry, Flaw, entry_of, Owners, Tables, Exchange, Representation, Sound, after_accepted}
 use Rattle.hc_event.specs.declared.event.Event.TheVariants as event
-use Rattle.hc_event.specs.declared.event.Response.{Response}
-use Rattle.hc_rules.specs.declared.room.Limits.{Limits}
-use Rattle.hc_rules.specs.HeadCases.{head_case}
-use Rattle.hc_model.specs.ActFilters.{has_loss}
-use Rattle.hc_model.specs.Cases.{case_at, head_view, is_founding, is_joining}
-use Rattle.hc_model.specs.Denials.{denial}
-use Rattle.hc_model.specs.Entries.{Entry}
-use Rattle.hc_model.specs.Flaws.{Flaw}
-use Rattle.hc_model.specs.Keys.{entry_of}
-use Rattle.hc_model.specs.Owners.{Owners}
-use Rattle.hc_model.specs.Rows.{Tables, Exchange, Representation}
-use Rattle.hc_model.specs.Sound.{Sound}
-use Rattle.hc_model.specs.Tables.{after_accepted}
 use Rattle.hc_effects.proofs.Basics.{false_true}
 use Rattle.hc_effects.proofs.ExchangeFrom.{ExchangeFrom, IsHeaded, exchange_from}
 use Rattle.hc_effects.proofs.ExchangeFrom as exchange

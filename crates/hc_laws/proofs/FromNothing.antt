@@ -2,9 +2,7 @@
 use Rattle.std.proofs.Common.{◌≡◌, ℕ, true, arith}
 use Rattle.std.specs.Prelude.{nat_le}
 use Rattle.std.proofs.lemmas.Bool.Decides.{nat_tests}
-use Rattle.hc_rules.specs.declared.room.Limits.{Limits}
-use Rattle.hc_model.specs.Beginnings.{may_begin}
-use Rattle.hc_model.specs.Entries.{no_contents}
+use Rattle.hc_effects.proofs.Vocabulary.{Limits, may_begin, no_contents}
 
 no_weight : (n : ℕ) → nat_le 0 n ≡ true
 no_weight n = grind (arith, nat_tests)

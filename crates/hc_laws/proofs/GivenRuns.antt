@@ -6,22 +6,9 @@ use Rattle.std.proofs.lemmas.Bool.Decides.{nat_tests}
 use Rattle.hc_text.proofs.Basics.{bool_cases, some_inj}
 use Rattle.hc_sparse.specs.Cells.{Cell, Covers}
 use Rattle.hc_event.specs.declared.place.Place.TheVariants as place
-use Rattle.hc_event.specs.declared.place.BoundBy.{BoundBy}
-use Rattle.hc_model.specs.Currents.{total_in}
+use Rattle.hc_effects.proofs.Vocabulary.{BoundBy, total_in, given_of, OfRuns, IsRun, may_begin, History, Contents, Limits, Measures, hi_of, lo_of, reads, Holds, cell_by, Tables, Representation, Consumer, Sound, tables}
 use Rattle.hc_model.specs.Given.{Given, IsWithin}
-use Rattle.hc_model.specs.Histories.{given_of}
-use Rattle.hc_model.specs.Laws.{OfRuns}
-use Rattle.hc_model.specs.Runs.{IsRun}
-use Rattle.hc_model.specs.Beginnings.{may_begin}
-use Rattle.hc_model.specs.Entries.{History, Contents}
-use Rattle.hc_rules.specs.declared.room.Limits.{Limits}
-use Rattle.hc_model.specs.Measures.{Measures}
-use Rattle.hc_model.specs.Reading.{hi_of, lo_of, reads}
-use Rattle.hc_model.specs.Reads.{Holds, cell_by}
-use Rattle.hc_model.specs.Rows.{Tables, Representation, Consumer}
-use Rattle.hc_model.specs.Sound.{Sound}
 use Rattle.hc_model.specs.Sound as sound
-use Rattle.hc_model.specs.Tables.{tables}
 use Rattle.hc_effects.proofs.Basics.{false_true, some_row}
 use Rattle.hc_effects.proofs.Bounded.{IsBounded}
 use Rattle.hc_effects.proofs.GivenNext.{read_of}

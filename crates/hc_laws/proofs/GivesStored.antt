@@ -11,33 +11,13 @@ use Rattle.hc_sparse.specs.Cells.{Cells, Cell}
 use Rattle.hc_sparse.specs.Runs.{end_of}
 use Rattle.hc_sparse.specs.Stretch.{stretch, stretch_of}
 use Rattle.hc_sparse.specs.declared.run.Run.{Run}
-use Rattle.hc_event.specs.Filters.{given_in}
+use Rattle.hc_effects.proofs.Vocabulary.{given_in, Response, read_step, is_at_end, cut_at, stored_or, held_or, fails_or, waits_or, ReadStep, Limits, Place, BoundBy, row_of, Entry, is_headless, failures_in, OfHistories, Turns, Gives, gives, acts_of, Owners, planned_move, move_of, shows_at, if_headless, waits_for_head, or_else, by_place, bound_to, lo_of, offset, hi_of, own_open, source, Tables, Exchange, Representation, Consumer, Sound, IsBound, IsAbout, InHole, bound_row, stored_from, stored_ahead, read_view, step_move, reading, tables}
 use Rattle.hc_event.specs.declared.event.Event.TheVariants as event
-use Rattle.hc_event.specs.declared.event.Response.{Response}
-use Rattle.hc_rules.specs.Readings.{read_step, is_at_end, cut_at, stored_or, held_or, fails_or, waits_or}
 use Rattle.hc_rules.specs.Readings as readings
-use Rattle.hc_rules.specs.declared.reading.ReadStep.{ReadStep}
 use Rattle.hc_rules.specs.declared.reading.ReadStep.TheVariants as step
-use Rattle.hc_rules.specs.declared.room.Limits.{Limits}
-use Rattle.hc_event.specs.declared.place.Place.{Place}
 use Rattle.hc_event.specs.declared.place.Place.TheVariants as place
-use Rattle.hc_event.specs.declared.place.BoundBy.{BoundBy}
-use Rattle.hc_model.specs.Currents.{row_of}
-use Rattle.hc_model.specs.Entries.{Entry}
-use Rattle.hc_model.specs.Exchanges.{is_headless}
-use Rattle.hc_model.specs.Flaws.{failures_in}
-use Rattle.hc_model.specs.Laws.{OfHistories, Turns}
-use Rattle.hc_model.specs.Moves.{Gives, gives, acts_of}
-use Rattle.hc_model.specs.Owners.{Owners}
-use Rattle.hc_model.specs.Planning.{planned_move}
-use Rattle.hc_model.specs.Polls.{move_of, shows_at, if_headless, waits_for_head, or_else, by_place}
-use Rattle.hc_model.specs.Reading.{bound_to, lo_of, offset, hi_of, own_open, source}
 use Rattle.hc_model.specs.Reads.{GivesStored}
-use Rattle.hc_model.specs.Rows.{Tables, Exchange, Representation, Consumer}
-use Rattle.hc_model.specs.Sound.{Sound, IsBound, IsAbout, InHole}
 use Rattle.hc_model.specs.Sound as sound
-use Rattle.hc_model.specs.Steps.{bound_row, stored_from, stored_ahead, read_view, step_move, reading}
-use Rattle.hc_model.specs.Tables.{tables}
 use Rattle.hc_effects.proofs.AboutKeeps.{own_open_of}
 use Rattle.hc_laws.proofs.AtHoles.{AreAtHoles, at_holes_in_runs}
 use Rattle.hc_effects.proofs.Basics.{false_true, some_row}

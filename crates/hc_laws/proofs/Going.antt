@@ -4,14 +4,9 @@ use Rattle.std.specs.Prelude.{nat_eq, unwrap_or}
 use Rattle.std.specs.Option.{option_or}
 use Rattle.hc_text.proofs.Basics.{eq_itself as eq-refl, some_inj}
 use Rattle.hc_event.specs.declared.act.Wait.TheVariants as wait
-use Rattle.hc_rules.specs.Least.{least, lesser}
-use Rattle.hc_model.specs.Laws.{Turns, WaitsForNobody, TurnsGo, ReadersGo}
-use Rattle.hc_model.specs.Lines.{turn, turn_with, holder, line}
+use Rattle.hc_effects.proofs.Vocabulary.{least, lesser, Turns, WaitsForNobody, turn, turn_with, holder, line, Move, bound_to, Tables, Consumer, Sound}
+use Rattle.hc_model.specs.Laws.{TurnsGo, ReadersGo}
 use Rattle.hc_model.specs.Moves as moves
-use Rattle.hc_model.specs.Moves.{Move}
-use Rattle.hc_model.specs.Reading.{bound_to}
-use Rattle.hc_model.specs.Rows.{Tables, Consumer}
-use Rattle.hc_model.specs.Sound.{Sound}
 use Rattle.hc_model.specs.Sound as sound
 use Rattle.hc_effects.proofs.TurnMoves.{Does, does_polled}
 use Rattle.hc_effects.proofs.TurnMoves as does

@@ -6,36 +6,10 @@ use Rattle.hc_text.proofs.Basics.{and_left, and_right, bool_cases, not_some as n
 use Rattle.hc_sparse.specs.Cells.{cells_with, Cells, Covers}
 use Rattle.hc_sparse.proofs.CellLemmas.{inside-cases}
 use Rattle.hc_range.specs.declared.range.ContentRange.TheVariants as range
-use Rattle.hc_event.specs.declared.event.Event.{Event}
+use Rattle.hc_effects.proofs.Vocabulary.{Event, Response, Need, Length, Limits, head_case, length_of, base_of, promise_of, route_of, has_loss, loses_in, case_at, head_view, is_joining, row_of, denial, Entry, exchange_heard, exchange_acted, promise_in, base, promised_bytes, front, length_by, is_open, is_reached, Flaw, founded_total, covers, absent_from, entry_of, Measures, Owners, is_written, new_representation, resumes, hole_start, is_last_part, writer_at, Tables, Exchange, Representation, may_stand, Sound, IsGrowing, InHole, end_from, after_accepted}
 use Rattle.hc_event.specs.declared.event.Event.TheVariants as event
-use Rattle.hc_event.specs.declared.event.Response.{Response}
-use Rattle.hc_event.specs.declared.act.Need.{Need}
-use Rattle.hc_rules.specs.declared.length.Length.{Length}
 use Rattle.hc_rules.specs.declared.length.Length.TheVariants as told
 use Rattle.hc_rules.specs.declared.need.Route.TheVariants as route
-use Rattle.hc_rules.specs.declared.room.Limits.{Limits}
-use Rattle.hc_rules.specs.HeadCases.{head_case}
-use Rattle.hc_rules.specs.Lengths.{length_of, base_of, promise_of}
-use Rattle.hc_rules.specs.Needs.{route_of}
-use Rattle.hc_model.specs.ActFilters.{has_loss, loses_in}
-use Rattle.hc_model.specs.Cases.{case_at, head_view, is_joining}
-use Rattle.hc_model.specs.Currents.{row_of}
-use Rattle.hc_model.specs.Denials.{denial}
-use Rattle.hc_model.specs.Entries.{Entry}
-use Rattle.hc_model.specs.ExchangeRows.{exchange_heard, exchange_acted, promise_in}
-use Rattle.hc_model.specs.Exchanges.{base, promised_bytes, front, length_by, is_open, is_reached}
-use Rattle.hc_model.specs.Flaws.{Flaw}
-use Rattle.hc_model.specs.Heads.{founded_total}
-use Rattle.hc_model.specs.Holes.{covers, absent_from}
-use Rattle.hc_model.specs.Keys.{entry_of}
-use Rattle.hc_model.specs.Measures.{Measures}
-use Rattle.hc_model.specs.Owners.{Owners}
-use Rattle.hc_model.specs.Reading.{is_written}
-use Rattle.hc_model.specs.RepresentationRows.{new_representation, resumes, hole_start, is_last_part, writer_at}
-use Rattle.hc_model.specs.Rows.{Tables, Exchange, Representation}
-use Rattle.hc_model.specs.Runs.{may_stand}
-use Rattle.hc_model.specs.Sound.{Sound, IsGrowing, InHole, end_from}
-use Rattle.hc_model.specs.Tables.{after_accepted}
 use Rattle.hc_effects.proofs.ApartKeeps.{IsOn, is_on, was_written}
 use Rattle.hc_effects.proofs.Basics.{false_true, number_is}
 use Rattle.hc_effects.proofs.ExchangeFrom.{IsSame, IsHeaded}

@@ -4,27 +4,10 @@ use Rattle.std.specs.Prelude.{if◌then◌else◌, is_some, ◌==◌, unwrap_or,
 use Rattle.std.specs.List.{list_any}
 use Rattle.std.proofs.lemmas.Bool.Decides.{nat_tests}
 use Rattle.hc_text.proofs.Basics.{and_left, and_right, bool_cases, not_some as none_some}
-use Rattle.hc_event.specs.Filters.{is_denied}
-use Rattle.hc_event.specs.declared.event.Event.{Event}
-use Rattle.hc_event.specs.declared.event.Response.{Response}
-use Rattle.hc_rules.specs.declared.room.Limits.{Limits}
-use Rattle.hc_model.specs.ActFilters.{has_loss}
-use Rattle.hc_model.specs.Cases.{case_at, is_joining}
-use Rattle.hc_model.specs.Denials.{denial}
-use Rattle.hc_model.specs.Entries.{Entry}
-use Rattle.hc_model.specs.Exchanges.{family, is_open}
-use Rattle.hc_model.specs.Flaws.{Flaw, flaw_in}
-use Rattle.hc_model.specs.Growing.{Grows, IsComing, Growing, StopsGrowing, StopsInRuns}
-use Rattle.hc_model.specs.Keys.{entry_of}
-use Rattle.hc_model.specs.Kinds.{is_growing, brings_to}
-use Rattle.hc_model.specs.Laws.{OfRuns}
-use Rattle.hc_model.specs.Measures.{Measures, IsMeasured}
+use Rattle.hc_effects.proofs.Vocabulary.{is_denied, Event, Response, Limits, has_loss, case_at, is_joining, denial, Entry, family, is_open, Flaw, flaw_in, Grows, IsComing, entry_of, is_growing, brings_to, OfRuns, Measures, IsMeasured, is_written, Tables, Exchange, Representation, Sound, IsAbout, tables, after_accepted, after_denied}
+use Rattle.hc_model.specs.Growing.{Growing, StopsGrowing, StopsInRuns}
 use Rattle.hc_model.specs.Measures as measures
-use Rattle.hc_model.specs.Reading.{is_written}
-use Rattle.hc_model.specs.Rows.{Tables, Exchange, Representation}
-use Rattle.hc_model.specs.Sound.{Sound, IsAbout}
 use Rattle.hc_model.specs.Sound as sound
-use Rattle.hc_model.specs.Tables.{tables, after_accepted, after_denied}
 use Rattle.hc_effects.proofs.ApartKeeps.{is_on}
 use Rattle.hc_laws.proofs.Barred.{next_tables, denied_tables}
 use Rattle.hc_effects.proofs.Basics.{false_true, some_row}

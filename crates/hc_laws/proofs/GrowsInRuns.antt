@@ -5,21 +5,8 @@ use Rattle.std.proofs.Math.ListN.{get_or-append}
 use Rattle.std.proofs.lemmas.Bool.Decides.{nat_tests}
 use Rattle.hc_text.proofs.Basics.{and_left, and_right, bool_cases, not_some as none_some, same_some as same_row, some_inj}
 use Rattle.hc_sparse.specs.Cells.{Cell}
-use Rattle.hc_event.specs.Filters.{is_denied}
-use Rattle.hc_event.specs.declared.event.Event.{Event}
-use Rattle.hc_rules.specs.declared.room.Limits.{Limits}
-use Rattle.hc_rules.specs.Lengths.{base_of}
-use Rattle.hc_model.specs.Denials.{denial}
-use Rattle.hc_model.specs.Entries.{Entry, History, Contents}
-use Rattle.hc_model.specs.Exchanges.{base, front}
-use Rattle.hc_model.specs.Flaws.{Flaw}
-use Rattle.hc_model.specs.Keys.{entry_of}
+use Rattle.hc_effects.proofs.Vocabulary.{is_denied, Event, Limits, base_of, denial, Entry, History, Contents, base, front, Flaw, entry_of, answer_cell, direct_cell, cell_by, body_of, Tables, Exchange, Representation, IsOwed, Sound, tables, after_accepted, after_denied}
 use Rattle.hc_model.specs.Laws.{Grows, BodiesGrowInRuns}
-use Rattle.hc_model.specs.Reads.{answer_cell, direct_cell, cell_by, body_of}
-use Rattle.hc_model.specs.Rows.{Tables, Exchange, Representation}
-use Rattle.hc_model.specs.Runs.{IsOwed}
-use Rattle.hc_model.specs.Sound.{Sound}
-use Rattle.hc_model.specs.Tables.{tables, after_accepted, after_denied}
 use Rattle.hc_laws.proofs.Barred.{next_tables, denied_tables}
 use Rattle.hc_effects.proofs.Basics.{false_true}
 use Rattle.hc_effects.proofs.ExchangeFrom.{IsSame, IsHeaded}

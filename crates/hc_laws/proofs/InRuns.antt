@@ -1,18 +1,9 @@
 -- One key, one turn and the barrier of dooms in each run from contents by which a store may begin.
 use Rattle.std.proofs.Common.{◌≡◌, ℕ, [], ◌∷◌, Bool, true, false, refl, subst}
-use Rattle.hc_event.specs.Filters.{is_denied}
-use Rattle.hc_rules.specs.declared.room.Limits.{Limits}
-use Rattle.hc_model.specs.Currents.{current}
-use Rattle.hc_model.specs.Entries.{Entry, History, Contents}
-use Rattle.hc_model.specs.Flaws.{flaw_in}
-use Rattle.hc_model.specs.Keys.{IsOfOneKey, KeepsOthers}
-use Rattle.hc_model.specs.Beginnings.{may_begin}
-use Rattle.hc_model.specs.Laws.{OfRuns, DeliversOnce, HasOneTurn, Turns, HasPassed, IsBarred, DoomsInRuns, KeysInRuns, OfHistories, IsBoundBehindDooms}
-use Rattle.hc_model.specs.Rows.{Tables, Consumer}
-use Rattle.hc_model.specs.Runs.{IsRun, IsOwed}
-use Rattle.hc_model.specs.Sound.{Sound, IsBound}
+use Rattle.hc_effects.proofs.Vocabulary.{is_denied, Limits, current, Entry, History, Contents, flaw_in, IsOfOneKey, may_begin, OfRuns, DeliversOnce, HasOneTurn, Turns, HasPassed, IsBarred, OfHistories, IsBoundBehindDooms, Tables, Consumer, IsRun, IsOwed, Sound, IsBound, tables, after_accepted, after_denied}
+use Rattle.hc_model.specs.Keys.{KeepsOthers}
+use Rattle.hc_model.specs.Laws.{DoomsInRuns, KeysInRuns}
 use Rattle.hc_model.specs.Sound as sound
-use Rattle.hc_model.specs.Tables.{tables, after_accepted, after_denied}
 use Rattle.hc_laws.proofs.Barred.{next_tables, denied_tables, barrier_is_kept, barrier_begins, binds_behind}
 use Rattle.hc_laws.proofs.KeysPlaces.{keys_are_kept, keys_begin}
 use Rattle.hc_laws.proofs.OneKey.{law_of_one_key}

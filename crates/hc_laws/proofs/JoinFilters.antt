@@ -4,20 +4,10 @@ use Rattle.std.specs.Prelude.{if◌then◌else◌, ◌==◌, option_and_then}
 use Rattle.std.specs.Option.{option_map_or, option_or}
 use Rattle.std.proofs.lemmas.Bool.Decides.{nat_tests}
 use Rattle.hc_text.proofs.Basics.{bool_cases, or_none}
-use Rattle.hc_event.specs.Filters.{Opening, opening_in, is_denied}
-use Rattle.hc_event.specs.declared.event.Event.{Event}
+use Rattle.hc_effects.proofs.Vocabulary.{Opening, opening_in, is_denied, Event, Limits, head_refusal, case_at, is_joining, denial, as_open, Entry, History, Contents, exchange_after, exchange_heard, exchange_made, Tables, Exchange, IsRun, IsOwed, tables, after, each_after, first, if_accepted, joined_of}
 use Rattle.hc_event.specs.declared.event.Event.TheVariants as event
-use Rattle.hc_rules.specs.declared.room.Limits.{Limits}
-use Rattle.hc_rules.specs.Refusals.{head_refusal}
 use Rattle.hc_rules.specs.Refusals as refusals
-use Rattle.hc_model.specs.Cases.{case_at, is_joining}
-use Rattle.hc_model.specs.Denials.{denial, as_open}
-use Rattle.hc_model.specs.Entries.{Entry, History, Contents}
-use Rattle.hc_model.specs.ExchangeRows.{exchange_after, exchange_heard, exchange_made}
-use Rattle.hc_model.specs.Rows.{Tables, Exchange}
-use Rattle.hc_model.specs.Runs.{IsRun, IsOwed}
-use Rattle.hc_model.specs.Tables.{tables, after}
-use Rattle.hc_model.specs.Histories.{each_after, first, if_accepted, joining_in, joining_at, joined_of, ExchangesAreFiltered}
+use Rattle.hc_model.specs.Histories.{joining_in, joining_at, ExchangesAreFiltered}
 use Rattle.hc_effects.proofs.Basics.{some_none}
 use Rattle.hc_effects.proofs.Owed.{goes}
 use Rattle.hc_effects.proofs.ConsumerFilters.{first_more}

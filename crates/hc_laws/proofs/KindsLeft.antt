@@ -6,10 +6,7 @@ use Rattle.hc_text.proofs.Basics.{both_true as and_both, and_left, and_right, bo
 use Rattle.hc_record.specs.declared.kind.Kind.{Kind}
 use Rattle.hc_record.specs.declared.kind.Kind.TheVariants as kind
 use Rattle.hc_sparse.specs.Cells.{Cells, Covers, EndsBy, size_below}
-use Rattle.hc_model.specs.Beginnings.{kind_of_runs, same_kind}
-use Rattle.hc_model.specs.Contents.{runs_from}
-use Rattle.hc_model.specs.Holes.{covers}
-use Rattle.hc_model.specs.Tables.{last_end, bytes_in}
+use Rattle.hc_effects.proofs.Vocabulary.{kind_of_runs, same_kind, runs_from, covers, last_end, bytes_in}
 use Rattle.hc_effects.proofs.Basics.{false_true}
 use Rattle.hc_effects.proofs.HoleLemmas.{covers_all, covers_yes}
 use Rattle.hc_laws.proofs.Positions.{below_full, below_most, full_below, no_other_below}

@@ -1,6 +1,5 @@
 -- The tables of every run keep the laws.
-use Rattle.hc_model.specs.Lawful.{Lawful}
-use Rattle.hc_model.specs.Laws.{OfRuns}
+use Rattle.hc_effects.proofs.Vocabulary.{Lawful, OfRuns}
 use Rattle.hc_laws.proofs.AloneRuns.{alone_in_runs}
 use Rattle.hc_laws.proofs.GivenRuns.{given_in_runs}
 use Rattle.hc_laws.proofs.GrowingRuns.{growing_in_runs}

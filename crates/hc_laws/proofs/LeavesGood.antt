@@ -7,30 +7,14 @@ use Rattle.std.proofs.lemmas.List.Sums.{sum_by-cons}
 use Rattle.hc_text.proofs.Basics.{both_true as and_both, and_left, and_right, bool_cases, not_some as none_some, some_inj}
 use Rattle.hc_record.specs.declared.kind.Kind.TheVariants as kind
 use Rattle.hc_rules.proofs.RangeReads.{same_bytes}
-use Rattle.hc_rules.specs.Rooms.{weight_of}
-use Rattle.hc_rules.specs.declared.room.Limits.{Limits}
+use Rattle.hc_effects.proofs.Vocabulary.{weight_of, Limits, may_begin, are_good, is_good, is_given_out, has_own_numbers, is_own_run, says, is_kind_right, same_kind, kind_of_runs, ascend_from, needs_tag, is_whole, has_right_head, weights_of, runs_from, content_of, content_at, idle_now, contents_of, is_current, Content, Contents, family, covers, kind_of, brings_to, is_complete, covers_all, is_front, IsInLimits, AreOnce, HasByte, Origins, bound, is_written, Tables, Exchange, Representation, Sizes, Sound, Among, IsStored, StoredHeads, AreWithinLimits, IsOfOne, Tags, tables, bytes_in, last_end, KeysAreTargets}
 use Rattle.hc_sparse.specs.Cells.{Covers}
 use Rattle.hc_sparse.specs.declared.run.Run.{Run}
-use Rattle.hc_model.specs.Beginnings.{may_begin, are_good, is_good, is_given_out, has_own_numbers, is_own_run, says, is_kind_right, same_kind, kind_of_runs, ascend_from, needs_tag, is_whole, has_right_head, weights_of}
-use Rattle.hc_model.specs.Contents.{runs_from, content_of, content_at, is_idle, idle_now, contents_of}
-use Rattle.hc_model.specs.Currents.{is_current}
-use Rattle.hc_model.specs.Entries.{Content, Contents}
-use Rattle.hc_model.specs.Exchanges.{family}
-use Rattle.hc_model.specs.Holes.{covers}
-use Rattle.hc_model.specs.Kinds.{kind_of, brings_to, is_complete, covers_all, is_front}
-use Rattle.hc_model.specs.Laws.{LeavesInRuns, IsInLimits}
-use Rattle.hc_model.specs.Orders.{AreOnce}
-use Rattle.hc_model.specs.Origins.{HasByte, Origins}
+use Rattle.hc_model.specs.Contents.{is_idle}
+use Rattle.hc_model.specs.Laws.{LeavesInRuns}
 use Rattle.hc_model.specs.Origins as origins
-use Rattle.hc_model.specs.Reading.{bound, is_written}
-use Rattle.hc_model.specs.Rows.{Tables, Exchange, Representation}
-use Rattle.hc_model.specs.Sizes.{Sizes}
-use Rattle.hc_model.specs.Sound.{Sound, Among, IsStored}
 use Rattle.hc_model.specs.Sound as sound
-use Rattle.hc_model.specs.StoredHeads.{StoredHeads, AreWithinLimits, IsOfOne, Tags}
 use Rattle.hc_model.specs.StoredHeads as heads
-use Rattle.hc_model.specs.Tables.{tables, bytes_in, last_end}
-use Rattle.hc_model.specs.WithinLimits.{KeysAreTargets}
 use Rattle.hc_effects.proofs.Basics.{false_true}
 use Rattle.hc_laws.proofs.FitsKept.{Fits}
 use Rattle.hc_effects.proofs.HoleLemmas.{covers_yes}

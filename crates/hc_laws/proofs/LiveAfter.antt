@@ -4,21 +4,9 @@
 use Rattle.std.proofs.Common.{◌≡◌, ◌⊎◌, inl, inr, ℕ, Bool, true, false, Option, Some, None, refl, ap, sym, ◌∙◌, arith}
 use Rattle.std.specs.Prelude.{nat_eq, if◌then◌else◌}
 use Rattle.std.proofs.lemmas.Bool.Decides.{nat_tests}
-use Rattle.hc_event.specs.Filters.{is_denied}
-use Rattle.hc_event.specs.declared.event.Event.{Event}
+use Rattle.hc_effects.proofs.Vocabulary.{is_denied, Event, Place, Limits, accepted_acts, consumer_after, consumer_made, new_consumer, is_live, is_live_place, Entry, flaw_in, Lawful, Tables, Consumer, IsOwed, after, after_accepted, after_denied}
 use Rattle.hc_event.specs.declared.event.Event.TheVariants as event
-use Rattle.hc_event.specs.declared.place.Place.{Place}
 use Rattle.hc_event.specs.declared.place.Place.TheVariants as place
-use Rattle.hc_rules.specs.declared.room.Limits.{Limits}
-use Rattle.hc_model.specs.Answers.{accepted_acts}
-use Rattle.hc_model.specs.ConsumerRows.{consumer_after, consumer_made, new_consumer}
-use Rattle.hc_model.specs.Denials.{is_live, is_live_place}
-use Rattle.hc_model.specs.Entries.{Entry}
-use Rattle.hc_model.specs.Flaws.{flaw_in}
-use Rattle.hc_model.specs.Lawful.{Lawful}
-use Rattle.hc_model.specs.Rows.{Tables, Consumer}
-use Rattle.hc_model.specs.Runs.{IsOwed}
-use Rattle.hc_model.specs.Tables.{after, after_accepted, after_denied}
 use Rattle.hc_effects.proofs.Owed.{goes, acts_are}
 use Rattle.hc_laws.proofs.LiveRuns.{stays_over}
 

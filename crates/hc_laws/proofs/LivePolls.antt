@@ -10,37 +10,11 @@ use Rattle.hc_sparse.specs.Cells.{Cells, Cell}
 use Rattle.hc_sparse.specs.Runs.{end_of}
 use Rattle.hc_sparse.specs.Stretch.{stretch, stretch_of}
 use Rattle.hc_sparse.specs.declared.run.Run.{Run}
-use Rattle.hc_event.specs.declared.act.Cause.{Cause}
-use Rattle.hc_event.specs.declared.act.Why.{Why}
-use Rattle.hc_event.specs.declared.event.Request.{Request}
-use Rattle.hc_event.specs.declared.event.Response.{Response}
-use Rattle.hc_rules.specs.declared.plan.Candidate.{Candidate}
-use Rattle.hc_rules.specs.declared.plan.Plan.{Plan}
-use Rattle.hc_rules.specs.declared.reading.ReadStep.{ReadStep}
-use Rattle.hc_rules.specs.declared.reading.ReadView.{ReadView}
-use Rattle.hc_rules.specs.Plans.{plan_of}
-use Rattle.hc_rules.specs.Readings.{read_step, is_at_end, stored_or, held_or, fails_or, waits_or}
+use Rattle.hc_effects.proofs.Vocabulary.{Cause, Why, Request, Response, Candidate, Plan, ReadStep, ReadView, plan_of, read_step, is_at_end, stored_or, held_or, fails_or, waits_or, Place, BoundBy, MoveEnds, current, is_number, row_of, is_live_place, Endings, Unended, base, front, is_open, is_headless, is_wanted, stretch_to, Move, gives, waits_for, opens_hole, shows_stored, Places, ReadsPast, plan_view, plan_move, binds_current, current_row, shows_at, shows_bound, shows_direct, shows_answer, has_joined, move_of, bound_to, offset, lo_of, hi_of, own_open, source, shared_exchange, writing_in, is_written, is_open_writer, base_in, Tables, Exchange, Representation, Consumer, Sound, IsBound, IsServed, bound_row, stored_ahead, stored_from, run_held_for, held_at, held_of_exchange, run_of, read_view, later_hole, step_move, reading, most, came_alone}
 use Rattle.hc_rules.specs.Readings as readings
-use Rattle.hc_event.specs.declared.place.Place.{Place}
 use Rattle.hc_event.specs.declared.place.Place.TheVariants as place
-use Rattle.hc_event.specs.declared.place.BoundBy.{BoundBy}
 use Rattle.hc_event.specs.declared.place.BoundBy.TheVariants as how
-use Rattle.hc_model.specs.Chains.{MoveEnds}
-use Rattle.hc_model.specs.Currents.{current, is_number, row_of}
-use Rattle.hc_model.specs.Denials.{is_live_place}
-use Rattle.hc_model.specs.Endings.{Endings, Unended}
-use Rattle.hc_model.specs.Exchanges.{base, front, is_open, is_headless, is_wanted}
-use Rattle.hc_model.specs.Holes.{stretch_to}
-use Rattle.hc_model.specs.Moves.{Move, gives, waits_for, opens_hole, shows_stored}
-use Rattle.hc_model.specs.Places.{Places, ReadsPast}
-use Rattle.hc_model.specs.Planning.{plan_view, plan_move, binds_current, current_row}
-use Rattle.hc_model.specs.Polls.{shows_at, shows_bound, shows_direct, shows_answer, has_joined, move_of}
-use Rattle.hc_model.specs.Reading.{bound_to, offset, lo_of, hi_of, own_open, source, shared_exchange, writing_in, is_written, is_open_writer, base_in}
-use Rattle.hc_model.specs.Rows.{Tables, Exchange, Representation, Consumer}
-use Rattle.hc_model.specs.Sound.{Sound, IsBound, IsServed}
 use Rattle.hc_model.specs.Sound as sound
-use Rattle.hc_model.specs.Steps.{bound_row, stored_ahead, stored_from, run_held_for, held_at, held_of_exchange, run_of, read_view, later_hole, step_move, reading, most}
-use Rattle.hc_model.specs.Writers.{came_alone}
 use Rattle.hc_effects.proofs.AboutKeeps.{own_open_of, own_open_is}
 use Rattle.hc_effects.proofs.Basics.{false_true, some_none, some_row}
 use Rattle.hc_effects.proofs.GivenNext.{some_ahead}

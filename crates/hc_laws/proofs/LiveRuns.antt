@@ -4,34 +4,13 @@ use Rattle.std.specs.Prelude.{filter, nat_eq, nat_lt, nat_le, is_none, ◌||◌,
 use Rattle.std.proofs.lemmas.Bool.Decides.{nat_tests}
 use Rattle.hc_text.proofs.Basics.{bool_cases, not_some as none_some, never_true as not_so, and_off as right_off}
 use Rattle.hc_event.specs.declared.act.Refusal.TheVariants as refusal
-use Rattle.hc_event.specs.declared.event.Event.{Event}
+use Rattle.hc_effects.proofs.Vocabulary.{Event, Request, Response, Limits, Place, has_loss, case_at, case_of, consumer_heard, consumer_made, consumer_after, by_fault, back_in_line, denial, is_live, is_live_place, live, doomed_key_of, is_key, Entry, is_for, Flaw, is_event_for, beside, StartsOverBy, entry_of, OfRuns, OfRunsIn, Descends, Owners, IsAwaiting, Tables, Exchange, Consumer, Sound, starts_over, waits_at, sends_back, loses_what_it_waits_for, after_accepted, starts_after}
 use Rattle.hc_event.specs.declared.event.Event.TheVariants as event
-use Rattle.hc_event.specs.declared.event.Request.{Request}
-use Rattle.hc_event.specs.declared.event.Response.{Response}
 use Rattle.hc_rules.specs.Refusals as refusals
-use Rattle.hc_rules.specs.declared.room.Limits.{Limits}
-use Rattle.hc_event.specs.declared.place.Place.{Place}
 use Rattle.hc_event.specs.declared.place.Place.TheVariants as place
-use Rattle.hc_model.specs.ActFilters.{has_loss}
-use Rattle.hc_model.specs.Cases.{case_at, case_of}
-use Rattle.hc_model.specs.ConsumerRows.{consumer_heard, consumer_made, consumer_after, by_fault, back_in_line}
-use Rattle.hc_model.specs.Denials.{denial, is_live, is_live_place, live}
-use Rattle.hc_model.specs.Dooms.{doomed_key_of, is_key}
-use Rattle.hc_model.specs.Entries.{Entry}
-use Rattle.hc_model.specs.Exchanges.{is_for}
-use Rattle.hc_model.specs.Flaws.{Flaw}
-use Rattle.hc_model.specs.Frames.{is_event_for, beside, StartsOverBy}
 use Rattle.hc_model.specs.Frames as frames
-use Rattle.hc_model.specs.Keys.{entry_of}
-use Rattle.hc_model.specs.Laws.{OfRuns, OfRunsIn}
 use Rattle.hc_model.specs.Live.{FewLive}
-use Rattle.hc_model.specs.Orders.{Descends}
-use Rattle.hc_model.specs.Owners.{Owners, IsAwaiting}
 use Rattle.hc_model.specs.Owners as owners
-use Rattle.hc_model.specs.Rows.{Tables, Exchange, Consumer}
-use Rattle.hc_model.specs.Sound.{Sound}
-use Rattle.hc_model.specs.StartingOver.{starts_over, waits_at, sends_back, loses_what_it_waits_for}
-use Rattle.hc_model.specs.Tables.{after_accepted, starts_after}
 use Rattle.hc_effects.proofs.Basics.{false_true, true_false, some_none}
 use Rattle.hc_effects.proofs.EventsKeep.{poll_live}
 use Rattle.hc_effects.proofs.FirstKeeps.{is_new}

@@ -2,34 +2,11 @@
 use Rattle.std.proofs.Common.{◌≡◌, ◌⊎◌, inl, inr, ℕ, ◌<◌, Bool, true, false, Option, Some, None, refl, ap, sym, ◌∙◌, subst, arith}
 use Rattle.std.specs.Prelude.{is_some, is_none, ◌&&◌, ◌||◌}
 use Rattle.hc_text.proofs.Basics.{all_three, and_left, and_right, bool_cases, not_some as none_some, or_off_right as or_right, same_some as same_row, some_inj}
-use Rattle.hc_event.specs.Filters.{Opening, opening_in}
-use Rattle.hc_event.specs.declared.event.Event.{Event}
+use Rattle.hc_effects.proofs.Vocabulary.{Opening, opening_in, Event, Response, route_of, Limits, BoundBy, loses_in, Showing, showing_in, consumer_heard, consumer_acted, by_opening, waiting, current, denial, Entry, is_open, aim_from, becomes_due, Flaw, entry_of, Measures, Owners, move_of, is_written, own_open, offset, hi_of, bound_to, reads, Tables, Exchange, Representation, Consumer, Sound, IsBound, IsFirst, after_accepted, came_alone, may_write, has_more, lacks_some, exclusive, brings_body}
 use Rattle.hc_event.specs.declared.event.Event.TheVariants as event
-use Rattle.hc_event.specs.declared.event.Response.{Response}
-use Rattle.hc_rules.specs.Needs.{route_of}
 use Rattle.hc_rules.specs.declared.need.Route.TheVariants as route
-use Rattle.hc_rules.specs.declared.room.Limits.{Limits}
 use Rattle.hc_event.specs.declared.place.Place.TheVariants as place
-use Rattle.hc_event.specs.declared.place.BoundBy.{BoundBy}
-use Rattle.hc_model.specs.ActFilters.{loses_in, Showing, showing_in}
-use Rattle.hc_model.specs.ConsumerRows.{consumer_heard, consumer_acted, by_opening, waiting}
-use Rattle.hc_model.specs.Currents.{current}
-use Rattle.hc_model.specs.Denials.{denial}
-use Rattle.hc_model.specs.Entries.{Entry}
-use Rattle.hc_model.specs.Exchanges.{is_open}
-use Rattle.hc_model.specs.ExchangeRows.{aim_from}
-use Rattle.hc_model.specs.Failures.{becomes_due}
-use Rattle.hc_model.specs.Flaws.{Flaw}
-use Rattle.hc_model.specs.Keys.{entry_of}
-use Rattle.hc_model.specs.Measures.{Measures}
-use Rattle.hc_model.specs.Owners.{Owners}
-use Rattle.hc_model.specs.Polls.{move_of}
-use Rattle.hc_model.specs.Reading.{is_written, own_open, offset, hi_of, bound_to, reads}
-use Rattle.hc_model.specs.Rows.{Tables, Exchange, Representation, Consumer}
-use Rattle.hc_model.specs.Sound.{Sound, IsBound, IsFirst}
 use Rattle.hc_model.specs.Sound as sound
-use Rattle.hc_model.specs.Tables.{after_accepted}
-use Rattle.hc_model.specs.Writers.{came_alone, may_write, has_more, lacks_some, exclusive, brings_body}
 use Rattle.hc_effects.proofs.AboutKeeps.{own_open_of, own_open_is}
 use Rattle.hc_effects.proofs.ApartKeeps.{written_by}
 use Rattle.hc_effects.proofs.Basics.{false_true, or_false}

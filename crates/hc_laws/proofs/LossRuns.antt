@@ -8,24 +8,10 @@ use Rattle.std.proofs.lemmas.Bool.Decides.{nat_tests}
 use Rattle.hc_text.proofs.Basics.{bool_cases, not_some as none_some, same_some as same_row, some_inj}
 use Rattle.hc_sparse.specs.Cells.{Cell, Cells, Covers}
 use Rattle.hc_sparse.specs.Stretch.{bytes_from, goes_on, stretch, stretch_of}
-use Rattle.hc_event.specs.Filters.{is_denied}
-use Rattle.hc_event.specs.declared.event.Response.{Response}
-use Rattle.hc_rules.specs.declared.room.Limits.{Limits}
+use Rattle.hc_effects.proofs.Vocabulary.{is_denied, Response, Limits, BoundBy, is_number, Entry, Contents, base, front, flaw_in, OfRuns, Brings, HoldsOwn, cell_from, offset, Tables, Exchange, Representation, Consumer, IsOwed, Sound, IsBound, run_held_for, held_at, held_of_lost, run_of, tables, first_tables, after, after_accepted, after_denied}
 use Rattle.hc_event.specs.declared.place.Place.TheVariants as place
-use Rattle.hc_event.specs.declared.place.BoundBy.{BoundBy}
-use Rattle.hc_model.specs.Currents.{is_number}
-use Rattle.hc_model.specs.Entries.{Entry, Contents}
-use Rattle.hc_model.specs.Exchanges.{base, front}
-use Rattle.hc_model.specs.Flaws.{flaw_in}
-use Rattle.hc_model.specs.Laws.{OfRuns}
-use Rattle.hc_model.specs.Losses.{Brings, Losses, IsHeldFrom, HoldsOwn, cell_from}
-use Rattle.hc_model.specs.Reading.{offset}
-use Rattle.hc_model.specs.Rows.{Tables, Exchange, Representation, Consumer}
-use Rattle.hc_model.specs.Runs.{IsOwed}
-use Rattle.hc_model.specs.Sound.{Sound, IsBound}
+use Rattle.hc_model.specs.Losses.{Losses, IsHeldFrom}
 use Rattle.hc_model.specs.Sound as sound
-use Rattle.hc_model.specs.Steps.{run_held_for, held_at, held_of_lost, run_of}
-use Rattle.hc_model.specs.Tables.{tables, first_tables, after, after_accepted, after_denied}
 use Rattle.hc_effects.proofs.Basics.{false_true}
 use Rattle.hc_laws.proofs.BringsRuns.{brings_in_runs}
 use Rattle.hc_laws.proofs.DueAhead.{IsAhead, AreAhead, ahead_kept}

@@ -7,12 +7,7 @@ use Rattle.hc_sparse.proofs.CellLemmas.{inside-cases}
 use Rattle.hc_sparse.specs.Cells.{cells_with, Cells}
 use Rattle.hc_sparse.specs.Runs.{cells_of, end_of}
 use Rattle.hc_sparse.specs.declared.run.Run.{Run}
-use Rattle.hc_rules.specs.declared.room.Limits.{Limits}
-use Rattle.hc_model.specs.Beginnings.{may_begin, are_good, is_good, ascend_from, is_kind_right}
-use Rattle.hc_model.specs.Entries.{Content, Contents}
-use Rattle.hc_model.specs.Measures.{Measures}
-use Rattle.hc_model.specs.Rows.{Representation}
-use Rattle.hc_model.specs.Tables.{first_tables, representation_of_content, last_end}
+use Rattle.hc_effects.proofs.Vocabulary.{Limits, may_begin, are_good, is_good, ascend_from, is_kind_right, Content, Contents, Measures, Representation, first_tables, representation_of_content, last_end}
 use Rattle.hc_effects.proofs.PieceKeeps.{eq_cases}
 
 written_some : (at x p : ℕ) (bytes : List ℕ) (f : Cells) → ((p < at) ⊎ (at + length bytes ≤ p) → is_some (f p) ≡ true) → is_some (cells_with at x bytes f p) ≡ true

@@ -3,26 +3,11 @@ use Rattle.std.proofs.Common.{◌≡◌, ◌<◌, ◌≤◌, ◌⊎◌, inl, inr
 use Rattle.std.specs.Prelude.{max, option_map}
 use Rattle.std.specs.Option.{option_or}
 use Rattle.hc_text.proofs.Basics.{not_some as none_some, some_inj}
-use Rattle.hc_event.specs.Filters.{is_denied}
+use Rattle.hc_effects.proofs.Vocabulary.{is_denied, Event, base_of, Limits, BoundBy, may_begin, is_kind_right, Entry, History, Content, Contents, base, promised_bytes, front, item_of, Measures, Numbers, AreShort, Places, length_in, Tables, Exchange, Representation, Consumer, IsRun, Sound, tables, after_accepted, first_tables, representation_of_content}
 use Rattle.hc_event.specs.declared.event.Event.TheVariants as event
-use Rattle.hc_event.specs.declared.event.Event.{Event}
-use Rattle.hc_rules.specs.Lengths.{base_of}
-use Rattle.hc_rules.specs.declared.room.Limits.{Limits}
 use Rattle.hc_event.specs.declared.place.Place.TheVariants as place
-use Rattle.hc_event.specs.declared.place.BoundBy.{BoundBy}
-use Rattle.hc_model.specs.Beginnings.{may_begin, is_kind_right}
-use Rattle.hc_model.specs.Entries.{Entry, History, Content, Contents}
-use Rattle.hc_model.specs.Exchanges.{base, promised_bytes, front}
-use Rattle.hc_model.specs.Laws.{item_of}
-use Rattle.hc_model.specs.Measures.{Measures}
-use Rattle.hc_model.specs.Numbers.{Numbers, NumbersInRuns, AreShort, most, too_long}
-use Rattle.hc_model.specs.Places.{Places}
-use Rattle.hc_model.specs.RepresentationRows.{length_in}
-use Rattle.hc_model.specs.Rows.{Tables, Exchange, Representation, Consumer}
-use Rattle.hc_model.specs.Runs.{IsRun}
-use Rattle.hc_model.specs.Sound.{Sound}
+use Rattle.hc_model.specs.Numbers.{NumbersInRuns, most, too_long}
 use Rattle.hc_model.specs.Sound as sound
-use Rattle.hc_model.specs.Tables.{tables, after_accepted, first_tables, representation_of_content}
 use Rattle.hc_laws.proofs.Barred.{next_tables, denied_tables}
 use Rattle.hc_effects.proofs.Basics.{false_true, some_row}
 use Rattle.hc_effects.proofs.Bounded.{IsBounded}

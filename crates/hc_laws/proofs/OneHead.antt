@@ -2,15 +2,8 @@
 use Rattle.std.proofs.Common.{◌≡◌, ℕ, ◌≤◌, List, [], ◌∷◌, ◌++◌, length, Bool, true, false, Option, Some, None, refl, ap, sym, ◌∙◌, subst, arith, length-append}
 use Rattle.std.specs.Prelude.{not, is_none}
 use Rattle.std.specs.Option.{option_map_or}
-use Rattle.hc_event.specs.Filters.{is_denied, given_in}
-use Rattle.hc_rules.specs.declared.room.Limits.{Limits}
-use Rattle.hc_model.specs.Entries.{Entry, History, Contents}
-use Rattle.hc_model.specs.Flaws.{flaw_in}
-use Rattle.hc_model.specs.Histories.{Shown, first, shown_in, shown_of, given_of}
+use Rattle.hc_effects.proofs.Vocabulary.{is_denied, given_in, Limits, Entry, History, Contents, flaw_in, Shown, first, shown_in, shown_of, given_of, Tables, Consumer, IsRun, IsOwed, tables}
 use Rattle.hc_model.specs.Reads.{OneHeadIsShown}
-use Rattle.hc_model.specs.Rows.{Tables, Consumer}
-use Rattle.hc_model.specs.Runs.{IsRun, IsOwed}
-use Rattle.hc_model.specs.Tables.{tables}
 use Rattle.hc_effects.proofs.Owed.{acts_are, denied_gives, denied_shows}
 use Rattle.hc_effects.proofs.ReadFilters.{consumers_are_filtered, far_owed}
 use Rattle.hc_effects.proofs.ShownOnce.{IsShownWell, by_event, no_first, unshown_of}

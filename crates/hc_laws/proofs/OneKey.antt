@@ -3,24 +3,10 @@ use Rattle.std.proofs.Common.{◌≡◌, Bool, ℕ, length, true, false, Option,
 use Rattle.std.specs.Prelude.{if◌then◌else◌, ◌==◌, ◌&&◌}
 use Rattle.std.specs.Option.{option_map}
 use Rattle.hc_text.proofs.Basics.{not_some as none_some, some_inj}
-use Rattle.hc_event.specs.Filters.{Opening, opening_in, evicts_in, is_denied}
-use Rattle.hc_event.specs.declared.event.Event.{Event}
+use Rattle.hc_effects.proofs.Vocabulary.{Opening, opening_in, evicts_in, is_denied, Event, Response, head_refusal, piece_refusal, end_refusal, fault_refusal, Limits, denial, as_open, Entry, exchange_in, flaw_in, key_of, is_of_key, ExchangeKeys, ConsumerKeys, exchange_after, exchange_made, exchange_opened, consumer_after, consumer_made, new_consumer, case_at, is_founding, new_representation, founded_at, representation_after, Tables, Exchange, Representation, Consumer, IsOwed, may_stand, may_be}
 use Rattle.hc_event.specs.declared.event.Event.TheVariants as event
-use Rattle.hc_event.specs.declared.event.Response.{Response}
 use Rattle.hc_rules.specs.Refusals as refusals
-use Rattle.hc_rules.specs.Refusals.{head_refusal, piece_refusal, end_refusal, fault_refusal}
-use Rattle.hc_rules.specs.declared.room.Limits.{Limits}
-use Rattle.hc_model.specs.Denials.{denial, as_open}
-use Rattle.hc_model.specs.Entries.{Entry}
-use Rattle.hc_model.specs.Exchanges.{exchange_in}
-use Rattle.hc_model.specs.Flaws.{flaw_in}
-use Rattle.hc_model.specs.Keys.{key_of, is_of_key, concerns_exchange, concerns_representation, concerns_consumer, ExchangeKeys, ConsumerKeys, IsEvicted, LawOfOneKey}
-use Rattle.hc_model.specs.ExchangeRows.{exchange_after, exchange_made, exchange_opened}
-use Rattle.hc_model.specs.ConsumerRows.{consumer_after, consumer_made, new_consumer}
-use Rattle.hc_model.specs.Cases.{case_at, is_founding}
-use Rattle.hc_model.specs.RepresentationRows.{new_representation, founded_at, representation_after}
-use Rattle.hc_model.specs.Rows.{Tables, Exchange, Representation, Consumer}
-use Rattle.hc_model.specs.Runs.{IsOwed, may_stand, may_be}
+use Rattle.hc_model.specs.Keys.{concerns_exchange, concerns_representation, concerns_consumer, IsEvicted, LawOfOneKey}
 use Rattle.hc_effects.proofs.KeyActs as acts
 use Rattle.hc_effects.proofs.KeyNames.{IsOther}
 use Rattle.hc_effects.proofs.KeyRows.{IsFarEntry, exchange_stays, representation_row, consumer_row}

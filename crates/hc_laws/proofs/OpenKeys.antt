@@ -2,15 +2,8 @@
 use Rattle.std.proofs.Common.{◌≡◌, [], ◌∷◌, Bool, true, false, Some, refl, ap, sym, ◌∙◌}
 use Rattle.std.specs.Option.{option_map}
 use Rattle.hc_text.proofs.Basics.{not_some as none_some}
-use Rattle.hc_event.specs.Filters.{Opening, opening_in, is_denied}
-use Rattle.hc_rules.specs.declared.room.Limits.{Limits}
-use Rattle.hc_model.specs.Beginnings.{may_begin}
-use Rattle.hc_model.specs.Entries.{Entry, History, Contents}
+use Rattle.hc_effects.proofs.Vocabulary.{Opening, opening_in, is_denied, Limits, may_begin, Entry, History, Contents, OfHistories, Consumer, IsRun, IsOwed, tables}
 use Rattle.hc_model.specs.Keys.{IsOfItsStart, OpensForKey}
-use Rattle.hc_model.specs.Laws.{OfHistories}
-use Rattle.hc_model.specs.Rows.{Consumer}
-use Rattle.hc_model.specs.Runs.{IsRun, IsOwed}
-use Rattle.hc_model.specs.Tables.{tables}
 use Rattle.hc_laws.proofs.InRuns.{turned_in_runs}
 use Rattle.hc_effects.proofs.Owed.{denied_opens}
 use Rattle.hc_laws.proofs.RepresentationFilters.{runs_are_filtered}

@@ -8,19 +8,10 @@ use Rattle.std.proofs.Common.{◌≡◌, ◌⊎◌, inl, inr, ℕ, suc, ◌+◌,
 use Rattle.std.specs.Prelude.{filter, is_some, if◌then◌else◌, ◌==◌, unwrap_or}
 use Rattle.std.specs.Option.{option_or}
 use Rattle.hc_text.proofs.Basics.{bool_cases, map_long, same_some as same_row}
-use Rattle.hc_event.specs.declared.place.Place.{Place}
+use Rattle.hc_effects.proofs.Vocabulary.{Place, live, is_live, is_live_place, family, is_open, OfRuns, open_now, Descends, InOrder, is_written, bound, own_open, shared_exchange, source, Tables, Exchange, Representation, Consumer, Sound, Among, IsBound, IsAbout, tables, Whose, IsSomebodys, may_own}
 use Rattle.hc_event.specs.declared.place.Place.TheVariants as place
-use Rattle.hc_model.specs.Denials.{live, is_live, is_live_place}
-use Rattle.hc_model.specs.Exchanges.{family, is_open}
-use Rattle.hc_model.specs.Laws.{OfRuns}
-use Rattle.hc_model.specs.Live.{IsReader, FewOpen, open_now}
-use Rattle.hc_model.specs.Orders.{Descends, InOrder}
-use Rattle.hc_model.specs.Reading.{is_written, bound, own_open, shared_exchange, source}
-use Rattle.hc_model.specs.Rows.{Tables, Exchange, Representation, Consumer}
-use Rattle.hc_model.specs.Sound.{Sound, Among, IsBound, IsAbout}
+use Rattle.hc_model.specs.Live.{IsReader, FewOpen}
 use Rattle.hc_model.specs.Sound as sound
-use Rattle.hc_model.specs.Tables.{tables}
-use Rattle.hc_model.specs.Whose.{Whose, IsSomebodys, may_own}
 use Rattle.hc_model.specs.Whose as whose
 use Rattle.hc_effects.proofs.AboutKeeps.{own_open_is}
 use Rattle.hc_effects.proofs.Basics.{false_true}

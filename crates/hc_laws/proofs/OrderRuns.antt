@@ -1,17 +1,7 @@
 -- The lists stand in order in every run.
 use Rattle.std.proofs.Common.{◌≡◌, ℕ, ◌+◌, ◌<◌, ◌≤◌, List, [], ◌∷◌, Option, Some, None, refl, arith}
-use Rattle.hc_event.specs.Filters.{Opening, opening_in}
-use Rattle.hc_event.specs.declared.event.Event.{Event}
+use Rattle.hc_effects.proofs.Vocabulary.{Opening, opening_in, Event, Limits, denial, Flaw, entry_of, OfRuns, OfRunsIn, Descends, InOrder, Tables, Sound, after_accepted, last_start_after, starts_after, opened_after, openings_after}
 use Rattle.hc_event.specs.declared.event.Event.TheVariants as event
-use Rattle.hc_rules.specs.declared.room.Limits.{Limits}
-use Rattle.hc_model.specs.Denials.{denial}
-use Rattle.hc_model.specs.Flaws.{Flaw}
-use Rattle.hc_model.specs.Keys.{entry_of}
-use Rattle.hc_model.specs.Laws.{OfRuns, OfRunsIn}
-use Rattle.hc_model.specs.Orders.{Descends, InOrder}
-use Rattle.hc_model.specs.Rows.{Tables}
-use Rattle.hc_model.specs.Sound.{Sound}
-use Rattle.hc_model.specs.Tables.{after_accepted, last_start_after, starts_after, opened_after, openings_after}
 use Rattle.hc_laws.proofs.FitsRuns.{fits}
 use Rattle.hc_effects.proofs.NumbersKeep.{opens_next, starts_later}
 use Rattle.hc_laws.proofs.RunFacts.{in_runs}

@@ -1,6 +1,5 @@
 -- In every run a number names the bytes of one body alone.
-use Rattle.hc_model.specs.Laws.{OfRuns}
-use Rattle.hc_model.specs.Origins.{Origins}
+use Rattle.hc_effects.proofs.Vocabulary.{OfRuns, Origins}
 use Rattle.hc_laws.proofs.OriginsBegin.{origins_begin}
 use Rattle.hc_laws.proofs.OriginsKeep.{origins_kept, denied_origins}
 use Rattle.hc_laws.proofs.RunFacts.{in_runs}

@@ -4,17 +4,12 @@ use Rattle.std.specs.Prelude.{is_some, find, nat_eq, nat_lt, option_map, â—Œ==â—
 use Rattle.std.specs.List.{list_any, list_all}
 use Rattle.std.proofs.lemmas.Bool.Decides.{nat_tests}
 use Rattle.hc_text.proofs.Basics.{and_left, and_right, bool_cases, not_some as none_some, not_true, or_right, some_inj}
-use Rattle.hc_rules.specs.declared.room.Limits.{Limits}
+use Rattle.hc_effects.proofs.Vocabulary.{Limits, may_begin, are_good, is_good, is_given_out, is_own_run, says, Content, Contents, HasByte, Origins, Representation, first_tables, representation_of_content}
 use Rattle.hc_sparse.proofs.CellLemmas.{inside-cases}
 use Rattle.hc_sparse.specs.Cells.{Cell}
 use Rattle.hc_sparse.specs.Runs.{cells_of}
 use Rattle.hc_sparse.specs.declared.run.Run.{Run}
-use Rattle.hc_model.specs.Beginnings.{may_begin, are_good, is_good, is_given_out, is_own_run, says}
-use Rattle.hc_model.specs.Entries.{Content, Contents}
-use Rattle.hc_model.specs.Origins.{HasByte, Origins}
 use Rattle.hc_model.specs.Origins as origins
-use Rattle.hc_model.specs.Rows.{Representation}
-use Rattle.hc_model.specs.Tables.{first_tables, representation_of_content}
 use Rattle.hc_effects.proofs.Basics.{false_true, or_false}
 use Rattle.hc_effects.proofs.PieceKeeps.{eq_cases}
 use Rattle.hc_laws.proofs.Starts.{numbers_begin}

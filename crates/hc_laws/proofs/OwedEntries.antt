@@ -8,41 +8,16 @@ use Rattle.std.proofs.Common.{◌≡◌, ◌≤◌, ℕ, List, [], ◌∷◌, �
 use Rattle.std.specs.Prelude.{if◌then◌else◌, ◌||◌, not, map}
 use Rattle.std.specs.Option.{option_and_then}
 use Rattle.hc_text.proofs.Basics.{both_true as and_both, or_left, or_right}
-use Rattle.hc_event.specs.Filters.{is_denied}
-use Rattle.hc_event.specs.declared.act.Act.{Act}
+use Rattle.hc_effects.proofs.Vocabulary.{is_denied, Act, Cause, LostKind, Refusal, Event, Response, head_refusal, Limits, Room, has_loss, without_losses, answer, accepted_acts, answer_acts, loss_acts, close_acts, denied_or, case_of, is_founding, is_joining, closing, denial, as_open, Entry, entry_without_acts, family, Flaw, NoFlaw, Loses, Misreads, flaw_in, Move, Nothing, Asks, Opens, Shows, Gives, Ends, Fails, acts_of, Places, poll_move, Tables, Exchange, Representation, Consumer, IsOwed, may_stand, may_be, may_lose, is_kept, flaw_by_room, size_flaw, owed, has_room, Sound, room_for, room_by, write_of_piece, piece_write, evicted, written_representation, head_writes, may_validate, piece_writes, unless_lost, lossless}
 use Rattle.hc_event.specs.declared.act.Act.TheVariants as act
-use Rattle.hc_event.specs.declared.act.Cause.{Cause}
 use Rattle.hc_event.specs.declared.act.Cause.TheVariants as cause
-use Rattle.hc_event.specs.declared.act.LostKind.{LostKind}
 use Rattle.hc_event.specs.declared.act.LostKind.TheVariants as kind
-use Rattle.hc_event.specs.declared.act.Refusal.{Refusal}
 use Rattle.hc_event.specs.declared.act.Refusal.TheVariants as refusal
-use Rattle.hc_event.specs.declared.event.Event.{Event}
 use Rattle.hc_event.specs.declared.event.Event.TheVariants as event
-use Rattle.hc_event.specs.declared.event.Response.{Response}
 use Rattle.hc_rules.specs.Refusals as refusals
-use Rattle.hc_rules.specs.Refusals.{head_refusal}
-use Rattle.hc_rules.specs.declared.room.Limits.{Limits}
-use Rattle.hc_rules.specs.declared.room.Room.{Room}
 use Rattle.hc_rules.specs.declared.room.Room.TheVariants as room
 use Rattle.hc_rules.specs.declared.room.Write.TheVariants as write
-use Rattle.hc_model.specs.ActFilters.{has_loss, without_losses}
-use Rattle.hc_model.specs.Answers.{answer, accepted_acts, answer_acts, loss_acts, close_acts, denied_or}
-use Rattle.hc_model.specs.Cases.{case_of, is_founding, is_joining}
-use Rattle.hc_model.specs.Closings.{closing}
-use Rattle.hc_model.specs.Denials.{denial, as_open}
-use Rattle.hc_model.specs.Entries.{Entry, entry_without_acts}
-use Rattle.hc_model.specs.Exchanges.{family}
-use Rattle.hc_model.specs.Flaws.{Flaw, NoFlaw, Loses, Misreads, flaw_in}
 use Rattle.hc_model.specs.Moves as moves
-use Rattle.hc_model.specs.Moves.{Move, Nothing, Asks, Opens, Shows, Gives, Ends, Fails, acts_of}
-use Rattle.hc_model.specs.Places.{Places}
-use Rattle.hc_model.specs.Polls.{poll_move}
-use Rattle.hc_model.specs.Rows.{Tables, Exchange, Representation, Consumer}
-use Rattle.hc_model.specs.Runs.{IsOwed, may_stand, may_be, may_lose, is_kept, flaw_by_room, size_flaw, owed, has_room}
-use Rattle.hc_model.specs.Sound.{Sound}
-use Rattle.hc_model.specs.Weights.{room_for, room_by, write_of_piece, piece_write, evicted}
-use Rattle.hc_model.specs.Writes.{written_representation, head_writes, may_validate, piece_writes, unless_lost, lossless}
 use Rattle.hc_effects.proofs.Basics.{false_true, number_yes}
 use Rattle.hc_laws.proofs.ExchangeFilters.{headless}
 use Rattle.hc_effects.proofs.FailsTold.{fails_told}

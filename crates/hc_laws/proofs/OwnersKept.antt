@@ -2,17 +2,7 @@
 use Rattle.std.proofs.Common.{◌≡◌, ℕ, true, Option, Some, None, ap, ◌∙◌}
 use Rattle.std.specs.Prelude.{option_map}
 use Rattle.hc_text.proofs.Basics.{not_some as none_some}
-use Rattle.hc_event.specs.declared.event.Event.{Event}
-use Rattle.hc_rules.specs.declared.room.Limits.{Limits}
-use Rattle.hc_model.specs.Denials.{denial}
-use Rattle.hc_model.specs.Entries.{Content, Contents}
-use Rattle.hc_model.specs.Flaws.{Flaw}
-use Rattle.hc_model.specs.Keys.{entry_of}
-use Rattle.hc_model.specs.Owners.{Owners}
-use Rattle.hc_model.specs.Rows.{Tables, Representation}
-use Rattle.hc_model.specs.Runs.{may_stand}
-use Rattle.hc_model.specs.Sound.{Sound}
-use Rattle.hc_model.specs.Tables.{after_accepted, first_tables, representation_of_content}
+use Rattle.hc_effects.proofs.Vocabulary.{Event, Limits, denial, Content, Contents, Flaw, entry_of, Owners, Tables, Representation, may_stand, Sound, after_accepted, first_tables, representation_of_content}
 use Rattle.hc_effects.proofs.ApartKeeps.{apart_kept}
 use Rattle.hc_laws.proofs.FirstDueKeeps.{first_due_kept}
 use Rattle.hc_laws.proofs.FirstDues.{idle_kept}

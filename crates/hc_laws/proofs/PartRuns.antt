@@ -4,34 +4,12 @@ use Rattle.std.specs.Prelude.{is_some, nat_eq, ◌&&◌, if◌then◌else◌}
 use Rattle.std.specs.Option.{option_or}
 use Rattle.std.proofs.lemmas.Bool.Decides.{nat_tests}
 use Rattle.hc_text.proofs.Basics.{not_some as none_some, same_some as same_row, some_inj}
-use Rattle.hc_event.specs.declared.event.Event.{Event}
+use Rattle.hc_effects.proofs.Vocabulary.{Event, Request, Response, HeadCase, Limits, range_of, wanted_of, BoundBy, has_loss, case_at, head_view, consumer_heard, waiting, denial, Entry, promise_in, Flaw, founded_total, entry_of, OfRuns, OfRunsIn, Parts, is_ranged, length_in, Tables, Exchange, Representation, Consumer, Sound, after_accepted}
 use Rattle.hc_event.specs.declared.event.Event.TheVariants as event
-use Rattle.hc_event.specs.declared.event.Request.{Request}
-use Rattle.hc_event.specs.declared.event.Response.{Response}
-use Rattle.hc_rules.specs.declared.heads.HeadCase.{HeadCase}
 use Rattle.hc_rules.specs.declared.heads.HeadCase.TheVariants as case
-use Rattle.hc_rules.specs.declared.room.Limits.{Limits}
-use Rattle.hc_rules.specs.Requests.{range_of, wanted_of}
-use Rattle.hc_event.specs.declared.place.BoundBy.{BoundBy}
 use Rattle.hc_event.specs.declared.place.BoundBy.TheVariants as by
 use Rattle.hc_event.specs.declared.place.Place.TheVariants as place
-use Rattle.hc_model.specs.ActFilters.{has_loss}
-use Rattle.hc_model.specs.Cases.{case_at, head_view}
-use Rattle.hc_model.specs.ConsumerRows.{consumer_heard, waiting}
-use Rattle.hc_model.specs.Denials.{denial}
-use Rattle.hc_model.specs.Entries.{Entry}
-use Rattle.hc_model.specs.ExchangeRows.{promise_in}
-use Rattle.hc_model.specs.Flaws.{Flaw}
-use Rattle.hc_model.specs.Heads.{founded_total}
-use Rattle.hc_model.specs.Keys.{entry_of}
-use Rattle.hc_model.specs.Laws.{OfRuns, OfRunsIn}
-use Rattle.hc_model.specs.Parts.{Parts}
-use Rattle.hc_model.specs.Planning.{is_ranged}
-use Rattle.hc_model.specs.RepresentationRows.{length_in}
-use Rattle.hc_model.specs.Rows.{Tables, Exchange, Representation, Consumer}
-use Rattle.hc_model.specs.Sound.{Sound}
 use Rattle.hc_model.specs.Sound as sound
-use Rattle.hc_model.specs.Tables.{after_accepted}
 use Rattle.hc_effects.proofs.Basics.{some_row}
 use Rattle.hc_effects.proofs.BoundFrom.{BoundFrom, IsRow, IsFounded, IsInterval, bound_from}
 use Rattle.hc_effects.proofs.BoundFrom as from

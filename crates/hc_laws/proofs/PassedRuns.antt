@@ -1,13 +1,8 @@
 -- Who was let through waits for what is current, and its 304 came from its own exchange, in every run.
 use Rattle.std.proofs.Common.{◌≡◌, ℕ, Bool, true, false, Option, Some, None, refl, subst}
 use Rattle.hc_event.specs.declared.place.Place.TheVariants as place
-use Rattle.hc_model.specs.Laws.{OfRuns, Turns}
-use Rattle.hc_model.specs.Owners.{Owners}
-use Rattle.hc_model.specs.Passed.{Passed, WaitsForCurrent, OwnsOver}
-use Rattle.hc_model.specs.Places.{Places}
-use Rattle.hc_model.specs.Reading.{own_open}
-use Rattle.hc_model.specs.Rows.{Tables, Exchange, Consumer}
-use Rattle.hc_model.specs.Tables.{tables}
+use Rattle.hc_effects.proofs.Vocabulary.{OfRuns, Turns, Owners, Passed, Places, own_open, Tables, Exchange, Consumer, tables}
+use Rattle.hc_model.specs.Passed.{WaitsForCurrent, OwnsOver}
 use Rattle.hc_effects.proofs.Basics.{some_none, some_row}
 use Rattle.hc_laws.proofs.InRuns.{turned_in_runs}
 use Rattle.hc_effects.proofs.KeyNames.{current_key}

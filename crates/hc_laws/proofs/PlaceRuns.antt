@@ -2,28 +2,12 @@
 use Rattle.std.proofs.Common.{◌≡◌, ℕ, [], ◌∷◌, Bool, true, false, Option, Some, None, refl, ap, sym, ◌∙◌, subst}
 use Rattle.std.specs.Prelude.{is_some}
 use Rattle.hc_text.proofs.Basics.{not_some as none_some, same_some as same_row}
-use Rattle.hc_event.specs.Filters.{is_denied}
-use Rattle.hc_event.specs.declared.event.Response.{Response}
+use Rattle.hc_effects.proofs.Vocabulary.{is_denied, Response, Limits, route_of, Place, Endings, Entry, History, Contents, is_open, flaw_in, entry_of, OfRuns, Turns, Owners, IsAwaiting, IsPast, IsReading, Places, IsAway, ReadsPast, own_open, reads, hi_of, end_in, Tables, Exchange, Consumer, IsOwed, Sound, tables, first_tables, after_accepted, after_denied}
 use Rattle.hc_rules.specs.declared.need.Route.TheVariants as route
-use Rattle.hc_rules.specs.declared.room.Limits.{Limits}
-use Rattle.hc_rules.specs.Needs.{route_of}
-use Rattle.hc_event.specs.declared.place.Place.{Place}
 use Rattle.hc_event.specs.declared.place.Place.TheVariants as place
 use Rattle.hc_event.specs.declared.place.BoundBy.TheVariants as by
-use Rattle.hc_model.specs.Endings.{Endings}
-use Rattle.hc_model.specs.Entries.{Entry, History, Contents}
-use Rattle.hc_model.specs.Exchanges.{is_open}
-use Rattle.hc_model.specs.Flaws.{flaw_in}
-use Rattle.hc_model.specs.Keys.{entry_of}
-use Rattle.hc_model.specs.Laws.{OfRuns, Turns}
-use Rattle.hc_model.specs.Owners.{Owners, IsAwaiting, IsPast, IsReading}
 use Rattle.hc_model.specs.Owners as owners
-use Rattle.hc_model.specs.Places.{Places, IsIdle, IsAway, AwaitsTurn, IsUnheard, ReadsPast}
-use Rattle.hc_model.specs.Reading.{own_open, reads, hi_of, end_in}
-use Rattle.hc_model.specs.Rows.{Tables, Exchange, Consumer}
-use Rattle.hc_model.specs.Runs.{IsOwed}
-use Rattle.hc_model.specs.Sound.{Sound}
-use Rattle.hc_model.specs.Tables.{tables, first_tables, after_accepted, after_denied}
+use Rattle.hc_model.specs.Places.{IsIdle, AwaitsTurn, IsUnheard}
 use Rattle.hc_laws.proofs.Barred.{next_tables, denied_tables}
 use Rattle.hc_effects.proofs.Basics.{false_true}
 use Rattle.hc_effects.proofs.Beside.{IsBeside, is_cached_place}

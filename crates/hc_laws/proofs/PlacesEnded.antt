@@ -4,32 +4,10 @@ use Rattle.std.specs.Prelude.{if◌then◌else◌, ◌==◌, ◌&&◌, not, nat_
 use Rattle.std.specs.Option.{option_or}
 use Rattle.std.proofs.lemmas.Bool.Decides.{nat_tests}
 use Rattle.hc_text.proofs.Basics.{and_left, and_right, bool_cases, not_some as none_some, never_true as not_so, or_cases, same_some as same_row, some_inj}
-use Rattle.hc_event.specs.Filters.{closes_in}
-use Rattle.hc_event.specs.declared.act.Act.{Act}
-use Rattle.hc_event.specs.declared.event.Event.{Event}
+use Rattle.hc_effects.proofs.Vocabulary.{closes_in, Act, Event, Response, Limits, case_at, must_close, is_refused, brings_head, is_doomed, awaits, has_no_survivor, is_left, leaver, consumer_heard, consumer_acted, by_head, is_number, denial, Entry, exchange_in, base, front, promised_bytes, family, is_reached, exchange_heard, exchange_acted, with_head, with_piece, promise_in, stop_cause, short_of, short_cause, Flaw, entry_of, Measures, Owners, end_of_direct, own_open, source, shared_exchange, reads, Tables, Exchange, Consumer, Sound, awaited_exchange, after_accepted}
 use Rattle.hc_event.specs.declared.event.Event.TheVariants as event
-use Rattle.hc_event.specs.declared.event.Response.{Response}
-use Rattle.hc_rules.specs.declared.room.Limits.{Limits}
 use Rattle.hc_event.specs.declared.place.Place.TheVariants as place
 use Rattle.hc_event.specs.declared.place.BoundBy.TheVariants as by
-use Rattle.hc_model.specs.Cases.{case_at}
-use Rattle.hc_model.specs.Closings.{must_close, is_refused, brings_head, is_doomed, awaits, has_no_survivor, is_left, leaver}
-use Rattle.hc_model.specs.ConsumerRows.{consumer_heard, consumer_acted, by_head}
-use Rattle.hc_model.specs.Currents.{is_number}
-use Rattle.hc_model.specs.Denials.{denial}
-use Rattle.hc_model.specs.Entries.{Entry}
-use Rattle.hc_model.specs.Exchanges.{exchange_in, base, front, promised_bytes, family, is_reached}
-use Rattle.hc_model.specs.ExchangeRows.{exchange_heard, exchange_acted, with_head, with_piece, promise_in}
-use Rattle.hc_model.specs.Failures.{stop_cause, short_of, short_cause}
-use Rattle.hc_model.specs.Flaws.{Flaw}
-use Rattle.hc_model.specs.Keys.{entry_of}
-use Rattle.hc_model.specs.Measures.{Measures}
-use Rattle.hc_model.specs.Owners.{Owners}
-use Rattle.hc_model.specs.Reading.{end_of_direct, own_open, source, shared_exchange, reads}
-use Rattle.hc_model.specs.Rows.{Tables, Exchange, Consumer}
-use Rattle.hc_model.specs.Sound.{Sound}
-use Rattle.hc_model.specs.StartingOver.{awaited_exchange}
-use Rattle.hc_model.specs.Tables.{after_accepted}
 use Rattle.hc_effects.proofs.Basics.{false_true}
 use Rattle.hc_effects.proofs.Bounded.{IsBounded}
 use Rattle.hc_effects.proofs.Closed.{before}

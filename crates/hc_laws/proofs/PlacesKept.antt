@@ -3,47 +3,14 @@ use Rattle.std.proofs.Common.{◌≡◌, ◌⊎◌, inl, inr, ℕ, List, length,
 use Rattle.std.specs.Prelude.{if◌then◌else◌, is_some, is_none, ◌==◌, ◌&&◌, not}
 use Rattle.std.specs.Option.{option_and_then}
 use Rattle.hc_text.proofs.Basics.{both_true as and_both, bool_cases, not_some as none_some, same_some as same_row, some_inj}
-use Rattle.hc_event.specs.Filters.{Opening, opening_in}
-use Rattle.hc_event.specs.declared.act.Cause.{Cause}
-use Rattle.hc_event.specs.declared.event.Event.{Event}
+use Rattle.hc_effects.proofs.Vocabulary.{Opening, opening_in, Cause, Event, Request, Response, HeadCase, head_case, Wanted, Limits, route_of, piece_refusal, range_of, wanted_of, Place, BoundBy, has_loss, loses_in, case_at, head_view, is_joining, is_refused, consumer_after, consumer_made, new_consumer, consumer_heard, consumer_acted, consumer_settled, by_head, by_fault, by_opening, becomes_shared, own_after, left_to, waiting, due_after, place_by_case, passed_on, bound_to_wanted, denial, as_open, Entry, exchange_at, exchange_in, is_for, is_headless, exchange_opened, cause_by_case, Flaw, founded_total, entry_of, Owners, IsAwaiting, IsPast, IsReading, if_headless, shows_at, shows_direct, bound_to, is_written, own_open, Tables, Exchange, Representation, Consumer, Sound, starts_over, sends_back, after_accepted, brings_body, loses_writing}
 use Rattle.hc_event.specs.declared.event.Event.TheVariants as event
-use Rattle.hc_event.specs.declared.event.Request.{Request}
-use Rattle.hc_event.specs.declared.event.Response.{Response}
-use Rattle.hc_rules.specs.declared.heads.HeadCase.{HeadCase}
-use Rattle.hc_rules.specs.HeadCases.{head_case}
 use Rattle.hc_rules.specs.declared.need.Route.TheVariants as route
-use Rattle.hc_rules.specs.declared.request.Wanted.{Wanted}
 use Rattle.hc_rules.specs.declared.request.Wanted.TheVariants as wanted
-use Rattle.hc_rules.specs.declared.room.Limits.{Limits}
-use Rattle.hc_rules.specs.Needs.{route_of}
 use Rattle.hc_rules.specs.Refusals as refusals
-use Rattle.hc_rules.specs.Refusals.{piece_refusal}
-use Rattle.hc_rules.specs.Requests.{range_of, wanted_of}
-use Rattle.hc_event.specs.declared.place.Place.{Place}
 use Rattle.hc_event.specs.declared.place.Place.TheVariants as place
-use Rattle.hc_event.specs.declared.place.BoundBy.{BoundBy}
 use Rattle.hc_event.specs.declared.place.BoundBy.TheVariants as by
-use Rattle.hc_model.specs.ActFilters.{has_loss, loses_in}
-use Rattle.hc_model.specs.Cases.{case_at, head_view, is_joining}
-use Rattle.hc_model.specs.Closings.{is_refused}
-use Rattle.hc_model.specs.ConsumerRows.{consumer_after, consumer_made, new_consumer, consumer_heard, consumer_acted, consumer_settled, by_head, by_fault, by_opening, becomes_shared, own_after, left_to, waiting, due_after, place_by_case, passed_on, bound_to_wanted}
-use Rattle.hc_model.specs.Denials.{denial, as_open}
-use Rattle.hc_model.specs.Entries.{Entry}
-use Rattle.hc_model.specs.Exchanges.{exchange_at, exchange_in, is_for, is_headless}
-use Rattle.hc_model.specs.ExchangeRows.{exchange_opened}
-use Rattle.hc_model.specs.Failures.{cause_by_case}
-use Rattle.hc_model.specs.Flaws.{Flaw}
-use Rattle.hc_model.specs.Heads.{founded_total}
-use Rattle.hc_model.specs.Keys.{entry_of}
-use Rattle.hc_model.specs.Owners.{Owners, IsAwaiting, IsPast, IsReading}
 use Rattle.hc_model.specs.Owners as owners
-use Rattle.hc_model.specs.Polls.{if_headless, shows_at, shows_direct}
-use Rattle.hc_model.specs.Reading.{bound_to, is_written, own_open}
-use Rattle.hc_model.specs.Rows.{Tables, Exchange, Representation, Consumer}
-use Rattle.hc_model.specs.Sound.{Sound}
-use Rattle.hc_model.specs.StartingOver.{starts_over, sends_back}
-use Rattle.hc_model.specs.Tables.{after_accepted}
-use Rattle.hc_model.specs.Writers.{brings_body, loses_writing}
 use Rattle.hc_effects.proofs.Basics.{false_true, or_false, some_none, some_row}
 use Rattle.hc_effects.proofs.BoundFrom.{IsRow}
 use Rattle.hc_effects.proofs.ExchangeFrom.{IsHeaded}

@@ -8,8 +8,7 @@ use Rattle.hc_sparse.specs.Cells.{Cells, Covers, EndsBy, AreAbsent, cells_with, 
 use Rattle.hc_sparse.specs.Runs.{cells_of, end_of}
 use Rattle.hc_sparse.specs.declared.run.Run.{Run}
 use Rattle.hc_sparse.proofs.CellLemmas.{inside-cases, inside-before}
-use Rattle.hc_model.specs.Beginnings.{ascend_from}
-use Rattle.hc_model.specs.Tables.{last_end, bytes_in}
+use Rattle.hc_effects.proofs.Vocabulary.{ascend_from, last_end, bytes_in}
 use Rattle.hc_laws.proofs.Begins.{ends_all}
 
 pub below_none : (f : Cells) (n : ℕ) → EndsBy 0 f → size_below f n ≡ 0

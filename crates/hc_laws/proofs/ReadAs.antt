@@ -3,35 +3,13 @@ use Rattle.std.proofs.Common.{◌≡◌, ◌⊎◌, inl, inr, ℕ, ◌+◌, List
 use Rattle.std.specs.Prelude.{is_some}
 use Rattle.std.specs.Option.{option_or}
 use Rattle.hc_text.proofs.Basics.{bool_cases, not_some as none_some, same_some as same_row, some_inj}
-use Rattle.hc_event.specs.declared.event.Event.{Event}
+use Rattle.hc_effects.proofs.Vocabulary.{Event, Response, Why, Limits, base_of, promise_of, piece_refusal, BoundBy, Place, total_in, denial, as_open, Entry, exchange_heard, exchange_acted, base, promised_bytes, length_by, Flaw, Shown, entry_of, Move, Nothing, Shows, Fails, shows_stored, Owners, move_of, shows_at, shows_bound, shows_direct, shows_answer, has_joined, bound_to, reads, lo_of, hi_of, base_in, end_in, end_of_direct, Tables, Exchange, Representation, Consumer, Sound, after_accepted}
 use Rattle.hc_event.specs.declared.event.Event.TheVariants as event
-use Rattle.hc_event.specs.declared.event.Response.{Response}
 use Rattle.hc_event.specs.declared.act.Wait.TheVariants as wait
-use Rattle.hc_event.specs.declared.act.Why.{Why}
-use Rattle.hc_rules.specs.declared.room.Limits.{Limits}
-use Rattle.hc_rules.specs.Lengths.{base_of, promise_of}
 use Rattle.hc_rules.specs.Refusals as refusals
-use Rattle.hc_rules.specs.Refusals.{piece_refusal}
-use Rattle.hc_event.specs.declared.place.BoundBy.{BoundBy}
 use Rattle.hc_event.specs.declared.place.BoundBy.TheVariants as by
-use Rattle.hc_event.specs.declared.place.Place.{Place}
 use Rattle.hc_event.specs.declared.place.Place.TheVariants as place
-use Rattle.hc_model.specs.Currents.{total_in}
-use Rattle.hc_model.specs.Denials.{denial, as_open}
-use Rattle.hc_model.specs.Entries.{Entry}
-use Rattle.hc_model.specs.ExchangeRows.{exchange_heard, exchange_acted}
-use Rattle.hc_model.specs.Exchanges.{base, promised_bytes, length_by}
-use Rattle.hc_model.specs.Flaws.{Flaw}
-use Rattle.hc_model.specs.Histories.{Shown}
-use Rattle.hc_model.specs.Keys.{entry_of}
 use Rattle.hc_model.specs.Moves as moves
-use Rattle.hc_model.specs.Moves.{Move, Nothing, Shows, Fails, shows_stored}
-use Rattle.hc_model.specs.Owners.{Owners}
-use Rattle.hc_model.specs.Polls.{move_of, shows_at, shows_bound, shows_direct, shows_answer, has_joined}
-use Rattle.hc_model.specs.Reading.{bound_to, reads, lo_of, hi_of, base_in, end_in, end_of_direct}
-use Rattle.hc_model.specs.Rows.{Tables, Exchange, Representation, Consumer}
-use Rattle.hc_model.specs.Sound.{Sound}
-use Rattle.hc_model.specs.Tables.{after_accepted}
 use Rattle.hc_laws.proofs.FallbackKeeps.{IsLanding, shown_headed}
 use Rattle.hc_effects.proofs.Basics.{false_true}
 use Rattle.hc_effects.proofs.ExchangeFrom.{IsSame, IsHeaded}

@@ -7,51 +7,18 @@ use Rattle.hc_text.proofs.Basics.{and_right, bool_cases, not_some as none_some, 
 use Rattle.hc_range.specs.declared.range.Span.{Span}
 use Rattle.hc_sparse.specs.Cells.{Cell}
 use Rattle.hc_sparse.specs.declared.run.Run.{Run}
-use Rattle.hc_event.specs.Filters.{is_denied}
-use Rattle.hc_event.specs.declared.event.Event.{Event}
-use Rattle.hc_event.specs.declared.event.Request.{Request}
-use Rattle.hc_event.specs.declared.event.Response.{Response}
-use Rattle.hc_event.specs.declared.act.Act.{Act}
+use Rattle.hc_effects.proofs.Vocabulary.{is_denied, Event, Request, Response, Act, Cause, Why, Length, Plan, ReadView, Limits, base_of, promise_of, plan_of, read_step, is_at_end, stored_or, held_or, fails_or, waits_or, opens, BoundBy, Place, accepted_acts, answer_acts, may_begin, total_in, Entry, History, Contents, base, promised_bytes, length_by, Flaw, flaw_in, Shown, shown_of, given_of, OfRuns, Measures, Move, Nothing, Asks, Opens, Shows, Gives, Ends, Fails, acts_of, gives, waits_for, opens_hole, shows_stored, plan_move, plan_view, binds_current, move_of, shows_at, shows_bound, shows_direct, shows_answer, has_joined, reads, lo_of, hi_of, offset, base_in, end_in, end_of_direct, ReadsAct, Says, Holds, IsEnd, body_of, cell_by, direct_cell, answer_cell, end_by, Tables, Exchange, Representation, Consumer, IsRun, IsOwed, Sound, step_move, reading, read_view, later_hole, tables, after_accepted}
 use Rattle.hc_event.specs.declared.act.Act.TheVariants as act
-use Rattle.hc_event.specs.declared.act.Cause.{Cause}
 use Rattle.hc_event.specs.declared.act.Cause.TheVariants as cause
 use Rattle.hc_event.specs.declared.act.Wait.TheVariants as wait
-use Rattle.hc_event.specs.declared.act.Why.{Why}
-use Rattle.hc_rules.specs.declared.length.Length.{Length}
 use Rattle.hc_rules.specs.declared.length.Length.TheVariants as told
-use Rattle.hc_rules.specs.declared.plan.Plan.{Plan}
 use Rattle.hc_rules.specs.declared.plan.Plan.TheVariants as plan
-use Rattle.hc_rules.specs.declared.reading.ReadView.{ReadView}
-use Rattle.hc_rules.specs.declared.room.Limits.{Limits}
-use Rattle.hc_rules.specs.Lengths.{base_of, promise_of}
-use Rattle.hc_rules.specs.Plans.{plan_of}
-use Rattle.hc_rules.specs.Readings.{read_step, is_at_end, stored_or, held_or, fails_or, waits_or, opens}
-use Rattle.hc_event.specs.declared.place.BoundBy.{BoundBy}
 use Rattle.hc_event.specs.declared.place.BoundBy.TheVariants as by
-use Rattle.hc_event.specs.declared.place.Place.{Place}
 use Rattle.hc_event.specs.declared.place.Place.TheVariants as place
-use Rattle.hc_model.specs.Answers.{accepted_acts, answer_acts}
-use Rattle.hc_model.specs.Beginnings.{may_begin}
-use Rattle.hc_model.specs.Currents.{total_in}
-use Rattle.hc_model.specs.Entries.{Entry, History, Contents}
-use Rattle.hc_model.specs.Exchanges.{base, promised_bytes, length_by}
 use Rattle.hc_model.specs.Exchanges as exchanges
-use Rattle.hc_model.specs.Flaws.{Flaw, flaw_in}
-use Rattle.hc_model.specs.Histories.{Shown, shown_of, given_of}
-use Rattle.hc_model.specs.Laws.{OfRuns}
-use Rattle.hc_model.specs.Measures.{Measures}
 use Rattle.hc_model.specs.Moves as moves
-use Rattle.hc_model.specs.Moves.{Move, Nothing, Asks, Opens, Shows, Gives, Ends, Fails, acts_of, gives, waits_for, opens_hole, shows_stored}
-use Rattle.hc_model.specs.Planning.{plan_move, plan_view, binds_current}
-use Rattle.hc_model.specs.Polls.{move_of, shows_at, shows_bound, shows_direct, shows_answer, has_joined}
-use Rattle.hc_model.specs.Reading.{reads, lo_of, hi_of, offset, base_in, end_in, end_of_direct}
-use Rattle.hc_model.specs.Reads.{ReadsAct, Says, EndsWell, Holds, IsEnd, body_of, cell_by, direct_cell, answer_cell, end_by}
+use Rattle.hc_model.specs.Reads.{EndsWell}
 use Rattle.hc_model.specs.Reads as spec
-use Rattle.hc_model.specs.Rows.{Tables, Exchange, Representation, Consumer}
-use Rattle.hc_model.specs.Runs.{IsRun, IsOwed}
-use Rattle.hc_model.specs.Sound.{Sound}
-use Rattle.hc_model.specs.Steps.{step_move, reading, read_view, later_hole}
-use Rattle.hc_model.specs.Tables.{tables, after_accepted}
 use Rattle.hc_effects.proofs.ActParts.{IsSaid, said_is}
 use Rattle.hc_effects.proofs.ActParts as parts
 use Rattle.hc_laws.proofs.Barred.{next_tables, denied_tables}

@@ -7,28 +7,11 @@ use Rattle.std.proofs.Math.Seq.{get_or-append_right}
 use Rattle.std.proofs.lemmas.Bool.Decides.{nat_tests}
 use Rattle.hc_text.proofs.Basics.{nil_cons, not_some as none_some}
 use Rattle.hc_sparse.specs.declared.run.Run.{Run}
-use Rattle.hc_event.specs.Filters.{is_denied, given_in}
-use Rattle.hc_event.specs.declared.event.Event.{Event}
+use Rattle.hc_effects.proofs.Vocabulary.{is_denied, given_in, Event, Limits, Place, may_begin, denial, Entry, History, Contents, Flaw, flaw_in, Shown, shown_in, shown_of, given_of, entry_of, OfRuns, Gives, Owners, move_of, reads, hi_of, lo_of, Delivers, Holds, body_of, Tables, Consumer, IsRun, IsOwed, Sound, tables, after_accepted, after_denied}
 use Rattle.hc_event.specs.declared.event.Event.TheVariants as event
-use Rattle.hc_rules.specs.declared.room.Limits.{Limits}
-use Rattle.hc_event.specs.declared.place.Place.{Place}
 use Rattle.hc_event.specs.declared.place.Place.TheVariants as place
-use Rattle.hc_model.specs.Beginnings.{may_begin}
-use Rattle.hc_model.specs.Denials.{denial}
-use Rattle.hc_model.specs.Entries.{Entry, History, Contents}
-use Rattle.hc_model.specs.Flaws.{Flaw, flaw_in}
-use Rattle.hc_model.specs.Histories.{Shown, shown_in, shown_of, given_of}
-use Rattle.hc_model.specs.Keys.{entry_of}
-use Rattle.hc_model.specs.Laws.{Grows, OfRuns}
-use Rattle.hc_model.specs.Moves.{Gives}
-use Rattle.hc_model.specs.Owners.{Owners}
-use Rattle.hc_model.specs.Polls.{move_of}
-use Rattle.hc_model.specs.Reading.{reads, hi_of, lo_of}
-use Rattle.hc_model.specs.Reads.{Delivers, Holds, BodiesAreRead, body_of}
-use Rattle.hc_model.specs.Rows.{Tables, Consumer}
-use Rattle.hc_model.specs.Runs.{IsRun, IsOwed}
-use Rattle.hc_model.specs.Sound.{Sound}
-use Rattle.hc_model.specs.Tables.{tables, after_accepted, after_denied}
+use Rattle.hc_model.specs.Laws.{Grows}
+use Rattle.hc_model.specs.Reads.{BodiesAreRead}
 use Rattle.hc_laws.proofs.FallbackKeeps.{landing_by, fallback_begun, fallback_denied, fallback_kept}
 use Rattle.hc_laws.proofs.Barred.{next_tables, denied_tables}
 use Rattle.hc_effects.proofs.Basics.{false_true, append_none}

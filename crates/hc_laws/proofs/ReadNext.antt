@@ -3,27 +3,12 @@ use Rattle.std.proofs.Common.{◌≡◌, ◌≢◌, ◌⊎◌, inl, inr, ℕ, �
 use Rattle.std.specs.Prelude.{map, not, is_none}
 use Rattle.std.specs.Option.{option_map_or}
 use Rattle.hc_sparse.specs.declared.run.Run.{Run}
-use Rattle.hc_event.specs.Filters.{is_denied}
-use Rattle.hc_event.specs.declared.event.Event.{Event}
+use Rattle.hc_effects.proofs.Vocabulary.{is_denied, Event, Act, Why, Limits, accepted_acts, answer_acts, loss_acts, close_acts, may_begin, Entry, History, Contents, Flaw, NoFlaw, Loses, Misreads, flaw_in, Shown, first, shown_of, given_of, Move, Nothing, Asks, Opens, Shows, Gives, Ends, Fails, acts_of, move_of, ReadsAct, Says, Tables, Consumer, IsRun, tables, evicted}
 use Rattle.hc_event.specs.declared.event.Event.TheVariants as event
-use Rattle.hc_event.specs.declared.act.Act.{Act}
 use Rattle.hc_event.specs.declared.act.Act.TheVariants as act
 use Rattle.hc_event.specs.declared.act.Cause.TheVariants as cause
-use Rattle.hc_event.specs.declared.act.Why.{Why}
-use Rattle.hc_rules.specs.declared.room.Limits.{Limits}
-use Rattle.hc_model.specs.Answers.{accepted_acts, answer_acts, loss_acts, close_acts}
-use Rattle.hc_model.specs.Beginnings.{may_begin}
-use Rattle.hc_model.specs.Entries.{Entry, History, Contents}
-use Rattle.hc_model.specs.Flaws.{Flaw, NoFlaw, Loses, Misreads, flaw_in}
-use Rattle.hc_model.specs.Histories.{Shown, first, shown_of, given_of}
 use Rattle.hc_model.specs.Moves as moves
-use Rattle.hc_model.specs.Moves.{Move, Nothing, Asks, Opens, Shows, Gives, Ends, Fails, acts_of}
-use Rattle.hc_model.specs.Polls.{move_of}
-use Rattle.hc_model.specs.Reads.{ReadsAct, Says, GivesNext}
-use Rattle.hc_model.specs.Rows.{Tables, Consumer}
-use Rattle.hc_model.specs.Runs.{IsRun}
-use Rattle.hc_model.specs.Tables.{tables}
-use Rattle.hc_model.specs.Weights.{evicted}
+use Rattle.hc_model.specs.Reads.{GivesNext}
 use Rattle.hc_effects.proofs.ActParts.{IsAnswer, IsSaid, answer_is, said_is}
 use Rattle.hc_effects.proofs.ActParts as parts
 use Rattle.hc_effects.proofs.Basics.{append_none}

@@ -3,12 +3,9 @@ use Rattle.std.proofs.Common.{◌≡◌, ℕ, ◌-◌, [], ◌∷◌, Bool, true
 use Rattle.std.specs.Prelude.{is_some, nat_eq, nat_lt, ◌||◌}
 use Rattle.std.specs.Option.{option_map, option_and_then}
 use Rattle.hc_text.proofs.Basics.{not_some as none_some, or_left, or_right, eq_itself as same_number, some_inj}
-use Rattle.hc_event.specs.Filters.{is_denied}
+use Rattle.hc_effects.proofs.Vocabulary.{is_denied, Why, Event, Request, Limits, Place, may_begin, consumer_heard, kept_by, current, is_number, denial, Entry, History, Contents, exchange_in, Flaw, flaw_in, opening_of, joined_of, request_of, opened_in, entry_of, OfRuns, Turns, Owners, IsFor, has_joined, Tables, Exchange, Representation, Consumer, IsRun, IsOwed, Sound, tables, after_accepted, after_denied}
 use Rattle.hc_event.specs.declared.act.Wait.TheVariants as wait
-use Rattle.hc_event.specs.declared.act.Why.{Why}
 use Rattle.hc_event.specs.declared.act.Why.TheVariants as why_is
-use Rattle.hc_event.specs.declared.event.Event.{Event}
-use Rattle.hc_event.specs.declared.event.Request.{Request}
 use Rattle.hc_cachectl.specs.declared.directives.Directives.{Directives}
 use Rattle.hc_event.specs.declared.event.Load.{Load}
 use Rattle.hc_fresh.specs.Allowed.{allowed_by, is_validate, is_zero, is_older, lacks, is_skip, accepts}
@@ -17,26 +14,9 @@ use Rattle.hc_fresh.specs.Ages.{age}
 use Rattle.hc_fresh.specs.Facts.{allowed}
 use Rattle.hc_fresh.specs.Lifetimes.{lifetime}
 use Rattle.hc_record.specs.Head.{Head}
-use Rattle.hc_rules.specs.declared.room.Limits.{Limits}
-use Rattle.hc_event.specs.declared.place.Place.{Place}
 use Rattle.hc_event.specs.declared.place.Place.TheVariants as place
-use Rattle.hc_model.specs.Beginnings.{may_begin}
-use Rattle.hc_model.specs.ConsumerRows.{consumer_heard, kept_by}
-use Rattle.hc_model.specs.Currents.{current, is_number}
-use Rattle.hc_model.specs.Denials.{denial}
-use Rattle.hc_model.specs.Entries.{Entry, History, Contents}
-use Rattle.hc_model.specs.Exchanges.{exchange_in}
-use Rattle.hc_model.specs.Flaws.{Flaw, flaw_in}
-use Rattle.hc_model.specs.Histories.{Opened, opening_of, joined_of, request_of, opened_in}
-use Rattle.hc_model.specs.Keys.{entry_of}
-use Rattle.hc_model.specs.Laws.{OfRuns, Turns}
-use Rattle.hc_model.specs.Owners.{Owners, IsFor}
-use Rattle.hc_model.specs.Polls.{has_joined}
+use Rattle.hc_model.specs.Histories.{Opened}
 use Rattle.hc_model.specs.Reads.{IsReason, has_selected, selects_at, aims_at, allowed_on}
-use Rattle.hc_model.specs.Rows.{Tables, Exchange, Representation, Consumer}
-use Rattle.hc_model.specs.Runs.{IsRun, IsOwed}
-use Rattle.hc_model.specs.Sound.{Sound}
-use Rattle.hc_model.specs.Tables.{tables, after_accepted, after_denied}
 use Rattle.hc_laws.proofs.Aimed.{IsAimed, aimed_begun, aimed_denied, aimed_kept}
 use Rattle.hc_laws.proofs.Barred.{next_tables, denied_tables}
 use Rattle.hc_effects.proofs.Basics.{false_true}

@@ -1,17 +1,6 @@
 -- What a store begins with, and each entry keeps, holds of every run.
 use Rattle.std.proofs.Common.{◌≡◌, ◌≤◌, ℕ, [], ◌∷◌, Bool, true, false, None, refl}
-use Rattle.hc_event.specs.Filters.{is_denied}
-use Rattle.hc_event.specs.declared.event.Event.{Event}
-use Rattle.hc_rules.specs.declared.room.Limits.{Limits}
-use Rattle.hc_model.specs.Beginnings.{may_begin}
-use Rattle.hc_model.specs.Denials.{denial}
-use Rattle.hc_model.specs.Entries.{Entry, Contents}
-use Rattle.hc_model.specs.Flaws.{Flaw, flaw_in}
-use Rattle.hc_model.specs.Keys.{entry_of}
-use Rattle.hc_model.specs.Laws.{OfRunsIn}
-use Rattle.hc_model.specs.Rows.{Tables}
-use Rattle.hc_model.specs.Runs.{IsOwed}
-use Rattle.hc_model.specs.Tables.{tables, first_tables, after, after_accepted, after_denied}
+use Rattle.hc_effects.proofs.Vocabulary.{is_denied, Event, Limits, may_begin, denial, Entry, Contents, Flaw, flaw_in, entry_of, OfRunsIn, Tables, IsOwed, tables, first_tables, after, after_accepted, after_denied}
 use Rattle.hc_effects.proofs.LossBy.{IsReal}
 use Rattle.hc_effects.proofs.OfEntries.{of_real}
 use Rattle.hc_laws.proofs.SoundRuns.{IsCarried, carried}

@@ -8,9 +8,7 @@ use Rattle.hc_text.proofs.Basics.{and_left, and_right, bool_cases, or_right}
 use Rattle.hc_sparse.specs.Cells.{Cells, Cell, size_below}
 use Rattle.hc_sparse.specs.Runs.{end_of}
 use Rattle.hc_sparse.specs.declared.run.Run.{Run}
-use Rattle.hc_model.specs.Beginnings.{ascend_from}
-use Rattle.hc_model.specs.Contents.{run_from, with_cell, with_place, runs_from}
-use Rattle.hc_model.specs.Tables.{last_end, bytes_in}
+use Rattle.hc_effects.proofs.Vocabulary.{ascend_from, run_from, with_cell, with_place, runs_from, last_end, bytes_in}
 use Rattle.hc_effects.proofs.Basics.{false_true}
 
 -- whether the first run goes on

@@ -3,18 +3,11 @@ use Rattle.std.proofs.Common.{◌≡◌, ℕ, List, [], ◌∷◌, ◌++◌, Boo
 use Rattle.std.specs.Prelude.{option_map, ◌==◌, if◌then◌else◌}
 use Rattle.std.proofs.lemmas.Bool.Decides.{nat_tests}
 use Rattle.hc_text.proofs.Basics.{not_some as none_some, some_inj}
-use Rattle.hc_event.specs.Filters.{is_denied}
-use Rattle.hc_event.specs.declared.event.Event.{Event}
+use Rattle.hc_effects.proofs.Vocabulary.{is_denied, Event, Request, Entry, Contents, History, each, first, if_accepted, request_in, HasFieldsWithinLimits, HasTarget, Consumer, IsHeadWithinLimits, tables}
 use Rattle.hc_event.specs.declared.event.Event.TheVariants as event
-use Rattle.hc_event.specs.declared.event.Request.{Request}
 use Rattle.hc_fields.specs.FieldList.{IsWithinLimits}
 use Rattle.hc_target.specs.Targets.{is_target}
-use Rattle.hc_model.specs.Entries.{Entry, Contents, History}
-use Rattle.hc_model.specs.Histories.{each, first, if_accepted, request_in}
-use Rattle.hc_model.specs.WithinLimits.{HasFieldsWithinLimits, FieldsAreWithinLimits, RequestsStayWithinLimits, HeadsComeWithinLimits, HasTarget, StartsHaveTargets, RequestsStayForTargets}
-use Rattle.hc_model.specs.Rows.{Consumer}
-use Rattle.hc_model.specs.StoredHeads.{IsHeadWithinLimits}
-use Rattle.hc_model.specs.Tables.{tables}
+use Rattle.hc_model.specs.WithinLimits.{FieldsAreWithinLimits, RequestsStayWithinLimits, HeadsComeWithinLimits, StartsHaveTargets, RequestsStayForTargets}
 use Rattle.hc_effects.proofs.ConsumerFilters.{requests_are}
 
 -- REQUESTS

@@ -3,24 +3,9 @@ use Rattle.std.proofs.Common.{◌≡◌, inl, inr, ℕ, ◌+◌, ◌≤◌, List
 use Rattle.std.specs.Prelude.{is_some, ◌||◌, ◌==◌, not, nat_le, find, if◌then◌else◌, option_map}
 use Rattle.std.proofs.lemmas.Bool.Decides.{nat_tests}
 use Rattle.hc_text.proofs.Basics.{and_left, and_right, eq_tells as eq_is, not_some as none_some, some_inj}
-use Rattle.hc_event.specs.declared.event.Event.{Event}
+use Rattle.hc_effects.proofs.Vocabulary.{Event, Response, Limits, loses_in, may_begin, are_good, is_good, denial, Entry, Content, Contents, front, family, Flaw, entry_of, OfRunsIn, representation_heard, representation_after_head, with_renewed_head, updates, representation_after_piece, with_stored_bytes, with_total_if_none, length_in, Tables, Exchange, Representation, Sizes, Sound, IsStored, first_tables, representation_of_content, bytes_in, after_accepted, after_denied}
 use Rattle.hc_event.specs.declared.event.Event.TheVariants as event
-use Rattle.hc_event.specs.declared.event.Response.{Response}
-use Rattle.hc_rules.specs.declared.room.Limits.{Limits}
 use Rattle.hc_sparse.specs.Cells.{Cell, AreAbsent, EndsBy, nothing, size_below}
-use Rattle.hc_model.specs.ActFilters.{loses_in}
-use Rattle.hc_model.specs.Beginnings.{may_begin, are_good, is_good}
-use Rattle.hc_model.specs.Denials.{denial}
-use Rattle.hc_model.specs.Entries.{Entry, Content, Contents}
-use Rattle.hc_model.specs.Exchanges.{front, family}
-use Rattle.hc_model.specs.Flaws.{Flaw}
-use Rattle.hc_model.specs.Keys.{entry_of}
-use Rattle.hc_model.specs.Laws.{OfRunsIn}
-use Rattle.hc_model.specs.RepresentationRows.{representation_heard, representation_after_head, with_renewed_head, updates, representation_after_piece, with_stored_bytes, with_total_if_none, length_in}
-use Rattle.hc_model.specs.Rows.{Tables, Exchange, Representation}
-use Rattle.hc_model.specs.Sizes.{Sizes}
-use Rattle.hc_model.specs.Sound.{Sound, IsStored}
-use Rattle.hc_model.specs.Tables.{first_tables, representation_of_content, bytes_in, after_accepted, after_denied}
 use Rattle.hc_effects.proofs.Basics.{false_true}
 use Rattle.hc_laws.proofs.FitsKept.{Fits, stored_small}
 use Rattle.hc_laws.proofs.FitsRuns.{fits_begin, fits_denied, fits_kept}

@@ -1,15 +1,6 @@
 -- What is sound stays so at each real entry, but for the detached reader.
 use Rattle.std.proofs.Common.{◌≡◌, ℕ, Some, None}
-use Rattle.hc_event.specs.declared.event.Event.{Event}
-use Rattle.hc_rules.specs.declared.room.Limits.{Limits}
-use Rattle.hc_model.specs.Denials.{denial}
-use Rattle.hc_model.specs.Flaws.{Flaw}
-use Rattle.hc_model.specs.Keys.{entry_of}
-use Rattle.hc_model.specs.Measures.{Measures}
-use Rattle.hc_model.specs.Owners.{Owners}
-use Rattle.hc_model.specs.Rows.{Tables, Representation, Consumer}
-use Rattle.hc_model.specs.Sound.{Sound, IsBound, IsAlone}
-use Rattle.hc_model.specs.Tables.{after_accepted}
+use Rattle.hc_effects.proofs.Vocabulary.{Event, Limits, denial, Flaw, entry_of, Measures, Owners, Tables, Representation, Consumer, Sound, IsBound, IsAlone, after_accepted}
 use Rattle.hc_effects.proofs.AboutKeeps.{own_about_kept}
 use Rattle.hc_effects.proofs.BoundKeeps.{binds_kept}
 use Rattle.hc_effects.proofs.CurrentKeeps.{one_current_is_kept}

@@ -1,18 +1,7 @@
 -- Runs are sound, their owners are known and their bodies measured: the induction over a run.
 use Rattle.std.proofs.Common.{◌≡◌, List, [], ◌∷◌, Bool, true, false, refl, ap, sym, ◌∙◌, subst}
-use Rattle.hc_event.specs.Filters.{is_denied}
-use Rattle.hc_event.specs.declared.act.Act.{Act}
-use Rattle.hc_rules.specs.declared.room.Limits.{Limits}
-use Rattle.hc_model.specs.Entries.{Entry}
-use Rattle.hc_model.specs.Flaws.{flaw_in}
-use Rattle.hc_model.specs.Keys.{entry_of}
-use Rattle.hc_model.specs.Laws.{OfRuns}
-use Rattle.hc_model.specs.Measures.{Measures}
-use Rattle.hc_model.specs.Owners.{Owners}
-use Rattle.hc_model.specs.Rows.{Tables}
-use Rattle.hc_model.specs.Runs.{IsOwed, may_stand}
-use Rattle.hc_model.specs.Sound.{Sound, RunsAreSound}
-use Rattle.hc_model.specs.Tables.{tables, after, after_accepted}
+use Rattle.hc_effects.proofs.Vocabulary.{is_denied, Act, Limits, Entry, flaw_in, entry_of, OfRuns, Measures, Owners, Tables, IsOwed, may_stand, Sound, tables, after, after_accepted}
+use Rattle.hc_model.specs.Sound.{RunsAreSound}
 use Rattle.hc_laws.proofs.Begins.{begun_sound}
 use Rattle.hc_effects.proofs.Beside.{IsBeside}
 use Rattle.hc_laws.proofs.BesideKeeps.{beside_begun, beside_denied, beside_kept}

@@ -4,11 +4,8 @@ use Rattle.std.specs.Prelude.{◌==◌, bytes_eq, find, nat_lt}
 use Rattle.std.specs.List.{list_any}
 use Rattle.std.proofs.lemmas.Bool.Decides.{nat_tests}
 use Rattle.hc_text.proofs.Basics.{and_left, and_right, not_some as none_some, not_true, some_inj}
-use Rattle.hc_rules.specs.declared.room.Limits.{Limits}
+use Rattle.hc_effects.proofs.Vocabulary.{Limits, may_begin, are_good, is_good, is_given_out, has_own_numbers, Content, Contents, AreNumbered, IsStart}
 use Rattle.hc_rules.proofs.RangeReads.{bytes_eq-same}
-use Rattle.hc_model.specs.Beginnings.{may_begin, are_good, is_good, is_given_out, has_own_numbers}
-use Rattle.hc_model.specs.Entries.{Content, Contents}
-use Rattle.hc_model.specs.Laws.{AreNumbered, IsStart}
 use Rattle.hc_effects.proofs.Basics.{false_true, or_false}
 use Rattle.hc_effects.proofs.PieceKeeps.{eq_cases}
 

@@ -6,35 +6,16 @@
 use Rattle.std.proofs.Common.{◌≡◌, inl, inr, ℕ, Bool, true, false, Option, Some, None, refl, ap, ◌∙◌, arith}
 use Rattle.std.specs.Prelude.{◌&&◌, not, is_none, nat_eq, if◌then◌else◌}
 use Rattle.std.proofs.lemmas.Bool.Decides.{nat_tests}
-use Rattle.hc_event.specs.Filters.{Opening, opening_in, leaves_in}
+use Rattle.hc_effects.proofs.Vocabulary.{Opening, opening_in, leaves_in, Wait, Event, Request, Response, BoundBy, Place, route_of, HeadCase, Route, Wanted, wait_in, Showing, showing_in, case_at, bound_to_wanted, passed_on, place_by_case, by_head, by_fault, consumer_heard, kept_by, passed_by, waiting_place, place_for_hole, opened_place, unless_bound, by_opening, shown_place, waiting, consumer_acted, consumer_after, consumer_settled, due_after, back_in_line, current, row_of, is_live, is_live_place, Entry, bound_to, reads, Tables, Exchange, Representation, Consumer, starts_over, after}
 use Rattle.hc_event.specs.declared.act.Cause.TheVariants as cause
-use Rattle.hc_event.specs.declared.act.Wait.{Wait}
 use Rattle.hc_event.specs.declared.act.Wait.TheVariants as wait
-use Rattle.hc_event.specs.declared.event.Event.{Event}
 use Rattle.hc_event.specs.declared.event.Event.TheVariants as event
-use Rattle.hc_event.specs.declared.event.Request.{Request}
-use Rattle.hc_event.specs.declared.event.Response.{Response}
-use Rattle.hc_event.specs.declared.place.BoundBy.{BoundBy}
 use Rattle.hc_event.specs.declared.place.BoundBy.TheVariants as by
-use Rattle.hc_event.specs.declared.place.Place.{Place}
 use Rattle.hc_event.specs.declared.place.Place.TheVariants as place
-use Rattle.hc_rules.specs.Needs.{route_of}
-use Rattle.hc_rules.specs.declared.heads.HeadCase.{HeadCase}
 use Rattle.hc_rules.specs.declared.heads.HeadCase.TheVariants as case
-use Rattle.hc_rules.specs.declared.need.Route.{Route}
 use Rattle.hc_rules.specs.declared.need.Route.TheVariants as route
-use Rattle.hc_rules.specs.declared.request.Wanted.{Wanted}
 use Rattle.hc_rules.specs.declared.request.Wanted.TheVariants as wanted
-use Rattle.hc_model.specs.ActFilters.{wait_in, Showing, showing_in}
-use Rattle.hc_model.specs.Cases.{case_at}
-use Rattle.hc_model.specs.ConsumerRows.{bound_to_wanted, passed_on, place_by_case, with_head, by_head, by_fault, consumer_heard, kept_by, passed_by, waiting_place, place_for_hole, opened_place, unless_bound, with_opening, by_opening, shown_place, waiting, consumer_acted, consumer_after, consumer_settled, due_after, back_in_line}
-use Rattle.hc_model.specs.Currents.{current, row_of}
-use Rattle.hc_model.specs.Denials.{is_live, is_live_place}
-use Rattle.hc_model.specs.Entries.{Entry}
-use Rattle.hc_model.specs.Reading.{bound_to, reads}
-use Rattle.hc_model.specs.Rows.{Tables, Exchange, Representation, Consumer}
-use Rattle.hc_model.specs.StartingOver.{starts_over}
-use Rattle.hc_model.specs.Tables.{after}
+use Rattle.hc_model.specs.ConsumerRows.{with_head, with_opening}
 use Rattle.hc_laws.proofs.LiveAfter.{consumer_behind}
 
 abbrev IsLiveAt : Place → Type 0

@@ -3,21 +3,12 @@ use Rattle.std.proofs.Common.{◌≡◌, inl, inr, ℕ, ◌≤◌, List, [], ◌
 use Rattle.std.specs.Prelude.{◌==◌, nat_le, find, option_map, codes}
 use Rattle.std.proofs.lemmas.Bool.Decides.{nat_tests}
 use Rattle.hc_text.proofs.Basics.{and_left, and_right, not_some as none_some, not_true as not_yes, some_inj}
-use Rattle.hc_event.specs.Filters.{is_denied}
-use Rattle.hc_event.specs.declared.event.Event.{Event}
+use Rattle.hc_effects.proofs.Vocabulary.{is_denied, Event, Response, Limits, may_begin, are_good, has_right_head, Entry, History, Content, Contents, exchange_heard, exchange_acted, OfRuns, Tables, Exchange, Representation, StoredHeads, IsHeadWithinLimits, AreWithinLimits, tables, first_tables, representation_of_content, after, after_accepted, after_denied}
 use Rattle.hc_event.specs.declared.event.Event.TheVariants as event
-use Rattle.hc_event.specs.declared.event.Response.{Response}
 use Rattle.hc_fields.specs.FirstValues.{has_field}
 use Rattle.hc_record.specs.Head.{Head}
-use Rattle.hc_rules.specs.declared.room.Limits.{Limits}
 use Rattle.hc_validate.specs.Updates.{is_within_limits}
-use Rattle.hc_model.specs.Beginnings.{may_begin, are_good, has_right_head}
-use Rattle.hc_model.specs.Entries.{Entry, History, Content, Contents}
-use Rattle.hc_model.specs.ExchangeRows.{exchange_heard, exchange_acted}
-use Rattle.hc_model.specs.Laws.{OfRuns}
-use Rattle.hc_model.specs.Rows.{Tables, Exchange, Representation}
-use Rattle.hc_model.specs.StoredHeads.{StoredHeads, IsHeadWithinLimits, HeadsAreWithinLimits, AreWithinLimits}
-use Rattle.hc_model.specs.Tables.{tables, first_tables, representation_of_content, after, after_accepted, after_denied}
+use Rattle.hc_model.specs.StoredHeads.{HeadsAreWithinLimits}
 use Rattle.hc_effects.proofs.ExchangeFrom.{ExchangeFrom, exchange_from}
 use Rattle.hc_effects.proofs.ExchangeFrom as exchange
 use Rattle.hc_effects.proofs.FieldsKeep.{length_kept, range_kept, length_none, range_none, within_limits_kept, within_limits_founded}

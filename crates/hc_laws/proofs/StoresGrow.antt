@@ -3,20 +3,8 @@ use Rattle.std.proofs.Common.{◌≡◌, ℕ, ◌+◌, List, [], ◌∷◌, leng
 use Rattle.std.specs.Prelude.{is_some, if◌then◌else◌, ◌||◌, not}
 use Rattle.hc_text.proofs.Basics.{not_some as none_some, never_true as not_so, same_some as same_row}
 use Rattle.hc_sparse.specs.Cells.{Cells, Cell, AreAbsent, cells_with}
-use Rattle.hc_event.specs.Filters.{is_denied}
-use Rattle.hc_event.specs.declared.event.Event.{Event}
-use Rattle.hc_rules.specs.declared.room.Limits.{Limits}
-use Rattle.hc_model.specs.ActFilters.{loses_in}
-use Rattle.hc_model.specs.Denials.{denial}
-use Rattle.hc_model.specs.Entries.{Entry, History, Contents}
-use Rattle.hc_model.specs.Exchanges.{front}
-use Rattle.hc_model.specs.Flaws.{Flaw, flaw_in}
-use Rattle.hc_model.specs.Keys.{entry_of}
-use Rattle.hc_model.specs.Laws.{HasStored, GrowsStored, StoresGrow, OfHistories}
-use Rattle.hc_model.specs.Rows.{Tables, Exchange, Representation}
-use Rattle.hc_model.specs.Runs.{IsOwed}
-use Rattle.hc_model.specs.Sound.{Sound, IsStored}
-use Rattle.hc_model.specs.Tables.{tables, after_accepted, after_denied}
+use Rattle.hc_effects.proofs.Vocabulary.{is_denied, Event, Limits, loses_in, denial, Entry, History, Contents, front, Flaw, flaw_in, entry_of, OfHistories, Tables, Exchange, Representation, IsOwed, Sound, IsStored, tables, after_accepted, after_denied}
+use Rattle.hc_model.specs.Laws.{HasStored, GrowsStored, StoresGrow}
 use Rattle.hc_laws.proofs.Barred.{next_tables, denied_tables}
 use Rattle.hc_effects.proofs.Basics.{false_true, some_row}
 use Rattle.hc_effects.proofs.Fills.{Fills, IsPiece, fills}

@@ -6,18 +6,11 @@ use Rattle.std.proofs.lemmas.Bool.Decides.{nat_tests}
 use Rattle.hc_text.proofs.Basics.{and_left, and_right, not_some as none_some, not_false as not_no, some_inj}
 use Rattle.hc_record.specs.declared.kind.Kind.{Kind}
 use Rattle.hc_record.specs.declared.kind.Kind.TheVariants as kind
-use Rattle.hc_rules.specs.declared.room.Limits.{Limits}
+use Rattle.hc_effects.proofs.Vocabulary.{Limits, may_begin, needs_tag, is_whole, is_kind_right, kind_of_runs, same_kind, Content, Contents, OfRuns, HasByte, Representation, IsOfOne, Tags, first_tables, representation_of_content, last_end, bytes_in}
 use Rattle.hc_sparse.specs.Cells.{Covers, size_below}
 use Rattle.hc_sparse.specs.Runs.{cells_of}
 use Rattle.hc_sparse.specs.declared.run.Run.{Run}
-use Rattle.hc_model.specs.Beginnings.{may_begin, needs_tag, is_whole, is_kind_right, kind_of_runs, same_kind}
-use Rattle.hc_model.specs.Entries.{Content, Contents}
-use Rattle.hc_model.specs.Laws.{OfRuns}
-use Rattle.hc_model.specs.Origins.{HasByte}
-use Rattle.hc_model.specs.Rows.{Representation}
-use Rattle.hc_model.specs.StoredHeads.{IsOfOne, Tags}
 use Rattle.hc_model.specs.StoredHeads as heads
-use Rattle.hc_model.specs.Tables.{first_tables, representation_of_content, last_end, bytes_in}
 use Rattle.hc_effects.proofs.Basics.{false_true, or_false}
 use Rattle.hc_laws.proofs.MeasuresBegin.{ascending_item, known_item}
 use Rattle.hc_laws.proofs.OriginsBegin.{byte_of, has_run}

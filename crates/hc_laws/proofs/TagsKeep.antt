@@ -4,39 +4,18 @@ use Rattle.std.specs.Prelude.{is_some, ◌||◌, not, unwrap_or, if◌then◌els
 use Rattle.std.specs.Option.{option_and_then}
 use Rattle.hc_text.proofs.Basics.{and_left, and_right, not_some as none_some, some_inj}
 use Rattle.hc_etag.specs.TagTexts.{strong_in}
-use Rattle.hc_event.specs.declared.event.Event.{Event}
+use Rattle.hc_effects.proofs.Vocabulary.{Event, Response, fits_to_found, range_of, strong_of, Limits, loses_in, has_loss, case_at, is_joining, fits_asker, row_of, denial, Entry, is_open, front, Flaw, is_keepable, entry_of, HasByte, is_written, new_representation, Tables, Exchange, Representation, Consumer, IsGrowing, IsOfOne, Tags, after_accepted, after_denied}
 use Rattle.hc_event.specs.declared.event.Event.TheVariants as event
-use Rattle.hc_event.specs.declared.event.Response.{Response}
 use Rattle.hc_fields.specs.FieldList.{values_of}
 use Rattle.hc_fields.specs.FirstValues.{only_of}
 use Rattle.hc_range.specs.declared.range.Asked.{Asked}
 use Rattle.hc_record.specs.Head.{joining_of, one_strong_opaque, strong_opaque}
 use Rattle.hc_record.proofs.JoiningLemmas.{strong_opaque-tag}
-use Rattle.hc_rules.specs.HeadCases.{fits_to_found}
-use Rattle.hc_rules.specs.Requests.{range_of}
-use Rattle.hc_rules.specs.TagTexts.{strong_of}
 use Rattle.hc_etag.proofs.TagReads.{strong_in-some}
-use Rattle.hc_rules.specs.declared.room.Limits.{Limits}
 use Rattle.hc_sparse.specs.Cells.{Cells, Covers, cells_with}
 use Rattle.hc_sparse.proofs.CellLemmas.{inside-cases}
-use Rattle.hc_model.specs.ActFilters.{loses_in, has_loss}
-use Rattle.hc_model.specs.Cases.{case_at, is_joining, fits_asker}
-use Rattle.hc_model.specs.Currents.{row_of}
-use Rattle.hc_model.specs.Denials.{denial}
-use Rattle.hc_model.specs.Entries.{Entry}
-use Rattle.hc_model.specs.Exchanges.{is_open, front}
-use Rattle.hc_model.specs.Flaws.{Flaw}
-use Rattle.hc_model.specs.Gone.{is_keepable}
-use Rattle.hc_model.specs.Keys.{entry_of}
-use Rattle.hc_model.specs.Origins.{HasByte}
 use Rattle.hc_model.specs.Origins as origins
-use Rattle.hc_model.specs.Reading.{is_written}
-use Rattle.hc_model.specs.RepresentationRows.{new_representation}
-use Rattle.hc_model.specs.Rows.{Tables, Exchange, Representation, Consumer}
-use Rattle.hc_model.specs.Sound.{IsGrowing}
-use Rattle.hc_model.specs.StoredHeads.{IsOfOne, Tags}
 use Rattle.hc_model.specs.StoredHeads as heads
-use Rattle.hc_model.specs.Tables.{after_accepted, after_denied}
 use Rattle.hc_effects.proofs.ApartKeeps.{written_by, is_on}
 use Rattle.hc_effects.proofs.Basics.{false_true, some_none, number_is}
 use Rattle.hc_laws.proofs.DeniedKeeps.{written_same}

@@ -2,15 +2,9 @@
 use Rattle.std.proofs.Common.{◌≡◌, inl, inr, ℕ, List, [], ◌∷◌, Bool, true, false, None, Option, Some, refl, ap, sym, ◌∙◌}
 use Rattle.std.specs.Prelude.{◌==◌, find, option_map}
 use Rattle.hc_text.proofs.Basics.{and_left, and_right, not_some as none_some, some_inj}
-use Rattle.hc_event.specs.Filters.{is_denied}
+use Rattle.hc_effects.proofs.Vocabulary.{is_denied, Limits, may_begin, is_good, are_good, Entry, Content, Contents, ExchangeKeys, Tables, Representation, tables, first_tables, representation_of_content, after, RequestsAreForTargets, KeysAreTargets}
 use Rattle.hc_target.specs.Targets.{is_target}
-use Rattle.hc_rules.specs.declared.room.Limits.{Limits}
-use Rattle.hc_model.specs.Beginnings.{may_begin, is_good, are_good}
-use Rattle.hc_model.specs.Entries.{Entry, Content, Contents}
-use Rattle.hc_model.specs.Keys.{ExchangeKeys}
-use Rattle.hc_model.specs.Rows.{Tables, Representation}
-use Rattle.hc_model.specs.Tables.{tables, first_tables, representation_of_content, after}
-use Rattle.hc_model.specs.WithinLimits.{RequestsAreForTargets, KeysAreTargets, KeysStayTargets}
+use Rattle.hc_model.specs.WithinLimits.{KeysStayTargets}
 use Rattle.hc_effects.proofs.PieceKeeps.{eq_cases}
 use Rattle.hc_effects.proofs.RepFrom.{RepFrom, rep_from}
 use Rattle.hc_effects.proofs.RepFrom as rep

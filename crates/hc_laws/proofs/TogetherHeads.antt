@@ -1,20 +1,9 @@
 -- Whose exchange is written together from now on had its head come: that joined what it is bound to.
 use Rattle.std.proofs.Common.{◌≡◌, ◌⊎◌, inl, inr, ℕ, true, Option, Some, None, ap, sym, ◌∙◌}
 use Rattle.hc_text.proofs.Basics.{same_some as same_row}
-use Rattle.hc_event.specs.declared.event.Event.{Event}
-use Rattle.hc_rules.specs.Needs.{route_of}
+use Rattle.hc_effects.proofs.Vocabulary.{Event, route_of, Limits, BoundBy, case_at, is_joining, denial, Entry, Flaw, entry_of, Owners, Tables, Exchange, Consumer, Sound}
 use Rattle.hc_rules.specs.declared.need.Route.TheVariants as route
-use Rattle.hc_rules.specs.declared.room.Limits.{Limits}
-use Rattle.hc_event.specs.declared.place.BoundBy.{BoundBy}
 use Rattle.hc_event.specs.declared.place.Place.TheVariants as place
-use Rattle.hc_model.specs.Cases.{case_at, is_joining}
-use Rattle.hc_model.specs.Denials.{denial}
-use Rattle.hc_model.specs.Entries.{Entry}
-use Rattle.hc_model.specs.Flaws.{Flaw}
-use Rattle.hc_model.specs.Keys.{entry_of}
-use Rattle.hc_model.specs.Owners.{Owners}
-use Rattle.hc_model.specs.Rows.{Tables, Exchange, Consumer}
-use Rattle.hc_model.specs.Sound.{Sound}
 use Rattle.hc_effects.proofs.BoundFrom.{IsRow}
 use Rattle.hc_effects.proofs.ExchangeFrom.{IsHeaded, IsSame}
 use Rattle.hc_effects.proofs.FirstKeeps.{IsNew, is_new}

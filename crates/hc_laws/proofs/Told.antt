@@ -5,31 +5,15 @@
 use Rattle.std.proofs.Common.{◌≡◌, ℕ, List, [], ◌∷◌, ◌++◌, Bool, true, false, Option, Some, None, refl, ap, sym, ◌∙◌, subst, arith}
 use Rattle.std.specs.Prelude.{map, nat_eq, ◌||◌}
 use Rattle.std.proofs.lemmas.Bool.Decides.{nat_tests}
-use Rattle.hc_event.specs.Filters.{is_denied, closes_in}
-use Rattle.hc_event.specs.declared.act.Act.{Act}
+use Rattle.hc_effects.proofs.Vocabulary.{is_denied, closes_in, Act, Event, Limits, leaver_in, loses_in, answer_acts, loss_acts, close_acts, closing, denial, is_live, Entry, Flaw, NoFlaw, Loses, Misreads, flaw_in, OfHistories, Turns, Move, Nothing, Asks, Opens, Shows, Gives, Ends, Fails, acts_of, Tables, Consumer, IsOwed, Sound, tables, tellings, IsOneTo, TellsOne, TellsBy, evicted}
 use Rattle.hc_event.specs.declared.act.Act.TheVariants as act
 use Rattle.hc_event.specs.declared.act.Cause.TheVariants as cause
 use Rattle.hc_event.specs.declared.act.Wait.TheVariants as wait
-use Rattle.hc_event.specs.declared.event.Event.{Event}
 use Rattle.hc_event.specs.declared.event.Event.TheVariants as event
 use Rattle.hc_rules.specs.Refusals as refusals
-use Rattle.hc_rules.specs.declared.room.Limits.{Limits}
-use Rattle.hc_model.specs.ActFilters.{leaver_in, loses_in}
-use Rattle.hc_model.specs.Answers.{answer_acts, loss_acts, close_acts}
-use Rattle.hc_model.specs.Closings.{closing}
-use Rattle.hc_model.specs.Denials.{denial, is_live}
-use Rattle.hc_model.specs.Entries.{Entry}
-use Rattle.hc_model.specs.Flaws.{Flaw, NoFlaw, Loses, Misreads, flaw_in}
-use Rattle.hc_model.specs.Laws.{OfHistories, Turns}
 use Rattle.hc_model.specs.Moves as moves
-use Rattle.hc_model.specs.Moves.{Move, Nothing, Asks, Opens, Shows, Gives, Ends, Fails, acts_of}
-use Rattle.hc_model.specs.Rows.{Tables, Consumer}
-use Rattle.hc_model.specs.Runs.{IsOwed}
-use Rattle.hc_model.specs.Sound.{Sound}
-use Rattle.hc_model.specs.Tables.{tables}
-use Rattle.hc_model.specs.Tellings.{tellings, IsOneTo, WaitsLast, TellsOne, TellsBy, TellsWhoPolls}
+use Rattle.hc_model.specs.Tellings.{WaitsLast, TellsWhoPolls}
 use Rattle.hc_model.specs.Tellings as tells
-use Rattle.hc_model.specs.Weights.{evicted}
 use Rattle.hc_effects.proofs.ActParts.{leaver_lost, IsAnswer, answer_is}
 use Rattle.hc_effects.proofs.ActParts as parts
 use Rattle.hc_effects.proofs.Basics.{false_true, true_false}

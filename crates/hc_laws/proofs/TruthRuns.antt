@@ -6,11 +6,8 @@ use Rattle.std.proofs.lemmas.Bool.Decides.{nat_tests}
 use Rattle.hc_text.proofs.Basics.{and_left, and_right as and_then, bool_cases}
 use Rattle.hc_record.specs.declared.kind.Kind.TheVariants as kind
 use Rattle.hc_sparse.specs.Cells.{Cell, Covers, size_below}
-use Rattle.hc_model.specs.Kinds.{kind_of, kind_at, is_growing, is_complete, is_front}
-use Rattle.hc_model.specs.Laws.{OfRuns, IsFront, IsTruthful, TruncatedIsFront}
-use Rattle.hc_model.specs.Rows.{Representation}
-use Rattle.hc_model.specs.Sound.{IsStored}
-use Rattle.hc_model.specs.Tables.{tables}
+use Rattle.hc_effects.proofs.Vocabulary.{kind_of, kind_at, is_growing, is_complete, is_front, OfRuns, Representation, IsStored, tables}
+use Rattle.hc_model.specs.Laws.{IsFront, IsTruthful, TruncatedIsFront}
 use Rattle.hc_effects.proofs.HoleLemmas.{covers_all}
 use Rattle.hc_laws.proofs.Positions.{no_other_below}
 use Rattle.hc_laws.proofs.SizesKeep.{sizes_in_runs}

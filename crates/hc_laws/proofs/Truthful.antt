@@ -3,10 +3,8 @@ use Rattle.std.proofs.Common.{◌≡◌, ℕ, List, Bool, true, false, cond, Opt
 use Rattle.std.specs.Prelude.{option_map}
 use Rattle.std.specs.Option.{option_and_then}
 use Rattle.hc_record.specs.declared.kind.Kind.TheVariants as kind
-use Rattle.hc_model.specs.Currents.{current}
-use Rattle.hc_model.specs.Kinds.{kind_of, kind_for, kind_at, is_growing, is_complete, is_front, covers_all}
+use Rattle.hc_effects.proofs.Vocabulary.{current, kind_of, kind_for, kind_at, is_growing, is_complete, is_front, covers_all, Tables, Representation}
 use Rattle.hc_model.specs.Laws.{IsWhole}
-use Rattle.hc_model.specs.Rows.{Tables, Representation}
 use Rattle.hc_effects.proofs.HoleLemmas as holes
 
 -- of these words only the second is Whole

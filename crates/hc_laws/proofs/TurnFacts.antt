@@ -4,30 +4,11 @@ use Rattle.std.proofs.Common.{◌≡◌, ◌⊎◌, inl, inr, ℕ, List, [], ◌
 use Rattle.std.specs.Prelude.{◌||◌, ◌==◌, nat_eq, map, filter, reverse}
 use Rattle.hc_text.proofs.Basics.{bool_cases, or_cases, or_right as or_yes}
 use mathlib.Core.List.{reverse_aux}
-use Rattle.hc_event.specs.Filters.{is_denied, closes_in, evicts_in, opening_in, leaves_in}
-use Rattle.hc_event.specs.declared.act.Act.{Act}
+use Rattle.hc_effects.proofs.Vocabulary.{is_denied, closes_in, evicts_in, opening_in, leaves_in, Act, Event, Response, Limits, loses_in, has_loss, misreads_in, fails_in, without_losses, accepted_acts, answer_acts, loss_acts, close_acts, case_at, case_of, closing, closes_row, must_close, doomed_key_of, doomed_in, doomed_by_head, doomed_by_case, Entry, exchange_heard, Flaw, NoFlaw, Loses, Misreads, flaw_in, Turns, Move, acts_of, poll_move, Tables, Exchange, Consumer, IsOwed, may_stand, may_be, Sound, Among, evicted}
 use Rattle.hc_event.specs.declared.act.Act.TheVariants as act
 use Rattle.hc_event.specs.declared.act.Cause.TheVariants as cause
-use Rattle.hc_event.specs.declared.event.Event.{Event}
 use Rattle.hc_event.specs.declared.event.Event.TheVariants as event
-use Rattle.hc_event.specs.declared.event.Response.{Response}
-use Rattle.hc_rules.specs.declared.room.Limits.{Limits}
-use Rattle.hc_model.specs.ActFilters.{loses_in, has_loss, misreads_in, fails_in, without_losses}
-use Rattle.hc_model.specs.Answers.{accepted_acts, answer_acts, loss_acts, close_acts}
-use Rattle.hc_model.specs.Cases.{case_at, case_of}
-use Rattle.hc_model.specs.Closings.{closing, closes_row, must_close}
-use Rattle.hc_model.specs.Dooms.{doomed_key_of, doomed_in, doomed_by_head, doomed_by_case}
-use Rattle.hc_model.specs.Entries.{Entry}
-use Rattle.hc_model.specs.ExchangeRows.{exchange_heard}
-use Rattle.hc_model.specs.Flaws.{Flaw, NoFlaw, Loses, Misreads, flaw_in}
-use Rattle.hc_model.specs.Laws.{Turns}
 use Rattle.hc_model.specs.Moves as moves
-use Rattle.hc_model.specs.Moves.{Move, acts_of}
-use Rattle.hc_model.specs.Polls.{poll_move}
-use Rattle.hc_model.specs.Rows.{Tables, Exchange, Consumer}
-use Rattle.hc_model.specs.Runs.{IsOwed, may_stand, may_be}
-use Rattle.hc_model.specs.Sound.{Sound, Among}
-use Rattle.hc_model.specs.Weights.{evicted}
 use Rattle.hc_effects.proofs.ActParts.{IsAnswer, IsSaid, IsFarFrom, answer_is, said_is, asks_evicted, asks_closed, asks_closes, asks_lost, asks_loss, closes_evicted, closes_lost, closes_before, loses_evicted, loses_closed, loses_before, evicts_closed, said_closes, far_loss, far_lost_only, far_closing, far_closed, far_evicted, far_said}
 use Rattle.hc_effects.proofs.ActParts as parts
 use Rattle.hc_effects.proofs.Owed.{acts_are}

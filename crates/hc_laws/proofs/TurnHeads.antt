@@ -3,39 +3,13 @@ use Rattle.std.proofs.Common.{◌≡◌, ℕ, List, [], ◌∷◌, ◌++◌, Boo
 use Rattle.std.specs.Prelude.{◌&&◌, ◌||◌, ◌==◌, not, is_none, is_some, if◌then◌else◌, nat_le}
 use Rattle.std.specs.Option.{option_map}
 use Rattle.hc_text.proofs.Basics.{and_left, and_none, and_right as and_then, not_true as not_yes, some_inj}
-use Rattle.hc_event.specs.Filters.{opening_in}
-use Rattle.hc_event.specs.declared.act.Act.{Act}
+use Rattle.hc_effects.proofs.Vocabulary.{opening_in, Act, Need, Request, Response, HeadCase, HeadView, Route, Limits, Write, head_case, case_on, direct_case, first_case, later_case, is_conditional, is_same_number, route_of, has_loss, loses_in, misreads_in, leaver_in, answer_acts, loss_acts, case_at, case_of, head_view, validates, is_founding, must_close, is_doomed, is_left, leaver, leaver_by, is_refused, brings_head, has_no_survivor, awaits, current, is_current, is_number, doomed_key_of, doomed_in, doomed_by_head, doomed_by_case, bypass_key, bypassed_by, is_key, Entry, entry_without_acts, exchange_at, is_headless, family, flaw_in, becomes_gone, goes_by_head, goes_by_exchange, goes_by_case, ends_early, ends_founding, stops_early, is_keepable, is_written, Tables, Exchange, Representation, evicted, first_idle, room_for, room_by, write_in, brings_body, loses_writing, survivor}
 use Rattle.hc_event.specs.declared.act.Act.TheVariants as act
-use Rattle.hc_event.specs.declared.act.Need.{Need}
 use Rattle.hc_event.specs.declared.act.Need.TheVariants as need
 use Rattle.hc_event.specs.declared.event.Event.TheVariants as event
-use Rattle.hc_event.specs.declared.event.Request.{Request}
-use Rattle.hc_event.specs.declared.event.Response.{Response}
-use Rattle.hc_rules.specs.declared.heads.HeadCase.{HeadCase}
 use Rattle.hc_rules.specs.declared.heads.HeadCase.TheVariants as case
-use Rattle.hc_rules.specs.declared.heads.HeadView.{HeadView}
-use Rattle.hc_rules.specs.declared.need.Route.{Route}
 use Rattle.hc_rules.specs.declared.need.Route.TheVariants as route
-use Rattle.hc_rules.specs.declared.room.Limits.{Limits}
-use Rattle.hc_rules.specs.declared.room.Write.{Write}
 use Rattle.hc_rules.specs.declared.room.Write.TheVariants as write
-use Rattle.hc_rules.specs.HeadCases.{head_case, case_on, direct_case, first_case, later_case, is_conditional}
-use Rattle.hc_rules.specs.Lengths.{is_same_number}
-use Rattle.hc_rules.specs.Needs.{route_of}
-use Rattle.hc_model.specs.ActFilters.{has_loss, loses_in, misreads_in, leaver_in}
-use Rattle.hc_model.specs.Answers.{answer_acts, loss_acts}
-use Rattle.hc_model.specs.Cases.{case_at, case_of, head_view, validates, is_founding}
-use Rattle.hc_model.specs.Closings.{must_close, is_doomed, is_left, leaver, leaver_by, is_refused, brings_head, has_no_survivor, awaits}
-use Rattle.hc_model.specs.Currents.{current, is_current, is_number}
-use Rattle.hc_model.specs.Dooms.{doomed_key_of, doomed_in, doomed_by_head, doomed_by_case, bypass_key, bypassed_by, is_key}
-use Rattle.hc_model.specs.Entries.{Entry, entry_without_acts}
-use Rattle.hc_model.specs.Exchanges.{exchange_at, is_headless, family}
-use Rattle.hc_model.specs.Flaws.{flaw_in}
-use Rattle.hc_model.specs.Gone.{becomes_gone, goes_by_head, goes_by_exchange, goes_by_case, ends_early, ends_founding, stops_early, is_keepable}
-use Rattle.hc_model.specs.Reading.{is_written}
-use Rattle.hc_model.specs.Rows.{Tables, Exchange, Representation}
-use Rattle.hc_model.specs.Weights.{evicted, first_idle, room_for, room_by, write_in}
-use Rattle.hc_model.specs.Writers.{brings_body, loses_writing, survivor}
 use Rattle.hc_effects.proofs.ActParts as parts
 use Rattle.hc_effects.proofs.Joining.{mix}
 use Rattle.hc_effects.proofs.KeyRows.{same_number}

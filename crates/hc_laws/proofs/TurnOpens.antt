@@ -2,45 +2,16 @@
 use Rattle.std.proofs.Common.{◌≡◌, ◌⊎◌, inl, inr, ℕ, ◌+◌, List, [], ◌∷◌, ◌++◌, length, Bool, true, false, Option, Some, None, refl, ap, sym, ◌∙◌, subst}
 use Rattle.std.specs.Prelude.{◌&&◌, ◌||◌, ◌==◌, nat_eq, not, is_none, if◌then◌else◌}
 use Rattle.hc_text.proofs.Basics.{and_left, and_none, eq_itself as eq-refl, not_some as none_some, plus_none, some_inj}
-use Rattle.hc_event.specs.Filters.{Opening, opening_in, closes_in, leaves_in, shows_in, given_in}
-use Rattle.hc_event.specs.declared.act.Act.{Act}
-use Rattle.hc_event.specs.declared.act.Need.{Need}
+use Rattle.hc_effects.proofs.Vocabulary.{Opening, opening_in, closes_in, leaves_in, shows_in, given_in, Act, Need, Event, Request, Limits, route_of, is_bypassing, BoundBy, Place, wait_in, fails_in, leaver_in, loses_in, misreads_in, has_loss, without_losses, Showing, showing_in, loss_acts, case_at, case_of, must_close, is_doomed, is_left, leaver, leaver_by, is_refused, brings_head, has_no_survivor, awaits, consumer_after, consumer_settled, consumer_acted, consumer_heard, by_opening, waiting, waiting_place, shown_place, own_after, left_to, due_after, back_in_line, unless_bound, opened_place, is_number, is_current, doomed_key_of, doomed_in, bypass_key, bypassed_by, bypassed_for, is_key, Entry, exchange_at, is_headless, family, Flaw, NoFlaw, Loses, Misreads, flaw_in, becomes_gone, goes_by_head, goes_by_exchange, ends_early, ends_founding, stops_early, is_keepable, goes_in, Turns, StandsFor, turn_with, Move, acts_of, bound_to, is_written, Tables, Exchange, Representation, Consumer, may_be, Sound, starts_over, sends_back, loses_what_it_waits_for, brings_body, loses_writing, survivor, written_representation, written_in, seals_at, stops, first_found, lossless}
 use Rattle.hc_event.specs.declared.act.Need.TheVariants as need
 use Rattle.hc_event.specs.declared.act.Wait.TheVariants as wait
-use Rattle.hc_event.specs.declared.event.Event.{Event}
 use Rattle.hc_event.specs.declared.event.Event.TheVariants as event
-use Rattle.hc_event.specs.declared.event.Request.{Request}
 use Rattle.hc_rules.specs.declared.need.Route.TheVariants as route
-use Rattle.hc_rules.specs.declared.room.Limits.{Limits}
-use Rattle.hc_rules.specs.Needs.{route_of}
-use Rattle.hc_rules.specs.Requests.{is_bypassing}
-use Rattle.hc_event.specs.declared.place.BoundBy.{BoundBy}
 use Rattle.hc_event.specs.declared.place.BoundBy.TheVariants as by
-use Rattle.hc_event.specs.declared.place.Place.{Place}
 use Rattle.hc_event.specs.declared.place.Place.TheVariants as place
-use Rattle.hc_model.specs.ActFilters.{wait_in, fails_in, leaver_in, loses_in, misreads_in, has_loss, without_losses, Showing, showing_in}
-use Rattle.hc_model.specs.Answers.{loss_acts}
-use Rattle.hc_model.specs.Cases.{case_at, case_of}
-use Rattle.hc_model.specs.Closings.{must_close, is_doomed, is_left, leaver, leaver_by, is_refused, brings_head, has_no_survivor, awaits}
-use Rattle.hc_model.specs.ConsumerRows.{consumer_after, consumer_settled, consumer_acted, consumer_heard, by_opening, waiting, waiting_place, shown_place, own_after, left_to, due_after, back_in_line, with_opening, unless_bound, opened_place}
-use Rattle.hc_model.specs.Currents.{is_number, is_current}
-use Rattle.hc_model.specs.Dooms.{doomed_key_of, doomed_in, bypass_key, bypassed_by, bypassed_for, is_key}
-use Rattle.hc_model.specs.Entries.{Entry}
-use Rattle.hc_model.specs.Exchanges.{exchange_at, is_headless, family}
-use Rattle.hc_model.specs.Flaws.{Flaw, NoFlaw, Loses, Misreads, flaw_in}
-use Rattle.hc_model.specs.Gone.{becomes_gone, goes_by_head, goes_by_exchange, ends_early, ends_founding, stops_early, is_keepable, goes_in}
-use Rattle.hc_model.specs.Laws.{Turns, StandsFor}
+use Rattle.hc_model.specs.ConsumerRows.{with_opening}
 use Rattle.hc_model.specs.Laws as laws
-use Rattle.hc_model.specs.Lines.{turn_with}
 use Rattle.hc_model.specs.Moves as moves
-use Rattle.hc_model.specs.Moves.{Move, acts_of}
-use Rattle.hc_model.specs.Reading.{bound_to, is_written}
-use Rattle.hc_model.specs.Rows.{Tables, Exchange, Representation, Consumer}
-use Rattle.hc_model.specs.Runs.{may_be}
-use Rattle.hc_model.specs.Sound.{Sound}
-use Rattle.hc_model.specs.StartingOver.{starts_over, sends_back, loses_what_it_waits_for}
-use Rattle.hc_model.specs.Writers.{brings_body, loses_writing, survivor}
-use Rattle.hc_model.specs.Writes.{written_representation, written_in, seals_at, stops, first_found, lossless}
 use Rattle.hc_effects.proofs.ActParts as parts
 use Rattle.hc_effects.proofs.Basics.{number_is}
 use Rattle.hc_effects.proofs.KeysKeep.{IsOpening, opened_is}

@@ -3,56 +3,21 @@ use Rattle.std.proofs.Common.{◌≡◌, ◌⊎◌, inl, inr, ℕ, List, [], ◌
 use Rattle.std.specs.Prelude.{length, ◌&&◌, ◌||◌, ◌==◌, not, is_none, is_some, if◌then◌else◌, filter, find, unwrap_or, bytes_eq}
 use Rattle.std.specs.Option.{option_or}
 use Rattle.hc_text.proofs.Basics.{and_left, and_right as and_then, bool_cases, eq_itself as eq-refl, not_some as none_some, never_true as not_true, or_cases, or_off_right as or_last, same_some as same_row, some_inj}
-use Rattle.hc_event.specs.Filters.{Opening, opening_in, closes_in, leaves_in, shows_in}
-use Rattle.hc_event.specs.declared.act.Act.{Act}
-use Rattle.hc_event.specs.declared.act.Need.{Need}
+use Rattle.hc_effects.proofs.Vocabulary.{Opening, opening_in, closes_in, leaves_in, shows_in, Act, Need, Wait, Event, Request, Response, least, route_of, head_refusal, is_bypassing, is_disabled, is_only, Route, Limits, Place, wait_in, fails_in, leaver_in, misreads_in, loss_acts, case_at, consumer_after, consumer_made, new_consumer, unless_bound, opened_place, current, is_usable, denial, as_open, bypassed_by, doomed_key_of, is_key, Entry, exchange_after, exchange_heard, exchange_acted, exchange_opened, aim_of, aim_from, is_headless, exchange_at, is_for, promised_bytes, is_reached, flaw_in, becomes_gone, goes_in, IsOfOneKey, entry_of, Turns, IsAwaited, StandsFor, HasPassed, HasOneTurn, turn, turn_with, holder, holds_turn, holds_place, line, is_in_line, stands_in_line, Move, acts_of, has_joined, bound_to, representation_after, representation_heard, representation_acted, Tables, Exchange, Representation, Consumer, Sound, Among, IsListed, OneCurrent, starts_over, loses_what_it_waits_for, sends_back, waits_at, after_accepted}
 use Rattle.hc_event.specs.declared.act.Need.TheVariants as need
-use Rattle.hc_event.specs.declared.act.Wait.{Wait}
 use Rattle.hc_event.specs.declared.act.Wait.TheVariants as wait
-use Rattle.hc_event.specs.declared.event.Event.{Event}
 use Rattle.hc_event.specs.declared.event.Event.TheVariants as event
-use Rattle.hc_event.specs.declared.event.Request.{Request}
-use Rattle.hc_event.specs.declared.event.Response.{Response}
 use Rattle.hc_fresh.specs.Vary.{matches_vary}
-use Rattle.hc_rules.specs.Least.{least}
-use Rattle.hc_rules.specs.Needs.{route_of}
 use Rattle.hc_rules.specs.Refusals as refusals
-use Rattle.hc_rules.specs.Refusals.{head_refusal}
-use Rattle.hc_rules.specs.Requests.{is_bypassing, is_disabled, is_only}
-use Rattle.hc_rules.specs.declared.need.Route.{Route}
 use Rattle.hc_rules.specs.declared.need.Route.TheVariants as route
 use Rattle.hc_rules.specs.declared.heads.HeadCase.TheVariants as case
-use Rattle.hc_rules.specs.declared.room.Limits.{Limits}
 use Rattle.hc_rules.proofs.RangeReads.{bytes_eq-same, same_bytes}
 use Rattle.hc_event.specs.declared.place.BoundBy.TheVariants as by
-use Rattle.hc_event.specs.declared.place.Place.{Place}
 use Rattle.hc_event.specs.declared.place.Place.TheVariants as place
-use Rattle.hc_model.specs.ActFilters.{wait_in, fails_in, leaver_in, misreads_in}
-use Rattle.hc_model.specs.Answers.{loss_acts}
-use Rattle.hc_model.specs.Cases.{case_at}
-use Rattle.hc_model.specs.ConsumerRows.{consumer_after, consumer_made, new_consumer, unless_bound, opened_place}
-use Rattle.hc_model.specs.Currents.{current, is_usable}
-use Rattle.hc_model.specs.Denials.{denial, as_open}
-use Rattle.hc_model.specs.Dooms.{bypassed_by, doomed_key_of, is_key}
-use Rattle.hc_model.specs.Entries.{Entry}
-use Rattle.hc_model.specs.ExchangeRows.{exchange_after, exchange_heard, exchange_acted, exchange_opened, aim_of, aim_from}
 use Rattle.hc_model.specs.ExchangeRows as exchanges
-use Rattle.hc_model.specs.Exchanges.{is_headless, exchange_at, is_for, promised_bytes, is_reached}
-use Rattle.hc_model.specs.Flaws.{flaw_in}
-use Rattle.hc_model.specs.Gone.{becomes_gone, goes_in}
-use Rattle.hc_model.specs.Keys.{IsOfOneKey, entry_of}
-use Rattle.hc_model.specs.Laws.{Turns, IsAwaited, StandsFor, HasPassed, IsInTurn, HasOneTurn, TurnsAreKept, TurnsBegin, TurnsAreOne}
+use Rattle.hc_model.specs.Laws.{IsInTurn, TurnsAreKept, TurnsBegin, TurnsAreOne}
 use Rattle.hc_model.specs.Laws as laws
-use Rattle.hc_model.specs.Lines.{turn, turn_with, holder, holds_turn, holds_place, line, is_in_line, stands_in_line}
 use Rattle.hc_model.specs.Moves as moves
-use Rattle.hc_model.specs.Moves.{Move, acts_of}
-use Rattle.hc_model.specs.Polls.{has_joined}
-use Rattle.hc_model.specs.Reading.{bound_to}
-use Rattle.hc_model.specs.RepresentationRows.{representation_after, representation_heard, representation_acted}
-use Rattle.hc_model.specs.Rows.{Tables, Exchange, Representation, Consumer}
-use Rattle.hc_model.specs.Sound.{Sound, Among, IsListed, OneCurrent}
-use Rattle.hc_model.specs.StartingOver.{starts_over, loses_what_it_waits_for, sends_back, waits_at}
-use Rattle.hc_model.specs.Tables.{after_accepted}
 use Rattle.hc_effects.proofs.ActParts as parts
 use Rattle.hc_effects.proofs.CurrentKeeps.{heard_same, find_only, usable, usable_row, one_current_is_kept}
 use Rattle.hc_effects.proofs.KeyNames.{opener_key, current_key}

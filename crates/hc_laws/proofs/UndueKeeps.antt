@@ -3,38 +3,13 @@ use Rattle.std.proofs.Common.{◌≡◌, inl, inr, ℕ, Bool, true, false, Optio
 use Rattle.std.specs.Prelude.{if◌then◌else◌, is_some, ◌||◌}
 use Rattle.std.proofs.lemmas.Bool.Decides.{nat_tests}
 use Rattle.hc_text.proofs.Basics.{and_left, and_right, not_some as none_some, never_true as not_so, not_true, same_some as same_row, some_inj}
-use Rattle.hc_event.specs.Filters.{Opening, opening_in}
-use Rattle.hc_event.specs.declared.event.Event.{Event}
+use Rattle.hc_effects.proofs.Vocabulary.{Opening, opening_in, Event, Response, HeadCase, Limits, head_case, is_same_number, route_of, BoundBy, has_loss, loses_in, case_at, head_view, is_founding, is_joining, consumer_heard, consumer_acted, is_number, denial, Entry, exchange_in, is_for, is_open, becomes_due, cause_of_stop, cause_of_loss, cause_of_head, cause_by_case, stop_cause, Flaw, entry_of, Owners, IsAwaiting, is_written, source, reads, Tables, Exchange, Representation, Consumer, may_stand, Sound, IsBound, IsFirst, IsExclusiveWriter, after_accepted, loses_writing}
 use Rattle.hc_event.specs.declared.event.Event.TheVariants as event
-use Rattle.hc_event.specs.declared.event.Response.{Response}
-use Rattle.hc_rules.specs.declared.heads.HeadCase.{HeadCase}
 use Rattle.hc_rules.specs.declared.heads.HeadCase.TheVariants as case
 use Rattle.hc_rules.specs.declared.need.Route.TheVariants as route
-use Rattle.hc_rules.specs.declared.room.Limits.{Limits}
-use Rattle.hc_rules.specs.HeadCases.{head_case}
-use Rattle.hc_rules.specs.Lengths.{is_same_number}
-use Rattle.hc_rules.specs.Needs.{route_of}
 use Rattle.hc_event.specs.declared.place.Place.TheVariants as place
-use Rattle.hc_event.specs.declared.place.BoundBy.{BoundBy}
-use Rattle.hc_model.specs.ActFilters.{has_loss, loses_in}
-use Rattle.hc_model.specs.Cases.{case_at, head_view, is_founding, is_joining}
-use Rattle.hc_model.specs.ConsumerRows.{consumer_heard, consumer_acted}
-use Rattle.hc_model.specs.Currents.{is_number}
-use Rattle.hc_model.specs.Denials.{denial}
-use Rattle.hc_model.specs.Entries.{Entry}
-use Rattle.hc_model.specs.Exchanges.{exchange_in, is_for, is_open}
-use Rattle.hc_model.specs.Failures.{becomes_due, cause_of_stop, cause_of_loss, cause_of_head, cause_by_case, stop_cause}
-use Rattle.hc_model.specs.Flaws.{Flaw}
-use Rattle.hc_model.specs.Keys.{entry_of}
-use Rattle.hc_model.specs.Owners.{Owners, IsAwaiting}
 use Rattle.hc_model.specs.Owners as owners
-use Rattle.hc_model.specs.Reading.{is_written, source, reads}
-use Rattle.hc_model.specs.Rows.{Tables, Exchange, Representation, Consumer}
-use Rattle.hc_model.specs.Runs.{may_stand}
-use Rattle.hc_model.specs.Sound.{Sound, IsBound, IsFirst, IsExclusiveWriter}
 use Rattle.hc_model.specs.Sound as sound
-use Rattle.hc_model.specs.Tables.{after_accepted}
-use Rattle.hc_model.specs.Writers.{loses_writing}
 use Rattle.hc_effects.proofs.ApartKeeps.{IsOn, is_on, was_written}
 use Rattle.hc_effects.proofs.Basics.{false_true, or_false}
 use Rattle.hc_effects.proofs.BoundFrom.{BoundFrom, bound_from}

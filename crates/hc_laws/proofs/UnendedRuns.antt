@@ -4,37 +4,12 @@ use Rattle.std.specs.Prelude.{◌&&◌, ◌++◌, is_some, is_none, nat_eq, unwr
 use Rattle.std.specs.Option.{option_or}
 use Rattle.std.proofs.lemmas.Bool.Decides.{nat_tests}
 use Rattle.hc_text.proofs.Basics.{and_left, and_right, not_some as none_some, never_true as not_so, or_cases, same_some as same_row, some_inj}
-use Rattle.hc_event.specs.Filters.{Opening, leaves_in, closes_in, opening_in}
+use Rattle.hc_effects.proofs.Vocabulary.{Opening, leaves_in, closes_in, opening_in, Event, Response, is_same_number, Limits, BoundBy, case_at, must_close, is_refused, brings_head, is_doomed, has_no_survivor, is_left, leaver, leaver_by, consumer_heard, consumer_acted, is_number, denial, Unended, Entry, aim_from, exchange_acted, exchange_heard, with_piece, exchange_in, family, is_open, is_reached, promised_bytes, becomes_due, stop_cause, Flaw, entry_of, OfRuns, Measures, IsMeasured, Owners, bound, bound_to, is_written, own_open, shared_exchange, source, reads, Tables, Exchange, Representation, Consumer, Sound, IsBound, IsFirst, IsGrowing, after_accepted, brings_body, came_alone, loses_writing, survivor}
 use Rattle.hc_event.specs.declared.act.Cause.TheVariants as cause
-use Rattle.hc_event.specs.declared.event.Event.{Event}
 use Rattle.hc_event.specs.declared.event.Event.TheVariants as event
-use Rattle.hc_event.specs.declared.event.Response.{Response}
-use Rattle.hc_rules.specs.Lengths.{is_same_number}
-use Rattle.hc_rules.specs.declared.room.Limits.{Limits}
-use Rattle.hc_event.specs.declared.place.BoundBy.{BoundBy}
 use Rattle.hc_event.specs.declared.place.Place.TheVariants as place
-use Rattle.hc_model.specs.Cases.{case_at}
-use Rattle.hc_model.specs.Closings.{must_close, is_refused, brings_head, is_doomed, has_no_survivor, is_left, leaver, leaver_by}
-use Rattle.hc_model.specs.ConsumerRows.{consumer_heard, consumer_acted}
-use Rattle.hc_model.specs.Currents.{is_number}
-use Rattle.hc_model.specs.Denials.{denial}
-use Rattle.hc_model.specs.Endings.{Unended}
-use Rattle.hc_model.specs.Entries.{Entry}
-use Rattle.hc_model.specs.ExchangeRows.{aim_from, exchange_acted, exchange_heard, with_piece}
-use Rattle.hc_model.specs.Exchanges.{exchange_in, family, is_open, is_reached, promised_bytes}
-use Rattle.hc_model.specs.Failures.{becomes_due, stop_cause}
-use Rattle.hc_model.specs.Flaws.{Flaw}
-use Rattle.hc_model.specs.Keys.{entry_of}
-use Rattle.hc_model.specs.Laws.{OfRuns}
-use Rattle.hc_model.specs.Measures.{Measures, IsMeasured}
 use Rattle.hc_model.specs.Measures as measures
-use Rattle.hc_model.specs.Owners.{Owners}
-use Rattle.hc_model.specs.Reading.{bound, bound_to, is_written, own_open, shared_exchange, source, reads}
-use Rattle.hc_model.specs.Rows.{Tables, Exchange, Representation, Consumer}
-use Rattle.hc_model.specs.Sound.{Sound, IsBound, IsFirst, IsGrowing}
 use Rattle.hc_model.specs.Sound as sound
-use Rattle.hc_model.specs.Tables.{after_accepted}
-use Rattle.hc_model.specs.Writers.{brings_body, came_alone, loses_writing, survivor}
 use Rattle.hc_effects.proofs.AboutKeeps.{IsOwn, own_open_of, own_open_is}
 use Rattle.hc_effects.proofs.ApartKeeps.{is_on}
 use Rattle.hc_effects.proofs.Basics.{false_true}

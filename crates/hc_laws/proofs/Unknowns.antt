@@ -3,28 +3,10 @@ use Rattle.std.proofs.Common.{◌≡◌, ◌⊎◌, inl, inr, ℕ, ◌+◌, Bool
 use Rattle.std.specs.Prelude.{is_some, ◌&&◌, ◌==◌, not, nat_lt, unwrap_or, option_map}
 use Rattle.std.specs.Option.{option_or}
 use Rattle.hc_text.proofs.Basics.{not_some as none_some, some_inj}
-use Rattle.hc_event.specs.declared.event.Event.{Event}
+use Rattle.hc_effects.proofs.Vocabulary.{Event, Response, Limits, may_begin, is_kind_right, case_at, is_founding, denial, Entry, Content, Contents, is_open, Flaw, is_keepable, entry_of, item_of, AfterDenials, Measures, IsMeasured, Owners, is_written, covers, new_representation, asks_whole, hole_start, resumes, Tables, Exchange, Representation, Sound, IsGrowing, end_from, representation_of_content, first_tables, after_accepted}
 use Rattle.hc_event.specs.declared.event.Event.TheVariants as event
-use Rattle.hc_event.specs.declared.event.Response.{Response}
-use Rattle.hc_rules.specs.declared.room.Limits.{Limits}
-use Rattle.hc_model.specs.Beginnings.{may_begin, is_kind_right}
-use Rattle.hc_model.specs.Cases.{case_at, is_founding}
-use Rattle.hc_model.specs.Denials.{denial}
-use Rattle.hc_model.specs.Entries.{Entry, Content, Contents}
-use Rattle.hc_model.specs.Exchanges.{is_open}
-use Rattle.hc_model.specs.Flaws.{Flaw}
-use Rattle.hc_model.specs.Gone.{is_keepable, refuses_ranges}
-use Rattle.hc_model.specs.Keys.{entry_of}
-use Rattle.hc_model.specs.Laws.{item_of, AfterDenials}
-use Rattle.hc_model.specs.Measures.{Measures, IsMeasured}
+use Rattle.hc_model.specs.Gone.{refuses_ranges}
 use Rattle.hc_model.specs.Measures as measures
-use Rattle.hc_model.specs.Owners.{Owners}
-use Rattle.hc_model.specs.Reading.{is_written}
-use Rattle.hc_model.specs.Holes.{covers}
-use Rattle.hc_model.specs.RepresentationRows.{new_representation, asks_whole, hole_start, resumes}
-use Rattle.hc_model.specs.Rows.{Tables, Exchange, Representation}
-use Rattle.hc_model.specs.Sound.{Sound, IsGrowing, end_from}
-use Rattle.hc_model.specs.Tables.{representation_of_content, first_tables, after_accepted}
 use Rattle.hc_effects.proofs.ApartKeeps.{written_by, is_on}
 use Rattle.hc_effects.proofs.Basics.{false_true, some_none}
 use Rattle.hc_laws.proofs.DeniedKeeps.{written_same}

@@ -2,26 +2,12 @@
 use Rattle.std.proofs.Common.{◌≡◌, ◌≢◌, ◌⊎◌, inl, inr, ℕ, List, [], ◌∷◌, true, Option, Some, None, refl, ap, sym, ◌∙◌, subst}
 use Rattle.std.specs.Prelude.{is_some}
 use Rattle.std.specs.Option.{option_and_then}
-use Rattle.hc_event.specs.declared.act.Wait.{Wait}
+use Rattle.hc_effects.proofs.Vocabulary.{Wait, Response, Candidate, least, range_of, wanted_of, current, is_headless, OfRuns, WaitsEnd, WaitsForNobody, Owners, IsPast, plan_view, move_of, shows_at, shows_answer, shows_direct, if_headless, is_written, bound, own_open, Tables, Exchange, Representation, Consumer, Sound, IsBound, tables}
 use Rattle.hc_event.specs.declared.act.Wait.TheVariants as wait
-use Rattle.hc_event.specs.declared.event.Response.{Response}
-use Rattle.hc_rules.specs.declared.plan.Candidate.{Candidate}
 use Rattle.hc_rules.specs.declared.request.Wanted.TheVariants as wanted
-use Rattle.hc_rules.specs.Least.{least}
-use Rattle.hc_rules.specs.Requests.{range_of, wanted_of}
 use Rattle.hc_event.specs.declared.place.Place.TheVariants as place
-use Rattle.hc_model.specs.Currents.{current}
-use Rattle.hc_model.specs.Exchanges.{is_headless}
-use Rattle.hc_model.specs.Laws.{OfRuns, WaitsEnd, WaitsForNobody}
 use Rattle.hc_model.specs.Moves as moves
-use Rattle.hc_model.specs.Owners.{Owners, IsPast}
 use Rattle.hc_model.specs.Owners as owners
-use Rattle.hc_model.specs.Planning.{plan_view}
-use Rattle.hc_model.specs.Polls.{move_of, shows_at, shows_answer, shows_direct, if_headless}
-use Rattle.hc_model.specs.Reading.{is_written, bound, own_open}
-use Rattle.hc_model.specs.Rows.{Tables, Exchange, Representation, Consumer}
-use Rattle.hc_model.specs.Sound.{Sound, IsBound}
-use Rattle.hc_model.specs.Tables.{tables}
 use Rattle.hc_effects.proofs.AboutKeeps.{own_open_is}
 use Rattle.hc_effects.proofs.Basics.{false_true, some_none}
 use Rattle.hc_laws.proofs.BusyPlans.{BusyBy, busy_by}

@@ -7,34 +7,13 @@ use Rattle.std.proofs.Common.{◌≡◌, ◌⊎◌, inl, inr, ℕ, List, [], ◌
 use Rattle.std.specs.Prelude.{◌&&◌, map, nat_eq, nat_lt}
 use Rattle.std.proofs.lemmas.Bool.Decides.{nat_tests}
 use Rattle.hc_text.proofs.Basics.{and_left, bool_cases, false_true, not_some as none_some, eq_itself as same_number}
-use Rattle.hc_event.specs.Filters.{closes_in, is_denied, leaves_in}
-use Rattle.hc_event.specs.declared.act.Act.{Act}
+use Rattle.hc_effects.proofs.Vocabulary.{closes_in, is_denied, leaves_in, Act, Event, Place, Limits, fails_in, loses_in, without_losses, accepted_acts, answer_acts, loss_acts, closing, consumer_after, denial, is_live, left_by, Entry, Flaw, NoFlaw, Loses, Misreads, flaw_in, becomes_gone, goes_in, Lawful, Move, acts_of, move_of, poll_move, Tables, Representation, Consumer, IsOwed, may_be, loses_what_it_waits_for, after, with_item_first, written_representation, written_in, seals_at, stops, first_found, lossless}
 use Rattle.hc_event.specs.declared.act.Act.TheVariants as act
 use Rattle.hc_event.specs.declared.act.Cause.TheVariants as cause
-use Rattle.hc_event.specs.declared.event.Event.{Event}
 use Rattle.hc_event.specs.declared.event.Event.TheVariants as event
-use Rattle.hc_event.specs.declared.place.Place.{Place}
 use Rattle.hc_event.specs.declared.place.Place.TheVariants as place
 use Rattle.hc_rules.specs.Refusals as refusals
-use Rattle.hc_rules.specs.declared.room.Limits.{Limits}
-use Rattle.hc_model.specs.ActFilters.{fails_in, loses_in, without_losses}
-use Rattle.hc_model.specs.Answers.{accepted_acts, answer_acts, loss_acts}
-use Rattle.hc_model.specs.Closings.{closing}
-use Rattle.hc_model.specs.ConsumerRows.{consumer_after}
-use Rattle.hc_model.specs.Denials.{denial, is_live}
-use Rattle.hc_model.specs.Effects.{left_by}
-use Rattle.hc_model.specs.Entries.{Entry}
-use Rattle.hc_model.specs.Flaws.{Flaw, NoFlaw, Loses, Misreads, flaw_in}
-use Rattle.hc_model.specs.Gone.{becomes_gone, goes_in}
-use Rattle.hc_model.specs.Lawful.{Lawful}
 use Rattle.hc_model.specs.Moves as moves
-use Rattle.hc_model.specs.Moves.{Move, acts_of}
-use Rattle.hc_model.specs.Polls.{move_of, poll_move}
-use Rattle.hc_model.specs.Rows.{Tables, Representation, Consumer}
-use Rattle.hc_model.specs.Runs.{IsOwed, may_be}
-use Rattle.hc_model.specs.StartingOver.{loses_what_it_waits_for}
-use Rattle.hc_model.specs.Tables.{after, with_item_first}
-use Rattle.hc_model.specs.Writes.{written_representation, written_in, seals_at, stops, first_found, lossless}
 use Rattle.hc_effects.proofs.ActParts.{far_closing, far_lost_only}
 use Rattle.hc_effects.proofs.Basics.{number_is}
 use Rattle.hc_effects.proofs.EventsKeep.{poll_live}

@@ -2,21 +2,11 @@
 use Rattle.std.proofs.Common.{◌≡◌, ℕ, true, Option, Some, None, refl, ap, sym, ◌∙◌}
 use Rattle.std.specs.Prelude.{is_some, unwrap_or}
 use Rattle.hc_text.proofs.Basics.{not_some as none_some}
-use Rattle.hc_event.specs.declared.event.Response.{Response}
-use Rattle.hc_event.specs.declared.place.Place.{Place}
+use Rattle.hc_effects.proofs.Vocabulary.{Response, Place, family, IsOfOneKey, OfRuns, Owners, IsAwaiting, Places, own_open, Tables, Exchange, Representation, Consumer, Sound, IsHad, tables, Whose, IsSomebodys, IsOwner, may_own}
 use Rattle.hc_event.specs.declared.place.Place.TheVariants as place
-use Rattle.hc_model.specs.Exchanges.{family}
-use Rattle.hc_model.specs.Keys.{IsOfOneKey}
-use Rattle.hc_model.specs.Laws.{OfRuns}
-use Rattle.hc_model.specs.Owners.{Owners, IsAwaiting}
 use Rattle.hc_model.specs.Owners as owners
-use Rattle.hc_model.specs.Places.{Places}
-use Rattle.hc_model.specs.Reading.{own_open}
-use Rattle.hc_model.specs.Rows.{Tables, Exchange, Representation, Consumer}
-use Rattle.hc_model.specs.Sound.{Sound, IsHad}
 use Rattle.hc_model.specs.Sound as sound
-use Rattle.hc_model.specs.Tables.{tables}
-use Rattle.hc_model.specs.Whose.{Whose, IsSomebodys, IsOwner, IsOfKey, may_own}
+use Rattle.hc_model.specs.Whose.{IsOfKey}
 use Rattle.hc_model.specs.Whose as whose
 use Rattle.hc_effects.proofs.AboutKeeps.{own_open_of}
 use Rattle.hc_laws.proofs.InRuns.{turned_in_runs}

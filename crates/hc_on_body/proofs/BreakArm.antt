@@ -4,22 +4,15 @@ use mathlib.Core.Path.{fun_ext}
 use Rattle.std.specs.Prelude.{nat_eq, option_map, ◌&&◌, ◌==◌, if◌then◌else◌}
 use Rattle.std.specs.HashMap.{get}
 use Rattle.hc_text.proofs.Basics.{eqb-other, eqb-same, same_or, same_some as same_row, some_inj as some_is, and_off as then_false}
-use Rattle.hc_rules.specs.declared.room.Limits.{Limits}
+use Rattle.hc_effects.proofs.Vocabulary.{Limits, Cause, tables_after_close, over, with_consumer, with_exchange, family, brings_to, Lawful, IsAwaiting, Tables, Exchange, Representation}
 use Rattle.hc_store.specs.declared.backend.Backend.{Ghosts}
-use Rattle.hc_event.specs.declared.act.Cause.{Cause}
 use Rattle.hc_exch.specs.Exchanges as exch
 use Rattle.hc_exch.specs.Known as known
 use Rattle.hc_event.specs.declared.place.Place.TheVariants as place
 use Rattle.hc_event.specs.declared.place.BoundBy.TheVariants as by
-use Rattle.hc_model.specs.Effects.{tables_after_close, over, with_consumer, with_exchange}
 use Rattle.hc_model.specs.Effects as effects
-use Rattle.hc_model.specs.Exchanges.{family}
-use Rattle.hc_model.specs.Kinds.{brings_to}
-use Rattle.hc_model.specs.Lawful.{Lawful}
-use Rattle.hc_model.specs.Owners.{IsAwaiting}
 use Rattle.hc_model.specs.Owners as owners
 use Rattle.hc_model.specs.Rows as rows
-use Rattle.hc_model.specs.Rows.{Tables, Exchange, Representation}
 use Rattle.hc_state.specs.declared.consumer.Consumer.{Consumer}
 use Rattle.hc_state.specs.declared.rows.Rows.{Rows}
 use Rattle.hc_state.specs.Changes.{ChangesAt, put_down}

@@ -3,10 +3,8 @@ use Rattle.std.proofs.Common.{◌≡◌, ℕ, ◌<◌, ◌≤◌, ◌^◌, refl,
 use Rattle.std.proofs.Math.Bridge.{le_prop}
 use Rattle.std.proofs.Math.Logic.{∥∥₁_elim}
 use Rattle.hc_store.specs.declared.backend.Backend.{Ghosts}
-use Rattle.hc_rules.specs.Rooms.{grown_by}
-use Rattle.hc_rules.specs.declared.room.Room.{Room}
+use Rattle.hc_effects.proofs.Vocabulary.{grown_by, Room, Write}
 use Rattle.hc_rules.specs.declared.room.Room.TheVariants as room
-use Rattle.hc_rules.specs.declared.room.Write.{Write}
 use Rattle.hc_effects.proofs.WeightsLeft.{two_give_way}
 use Rattle.hc_state.specs.declared.rows.Rows.{Rows}
 use Rattle.hc_state.specs.Room.{HasActs, LeavesActs, room_for_write}

@@ -3,33 +3,15 @@ use Rattle.std.proofs.Common.{◌≡◌, ℕ, ◌+◌, ◌≤◌, List, [], ◌�
 use Rattle.std.proofs.lemmas.List.{append_assoc}
 use Rattle.std.specs.Prelude.{is_some, map, option_map, ◌&&◌, ◌==◌}
 use Rattle.hc_text.proofs.Basics.{eqb-same, false_true, some_inj as some_is, and_off as then_false}
-use Rattle.hc_rules.specs.declared.room.Limits.{Limits}
+use Rattle.hc_effects.proofs.Vocabulary.{Limits, Act, LostKind, Event, Place, BoundBy, denial, Does, all_closed, back_from, as_gone, if_bound, left_with, let_all_go, lost_to, unless_reached, with_piece, family, front, Loses, flaw_in, entry_of, MayLetGo, is_bound, is_bound_place, is_written, offset, Tables, Exchange, Representation, IsExclusiveWriter, IsBound, evicted, exclusive, has_more, offset_in, survivor, written_representation, is_fault}
 use Rattle.hc_store.specs.declared.backend.Backend.{Ghosts}
-use Rattle.hc_event.specs.declared.act.Act.{Act}
 use Rattle.hc_event.specs.declared.act.Act.TheVariants as act
-use Rattle.hc_event.specs.declared.act.LostKind.{LostKind}
 use Rattle.hc_event.specs.declared.act.LostKind.TheVariants as kinds
-use Rattle.hc_event.specs.declared.event.Event.{Event}
 use Rattle.hc_event.specs.declared.event.Event.TheVariants as event
 use Rattle.hc_stored.specs.Entries.{shelf_of}
-use Rattle.hc_event.specs.declared.place.Place.{Place}
 use Rattle.hc_event.specs.declared.place.Place.TheVariants as place
-use Rattle.hc_event.specs.declared.place.BoundBy.{BoundBy}
-use Rattle.hc_model.specs.Denials.{denial}
-use Rattle.hc_model.specs.Effects.{Does, all_closed, back_from, as_gone, if_bound, left_with, let_all_go, lost_to, unless_reached}
-use Rattle.hc_model.specs.ExchangeRows.{with_piece}
-use Rattle.hc_model.specs.Exchanges.{family, front}
-use Rattle.hc_model.specs.Flaws.{Loses, flaw_in}
-use Rattle.hc_model.specs.Keys.{entry_of}
-use Rattle.hc_model.specs.LettingGo.{MayLetGo}
-use Rattle.hc_model.specs.Reading.{is_bound, is_bound_place, is_written, offset}
 use Rattle.hc_model.specs.Rows as rows
-use Rattle.hc_model.specs.Rows.{Tables, Exchange, Representation}
 use Rattle.hc_model.specs.Sound as sound
-use Rattle.hc_model.specs.Sound.{IsExclusiveWriter, IsBound}
-use Rattle.hc_model.specs.Weights.{evicted}
-use Rattle.hc_model.specs.Writers.{exclusive, has_more, offset_in, survivor}
-use Rattle.hc_model.specs.Writes.{written_representation}
 use Rattle.hc_effects.proofs.Exclusives.{exclusive_parts}
 use Rattle.hc_effects.proofs.HadKeeps.{survivor_bound}
 use Rattle.hc_effects.proofs.HasBound.{reader_of}
@@ -44,7 +26,6 @@ use Rattle.hc_state.specs.DetachedReaders.{MayLoseShared, shared_loss}
 use Rattle.hc_state.specs.Kept.{held_alone, unstored_bytes}
 use Rattle.hc_state.specs.Refused.{Brings, MayHold, MayLoseOwn, MayLosePiece, LosesPiece, Refuses, brought_lost, closes_with, own_loss}
 use Rattle.hc_state.specs.Stands.{Answered, RowsStand}
-use Rattle.hc_model.specs.Flaws.{is_fault}
 use Rattle.hc_state.specs.Stopped.{HoldsNothing}
 use Rattle.hc_state.proofs.Fallbacks.{unstored_moved}
 use Rattle.hc_on_leave.proofs.FoundArm.{bound_back, make_gone}

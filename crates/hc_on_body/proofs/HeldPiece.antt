@@ -3,7 +3,7 @@ use Rattle.std.proofs.Common.{◌≡◌, ◌≢◌, inl, inr, ℕ, ◌+◌, ◌-
 use Rattle.std.proofs.lemmas.List.{drop-append-le, length-append}
 use Rattle.std.specs.Prelude.{is_some, is_none, ◌==◌, ◌&&◌, if◌then◌else◌}
 use Rattle.hc_text.proofs.Basics.{eqb-other, eqb-same, false_true, order, same_or}
-use Rattle.hc_rules.specs.declared.room.Limits.{Limits}
+use Rattle.hc_effects.proofs.Vocabulary.{Limits, is_number, with_piece, family, base, front, first_place, absent_from, bound, is_bound_place, with_stored_bytes, Tables, Exchange, Representation}
 use Rattle.hc_store.specs.declared.backend.Backend.{Ghosts}
 use Rattle.hc_sparse.specs.Cells.{Cell, Cells, inside}
 use Rattle.hc_stored.specs.Entries.{shelf_of}
@@ -13,13 +13,6 @@ use Rattle.hc_exch.specs.Exchanges as exch
 use Rattle.hc_exch.specs.Exchanges.{table_of}
 use Rattle.hc_exch.specs.Known as known
 use Rattle.hc_event.specs.declared.place.Place.TheVariants as place
-use Rattle.hc_model.specs.Currents.{is_number}
-use Rattle.hc_model.specs.ExchangeRows.{with_piece}
-use Rattle.hc_model.specs.Exchanges.{family, base, front}
-use Rattle.hc_model.specs.Holes.{first_place, absent_from}
-use Rattle.hc_model.specs.Reading.{bound, is_bound_place}
-use Rattle.hc_model.specs.RepresentationRows.{with_stored_bytes}
-use Rattle.hc_model.specs.Rows.{Tables, Exchange, Representation}
 use Rattle.hc_effects.proofs.HoleLemmas.{first_from, first_to, first_before, first_passes}
 use Rattle.hc_state.proofs.Ties.{overs_open, writer_then}
 use Rattle.hc_state.specs.declared.rows.Rows.{Rows}

@@ -2,24 +2,14 @@
 use Rattle.std.proofs.Common.{◌≡◌, ◌⊎◌, inl, inr, ℕ, ◌+◌, ◌<◌, List, [], ◌∷◌, ◌++◌, length, Bool, true, false, Option, Some, None, refl, ap, sym, ◌∙◌, subst}
 use Rattle.std.specs.Prelude.{is_some, is_none, nat_eq, not, map, ◌==◌, ◌&&◌, if◌then◌else◌}
 use Rattle.hc_text.proofs.Basics.{eqb-other, eqb-same, false_true, same_or, same_some as same_row, and_off as then_false}
-use Rattle.hc_rules.specs.declared.room.Limits.{Limits}
+use Rattle.hc_effects.proofs.Vocabulary.{Limits, Act, LostKind, Response, all_closed, as_gone, lost_to, with_piece, family, front, promised_bytes, is_reached, is_headless, brings_to, with_stored_bytes, Tables, Exchange, Representation, survivor}
 use Rattle.hc_store.specs.declared.backend.Backend.{Ghosts}
-use Rattle.hc_event.specs.declared.act.Act.{Act}
 use Rattle.hc_event.specs.declared.act.Act.TheVariants as act
-use Rattle.hc_event.specs.declared.act.LostKind.{LostKind}
-use Rattle.hc_event.specs.declared.event.Response.{Response}
 use Rattle.hc_exch.specs.declared.row.Open.{Open}
 use Rattle.hc_exch.specs.Exchanges as exch
 use Rattle.hc_exch.specs.Exchanges.{table_of}
 use Rattle.hc_exch.specs.Known as known
 use Rattle.hc_exch.specs.Known.{is_last_of}
-use Rattle.hc_model.specs.Effects.{all_closed, as_gone, lost_to}
-use Rattle.hc_model.specs.ExchangeRows.{with_piece}
-use Rattle.hc_model.specs.Exchanges.{family, front, promised_bytes, is_reached, is_headless}
-use Rattle.hc_model.specs.Kinds.{brings_to}
-use Rattle.hc_model.specs.RepresentationRows.{with_stored_bytes}
-use Rattle.hc_model.specs.Rows.{Tables, Exchange, Representation}
-use Rattle.hc_model.specs.Writers.{survivor}
 use Rattle.hc_state.specs.declared.rows.Rows.{Rows}
 use Rattle.hc_state.specs.DetachedReaders.{shared_loss}
 use Rattle.hc_state.specs.Refused.{Brings, MayHold, MayLoseOwn, MayLosePiece, LosesPiece, brought_lost, own_loss, closes_with}

@@ -3,10 +3,9 @@ use Rattle.std.proofs.Common.{◌≡◌, ◌≢◌, inl, inr, ℕ, ◌+◌, ◌-
 use Rattle.std.proofs.lemmas.List.{append-nil}
 use Rattle.std.specs.Prelude.{is_some, ◌==◌, ◌&&◌, if◌then◌else◌}
 use Rattle.hc_text.proofs.Basics.{false_true, order}
-use Rattle.hc_rules.specs.declared.room.Limits.{Limits}
+use Rattle.hc_effects.proofs.Vocabulary.{Limits, Act, BoundBy, denial, entry_without_acts, with_piece, family, base, front, is_written, own_open, with_stored_bytes, Tables, Exchange, Representation, Sound, IsExclusiveWriter, IsHad, write_in, goes_on_at}
 use Rattle.hc_store.specs.declared.backend.Backend.{Ghosts}
 use Rattle.hc_sparse.specs.Cells.{Cell}
-use Rattle.hc_event.specs.declared.act.Act.{Act}
 use Rattle.hc_event.specs.declared.event.Event.TheVariants as event
 use Rattle.hc_stored.specs.Entries.{shelf_of}
 use Rattle.hc_stored.specs.Kept.{Kept}
@@ -14,20 +13,9 @@ use Rattle.hc_exch.specs.Exchanges as exch
 use Rattle.hc_exch.specs.Exchanges.{table_of}
 use Rattle.hc_exch.specs.Known as known
 use Rattle.hc_event.specs.declared.place.Place.TheVariants as place
-use Rattle.hc_event.specs.declared.place.BoundBy.{BoundBy}
-use Rattle.hc_model.specs.Denials.{denial}
-use Rattle.hc_model.specs.Entries.{entry_without_acts}
-use Rattle.hc_model.specs.ExchangeRows.{with_piece}
-use Rattle.hc_model.specs.Exchanges.{family, base, front}
-use Rattle.hc_model.specs.Reading.{is_written, own_open}
-use Rattle.hc_model.specs.RepresentationRows.{with_stored_bytes}
 use Rattle.hc_model.specs.Rows as rows
-use Rattle.hc_model.specs.Rows.{Tables, Exchange, Representation}
 use Rattle.hc_model.specs.Sound as sound
-use Rattle.hc_model.specs.Sound.{Sound, IsExclusiveWriter, IsHad}
-use Rattle.hc_model.specs.Weights.{write_in}
 use Rattle.hc_effects.proofs.AboutKeeps.{own_open_of}
-use Rattle.hc_model.specs.Fronts.{goes_on_at}
 use Rattle.hc_effects.proofs.Covers.{headed_at}
 use Rattle.hc_effects.proofs.Once.{delivers_once}
 use Rattle.hc_effects.proofs.PieceEffects as does

@@ -3,19 +3,14 @@ use Rattle.std.proofs.Common.{◌≡◌, ◌⊎◌, inl, inr, ℕ, length, true,
 use Rattle.std.specs.Prelude.{is_some, option_map, nat_eq}
 use Rattle.std.specs.HashMap.{get}
 use Rattle.hc_text.proofs.Basics.{false_true, none_of, same_some as same_row, some_inj as some_is}
-use Rattle.hc_rules.specs.declared.room.Limits.{Limits}
+use Rattle.hc_effects.proofs.Vocabulary.{Limits, is_live, is_live_place, promised_bytes, Lawful, Awaits, IsAwaiting, Tables, Exchange}
 use Rattle.hc_store.specs.declared.backend.Backend.{Ghosts}
 use Rattle.hc_exch.specs.declared.row.ExchangeView.{ExchangeView}
 use Rattle.hc_exch.specs.declared.row.Open.{Open}
 use Rattle.hc_exch.specs.Exchanges.{table_of}
 use Rattle.hc_exch.specs.Known.{view_of}
-use Rattle.hc_model.specs.Denials.{is_live, is_live_place}
-use Rattle.hc_model.specs.Exchanges.{promised_bytes}
-use Rattle.hc_model.specs.Lawful.{Lawful}
-use Rattle.hc_model.specs.Owners.{Awaits, IsAwaiting}
 use Rattle.hc_model.specs.Owners as owners
 use Rattle.hc_model.specs.Rows as rows
-use Rattle.hc_model.specs.Rows.{Tables, Exchange}
 use Rattle.hc_state.specs.declared.consumer.Consumer.{Consumer}
 use Rattle.hc_state.specs.declared.rows.Rows.{Rows}
 use Rattle.hc_state.specs.Kept.{KeepsRunning, KeepsConsumer}

@@ -6,26 +6,12 @@ use Rattle.std.specs.Prelude.{is_some, nat_eq, nat_lt, option_map, ◌==◌, ◌
 use Rattle.std.specs.Option.{option_or}
 use Rattle.hc_text.proofs.Basics.{eqb-other, eqb-same, false_true, same_or, same_some as same_row}
 use Rattle.hc_store.specs.declared.backend.Backend.{Ghosts}
-use Rattle.hc_event.specs.declared.act.Act.{Act}
+use Rattle.hc_effects.proofs.Vocabulary.{Act, Cause, Limits, denial, Does, with_event, tables_after_close, at_end, with_due, with_dues, with_exchange, with_length, with_loss, with_representation, let_go, let_some_go, lost_to, going_with, family, promised_bytes, is_reached, short_of, NoFlaw, Loses, is_short, is_below, stops_early, IsMeasured, told, untold, is_bound, with_total_if_none, Tables, Exchange, Representation, written_representation, exclusive}
 use Rattle.hc_event.specs.declared.act.Act.TheVariants as act
-use Rattle.hc_event.specs.declared.act.Cause.{Cause}
 use Rattle.hc_event.specs.declared.act.Cause.TheVariants as cause
 use Rattle.hc_event.specs.declared.act.LostKind.TheVariants as kind
 use Rattle.hc_event.specs.declared.event.Event.TheVariants as event
-use Rattle.hc_rules.specs.declared.room.Limits.{Limits}
-use Rattle.hc_model.specs.Denials.{denial}
-use Rattle.hc_model.specs.Effects.{Does, with_event, tables_after_close, at_end, with_due, with_dues, with_exchange, with_length, with_loss, with_representation, let_go, let_some_go, lost_to, going_with}
-use Rattle.hc_model.specs.Exchanges.{family, promised_bytes, is_reached}
-use Rattle.hc_model.specs.Failures.{short_of}
-use Rattle.hc_model.specs.Flaws.{NoFlaw, Loses}
-use Rattle.hc_model.specs.Gone.{is_short, is_below, stops_early}
-use Rattle.hc_model.specs.Measures.{IsMeasured, told, untold}
-use Rattle.hc_model.specs.Reading.{is_bound}
-use Rattle.hc_model.specs.RepresentationRows.{with_total_if_none}
 use Rattle.hc_model.specs.Rows as rows
-use Rattle.hc_model.specs.Rows.{Tables, Exchange, Representation}
-use Rattle.hc_model.specs.Writes.{written_representation}
-use Rattle.hc_model.specs.Writers.{exclusive}
 use Rattle.hc_effects.proofs.StopEffects as past_effects
 use Rattle.hc_effects.proofs.StopFrames.{end_of}
 use Rattle.hc_effects.proofs.StopSeals as seal_effects

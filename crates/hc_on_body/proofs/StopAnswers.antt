@@ -5,29 +5,12 @@ use Rattle.std.proofs.lemmas.List.{append-nil}
 use Rattle.std.specs.Prelude.{is_some, nat_eq, option_map, ◌==◌, ◌||◌, if◌then◌else◌}
 use Rattle.hc_text.proofs.Basics.{eqb-other, eqb-same, false_true, or_false as or_none, same_or, same_some as same_row}
 use Rattle.hc_store.specs.declared.backend.Backend.{Ghosts}
-use Rattle.hc_event.specs.declared.act.Act.{Act}
+use Rattle.hc_effects.proofs.Vocabulary.{Act, Cause, Event, Response, Limits, denial, Does, with_event, tables_after_close, over, put_down, failing, if_bound, with_consumer, with_due, with_dues, with_exchange, with_loss, with_representation, let_go, let_some_go, lost_to, going_with, Entry, entry_without_acts, family, NoFlaw, Loses, stops_early, Lawful, is_bound, is_bound_place, Tables, Exchange, Representation, received_in, write_in, written_representation, sealed_representation, lossless, stops, exclusive}
 use Rattle.hc_event.specs.declared.act.Act.TheVariants as act
-use Rattle.hc_event.specs.declared.act.Cause.{Cause}
 use Rattle.hc_event.specs.declared.act.Cause.TheVariants as cause
 use Rattle.hc_event.specs.declared.act.LostKind.TheVariants as kind
-use Rattle.hc_event.specs.declared.event.Event.{Event}
 use Rattle.hc_event.specs.declared.event.Event.TheVariants as event
-use Rattle.hc_event.specs.declared.event.Response.{Response}
-use Rattle.hc_rules.specs.declared.room.Limits.{Limits}
-use Rattle.hc_model.specs.Denials.{denial}
-use Rattle.hc_model.specs.Effects.{Does, with_event, tables_after_close, over, put_down, failing, if_bound, with_consumer, with_due, with_dues, with_exchange, with_loss, with_representation, let_go, let_some_go, lost_to, going_with}
-use Rattle.hc_model.specs.Entries.{Entry, entry_without_acts}
-use Rattle.hc_model.specs.Exchanges.{family}
-use Rattle.hc_model.specs.Flaws.{NoFlaw, Loses}
-use Rattle.hc_model.specs.Gone.{stops_early}
-use Rattle.hc_model.specs.Lawful.{Lawful}
-use Rattle.hc_model.specs.Reading.{is_bound, is_bound_place}
 use Rattle.hc_model.specs.Rows as rows
-use Rattle.hc_model.specs.Rows.{Tables, Exchange, Representation}
-use Rattle.hc_model.specs.Tables.{received_in}
-use Rattle.hc_model.specs.Weights.{write_in}
-use Rattle.hc_model.specs.Writes.{written_representation, sealed_representation, lossless, stops}
-use Rattle.hc_model.specs.Writers.{exclusive}
 use Rattle.hc_effects.proofs.StopEffects as past_effects
 use Rattle.hc_effects.proofs.StopSeals as seal_effects
 use Rattle.hc_state.specs.declared.rows.Rows.{Rows}

@@ -6,10 +6,7 @@ use Rattle.std.specs.Prelude.{is_some, nat_eq, nat_le, drop, unwrap_or, option_m
 use Rattle.std.specs.HashMap.{get}
 use Rattle.hc_text.proofs.Basics.{eqb-same, false_true, same_some as same_row, and_off as then_false}
 use Rattle.hc_store.specs.declared.backend.Backend.{Ghosts}
-use Rattle.hc_event.specs.declared.act.Act.{Act}
-use Rattle.hc_event.specs.declared.act.Cause.{Cause}
-use Rattle.hc_event.specs.declared.event.Response.{Response}
-use Rattle.hc_rules.specs.declared.room.Limits.{Limits}
+use Rattle.hc_effects.proofs.Vocabulary.{Act, Cause, Response, Limits, BoundBy, is_number, base, front, family, is_headless, Lawful, own_open, is_bound, is_bound_place, is_written, writing_in, offset, Tables, Exchange, Representation, IsBound, IsAbout, IsHad, IsExclusiveWriter, IsOwner, exclusive, has_more}
 use Rattle.hc_sparse.specs.Cells.{Cell, Covers, EndsBy}
 use Rattle.hc_sorted.specs.Sorted.{has}
 use Rattle.hc_stored.specs.Entries.{shelf_of}
@@ -17,18 +14,9 @@ use Rattle.hc_stored.specs.Kept.{Kept, itself}
 use Rattle.hc_stored.specs.Views.{bound_in}
 use Rattle.hc_exch.specs.Exchanges.{table_of}
 use Rattle.hc_event.specs.declared.place.Place.TheVariants as place
-use Rattle.hc_event.specs.declared.place.BoundBy.{BoundBy}
-use Rattle.hc_model.specs.Currents.{is_number}
-use Rattle.hc_model.specs.Exchanges.{base, front, family, is_headless}
-use Rattle.hc_model.specs.Lawful.{Lawful}
-use Rattle.hc_model.specs.Reading.{own_open, is_bound, is_bound_place, is_written, writing_in, offset}
 use Rattle.hc_model.specs.Rows as rows
-use Rattle.hc_model.specs.Rows.{Tables, Exchange, Representation}
 use Rattle.hc_model.specs.Sound as sound
-use Rattle.hc_model.specs.Sound.{IsBound, IsAbout, IsHad, IsExclusiveWriter}
 use Rattle.hc_model.specs.Whose as whose
-use Rattle.hc_model.specs.Whose.{IsOwner}
-use Rattle.hc_model.specs.Writers.{exclusive, has_more}
 use Rattle.hc_effects.proofs.AboutKeeps.{own_open_of}
 use Rattle.hc_effects.proofs.Exclusives.{exclusive_parts}
 use Rattle.hc_effects.proofs.HoleLemmas.{covers_yes}

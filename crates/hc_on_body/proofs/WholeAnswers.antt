@@ -7,15 +7,12 @@ use Rattle.std.specs.Prelude.{is_some, nat_eq, option_map, ◌==◌, ◌||◌, �
 use Rattle.std.specs.Option.{option_or}
 use Rattle.hc_text.proofs.Basics.{any_none, eqb-other, eqb-same, false_true, same_or, same_some as same_row, some_inj as some_is, and_off as then_false}
 use Rattle.hc_store.specs.declared.backend.Backend.{Ghosts}
-use Rattle.hc_event.specs.declared.act.Act.{Act}
+use Rattle.hc_effects.proofs.Vocabulary.{Act, Cause, Response, Limits, denial, Does, with_event, at_end, failing, if_bound, with_due, with_dues, with_exchange, with_length, with_loss, with_representation, let_go, let_some_go, as_gone, lost_to, going_with, Entry, base, front, family, promised_bytes, is_headless, short_of, NoFlaw, Loses, is_short, stops_early, Grows, IsComing, is_growing, brings_to, Lawful, IsMeasured, told, untold, bound, is_bound, is_bound_place, with_total_if_none, Tables, Exchange, Representation, IsAbout, written_representation, exclusive, status_in}
 use Rattle.hc_event.specs.declared.act.Act.TheVariants as act
-use Rattle.hc_event.specs.declared.act.Cause.{Cause}
 use Rattle.hc_event.specs.declared.act.LostKind.TheVariants as kind
 use Rattle.hc_event.specs.declared.event.Event.TheVariants as event
-use Rattle.hc_event.specs.declared.event.Response.{Response}
 use Rattle.hc_record.specs.declared.kind.Kind.TheVariants as kinds
 use Rattle.hc_sorted.specs.Sorted.{has}
-use Rattle.hc_rules.specs.declared.room.Limits.{Limits}
 use Rattle.hc_sparse.specs.Cells.{Cell, Covers, EndsBy}
 use Rattle.hc_stored.specs.Entries.{shelf_of}
 use Rattle.hc_stored.specs.Kept as entry
@@ -25,26 +22,9 @@ use Rattle.hc_exch.specs.Exchanges as exch
 use Rattle.hc_exch.specs.Exchanges.{table_of}
 use Rattle.hc_exch.specs.Known as known
 use Rattle.hc_event.specs.declared.place.Place.TheVariants as place
-use Rattle.hc_model.specs.Denials.{denial}
-use Rattle.hc_model.specs.Effects.{Does, with_event, at_end, failing, if_bound, with_due, with_dues, with_exchange, with_length, with_loss, with_representation, let_go, let_some_go, as_gone, lost_to, going_with}
-use Rattle.hc_model.specs.Entries.{Entry}
-use Rattle.hc_model.specs.Exchanges.{base, front, family, promised_bytes, is_headless}
-use Rattle.hc_model.specs.Failures.{short_of}
-use Rattle.hc_model.specs.Flaws.{NoFlaw, Loses}
-use Rattle.hc_model.specs.Gone.{is_short, stops_early}
-use Rattle.hc_model.specs.Growing.{Grows, IsComing}
-use Rattle.hc_model.specs.Kinds.{is_growing, brings_to}
-use Rattle.hc_model.specs.Lawful.{Lawful}
-use Rattle.hc_model.specs.Measures.{IsMeasured, told, untold}
-use Rattle.hc_model.specs.Reading.{bound, is_bound, is_bound_place}
-use Rattle.hc_model.specs.RepresentationRows.{with_total_if_none}
 use Rattle.hc_model.specs.Rows as rows
-use Rattle.hc_model.specs.Rows.{Tables, Exchange, Representation}
 use Rattle.hc_model.specs.Sound as sound
-use Rattle.hc_model.specs.Sound.{IsAbout}
 use Rattle.hc_model.specs.Whose as whose
-use Rattle.hc_model.specs.Writes.{written_representation}
-use Rattle.hc_model.specs.Writers.{exclusive, status_in}
 use Rattle.hc_effects.proofs.LettingGo.{may_let_go, bound_let_go}
 use Rattle.hc_effects.proofs.StopEffects as past_effects
 use Rattle.hc_effects.proofs.StopFrames.{end_of}

@@ -4,9 +4,8 @@ use Rattle.std.specs.Prelude.{is_some, nat_eq, filter, option_map, if◌then◌e
 use Rattle.std.specs.Option.{option_or}
 use Rattle.std.specs.HashMap.{get}
 use Rattle.hc_text.proofs.Basics.{eq_tells, eqb-other, eqb-same, false_true, filters_same, finds_same, same_or, same_some as same_row, and_off as then_false}
-use Rattle.hc_rules.specs.declared.room.Limits.{Limits}
+use Rattle.hc_effects.proofs.Vocabulary.{Limits, Response, Place, BoundBy, current, is_number, is_usable, total_in, at_end, with_exchange, with_length, family, promised_bytes, kind_of, is_growing, is_complete, covers_all, brings_to, Lawful, bound, is_bound, is_bound_place, base_in, end_in, end_of_direct, lo_of, hi_of, with_total_if_none, Tables, Exchange, Representation, status_in}
 use Rattle.hc_store.specs.declared.backend.Backend.{Ghosts}
-use Rattle.hc_event.specs.declared.event.Response.{Response}
 use Rattle.hc_record.specs.declared.kind.Kind.TheVariants as kinds
 use Rattle.hc_record.specs.Head.{Head, sealed_head}
 use Rattle.hc_sparse.specs.Cells.{Covers, EndsBy}
@@ -20,19 +19,8 @@ use Rattle.hc_exch.specs.Exchanges as exch
 use Rattle.hc_exch.specs.Exchanges.{table_of}
 use Rattle.hc_exch.specs.Known as known
 use Rattle.hc_exch.specs.Known.{Known}
-use Rattle.hc_event.specs.declared.place.Place.{Place}
 use Rattle.hc_event.specs.declared.place.Place.TheVariants as place
-use Rattle.hc_event.specs.declared.place.BoundBy.{BoundBy}
-use Rattle.hc_model.specs.Currents.{current, is_number, is_usable, total_in}
-use Rattle.hc_model.specs.Effects.{at_end, with_exchange, with_length}
-use Rattle.hc_model.specs.Exchanges.{family, promised_bytes}
-use Rattle.hc_model.specs.Kinds.{kind_of, is_growing, is_complete, covers_all, brings_to}
-use Rattle.hc_model.specs.Lawful.{Lawful}
-use Rattle.hc_model.specs.Reading.{bound, is_bound, is_bound_place, base_in, end_in, end_of_direct, lo_of, hi_of}
-use Rattle.hc_model.specs.RepresentationRows.{with_total_if_none}
 use Rattle.hc_model.specs.Rows as rows
-use Rattle.hc_model.specs.Rows.{Tables, Exchange, Representation}
-use Rattle.hc_model.specs.Writers.{status_in}
 use Rattle.hc_effects.proofs.HoleLemmas.{covers_yes}
 use Rattle.hc_state.specs.declared.consumer.Consumer.{Consumer}
 use Rattle.hc_state.specs.declared.rows.Rows.{Rows}

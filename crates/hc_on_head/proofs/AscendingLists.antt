@@ -6,7 +6,7 @@ use Rattle.std.specs.Prelude.{reverse, nat_lt, ◌||◌}
 use Rattle.hc_text.proofs.Basics.{bool_cases, eq_by, eqb-same, false_true, or_cases as in_either}
 use Rattle.hc_entry.specs.Lines.{is_among}
 use Rattle.hc_entry.specs.Users.{itself}
-use Rattle.hc_model.specs.Orders.{Descends}
+use Rattle.hc_effects.proofs.Vocabulary.{Descends}
 use Rattle.hc_sorted.specs.Sorted.{above, is_sorted}
 use Rattle.hc_sorted.proofs.SortedLemmas.{has-above}
 

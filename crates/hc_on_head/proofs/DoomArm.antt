@@ -3,9 +3,8 @@
 use Rattle.std.proofs.Common.{◌≡◌, inl, inr, ℕ, List, ◌++◌, Bool, true, false, Option, Some, None, refl, ap, sym, ◌∙◌, subst}
 use Rattle.std.specs.Prelude.{IfSome, nat_eq, bytes_eq, map, option_map, unwrap_or, ◌&&◌, ◌||◌, if◌then◌else◌}
 use Rattle.hc_text.proofs.Basics.{eqb-other, false_true, mapped, same_or, same_some as same_row, some_inj as some_is, and_off as then_false}
-use Rattle.hc_rules.specs.declared.room.Limits.{Limits}
+use Rattle.hc_effects.proofs.Vocabulary.{Limits, Act, is_disabled, is_only, Place, back_in_line, current, is_live, over, all_closed, awaited_and, let_some_go, woken, family, is_headless, brings_to, Lawful, MayLetGo, WaitsOn, is_in_line, Tables, Exchange, Representation, waits_at}
 use Rattle.hc_store.specs.declared.backend.Backend.{Ghosts}
-use Rattle.hc_event.specs.declared.act.Act.{Act}
 use Rattle.hc_event.specs.declared.act.Act.TheVariants as act
 use Rattle.hc_stored.specs.Entries.{shelf_of}
 use Rattle.hc_stored.specs.Shelf.{Shelf}
@@ -17,23 +16,10 @@ use Rattle.hc_entry.specs.Lines.{is_among, is_in, all_back}
 use Rattle.hc_entry.proofs.OrderLemmas.{among-all}
 use Rattle.hc_exch.specs.Exchanges.{table_of}
 use Rattle.hc_exch.specs.Known as known
-use Rattle.hc_rules.specs.Requests.{is_disabled, is_only}
 use Rattle.hc_rules.proofs.RangeReads.{same_bytes, bytes_eq-same}
-use Rattle.hc_event.specs.declared.place.Place.{Place}
 use Rattle.hc_event.specs.declared.place.Place.TheVariants as place
 use Rattle.hc_event.specs.declared.place.BoundBy.TheVariants as by
-use Rattle.hc_model.specs.ConsumerRows.{back_in_line}
-use Rattle.hc_model.specs.Currents.{current}
-use Rattle.hc_model.specs.Denials.{is_live}
-use Rattle.hc_model.specs.Effects.{over, all_closed, awaited_and, let_some_go, woken}
-use Rattle.hc_model.specs.Exchanges.{family, is_headless}
-use Rattle.hc_model.specs.Kinds.{brings_to}
-use Rattle.hc_model.specs.Lawful.{Lawful}
-use Rattle.hc_model.specs.LettingGo.{MayLetGo, WaitsOn}
-use Rattle.hc_model.specs.Lines.{is_in_line}
 use Rattle.hc_model.specs.Rows as rows
-use Rattle.hc_model.specs.Rows.{Tables, Exchange, Representation}
-use Rattle.hc_model.specs.StartingOver.{waits_at}
 use Rattle.hc_effects.proofs.LettingGo.{may_let_go}
 use Rattle.hc_effects.proofs.SameTables.{all_closed_is}
 use Rattle.hc_state.specs.declared.rows.Rows.{Rows}

@@ -4,9 +4,8 @@ use Rattle.std.proofs.lemmas.Bool.Decides.{nat_tests}
 use Rattle.std.specs.Prelude.{filter, reverse, is_some, is_none, bytes_eq, option_and_then, nat_eq, ◌==◌, ◌&&◌, ◌||◌, if◌then◌else◌}
 use Rattle.std.specs.HashMap.{get, hash_map_len}
 use Rattle.hc_text.proofs.Basics.{and_both as both_parts, or_cases as either_part, eqb-other, eqb-same, false_true, none_by, none_of, same_or, same_some as same_row, some_inj as some_is}
-use Rattle.hc_rules.specs.declared.room.Limits.{Limits}
+use Rattle.hc_effects.proofs.Vocabulary.{Limits, Request, route_of, Place, awaits, is_number, is_live, is_awaited, awaited_and, is_headless, Lawful, IsAwaiting, Awaits, Tables, Exchange, awaited_exchange, waits_at, with_item_first}
 use Rattle.hc_store.specs.declared.backend.Backend.{Ghosts}
-use Rattle.hc_event.specs.declared.event.Request.{Request}
 use Rattle.hc_entry.specs.Keys.{line_of}
 use Rattle.hc_entry.specs.Lines.{is_among, is_in}
 use Rattle.hc_entry.specs.Users.{itself}
@@ -17,24 +16,12 @@ use Rattle.hc_exch.specs.Known.{is_open}
 use Rattle.hc_sorted.specs.Sorted.{is_sorted}
 use Rattle.hc_sorted.proofs.SortedLemmas.{is_sorted-filter, is_sorted-above}
 use Rattle.hc_rules.specs.declared.need.Route.TheVariants as route
-use Rattle.hc_rules.specs.Needs.{route_of}
 use Rattle.hc_rules.proofs.RangeReads.{same_bytes, bytes_eq-same}
-use Rattle.hc_event.specs.declared.place.Place.{Place}
 use Rattle.hc_event.specs.declared.place.Place.TheVariants as place
 use Rattle.hc_event.specs.declared.place.BoundBy.TheVariants as by
-use Rattle.hc_model.specs.Closings.{awaits}
-use Rattle.hc_model.specs.Currents.{is_number}
-use Rattle.hc_model.specs.Denials.{is_live}
-use Rattle.hc_model.specs.Effects.{is_awaited, awaited_and}
 use Rattle.hc_model.specs.Exchanges as exchanges
-use Rattle.hc_model.specs.Exchanges.{is_headless}
-use Rattle.hc_model.specs.Lawful.{Lawful}
-use Rattle.hc_model.specs.Owners.{IsAwaiting, Awaits}
 use Rattle.hc_model.specs.Owners as owners
 use Rattle.hc_model.specs.Rows as rows
-use Rattle.hc_model.specs.Rows.{Tables, Exchange}
-use Rattle.hc_model.specs.StartingOver.{awaited_exchange, waits_at}
-use Rattle.hc_model.specs.Tables.{with_item_first}
 use Rattle.hc_state.specs.declared.consumer.Consumer.{Consumer}
 use Rattle.hc_state.specs.declared.rows.Rows.{Rows}
 use Rattle.hc_state.specs.Dooms.{IsAwaited, IsToClose, IsUnheard}

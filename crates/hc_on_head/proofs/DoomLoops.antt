@@ -6,7 +6,7 @@ use Rattle.std.specs.Prelude.{map, nat_eq, nat_le, option_and_then, ◌||◌}
 use Rattle.std.specs.HashMap.{get}
 use Rattle.hc_text.proofs.Basics.{eqb-other, eqb-same, false_true, same_or, some_inj as some_is}
 use Rattle.hc_store.specs.declared.backend.Backend.{Ghosts}
-use Rattle.hc_event.specs.declared.act.Act.{Act}
+use Rattle.hc_effects.proofs.Vocabulary.{Act, lesser, awaited_exchange}
 use Rattle.hc_event.specs.declared.act.Act.TheVariants as act
 use Rattle.hc_entry.specs.declared.keys.KeyTable.{KeyTable}
 use Rattle.hc_entry.specs.Keys.{line_of, seated_at, AllAreSeatedBelow}
@@ -17,8 +17,6 @@ use Rattle.hc_exch.specs.Exchanges as exch
 use Rattle.hc_exch.specs.Exchanges.{table_of, next_of}
 use Rattle.hc_exch.specs.Known as known
 use Rattle.hc_sorted.specs.Sorted.{is_sorted}
-use Rattle.hc_rules.specs.Least.{lesser}
-use Rattle.hc_model.specs.StartingOver.{awaited_exchange}
 use Rattle.hc_state.specs.declared.consumer.Consumer.{Consumer}
 use Rattle.hc_state.specs.declared.rows.Rows.{Rows}
 use Rattle.hc_state.specs.Dooms.{awaited_by, IsAwaited, IsToClose, IsNext, AreAtMost, nearer, Closes}

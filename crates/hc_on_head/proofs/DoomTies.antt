@@ -3,27 +3,15 @@ use Rattle.std.proofs.Common.{◌≡◌, ℕ, zero, suc, ◌+◌, List, [], ◌�
 use Rattle.std.specs.Prelude.{nat_eq, bytes_eq, option_map, ◌&&◌, ◌||◌, if◌then◌else◌}
 use Rattle.std.specs.HashMap.{get}
 use Rattle.hc_text.proofs.Basics.{false_true, same_some as same_row, some_inj as some_is}
-use Rattle.hc_rules.specs.declared.room.Limits.{Limits}
+use Rattle.hc_effects.proofs.Vocabulary.{Limits, Response, promise_of, is_disabled, is_only, Place, back_in_line, is_number, over, woken, family, promised_bytes, is_open, length_by, Lawful, lo_of, hi_of, base_in, end_in, end_of_direct, is_bound_place, Tables, Exchange, Representation, waits_at}
 use Rattle.hc_store.specs.declared.backend.Backend.{Ghosts}
-use Rattle.hc_event.specs.declared.event.Response.{Response}
 use Rattle.hc_entry.specs.Keys.{line_of}
 use Rattle.hc_entry.specs.Lines.{is_among, is_in}
 use Rattle.hc_exch.specs.Known as known
 use Rattle.hc_exch.specs.Known.{Known}
-use Rattle.hc_rules.specs.Lengths.{promise_of}
-use Rattle.hc_rules.specs.Requests.{is_disabled, is_only}
-use Rattle.hc_event.specs.declared.place.Place.{Place}
 use Rattle.hc_event.specs.declared.place.Place.TheVariants as place
 use Rattle.hc_event.specs.declared.place.BoundBy.TheVariants as by
-use Rattle.hc_model.specs.ConsumerRows.{back_in_line}
-use Rattle.hc_model.specs.Currents.{is_number}
-use Rattle.hc_model.specs.Effects.{over, woken}
-use Rattle.hc_model.specs.Exchanges.{family, promised_bytes, is_open, length_by}
-use Rattle.hc_model.specs.Lawful.{Lawful}
-use Rattle.hc_model.specs.Reading.{lo_of, hi_of, base_in, end_in, end_of_direct, is_bound_place}
 use Rattle.hc_model.specs.Rows as rows
-use Rattle.hc_model.specs.Rows.{Tables, Exchange, Representation}
-use Rattle.hc_model.specs.StartingOver.{waits_at}
 use Rattle.hc_effects.proofs.SameTables as tables
 use Rattle.hc_effects.proofs.SameTables.{shut}
 use Rattle.hc_state.specs.declared.consumer.Consumer.{Consumer}

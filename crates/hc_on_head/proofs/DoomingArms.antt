@@ -3,24 +3,15 @@ use Rattle.std.proofs.Common.{◌≡◌, ◌≢◌, ◌⊎◌, inl, inr, ℕ, Li
 use Rattle.std.specs.Prelude.{is_some, is_none, nat_eq, bytes_eq, map, option_map, not, ◌&&◌, ◌||◌, if◌then◌else◌}
 use Rattle.std.specs.HashMap.{get}
 use Rattle.hc_text.proofs.Basics.{eqb-other, eqb-same, false_true, same_or, same_some as same_row, some_inj as some_is, and_off as then_false}
-use Rattle.hc_rules.specs.declared.room.Limits.{Limits}
+use Rattle.hc_effects.proofs.Vocabulary.{Limits, Act, Cause, Event, Response, head_case, Request, length_of, is_bad, route_of, head_refusal, head_view, awaits, back_in_line, current, denial, is_live, changes, with_event, as_gone, over, exchange_with_head, all_closed, let_some_go, with_answer, with_consumer, with_exchange, sent_back, woken, is_awaited, awaited_and, is_headless, brings_to, Lawful, is_in_line, IsAwaiting, Tables, Exchange, Representation, Among, waits_at, with_item_first}
 use Rattle.hc_store.specs.declared.backend.Backend.{Ghosts}
-use Rattle.hc_event.specs.declared.act.Act.{Act}
 use Rattle.hc_event.specs.declared.act.Act.TheVariants as act
-use Rattle.hc_event.specs.declared.act.Cause.{Cause}
 use Rattle.hc_event.specs.declared.act.Cause.TheVariants as cause
-use Rattle.hc_event.specs.declared.event.Event.{Event}
 use Rattle.hc_event.specs.declared.event.Event.TheVariants as event
-use Rattle.hc_event.specs.declared.event.Response.{Response}
 use Rattle.hc_rules.specs.declared.heads.HeadCase.TheVariants as case
-use Rattle.hc_rules.specs.HeadCases.{head_case}
 use Rattle.hc_stored.specs.Entries.{shelf_of}
 use Rattle.hc_event.specs.declared.act.Refusal.TheVariants as refusal
-use Rattle.hc_event.specs.declared.event.Request.{Request}
 use Rattle.hc_rules.specs.declared.need.Route.TheVariants as route
-use Rattle.hc_rules.specs.Lengths.{length_of, is_bad}
-use Rattle.hc_rules.specs.Needs.{route_of}
-use Rattle.hc_rules.specs.Refusals.{head_refusal}
 use Rattle.hc_exch.specs.declared.row.Open.{Open}
 use Rattle.hc_exch.specs.Exchanges.{table_of}
 use Rattle.hc_exch.specs.Known.{Table, open_view, begins_with, length_by}
@@ -29,24 +20,8 @@ use Rattle.hc_exch.specs.declared.row.Opening.{Opening}
 use Rattle.hc_entry.specs.Keys.{kept_of}
 use Rattle.hc_event.specs.declared.place.Place.TheVariants as place
 use Rattle.hc_event.specs.declared.place.BoundBy.TheVariants as by
-use Rattle.hc_model.specs.Cases.{head_view}
-use Rattle.hc_model.specs.Closings.{awaits}
-use Rattle.hc_model.specs.ConsumerRows.{back_in_line}
-use Rattle.hc_model.specs.Currents.{current}
-use Rattle.hc_model.specs.Denials.{denial, is_live}
-use Rattle.hc_model.specs.Dooms.{changes}
-use Rattle.hc_model.specs.Effects.{with_event, as_gone, over, exchange_with_head, all_closed, let_some_go, with_answer, with_consumer, with_exchange, sent_back, woken, is_awaited, awaited_and}
-use Rattle.hc_model.specs.Exchanges.{is_headless}
-use Rattle.hc_model.specs.Kinds.{brings_to}
-use Rattle.hc_model.specs.Lawful.{Lawful}
-use Rattle.hc_model.specs.Lines.{is_in_line}
-use Rattle.hc_model.specs.Owners.{IsAwaiting}
 use Rattle.hc_model.specs.Owners as owners
 use Rattle.hc_model.specs.Rows as rows
-use Rattle.hc_model.specs.Rows.{Tables, Exchange, Representation}
-use Rattle.hc_model.specs.Sound.{Among}
-use Rattle.hc_model.specs.StartingOver.{waits_at}
-use Rattle.hc_model.specs.Tables.{with_item_first}
 use Rattle.hc_effects.proofs.Basics.{same_functions}
 use Rattle.hc_effects.proofs.SameTables as tables
 use Rattle.hc_effects.proofs.SameTables.{without, shut, back_from_any, waits_for_any, some_go_is, all_closed_is}

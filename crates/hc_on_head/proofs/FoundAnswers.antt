@@ -7,22 +7,12 @@ use Rattle.hc_store.specs.Causes.{HasCause, IsWithin}
 use Rattle.hc_store.specs.declared.backend.Backend.{Ghosts}
 use Rattle.hc_store.specs.declared.error.StoreError.{StoreError}
 use Rattle.hc_store.specs.declared.error.StoreError.TheVariants as errors
-use Rattle.hc_event.specs.declared.act.Act.{Act}
+use Rattle.hc_effects.proofs.Vocabulary.{Act, LostKind, Request, Response, HeadCase, RequestClass, Limits, Room, head_case, head_refusal, class_of, range_of, head_view, is_founding, current, denial, let_some_go, with_consumer, with_answer, Loses, MayMakeRoom, MayLetGo, giving_way, Tables, Exchange, may_lose, room_for, is_fault}
 use Rattle.hc_event.specs.declared.act.Act.TheVariants as act
-use Rattle.hc_event.specs.declared.act.LostKind.{LostKind}
 use Rattle.hc_event.specs.declared.act.LostKind.TheVariants as kinds
 use Rattle.hc_event.specs.declared.event.Event.TheVariants as event
-use Rattle.hc_event.specs.declared.event.Request.{Request}
-use Rattle.hc_event.specs.declared.event.Response.{Response}
-use Rattle.hc_rules.specs.declared.heads.HeadCase.{HeadCase}
-use Rattle.hc_rules.specs.declared.request.RequestClass.{RequestClass}
-use Rattle.hc_rules.specs.declared.room.Limits.{Limits}
-use Rattle.hc_rules.specs.declared.room.Room.{Room}
 use Rattle.hc_rules.specs.declared.room.Room.TheVariants as room
 use Rattle.hc_rules.specs.declared.room.Write.TheVariants as write
-use Rattle.hc_rules.specs.HeadCases.{head_case}
-use Rattle.hc_rules.specs.Refusals.{head_refusal}
-use Rattle.hc_rules.specs.Requests.{class_of, range_of}
 use Rattle.hc_stored.specs.Entries.{shelf_of}
 use Rattle.hc_stored.specs.Kept.{Kept}
 use Rattle.hc_entry.specs.Keys.{kept_of}
@@ -31,16 +21,7 @@ use Rattle.hc_exch.specs.declared.row.Open.{Open}
 use Rattle.hc_exch.specs.Exchanges.{table_of}
 use Rattle.hc_exch.specs.Known.{open_view}
 use Rattle.hc_event.specs.declared.place.Place.TheVariants as place
-use Rattle.hc_model.specs.Cases.{head_view, is_founding}
-use Rattle.hc_model.specs.Currents.{current}
-use Rattle.hc_model.specs.Denials.{denial}
-use Rattle.hc_model.specs.Effects.{let_some_go, with_consumer, with_answer}
-use Rattle.hc_model.specs.Flaws.{Loses}
-use Rattle.hc_model.specs.LettingGo.{MayMakeRoom, MayLetGo, giving_way}
 use Rattle.hc_model.specs.Rows as rows
-use Rattle.hc_model.specs.Rows.{Tables, Exchange}
-use Rattle.hc_model.specs.Runs.{may_lose}
-use Rattle.hc_model.specs.Weights.{room_for}
 use Rattle.hc_effects.proofs.FoundDoes.{Founds, founds_of}
 use Rattle.hc_state.specs.declared.consumer.Consumer.{Consumer}
 use Rattle.hc_state.specs.declared.rows.Rows.{Rows}
@@ -52,7 +33,6 @@ use Rattle.hc_state.specs.Kept.{IsRunning}
 use Rattle.hc_state.specs.Renewals.{IsUnrenewed}
 use Rattle.hc_state.specs.Room.{HasActs, LeavesActs, GivesWay, loss_by, room_for_write}
 use Rattle.hc_state.specs.Stands.{Answered, RowsStand, Stands}
-use Rattle.hc_model.specs.Flaws.{is_fault}
 use Rattle.hc_state.specs.Stored.{KeepsEntry}
 use Rattle.hc_on_leave.proofs.AnswerArm.{reader_kept}
 use Rattle.hc_on_leave.proofs.FoundArm.{fallback, first, second, es, m, may_fallback, may_first, make_second, one_way, m_unfounded, m_asker, read_alone, founds_answered, lost_answered, full_told}

@@ -2,14 +2,7 @@
 use Rattle.std.proofs.Common.{◌≡◌, ◌≢◌, inl, inr, ℕ, ◌<◌, ◌^◌, false, Option, Some, None, refl, ap, sym, ◌∙◌, subst}
 use Rattle.std.specs.Prelude.{option_map, ◌==◌, if◌then◌else◌}
 use Rattle.hc_text.proofs.Basics.{eqb-other, eqb-same, same_or}
-use Rattle.hc_event.specs.declared.act.Need.{Need}
-use Rattle.hc_event.specs.declared.event.Request.{Request}
-use Rattle.hc_event.specs.declared.event.Response.{Response}
-use Rattle.hc_rules.specs.declared.length.Length.{Length}
-use Rattle.hc_rules.specs.Lengths.{is_bad, length_of, promise_of}
-use Rattle.hc_rules.specs.RangeTexts.{content_range_of}
-use Rattle.hc_model.specs.Effects.{just_opened}
-use Rattle.hc_model.specs.Heads.{total_of_part}
+use Rattle.hc_effects.proofs.Vocabulary.{Need, Request, Response, Length, is_bad, length_of, promise_of, content_range_of, just_opened, total_of_part}
 use Rattle.hc_effects.proofs.ToldNumbers.{founded_early}
 use Rattle.hc_entry.specs.declared.keys.KeyTable.{KeyTable}
 use Rattle.hc_entry.specs.Keys as keys

@@ -5,7 +5,7 @@ use Rattle.std.specs.Prelude.{codes, is_some, nat_eq, nat_le, option_and_then, o
 use Rattle.std.specs.Option.{IfSome}
 use Rattle.std.specs.HashMap.{get}
 use Rattle.hc_text.proofs.Basics.{eqb-same, false_true, some_inj as some_is}
-use Rattle.hc_rules.specs.declared.room.Limits.{Limits}
+use Rattle.hc_effects.proofs.Vocabulary.{Limits, Need, Request, Response, RequestClass, HeadCase, HeadView, head_case, is_conditional, is_storable, fits_to_found, length_of, is_bad, content_range_in, content_range_of, class_of, range_of, Route, route_of, BoundBy, joins_by, joins_row, fits_asker, was_shown, head_view, row_of, IsAwaiting, bound, is_bound, InHole, Tables, Exchange, Representation}
 use Rattle.hc_store.specs.declared.backend.Backend.{Ghosts}
 use Rattle.hc_range.specs.declared.range.Asked.{Asked}
 use Rattle.hc_range.specs.declared.range.Asked.TheVariants.{From, FromTo, Last}
@@ -18,24 +18,12 @@ use Rattle.hc_fields.specs.FirstValues.{only_of}
 use Rattle.hc_etag.specs.declared.tag.Tag.{Tag}
 use Rattle.hc_etag.specs.Tags.{value_of}
 use Rattle.hc_record.specs.Head.{Head}
-use Rattle.hc_event.specs.declared.act.Need.{Need}
 use Rattle.hc_event.specs.declared.act.Need.TheVariants as need
-use Rattle.hc_event.specs.declared.event.Request.{Request}
-use Rattle.hc_event.specs.declared.event.Response.{Response}
 use Rattle.hc_rules.specs.declared.joins.HoleAnswer.TheVariants as answer
-use Rattle.hc_rules.specs.declared.request.RequestClass.{RequestClass}
-use Rattle.hc_rules.specs.declared.heads.HeadCase.{HeadCase}
 use Rattle.hc_rules.specs.declared.heads.HeadCase.TheVariants as case
-use Rattle.hc_rules.specs.declared.heads.HeadView.{HeadView}
-use Rattle.hc_rules.specs.HeadCases.{head_case, is_conditional, is_storable, fits_to_found}
 use Rattle.hc_rules.specs.Joins.{joins, hole_answer}
-use Rattle.hc_rules.specs.Lengths.{length_of, is_bad}
-use Rattle.hc_rules.specs.RangeTexts.{content_range_in, content_range_of}
 use Rattle.hc_rules.proofs.RangeReads.{content_range_in-some}
-use Rattle.hc_rules.specs.Requests.{class_of, range_of}
-use Rattle.hc_rules.specs.declared.need.Route.{Route}
 use Rattle.hc_rules.specs.declared.need.Route.TheVariants as route
-use Rattle.hc_rules.specs.Needs.{route_of}
 use Rattle.hc_exch.specs.declared.row.Open.{Open}
 use Rattle.hc_exch.specs.Exchanges.{table_of}
 use Rattle.hc_stored.specs.declared.view.EntryView.{EntryView}
@@ -44,15 +32,8 @@ use Rattle.hc_stored.specs.Kept.{Kept}
 use Rattle.hc_stored.specs.Shelf.{Shelf}
 use Rattle.hc_stored.specs.Views.{view_of, tag_in}
 use Rattle.hc_event.specs.declared.place.Place.TheVariants as place
-use Rattle.hc_event.specs.declared.place.BoundBy.{BoundBy}
-use Rattle.hc_model.specs.Cases.{joins_by, joins_row, fits_asker, was_shown, head_view}
-use Rattle.hc_model.specs.Currents.{row_of}
-use Rattle.hc_model.specs.Owners.{IsAwaiting}
 use Rattle.hc_model.specs.Owners as owners
-use Rattle.hc_model.specs.Reading.{bound, is_bound}
-use Rattle.hc_model.specs.Sound.{InHole}
 use Rattle.hc_model.specs.Rows as rows
-use Rattle.hc_model.specs.Rows.{Tables, Exchange, Representation}
 use Rattle.hc_effects.proofs.Bounded.{range_order}
 use Rattle.hc_effects.proofs.Joining.{filling}
 use Rattle.hc_effects.proofs.ExclusiveWriters.{filter_some}

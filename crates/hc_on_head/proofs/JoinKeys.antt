@@ -8,10 +8,8 @@ use Rattle.hc_entry.specs.Kept as keyed
 use Rattle.hc_entry.specs.Kept.{on_line}
 use Rattle.hc_entry.specs.Keys.{kept_of, line_of}
 use Rattle.hc_entry.specs.Lines.{is_among, is_in, left_by}
-use Rattle.hc_model.specs.Effects.{with_consumer}
-use Rattle.hc_model.specs.Lines.{is_in_line, holds_turn}
+use Rattle.hc_effects.proofs.Vocabulary.{with_consumer, is_in_line, holds_turn, Tables}
 use Rattle.hc_model.specs.Rows as rows
-use Rattle.hc_model.specs.Rows.{Tables}
 use Rattle.hc_state.specs.Arms.{LeftIf}
 use Rattle.hc_state.specs.Leaving.{LeavesKey}
 use Rattle.hc_state.specs.Lines.{KeepsKey, has_turn, is_passed, is_away}

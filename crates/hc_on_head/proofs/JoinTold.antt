@@ -2,43 +2,23 @@
 use Rattle.std.proofs.Common.{◌≡◌, ◌⊎◌, inl, inr, ℕ, ◌+◌, ◌-◌, ◌<◌, ◌≤◌, List, Bool, true, false, Option, Some, None, refl, ap, ap₂, sym, ◌∙◌, subst, arith}
 use Rattle.std.specs.Prelude.{codes, is_some, bytes_eq, not, ◌||◌, ◌==◌, if◌then◌else◌, option_map}
 use Rattle.hc_text.proofs.Basics.{eqb-other, eqb-same, false_true, same_or, same_some as same_row, some_inj as some_is}
-use Rattle.hc_rules.specs.declared.room.Limits.{Limits}
+use Rattle.hc_effects.proofs.Vocabulary.{Limits, Need, Request, Response, HeadCase, HeadView, Length, head_case, length_of, content_length_of, is_bad, is_head, has_no_body, promise_of, agrees, route_of, content_range_of, is_get, is_disabled, BoundBy, head_view, joins_row, row_of, as_gone, lost_to, let_go, with_representation, back_from, promise_in, is_headless, is_reached, StandsFor, IsAwaiting, Tables, Exchange, Representation, InHole}
 use Rattle.hc_store.specs.declared.backend.Backend.{Ghosts}
 use Rattle.hc_stored.specs.Kept.{Kept}
 use Rattle.hc_exch.specs.declared.row.Open.{Open}
 use Rattle.hc_fields.specs.FieldElements.{elements_in}
 use Rattle.hc_range.specs.declared.range.ContentRange.TheVariants as range
-use Rattle.hc_event.specs.declared.act.Need.{Need}
 use Rattle.hc_event.specs.declared.act.Need.TheVariants as need
-use Rattle.hc_event.specs.declared.event.Request.{Request}
-use Rattle.hc_event.specs.declared.event.Response.{Response}
-use Rattle.hc_rules.specs.declared.heads.HeadCase.{HeadCase}
 use Rattle.hc_rules.specs.declared.heads.HeadCase.TheVariants as case
-use Rattle.hc_rules.specs.declared.heads.HeadView.{HeadView}
-use Rattle.hc_rules.specs.declared.length.Length.{Length}
 use Rattle.hc_rules.specs.declared.length.Length.TheVariants as says
 use Rattle.hc_rules.specs.declared.need.Route.TheVariants as route
-use Rattle.hc_rules.specs.HeadCases.{head_case}
-use Rattle.hc_rules.specs.Lengths.{length_of, content_length_of, is_bad, is_head, has_no_body, promise_of, agrees}
-use Rattle.hc_rules.specs.Needs.{route_of}
-use Rattle.hc_rules.specs.RangeTexts.{content_range_of}
-use Rattle.hc_rules.specs.Requests.{is_get, is_disabled}
 use Rattle.hc_rules.proofs.RangeReads.{same_bytes}
 use Rattle.hc_event.specs.declared.place.Place.TheVariants as place
-use Rattle.hc_event.specs.declared.place.BoundBy.{BoundBy}
 use Rattle.hc_event.specs.declared.place.BoundBy.TheVariants as by
-use Rattle.hc_model.specs.Cases.{head_view, joins_row}
-use Rattle.hc_model.specs.Currents.{row_of}
-use Rattle.hc_model.specs.Effects.{as_gone, lost_to, let_go, with_representation, back_from, waits_for}
-use Rattle.hc_model.specs.ExchangeRows.{promise_in}
-use Rattle.hc_model.specs.Exchanges.{is_headless, is_reached}
-use Rattle.hc_model.specs.Laws.{StandsFor}
+use Rattle.hc_model.specs.Effects.{waits_for}
 use Rattle.hc_model.specs.Laws as laws
-use Rattle.hc_model.specs.Owners.{IsAwaiting}
 use Rattle.hc_model.specs.Owners as owners
 use Rattle.hc_model.specs.Rows as rows
-use Rattle.hc_model.specs.Rows.{Tables, Exchange, Representation}
-use Rattle.hc_model.specs.Sound.{InHole}
 use Rattle.hc_effects.proofs.FoundBy.{CaseBy, case_by}
 use Rattle.hc_effects.proofs.FoundBy as cases
 use Rattle.hc_effects.proofs.Joining.{IsFilling, filling}

@@ -12,14 +12,8 @@ use Rattle.hc_entry.specs.Keys.{kept_of, line_of, seated_at, AllAreSeatedBelow, 
 use Rattle.hc_entry.specs.Kept.{on_line}
 use Rattle.hc_entry.specs.Lines.{is_in, all_back}
 use Rattle.hc_event.specs.declared.place.Place.TheVariants as place
-use Rattle.hc_model.specs.ConsumerRows.{back_in_line}
-use Rattle.hc_model.specs.Denials.{is_live}
-use Rattle.hc_model.specs.Effects.{with_consumer, woken}
-use Rattle.hc_model.specs.Lawful.{Lawful}
-use Rattle.hc_model.specs.Reading.{is_bound}
+use Rattle.hc_effects.proofs.Vocabulary.{back_in_line, is_live, with_consumer, woken, Lawful, is_bound, Tables, Among}
 use Rattle.hc_model.specs.Rows as rows
-use Rattle.hc_model.specs.Rows.{Tables}
-use Rattle.hc_model.specs.Sound.{Among}
 use Rattle.hc_model.specs.Sound as sound
 use Rattle.hc_state.specs.declared.consumer.Consumer.{Consumer}
 use Rattle.hc_state.specs.declared.rows.Rows.{Rows}

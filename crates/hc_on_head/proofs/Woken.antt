@@ -2,21 +2,11 @@
 use Rattle.std.proofs.Common.{◌≡◌, ℕ, List, Bool, true, false, Option, Some, None, refl, ap, sym, ◌∙◌}
 use Rattle.std.specs.Prelude.{bytes_eq, not, option_map, ◌&&◌, ◌||◌}
 use Rattle.hc_text.proofs.Basics.{false_true, and_off as then_false}
-use Rattle.hc_rules.specs.Requests.{is_disabled, is_only}
+use Rattle.hc_effects.proofs.Vocabulary.{is_disabled, is_only, Place, back_in_line, is_live_place, sent_back, is_headless, Lawful, is_in_line, Queues, Tables, waits_at}
 use Rattle.hc_rules.proofs.RangeReads.{same_bytes, bytes_eq-same}
-use Rattle.hc_event.specs.declared.place.Place.{Place}
 use Rattle.hc_event.specs.declared.place.Place.TheVariants as place
 use Rattle.hc_event.specs.declared.place.BoundBy.TheVariants as by
-use Rattle.hc_model.specs.ConsumerRows.{back_in_line}
-use Rattle.hc_model.specs.Denials.{is_live_place}
-use Rattle.hc_model.specs.Effects.{sent_back}
-use Rattle.hc_model.specs.Exchanges.{is_headless}
-use Rattle.hc_model.specs.Lawful.{Lawful}
-use Rattle.hc_model.specs.Lines.{is_in_line}
-use Rattle.hc_model.specs.Places.{Queues}
 use Rattle.hc_model.specs.Rows as rows
-use Rattle.hc_model.specs.Rows.{Tables}
-use Rattle.hc_model.specs.StartingOver.{waits_at}
 use Rattle.hc_state.specs.Lines.{is_passed, is_away}
 
 pub bytes-flip : (a b : List ℕ) → bytes_eq a b ≡ bytes_eq b a

@@ -3,13 +3,9 @@ use Rattle.std.proofs.Common.{◌≡◌, ◌≢◌, ℕ, Bool, true, false, cond
 use Rattle.std.specs.Prelude.{nat_eq, option_map}
 use Rattle.std.specs.HashMap.{get}
 use Rattle.hc_text.proofs.Basics.{eqb-other, eqb-same, false_true, some_inj as some_is}
-use Rattle.hc_rules.specs.declared.room.Limits.{Limits}
+use Rattle.hc_effects.proofs.Vocabulary.{Limits, Response, Length, length_of, is_bad, base_of, promise_of, head_refusal, exchange_with_head, is_reached, promised_bytes, lo_of, hi_of, Tables, Exchange}
 use Rattle.hc_store.specs.declared.backend.Backend.{Ghosts}
-use Rattle.hc_event.specs.declared.event.Response.{Response}
-use Rattle.hc_rules.specs.declared.length.Length.{Length}
 use Rattle.hc_rules.specs.declared.length.Length.TheVariants as says
-use Rattle.hc_rules.specs.Lengths.{length_of, is_bad, base_of, promise_of}
-use Rattle.hc_rules.specs.Refusals.{head_refusal}
 use Rattle.hc_stored.specs.Entries.{shelf_of}
 use Rattle.hc_exch.specs.declared.role.Role.TheVariants as role
 use Rattle.hc_exch.specs.declared.row.Open.{Open}
@@ -22,11 +18,7 @@ use Rattle.hc_exch.specs.Known.{Known, is_all, open_view, begins_with, length_by
 use Rattle.hc_exch.specs.Openings.{opened_with}
 use Rattle.hc_event.specs.declared.place.Place.TheVariants as place
 use Rattle.hc_model.specs.Effects as effects
-use Rattle.hc_model.specs.Effects.{exchange_with_head}
-use Rattle.hc_model.specs.Exchanges.{is_reached, promised_bytes}
-use Rattle.hc_model.specs.Reading.{lo_of, hi_of}
 use Rattle.hc_model.specs.Rows as rows
-use Rattle.hc_model.specs.Rows.{Tables, Exchange}
 use Rattle.hc_state.specs.declared.consumer.Consumer.{Consumer}
 use Rattle.hc_state.specs.declared.rows.Rows.{Rows}
 use Rattle.hc_state.specs.Changes.{Numbered, ChangesAt, with_answer}

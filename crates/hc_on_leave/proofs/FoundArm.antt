@@ -9,58 +9,23 @@ use Rattle.std.specs.Option.{option_or}
 use Rattle.hc_text.proofs.Basics.{eqb-other, eqb-same, false_true, same_or, some_inj as some_is}
 use Rattle.hc_store.specs.declared.backend.Backend.{Ghosts}
 use Rattle.hc_range.specs.declared.range.Span.{Span}
-use Rattle.hc_event.specs.declared.act.Act.{Act}
+use Rattle.hc_effects.proofs.Vocabulary.{Act, LostKind, Event, Need, Request, Response, HeadCase, Wanted, Limits, Room, head_case, length_of, promise_of, content_range_of, range_of, wanted_of, room_of, gives_way, Place, head_view, is_founding, back_in_line, bound_to_wanted, idle_now, current, denial, doomed_by_case, with_event, as_gone, let_all_go, let_some_go, with_consumer, with_answer, with_founding, just_founded, entry_without_acts, promise_in, family, NoFlaw, Loses, flaw_in, goes_by_case, founded_total, total_of_part, IsInUse, MayMakeRoom, MayLetGo, weight_now, weights_now, room_now, giving_way, AreOnce, bound, is_bound, Tables, Exchange, Representation, has_room, may_lose, Among, with_item_first, evicted, room_for, is_fault}
 use Rattle.hc_event.specs.declared.act.Act.TheVariants as act
-use Rattle.hc_event.specs.declared.act.LostKind.{LostKind}
 use Rattle.hc_event.specs.declared.act.LostKind.TheVariants as kinds
-use Rattle.hc_event.specs.declared.event.Event.{Event}
 use Rattle.hc_event.specs.declared.event.Event.TheVariants as event
-use Rattle.hc_event.specs.declared.act.Need.{Need}
-use Rattle.hc_event.specs.declared.event.Request.{Request}
-use Rattle.hc_event.specs.declared.event.Response.{Response}
-use Rattle.hc_rules.specs.declared.heads.HeadCase.{HeadCase}
 use Rattle.hc_rules.specs.declared.heads.HeadCase.TheVariants as case
-use Rattle.hc_rules.specs.declared.request.Wanted.{Wanted}
 use Rattle.hc_rules.specs.declared.request.Wanted.TheVariants as wanted
-use Rattle.hc_rules.specs.declared.room.Limits.{Limits}
-use Rattle.hc_rules.specs.declared.room.Room.{Room}
 use Rattle.hc_rules.specs.declared.room.Room.TheVariants as room
 use Rattle.hc_rules.specs.declared.room.Write.TheVariants as write
-use Rattle.hc_rules.specs.HeadCases.{head_case}
-use Rattle.hc_rules.specs.Lengths.{length_of, promise_of}
-use Rattle.hc_rules.specs.RangeTexts.{content_range_of}
-use Rattle.hc_rules.specs.Requests.{range_of, wanted_of}
-use Rattle.hc_rules.specs.Rooms.{room_of, gives_way}
 use Rattle.hc_stored.specs.Entries.{shelf_of}
 use Rattle.hc_exch.specs.Exchanges.{table_of}
 use Rattle.hc_exch.specs.Known.{length_by}
 use Rattle.hc_exch.specs.declared.row.Open.{Open}
-use Rattle.hc_event.specs.declared.place.Place.{Place}
 use Rattle.hc_event.specs.declared.place.Place.TheVariants as place
 use Rattle.hc_event.specs.declared.place.BoundBy.TheVariants as by
-use Rattle.hc_model.specs.Cases.{head_view, is_founding}
-use Rattle.hc_model.specs.ConsumerRows.{back_in_line, bound_to_wanted}
-use Rattle.hc_model.specs.Contents.{idle_now}
-use Rattle.hc_model.specs.Currents.{current}
-use Rattle.hc_model.specs.Denials.{denial}
-use Rattle.hc_model.specs.Dooms.{doomed_by_case}
-use Rattle.hc_model.specs.Effects.{with_event, as_gone, let_all_go, let_some_go, with_consumer, with_answer, with_founding, just_founded}
-use Rattle.hc_model.specs.Entries.{entry_without_acts}
-use Rattle.hc_model.specs.ExchangeRows.{promise_in}
-use Rattle.hc_model.specs.Exchanges.{family}
-use Rattle.hc_model.specs.Flaws.{NoFlaw, Loses, flaw_in}
-use Rattle.hc_model.specs.Gone.{goes_by_case}
-use Rattle.hc_model.specs.Heads.{founded_total, total_of_part}
-use Rattle.hc_model.specs.LettingGo.{IsInUse, MayMakeRoom, MayLetGo, weight_now, weights_now, room_now, first_idle, giving_way}
-use Rattle.hc_model.specs.Orders.{AreOnce}
-use Rattle.hc_model.specs.Reading.{bound, is_bound}
+use Rattle.hc_model.specs.LettingGo.{first_idle}
 use Rattle.hc_model.specs.Rows as rows
-use Rattle.hc_model.specs.Rows.{Tables, Exchange, Representation}
-use Rattle.hc_model.specs.Runs.{has_room, may_lose}
-use Rattle.hc_model.specs.Sound.{Among}
 use Rattle.hc_model.specs.Sound as sound
-use Rattle.hc_model.specs.Tables.{with_item_first}
-use Rattle.hc_model.specs.Weights.{evicted, room_for}
 use Rattle.hc_effects.proofs.FoundCases.{founding_writes}
 use Rattle.hc_effects.proofs.FoundDoes.{Founds, whole, part, replaced, founds_does, founds_goes, lost_does, replaces, founder, status_is, total_whole, empty_total, part_wanted, founder_unshown, is_part}
 use Rattle.hc_effects.proofs.FoundEffects.{all_one, room_apart, room_one, current_there}
@@ -79,7 +44,6 @@ use Rattle.hc_state.specs.Heads.{AwaitsHead, IsReadAlone, goes_with}
 use Rattle.hc_state.specs.Kept.{IsRunning}
 use Rattle.hc_state.specs.Room.{GivesWay}
 use Rattle.hc_state.specs.Stands.{Answered, RowsStand}
-use Rattle.hc_model.specs.Flaws.{is_fault}
 use Rattle.hc_state.proofs.Counting.{stands_counted}
 use Rattle.hc_on_leave.proofs.FoundRows.{IsUnfounded, founded_stands}
 use Rattle.hc_on_leave.proofs.HeardRows.{runs_as}

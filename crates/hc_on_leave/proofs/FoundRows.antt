@@ -6,20 +6,14 @@ use Rattle.std.specs.HashMap.{get}
 use Rattle.std.specs.List.{list_any}
 use Rattle.std.specs.Option.{option_or}
 use Rattle.hc_text.proofs.Basics.{any_none, eqb-other, eqb-same, false_true, never_true as not_true, same_or, some_inj as some_is}
-use Rattle.hc_rules.specs.declared.room.Limits.{Limits}
+use Rattle.hc_effects.proofs.Vocabulary.{Limits, Need, Request, Response, Length, length_of, base_of, promise_of, content_range_of, Place, BoundBy, current, is_number, is_usable, total_in, is_live, exchange_with_head, just_founded, with_consumer, with_founding, promise_in, family, is_reached, founded_total, total_of_part, varied_by, kind_of, is_growing, brings_to, is_bound, is_bound_place, Tables, Exchange, Representation, Among, came_alone, is_in_line}
 use Rattle.hc_store.specs.declared.backend.Backend.{Ghosts}
 use Rattle.hc_sparse.specs.Cells.{Covers, nothing}
 use Rattle.hc_sorted.specs.Sorted.{has}
 use Rattle.hc_record.specs.Head.{Head, sealed_head}
 use Rattle.hc_record.specs.Plain.{plain}
 use Rattle.hc_record.specs.declared.kind.Kind.TheVariants as kinds
-use Rattle.hc_event.specs.declared.act.Need.{Need}
-use Rattle.hc_event.specs.declared.event.Request.{Request}
-use Rattle.hc_event.specs.declared.event.Response.{Response}
 use Rattle.hc_rules.proofs.RangeReads.{bytes_eq-same, same_bytes}
-use Rattle.hc_rules.specs.declared.length.Length.{Length}
-use Rattle.hc_rules.specs.Lengths.{length_of, base_of, promise_of}
-use Rattle.hc_rules.specs.RangeTexts.{content_range_of}
 use Rattle.hc_stored.specs.Entries.{shelf_of}
 use Rattle.hc_stored.specs.Kept.{Kept, itself, alone_if}
 use Rattle.hc_stored.specs.Kept as entry
@@ -30,23 +24,11 @@ use Rattle.hc_exch.specs.declared.role.Role.TheVariants as role
 use Rattle.hc_exch.specs.declared.row.Open.{Open}
 use Rattle.hc_exch.specs.Exchanges.{table_of}
 use Rattle.hc_exch.specs.Known.{Known, is_all, length_by}
-use Rattle.hc_event.specs.declared.place.Place.{Place}
 use Rattle.hc_event.specs.declared.place.Place.TheVariants as place
-use Rattle.hc_event.specs.declared.place.BoundBy.{BoundBy}
 use Rattle.hc_event.specs.declared.place.BoundBy.TheVariants as by
-use Rattle.hc_model.specs.Currents.{current, is_number, is_usable, total_in}
-use Rattle.hc_model.specs.Denials.{is_live}
 use Rattle.hc_model.specs.Effects as effects
-use Rattle.hc_model.specs.Effects.{exchange_with_head, just_founded, with_consumer, with_founding}
-use Rattle.hc_model.specs.ExchangeRows.{promise_in}
-use Rattle.hc_model.specs.Exchanges.{family, is_reached}
-use Rattle.hc_model.specs.Heads.{founded_total, founded_head, total_of_part, varied_by}
-use Rattle.hc_model.specs.Kinds.{kind_of, is_growing, brings_to}
-use Rattle.hc_model.specs.Reading.{is_bound, is_bound_place}
+use Rattle.hc_model.specs.Heads.{founded_head}
 use Rattle.hc_model.specs.Rows as rows
-use Rattle.hc_model.specs.Rows.{Tables, Exchange, Representation}
-use Rattle.hc_model.specs.Sound.{Among}
-use Rattle.hc_model.specs.Writers.{came_alone}
 use Rattle.hc_state.specs.declared.consumer.Consumer.{Consumer}
 use Rattle.hc_state.specs.declared.rows.Rows.{Rows}
 use Rattle.hc_state.specs.declared.founded.Founding.{Founding}
@@ -68,7 +50,6 @@ use Rattle.hc_state.proofs.OneOfEach.{bound_same, kind_same}
 use Rattle.hc_state.proofs.QueueArm.{becomes_by}
 use Rattle.hc_state.proofs.Ties.{consumer_same, entry_same, exchange_same}
 use Rattle.hc_state.proofs.Words.{and_false}
-use Rattle.hc_model.specs.Lines.{is_in_line}
 
 -- It is listed, nobody is bound to what has its number, and no other exchange brings that.
 pub record IsUnfounded (m : Tables) (x : ℕ) : Type 0 where

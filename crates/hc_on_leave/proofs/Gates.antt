@@ -3,18 +3,13 @@ use Rattle.std.proofs.Common.{◌≡◌, ℕ, false, Option, Some, None, refl, a
 use Rattle.std.specs.Prelude.{option_map, nat_eq}
 use Rattle.std.specs.Option.{option_and_then}
 use Rattle.std.specs.HashMap.{get}
-use Rattle.hc_rules.specs.declared.room.Limits.{Limits}
+use Rattle.hc_effects.proofs.Vocabulary.{Limits, Event, Gate, refusal_of, denial, gate, as_open, exchange_in, Tables, Exchange}
 use Rattle.hc_store.specs.declared.backend.Backend.{Ghosts}
-use Rattle.hc_event.specs.declared.event.Event.{Event}
 use Rattle.hc_event.specs.declared.event.Event.TheVariants as event
-use Rattle.hc_rules.specs.declared.refusal.Gate.{Gate}
-use Rattle.hc_rules.specs.Refusals.{refusal_of}
 use Rattle.hc_exch.specs.Exchanges.{table_of}
 use Rattle.hc_exch.specs.Known.{open_view}
 use Rattle.hc_exch.specs.declared.row.Open.{Open}
-use Rattle.hc_model.specs.Denials.{denial, gate, as_open, names_live}
-use Rattle.hc_model.specs.Exchanges.{exchange_in}
-use Rattle.hc_model.specs.Rows.{Tables, Exchange}
+use Rattle.hc_model.specs.Denials.{names_live}
 use Rattle.hc_state.specs.declared.rows.Rows.{Rows}
 use Rattle.hc_state.specs.Kept.{KeepsRunning, IsRunning}
 use Rattle.hc_state.specs.Stands.{RowsStand, gate_of, open_at, names_kept}

@@ -4,15 +4,10 @@ use Rattle.std.specs.Prelude.{nat_eq, drop, bytes_eq, ◌&&◌}
 use Rattle.hc_text.proofs.Basics.{eqb-other, eqb-same, same_or, and_off as then_false}
 use Rattle.hc_stored.specs.Shelf.{Shelf}
 use Rattle.hc_entry.specs.Kept as keyed
-use Rattle.hc_event.specs.declared.place.Place.{Place}
+use Rattle.hc_effects.proofs.Vocabulary.{Place, current, with_exchange, family, is_growing, brings_to, Tables, Exchange, Representation}
 use Rattle.hc_event.specs.declared.place.Place.TheVariants as place
 use Rattle.hc_event.specs.declared.place.BoundBy.TheVariants as by
-use Rattle.hc_model.specs.Currents.{current}
-use Rattle.hc_model.specs.Effects.{with_exchange}
-use Rattle.hc_model.specs.Exchanges.{family}
-use Rattle.hc_model.specs.Kinds.{is_growing, brings_to}
 use Rattle.hc_model.specs.Rows as rows
-use Rattle.hc_model.specs.Rows.{Tables, Exchange, Representation}
 use Rattle.hc_state.specs.Heads.{IsBare}
 use Rattle.hc_state.specs.Kept.{unread, held_for}
 use Rattle.hc_state.specs.Lines.{KeepsKey, is_away, is_away_at}

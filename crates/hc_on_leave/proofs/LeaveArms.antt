@@ -4,27 +4,13 @@ use Rattle.std.proofs.lemmas.List.{append_assoc}
 use Rattle.std.specs.Prelude.{nat_eq, map, ◌||◌}
 use Rattle.hc_text.proofs.Basics.{false_true}
 use Rattle.hc_store.specs.declared.backend.Backend.{Ghosts}
-use Rattle.hc_event.specs.declared.act.Act.{Act}
+use Rattle.hc_effects.proofs.Vocabulary.{Act, Cause, Limits, Does, with_event, let_some_go, let_go, left_by, going_with, with_leave, with_representation, lost_to, family, NoFlaw, Loses, flaw_in, Lawful, Ends, Fails, is_failed_read, move_of, Tables, Representation, is_kept, with_item_first, written_representation, exclusive}
 use Rattle.hc_event.specs.declared.act.Act.TheVariants as act
-use Rattle.hc_event.specs.declared.act.Cause.{Cause}
 use Rattle.hc_event.specs.declared.act.Cause.TheVariants as cause
 use Rattle.hc_event.specs.declared.act.LostKind.TheVariants as kind
 use Rattle.hc_event.specs.declared.event.Event.TheVariants as event
-use Rattle.hc_rules.specs.declared.room.Limits.{Limits}
 use Rattle.hc_event.specs.declared.place.Place.TheVariants as place
-use Rattle.hc_model.specs.Effects.{Does, with_event, let_some_go, let_go, left_by, going_with, with_leave, with_representation, lost_to}
-use Rattle.hc_model.specs.Exchanges.{family}
-use Rattle.hc_model.specs.Flaws.{NoFlaw, Loses, flaw_in}
-use Rattle.hc_model.specs.Lawful.{Lawful}
-use Rattle.hc_model.specs.Moves.{Ends, Fails}
-use Rattle.hc_model.specs.Places.{is_failed_read}
-use Rattle.hc_model.specs.Polls.{move_of}
 use Rattle.hc_model.specs.Rows as rows
-use Rattle.hc_model.specs.Rows.{Tables, Representation}
-use Rattle.hc_model.specs.Runs.{is_kept}
-use Rattle.hc_model.specs.Tables.{with_item_first}
-use Rattle.hc_model.specs.Writes.{written_representation}
-use Rattle.hc_model.specs.Writers.{exclusive}
 use Rattle.hc_effects.proofs.FailsTold.{fails_told}
 use Rattle.hc_effects.proofs.LeaveEffects as effects
 use Rattle.hc_effects.proofs.SealEffects as seal_effects

@@ -4,7 +4,7 @@ use Rattle.std.proofs.lemmas.Bool.Decides.{nat_tests}
 use Rattle.std.specs.Prelude.{is_some, nat_eq, bytes_eq, option_map, option_and_then, not, ◌&&◌, ◌||◌, ◌==◌, if◌then◌else◌}
 use Rattle.std.specs.HashMap.{get}
 use Rattle.hc_text.proofs.Basics.{eqb-same, false_true, mapped, some_inj as some_is, and_off as then_false}
-use Rattle.hc_rules.specs.declared.room.Limits.{Limits}
+use Rattle.hc_effects.proofs.Vocabulary.{Limits, Place, back_in_line, current, is_usable, total_in, is_live, as_gone, let_go, unless_it, family, MayLetGo, is_in_line, holds_turn, Queues, has_passed, Tables, Exchange, Representation, status_in}
 use Rattle.hc_store.specs.declared.backend.Backend.{Ghosts}
 use Rattle.hc_stored.specs.Entries.{shelf_of}
 use Rattle.hc_stored.specs.Kept as kept
@@ -21,21 +21,9 @@ use Rattle.hc_entry.proofs.OrderLemmas.{among-merged}
 use Rattle.hc_exch.specs.Exchanges.{table_of, next_of}
 use Rattle.hc_sorted.specs.Sorted.{without}
 use Rattle.hc_rules.proofs.RangeReads.{same_bytes, bytes_eq-same}
-use Rattle.hc_event.specs.declared.place.Place.{Place}
 use Rattle.hc_event.specs.declared.place.Place.TheVariants as place
-use Rattle.hc_model.specs.ConsumerRows.{back_in_line}
-use Rattle.hc_model.specs.Currents.{current, is_usable, total_in}
-use Rattle.hc_model.specs.Denials.{is_live}
-use Rattle.hc_model.specs.Effects.{waits_for, as_gone, let_go}
-use Rattle.hc_model.specs.Evictions.{unless_it}
-use Rattle.hc_model.specs.Exchanges.{family}
-use Rattle.hc_model.specs.LettingGo.{MayLetGo}
-use Rattle.hc_model.specs.Lines.{is_in_line, holds_turn}
-use Rattle.hc_model.specs.Places.{Queues}
-use Rattle.hc_model.specs.Planning.{has_passed}
+use Rattle.hc_model.specs.Effects.{waits_for}
 use Rattle.hc_model.specs.Rows as rows
-use Rattle.hc_model.specs.Rows.{Tables, Exchange, Representation}
-use Rattle.hc_model.specs.Writers.{status_in}
 use Rattle.hc_effects.proofs.CurrentKeeps.{usable_row}
 use Rattle.hc_effects.proofs.IdleNow.{filter_both}
 use Rattle.hc_effects.proofs.LettingGo.{current_let_go, bound_let_go, live_let_go, current_may, let_go_nothing}

@@ -4,17 +4,10 @@ use Rattle.std.proofs.lemmas.Bool.Decides.{nat_tests}
 use Rattle.std.proofs.lemmas.List.{drop_all}
 use Rattle.std.specs.Prelude.{is_some, nat_eq, nat_le, ◌&&◌, if◌then◌else◌}
 use Rattle.hc_text.proofs.Basics.{and_off as then_false}
-use Rattle.hc_event.specs.declared.event.Response.{Response}
-use Rattle.hc_rules.specs.declared.room.Limits.{Limits}
+use Rattle.hc_effects.proofs.Vocabulary.{Response, Limits, is_number, base, front, family, is_bound_place, offset, Tables, Exchange, Representation, IsBound, IsExclusiveWriter, exclusive}
 use Rattle.hc_sparse.specs.Cells.{Cell, EndsBy, Covers}
-use Rattle.hc_model.specs.Currents.{is_number}
-use Rattle.hc_model.specs.Exchanges.{base, front, family}
-use Rattle.hc_model.specs.Reading.{is_bound_place, offset}
 use Rattle.hc_model.specs.Rows as rows
-use Rattle.hc_model.specs.Rows.{Tables, Exchange, Representation}
 use Rattle.hc_model.specs.Sound as sound
-use Rattle.hc_model.specs.Sound.{IsBound, IsExclusiveWriter}
-use Rattle.hc_model.specs.Writers.{exclusive}
 use Rattle.hc_effects.proofs.Exclusives.{exclusive_parts}
 use Rattle.hc_effects.proofs.HoleLemmas.{covers_yes}
 use Rattle.hc_state.specs.Facts.{Facts}

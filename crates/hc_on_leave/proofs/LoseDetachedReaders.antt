@@ -7,7 +7,7 @@ use Rattle.std.proofs.lemmas.List.Elements.{filter-append}
 use Rattle.std.specs.Prelude.{is_some, is_none, nat_eq, filter, map, option_map, ◌&&◌, ◌||◌, ◌==◌, if◌then◌else◌}
 use Rattle.std.specs.HashMap.{get}
 use Rattle.hc_text.proofs.Basics.{eqb-same, false_true, same_some as same_row, and_off as then_false}
-use Rattle.hc_rules.specs.declared.room.Limits.{Limits}
+use Rattle.hc_effects.proofs.Vocabulary.{Limits, Member, least, lesser, Place, is_number, is_live_place, if_bound, left_with, let_go, lost_to, with_representation, writing_lost, base, front, family, MayLetGo, bound, is_bound, is_bound_place, offset, lo_of, Tables, Exchange, Representation, survivor, member, offset_in}
 use Rattle.hc_store.specs.declared.backend.Backend.{Ghosts}
 use Rattle.hc_event.specs.declared.act.Cause.TheVariants as cause
 use Rattle.hc_stored.specs.Entries.{shelf_of}
@@ -16,21 +16,10 @@ use Rattle.hc_stored.specs.Shelf.{is_kept}
 use Rattle.hc_stored.specs.Views.{bound_in}
 use Rattle.hc_entry.specs.Lines.{is_among}
 use Rattle.hc_sorted.specs.Sorted.{has}
-use Rattle.hc_rules.specs.declared.survivor.Member.{Member}
-use Rattle.hc_rules.specs.Least.{least, lesser}
 use Rattle.hc_rules.proofs.LeastFolds.{least-append}
 use Rattle.hc_rules.specs.Survivors as members
-use Rattle.hc_event.specs.declared.place.Place.{Place}
 use Rattle.hc_event.specs.declared.place.Place.TheVariants as place
-use Rattle.hc_model.specs.Currents.{is_number}
-use Rattle.hc_model.specs.Denials.{is_live_place}
-use Rattle.hc_model.specs.Effects.{if_bound, left_with, let_go, lost_to, with_representation, writing_lost}
-use Rattle.hc_model.specs.Exchanges.{base, front, family}
-use Rattle.hc_model.specs.LettingGo.{MayLetGo}
-use Rattle.hc_model.specs.Reading.{bound, is_bound, is_bound_place, offset, lo_of}
 use Rattle.hc_model.specs.Rows as rows
-use Rattle.hc_model.specs.Rows.{Tables, Exchange, Representation}
-use Rattle.hc_model.specs.Writers.{survivor, member, offset_in}
 use Rattle.hc_effects.proofs.HoleLemmas.{first_from}
 use Rattle.hc_state.specs.declared.consumer.Consumer.{Consumer}
 use Rattle.hc_state.specs.declared.rows.Rows.{Rows}

@@ -4,22 +4,11 @@ use Rattle.std.specs.Prelude.{map, ◌||◌}
 use Rattle.hc_text.proofs.Basics.{eqb-same, false_true, or_right as or_last}
 use Rattle.hc_store.specs.declared.backend.Backend.{Ghosts}
 use Rattle.hc_stored.specs.Entries.{shelf_of}
-use Rattle.hc_event.specs.declared.act.Act.{Act}
+use Rattle.hc_effects.proofs.Vocabulary.{Act, Limits, Place, is_last_reader, current, is_number, Does, with_event, with_consumer, let_go, let_some_go, all_closed, as_over, left_by, going_with, Misreads, flaw_in, Lawful, IsAway, is_bound, Tables, Consumer, with_item_first}
 use Rattle.hc_event.specs.declared.act.Act.TheVariants as act
 use Rattle.hc_event.specs.declared.act.Cause.TheVariants as cause
 use Rattle.hc_event.specs.declared.event.Event.TheVariants as event
-use Rattle.hc_rules.specs.declared.room.Limits.{Limits}
-use Rattle.hc_event.specs.declared.place.Place.{Place}
 use Rattle.hc_event.specs.declared.place.Place.TheVariants as place
-use Rattle.hc_model.specs.Closings.{is_last_reader}
-use Rattle.hc_model.specs.Currents.{current, is_number}
-use Rattle.hc_model.specs.Effects.{Does, with_event, with_consumer, let_go, let_some_go, all_closed, as_over, left_by, going_with}
-use Rattle.hc_model.specs.Flaws.{Misreads, flaw_in}
-use Rattle.hc_model.specs.Lawful.{Lawful}
-use Rattle.hc_model.specs.Places.{IsAway}
-use Rattle.hc_model.specs.Reading.{is_bound}
-use Rattle.hc_model.specs.Rows.{Tables, Consumer}
-use Rattle.hc_model.specs.Tables.{with_item_first}
 use Rattle.hc_effects.proofs.MisreadEffects.{misreads}
 use Rattle.hc_state.specs.declared.rows.Rows.{Rows}
 use Rattle.hc_state.specs.Plans.{is_idle_at}

@@ -5,29 +5,14 @@ use Rattle.std.specs.Prelude.{is_some, nat_eq, map, option_map, ◌||◌, ◌&&�
 use Rattle.hc_text.proofs.Basics.{eqb-other, eqb-same, false_true, or_left as or_first, same_some as same_row, some_inj as some_is, and_off as then_false}
 use Rattle.hc_store.specs.declared.backend.Backend.{Ghosts}
 use Rattle.hc_stored.specs.Entries.{shelf_of}
-use Rattle.hc_event.specs.declared.act.Act.{Act}
+use Rattle.hc_effects.proofs.Vocabulary.{Act, Event, Limits, Place, BoundBy, is_current, Does, with_event, with_consumer, let_go, let_some_go, as_gone, tables_after_close, all_closed, as_over, left_by, going_with, is_unkeepable, family, Misreads, flaw_in, brings_to, Lawful, MayLetGo, is_bound_place, Tables, Exchange, Representation, Consumer, IsAbout, with_item_first}
 use Rattle.hc_event.specs.declared.act.Act.TheVariants as act
 use Rattle.hc_event.specs.declared.act.Cause.TheVariants as cause
-use Rattle.hc_event.specs.declared.event.Event.{Event}
 use Rattle.hc_event.specs.declared.event.Event.TheVariants as event
 use Rattle.hc_exch.specs.Exchanges as exch
 use Rattle.hc_exch.specs.Known as known
-use Rattle.hc_rules.specs.declared.room.Limits.{Limits}
-use Rattle.hc_event.specs.declared.place.Place.{Place}
 use Rattle.hc_event.specs.declared.place.Place.TheVariants as place
-use Rattle.hc_event.specs.declared.place.BoundBy.{BoundBy}
-use Rattle.hc_model.specs.Currents.{is_current}
-use Rattle.hc_model.specs.Effects.{Does, with_event, with_consumer, let_go, let_some_go, as_gone, tables_after_close, all_closed, as_over, left_by, going_with, is_unkeepable}
-use Rattle.hc_model.specs.Exchanges.{family}
-use Rattle.hc_model.specs.Flaws.{Misreads, flaw_in}
-use Rattle.hc_model.specs.Kinds.{brings_to}
-use Rattle.hc_model.specs.Lawful.{Lawful}
-use Rattle.hc_model.specs.LettingGo.{MayLetGo}
-use Rattle.hc_model.specs.Reading.{is_bound_place}
-use Rattle.hc_model.specs.Rows.{Tables, Exchange, Representation, Consumer}
 use Rattle.hc_model.specs.Sound as sound
-use Rattle.hc_model.specs.Sound.{IsAbout}
-use Rattle.hc_model.specs.Tables.{with_item_first}
 use Rattle.hc_effects.proofs.LettingGo.{may_let_go, keeps_may, let_go_nothing}
 use Rattle.hc_effects.proofs.MisreadEffects.{misreads}
 use Rattle.hc_effects.proofs.Stops.{writer_about}
@@ -86,7 +71,6 @@ module _ (t : Tables) (law : Lawful t) (c q : ℕ) (v : Consumer) (row : t.consu
   going_is : (x n : ℕ) → HowLeft t c x v → going_with t (Some x) ≡ Some n → n ≡ q
   going_is x n how going = by_row (t.representation x) refl going
     where
-
       there : IsAbout t q x → (w : Exchange) × (t.exchange x ≡ Some w)
       there (sound.headed z ex on headed of_q some) = (z, ex)
       there (sound.asks z a b ex on bare need aim) = (z, ex)

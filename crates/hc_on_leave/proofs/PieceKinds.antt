@@ -10,8 +10,7 @@ use Rattle.hc_stored.specs.declared.view.EntryView.{EntryView}
 use Rattle.hc_stored.specs.Kept.{Kept}
 use Rattle.hc_stored.specs.Shelf.{Shelf, cells_in, cells_at}
 use Rattle.hc_stored.specs.Views.{view_of}
-use Rattle.hc_model.specs.Kinds.{is_complete, is_front}
-use Rattle.hc_model.specs.Rows.{Representation}
+use Rattle.hc_effects.proofs.Vocabulary.{is_complete, is_front, Representation}
 use Rattle.hc_state.specs.Pieces.{larger_view}
 use Rattle.hc_state.specs.Stops.{IsViewOf, kind_left}
 use Rattle.hc_state.proofs.StoredKinds.{complete_as, incomplete_as, front_as}

@@ -6,30 +6,13 @@ use Rattle.std.specs.Prelude.{is_some, nat_eq, nat_le, nat_lt, filter, map, reve
 use Rattle.std.specs.List.{sum_by}
 use Rattle.hc_text.proofs.Basics.{and_true, eqb-other, false_true, or_off_left as or_first, same_or, and_off as then_false}
 use Rattle.hc_event.specs.declared.event.Event.TheVariants as event
-use Rattle.hc_rules.specs.declared.room.Limits.{Limits}
-use Rattle.hc_rules.specs.declared.room.Room.{Room}
+use Rattle.hc_effects.proofs.Vocabulary.{Limits, Room, Write, room_of, gives_way, weight_of, idle_now, is_current, denial, Entry, entry_without_acts, outlasts, outlasts_row, family, NoFlaw, goes_itself, becomes_gone, Lawful, MayMakeRoom, weight_now, room_now, giving_way, bound, Tables, Exchange, Representation, has_room, weight, idle, evicted, room_for, room_by, write_in, stays_bound}
 use Rattle.hc_rules.specs.declared.room.Room.TheVariants as room
-use Rattle.hc_rules.specs.declared.room.Write.{Write}
 use Rattle.hc_rules.specs.declared.room.Write.TheVariants as write
-use Rattle.hc_rules.specs.Rooms.{room_of, gives_way, weight_of}
 use Rattle.hc_model.specs.Contents as contents
-use Rattle.hc_model.specs.Contents.{idle_now}
-use Rattle.hc_model.specs.Currents.{is_current}
-use Rattle.hc_model.specs.Denials.{denial}
-use Rattle.hc_model.specs.Entries.{Entry, entry_without_acts}
-use Rattle.hc_model.specs.Evictions.{outlasts, outlasts_row}
-use Rattle.hc_model.specs.Exchanges.{family}
-use Rattle.hc_model.specs.Flaws.{NoFlaw}
-use Rattle.hc_model.specs.Gone.{goes_itself, becomes_gone}
-use Rattle.hc_model.specs.Lawful.{Lawful}
 use Rattle.hc_model.specs.LettingGo as going
-use Rattle.hc_model.specs.LettingGo.{MayMakeRoom, weight_now, room_now, giving_way}
-use Rattle.hc_model.specs.Reading.{bound}
-use Rattle.hc_model.specs.Rows.{Tables, Exchange, Representation}
-use Rattle.hc_model.specs.Runs.{has_room}
 use Rattle.hc_model.specs.Sound as sound
 use Rattle.hc_model.specs.Weights as weights
-use Rattle.hc_model.specs.Weights.{weight, idle, evicted, room_for, room_by, write_in, stays_bound}
 use Rattle.hc_effects.proofs.IdleNow.{idle_but_gone, bound_is}
 use Rattle.hc_effects.proofs.LettingGo.{may_let_go}
 use Rattle.hc_effects.proofs.PieceEffects as does

@@ -5,13 +5,9 @@ use Rattle.hc_store.specs.declared.backend.Backend.{Ghosts}
 use Rattle.hc_sparse.specs.Cells.{Cell, Cells, AreAbsent, EndsBy, cells_with, size}
 use Rattle.hc_sparse.proofs.SizeLemmas.{size-same}
 use Rattle.hc_record.specs.declared.kind.Kind.{Kind}
-use Rattle.hc_event.specs.declared.act.Act.{Act}
+use Rattle.hc_effects.proofs.Vocabulary.{Act, piece_refusal, room_of, Limits, Room, denial, let_all_go, with_piece, family, front, promised_bytes, is_reached, IsInUse, MayMakeRoom, giving_way, room_now, weight_now, weights_now, idle_now, bound, with_stored_bytes, Tables, Exchange, Representation, has_room, room_for, LostKind, Write, may_lose}
 use Rattle.hc_event.specs.declared.event.Event.TheVariants as event
 use Rattle.hc_rules.specs.Refusals as refusals
-use Rattle.hc_rules.specs.Refusals.{piece_refusal}
-use Rattle.hc_rules.specs.Rooms.{room_of}
-use Rattle.hc_rules.specs.declared.room.Limits.{Limits}
-use Rattle.hc_rules.specs.declared.room.Room.{Room}
 use Rattle.hc_rules.specs.declared.room.Room.TheVariants as room
 use Rattle.hc_rules.specs.declared.room.Write.TheVariants as write
 use Rattle.hc_stored.specs.declared.view.EntryView.{EntryView}
@@ -26,19 +22,8 @@ use Rattle.hc_exch.specs.Exchanges.{table_of}
 use Rattle.hc_exch.specs.Known as known
 use Rattle.hc_exch.specs.Known.{is_open, is_last_of, open_view}
 use Rattle.hc_exch.specs.declared.row.Open.{Open}
-use Rattle.hc_model.specs.Denials.{denial}
-use Rattle.hc_model.specs.Effects.{let_all_go}
-use Rattle.hc_model.specs.ExchangeRows.{with_piece}
-use Rattle.hc_model.specs.Exchanges.{family, front, promised_bytes, is_reached}
 use Rattle.hc_model.specs.LettingGo as going
-use Rattle.hc_model.specs.LettingGo.{IsInUse, MayMakeRoom, giving_way, room_now, weight_now, weights_now}
-use Rattle.hc_model.specs.Contents.{idle_now}
-use Rattle.hc_model.specs.Reading.{bound}
-use Rattle.hc_model.specs.RepresentationRows.{with_stored_bytes}
-use Rattle.hc_model.specs.Rows.{Tables, Exchange, Representation}
-use Rattle.hc_model.specs.Runs.{has_room}
 use Rattle.hc_model.specs.Sound as sound
-use Rattle.hc_model.specs.Weights.{room_for}
 use Rattle.hc_effects.proofs.HoleLemmas.{none_of}
 use Rattle.hc_effects.proofs.Once.{IsTaken, delivers_once}
 use Rattle.hc_effects.proofs.SameTables.{is_in, without, all_go_is}
@@ -63,10 +48,7 @@ use Rattle.std.proofs.Math.Seq.{take-append_seam}
 use Rattle.std.specs.Prelude.{take}
 use Rattle.hc_text.proofs.Basics.{some_inj as some_is}
 use Rattle.hc_event.specs.declared.act.Act.TheVariants as act
-use Rattle.hc_event.specs.declared.act.LostKind.{LostKind}
 use Rattle.hc_event.specs.declared.act.LostKind.TheVariants as kinds
-use Rattle.hc_rules.specs.declared.room.Write.{Write}
-use Rattle.hc_model.specs.Runs.{may_lose}
 use Rattle.hc_effects.proofs.WeightsLeft.{fits_after}
 use Rattle.hc_state.specs.Refused.{Refuses}
 use Rattle.hc_on_leave.proofs.FoundArm.{bound_without, make_gone}

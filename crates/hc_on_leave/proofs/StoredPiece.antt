@@ -9,10 +9,9 @@ use Rattle.hc_sparse.specs.Cells.{Cell, Cells, Covers, inside, cells_with}
 use Rattle.hc_record.specs.Head.{Head, sealed_head}
 use Rattle.hc_record.specs.declared.kind.Kind.{Kind}
 use Rattle.hc_record.specs.declared.kind.Kind.TheVariants as kinds
-use Rattle.hc_event.specs.declared.act.Act.{Act}
+use Rattle.hc_effects.proofs.Vocabulary.{Act, Response, overlong, Limits, denial, with_event, let_all_go, with_exchange, with_representation, as_gone, with_piece, family, front, promised_bytes, NoFlaw, flaw_in, Grows, IsMeasured, kind_of, is_growing, brings_to, is_complete, is_front, bound, with_stored_bytes, Tables, Exchange, Representation, has_room, room_for, evicted}
 use Rattle.hc_event.specs.declared.act.Act.TheVariants as act
 use Rattle.hc_event.specs.declared.event.Event.TheVariants as event
-use Rattle.hc_event.specs.declared.event.Response.{Response}
 use Rattle.hc_stored.specs.Entries.{shelf_of}
 use Rattle.hc_stored.specs.Kept as entry
 use Rattle.hc_stored.specs.Kept.{Kept}
@@ -20,25 +19,10 @@ use Rattle.hc_stored.specs.Shelf as shelf
 use Rattle.hc_stored.specs.Shelf.{same_order}
 use Rattle.hc_exch.specs.Exchanges as exch
 use Rattle.hc_exch.specs.Known as known
-use Rattle.hc_rules.specs.Refusals.{overlong}
-use Rattle.hc_rules.specs.declared.room.Limits.{Limits}
-use Rattle.hc_model.specs.Denials.{denial}
-use Rattle.hc_model.specs.Effects.{with_event, let_all_go, with_exchange, with_representation, as_gone}
-use Rattle.hc_model.specs.ExchangeRows.{with_piece}
-use Rattle.hc_model.specs.Exchanges.{family, front, promised_bytes}
-use Rattle.hc_model.specs.Flaws.{NoFlaw, flaw_in}
-use Rattle.hc_model.specs.Growing.{Grows}
-use Rattle.hc_model.specs.Measures.{IsMeasured}
 use Rattle.hc_model.specs.Measures as measures
 use Rattle.hc_model.specs.Kinds as stored_kinds
-use Rattle.hc_model.specs.Kinds.{kind_of, is_growing, brings_to, is_complete, is_front}
-use Rattle.hc_model.specs.Reading.{bound}
-use Rattle.hc_model.specs.RepresentationRows.{with_stored_bytes}
 use Rattle.hc_model.specs.Rows as rows
-use Rattle.hc_model.specs.Rows.{Tables, Exchange, Representation}
-use Rattle.hc_model.specs.Runs.{has_room}
 use Rattle.hc_model.specs.Sound as sound
-use Rattle.hc_model.specs.Weights.{room_for, evicted}
 use Rattle.hc_effects.proofs.HoleLemmas.{covers_all}
 use Rattle.hc_effects.proofs.Once.{delivers_once}
 use Rattle.hc_effects.proofs.PieceEffects as does

@@ -5,24 +5,16 @@ use Rattle.std.specs.Prelude.{is_some, nat_eq, not, ◌&&◌, ◌↔◌, IsTrue}
 use Rattle.std.specs.Option.{option_and_then}
 use Rattle.std.specs.HashMap.{get}
 use Rattle.hc_text.proofs.Basics.{eqb-same, false_true, some_inj as some_is}
-use Rattle.hc_rules.specs.declared.room.Limits.{Limits}
+use Rattle.hc_effects.proofs.Vocabulary.{Limits, Place, BoundBy, is_number, own_open, if_open, is_written, is_bound_place, offset, lo_of, Numbers, Tables, Representation, IsFirst, IsBound, exclusive, has_more, lacks_some, came_alone}
 use Rattle.hc_store.specs.declared.backend.Backend.{Ghosts}
 use Rattle.hc_sparse.specs.Cells.{Covers}
 use Rattle.hc_stored.specs.Entries.{shelf_of}
 use Rattle.hc_stored.specs.Kept.{Kept}
 use Rattle.hc_stored.specs.Shelf.{cells_at, cells_in, is_kept}
 use Rattle.hc_exch.specs.Exchanges.{table_of}
-use Rattle.hc_event.specs.declared.place.Place.{Place}
 use Rattle.hc_event.specs.declared.place.Place.TheVariants as place
-use Rattle.hc_event.specs.declared.place.BoundBy.{BoundBy}
-use Rattle.hc_model.specs.Currents.{is_number}
-use Rattle.hc_model.specs.Reading.{own_open, if_open, is_written, is_bound_place, offset, lo_of}
-use Rattle.hc_model.specs.Numbers.{Numbers}
 use Rattle.hc_model.specs.Rows as rows
-use Rattle.hc_model.specs.Rows.{Tables, Representation}
 use Rattle.hc_model.specs.Sound as sound
-use Rattle.hc_model.specs.Sound.{IsFirst, IsBound}
-use Rattle.hc_model.specs.Writers.{exclusive, has_more, lacks_some, came_alone}
 use Rattle.hc_effects.proofs.Exclusives.{exclusive_parts}
 use Rattle.hc_state.specs.declared.consumer.Consumer.{Consumer}
 use Rattle.hc_state.specs.declared.rows.Rows.{Rows}

@@ -4,11 +4,7 @@ use Rattle.std.proofs.lemmas.Bool.Decides.{nat_tests}
 use Rattle.std.specs.Prelude.{nat_le, nat_lt, ◌==◌, if◌then◌else◌, not}
 use Rattle.hc_text.proofs.Basics.{not_false as not_off}
 use Rattle.hc_event.specs.declared.event.Event.TheVariants as event
-use Rattle.hc_event.specs.declared.event.Request.{Request}
-use Rattle.hc_event.specs.declared.event.Response.{Response}
-use Rattle.hc_event.specs.declared.act.Refusal.{Refusal}
-use Rattle.hc_rules.specs.declared.refusal.Gate.{Gate}
-use Rattle.hc_rules.specs.Refusals.{refusal_of, head_refusal, piece_refusal, end_refusal, fault_refusal}
+use Rattle.hc_effects.proofs.Vocabulary.{Request, Response, Refusal, Gate, refusal_of, head_refusal, piece_refusal, end_refusal, fault_refusal}
 use Rattle.hc_state.proofs.Words.{none_some}
 
 first_off : (b : Bool) (r : Refusal) (rest : Option Refusal) → (if b then Some r else rest) ≡ None → b ≡ false

@@ -8,8 +8,7 @@ use Rattle.hc_sparse.specs.Runs.{end_of}
 use Rattle.hc_sparse.specs.Stretch.{stretch, IsLongest}
 use Rattle.hc_sparse.specs.declared.run.Run.{Run}
 use Rattle.hc_sparse.proofs.StretchLemmas.{stretch-absent, stretch-longest, stretch-only}
-use Rattle.hc_rules.specs.Readings.{is_at_end, cut_at}
-use Rattle.hc_model.specs.Holes.{stretch_to}
+use Rattle.hc_effects.proofs.Vocabulary.{is_at_end, cut_at, stretch_to}
 use Rattle.hc_state.specs.Arms.{most}
 use Rattle.hc_on_poll.proofs.ReadLemmas.{some_more}
 use Rattle.hc_state.proofs.Words.{none_some}

@@ -10,27 +10,16 @@ use Rattle.hc_stored.specs.Entries.{shelf_of}
 use Rattle.hc_stored.specs.Kept.{Kept, with_user}
 use Rattle.hc_stored.specs.Shelf.{moved_first}
 use Rattle.hc_stored.specs.Shelf as shelf
-use Rattle.hc_event.specs.declared.act.Act.{Act}
+use Rattle.hc_effects.proofs.Vocabulary.{Act, Why, Response, Limits, current, total_in, is_live, with_event, with_consumer, used_last, kind_of, Lawful, Shows, acts_of, span_to, move_of, Tables, Exchange, Representation}
 use Rattle.hc_event.specs.declared.act.Act.TheVariants as act
-use Rattle.hc_event.specs.declared.act.Why.{Why}
 use Rattle.hc_event.specs.declared.event.Event.TheVariants as event
-use Rattle.hc_event.specs.declared.event.Response.{Response}
 use Rattle.hc_range.specs.declared.range.Span.{Span}
 use Rattle.hc_record.specs.Head.{Head}
-use Rattle.hc_rules.specs.declared.room.Limits.{Limits}
 use Rattle.hc_validate.specs.Showing.{shown_response}
 use Rattle.hc_exch.specs.Exchanges.{table_of, next_of}
 use Rattle.hc_event.specs.declared.place.Place.TheVariants as place
 use Rattle.hc_event.specs.declared.place.BoundBy.TheVariants as by
-use Rattle.hc_model.specs.Currents.{current, total_in}
-use Rattle.hc_model.specs.Denials.{is_live}
-use Rattle.hc_model.specs.Effects.{with_event, with_consumer, used_last}
-use Rattle.hc_model.specs.Kinds.{kind_of}
-use Rattle.hc_model.specs.Lawful.{Lawful}
-use Rattle.hc_model.specs.Moves.{Shows, acts_of, span_to}
-use Rattle.hc_model.specs.Polls.{move_of}
 use Rattle.hc_model.specs.Rows as rows
-use Rattle.hc_model.specs.Rows.{Tables, Exchange, Representation}
 use Rattle.hc_effects.proofs.ShowEffects.{shows_new}
 use Rattle.hc_state.specs.declared.consumer.Consumer.{Consumer}
 use Rattle.hc_state.specs.declared.rows.Rows.{Rows}

@@ -5,12 +5,10 @@ use Rattle.std.proofs.lemmas.List.{length-drop, length-take}
 use Rattle.std.specs.Prelude.{List, length, take, unwrap_or, is_some, is_none, nat_eq, nat_lt, option_and_then, option_map, ◌==◌, ◌&&◌, if◌then◌else◌}
 use Rattle.std.specs.Option.{option_or}
 use Rattle.hc_text.proofs.Basics.{eqb-same, false_true, none_of, same_or, same_some as same_row, some_inj as some_is}
-use Rattle.hc_rules.specs.declared.room.Limits.{Limits}
+use Rattle.hc_effects.proofs.Vocabulary.{Limits, Cause, Request, ReadStep, ReadView, read_step, is_at_end, cut_at, stored_or, held_or, fails_or, waits_or, hole_end, BoundBy, Place, is_number, total_in, base, is_headless, is_open, stretch_to, Move, Opens, Gives, Ends, Fails, gives, waits_for, opens_hole, hole_request, planned_move, move_of, shows_head, shows_at, if_headless, waits_for_head, by_place, or_else, own_open, shared_exchange, source, offset, hi_of, lo_of, if_open, is_written, writing_in, Numbers, Tables, Exchange, Representation, IsBound, IsFirst, IsExclusiveWriter, IsServed, came_alone, reading, step_move, later_hole, run_held_for, stored_ahead, next_stored, run_of}
 use Rattle.hc_store.specs.declared.backend.Backend.{Ghosts}
-use Rattle.hc_event.specs.declared.act.Cause.{Cause}
 use Rattle.hc_event.specs.declared.act.Need.TheVariants as need
 use Rattle.hc_event.specs.declared.act.Wait.TheVariants as wait
-use Rattle.hc_event.specs.declared.event.Request.{Request}
 use Rattle.hc_range.specs.Spans.{IsWithin}
 use Rattle.hc_range.specs.declared.range.Span.{Span}
 use Rattle.hc_record.specs.Head.{Head}
@@ -19,10 +17,7 @@ use Rattle.hc_sparse.specs.Runs.{end_of}
 use Rattle.hc_sparse.specs.Stretch.{stretch}
 use Rattle.hc_sparse.specs.declared.run.Run.{Run}
 use Rattle.hc_sparse.proofs.StretchLemmas.{stretch-absent}
-use Rattle.hc_rules.specs.declared.reading.ReadStep.{ReadStep}
 use Rattle.hc_rules.specs.declared.reading.ReadStep.TheVariants as step
-use Rattle.hc_rules.specs.declared.reading.ReadView.{ReadView}
-use Rattle.hc_rules.specs.Readings.{read_step, is_at_end, cut_at, stored_or, held_or, fails_or, waits_or, hole_end}
 use Rattle.hc_stored.specs.Entries.{shelf_of}
 use Rattle.hc_stored.specs.Kept as entry
 use Rattle.hc_stored.specs.Shelf.{cells_at, head_at}
@@ -30,26 +25,12 @@ use Rattle.hc_exch.specs.Exchanges.{table_of, next_of}
 use Rattle.hc_exch.specs.Known.{Table}
 use Rattle.hc_exch.specs.Known as known
 use Rattle.hc_exch.specs.declared.row.Open.{Open}
-use Rattle.hc_event.specs.declared.place.BoundBy.{BoundBy}
-use Rattle.hc_event.specs.declared.place.Place.{Place}
 use Rattle.hc_event.specs.declared.place.Place.TheVariants as place
-use Rattle.hc_model.specs.Currents.{is_number, total_in}
-use Rattle.hc_model.specs.Exchanges.{base, is_headless, is_open}
-use Rattle.hc_model.specs.Holes.{stretch_to}
 use Rattle.hc_model.specs.Moves as moves
-use Rattle.hc_model.specs.Moves.{Move, Opens, Gives, Ends, Fails, gives, waits_for, opens_hole, hole_request}
-use Rattle.hc_model.specs.Planning.{planned_move}
-use Rattle.hc_model.specs.Polls.{move_of, shows_head, shows_at, if_headless, waits_for_head, by_place, or_else}
-use Rattle.hc_model.specs.Reading.{own_open, shared_exchange, source, offset, hi_of, lo_of, if_open, is_written, writing_in}
-use Rattle.hc_model.specs.Numbers.{Numbers}
 use Rattle.hc_model.specs.Rows as rows
-use Rattle.hc_model.specs.Rows.{Tables, Exchange, Representation}
-use Rattle.hc_model.specs.Sound.{IsBound, IsFirst, IsExclusiveWriter, IsServed}
 use Rattle.hc_model.specs.Sound as sound
-use Rattle.hc_model.specs.Writers.{came_alone}
 use Rattle.hc_effects.proofs.ExclusiveWriters.{writer_some}
 use Rattle.hc_model.specs.Steps as steps
-use Rattle.hc_model.specs.Steps.{reading, step_move, later_hole, run_held_for, stored_ahead, next_stored, run_of}
 use Rattle.hc_state.specs.declared.consumer.Consumer.{Consumer}
 use Rattle.hc_state.specs.declared.rows.Rows.{Rows}
 use Rattle.hc_state.specs.Arms.{most, asks_or_waits, asked_in}

@@ -4,7 +4,7 @@ use Rattle.std.proofs.lemmas.Bool.Decides.{nat_tests}
 use Rattle.std.specs.Prelude.{is_some, is_none, nat_eq, nat_lt, option_and_then, ◌&&◌, if◌then◌else◌}
 use Rattle.std.specs.Option.{option_or}
 use Rattle.hc_text.proofs.Basics.{and_both as both_true, eqb-same, false_true, lt_cases as lt_or, same_or, same_some as same_row, some_inj as some_is}
-use Rattle.hc_rules.specs.declared.room.Limits.{Limits}
+use Rattle.hc_effects.proofs.Vocabulary.{Limits, BoundBy, Place, is_number, row_of, base, front, family, stretch_to, next_from, first_place, absent_from, HoldsOwn, MayDeliver, offset, if_open, source, shared_exchange, bound_to, is_bound_place, Tables, Exchange, Representation, IsBound, run_held_for, held_at, stored_ahead, stored_from, next_stored, bound_row, run_of, held_of_lost}
 use Rattle.hc_store.specs.declared.backend.Backend.{Ghosts}
 use Rattle.hc_sparse.specs.Cells.{Cells, Cell, EndsBy, IsNext, AreAbsent}
 use Rattle.hc_sparse.specs.Stretch.{stretch, stretch_of}
@@ -13,21 +13,10 @@ use Rattle.hc_stored.specs.Entries.{shelf_of}
 use Rattle.hc_stored.specs.Kept as entry
 use Rattle.hc_stored.specs.Shelf.{cells_at, cells_in}
 use Rattle.hc_exch.specs.Exchanges.{table_of}
-use Rattle.hc_event.specs.declared.place.BoundBy.{BoundBy}
-use Rattle.hc_event.specs.declared.place.Place.{Place}
 use Rattle.hc_event.specs.declared.place.Place.TheVariants as place
-use Rattle.hc_model.specs.Currents.{is_number, row_of}
-use Rattle.hc_model.specs.Exchanges.{base, front, family}
-use Rattle.hc_model.specs.Holes.{stretch_to, next_from, first_place, absent_from}
-use Rattle.hc_model.specs.Losses.{HoldsOwn}
-use Rattle.hc_model.specs.Origins.{MayDeliver}
 use Rattle.hc_model.specs.Origins as origins
-use Rattle.hc_model.specs.Reading.{offset, if_open, source, shared_exchange, bound_to, is_bound_place}
 use Rattle.hc_model.specs.Rows as rows
-use Rattle.hc_model.specs.Rows.{Tables, Exchange, Representation}
-use Rattle.hc_model.specs.Sound.{IsBound}
 use Rattle.hc_model.specs.Sound as sound
-use Rattle.hc_model.specs.Steps.{run_held_for, held_at, stored_ahead, stored_from, next_stored, bound_row, run_of, held_of_lost}
 use Rattle.hc_effects.proofs.Basics.{same_functions}
 use Rattle.hc_effects.proofs.HoleLemmas.{first_from, first_before, first_passes}
 use Rattle.hc_state.specs.declared.consumer.Consumer.{Consumer}

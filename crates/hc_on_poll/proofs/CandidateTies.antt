@@ -8,7 +8,7 @@ use Rattle.std.specs.List.{list_all}
 use Rattle.std.proofs.lemmas.Bool.Decides.{nat_tests}
 use Rattle.std.specs.Prelude.{codes, nat_lt, not, slice_get, ◌&&◌, if◌then◌else◌}
 use Rattle.hc_text.proofs.Basics.{and_both as and_parts, some_inj as some_is}
-use Rattle.hc_rules.specs.declared.room.Limits.{Limits}
+use Rattle.hc_effects.proofs.Vocabulary.{Limits, Request, Candidate, RequestClass, least, lesser, class_of, range_of, wanted_of, is_open, Lawful, candidate, hole_of, bound, is_bound, is_written, writing_in, Tables, Representation, exclusive}
 use Rattle.hc_cachectl.specs.Directives.{of_request, of_response}
 use Rattle.hc_cachectl.specs.Seconds.{plain_seconds, most_seconds}
 use Rattle.hc_fields.specs.FirstValues.{first_value}
@@ -21,11 +21,6 @@ use Rattle.hc_record.specs.declared.kind.Kind.{Kind}
 use Rattle.hc_record.specs.declared.kind.Kind.TheVariants as kinds
 use Rattle.hc_record.specs.Head.{sealed_head}
 use Rattle.hc_record.specs.Plain.{plain}
-use Rattle.hc_event.specs.declared.event.Request.{Request}
-use Rattle.hc_rules.specs.declared.plan.Candidate.{Candidate}
-use Rattle.hc_rules.specs.declared.request.RequestClass.{RequestClass}
-use Rattle.hc_rules.specs.Least.{least, lesser}
-use Rattle.hc_rules.specs.Requests.{class_of, range_of, wanted_of}
 use Rattle.hc_sorted.specs.Sorted.{above, is_sorted}
 use Rattle.hc_store.specs.declared.backend.Backend.{Ghosts}
 use Rattle.hc_store.specs.Slots.{Held}
@@ -42,13 +37,7 @@ use Rattle.hc_fresh.specs.declared.facts.HeadFacts.{HeadFacts}
 use Rattle.hc_fresh.specs.Allowed.{allowed_by}
 use Rattle.hc_fresh.specs.Lifetimes.{lifetime, lifetime_by}
 use Rattle.hc_fresh.specs.Vary.{matches_vary}
-use Rattle.hc_model.specs.Exchanges.{is_open}
-use Rattle.hc_model.specs.Lawful.{Lawful}
-use Rattle.hc_model.specs.Planning.{candidate, hole_of}
-use Rattle.hc_model.specs.Reading.{bound, is_bound, is_written, writing_in}
 use Rattle.hc_model.specs.Rows as rows
-use Rattle.hc_model.specs.Rows.{Tables, Representation}
-use Rattle.hc_model.specs.Writers.{exclusive}
 use Rattle.hc_effects.proofs.Bounded.{range_order}
 use Rattle.hc_fresh.specs.Ages.{age, age_value, corrected_initial_age}
 use Rattle.hc_fresh.specs.Facts.{head_facts, allowed}

@@ -11,30 +11,16 @@ use Rattle.hc_entry.specs.Keys.{kept_of, line_of}
 use Rattle.hc_entry.specs.Kept as keyed
 use Rattle.hc_entry.specs.Kept.{on_line, line_in}
 use Rattle.hc_entry.specs.Lines.{is_among, is_in, held_by, turn_of, turn_with}
-use Rattle.hc_event.specs.declared.act.Act.{Act}
-use Rattle.hc_event.specs.declared.act.Need.{Need}
+use Rattle.hc_effects.proofs.Vocabulary.{Act, Need, Request, Limits, route_of, is_disabled, is_only, Place, current, with_event, with_consumer, with_opening, just_opened, let_some_go, Lawful, MayLetGo, is_in_line, holds_place, Opens, acts_of, move_of, Tables, Exchange}
 use Rattle.hc_event.specs.declared.act.Need.TheVariants as need
 use Rattle.hc_event.specs.declared.event.Event.TheVariants as event
-use Rattle.hc_event.specs.declared.event.Request.{Request}
 use Rattle.hc_rules.specs.declared.need.Route.TheVariants as route
-use Rattle.hc_rules.specs.declared.room.Limits.{Limits}
-use Rattle.hc_rules.specs.Needs.{route_of}
-use Rattle.hc_rules.specs.Requests.{is_disabled, is_only}
 use Rattle.hc_exch.specs.declared.role.Role.TheVariants as role
 use Rattle.hc_exch.specs.declared.exchanges.Exchanges.{Exchanges}
 use Rattle.hc_exch.specs.Exchanges.{table_of, next_of}
 use Rattle.hc_exch.specs.Known.{with_new_exchange, Changes}
-use Rattle.hc_event.specs.declared.place.Place.{Place}
 use Rattle.hc_event.specs.declared.place.Place.TheVariants as place
-use Rattle.hc_model.specs.Currents.{current}
-use Rattle.hc_model.specs.Effects.{with_event, with_consumer, with_opening, just_opened, let_some_go}
-use Rattle.hc_model.specs.Lawful.{Lawful}
-use Rattle.hc_model.specs.LettingGo.{MayLetGo}
-use Rattle.hc_model.specs.Lines.{is_in_line, holds_place}
-use Rattle.hc_model.specs.Moves.{Opens, acts_of}
-use Rattle.hc_model.specs.Polls.{move_of}
 use Rattle.hc_model.specs.Rows as rows
-use Rattle.hc_model.specs.Rows.{Tables, Exchange}
 use Rattle.hc_effects.proofs.LettingGo.{may_let_go}
 use Rattle.hc_effects.proofs.TurnEffects.{fetches, bypasses}
 use Rattle.hc_state.specs.declared.consumer.Consumer.{Consumer}

@@ -5,14 +5,10 @@ use Rattle.std.proofs.lemmas.Bool.Decides.{nat_tests}
 use Rattle.std.specs.Prelude.{is_some, nat_eq, bytes_eq, ◌&&◌, if◌then◌else◌}
 use Rattle.std.specs.HashMap.{get}
 use Rattle.hc_text.proofs.Basics.{and_both as both_true, eqb-other, eqb-same, false_true, same_or, same_some as same_row, some_inj as some_is}
-use Rattle.hc_rules.specs.declared.room.Limits.{Limits}
+use Rattle.hc_effects.proofs.Vocabulary.{Limits, Opening, Act, Need, Request, BoundBy, Place, current, is_number, is_live, with_consumer, with_opening, just_opened, with_event, aim_from, base, front, family, stretch_to, is_in_line, Opens, acts_of, move_of, bound, bound_to, hi_of, is_bound, is_bound_place, lo_of, offset, Tables, Exchange, Representation, IsBound, held_of_lost}
 use Rattle.hc_store.specs.declared.backend.Backend.{Ghosts}
-use Rattle.hc_event.specs.Filters.{Opening}
-use Rattle.hc_event.specs.declared.act.Act.{Act}
-use Rattle.hc_event.specs.declared.act.Need.{Need}
 use Rattle.hc_event.specs.declared.act.Need.TheVariants as need
 use Rattle.hc_event.specs.declared.event.Event.TheVariants as event
-use Rattle.hc_event.specs.declared.event.Request.{Request}
 use Rattle.hc_sparse.specs.Cells.{Covers}
 use Rattle.hc_sparse.proofs.StretchLemmas.{stretch-absent}
 use Rattle.hc_stored.specs.Entries.{shelf_of}
@@ -20,25 +16,10 @@ use Rattle.hc_entry.specs.Keys.{kept_of}
 use Rattle.hc_exch.specs.declared.role.Role.TheVariants as role
 use Rattle.hc_exch.specs.Exchanges.{table_of, next_of}
 use Rattle.hc_exch.specs.Known.{with_new_exchange, exchange_at_opening, Changes}
-use Rattle.hc_event.specs.declared.place.BoundBy.{BoundBy}
 use Rattle.hc_event.specs.declared.place.BoundBy.TheVariants as by
-use Rattle.hc_event.specs.declared.place.Place.{Place}
 use Rattle.hc_event.specs.declared.place.Place.TheVariants as place
-use Rattle.hc_model.specs.Currents.{current, is_number}
-use Rattle.hc_model.specs.Denials.{is_live}
-use Rattle.hc_model.specs.Effects.{with_consumer, with_opening, just_opened, with_event}
-use Rattle.hc_model.specs.ExchangeRows.{aim_from}
-use Rattle.hc_model.specs.Exchanges.{base, front, family}
-use Rattle.hc_model.specs.Holes.{stretch_to}
-use Rattle.hc_model.specs.Lines.{is_in_line}
-use Rattle.hc_model.specs.Moves.{Opens, acts_of}
-use Rattle.hc_model.specs.Polls.{move_of}
-use Rattle.hc_model.specs.Reading.{bound, bound_to, hi_of, is_bound, is_bound_place, lo_of, offset}
 use Rattle.hc_model.specs.Rows as rows
-use Rattle.hc_model.specs.Rows.{Tables, Exchange, Representation}
-use Rattle.hc_model.specs.Sound.{IsBound}
 use Rattle.hc_model.specs.Sound as sound
-use Rattle.hc_model.specs.Steps.{held_of_lost}
 use Rattle.hc_effects.proofs.HoleEffects.{fills_later}
 use Rattle.hc_effects.proofs.OpensFrom.{opens_hole}
 use Rattle.hc_effects.proofs.ExclusiveWriters.{bound_some}

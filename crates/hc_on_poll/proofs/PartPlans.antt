@@ -4,12 +4,9 @@ use Rattle.std.specs.Prelude.{nat_eq, is_some, is_none, not, option_map, unwrap_
 use Rattle.std.specs.Option.{option_and_then}
 use Rattle.std.specs.HashMap.{get}
 use Rattle.hc_text.proofs.Basics.{eqb-same, false_true, some_inj as some_is}
-use Rattle.hc_rules.specs.declared.room.Limits.{Limits}
+use Rattle.hc_effects.proofs.Vocabulary.{Limits, Act, Why, Request, Candidate, Plan, PlanView, RequestClass, least, plan_of, bare_plan, from_store, in_time, class_of, range_of, wanted_of, current, is_number, row_of, first_hole, Opens, opens_hole, span_to, hole_request, candidate, candidate_at, hole_of, bound, is_bound, is_bound_place, Numbers, Tables, Representation, came_alone}
 use Rattle.hc_store.specs.declared.backend.Backend.{Ghosts}
-use Rattle.hc_event.specs.declared.act.Act.{Act}
 use Rattle.hc_event.specs.declared.act.Need.TheVariants as need
-use Rattle.hc_event.specs.declared.act.Why.{Why}
-use Rattle.hc_event.specs.declared.event.Request.{Request}
 use Rattle.hc_range.specs.declared.range.Asked.{Asked}
 use Rattle.hc_range.specs.declared.range.Span.{Span}
 use Rattle.hc_range.specs.Spans.{IsWithin}
@@ -17,30 +14,15 @@ use Rattle.hc_record.specs.declared.head.StoredHead.{StoredHead}
 use Rattle.hc_record.specs.Head.{Head}
 use Rattle.hc_record.specs.Plain.{plain}
 use Rattle.hc_sorted.specs.Sorted.{has}
-use Rattle.hc_rules.specs.declared.plan.Candidate.{Candidate}
-use Rattle.hc_rules.specs.declared.plan.Plan.{Plan}
 use Rattle.hc_rules.specs.declared.plan.Plan.TheVariants as plan
-use Rattle.hc_rules.specs.declared.plan.PlanView.{PlanView}
-use Rattle.hc_rules.specs.declared.request.RequestClass.{RequestClass}
 use Rattle.hc_rules.specs.declared.request.Wanted.TheVariants as wanted
-use Rattle.hc_rules.specs.Least.{least}
-use Rattle.hc_rules.specs.Plans.{plan_of, bare_plan, from_store, in_time}
-use Rattle.hc_rules.specs.Requests.{class_of, range_of, wanted_of}
 use Rattle.hc_entry.specs.Lines.{is_among}
 use Rattle.hc_stored.specs.Entries.{shelf_of}
 use Rattle.hc_stored.specs.Kept.{itself}
 use Rattle.hc_stored.specs.Shelf.{head_at}
 use Rattle.hc_stored.specs.Views.{admits, admits_first}
-use Rattle.hc_model.specs.Currents.{current, is_number, row_of}
-use Rattle.hc_model.specs.Holes.{first_hole}
-use Rattle.hc_model.specs.Moves.{Opens, opens_hole, span_to, hole_request}
 use Rattle.hc_model.specs.Planning as planning
-use Rattle.hc_model.specs.Planning.{candidate, candidate_at, hole_of}
-use Rattle.hc_model.specs.Reading.{bound, is_bound, is_bound_place}
-use Rattle.hc_model.specs.Numbers.{Numbers}
 use Rattle.hc_model.specs.Rows as rows
-use Rattle.hc_model.specs.Rows.{Tables, Representation}
-use Rattle.hc_model.specs.Writers.{came_alone}
 use Rattle.hc_effects.proofs.EndsKeep.{wanted_within}
 use Rattle.hc_effects.proofs.WantedSpans.{wanted_some}
 use Rattle.hc_effects.proofs.PlanBy.{PlanBy, plan_by}

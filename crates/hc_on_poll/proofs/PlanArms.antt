@@ -5,7 +5,7 @@ use Rattle.std.specs.Prelude.{nat_eq, is_some, not, unwrap_or, IsSomeAnd, â—Œ&&â
 use Rattle.std.specs.Option.{option_and_then, option_map}
 use Rattle.std.specs.HashMap.{get}
 use Rattle.hc_text.proofs.Basics.{false_true}
-use Rattle.hc_rules.specs.declared.room.Limits.{Limits}
+use Rattle.hc_effects.proofs.Vocabulary.{Limits, Act, Need, Why, Response, Request, Route, Candidate, Plan, PlanView, least, lesser, route_of, plan_of, bare_plan, from_store, in_time, by_current, RequestClass, class_of, is_bypassing, is_disabled, is_only, Place, current, row_of, denial, gate, is_live, is_in_line, Move, Opens, Fails, Shows, span_to, plan_move, has_passed, candidate, candidate_at, move_of, is_bound, is_bound_place, Tables, Representation}
 use Rattle.hc_store.specs.declared.backend.Backend.{Ghosts}
 use Rattle.hc_store.specs.declared.error.StoreError.{StoreError}
 use Rattle.hc_store.specs.declared.error.StoreError.TheVariants as errors
@@ -19,47 +19,25 @@ use Rattle.hc_stored.specs.Views.{admits}
 use Rattle.hc_entry.specs.Keys.{kept_of, line_of}
 use Rattle.hc_entry.specs.Kept.{line_in}
 use Rattle.hc_entry.specs.Lines.{Line, is_among, is_in, turn_with}
-use Rattle.hc_event.specs.declared.act.Act.{Act}
-use Rattle.hc_event.specs.declared.act.Need.{Need}
 use Rattle.hc_event.specs.declared.act.Need.TheVariants as need
-use Rattle.hc_event.specs.declared.act.Why.{Why}
-use Rattle.hc_event.specs.declared.event.Response.{Response}
 use Rattle.hc_range.specs.declared.range.Span.{Span}
 use Rattle.hc_validate.specs.Showing.{shown_response}
 use Rattle.hc_event.specs.declared.event.Event.TheVariants as event
-use Rattle.hc_event.specs.declared.event.Request.{Request}
-use Rattle.hc_rules.specs.declared.need.Route.{Route}
 use Rattle.hc_rules.specs.declared.need.Route.TheVariants as route
-use Rattle.hc_rules.specs.declared.plan.Candidate.{Candidate}
-use Rattle.hc_rules.specs.declared.plan.Plan.{Plan}
 use Rattle.hc_rules.specs.declared.plan.Plan.TheVariants as plan
-use Rattle.hc_rules.specs.declared.plan.PlanView.{PlanView}
-use Rattle.hc_rules.specs.Least.{least, lesser}
-use Rattle.hc_rules.specs.Needs.{route_of}
 use Rattle.hc_rules.specs.Plans as rules
-use Rattle.hc_rules.specs.Plans.{plan_of, bare_plan, from_store, in_time, by_current}
-use Rattle.hc_rules.specs.declared.request.RequestClass.{RequestClass}
-use Rattle.hc_rules.specs.Requests.{class_of, is_bypassing, is_disabled, is_only}
 use Rattle.hc_exch.specs.Exchanges.{next_of}
-use Rattle.hc_event.specs.declared.place.Place.{Place}
 use Rattle.hc_event.specs.declared.place.Place.TheVariants as place
 use Rattle.hc_record.specs.declared.head.StoredHead.{StoredHead}
 use Rattle.hc_record.specs.Head.{Head}
 use Rattle.hc_record.specs.Plain.{plain}
 use Rattle.hc_validate.specs.Conditions.{conditional}
-use Rattle.hc_model.specs.Currents.{current, row_of}
-use Rattle.hc_model.specs.Denials.{denial, gate, is_live}
 use Rattle.hc_model.specs.Lines as lines
-use Rattle.hc_model.specs.Lines.{is_in_line}
 use Rattle.hc_event.specs.declared.act.Cause.TheVariants as cause
 use Rattle.hc_event.specs.declared.act.Wait.TheVariants as wait
-use Rattle.hc_model.specs.Moves.{Move, Opens, Waits, Fails, Shows, opens, span_to}
+use Rattle.hc_model.specs.Moves.{Waits, opens}
 use Rattle.hc_model.specs.Planning as planning
-use Rattle.hc_model.specs.Planning.{plan_move, has_passed, candidate, candidate_at}
-use Rattle.hc_model.specs.Polls.{move_of}
-use Rattle.hc_model.specs.Reading.{is_bound, is_bound_place}
 use Rattle.hc_model.specs.Rows as rows
-use Rattle.hc_model.specs.Rows.{Tables, Representation}
 use Rattle.hc_effects.proofs.Asked.{Asked, AskedBy, plan_asks}
 use Rattle.hc_effects.proofs.Joining.{mix}
 use Rattle.hc_effects.proofs.PlanBy.{PlanBy, plan_by}

@@ -3,10 +3,8 @@ use Rattle.std.proofs.Common.{◌≡◌, ℕ, ◌+◌, ◌<◌, ◌≤◌, lengt
 use Rattle.std.specs.Prelude.{nat_eq}
 use Rattle.std.specs.HashMap.{get}
 use Rattle.hc_store.specs.declared.backend.Backend.{Ghosts}
-use Rattle.hc_event.specs.declared.event.Request.{Request}
+use Rattle.hc_effects.proofs.Vocabulary.{Request, Place, is_live_place}
 use Rattle.hc_fields.specs.FieldList.{IsWithinLimits, size_of}
-use Rattle.hc_event.specs.declared.place.Place.{Place}
-use Rattle.hc_model.specs.Denials.{is_live_place}
 use Rattle.hc_model.specs.Rows as rows
 use Rattle.hc_state.specs.declared.consumer.Consumer.{Consumer}
 use Rattle.hc_state.specs.declared.rows.Rows.{Rows}

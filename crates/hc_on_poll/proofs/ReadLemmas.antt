@@ -2,10 +2,7 @@
 use Rattle.std.proofs.Common.{◌≡◌, ℕ, zero, suc, ◌<◌, List, [], ◌∷◌, length, take, true, false, Option, Some, None, refl, ap, sym, ◌∙◌, arith}
 use Rattle.std.proofs.lemmas.Bool.Decides.{nat_tests}
 use Rattle.std.specs.Prelude.{is_some, nat_lt}
-use Rattle.hc_rules.specs.Readings.{is_at_end}
-use Rattle.hc_model.specs.Moves.{Move}
-use Rattle.hc_model.specs.Polls.{or_else}
-use Rattle.hc_model.specs.Steps.{run_of}
+use Rattle.hc_effects.proofs.Vocabulary.{is_at_end, Move, or_else, run_of}
 use Rattle.hc_state.specs.Arms.{most}
 
 -- WHICH MOVE IT IS

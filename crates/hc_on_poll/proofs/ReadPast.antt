@@ -6,22 +6,16 @@ use Rattle.std.proofs.lemmas.List.{length-drop, length-take}
 use Rattle.std.specs.Prelude.{is_some, is_none, nat_lt, nat_eq, option_and_then, if◌then◌else◌, ◌&&◌}
 use Rattle.std.specs.HashMap.{get}
 use Rattle.hc_text.proofs.Basics.{eqb-other, eqb-same, false_true, same_or, some_inj as some_is}
-use Rattle.hc_rules.specs.declared.room.Limits.{Limits}
+use Rattle.hc_effects.proofs.Vocabulary.{Limits, Act, Cause, Event, Response, ReadStep, ReadView, read_step, is_at_end, cut_at, held_or, fails_or, waits_or, with_consumer, with_ask, with_event, base, front, Lawful, Move, Gives, Ends, Fails, Asks, Shows, acts_of, gives, waits_for, ReadsPast, planned_move, move_of, shows_head, shows_answer, shows_direct, if_headless, waits_for_head, by_place, or_else, own_open, source, offset, hi_of, lo_of, base_in, end_in, reads, Numbers, Tables, Exchange, Representation, reading, step_move, run_held_for, run_of}
 use Rattle.hc_store.specs.declared.backend.Backend.{Ghosts}
-use Rattle.hc_event.specs.declared.act.Act.{Act}
 use Rattle.hc_event.specs.declared.act.Act.TheVariants as act
-use Rattle.hc_event.specs.declared.act.Cause.{Cause}
 use Rattle.hc_event.specs.declared.act.Wait.TheVariants as wait
 use Rattle.hc_event.specs.declared.act.Why.TheVariants as why
-use Rattle.hc_event.specs.declared.event.Event.{Event}
 use Rattle.hc_event.specs.declared.event.Event.TheVariants as event
-use Rattle.hc_event.specs.declared.event.Response.{Response}
 use Rattle.hc_range.specs.declared.range.Span.{Span}
 use Rattle.hc_sparse.specs.declared.run.Run.{Run}
-use Rattle.hc_rules.specs.declared.reading.ReadStep.{ReadStep}
 use Rattle.hc_rules.specs.declared.reading.ReadStep.TheVariants as step
-use Rattle.hc_rules.specs.declared.reading.ReadView.{ReadView}
-use Rattle.hc_rules.specs.Readings.{read_step, is_at_end, cut_at, held_or, fails_or, waits_or, hole_ahead}
+use Rattle.hc_rules.specs.Readings.{hole_ahead}
 use Rattle.hc_stored.specs.Entries.{shelf_of}
 use Rattle.hc_stored.specs.Shelf as shelf
 use Rattle.hc_exch.specs.Exchanges as exch
@@ -30,20 +24,9 @@ use Rattle.hc_exch.specs.Known as known
 use Rattle.hc_exch.specs.Known.{Known}
 use Rattle.hc_exch.specs.declared.row.Open.{Open}
 use Rattle.hc_event.specs.declared.place.Place.TheVariants as place
-use Rattle.hc_model.specs.Effects.{with_consumer, with_ask, with_event}
-use Rattle.hc_model.specs.Exchanges.{base, front}
-use Rattle.hc_model.specs.Lawful.{Lawful}
 use Rattle.hc_model.specs.Moves as moves
-use Rattle.hc_model.specs.Moves.{Move, Gives, Ends, Fails, Asks, Shows, acts_of, gives, waits_for}
-use Rattle.hc_model.specs.Places.{ReadsPast}
-use Rattle.hc_model.specs.Planning.{planned_move}
-use Rattle.hc_model.specs.Polls.{move_of, shows_head, shows_answer, shows_direct, if_headless, waits_for_head, by_place, or_else}
-use Rattle.hc_model.specs.Reading.{own_open, source, offset, hi_of, lo_of, base_in, end_in, reads}
-use Rattle.hc_model.specs.Numbers.{Numbers}
 use Rattle.hc_model.specs.Rows as rows
-use Rattle.hc_model.specs.Rows.{Tables, Exchange, Representation}
 use Rattle.hc_model.specs.Steps as steps
-use Rattle.hc_model.specs.Steps.{reading, step_move, run_held_for, run_of}
 use Rattle.hc_effects.proofs.AskEffects.{asks}
 use Rattle.hc_effects.proofs.GiveEffects.{gives_bytes}
 use Rattle.hc_effects.proofs.ShowEffects.{shows_reader}

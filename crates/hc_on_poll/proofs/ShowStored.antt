@@ -5,21 +5,16 @@ use Rattle.std.specs.Prelude.{is_some, is_none, nat_eq, option_and_then, option_
 use Rattle.std.specs.Option.{option_or}
 use Rattle.std.specs.HashMap.{get}
 use Rattle.hc_text.proofs.Basics.{eqb-same, false_true, some_inj as some_is}
-use Rattle.hc_rules.specs.declared.room.Limits.{Limits}
+use Rattle.hc_effects.proofs.Vocabulary.{Limits, Act, Why, Response, class_of, RequestClass, BoundBy, is_number, total_in, with_consumer, with_event, is_headless, Lawful, Move, Shows, acts_of, span_to, shows_stored, is_ranged, move_of, shows_head, shows_at, shows_bound, has_joined, if_headless, waits_for_head, by_place, or_else, own_open, hi_of, lo_of, reads, Numbers, Tables, Exchange, Representation, IsToBeShown, status_in, came_alone}
 use Rattle.hc_store.specs.declared.backend.Backend.{Ghosts}
-use Rattle.hc_event.specs.declared.act.Act.{Act}
 use Rattle.hc_event.specs.declared.act.Act.TheVariants as act
 use Rattle.hc_event.specs.declared.act.Wait.TheVariants as wait
-use Rattle.hc_event.specs.declared.act.Why.{Why}
 use Rattle.hc_event.specs.declared.act.Why.TheVariants as why
 use Rattle.hc_event.specs.declared.event.Event.TheVariants as event
-use Rattle.hc_event.specs.declared.event.Response.{Response}
 use Rattle.hc_range.specs.Spans.{IsWithin}
 use Rattle.hc_range.specs.declared.range.Span.{Span}
 use Rattle.hc_record.specs.Head.{Head, sealed_head}
 use Rattle.hc_record.specs.declared.kind.Kind.TheVariants as kinds
-use Rattle.hc_rules.specs.Requests.{class_of}
-use Rattle.hc_rules.specs.declared.request.RequestClass.{RequestClass}
 use Rattle.hc_validate.specs.Showing.{shown_response}
 use Rattle.hc_stored.specs.Entries.{shelf_of}
 use Rattle.hc_stored.specs.Kept as entry
@@ -28,24 +23,11 @@ use Rattle.hc_stored.specs.Shelf.{head_at, is_kept}
 use Rattle.hc_stored.specs.Views.{has_user}
 use Rattle.hc_exch.specs.Exchanges.{table_of, next_of}
 use Rattle.hc_exch.specs.declared.row.Open.{Open}
-use Rattle.hc_event.specs.declared.place.BoundBy.{BoundBy}
 use Rattle.hc_event.specs.declared.place.BoundBy.TheVariants as by
 use Rattle.hc_event.specs.declared.place.Place.TheVariants as place
-use Rattle.hc_model.specs.Currents.{is_number, total_in}
-use Rattle.hc_model.specs.Effects.{with_consumer, with_event}
-use Rattle.hc_model.specs.Exchanges.{is_headless}
-use Rattle.hc_model.specs.Lawful.{Lawful}
 use Rattle.hc_model.specs.Moves as moves
-use Rattle.hc_model.specs.Moves.{Move, Shows, acts_of, span_to, shows_stored}
-use Rattle.hc_model.specs.Planning.{is_ranged}
-use Rattle.hc_model.specs.Polls.{move_of, shows_head, shows_at, shows_bound, has_joined, if_headless, waits_for_head, by_place, or_else}
-use Rattle.hc_model.specs.Reading.{own_open, hi_of, lo_of, reads}
-use Rattle.hc_model.specs.Numbers.{Numbers}
 use Rattle.hc_model.specs.Rows as rows
-use Rattle.hc_model.specs.Rows.{Tables, Exchange, Representation}
 use Rattle.hc_model.specs.Sound as sound
-use Rattle.hc_model.specs.Sound.{IsToBeShown}
-use Rattle.hc_model.specs.Writers.{status_in, came_alone}
 use Rattle.hc_effects.proofs.ShowEffects.{shows_reader}
 use Rattle.hc_state.specs.declared.consumer.Consumer.{Consumer}
 use Rattle.hc_state.specs.declared.rows.Rows.{Rows}

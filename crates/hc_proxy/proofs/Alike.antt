@@ -5,8 +5,7 @@
 use Rattle.std.proofs.Common.{◌≡◌, ◌⊎◌, inl, inr, ◌≤◌, ◌<◌, ℕ, List, ◌+◌, ◌++◌, Option, Some, None, ap, sym, ◌∙◌, subst}
 use Rattle.std.specs.Prelude.{Contains, IsSome}
 use Rattle.hc_core.specs.Steps.{StandsFor, last_moment, limits_in, bytes_received}
-use Rattle.hc_event.specs.declared.act.Act.{Act}
-use Rattle.hc_model.specs.Entries.{no_contents}
+use Rattle.hc_effects.proofs.Vocabulary.{Act, no_contents}
 use Rattle.hc_peers.specs.Clients.{client_of}
 use Rattle.hc_peers.specs.Upstreams.{upstream_of, is_news, is_touched}
 use Rattle.hc_peers.specs.declared.clients.Clients.{Clients}

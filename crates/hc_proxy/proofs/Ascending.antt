@@ -8,12 +8,7 @@ use mathlib.Core.List.{reverse_aux}
 use Rattle.std.specs.Prelude.{◌||◌, filter, is_some, nat_eq, reverse, if◌then◌else◌}
 use Rattle.std.proofs.lemmas.Bool.Decides.{nat_tests}
 use Rattle.hc_text.proofs.Basics.{or_false as or_none}
-use Rattle.hc_model.specs.Denials.{is_live}
-use Rattle.hc_model.specs.Exchanges.{is_open}
-use Rattle.hc_model.specs.Lawful.{Lawful}
-use Rattle.hc_model.specs.Orders.{Descends}
-use Rattle.hc_model.specs.Rows.{Tables, Exchange, Consumer}
-use Rattle.hc_model.specs.Sound.{Among}
+use Rattle.hc_effects.proofs.Vocabulary.{is_live, is_open, Lawful, Descends, Tables, Exchange, Consumer, Among}
 use Rattle.hc_proxy.specs.Network.{open_exchanges}
 use Rattle.hc_proxy.specs.Polls.{live_consumers}
 use Rattle.hc_proxy.proofs.SkippedSteps.{among, Ascends, weaken}

@@ -3,10 +3,8 @@ use Rattle.std.proofs.Common.{◌≡◌, ◌⊎◌, inl, inr, ℕ, ◌≤◌, �
 use Rattle.std.specs.Prelude.{nat_eq, nat_lt, IsSome}
 use Rattle.std.specs.Option.{is_some}
 use Rattle.std.proofs.lemmas.Bool.Decides.{nat_tests}
-use Rattle.hc_event.specs.Filters.{asks_in}
-use Rattle.hc_event.specs.declared.act.Act.{Act}
+use Rattle.hc_effects.proofs.Vocabulary.{asks_in, Act, is_open, is_wanted}
 use Rattle.hc_event.specs.declared.act.Act.TheVariants as act
-use Rattle.hc_model.specs.Exchanges.{is_open, is_wanted}
 use Rattle.hc_store.specs.declared.backend.Backend.{Ghosts}
 use Rattle.hc_peers.specs.Upstreams.{upstream_of, is_news, is_touched, Stays, Marks}
 use Rattle.hc_peers.specs.declared.upstream.Upstream as origin

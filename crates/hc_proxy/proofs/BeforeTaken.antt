@@ -5,16 +5,13 @@
 use Rattle.std.proofs.Common.{◌≡◌, ◌≤◌, ◌⊎◌, inl, inr, ℕ, ◌+◌, List, [], ◌∷◌, ◌++◌, Bool, true, false, Option, Some, None, refl, ap, sym, ◌∙◌, subst, arith}
 use Rattle.std.specs.Prelude.{◌&&◌, ◌||◌, not, nat_eq, nat_lt, length, is_none, if◌then◌else◌, option_map}
 use Rattle.std.proofs.lemmas.Bool.Decides.{nat_tests}
-use Rattle.hc_event.specs.declared.act.Act.{Act}
+use Rattle.hc_effects.proofs.Vocabulary.{Act, Event, is_open, Limits}
 use Rattle.hc_event.specs.declared.act.Act.TheVariants as act
-use Rattle.hc_event.specs.declared.event.Event.{Event}
 use Rattle.hc_event.specs.declared.event.Event.TheVariants as event
 use Rattle.hc_head.specs.declared.message.WireRequest.{WireRequest}
-use Rattle.hc_model.specs.Exchanges.{is_open}
 use Rattle.hc_msg.specs.Inputs.{Next, Waits, Tells, Brings, Ends, Fails, next_in}
 use Rattle.hc_msg.specs.Reading.{Failed, Token, Asks, Answers, Byte}
 use Rattle.hc_peers.specs.Renderings.{rendering, form_behind, is_last, closes}
-use Rattle.hc_rules.specs.declared.room.Limits.{Limits}
 use Rattle.hc_wire.specs.Logs.{Called}
 use Rattle.hc_wire.specs.declared.event.WireEvent.{WireEvent}
 use Rattle.hc_wire.specs.declared.event.WireEvent.TheVariants as wire

@@ -12,9 +12,7 @@ use Rattle.std.specs.Cmp.{nat_eq_equiv}
 use Rattle.std.proofs.lemmas.Map.Views.{Contains-from_any, list_any-from_Contains}
 use Rattle.std.proofs.lemmas.List.Elements.{Contains-append_cases}
 use Rattle.hc_text.proofs.Basics.{eq_tells as same_of}
-use Rattle.hc_event.specs.Acts.{act_list}
-use Rattle.hc_event.specs.declared.act.Act.{Act}
-use Rattle.hc_model.specs.Rows.{Tables}
+use Rattle.hc_effects.proofs.Vocabulary.{act_list, Act, Tables}
 use Rattle.hc_store.specs.declared.backend.Backend.{Ghosts}
 use Rattle.hc_wire.specs.Events.{Stage, Unseen, Open, Closed, IsOpen, closed_of}
 use Rattle.hc_wire.specs.Logs.{Log, stage_in, sent_in}

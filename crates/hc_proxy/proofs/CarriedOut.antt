@@ -7,13 +7,10 @@ use Rattle.std.proofs.Common.{◌≡◌, ◌⊎◌, inl, inr, ℕ, List, [], ◌
 use Rattle.std.specs.Prelude.{◌||◌, nat_eq, length, if◌then◌else◌}
 use Rattle.std.proofs.lemmas.Bool.Decides.{nat_tests}
 use Rattle.hc_text.proofs.Basics.{or_cases, eq_itself as same_number, some_inj}
-use Rattle.hc_event.specs.Filters.{leaves_in}
-use Rattle.hc_event.specs.declared.act.Act.{Act}
+use Rattle.hc_effects.proofs.Vocabulary.{leaves_in, Act, is_live, Tables}
 use Rattle.hc_event.specs.declared.act.Act.TheVariants as act
 use Rattle.hc_peers.specs.Renderings.{rendering, form_behind, is_last, closes}
 use Rattle.hc_peers.specs.declared.reply.Reply.{Reply}
-use Rattle.hc_model.specs.Denials.{is_live}
-use Rattle.hc_model.specs.Rows.{Tables}
 use Rattle.hc_proxy.specs.Carrying.{answered, answers, carried_out, all_carried_out}
 use Rattle.hc_proxy.specs.Invariants.{AreOver, IsHolder, HasConsumers}
 use Rattle.hc_proxy.specs.Rows.{Client, Proxy, with_client}

@@ -8,12 +8,8 @@
 use Rattle.std.proofs.Common.{◌≡◌, ℕ, List, [], ◌++◌, Bool, true, false, Option, Some, None, refl, ap, sym, ◌∙◌, subst, arith}
 use Rattle.std.specs.Prelude.{◌&&◌, ◌||◌, nat_eq, nat_lt, length, is_none, option_map, if◌then◌else◌}
 use Rattle.std.proofs.lemmas.Bool.Decides.{nat_tests}
-use Rattle.hc_event.specs.declared.event.Event.{Event}
+use Rattle.hc_effects.proofs.Vocabulary.{Event, Request, History, is_open, Limits}
 use Rattle.hc_event.specs.declared.event.Event.TheVariants as event
-use Rattle.hc_event.specs.declared.event.Request.{Request}
-use Rattle.hc_model.specs.Entries.{History}
-use Rattle.hc_model.specs.Exchanges.{is_open}
-use Rattle.hc_rules.specs.declared.room.Limits.{Limits}
 use Rattle.hc_wire.specs.Logs.{Called}
 use Rattle.hc_wire.specs.declared.event.WireEvent.{WireEvent}
 use Rattle.hc_wire.specs.declared.event.WireEvent.TheVariants as wire

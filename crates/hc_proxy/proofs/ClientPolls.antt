@@ -9,17 +9,10 @@ use Rattle.std.specs.Prelude.{◌&&◌, ◌||◌, not, nat_eq, filter, option_ma
 use Rattle.std.proofs.lemmas.Bool.Decides.{nat_tests}
 use Rattle.std.proofs.lemmas.List.Elements.{filter-append}
 use Rattle.hc_text.proofs.Basics.{some_inj as some_is}
-use Rattle.hc_event.specs.Filters.{leaves_in}
-use Rattle.hc_event.specs.declared.act.Act.{Act}
+use Rattle.hc_effects.proofs.Vocabulary.{leaves_in, Act, Request, is_live, Entry, History, Tables, IsOwed, owed, Limits}
 use Rattle.hc_event.specs.declared.event.Event.TheVariants as event
-use Rattle.hc_event.specs.declared.event.Request.{Request}
 use Rattle.hc_head.specs.declared.message.WireRequest.{WireRequest}
-use Rattle.hc_model.specs.Denials.{is_live}
-use Rattle.hc_model.specs.Entries.{Entry, History}
-use Rattle.hc_model.specs.Rows.{Tables}
-use Rattle.hc_model.specs.Runs.{IsOwed, owed}
 use Rattle.hc_peers.specs.Renderings.{reply_to}
-use Rattle.hc_rules.specs.declared.room.Limits.{Limits}
 use Rattle.hc_wire.specs.Logs.{Called}
 use Rattle.hc_proxy.specs.Asked.{is_at, starts_of, starts_in, AreClients}
 use Rattle.hc_proxy.specs.Carrying.{acts_in, carried}

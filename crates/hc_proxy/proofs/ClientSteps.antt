@@ -8,20 +8,15 @@ use Rattle.std.proofs.Common.{◌≡◌, ◌⊎◌, inl, inr, ◌≤◌, ◌<◌
 use Rattle.std.specs.Prelude.{nat_eq, IsSome, option_map, if◌then◌else◌}
 use Rattle.std.proofs.lemmas.Bool.Decides.{nat_tests}
 use Rattle.hc_text.proofs.Basics.{some_inj as some_is}
-use Rattle.hc_event.specs.declared.event.Event.{Event}
+use Rattle.hc_effects.proofs.Vocabulary.{Event, Request, is_live, Entry, History, owed, Limits}
 use Rattle.hc_event.specs.declared.event.Event.TheVariants as event
-use Rattle.hc_event.specs.declared.event.Request.{Request}
 use Rattle.hc_head.specs.declared.message.WireRequest.{WireRequest}
 use Rattle.hc_laws.proofs.LiveAfter.{Starts, was_live}
-use Rattle.hc_model.specs.Denials.{is_live}
-use Rattle.hc_model.specs.Entries.{Entry, History}
-use Rattle.hc_model.specs.Runs.{owed}
 use Rattle.hc_msg.specs.Inputs.{Next, Waits, Tells, Brings, Ends, Fails, next_in}
 use Rattle.hc_msg.specs.NextParts.{StandsNext}
 use Rattle.hc_msg.specs.Reading.{Reading, Heading, Requests, Failed, Token, Asks, Answers, Byte}
 use Rattle.hc_msg.proofs.Leading.{tells_leads}
 use Rattle.hc_msg.proofs.NextParts.{stands_next}
-use Rattle.hc_rules.specs.declared.room.Limits.{Limits}
 use Rattle.hc_wire.specs.Logs.{Called}
 use Rattle.hc_proxy.specs.Asked.{is_at, started_by, starts_of, count_by, starts_in, AreClients}
 use Rattle.hc_proxy.specs.Carrying.{acts_in}

@@ -5,9 +5,7 @@
 -- last call its row says which requests its first bytes asked for, that its consumers were started for just these, and that it is owed
 -- the answers to them, and an error answer behind them where the reading failed.
 use Rattle.std.proofs.Common.{◌≡◌, ℕ, List, [], ◌∷◌, ◌++◌, false, true, Option, Some, None, refl, ap, sym, ◌∙◌, subst, append_assoc, append-nil}
-use Rattle.hc_event.specs.declared.event.Request.{Request}
-use Rattle.hc_model.specs.Entries.{Entry}
-use Rattle.hc_rules.specs.declared.room.Limits.{Limits}
+use Rattle.hc_effects.proofs.Vocabulary.{Request, Entry, Limits}
 use Rattle.hc_wire.specs.Logs.{Called, Log}
 use Rattle.hc_proxy.specs.Asked.{got_from, starts_of, HasAsked, IsAsked, nothing, since, StartsAreAsked}
 use Rattle.hc_proxy.specs.Connections.{exchange_of}

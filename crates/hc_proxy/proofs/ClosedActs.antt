@@ -6,17 +6,8 @@ use Rattle.std.proofs.Common.{◌≡◌, inl, inr, ◌≤◌, ℕ, ◌+◌, List
 use Rattle.std.specs.Prelude.{◌||◌, nat_eq, nat_lt}
 use Rattle.std.proofs.lemmas.Bool.Decides.{nat_tests}
 use Rattle.hc_text.proofs.Basics.{or_cases, true_false}
-use Rattle.hc_event.specs.Filters.{closes_in, is_denied}
-use Rattle.hc_event.specs.declared.act.Act.{Act}
+use Rattle.hc_effects.proofs.Vocabulary.{closes_in, is_denied, Act, Limits, Entry, exchange_after, is_open, flaw_in, Exchange, IsOwed, after}
 use Rattle.hc_event.specs.declared.act.Act.TheVariants as act
-use Rattle.hc_rules.specs.declared.room.Limits.{Limits}
-use Rattle.hc_model.specs.Entries.{Entry}
-use Rattle.hc_model.specs.ExchangeRows.{exchange_after}
-use Rattle.hc_model.specs.Exchanges.{is_open}
-use Rattle.hc_model.specs.Flaws.{flaw_in}
-use Rattle.hc_model.specs.Rows.{Exchange}
-use Rattle.hc_model.specs.Runs.{IsOwed}
-use Rattle.hc_model.specs.Tables.{after}
 use Rattle.hc_effects.proofs.Owed.{acts_are, is_denial, IsDenied, denied}
 use Rattle.hc_effects.proofs.Unclosed.{had_row}
 use Rattle.hc_proxy.specs.Invariants.{AreClosed}

@@ -1,9 +1,8 @@
 -- The consumers of a client, by the history: they are its own, each started behind those before it.
 use Rattle.std.proofs.Common.{◌≡◌, ◌<◌, ℕ, ◌+◌, List, [], ◌∷◌, ◌++◌, Bool, true, false, Option, refl, ap, arith}
 use Rattle.std.specs.Prelude.{if◌then◌else◌}
-use Rattle.hc_event.specs.declared.event.Event.{Event}
+use Rattle.hc_effects.proofs.Vocabulary.{Event, History}
 use Rattle.hc_event.specs.declared.event.Event.TheVariants as event
-use Rattle.hc_model.specs.Entries.{History}
 use Rattle.hc_proxy.specs.Asked.{is_at, count_by, starts_in, IsNextStart, AreClients}
 use Rattle.hc_proxy.specs.Rendered.{consumer_by, consumers_of}
 use Rattle.hc_proxy.specs.Rows.{with}

@@ -9,12 +9,8 @@ use Rattle.std.proofs.Math.Logic.{∥∥₁_elim}
 use Rattle.std.proofs.lemmas.List.Sums.{sum_by-cons}
 use Rattle.std.proofs.lemmas.Bool.{cases_Bool}
 use Rattle.std.proofs.lemmas.Bool.Decides.{nat_tests}
-use Rattle.hc_event.specs.Filters.{asks_in, closes_in}
-use Rattle.hc_event.specs.declared.act.Act.{Act}
-use Rattle.hc_event.specs.declared.act.Need.{Need}
+use Rattle.hc_effects.proofs.Vocabulary.{asks_in, closes_in, Act, Need, Request, is_open, is_wanted}
 use Rattle.hc_event.specs.declared.act.Act.TheVariants as act
-use Rattle.hc_event.specs.declared.event.Request.{Request}
-use Rattle.hc_model.specs.Exchanges.{is_open, is_wanted}
 use Rattle.hc_target.specs.Targets.{is_short_word, is_target}
 use Rattle.std.specs.Str.{is_utf8}
 use Rattle.hc_text.proofs.Basics.{eq_itself as same_number, some_inj as some_is}

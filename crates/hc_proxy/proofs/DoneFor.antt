@@ -7,13 +7,8 @@ use Rattle.std.specs.Prelude.{◌||◌, ◌&&◌, if◌then◌else◌, nat_eq, n
 use Rattle.std.specs.List.{list_all}
 use Rattle.hc_text.proofs.Basics.{or_right, true_false}
 use Rattle.hc_core.specs.Steps.{steps}
-use Rattle.hc_event.specs.Filters.{opening_in, asks_in, closes_in, is_denied}
-use Rattle.hc_event.specs.declared.act.Act.{Act}
-use Rattle.hc_event.specs.declared.event.Event.{Event}
+use Rattle.hc_effects.proofs.Vocabulary.{opening_in, asks_in, closes_in, is_denied, Act, Event, is_open, is_wanted, Lawful, after, after_accepted, after_denied, opened_after}
 use Rattle.hc_event.specs.declared.event.Event.TheVariants as event
-use Rattle.hc_model.specs.Exchanges.{is_open, is_wanted}
-use Rattle.hc_model.specs.Lawful.{Lawful}
-use Rattle.hc_model.specs.Tables.{after, after_accepted, after_denied, opened_after}
 use Rattle.hc_effects.proofs.PieceKeeps.{eq_cases}
 use Rattle.hc_peers.specs.Peers.{is_same}
 use Rattle.hc_peers.specs.Upstreams.{upstream_of, is_news, is_touched}

@@ -6,7 +6,7 @@ use Rattle.std.specs.Prelude.{nat_eq, not, if◌then◌else◌}
 use Rattle.std.specs.List.{list_all}
 use Rattle.std.proofs.lemmas.Bool.Decides.{nat_tests}
 use Rattle.std.proofs.Math.Logic.{∥∥₁_map, ∥∥₁_elim}
-use Rattle.hc_event.specs.declared.event.Event.{Event}
+use Rattle.hc_effects.proofs.Vocabulary.{Event, received_in}
 use Rattle.hc_effects.proofs.PieceKeeps.{eq_cases}
 use Rattle.hc_peers.specs.Clients.{client_of}
 use Rattle.hc_peers.specs.declared.client.Client as peer
@@ -15,7 +15,6 @@ use Rattle.hc_wire.specs.Events.{Stage, Unseen, Open, Closed, IsOpen, IsUnended,
 use Rattle.hc_wire.specs.declared.event.WireEvent.{WireEvent}
 use Rattle.hc_wire.specs.declared.event.WireEvent.TheVariants as wire
 use Rattle.hc_core.specs.Steps.{bytes_received, faults_in}
-use Rattle.hc_model.specs.Tables.{received_in}
 use Rattle.hc_proxy.specs.declared.proxy.Proxy as loop
 use Rattle.hc_proxy.specs.Carrying.{acts_in}
 use Rattle.hc_proxy.specs.Handling.{handled, handled_by}

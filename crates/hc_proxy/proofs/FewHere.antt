@@ -6,15 +6,7 @@
 use Rattle.std.proofs.Common.{◌≡◌, ◌⊎◌, inl, inr, ◌≤◌, ◌<◌, ℕ, zero, suc, ◌+◌, List, [], ◌∷◌, length, map, true, Option, Some, None, refl, ap, sym, ◌∙◌, arith}
 use Rattle.std.specs.Prelude.{Contains, IsSome, filter, nat_eq, unwrap_or, if◌then◌else◌}
 use Rattle.hc_text.proofs.Basics.{map_long}
-use Rattle.hc_rules.specs.declared.room.Limits.{Limits}
-use Rattle.hc_model.specs.Denials.{is_live, live}
-use Rattle.hc_model.specs.Entries.{History, no_contents}
-use Rattle.hc_model.specs.Lawful.{Lawful}
-use Rattle.hc_model.specs.Live.{open_now}
-use Rattle.hc_model.specs.Orders.{Descends}
-use Rattle.hc_model.specs.Runs.{IsRun}
-use Rattle.hc_model.specs.Sound.{Among}
-use Rattle.hc_model.specs.Tables.{tables}
+use Rattle.hc_effects.proofs.Vocabulary.{Limits, is_live, live, History, no_contents, Lawful, open_now, Descends, IsRun, Among, tables}
 use Rattle.hc_effects.proofs.Closed.{among_filter}
 use Rattle.hc_effects.proofs.PieceKeeps.{eq_cases}
 use Rattle.hc_effects.proofs.HasBound.{among_passes}

@@ -5,7 +5,7 @@
 use Rattle.std.proofs.Common.{◌≡◌, ◌≤◌, ℕ, List, [], ◌∷◌, ◌++◌, Bool, true, false, Option, None, refl, ap, sym, ◌∙◌, arith, append-nil, length-append}
 use Rattle.std.specs.Prelude.{nat_eq, length, map, reverse, option_map, if◌then◌else◌}
 use Rattle.hc_io.specs.Sink.{Takes, TakesFront}
-use Rattle.hc_model.specs.Entries.{History}
+use Rattle.hc_effects.proofs.Vocabulary.{History}
 use Rattle.hc_store.specs.declared.backend.Backend.{Ghosts}
 use Rattle.hc_wire.specs.Events.{Stage, Unseen}
 use Rattle.hc_wire.specs.Logs.{Log, stage_in}

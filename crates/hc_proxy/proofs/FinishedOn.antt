@@ -8,14 +8,9 @@ use Rattle.std.specs.Prelude.{◌&&◌, nat_eq, option_map, if◌then◌else◌,
 use Rattle.std.specs.Result.{is_ok}
 use Rattle.hc_text.proofs.Basics.{some_inj, true_false}
 use Rattle.hc_core.specs.Steps.{faults_in, steps, bytes_received}
-use Rattle.hc_event.specs.declared.event.Event.{Event}
+use Rattle.hc_effects.proofs.Vocabulary.{Event, Entry, is_open, is_wanted, Exchange, owed, after}
 use Rattle.hc_event.specs.declared.event.Event.TheVariants as event
 use Rattle.hc_head.specs.declared.message.MsgError.{MsgError}
-use Rattle.hc_model.specs.Entries.{Entry}
-use Rattle.hc_model.specs.Exchanges.{is_open, is_wanted}
-use Rattle.hc_model.specs.Rows.{Exchange}
-use Rattle.hc_model.specs.Runs.{owed}
-use Rattle.hc_model.specs.Tables.{after}
 use Rattle.hc_effects.proofs.PieceKeeps.{eq_cases}
 use Rattle.hc_msg.specs.declared.message.Look.{Look}
 use Rattle.hc_msg.specs.declared.message.Look.TheVariants as look

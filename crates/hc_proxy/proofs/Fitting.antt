@@ -10,8 +10,7 @@ use Rattle.std.proofs.lemmas.Bool.Decides.{nat_tests}
 use Rattle.std.proofs.Math.Seq.{take-length}
 use Rattle.std.proofs.lemmas.List.{reverse-append}
 use Rattle.hc_text.proofs.Basics.{and_left, and_right, both_true as both_hold, some_inj as some_is}
-use Rattle.hc_model.specs.Exchanges.{is_open, is_wanted}
-use Rattle.hc_model.specs.Sound.{Sound}
+use Rattle.hc_effects.proofs.Vocabulary.{is_open, is_wanted, Sound}
 use Rattle.hc_peers.specs.Clients.{client_of}
 use Rattle.hc_peers.specs.Peers.{is_idle}
 use Rattle.hc_peers.specs.Peers as peers

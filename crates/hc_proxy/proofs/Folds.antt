@@ -1,6 +1,6 @@
 -- One call more at the end of a log.
 use Rattle.std.proofs.Common.{◌≡◌, ℕ, List, [], ◌∷◌, ◌++◌, refl}
-use Rattle.hc_rules.specs.declared.room.Limits.{Limits}
+use Rattle.hc_effects.proofs.Vocabulary.{Limits}
 use Rattle.hc_wire.specs.Logs.{Called}
 use Rattle.hc_proxy.specs.Loops.{Fits, AllFit}
 use Rattle.hc_proxy.specs.Rows.{Proxy}

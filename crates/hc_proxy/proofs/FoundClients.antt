@@ -4,9 +4,8 @@
 -- others, whose clients are others: so its client still waits for it when its own act is carried out.
 use Rattle.std.proofs.Common.{◌≡◌, ℕ, List, [], ◌∷◌, ◌++◌, true, false, Option, Some, None, refl, ap, sym, ◌∙◌, subst}
 use Rattle.std.specs.Prelude.{is_some, if◌then◌else◌}
-use Rattle.hc_event.specs.declared.act.Act.{Act}
+use Rattle.hc_effects.proofs.Vocabulary.{Act, told_to, tellings, IsOneTo}
 use Rattle.hc_event.specs.declared.act.Act.TheVariants as act
-use Rattle.hc_model.specs.Tellings.{told_to, tellings, IsOneTo}
 use Rattle.hc_model.specs.Tellings as tells
 use Rattle.hc_proxy.specs.Carrying.{answered, answers, carried_out, all_carried_out}
 use Rattle.hc_proxy.specs.Invariants.{IsHolder}

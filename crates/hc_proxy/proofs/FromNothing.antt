@@ -6,11 +6,7 @@ use Rattle.std.proofs.Common.{◌≡◌, ℕ, zero, suc, ◌-◌, List, [], ◌+
 use Rattle.std.specs.Prelude.{nat_eq, if◌then◌else◌, IsSome, Contains}
 use Rattle.hc_text.proofs.Basics.{false_true, none_some}
 use Rattle.hc_core.specs.Steps.{last_moment, bytes_received}
-use Rattle.hc_event.specs.Acts.{act_list}
-use Rattle.hc_model.specs.Denials.{is_live}
-use Rattle.hc_model.specs.Entries.{no_contents}
-use Rattle.hc_model.specs.Exchanges.{is_open}
-use Rattle.hc_model.specs.Tables.{tables}
+use Rattle.hc_effects.proofs.Vocabulary.{act_list, is_live, no_contents, is_open, tables}
 use Rattle.hc_peers.specs.Clients.{client_of}
 use Rattle.hc_peers.specs.Upstreams.{upstream_of}
 use Rattle.hc_peers.specs.declared.client.Client as peer

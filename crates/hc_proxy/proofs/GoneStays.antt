@@ -5,12 +5,9 @@
 use Rattle.std.proofs.Common.{◌≡◌, ℕ, List, [], ◌∷◌, Bool, true, false, Option, Some, None, refl, ap, sym, ◌∙◌, arith}
 use Rattle.std.specs.Prelude.{◌&&◌, ◌||◌, not, nat_eq, nat_lt, length, filter, is_none, if◌then◌else◌, option_map}
 use Rattle.std.proofs.lemmas.Bool.Decides.{nat_tests}
-use Rattle.hc_event.specs.declared.act.Act.{Act}
+use Rattle.hc_effects.proofs.Vocabulary.{Act, Event, is_open, Limits}
 use Rattle.hc_event.specs.declared.act.Act.TheVariants as act
-use Rattle.hc_event.specs.declared.event.Event.{Event}
 use Rattle.hc_event.specs.declared.event.Event.TheVariants as event
-use Rattle.hc_model.specs.Exchanges.{is_open}
-use Rattle.hc_rules.specs.declared.room.Limits.{Limits}
 use Rattle.hc_wire.specs.Logs.{Called}
 use Rattle.hc_wire.specs.declared.event.WireEvent.{WireEvent}
 use Rattle.hc_wire.specs.declared.event.WireEvent.TheVariants as wire

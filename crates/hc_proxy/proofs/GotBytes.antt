@@ -11,12 +11,8 @@ use Rattle.std.proofs.lemmas.Bool.Decides.{nat_tests}
 use Rattle.std.proofs.lemmas.List.{length-append}
 use Rattle.hc_text.proofs.Basics.{none_some, eq_itself as same_number, some_inj, true_false}
 use Rattle.hc_core.specs.Steps.{faults_in, steps, bytes_received}
-use Rattle.hc_event.specs.Filters.{asks_in, closes_in}
-use Rattle.hc_model.specs.Exchanges.{is_open, is_wanted}
+use Rattle.hc_effects.proofs.Vocabulary.{asks_in, closes_in, is_open, is_wanted, Exchange, after, Lawful}
 use Rattle.hc_event.specs.declared.event.Event.TheVariants as event
-use Rattle.hc_model.specs.Rows.{Exchange}
-use Rattle.hc_model.specs.Tables.{after}
-use Rattle.hc_model.specs.Lawful.{Lawful}
 use Rattle.hc_peers.specs.Agreement.{is_at}
 use Rattle.hc_peers.specs.Clients.{client_of}
 use Rattle.hc_peers.specs.Clients as clients

@@ -10,7 +10,7 @@ use Rattle.hc_core.specs.Steps.{steps, faults_in, bytes_received}
 use Rattle.hc_event.specs.declared.event.Event.TheVariants as event
 use Rattle.hc_head.specs.declared.message.MsgError.{MsgError}
 use Rattle.hc_head.specs.declared.message.MsgError.TheVariants as error
-use Rattle.hc_model.specs.Exchanges.{is_open, is_wanted}
+use Rattle.hc_effects.proofs.Vocabulary.{is_open, is_wanted}
 use Rattle.hc_msg.specs.declared.message.WirePart.{WirePart}
 use Rattle.hc_msg.specs.declared.message.WirePart.TheVariants as part
 use Rattle.hc_msg.specs.Inputs.{Next}

@@ -11,12 +11,8 @@ use Rattle.std.specs.Ordering.{nat_cmp}
 use Rattle.std.proofs.lemmas.List.{length-reverse}
 use Rattle.hc_text.proofs.Basics.{true_false}
 use Rattle.hc_core.specs.Steps.{faults_in, steps}
-use Rattle.hc_event.specs.Filters.{asks_in}
-use Rattle.hc_model.specs.Exchanges.{is_open, is_wanted}
-use Rattle.hc_model.specs.Lawful.{Lawful}
-use Rattle.hc_model.specs.Live.{open_now}
+use Rattle.hc_effects.proofs.Vocabulary.{asks_in, is_open, is_wanted, Lawful, open_now, Limits}
 use Rattle.hc_effects.proofs.PieceKeeps.{eq_cases}
-use Rattle.hc_rules.specs.declared.room.Limits.{Limits}
 use Rattle.hc_peers.specs.Upstreams.{is_news, news_of}
 use Rattle.hc_peers.specs.declared.upstreams.Upstreams.{Upstreams}
 use Rattle.hc_store.specs.declared.backend.Backend.{Ghosts}

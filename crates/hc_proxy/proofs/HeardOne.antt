@@ -9,15 +9,10 @@ use Rattle.std.specs.Prelude.{◌^◌, nat_lt}
 use Rattle.std.proofs.Math.Bridge.{le_prop}
 use Rattle.std.proofs.Math.Logic.{∥∥₁_elim, ∥∥₁_map}
 use Rattle.hc_core.specs.Steps.{StandsFor, steps, bytes_received}
-use Rattle.hc_event.specs.Acts.{act_list}
-use Rattle.hc_event.specs.Filters.{is_denied}
+use Rattle.hc_effects.proofs.Vocabulary.{act_list, is_denied, History, Contents, no_contents, is_open, Tables, tables}
 use Rattle.hc_event.specs.declared.event.Event.TheVariants as event
 use Rattle.hc_msg.specs.declared.message.WirePart.{WirePart}
 use Rattle.hc_msg.specs.declared.message.WirePart.TheVariants as part
-use Rattle.hc_model.specs.Entries.{History, Contents, no_contents}
-use Rattle.hc_model.specs.Exchanges.{is_open}
-use Rattle.hc_model.specs.Rows.{Tables}
-use Rattle.hc_model.specs.Tables.{tables}
 use Rattle.hc_peers.specs.Upstreams.{is_news}
 use Rattle.hc_peers.specs.declared.upstreams.Upstreams.{Upstreams}
 use Rattle.hc_store.specs.declared.backend.Backend.{Ghosts}

@@ -7,9 +7,7 @@ use Rattle.std.specs.Prelude.{◌&&◌, ◌||◌, not, nat_eq, nat_lt}
 use Rattle.std.specs.List.{list_any}
 use Rattle.std.proofs.lemmas.Bool.Decides.{nat_tests}
 use Rattle.hc_text.proofs.Basics.{true_false}
-use Rattle.hc_model.specs.Exchanges.{is_open, is_wanted}
-use Rattle.hc_model.specs.Lawful.{Lawful}
-use Rattle.hc_model.specs.Rows.{Exchange}
+use Rattle.hc_effects.proofs.Vocabulary.{is_open, is_wanted, Lawful, Exchange}
 use Rattle.hc_msg.specs.Inputs.{look_of}
 use Rattle.hc_peers.specs.Upstreams.{upstream_of, is_news, news_of, has_news_at, look_at}
 use Rattle.hc_peers.specs.declared.upstream.Upstream as origin

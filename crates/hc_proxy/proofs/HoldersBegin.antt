@@ -6,9 +6,7 @@ use Rattle.std.proofs.Common.{◌≡◌, inl, inr, ℕ, zero, suc, List, [], ◌
 use Rattle.std.specs.Prelude.{◌||◌, Contains, option_map, if◌then◌else◌}
 use Rattle.std.specs.List.{list_all}
 use Rattle.hc_text.proofs.Basics.{and_left, and_right, some_inj}
-use Rattle.hc_event.specs.declared.act.Act.{Act}
-use Rattle.hc_model.specs.Denials.{is_live}
-use Rattle.hc_model.specs.Rows.{Tables}
+use Rattle.hc_effects.proofs.Vocabulary.{Act, is_live, Tables}
 use Rattle.hc_effects.proofs.PieceKeeps.{eq_cases}
 use Rattle.hc_wire.specs.Logs.{Called}
 use Rattle.hc_proxy.specs.Carrying.{acts_in}

@@ -2,9 +2,7 @@
 use Rattle.std.proofs.Common.{◌≡◌, ◌⊎◌, ◌≤◌, ℕ, true, false, refl, ap, sym, ◌∙◌, subst}
 use Rattle.std.specs.Prelude.{nat_eq, IsSome}
 use Rattle.hc_core.specs.Steps.{steps}
-use Rattle.hc_event.specs.Acts.{act_list}
-use Rattle.hc_event.specs.Filters.{closes_in}
-use Rattle.hc_model.specs.Exchanges.{is_open}
+use Rattle.hc_effects.proofs.Vocabulary.{act_list, closes_in, is_open}
 use Rattle.hc_peers.specs.Upstreams.{upstream_of}
 use Rattle.hc_store.specs.declared.backend.Backend.{Ghosts}
 use Rattle.hc_proxy.specs.declared.proxy.Proxy as loop

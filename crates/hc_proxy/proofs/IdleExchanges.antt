@@ -6,19 +6,13 @@ use Rattle.std.proofs.Common.{◌≡◌, ◌⊎◌, inl, inr, ℕ, ◌+◌, List
 use Rattle.std.specs.Prelude.{◌&&◌, ◌||◌, not, nat_eq, if◌then◌else◌, Result, Ok, Err}
 use Rattle.std.proofs.lemmas.Bool.Decides.{nat_tests}
 use Rattle.hc_text.proofs.Basics.{bool_cases, true_false}
-use Rattle.hc_event.specs.Filters.{opening_in}
-use Rattle.hc_event.specs.declared.event.Event.{Event}
+use Rattle.hc_effects.proofs.Vocabulary.{opening_in, Event, Entry, is_open, is_wanted, Exchange, owed, Limits}
 use Rattle.hc_event.specs.declared.event.Event.TheVariants as event
 use Rattle.hc_head.specs.declared.message.MsgError.{MsgError}
-use Rattle.hc_model.specs.Entries.{Entry}
-use Rattle.hc_model.specs.Exchanges.{is_open, is_wanted}
-use Rattle.hc_model.specs.Rows.{Exchange}
-use Rattle.hc_model.specs.Runs.{owed}
 use Rattle.hc_msg.specs.Inputs.{Next, Waits, Tells, Brings, Ends, Fails}
 use Rattle.hc_msg.specs.Reading.{Done, Failed, Token, Asks, Answers, Byte}
 use Rattle.hc_msg.specs.Taking.{ending}
 use Rattle.hc_msg.specs.declared.message.WirePart.{WirePart}
-use Rattle.hc_rules.specs.declared.room.Limits.{Limits}
 use Rattle.hc_proxy.specs.Invariants.{is_part, is_due, is_due_by}
 use Rattle.hc_proxy.specs.Network.{has_news, next_of, read_to, is_last_denied, unless_denied, hands_head, hands, hands_if, handed, closes, closes_if, closed, event_at_close}
 use Rattle.hc_proxy.specs.Network as network

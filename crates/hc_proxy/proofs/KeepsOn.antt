@@ -7,14 +7,8 @@ use Rattle.std.proofs.Common.{◌≡◌, ◌⊎◌, inl, inr, ◌≤◌, ◌<◌
 use Rattle.std.specs.Prelude.{◌||◌, nat_eq, length, drop, Contains, if◌then◌else◌}
 use Rattle.hc_text.proofs.Basics.{or_off_left as or_first, or_left, or_right, or_off_right as or_second}
 use Rattle.hc_core.specs.Steps.{steps}
-use Rattle.hc_event.specs.Filters.{opening_in, asks_in, closes_in}
-use Rattle.hc_event.specs.declared.act.Act.{Act}
+use Rattle.hc_effects.proofs.Vocabulary.{opening_in, asks_in, closes_in, Act, Event, Entry, is_open, is_wanted, IsOwed, after}
 use Rattle.hc_event.specs.declared.act.Act.TheVariants as act
-use Rattle.hc_event.specs.declared.event.Event.{Event}
-use Rattle.hc_model.specs.Entries.{Entry}
-use Rattle.hc_model.specs.Exchanges.{is_open, is_wanted}
-use Rattle.hc_model.specs.Runs.{IsOwed}
-use Rattle.hc_model.specs.Tables.{after}
 use Rattle.hc_peers.specs.Peers.{is_same}
 use Rattle.hc_peers.specs.Upstreams.{upstream_of, is_news, is_touched}
 use Rattle.hc_peers.specs.declared.upstream.Upstream as origin

@@ -8,13 +8,8 @@ use Rattle.std.proofs.lemmas.Bool.Decides.{nat_tests}
 use Rattle.std.proofs.lemmas.List.Elements.{Contains-append_left, Contains-append_right, Contains-append_cases}
 use Rattle.hc_text.proofs.Basics.{none_some, some_inj, true_false}
 use Rattle.hc_core.specs.Steps.{faults_in, steps, bytes_received}
-use Rattle.hc_event.specs.Acts.{act_list}
-use Rattle.hc_event.specs.Filters.{closes_in}
-use Rattle.hc_event.specs.declared.act.Act.{Act}
+use Rattle.hc_effects.proofs.Vocabulary.{act_list, closes_in, Act, is_open, is_wanted, Lawful, after}
 use Rattle.hc_event.specs.declared.event.Event.TheVariants as event
-use Rattle.hc_model.specs.Exchanges.{is_open, is_wanted}
-use Rattle.hc_model.specs.Lawful.{Lawful}
-use Rattle.hc_model.specs.Tables.{after}
 use Rattle.hc_effects.proofs.PieceKeeps.{eq_cases}
 use Rattle.hc_peers.specs.Agreement.{is_at}
 use Rattle.hc_peers.specs.Clients.{client_of}

@@ -5,10 +5,8 @@
 use Rattle.std.proofs.Common.{◌≡◌, ℕ, Bool, true, false, List, [], ◌∷◌, ◌++◌, length, Option, Some, None, refl, ap, sym, ◌∙◌}
 use Rattle.std.specs.Prelude.{nat_eq, ◌||◌, if◌then◌else◌, option_map}
 use Rattle.hc_text.proofs.Basics.{some_inj as some_is}
-use Rattle.hc_event.specs.declared.act.Act.{Act}
-use Rattle.hc_model.specs.Entries.{Entry}
+use Rattle.hc_effects.proofs.Vocabulary.{Act, Entry, Limits}
 use Rattle.hc_peers.specs.Renderings.{rendering, form_behind, is_last, closes}
-use Rattle.hc_rules.specs.declared.room.Limits.{Limits}
 use Rattle.hc_wire.specs.Logs.{Called}
 use Rattle.hc_proxy.specs.Carrying.{answered, carried, acts_in}
 use Rattle.hc_proxy.specs.Connections.{stands}

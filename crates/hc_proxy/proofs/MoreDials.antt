@@ -5,7 +5,7 @@
 -- behind those isn't looked at.
 use Rattle.std.proofs.Common.{◌≡◌, ◌≤◌, ℕ, List, [], ◌∷◌, ◌++◌, length, refl, ap, sym, ◌∙◌, subst, arith}
 use Rattle.std.proofs.lemmas.List.{take-append-le}
-use Rattle.hc_rules.specs.declared.room.Limits.{Limits}
+use Rattle.hc_effects.proofs.Vocabulary.{Limits}
 use Rattle.hc_wire.specs.Logs.{Called}
 use Rattle.hc_proxy.specs.Carrying.{carried}
 use Rattle.hc_proxy.specs.Handling.{begun}

@@ -4,8 +4,7 @@ use Rattle.std.specs.Prelude.{nat_le, length}
 use Rattle.std.proofs.lemmas.Bool.Decides.{nat_tests}
 use Rattle.std.proofs.lemmas.List.Elements.{All-head}
 use Rattle.hc_event.specs.declared.event.Event.TheVariants as event
-use Rattle.hc_event.specs.declared.event.Request.{Request}
-use Rattle.hc_event.specs.declared.event.Response.{Response}
+use Rattle.hc_effects.proofs.Vocabulary.{Request, Response}
 use Rattle.hc_head.specs.Spellings.{IsMethod, IsSpelledRequest, IsSpelledResponse}
 use Rattle.hc_msg.specs.Inputs.{Tells, next_in}
 use Rattle.hc_msg.specs.NextParts.{IsToldFirst, StandsNext}

@@ -10,7 +10,7 @@ use Rattle.std.specs.Ordering.{is_eq, nat_cmp}
 use Rattle.std.specs.declared.cmp.Ordering.TheVariants.{Less, Equal, Greater}
 use Rattle.std.proofs.lemmas.Bool.Decides.{nat_tests}
 use Rattle.std.proofs.lemmas.List.{nil_from_length}
-use Rattle.hc_model.specs.Exchanges.{is_wanted}
+use Rattle.hc_effects.proofs.Vocabulary.{is_wanted}
 use Rattle.hc_wire.specs.Events.{Stage}
 use Rattle.hc_wire.specs.Logs.{Log}
 use Rattle.hc_peers.specs.Agreement.{settled_at}

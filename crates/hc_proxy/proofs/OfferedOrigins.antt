@@ -8,7 +8,7 @@ use Rattle.std.proofs.lemmas.Bool.Decides.{nat_tests}
 use Rattle.std.proofs.lemmas.List.{length-take-le, drop_all, nil_from_length}
 use Rattle.std.proofs.Math.Seq.{drop-nil}
 use Rattle.hc_text.proofs.Basics.{eq_itself as same_number, some_inj as some_is}
-use Rattle.hc_model.specs.Exchanges.{is_open, is_wanted}
+use Rattle.hc_effects.proofs.Vocabulary.{is_open, is_wanted}
 use Rattle.hc_wire.specs.Events.{Stage, Open, with_stage, reading_of, IsOpen}
 use Rattle.hc_wire.specs.Logs.{Log, stage_in, sent_in, with_sent, with_reading}
 use Rattle.hc_peers.specs.Clients.{client_of}

@@ -5,14 +5,8 @@
 use Rattle.std.proofs.Common.{◌≡◌, ◌⊎◌, inl, inr, ℕ, Bool, true, false, Option, Some, None, refl, ap, sym, ◌∙◌, subst}
 use Rattle.std.specs.Prelude.{◌&&◌, ◌||◌, not, is_none, nat_eq, if◌then◌else◌}
 use Rattle.hc_text.proofs.Basics.{and_left as and_first, and_right as and_second, eq_tells as same_number}
-use Rattle.hc_event.specs.Filters.{Opening, opening_in, asks_in, closes_in, is_denied}
-use Rattle.hc_event.specs.declared.event.Event.{Event}
+use Rattle.hc_effects.proofs.Vocabulary.{Opening, opening_in, asks_in, closes_in, is_denied, Event, Entry, exchange_after, exchange_heard, exchange_acted, exchange_made, exchange_opened, with_head, with_piece, is_open, is_wanted, Tables, Exchange, after, after_accepted, after_denied}
 use Rattle.hc_event.specs.declared.event.Event.TheVariants as event
-use Rattle.hc_model.specs.Entries.{Entry}
-use Rattle.hc_model.specs.ExchangeRows.{exchange_after, exchange_heard, exchange_acted, exchange_made, exchange_opened, with_head, with_piece}
-use Rattle.hc_model.specs.Exchanges.{is_open, is_wanted}
-use Rattle.hc_model.specs.Rows.{Tables, Exchange}
-use Rattle.hc_model.specs.Tables.{after, after_accepted, after_denied}
 
 -- the rows behind an entry: as they were, or as an accepted one leaves them
 pub exchange_behind : (t : Tables) (e : Entry) (x : ℕ) → ((after t e).exchange x ≡ t.exchange x) ⊎ ((after t e).exchange x ≡ exchange_after t e x (t.exchange x))

@@ -6,26 +6,10 @@
 use Rattle.std.proofs.Common.{◌≡◌, ◌≤◌, ◌<◌, ℕ, ◌+◌, Bool, true, false, List, [], ◌∷◌, ◌++◌, Option, Some, None, refl, ap, sym, ◌∙◌, subst, arith}
 use Rattle.std.proofs.lemmas.Bool.Decides.{nat_tests}
 use Rattle.std.specs.Prelude.{nat_eq, if◌then◌else◌, map, option_map}
-use Rattle.hc_event.specs.Filters.{Opening, opening_in, is_denied}
-use Rattle.hc_event.specs.declared.act.Act.{Act}
+use Rattle.hc_effects.proofs.Vocabulary.{Opening, opening_in, is_denied, Act, Need, Event, Request, Limits, accepted_acts, answer_acts, poll_acts, loss_acts, close_acts, closing, Entry, Flaw, NoFlaw, Loses, Misreads, flaw_in, Move, Nothing, Asks, Opens, Shows, Gives, Ends, Fails, acts_of, poll_move, Tables, IsOwed, owed, Sound, after, opened_after, evicted}
 use Rattle.hc_event.specs.declared.act.Act.TheVariants as act
-use Rattle.hc_event.specs.declared.act.Need.{Need}
-use Rattle.hc_event.specs.declared.event.Event.{Event}
 use Rattle.hc_event.specs.declared.event.Event.TheVariants as event
-use Rattle.hc_event.specs.declared.event.Request.{Request}
-use Rattle.hc_rules.specs.declared.room.Limits.{Limits}
-use Rattle.hc_model.specs.Answers.{accepted_acts, answer_acts, poll_acts, loss_acts, close_acts}
-use Rattle.hc_model.specs.Closings.{closing}
-use Rattle.hc_model.specs.Entries.{Entry}
-use Rattle.hc_model.specs.Flaws.{Flaw, NoFlaw, Loses, Misreads, flaw_in}
 use Rattle.hc_model.specs.Moves as moves
-use Rattle.hc_model.specs.Moves.{Move, Nothing, Asks, Opens, Shows, Gives, Ends, Fails, acts_of}
-use Rattle.hc_model.specs.Polls.{poll_move}
-use Rattle.hc_model.specs.Rows.{Tables}
-use Rattle.hc_model.specs.Runs.{IsOwed, owed}
-use Rattle.hc_model.specs.Sound.{Sound}
-use Rattle.hc_model.specs.Tables.{after, opened_after}
-use Rattle.hc_model.specs.Weights.{evicted}
 use Rattle.hc_effects.proofs.NumbersKeep.{opens_next}
 use Rattle.hc_effects.proofs.Owed.{goes, acts_are, is_denial, IsDenied, denied}
 use Rattle.hc_wire.specs.Logs.{Called}

@@ -6,7 +6,7 @@ use Rattle.std.proofs.Common.{◌≡◌, ◌⊎◌, inl, inr, ◌≤◌, ◌<◌
 use Rattle.std.specs.Prelude.{nat_eq, option_map, IsSome, Contains}
 use Rattle.hc_text.proofs.Basics.{none_some, eq_itself as same_number, some_inj}
 use Rattle.hc_core.specs.Steps.{bytes_received}
-use Rattle.hc_model.specs.Exchanges.{is_open, is_wanted}
+use Rattle.hc_effects.proofs.Vocabulary.{is_open, is_wanted}
 use Rattle.hc_effects.proofs.PieceKeeps.{eq_cases}
 use Rattle.hc_peers.specs.Clients.{client_of}
 use Rattle.hc_peers.specs.Upstreams.{upstream_of, is_news, is_touched, Becomes}

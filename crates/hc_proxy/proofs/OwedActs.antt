@@ -7,11 +7,9 @@
 use Rattle.std.proofs.Common.{◌≡◌, ◌⊎◌, inl, inr, ℕ, List, [], ◌∷◌, ◌++◌, Bool, true, false, Option, Some, None, refl, ap, sym, ◌∙◌, subst, arith, length, append_assoc, append-nil}
 use Rattle.std.specs.Prelude.{◌||◌, nat_eq, option_map, if◌then◌else◌}
 use Rattle.std.proofs.lemmas.Bool.Decides.{nat_tests}
-use Rattle.hc_event.specs.Filters.{leaves_in}
-use Rattle.hc_event.specs.declared.act.Act.{Act}
+use Rattle.hc_effects.proofs.Vocabulary.{leaves_in, Act, History}
 use Rattle.hc_event.specs.declared.act.Act.TheVariants as act
 use Rattle.hc_head.specs.declared.message.WireRequest.{WireRequest}
-use Rattle.hc_model.specs.Entries.{History}
 use Rattle.hc_peers.specs.declared.reply.Reply.{Reply}
 use Rattle.hc_peers.specs.Renderings.{rendering, form_behind, is_last, closes, reply_to}
 use Rattle.hc_proxy.specs.Asked.{is_at}

@@ -1,10 +1,7 @@
 -- The entries of a turn stand first in the history, the newest first, and each is at the moment of the turn.
 use Rattle.std.proofs.Common.{◌≡◌, ℕ, List, [], ◌∷◌, ◌++◌, refl, ap, sym, ◌∙◌, subst}
 use Rattle.std.specs.Prelude.{max}
-use Rattle.hc_event.specs.declared.event.Event.{Event}
-use Rattle.hc_rules.specs.declared.room.Limits.{Limits}
-use Rattle.hc_model.specs.Entries.{Entry, History}
-use Rattle.hc_model.specs.Runs.{owed}
+use Rattle.hc_effects.proofs.Vocabulary.{Event, Limits, Entry, History, owed}
 use Rattle.hc_wire.specs.Logs.{Called}
 use Rattle.hc_proxy.specs.Handling.{begun}
 use Rattle.hc_proxy.specs.Rows.{Proxy}

@@ -5,20 +5,9 @@
 -- event says anything of it.
 use Rattle.std.proofs.Common.{◌≡◌, ◌⊎◌, inl, inr, ℕ, ◌+◌, List, [], ◌∷◌, ◌++◌, Bool, true, false, Option, Some, None, refl, ap, sym, ◌∙◌, subst, arith}
 use Rattle.hc_text.proofs.Basics.{false_true, eq_itself as itself, or_left, or_right}
-use Rattle.hc_event.specs.Filters.{Opening, opening_in, closes_in, is_denied}
-use Rattle.hc_event.specs.declared.act.Act.{Act}
+use Rattle.hc_effects.proofs.Vocabulary.{Opening, opening_in, closes_in, is_denied, Act, Limits, Entry, exchange_after, exchange_opened, is_open, flaw_in, Lawful, Tables, IsOwed, after, RequestsAreForTargets}
 use Rattle.hc_event.specs.declared.act.Act.TheVariants as act
-use Rattle.hc_rules.specs.declared.room.Limits.{Limits}
 use Rattle.hc_target.specs.Targets.{is_target}
-use Rattle.hc_model.specs.Entries.{Entry}
-use Rattle.hc_model.specs.ExchangeRows.{exchange_after, exchange_opened}
-use Rattle.hc_model.specs.Exchanges.{is_open}
-use Rattle.hc_model.specs.Flaws.{flaw_in}
-use Rattle.hc_model.specs.Lawful.{Lawful}
-use Rattle.hc_model.specs.Rows.{Tables}
-use Rattle.hc_model.specs.Runs.{IsOwed}
-use Rattle.hc_model.specs.Tables.{after}
-use Rattle.hc_model.specs.WithinLimits.{RequestsAreForTargets}
 use Rattle.hc_effects.proofs.Owed.{acts_are, is_denial, IsDenied, denied, denied_opens}
 use Rattle.hc_proxy.specs.Invariants.{ArePlain, OpensUp}
 use Rattle.hc_proxy.specs.Rows.{Proxy}

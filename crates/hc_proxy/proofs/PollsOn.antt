@@ -14,13 +14,8 @@ use Rattle.std.proofs.Math.Logic.{∥∥₁_elim}
 use Rattle.std.proofs.lemmas.List.Kept.{IsStrictlySortedBy-filter}
 use Rattle.hc_text.proofs.Basics.{filter_short}
 use Rattle.hc_core.specs.Steps.{faults_in, steps}
-use Rattle.hc_event.specs.declared.event.Event.{Event}
+use Rattle.hc_effects.proofs.Vocabulary.{Event, Limits, is_live, Entry, no_contents, owed, RequestsAreForTargets}
 use Rattle.hc_event.specs.declared.event.Event.TheVariants as event
-use Rattle.hc_rules.specs.declared.room.Limits.{Limits}
-use Rattle.hc_model.specs.Denials.{is_live}
-use Rattle.hc_model.specs.Entries.{Entry, no_contents}
-use Rattle.hc_model.specs.Runs.{owed}
-use Rattle.hc_model.specs.WithinLimits.{RequestsAreForTargets}
 use Rattle.hc_laws.proofs.RunsWithinLimits.{requests_are_for_targets}
 use Rattle.hc_peers.specs.Clients.{client_of, consumers_of}
 use Rattle.hc_peers.specs.Clients as peers

@@ -9,13 +9,8 @@ use Rattle.std.specs.List.{list_all}
 use Rattle.std.proofs.lemmas.Bool.Decides.{nat_tests}
 use Rattle.std.proofs.lemmas.List.{take_all, map-append, reverse-append}
 use Rattle.hc_text.proofs.Basics.{and_left, and_right, both_false as both_off, not_true as not_false}
-use Rattle.hc_event.specs.declared.act.Act.{Act}
+use Rattle.hc_effects.proofs.Vocabulary.{Act, Limits, History, no_contents, Tables, IsRun, tables, after}
 use Rattle.hc_event.specs.declared.act.Act.TheVariants as act
-use Rattle.hc_rules.specs.declared.room.Limits.{Limits}
-use Rattle.hc_model.specs.Entries.{History, no_contents}
-use Rattle.hc_model.specs.Rows.{Tables}
-use Rattle.hc_model.specs.Runs.{IsRun}
-use Rattle.hc_model.specs.Tables.{tables, after}
 use Rattle.hc_wire.specs.declared.connection.Standing.{Standing}
 use Rattle.hc_wire.specs.Logs.{Called, Log, Taker, is_at_end, is_numbered}
 use Rattle.hc_proxy.specs.Connections.{connection_of, has_unsent, stands}

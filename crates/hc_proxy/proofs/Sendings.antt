@@ -9,7 +9,7 @@ use Rattle.std.specs.Prelude.{nat_eq, not, ◌||◌, option_map, IsSome, if◌th
 use Rattle.std.proofs.lemmas.Bool.Decides.{nat_tests}
 use Rattle.std.proofs.lemmas.List.{drop-append-le}
 use Rattle.hc_text.proofs.Basics.{filter_same, eq_itself as same_number, some_inj as some_is}
-use Rattle.hc_event.specs.declared.act.Act.{Act}
+use Rattle.hc_effects.proofs.Vocabulary.{Act}
 use Rattle.hc_store.specs.declared.backend.Backend.{Ghosts}
 use Rattle.hc_wire.specs.Events.{Open}
 use Rattle.hc_peers.specs.Clients.{client_of, answered_in, is_same_consumer}

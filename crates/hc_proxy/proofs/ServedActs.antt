@@ -6,7 +6,7 @@ use Rattle.std.proofs.Common.{◌≡◌, ◌⊎◌, inl, inr, ◌≤◌, ℕ, �
 use Rattle.std.specs.Prelude.{nat_eq}
 use Rattle.std.proofs.lemmas.Bool.Decides.{nat_tests}
 use Rattle.hc_text.proofs.Basics.{some_inj as some_is}
-use Rattle.hc_event.specs.declared.act.Act.{Act}
+use Rattle.hc_effects.proofs.Vocabulary.{Act}
 use Rattle.hc_event.specs.declared.act.Act.TheVariants as act
 use Rattle.hc_wire.specs.Logs.{Called}
 use Rattle.hc_proxy.specs.Carrying.{answered, answers, carried_out}

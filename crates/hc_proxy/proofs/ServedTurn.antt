@@ -8,18 +8,12 @@ use Rattle.std.proofs.Common.{◌≡◌, inl, inr, ◌≤◌, ◌<◌, ℕ, ◌+
 use Rattle.std.specs.Prelude.{◌&&◌, not, nat_eq, nat_lt, is_none, length, filter, option_map, Contains, IsSome, if◌then◌else◌}
 use Rattle.std.proofs.lemmas.Bool.Decides.{nat_tests}
 use Rattle.hc_text.proofs.Basics.{some_inj as some_is}
-use Rattle.hc_event.specs.Filters.{is_denied}
-use Rattle.hc_event.specs.declared.event.Event.{Event}
+use Rattle.hc_effects.proofs.Vocabulary.{is_denied, Event, live, Entry, is_open, IsOwed, owed, Limits}
 use Rattle.hc_event.specs.declared.event.Event.TheVariants as event
 use Rattle.hc_head.specs.declared.message.WireRequest.{WireRequest}
-use Rattle.hc_model.specs.Denials.{live}
-use Rattle.hc_model.specs.Entries.{Entry}
-use Rattle.hc_model.specs.Exchanges.{is_open}
-use Rattle.hc_model.specs.Runs.{IsOwed, owed}
 use Rattle.hc_effects.proofs.PieceKeeps.{eq_cases}
 use Rattle.hc_msg.specs.Inputs.{Next, Waits, Tells, Brings, Ends, Fails, next_in}
 use Rattle.hc_msg.specs.Reading.{Reading, Failed, Token, Asks, Answers, Byte}
-use Rattle.hc_rules.specs.declared.room.Limits.{Limits}
 use Rattle.hc_wire.specs.Logs.{Called}
 use Rattle.hc_wire.specs.declared.event.WireEvent.{WireEvent}
 use Rattle.hc_wire.specs.declared.event.WireEvent.TheVariants as wire

@@ -6,7 +6,7 @@
 use Rattle.std.proofs.Common.{◌≡◌, ◌⊎◌, inl, inr, ℕ, Bool, true, false, Option, Some, None, refl, sym, ◌∙◌, subst}
 use Rattle.std.specs.Prelude.{◌&&◌, nat_eq, not, IsSome, Contains}
 use Rattle.hc_text.proofs.Basics.{eq_itself as same_number, true_false}
-use Rattle.hc_model.specs.Exchanges.{is_open, is_wanted}
+use Rattle.hc_effects.proofs.Vocabulary.{is_open, is_wanted}
 use Rattle.hc_peers.specs.Clients.{client_of}
 use Rattle.hc_peers.specs.Upstreams.{upstream_of, is_news, is_touched, has_news_at, Stays, Marks}
 use Rattle.hc_peers.specs.declared.upstream.Upstream as origin

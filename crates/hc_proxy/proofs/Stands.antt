@@ -5,19 +5,9 @@
 -- the beginning of a turn, which takes the greater moment. So what holds of the empty run holds of each turn.
 -- An entry opens the next exchange or none, so the number of the last one only grows.
 use Rattle.std.proofs.Common.{◌≡◌, ◌≤◌, ℕ, ◌+◌, Bool, true, false, List, [], ◌∷◌, Option, Some, None, refl, ap, sym, ◌∙◌, subst, arith}
-use Rattle.hc_event.specs.Filters.{Opening, opening_in, is_denied}
-use Rattle.hc_event.specs.declared.event.Event.{Event}
-use Rattle.hc_rules.specs.declared.room.Limits.{Limits}
-use Rattle.hc_model.specs.Entries.{Entry, no_contents}
-use Rattle.hc_model.specs.Lawful.{Lawful}
-use Rattle.hc_model.specs.Places.{Places}
-use Rattle.hc_model.specs.Rows.{Tables}
-use Rattle.hc_model.specs.Runs.{IsRun, IsOwed, owed}
-use Rattle.hc_model.specs.Sound.{Sound}
-use Rattle.hc_model.specs.Tables.{tables, after, opened_after}
+use Rattle.hc_effects.proofs.Vocabulary.{Opening, opening_in, is_denied, Event, Limits, Entry, no_contents, Lawful, Places, Tables, IsRun, IsOwed, owed, Sound, tables, after, opened_after, flaw_in}
 use Rattle.hc_effects.proofs.NumbersKeep.{opens_next}
 use Rattle.hc_effects.proofs.Owed.{goes, acts_are}
-use Rattle.hc_model.specs.Flaws.{flaw_in}
 use Rattle.hc_laws.proofs.FromNothing.{begins_well}
 use Rattle.hc_laws.proofs.LawfulRuns.{lawful_in_runs}
 use Rattle.hc_laws.proofs.PlaceRuns.{places_in_runs}

@@ -12,12 +12,9 @@ use Rattle.std.proofs.lemmas.List.{length-append, drop-append-le}
 use Rattle.hc_text.proofs.Basics.{none_some, not_true as not_so, eq_itself as same_number}
 use Rattle.hc_core.specs.Steps.{faults_in, steps}
 use Rattle.hc_event.specs.declared.event.Event.TheVariants as event
-use Rattle.hc_event.specs.declared.event.Request.{Request}
+use Rattle.hc_effects.proofs.Vocabulary.{Request, live, Entry, owed}
 use Rattle.hc_head.specs.declared.message.MsgError.{MsgError}
 use Rattle.hc_head.specs.declared.message.WireRequest.{WireRequest}
-use Rattle.hc_model.specs.Denials.{live}
-use Rattle.hc_model.specs.Entries.{Entry}
-use Rattle.hc_model.specs.Runs.{owed}
 use Rattle.hc_msg.specs.Inputs.{Next, next_in}
 use Rattle.hc_msg.specs.Reading.{Reading, Failed}
 use Rattle.hc_peers.specs.Agreement.{ready_at}

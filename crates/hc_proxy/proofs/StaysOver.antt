@@ -1,17 +1,8 @@
 -- Who was told in a turn that it is over is over, behind each entry of the turn.
 use Rattle.std.proofs.Common.{◌≡◌, inl, inr, ℕ, true, false, Option, Some, None, refl, ap, sym, ◌∙◌}
 use Rattle.hc_text.proofs.Basics.{or_cases}
-use Rattle.hc_event.specs.Filters.{leaves_in}
-use Rattle.hc_event.specs.declared.place.Place.{Place}
+use Rattle.hc_effects.proofs.Vocabulary.{leaves_in, Place, Limits, consumer_after, consumer_settled, consumer_acted, consumer_heard, is_live, is_live_place, Entry, Lawful, Tables, Consumer, IsOwed, after}
 use Rattle.hc_event.specs.declared.place.Place.TheVariants as place
-use Rattle.hc_rules.specs.declared.room.Limits.{Limits}
-use Rattle.hc_model.specs.ConsumerRows.{consumer_after, consumer_settled, consumer_acted, consumer_heard}
-use Rattle.hc_model.specs.Denials.{is_live, is_live_place}
-use Rattle.hc_model.specs.Entries.{Entry}
-use Rattle.hc_model.specs.Lawful.{Lawful}
-use Rattle.hc_model.specs.Rows.{Tables, Consumer}
-use Rattle.hc_model.specs.Runs.{IsOwed}
-use Rattle.hc_model.specs.Tables.{after}
 use Rattle.hc_proxy.specs.Carrying.{acts_in}
 use Rattle.hc_proxy.specs.Rows.{Proxy}
 use Rattle.hc_proxy.specs.Steps.{with_entry}

@@ -6,23 +6,12 @@
 use Rattle.std.proofs.Common.{◌≡◌, ◌≤◌, ℕ, ◌+◌, Bool, true, false, List, ◌∷◌, ◌++◌, Option, Some, None, refl, ap, sym, ◌∙◌, subst, arith, append_assoc}
 use Rattle.std.specs.Prelude.{if◌then◌else◌}
 use Rattle.hc_core.specs.Steps.{StandsFor, Steps, faults_in, last_moment, limits_in, bytes_received}
-use Rattle.hc_event.specs.Acts.{act_list}
-use Rattle.hc_event.specs.Filters.{Opening, opening_in, is_denied}
-use Rattle.hc_event.specs.WithinLimits.{IsEventWithinLimits}
-use Rattle.hc_event.specs.declared.event.Event.{Event}
+use Rattle.hc_effects.proofs.Vocabulary.{act_list, Opening, opening_in, is_denied, IsEventWithinLimits, Event, Entry, no_contents, flaw_in, failures_in, Lawful, Tables, IsRun, IsOwed, owed, tables, after, after_accepted, after_denied, opened_after, last_start_after, received_in, HasTarget, Limits}
 use Rattle.hc_event.specs.declared.event.Event.TheVariants as event
-use Rattle.hc_model.specs.Entries.{Entry, no_contents}
-use Rattle.hc_model.specs.Flaws.{flaw_in, failures_in}
-use Rattle.hc_model.specs.Lawful.{Lawful}
-use Rattle.hc_model.specs.Rows.{Tables}
-use Rattle.hc_model.specs.Runs.{IsRun, IsOwed, owed}
-use Rattle.hc_model.specs.Tables.{tables, after, after_accepted, after_denied, opened_after, last_start_after, received_in}
-use Rattle.hc_model.specs.WithinLimits.{HasTarget}
 use Rattle.hc_effects.proofs.NumbersKeep.{opens_next}
 use Rattle.hc_effects.proofs.Owed.{goes, acts_are, denied_opens}
 use Rattle.hc_laws.proofs.Faultless.{faultless_are_owed}
 use Rattle.hc_laws.proofs.LawfulRuns.{lawful_in_runs}
-use Rattle.hc_rules.specs.declared.room.Limits.{Limits}
 use Rattle.hc_sched.specs.Schedule.{IsEvent, timed_text}
 use Rattle.hc_store.specs.declared.backend.Backend.{Ghosts}
 use Rattle.hc_proxy.specs.declared.proxy.Proxy as loop

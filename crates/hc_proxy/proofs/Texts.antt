@@ -4,7 +4,7 @@ use Rattle.std.specs.Prelude.{map, reverse}
 use Rattle.std.proofs.lemmas.List.{reverse-append, map-append}
 use Rattle.hc_sched.specs.declared.schedule.Timed.{Timed}
 use Rattle.hc_sched.specs.Schedule.{timed_text}
-use Rattle.hc_model.specs.Entries.{Entry, History}
+use Rattle.hc_effects.proofs.Vocabulary.{Entry, History}
 use Rattle.hc_proxy.specs.Invariants.{last_event}
 use Rattle.hc_proxy.specs.Turns.{timed_of, text_behind}
 

@@ -3,9 +3,8 @@ use Rattle.std.proofs.Common.{◌≡◌, ◌⊎◌, inl, inr, ℕ, List, [], ◌
 use Rattle.std.specs.Prelude.{nat_eq}
 use Rattle.std.proofs.lemmas.Bool.Decides.{nat_tests}
 use Rattle.hc_text.proofs.Basics.{nothing_first as front_nil, false_true as never_true}
-use Rattle.hc_model.specs.Entries.{Entry, History}
+use Rattle.hc_effects.proofs.Vocabulary.{Entry, History, Limits}
 use Rattle.hc_msg.specs.Reading.{Reading, Responses, Whole, Token, Leads, heading}
-use Rattle.hc_rules.specs.declared.room.Limits.{Limits}
 use Rattle.hc_wire.specs.Logs.{Log}
 use Rattle.hc_proxy.specs.Asked.{got_from}
 use Rattle.hc_proxy.specs.Connections.{connection_of}

@@ -6,18 +6,14 @@
 -- holds of its beginning. So the definitions are walked through once, here, and each law names what it is of each kind.
 use Rattle.std.proofs.Common.{◌≡◌, ℕ, ◌+◌, Bool, true, false, List, [], ◌∷◌, Option, Some, None, refl}
 use Rattle.std.specs.Prelude.{◌&&◌, is_none, nat_lt, length, if◌then◌else◌}
-use Rattle.hc_event.specs.declared.act.Act.{Act}
+use Rattle.hc_effects.proofs.Vocabulary.{Act, Event, Request, is_open, Limits}
 use Rattle.hc_event.specs.declared.act.Act.TheVariants as act
-use Rattle.hc_event.specs.declared.event.Event.{Event}
 use Rattle.hc_event.specs.declared.event.Event.TheVariants as event
-use Rattle.hc_event.specs.declared.event.Request.{Request}
 use Rattle.hc_head.specs.declared.message.MsgError.{MsgError}
 use Rattle.hc_head.specs.declared.message.WireRequest.{WireRequest}
-use Rattle.hc_model.specs.Exchanges.{is_open}
 use Rattle.hc_msg.specs.Inputs.{Next, Waits, Tells, Brings, Ends, Fails, next_in}
 use Rattle.hc_msg.specs.Reading.{Reading, Done, Failed, Token, Asks, Answers, Byte}
 use Rattle.hc_msg.specs.Taking.{ending}
-use Rattle.hc_rules.specs.declared.room.Limits.{Limits}
 use Rattle.hc_wire.specs.Logs.{Called}
 use Rattle.hc_wire.specs.declared.event.WireEvent.{WireEvent}
 use Rattle.hc_wire.specs.declared.event.WireEvent.TheVariants as wire

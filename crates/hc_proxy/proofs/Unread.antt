@@ -7,10 +7,7 @@ use Rattle.std.specs.Prelude.{nat_eq, ◌||◌, if◌then◌else◌, option_map}
 use Rattle.std.specs.List.{sum_by}
 use Rattle.std.proofs.lemmas.Bool.Decides.{nat_tests}
 use Rattle.std.proofs.lemmas.List.Sums.{sum_by-cons}
-use Rattle.hc_event.specs.Filters.{Opening, opening_in, is_denied}
-use Rattle.hc_model.specs.Entries.{Entry}
-use Rattle.hc_model.specs.Orders.{Descends}
-use Rattle.hc_model.specs.Tables.{after, after_accepted, after_denied, openings_after}
+use Rattle.hc_effects.proofs.Vocabulary.{Opening, opening_in, is_denied, Entry, Descends, after, after_accepted, after_denied, openings_after}
 use Rattle.hc_proxy.specs.Invariants.{unread_of, unread}
 use Rattle.hc_proxy.specs.Rows.{Upstream, Proxy, with_upstream}
 use Rattle.hc_proxy.specs.Steps.{with_entry}

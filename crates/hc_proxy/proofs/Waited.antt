@@ -10,11 +10,9 @@ use Rattle.std.specs.List.{list_any}
 use Rattle.std.proofs.lemmas.Bool.Decides.{nat_tests}
 use Rattle.hc_text.proofs.Basics.{true_false}
 use Rattle.hc_event.specs.declared.event.Event.TheVariants as event
-use Rattle.hc_model.specs.Exchanges.{is_open, is_wanted}
-use Rattle.hc_model.specs.Rows.{Exchange}
+use Rattle.hc_effects.proofs.Vocabulary.{is_open, is_wanted, Exchange, Limits}
 use Rattle.hc_msg.specs.Inputs.{Next, Waits, Tells, Brings, Ends, Fails, look_of}
 use Rattle.hc_msg.specs.Reading.{Reading, Asks, Answers, Byte}
-use Rattle.hc_rules.specs.declared.room.Limits.{Limits}
 use Rattle.hc_proxy.specs.Headed.{AreHeaded, IsReadAs}
 use Rattle.hc_proxy.specs.Hearing.{has_next, IsHeardAt}
 use Rattle.hc_proxy.specs.Invariants.{is_part, is_due_by, IsHeardOut}

@@ -1,18 +1,12 @@
 -- The generator and the cache go on by a round.
 use Rattle.std.proofs.Common.{◌≡◌, ℕ, ◌+◌, ◌≤◌, List, [], ◌∷◌, true, Some, None, ap, sym, ◌∙◌, subst, arith}
-use Rattle.hc_event.specs.declared.event.Event.{Event}
+use Rattle.hc_effects.proofs.Vocabulary.{Event, Act, Limits, Contents, History, no_contents, is_wanted, IsOwed, tables, received_in}
 use Rattle.hc_event.specs.declared.event.Event.TheVariants as event
-use Rattle.hc_event.specs.declared.act.Act.{Act}
-use Rattle.hc_rules.specs.declared.room.Limits.{Limits}
 use Rattle.hc_sorted.specs.Sorted.{is_sorted}
 use Rattle.hc_exch.specs.Wishes.{is_among, itself}
 use Rattle.hc_generate.specs.Hearing.{state_after}
 use Rattle.hc_generate.specs.Rounds.{IsRound, IsShort}
 use Rattle.hc_generate.specs.States.{State}
-use Rattle.hc_model.specs.Entries.{Contents, History, no_contents}
-use Rattle.hc_model.specs.Exchanges.{is_wanted}
-use Rattle.hc_model.specs.Runs.{IsOwed}
-use Rattle.hc_model.specs.Tables.{tables, received_in}
 use Rattle.hc_core.specs.Steps as core
 use Rattle.hc_core.specs.Steps.{StandsFor, Answers, last_moment, bytes_received, limits_in}
 use Rattle.hc_replay.specs.declared.rounds.Rounds.{Rounds}

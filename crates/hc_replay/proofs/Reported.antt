@@ -8,9 +8,7 @@
 use Rattle.std.proofs.Common.{◌≡◌, ℕ, ◌+◌, ◌≤◌, List, [], ◌++◌, length, true, Option, Some, None, refl, ap, sym, ◌∙◌, subst, arith}
 use Rattle.hc_io.specs.Source.{Gives, GivesAll}
 use Rattle.hc_store.specs.declared.backend.Backend.{Ghosts}
-use Rattle.hc_event.specs.declared.act.Act.{Act}
-use Rattle.hc_event.specs.declared.event.Event.{Event}
-use Rattle.hc_rules.specs.declared.room.Limits.{Limits}
+use Rattle.hc_effects.proofs.Vocabulary.{Act, Event, Limits, Contents, History, no_contents, IsRun, tables}
 use Rattle.hc_sched.specs.declared.schedule.Ended.{Ended}
 use Rattle.hc_sched.specs.declared.schedule.Ended.TheVariants as ended
 use Rattle.hc_sched.specs.declared.schedule.Refused.{Refused}
@@ -22,9 +20,6 @@ use Rattle.hc_driver.specs.Endings.{How, Ends, IsRefused}
 use Rattle.hc_driver.specs.Stepping as steps
 use Rattle.hc_driver.specs.Stepping.{events_in, Leads, nothing, more, Steps}
 use Rattle.hc_driver.proofs.Reported.{ends_so}
-use Rattle.hc_model.specs.Entries.{Contents, History, no_contents}
-use Rattle.hc_model.specs.Runs.{IsRun}
-use Rattle.hc_model.specs.Tables.{tables}
 use Rattle.hc_effects.proofs.Basics.{some_none}
 use Rattle.hc_laws.proofs.ReadWhole.{runs_read_whole}
 use Rattle.hc_core.specs.declared.cache.Cache.{Cache}

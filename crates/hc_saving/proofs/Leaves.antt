@@ -9,19 +9,10 @@ use Rattle.std.specs.Prelude.{is_some, nat_eq, if◌then◌else◌}
 use Rattle.std.proofs.Math.Bridge.{le_prop}
 use Rattle.std.proofs.Math.Logic.{∥∥₁_elim, ∥∥₁_map}
 use Rattle.std.proofs.lemmas.Bool.Decides.{nat_tests}
-use Rattle.hc_event.specs.declared.act.Act.{Act}
-use Rattle.hc_event.specs.declared.event.Event.{Event}
+use Rattle.hc_effects.proofs.Vocabulary.{Act, Event, Limits, live, is_live, Entry, History, Contents, failures_in, Lawful, Tables, Consumer, IsOwed, owed, tables, after, starts_after}
 use Rattle.hc_event.specs.declared.event.Event.TheVariants as event
-use Rattle.hc_rules.specs.declared.room.Limits.{Limits}
 use Rattle.hc_store.specs.declared.backend.Backend.{Ghosts}
-use Rattle.hc_model.specs.Denials.{live, is_live}
-use Rattle.hc_model.specs.Entries.{Entry, History, Contents}
-use Rattle.hc_model.specs.Flaws.{failures_in}
-use Rattle.hc_model.specs.Lawful.{Lawful}
 use Rattle.hc_model.specs.Live.{Leaves}
-use Rattle.hc_model.specs.Rows.{Tables, Consumer}
-use Rattle.hc_model.specs.Runs.{IsOwed, owed}
-use Rattle.hc_model.specs.Tables.{tables, after, starts_after}
 use Rattle.hc_laws.proofs.Faultless.{faultless_are_owed}
 use Rattle.hc_laws.proofs.LawfulRuns.{lawful_in_runs}
 use Rattle.hc_laws.proofs.LeaverGoes.{leaver_goes}

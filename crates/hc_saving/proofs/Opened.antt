@@ -16,16 +16,12 @@ use Rattle.hc_sched.specs.Schedule.{Spells}
 use Rattle.hc_driver.specs.Endings.{How, Ends}
 use Rattle.hc_driver.specs.Stepping as steps
 use Rattle.hc_driver.proofs.Reported.{ends_so}
-use Rattle.hc_rules.specs.declared.room.Limits.{Limits}
+use Rattle.hc_effects.proofs.Vocabulary.{Limits, may_begin, History, Contents, IsRun, tables}
 use Rattle.hc_store.specs.declared.backend.Backend.{Ghosts}
 use Rattle.hc_contents.specs.Fit.{unfit_of}
 use Rattle.hc_contents.specs.declared.unfit.Unfit.{Unfit}
 use Rattle.hc_contents.specs.declared.unfit.Unfit.TheVariants as unfit
 use Rattle.hc_contents.proofs.Counting.{begins_by}
-use Rattle.hc_model.specs.Beginnings.{may_begin}
-use Rattle.hc_model.specs.Entries.{History, Contents}
-use Rattle.hc_model.specs.Runs.{IsRun}
-use Rattle.hc_model.specs.Tables.{tables}
 use Rattle.hc_core.specs.Begins.{IsCause}
 use Rattle.hc_core.specs.declared.begin.ContentsError.{ContentsError}
 use Rattle.hc_core.specs.declared.begin.ContentsError.TheVariants as error

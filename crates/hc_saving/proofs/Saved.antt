@@ -7,7 +7,7 @@
 use Rattle.std.proofs.Common.{◌≡◌, ◌≢◌, inl, inr, ◌≤◌, ◌<◌, ◌^◌, ℕ, suc, ◌+◌, ◌-◌, List, [], ◌∷◌, ◌++◌, length, Bool, true, false, Option, Some, None, refl, ap, sym, ◌∙◌, subst, arith}
 use Rattle.std.specs.Prelude.{if◌then◌else◌}
 use Rattle.std.proofs.lemmas.List.{append-nil}
-use Rattle.hc_event.specs.Filters.{is_denied}
+use Rattle.hc_effects.proofs.Vocabulary.{is_denied, Limits, may_begin, contents_of, History, Contents, no_contents, IsRun, tables, after, after_accepted, after_denied}
 use Rattle.hc_io.specs.Faults.{HasRisen}
 use Rattle.hc_io.specs.Source.{Gives, GivesAll}
 use Rattle.hc_sched.specs.declared.schedule.Ended.{Ended}
@@ -23,13 +23,7 @@ use Rattle.hc_driver.specs.Endings.{How, Wholly, UpToEnd, Ends}
 use Rattle.hc_driver.specs.Stepping as steps
 use Rattle.hc_driver.specs.Stepping.{never}
 use Rattle.hc_driver.proofs.Timings.{timed_back}
-use Rattle.hc_rules.specs.declared.room.Limits.{Limits}
 use Rattle.hc_store.specs.declared.backend.Backend.{Ghosts}
-use Rattle.hc_model.specs.Beginnings.{may_begin}
-use Rattle.hc_model.specs.Contents.{contents_of}
-use Rattle.hc_model.specs.Entries.{History, Contents, no_contents}
-use Rattle.hc_model.specs.Runs.{IsRun}
-use Rattle.hc_model.specs.Tables.{tables, after, after_accepted, after_denied}
 use Rattle.hc_laws.proofs.CountedOpenings.{openings_counted}
 use Rattle.hc_laws.proofs.ReadWhole.{runs_read_whole}
 use Rattle.hc_core.specs.declared.cache.Cache.{Cache}

@@ -154,7 +154,6 @@ pub record Still (start : Progress) (piece : List ℕ) (old : List Timed) (p : P
   pub adds : out ≡ old ++ some
 
 module _ (start : Progress) (piece : List ℕ) (old : List Timed) where
-
   -- one line more
   pub Still-next : (p q : Place) (line seg rest text : List ℕ) (out more : List Timed) → Still start piece old p line text out → lacks 10 seg ≡ true
       → length line ≤ 140000 → seg ++ 10 ∷ rest ≡ text → Does (join_line p (line ++ seg)) q out more → Still start piece old q [] rest more

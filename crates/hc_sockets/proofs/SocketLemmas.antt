@@ -29,7 +29,6 @@ after-same f g same (Some (event.Room k)) j = same j
 after-same f g same (Some event.Quiet) j = same j
 
 module _ {S : Type 0} (next : ℕ) (old new : HashMap ℕ Socket S) where
-
   is_open : (s : Stage) → s ≡ Open true false → IsOpen s
   is_open s is = subst IsOpen (sym is) tt
 

@@ -3,19 +3,9 @@ use Rattle.std.proofs.Common.{◌≡◌, ℕ, ◌+◌, ◌<◌, List, ◌++◌, 
 use Rattle.std.specs.Prelude.{nat_eq, ◌&&◌}
 use Rattle.hc_text.proofs.Basics.{eqb-same, false_true}
 use Rattle.hc_store.specs.declared.backend.Backend.{Ghosts}
-use Rattle.hc_event.specs.declared.event.Event.{Event}
-use Rattle.hc_event.specs.declared.act.Act.{Act}
+use Rattle.hc_effects.proofs.Vocabulary.{Event, Act, Limits, Does, NoFlaw, Loses, flaw_in, entry_of, Tables, is_kept, has_room, written_representation, room_for, write_in, entry_without_acts}
 use Rattle.hc_event.specs.declared.act.LostKind.TheVariants as kind
 use Rattle.hc_stored.specs.Entries.{shelf_of}
-use Rattle.hc_rules.specs.declared.room.Limits.{Limits}
-use Rattle.hc_model.specs.Effects.{Does}
-use Rattle.hc_model.specs.Flaws.{NoFlaw, Loses, flaw_in}
-use Rattle.hc_model.specs.Keys.{entry_of}
-use Rattle.hc_model.specs.Rows.{Tables}
-use Rattle.hc_model.specs.Runs.{is_kept, has_room}
-use Rattle.hc_model.specs.Writes.{written_representation}
-use Rattle.hc_model.specs.Weights.{room_for, write_in}
-use Rattle.hc_model.specs.Entries.{entry_without_acts}
 use Rattle.hc_state.specs.declared.rows.Rows.{Rows}
 use Rattle.hc_state.specs.Stands.{Answered, RowsStand}
 

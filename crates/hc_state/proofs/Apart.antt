@@ -10,12 +10,8 @@ use Rattle.hc_entry.specs.Kept as keyed
 use Rattle.hc_entry.specs.Kept.{on_line}
 use Rattle.hc_entry.specs.Lines.{is_among, is_in, left_by}
 use Rattle.hc_stored.specs.Shelf.{Shelf}
-use Rattle.hc_model.specs.Effects.{with_consumer}
-use Rattle.hc_model.specs.Lawful.{Lawful}
-use Rattle.hc_model.specs.Lines.{is_in_line}
-use Rattle.hc_model.specs.Reading.{is_bound}
+use Rattle.hc_effects.proofs.Vocabulary.{with_consumer, Lawful, is_in_line, is_bound, Tables}
 use Rattle.hc_model.specs.Rows as rows
-use Rattle.hc_model.specs.Rows.{Tables}
 use Rattle.hc_model.specs.Sound as sound
 use Rattle.hc_state.specs.Leaving.{LeavesKey, IsUserAt, UnbindsAt}
 use Rattle.hc_state.specs.Lines.{KeepsKey, has_turn, is_passed, is_away}

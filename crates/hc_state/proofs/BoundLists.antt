@@ -5,10 +5,8 @@ use Rattle.std.specs.Prelude.{is_some, filter, ◌==◌}
 use Rattle.hc_text.proofs.Basics.{eqb-same, false_true}
 use Rattle.hc_stored.specs.Kept.{Kept, itself, is_nobody}
 use Rattle.hc_sorted.specs.Sorted.{has}
-use Rattle.hc_model.specs.Reading.{bound, is_bound}
+use Rattle.hc_effects.proofs.Vocabulary.{bound, is_bound, Tables, Representation, Among}
 use Rattle.hc_model.specs.Rows as rows
-use Rattle.hc_model.specs.Rows.{Tables, Representation}
-use Rattle.hc_model.specs.Sound.{Among}
 use Rattle.hc_state.specs.Stored.{IsEntry}
 
 nobody_passes : (f : ℕ → Bool) → ((c : ℕ) → f c ≡ false) → (cs : List ℕ) → filter f cs ≡ []

@@ -5,24 +5,15 @@ use Rattle.std.proofs.lemmas.List.{append-nil}
 use Rattle.std.specs.Prelude.{nat_eq, map, option_map, ◌&&◌, if◌then◌else◌}
 use Rattle.hc_text.proofs.Basics.{eqb-other, eqb-same, false_true, same_or, same_some as same_row, some_inj as some_is, and_off as then_false}
 use Rattle.hc_store.specs.declared.backend.Backend.{Ghosts}
-use Rattle.hc_event.specs.declared.act.Act.{Act}
+use Rattle.hc_effects.proofs.Vocabulary.{Act, Limits, Place, BoundBy, back_in_line, with_consumer, as_over, with_representation, tables_after_close, all_closed, let_go, let_some_go, as_gone, lost_to, back_from, left_by, going_with, is_unkeepable, family, brings_to, Tables, Representation, with_item_first, exclusive}
 use Rattle.hc_event.specs.declared.act.Act.TheVariants as act
 use Rattle.hc_event.specs.declared.act.LostKind.TheVariants as kind
-use Rattle.hc_rules.specs.declared.room.Limits.{Limits}
 use Rattle.hc_exch.specs.Exchanges as exch
 use Rattle.hc_exch.specs.Known as known
-use Rattle.hc_event.specs.declared.place.Place.{Place}
 use Rattle.hc_event.specs.declared.place.Place.TheVariants as place
-use Rattle.hc_event.specs.declared.place.BoundBy.{BoundBy}
 use Rattle.hc_event.specs.declared.place.BoundBy.TheVariants as by
-use Rattle.hc_model.specs.ConsumerRows.{back_in_line}
-use Rattle.hc_model.specs.Effects.{with_consumer, as_over, with_representation, tables_after_close, all_closed, let_go, let_some_go, as_gone, lost_to, back_from, waits_for, left_by, going_with, is_unkeepable}
-use Rattle.hc_model.specs.Exchanges.{family}
-use Rattle.hc_model.specs.Kinds.{brings_to}
+use Rattle.hc_model.specs.Effects.{waits_for}
 use Rattle.hc_model.specs.Rows as rows
-use Rattle.hc_model.specs.Rows.{Tables, Representation}
-use Rattle.hc_model.specs.Tables.{with_item_first}
-use Rattle.hc_model.specs.Writers.{exclusive}
 use Rattle.hc_effects.proofs.SameTables.{same_tables}
 use Rattle.hc_state.specs.declared.rows.Rows.{Rows}
 use Rattle.hc_state.specs.Facts.{Facts}

@@ -9,11 +9,8 @@ use Rattle.hc_entry.specs.Keys as keys
 use Rattle.hc_entry.specs.Keys.{kept_of}
 use Rattle.hc_entry.specs.Kept as keyed
 use Rattle.hc_entry.specs.Lines.{is_among, is_held_by}
-use Rattle.hc_model.specs.Currents.{current}
-use Rattle.hc_model.specs.Effects.{with_consumer}
-use Rattle.hc_model.specs.Lines.{is_in_line}
+use Rattle.hc_effects.proofs.Vocabulary.{current, with_consumer, is_in_line, Tables}
 use Rattle.hc_model.specs.Rows as rows
-use Rattle.hc_model.specs.Rows.{Tables}
 use Rattle.hc_rules.proofs.RangeReads.{same_bytes}
 use Rattle.hc_state.specs.declared.consumer.Consumer.{Consumer}
 use Rattle.hc_state.specs.declared.rows.Rows.{Rows}

@@ -2,18 +2,11 @@
 use Rattle.std.proofs.Common.{◌≡◌, ℕ, ◌+◌, refl, ◌∙◌}
 use Rattle.std.specs.Prelude.{nat_eq}
 use Rattle.std.specs.HashMap.{get}
-use Rattle.hc_rules.specs.declared.room.Limits.{Limits}
+use Rattle.hc_effects.proofs.Vocabulary.{Limits, current, kind_of, bound, Event, with_event, Tables, received_in}
 use Rattle.hc_store.specs.declared.backend.Backend.{Ghosts}
 use Rattle.hc_stored.specs.Entries.{shelf_of}
 use Rattle.hc_entry.specs.Keys.{kept_of}
 use Rattle.hc_exch.specs.Exchanges.{table_of}
-use Rattle.hc_model.specs.Currents.{current}
-use Rattle.hc_model.specs.Kinds.{kind_of}
-use Rattle.hc_model.specs.Reading.{bound}
-use Rattle.hc_event.specs.declared.event.Event.{Event}
-use Rattle.hc_model.specs.Effects.{with_event}
-use Rattle.hc_model.specs.Rows.{Tables}
-use Rattle.hc_model.specs.Tables.{received_in}
 use Rattle.hc_state.specs.declared.rows.Rows.{Rows}
 use Rattle.hc_state.specs.Stands.{RowsStand}
 use Rattle.hc_state.proofs.Ties.{consumer_same, key_same, entry_same, exchange_same}

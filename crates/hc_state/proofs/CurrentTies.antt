@@ -2,7 +2,7 @@
 use Rattle.std.proofs.Common.{◌≡◌, ℕ, List, Bool, true, false, Option, Some, None, refl, ap, sym, ◌∙◌, subst}
 use Rattle.std.specs.Prelude.{is_some, option_map, ◌↔◌, IsTrue}
 use Rattle.hc_text.proofs.Basics.{false_true, same_test, some_inj as some_is}
-use Rattle.hc_rules.specs.declared.room.Limits.{Limits}
+use Rattle.hc_effects.proofs.Vocabulary.{Limits, current, covers, Lawful, Tables, Representation}
 use Rattle.hc_store.specs.declared.backend.Backend.{Ghosts}
 use Rattle.hc_sparse.specs.Cells.{EndsBy, Covers}
 use Rattle.hc_stored.specs.declared.view.EntryView.{EntryView}
@@ -10,10 +10,6 @@ use Rattle.hc_stored.specs.Entries.{shelf_of}
 use Rattle.hc_stored.specs.Kept.{Kept}
 use Rattle.hc_stored.specs.Shelf.{is_kept}
 use Rattle.hc_stored.specs.Views.{view_of}
-use Rattle.hc_model.specs.Currents.{current}
-use Rattle.hc_model.specs.Holes.{covers}
-use Rattle.hc_model.specs.Lawful.{Lawful}
-use Rattle.hc_model.specs.Rows.{Tables, Representation}
 use Rattle.hc_effects.proofs.HoleLemmas as holes
 use Rattle.hc_effects.proofs.KeysKeep.{current_row}
 use Rattle.hc_effects.proofs.PollKeeps.{current_stays}

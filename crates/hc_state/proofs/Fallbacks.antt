@@ -2,12 +2,8 @@
 use Rattle.std.proofs.Common.{◌≡◌, ℕ, [], Bool, true, false, Option, Some, None, refl, ap, sym, ◌∙◌}
 use Rattle.std.specs.Prelude.{not, option_map, if◌then◌else◌}
 use Rattle.hc_text.proofs.Basics.{false_true}
-use Rattle.hc_event.specs.declared.place.Place.{Place}
+use Rattle.hc_effects.proofs.Vocabulary.{Place, as_gone, family, reads, is_bound, Tables, Exchange, Representation, Consumer}
 use Rattle.hc_event.specs.declared.place.Place.TheVariants as place
-use Rattle.hc_model.specs.Effects.{as_gone}
-use Rattle.hc_model.specs.Exchanges.{family}
-use Rattle.hc_model.specs.Reading.{reads, is_bound}
-use Rattle.hc_model.specs.Rows.{Tables, Exchange, Representation, Consumer}
 use Rattle.hc_state.specs.Kept.{answer_for, unread, unstored_bytes, held_alone, held_of, held_for}
 
 -- it isn't there, or reads nothing

@@ -2,7 +2,7 @@
 use Rattle.std.proofs.Common.{◌+◌, ◌<◌, arith}
 use Rattle.std.specs.HashMap.{hash_map_len}
 use Rattle.hc_store.specs.declared.backend.Backend.{Ghosts}
-use Rattle.hc_model.specs.Live.{most_live}
+use Rattle.hc_effects.proofs.Vocabulary.{most_live}
 use Rattle.hc_state.specs.declared.rows.Rows.{Rows}
 use Rattle.hc_state.specs.Stands.{Stands}
 use Rattle.hc_state.proofs.Maps.{merely_below}

@@ -3,24 +3,12 @@ use Rattle.std.proofs.Common.{◌≡◌, ◌≢◌, ◌⊎◌, inl, inr, ℕ, []
 use Rattle.std.specs.Prelude.{is_some, is_none, not, ◌==◌, ◌&&◌, ◌||◌, if◌then◌else◌}
 use Rattle.std.specs.Option.{option_or}
 use Rattle.hc_text.proofs.Basics.{eqb-other, eqb-same, false_true, same_or, same_some as same_row, some_inj as some_is, and_off as then_false}
-use Rattle.hc_event.specs.declared.place.Place.{Place}
+use Rattle.hc_effects.proofs.Vocabulary.{Place, BoundBy, is_last_reader, is_number, with_consumer, as_over, left_by, family, is_open, is_headless, Lawful, MayLetGo, own_open, shared_exchange, writing_in, is_written, Tables, Exchange, Representation, Consumer, IsBound, IsAbout, IsHad, IsExclusiveWriter, exclusive, has_more, Response}
 use Rattle.hc_event.specs.declared.place.Place.TheVariants as place
-use Rattle.hc_event.specs.declared.place.BoundBy.{BoundBy}
 use Rattle.hc_event.specs.declared.place.BoundBy.TheVariants as by
-use Rattle.hc_model.specs.Closings.{is_last_reader}
-use Rattle.hc_model.specs.Currents.{is_number}
-use Rattle.hc_model.specs.Effects.{with_consumer, as_over, left_by}
-use Rattle.hc_model.specs.Exchanges.{family, is_open, is_headless}
-use Rattle.hc_model.specs.Lawful.{Lawful}
-use Rattle.hc_model.specs.LettingGo.{MayLetGo}
-use Rattle.hc_model.specs.Reading.{own_open, shared_exchange, writing_in, is_written}
-use Rattle.hc_model.specs.Rows.{Tables, Exchange, Representation, Consumer}
 use Rattle.hc_model.specs.Sound as sound
-use Rattle.hc_model.specs.Sound.{IsBound, IsAbout, IsHad, IsExclusiveWriter}
-use Rattle.hc_model.specs.Writers.{exclusive, has_more}
 use Rattle.hc_effects.proofs.AboutKeeps.{own_open_of}
 use Rattle.hc_effects.proofs.Basics.{number_is}
-use Rattle.hc_event.specs.declared.event.Response.{Response}
 use Rattle.hc_effects.proofs.Exclusives.{exclusive_parts}
 use Rattle.hc_effects.proofs.KeyActs.{test_some}
 use Rattle.hc_effects.proofs.LettingGo.{may_let_go}

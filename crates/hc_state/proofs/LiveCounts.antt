@@ -3,8 +3,7 @@ use Rattle.std.proofs.Common.{◌≡◌, ◌≢◌, inl, inr, ℕ, ◌+◌, ◌<
 use Rattle.std.specs.Prelude.{filter, if◌then◌else◌, reverse}
 use Rattle.std.proofs.lemmas.List.{append-nil, reverse-append}
 use Rattle.hc_text.proofs.Basics.{same_or}
-use Rattle.hc_model.specs.Sound.{Among}
-use Rattle.hc_model.specs.Orders.{Descends}
+use Rattle.hc_effects.proofs.Vocabulary.{Among, Descends}
 
 abbrev pub counted : (ℕ → Bool) → List ℕ → ℕ
 counted f xs = length (filter f xs)

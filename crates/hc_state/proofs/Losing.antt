@@ -3,7 +3,7 @@ use Rattle.std.proofs.Common.{◌≡◌, ◌≢◌, inl, inr, ℕ, List, [], ◌
 use Rattle.std.specs.Prelude.{is_some, nat_eq, option_map}
 use Rattle.std.specs.HashMap.{get, hash_map_len}
 use Rattle.hc_text.proofs.Basics.{eqb-other, eqb-same, false_true, filters_same, finds_same, same_or, same_some as same_row}
-use Rattle.hc_rules.specs.declared.room.Limits.{Limits}
+use Rattle.hc_effects.proofs.Vocabulary.{Limits, Place, current, is_usable, total_in, with_representation, lost_to, family, kind_of, MayLetGo, bound, Tables, Exchange, Representation, status_in}
 use Rattle.hc_store.specs.declared.backend.Backend.{Ghosts}
 use Rattle.hc_stored.specs.Entries.{shelf_of}
 use Rattle.hc_stored.specs.Kept as entry
@@ -12,18 +12,9 @@ use Rattle.hc_stored.specs.Shelf as shelf
 use Rattle.hc_stored.specs.Shelf.{Shelf, same_order}
 use Rattle.hc_entry.specs.Keys.{kept_of}
 use Rattle.hc_exch.specs.Exchanges.{table_of, next_of}
-use Rattle.hc_event.specs.declared.place.Place.{Place}
 use Rattle.hc_event.specs.declared.place.Place.TheVariants as place
 use Rattle.hc_event.specs.declared.place.BoundBy.TheVariants as by
-use Rattle.hc_model.specs.Currents.{current, is_usable, total_in}
-use Rattle.hc_model.specs.Effects.{with_representation, lost_to}
-use Rattle.hc_model.specs.Exchanges.{family}
-use Rattle.hc_model.specs.Kinds.{kind_of}
-use Rattle.hc_model.specs.LettingGo.{MayLetGo}
-use Rattle.hc_model.specs.Reading.{bound}
 use Rattle.hc_model.specs.Rows as rows
-use Rattle.hc_model.specs.Rows.{Tables, Exchange, Representation}
-use Rattle.hc_model.specs.Writers.{status_in}
 use Rattle.hc_state.specs.declared.rows.Rows.{Rows}
 use Rattle.hc_state.specs.Kept.{held_for, held_of, held_alone, unstored_bytes}
 use Rattle.hc_state.specs.Stands.{RowsStand}

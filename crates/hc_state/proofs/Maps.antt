@@ -11,7 +11,7 @@ use Rattle.hc_range.specs.declared.range.Asked.{Asked}
 use Rattle.hc_range.specs.declared.range.Asked.TheVariants as asked
 use Rattle.hc_range.specs.declared.range.Span.{Span}
 use Rattle.hc_range.specs.Spans.{IsInOrder, IsWithin}
-use Rattle.hc_event.specs.declared.act.Act.{Act}
+use Rattle.hc_effects.proofs.Vocabulary.{Act}
 use Rattle.hc_entry.specs.Lines.{is_held_by}
 use Rattle.hc_state.specs.Changes.{Numbered, ChangesAt, BecomesAt, one}
 

@@ -4,23 +4,15 @@ use Rattle.std.specs.Prelude.{is_some, nat_eq, filter}
 use Rattle.std.specs.List.{list_any}
 use Rattle.std.specs.HashMap.{get, hash_map_len}
 use Rattle.hc_text.proofs.Basics.{eqb-other, eqb-same, filters_same, same_or}
-use Rattle.hc_rules.specs.declared.room.Limits.{Limits}
+use Rattle.hc_effects.proofs.Vocabulary.{Limits, Place, total_in, live, family, kind_of, is_growing, brings_to, bound, is_bound, Tables, Exchange, Representation, status_in}
 use Rattle.hc_store.specs.declared.backend.Backend.{Ghosts}
 use Rattle.hc_stored.specs.Entries.{shelf_of}
 use Rattle.hc_stored.specs.Shelf.{Shelf}
 use Rattle.hc_entry.specs.Keys.{kept_of}
 use Rattle.hc_exch.specs.Exchanges.{table_of, next_of}
-use Rattle.hc_event.specs.declared.place.Place.{Place}
 use Rattle.hc_event.specs.declared.place.Place.TheVariants as place
 use Rattle.hc_event.specs.declared.place.BoundBy.TheVariants as by
-use Rattle.hc_model.specs.Currents.{total_in}
-use Rattle.hc_model.specs.Denials.{live}
-use Rattle.hc_model.specs.Exchanges.{family}
-use Rattle.hc_model.specs.Kinds.{kind_of, is_growing, brings_to}
-use Rattle.hc_model.specs.Reading.{bound, is_bound}
 use Rattle.hc_model.specs.Rows as rows
-use Rattle.hc_model.specs.Rows.{Tables, Exchange, Representation}
-use Rattle.hc_model.specs.Writers.{status_in}
 use Rattle.hc_state.specs.declared.consumer.Consumer.{Consumer}
 use Rattle.hc_state.specs.declared.rows.Rows.{Rows}
 use Rattle.hc_state.specs.Changes.{BecomesAt}

@@ -5,7 +5,7 @@ use Rattle.std.proofs.lemmas.Bool.Decides.{nat_tests}
 use Rattle.std.specs.Prelude.{is_some, nat_eq, filter, map, reverse, not, ◌&&◌, ◌||◌, ◌==◌}
 use Rattle.std.specs.List.{sum_by, IsDistinct}
 use Rattle.hc_text.proofs.Basics.{eqb-other, eqb-same, false_true, same_or, some_inj as some_is}
-use Rattle.hc_rules.specs.declared.room.Limits.{Limits}
+use Rattle.hc_effects.proofs.Vocabulary.{Limits, Act, Room, Write, weight_of, room_of, idle_now, current, is_current, is_number, let_go, let_all_go, MayMakeRoom, MayLetGo, weight_now, weights_now, room_now, giving_way, AreOnce, bound, Tables, Representation, Among}
 use Rattle.hc_store.specs.declared.backend.Backend.{Ghosts}
 use Rattle.hc_stored.specs.Entries.{shelf_of}
 use Rattle.hc_stored.specs.Kept.{Kept, itself, is_nobody}
@@ -13,21 +13,11 @@ use Rattle.hc_stored.specs.Shelf.{Shelf, idle, is_unused, weigh_kept, weight_at,
 use Rattle.hc_stored.proofs.OrderLemmas.{distinct-first}
 use Rattle.hc_stored.proofs.WeightLemmas.{weight-kept}
 use Rattle.hc_sorted.specs.Sorted.{has}
-use Rattle.hc_event.specs.declared.act.Act.{Act}
 use Rattle.hc_event.specs.declared.act.Act.TheVariants as act
-use Rattle.hc_rules.specs.declared.room.Room.{Room}
 use Rattle.hc_rules.specs.declared.room.Room.TheVariants as room
-use Rattle.hc_rules.specs.declared.room.Write.{Write}
-use Rattle.hc_rules.specs.Rooms.{weight_of, room_of}
 use Rattle.hc_sparse.proofs.SizeLemmas.{size-same}
-use Rattle.hc_model.specs.Contents.{idle_now, is_idle}
-use Rattle.hc_model.specs.Currents.{current, is_current, is_number}
-use Rattle.hc_model.specs.Effects.{let_go, let_all_go}
-use Rattle.hc_model.specs.LettingGo.{MayMakeRoom, MayLetGo, weight_in, weight_now, weights_now, room_now, first_idle, giving_way}
-use Rattle.hc_model.specs.Orders.{AreOnce}
-use Rattle.hc_model.specs.Reading.{bound}
-use Rattle.hc_model.specs.Rows.{Tables, Representation}
-use Rattle.hc_model.specs.Sound.{Among}
+use Rattle.hc_model.specs.Contents.{is_idle}
+use Rattle.hc_model.specs.LettingGo.{weight_in, first_idle}
 use Rattle.hc_effects.proofs.Basics.{same_functions, number_is}
 use Rattle.hc_effects.proofs.IdleNow.{filter_both}
 use Rattle.hc_effects.proofs.LettingGo.{current_may, keeps_may_all, all_more, idle_after}

@@ -2,13 +2,12 @@
 use Rattle.std.proofs.Common.{◌≡◌, ◌≢◌, inl, inr, ℕ, ◌<◌, List, [], ◌∷◌, ◌++◌, Bool, true, false, Option, Some, None, refl, ap, sym, ◌∙◌, subst}
 use Rattle.std.specs.Prelude.{is_some, nat_eq, option_map, ◌&&◌, if◌then◌else◌}
 use Rattle.hc_store.specs.declared.backend.Backend.{Ghosts}
-use Rattle.hc_event.specs.declared.act.Act.{Act}
+use Rattle.hc_effects.proofs.Vocabulary.{Act, Limits, with_representation, tables_after_close, over, let_go, as_gone, lost_to, family, Grows, Lawful, kind_of, is_growing, is_complete, is_front, covers_all, brings_to, Tables, Exchange, Representation, bound, exclusive, Response}
 use Rattle.hc_event.specs.declared.act.Act.TheVariants as act
 use Rattle.hc_event.specs.declared.act.LostKind.TheVariants as kind
 use Rattle.hc_record.specs.declared.kind.Kind.{Kind}
 use Rattle.hc_record.specs.declared.kind.Kind.TheVariants as kinds
 use Rattle.hc_sparse.specs.Cells.{Covers}
-use Rattle.hc_rules.specs.declared.room.Limits.{Limits}
 use Rattle.hc_stored.specs.Entries.{shelf_of}
 use Rattle.hc_stored.specs.Kept as entry
 use Rattle.hc_stored.specs.Kept.{Kept}
@@ -17,16 +16,7 @@ use Rattle.hc_stored.specs.Shelf.{Shelf, same_order}
 use Rattle.hc_stored.specs.Views.{view_of}
 use Rattle.hc_exch.specs.Exchanges as exch
 use Rattle.hc_exch.specs.Known as known
-use Rattle.hc_model.specs.Effects.{with_representation, tables_after_close, over, let_go, as_gone, lost_to}
-use Rattle.hc_model.specs.Exchanges.{family}
-use Rattle.hc_model.specs.Growing.{Grows}
-use Rattle.hc_model.specs.Lawful.{Lawful}
-use Rattle.hc_model.specs.Kinds.{kind_of, is_growing, is_complete, is_front, covers_all, brings_to}
 use Rattle.hc_model.specs.Rows as rows
-use Rattle.hc_model.specs.Rows.{Tables, Exchange, Representation}
-use Rattle.hc_model.specs.Reading.{bound}
-use Rattle.hc_model.specs.Writers.{exclusive}
-use Rattle.hc_event.specs.declared.event.Response.{Response}
 use Rattle.hc_effects.proofs.HoleLemmas as holes
 use Rattle.hc_state.proofs.Ties.{overs_closed, writer_then}
 use Rattle.hc_state.specs.declared.rows.Rows.{Rows}

@@ -3,15 +3,12 @@ use Rattle.std.proofs.Common.{◌≡◌, ◌≢◌, ℕ, ◌<◌, ◌^◌, Bool,
 use Rattle.std.proofs.lemmas.Bool.Decides.{nat_tests}
 use Rattle.std.specs.Prelude.{is_some, is_none, nat_eq, not, ◌&&◌, if◌then◌else◌}
 use Rattle.hc_text.proofs.Basics.{eqb-other, eqb-same, false_true, same_some as same_row, and_off as then_false}
-use Rattle.hc_rules.specs.declared.room.Limits.{Limits}
+use Rattle.hc_effects.proofs.Vocabulary.{Limits, Response, Route, route_of, is_unkeepable, going_with, family, is_keepable, brings_to, Tables, Exchange, Representation}
 use Rattle.hc_store.specs.declared.backend.Backend.{Ghosts}
-use Rattle.hc_event.specs.declared.event.Response.{Response}
 use Rattle.hc_record.specs.Head.{Head}
 use Rattle.hc_sparse.specs.Cells.{EndsBy}
 use Rattle.hc_sparse.proofs.SizeLemmas.{size-same}
-use Rattle.hc_rules.specs.declared.need.Route.{Route}
 use Rattle.hc_rules.specs.declared.need.Route.TheVariants as route
-use Rattle.hc_rules.specs.Needs.{route_of}
 use Rattle.hc_stored.specs.Entries.{shelf_of}
 use Rattle.hc_stored.specs.Kept.{Kept}
 use Rattle.hc_stored.specs.Shelf.{Shelf}
@@ -19,12 +16,7 @@ use Rattle.hc_stored.specs.Views.{view_of}
 use Rattle.hc_exch.specs.Exchanges.{table_of}
 use Rattle.hc_exch.specs.declared.role.Role.TheVariants as role
 use Rattle.hc_exch.specs.declared.row.Open.{Open}
-use Rattle.hc_model.specs.Effects.{is_unkeepable, going_with}
-use Rattle.hc_model.specs.Exchanges.{family}
-use Rattle.hc_model.specs.Gone.{is_keepable}
-use Rattle.hc_model.specs.Kinds.{brings_to}
 use Rattle.hc_model.specs.Rows as rows
-use Rattle.hc_model.specs.Rows.{Tables, Exchange, Representation}
 use Rattle.hc_state.specs.declared.rows.Rows.{Rows}
 use Rattle.hc_state.specs.declared.stop.Stop.{Stop}
 use Rattle.hc_state.specs.declared.stop.Stop.TheVariants as stop

@@ -5,9 +5,7 @@ use Rattle.std.specs.Prelude.{is_some, nat_lt, ◌&&◌, ◌↔◌, IsTrue}
 use Rattle.hc_text.proofs.Basics.{same_test}
 use Rattle.hc_sparse.specs.Cells.{Cells, Covers}
 use Rattle.hc_stored.specs.declared.view.EntryView.{EntryView}
-use Rattle.hc_model.specs.Holes.{covers}
-use Rattle.hc_model.specs.Kinds.{is_complete, is_front, covers_all}
-use Rattle.hc_model.specs.Rows.{Representation}
+use Rattle.hc_effects.proofs.Vocabulary.{covers, is_complete, is_front, covers_all, Representation}
 use Rattle.hc_effects.proofs.HoleLemmas as holes
 use Rattle.hc_state.specs.Stops.{IsViewOf}
 

@@ -6,11 +6,8 @@ use Rattle.std.specs.Option.{option_or}
 use Rattle.hc_text.proofs.Basics.{and_both as and_parts, bool_cases, eq_by, eqb-same, false_true, or_cases as in_either, or_right as later_in, same_or, some_inj as some_is}
 use Rattle.hc_entry.specs.Kept.{Kept, line_in}
 use Rattle.hc_entry.specs.Lines.{is_among, is_held_by, turn_of, turn_with}
-use Rattle.hc_rules.specs.Least.{least, lesser}
+use Rattle.hc_effects.proofs.Vocabulary.{least, lesser, is_in_line, holds_turn, line, holder, Tables, Consumer, Among, IsListed}
 use Rattle.hc_model.specs.Lines as lines
-use Rattle.hc_model.specs.Lines.{is_in_line, holds_turn, line, holder}
-use Rattle.hc_model.specs.Rows.{Tables, Consumer}
-use Rattle.hc_model.specs.Sound.{Among, IsListed}
 use Rattle.hc_state.specs.Lines.{KeepsKey, has_turn}
 use Rattle.hc_state.proofs.Words.{none_some}
 

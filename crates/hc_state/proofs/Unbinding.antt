@@ -11,17 +11,9 @@ use Rattle.hc_stored.specs.Shelf as shelf
 use Rattle.hc_stored.specs.Shelf.{Shelf, same_order}
 use Rattle.hc_stored.specs.Views.{bound_in}
 use Rattle.hc_entry.specs.Lines.{is_among}
-use Rattle.hc_event.specs.declared.place.Place.{Place}
+use Rattle.hc_effects.proofs.Vocabulary.{Place, BoundBy, is_number, with_consumer, kind_of, bound, is_bound, is_bound_place, Tables, Representation, Among, came_alone}
 use Rattle.hc_event.specs.declared.place.Place.TheVariants as place
-use Rattle.hc_event.specs.declared.place.BoundBy.{BoundBy}
-use Rattle.hc_model.specs.Currents.{is_number}
-use Rattle.hc_model.specs.Effects.{with_consumer}
-use Rattle.hc_model.specs.Kinds.{kind_of}
-use Rattle.hc_model.specs.Reading.{bound, is_bound, is_bound_place}
 use Rattle.hc_model.specs.Rows as rows
-use Rattle.hc_model.specs.Rows.{Tables, Representation}
-use Rattle.hc_model.specs.Sound.{Among}
-use Rattle.hc_model.specs.Writers.{came_alone}
 use Rattle.hc_effects.proofs.ExclusiveWriters.{filter_some}
 use Rattle.hc_state.specs.Leaving.{IsUserAt, UnbindsAt}
 use Rattle.hc_state.specs.Stored.{IsEntry, TellsLength, told, untold, KeepsEntry, KeepsEntries, is_first}

@@ -13,7 +13,8 @@ use Rattle.hc_rules.proofs.RangeReads.{bytes_eq-same, same_bytes}
 use Rattle.hc_validate.specs.Heads.{FieldPairs}
 use Rattle.hc_validate.specs.Updates.{is_renewed, left_by}
 use Rattle.hc_validate.proofs.Renewals.{field_at, left_by-more}
-use Rattle.hc_model.specs.Heads.{is_varied, kept_fields, varied_by}
+use Rattle.hc_effects.proofs.Vocabulary.{kept_fields, varied_by}
+use Rattle.hc_model.specs.Heads.{is_varied}
 use Rattle.hc_state.specs.Founding.{is_named_by}
 
 abbrev pub Pair : Type 0

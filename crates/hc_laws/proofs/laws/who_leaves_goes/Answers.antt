@@ -1,5 +1,5 @@
 -- Who leaves is over, and all others are as live as they were.
-use Rattle.hc_model.specs.Tables.{tables}
+use Rattle.hc_effects.proofs.Vocabulary.{tables}
 use Rattle.hc_laws.proofs.LawfulRuns.{lawful_in_runs}
 use Rattle.hc_laws.proofs.LeaverGoes.{leaver_goes}
 use Rattle.hc_laws.proofs.laws.who_leaves_goes.Goals as goal

@@ -1,12 +1,9 @@
 use Rattle.std.proofs.Common.{◌≡◌, ℕ, arith, length, true, false, Option, Some, None, refl, ap, sym, ◌∙◌, subst}
 use Rattle.std.specs.Prelude.{◌≤◌, Result, Ok, is_some}
-use Rattle.hc_event.specs.Acts.{act_list}
+use Rattle.hc_effects.proofs.Vocabulary.{act_list, let_all_go, evicted, LostKind}
 use Rattle.hc_event.specs.declared.event.Event.TheVariants as event
-use Rattle.hc_model.specs.Effects.{let_all_go}
-use Rattle.hc_model.specs.Weights.{evicted}
 use Rattle.hc_on_body.proofs.GrowArm.{own_answered, shared_answered}
 use Rattle.hc_text.specs.declared.memory.NoMemory.{NoMemory}
-use Rattle.hc_event.specs.declared.act.LostKind.{LostKind}
 use Rattle.hc_exch.specs.declared.exchanges.Exchanges.{Exchanges}
 use Rattle.hc_exch.specs.Exchanges.{table_of}
 use Rattle.hc_exch.specs.Known.{EndsBelow}

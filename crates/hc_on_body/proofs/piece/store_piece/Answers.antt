@@ -1,6 +1,6 @@
 use Rattle.std.proofs.Common.{◌≡◌, ◌+◌, length, false, Option, Some, refl, ap, sym, ◌∙◌, subst, arith}
 use Rattle.hc_sparse.specs.Cells.{size}
-use Rattle.hc_event.specs.Acts.{act_list, spare}
+use Rattle.hc_effects.proofs.Vocabulary.{act_list, spare, LostKind}
 use Rattle.hc_rules.specs.declared.room.Write.TheVariants as write
 use Rattle.hc_stored.specs.Entries.{shelf_of}
 use Rattle.hc_stored.specs.Kept.{Kept}
@@ -9,7 +9,6 @@ use Rattle.hc_exch.specs.Exchanges.{table_of, Becomes}
 use Rattle.hc_exch.specs.Known.{with_piece, EndsBelow}
 use Rattle.hc_text.specs.declared.memory.NoMemory.{NoMemory}
 use Rattle.hc_store.specs.declared.error.StoreError.{StoreError}
-use Rattle.hc_event.specs.declared.act.LostKind.{LostKind}
 use Rattle.hc_stored.specs.Shelf.{size_at}
 use Rattle.hc_state.specs.Room.{loss_by}
 use Rattle.std.specs.Prelude.{Result, Ok, Err, is_some}

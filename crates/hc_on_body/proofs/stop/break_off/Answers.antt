@@ -1,6 +1,6 @@
 use Rattle.std.proofs.Common.{ap, sym, ◌∙◌, subst}
 use Rattle.hc_stored.specs.Entries.{shelf_of}
-use Rattle.hc_event.specs.Acts.{act_list}
+use Rattle.hc_effects.proofs.Vocabulary.{act_list}
 use Rattle.hc_state.specs.Stopped.{HasStopped, MayStop}
 use Rattle.hc_state.specs.Stored.{TellsShort}
 use Rattle.hc_on_leave.proofs.Shorts.{shorts_here}

@@ -1,12 +1,11 @@
 use Rattle.std.proofs.Common.{◌≡◌, ℕ, ◌^◌, None, refl, ap, ◌∙◌, subst}
 use Rattle.std.specs.Prelude.{is_some}
 use Rattle.hc_text.proofs.Basics.{same_some as same_row}
-use Rattle.hc_event.specs.Acts.{act_list}
+use Rattle.hc_effects.proofs.Vocabulary.{act_list, promised_bytes}
 use Rattle.hc_stored.specs.Entries.{shelf_of}
 use Rattle.hc_stored.specs.Kept.{itself}
 use Rattle.hc_stored.specs.Views.{bound_in}
 use Rattle.hc_sorted.specs.Sorted.{has}
-use Rattle.hc_model.specs.Exchanges.{promised_bytes}
 use Rattle.hc_effects.proofs.LettingGo.{may_let_go}
 use Rattle.hc_state.specs.Changes.{ChangesAmong, with_end}
 use Rattle.hc_state.specs.Stopped.{SealedWhole}

@@ -2,7 +2,7 @@ use Rattle.std.proofs.Common.{◌≡◌, ◌⊎◌, inl, inr, nat_eq, true, fals
 use Rattle.std.specs.Prelude.{is_some}
 use Rattle.std.specs.HashMap.{get}
 use Rattle.hc_text.proofs.Basics.{false_true}
-use Rattle.hc_event.specs.Acts.{act_list}
+use Rattle.hc_effects.proofs.Vocabulary.{act_list}
 use Rattle.hc_stored.specs.Entries.{shelf_of}
 use Rattle.hc_state.specs.Stops.{is_shown}
 use Rattle.hc_state.proofs.Maps.{merely_true}

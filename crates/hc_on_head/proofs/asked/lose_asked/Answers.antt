@@ -1,12 +1,10 @@
 use Rattle.std.proofs.Common.{◌<◌, ℕ, [], ◌∷◌, ◌++◌, Some, nat_eq, ap, sym, ◌∙◌, subst}
 use Rattle.std.specs.Prelude.{IsSomeAnd}
 use Rattle.std.specs.HashMap.{get}
-use Rattle.hc_event.specs.Acts.{act_list}
+use Rattle.hc_effects.proofs.Vocabulary.{act_list, back_in_line, with_consumer}
 use Rattle.hc_event.specs.declared.act.Act.TheVariants as act
 use Rattle.hc_event.specs.declared.act.LostKind.TheVariants as kind
 use Rattle.hc_stored.specs.Entries.{shelf_of}
-use Rattle.hc_model.specs.ConsumerRows.{back_in_line}
-use Rattle.hc_model.specs.Effects.{with_consumer}
 use Rattle.hc_state.specs.Arms.{IsInKey}
 use Rattle.hc_state.specs.Stands.{RowsStand}
 use Rattle.hc_on_leave.proofs.HeardRows.{asker_of, asked_by}

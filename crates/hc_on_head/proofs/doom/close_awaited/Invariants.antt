@@ -1,5 +1,5 @@
 use Rattle.std.proofs.Common.{◌≡◌, ◌-◌, ◌^◌}
-use Rattle.hc_event.specs.Acts.{act_list, spare}
+use Rattle.hc_effects.proofs.Vocabulary.{act_list, spare}
 use Rattle.hc_state.specs.Dooms.{behind}
 use Rattle.hc_state.specs.Stands.{KeepsRest}
 use Rattle.hc_on_head.proofs.DoomLoops.{ClosesBelow}

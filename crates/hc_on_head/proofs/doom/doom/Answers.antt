@@ -1,7 +1,7 @@
 use Rattle.std.proofs.Common.{◌+◌, ◌<◌, length, arith}
 use Rattle.std.proofs.Math.Logic.{∥∥₁_map}
 use Rattle.std.specs.HashMap.{hash_map_len}
-use Rattle.hc_event.specs.Acts.{act_list}
+use Rattle.hc_effects.proofs.Vocabulary.{act_list}
 use Rattle.hc_exch.specs.Exchanges.{table_of}
 use Rattle.hc_exch.specs.Known.{is_open}
 use Rattle.hc_state.specs.Dooms.{IsUnheard}

@@ -1,8 +1,7 @@
 use Rattle.std.proofs.Common.{None, refl}
-use Rattle.hc_event.specs.Acts.{act_list}
+use Rattle.hc_effects.proofs.Vocabulary.{act_list, awaited_and}
 use Rattle.hc_event.specs.declared.event.Event.TheVariants as event
 use Rattle.hc_stored.specs.Entries.{shelf_of}
-use Rattle.hc_model.specs.Effects.{awaited_and}
 use Rattle.hc_effects.proofs.DoomEffects.{doom_does}
 use Rattle.hc_state.proofs.Answering.{does_answered}
 use Rattle.hc_state.proofs.Counting.{stands_counted}

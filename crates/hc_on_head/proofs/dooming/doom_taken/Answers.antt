@@ -1,5 +1,5 @@
 use Rattle.std.proofs.Common.{None, subst}
-use Rattle.hc_event.specs.Acts.{act_list}
+use Rattle.hc_effects.proofs.Vocabulary.{act_list}
 use Rattle.hc_state.specs.Dooms.{IsDoomed}
 use Rattle.hc_on_head.proofs.DoomingArms.{past_place, accepted_then, good_then, dooming_taken}
 use Rattle.hc_on_leave.proofs.HeardRows.{asker_of, asked_by}

@@ -1,5 +1,5 @@
 use Rattle.std.proofs.Common.{◌∙◌}
-use Rattle.hc_event.specs.Acts.{act_list, spare}
+use Rattle.hc_effects.proofs.Vocabulary.{act_list, spare}
 use Rattle.hc_stored.specs.Entries.{shelf_of}
 use Rattle.hc_on_head.proofs.FoundAnswers.{key_told, fits_acts, one_left, new_kept, taken, refused}
 use Rattle.hc_on_head.proofs.found.found_in_room.Goals as goal

@@ -1,7 +1,5 @@
 use Rattle.std.proofs.Common.{Some, inr, refl, ap, sym, ◌∙◌}
-use Rattle.hc_event.specs.Acts.{act_list}
-use Rattle.hc_rules.specs.declared.heads.HeadCase.{HeadCase}
-use Rattle.hc_model.specs.Dooms.{doomed_by_case}
+use Rattle.hc_effects.proofs.Vocabulary.{act_list, HeadCase, doomed_by_case}
 use Rattle.hc_state.specs.Heads.{is_bad_case, breaks_off, broken_by}
 use Rattle.hc_on_head.proofs.HeadTold.{down_case, past_case, good_past, anew_case, downs_none}
 use Rattle.hc_on_head.proofs.JoinHeads.{aim_some, kept_this, about_this, join_case, good_join}

@@ -1,14 +1,12 @@
 use Rattle.std.proofs.Common.{◌≡◌, ◌<◌, ◌^◌, ℕ, true, false, Some, Ok, Err, refl, ap, sym, ◌∙◌, subst}
 use Rattle.std.proofs.Math.Logic.{∥∥₁_map}
 use Rattle.hc_text.proofs.Basics.{none_or as none_is}
-use Rattle.hc_event.specs.Acts.{act_list}
+use Rattle.hc_effects.proofs.Vocabulary.{act_list, head_view, with_consumer, with_representation, with_refreshed_head}
 use Rattle.hc_event.specs.declared.event.Event.TheVariants as event
 use Rattle.hc_rules.specs.declared.heads.HeadCase.TheVariants as case
 use Rattle.hc_stored.specs.Entries.{shelf_of}
 use Rattle.hc_entry.specs.Keys.{kept_of}
 use Rattle.hc_event.specs.declared.place.Place.TheVariants as place
-use Rattle.hc_model.specs.Cases.{head_view}
-use Rattle.hc_model.specs.Effects.{with_consumer, with_representation, with_refreshed_head}
 use Rattle.hc_state.specs.Stands.{RowsStand}
 use Rattle.hc_state.specs.Stored.{is_usable_kept}
 use Rattle.hc_on_leave.proofs.HeadCases.{case_unselected}

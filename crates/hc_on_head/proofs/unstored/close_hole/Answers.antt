@@ -1,5 +1,5 @@
 use Rattle.std.proofs.Common.{refl}
-use Rattle.hc_event.specs.Acts.{act_list}
+use Rattle.hc_effects.proofs.Vocabulary.{act_list}
 use Rattle.hc_on_leave.proofs.HeardRows.{asker_of, asked_by}
 use Rattle.hc_on_leave.proofs.UnstoredArms.{due_then, late_answered}
 use Rattle.hc_on_head.proofs.unstored.close_hole.Goals as goal

@@ -1,7 +1,5 @@
 use Rattle.std.proofs.Common.{ℕ, Some, sym, subst}
-use Rattle.hc_event.specs.Acts.{act_list}
-use Rattle.hc_model.specs.ConsumerRows.{back_in_line}
-use Rattle.hc_model.specs.Effects.{with_consumer}
+use Rattle.hc_effects.proofs.Vocabulary.{act_list, back_in_line, with_consumer}
 use Rattle.hc_state.specs.Stands.{RowsStand}
 use Rattle.hc_on_leave.proofs.HeardRows.{asker_of, asked_by}
 use Rattle.hc_on_leave.proofs.UnstoredArms.{awaits_anew, anew_answered}

@@ -1,5 +1,5 @@
 use Rattle.std.proofs.Common.{ℕ, Option, sym, subst}
-use Rattle.hc_model.specs.Effects.{let_some_go}
+use Rattle.hc_effects.proofs.Vocabulary.{let_some_go}
 use Rattle.hc_state.specs.Stands.{RowsStand}
 use Rattle.hc_on_leave.proofs.evict.let_some_go.Goals as goal
 

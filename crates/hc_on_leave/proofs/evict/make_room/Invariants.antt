@@ -1,4 +1,4 @@
-use Rattle.hc_event.specs.Acts.{act_list, spare}
+use Rattle.hc_effects.proofs.Vocabulary.{act_list, spare}
 use Rattle.hc_state.proofs.Rooms.{HaveGone}
 use Rattle.hc_on_leave.proofs.evict.make_room.Given as goal
 

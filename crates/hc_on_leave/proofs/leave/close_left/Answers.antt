@@ -1,4 +1,4 @@
-use Rattle.hc_event.specs.Acts.{act_list}
+use Rattle.hc_effects.proofs.Vocabulary.{act_list}
 use Rattle.hc_state.proofs.CloseArm.{has_left}
 use Rattle.hc_state.proofs.LeftAlone.{once_left, leave_stops}
 use Rattle.hc_state.proofs.LeftRows.{open_left}

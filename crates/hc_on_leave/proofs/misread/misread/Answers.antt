@@ -1,9 +1,8 @@
 use Rattle.std.proofs.Common.{◌≡◌, ◌<◌, ℕ, refl, ap, sym, ◌∙◌, subst, true}
 use Rattle.std.specs.Prelude.{is_some}
-use Rattle.hc_event.specs.Acts.{act_list}
+use Rattle.hc_effects.proofs.Vocabulary.{act_list, as_over}
 use Rattle.hc_stored.specs.Entries.{shelf_of}
 use Rattle.hc_exch.specs.Exchanges.{table_of}
-use Rattle.hc_model.specs.Effects.{as_over}
 use Rattle.hc_effects.proofs.LettingGo.{may_let_go}
 use Rattle.hc_state.specs.Reads.{bound, planned}
 use Rattle.hc_state.proofs.LeftRows.{left_is, left_runs}

@@ -1,4 +1,4 @@
-use Rattle.hc_event.specs.Acts.{act_list}
+use Rattle.hc_effects.proofs.Vocabulary.{act_list}
 use Rattle.hc_rules.specs.declared.plan.Plan.TheVariants as plan
 use Rattle.hc_on_poll.proofs.PlanArms.{planned_past, planned_route, queued_there, passed_there, next_there, waiting_there, current_admits, plan_same, direct_answers, turn_answers, ask_answers, busy_answers, bind_answers, miss_answers}
 use Rattle.hc_on_poll.proofs.PartPlans.{filling_waits, filling_hole, filling_alone, filling_answers, part_there}

@@ -1,5 +1,5 @@
 use Rattle.std.proofs.Math.Logic.{∥∥₁_map}
-use Rattle.hc_event.specs.Acts.{act_list}
+use Rattle.hc_effects.proofs.Vocabulary.{act_list}
 use Rattle.hc_on_poll.proofs.PlanArms.{current_kept, fault_only, read_until, read_some, read_answers, read_fault}
 use Rattle.hc_state.proofs.Words.{on_ok_by, on_ok_two}
 use Rattle.hc_on_poll.proofs.carry.carry_out_with.Goals as goal

@@ -2,12 +2,10 @@ use Rattle.std.proofs.Common.{◌≡◌, refl, subst, nat_eq}
 use Rattle.std.specs.Prelude.{unwrap_or}
 use Rattle.std.specs.HashMap.{get}
 use Rattle.hc_text.proofs.Basics.{same_some as same_row}
-use Rattle.hc_event.specs.Acts.{act_list}
+use Rattle.hc_effects.proofs.Vocabulary.{act_list, Opens, hole_request, move_of}
 use Rattle.hc_event.specs.declared.act.Need.TheVariants as need
 use Rattle.hc_record.specs.Plain.{plain}
 use Rattle.hc_exch.specs.Exchanges.{next_of}
-use Rattle.hc_model.specs.Moves.{Opens, hole_request}
-use Rattle.hc_model.specs.Polls.{move_of}
 use Rattle.hc_model.specs.Rows as rows
 use Rattle.hc_state.specs.Reads.{IsShownAt}
 use Rattle.hc_on_poll.proofs.LaterHole.{filled_answered}

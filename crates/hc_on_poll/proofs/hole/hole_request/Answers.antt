@@ -1,6 +1,6 @@
 use Rattle.std.proofs.Common.{Bor, List, ℕ, refl, ap, sym, ◌∙◌, subst, arith}
 use Rattle.std.specs.Prelude.{codes}
-use Rattle.hc_event.specs.declared.event.Request.{Request}
+use Rattle.hc_effects.proofs.Vocabulary.{Request}
 use Rattle.hc_fields.specs.FieldList.{size_of}
 use Rattle.hc_validate.proofs.Names.{IsToken-range, IsToken-if_range}
 use Rattle.hc_validate.proofs.Stored.{IsFit}

@@ -1,15 +1,13 @@
 use Rattle.std.proofs.Common.{ℕ, List, Some, refl, nat_eq, ap, sym, ◌∙◌, subst}
 use Rattle.std.specs.Prelude.{unwrap_or}
 use Rattle.std.specs.HashMap.{get}
-use Rattle.hc_event.specs.Acts.{act_list}
+use Rattle.hc_effects.proofs.Vocabulary.{act_list, Request, Opens, hole_request}
 use Rattle.hc_event.specs.declared.act.Need.TheVariants as need
-use Rattle.hc_event.specs.declared.event.Request.{Request}
 use Rattle.hc_record.specs.Plain.{plain}
 use Rattle.hc_entry.specs.Keys as keys
 use Rattle.hc_entry.specs.Kept.{on_line}
 use Rattle.hc_entry.specs.Lines.{gone_away}
 use Rattle.hc_stored.specs.Entries.{shelf_of}
-use Rattle.hc_model.specs.Moves.{Opens, hole_request}
 use Rattle.hc_state.specs.Kept.{KeepsConsumer}
 use Rattle.hc_state.specs.Plans.{IsIdle, HasCurrent}
 use Rattle.hc_on_poll.proofs.BindArm.{current_total}

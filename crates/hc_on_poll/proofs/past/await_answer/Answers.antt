@@ -1,6 +1,6 @@
 use Rattle.std.proofs.Common.{◌≡◌, None, Some, refl, sym, ◌∙◌, nat_eq}
 use Rattle.std.specs.HashMap.{get}
-use Rattle.hc_event.specs.Acts.{act_list}
+use Rattle.hc_effects.proofs.Vocabulary.{act_list}
 use Rattle.hc_state.specs.Arms.{IsUnshown}
 use Rattle.hc_state.proofs.Maps.{lent, known_of}
 use Rattle.hc_on_poll.proofs.ReadPast.{waits_answered, shows_answered}

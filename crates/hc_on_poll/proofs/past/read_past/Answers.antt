@@ -1,10 +1,9 @@
 use Rattle.std.proofs.Common.{◌+◌, ◌<◌, ◌≤◌, ◌^◌, ap, sym, ◌∙◌, arith, nat_eq, length, inl, inr}
 use Rattle.std.proofs.lemmas.Grind.{not_there}
 use Rattle.std.specs.HashMap.{get}
-use Rattle.hc_event.specs.Acts.{act_list}
+use Rattle.hc_effects.proofs.Vocabulary.{act_list, read_step}
 use Rattle.hc_exch.specs.Exchanges.{table_of}
 use Rattle.hc_exch.specs.Known.{is_open}
-use Rattle.hc_rules.specs.Readings.{read_step}
 use Rattle.hc_state.specs.Arms.{IsShown}
 use Rattle.hc_state.proofs.Maps.{lent, known_of, some_that, merely_true, merely_below}
 use Rattle.hc_state.proofs.Words.{few_received}

@@ -1,7 +1,6 @@
 use Rattle.std.proofs.Common.{nat_eq, ap}
 use Rattle.std.specs.HashMap.{get}
-use Rattle.hc_event.specs.Acts.{act_list}
-use Rattle.hc_event.specs.declared.event.Request.{Request}
+use Rattle.hc_effects.proofs.Vocabulary.{act_list, Request}
 use Rattle.hc_state.proofs.Maps.{lent, some_that}
 use Rattle.hc_on_poll.proofs.FetchArm.{bypassed}
 use Rattle.hc_on_poll.proofs.plan.bypass.Goals as goal

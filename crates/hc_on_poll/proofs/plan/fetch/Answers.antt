@@ -1,7 +1,6 @@
 use Rattle.std.proofs.Common.{ℕ, ap, sym, ◌∙◌}
-use Rattle.hc_event.specs.Acts.{act_list}
+use Rattle.hc_effects.proofs.Vocabulary.{act_list, Opens}
 use Rattle.hc_stored.specs.Entries.{shelf_of}
-use Rattle.hc_model.specs.Moves.{Opens}
 use Rattle.hc_on_poll.proofs.FetchArm.{fetch_answered}
 use Rattle.hc_on_poll.proofs.plan.fetch.Goals as goal
 

@@ -1,6 +1,6 @@
 use Rattle.std.proofs.Common.{nat_eq, ap}
 use Rattle.std.specs.HashMap.{get}
-use Rattle.hc_event.specs.declared.event.Request.{Request}
+use Rattle.hc_effects.proofs.Vocabulary.{Request}
 use Rattle.hc_state.proofs.Maps.{lent, some_that}
 use Rattle.hc_on_poll.proofs.plan.fetch_as_it_is.Goals as goal
 

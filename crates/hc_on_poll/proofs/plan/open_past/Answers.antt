@@ -1,6 +1,6 @@
 use Rattle.std.proofs.Common.{nat_eq}
 use Rattle.std.specs.HashMap.{get}
-use Rattle.hc_event.specs.Acts.{act_list}
+use Rattle.hc_effects.proofs.Vocabulary.{act_list}
 use Rattle.hc_stored.specs.Entries.{shelf_of}
 use Rattle.hc_state.specs.Plans.{IsIdle}
 use Rattle.hc_state.proofs.Maps.{lent, known_of, some_that}

@@ -1,4 +1,4 @@
-use Rattle.hc_event.specs.Acts.{act_list}
+use Rattle.hc_effects.proofs.Vocabulary.{act_list}
 use Rattle.hc_stored.specs.Entries.{shelf_of}
 use Rattle.hc_on_poll.proofs.WaitArms.{turn_waits}
 use Rattle.hc_on_poll.proofs.plan.wait_for_turn.Goals as goal

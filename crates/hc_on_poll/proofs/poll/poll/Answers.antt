@@ -2,7 +2,7 @@ use Rattle.std.proofs.Common.{ap, sym, ◌∙◌, nat_eq}
 use Rattle.std.proofs.Math.Logic.{∥∥₁_map}
 use Rattle.std.specs.HashMap.{get}
 use Rattle.hc_text.proofs.Basics.{false_true}
-use Rattle.hc_model.specs.Denials.{is_live_place}
+use Rattle.hc_effects.proofs.Vocabulary.{is_live_place}
 use Rattle.hc_state.specs.Plans.{IsRequestWithinLimits}
 use Rattle.hc_state.proofs.Maps.{lent, some_that}
 use Rattle.hc_on_poll.proofs.Polled.{lives_there, within_limits_there}

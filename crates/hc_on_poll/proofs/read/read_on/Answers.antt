@@ -1,10 +1,9 @@
 use Rattle.std.proofs.Common.{◌≡◌, ◌+◌, ◌≤◌, ◌^◌, ap, sym, ◌∙◌, refl, length, take, subst, arith, nat_eq}
 use Rattle.std.specs.HashMap.{get}
-use Rattle.hc_event.specs.Acts.{act_list}
+use Rattle.hc_effects.proofs.Vocabulary.{act_list, ReadView}
 use Rattle.hc_stored.specs.Entries.{shelf_of}
 use Rattle.hc_stored.specs.Shelf.{head_at}
 use Rattle.hc_exch.specs.Exchanges.{table_of}
-use Rattle.hc_rules.specs.declared.reading.ReadView.{ReadView}
 use Rattle.hc_state.specs.Reads.{IsShownAt, ReadViewIs}
 use Rattle.hc_on_poll.proofs.BoundReads.{ends_move, fails_move, hole_move}
 use Rattle.hc_state.proofs.Maps.{lent, known_of, some_that}

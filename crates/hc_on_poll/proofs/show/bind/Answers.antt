@@ -1,7 +1,6 @@
 use Rattle.std.proofs.Common.{Some, nat_eq, ap, ◌∙◌, subst}
 use Rattle.std.specs.HashMap.{get}
-use Rattle.hc_event.specs.Acts.{act_list}
-use Rattle.hc_event.specs.declared.event.Response.{Response}
+use Rattle.hc_effects.proofs.Vocabulary.{act_list, Response}
 use Rattle.hc_record.specs.Plain.{plain}
 use Rattle.hc_validate.specs.Showing.{shown_response}
 use Rattle.hc_state.specs.Kept.{KeepsConsumer}

@@ -2,7 +2,7 @@ use Rattle.std.proofs.Common.{refl, ap, sym, ◌∙◌, nat_eq}
 use Rattle.std.proofs.Math.Logic.{∥∥₁_map}
 use Rattle.std.specs.Prelude.{is_some}
 use Rattle.std.specs.HashMap.{get}
-use Rattle.hc_event.specs.Acts.{act_list}
+use Rattle.hc_effects.proofs.Vocabulary.{act_list}
 use Rattle.hc_stored.specs.Entries.{shelf_of}
 use Rattle.hc_stored.specs.Shelf.{is_kept}
 use Rattle.hc_state.specs.Reads.{IsUnshownBy}

@@ -2,7 +2,7 @@ use Rattle.std.proofs.Common.{Bool, false, None, refl, ap, sym, ◌∙◌, subst
 use Rattle.std.proofs.lemmas.List.{append-nil}
 use Rattle.std.specs.Prelude.{◌&&◌, not}
 use Rattle.hc_event.specs.declared.event.Event.TheVariants as event
-use Rattle.hc_rules.specs.declared.request.RequestClass.{RequestClass}
+use Rattle.hc_effects.proofs.Vocabulary.{RequestClass}
 use Rattle.hc_stored.specs.Entries.{shelf_of}
 use Rattle.hc_event.specs.declared.place.Place.TheVariants as place
 use Rattle.hc_effects.proofs.StartEffects.{starts}

@@ -1,7 +1,6 @@
 use Rattle.std.proofs.Common.{◌≡◌, drop}
 use Rattle.hc_core.specs.Steps.{StandsFor}
-use Rattle.hc_model.specs.Entries.{no_contents}
-use Rattle.hc_model.specs.Tables.{tables}
+use Rattle.hc_effects.proofs.Vocabulary.{no_contents, tables}
 use Rattle.hc_peers.specs.declared.clients.Clients.{Clients}
 use Rattle.hc_wire.specs.Logs.{Log}
 use Rattle.hc_proxy.specs.Rows as rows

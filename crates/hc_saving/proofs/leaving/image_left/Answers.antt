@@ -1,6 +1,6 @@
 use Rattle.std.proofs.Common.{rules, arith, ◌∙◌, ◌≤◌, ◌+◌, ◌^◌}
 use Rattle.hc_contents.specs.PlainContents.{plain_contents}
-use Rattle.hc_model.specs.Entries.{no_contents}
+use Rattle.hc_effects.proofs.Vocabulary.{no_contents}
 use Rattle.hc_core.specs.Steps.{limits_in}
 use Rattle.hc_image.proofs.Fitting.{image_of_good}
 use Rattle.hc_image.proofs.Written.{image_written}

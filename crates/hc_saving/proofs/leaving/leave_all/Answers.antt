@@ -1,5 +1,5 @@
 use Rattle.std.proofs.Common.{rules, refl, arith}
-use Rattle.hc_event.specs.Acts.{act_list}
+use Rattle.hc_effects.proofs.Vocabulary.{act_list}
 use Rattle.hc_saving.proofs.Leaves.{leaves_first, leaves_next, fewer_live, has_left}
 use Rattle.hc_saving.proofs.leaving.leave_all.Goals as goal
 

@@ -1,7 +1,6 @@
 use Rattle.std.proofs.Common.{◌≡◌, true, subst}
 use Rattle.hc_contents.specs.PlainContents.{plain_contents}
-use Rattle.hc_rules.specs.declared.room.Limits.{Limits}
-use Rattle.hc_model.specs.Beginnings.{may_begin}
+use Rattle.hc_effects.proofs.Vocabulary.{Limits, may_begin}
 use Rattle.hc_saving.proofs.Opened.{fitting, unbegun}
 use Rattle.hc_saving.proofs.reopening.begin.Goals as goal
 

@@ -1,6 +1,5 @@
 use Rattle.std.proofs.Common.{refl, ◌∙◌, subst, arith, ◌≡◌}
-use Rattle.hc_rules.specs.declared.room.Limits.{Limits}
-use Rattle.hc_model.specs.Entries.{no_contents}
+use Rattle.hc_effects.proofs.Vocabulary.{Limits, no_contents}
 use Rattle.hc_replay.specs.Histories.{run_of, failures}
 use Rattle.hc_replay.proofs.Reported.{new_moment}
 use Rattle.hc_saving.specs.Saves.{Writes}

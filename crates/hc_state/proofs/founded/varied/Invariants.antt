@@ -1,6 +1,6 @@
 use Rattle.std.proofs.Common.{◌≡◌, drop}
 use Rattle.hc_validate.specs.Updates.{left_by}
-use Rattle.hc_model.specs.Heads.{varied_by}
+use Rattle.hc_effects.proofs.Vocabulary.{varied_by}
 use Rattle.hc_state.proofs.Varied.{unnamed}
 use Rattle.hc_state.proofs.founded.varied.Given as goal
 

@@ -1,7 +1,6 @@
 use Rattle.std.proofs.Common.{ℕ, ◌+◌, refl, sym, subst, arith}
 use Rattle.std.proofs.Math.Logic.{∥∥₁_map}
-use Rattle.hc_event.specs.Acts.{act_list}
-use Rattle.hc_rules.specs.Refusals.{refusal_of}
+use Rattle.hc_effects.proofs.Vocabulary.{act_list, refusal_of}
 use Rattle.hc_state.specs.Good.{StandsAt}
 use Rattle.hc_state.specs.Stands.{gate_of}
 use Rattle.hc_state.proofs.Words.{is_there}

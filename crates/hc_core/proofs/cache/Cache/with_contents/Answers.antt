@@ -1,6 +1,5 @@
 use Rattle.std.proofs.Common.{◌≡◌, ◌<◌, ◌≤◌, ◌^◌, true, refl, sym, ◌∙◌, subst, arith}
-use Rattle.hc_rules.specs.declared.room.Limits.{Limits}
-use Rattle.hc_model.specs.Beginnings.{may_begin}
+use Rattle.hc_effects.proofs.Vocabulary.{Limits, may_begin}
 use Rattle.hc_contents.specs.PlainContents.{plain_contents}
 use Rattle.hc_core.proofs.BegunCache.{may_by, stands_begun_with, good_begun_with, next_begun_with, numbers_fit, small_begun_with}
 use Rattle.hc_core.proofs.BegunItems.{next_fits}

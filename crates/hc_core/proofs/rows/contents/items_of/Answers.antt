@@ -2,7 +2,7 @@ use Rattle.std.proofs.Common.{◌≡◌, ℕ, ◌+◌, ◌<◌, List, [], ◌∷
 use Rattle.std.specs.Prelude.{is_some}
 use Rattle.std.proofs.lemmas.List.{map-append}
 use Rattle.hc_stored.specs.Entries.{shelf_of}
-use Rattle.hc_model.specs.Entries.{Content}
+use Rattle.hc_effects.proofs.Vocabulary.{Content}
 use Rattle.hc_contents.specs.declared.contents.Content as coded
 use Rattle.hc_contents.specs.PlainContents.{plain_item}
 use Rattle.hc_state.specs.Remains.{TellsAll}

@@ -1,6 +1,5 @@
 use Rattle.std.proofs.Common.{◌≡◌, subst, List, ℕ, Bool, Some, None}
-use Rattle.hc_event.specs.Acts.{act_list}
-use Rattle.hc_event.specs.declared.act.Act.{Act}
+use Rattle.hc_effects.proofs.Vocabulary.{act_list, Act}
 use Rattle.hc_fetch.specs.Deciding.{by_failure}
 use Rattle.hc_fetch.specs.Firsts.{total_to_start}
 use Rattle.hc_fetch.specs.Hearing.{Takes}

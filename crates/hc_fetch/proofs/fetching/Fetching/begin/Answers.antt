@@ -1,8 +1,5 @@
 use Rattle.std.proofs.Common.{◌≡◌, ◌+◌, sym, refl, subst, arith}
-use Rattle.hc_event.specs.declared.event.Event.{Event}
-use Rattle.hc_event.specs.WithinLimits.{IsEventWithinLimits}
-use Rattle.hc_model.specs.Flaws.{failures_in}
-use Rattle.hc_model.specs.Tables.{received_in}
+use Rattle.hc_effects.proofs.Vocabulary.{Event, IsEventWithinLimits, failures_in, received_in}
 use Rattle.hc_core.specs.Steps.{Answers, bytes_received}
 use Rattle.hc_fetch.proofs.Asked.{first_within}
 use Rattle.hc_fetch.proofs.Starting.{begins_none, begins_one, none_came, none_counted}

@@ -1,7 +1,5 @@
 use Rattle.std.proofs.Common.{◌≡◌, ◌+◌, sym, refl, subst, arith}
-use Rattle.hc_event.specs.declared.event.Event.{Event}
-use Rattle.hc_event.specs.WithinLimits.{IsEventWithinLimits}
-use Rattle.hc_model.specs.Tables.{received_in}
+use Rattle.hc_effects.proofs.Vocabulary.{Event, IsEventWithinLimits, received_in}
 use Rattle.hc_core.specs.Steps.{Answers, bytes_received}
 use Rattle.hc_fetch.specs.declared.plan.FetchPlan.{FetchPlan}
 use Rattle.hc_fetch.specs.Hearing.{Starts}

@@ -1,5 +1,5 @@
 use Rattle.std.proofs.Common.{◌∙◌}
-use Rattle.hc_event.specs.Acts.{act_list}
+use Rattle.hc_effects.proofs.Vocabulary.{act_list}
 use Rattle.hc_front.proofs.FrontPaths.{on_ok_by, on_err_by, truncated, has_ended}
 use Rattle.hc_front.proofs.front.Front.end.Goals as goal
 

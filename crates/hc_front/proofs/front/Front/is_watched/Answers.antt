@@ -1,5 +1,5 @@
 use Rattle.std.proofs.Common.{true, false, ◌∙◌}
-use Rattle.hc_model.specs.Tables.{tables}
+use Rattle.hc_effects.proofs.Vocabulary.{tables}
 use Rattle.hc_front.proofs.FrontPaths.{if_ok_by, none_so, watched_none, watched_some}
 use Rattle.hc_front.proofs.front.Front.is_watched.Goals as goal
 

@@ -1,8 +1,6 @@
 use Rattle.std.proofs.Common.{List, refl, sym, ap, ◌∙◌, subst}
 use Rattle.std.specs.Prelude.{OnOk, Option}
-use Rattle.hc_event.specs.Acts.{act_list}
-use Rattle.hc_event.specs.declared.act.Act.{Act}
-use Rattle.hc_event.specs.declared.event.Event.{Event}
+use Rattle.hc_effects.proofs.Vocabulary.{act_list, Act, Event}
 use Rattle.hc_core.specs.Steps as core
 use Rattle.hc_front.specs.declared.watches.Watched.{Watched}
 use Rattle.hc_front.specs.Fronts.{is_ending}

@@ -1,10 +1,7 @@
 use Rattle.std.proofs.Common.{refl, sym, ap, ◌∙◌, subst}
 use Rattle.std.specs.Prelude.{Some}
-use Rattle.hc_event.specs.Acts.{act_list}
-use Rattle.hc_event.specs.Filters.{is_denied}
-use Rattle.hc_event.specs.WithinLimits.{IsEventWithinLimits}
+use Rattle.hc_effects.proofs.Vocabulary.{act_list, is_denied, IsEventWithinLimits, Request}
 use Rattle.hc_event.specs.declared.event.Event.TheVariants as event
-use Rattle.hc_event.specs.declared.event.Request.{Request}
 use Rattle.hc_core.specs.Steps as core
 use Rattle.hc_front.specs.Watching.{ChangesAt, newly}
 use Rattle.hc_front.proofs.FrontPaths.{on_ok_two, on_err_by, truncated, none_more, behind_all, without_within, has_denied, has_watched}

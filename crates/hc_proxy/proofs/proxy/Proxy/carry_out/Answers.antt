@@ -1,6 +1,5 @@
 use Rattle.std.proofs.Common.{rules, ◌∙◌, refl, subst, ℕ, List, [], ◌∷◌}
-use Rattle.hc_event.specs.Drain.{left_of}
-use Rattle.hc_event.specs.declared.act.Act.{Act}
+use Rattle.hc_effects.proofs.Vocabulary.{left_of, Act}
 use Rattle.hc_proxy.specs.Underway.{Closes, IsUnderway, dialling}
 use Rattle.hc_proxy.proofs.Outcomes.{on_err}
 use Rattle.hc_proxy.proofs.CarriedAll.{begins, next_of_some, goes_underway, fails_underway, all_carried_at}

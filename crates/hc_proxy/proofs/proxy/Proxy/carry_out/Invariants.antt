@@ -1,5 +1,5 @@
 use Rattle.std.proofs.Common.{◌≡◌}
-use Rattle.hc_event.specs.Drain.{left_of}
+use Rattle.hc_effects.proofs.Vocabulary.{left_of}
 use Rattle.hc_wire.specs.Logs.{Log}
 use Rattle.hc_proxy.specs.Keeping.{Turn, KeepsPolled}
 use Rattle.hc_proxy.specs.Rows as rows

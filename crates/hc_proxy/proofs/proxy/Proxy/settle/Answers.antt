@@ -1,5 +1,5 @@
 use Rattle.std.proofs.Common.{◌≡◌, sym, ◌∙◌, true, false, rules}
-use Rattle.hc_model.specs.Exchanges.{is_open}
+use Rattle.hc_effects.proofs.Vocabulary.{is_open}
 use Rattle.hc_proxy.proofs.HeardOne.{open_is, cache_over}
 use Rattle.hc_proxy.proofs.HungUp.{hung_up}
 use Rattle.hc_proxy.proofs.Outcomes.{on_both}

@@ -7,6 +7,7 @@ use Rattle.hc_text.proofs.Basics.{and_left, and_right, some_inj as some_is}
 use Rattle.hc_stored.specs.Entries.{shelf_of}
 use Rattle.hc_store.specs.declared.backend.Backend.{Ghosts}
 use Rattle.hc_effects.proofs.Vocabulary.{Limits, may_begin, Content, Contents, AreShort, first_tables, tables}
+use Rattle.hc_effects.proofs.Tests.{none_some}
 use Rattle.hc_exch.specs.Exchanges.{next_of}
 use Rattle.hc_contents.specs.declared.contents.Content as coded
 use Rattle.hc_contents.specs.declared.contents.Contents as coded_all
@@ -16,7 +17,7 @@ use Rattle.hc_contents.proofs.Counting.{begins_by}
 use Rattle.hc_state.specs.declared.rows.Rows.{Rows}
 use Rattle.hc_state.specs.Good.{StandsAt}
 use Rattle.hc_state.specs.Stands.{RowsStand}
-use Rattle.hc_state.proofs.Words.{none_received, none_some}
+use Rattle.hc_state.proofs.Words.{none_received}
 use Rattle.hc_core.specs.declared.cache.Cache.{Cache}
 use Rattle.hc_core.specs.Steps.{StandsFor}
 use Rattle.hc_core.proofs.BegunItems.{next_fits}

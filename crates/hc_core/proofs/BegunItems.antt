@@ -22,6 +22,7 @@ use Rattle.hc_stored.specs.Begun.{with_runs}
 use Rattle.hc_stored.specs.Kept.{Kept, kept_with_bytes}
 use Rattle.hc_stored.specs.Shelf.{Shelf, Becomes, is_kept, cells_in, cells_at, size_at, same_order}
 use Rattle.hc_effects.proofs.Basics.{or_false, append_none}
+use Rattle.hc_effects.proofs.Tests.{none_some}
 use Rattle.hc_stored.specs.Entries.{shelf_of}
 use Rattle.hc_state.specs.declared.rows.Rows.{Rows}
 use Rattle.hc_state.specs.Stands.{RowsStand}
@@ -32,7 +33,6 @@ use Rattle.hc_contents.specs.declared.contents.Contents as coded_all
 use Rattle.hc_contents.specs.PlainContents.{plain_contents, plain_item}
 use Rattle.hc_contents.proofs.Counting.{longer}
 use Rattle.hc_core.proofs.BegunRuns.{runs_more}
-use Rattle.hc_state.proofs.Words.{none_some}
 use Rattle.hc_core.proofs.BegunRows.{stands_more}
 
 -- RUN BY RUN

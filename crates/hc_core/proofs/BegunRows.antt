@@ -19,6 +19,7 @@ use Rattle.hc_exch.specs.Exchanges.{table_of, next_of}
 use Rattle.hc_exch.specs.Known.{unknown}
 use Rattle.hc_exch.specs.declared.row.Open.{Open}
 use Rattle.hc_effects.proofs.Vocabulary.{ascend_from, is_kind_right, current, is_usable, Content, Contents, kind_of, bound, Tables, Representation, first_tables, representation_of_content, numbers, last_end}
+use Rattle.hc_effects.proofs.Tests.{none_some}
 use Rattle.hc_state.specs.declared.rows.Rows.{Rows}
 use Rattle.hc_state.specs.declared.consumer.Consumer.{Consumer}
 use Rattle.hc_state.specs.Kept.{KeepsConsumer, KeepsExchange, KeepsRunning}
@@ -27,7 +28,6 @@ use Rattle.hc_state.specs.Stands.{RowsStand}
 use Rattle.hc_state.specs.Stored.{IsEntry, KeepsEntry, is_usable_row}
 use Rattle.hc_state.specs.Stored as stored
 use Rattle.hc_core.proofs.BegunRuns.{runs_cells, runs_reach, runs_rest, kind_begun, whole_begun}
-use Rattle.hc_state.proofs.Words.{none_some}
 use Rattle.hc_core.specs.Begins.{with_items, kept_item, KeepsItem}
 
 -- BEFORE THE FIRST

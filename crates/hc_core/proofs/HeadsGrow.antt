@@ -9,8 +9,8 @@ use Rattle.hc_laws.proofs.HeadFrom.{HeadFrom, head_from}
 use Rattle.hc_laws.proofs.HeadFrom as from
 use Rattle.hc_effects.proofs.RepFrom.{RepFrom, rep_from}
 use Rattle.hc_effects.proofs.RepFrom as rep
+use Rattle.hc_effects.proofs.Tests.{none_some}
 use Rattle.hc_laws.proofs.RunFacts.{in_runs}
-use Rattle.hc_state.proofs.Words.{none_some}
 
 abbrev pub HeadsGrow : Tables → Type 0
 HeadsGrow t = (r : ℕ) (v : Representation) → t.representation r ≡ Some v → v.head.kind ≡ kind.Growing

@@ -10,10 +10,10 @@ use Rattle.hc_stored.specs.Views.{view_of}
 use Rattle.hc_entry.specs.Keys.{kept_of, line_of}
 use Rattle.hc_entry.specs.Lines.{turn_of}
 use Rattle.hc_effects.proofs.Vocabulary.{current, Contents, History, kind_of, kind_at, kind_for, turn, Tables, tables}
+use Rattle.hc_effects.proofs.Tests.{none_some}
 use Rattle.hc_laws.proofs.SoundRuns.{runs_are_sound}
 use Rattle.hc_state.proofs.CurrentTies.{IsNow, now_kept}
 use Rattle.hc_state.proofs.TurnTies.{turn_of_is}
-use Rattle.hc_state.proofs.Words.{none_some}
 use Rattle.hc_core.specs.declared.cache.Cache.{Cache}
 use Rattle.hc_core.specs.Steps.{StandsFor}
 

@@ -29,6 +29,7 @@ use Rattle.hc_effects.proofs.PollKeeps.{current_stays}
 use Rattle.hc_laws.proofs.RunsFrom.{end_is}
 use Rattle.hc_laws.proofs.SoundRuns.{carried, measures_in_runs}
 use Rattle.hc_effects.proofs.Sums.{filter_among}
+use Rattle.hc_effects.proofs.Tests.{none_some}
 use Rattle.hc_state.specs.declared.consumer.Consumer.{Consumer}
 use Rattle.hc_state.specs.declared.rows.Rows.{Rows}
 use Rattle.hc_state.specs.Kept.{KeepsConsumer, KeepsExchange, KeepsRunning}
@@ -43,7 +44,6 @@ use Rattle.hc_state.proofs.LiveCounts.{filter-reverse}
 use Rattle.hc_core.proofs.NobodyLive.{nobody, nobody_says, unbound, none_bound, shut, none_held}
 use Rattle.hc_core.proofs.RunsBack.{cells_back}
 use Rattle.hc_core.proofs.Standing.{law_of_runs}
-use Rattle.hc_state.proofs.Words.{none_some}
 use Rattle.hc_core.specs.declared.cache.Cache.{Cache}
 use Rattle.hc_core.specs.Steps.{ServesAll}
 

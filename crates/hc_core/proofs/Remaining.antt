@@ -9,7 +9,7 @@ use Rattle.hc_sparse.specs.Stretch.{IsLongest}
 use Rattle.hc_sparse.specs.declared.run.Run.{Run}
 use Rattle.hc_effects.proofs.Vocabulary.{run_from, with_cell, with_place, runs_from}
 use Rattle.hc_effects.proofs.Basics.{append_none}
-use Rattle.hc_state.proofs.Words.{none_some}
+use Rattle.hc_effects.proofs.Tests.{none_some}
 
 -- nothing is there: no run
 pub runs_none : (f : Cells) (p n : ℕ) → AreAbsent f p (p + n) → runs_from f p n ≡ []

@@ -9,6 +9,7 @@ use Rattle.std.specs.HashMap.{get, hash_map_len}
 use Rattle.hc_text.proofs.Basics.{or_right as or_second}
 use Rattle.hc_store.specs.declared.backend.Backend.{Ghosts}
 use Rattle.hc_effects.proofs.Vocabulary.{is_denied, Event, Act, Refusal, Limits, refusal_of, answer, accepted_acts, denied_or, may_begin, denial, Entry, History, Contents, no_contents, Flaw, NoFlaw, flaw_in, AreSized, HasFieldsWithinLimits, HasTarget, AreShort, Tables, IsRun, IsOwed, may_stand, may_be, tables, last_start_after, received_in, after, after_accepted, after_denied, IsEventWithinLimits, is_fault, failures_in}
+use Rattle.hc_effects.proofs.Tests.{none_some}
 use Rattle.hc_event.specs.declared.event.Event.TheVariants as event
 use Rattle.hc_event.specs.declared.act.Act.TheVariants as act
 use Rattle.hc_exch.specs.Exchanges.{table_of, next_of}
@@ -30,7 +31,7 @@ use Rattle.hc_on_leave.proofs.Gates.{denies_as}
 use Rattle.hc_on_leave.proofs.Sets.{acts_set}
 use Rattle.hc_core.proofs.Standing.{facts_of_runs, sized_of_any, sized_of_some}
 use Rattle.hc_state.proofs.Maps.{merely_below}
-use Rattle.hc_state.proofs.Words.{more_received, none_received, none_some}
+use Rattle.hc_state.proofs.Words.{more_received, none_received}
 use Rattle.hc_laws.proofs.Undenied.{undenied}
 use Rattle.hc_laws.proofs.FromNothing.{begins_well}
 use Rattle.hc_core.proofs.Denying.{stands_denied, stands_begun}

@@ -17,11 +17,11 @@ use Rattle.hc_effects.proofs.WaitedAs.{IsForOthers, waited_as}
 use Rattle.hc_effects.proofs.WaitedAs as waited
 use Rattle.hc_effects.proofs.Waiters.{fault_open_of}
 
-none_of : (q : Option Response) → is_none q ≡ true → q ≡ None
+pub none_of : (q : Option Response) → is_none q ≡ true → q ≡ None
 none_of None g = refl
 none_of (Some response) g = absurd (false_true g)
 
-headless_parts : (z : Option Exchange) → is_headless z ≡ true → (w : Exchange) × (z ≡ Some w) × (w.is_open ≡ true) × (w.head ≡ None)
+pub headless_parts : (z : Option Exchange) → is_headless z ≡ true → (w : Exchange) × (z ≡ Some w) × (w.is_open ≡ true) × (w.head ≡ None)
 headless_parts None h = absurd (false_true h)
 headless_parts (Some w) h = (w, refl, and_left _ _ h, none_of w.head (and_right w.is_open _ h))
 

@@ -8,12 +8,12 @@ use Rattle.hc_event.specs.declared.act.Act.TheVariants as act
 
 -- LISTS
 
-among_append_left : (x : ℕ) (xs ys : List ℕ) → Among x xs → Among x (xs ++ ys)
+pub among_append_left : (x : ℕ) (xs ys : List ℕ) → Among x xs → Among x (xs ++ ys)
 among_append_left x [] ys there = absurd there
 among_append_left x (z ∷ xs) ys (inl here) = inl here
 among_append_left x (z ∷ xs) ys (inr there) = inr (among_append_left x xs ys there)
 
-among_append_right : (x : ℕ) (xs ys : List ℕ) → Among x ys → Among x (xs ++ ys)
+pub among_append_right : (x : ℕ) (xs ys : List ℕ) → Among x ys → Among x (xs ++ ys)
 among_append_right x [] ys there = there
 among_append_right x (z ∷ xs) ys there = inr (among_append_right x xs ys there)
 

@@ -43,7 +43,7 @@ resolved_within (From first) total span is = span_if (nat_lt first total) (recor
 resolved_within (FromTo first last) total span is = span_if (nat_lt first total) (record { lo = first; hi = min (last + 1) total }) span total (λ h. omega arith) is
 resolved_within (Last n) total span is = span_if (nat_lt 0 n && nat_lt 0 total) (record { lo = total - n; hi = total }) span total (λ h. omega arith) is
 
-interval_inj : (a b : Span) → wanted.Interval a ≡ wanted.Interval b → a ≡ b
+pub interval_inj : (a b : Span) → wanted.Interval a ≡ wanted.Interval b → a ≡ b
 interval_inj a b is = cc
 
 part_within : (o : Option Span) (span : Span) (total : ℕ) → ((z : Span) → o ≡ Some z → z.hi ≤ total) → wanted_part o ≡ wanted.Interval span → span.hi ≤ total

@@ -1,7 +1,6 @@
 -- Every owed entry keeps what open exchanges are still to bring absent, and one of them at most about each representation.
 use Rattle.std.proofs.Common.{◌≡◌, ℕ, List, [], ◌∷◌, ◌++◌, length, Bool, true, false, Option, Some, None, refl}
-use Rattle.std.specs.Prelude.{is_some, map, not, nat_lt, ◌==◌, if◌then◌else◌}
-use Rattle.hc_event.specs.declared.act.Refusal.TheVariants as refusal
+use Rattle.std.specs.Prelude.{is_some, map, nat_lt, ◌==◌, if◌then◌else◌}
 use Rattle.hc_effects.proofs.Vocabulary.{opening_in, Event, Response, Act, accepted_acts, loss_acts, closing, is_live, denial, as_open, gate, Entry, promised_bytes, Flaw, NoFlaw, Loses, Misreads, Tables, Exchange, Consumer, Sound, after_accepted, evicted, head_refusal, piece_refusal, poll_refusal, Limits}
 use Rattle.hc_event.specs.declared.event.Event.TheVariants as event
 use Rattle.hc_event.specs.declared.act.Act.TheVariants as act
@@ -12,6 +11,7 @@ use Rattle.hc_effects.proofs.PieceKeeps.{IsPiece, piece_waits, piece_one_about}
 use Rattle.hc_effects.proofs.HeadKeeps.{IsHead, head_waits, head_one_about}
 use Rattle.hc_effects.proofs.PollKeeps.{poll_waits, poll_one_about, closes_open_none, losses_open_none}
 use Rattle.hc_effects.proofs.Once.{taken, IsTaken, never}
+use Rattle.hc_effects.proofs.Named.{live_by}
 
 -- nothing is opened but by a poll
 evicts_open_none : (rs : List ℕ) (rest : List Act) → opening_in rest ≡ None → opening_in (map act.Evicted rs ++ rest) ≡ None
@@ -47,11 +47,6 @@ head_by true false asked n o h = (refl, refl)
 no_head : (o : Option Response) → is_some o ≡ false → o ≡ None
 no_head None h = refl
 no_head (Some response) h = absurd (let no : true ≡ false = h in cc)
-
-live_by : (late live zero : Bool) → (if late then Some refusal.NoConsumer else if not live then Some refusal.Finished else if zero then Some refusal.WantZero else None) ≡ None → live ≡ true
-live_by true live zero h = absurd (never _ h)
-live_by false true zero h = refl
-live_by false false zero h = absurd (never _ h)
 
 module _ (limits : Limits) (t : Tables) (now : ℕ) (flaw : Flaw) (s : Sound t) where
   pub told : (event : Event) → opening_in (map act.Evicted (evicted limits t now event) ++ (loss_acts flaw ++ map act.Close (closing t (record { now = now; event = event; acts = loss_acts flaw })))) ≡ None

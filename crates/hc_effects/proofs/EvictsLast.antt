@@ -57,7 +57,7 @@ there_first t e r room.Full h = absurd (false_true h)
 
 -- IT SHOWS NO FLAW
 
-flaw_same : (rs : List ℕ) (b : List Act) → flaw_in (map act.Evicted rs ++ b) ≡ flaw_in b
+pub flaw_same : (rs : List ℕ) (b : List Act) → flaw_in (map act.Evicted rs ++ b) ≡ flaw_in b
 flaw_same [] b = refl
 flaw_same (r ∷ rs) b = flaw_same rs b
 

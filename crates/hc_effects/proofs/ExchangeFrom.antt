@@ -33,7 +33,7 @@ pub data ExchangeFrom (t : Tables) (e : Entry) (x : ℕ) (u : Exchange) : Type 0
   was : (w : Exchange) → t.exchange x ≡ Some w → IsSame t e x w u → ExchangeFrom t e x u
   new : (o : Opening) → t.exchange x ≡ None → opening_in e.acts ≡ Some o → o.x ≡ x → exchange_opened t e o ≡ u → ExchangeFrom t e x u
 
-not_left : (a b : Bool) → (not a && b) ≡ true → a ≡ false
+pub not_left : (a b : Bool) → (not a && b) ≡ true → a ≡ false
 not_left true b h = absurd (false_true h)
 not_left false b h = refl
 

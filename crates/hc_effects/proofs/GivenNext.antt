@@ -64,7 +64,7 @@ module _ (f : Cells) (reach p n : ℕ) (run : Run) where
       some_longest (stretch_to f reach p n) is (stretch-longest f p (min n (reach - p)) positive)
 
 -- what is stored ends where what came does
-stored_ends : (v : Representation) → IsStored v → EndsBy v.reach v.stored
+pub stored_ends : (v : Representation) → IsStored v → EndsBy v.reach v.stored
 stored_ends v s p le = by_test (v.stored p) refl
   where
     by_test : (o : Option Cell) → v.stored p ≡ o → v.stored p ≡ None

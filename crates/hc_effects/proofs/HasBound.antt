@@ -31,6 +31,7 @@ use Rattle.hc_effects.proofs.FoundBy.{CaseBy, case_by}
 use Rattle.hc_effects.proofs.FoundBy as cases
 use Rattle.hc_rules.specs.declared.need.Route.TheVariants as route
 use Rattle.hc_effects.proofs.Waiters.{IsWaiter, waiter_of}
+use Rattle.hc_effects.proofs.WriterEnds.{all_same}
 
 -- LISTS OF READERS
 
@@ -57,11 +58,6 @@ other_among l (d ∷ ds) h = elim (eq_cases d l) [
   | inr off ↦ (d, inl refl, off.1)
   | inl here ↦ let all = other_among l ds (rw here.0 at h) in (all.0, inr all.1, all.2)
 ]
-
-all_same : (l d : ℕ) (ds : List ℕ) → list_all (λ z. z == l) ds ≡ true → Among d ds → d ≡ l
-all_same l d [] h there = absurd there
-all_same l d (z ∷ ds) h (inl same) = let test : nat_eq z l ≡ true = and_left (z == l) _ h in let here : z ≡ l = grind (arith, nat_tests) in sym same ∙ here
-all_same l d (z ∷ ds) h (inr more) = all_same l d ds (and_right (z == l) _ h) more
 
 -- A READER OF r
 

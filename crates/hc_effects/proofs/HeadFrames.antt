@@ -16,11 +16,7 @@ use Rattle.hc_effects.proofs.PieceServes.{quiet_acts, acted_quiet}
 use Rattle.hc_effects.proofs.SaidActs.{told_loss}
 use Rattle.hc_effects.proofs.SameTables.{same_tables, is_in, waits_for_any, back_from_any, without, all_go_is, shut, all_closed_is}
 use Rattle.hc_effects.proofs.Untouched.{IsSpared, own_stays, loss_spared, exchange_absent, representation_frame, representation_absent, consumer_apart, consumer_absent, IsApart, apart_from, goes_from}
-
--- what makes room
-evicts_are : (r : ℕ) (rs : List ℕ) (rest : List Act) → evicts_in r rest ≡ false → evicts_in r (map act.Evicted rs ++ rest) ≡ is_in rs r
-evicts_are r [] rest none = none
-evicts_are r (q ∷ rs) rest none = ap (λ b. (q == r) || b) (evicts_are r rs rest none)
+use Rattle.hc_effects.proofs.EvictedRows.{evicts_are}
 
 two_off : (a b : Bool) → (a || false || false || b) ≡ (a || b)
 two_off true b = refl

@@ -14,6 +14,7 @@ use Rattle.hc_effects.proofs.OfConsumers.{IsOf, BringsNothing, brings_nothing, l
 use Rattle.hc_effects.proofs.OfConsumers as event_of
 use Rattle.hc_effects.proofs.SameTables.{is_in, in_one, shut}
 use Rattle.hc_effects.proofs.Untouched.{own_stays, spared_bodiless, exchange_absent}
+use Rattle.hc_effects.proofs.OpeningPoll.{no_misread}
 
 -- WHAT IS SAID TO WHO LEAVES
 
@@ -68,12 +69,6 @@ leaver_is c _ _ _ flaw cancels = refl
 pub closes_are : (x : ℕ) (xs : List ℕ) → closes_in x (map act.Close xs) ≡ is_in xs x
 closes_are x [] = refl
 closes_are x (y ∷ ys) = ap (λ b. (y == x) || b) (closes_are x ys)
-
-no_misread : (r : ℕ) (xs : List ℕ) (flaw : Flaw) → misreads_in r (map act.Close xs ++ loss_acts flaw) ≡ false
-no_misread r [] NoFlaw = refl
-no_misread r [] (Loses q kind) = refl
-no_misread r [] (Misreads q) = refl
-no_misread r (x ∷ xs) flaw = no_misread r xs flaw
 
 -- nothing is said to anyone
 record IsSilent (c : ℕ) (acts : List Act) : Type 0 where

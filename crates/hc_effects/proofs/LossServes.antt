@@ -1,10 +1,9 @@
 -- At a piece that is lost, each bound consumer goes on alone, has all that it needs, or gets a failure.
-use Rattle.std.proofs.Common.{◌≡◌, ◌⊎◌, ℕ, List, Bool, true, false, cond, Option, Some, None, refl, ap, ◌∙◌, subst, arith}
+use Rattle.std.proofs.Common.{◌≡◌, ◌⊎◌, ℕ, List, Bool, true, false, cond, Option, Some, None, refl, ap, ◌∙◌, subst}
 use Rattle.std.specs.Prelude.{not, nat_eq, ◌&&◌, ◌||◌}
 use Rattle.std.specs.Option.{option_or}
-use Rattle.std.proofs.lemmas.Bool.Decides.{nat_tests}
 use Rattle.hc_text.proofs.Basics.{both_true as and_both, cond_true as cond_left, or_left, some_inj}
-use Rattle.hc_effects.proofs.Vocabulary.{Act, Cause, loses_in, is_number, Entry, front, family, representation_after, representation_acted, representation_after_piece, with_stored_bytes, Tables, Exchange, Representation, goes_on_with}
+use Rattle.hc_effects.proofs.Vocabulary.{Act, Cause, loses_in, Entry, front, family, representation_after, representation_acted, representation_after_piece, with_stored_bytes, Tables, Exchange, Representation, goes_on_with}
 use Rattle.hc_effects.proofs.PieceKeeps.{of_piece}
 
 -- WHAT THE LOSS LEAVES OF THE ROW
@@ -55,10 +54,6 @@ lost_row t now x r bytes acts v u row lost fresh is =
 or_none : (o p : Option Cause) → option_or o p ≡ None → (o ≡ None) × (p ≡ None)
 or_none None p h = (refl, h)
 or_none (Some a) p h = absurd (let never : Some a ≡ None = h in cc)
-
-number_is : (o : Option ℕ) (c : ℕ) → is_number o c ≡ true → o ≡ Some c
-number_is None c h = absurd (let never : false ≡ true = h in cc)
-number_is (Some d) c h = let same : d ≡ c = grind (arith, nat_tests) in ap Some same
 
 -- a member to which nothing becomes due at the loss of the writing is the survivor
 pub survives : (b n : Bool) (a : Cause) → b ≡ true → (cond (b && not n) (Some a) None) ≡ None → n ≡ true

@@ -11,6 +11,7 @@ use Rattle.hc_rules.specs.declared.admission.BoundKind.TheVariants as kind
 use Rattle.hc_event.specs.declared.place.Place.TheVariants as place
 use Rattle.hc_model.specs.Sound as sound
 use Rattle.hc_effects.proofs.HoleLemmas.{covers_all}
+use Rattle.hc_effects.proofs.ExclusiveWriters.{eq-refl, row_of}
 
 -- THE LEAST OF A LIST OF ONE NUMBER
 
@@ -98,14 +99,8 @@ first_of : (t : Tables) (r d : ℕ) (v : Representation) (o : Option Consumer) �
 first_of t r d v None row bound alone = absurd (let never : false ≡ true = bound in cc)
 first_of t r d v (Some k) row bound alone = first_by t r d v k k.place row refl bound (and3 (came_alone t k.place) (is_none k.due) (has_more t v k) alone)
 
-eq-refl : (r : ℕ) → Rattle.std.specs.Prelude.nat_eq r r ≡ true
-eq-refl r = grind (arith, nat_tests)
-
 is_bound_row : (t : Tables) (r c : ℕ) (k : Consumer) → IsBound t r c k → is_bound r (t.consumer c) ≡ true
 is_bound_row t r c k (sound.is_bound lo hi how row at) = ap (is_bound r) row ∙ (ap (is_bound_place r) at ∙ eq-refl r)
-
-row_of : (t : Tables) (r c : ℕ) (k : Consumer) → IsBound t r c k → t.consumer c ≡ Some k
-row_of t r c k (sound.is_bound lo hi how row at) = row
 
 -- who is exclusive is the exclusive writer
 pub exclusive_is : (t : Tables) (r c : ℕ) (v : Representation) (k : Consumer) → Sound t → IsBound t r c k → is_written t v ≡ false → may_write t v (Some k) ≡ true → exclusive t r v ≡ Some c

@@ -3,7 +3,7 @@ use Rattle.std.proofs.Common.{◌≡◌, inl, inr, ℕ, Bool, true, false, cond,
 use Rattle.std.specs.Prelude.{if◌then◌else◌, is_none, ◌&&◌, ◌==◌, not, nat_eq}
 use Rattle.std.proofs.lemmas.Bool.Decides.{nat_tests}
 use Rattle.hc_text.proofs.Basics.{and_left, and_right, bool_cases, not_some as none_some, never_true as not_so, or_cases, same_some as same_row}
-use Rattle.hc_effects.proofs.Vocabulary.{Opening, opening_in, leaves_in, Event, Response, Wait, Limits, Place, BoundBy, Showing, showing_in, wait_in, case_at, case_of, consumer_heard, consumer_acted, by_head, by_fault, by_opening, shown_place, waiting, waiting_place, due_after, back_in_line, denial, doomed_key_of, is_key, Entry, exchange_at, is_for, is_headless, Flaw, entry_of, Owners, is_written, bound_to, Tables, Exchange, Representation, Consumer, Sound, IsBound, starts_over, waits_at, sends_back, loses_what_it_waits_for, after_accepted}
+use Rattle.hc_effects.proofs.Vocabulary.{Opening, opening_in, leaves_in, Event, Response, Wait, Limits, Place, BoundBy, Showing, showing_in, wait_in, case_at, case_of, consumer_heard, consumer_acted, by_head, by_fault, by_opening, shown_place, waiting, waiting_place, due_after, back_in_line, denial, doomed_key_of, is_key, Entry, exchange_at, is_for, Flaw, entry_of, Owners, is_written, bound_to, Tables, Exchange, Representation, Consumer, Sound, IsBound, starts_over, waits_at, sends_back, loses_what_it_waits_for, after_accepted}
 use Rattle.hc_event.specs.declared.event.Event.TheVariants as event
 use Rattle.hc_event.specs.declared.act.Wait.TheVariants as wait
 use Rattle.hc_event.specs.declared.place.Place.TheVariants as place
@@ -17,14 +17,7 @@ use Rattle.hc_effects.proofs.Said.{waiting_by}
 use Rattle.hc_effects.proofs.WaitedAs.{IsForOthers, waited_as}
 use Rattle.hc_effects.proofs.WaitedAs as waited
 use Rattle.hc_effects.proofs.Waiters.{waiter_of, unwritten, fault_open_of}
-
-none_of : (q : Option Response) → is_none q ≡ true → q ≡ None
-none_of None g = refl
-none_of (Some response) g = absurd (false_true g)
-
-headless_parts : (z : Option Exchange) → is_headless z ≡ true → (w : Exchange) × (z ≡ Some w) × (w.is_open ≡ true) × (w.head ≡ None)
-headless_parts None h = absurd (false_true h)
-headless_parts (Some w) h = (w, refl, and_left _ _ h, none_of w.head (and_right w.is_open _ h))
+use Rattle.hc_effects.proofs.BoundStays.{headless_parts, none_of}
 
 module _ (limits : Limits) (t : Tables) (now : ℕ) (flaw : Flaw) (s : Sound t) (o : Owners t) (ev : Event) (goes : denial t ev ≡ None) where
   abbrev e : Entry

@@ -44,7 +44,7 @@ far_poll t now want c d NoFlaw rest other far = far_move c d (poll_move t now wa
 far_poll t now want c d (Loses r kind) rest other far = far_move c d (poll_move t now want d (t.consumer d)) rest other far
 far_poll t now want c d (Misreads r) rest other far = record { gives = far.gives; shows = far.shows }
 
-live_by : (late live zero : Bool) → (if late then Some refusal.NoConsumer else if not live then Some refusal.Finished else if zero then Some refusal.WantZero else None) ≡ None → live ≡ true
+pub live_by : (late live zero : Bool) → (if late then Some refusal.NoConsumer else if not live then Some refusal.Finished else if zero then Some refusal.WantZero else None) ≡ None → live ≡ true
 live_by true live zero h = absurd (never _ h)
 live_by false true zero h = refl
 live_by false false zero h = absurd (never _ h)

@@ -76,7 +76,7 @@ one_of (Some y) (x ∷ xs) once there = elim (eq_cases y x) [
     rest z is (inl here) apart = absurd (apart (some_inj y z is ∙ sym here))
     rest z is (inr more) apart = more
 
-all_below : (n m : ℕ) (xs : List ℕ) → Descends n xs → Among m xs → m < n
+pub all_below : (n m : ℕ) (xs : List ℕ) → Descends n xs → Among m xs → m < n
 all_below n m (x ∷ xs) falls (inl here) = let lt : x < n = falls.0 in omega (arith, here, lt)
 all_below n m (x ∷ xs) falls (inr there) = let lt : x < n = falls.0 in let more = all_below x m xs falls.1 there in omega (arith, lt, more)
 all_below n m [] falls there = absurd there
@@ -90,7 +90,7 @@ pub and_so : (a b : Bool) → (a ≡ true → b ≡ true) → (a && b) ≡ a
 and_so true b so = so refl
 and_so false b so = refl
 
-open_there : (o : Option Exchange) → is_open o ≡ true → is_some o ≡ true
+pub open_there : (o : Option Exchange) → is_open o ≡ true → is_some o ≡ true
 open_there None on = on
 open_there (Some w) on = refl
 

@@ -5,7 +5,6 @@ use Rattle.hc_text.proofs.Basics.{eqb-same, plus_none, some_inj}
 use Rattle.hc_effects.proofs.Vocabulary.{Opening, opening_in, Need, Request, route_of, Limits, Place, consumer_acted, opened_place, unless_bound, current, bypassed_for, Does, with_event, with_consumer, with_opening, just_opened, let_all_go, Entry, exchange_after, exchange_made, aim_from, aim_of, NoFlaw, becomes_gone, Lawful, Opens, acts_of, move_of, bound_to, reads, Tables, Exchange, Representation, Consumer, to_front, binds, is_hole}
 use Rattle.hc_event.specs.declared.event.Event.TheVariants as event
 use Rattle.hc_event.specs.declared.place.Place.TheVariants as place
-use Rattle.hc_effects.proofs.Basics.{some_none}
 use Rattle.hc_effects.proofs.OfConsumers.{BringsNothing, brings_nothing, row_unsaid, binds_as}
 use Rattle.hc_effects.proofs.OfConsumers as event_of
 use Rattle.hc_effects.proofs.OpenedAs.{OpenedAs, opened_as}
@@ -17,16 +16,7 @@ use Rattle.hc_effects.proofs.Said.{IsOpening}
 use Rattle.hc_effects.proofs.Said as said
 use Rattle.hc_effects.proofs.SameTables.{is_in, waits_for_any}
 use Rattle.hc_effects.proofs.Untouched.{own_stays, spared_bodiless, exchange_absent}
-
--- who is bound to nothing asks about what is current
-pub aim_free : (t : Tables) (key : List ℕ) (p : Place) → bound_to p ≡ None → aim_from t key p ≡ current t key
-aim_free t key (place.Bound r lo hi how) free = absurd (some_none r free)
-aim_free t key place.Line free = refl
-aim_free t key (place.Passed r kept) free = refl
-aim_free t key (place.Turn x) free = refl
-aim_free t key (place.Direct x) free = refl
-aim_free t key (place.Down why) free = refl
-aim_free t key place.Over free = refl
+use Rattle.hc_effects.proofs.WaitingNew.{aim_free}
 
 module _ (limits : Limits) (t : Tables) (law : Lawful t) (now c want : ℕ) (k : Consumer) (row : t.consumer c ≡ Some k) (x : ℕ) (n : Need) (request : Request) (is : move_of t now want c k ≡ Opens x n request) where
   -- the entry of the poll

@@ -24,7 +24,7 @@ use Rattle.hc_effects.proofs.Said.{IsOpening}
 use Rattle.hc_effects.proofs.Said as said
 use Rattle.hc_effects.proofs.ShownFrom.{candidate_is}
 
-bypassing_is : (request : Request) → (class_of request).bypassing ≡ is_bypassing request
+pub bypassing_is : (request : Request) → (class_of request).bypassing ≡ is_bypassing request
 unfolding class_of
 bypassing_is request = refl
 

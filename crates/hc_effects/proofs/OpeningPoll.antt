@@ -1,6 +1,6 @@
 -- A poll that opens an exchange closes, loses and evicts nothing, and nobody leaves by it.
 use Rattle.std.proofs.Common.{◌≡◌, inl, inr, ℕ, List, [], ◌∷◌, ◌++◌, Bool, true, false, cond, Option, Some, None, refl, ap, sym, ◌∙◌, subst}
-use Rattle.std.specs.Prelude.{map, nat_eq, ◌&&◌, ◌||◌}
+use Rattle.std.specs.Prelude.{map, ◌&&◌, ◌||◌}
 use Rattle.std.specs.Option.{option_or}
 use Rattle.hc_text.proofs.Basics.{and_left, and_right, not_some as none_some, never_true as not_so, or_cases}
 use Rattle.hc_effects.proofs.Vocabulary.{Opening, opening_in, leaves_in, closes_in, evicts_in, is_denied, Event, Act, LostKind, Limits, showing_in, loses_in, misreads_in, leaver_in, without_losses, poll_acts, loss_acts, case_at, case_of, closing, must_close, is_refused, is_doomed, brings_head, has_no_survivor, is_left, leaver, is_number, doomed_key_of, is_key, Entry, family, Flaw, NoFlaw, Loses, Misreads, flaw_in, entry_of, Opens, acts_of, poll_move, Tables, Exchange, Representation, may_stand, may_be, Sound, loses_writing, written_representation, seals_at, first_found, lossless, sealed_by}
@@ -11,20 +11,16 @@ use Rattle.hc_effects.proofs.Closed.{before}
 use Rattle.hc_effects.proofs.PollKeeps.{closes_open_none}
 use Rattle.hc_effects.proofs.SaidActs.{closes_leave}
 use Rattle.hc_effects.proofs.Unclosed.{had_to, had_row}
+use Rattle.hc_effects.proofs.KeyActs.{closes_lossless}
+use Rattle.hc_effects.proofs.ActParts.{evicts_closed, leaver_lost}
 
 -- ACTS BEHIND AN OPENING
 
-no_misread : (r : ℕ) (xs : List ℕ) (f : Flaw) → misreads_in r (map act.Close xs ++ loss_acts f) ≡ false
+pub no_misread : (r : ℕ) (xs : List ℕ) (f : Flaw) → misreads_in r (map act.Close xs ++ loss_acts f) ≡ false
 no_misread r [] NoFlaw = refl
 no_misread r [] (Loses q kind) = refl
 no_misread r [] (Misreads q) = refl
 no_misread r (x ∷ xs) f = no_misread r xs f
-
-no_eviction : (r : ℕ) (xs : List ℕ) (f : Flaw) → evicts_in r (map act.Close xs ++ loss_acts f) ≡ false
-no_eviction r [] NoFlaw = refl
-no_eviction r [] (Loses q kind) = refl
-no_eviction r [] (Misreads q) = refl
-no_eviction r (x ∷ xs) f = no_eviction r xs f
 
 no_showing : (xs : List ℕ) (f : Flaw) → showing_in (map act.Close xs ++ loss_acts f) ≡ None
 no_showing [] NoFlaw = refl
@@ -39,25 +35,6 @@ losses_of r (x ∷ xs) f = losses_of r xs f
 flaw_of : (q : ℕ) (kind : LostKind) (xs : List ℕ) → flaw_in (map act.Close xs ++ loss_acts (Loses q kind)) ≡ Loses q kind
 flaw_of q kind [] = refl
 flaw_of q kind (x ∷ xs) = flaw_of q kind xs
-
-no_leaver : (f : Flaw) → leaver_in (loss_acts f) ≡ None
-no_leaver NoFlaw = refl
-no_leaver (Loses q kind) = refl
-no_leaver (Misreads q) = refl
-
-closes_kept : (x : ℕ) (acts : List Act) → closes_in x (without_losses acts) ≡ closes_in x acts
-closes_kept x [] = refl
-closes_kept x (act.Close y ∷ acts) = ap (λ b. nat_eq y x || b) (closes_kept x acts)
-closes_kept x (act.Lost r kind ∷ acts) = closes_kept x acts
-closes_kept x (act.Opened y c need request ∷ acts) = closes_kept x acts
-closes_kept x (act.Ask y ∷ acts) = closes_kept x acts
-closes_kept x (act.Shown c r why status fields lo hi ∷ acts) = closes_kept x acts
-closes_kept x (act.Given c y at bytes ∷ acts) = closes_kept x acts
-closes_kept x (act.Ended c ∷ acts) = closes_kept x acts
-closes_kept x (act.Failed c cause ∷ acts) = closes_kept x acts
-closes_kept x (act.Pending c wait ∷ acts) = closes_kept x acts
-closes_kept x (act.Evicted r ∷ acts) = closes_kept x acts
-closes_kept x (act.Denied refusal ∷ acts) = closes_kept x acts
 
 module _ (limits : Limits) (t : Tables) (now : ℕ) (flaw : Flaw) (s : Sound t) (c want : ℕ) where
   abbrev ev : Event
@@ -100,7 +77,7 @@ module _ (limits : Limits) (t : Tables) (now : ℕ) (flaw : Flaw) (s : Sound t) 
     misreads_none r = ap (misreads_in r) acts_are ∙ no_misread r xs flaw
 
     pub evicts_none : (r : ℕ) → evicts_in r e.acts ≡ false
-    evicts_none r = ap (evicts_in r) acts_are ∙ no_eviction r xs flaw
+    evicts_none r = ap (evicts_in r) acts_are ∙ evicts_closed r xs flaw
 
     pub shows_none : showing_in e.acts ≡ None
     shows_none = ap showing_in acts_are ∙ no_showing xs flaw
@@ -129,7 +106,7 @@ module _ (limits : Limits) (t : Tables) (now : ℕ) (flaw : Flaw) (s : Sound t) 
 
     must_not : (x : ℕ) (w : Exchange) → must_close t b x w ≡ true → ⊥
     must_not x w must = elim (or_cases _ (is_left t x (leaver b)) must) [
-      | inr left ↦ false_true (sym (ap (is_left t x) (ap leaver_in before_are ∙ no_leaver flaw)) ∙ left)
+      | inr left ↦ false_true (sym (ap (is_left t x) (ap leaver_in before_are ∙ leaver_lost flaw)) ∙ left)
       | inl more ↦ elim (or_cases _ (has_no_survivor t b x (family x w) (t.representation (family x w))) more) [
         | inr none ↦ lost_none x (family x w) (t.representation (family x w)) none
         | inl less ↦ elim (or_cases (is_refused (case_at t b) && brings_head x ev) (is_doomed t b x w) less) [
@@ -150,7 +127,7 @@ module _ (limits : Limits) (t : Tables) (now : ℕ) (flaw : Flaw) (s : Sound t) 
 
     seals_none : (x : ℕ) → seals_at t (lossless e) x ≡ None
     seals_none x =
-        let shut : closes_in x (without_losses e.acts) ≡ false = closes_kept x e.acts ∙ closes_none x in
+        let shut : closes_in x (without_losses e.acts) ≡ false = closes_lossless x e.acts ∙ closes_none x in
         ap (λ (a : Bool). cond a (sealed_by t (lossless e) x (t.exchange x)) None) shut
 
     found_none : (ys : List ℕ) → first_found (seals_at t (lossless e)) ys ≡ None

@@ -32,7 +32,7 @@ use Rattle.hc_effects.proofs.Waiters.{waiter_of}
 
 -- A CASE THAT FOUNDS
 
-bound_direct : (r lo : ℕ) (hi : Option ℕ) (how : BoundBy) (y : ℕ) → place.Bound r lo hi how ≡ place.Direct y → ⊥
+pub bound_direct : (r lo : ℕ) (hi : Option ℕ) (how : BoundBy) (y : ℕ) → place.Bound r lo hi how ≡ place.Direct y → ⊥
 bound_direct r lo hi how y is = cc
 
 -- a part that founds is one of an interval that is wanted

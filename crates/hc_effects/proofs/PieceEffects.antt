@@ -3,7 +3,7 @@ use Rattle.std.proofs.Common.{◌≡◌, inl, inr, ℕ, List, [], ◌∷◌, ◌
 use Rattle.std.specs.Prelude.{◌&&◌, ◌||◌, ◌==◌, not, nat_eq, if◌then◌else◌, map, option_map}
 use Rattle.hc_text.proofs.Basics.{eqb-same, not_some as none_some, same_some as same_row, and_off as then_false}
 use Rattle.hc_event.specs.declared.act.Act.TheVariants as act
-use Rattle.hc_effects.proofs.Vocabulary.{LostKind, Event, Limits, Place, loses_in, leaver_in, loss_acts, closing, is_current, denial, Does, with_event, with_exchange, with_representation, let_go, let_all_go, as_gone, over, lost_to, Entry, entry_without_acts, exchange_after, with_piece, family, front, Flaw, NoFlaw, Loses, Misreads, beside, becomes_gone, ends_early, ends_founding, is_keepable, Lawful, is_written, representation_after, representation_heard, representation_after_piece, with_stored_bytes, Tables, Exchange, Representation, Consumer, after_accepted, evicted, write_in, exclusive, goes_on_with}
+use Rattle.hc_effects.proofs.Vocabulary.{LostKind, Event, Limits, Place, loses_in, loss_acts, closing, is_current, denial, Does, with_event, with_exchange, with_representation, let_go, let_all_go, as_gone, over, lost_to, Entry, entry_without_acts, exchange_after, with_piece, family, front, Flaw, NoFlaw, Loses, beside, becomes_gone, ends_early, ends_founding, is_keepable, Lawful, is_written, representation_after, representation_heard, representation_after_piece, with_stored_bytes, Tables, Exchange, Representation, Consumer, after_accepted, evicted, write_in, exclusive, goes_on_with}
 use Rattle.hc_event.specs.declared.event.Event.TheVariants as event
 use Rattle.hc_effects.proofs.Basics.{false_true, append_none}
 use Rattle.hc_effects.proofs.Dues.{undue_of, stop_none}
@@ -13,11 +13,7 @@ use Rattle.hc_effects.proofs.PieceKeeps.{eq_cases}
 use Rattle.hc_effects.proofs.SameTables.{is_in, back_from_any}
 use Rattle.hc_effects.proofs.ToldFrames.{pieces, says_little, e, exchange_one, goes_as, loses_as, closes_as, representation_by, representation_none, lost_by, beside_same, consumer_by, told_by, told_does, told_plainly}
 use Rattle.hc_effects.proofs.Untouched.{IsSpared, loss_spared}
-
-pub leaver_none : (flaw : Flaw) → leaver_in (loss_acts flaw) ≡ None
-leaver_none NoFlaw = refl
-leaver_none (Loses r kind) = refl
-leaver_none (Misreads r) = refl
+use Rattle.hc_effects.proofs.ActParts.{leaver_lost}
 
 module _ (limits : Limits) (t : Tables) (law : Lawful t) (now x : ℕ) (bytes : List ℕ) (w : Exchange) (row : t.exchange x ≡ Some w) where
   abbrev ev : Event
@@ -80,7 +76,7 @@ module _ (limits : Limits) (t : Tables) (law : Lawful t) (now x : ℕ) (bytes : 
     }
 
     closes_none : closing t (record { now = now; event = ev; acts = loss_acts flaw }) ≡ []
-    closes_none = closes_nothing t (record { now = now; event = ev; acts = loss_acts flaw }) little (leaver_none flaw)
+    closes_none = closes_nothing t (record { now = now; event = ev; acts = loss_acts flaw }) little (leaver_lost flaw)
 
     spared : (p : Place) → IsSpared t (it flaw []) p
     spared p r lo hi how v at there = ap (λ b. b && is_written t v) (loses_as t now ev (pieces x bytes) flaw [] r) ∙ unlost r v there

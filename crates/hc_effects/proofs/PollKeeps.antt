@@ -1,7 +1,6 @@
 -- A poll opens a hole only where it is absent and no other exchange is about it.
 use Rattle.std.proofs.Common.{◌≡◌, inl, inr, ℕ, ◌+◌, ◌<◌, ◌≤◌, List, [], ◌∷◌, ◌++◌, Bool, true, false, cond, Option, Some, None, refl, ap, sym, ◌∙◌, subst, arith}
 use Rattle.std.specs.Prelude.{find, map, ◌&&◌}
-use Rattle.std.proofs.lemmas.Bool.Decides.{nat_tests}
 use Rattle.hc_text.proofs.Basics.{and_right, both_true as and_true, bool_cases, not_true, same_some as same_row, some_inj}
 use Rattle.hc_sparse.specs.Cells.{Cells, Cell}
 use Rattle.hc_sparse.specs.Stretch.{stretch, stretch_of}
@@ -17,6 +16,7 @@ use Rattle.hc_effects.proofs.QuietKeeps.{OpensWell, waits_kept, one_about_kept}
 use Rattle.hc_effects.proofs.HolesOpened.{first_absent, later_absent}
 use Rattle.hc_effects.proofs.PollTree.{OpensHole, FineMove, fine_polled}
 use Rattle.hc_effects.proofs.PollTree as tree
+use Rattle.hc_effects.proofs.Basics.{number_yes as is_same}
 
 -- WHAT IS CURRENT
 
@@ -59,10 +59,6 @@ opened_by c (Fails cause) rest o none is = absurd (let never : None ≡ Some o =
 cond_none : {A : Type 0} (b : Bool) (o : Option A) → b ≡ true → cond b o None ≡ None → o ≡ None
 cond_none true o b h = h
 cond_none false o b h = absurd (let never : false ≡ true = b in cc)
-
-is_same : (o : Option ℕ) (c : ℕ) → o ≡ Some c → is_number o c ≡ true
-is_same None c is = absurd (let never : None ≡ Some c = is in cc)
-is_same (Some d) c is = let same : d ≡ c = some_inj d c is in grind (arith, nat_tests)
 
 no_cell : (f : Cells) (p n : ℕ) (o : Option Cell) → f p ≡ o → stretch f p n ≡ None → f p ≡ None
 unfolding stretch

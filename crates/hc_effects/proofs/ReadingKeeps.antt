@@ -26,12 +26,9 @@ use Rattle.hc_effects.proofs.SaidActs.{leaves_leaver}
 use Rattle.hc_effects.proofs.WaitedAs.{IsForOthers, waited_as}
 use Rattle.hc_effects.proofs.WaitedAs as waited
 use Rattle.hc_effects.proofs.Waiters.{waiter_of, fault_open_of}
+use Rattle.hc_effects.proofs.BoundStays.{none_of}
 
-none_of : (q : Option Response) → is_none q ≡ true → q ≡ None
-none_of None g = refl
-none_of (Some response) g = absurd (false_true g)
-
-some_of : (q : Option Response) → is_some q ≡ true → (response : Response) × (q ≡ Some response)
+pub some_of : (q : Option Response) → is_some q ≡ true → (response : Response) × (q ≡ Some response)
 some_of None g = absurd (false_true g)
 some_of (Some response) g = (response, refl)
 

@@ -26,15 +26,15 @@ loss_append (act.Pending c wait ∷ xs) ys = loss_append xs ys
 loss_append (act.Evicted r ∷ xs) ys = loss_append xs ys
 loss_append (act.Denied refusal ∷ xs) ys = loss_append xs ys
 
-closes_lose : (xs : List ℕ) (rest : List Act) → has_loss (map act.Close xs ++ rest) ≡ has_loss rest
+pub closes_lose : (xs : List ℕ) (rest : List Act) → has_loss (map act.Close xs ++ rest) ≡ has_loss rest
 closes_lose [] rest = refl
 closes_lose (x ∷ xs) rest = closes_lose xs rest
 
-all_lose : (xs : List ℕ) → has_loss (map act.Close xs) ≡ false
+pub all_lose : (xs : List ℕ) → has_loss (map act.Close xs) ≡ false
 all_lose [] = refl
 all_lose (x ∷ xs) = all_lose xs
 
-evicted_lose : (rs : List ℕ) (rest : List Act) → has_loss (map act.Evicted rs ++ rest) ≡ has_loss rest
+pub evicted_lose : (rs : List ℕ) (rest : List Act) → has_loss (map act.Evicted rs ++ rest) ≡ has_loss rest
 evicted_lose [] rest = refl
 evicted_lose (r ∷ rs) rest = evicted_lose rs rest
 

@@ -20,7 +20,7 @@ use Rattle.hc_effects.proofs.Frames.{undoomed}
 use Rattle.hc_effects.proofs.OfConsumers.{one_of, descends_once}
 use Rattle.hc_effects.proofs.Once.{IsTaken, taken}
 use Rattle.hc_effects.proofs.ExclusiveWriters.{writer_some}
-use Rattle.hc_effects.proofs.PieceEffects.{it, leaver_none, piece_goes, piece_brings, rows_by, lost_row}
+use Rattle.hc_effects.proofs.PieceEffects.{it, piece_goes, piece_brings, rows_by, lost_row}
 use Rattle.hc_effects.proofs.PieceKeeps.{eq_cases}
 use Rattle.hc_effects.proofs.SameTables.{is_in, back_from_any, all_closed_is}
 use Rattle.hc_effects.proofs.Stops.{writer_about}
@@ -28,6 +28,7 @@ use Rattle.hc_effects.proofs.Sums.{reverse_once}
 use Rattle.hc_effects.proofs.Tests.{and_false}
 use Rattle.hc_effects.proofs.ToldFrames.{pieces, says_little, beside_same, consumer_by, told_by, told_does}
 use Rattle.hc_effects.proofs.Untouched.{IsSpared, loss_spared}
+use Rattle.hc_effects.proofs.ActParts.{leaver_lost}
 
 module _ (limits : Limits) (t : Tables) (law : Lawful t) (now x : ℕ) (bytes : List ℕ) (w : Exchange) (row : t.exchange x ≡ Some w) (accepts : denial t (event.Piece x bytes) ≡ None) (r : ℕ) (v : Representation) (of_r : family x w ≡ r) (there : t.representation r ≡ Some v) (kind : LostKind) (on : is_written t v ≡ true) where
   abbrev ev : Rattle.hc_event.specs.declared.event.Event.Event
@@ -199,7 +200,7 @@ module _ (limits : Limits) (t : Tables) (law : Lawful t) (now x : ℕ) (bytes : 
         (with_event now ev (let_all_go now (evicted limits t now ev) (let_go now r (with_representation r (Some (lost_to (Some d) (with_stored_bytes false (front w) x bytes v))) (writing_lost r (Some d) (Some x) (with_exchange x (Some (with_piece bytes w)) t))))))
     goes_on =
         subst (λ (o : Option ℕ). Does limits t now ev flaw (map act.Evicted (evicted limits t now ev) ++ (act.Lost r kind ∷ [])) (with_event now ev (let_all_go now (evicted limits t now ev) (let_go now r (after_by o (with_exchange x (Some (with_piece bytes w)) t)))))) survives
-        (loses_shared [] (closes_nothing t (record { now = now; event = ev; acts = loss_acts flaw }) little (leaver_none flaw)) (λ q shut. absurd (false_true shut)))
+        (loses_shared [] (closes_nothing t (record { now = now; event = ev; acts = loss_acts flaw }) little (leaver_lost flaw)) (λ q shut. absurd (false_true shut)))
 
   -- NOBODY CAN
 

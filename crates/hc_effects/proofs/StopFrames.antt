@@ -14,7 +14,6 @@ use Rattle.hc_effects.proofs.Basics.{some_none, false_true, number_is}
 use Rattle.hc_effects.proofs.FewClosings.{closes_nothing, quiet_closes}
 use Rattle.hc_effects.proofs.Frames.{undoomed, may_doom}
 use Rattle.hc_effects.proofs.KeyActs.{test_some}
-use Rattle.hc_effects.proofs.PieceEffects.{leaver_none}
 use Rattle.hc_effects.proofs.PieceKeeps.{eq_cases}
 use Rattle.hc_effects.proofs.SameTables.{is_in, back_from_any}
 use Rattle.hc_effects.proofs.Stops.{source_is}
@@ -22,6 +21,7 @@ use Rattle.hc_effects.proofs.Tests.{and_false}
 use Rattle.hc_effects.proofs.ToldFrames.{IsTold, says_little, exchange_one, goes_as, closes_as, representation_by, representation_none, beside_same, consumer_by, told_by, told_plainly}
 use Rattle.hc_effects.proofs.ToldFrames as told
 use Rattle.hc_effects.proofs.Untouched.{IsSpared, own_stays, loss_spared, spared_bodiless}
+use Rattle.hc_effects.proofs.ActParts.{leaver_lost}
 
 -- WHAT STOPS
 
@@ -225,10 +225,10 @@ module _ (limits : Limits) (t : Tables) (law : Lawful t) (now x : ℕ) (w : Exch
   leaves_none = by_event s.is_told
     where
       by_event : {z : Event} → IsTold z → leaver_by z (loss_acts flaw) ≡ None
-      by_event (told.pieces y bytes) = leaver_none flaw
-      by_event (told.ends y) = leaver_none flaw
-      by_event (told.faults y) = leaver_none flaw
-      by_event (told.dooms key) = leaver_none flaw
+      by_event (told.pieces y bytes) = leaver_lost flaw
+      by_event (told.ends y) = leaver_lost flaw
+      by_event (told.faults y) = leaver_lost flaw
+      by_event (told.dooms key) = leaver_lost flaw
 
   closes_none : closing t b ≡ []
   closes_none = closes_nothing t b (quiet_closes t b ((says_little t now ev s.is_told).caseless (loss_acts flaw)) (doomless (loss_acts flaw)) s.bodiless) leaves_none

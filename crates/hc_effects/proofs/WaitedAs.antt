@@ -3,7 +3,7 @@ use Rattle.std.proofs.Common.{◌≡◌, inl, inr, ℕ, Bool, true, false, cond,
 use Rattle.hc_text.proofs.Basics.{bool_cases, some_inj}
 use Rattle.hc_range.specs.declared.range.Span.{Span}
 use Rattle.hc_sparse.specs.declared.run.Run.{Run}
-use Rattle.hc_effects.proofs.Vocabulary.{Request, Response, Wait, Why, Plan, ReadStep, plan_of, read_step, class_of, is_bypassing, Place, BoundBy, current, Move, Nothing, Fails, gives, waits_for, opens_hole, shows_stored, plan_view, plan_move, origin_request, binds_current, current_row, shows_at, shows_bound, shows_direct, shows_answer, has_joined, move_of, bound_to, Tables, Exchange, Representation, Consumer, Sound, read_view, step_move, later_hole, bound_row}
+use Rattle.hc_effects.proofs.Vocabulary.{Request, Response, Wait, Why, Plan, ReadStep, plan_of, read_step, is_bypassing, Place, BoundBy, current, Move, Nothing, Fails, gives, waits_for, opens_hole, shows_stored, plan_view, plan_move, origin_request, binds_current, current_row, shows_at, shows_bound, shows_direct, shows_answer, has_joined, move_of, bound_to, Tables, Exchange, Representation, Consumer, Sound, read_view, step_move, later_hole, bound_row}
 use Rattle.hc_event.specs.declared.act.Cause.TheVariants as cause
 use Rattle.hc_event.specs.declared.act.Wait.TheVariants as wait
 use Rattle.hc_rules.specs.declared.plan.Plan.TheVariants as plan
@@ -17,15 +17,12 @@ use Rattle.hc_effects.proofs.PlanBy.{PlanBy, plan_by}
 use Rattle.hc_effects.proofs.PlanBy as plans
 use Rattle.hc_effects.proofs.Said.{WaitsAs}
 use Rattle.hc_effects.proofs.Said as said
+use Rattle.hc_effects.proofs.OpenedAs.{bypassing_is}
 
 -- the waits that aren't for an exchange
 pub data IsForOthers : Wait → Type 0 where
   turn : (d : ℕ) → IsForOthers (wait.Turn d)
   busy : (d : ℕ) → IsForOthers (wait.Busy d)
-
-bypassing_is : (request : Request) → (class_of request).bypassing ≡ is_bypassing request
-unfolding class_of
-bypassing_is request = refl
 
 module _ (t : Tables) (now c : ℕ) (k : Consumer) where
   -- its plan is to wait behind d

@@ -1,6 +1,6 @@
 -- Whoever waits for the head of its own exchange goes on waiting as long as that is open.
 use Rattle.std.proofs.Common.{◌≡◌, inl, inr, ℕ, List, length, Bool, true, false, cond, Option, Some, None, refl, ap, sym, ◌∙◌, subst, arith}
-use Rattle.std.specs.Prelude.{if◌then◌else◌, is_some, is_none, ◌&&◌, ◌==◌, nat_eq}
+use Rattle.std.specs.Prelude.{if◌then◌else◌, is_some, ◌&&◌, ◌==◌, nat_eq}
 use Rattle.std.proofs.lemmas.Bool.Decides.{nat_tests}
 use Rattle.hc_text.proofs.Basics.{both_true as and_both, and_left, and_right, bool_cases, not_some as none_some, never_true as not_so, or_cases, or_left, or_right, same_some as same_row, some_inj}
 use Rattle.hc_effects.proofs.Vocabulary.{Opening, opening_in, leaves_in, closes_in, Event, Response, Wait, Limits, route_of, piece_refusal, Place, BoundBy, Showing, showing_in, wait_in, case_at, case_of, must_close, is_doomed, awaits, is_left, is_left_by, leaver, leaver_by, consumer_heard, consumer_acted, by_opening, shown_place, waiting, waiting_place, due_after, back_in_line, denial, as_open, doomed_key_of, is_key, Entry, exchange_heard, exchange_opened, exchange_in, exchange_at, is_for, is_headless, Flaw, entry_of, Owners, IsAwaiting, Awaits, poll_move, move_of, own_open, reads, Tables, Exchange, Consumer, Sound, starts_over, waits_at, awaited_exchange, sends_back, loses_what_it_waits_for, after_accepted, Opens, may_stand}
@@ -25,14 +25,7 @@ use Rattle.hc_effects.proofs.WaitedAs as waited
 use Rattle.hc_effects.proofs.WaitingNew.{awaits as new_awaits}
 use Rattle.hc_effects.proofs.OpenedAs.{opened_as, opening_is}
 use Rattle.hc_effects.proofs.Waiters.{IsWaiter, waiter_of, heard_same, own_acted, own_open_is, not_heard, head_is_own, opening_stays, doomed_same, headless_is}
-
-headless_parts : (z : Option Exchange) → is_headless z ≡ true → (w : Exchange) × (z ≡ Some w) × (w.is_open ≡ true) × (w.head ≡ None)
-headless_parts None h = absurd (false_true h)
-headless_parts (Some w) h = (w, refl, and_left _ _ h, none_of w.head (and_right w.is_open _ h))
-  where
-    none_of : (q : Option Response) → is_none q ≡ true → q ≡ None
-    none_of None g = refl
-    none_of (Some response) g = absurd (false_true g)
+use Rattle.hc_effects.proofs.BoundStays.{headless_parts}
 
 module _ (limits : Limits) (t : Tables) (now : ℕ) (flaw : Flaw) (s : Sound t) (o : Owners t) (ev : Event) (goes : denial t ev ≡ None) where
   abbrev e : Entry

@@ -30,7 +30,7 @@ bypassed_not (need.Hole from to) key off = refl
 bypassed_not need.Unsatisfied key off = refl
 
 -- who is bound to nothing asks about what is current
-aim_free : (t : Tables) (key : List ℕ) (p : Place) → bound_to p ≡ None → aim_from t key p ≡ current t key
+pub aim_free : (t : Tables) (key : List ℕ) (p : Place) → bound_to p ≡ None → aim_from t key p ≡ current t key
 aim_free t key place.Line free = refl
 aim_free t key (place.Passed r kept) free = refl
 aim_free t key (place.Turn x) free = refl

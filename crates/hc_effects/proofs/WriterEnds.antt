@@ -24,11 +24,11 @@ use Rattle.hc_effects.proofs.ToBeShown.{heard_place}
 use Rattle.hc_effects.proofs.Unclosed.{had_to}
 use Rattle.hc_effects.proofs.WritingStops.{IsAll, refused_not, ends_all}
 
-none_of : (q : Option Response) → is_none q ≡ true → is_some q ≡ true → ⊥
+pub none_of : (q : Option Response) → is_none q ≡ true → is_some q ≡ true → ⊥
 none_of None none some = false_true some
 none_of (Some response) none some = false_true none
 
-all_same : (l d : ℕ) (ds : List ℕ) → list_all (λ z. z == l) ds ≡ true → Among d ds → d ≡ l
+pub all_same : (l d : ℕ) (ds : List ℕ) → list_all (λ z. z == l) ds ≡ true → Among d ds → d ≡ l
 all_same l d [] h there = absurd there
 all_same l d (z ∷ ds) h (inl same) = let test : nat_eq z l ≡ true = and_left (z == l) _ h in let here : z ≡ l = grind (arith, nat_tests) in sym same ∙ here
 all_same l d (z ∷ ds) h (inr more) = all_same l d ds (and_right (z == l) _ h) more

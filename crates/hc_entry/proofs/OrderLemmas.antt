@@ -8,6 +8,7 @@ use Rattle.hc_sorted.proofs.SortedLemmas.{is_sorted-above, has-above, has-with, 
 use Rattle.hc_entry.specs.Users.{itself}
 use Rattle.hc_entry.specs.Lines.{Line, is_among, is_in, is_empty, union_of, all_back, passed_back, apart, line_with, line_after_pass, gone_away, come_back, held_by, turn_of, stands, IsOrderly}
 use Rattle.hc_entry.proofs.LineLemmas.{stands-left, stands-with, stands-held}
+use Rattle.hc_entry.proofs.SeatLemmas.{first_in}
 
 neither : (a b : Bool) → a || b ≡ false → (a ≡ false) × (b ≡ false)
 neither true b out = absurd (cc)
@@ -137,9 +138,6 @@ among-merged c (d ∷ ds) cs = elim (cases_Bool (eqb d c)) [
   | inr off ↦ rw (with-in d c (union_of ds cs), off) (among-merged c ds cs)
 ]
 
-first-in : (d : ℕ) (ds : List ℕ) → is_among d (d ∷ ds) ≡ true
-first-in d ds = rw (eq-eqb d d refl) refl
-
 among-rest : (c d : ℕ) (ds : List ℕ) → is_among c ds ≡ true → is_among c (d ∷ ds) ≡ true
 among-rest c d ds is = elim (cases_Bool (eqb d c)) [
   | inl on ↦ rw on refl
@@ -152,7 +150,7 @@ is_sorted-merged [] cs up rise apart = rise
 is_sorted-merged (d ∷ ds) cs up rise apart =
     let tail = is_sorted-merged ds cs (is_sorted-above itself d ds up) rise (λ c is. apart c (among-rest c d ds is)) in
     let out = has-above itself d d ds (omega arith) up in
-    is_sorted-with itself d (union_of ds cs) tail (among-merged d ds cs ∙ or-false (is_among d ds) (is_among d cs) out (apart d (first-in d ds)))
+    is_sorted-with itself d (union_of ds cs) tail (among-merged d ds cs ∙ or-false (is_among d ds) (is_among d cs) out (apart d (first_in d ds)))
 
 pub is_sorted-passed : (l : Line) → IsOrderly l → is_sorted itself (passed_back l).in_line ≡ true
 is_sorted-passed l o = is_sorted-merged l.passed l.in_line o.passed o.in_line (λ c is. flip (is_among c l.in_line) (is_among c l.passed) (o.in_line_or_passed c) is)
@@ -211,7 +209,7 @@ orderly-passed-back l o = record {
 -- a list without members
 pub no-members : (cs : List ℕ) → ((c : ℕ) → is_among c cs ≡ false) → cs ≡ []
 no-members [] out = refl
-no-members (c ∷ cs) out = let h = out c in let k = first-in c cs in absurd (cc)
+no-members (c ∷ cs) out = let h = out c in let k = first_in c cs in absurd (cc)
 
 pub length-with : (c : ℕ) (cs : List ℕ) → length (with_item itself c cs) ≡ suc (length cs)
 length-with c [] = refl

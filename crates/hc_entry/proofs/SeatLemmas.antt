@@ -26,7 +26,7 @@ member_is n y ys is = elim (cases_Bool (eqb y n)) [
   | inr off ↦ inr (rw off at is)
 ]
 
-first_in : (n : ℕ) (ns : List ℕ) → is_among n (n ∷ ns) ≡ true
+pub first_in : (n : ℕ) (ns : List ℕ) → is_among n (n ∷ ns) ≡ true
 first_in n ns = rw (eq-eqb n n refl) refl
 
 -- a member that isn't the first is above it

@@ -15,14 +15,10 @@ use Rattle.std.proofs.lemmas.Map.Keys.{le_from_not_gt}
 use Rattle.hc_text.proofs.Basics.{none_or, not_some as none_some, some_inj}
 use Rattle.hc_sparse.specs.Cells.{Cells, Cell, Covers, nothing, inside, cells_with}
 use Rattle.hc_sparse.proofs.CellLemmas.{inside-cases, inside-before}
-use Rattle.hc_effects.proofs.Basics.{false_true}
+use Rattle.hc_effects.proofs.Basics.{some_row}
 use Rattle.hc_fetch.specs.Ahead.{Ahead, Stand, Fit, IsIn, IsAhead, KeepsBut, Keeps, KeepsAll, Appends}
 use Rattle.hc_fetch.specs.Gathering.{byte_before, bytes_on}
 use Rattle.hc_fetch.proofs.Maps.{map-own, map-other, map-empty, same_or_not}
-
-pub there_is : {A : Type 0} (q : Option A) → is_some q ≡ true → (a : A) × (q ≡ Some a)
-there_is None is = absurd (false_true is)
-there_is (Some a) is = (a, refl)
 
 -- BYTES THAT ARE GIVEN
 
@@ -157,7 +153,7 @@ bytes_from f at bytes stand k (suc n) is =
 pub bytes_join : (f : Cells) (p n m : ℕ) → Covers f p (p + n) → bytes_on f p (n + m) ≡ bytes_on f p n ++ bytes_on f (p + n) m
 bytes_join f p zero m covers = let place : p + 0 ≡ p = omega arith in let none : 0 + m ≡ m = omega arith in rw (place, none) refl
 bytes_join f p (suc n) m covers =
-    let here = there_is (f p) (covers p (omega arith) (omega arith)) in
+    let here = some_row (f p) (covers p (omega arith) (omega arith)) in
     let rest = bytes_join f (p + 1) n m (λ q low high. covers q (omega arith) (omega arith)) in
     let place : p + 1 + n ≡ p + suc n = omega arith in
     let count : suc n + m ≡ suc (n + m) = omega arith in

@@ -25,6 +25,7 @@ use Rattle.hc_laws.proofs.ReadEnds.{no_base}
 use Rattle.hc_laws.proofs.ReadJoined.{fallback}
 use Rattle.hc_effects.proofs.ShownStays.{IsFallback}
 use Rattle.hc_laws.proofs.SoundRuns.{carried}
+use Rattle.hc_laws.proofs.PlacesKept.{direct_inj}
 
 -- NO BYTE IS PAST THE END
 
@@ -87,9 +88,6 @@ total_end t r n (Some v) row is = ap (end_by t r) row ∙ is
 bound_direct : (r y : ℕ) → place.Bound r 0 None by.Founding ≡ place.Direct y → ⊥
 bound_direct r y is = cc
 
-direct_is : (x y : ℕ) → place.Direct x ≡ place.Direct y → x ≡ y
-direct_is x y is = cc
-
 module _ (limits : Limits) (t : Tables) (now : ℕ) (flaw : Flaw) (s : Sound t) (ev : Event) (going : denial t ev ≡ None) (a : IsFallback t) (r n : ℕ) where
   abbrev e : Entry
   e = entry_of limits t now ev flaw
@@ -128,7 +126,7 @@ module _ (limits : Limits) (t : Tables) (now : ℕ) (flaw : Flaw) (s : Sound t) 
       let none : now_on.representation r ≡ None = none_founded h row (now_on.representation r) refl in
       let was : end_in (t.exchange r) ≡ Some n = sym (ap (end_by t r) row) ∙ known.ends in
       record {
-        ends = ap (end_by now_on r) none ∙ hi_stays limits t now flaw s ev going a (place.Direct r) n (λ y is. subst (IsHeadedRow t) (direct_is r y is) h) was;
+        ends = ap (end_by now_on r) none ∙ hi_stays limits t now flaw s ev going a (place.Direct r) n (λ y is. subst (IsHeadedRow t) (direct_inj r y is) h) was;
         headed = λ isnt. headed_kept h;
       }
   row_kept known (Some v) row =

@@ -60,7 +60,7 @@ given_more c (act.Lost r kind ∷ xs) ys = given_more c xs ys
 given_more c (act.Evicted r ∷ xs) ys = given_more c xs ys
 
 -- more is gathered
-over : (f : Cells) (at x : ℕ) (bytes : List ℕ) (p : ℕ) → is_some (f p) ≡ true → is_some (cells_with at x bytes f p) ≡ true
+pub over : (f : Cells) (at x : ℕ) (bytes : List ℕ) (p : ℕ) → is_some (f p) ≡ true → is_some (cells_with at x bytes f p) ≡ true
 over f at x bytes p there = elim (inside-cases at (length bytes) p) [
   | inl here ↦ rw here.0 refl
   | inr off ↦ rw off.0 there

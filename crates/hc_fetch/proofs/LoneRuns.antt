@@ -39,6 +39,7 @@ use Rattle.hc_effects.proofs.ToldNumbers.{founded_early}
 use Rattle.hc_laws.proofs.TurnFacts.{IsTaken}
 use Rattle.hc_effects.proofs.TurnPlaces.{is_after}
 use Rattle.hc_laws.proofs.SoundRuns.{IsCarried}
+use Rattle.hc_laws.proofs.CoversNew.{head_inj}
 use Rattle.hc_fetch.specs.declared.plan.FetchPlan.{FetchPlan}
 use Rattle.hc_fetch.specs.Bounds.{IsPlan}
 use Rattle.hc_fetch.specs.Deciding.{is_foreign}
@@ -164,9 +165,6 @@ behind_is : (z : Wait) (m : Move) → WaitsAs z m → is_for_others z ≡ is_beh
 behind_is z _ said.waits = refl
 behind_is z _ (said.asks x is) = ap is_for_others is
 behind_is z _ (said.opens x n request is) = ap is_for_others is
-
-head_response : (x y : ℕ) (response other : Response) → event.Head x response ≡ event.Head y other → response ≡ other
-head_response x y response other is = cc
 
 -- nothing is founded but by the head of an exchange that is there
 unfounded_head : (t : Tables) (e : Entry) (x : ℕ) (response : Response) → e.event ≡ event.Head x response → t.exchange x ≡ None → is_founding (case_at t e) ≡ false
@@ -602,7 +600,7 @@ module _ (limits : Limits) (p : FetchPlan) (plan_is : IsPlan p) (t : Tables) (e 
           let new = is_new limits t e.now (flaw_in e.acts) c.is_sound e.event going y told w at there in
           absurd (none_some response (sym new.bare ∙ (ap (λ (q : Exchange). q.head) (sym z_is) ∙ (sym stays.0 ∙ head))))
       by_head_of (inr headed) =
-          let one : told ≡ headed.response = head_response y x told headed.response (sym at ∙ headed.at) in
+          let one : told ≡ headed.response = head_inj y x told headed.response (sym at ∙ headed.at) in
           let two : headed.response ≡ response = some_inj headed.response response (sym headed.head_is ∙ head) in
           rw (alike.need_is, alike.request_is, z_is) (subst (λ (q : Response). is_bad (length_of w.need w.request q) ≡ false) (one ∙ two) good)
   good_new x y told response w u at there good here (exchange.new o none opens is made) head = absurd (none_some w (sym none ∙ (ap t.exchange (sym here) ∙ there)))

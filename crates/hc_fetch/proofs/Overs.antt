@@ -10,11 +10,12 @@ use Rattle.hc_text.proofs.Basics.{not_some as none_some}
 use Rattle.hc_sparse.specs.Cells.{Cells, Cell, Covers, cells_with}
 use Rattle.hc_sparse.proofs.CellLemmas.{inside-cases}
 use Rattle.hc_effects.proofs.Vocabulary.{Act, Entry, History}
+use Rattle.hc_effects.proofs.Basics.{some_row}
 use Rattle.hc_event.specs.declared.act.Act.TheVariants as act
 use Rattle.hc_fetch.specs.Ahead.{KeepsAll, Appends, Ahead}
 use Rattle.hc_fetch.specs.Gathering.{byte_before, bytes_on, gathered, gathered_in, given_end, given_end_in, written_of}
 use Rattle.hc_fetch.specs.Hearing.{AllFit}
-use Rattle.hc_fetch.proofs.Aheads.{byte_over, there_is, bytes_join}
+use Rattle.hc_fetch.proofs.Aheads.{byte_over, bytes_join}
 
 -- a byte that is somewhere is there too
 abbrev pub AreOver : Cells → Cells → Type 0
@@ -30,7 +31,7 @@ over_all (a ∷ acts) g fit p byte y is = over_all acts g fit p byte y is
 pub bytes_same : (f g : Cells) (p n : ℕ) → AreOver f g → Covers f p (p + n) → bytes_on f p n ≡ bytes_on g p n
 bytes_same f g p zero over covers = refl
 bytes_same f g p (suc n) over covers =
-    let here = there_is (f p) (covers p (omega arith) (omega arith)) in
+    let here = some_row (f p) (covers p (omega arith) (omega arith)) in
     let there = over p here.0.byte here.0.x here.1 in
     let rest = bytes_same f g (p + 1) n over (λ q low high. covers q (omega arith) (omega arith)) in
     ap (λ (q : Option Cell). byte_before q (bytes_on f (p + 1) n)) here.1
@@ -38,7 +39,7 @@ bytes_same f g p (suc n) over covers =
 
 pub covers_same : (f g : Cells) (lo hi : ℕ) → AreOver f g → Covers f lo hi → Covers g lo hi
 covers_same f g lo hi over covers p low high =
-    let here = there_is (f p) (covers p low high) in
+    let here = some_row (f p) (covers p low high) in
     let there = over p here.0.byte here.0.x here.1 in
     ap is_some there.1
 
@@ -87,7 +88,7 @@ bytes_stop g p k n covers none le =
 pub covered_long : (g : Cells) (p n : ℕ) → Covers g p (p + n) → length (bytes_on g p n) ≡ n
 covered_long g p zero covers = refl
 covered_long g p (suc n) covers =
-    let here = there_is (g p) (covers p (omega arith) (omega arith)) in
+    let here = some_row (g p) (covers p (omega arith) (omega arith)) in
     let rest = covered_long g (p + 1) n (λ q low high. covers q (omega arith) (omega arith)) in
     ap (λ (q : Option Cell). length (byte_before q (bytes_on g (p + 1) n))) here.1 ∙ ap suc rest
 
@@ -96,7 +97,7 @@ covered_long g p (suc n) covers =
 some_covered : (g : Cells) (w n : ℕ) → Covers g 0 w → EndBy g n → w ≤ n
 some_covered g zero n covers ends = omega arith
 some_covered g (suc w) n covers ends =
-    let here = there_is (g w) (covers w (omega arith) (omega arith)) in
+    let here = some_row (g w) (covers w (omega arith) (omega arith)) in
     let less = ends w here.0 here.1 in
     omega (arith, less)
 

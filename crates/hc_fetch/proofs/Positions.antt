@@ -3,17 +3,17 @@
 -- A body has no byte at or past 2^62 where fewer were received (`below_most`). What an event gives is some bytes of the body that
 -- was shown first, and so is what was gathered before: so both agree (`all_fit`).
 use Rattle.std.proofs.Common.{◌≡◌, ◌≢◌, inl, inr, ℕ, ◌+◌, ◌-◌, ◌<◌, ◌≤◌, ◌^◌, List, [], ◌∷◌, length, Bool, true, false, Option, Some, None, refl, ap, sym, ◌∙◌, arith}
-use Rattle.std.specs.Prelude.{if◌then◌else◌, nat_le, nat_lt, ◌&&◌}
+use Rattle.std.specs.Prelude.{if◌then◌else◌, ◌&&◌}
 use Rattle.std.proofs.lemmas.Bool.{cases_lt}
-use Rattle.std.proofs.lemmas.Bool.Decides.{nat_tests}
-use Rattle.hc_text.proofs.Basics.{and_right, not_some as none_some, some_inj}
+use Rattle.hc_text.proofs.Basics.{not_some as none_some, some_inj}
 use Rattle.hc_sparse.specs.Cells.{Cells, Cell, EndsBy, cells_with}
-use Rattle.hc_effects.proofs.Vocabulary.{Act, Limits, may_begin, Entry, History, no_contents, base, front, Numbers, AreShort, Delivers, Says, body_of, answer_cell, direct_cell, cell_by, Tables, Exchange, Representation, IsRun, tables}
+use Rattle.hc_effects.proofs.Vocabulary.{Act, Limits, may_begin, Entry, History, no_contents, Numbers, AreShort, Delivers, Says, body_of, direct_cell, cell_by, Tables, Exchange, Representation, IsRun, tables}
 use Rattle.hc_event.specs.declared.act.Act.TheVariants as act
 use Rattle.hc_model.specs.Numbers.{most}
 use Rattle.hc_laws.proofs.LawfulRuns.{lawful_in_runs}
 use Rattle.hc_laws.proofs.NumberRuns.{numbers_in_runs}
 use Rattle.hc_laws.proofs.ReadNext.{gives_next}
+use Rattle.hc_laws.proofs.PlacesGiven.{answer_below}
 use Rattle.hc_fetch.specs.declared.plan.FetchPlan.{FetchPlan}
 use Rattle.hc_fetch.specs.Ahead.{Fit}
 use Rattle.hc_fetch.specs.Gathering.{gathered}
@@ -29,15 +29,9 @@ then_cell : (b : Bool) (one cell : Cell) → (if b then Some one else None) ≡ 
 then_cell true one cell is = refl
 then_cell false one cell is = absurd (none_some cell is)
 
-past_store : (r p : ℕ) (w : Exchange) (cell : Cell) → answer_cell r p w ≡ Some cell → p < front w
-past_store r p w cell is =
-    let both = then_cell (nat_le (base w) p && nat_lt p (front w)) _ cell is in
-    let under : nat_lt p (front w) ≡ true = and_right (nat_le (base w) p) (nat_lt p (front w)) both in
-    grind (arith, nat_tests, under)
-
 by_exchange : (t : Tables) (r p : ℕ) (cell : Cell) (q : Option Exchange) → t.exchange r ≡ q → Numbers t → direct_cell r p q ≡ Some cell → p < most t
 by_exchange t r p cell None row n is = absurd (none_some cell is)
-by_exchange t r p cell (Some w) row n is = let under = past_store r p w cell is in let le = n.fronts r w row in omega (arith, under, le)
+by_exchange t r p cell (Some w) row n is = let under = answer_below r p w cell is in let le = n.fronts r w row in omega (arith, under, le)
 
 by_row : (t : Tables) (r p : ℕ) (cell : Cell) (q : Option Representation) → t.representation r ≡ q → Numbers t → ((v : Representation) → t.representation r ≡ Some v → EndsBy v.reach v.body)
     → cell_by t r p q ≡ Some cell → p < most t

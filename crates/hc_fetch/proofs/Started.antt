@@ -6,7 +6,6 @@
 -- (`starts_bring`).
 use Rattle.std.proofs.Common.{◌≡◌, ℕ, zero, suc, ◌+◌, ◌≤◌, List, [], ◌∷◌, ◌++◌, length, Bool, true, false, Option, Some, None, refl, ap, sym, ◌∙◌, subst, arith}
 use Rattle.std.specs.Prelude.{if◌then◌else◌, is_none, ◌&&◌, ◌==◌}
-use Rattle.std.specs.Option.{option_or}
 use Rattle.hc_text.proofs.Basics.{filter_short as few_pass}
 use Rattle.hc_effects.proofs.Vocabulary.{is_denied, Event, Request, live, is_live, Entry, History, no_contents, entry_without_acts, Tables, tables, after, after_accepted, after_denied, last_start_after, starts_after, received_in}
 use Rattle.hc_event.specs.Counting as counting
@@ -18,6 +17,7 @@ use Rattle.hc_fetch.specs.Fetches.{started, starts_behind, start_by_head, start_
 use Rattle.hc_fetch.specs.Heads.{Head, heads_in, first_in, first_head}
 use Rattle.hc_fetch.specs.Hearing.{HasStarted}
 use Rattle.hc_fetch.specs.Plans.{first_start, part_start, part_count}
+use Rattle.hc_fetch.proofs.FirstHeads.{none_first}
 
 -- ONE ENTRY
 
@@ -62,10 +62,6 @@ few_live h n has =
 
 -- BEFORE THE FIRST HEAD
 
-no_head_before : (a b : Option Head) → option_or a b ≡ None → (a ≡ None) × (b ≡ None)
-no_head_before None b is = (refl, is)
-no_head_before (Some x) b is = absurd (let no : Some x ≡ None = is in cc)
-
 no_start : (b : Bool) (plan : FetchPlan) (now : ℕ) (q : Option Head) → q ≡ None → (if b then start_by_head plan now q else []) ≡ []
 no_start true plan now q is = ap (start_by_head plan now) is
 no_start false plan now q is = refl
@@ -83,7 +79,7 @@ wider h has = let low = has.last in let few = has.starts in record { last = omeg
 pub one_started : (plan : FetchPlan) (f : History) → has_foreign f ≡ false → first_head f ≡ None → HasStarted (cache_history plan f) 1
 one_started plan [] own none = wider [] none_started
 one_started plan (e ∷ f) own none =
-    let heads = no_head_before (first_head f) (first_in (heads_in e.acts)) none in
+    let heads = none_first (first_head f) (first_in (heads_in e.acts)) none in
     let both = or_false (is_foreign e.event) (has_foreign f) own in
     let before = one_started plan f both.1 heads.0 in
     let here = started_on e (started plan e.now (cache_history plan f)) 1 both.0 (first_started plan e.now (cache_history plan f) before) in

@@ -14,6 +14,7 @@ use Rattle.hc_event.specs.declared.act.Act.TheVariants as act
 use Rattle.hc_effects.proofs.Basics.{append_none, false_true, or_false}
 use Rattle.hc_laws.proofs.OneHead.{one_head_is_shown}
 use Rattle.hc_laws.proofs.ReadEnds.{ends_well}
+use Rattle.hc_laws.proofs.ReadJoined.{one_inj}
 use Rattle.hc_fetch.specs.declared.ended.FetchEnded.TheVariants as ended
 use Rattle.hc_fetch.specs.declared.plan.FetchPlan.{FetchPlan}
 use Rattle.hc_fetch.specs.Bounds.{IsPlan}
@@ -25,14 +26,11 @@ use Rattle.hc_fetch.specs.Laws.{IsFetchRun, WritesAllOfIt}
 use Rattle.hc_fetch.proofs.Bodies.{run_before, earlier, writes_the_body}
 use Rattle.hc_fetch.proofs.Ends.{KnownEnd, KnownHead, before_end, end_kept, head_kept}
 use Rattle.hc_fetch.proofs.FirstHeads.{among, first_told, lone_before, none_first, none_shown}
-use Rattle.hc_fetch.proofs.GivenFirst.{given_covered, shown_step, started_gives}
+use Rattle.hc_fetch.proofs.GivenFirst.{given_covered, shown_step, started_gives, over}
 use Rattle.hc_fetch.proofs.Shows.{started_shows}
 use Rattle.hc_fetch.proofs.ShownFacts.{TellsPart, tells_part, FirstShown}
 
 -- LISTS OF ACTS
-
-one_inj : (x y : Shown) → x ∷ [] ≡ y ∷ [] → x ≡ y
-one_inj x y is = cc
 
 at_most_one : (xs ys : List Shown) (y : Shown) → length (xs ++ (y ∷ ys)) ≤ 1 → (xs ≡ []) × (ys ≡ [])
 at_most_one [] [] y few = (refl, refl)
@@ -57,12 +55,6 @@ ends_says c (act.Lost r kind ∷ acts) is = inr (ends_says c acts is)
 ends_says c (act.Evicted r ∷ acts) is = inr (ends_says c acts is)
 
 -- GATHERED
-
-over : (f : Cells) (at x : ℕ) (bytes : List ℕ) (p : ℕ) → is_some (f p) ≡ true → is_some (cells_with at x bytes f p) ≡ true
-over f at x bytes p there = elim (Rattle.hc_sparse.proofs.CellLemmas.inside-cases at (length bytes) p) [
-  | inl here ↦ rw here.0 refl
-  | inr off ↦ rw off.0 there
-]
 
 more_gathered : (acts : List Act) (g : Cells) (p : ℕ) → is_some (g p) ≡ true → is_some (Rattle.hc_fetch.specs.Gathering.gathered_in acts g p) ≡ true
 more_gathered [] g p is = is

@@ -6,19 +6,15 @@ use Rattle.std.specs.Fmt.{decimal}
 use Rattle.std.proofs.lemmas.Bool.{or_right, and_parts}
 use Rattle.std.proofs.lemmas.List.{get_or-append_right}
 use Rattle.std.proofs.lemmas.List.Folds.{list_all-append}
-use Rattle.http_header.specs.Token.{IsToken, is_token_byte, is_value_byte}
-use Rattle.http_header.proofs.TokenLemmas.{AllPass-from_test}
+use Rattle.http_header.specs.Token.{is_value_byte}
 use Rattle.hc_text.specs.Elements.{is_blank}
 use Rattle.hc_fields.specs.FieldList.{is_own_value}
 use Rattle.hc_fields.specs.declared.error.FieldError.{FieldError}
 use Rattle.hc_fields.specs.FieldList.{Refuses}
 use Rattle.hc_validate.proofs.Settings.{never_refused}
 use Rattle.hc_validate.proofs.Numbers.{own-decimal, short-decimal}
+use Rattle.hc_validate.proofs.Names.{IsToken-range}
 use Rattle.hc_generate.specs.Requests.{range_text}
-
-pub IsToken-range : IsToken (codes "range")
-unfolding is_token_byte
-IsToken-range = (omega arith, AllPass-from_test is_token_byte (codes "range") refl)
 
 pub own-range : (l : ℕ) → l < 2 ^ 64 → is_own_value (range_text l) ≡ true
 own-range l h =

@@ -7,7 +7,6 @@ use Rattle.std.proofs.lemmas.List.Sums.{list_all-from_AllPass, sum_by-cons}
 use Rattle.std.proofs.lemmas.List.{length-reverse, reverse-append, reverse-reverse, get_or_append_left}
 use Rattle.std.proofs.Math.Seq.{get_or-append_seam}
 use Rattle.hc_text.proofs.Basics.{cond_either}
-use Rattle.http_header.specs.Token.{lowercase}
 use Rattle.http_header.specs.Token as header
 use Rattle.httparse.specs.Grammar as grammar
 use Rattle.httparse.specs.Grammar.{Field, IsField, AllPass, skip_ows, trim_ows, is_ows, print_field, RequestHead, print_request, ResponseHead, print_response, ReadsRequest, ReadsResponse}
@@ -18,6 +17,7 @@ use Rattle.hc_text.specs.Elements.{is_blank}
 use Rattle.hc_head.specs.Held.{IsGood, fields_in}
 use Rattle.httparse.proofs.TrimLemmas.{AllPass-trim_ows}
 use Rattle.hc_fields.specs.FieldList.{is_own_value, has_own_ends, size_of}
+use Rattle.hc_fields.proofs.Kept.{length-lowercase}
 use Rattle.hc_head.specs.Rules.{lowercase_field, fields_of}
 
 token_byte : (b : ℕ) → grammar.is_token_byte b ≡ header.is_token_byte b
@@ -54,17 +54,13 @@ unfolding trim_ows
 trim_len raw =
     omega (arith, length-reverse (skip_ows (reverse (skip_ows raw))), skip_len (reverse (skip_ows raw)), length-reverse (skip_ows raw), skip_len raw)
 
-lower_len : (name : List ℕ) → length (lowercase name) ≡ length name
-lower_len [] = refl
-lower_len (b ∷ name) = ap suc (lower_len name)
-
 -- names and values have no more bytes than their lines
 size_fields : (fs : List Field) → size_of (fields_of fs) ≤ length (flat_map print_field fs)
 size_fields [] = omega arith
 size_fields (f ∷ fs) =
     let value = trim_len f.raw in
     let rest = size_fields fs in
-    let lower = lower_len f.name in
+    let lower = length-lowercase f.name in
     rw (sum_by-cons (λ (g : List ℕ × List ℕ). length g.0 + length g.1) (lowercase_field (name_and_value f)) (fields_of fs))
     (simp length-append (omega (arith, value, rest, lower)))
 

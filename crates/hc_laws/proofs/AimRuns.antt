@@ -8,7 +8,6 @@ use Rattle.hc_event.specs.declared.act.Need.TheVariants as need
 use Rattle.hc_rules.specs.declared.need.Route.TheVariants as route
 use Rattle.hc_event.specs.declared.place.Place.TheVariants as place
 use Rattle.hc_model.specs.Aims.{HasAim, CaseWithoutAim, is_about_some, needs_aim}
-use Rattle.hc_laws.proofs.Aimed.{aim_free}
 use Rattle.hc_effects.proofs.Asked.{Asked, HasCandidate}
 use Rattle.hc_effects.proofs.Basics.{some_none, some_row, false_true}
 use Rattle.hc_effects.proofs.ExchangeFrom.{ExchangeFrom, exchange_from}
@@ -21,6 +20,7 @@ use Rattle.hc_laws.proofs.Reasons.{aimed}
 use Rattle.hc_laws.proofs.RunFacts.{in_runs}
 use Rattle.hc_effects.proofs.Said.{opening_by}
 use Rattle.hc_effects.proofs.ShownFrom.{candidate_is}
+use Rattle.hc_effects.proofs.WaitingNew.{aim_free}
 
 -- what is carried along a run
 record Names (limits : Limits) (t : Tables) : Type 0 where

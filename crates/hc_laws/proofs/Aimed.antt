@@ -1,7 +1,7 @@
 -- What an exchange joined is what it is about, and the exchange of a first hole is about what its consumer is bound to.
-use Rattle.std.proofs.Common.{◌≡◌, ◌⊎◌, inl, inr, ℕ, List, Bool, true, false, cond, Option, Some, None, refl, ap, sym, ◌∙◌}
+use Rattle.std.proofs.Common.{◌≡◌, ◌⊎◌, inl, inr, ℕ, Bool, true, false, cond, Option, Some, None, refl, ap, sym, ◌∙◌}
 use Rattle.hc_text.proofs.Basics.{not_some as none_some, same_some as same_row}
-use Rattle.hc_effects.proofs.Vocabulary.{Event, Request, Limits, Place, case_at, is_joining, consumer_heard, waiting, current, denial, Entry, Contents, exchange_opened, aim_of, aim_from, Flaw, entry_of, Owners, bound_to, Tables, Exchange, Consumer, Sound, first_tables, after_accepted, after_denied}
+use Rattle.hc_effects.proofs.Vocabulary.{Event, Request, Limits, case_at, is_joining, consumer_heard, waiting, current, denial, Entry, Contents, exchange_opened, aim_of, Flaw, entry_of, Owners, bound_to, Tables, Exchange, Consumer, Sound, first_tables, after_accepted, after_denied}
 use Rattle.hc_event.specs.declared.place.BoundBy.TheVariants as by
 use Rattle.hc_event.specs.declared.place.Place.TheVariants as place
 use Rattle.hc_effects.proofs.BoundFrom.{BoundFrom, bound_from}
@@ -11,19 +11,11 @@ use Rattle.hc_effects.proofs.ExchangeFrom as exchange
 use Rattle.hc_effects.proofs.FirstKeeps.{is_new, is_opener}
 use Rattle.hc_effects.proofs.Forward.{is_on, opened_on}
 use Rattle.hc_effects.proofs.OwnersKeep.{new_number}
+use Rattle.hc_effects.proofs.WaitingNew.{aim_free}
 
 pub record IsAimed (t : Tables) : Type 0 where
   pub first : (c r lo y : ℕ) (hi : Option ℕ) (k : Consumer) (w : Exchange) → t.consumer c ≡ Some k → k.place ≡ place.Bound r lo hi (by.FirstHole y) → t.exchange y ≡ Some w → w.aim ≡ Some r
   pub joins : (x q : ℕ) (w : Exchange) → t.exchange x ≡ Some w → w.joined ≡ Some q → w.aim ≡ Some q
-
-pub aim_free : (t : Tables) (key : List ℕ) (p : Place) → bound_to p ≡ None → aim_from t key p ≡ current t key
-aim_free t key place.Line free = refl
-aim_free t key (place.Passed r kept) free = refl
-aim_free t key (place.Turn x) free = refl
-aim_free t key (place.Bound r lo hi how) free = absurd (none_some r (sym free))
-aim_free t key (place.Direct x) free = refl
-aim_free t key (place.Down why) free = refl
-aim_free t key place.Over free = refl
 
 first_inj : (y x : ℕ) → by.FirstHole y ≡ by.FirstHole x → y ≡ x
 first_inj y x is = cc

@@ -18,6 +18,7 @@ use Rattle.hc_laws.proofs.Lone.{AreLone, IsResting, lone_kept}
 use Rattle.hc_laws.proofs.OrderRuns.{order_in_runs}
 use Rattle.hc_effects.proofs.ExclusiveWriters.{eq-refl}
 use Rattle.hc_effects.proofs.PieceKeeps.{eq_cases}
+use Rattle.hc_effects.proofs.OfConsumers.{all_below}
 use Rattle.hc_laws.proofs.RunFacts.{in_runs}
 use Rattle.hc_laws.proofs.SoundRuns.{carried}
 
@@ -37,11 +38,6 @@ lone_in_runs = in_runs (λ limits t. AreLone t)
 
 -- ONE THAT PASSES
 
-below_all : (n d : ℕ) (ds : List ℕ) → Descends n ds → Among d ds → d < n
-below_all n d [] down there = absurd there
-below_all n d (a ∷ ds) down (inl here) = let lt : a < n = down.0 in omega arith
-below_all n d (a ∷ ds) down (inr there) = let lt : a < n = down.0 in let less : d < a = below_all a d ds down.1 there in omega arith
-
 -- none but c passes, and c isn't among them
 none_passes : (test : ℕ → Bool) (c : ℕ) (ds : List ℕ) → ((d : ℕ) → test d ≡ true → d ≡ c) → (Among c ds → ⊥) → filter test ds ≡ []
 none_passes test c [] one absent = refl
@@ -55,9 +51,9 @@ one_passes : (test : ℕ → Bool) (n c : ℕ) (ds : List ℕ) → Descends n ds
 one_passes test n c [] down one passes there = absurd there
 one_passes test n c (d ∷ ds) down one passes (inl here) =
     let on : test d ≡ true = ap test here ∙ passes in
-    rw on (rw (none_passes test c ds one (λ there. let less : c < d = below_all d c ds down.1 there in let same : d ≡ c = here in absurd (omega arith))) (ap (λ z. z ∷ []) here))
+    rw on (rw (none_passes test c ds one (λ there. let less : c < d = all_below d c ds down.1 there in let same : d ≡ c = here in absurd (omega arith))) (ap (λ z. z ∷ []) here))
 one_passes test n c (d ∷ ds) down one passes (inr there) = elim (bool_cases (test d)) [
-  | inl on ↦ let less : c < d = below_all d c ds down.1 there in let same : d ≡ c = one d on in absurd (omega arith)
+  | inl on ↦ let less : c < d = all_below d c ds down.1 there in let same : d ≡ c = one d on in absurd (omega arith)
   | inr off ↦ rw off (one_passes test d c ds down.1 one passes there)
 ]
 

@@ -1,17 +1,18 @@
 -- The tables of a store that begins with contents are sound.
 use Rattle.std.proofs.Common.{◌≡◌, inl, inr, ℕ, ◌-◌, ◌<◌, ◌≤◌, List, [], ◌∷◌, ◌++◌, length, true, Option, Some, None, refl, ap, sym, ◌∙◌, subst, arith}
-use Rattle.std.specs.Prelude.{is_some, find, map, reverse, option_map, nat_eq}
+use Rattle.std.specs.Prelude.{is_some, find, map, option_map, nat_eq}
 use Rattle.std.proofs.lemmas.Bool.Decides.{nat_tests}
-use Rattle.std.proofs.lemmas.List.{reverse-append}
 use Rattle.hc_text.proofs.Basics.{bool_cases, not_some as none_some, some_inj}
 use Rattle.hc_sparse.specs.Cells.{EndsBy}
 use Rattle.hc_sparse.specs.Runs.{cells_of, end_of}
 use Rattle.hc_sparse.specs.declared.run.Run.{Run}
 use Rattle.hc_sparse.proofs.CellLemmas.{inside-past}
-use Rattle.hc_effects.proofs.Vocabulary.{Content, Contents, IsStart, item_of, is_written, Representation, Consumer, Among, IsAbout, IsBound, IsFirst, IsSoundRepresentation, first_tables, representation_of_content, last_end, numbers}
+use Rattle.hc_effects.proofs.Vocabulary.{Content, Contents, IsStart, item_of, is_written, Representation, Among, IsAbout, IsFirst, IsSoundRepresentation, first_tables, representation_of_content, last_end, numbers}
 use Rattle.hc_model.specs.Laws.{StartsAreSound}
 use Rattle.hc_model.specs.Sound as sound
 use Rattle.hc_effects.proofs.Basics.{false_true}
+use Rattle.hc_effects.proofs.Closed.{reversed}
+use Rattle.hc_laws.proofs.BesideKeeps.{nobody}
 
 -- a row of the begun tables is a loaded item
 record IsLoaded (contents : Contents) (r : ℕ) (v : Representation) : Type 0 where
@@ -41,20 +42,6 @@ found_among (i ∷ items) r item is = elim (bool_cases (nat_eq i.r r)) [
     eq_of : (a b : ℕ) → nat_eq a b ≡ true → a ≡ b
     eq_of a b h = grind (arith, nat_tests)
 
-among_left : (r : ℕ) (xs ys : List ℕ) → Among r xs → Among r (xs ++ ys)
-among_left r [] ys among = absurd among
-among_left r (x ∷ xs) ys (inl here) = inl here
-among_left r (x ∷ xs) ys (inr there) = inr (among_left r xs ys there)
-
-among_right : (r : ℕ) (xs ys : List ℕ) → Among r ys → Among r (xs ++ ys)
-among_right r [] ys among = among
-among_right r (x ∷ xs) ys among = inr (among_right r xs ys among)
-
-among_reverse : (r : ℕ) (xs : List ℕ) → Among r xs → Among r (reverse xs)
-among_reverse r [] among = absurd among
-among_reverse r (x ∷ xs) (inl here) = subst (Among r) (sym (reverse-append (x ∷ []) xs)) (among_right r (reverse xs) (x ∷ []) (inl here))
-among_reverse r (x ∷ xs) (inr there) = subst (Among r) (sym (reverse-append (x ∷ []) xs)) (among_left r (reverse xs) (x ∷ []) (among_reverse r xs there))
-
 some_among : (contents : Contents) (r : ℕ) (o : Option Content) → item_of contents r ≡ o → is_some (option_map representation_of_content o) ≡ true → Among r (map (λ (i : Content). i.r) contents.items)
 some_among contents r None found some = absurd (false_true some)
 some_among contents r (Some item) found some = found_among contents.items r item found
@@ -62,9 +49,6 @@ some_among contents r (Some item) found some = found_among contents.items r item
 new_none : (contents : Contents) → IsStart contents → (r : ℕ) (o : Option Content) → item_of contents r ≡ o → contents.next_exchange - 1 < r → option_map representation_of_content o ≡ None
 new_none contents start r None found past = refl
 new_none contents start r (Some item) found past = absurd (let below = start.numbered r item found in omega arith)
-
-no_consumer : (contents : Contents) (r c : ℕ) (k : Consumer) → IsBound (first_tables contents) r c k → ⊥
-no_consumer contents r c k (sound.is_bound lo hi how row place) = none_some k row
 
 no_first : (contents : Contents) (r c : ℕ) → IsFirst (first_tables contents) r c → ⊥
 no_first contents r c (sound.first k lo hi how row place alone) = none_some k row
@@ -99,14 +83,14 @@ begun_sound contents start = record {
       new_representations = λ r past. new_none contents start r (item_of contents r) refl past;
       started = λ c some. absurd (false_true some);
       opened = λ x some. absurd (false_true some);
-      founded = λ r some. among_reverse r (numbers contents.items) (some_among contents r (item_of contents r) refl some);
+      founded = λ r some. reversed r (numbers contents.items) (some_among contents r (item_of contents r) refl some);
     };
     names = record {
       unfounded = λ x w row bare. absurd (none_some w row);
       aims = λ x r w row aim. absurd (none_some w row);
       joined = λ x r w row joined. absurd (none_some w row);
     };
-    bound_to = λ r c k reader. absurd (no_consumer contents r c k reader);
+    bound_to = λ r c k reader. absurd (nobody contents r c k reader);
   };
   waits = record {
     fronts = λ x w v p row is_open headed at le ends. absurd (none_some w row);
@@ -116,11 +100,11 @@ begun_sound contents start = record {
   one_about = λ r x y a b. absurd (none_about contents r x a);
   writes = record {
     one_first = λ r c d a b. absurd (no_first contents r c a);
-    served = λ r c v k row reader none. absurd (no_consumer contents r c k reader);
+    served = λ r c v k row reader none. absurd (nobody contents r c k reader);
     had = λ r x v row about. absurd (none_about contents r x about);
     known_end = λ r c lo hi how k row place alone. absurd (none_some k row);
-    own_about = λ r c x k reader own. absurd (no_consumer contents r c k reader);
-    undue = λ r c v k row reader on. absurd (no_consumer contents r c k reader);
+    own_about = λ r c x k reader own. absurd (nobody contents r c k reader);
+    undue = λ r c v k row reader on. absurd (nobody contents r c k reader);
     has_bound = λ r v row on. absurd (not_written contents r v (is_loaded contents r (item_of contents r) v refl row) on);
   };
   rows = λ r v row. sound_row contents r v (is_loaded contents r (item_of contents r) v refl row);
@@ -129,5 +113,5 @@ begun_sound contents start = record {
       let b = is_loaded contents q (item_of contents q) u refl other in
       start.apart r q a.item b.item a.found b.found (ap (λ (z : Representation). z.key) a.row ∙ (same ∙ sym (ap (λ (z : Representation). z.key) b.row)));
   unshown = λ c r lo hi how k row place shown. absurd (none_some k row);
-  alone = λ r c v k row is reader none. absurd (no_consumer contents r c k reader);
+  alone = λ r c v k row is reader none. absurd (nobody contents r c k reader);
 }

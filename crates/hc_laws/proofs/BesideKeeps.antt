@@ -12,7 +12,7 @@ use Rattle.hc_effects.proofs.Losses.{HasRest}
 use Rattle.hc_laws.proofs.Rests.{rested_kept}
 
 -- nobody reads at the beginning
-nobody : (contents : Contents) (r c : ℕ) (k : Consumer) → IsBound (first_tables contents) r c k → ⊥
+pub nobody : (contents : Contents) (r c : ℕ) (k : Consumer) → IsBound (first_tables contents) r c k → ⊥
 nobody contents r c k (sound.is_bound lo hi how row at) = none_some k row
 
 pub beside_begun : (contents : Contents) → IsBeside (first_tables contents)

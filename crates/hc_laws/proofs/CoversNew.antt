@@ -29,12 +29,10 @@ use Rattle.hc_effects.proofs.OwnersKeep.{is_opened}
 use Rattle.hc_effects.proofs.PartTold.{IsTold, part_told, whole_base}
 use Rattle.hc_effects.proofs.PartTold as told
 use Rattle.hc_effects.proofs.PollKeeps.{current_stays}
+use Rattle.hc_effects.proofs.EndsKeep.{interval_inj}
 
-head_inj : (a d : ℕ) (f g : Response) → event.Head a f ≡ event.Head d g → f ≡ g
+pub head_inj : (a d : ℕ) (f g : Response) → event.Head a f ≡ event.Head d g → f ≡ g
 head_inj a d f g is = cc
-
-interval_inj : (a b : Span) → wanted.Interval a ≡ wanted.Interval b → a ≡ b
-interval_inj a b is = cc
 
 -- A PART BEGINS WHERE ITS CONSUMER READS
 

@@ -41,7 +41,7 @@ use Rattle.hc_laws.proofs.UndueKeeps.{founder_undue, no_cause}
 use Rattle.hc_effects.proofs.Waiters.{IsWaiter, waiter_of, unwritten, waits_undue}
 
 -- where nothing is lost, r isn't
-lossless_none : (r : ℕ) (acts : List Act) → has_loss acts ≡ false → loses_in r acts ≡ false
+pub lossless_none : (r : ℕ) (acts : List Act) → has_loss acts ≡ false → loses_in r acts ≡ false
 lossless_none r [] h = refl
 lossless_none r (act.Lost q kind ∷ acts) h = absurd (let no : true ≡ false = h in cc)
 lossless_none r (act.Opened x c n request ∷ acts) h = lossless_none r acts h

@@ -2,7 +2,7 @@
 use Rattle.std.proofs.Common.{◌≡◌, ℕ, Bool, true, false, Option, Some, None, refl, ap, sym, ◌∙◌, subst}
 use Rattle.std.specs.Prelude.{is_some}
 use Rattle.hc_text.proofs.Basics.{not_some as none_some, same_some as same_row, some_inj}
-use Rattle.hc_effects.proofs.Vocabulary.{Opening, opening_in, Event, Response, Limits, route_of, Place, BoundBy, loses_in, consumer_heard, consumer_acted, waiting, due_after, denial, Entry, exchange_opened, aim_from, is_headless, becomes_due, Flaw, entry_of, Measures, Owners, IsAwaiting, Awaits, IsPast, shows_at, shows_direct, move_of, if_headless, bound, bound_to, own_open, reads, Tables, Exchange, Representation, Consumer, Sound, IsBound, IsAbout, IsHad, IsExclusiveWriter, IsFirst, after_accepted, brings_body, came_alone}
+use Rattle.hc_effects.proofs.Vocabulary.{Opening, opening_in, Event, Limits, route_of, Place, BoundBy, loses_in, consumer_heard, consumer_acted, waiting, due_after, denial, Entry, exchange_opened, aim_from, is_headless, becomes_due, Flaw, entry_of, Measures, Owners, IsAwaiting, Awaits, IsPast, shows_at, shows_direct, move_of, if_headless, bound, bound_to, own_open, reads, Tables, Exchange, Representation, Consumer, Sound, IsBound, IsAbout, IsHad, IsExclusiveWriter, IsFirst, after_accepted, brings_body, came_alone}
 use Rattle.hc_event.specs.declared.event.Event.TheVariants as event
 use Rattle.hc_rules.specs.declared.need.Route.TheVariants as route
 use Rattle.hc_event.specs.declared.place.Place.TheVariants as place
@@ -27,10 +27,7 @@ use Rattle.hc_effects.proofs.RepFrom as rep
 use Rattle.hc_effects.proofs.Said.{IsOpening, opening_by, showing_by}
 use Rattle.hc_effects.proofs.ServedKeeps.{kept_alone}
 use Rattle.hc_effects.proofs.WaitingKeeps.{waiting_kept}
-
-some_of : (q : Option Response) → is_some q ≡ true → (response : Response) × (q ≡ Some response)
-some_of None g = absurd (false_true g)
-some_of (Some response) g = (response, refl)
+use Rattle.hc_effects.proofs.ReadingKeeps.{some_of}
 
 module _ (limits : Limits) (t : Tables) (now : ℕ) (flaw : Flaw) (s : Sound t) (o : Owners t) (m : Measures t) (ev : Event) (goes : denial t ev ≡ None) (real : IsReal limits t now ev flaw) where
   abbrev e : Entry

@@ -3,7 +3,7 @@ use Rattle.std.proofs.Common.{◌≡◌, ◌⊎◌, inl, inr, ℕ, List, [], ◌
 use Rattle.std.specs.Prelude.{◌&&◌, ◌==◌, not, if◌then◌else◌, map, find, is_none}
 use Rattle.std.specs.Option.{option_or, option_map}
 use Rattle.hc_text.proofs.Basics.{eq_itself as eq-refl, eq_tells as eq_is, not_some as none_some, same_some as same_row, some_inj}
-use Rattle.hc_effects.proofs.Vocabulary.{Opening, opening_in, leaves_in, Act, Cause, Wait, Event, Request, Response, HeadCase, Route, Wanted, Limits, route_of, wanted_of, range_of, BoundBy, Place, wait_in, Showing, showing_in, accepted_acts, answer_acts, loss_acts, case_at, is_founding, closing, bound_to_wanted, place_by_case, passed_on, by_head, by_fault, by_opening, becomes_shared, consumer_after, consumer_settled, consumer_acted, consumer_heard, consumer_made, waiting, waiting_place, passed_by, kept_by, opened_place, place_for_hole, unless_bound, shown_place, own_after, left_to, due_after, back_in_line, new_consumer, current, row_of, is_number, denial, Entry, Content, Contents, aim_of, aim_from, becomes_due, Flaw, NoFlaw, Loses, Misreads, founded_total, HasRow, IsOfOneKey, ExchangeKeys, ConsumerKeys, entry_of, Move, acts_of, reads, bound_to, representation_after, founded_at, new_representation, Tables, Exchange, Representation, Consumer, Sound, IsBound, starts_over, after_accepted, first_tables, representation_of_content, evicted, loses_writing, survivor}
+use Rattle.hc_effects.proofs.Vocabulary.{Opening, opening_in, leaves_in, Act, Cause, Wait, Event, Request, Response, HeadCase, Route, Wanted, Limits, route_of, wanted_of, range_of, BoundBy, Place, wait_in, Showing, showing_in, accepted_acts, answer_acts, loss_acts, case_at, is_founding, closing, bound_to_wanted, place_by_case, passed_on, by_head, by_fault, by_opening, becomes_shared, consumer_after, consumer_settled, consumer_acted, consumer_heard, consumer_made, waiting, waiting_place, passed_by, kept_by, opened_place, place_for_hole, unless_bound, shown_place, own_after, left_to, due_after, back_in_line, new_consumer, current, row_of, is_number, denial, Entry, Content, aim_of, aim_from, becomes_due, Flaw, NoFlaw, Loses, Misreads, founded_total, HasRow, IsOfOneKey, ExchangeKeys, ConsumerKeys, entry_of, Move, acts_of, reads, bound_to, representation_after, founded_at, new_representation, Tables, Exchange, Representation, Consumer, Sound, IsBound, starts_over, after_accepted, representation_of_content, evicted, loses_writing, survivor}
 use Rattle.hc_event.specs.declared.act.Act.TheVariants as act
 use Rattle.hc_event.specs.declared.act.Wait.TheVariants as wait
 use Rattle.hc_event.specs.declared.event.Event.TheVariants as event
@@ -23,6 +23,7 @@ use Rattle.hc_effects.proofs.KeysKeep as keeps
 use Rattle.hc_effects.proofs.NumbersKeep.{opens_next}
 use Rattle.hc_effects.proofs.PollKeys.{IsNear}
 use Rattle.hc_effects.proofs.PollKeys as polls
+use Rattle.hc_laws.proofs.BesideKeeps.{nobody as none_bound}
 
 -- WHAT IS SHOWN
 
@@ -501,9 +502,6 @@ keys_are_kept limits t now flaw s one event goes = record {
 loaded_writer : (o : Option Content) (v : Representation) (x : ℕ) → option_map representation_of_content o ≡ Some v → v.writer ≡ Some x → ⊥
 loaded_writer None v x row is = none_some v row
 loaded_writer (Some item) v x row is = none_some x (ap (λ (z : Representation). z.writer) (some_inj (representation_of_content item) v row) ∙ is)
-
-none_bound : (contents : Contents) (r c : ℕ) (k : Consumer) → IsBound (first_tables contents) r c k → ⊥
-none_bound contents r c k (sound.is_bound lo hi how row at) = none_some k row
 
 pub keys_begin : KeysBegin
 keys_begin contents = record {

@@ -19,6 +19,7 @@ use Rattle.hc_effects.proofs.Closed.{among_filter}
 use Rattle.hc_effects.proofs.HasBound.{among_passes, some_among, reader_of}
 use Rattle.hc_laws.proofs.OrderRuns.{order_in_runs}
 use Rattle.hc_effects.proofs.PieceKeeps.{eq_cases}
+use Rattle.hc_effects.proofs.OfConsumers.{all_below}
 use Rattle.hc_laws.proofs.SoundRuns.{runs_are_sound}
 use Rattle.hc_laws.proofs.WhoseRuns.{whose_in_runs}
 
@@ -83,7 +84,7 @@ abbrev without : ℕ → List ℕ → List ℕ
 without x [] = []
 without x (y ∷ ys) = if y == x then ys else y ∷ without x ys
 
-one_fewer : (x : ℕ) (ys : List ℕ) → Among x ys → length ys ≡ suc (length (without x ys))
+pub one_fewer : (x : ℕ) (ys : List ℕ) → Among x ys → length ys ≡ suc (length (without x ys))
 one_fewer x [] there = absurd there
 one_fewer x (y ∷ ys) there = elim (eq_cases y x) [
   | inl here ↦ rw here.0 (omega arith)
@@ -94,7 +95,7 @@ one_fewer x (y ∷ ys) there = elim (eq_cases y x) [
     later (inl here) other = absurd (other here)
     later (inr more) other = more
 
-others_stay : (x q : ℕ) (ys : List ℕ) → (q ≡ x → ⊥) → Among q ys → Among q (without x ys)
+pub others_stay : (x q : ℕ) (ys : List ℕ) → (q ≡ x → ⊥) → Among q ys → Among q (without x ys)
 others_stay x q [] other there = there
 others_stay x q (y ∷ ys) other there = elim (eq_cases y x) [
   | inl here ↦ rw here.0 (behind there here.1)
@@ -109,14 +110,8 @@ others_stay x q (y ∷ ys) other there = elim (eq_cases y x) [
     by_place (inl here) rest = inl here
     by_place (inr more) rest = inr (rest more)
 
--- what falls stands once
-below_all : (n x : ℕ) (xs : List ℕ) → Descends n xs → Among x xs → x < n
-below_all n x [] d there = absurd there
-below_all n x (y ∷ ys) d (inl here) = let lt : y < n = d.0 in let same : y ≡ x = here in omega arith
-below_all n x (y ∷ ys) d (inr more) = let lt : y < n = d.0 in let less : x < y = below_all y x ys d.1 more in omega arith
-
 -- as many as fall and stand in another list, that has at least so many
-no_more : (n : ℕ) (xs ys : List ℕ) → Descends n xs → ((x : ℕ) → Among x xs → Among x ys) → length xs ≤ length ys
+pub no_more : (n : ℕ) (xs ys : List ℕ) → Descends n xs → ((x : ℕ) → Among x xs → Among x ys) → length xs ≤ length ys
 no_more n [] ys d all = omega arith
 no_more n (x ∷ xs) ys d all =
     let rest : length xs ≤ length (without x ys) = no_more x xs (without x ys) d.1 (λ q there. others_stay x q ys (λ same. apart q there same) (all q (inr there))) in
@@ -124,9 +119,9 @@ no_more n (x ∷ xs) ys d all =
     omega arith
   where
     apart : (q : ℕ) → Among q xs → q ≡ x → ⊥
-    apart q there same = let lt : q < x = below_all x q xs d.1 there in absurd (omega arith)
+    apart q there same = let lt : q < x = all_below x q xs d.1 there in absurd (omega arith)
 
-filter_falls : (test : ℕ → Bool) (n : ℕ) (xs : List ℕ) → Descends n xs → Descends n (filter test xs)
+pub filter_falls : (test : ℕ → Bool) (n : ℕ) (xs : List ℕ) → Descends n xs → Descends n (filter test xs)
 filter_falls test n [] d = tt
 filter_falls test n (x ∷ xs) d = elim (bool_cases (test x)) [
   | inl on ↦ rw on (d.0, filter_falls test x xs d.1)
@@ -137,7 +132,7 @@ filter_falls test n (x ∷ xs) d = elim (bool_cases (test x)) [
     less_falls a b [] le falls = tt
     less_falls a b (z ∷ zs) le falls = (let lt : z < a = falls.0 in omega arith, falls.1)
 
-among_mapped : (f : ℕ → ℕ) (c x : ℕ) (cs : List ℕ) → f c ≡ x → Among c cs → Among x (map f cs)
+pub among_mapped : (f : ℕ → ℕ) (c x : ℕ) (cs : List ℕ) → f c ≡ x → Among c cs → Among x (map f cs)
 among_mapped f c x [] is there = there
 among_mapped f c x (d ∷ ds) is (inl here) = inl (ap f here ∙ is)
 among_mapped f c x (d ∷ ds) is (inr more) = inr (among_mapped f c x ds is more)

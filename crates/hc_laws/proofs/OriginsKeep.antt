@@ -154,7 +154,7 @@ module _ (limits : Limits) (t : Tables) (now : ℕ) (flaw : Flaw) (s : Sound t) 
 
 -- A DENIED ENTRY
 
-was_byte : (t : Tables) (e : Entry) (r x : ℕ) → HasByte (after_denied t e) r x → HasByte t r x
+pub was_byte : (t : Tables) (e : Entry) (r x : ℕ) → HasByte (after_denied t e) r x → HasByte t r x
 was_byte t e r x (origins.has_byte p cell v row there from) = origins.has_byte p cell v row there from
 
 may_still : (t : Tables) (e : Entry) (r x : ℕ) → MayDeliver t r x → MayDeliver (after_denied t e) r x

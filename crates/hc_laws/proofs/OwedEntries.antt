@@ -22,12 +22,9 @@ use Rattle.hc_effects.proofs.Basics.{false_true, number_yes}
 use Rattle.hc_laws.proofs.ExchangeFilters.{headless}
 use Rattle.hc_effects.proofs.FailsTold.{fails_told}
 use Rattle.hc_effects.proofs.FoundCases.{no_loss}
+use Rattle.hc_effects.proofs.EvictsLast.{flaw_same}
 
 -- THE FLAW THAT ACTS SHOW
-
-evicts_flaw : (rs : List ℕ) (acts : List Act) → flaw_in (map act.Evicted rs ++ acts) ≡ flaw_in acts
-evicts_flaw [] acts = refl
-evicts_flaw (r ∷ rs) acts = evicts_flaw rs acts
 
 closes_flaw : (xs : List ℕ) → flaw_in (map act.Close xs) ≡ NoFlaw
 closes_flaw [] = refl
@@ -85,7 +82,7 @@ module _ (limits : Limits) (t : Tables) (now : ℕ) (s : Sound t) (places : Plac
 
   outside_flaw : (ev : Event) → flaw_in (map act.Evicted (evicted limits t now ev) ++ (loss_acts (sizes ev) ++ close_acts t now ev (sizes ev))) ≡ sizes ev
   outside_flaw ev =
-      evicts_flaw (evicted limits t now ev) _
+      flaw_same (evicted limits t now ev) _
       ∙ lost_flaw (sizes ev) (closing t (record { now = now; event = ev; acts = answer_acts t now ev (sizes ev) ++ loss_acts (sizes ev) })) (room_flaw (room_for limits t now ev) (written_representation t (entry_without_acts now ev)))
 
   -- the acts of an accepted event show the flaw of the sizes

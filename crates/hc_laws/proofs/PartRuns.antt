@@ -21,6 +21,7 @@ use Rattle.hc_effects.proofs.FoundBy as cases
 use Rattle.hc_effects.proofs.RepFrom.{RepFrom, rep_from}
 use Rattle.hc_effects.proofs.RepFrom as rep
 use Rattle.hc_laws.proofs.RunFacts.{in_runs}
+use Rattle.hc_laws.proofs.CoversNew.{head_inj}
 use Rattle.hc_effects.proofs.WantedSpans.{wanted_some}
 
 -- A RANGE THAT IS READ
@@ -39,9 +40,6 @@ range_206 t lost w response (cases.founds_range way status fits kept good) = sta
 
 whole_total : (w : Exchange) (response : Response) → response.status ≡ 200 → founded_total w response ≡ promise_in w response
 whole_total w response status = let off : nat_eq response.status 206 ≡ false = grind (arith, nat_tests, status) in rw off refl
-
-head_inj : (x y : ℕ) (a b : Response) → event.Head x a ≡ event.Head y b → a ≡ b
-head_inj x y a b is = cc
 
 hole_founding : (y : ℕ) → by.FirstHole y ≡ by.Founding → ⊥
 hole_founding y is = cc

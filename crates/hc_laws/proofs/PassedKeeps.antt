@@ -19,7 +19,7 @@ use Rattle.hc_effects.proofs.WaitedAs.{waited_as}
 use Rattle.hc_effects.proofs.WaitedAs as waited
 
 -- only what validates is conditional
-conditional_need : (n : Need) (request : Request) → is_conditional n request ≡ true → n ≡ need.Validate
+pub conditional_need : (n : Need) (request : Request) → is_conditional n request ≡ true → n ≡ need.Validate
 conditional_need need.Disabled request h = absurd (false_true h)
 conditional_need need.TimedOut request h = absurd (false_true h)
 conditional_need need.Bypass request h = absurd (false_true h)

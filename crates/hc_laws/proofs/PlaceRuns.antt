@@ -14,7 +14,7 @@ use Rattle.hc_effects.proofs.Beside.{IsBeside, is_cached_place}
 use Rattle.hc_effects.proofs.Bounded.{IsBounded}
 use Rattle.hc_laws.proofs.InRuns.{turned_in_runs}
 use Rattle.hc_effects.proofs.OfEntries.{of_real}
-use Rattle.hc_laws.proofs.PlacesKept.{AreOwn, IsOwnTurn, own_kept, turn_direct, bound_direct, bound_turn}
+use Rattle.hc_laws.proofs.PlacesKept.{AreOwn, IsOwnTurn, own_kept, turn_direct, bound_turn}
 use Rattle.hc_laws.proofs.PlacesRead.{AreRead, read_kept}
 use Rattle.hc_laws.proofs.PlacesEnded.{AreEnded, ended_kept}
 use Rattle.hc_laws.proofs.PlacesGiven.{ArePast, past_kept}
@@ -24,6 +24,7 @@ use Rattle.hc_laws.proofs.PlacesTold.{AreTold, told_kept, told_denied, down_told
 use Rattle.hc_laws.proofs.ReadEnds.{bounded}
 use Rattle.hc_laws.proofs.ReadJoined.{fallback}
 use Rattle.hc_effects.proofs.ShownStays.{IsFallback}
+use Rattle.hc_effects.proofs.PastApart.{bound_direct}
 use Rattle.hc_laws.proofs.SoundRuns.{IsCarried, carried}
 use Rattle.hc_laws.proofs.TurnFacts.{IsTaken}
 use Rattle.hc_laws.proofs.Unreached.{unreached}

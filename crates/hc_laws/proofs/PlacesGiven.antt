@@ -30,7 +30,7 @@ use Rattle.hc_effects.proofs.OwnersKeep.{is_opened, new_number}
 use Rattle.hc_effects.proofs.PastKeeps.{IsFrom, PlaceFrom, direct_from}
 use Rattle.hc_effects.proofs.PastKeeps as past
 use Rattle.hc_effects.proofs.PieceKeeps.{eq_cases}
-use Rattle.hc_laws.proofs.PlacesKept.{AreOwn, IsOwnPast, past_unopened, left_past, head_poll, bound_direct, over_direct}
+use Rattle.hc_laws.proofs.PlacesKept.{AreOwn, IsOwnPast, past_unopened, left_past, head_poll, over_direct}
 use Rattle.hc_effects.proofs.PollActs.{ToOne, to_one}
 use Rattle.hc_effects.proofs.PollActs as acts_to
 use Rattle.hc_effects.proofs.ShownOnce as shown_once
@@ -39,6 +39,7 @@ use Rattle.hc_effects.proofs.ShownStays as stands
 use Rattle.hc_effects.proofs.ToBeShown.{heard_place}
 use Rattle.hc_effects.proofs.Waiters.{IsWaiter, waiter_as, waits_undue}
 use Rattle.hc_effects.proofs.Waiters as waiters
+use Rattle.hc_effects.proofs.PastApart.{bound_direct}
 
 -- of who reads the answer of an exchange past the store
 pub record ArePast (t : Tables) : Type 0 where
@@ -50,7 +51,7 @@ none_if true = refl
 none_if false = refl
 
 -- a byte of an answer is one that came
-answer_below : (x p : ℕ) (w : Exchange) (cell : Cell) → answer_cell x p w ≡ Some cell → p < front w
+pub answer_below : (x p : ℕ) (w : Exchange) (cell : Cell) → answer_cell x p w ≡ Some cell → p < front w
 answer_below x p w cell is = elim (bool_cases (nat_le (base w) p && nat_lt p (front w))) [
   | inl on ↦ let test : nat_lt p (front w) ≡ true = and_right (nat_le (base w) p) (nat_lt p (front w)) on in grind (arith, nat_tests)
   | inr off ↦ absurd (none_some cell (rw off at is))

@@ -30,6 +30,7 @@ use Rattle.hc_effects.proofs.TurnPlaces.{ComesFrom, StaysOrPlain, is_after}
 use Rattle.hc_effects.proofs.TurnPlaces as places
 use Rattle.hc_effects.proofs.Waiters.{IsWaiter, waiter_of, waiter_as, unclosed}
 use Rattle.hc_effects.proofs.Waiters as waiters
+use Rattle.hc_effects.proofs.PastApart.{bound_direct}
 
 -- WHAT IS CARRIED
 
@@ -65,9 +66,6 @@ down_direct why y is = cc
 
 pub turn_direct : (x y : ℕ) → place.Turn x ≡ place.Direct y → ⊥
 turn_direct x y is = cc
-
-pub bound_direct : (r lo : ℕ) (hi : Option ℕ) (how : BoundBy) (y : ℕ) → place.Bound r lo hi how ≡ place.Direct y → ⊥
-bound_direct r lo hi how y is = cc
 
 pub direct_inj : (x y : ℕ) → place.Direct x ≡ place.Direct y → x ≡ y
 direct_inj x y is = cc

@@ -20,7 +20,7 @@ use Rattle.hc_effects.proofs.PieceKeeps.{eq_cases}
 use Rattle.hc_laws.proofs.PlacesKept.{AreOwn, settled}
 use Rattle.hc_effects.proofs.Said.{WaitsAs, waiting_by}
 use Rattle.hc_effects.proofs.ShownStays.{IsFallback, way_bound, shows_not, unless_same}
-use Rattle.hc_laws.proofs.TurnFacts.{IsTaken, AtPoll, seen, behind, far_behind, opens_behind, misreads_behind, at_poll}
+use Rattle.hc_laws.proofs.TurnFacts.{IsTaken, AtPoll, seen, behind, far_behind, opens_behind, misreads_behind, at_poll, eq-refl}
 use Rattle.hc_laws.proofs.TurnFacts as facts
 use Rattle.hc_laws.proofs.TurnOpens as opens
 use Rattle.hc_effects.proofs.TurnPlaces.{is_after}
@@ -46,12 +46,6 @@ reads_reader (place.Bound r lo hi how) h = tt
 reads_reader (place.Direct x) h = tt
 reads_reader (place.Down why) h = false_true h
 reads_reader place.Over h = tt
-
-self : (c : ℕ) → (c == c) ≡ true
-self c = elim (eq_cases c c) [
-  | inl hit ↦ hit.0
-  | inr off ↦ absurd (off.1 refl)
-]
 
 module _ (limits : Limits) (t : Tables) (now : ℕ) (flaw : Flaw) (s : Sound t) (o : Owners t) (a : IsFallback t) (g : AreOwn t) (turns : Turns t) (readers : AreReaders t) (ev : Event) (goes : denial t ev ≡ None) where
   abbrev e : Entry
@@ -282,8 +276,8 @@ module _ (limits : Limits) (t : Tables) (now : ℕ) (flaw : Flaw) (s : Sound t) 
 
       shown_by : (p : Place) → IsReader (shown_place c (Some (record { c = c; r = r; lo = lo; hi = hi })) p)
       shown_by p = elim (bool_cases (reads p)) [
-        | inl old ↦ rw (self c, old) (reads_reader p old)
-        | inr free ↦ rw (self c, free) tt
+        | inl old ↦ rw (eq-refl c, old) (reads_reader p old)
+        | inr free ↦ rw (eq-refl c, free) tt
       ]
 
       lands : (u : Consumer) → now_on.consumer c ≡ Some u → IsReader u.place

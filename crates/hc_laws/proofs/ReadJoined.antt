@@ -31,7 +31,7 @@ use Rattle.hc_effects.proofs.ShownStays.{IsFallback, StaysOrIdle, shown_stays}
 use Rattle.hc_effects.proofs.ShownStays as stands
 use Rattle.hc_laws.proofs.SoundRuns.{IsCarried, carried}
 
-one_inj : (x y : Shown) → x ∷ [] ≡ y ∷ [] → x ≡ y
+pub one_inj : (x y : Shown) → x ∷ [] ≡ y ∷ [] → x ≡ y
 one_inj x y is = cc
 
 -- AN ANSWER PAST THE STORE, IN RUNS

@@ -19,7 +19,7 @@ over_append [] ys f = refl
 over_append (run ∷ xs) ys f = over_append xs ys (cells_with run.at run.x run.bytes f)
 
 -- the same over what has the same at each position
-written_at : (at x q : ℕ) (bytes : List ℕ) (f g : Cells) → f q ≡ g q → cells_with at x bytes f q ≡ cells_with at x bytes g q
+pub written_at : (at x q : ℕ) (bytes : List ℕ) (f g : Cells) → f q ≡ g q → cells_with at x bytes f q ≡ cells_with at x bytes g q
 written_at at x q bytes f g same = elim (bool_cases (inside at (length bytes) q)) [
   | inl here ↦ rw here refl
   | inr off ↦ rw off same

@@ -1,11 +1,11 @@
 -- How much is stored stays the count of positions, and no more than an entry may have.
 use Rattle.std.proofs.Common.{◌≡◌, inl, inr, ℕ, ◌+◌, ◌≤◌, List, [], ◌∷◌, length, Bool, true, false, Option, Some, None, refl, ap, sym, ◌∙◌, subst, arith, max}
-use Rattle.std.specs.Prelude.{is_some, ◌||◌, ◌==◌, not, nat_le, find, if◌then◌else◌, option_map}
+use Rattle.std.specs.Prelude.{◌||◌, ◌==◌, not, nat_le, find, if◌then◌else◌, option_map}
 use Rattle.std.proofs.lemmas.Bool.Decides.{nat_tests}
 use Rattle.hc_text.proofs.Basics.{and_left, and_right, eq_tells as eq_is, not_some as none_some, some_inj}
 use Rattle.hc_effects.proofs.Vocabulary.{Event, Response, Limits, loses_in, may_begin, are_good, is_good, denial, Entry, Content, Contents, front, family, Flaw, entry_of, OfRunsIn, representation_heard, representation_after_head, with_renewed_head, updates, representation_after_piece, with_stored_bytes, with_total_if_none, length_in, Tables, Exchange, Representation, Sizes, Sound, IsStored, first_tables, representation_of_content, bytes_in, after_accepted, after_denied}
 use Rattle.hc_event.specs.declared.event.Event.TheVariants as event
-use Rattle.hc_sparse.specs.Cells.{Cell, AreAbsent, EndsBy, nothing, size_below}
+use Rattle.hc_sparse.specs.Cells.{AreAbsent, nothing, size_below}
 use Rattle.hc_effects.proofs.Basics.{false_true}
 use Rattle.hc_laws.proofs.FitsKept.{Fits, stored_small}
 use Rattle.hc_laws.proofs.FitsRuns.{fits_begin, fits_denied, fits_kept}
@@ -19,6 +19,7 @@ use Rattle.hc_effects.proofs.RepFrom as rep
 use Rattle.hc_laws.proofs.RunFacts.{in_runs}
 use Rattle.hc_laws.proofs.SoundRuns.{IsCarried}
 use Rattle.hc_effects.proofs.Weighed.{sized}
+use Rattle.hc_effects.proofs.GivenNext.{stored_ends}
 
 -- THE COUNT
 
@@ -33,17 +34,9 @@ kept_parts : (lost loses : Bool) → not (lost || loses) ≡ true → lost ≡ f
 kept_parts true loses h = absurd (false_true h)
 kept_parts false loses h = refl
 
--- nothing is stored past the reach
-ends_stored : (v : Representation) → IsStored v → EndsBy v.reach v.stored
-ends_stored v store p le = by_cell (v.stored p) refl
-  where
-    by_cell : (z : Option Cell) → v.stored p ≡ z → v.stored p ≡ None
-    by_cell None is = is
-    by_cell (Some cell) is = store.some_stored p (ap is_some is) ∙ store.ends p le
-
 filled_counts : (b : Bool) (at x : ℕ) (bytes : List ℕ) (v : Representation) → IsStored v → Counts v → (b ≡ true → AreAbsent v.stored at (at + length bytes)) → Counts (with_stored_bytes b at x bytes v)
-filled_counts true at x bytes v store old absent = ap (λ n. n + length bytes) old ∙ sym (below_put v.stored at x v.reach bytes (ends_stored v store) (absent refl))
-filled_counts false at x bytes v store old absent = old ∙ sym (below_past v.stored v.reach (max v.reach (at + length bytes)) (ends_stored v store) (omega arith))
+filled_counts true at x bytes v store old absent = ap (λ n. n + length bytes) old ∙ sym (below_put v.stored at x v.reach bytes (stored_ends v store) (absent refl))
+filled_counts false at x bytes v store old absent = old ∙ sym (below_past v.stored v.reach (max v.reach (at + length bytes)) (stored_ends v store) (omega arith))
 
 module _ (t : Tables) (e : Entry) (s : Sound t) (goes : denial t e.event ≡ None) where
   absent_at : (r x : ℕ) (bytes : List ℕ) (w : Exchange) (v : Representation) → e.event ≡ event.Piece x bytes → t.exchange x ≡ Some w → family x w ≡ r → t.representation r ≡ Some v → v.is_lost ≡ false → AreAbsent v.stored (front w) (front w + length bytes)

@@ -11,6 +11,7 @@ use Rattle.hc_model.specs.Laws.{StoresAreKept}
 use Rattle.hc_effects.proofs.Basics.{or_false}
 use Rattle.hc_effects.proofs.Once.{delivers_once}
 use Rattle.hc_effects.proofs.CurrentKeeps.{heard_same}
+use Rattle.hc_laws.proofs.RepresentationFilters.{written_at}
 
 -- WHAT AN EVENT LEAVES OF A ROW
 
@@ -79,12 +80,6 @@ written_same at x p bytes f g old there = elim (inside-cases at (length bytes) p
   | inr off ↦ rw off.0 (old (rw off.0 at there))
 ]
 
-written_all : (at x p : ℕ) (bytes : List ℕ) (f g : Cells) → f p ≡ g p → cells_with at x bytes f p ≡ cells_with at x bytes g p
-written_all at x p bytes f g old = elim (inside-cases at (length bytes) p) [
-  | inl here ↦ let yes = inside-yes at (length bytes) p here.1 here.2 in rw yes refl
-  | inr off ↦ rw off.0 old
-]
-
 -- what wasn't there is written beside what was
 written_beside : (at x p : ℕ) (bytes : List ℕ) (f g : Cells) → AreAbsent g at (at + length bytes) → (is_some (f p) ≡ true → f p ≡ g p) → is_some (f p) ≡ true → f p ≡ cells_with at x bytes g p
 written_beside at x p bytes f g absent old there = elim (inside-cases at (length bytes) p) [
@@ -109,7 +104,7 @@ piece_kept v loses at x bytes s absent = by_loss (v.is_lost || loses) refl
     by_loss : (b : Bool) → (v.is_lost || loses) ≡ b → IsKept v (with_stored_bytes (not b) at x bytes v) (loses || v.is_lost)
     by_loss false is = record {
       ends = ends_by;
-      all = λ h p. written_all at x p bytes v.stored v.body (s.all_stored ((or_false v.is_lost loses is).0) p);
+      all = λ h p. written_at at x p bytes v.stored v.body (s.all_stored ((or_false v.is_lost loses is).0) p);
       some = λ p there. written_same at x p bytes v.stored v.body (s.some_stored p) there;
     }
     by_loss true is = record {

@@ -32,7 +32,7 @@ use Rattle.hc_laws.proofs.HeadFrom.{joining_kept}
 use Rattle.hc_effects.proofs.HeadKeeps.{is_join}
 use Rattle.hc_laws.proofs.Lasting.{was_not_gone, not_lost, lasting}
 use Rattle.hc_effects.proofs.LossBy.{IsReal}
-use Rattle.hc_laws.proofs.OriginsKeep.{Brought, from_before}
+use Rattle.hc_laws.proofs.OriginsKeep.{Brought, from_before, was_byte}
 use Rattle.hc_effects.proofs.ExclusiveWriters.{writer_some}
 use Rattle.hc_effects.proofs.RepFrom.{RepFrom, rep_from, IsKept, IsResumed}
 use Rattle.hc_effects.proofs.RepFrom as rep
@@ -230,9 +230,6 @@ module _ (limits : Limits) (t : Tables) (now : ℕ) (flaw : Flaw) (c : IsCarried
 one_denied : (t : Tables) (e : Entry) (v : Representation) → IsOfOne t v → IsOfOne (after_denied t e) v
 one_denied t e v (heads.comes on status) = heads.comes (written_same t e v ∙ on) status
 one_denied t e v (heads.whole total known covered) = heads.whole total known covered
-
-was_byte : (t : Tables) (e : Entry) (r x : ℕ) → HasByte (after_denied t e) r x → HasByte t r x
-was_byte t e r x (origins.has_byte p cell v row there from) = origins.has_byte p cell v row there from
 
 pub tags_denied : (t : Tables) (e : Entry) → Tags t → Tags (after_denied t e)
 tags_denied t e g = record {

@@ -4,7 +4,7 @@ use Rattle.std.proofs.Common.{◌≡◌, ◌⊎◌, inl, inr, ℕ, List, [], ◌
 use Rattle.std.specs.Prelude.{◌||◌, ◌==◌, nat_eq, map, filter, reverse}
 use Rattle.hc_text.proofs.Basics.{bool_cases, or_cases, or_right as or_yes}
 use mathlib.Core.List.{reverse_aux}
-use Rattle.hc_effects.proofs.Vocabulary.{is_denied, closes_in, evicts_in, opening_in, leaves_in, Act, Event, Response, Limits, loses_in, has_loss, misreads_in, fails_in, without_losses, accepted_acts, answer_acts, loss_acts, close_acts, case_at, case_of, closing, closes_row, must_close, doomed_key_of, doomed_in, doomed_by_head, doomed_by_case, Entry, exchange_heard, Flaw, NoFlaw, Loses, Misreads, flaw_in, Turns, Move, acts_of, poll_move, Tables, Exchange, Consumer, IsOwed, may_stand, may_be, Sound, Among, evicted}
+use Rattle.hc_effects.proofs.Vocabulary.{is_denied, closes_in, evicts_in, opening_in, leaves_in, Act, Event, Response, Limits, loses_in, has_loss, misreads_in, fails_in, accepted_acts, answer_acts, loss_acts, close_acts, case_at, case_of, closing, closes_row, must_close, doomed_key_of, doomed_in, doomed_by_head, doomed_by_case, Entry, exchange_heard, Flaw, NoFlaw, Loses, Misreads, flaw_in, Turns, Move, acts_of, poll_move, Tables, Exchange, Consumer, IsOwed, may_stand, may_be, Sound, Among, evicted}
 use Rattle.hc_event.specs.declared.act.Act.TheVariants as act
 use Rattle.hc_event.specs.declared.act.Cause.TheVariants as cause
 use Rattle.hc_event.specs.declared.event.Event.TheVariants as event
@@ -14,6 +14,7 @@ use Rattle.hc_effects.proofs.ActParts as parts
 use Rattle.hc_effects.proofs.Owed.{acts_are}
 use Rattle.hc_effects.proofs.PieceKeeps.{eq_cases}
 use Rattle.hc_effects.proofs.TurnMoves.{Does, does_polled}
+use Rattle.hc_effects.proofs.SaidActs.{closes_lose, all_lose, evicted_lose}
 
 -- LISTS
 
@@ -24,7 +25,7 @@ among_aux x (y ∷ xs) ys (inl (inl here)) = among_aux x xs (y ∷ ys) (inr (inl
 among_aux x (y ∷ xs) ys (inl (inr there)) = among_aux x xs (y ∷ ys) (inl there)
 among_aux x (y ∷ xs) ys (inr there) = among_aux x xs (y ∷ ys) (inr (inr there))
 
-eq-refl : (x : ℕ) → (x == x) ≡ true
+pub eq-refl : (x : ℕ) → (x == x) ≡ true
 eq-refl x = elim (eq_cases x x) [ inl same ↦ same.0 | inr other ↦ absurd (other.1 refl) ]
 
 -- what passes the test and is in the list is closed
@@ -40,22 +41,10 @@ closes_passing x test (y ∷ ys) (inr there) passes = elim (bool_cases (test y))
 
 -- LOSSES
 
-loss_evicted : (rs : List ℕ) (rest : List Act) → has_loss (map act.Evicted rs ++ rest) ≡ has_loss rest
-loss_evicted [] rest = refl
-loss_evicted (r ∷ rs) rest = loss_evicted rs rest
-
-loss_closed : (ys : List ℕ) (rest : List Act) → has_loss (map act.Close ys ++ rest) ≡ has_loss rest
-loss_closed [] rest = refl
-loss_closed (y ∷ ys) rest = loss_closed ys rest
-
-loss_closes : (ys : List ℕ) → has_loss (map act.Close ys) ≡ false
-loss_closes [] = refl
-loss_closes (y ∷ ys) = loss_closes ys
-
 loss_before : (flaw : Flaw) (ys : List ℕ) → has_loss (loss_acts flaw ++ map act.Close ys) ≡ has_loss (loss_acts flaw)
-loss_before NoFlaw ys = loss_closes ys
+loss_before NoFlaw ys = all_lose ys
 loss_before (Loses r kind) ys = refl
-loss_before (Misreads r) ys = loss_closes ys
+loss_before (Misreads r) ys = all_lose ys
 
 loss_move : (c : ℕ) (m : Move) (rest : List Act) → has_loss (acts_of c m ++ rest) ≡ has_loss rest
 loss_move c moves.Nothing rest = refl
@@ -85,11 +74,6 @@ fails_leaves c (_ ∷ acts) h = fails_leaves c acts h
 may_of : (limits : Limits) (t : Tables) (e : Entry) → is_denied e.acts ≡ false → may_stand limits t e ≡ true → may_be limits t e (flaw_in e.acts) ≡ true
 unfolding may_stand
 may_of limits t e not_denied stands = rw not_denied at stands
-
-pub closes_lossless : (x : ℕ) (acts : List Act) → closes_in x (without_losses acts) ≡ closes_in x acts
-closes_lossless x [] = refl
-closes_lossless x (act.Close y ∷ acts) = ap (λ b. (y == x) || b) (closes_lossless x acts)
-closes_lossless x (_ ∷ acts) = closes_lossless x acts
 
 -- it is a consumer's own
 abbrev pub is_asking : Event → Bool
@@ -156,8 +140,8 @@ module _ (limits : Limits) (t : Tables) (e : Entry) (taken : IsTaken limits t e)
   -- THE CASE OF A HEAD
 
   loss_by : (acts : List Act) → answered acts → has_loss acts ≡ has_loss (loss_acts flaw)
-  loss_by _ (parts.told silent) = loss_evicted (evicted limits t e.now e.event) _ ∙ loss_before flaw closings
-  loss_by _ parts.asked = loss_said t e.now e.event flaw asked_of _ said_here ∙ loss_closed closings (loss_acts flaw)
+  loss_by _ (parts.told silent) = evicted_lose (evicted limits t e.now e.event) _ ∙ loss_before flaw closings
+  loss_by _ parts.asked = loss_said t e.now e.event flaw asked_of _ said_here ∙ closes_lose closings (loss_acts flaw)
 
   pub loss_as : has_loss e.acts ≡ has_loss (loss_acts flaw)
   loss_as = ap has_loss acts_is ∙ loss_by _ is_answer

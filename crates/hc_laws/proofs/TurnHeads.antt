@@ -1,10 +1,9 @@
 -- A 304 that validates lets its consumer through: what is current stays so.
-use Rattle.std.proofs.Common.{◌≡◌, ℕ, List, [], ◌∷◌, ◌++◌, Bool, true, false, Option, Some, None, refl, ap, sym, ◌∙◌}
+use Rattle.std.proofs.Common.{◌≡◌, ℕ, [], ◌∷◌, ◌++◌, Bool, true, false, Option, Some, None, refl, ap, sym, ◌∙◌}
 use Rattle.std.specs.Prelude.{◌&&◌, ◌||◌, ◌==◌, not, is_none, is_some, if◌then◌else◌, nat_le}
 use Rattle.std.specs.Option.{option_map}
 use Rattle.hc_text.proofs.Basics.{and_left, and_none, and_right as and_then, not_true as not_yes, some_inj}
-use Rattle.hc_effects.proofs.Vocabulary.{opening_in, Act, Need, Request, Response, HeadCase, HeadView, Route, Limits, Write, head_case, case_on, direct_case, first_case, later_case, is_conditional, is_same_number, route_of, has_loss, loses_in, misreads_in, leaver_in, answer_acts, loss_acts, case_at, case_of, head_view, validates, is_founding, must_close, is_doomed, is_left, leaver, leaver_by, is_refused, brings_head, has_no_survivor, awaits, current, is_current, is_number, doomed_key_of, doomed_in, doomed_by_head, doomed_by_case, bypass_key, bypassed_by, is_key, Entry, entry_without_acts, exchange_at, is_headless, family, flaw_in, becomes_gone, goes_by_head, goes_by_exchange, goes_by_case, ends_early, ends_founding, stops_early, is_keepable, is_written, Tables, Exchange, Representation, evicted, first_idle, room_for, room_by, write_in, brings_body, loses_writing, survivor}
-use Rattle.hc_event.specs.declared.act.Act.TheVariants as act
+use Rattle.hc_effects.proofs.Vocabulary.{opening_in, Response, HeadCase, HeadView, Route, Limits, Write, head_case, case_on, direct_case, first_case, later_case, is_conditional, is_same_number, route_of, has_loss, misreads_in, leaver_in, answer_acts, loss_acts, case_at, case_of, head_view, validates, is_founding, must_close, is_doomed, is_left, leaver, leaver_by, is_refused, brings_head, has_no_survivor, awaits, current, is_current, is_number, doomed_key_of, doomed_in, doomed_by_head, doomed_by_case, bypass_key, bypassed_by, is_key, Entry, entry_without_acts, exchange_at, is_headless, family, flaw_in, becomes_gone, goes_by_head, goes_by_exchange, goes_by_case, ends_early, ends_founding, stops_early, is_keepable, is_written, Tables, Exchange, Representation, evicted, first_idle, room_for, room_by, write_in, brings_body, loses_writing, survivor}
 use Rattle.hc_event.specs.declared.act.Need.TheVariants as need
 use Rattle.hc_event.specs.declared.event.Event.TheVariants as event
 use Rattle.hc_rules.specs.declared.heads.HeadCase.TheVariants as case
@@ -15,6 +14,8 @@ use Rattle.hc_effects.proofs.Joining.{mix}
 use Rattle.hc_effects.proofs.KeyRows.{same_number}
 use Rattle.hc_laws.proofs.TurnFacts as facts
 use Rattle.hc_laws.proofs.TurnFacts.{IsTaken, seen, stays_open, told_quiet, evicts_none, same_case, same_doom}
+use Rattle.hc_laws.proofs.PassedKeeps.{conditional_need}
+use Rattle.hc_laws.proofs.HadHeaded.{lossless_none as no_loss}
 
 -- THE CASE
 
@@ -63,10 +64,6 @@ module _ (v : HeadView) where
   validated_on route.Turn is = (refl, by_passing passes _ turn_rest (by_bad v.bad _ is))
   validated_on route.Hole is = never_validated (case_on route.Hole v) (mix Other v.shown (later_case v) (first_case v) later_other first_other) is
 
-conditional_need : (n : Need) (request : Request) → is_conditional n request ≡ true → n ≡ need.Validate
-conditional_need need.Validate request h = refl
-conditional_need _ request h = absurd (let no_one : false ≡ true = h in cc)
-
 -- what validating takes: a conditional request that has the turn, for what is still current, and no loss
 pub record IsValid (t : Tables) (e : Entry) (x r : ℕ) (w : Exchange) : Type 0 where
   pub turn : route_of w.need ≡ route.Turn
@@ -108,11 +105,6 @@ valid_aim t e x response w at row found =
     same_some (Some m) None h = absurd (let no_one : false ≡ true = h in cc)
 
 -- IT LEAVES WHAT IS STORED
-
-no_loss : (r : ℕ) (acts : List Act) → has_loss acts ≡ false → loses_in r acts ≡ false
-no_loss r [] h = refl
-no_loss r (act.Lost q kind ∷ acts) h = absurd (let no_one : true ≡ false = h in cc)
-no_loss r (_ ∷ acts) h = no_loss r acts h
 
 module _ (limits : Limits) (t : Tables) (e : Entry) (taken : IsTaken limits t e) (x : ℕ) (response : Response) (w : Exchange) (at : e.event ≡ event.Head x response) (row : t.exchange x ≡ Some w) (found : case_at t e ≡ Some case.Validated) (lossless : has_loss e.acts ≡ false) where
   abbrev saw : Entry

@@ -16,10 +16,11 @@ use Rattle.hc_effects.proofs.ActParts as parts
 use Rattle.hc_effects.proofs.Basics.{number_is}
 use Rattle.hc_effects.proofs.KeysKeep.{IsOpening, opened_is}
 use Rattle.hc_effects.proofs.KeysKeep as keeps
-use Rattle.hc_laws.proofs.TurnFacts.{IsTaken, AtPoll, acts_is, seen, behind, far_behind, opens_behind, at_poll, stays_open, loses_as, misreads_behind, evicts_asked, closes_lossless, may_be_so}
+use Rattle.hc_laws.proofs.TurnFacts.{IsTaken, AtPoll, acts_is, seen, behind, far_behind, opens_behind, at_poll, stays_open, loses_as, misreads_behind, evicts_asked, may_be_so}
 use Rattle.hc_laws.proofs.TurnFacts as facts
 use Rattle.hc_effects.proofs.TurnMoves.{Does}
 use Rattle.hc_effects.proofs.TurnMoves as does
+use Rattle.hc_effects.proofs.KeyActs.{closes_lossless}
 
 abbrev is_poll : Event → Bool
 is_poll (event.Poll c want) = true

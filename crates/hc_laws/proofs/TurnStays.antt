@@ -17,6 +17,7 @@ use Rattle.hc_effects.proofs.ActParts.{IsFarFrom}
 use Rattle.hc_effects.proofs.KeyNames.{opener_key}
 use Rattle.hc_effects.proofs.Once.{never}
 use Rattle.hc_effects.proofs.Owed.{goes}
+use Rattle.hc_effects.proofs.BoundStays.{none_of}
 use Rattle.hc_laws.proofs.TurnFacts.{IsTaken, AtPoll, seen, behind, far_behind, at_poll, far_from, is_closed, same_doom}
 use Rattle.hc_laws.proofs.TurnFacts as facts
 
@@ -66,12 +67,8 @@ fault_opens w h none = rw (fault_by w.is_open (is_some w.head) w.asked (length w
 pub is_open_headless : (w : Exchange) → is_headless (Some w) ≡ true → w.is_open ≡ true
 is_open_headless w h = and_left _ _ h
 
-bare_head : (o : Option Response) → is_none o ≡ true → o ≡ None
-bare_head None h = refl
-bare_head (Some response) h = absurd (let no_one : false ≡ true = h in cc)
-
 pub head_none : (w : Exchange) → is_headless (Some w) ≡ true → w.head ≡ None
-head_none w h = bare_head w.head (and_then w.is_open (is_none w.head) h)
+head_none w h = none_of w.head (and_then w.is_open (is_none w.head) h)
 
 headed_not : (w : Exchange) → is_headless (Some w) ≡ true → is_some w.head ≡ true → ⊥
 headed_not w h headed = let no_one : false ≡ true = ap is_some (sym (head_none w h)) ∙ headed in cc

@@ -45,14 +45,11 @@ use Rattle.hc_effects.proofs.ToBeShown.{heard_place}
 use Rattle.hc_effects.proofs.Unclosed.{had_to}
 use Rattle.hc_effects.proofs.Waiters.{unleft, waiter_as}
 use Rattle.hc_effects.proofs.WritingStops.{ended_total}
+use Rattle.hc_effects.proofs.WriterEnds.{none_of}
 
-or_none : (a : Option ℕ) (n : ℕ) → option_or a (Some n) ≡ None → ⊥
+pub or_none : (a : Option ℕ) (n : ℕ) → option_or a (Some n) ≡ None → ⊥
 or_none None n h = none_some n (sym h)
 or_none (Some a) n h = none_some a (sym h)
-
-none_of : (h : Option Response) → is_none h ≡ true → is_some h ≡ true → ⊥
-none_of None bare headed = false_true headed
-none_of (Some response) bare headed = false_true bare
 
 none_some_test : (z : Option ℕ) (n : ℕ) → z ≡ Some n → is_none z ≡ true → ⊥
 none_some_test None n is none = none_some n is

@@ -1,7 +1,6 @@
 -- What isn't gone and has no known length is being written for several.
 use Rattle.std.proofs.Common.{◌≡◌, ◌⊎◌, inl, inr, ℕ, ◌+◌, Bool, true, false, Option, Some, None, refl, ap, sym, ◌∙◌}
 use Rattle.std.specs.Prelude.{is_some, ◌&&◌, ◌==◌, not, nat_lt, unwrap_or, option_map}
-use Rattle.std.specs.Option.{option_or}
 use Rattle.hc_text.proofs.Basics.{not_some as none_some, some_inj}
 use Rattle.hc_effects.proofs.Vocabulary.{Event, Response, Limits, may_begin, is_kind_right, case_at, is_founding, denial, Entry, Content, Contents, is_open, Flaw, is_keepable, entry_of, item_of, AfterDenials, Measures, IsMeasured, Owners, is_written, covers, new_representation, asks_whole, hole_start, resumes, Tables, Exchange, Representation, Sound, IsGrowing, end_from, representation_of_content, first_tables, after_accepted}
 use Rattle.hc_event.specs.declared.event.Event.TheVariants as event
@@ -18,15 +17,12 @@ use Rattle.hc_effects.proofs.RepFrom as rep
 use Rattle.hc_laws.proofs.Lasting.{was_not_gone, not_lost, lasting}
 use Rattle.hc_laws.proofs.FoundedAs.{FoundedAs, founded_as}
 use Rattle.hc_laws.proofs.FoundedAs as founded
+use Rattle.hc_laws.proofs.UnendedRuns.{or_none}
 use Rattle.hc_effects.proofs.WritingStops.{IsAll}
 
 ends_none : (n : ℕ) (q : Option ℕ) → end_from n q ≡ None → q ≡ None
 ends_none n None h = refl
 ends_none n (Some a) h = absurd (some_none (n + a) h)
-
-or_none : (a : Option ℕ) (n : ℕ) → option_or a (Some n) ≡ None → ⊥
-or_none None n h = some_none n h
-or_none (Some a) n h = some_none a h
 
 pub record IsOnlyWritten (t : Tables) (v : Representation) : Type 0 where
   pub written : is_written t v ≡ true

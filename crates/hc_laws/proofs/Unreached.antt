@@ -7,14 +7,11 @@ use Rattle.hc_event.specs.declared.event.Event.TheVariants as event
 use Rattle.hc_effects.proofs.Basics.{false_true}
 use Rattle.hc_effects.proofs.FirstKeeps.{is_new}
 use Rattle.hc_effects.proofs.PieceKeeps.{eq_cases}
+use Rattle.hc_effects.proofs.ExchangeFrom.{not_left}
 use Rattle.hc_laws.proofs.RunFacts.{in_runs}
 
 pub record IsUnreached (limits : Limits) (t : Tables) : Type 0 where
   pub lacks : (x : ℕ) (w : Exchange) → t.exchange x ≡ Some w → w.is_open ≡ true → is_reached (promised_bytes w) (length w.body) ≡ false
-
-not_first : (a b : Bool) → (not a && b) ≡ true → a ≡ false
-not_first true b h = absurd (false_true h)
-not_first false b h = refl
 
 module _ (limits : Limits) (t : Tables) (now : ℕ) (flaw : Flaw) (s : Sound t) (ev : Event) (goes : denial t ev ≡ None) (was : IsUnreached limits t) where
   abbrev e : Entry
@@ -36,9 +33,9 @@ module _ (limits : Limits) (t : Tables) (now : ℕ) (flaw : Flaw) (s : Sound t) 
       headed its opened =
           let new = is_new limits t now flaw s ev goes x response w its row in
           let empty : length w.body ≡ 0 = ap (λ (xs : List ℕ). length xs) (s.waits.headless x w row new.bare).0 in
-          ap (is_reached (promise_in w response)) empty ∙ not_first (is_reached (promise_in w response) 0) w.is_open opened
+          ap (is_reached (promise_in w response)) empty ∙ not_left (is_reached (promise_in w response) 0) w.is_open opened
   heard x w row (event.Piece y bytes) at on = elim (eq_cases y x) [
-    | inl same ↦ rw same.0 (not_first (is_reached (promised_bytes w) (length (w.body ++ bytes))) w.is_open (rw same.0 at on))
+    | inl same ↦ rw same.0 (not_left (is_reached (promised_bytes w) (length (w.body ++ bytes))) w.is_open (rw same.0 at on))
     | inr apart ↦ rw apart.0 (was.lacks x w row (rw apart.0 at on))
   ]
   heard x w row (event.End y) at on = elim (eq_cases y x) [

@@ -21,9 +21,10 @@ use Rattle.hc_effects.proofs.FailsTold.{fails_told}
 use Rattle.hc_effects.proofs.LeftBy.{left_passed}
 use Rattle.hc_effects.proofs.Owed.{goes, acts_are, is_denial, IsDenied}
 use Rattle.hc_effects.proofs.Owed as owed_by
-use Rattle.hc_laws.proofs.TurnFacts.{closes_lossless, far_from, may_be_so}
+use Rattle.hc_laws.proofs.TurnFacts.{far_from, may_be_so}
 use Rattle.hc_effects.proofs.LeaveFrames.{IsFront, acts_left, goes_by, itself}
 use Rattle.hc_effects.proofs.LeaveFrames as frames
+use Rattle.hc_effects.proofs.KeyActs.{closes_lossless}
 use Rattle.hc_laws.proofs.Accepted.{is_accepted}
 use Rattle.hc_laws.proofs.LiveAfter.{Starts, was_live}
 

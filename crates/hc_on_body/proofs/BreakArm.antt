@@ -5,6 +5,7 @@ use Rattle.std.specs.Prelude.{nat_eq, option_map, ◌&&◌, ◌==◌, if◌then�
 use Rattle.std.specs.HashMap.{get}
 use Rattle.hc_text.proofs.Basics.{eqb-other, eqb-same, same_or, same_some as same_row, some_inj as some_is, and_off as then_false}
 use Rattle.hc_effects.proofs.Vocabulary.{Limits, Cause, tables_after_close, over, with_consumer, with_exchange, family, brings_to, Lawful, IsAwaiting, Tables, Exchange, Representation}
+use Rattle.hc_effects.proofs.Tests.{none_some}
 use Rattle.hc_store.specs.declared.backend.Backend.{Ghosts}
 use Rattle.hc_exch.specs.Exchanges as exch
 use Rattle.hc_exch.specs.Known as known
@@ -22,7 +23,6 @@ use Rattle.hc_state.specs.Stands.{RowsStand}
 use Rattle.hc_state.specs.Stopped.{NobodyAwaits, Waited}
 use Rattle.hc_state.proofs.Closing.{stands_unstored}
 use Rattle.hc_state.proofs.Dropping.{stands_down, moved_to}
-use Rattle.hc_state.proofs.Words.{none_some}
 
 -- the rows once it is closed, told in two ways
 abbrev mapped_over : Tables → ℕ → ℕ → Option Exchange

@@ -8,9 +8,9 @@ use Rattle.hc_model.specs.Effects.{waits_for}
 use Rattle.hc_model.specs.Rows as rows
 use Rattle.hc_model.specs.Sound as sound
 use Rattle.hc_effects.proofs.HasBound.{bound_at}
+use Rattle.hc_effects.proofs.Tests.{none_some}
 use Rattle.hc_state.specs.Stored.{is_first}
 use Rattle.hc_state.proofs.OneOfEach.{first_by}
-use Rattle.hc_state.proofs.Words.{none_some}
 
 abbrev pub NobodyFirst : Tables → ℕ → Type 0
 NobodyFirst t x = (d : ℕ) → is_first t x (t.consumer d) ≡ false

@@ -19,6 +19,7 @@ use Rattle.hc_effects.proofs.AboutKeeps.{own_open_of}
 use Rattle.hc_effects.proofs.Covers.{headed_at}
 use Rattle.hc_effects.proofs.Once.{delivers_once}
 use Rattle.hc_effects.proofs.PieceEffects as does
+use Rattle.hc_effects.proofs.Tests.{none_some}
 use Rattle.hc_state.specs.declared.rows.Rows.{Rows}
 use Rattle.hc_state.specs.Facts.{Facts}
 use Rattle.hc_state.specs.Pieces.{unless_lost, stored_at, stored_by}
@@ -30,7 +31,6 @@ use Rattle.hc_state.proofs.Answering.{does_answered}
 use Rattle.hc_on_body.proofs.HeldPiece.{held_stands}
 use Rattle.hc_on_leave.proofs.PieceArm.{Brought, brought_of, Runs, runs_of, open_unended, brings_it, past_answered}
 use Rattle.hc_on_leave.proofs.PieceRows.{s}
-use Rattle.hc_state.proofs.Words.{none_some}
 
 -- whose an open exchange is that isn't the writing's
 pub record Owner (t : Tables) (x : ℕ) (w : Exchange) (v : Representation) : Type 0 where

@@ -4,6 +4,7 @@ use Rattle.std.specs.Prelude.{is_some, option_map, nat_eq}
 use Rattle.std.specs.HashMap.{get}
 use Rattle.hc_text.proofs.Basics.{false_true, none_of, same_some as same_row, some_inj as some_is}
 use Rattle.hc_effects.proofs.Vocabulary.{Limits, is_live, is_live_place, promised_bytes, Lawful, Awaits, IsAwaiting, Tables, Exchange}
+use Rattle.hc_effects.proofs.Tests.{none_some}
 use Rattle.hc_store.specs.declared.backend.Backend.{Ghosts}
 use Rattle.hc_exch.specs.declared.row.ExchangeView.{ExchangeView}
 use Rattle.hc_exch.specs.declared.row.Open.{Open}
@@ -17,7 +18,6 @@ use Rattle.hc_state.specs.Kept.{KeepsRunning, KeepsConsumer}
 use Rattle.hc_state.specs.Stands.{RowsStand}
 use Rattle.hc_state.specs.Stopped.{IsBroken, Waited}
 use Rattle.hc_state.specs.Stops.{is_shown}
-use Rattle.hc_state.proofs.Words.{none_some}
 
 pub record Viewed (t : Tables) (x : ℕ) (view : ExchangeView) : Type 0 where
   pub w : Exchange

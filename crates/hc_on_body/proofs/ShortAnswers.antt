@@ -15,6 +15,7 @@ use Rattle.hc_model.specs.Rows as rows
 use Rattle.hc_effects.proofs.StopEffects as past_effects
 use Rattle.hc_effects.proofs.StopFrames.{end_of}
 use Rattle.hc_effects.proofs.StopSeals as seal_effects
+use Rattle.hc_effects.proofs.Tests.{none_some}
 use Rattle.hc_state.specs.declared.rows.Rows.{Rows}
 use Rattle.hc_state.specs.Facts.{Facts}
 use Rattle.hc_state.specs.Stands.{Answered, RowsStand}
@@ -22,7 +23,6 @@ use Rattle.hc_state.specs.Stopped as stopped
 use Rattle.hc_state.specs.Stopped.{with_consumers, due_for, HasStopped, IsBroken, BrokeOff}
 use Rattle.hc_on_body.proofs.Ended.{with_over, with_end, stands_ended}
 use Rattle.hc_on_body.proofs.StopAnswers.{StopsBy, stopped_answered, own_tables, shared_tables, nothing_goes}
-use Rattle.hc_state.proofs.Words.{none_some}
 
 -- A LENGTH THAT IS KNOWN STAYS
 

@@ -13,6 +13,7 @@ use Rattle.hc_event.specs.declared.event.Event.TheVariants as event
 use Rattle.hc_model.specs.Rows as rows
 use Rattle.hc_effects.proofs.StopEffects as past_effects
 use Rattle.hc_effects.proofs.StopSeals as seal_effects
+use Rattle.hc_effects.proofs.Tests.{none_some}
 use Rattle.hc_state.specs.declared.rows.Rows.{Rows}
 use Rattle.hc_state.specs.Stands.{Answered, RowsStand}
 use Rattle.hc_state.specs.Stopped as stopped
@@ -21,7 +22,6 @@ use Rattle.hc_state.proofs.Answering.{does_answered, lossy_answered}
 use Rattle.hc_on_body.proofs.BreakArm.{closed_is}
 use Rattle.hc_state.proofs.Counting.{stands_counted}
 use Rattle.hc_state.proofs.SealWritten.{sealed_stopping}
-use Rattle.hc_state.proofs.Words.{none_some}
 
 -- THE TABLES, AS THE EVENT LEAVES THEM
 

@@ -22,6 +22,7 @@ use Rattle.hc_effects.proofs.Exclusives.{exclusive_parts}
 use Rattle.hc_effects.proofs.HoleLemmas.{covers_yes}
 use Rattle.hc_effects.proofs.LettingGo.{may_let_go}
 use Rattle.hc_effects.proofs.Stops.{writer_about}
+use Rattle.hc_effects.proofs.Tests.{none_some}
 use Rattle.hc_state.specs.declared.rows.Rows.{Rows}
 use Rattle.hc_state.specs.declared.stop.Readers.{Readers}
 use Rattle.hc_state.specs.declared.stop.Readers.TheVariants as readers
@@ -39,7 +40,6 @@ use Rattle.hc_on_body.proofs.DueRows.{told_same, may_due, awaits_due, stands_due
 use Rattle.hc_state.proofs.LeftAlone.{unwritten_none}
 use Rattle.hc_state.proofs.LeftRows.{writing_as}
 use Rattle.hc_state.proofs.Stopping.{runs, head_there, brought_some, brought_none}
-use Rattle.hc_state.proofs.Words.{none_some}
 
 -- the same ones, told otherwise
 pub among_as : {A : Type 0} (old new : Numbered A) (f h : ℕ → Bool) (change : A → A) → ((d : ℕ) → f d ≡ h d) → ChangesAmong old new f change → ChangesAmong old new h change

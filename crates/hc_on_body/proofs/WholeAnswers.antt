@@ -29,6 +29,7 @@ use Rattle.hc_effects.proofs.LettingGo.{may_let_go, bound_let_go}
 use Rattle.hc_effects.proofs.StopEffects as past_effects
 use Rattle.hc_effects.proofs.StopFrames.{end_of}
 use Rattle.hc_effects.proofs.StopSeals as seal_effects
+use Rattle.hc_effects.proofs.Tests.{none_some}
 use Rattle.hc_state.specs.declared.rows.Rows.{Rows}
 use Rattle.hc_state.specs.Changes.{ChangesAt, ChangesAmong}
 use Rattle.hc_state.specs.Changes as changes
@@ -49,7 +50,6 @@ use Rattle.hc_state.proofs.SealWritten.{sealed_lasting}
 use Rattle.hc_on_body.proofs.StopArm.{none_alone}
 use Rattle.hc_state.proofs.Stopping.{head_there, brought_some, brought_none}
 use Rattle.hc_on_body.proofs.WholeEnds.{stands_whole, entries_whole, gone_longer, sealed_longer, stands_past}
-use Rattle.hc_state.proofs.Words.{none_some}
 
 -- A FAILURE THAT NONE IS
 

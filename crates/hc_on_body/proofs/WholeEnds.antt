@@ -22,6 +22,7 @@ use Rattle.hc_exch.specs.Known.{Known}
 use Rattle.hc_event.specs.declared.place.Place.TheVariants as place
 use Rattle.hc_model.specs.Rows as rows
 use Rattle.hc_effects.proofs.HoleLemmas.{covers_yes}
+use Rattle.hc_effects.proofs.Tests.{none_some}
 use Rattle.hc_state.specs.declared.consumer.Consumer.{Consumer}
 use Rattle.hc_state.specs.declared.rows.Rows.{Rows}
 use Rattle.hc_state.specs.Changes.{ChangesAt, ChangesAmong}
@@ -38,7 +39,6 @@ use Rattle.hc_state.proofs.Closing.{exchange_closed, key_closed, entries_closed}
 use Rattle.hc_on_body.proofs.Ended.{with_over, told_alike, runs_end, held_end, away_end, base_end, promise_end}
 use Rattle.hc_state.proofs.OneOfEach.{first_by, growing_same, kind_same, entries_same}
 use Rattle.hc_state.proofs.Ties.{entry_same, exchange_same, key_same, kept_same, put_over, writer_then}
-use Rattle.hc_state.proofs.Words.{none_some}
 
 -- THE EXCHANGE
 

@@ -22,6 +22,7 @@ use Rattle.hc_event.specs.declared.place.BoundBy.TheVariants as by
 use Rattle.hc_model.specs.Rows as rows
 use Rattle.hc_effects.proofs.LettingGo.{may_let_go}
 use Rattle.hc_effects.proofs.SameTables.{all_closed_is}
+use Rattle.hc_effects.proofs.Tests.{and_false, none_some}
 use Rattle.hc_state.specs.declared.rows.Rows.{Rows}
 use Rattle.hc_state.specs.Changes.{ChangesAmong, once_over}
 use Rattle.hc_state.specs.Dooms.{Closes, IsUnheard, KeepsLine, IsDoomed}
@@ -34,7 +35,6 @@ use Rattle.hc_on_head.proofs.DoomTies.{s, exchange_is, over_row, line_row, same_
 use Rattle.hc_state.proofs.OneOfEach.{first_row, bound_same, growing_same, kind_same}
 use Rattle.hc_state.proofs.Ties.{entry_same, key_same, overs_closed}
 use Rattle.hc_on_head.proofs.Woken.{stands_for, Stood, nobody, back, beside, stays, stood, waiting_lives, bytes-flip}
-use Rattle.hc_state.proofs.Words.{none_some, and_false}
 
 or_offs : (a b d : Bool) → (a || b || d) ≡ false → (a ≡ false) × ((b ≡ false) × (d ≡ false))
 or_offs false false d off = (refl, (refl, off))

@@ -5,6 +5,7 @@ use Rattle.std.specs.Prelude.{filter, reverse, is_some, is_none, bytes_eq, optio
 use Rattle.std.specs.HashMap.{get, hash_map_len}
 use Rattle.hc_text.proofs.Basics.{and_both as both_parts, or_cases as either_part, eqb-other, eqb-same, false_true, none_by, none_of, same_or, same_some as same_row, some_inj as some_is}
 use Rattle.hc_effects.proofs.Vocabulary.{Limits, Request, route_of, Place, awaits, is_number, is_live, is_awaited, awaited_and, is_headless, Lawful, IsAwaiting, Awaits, Tables, Exchange, awaited_exchange, waits_at, with_item_first}
+use Rattle.hc_effects.proofs.Tests.{none_some}
 use Rattle.hc_store.specs.declared.backend.Backend.{Ghosts}
 use Rattle.hc_entry.specs.Keys.{line_of}
 use Rattle.hc_entry.specs.Lines.{is_among, is_in}
@@ -31,7 +32,6 @@ use Rattle.hc_on_head.proofs.AscendingLists.{above_first, among_first, among_lat
 use Rattle.hc_state.proofs.Ties.{kept_row}
 use Rattle.hc_state.proofs.TurnTies.{among_in, filter_in}
 use Rattle.hc_on_head.proofs.Woken.{stands_for, Stood, nobody, back, beside, stays, stood, Waits, waits_of, waiting_lives}
-use Rattle.hc_state.proofs.Words.{none_some}
 
 pub number_is : (o : Option ℕ) (x : ℕ) → is_number o x ≡ true → o ≡ Some x
 number_is None x on = false_true on

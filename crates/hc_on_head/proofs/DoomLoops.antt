@@ -7,6 +7,7 @@ use Rattle.std.specs.HashMap.{get}
 use Rattle.hc_text.proofs.Basics.{eqb-other, eqb-same, false_true, same_or, some_inj as some_is}
 use Rattle.hc_store.specs.declared.backend.Backend.{Ghosts}
 use Rattle.hc_effects.proofs.Vocabulary.{Act, lesser, awaited_exchange}
+use Rattle.hc_effects.proofs.Tests.{none_some}
 use Rattle.hc_event.specs.declared.act.Act.TheVariants as act
 use Rattle.hc_entry.specs.declared.keys.KeyTable.{KeyTable}
 use Rattle.hc_entry.specs.Keys.{line_of, seated_at, AllAreSeatedBelow}
@@ -21,7 +22,6 @@ use Rattle.hc_state.specs.declared.consumer.Consumer.{Consumer}
 use Rattle.hc_state.specs.declared.rows.Rows.{Rows}
 use Rattle.hc_state.specs.Dooms.{awaited_by, IsAwaited, IsToClose, IsNext, AreAtMost, nearer, Closes}
 use Rattle.hc_on_head.proofs.AscendingLists.{among-append, among_first, among_cases, is_first, is_later, ascends_last}
-use Rattle.hc_state.proofs.Words.{none_some}
 
 -- THE NEXT ONE
 

@@ -26,6 +26,7 @@ use Rattle.hc_effects.proofs.Basics.{same_functions}
 use Rattle.hc_effects.proofs.SameTables as tables
 use Rattle.hc_effects.proofs.SameTables.{without, shut, back_from_any, waits_for_any, some_go_is, all_closed_is}
 use Rattle.hc_effects.proofs.UnsafeEffects.{dooms_taken, dooms_bad}
+use Rattle.hc_effects.proofs.Tests.{and_false, none_some}
 use Rattle.hc_state.specs.declared.consumer.Consumer.{Consumer}
 use Rattle.hc_state.specs.declared.rows.Rows.{Rows}
 use Rattle.hc_state.specs.Changes.{ChangesAt, standing_at}
@@ -57,7 +58,6 @@ use Rattle.hc_on_leave.proofs.RefuseArm.{length_as}
 use Rattle.hc_state.proofs.Ties.{key_same, overs_but}
 use Rattle.hc_state.proofs.Unbinding.{entries_unbound}
 use Rattle.hc_on_leave.proofs.UnstoredArms.{read_then, unwritten}
-use Rattle.hc_state.proofs.Words.{and_false, none_some}
 
 -- WHOEVER READS A CLOSED EXCHANGE PAST THE STORE IS TO FAIL
 

@@ -23,6 +23,7 @@ use Rattle.hc_exch.specs.Known.{open_view}
 use Rattle.hc_event.specs.declared.place.Place.TheVariants as place
 use Rattle.hc_model.specs.Rows as rows
 use Rattle.hc_effects.proofs.FoundDoes.{Founds, founds_of}
+use Rattle.hc_effects.proofs.Tests.{none_some}
 use Rattle.hc_state.specs.declared.consumer.Consumer.{Consumer}
 use Rattle.hc_state.specs.declared.rows.Rows.{Rows}
 use Rattle.hc_state.specs.declared.founded.Founding.{Founding}
@@ -41,7 +42,6 @@ use Rattle.hc_on_leave.proofs.HeardRows.{Asker, Headless, asker, head_none, head
 use Rattle.hc_state.proofs.Maps.{known_of, merely_below, merely_false}
 use Rattle.hc_state.proofs.ReaderSteps.{stands_read}
 use Rattle.hc_state.proofs.Rooms.{room_is}
-use Rattle.hc_state.proofs.Words.{none_some}
 
 class_range : (request : Request) → (class_of request).range ≡ range_of request
 unfolding class_of

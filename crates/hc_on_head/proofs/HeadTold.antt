@@ -20,6 +20,8 @@ use Rattle.hc_event.specs.declared.place.Place.TheVariants as place
 use Rattle.hc_event.specs.declared.place.BoundBy.TheVariants as by
 use Rattle.hc_effects.proofs.FoundBy.{CaseBy, case_by}
 use Rattle.hc_effects.proofs.FoundBy as cases
+use Rattle.hc_effects.proofs.Basics.{some_row}
+use Rattle.hc_effects.proofs.Tests.{none_some}
 use Rattle.hc_state.specs.declared.consumer.Consumer.{Consumer}
 use Rattle.hc_state.specs.declared.rows.Rows.{Rows}
 use Rattle.hc_state.specs.Arms.{IsInKey}
@@ -35,7 +37,6 @@ use Rattle.hc_on_leave.proofs.HeardRows.{Asker, Headless, asker, headless_of, he
 use Rattle.hc_state.proofs.KeySteps.{lined}
 use Rattle.hc_state.proofs.Maps.{merely_true, merely_below, some_that}
 use Rattle.hc_on_leave.proofs.UnstoredArms.{awaits_viewed}
-use Rattle.hc_state.proofs.Words.{is_there, none_some}
 
 -- A BAD HEAD IS OF A BAD CASE
 
@@ -63,7 +64,7 @@ good_case v k is off = by_test v.bad refl
 pub good_told : (running : Option Open) (o : Open) (c : Option Consumer) (response : Response) (k : HeadCase) (kept : Option _) → running ≡ Some o → is_some c ≡ true → ((q : Open) (u : Consumer) → running ≡ Some q → c ≡ Some u → k ≡ head_case (heard_view q u kept response)) → is_bad_case k ≡ false
     → is_bad (length_by running response) ≡ false
 good_told running o c response k kept there lives tells off =
-    let u = is_there c lives in
+    let u = some_row c lives in
     ap (λ (z : Option Open). is_bad (length_by z response)) there ∙ good_case (heard_view o u.0 kept response) k (tells o u.0 there u.1) off
 
 -- WHO WAITS FOR IT
@@ -350,7 +351,7 @@ module _ {B : Type 0} {g : Ghosts B} (r : Rows B g) (x : ℕ) (response : Respon
 
   pub founds_as : is_some (get nat_eq r.consumers v.c) ≡ true → IsWithinLimits response.fields → is_founding (Some k) ≡ true → MayFound response
   founds_as lives within_limits on =
-      let u = is_there (get nat_eq r.consumers v.c) lives in
+      let u = some_row (get nat_eq r.consumers v.c) lives in
       let view : HeadView = heard_view bare.o u.0 (kept_at (shelf_of r.entries) aim) response in
       record {
         status = founds_status view k (subst (CaseBy view) (sym (tells bare.o u.0 bare.there u.1)) (case_by view)) on;
@@ -359,7 +360,7 @@ module _ {B : Type 0} {g : Ghosts B} (r : Rows B g) (x : ℕ) (response : Respon
 
   pub waits_as_told : ∥ Stands r ∥₁ → ((p : Stands r) → (t : Tables) × Facts p.limits t × RowsStand p.limits r t) → is_some (get nat_eq r.consumers v.c) ≡ true → starts_anew k ≡ true → IsSomeAnd (get nat_eq r.consumers v.c) (IsInKey r.keys v.c)
   waits_as_told some_past past lives on =
-      let u = is_there (get nat_eq r.consumers v.c) lives in
+      let u = some_row (get nat_eq r.consumers v.c) lives in
       some_that (get nat_eq r.consumers v.c) u.0 (IsInKey r.keys v.c) u.1
       (merely_true (is_in v.c (line_of r.keys u.0.request.key)) some_past
       (λ p. (let s = past p in waits_told r s.0 s.1 s.2 x v.c bare.o bare.there bare.headless for_c response k tells_as on u.0 u.1)))
@@ -394,7 +395,7 @@ module _ {B : Type 0} {g : Ghosts B} (r : Rows B g) (x : ℕ) (response : Respon
 
     pub past_store : is_some (get nat_eq r.consumers v.c) ≡ true → IsPastStore (table_of r.exchanges x).running
     past_store lives = λ q there.
-        let u = is_there (get nat_eq r.consumers v.c) lives in
+        let u = some_row (get nat_eq r.consumers v.c) lives in
         let view : HeadView = heard_view q u.0 (kept_at (shelf_of r.entries) aim) response in
         past_way view k (subst (CaseBy view) (sym (tells q u.0 there u.1)) (case_by view)) parts.0
 

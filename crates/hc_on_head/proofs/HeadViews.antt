@@ -37,6 +37,7 @@ use Rattle.hc_model.specs.Rows as rows
 use Rattle.hc_effects.proofs.Bounded.{range_order}
 use Rattle.hc_effects.proofs.Joining.{filling}
 use Rattle.hc_effects.proofs.ExclusiveWriters.{filter_some}
+use Rattle.hc_effects.proofs.Tests.{none_some}
 use Rattle.hc_state.specs.declared.consumer.Consumer.{Consumer}
 use Rattle.hc_state.specs.declared.rows.Rows.{Rows}
 use Rattle.hc_state.specs.Facts.{Facts}
@@ -48,7 +49,6 @@ use Rattle.hc_on_leave.proofs.HeadCases.{case_same}
 use Rattle.hc_on_leave.proofs.HeardRows.{Asker, runs_as}
 use Rattle.hc_state.proofs.Maps.{merely_true}
 use Rattle.hc_state.proofs.Ties.{kept_row}
-use Rattle.hc_state.proofs.Words.{none_some}
 
 -- THE RANGE
 

@@ -27,6 +27,7 @@ use Rattle.hc_effects.proofs.FoundBy.{case_by}
 use Rattle.hc_effects.proofs.ExclusiveWriters.{filter_some}
 use Rattle.hc_effects.proofs.LossStands.{joins_again, not_founding}
 use Rattle.hc_effects.proofs.UpdateEffects as does
+use Rattle.hc_effects.proofs.Basics.{some_row}
 use Rattle.hc_state.specs.declared.consumer.Consumer.{Consumer}
 use Rattle.hc_state.specs.declared.rows.Rows.{Rows}
 use Rattle.hc_state.specs.Changes.{BecomesAt, ChangesAt, Numbered}
@@ -50,7 +51,6 @@ use Rattle.hc_on_leave.proofs.LoseAlone.{holds_none}
 use Rattle.hc_state.proofs.Maps.{known_of}
 use Rattle.hc_state.proofs.QueueArm.{becomes_by}
 use Rattle.hc_on_leave.proofs.UnstoredArms.{unwritten}
-use Rattle.hc_state.proofs.Words.{is_there}
 
 -- ROWS THAT STAY
 
@@ -246,7 +246,7 @@ join_of r t facts stands now x c q response w row k joins goes is accepted asks 
     let h = headless_of (table_of r.exchanges x).running accepted in
     let view = view_joins (head_view t false w response) k (joins_of k joins) is in
     let aim = hole_aim t x q h.o w (runs_as r t x h.o w stands h.there row) a.awaits.headless view.hole (opens h.o h.there) in
-    let e = is_there ((shelf_of r.entries).kept q) kept in
+    let e = some_row ((shelf_of r.entries).kept q) kept in
     let p = entry_row r t stands q e.0 e.1 in
     record {
       a = a;
@@ -276,7 +276,7 @@ some_still q (Some k) new f e becomes at =
 pub kept_growing : {B : Type 0} {g : Ghosts B} (r mid brought : Rows B g) (now x q : ℕ) (response : Response) → head_refusal (open_at r x) ≡ None → shelf.is_kept (shelf_of r.entries) q ≡ true → IsGrowing r mid x now q response → brought.entries ≡ mid.entries → shelf.is_kept (shelf_of brought.entries) q ≡ true
 kept_growing r mid brought now x q response accepted kept grows same =
     let h = headless_of (table_of r.exchanges x).running accepted in
-    let e = is_there ((shelf_of r.entries).kept q) kept in
+    let e = some_row ((shelf_of r.entries).kept q) kept in
     let f : Kept → Kept = with_head (renewed_head h.o.moment now response.fields (growing e.0.head)) in
     ap (λ z. shelf.is_kept (shelf_of z) q) same
     ∙ some_still q ((shelf_of r.entries).kept q) ((shelf_of mid.entries).kept q) f e.0 ((grows.head h.o e.0 h.there e.1).kept q) e.1

@@ -4,6 +4,7 @@ use Rattle.std.specs.Prelude.{nat_eq, ◌||◌}
 use Rattle.std.specs.List.{list_any}
 use Rattle.hc_text.proofs.Basics.{eqb-other, eqb-same, false_true, filters_same, same_or, and_off as then_false}
 use Rattle.hc_effects.proofs.Vocabulary.{Response, is_number, promise_in, family, is_reached, brings_to, is_growing, kind_of, bound, is_bound, Tables, Exchange, Representation, Among, status_in}
+use Rattle.hc_effects.proofs.Tests.{none_some}
 use Rattle.hc_record.specs.Head.{Head, sealed_head}
 use Rattle.hc_record.specs.declared.kind.Kind.TheVariants as kinds
 use Rattle.hc_stored.specs.Kept.{Kept}
@@ -13,7 +14,6 @@ use Rattle.hc_state.specs.Stored.{IsEntry, TellsLength, told, untold, KeepsEntry
 use Rattle.hc_on_head.proofs.JoinRows.{IsJoinable, s, z, told_consumer, told_representation, exchange_here, exchange_other, representation_here, representation_other}
 use Rattle.hc_state.proofs.OneOfEach.{bound_same, first_by, growing_same, kind_same}
 use Rattle.hc_state.proofs.Ties.{entry_same, OversStay, overs_open, writer_then}
-use Rattle.hc_state.proofs.Words.{none_some}
 
 -- one of them passes the test
 any_there : (f : ℕ → Bool) (c : ℕ) (cs : List ℕ) → Among c cs → f c ≡ true → list_any f cs ≡ true

@@ -16,6 +16,7 @@ use Rattle.hc_exch.specs.Exchanges.{table_of}
 use Rattle.hc_exch.specs.Known.{open_view, view_of}
 use Rattle.hc_effects.proofs.FoundBy.{CaseBy, case_by}
 use Rattle.hc_effects.proofs.FoundBy as cases
+use Rattle.hc_effects.proofs.Basics.{some_row}
 use Rattle.hc_state.specs.declared.consumer.Consumer.{Consumer}
 use Rattle.hc_state.specs.declared.rows.Rows.{Rows}
 use Rattle.hc_state.specs.Heads.{aim_in, heard_view, is_bad_case, joins_kept, kept_at}
@@ -23,7 +24,6 @@ use Rattle.hc_state.specs.Joining.{IsAbout, IsAboutKept, joins_hole}
 use Rattle.hc_on_leave.proofs.HeadCases.{case_unvalidated}
 use Rattle.hc_on_head.proofs.HeadTold.{viewed_as}
 use Rattle.hc_on_leave.proofs.HeardRows.{Headless, headless_of}
-use Rattle.hc_state.proofs.Words.{is_there}
 
 -- nothing joins what isn't kept
 unkept : (n : Need) (response : Response) → joins_kept n None response ≡ true → {A : Type 0} → A
@@ -100,12 +100,12 @@ module _ {B : Type 0} {g : Ghosts B} (r : Rows B g) (x : ℕ) (found : Option Ex
   module _ (k : HeadCase) (lives : is_some (get nat_eq r.consumers v.c) ≡ true) (tells : (q : Open) (u : Consumer) → (table_of r.exchanges x).running ≡ Some q → get nat_eq r.consumers v.c ≡ Some u → k ≡ head_case (heard_view q u (kept_at (shelf_of r.entries) aim) response)) where
     pub joins_as : joins_hole k ≡ true → IsAboutKept (shelf_of r.entries) (table_of r.exchanges x).running
     joins_as on = λ o there.
-        let u = is_there (get nat_eq r.consumers v.c) lives in
+        let u = some_row (get nat_eq r.consumers v.c) lives in
         let view : HeadView = heard_view o u.0 (kept_at (shelf_of r.entries) aim) response in
         let joins = joins_by_case view k (subst (CaseBy view) (sym (tells o u.0 there u.1)) (case_by view)) on in
         subst (λ (n : Option ℕ). IsSomeAnd n (λ q. is_kept (shelf_of r.entries) q ≡ true)) (aim_as o there) (joins_aim (shelf_of r.entries) o.need aim response joins)
 
     pub unvalidated_as : k ≡ case.Validated → ⊥
     unvalidated_as is =
-        let u = is_there (get nat_eq r.consumers v.c) lives in
+        let u = some_row (get nat_eq r.consumers v.c) lives in
         case_unvalidated (heard_view bare.o u.0 (kept_at (shelf_of r.entries) aim) response) refl (sym (tells bare.o u.0 bare.there u.1) ∙ is)

@@ -9,13 +9,13 @@ use Rattle.hc_entry.specs.Kept.{on_line}
 use Rattle.hc_entry.specs.Keys.{kept_of, line_of}
 use Rattle.hc_entry.specs.Lines.{is_among, is_in, left_by}
 use Rattle.hc_effects.proofs.Vocabulary.{with_consumer, is_in_line, holds_turn, Tables}
+use Rattle.hc_effects.proofs.Tests.{and_false}
 use Rattle.hc_model.specs.Rows as rows
 use Rattle.hc_state.specs.Arms.{LeftIf}
 use Rattle.hc_state.specs.Leaving.{LeavesKey}
 use Rattle.hc_state.specs.Lines.{KeepsKey, has_turn, is_passed, is_away}
 use Rattle.hc_state.proofs.ConsumerSteps.{SaysOfIt, key_with, key_stays, keys_with}
 use Rattle.hc_state.proofs.KeySteps.{leaves_key, off_line, off_passed, off_away}
-use Rattle.hc_state.proofs.Words.{and_false}
 
 or_offs : (a b d : Bool) → (a || b || d) ≡ false → (a ≡ false) × ((b ≡ false) × (d ≡ false))
 or_offs false false d off = (refl, (refl, off))

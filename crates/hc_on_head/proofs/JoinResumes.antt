@@ -21,6 +21,7 @@ use Rattle.hc_exch.specs.declared.row.Opening.{Opening}
 use Rattle.hc_exch.specs.Openings.{opened_with}
 use Rattle.hc_model.specs.Rows as rows
 use Rattle.hc_effects.proofs.HoleLemmas as holes
+use Rattle.hc_effects.proofs.Tests.{none_some}
 use Rattle.hc_state.specs.declared.consumer.Consumer.{Consumer}
 use Rattle.hc_state.specs.declared.rows.Rows.{Rows}
 use Rattle.hc_state.specs.Facts.{Facts}
@@ -32,7 +33,6 @@ use Rattle.hc_on_leave.proofs.AnswerArm.{opened_as}
 use Rattle.hc_state.proofs.CurrentTies.{covers_as, entry_at, stored_ends}
 use Rattle.hc_on_leave.proofs.StoreArm.{stored_size}
 use Rattle.hc_state.proofs.Ties.{kept_row}
-use Rattle.hc_state.proofs.Words.{none_some}
 
 -- a request for the whole has no range
 whole_as : (k : Consumer) (v : rows.Consumer) → k.class ≡ class_of v.request → is_none k.class.range ≡ asks_whole (Some v)

@@ -4,6 +4,7 @@ use Rattle.std.specs.Prelude.{is_some, nat_eq, drop, bytes_eq, option_map, ◌&&
 use Rattle.std.specs.HashMap.{get}
 use Rattle.hc_text.proofs.Basics.{eqb-other, eqb-same, finds_same, same_or, and_off as then_false}
 use Rattle.hc_effects.proofs.Vocabulary.{Limits, Response, Length, length_of, base_of, promise_of, Place, BoundBy, current, is_usable, is_number, total_in, is_live, is_live_place, exchange_with_head, with_answer, with_consumer, with_representation, promise_in, base, family, is_headless, is_reached, is_in_line, stands_in_line, has_passed, is_bound_place, Tables, Exchange, Representation, Among}
+use Rattle.hc_effects.proofs.Tests.{and_false}
 use Rattle.hc_store.specs.declared.backend.Backend.{Ghosts}
 use Rattle.hc_record.specs.Head.{Head}
 use Rattle.hc_stored.specs.Entries.{shelf_of}
@@ -34,7 +35,6 @@ use Rattle.hc_on_leave.proofs.HeardRows.{kept_as, runs_as}
 use Rattle.hc_on_head.proofs.JoinKeys.{keys_left}
 use Rattle.hc_state.proofs.KeySteps.{not_lined}
 use Rattle.hc_state.proofs.Ties.{consumer_same, exchange_same, key_same, kept_same}
-use Rattle.hc_state.proofs.Words.{and_false}
 
 -- x, of which nothing came yet, waits for its head for a consumer that is bound to q and reads on from it
 pub record IsJoinable (t : Tables) (x q : ℕ) (w : Exchange) (v : rows.Consumer) (p : Representation) : Type 0 where

@@ -22,6 +22,7 @@ use Rattle.hc_model.specs.Rows as rows
 use Rattle.hc_effects.proofs.FoundBy.{CaseBy, case_by}
 use Rattle.hc_effects.proofs.FoundBy as cases
 use Rattle.hc_effects.proofs.Joining.{IsFilling, filling}
+use Rattle.hc_effects.proofs.Tests.{none_some}
 use Rattle.hc_state.specs.declared.rows.Rows.{Rows}
 use Rattle.hc_state.specs.Facts.{Facts}
 use Rattle.hc_state.specs.Heads.{aim_in}
@@ -31,7 +32,6 @@ use Rattle.hc_state.specs.Stored.{IsEntry, TellsLength, told, untold}
 use Rattle.hc_on_head.proofs.HeadViews.{no_hole_left, part_within}
 use Rattle.hc_on_leave.proofs.HeardRows.{Asker}
 use Rattle.hc_on_head.proofs.JoinRows.{IsJoinable}
-use Rattle.hc_state.proofs.Words.{none_some}
 
 -- WHICH CASE IT IS
 

@@ -4,6 +4,7 @@ use Rattle.std.specs.Prelude.{is_some, nat_eq, bytes_eq, not, IsSomeAnd, â—Œ||â—
 use Rattle.std.specs.HashMap.{get}
 use Rattle.hc_text.proofs.Basics.{false_true, same_some as same_row, and_off as then_false}
 use Rattle.hc_effects.proofs.Vocabulary.{Limits, Request, route_of, head_refusal, BoundBy, back_in_line, with_consumer, is_headless, StandsFor, is_in_line, stands_in_line, has_passed, Tables, Exchange, Representation, awaited_exchange}
+use Rattle.hc_effects.proofs.Tests.{none_some}
 use Rattle.hc_store.specs.declared.backend.Backend.{Ghosts}
 use Rattle.hc_stored.specs.Entries.{shelf_of}
 use Rattle.hc_stored.specs.Kept.{Kept}
@@ -31,7 +32,6 @@ use Rattle.hc_on_leave.proofs.HeardRows.{Asker, asker, asked_by, head_none, head
 use Rattle.hc_state.proofs.KeySteps.{not_lined}
 use Rattle.hc_on_leave.proofs.LoseTurn.{grows}
 use Rattle.hc_state.proofs.Maps.{known_of, merely_true}
-use Rattle.hc_state.proofs.Words.{none_some}
 
 -- WHO WAITS FOR ITS KEY
 

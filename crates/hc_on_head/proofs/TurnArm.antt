@@ -30,6 +30,7 @@ use Rattle.hc_model.specs.Rows as rows
 use Rattle.hc_effects.proofs.KeysKeep.{current_row}
 use Rattle.hc_effects.proofs.PollKeeps.{current_stays}
 use Rattle.hc_effects.proofs.UpdateEffects.{validated}
+use Rattle.hc_effects.proofs.Tests.{and_false, none_some}
 use Rattle.hc_state.specs.declared.rows.Rows.{Rows}
 use Rattle.hc_state.specs.Arms.{IsInKey}
 use Rattle.hc_state.specs.Facts.{Facts}
@@ -47,7 +48,6 @@ use Rattle.hc_on_leave.proofs.RefuseArm.{stands_refused, closes_as}
 use Rattle.hc_on_head.proofs.RenewedArm.{stands_renewed}
 use Rattle.hc_state.proofs.SealArm.{stands_stayed}
 use Rattle.hc_on_leave.proofs.UnstoredArms.{beside, unread_then, unwritten}
-use Rattle.hc_state.proofs.Words.{and_false, none_some}
 
 -- WHERE WHAT IS STORED STAYS
 

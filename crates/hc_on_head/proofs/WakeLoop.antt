@@ -13,6 +13,7 @@ use Rattle.hc_entry.specs.Kept.{on_line}
 use Rattle.hc_entry.specs.Lines.{is_in, all_back}
 use Rattle.hc_event.specs.declared.place.Place.TheVariants as place
 use Rattle.hc_effects.proofs.Vocabulary.{back_in_line, is_live, with_consumer, woken, Lawful, is_bound, Tables, Among}
+use Rattle.hc_effects.proofs.Tests.{none_some}
 use Rattle.hc_model.specs.Rows as rows
 use Rattle.hc_model.specs.Sound as sound
 use Rattle.hc_state.specs.declared.consumer.Consumer.{Consumer}
@@ -29,7 +30,6 @@ use Rattle.hc_on_leave.proofs.SeatLoops.{AreChangedBelow, none_changed, nobody_m
 use Rattle.hc_state.proofs.Ties.{kept_row}
 use Rattle.hc_state.proofs.Unbinding.{entries_unbound, user_kept}
 use Rattle.hc_on_head.proofs.Woken.{stands_for, Stood, nobody, back, beside, stays, stood, Waits, waits_of, starts_over, stays_so, waiting_lives}
-use Rattle.hc_state.proofs.Words.{none_some}
 
 last_or : (j i : ℕ) → j < i + 1 → (j ≡ i) ⊎ (j < i)
 last_or j i lt = elim (same_or j i) [ inl same ↦ inl same | inr ne ↦ inr (omega (arith, lt, ne)) ]

@@ -23,6 +23,7 @@ use Rattle.hc_state.specs.declared.consumer.Consumer.{Consumer}
 use Rattle.hc_state.specs.declared.rows.Rows.{Rows}
 use Rattle.hc_state.specs.Changes.{Numbered, ChangesAt, with_answer}
 use Rattle.hc_effects.proofs.ToldNumbers.{EndsEarly}
+use Rattle.hc_effects.proofs.Tests.{none_some}
 use Rattle.hc_state.specs.Heads.{IsReadAlone, EndsInRange, answered_by, end_of_answer, end_from}
 use Rattle.hc_state.specs.Kept.{IsKept, IsRunning, KeepsConsumer, KeepsExchange, KeepsRunning, answer_for, held_for}
 use Rattle.hc_state.specs.Stands.{RowsStand}
@@ -30,7 +31,6 @@ use Rattle.hc_on_leave.proofs.HeardExchange.{held_empty, held_else, here, others
 use Rattle.hc_on_leave.proofs.HeardRows.{headless_of, runs_as, kept_as}
 use Rattle.hc_state.proofs.OneOfEach.{stands_then}
 use Rattle.hc_state.proofs.QueueArm.{becomes_by}
-use Rattle.hc_state.proofs.Words.{none_some}
 
 -- all that is promised has come
 pub all_reached : (o : Option ℕ) (n : ℕ) → is_all o n ≡ is_reached o n

@@ -35,6 +35,7 @@ use Rattle.hc_effects.proofs.KeyActs.{HasRow}
 use Rattle.hc_effects.proofs.LettingGo.{may_let_go, keeps_may, keeps_may_all}
 use Rattle.hc_effects.proofs.SameTables.{is_in, waits_for_any, back_from_any, without, all_go_is}
 use Rattle.hc_effects.proofs.WeightsLeft.{all_weigh_less, all_weigh_apart, fits_after, one_gives_way}
+use Rattle.hc_effects.proofs.Tests.{none_some}
 use Rattle.hc_state.specs.declared.consumer.Consumer.{Consumer}
 use Rattle.hc_state.specs.declared.rows.Rows.{Rows}
 use Rattle.hc_state.specs.declared.founded.Founding.{Founding}
@@ -51,7 +52,6 @@ use Rattle.hc_on_leave.proofs.PieceRoom.{may_make_room}
 use Rattle.hc_state.proofs.OneOfEach.{bound_same}
 use Rattle.hc_state.proofs.Rooms.{used_is}
 use Rattle.hc_on_leave.proofs.UnstoredArms.{may_moved, read_then}
-use Rattle.hc_state.proofs.Words.{none_some}
 
 -- WHAT WAS LET GO
 

@@ -7,6 +7,7 @@ use Rattle.std.specs.List.{list_any}
 use Rattle.std.specs.Option.{option_or}
 use Rattle.hc_text.proofs.Basics.{any_none, eqb-other, eqb-same, false_true, never_true as not_true, same_or, some_inj as some_is}
 use Rattle.hc_effects.proofs.Vocabulary.{Limits, Need, Request, Response, Length, length_of, base_of, promise_of, content_range_of, Place, BoundBy, current, is_number, is_usable, total_in, is_live, exchange_with_head, just_founded, with_consumer, with_founding, promise_in, family, is_reached, founded_total, total_of_part, varied_by, kind_of, is_growing, brings_to, is_bound, is_bound_place, Tables, Exchange, Representation, Among, came_alone, is_in_line}
+use Rattle.hc_effects.proofs.Tests.{and_false}
 use Rattle.hc_store.specs.declared.backend.Backend.{Ghosts}
 use Rattle.hc_sparse.specs.Cells.{Covers, nothing}
 use Rattle.hc_sorted.specs.Sorted.{has}
@@ -49,7 +50,6 @@ use Rattle.hc_state.proofs.KeySteps.{IsUnsaid, apart_unsaid}
 use Rattle.hc_state.proofs.OneOfEach.{bound_same, kind_same}
 use Rattle.hc_state.proofs.QueueArm.{becomes_by}
 use Rattle.hc_state.proofs.Ties.{consumer_same, entry_same, exchange_same}
-use Rattle.hc_state.proofs.Words.{and_false}
 
 -- It is listed, nobody is bound to what has its number, and no other exchange brings that.
 pub record IsUnfounded (m : Tables) (x : ℕ) : Type 0 where

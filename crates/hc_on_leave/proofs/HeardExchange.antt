@@ -5,6 +5,7 @@ use Rattle.hc_text.proofs.Basics.{eqb-other, eqb-same, same_or, and_off as then_
 use Rattle.hc_stored.specs.Shelf.{Shelf}
 use Rattle.hc_entry.specs.Kept as keyed
 use Rattle.hc_effects.proofs.Vocabulary.{Place, current, with_exchange, family, is_growing, brings_to, Tables, Exchange, Representation}
+use Rattle.hc_effects.proofs.Tests.{none_some}
 use Rattle.hc_event.specs.declared.place.Place.TheVariants as place
 use Rattle.hc_event.specs.declared.place.BoundBy.TheVariants as by
 use Rattle.hc_model.specs.Rows as rows
@@ -15,7 +16,6 @@ use Rattle.hc_state.specs.Stored.{KeepsEntries}
 use Rattle.hc_state.proofs.Fallbacks.{same, held_alike}
 use Rattle.hc_state.proofs.OneOfEach.{bound_same, first_row, growing_same, kind_same}
 use Rattle.hc_state.proofs.Ties.{key_same, entry_same, overs_open}
-use Rattle.hc_state.proofs.Words.{none_some}
 
 abbrev none : List ℕ
 none = []

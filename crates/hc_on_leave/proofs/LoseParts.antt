@@ -6,6 +6,7 @@ use Rattle.std.specs.Option.{option_or}
 use Rattle.std.specs.HashMap.{get}
 use Rattle.hc_text.proofs.Basics.{eqb-other, false_true, same_or, some_inj as some_is}
 use Rattle.hc_effects.proofs.Vocabulary.{Limits, Cause, Request, Place, current, is_number, is_live, if_bound, left_with, writing_lost, family, MayLetGo, is_in_line, Queues, is_bound, is_bound_place, Tables, Exchange, Representation}
+use Rattle.hc_effects.proofs.Tests.{none_some}
 use Rattle.hc_store.specs.declared.backend.Backend.{Ghosts}
 use Rattle.hc_event.specs.declared.act.Cause.TheVariants as cause
 use Rattle.hc_stored.specs.Entries.{shelf_of}
@@ -25,7 +26,6 @@ use Rattle.hc_state.proofs.FallbackSteps.{live_same}
 use Rattle.hc_state.proofs.Fallbacks.{unstored_moved}
 use Rattle.hc_state.proofs.OneOfEach.{entries_same}
 use Rattle.hc_state.proofs.Ties.{exchange_same, key_same, kept_same}
-use Rattle.hc_state.proofs.Words.{none_some}
 
 module _ (t : Tables) (q x : ℕ) (detached_reader : Option ℕ) where
   abbrev pub s : Tables

@@ -28,6 +28,7 @@ use Rattle.hc_effects.proofs.ExclusiveWriters.{writer_some}
 use Rattle.hc_effects.proofs.PollKeeps.{current_stays}
 use Rattle.hc_effects.proofs.UpdateEffects.{validated_lost}
 use Rattle.hc_effects.proofs.WrittenEffects.{validated_lost_written}
+use Rattle.hc_effects.proofs.Tests.{none_some}
 use Rattle.hc_state.specs.declared.rows.Rows.{Rows}
 use Rattle.hc_state.specs.Facts.{Facts}
 use Rattle.hc_state.specs.Heads.{IsUnread, unless_over}
@@ -50,7 +51,6 @@ use Rattle.hc_state.proofs.Maps.{act_and}
 use Rattle.hc_on_leave.proofs.RefuseArm.{stands_refused, closes_as}
 use Rattle.hc_state.proofs.TurnTies.{least_alike}
 use Rattle.hc_on_leave.proofs.UnstoredArms.{beside, unread_then, may_moved, may_heard}
-use Rattle.hc_state.proofs.Words.{none_some}
 
 -- A WRITING IS LOST
 

@@ -16,6 +16,7 @@ use Rattle.hc_model.specs.Sound as sound
 use Rattle.hc_effects.proofs.LettingGo.{may_let_go, keeps_may, let_go_nothing}
 use Rattle.hc_effects.proofs.MisreadEffects.{misreads}
 use Rattle.hc_effects.proofs.Stops.{writer_about}
+use Rattle.hc_effects.proofs.Tests.{none_some}
 use Rattle.hc_state.specs.declared.rows.Rows.{Rows}
 use Rattle.hc_state.specs.Stands.{Answered, RowsStand, KeepsRest}
 use Rattle.hc_state.proofs.CloseArm.{unawaited_go}
@@ -25,7 +26,6 @@ use Rattle.hc_state.proofs.LeftAlone.{HowLeft, how_left, left_unawaited}
 use Rattle.hc_state.proofs.LeftAlone as left
 use Rattle.hc_state.proofs.Maps.{act_and}
 use Rattle.hc_on_leave.proofs.MayGo.{may_with}
-use Rattle.hc_state.proofs.Words.{none_some}
 
 -- where it is bound
 pub record BoundAt (q : ℕ) (p : Place) : Type 0 where

@@ -18,6 +18,7 @@ use Rattle.hc_exch.specs.Known.{open_view, EndsBelow}
 use Rattle.hc_exch.specs.declared.row.Open.{Open}
 use Rattle.hc_effects.proofs.Once.{IsTaken, taken}
 use Rattle.hc_effects.proofs.PieceEffects as does
+use Rattle.hc_effects.proofs.Tests.{none_some}
 use Rattle.hc_state.specs.declared.rows.Rows.{Rows}
 use Rattle.hc_state.specs.Facts.{Facts}
 use Rattle.hc_state.specs.Kept.{IsRunning, KeepsRunning, unread, held_of, held_for}
@@ -29,7 +30,6 @@ use Rattle.hc_state.proofs.Fallbacks.{held_alike, same}
 use Rattle.hc_on_leave.proofs.HeardRows.{heard_row}
 use Rattle.hc_state.proofs.Maps.{merely_below}
 use Rattle.hc_on_leave.proofs.PieceRows.{s, like_same, stands_pieced}
-use Rattle.hc_state.proofs.Words.{none_some}
 
 -- HOW FAR IT REACHES
 

@@ -11,10 +11,10 @@ use Rattle.hc_stored.specs.Kept.{Kept}
 use Rattle.hc_stored.specs.Shelf.{Shelf, cells_in, cells_at}
 use Rattle.hc_stored.specs.Views.{view_of}
 use Rattle.hc_effects.proofs.Vocabulary.{is_complete, is_front, Representation}
+use Rattle.hc_effects.proofs.Tests.{none_some}
 use Rattle.hc_state.specs.Pieces.{larger_view}
 use Rattle.hc_state.specs.Stops.{IsViewOf, kind_left}
 use Rattle.hc_state.proofs.StoredKinds.{complete_as, incomplete_as, front_as}
-use Rattle.hc_state.proofs.Words.{none_some}
 
 -- behind the piece it brings nothing
 pub outside_behind : (at p : ℕ) (bytes : List ℕ) → at + length bytes ≤ p → inside at (length bytes) p ≡ false

@@ -17,8 +17,8 @@ use Rattle.hc_effects.proofs.IdleNow.{idle_but_gone, bound_is}
 use Rattle.hc_effects.proofs.LettingGo.{may_let_go}
 use Rattle.hc_effects.proofs.PieceEffects as does
 use Rattle.hc_effects.proofs.SameTables.{is_in}
+use Rattle.hc_effects.proofs.Tests.{none_some}
 use Rattle.hc_state.specs.Facts.{Facts}
-use Rattle.hc_state.proofs.Words.{none_some}
 
 -- LISTS
 

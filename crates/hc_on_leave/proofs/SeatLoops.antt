@@ -8,7 +8,7 @@ use Rattle.hc_entry.specs.Keys.{line_of, seated_at, AllAreSeatedBelow, IsItsSeat
 use Rattle.hc_entry.specs.Lines.{is_in}
 use Rattle.hc_state.specs.declared.consumer.Consumer.{Consumer}
 use Rattle.hc_state.specs.Changes.{Numbered, ChangesAt, ChangesAmong}
-use Rattle.hc_state.proofs.Words.{none_some}
+use Rattle.hc_effects.proofs.Tests.{none_some}
 
 -- Those with a seat below i changed so, and nobody else changed.
 pub record AreChangedBelow (i : ℕ) (kept : KeyTable) (key : List ℕ) (f : Consumer → Consumer) (old new : Numbered Consumer) : Type 0 where

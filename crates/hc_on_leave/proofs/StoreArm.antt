@@ -42,7 +42,6 @@ use Rattle.hc_on_leave.proofs.PieceKinds.{outside_behind}
 use Rattle.hc_on_leave.proofs.PieceRows.{IsLike, like_same, last_is}
 use Rattle.hc_state.proofs.Rooms.{used_is}
 use Rattle.hc_on_leave.proofs.StoredPiece.{written_alike, tells, stored_stands, stored_answered}
-use Rattle.hc_state.proofs.Words.{none_some}
 use Rattle.std.proofs.Math.Logic.{∥∥₁_elim}
 use Rattle.std.proofs.Math.Seq.{take-append_seam}
 use Rattle.std.specs.Prelude.{take}
@@ -50,6 +49,7 @@ use Rattle.hc_text.proofs.Basics.{some_inj as some_is}
 use Rattle.hc_event.specs.declared.act.Act.TheVariants as act
 use Rattle.hc_event.specs.declared.act.LostKind.TheVariants as kinds
 use Rattle.hc_effects.proofs.WeightsLeft.{fits_after}
+use Rattle.hc_effects.proofs.Tests.{none_some}
 use Rattle.hc_state.specs.Refused.{Refuses}
 use Rattle.hc_on_leave.proofs.FoundArm.{bound_without, make_gone}
 use Rattle.hc_state.proofs.ReaderSteps.{stands_read}

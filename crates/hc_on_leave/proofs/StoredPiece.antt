@@ -27,6 +27,7 @@ use Rattle.hc_effects.proofs.HoleLemmas.{covers_all}
 use Rattle.hc_effects.proofs.Once.{delivers_once}
 use Rattle.hc_effects.proofs.PieceEffects as does
 use Rattle.hc_effects.proofs.SameTables.{is_in, without, all_go_is}
+use Rattle.hc_effects.proofs.Tests.{none_some}
 use Rattle.hc_state.proofs.Ties.{overs_open, writer_then}
 use Rattle.hc_state.specs.declared.rows.Rows.{Rows}
 use Rattle.hc_state.specs.Facts.{Facts}
@@ -39,7 +40,6 @@ use Rattle.hc_state.proofs.Fallbacks.{unstored_moved}
 use Rattle.hc_state.proofs.OneOfEach.{first_by}
 use Rattle.hc_on_leave.proofs.PieceArm.{Runs, runs_of, open_unended, not_overlong}
 use Rattle.hc_on_leave.proofs.PieceRows.{s, IsLike, like_same, grows_on, stands_pieced}
-use Rattle.hc_state.proofs.Words.{none_some}
 
 still_there : (a : Bool) (cell : Cell) (o : Option Cell) → is_some o ≡ true → is_some (if a then Some cell else o) ≡ true
 still_there true cell o on = refl

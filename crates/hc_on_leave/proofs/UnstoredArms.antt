@@ -26,6 +26,7 @@ use Rattle.hc_effects.proofs.FoundBy as cases
 use Rattle.hc_effects.proofs.HeadFacts.{stays_open, undue}
 use Rattle.hc_effects.proofs.HeadEffects as does
 use Rattle.hc_effects.proofs.LettingGo.{may_let_go}
+use Rattle.hc_effects.proofs.Tests.{none_some}
 use Rattle.hc_state.specs.declared.rows.Rows.{Rows}
 use Rattle.hc_state.specs.Changes.{ChangesAt, with_due}
 use Rattle.hc_state.specs.Facts.{Facts}
@@ -37,7 +38,6 @@ use Rattle.hc_state.proofs.Counting.{stands_counted}
 use Rattle.hc_on_leave.proofs.DueArm.{stands_due}
 use Rattle.hc_on_leave.proofs.HeardRows.{Asker, waits_as}
 use Rattle.hc_on_leave.proofs.RefuseArm.{stands_refused, closes_as}
-use Rattle.hc_state.proofs.Words.{none_some}
 
 -- THE EXCHANGE, WHERE ITS CONSUMER STANDS ELSEWHERE
 

@@ -5,7 +5,7 @@ use Rattle.std.specs.Prelude.{nat_le, nat_lt, ◌==◌, if◌then◌else◌, not
 use Rattle.hc_text.proofs.Basics.{not_false as not_off}
 use Rattle.hc_event.specs.declared.event.Event.TheVariants as event
 use Rattle.hc_effects.proofs.Vocabulary.{Request, Response, Refusal, Gate, refusal_of, head_refusal, piece_refusal, end_refusal, fault_refusal}
-use Rattle.hc_state.proofs.Words.{none_some}
+use Rattle.hc_effects.proofs.Tests.{none_some}
 
 first_off : (b : Bool) (r : Refusal) (rest : Option Refusal) → (if b then Some r else rest) ≡ None → b ≡ false
 first_off false r rest is = refl

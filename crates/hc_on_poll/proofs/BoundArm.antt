@@ -7,6 +7,7 @@ use Rattle.hc_sorted.proofs.SortedLemmas.{has-with}
 use Rattle.hc_stored.specs.Kept.{Kept, itself, with_user, with_first}
 use Rattle.hc_stored.specs.Shelf.{Shelf, Becomes, moved_first}
 use Rattle.hc_effects.proofs.Vocabulary.{Place, BoundBy, is_number, family, kind_of, Lawful, reads, is_bound, is_bound_place, Tables, Exchange, Representation, came_alone}
+use Rattle.hc_effects.proofs.Tests.{and_false, none_some}
 use Rattle.hc_event.specs.declared.place.Place.TheVariants as place
 use Rattle.hc_event.specs.declared.place.BoundBy.TheVariants as by
 use Rattle.hc_model.specs.Rows as rows
@@ -18,7 +19,6 @@ use Rattle.hc_state.proofs.FallbackSteps.{first_fallback}
 use Rattle.hc_state.proofs.CurrentTies.{stays_stored, total_told}
 use Rattle.hc_state.proofs.OneOfEach.{first_row, bound_same}
 use Rattle.hc_state.proofs.Ties.{entry_same, OversStay, writer_then}
-use Rattle.hc_state.proofs.Words.{and_false, none_some}
 
 -- LISTS
 

@@ -30,6 +30,7 @@ use Rattle.hc_model.specs.Moves as moves
 use Rattle.hc_model.specs.Rows as rows
 use Rattle.hc_model.specs.Sound as sound
 use Rattle.hc_effects.proofs.ExclusiveWriters.{writer_some}
+use Rattle.hc_effects.proofs.Tests.{none_some}
 use Rattle.hc_model.specs.Steps as steps
 use Rattle.hc_state.specs.declared.consumer.Consumer.{Consumer}
 use Rattle.hc_state.specs.declared.rows.Rows.{Rows}
@@ -45,7 +46,6 @@ use Rattle.hc_on_poll.proofs.BoundViews.{Holds, next_as, offset_is, entry_there,
 use Rattle.hc_on_poll.proofs.ReadLemmas as lemmas
 use Rattle.hc_on_poll.proofs.ReadLemmas.{third_is, some_more}
 use Rattle.hc_on_poll.proofs.ShowStored.{IsBoundRow, headless_as}
-use Rattle.hc_state.proofs.Words.{none_some}
 
 -- THE STEP, BY ITS PARTS
 

@@ -17,8 +17,9 @@ use Rattle.hc_event.specs.declared.place.Place.TheVariants as place
 use Rattle.hc_model.specs.Origins as origins
 use Rattle.hc_model.specs.Rows as rows
 use Rattle.hc_model.specs.Sound as sound
-use Rattle.hc_effects.proofs.Basics.{same_functions}
+use Rattle.hc_effects.proofs.Basics.{same_functions, some_row}
 use Rattle.hc_effects.proofs.HoleLemmas.{first_from, first_before, first_passes}
+use Rattle.hc_effects.proofs.Tests.{none_some}
 use Rattle.hc_state.specs.declared.consumer.Consumer.{Consumer}
 use Rattle.hc_state.specs.declared.rows.Rows.{Rows}
 use Rattle.hc_state.specs.Facts.{Facts}
@@ -30,7 +31,6 @@ use Rattle.hc_state.specs.Stored.{IsEntry}
 use Rattle.hc_state.proofs.LeftRows.{running_as, writing_as}
 use Rattle.hc_on_poll.proofs.ReadLemmas.{run_some}
 use Rattle.hc_on_poll.proofs.ShowStored.{IsBoundRow, bound_entry, bound_kept}
-use Rattle.hc_state.proofs.Words.{none_some, is_there}
 
 -- THE NEXT BYTE
 
@@ -217,7 +217,7 @@ module _ {B : Type 0} {g : Ghosts B} {lim : Limits} (r : Rows B g) (t : Tables) 
   offset_is = ap₂ (λ (a b : ℕ). a + b) rd.kept.begins rd.kept.given
 
   pub entry_there : (e : entry.Kept) × ((shelf_of r.entries).kept q ≡ Some e)
-  entry_there = is_there ((shelf_of r.entries).kept q) (bound_kept r t facts.law c q how k stands rd)
+  entry_there = some_row ((shelf_of r.entries).kept q) (bound_kept r t facts.law c q how k stands rd)
 
   pub entry_is : IsEntry t q entry_there.0 rd.p
   entry_is = bound_entry r t q entry_there.0 rd.p stands entry_there.1 rd.there

@@ -39,6 +39,7 @@ use Rattle.hc_fresh.specs.Lifetimes.{lifetime, lifetime_by}
 use Rattle.hc_fresh.specs.Vary.{matches_vary}
 use Rattle.hc_model.specs.Rows as rows
 use Rattle.hc_effects.proofs.Bounded.{range_order}
+use Rattle.hc_effects.proofs.Tests.{none_some}
 use Rattle.hc_fresh.specs.Ages.{age, age_value, corrected_initial_age}
 use Rattle.hc_fresh.specs.Facts.{head_facts, allowed}
 use Rattle.hc_state.specs.declared.consumer.Consumer.{Consumer}
@@ -53,7 +54,6 @@ use Rattle.hc_state.proofs.CurrentTies.{stored_ends, stays_stored, total_told, e
 use Rattle.hc_on_poll.proofs.HoleTies.{hole_as}
 use Rattle.hc_state.proofs.LeftRows.{writing_as}
 use Rattle.hc_state.proofs.TurnTies.{least_alike, filter_in, among_in}
-use Rattle.hc_state.proofs.Words.{none_some}
 
 -- AGES
 

@@ -32,6 +32,7 @@ use Rattle.hc_event.specs.declared.place.Place.TheVariants as place
 use Rattle.hc_event.specs.declared.place.BoundBy.TheVariants as by
 use Rattle.hc_model.specs.Rows as rows
 use Rattle.hc_effects.proofs.HoleEffects.{fills_first}
+use Rattle.hc_effects.proofs.Tests.{and_false}
 use Rattle.hc_state.specs.declared.consumer.Consumer.{Consumer}
 use Rattle.hc_state.specs.declared.rows.Rows.{Rows}
 use Rattle.hc_state.specs.Changes.{Numbered, ChangesAt, BecomesAt, bound_first}
@@ -56,7 +57,6 @@ use Rattle.hc_on_poll.proofs.PassesArm.{current_as}
 use Rattle.hc_on_poll.proofs.PastArm.{idle_reads, idle_lives}
 use Rattle.hc_state.proofs.QueueArm.{becomes_by}
 use Rattle.hc_state.proofs.Ties.{key_same, overs_opened}
-use Rattle.hc_state.proofs.Words.{and_false}
 
 -- nobody came to it alone
 first_none : (c : ℕ) (o : Option Kept) (e : Kept) → o ≡ Some e → admits_first c o ≡ true → e.first ≡ None

@@ -12,8 +12,8 @@ use Rattle.hc_partial.proofs.HoleLemmas.{absent_from_is, present_from_is, first_
 use Rattle.hc_effects.proofs.Basics.{same_functions}
 use Rattle.hc_effects.proofs.HoleLemmas.{first_from, first_to, first_before, first_passes, some_of, not_none, hole_absent, hole_some}
 use Rattle.hc_effects.proofs.HolesOpened.{first_hole_is}
+use Rattle.hc_effects.proofs.Tests.{none_some}
 use Rattle.hc_state.specs.Candidates.{hole_in}
-use Rattle.hc_state.proofs.Words.{none_some}
 
 none_is : (o : Option Cell) → o ≡ None → is_some o ≡ true → ⊥
 none_is o none some = let never : false ≡ true = rw none at some in cc

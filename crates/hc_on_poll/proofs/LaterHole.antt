@@ -27,6 +27,7 @@ use Rattle.hc_effects.proofs.PollTree.{OpensHole}
 use Rattle.hc_effects.proofs.PollTree as tree
 use Rattle.hc_effects.proofs.Said.{IsOpening}
 use Rattle.hc_effects.proofs.Said as said
+use Rattle.hc_effects.proofs.Tests.{none_some}
 use Rattle.hc_state.specs.declared.consumer.Consumer.{Consumer}
 use Rattle.hc_state.specs.declared.rows.Rows.{Rows}
 use Rattle.hc_state.specs.Changes.{ChangesAt, BecomesAt, with_own}
@@ -46,7 +47,6 @@ use Rattle.hc_on_poll.proofs.OpenKinds.{kinds_opened}
 use Rattle.hc_state.proofs.QueueArm.{becomes_by}
 use Rattle.hc_on_poll.proofs.ShowStored.{IsBoundRow}
 use Rattle.hc_state.proofs.Ties.{entry_same, key_same, overs_opened}
-use Rattle.hc_state.proofs.Words.{none_some}
 
 -- where it stands before a hole
 record IsAtHole (t : Tables) (c q : ℕ) (v : rows.Consumer) (p : Representation) : Type 0 where

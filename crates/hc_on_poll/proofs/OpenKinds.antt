@@ -4,7 +4,7 @@ use Rattle.std.specs.Prelude.{◌==◌, ◌&&◌}
 use Rattle.std.specs.List.{list_any}
 use Rattle.hc_text.proofs.Basics.{eqb-other, same_or}
 use Rattle.hc_effects.proofs.Vocabulary.{kind_of, is_growing, brings_to, Tables, Exchange, Representation}
-use Rattle.hc_state.proofs.Words.{none_some}
+use Rattle.hc_effects.proofs.Tests.{none_some}
 
 anys_there : (t s : Tables) (q : ℕ) → ((y : ℕ) → brings_to q y (s.exchange y) ≡ brings_to q y (t.exchange y)) → (ys : List ℕ) → list_any (λ y. brings_to q y (s.exchange y)) ys ≡ list_any (λ y. brings_to q y (t.exchange y)) ys
 anys_there t s q each [] = refl

@@ -27,6 +27,7 @@ use Rattle.hc_effects.proofs.EndsKeep.{wanted_within}
 use Rattle.hc_effects.proofs.WantedSpans.{wanted_some}
 use Rattle.hc_effects.proofs.PlanBy.{PlanBy, plan_by}
 use Rattle.hc_effects.proofs.PlanBy as plans
+use Rattle.hc_effects.proofs.Tests.{and_false}
 use Rattle.hc_state.specs.declared.consumer.Consumer.{Consumer}
 use Rattle.hc_state.specs.declared.rows.Rows.{Rows}
 use Rattle.hc_state.specs.Arms.{queues}
@@ -43,7 +44,7 @@ use Rattle.hc_on_poll.proofs.PassesArm.{current_as}
 use Rattle.hc_on_poll.proofs.PlanArms.{found, waits_there, current_admits, plan_answers}
 use Rattle.hc_state.proofs.Ties.{kept_row}
 use Rattle.hc_state.proofs.TurnTies.{least_none, among_in, filter_in}
-use Rattle.hc_state.proofs.Words.{and_false, few_received}
+use Rattle.hc_state.proofs.Words.{few_received}
 
 -- who fills a hole may ask the origin
 fills_asks : (view : PlanView) (span hole : Span) → plan_of view ≡ plan.FirstHole span hole → view.class.only ≡ false

@@ -18,6 +18,7 @@ use Rattle.hc_model.specs.Moves as moves
 use Rattle.hc_model.specs.Rows as rows
 use Rattle.hc_effects.proofs.PollEffects.{same_consumer}
 use Rattle.hc_effects.proofs.WaitEffects.{waits}
+use Rattle.hc_effects.proofs.Tests.{and_false}
 use Rattle.hc_state.specs.declared.consumer.Consumer.{Consumer}
 use Rattle.hc_state.specs.declared.rows.Rows.{Rows}
 use Rattle.hc_state.specs.Changes.{ChangesAt, passed_for}
@@ -31,7 +32,6 @@ use Rattle.hc_state.proofs.ConsumerSteps.{keys_with}
 use Rattle.hc_state.proofs.Counting.{stands_counted}
 use Rattle.hc_state.proofs.KeySteps.{says_elsewhere, not_lined, passes_key}
 use Rattle.hc_state.proofs.QueueArm.{becomes_by}
-use Rattle.hc_state.proofs.Words.{and_false}
 
 module _ {B : Type 0} {g : Ghosts B} {lim : Limits} (r u : Rows B g) (t : Tables) (law : Lawful t) (c q : ℕ) (k : Consumer) (v : rows.Consumer) (stands : RowsStand lim r t) (there : get nat_eq r.consumers c ≡ Some k) (row : t.consumer c ≡ Some v) (now_is : current t v.request.key ≡ Some q)
     (last : u.last_start ≡ r.last_start) (exchanges : u.exchanges ≡ r.exchanges) (entries : u.entries ≡ r.entries) where

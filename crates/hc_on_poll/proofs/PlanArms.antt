@@ -44,6 +44,7 @@ use Rattle.hc_effects.proofs.PlanBy.{PlanBy, plan_by}
 use Rattle.hc_effects.proofs.PlanBy as plans
 use Rattle.hc_effects.proofs.TurnMoves.{Does, Queues, does_polled}
 use Rattle.hc_effects.proofs.TurnMoves as does
+use Rattle.hc_effects.proofs.Tests.{none_some}
 use Rattle.hc_state.specs.declared.consumer.Consumer.{Consumer}
 use Rattle.hc_state.specs.declared.rows.Rows.{Rows}
 use Rattle.hc_state.specs.Arms.{queues, IsQueued}
@@ -68,7 +69,7 @@ use Rattle.hc_state.proofs.SealArm.{stands_stayed}
 use Rattle.hc_state.proofs.Ties.{kept_row}
 use Rattle.hc_state.proofs.TurnTies.{turn_with_is}
 use Rattle.hc_on_poll.proofs.WaitArms.{plans_move}
-use Rattle.hc_state.proofs.Words.{none_some, there}
+use Rattle.hc_state.proofs.Words.{there}
 use Rattle.hc_rules.proofs.RangeReads.{bytes_eq-same}
 
 -- WHO WAITS FOR ITS KEY

@@ -5,6 +5,7 @@ use Rattle.std.specs.Prelude.{is_some, nat_eq, option_map, IsSomeAnd, IfSome}
 use Rattle.std.specs.HashMap.{get}
 use Rattle.hc_text.proofs.Basics.{some_inj as some_is}
 use Rattle.hc_effects.proofs.Vocabulary.{Limits, Act, ReadView, read_step, acts_of, Tables}
+use Rattle.hc_effects.proofs.Tests.{none_some}
 use Rattle.hc_store.specs.declared.backend.Backend.{Ghosts}
 use Rattle.hc_event.specs.declared.event.Event.TheVariants as event
 use Rattle.hc_range.specs.Spans.{IsWithin}
@@ -29,7 +30,7 @@ use Rattle.hc_on_poll.proofs.BoundGives as gives
 use Rattle.hc_on_poll.proofs.BoundReads as bound
 use Rattle.hc_state.proofs.Maps.{merely_true, merely_below}
 use Rattle.hc_on_poll.proofs.ShowStored.{IsBoundRow, bound_row_of, bound_kept}
-use Rattle.hc_state.proofs.Words.{few_received, none_some}
+use Rattle.hc_state.proofs.Words.{few_received}
 
 -- WHEREVER THERE IS SOME PAST
 

@@ -31,6 +31,7 @@ use Rattle.hc_effects.proofs.AskEffects.{asks}
 use Rattle.hc_effects.proofs.GiveEffects.{gives_bytes}
 use Rattle.hc_effects.proofs.ShowEffects.{shows_reader}
 use Rattle.hc_effects.proofs.WaitEffects.{waits_on}
+use Rattle.hc_effects.proofs.Tests.{none_some}
 use Rattle.hc_state.specs.declared.consumer.Consumer.{Consumer}
 use Rattle.hc_state.specs.declared.rows.Rows.{Rows}
 use Rattle.hc_state.specs.Arms.{IsShown, IsUnshown, past_view, source_in, most, asks_or_waits, asked_in, given_acts}
@@ -45,7 +46,6 @@ use Rattle.hc_state.proofs.QueueArm.{becomes_by}
 use Rattle.hc_on_poll.proofs.ReadLemmas.{first_is, second_is, third_is, run_some, run_is, some_more}
 use Rattle.hc_state.proofs.ReaderSteps.{held_same, exchange_reading, stands_reading}
 use Rattle.hc_state.proofs.Ties.{kept_row, runs_same}
-use Rattle.hc_state.proofs.Words.{none_some}
 
 -- WHO READS PAST THE STORE
 

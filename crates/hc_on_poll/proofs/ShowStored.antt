@@ -29,6 +29,7 @@ use Rattle.hc_model.specs.Moves as moves
 use Rattle.hc_model.specs.Rows as rows
 use Rattle.hc_model.specs.Sound as sound
 use Rattle.hc_effects.proofs.ShowEffects.{shows_reader}
+use Rattle.hc_effects.proofs.Tests.{none_some}
 use Rattle.hc_state.specs.declared.consumer.Consumer.{Consumer}
 use Rattle.hc_state.specs.declared.rows.Rows.{Rows}
 use Rattle.hc_state.specs.Changes.{ChangesAt, once_shown}
@@ -46,7 +47,7 @@ use Rattle.hc_state.proofs.ReaderSteps.{held_same, exchange_reading, stands_read
 use Rattle.hc_state.proofs.Ties.{kept_row}
 use Rattle.hc_state.proofs.Unbinding.{user_kept}
 use Rattle.hc_on_poll.proofs.WaitArms.{head_waits}
-use Rattle.hc_state.proofs.Words.{none_some, few_received}
+use Rattle.hc_state.proofs.Words.{few_received}
 
 -- WHO IS BOUND
 

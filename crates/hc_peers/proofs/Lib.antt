@@ -3,9 +3,9 @@ mod Sends
 mod Listing
 mod Offered
 mod Counting
-mod Rows
+pub mod Rows
 mod UpstreamTables
 mod Changes
 mod ClientTables
 mod Takings
-mod Outcomes
+pub mod Outcomes

@@ -60,7 +60,7 @@ over-closing x over = elim (cases_Bool x.closing) [
   | inr off ↦ absurd (let none : is_over x ≡ false = rw off refl in cc)
 ]
 
-same-itself : (a : Bool) → is_same a a ≡ true
+pub same-itself : (a : Bool) → is_same a a ≡ true
 same-itself true = refl
 same-itself false = refl
 

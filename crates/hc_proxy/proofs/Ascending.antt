@@ -12,6 +12,7 @@ use Rattle.hc_effects.proofs.Vocabulary.{is_live, is_open, Lawful, Descends, Tab
 use Rattle.hc_proxy.specs.Network.{open_exchanges}
 use Rattle.hc_proxy.specs.Polls.{live_consumers}
 use Rattle.hc_proxy.proofs.SkippedSteps.{among, Ascends, weaken}
+use Rattle.hc_laws.proofs.OpenRuns.{filter_falls}
 
 -- A LIST THAT FALLS, turned round
 
@@ -24,18 +25,6 @@ up_behind n (x ∷ xs) ys down up =
 
 pub falls_up : (n : ℕ) (xs : List ℕ) → Descends n xs → Ascends 0 (reverse xs)
 falls_up n xs down = up_behind n xs [] down tt
-
-less_falls : (m n : ℕ) (xs : List ℕ) → m ≤ n → Descends m xs → Descends n xs
-less_falls m n [] le down = tt
-less_falls m n (x ∷ xs) le down = let lt : x < m = down.0 in (omega arith, down.1)
-
-pub filter_falls : (test : ℕ → Bool) (n : ℕ) (xs : List ℕ) → Descends n xs → Descends n (filter test xs)
-filter_falls test n [] down = tt
-filter_falls test n (x ∷ xs) down = by_test (test x) (filter_falls test x xs down.1)
-  where
-    by_test : (b : Bool) → Descends x (filter test xs) → Descends n (if b then x ∷ filter test xs else filter test xs)
-    by_test true rest = (down.0, rest)
-    by_test false rest = less_falls x n (filter test xs) (let lt : x < n = down.0 in omega arith) rest
 
 -- WHO IS AMONG
 

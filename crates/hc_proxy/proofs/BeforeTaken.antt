@@ -24,7 +24,7 @@ use Rattle.hc_proxy.specs.Rows.{Client, Proxy, new_client, with_client}
 use Rattle.hc_proxy.specs.Starts.{read_to, asks, with_holder, started, refused, hears_request, hears, hears_if, each_heard, is_ready, started_all}
 use Rattle.hc_proxy.specs.Steps.{with_entry, stepped}
 
-some_is : (a b : Client) → Some a ≡ Some b → a ≡ b
+pub some_is : (a b : Client) → Some a ≡ Some b → a ≡ b
 some_is a b h = cc
 
 -- a client that is here, behind an act that is sent to it

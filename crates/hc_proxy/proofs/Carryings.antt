@@ -29,12 +29,13 @@ use Rattle.hc_proxy.proofs.Alike.{cache_moves, cache_with}
 use Rattle.hc_proxy.proofs.Askings.{asked_go, wire_asked}
 use Rattle.hc_proxy.proofs.CarriedOut.{sent_to, act_keeps, over_later}
 use Rattle.hc_proxy.proofs.Closings.{dials_none}
-use Rattle.hc_proxy.proofs.Dialings.{opens_within, follows_dialled, dials_one}
+use Rattle.hc_proxy.proofs.Dialings.{follows_dialled, dials_one}
 use Rattle.hc_proxy.proofs.Holders.{HeldBy}
 use Rattle.hc_proxy.proofs.Sendings as sent
 use Rattle.hc_proxy.specs.TurnSteps.{CarriedSome, HasStopCause}
 use Rattle.hc_proxy.specs.declared.stop.Stop.{Stop}
 use Rattle.hc_proxy.specs.declared.stop.Stop.TheVariants as stop
+use Rattle.hc_proxy.proofs.OpensUp.{up_grows}
 
 -- WHO WAITS FOR WHOM
 
@@ -65,7 +66,7 @@ module _ {B : Type 0} {g : Ghosts B} (t : Turn) (x : loop.Proxy B g) (p : Proxy)
     more = [];
     follows = on.follows;
     dials = dials_none log;
-    opened = rw (append-nil t.dialled) (opens_within (a ∷ acts) (length t.dialled) p.tables.opened h.upstreams.opens);
+    opened = rw (append-nil t.dialled) (up_grows (a ∷ acts) (length t.dialled) p.tables.opened h.upstreams.opens);
   }
 
 -- or behind that
@@ -76,7 +77,7 @@ fails_opening t x p acts y c need request log told told' before after on h (one 
   more = k ∷ [];
   follows = follows_dialled k log told told' before after on.follows d;
   dials = dials_one k log told told' before after on.follows d;
-  opened = let size = length-append t.dialled (k ∷ []) in let le = opens_within acts (length t.dialled + 1) p.tables.opened h.upstreams.opens.1 in omega arith;
+  opened = let size = length-append t.dialled (k ∷ []) in let le = up_grows acts (length t.dialled + 1) p.tables.opened h.upstreams.opens.1 in omega arith;
 }
 fails_opening t x p acts y c need request log told told' before after on h (none same stays) = record {
   log' = log;
@@ -87,7 +88,7 @@ fails_opening t x p acts y c need request log told told' before after on h (none
     apart = on.follows.apart;
   };
   dials = dials_none log;
-  opened = rw (append-nil t.dialled) (opens_within (act.Opened y c need request ∷ acts) (length t.dialled) p.tables.opened h.upstreams.opens);
+  opened = rw (append-nil t.dialled) (up_grows (act.Opened y c need request ∷ acts) (length t.dialled) p.tables.opened h.upstreams.opens);
 }
 
 module _ {B : Type 0} {g : Ghosts B} (t : Turn) (x : loop.Proxy B g) (p : Proxy) (acts : List Act) where

@@ -3,7 +3,7 @@
 -- Each step calls the wire alone, the sink alone, or neither. Where one of them fails it counts that, and where it doesn't nothing is
 -- counted (their contracts). So the cause of a turn is that of the step that stopped it, and the loop ends by it.
 use Rattle.std.proofs.Common.{◌≡◌, ℕ, Ok, Err, refl, ap, sym, ◌∙◌, subst}
-use Rattle.std.specs.Prelude.{Result, IfOk, IsErrAnd}
+use Rattle.std.specs.Prelude.{Result, IsErrAnd}
 use Rattle.hc_io.specs.Faults as sink
 use Rattle.hc_io.specs.Sink.{HasSinkCause}
 use Rattle.hc_io.specs.declared.sink.SinkError.{SinkError}
@@ -53,10 +53,6 @@ wire_kept w w' k k' v c = c.wire_calm (λ is. let never : Ok v ≡ Err stop.Wire
 
 pub sink_kept : {T : Type 0} (w w' k k' : ℕ) (v : T) → HasCauses w w' k k' (Ok v) → k' ≡ k
 sink_kept w w' k k' v c = c.sink_calm (λ is. let never : Ok v ≡ Err stop.SinkFailed = is in cc)
-
-pub if_map : {T E : Type 0} (r : Result T E) (P Q : T → Type 0) → ((v : T) → P v → Q v) → IfOk r P → IfOk r Q
-if_map (Ok v) P Q f h = f v h
-if_map (Err e) P Q f h = tt
 
 pub calm_ok : {T : Type 0} (w w' k k' : ℕ) (v : T) → w' ≡ w → k' ≡ k → HasCauses w w' k k' (Ok v)
 calm_ok w w' k k' v same same' = record {

@@ -3,7 +3,7 @@
 -- Its number was never handed out, so it is that of no client and of no connection to the origin, and it doesn't stand among those that
 -- were accepted. Where fewer than 512 clients are here it is one of them from now on. Else its connection is to be closed, and the tables
 -- stay as they are.
-use Rattle.std.proofs.Common.{◌≡◌, ◌≢◌, ◌⊎◌, inl, inr, ◌≤◌, ◌<◌, ℕ, zero, suc, ◌+◌, List, [], ◌∷◌, ◌++◌, length, Bool, true, false, Option, Some, None, refl, ap, sym, ◌∙◌, subst, arith}
+use Rattle.std.proofs.Common.{◌≡◌, ◌≢◌, ◌⊎◌, inl, inr, ◌≤◌, ◌<◌, ℕ, ◌+◌, List, [], ◌∷◌, ◌++◌, length, Bool, true, false, Option, Some, None, refl, ap, sym, ◌∙◌, subst, arith}
 use Rattle.std.specs.Prelude.{◌&&◌, nat_eq, nat_lt, not, is_none, if◌then◌else◌, IsSome, Contains, ◌↔◌}
 use Rattle.std.specs.List.{list_all}
 use Rattle.std.specs.List.Sorted.{IsStrictlySortedBy}
@@ -39,10 +39,7 @@ use Rattle.hc_proxy.proofs.Marked.{among_contained, contained_among}
 use Rattle.hc_proxy.proofs.SkippedSteps.{among}
 use Rattle.hc_proxy.proofs.StartsOn.{just_here, here_order}
 use Rattle.hc_proxy.proofs.Turning.{with_new}
-
-one_of : (k j : ℕ) → Contains (j ∷ []) k → j ≡ k
-one_of k j (zero, within, is) = is
-one_of k j (suc n, within, is) = absurd (omega arith)
+use Rattle.hc_proxy.proofs.HangsOff.{one_of}
 
 none_in : {A : Type 0} (j : ℕ) (ks : List ℕ) → ks ≡ [] → Contains ks j → A
 none_in j [] is (n, within, at) = absurd (omega arith)

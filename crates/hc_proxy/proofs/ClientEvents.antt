@@ -28,7 +28,7 @@ use Rattle.hc_proxy.proofs.NetworkKeeps.{is_of_exchange, IsKeptByNetwork, heard_
 use Rattle.hc_proxy.proofs.Owings.{Owes, owes_alike, new_owes}
 use Rattle.hc_proxy.proofs.Turning.{with_new}
 
-no_poll : (ev : Event) → is_of_exchange ev ≡ true → is_poll ev ≡ false
+pub no_poll : (ev : Event) → is_of_exchange ev ≡ true → is_poll ev ≡ false
 no_poll (event.Start c request) is = absurd (let never : false ≡ true = is in cc)
 no_poll (event.Poll c want) is = absurd (let never : false ≡ true = is in cc)
 no_poll (event.Head x response) is = refl

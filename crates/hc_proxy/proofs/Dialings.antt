@@ -41,6 +41,8 @@ use Rattle.hc_proxy.specs.Underway.{DialsOne, Opens, KeepsUnderway, OnWire, Goes
 use Rattle.hc_proxy.proofs.CarriedOut.{act_keeps}
 use Rattle.hc_proxy.proofs.Closings.{told_on}
 use Rattle.hc_proxy.proofs.MoreConnections.{connection_stays, connection_comes, nobodys_stays, names_more}
+use Rattle.hc_proxy.proofs.Followed.{unseen_none as nobody_yet}
+use Rattle.hc_proxy.proofs.OpensUp.{up_grows as ups}
 
 -- THE LOG
 
@@ -50,13 +52,6 @@ seen_one c = by_life c.live
     by_life : (b : Bool) → (if b then Open c.reads c.ended else Closed) ≡ Unseen → ⊥
     by_life true is = cc
     by_life false is = cc
-
-nobody_yet : (k : ℕ) (cs : List Taker) → stage_in cs k ≡ Unseen → find (is_numbered k) cs ≡ None
-nobody_yet k [] new = refl
-nobody_yet k (c ∷ cs) new = elim (cases_Bool (eqb c.k k)) [
-  | inl on ↦ absurd (seen_one c (rw on at new))
-  | inr off ↦ rw off (nobody_yet k cs (rw off at new))
-]
 
 none_more : (j k : ℕ) (cs : List Taker) → nat_eq k j ≡ false → find (is_numbered j) cs ≡ None → find (is_numbered j) (cs ++ fresh k ∷ []) ≡ None
 none_more j k [] off h = rw off refl
@@ -123,23 +118,6 @@ unconnected : (dialled : List ℕ) (y : ℕ) → y ≡ length dialled + 1 → co
 unconnected dialled y next =
     let some : nat_eq y 0 ≡ false = grind (arith, nat_tests) in
     rw some (none_past (y - 1) dialled (omega arith))
-
-ups : (acts : List Act) (n m : ℕ) → OpensUp n acts m → n ≤ m
-ups [] n m h = omega arith
-ups (act.Opened x c need request ∷ acts) n m h = let le = ups acts (n + 1) m h.1 in omega arith
-ups (act.Denied refusal ∷ acts) n m h = ups acts n m h
-ups (act.Ask x ∷ acts) n m h = ups acts n m h
-ups (act.Close x ∷ acts) n m h = ups acts n m h
-ups (act.Shown c r why status fields lo hi ∷ acts) n m h = ups acts n m h
-ups (act.Given c x at bytes ∷ acts) n m h = ups acts n m h
-ups (act.Ended c ∷ acts) n m h = ups acts n m h
-ups (act.Failed c cause ∷ acts) n m h = ups acts n m h
-ups (act.Pending c wait ∷ acts) n m h = ups acts n m h
-ups (act.Lost r kind ∷ acts) n m h = ups acts n m h
-ups (act.Evicted r ∷ acts) n m h = ups acts n m h
-
-pub opens_within : (acts : List Act) (n m : ℕ) → OpensUp n acts m → n ≤ m
-opens_within acts n m h = ups acts n m h
 
 sum_le : (f g : ℕ → ℕ) → ((n : ℕ) → f n ≤ g n) → (ns : List ℕ) → sum_by f ns ≤ sum_by g ns
 sum_le f g le [] = omega arith

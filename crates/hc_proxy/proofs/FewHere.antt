@@ -3,18 +3,16 @@
 -- Each live consumer is that of a client which is here. So it is among the consumers of these clients, and there are no more of those
 -- than clients. The numbers of who is live fall, so each stands once: and what falls is no longer than a list that has each of it.
 -- In every run no more exchanges are open than consumers are live.
-use Rattle.std.proofs.Common.{◌≡◌, ◌⊎◌, inl, inr, ◌≤◌, ◌<◌, ℕ, zero, suc, ◌+◌, List, [], ◌∷◌, length, map, true, Option, Some, None, refl, ap, sym, ◌∙◌, arith}
+use Rattle.std.proofs.Common.{◌≡◌, ◌⊎◌, inl, inr, ◌≤◌, ◌<◌, ℕ, zero, suc, ◌+◌, List, [], ◌∷◌, length, map, true, Option, Some, None, refl, ap, ◌∙◌, arith}
 use Rattle.std.specs.Prelude.{Contains, IsSome, filter, nat_eq, unwrap_or, if◌then◌else◌}
 use Rattle.hc_text.proofs.Basics.{map_long}
-use Rattle.hc_effects.proofs.Vocabulary.{Limits, is_live, live, History, no_contents, Lawful, open_now, Descends, IsRun, Among, tables}
+use Rattle.hc_effects.proofs.Vocabulary.{Limits, is_live, live, History, no_contents, Lawful, open_now, IsRun, Among, tables}
 use Rattle.hc_effects.proofs.Closed.{among_filter}
-use Rattle.hc_effects.proofs.PieceKeeps.{eq_cases}
 use Rattle.hc_effects.proofs.HasBound.{among_passes}
-use Rattle.hc_laws.proofs.OpenRuns.{open_in_runs}
+use Rattle.hc_laws.proofs.OpenRuns.{open_in_runs, among_mapped, filter_falls, no_more}
 use Rattle.hc_proxy.specs.Handling.{clients_here, is_client}
 use Rattle.hc_proxy.specs.Invariants.{IsHolder, HasConsumers}
 use Rattle.hc_proxy.specs.Rows.{Client, Proxy}
-use Rattle.hc_proxy.proofs.Ascending.{filter_falls}
 use Rattle.hc_laws.proofs.FromNothing.{begins_well}
 
 -- HOW MANY
@@ -24,52 +22,9 @@ abbrev without : ℕ → List ℕ → List ℕ
 without x [] = []
 without x (y ∷ ys) = if nat_eq y x then ys else y ∷ without x ys
 
-one_fewer : (x : ℕ) (ys : List ℕ) → Among x ys → length ys ≡ suc (length (without x ys))
-one_fewer x [] there = absurd there
-one_fewer x (y ∷ ys) there = elim (eq_cases y x) [
-  | inl here ↦ rw here.0 (omega arith)
-  | inr off ↦ rw off.0 (let rest = one_fewer x ys (later there off.1) in omega (arith, rest))
-]
-  where
-    later : Among x (y ∷ ys) → (y ≡ x → ⊥) → Among x ys
-    later (inl here) other = absurd (other here)
-    later (inr more) other = more
-
-others_stay : (x q : ℕ) (ys : List ℕ) → (q ≡ x → ⊥) → Among q ys → Among q (without x ys)
-others_stay x q [] other there = there
-others_stay x q (y ∷ ys) other there = elim (eq_cases y x) [
-  | inl here ↦ rw here.0 (behind there here.1)
-  | inr off ↦ rw off.0 (by_place there (others_stay x q ys other))
-]
-  where
-    behind : Among q (y ∷ ys) → y ≡ x → Among q ys
-    behind (inl here) is = absurd (other (sym here ∙ is))
-    behind (inr more) is = more
-
     by_place : Among q (y ∷ ys) → (Among q ys → Among q (without x ys)) → (y ≡ q) ⊎ Among q (without x ys)
     by_place (inl here) rest = inl here
     by_place (inr more) rest = inr (rest more)
-
-below_all : (n x : ℕ) (xs : List ℕ) → Descends n xs → Among x xs → x < n
-below_all n x [] d there = absurd there
-below_all n x (y ∷ ys) d (inl here) = let lt : y < n = d.0 in let same : y ≡ x = here in omega arith
-below_all n x (y ∷ ys) d (inr more) = let lt : y < n = d.0 in let less : x < y = below_all y x ys d.1 more in omega arith
-
--- what falls stands once: a list that has each of it is no shorter
-no_more : (n : ℕ) (xs ys : List ℕ) → Descends n xs → ((x : ℕ) → Among x xs → Among x ys) → length xs ≤ length ys
-no_more n [] ys d all = omega arith
-no_more n (x ∷ xs) ys d all =
-    let rest : length xs ≤ length (without x ys) = no_more x xs (without x ys) d.1 (λ q there. others_stay x q ys (λ same. apart q there same) (all q (inr there))) in
-    let count : length ys ≡ suc (length (without x ys)) = one_fewer x ys (all x (inl refl)) in
-    omega arith
-  where
-    apart : (q : ℕ) → Among q xs → q ≡ x → ⊥
-    apart q there same = let lt : q < x = below_all x q xs d.1 there in absurd (omega arith)
-
-among_mapped : (f : ℕ → ℕ) (k c : ℕ) (ks : List ℕ) → f k ≡ c → Among k ks → Among c (map f ks)
-among_mapped f k c [] is there = there
-among_mapped f k c (j ∷ js) is (inl here) = inl (ap f here ∙ is)
-among_mapped f k c (j ∷ js) is (inr more) = inr (among_mapped f k c js is more)
 
 among_of : (k : ℕ) (ks : List ℕ) → Contains ks k → Among k ks
 among_of k [] (n, within, is) = absurd (omega arith)

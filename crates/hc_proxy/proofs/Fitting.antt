@@ -39,6 +39,7 @@ use Rattle.hc_proxy.proofs.Rows.{sent_all}
 use Rattle.hc_proxy.proofs.Stands.{is_sound}
 use Rattle.hc_proxy.proofs.StepOn.{stands_of}
 use Rattle.hc_proxy.proofs.TakersStand.{found_number, taken_found, stands_found, stands_missing, standings_all, taker_stage, sent_found, open_taker}
+use Rattle.hc_state.proofs.LeftRows.{all_passing}
 
 -- LISTS
 
@@ -51,14 +52,6 @@ all_reversed test [] a = refl
 all_reversed test (x ∷ xs) a =
     ap (list_all test) (reverse-append (x ∷ []) xs)
     ∙ all_append test (reverse xs) (x ∷ []) (all_reversed test xs (and_right (test x) (list_all test xs) a)) (both_hold (test x) true (and_left (test x) (list_all test xs) a) refl)
-
-pub all_filtered : (test pass : ℕ → Bool) (xs : List ℕ) → ((x : ℕ) → pass x ≡ true → test x ≡ true) → list_all test (filter pass xs) ≡ true
-all_filtered test pass [] each = refl
-all_filtered test pass (x ∷ xs) each = by_test (all_filtered test pass xs each) (pass x) refl
-  where
-    by_test : list_all test (filter pass xs) ≡ true → (b : Bool) → pass x ≡ b → list_all test (if b then x ∷ filter pass xs else filter pass xs) ≡ true
-    by_test rest true is = both_hold (test x) (list_all test (filter pass xs)) (each x is) rest
-    by_test rest false is = rest
 
 -- SMALL TESTS
 
@@ -357,7 +350,7 @@ module _ {B : Type 0} {g : Ghosts B} (f : Frame) (x : loop.Proxy B g) (p : Proxy
 
   all_open : list_all (exchange_stands call log.dialled) (open_exchanges p.tables) ≡ true
   all_open = all_reversed (exchange_stands call log.dialled) (filter (λ y. is_open (p.tables.exchange y)) p.tables.openings)
-      (all_filtered (exchange_stands call log.dialled) (λ y. is_open (p.tables.exchange y)) p.tables.openings (λ y live. exchange_there_stands y live (opened_within y live)))
+      (all_passing (exchange_stands call log.dialled) (λ y. is_open (p.tables.exchange y)) p.tables.openings (λ y live. exchange_there_stands y live (opened_within y live)))
 
   pub fits_now : length call.bytes ≤ 16384 → call.wait ≡ waits f.limits p → Fits f.limits log.dialled p call
   fits_now few wait = record {

@@ -2,7 +2,7 @@
 --
 -- A change of one connection keeps its number, so the others are found as before, and no two have one number. A new connection has a
 -- number that no other has, since the wire hands out such alone.
-use Rattle.std.proofs.Common.{◌≡◌, ◌⊎◌, inl, inr, ℕ, List, [], ◌∷◌, ◌++◌, Bool, true, false, Option, Some, None, refl, ap, sym, ◌∙◌, subst, arith}
+use Rattle.std.proofs.Common.{◌≡◌, ◌⊎◌, ℕ, List, [], ◌∷◌, ◌++◌, Bool, true, false, Option, Some, None, refl, ap, sym, ◌∙◌, subst, arith}
 use Rattle.std.specs.Prelude.{nat_eq, find, length, if◌then◌else◌, option_map}
 use Rattle.std.specs.Option.{option_or}
 use Rattle.std.proofs.lemmas.Bool.Decides.{nat_tests}
@@ -11,6 +11,7 @@ use Rattle.hc_wire.specs.Logs.{Log, Taker, Tells, fresh, stage_of, is_numbered, 
 use Rattle.hc_wire.specs.declared.event.WireEvent.{WireEvent}
 use Rattle.hc_wire.specs.declared.event.WireEvent.TheVariants as event
 use Rattle.hc_proxy.specs.Logging.{Follows, AreApart}
+use Rattle.hc_proxy.proofs.Closings.{told_on}
 
 -- ONE CONNECTION CHANGES
 
@@ -153,14 +154,6 @@ sent_new k j cs none = ap sent_from (found_new k j cs none) ∙ by_test (nat_eq 
     by_test false is = refl
 
 -- THE CALLS
-
-pub told_on : (told told' : Option Log) (log : Log) (change : Log → Log) → (told ≡ None) ⊎ (told ≡ Some log) → Tells told told' change → (told' ≡ None) ⊎ (told' ≡ Some (change log))
-told_on None told' log change is tells = inl tells
-told_on (Some it) told' log change (inl none) tells = absurd (let never : Some it ≡ None = none in cc)
-told_on (Some it) told' log change (inr same) tells = inr (tells ∙ ap (λ (l : Log). Some (change l)) (some_is it log same))
-  where
-    some_is : (a b : Log) → Some a ≡ Some b → a ≡ b
-    some_is a b h = cc
 
 module _ (told told' : Option Log) (stages stages' : ℕ → Stage) (log : Log) (f : Follows told stages log) where
   -- one connection is changed

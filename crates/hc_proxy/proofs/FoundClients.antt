@@ -6,13 +6,12 @@ use Rattle.std.proofs.Common.{◌≡◌, ℕ, List, [], ◌∷◌, ◌++◌, tru
 use Rattle.std.specs.Prelude.{is_some, if◌then◌else◌}
 use Rattle.hc_effects.proofs.Vocabulary.{Act, told_to, tellings, IsOneTo}
 use Rattle.hc_event.specs.declared.act.Act.TheVariants as act
-use Rattle.hc_model.specs.Tellings as tells
 use Rattle.hc_proxy.specs.Carrying.{answered, answers, carried_out, all_carried_out}
 use Rattle.hc_proxy.specs.Invariants.{IsHolder}
 use Rattle.hc_proxy.specs.Rows.{Client, Proxy, changed}
 use Rattle.hc_proxy.proofs.CarriedOut.{sent_to, AreFound, back, on}
 use Rattle.hc_proxy.proofs.Holders.{one_held}
-use Rattle.hc_proxy.proofs.PolledAlone.{AreTo}
+use Rattle.hc_proxy.proofs.PolledAlone.{AreTo, one_first}
 use Rattle.hc_proxy.proofs.QuietActs.{AreQuiet}
 
 -- WHO IS SENT SOMETHING is told something
@@ -175,9 +174,6 @@ untold_found (a ∷ acts) p none = by_told (told_to a) refl (untold_found acts (
     by_told None at later rest = (λ c sent. absurd (let never : None ≡ Some c = sym at ∙ sent_told a c sent in cc), later rest)
     by_told (Some d) at later rest = absurd (let never : (a ∷ tellings acts) ≡ [] = rest in cc)
 
-one_rest : (c : ℕ) (a : Act) (acts : List Act) → IsOneTo c (a ∷ acts) → (told_to a ≡ Some c) × (acts ≡ [])
-one_rest c a _ (tells.one _ told) = (told, refl)
-
 none_sent : (a : Act) → told_to a ≡ None → (o : Option ℕ) → sent_to a ≡ o → sent_to a ≡ None
 none_sent a none None sent = sent
 none_sent a none (Some d) sent = absurd (let never : None ≡ Some d = sym none ∙ sent_told a d sent in cc)
@@ -192,7 +188,7 @@ one_found (a ∷ acts) p k c is w = by_told (told_to a) refl (one_found acts (ca
     by_told : (o : Option ℕ) → told_to a ≡ o → (IsOneTo c (tellings acts) → IsHolder (carried_out a p) k c → AreFound acts (carried_out a p)) → IsOneTo c (if is_some o then a ∷ tellings acts else tellings acts) → AreFound (a ∷ acts) p
     by_told None at later rest = (λ d sent. absurd (let never : None ≡ Some d = sym at ∙ sent_told a d sent in cc), later rest (holder_alike p (carried_out a p) (unsent_same a p (none_sent a at (sent_to a) refl)) k c w))
     by_told (Some d) at later rest =
-        let first = one_rest c a (tellings acts) rest in
+        let first = one_first c a (tellings acts) rest in
         (λ b sent. (k, subst (IsHolder p k) (some_is b first.0 (sent_told a b sent)) w), untold_found acts (carried_out a p) first.1)
 
 -- Before the polls nothing is sent.

@@ -23,9 +23,7 @@ use Rattle.hc_proxy.specs.Turns.{happened}
 use Rattle.hc_proxy.proofs.IdleClients.{started_apart}
 use Rattle.hc_proxy.proofs.NetworkKeeps.{same_clients}
 use Rattle.hc_proxy.proofs.SkippedSteps.{among}
-
-some_is : (a b : Client) → Some a ≡ Some b → a ≡ b
-some_is a b h = cc
+use Rattle.hc_proxy.proofs.BeforeTaken.{some_is}
 
 module _ (limits : Limits) (call : Called) (k : ℕ) (r : Client) (gone : r.gone ≡ true) where
   abbrev Has : Proxy → Type 0

@@ -5,11 +5,12 @@
 -- is read first. A piece takes as many bytes from what wasn't read as the cache receives. Behind a piece that was denied a fault shuts
 -- the exchange; so two steps are made only where it isn't open any more.
 use Rattle.std.proofs.Common.{◌≡◌, ◌⊎◌, inl, inr, ◌≤◌, ℕ, ◌+◌, List, [], ◌∷◌, length, Bool, true, false, Option, Some, None, refl, ap, sym, ◌∙◌, subst, arith}
-use Rattle.std.specs.Prelude.{◌&&◌, ◌||◌, is_some, nat_eq, nat_lt, option_map}
+use Rattle.std.specs.Prelude.{◌&&◌, ◌||◌, nat_eq, nat_lt, option_map}
 use Rattle.std.proofs.lemmas.Bool.Decides.{nat_tests}
 use Rattle.hc_text.proofs.Basics.{some_inj, true_false}
 use Rattle.hc_core.specs.Steps.{faults_in, steps, bytes_received}
 use Rattle.hc_effects.proofs.Vocabulary.{is_denied, Act, Event, Response, Entry, is_open, is_wanted, Lawful, Tables, Exchange, Among, after}
+use Rattle.hc_effects.proofs.OfConsumers.{open_there}
 use Rattle.hc_event.specs.declared.act.Act.TheVariants as act
 use Rattle.hc_event.specs.declared.event.Event.TheVariants as event
 use Rattle.hc_msg.specs.declared.message.WirePart.TheVariants as part
@@ -59,7 +60,7 @@ quiet_up (act.Ended c ∷ acts) n m quiet up = true_false (sym quiet)
 quiet_up (act.Failed c cause ∷ acts) n m quiet up = true_false (sym quiet)
 quiet_up (act.Pending c wait ∷ acts) n m quiet up = true_false (sym quiet)
 
-wanted_open : (o : Option Exchange) → is_wanted o ≡ true → is_open o ≡ true
+pub wanted_open : (o : Option Exchange) → is_wanted o ≡ true → is_open o ≡ true
 wanted_open None h = h
 wanted_open (Some w) h = by_open w.is_open _ h
   where
@@ -82,12 +83,8 @@ listed_is z (y ∷ ys) (inr more) = either (nat_eq y z) (among z ys) (listed_is 
     either true b h = refl
     either false b h = h
 
-open_some : (o : Option Exchange) → is_open o ≡ true → is_some o ≡ true
-open_some None h = h
-open_some (Some w) h = refl
-
 open_listed : (t : Tables) → Lawful t → (z : ℕ) → is_open (t.exchange z) ≡ true → among z t.openings ≡ true
-open_listed t law z on = listed_is z t.openings (law.sound.numbered.lists.opened z (open_some (t.exchange z) on))
+open_listed t law z on = listed_is z t.openings (law.sound.numbered.lists.opened z (open_there (t.exchange z) on))
 
 -- what is open behind an entry whose acts are quiet was open before
 pub apart_entry : (z : ℕ) (p : Proxy) (e : Entry) → AreQuiet e.acts → IsApart z p (with_entry e p)

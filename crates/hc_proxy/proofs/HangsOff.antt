@@ -27,7 +27,7 @@ has_row taken None r c at is = none_some c is
 has_row taken (Some d) None c at is = absurd at
 has_row taken (Some d) (Some r) c at is = refl
 
-one_of : (k j : ℕ) → Contains (j ∷ []) k → j ≡ k
+pub one_of : (k j : ℕ) → Contains (j ∷ []) k → j ≡ k
 one_of k j (zero, within, is) = is
 one_of k j (suc n, within, is) = absurd (omega arith)
 

@@ -7,7 +7,7 @@ use Rattle.std.specs.Prelude.{◌&&◌, ◌||◌, not, nat_eq, nat_lt}
 use Rattle.std.specs.List.{list_any}
 use Rattle.std.proofs.lemmas.Bool.Decides.{nat_tests}
 use Rattle.hc_text.proofs.Basics.{true_false}
-use Rattle.hc_effects.proofs.Vocabulary.{is_open, is_wanted, Lawful, Exchange}
+use Rattle.hc_effects.proofs.Vocabulary.{is_open, is_wanted, Lawful}
 use Rattle.hc_msg.specs.Inputs.{look_of}
 use Rattle.hc_peers.specs.Upstreams.{upstream_of, is_news, news_of, has_news_at, look_at}
 use Rattle.hc_peers.specs.declared.upstream.Upstream as origin
@@ -29,6 +29,7 @@ use Rattle.hc_proxy.proofs.SkippedSteps.{among}
 use Rattle.hc_proxy.proofs.StepOn.{law_of}
 use Rattle.hc_proxy.proofs.TakenParts.{news_same, next_same}
 use Rattle.hc_proxy.proofs.Waited.{brings_by, brings, nothing_brought}
+use Rattle.hc_proxy.proofs.HandedOn.{wanted_open}
 
 -- LISTS
 
@@ -90,14 +91,6 @@ none_due wanted (Some v) off = by_test (wanted && has_news v) (has_next (look_of
     by_test : (a b d : Bool) → (a || d) ≡ false → (a && b) ≡ false
     by_test true b d h = true_false h
     by_test false b d h = refl
-
-wanted_open : (o : Option Exchange) → is_wanted o ≡ true → is_open o ≡ true
-wanted_open None h = h
-wanted_open (Some w) h = by_open w.is_open _ h
-  where
-    by_open : (b c : Bool) → (b && c) ≡ true → b ≡ true
-    by_open true c g = refl
-    by_open false c g = g
 
 brings_wanted : (wanted : Bool) (o : Option Upstream) → brings_by wanted o ≡ true → wanted ≡ true
 brings_wanted true o on = refl

@@ -10,6 +10,7 @@ use Rattle.std.proofs.lemmas.List.{length-drop}
 use Rattle.hc_text.proofs.Basics.{both_true as both_hold, or_left, or_right}
 use Rattle.hc_core.specs.Steps.{steps, faults_in}
 use Rattle.hc_io.specs.Sink.{Takes, TakesFront}
+use Rattle.hc_io.proofs.Takings.{takes_more as takes_both, takes_none}
 use Rattle.hc_effects.proofs.Vocabulary.{is_open, tables, Limits}
 use Rattle.hc_peers.specs.Clients.{client_of}
 use Rattle.hc_peers.specs.Upstreams.{upstream_of}
@@ -38,24 +39,13 @@ use Rattle.hc_proxy.specs.Serving.{IsOfLoop, IsCutShort, IsStill, Begins, TurnsT
 use Rattle.hc_proxy.specs.Stops.{ended_as, ended_by}
 use Rattle.hc_proxy.specs.Turns.{turned_by, behind_all, record_of}
 use Rattle.hc_proxy.specs.Waiting.{waits}
-use Rattle.hc_proxy.proofs.Fitting.{all_reversed, all_filtered, opened_within}
+use Rattle.hc_proxy.proofs.Fitting.{all_reversed, opened_within}
 use Rattle.hc_proxy.proofs.FinishGoes.{takes_all}
 use Rattle.hc_proxy.proofs.Rows.{sent_all}
 use Rattle.hc_proxy.proofs.TakersStand.{open_taker, sent_found, taken_found}
-use Rattle.hc_proxy.proofs.TurnGoes.{takes_nothing}
+use Rattle.hc_state.proofs.LeftRows.{all_passing}
 
 -- WHAT A SINK TOOK
-
-pub takes_both : (out mid new : Option (List ℕ)) (one two : List ℕ) → Takes out mid one → Takes mid new two → Takes out new (one ++ two)
-takes_both None mid new one two a b = by_mid mid a b
-  where
-    by_mid : (m : Option (List ℕ)) → m ≡ None → Takes m new two → new ≡ None
-    by_mid None is t = t
-    by_mid (Some bytes) is t = absurd (let never : Some bytes ≡ None = is in cc)
-takes_both (Some old) mid new one two a b = by_mid mid a b
-  where
-    some_is : (c d : List ℕ) → Some c ≡ Some d → c ≡ d
-    some_is c d h = cc
 
     by_mid : (m : Option (List ℕ)) → m ≡ Some (old ++ one) → Takes m new two → new ≡ Some (old ++ (one ++ two))
     by_mid None is t = absurd (let never : None ≡ Some (old ++ one) = is in cc)
@@ -104,7 +94,7 @@ module _ {B : Type 0} {g : Ghosts B} where
     still = b.still;
     wait_is = first_waits f.limits;
     limits_are = refl;
-    takes = subst (Takes out out) (sym b.unwritten) (takes_nothing out);
+    takes = subst (Takes out out) (sym b.unwritten) (takes_none out);
     bound = refl;
     calls = ap length b.fresh.calls;
     of_loop = fresh_of_loop f.limits before b.fresh;
@@ -280,7 +270,7 @@ module _ {B : Type 0} {g : Ghosts B} (f : Frame) (x : loop.Proxy B g) (p : Proxy
     pub all_sent : all_is_sent log p ≡ true
     all_sent = both_hold (list_all (λ k. client_is_sent log k (p.client k)) p.accepted) (list_all (exchange_is_sent log p) (open_exchanges p.tables))
         (each_holds (λ k. client_is_sent log k (p.client k)) p.accepted client_sent)
-        (all_reversed (exchange_is_sent log p) (filter (λ y. is_open (p.tables.exchange y)) p.tables.openings) (all_filtered (exchange_is_sent log p) (λ y. is_open (p.tables.exchange y)) p.tables.openings exchange_sent))
+        (all_reversed (exchange_is_sent log p) (filter (λ y. is_open (p.tables.exchange y)) p.tables.openings) (all_passing (exchange_is_sent log p) (λ y. is_open (p.tables.exchange y)) p.tables.openings exchange_sent))
 
 -- the same behind the closing
 client_shut : (log : Log) (k : ℕ) (o : Option Client) → client_is_sent (all_closed log) k o ≡ client_is_sent log k o
@@ -336,7 +326,7 @@ abbrev pub log_of : Option Log → Log
 log_of None = empty_log
 log_of (Some log) = log
 
-told_first : (told : Option Log) → (told ≡ None) ⊎ (told ≡ Some (log_of told))
+pub told_first : (told : Option Log) → (told ≡ None) ⊎ (told ≡ Some (log_of told))
 told_first None = inl refl
 told_first (Some log) = inr refl
 
@@ -366,9 +356,6 @@ module _ {B : Type 0} {g : Ghosts B} (n : ℕ) (limits : Limits) (x : loop.Proxy
         fresh = is;
         unwritten = refl;
       }
-
-pub told_at_first : (told : Option Log) → (told ≡ None) ⊎ (told ≡ Some (log_of told))
-told_at_first told = told_first told
 
 -- what the wire tells
 pub told_ends : (limits : Limits) (turns : ℕ) (log : Log) (told told' : Option Log) (out out' : Option (List ℕ)) (end : Ended) → (told ≡ None) ⊎ (told ≡ Some log) → EndsBy limits turns log told' out out' end → ServesAs limits turns told told' out out' end

@@ -28,7 +28,7 @@ use Rattle.hc_proxy.specs.Logging.{Follows}
 use Rattle.hc_proxy.specs.Rows.{Proxy}
 use Rattle.hc_proxy.specs.TurnSteps.{SentSome}
 use Rattle.hc_proxy.specs.Unsent.{HasConnections, IsSentAt, AreSent, IsSentOriginAt, Sends, SendsToClients, SendsToOrigins}
-use Rattle.hc_proxy.proofs.OfferedClients.{client_goes, client_fails}
+use Rattle.hc_proxy.proofs.OfferedClients.{client_goes, client_fails, sends_none}
 use Rattle.hc_proxy.proofs.OfferedOrigins.{origin_goes, origin_fails}
 
 -- WHO IS LEFT
@@ -78,9 +78,6 @@ fails_later p a b told first some = record {
 
 pub fails_here : (p : Proxy) (log : Log) (told : Option Log) → (told ≡ None) ⊎ (told ≡ Some log) → SentSome p log told
 fails_here p log told is = record { log' = log; told_is = is; calls = refl; bound = refl; dialled = refl; sent = λ all. all }
-
-sends_none : (p : Proxy) (log : Log) → Sends p log log
-sends_none p log = record { calls = refl; bound = refl; dialled = refl; sent = λ all. all; unseen = λ k is. is }
 
 -- CLIENTS
 

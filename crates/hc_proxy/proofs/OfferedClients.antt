@@ -19,6 +19,7 @@ use Rattle.hc_peers.specs.declared.client.Client as peer
 use Rattle.hc_peers.specs.declared.clients.Clients.{Clients}
 use Rattle.hc_peers.specs.declared.upstream.Upstream as origin
 use Rattle.hc_peers.specs.declared.upstreams.Upstreams.{Upstreams}
+use Rattle.hc_peers.proofs.Rows.{same-itself}
 use Rattle.hc_proxy.specs.Connections.{exchange_of, connection_of}
 use Rattle.hc_proxy.specs.Keeping.{IsClient, IsUpstream, IsUpstreamAt}
 use Rattle.hc_proxy.specs.Invariants.{NamesOne}
@@ -26,10 +27,11 @@ use Rattle.hc_proxy.specs.Logging.{Follows, short_from, is_short}
 use Rattle.hc_proxy.specs.Rows.{Client, Upstream, Proxy}
 use Rattle.hc_proxy.specs.TurnSteps.{SentSome}
 use Rattle.hc_proxy.specs.Unsent.{taken_in, IsKnownAt, HasConnections, IsSentAt, Sends}
-use Rattle.hc_proxy.proofs.Followed.{told_on, follows_sent, follows_closed, follows_reading}
+use Rattle.hc_proxy.proofs.Followed.{follows_sent, follows_closed, follows_reading}
 use Rattle.hc_proxy.proofs.Taken.{MovesAt, client_front, moves_sent, moves_closed, moves_reading, none_front, some_sent}
+use Rattle.hc_proxy.proofs.Closings.{told_on}
 
-none_some : {A : Type 0} {X : Type 0} (v : A) → None ≡ Some v → X
+pub none_some : {A : Type 0} {X : Type 0} (v : A) → None ≡ Some v → X
 none_some v is = absurd (let never : None ≡ Some v = is in cc)
 
 -- NUMBERS
@@ -38,10 +40,6 @@ pub drop_more : (m n : ℕ) (xs : List ℕ) → drop n (drop m xs) ≡ drop (m +
 drop_more zero n xs = ap (λ i. drop i xs) (let e : n ≡ 0 + n = omega arith in e)
 drop_more (suc m) n [] = drop-nil n ∙ sym (drop-nil (suc m + n))
 drop_more (suc m) n (x ∷ xs) = drop_more m n xs ∙ ap (λ i. drop i (x ∷ xs)) (let e : suc (m + n) ≡ suc m + n = omega arith in e)
-
-pub same_is : (b : Bool) → is_same b b ≡ true
-same_is true = refl
-same_is false = refl
 
 -- where it was told so already, nothing changes
 pub was_same : (was on : Bool) → is_same was on ≡ true → was ≡ on
@@ -180,7 +178,7 @@ module _ (p : Proxy) (cl : Clients) (up : Upstreams) (log : Log) (h : HasConnect
 
       stays_sent : is_over c' ≡ false → IsSentAt log' k (Some stays_as)
       stays_sent stays = record {
-        reads = same_is (is_idle c');
+        reads = same-itself (is_idle c');
         stays = stays;
         lacks = by_less (nat_lt n (length c.unsent)) refl;
       }
@@ -256,7 +254,7 @@ pub record ClientGoes (p : Proxy) (cl cl' : Clients) (up : Upstreams) (log : Log
   pub sent : IsSentAt log' k (client_of cl' k)
   pub others : (j : ℕ) → nat_eq j k ≡ false → IsSentAt log j (client_of cl j) → IsSentAt log' j (client_of cl' j)
 
-sends_none : (p : Proxy) (log : Log) → Sends p log log
+pub sends_none : (p : Proxy) (log : Log) → Sends p log log
 sends_none p log = record { calls = refl; bound = refl; dialled = refl; sent = λ all. all; unseen = λ k is. is }
 
 -- nobody is there

@@ -20,6 +20,7 @@ use Rattle.hc_peers.specs.declared.client.Client as peer
 use Rattle.hc_peers.specs.declared.clients.Clients.{Clients}
 use Rattle.hc_peers.specs.declared.upstream.Upstream as origin
 use Rattle.hc_peers.specs.declared.upstreams.Upstreams.{Upstreams}
+use Rattle.hc_peers.proofs.Rows.{same-itself}
 use Rattle.hc_proxy.specs.Connections.{exchange_of, connection_of}
 use Rattle.hc_proxy.specs.Invariants.{NamesOne}
 use Rattle.hc_proxy.specs.Keeping.{IsUpstream, IsUpstreamAt}
@@ -28,12 +29,10 @@ use Rattle.hc_proxy.specs.Resting.{IsRestingUpstream}
 use Rattle.hc_proxy.specs.Rows.{Client, Upstream, Proxy}
 use Rattle.hc_proxy.specs.TurnSteps.{SentSome}
 use Rattle.hc_proxy.specs.Unsent.{taken_in, IsKnownAt, HasConnections, IsSentAt, AreSent, IsSentOriginAt, Sends}
-use Rattle.hc_proxy.proofs.Followed.{told_on, follows_sent, follows_reading}
+use Rattle.hc_proxy.proofs.Followed.{follows_sent, follows_reading}
 use Rattle.hc_proxy.proofs.Taken.{MovesAt, origin_front, moves_sent, moves_reading, none_front, some_sent}
-use Rattle.hc_proxy.proofs.OfferedClients.{drop_more, same_is, was_same, known_same, sent_same, upstream_same, taken_off, stage_off, short_off}
-
-none_some : {A : Type 0} {X : Type 0} (v : A) → None ≡ Some v → X
-none_some v is = absurd (let never : None ≡ Some v = is in cc)
+use Rattle.hc_proxy.proofs.OfferedClients.{drop_more, was_same, known_same, sent_same, upstream_same, taken_off, stage_off, short_off, none_some, sends_none}
+use Rattle.hc_proxy.proofs.Closings.{told_on}
 
 -- nobody is known of whom the tables tell nothing
 known_none : (log log' : Log) (j : ℕ) (o : Option peer.Client) → IsKnownAt log j o None → IsKnownAt log' j o None
@@ -118,7 +117,7 @@ module _ (p : Proxy) (cl : Clients) (up : Upstreams) (log : Log) (h : HasConnect
       }
 
       reads_wanted : is_same on (is_wanted (p.tables.exchange y)) ≡ true
-      reads_wanted = ap (is_same on) (sym wanted) ∙ same_is on
+      reads_wanted = ap (is_same on) (sym wanted) ∙ same-itself on
 
       row_on : upstream_of up' y ≡ Some u'
       row_on = becomes y ∙ rw (same_number y) refl
@@ -269,9 +268,6 @@ pub record OriginGoes (p : Proxy) (cl : Clients) (up up' : Upstreams) (log : Log
   pub clients : AreSent cl log → AreSent cl log'
   pub sent : IsSentOriginAt p log' y (upstream_of up' y)
   pub others : (z : ℕ) → nat_eq z y ≡ false → IsSentOriginAt p log z (upstream_of up z) → IsSentOriginAt p log' z (upstream_of up' z)
-
-sends_none : (p : Proxy) (log : Log) → Sends p log log
-sends_none p log = record { calls = refl; bound = refl; dialled = refl; sent = λ all. all; unseen = λ k is. is }
 
 module _ {W : Type 0} (stages : W → ℕ → Stage) (tells : W → Option Log) (wire wire' : W) (p : Proxy) (cl : Clients) (up up' : Upstreams) (log : Log) (y : ℕ) (on : Bool)
     (h : HasConnections p cl up log) (f : Follows (tells wire) (stages wire) log) where

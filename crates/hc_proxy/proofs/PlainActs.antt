@@ -9,7 +9,7 @@ use Rattle.hc_effects.proofs.Vocabulary.{Opening, opening_in, closes_in, is_deni
 use Rattle.hc_event.specs.declared.act.Act.TheVariants as act
 use Rattle.hc_target.specs.Targets.{is_target}
 use Rattle.hc_effects.proofs.Owed.{acts_are, is_denial, IsDenied, denied, denied_opens}
-use Rattle.hc_proxy.specs.Invariants.{ArePlain, OpensUp}
+use Rattle.hc_proxy.specs.Invariants.{ArePlain}
 use Rattle.hc_proxy.specs.Rows.{Proxy}
 use Rattle.hc_proxy.proofs.ClosedActs.{closes_both}
 use Rattle.hc_proxy.proofs.OpenAfter.{Stops, stays_open}
@@ -95,20 +95,6 @@ quiet_plain (act.Failed c cause ∷ acts) t h = false_true h
 quiet_plain (act.Pending c wait ∷ acts) t h = false_true h
 quiet_plain (act.Lost r kind ∷ acts) t h = quiet_plain acts t h
 quiet_plain (act.Evicted r ∷ acts) t h = quiet_plain acts t h
-
-pub quiet_up : (acts : List Act) (n m : ℕ) → AreQuiet acts → OpensUp n acts m → n ≡ m
-quiet_up [] n m h up = up
-quiet_up (act.Denied refusal ∷ acts) n m h up = quiet_up acts n m h up
-quiet_up (act.Opened x c need request ∷ acts) n m h up = false_true h
-quiet_up (act.Ask x ∷ acts) n m h up = false_true h
-quiet_up (act.Close x ∷ acts) n m h up = quiet_up acts n m h up
-quiet_up (act.Shown c r why status fields lo hi ∷ acts) n m h up = false_true h
-quiet_up (act.Given c x at bytes ∷ acts) n m h up = false_true h
-quiet_up (act.Ended c ∷ acts) n m h up = false_true h
-quiet_up (act.Failed c cause ∷ acts) n m h up = false_true h
-quiet_up (act.Pending c wait ∷ acts) n m h up = false_true h
-quiet_up (act.Lost r kind ∷ acts) n m h up = quiet_up acts n m h up
-quiet_up (act.Evicted r ∷ acts) n m h up = quiet_up acts n m h up
 
 -- AN ENTRY
 

@@ -14,7 +14,7 @@ abbrev pub AreTo : ℕ → List Act → Type 0
 AreTo c [] = Unit {0}
 AreTo c (a ∷ acts) = ((d : ℕ) → told_to a ≡ Some d → d ≡ c) × AreTo c acts
 
-one_first : (c : ℕ) (a : Act) (acts : List Act) → IsOneTo c (a ∷ acts) → (told_to a ≡ Some c) × (acts ≡ [])
+pub one_first : (c : ℕ) (a : Act) (acts : List Act) → IsOneTo c (a ∷ acts) → (told_to a ≡ Some c) × (acts ≡ [])
 one_first c a _ (tells.one _ told) = (told, refl)
 
 some_is : (c d : ℕ) (o : Option ℕ) → o ≡ Some c → o ≡ Some d → d ≡ c

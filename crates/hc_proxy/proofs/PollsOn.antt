@@ -37,7 +37,7 @@ use Rattle.hc_proxy.proofs.KeepsOn.{keeps_on, heard_on}
 use Rattle.hc_laws.proofs.LiveAfter.{Starts}
 use Rattle.hc_proxy.proofs.Marked.{sorted_ascends, among_passes, passed_among, lives_among}
 use Rattle.hc_proxy.proofs.OpenAfter.{Stops}
-use Rattle.hc_proxy.proofs.PlainActs.{plain_behind, quiet_plain, quiet_up}
+use Rattle.hc_proxy.proofs.PlainActs.{plain_behind, quiet_plain}
 use Rattle.hc_proxy.proofs.Polled.{IsPollOf, PollsBy, polls_add}
 use Rattle.hc_proxy.proofs.Polled as by
 use Rattle.hc_proxy.proofs.QuietActs.{quiet_ends_none}
@@ -47,6 +47,7 @@ use Rattle.hc_proxy.proofs.SkippedSteps.{among, Ascends, same_each}
 use Rattle.hc_proxy.proofs.StartsOn.{just_here, here_order}
 use Rattle.hc_proxy.proofs.StaysOver.{HasOver, are_over, over_keeps}
 use Rattle.hc_proxy.proofs.StepOn.{stands_of, law_of}
+use Rattle.hc_proxy.proofs.HandedOn.{quiet_up}
 
 -- POLLS, one more
 

@@ -25,10 +25,7 @@ use Rattle.hc_proxy.specs.Underway.{OnWire}
 use Rattle.hc_proxy.specs.Unsent.{taken_in, IsKnownAt, HasConnections, IsSentAt, IsSentOriginAt, SendsToClients, SendsToOrigins, OthersStay}
 use Rattle.hc_proxy.proofs.Alike.{cache_moves}
 use Rattle.hc_proxy.proofs.OfferedAll.{sends_both}
-use Rattle.hc_proxy.proofs.OfferedClients.{upstream_same}
-
-none_some : {A : Type 0} {X : Type 0} (v : A) → None ≡ Some v → X
-none_some v is = absurd (let never : None ≡ Some v = is in cc)
+use Rattle.hc_proxy.proofs.OfferedClients.{upstream_same, none_some}
 
 none_in : (k : ℕ) (ks : List ℕ) → ks ≡ [] → Contains ks k → ⊥
 none_in k ks empty among = by_place (subst (λ (ns : List ℕ). Contains ns k) empty among)

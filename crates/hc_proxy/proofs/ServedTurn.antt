@@ -46,6 +46,7 @@ use Rattle.hc_proxy.proofs.SkippedSteps.{among}
 use Rattle.hc_proxy.proofs.Stands.{Stands, law_of, owed_here, goes_on}
 use Rattle.hc_proxy.proofs.StepOn.{start_by}
 use Rattle.hc_proxy.proofs.Turning.{with_new}
+use Rattle.hc_proxy.proofs.ClientEvents.{no_poll}
 
 -- WHAT IS KEPT
 
@@ -152,17 +153,6 @@ module _ (limits : Limits) (ev : Event) (p : Proxy) (w : WellHeld limits p) wher
 
   quiet_now : is_poll ev ≡ false → AreQuiet (acts_in p.part ++ e.acts)
   quiet_now off = quiet_both (acts_in p.part) e.acts w.quiet (is_quiet_entry limits p.tables e e_owed (ap is_poll event_is ∙ off))
-
--- of an exchange
-no_poll : (ev : Event) → is_of_exchange ev ≡ true → is_poll ev ≡ false
-no_poll (event.Start c request) is = absurd (let never : false ≡ true = is in cc)
-no_poll (event.Poll c want) is = absurd (let never : false ≡ true = is in cc)
-no_poll (event.Head x response) is = refl
-no_poll (event.Piece x bytes) is = refl
-no_poll (event.End x) is = refl
-no_poll (event.Fault x) is = refl
-no_poll (event.Cancel c) is = absurd (let never : false ≡ true = is in cc)
-no_poll (event.Doom key) is = absurd (let never : false ≡ true = is in cc)
 
 no_start : (ev : Event) (c : ℕ) → is_of_exchange ev ≡ true → Starts c ev → ⊥
 no_start (event.Start d request) c is starts = let never : false ≡ true = is in cc

@@ -23,7 +23,8 @@ use Rattle.hc_proxy.specs.Logging.{short_from, is_short}
 use Rattle.hc_proxy.specs.Rows.{Client, Upstream, Proxy}
 use Rattle.hc_proxy.specs.TurnSteps.{SentSome}
 use Rattle.hc_proxy.specs.Unsent.{Sends}
-use Rattle.hc_proxy.proofs.Followed.{KeepsNumber, found, told_on}
+use Rattle.hc_proxy.proofs.Followed.{KeepsNumber, found}
+use Rattle.hc_proxy.proofs.Closings.{told_on}
 
 -- FIRST PARTS
 

@@ -3,12 +3,12 @@
 -- The call fits what rested before it, so the log with it is one of the loop's, whose last turn is taken as whole. Where the turn is cut
 -- short, each connection has taken a first part of what it is owed behind the whole turn, and what was written is a first part of its
 -- record. Where it isn't, the tables behind it are those that the definitions owe, if the store counted no failure.
-use Rattle.std.proofs.Common.{◌≡◌, ◌≤◌, ◌<◌, ◌^◌, ℕ, ◌+◌, List, [], ◌∷◌, ◌++◌, Bool, true, false, Option, Some, None, refl, ap, sym, ◌∙◌, subst, arith, append_assoc, append-nil}
+use Rattle.std.proofs.Common.{◌≡◌, ◌≤◌, ◌<◌, ◌^◌, ℕ, ◌+◌, List, [], ◌∷◌, ◌++◌, Bool, true, false, Option, refl, ap, sym, ◌∙◌, subst, arith, append_assoc, append-nil}
 use Rattle.std.specs.Prelude.{length, map, max, reverse, find, Result, IfOk, OnErr}
 use Rattle.std.specs.List.{list_all}
 use Rattle.std.proofs.lemmas.List.{length-append}
 use Rattle.hc_core.specs.Steps.{steps, faults_in}
-use Rattle.hc_io.specs.Sink.{Takes}
+use Rattle.hc_io.proofs.Takings.{takes_none}
 use Rattle.hc_effects.proofs.Vocabulary.{Entry, History, Limits}
 use Rattle.hc_store.specs.declared.backend.Backend.{Ghosts}
 use Rattle.hc_sched.specs.Schedule.{timed_text}
@@ -30,7 +30,6 @@ use Rattle.hc_proxy.specs.Serving.{IsOfLoop, IsCutShort, IsStill, FinishesTurn, 
 use Rattle.hc_proxy.specs.Turns.{so_far, happened, turned, turned_by, behind_all, record_of, timed_of, text_behind}
 use Rattle.hc_proxy.specs.Underway.{OnWire, IsPolledOn}
 use Rattle.hc_proxy.specs.Waiting.{waits}
-use Rattle.hc_proxy.proofs.Causes.{if_map}
 use Rattle.hc_proxy.proofs.Fitting.{dialled_all, fits_now}
 use Rattle.hc_proxy.proofs.Folds.{turned_more, fit_more}
 use Rattle.hc_proxy.proofs.Later.{carried_is_same}
@@ -38,7 +37,6 @@ use Rattle.hc_proxy.proofs.LetGo.{AreGone, turns_gone, unused_gone}
 use Rattle.hc_proxy.proofs.Marked.{contained_among}
 use Rattle.hc_proxy.proofs.MoreDials.{turn_same, turns_same, fits_same, all_fit}
 use Rattle.hc_proxy.proofs.Openings.{StandsKnown, unused_known, turns_know}
-use Rattle.hc_proxy.proofs.Outcomes.{err_map}
 use Rattle.hc_proxy.proofs.Parts.{turn_part}
 use Rattle.hc_proxy.proofs.SentStill.{sent_still}
 use Rattle.hc_proxy.proofs.ServedTurn.{WellHeld, happened_served}
@@ -47,6 +45,7 @@ use Rattle.hc_proxy.proofs.Stands.{turn_goes, unused_stands}
 use Rattle.hc_proxy.proofs.StepOn.{stands_of}
 use Rattle.hc_proxy.proofs.Texts.{record_more}
 use Rattle.hc_proxy.proofs.TurnBegins as begins
+use Rattle.hc_peers.proofs.Outcomes.{err-map, if_ok-map}
 
 -- THE RECORD grows
 
@@ -58,10 +57,6 @@ grown (e ∷ es) h =
       rest.0 ++ text,
       record_more e (es ++ h) ∙ (ap (λ (z : List ℕ). z ++ text) rest.1 ∙ append_assoc (text_behind 0 (map timed_of (reverse h))) rest.0 text),
     )
-
-pub takes_nothing : (out : Option (List ℕ)) → Takes out out []
-takes_nothing None = refl
-takes_nothing (Some bytes) = ap Some (sym (append-nil bytes))
 
 -- THE LOG, with one more call and more dials
 
@@ -190,7 +185,7 @@ module _ {B : Type 0} {g : Ghosts B} (n : ℕ) (f : Frame) (x : loop.Proxy B g) 
                 subst (λ (r : Proxy). length log.dialled ≤ r.tables.opened) (sym is) (omega arith);
           };
           text = more.0;
-          takes = record { front = []; rest = more.0; whole = refl; takes = takes_nothing out };
+          takes = record { front = []; rest = more.0; whole = refl; takes = takes_none out };
           record_is =
               ap record_of is
               ∙ (ap (λ (h : History). text_behind 0 (map timed_of (reverse h))) part.first
@@ -206,7 +201,7 @@ module _ {B : Type 0} {g : Ghosts B} (n : ℕ) (f : Frame) (x : loop.Proxy B g) 
         dialled = let same = s.rests.opened in subst (λ (r : Proxy). length log.dialled ≤ r.tables.opened) l.tables (omega arith);
       };
       text = [];
-      takes = record { front = []; rest = []; whole = refl; takes = takes_nothing out };
+      takes = record { front = []; rest = []; whole = refl; takes = takes_none out };
       record_is = ap record_of (sym l.tables) ∙ (s.rests.cache.text ∙ ap (λ (z : List ℕ). f.written ++ z) s.written);
     }
 
@@ -301,10 +296,10 @@ module _ {B : Type 0} {g : Ghosts B} (n : ℕ) (f : Frame) (x : loop.Proxy B g) 
           → ((t : Turn) (q : Proxy) (l : Log) → KeepsPolled t y q → OnWire t l told' stages' → IfOk result (FinishesTurn t q l y x1 told1 stages1 out out'))
           → IfOk result (TurnsTo events f p log x x1 told1 stages1 out out')
       turned_ok events one few finishes =
-          if_map result _ _
+          if_ok-map result _ _
           (λ again e. subst (λ (k : ℕ). TurnsTo k f p log x x1 told1 stages1 out out' again) (sym one) (turns_on y went x1 told1 stages1 out out' again same few e))
           (finishes turn went.q log' went.keeps on_wire)
 
       pub turned_err : ((t : Turn) (q : Proxy) (l : Log) → KeepsPolled t y q → OnWire t l told' stages' → OnErr result (CutsTurn q l y told1 out out'))
           → OnErr result (TurnStops f p log x x1 told1 out out')
-      turned_err cuts = err_map result _ _ (λ cut. stops_late y went x1 told1 out out' same cut) (cuts turn went.q log' went.keeps on_wire)
+      turned_err cuts = err-map result _ _ (λ cut. stops_late y went x1 told1 out out' same cut) (cuts turn went.q log' went.keeps on_wire)

@@ -10,7 +10,7 @@ use Rattle.std.specs.List.{list_any}
 use Rattle.std.proofs.lemmas.Bool.Decides.{nat_tests}
 use Rattle.hc_text.proofs.Basics.{true_false}
 use Rattle.hc_event.specs.declared.event.Event.TheVariants as event
-use Rattle.hc_effects.proofs.Vocabulary.{is_open, is_wanted, Exchange, Limits}
+use Rattle.hc_effects.proofs.Vocabulary.{is_open, is_wanted, Limits}
 use Rattle.hc_msg.specs.Inputs.{Next, Waits, Tells, Brings, Ends, Fails, look_of}
 use Rattle.hc_msg.specs.Reading.{Reading, Asks, Answers, Byte}
 use Rattle.hc_proxy.specs.Headed.{AreHeaded, IsReadAs}
@@ -24,6 +24,7 @@ use Rattle.hc_proxy.proofs.AnswerNext.{IsAnswerNext, answer_next}
 use Rattle.hc_proxy.proofs.IdleExchanges.{Idle, heard_one, idle_skips}
 use Rattle.hc_proxy.proofs.NetworkKeeps.{IsKeptByNetwork, closed_by, each_keeps}
 use Rattle.hc_proxy.proofs.SkippedSteps.{among, Ascends, not_below}
+use Rattle.hc_proxy.proofs.HandedOn.{wanted_open}
 
 -- something is brought
 abbrev pub brings_by : Bool → Option Upstream → Bool
@@ -32,14 +33,6 @@ brings_by wanted (Some v) = wanted && has_news v && has_next (look_of (next_of v
 
 abbrev pub brings : Proxy → ℕ → Bool
 brings p y = brings_by (is_wanted (p.tables.exchange y)) (p.upstream y)
-
-wanted_open : (o : Option Exchange) → is_wanted o ≡ true → is_open o ≡ true
-wanted_open None h = h
-wanted_open (Some w) h = by_open w.is_open _ h
-  where
-    by_open : (b c : Bool) → (b && c) ≡ true → b ≡ true
-    by_open true c g = refl
-    by_open false c g = g
 
 -- EVENTS ARE NOT UNDONE
 

@@ -15,7 +15,8 @@ use Rattle.hc_target.specs.Targets.{is_target, is_short_word}
 use Rattle.hc_sched.specs.FirstLines.{First, Sets, Starts, Heads, Brings, Dooms, Tells, is_method, is_word, load_of, how_of, start_of, poll_of, head_of, piece_of, doom_of, first_of}
 use Rattle.hc_sched.specs.Schedule.{Item, Moment, Happens, load_word, item_line, IsItem}
 use Rattle.hc_text.proofs.Cutting.{cut-first, lacks-append}
-use Rattle.hc_sched.proofs.Plain.{plain_of-decimal, lacks-decimal, plain-short}
+use Rattle.hc_text.proofs.Cuts.{lacks-decimal}
+use Rattle.hc_sched.proofs.Plain.{plain_of-decimal, plain-short}
 use Rattle.hc_sched.proofs.Hex.{IsPiece, is_piece_text-of, lacks-piece_text, length-piece_text}
 use Rattle.hc_sched.proofs.FieldReads.{lacks-failing}
 

@@ -6,11 +6,9 @@ use Rattle.std.specs.Str.Parse.{digits_value, AllDigits}
 use Rattle.std.proofs.lemmas.Bool.{cases_Bool, and_parts, ltb-true, ne_eqb}
 use Rattle.std.proofs.lemmas.Fmt.{decimal_is_IsNumeral, length-decimal-le}
 use Rattle.std.proofs.lemmas.Slice.Eq.{bytes_eq-Decides}
-use Rattle.hc_text.proofs.Basics.{list_all-digits}
 use Rattle.hc_text.specs.Numbers.{IsPlain}
 use Rattle.hc_sched.specs.Words.{plain_of}
 use Rattle.hc_text.proofs.Cutting.{none_or_some}
-use Rattle.hc_text.specs.Texts.{lacks}
 
 abbrev is_plain : List ℕ → Bool
 is_plain text = nat_lt (digits_value 10 text) (2 ^ 62) && bytes_eq text (decimal (digits_value 10 text))
@@ -52,11 +50,6 @@ AllDigits-decimal n h = (decimal_is_IsNumeral n (omega (arith, h))).0.1
 
 not_same : (c b : ℕ) → b < c → not (c == b) ≡ true
 not_same c b h = rw (ne_eqb c b (λ e. omega (arith, e, h))) refl
-
--- a number has no space and no line feed
-pub lacks-decimal : (b n : ℕ) → b < 48 → n < 2 ^ 62 → lacks b (decimal n) ≡ true
-lacks-decimal b n low h =
-    list_all-digits (λ x. not (x == b)) (λ c range. not_same c b (omega (arith, range))) (decimal n) (AllDigits-decimal n h)
 
 -- such a number has at most 19 digits
 pub plain-short : (text : List ℕ) (n : ℕ) → IsPlain text n → length text ≤ 19

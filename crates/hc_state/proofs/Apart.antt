@@ -11,6 +11,7 @@ use Rattle.hc_entry.specs.Kept.{on_line}
 use Rattle.hc_entry.specs.Lines.{is_among, is_in, left_by}
 use Rattle.hc_stored.specs.Shelf.{Shelf}
 use Rattle.hc_effects.proofs.Vocabulary.{with_consumer, Lawful, is_in_line, is_bound, Tables}
+use Rattle.hc_effects.proofs.Tests.{and_false}
 use Rattle.hc_model.specs.Rows as rows
 use Rattle.hc_model.specs.Sound as sound
 use Rattle.hc_state.specs.Leaving.{LeavesKey, IsUserAt, UnbindsAt}
@@ -20,7 +21,6 @@ use Rattle.hc_state.specs.Stored.{KeepsEntries}
 use Rattle.hc_state.proofs.ConsumerSteps.{SaysOfIt, key_with, key_stays, keys_with}
 use Rattle.hc_state.proofs.KeySteps.{leaves_key}
 use Rattle.hc_state.proofs.Unbinding.{entries_unbound, user_kept}
-use Rattle.hc_state.proofs.Words.{and_false}
 
 -- TESTS
 

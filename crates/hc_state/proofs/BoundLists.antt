@@ -1,11 +1,12 @@
 -- Somebody is bound to a representation in the tables where and only where somebody is kept as bound to it.
-use Rattle.std.proofs.Common.{◌≡◌, ◌≢◌, inl, inr, ℕ, List, [], ◌∷◌, length, Bool, true, false, Option, Some, None, refl, ap, sym, ◌∙◌, arith}
+use Rattle.std.proofs.Common.{◌≡◌, ◌≢◌, ℕ, List, [], ◌∷◌, length, Bool, true, false, Option, Some, None, refl, sym, ◌∙◌, arith}
 use Rattle.std.proofs.lemmas.Bool.Decides.{nat_tests}
 use Rattle.std.specs.Prelude.{is_some, filter, ◌==◌}
 use Rattle.hc_text.proofs.Basics.{eqb-same, false_true}
 use Rattle.hc_stored.specs.Kept.{Kept, itself, is_nobody}
 use Rattle.hc_sorted.specs.Sorted.{has}
 use Rattle.hc_effects.proofs.Vocabulary.{bound, is_bound, Tables, Representation, Among}
+use Rattle.hc_effects.proofs.ExclusiveWriters.{filter_some}
 use Rattle.hc_model.specs.Rows as rows
 use Rattle.hc_state.specs.Stored.{IsEntry}
 
@@ -15,15 +16,6 @@ nobody_passes f none (c ∷ cs) = rw (none c) (nobody_passes f none cs)
 
 none_left : (d : ℕ) (ds : List ℕ) → (d ∷ ds) ≡ [] → ⊥
 none_left d ds never = cc
-
-somebody_passes : (f : ℕ → Bool) (c : ℕ) (cs : List ℕ) → Among c cs → f c ≡ true → filter f cs ≢ []
-somebody_passes f c [] among passes = λ is. absurd among
-somebody_passes f c (d ∷ cs) (inl here) passes = λ is. let on : f d ≡ true = ap f here ∙ passes in none_left d (filter f cs) (rw on at is)
-somebody_passes f c (d ∷ cs) (inr later) passes = by_test (f d) refl (somebody_passes f c cs later passes)
-  where
-    by_test : (b : Bool) → f d ≡ b → filter f cs ≢ [] → filter f (d ∷ cs) ≢ []
-    by_test true on rest = λ is. none_left d (filter f cs) (rw on at is)
-    by_test false off rest = λ is. rest (rw off at is)
 
 no_user : (cs : List ℕ) → is_nobody cs ≡ true → (c : ℕ) → has itself c cs ≡ false
 no_user [] none c = refl
@@ -48,7 +40,7 @@ module _ (t : Tables) (started : (c : ℕ) → is_some (t.consumer c) ≡ true �
   bound_some some =
       let (c, user) = first_user k.bound some in
       let reads : is_bound n (t.consumer c) ≡ true = sym (entry.bound c) ∙ user in
-      somebody_passes (λ d. is_bound n (t.consumer d)) c t.starts (started c (bound_row n (t.consumer c) reads)) reads
+      filter_some (λ d. is_bound n (t.consumer d)) c t.starts (started c (bound_row n (t.consumer c) reads)) reads
 
   no_length : (cs : List ℕ) → cs ≢ [] → (length cs == 0) ≡ false
   no_length [] some = absurd (some refl)

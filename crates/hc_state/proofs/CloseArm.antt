@@ -15,6 +15,7 @@ use Rattle.hc_event.specs.declared.place.BoundBy.TheVariants as by
 use Rattle.hc_model.specs.Effects.{waits_for}
 use Rattle.hc_model.specs.Rows as rows
 use Rattle.hc_effects.proofs.SameTables.{same_tables}
+use Rattle.hc_effects.proofs.Tests.{none_some}
 use Rattle.hc_state.specs.declared.rows.Rows.{Rows}
 use Rattle.hc_state.specs.Facts.{Facts}
 use Rattle.hc_state.specs.Left as leaving
@@ -25,7 +26,6 @@ use Rattle.hc_state.proofs.Closing.{stands_unstored}
 use Rattle.hc_state.proofs.LeftAlone.{once_left}
 use Rattle.hc_state.proofs.Maps.{act_and}
 use Rattle.hc_state.proofs.Stopping.{IsApartNow, GoesWith}
-use Rattle.hc_state.proofs.Words.{none_some}
 
 -- WHAT IS LET GO
 

@@ -13,10 +13,10 @@ use Rattle.hc_stored.specs.Views.{view_of}
 use Rattle.hc_effects.proofs.HoleLemmas as holes
 use Rattle.hc_effects.proofs.KeysKeep.{current_row}
 use Rattle.hc_effects.proofs.PollKeeps.{current_stays}
+use Rattle.hc_effects.proofs.Tests.{none_some}
 use Rattle.hc_state.specs.declared.rows.Rows.{Rows}
 use Rattle.hc_state.specs.Stands.{RowsStand}
 use Rattle.hc_state.specs.Stored.{IsEntry, KeepsEntry, TellsLength, told, untold}
-use Rattle.hc_state.proofs.Words.{none_some}
 
 -- WHAT IS STORED
 

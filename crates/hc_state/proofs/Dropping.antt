@@ -5,6 +5,8 @@ use Rattle.std.specs.Prelude.{is_some, nat_eq, bytes_eq, drop, not, ◌&&◌, if
 use Rattle.std.specs.HashMap.{get, hash_map_len}
 use Rattle.hc_text.proofs.Basics.{eqb-other, eqb-same, false_true, same_or, and_off as then_false}
 use Rattle.hc_effects.proofs.Vocabulary.{Limits, Cause, Request, Response, is_disabled, is_only, Place, is_number, is_live, live, with_consumer, as_over, family, Lawful, is_in_line, stands_in_line, has_passed, is_bound_place, Tables, Exchange, Representation, Among, came_alone}
+use Rattle.hc_effects.proofs.Tests.{and_false}
+use Rattle.hc_effects.proofs.Basics.{number_is as number_tells}
 use Rattle.hc_store.specs.declared.backend.Backend.{Ghosts}
 use Rattle.hc_entry.specs.declared.keys.KeyTable.{KeyTable}
 use Rattle.hc_entry.specs.Keys.{kept_of}
@@ -29,13 +31,8 @@ use Rattle.hc_state.proofs.Maps.{merely_true}
 use Rattle.hc_state.proofs.FallbackSteps.{live_same}
 use Rattle.hc_state.proofs.QueueArm.{becomes_by}
 use Rattle.hc_state.proofs.Ties.{exchange_same, kept_row, runs_same}
-use Rattle.hc_state.proofs.Words.{and_false}
 
 -- TESTS
-
-number_tells : (o : Option ℕ) (n : ℕ) → is_number o n ≡ true → o ≡ Some n
-number_tells None n is = false_true is
-number_tells (Some m) n is = ap Some (let same : m ≡ n = grind (arith, nat_tests, is) in same)
 
 -- HOW MANY ARE LIVE
 

@@ -13,9 +13,9 @@ use Rattle.hc_effects.proofs.Exclusives.{exclusive_parts}
 use Rattle.hc_effects.proofs.KeyActs.{test_some}
 use Rattle.hc_effects.proofs.LettingGo.{may_let_go}
 use Rattle.hc_effects.proofs.Stops.{writer_about}
+use Rattle.hc_effects.proofs.Tests.{none_some}
 use Rattle.hc_state.specs.Kept.{held_alone}
 use Rattle.hc_state.specs.Stopped.{NobodyAwaits, HoldsNothing, MayStop}
-use Rattle.hc_state.proofs.Words.{none_some}
 
 pub unwritten_none : (t : Tables) (v : Representation) → v.writer ≡ None → is_written t v ≡ false
 unfolding is_written

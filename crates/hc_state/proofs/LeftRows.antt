@@ -20,6 +20,7 @@ use Rattle.hc_model.specs.Rows as rows
 use Rattle.hc_model.specs.Sound as sound
 use Rattle.hc_effects.proofs.OfConsumers.{left_open}
 use Rattle.hc_effects.proofs.ExclusiveWriters.{filter_some}
+use Rattle.hc_effects.proofs.Basics.{some_row}
 use Rattle.hc_state.specs.declared.consumer.Consumer.{Consumer}
 use Rattle.hc_state.specs.declared.rows.Rows.{Rows}
 use Rattle.hc_state.specs.Kept.{IsKept, KeepsConsumer, KeepsRunning}
@@ -28,7 +29,7 @@ use Rattle.hc_state.specs.Leaving.{if_running, writing_of, last_read, left_of}
 use Rattle.hc_state.specs.Stands.{RowsStand}
 use Rattle.hc_state.specs.Stored.{KeepsEntry, TellsWriter, as_written, forgotten, is_over}
 use Rattle.hc_state.proofs.Ties.{kept_row}
-use Rattle.hc_state.proofs.Words.{there, is_there}
+use Rattle.hc_state.proofs.Words.{there}
 
 -- LISTS
 
@@ -48,7 +49,7 @@ passing_first : (test f : ℕ → Bool) (x : ℕ) (xs : List ℕ) (b : Bool) →
 passing_first test f x xs true on here rest = rw on (and_both (test x) (list_all test (filter f xs)) (here on) rest)
 passing_first test f x xs false off here rest = rw off rest
 
-all_passing : (test f : ℕ → Bool) (cs : List ℕ) → ((d : ℕ) → f d ≡ true → test d ≡ true) → list_all test (filter f cs) ≡ true
+pub all_passing : (test f : ℕ → Bool) (cs : List ℕ) → ((d : ℕ) → f d ≡ true → test d ≡ true) → list_all test (filter f cs) ≡ true
 all_passing test f [] each = refl
 all_passing test f (x ∷ xs) each = passing_first test f x xs (f x) refl (each x) (all_passing test f xs each)
 
@@ -170,7 +171,7 @@ module _ {B : Type 0} {g : Ghosts B} {lim : Limits} (r : Rows B g) (t : Tables) 
 pub left_runs : {B : Type 0} {g : Ghosts B} {lim : Limits} (r mid : Rows B g) (t : Tables) (law : Lawful t) (c x : ℕ) (left : Option ℕ) → is_some (get nat_eq r.consumers c) ≡ true → IsSomeAnd (get nat_eq r.consumers c) (λ k. left ≡ left_of r c k) → left ≡ Some x → RowsStand lim r t
     → ((v : rows.Consumer) → t.consumer c ≡ Some v → RowsStand lim mid (with_consumer c (Some (as_over v)) t)) → is_some (table_of mid.exchanges x).running ≡ true
 left_runs r mid t law c x left lives known is stands after =
-    let found = is_there (get nat_eq r.consumers c) lives in
+    let found = some_row (get nat_eq r.consumers c) lives in
     let kept = kept_row t found.0 (t.consumer c) (subst (λ o. KeepsConsumer t o (t.consumer c)) found.1 (stands.consumers c)) in
     let leaves : left_by t c kept.0 ≡ Some x = sym (left_is r t law c kept.0 kept.1 stands left known) ∙ is in
     is_open_as mid (with_consumer c (Some (as_over kept.0)) t) (after kept.0 kept.1) x ∙ left_open t law.sound law.owned c kept.0 kept.1 x leaves
@@ -178,7 +179,7 @@ left_runs r mid t law c x left lives known is stands after =
 -- the row of who is kept
 pub live_row : {B : Type 0} {g : Ghosts B} {lim : Limits} (r : Rows B g) (t : Tables) (c : ℕ) → is_some (get nat_eq r.consumers c) ≡ true → RowsStand lim r t → (v : rows.Consumer) × (t.consumer c ≡ Some v)
 live_row r t c lives stands =
-    let found = is_there (get nat_eq r.consumers c) lives in
+    let found = some_row (get nat_eq r.consumers c) lives in
     let kept = kept_row t found.0 (t.consumer c) (subst (λ o. KeepsConsumer t o (t.consumer c)) found.1 (stands.consumers c)) in
     (kept.0, kept.1)
 

@@ -22,13 +22,13 @@ use Rattle.hc_effects.proofs.Basics.{same_functions, number_is}
 use Rattle.hc_effects.proofs.IdleNow.{filter_both}
 use Rattle.hc_effects.proofs.LettingGo.{current_may, keeps_may_all, all_more, idle_after}
 use Rattle.hc_effects.proofs.PollKeeps.{current_stays}
+use Rattle.hc_effects.proofs.Tests.{none_some}
 use Rattle.hc_state.specs.declared.rows.Rows.{Rows}
 use Rattle.hc_state.specs.Room.{LeavesActs, room_for_write, GivesWay, Appends}
 use Rattle.hc_state.specs.Stands.{RowsStand}
 use Rattle.hc_state.specs.Stored.{KeepsEntry, is_usable_row}
 use Rattle.hc_state.proofs.BoundLists.{nobody_bound}
 use Rattle.hc_state.proofs.LiveCounts.{filter-reverse}
-use Rattle.hc_state.proofs.Words.{none_some}
 
 -- LISTS OF NUMBERS
 

@@ -18,6 +18,7 @@ use Rattle.hc_exch.specs.Exchanges as exch
 use Rattle.hc_exch.specs.Known as known
 use Rattle.hc_model.specs.Rows as rows
 use Rattle.hc_effects.proofs.HoleLemmas as holes
+use Rattle.hc_effects.proofs.Tests.{none_some}
 use Rattle.hc_state.proofs.Ties.{overs_closed, writer_then}
 use Rattle.hc_state.specs.declared.rows.Rows.{Rows}
 use Rattle.hc_state.specs.Facts.{Facts}
@@ -35,7 +36,6 @@ use Rattle.hc_state.proofs.CloseArm.{quiet, unawaited_go}
 use Rattle.hc_state.proofs.Closing.{entry_closed, stands_closed, stands_unstored}
 use Rattle.hc_state.proofs.OneOfEach.{first_row}
 use Rattle.hc_state.proofs.Stopping.{Stays}
-use Rattle.hc_state.proofs.Words.{none_some}
 
 -- what is called whole is
 whole_covers : (v : Representation) (n : ℕ) → kind_left v ≡ kinds.Whole → v.head.total ≡ Some n → Covers v.stored 0 n

@@ -3,7 +3,7 @@ use Rattle.std.proofs.Common.{◌≡◌, ◌≢◌, inl, inr, ℕ, List, [], ◌
 use Rattle.std.specs.Prelude.{is_some, nat_eq, not, ◌&&◌, ◌||◌, ◌==◌, if◌then◌else◌}
 use Rattle.hc_text.proofs.Basics.{eq_tells, eqb-other, eqb-same, same_or}
 use Rattle.hc_effects.proofs.Vocabulary.{closes_in, is_unkeepable, going_with, Entry, family, ends_early, ends_founding, is_keepable, stops_early, Lawful, Tables, Exchange, Representation, Among, sealed_representation, seals_at, sealed_by, is_sealed, stops, first_found}
-use Rattle.hc_state.proofs.Words.{none_some}
+use Rattle.hc_effects.proofs.Tests.{none_some}
 
 found_only : (f : ℕ → Option ℕ) (x r : ℕ) (ys : List ℕ) → Among x ys → f x ≡ Some r → ((y : ℕ) → x ≢ y → f y ≡ None) → first_found f ys ≡ Some r
 found_only f x r [] among is off = absurd among

@@ -4,6 +4,7 @@ use Rattle.std.proofs.lemmas.Bool.Decides.{nat_tests}
 use Rattle.std.specs.Prelude.{is_some, is_none, nat_eq, not, ◌&&◌, if◌then◌else◌}
 use Rattle.hc_text.proofs.Basics.{eqb-other, eqb-same, false_true, same_some as same_row, and_off as then_false}
 use Rattle.hc_effects.proofs.Vocabulary.{Limits, Response, Route, route_of, is_unkeepable, going_with, family, is_keepable, brings_to, Tables, Exchange, Representation}
+use Rattle.hc_effects.proofs.Tests.{none_some}
 use Rattle.hc_store.specs.declared.backend.Backend.{Ghosts}
 use Rattle.hc_record.specs.Head.{Head}
 use Rattle.hc_sparse.specs.Cells.{EndsBy}
@@ -26,7 +27,6 @@ use Rattle.hc_state.specs.Stands.{RowsStand}
 use Rattle.hc_state.specs.Stopped.{with_consumers}
 use Rattle.hc_state.specs.Stops.{body_of, brought_by, may_complete, goes_with, stop_by, stop_at, stop_of, IsViewOf}
 use Rattle.hc_state.specs.Stored.{IsEntry, KeepsEntry, TellsLength, told, untold}
-use Rattle.hc_state.proofs.Words.{none_some}
 
 -- nothing is stored by it that isn't gone
 pub record IsApartNow (t : Tables) (x : ℕ) : Type 0 where

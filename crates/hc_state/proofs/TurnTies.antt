@@ -7,9 +7,9 @@ use Rattle.hc_text.proofs.Basics.{and_both as and_parts, bool_cases, eq_by, eqb-
 use Rattle.hc_entry.specs.Kept.{Kept, line_in}
 use Rattle.hc_entry.specs.Lines.{is_among, is_held_by, turn_of, turn_with}
 use Rattle.hc_effects.proofs.Vocabulary.{least, lesser, is_in_line, holds_turn, line, holder, Tables, Consumer, Among, IsListed}
+use Rattle.hc_effects.proofs.Tests.{none_some}
 use Rattle.hc_model.specs.Lines as lines
 use Rattle.hc_state.specs.Lines.{KeepsKey, has_turn}
-use Rattle.hc_state.proofs.Words.{none_some}
 
 -- THE LEAST
 

@@ -15,12 +15,12 @@ use Rattle.hc_effects.proofs.Vocabulary.{Place, BoundBy, is_number, with_consume
 use Rattle.hc_event.specs.declared.place.Place.TheVariants as place
 use Rattle.hc_model.specs.Rows as rows
 use Rattle.hc_effects.proofs.ExclusiveWriters.{filter_some}
+use Rattle.hc_effects.proofs.Tests.{and_false}
 use Rattle.hc_state.specs.Leaving.{IsUserAt, UnbindsAt}
 use Rattle.hc_state.specs.Stored.{IsEntry, TellsLength, told, untold, KeepsEntry, KeepsEntries, is_first}
 use Rattle.hc_state.proofs.LiveCounts as counts
 use Rattle.hc_state.proofs.OneOfEach.{bound_same}
 use Rattle.hc_state.proofs.Ties.{entry_same}
-use Rattle.hc_state.proofs.Words.{and_false}
 
 -- it isn't among them any more
 pub without_is : (c : ℕ) (cs : List ℕ) (d : ℕ) → is_among d (without itself c cs) ≡ cond (eqb c d) false (is_among d cs)

@@ -14,6 +14,7 @@ use Rattle.hc_stored.specs.Kept.{Kept, itself}
 use Rattle.hc_stored.specs.Rows.{Row, Rows, with_row, Changes, kept_by, kept_of, slot_at, is_current}
 use Rattle.hc_stored.specs.Shelf.{cells_in}
 use Rattle.hc_stored.specs.Shelved.{IsShelved, Owner, AreShelved}
+use Rattle.hc_stored.proofs.WeightLemmas.{slot-there}
 
 -- OF ONE ROW
 
@@ -109,15 +110,11 @@ module _ {rows : Rows} {order : List ℕ} {slots : Slots} (good : AreShelved row
 
 -- A ROW AND ITS SLOT CHANGE
 
-row-at : (o : Option Row) (n : ℕ) → slot_at o ≡ Some n → (row : Row) × (o ≡ Some row) × (row.slot ≡ n)
-row-at None n is = cc
-row-at (Some row) n is = (row, refl, let e = is in cc)
-
 module _ {rows : Rows} {order : List ℕ} {slots : Slots} (good : AreShelved rows order slots) (r n : ℕ) (slot : slot_at (rows r) ≡ Some n)
     {new_rows : Rows} {new_slots : Slots} (f : Row → Row) (h : Held → Held) (keeps : (a : Row) → (f a).slot ≡ a.slot)
     (changes : Changes f r rows new_rows) (puts : (m : ℕ) → new_slots m ≡ slots_after h n slots m) where
   abbrev found-row : (row : Row) × (rows r ≡ Some row) × (row.slot ≡ n)
-  found-row = row-at (rows r) n slot
+  found-row = slot-there (rows r) n slot
 
   abbrev row-before : Row
   row-before = found-row.0
@@ -158,7 +155,7 @@ kept-slots slots n m = elim (cases_Bool (eqb n m)) [
 module _ {rows : Rows} {order : List ℕ} {slots : Slots} (good : AreShelved rows order slots) (r n : ℕ) (slot : slot_at (rows r) ≡ Some n)
     {new_rows : Rows} {new_slots : Slots} (drops : (q : ℕ) → new_rows q ≡ with_row r None rows q) (frees : (m : ℕ) → new_slots m ≡ with_slot n None slots m) where
   abbrev gone-row : (row : Row) × (rows r ≡ Some row) × (row.slot ≡ n)
-  gone-row = row-at (rows r) n slot
+  gone-row = slot-there (rows r) n slot
 
   left-row : (q : ℕ) (b : Row) → new_rows q ≡ Some b → (eqb r q ≡ false) × (rows q ≡ Some b)
   left-row q b is = elim (cases_Bool (eqb r q)) [
@@ -335,11 +332,11 @@ same-slots {rows} {order} {new_order} {slots} {new_slots} good moved same =
 -- the slot of a row is live
 pub live-slot : {rows : Rows} {order : List ℕ} {slots : Slots} → AreShelved rows order slots → (r n : ℕ) → slot_at (rows r) ≡ Some n → is_live slots n ≡ true
 live-slot {rows} {order} {slots} good r n slot =
-    let row = row-at (rows r) n slot in
+    let row = slot-there (rows r) n slot in
     ap (is_live slots) (sym row.2) ∙ (good.each r row.0 row.1).live
 
 -- its number is one of 64 bits
 pub slot-number : {rows : Rows} {order : List ℕ} {slots : Slots} → AreShelved rows order slots → (r n : ℕ) → slot_at (rows r) ≡ Some n → n < 2 ^ 64
 slot-number {rows} {order} {slots} good r n slot =
-    let row = row-at (rows r) n slot in
+    let row = slot-there (rows r) n slot in
     let small = (good.each r row.0 row.1).number in let same = row.2 in omega arith

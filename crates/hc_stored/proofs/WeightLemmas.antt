@@ -158,7 +158,7 @@ sums-kept slots rows (r ∷ rs) =
     let b = sum_by-cons (λ q. weigh_kept (kept_by slots (rows q))) r rs in
     omega arith
 
-slot-there : (o : Option Row) (n : ℕ) → slot_at o ≡ Some n → (row : Row) × (o ≡ Some row) × (row.slot ≡ n)
+pub slot-there : (o : Option Row) (n : ℕ) → slot_at o ≡ Some n → (row : Row) × (o ≡ Some row) × (row.slot ≡ n)
 slot-there None n is = cc
 slot-there (Some row) n is = (row, refl, let e = is in cc)
 

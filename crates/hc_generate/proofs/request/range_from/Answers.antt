@@ -1,7 +1,8 @@
 use Rattle.std.proofs.Common.{◌≡◌, ◌∙◌, [], ap, inl, inr}
 use Rattle.hc_fields.specs.FieldList.{is_own_value}
-use Rattle.hc_generate.proofs.RangeTexts.{IsToken-range, own-range, range-never_refused}
+use Rattle.hc_generate.proofs.RangeTexts.{own-range, range-never_refused}
 use Rattle.hc_generate.proofs.request.range_from.Goals as goal
+use Rattle.hc_validate.proofs.Names.{IsToken-range}
 
 pub append_checked-requires-clause-is_name : goal.append_checked-requires-clause-is_name
 append_checked-requires-clause-is_name c = IsToken-range

@@ -11,8 +11,8 @@ use Rattle.hc_on_body.proofs.GrowArm.{own_answered, shared_answered}
 use Rattle.hc_on_leave.proofs.LoseTurn.{writes_it, unwritten}
 use Rattle.hc_on_leave.proofs.PieceArm.{ends_below}
 use Rattle.hc_on_leave.proofs.StoreArm.{stores_of}
-use Rattle.hc_state.proofs.Words.{on_ok_by}
 use Rattle.hc_on_body.proofs.piece.grow.Goals as goal
+use Rattle.hc_state.proofs.Words.{ok_then}
 
 told : (o p : Option LostKind) → o ≡ p → (let one : Result (Option LostKind) NoMemory = Ok o in one) ≡ Ok p
 told o p is = ap (λ (z : Option LostKind). (let one : Result (Option LostKind) NoMemory = Ok z in one)) is
@@ -43,7 +43,7 @@ from_same : {a b : ℕ} → b ≡ a → a ≤ b
 from_same is = omega (arith, is)
 
 pub returns-in-Some-clause-answers : goal.returns-in-Some-clause-answers
-returns-in-Some-clause-answers g c = on_ok_by c.lose_shared_piece.result c.lose_shared_piece.ensures.lost (λ lost lim t facts stands goes.
+returns-in-Some-clause-answers g c = ok_then c.lose_shared_piece.result c.lose_shared_piece.ensures.lost (λ lost lim t facts stands goes.
     let r = c.args.rows.now in
     let put = c.store_piece.new.rows in
     let refused = c.in_ok-store_piece.ensures.refused c.in-Some.kind (told c.in_ok-store_piece.field-0 (Some c.in-Some.kind) c.in-Some.is) in
@@ -55,7 +55,7 @@ returns-in-Some-clause-answers g c = on_ok_by c.lose_shared_piece.result c.lose_
     c.lose_shared_piece.new.rows (act_list c.lose_shared_piece.new.out) (λ may stood. lost _ (let_all_go c.args.now (evicted lim t c.args.now (event.Piece c.args.x c.args.bytes.now)) t) it.w it.v may stood) (from_same c.lose_shared_piece.ensures.faults))
 
 pub returns-in-Some-2-clause-answers : goal.returns-in-Some-2-clause-answers
-returns-in-Some-2-clause-answers g c = on_ok_by c.lose_own_piece.result c.lose_own_piece.ensures.lost (λ lost lim t facts stands goes.
+returns-in-Some-2-clause-answers g c = ok_then c.lose_own_piece.result c.lose_own_piece.ensures.lost (λ lost lim t facts stands goes.
     let r = c.args.rows.now in
     let put = c.store_piece.new.rows in
     let refused = c.in_ok-store_piece.ensures.refused c.in-Some.kind (told c.in_ok-store_piece.field-0 (Some c.in-Some.kind) c.in-Some.is) in

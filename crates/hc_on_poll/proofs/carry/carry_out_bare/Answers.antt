@@ -3,8 +3,8 @@ use Rattle.hc_text.proofs.Basics.{false_true}
 use Rattle.hc_effects.proofs.Vocabulary.{act_list}
 use Rattle.hc_rules.specs.declared.plan.Plan.TheVariants as plan
 use Rattle.hc_on_poll.proofs.PlanArms.{past_route, fetch_route, queued_there, passed_there, next_there, plan_same, direct_answers, turn_answers, fetch_answers, miss_answers, bare_validates, is_bare, bare_uses}
-use Rattle.hc_state.proofs.Words.{on_ok_by}
 use Rattle.hc_on_poll.proofs.carry.carry_out_bare.Goals as goal
+use Rattle.hc_state.proofs.Words.{ok_then}
 
 pub open_past-requires-clause-queued : goal.open_past-requires-clause-queued
 open_past-requires-clause-queued g c = queued_there c.args.rows.now c.requires.stands c.args.now c.args.c c.requires.idle
@@ -19,7 +19,7 @@ pub returns-in-Direct-clause-answers : goal.returns-in-Direct-clause-answers
 returns-in-Direct-clause-answers g c =
     let r = c.args.rows.now in
     let is = plan_same r c.args.now c.args.c _ (plan.Direct c.in-Direct.need) c.requires.plan (sym c.plan_of.ensures ∙ c.in-Direct.is) in
-    on_ok_by c.open_past.result c.open_past.ensures.answers (direct_answers r c.requires.stands c.args.now c.args.c c.requires.idle c.open_past.new.rows (act_list c.args.out.now) (act_list c.open_past.new.out) c.in-Direct.need is)
+    ok_then c.open_past.result c.open_past.ensures.answers (direct_answers r c.requires.stands c.args.now c.args.c c.requires.idle c.open_past.new.rows (act_list c.args.out.now) (act_list c.open_past.new.out) c.in-Direct.need is)
 
 pub returns-in-Turn-clause-answers : goal.returns-in-Turn-clause-answers
 returns-in-Turn-clause-answers g c =
@@ -50,7 +50,7 @@ returns-in-Fetch-clause-answers g c =
     let r = c.args.rows.now in
     let at = sym c.plan_of.ensures ∙ c.in-Fetch.is in
     let is = plan_same r c.args.now c.args.c _ (plan.Fetch c.in-Fetch.need) c.requires.plan at in
-    on_ok_by c.fetch_bare.result c.fetch_bare.ensures.answers
+    ok_then c.fetch_bare.result c.fetch_bare.ensures.answers
     (fetch_answers r c.requires.stands c.args.now c.args.c c.requires.idle c.fetch_bare.new.rows (act_list c.args.out.now) (act_list c.fetch_bare.new.out) c.in-Fetch.need (bare_validates c.args.view.now c.in-Fetch.need c.requires.bare at) is)
 
 pub unreachable-requires : goal.unreachable-requires

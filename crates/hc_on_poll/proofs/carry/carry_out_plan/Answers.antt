@@ -2,8 +2,8 @@ use Rattle.hc_effects.proofs.Vocabulary.{act_list}
 use Rattle.hc_rules.specs.declared.plan.Plan.TheVariants as plan
 use Rattle.hc_on_poll.proofs.PlanArms.{planned_past, planned_route, queued_there, passed_there, next_there, waiting_there, current_admits, plan_same, direct_answers, turn_answers, ask_answers, busy_answers, bind_answers, miss_answers}
 use Rattle.hc_on_poll.proofs.PartPlans.{filling_waits, filling_hole, filling_alone, filling_answers, part_there}
-use Rattle.hc_state.proofs.Words.{on_ok_by}
 use Rattle.hc_on_poll.proofs.carry.carry_out_plan.Goals as goal
+use Rattle.hc_state.proofs.Words.{ok_then}
 
 pub open_past-requires-clause-queued : goal.open_past-requires-clause-queued
 open_past-requires-clause-queued g c = queued_there c.args.rows.now c.requires.stands c.args.now c.args.c c.requires.idle
@@ -66,7 +66,7 @@ pub returns-in-Direct-clause-answers : goal.returns-in-Direct-clause-answers
 returns-in-Direct-clause-answers g c =
     let r = c.args.rows.now in
     let is = plan_same r c.args.now c.args.c _ (plan.Direct c.in-Direct.need) c.requires.plan c.in-Direct.is in
-    on_ok_by c.open_past.result c.open_past.ensures.answers (direct_answers r c.requires.stands c.args.now c.args.c c.requires.idle c.open_past.new.rows (act_list c.args.out.now) (act_list c.open_past.new.out) c.in-Direct.need is)
+    ok_then c.open_past.result c.open_past.ensures.answers (direct_answers r c.requires.stands c.args.now c.args.c c.requires.idle c.open_past.new.rows (act_list c.args.out.now) (act_list c.open_past.new.out) c.in-Direct.need is)
 
 pub returns-in-Turn-clause-answers : goal.returns-in-Turn-clause-answers
 returns-in-Turn-clause-answers g c =
@@ -78,7 +78,7 @@ pub returns-in-Fetch-clause-answers : goal.returns-in-Fetch-clause-answers
 returns-in-Fetch-clause-answers g c =
     let r = c.args.rows.now in
     let is = plan_same r c.args.now c.args.c _ (plan.Fetch c.in-Fetch.need) c.requires.plan c.in-Fetch.is in
-    on_ok_by c.fetch_with.result c.fetch_with.ensures.answers
+    ok_then c.fetch_with.result c.fetch_with.ensures.answers
     (ask_answers r c.requires.stands c.args.now c.args.c c.requires.idle c.fetch_with.new.rows (act_list c.args.out.now) (act_list c.fetch_with.new.out) c.in-Fetch.need c.args.r c.args.head.now c.requires.current c.requires.head is)
 
 pub returns-in-Busy-clause-answers : goal.returns-in-Busy-clause-answers
@@ -97,12 +97,12 @@ pub returns-in-Bind-clause-answers : goal.returns-in-Bind-clause-answers
 returns-in-Bind-clause-answers g c =
     let r = c.args.rows.now in
     let is = plan_same r c.args.now c.args.c _ (plan.Bind c.in-Bind.why c.in-Bind.span) c.requires.plan c.in-Bind.is in
-    on_ok_by c.bind.result c.bind.ensures.answers
+    ok_then c.bind.result c.bind.ensures.answers
     (bind_answers r c.requires.stands c.args.now c.args.c c.requires.idle c.bind.new.rows (act_list c.args.out.now) (act_list c.bind.new.out) c.in-Bind.why c.in-Bind.span c.args.r c.args.head.now c.requires.current c.requires.head is)
 
 pub returns-in-FirstHole-clause-answers : goal.returns-in-FirstHole-clause-answers
 returns-in-FirstHole-clause-answers g c =
     let r = c.args.rows.now in
     let is = plan_same r c.args.now c.args.c _ (plan.FirstHole c.in-FirstHole.span c.in-FirstHole.hole) c.requires.plan c.in-FirstHole.is in
-    on_ok_by c.open_first_hole.result c.open_first_hole.ensures.answers
+    ok_then c.open_first_hole.result c.open_first_hole.ensures.answers
     (filling_answers r c.requires.stands c.args.now c.args.c c.requires.idle c.args.r c.args.head.now c.requires.current c.requires.head c.in-FirstHole.span c.in-FirstHole.hole is c.open_first_hole.new.rows (act_list c.args.out.now) (act_list c.open_first_hole.new.out))

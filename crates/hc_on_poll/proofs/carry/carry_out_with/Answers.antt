@@ -1,7 +1,7 @@
 use Rattle.std.proofs.Math.Logic.{∥∥₁_map}
 use Rattle.hc_effects.proofs.Vocabulary.{act_list}
 use Rattle.hc_on_poll.proofs.PlanArms.{current_kept, fault_only, read_until, read_some, read_answers, read_fault}
-use Rattle.hc_state.proofs.Words.{on_ok_by, on_ok_two}
+use Rattle.hc_state.proofs.Words.{on_ok_two, ok_then}
 use Rattle.hc_on_poll.proofs.carry.carry_out_with.Goals as goal
 
 pub head-requires : goal.head-requires
@@ -15,7 +15,7 @@ misread_by-requires-clause-stands g c = read_some c.args.rows.now c.head.new.sel
 
 pub returns-in-Ok-clause-answers : goal.returns-in-Ok-clause-answers
 returns-in-Ok-clause-answers g c =
-    on_ok_by c.carry_out_on.result c.carry_out_on.ensures.answers
+    ok_then c.carry_out_on.result c.carry_out_on.ensures.answers
     (read_answers c.args.rows.now c.head.new.self c.head.ensures.same c.head.ensures.cause.later c.carry_out_on.new.rows (act_list c.args.out.now) (act_list c.carry_out_on.new.out) c.args.now c.args.c)
 
 pub returns-in-Err-clause-answers : goal.returns-in-Err-clause-answers

@@ -12,7 +12,7 @@ use Rattle.hc_on_poll.proofs.PlanArms.{fault_only}
 use Rattle.hc_on_poll.proofs.ReadOn.{row_of, kept, offset_fits}
 use Rattle.hc_state.proofs.ReaderSteps.{some_read}
 use Rattle.hc_on_poll.proofs.WaitArms.{head_waits}
-use Rattle.hc_state.proofs.Words.{on_ok_by, on_ok_two}
+use Rattle.hc_state.proofs.Words.{on_ok_two, ok_then}
 use Rattle.hc_on_poll.proofs.read.read_bound.Goals as goal
 
 pub returns-in-Some-clause-answers : goal.returns-in-Some-clause-answers
@@ -64,7 +64,7 @@ misread_by-requires-clause-stands g c =
 
 pub returns-in-Ok-clause-answers : goal.returns-in-Ok-clause-answers
 returns-in-Ok-clause-answers g c =
-    on_ok_by c.read_on.result c.read_on.ensures.answers (answers_after c.args.rows.now c.stored_ahead.new.rows c.read_on.new.rows c.stored_ahead.ensures.same (act_list c.args.out.now) (act_list c.read_on.new.out) c.args.now c.args.c c.args.r (event.Poll c.args.c c.args.want) c.stored_ahead.ensures.cause.later)
+    ok_then c.read_on.result c.read_on.ensures.answers (answers_after c.args.rows.now c.stored_ahead.new.rows c.read_on.new.rows c.stored_ahead.ensures.same (act_list c.args.out.now) (act_list c.read_on.new.out) c.args.now c.args.c c.args.r (event.Poll c.args.c c.args.want) c.stored_ahead.ensures.cause.later)
 
 pub returns-in-Err-clause-answers : goal.returns-in-Err-clause-answers
 returns-in-Err-clause-answers g c =

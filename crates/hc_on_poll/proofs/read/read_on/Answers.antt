@@ -7,8 +7,8 @@ use Rattle.hc_exch.specs.Exchanges.{table_of}
 use Rattle.hc_state.specs.Reads.{IsShownAt, ReadViewIs}
 use Rattle.hc_on_poll.proofs.BoundReads.{ends_move, fails_move, hole_move}
 use Rattle.hc_state.proofs.Maps.{lent, known_of, some_that}
+use Rattle.hc_state.proofs.Words.{ok_then}
 use Rattle.hc_on_poll.proofs.ReadOn.{row_of, kept, offset_fits, end_fits, run_fits, run_there, own_there, held_fits, source_runs, hole_within, gives_stored, gives_held, asks_for}
-use Rattle.hc_state.proofs.Words.{on_ok_by}
 use Rattle.hc_on_poll.proofs.read.read_on.Goals as goal
 
 pub end_of-requires : goal.end_of-requires
@@ -218,7 +218,7 @@ returns-in-Hole-clause-answers g c =
     let heard = known_of (get nat_eq r.consumers c.args.c) k _ at c.requires.heard in
     let ahead = known_of (get nat_eq r.consumers c.args.c) k _ at c.requires.run in
     let view_is = subst (λ z. ReadViewIs r c.args.r c.args.c z view k) c.end_of.ensures (known_of (get nat_eq r.consumers c.args.c) k _ at c.read_view-view.ensures) in
-    on_ok_by c.open_later_hole.result c.open_later_hole.ensures.answers (λ all.
+    ok_then c.open_later_hole.result c.open_later_hole.ensures.answers (λ all.
     λ lim t facts rows accepted.
     let rd = row_of r c.args.c c.args.r k at reads t facts rows in
     let f = hole_move r t facts rows c.args.c c.args.r reads.0.2 k rd c.args.now c.args.want reads.1 heard c.requires.wants run ahead view view_is c.in-Hole.hole (sym c.read_step.ensures ∙ c.in-Hole.is) in

@@ -11,7 +11,7 @@ use Rattle.hc_on_poll.proofs.BoundMisread.{misread_answered}
 use Rattle.hc_on_poll.proofs.PlanArms.{fault_only, read_answers}
 use Rattle.hc_state.proofs.ReaderSteps.{some_read}
 use Rattle.hc_on_poll.proofs.ShowStored.{bound_row_of, bound_kept, first_waits_answered}
-use Rattle.hc_state.proofs.Words.{there, on_ok_by, on_ok_two}
+use Rattle.hc_state.proofs.Words.{there, on_ok_two, ok_then}
 use Rattle.hc_on_poll.proofs.shown.await_stored.Goals as goal
 
 pub returns-then-is_headless-clause-answers : goal.returns-then-is_headless-clause-answers
@@ -40,7 +40,7 @@ misread_by-requires-clause-live g c = let (k, at, unshown) = there (get nat_eq c
 
 pub returns-in-Ok-clause-answers : goal.returns-in-Ok-clause-answers
 returns-in-Ok-clause-answers g c =
-    on_ok_by c.show_stored.result c.show_stored.ensures.answers (λ all.
+    ok_then c.show_stored.result c.show_stored.ensures.answers (λ all.
     read_answers c.args.rows.now c.head.new.self c.head.ensures.same c.head.ensures.cause.later c.show_stored.new.rows (act_list c.args.out.now) (act_list c.show_stored.new.out) c.args.now c.args.c (λ want. all c.args.now want))
 
 pub returns-in-Err-clause-answers : goal.returns-in-Err-clause-answers

@@ -1,7 +1,7 @@
 use Rattle.hc_proxy.specs.Underway.{one}
-use Rattle.hc_proxy.proofs.Outcomes.{on_err}
 use Rattle.hc_proxy.proofs.Dialings.{text_is, becomes_new}
 use Rattle.hc_proxy.proofs.carry.open.Goals as goal
+use Rattle.hc_record.proofs.JoiningLemmas.{on_err}
 
 pub returns-in_err-open-clause-err : goal.returns-in_err-open-clause-err
 returns-in_err-open-clause-err g c =

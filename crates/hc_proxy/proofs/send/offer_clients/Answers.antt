@@ -2,8 +2,8 @@ use Rattle.std.proofs.Common.{rules, ◌∙◌, refl, subst, ℕ, List, ◌+◌,
 use Rattle.std.proofs.lemmas.List.{drop_all}
 use Rattle.hc_proxy.specs.Unsent.{SendsToClients}
 use Rattle.hc_proxy.proofs.OfferedAll.{next_left, clients_next, clients_fail}
-use Rattle.hc_proxy.proofs.Outcomes.{on_err}
 use Rattle.hc_proxy.proofs.send.offer_clients.Goals as goal
+use Rattle.hc_record.proofs.JoiningLemmas.{on_err}
 
 pub loop-k-init : goal.loop-k-init
 loop-k-init g c = record { sends = λ p log up s. s; events = refl; faults = refl }

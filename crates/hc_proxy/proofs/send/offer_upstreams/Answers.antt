@@ -3,8 +3,8 @@ use Rattle.std.proofs.lemmas.List.{drop_all}
 use Rattle.hc_effects.proofs.Vocabulary.{no_contents, is_wanted, Tables}
 use Rattle.hc_proxy.specs.Unsent.{SendsToOrigins}
 use Rattle.hc_proxy.proofs.OfferedAll.{next_left, origins_next, origins_fail}
-use Rattle.hc_proxy.proofs.Outcomes.{on_err}
 use Rattle.hc_proxy.proofs.send.offer_upstreams.Goals as goal
+use Rattle.hc_record.proofs.JoiningLemmas.{on_err}
 
 pub loop-x-init : goal.loop-x-init
 loop-x-init g c = record { sends = λ p log cl stands same s. s; events = refl; faults = refl }

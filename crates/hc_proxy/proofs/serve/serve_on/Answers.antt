@@ -5,7 +5,7 @@ use Rattle.hc_proxy.specs.Endings.{MayEnd}
 use Rattle.hc_proxy.specs.Serving.{ServesAs}
 use Rattle.hc_proxy.specs.Stops.{ended_by}
 use Rattle.hc_proxy.proofs.Causes.{may_end, ends_wire, ends_wire_calm, ends_sink, ends_sink_calm}
-use Rattle.hc_proxy.proofs.LoopGoes.{log_of, frame_of, loop_begins, told_at_first, told_ends}
+use Rattle.hc_proxy.proofs.LoopGoes.{log_of, frame_of, loop_begins, told_ends, told_first}
 use Rattle.hc_proxy.proofs.serve.serve_on.Goals as goal
 
 pub serve-requires : goal.serve-requires
@@ -27,7 +27,7 @@ returns-in-Ok-clause-serves g c = λ none.
     let cache = c.args.cache in
     let told = g.W.Wire.log c.args.wire.now in
     let zero : steps cache + bytes_received cache ≡ 0 = c.requires.unused in
-    told_ends (limits_in cache) c.args.turns (log_of told) told (g.W.Wire.log c.serve.new.wire) (g.K.Sink.taken c.args.log.now) (g.K.Sink.taken c.serve.new.log) ended.Done (told_at_first told)
+    told_ends (limits_in cache) c.args.turns (log_of told) told (g.W.Wire.log c.serve.new.wire) (g.K.Sink.taken c.args.log.now) (g.K.Sink.taken c.serve.new.log) ended.Done (told_first told)
     (c.in-Ok.ensures.serves none (frame_of (limits_in cache)) (log_of told)
     (loop_begins (g.W.Wire.events c.args.wire.now) (limits_in cache) c.new-proxy.result told (g.W.Wire.stages c.args.wire.now) c.requires.fresh c.requires.unseen
     (λ log fresh. c.new-proxy.ensures.rests (frame_of (limits_in cache)) log (record { stands = c.requires.new; limits = refl; received = omega arith; written = refl; bounded = omega arith }) fresh)
@@ -39,7 +39,7 @@ returns-clause-serves g c = λ none.
     let told = g.W.Wire.log c.args.wire.now in
     let zero : steps cache + bytes_received cache ≡ 0 = c.requires.unused in
     subst (ServesAs (limits_in cache) c.args.turns told (g.W.Wire.log c.serve.new.wire) (g.K.Sink.taken c.args.log.now) (g.K.Sink.taken c.serve.new.log)) (sym c.ended.ensures)
-    (told_ends (limits_in cache) c.args.turns (log_of told) told (g.W.Wire.log c.serve.new.wire) (g.K.Sink.taken c.args.log.now) (g.K.Sink.taken c.serve.new.log) (ended_by c.in-Err.stop) (told_at_first told)
+    (told_ends (limits_in cache) c.args.turns (log_of told) told (g.W.Wire.log c.serve.new.wire) (g.K.Sink.taken c.args.log.now) (g.K.Sink.taken c.serve.new.log) (ended_by c.in-Err.stop) (told_first told)
     (c.in-Err.ensures.serves none (frame_of (limits_in cache)) (log_of told)
     (loop_begins (g.W.Wire.events c.args.wire.now) (limits_in cache) c.new-proxy.result told (g.W.Wire.stages c.args.wire.now) c.requires.fresh c.requires.unseen
     (λ log fresh. c.new-proxy.ensures.rests (frame_of (limits_in cache)) log (record { stands = c.requires.new; limits = refl; received = omega arith; written = refl; bounded = omega arith }) fresh)

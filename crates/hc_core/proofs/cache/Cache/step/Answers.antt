@@ -1,9 +1,9 @@
 use Rattle.std.proofs.Common.{ℕ, ◌+◌, refl, sym, subst, arith}
 use Rattle.std.proofs.Math.Logic.{∥∥₁_map}
 use Rattle.hc_effects.proofs.Vocabulary.{act_list, refusal_of}
+use Rattle.hc_effects.proofs.Basics.{some_row}
 use Rattle.hc_state.specs.Good.{StandsAt}
 use Rattle.hc_state.specs.Stands.{gate_of}
-use Rattle.hc_state.proofs.Words.{is_there}
 use Rattle.hc_core.proofs.Opened.{next_after}
 use Rattle.hc_core.proofs.Stepping.{small_part, fewer, until_at, some_after, small_starts, steps_on, keeps_promises}
 use Rattle.hc_core.proofs.cache.Cache.step.Goals as goal
@@ -39,7 +39,7 @@ returns-clause-answered g c =
 
 pub returns-clause-denied : goal.returns-clause-denied
 returns-clause-denied g c = λ some.
-    let (why, is) = is_there (refusal_of (gate_of c.args.self.now.rows c.args.event.now) c.args.event.now) some in
+    let (why, is) = some_row (refusal_of (gate_of c.args.self.now.rows c.args.event.now) c.args.event.now) some in
     (c.in_ok-answer.ensures.denied why is).0
 
 pub returns-then-self-clause-promised : goal.returns-then-self-clause-promised

@@ -1,9 +1,9 @@
 use Rattle.std.proofs.Common.{rules, ◌∙◌, refl, subst, ℕ, List, [], ◌∷◌}
 use Rattle.hc_effects.proofs.Vocabulary.{left_of, Act}
 use Rattle.hc_proxy.specs.Underway.{Closes, IsUnderway, dialling}
-use Rattle.hc_proxy.proofs.Outcomes.{on_err}
 use Rattle.hc_proxy.proofs.CarriedAll.{begins, next_of_some, goes_underway, fails_underway, all_carried_at}
 use Rattle.hc_proxy.proofs.proxy.Proxy.carry_out.Goals as goal
+use Rattle.hc_record.proofs.JoiningLemmas.{on_err}
 
 pub loop-act-init : goal.loop-act-init
 loop-act-init g c = (

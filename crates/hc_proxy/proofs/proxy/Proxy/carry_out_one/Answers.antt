@@ -1,10 +1,11 @@
 use Rattle.std.proofs.Common.{rules, refl}
 use Rattle.hc_event.specs.declared.act.Act.TheVariants as act
-use Rattle.hc_proxy.proofs.Outcomes.{on_err, ok_map, err_map}
 use Rattle.hc_proxy.proofs.Dialings.{any_not_there, any_fresh, any_target, opens_goes}
 use Rattle.hc_proxy.proofs.Carryings.{stays_on, fails_before, fails_opening, answer_goes, ask_goes, told_of, cause_none}
 use Rattle.hc_proxy.proofs.Hangings.{close_goes}
 use Rattle.hc_proxy.proofs.proxy.Proxy.carry_out_one.Goals as goal
+use Rattle.hc_peers.proofs.Outcomes.{err-map, ok-map}
+use Rattle.hc_record.proofs.JoiningLemmas.{on_err}
 
 pub open-requires-clause-new : goal.open-requires-clause-new
 open-requires-clause-new g c = let any = rw c.in-Opened.is at c.requires.next in any_not_there c.args.self.now _ c.in-Opened.x c.in-Opened.c c.in-Opened.need c.in-Opened.request any
@@ -30,12 +31,12 @@ returns-in_err-answer-in_default g c = record {
 pub returns-in-Opened-clause-ok : goal.returns-in-Opened-clause-ok
 returns-in-Opened-clause-ok g c = λ t p log acts h on.
     let h' = rw c.in-Opened.is at h in
-    ok_map c.open.result _ _ (λ o. rw c.in-Opened.is (opens_goes t c.args.self.now c.open.new.upstreams p acts c.in-Opened.x c.in-Opened.c c.in-Opened.need c.in-Opened.request log _ _ _ _ o h' on)) c.open.ensures.ok
+    ok-map c.open.result _ _ (λ o. rw c.in-Opened.is (opens_goes t c.args.self.now c.open.new.upstreams p acts c.in-Opened.x c.in-Opened.c c.in-Opened.need c.in-Opened.request log _ _ _ _ o h' on)) c.open.ensures.ok
 
 pub returns-in-Opened-clause-err : goal.returns-in-Opened-clause-err
 returns-in-Opened-clause-err g c = λ t p log acts h on.
     let h' = rw c.in-Opened.is at h in
-    err_map c.open.result _ _ (λ d. fails_opening t c.args.self.now p acts c.in-Opened.x c.in-Opened.c c.in-Opened.need c.in-Opened.request log _ _ _ _ on h' d) c.open.ensures.err
+    err-map c.open.result _ _ (λ d. fails_opening t c.args.self.now p acts c.in-Opened.x c.in-Opened.c c.in-Opened.need c.in-Opened.request log _ _ _ _ on h' d) c.open.ensures.err
 
 pub returns-in_ok-ask-in-Ask-clause-ok : goal.returns-in_ok-ask-in-Ask-clause-ok
 returns-in_ok-ask-in-Ask-clause-ok g c = λ t p log acts h on.

@@ -6,8 +6,8 @@ use Rattle.hc_proxy.specs.Serving.{HasCauses}
 use Rattle.hc_proxy.specs.Stops.{of_sink}
 use Rattle.hc_proxy.proofs.Causes.{err_is, by_sink, by_wire}
 use Rattle.hc_proxy.proofs.FinishGoes.{writing, behind, written_keeps, written_wire, cut_writing, cut_carrying, cut_sending, cut_waiting, finishes}
-use Rattle.hc_proxy.proofs.Outcomes.{on_err}
 use Rattle.hc_proxy.proofs.proxy.Proxy.finish_turn.Goals as goal
+use Rattle.hc_record.proofs.JoiningLemmas.{on_err}
 
 pub returns-in_err-write-clause-err : goal.returns-in_err-write-clause-err
 returns-in_err-write-clause-err g c = λ t p before k on.

@@ -1,8 +1,8 @@
 use Rattle.std.proofs.Common.{◌≡◌, ◌∙◌, ◌++◌, ap, ℕ, List}
 use Rattle.hc_peers.specs.Upstreams.{touched_of}
 use Rattle.hc_proxy.proofs.OfferedAll.{origins_begin, fails_here}
-use Rattle.hc_proxy.proofs.Outcomes.{on_err}
 use Rattle.hc_proxy.proofs.proxy.Proxy.send_upstreams.Goals as goal
+use Rattle.hc_record.proofs.JoiningLemmas.{on_err}
 
 pub returns-in_err-list_touched-clause-err : goal.returns-in_err-list_touched-clause-err
 returns-in_err-list_touched-clause-err g c = λ f p log cache has clients follows. on_err c.from_residual.result _ (fails_here p log (g.W.Wire.log c.args.wire.now) follows.told_is)

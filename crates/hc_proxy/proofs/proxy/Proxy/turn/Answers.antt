@@ -5,10 +5,10 @@ use Rattle.hc_core.specs.Steps.{steps}
 use Rattle.hc_wire.specs.Events.{FitsIn}
 use Rattle.hc_proxy.specs.Handling.{begun}
 use Rattle.hc_proxy.specs.Keeping.{Begun}
-use Rattle.hc_proxy.proofs.Outcomes.{on_err}
 use Rattle.hc_proxy.proofs.TurnBegins as begins
 use Rattle.hc_proxy.proofs.TurnGoes as goes
 use Rattle.hc_proxy.proofs.proxy.Proxy.turn.Goals as goal
+use Rattle.hc_record.proofs.JoiningLemmas.{on_err}
 
 pub happens-requires-clause-begun : goal.happens-requires-clause-begun
 happens-requires-clause-begun g c = ∥∥₁_map c.requires.ready (λ s.

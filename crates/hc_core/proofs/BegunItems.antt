@@ -305,7 +305,7 @@ told_at [] i item lt is = absurd (let none : i < 0 = lt in omega arith)
 told_at (x ∷ xs) zero item lt is = ap plain_item is
 told_at (x ∷ xs) (suc i) item lt is = told_at xs i item (omega arith) is
 
-good_of : (limits : Limits) (contents : Contents) → may_begin limits contents ≡ true → are_good limits contents [] contents.items ≡ true
+pub good_of : (limits : Limits) (contents : Contents) → may_begin limits contents ≡ true → are_good limits contents [] contents.items ≡ true
 unfolding may_begin
 good_of limits contents may = and_left _ _ (and_left _ _ (and_left _ _ (and_left _ _ (and_left _ _ may))))
 

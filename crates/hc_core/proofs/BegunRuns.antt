@@ -18,25 +18,16 @@ use Rattle.hc_model.specs.Tables as tables
 use Rattle.hc_laws.proofs.Begins.{ends_all}
 use Rattle.hc_effects.proofs.HoleLemmas.{covers_all}
 use Rattle.hc_laws.proofs.KindsLeft.{kind_by, kind_right, count_is, last_is}
-use Rattle.hc_laws.proofs.Positions.{bytes_below}
+use Rattle.hc_laws.proofs.Positions.{bytes_below, before_run}
 
 -- ONE AFTER ANOTHER
-
--- nothing of them is before they begin
-pub before_runs : (n x p : ℕ) (runs : List Run) → ascend_from n x runs ≡ true → p < n → cells_of runs p ≡ None
-before_runs n x p [] good lt = refl
-before_runs n x p (run ∷ runs) good lt =
-    let test : nat_le n run.at ≡ true = and_left _ _ (and_left _ _ (and_left _ _ good)) in
-    let low : n ≤ run.at = grind (arith, nat_tests) in
-    let under : p < run.at = omega arith in
-    rw (inside-before run.at (length run.bytes) p under) (before_runs (end_of run) run.x p runs (and_right _ _ good) (omega arith))
 
 pub runs_cells : (n x p : ℕ) (runs : List Run) (k : Kept) → ascend_from n x runs ≡ true → (with_runs runs k).cells p ≡ option_or (cells_of runs p) (k.cells p)
 runs_cells n x p [] k good = refl
 runs_cells n x p (run ∷ runs) k good =
     let later : ascend_from (end_of run) run.x runs ≡ true = and_right _ _ good in
     runs_cells (end_of run) run.x p runs (kept_with_bytes run.at run.x run.bytes None k) later ∙ elim (inside-cases run.at (length run.bytes) p) [
-      | inl here ↦ rw (here.0, before_runs (end_of run) run.x p runs later here.2) refl
+      | inl here ↦ rw (here.0, before_run (end_of run) run.x p runs later here.2) refl
       | inr off ↦ rw off.0 refl
     ]
 

@@ -22,7 +22,7 @@ use Rattle.hc_event.specs.declared.place.Place.TheVariants as place
 use Rattle.hc_model.specs.Contents.{is_idle}
 use Rattle.hc_model.specs.Rows as rows
 use Rattle.hc_effects.proofs.Basics.{number_is}
-use Rattle.hc_effects.proofs.Closed.{among_filter}
+use Rattle.hc_effects.proofs.Closed.{among_filter, among_append_left, reversed as among_reverse, among_append_right}
 use Rattle.hc_effects.proofs.CurrentKeeps.{current_is}
 use Rattle.hc_effects.proofs.KeysKeep.{current_row}
 use Rattle.hc_effects.proofs.PollKeeps.{current_stays}
@@ -46,6 +46,7 @@ use Rattle.hc_core.proofs.RunsBack.{cells_back}
 use Rattle.hc_core.proofs.Standing.{law_of_runs}
 use Rattle.hc_core.specs.declared.cache.Cache.{Cache}
 use Rattle.hc_core.specs.Steps.{ServesAll}
+use Rattle.hc_core.proofs.BegunItems.{good_of}
 
 -- WHAT IS GOOD
 
@@ -62,10 +63,6 @@ good_found limits contents q item earlier (first ∷ items) good found = elim (c
       (and_right _ _ (and_left _ _ upto_kind), and_right _ _ upto_kind)
 ]
 
-good_of : (limits : Limits) (contents : Contents) → may_begin limits contents ≡ true → are_good limits contents [] contents.items ≡ true
-unfolding may_begin
-good_of limits contents may = and_left _ _ (and_left _ _ (and_left _ _ (and_left _ _ (and_left _ _ may))))
-
 -- what contents begin with is sound
 begun_sound : (limits : Limits) (contents : Contents) → may_begin limits contents ≡ true → Sound (first_tables contents)
 unfolding tables
@@ -79,20 +76,6 @@ filter_twice f (q ∷ qs) = elim (cases_Bool (f q)) [
   | inl on ↦ rw (on, on) (ap (λ (zs : List ℕ). q ∷ zs) (filter_twice f qs))
   | inr off ↦ rw off (filter_twice f qs)
 ]
-
-among_left : (q : ℕ) (xs ys : List ℕ) → Among q xs → Among q (xs ++ ys)
-among_left q [] ys among = absurd among
-among_left q (x ∷ xs) ys (inl here) = inl here
-among_left q (x ∷ xs) ys (inr later) = inr (among_left q xs ys later)
-
-among_right : (q : ℕ) (xs ys : List ℕ) → Among q ys → Among q (xs ++ ys)
-among_right q [] ys among = among
-among_right q (x ∷ xs) ys among = inr (among_right q xs ys among)
-
-among_reverse : (q : ℕ) (xs : List ℕ) → Among q xs → Among q (reverse xs)
-among_reverse q [] among = absurd among
-among_reverse q (x ∷ xs) (inl here) = subst (Among q) (sym (reverse-append (x ∷ []) xs)) (among_right q (reverse xs) (x ∷ []) (inl here))
-among_reverse q (x ∷ xs) (inr later) = subst (Among q) (sym (reverse-append (x ∷ []) xs)) (among_left q (reverse xs) (x ∷ []) (among_reverse q xs later))
 
 -- ITEMS
 

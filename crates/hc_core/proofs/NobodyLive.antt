@@ -10,7 +10,7 @@ use Rattle.hc_effects.proofs.ExclusiveWriters.{filter_some}
 use Rattle.hc_state.specs.Kept.{held_for, held_of, held_alone, unread, unstored_bytes}
 use Rattle.hc_state.proofs.LiveCounts.{filter_nothing}
 
-over_by : (p : Place) → is_live_place p ≡ false → p ≡ place.Over
+pub over_by : (p : Place) → is_live_place p ≡ false → p ≡ place.Over
 over_by place.Over off = refl
 over_by place.Line off = false_true (sym off)
 over_by (place.Passed q kept) off = false_true (sym off)

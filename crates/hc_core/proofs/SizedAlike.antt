@@ -16,6 +16,7 @@ use Rattle.hc_state.specs.declared.rows.Rows.{Rows}
 use Rattle.hc_state.specs.Stands.{RowsStand}
 use Rattle.hc_state.specs.Stored.{KeepsEntry}
 use Rattle.hc_state.proofs.Maps.{merely_true}
+use Rattle.hc_on_leave.proofs.StoreArm.{none_by}
 
 pub merely_same : {P : Type 0} (n m : ℕ) → ∥ P ∥₁ → (P → n ≡ m) → n ≡ m
 merely_same n m some same =
@@ -28,10 +29,6 @@ below_either f n m ends also = elim (cases_Bool (nat_le n m)) [
   | inl le ↦ let under : n ≤ m = grind (arith, nat_tests, le) in sym (below_past f n m ends under)
   | inr off ↦ let over : m ≤ n = grind (arith, nat_tests, off) in below_past f m n also over
 ]
-
-none_by : (stored body : Option Cell) → (is_some stored ≡ true → stored ≡ body) → body ≡ None → stored ≡ None
-none_by None body same none = refl
-none_by (Some cell) body same none = same refl ∙ none
 
 most_small : (m n : ℕ) → m ≤ max (2 ^ 62) n → n < 2 ^ 62 → m ≤ 2 ^ 62
 most_small m n le small = grind (arith, nat_tests, le, small)

@@ -108,7 +108,7 @@ unfolding tables
 small_next contents h e within_limits small = small_after (tables contents h) e within_limits small
 
 -- what a piece has is received
-received_after : (t : Tables) (e : Entry) → (after t e).received ≡ t.received + received_in e.event
+pub received_after : (t : Tables) (e : Entry) → (after t e).received ≡ t.received + received_in e.event
 unfolding after
 received_after t e = by_test (is_denied e.acts)
   where

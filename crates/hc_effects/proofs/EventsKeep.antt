@@ -44,7 +44,7 @@ head_by false headed asked n o h = absurd (never _ h)
 head_by true true asked n o h = absurd (never _ h)
 head_by true false asked n o h = (refl, refl)
 
-no_head : (o : Option Response) → is_some o ≡ false → o ≡ None
+pub no_head : (o : Option Response) → is_some o ≡ false → o ≡ None
 no_head None h = refl
 no_head (Some response) h = absurd (let no : true ≡ false = h in cc)
 

@@ -98,7 +98,7 @@ founding_of v _ (later_changed way shown) on = absurd (let never : false ≡ tru
 pub founding_by : (v : HeadView) → is_founding (Some (head_case v)) ≡ true → FoundingBy v (head_case v)
 founding_by v on = founding_of v (head_case v) (case_by v) on
 
-turn_direct : route.Turn ≡ route.Direct → ⊥
+pub turn_direct : route.Turn ≡ route.Direct → ⊥
 turn_direct is = cc
 
 hole_direct : route.Hole ≡ route.Direct → ⊥

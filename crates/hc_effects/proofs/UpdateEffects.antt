@@ -24,7 +24,7 @@ use Rattle.hc_effects.proofs.SameTables.{is_in, waits_for_any}
 use Rattle.hc_effects.proofs.Waiters.{unwritten, waits_undue, own_open_is}
 use Rattle.hc_model.specs.Sound as sound
 
-unchanged : {z : HeadView} → CaseBy z case.NotValidated → z.status ≡ 304
+pub unchanged : {z : HeadView} → CaseBy z case.NotValidated → z.status ≡ 304
 unchanged (cases.not_validated way status) = status
 
 module _ (limits : Limits) (t : Tables) (law : Lawful t) (now x : ℕ) (response : Response) (goes : denial t (event.Head x response) ≡ None) (w : Exchange) (row : t.exchange x ≡ Some w) (k : Consumer) (asker : t.consumer w.c ≡ Some k) (r : ℕ) (v : Representation) (aim : w.aim ≡ Some r) (there : t.representation r ≡ Some v) where

@@ -28,7 +28,7 @@ use Rattle.hc_effects.proofs.SameTables.{is_in, in_one, waits_for_any, back_from
 use Rattle.hc_effects.proofs.Sums.{reverse_once}
 use Rattle.hc_effects.proofs.Untouched.{IsSpared, consumer_absent}
 
-by_turn : {z : HeadView} → CaseBy z case.NotValidated → (route_of z.need ≡ route.Turn) × (z.status ≡ 304)
+pub by_turn : {z : HeadView} → CaseBy z case.NotValidated → (route_of z.need ≡ route.Turn) × (z.status ≡ 304)
 by_turn (cases.not_validated way status) = (way, status)
 
 module _ (limits : Limits) (t : Tables) (law : Lawful t) (now x : ℕ) (response : Response) (goes : denial t (event.Head x response) ≡ None) (w : Exchange) (row : t.exchange x ≡ Some w) (k : Consumer) (asker : t.consumer w.c ≡ Some k) (r : ℕ) (v : Representation) (aim : w.aim ≡ Some r) (there : t.representation r ≡ Some v)

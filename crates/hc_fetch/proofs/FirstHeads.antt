@@ -113,7 +113,7 @@ pub none_first : (a b : Option Head) → option_or a b ≡ None → (a ≡ None)
 none_first None b is = (refl, is)
 none_first (Some z) b is = absurd (some_none z is)
 
-none_starts : (p : FetchPlan) (f : History) (e : Entry) → first_in (heads_in e.acts) ≡ None → starts_behind p f e ≡ []
+pub none_starts : (p : FetchPlan) (f : History) (e : Entry) → first_in (heads_in e.acts) ≡ None → starts_behind p f e ≡ []
 none_starts p f e none = by_decision (is_none (decided_by p f e.acts) && is_none (first_head f))
   where
     by_decision : (b : Bool) → (if b then start_by_head p e.now (first_in (heads_in e.acts)) else []) ≡ []

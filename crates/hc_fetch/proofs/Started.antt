@@ -5,19 +5,20 @@
 -- then (`one_started`). An entry brings the bytes of its event, denied or not (`brings`), and the fetch's own starts bring none
 -- (`starts_bring`).
 use Rattle.std.proofs.Common.{◌≡◌, ℕ, zero, suc, ◌+◌, ◌≤◌, List, [], ◌∷◌, ◌++◌, length, Bool, true, false, Option, Some, None, refl, ap, sym, ◌∙◌, subst, arith}
-use Rattle.std.specs.Prelude.{if◌then◌else◌, is_none, ◌&&◌, ◌==◌}
+use Rattle.std.specs.Prelude.{if◌then◌else◌, ◌&&◌, ◌==◌}
 use Rattle.hc_text.proofs.Basics.{filter_short as few_pass}
 use Rattle.hc_effects.proofs.Vocabulary.{is_denied, Event, Request, live, is_live, Entry, History, no_contents, entry_without_acts, Tables, tables, after, after_accepted, after_denied, last_start_after, starts_after, received_in}
 use Rattle.hc_event.specs.Counting as counting
 use Rattle.hc_event.specs.declared.event.Event.TheVariants as event
 use Rattle.hc_effects.proofs.Basics.{or_false, false_true}
 use Rattle.hc_fetch.specs.declared.plan.FetchPlan.{FetchPlan}
-use Rattle.hc_fetch.specs.Deciding.{is_foreign, has_foreign, decided_by}
-use Rattle.hc_fetch.specs.Fetches.{started, starts_behind, start_by_head, start_by_total, parts_start, cache_history}
+use Rattle.hc_fetch.specs.Deciding.{is_foreign, has_foreign}
+use Rattle.hc_fetch.specs.Fetches.{started, start_by_head, start_by_total, parts_start, cache_history}
 use Rattle.hc_fetch.specs.Heads.{Head, heads_in, first_in, first_head}
 use Rattle.hc_fetch.specs.Hearing.{HasStarted}
 use Rattle.hc_fetch.specs.Plans.{first_start, part_start, part_count}
-use Rattle.hc_fetch.proofs.FirstHeads.{none_first}
+use Rattle.hc_fetch.proofs.FirstHeads.{none_first, none_starts as none_behind}
+use Rattle.hc_core.proofs.Stepping.{received_after}
 
 -- ONE ENTRY
 
@@ -66,9 +67,6 @@ no_start : (b : Bool) (plan : FetchPlan) (now : ℕ) (q : Option Head) → q ≡
 no_start true plan now q is = ap (start_by_head plan now) is
 no_start false plan now q is = refl
 
-pub none_behind : (plan : FetchPlan) (f : History) (e : Entry) → first_in (heads_in e.acts) ≡ None → starts_behind plan f e ≡ []
-none_behind plan f e none = no_start (is_none (decided_by plan f e.acts) && is_none (first_head f)) plan e.now (first_in (heads_in e.acts)) none
-
 first_started : (plan : FetchPlan) (now : ℕ) (h : History) → HasStarted h 1 → HasStarted (started plan now h) 1
 first_started plan now [] has = started_more now 1 _ [] 0 (omega arith) none_started
 first_started plan now (e ∷ h) has = has
@@ -93,14 +91,6 @@ one_started_before plan now f own none = first_started plan now (cache_history p
 same_received : (ev : Event) → received_in ev ≡ counting.received_in ev
 same_received (event.Piece x bytes) = refl
 same_received ev = refl
-
-received_after : (t : Tables) (e : Entry) → (after t e).received ≡ t.received + received_in e.event
-unfolding after
-received_after t e = by_denial (is_denied e.acts)
-  where
-    by_denial : (b : Bool) → (if b then after_denied t e else after_accepted t e).received ≡ t.received + received_in e.event
-    by_denial true = refl
-    by_denial false = refl
 
 received_on : (e : Entry) (h : History) → (tables no_contents (e ∷ h)).received ≡ (tables no_contents h).received + received_in e.event
 unfolding tables

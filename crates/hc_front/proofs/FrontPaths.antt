@@ -37,14 +37,6 @@ pub on_four : {A E P Q R S T : Type 0} (r : Result A E) → OnOk r P → OnOk r 
 on_four (Ok a) p q r s f = f p q r s
 on_four (Err e) p q r s f = tt
 
-pub on_ok_by : {A E P Q : Type 0} (r : Result A E) → OnOk r P → (P → Q) → OnOk r Q
-on_ok_by (Ok a) p f = f p
-on_ok_by (Err e) p f = tt
-
-pub on_ok_two : {A E P Q R : Type 0} (r : Result A E) → OnOk r P → OnOk r Q → (P → Q → R) → OnOk r R
-on_ok_two (Ok a) p q f = f p q
-on_ok_two (Err e) p q f = tt
-
 pub on_err_by : {A E P Q : Type 0} (r : Result A E) → OnErr r P → (P → Q) → OnErr r Q
 on_err_by (Ok a) p f = tt
 on_err_by (Err e) p f = f p

@@ -9,7 +9,7 @@ use Rattle.std.specs.Prelude.{◌&&◌, ◌||◌, not, nat_eq, nat_lt, if◌then
 use Rattle.std.specs.List.{list_any}
 use Rattle.std.proofs.lemmas.Bool.Decides.{nat_tests}
 use Rattle.hc_text.proofs.Basics.{bool_cases}
-use Rattle.hc_effects.proofs.Vocabulary.{is_denied, given_in, Act, Event, Request, Place, Limits, accepted_acts, poll_acts, loss_acts, may_begin, closing, consumer_after, denial, is_live, is_live_place, Entry, History, Contents, Flaw, NoFlaw, Loses, Misreads, flaw_in, Shown, shown_in, shown_of, given_of, Lawful, Move, acts_of, poll_move, Tables, Consumer, IsRun, IsOwed, after}
+use Rattle.hc_effects.proofs.Vocabulary.{is_denied, given_in, Act, Event, Request, Limits, accepted_acts, poll_acts, loss_acts, may_begin, closing, consumer_after, denial, is_live, is_live_place, Entry, History, Contents, Flaw, NoFlaw, Loses, Misreads, flaw_in, Shown, shown_in, shown_of, given_of, Lawful, Move, acts_of, poll_move, Tables, Consumer, IsRun, IsOwed, after}
 use Rattle.hc_event.specs.declared.act.Act.TheVariants as act
 use Rattle.hc_event.specs.declared.event.Event.TheVariants as event
 use Rattle.hc_event.specs.declared.place.Place.TheVariants as place
@@ -34,6 +34,7 @@ use Rattle.hc_front.specs.FrontHistories.{FrontHistory, fronted, core_of, told_o
 use Rattle.hc_front.specs.Laws.{SatisfiedGetNothing}
 use Rattle.hc_front.specs.Watching.{newly}
 use Rattle.hc_front.proofs.Watchings.{core_is, watched_live, is_new}
+use Rattle.hc_core.proofs.NobodyLive.{over_by as over_is}
 
 -- WHAT THE FRONT TELLS OF BYTES
 
@@ -186,15 +187,6 @@ ungiven_before limits contents c e f run some =
 data IsQuiet (t : Fronted) (c : ℕ) : Type 0 where
   satisfied : (w : Watched) → t.watched c ≡ Some w → w.satisfied ≡ true → IsQuiet t c
   over : (k : Consumer) → t.core.consumer c ≡ Some k → k.place ≡ place.Over → IsQuiet t c
-
-over_is : (p : Place) → is_live_place p ≡ false → p ≡ place.Over
-over_is place.Over dead = refl
-over_is place.Line dead = absurd (let no : true ≡ false = dead in cc)
-over_is (place.Passed r kept) dead = absurd (let no : true ≡ false = dead in cc)
-over_is (place.Turn x) dead = absurd (let no : true ≡ false = dead in cc)
-over_is (place.Bound r lo hi how) dead = absurd (let no : true ≡ false = dead in cc)
-over_is (place.Direct x) dead = absurd (let no : true ≡ false = dead in cc)
-over_is (place.Down why) dead = absurd (let no : true ≡ false = dead in cc)
 
 abbrev polled_by : Event → ℕ
 polled_by (event.Poll c want) = c

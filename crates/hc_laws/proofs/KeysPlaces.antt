@@ -499,7 +499,7 @@ keys_are_kept limits t now flaw s one event goes = record {
 
 -- FROM THE BEGINNING
 
-loaded_writer : (o : Option Content) (v : Representation) (x : ℕ) → option_map representation_of_content o ≡ Some v → v.writer ≡ Some x → ⊥
+pub loaded_writer : (o : Option Content) (v : Representation) (x : ℕ) → option_map representation_of_content o ≡ Some v → v.writer ≡ Some x → ⊥
 loaded_writer None v x row is = none_some v row
 loaded_writer (Some item) v x row is = none_some x (ap (λ (z : Representation). z.writer) (some_inj (representation_of_content item) v row) ∙ is)
 

@@ -1,14 +1,14 @@
 -- Whose each exchange is stays told, from the beginning on.
-use Rattle.std.proofs.Common.{◌≡◌, ℕ, true, Option, Some, None, ap, ◌∙◌}
-use Rattle.std.specs.Prelude.{option_map}
+use Rattle.std.proofs.Common.{◌≡◌, ℕ, true, None, ◌∙◌}
 use Rattle.hc_text.proofs.Basics.{not_some as none_some}
-use Rattle.hc_effects.proofs.Vocabulary.{Event, Limits, denial, Content, Contents, Flaw, entry_of, Owners, Tables, Representation, may_stand, Sound, after_accepted, first_tables, representation_of_content}
+use Rattle.hc_effects.proofs.Vocabulary.{Event, Limits, denial, Contents, Flaw, entry_of, Owners, Tables, may_stand, Sound, after_accepted, first_tables}
 use Rattle.hc_effects.proofs.ApartKeeps.{apart_kept}
 use Rattle.hc_laws.proofs.FirstDueKeeps.{first_due_kept}
 use Rattle.hc_laws.proofs.FirstDues.{idle_kept}
 use Rattle.hc_laws.proofs.Founders.{founders_kept}
 use Rattle.hc_effects.proofs.OwnersKeep.{openers_kept, there_kept, one_kept, first_kept, writers_kept}
 use Rattle.hc_laws.proofs.PassedKeeps.{passed_kept}
+use Rattle.hc_laws.proofs.KeysPlaces.{loaded_writer}
 use Rattle.hc_effects.proofs.PastKeeps.{past_kept}
 use Rattle.hc_effects.proofs.ReadingKeeps.{reading_kept}
 use Rattle.hc_effects.proofs.WaitingKeeps.{waiting_kept}
@@ -29,10 +29,6 @@ owners_kept limits t now flaw s o ev goes stand = record {
   idle_due = λ c u row idle. idle_kept limits t now flaw s o ev goes c u row idle;
   first_due = λ r c d v k u after kept is_first row none reader. first_due_kept limits t now flaw s o ev goes r c d v k u after kept is_first row none reader;
 }
-
-loaded_writer : (o : Option Content) (v : Representation) (x : ℕ) → option_map representation_of_content o ≡ Some v → v.writer ≡ Some x → ⊥
-loaded_writer None v x is writer = none_some v is
-loaded_writer (Some item) v x is writer = none_some x (let same : representation_of_content item ≡ v = cc in ap (λ (z : Representation). z.writer) same ∙ writer)
 
 pub owners_begun : (contents : Contents) → Owners (first_tables contents)
 owners_begun contents = record {

@@ -44,7 +44,7 @@ below_put f from x n bytes ends absent =
 
 -- RUNS THAT RISE
 
-before_run : (n x p : ℕ) (runs : List Run) → ascend_from n x runs ≡ true → p < n → cells_of runs p ≡ None
+pub before_run : (n x p : ℕ) (runs : List Run) → ascend_from n x runs ≡ true → p < n → cells_of runs p ≡ None
 before_run n x p [] good lt = refl
 before_run n x p (run ∷ runs) good lt =
     let test : nat_le n run.at ≡ true = and_left _ _ (and_left _ _ (and_left _ _ good)) in

@@ -31,6 +31,7 @@ use Rattle.hc_state.proofs.Answering.{does_answered}
 use Rattle.hc_on_body.proofs.HeldPiece.{held_stands}
 use Rattle.hc_on_leave.proofs.PieceArm.{Brought, brought_of, Runs, runs_of, open_unended, brings_it, past_answered}
 use Rattle.hc_on_leave.proofs.PieceRows.{s}
+use Rattle.hc_on_leave.proofs.StoreArm.{none_by}
 
 -- whose an open exchange is that isn't the writing's
 pub record Owner (t : Tables) (x : ℕ) (w : Exchange) (v : Representation) : Type 0 where
@@ -69,10 +70,6 @@ owner t x w v s row opened headed there unwritten = by_had (s.writes.had (family
 unwritten_lost : (t : Tables) (v : Representation) → v.is_lost ≡ true → is_written t v ≡ false
 unfolding is_written
 unwritten_lost t v lost = rw lost refl
-
-none_by : (stored body : Option Cell) → (is_some stored ≡ true → stored ≡ body) → body ≡ None → stored ≡ None
-none_by None body same none = refl
-none_by (Some cell) body same none = same refl ∙ none
 
 -- what begins to be read isn't past what its own exchange brings
 starts_within : {limits : Rattle.hc_rules.specs.declared.room.Limits.Limits} (t : Tables) (facts : Facts limits t) (x : ℕ) (w : Exchange) (v : Representation) (o : Owner t x w v) → t.exchange x ≡ Some w → w.is_open ≡ true → is_some w.head ≡ true → o.lo ≤ front w

@@ -6,14 +6,12 @@ use Rattle.std.specs.Prelude.{reverse, nat_lt, ◌||◌}
 use Rattle.hc_text.proofs.Basics.{bool_cases, eq_by, eqb-same, false_true, or_cases as in_either}
 use Rattle.hc_entry.specs.Lines.{is_among}
 use Rattle.hc_entry.specs.Users.{itself}
+use Rattle.hc_entry.proofs.SeatLemmas.{first_in}
 use Rattle.hc_effects.proofs.Vocabulary.{Descends}
 use Rattle.hc_sorted.specs.Sorted.{above, is_sorted}
 use Rattle.hc_sorted.proofs.SortedLemmas.{has-above}
 
 -- MEMBERS
-
-pub among_first : (x : ℕ) (xs : List ℕ) → is_among x (x ∷ xs) ≡ true
-among_first x xs = rw (eqb-same x) refl
 
 pub among_later : (x n : ℕ) (xs : List ℕ) → is_among n xs ≡ true → is_among n (x ∷ xs) ≡ true
 among_later x n xs there = by_test (eqb x n)
@@ -51,12 +49,12 @@ above_first n x xs up there = elim (bool_cases (nat_lt x n)) [
 
 pub ascends_last : (x : ℕ) (xs : List ℕ) → is_sorted itself xs ≡ true → ((n : ℕ) → is_among n xs ≡ true → n < x) → is_sorted itself (xs ++ (x ∷ [])) ≡ true
 ascends_last x [] up low = refl
-ascends_last x (y ∷ ys) up low = above_last y ys up (low y (among_first y ys)) (λ n there. low n (among_later y n ys there))
+ascends_last x (y ∷ ys) up low = above_last y ys up (low y (first_in y ys)) (λ n there. low n (among_later y n ys there))
   where
     above_last : (m : ℕ) (zs : List ℕ) → above itself m zs ≡ true → m < x → ((n : ℕ) → is_among n zs ≡ true → n < x) → above itself m (zs ++ (x ∷ [])) ≡ true
     above_last m [] high lt below = let test : nat_lt m x ≡ true = grind (arith, nat_tests, lt) in rw test refl
     above_last m (z ∷ zs) high lt below = elim (bool_cases (nat_lt m z)) [
-      | inl on ↦ (let rest : above itself z zs ≡ true = rw on at high in rw on (above_last z zs rest (below z (among_first z zs)) (λ n there. below n (among_later z n zs there))))
+      | inl on ↦ (let rest : above itself z zs ≡ true = rw on at high in rw on (above_last z zs rest (below z (first_in z zs)) (λ n there. below n (among_later z n zs there))))
       | inr off ↦ false_true (rw off at high)
     ]
 

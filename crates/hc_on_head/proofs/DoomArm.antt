@@ -34,12 +34,8 @@ use Rattle.hc_on_head.proofs.DoomCloses.{IsBare, bare_among, closes_are}
 use Rattle.hc_on_head.proofs.DoomTies.{s, exchange_is, over_row, line_row, same_consumer, none_row, all_consumers, exchange_shut}
 use Rattle.hc_state.proofs.OneOfEach.{first_row, bound_same, growing_same, kind_same}
 use Rattle.hc_state.proofs.Ties.{entry_same, key_same, overs_closed}
+use Rattle.hc_state.proofs.Apart.{or_offs}
 use Rattle.hc_on_head.proofs.Woken.{stands_for, Stood, nobody, back, beside, stays, stood, waiting_lives, bytes-flip}
-
-or_offs : (a b d : Bool) → (a || b || d) ≡ false → (a ≡ false) × ((b ≡ false) × (d ≡ false))
-or_offs false false d off = (refl, (refl, off))
-or_offs false true d off = false_true (sym off)
-or_offs true b d off = false_true (sym off)
 
 module _ (t : Tables) (law : Lawful t) (now : ℕ) (key xs : List ℕ) (bare : (x : ℕ) → is_among x xs ≡ true → IsBare t key x) where
   abbrev after : Tables

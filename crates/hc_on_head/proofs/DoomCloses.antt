@@ -6,11 +6,12 @@ use Rattle.std.specs.HashMap.{get, hash_map_len}
 use Rattle.hc_text.proofs.Basics.{and_both as both_parts, or_cases as either_part, eqb-other, eqb-same, false_true, none_by, none_of, same_or, same_some as same_row, some_inj as some_is}
 use Rattle.hc_effects.proofs.Vocabulary.{Limits, Request, route_of, Place, awaits, is_number, is_live, is_awaited, awaited_and, is_headless, Lawful, IsAwaiting, Awaits, Tables, Exchange, awaited_exchange, waits_at, with_item_first}
 use Rattle.hc_effects.proofs.Tests.{none_some}
+use Rattle.hc_effects.proofs.Basics.{number_yes, number_is}
 use Rattle.hc_store.specs.declared.backend.Backend.{Ghosts}
 use Rattle.hc_entry.specs.Keys.{line_of}
 use Rattle.hc_entry.specs.Lines.{is_among, is_in}
 use Rattle.hc_entry.specs.Users.{itself}
-use Rattle.hc_entry.proofs.SeatLemmas.{same_members}
+use Rattle.hc_entry.proofs.SeatLemmas.{same_members, first_in}
 use Rattle.hc_exch.specs.declared.row.Open.{Open}
 use Rattle.hc_exch.specs.Exchanges.{table_of}
 use Rattle.hc_exch.specs.Known.{is_open}
@@ -28,17 +29,10 @@ use Rattle.hc_state.specs.declared.rows.Rows.{Rows}
 use Rattle.hc_state.specs.Dooms.{IsAwaited, IsToClose, IsUnheard}
 use Rattle.hc_state.specs.Kept.{KeepsConsumer, KeepsRunning}
 use Rattle.hc_state.specs.Stands.{RowsStand}
-use Rattle.hc_on_head.proofs.AscendingLists.{above_first, among_first, among_later, among_cases, is_first, is_later, among-reverse, reverse_ascends}
+use Rattle.hc_on_head.proofs.AscendingLists.{above_first, among_later, among_cases, is_first, is_later, among-reverse, reverse_ascends}
 use Rattle.hc_state.proofs.Ties.{kept_row}
 use Rattle.hc_state.proofs.TurnTies.{among_in, filter_in}
 use Rattle.hc_on_head.proofs.Woken.{stands_for, Stood, nobody, back, beside, stays, stood, Waits, waits_of, waiting_lives}
-
-pub number_is : (o : Option ℕ) (x : ℕ) → is_number o x ≡ true → o ≡ Some x
-number_is None x on = false_true on
-number_is (Some y) x on = let same : y ≡ x = grind (arith, nat_tests, on) in ap Some same
-
-is_the_number : (o : Option ℕ) (x : ℕ) → o ≡ Some x → is_number o x ≡ true
-is_the_number o x is = rw is (eqb-same x)
 
 -- NO MORE THAN THERE ARE
 
@@ -68,7 +62,7 @@ drop_keeps x y (z ∷ zs) ne there = elim (same_or z y) [
     | is_later later ↦ (let on : nat_eq z y ≡ true = ap (λ n. nat_eq n y) same ∙ eqb-same y in rw on later)
   ]
   | inr off ↦ (let apart : nat_eq z y ≡ false = eqb-other z y off in rw apart (elim (among_cases x z zs there) [
-    | is_first e ↦ subst (λ n. is_among n (z ∷ drop_one y zs) ≡ true) e (among_first z (drop_one y zs))
+    | is_first e ↦ subst (λ n. is_among n (z ∷ drop_one y zs) ≡ true) e (first_in z (drop_one y zs))
     | is_later later ↦ among_later z x (drop_one y zs) (drop_keeps x y zs ne later)
   ]))
 ]
@@ -77,7 +71,7 @@ drop_keeps x y (z ∷ zs) ne there = elim (same_or z y) [
 fits_in : (ys zs : List ℕ) → is_sorted itself ys ≡ true → ((x : ℕ) → is_among x ys ≡ true → is_among x zs ≡ true) → length ys ≤ length zs
 fits_in [] zs up all = omega arith
 fits_in (y ∷ ys) zs up all =
-    let there : is_among y zs ≡ true = all y (among_first y ys) in
+    let there : is_among y zs ≡ true = all y (first_in y ys) in
     let shorter : length (drop_one y zs) + 1 ≡ length zs = drop_length y zs there in
     let rest : length ys ≤ length (drop_one y zs) = fits_in ys (drop_one y zs) (is_sorted-above itself y ys up) (λ x later. drop_keeps x y zs (λ same. (let lt : y < x = above_first x y ys up later in omega arith)) (all x (among_later y x ys later))) in
     omega arith
@@ -110,7 +104,7 @@ added_keeps None x xs there = there
 added_keeps (Some y) x xs there = among_later y x xs there
 
 added_has : (o : Option ℕ) (x : ℕ) (xs : List ℕ) → o ≡ Some x → is_among x (with_item_first o xs) ≡ true
-added_has o x xs is = subst (λ z. is_among x (with_item_first z xs) ≡ true) (sym is) (among_first x xs)
+added_has o x xs is = subst (λ z. is_among x (with_item_first z xs) ≡ true) (sym is) (first_in x xs)
 
 all_has : (f : ℕ → Option ℕ) (c x : ℕ) (cs : List ℕ) → is_among c cs ≡ true → f c ≡ Some x → is_among x (all_of f cs) ≡ true
 unfolding all_of
@@ -219,7 +213,7 @@ module _ {B : Type 0} {g : Ghosts B} {lim : Limits} (r : Rows B g) (t : Tables) 
       let mine : t.consumer e.w.c ≡ Some a.w.k = ap t.consumer e.for_it ∙ a.w.row in
       let one : opener.k ≡ a.w.k = same_row (t.consumer e.w.c) opener.k a.w.k opener.row mine in
       let of_key : key ≡ e.w.request.key = same_bytes key a.w.k.request.key a.w.of_key ∙ (ap (λ (z : rows.Consumer). z.request.key) (sym one) ∙ sym opener.key_is) in
-      let waits : awaits (t.consumer e.w.c) x ≡ true = ap (λ z. awaits z x) mine ∙ is_the_number (awaited_exchange a.w.k.place) x a.for_it in
+      let waits : awaits (t.consumer e.w.c) x ≡ true = ap (λ z. awaits z x) mine ∙ number_yes (awaited_exchange a.w.k.place) x a.for_it in
       let same = bytes_eq-same key e.w.request.key of_key in
       let on = e.is_open in
       let none = e.bare in
@@ -314,7 +308,7 @@ module _ {B : Type 0} {g : Ghosts B} {lim : Limits} (r : Rows B g) (t : Tables) 
     ]
 
     closes_so : (x : ℕ) → IsToClose r key refused x → closes x ≡ true
-    closes_so x (inl is) = first (is_number refused x) (is_the_number refused x is)
+    closes_so x (inl is) = first (is_number refused x) (number_yes refused x is)
       where
         first : (b : Bool) → b ≡ true → (b || is_awaited t key x (t.exchange x)) ≡ true
         first true on = refl

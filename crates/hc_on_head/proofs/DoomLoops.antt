@@ -13,6 +13,7 @@ use Rattle.hc_entry.specs.declared.keys.KeyTable.{KeyTable}
 use Rattle.hc_entry.specs.Keys.{line_of, seated_at, AllAreSeatedBelow}
 use Rattle.hc_entry.specs.Lines.{is_among, is_in}
 use Rattle.hc_entry.specs.Users.{itself}
+use Rattle.hc_entry.proofs.SeatLemmas.{first_in}
 use Rattle.hc_exch.specs.declared.exchanges.Exchanges.{Exchanges}
 use Rattle.hc_exch.specs.Exchanges as exch
 use Rattle.hc_exch.specs.Exchanges.{table_of, next_of}
@@ -21,7 +22,7 @@ use Rattle.hc_sorted.specs.Sorted.{is_sorted}
 use Rattle.hc_state.specs.declared.consumer.Consumer.{Consumer}
 use Rattle.hc_state.specs.declared.rows.Rows.{Rows}
 use Rattle.hc_state.specs.Dooms.{awaited_by, IsAwaited, IsToClose, IsNext, AreAtMost, nearer, Closes}
-use Rattle.hc_on_head.proofs.AscendingLists.{among-append, among_first, among_cases, is_first, is_later, ascends_last}
+use Rattle.hc_on_head.proofs.AscendingLists.{among-append, among_cases, is_first, is_later, ascends_last}
 
 -- THE NEXT ONE
 
@@ -208,7 +209,7 @@ module _ {B : Type 0} {g : Ghosts B} (r : Rows B g) (mid : Exchanges) (key : Lis
     where
       all_next : (y : ℕ) → IsToClose r key refused y → y < x + 1 → is_among y (closed.xs ++ (x ∷ [])) ≡ true
       all_next y is lt = elim (same_or x y) [
-        | inl same ↦ among-append y closed.xs (x ∷ []) ∙ or_last (is_among y closed.xs) (subst (λ n. is_among n (x ∷ []) ≡ true) same (among_first x []))
+        | inl same ↦ among-append y closed.xs (x ∷ []) ∙ or_last (is_among y closed.xs) (subst (λ n. is_among n (x ∷ []) ≡ true) same (first_in x []))
         | inr ne ↦ among-append y closed.xs (x ∷ []) ∙ ap (λ b. b || is_among y (x ∷ [])) (closed.all y is (by_test (leb from y) refl ne))
       ]
         where

@@ -14,14 +14,15 @@ use Rattle.hc_event.specs.declared.place.BoundBy.TheVariants as by
 use Rattle.hc_model.specs.Rows as rows
 use Rattle.hc_effects.proofs.SameTables as tables
 use Rattle.hc_effects.proofs.SameTables.{shut}
+use Rattle.hc_effects.proofs.Basics.{number_is}
 use Rattle.hc_state.specs.declared.consumer.Consumer.{Consumer}
 use Rattle.hc_state.specs.declared.rows.Rows.{Rows}
 use Rattle.hc_state.specs.Changes.{ChangesAmong, once_over}
 use Rattle.hc_state.specs.Kept.{IsKept, KeepsConsumer, KeepsExchange, KeepsRunning, head_in, answer_at, held_for, held_of, held_alone, unread, unstored_bytes}
 use Rattle.hc_state.specs.Stands.{RowsStand}
 use Rattle.hc_state.proofs.Fallbacks.{unstored_moved}
-use Rattle.hc_state.proofs.Closing.{base_over, of_over}
-use Rattle.hc_on_head.proofs.DoomCloses.{headless_row, number_is}
+use Rattle.hc_state.proofs.Closing.{base_over, of_over, promise_over}
+use Rattle.hc_on_head.proofs.DoomCloses.{headless_row}
 use Rattle.hc_state.proofs.Ties.{kept_none, exchange_same}
 use Rattle.hc_on_head.proofs.Woken.{bytes-flip, stands_for, Stood, nobody, back, beside, stays, stood, starts_over, stays_so, waiting_lives}
 
@@ -31,13 +32,6 @@ use Rattle.hc_on_head.proofs.Woken.{bytes-flip, stands_for, Stood, nobody, back,
 pub in_is : (xs : List ℕ) (y : ℕ) → tables.is_in xs y ≡ is_among y xs
 in_is [] y = refl
 in_is (x ∷ xs) y = ap (λ b. eqb x y || b) (in_is xs y)
-
-promised_over : (w : Exchange) → promised_bytes (over w) ≡ promised_bytes w
-promised_over w = by_head w.head
-  where
-    by_head : (h : Option Response) → promise_of (length_by (over w) h) ≡ promise_of (length_by w h)
-    by_head None = refl
-    by_head (Some response) = refl
 
 end_over : (o : Option ℕ) (w : Exchange) → end_of_direct o (over w) ≡ end_of_direct o w
 end_over None w = refl
@@ -61,7 +55,7 @@ base_if true (Some w) = base_over w
 end_if : (b : Bool) (z : Option Exchange) → end_in (if_over b z) ≡ end_in z
 end_if false z = refl
 end_if true None = refl
-end_if true (Some w) = ap (λ o. end_of_direct o (over w)) (promised_over w) ∙ end_over (promised_bytes w) w
+end_if true (Some w) = ap (λ o. end_of_direct o (over w)) (promise_over w) ∙ end_over (promised_bytes w) w
 
 drop_none : (n : ℕ) → drop {A = ℕ} n [] ≡ []
 drop_none zero = refl

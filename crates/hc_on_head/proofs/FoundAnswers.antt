@@ -24,6 +24,7 @@ use Rattle.hc_event.specs.declared.place.Place.TheVariants as place
 use Rattle.hc_model.specs.Rows as rows
 use Rattle.hc_effects.proofs.FoundDoes.{Founds, founds_of}
 use Rattle.hc_effects.proofs.Tests.{none_some}
+use Rattle.hc_effects.proofs.EventsKeep.{no_head as head_none}
 use Rattle.hc_state.specs.declared.consumer.Consumer.{Consumer}
 use Rattle.hc_state.specs.declared.rows.Rows.{Rows}
 use Rattle.hc_state.specs.declared.founded.Founding.{Founding}
@@ -38,7 +39,7 @@ use Rattle.hc_state.specs.Stored.{KeepsEntry}
 use Rattle.hc_on_leave.proofs.AnswerArm.{reader_kept}
 use Rattle.hc_on_leave.proofs.FoundArm.{fallback, first, second, es, m, may_fallback, may_first, make_second, one_way, m_unfounded, m_asker, read_alone, founds_answered, lost_answered, full_told}
 use Rattle.hc_on_head.proofs.HeadTold.{past_of_runs}
-use Rattle.hc_on_leave.proofs.HeardRows.{Asker, Headless, asker, head_none, headless_of, heard_row, runs_as}
+use Rattle.hc_on_leave.proofs.HeardRows.{Asker, Headless, asker, headless_of, heard_row, runs_as}
 use Rattle.hc_state.proofs.Maps.{known_of, merely_below, merely_false}
 use Rattle.hc_state.proofs.ReaderSteps.{stands_read}
 use Rattle.hc_state.proofs.Rooms.{room_is}

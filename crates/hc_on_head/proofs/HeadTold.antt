@@ -18,7 +18,7 @@ use Rattle.hc_exch.specs.Exchanges.{table_of}
 use Rattle.hc_exch.specs.Known.{open_view, view_of, length_by}
 use Rattle.hc_event.specs.declared.place.Place.TheVariants as place
 use Rattle.hc_event.specs.declared.place.BoundBy.TheVariants as by
-use Rattle.hc_effects.proofs.FoundBy.{CaseBy, case_by}
+use Rattle.hc_effects.proofs.FoundBy.{CaseBy, case_by, turn_direct}
 use Rattle.hc_effects.proofs.FoundBy as cases
 use Rattle.hc_effects.proofs.Basics.{some_row}
 use Rattle.hc_effects.proofs.Tests.{none_some}
@@ -36,6 +36,7 @@ use Rattle.hc_on_head.proofs.HeadViews.{case_is, aim_is, view_is as views_as}
 use Rattle.hc_on_leave.proofs.HeardRows.{Asker, Headless, asker, headless_of, heard_row, runs_as}
 use Rattle.hc_state.proofs.KeySteps.{lined}
 use Rattle.hc_state.proofs.Maps.{merely_true, merely_below, some_that}
+use Rattle.hc_state.proofs.Kept.{few_kept}
 use Rattle.hc_on_leave.proofs.UnstoredArms.{awaits_viewed}
 
 -- A BAD HEAD IS OF A BAD CASE
@@ -301,9 +302,6 @@ pub record ToldUnselected (t : Tables) (x : ℕ) (response : Response) (aim : Op
   pub about : aim ≡ w.aim
   pub is : head_case (record (head_view t false w response) { selects = false }) ≡ case.NotValidated
 
-turn_not_direct : route.Turn ≡ route.Direct → ⊥
-turn_not_direct is = cc
-
 -- A HEAD THAT FOUNDS
 
 -- a 200 or a 206
@@ -381,7 +379,7 @@ module _ {B : Type 0} {g : Ghosts B} (r : Rows B g) (x : ℕ) (response : Respon
       record {
         w = e.w;
         row = e.row;
-        about = aim_as ∙ aim_is r t facts stands x e.w e.asked bare.o bare.there response route.Turn (it_is (head_view t false e.w response) unselected).0 turn_not_direct;
+        about = aim_as ∙ aim_is r t facts stands x e.w e.asked bare.o bare.there response route.Turn (it_is (head_view t false e.w response) unselected).0 turn_direct;
         is = unselected;
       }
 
@@ -466,8 +464,3 @@ live_now r x found v accepted viewed some some_past =
     let view_is = viewed_as x (table_of r.exchanges x).running bare.o found v bare.there viewed some in
     merely_true (is_some (get nat_eq r.consumers v.c)) some_past
     (λ p. (let s = past_of_runs r p in asker_lives r s.0 s.1 s.2 x bare.o bare.there bare.headless v.c (sym (ap (λ (z : ExchangeView). z.c) view_is))))
-
--- no more are kept than may be live
-pub few_kept : {B : Type 0} {g : Ghosts B} (r : Rows B g) → ∥ Stands r ∥₁ → hash_map_len r.consumers < most_live + 1
-few_kept r some_past = merely_below (hash_map_len r.consumers) (most_live + 1) some_past
-    (λ p. (let s = past_of_runs r p in let few = s.1.live.few in let count = s.2.count in omega (arith, few, count)))

@@ -14,16 +14,7 @@ use Rattle.hc_state.specs.Stored.{IsEntry, TellsLength, told, untold, KeepsEntry
 use Rattle.hc_on_head.proofs.JoinRows.{IsJoinable, s, z, told_consumer, told_representation, exchange_here, exchange_other, representation_here, representation_other}
 use Rattle.hc_state.proofs.OneOfEach.{bound_same, first_by, growing_same, kind_same}
 use Rattle.hc_state.proofs.Ties.{entry_same, OversStay, overs_open, writer_then}
-
--- one of them passes the test
-any_there : (f : ℕ → Bool) (c : ℕ) (cs : List ℕ) → Among c cs → f c ≡ true → list_any f cs ≡ true
-any_there f c [] none on = absurd none
-any_there f c (d ∷ cs) (inl here) on = (let it : f d ≡ true = ap f here ∙ on in rw it refl)
-any_there f c (d ∷ cs) (inr later) on = by_test (f d) (any_there f c cs later on)
-  where
-    by_test : (b : Bool) → list_any f cs ≡ true → (b || list_any f cs) ≡ true
-    by_test true rest = refl
-    by_test false rest = rest
+use Rattle.hc_on_leave.proofs.FoundRows.{any_some}
 
 module _ (t : Tables) (now x q : ℕ) (response : Response) (w : Exchange) (v : rows.Consumer) (p : Representation) (j : IsJoinable t x q w v p) (h : Head) (total : h.total ≡ p.head.total) (status : h.status ≡ p.head.status) (wr : Option ℕ) (own : Option ℕ) (apart : (y : ℕ) → x ≢ y → is_number own y ≡ false) where
   abbrev m : Tables
@@ -69,7 +60,7 @@ module _ (t : Tables) (now x q : ℕ) (response : Response) (w : Exchange) (v : 
   unfolding kind_of
   growing_now on =
       let here : brings_to q x (m.exchange x) ≡ true = ap (brings_to q x) (exchange_here t now x q response w v p j h total wr own apart) ∙ (let opened = j.is_open in rw (on, opened) (eqb-same q)) in
-      let grows : is_growing m q ≡ true = any_there (λ y. brings_to q y (m.exchange y)) x t.openings j.listed here in
+      let grows : is_growing m q ≡ true = any_some (λ y. brings_to q y (m.exchange y)) x t.openings j.listed here in
       rw grows refl
 
   -- where its head tells that

@@ -16,11 +16,7 @@ use Rattle.hc_state.specs.Leaving.{LeavesKey}
 use Rattle.hc_state.specs.Lines.{KeepsKey, has_turn, is_passed, is_away}
 use Rattle.hc_state.proofs.ConsumerSteps.{SaysOfIt, key_with, key_stays, keys_with}
 use Rattle.hc_state.proofs.KeySteps.{leaves_key, off_line, off_passed, off_away}
-
-or_offs : (a b d : Bool) → (a || b || d) ≡ false → (a ≡ false) × ((b ≡ false) × (d ≡ false))
-or_offs false false d off = (refl, (refl, off))
-or_offs false true d off = false_true (sym off)
-or_offs true b d off = false_true (sym off)
+use Rattle.hc_state.proofs.Apart.{or_offs}
 
 module _ (t : Tables) (c : ℕ) (v : rows.Consumer) (row : t.consumer c ≡ Some v) where
   -- nothing was said of it

@@ -5,6 +5,7 @@ use Rattle.std.specs.HashMap.{get}
 use Rattle.hc_text.proofs.Basics.{false_true, same_some as same_row, and_off as then_false}
 use Rattle.hc_effects.proofs.Vocabulary.{Limits, Request, route_of, head_refusal, BoundBy, back_in_line, with_consumer, is_headless, StandsFor, is_in_line, stands_in_line, has_passed, Tables, Exchange, Representation, awaited_exchange}
 use Rattle.hc_effects.proofs.Tests.{none_some}
+use Rattle.hc_effects.proofs.EventsKeep.{no_head}
 use Rattle.hc_store.specs.declared.backend.Backend.{Ghosts}
 use Rattle.hc_stored.specs.Entries.{shelf_of}
 use Rattle.hc_stored.specs.Kept.{Kept}
@@ -28,7 +29,7 @@ use Rattle.hc_state.specs.Stored.{KeepsEntry, is_usable_kept}
 use Rattle.hc_on_leave.proofs.AnswerArm.{known_other}
 use Rattle.hc_state.proofs.CurrentTies.{entry_row}
 use Rattle.hc_on_head.proofs.HeadTold.{past_of_runs}
-use Rattle.hc_on_leave.proofs.HeardRows.{Asker, asker, asked_by, head_none, headless_of, heard_row}
+use Rattle.hc_on_leave.proofs.HeardRows.{Asker, asker, asked_by, headless_of, heard_row}
 use Rattle.hc_state.proofs.KeySteps.{not_lined}
 use Rattle.hc_on_leave.proofs.LoseTurn.{grows}
 use Rattle.hc_state.proofs.Maps.{known_of, merely_true}
@@ -111,7 +112,7 @@ module _ {B : Type 0} {g : Ghosts B} (r first second : Rows B g) (now x c q : �
   now_of t facts stands =
       let h = headless_of (table_of r.exchanges x).running accepted in
       let hr = heard_row r t x h.o stands h.there in
-      let bare = head_none hr.w.head (sym hr.is.headed ∙ h.headless) in
+      let bare = no_head hr.w.head (sym hr.is.headed ∙ h.headless) in
       record { w = hr.w; row = hr.row; a = asker r t facts x hr.w stands hr.row hr.is.is_open bare; for_it = asked_by r t x c hr.w stands accepted asks hr.row }
 
   -- what is current is kept still

@@ -47,6 +47,7 @@ use Rattle.hc_state.proofs.Maps.{merely_true}
 use Rattle.hc_on_leave.proofs.RefuseArm.{stands_refused, closes_as}
 use Rattle.hc_on_head.proofs.RenewedArm.{stands_renewed}
 use Rattle.hc_state.proofs.SealArm.{stands_stayed}
+use Rattle.hc_state.proofs.ReaderSteps.{answered_since}
 use Rattle.hc_on_leave.proofs.UnstoredArms.{beside, unread_then, unwritten}
 
 -- WHERE WHAT IS STORED STAYS
@@ -63,17 +64,6 @@ past_unrenewed r u rest same p = record {
   within_limits = p.within_limits;
   received = p.received;
   rows = stands_unrenewed r u _ rest same p.rows;
-}
-
--- a count of faults from earlier on
-pub answered_since : {B : Type 0} {g : Ghosts B} (limits : Limits) (a b : ℕ) (u : Rows B g) (t : Tables) (before out : List Act) (now : ℕ) (ev : Event) → a ≤ b → Answered limits b u t before out now ev → Answered limits a u t before out now ev
-answered_since limits a b u t before out now ev le it = record {
-  flaw = it.flaw;
-  acts = it.acts;
-  shown = it.shown;
-  may = it.may;
-  caused = λ on. (let lt = it.caused on in omega (arith, le, lt));
-  rows = it.rows;
 }
 
 -- WHAT IS CURRENT STILL

@@ -26,13 +26,10 @@ use Rattle.hc_state.specs.Lines.{KeepsKey}
 use Rattle.hc_state.specs.Stored.{KeepsEntries, is_first}
 use Rattle.hc_state.proofs.Dropping.{merely_user, unbinds_limits}
 use Rattle.hc_state.proofs.OneOfEach.{entries_same}
-use Rattle.hc_on_leave.proofs.SeatLoops.{AreChangedBelow, none_changed, nobody_more, one_more, all_changed}
+use Rattle.hc_on_leave.proofs.SeatLoops.{AreChangedBelow, none_changed, nobody_more, one_more, all_changed, last_or}
 use Rattle.hc_state.proofs.Ties.{kept_row}
 use Rattle.hc_state.proofs.Unbinding.{entries_unbound, user_kept}
 use Rattle.hc_on_head.proofs.Woken.{stands_for, Stood, nobody, back, beside, stays, stood, Waits, waits_of, starts_over, stays_so, waiting_lives}
-
-last_or : (j i : ℕ) → j < i + 1 → (j ≡ i) ⊎ (j < i)
-last_or j i lt = elim (same_or j i) [ inl same ↦ inl same | inr ne ↦ inr (omega (arith, lt, ne)) ]
 
 -- with these consumers
 abbrev pub of_consumers : (ℕ → Option rows.Consumer) → Tables → Tables

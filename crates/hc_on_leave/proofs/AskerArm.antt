@@ -29,19 +29,13 @@ use Rattle.hc_state.proofs.Dropping.{unbinds_limits}
 use Rattle.hc_on_leave.proofs.HeardRows.{live_at, waits_as, kept_as}
 use Rattle.hc_state.proofs.KeySteps.{not_lined, lined, comes_back, says_elsewhere}
 use Rattle.hc_on_leave.proofs.OneConsumer.{HoldsAsMuch, stands_moved}
+use Rattle.hc_on_leave.proofs.HeardExchange.{drop_none}
 use Rattle.hc_state.proofs.QueueArm.{becomes_by}
 
 -- WHERE NOTHING IS READ
 
 abbrev none : List ℕ
 none = []
-
-drop_none : (n : ℕ) (bytes : List ℕ) → bytes ≡ none → drop n bytes ≡ none
-drop_none n bytes empty = rw empty (by_count n)
-  where
-    by_count : (n : ℕ) → drop n none ≡ none
-    by_count zero = refl
-    by_count (suc n) = refl
 
 -- it waits in no line, and is bound to nothing
 pub record IsApartPlace (p : Place) : Type 0 where

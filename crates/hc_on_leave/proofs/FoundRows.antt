@@ -57,7 +57,7 @@ pub record IsUnfounded (m : Tables) (x : ℕ) : Type 0 where
   pub unbound : (d lo : ℕ) (hi : Option ℕ) (how : BoundBy) (u : rows.Consumer) → m.consumer d ≡ Some u → u.place ≡ place.Bound x lo hi how → ⊥
   pub apart : (y : ℕ) (e : Exchange) → y ≢ x → m.exchange y ≡ Some e → family y e ≢ x
 
-any_some : (f : ℕ → Bool) (n : ℕ) (ns : List ℕ) → Among n ns → f n ≡ true → list_any f ns ≡ true
+pub any_some : (f : ℕ → Bool) (n : ℕ) (ns : List ℕ) → Among n ns → f n ≡ true → list_any f ns ≡ true
 any_some f n [] among on = absurd among
 any_some f n (m ∷ ns) (inl here) on = let first : f m ≡ true = ap f here ∙ on in rw first refl
 any_some f n (m ∷ ns) (inr there) on = let rest : list_any f ns ≡ true = any_some f n ns there on in rw rest (either (f m))

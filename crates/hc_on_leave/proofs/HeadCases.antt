@@ -6,6 +6,7 @@ use Rattle.hc_rules.specs.declared.heads.HeadCase.TheVariants as case
 use Rattle.hc_rules.specs.declared.need.Route.TheVariants as route
 use Rattle.hc_effects.proofs.FoundBy.{CaseBy, case_by}
 use Rattle.hc_effects.proofs.FoundBy as cases
+use Rattle.hc_effects.proofs.WrittenEffects.{by_turn}
 
 abbrev turned : Bool → Bool → Bool → Bool → HeadCase → HeadCase
 turned bad asked selects kept rest =
@@ -44,12 +45,9 @@ parts_of true asked kept other is off = absurd (let never : case.TurnBad ≡ cas
 parts_of false false kept other is off = absurd (off is)
 parts_of false true kept other is off = (refl, refl)
 
-by_304 : {v : HeadView} → CaseBy v case.NotValidated → (route_of v.need ≡ route.Turn) × (v.status ≡ 304)
-by_304 (cases.not_validated way status) = (way, status)
-
 module _ (v : HeadView) (unselected : head_case (record v { selects = false }) ≡ case.NotValidated) where
   pub it_is : (route_of v.need ≡ route.Turn) × (v.status ≡ 304)
-  it_is = by_304 (subst (CaseBy (record v { selects = false })) unselected (case_by (record v { selects = false })))
+  it_is = by_turn (subst (CaseBy (record v { selects = false })) unselected (case_by (record v { selects = false })))
 
   passes : rest v ≡ case.PassesBy
   passes = (let status = it_is.1 in rw status refl)

@@ -14,6 +14,7 @@ use Rattle.hc_model.specs.Owners as owners
 use Rattle.hc_model.specs.Rows as rows
 use Rattle.hc_effects.proofs.FirstKeeps.{is_new}
 use Rattle.hc_effects.proofs.Tests.{none_some}
+use Rattle.hc_effects.proofs.EventsKeep.{no_head}
 use Rattle.hc_state.specs.declared.consumer.Consumer.{Consumer}
 use Rattle.hc_state.specs.declared.rows.Rows.{Rows}
 use Rattle.hc_state.specs.Facts.{Facts}
@@ -38,10 +39,6 @@ headless_of (Some o) accepted = record { o = o; there = refl; headless = by_test
     by_test true at h = none_some _ (sym h)
 
 -- THE EXCHANGE
-
-pub head_none : (h : Option Response) → is_some h ≡ false → h ≡ None
-head_none None off = refl
-head_none (Some response) off = false_true (sym off)
 
 -- what is kept of it
 pub runs_as : {B : Type 0} {g : Ghosts B} {lim : Limits} (r : Rows B g) (t : Tables) (x : ℕ) (o : Open) (w : Exchange) → RowsStand lim r t → (table_of r.exchanges x).running ≡ Some o → t.exchange x ≡ Some w → IsRunning t x o w

@@ -29,7 +29,7 @@ use Rattle.hc_state.proofs.Answering.{does_answered}
 use Rattle.hc_state.proofs.Fallbacks.{held_alike, same}
 use Rattle.hc_on_leave.proofs.HeardRows.{heard_row}
 use Rattle.hc_state.proofs.Maps.{merely_below}
-use Rattle.hc_on_leave.proofs.PieceRows.{s, like_same, stands_pieced}
+use Rattle.hc_on_leave.proofs.PieceRows.{s, like_same, stands_pieced, none_is}
 
 -- HOW FAR IT REACHES
 
@@ -86,10 +86,6 @@ brought_of t x bytes goes = by_row (t.exchange x) refl goes
     by_row : (e : Option Exchange) → t.exchange x ≡ e → piece_refusal (as_open (t.exchange x)) (length bytes) ≡ None → Brought t x (length bytes)
     by_row None at accepted = none_some _ (sym (ap (λ e. piece_refusal (as_open e) (length bytes)) (sym at) ∙ accepted))
     by_row (Some w) at accepted = record { w = w; row = at; taken = taken (length bytes) w (sym (ap (λ e. piece_refusal (as_open e) (length bytes)) at) ∙ accepted) }
-
-none_is : {A : Type 0} (o : Option A) → is_some o ≡ true → is_none o ≡ false
-none_is None h = false_true h
-none_is (Some a) h = refl
 
 pub open_unended : (t : Tables) (law : Lawful t) (x : ℕ) (w : Exchange) → t.exchange x ≡ Some w → w.is_open ≡ true → w.is_ended ≡ false
 open_unended t law x w row opened = not_true w.is_ended (λ on. false_true (sym (law.places.ended x w row on) ∙ opened))

@@ -48,7 +48,7 @@ like_same o p is = record {
   usable_row = ap is_usable_row is;
 }
 
-none_is : {A : Type 0} (o : Option A) → is_some o ≡ true → is_none o ≡ false
+pub none_is : {A : Type 0} (o : Option A) → is_some o ≡ true → is_none o ≡ false
 none_is None h = false_true h
 none_is (Some a) h = refl
 

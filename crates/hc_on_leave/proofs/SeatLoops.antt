@@ -17,7 +17,7 @@ pub record AreChangedBelow (i : ℕ) (kept : KeyTable) (key : List ℕ) (f : Con
   pub rest : (d : ℕ) → ((j : ℕ) → j < i → seated_at kept key j ≡ Some d → ⊥) → get nat_eq new d ≡ get nat_eq old d
   pub len : hash_map_len new ≡ hash_map_len old
 
-last_or : (j i : ℕ) → j < i + 1 → (j ≡ i) ⊎ (j < i)
+pub last_or : (j i : ℕ) → j < i + 1 → (j ≡ i) ⊎ (j < i)
 last_or j i lt = elim (same_or j i) [ inl same ↦ inl same | inr ne ↦ inr (omega (arith, lt, ne)) ]
 
 module _ (kept : KeyTable) (key : List ℕ) (f : Consumer → Consumer) (old : Numbered Consumer) where

@@ -99,7 +99,7 @@ stores_of r t facts x q bytes stands goes grows = by_brought (brought_by (table_
         let entry : IsEntry t p kept.1.0 v = subst (λ (o : Option Representation). KeepsEntry t p (Some kept.1.0) o) (sym (ap t.representation it.0) ∙ it.1.1) (subst (λ (o : Option Kept). KeepsEntry t p o (t.representation p)) kept.1.1 (stands.entries.each p)) in
         record { w = b.w; row = b.row; taken = b.taken; of_q = it.0 ∙ kept.0; v = v; there = it.1.1; fresh = sym entry.is_lost ∙ kept.1.2 }
 
-none_by : (stored body : Option Cell) → (is_some stored ≡ true → stored ≡ body) → body ≡ None → stored ≡ None
+pub none_by : (stored body : Option Cell) → (is_some stored ≡ true → stored ≡ body) → body ≡ None → stored ≡ None
 none_by None body same none = refl
 none_by (Some cell) body same none = same refl ∙ none
 

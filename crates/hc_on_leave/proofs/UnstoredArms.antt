@@ -27,6 +27,7 @@ use Rattle.hc_effects.proofs.HeadFacts.{stays_open, undue}
 use Rattle.hc_effects.proofs.HeadEffects as does
 use Rattle.hc_effects.proofs.LettingGo.{may_let_go}
 use Rattle.hc_effects.proofs.Tests.{none_some}
+use Rattle.hc_effects.proofs.UpdateEffects.{unchanged}
 use Rattle.hc_state.specs.declared.rows.Rows.{Rows}
 use Rattle.hc_state.specs.Changes.{ChangesAt, with_due}
 use Rattle.hc_state.specs.Facts.{Facts}
@@ -206,9 +207,6 @@ anew_of case.LaterChanged on = false_true on
 anew_founds : (k : HeadCase) → Anew k → is_founding (Some k) ≡ false
 anew_founds _ unselected = refl
 anew_founds _ changed = refl
-
-not_selected : {h : HeadView} → CaseBy h case.NotValidated → h.status ≡ 304
-not_selected (cases.not_validated way status) = status
 
 -- where it stands that waits to found or to join
 first_awaits : (x : ℕ) (v : rows.Consumer) (way : Route) → StandsFor x v way → way ≡ route.Hole → v.shown ≡ false → awaited_exchange v.place ≡ Some x
@@ -403,7 +401,7 @@ module _ {B : Type 0} {g : Ghosts B} {lim : Limits} (r mid u : Rows B g) (t : Ta
       or_last false = refl
 
   anew_does : (k : HeadCase) → Anew k → Is k → ShutDoes k back
-  anew_does _ unselected is = ended_does [] w.aim back (bodiless (not_selected (by_case case.NotValidated is))) (does.not_validated lim t facts.law now x response goes w awaits.row v awaits.asker is)
+  anew_does _ unselected is = ended_does [] w.aim back (bodiless (unchanged (by_case case.NotValidated is))) (does.not_validated lim t facts.law now x response goes w awaits.row v awaits.asker is)
   anew_does _ changed is = does.first_changed lim t facts.law now x response goes w awaits.row v awaits.asker is
 
   pub anew_answered : (f : Rows B g) (gone : Option ℕ) (k : HeadCase) → starts_anew k ≡ true → Is k → gone ≡ goes_with t w response k → RowsStand lim mid (moved back) → ((m : Tables) → MayLetGo m → RowsStand lim u m → RowsStand lim f (let_some_go now gone m)) → Answered lim (shelf_of r.entries).faults f t before out now ev

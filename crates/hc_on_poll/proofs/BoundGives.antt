@@ -39,13 +39,11 @@ use Rattle.hc_state.proofs.Counting.{stands_counted}
 use Rattle.hc_state.proofs.QueueArm.{becomes_by}
 use Rattle.hc_state.proofs.ReaderSteps.{held_same, exchange_reading, stands_reading}
 use Rattle.hc_on_poll.proofs.ShowStored.{IsBoundRow}
+use Rattle.hc_on_poll.proofs.ReadPast.{itself}
 use Rattle.hc_state.proofs.Ties.{runs_same}
+use Rattle.hc_partial.proofs.HoleLemmas.{present-none}
 
 -- WHAT ISN'T STORED, PAST WHAT IS
-
-there_not : (o : Option Cell) → is_some o ≡ true → is_none o ≡ false
-there_not None on = false_true on
-there_not (Some cell) on = refl
 
 same_places : (f : Cells) (a b m n : ℕ) → a ≡ b → m ≡ n → first_place is_none f a m ≡ first_place is_none f b n
 same_places f a b m n p q = ap₂ (λ (i j : ℕ). first_place is_none f i j) p q
@@ -55,7 +53,7 @@ first_skip f zero n p each le = same_places f p (p + 0) n (n - 0) (omega arith) 
 first_skip f (suc l) zero p each le = absurd (let none : ⊥ = omega (arith, le) in none)
 first_skip f (suc l) (suc n) p each le =
     let here : is_some (f p) ≡ true = subst (λ (m : ℕ). is_some (f m) ≡ true) (let at : p + 0 ≡ p = omega arith in at) (each 0 (omega arith)) in
-    let there : is_none (f p) ≡ false = there_not (f p) here in
+    let there : is_none (f p) ≡ false = present-none (f p) here in
     let rest = first_skip f l n (p + 1) (λ i lt. subst (λ (m : ℕ). is_some (f m) ≡ true) (let at : p + (i + 1) ≡ p + 1 + i = omega arith in at) (each (i + 1) (omega (arith, lt)))) (omega (arith, le)) in
     ap (λ (b : Bool). if b then p else first_place is_none f (p + 1) n) there
     ∙ (rest ∙ same_places f (p + 1 + l) (p + suc l) (n - l) (suc n - suc l) (omega arith) (omega arith))
@@ -89,9 +87,6 @@ given_drop n m body bytes is = taken n m body ∙ ap (λ (xs : List ℕ). drop (
   where
     taken : (n m : ℕ) (xs : List ℕ) → drop n (drop m xs) ≡ drop (m + length (take n (drop m xs))) xs
     taken n m xs = grind (arith, common_steps)
-
-itself : (t : Tables) (c : ℕ) (row : Option rows.Consumer) → (with_consumer c row t).consumer c ≡ row
-itself t c row = rw (eqb-same c) refl
 
 -- WHAT IS DONE
 

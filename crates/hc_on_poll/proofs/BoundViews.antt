@@ -17,7 +17,7 @@ use Rattle.hc_event.specs.declared.place.Place.TheVariants as place
 use Rattle.hc_model.specs.Origins as origins
 use Rattle.hc_model.specs.Rows as rows
 use Rattle.hc_model.specs.Sound as sound
-use Rattle.hc_effects.proofs.Basics.{same_functions, some_row}
+use Rattle.hc_effects.proofs.Basics.{same_functions, some_row, number_is as is_it}
 use Rattle.hc_effects.proofs.HoleLemmas.{first_from, first_before, first_passes}
 use Rattle.hc_effects.proofs.Tests.{none_some}
 use Rattle.hc_state.specs.declared.consumer.Consumer.{Consumer}
@@ -187,10 +187,6 @@ begins_with f p n run is = by_cell (f p) refl
 run_x : (x o : ℕ) (bytes : List ℕ) (run : Run) → run_of x o bytes ≡ Some run → run.x ≡ x
 run_x x o [] run is = none_some run is
 run_x x o (b ∷ bytes) run is = ap (λ (z : Run). z.x) (sym (some_is _ run is))
-
-is_it : (o : Option ℕ) (c : ℕ) → is_number o c ≡ true → o ≡ Some c
-is_it None c on = false_true on
-is_it (Some n) c on = let same : n ≡ c = grind (arith, nat_tests) in ap Some same
 
 -- what is held for the detached reader, of its own exchange
 pub record Holds {B : Type 0} {g : Ghosts B} (r : Rows B g) (t : Tables) (c q : ℕ) (k : Consumer) (v : rows.Consumer) (p : Representation) : Type 0 where

@@ -41,6 +41,7 @@ use Rattle.hc_on_poll.proofs.OpenArm as waiting
 use Rattle.hc_on_poll.proofs.OpenKeys.{key_opened}
 use Rattle.hc_on_poll.proofs.OpenStands.{stands_opened}
 use Rattle.hc_on_poll.proofs.PastArm.{idle_reads, idle_lives, queues_as}
+use Rattle.hc_on_poll.proofs.PlanArms.{or_first}
 use Rattle.hc_state.proofs.Ties.{key_same, kept_row}
 use Rattle.hc_state.proofs.TurnTies.{turn_next}
 
@@ -58,10 +59,6 @@ idle_turn key v idle = then_false (is_in_line key (Some v)) (holds_place v.place
     by_place (place.Direct x) on = refl
     by_place (place.Down why) on = refl
     by_place place.Over on = refl
-
-in_first : (a b d : Bool) → a ≡ true → (a || b || d) ≡ true
-in_first true b d on = refl
-in_first false b d on = false_true on
 
 module _ {B : Type 0} {g : Ghosts B} {lim : Limits} (r mid : Rows B g) (t : Tables) (c : ℕ) (k : Consumer) (v : rows.Consumer) (stands : RowsStand lim r t) (row : t.consumer c ≡ Some v) (kept : IsKept t k v) (idle : is_idle_at k.place ≡ true)
     (lined_up_too : RowsStand lim mid (with_consumer c (Some (in_line v)) t)) (next : IsNext r.keys c k) where
@@ -112,7 +109,7 @@ module _ {B : Type 0} {g : Ghosts B} {lim : Limits} (r mid : Rows B g) (t : Tabl
       ]
 
   pub stands_in : is_in c (line_in b) ≡ true
-  stands_in = in_first (is_among c b.in_line) (is_among c b.passed) (is_among c b.away) ((lined_up_too.keys its).in_line c ∙ line_here)
+  stands_in = or_first (is_among c b.in_line) (is_among c b.passed) (is_among c b.away) ((lined_up_too.keys its).in_line c ∙ line_here)
 
   -- WHAT IS KEPT BY KEY
 

@@ -45,6 +45,7 @@ use Rattle.hc_effects.proofs.PlanBy as plans
 use Rattle.hc_effects.proofs.TurnMoves.{Does, Queues, does_polled}
 use Rattle.hc_effects.proofs.TurnMoves as does
 use Rattle.hc_effects.proofs.Tests.{none_some}
+use Rattle.hc_effects.proofs.OpenedAs.{bypassing_is as bypassing_as}
 use Rattle.hc_state.specs.declared.consumer.Consumer.{Consumer}
 use Rattle.hc_state.specs.declared.rows.Rows.{Rows}
 use Rattle.hc_state.specs.Arms.{queues, IsQueued}
@@ -74,7 +75,7 @@ use Rattle.hc_rules.proofs.RangeReads.{bytes_eq-same}
 
 -- WHO WAITS FOR ITS KEY
 
-or_first : (a b d : Bool) → a ≡ true → (a || b || d) ≡ true
+pub or_first : (a b d : Bool) → a ≡ true → (a || b || d) ≡ true
 or_first true b d on = refl
 or_first false b d on = false_true on
 
@@ -82,10 +83,6 @@ or_second : (a b d : Bool) → b ≡ true → (a || b || d) ≡ true
 or_second true b d on = refl
 or_second false true d on = refl
 or_second false false d on = false_true on
-
-bypassing_as : (request : Request) → (class_of request).bypassing ≡ is_bypassing request
-unfolding class_of
-bypassing_as request = refl
 
 both_off : (a b : Bool) → (not a && not b) ≡ true → (a ≡ false) × (b ≡ false)
 both_off false false on = (refl, refl)

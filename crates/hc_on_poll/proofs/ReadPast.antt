@@ -430,7 +430,7 @@ unread_else x y z v n at ne = rw (at, eqb-other x y ne) refl
 unstored_past : (t : Tables) (x y : ℕ) (z : Exchange) (p : Representation) (v : rows.Consumer) (n : ℕ) → v.place ≡ place.Direct x → unstored_bytes t y z p (Some (record v { given = n })) ≡ unstored_bytes t y z p (Some v)
 unstored_past t x y z p v n at = rw at refl
 
-itself : (t : Tables) (c : ℕ) (row : Option rows.Consumer) → (with_consumer c row t).consumer c ≡ row
+pub itself : (t : Tables) (c : ℕ) (row : Option rows.Consumer) → (with_consumer c row t).consumer c ≡ row
 itself t c row = rw (eqb-same c) refl
 
 module _ {B : Type 0} {g : Ghosts B} {lim : Limits} (r u : Rows B g) (t : Tables) (facts : Facts lim t) (now want c x : ℕ) (k : Consumer) (before out : List Act) (stands : RowsStand lim r t) (there : get nat_eq r.consumers c ≡ Some k) (at : IsShown x k) (wants : 0 < want)

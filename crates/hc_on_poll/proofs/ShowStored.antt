@@ -30,6 +30,7 @@ use Rattle.hc_model.specs.Rows as rows
 use Rattle.hc_model.specs.Sound as sound
 use Rattle.hc_effects.proofs.ShowEffects.{shows_reader}
 use Rattle.hc_effects.proofs.Tests.{none_some}
+use Rattle.hc_effects.proofs.Basics.{some_row}
 use Rattle.hc_state.specs.declared.consumer.Consumer.{Consumer}
 use Rattle.hc_state.specs.declared.rows.Rows.{Rows}
 use Rattle.hc_state.specs.Changes.{ChangesAt, once_shown}
@@ -62,15 +63,11 @@ pub record IsBoundRow (t : Tables) (c q : ℕ) (how : BoundBy) (k : Consumer) : 
   pub p : Representation
   pub there : t.representation q ≡ Some p
 
-pub some_there : {A : Type 0} (o : Option A) → is_some o ≡ true → (a : A) × (o ≡ Some a)
-some_there None on = false_true on
-some_there (Some a) on = (a, refl)
-
 pub bound_row_of : {B : Type 0} {g : Ghosts B} {lim : Limits} (r : Rows B g) (t : Tables) (law : Lawful t) (c q lo : ℕ) (hi : Option ℕ) (how : BoundBy) (k : Consumer) → RowsStand lim r t → get nat_eq r.consumers c ≡ Some k → k.place ≡ place.Bound q lo hi how → IsBoundRow t c q how k
 bound_row_of r t law c q lo hi how k stands there at =
     let (v, row, kept) = kept_row t k (t.consumer c) (subst (λ o. KeepsConsumer t o (t.consumer c)) there (stands.consumers c)) in
     let here = sym kept.place ∙ at in
-    let rep = some_there (t.representation q) (law.sound.numbered.bound_to q c v (sound.is_bound lo hi how row here)) in
+    let rep = some_row (t.representation q) (law.sound.numbered.bound_to q c v (sound.is_bound lo hi how row here)) in
     record { v = v; row = row; kept = kept; lo = lo; hi = hi; at = here; p = rep.0; there = rep.1 }
 
 -- who is bound to what is kept
@@ -257,7 +254,7 @@ module _ (t : Tables) {limits : _} (facts : Facts limits t) (c q : ℕ) (how : B
 
         by_end : (o : Option ℕ) → k.hi ≡ o → span_to k.lo o ≡ Some x → IsWithin x n
         by_end None to none = none_some x none
-        by_end (Some m) to is_x = let ends = some_there rd.hi known_end in fits_at m ends.0 to ends.1 is_x
+        by_end (Some m) to is_x = let ends = some_row rd.hi known_end in fits_at m ends.0 to ends.1 is_x
 
     -- then its length is known
     pub part_known : rd.v.shown ≡ false → is_part k.class how e.head.status ≡ true → (x : Span) → span_to k.lo k.hi ≡ Some x → option_or e.head.total k.hi ≡ None → ⊥

@@ -17,7 +17,7 @@ first_place_is test f (suc n) p q le within before at = elim (cases_lt p q) [
       rw passes (sym same)
 ]
 
-present-none : (o : Option Cell) → is_some o ≡ true → is_none o ≡ false
+pub present-none : (o : Option Cell) → is_some o ≡ true → is_none o ≡ false
 present-none None h = absurd (cc)
 present-none (Some c) h = refl
 

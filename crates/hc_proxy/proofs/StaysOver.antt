@@ -1,7 +1,7 @@
 -- Who was told in a turn that it is over is over, behind each entry of the turn.
 use Rattle.std.proofs.Common.{◌≡◌, inl, inr, ℕ, true, false, Option, Some, None, refl, ap, sym, ◌∙◌}
 use Rattle.hc_text.proofs.Basics.{or_cases}
-use Rattle.hc_effects.proofs.Vocabulary.{leaves_in, Place, Limits, consumer_after, consumer_settled, consumer_acted, consumer_heard, is_live, is_live_place, Entry, Lawful, Tables, Consumer, IsOwed, after}
+use Rattle.hc_effects.proofs.Vocabulary.{leaves_in, Limits, consumer_after, consumer_settled, consumer_acted, consumer_heard, is_live, Entry, Lawful, Tables, Consumer, IsOwed, after}
 use Rattle.hc_event.specs.declared.place.Place.TheVariants as place
 use Rattle.hc_proxy.specs.Carrying.{acts_in}
 use Rattle.hc_proxy.specs.Rows.{Proxy}
@@ -10,6 +10,7 @@ use Rattle.hc_proxy.specs.Invariants.{AreOver}
 use Rattle.hc_proxy.proofs.Holders.{leaves_append}
 use Rattle.hc_laws.proofs.LiveAfter.{consumer_behind, dead_stays}
 use Rattle.hc_laws.proofs.WhoLeaves.{told_over, told_live}
+use Rattle.hc_core.proofs.NobodyLive.{over_by as over_place}
 
 -- it started, and is over
 pub record IsOver (t : Tables) (c : ℕ) : Type 0 where
@@ -33,15 +34,6 @@ row_stays t e c k row = elim (consumer_behind t e c) as (λ _. (q : Consumer) ×
   | inl same ↦ (k, same ∙ row)
   | inr on ↦ (consumer_settled t e c k (consumer_acted t e c (consumer_heard t e c e.event k)), on.1 ∙ ap (consumer_after t e c) row)
 ]
-
-over_place : (p : Place) → is_live_place p ≡ false → p ≡ place.Over
-over_place place.Over h = refl
-over_place place.Line h = absurd (let never : true ≡ false = h in cc)
-over_place (place.Passed r kept) h = absurd (let never : true ≡ false = h in cc)
-over_place (place.Turn x) h = absurd (let never : true ≡ false = h in cc)
-over_place (place.Bound r lo hi how) h = absurd (let never : true ≡ false = h in cc)
-over_place (place.Direct x) h = absurd (let never : true ≡ false = h in cc)
-over_place (place.Down why) h = absurd (let never : true ≡ false = h in cc)
 
 some_row : (o : Option Consumer) → is_live o ≡ true → (k : Consumer) × (o ≡ Some k)
 some_row None h = absurd (let never : false ≡ true = h in cc)

@@ -1,8 +1,6 @@
 -- A field line that is spelled is read.
-use Rattle.std.proofs.Common.{◌≡◌, ℕ, ◌+◌, ◌≤◌, true, false, List, [], ◌∷◌, ◌++◌, length, Some, refl, ◌∙◌, inl, inr, arith, append_assoc, length-append, le-leb}
-use Rattle.std.specs.Prelude.{codes, Bool}
-use Rattle.std.specs.List.{list_all}
-use Rattle.std.proofs.lemmas.Bool.{and_parts, cases_eq, both_ways, and_from, not_from_false, ne_eqb}
+use Rattle.std.proofs.Common.{◌≡◌, ℕ, ◌+◌, ◌≤◌, true, false, List, [], ◌∷◌, ◌++◌, length, Some, refl, ◌∙◌, arith, append_assoc, length-append, le-leb}
+use Rattle.std.specs.Prelude.{codes}
 use Rattle.std.proofs.lemmas.List.Sums.{sum_by-append}
 use Rattle.http_header.specs.Token.{is_token_byte}
 use Rattle.hc_text.specs.Texts.{lacks}
@@ -10,23 +8,13 @@ use Rattle.hc_fields.specs.FieldList.{IsField, size_of, field_list_with}
 use Rattle.hc_fields.specs.Lines.{field_text, is_lower_byte}
 use Rattle.hc_fields.proofs.Ends.{IsField-last, IsFieldList-prefix, sorted-last, put-last}
 use Rattle.hc_fields.proofs.FieldTexts.{IsLine-field}
-use Rattle.hc_fields.proofs.ReadLemmas.{IsCut-field}
+use Rattle.hc_fields.proofs.ReadLemmas.{IsCut-field, lacks-kind as lacks-failing}
 use Rattle.hc_sched.specs.FieldLines.{field_parts, is_lower_token, has_room, may_follow, field_of}
 use Rattle.hc_sched.specs.Schedule.{IsHead}
 use Rattle.hc_text.proofs.Cutting.{cut-first, behind-append, lacks-append}
 
 abbrev pub Pair : Type 0
 Pair = List ℕ × List ℕ
-
--- a byte that fails a test does not stand in a text of bytes that pass it
-pub lacks-failing : (p : ℕ → Bool) (b : ℕ) (text : List ℕ) → p b ≡ false → list_all p text ≡ true → lacks b text ≡ true
-lacks-failing p b [] fails h = refl
-lacks-failing p b (x ∷ text) fails h =
-    let both = and_parts (p x) (list_all p text) h in
-    elim (cases_eq x b) [
-      | inl same ↦ absurd (both_ways _ fails (rw same at both.0))
-      | inr other ↦ and_from _ _ (not_from_false _ (ne_eqb x b other)) (lacks-failing p b text fails both.1)
-    ]
 
 -- the line of a field
 abbrev pub line_of : Pair → List ℕ

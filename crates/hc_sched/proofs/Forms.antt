@@ -18,7 +18,7 @@ use Rattle.hc_text.proofs.Cutting.{cut-first, lacks-append}
 use Rattle.hc_text.proofs.Cuts.{lacks-decimal}
 use Rattle.hc_sched.proofs.Plain.{plain_of-decimal, plain-short}
 use Rattle.hc_sched.proofs.Hex.{IsPiece, is_piece_text-of, lacks-piece_text, length-piece_text}
-use Rattle.hc_sched.proofs.FieldReads.{lacks-failing}
+use Rattle.hc_fields.proofs.ReadLemmas.{lacks-kind}
 
 numbered-is : (n : ℕ) (rest : List ℕ) → IsSmall n → number_and_rest (decimal n ++ 32 ∷ rest) ≡ Some (n, rest)
 unfolding number_and_rest
@@ -74,8 +74,8 @@ method-short method h =
     let inner = and_parts _ _ outer.0 in
     let first = and_parts _ _ inner.0 in
     record {
-      spaces = lacks-failing is_token_byte 32 method space_ends first.0;
-      feeds = lacks-failing is_token_byte 10 method feed_ends first.0;
+      spaces = lacks-kind is_token_byte 32 method space_ends first.0;
+      feeds = lacks-kind is_token_byte 10 method feed_ends first.0;
       short = leb-true (length method) 15 inner.1;
     }
 

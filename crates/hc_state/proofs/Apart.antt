@@ -24,7 +24,7 @@ use Rattle.hc_state.proofs.Unbinding.{entries_unbound, user_kept}
 
 -- TESTS
 
-or_offs : (a b d : Bool) → (a || b || d) ≡ false → (a ≡ false) × ((b ≡ false) × (d ≡ false))
+pub or_offs : (a b d : Bool) → (a || b || d) ≡ false → (a ≡ false) × ((b ≡ false) × (d ≡ false))
 or_offs false false d off = (refl, (refl, off))
 or_offs false true d off = false_true (sym off)
 or_offs true b d off = false_true (sym off)

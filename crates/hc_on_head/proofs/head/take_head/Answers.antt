@@ -1,8 +1,9 @@
 use Rattle.std.proofs.Common.{ap, arith}
 use Rattle.hc_state.specs.Heads.{starts_anew}
-use Rattle.hc_on_head.proofs.HeadTold.{live_now, good_as, founds_as, waits_as_told, told_as, past_of_runs, past_store, dooms_past, told_dooming, told_unselected, few_kept}
+use Rattle.hc_on_head.proofs.HeadTold.{live_now, good_as, founds_as, waits_as_told, told_as, past_of_runs, past_store, dooms_past, told_dooming, told_unselected}
 use Rattle.hc_on_head.proofs.JoinHeads.{joins_as, unvalidated_as}
 use Rattle.hc_state.proofs.Words.{ok_then}
+use Rattle.hc_state.proofs.Kept.{few_kept}
 use Rattle.hc_on_head.proofs.head.take_head.Goals as goal
 
 pub case_of-case-requires-clause-live : goal.case_of-case-requires-clause-live

@@ -4,8 +4,9 @@ use Rattle.hc_effects.proofs.Vocabulary.{act_list, is_denied, IsEventWithinLimit
 use Rattle.hc_event.specs.declared.event.Event.TheVariants as event
 use Rattle.hc_core.specs.Steps as core
 use Rattle.hc_front.specs.Watching.{ChangesAt, newly}
-use Rattle.hc_front.proofs.FrontPaths.{on_ok_two, on_err_by, truncated, none_more, behind_all, without_within, has_denied, has_watched}
+use Rattle.hc_front.proofs.FrontPaths.{on_err_by, truncated, none_more, behind_all, without_within, has_denied, has_watched}
 use Rattle.hc_front.proofs.front.Front.start_watched.Goals as goal
+use Rattle.hc_state.proofs.Words.{on_ok_two}
 
 pub step-requires-clause-within_limits : goal.step-requires-clause-within_limits
 step-requires-clause-within_limits g c =

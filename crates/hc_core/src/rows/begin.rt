@@ -61,7 +61,8 @@ pub(crate) fn begin_with<B: Backend>(
     rows: &mut Rows<B>,
     contents: &Contents,
 ) -> Result<(), StoreError>
-    requires fit { may_begin (shelf_of rows.old.entries).limits (plain_contents contents.now) ≡ true }
+    requires fit { may_begin (shelf_of rows.old.entries).limits
+        (plain_contents contents.now) ≡ true }
     requires start { RowsStand (shelf_of rows.old.entries).limits rows.old
         (first_tables (with_items [] (plain_contents contents.now))) }
     requires none { (shelf_of rows.old.entries).used ≡ 0 }

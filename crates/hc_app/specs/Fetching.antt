@@ -60,7 +60,7 @@ pub record IsWritten (plan : FetchPlan) (events : List Timed) (f : History) (out
   pub out_is : written_of f ≡ out
 
 -- What was written is owed, and the line of how the fetch ended: all of the body is without a line, once the input ends. Else
--- the input ended early, an event decided, one comes from nobody, or a line is refused.
+-- the input ended early, an event decided, one is foreign, or a line is refused.
 pub data OwesFetch (plan : FetchPlan) : Reach → List ℕ → Owed → Type 0 where
   done : (text out : List ℕ) (items : List Item) (f : History) (total : ℕ) → Spells 0 text items →
       IsWritten plan (events_of 0 items) f out → ended_with f ≡ fetched.Done total →

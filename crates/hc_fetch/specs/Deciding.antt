@@ -11,13 +11,13 @@ use Rattle.hc_fetch.specs.declared.ended.FetchEnded.TheVariants as ended
 use Rattle.hc_fetch.specs.declared.plan.FetchPlan.{FetchPlan}
 use Rattle.hc_fetch.specs.Heads.{Head, heads_in, first_in, first_head, total_of}
 
--- consumers are the fetch's own, so a start or a cancel comes from nobody
+-- the fetch starts and cancels its consumers itself, so a start or a cancel that is read is foreign
 abbrev pub is_foreign : Event → Bool
 is_foreign (event.Start c request) = true
 is_foreign (event.Cancel c) = true
 is_foreign _ = false
 
--- some of these events came from nobody
+-- some of these events are foreign
 abbrev pub has_foreign : History → Bool
 has_foreign [] = false
 has_foreign (e ∷ f) = is_foreign e.event || has_foreign f

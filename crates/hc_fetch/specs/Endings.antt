@@ -33,7 +33,7 @@ abbrev pub failures : History → ℕ
 failures [] = 0
 failures (e ∷ f) = failures_in e.acts + failures f
 
--- None of these events came from nobody. With the fetch's own consumers they are a run, over a store that never fails, in which each
+-- None of these events is foreign. With the fetch's own consumers they are a run, over a store that never fails, in which each
 -- consumer reads one answer whole. What is written stands in the body that the first consumer was shown, from 0 on.
 pub record IsFetched (limits : Limits) (plan : FetchPlan) (f : History) : Type 0 where
   pub run : IsRun limits no_contents (cache_history plan f)
@@ -50,7 +50,7 @@ pub record WritesAll (limits : Limits) (plan : FetchPlan) (events : List Timed) 
   pub events_are : events_in f ≡ events
   pub taken : Takes out out' (written_of f)
 
--- the events are these, or these and one from nobody
+-- the events are these, or these and a foreign one
 pub data AreEvents (f : History) : List Timed → Type 0 where
   all : {events : List Timed} → events_in f ≡ events → AreEvents f events
   before_foreign : {events : List Timed} (next : Timed) → is_foreign next.event ≡ true →
@@ -85,7 +85,7 @@ pub data Fetches (limits : Limits) (plan : FetchPlan) (left left' out out' : Opt
       IsFetched limits plan (e ∷ f) → events_in (e ∷ f) ≡ first → is_undecided plan f ≡ true →
       decided_by plan f e.acts ≡ Some by → Takes out out' (written_of (e ∷ f)) →
       Fetches limits plan left left' out out' by
-  -- the next event comes from nobody
+  -- the next event is foreign
   foreign : (text : List ℕ) (first rest : List Timed) (next : Timed) (f : History) →
       Gives left left' text → IsSteppedAtOnce 0 text (first ++ next ∷ []) rest →
       is_foreign next.event ≡ true → WritesAll limits plan first f out out' →

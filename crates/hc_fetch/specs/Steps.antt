@@ -80,7 +80,7 @@ pub record Answers (s : Fetching) (now : ℕ) (event : Event) (text : List ℕ) 
   pub hears : (f : History) → StandsForFetch s f →
       Hears s u (record { now = now; event = event; acts = acts }) f text
 
--- An event from nobody decides and isn't stepped; each other one is answered.
+-- A foreign event decides and isn't stepped; each other one is answered.
 pub data Tells (s : Fetching) (number now : ℕ) (event : Event) (text : List ℕ) (u : Fetching) : Type 0 where
   foreign : is_foreign event ≡ true → text ≡ [] → u.decided ≡ Some (ended.Foreign (s.count + 1)) →
       Tells s number now event text u

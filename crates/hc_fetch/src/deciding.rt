@@ -10,7 +10,7 @@ use crate::plan::FetchPlan;
 use hc_event::{Act, Event};
 use hc_fields::Fields;
 
-/// Whether an event comes from nobody: consumers are the fetch's own.
+/// Whether an event is foreign: the fetch starts and cancels its consumers itself.
 pub(crate) fn is_foreign(event: &Event) -> bool
     ensures { result ≡ is_foreign event.now }
 {

@@ -94,7 +94,7 @@ impl Fetching {
         requires count { (1 ≤ self.old.count) × (self.old.count ≤ 2 ^ 59) }
         requires few { AreFew (steps self.old.cache) (self.old.count - 1) self.old.first }
         requires small { bytes_received self.old.cache + received_in event.now < 2 ^ 61 }
-        requires open { is_some self.old.decided ≡ true }
+        requires answering { is_some self.old.decided ≡ true }
         requires empty { text.old.items ≡ [] }
         ensures { IfOk result (λ decides. IsAnswered self.old self.new now event.now
             text.new.items decides) }
@@ -129,7 +129,7 @@ impl Fetching {
         requires count { (1 ≤ self.old.count) × (self.old.count ≤ 2 ^ 59) }
         requires few { AreFew (steps self.old.cache) (self.old.count - 1) self.old.first }
         requires small { bytes_received self.old.cache + received_in event.now < 2 ^ 61 }
-        requires open { is_some self.old.decided ≡ true }
+        requires answering { is_some self.old.decided ≡ true }
         ensures { OnOk result (Steps self.old self.new now event.now (act_list acts.new)) }
     {
         self.begin(now, acts)?;
@@ -144,7 +144,7 @@ impl Fetching {
         requires count { (1 ≤ self.old.count) × (self.old.count ≤ 2 ^ 59) }
         requires few { AreFew (steps self.old.cache) (self.old.count - 1) self.old.first }
         requires small { bytes_received self.old.cache < 2 ^ 61 }
-        requires open { is_some self.old.decided ≡ true }
+        requires answering { is_some self.old.decided ≡ true }
         ensures { OnOk result (Begins self.old self.new now) }
     {
         if self.count > 1 {
@@ -163,7 +163,7 @@ impl Fetching {
         requires total { total < 2 ^ 62 }
         requires few { steps self.old.cache ≤ 2 ^ 59 + 1 }
         requires small { bytes_received self.old.cache < 2 ^ 61 }
-        requires open { is_some self.old.decided ≡ true }
+        requires answering { is_some self.old.decided ≡ true }
         ensures { OnOk result
             (Starts self.old self.new now total (part_count self.old.plan total)) }
     {
@@ -178,7 +178,7 @@ impl Fetching {
 
     /// Takes what was answered: what can be written now is appended. Gives what it decides.
     fn hear(&mut self, acts: &[Act], text: &mut Vec<u8>) -> Result<Option<FetchEnded>, NoMemory>
-        requires open { is_some self.old.decided ≡ true }
+        requires answering { is_some self.old.decided ≡ true }
         ensures { IfOk result (λ decides. Takes self.old self.new acts.now
             text.old.items text.new.items (by_failure acts.now) decides) }
     {
@@ -191,7 +191,7 @@ impl Fetching {
 
     /// Takes one act.
     fn hear_act(&mut self, act: &Act, text: &mut Vec<u8>) -> Result<Option<FetchEnded>, NoMemory>
-        requires open { is_some self.old.decided ≡ true }
+        requires answering { is_some self.old.decided ≡ true }
         ensures { IfOk result (λ decides. Takes self.old self.new (act.now ∷ [])
             text.old.items text.new.items None decides) }
     {
@@ -217,7 +217,7 @@ impl Fetching {
 
     /// A consumer is shown a head. Gives what it decides.
     fn see(&mut self, c: u64, r: u64, status: u16, fields: &Fields) -> Option<FetchEnded>
-        requires open { is_some self.old.decided ≡ true }
+        requires answering { is_some self.old.decided ≡ true }
         ensures { Sees self.old self.new
             (record { c = c; r = r; status = status; fields = fields.now }) result }
     {

@@ -46,14 +46,13 @@ use Rattle.hc_on_leave.proofs.HeardRows.{Asker, headless_of, runs_as}
 use Rattle.hc_state.proofs.Maps.{merely_true}
 use Rattle.hc_on_leave.proofs.RefuseArm.{stands_refused, closes_as}
 use Rattle.hc_on_head.proofs.RenewedArm.{stands_renewed}
-use Rattle.hc_state.proofs.SealArm.{stands_stayed}
-use Rattle.hc_state.proofs.ReaderSteps.{answered_since}
+use Rattle.hc_state.proofs.ReaderSteps.{answered_since, stands_read}
 use Rattle.hc_on_leave.proofs.UnstoredArms.{beside, unread_then, unwritten}
 
 -- WHERE WHAT IS STORED STAYS
 
 pub stands_unrenewed : {B : Type 0} {g : Ghosts B} {lim : Limits} (r u : Rows B g) (t : Tables) → KeepsBeside r u → shelf.Stays (shelf_of r.entries) (shelf_of u.entries) → RowsStand lim r t → RowsStand lim u t
-stands_unrenewed r u t rest same stands = stands_stayed r u t rest.last_start rest.consumers rest.exchanges rest.keys same stands
+stands_unrenewed r u t rest same stands = stands_read r u t rest.last_start rest.consumers rest.exchanges rest.keys same stands
 
 pub past_unrenewed : {B : Type 0} {g : Ghosts B} (r u : Rows B g) → KeepsBeside r u → shelf.Stays (shelf_of r.entries) (shelf_of u.entries) → Stands r → Stands u
 past_unrenewed r u rest same p = record {

@@ -66,7 +66,7 @@ use Rattle.hc_on_poll.proofs.PassesArm.{current_as}
 use Rattle.hc_on_poll.proofs.PastArm.{queues_as}
 use Rattle.hc_on_poll.proofs.PlanTies.{plans_are, unlooked}
 use Rattle.hc_state.proofs.Maps.{known_of, some_that, merely_true, merely_number}
-use Rattle.hc_state.proofs.SealArm.{stands_stayed}
+use Rattle.hc_state.proofs.ReaderSteps.{stands_read}
 use Rattle.hc_state.proofs.Ties.{kept_row}
 use Rattle.hc_state.proofs.TurnTies.{turn_with_is}
 use Rattle.hc_on_poll.proofs.WaitArms.{plans_move}
@@ -564,7 +564,7 @@ module _ {B : Type 0} {g : Ghosts B} (r : Rows B g) (a : Entries B g) (stays : S
   read = record r { entries = a }
 
   pub read_stands : {lim : Limits} (t : Tables) → RowsStand lim r t → RowsStand lim read t
-  read_stands t stands = stands_stayed r read t refl refl refl refl stays stands
+  read_stands t stands = stands_read r read t refl refl refl refl stays stands
 
   pub read_until : (now : ℕ) → ∥ StandsBy r now ∥₁ → ∥ StandsBy read now ∥₁
   read_until now some = ∥∥₁_map some (λ u.

@@ -2,52 +2,17 @@
 --
 -- To send nothing changes nothing, and to send some bytes and then more is to send them together. So the pieces that
 -- were taken are told as one (`sends-more`), of which the last may have been taken in part.
-use Rattle.std.proofs.Common.{◌≡◌, ℕ, ◌-◌, ◌<◌, ◌≤◌, List, [], ◌∷◌, ◌++◌, length, take, drop, Bool, true, false, eqb, Option, Some, None, refl, sym, ap, subst, ◌∙◌, inl, inr, arith, append_assoc, length-take, length-drop, lt-ltb, ltb}
+use Rattle.std.proofs.Common.{◌≡◌, ℕ, ◌-◌, ◌<◌, ◌≤◌, List, [], ◌∷◌, ◌++◌, length, take, drop, Bool, true, false, Option, Some, None, refl, sym, ap, subst, ◌∙◌, inl, inr, arith, append_assoc, length-take, length-drop, lt-ltb, ltb}
 use Rattle.std.specs.Prelude.{if◌then◌else◌, nat_lt}
-use Rattle.std.proofs.lemmas.List.{append-nil, take-append-drop, take-take}
+use Rattle.std.proofs.lemmas.List.{take-append-drop, take-take}
 use Rattle.std.proofs.lemmas.Bool.{cases_Bool, ltb-true}
-use Rattle.hc_wire.specs.Logs.{Log, Taker, Tells, changed_at, taking, with_sent}
+use Rattle.hc_wire.specs.Logs.{Log, Tells, with_sent}
+use Rattle.hc_wire.proofs.SentLemmas.{sent-none, tells-both}
 use Rattle.hc_origin.specs.Replies.{IsPiece, Sends}
-
-taking-none : (n : ℕ) (c : Taker) → taking [] false n c ≡ c
-taking-none n c = ap (λ (l : List ℕ). record c { sent = l }) (append-nil c.sent)
-
-changed-none : (k n : ℕ) (cs : List Taker) → changed_at k (taking [] false n) cs ≡ cs
-changed-none k n [] = refl
-changed-none k n (c ∷ cs) = elim (cases_Bool (eqb c.k k)) [
-  | inl on ↦ rw on (ap (λ (d : Taker). d ∷ cs) (taking-none n c))
-  | inr off ↦ rw off (ap (λ (ds : List Taker). c ∷ ds) (changed-none k n cs))
-]
-
-taking-more : (xs ys : List ℕ) (short : Bool) (n : ℕ) (c : Taker) → taking ys short n (taking xs false n c) ≡ taking (xs ++ ys) short n c
-taking-more xs ys short n c =
-    ap (λ (l : List ℕ). record c { sent = l; short = if short then Some n else c.short }) (append_assoc c.sent xs ys)
-
-changed-more : (k : ℕ) (xs ys : List ℕ) (short : Bool) (n : ℕ) (cs : List Taker)
-    → changed_at k (taking ys short n) (changed_at k (taking xs false n) cs) ≡ changed_at k (taking (xs ++ ys) short n) cs
-changed-more k xs ys short n [] = refl
-changed-more k xs ys short n (c ∷ cs) = elim (cases_Bool (eqb c.k k)) [
-  | inl on ↦ rw (on, on) (ap (λ (d : Taker). d ∷ cs) (taking-more xs ys short n c))
-  | inr off ↦ rw (off, off) (ap (λ (ds : List Taker). c ∷ ds) (changed-more k xs ys short n cs))
-]
-
--- THE LOG
-
-sent-none : (k : ℕ) (log : Log) → with_sent k [] false log ≡ log
-sent-none k log = ap (λ (cs : List Taker). record log { takers = cs }) (changed-none k (length log.calls) log.takers)
-
-sent-more : (k : ℕ) (xs ys : List ℕ) (short : Bool) (log : Log) → with_sent k ys short (with_sent k xs false log) ≡ with_sent k (xs ++ ys) short log
-sent-more k xs ys short log = ap (λ (cs : List Taker). record log { takers = cs }) (changed-more k xs ys short (length log.calls) log.takers)
 
 pub sends-none : (told : Option Log) (k : ℕ) (bytes : List ℕ) → Sends told told k bytes bytes false
 sends-none None k bytes = record { bytes = []; whole = refl; tells = refl }
 sends-none (Some log) k bytes = record { bytes = []; whole = refl; tells = ap Some (sym (sent-none k log)) }
-
-tells-more : (told mid new : Option Log) (k : ℕ) (xs ys : List ℕ) (short : Bool) → Tells told mid (with_sent k xs false) → Tells mid new (with_sent k ys short)
-    → Tells told new (with_sent k (xs ++ ys) short)
-tells-more None mid new k xs ys short first second = subst (λ (o : Option Log). Tells o new (with_sent k ys short)) first second
-tells-more (Some log) mid new k xs ys short first second =
-    subst (λ (o : Option Log). Tells o new (with_sent k ys short)) first second ∙ ap Some (sent-more k xs ys short log)
 
 -- one piece more, of which so many bytes were taken
 pub sends-more : (told mid new : Option Log) (k n : ℕ) (before left piece behind : List ℕ) (short : Bool) → Sends told mid k before left false
@@ -60,7 +25,7 @@ sends-more told mid new k n before left piece behind short sends is le rest tell
       ∙ (ap (λ (l : List ℕ). sends.bytes ++ (l ++ behind)) front
       ∙ (ap (λ (l : List ℕ). sends.bytes ++ (take n left ++ l)) rest
       ∙ (ap (λ (l : List ℕ). sends.bytes ++ l) (take-append-drop n left) ∙ sends.whole)));
-  tells = tells-more told mid new k sends.bytes (take n piece) short sends.tells tells;
+  tells = tells-both k sends.bytes (take n piece) short told mid new sends.tells tells;
 }
 
 short : (n m : ℕ) → n < m → nat_lt n m ≡ true

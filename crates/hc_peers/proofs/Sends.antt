@@ -1,54 +1,15 @@
 -- What a connection is sent in several goes, as if it was offered all of it at once. Sending nothing leaves the wire's log
--- as it is, and sending twice, the first time without falling short, is sending both texts at once: that is shown for one
--- connection, for the list of them, and for the log. An offer that took all of its bytes leaves nothing, so the next one
+-- as it is, and sending twice, the first time without falling short, is sending both texts at once. An offer that took all of its bytes leaves nothing, so the next one
 -- begins where it ended; one that leaves something is the last. The lemmas at the end put three offers together, as a box
 -- makes them of its three parts.
-use Rattle.std.proofs.Common.{◌≡◌, ℕ, ◌+◌, ◌<◌, ◌≤◌, List, [], ◌∷◌, ◌++◌, length, take, drop, Bool, false, Option, Some, None, eqb, refl, sym, ap, ◌∙◌, inl, inr, arith, append_assoc, length-append, length-drop}
+use Rattle.std.proofs.Common.{◌≡◌, ℕ, ◌+◌, ◌<◌, ◌≤◌, List, [], ◌∷◌, ◌++◌, length, take, drop, false, Option, refl, sym, ap, ◌∙◌, arith, length-append, length-drop}
 use Rattle.std.specs.Prelude.{nat_lt}
-use Rattle.std.proofs.lemmas.Bool.{cases_Bool}
 use Rattle.std.proofs.lemmas.Bool.Decides.{nat_tests}
-use Rattle.std.proofs.lemmas.List.{append-nil, drop-append-le, take-append-le}
+use Rattle.std.proofs.lemmas.List.{drop-append-le, take-append-le}
 use Rattle.std.proofs.Math.Seq.{take-length, take-append-add, drop-append-add}
-use Rattle.hc_wire.specs.Logs.{Log, Taker, Tells, with_sent, changed_at, taking}
+use Rattle.hc_wire.specs.Logs.{Log, Tells, with_sent}
+use Rattle.hc_wire.proofs.SentLemmas.{tells-none, tells-both}
 use Rattle.hc_peers.specs.Offers.{Offers, OffersSome}
-
--- NOTHING IS SENT
-
-taking-none : (n : ℕ) (c : Taker) → taking [] false n c ≡ c
-taking-none n c = rw (append-nil c.sent) refl
-
-changed-none : (k n : ℕ) (cs : List Taker) → changed_at k (taking [] false n) cs ≡ cs
-changed-none k n [] = refl
-changed-none k n (c ∷ cs) = elim (cases_Bool (eqb c.k k)) [
-  | inl on ↦ rw on (ap (λ (d : Taker). d ∷ cs) (taking-none n c))
-  | inr off ↦ rw off (ap (λ (ds : List Taker). c ∷ ds) (changed-none k n cs))
-]
-
-pub sent-none : (k : ℕ) (log : Log) → with_sent k [] false log ≡ log
-sent-none k log = ap (λ (cs : List Taker). let l : Log = record log { takers = cs } in l) (changed-none k (length log.calls) log.takers)
-
-tells-none : (k : ℕ) (l : Option Log) → Tells l l (with_sent k [] false)
-tells-none k None = refl
-tells-none k (Some log) = ap Some (sym (sent-none k log))
-
--- ONE BEHIND ANOTHER
-
-taking-both : (n : ℕ) (a b : List ℕ) (s : Bool) (c : Taker) → taking b s n (taking a false n c) ≡ taking (a ++ b) s n c
-taking-both n a b s c = rw (append_assoc c.sent a b) refl
-
-changed-both : (k n : ℕ) (a b : List ℕ) (s : Bool) (cs : List Taker) → changed_at k (taking b s n) (changed_at k (taking a false n) cs) ≡ changed_at k (taking (a ++ b) s n) cs
-changed-both k n a b s [] = refl
-changed-both k n a b s (c ∷ cs) = elim (cases_Bool (eqb c.k k)) [
-  | inl on ↦ rw on (rw on (ap (λ (d : Taker). d ∷ cs) (taking-both n a b s c)))
-  | inr off ↦ rw off (rw off (ap (λ (ds : List Taker). c ∷ ds) (changed-both k n a b s cs)))
-]
-
-sent-both : (k : ℕ) (a b : List ℕ) (s : Bool) (log : Log) → with_sent k b s (with_sent k a false log) ≡ with_sent k (a ++ b) s log
-sent-both k a b s log = ap (λ (cs : List Taker). let l : Log = record log { takers = cs } in l) (changed-both k (length log.calls) a b s log.takers)
-
-tells-both : (k : ℕ) (a b : List ℕ) (s : Bool) (l m n : Option Log) → Tells l m (with_sent k a false) → Tells m n (with_sent k b s) → Tells l n (with_sent k (a ++ b) s)
-tells-both k a b s None m n first second = let h = rw first at second in h
-tells-both k a b s (Some log) m n first second = let h = rw first at second in h ∙ ap Some (sent-both k a b s log)
 
 -- OFFERS
 

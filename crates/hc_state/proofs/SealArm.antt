@@ -28,8 +28,6 @@ use Rattle.hc_state.specs.declared.stop.Stop.TheVariants as stop
 use Rattle.hc_state.specs.Stops.{brought_by, goes_with, stop_by, stop_at, stop_of, IsViewOf, kind_left}
 use Rattle.hc_stored.specs.declared.view.EntryView.{EntryView}
 use Rattle.hc_exch.specs.declared.row.Open.{Open}
-use Rattle.hc_exch.specs.Exchanges.{next_of}
-use Rattle.std.specs.HashMap.{hash_map_len}
 use Rattle.hc_text.proofs.Basics.{any_none, eq_tells, eqb-other, eqb-same, false_true, same_or, some_inj as some_is, and_off as then_false}
 use Rattle.hc_state.specs.Stored.{IsEntry, TellsLength, told, untold, KeepsEntry, KeepsEntries}
 use Rattle.hc_state.proofs.CloseArm.{quiet, unawaited_go}
@@ -195,23 +193,6 @@ module _ {B : Type 0} {g : Ghosts B} (limits : Limits) (r u : Rows B g) (t : Tab
       ]
 
 -- WHAT A SEAL LEAVES
-
--- where it failed, all that is kept stays
-pub stands_stayed : {B : Type 0} {g : Ghosts B} {lim : Limits} (r u : Rows B g) (t : Tables) → u.last_start ≡ r.last_start → u.consumers ≡ r.consumers → u.exchanges ≡ r.exchanges → u.keys ≡ r.keys
-    → shelf.Stays (shelf_of r.entries) (shelf_of u.entries) → RowsStand lim r t → RowsStand lim u t
-stands_stayed r u t last consumers exchanges same_keys stays stands = record {
-  limits = stays.limits ∙ stands.limits;
-  last_start = last ∙ stands.last_start;
-  next = ap (λ z. next_of z) exchanges ∙ stands.next;
-  count = ap (λ z. hash_map_len z) consumers ∙ stands.count;
-  consumers = λ d. rw consumers (stands.consumers d);
-  exchanges = λ y. rw exchanges (stands.exchanges y);
-  keys = λ key. rw same_keys (stands.keys key);
-  entries = record {
-    each = λ q. subst (λ k. KeepsEntry t q k (t.representation q)) (sym (stays.kept q)) (stands.entries.each q);
-    order = stays.order ∙ stands.entries.order;
-  };
-}
 
 -- what is decided to be sealed is kept
 pub seal_kept : (x q : ℕ) (running : Option Open) (s : Shelf) → stop_of x running s ≡ stop.Seal q → shelf.is_kept s q ≡ true

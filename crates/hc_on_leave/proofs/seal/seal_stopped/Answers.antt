@@ -4,7 +4,8 @@ use Rattle.hc_stored.specs.Entries.{shelf_of}
 use Rattle.hc_stored.specs.declared.view.EntryView.{EntryView}
 use Rattle.hc_state.specs.declared.stop.Stop.TheVariants as stop
 use Rattle.hc_state.specs.Stopped.{with_consumers}
-use Rattle.hc_state.proofs.SealArm.{stopped_sealed, stopped_lost, stands_stayed, viewed, told_kept, nobody_yet, nothing_held}
+use Rattle.hc_state.proofs.SealArm.{stopped_sealed, stopped_lost, viewed, told_kept, nobody_yet, nothing_held}
+use Rattle.hc_state.proofs.ReaderSteps.{stands_read}
 use Rattle.hc_on_leave.proofs.Shorts.{view_short}
 use Rattle.hc_state.proofs.Stopping.{Stays, means_it}
 use Rattle.hc_on_leave.proofs.seal.seal_stopped.Goals as goal
@@ -31,7 +32,7 @@ returns-in-Err-clause-stopped g c = λ lim t f facts may stands decided.
     let stays : Stays t s (shelf_of r.entries) x q may.w = means_it r t facts f stands x may.w may.row may.is_open (stop.Seal q) (sym decided) in
     let nobody = nobody_yet lim r r t facts f x c.args.alone may 0 0 [] [] q stays in
     let nothing = nothing_held lim r r t facts f x c.args.alone may 0 0 [] [] q stays in
-    let lost = c.lose_to.ensures.lost _ s stays.p may.may stays.row nobody nothing (stands_stayed r _ s refl refl refl refl c.in-Err.ensures.err stands) in
+    let lost = c.lose_to.ensures.lost _ s stays.p may.may stays.row nobody nothing (stands_read r _ s refl refl refl refl c.in-Err.ensures.err stands) in
     stopped_lost lim r _ t facts f x c.args.alone may c.args.now _ (act_list c.args.out.now) (act_list c.lose_to.new.out) q stays c.lose_to.new.rows lost
     (record { last_start = refl; keys = refl; entries = refl }) refl c.close-in-Err.ensures
     (subst (λ (m : ℕ). (shelf_of r.entries).faults < m) (sym c.lose_to.ensures.faults) (c.seal.ensures.cause.fault (c.in-Err.is ∙ ap Err (c.seal.ensures.only c.in-Err.field-0 c.in-Err.is))))

@@ -4,7 +4,7 @@ use Rattle.std.specs.Str.{str_to_ascii_lowercase}
 use Rattle.std.specs.Prelude.{bytes_eq, codes, take, drop, IfSome, nat_lt, nat_le, min, unwrap_or, ◌||◌, ◌&&◌, if◌then◌else◌}
 use Rattle.std.specs.Option.{option_map}
 use Rattle.std.proofs.lemmas.Bool.Decides.{nat_tests}
-use Rattle.hc_text.proofs.Basics.{not_some as none_some, or_off_right as or_false, same_some as same_row, some_inj}
+use Rattle.hc_text.proofs.Basics.{not_some as none_some, or_off_right as or_false, same_some as same_row, some_inj, bool_cases}
 use Rattle.hc_range.specs.Spans.{resolved_span, IsInOrder}
 use Rattle.hc_range.specs.declared.range.Asked.{Asked}
 use Rattle.hc_range.specs.declared.range.Asked.TheVariants.{From, FromTo, Last}
@@ -44,7 +44,7 @@ use Rattle.hc_effects.proofs.TurnPlaces.{is_after}
 from_order : (a b : Option ℕ) (asked : Asked) → from_to a b ≡ Some asked → IsInOrder asked
 from_order None b asked is = absurd (none_some asked is)
 from_order (Some first) None asked is = absurd (none_some asked is)
-from_order (Some first) (Some last) asked is = elim (Rattle.hc_effects.proofs.HoleLemmas.bool_cases (nat_le first last)) [
+from_order (Some first) (Some last) asked is = elim (bool_cases (nat_le first last)) [
   | inl on ↦ let le : first ≤ last = grind (arith, nat_tests) in subst IsInOrder (some_inj (FromTo first last) asked (rw on at is)) le
   | inr off ↦ absurd (none_some asked (rw off at is))
 ]
@@ -267,7 +267,7 @@ module _ (limits : Limits) (t : Tables) (now : ℕ) (flaw : Flaw) (s : Sound t) 
 
       fits : (p n : ℕ) (z : Option ℕ) → z ≡ Some p → overlong z n ≡ None → n ≤ p
       fits p n None is h = absurd (none_some p is)
-      fits p n (Some m) is h = elim (Rattle.hc_effects.proofs.HoleLemmas.bool_cases (nat_lt m n)) [
+      fits p n (Some m) is h = elim (bool_cases (nat_lt m n)) [
         | inl over ↦ absurd (Rattle.hc_effects.proofs.Once.never _ (rw over at h))
         | inr in_time ↦ let same : m ≡ p = some_inj m p is in let le : n ≤ m = grind (arith, nat_tests) in omega arith
       ]

@@ -6,7 +6,7 @@
 use Rattle.std.proofs.Common.{◌≡◌, inl, inr, ℕ, ◌+◌, ◌<◌, ◌≤◌, List, [], ◌∷◌, ◌++◌, length, true, false, refl, ap, sym, ◌∙◌, subst, arith, append_assoc, length-append}
 use Rattle.std.specs.Prelude.{◌==◌, is_some}
 use Rattle.std.proofs.lemmas.Bool.{cases_lt}
-use Rattle.hc_text.proofs.Basics.{bool_cases}
+use Rattle.hc_text.proofs.Basics.{bool_cases, eqb-same}
 use Rattle.hc_sparse.specs.Cells.{Cells, cells_with}
 use Rattle.hc_sparse.proofs.CellLemmas.{inside-cases}
 use Rattle.hc_effects.proofs.Vocabulary.{given_in, Act, Limits, Entry, History, no_contents, Shown, shown_in, shown_of, given_of, ReadsAct, ReadsActs}
@@ -88,7 +88,7 @@ module _ (c : ℕ) (h : History) (now : ℕ) where
 
   gives_next : (before : List Act) (d x at : ℕ) (bytes : List ℕ) (g : Cells) → d ≡ c → ReadsAct no_contents h now before (act.Given c x at bytes) → Is before g → Is (before ++ act.Given d x at bytes ∷ []) (cells_with at x bytes g)
   gives_next before d x at bytes g here reads is s shown p low high =
-      let mine : (d == c) ≡ true = rw here (Rattle.hc_effects.proofs.Tests.eqb-same c) in
+      let mine : (d == c) ≡ true = rw here (eqb-same c) in
       let same : shown_in c (before ++ act.Given d x at bytes ∷ []) ≡ shown_in c before = shown_more c before (act.Given d x at bytes ∷ []) ∙ append_none (shown_in c before) in
       let more : given_in c (before ++ act.Given d x at bytes ∷ []) ≡ given_in c before ++ bytes = given_more c before (act.Given d x at bytes ∷ []) ∙ ap (λ l. given_in c before ++ l) (rw mine (append_none bytes)) in
       let was : shown_before c h before ≡ s ∷ [] = ap (λ l. shown_of c h ++ l) (sym same) ∙ shown in

@@ -8,7 +8,7 @@ use Rattle.std.specs.Prelude.{◌==◌, ◌&&◌, codes, map, filter, nat_eq, is
 use Rattle.std.specs.Option.{option_or, option_and_then}
 use Rattle.std.specs.Fmt.{decimal}
 use Rattle.std.proofs.lemmas.Bool.Decides.{nat_tests}
-use Rattle.hc_text.proofs.Basics.{bool_cases, not_some as none_some, same_bytes as same_name, some_inj}
+use Rattle.hc_text.proofs.Basics.{bool_cases, not_some as none_some, same_bytes as same_name, some_inj, and_right, and_left}
 use Rattle.hc_fields.specs.FieldList.{comes_before, field_list_with, has_name, values_of, without}
 use Rattle.hc_fields.specs.FirstValues.{only_of}
 use Rattle.hc_range.specs.declared.range.ContentRange.{ContentRange}
@@ -173,8 +173,8 @@ module _ (p : FetchPlan) (t : Tables) (c : IsCarried t) (b : Places t) (parts : 
     shown_part true None n is up known total tells = absurd (whole_not_part 200 refl tells.status_is)
     shown_part true (Some h) None is up known total tells = absurd (whole_not_part 200 refl tells.status_is)
     shown_part true (Some h) (Some n) is up known total tells =
-        let status : v.head.status ≡ 206 = (let test : nat_eq v.head.status 206 ≡ true = Rattle.hc_effects.proofs.Basics.and_right (is_ranged k) _ is in grind (arith, nat_tests)) in
-        let own : is_ranged k ≡ true = Rattle.hc_effects.proofs.Basics.and_left (is_ranged k) _ is in
+        let status : v.head.status ≡ 206 = (let test : nat_eq v.head.status 206 ≡ true = and_right (is_ranged k) _ is in grind (arith, nat_tests)) in
+        let own : is_ranged k ≡ true = and_left (is_ranged k) _ is in
         let at_hi = bound_at d refl status in
         let h_is : at_hi.0 ≡ h = some_inj at_hi.0 h (ap (λ o. option_or o v.head.total) (sym at_hi.1) ∙ (sym top_is ∙ up)) in
         let stands : k.place ≡ place.Bound q a (Some h) by.Founding = at ∙ ap (λ o. place.Bound q a o by.Founding) (at_hi.1 ∙ ap Some h_is) in

@@ -5,7 +5,7 @@ use Rattle.std.specs.Option.{option_map_or}
 use Rattle.std.proofs.Math.ListN.{get_or-append}
 use Rattle.std.proofs.Math.Seq.{get_or-append_right}
 use Rattle.std.proofs.lemmas.Bool.Decides.{nat_tests}
-use Rattle.hc_text.proofs.Basics.{nil_cons, not_some as none_some}
+use Rattle.hc_text.proofs.Basics.{nil_cons, not_some as none_some, bool_cases, some_inj}
 use Rattle.hc_sparse.specs.declared.run.Run.{Run}
 use Rattle.hc_effects.proofs.Vocabulary.{is_denied, given_in, Event, Limits, Place, may_begin, denial, Entry, History, Contents, Flaw, flaw_in, Shown, shown_in, shown_of, given_of, entry_of, OfRuns, Gives, Owners, move_of, reads, hi_of, lo_of, Delivers, Holds, body_of, Tables, Consumer, IsRun, IsOwed, Sound, tables, after_accepted, after_denied}
 use Rattle.hc_event.specs.declared.event.Event.TheVariants as event
@@ -52,7 +52,7 @@ fallback limits contents (e ∷ h) may run = fallback_by limits contents h e (is
 
 -- bytes behind bytes
 holds_more : (t : Tables) (r at : ℕ) (xs ys : List ℕ) → Holds t r at xs → Holds t r (at + length xs) ys → Holds t r at (xs ++ ys)
-holds_more t r at xs ys hx hy i lt = elim (Rattle.hc_effects.proofs.HoleLemmas.bool_cases (nat_lt i (length xs))) [
+holds_more t r at xs ys hx hy i lt = elim (bool_cases (nat_lt i (length xs))) [
   | inl inside ↦
       let under : i < length xs = grind (arith, nat_tests) in
       let got = hx i under in
@@ -141,7 +141,7 @@ module _ (limits : Limits) (t : Tables) (now : ℕ) (flaw : Flaw) (s : Sound t) 
         by_shown parts.0 parts.1
       where
         by_shown : shown c ≡ [] → record { r = r; why = why; lo = lo; hi = hi } ≡ z → IsRead now_on u z
-        by_shown before same = elim (Rattle.hc_effects.proofs.HoleLemmas.bool_cases k.shown) [
+        by_shown before same = elim (bool_cases k.shown) [
           | inl already ↦
               let again : shown_in c e.acts ≡ [] = (Rattle.hc_effects.proofs.ShownOnce.by_event limits t now c flaw ev).again k row already in
               absurd (nil_cons _ [] (sym again ∙ some))
@@ -180,14 +180,14 @@ module _ (limits : Limits) (t : Tables) (now : ℕ) (flaw : Flaw) (s : Sound t) 
       where
         at_some : (p : Option ℕ) → p ≡ Some m → IfSome p (λ hi. n ≤ hi) → n ≤ m
         at_some None is le = absurd (none_some m is)
-        at_some (Some hi) is le = let one : hi ≡ m = Rattle.hc_effects.proofs.PieceKeeps.some_inj hi m is in omega arith
+        at_some (Some hi) is le = let one : hi ≡ m = some_inj hi m is in omega arith
 
     pub next_of : (want : ℕ) (k : Consumer) (run : Run) (z : Shown) → ev ≡ event.Poll c want → t.consumer c ≡ Some k → move_of t now want c k ≡ Gives run → shown c ≡ z ∷ [] → IsNextOf z run
     next_of want k run z at row move was =
         let on = was_shown k z k.shown refl row was in
         let g = given_next t want c k run s (some_want t c want ev goes at) (λ x stood. a.apart.unfounded c x k row stood) (gives_of t now c want k run (move_of t now want c k) (move_by t now want c k s row) move on) in
         let read = joined.read c k z row was (read_reads k.place g.0 g.1.number) in
-        let number : g.0 ≡ z.r = Rattle.hc_effects.proofs.PieceKeeps.some_inj g.0 z.r (sym g.1.number ∙ read.number) in
+        let number : g.0 ≡ z.r = some_inj g.0 z.r (sym g.1.number ∙ read.number) in
         let first : lo_of t k.place ≡ z.lo = read.from in
         let count : k.given ≡ length (given c) = told.count c k row in
         let start : run.at ≡ lo_of t k.place + k.given = g.1.at_is in

@@ -11,7 +11,7 @@ use Rattle.hc_state.specs.Stands.{RowsStand}
 use Rattle.hc_state.specs.Stored.{is_usable_kept}
 use Rattle.hc_on_leave.proofs.HeadCases.{case_unselected}
 use Rattle.hc_on_leave.proofs.HeardRows.{asker_of, asked_by}
-use Rattle.hc_on_head.proofs.TurnArm.{accepted_on, answered_on, asked_on, usable_still, waits_on, at_turn, current_still, facts_on, key_heard, not_still, past_unrenewed, selected_of, stands_selected, stands_unrenewed, still, tells_selected, there_still, unselected_case, unstill_as, validated_answered}
+use Rattle.hc_on_head.proofs.TurnArm.{accepted_on, answered_on, asked_on, usable_still, waits_on, at_turn, current_still, key_heard, not_still, past_unrenewed, selected_of, stands_selected, stands_unrenewed, still, tells_selected, there_still, unselected_case, unstill_as, validated_answered}
 use Rattle.hc_on_head.proofs.turn.validate.Goals as goal
 
 pub returns-in_default-clause-answers : goal.returns-in_default-clause-answers
@@ -79,7 +79,7 @@ returns-in-Ok-false-clause-answers g c = λ lim t w facts stands goes row about 
     let sel = selected_of r mid x now q response c.select.result false found c.select.ensures.ok in
     let off = sym (tells_selected r mid t x now h.0 w q response stands h.1 row s false sel) in
     answered_on r mid sel.rest u t before (act_list c.start_anew-in-Ok-false.new.out) now (event.Head x response) c.select.ensures.cause.later
-    (c.start_anew-in-Ok-false.ensures.answers case.NotValidated refl _ t w (facts_on r mid sel.rest t facts) (stands_unrenewed r mid t sel.rest (sel.head h.0 h.1) stands) goes row
+    (c.start_anew-in-Ok-false.ensures.answers case.NotValidated refl _ t w facts (stands_unrenewed r mid t sel.rest (sel.head h.0 h.1) stands) goes row
     (unselected_case r mid mid u t facts stands now x response goes w a is q s.v s.named s.cur s.row before before off) refl about)
 
 pub lose_asked-requires-clause-stands : goal.lose_asked-requires-clause-stands

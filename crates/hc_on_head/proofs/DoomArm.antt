@@ -324,11 +324,11 @@ module _ {B : Type 0} {g : Ghosts B} (r mid u : Rows B g) (now : ℕ) (key : Lis
     (consumers : ChangesAmong mid.consumers u.consumers (λ c. is_in c (line_of mid.keys key)) (once_over now)) (lines : keys.Becomes (on_line all_back) key mid.keys u.keys)
     (entries : (t : Tables) → Lawful t → KeepsLine mid t key → KeepsEntries (woken now key t) (shelf_of u.entries)) (bounded : (shelf_of u.entries).limits ≡ (shelf_of mid.entries).limits)
     (last : u.last_start ≡ mid.last_start) (exchanges : u.exchanges ≡ mid.exchanges) where
-  pub dooms : (o : Option ℕ) (w : Rows B g) → o ≡ (kept_of r.keys key).current → ((z : Tables) → MayLetGo z → RowsStand lim u z → RowsStand lim w (let_some_go now o z)) → (lim : Limits) (t : Tables) → Lawful t → RowsStand lim r t → IsDoomed lim w t before out now key refused
+  pub dooms : (o : Option ℕ) (w : Rows B g) → o ≡ (kept_of r.keys key).current → ((lim : Limits) (z : Tables) → MayLetGo z → RowsStand lim u z → RowsStand lim w (let_some_go now o z)) → (lim : Limits) (t : Tables) → Lawful t → RowsStand lim r t → IsDoomed lim w t before out now key refused
   dooms o w is goes lim t law stands =
       doomed r u t law stands now key refused before out (if_some refused (IsUnheard (table_of r.exchanges) key) unheard)
       (subst (λ z. Closes r z key refused before out) (sym exchanges) closes)
       (subst (λ (z : KeyTable). ChangesAmong r.consumers u.consumers (λ c. is_in c (line_of z key)) (once_over now)) rest.keys (subst (λ z. ChangesAmong z u.consumers (λ c. is_in c (line_of mid.keys key)) (once_over now)) same_consumers consumers))
       (subst (λ (z : KeyTable). keys.Becomes (on_line all_back) key z u.keys) rest.keys lines)
       (entries t law (keeps_line r mid t key stands same_consumers rest))
-      (bounded ∙ ap (λ z. (shelf_of z).limits) rest.entries) (last ∙ rest.last_start) o w is goes
+      (bounded ∙ ap (λ z. (shelf_of z).limits) rest.entries) (last ∙ rest.last_start) o w is (goes lim)

@@ -4,7 +4,7 @@
 -- than clients. The numbers of who is live fall, so each stands once: and what falls is no longer than a list that has each of it.
 -- In every run no more exchanges are open than consumers are live.
 use Rattle.std.proofs.Common.{◌≡◌, ◌⊎◌, inl, inr, ◌≤◌, ◌<◌, ℕ, zero, suc, ◌+◌, List, [], ◌∷◌, length, map, true, Option, Some, None, refl, ap, ◌∙◌, arith}
-use Rattle.std.specs.Prelude.{Contains, IsSome, filter, nat_eq, unwrap_or, if◌then◌else◌}
+use Rattle.std.specs.Prelude.{Contains, IsSome, filter, unwrap_or, if◌then◌else◌}
 use Rattle.hc_text.proofs.Basics.{map_long}
 use Rattle.hc_effects.proofs.Vocabulary.{Limits, is_live, live, History, no_contents, Lawful, open_now, IsRun, Among, tables}
 use Rattle.hc_effects.proofs.Closed.{among_filter}
@@ -16,15 +16,6 @@ use Rattle.hc_proxy.specs.Rows.{Client, Proxy}
 use Rattle.hc_laws.proofs.FromNothing.{begins_well}
 
 -- HOW MANY
-
--- without the first x
-abbrev without : ℕ → List ℕ → List ℕ
-without x [] = []
-without x (y ∷ ys) = if nat_eq y x then ys else y ∷ without x ys
-
-    by_place : Among q (y ∷ ys) → (Among q ys → Among q (without x ys)) → (y ≡ q) ⊎ Among q (without x ys)
-    by_place (inl here) rest = inl here
-    by_place (inr more) rest = inr (rest more)
 
 among_of : (k : ℕ) (ks : List ℕ) → Contains ks k → Among k ks
 among_of k [] (n, within, is) = absurd (omega arith)

@@ -13,7 +13,6 @@ use Rattle.hc_text.proofs.Basics.{and_left, and_right, both_true as both_hold, s
 use Rattle.hc_effects.proofs.Vocabulary.{is_open, is_wanted, Sound}
 use Rattle.hc_peers.specs.Clients.{client_of}
 use Rattle.hc_peers.specs.Peers.{is_idle}
-use Rattle.hc_peers.specs.Peers as peers
 use Rattle.hc_peers.specs.Upstreams.{upstream_of}
 use Rattle.hc_peers.specs.declared.client.Client as peer
 use Rattle.hc_peers.specs.declared.upstream.Upstream as origin
@@ -24,7 +23,8 @@ use Rattle.hc_wire.specs.declared.connection.Standing.{Standing}
 use Rattle.hc_proxy.specs.declared.proxy.Proxy as loop
 use Rattle.hc_proxy.specs.Connections.{exchange_of, stands, taken_at, has_unsent}
 use Rattle.hc_proxy.specs.Keeping.{Frame, IsClient, IsUpstream, IsUpstreamAt, HasUpstreams}
-use Rattle.hc_proxy.specs.Listening.{is_read, is_same, reads_right}
+use Rattle.hc_peers.specs.Peers.{is_same}
+use Rattle.hc_proxy.specs.Listening.{is_read, reads_right}
 use Rattle.hc_proxy.specs.Logging.{AreApart, short_from, is_short}
 use Rattle.hc_proxy.specs.Loops.{Fits}
 use Rattle.hc_proxy.specs.Network.{open_exchanges}
@@ -54,11 +54,6 @@ all_reversed test (x ∷ xs) a =
     ∙ all_append test (reverse xs) (x ∷ []) (all_reversed test xs (and_right (test x) (list_all test xs) a)) (both_hold (test x) true (and_left (test x) (list_all test xs) a) refl)
 
 -- SMALL TESTS
-
--- the two words for sameness of tests are one
-same_words : (a b : Bool) → peers.is_same a b ≡ true → is_same a b ≡ true
-same_words true b h = h
-same_words false b h = h
 
 may_client : (gone closing lacks : Bool) → gone ≡ false → (closing && not lacks) ≡ false → (not gone && (not closing || lacks)) ≡ true
 may_client true closing lacks here over = absurd (let never : true ≡ false = here in cc)
@@ -220,13 +215,13 @@ module _ {B : Type 0} {g : Ghosts B} (f : Frame) (x : loop.Proxy B g) (p : Proxy
       by_who : IsOfClient c ⊎ IsOfExchange c → is_same c.reads (is_read call p c.k (whose log.dialled p c.k)) ≡ true
       by_who (inl w) =
           ap (is_same c.reads) (ap (is_read call p c.k) (client_whose c w) ∙ sym idle)
-          ∙ (ap (λ b. is_same b (is_idle w.w)) w.reads ∙ same_words w.w.reading (is_idle w.w) w.rests.reads)
+          ∙ (ap (λ b. is_same b (is_idle w.w)) w.reads ∙ w.rests.reads)
         where
           idle : is_idle w.w ≡ (is_none w.row.consumer && not (has_unsent call c.k w.row))
           idle = ap (λ o. is_none o && nat_eq (length w.w.unsent) 0) w.rests.is_client.consumer ∙ ap (λ b. is_none w.row.consumer && b) (lacks_nothing c found live w)
       by_who (inr w) =
           ap (is_same c.reads) (ap (is_read call p c.k) (exchange_whose c w))
-          ∙ (ap (λ b. is_same b (is_wanted (p.tables.exchange w.y))) w.reads ∙ same_words w.u.reading (is_wanted (p.tables.exchange w.y)) (r.resting w.y w.u w.at).reads)
+          ∙ (ap (λ b. is_same b (is_wanted (p.tables.exchange w.y))) w.reads ∙ (r.resting w.y w.u w.at).reads)
 
   -- WHAT EACH LACKS
 

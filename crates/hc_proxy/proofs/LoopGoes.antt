@@ -47,10 +47,6 @@ use Rattle.hc_state.proofs.LeftRows.{all_passing}
 
 -- WHAT A SINK TOOK
 
-    by_mid : (m : Option (List ℕ)) → m ≡ Some (old ++ one) → Takes m new two → new ≡ Some (old ++ (one ++ two))
-    by_mid None is t = absurd (let never : None ≡ Some (old ++ one) = is in cc)
-    by_mid (Some bytes) is t = t ∙ ap Some (ap (λ (z : List ℕ). z ++ two) (some_is bytes (old ++ one) is) ∙ append_assoc old one two)
-
 front_behind : (out mid new : Option (List ℕ)) (written text : List ℕ) → Takes out mid written → TakesFront mid new text → TakesFront out new (written ++ text)
 front_behind out mid new written text a b = record {
   front = written ++ b.front;

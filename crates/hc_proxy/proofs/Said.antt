@@ -15,7 +15,7 @@ use Rattle.hc_wire.specs.declared.connection.Standing.{Standing}
 use Rattle.hc_wire.specs.Logs.{Called, Log, Taker, is_at_end, is_numbered}
 use Rattle.hc_proxy.specs.Connections.{connection_of, has_unsent, stands}
 use Rattle.hc_proxy.specs.Invariants.{OpensUp}
-use Rattle.hc_proxy.specs.Listening.{is_read, is_same}
+use Rattle.hc_proxy.specs.Listening.{is_read}
 use Rattle.hc_proxy.specs.Loops.{Fits, AllFit}
 use Rattle.hc_proxy.specs.Network.{open_exchanges}
 use Rattle.hc_proxy.specs.Rows.{Client, Proxy, unused}
@@ -24,6 +24,7 @@ use Rattle.hc_proxy.specs.Sentences.{IsCallAsSaid, LogsAreAsSaid, EndsAreAsSaid,
 use Rattle.hc_proxy.specs.Standings.{Whose, OfClient, OfExchange, OfNobody, is_right, may_stand, client_stands, number_stands, exchange_stands}
 use Rattle.hc_proxy.specs.Turns.{so_far, turned, turned_by, behind_all, behind_calls, part_of, events_of, record_of, text_behind, timed_of}
 use Rattle.hc_proxy.proofs.Folds.{turned_more}
+use Rattle.hc_proxy.proofs.OfferedClients.{was_same}
 use Rattle.hc_proxy.proofs.OpensUp.{entry_opens}
 use Rattle.hc_proxy.proofs.Parts.{turn_part}
 use Rattle.hc_proxy.proofs.Stands.{Stands, loops_are_runs}
@@ -34,11 +35,6 @@ all_of : {A : Type 0} (f : A → Bool) (xs : List A) (x : A) → list_all f xs �
 all_of f [] x all (n, within, is) = absurd (omega arith)
 all_of f (y ∷ ys) x all (zero, within, is) = ap f (sym is) ∙ and_left (f y) (list_all f ys) all
 all_of f (y ∷ ys) x all (suc n, within, is) = all_of f ys x (and_right (f y) (list_all f ys) all) (n, omega arith, is)
-
-same_is : (on owed : Bool) → is_same on owed ≡ true → on ≡ owed
-same_is true owed is = sym is
-same_is false true is = absurd (let never : false ≡ true = is in cc)
-same_is false false is = refl
 
 or_first : (a b : Bool) → (a || b) ≡ true → b ≡ false → a ≡ true
 or_first true b is off = refl
@@ -87,7 +83,7 @@ call_said limits log call p fits =
     let two : (each && clients) ≡ true = and_left (each && clients) exchanges fits.stands in
     record {
       waits_so = fits.wait;
-      reads = λ s there. same_is s.reads (is_read call p s.k (whose_at log p s.k)) (all_of (λ (z : Standing). is_same z.reads (is_read call p z.k (whose_at log p z.k))) call.standings s fits.reads there);
+      reads = λ s there. was_same s.reads (is_read call p s.k (whose_at log p s.k)) (all_of (λ (z : Standing). is_same z.reads (is_read call p z.k (whose_at log p z.k))) call.standings s fits.reads there);
       sends = λ s there lt. or_first s.short (not (nat_lt s.taken (owed_to p (whose_at log p s.k)))) (all_of (is_sent dialled p) call.standings s fits.sends there) (is_less s.taken (owed_to p (whose_at log p s.k)) lt);
       dials = λ x there. number_of call (connection_of dialled x) (all_of (exchange_stands call dialled) (open_exchanges p.tables) x (and_right (each && clients) exchanges fits.stands) there);
       stays = λ k client there at here stays. client_stays call p k client (p.client k) at (all_of (λ j. client_stands call p j (p.client j)) p.accepted k (and_right each clients two) there) here stays;

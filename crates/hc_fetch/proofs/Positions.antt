@@ -2,7 +2,7 @@
 --
 -- A body has no byte at or past 2^62 where fewer were received (`below_most`). What an event gives is some bytes of the body that
 -- was shown first, and so is what was gathered before: so both agree (`all_fit`).
-use Rattle.std.proofs.Common.{◌≡◌, ◌≢◌, inl, inr, ℕ, ◌+◌, ◌-◌, ◌<◌, ◌≤◌, ◌^◌, List, [], ◌∷◌, length, Bool, true, false, Option, Some, None, refl, ap, sym, ◌∙◌, arith}
+use Rattle.std.proofs.Common.{◌≡◌, ◌≢◌, inl, inr, ℕ, ◌+◌, ◌-◌, ◌<◌, ◌≤◌, ◌^◌, List, [], ◌∷◌, length, true, Option, Some, None, refl, ap, sym, ◌∙◌, arith}
 use Rattle.std.specs.Prelude.{if◌then◌else◌, ◌&&◌}
 use Rattle.std.proofs.lemmas.Bool.{cases_lt}
 use Rattle.hc_text.proofs.Basics.{not_some as none_some, some_inj}
@@ -24,10 +24,6 @@ use Rattle.hc_fetch.proofs.Bodies.{before, earlier, run_on, gathered_there, give
 use Rattle.hc_fetch.proofs.Gathers.{Stands, GivesOf, one_stands}
 
 -- WHERE A BODY ENDS
-
-then_cell : (b : Bool) (one cell : Cell) → (if b then Some one else None) ≡ Some cell → b ≡ true
-then_cell true one cell is = refl
-then_cell false one cell is = absurd (none_some cell is)
 
 by_exchange : (t : Tables) (r p : ℕ) (cell : Cell) (q : Option Exchange) → t.exchange r ≡ q → Numbers t → direct_cell r p q ≡ Some cell → p < most t
 by_exchange t r p cell None row n is = absurd (none_some cell is)

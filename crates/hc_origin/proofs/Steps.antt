@@ -3,8 +3,8 @@
 -- A log is followed through each call of the wire (`follows-call`, `follows-closed`, `follows-sent`). A new connection
 -- asks (`accepted-kept`). Of one that asks, its bytes are read on, its request is whole or it leaves (`read-..`,
 -- `asked-kept`, `left-kept`). One that is answered took some bytes (`sent-kept`), and is closed once it took all.
-use Rattle.std.proofs.Common.{◌≡◌, ℕ, List, [], ◌∷◌, ◌++◌, length, Bool, true, false, not, eqb, Option, Some, None, refl, sym, ap, subst, ◌∙◌}
-use Rattle.std.specs.Prelude.{find, is_some, ◌&&◌}
+use Rattle.std.proofs.Common.{◌≡◌, ℕ, List, [], ◌∷◌, ◌++◌, length, Bool, true, false, eqb, Option, Some, None, refl, sym, ap, subst, ◌∙◌}
+use Rattle.std.specs.Prelude.{find, ◌&&◌}
 use Rattle.std.specs.Option.{option_map}
 use Rattle.std.proofs.lemmas.Bool.{eq-eqb}
 use Rattle.hc_event.specs.declared.event.Request.{Request}
@@ -17,13 +17,13 @@ use Rattle.hc_wire.specs.Following.{is_live, live_from}
 use Rattle.hc_wire.specs.Logs.{Log, Taker, Tells, changed_at, fresh, is_numbered, over, shut, taking, with_call, with_closed, with_sent}
 use Rattle.hc_msg.specs.Inputs.{Waits, Tells as Told, Fails, next_in}
 use Rattle.hc_msg.specs.Reading.{Reading, Requests, Asks as AsksFor, heading}
-use Rattle.hc_origin.specs.Coming.{Came, came_of, first_in, is_accepted, is_cut_off, is_failing, request_from, request_in}
+use Rattle.hc_origin.specs.Coming.{Came, came_of, first_in, is_accepted, is_failing, request_from}
 use Rattle.hc_origin.specs.Answering.{IsAnswer, Responds}
-use Rattle.hc_origin.specs.Turns.{Closes, refused, cut_off}
+use Rattle.hc_origin.specs.Turns.{Closes, refused}
 use Rattle.hc_origin.specs.Replies.{Unsent, unsent_in}
 use Rattle.hc_origin.specs.Keeping.{Follows, IsAsking, IsGone, IsOwing, Keeps, PlaceIn, PlaceOf, nothing, told_as}
-use Rattle.hc_origin.specs.Going.{Asks, Hears, IsUnanswered, Leaves, Welcomes, with_bytes, with_stop}
-use Rattle.hc_origin.proofs.Comings.{waits-more, waits-none}
+use Rattle.hc_origin.specs.Going.{Asks, Hears, IsUnanswered, Leaves, Welcomes, with_bytes}
+use Rattle.hc_origin.proofs.Comings.{waits-more}
 use Rattle.hc_origin.proofs.Fitting.{all-later, later-shut}
 use Rattle.hc_origin.proofs.Places.{at_or, others-asking, place-same, with-own}
 use Rattle.hc_origin.proofs.Takers.{apart-changed, apart_sym, find-before, find-changed, find-last, find-other}
@@ -220,19 +220,6 @@ module _ (k : ℕ) (bytes : List ℕ) (before : Came) (log : Log) (asking new : 
     is = unanswered;
     cause = refused (ap is_failing (first-now ∙ fails)) refl;
   }
-
--- it stopped before
-pub stop-leaves : (k : ℕ) (before : Came) (log : Log) (asking : ℕ → Option Reading) (owed : List Unsent) (s : Reading) → Hears k before (with_stop before) log asking owed
-    → asking k ≡ Some s → Leaves k log asking owed
-stop-leaves k before log asking owed s hears asks =
-    let was = place-asks hears.accepted before (find (is_numbered k) log.takers) (asking k) (unsent_in owed k) s hears.place asks in
-    let none : request_in before ≡ None = waits-none before s was.3.waits in
-    let cut : is_cut_off (with_stop before) ≡ true = ap (λ (o : Option Request). true && not (is_some o)) none in record {
-      others = hears.others;
-      c = was.0;
-      is = record { taker = was.1; live = was.3.live; reads = was.3.reads; unsent = was.3.unsent; unowed = was.2 };
-      cause = cut_off (ap is_cut_off hears.came ∙ cut) refl;
-    }
 
 -- its answer is to be sent
 pub asked-kept : (k : ℕ) (request : Request) (log : Log) (asking new : ℕ → Option Reading) (owed : List Unsent) (reply : Unsent) → Asks k request log asking owed

@@ -19,7 +19,7 @@ use Rattle.url.specs.Parser.{Parsed, parse_url}
 use Rattle.hc_msg.specs.Writing.{request_text}
 use Rattle.hc_store.specs.declared.backend.Backend.{Ghosts}
 use Rattle.hc_wire.specs.Events.{Stage, Unseen, Open, Closed, Fresh, with_stage, IsOpen}
-use Rattle.hc_wire.specs.Logs.{Log, Taker, is_numbered, stage_of, stage_in, sent_in, sent_from, fresh, with_dialled}
+use Rattle.hc_wire.specs.Logs.{Log, Taker, is_numbered, stage_in, sent_in, sent_from, fresh, with_dialled}
 use Rattle.hc_wire.proofs.LogLemmas.{stages-fresh}
 use Rattle.hc_peers.specs.Origins.{new_upstream}
 use Rattle.hc_peers.specs.Renderings.{is_head}
@@ -45,13 +45,6 @@ use Rattle.hc_proxy.proofs.Followed.{unseen_none as nobody_yet}
 use Rattle.hc_proxy.proofs.OpensUp.{up_grows as ups}
 
 -- THE LOG
-
-seen_one : (c : Taker) → stage_of c ≡ Unseen → ⊥
-seen_one c = by_life c.live
-  where
-    by_life : (b : Bool) → (if b then Open c.reads c.ended else Closed) ≡ Unseen → ⊥
-    by_life true is = cc
-    by_life false is = cc
 
 none_more : (j k : ℕ) (cs : List Taker) → nat_eq k j ≡ false → find (is_numbered j) cs ≡ None → find (is_numbered j) (cs ++ fresh k ∷ []) ≡ None
 none_more j k [] off h = rw off refl

@@ -142,8 +142,8 @@ module _ {B : Type 0} {g : Ghosts B} {lim : Limits} (r mid : Rows B g) (e : Exch
       leaves.last_start leaves.entries (ap next_of leaves.exchanges ∙ next) launched_then (becomes_by r.consumers m c k (reading_past x) there changed) copies (rw way refl)
       (λ key. key_opened t law c x w z (law.sound.numbered.lists.new_exchanges x (let above = x_is in omega (arith, above))) past key (kept_of mid.keys key) (keys_past t law c k v w row kept v_idle (λ other. apart_unsaid t other w refl refl refl) refl r.keys mid.keys stands.keys left key))
 
-  pub past_answered : (bounds : Limits) (faults : ℕ) (before out : List Act) → out ≡ before ++ acts_of c (Opens x n copied) → Answered bounds faults u t before out now (event.Poll c want)
-  past_answered bounds faults before out told =
+  pub past_answered : (faults : ℕ) (before out : List Act) → out ≡ before ++ acts_of c (Opens x n copied) → Answered lim faults u t before out now (event.Poll c want)
+  past_answered faults before out told =
       let is : move_of t now want c v ≡ Opens x n k.request = moves ∙ ap (λ (y : ℕ). Opens y n k.request) (sym is_next) in
-      does_answered bounds faults u t (with_event now (event.Poll c want) s) before out (acts_of c (Opens x n k.request)) now (event.Poll c want)
-      (passes_by bounds t law now c want v row x n k.request is way) refl refl (told ∙ ap (λ (q : Request). before ++ acts_of c (Opens x n q)) copies) (stands_counted u s now (event.Poll c want) refl stands_past)
+      does_answered lim faults u t (with_event now (event.Poll c want) s) before out (acts_of c (Opens x n k.request)) now (event.Poll c want)
+      (passes_by lim t law now c want v row x n k.request is way) refl refl (told ∙ ap (λ (q : Request). before ++ acts_of c (Opens x n q)) copies) (stands_counted u s now (event.Poll c want) refl stands_past)

@@ -568,7 +568,7 @@ module _ {B : Type 0} {g : Ghosts B} (r : Rows B g) (a : Entries B g) (stays : S
 
   pub read_until : (now : ℕ) → ∥ StandsBy r now ∥₁ → ∥ StandsBy read now ∥₁
   read_until now some = ∥∥₁_map some (λ u.
-      let s = u.0 in (record { t = s.t; facts = s.facts; numbers = s.numbers; within_limits = s.within_limits; received = s.received; rows = read_stands s.t s.rows }, u.1))
+      let s = u.0 in (record { limits = s.limits; t = s.t; facts = s.facts; numbers = s.numbers; within_limits = s.within_limits; received = s.received; rows = read_stands s.t s.rows }, u.1))
 
   pub read_some : (now : ℕ) → ∥ StandsBy r now ∥₁ → ∥ Stands read ∥₁
   read_some now some = ∥∥₁_map (read_until now some) (λ u. u.0)

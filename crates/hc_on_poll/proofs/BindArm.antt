@@ -139,10 +139,10 @@ module _ {B : Type 0} {g : Ghosts B} {lim : Limits} (r mid : Rows B g) (a : Entr
           let now = now_kept r t stands v.request.key q at_q in
           held_bound t s law c q lo hi by.Plan v w now.p row here others (idle_reads v.place v_idle) refl (λ n. refl) refl refl now.row now.stays kinds y e
 
-  pub bind_answered : (bounds : Limits) (faults now want : ℕ) (why : Why) (head : Response) (before out : List Act) → move_of t now want c v ≡ Shows q why head lo hi → out ≡ before ++ (act.Shown c q why head.status head.fields lo hi ∷ []) → Answered bounds faults u t before out now (event.Poll c want)
-  bind_answered bounds faults now want why head before out is told =
-      does_answered bounds faults u t (with_event now (event.Poll c want) s) before out (acts_of c (Shows q why head lo hi)) now (event.Poll c want)
-      (shows_new bounds t law now c want v row q why head lo hi is (idle_reads v.place v_idle)) refl refl told (stands_counted u s now (event.Poll c want) refl stands_bound)
+  pub bind_answered : (faults now want : ℕ) (why : Why) (head : Response) (before out : List Act) → move_of t now want c v ≡ Shows q why head lo hi → out ≡ before ++ (act.Shown c q why head.status head.fields lo hi ∷ []) → Answered lim faults u t before out now (event.Poll c want)
+  bind_answered faults now want why head before out is told =
+      does_answered lim faults u t (with_event now (event.Poll c want) s) before out (acts_of c (Shows q why head lo hi)) now (event.Poll c want)
+      (shows_new lim t law now c want v row q why head lo hi is (idle_reads v.place v_idle)) refl refl told (stands_counted u s now (event.Poll c want) refl stands_bound)
 
 -- WHAT IS TOLD OF THE PART
 

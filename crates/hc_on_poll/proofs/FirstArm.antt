@@ -236,12 +236,12 @@ module _ {B : Type 0} {g : Ghosts B} {lim : Limits} (r : Rows B g) (e : Exchange
       (entries_bound t s law c q span.lo (Some span.hi) (by.FirstHole x) v w at.p row here others reads_none refl (λ d. refl) refl refl at.row at.stays kinds (overs_opened t.exchange s.exchange x free exchanges) (shelf_of r.entries) (shelf_of a) (with_first c) at.e stands.entries at.kept
       (entry_first t s law c q span.lo (Some span.hi) (by.FirstHole x) v w at.p row here others reads_none refl (λ d. refl) refl refl at.row at.stays kinds at.e at.is (overs_opened t.exchange s.exchange x free exchanges) x refl (first_none c ((shelf_of r.entries).kept q) at.e at.kept admits)) binds)
 
-  pub filling_answered : (bounds : Limits) (faults want : ℕ) (before out : List Act) (from to : ℕ) → n ≡ need.Hole from to → (total : Option ℕ) → total ≡ total_in (t.representation q) → wanted_of k.class.range total ≡ wanted.Interval span
-      → move_of t now want c v ≡ Opens x n request → out ≡ before ++ acts_of c (Opens x n request) → Answered bounds faults u t before out now (event.Poll c want)
-  filling_answered bounds faults want before out from to hole total same_total wants is told =
+  pub filling_answered : (faults want : ℕ) (before out : List Act) (from to : ℕ) → n ≡ need.Hole from to → (total : Option ℕ) → total ≡ total_in (t.representation q) → wanted_of k.class.range total ≡ wanted.Interval span
+      → move_of t now want c v ≡ Opens x n request → out ≡ before ++ acts_of c (Opens x n request) → Answered lim faults u t before out now (event.Poll c want)
+  filling_answered faults want before out from to hole total same_total wants is told =
       let same : Opens x n request ≡ Opens x (need.Hole from to) request = ap (λ (y : Need). Opens x y request) hole in
       let range : k.class.range ≡ range_of v.request = ap (λ (y : RequestClass). y.range) kept.class_is ∙ range_of_class v.request in
       let wanted_is : wanted_of (range_of v.request) at.p.head.total ≡ wanted.Interval span =
       ap (λ (y : Option Asked). wanted_of y at.p.head.total) (sym range) ∙ (ap (wanted_of k.class.range) (sym (same_total ∙ ap total_in at.row)) ∙ wants) in
-      does_answered bounds faults u t (with_event now (event.Poll c want) s) before out (acts_of c (Opens x n request)) now (event.Poll c want)
-      (rw hole (fills_first bounds t law now c want v row x from to request (is ∙ same) (idle_unbound v.place v_idle) q at.p span at_q at.row wanted_is)) refl refl told (stands_counted u s now (event.Poll c want) refl stands_filling)
+      does_answered lim faults u t (with_event now (event.Poll c want) s) before out (acts_of c (Opens x n request)) now (event.Poll c want)
+      (rw hole (fills_first lim t law now c want v row x from to request (is ∙ same) (idle_unbound v.place v_idle) q at.p span at_q at.row wanted_is)) refl refl told (stands_counted u s now (event.Poll c want) refl stands_filling)

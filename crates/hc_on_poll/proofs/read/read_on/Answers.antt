@@ -222,4 +222,4 @@ returns-in-Hole-clause-answers g c =
     λ lim t facts rows accepted.
     let rd = row_of r c.args.c c.args.r k at reads t facts rows in
     let f = hole_move r t facts rows c.args.c c.args.r reads.0.2 k rd c.args.now c.args.want reads.1 heard c.requires.wants run ahead view view_is c.in-Hole.hole (sym c.read_step.ensures ∙ c.in-Hole.is) in
-    known_of (head_at (shelf_of r.entries) c.args.r) f.head _ f.head_is (known_of (get nat_eq r.consumers c.args.c) k _ at all) c.args.want t rd.v facts rows rd.row f.move_is)
+    known_of (head_at (shelf_of r.entries) c.args.r) f.head _ f.head_is (known_of (get nat_eq r.consumers c.args.c) k _ at all) c.args.want _ t rd.v facts rows rd.row f.move_is)

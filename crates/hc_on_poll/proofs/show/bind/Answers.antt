@@ -29,5 +29,5 @@ returns-clause-answers g c =
     let to = c.bounds_of-lo.ensures.to in
     bind_answered r c.leave_line.new.rows c.bind.new.self c.bind_shown.new.consumers t facts.law c.args.c c.args.r lo hi k v stands at row idle now_is
     (part_ends (t.representation c.args.r) head c.args.span hi to same)
-    c.leave_line.ensures c.in_ok-bind.ensures.ok c.bind_shown.ensures lim _ now want c.args.why response (act_list c.args.out.now) (act_list c.put_shown.new.out)
+    c.leave_line.ensures c.in_ok-bind.ensures.ok c.bind_shown.ensures _ now want c.args.why response (act_list c.args.out.now) (act_list c.put_shown.new.out)
     (is ∙ shows_told c.args.r head c.args.why c.args.span k lo hi _ response from to c.is_some-ranged.ensures (c.in_ok-shown.ensures ∙ ap (λ s. shown_response head c.args.why s c.is_some-ranged.result) c.span_to.ensures)) c.put_shown.ensures)

@@ -69,4 +69,4 @@ returns-in-None-clause-answers g c = λ faults lim t w facts stands goes row aim
     alone_answered r second t facts stands now x response goes w row a q aim cur is c.lose_to.new.rows faults before (act_list c.lose_to.new.out) c.exclusive-alone.result
     (c.exclusive-alone.ensures _ t its facts stands here stays) (unwritten r t facts stands q its here (sym c.writing-writing.ensures ∙ c.in-None.is)) stood_too
     (c.lose_to.ensures.acts ∙ ap (λ z. z ++ (act.Lost q kind.Fault ∷ [])) same) c.lose_to.ensures.lost
-    _ (subst (λ (n : ℕ). faults < n) (sym (c.lose_to.ensures.faults ∙ (ap (λ z. (shelf_of z).faults) c.refuse.ensures.rest.entries ∙ c.send_back.ensures.faults))) failed)
+    (subst (λ (n : ℕ). faults < n) (sym (c.lose_to.ensures.faults ∙ (ap (λ z. (shelf_of z).faults) c.refuse.ensures.rest.entries ∙ c.send_back.ensures.faults))) failed)

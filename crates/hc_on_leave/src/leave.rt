@@ -2,14 +2,14 @@
 ghost use Rattle.std.specs.Prelude.{◌≡◌, ◌≤◌, ◌<◌, ◌^◌, ℕ, nat_eq, true, is_some, IsSomeAnd, Some, None, ◌==◌, if◌then◌else◌};
 ghost use Rattle.std.specs.HashMap.{get};
 ghost use Rattle.hc_event.specs.Acts.{act_list, spare};
-ghost use Rattle.hc_event.specs.declared.event.Event.TheVariants.{Cancel, Poll};
+ghost use Rattle.hc_event.specs.declared.event.Event.TheVariants.{Cancel};
 ghost use Rattle.hc_stored.specs.Entries.{shelf_of};
 ghost use Rattle.hc_exch.specs.Exchanges.{table_of};
 ghost use Rattle.hc_exch.specs.Known.{is_open};
 ghost use Rattle.hc_model.specs.Moves.{Ends, Fails};
 ghost use Rattle.hc_rules.specs.declared.room.Limits.{Limits};
 ghost use Rattle.hc_state.specs.Stands.{Answers, AnswersMove, Stands, RowsStand};
-ghost use Rattle.hc_state.specs.Arms.{IsDown, IsQueued, LeavesLine};
+ghost use Rattle.hc_state.specs.Arms.{IsQueued, LeavesLine};
 ghost use Rattle.std.specs.List.{list_all};
 ghost use Rattle.hc_stored.specs.Views.{bound_in};
 ghost use Rattle.hc_model.specs.Currents.{is_number};
@@ -64,18 +64,6 @@ pub fn end_reading<B: Backend>(rows: &mut Rows<B>, now: u64, c: u64, out: &mut A
 {
     put(out, Act::Ended { c });
     leave(rows, now, c, out);
-}
-
-/// A consumer that is down is told its failure, and leaves.
-pub fn fail_down<B: Backend>(rows: &mut Rows<B>, now: u64, c: u64, cause: Cause, out: &mut Acts)
-    requires stands { ∥ Stands rows.old ∥₁ }
-    requires down { IsSomeAnd (get nat_eq rows.old.consumers c) (IsDown cause) }
-    requires room { 3 ≤ spare out.old }
-    ensures answers { (want : ℕ)
-        → Answers rows.old rows.new (act_list out.old) (act_list out.new) now (Poll c want) }
-    ensures faults { (shelf_of rows.old.entries).faults ≤ (shelf_of rows.new.entries).faults }
-{
-    fail(rows, now, c, cause, out);
 }
 
 /// A consumer that waits with others leaves the line of its key.

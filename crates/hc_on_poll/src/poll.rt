@@ -15,7 +15,7 @@ use crate::read::read_bound;
 use crate::shown::await_stored;
 use crate::wait::wait;
 use hc_event::{Acts, Place, Wait};
-use hc_on_leave::leave::fail_down;
+use hc_on_leave::leave::fail;
 use hc_state::Rows;
 use hc_store::Backend;
 use hc_text::NoMemory;
@@ -52,7 +52,7 @@ pub fn poll<B: Backend>(
             Ok(())
         }
         Place::Down(cause) => {
-            fail_down(rows, now, c, cause, out);
+            fail(rows, now, c, cause, out);
             Ok(())
         }
         Place::Bound { r, by, .. } if !consumer.shown => await_stored(rows, now, c, r, by, out),

@@ -19,6 +19,7 @@ ghost use Rattle.hc_state.specs.Facts.{Facts};
 ghost use Rattle.hc_state.specs.Stands.{Answered, Answers, KeepsRest, RowsStand, Stands, open_at};
 ghost use Rattle.hc_state.specs.Stopped.{BrokeOff, IsBroken, Waited, SealedWhole, TellsNoLength};
 ghost use Rattle.hc_state.specs.Stops.{readers_of, reads_from, goes_on, is_shown};
+ghost use Rattle.hc_on_leave.specs.Leaves.{MayLeave};
 
 use hc_event::{Acts, Cause, LostKind};
 use hc_on_leave::evict::is_current;
@@ -121,8 +122,7 @@ fn was_shown<B: Backend>(rows: &Rows<B>, c: u64) -> bool
 
 /// An exchange breaks before its head, and its consumer, which was shown nothing, fails by that.
 fn break_wait<B: Backend>(rows: &mut Rows<B>, c: u64, x: u64)
-    requires stands { ∥ Stands rows.old ∥₁ }
-    requires live { is_some (get nat_eq rows.old.consumers c) ≡ true }
+    requires may { MayLeave rows.old c }
     requires running { is_open x (table_of rows.old.exchanges) ≡ true }
     ensures broken { (lim : Limits) (t : Tables) (w : Exchange) (k : Consumer) → Facts lim t
         → RowsStand lim rows.old t → Waited t x c w k → RowsStand lim rows.new

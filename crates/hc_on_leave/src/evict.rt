@@ -8,10 +8,11 @@ ghost use Rattle.hc_model.specs.Effects.{let_go, let_some_go};
 ghost use Rattle.hc_model.specs.LettingGo.{MayMakeRoom, MayLetGo, giving_way};
 ghost use Rattle.hc_model.specs.Rows.{Tables};
 ghost use Rattle.hc_rules.specs.declared.room.Limits.{Limits};
-ghost use Rattle.hc_state.specs.Changes.{ChangesAmong, KeepsLive, over_if_passed};
+ghost use Rattle.hc_state.specs.Changes.{ChangesAmong, over_if_passed};
 ghost use Rattle.hc_state.specs.Room.{HasActs, LeavesActs, room_for_write, GivesWay, Appends};
 ghost use Rattle.hc_state.specs.Stands.{RowsStand};
 ghost use Rattle.hc_state.specs.Stored.{is_usable_kept};
+ghost use Rattle.hc_on_leave.specs.Leaves.{KeepsAround};
 
 use crate::acts::put;
 use hc_entry::KeyTable;
@@ -26,10 +27,7 @@ use std::collections::HashMap;
 pub(crate) fn let_go<B: Backend>(rows: &mut Rows<B>, now: u64, r: u64)
     ensures stands { (lim : Limits) (t : Tables) → MayLetGo t → RowsStand lim rows.old t
         → RowsStand lim rows.new (let_go now r t) }
-    ensures live { KeepsLive rows.old.consumers rows.new.consumers }
-    ensures last_start { rows.new.last_start ≡ rows.old.last_start }
-    ensures exchanges { rows.new.exchanges ≡ rows.old.exchanges }
-    ensures faults { (shelf_of rows.new.entries).faults ≡ (shelf_of rows.old.entries).faults }
+    ensures around { KeepsAround rows.old rows.new }
 {
     if !is_current(rows, r) {
         return;

@@ -8,7 +8,8 @@ ghost use Rattle.hc_model.specs.Lawful.{Lawful};
 ghost use Rattle.hc_model.specs.Rows.{Tables, Consumer};
 ghost use Rattle.hc_rules.specs.declared.room.Limits.{Limits};
 ghost use Rattle.hc_state.specs.Leaving.{LeavesKey, Forgets, IsUserAt, UnbindsAt, LeavesPlace};
-ghost use Rattle.hc_state.specs.Stands.{RowsStand, Stands};
+ghost use Rattle.hc_state.specs.Stands.{RowsStand};
+ghost use Rattle.hc_on_leave.specs.Leaves.{MayLeave};
 
 use hc_entry::KeyTable;
 use hc_event::Place;
@@ -20,8 +21,7 @@ use hc_text::Key;
 
 /// A consumer is gone.
 pub(crate) fn remove_consumer<B: Backend>(rows: &mut Rows<B>, c: u64)
-    requires stands { ∥ Stands rows.old ∥₁ }
-    requires live { is_some (get nat_eq rows.old.consumers c) ≡ true }
+    requires may { MayLeave rows.old c }
     ensures stands { (lim : Limits) (t : Tables) (k : Consumer) → Lawful t → t.consumer c ≡ Some k
         → RowsStand lim rows.old t → RowsStand lim rows.new (with_consumer c (Some (as_over k)) t) }
     ensures faults { (shelf_of rows.new.entries).faults ≡ (shelf_of rows.old.entries).faults }
@@ -33,8 +33,7 @@ pub(crate) fn remove_consumer<B: Backend>(rows: &mut Rows<B>, c: u64)
 /// A consumer leaves where it stands: it waits for nothing and is bound to nothing, and what is
 /// held of its own exchange is forgotten.
 pub fn leave_place<B: Backend>(rows: &mut Rows<B>, c: u64)
-    requires stands { ∥ Stands rows.old ∥₁ }
-    requires live { is_some (get nat_eq rows.old.consumers c) ≡ true }
+    requires may { MayLeave rows.old c }
     ensures place { IsSomeAnd (get nat_eq rows.old.consumers c) (LeavesPlace rows.old rows.new c) }
     ensures faults { (shelf_of rows.new.entries).faults ≡ (shelf_of rows.old.entries).faults }
 {

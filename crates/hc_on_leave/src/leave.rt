@@ -18,7 +18,7 @@ ghost use Rattle.hc_model.specs.Rows.{Tables, Consumer};
 ghost use Rattle.hc_state.specs.Facts.{Facts};
 ghost use Rattle.hc_state.specs.Leaving.{if_running, last_read, left_of};
 ghost use Rattle.hc_state.specs.Left.{HasLeft};
-ghost use Rattle.hc_state.specs.Stored.{TellsShort};
+ghost use Rattle.hc_on_leave.specs.Leaves.{MayLeave};
 
 use crate::acts::put;
 use crate::gone::remove_consumer;
@@ -79,8 +79,7 @@ pub fn leave_line<B: Backend>(rows: &mut Rows<B>, c: u64)
 
 /// A consumer leaves: what only it read is closed, and sealed or let go.
 fn leave<B: Backend>(rows: &mut Rows<B>, now: u64, c: u64, out: &mut Acts)
-    requires stands { ∥ Stands rows.old ∥₁ }
-    requires live { is_some (get nat_eq rows.old.consumers c) ≡ true }
+    requires may { MayLeave rows.old c }
     requires room { 2 ≤ spare out.old }
     ensures left { (lim : Limits) (t : Tables) (k : Consumer) → Facts lim t
         → RowsStand lim rows.old t → t.consumer c ≡ Some k
@@ -93,7 +92,8 @@ fn leave<B: Backend>(rows: &mut Rows<B>, now: u64, c: u64, out: &mut Acts)
         Some(x) => {
             let alone = if_own(rows, c, x);
             remove_consumer(rows, c);
-            close_left(rows, now, x, alone, out);
+            put(out, Act::Close { x });
+            stop_bringing(rows, now, x, alone, out);
         }
     }
 }
@@ -141,21 +141,4 @@ fn if_own<B: Backend>(rows: &Rows<B>, c: u64, x: u64) -> Option<u64>
     } else {
         None
     }
-}
-
-/// What the consumer left is closed.
-fn close_left<B: Backend>(rows: &mut Rows<B>, now: u64, x: u64, alone: Option<u64>, out: &mut Acts)
-    requires running { is_open x (table_of rows.old.exchanges) ≡ true }
-    requires short { TellsShort (shelf_of rows.old.entries) }
-    requires room { 2 ≤ spare out.old }
-    ensures left { (lim : Limits) (t : Tables) (c : ℕ) (k : Consumer) → Facts lim t
-        → t.consumer c ≡ Some k → left_by t c k ≡ Some x
-        → alone ≡ (if is_number k.own x then Some c else None)
-        → RowsStand lim rows.old (with_consumer c (Some (as_over k)) t)
-        → HasLeft lim (shelf_of rows.old.entries).faults rows.new t
-        (act_list out.old) (act_list out.new) now c k }
-    ensures faults { (shelf_of rows.old.entries).faults ≤ (shelf_of rows.new.entries).faults }
-{
-    put(out, Act::Close { x });
-    stop_bringing(rows, now, x, alone, out);
 }

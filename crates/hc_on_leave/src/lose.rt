@@ -14,6 +14,7 @@ ghost use Rattle.hc_state.specs.Stands.{RowsStand};
 ghost use Rattle.hc_event.specs.declared.act.LostKind.{LostKind};
 ghost use Rattle.hc_store.specs.declared.error.StoreError.TheVariants as errors;
 ghost use Rattle.hc_state.specs.Room.{loss_by};
+ghost use Rattle.hc_on_leave.specs.Leaves.{KeepsAround};
 
 use crate::close::close;
 use crate::seal::lose_to;
@@ -40,9 +41,7 @@ pub fn lose_shared<B: Backend>(
         → RowsStand lim rows.old t → LosesShared lim rows.new t now r x v result }
     ensures acts { act_list out.new ≡ act_list out.old ++ act.Lost r kind ∷ [] }
     ensures room { spare out.new + 1 ≡ spare out.old }
-    ensures exchanges { rows.new.exchanges ≡ rows.old.exchanges }
-    ensures last_start { rows.new.last_start ≡ rows.old.last_start }
-    ensures faults { (shelf_of rows.new.entries).faults ≡ (shelf_of rows.old.entries).faults }
+    ensures around { KeepsAround rows.old rows.new }
 {
     let detached_reader = detached_reader(rows, r);
     let cause = Cause::StoreWrite(r);

@@ -18,7 +18,8 @@ use hc_store::{Backend, StoreError};
 use hc_text::NoMemory;
 
 /// A read of what the consumer is bound to, or of what is current for it, failed: that is want of
-/// memory, or the store failed.
+/// memory, or the store failed. Then the consumer is told so and leaves, what nobody reads any more
+/// is closed, and nobody new is bound to what can't be read.
 pub fn misread_by<B: Backend>(
     rows: &mut Rows<B>,
     now: u64,
@@ -37,25 +38,9 @@ pub fn misread_by<B: Backend>(
     ensures faults { (shelf_of rows.new.entries).faults ≡ (shelf_of rows.old.entries).faults }
     ensures kept { OnErr result (act_list out.new ≡ act_list out.old) }
 {
-    match error {
-        StoreError::NoMemory => Err(NoMemory),
-        _ => {
-            misread(rows, now, c, r, out);
-            Ok(())
-        }
+    if let StoreError::NoMemory = error {
+        return Err(NoMemory);
     }
-}
-
-/// What the consumer is bound to, or is current for it, can't be read: it is told so and leaves,
-/// what nobody reads any more is closed, and nobody new is bound to that.
-pub(crate) fn misread<B: Backend>(rows: &mut Rows<B>, now: u64, c: u64, r: u64, out: &mut Acts)
-    requires stands { ∥ Stands rows.old ∥₁ }
-    requires live { is_some (get nat_eq rows.old.consumers c) ≡ true }
-    requires room { 2 ≤ spare out.old }
-    ensures answers { AnswersMisread rows.old rows.new (act_list out.old) (act_list out.new)
-        now c r }
-    ensures faults { (shelf_of rows.new.entries).faults ≡ (shelf_of rows.old.entries).faults }
-{
     let cause = Cause::StoreRead(r);
     put(out, Act::Failed { c, cause });
     let left = left_by(rows, c);
@@ -64,4 +49,5 @@ pub(crate) fn misread<B: Backend>(rows: &mut Rows<B>, now: u64, c: u64, r: u64, 
     if let Some(x) = left {
         close(rows, x, out);
     }
+    Ok(())
 }

@@ -17,7 +17,7 @@ ghost use Rattle.hc_state.specs.declared.stop.Stop.TheVariants as stop;
 ghost use Rattle.hc_state.specs.Stopped.{with_consumers, HoldsNothing, MayStop, HasStopped};
 ghost use Rattle.hc_state.specs.Stops.{stop_of, brought_by, may_complete, IsViewOf, kind_left};
 ghost use Rattle.hc_state.specs.Stands.{RowsStand};
-ghost use Rattle.hc_state.specs.Stored.{TellsShort};
+ghost use Rattle.hc_on_leave.specs.Leaves.{MayClose};
 
 use crate::acts::put;
 use crate::evict::let_go;
@@ -67,8 +67,7 @@ pub fn stop_bringing<B: Backend>(
     alone: Option<u64>,
     out: &mut Acts,
 )
-    requires running { is_open x (table_of rows.old.exchanges) ≡ true }
-    requires short { TellsShort (shelf_of rows.old.entries) }
+    requires may { MayClose rows.old x }
     requires room { 1 ≤ spare out.old }
     ensures stopped { (lim : Limits) (t : Tables) (f : ℕ → Option Consumer) → Facts lim t
         → MayStop t f x alone → RowsStand lim rows.old (with_consumers f t)
@@ -95,9 +94,8 @@ fn seal_stopped<B: Backend>(
     alone: Option<u64>,
     out: &mut Acts,
 )
-    requires running { is_open x (table_of rows.old.exchanges) ≡ true }
+    requires may { MayClose rows.old x }
     requires there { is_kept (shelf_of rows.old.entries) r ≡ true }
-    requires short { TellsShort (shelf_of rows.old.entries) }
     requires room { 1 ≤ spare out.old }
     ensures stopped { (lim : Limits) (t : Tables) (f : ℕ → Option Consumer) → Facts lim t
         → MayStop t f x alone → RowsStand lim rows.old (with_consumers f t)

@@ -11,17 +11,20 @@ use Rattle.hc_on_body.proofs.StopAnswers.{fault_answered, wait_answered}
 use Rattle.hc_on_body.proofs.stop.fault.Goals.{then-view, else-view}
 use Rattle.hc_on_body.proofs.stop.fault.Goals as goal
 
-pub break_wait-requires-clause-live : goal.break_wait-requires-clause-live
-break_wait-requires-clause-live g c =
+pub break_wait-requires-clause-may : goal.break_wait-requires-clause-may
+break_wait-requires-clause-may g c =
     let r = c.args.rows.now in
     let view = c.unwrap-view.result in
     let headless : view.headed ≡ false = elim c.if-view.branch [
       | then-view w ↦ false_true (sym c.if-was_shown.false ∙ (w.value-is ∙ w.if-view.true))
       | else-view w ↦ w.if-view.false
     ] in
-    merely_true (is_some (get nat_eq r.consumers view.c)) c.requires.stands (λ s.
-    waiter_lives r s.t s.rows s.facts.law c.args.x view
-    (viewed r s.t c.args.x c.view.result view s.rows c.view.ensures c.unwrap-view.ensures) headless)
+    record {
+      stands = c.requires.stands;
+      live = merely_true (is_some (get nat_eq r.consumers view.c)) c.requires.stands (λ s.
+          waiter_lives r s.t s.rows s.facts.law c.args.x view
+          (viewed r s.t c.args.x c.view.result view s.rows c.view.ensures c.unwrap-view.ensures) headless);
+    }
 
 pub returns-then-was_shown-clause-answers : goal.returns-then-was_shown-clause-answers
 returns-then-was_shown-clause-answers g c = λ lim t facts stands accepts.

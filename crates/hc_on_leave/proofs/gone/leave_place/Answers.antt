@@ -11,7 +11,7 @@ unbind_from-requires g c =
     let r = c.args.rows.now in
     let k = c.unwrap-consumer.result.now in
     let at = lent c.get.result (get nat_eq r.consumers c.args.c) c.unwrap-consumer.result c.get.ensures.value c.unwrap-consumer.ensures in
-    merely_user k.place c.args.c (shelf_of r.entries) c.requires.stands
+    merely_user k.place c.args.c (shelf_of r.entries) c.requires.may.stands
     (λ s. user_of r s.t s.facts.law c.args.c k at s.rows)
 
 pub returns-clause-place : goal.returns-clause-place

@@ -1,4 +1,4 @@
-use Rattle.std.proofs.Common.{◌≡◌, ℕ, ◌<◌, [], Err, refl, ap, sym, ◌∙◌, subst}
+use Rattle.std.proofs.Common.{ℕ, ◌<◌, [], Err, refl, ap, sym, ◌∙◌, subst}
 use Rattle.hc_effects.proofs.Vocabulary.{act_list}
 use Rattle.hc_stored.specs.Entries.{shelf_of}
 use Rattle.hc_stored.specs.declared.view.EntryView.{EntryView}
@@ -11,7 +11,7 @@ use Rattle.hc_state.proofs.Stopping.{Stays, means_it}
 use Rattle.hc_on_leave.proofs.seal.seal_stopped.Goals as goal
 
 pub seal-requires-clause-total : goal.seal-requires-clause-total
-seal-requires-clause-total g c = view_short (shelf_of c.args.rows.now.entries) c.args.r c.entry.result c.unwrap-entry.result c.requires.short c.entry.ensures c.unwrap-entry.ensures
+seal-requires-clause-total g c = view_short (shelf_of c.args.rows.now.entries) c.args.r c.entry.result c.unwrap-entry.result c.requires.may.short c.entry.ensures c.unwrap-entry.ensures
 
 pub returns-in-Ok-clause-stopped : goal.returns-in-Ok-clause-stopped
 returns-in-Ok-clause-stopped g c = λ lim t f facts may stands decided.

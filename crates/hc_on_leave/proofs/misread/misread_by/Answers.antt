@@ -1,4 +1,4 @@
-use Rattle.std.proofs.Common.{◌≡◌, ◌<◌, ℕ, refl, ap, sym, ◌∙◌, subst, true}
+use Rattle.std.proofs.Common.{◌≡◌, ◌<◌, ℕ, refl, ap, sym, ◌∙◌, subst, true, rules}
 use Rattle.std.specs.Prelude.{is_some}
 use Rattle.hc_effects.proofs.Vocabulary.{act_list, as_over}
 use Rattle.hc_stored.specs.Entries.{shelf_of}
@@ -11,7 +11,7 @@ use Rattle.hc_state.proofs.Maps.{merely_true}
 use Rattle.hc_on_leave.proofs.MayGo.{may_with}
 use Rattle.hc_on_leave.proofs.MisreadArm.{idle_leaves, fault_answered}
 use Rattle.hc_on_leave.proofs.MisreadBound.{misread_alone, misread_closing}
-use Rattle.hc_on_leave.proofs.misread.misread.Goals as goal
+use Rattle.hc_on_leave.proofs.misread.misread_by.Goals as goal
 
 pub close-requires-clause-running : goal.close-requires-clause-running
 close-requires-clause-running g c =
@@ -21,20 +21,27 @@ close-requires-clause-running g c =
     let runs = merely_true (is_some (table_of mid.exchanges x).running) c.requires.stands (λ s.
     let law = s.facts.law in
     left_runs r mid s.t law c.args.c x c.left_by-left.result c.requires.live c.left_by-left.ensures c.in-Some.is s.rows (λ v row. c.remove_consumer.ensures.stands _ s.t v law row s.rows)) in
-    subst (λ z. is_some (table_of z x).running ≡ true) (sym c.let_go.ensures.exchanges) runs
+    subst (λ z. is_some (table_of z x).running ≡ true) (sym c.let_go.ensures.around.exchanges) runs
 
-pub returns-in_default-clause-answers : goal.returns-in_default-clause-answers
-returns-in_default-clause-answers g c = λ want faults lim t v failed facts stands row may.
+pub returns-in_default-left : goal.returns-in_default-left
+returns-in_default-left g c =
     let r = c.args.rows.now in
     let removed = c.remove_consumer.ensures in
     let gone = c.let_go.ensures in
-    let still = subst (λ (n : ℕ). faults < n) (sym (gone.faults ∙ removed.faults)) failed in
-    let leaves = sym (left_is r t facts.law c.args.c v row stands c.left_by-left.result c.left_by-left.ensures) ∙ c.in_default.is in
-    let then = gone.stands _ _ (may_with t c.args.c v (as_over v) row refl (may_let_go t facts.law)) (removed.stands _ t v facts.law row stands) in
-    elim may [
-      | bound at ↦ misread_alone lim t facts.law c.args.now c.args.c want c.args.r v row at c.let_go.new.rows faults (act_list c.args.out.now) (act_list c.put.new.out) still leaves c.put.ensures.acts then
-      | planned idle now_is ↦ fault_answered lim faults c.let_go.new.rows t facts.law c.args.now c.args.c want c.args.r v row idle (act_list c.args.out.now) (act_list c.put.new.out) now_is still c.put.ensures.acts then
-    ]
+    record {
+      failed = search rules;
+      memory = search rules;
+      answers = λ want faults lim t v failed facts stands row may.
+          let still = subst (λ (n : ℕ). faults < n) (sym (gone.around.faults ∙ removed.faults)) failed in
+          let leaves = sym (left_is r t facts.law c.args.c v row stands c.left_by-left.result c.left_by-left.ensures) ∙ c.in_default-left.is in
+          let then = gone.stands _ _ (may_with t c.args.c v (as_over v) row refl (may_let_go t facts.law)) (removed.stands _ t v facts.law row stands) in
+          elim may [
+            | bound at ↦ misread_alone lim t facts.law c.args.now c.args.c want c.args.r v row at c.let_go.new.rows faults (act_list c.args.out.now) (act_list c.put.new.out) still leaves c.put.ensures.acts then
+            | planned idle now_is ↦ fault_answered lim faults c.let_go.new.rows t facts.law c.args.now c.args.c want c.args.r v row idle (act_list c.args.out.now) (act_list c.put.new.out) now_is still c.put.ensures.acts then
+          ];
+      faults = gone.around.faults ∙ removed.faults;
+      kept = search rules;
+    }
 
 pub returns-in-Some-clause-answers : goal.returns-in-Some-clause-answers
 returns-in-Some-clause-answers g c = λ want faults lim t v failed facts stands row may.
@@ -45,7 +52,7 @@ returns-in-Some-clause-answers g c = λ want faults lim t v failed facts stands 
     let leaves = sym (left_is r t facts.law c.args.c v row stands c.left_by-left.result c.left_by-left.ensures) ∙ c.in-Some.is in
     elim may [
       | bound at ↦ misread_closing lim t facts.law c.args.now c.args.c want c.args.r v row at c.close.new.rows faults (act_list c.args.out.now) (act_list c.close.new.out)
-          (subst (λ (n : ℕ). faults < n) (sym (ap (λ z. (shelf_of z).faults) shut.rest.entries ∙ (gone.faults ∙ removed.faults))) failed)
+          (subst (λ (n : ℕ). faults < n) (sym (ap (λ z. (shelf_of z).faults) shut.rest.entries ∙ (gone.around.faults ∙ removed.faults))) failed)
           c.let_go.new.rows c.in-Some.x (act_list c.put.new.out) leaves c.put.ensures.acts shut.acts shut.rest shut.consumers shut.closed
           (gone.stands _ _ (may_with t c.args.c v (as_over v) row refl (may_let_go t facts.law)) (removed.stands _ t v facts.law row stands))
       | planned idle now_is ↦ none_some c.in-Some.x (sym (idle_leaves t facts.law c.args.c v row idle) ∙ leaves)

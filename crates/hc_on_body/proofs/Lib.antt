@@ -14,3 +14,4 @@ pub mod HeldPiece
 pub mod LosePiece
 pub mod LostTables
 pub mod GrowArm
+pub mod Bringing

@@ -11,18 +11,20 @@ ghost use Rattle.hc_rules.specs.Refusals.{piece_refusal};
 ghost use Rattle.hc_stored.specs.Entries.{shelf_of};
 ghost use Rattle.hc_stored.specs.Kept.{Kept};
 ghost use Rattle.hc_stored.specs.Shelf as shelf;
-ghost use Rattle.hc_stored.specs.Shelf.{is_kept, cells_at, size_at};
+ghost use Rattle.hc_stored.specs.Shelf.{cells_at, size_at};
 ghost use Rattle.hc_stored.specs.Views.{view_of};
 ghost use Rattle.hc_exch.specs.declared.row.Open.{Open};
 ghost use Rattle.hc_exch.specs.Exchanges.{table_of};
-ghost use Rattle.hc_exch.specs.Known.{is_open, is_all, EndsBelow};
+ghost use Rattle.hc_exch.specs.Known.{is_all};
 ghost use Rattle.hc_model.specs.Effects.{as_gone, lost_to};
 ghost use Rattle.hc_model.specs.Rows.{Tables, Exchange, Representation};
 ghost use Rattle.hc_rules.specs.declared.room.Limits.{Limits};
 ghost use Rattle.hc_state.specs.Pieces.{stored_by, larger_view, IsLastKind, PutsPiece};
 ghost use Rattle.hc_state.specs.Refused.{brought_lost, own_loss, LosesPiece, MayLoseOwn, MayLosePiece, RefusesPiece};
 ghost use Rattle.hc_state.specs.Stands.{RowsStand, Stays, Answers, Stands, open_at};
+ghost use Rattle.hc_state.specs.Stopped.{KeepsBesideEntries};
 ghost use Rattle.hc_state.specs.Stops.{kind_left, IsViewOf};
+ghost use Rattle.hc_on_body.specs.Arrivals.{HasPlace, IsPieceFor, MayBring};
 
 use hc_event::{Acts, LostKind};
 use hc_exch::{ExchangeView, Role};
@@ -75,10 +77,7 @@ fn grow<B: Backend>(
     bytes: &[u8],
     out: &mut Acts,
 ) -> Result<(), NoMemory>
-    requires stands { ∥ Stands rows.old ∥₁ }
-    requires accepted { piece_refusal (open_at rows.old x) (length bytes.now) ≡ None }
-    requires stored { stored_by rows.old x ≡ Some r }
-    requires short { length bytes.now ≤ 65536 }
+    requires comes { IsPieceFor rows.old x (length bytes.now) (Some r) }
     requires room { 4 ≤ spare out.old }
     ensures answers { OnOk result (Answers rows.old rows.new (act_list out.old) (act_list out.new)
         now (Piece x bytes.now)) }
@@ -106,9 +105,7 @@ fn lose_own_piece<B: Backend>(
     kind: LostKind,
     out: &mut Acts,
 ) -> Result<(), NoMemory>
-    requires there { is_kept (shelf_of rows.old.entries) r ≡ true }
-    requires accepted { piece_refusal (open_at rows.old x) (length bytes.now) ≡ None }
-    requires below { EndsBelow (length bytes.now) (table_of rows.old.exchanges x).running }
+    requires may { MayBring rows.old x r (length bytes.now) }
     requires room { 1 ≤ spare out.old }
     ensures lost { OnOk result ((lim : Limits) (t : Tables) (w : Exchange) (v : Representation)
         → MayLoseOwn t now r x w v alone → RowsStand lim rows.old t
@@ -133,9 +130,7 @@ fn lose_shared_piece<B: Backend>(
     kind: LostKind,
     out: &mut Acts,
 ) -> Result<(), NoMemory>
-    requires there { is_kept (shelf_of rows.old.entries) r ≡ true }
-    requires accepted { piece_refusal (open_at rows.old x) (length bytes.now) ≡ None }
-    requires below { EndsBelow (length bytes.now) (table_of rows.old.exchanges x).running }
+    requires may { MayBring rows.old x r (length bytes.now) }
     requires room { 2 ≤ spare out.old }
     ensures lost { OnOk result ((lim : Limits) (t : Tables) (w : Exchange) (v : Representation)
         → MayLosePiece t now r x w v → RowsStand lim rows.old t → LosesPiece lim rows.new t
@@ -175,10 +170,7 @@ pub(crate) fn hold_piece<B: Backend>(
     x: u64,
     bytes: &[u8],
 ) -> Result<(), NoMemory>
-    requires stands { ∥ Stands rows.old ∥₁ }
-    requires accepted { piece_refusal (open_at rows.old x) (length bytes.now) ≡ None }
-    requires unstored { stored_by rows.old x ≡ None }
-    requires short { length bytes.now ≤ 65536 }
+    requires comes { IsPieceFor rows.old x (length bytes.now) None }
     ensures answers { OnOk result ((now : ℕ) (before : List Act)
         → Answers rows.old rows.new before before now (Piece x bytes.now)) }
     ensures faults { (shelf_of rows.new.entries).faults ≡ (shelf_of rows.old.entries).faults }
@@ -198,10 +190,7 @@ pub(crate) fn store_piece<B: Backend>(
     bytes: &[u8],
     out: &mut Acts,
 ) -> Result<Option<LostKind>, NoMemory>
-    requires stands { ∥ Stands rows.old ∥₁ }
-    requires accepted { piece_refusal (open_at rows.old x) (length bytes.now) ≡ None }
-    requires stored { stored_by rows.old x ≡ Some r }
-    requires short { length bytes.now ≤ 65536 }
+    requires comes { IsPieceFor rows.old x (length bytes.now) (Some r) }
     requires room { 4 ≤ spare out.old }
     ensures answers { result ≡ Ok None → Answers rows.old rows.new (act_list out.old)
         (act_list out.new) now (Piece x bytes.now) }
@@ -227,13 +216,10 @@ pub(crate) fn store_piece<B: Backend>(
 /// The bytes are put where the front of their exchange is, with what the representation is where
 /// they are its last.
 fn put_piece<B: Backend>(rows: &mut Rows<B>, x: u64, r: u64, bytes: &[u8]) -> Result<(), StoreError>
-    requires running { is_open x (table_of rows.old.exchanges) ≡ true }
-    requires there { is_kept (shelf_of rows.old.entries) r ≡ true }
-    requires some { 0 < length bytes.now }
+    requires may { MayBring rows.old x r (length bytes.now) }
     requires absent { (o : Open) → (table_of rows.old.exchanges x).running ≡ Some o
         → AreAbsent (cells_at (shelf_of rows.old.entries) r) (o.base + o.delivered)
         (o.base + o.delivered + length bytes.now) }
-    requires below { EndsBelow (length bytes.now) (table_of rows.old.exchanges x).running }
     ensures ok { OnOk result ((o : Open) → (table_of rows.old.exchanges x).running ≡ Some o
         → PutsPiece rows.old rows.new x r o bytes.now) }
     ensures err { OnErr result
@@ -243,10 +229,7 @@ fn put_piece<B: Backend>(rows: &mut Rows<B>, x: u64, r: u64, bytes: &[u8]) -> Re
         ((shelf_of rows.old.entries).used + length bytes.now) result }
     ensures cause { HasCause (shelf_of rows.old.entries).faults
         (shelf_of rows.new.entries).faults result }
-    ensures last_start { rows.new.last_start ≡ rows.old.last_start }
-    ensures consumers { rows.new.consumers ≡ rows.old.consumers }
-    ensures exchanges { rows.new.exchanges ≡ rows.old.exchanges }
-    ensures keys { rows.new.keys ≡ rows.old.keys }
+    ensures rest { KeepsBesideEntries rows.old rows.new }
 {
     let view = rows.exchanges.view(x).unwrap();
     let at = view.base + view.delivered;
@@ -257,9 +240,8 @@ fn put_piece<B: Backend>(rows: &mut Rows<B>, x: u64, r: u64, bytes: &[u8]) -> Re
 /// What is stored of the representation once its exchange is over with so many bytes more, or
 /// nothing where it isn't.
 fn last_kind<B: Backend>(rows: &Rows<B>, r: u64, view: &ExchangeView, count: u64) -> Option<Kind>
-    requires there { is_kept (shelf_of rows.now.entries) r ≡ true }
-    requires some { 0 < count }
-    requires end { view.now.base + view.now.delivered + count ≤ 2 ^ 62 }
+    requires place { HasPlace (shelf_of rows.now.entries) r
+        (view.now.base + view.now.delivered) count }
     ensures { (x : ℕ) (bytes : List ℕ) (v : Representation) (k : Kept)
         → length bytes ≡ count → (shelf_of rows.now.entries).kept r ≡ Some k
         → IsViewOf v (cells_with (view.now.base + view.now.delivered) x bytes k.cells)
@@ -277,9 +259,7 @@ fn last_kind<B: Backend>(rows: &Rows<B>, r: u64, view: &ExchangeView, count: u64
 
 /// What is stored of it with so many bytes more from a position on, of which nothing more comes.
 fn kind_with<B: Backend>(rows: &Rows<B>, r: u64, at: u64, count: u64) -> Kind
-    requires there { is_kept (shelf_of rows.now.entries) r ≡ true }
-    requires some { 0 < count }
-    requires end { at + count ≤ 2 ^ 62 }
+    requires place { HasPlace (shelf_of rows.now.entries) r at count }
     ensures { (x : ℕ) (bytes : List ℕ) (v : Representation) (k : Kept)
         → length bytes ≡ count → (shelf_of rows.now.entries).kept r ≡ Some k
         → IsViewOf v (cells_with at x bytes k.cells) (larger_view count (view_of k))
@@ -300,8 +280,7 @@ fn kind_with<B: Backend>(rows: &Rows<B>, r: u64, at: u64, count: u64) -> Kind
 
 /// Whether all positions from 0 to below the end are present, with so many more from one on.
 fn covers_with<B: Backend>(rows: &Rows<B>, r: u64, at: u64, count: u64, end: u64) -> bool
-    requires there { is_kept (shelf_of rows.now.entries) r ≡ true }
-    requires end { at + count ≤ 2 ^ 62 }
+    requires place { HasPlace (shelf_of rows.now.entries) r at count }
     ensures { (x : ℕ) (bytes : List ℕ) → length bytes ≡ count
         → IsTrue result ↔ Covers (cells_with at x bytes (cells_at (shelf_of rows.now.entries) r))
         0 end }

@@ -1,15 +1,11 @@
-use Rattle.std.proofs.Common.{◌≡◌, ℕ, arith, length, true, false, Option, Some, None, refl, ap, sym, ◌∙◌, subst}
+use Rattle.std.proofs.Common.{◌≡◌, ℕ, arith, true, false, Option, Some, None, refl, ap, sym, ◌∙◌}
 use Rattle.std.specs.Prelude.{◌≤◌, Result, Ok, is_some}
 use Rattle.hc_effects.proofs.Vocabulary.{act_list, let_all_go, evicted, LostKind}
 use Rattle.hc_event.specs.declared.event.Event.TheVariants as event
 use Rattle.hc_on_body.proofs.GrowArm.{own_answered, shared_answered}
 use Rattle.hc_text.specs.declared.memory.NoMemory.{NoMemory}
-use Rattle.hc_exch.specs.declared.exchanges.Exchanges.{Exchanges}
-use Rattle.hc_exch.specs.Exchanges.{table_of}
-use Rattle.hc_exch.specs.Known.{EndsBelow}
-use Rattle.hc_on_body.proofs.GrowArm.{own_answered, shared_answered}
+use Rattle.hc_on_body.proofs.Bringing.{may_bring}
 use Rattle.hc_on_leave.proofs.LoseTurn.{writes_it, unwritten}
-use Rattle.hc_on_leave.proofs.PieceArm.{ends_below}
 use Rattle.hc_on_leave.proofs.StoreArm.{stores_of}
 use Rattle.hc_on_body.proofs.piece.grow.Goals as goal
 use Rattle.hc_state.proofs.Words.{ok_then}
@@ -17,19 +13,15 @@ use Rattle.hc_state.proofs.Words.{ok_then}
 told : (o p : Option LostKind) → o ≡ p → (let one : Result (Option LostKind) NoMemory = Ok o in one) ≡ Ok p
 told o p is = ap (λ (z : Option LostKind). (let one : Result (Option LostKind) NoMemory = Ok z in one)) is
 
-pub lose_shared_piece-requires-clause-below : goal.lose_shared_piece-requires-clause-below
-lose_shared_piece-requires-clause-below g c =
-    let r = c.args.rows.now in
+pub lose_shared_piece-requires-clause-may : goal.lose_shared_piece-requires-clause-may
+lose_shared_piece-requires-clause-may g c =
     let refused = c.in_ok-store_piece.ensures.refused c.in-Some.kind (told c.in_ok-store_piece.field-0 (Some c.in-Some.kind) c.in-Some.is) in
-    subst (λ (e : Exchanges). EndsBelow (length c.args.bytes.now) (table_of e c.args.x).running) (sym refused.exchanges)
-    (ends_below r c.args.x (length c.args.bytes.now) c.requires.stands (let short = c.requires.short in omega (arith, short)) (table_of r.exchanges c.args.x).running refl c.requires.accepted)
+    may_bring c.args.rows.now _ c.args.x c.args.r _ _ c.requires.comes refused.exchanges refused.there
 
-pub lose_own_piece-requires-clause-below : goal.lose_own_piece-requires-clause-below
-lose_own_piece-requires-clause-below g c =
-    let r = c.args.rows.now in
+pub lose_own_piece-requires-clause-may : goal.lose_own_piece-requires-clause-may
+lose_own_piece-requires-clause-may g c =
     let refused = c.in_ok-store_piece.ensures.refused c.in-Some.kind (told c.in_ok-store_piece.field-0 (Some c.in-Some.kind) c.in-Some.is) in
-    subst (λ (e : Exchanges). EndsBelow (length c.args.bytes.now) (table_of e c.args.x).running) (sym refused.exchanges)
-    (ends_below r c.args.x (length c.args.bytes.now) c.requires.stands (let short = c.requires.short in omega (arith, short)) (table_of r.exchanges c.args.x).running refl c.requires.accepted)
+    may_bring c.args.rows.now _ c.args.x c.args.r _ _ c.requires.comes refused.exchanges refused.there
 
 some_one : (o : Option ℕ) → is_some o ≡ true → (y : ℕ) × (o ≡ Some y)
 some_one None on = absurd (let never : false ≡ true = on in cc)
@@ -47,7 +39,7 @@ returns-in-Some-clause-answers g c = ok_then c.lose_shared_piece.result c.lose_s
     let r = c.args.rows.now in
     let put = c.store_piece.new.rows in
     let refused = c.in_ok-store_piece.ensures.refused c.in-Some.kind (told c.in_ok-store_piece.field-0 (Some c.in-Some.kind) c.in-Some.is) in
-    let it = stores_of r t facts c.args.x c.args.r c.args.bytes.now stands goes c.requires.stored in
+    let it = stores_of r t facts c.args.x c.args.r c.args.bytes.now stands goes c.requires.comes.stored in
     let there = sym (ap t.representation it.of_q) ∙ it.there in
     let writes = some_one c.writing.result (sym c.is_some-writing.ensures ∙ c.if-writing.true) in
     let on = (writes_it r t facts stands c.args.r it.v there writes.0 (sym c.writing.ensures ∙ writes.1)).0 in
@@ -59,7 +51,7 @@ returns-in-Some-2-clause-answers g c = ok_then c.lose_own_piece.result c.lose_ow
     let r = c.args.rows.now in
     let put = c.store_piece.new.rows in
     let refused = c.in_ok-store_piece.ensures.refused c.in-Some.kind (told c.in_ok-store_piece.field-0 (Some c.in-Some.kind) c.in-Some.is) in
-    let it = stores_of r t facts c.args.x c.args.r c.args.bytes.now stands goes c.requires.stored in
+    let it = stores_of r t facts c.args.x c.args.r c.args.bytes.now stands goes c.requires.comes.stored in
     let there = sym (ap t.representation it.of_q) ∙ it.there in
     let off = unwritten r t facts stands c.args.r it.v there (sym c.writing.ensures ∙ none_at c.writing.result (sym c.is_some-writing.ensures ∙ c.if-writing.false)) in
     own_answered r put t facts stands c.args.now c.args.x c.args.r c.args.bytes.now goes it c.in-Some.kind (act_list c.args.out.now) (act_list c.store_piece.new.out) (refused.refuses _ t facts stands goes) off

@@ -1,4 +1,4 @@
-use Rattle.std.proofs.Common.{◌≡◌, ◌+◌, ◌<◌, ◌≤◌, ◌^◌, false, ap, sym, ◌∙◌, arith}
+use Rattle.std.proofs.Common.{◌≡◌, ◌+◌, ◌≤◌, ◌^◌, false, ap, sym, ◌∙◌, arith}
 use Rattle.std.specs.Prelude.{option_map}
 use Rattle.hc_text.proofs.Basics.{some_inj as some_is}
 use Rattle.hc_stored.specs.declared.view.EntryView.{EntryView}
@@ -18,7 +18,7 @@ returns-then-covers_with g c = λ x bytes v k same kept told.
 pub overflow_add-entry : goal.overflow_add-entry
 overflow_add-entry g c =
     let most : c.unwrap-entry.result.size ≤ 2 ^ 62 = entry_small _ c.unwrap-entry.result (sym c.entry.ensures ∙ c.unwrap-entry.ensures) in
-    let end = c.requires.end in
+    let end = c.requires.place.end in
     omega (arith, most, end)
 
 pub returns-then-covers_with-2 : goal.returns-then-covers_with-2
@@ -29,7 +29,7 @@ returns-then-covers_with-2 g c = λ x bytes v k same kept told.
       | in-Some+else-covers_with w ↦ sym (complete_with s c.args.r c.args.at x c.args.count bytes v k same kept told w.covers_with.result w.in-Some.total (ap (λ (e : EntryView). e.total) (sym entry_is) ∙ w.in-Some.is) w.covers_with.ensures) ∙ w.if-covers_with.false
       | in_default w ↦ sym (incomplete_with s c.args.r c.args.at x c.args.count bytes v k same kept told (ap (λ (e : EntryView). e.total) (sym entry_is) ∙ none_told c.unwrap-entry.result.total w.in_default.not-Some))
     ] in
-    let some = c.requires.some in
+    let some = c.requires.place.some in
     is_truncated v incomplete (sym (front_with s c.args.r c.args.at x c.args.count bytes v k same kept told c.covers_with-2.result (c.unwrap-entry.result.size + c.args.count) (omega (arith, some)) (ap (λ (e : EntryView). e.size + c.args.count) entry_is) c.covers_with-2.ensures) ∙ c.if-covers_with-2.true)
 
 pub returns-else-covers_with-2 : goal.returns-else-covers_with-2
@@ -40,5 +40,5 @@ returns-else-covers_with-2 g c = λ x bytes v k same kept told.
       | in-Some+else-covers_with w ↦ sym (complete_with s c.args.r c.args.at x c.args.count bytes v k same kept told w.covers_with.result w.in-Some.total (ap (λ (e : EntryView). e.total) (sym entry_is) ∙ w.in-Some.is) w.covers_with.ensures) ∙ w.if-covers_with.false
       | in_default w ↦ sym (incomplete_with s c.args.r c.args.at x c.args.count bytes v k same kept told (ap (λ (e : EntryView). e.total) (sym entry_is) ∙ none_told c.unwrap-entry.result.total w.in_default.not-Some))
     ] in
-    let some = c.requires.some in
+    let some = c.requires.place.some in
     is_parts v incomplete (sym (front_with s c.args.r c.args.at x c.args.count bytes v k same kept told c.covers_with-2.result (c.unwrap-entry.result.size + c.args.count) (omega (arith, some)) (ap (λ (e : EntryView). e.size + c.args.count) entry_is) c.covers_with-2.ensures) ∙ c.if-covers_with-2.false)

@@ -10,7 +10,7 @@ use Rattle.hc_on_body.proofs.piece.lose_shared_piece.Goals as goal
 pub returns-then-is_some-clause-lost : goal.returns-then-is_some-clause-lost
 returns-then-is_some-clause-lost g c = λ lim t w v may stands.
     let r = c.args.rows.now in
-    let taken = accepted_open (table_of r.exchanges c.args.x).running _ c.requires.accepted in
+    let taken = accepted_open (table_of r.exchanges c.args.x).running _ c.requires.may.accepted in
     let lost = c.lose_shared-detached_reader.ensures.lost _ t v may.shared stands in
     let some : is_some c.lose_shared-detached_reader.result ≡ true = sym c.is_some-2.ensures ∙ c.if-is_some.true in
     stays_so c.lose_shared-detached_reader.new.rows _ t c.args.now c.args.r c.args.x c.args.bytes.now w v c.args.kind taken.1 may c.lose_shared-detached_reader.result lost.detached_reader_is lost.rows refl refl refl refl
@@ -20,7 +20,7 @@ returns-then-is_some-clause-lost g c = λ lim t w v may stands.
 pub returns-then-not-over-clause-lost : goal.returns-then-not-over-clause-lost
 returns-then-not-over-clause-lost g c = λ lim t w v may stands.
     let r = c.args.rows.now in
-    let taken = accepted_open (table_of r.exchanges c.args.x).running _ c.requires.accepted in
+    let taken = accepted_open (table_of r.exchanges c.args.x).running _ c.requires.may.accepted in
     let lost = c.lose_shared-detached_reader.ensures.lost _ t v may.shared stands in
     let none : is_some c.lose_shared-detached_reader.result ≡ false = sym c.is_some-2.ensures ∙ c.if-is_some.false in
     closes_it c.lose_shared-detached_reader.new.rows _ t c.args.now c.args.r c.args.x c.args.bytes.now w v c.args.kind taken.1 may c.lose_shared-detached_reader.result lost.detached_reader_is lost.rows refl refl refl refl
@@ -31,7 +31,7 @@ returns-then-not-over-clause-lost g c = λ lim t w v may stands.
 pub returns-else-not-over-clause-lost : goal.returns-else-not-over-clause-lost
 returns-else-not-over-clause-lost g c = λ lim t w v may stands.
     let r = c.args.rows.now in
-    let taken = accepted_open (table_of r.exchanges c.args.x).running _ c.requires.accepted in
+    let taken = accepted_open (table_of r.exchanges c.args.x).running _ c.requires.may.accepted in
     let lost = c.lose_shared-detached_reader.ensures.lost _ t v may.shared stands in
     let none : is_some c.lose_shared-detached_reader.result ≡ false = sym c.is_some-2.ensures ∙ c.if-is_some.false in
     stays_so c.lose_shared-detached_reader.new.rows _ t c.args.now c.args.r c.args.x c.args.bytes.now w v c.args.kind taken.1 may c.lose_shared-detached_reader.result lost.detached_reader_is lost.rows refl refl refl refl

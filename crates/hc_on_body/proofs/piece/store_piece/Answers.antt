@@ -13,25 +13,26 @@ use Rattle.hc_stored.specs.Shelf.{size_at}
 use Rattle.hc_state.specs.Room.{loss_by}
 use Rattle.std.specs.Prelude.{Result, Ok, Err, is_some}
 use Rattle.hc_text.proofs.Basics.{same_some as same_row}
+use Rattle.hc_on_body.proofs.Bringing.{comes_below, may_bring}
 use Rattle.hc_on_body.proofs.FewActs.{has_few, leaves_two}
-use Rattle.hc_on_leave.proofs.PieceArm.{ends_below}
 use Rattle.hc_on_leave.proofs.RefusedPiece.{refused_by}
 use Rattle.hc_on_leave.proofs.StoreArm.{kept_of, kept_mid, absent_mid, answered_mid, refused_mid}
 use Rattle.hc_on_body.proofs.piece.store_piece.Goals as goal
 
 pub make_room-requires : goal.make_room-requires
 make_room-requires g c =
-    let short = c.requires.short in
+    let short = c.requires.comes.short in
     let room = c.requires.room in
-    record { fits = has_few c.args.rows.now (write.Piece c.unwrap-entry.result.size (length c.args.bytes.now)) (omega (arith, short)) c.requires.stands (spare c.args.out.now) (omega (arith, room)) }
+    record { fits = has_few c.args.rows.now (write.Piece c.unwrap-entry.result.size (length c.args.bytes.now)) (omega (arith, short)) c.requires.comes.stands (spare c.args.out.now) (omega (arith, room)) }
 
-pub put_piece-requires-clause-there : goal.put_piece-requires-clause-there
-put_piece-requires-clause-there g c =
+pub put_piece-requires-clause-may : goal.put_piece-requires-clause-may
+put_piece-requires-clause-may g c =
     let r = c.args.rows.now in
     let k = kept_of ((shelf_of r.entries).kept c.args.r) c.unwrap-entry.result (sym c.entry.ensures ∙ c.unwrap-entry.ensures) in
     let had : (q : Kept) → (shelf_of r.entries).kept c.args.r ≡ Some q → c.unwrap-entry.result.size ≡ size q.cells = λ q at. k.2 ∙ ap (λ (z : Kept). size z.cells) (same_row ((shelf_of r.entries).kept c.args.r) k.0 q k.1 at) in
     let made = c.make_room.ensures in
-    kept_mid r c.make_room.new.rows c.args.now c.args.x c.args.r c.args.bytes.now c.requires.stands c.requires.accepted c.requires.stored (act_list c.args.out.now) (act_list c.make_room.new.out) c.unwrap-entry.result.size had made.gives made.last_start made.exchanges
+    let there = kept_mid r c.make_room.new.rows c.args.now c.args.x c.args.r c.args.bytes.now c.requires.comes.stands c.requires.comes.accepted c.requires.comes.stored (act_list c.args.out.now) (act_list c.make_room.new.out) c.unwrap-entry.result.size had made.gives made.last_start made.exchanges in
+    may_bring r c.make_room.new.rows c.args.x c.args.r _ _ c.requires.comes made.exchanges there
 
 pub put_piece-requires-clause-absent : goal.put_piece-requires-clause-absent
 put_piece-requires-clause-absent g c =
@@ -39,19 +40,12 @@ put_piece-requires-clause-absent g c =
     let k = kept_of ((shelf_of r.entries).kept c.args.r) c.unwrap-entry.result (sym c.entry.ensures ∙ c.unwrap-entry.ensures) in
     let had : (q : Kept) → (shelf_of r.entries).kept c.args.r ≡ Some q → c.unwrap-entry.result.size ≡ size q.cells = λ q at. k.2 ∙ ap (λ (z : Kept). size z.cells) (same_row ((shelf_of r.entries).kept c.args.r) k.0 q k.1 at) in
     let made = c.make_room.ensures in
-    absent_mid r c.make_room.new.rows c.args.now c.args.x c.args.r c.args.bytes.now c.requires.stands c.requires.accepted c.requires.stored (act_list c.args.out.now) (act_list c.make_room.new.out) c.unwrap-entry.result.size had made.gives made.last_start made.exchanges
-
-pub put_piece-requires-clause-below : goal.put_piece-requires-clause-below
-put_piece-requires-clause-below g c =
-    let r = c.args.rows.now in
-    subst (λ (e : Exchanges). EndsBelow (length c.args.bytes.now) (table_of e c.args.x).running) (sym c.make_room.ensures.exchanges)
-    (ends_below r c.args.x (length c.args.bytes.now) c.requires.stands (let short = c.requires.short in omega (arith, short)) (table_of r.exchanges c.args.x).running refl c.requires.accepted)
+    absent_mid r c.make_room.new.rows c.args.now c.args.x c.args.r c.args.bytes.now c.requires.comes.stands c.requires.comes.accepted c.requires.comes.stored (act_list c.args.out.now) (act_list c.make_room.new.out) c.unwrap-entry.result.size had made.gives made.last_start made.exchanges
 
 pub piece-requires-clause-below : goal.piece-requires-clause-below
 piece-requires-clause-below g c =
     let r = c.args.rows.now in
-    subst (λ (e : Exchanges). EndsBelow (length c.args.bytes.now) (table_of e c.args.x).running) (sym (c.put_piece.ensures.exchanges ∙ c.make_room.ensures.exchanges))
-    (ends_below r c.args.x (length c.args.bytes.now) c.requires.stands (let short = c.requires.short in omega (arith, short)) (table_of r.exchanges c.args.x).running refl c.requires.accepted)
+    subst (λ (e : Exchanges). EndsBelow (length c.args.bytes.now) (table_of e c.args.x).running) (sym (c.put_piece.ensures.rest.exchanges ∙ c.make_room.ensures.exchanges)) (comes_below r c.args.x _ _ c.requires.comes)
 
 pub returns-clause-answers : goal.returns-clause-answers
 returns-clause-answers g c =
@@ -60,10 +54,10 @@ returns-clause-answers g c =
     let had : (q : Kept) → (shelf_of r.entries).kept c.args.r ≡ Some q → c.unwrap-entry.result.size ≡ size q.cells = λ q at. k.2 ∙ ap (λ (z : Kept). size z.cells) (same_row ((shelf_of r.entries).kept c.args.r) k.0 q k.1 at) in
     let made = c.make_room.ensures in
     let puts = c.put_piece.ensures in
-    λ _. answered_mid r c.make_room.new.rows c.args.now c.args.x c.args.r c.args.bytes.now c.requires.stands c.requires.accepted c.requires.stored (act_list c.args.out.now) (act_list c.make_room.new.out) c.unwrap-entry.result.size had made.gives made.last_start made.exchanges
+    λ _. answered_mid r c.make_room.new.rows c.args.now c.args.x c.args.r c.args.bytes.now c.requires.comes.stands c.requires.comes.accepted c.requires.comes.stored (act_list c.args.out.now) (act_list c.make_room.new.out) c.unwrap-entry.result.size had made.gives made.last_start made.exchanges
     c.put_piece.new.rows _ c.in_default.ensures.ok (c.in_default.ensures.within.ok refl)
-    refl puts.last_start puts.consumers puts.keys
-    (subst (λ (e : Exchanges). Becomes (with_piece c.args.bytes.now false) c.args.x e c.piece.new.self) puts.exchanges c.in_ok-piece.ensures.ok)
+    refl puts.rest.last_start puts.rest.consumers puts.rest.keys
+    (subst (λ (e : Exchanges). Becomes (with_piece c.args.bytes.now false) c.args.x e c.piece.new.self) puts.rest.exchanges c.in_ok-piece.ensures.ok)
 
 told_kind : (a b : LostKind) → (let told : Result (Option LostKind) NoMemory = Ok (Some a) in told) ≡ Ok (Some b) → a ≡ b
 told_kind a b is = cc
@@ -77,15 +71,15 @@ returns-in-Err-clause-refused g c = λ kind is.
     let had : (q : Kept) → (shelf_of r.entries).kept c.args.r ≡ Some q → c.unwrap-entry.result.size ≡ size q.cells = λ q at. k.2 ∙ ap (λ (z : Kept). size z.cells) (same_row ((shelf_of r.entries).kept c.args.r) k.0 q k.1 at) in
     let made = c.make_room.ensures in
     let puts = c.put_piece.ensures in
-    let short = c.requires.short in
+    let short = c.requires.comes.short in
     let loss : loss_by c.in-Err.error ≡ Some kind = c.in_ok-lost_kind.ensures.lost ∙ ap (λ (z : LostKind). Some z) (told_kind c.in_ok-lost_kind.field-0 kind is) in
-    let kept = kept_mid r mid c.args.now c.args.x c.args.r c.args.bytes.now c.requires.stands c.requires.accepted c.requires.stored (act_list c.args.out.now) (act_list c.make_room.new.out) c.unwrap-entry.result.size had made.gives made.last_start made.exchanges in
+    let kept = kept_mid r mid c.args.now c.args.x c.args.r c.args.bytes.now c.requires.comes.stands c.requires.comes.accepted c.requires.comes.stored (act_list c.args.out.now) (act_list c.make_room.new.out) c.unwrap-entry.result.size had made.gives made.last_start made.exchanges in
     record {
-      refuses = refused_mid r mid c.args.now c.args.x c.args.r c.args.bytes.now c.requires.stands c.requires.accepted c.requires.stored (act_list c.args.out.now) (act_list c.make_room.new.out) c.unwrap-entry.result.size had made.gives made.last_start made.exchanges
+      refuses = refused_mid r mid c.args.now c.args.x c.args.r c.args.bytes.now c.requires.comes.stands c.requires.comes.accepted c.requires.comes.stored (act_list c.args.out.now) (act_list c.make_room.new.out) c.unwrap-entry.result.size had made.gives made.last_start made.exchanges
           put kind c.in-Err.ensures.err made.faults
           (refused_by (shelf_of mid.entries).limits (size_at (shelf_of mid.entries) c.args.r + length c.args.bytes.now) ((shelf_of mid.entries).used + length c.args.bytes.now) (shelf_of mid.entries).faults (shelf_of put.entries).faults (let e : Result (Unit {0}) StoreError = Err c.in-Err.error in e) c.in-Err.error kind refl loss c.in-Err.ensures.within c.in-Err.ensures.cause)
-          puts.last_start puts.consumers puts.exchanges puts.keys;
+          puts.rest.last_start puts.rest.consumers puts.rest.exchanges puts.rest.keys;
       there = ap (λ (o : Option Kept). is_some o) (c.in-Err.ensures.err.kept c.args.r) ∙ kept;
-      exchanges = puts.exchanges ∙ made.exchanges;
-      room = leaves_two r (write.Piece c.unwrap-entry.result.size (length c.args.bytes.now)) (omega (arith, short)) c.requires.stands (spare c.args.out.now) (spare c.make_room.new.out) c.requires.room made.room;
+      exchanges = puts.rest.exchanges ∙ made.exchanges;
+      room = leaves_two r (write.Piece c.unwrap-entry.result.size (length c.args.bytes.now)) (omega (arith, short)) c.requires.comes.stands (spare c.args.out.now) (spare c.make_room.new.out) c.requires.room made.room;
     }

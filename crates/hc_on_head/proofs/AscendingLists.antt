@@ -1,9 +1,9 @@
 -- Lists that rise: with one more at the end, and one that falls the other way round.
-use Rattle.std.proofs.Common.{◌≡◌, ◌⊎◌, inl, inr, ℕ, ◌<◌, ◌≤◌, List, [], ◌∷◌, ◌++◌, Bool, true, false, eqb, refl, ap, sym, ◌∙◌, arith}
+use Rattle.std.proofs.Common.{◌≡◌, inl, inr, ℕ, ◌<◌, ◌≤◌, List, [], ◌∷◌, ◌++◌, Bool, true, false, eqb, refl, ap, sym, ◌∙◌, arith}
 use Rattle.std.proofs.lemmas.Bool.Decides.{nat_tests}
 use Rattle.std.proofs.lemmas.List.{reverse-append}
 use Rattle.std.specs.Prelude.{reverse, nat_lt, ◌||◌}
-use Rattle.hc_text.proofs.Basics.{bool_cases, eq_by, eqb-same, false_true, or_cases as in_either}
+use Rattle.hc_text.proofs.Basics.{bool_cases, eq_by, false_true, or_cases as in_either}
 use Rattle.hc_entry.specs.Lines.{is_among}
 use Rattle.hc_entry.specs.Users.{itself}
 use Rattle.hc_entry.proofs.SeatLemmas.{first_in}

@@ -1,5 +1,5 @@
 -- By what the code did at a head that founds: what it asked for may be asked for, and the head is answered.
-use Rattle.std.proofs.Common.{◌≡◌, ℕ, ◌+◌, ◌<◌, ◌≤◌, ◌^◌, List, [], ◌∷◌, ◌++◌, true, false, Option, Some, None, Result, Ok, Err, refl, ap, sym, ◌∙◌, subst, arith}
+use Rattle.std.proofs.Common.{◌≡◌, ℕ, ◌+◌, ◌<◌, ◌≤◌, List, [], ◌∷◌, ◌++◌, true, false, Option, Some, None, Result, Ok, Err, refl, ap, sym, ◌∙◌, subst, arith}
 use Rattle.std.specs.Prelude.{IsSomeAnd, is_some, nat_eq, option_map}
 use Rattle.std.specs.HashMap.{get}
 use Rattle.hc_text.proofs.Basics.{none_of, some_inj as some_is}

@@ -1,9 +1,9 @@
 -- What the code looked up of a head is what the tables say: its consumer, its case, what it dooms and what goes with it.
-use Rattle.std.proofs.Common.{◌≡◌, ◌⊎◌, inl, inr, ℕ, ◌+◌, ◌<◌, List, Bool, true, false, Option, Some, None, refl, ap, ap₂, sym, ◌∙◌, subst, arith}
+use Rattle.std.proofs.Common.{◌≡◌, ◌⊎◌, inl, inr, ℕ, List, Bool, true, false, Option, Some, None, refl, ap, ap₂, sym, ◌∙◌, subst}
 use Rattle.std.specs.Prelude.{IsTrue, ◌==◌, is_some, nat_eq, nat_lt, option_map, IsSomeAnd, ◌&&◌, ◌||◌, if◌then◌else◌}
-use Rattle.std.specs.HashMap.{get, hash_map_len}
+use Rattle.std.specs.HashMap.{get}
 use Rattle.hc_text.proofs.Basics.{and_both as both_of, false_true, same_some as same_row, some_inj as some_is}
-use Rattle.hc_effects.proofs.Vocabulary.{Limits, Request, Response, HeadCase, HeadView, Route, head_case, case_on, is_bad, route_of, head_refusal, Place, head_view, is_founding, current, doomed_by_case, changes, is_headless, is_in_line, most_live, Tables, Exchange, awaited_exchange}
+use Rattle.hc_effects.proofs.Vocabulary.{Limits, Request, Response, HeadCase, HeadView, Route, head_case, case_on, is_bad, route_of, head_refusal, Place, head_view, is_founding, current, doomed_by_case, changes, is_headless, is_in_line, Tables, Exchange, awaited_exchange}
 use Rattle.hc_store.specs.declared.backend.Backend.{Ghosts}
 use Rattle.hc_fields.specs.FieldList.{IsWithinLimits}
 use Rattle.hc_rules.specs.declared.heads.HeadCase.TheVariants as case
@@ -32,11 +32,11 @@ use Rattle.hc_state.specs.Kept.{IsRunning}
 use Rattle.hc_state.specs.Lines.{is_away, is_away_at}
 use Rattle.hc_state.specs.Stands.{RowsStand, Stands}
 use Rattle.hc_on_leave.proofs.HeadCases.{it_is}
+use Rattle.hc_on_head.specs.Comings.{IsHeard, IsPast}
 use Rattle.hc_on_head.proofs.HeadViews.{case_is, aim_is, view_is as views_as}
 use Rattle.hc_on_leave.proofs.HeardRows.{Asker, Headless, asker, headless_of, heard_row, runs_as}
 use Rattle.hc_state.proofs.KeySteps.{lined}
-use Rattle.hc_state.proofs.Maps.{merely_true, merely_below, some_that}
-use Rattle.hc_state.proofs.Kept.{few_kept}
+use Rattle.hc_state.proofs.Maps.{merely_true, some_that}
 use Rattle.hc_on_leave.proofs.UnstoredArms.{awaits_viewed}
 
 -- A BAD HEAD IS OF A BAD CASE
@@ -388,14 +388,17 @@ module _ {B : Type 0} {g : Ghosts B} (r : Rows B g) (x : ℕ) (response : Respon
     parts : ((is_past_case k ≡ true) × (changes_by bare.o.request response ≡ true))
     parts = both_of (is_past_case k) (changes_by bare.o.request response) (sym (dooms bare.o bare.there) ∙ on)
 
-    pub dooms_past : is_past_case k ≡ true
+    dooms_past : is_past_case k ≡ true
     dooms_past = parts.0
 
-    pub past_store : is_some (get nat_eq r.consumers v.c) ≡ true → IsPastStore (table_of r.exchanges x).running
+    past_store : is_some (get nat_eq r.consumers v.c) ≡ true → IsPastStore (table_of r.exchanges x).running
     past_store lives = λ q there.
         let u = some_row (get nat_eq r.consumers v.c) lives in
         let view : HeadView = heard_view q u.0 (kept_at (shelf_of r.entries) aim) response in
         past_way view k (subst (CaseBy view) (sym (tells q u.0 there u.1)) (case_by view)) parts.0
+
+    pub past_as : (now : ℕ) → is_some (get nat_eq r.consumers v.c) ≡ true → IsPast r (record { now = now; x = x; c = v.c }) k response
+    past_as now lives = record { opened = past_store lives; case_is = dooms_past; good = good_as lives }
 
     pub told_dooming : {lim : Limits} (t : Tables) (facts : Facts lim t) (stands : RowsStand lim r t) → ToldDooming t x response k
     told_dooming t facts stands =
@@ -464,3 +467,13 @@ live_now r x found v accepted viewed some some_past =
     let view_is = viewed_as x (table_of r.exchanges x).running bare.o found v bare.there viewed some in
     merely_true (is_some (get nat_eq r.consumers v.c)) some_past
     (λ p. (let s = past_of_runs r p in asker_lives r s.0 s.1 s.2 x bare.o bare.there bare.headless v.c (sym (ap (λ (z : ExchangeView). z.c) view_is))))
+
+-- its exchange is open without a head, for its consumer
+pub heard_now : {B : Type 0} {g : Ghosts B} (r : Rows B g) (now x : ℕ) (found : Option ExchangeView) (v : ExchangeView) → head_refusal (option_map open_view (table_of r.exchanges x).running) ≡ None → found ≡ option_map (view_of x) (table_of r.exchanges x).running → found ≡ Some v → ∥ Stands r ∥₁
+    → IsHeard r (record { now = now; x = x; c = v.c })
+heard_now r now x found v accepted viewed some some_past = record {
+  stands = some_past;
+  accepted = accepted;
+  asker = λ o there. sym (ap (λ (z : ExchangeView). z.c) (viewed_as x (table_of r.exchanges x).running o found v there viewed some));
+  live = live_now r x found v accepted viewed some some_past;
+}

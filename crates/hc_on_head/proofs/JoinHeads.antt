@@ -4,6 +4,7 @@ use Rattle.std.specs.Prelude.{is_some, IsSomeAnd, nat_eq, option_map}
 use Rattle.std.specs.HashMap.{get}
 use Rattle.hc_text.proofs.Basics.{false_true}
 use Rattle.hc_store.specs.declared.backend.Backend.{Ghosts}
+use Rattle.hc_fields.specs.FieldList.{IsWithinLimits}
 use Rattle.hc_effects.proofs.Vocabulary.{Need, Response, HeadCase, HeadView, head_case, head_refusal}
 use Rattle.hc_event.specs.declared.act.Need.TheVariants as need
 use Rattle.hc_rules.specs.declared.heads.HeadCase.TheVariants as case
@@ -21,8 +22,10 @@ use Rattle.hc_state.specs.declared.consumer.Consumer.{Consumer}
 use Rattle.hc_state.specs.declared.rows.Rows.{Rows}
 use Rattle.hc_state.specs.Heads.{aim_in, heard_view, is_bad_case, joins_kept, kept_at}
 use Rattle.hc_state.specs.Joining.{IsAbout, IsAboutKept, joins_hole}
+use Rattle.hc_state.specs.Stands.{Stands}
 use Rattle.hc_on_leave.proofs.HeadCases.{case_unvalidated}
-use Rattle.hc_on_head.proofs.HeadTold.{viewed_as}
+use Rattle.hc_on_head.specs.Comings.{FitsCase}
+use Rattle.hc_on_head.proofs.HeadTold.{founds_as, good_as, past_of_runs, viewed_as, waits_as_told}
 use Rattle.hc_on_leave.proofs.HeardRows.{Headless, headless_of}
 
 -- nothing joins what isn't kept
@@ -98,14 +101,25 @@ module _ {B : Type 0} {g : Ghosts B} (r : Rows B g) (x : ℕ) (found : Option Ex
   about_this q is = λ o there. sym (aim_as o there) ∙ is
 
   module _ (k : HeadCase) (lives : is_some (get nat_eq r.consumers v.c) ≡ true) (tells : (q : Open) (u : Consumer) → (table_of r.exchanges x).running ≡ Some q → get nat_eq r.consumers v.c ≡ Some u → k ≡ head_case (heard_view q u (kept_at (shelf_of r.entries) aim) response)) where
-    pub joins_as : joins_hole k ≡ true → IsAboutKept (shelf_of r.entries) (table_of r.exchanges x).running
+    joins_as : joins_hole k ≡ true → IsAboutKept (shelf_of r.entries) (table_of r.exchanges x).running
     joins_as on = λ o there.
         let u = some_row (get nat_eq r.consumers v.c) lives in
         let view : HeadView = heard_view o u.0 (kept_at (shelf_of r.entries) aim) response in
         let joins = joins_by_case view k (subst (CaseBy view) (sym (tells o u.0 there u.1)) (case_by view)) on in
         subst (λ (n : Option ℕ). IsSomeAnd n (λ q. is_kept (shelf_of r.entries) q ≡ true)) (aim_as o there) (joins_aim (shelf_of r.entries) o.need aim response joins)
 
-    pub unvalidated_as : k ≡ case.Validated → ⊥
+    unvalidated_as : k ≡ case.Validated → ⊥
     unvalidated_as is =
         let u = some_row (get nat_eq r.consumers v.c) lives in
         case_unvalidated (heard_view bare.o u.0 (kept_at (shelf_of r.entries) aim) response) refl (sym (tells bare.o u.0 bare.there u.1) ∙ is)
+
+    -- what its case says
+    pub fits_as : (now : ℕ) → ∥ Stands r ∥₁ → IsWithinLimits response.fields → (k ≡ case.NotValidated → ⊥) → FitsCase r (record { now = now; x = x; c = v.c }) k response
+    fits_as now some_past within_limits apart = record {
+      good = good_as r x response found v aim k accepted viewed some about tells lives;
+      waits = waits_as_told r x response found v aim k accepted viewed some about tells some_past (past_of_runs r) lives;
+      founds = founds_as r x response found v aim k accepted viewed some about tells lives within_limits;
+      joins = joins_as;
+      selected = unvalidated_as;
+      validated = apart;
+    }

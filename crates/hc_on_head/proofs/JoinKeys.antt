@@ -1,7 +1,6 @@
 -- A consumer waits for its key no more: what is kept by key stands for the tables without it.
 use Rattle.std.proofs.Common.{◌≡◌, ℕ, List, Bool, true, false, Some, None, refl, ap, sym, ◌∙◌, subst}
 use Rattle.std.specs.Prelude.{bytes_eq, ◌||◌}
-use Rattle.hc_text.proofs.Basics.{false_true}
 use Rattle.hc_rules.proofs.RangeReads.{same_bytes}
 use Rattle.hc_entry.specs.declared.keys.KeyTable.{KeyTable}
 use Rattle.hc_entry.specs.Kept as keyed

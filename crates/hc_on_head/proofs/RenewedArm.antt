@@ -1,5 +1,5 @@
 -- The head of a representation is renewed: what is kept stands for the tables then.
-use Rattle.std.proofs.Common.{◌≡◌, ◌≢◌, inl, inr, ℕ, List, [], ◌∷◌, Option, Some, None, refl, ap, sym, ◌∙◌, subst}
+use Rattle.std.proofs.Common.{◌≡◌, ◌≢◌, inl, inr, ℕ, List, Option, Some, None, refl, ap, sym, ◌∙◌, subst}
 use Rattle.std.specs.Prelude.{is_some, nat_eq, option_map}
 use Rattle.std.specs.HashMap.{get, hash_map_len}
 use Rattle.hc_text.proofs.Basics.{eqb-other, eqb-same, filters_same, finds_same, same_or}

@@ -1,5 +1,6 @@
 -- A 304 that may be about what is stored: it is answered.
 use Rattle.std.proofs.Common.{◌≡◌, inl, inr, ℕ, ◌≤◌, List, [], ◌∷◌, ◌++◌, Bool, true, false, Option, Some, None, Result, Ok, refl, ap, ap₂, sym, ◌∙◌, subst, arith}
+use Rattle.std.proofs.Math.Logic.{∥∥₁_map}
 use Rattle.std.proofs.lemmas.Bool.Decides.{nat_tests}
 use Rattle.std.specs.Prelude.{is_some, IfOk, IsSomeAnd, nat_eq, map, option_map, not, ◌||◌, if◌then◌else◌}
 use Rattle.std.specs.HashMap.{get}
@@ -40,6 +41,8 @@ use Rattle.hc_state.specs.Stands.{Answered, KeepsRest, RowsStand, Stands}
 use Rattle.hc_state.specs.Stored.{KeepsEntry, IsEntry, is_usable_kept}
 use Rattle.hc_state.proofs.Answering.{does_answered}
 use Rattle.hc_state.proofs.Counting.{stands_counted}
+use Rattle.hc_on_head.specs.declared.heard.Heard.{Heard}
+use Rattle.hc_on_head.specs.Comings.{IsHeard}
 use Rattle.hc_on_leave.proofs.HeadCases.{it_is, case_selected, case_unselected}
 use Rattle.hc_on_head.proofs.HeadTold.{past_of_runs}
 use Rattle.hc_on_leave.proofs.HeardRows.{Asker, headless_of, runs_as}
@@ -210,11 +213,20 @@ module _ {B : Type 0} {g : Ghosts B} (r mid : Rows B g) (rest : KeepsBeside r mi
   pub waits_on : (c : ℕ) → IsSomeAnd (get nat_eq r.consumers c) (IsInKey r.keys c) → IsSomeAnd (get nat_eq mid.consumers c) (IsInKey mid.keys c)
   waits_on c waits = (let consumers = rest.consumers in let same_keys = rest.keys in rw (consumers, same_keys) waits)
 
-  pub accepted_on : (x : ℕ) → head_refusal (option_map open_view (table_of r.exchanges x).running) ≡ None → head_refusal (option_map open_view (table_of mid.exchanges x).running) ≡ None
+  accepted_on : (x : ℕ) → head_refusal (option_map open_view (table_of r.exchanges x).running) ≡ None → head_refusal (option_map open_view (table_of mid.exchanges x).running) ≡ None
   accepted_on x accepted = (let exchanges = rest.exchanges in rw exchanges accepted)
 
-  pub asked_on : (c x : ℕ) → IsAskedBy c (table_of r.exchanges x).running → IsAskedBy c (table_of mid.exchanges x).running
+  asked_on : (c x : ℕ) → IsAskedBy c (table_of r.exchanges x).running → IsAskedBy c (table_of mid.exchanges x).running
   asked_on c x asked = (let exchanges = rest.exchanges in rw exchanges asked)
+
+  -- what is heard then
+  pub heard_on : (heard : Heard) → shelf.Stays (shelf_of r.entries) (shelf_of mid.entries) → IsHeard r heard → IsHeard mid heard
+  heard_on heard same comes = record {
+    stands = ∥∥₁_map comes.stands (λ p. past_unrenewed r mid rest same p);
+    accepted = accepted_on heard.x comes.accepted;
+    asker = asked_on heard.c heard.x comes.asker;
+    live = ap (λ z. is_some (get nat_eq z heard.c)) rest.consumers ∙ comes.live;
+  }
 
   -- what is answered from then on
   pub answered_on : {lim : Limits} (u : Rows B g) (t : Tables) (before out : List Act) (now : ℕ) (ev : Event) → (shelf_of r.entries).faults ≤ (shelf_of mid.entries).faults → Answered lim (shelf_of mid.entries).faults u t before out now ev → Answered lim (shelf_of r.entries).faults u t before out now ev

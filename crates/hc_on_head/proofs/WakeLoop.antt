@@ -1,5 +1,5 @@
 -- The loop of a doom over the seats of its key: who started over so far, and is bound to nothing.
-use Rattle.std.proofs.Common.{◌≡◌, ◌≢◌, ◌⊎◌, inl, inr, ℕ, ◌+◌, ◌<◌, ◌≤◌, List, Bool, true, false, Option, Some, None, refl, ap, sym, ◌∙◌, subst, arith}
+use Rattle.std.proofs.Common.{◌≡◌, ◌≢◌, inl, inr, ℕ, ◌+◌, ◌<◌, ◌≤◌, List, Bool, true, false, Option, Some, None, refl, ap, sym, ◌∙◌, subst, arith}
 use Rattle.std.specs.Prelude.{is_some, nat_eq, option_map}
 use Rattle.std.specs.HashMap.{get}
 use Rattle.hc_text.proofs.Basics.{eqb-other, eqb-same, false_true, mapped, same_or, same_some as same_row, some_inj as some_is}

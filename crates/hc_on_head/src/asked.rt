@@ -1,15 +1,12 @@
 //! What a 304 may be about, where it can't be read or updated.
-ghost use Rattle.std.specs.Prelude.{◌≡◌, ◌≤◌, ◌<◌, ◌^◌, ℕ, true, None, nat_eq, IsSomeAnd};
+ghost use Rattle.std.specs.Prelude.{◌≡◌, ◌≤◌, ◌<◌, ℕ, true, None, nat_eq, IsSomeAnd};
 ghost use Rattle.std.specs.HashMap.{get};
 ghost use Rattle.hc_event.specs.Acts.{act_list, spare};
-ghost use Rattle.hc_rules.specs.Refusals.{head_refusal};
 ghost use Rattle.hc_stored.specs.Entries.{shelf_of};
-ghost use Rattle.hc_exch.specs.Exchanges.{table_of};
 ghost use Rattle.hc_state.specs.Arms.{IsInKey};
-ghost use Rattle.hc_state.specs.Heads.{IsAskedBy};
 ghost use Rattle.hc_state.specs.DetachedReaders.{AnswersLosing};
-ghost use Rattle.hc_state.specs.Stands.{Stands, open_at};
 ghost use Rattle.hc_state.specs.Stored.{is_usable_kept};
+ghost use Rattle.hc_on_head.specs.Comings.{IsHeard};
 
 use crate::asker::send_back;
 use crate::heard::Heard;
@@ -30,12 +27,10 @@ pub fn lose_asked<B: Backend>(
     r: u64,
     out: &mut Acts,
 )
-    requires stands { ∥ Stands rows.old ∥₁ }
+    requires comes { IsHeard rows.old heard }
     requires current { is_usable_kept ((shelf_of rows.old.entries).kept r) ≡ true }
     requires waits { IsSomeAnd (get nat_eq rows.old.consumers heard.c)
         (IsInKey rows.old.keys heard.c) }
-    requires accepted { head_refusal (open_at rows.old heard.x) ≡ None }
-    requires asker { IsAskedBy heard.c (table_of rows.old.exchanges heard.x).running }
     requires room { 3 ≤ spare out.old }
     ensures answers { (faults : ℕ) → AnswersLosing rows.old rows.new (act_list out.old)
         (act_list out.new) faults heard.now heard.x r response.now }

@@ -1,7 +1,6 @@
 //! What becomes of a consumer that waits for the head of its exchange.
 ghost use Rattle.std.specs.Prelude.{◌≡◌, ℕ, true, Some, is_some, nat_eq, IsSomeAnd};
 ghost use Rattle.std.specs.HashMap.{get};
-ghost use Rattle.hc_stored.specs.Entries.{shelf_of};
 ghost use Rattle.hc_model.specs.ConsumerRows.{back_in_line};
 ghost use Rattle.hc_event.specs.declared.place.Place.TheVariants as place;
 ghost use Rattle.hc_model.specs.Effects.{with_consumer, with_representation};
@@ -13,6 +12,7 @@ ghost use Rattle.hc_state.specs.Arms.{IsInKey};
 ghost use Rattle.hc_state.specs.Facts.{Facts};
 ghost use Rattle.hc_state.specs.Heads.{AwaitsHead, StandsApart};
 ghost use Rattle.hc_state.specs.Stands.{RowsStand, Stands};
+ghost use Rattle.hc_on_head.specs.Frames.{KeepsExchanges};
 
 use hc_event::Place;
 use hc_on_leave::gone::{leave_key, unbind_from};
@@ -28,8 +28,7 @@ pub fn fall_back<B: Backend>(rows: &mut Rows<B>, c: u64, place: Place)
         → Facts lim t → AwaitsHead t x w k → w.c ≡ c → StandsApart x place
         → RowsStand lim rows.old t
         → RowsStand lim rows.new (with_consumer c (Some (record k { place = place })) t) }
-    ensures exchanges { rows.new.exchanges ≡ rows.old.exchanges }
-    ensures faults { (shelf_of rows.new.entries).faults ≡ (shelf_of rows.old.entries).faults }
+    ensures rest { KeepsExchanges rows.old rows.new }
 {
     let consumer = rows.consumers.get(&c).unwrap();
     leave_key(&mut rows.keys, &consumer.request.key, c);
@@ -46,8 +45,7 @@ pub(crate) fn send_back<B: Backend>(rows: &mut Rows<B>, now: u64, c: u64)
         → Facts lim t → AwaitsHead t x w k → w.c ≡ c → awaited_exchange k.place ≡ Some x
         → RowsStand lim rows.old t
         → RowsStand lim rows.new (with_consumer c (Some (back_in_line now k)) t) }
-    ensures exchanges { rows.new.exchanges ≡ rows.old.exchanges }
-    ensures faults { (shelf_of rows.new.entries).faults ≡ (shelf_of rows.old.entries).faults }
+    ensures rest { KeepsExchanges rows.old rows.new }
 {
     let consumer = rows.consumers.get(&c).unwrap();
     rows.keys.back(&consumer.request.key, c);
@@ -65,8 +63,7 @@ pub fn let_through<B: Backend>(rows: &mut Rows<B>, c: u64, r: u64, x: u64)
         → RowsStand lim rows.new (with_consumer c
         (Some (record k { place = place.Passed r (Some x) }))
         (with_representation r (Some v) t)) }
-    ensures exchanges { rows.new.exchanges ≡ rows.old.exchanges }
-    ensures faults { (shelf_of rows.new.entries).faults ≡ (shelf_of rows.old.entries).faults }
+    ensures rest { KeepsExchanges rows.old rows.new }
 {
     let consumer = rows.consumers.get(&c).unwrap();
     rows.keys.pass(&consumer.request.key, c);

@@ -15,8 +15,9 @@ ghost use Rattle.hc_model.specs.Rows.{Tables};
 ghost use Rattle.hc_rules.specs.declared.room.Limits.{Limits};
 ghost use Rattle.hc_state.specs.Changes.{ChangesAt, ChangesAmong, once_over};
 ghost use Rattle.hc_state.specs.Dooms.{awaited_by, IsAwaited, IsToClose, IsNext, AreAtMost, behind, nearer, Closes, IsUnheard, KeepsLine, KeepsSomeLine, IsUser, Unbinds, IsDoomed};
-ghost use Rattle.hc_state.specs.Stands.{Answers, KeepsRest, RowsStand, Stands};
+ghost use Rattle.hc_state.specs.Stands.{Answers, RowsStand, Stands};
 ghost use Rattle.hc_state.specs.Stored.{KeepsEntries};
+ghost use Rattle.hc_on_head.specs.Frames.{ChangesExchanges, KeepsExchanges};
 
 use hc_event::Acts;
 use hc_on_leave::close::close;
@@ -53,7 +54,6 @@ pub(crate) fn doom<B: Backend>(
     requires room { hash_map_len rows.old.consumers ≤ spare out.old }
     ensures doomed { (lim : Limits) (t : Tables) → Lawful t → RowsStand lim rows.old t
         → IsDoomed lim rows.new t (act_list out.old) (act_list out.new) now key.now refused }
-    ensures last_start { rows.new.last_start ≡ rows.old.last_start }
     ensures faults { (shelf_of rows.new.entries).faults ≡ (shelf_of rows.old.entries).faults }
 {
     let current = rows.keys.current(key);
@@ -71,9 +71,7 @@ fn wake<B: Backend>(rows: &mut Rows<B>, now: u64, key: &Key)
     ensures entries { (t : Tables) → Lawful t → KeepsLine rows.old t key.now
         → KeepsEntries (woken now key.now t) (shelf_of rows.new.entries) }
     ensures bounded { (shelf_of rows.new.entries).limits ≡ (shelf_of rows.old.entries).limits }
-    ensures faults { (shelf_of rows.new.entries).faults ≡ (shelf_of rows.old.entries).faults }
-    ensures last_start { rows.new.last_start ≡ rows.old.last_start }
-    ensures exchanges { rows.new.exchanges ≡ rows.old.exchanges }
+    ensures rest { KeepsExchanges rows.old rows.new }
 {
     for i in 0..rows.keys.seats(key) {
         if let Some(c) = rows.keys.seated(key, i) {
@@ -89,10 +87,8 @@ fn wake_one<B: Backend>(rows: &mut Rows<B>, now: u64, c: u64)
     ensures over { ChangesAt rows.old.consumers rows.new.consumers c (once_over now) }
     ensures unbound { Unbinds (get nat_eq rows.old.consumers c) c
         (shelf_of rows.old.entries) (shelf_of rows.new.entries) }
-    ensures faults { (shelf_of rows.new.entries).faults ≡ (shelf_of rows.old.entries).faults }
     ensures keys { rows.new.keys ≡ rows.old.keys }
-    ensures last_start { rows.new.last_start ≡ rows.old.last_start }
-    ensures exchanges { rows.new.exchanges ≡ rows.old.exchanges }
+    ensures rest { KeepsExchanges rows.old rows.new }
 {
     if let Some(consumer) = rows.consumers.get(&c) {
         unbind_from(&mut rows.entries, consumer.place, c);
@@ -108,8 +104,7 @@ fn close_awaited<B: Backend>(rows: &mut Rows<B>, key: &Key, refused: Option<u64>
     requires few { AreAtMost (spare out.old) (IsToClose rows.old key.now refused) }
     ensures closes { Closes rows.old rows.new.exchanges key.now refused
         (act_list out.old) (act_list out.new) }
-    ensures consumers { rows.new.consumers ≡ rows.old.consumers }
-    ensures rest { KeepsRest rows.old rows.new }
+    ensures rest { ChangesExchanges rows.old rows.new }
 {
     let mut last = None;
     while let Some(x) = next_to_close(rows, key, refused, last) {

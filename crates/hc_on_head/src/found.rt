@@ -1,5 +1,5 @@
 //! Heads that found a representation.
-ghost use Rattle.std.specs.Prelude.{◌≡◌, ◌+◌, ◌≤◌, ◌<◌, ◌^◌, Some, None, Err, true, false, nat_eq, is_some, IfOk, IsSomeAnd, OnOk, OnErr};
+ghost use Rattle.std.specs.Prelude.{◌≡◌, ◌+◌, ◌≤◌, ◌<◌, Some, None, Err, true, false, nat_eq, is_some, IfOk, IsSomeAnd, OnOk, OnErr};
 ghost use Rattle.std.specs.HashMap.{get};
 ghost use Rattle.hc_event.specs.Acts.{act_list, spare};
 ghost use Rattle.hc_record.specs.Plain.{plain};
@@ -11,17 +11,17 @@ ghost use Rattle.hc_stored.specs.Entries.{shelf_of};
 ghost use Rattle.hc_exch.specs.Exchanges.{table_of};
 ghost use Rattle.hc_exch.specs.Known.{is_open, length_by};
 ghost use Rattle.hc_exch.specs.declared.row.Open.{Open};
-ghost use Rattle.hc_model.specs.Cases.{is_founding};
 ghost use Rattle.hc_model.specs.Heads.{total_of_part};
 ghost use Rattle.hc_state.specs.Founding.{MayFound, IsFounding, BeginsFounding, head_by, is_shared_by, part_by};
-ghost use Rattle.hc_state.specs.Heads.{IsAskedBy, IsTimely};
+ghost use Rattle.hc_state.specs.Heads.{IsTimely};
 ghost use Rattle.hc_state.specs.Renewals.{IsUnrenewed};
-ghost use Rattle.hc_state.specs.Room.{Appends};
 ghost use Rattle.hc_state.specs.Stands.{AnswersCase, Stands, open_at};
+ghost use Rattle.hc_on_head.specs.Comings.{FoundsBy, IsHeard};
+ghost use Rattle.hc_on_head.specs.Frames.{IsQuietOnError};
 
 use crate::asker::fall_back;
 use crate::heard::Heard;
-use crate::unstored::answer_past;
+use crate::unstored::have_answer;
 use hc_event::{Act, Acts, Place, Response};
 use hc_exch::Role;
 use hc_on_leave::acts::put;
@@ -44,64 +44,34 @@ pub(crate) fn found<B: Backend>(
     goes: Option<u64>,
     out: &mut Acts,
 ) -> Result<(), NoMemory>
-    requires stands { ∥ Stands rows.old ∥₁ }
-    requires live { is_some (get nat_eq rows.old.consumers heard.c) ≡ true }
-    requires accepted { head_refusal (open_at rows.old heard.x) ≡ None }
-    requires asker { IsAskedBy heard.c (table_of rows.old.exchanges heard.x).running }
+    requires comes { IsHeard rows.old heard }
+    requires timely { IsTimely heard.now (table_of rows.old.exchanges heard.x).running }
     requires good { is_bad (length_by (table_of rows.old.exchanges heard.x).running
         response.now) ≡ false }
-    requires timely { IsTimely heard.now (table_of rows.old.exchanges heard.x).running }
-    requires founds { is_founding (Some case) ≡ true }
-    requires may { MayFound response.now }
+    requires founds { FoundsBy case response.now }
     requires room { 2 ≤ spare out.old }
     ensures answers { OnOk result (AnswersCase rows.old rows.new (act_list out.old)
         (act_list out.new) heard.now heard.x response.now case goes) }
-    ensures faults { (shelf_of rows.old.entries).faults ≤ (shelf_of rows.new.entries).faults }
-    ensures kept { OnErr result (act_list out.new ≡ act_list out.old) }
-{
-    let told = out.list().len();
-    let founded = found_in_room(rows, case, heard, response, goes, out);
-    if founded.is_err() {
-        out.truncate(told);
-    }
-    founded
-}
-
-/// The same, but that after want of memory it may be told what made room.
-fn found_in_room<B: Backend>(
-    rows: &mut Rows<B>,
-    case: HeadCase,
-    heard: Heard,
-    response: &Response,
-    goes: Option<u64>,
-    out: &mut Acts,
-) -> Result<(), NoMemory>
-    requires stands { ∥ Stands rows.old ∥₁ }
-    requires live { is_some (get nat_eq rows.old.consumers heard.c) ≡ true }
-    requires accepted { head_refusal (open_at rows.old heard.x) ≡ None }
-    requires asker { IsAskedBy heard.c (table_of rows.old.exchanges heard.x).running }
-    requires good { is_bad (length_by (table_of rows.old.exchanges heard.x).running
-        response.now) ≡ false }
-    requires timely { IsTimely heard.now (table_of rows.old.exchanges heard.x).running }
-    requires founds { is_founding (Some case) ≡ true }
-    requires may { MayFound response.now }
-    requires room { 2 ≤ spare out.old }
-    ensures answers { OnOk result (AnswersCase rows.old rows.new (act_list out.old)
-        (act_list out.new) heard.now heard.x response.now case goes) }
-    ensures faults { (shelf_of rows.old.entries).faults ≤ (shelf_of rows.new.entries).faults }
-    ensures appends { Appends (act_list out.old) (act_list out.new) }
+    ensures refusal { IsQuietOnError result rows.old rows.new (act_list out.old)
+        (act_list out.new) }
 {
     let founding = founding(rows, case, heard, response)?;
     let current = rows.keys.current(&founding.key);
     fall_back(rows, heard.c, Place::Direct(heard.x));
     let_some_go(rows, heard.now, goes);
     let_some_go(rows, heard.now, current);
+    let told = out.list().len();
     make_room(rows, heard.now, Write::Slot, out);
-    if let Err(error) = found_with(rows, heard, response, founding) {
-        let kind = lost_kind(error)?;
-        answer_past(rows, heard, response)?;
-        put(out, Act::Lost { r: heard.x, kind });
-    }
+    let Err(error) = found_with(rows, heard, response, founding) else {
+        return Ok(());
+    };
+    let (Ok(kind), Ok(answer)) = (lost_kind(error), response.copy()) else {
+        // Where memory is wanted, what made room isn't told.
+        out.truncate(told);
+        return Err(NoMemory);
+    };
+    have_answer(rows, heard, response, answer);
+    put(out, Act::Lost { r: heard.x, kind });
     Ok(())
 }
 
@@ -112,9 +82,7 @@ fn founding<B: Backend>(
     heard: Heard,
     response: &Response,
 ) -> Result<Founding, NoMemory>
-    requires stands { ∥ Stands rows.now ∥₁ }
-    requires live { is_some (get nat_eq rows.now.consumers heard.c) ≡ true }
-    requires running { is_open heard.x (table_of rows.now.exchanges) ≡ true }
+    requires comes { IsHeard rows.now heard }
     requires timely { IsTimely heard.now (table_of rows.now.exchanges heard.x).running }
     requires may { MayFound response.now }
     ensures { IfOk result (λ founding. IsSomeAnd (get nat_eq rows.now.consumers heard.c) (λ k.

@@ -1,5 +1,5 @@
 //! The head of an exchange, by its case.
-ghost use Rattle.std.specs.Prelude.{◌≡◌, ◌≤◌, ◌<◌, ◌^◌, ◌&&◌, Some, None, false, true, nat_eq, is_some, IsSomeAnd, OnOk, OnErr};
+ghost use Rattle.std.specs.Prelude.{◌≡◌, ◌≤◌, ◌<◌, ◌&&◌, Some, None, false, true, nat_eq, is_some, OnOk, OnErr};
 ghost use Rattle.std.specs.HashMap.{get};
 ghost use Rattle.hc_event.specs.Acts.{act_list, spare};
 ghost use Rattle.hc_event.specs.declared.event.Event.TheVariants.{Head};
@@ -11,23 +11,22 @@ ghost use Rattle.hc_stored.specs.Entries.{shelf_of};
 ghost use Rattle.hc_entry.specs.Keys.{kept_of};
 ghost use Rattle.hc_exch.specs.declared.row.Open.{Open};
 ghost use Rattle.hc_exch.specs.Exchanges.{table_of};
-ghost use Rattle.hc_exch.specs.Known.{is_open, length_by};
+ghost use Rattle.hc_exch.specs.Known.{is_open};
 ghost use Rattle.hc_fields.specs.FieldList.{IsWithinLimits};
-ghost use Rattle.hc_model.specs.Cases.{is_founding};
 ghost use Rattle.hc_model.specs.Live.{most_live};
 ghost use Rattle.hc_state.specs.declared.consumer.Consumer.{Consumer};
-ghost use Rattle.hc_state.specs.Arms.{IsInKey};
-ghost use Rattle.hc_state.specs.Founding.{MayFound};
-ghost use Rattle.hc_state.specs.Heads.{IsAskedBy, IsTimely, is_bad_case, starts_anew, aim_in, kept_at, joins_kept, heard_view, let_go_by, is_past_case, changes_by};
-ghost use Rattle.hc_state.specs.Joining.{IsAboutKept, joins_hole};
+ghost use Rattle.hc_state.specs.Heads.{IsTimely, aim_in, kept_at, joins_kept, heard_view, let_go_by, is_past_case, changes_by};
+ghost use Rattle.hc_state.specs.Joining.{joins_hole};
 ghost use Rattle.hc_state.specs.Stands.{Answers, AnswersCase, Stands, open_at};
+ghost use Rattle.hc_on_head.specs.Comings.{FitsCase, IsHeard};
+ghost use Rattle.hc_on_head.specs.Frames.{IsQuietOnError};
 
 use crate::dooming::take_dooming;
 use crate::found::found;
 use crate::heard::Heard;
 use crate::join::join;
 use crate::turn::validate;
-use crate::unstored::{close_hole, go_past, put_down, start_anew, take_past};
+use crate::unstored::{answer_past, close_hole, go_past, put_down, start_anew};
 use hc_event::{Acts, Cause, Need, Response, is_safe};
 use hc_exch::Role;
 use hc_range::Span;
@@ -81,32 +80,21 @@ fn take_case<B: Backend>(
     goes: Option<u64>,
     out: &mut Acts,
 ) -> Result<(), NoMemory>
-    requires stands { ∥ Stands rows.old ∥₁ }
-    requires live { is_some (get nat_eq rows.old.consumers heard.c) ≡ true }
-    requires accepted { head_refusal (open_at rows.old heard.x) ≡ None }
-    requires asker { IsAskedBy heard.c (table_of rows.old.exchanges heard.x).running }
-    requires good { is_bad_case case ≡ false → is_bad
-        (length_by (table_of rows.old.exchanges heard.x).running response.now) ≡ false }
-    requires waits { starts_anew case ≡ true → IsSomeAnd
-        (get nat_eq rows.old.consumers heard.c) (IsInKey rows.old.keys heard.c) }
+    requires comes { IsHeard rows.old heard }
     requires timely { IsTimely heard.now (table_of rows.old.exchanges heard.x).running }
-    requires selected { case ≡ Validated → ⊥ }
-    requires validated { case ≡ NotValidated → ⊥ }
-    requires founds { is_founding (Some case) ≡ true → MayFound response.now }
-    requires joins { joins_hole case ≡ true → IsAboutKept (shelf_of rows.old.entries)
-        (table_of rows.old.exchanges heard.x).running }
+    requires fits { FitsCase rows.old heard case response.now }
     requires room { 2 ≤ spare out.old }
     ensures answers { OnOk result (AnswersCase rows.old rows.new (act_list out.old)
         (act_list out.new) heard.now heard.x response.now case goes) }
-    ensures faults { (shelf_of rows.old.entries).faults ≤ (shelf_of rows.new.entries).faults }
-    ensures kept { OnErr result (act_list out.new ≡ act_list out.old) }
+    ensures refusal { IsQuietOnError result rows.old rows.new (act_list out.old)
+        (act_list out.new) }
 {
     match case {
         HeadCase::DirectBad | HeadCase::TurnBad | HeadCase::FirstBad => {
             put_down(rows, heard, response, out);
             Ok(())
         }
-        HeadCase::DirectTaken => take_past(rows, heard, response),
+        HeadCase::DirectTaken => answer_past(rows, heard, response),
         HeadCase::TurnServerError
         | HeadCase::PassesBy
         | HeadCase::FirstServerError

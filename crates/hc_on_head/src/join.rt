@@ -1,21 +1,21 @@
 //! Heads that bring bytes of holes of what is stored.
-ghost use Rattle.std.specs.Prelude.{◌≡◌, ◌≤◌, ◌<◌, ◌^◌, ◌↔◌, IsTrue, Some, true, false, is_some, nat_eq, OnOk, OnErr};
+ghost use Rattle.std.specs.Prelude.{◌≡◌, ◌≤◌, ◌<◌, ◌↔◌, IsTrue, Some, true, false, is_some, nat_eq, OnOk, OnErr};
 ghost use Rattle.std.specs.HashMap.{get};
 ghost use Rattle.hc_event.specs.Acts.{act_list, spare};
 ghost use Rattle.hc_rules.specs.Lengths.{is_bad};
 ghost use Rattle.hc_rules.specs.Refusals.{head_refusal};
-ghost use Rattle.hc_store.specs.Causes.{HasCause, HasNoLimit};
 ghost use Rattle.hc_stored.specs.Entries.{shelf_of};
 ghost use Rattle.hc_stored.specs.Kept.{Kept};
 ghost use Rattle.hc_stored.specs.Shelf.{is_kept};
 ghost use Rattle.hc_exch.specs.Exchanges.{table_of};
 ghost use Rattle.hc_exch.specs.Known.{is_open, length_by};
-ghost use Rattle.hc_state.specs.Heads.{IsAskedBy, IsTimely};
+ghost use Rattle.hc_state.specs.Heads.{IsTimely};
 ghost use Rattle.hc_model.specs.RepresentationRows.{is_last_part};
 ghost use Rattle.hc_rules.specs.RangeTexts.{content_range_of};
-ghost use Rattle.hc_state.specs.Joining.{AnswersJoins, Brings, IsAbout, IsGrowing, LacksOnly, ResumesIs, Shares};
-ghost use Rattle.hc_state.specs.Renewals.{IsUnrenewed};
-ghost use Rattle.hc_state.specs.Stands.{Stands, open_at};
+ghost use Rattle.hc_state.specs.Joining.{AnswersJoins, Brings, IsGrowing, LacksOnly, ResumesIs, Shares};
+ghost use Rattle.hc_state.specs.Stands.{open_at};
+ghost use Rattle.hc_on_head.specs.Comings.{AsksAbout, IsHeard, MayRenew};
+ghost use Rattle.hc_on_head.specs.Frames.{FailsUnrenewed, IsQuietOnError};
 
 use crate::heard::Heard;
 use crate::turn::renew;
@@ -40,22 +40,18 @@ pub(crate) fn join<B: Backend>(
     r: u64,
     out: &mut Acts,
 ) -> Result<(), NoMemory>
-    requires stands { ∥ Stands rows.old ∥₁ }
-    requires live { is_some (get nat_eq rows.old.consumers heard.c) ≡ true }
-    requires accepted { head_refusal (open_at rows.old heard.x) ≡ None }
-    requires asker { IsAskedBy heard.c (table_of rows.old.exchanges heard.x).running }
-    requires about { IsAbout r (table_of rows.old.exchanges heard.x).running }
-    requires there { is_kept (shelf_of rows.old.entries) r ≡ true }
+    requires comes { IsHeard rows.old heard }
+    requires timely { IsTimely heard.now (table_of rows.old.exchanges heard.x).running }
+    requires about { AsksAbout rows.old heard r }
     requires good { is_bad (length_by (table_of rows.old.exchanges heard.x).running
         response.now) ≡ false }
-    requires timely { IsTimely heard.now (table_of rows.old.exchanges heard.x).running }
     requires room { 1 ≤ spare out.old }
     ensures answers { OnOk result (AnswersJoins rows.old rows.new (act_list out.old)
         (act_list out.new) heard.now heard.x response.now) }
-    ensures kept { OnErr result (act_list out.new ≡ act_list out.old) }
+    ensures refusal { IsQuietOnError result rows.old rows.new (act_list out.old)
+        (act_list out.new) }
     ensures memory { OnErr result
         ((shelf_of rows.new.entries).faults ≡ (shelf_of rows.old.entries).faults) }
-    ensures faults { (shelf_of rows.old.entries).faults ≤ (shelf_of rows.new.entries).faults }
 {
     if is_lost(rows, r) {
         bring(rows, heard, response, r);
@@ -96,14 +92,9 @@ fn renew_growing<B: Backend>(
     response: &Response,
     r: u64,
 ) -> Result<(), StoreError>
-    requires there { is_kept (shelf_of rows.old.entries) r ≡ true }
-    requires running { is_open heard.x (table_of rows.old.exchanges) ≡ true }
-    requires timely { IsTimely heard.now (table_of rows.old.exchanges heard.x).running }
+    requires may { MayRenew rows.old heard r }
     ensures ok { OnOk result (IsGrowing rows.old rows.new heard.x heard.now r response.now) }
-    ensures err { OnErr result (IsUnrenewed rows.old rows.new) }
-    ensures no_limit { HasNoLimit result }
-    ensures cause { HasCause (shelf_of rows.old.entries).faults
-        (shelf_of rows.new.entries).faults result }
+    ensures fails { FailsUnrenewed result rows.old rows.new }
 {
     let mut head = rows.entries.head(r)?;
     head.kind = Kind::Growing;

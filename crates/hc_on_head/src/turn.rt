@@ -1,21 +1,20 @@
 //! 304s that may be about what is stored.
-ghost use Rattle.std.specs.Prelude.{◌≡◌, ◌≤◌, ◌<◌, ◌^◌, true, Some, None, nat_eq, if◌then◌else◌, IfOk, IsSomeAnd, OnOk, OnErr};
+ghost use Rattle.std.specs.Prelude.{◌≡◌, ◌≤◌, ◌<◌, true, Some, None, nat_eq, if◌then◌else◌, IfOk, IsSomeAnd, OnOk, OnErr};
 ghost use Rattle.std.specs.HashMap.{get};
 ghost use Rattle.hc_event.specs.Acts.{act_list, spare};
 ghost use Rattle.hc_rules.specs.Lengths.{is_same_number};
-ghost use Rattle.hc_rules.specs.Refusals.{head_refusal};
 ghost use Rattle.hc_record.specs.Plain.{plain};
-ghost use Rattle.hc_store.specs.Causes.{HasCause, HasNoLimit};
 ghost use Rattle.hc_stored.specs.Entries.{shelf_of};
-ghost use Rattle.hc_stored.specs.Shelf.{is_kept};
 ghost use Rattle.hc_entry.specs.Keys.{kept_of};
 ghost use Rattle.hc_exch.specs.declared.row.Open.{Open};
 ghost use Rattle.hc_exch.specs.Exchanges.{table_of};
 ghost use Rattle.hc_exch.specs.Known.{is_open};
 ghost use Rattle.hc_state.specs.Arms.{IsInKey};
-ghost use Rattle.hc_state.specs.Heads.{IsAskedBy, IsTimely};
-ghost use Rattle.hc_state.specs.Renewals.{IsRenewed, IsSelected, IsUnrenewed};
-ghost use Rattle.hc_state.specs.Stands.{AnswersUnselected, Stands, open_at};
+ghost use Rattle.hc_state.specs.Heads.{IsTimely};
+ghost use Rattle.hc_state.specs.Renewals.{IsRenewed, IsSelected};
+ghost use Rattle.hc_state.specs.Stands.{AnswersUnselected};
+ghost use Rattle.hc_on_head.specs.Comings.{IsHeard, MayRenew};
+ghost use Rattle.hc_on_head.specs.Frames.{FailsUnrenewed, IsQuietOnError};
 
 use crate::asked::lose_asked;
 use crate::asker::let_through;
@@ -38,17 +37,15 @@ pub(crate) fn validate<B: Backend>(
     aim: Option<u64>,
     out: &mut Acts,
 ) -> Result<(), NoMemory>
-    requires stands { ∥ Stands rows.old ∥₁ }
+    requires comes { IsHeard rows.old heard }
+    requires timely { IsTimely heard.now (table_of rows.old.exchanges heard.x).running }
     requires waits { IsSomeAnd (get nat_eq rows.old.consumers heard.c)
         (IsInKey rows.old.keys heard.c) }
-    requires accepted { head_refusal (open_at rows.old heard.x) ≡ None }
-    requires asker { IsAskedBy heard.c (table_of rows.old.exchanges heard.x).running }
-    requires timely { IsTimely heard.now (table_of rows.old.exchanges heard.x).running }
     requires room { 3 ≤ spare out.old }
     ensures answers { OnOk result (AnswersUnselected rows.old rows.new (act_list out.old)
         (act_list out.new) heard.now heard.x response.now aim) }
-    ensures faults { (shelf_of rows.old.entries).faults ≤ (shelf_of rows.new.entries).faults }
-    ensures kept { OnErr result (act_list out.new ≡ act_list out.old) }
+    ensures refusal { IsQuietOnError result rows.old rows.new (act_list out.old)
+        (act_list out.new) }
     ensures memory { OnErr result
         ((shelf_of rows.new.entries).faults ≡ (shelf_of rows.old.entries).faults) }
 {
@@ -96,14 +93,9 @@ fn select<B: Backend>(
     response: &Response,
     r: u64,
 ) -> Result<bool, StoreError>
-    requires there { is_kept (shelf_of rows.old.entries) r ≡ true }
-    requires running { is_open heard.x (table_of rows.old.exchanges) ≡ true }
-    requires timely { IsTimely heard.now (table_of rows.old.exchanges heard.x).running }
+    requires may { MayRenew rows.old heard r }
     ensures ok { IfOk result (IsSelected rows.old rows.new heard.x heard.now r response.now) }
-    ensures err { OnErr result (IsUnrenewed rows.old rows.new) }
-    ensures no_limit { HasNoLimit result }
-    ensures cause { HasCause (shelf_of rows.old.entries).faults
-        (shelf_of rows.new.entries).faults result }
+    ensures fails { FailsUnrenewed result rows.old rows.new }
 {
     let head = rows.entries.head(r)?;
     if !selects(&head, response) {
@@ -121,15 +113,10 @@ pub(crate) fn renew<B: Backend>(
     r: u64,
     head: StoredHead,
 ) -> Result<(), StoreError>
-    requires there { is_kept (shelf_of rows.old.entries) r ≡ true }
-    requires running { is_open heard.x (table_of rows.old.exchanges) ≡ true }
-    requires timely { IsTimely heard.now (table_of rows.old.exchanges heard.x).running }
+    requires may { MayRenew rows.old heard r }
     ensures ok { OnOk result (IsRenewed rows.old rows.new heard.x heard.now r (plain head)
         response.now) }
-    ensures err { OnErr result (IsUnrenewed rows.old rows.new) }
-    ensures no_limit { HasNoLimit result }
-    ensures cause { HasCause (shelf_of rows.old.entries).faults
-        (shelf_of rows.new.entries).faults result }
+    ensures fails { FailsUnrenewed result rows.old rows.new }
 {
     let requested = rows.exchanges.opening(heard.x).unwrap().moment;
     let head = renewed(head, requested, heard.now, &response.fields)?;

@@ -1,22 +1,23 @@
 //! Heads of which nothing is stored.
-ghost use Rattle.std.specs.Prelude.{◌≡◌, ◌+◌, ◌≤◌, ◌<◌, ◌^◌, ◌++◌, List, Some, None, true, false, map, nat_eq, is_some, IsSomeAnd, OnOk, OnErr};
+ghost use Rattle.std.specs.Prelude.{◌≡◌, ◌+◌, ◌≤◌, ◌<◌, ◌++◌, List, Some, None, true, false, map, nat_eq, IsSomeAnd, OnOk};
 ghost use Rattle.std.specs.HashMap.{get};
 ghost use Rattle.hc_event.specs.Acts.{act_list, spare};
 ghost use Rattle.hc_event.specs.declared.act.Act.{Act};
 ghost use Rattle.hc_event.specs.declared.act.Act.TheVariants as act;
 ghost use Rattle.hc_stored.specs.Entries.{shelf_of};
 ghost use Rattle.hc_rules.specs.declared.heads.HeadCase.{HeadCase};
-ghost use Rattle.hc_rules.specs.declared.heads.HeadCase.TheVariants as case;
 ghost use Rattle.hc_rules.specs.Lengths.{is_bad};
 ghost use Rattle.hc_rules.specs.Refusals.{head_refusal};
-ghost use Rattle.hc_exch.specs.Exchanges.{next_of, table_of, Becomes};
+ghost use Rattle.hc_exch.specs.Exchanges.{table_of, Becomes};
 ghost use Rattle.hc_exch.specs.Known.{is_open, without_exchange, length_by};
 ghost use Rattle.hc_model.specs.Effects.{with_answer};
 ghost use Rattle.hc_model.specs.Rows.{Tables, Exchange, Consumer};
 ghost use Rattle.hc_rules.specs.declared.room.Limits.{Limits};
 ghost use Rattle.hc_state.specs.Arms.{IsInKey};
-ghost use Rattle.hc_state.specs.Heads.{IsAskedBy, IsReadAlone, EndsInRange, end_of_answer, unless_over, puts_down, goes_past, starts_anew, breaks_off, broken_by};
-ghost use Rattle.hc_state.specs.Stands.{AnswersCase, KeepsRest, RowsStand, Stands, open_at};
+ghost use Rattle.hc_state.specs.Heads.{IsReadAlone, EndsInRange, end_of_answer, unless_over, puts_down, goes_past, starts_anew, breaks_off, broken_by};
+ghost use Rattle.hc_state.specs.Stands.{AnswersCase, RowsStand, open_at};
+ghost use Rattle.hc_on_head.specs.Comings.{IsHeard};
+ghost use Rattle.hc_on_head.specs.Frames.{ChangesExchanges};
 
 use crate::asker::{fall_back, send_back};
 use crate::heard::Heard;
@@ -31,10 +32,7 @@ use hc_text::NoMemory;
 
 /// A bad head: whoever waits for it is to fail.
 pub fn put_down<B: Backend>(rows: &mut Rows<B>, heard: Heard, response: &Response, out: &mut Acts)
-    requires stands { ∥ Stands rows.old ∥₁ }
-    requires live { is_some (get nat_eq rows.old.consumers heard.c) ≡ true }
-    requires accepted { head_refusal (open_at rows.old heard.x) ≡ None }
-    requires asker { IsAskedBy heard.c (table_of rows.old.exchanges heard.x).running }
+    requires comes { IsHeard rows.old heard }
     requires room { 1 ≤ spare out.old }
     ensures answers { (g : HeadCase) → puts_down g ≡ true → AnswersCase rows.old rows.new
         (act_list out.old) (act_list out.new) heard.now heard.x response.now g None }
@@ -44,24 +42,6 @@ pub fn put_down<B: Backend>(rows: &mut Rows<B>, heard: Heard, response: &Respons
     refuse(rows, heard.x, response, out);
 }
 
-/// An answer past the store.
-pub fn take_past<B: Backend>(
-    rows: &mut Rows<B>,
-    heard: Heard,
-    response: &Response,
-) -> Result<(), NoMemory>
-    requires accepted { head_refusal (open_at rows.old heard.x) ≡ None }
-    requires asker { IsAskedBy heard.c (table_of rows.old.exchanges heard.x).running }
-    requires good { is_bad (length_by (table_of rows.old.exchanges heard.x).running
-        response.now) ≡ false }
-    ensures answers { OnOk result ((before : List Act)
-        → AnswersCase rows.old rows.new before before heard.now heard.x response.now
-        case.DirectTaken None) }
-    ensures faults { (shelf_of rows.new.entries).faults ≡ (shelf_of rows.old.entries).faults }
-{
-    answer_past(rows, heard, response)
-}
-
 /// An answer that isn't stored goes on past the store. With it this isn't used any more.
 pub fn go_past<B: Backend>(
     rows: &mut Rows<B>,
@@ -69,10 +49,7 @@ pub fn go_past<B: Backend>(
     response: &Response,
     goes: Option<u64>,
 ) -> Result<(), NoMemory>
-    requires stands { ∥ Stands rows.old ∥₁ }
-    requires live { is_some (get nat_eq rows.old.consumers heard.c) ≡ true }
-    requires accepted { head_refusal (open_at rows.old heard.x) ≡ None }
-    requires asker { IsAskedBy heard.c (table_of rows.old.exchanges heard.x).running }
+    requires comes { IsHeard rows.old heard }
     requires good { is_bad (length_by (table_of rows.old.exchanges heard.x).running
         response.now) ≡ false }
     ensures answers { OnOk result ((g : HeadCase) (before : List Act) → goes_past g ≡ true
@@ -95,11 +72,9 @@ pub fn start_anew<B: Backend>(
     goes: Option<u64>,
     out: &mut Acts,
 )
-    requires stands { ∥ Stands rows.old ∥₁ }
+    requires comes { IsHeard rows.old heard }
     requires waits { IsSomeAnd (get nat_eq rows.old.consumers heard.c)
         (IsInKey rows.old.keys heard.c) }
-    requires accepted { head_refusal (open_at rows.old heard.x) ≡ None }
-    requires asker { IsAskedBy heard.c (table_of rows.old.exchanges heard.x).running }
     requires room { 1 ≤ spare out.old }
     ensures answers { (g : HeadCase) → starts_anew g ≡ true → AnswersCase rows.old rows.new
         (act_list out.old) (act_list out.new) heard.now heard.x response.now g goes }
@@ -119,9 +94,7 @@ pub fn close_hole<B: Backend>(
     goes: Option<u64>,
     out: &mut Acts,
 )
-    requires stands { ∥ Stands rows.old ∥₁ }
-    requires accepted { head_refusal (open_at rows.old heard.x) ≡ None }
-    requires asker { IsAskedBy heard.c (table_of rows.old.exchanges heard.x).running }
+    requires comes { IsHeard rows.old heard }
     requires room { 1 ≤ spare out.old }
     ensures answers { (g : HeadCase) → breaks_off g ≡ true → cause ≡ broken_by heard.x g
         → AnswersCase rows.old rows.new (act_list out.old) (act_list out.new) heard.now heard.x
@@ -187,9 +160,7 @@ pub fn refuse<B: Backend>(rows: &mut Rows<B>, x: u64, response: &Response, out: 
         (length_by (table_of rows.old.exchanges x).running response.now)) }
     ensures room { spare out.old ≤ spare out.new + 1 }
     ensures closed { Becomes without_exchange x rows.old.exchanges rows.new.exchanges }
-    ensures consumers { rows.new.consumers ≡ rows.old.consumers }
-    ensures rest { KeepsRest rows.old rows.new }
-    ensures faults { (shelf_of rows.new.entries).faults ≡ (shelf_of rows.old.entries).faults }
+    ensures rest { ChangesExchanges rows.old rows.new }
 {
     let opening = rows.exchanges.opening(x).unwrap();
     let length = length_of(*opening.need, opening.request, response);

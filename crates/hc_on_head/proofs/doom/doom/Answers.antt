@@ -38,7 +38,7 @@ wake-requires g c =
           (λ s. record {
             t = s.t;
             law = s.facts.law;
-            keeps = keeps_line r c.close_awaited.new.rows s.t c.args.key.now s.rows step.consumers step.rest;
+            keeps = keeps_line r c.close_awaited.new.rows s.t c.args.key.now s.rows step.rest.consumers step.rest.rest;
           });
     }
 
@@ -47,5 +47,5 @@ returns-clause-doomed g c =
     let step = c.close_awaited.ensures in
     let wakes = c.wake.ensures in
     dooms c.args.rows.now c.close_awaited.new.rows c.wake.new.rows c.args.now c.args.key.now c.args.refused (act_list c.args.out.now) (act_list c.close_awaited.new.out) c.requires.unheard
-    step.closes step.consumers step.rest wakes.consumers wakes.keys wakes.entries wakes.bounded wakes.last_start wakes.exchanges
+    step.closes step.rest.consumers step.rest.rest wakes.consumers wakes.keys wakes.entries wakes.bounded wakes.rest.last_start wakes.rest.exchanges
     c.current-current.result c.let_some_go.new.rows c.current-current.ensures c.let_some_go.ensures.stands

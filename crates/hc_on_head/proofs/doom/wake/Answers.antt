@@ -23,7 +23,7 @@ loop-i-preserved g c =
           let step = w.wake_one.ensures in
           subst (λ z. WokenSoFar r z (i + 1) now key) (sym w.rows-is)
           (one_back r mid i now key c.loop-i.invariant w.in-Some.c (sym w.in-Some.ensures.there) w.in-Some.ensures.inside w.in-Some.ensures.once
-          w.wake_one.new.rows step.over step.unbound step.faults step.keys step.last_start step.exchanges)
+          w.wake_one.new.rows step.over step.unbound step.rest.faults step.keys step.rest.last_start step.rest.exchanges)
       | in_default w ↦ subst (λ z. WokenSoFar r z (i + 1) now key) (sym w.rows-is) (no_seat r mid i now key c.loop-i.invariant (sym c.seated.ensures.there ∙ none_is c.seated.result w.in_default.not-Some))
     ]
 

@@ -13,6 +13,7 @@ use Rattle.hc_effects.proofs.Vocabulary.{Act, Limits, History, no_contents, Tabl
 use Rattle.hc_event.specs.declared.act.Act.TheVariants as act
 use Rattle.hc_wire.specs.declared.connection.Standing.{Standing}
 use Rattle.hc_wire.specs.Logs.{Called, Log, Taker, is_at_end, is_numbered}
+use Rattle.hc_peers.specs.Peers.{is_same}
 use Rattle.hc_proxy.specs.Connections.{connection_of, has_unsent, stands}
 use Rattle.hc_proxy.specs.Invariants.{OpensUp}
 use Rattle.hc_proxy.specs.Listening.{is_read}

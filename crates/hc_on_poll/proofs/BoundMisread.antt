@@ -1,6 +1,6 @@
 -- A read of what a consumer is bound to failed: its poll is answered by that.
-use Rattle.std.proofs.Common.{◌≡◌, ℕ, ◌<◌, ◌≤◌, List, Some, ap, ◌∙◌}
-use Rattle.std.specs.Prelude.{nat_eq}
+use Rattle.std.proofs.Common.{◌≡◌, ℕ, ◌+◌, ◌<◌, ◌≤◌, List, Option, Some, None, ap, ap₂, sym, ◌∙◌}
+use Rattle.std.specs.Prelude.{nat_eq, IsSomeAnd, if◌then◌else◌, ◌==◌}
 use Rattle.std.specs.HashMap.{get}
 use Rattle.hc_text.proofs.Basics.{eqb-same}
 use Rattle.hc_store.specs.declared.backend.Backend.{Ghosts}
@@ -8,13 +8,22 @@ use Rattle.hc_effects.proofs.Vocabulary.{Act, Event, Limits, BoundBy, is_bound_p
 use Rattle.hc_event.specs.declared.event.Event.TheVariants as event
 use Rattle.hc_stored.specs.declared.entries.Entries.{Entries}
 use Rattle.hc_stored.specs.Entries.{shelf_of}
-use Rattle.hc_stored.specs.Shelf.{Stays}
+use Rattle.hc_stored.specs.Kept.{Kept}
+use Rattle.hc_stored.specs.Shelf.{Shelf, Stays, cells_in}
+use Rattle.hc_sparse.specs.Stretch.{stretch}
+use Rattle.hc_sparse.specs.declared.run.Run.{Run}
+use Rattle.hc_exch.specs.declared.exchanges.Exchanges.{Exchanges}
+use Rattle.hc_exch.specs.Exchanges.{table_of}
+use Rattle.hc_state.specs.Arms.{most}
+use Rattle.hc_state.specs.Changes.{Numbered}
 use Rattle.hc_state.specs.declared.consumer.Consumer.{Consumer}
 use Rattle.hc_state.specs.declared.rows.Rows.{Rows}
 use Rattle.hc_state.specs.Facts.{Facts}
-use Rattle.hc_state.specs.Reads.{AnswersMisread, IsBoundBy, ReadsStore, bound}
+use Rattle.hc_state.specs.Reads.{AnswersMisread, IsBoundBy, IsHeard, IsShownAt, ReadsStore, bound, headless_own, run_ahead}
 use Rattle.hc_state.specs.Stands.{RowsStand, Answered, Answers}
+use Rattle.hc_on_poll.specs.Ready.{ReadsAhead}
 use Rattle.hc_on_poll.proofs.PlanArms.{read_stands}
+use Rattle.hc_state.proofs.Maps.{some_that}
 use Rattle.hc_state.proofs.ReaderSteps.{stands_read, answered_since}
 use Rattle.hc_on_poll.proofs.ShowStored.{bound_row_of}
 
@@ -40,3 +49,18 @@ module _ {B : Type 0} {g : Ghosts B} (r mid u : Rows B g) (same : ReadsStore r m
   answers_after event later answers = λ lim t facts stands accepted.
       answered_since lim (shelf_of r.entries).faults (shelf_of mid.entries).faults u t before out now event later
       (answers _ t facts (stands_after t stands) accepted)
+
+-- and what stands ahead of who reads on is the same
+run_stays : (a b : Shelf) → Stays a b → (q o n : ℕ) → run_ahead b q o n ≡ run_ahead a q o n
+run_stays a b stays q o n = ap (λ (row : Option Kept). if n == 0 then None else stretch (cells_in row) o n) (stays.kept q)
+
+pub reads_after : {B : Type 0} {g : Ghosts B} (r mid : Rows B g) → ReadsStore r mid → (c q want : ℕ) (k : Consumer) → get nat_eq r.consumers c ≡ Some k → IsShownAt q k → IsHeard (table_of r.exchanges) k → (run : Option Run) (o n : ℕ) → o ≡ k.lo + k.given → n ≡ most k.hi o want → run ≡ run_ahead (shelf_of r.entries) q o n
+    → IsSomeAnd (get nat_eq mid.consumers c) (ReadsAhead mid q want run)
+reads_after r mid same c q want k there shown heard run o n o_is n_is run_is =
+    some_that (get nat_eq mid.consumers c) k (ReadsAhead mid q want run) (ap (λ (m : Numbered Consumer). get nat_eq m c) same.consumers ∙ there) (record {
+      shown = shown;
+      heard = ap (λ (e : Exchanges). headless_own (table_of e) k.own) same.exchanges ∙ heard;
+      ahead =
+          run_is ∙ (ap₂ (λ (i m : ℕ). run_ahead (shelf_of r.entries) q i m) o_is (n_is ∙ ap (λ (i : ℕ). most k.hi i want) o_is)
+          ∙ sym (run_stays (shelf_of r.entries) (shelf_of mid.entries) same.entries q (k.lo + k.given) (most k.hi (k.lo + k.given) want)));
+    })

@@ -1,6 +1,6 @@
 -- The consumer whose turn it is asks the origin: it waits with the turn for the head of its exchange.
-use Rattle.std.proofs.Common.{◌≡◌, ◌≢◌, inl, inr, ℕ, ◌+◌, List, ◌++◌, Bool, true, false, Option, Some, None, refl, ap, sym, ◌∙◌, subst, arith}
-use Rattle.std.specs.Prelude.{nat_eq, bytes_eq, not, ◌&&◌, ◌||◌}
+use Rattle.std.proofs.Common.{◌≡◌, ◌≢◌, inl, inr, ℕ, ◌+◌, List, ◌++◌, true, false, Option, Some, None, refl, ap, sym, ◌∙◌, subst, arith}
+use Rattle.std.specs.Prelude.{nat_eq, bytes_eq, not}
 use Rattle.std.specs.HashMap.{get}
 use Rattle.hc_text.proofs.Basics.{and_both as both_true, eqb-other, eqb-same, false_true, not_true as not_on, same_or, and_off as then_false}
 use Rattle.hc_store.specs.declared.backend.Backend.{Ghosts}
@@ -37,6 +37,7 @@ use Rattle.hc_state.proofs.Counting.{stands_counted}
 use Rattle.hc_state.proofs.KeySteps.{says_elsewhere, lined, holds_key}
 use Rattle.hc_state.proofs.Maps.{becomes_then}
 use Rattle.hc_on_leave.proofs.MayGo.{may_opened, may_with}
+use Rattle.hc_on_poll.specs.Keeps.{HasBegun}
 use Rattle.hc_on_poll.proofs.OpenArm as waiting
 use Rattle.hc_on_poll.proofs.OpenKeys.{key_opened}
 use Rattle.hc_on_poll.proofs.OpenStands.{stands_opened}
@@ -221,6 +222,13 @@ module _ {B : Type 0} {g : Ghosts B} (limits : Limits) (faults : ℕ) (u : Rows 
       let s : Tables = let_some_go now (current t v.request.key) (tables_in_turn now c x need.Bypass request v t) in
       does_answered limits faults u t (with_event now (event.Poll c want) s) before out (acts_of c (Opens x need.Bypass request)) now (event.Poll c want)
       (bypasses limits t law now c want v row x request is) refl refl told (stands_counted u s now (event.Poll c want) refl stands)
+
+-- what is asked in its turn is answered
+pub asked_answered : {B : Type 0} {g : Ghosts B} {lim : Limits} (r u : Rows B g) (t : Tables) (facts : Facts lim t) (now c want x : ℕ) (v : rows.Consumer) → RowsStand lim r t → t.consumer c ≡ Some v → (n : Need) → route_of n ≡ route.Turn → n ≢ need.Bypass → (request asked : Request) → request ≡ asked
+    → move_of t now want c v ≡ Opens (next_of r.exchanges) n asked → HasBegun r u now c n request x → (before out : List Act) → out ≡ before ++ acts_of c (Opens x n request) → Answered lim (shelf_of r.entries).faults u t before out now (event.Poll c want)
+asked_answered {lim = lim} r u t facts now c want x v stands row n turns uses request asked same moves begun before out told =
+    let is : move_of t now want c v ≡ Opens x n request = moves ∙ (ap (λ (y : ℕ). Opens y n asked) (sym begun.number) ∙ ap (λ (z : Request). Opens x n z) (sym same)) in
+    fetch_answered lim (shelf_of r.entries).faults u t facts.law now c want x v row request before out n turns uses is told (begun.rows _ t v facts stands row)
 
 -- a consumer bypasses what is stored with its own request, and what was current is let go
 pub bypassed : {B : Type 0} {g : Ghosts B} {lim : Limits} (r mid u : Rows B g) (t : Tables) (facts : Facts lim t) (now c want x : ℕ) (k : Consumer) (v : rows.Consumer) → RowsStand lim r t → get nat_eq r.consumers c ≡ Some k → t.consumer c ≡ Some v → (copied : Request) → copied ≡ k.request → (now_is : Option ℕ) → now_is ≡ (kept_of r.keys copied.key).current

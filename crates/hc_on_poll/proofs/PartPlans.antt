@@ -36,6 +36,7 @@ use Rattle.hc_state.specs.Kept.{IsKept, KeepsConsumer}
 use Rattle.hc_state.specs.Plans.{IsIdle, IsWaiting, HasCurrent, IsPlanOf, IsShownPart, begin_of, end_of, AnswersFirst, AnswersPoll}
 use Rattle.hc_state.specs.Stands.{RowsStand, Stands}
 use Rattle.hc_state.specs.Stored.{is_first}
+use Rattle.hc_on_poll.specs.Ready.{MayPass}
 use Rattle.hc_on_poll.proofs.CandidateTies.{head_at_is, in_order, range_of_class}
 use Rattle.hc_state.proofs.CurrentTies.{IsNow, now_kept, stays_stored, stored_ends, total_told}
 use Rattle.hc_on_poll.proofs.HoleTies.{hole_inside}
@@ -228,12 +229,15 @@ module _ {B : Type 0} {g : Ghosts B} (r : Rows B g) (some : ∥ Stands r ∥₁)
   its_row t stands = kept_row t it (t.consumer c) (subst (λ o. KeepsConsumer t o (t.consumer c)) there_is (stands.consumers c))
 
   module _ (span hole : Span) (is : IsPlanOf r now c (plan.FirstHole span hole)) where
-    pub filling_waits : IsSomeAnd (get nat_eq r.consumers c) (IsWaiting r.keys c)
-    filling_waits = some_that (get nat_eq r.consumers c) it (IsWaiting r.keys c) there_is (waits_there r some now c idle (merely_true (queues it) some (λ s.
+    filling_waits : IsWaiting r.keys c it
+    filling_waits = waits_there r some now c idle (merely_true (queues it) some (λ s.
         let t = s.t in
         let facts = s.facts in
         let (v, row, kept) = its_row t s.rows in
-        filling_queues r t facts s.rows c it v row kept q held_by_it head read now span hole (filling r t facts s.rows c it v row kept q held_by_it head read now span hole (is _ t v facts s.rows row)))))
+        filling_queues r t facts s.rows c it v row kept q held_by_it head read now span hole (filling r t facts s.rows c it v row kept q held_by_it head read now span hole (is _ t v facts s.rows row))))
+
+    pub filling_passes : IsSomeAnd (get nat_eq r.consumers c) (MayPass r.keys c)
+    filling_passes = some_that (get nat_eq r.consumers c) it (MayPass r.keys c) there_is (record { idle = (found r some now c idle).2; waits = filling_waits })
 
     pub filling_hole : IsSomeAnd head.total (IsWithin hole)
     filling_hole = merely_within head.total hole some (λ s.

@@ -16,6 +16,7 @@ use Rattle.hc_stored.specs.Entries.{shelf_of}
 use Rattle.hc_stored.specs.Kept.{Kept, itself}
 use Rattle.hc_stored.specs.Shelf.{is_kept, head_at, Stays}
 use Rattle.hc_stored.specs.Views.{admits}
+use Rattle.hc_entry.specs.declared.keys.KeyTable.{KeyTable}
 use Rattle.hc_entry.specs.Keys.{kept_of, line_of}
 use Rattle.hc_entry.specs.Kept.{line_in}
 use Rattle.hc_entry.specs.Lines.{Line, is_among, is_in, turn_with}
@@ -48,16 +49,16 @@ use Rattle.hc_effects.proofs.Tests.{none_some}
 use Rattle.hc_effects.proofs.OpenedAs.{bypassing_is as bypassing_as}
 use Rattle.hc_state.specs.declared.consumer.Consumer.{Consumer}
 use Rattle.hc_state.specs.declared.rows.Rows.{Rows}
-use Rattle.hc_state.specs.Arms.{queues, IsQueued}
+use Rattle.hc_state.specs.Arms.{queues}
 use Rattle.hc_state.specs.Facts.{Facts}
 use Rattle.hc_state.specs.Good.{StandsBy}
 use Rattle.hc_state.specs.Kept.{IsKept, KeepsConsumer}
 use Rattle.hc_state.specs.Lines.{is_passed}
-use Rattle.hc_state.specs.Plans.{plan_view, looks_at_stored, is_idle_at, IsIdle, IsNext, IsWaiting, IsKeptPassed, HasCurrent, IsPlanOf, asked_by, shows_part, AnswersShowing, AnswersOpening, AnswersAsking, AnswersPoll}
+use Rattle.hc_state.specs.Plans.{plan_view, looks_at_stored, is_idle_at, IsIdle, IsLookedAt, IsNext, IsWaiting, IsKeptPassed, HasCurrent, IsPlanOf, shows_part, AnswersShowing, AnswersOpening, AnswersValidating, AnswersPoll}
 use Rattle.hc_state.specs.Reads.{AnswersMisread}
 use Rattle.hc_state.specs.Reads as reads
-use Rattle.hc_state.specs.Stored.{IsEntry}
 use Rattle.hc_state.specs.Stands.{Answered, Answers, AnswersMove, RowsStand, Stands}
+use Rattle.hc_on_poll.specs.Ready.{IsCurrentWith, MayAsk, MayLeaveLine, MayPass, MayQueue}
 use Rattle.hc_on_poll.proofs.Accepted.{poll_lives}
 use Rattle.hc_on_poll.proofs.CandidateTies.{head_at_is}
 use Rattle.hc_state.proofs.CurrentTies.{now_kept, total_told}
@@ -282,6 +283,15 @@ module _ {B : Type 0} {g : Ghosts B} {lim : Limits} (r : Rows B g) (t : Tables) 
       by_test false off = bare_plan_is now (sym (ap looks_at_stored viewed) ∙ off)
       by_test true on = none_plan_is now (sym (is ∙ rw on refl) ∙ none)
 
+-- what its plan looks at is current
+pub looked_current : (row : Option Consumer) (keys : KeyTable) (view : PlanView) (seen : Option ℕ) (q : ℕ) → IsSomeAnd row (IsLookedAt keys view seen) → seen ≡ Some q → IsSomeAnd row (HasCurrent keys q)
+looked_current None keys view seen q looked some = looked
+looked_current (Some k) keys view seen q looked some = by_test (looks_at_stored view) (sym looked ∙ some)
+  where
+    by_test : (b : Bool) → (if b then (kept_of keys k.request.key).current else None) ≡ Some q → HasCurrent keys q k
+    by_test true is = is
+    by_test false is = none_some q is
+
 -- WHAT IS ANSWERED
 
 -- a plan that its move answers is answered
@@ -354,15 +364,18 @@ module _ {B : Type 0} {g : Ghosts B} (r : Rows B g) (some : ∥ Stands r ∥₁)
       let (v, row, kept) = kept_row t found.0 (t.consumer c) (subst (λ o. KeepsConsumer t o (t.consumer c)) found.1 (s.rows.consumers c)) in
       idle_waits r t facts s.rows c found.0 v row kept found.2 on)
 
-  pub queued_there : IsSomeAnd its_row (IsQueued r.keys c)
-  queued_there = some_that its_row found.0 (IsQueued r.keys c) found.1 waits_there
+  pub may_leave_line : IsSomeAnd its_row (MayLeaveLine r.keys c)
+  may_leave_line = some_that its_row found.0 (MayLeaveLine r.keys c) found.1 (record { idle = found.2; queued = waits_there })
 
-  pub passed_there : IsSomeAnd its_row (IsKeptPassed r.keys c)
-  passed_there = some_that its_row found.0 (IsKeptPassed r.keys c) found.1 (λ through. waits_there (merely_true (queues found.0) some (λ s.
+  passed_there : IsKeptPassed r.keys c found.0
+  passed_there = λ through. waits_there (merely_true (queues found.0) some (λ s.
       let t = s.t in
       let facts = s.facts in
       let (v, row, kept) = kept_row t found.0 (t.consumer c) (subst (λ o. KeepsConsumer t o (t.consumer c)) found.1 (s.rows.consumers c)) in
-      passed_queues r t facts s.rows c found.0 v row kept found.2 through)))
+      passed_queues r t facts s.rows c found.0 v row kept found.2 through))
+
+  pub may_queue : IsSomeAnd its_row (MayQueue r.keys c)
+  may_queue = some_that its_row found.0 (MayQueue r.keys c) found.1 (record { idle = found.2; passed = passed_there })
 
   next_some : (n : Need) → route_of n ≡ route.Turn → IsPlanOf r now c (plan.Fetch n) → Stands r → IsNext r.keys c found.0
   next_some n turns is s =
@@ -371,12 +384,15 @@ module _ {B : Type 0} {g : Ghosts B} (r : Rows B g) (some : ∥ Stands r ∥₁)
       let (v, row, kept) = kept_row t found.0 (t.consumer c) (subst (λ o. KeepsConsumer t o (t.consumer c)) found.1 (s.rows.consumers c)) in
       next_by r t facts s.rows c found.0 v row kept found.2 now n turns (is _ t v facts s.rows row)
 
-  pub next_there : (n : Need) → route_of n ≡ route.Turn → IsPlanOf r now c (plan.Fetch n) → IsSomeAnd its_row (IsNext r.keys c)
-  next_there n turns is =
-      some_that its_row found.0 (IsNext r.keys c) found.1 (
-        merely_true (queues found.0) some (λ s. (next_some n turns is s).0),
-        merely_number (turn_with c (line_of r.keys found.0.request.key)) c some (λ s. (next_some n turns is s).1),
-      )
+  pub may_ask : (n : Need) → route_of n ≡ route.Turn → IsPlanOf r now c (plan.Fetch n) → IsSomeAnd its_row (MayAsk r.keys c)
+  may_ask n turns is =
+      some_that its_row found.0 (MayAsk r.keys c) found.1 (record {
+        idle = found.2;
+        next = (
+          merely_true (queues found.0) some (λ s. (next_some n turns is s).0),
+          merely_number (turn_with c (line_of r.keys found.0.request.key)) c some (λ s. (next_some n turns is s).1),
+        );
+      })
 
   busy_queues : (d : ℕ) (how : Option ℕ) → IsPlanOf r now c (plan.Busy d how) → Stands r → queues found.0 ≡ true
   busy_queues d how is s =
@@ -386,8 +402,8 @@ module _ {B : Type 0} {g : Ghosts B} (r : Rows B g) (some : ∥ Stands r ∥₁)
       busy_by r t facts s.rows c found.0 v row kept found.2 now d how (is _ t v facts s.rows row)
 
   -- who waits for another that uses what is current waits for its key
-  pub waiting_there : (d : ℕ) (how : Option ℕ) → IsPlanOf r now c (plan.Busy d how) → IsSomeAnd its_row (IsWaiting r.keys c)
-  waiting_there d how is = some_that its_row found.0 (IsWaiting r.keys c) found.1 (waits_there (merely_true (queues found.0) some (busy_queues d how is)))
+  pub may_pass : (d : ℕ) (how : Option ℕ) → IsPlanOf r now c (plan.Busy d how) → IsSomeAnd its_row (MayPass r.keys c)
+  may_pass d how is = some_that its_row found.0 (MayPass r.keys c) found.1 (record { idle = found.2; waits = waits_there (merely_true (queues found.0) some (busy_queues d how is)) })
 
   -- what is current is kept
   pub current_kept : (q : ℕ) → IsSomeAnd its_row (HasCurrent r.keys q) → is_kept (shelf_of r.entries) q ≡ true
@@ -446,28 +462,17 @@ module _ {B : Type 0} {g : Ghosts B} (r : Rows B g) (some : ∥ Stands r ∥₁)
     fetch_answers n other is answers = plan_answers r u before out now c found.0 (plan.Fetch n) found.1 found.2 is (λ want lim t v facts stands row kept move.
         known_of its_row found.0 (AnswersOpening r u before out now c n) found.1 answers want _ t v facts stands row (move ∙ (ap (opens t n) (fetched_plain t v n other) ∙ opens_next r t found.0 v n stands kept)))
 
-    pub ask_answers : (n : Need) (q : ℕ) (head : StoredHead) → IsSomeAnd its_row (HasCurrent r.keys q) → head_at (shelf_of r.entries) q ≡ Some (plain head) → IsPlanOf r now c (plan.Fetch n) → IsSomeAnd its_row (AnswersAsking r u before out now c n (plain head)) → AnswersPoll r u before out now c
-    ask_answers n q head held read is answers = plan_answers r u before out now c found.0 (plan.Fetch n) found.1 found.2 is (λ want lim t v facts stands row kept move.
-        let at = now_kept r t stands v.request.key q (current_as r t found.0 v q stands kept (known_of its_row found.0 (HasCurrent r.keys q) found.1 held)) in
-        known_of its_row found.0 (AnswersAsking r u before out now c n (plain head)) found.1 answers want _ t v facts stands row
-        (move ∙ (ap (opens t n) (fetched_as t v n at.p (current_row_is t v q at.p (current_as r t found.0 v q stands kept (known_of its_row found.0 (HasCurrent r.keys q) found.1 held)) at.row) (plain head) at.e (head_is q head read at.e at.kept) at.is)
-        ∙ (ap (λ (x : ℕ). Opens x n (asked_by (plain head) n v.request)) (sym stands.next) ∙ ap (λ (z : Request). Opens (next_of r.exchanges) n (asked_by (plain head) n z)) (sym kept.request)))))
-      where
-        current_row_is : (t : Tables) (v : rows.Consumer) (m : ℕ) (p : Representation) → current t v.request.key ≡ Some m → t.representation m ≡ Some p → planning.current_row t v ≡ Some p
-        current_row_is t v m p at here = ap (row_of t) at ∙ here
-
-        head_is : (m : ℕ) (h : StoredHead) → head_at (shelf_of r.entries) m ≡ Some (plain h) → (e : Kept) → (shelf_of r.entries).kept m ≡ Some e → e.head ≡ plain h
-        head_is m h there e at = head_at_is ((shelf_of r.entries).kept m) e h at there
-
-        fetched_as : (t : Tables) (v : rows.Consumer) (m : Need) (p : Representation) → planning.current_row t v ≡ Some p → (h : Head) (e : Kept) → e.head ≡ h → IsEntry t q e p → planning.origin_request t v m ≡ asked_by h m v.request
-        fetched_as t v need.Validate p at h e same is = ap (λ (o : Option Representation). planning.conditional_on o v.request) at ∙ (ap (λ (z : Head). conditional z v.request) (sym is.head) ∙ ap (λ (z : Head). conditional z v.request) same)
-        fetched_as t v need.Disabled p at h e same is = refl
-        fetched_as t v need.TimedOut p at h e same is = refl
-        fetched_as t v need.Bypass p at h e same is = refl
-        fetched_as t v need.Miss p at h e same is = refl
-        fetched_as t v need.Vary p at h e same is = refl
-        fetched_as t v (need.Hole from to) p at h e same is = refl
-        fetched_as t v need.Unsatisfied p at h e same is = refl
+    pub validate_answers : (q : ℕ) (head : StoredHead) → IsSomeAnd its_row (HasCurrent r.keys q) → head_at (shelf_of r.entries) q ≡ Some (plain head) → IsPlanOf r now c (plan.Fetch need.Validate) → IsSomeAnd its_row (AnswersValidating r u before out now c (plain head)) → AnswersPoll r u before out now c
+    validate_answers q head held read is answers = plan_answers r u before out now c found.0 (plan.Fetch need.Validate) found.1 found.2 is (λ want lim t v facts stands row kept move.
+        let current_is = current_as r t found.0 v q stands kept (known_of its_row found.0 (HasCurrent r.keys q) found.1 held) in
+        let at = now_kept r t stands v.request.key q current_is in
+        let same : at.e.head ≡ plain head = head_at_is ((shelf_of r.entries).kept q) at.e head at.kept read in
+        let asked : planning.origin_request t v need.Validate ≡ conditional (plain head) v.request =
+        ap (λ (o : Option Representation). planning.conditional_on o v.request) (ap (row_of t) current_is ∙ at.row)
+        ∙ (ap (λ (z : Head). conditional z v.request) (sym at.is.head) ∙ ap (λ (z : Head). conditional z v.request) same) in
+        known_of its_row found.0 (AnswersValidating r u before out now c (plain head)) found.1 answers want _ t v facts stands row
+        (move ∙ (ap (opens t need.Validate) asked
+        ∙ (ap (λ (x : ℕ). Opens x need.Validate (conditional (plain head) v.request)) (sym stands.next) ∙ ap (λ (z : Request). Opens (next_of r.exchanges) need.Validate (conditional (plain head) z)) (sym kept.request)))))
 
     -- what it is shown is what its plan says of what is stored
     pub bind_answers : (why : Why) (span : Option Span) (q : ℕ) (head : StoredHead) → IsSomeAnd its_row (HasCurrent r.keys q) → head_at (shelf_of r.entries) q ≡ Some (plain head) → IsPlanOf r now c (plan.Bind why span) → IsSomeAnd its_row (AnswersShowing r u before out c q (plain head) why span) → AnswersPoll r u before out now c
@@ -566,6 +571,10 @@ module _ {B : Type 0} {g : Ghosts B} (r : Rows B g) (a : Entries B g) (stays : S
   pub read_stands : {lim : Limits} (t : Tables) → RowsStand lim r t → RowsStand lim read t
   read_stands t stands = stands_read r read t refl refl refl refl stays stands
 
+  -- what is current has the head that was read
+  pub read_current : (c q : ℕ) (head : Head) → IsSomeAnd (get nat_eq r.consumers c) (HasCurrent r.keys q) → head_at (shelf_of r.entries) q ≡ Some head → IsCurrentWith read c q head
+  read_current c q head held is = record { current = held; head = ap (option_map (λ (e : Kept). e.head)) (stays.kept q) ∙ is }
+
   pub read_until : (now : ℕ) → ∥ StandsBy r now ∥₁ → ∥ StandsBy read now ∥₁
   read_until now some = ∥∥₁_map some (λ u.
       let s = u.0 in (record { limits = s.limits; t = s.t; facts = s.facts; numbers = s.numbers; within_limits = s.within_limits; received = s.received; rows = read_stands s.t s.rows }, u.1))
@@ -609,6 +618,12 @@ planned_route r some now c idle n is = turn_is (route_of n) on
         let (k, at, resting) = there (get nat_eq r.consumers c) IsIdle idle in
         let (v, row, kept) = kept_row t k (t.consumer c) (subst (λ o. KeepsConsumer t o (t.consumer c)) at (s.rows.consumers c)) in
         ap is_turn (fetch_route (planning.plan_view t now c v) n (is _ t v facts s.rows row)))
+
+-- and its turn is next
+pub planned_asks : {B : Type 0} {g : Ghosts B} (r : Rows B g) (some : ∥ Stands r ∥₁) (now c : ℕ) → IsSomeAnd (get nat_eq r.consumers c) IsIdle → (p : Plan) (n : Need) → IsPlanOf r now c p → p ≡ plan.Fetch n → IsSomeAnd (get nat_eq r.consumers c) (MayAsk r.keys c)
+planned_asks r some now c idle p n is same =
+    let fetch = plan_same r now c p (plan.Fetch n) is same in
+    may_ask r some now c idle n (planned_route r some now c idle n fetch) fetch
 
 pub planned_past : {B : Type 0} {g : Ghosts B} (r : Rows B g) (some : ∥ Stands r ∥₁) (now c : ℕ) → IsSomeAnd (get nat_eq r.consumers c) IsIdle → (n : Need) → IsPlanOf r now c (plan.Direct n) → route_of n ≡ route.Direct
 planned_past r some now c idle n is = past_is (route_of n) on

@@ -1,6 +1,6 @@
 -- What is known of a consumer that is polled: it is live, and its request has few and short fields.
-use Rattle.std.proofs.Common.{◌≡◌, ℕ, ◌+◌, ◌<◌, ◌≤◌, length, true, Some, sym, ap, ◌∙◌, subst, arith}
-use Rattle.std.specs.Prelude.{nat_eq}
+use Rattle.std.proofs.Common.{◌≡◌, ℕ, length, true, Some, sym, ap, ◌∙◌, subst, arith}
+use Rattle.std.specs.Prelude.{nat_eq, IsSomeAnd}
 use Rattle.std.specs.HashMap.{get}
 use Rattle.hc_store.specs.declared.backend.Backend.{Ghosts}
 use Rattle.hc_effects.proofs.Vocabulary.{Request, Place, is_live_place}
@@ -11,8 +11,9 @@ use Rattle.hc_state.specs.declared.rows.Rows.{Rows}
 use Rattle.hc_state.specs.Kept.{IsKept, KeepsConsumer}
 use Rattle.hc_state.specs.Plans.{IsRequestWithinLimits}
 use Rattle.hc_state.specs.Stands.{Stands}
-use Rattle.hc_state.proofs.Maps.{merely_true, merely_below}
+use Rattle.hc_state.proofs.Maps.{merely_true, merely_below, some_that}
 use Rattle.hc_state.proofs.Ties.{kept_row}
+use Rattle.hc_state.proofs.Words.{there}
 
 module _ {B : Type 0} {g : Ghosts B} (r : Rows B g) (some : ∥ Stands r ∥₁) (c : ℕ) (k : Consumer) (there : get nat_eq r.consumers c ≡ Some k) where
   its_row : (s : Stands r) → (v : rows.Consumer) × (s.t.consumer c ≡ Some v) × IsKept s.t k v
@@ -31,3 +32,9 @@ module _ {B : Type 0} {g : Ghosts B} (r : Rows B g) (some : ∥ Stands r ∥₁)
       let few = merely_below (length k.request.fields) 65 some (λ s. (let le = (within_limits_in s).few in omega (arith, le))) in
       let small = merely_below (size_of k.request.fields) 32769 some (λ s. (let le = (within_limits_in s).small in omega (arith, le))) in
       record { few = omega (arith, few); small = omega (arith, small) }
+
+-- whatever else is known of it
+pub limits_there : {B : Type 0} {g : Ghosts B} (r : Rows B g) → ∥ Stands r ∥₁ → (c : ℕ) (P : Consumer → Type 0) → IsSomeAnd (get nat_eq r.consumers c) P → IsSomeAnd (get nat_eq r.consumers c) IsRequestWithinLimits
+limits_there r some c P is =
+    let (k, at, known) = there (get nat_eq r.consumers c) P is in
+    some_that (get nat_eq r.consumers c) k IsRequestWithinLimits at (within_limits_there r some c k at)

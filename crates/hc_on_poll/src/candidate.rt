@@ -1,12 +1,11 @@
 //! What is current, as the plan of a consumer sees it.
-ghost use Rattle.std.specs.Prelude.{◌≡◌, ◌<◌, ◌^◌, Some, nat_eq, true, IsSomeAnd};
-ghost use Rattle.std.specs.HashMap.{get};
+ghost use Rattle.std.specs.Prelude.{◌≡◌, ◌<◌, ◌^◌, true, IsSomeAnd};
 ghost use Rattle.hc_record.specs.Plain.{plain};
 ghost use Rattle.hc_stored.specs.Entries.{shelf_of};
-ghost use Rattle.hc_stored.specs.Shelf.{cells_at, head_at, is_kept};
+ghost use Rattle.hc_stored.specs.Shelf.{cells_at, is_kept};
 ghost use Rattle.hc_state.specs.Candidates.{hole_in, IsAnsweredBy, AllowedIs, CandidateIs};
 ghost use Rattle.hc_state.specs.Good.{StandsBy};
-ghost use Rattle.hc_state.specs.Plans.{HasCurrent};
+ghost use Rattle.hc_on_poll.specs.Ready.{IsCurrentWith};
 
 use hc_event::{Request, Why};
 use hc_fresh::{RequestFacts, allowed_to, vary_matches};
@@ -29,8 +28,7 @@ pub(crate) fn candidate<B: Backend>(
 ) -> Candidate
     requires stands { ∥ StandsBy rows.now now ∥₁ }
     requires early { now < 2 ^ 62 }
-    requires current { IsSomeAnd (get nat_eq rows.now.consumers c) (HasCurrent rows.now.keys r) }
-    requires head { head_at (shelf_of rows.now.entries) r ≡ Some (plain head.now) }
+    requires current { IsCurrentWith rows.now c r (plain head.now) }
     ensures { CandidateIs rows.now now c r result }
 {
     let consumer = rows.consumers.get(&c).unwrap();

@@ -1,5 +1,5 @@
 //! Exchanges for holes of what is stored.
-ghost use Rattle.std.specs.Prelude.{◌≡◌, ◌+◌, ◌≤◌, ◌<◌, ◌^◌, Some, None, nat_eq, true, length, unwrap_or, is_some, IsSomeAnd, IfOk, OnOk, OnErr};
+ghost use Rattle.std.specs.Prelude.{◌≡◌, ◌≤◌, ◌<◌, ◌^◌, nat_eq, true, unwrap_or, IsSomeAnd, IfOk, OnOk};
 ghost use Rattle.std.specs.HashMap.{get};
 ghost use Rattle.hc_event.specs.Acts.{act_list, spare};
 ghost use Rattle.hc_fields.specs.FieldList.{IsWithinLimits};
@@ -10,9 +10,10 @@ ghost use Rattle.hc_stored.specs.Shelf.{head_at};
 ghost use Rattle.hc_stored.specs.Views.{admits_first};
 ghost use Rattle.hc_exch.specs.Exchanges.{next_of};
 ghost use Rattle.hc_model.specs.Moves.{hole_request};
-ghost use Rattle.hc_state.specs.Plans.{IsIdle, IsRequestWithinLimits, IsWaiting, HasCurrent, AnswersFirst, AnswersFilling};
+ghost use Rattle.hc_state.specs.Plans.{IsRequestWithinLimits, AnswersFirst, AnswersFilling};
 ghost use Rattle.hc_state.specs.Reads.{AnswersHole, IsInLength, IsShownAt};
-ghost use Rattle.hc_state.specs.Stands.{Stands};
+ghost use Rattle.hc_on_poll.specs.Keeps.{AddsNoFault, KeepsFaults};
+ghost use Rattle.hc_on_poll.specs.Ready.{IsCurrentWith, MayOpen, MayPass};
 
 use crate::plan::open;
 use hc_event::{Acts, Need, Request};
@@ -37,11 +38,9 @@ pub(crate) fn open_first_hole<B: Backend>(
     hole: Span,
     out: &mut Acts,
 ) -> Result<(), NoMemory>
-    requires idle { IsSomeAnd (get nat_eq rows.old.consumers c) IsIdle }
+    requires passes { IsSomeAnd (get nat_eq rows.old.consumers c) (MayPass rows.old.keys c) }
     requires within_limits { IsSomeAnd (get nat_eq rows.old.consumers c) IsRequestWithinLimits }
-    requires waits { IsSomeAnd (get nat_eq rows.old.consumers c) (IsWaiting rows.old.keys c) }
-    requires current { IsSomeAnd (get nat_eq rows.old.consumers c) (HasCurrent rows.old.keys r) }
-    requires head { head_at (shelf_of rows.old.entries) r ≡ Some (plain head.now) }
+    requires current { IsCurrentWith rows.old c r (plain head.now) }
     requires admits { admits_first c ((shelf_of rows.old.entries).kept r) ≡ true }
     requires hole { IsSomeAnd head.now.total (IsWithin hole) }
     requires few { next_of rows.old.exchanges < 2 ^ 62 }
@@ -49,8 +48,7 @@ pub(crate) fn open_first_hole<B: Backend>(
     ensures answers { OnOk result (IsSomeAnd (get nat_eq rows.old.consumers c)
         (AnswersFirst rows.old rows.new (act_list out.old) (act_list out.new)
         now c (plain head.now) span hole)) }
-    ensures faults { (shelf_of rows.new.entries).faults ≡ (shelf_of rows.old.entries).faults }
-    ensures kept { OnErr result (act_list out.new ≡ act_list out.old) }
+    ensures kept { AddsNoFault result rows.old rows.new (act_list out.old) (act_list out.new) }
 {
     let consumer = rows.consumers.get(&c).unwrap();
     let request = hole_request(head, &consumer.request, hole)?;
@@ -77,16 +75,13 @@ pub(crate) fn open_later_hole<B: Backend>(
     hole: Span,
     out: &mut Acts,
 ) -> Result<(), NoMemory>
-    requires stands { ∥ Stands rows.old ∥₁ }
+    requires opens { MayOpen rows.old }
     requires shown { IsSomeAnd (get nat_eq rows.old.consumers c) (IsShownAt r) }
-    requires within_limits { IsSomeAnd (get nat_eq rows.old.consumers c) IsRequestWithinLimits }
     requires hole { IsSomeAnd (head_at (shelf_of rows.old.entries) r) (IsInLength hole) }
-    requires few { next_of rows.old.exchanges < 2 ^ 62 }
     requires room { 2 ≤ spare out.old }
     ensures answers { OnOk result (IsSomeAnd (get nat_eq rows.old.consumers c)
         (AnswersHole rows.old rows.new (act_list out.old) (act_list out.new) now c r hole)) }
-    ensures faults { (shelf_of rows.old.entries).faults ≤ (shelf_of rows.new.entries).faults }
-    ensures kept { OnErr result (act_list out.new ≡ act_list out.old) }
+    ensures kept { KeepsFaults result rows.old rows.new (act_list out.old) (act_list out.new) }
 {
     match rows.entries.head(r) {
         Ok(head) => fill_later_hole(rows, now, c, r, &head, hole, out),
@@ -112,8 +107,7 @@ fn fill_later_hole<B: Backend>(
     ensures answers { OnOk result (IsSomeAnd (get nat_eq rows.old.consumers c)
         (AnswersFilling rows.old rows.new (act_list out.old) (act_list out.new)
         now c (plain head.now) hole)) }
-    ensures faults { (shelf_of rows.new.entries).faults ≡ (shelf_of rows.old.entries).faults }
-    ensures kept { OnErr result (act_list out.new ≡ act_list out.old) }
+    ensures kept { AddsNoFault result rows.old rows.new (act_list out.old) (act_list out.new) }
 {
     let consumer = rows.consumers.get(&c).unwrap();
     let request = hole_request(head, &consumer.request, hole)?;

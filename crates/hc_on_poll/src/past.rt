@@ -1,12 +1,12 @@
 //! What a poll does for a consumer that goes past the store.
-ghost use Rattle.std.specs.Prelude.{◌≡◌, ◌+◌, ◌≤◌, ◌<◌, ◌^◌, ℕ, nat_eq, IsSomeAnd, OnOk, OnErr};
+ghost use Rattle.std.specs.Prelude.{◌≡◌, ◌+◌, ◌≤◌, ◌<◌, ℕ, nat_eq, IsSomeAnd, OnOk};
 ghost use Rattle.std.specs.HashMap.{get};
 ghost use Rattle.hc_event.specs.Acts.{act_list, spare};
 ghost use Rattle.hc_event.specs.declared.event.Event.TheVariants.{Poll};
-ghost use Rattle.hc_stored.specs.Entries.{shelf_of};
 ghost use Rattle.hc_exch.specs.Exchanges.{table_of};
 ghost use Rattle.hc_state.specs.Arms.{IsShown, IsUnshown, past_view};
 ghost use Rattle.hc_state.specs.Stands.{Answers, Stands};
+ghost use Rattle.hc_on_poll.specs.Keeps.{KeepsExchanges, KeepsFaults};
 
 use crate::read::{ask, give, most};
 use crate::show::put_shown;
@@ -25,8 +25,7 @@ pub(crate) fn await_answer<B: Backend>(rows: &mut Rows<B>, c: u64, x: u64, out: 
     requires room { 1 ≤ spare out.old }
     ensures answers { (now want : ℕ)
         → Answers rows.old rows.new (act_list out.old) (act_list out.new) now (Poll c want) }
-    ensures exchanges { rows.new.exchanges ≡ rows.old.exchanges }
-    ensures faults { (shelf_of rows.new.entries).faults ≡ (shelf_of rows.old.entries).faults }
+    ensures keeps { KeepsExchanges rows.old rows.new }
 {
     let consumer = rows.consumers.get(&c).unwrap();
     let (lo, hi) = (consumer.lo, consumer.hi);
@@ -52,8 +51,7 @@ pub(crate) fn read_past<B: Backend>(
     requires room { 3 ≤ spare out.old }
     ensures answers { OnOk result
         (Answers rows.old rows.new (act_list out.old) (act_list out.new) now (Poll c want)) }
-    ensures faults { (shelf_of rows.old.entries).faults ≤ (shelf_of rows.new.entries).faults }
-    ensures kept { OnErr result (act_list out.new ≡ act_list out.old) }
+    ensures kept { KeepsFaults result rows.old rows.new (act_list out.old) (act_list out.new) }
 {
     let consumer = rows.consumers.get(&c).unwrap();
     let offset = consumer.lo + consumer.given;

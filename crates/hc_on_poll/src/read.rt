@@ -1,22 +1,23 @@
 //! What a poll does for a consumer that reads what is stored.
-ghost use Rattle.std.specs.Prelude.{◌≡◌, ◌+◌, ◌≤◌, ◌<◌, ◌^◌, ◌++◌, nat_eq, length, true, option_map, is_some, IfOk, IfSome, IsSomeAnd, OnOk, OnErr};
+ghost use Rattle.std.specs.Prelude.{◌≡◌, ◌+◌, ◌≤◌, ◌<◌, ◌^◌, ◌++◌, nat_eq, length, true, option_map, is_some, IfOk, IfSome, IsSomeAnd, OnOk};
 ghost use Rattle.std.specs.Option.{option_or};
 ghost use Rattle.std.specs.HashMap.{get};
 ghost use Rattle.hc_event.specs.Acts.{act_list, spare};
 ghost use Rattle.hc_event.specs.declared.event.Event.TheVariants.{Poll};
 ghost use Rattle.hc_stored.specs.Entries.{shelf_of};
 ghost use Rattle.hc_stored.specs.Shelf.{is_kept};
-ghost use Rattle.hc_exch.specs.Exchanges.{next_of, table_of, Becomes};
+ghost use Rattle.hc_exch.specs.Exchanges.{table_of, Becomes};
 ghost use Rattle.hc_exch.specs.Known.{is_open, with_asking};
 ghost use Rattle.hc_model.specs.Moves.{acts_of};
 ghost use Rattle.hc_sparse.specs.Runs.{end_of};
 ghost use Rattle.hc_store.specs.Causes.{HasCause, HasNoLimit};
 ghost use Rattle.hc_state.specs.Changes.{ChangesAt, once_given};
 ghost use Rattle.hc_state.specs.Leaving.{if_running, writing_of};
-ghost use Rattle.hc_state.specs.Plans.{IsRequestWithinLimits};
-ghost use Rattle.hc_state.specs.Stands.{Answers, KeepsRest, Stands};
+ghost use Rattle.hc_state.specs.Stands.{Answers, KeepsRest};
 ghost use Rattle.hc_state.specs.Arms.{most, given_acts, asks_or_waits, asked_in};
-ghost use Rattle.hc_state.specs.Reads.{goes_alone, headless_own, held_own, IsHeard, IsRunAhead, IsShownAt, ReadViewIs, ReadsStore, run_ahead};
+ghost use Rattle.hc_state.specs.Reads.{goes_alone, headless_own, held_own, IsShownAt, ReadViewIs, ReadsStore, run_ahead};
+ghost use Rattle.hc_on_poll.specs.Keeps.{KeepsFaults};
+ghost use Rattle.hc_on_poll.specs.Ready.{MayOpen, ReadsAhead};
 
 use crate::hole::open_later_hole;
 use crate::shown::is_headless;
@@ -41,16 +42,13 @@ pub(crate) fn read_bound<B: Backend>(
     want: u32,
     out: &mut Acts,
 ) -> Result<(), NoMemory>
-    requires stands { ∥ Stands rows.old ∥₁ }
+    requires opens { MayOpen rows.old }
     requires shown { IsSomeAnd (get nat_eq rows.old.consumers c) (IsShownAt r) }
-    requires within_limits { IsSomeAnd (get nat_eq rows.old.consumers c) IsRequestWithinLimits }
     requires wants { 0 < want }
-    requires few { next_of rows.old.exchanges < 2 ^ 62 }
     requires room { 3 ≤ spare out.old }
     ensures answers { OnOk result
         (Answers rows.old rows.new (act_list out.old) (act_list out.new) now (Poll c want)) }
-    ensures faults { (shelf_of rows.old.entries).faults ≤ (shelf_of rows.new.entries).faults }
-    ensures kept { OnErr result (act_list out.new ≡ act_list out.old) }
+    ensures kept { KeepsFaults result rows.old rows.new (act_list out.old) (act_list out.new) }
 {
     let consumer = rows.consumers.get(&c).unwrap();
     if let Some(x) = headless_own(rows, consumer) {
@@ -75,20 +73,14 @@ fn read_on<B: Backend>(
     run: Option<Run>,
     out: &mut Acts,
 ) -> Result<(), NoMemory>
-    requires stands { ∥ Stands rows.old ∥₁ }
-    requires shown { IsSomeAnd (get nat_eq rows.old.consumers c) (IsShownAt r) }
-    requires within_limits { IsSomeAnd (get nat_eq rows.old.consumers c) IsRequestWithinLimits }
-    requires heard { IsSomeAnd (get nat_eq rows.old.consumers c)
-        (IsHeard (table_of rows.old.exchanges)) }
-    requires run { IsSomeAnd (get nat_eq rows.old.consumers c)
-        (IsRunAhead (shelf_of rows.old.entries) r want run) }
+    requires opens { MayOpen rows.old }
+    requires reads { IsSomeAnd (get nat_eq rows.old.consumers c)
+        (ReadsAhead rows.old r want run) }
     requires wants { 0 < want }
-    requires few { next_of rows.old.exchanges < 2 ^ 62 }
     requires room { 3 ≤ spare out.old }
     ensures answers { OnOk result
         (Answers rows.old rows.new (act_list out.old) (act_list out.new) now (Poll c want)) }
-    ensures faults { (shelf_of rows.old.entries).faults ≤ (shelf_of rows.new.entries).faults }
-    ensures kept { OnErr result (act_list out.new ≡ act_list out.old) }
+    ensures kept { KeepsFaults result rows.old rows.new (act_list out.old) (act_list out.new) }
 {
     let own = rows.consumers.get(&c).unwrap().own;
     let view = read_view(rows, c, r, end_of(&run));

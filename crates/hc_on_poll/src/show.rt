@@ -1,15 +1,15 @@
 //! A head that is stored is shown.
-ghost use Rattle.std.specs.Prelude.{◌≡◌, ◌≤◌, ◌<◌, ◌^◌, ◌++◌, ◌∷◌, [], Some, None, nat_eq, true, IsSomeAnd, OnOk, OnErr};
+ghost use Rattle.std.specs.Prelude.{◌≡◌, ◌≤◌, ◌<◌, ◌++◌, ◌∷◌, [], Some, None, nat_eq, true, IsSomeAnd, OnOk};
 ghost use Rattle.std.specs.HashMap.{get};
 ghost use Rattle.hc_event.specs.Acts.{act_list, spare};
 ghost use Rattle.hc_event.specs.declared.act.Act.TheVariants as act;
 ghost use Rattle.hc_record.specs.Plain.{plain};
 ghost use Rattle.hc_stored.specs.Entries.{shelf_of};
-ghost use Rattle.hc_stored.specs.Shelf.{head_at};
 ghost use Rattle.hc_stored.specs.Views.{admits};
 ghost use Rattle.hc_model.specs.Moves.{span_to};
-ghost use Rattle.hc_state.specs.Arms.{IsQueued};
-ghost use Rattle.hc_state.specs.Plans.{begin_of, end_of, IsIdle, HasCurrent, IsShownPart, AnswersShowing};
+ghost use Rattle.hc_state.specs.Plans.{begin_of, end_of, IsShownPart, AnswersShowing};
+ghost use Rattle.hc_on_poll.specs.Keeps.{AddsNoFault};
+ghost use Rattle.hc_on_poll.specs.Ready.{IsCurrentWith, MayLeaveLine};
 
 use hc_event::{Act, Acts, Response, Why};
 use hc_on_leave::acts::put;
@@ -31,20 +31,17 @@ pub(crate) fn bind<B: Backend>(
     span: Option<Span>,
     out: &mut Acts,
 ) -> Result<(), NoMemory>
-    requires idle { IsSomeAnd (get nat_eq rows.old.consumers c) IsIdle }
-    requires queued { IsSomeAnd (get nat_eq rows.old.consumers c) (IsQueued rows.old.keys c) }
-    requires current { IsSomeAnd (get nat_eq rows.old.consumers c) (HasCurrent rows.old.keys r) }
+    requires leaves { IsSomeAnd (get nat_eq rows.old.consumers c) (MayLeaveLine rows.old.keys c) }
     requires part { IsSomeAnd (get nat_eq rows.old.consumers c)
         (IsShownPart (plain head.now) span) }
-    requires head { head_at (shelf_of rows.old.entries) r ≡ Some (plain head.now) }
+    requires current { IsCurrentWith rows.old c r (plain head.now) }
     requires admits { admits c ((shelf_of rows.old.entries).kept r) ≡ true }
     requires room { 1 ≤ spare out.old }
     ensures answers { OnOk result (IsSomeAnd (get nat_eq rows.old.consumers c)
         (AnswersShowing rows.old rows.new (act_list out.old) (act_list out.new)
         c r (plain head.now) why span)) }
     ensures exchanges { OnOk result (rows.new.exchanges ≡ rows.old.exchanges) }
-    ensures faults { (shelf_of rows.new.entries).faults ≡ (shelf_of rows.old.entries).faults }
-    ensures kept { OnErr result (act_list out.new ≡ act_list out.old) }
+    ensures kept { AddsNoFault result rows.old rows.new (act_list out.old) (act_list out.new) }
 {
     let consumer = rows.consumers.get(&c).unwrap();
     let (lo, hi) = bounds_of(span, head.total);

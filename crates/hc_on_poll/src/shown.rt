@@ -1,5 +1,5 @@
 //! A head that is stored is shown to who is bound.
-ghost use Rattle.std.specs.Prelude.{◌≡◌, ◌≤◌, ◌<◌, ◌^◌, ℕ, Some, true, false, nat_eq, IsSomeAnd, OnOk, OnErr};
+ghost use Rattle.std.specs.Prelude.{◌≡◌, ◌≤◌, ◌<◌, ℕ, Some, true, false, nat_eq, IsSomeAnd, OnOk};
 ghost use Rattle.std.specs.HashMap.{get};
 ghost use Rattle.hc_event.specs.Acts.{act_list, spare};
 ghost use Rattle.hc_event.specs.declared.event.Event.TheVariants.{Poll};
@@ -9,6 +9,7 @@ ghost use Rattle.hc_stored.specs.Shelf.{head_at};
 ghost use Rattle.hc_exch.specs.Exchanges.{table_of};
 ghost use Rattle.hc_state.specs.Reads.{IsUnshownBy, is_headless_open, waits_for_first, is_part, why_shown, AnswersPolls};
 ghost use Rattle.hc_state.specs.Stands.{Answers, Stands};
+ghost use Rattle.hc_on_poll.specs.Keeps.{AddsNoFault, KeepsFaults};
 
 use crate::show::{put_shown, span_to};
 use crate::wait::wait;
@@ -36,8 +37,7 @@ pub(crate) fn await_stored<B: Backend>(
     requires room { 2 ≤ spare out.old }
     ensures answers { OnOk result ((want : ℕ) → Answers rows.old rows.new
         (act_list out.old) (act_list out.new) now (Poll c want)) }
-    ensures faults { (shelf_of rows.old.entries).faults ≤ (shelf_of rows.new.entries).faults }
-    ensures kept { OnErr result (act_list out.new ≡ act_list out.old) }
+    ensures kept { KeepsFaults result rows.old rows.new (act_list out.old) (act_list out.new) }
 {
     if let BoundBy::FirstHole(x) = by {
         if is_headless(rows, x) {
@@ -68,8 +68,7 @@ fn show_stored<B: Backend>(
     ensures answers { OnOk result
         (AnswersPolls rows.old rows.new (act_list out.old) (act_list out.new) c) }
     ensures exchanges { OnOk result (rows.new.exchanges ≡ rows.old.exchanges) }
-    ensures faults { (shelf_of rows.new.entries).faults ≡ (shelf_of rows.old.entries).faults }
-    ensures kept { OnErr result (act_list out.new ≡ act_list out.old) }
+    ensures kept { AddsNoFault result rows.old rows.new (act_list out.old) (act_list out.new) }
 {
     let consumer = rows.consumers.get(&c).unwrap();
     let (lo, hi) = (consumer.lo, consumer.hi);

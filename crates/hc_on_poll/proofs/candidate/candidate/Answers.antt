@@ -30,7 +30,7 @@ pub allowed-requires-clause-answered : goal.allowed-requires-clause-answered
 allowed-requires-clause-answered g c =
     let r = c.args.rows.now in
     let row = (shelf_of r.entries).kept c.args.r in
-    let (e, kept, head) = headed_entry row c.args.head.now c.requires.head in
+    let (e, kept, head) = headed_entry row c.args.head.now c.requires.current.head in
     some_that row e _ kept (
     let below : e.head.answered < c.args.now + 1 = merely_below _ (c.args.now + 1) c.requires.stands (λ u.
     let s = u.0 in
@@ -54,9 +54,9 @@ returns g c = λ lim t v p facts stands row here.
     let k_kept = subst (KeepsConsumer t (Some k)) row (subst (λ o. KeepsConsumer t o (t.consumer c.args.c)) at (stands.consumers c.args.c)) in
     let shelved = (shelf_of r.entries).kept q in
     let (e2, kept2, seen) = viewed_entry shelved c.unwrap-entry.result (sym c.entry.ensures ∙ c.unwrap-entry.ensures) in
-    let stays = current_stays t v.request.key q p (current_as r t k v q stands k_kept (known_of (get nat_eq r.consumers c.args.c) k (HasCurrent r.keys q) at c.requires.current)) here in
+    let stays = current_stays t v.request.key q p (current_as r t k v q stands k_kept (known_of (get nat_eq r.consumers c.args.c) k (HasCurrent r.keys q) at c.requires.current.current)) here in
     seen_as r t facts stands c.args.now q k v k_kept p here stays e2 kept2
     (record { allowed = c.allowed.result; vary = c.vary_matches.result; span = c.wanted_of-span.result; hole = c.hole_of.result; writing = c.is_some.result; exclusive = c.exclusive.result; least_bound = c.copied.result })
     c.unwrap-entry.result c.args.head.now (known_of shelved e2 (AllowedIs k.request c.args.now c.allowed.result) kept2 c.allowed.ensures) seen
-    (head_at_is shelved e2 c.args.head.now kept2 c.requires.head) c.vary_matches.ensures c.wanted_of-span.ensures c.hole_of.ensures (c.is_some.ensures ∙ ap (λ (o : Option ℕ). is_some o) c.writing.ensures)
+    (head_at_is shelved e2 c.args.head.now kept2 c.requires.current.head) c.vary_matches.ensures c.wanted_of-span.ensures c.hole_of.ensures (c.is_some.ensures ∙ ap (λ (o : Option ℕ). is_some o) c.writing.ensures)
     (c.exclusive.ensures _ t p facts stands here (stays_stored t facts.law q p here stays)) (c.copied.ensures ∙ (c.first.ensures.value ∙ ap (λ (z : List ℕ). slice_get z 0) c.bound.ensures))

@@ -1,57 +1,63 @@
 use Rattle.std.proofs.Common.{inl, inr, ap, sym, ◌∙◌}
 use Rattle.hc_text.proofs.Basics.{false_true}
 use Rattle.hc_effects.proofs.Vocabulary.{act_list}
+use Rattle.hc_event.specs.declared.act.Need.TheVariants as needs
 use Rattle.hc_rules.specs.declared.plan.Plan.TheVariants as plan
-use Rattle.hc_on_poll.proofs.PlanArms.{past_route, fetch_route, queued_there, passed_there, next_there, plan_same, direct_answers, turn_answers, fetch_answers, miss_answers, bare_validates, is_bare, bare_uses}
+use Rattle.hc_on_poll.proofs.PlanArms.{past_route, fetch_route, planned_asks, may_leave_line, may_queue, plan_same, direct_answers, turn_answers, fetch_answers, miss_answers, bare_validates, is_bare, bare_uses}
 use Rattle.hc_on_poll.proofs.carry.carry_out_bare.Goals as goal
 use Rattle.hc_state.proofs.Words.{ok_then}
 
-pub open_past-requires-clause-queued : goal.open_past-requires-clause-queued
-open_past-requires-clause-queued g c = queued_there c.args.rows.now c.requires.stands c.args.now c.args.c c.requires.idle
+pub open_past-requires-clause-leaves : goal.open_past-requires-clause-leaves
+open_past-requires-clause-leaves g c = may_leave_line c.args.rows.now c.requires.opens.stands c.args.now c.args.c c.requires.idle
 
 pub open_past-requires-clause-past : goal.open_past-requires-clause-past
 open_past-requires-clause-past g c = past_route c.args.view.now c.in-Direct.need (sym c.plan_of.ensures ∙ c.in-Direct.is)
 
-pub wait_for_turn-requires-clause-kept : goal.wait_for_turn-requires-clause-kept
-wait_for_turn-requires-clause-kept g c = passed_there c.args.rows.now c.requires.stands c.args.now c.args.c c.requires.idle
+pub wait_for_turn-requires-clause-queues : goal.wait_for_turn-requires-clause-queues
+wait_for_turn-requires-clause-queues g c = may_queue c.args.rows.now c.requires.opens.stands c.args.now c.args.c c.requires.idle
 
 pub returns-in-Direct-clause-answers : goal.returns-in-Direct-clause-answers
 returns-in-Direct-clause-answers g c =
     let r = c.args.rows.now in
     let is = plan_same r c.args.now c.args.c _ (plan.Direct c.in-Direct.need) c.requires.plan (sym c.plan_of.ensures ∙ c.in-Direct.is) in
-    ok_then c.open_past.result c.open_past.ensures.answers (direct_answers r c.requires.stands c.args.now c.args.c c.requires.idle c.open_past.new.rows (act_list c.args.out.now) (act_list c.open_past.new.out) c.in-Direct.need is)
+    ok_then c.open_past.result c.open_past.ensures.answers (direct_answers r c.requires.opens.stands c.args.now c.args.c c.requires.idle c.open_past.new.rows (act_list c.args.out.now) (act_list c.open_past.new.out) c.in-Direct.need is)
 
 pub returns-in-Turn-clause-answers : goal.returns-in-Turn-clause-answers
 returns-in-Turn-clause-answers g c =
     let r = c.args.rows.now in
     let is = plan_same r c.args.now c.args.c _ (plan.Turn c.in-Turn.d) c.requires.plan (sym c.plan_of.ensures ∙ c.in-Turn.is) in
-    turn_answers r c.requires.stands c.args.now c.args.c c.requires.idle c.wait_for_turn.new.rows (act_list c.args.out.now) (act_list c.wait_for_turn.new.out) c.in-Turn.d is c.wait_for_turn.ensures.answers
+    turn_answers r c.requires.opens.stands c.args.now c.args.c c.requires.idle c.wait_for_turn.new.rows (act_list c.args.out.now) (act_list c.wait_for_turn.new.out) c.in-Turn.d is c.wait_for_turn.ensures.answers
 
 pub returns-in-Miss-clause-answers : goal.returns-in-Miss-clause-answers
 returns-in-Miss-clause-answers g c =
     let r = c.args.rows.now in
     let is = plan_same r c.args.now c.args.c _ plan.Miss c.requires.plan (sym c.plan_of.ensures ∙ c.in-Miss.is) in
-    miss_answers r c.requires.stands c.args.now c.args.c c.requires.idle c.fail.new.rows (act_list c.args.out.now) (act_list c.fail.new.out) is c.fail.ensures.answers
+    miss_answers r c.requires.opens.stands c.args.now c.args.c c.requires.idle c.fail.new.rows (act_list c.args.out.now) (act_list c.fail.new.out) is c.fail.ensures.answers
 
-pub fetch_bare-requires-clause-kept : goal.fetch_bare-requires-clause-kept
-fetch_bare-requires-clause-kept g c = passed_there c.args.rows.now c.requires.stands c.args.now c.args.c c.requires.idle
+pub bypass-requires-clause-asks : goal.bypass-requires-clause-asks
+bypass-requires-clause-asks g c = planned_asks c.args.rows.now c.requires.opens.stands c.args.now c.args.c c.requires.idle _ c.in-Fetch.need c.requires.plan (sym c.plan_of.ensures ∙ c.in-Fetch.is)
 
-pub fetch_bare-requires-clause-turn : goal.fetch_bare-requires-clause-turn
-fetch_bare-requires-clause-turn g c =
+pub fetch-requires-clause-asks : goal.fetch-requires-clause-asks
+fetch-requires-clause-asks g c = planned_asks c.args.rows.now c.requires.opens.stands c.args.now c.args.c c.requires.idle _ c.in-Fetch.need c.requires.plan (sym c.plan_of.ensures ∙ c.in-Fetch.is)
+
+pub fetch-requires-clause-turns : goal.fetch-requires-clause-turns
+fetch-requires-clause-turns g c = fetch_route c.args.view.now c.in-Fetch.need (sym c.plan_of.ensures ∙ c.in-Fetch.is)
+
+pub returns-in-Bypass-clause-answers : goal.returns-in-Bypass-clause-answers
+returns-in-Bypass-clause-answers g c =
     let r = c.args.rows.now in
-    let is = plan_same r c.args.now c.args.c _ (plan.Fetch c.in-Fetch.need) c.requires.plan (sym c.plan_of.ensures ∙ c.in-Fetch.is) in
-    next_there r c.requires.stands c.args.now c.args.c c.requires.idle c.in-Fetch.need (fetch_route c.args.view.now c.in-Fetch.need (sym c.plan_of.ensures ∙ c.in-Fetch.is)) is
+    let at = sym c.plan_of.ensures ∙ (c.in-Fetch.is ∙ ap plan.Fetch c.in-Bypass.is) in
+    let is = plan_same r c.args.now c.args.c _ (plan.Fetch needs.Bypass) c.requires.plan at in
+    ok_then c.bypass.result c.bypass.ensures.answers
+    (fetch_answers r c.requires.opens.stands c.args.now c.args.c c.requires.idle c.bypass.new.rows (act_list c.args.out.now) (act_list c.bypass.new.out) needs.Bypass (bare_validates c.args.view.now needs.Bypass c.requires.bare at) is)
 
-pub fetch_bare-requires-clause-turns : goal.fetch_bare-requires-clause-turns
-fetch_bare-requires-clause-turns g c = fetch_route c.args.view.now c.in-Fetch.need (sym c.plan_of.ensures ∙ c.in-Fetch.is)
-
-pub returns-in-Fetch-clause-answers : goal.returns-in-Fetch-clause-answers
-returns-in-Fetch-clause-answers g c =
+pub returns-in_default-clause-answers : goal.returns-in_default-clause-answers
+returns-in_default-clause-answers g c =
     let r = c.args.rows.now in
     let at = sym c.plan_of.ensures ∙ c.in-Fetch.is in
     let is = plan_same r c.args.now c.args.c _ (plan.Fetch c.in-Fetch.need) c.requires.plan at in
-    ok_then c.fetch_bare.result c.fetch_bare.ensures.answers
-    (fetch_answers r c.requires.stands c.args.now c.args.c c.requires.idle c.fetch_bare.new.rows (act_list c.args.out.now) (act_list c.fetch_bare.new.out) c.in-Fetch.need (bare_validates c.args.view.now c.in-Fetch.need c.requires.bare at) is)
+    ok_then c.fetch.result c.fetch.ensures.answers
+    (fetch_answers r c.requires.opens.stands c.args.now c.args.c c.requires.idle c.fetch.new.rows (act_list c.args.out.now) (act_list c.fetch.new.out) c.in-Fetch.need (bare_validates c.args.view.now c.in-Fetch.need c.requires.bare at) is)
 
 pub unreachable-requires : goal.unreachable-requires
 unreachable-requires g c =

@@ -8,12 +8,16 @@ use Rattle.hc_state.specs.Reads.{IsInLength, IsShownAt}
 use Rattle.hc_on_poll.proofs.BoundMisread.{misread_answered}
 use Rattle.hc_state.proofs.Maps.{some_that}
 use Rattle.hc_on_poll.proofs.PlanArms.{fault_only}
+use Rattle.hc_on_poll.proofs.Polled.{limits_there}
 use Rattle.hc_state.proofs.ReaderSteps.{some_read}
 use Rattle.hc_state.proofs.Words.{there, on_ok_two}
 use Rattle.hc_on_poll.proofs.hole.open_later_hole.Goals as goal
 
+pub fill_later_hole-requires-clause-within_limits : goal.fill_later_hole-requires-clause-within_limits
+fill_later_hole-requires-clause-within_limits g c = limits_there c.args.rows.now c.requires.opens.stands c.args.c (IsShownAt c.args.r) c.requires.shown
+
 pub misread_by-requires-clause-stands : goal.misread_by-requires-clause-stands
-misread_by-requires-clause-stands g c = ∥∥₁_map c.requires.stands (λ s. some_read c.args.rows.now _ refl refl refl refl c.head.ensures.same s)
+misread_by-requires-clause-stands g c = ∥∥₁_map c.requires.opens.stands (λ s. some_read c.args.rows.now _ refl refl refl refl c.head.ensures.same s)
 
 pub returns-in-Err-clause-answers : goal.returns-in-Err-clause-answers
 returns-in-Err-clause-answers g c =

@@ -1,12 +1,21 @@
-use Rattle.std.proofs.Common.{ℕ, ap, sym, ◌∙◌}
-use Rattle.hc_effects.proofs.Vocabulary.{act_list, Opens}
-use Rattle.hc_stored.specs.Entries.{shelf_of}
-use Rattle.hc_on_poll.proofs.FetchArm.{fetch_answered}
+use Rattle.std.proofs.Common.{nat_eq, ap}
+use Rattle.std.specs.HashMap.{get}
+use Rattle.hc_effects.proofs.Vocabulary.{act_list, Request}
+use Rattle.hc_state.proofs.Maps.{lent, some_that}
+use Rattle.hc_on_poll.proofs.FetchArm.{asked_answered}
 use Rattle.hc_on_poll.proofs.plan.fetch.Goals as goal
 
-pub returns-clause-answers : goal.returns-clause-answers
-returns-clause-answers g c = λ want lim t v facts stands row is.
+pub begin_turn-requires-clause-key : goal.begin_turn-requires-clause-key
+begin_turn-requires-clause-key g c =
     let r = c.args.rows.now in
-    let begun = c.in_ok-x.ensures in
-    fetch_answered lim (shelf_of r.entries).faults _ t facts.law c.args.now c.args.c want c.in_ok-x.x v row c.args.request (act_list c.args.out.now) (act_list c.open.new.out) c.args.need c.requires.turns c.requires.uses
-    (is ∙ ap (λ (y : ℕ). Opens y c.args.need c.args.request) (sym begun.number)) c.open.ensures (begun.begun _ t v facts stands row)
+    let at = lent c.get.result (get nat_eq r.consumers c.args.c) c.unwrap-consumer.result c.get.ensures.value c.unwrap-consumer.ensures in
+    some_that (get nat_eq r.consumers c.args.c) c.unwrap-consumer.result.now _ at (ap (λ (z : Request). z.key) c.in_ok-request.ensures)
+
+pub returns-clause-answers : goal.returns-clause-answers
+returns-clause-answers g c =
+    let r = c.args.rows.now in
+    let k = c.unwrap-consumer.result.now in
+    let at = lent c.get.result (get nat_eq r.consumers c.args.c) c.unwrap-consumer.result c.get.ensures.value c.unwrap-consumer.ensures in
+    some_that (get nat_eq r.consumers c.args.c) k _ at (λ want lim t v facts stands row is.
+    asked_answered r c.begin_turn.new.rows t facts c.args.now c.args.c want c.in_ok-x.x v stands row c.args.need c.requires.turns c.requires.uses c.in_ok-request.request k.request c.in_ok-request.ensures
+    is c.in_ok-x.ensures.begun (act_list c.args.out.now) (act_list c.open.new.out) c.open.ensures)

@@ -4,20 +4,11 @@ use Rattle.std.specs.HashMap.{get}
 use Rattle.hc_text.proofs.Basics.{false_true}
 use Rattle.hc_effects.proofs.Vocabulary.{is_live_place}
 use Rattle.hc_state.specs.Arms.{IsDown}
-use Rattle.hc_state.specs.Plans.{IsRequestWithinLimits}
 use Rattle.hc_state.proofs.LeftRows.{down_row}
 use Rattle.hc_state.proofs.Maps.{lent, some_that}
 use Rattle.hc_on_leave.proofs.LeaveArms.{down_fails}
-use Rattle.hc_on_poll.proofs.Polled.{lives_there, within_limits_there}
+use Rattle.hc_on_poll.proofs.Polled.{lives_there}
 use Rattle.hc_on_poll.proofs.poll.poll.Goals as goal
-
-pub carry_out-requires-clause-within_limits : goal.carry_out-requires-clause-within_limits
-carry_out-requires-clause-within_limits g c =
-    let r = c.args.rows.now in
-    let row = get nat_eq r.consumers c.args.c in
-    let k = c.unwrap-consumer.result.now in
-    let at = lent c.get.result row c.unwrap-consumer.result c.get.ensures.value c.unwrap-consumer.ensures in
-    some_that row k IsRequestWithinLimits at (within_limits_there r (∥∥₁_map c.requires.stands (λ u. u.0)) c.args.c k at)
 
 pub read_past-requires-clause-stands : goal.read_past-requires-clause-stands
 read_past-requires-clause-stands g c = ∥∥₁_map c.requires.stands (λ u. u.0)
@@ -28,16 +19,8 @@ fail-requires-clause-stands g c = ∥∥₁_map c.requires.stands (λ u. u.0)
 pub await_stored-requires-clause-stands : goal.await_stored-requires-clause-stands
 await_stored-requires-clause-stands g c = ∥∥₁_map c.requires.stands (λ u. u.0)
 
-pub read_bound-requires-clause-stands : goal.read_bound-requires-clause-stands
-read_bound-requires-clause-stands g c = ∥∥₁_map c.requires.stands (λ u. u.0)
-
-pub read_bound-requires-clause-within_limits : goal.read_bound-requires-clause-within_limits
-read_bound-requires-clause-within_limits g c =
-    let r = c.args.rows.now in
-    let row = get nat_eq r.consumers c.args.c in
-    let k = c.unwrap-consumer.result.now in
-    let at = lent c.get.result row c.unwrap-consumer.result c.get.ensures.value c.unwrap-consumer.ensures in
-    some_that row k IsRequestWithinLimits at (within_limits_there r (∥∥₁_map c.requires.stands (λ u. u.0)) c.args.c k at)
+pub read_bound-requires-clause-opens : goal.read_bound-requires-clause-opens
+read_bound-requires-clause-opens g c = record { stands = ∥∥₁_map c.requires.stands (λ u. u.0); few = c.requires.few }
 
 pub unreachable-requires : goal.unreachable-requires
 unreachable-requires g c =

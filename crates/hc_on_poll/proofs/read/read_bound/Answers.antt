@@ -5,7 +5,7 @@ use Rattle.hc_effects.proofs.Vocabulary.{act_list}
 use Rattle.hc_event.specs.declared.event.Event.TheVariants as event
 use Rattle.hc_stored.specs.Entries.{shelf_of}
 use Rattle.hc_state.specs.Reads.{IsShownAt}
-use Rattle.hc_on_poll.proofs.BoundMisread.{misread_after, answers_after}
+use Rattle.hc_on_poll.proofs.BoundMisread.{misread_after, answers_after, reads_after}
 use Rattle.hc_on_poll.proofs.BoundReads.{head_move}
 use Rattle.hc_state.proofs.Maps.{lent, known_of}
 use Rattle.hc_on_poll.proofs.PlanArms.{fault_only}
@@ -31,7 +31,7 @@ offset-offset-requires g c =
     let k = c.unwrap-consumer.result.now in
     let at = lent c.get.result (get nat_eq r.consumers c.args.c) c.unwrap-consumer.result c.get.ensures.value c.unwrap-consumer.ensures in
     let reads = known_of (get nat_eq r.consumers c.args.c) k (IsShownAt c.args.r) at c.requires.shown in
-    let fits = offset_fits r c.args.c c.args.r k at reads c.requires.stands in
+    let fits = offset_fits r c.args.c c.args.r k at reads c.requires.opens.stands in
     omega (arith, fits)
 
 pub most-count-requires : goal.most-count-requires
@@ -40,7 +40,7 @@ most-count-requires g c =
     let k = c.unwrap-consumer.result.now in
     let at = lent c.get.result (get nat_eq r.consumers c.args.c) c.unwrap-consumer.result c.get.ensures.value c.unwrap-consumer.ensures in
     let reads = known_of (get nat_eq r.consumers c.args.c) k (IsShownAt c.args.r) at c.requires.shown in
-    let fits = offset_fits r c.args.c c.args.r k at reads c.requires.stands in
+    let fits = offset_fits r c.args.c c.args.r k at reads c.requires.opens.stands in
     let same = c.offset-offset.ensures in
     omega (arith, fits, same)
 
@@ -50,17 +50,28 @@ stored_ahead-requires g c =
     let k = c.unwrap-consumer.result.now in
     let at = lent c.get.result (get nat_eq r.consumers c.args.c) c.unwrap-consumer.result c.get.ensures.value c.unwrap-consumer.ensures in
     let reads = known_of (get nat_eq r.consumers c.args.c) k (IsShownAt c.args.r) at c.requires.shown in
-    record { there = kept r c.args.c c.args.r k at reads c.requires.stands }
+    record { there = kept r c.args.c c.args.r k at reads c.requires.opens.stands }
 
-pub read_on-requires-clause-stands : goal.read_on-requires-clause-stands
-read_on-requires-clause-stands g c =
+pub read_on-requires-clause-opens : goal.read_on-requires-clause-opens
+read_on-requires-clause-opens g c =
     let same = c.stored_ahead.ensures.same in
-    ∥∥₁_map c.requires.stands (λ s. some_read c.args.rows.now c.stored_ahead.new.rows same.last_start same.consumers same.exchanges same.keys same.entries s)
+    record {
+      stands = ∥∥₁_map c.requires.opens.stands (λ s. some_read c.args.rows.now c.stored_ahead.new.rows same.last_start same.consumers same.exchanges same.keys same.entries s);
+      few = rw same.exchanges c.requires.opens.few;
+    }
+
+pub read_on-requires-clause-reads : goal.read_on-requires-clause-reads
+read_on-requires-clause-reads g c =
+    let r = c.args.rows.now in
+    let k = c.unwrap-consumer.result.now in
+    let at = lent c.get.result (get nat_eq r.consumers c.args.c) c.unwrap-consumer.result c.get.ensures.value c.unwrap-consumer.ensures in
+    let reads = known_of (get nat_eq r.consumers c.args.c) k (IsShownAt c.args.r) at c.requires.shown in
+    reads_after r c.stored_ahead.new.rows c.stored_ahead.ensures.same c.args.c c.args.r c.args.want k at reads (sym c.headless_own.ensures ∙ c.in_default.is) c.in-Ok.run' c.offset-offset.result c.most-count.result c.offset-offset.ensures c.most-count.ensures c.in-Ok.ensures.run
 
 pub misread_by-requires-clause-stands : goal.misread_by-requires-clause-stands
 misread_by-requires-clause-stands g c =
     let same = c.stored_ahead.ensures.same in
-    ∥∥₁_map c.requires.stands (λ s. some_read c.args.rows.now c.stored_ahead.new.rows same.last_start same.consumers same.exchanges same.keys same.entries s)
+    ∥∥₁_map c.requires.opens.stands (λ s. some_read c.args.rows.now c.stored_ahead.new.rows same.last_start same.consumers same.exchanges same.keys same.entries s)
 
 pub returns-in-Ok-clause-answers : goal.returns-in-Ok-clause-answers
 returns-in-Ok-clause-answers g c =

@@ -5,6 +5,7 @@ use Rattle.hc_stored.specs.Entries.{shelf_of}
 use Rattle.hc_stored.specs.Shelf.{head_at}
 use Rattle.hc_exch.specs.Exchanges.{table_of}
 use Rattle.hc_state.specs.Reads.{IsShownAt, ReadViewIs}
+use Rattle.hc_on_poll.specs.Ready.{ReadsAhead}
 use Rattle.hc_on_poll.proofs.BoundReads.{ends_move, fails_move, hole_move}
 use Rattle.hc_state.proofs.Maps.{lent, known_of, some_that}
 use Rattle.hc_state.proofs.Words.{ok_then}
@@ -16,24 +17,24 @@ end_of-requires g c =
     let r = c.args.rows.now in
     let k = c.unwrap.result.now in
     let at = lent c.get.result (get nat_eq r.consumers c.args.c) c.unwrap.result c.get.ensures.value c.unwrap.ensures in
-    let reads = known_of (get nat_eq r.consumers c.args.c) k (IsShownAt c.args.r) at c.requires.shown in
-    end_fits r c.args.c c.args.r k at reads c.requires.stands c.args.want c.requires.wants c.args.run (known_of (get nat_eq r.consumers c.args.c) k _ at c.requires.run)
+    let known = known_of (get nat_eq r.consumers c.args.c) k (ReadsAhead r c.args.r c.args.want c.args.run) at c.requires.reads in
+    end_fits r c.args.c c.args.r k at known.shown c.requires.opens.stands c.args.want c.requires.wants c.args.run known.ahead
 
 pub read_view-view-requires-clause-there : goal.read_view-view-requires-clause-there
 read_view-view-requires-clause-there g c =
     let r = c.args.rows.now in
     let k = c.unwrap.result.now in
     let at = lent c.get.result (get nat_eq r.consumers c.args.c) c.unwrap.result c.get.ensures.value c.unwrap.ensures in
-    let reads = known_of (get nat_eq r.consumers c.args.c) k (IsShownAt c.args.r) at c.requires.shown in
-    kept r c.args.c c.args.r k at reads c.requires.stands
+    let reads = (known_of (get nat_eq r.consumers c.args.c) k (ReadsAhead r c.args.r c.args.want c.args.run) at c.requires.reads).shown in
+    kept r c.args.c c.args.r k at reads c.requires.opens.stands
 
 pub read_view-view-requires-clause-fits : goal.read_view-view-requires-clause-fits
 read_view-view-requires-clause-fits g c =
     let r = c.args.rows.now in
     let k = c.unwrap.result.now in
     let at = lent c.get.result (get nat_eq r.consumers c.args.c) c.unwrap.result c.get.ensures.value c.unwrap.ensures in
-    let reads = known_of (get nat_eq r.consumers c.args.c) k (IsShownAt c.args.r) at c.requires.shown in
-    some_that (get nat_eq r.consumers c.args.c) k (λ j. j.lo + j.given ≤ 2 ^ 62) at (offset_fits r c.args.c c.args.r k at reads c.requires.stands)
+    let reads = (known_of (get nat_eq r.consumers c.args.c) k (ReadsAhead r c.args.r c.args.want c.args.run) at c.requires.reads).shown in
+    some_that (get nat_eq r.consumers c.args.c) k (λ j. j.lo + j.given ≤ 2 ^ 62) at (offset_fits r c.args.c c.args.r k at reads c.requires.opens.stands)
 
 pub unwrap-run-requires : goal.unwrap-run-requires
 unwrap-run-requires g c =
@@ -42,11 +43,12 @@ unwrap-run-requires g c =
     let run = c.args.run in
     let view = c.read_view-view.result in
     let at = lent c.get.result (get nat_eq r.consumers c.args.c) c.unwrap.result c.get.ensures.value c.unwrap.ensures in
-    let reads = known_of (get nat_eq r.consumers c.args.c) k (IsShownAt c.args.r) at c.requires.shown in
-    let heard = known_of (get nat_eq r.consumers c.args.c) k _ at c.requires.heard in
-    let ahead = known_of (get nat_eq r.consumers c.args.c) k _ at c.requires.run in
+    let known = known_of (get nat_eq r.consumers c.args.c) k (ReadsAhead r c.args.r c.args.want run) at c.requires.reads in
+    let reads = known.shown in
+    let heard = known.heard in
+    let ahead = known.ahead in
     let view_is = subst (λ z. ReadViewIs r c.args.r c.args.c z view k) c.end_of.ensures (known_of (get nat_eq r.consumers c.args.c) k _ at c.read_view-view.ensures) in
-    run_there r c.args.c c.args.r k at reads c.requires.stands c.args.want c.requires.wants run ahead heard view view_is c.in-Stored.upto (sym c.read_step.ensures ∙ c.in-Stored.is)
+    run_there r c.args.c c.args.r k at reads c.requires.opens.stands c.args.want c.requires.wants run ahead heard view view_is c.in-Stored.upto (sym c.read_step.ensures ∙ c.in-Stored.is)
 
 pub unwrap-x-requires : goal.unwrap-x-requires
 unwrap-x-requires g c =
@@ -55,11 +57,12 @@ unwrap-x-requires g c =
     let run = c.args.run in
     let view = c.read_view-view.result in
     let at = lent c.get.result (get nat_eq r.consumers c.args.c) c.unwrap.result c.get.ensures.value c.unwrap.ensures in
-    let reads = known_of (get nat_eq r.consumers c.args.c) k (IsShownAt c.args.r) at c.requires.shown in
-    let heard = known_of (get nat_eq r.consumers c.args.c) k _ at c.requires.heard in
-    let ahead = known_of (get nat_eq r.consumers c.args.c) k _ at c.requires.run in
+    let known = known_of (get nat_eq r.consumers c.args.c) k (ReadsAhead r c.args.r c.args.want run) at c.requires.reads in
+    let reads = known.shown in
+    let heard = known.heard in
+    let ahead = known.ahead in
     let view_is = subst (λ z. ReadViewIs r c.args.r c.args.c z view k) c.end_of.ensures (known_of (get nat_eq r.consumers c.args.c) k _ at c.read_view-view.ensures) in
-    own_there r c.args.c c.args.r k at reads c.requires.stands c.args.want c.requires.wants run ahead heard view view_is (sym c.read_step.ensures ∙ c.in-Held.is)
+    own_there r c.args.c c.args.r k at reads c.requires.opens.stands c.args.want c.requires.wants run ahead heard view view_is (sym c.read_step.ensures ∙ c.in-Held.is)
 
 pub give-requires-clause-fits : goal.give-requires-clause-fits
 give-requires-clause-fits g c =
@@ -68,11 +71,12 @@ give-requires-clause-fits g c =
     let run = c.args.run in
     let view = c.read_view-view.result in
     let at = lent c.get.result (get nat_eq r.consumers c.args.c) c.unwrap.result c.get.ensures.value c.unwrap.ensures in
-    let reads = known_of (get nat_eq r.consumers c.args.c) k (IsShownAt c.args.r) at c.requires.shown in
-    let heard = known_of (get nat_eq r.consumers c.args.c) k _ at c.requires.heard in
-    let ahead = known_of (get nat_eq r.consumers c.args.c) k _ at c.requires.run in
+    let known = known_of (get nat_eq r.consumers c.args.c) k (ReadsAhead r c.args.r c.args.want run) at c.requires.reads in
+    let reads = known.shown in
+    let heard = known.heard in
+    let ahead = known.ahead in
     let view_is = subst (λ z. ReadViewIs r c.args.r c.args.c z view k) c.end_of.ensures (known_of (get nat_eq r.consumers c.args.c) k _ at c.read_view-view.ensures) in
-    some_that (get nat_eq r.consumers c.args.c) k (λ j. j.given + length c.unwrap-run.result.bytes ≤ 2 ^ 62) at (run_fits r c.args.c c.args.r k at reads c.requires.stands c.args.want c.requires.wants run ahead c.unwrap-run.result c.unwrap-run.ensures)
+    some_that (get nat_eq r.consumers c.args.c) k (λ j. j.given + length c.unwrap-run.result.bytes ≤ 2 ^ 62) at (run_fits r c.args.c c.args.r k at reads c.requires.opens.stands c.args.want c.requires.wants run ahead c.unwrap-run.result c.unwrap-run.ensures)
 
 pub most-count-requires : goal.most-count-requires
 most-count-requires g c =
@@ -81,11 +85,12 @@ most-count-requires g c =
     let run = c.args.run in
     let view = c.read_view-view.result in
     let at = lent c.get.result (get nat_eq r.consumers c.args.c) c.unwrap.result c.get.ensures.value c.unwrap.ensures in
-    let reads = known_of (get nat_eq r.consumers c.args.c) k (IsShownAt c.args.r) at c.requires.shown in
-    let heard = known_of (get nat_eq r.consumers c.args.c) k _ at c.requires.heard in
-    let ahead = known_of (get nat_eq r.consumers c.args.c) k _ at c.requires.run in
+    let known = known_of (get nat_eq r.consumers c.args.c) k (ReadsAhead r c.args.r c.args.want run) at c.requires.reads in
+    let reads = known.shown in
+    let heard = known.heard in
+    let ahead = known.ahead in
     let view_is = subst (λ z. ReadViewIs r c.args.r c.args.c z view k) c.end_of.ensures (known_of (get nat_eq r.consumers c.args.c) k _ at c.read_view-view.ensures) in
-    let fits = offset_fits r c.args.c c.args.r k at reads c.requires.stands in
+    let fits = offset_fits r c.args.c c.args.r k at reads c.requires.opens.stands in
     let same : view.offset ≡ k.lo + k.given = ap (λ (z : ReadView). z.offset) view_is.is in
     omega (arith, fits, same)
 
@@ -96,12 +101,13 @@ give-requires-in-Held-clause-fits g c =
     let run = c.args.run in
     let view = c.read_view-view.result in
     let at = lent c.get.result (get nat_eq r.consumers c.args.c) c.unwrap.result c.get.ensures.value c.unwrap.ensures in
-    let reads = known_of (get nat_eq r.consumers c.args.c) k (IsShownAt c.args.r) at c.requires.shown in
-    let heard = known_of (get nat_eq r.consumers c.args.c) k _ at c.requires.heard in
-    let ahead = known_of (get nat_eq r.consumers c.args.c) k _ at c.requires.run in
+    let known = known_of (get nat_eq r.consumers c.args.c) k (ReadsAhead r c.args.r c.args.want run) at c.requires.reads in
+    let reads = known.shown in
+    let heard = known.heard in
+    let ahead = known.ahead in
     let view_is = subst (λ z. ReadViewIs r c.args.r c.args.c z view k) c.end_of.ensures (known_of (get nat_eq r.consumers c.args.c) k _ at c.read_view-view.ensures) in
     let bytes = c.in_ok-bytes-in-Held.bytes in
-    let fits = held_fits r c.args.c c.args.r k at reads c.requires.stands c.args.want c.requires.wants run ahead heard view view_is (sym c.read_step.ensures ∙ c.in-Held.is) c.unwrap-x.result c.most-count.result c.unwrap-x.ensures in
+    let fits = held_fits r c.args.c c.args.r k at reads c.requires.opens.stands c.args.want c.requires.wants run ahead heard view view_is (sym c.read_step.ensures ∙ c.in-Held.is) c.unwrap-x.result c.most-count.result c.unwrap-x.ensures in
     let long : length bytes ≡ length (take c.most-count.result (table_of r.exchanges c.unwrap-x.result).held) = ap length c.in_ok-bytes-in-Held.ensures.bytes in
     some_that (get nat_eq r.consumers c.args.c) k (λ j. j.given + length bytes ≤ 2 ^ 62) at (omega (arith, fits, long))
 
@@ -112,11 +118,19 @@ ask-requires-clause-running g c =
     let run = c.args.run in
     let view = c.read_view-view.result in
     let at = lent c.get.result (get nat_eq r.consumers c.args.c) c.unwrap.result c.get.ensures.value c.unwrap.ensures in
-    let reads = known_of (get nat_eq r.consumers c.args.c) k (IsShownAt c.args.r) at c.requires.shown in
-    let heard = known_of (get nat_eq r.consumers c.args.c) k _ at c.requires.heard in
-    let ahead = known_of (get nat_eq r.consumers c.args.c) k _ at c.requires.run in
+    let known = known_of (get nat_eq r.consumers c.args.c) k (ReadsAhead r c.args.r c.args.want run) at c.requires.reads in
+    let reads = known.shown in
+    let heard = known.heard in
+    let ahead = known.ahead in
     let view_is = subst (λ z. ReadViewIs r c.args.r c.args.c z view k) c.end_of.ensures (known_of (get nat_eq r.consumers c.args.c) k _ at c.read_view-view.ensures) in
-    source_runs r c.args.c c.args.r k at reads c.requires.stands c.args.want c.requires.wants run ahead heard view view_is c.in-Waits.x (sym c.read_step.ensures ∙ c.in-Waits.is)
+    source_runs r c.args.c c.args.r k at reads c.requires.opens.stands c.args.want c.requires.wants run ahead heard view view_is c.in-Waits.x (sym c.read_step.ensures ∙ c.in-Waits.is)
+
+pub open_later_hole-requires-clause-shown : goal.open_later_hole-requires-clause-shown
+open_later_hole-requires-clause-shown g c =
+    let r = c.args.rows.now in
+    let k = c.unwrap.result.now in
+    let at = lent c.get.result (get nat_eq r.consumers c.args.c) c.unwrap.result c.get.ensures.value c.unwrap.ensures in
+    some_that (get nat_eq r.consumers c.args.c) k (IsShownAt c.args.r) at (known_of (get nat_eq r.consumers c.args.c) k (ReadsAhead r c.args.r c.args.want c.args.run) at c.requires.reads).shown
 
 pub open_later_hole-requires-clause-hole : goal.open_later_hole-requires-clause-hole
 open_later_hole-requires-clause-hole g c =
@@ -125,11 +139,12 @@ open_later_hole-requires-clause-hole g c =
     let run = c.args.run in
     let view = c.read_view-view.result in
     let at = lent c.get.result (get nat_eq r.consumers c.args.c) c.unwrap.result c.get.ensures.value c.unwrap.ensures in
-    let reads = known_of (get nat_eq r.consumers c.args.c) k (IsShownAt c.args.r) at c.requires.shown in
-    let heard = known_of (get nat_eq r.consumers c.args.c) k _ at c.requires.heard in
-    let ahead = known_of (get nat_eq r.consumers c.args.c) k _ at c.requires.run in
+    let known = known_of (get nat_eq r.consumers c.args.c) k (ReadsAhead r c.args.r c.args.want run) at c.requires.reads in
+    let reads = known.shown in
+    let heard = known.heard in
+    let ahead = known.ahead in
     let view_is = subst (λ z. ReadViewIs r c.args.r c.args.c z view k) c.end_of.ensures (known_of (get nat_eq r.consumers c.args.c) k _ at c.read_view-view.ensures) in
-    hole_within r c.args.c c.args.r k at reads c.requires.stands c.args.want c.requires.wants run ahead heard view view_is c.in-Hole.hole (sym c.read_step.ensures ∙ c.in-Hole.is)
+    hole_within r c.args.c c.args.r k at reads c.requires.opens.stands c.args.want c.requires.wants run ahead heard view view_is c.in-Hole.hole (sym c.read_step.ensures ∙ c.in-Hole.is)
 
 pub returns-in-Ended-clause-answers : goal.returns-in-Ended-clause-answers
 returns-in-Ended-clause-answers g c =
@@ -138,9 +153,10 @@ returns-in-Ended-clause-answers g c =
     let run = c.args.run in
     let view = c.read_view-view.result in
     let at = lent c.get.result (get nat_eq r.consumers c.args.c) c.unwrap.result c.get.ensures.value c.unwrap.ensures in
-    let reads = known_of (get nat_eq r.consumers c.args.c) k (IsShownAt c.args.r) at c.requires.shown in
-    let heard = known_of (get nat_eq r.consumers c.args.c) k _ at c.requires.heard in
-    let ahead = known_of (get nat_eq r.consumers c.args.c) k _ at c.requires.run in
+    let known = known_of (get nat_eq r.consumers c.args.c) k (ReadsAhead r c.args.r c.args.want run) at c.requires.reads in
+    let reads = known.shown in
+    let heard = known.heard in
+    let ahead = known.ahead in
     let view_is = subst (λ z. ReadViewIs r c.args.r c.args.c z view k) c.end_of.ensures (known_of (get nat_eq r.consumers c.args.c) k _ at c.read_view-view.ensures) in
     λ lim t facts rows accepted.
     let rd = row_of r c.args.c c.args.r k at reads t facts rows in
@@ -153,9 +169,10 @@ returns-in-Failed-clause-answers g c =
     let run = c.args.run in
     let view = c.read_view-view.result in
     let at = lent c.get.result (get nat_eq r.consumers c.args.c) c.unwrap.result c.get.ensures.value c.unwrap.ensures in
-    let reads = known_of (get nat_eq r.consumers c.args.c) k (IsShownAt c.args.r) at c.requires.shown in
-    let heard = known_of (get nat_eq r.consumers c.args.c) k _ at c.requires.heard in
-    let ahead = known_of (get nat_eq r.consumers c.args.c) k _ at c.requires.run in
+    let known = known_of (get nat_eq r.consumers c.args.c) k (ReadsAhead r c.args.r c.args.want run) at c.requires.reads in
+    let reads = known.shown in
+    let heard = known.heard in
+    let ahead = known.ahead in
     let view_is = subst (λ z. ReadViewIs r c.args.r c.args.c z view k) c.end_of.ensures (known_of (get nat_eq r.consumers c.args.c) k _ at c.read_view-view.ensures) in
     λ lim t facts rows accepted.
     let rd = row_of r c.args.c c.args.r k at reads t facts rows in
@@ -168,9 +185,10 @@ returns-in-Stored-clause-answers g c =
     let run = c.args.run in
     let view = c.read_view-view.result in
     let at = lent c.get.result (get nat_eq r.consumers c.args.c) c.unwrap.result c.get.ensures.value c.unwrap.ensures in
-    let reads = known_of (get nat_eq r.consumers c.args.c) k (IsShownAt c.args.r) at c.requires.shown in
-    let heard = known_of (get nat_eq r.consumers c.args.c) k _ at c.requires.heard in
-    let ahead = known_of (get nat_eq r.consumers c.args.c) k _ at c.requires.run in
+    let known = known_of (get nat_eq r.consumers c.args.c) k (ReadsAhead r c.args.r c.args.want run) at c.requires.reads in
+    let reads = known.shown in
+    let heard = known.heard in
+    let ahead = known.ahead in
     let view_is = subst (λ z. ReadViewIs r c.args.r c.args.c z view k) c.end_of.ensures (known_of (get nat_eq r.consumers c.args.c) k _ at c.read_view-view.ensures) in
     let rest = c.give.ensures.rest in
     λ lim t facts rows accepted. gives_stored r c.args.c c.args.r k at reads c.give.new.rows (act_list c.args.out.now) (act_list c.give.new.out) c.args.now c.args.want c.requires.wants run ahead heard view view_is rest.last_start rest.keys rest.entries t facts rows
@@ -183,9 +201,10 @@ returns-in_ok-bytes-in-Held-clause-answers g c =
     let run = c.args.run in
     let view = c.read_view-view.result in
     let at = lent c.get.result (get nat_eq r.consumers c.args.c) c.unwrap.result c.get.ensures.value c.unwrap.ensures in
-    let reads = known_of (get nat_eq r.consumers c.args.c) k (IsShownAt c.args.r) at c.requires.shown in
-    let heard = known_of (get nat_eq r.consumers c.args.c) k _ at c.requires.heard in
-    let ahead = known_of (get nat_eq r.consumers c.args.c) k _ at c.requires.run in
+    let known = known_of (get nat_eq r.consumers c.args.c) k (ReadsAhead r c.args.r c.args.want run) at c.requires.reads in
+    let reads = known.shown in
+    let heard = known.heard in
+    let ahead = known.ahead in
     let view_is = subst (λ z. ReadViewIs r c.args.r c.args.c z view k) c.end_of.ensures (known_of (get nat_eq r.consumers c.args.c) k _ at c.read_view-view.ensures) in
     let give = c.give-in-Held.ensures in
     let rest = give.rest in
@@ -199,9 +218,10 @@ returns-in-Waits-clause-answers g c =
     let run = c.args.run in
     let view = c.read_view-view.result in
     let at = lent c.get.result (get nat_eq r.consumers c.args.c) c.unwrap.result c.get.ensures.value c.unwrap.ensures in
-    let reads = known_of (get nat_eq r.consumers c.args.c) k (IsShownAt c.args.r) at c.requires.shown in
-    let heard = known_of (get nat_eq r.consumers c.args.c) k _ at c.requires.heard in
-    let ahead = known_of (get nat_eq r.consumers c.args.c) k _ at c.requires.run in
+    let known = known_of (get nat_eq r.consumers c.args.c) k (ReadsAhead r c.args.r c.args.want run) at c.requires.reads in
+    let reads = known.shown in
+    let heard = known.heard in
+    let ahead = known.ahead in
     let view_is = subst (λ z. ReadViewIs r c.args.r c.args.c z view k) c.end_of.ensures (known_of (get nat_eq r.consumers c.args.c) k _ at c.read_view-view.ensures) in
     let rest = c.ask.ensures.rest in
     λ lim t facts rows accepted. asks_for r c.args.c c.args.r k at reads c.ask.new.rows (act_list c.args.out.now) (act_list c.ask.new.out) c.args.now c.args.want c.requires.wants run ahead heard view view_is rest.last_start rest.keys rest.entries t facts rows
@@ -214,9 +234,10 @@ returns-in-Hole-clause-answers g c =
     let run = c.args.run in
     let view = c.read_view-view.result in
     let at = lent c.get.result (get nat_eq r.consumers c.args.c) c.unwrap.result c.get.ensures.value c.unwrap.ensures in
-    let reads = known_of (get nat_eq r.consumers c.args.c) k (IsShownAt c.args.r) at c.requires.shown in
-    let heard = known_of (get nat_eq r.consumers c.args.c) k _ at c.requires.heard in
-    let ahead = known_of (get nat_eq r.consumers c.args.c) k _ at c.requires.run in
+    let known = known_of (get nat_eq r.consumers c.args.c) k (ReadsAhead r c.args.r c.args.want run) at c.requires.reads in
+    let reads = known.shown in
+    let heard = known.heard in
+    let ahead = known.ahead in
     let view_is = subst (λ z. ReadViewIs r c.args.r c.args.c z view k) c.end_of.ensures (known_of (get nat_eq r.consumers c.args.c) k _ at c.read_view-view.ensures) in
     ok_then c.open_later_hole.result c.open_later_hole.ensures.answers (λ all.
     λ lim t facts rows accepted.

@@ -1,11 +1,9 @@
 //! The head of an exchange, by its case.
-ghost use Rattle.std.specs.Prelude.{◌≡◌, ◌≤◌, ◌<◌, ◌&&◌, Some, None, false, true, nat_eq, is_some, OnOk, OnErr};
+ghost use Rattle.std.specs.Prelude.{◌≡◌, ◌≤◌, ◌&&◌, Some, None, true, nat_eq, is_some, OnOk, OnErr};
 ghost use Rattle.std.specs.HashMap.{get};
 ghost use Rattle.hc_event.specs.Acts.{act_list, spare};
 ghost use Rattle.hc_event.specs.declared.event.Event.TheVariants.{Head};
-ghost use Rattle.hc_rules.specs.declared.heads.HeadCase.TheVariants.{Validated, NotValidated};
 ghost use Rattle.hc_rules.specs.HeadCases.{head_case};
-ghost use Rattle.hc_rules.specs.Lengths.{is_bad};
 ghost use Rattle.hc_rules.specs.Refusals.{head_refusal};
 ghost use Rattle.hc_stored.specs.Entries.{shelf_of};
 ghost use Rattle.hc_entry.specs.Keys.{kept_of};
@@ -16,7 +14,6 @@ ghost use Rattle.hc_fields.specs.FieldList.{IsWithinLimits};
 ghost use Rattle.hc_model.specs.Live.{most_live};
 ghost use Rattle.hc_state.specs.declared.consumer.Consumer.{Consumer};
 ghost use Rattle.hc_state.specs.Heads.{IsTimely, aim_in, kept_at, joins_kept, heard_view, let_go_by, is_past_case, changes_by};
-ghost use Rattle.hc_state.specs.Joining.{joins_hole};
 ghost use Rattle.hc_state.specs.Stands.{Answers, AnswersCase, Stands, open_at};
 ghost use Rattle.hc_on_head.specs.Comings.{FitsCase, IsHeard};
 ghost use Rattle.hc_on_head.specs.Frames.{IsQuietOnError};

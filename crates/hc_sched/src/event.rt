@@ -1,5 +1,6 @@
 //! The writer of schedules.
-ghost use Rattle.std.specs.Prelude.{◌≡◌, ◌≤◌, ◌++◌, ◌∷◌, OnOk, OnErr};
+ghost use Rattle.std.specs.Fmt.{decimal};
+ghost use Rattle.std.specs.Prelude.{◌≡◌, ◌≤◌, ◌++◌, ◌∷◌, [], OnOk, OnErr};
 ghost use Rattle.hc_sched.specs.Parts.{IsKept};
 ghost use Rattle.hc_sched.specs.Schedule.{Happens, Moment, IsEvent, IsSmall, load_word, item_text, items_of, text_of, timed_text};
 ghost use Rattle.hc_sched.specs.Laws.{IsReadBack};
@@ -8,10 +9,13 @@ use crate::parts::Part::{Number, Text};
 use crate::parts::{write_hex, write_parts};
 use crate::schedule::Timed;
 use hc_event::{Event, Load, Request, Response};
-use hc_text::{NoMemory, write_number};
+use hc_text::{Key, NoMemory, write_number};
 
 /// A line of a poll has at most this many bytes: a word of 5, two numbers, a space and its end.
 const POLL_LINE: usize = 47;
+
+/// For so many bytes a proxy polls, so most lines end alike.
+const USUAL_WANT: u32 = 16_384;
 
 fn load_text(load: Load) -> &'static [u8]
     ensures { result.now ≡ load_word load }
@@ -26,26 +30,33 @@ fn load_text(load: Load) -> &'static [u8]
     }
 }
 
+/// Writes what a request asks for: its method, how it loads, and its key, each with a space behind it.
+fn write_asked(request: &Request, to: &mut Vec<u8>) -> Result<(), NoMemory>
+    ensures ok { OnOk result (to.new.items ≡ to.old.items ++ (request.now.method ++ 32 ∷
+        (load_word request.now.load ++ 32 ∷ (request.now.key ++ 32 ∷ [])))) }
+    ensures err { OnErr result (IsKept to.old.items to.new.items) }
+{
+    to.extend_from_slice(&request.method.bytes)?;
+    to.push(b' ')?;
+    to.extend_from_slice(load_text(request.load))?;
+    to.push(b' ')?;
+    to.extend_from_slice(&request.key.bytes)?;
+    to.push(b' ')?;
+    Ok(())
+}
+
 /// Writes the lines of a request.
 fn write_start(c: u64, request: &Request, to: &mut Vec<u8>) -> Result<(), NoMemory>
     ensures ok { OnOk result (to.new.items
         ≡ to.old.items ++ item_text (Happens (Event.Start c request.now))) }
     ensures err { OnErr result (IsKept to.old.items to.new.items) }
 {
-    let parts = [
-        Text(b"start "),
-        Number(c),
-        Text(b" "),
-        Text(request.method.bytes.as_slice()),
-        Text(b" "),
-        Text(load_text(request.load)),
-        Text(b" "),
-        Text(request.key.bytes.as_slice()),
-        Text(b" "),
-        Number(request.fields.len() as u64),
-        Text(b"\n"),
-    ];
-    write_parts(&parts, to)?;
+    to.extend_from_slice(b"start ")?;
+    write_number(c, to)?;
+    to.push(b' ')?;
+    write_asked(request, to)?;
+    write_number(request.fields.len() as u64, to)?;
+    to.push(b'\n')?;
     request.fields.write_lines(to)
 }
 
@@ -58,6 +69,10 @@ fn write_poll(c: u64, want: u32, to: &mut Vec<u8>) -> Result<(), NoMemory>
     to.reserve(POLL_LINE)?;
     to.extend_from_slice(b"poll ").unwrap();
     write_number(c, to).unwrap();
+    if want == USUAL_WANT {
+        to.extend_from_slice(b" 16384\n").unwrap();
+        return Ok(());
+    }
     to.push_reserved(b' ');
     write_number(u64::from(want), to).unwrap();
     to.push_reserved(b'\n');
@@ -98,6 +113,28 @@ fn write_piece(x: u64, bytes: &[u8], to: &mut Vec<u8>) -> Result<(), NoMemory>
     write_parts(&[Text(b"\n")], to)
 }
 
+/// Writes a line of a word and a number.
+fn write_numbered(word: &[u8], n: u64, to: &mut Vec<u8>) -> Result<(), NoMemory>
+    ensures ok { OnOk result (to.new.items
+        ≡ to.old.items ++ (word.now ++ (decimal n ++ 10 ∷ []))) }
+    ensures err { OnErr result (IsKept to.old.items to.new.items) }
+{
+    to.extend_from_slice(word)?;
+    write_number(n, to)?;
+    to.push(b'\n')?;
+    Ok(())
+}
+
+/// Writes the line of a doom.
+fn write_doom(key: &Key, to: &mut Vec<u8>) -> Result<(), NoMemory>
+    ensures ok { OnOk result (to.new.items
+        ≡ to.old.items ++ item_text (Happens (Event.Doom key.now))) }
+    ensures err { OnErr result (IsKept to.old.items to.new.items) }
+{
+    let parts = [Text(b"doom "), Text(key.bytes.as_slice()), Text(b"\n")];
+    write_parts(&parts, to)
+}
+
 /// Writes the lines of the event.
 fn write_item(event: &Event, to: &mut Vec<u8>) -> Result<(), NoMemory>
     ensures ok { OnOk result (to.new.items ≡ to.old.items ++ item_text (Happens event.now)) }
@@ -108,13 +145,10 @@ fn write_item(event: &Event, to: &mut Vec<u8>) -> Result<(), NoMemory>
         Event::Poll { c, want } => write_poll(*c, *want, to),
         Event::Head { x, response } => write_head(*x, response, to),
         Event::Piece { x, bytes } => write_piece(*x, bytes.bytes.as_slice(), to),
-        Event::End { x } => write_parts(&[Text(b"end "), Number(*x), Text(b"\n")], to),
-        Event::Fault { x } => write_parts(&[Text(b"fault "), Number(*x), Text(b"\n")], to),
-        Event::Cancel { c } => write_parts(&[Text(b"cancel "), Number(*c), Text(b"\n")], to),
-        Event::Doom { key } => {
-            let parts = [Text(b"doom "), Text(key.bytes.as_slice()), Text(b"\n")];
-            write_parts(&parts, to)
-        }
+        Event::End { x } => write_numbered(b"end ", *x, to),
+        Event::Fault { x } => write_numbered(b"fault ", *x, to),
+        Event::Cancel { c } => write_numbered(b"cancel ", *c, to),
+        Event::Doom { key } => write_doom(key, to),
     }
 }
 
@@ -123,7 +157,7 @@ fn write_moment(now: u64, to: &mut Vec<u8>) -> Result<(), NoMemory>
     ensures ok { OnOk result (to.new.items ≡ to.old.items ++ item_text (Moment now)) }
     ensures err { OnErr result (IsKept to.old.items to.new.items) }
 {
-    write_parts(&[Text(b"at "), Number(now), Text(b"\n")], to)
+    write_numbered(b"at ", now, to)
 }
 
 /// Writes the items of the event.

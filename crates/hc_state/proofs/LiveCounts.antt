@@ -19,10 +19,6 @@ more false x xs = omega arith
 pub counted-cons : (f : ℕ → Bool) (x : ℕ) (xs : List ℕ) → counted f (x ∷ xs) ≡ counted f xs + one (f x)
 counted-cons f x xs = more (f x) x (filter f xs)
 
-below_all : (n m : ℕ) (xs : List ℕ) → n < m → Descends n xs → Descends m xs
-below_all n m [] lt d = tt
-below_all n m (x ∷ xs) lt d = (omega (arith, d.0), d.1)
-
 -- none of them is at the bound or past it
 pub not_among : (n c : ℕ) (xs : List ℕ) → Descends n xs → n < c + 1 → Among c xs → ⊥
 not_among n c [] d lt h = h

@@ -27,9 +27,6 @@ use Rattle.hc_state.specs.Changes.{ChangesAt, BecomesAt, put_down}
 
 -- WHERE A CONSUMER STANDS
 
-abbrev pub IsInLine : Consumer → Type 0
-IsInLine k = k.place ≡ place.Line
-
 abbrev pub HasTurn : ℕ → Consumer → Type 0
 HasTurn x k = k.place ≡ place.Turn x
 

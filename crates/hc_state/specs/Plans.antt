@@ -126,18 +126,6 @@ AnswersValidating r u before out now c head k =
     AnswersMove r u before out now c want
     (Opens (next_of r.exchanges) need.Validate (conditional head k.request))
 
--- what is asked: whether this stored head still holds, or as it was asked
-abbrev pub asked_by : Head → Need → Request → Request
-asked_by head need.Validate request = conditional head request
-asked_by head _ request = request
-
--- the poll is answered where c opens the next exchange for that
-abbrev pub AnswersAsking : {B : Type 0} {g : Ghosts B} → Rows B g → Rows B g → List Act → List Act → ℕ → ℕ → Need → Head → Consumer → Type 0
-AnswersAsking r u before out now c n head k =
-    (want : ℕ) →
-    AnswersMove r u before out now c want
-    (Opens (next_of r.exchanges) n (asked_by head n k.request))
-
 -- WHO WAITS FOR A BODY
 
 -- it waits for its key

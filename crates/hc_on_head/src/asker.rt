@@ -12,7 +12,7 @@ ghost use Rattle.hc_state.specs.Arms.{IsInKey};
 ghost use Rattle.hc_state.specs.Facts.{Facts};
 ghost use Rattle.hc_state.specs.Heads.{AwaitsHead, StandsApart};
 ghost use Rattle.hc_state.specs.Stands.{RowsStand, Stands};
-ghost use Rattle.hc_on_head.specs.Frames.{KeepsExchanges};
+ghost use Rattle.hc_state.specs.Frames.{KeepsExchanges};
 
 use hc_event::Place;
 use hc_on_leave::gone::{leave_key, unbind_from};

@@ -17,7 +17,8 @@ ghost use Rattle.hc_state.specs.Changes.{ChangesAt, ChangesAmong, once_over};
 ghost use Rattle.hc_state.specs.Dooms.{awaited_by, IsAwaited, IsToClose, IsNext, AreAtMost, behind, nearer, Closes, IsUnheard, KeepsLine, KeepsSomeLine, IsUser, Unbinds, IsDoomed};
 ghost use Rattle.hc_state.specs.Stands.{Answers, RowsStand, Stands};
 ghost use Rattle.hc_state.specs.Stored.{KeepsEntries};
-ghost use Rattle.hc_on_head.specs.Frames.{ChangesExchanges, KeepsExchanges};
+ghost use Rattle.hc_state.specs.Frames.{KeepsExchanges};
+ghost use Rattle.hc_on_head.specs.Frames.{ChangesExchanges};
 
 use hc_event::Acts;
 use hc_on_leave::close::close;

@@ -17,7 +17,7 @@ ghost use Rattle.hc_state.specs.Heads.{IsTimely};
 ghost use Rattle.hc_state.specs.Renewals.{IsUnrenewed};
 ghost use Rattle.hc_state.specs.Stands.{AnswersCase, Stands, open_at};
 ghost use Rattle.hc_on_head.specs.Comings.{FoundsBy, IsHeard};
-ghost use Rattle.hc_on_head.specs.Frames.{IsQuietOnError};
+ghost use Rattle.hc_state.specs.Frames.{KeepsFaults};
 
 use crate::asker::fall_back;
 use crate::heard::Heard;
@@ -52,8 +52,7 @@ pub(crate) fn found<B: Backend>(
     requires room { 2 ≤ spare out.old }
     ensures answers { OnOk result (AnswersCase rows.old rows.new (act_list out.old)
         (act_list out.new) heard.now heard.x response.now case goes) }
-    ensures refusal { IsQuietOnError result rows.old rows.new (act_list out.old)
-        (act_list out.new) }
+    ensures kept { KeepsFaults result rows.old rows.new (act_list out.old) (act_list out.new) }
 {
     let founding = founding(rows, case, heard, response)?;
     let current = rows.keys.current(&founding.key);

@@ -16,7 +16,7 @@ ghost use Rattle.hc_state.specs.declared.consumer.Consumer.{Consumer};
 ghost use Rattle.hc_state.specs.Heads.{IsTimely, aim_in, kept_at, joins_kept, heard_view, let_go_by, is_past_case, changes_by};
 ghost use Rattle.hc_state.specs.Stands.{Answers, AnswersCase, Stands, open_at};
 ghost use Rattle.hc_on_head.specs.Comings.{FitsCase, IsHeard};
-ghost use Rattle.hc_on_head.specs.Frames.{IsQuietOnError};
+ghost use Rattle.hc_state.specs.Frames.{KeepsFaults};
 
 use crate::dooming::take_dooming;
 use crate::found::found;
@@ -83,8 +83,7 @@ fn take_case<B: Backend>(
     requires room { 2 ≤ spare out.old }
     ensures answers { OnOk result (AnswersCase rows.old rows.new (act_list out.old)
         (act_list out.new) heard.now heard.x response.now case goes) }
-    ensures refusal { IsQuietOnError result rows.old rows.new (act_list out.old)
-        (act_list out.new) }
+    ensures kept { KeepsFaults result rows.old rows.new (act_list out.old) (act_list out.new) }
 {
     match case {
         HeadCase::DirectBad | HeadCase::TurnBad | HeadCase::FirstBad => {

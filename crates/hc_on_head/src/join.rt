@@ -15,7 +15,8 @@ ghost use Rattle.hc_rules.specs.RangeTexts.{content_range_of};
 ghost use Rattle.hc_state.specs.Joining.{AnswersJoins, Brings, IsGrowing, LacksOnly, ResumesIs, Shares};
 ghost use Rattle.hc_state.specs.Stands.{open_at};
 ghost use Rattle.hc_on_head.specs.Comings.{AsksAbout, IsHeard, MayRenew};
-ghost use Rattle.hc_on_head.specs.Frames.{FailsUnrenewed, IsQuietOnError};
+ghost use Rattle.hc_state.specs.Frames.{KeepsFaults};
+ghost use Rattle.hc_on_head.specs.Frames.{FailsUnrenewed};
 
 use crate::heard::Heard;
 use crate::turn::renew;
@@ -48,8 +49,7 @@ pub(crate) fn join<B: Backend>(
     requires room { 1 ≤ spare out.old }
     ensures answers { OnOk result (AnswersJoins rows.old rows.new (act_list out.old)
         (act_list out.new) heard.now heard.x response.now) }
-    ensures refusal { IsQuietOnError result rows.old rows.new (act_list out.old)
-        (act_list out.new) }
+    ensures kept { KeepsFaults result rows.old rows.new (act_list out.old) (act_list out.new) }
     ensures memory { OnErr result
         ((shelf_of rows.new.entries).faults ≡ (shelf_of rows.old.entries).faults) }
 {

@@ -14,7 +14,8 @@ ghost use Rattle.hc_state.specs.Heads.{IsTimely};
 ghost use Rattle.hc_state.specs.Renewals.{IsRenewed, IsSelected};
 ghost use Rattle.hc_state.specs.Stands.{AnswersUnselected};
 ghost use Rattle.hc_on_head.specs.Comings.{IsHeard, MayRenew};
-ghost use Rattle.hc_on_head.specs.Frames.{FailsUnrenewed, IsQuietOnError};
+ghost use Rattle.hc_state.specs.Frames.{KeepsFaults};
+ghost use Rattle.hc_on_head.specs.Frames.{FailsUnrenewed};
 
 use crate::asked::lose_asked;
 use crate::asker::let_through;
@@ -44,8 +45,7 @@ pub(crate) fn validate<B: Backend>(
     requires room { 3 ≤ spare out.old }
     ensures answers { OnOk result (AnswersUnselected rows.old rows.new (act_list out.old)
         (act_list out.new) heard.now heard.x response.now aim) }
-    ensures refusal { IsQuietOnError result rows.old rows.new (act_list out.old)
-        (act_list out.new) }
+    ensures kept { KeepsFaults result rows.old rows.new (act_list out.old) (act_list out.new) }
     ensures memory { OnErr result
         ((shelf_of rows.new.entries).faults ≡ (shelf_of rows.old.entries).faults) }
 {

@@ -7,7 +7,7 @@ ghost use Rattle.hc_rules.specs.Plans.{plan_of};
 ghost use Rattle.hc_exch.specs.Exchanges.{next_of};
 ghost use Rattle.hc_state.specs.Good.{StandsBy};
 ghost use Rattle.hc_state.specs.Plans.{PlanViewIs, IsLookedAt, looks_at_stored, IsIdle, IsPlanOf, AnswersPoll};
-ghost use Rattle.hc_on_poll.specs.Keeps.{KeepsFaults};
+ghost use Rattle.hc_state.specs.Frames.{KeepsFaults};
 ghost use Rattle.hc_on_poll.specs.Ready.{IsCurrentWith, MayOpen};
 
 use crate::candidate::candidate;

@@ -12,7 +12,7 @@ ghost use Rattle.hc_exch.specs.Exchanges.{next_of};
 ghost use Rattle.hc_model.specs.Moves.{hole_request};
 ghost use Rattle.hc_state.specs.Plans.{IsRequestWithinLimits, AnswersFirst, AnswersFilling};
 ghost use Rattle.hc_state.specs.Reads.{AnswersHole, IsInLength, IsShownAt};
-ghost use Rattle.hc_on_poll.specs.Keeps.{AddsNoFault, KeepsFaults};
+ghost use Rattle.hc_state.specs.Frames.{AddsNoFault, KeepsFaults};
 ghost use Rattle.hc_on_poll.specs.Ready.{IsCurrentWith, MayOpen, MayPass};
 
 use crate::plan::open;

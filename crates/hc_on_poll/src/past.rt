@@ -6,7 +6,7 @@ ghost use Rattle.hc_event.specs.declared.event.Event.TheVariants.{Poll};
 ghost use Rattle.hc_exch.specs.Exchanges.{table_of};
 ghost use Rattle.hc_state.specs.Arms.{IsShown, IsUnshown, past_view};
 ghost use Rattle.hc_state.specs.Stands.{Answers, Stands};
-ghost use Rattle.hc_on_poll.specs.Keeps.{KeepsExchanges, KeepsFaults};
+ghost use Rattle.hc_state.specs.Frames.{KeepsExchanges, KeepsFaults};
 
 use crate::read::{ask, give, most};
 use crate::show::put_shown;

@@ -13,7 +13,8 @@ ghost use Rattle.hc_state.specs.Stands.{AnswersMove};
 ghost use Rattle.hc_state.specs.Plans.{IsOfItsKey, HasCurrent, StandsInLine, StandsPassed, AnswersOpening, AnswersValidating};
 ghost use Rattle.hc_rules.specs.declared.need.Route.TheVariants as route;
 ghost use Rattle.hc_rules.specs.Needs.{route_of};
-ghost use Rattle.hc_on_poll.specs.Keeps.{AddsNoFault, HasBegun, KeepsBesideLine, KeepsExchanges};
+ghost use Rattle.hc_state.specs.Frames.{AddsNoFault, KeepsExchanges};
+ghost use Rattle.hc_on_poll.specs.Keeps.{HasBegun, KeepsBesideLine};
 ghost use Rattle.hc_on_poll.specs.Ready.{MayAsk, MayLeaveLine, MayOpen, MayPass, MayQueue};
 
 use crate::wait::wait;

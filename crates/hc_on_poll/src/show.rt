@@ -8,7 +8,7 @@ ghost use Rattle.hc_stored.specs.Entries.{shelf_of};
 ghost use Rattle.hc_stored.specs.Views.{admits};
 ghost use Rattle.hc_model.specs.Moves.{span_to};
 ghost use Rattle.hc_state.specs.Plans.{begin_of, end_of, IsShownPart, AnswersShowing};
-ghost use Rattle.hc_on_poll.specs.Keeps.{AddsNoFault};
+ghost use Rattle.hc_state.specs.Frames.{AddsNoFault};
 ghost use Rattle.hc_on_poll.specs.Ready.{IsCurrentWith, MayLeaveLine};
 
 use hc_event::{Act, Acts, Response, Why};

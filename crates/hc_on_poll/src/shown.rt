@@ -9,7 +9,7 @@ ghost use Rattle.hc_stored.specs.Shelf.{head_at};
 ghost use Rattle.hc_exch.specs.Exchanges.{table_of};
 ghost use Rattle.hc_state.specs.Reads.{IsUnshownBy, is_headless_open, waits_for_first, is_part, why_shown, AnswersPolls};
 ghost use Rattle.hc_state.specs.Stands.{Answers, Stands};
-ghost use Rattle.hc_on_poll.specs.Keeps.{AddsNoFault, KeepsFaults};
+ghost use Rattle.hc_state.specs.Frames.{AddsNoFault, KeepsFaults};
 
 use crate::show::{put_shown, span_to};
 use crate::wait::wait;

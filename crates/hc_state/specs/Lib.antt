@@ -23,3 +23,4 @@ pub mod DetachedReaders
 pub mod Joining
 pub mod Founding
 pub mod Remains
+pub mod Frames

@@ -26,11 +26,11 @@ returns-then-is_lost-clause-answers g c = λ k any joins lim t w facts stands go
 pub share-requires : goal.share-requires
 share-requires g c = record { there = kept_growing c.args.rows.now c.renew_growing.new.rows c.bring-in-Ok.new.rows c.args.heard.now c.args.heard.x c.args.r c.args.response.now c.requires.comes.accepted c.requires.about.there c.in-Ok.ensures.ok c.bring-in-Ok.ensures.entries }
 
-pub returns-then-resumes-clause-refusal : goal.returns-then-resumes-clause-refusal
-returns-then-resumes-clause-refusal g c =
+pub returns-then-resumes-clause-kept : goal.returns-then-resumes-clause-kept
+returns-then-resumes-clause-kept g c =
     let same = c.share.ensures.faults ∙ ap (λ z. (shelf_of z).faults) c.bring-in-Ok.ensures.entries in
     let later = c.renew_growing.ensures.fails.cause.later in
-    record { kept = tt; faults = omega (arith, same, later) }
+    record { told = tt; faults = omega (arith, same, later) }
 
 pub returns-then-resumes-clause-answers : goal.returns-then-resumes-clause-answers
 returns-then-resumes-clause-answers g c = λ k any joins lim t w facts stands goes row is doomless same.

@@ -154,6 +154,13 @@ impl Socket {
         self.short && !self.blocked && self.is_sent() && !self.broken
     }
 
+    /// Whether it is closed, and has nothing to send.
+    pub(crate) fn is_over(&self) -> bool
+        ensures { result ≡ true → self.now.closed ≡ true }
+    {
+        self.closed && self.is_sent()
+    }
+
     /// Whether all that was taken is sent, or never will be.
     pub(crate) fn is_sent(&self) -> bool {
         self.broken || self.held.is_empty()

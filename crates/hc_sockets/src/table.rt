@@ -53,16 +53,18 @@ impl Table {
         ensures err { OnErr result ((j : ℕ) → life self.new.sockets j
             ≡ life self.old.sockets j) }
     {
+        let mut socket = socket;
+        let due = socket.note_due();
         self.sockets.insert(k, socket)?;
-        self.queue(k);
+        self.queue(k, due);
         Ok(())
     }
 
-    /// Notes the connection where an event of it is due.
-    pub(crate) fn queue(&mut self, k: u64)
-        ensures { (j : ℕ) → life self.new.sockets j ≡ life self.old.sockets j }
+    /// Lists the connection where an event of it is due.
+    fn queue(&mut self, k: u64, due: bool)
+        ensures { self.new.sockets ≡ self.old.sockets }
     {
-        if queue_in(&mut self.sockets, k) && self.due.push_back(k).is_err() {
+        if due && self.due.push_back(k).is_err() {
             self.missed = true;
         }
     }
@@ -71,9 +73,8 @@ impl Table {
     pub(crate) fn mark(&mut self, k: u64, event: &Event)
         ensures { (j : ℕ) → life self.new.sockets j ≡ life self.old.sockets j }
     {
-        mark_in(&mut self.sockets, k, event);
-        forget_in(&mut self.sockets, k);
-        self.queue(k);
+        let due = mark_in(&mut self.sockets, k, event);
+        self.queue(k, due);
     }
 
     /// The next event that is due.
@@ -91,8 +92,8 @@ impl Table {
             let Some(k) = self.due.pop_front() else {
                 break;
             };
-            let event = event_in(&mut self.sockets, k, into);
-            self.queue(k);
+            let (event, due) = event_in(&mut self.sockets, k, into);
+            self.queue(k, due);
             if event.is_some() {
                 return event;
             }
@@ -115,7 +116,9 @@ impl Table {
                 return None;
             }
         };
-        event_in(&mut self.sockets, k, into)
+        let (event, due) = event_in(&mut self.sockets, k, into);
+        self.queue(k, due);
+        event
     }
 
     /// How many bytes the connection takes. One that isn't there takes all.
@@ -152,9 +155,7 @@ impl Table {
             let since = self.calls;
             self.unsent.push_back_reserved(Unsent { k, since });
         }
-        if news.due && self.due.push_back(k).is_err() {
-            self.missed = true;
-        }
+        self.queue(k, news.due);
     }
 
     /// Sends what is held.
@@ -181,9 +182,8 @@ impl Table {
                 break;
             };
             self.unsent.pop_front();
-            flush_in(&mut self.sockets, k);
-            forget_in(&mut self.sockets, k);
-            self.queue(k);
+            let due = flush_in(&mut self.sockets, k);
+            self.queue(k, due);
         }
     }
 
@@ -202,8 +202,8 @@ impl Table {
         ensures { (j : ℕ) → life self.new.sockets j
             ≡ with_stage k (reading_of on (life self.old.sockets k)) (life self.old.sockets) j }
     {
-        read_in(&mut self.sockets, k, on);
-        self.queue(k);
+        let due = read_in(&mut self.sockets, k, on);
+        self.queue(k, due);
     }
 
     /// The connection is closed: what is held is sent.
@@ -213,42 +213,45 @@ impl Table {
     {
         close_in(&mut self.sockets, k);
         flush_in(&mut self.sockets, k);
-        forget_in(&mut self.sockets, k);
     }
 }
 
-/// Whether an event of the connection is due that isn't noted yet. Then it is noted.
-fn queue_in(sockets: &mut HashMap<u64, Socket>, k: u64) -> bool
+/// What the system tells of it. Whether an event of it is due that isn't noted yet. Then it is noted.
+fn mark_in(sockets: &mut HashMap<u64, Socket>, k: u64, event: &Event) -> bool
     ensures { (j : ℕ) → life sockets.new j ≡ life sockets.old j }
 {
-    match sockets.get_mut(&k) {
-        Some(socket) => socket.note_due(),
-        None => false,
+    let Some(socket) = sockets.get_mut(&k) else {
+        return false;
+    };
+    socket.mark(event);
+    if socket.is_over() {
+        sockets.remove(&k);
+        return false;
     }
+    socket.note_due()
 }
 
-/// What the system tells of it.
-fn mark_in(sockets: &mut HashMap<u64, Socket>, k: u64, event: &Event)
-    ensures { (j : ℕ) → life sockets.new j ≡ life sockets.old j }
-{
-    if let Some(socket) = sockets.get_mut(&k) {
-        socket.mark(event);
-    }
-}
-
-/// The event that is due of the connection. It isn't noted any more.
-fn event_in(sockets: &mut HashMap<u64, Socket>, k: u64, into: &mut [u8]) -> Option<WireEvent>
+/// The event that is due of the connection, which isn't noted any more. Whether one more is due. Then
+/// that is noted.
+fn event_in(
+    sockets: &mut HashMap<u64, Socket>,
+    k: u64,
+    into: &mut [u8],
+) -> (Option<WireEvent>, bool)
     requires { 0 < length into.old }
-    ensures of_live { IfSome result (IsOfLive (life sockets.old)) }
-    ensures fits { IfSome result (λ e. FitsIn e (length into.old)) }
-    ensures after { (j : ℕ) → life sockets.new j ≡ lives_after result (life sockets.old) j }
+    ensures of_live { IfSome result.0 (IsOfLive (life sockets.old)) }
+    ensures fits { IfSome result.0 (λ e. FitsIn e (length into.old)) }
+    ensures after { (j : ℕ) → life sockets.new j ≡ lives_after result.0 (life sockets.old) j }
 {
-    let socket = sockets.get_mut(&k)?;
+    let Some(socket) = sockets.get_mut(&k) else {
+        return (None, false);
+    };
     socket.forget_due();
     if socket.closed {
-        return None;
+        return (None, false);
     }
-    socket.event(k, into)
+    let event = socket.event(k, into);
+    (event, socket.note_due())
 }
 
 /// How many bytes the connection takes, and what is to be noted of it then.
@@ -294,24 +297,34 @@ fn keep_in(
     }
 }
 
-/// Sends what the connection holds. That isn't noted any more.
-fn flush_in(sockets: &mut HashMap<u64, Socket>, k: u64)
+/// Sends what the connection holds. That isn't noted any more. Whether an event of it is due that isn't
+/// noted yet. Then it is noted. One that is closed, and has nothing to send, is no more.
+fn flush_in(sockets: &mut HashMap<u64, Socket>, k: u64) -> bool
     ensures { (j : ℕ) → life sockets.new j ≡ life sockets.old j }
 {
-    if let Some(socket) = sockets.get_mut(&k) {
-        socket.forget_held();
-        socket.flush();
+    let Some(socket) = sockets.get_mut(&k) else {
+        return false;
+    };
+    socket.forget_held();
+    socket.flush();
+    if socket.is_over() {
+        sockets.remove(&k);
+        return false;
     }
+    socket.note_due()
 }
 
-/// Reading of the connection is on or off.
-fn read_in(sockets: &mut HashMap<u64, Socket>, k: u64, on: bool)
+/// Reading of the connection is on or off. Whether an event of it is due that isn't noted yet. Then it
+/// is noted.
+fn read_in(sockets: &mut HashMap<u64, Socket>, k: u64, on: bool) -> bool
     ensures { (j : ℕ) → life sockets.new j
         ≡ with_stage k (reading_of on (life sockets.old k)) (life sockets.old) j }
 {
-    if let Some(socket) = sockets.get_mut(&k) {
-        socket.set_reading(on);
-    }
+    let Some(socket) = sockets.get_mut(&k) else {
+        return false;
+    };
+    socket.set_reading(on);
+    socket.note_due()
 }
 
 /// The connection is closed.
@@ -321,18 +334,5 @@ fn close_in(sockets: &mut HashMap<u64, Socket>, k: u64)
 {
     if let Some(socket) = sockets.get_mut(&k) {
         socket.closed = true;
-    }
-}
-
-/// One that is closed, and has nothing to send, is no more.
-fn forget_in(sockets: &mut HashMap<u64, Socket>, k: u64)
-    ensures { (j : ℕ) → life sockets.new j ≡ life sockets.old j }
-{
-    let over = match sockets.get(&k) {
-        Some(socket) => socket.closed && socket.is_sent(),
-        None => false,
-    };
-    if over {
-        sockets.remove(&k);
     }
 }

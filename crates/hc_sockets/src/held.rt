@@ -4,7 +4,7 @@ ghost use Rattle.std.specs.Prelude.{◌≡◌, [], OnOk, OnErr};
 use mio::net::TcpStream;
 use std::alloc::{AllocError, Global};
 use std::collections::VecDeque;
-use std::io::IoSlice;
+use std::io::{IoSlice, Write};
 use std::{io, mem};
 
 /// A list of fewer bytes than these is copied.
@@ -82,6 +82,12 @@ impl Held {
 
     /// One write of the first of them. What the system takes isn't held any more.
     pub(crate) fn write(&mut self, stream: &TcpStream) -> io::Result<usize> {
+        if self.lists.is_empty() {
+            let mut stream = stream;
+            let n = stream.write(rest_of(self.first.as_slice(), self.sent))?;
+            self.skip(n);
+            return Ok(n);
+        }
         let n = stream.write_vectored(&[
             IoSlice::new(rest_of(self.first.as_slice(), self.sent)),
             IoSlice::new(rest_of(self.list(0), self.sent_of_list())),

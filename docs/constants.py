@@ -1,5 +1,8 @@
-"""Constants of the toolchain's sources, by path, which a program that runs definitions can't read: the sets of bytes of the URL Standard
-(sections "percent-encoded bytes" and "host miscellaneous"), each a mask with a bit for each byte, and a list of no names."""
+"""Constants of the toolchain's sources, by path, which a program that runs definitions can't read.
+
+They are sets of bytes of the URL Standard (sections "percent-encoded bytes" and "host miscellaneous"), each a mask with a bit for each
+byte, and a list that denies no byte.
+"""
 from types import SimpleNamespace
 
 URL = "Rattle.url.specs.declared.sets.TheConstants."

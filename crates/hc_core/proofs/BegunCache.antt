@@ -1,4 +1,4 @@
--- A cache that begins with contents stands for the history that has no entry yet.
+-- A cache that begins with contents represents the history that has no entry yet.
 use Rattle.std.proofs.Common.{◌≡◌, inl, inr, ◌+◌, ◌≤◌, ◌<◌, ◌^◌, List, [], ◌∷◌, map, true, None, Some, refl, ap, sym, ◌∙◌, subst, arith}
 use Rattle.std.specs.Prelude.{find, nat_lt, ◌==◌}
 use Rattle.std.proofs.lemmas.Bool.{cases_Bool}

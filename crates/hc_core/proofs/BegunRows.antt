@@ -1,4 +1,4 @@
--- The rows stand for what a store begins with, item by item.
+-- The rows represent what a store begins with, item by item.
 use Rattle.std.proofs.Common.{◌≡◌, inl, inr, ℕ, ◌<◌, max, List, [], ◌∷◌, ◌++◌, Bool, true, false, cond, eqb, Option, Some, None, refl, ap, sym, ◌∙◌, subst, arith}
 use Rattle.std.specs.Prelude.{nat_eq, filter, find, reverse, bytes_eq, option_map, ◌==◌, ◌&&◌, if◌then◌else◌}
 use Rattle.std.specs.HashMap.{get, hash_map_len}

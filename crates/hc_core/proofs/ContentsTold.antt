@@ -1,4 +1,4 @@
--- What is told of all idle ones is the contents of each run that the cache stands for, and a cache may begin with it.
+-- What is told of all idle ones is the contents of each run that the cache represents, and a cache may begin with it.
 use Rattle.std.proofs.Common.{◌≡◌, inl, inr, ℕ, zero, suc, get_or, ◌<◌, ◌≤◌, ◌^◌, List, [], ◌∷◌, ◌++◌, map, Bool, true, false, Option, Some, None, refl, ap, sym, ◌∙◌, subst, arith}
 use Rattle.std.specs.Prelude.{is_some, option_map, filter, filter_map, reverse, ◌==◌, length}
 use Rattle.std.proofs.lemmas.Bool.{cases_Bool}
@@ -158,7 +158,7 @@ may_again s found moment last next tells good few =
     ap (may_begin (shelf_of s.rows.entries).limits) (contents_told s found moment last next tells some.contents some.h stands)
     ∙ leaves_good (shelf_of s.rows.entries).limits some.contents some.begins some.h some.run (heads_come_within_limits some.h some.within_limits) some.starts in_limits)
 
--- the cache stands for the same where what is kept stays
+-- the cache represents the same where what is kept stays
 pub stands_still : {B : Type 0} {g : Ghosts B} (s u : Cache B g) → u.last_moment ≡ s.last_moment → u.rows.last_start ≡ s.rows.last_start → u.rows.consumers ≡ s.rows.consumers → u.rows.exchanges ≡ s.rows.exchanges → u.rows.keys ≡ s.rows.keys
     → Stays (shelf_of s.rows.entries) (shelf_of u.rows.entries) → (contents : Contents) (h : History) → StandsFor s contents h → StandsFor u contents h
 stands_still s u moment last consumers exchanges same_keys stays contents h stands = record {

@@ -1,4 +1,4 @@
--- What is kept stands for the tables after a denied event, and at the beginning.
+-- What is kept represents the tables after a denied event, and at the beginning.
 use Rattle.std.proofs.Common.{◌≡◌, ℕ, ◌+◌, List, [], None, refl, ap}
 use Rattle.std.specs.Prelude.{nat_eq}
 use Rattle.std.specs.HashMap.{get, hash_map_len}

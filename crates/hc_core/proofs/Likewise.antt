@@ -1,4 +1,4 @@
--- Rows that keep contents, and nothing else, stand for the tables of each run that leaves those, with nobody live.
+-- Rows that keep contents, and nothing else, represent the tables of each run that leaves those, with nobody live.
 use Rattle.std.proofs.Common.{◌≡◌, ◌≢◌, inl, inr, ℕ, ◌+◌, ◌-◌, List, [], ◌∷◌, ◌++◌, Bool, true, false, Option, Some, None, refl, ap, sym, ◌∙◌, subst, arith}
 use Rattle.std.specs.Prelude.{bytes_eq, is_some, nat_eq, filter, filter_map, find, reverse, length, option_map, not, ◌==◌, ◌&&◌}
 use Rattle.std.specs.HashMap.{get}

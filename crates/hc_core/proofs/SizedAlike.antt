@@ -16,7 +16,7 @@ use Rattle.hc_state.specs.declared.rows.Rows.{Rows}
 use Rattle.hc_state.specs.Stands.{RowsStand}
 use Rattle.hc_state.specs.Stored.{KeepsEntry}
 use Rattle.hc_state.proofs.Maps.{merely_true}
-use Rattle.hc_on_leave.proofs.StoreArm.{none_by}
+use Rattle.hc_on_leave.proofs.StoreHandler.{none_by}
 
 pub merely_same : {P : Type 0} (n m : ℕ) → ∥ P ∥₁ → (P → n ≡ m) → n ≡ m
 merely_same n m some same =

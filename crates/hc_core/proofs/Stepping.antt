@@ -166,7 +166,7 @@ may_stand_denied limits t e denied = rw denied refl
 abbrev pub acts_in : List Act → List Act → List Act
 acts_in before out = drop (length before) out
 
--- a run with one entry more, and the rows that stand for it. No failure is told but one that was counted
+-- a run with one entry more, and the rows that represent it. No failure is told but one that was counted
 pub record OneMore {B : Type 0} {g : Ghosts B} (r u : Rows B g) (contents : Contents) (h : History) (acts : List Act) (now : ℕ) (ev : Event) : Type 0 where
   pub begins : may_begin (shelf_of u.entries).limits contents ≡ true
   pub run : IsRun (shelf_of u.entries).limits contents (record { now = now; event = ev; acts = acts } ∷ h)
@@ -204,7 +204,7 @@ module _ {B : Type 0} {g : Ghosts B} (r u : Rows B g) (now : ℕ) (ev : Event) (
     facts : Facts (shelf_of r.entries).limits t
     facts = facts_of_runs (shelf_of r.entries).limits contents h begun run sized
 
-    -- whatever was owed, the rows stand for it
+    -- whatever was owed, the rows represent it
     stands_with : (acts : List Act) (after : Tables) → after ≡ tables contents (with_acts acts ∷ h) → after.moment ≡ now
         → IsOwed (shelf_of r.entries).limits t (with_acts acts) → (shelf_of r.entries).faults + failures_in acts ≤ (shelf_of u.entries).faults → (shelf_of u.entries).limits ≡ (shelf_of r.entries).limits → RowsStand (shelf_of r.entries).limits u after → OneMore r u contents h acts now ev
     stands_with acts after is now_is owed counts bounded stands = record {

@@ -1,4 +1,4 @@
--- A cache stands for a history, and its step for one entry more.
+-- A cache represents a history, and its step for one entry more.
 use Rattle.std.specs.Prelude.{◌≡◌, ℕ, ◌+◌, ◌≤◌, List, ◌∷◌, ◌++◌, Bool, true}
 use Rattle.std.specs.HashMap.{hash_map_len}
 use Rattle.hc_store.specs.declared.backend.Backend.{Ghosts}
@@ -58,7 +58,7 @@ pub record StandsFor {B : Type 0} {g : Ghosts B} (s : Cache B g) (contents : Con
   pub moment : s.last_moment ≡ (tables contents h).moment
   pub rows : RowsStand (limits_in s) s.rows (tables contents h)
 
--- The cache stands for each run that leaves these contents, with nobody live: whatever such a cache began with, whatever
+-- The cache represents each run that leaves these contents, with nobody live: whatever such a cache began with, whatever
 -- happened to it, and however many bytes came.
 abbrev pub ServesAll : {B : Type 0} {g : Ghosts B} → Cache B g → Contents → Type 0
 ServesAll s contents =
@@ -66,7 +66,7 @@ ServesAll s contents =
     IsRun (limits_in s) before h → live (tables before h) ≡ 0 →
     contents_of (tables before h) ≡ contents → StandsFor s before h
 
--- The acts are those of one entry more, and the cache stands for that, by one step. They tell no failure
+-- The acts are those of one entry more, and the cache represents that, by one step. They tell no failure
 -- of the store but one that it counted.
 pub record Answers {B : Type 0} {g : Ghosts B} (s u : Cache B g) (now : ℕ) (event : Event) (acts : List Act) : Type 0 where
   pub limits : limits_in u ≡ limits_in s
@@ -83,7 +83,7 @@ pub record Steps {B : Type 0} {g : Ghosts B} (s u : Cache B g) (before out : Lis
 
 -- WHAT IS PROMISED OVER ALL INTERLEAVINGS
 
--- of every history that the cache stands for: each position is delivered once, of each key one exchange at most has
+-- of every history that the cache represents: each position is delivered once, of each key one exchange at most has
 -- the turn, a chain of waits ends after three links, what is used came after the last doom of its key, and what is
 -- stored is what it is called. What a consumer became bound to by the last entry came after that doom too. By that
 -- entry nothing that was stored went, and who polled with its next byte stored was given some.

@@ -1,4 +1,4 @@
-//! What is done with what is kept: why an event is denied, and the arm of each that isn't.
+//! What is done with what is kept: why an event is denied, and the handler of each that isn't.
 
 pub(crate) mod answer;
 pub(crate) mod begin;

@@ -97,7 +97,7 @@ rep_row t now x r response acts (Some v) u is row =
     let e = of_head now x response acts in
     kept (subst (IsKept t r) (some_inj (representation_acted t e r v (representation_heard t e r (event.Head x response) v)) u row) (record { v = v; row = is; body_is = headed_body t e r x response (t.exchange x) v }))
 
--- THE ARM
+-- THE HANDLER
 
 none_is : {A : Type 0} (o : Option A) → o ≡ None → is_none o ≡ true
 none_is None h = refl

@@ -9,7 +9,7 @@ use Rattle.hc_exch.specs.declared.exchanges.Exchanges.{Exchanges}
 use Rattle.hc_exch.specs.Exchanges.{table_of}
 use Rattle.hc_exch.specs.Known.{EndsBelow, open_view}
 use Rattle.hc_state.specs.declared.rows.Rows.{Rows}
-use Rattle.hc_on_leave.proofs.PieceArm.{ends_below}
+use Rattle.hc_on_leave.proofs.PieceHandler.{ends_below}
 use Rattle.hc_on_body.specs.Arrivals.{IsPieceFor, MayBring}
 
 -- it ends where bytes may be stored

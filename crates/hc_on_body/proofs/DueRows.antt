@@ -1,4 +1,4 @@
--- A failure becomes due to some consumers: what is kept stands for the tables in which it is.
+-- A failure becomes due to some consumers: what is kept represents the tables in which it is.
 use Rattle.std.proofs.Common.{◌≡◌, ℕ, List, Bool, true, false, Option, Some, None, refl, ap, sym, ◌∙◌, subst}
 use Rattle.std.specs.Prelude.{is_some, nat_eq, bytes_eq, option_map, ◌&&◌, if◌then◌else◌}
 use Rattle.std.specs.Option.{option_or}
@@ -141,8 +141,8 @@ module _ (t : Tables) (among : ℕ → Bool) (why : Cause) where
 
 -- ALL OF IT
 
-pub stands_due : {B : Type 0} {g : Ghosts B} {lim : Limits} (r u : Rows B g) (t : Tables) (among : ℕ → Bool) (why : Cause) → RowsStand lim r t → u.last_start ≡ r.last_start → u.exchanges ≡ r.exchanges → u.keys ≡ r.keys → u.entries ≡ r.entries
-    → ChangesAmong r.consumers u.consumers among (with_due why) → RowsStand lim u (with_consumers (due_for t among why) t)
+pub stands_due : {B : Type 0} {g : Ghosts B} {limits : Limits} (r u : Rows B g) (t : Tables) (among : ℕ → Bool) (why : Cause) → RowsStand limits r t → u.last_start ≡ r.last_start → u.exchanges ≡ r.exchanges → u.keys ≡ r.keys → u.entries ≡ r.entries
+    → ChangesAmong r.consumers u.consumers among (with_due why) → RowsStand limits u (with_consumers (due_for t among why) t)
 unfolding current
 stands_due r u t among why stands last exchanges same_keys same_entries changes =
     let z : Tables = with_consumers (due_for t among why) t in

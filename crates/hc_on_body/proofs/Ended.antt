@@ -1,4 +1,4 @@
--- An exchange ended cleanly, where it promised a length: what is kept stands for that as for one that is closed.
+-- An exchange ended cleanly, where it promised a length: what is kept represents that as for one that is closed.
 use Rattle.std.proofs.Common.{◌≡◌, ℕ, ◌+◌, ◌-◌, List, [], length, Bool, true, false, Option, Some, None, refl, ap, sym, ◌∙◌}
 use Rattle.std.specs.Prelude.{nat_eq, bytes_eq, drop, ◌==◌, ◌&&◌, if◌then◌else◌}
 use Rattle.std.specs.HashMap.{get}
@@ -114,8 +114,8 @@ module _ (t : Tables) (f : ℕ → Option Exchange) (x : ℕ) (w : Exchange) whe
 
 -- ALL OF IT
 
-module _ {B : Type 0} {g : Ghosts B} {lim : Limits} (u : Rows B g) (t : Tables) (f : ℕ → Option Exchange) (x : ℕ) (w : Exchange) (p : ℕ) (promises : promised_bytes w ≡ Some p) (stands : RowsStand lim u (with_over x w f t)) where
-  pub stands_ended : RowsStand lim u (with_end x w f t)
+module _ {B : Type 0} {g : Ghosts B} {limits : Limits} (u : Rows B g) (t : Tables) (f : ℕ → Option Exchange) (x : ℕ) (w : Exchange) (p : ℕ) (promises : promised_bytes w ≡ Some p) (stands : RowsStand limits u (with_over x w f t)) where
+  pub stands_ended : RowsStand limits u (with_end x w f t)
   unfolding current
   stands_ended =
       let before : Tables = with_over x w f t in

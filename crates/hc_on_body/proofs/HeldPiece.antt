@@ -1,4 +1,4 @@
--- A piece of what was lost is held for its detached reader: what is kept stands for the tables then.
+-- A piece of what was lost is held for its detached reader: what is kept represents the tables then.
 use Rattle.std.proofs.Common.{◌≡◌, ◌≢◌, inl, inr, ℕ, ◌+◌, ◌-◌, ◌<◌, ◌≤◌, ◌⊎◌, List, [], ◌∷◌, ◌++◌, length, drop, max, min, Bool, true, false, Option, Some, None, refl, ap, sym, ◌∙◌, subst, arith}
 use Rattle.std.proofs.lemmas.List.{drop-append-le, length-append}
 use Rattle.std.specs.Prelude.{is_some, is_none, ◌==◌, ◌&&◌, if◌then◌else◌}
@@ -22,7 +22,7 @@ use Rattle.hc_state.specs.Stands.{RowsStand}
 use Rattle.hc_state.specs.Stored.{IsEntry, TellsLength, told, untold, KeepsEntry}
 use Rattle.hc_state.proofs.Fallbacks.{unstored_moved}
 use Rattle.hc_state.proofs.OneOfEach.{first_by}
-use Rattle.hc_on_leave.proofs.PieceArm.{Runs, runs_of}
+use Rattle.hc_on_leave.proofs.PieceHandler.{Runs, runs_of}
 use Rattle.hc_on_leave.proofs.PieceRows.{s, IsLike, like_same, stands_pieced}
 
 -- WHAT IS HELD, WITH MORE BYTES
@@ -98,7 +98,7 @@ unless xs false b off = refl
 
 -- ALL OF IT
 
-module _ {B : Type 0} {g : Ghosts B} {lim : Limits} (r u : Rows B g) (t : Tables) (stands : RowsStand lim r t) (now x : ℕ) (bytes : List ℕ) (w : Exchange) (v : Representation) (row : t.exchange x ≡ Some w) (opened : w.is_open ≡ true) (headed : is_some w.head ≡ true) (there : t.representation (family x w) ≡ Some v) (lost : v.is_lost ≡ true) (is_gone : v.is_gone ≡ true) (unended : w.is_ended ≡ false)
+module _ {B : Type 0} {g : Ghosts B} {limits : Limits} (r u : Rows B g) (t : Tables) (stands : RowsStand limits r t) (now x : ℕ) (bytes : List ℕ) (w : Exchange) (v : Representation) (row : t.exchange x ≡ Some w) (opened : w.is_open ≡ true) (headed : is_some w.head ≡ true) (there : t.representation (family x w) ≡ Some v) (lost : v.is_lost ≡ true) (is_gone : v.is_gone ≡ true) (unended : w.is_ended ≡ false)
     (last : u.last_start ≡ r.last_start) (same_map : u.consumers ≡ r.consumers) (same_keys : u.keys ≡ r.keys) (same_entries : u.entries ≡ r.entries) where
   abbrev v2 : Representation
   v2 = with_stored_bytes false (front w) x bytes v
@@ -166,7 +166,7 @@ module _ {B : Type 0} {g : Ghosts B} {lim : Limits} (r u : Rows B g) (t : Tables
   alone_moved y e p (Some d) = unstored_moved t after y e p (t.consumer d)
 
   -- by what is held then
-  by_held : (hold : Bool) → exch.Becomes (known.with_piece bytes hold) x r.exchanges u.exchanges → (known.with_piece bytes hold (table_of r.exchanges x)).held ≡ held_for after x (Some (with_piece bytes w)) → ((y : ℕ) (e : Exchange) → x ≢ y → t.exchange y ≡ Some e → held_for after y (Some e) ≡ held_for t y (Some e)) → RowsStand lim u after
+  by_held : (hold : Bool) → exch.Becomes (known.with_piece bytes hold) x r.exchanges u.exchanges → (known.with_piece bytes hold (table_of r.exchanges x)).held ≡ held_for after x (Some (with_piece bytes w)) → ((y : ℕ) (e : Exchange) → x ≢ y → t.exchange y ≡ Some e → held_for after y (Some e) ≡ held_for t y (Some e)) → RowsStand limits u after
   by_held hold becomes here apart =
       stands_pieced t now x w bytes vs row opened headed r u stands unended like vs_else hold runs.o runs.running
       last same_map same_keys becomes here apart
@@ -208,10 +208,10 @@ module _ {B : Type 0} {g : Ghosts B} {lim : Limits} (r u : Rows B g) (t : Tables
         by_row None = refl
         by_row (Some p) = alone_moved y e p p.alone
 
-    goes_on_stands : exch.Becomes (known.with_piece bytes true) x r.exchanges u.exchanges → RowsStand lim u after
+    goes_on_stands : exch.Becomes (known.with_piece bytes true) x r.exchanges u.exchanges → RowsStand limits u after
     goes_on_stands becomes = by_held true becomes (ap (λ (ys : List ℕ). ys ++ bytes) ((stands.exchanges x).held ∙ ap (held_for t x) row) ∙ sym held_then) held_else
 
-  pub held_stands : 0 < length bytes → MayHold t x w v → exch.Becomes (known.with_piece bytes true) x r.exchanges u.exchanges → RowsStand lim u after
+  pub held_stands : 0 < length bytes → MayHold t x w v → exch.Becomes (known.with_piece bytes true) x r.exchanges u.exchanges → RowsStand limits u after
   held_stands some may = goes_on_stands some may.on may.within may.absent may.reached may.brought_some
 
   -- NOBODY DOES
@@ -227,7 +227,7 @@ module _ {B : Type 0} {g : Ghosts B} {lim : Limits} (r u : Rows B g) (t : Tables
         by_row None = refl
         by_row (Some p) = alone_moved y e p p.alone
 
-    pub dropped_stands : exch.Becomes (known.with_piece bytes false) x r.exchanges u.exchanges → RowsStand lim u after
+    pub dropped_stands : exch.Becomes (known.with_piece bytes false) x r.exchanges u.exchanges → RowsStand limits u after
     dropped_stands becomes =
         by_held false becomes
         ((stands.exchanges x).held ∙ (ap (held_for t x) row ∙ (ap (held_of t x w) there ∙ (ap (held_alone t x w v) nobody ∙ sym (ap (held_of after x (with_piece bytes w)) vs_here ∙ ap (held_alone after x (with_piece bytes w) v2) nobody)))))

@@ -1,7 +1,7 @@
 pub mod Ended
 pub mod DueRows
-pub mod StopArm
-pub mod BreakArm
+pub mod StopHandler
+pub mod BreakHandler
 pub mod WholeEnds
 pub mod StopAnswers
 pub mod ShortAnswers
@@ -13,5 +13,5 @@ pub mod FewActs
 pub mod HeldPiece
 pub mod LosePiece
 pub mod LostTables
-pub mod GrowArm
+pub mod GrowHandler
 pub mod Bringing

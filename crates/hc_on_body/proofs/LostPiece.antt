@@ -1,4 +1,4 @@
--- A piece of what was lost is held for its detached reader: what is kept stands for the tables then.
+-- A piece of what was lost is held for its detached reader: what is kept represents the tables then.
 use Rattle.std.proofs.Common.{◌≡◌, ◌≢◌, inl, inr, ℕ, ◌+◌, ◌-◌, ◌<◌, ◌≤◌, ◌⊎◌, List, [], ◌∷◌, ◌++◌, length, Bool, true, false, Option, Some, None, refl, ap, sym, ◌∙◌, subst, arith}
 use Rattle.std.proofs.lemmas.List.{append-nil}
 use Rattle.std.specs.Prelude.{is_some, ◌==◌, ◌&&◌, if◌then◌else◌}
@@ -29,9 +29,9 @@ use Rattle.hc_state.specs.Stops.{brought_by}
 use Rattle.hc_state.specs.Stored.{KeepsEntry}
 use Rattle.hc_state.proofs.Answering.{does_answered}
 use Rattle.hc_on_body.proofs.HeldPiece.{held_stands}
-use Rattle.hc_on_leave.proofs.PieceArm.{Brought, brought_of, Runs, runs_of, open_unended, brings_it, past_answered}
+use Rattle.hc_on_leave.proofs.PieceHandler.{Brought, brought_of, Runs, runs_of, open_unended, brings_it, past_answered}
 use Rattle.hc_on_leave.proofs.PieceRows.{s}
-use Rattle.hc_on_leave.proofs.StoreArm.{none_by}
+use Rattle.hc_on_leave.proofs.StoreHandler.{none_by}
 
 -- whose an open exchange is that isn't the writing's
 pub record Owner (t : Tables) (x : ℕ) (w : Exchange) (v : Representation) : Type 0 where
@@ -116,7 +116,7 @@ module _ {limits : Rattle.hc_rules.specs.declared.room.Limits.Limits} (t : Table
 
 -- A PIECE OF WHAT IS LOST
 
-module _ {B : Type 0} {g : Ghosts B} {lim : Limits} (r u : Rows B g) (t : Tables) (facts : Facts lim t) (stands : RowsStand lim r t) (now x : ℕ) (bytes : List ℕ) (goes : denial t (event.Piece x bytes) ≡ None) (w : Exchange) (v : Representation) (row : t.exchange x ≡ Some w) (opened : w.is_open ≡ true) (headed : is_some w.head ≡ true) (some : 0 < length bytes) (there : t.representation (family x w) ≡ Some v) (lost : v.is_lost ≡ true)
+module _ {B : Type 0} {g : Ghosts B} {limits : Limits} (r u : Rows B g) (t : Tables) (facts : Facts limits t) (stands : RowsStand limits r t) (now x : ℕ) (bytes : List ℕ) (goes : denial t (event.Piece x bytes) ≡ None) (w : Exchange) (v : Representation) (row : t.exchange x ≡ Some w) (opened : w.is_open ≡ true) (headed : is_some w.head ≡ true) (some : 0 < length bytes) (there : t.representation (family x w) ≡ Some v) (lost : v.is_lost ≡ true)
     (last : u.last_start ≡ r.last_start) (same_map : u.consumers ≡ r.consumers) (same_keys : u.keys ≡ r.keys) (same_entries : u.entries ≡ r.entries) (becomes : exch.Becomes (known.with_piece bytes true) x r.exchanges u.exchanges) where
   o : Owner t x w v
   o = owner t x w v facts.law.sound row opened headed there (unwritten_lost t v lost)
@@ -147,19 +147,19 @@ module _ {B : Type 0} {g : Ghosts B} {lim : Limits} (r u : Rows B g) (t : Tables
   abbrev after : Tables
   after = s t now x w bytes (λ q. if family x w == q then Some (with_stored_bytes false (front w) x bytes v) else t.representation q)
 
-  lost_stands : RowsStand lim u after
+  lost_stands : RowsStand limits u after
   lost_stands = held_stands r u t stands now x bytes w v row opened headed there lost is_gone (open_unended t facts.law x w row opened) last same_map same_keys same_entries some may becomes
 
-  pub lost_answered : (before : List Act) → Answered lim (shelf_of r.entries).faults u t before before now (event.Piece x bytes)
+  pub lost_answered : (before : List Act) → Answered limits (shelf_of r.entries).faults u t before before now (event.Piece x bytes)
   lost_answered before =
-      does_answered lim (shelf_of r.entries).faults u t after before before [] now (event.Piece x bytes) (does.unstored lim t facts.law now x bytes w row goes (family x w) v refl there lost) unwritten refl (sym (append-nil before)) lost_stands
+      does_answered limits (shelf_of r.entries).faults u t after before before [] now (event.Piece x bytes) (does.unstored limits t facts.law now x bytes w row goes (family x w) v refl there lost) unwritten refl (sym (append-nil before)) lost_stands
     where
       unwritten : write_in t (entry_without_acts now (event.Piece x bytes)) (event.Piece x bytes) ≡ None
       unwritten = rw (row, there, lost) refl
 
 -- WHAT ISN'T STORED
 
-module _ {B : Type 0} {g : Ghosts B} {lim : Limits} (r u : Rows B g) (t : Tables) (facts : Facts lim t) (stands : RowsStand lim r t) (now x : ℕ) (bytes : List ℕ) (goes : denial t (event.Piece x bytes) ≡ None) (unkept : stored_by r x ≡ None)
+module _ {B : Type 0} {g : Ghosts B} {limits : Limits} (r u : Rows B g) (t : Tables) (facts : Facts limits t) (stands : RowsStand limits r t) (now x : ℕ) (bytes : List ℕ) (goes : denial t (event.Piece x bytes) ≡ None) (unkept : stored_by r x ≡ None)
     (last : u.last_start ≡ r.last_start) (same_map : u.consumers ≡ r.consumers) (same_keys : u.keys ≡ r.keys) (same_entries : u.entries ≡ r.entries) (becomes : exch.Becomes (known.with_piece bytes true) x r.exchanges u.exchanges) (before : List Act) where
   b : Brought t x (length bytes)
   b = brought_of t x bytes goes
@@ -178,7 +178,7 @@ module _ {B : Type 0} {g : Ghosts B} {lim : Limits} (r u : Rows B g) (t : Tables
       by_kept None h kept = absurd (facts.law.whose.unread q x v there kept.unused (sound.headed b.w b.row b.taken.is_open b.taken.headed of_q (ap (λ (o : Option Representation). is_some o) there)))
       by_kept (Some k) h kept = sym kept.is_lost ∙ by_test k.is_lost h
 
-  by_brought : (o : Option ℕ) → brought_by (table_of r.exchanges x).running ≡ o → Answered lim (shelf_of r.entries).faults u t before before now (event.Piece x bytes)
+  by_brought : (o : Option ℕ) → brought_by (table_of r.exchanges x).running ≡ o → Answered limits (shelf_of r.entries).faults u t before before now (event.Piece x bytes)
   by_brought None past = past_answered r u t facts stands now x bytes goes past last same_map same_keys same_entries becomes before
   by_brought (Some q) brings =
       let it = brings_it t x q ran.o b.w ran.is b.taken.headed (sym (ap brought_by ran.running) ∙ brings) in
@@ -186,5 +186,5 @@ module _ {B : Type 0} {g : Ghosts B} {lim : Limits} (r u : Rows B g) (t : Tables
       let lost = is_lost q v it.0 (sym (ap t.representation it.0) ∙ it.1.1) (sym (ap (stored_at (shelf_of r.entries)) brings) ∙ unkept) in
       lost_answered r u t facts stands now x bytes goes b.w v b.row b.taken.is_open b.taken.headed b.taken.some it.1.1 lost last same_map same_keys same_entries becomes before
 
-  pub held_answered : Answered lim (shelf_of r.entries).faults u t before before now (event.Piece x bytes)
+  pub held_answered : Answered limits (shelf_of r.entries).faults u t before before now (event.Piece x bytes)
   held_answered = by_brought (brought_by (table_of r.exchanges x).running) refl

@@ -28,7 +28,7 @@ pub record Viewed (t : Tables) (x : ℕ) (view : ExchangeView) : Type 0 where
   pub delivered : view.delivered ≡ length w.body
   pub promised_is : view.promised ≡ promised_bytes w
 
-pub viewed : {B : Type 0} {g : Ghosts B} {lim : Limits} (r : Rows B g) (t : Tables) (x : ℕ) (o : Option ExchangeView) (view : ExchangeView) → RowsStand lim r t → o ≡ option_map (view_of x) (table_of r.exchanges x).running → o ≡ Some view → Viewed t x view
+pub viewed : {B : Type 0} {g : Ghosts B} {limits : Limits} (r : Rows B g) (t : Tables) (x : ℕ) (o : Option ExchangeView) (view : ExchangeView) → RowsStand limits r t → o ≡ option_map (view_of x) (table_of r.exchanges x).running → o ≡ Some view → Viewed t x view
 viewed r t x o view stands is some = by_open (table_of r.exchanges x).running (t.exchange x) refl (sym is ∙ some) (stands.exchanges x).running
   where
     by_open : (z : Option Open) (e : Option Exchange) → t.exchange x ≡ e → option_map (view_of x) z ≡ Some view → KeepsRunning t x z e → Viewed t x view
@@ -48,7 +48,7 @@ viewed r t x o view stands is some = by_open (table_of r.exchanges x).running (t
 
 -- WHO WAITS FOR ITS HEAD
 
-module _ {B : Type 0} {g : Ghosts B} {lim : Limits} (r : Rows B g) (t : Tables) (stands : RowsStand lim r t) where
+module _ {B : Type 0} {g : Ghosts B} {limits : Limits} (r : Rows B g) (t : Tables) (stands : RowsStand limits r t) where
   shown_as : (c : ℕ) (k : rows.Consumer) (o : Option Consumer) → KeepsConsumer t o (Some k) → is_live (Some k) ≡ true → is_shown o ≡ k.shown
   shown_as c k None kept lives = false_true (sym kept ∙ lives)
   shown_as c k (Some q) kept lives = kept.shown

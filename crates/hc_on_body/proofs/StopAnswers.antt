@@ -19,7 +19,7 @@ use Rattle.hc_state.specs.Stands.{Answered, RowsStand}
 use Rattle.hc_state.specs.Stopped as stopped
 use Rattle.hc_state.specs.Stopped.{with_consumers, due_for, HasStopped, quietly, unsealed, IsBroken, BrokeOff, Waited}
 use Rattle.hc_state.proofs.Answering.{does_answered, lossy_answered}
-use Rattle.hc_on_body.proofs.BreakArm.{closed_is}
+use Rattle.hc_on_body.proofs.BreakHandler.{closed_is}
 use Rattle.hc_state.proofs.Counting.{stands_counted}
 use Rattle.hc_state.proofs.SealWritten.{sealed_stopping}
 

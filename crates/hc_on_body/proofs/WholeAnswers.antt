@@ -41,13 +41,13 @@ use Rattle.hc_state.specs.Stops.{brought_by}
 use Rattle.hc_state.specs.Stored.{KeepsEntry}
 use Rattle.hc_state.proofs.Answering.{does_answered, lossy_answered}
 use Rattle.hc_on_body.proofs.CameAlone.{NobodyFirst, nobody_first, nobody_first_go}
-use Rattle.hc_state.proofs.CloseArm.{unread_go, unawaited_go}
+use Rattle.hc_state.proofs.CloseHandler.{unread_go, unawaited_go}
 use Rattle.hc_state.proofs.Counting.{stands_counted}
 use Rattle.hc_state.proofs.Losing.{may_lost}
 use Rattle.hc_state.proofs.OneOfEach.{first_by}
-use Rattle.hc_state.proofs.SealArm.{nothing_else}
+use Rattle.hc_state.proofs.SealHandler.{nothing_else}
 use Rattle.hc_state.proofs.SealWritten.{sealed_lasting}
-use Rattle.hc_on_body.proofs.StopArm.{none_alone}
+use Rattle.hc_on_body.proofs.StopHandler.{none_alone}
 use Rattle.hc_state.proofs.Stopping.{head_there, brought_some, brought_none}
 use Rattle.hc_on_body.proofs.WholeEnds.{stands_whole, entries_whole, gone_longer, sealed_longer, stands_past}
 
@@ -365,7 +365,7 @@ nobody_alone t law q v there stays = (law.sound.rows q v there).store.nobody_alo
     by_test true is = false_true (sym stays ∙ (law.sound.rows q v there).store.lost_is_gone is)
 
 -- what an open exchange brings is kept, and of a length that a store takes
-module _ {B : Type 0} {g : Ghosts B} {lim : Limits} (r : Rows B g) (t : Tables) (facts : Facts lim t) (stands : RowsStand lim r t) (x : ℕ) (w : Exchange) (row : t.exchange x ≡ Some w) (opened : w.is_open ≡ true) where
+module _ {B : Type 0} {g : Ghosts B} {limits : Limits} (r : Rows B g) (t : Tables) (facts : Facts limits t) (stands : RowsStand limits r t) (x : ℕ) (w : Exchange) (row : t.exchange x ≡ Some w) (opened : w.is_open ≡ true) where
   pub brought_row : (q : ℕ) (o : Option ℕ) → o ≡ brought_by (table_of r.exchanges x).running → o ≡ Some q → (v : Representation) × (t.representation (family x w) ≡ Some v) × (q ≡ family x w)
   brought_row q o is some = by_row (t.representation (family x w)) refl
     where

@@ -1,4 +1,4 @@
--- An exchange ends whose head told no length: what came is all. What is kept stands for that.
+-- An exchange ends whose head told no length: what came is all. What is kept represents that.
 use Rattle.std.proofs.Common.{◌≡◌, ◌≢◌, inl, inr, ℕ, List, length, Bool, true, false, Option, Some, None, refl, ap, sym, ◌∙◌, subst}
 use Rattle.std.specs.Prelude.{is_some, nat_eq, filter, option_map, if◌then◌else◌}
 use Rattle.std.specs.Option.{option_or}
@@ -33,7 +33,7 @@ use Rattle.hc_state.specs.Stands.{RowsStand}
 use Rattle.hc_state.specs.Stopped.{NobodyAwaits}
 use Rattle.hc_state.specs.Stored.{IsEntry, TellsLength, told, untold, KeepsEntry, KeepsEntries, is_first, is_usable_row, is_over}
 use Rattle.hc_state.proofs.Fallbacks.{unstored_moved}
-use Rattle.hc_on_body.proofs.BreakArm.{closed_is}
+use Rattle.hc_on_body.proofs.BreakHandler.{closed_is}
 use Rattle.hc_on_body.proofs.CameAlone.{NobodyFirst}
 use Rattle.hc_state.proofs.Closing.{exchange_closed, key_closed, entries_closed}
 use Rattle.hc_on_body.proofs.Ended.{with_over, told_alike, runs_end, held_end, away_end, base_end, promise_end}
@@ -208,7 +208,7 @@ module _ (a : Tables) (x n : ℕ) (z : Option Exchange) (v : Representation) (th
 
 -- ALL OF IT
 
-module _ {B : Type 0} {g : Ghosts B} {lim : Limits} (r u : Rows B g) (t : Tables) (x : ℕ) (w : Exchange) (n : ℕ) (v : Representation) (row : t.exchange x ≡ Some w) (there : t.representation x ≡ Some v) (own : family x w ≡ x) (untold_yet : v.head.total ≡ None) (stands : RowsStand lim r t)
+module _ {B : Type 0} {g : Ghosts B} {limits : Limits} (r u : Rows B g) (t : Tables) (x : ℕ) (w : Exchange) (n : ℕ) (v : Representation) (row : t.exchange x ≡ Some w) (there : t.representation x ≡ Some v) (own : family x w ≡ x) (untold_yet : v.head.total ≡ None) (stands : RowsStand limits r t)
     (unread : (d : ℕ) (k : rows.Consumer) → t.consumer d ≡ Some k → k.place ≡ place.Direct x → ⊥) (unawaited : NobodyAwaits t x)
     (last : u.last_start ≡ r.last_start) (keys : u.keys ≡ r.keys) (becomes : exch.Becomes known.without_exchange x r.exchanges u.exchanges)
     (users : ℕ → Bool) (users_are : (d : ℕ) → users d ≡ is_bound x (t.consumer d)) (knows : ChangesAmong r.consumers u.consumers users (changes.with_end n)) (bounded : (shelf_of u.entries).limits ≡ (shelf_of r.entries).limits) where
@@ -273,7 +273,7 @@ module _ {B : Type 0} {g : Ghosts B} {lim : Limits} (r u : Rows B g) (t : Tables
       apart : (q lo : ℕ) (hi : Option ℕ) (how : BoundBy) → c.place ≡ place.Bound q lo hi how → x ≢ q
       apart q lo hi how is e = false_true (sym off ∙ (ap (is_bound_place x) is ∙ (ap (λ m. nat_eq m x) (sym e) ∙ eqb-same x)))
 
-  pub stands_whole : KeepsEntries whole (shelf_of u.entries) → RowsStand lim u whole
+  pub stands_whole : KeepsEntries whole (shelf_of u.entries) → RowsStand limits u whole
   stands_whole entries = record {
     limits = bounded ∙ stands.limits;
     last_start = last ∙ stands.last_start;
@@ -309,7 +309,7 @@ module _ {B : Type 0} {g : Ghosts B} {lim : Limits} (r u : Rows B g) (t : Tables
 
 -- PAST THE STORE
 
-module _ {B : Type 0} {g : Ghosts B} {lim : Limits} (r u : Rows B g) (t : Tables) (law : Lawful t) (x : ℕ) (w : Exchange) (row : t.exchange x ≡ Some w) (opened : w.is_open ≡ true) (headed : is_some w.head ≡ true) (none : t.representation (family x w) ≡ None) (tells_none : promised_bytes w ≡ None) (n : ℕ) (all : n ≡ length w.body) (stands : RowsStand lim r t) (unawaited : NobodyAwaits t x)
+module _ {B : Type 0} {g : Ghosts B} {limits : Limits} (r u : Rows B g) (t : Tables) (law : Lawful t) (x : ℕ) (w : Exchange) (row : t.exchange x ≡ Some w) (opened : w.is_open ≡ true) (headed : is_some w.head ≡ true) (none : t.representation (family x w) ≡ None) (tells_none : promised_bytes w ≡ None) (n : ℕ) (all : n ≡ length w.body) (stands : RowsStand limits r t) (unawaited : NobodyAwaits t x)
     (last : u.last_start ≡ r.last_start) (keys : u.keys ≡ r.keys) (entries : u.entries ≡ r.entries) (becomes : exch.Becomes known.without_exchange x r.exchanges u.exchanges) (c : ℕ) (its : c ≡ w.c) (knows : ChangesAt r.consumers u.consumers c (changes.with_end n)) where
   abbrev pub past : Tables
   past = with_exchange x (Some (at_end w)) t
@@ -375,7 +375,7 @@ module _ {B : Type 0} {g : Ghosts B} {lim : Limits} (r u : Rows B g) (t : Tables
     | inr ne ↦ then_false w.is_open (nat_eq (family x w) q) (eqb-other (family x w) q ne)
   ]
 
-  pub stands_past : RowsStand lim u past
+  pub stands_past : RowsStand limits u past
   stands_past = record {
     limits = ap (λ e. (shelf_of e).limits) entries ∙ stands.limits;
     last_start = last ∙ stands.last_start;

@@ -107,9 +107,9 @@ fn lose_own_piece<B: Backend>(
 ) -> Result<(), NoMemory>
     requires may { MayBring rows.old x r (length bytes.now) }
     requires room { 1 ≤ spare out.old }
-    ensures lost { OnOk result ((lim : Limits) (t : Tables) (w : Exchange) (v : Representation)
-        → MayLoseOwn t now r x w v alone → RowsStand lim rows.old t
-        → RowsStand lim rows.new (brought_lost now r x w bytes.now (as_gone (lost_to alone v))
+    ensures lost { OnOk result ((limits : Limits) (t : Tables) (w : Exchange) (v : Representation)
+        → MayLoseOwn t now r x w v alone → RowsStand limits rows.old t
+        → RowsStand limits rows.new (brought_lost now r x w bytes.now (as_gone (lost_to alone v))
         (own_loss now r v alone t))) }
     ensures acts { act_list out.new ≡ act_list out.old ++ act.Lost r kind ∷ [] }
     ensures faults { (shelf_of rows.new.entries).faults ≡ (shelf_of rows.old.entries).faults }
@@ -132,8 +132,8 @@ fn lose_shared_piece<B: Backend>(
 ) -> Result<(), NoMemory>
     requires may { MayBring rows.old x r (length bytes.now) }
     requires room { 2 ≤ spare out.old }
-    ensures lost { OnOk result ((lim : Limits) (t : Tables) (w : Exchange) (v : Representation)
-        → MayLosePiece t now r x w v → RowsStand lim rows.old t → LosesPiece lim rows.new t
+    ensures lost { OnOk result ((limits : Limits) (t : Tables) (w : Exchange) (v : Representation)
+        → MayLosePiece t now r x w v → RowsStand limits rows.old t → LosesPiece limits rows.new t
         (act_list out.old) (act_list out.new) now r x bytes.now w v kind) }
     ensures front { take (length (act_list out.old)) (act_list out.new) ≡ act_list out.old }
     ensures faults { (shelf_of rows.new.entries).faults ≡ (shelf_of rows.old.entries).faults }

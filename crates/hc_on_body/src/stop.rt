@@ -68,9 +68,9 @@ fn end_whole<B: Backend>(rows: &mut Rows<B>, now: u64, x: u64, out: &mut Acts)
     requires stands { ∥ Stands rows.old ∥₁ }
     requires running { is_open x (table_of rows.old.exchanges) ≡ true }
     requires room { 1 ≤ spare out.old }
-    ensures answers { (lim : Limits) (t : Tables) → Facts lim t → RowsStand lim rows.old t
+    ensures answers { (limits : Limits) (t : Tables) → Facts limits t → RowsStand limits rows.old t
         → denial t (End x) ≡ None → TellsNoLength t x
-        → Answered lim (shelf_of rows.old.entries).faults rows.new t
+        → Answered limits (shelf_of rows.old.entries).faults rows.new t
         (act_list out.old) (act_list out.new) now (End x) }
     ensures faults { (shelf_of rows.old.entries).faults ≤ (shelf_of rows.new.entries).faults }
 {
@@ -95,10 +95,10 @@ fn seal_whole<B: Backend>(rows: &mut Rows<B>, now: u64, r: u64, length: u64, out
     requires there { is_kept (shelf_of rows.old.entries) r ≡ true }
     requires short { length < 2 ^ 62 }
     requires room { 1 ≤ spare out.old }
-    ensures sealed { (lim : Limits) (t : Tables) (v : Representation) → MayLetGo t
+    ensures sealed { (limits : Limits) (t : Tables) (v : Representation) → MayLetGo t
         → t.representation r ≡ Some v → (v.is_gone ≡ false → v.alone ≡ None)
-        → RowsStand lim rows.old t
-        → SealedWhole lim (shelf_of rows.old.entries).faults rows.old rows.new t
+        → RowsStand limits rows.old t
+        → SealedWhole limits (shelf_of rows.old.entries).faults rows.old rows.new t
         (act_list out.old) (act_list out.new) now r v length }
     ensures exchanges { rows.new.exchanges ≡ rows.old.exchanges }
     ensures faults { (shelf_of rows.old.entries).faults ≤ (shelf_of rows.new.entries).faults }
@@ -124,8 +124,8 @@ fn was_shown<B: Backend>(rows: &Rows<B>, c: u64) -> bool
 fn break_wait<B: Backend>(rows: &mut Rows<B>, c: u64, x: u64)
     requires may { MayLeave rows.old c }
     requires running { is_open x (table_of rows.old.exchanges) ≡ true }
-    ensures broken { (lim : Limits) (t : Tables) (w : Exchange) (k : Consumer) → Facts lim t
-        → RowsStand lim rows.old t → Waited t x c w k → RowsStand lim rows.new
+    ensures broken { (limits : Limits) (t : Tables) (w : Exchange) (k : Consumer) → Facts limits t
+        → RowsStand limits rows.old t → Waited t x c w k → RowsStand limits rows.new
         (with_consumer c (Some (put_down (cause.Net x) k))
         (with_exchange x (Some (over w)) t)) }
     ensures faults { (shelf_of rows.new.entries).faults ≡ (shelf_of rows.old.entries).faults }
@@ -141,9 +141,9 @@ fn break_off<B: Backend>(rows: &mut Rows<B>, now: u64, x: u64, cause: Cause, out
     requires stands { ∥ Stands rows.old ∥₁ }
     requires running { is_open x (table_of rows.old.exchanges) ≡ true }
     requires room { 1 ≤ spare out.old }
-    ensures broken { (lim : Limits) (t : Tables) (w : Exchange) → Facts lim t
-        → RowsStand lim rows.old t → IsBroken t x w
-        → BrokeOff lim (shelf_of rows.old.entries).faults rows.new t
+    ensures broken { (limits : Limits) (t : Tables) (w : Exchange) → Facts limits t
+        → RowsStand limits rows.old t → IsBroken t x w
+        → BrokeOff limits (shelf_of rows.old.entries).faults rows.new t
         (act_list out.old) (act_list out.new) now x w cause }
     ensures faults { (shelf_of rows.old.entries).faults ≤ (shelf_of rows.new.entries).faults }
 {

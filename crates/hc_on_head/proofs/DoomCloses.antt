@@ -131,7 +131,7 @@ headless_row None on = false_true on
 headless_row (Some w) on = let parts = headless_parts w on in (w, refl, parts.0, parts.1)
 
 -- as it is kept
-pub bare_unheard : {B : Type 0} {g : Ghosts B} {lim : Limits} (r : Rows B g) (t : Tables) (key : List ℕ) (x : ℕ) → RowsStand lim r t → IsUnheard (table_of r.exchanges) key x → IsBare t key x
+pub bare_unheard : {B : Type 0} {g : Ghosts B} {limits : Limits} (r : Rows B g) (t : Tables) (key : List ℕ) (x : ℕ) → RowsStand limits r t → IsUnheard (table_of r.exchanges) key x → IsBare t key x
 bare_unheard r t key x stands is = by_row (t.exchange x) refl (subst (λ z. KeepsRunning t x z (t.exchange x)) is.running (stands.exchanges x).running)
   where
     by_row : (z : Option Exchange) → t.exchange x ≡ z → KeepsRunning t x (Some is.o) z → IsBare t key x
@@ -154,7 +154,7 @@ bare_awaited t key x (Some w) row on =
 
 -- FOR WHOSE HEAD ONE WAITS
 
-module _ {B : Type 0} {g : Ghosts B} {lim : Limits} (r : Rows B g) (t : Tables) (law : Lawful t) (key : List ℕ) (stands : RowsStand lim r t) where
+module _ {B : Type 0} {g : Ghosts B} {limits : Limits} (r : Rows B g) (t : Tables) (law : Lawful t) (key : List ℕ) (stands : RowsStand limits r t) where
   in_line_is : (c : ℕ) → is_in c (line_of r.keys key) ≡ stands_for t key (t.consumer c)
   in_line_is c = let line = stands.keys key in rw (line.in_line c, line.passed c, line.away c) refl
 

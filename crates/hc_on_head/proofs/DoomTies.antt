@@ -1,4 +1,4 @@
--- A doom: what is kept of consumers, and of exchanges, stands for the tables in which whoever waits has started over.
+-- A doom: what is kept of consumers, and of exchanges, represents the tables in which whoever waits has started over.
 use Rattle.std.proofs.Common.{◌≡◌, ℕ, zero, suc, ◌+◌, List, [], ◌∷◌, drop, Bool, true, false, eqb, Option, Some, None, refl, ap, sym, ◌∙◌, subst}
 use Rattle.std.specs.Prelude.{nat_eq, bytes_eq, option_map, ◌&&◌, ◌||◌, if◌then◌else◌}
 use Rattle.std.specs.HashMap.{get}
@@ -193,7 +193,7 @@ module _ (t : Tables) (law : Lawful t) (now : ℕ) (key xs : List ℕ) where
           let of_key : bytes_eq v.request.key key ≡ true = bytes-flip v.request.key key ∙ same in
           rw (of_key, at, cached, plain) refl
 
-  module _ {B : Type 0} {g : Ghosts B} {lim : Limits} (r u : Rows B g) (stands : RowsStand lim r t) (consumers : ChangesAmong r.consumers u.consumers (λ c. is_in c (line_of r.keys key)) (once_over now)) where
+  module _ {B : Type 0} {g : Ghosts B} {limits : Limits} (r u : Rows B g) (stands : RowsStand limits r t) (consumers : ChangesAmong r.consumers u.consumers (λ c. is_in c (line_of r.keys key)) (once_over now)) where
     pub in_line_is : (d : ℕ) → is_in d (line_of r.keys key) ≡ stands_for t key (t.consumer d)
     in_line_is d = let line = stands.keys key in rw (line.in_line d, line.passed d, line.away d) refl
 

@@ -36,8 +36,8 @@ use Rattle.hc_state.specs.Renewals.{IsUnrenewed}
 use Rattle.hc_state.specs.Room.{HasActs, LeavesActs, GivesWay, loss_by, room_for_write}
 use Rattle.hc_state.specs.Stands.{Answered, RowsStand, Stands}
 use Rattle.hc_state.specs.Stored.{KeepsEntry}
-use Rattle.hc_on_leave.proofs.AnswerArm.{reader_kept}
-use Rattle.hc_on_leave.proofs.FoundArm.{fallback, first, second, es, m, may_fallback, may_first, make_second, one_way, m_unfounded, m_asker, read_alone, founds_answered, lost_answered, full_told}
+use Rattle.hc_on_leave.proofs.AnswerHandler.{reader_kept}
+use Rattle.hc_on_leave.proofs.FoundHandler.{fallback, first, second, es, m, may_fallback, may_first, make_second, one_way, m_unfounded, m_asker, read_alone, founds_answered, lost_answered, full_told}
 use Rattle.hc_on_head.proofs.HeadTold.{past_of_runs}
 use Rattle.hc_on_leave.proofs.HeardRows.{Asker, Headless, asker, headless_of, heard_row, runs_as}
 use Rattle.hc_state.proofs.Maps.{known_of, merely_below, merely_false}
@@ -62,12 +62,12 @@ key_told r now x c g response f = by_row (get nat_eq r.consumers c)
 
 module _ {B : Type 0} {b : Ghosts B} (r r1 r2 r3 : Rows B b) (now x c : ℕ) (gone told : Option ℕ) (key : List ℕ) (accepted : head_refusal (option_map open_view (table_of r.exchanges x).running) ≡ None) (asks : IsAskedBy c (table_of r.exchanges x).running)
     (key_is : (o : Open) → (table_of r.exchanges x).running ≡ Some o → key ≡ o.request.key) (told_is : told ≡ (kept_of r.keys key).current)
-    (falls_back : (lim : Limits) (t : Tables) (y : ℕ) (w : Exchange) (k : rows.Consumer) → Facts lim t → AwaitsHead t y w k → w.c ≡ c → StandsApart y (place.Direct x) → RowsStand lim r t → RowsStand lim r1 (with_consumer c (Some (record k { place = place.Direct x })) t))
-    (goes_first : (lim : Limits) (t : Tables) → MayLetGo t → RowsStand lim r1 t → RowsStand lim r2 (let_some_go now gone t)) (goes_second : (lim : Limits) (t : Tables) → MayLetGo t → RowsStand lim r2 t → RowsStand lim r3 (let_some_go now told t)) where
+    (falls_back : (limits : Limits) (t : Tables) (y : ℕ) (w : Exchange) (k : rows.Consumer) → Facts limits t → AwaitsHead t y w k → w.c ≡ c → StandsApart y (place.Direct x) → RowsStand limits r t → RowsStand limits r1 (with_consumer c (Some (record k { place = place.Direct x })) t))
+    (goes_first : (limits : Limits) (t : Tables) → MayLetGo t → RowsStand limits r1 t → RowsStand limits r2 (let_some_go now gone t)) (goes_second : (limits : Limits) (t : Tables) → MayLetGo t → RowsStand limits r2 t → RowsStand limits r3 (let_some_go now told t)) where
   pub h : Headless (table_of r.exchanges x).running
   h = headless_of (table_of r.exchanges x).running accepted
 
-  module _ {lim : Limits} (t : Tables) (facts : Facts lim t) (stands : RowsStand lim r t) (w : Exchange) (row : t.exchange x ≡ Some w) where
+  module _ {limits : Limits} (t : Tables) (facts : Facts limits t) (stands : RowsStand limits r t) (w : Exchange) (row : t.exchange x ≡ Some w) where
     pub runs : IsRunning t x h.o w
     runs = runs_as r t x h.o w stands h.there row
 
@@ -81,19 +81,19 @@ module _ {B : Type 0} {b : Ghosts B} (r r1 r2 r3 : Rows B b) (now x c : ℕ) (go
     told_now = told_is ∙ ((stands.keys key).current ∙ ap (current t) (key_is h.o h.there ∙ ap (λ (q : Request). q.key) runs.request))
 
     abbrev pub left : Tables
-    left = second lim t facts now x w a.v a.awaits gone
+    left = second limits t facts now x w a.v a.awaits gone
 
-    pub stood : RowsStand lim r3 left
+    pub stood : RowsStand limits r3 left
     stood =
-        subst (λ (o : Option ℕ). RowsStand lim r3 (let_some_go now o (first lim t facts now x w a.v a.awaits gone))) told_now
-        (goes_second _ (first lim t facts now x w a.v a.awaits gone) (may_first lim t facts now x w a.v a.awaits gone)
-        (goes_first _ (fallback lim t facts now x w a.v a.awaits gone) (may_fallback lim t facts now x w a.v a.awaits gone)
-        (subst (λ (d : ℕ). RowsStand lim r1 (with_consumer d (Some (record a.v { place = place.Direct x })) t)) (sym for_it) (falls_back _ t x w a.v facts a.awaits for_it refl stands))))
+        subst (λ (o : Option ℕ). RowsStand limits r3 (let_some_go now o (first limits t facts now x w a.v a.awaits gone))) told_now
+        (goes_second _ (first limits t facts now x w a.v a.awaits gone) (may_first limits t facts now x w a.v a.awaits gone)
+        (goes_first _ (fallback limits t facts now x w a.v a.awaits gone) (may_fallback limits t facts now x w a.v a.awaits gone)
+        (subst (λ (d : ℕ). RowsStand limits r1 (with_consumer d (Some (record a.v { place = place.Direct x })) t)) (sym for_it) (falls_back _ t x w a.v facts a.awaits for_it refl stands))))
 
     pub one_acts : (count : ℕ) → room_for_write r3 write.Slot ≡ room.After count → count ≤ 1
     one_acts count is =
-        one_way lim t facts now x w a.v a.awaits gone count
-        (sym (room_is r3 left (make_second lim t facts now x w a.v a.awaits gone) stood write.Slot) ∙ is)
+        one_way limits t facts now x w a.v a.awaits gone count
+        (sym (room_is r3 left (make_second limits t facts now x w a.v a.awaits gone) stood write.Slot) ∙ is)
 
   module _ (some : ∥ Stands r ∥₁) where
     few_acts : (count : ℕ) → room_for_write r3 write.Slot ≡ room.After count → count < 2
@@ -119,11 +119,11 @@ module _ {B : Type 0} {b : Ghosts B} (r r1 r2 r3 : Rows B b) (now x c : ℕ) (go
         by_room room.TooLarge is same = omega (arith, le, same)
         by_room room.Full is same = omega (arith, le, same)
 
-  module _ (u : Rows B b) (before mid : List Act) (made : (lim : Limits) (t : Tables) → MayMakeRoom t → RowsStand lim r3 t → GivesWay lim u t now (giving_way lim t write.Slot) before mid) where
-    module _ {lim : Limits} (t : Tables) (facts : Facts lim t) (stands : RowsStand lim r t) (w : Exchange) (row : t.exchange x ≡ Some w) where
-      pub gives : GivesWay lim u (left t facts stands w row) now (es lim t facts now x w (a t facts stands w row).v (a t facts stands w row).awaits gone) before mid
+  module _ (u : Rows B b) (before mid : List Act) (made : (limits : Limits) (t : Tables) → MayMakeRoom t → RowsStand limits r3 t → GivesWay limits u t now (giving_way limits t write.Slot) before mid) where
+    module _ {limits : Limits} (t : Tables) (facts : Facts limits t) (stands : RowsStand limits r t) (w : Exchange) (row : t.exchange x ≡ Some w) where
+      pub gives : GivesWay limits u (left t facts stands w row) now (es limits t facts now x w (a t facts stands w row).v (a t facts stands w row).awaits gone) before mid
       gives =
-          made _ (left t facts stands w row) (make_second lim t facts now x w (a t facts stands w row).v (a t facts stands w row).awaits gone) (stood t facts stands w row)
+          made _ (left t facts stands w row) (make_second limits t facts now x w (a t facts stands w row).v (a t facts stands w row).awaits gone) (stood t facts stands w row)
 
     pub new_kept : ∥ Stands r ∥₁ → (shelf_of u.entries).kept x ≡ None
     new_kept some = none_of ((shelf_of u.entries).kept x) (merely_false (is_some ((shelf_of u.entries).kept x)) some (λ s.
@@ -140,7 +140,7 @@ module _ {B : Type 0} {b : Ghosts B} (r r1 r2 r3 : Rows B b) (now x c : ℕ) (go
 
     -- IT IS ANSWERED
 
-    module _ {lim : Limits} (u_exchanges : u.exchanges ≡ r.exchanges) (g : HeadCase) (on : is_founding (Some g) ≡ true) (response : Response) (f : Founding) (t : Tables) (facts : Facts lim t) (stands : RowsStand lim r t) (w : Exchange) (goes : denial t (event.Head x response) ≡ None) (row : t.exchange x ≡ Some w) (is : head_case (head_view t false w response) ≡ g) (same : gone ≡ goes_with t w response g) where
+    module _ {limits : Limits} (u_exchanges : u.exchanges ≡ r.exchanges) (g : HeadCase) (on : is_founding (Some g) ≡ true) (response : Response) (f : Founding) (t : Tables) (facts : Facts limits t) (stands : RowsStand limits r t) (w : Exchange) (goes : denial t (event.Head x response) ≡ None) (row : t.exchange x ≡ Some w) (is : head_case (head_view t false w response) ≡ g) (same : gone ≡ goes_with t w response g) where
       founds : Founds g
       founds = founds_of g on
 
@@ -148,31 +148,31 @@ module _ {B : Type 0} {b : Ghosts B} (r r1 r2 r3 : Rows B b) (now x c : ℕ) (go
       its = a t facts stands w row
 
       abbrev roomy : Tables
-      roomy = m lim t facts now x w its.v its.awaits gone
+      roomy = m limits t facts now x w its.v its.awaits gone
 
       -- where the store took it
       pub taken : (z : Rows B b) (n : ℕ) → IsSomeAnd (get nat_eq r.consumers c) (λ k. (o : Open) → (table_of r.exchanges x).running ≡ Some o → IsFounding o k g now response f) → BeginsFounding u z x c f response
-          → (result : Result (Unit {0}) StoreError) (v : Unit {0}) → result ≡ Ok v → IsWithin (shelf_of u.entries).limits 0 ((shelf_of u.entries).used + 32768) result → Answered lim n z t before mid now (event.Head x response)
+          → (result : Result (Unit {0}) StoreError) (v : Unit {0}) → result ≡ Ok v → IsWithin (shelf_of u.entries).limits 0 ((shelf_of u.entries).used + 32768) result → Answered limits n z t before mid now (event.Head x response)
       taken z n founding begins result v is_ok told =
           let within : IsWithin {T = Unit {0}} (shelf_of u.entries).limits 0 ((shelf_of u.entries).used + 32768) (Ok v) = subst (IsWithin (shelf_of u.entries).limits 0 ((shelf_of u.entries).used + 32768)) is_ok told in
           let asked_at : get nat_eq r.consumers c ≡ Some its.k = ap (get nat_eq r.consumers) (sym (for_it t facts stands w row)) ∙ its.there in
           let made_it = known_of (get nat_eq r.consumers c) its.k (λ k. (o : Open) → (table_of r.exchanges x).running ≡ Some o → IsFounding o k g now response f) asked_at founding h.o h.there in
-          let reader = reader_kept u roomy w.c x (record its.v { place = place.Direct x }) (gives t facts stands w row).rows (m_asker lim t facts now x w its.v its.awaits gone) refl in
+          let reader = reader_kept u roomy w.c x (record its.v { place = place.Direct x }) (gives t facts stands w row).rows (m_asker limits t facts now x w its.v its.awaits gone) refl in
           let fits = (within.ok refl).1 in
-          founds_answered lim t facts now x response goes w its.v its.awaits g founds is gone same u n before mid (gives t facts stands w row) z reader.0 its.k h.o f reader.1
+          founds_answered limits t facts now x response goes w its.v its.awaits g founds is gone same u n before mid (gives t facts stands w row) z reader.0 its.k h.o f reader.1
           (ap (λ (e : Exchanges). (table_of e x).running) u_exchanges ∙ h.there) (ap (λ (e : RequestClass). e.range) its.is.class_is ∙ class_range its.v.request) made_it
           (subst (λ (d : ℕ). BeginsFounding u z x d f response) (sym (for_it t facts stands w row)) begins)
           (subst (λ (l : Limits). (shelf_of u.entries).used + 32768 ≤ l.max_total) (gives t facts stands w row).rows.limits fits)
 
       -- and where it refused it
-      may_by : (error : StoreError) (kind : LostKind) → loss_by error ≡ Some kind → IsWithin {T = Unit {0}} (shelf_of u.entries).limits 0 ((shelf_of u.entries).used + 32768) (Err error) → may_lose (room_for lim t now (event.Head x response)) kind ≡ true
-      may_by errors.Fault kind lost within = (let one : kinds.Fault ≡ kind = some_is kinds.Fault kind lost in subst (λ (e : LostKind). may_lose (room_for lim t now (event.Head x response)) e ≡ true) one refl)
+      may_by : (error : StoreError) (kind : LostKind) → loss_by error ≡ Some kind → IsWithin {T = Unit {0}} (shelf_of u.entries).limits 0 ((shelf_of u.entries).used + 32768) (Err error) → may_lose (room_for limits t now (event.Head x response)) kind ≡ true
+      may_by errors.Fault kind lost within = (let one : kinds.Fault ≡ kind = some_is kinds.Fault kind lost in subst (λ (e : LostKind). may_lose (room_for limits t now (event.Head x response)) e ≡ true) one refl)
       may_by errors.TooLarge kind lost within = absurd (let never = within.too_large refl in omega (arith, never))
       may_by errors.Full kind lost within =
           let one : kinds.Full ≡ kind = some_is kinds.Full kind lost in
           let past = (within.full refl).1 in
-          subst (λ (e : LostKind). may_lose (room_for lim t now (event.Head x response)) e ≡ true) one
-          (full_told lim t facts now x response goes w its.v its.awaits g founds is gone same u 0 before mid (gives t facts stands w row)
+          subst (λ (e : LostKind). may_lose (room_for limits t now (event.Head x response)) e ≡ true) one
+          (full_told limits t facts now x response goes w its.v its.awaits g founds is gone same u 0 before mid (gives t facts stands w row)
           (subst (λ (l : Limits). l.max_total < (shelf_of u.entries).used + 32768) (gives t facts stands w row).rows.limits past))
       may_by errors.NoMemory kind lost within = none_some kind lost
 
@@ -193,15 +193,15 @@ module _ {B : Type 0} {b : Ghosts B} (r r1 r2 r3 : Rows B b) (now x c : ℕ) (go
       pub refused : (y z : Rows B b) (error : StoreError) (kind : LostKind) (out : List Act) → loss_by error ≡ Some kind → (result : Result (Unit {0}) StoreError) → result ≡ Err error → ((err_of error ≡ err_of errors.NoMemory → ⊥) → IsUnrenewed u y)
           → IsWithin (shelf_of u.entries).limits 0 ((shelf_of u.entries).used + 32768) result → HasCause (shelf_of u.entries).faults (shelf_of y.entries).faults result
           → (shelf_of u.entries).faults ≡ (shelf_of r.entries).faults → (shelf_of z.entries).faults ≡ (shelf_of y.entries).faults
-          → ((lim : Limits) (s : Tables) (e : Exchange) (k : rows.Consumer) → IsReadAlone s x e k → e.c ≡ c → RowsStand lim y s → RowsStand lim z (with_answer now x response e.joined e s)) → out ≡ mid ++ (act.Lost x kind ∷ [])
-          → Answered lim (shelf_of r.entries).faults z t before out now (event.Head x response)
+          → ((limits : Limits) (s : Tables) (e : Exchange) (k : rows.Consumer) → IsReadAlone s x e k → e.c ≡ c → RowsStand limits y s → RowsStand limits z (with_answer now x response e.joined e s)) → out ≡ mid ++ (act.Lost x kind ∷ [])
+          → Answered limits (shelf_of r.entries).faults z t before out now (event.Head x response)
       refused y z error kind out lost result is_err unless told caused was after past acts =
           let within : IsWithin {T = Unit {0}} (shelf_of u.entries).limits 0 ((shelf_of u.entries).used + 32768) (Err error) = subst (IsWithin (shelf_of u.entries).limits 0 ((shelf_of u.entries).used + 32768)) is_err told in
           let cause : HasCause {T = Unit {0}} (shelf_of u.entries).faults (shelf_of y.entries).faults (Err error) = subst (HasCause (shelf_of u.entries).faults (shelf_of y.entries).faults) is_err caused in
           let stays = unless (λ same. lost_apart error kind lost same) in
           let rest = stays.rest in
-          let alone = read_alone lim t facts now x response goes w its.v its.awaits g founds is gone same in
+          let alone = read_alone limits t facts now x response goes w its.v its.awaits g founds is gone same in
           let rows_y = stands_read u y roomy rest.last_start rest.consumers rest.exchanges rest.keys stays.same (gives t facts stands w row).rows in
-          lost_answered lim t facts now x response goes w its.v its.awaits g founds is gone same u (shelf_of r.entries).faults before mid (gives t facts stands w row) z kind out
+          lost_answered limits t facts now x response goes w its.v its.awaits g founds is gone same u (shelf_of r.entries).faults before mid (gives t facts stands w row) z kind out
           (past _ roomy w (record its.v { place = place.Direct x }) alone (for_it t facts stands w row) rows_y) acts (may_by error kind lost within)
           (λ fault. (let more = fault_by error kind (shelf_of u.entries).faults (shelf_of y.entries).faults lost cause fault in subst (λ n. n < (shelf_of z.entries).faults) was (subst (λ n. (shelf_of u.entries).faults < n) (sym after) more)))

@@ -16,7 +16,7 @@ use Rattle.hc_exch.specs.Exchanges.{table_of, Becomes}
 use Rattle.hc_exch.specs.Known.{Known, with_good_head, turned_into, length_by, begins_with}
 use Rattle.hc_exch.specs.Openings.{opened_with}
 use Rattle.hc_state.specs.Founding.{brings_body}
-use Rattle.hc_on_leave.proofs.AnswerArm.{known_here, known_other, opened_as}
+use Rattle.hc_on_leave.proofs.AnswerHandler.{known_here, known_other, opened_as}
 
 -- its length doesn't look at what it is to the cache
 length_turned : (kind : Role) (running : Option Open) (response : Response) → length_by (option_map (λ (o : Open). record o { role = kind }) running) response ≡ length_by running response

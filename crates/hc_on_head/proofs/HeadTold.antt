@@ -24,7 +24,7 @@ use Rattle.hc_effects.proofs.Basics.{some_row}
 use Rattle.hc_effects.proofs.Tests.{none_some}
 use Rattle.hc_state.specs.declared.consumer.Consumer.{Consumer}
 use Rattle.hc_state.specs.declared.rows.Rows.{Rows}
-use Rattle.hc_state.specs.Arms.{IsInKey}
+use Rattle.hc_state.specs.Handlers.{IsInKey}
 use Rattle.hc_state.specs.Facts.{Facts}
 use Rattle.hc_state.specs.Founding.{MayFound}
 use Rattle.hc_state.specs.Heads.{aim_in, kept_at, heard_view, changes_by, is_past_case, is_bad_case, IsPastStore, puts_down, goes_past, starts_anew, let_go_by, goes_with}
@@ -32,12 +32,12 @@ use Rattle.hc_state.specs.Kept.{IsRunning}
 use Rattle.hc_state.specs.Lines.{is_away, is_away_at}
 use Rattle.hc_state.specs.Stands.{RowsStand, Stands}
 use Rattle.hc_on_leave.proofs.HeadCases.{it_is}
-use Rattle.hc_on_head.specs.Comings.{IsHeard, IsPast}
+use Rattle.hc_on_head.specs.Comings.{MayCome, IsPast}
 use Rattle.hc_on_head.proofs.HeadViews.{case_is, aim_is, view_is as views_as}
 use Rattle.hc_on_leave.proofs.HeardRows.{Asker, Headless, asker, headless_of, heard_row, runs_as}
 use Rattle.hc_state.proofs.KeySteps.{lined}
 use Rattle.hc_state.proofs.Maps.{merely_true, some_that}
-use Rattle.hc_on_leave.proofs.UnstoredArms.{awaits_viewed}
+use Rattle.hc_on_leave.proofs.UnstoredHandlers.{awaits_viewed}
 
 -- A BAD HEAD IS OF A BAD CASE
 
@@ -74,7 +74,7 @@ good_told running o c response k kept there lives tells off =
 pub viewed_as : (x : ℕ) (running : Option Open) (o : Open) (found : Option ExchangeView) (v : ExchangeView) → running ≡ Some o → found ≡ option_map (view_of x) running → found ≡ Some v → v ≡ view_of x o
 viewed_as x running o found v there is at = sym (some_is (view_of x o) v (sym (ap (option_map (view_of x)) there) ∙ (sym is ∙ at)))
 
-module _ {B : Type 0} {g : Ghosts B} {lim : Limits} (r : Rows B g) (t : Tables) (facts : Facts lim t) (stands : RowsStand lim r t) (x : ℕ) (o : Open) (there : (table_of r.exchanges x).running ≡ Some o) (headless : o.headed ≡ false) where
+module _ {B : Type 0} {g : Ghosts B} {limits : Limits} (r : Rows B g) (t : Tables) (facts : Facts limits t) (stands : RowsStand limits r t) (x : ℕ) (o : Open) (there : (table_of r.exchanges x).running ≡ Some o) (headless : o.headed ≡ false) where
   -- the exchange, and its consumer
   pub record HeardAs : Type 0 where
     pub w : Exchange
@@ -100,7 +100,7 @@ module _ {B : Type 0} {g : Ghosts B} {lim : Limits} (r : Rows B g) (t : Tables) 
   asker_lives c same = (let h = heard_as in ap (λ (z : Option Consumer). is_some z) (ap (get nat_eq r.consumers) (sym (h.for_it ∙ same)) ∙ h.asked.there))
 
 -- whoever waits to found or to join is kept by its key
-waits_in_key : {B : Type 0} {g : Ghosts B} {lim : Limits} (r : Rows B g) (t : Tables) (facts : Facts lim t) (stands : RowsStand lim r t) (x : ℕ) (w : Exchange) (a : Asker r t x w) → awaited_exchange a.v.place ≡ Some x → is_in w.c (line_of r.keys a.k.request.key) ≡ true
+waits_in_key : {B : Type 0} {g : Ghosts B} {limits : Limits} (r : Rows B g) (t : Tables) (facts : Facts limits t) (stands : RowsStand limits r t) (x : ℕ) (w : Exchange) (a : Asker r t x w) → awaited_exchange a.v.place ≡ Some x → is_in w.c (line_of r.keys a.k.request.key) ≡ true
 waits_in_key r t facts stands x w a waits = by_place a.v.place refl waits
   where
     key : List ℕ
@@ -200,7 +200,7 @@ pub record Told (t : Tables) (x : ℕ) (response : Response) (k : HeadCase) (goe
   pub doomless : doomed_by_case (Some k) w response ≡ None
   pub same : goes ≡ goes_with t w response k
 
-module _ {B : Type 0} {g : Ghosts B} {lim : Limits} (r : Rows B g) (t : Tables) (facts : Facts lim t) (stands : RowsStand lim r t) (x c : ℕ) (o : Open) (there : (table_of r.exchanges x).running ≡ Some o) (headless : o.headed ≡ false) (same_c : o.c ≡ c) (response : Response) (k : HeadCase)
+module _ {B : Type 0} {g : Ghosts B} {limits : Limits} (r : Rows B g) (t : Tables) (facts : Facts limits t) (stands : RowsStand limits r t) (x c : ℕ) (o : Open) (there : (table_of r.exchanges x).running ≡ Some o) (headless : o.headed ≡ false) (same_c : o.c ≡ c) (response : Response) (k : HeadCase)
     (tells : (q : Open) (u : Consumer) → (table_of r.exchanges x).running ≡ Some q → get nat_eq r.consumers c ≡ Some u → k ≡ head_case (heard_view q u (kept_at (shelf_of r.entries) (aim_in o.role)) response)) where
   h : HeardAs r t facts stands x o there headless
   h = heard_as r t facts stands x o there headless
@@ -363,14 +363,14 @@ module _ {B : Type 0} {g : Ghosts B} (r : Rows B g) (x : ℕ) (response : Respon
       (merely_true (is_in v.c (line_of r.keys u.0.request.key)) some_past
       (λ p. (let s = past p in waits_told r s.0 s.1 s.2 x v.c bare.o bare.there bare.headless for_c response k tells_as on u.0 u.1)))
 
-  pub told_as : {lim : Limits} (t : Tables) (facts : Facts lim t) (stands : RowsStand lim r t) (d : Bool) (goes : Option ℕ) → ((q : Open) → (table_of r.exchanges x).running ≡ Some q → d ≡ (is_past_case k && changes_by q.request response)) → d ≡ false
+  pub told_as : {limits : Limits} (t : Tables) (facts : Facts limits t) (stands : RowsStand limits r t) (d : Bool) (goes : Option ℕ) → ((q : Open) → (table_of r.exchanges x).running ≡ Some q → d ≡ (is_past_case k && changes_by q.request response)) → d ≡ false
       → ((q : Open) → (table_of r.exchanges x).running ≡ Some q → goes ≡ let_go_by (kept_of r.keys q.request.key).current aim response.status k) → (k ≡ case.NotValidated → ⊥) → Told t x response k goes
   told_as t facts stands d goes dooms off goes_is apart =
       told_of r t facts stands x v.c bare.o bare.there bare.headless for_c response k tells_as apart goes (sym (dooms bare.o bare.there) ∙ off)
       (goes_is bare.o bare.there ∙ ap (λ (a : Option ℕ). let_go_by (kept_of r.keys bare.o.request.key).current a response.status k) aim_as)
 
   -- where it may select what is stored
-  pub told_unselected : {lim : Limits} (t : Tables) (facts : Facts lim t) (stands : RowsStand lim r t) → k ≡ case.NotValidated → ToldUnselected t x response aim
+  pub told_unselected : {limits : Limits} (t : Tables) (facts : Facts limits t) (stands : RowsStand limits r t) → k ≡ case.NotValidated → ToldUnselected t x response aim
   told_unselected t facts stands is_k =
       let e = h r t facts stands x v.c bare.o bare.there bare.headless for_c response k tells_as in
       let its = here r t facts stands x v.c bare.o bare.there bare.headless for_c response k tells_as in
@@ -400,7 +400,7 @@ module _ {B : Type 0} {g : Ghosts B} (r : Rows B g) (x : ℕ) (response : Respon
     pub past_as : (now : ℕ) → is_some (get nat_eq r.consumers v.c) ≡ true → IsPast r (record { now = now; x = x; c = v.c }) k response
     past_as now lives = record { opened = past_store lives; case_is = dooms_past; good = good_as lives }
 
-    pub told_dooming : {lim : Limits} (t : Tables) (facts : Facts lim t) (stands : RowsStand lim r t) → ToldDooming t x response k
+    pub told_dooming : {limits : Limits} (t : Tables) (facts : Facts limits t) (stands : RowsStand limits r t) → ToldDooming t x response k
     told_dooming t facts stands =
         let e = h r t facts stands x v.c bare.o bare.there bare.headless for_c response k tells_as in
         record {
@@ -470,7 +470,7 @@ live_now r x found v accepted viewed some some_past =
 
 -- its exchange is open without a head, for its consumer
 pub heard_now : {B : Type 0} {g : Ghosts B} (r : Rows B g) (now x : ℕ) (found : Option ExchangeView) (v : ExchangeView) → head_refusal (option_map open_view (table_of r.exchanges x).running) ≡ None → found ≡ option_map (view_of x) (table_of r.exchanges x).running → found ≡ Some v → ∥ Stands r ∥₁
-    → IsHeard r (record { now = now; x = x; c = v.c })
+    → MayCome r (record { now = now; x = x; c = v.c })
 heard_now r now x found v accepted viewed some some_past = record {
   stands = some_past;
   accepted = accepted;

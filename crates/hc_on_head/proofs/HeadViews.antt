@@ -68,7 +68,7 @@ request_ordered request None is = tt
 request_ordered request (Some asked) is = range_order request asked is
 
 -- what a consumer asks for is in order
-pub range_ordered : {B : Type 0} {g : Ghosts B} {lim : Limits} (r : Rows B g) (t : Tables) (c : ℕ) (k : Consumer) → get nat_eq r.consumers c ≡ Some k → RowsStand lim r t → IfSome k.class.range IsInOrder
+pub range_ordered : {B : Type 0} {g : Ghosts B} {limits : Limits} (r : Rows B g) (t : Tables) (c : ℕ) (k : Consumer) → get nat_eq r.consumers c ≡ Some k → RowsStand limits r t → IfSome k.class.range IsInOrder
 unfolding class_of
 range_ordered r t c k at stands =
     let found = kept_row t k (t.consumer c) (subst (λ o. KeepsConsumer t o (t.consumer c)) at (stands.consumers c)) in
@@ -168,7 +168,7 @@ joins_same t r from to e v response is absent = by_length is.length
 
 -- WHAT THE TABLES SAY
 
-module _ {B : Type 0} {g : Ghosts B} {lim : Limits} (r : Rows B g) (t : Tables) (facts : Facts lim t) (stands : RowsStand lim r t) (x : ℕ) (w : Exchange) (a : Asker r t x w) (o : Open) (running : (table_of r.exchanges x).running ≡ Some o) (response : Response) where
+module _ {B : Type 0} {g : Ghosts B} {limits : Limits} (r : Rows B g) (t : Tables) (facts : Facts limits t) (stands : RowsStand limits r t) (x : ℕ) (w : Exchange) (a : Asker r t x w) (o : Open) (running : (table_of r.exchanges x).running ≡ Some o) (response : Response) where
   runs : IsRunning t x o w
   runs = runs_as r t x o w stands running a.awaits.row
 

@@ -1,4 +1,4 @@
--- The head of an exchange came that brings bytes of a hole: what is kept of representations stands for the tables then.
+-- The head of an exchange came that brings bytes of a hole: what is kept of representations represents the tables then.
 use Rattle.std.proofs.Common.{◌≡◌, ◌≢◌, inl, inr, ℕ, true, false, Option, Some, refl, ap, sym, ◌∙◌, subst}
 use Rattle.std.specs.Prelude.{nat_eq}
 use Rattle.hc_text.proofs.Basics.{eqb-other, eqb-same, false_true, filters_same, same_or, and_off as then_false}

@@ -1,4 +1,4 @@
--- A consumer waits for its key no more: what is kept by key stands for the tables without it.
+-- A consumer waits for its key no more: what is kept by key represents the tables without it.
 use Rattle.std.proofs.Common.{◌≡◌, ℕ, List, Bool, true, false, Some, None, refl, ap, sym, ◌∙◌, subst}
 use Rattle.std.specs.Prelude.{bytes_eq, ◌||◌}
 use Rattle.hc_rules.proofs.RangeReads.{same_bytes}
@@ -10,7 +10,7 @@ use Rattle.hc_entry.specs.Lines.{is_among, is_in, left_by}
 use Rattle.hc_effects.proofs.Vocabulary.{with_consumer, is_in_line, holds_turn, Tables}
 use Rattle.hc_effects.proofs.Tests.{and_false}
 use Rattle.hc_model.specs.Rows as rows
-use Rattle.hc_state.specs.Arms.{LeftIf}
+use Rattle.hc_state.specs.Handlers.{LeftIf}
 use Rattle.hc_state.specs.Leaving.{LeavesKey}
 use Rattle.hc_state.specs.Lines.{KeepsKey, has_turn, is_passed, is_away}
 use Rattle.hc_state.proofs.ConsumerSteps.{SaysOfIt, key_with, key_stays, keys_with}

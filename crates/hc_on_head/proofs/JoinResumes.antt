@@ -29,9 +29,9 @@ use Rattle.hc_state.specs.Joining.{LacksOnly}
 use Rattle.hc_state.specs.Kept.{KeepsConsumer, KeepsRunning}
 use Rattle.hc_state.specs.Stands.{RowsStand}
 use Rattle.hc_state.specs.Stored.{IsEntry}
-use Rattle.hc_on_leave.proofs.AnswerArm.{opened_as}
+use Rattle.hc_on_leave.proofs.AnswerHandler.{opened_as}
 use Rattle.hc_state.proofs.CurrentTies.{covers_as, entry_at, stored_ends}
-use Rattle.hc_on_leave.proofs.StoreArm.{stored_size}
+use Rattle.hc_on_leave.proofs.StoreHandler.{stored_size}
 use Rattle.hc_state.proofs.Ties.{kept_row}
 
 -- a request for the whole has no range
@@ -50,7 +50,7 @@ lacks_is (Some k) view from response b viewed size_is last tells =
 
 -- THE HOLE
 
-module _ {B : Type 0} {g : Ghosts B} {lim : Limits} (r : Rows B g) (t : Tables) (x : ℕ) (op : Opening) (w : Exchange) (from to : ℕ) (stands : RowsStand lim r t) (row : t.exchange x ≡ Some w) (opened : w.is_open ≡ true) (opens : Some (opened_with op) ≡ option_map begins_with (table_of r.exchanges x).running) (hole : w.need ≡ need.Hole from to) where
+module _ {B : Type 0} {g : Ghosts B} {limits : Limits} (r : Rows B g) (t : Tables) (x : ℕ) (op : Opening) (w : Exchange) (from to : ℕ) (stands : RowsStand limits r t) (row : t.exchange x ≡ Some w) (opened : w.is_open ≡ true) (opens : Some (opened_with op) ≡ option_map begins_with (table_of r.exchanges x).running) (hole : w.need ≡ need.Hole from to) where
   need_is : op.need.now ≡ need.Hole from to
   need_is = by_running (table_of r.exchanges x).running refl (subst (KeepsRunning t x (table_of r.exchanges x).running) row (stands.exchanges x).running)
     where
@@ -64,7 +64,7 @@ module _ {B : Type 0} {g : Ghosts B} {lim : Limits} (r : Rows B g) (t : Tables) 
   pub is_start : (a b : ℕ) → op.need.now ≡ need.Hole a b → a ≡ from
   is_start a b is = (let same : need.Hole a b ≡ need.Hole from to = sym is ∙ need_is in cc)
 
-module _ {B : Type 0} {g : Ghosts B} {lim : Limits} (r : Rows B g) (t : Tables) (facts : Facts lim t) (stands : RowsStand lim r t) (q c from to : ℕ) (response : Response) (w : Exchange) (p : Representation) (k : Consumer) (e : Kept)
+module _ {B : Type 0} {g : Ghosts B} {limits : Limits} (r : Rows B g) (t : Tables) (facts : Facts limits t) (stands : RowsStand limits r t) (q c from to : ℕ) (response : Response) (w : Exchange) (p : Representation) (k : Consumer) (e : Kept)
     (hole : w.need ≡ need.Hole from to) (for_it : w.c ≡ c) (there : get nat_eq r.consumers c ≡ Some k) (row : t.representation q ≡ Some p) (stays : p.is_lost ≡ false) (kept : (shelf_of r.entries).kept q ≡ Some e) (told : e.head.total ≡ p.head.total) where
   is : IsEntry t q e p
   is = entry_at r t stands q e kept p row

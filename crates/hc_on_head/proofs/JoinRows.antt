@@ -1,4 +1,4 @@
--- The head of an exchange came that brings bytes of a hole: what is kept stands for the tables then.
+-- The head of an exchange came that brings bytes of a hole: what is kept represents the tables then.
 use Rattle.std.proofs.Common.{◌≡◌, ◌≢◌, ◌⊎◌, inl, inr, ℕ, ◌-◌, List, [], Bool, true, false, Option, Some, None, refl, ap, sym, ◌∙◌, subst}
 use Rattle.std.specs.Prelude.{is_some, nat_eq, drop, bytes_eq, option_map, ◌&&◌, if◌then◌else◌}
 use Rattle.std.specs.HashMap.{get}
@@ -27,7 +27,7 @@ use Rattle.hc_state.specs.Leaving.{LeavesKey}
 use Rattle.hc_state.specs.Lines.{KeepsKey, has_turn, is_passed, is_away, is_away_at}
 use Rattle.hc_state.specs.Stands.{RowsStand}
 use Rattle.hc_state.specs.Stored.{KeepsEntries}
-use Rattle.hc_on_leave.proofs.AnswerArm.{all_reached, known_here, known_other}
+use Rattle.hc_on_leave.proofs.AnswerHandler.{all_reached, known_here, known_other}
 use Rattle.hc_state.proofs.FallbackSteps.{live_same, length_same}
 use Rattle.hc_state.proofs.Fallbacks.{unstored_moved}
 use Rattle.hc_on_leave.proofs.HeardExchange.{drop_none, held_empty}
@@ -311,8 +311,8 @@ module _ (t : Tables) (now x q : ℕ) (response : Response) (w : Exchange) (v : 
 
   -- ALL OF IT
 
-  module _ {B : Type 0} {g : Ghosts B} {lim : Limits} (r u : Rows B g) (k : Consumer) (o : Open) (stands : RowsStand lim r t) (there : get nat_eq r.consumers w.c ≡ Some k) (running : (table_of r.exchanges x).running ≡ Some o) (on : is_reached (promise_in w response) 0 ≡ false)
-      (limits : (shelf_of u.entries).limits ≡ lim) (last : u.last_start ≡ r.last_start) (becomes : BecomesAt r.consumers u.consumers w.c (Some (record k { own = own }))) (line : LeavesKey w.c k.request.key r.keys u.keys)
+  module _ {B : Type 0} {g : Ghosts B} {limits : Limits} (r u : Rows B g) (k : Consumer) (o : Open) (stands : RowsStand limits r t) (there : get nat_eq r.consumers w.c ≡ Some k) (running : (table_of r.exchanges x).running ≡ Some o) (on : is_reached (promise_in w response) 0 ≡ false)
+      (limits : (shelf_of u.entries).limits ≡ limits) (last : u.last_start ≡ r.last_start) (becomes : BecomesAt r.consumers u.consumers w.c (Some (record k { own = own }))) (line : LeavesKey w.c k.request.key r.keys u.keys)
       (brings : exch.Becomes (bringing q response) x r.exchanges u.exchanges) (entries : KeepsEntries s (shelf_of u.entries)) where
     is : IsKept t k v
     is = kept_as r t w.c v k stands j.asker there
@@ -341,7 +341,7 @@ module _ (t : Tables) (now x q : ℕ) (response : Response) (w : Exchange) (v : 
       | inr ne ↦ subst (KeepsExchange s y) (sym (known_other (bringing q response) x y r.exchanges u.exchanges brings (λ e. ne (sym e)))) (exchange_stays y (table_of r.exchanges y) ne (stands.exchanges y))
     ]
 
-    pub stands_joined : RowsStand lim u s
+    pub stands_joined : RowsStand limits u s
     stands_joined = record {
       limits = limits;
       last_start = last ∙ stands.last_start;

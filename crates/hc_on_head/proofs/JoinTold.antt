@@ -118,7 +118,7 @@ get_is_no_head request off = (let same : request.method ≡ codes "GET" = same_b
     by_tests true a b c d h = refl
     by_tests false a b c d h = false_true (sym h)
 
-module _ {B : Type 0} {g : Ghosts B} {lim : Limits} (r : Rows B g) (t : Tables) (facts : Facts lim t) (x : ℕ) (response : Response) (w : Exchange) (a : Asker r t x w) (view : JoinView (head_view t false w response)) where
+module _ {B : Type 0} {g : Ghosts B} {limits : Limits} (r : Rows B g) (t : Tables) (facts : Facts limits t) (x : ℕ) (response : Response) (w : Exchange) (a : Asker r t x w) (view : JoinView (head_view t false w response)) where
   -- to what its consumer is bound
   pub record IsReader : Type 0 where
     pub q : ℕ

@@ -1,5 +1,5 @@
 pub mod HeadViews
-pub mod PassArm
+pub mod PassHandler
 pub mod HeadTold
 pub mod LoseAsked
 pub mod AscendingLists
@@ -8,10 +8,10 @@ pub mod Woken
 pub mod WakeLoop
 pub mod DoomCloses
 pub mod DoomTies
-pub mod DoomingArms
-pub mod DoomArm
-pub mod RenewedArm
-pub mod TurnArm
+pub mod DoomingHandlers
+pub mod DoomHandler
+pub mod RenewedHandler
+pub mod TurnHandler
 pub mod FoundSlot
 pub mod FoundAnswers
 pub mod JoinKeys
@@ -19,5 +19,5 @@ pub mod JoinRows
 pub mod JoinEntries
 pub mod JoinHeads
 pub mod JoinTold
-pub mod JoinArm
+pub mod JoinHandler
 pub mod JoinResumes

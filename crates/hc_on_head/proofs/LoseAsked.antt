@@ -19,14 +19,14 @@ use Rattle.hc_event.specs.declared.place.BoundBy.TheVariants as by
 use Rattle.hc_model.specs.Laws as laws
 use Rattle.hc_model.specs.Rows as rows
 use Rattle.hc_state.specs.declared.rows.Rows.{Rows}
-use Rattle.hc_state.specs.Arms.{IsInKey}
+use Rattle.hc_state.specs.Handlers.{IsInKey}
 use Rattle.hc_state.specs.Facts.{Facts}
 use Rattle.hc_state.specs.Heads.{AwaitsHead, IsAskedBy}
 use Rattle.hc_state.specs.Leaving.{if_running, writing_of}
 use Rattle.hc_state.specs.Lines.{is_passed, is_away, is_away_at}
 use Rattle.hc_state.specs.Stands.{RowsStand, Stands, open_at}
 use Rattle.hc_state.specs.Stored.{KeepsEntry, is_usable_kept}
-use Rattle.hc_on_leave.proofs.AnswerArm.{known_other}
+use Rattle.hc_on_leave.proofs.AnswerHandler.{known_other}
 use Rattle.hc_state.proofs.CurrentTies.{entry_row}
 use Rattle.hc_on_head.proofs.HeadTold.{past_of_runs}
 use Rattle.hc_on_leave.proofs.HeardRows.{Asker, asker, asked_by, headless_of, heard_row}
@@ -36,7 +36,7 @@ use Rattle.hc_state.proofs.Maps.{known_of, merely_true}
 
 -- WHO WAITS FOR ITS KEY
 
-module _ {B : Type 0} {g : Ghosts B} {lim : Limits} (r : Rows B g) (t : Tables) (facts : Facts lim t) (stands : RowsStand lim r t) (x : ℕ) (w : Exchange) (a : Asker r t x w) (waits : IsSomeAnd (get nat_eq r.consumers w.c) (IsInKey r.keys w.c)) where
+module _ {B : Type 0} {g : Ghosts B} {limits : Limits} (r : Rows B g) (t : Tables) (facts : Facts limits t) (stands : RowsStand limits r t) (x : ℕ) (w : Exchange) (a : Asker r t x w) (waits : IsSomeAnd (get nat_eq r.consumers w.c) (IsInKey r.keys w.c)) where
   abbrev key : List ℕ
   key = a.v.request.key
 
@@ -101,14 +101,14 @@ usable_there (Some e) on = (e, refl, by_test e.is_gone on)
     by_test true h = false_true h
 
 module _ {B : Type 0} {g : Ghosts B} (r first second : Rows B g) (now x c q : ℕ) (some : ∥ Stands r ∥₁) (accepted : head_refusal (open_at r x) ≡ None) (asks : IsAskedBy c (table_of r.exchanges x).running) (waits : IsSomeAnd (get nat_eq r.consumers c) (IsInKey r.keys c)) (usable : is_usable_kept ((shelf_of r.entries).kept q) ≡ true)
-    (sends : (lim : Limits) (t : Tables) (x : ℕ) (w : Exchange) (k : rows.Consumer) → Facts lim t → AwaitsHead t x w k → w.c ≡ c → awaited_exchange k.place ≡ Some x → RowsStand lim r t → RowsStand lim first (with_consumer c (Some (back_in_line now k)) t)) (same_entries : second.entries ≡ first.entries) (same_exchanges : first.exchanges ≡ r.exchanges) (becomes : exch.Becomes known.without_exchange x first.exchanges second.exchanges) where
+    (sends : (limits : Limits) (t : Tables) (x : ℕ) (w : Exchange) (k : rows.Consumer) → Facts limits t → AwaitsHead t x w k → w.c ≡ c → awaited_exchange k.place ≡ Some x → RowsStand limits r t → RowsStand limits first (with_consumer c (Some (back_in_line now k)) t)) (same_entries : second.entries ≡ first.entries) (same_exchanges : first.exchanges ≡ r.exchanges) (becomes : exch.Becomes known.without_exchange x first.exchanges second.exchanges) where
   record Now (t : Tables) : Type 0 where
     w : Exchange
     row : t.exchange x ≡ Some w
     a : Asker r t x w
     for_it : w.c ≡ c
 
-  now_of : {lim : Limits} (t : Tables) → Facts lim t → RowsStand lim r t → Now t
+  now_of : {limits : Limits} (t : Tables) → Facts limits t → RowsStand limits r t → Now t
   now_of t facts stands =
       let h = headless_of (table_of r.exchanges x).running accepted in
       let hr = heard_row r t x h.o stands h.there in

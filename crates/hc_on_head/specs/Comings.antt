@@ -13,15 +13,15 @@ use Rattle.hc_exch.specs.Exchanges.{table_of}
 use Rattle.hc_exch.specs.Known.{is_open, length_by}
 use Rattle.hc_model.specs.Cases.{is_founding}
 use Rattle.hc_state.specs.declared.rows.Rows.{Rows}
-use Rattle.hc_state.specs.Arms.{IsInKey}
+use Rattle.hc_state.specs.Handlers.{IsInKey}
 use Rattle.hc_state.specs.Founding.{MayFound}
 use Rattle.hc_state.specs.Heads.{IsAskedBy, IsPastStore, IsTimely, is_bad_case, is_past_case, starts_anew}
 use Rattle.hc_state.specs.Joining.{IsAbout, IsAboutKept, joins_hole}
 use Rattle.hc_state.specs.Stands.{Stands, open_at}
 use Rattle.hc_on_head.specs.declared.heard.Heard.{Heard}
 
--- the rows stand for tables, and the exchange is open without a head, for this consumer, which is live
-pub record IsHeard {B : Type 0} {g : Ghosts B} (r : Rows B g) (h : Heard) : Type 0 where
+-- the rows represent tables, and the exchange is open without a head, for this consumer, which is live
+pub record MayCome {B : Type 0} {g : Ghosts B} (r : Rows B g) (h : Heard) : Type 0 where
   pub stands : ∥ Stands r ∥₁
   pub accepted : head_refusal (open_at r h.x) ≡ None
   pub asker : IsAskedBy h.c (table_of r.exchanges h.x).running

@@ -3,10 +3,10 @@ ghost use Rattle.std.specs.Prelude.{◌≡◌, ◌≤◌, ℕ, true, nat_eq, IsS
 ghost use Rattle.std.specs.HashMap.{get};
 ghost use Rattle.hc_event.specs.Acts.{act_list, spare};
 ghost use Rattle.hc_stored.specs.Entries.{shelf_of};
-ghost use Rattle.hc_state.specs.Arms.{IsInKey};
+ghost use Rattle.hc_state.specs.Handlers.{IsInKey};
 ghost use Rattle.hc_state.specs.DetachedReaders.{AnswersLosing};
 ghost use Rattle.hc_state.specs.Stored.{is_usable_kept};
-ghost use Rattle.hc_on_head.specs.Comings.{IsHeard};
+ghost use Rattle.hc_on_head.specs.Comings.{MayCome};
 
 use crate::asker::send_back;
 use crate::heard::Heard;
@@ -27,7 +27,7 @@ pub fn lose_asked<B: Backend>(
     r: u64,
     out: &mut Acts,
 )
-    requires comes { IsHeard rows.old heard }
+    requires comes { MayCome rows.old heard }
     requires current { is_usable_kept ((shelf_of rows.old.entries).kept r) ≡ true }
     requires waits { IsSomeAnd (get nat_eq rows.old.consumers heard.c)
         (IsInKey rows.old.keys heard.c) }

@@ -8,7 +8,7 @@ ghost use Rattle.hc_model.specs.Lawful.{Lawful};
 ghost use Rattle.hc_model.specs.Rows.{Tables, Exchange, Representation, Consumer};
 ghost use Rattle.hc_model.specs.StartingOver.{awaited_exchange};
 ghost use Rattle.hc_rules.specs.declared.room.Limits.{Limits};
-ghost use Rattle.hc_state.specs.Arms.{IsInKey};
+ghost use Rattle.hc_state.specs.Handlers.{IsInKey};
 ghost use Rattle.hc_state.specs.Facts.{Facts};
 ghost use Rattle.hc_state.specs.Heads.{AwaitsHead, StandsApart};
 ghost use Rattle.hc_state.specs.Stands.{RowsStand, Stands};
@@ -24,10 +24,10 @@ use hc_store::Backend;
 pub fn fall_back<B: Backend>(rows: &mut Rows<B>, c: u64, place: Place)
     requires stands { ∥ Stands rows.old ∥₁ }
     requires live { is_some (get nat_eq rows.old.consumers c) ≡ true }
-    ensures stands { (lim : Limits) (t : Tables) (x : ℕ) (w : Exchange) (k : Consumer)
-        → Facts lim t → AwaitsHead t x w k → w.c ≡ c → StandsApart x place
-        → RowsStand lim rows.old t
-        → RowsStand lim rows.new (with_consumer c (Some (record k { place = place })) t) }
+    ensures stands { (limits : Limits) (t : Tables) (x : ℕ) (w : Exchange) (k : Consumer)
+        → Facts limits t → AwaitsHead t x w k → w.c ≡ c → StandsApart x place
+        → RowsStand limits rows.old t
+        → RowsStand limits rows.new (with_consumer c (Some (record k { place = place })) t) }
     ensures rest { KeepsExchanges rows.old rows.new }
 {
     let consumer = rows.consumers.get(&c).unwrap();
@@ -41,10 +41,10 @@ pub fn fall_back<B: Backend>(rows: &mut Rows<B>, c: u64, place: Place)
 pub(crate) fn send_back<B: Backend>(rows: &mut Rows<B>, now: u64, c: u64)
     requires stands { ∥ Stands rows.old ∥₁ }
     requires waits { IsSomeAnd (get nat_eq rows.old.consumers c) (IsInKey rows.old.keys c) }
-    ensures stands { (lim : Limits) (t : Tables) (x : ℕ) (w : Exchange) (k : Consumer)
-        → Facts lim t → AwaitsHead t x w k → w.c ≡ c → awaited_exchange k.place ≡ Some x
-        → RowsStand lim rows.old t
-        → RowsStand lim rows.new (with_consumer c (Some (back_in_line now k)) t) }
+    ensures stands { (limits : Limits) (t : Tables) (x : ℕ) (w : Exchange) (k : Consumer)
+        → Facts limits t → AwaitsHead t x w k → w.c ≡ c → awaited_exchange k.place ≡ Some x
+        → RowsStand limits rows.old t
+        → RowsStand limits rows.new (with_consumer c (Some (back_in_line now k)) t) }
     ensures rest { KeepsExchanges rows.old rows.new }
 {
     let consumer = rows.consumers.get(&c).unwrap();
@@ -57,10 +57,10 @@ pub(crate) fn send_back<B: Backend>(rows: &mut Rows<B>, now: u64, c: u64)
 /// validated.
 pub fn let_through<B: Backend>(rows: &mut Rows<B>, c: u64, r: u64, x: u64)
     requires waits { IsSomeAnd (get nat_eq rows.old.consumers c) (IsInKey rows.old.keys c) }
-    ensures stands { (lim : Limits) (t : Tables) (w : Exchange) (k : Consumer) (v : Representation)
-        → Lawful t → AwaitsHead t x w k → w.c ≡ c → k.place ≡ place.Turn x
-        → RowsStand lim rows.old (with_representation r (Some v) t)
-        → RowsStand lim rows.new (with_consumer c
+    ensures stands { (limits : Limits) (t : Tables) (w : Exchange) (k : Consumer)
+        (v : Representation) → Lawful t → AwaitsHead t x w k → w.c ≡ c → k.place ≡ place.Turn x
+        → RowsStand limits rows.old (with_representation r (Some v) t)
+        → RowsStand limits rows.new (with_consumer c
         (Some (record k { place = place.Passed r (Some x) }))
         (with_representation r (Some v) t)) }
     ensures rest { KeepsExchanges rows.old rows.new }

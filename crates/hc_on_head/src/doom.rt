@@ -53,8 +53,8 @@ pub(crate) fn doom<B: Backend>(
     requires stands { ∥ Stands rows.old ∥₁ }
     requires unheard { IfSome refused (IsUnheard (table_of rows.old.exchanges) key.now) }
     requires room { hash_map_len rows.old.consumers ≤ spare out.old }
-    ensures doomed { (lim : Limits) (t : Tables) → Lawful t → RowsStand lim rows.old t
-        → IsDoomed lim rows.new t (act_list out.old) (act_list out.new) now key.now refused }
+    ensures doomed { (limits : Limits) (t : Tables) → Lawful t → RowsStand limits rows.old t
+        → IsDoomed limits rows.new t (act_list out.old) (act_list out.new) now key.now refused }
     ensures faults { (shelf_of rows.new.entries).faults ≡ (shelf_of rows.old.entries).faults }
 {
     let current = rows.keys.current(key);

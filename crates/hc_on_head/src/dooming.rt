@@ -4,7 +4,7 @@ ghost use Rattle.std.specs.HashMap.{hash_map_len};
 ghost use Rattle.hc_event.specs.Acts.{act_list, spare};
 ghost use Rattle.hc_stored.specs.Entries.{shelf_of};
 ghost use Rattle.hc_state.specs.Stands.{AnswersDooming};
-ghost use Rattle.hc_on_head.specs.Comings.{IsHeard, IsPast};
+ghost use Rattle.hc_on_head.specs.Comings.{MayCome, IsPast};
 
 use crate::doom::doom;
 use crate::heard::Heard;
@@ -24,7 +24,7 @@ pub(crate) fn take_dooming<B: Backend>(
     response: &Response,
     out: &mut Acts,
 ) -> Result<(), NoMemory>
-    requires comes { IsHeard rows.old heard }
+    requires comes { MayCome rows.old heard }
     requires past { IsPast rows.old heard case response.now }
     requires room { hash_map_len rows.old.consumers ≤ spare out.old }
     ensures answers { OnOk result (AnswersDooming rows.old rows.new (act_list out.old)

@@ -16,7 +16,7 @@ ghost use Rattle.hc_state.specs.Founding.{MayFound, IsFounding, BeginsFounding, 
 ghost use Rattle.hc_state.specs.Heads.{IsTimely};
 ghost use Rattle.hc_state.specs.Renewals.{IsUnrenewed};
 ghost use Rattle.hc_state.specs.Stands.{AnswersCase, Stands, open_at};
-ghost use Rattle.hc_on_head.specs.Comings.{FoundsBy, IsHeard};
+ghost use Rattle.hc_on_head.specs.Comings.{FoundsBy, MayCome};
 ghost use Rattle.hc_state.specs.Frames.{KeepsFaults};
 
 use crate::asker::fall_back;
@@ -44,7 +44,7 @@ pub(crate) fn found<B: Backend>(
     goes: Option<u64>,
     out: &mut Acts,
 ) -> Result<(), NoMemory>
-    requires comes { IsHeard rows.old heard }
+    requires comes { MayCome rows.old heard }
     requires timely { IsTimely heard.now (table_of rows.old.exchanges heard.x).running }
     requires good { is_bad (length_by (table_of rows.old.exchanges heard.x).running
         response.now) ≡ false }
@@ -81,7 +81,7 @@ fn founding<B: Backend>(
     heard: Heard,
     response: &Response,
 ) -> Result<Founding, NoMemory>
-    requires comes { IsHeard rows.now heard }
+    requires comes { MayCome rows.now heard }
     requires timely { IsTimely heard.now (table_of rows.now.exchanges heard.x).running }
     requires may { MayFound response.now }
     ensures { IfOk result (λ founding. IsSomeAnd (get nat_eq rows.now.consumers heard.c) (λ k.

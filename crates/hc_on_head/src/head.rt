@@ -15,7 +15,7 @@ ghost use Rattle.hc_model.specs.Live.{most_live};
 ghost use Rattle.hc_state.specs.declared.consumer.Consumer.{Consumer};
 ghost use Rattle.hc_state.specs.Heads.{IsTimely, aim_in, kept_at, joins_kept, heard_view, let_go_by, is_past_case, changes_by};
 ghost use Rattle.hc_state.specs.Stands.{Answers, AnswersCase, Stands, open_at};
-ghost use Rattle.hc_on_head.specs.Comings.{FitsCase, IsHeard};
+ghost use Rattle.hc_on_head.specs.Comings.{FitsCase, MayCome};
 ghost use Rattle.hc_state.specs.Frames.{KeepsFaults};
 
 use crate::dooming::take_dooming;
@@ -77,7 +77,7 @@ fn take_case<B: Backend>(
     goes: Option<u64>,
     out: &mut Acts,
 ) -> Result<(), NoMemory>
-    requires comes { IsHeard rows.old heard }
+    requires comes { MayCome rows.old heard }
     requires timely { IsTimely heard.now (table_of rows.old.exchanges heard.x).running }
     requires fits { FitsCase rows.old heard case response.now }
     requires room { 2 ≤ spare out.old }

@@ -14,7 +14,7 @@ ghost use Rattle.hc_model.specs.RepresentationRows.{is_last_part};
 ghost use Rattle.hc_rules.specs.RangeTexts.{content_range_of};
 ghost use Rattle.hc_state.specs.Joining.{AnswersJoins, Brings, IsGrowing, LacksOnly, ResumesIs, Shares};
 ghost use Rattle.hc_state.specs.Stands.{open_at};
-ghost use Rattle.hc_on_head.specs.Comings.{AsksAbout, IsHeard, MayRenew};
+ghost use Rattle.hc_on_head.specs.Comings.{AsksAbout, MayCome, MayRenew};
 ghost use Rattle.hc_state.specs.Frames.{KeepsFaults};
 ghost use Rattle.hc_on_head.specs.Frames.{FailsUnrenewed};
 
@@ -41,7 +41,7 @@ pub(crate) fn join<B: Backend>(
     r: u64,
     out: &mut Acts,
 ) -> Result<(), NoMemory>
-    requires comes { IsHeard rows.old heard }
+    requires comes { MayCome rows.old heard }
     requires timely { IsTimely heard.now (table_of rows.old.exchanges heard.x).running }
     requires about { AsksAbout rows.old heard r }
     requires good { is_bad (length_by (table_of rows.old.exchanges heard.x).running

@@ -9,11 +9,11 @@ ghost use Rattle.hc_entry.specs.Keys.{kept_of};
 ghost use Rattle.hc_exch.specs.declared.row.Open.{Open};
 ghost use Rattle.hc_exch.specs.Exchanges.{table_of};
 ghost use Rattle.hc_exch.specs.Known.{is_open};
-ghost use Rattle.hc_state.specs.Arms.{IsInKey};
+ghost use Rattle.hc_state.specs.Handlers.{IsInKey};
 ghost use Rattle.hc_state.specs.Heads.{IsTimely};
 ghost use Rattle.hc_state.specs.Renewals.{IsRenewed, IsSelected};
 ghost use Rattle.hc_state.specs.Stands.{AnswersUnselected};
-ghost use Rattle.hc_on_head.specs.Comings.{IsHeard, MayRenew};
+ghost use Rattle.hc_on_head.specs.Comings.{MayCome, MayRenew};
 ghost use Rattle.hc_state.specs.Frames.{KeepsFaults};
 ghost use Rattle.hc_on_head.specs.Frames.{FailsUnrenewed};
 
@@ -38,7 +38,7 @@ pub(crate) fn validate<B: Backend>(
     aim: Option<u64>,
     out: &mut Acts,
 ) -> Result<(), NoMemory>
-    requires comes { IsHeard rows.old heard }
+    requires comes { MayCome rows.old heard }
     requires timely { IsTimely heard.now (table_of rows.old.exchanges heard.x).running }
     requires waits { IsSomeAnd (get nat_eq rows.old.consumers heard.c)
         (IsInKey rows.old.keys heard.c) }

@@ -13,10 +13,10 @@ ghost use Rattle.hc_exch.specs.Known.{is_open, without_exchange, length_by};
 ghost use Rattle.hc_model.specs.Effects.{with_answer};
 ghost use Rattle.hc_model.specs.Rows.{Tables, Exchange, Consumer};
 ghost use Rattle.hc_rules.specs.declared.room.Limits.{Limits};
-ghost use Rattle.hc_state.specs.Arms.{IsInKey};
+ghost use Rattle.hc_state.specs.Handlers.{IsInKey};
 ghost use Rattle.hc_state.specs.Heads.{IsReadAlone, EndsInRange, end_of_answer, unless_over, puts_down, goes_past, starts_anew, breaks_off, broken_by};
 ghost use Rattle.hc_state.specs.Stands.{AnswersCase, RowsStand, open_at};
-ghost use Rattle.hc_on_head.specs.Comings.{IsHeard};
+ghost use Rattle.hc_on_head.specs.Comings.{MayCome};
 ghost use Rattle.hc_on_head.specs.Frames.{ChangesExchanges};
 
 use crate::asker::{fall_back, send_back};
@@ -32,7 +32,7 @@ use hc_text::NoMemory;
 
 /// A bad head: whoever waits for it is to fail.
 pub fn put_down<B: Backend>(rows: &mut Rows<B>, heard: Heard, response: &Response, out: &mut Acts)
-    requires comes { IsHeard rows.old heard }
+    requires comes { MayCome rows.old heard }
     requires room { 1 ≤ spare out.old }
     ensures answers { (g : HeadCase) → puts_down g ≡ true → AnswersCase rows.old rows.new
         (act_list out.old) (act_list out.new) heard.now heard.x response.now g None }
@@ -49,7 +49,7 @@ pub fn go_past<B: Backend>(
     response: &Response,
     goes: Option<u64>,
 ) -> Result<(), NoMemory>
-    requires comes { IsHeard rows.old heard }
+    requires comes { MayCome rows.old heard }
     requires good { is_bad (length_by (table_of rows.old.exchanges heard.x).running
         response.now) ≡ false }
     ensures answers { OnOk result ((g : HeadCase) (before : List Act) → goes_past g ≡ true
@@ -72,7 +72,7 @@ pub fn start_anew<B: Backend>(
     goes: Option<u64>,
     out: &mut Acts,
 )
-    requires comes { IsHeard rows.old heard }
+    requires comes { MayCome rows.old heard }
     requires waits { IsSomeAnd (get nat_eq rows.old.consumers heard.c)
         (IsInKey rows.old.keys heard.c) }
     requires room { 1 ≤ spare out.old }
@@ -94,7 +94,7 @@ pub fn close_hole<B: Backend>(
     goes: Option<u64>,
     out: &mut Acts,
 )
-    requires comes { IsHeard rows.old heard }
+    requires comes { MayCome rows.old heard }
     requires room { 1 ≤ spare out.old }
     ensures answers { (g : HeadCase) → breaks_off g ≡ true → cause ≡ broken_by heard.x g
         → AnswersCase rows.old rows.new (act_list out.old) (act_list out.new) heard.now heard.x
@@ -115,9 +115,9 @@ pub fn answer_past<B: Backend>(
     requires accepted { head_refusal (open_at rows.old heard.x) ≡ None }
     requires good { is_bad (length_by (table_of rows.old.exchanges heard.x).running
         response.now) ≡ false }
-    ensures stands { OnOk result ((lim : Limits) (t : Tables) (w : Exchange) (k : Consumer)
-        → IsReadAlone t heard.x w k → w.c ≡ heard.c → RowsStand lim rows.old t
-        → RowsStand lim rows.new
+    ensures stands { OnOk result ((limits : Limits) (t : Tables) (w : Exchange) (k : Consumer)
+        → IsReadAlone t heard.x w k → w.c ≡ heard.c → RowsStand limits rows.old t
+        → RowsStand limits rows.new
         (with_answer heard.now heard.x response.now w.joined w t)) }
     ensures faults { (shelf_of rows.new.entries).faults ≡ (shelf_of rows.old.entries).faults }
 {
@@ -137,9 +137,9 @@ pub fn have_answer<B: Backend>(
     requires good { is_bad (length_by (table_of rows.old.exchanges heard.x).running
         response.now) ≡ false }
     requires copied { answer ≡ response.now }
-    ensures stands { (lim : Limits) (t : Tables) (w : Exchange) (k : Consumer)
-        → IsReadAlone t heard.x w k → w.c ≡ heard.c → RowsStand lim rows.old t
-        → RowsStand lim rows.new
+    ensures stands { (limits : Limits) (t : Tables) (w : Exchange) (k : Consumer)
+        → IsReadAlone t heard.x w k → w.c ≡ heard.c → RowsStand limits rows.old t
+        → RowsStand limits rows.new
         (with_answer heard.now heard.x response.now w.joined w t) }
     ensures faults { (shelf_of rows.new.entries).faults ≡ (shelf_of rows.old.entries).faults }
 {

@@ -1,4 +1,4 @@
--- An exchange founds a representation for the one that reads it past the store: what is kept stands for the tables then.
+-- An exchange founds a representation for the one that reads it past the store: what is kept represents the tables then.
 use Rattle.std.proofs.Common.{◌≡◌, ◌≢◌, ◌⊎◌, inl, inr, ℕ, List, [], ◌∷◌, Bool, true, false, Option, Some, None, refl, ap, ap₂, sym, ◌∙◌, subst, arith}
 use Rattle.std.proofs.lemmas.Bool.Decides.{nat_tests}
 use Rattle.std.specs.Prelude.{◌==◌, ◌&&◌, ◌||◌, not, nat_eq, bytes_eq, filter, find, is_some, if◌then◌else◌}
@@ -41,14 +41,14 @@ use Rattle.hc_state.specs.Lines.{KeepsKey, has_turn, is_away, is_passed}
 use Rattle.hc_state.specs.Stands.{RowsStand}
 use Rattle.hc_state.specs.Stored.{IsEntry, KeepsEntry, KeepsEntries, is_first, is_usable_row, as_written}
 use Rattle.hc_state.specs.Stored as stored
-use Rattle.hc_on_leave.proofs.AnswerArm.{all_reached}
+use Rattle.hc_on_leave.proofs.AnswerHandler.{all_reached}
 use Rattle.hc_state.proofs.Fallbacks.{unstored_moved}
 use Rattle.hc_state.proofs.FallbackSteps.{live_same}
 use Rattle.hc_on_leave.proofs.HeardExchange.{entries_heard, key_heard, held_empty}
 use Rattle.hc_on_leave.proofs.HeardRows.{runs_as, kept_as}
 use Rattle.hc_state.proofs.KeySteps.{IsUnsaid, apart_unsaid}
 use Rattle.hc_state.proofs.OneOfEach.{bound_same, kind_same}
-use Rattle.hc_state.proofs.QueueArm.{becomes_by}
+use Rattle.hc_state.proofs.QueueHandler.{becomes_by}
 use Rattle.hc_state.proofs.Ties.{consumer_same, entry_same, exchange_same}
 
 -- It is listed, nobody is bound to what has its number, and no other exchange brings that.
@@ -78,10 +78,10 @@ filters_but f h x (n ∷ ns) off same = by_number (same_or n x) (filters_but f h
     by_number (inl e) rest = let here : f n ≡ false = ap f e ∙ off in let self : nat_eq n x ≡ true = ap (λ i. nat_eq i x) e ∙ eqb-same x in rw (self, here) rest
     by_number (inr ne) rest = rw (eqb-other n x ne) (by_test ne (f n) refl rest)
 
-module _ {B : Type 0} {g : Ghosts B} {lim : Limits} (a u : Rows B g) (m : Tables) (now x : ℕ) (response : Response) (w : Exchange) (past : rows.Consumer) (k : Consumer) (o : Open) (f : Founding) (l : Length)
-    (stands : RowsStand lim a m) (alone : IsReadAlone m x w past) (fresh : IsUnfounded m x) (there : get nat_eq a.consumers w.c ≡ Some k) (running : (table_of a.exchanges x).running ≡ Some o) (told : l ≡ length_of w.need w.request response)
+module _ {B : Type 0} {g : Ghosts B} {limits : Limits} (a u : Rows B g) (m : Tables) (now x : ℕ) (response : Response) (w : Exchange) (past : rows.Consumer) (k : Consumer) (o : Open) (f : Founding) (l : Length)
+    (stands : RowsStand limits a m) (alone : IsReadAlone m x w past) (fresh : IsUnfounded m x) (there : get nat_eq a.consumers w.c ≡ Some k) (running : (table_of a.exchanges x).running ≡ Some o) (told : l ≡ length_of w.need w.request response)
     (key_is : f.key ≡ o.request.key) (head_is : plain f.head ≡ head_by o now response) (shares : f.shared ≡ not (response.status == 206)) (ends : option_or f.hi (founded_total w response) ≡ f.hi) (empties : promise_in w response ≡ Some 0 → founded_total w response ≡ Some 0)
-    (begins : BeginsFounding a u x w.c f response) (length_is : length_by (table_of a.exchanges x).running response ≡ l) (limits_are : (shelf_of a.entries).limits ≡ lim) where
+    (begins : BeginsFounding a u x w.c f response) (length_is : length_by (table_of a.exchanges x).running response ≡ l) (limits_are : (shelf_of a.entries).limits ≡ limits) where
   abbrev z : Exchange
   z = exchange_with_head now response w.joined w
 
@@ -534,7 +534,7 @@ module _ {B : Type 0} {g : Ghosts B} {lim : Limits} (a u : Rows B g) (m : Tables
 
   -- ALL OF IT
 
-  pub founded_stands : RowsStand lim u s
+  pub founded_stands : RowsStand limits u s
   founded_stands = record {
     limits = begins.entries.limits ∙ limits_are;
     last_start = begins.last_start ∙ stands.last_start;

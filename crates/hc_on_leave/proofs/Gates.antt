@@ -28,11 +28,11 @@ sees t x None row keeps = closed_as row keeps
 sees t x (Some o) None keeps = absurd keeps
 sees t x (Some o) (Some w) keeps = seen_as t x o w keeps
 
-sees_at : {B : Type 0} {g : Ghosts B} {lim : Limits} (r : Rows B g) (t : Tables) (x : Option ℕ) → RowsStand lim r t → option_and_then (open_at r) x ≡ as_open (option_and_then t.exchange x)
+sees_at : {B : Type 0} {g : Ghosts B} {limits : Limits} (r : Rows B g) (t : Tables) (x : Option ℕ) → RowsStand limits r t → option_and_then (open_at r) x ≡ as_open (option_and_then t.exchange x)
 sees_at r t None stands = refl
 sees_at r t (Some x) stands = sees t x (table_of r.exchanges x).running (t.exchange x) (stands.exchanges x).running
 
-names_as : {B : Type 0} {g : Ghosts B} {lim : Limits} (r : Rows B g) (t : Tables) (ev : Event) → RowsStand lim r t → names_kept r ev ≡ names_live t ev
+names_as : {B : Type 0} {g : Ghosts B} {limits : Limits} (r : Rows B g) (t : Tables) (ev : Event) → RowsStand limits r t → names_kept r ev ≡ names_live t ev
 names_as r t (event.Poll c want) stands = kept_lives t (get nat_eq r.consumers c) (t.consumer c) (stands.consumers c)
 names_as r t (event.Cancel c) stands = kept_lives t (get nat_eq r.consumers c) (t.consumer c) (stands.consumers c)
 names_as r t (event.Start c request) stands = refl
@@ -42,9 +42,9 @@ names_as r t (event.End x) stands = refl
 names_as r t (event.Fault x) stands = refl
 names_as r t (event.Doom key) stands = refl
 
-gates_are : {B : Type 0} {g : Ghosts B} {lim : Limits} (r : Rows B g) (t : Tables) (ev : Event) → RowsStand lim r t → gate_of r ev ≡ gate t ev
+gates_are : {B : Type 0} {g : Ghosts B} {limits : Limits} (r : Rows B g) (t : Tables) (ev : Event) → RowsStand limits r t → gate_of r ev ≡ gate t ev
 gates_are r t ev stands = rw (stands.last_start, stands.count, names_as r t ev stands, sees_at r t (exchange_in ev) stands) refl
 
 -- What the rows refuse is what the tables deny.
-pub denies_as : {B : Type 0} {g : Ghosts B} {lim : Limits} (r : Rows B g) (t : Tables) (ev : Event) → RowsStand lim r t → refusal_of (gate_of r ev) ev ≡ denial t ev
+pub denies_as : {B : Type 0} {g : Ghosts B} {limits : Limits} (r : Rows B g) (t : Tables) (ev : Event) → RowsStand limits r t → refusal_of (gate_of r ev) ev ≡ denial t ev
 denies_as r t ev stands = ap (λ (g : Gate). refusal_of g ev) (gates_are r t ev stands)

@@ -103,7 +103,7 @@ survivor_among t q c v is = sym (members_in t v.reach c (bound t q)) ∙ (least_
 
 -- THE HEIR
 
-module _ {B : Type 0} {g : Ghosts B} {lim : Limits} (r : Rows B g) (t : Tables) (stands : RowsStand lim r t) (may : MayLetGo t) (q : ℕ) (v : Representation) (row : t.representation q ≡ Some v) (kept : v.is_lost ≡ false) (e : Kept) (there : (shelf_of r.entries).kept q ≡ Some e) where
+module _ {B : Type 0} {g : Ghosts B} {limits : Limits} (r : Rows B g) (t : Tables) (stands : RowsStand limits r t) (may : MayLetGo t) (q : ℕ) (v : Representation) (row : t.representation q ≡ Some v) (kept : v.is_lost ≡ false) (e : Kept) (there : (shelf_of r.entries).kept q ≡ Some e) where
   is : IsEntry t q e v
   is = subst (λ k. KeepsEntry t q k (Some v)) there (subst (KeepsEntry t q ((shelf_of r.entries).kept q)) row (stands.entries.each q))
 
@@ -211,14 +211,14 @@ module _ (t : Tables) (q x : ℕ) (v : Representation) (loses : MayLoseShared t 
 
 -- ALL OF IT
 
-pub loses_shared : {B : Type 0} {g : Ghosts B} {lim : Limits} (r mid u : Rows B g) (t : Tables) (now q x : ℕ) (v : Representation) (detached_reader : Option ℕ) → MayLoseShared t q x v → RowsStand lim r t → is_kept (shelf_of r.entries) q ≡ true → detached_reader ≡ detached_reader_of r.consumers ((shelf_of r.entries).kept q)
+pub loses_shared : {B : Type 0} {g : Ghosts B} {limits : Limits} (r mid u : Rows B g) (t : Tables) (now q x : ℕ) (v : Representation) (detached_reader : Option ℕ) → MayLoseShared t q x v → RowsStand limits r t → is_kept (shelf_of r.entries) q ≡ true → detached_reader ≡ detached_reader_of r.consumers ((shelf_of r.entries).kept q)
     → mid.last_start ≡ r.last_start → mid.exchanges ≡ r.exchanges → mid.keys ≡ r.keys → mid.entries ≡ r.entries
     → ChangesEach r.consumers mid.consumers (λ d. has itself d (bound_in ((shelf_of r.entries).kept q))) (after_parting detached_reader x (cause.StoreWrite q))
-    → ((lim : Limits) (s : Tables) (p : Representation) → MayLetGo s → s.representation q ≡ Some p → p.alone ≡ None → HoldsNothing s q p detached_reader → RowsStand lim mid s → RowsStand lim u (let_go now q (with_representation q (Some (lost_to detached_reader p)) s)))
-    → LosesShared lim u t now q x v detached_reader
-loses_shared {lim = lim} r mid u t now q x v detached_reader may stands there found last exchanges same_keys same_entries changes loses = by_kept ((shelf_of r.entries).kept q) refl there
+    → ((limits : Limits) (s : Tables) (p : Representation) → MayLetGo s → s.representation q ≡ Some p → p.alone ≡ None → HoldsNothing s q p detached_reader → RowsStand limits mid s → RowsStand limits u (let_go now q (with_representation q (Some (lost_to detached_reader p)) s)))
+    → LosesShared limits u t now q x v detached_reader
+loses_shared {limits = limits} r mid u t now q x v detached_reader may stands there found last exchanges same_keys same_entries changes loses = by_kept ((shelf_of r.entries).kept q) refl there
   where
-    by_kept : (o : Option Kept) → (shelf_of r.entries).kept q ≡ o → is_some o ≡ true → LosesShared lim u t now q x v detached_reader
+    by_kept : (o : Option Kept) → (shelf_of r.entries).kept q ≡ o → is_some o ≡ true → LosesShared limits u t now q x v detached_reader
     by_kept None at on = false_true on
     by_kept (Some e) at on =
         let entry : IsEntry t q e v = subst (λ k. KeepsEntry t q k (Some v)) at (subst (KeepsEntry t q ((shelf_of r.entries).kept q)) may.there (stands.entries.each q)) in

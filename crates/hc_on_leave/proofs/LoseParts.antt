@@ -1,4 +1,4 @@
--- What several read together is lost: one has its exchange for its own, and to the others a failure is due. What is kept stands for the
+-- What several read together is lost: one has its exchange for its own, and to the others a failure is due. What is kept represents the
 -- tables then.
 use Rattle.std.proofs.Common.{◌≡◌, ◌≢◌, inl, inr, ℕ, List, [], Bool, true, false, Option, Some, None, refl, ap, sym, ◌∙◌, subst}
 use Rattle.std.specs.Prelude.{is_some, nat_eq, bytes_eq, option_map, ◌&&◌, if◌then◌else◌}
@@ -219,9 +219,9 @@ module _ (t : Tables) (q x : ℕ) (detached_reader : Option ℕ) where
 
 -- ALL OF IT
 
-pub stands_parted : {B : Type 0} {g : Ghosts B} {lim : Limits} (r u : Rows B g) (t : Tables) (q x : ℕ) (detached_reader : Option ℕ) (v : Representation) (among : ℕ → Bool) → RowsStand lim r t → t.representation q ≡ Some v → v.alone ≡ None
+pub stands_parted : {B : Type 0} {g : Ghosts B} {limits : Limits} (r u : Rows B g) (t : Tables) (q x : ℕ) (detached_reader : Option ℕ) (v : Representation) (among : ℕ → Bool) → RowsStand limits r t → t.representation q ≡ Some v → v.alone ≡ None
     → u.last_start ≡ r.last_start → u.exchanges ≡ r.exchanges → u.keys ≡ r.keys → u.entries ≡ r.entries
-    → ((d : ℕ) → is_some (t.consumer d) ≡ true → among d ≡ is_bound q (t.consumer d)) → ChangesEach r.consumers u.consumers among (after_parting detached_reader x (cause.StoreWrite q)) → RowsStand lim u (writing_lost q detached_reader (Some x) t)
+    → ((d : ℕ) → is_some (t.consumer d) ≡ true → among d ≡ is_bound q (t.consumer d)) → ChangesEach r.consumers u.consumers among (after_parting detached_reader x (cause.StoreWrite q)) → RowsStand limits u (writing_lost q detached_reader (Some x) t)
 unfolding current
 stands_parted r u t q x detached_reader v among stands there nobody last exchanges same_keys same_entries alike changes =
     let z : Tables = writing_lost q detached_reader (Some x) t in

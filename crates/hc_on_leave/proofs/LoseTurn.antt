@@ -48,15 +48,15 @@ use Rattle.hc_state.proofs.LeftRows.{writing_as}
 use Rattle.hc_on_leave.proofs.LoseAlone.{holds_none}
 use Rattle.hc_on_leave.proofs.LoseDetachedReaders.{bound_among, members_in}
 use Rattle.hc_state.proofs.Maps.{act_and}
-use Rattle.hc_on_leave.proofs.RefuseArm.{stands_refused, closes_as}
+use Rattle.hc_on_leave.proofs.RefuseHandler.{stands_refused, closes_as}
 use Rattle.hc_state.proofs.TurnTies.{least_alike}
-use Rattle.hc_on_leave.proofs.UnstoredArms.{beside, unread_then, may_moved, may_heard}
+use Rattle.hc_on_leave.proofs.UnstoredHandlers.{beside, unread_then, may_moved, may_heard}
 
 -- A WRITING IS LOST
 
 -- where nobody goes on, its exchange is closed
-pub closes_loss : {B : Type 0} {g : Ghosts B} {lim : Limits} (mid u : Rows B g) (t : Tables) (now r x : ℕ) (v : Representation) (detached_reader : Option ℕ) → MayLoseShared t r x v → RowsStand lim mid (shared_loss now r x v detached_reader t)
-    → u.last_start ≡ mid.last_start → u.consumers ≡ mid.consumers → u.keys ≡ mid.keys → u.entries ≡ mid.entries → exch.Becomes known.without_exchange x mid.exchanges u.exchanges → RowsStand lim u (all_closed (x ∷ []) (shared_loss now r x v detached_reader t))
+pub closes_loss : {B : Type 0} {g : Ghosts B} {limits : Limits} (mid u : Rows B g) (t : Tables) (now r x : ℕ) (v : Representation) (detached_reader : Option ℕ) → MayLoseShared t r x v → RowsStand limits mid (shared_loss now r x v detached_reader t)
+    → u.last_start ≡ mid.last_start → u.consumers ≡ mid.consumers → u.keys ≡ mid.keys → u.entries ≡ mid.entries → exch.Becomes known.without_exchange x mid.exchanges u.exchanges → RowsStand limits u (all_closed (x ∷ []) (shared_loss now r x v detached_reader t))
 closes_loss mid u t now r x v detached_reader may stands last consumers same_keys same_entries becomes =
     stands_unstored mid u (shared_loss now r x v detached_reader t) x stands unawaited apart last consumers same_keys same_entries becomes
   where
@@ -77,34 +77,34 @@ closes_loss mid u t now r x v detached_reader may stands last consumers same_key
 
 module _ {B : Type 0} {g : Ghosts B} (u : Rows B g) (t : Tables) (before mid out : List Act) (now r x : ℕ) (v : Representation) (why : LostKind) (detached_reader : Option ℕ) (is : detached_reader ≡ survivor t r v) (told : mid ≡ before ++ (act.Lost r why ∷ [])) where
   -- somebody goes on
-  pub loses_on : {lim : Limits} → is_none detached_reader ≡ false → out ≡ mid → RowsStand lim u (shared_loss now r x v detached_reader t) → LosesWriting lim u t before out now r x v why
-  loses_on {lim = lim} some same stood = by_detached_reader detached_reader some is
+  pub loses_on : {limits : Limits} → is_none detached_reader ≡ false → out ≡ mid → RowsStand limits u (shared_loss now r x v detached_reader t) → LosesWriting limits u t before out now r x v why
+  loses_on {limits = limits} some same stood = by_detached_reader detached_reader some is
     where
-      by_detached_reader : (o : Option ℕ) → is_none o ≡ false → o ≡ survivor t r v → LosesWriting lim u t before out now r x v why
+      by_detached_reader : (o : Option ℕ) → is_none o ≡ false → o ≡ survivor t r v → LosesWriting limits u t before out now r x v why
       by_detached_reader None off one = false_true (sym off)
       by_detached_reader (Some d) off one =
           let closes : unless_survived (survivor t r v) (Some x) ≡ [] = ap (λ (o : Option ℕ). unless_survived o (Some x)) (sym one) in
           record {
             acts = same ∙ (told ∙ ap (λ (ys : List ℕ). before ++ (act.Lost r why ∷ map act.Close ys)) (sym closes));
-            rows = subst (λ (ys : List ℕ). RowsStand lim u (all_closed ys (shared_loss now r x v (survivor t r v) t))) (sym closes) (subst (λ (o : Option ℕ). RowsStand lim u (shared_loss now r x v o t)) is stood);
+            rows = subst (λ (ys : List ℕ). RowsStand limits u (all_closed ys (shared_loss now r x v (survivor t r v) t))) (sym closes) (subst (λ (o : Option ℕ). RowsStand limits u (shared_loss now r x v o t)) is stood);
           }
 
   -- nobody does
-  pub loses_out : {lim : Limits} → is_none detached_reader ≡ true → out ≡ mid ++ (act.Close x ∷ []) → RowsStand lim u (all_closed (x ∷ []) (shared_loss now r x v detached_reader t)) → LosesWriting lim u t before out now r x v why
-  loses_out {lim = lim} none closed stood = by_detached_reader detached_reader none is
+  pub loses_out : {limits : Limits} → is_none detached_reader ≡ true → out ≡ mid ++ (act.Close x ∷ []) → RowsStand limits u (all_closed (x ∷ []) (shared_loss now r x v detached_reader t)) → LosesWriting limits u t before out now r x v why
+  loses_out {limits = limits} none closed stood = by_detached_reader detached_reader none is
     where
-      by_detached_reader : (o : Option ℕ) → is_none o ≡ true → o ≡ survivor t r v → LosesWriting lim u t before out now r x v why
+      by_detached_reader : (o : Option ℕ) → is_none o ≡ true → o ≡ survivor t r v → LosesWriting limits u t before out now r x v why
       by_detached_reader (Some d) on one = false_true on
       by_detached_reader None on one =
           let closes : unless_survived (survivor t r v) (Some x) ≡ x ∷ [] = ap (λ (o : Option ℕ). unless_survived o (Some x)) (sym one) in
           record {
             acts = act_and before mid out (act.Lost r why) (act.Close x ∷ []) told closed ∙ ap (λ (ys : List ℕ). before ++ (act.Lost r why ∷ map act.Close ys)) (sym closes);
-            rows = subst (λ (ys : List ℕ). RowsStand lim u (all_closed ys (shared_loss now r x v (survivor t r v) t))) (sym closes) (subst (λ (o : Option ℕ). RowsStand lim u (all_closed (x ∷ []) (shared_loss now r x v o t))) is stood);
+            rows = subst (λ (ys : List ℕ). RowsStand limits u (all_closed ys (shared_loss now r x v (survivor t r v) t))) (sym closes) (subst (λ (o : Option ℕ). RowsStand limits u (all_closed (x ∷ []) (shared_loss now r x v o t))) is stood);
           }
 
 -- WHO WRITES FOR SEVERAL
 
-module _ {B : Type 0} {g : Ghosts B} {lim : Limits} (r : Rows B g) (t : Tables) (facts : Facts lim t) (stands : RowsStand lim r t) (q : ℕ) (v : Representation) (there : t.representation q ≡ Some v) where
+module _ {B : Type 0} {g : Ghosts B} {limits : Limits} (r : Rows B g) (t : Tables) (facts : Facts limits t) (stands : RowsStand limits r t) (q : ℕ) (v : Representation) (there : t.representation q ≡ Some v) where
   writing_is : writing_of (table_of r.exchanges) ((shelf_of r.entries).kept q) ≡ (if is_written t v then v.writer else None)
   writing_is = writing_as r t stands facts.law q ∙ ap (writing_in t) there
 
@@ -139,7 +139,7 @@ survivor_same t s q v may_t may_s alike = least_alike _ _ (λ c.
 
 -- THE 304
 
-module _ {B : Type 0} {g : Ghosts B} {lim : Limits} (r second : Rows B g) (t : Tables) (facts : Facts lim t) (stands : RowsStand lim r t) (now x : ℕ) (response : Response) (goes : denial t (event.Head x response) ≡ None) (w : Exchange) (row : t.exchange x ≡ Some w) (a : Asker r t x w) (q : ℕ) (aim : w.aim ≡ Some q) (cur : current t w.request.key ≡ Some q)
+module _ {B : Type 0} {g : Ghosts B} {limits : Limits} (r second : Rows B g) (t : Tables) (facts : Facts limits t) (stands : RowsStand limits r t) (now x : ℕ) (response : Response) (goes : denial t (event.Head x response) ≡ None) (w : Exchange) (row : t.exchange x ≡ Some w) (a : Asker r t x w) (q : ℕ) (aim : w.aim ≡ Some q) (cur : current t w.request.key ≡ Some q)
     (unselected : head_case (record (head_view t false w response) { selects = false }) ≡ case.NotValidated) where
   abbrev ev : Event
   ev = event.Head x response
@@ -195,10 +195,10 @@ module _ {B : Type 0} {g : Ghosts B} {lim : Limits} (r second : Rows B g) (t : T
   may_now : may_validate t w response ≡ true
   may_now = ap (λ b. b && is_same_number (current t w.request.key) w.aim) (parts (head_view t false w response) unselected).1 ∙ rw (cur, aim) (eqb-same q)
 
-  writes_there : written_representation t (entry_of lim t now ev (Loses q kind.Fault)) ≡ Some q
+  writes_there : written_representation t (entry_of limits t now ev (Loses q kind.Fault)) ≡ Some q
   unfolding written_representation
   writes_there =
-      let e = entry_of lim t now ev (Loses q kind.Fault) in
+      let e = entry_of limits t now ev (Loses q kind.Fault) in
       let off : is_founding (case_at t (lossless e)) ≡ false = ap is_founding (case_is t (lossless e) x response w refl row) ∙ unchanged_founds (head_view t (has_loss (lossless e).acts) w response) status_is in
       ap (head_writes t (lossless e) x response) row ∙ (by_tests (is_founding (case_at t (lossless e))) (may_validate t w response) (is_joining (case_at t (lossless e))) off may_now ∙ aim)
     where
@@ -217,12 +217,12 @@ module _ {B : Type 0} {g : Ghosts B} {lim : Limits} (r second : Rows B g) (t : T
       unread_then t facts.law x w a.v a.awaits moved back (rw (eqb-same w.c) refl) (λ d u is ne. inl (sym (beside t w.c d (Some back) ne) ∙ is)) row unfounded
       (λ n lo hi h. (let never : place.Line ≡ place.Bound n lo hi (by.FirstHole x) = h in absurd (cc))) (λ h. (let never : place.Line ≡ place.Direct x = h in absurd (cc)))
 
-  pub heard_stands : (first : Rows B g) → RowsStand lim first moved → KeepsRest first second → second.consumers ≡ first.consumers → exch.Becomes known.without_exchange x first.exchanges second.exchanges → RowsStand lim second heard
+  pub heard_stands : (first : Rows B g) → RowsStand limits first moved → KeepsRest first second → second.consumers ≡ first.consumers → exch.Becomes known.without_exchange x first.exchanges second.exchanges → RowsStand limits second heard
   heard_stands first stood rest consumers becomes =
-      subst (λ (ys : List ℕ). RowsStand lim second (all_closed ys heard)) ended (stands_refused first second moved now x response w stood unread rest consumers becomes)
+      subst (λ (ys : List ℕ). RowsStand limits second (all_closed ys heard)) ended (stands_refused first second moved now x response w stood unread rest consumers becomes)
 
   -- nothing is told of it
-  pub quiet : (first : Rows B g) (before mid : List Act) → RowsStand lim first moved → mid ≡ before ++ map act.Close (unless_over x (length_by (table_of first.exchanges x).running response)) → mid ≡ before
+  pub quiet : (first : Rows B g) (before mid : List Act) → RowsStand limits first moved → mid ≡ before ++ map act.Close (unless_over x (length_by (table_of first.exchanges x).running response)) → mid ≡ before
   quiet first before mid stood told = told ∙ (ap (λ (ys : List ℕ). before ++ map act.Close ys) (closes_as first moved x w response stood row a.awaits.is_open ∙ ended) ∙ append-nil before)
 
   pub may_heard_now : MayLetGo heard
@@ -248,14 +248,14 @@ module _ {B : Type 0} {g : Ghosts B} {lim : Limits} (r second : Rows B g) (t : T
 
   -- IT ISN'T WRITTEN FOR SEVERAL
 
-  pub alone_answered : (u : Rows B g) (faults : ℕ) (before out : List Act) (alone : Option ℕ) → alone ≡ exclusive t q v → is_written t v ≡ false → RowsStand lim second heard → out ≡ before ++ (act.Lost q kind.Fault ∷ [])
-      → ((lim : Limits) (s : Tables) (p : Representation) → MayLetGo s → s.representation q ≡ Some p → p.alone ≡ None → HoldsNothing s q p alone → RowsStand lim second s → RowsStand lim u (let_go now q (with_representation q (Some (lost_to alone p)) s)))
-      → faults < (shelf_of u.entries).faults → Answered lim faults u t before out now ev
+  pub alone_answered : (u : Rows B g) (faults : ℕ) (before out : List Act) (alone : Option ℕ) → alone ≡ exclusive t q v → is_written t v ≡ false → RowsStand limits second heard → out ≡ before ++ (act.Lost q kind.Fault ∷ [])
+      → ((limits : Limits) (s : Tables) (p : Representation) → MayLetGo s → s.representation q ≡ Some p → p.alone ≡ None → HoldsNothing s q p alone → RowsStand limits second s → RowsStand limits u (let_go now q (with_representation q (Some (lost_to alone p)) s)))
+      → faults < (shelf_of u.entries).faults → Answered limits faults u t before out now ev
   alone_answered u faults before out alone writer off stood told loses failed =
-      let lost = loses _ heard v may_heard_now there nobody (holds_then alone (subst (λ (o : Option ℕ). HoldsNothing t q v o) (sym writer) (holds_none lim t facts q v there kept))) stood in
-      lossy_answered lim faults u t (with_event now ev (let_go now q (with_consumer w.c (Some back) (with_answer now x response w.joined w (with_representation q (Some (lost_to (exclusive t q v) v)) t))))) before out (act.Lost q kind.Fault ∷ []) now ev q
-      (validated_lost lim t facts.law now x response goes w row a.v a.awaits.asker q v aim there kind.Fault kept off is_lost_case) writes_there kept_now refl failed told
-      (stands_counted u _ now ev refl (subst (λ (o : Option ℕ). RowsStand lim u (let_go now q (with_representation q (Some (lost_to o v)) heard))) writer lost))
+      let lost = loses _ heard v may_heard_now there nobody (holds_then alone (subst (λ (o : Option ℕ). HoldsNothing t q v o) (sym writer) (holds_none limits t facts q v there kept))) stood in
+      lossy_answered limits faults u t (with_event now ev (let_go now q (with_consumer w.c (Some back) (with_answer now x response w.joined w (with_representation q (Some (lost_to (exclusive t q v) v)) t))))) before out (act.Lost q kind.Fault ∷ []) now ev q
+      (validated_lost limits t facts.law now x response goes w row a.v a.awaits.asker q v aim there kind.Fault kept off is_lost_case) writes_there kept_now refl failed told
+      (stands_counted u _ now ev refl (subst (λ (o : Option ℕ). RowsStand limits u (let_go now q (with_representation q (Some (lost_to o v)) heard))) writer lost))
 
   -- IT IS
 
@@ -341,13 +341,13 @@ module _ {B : Type 0} {g : Ghosts B} {lim : Limits} (r second : Rows B g) (t : T
     tables_as None = ap (λ (f : ℕ → Option rows.Consumer). record (lost_as None (y ∷ [])) { consumer = f }) (consumers_as None)
     tables_as (Some d) = ap (λ (f : ℕ → Option rows.Consumer). record (lost_as (Some d) []) { consumer = f }) (consumers_as (Some d))
 
-    pub written_answered : (u : Rows B g) (faults : ℕ) (before mid out : List Act) → mid ≡ before → LosesWriting lim u heard mid out now q y v kind.Fault → faults < (shelf_of u.entries).faults → Answered lim faults u t before out now ev
+    pub written_answered : (u : Rows B g) (faults : ℕ) (before mid out : List Act) → mid ≡ before → LosesWriting limits u heard mid out now q y v kind.Fault → faults < (shelf_of u.entries).faults → Answered limits faults u t before out now ev
     written_answered u faults before mid out same loses failed =
-        let done = validated_lost_written lim t facts.law now x response goes w row a.v a.awaits.asker q v aim there kind.Fault on is_lost_case in
+        let done = validated_lost_written limits t facts.law now x response goes w row a.v a.awaits.asker q v aim there kind.Fault on is_lost_case in
         let acts_are : out ≡ before ++ (act.Lost q kind.Fault ∷ map act.Close (unless_survived (survivor t q v) v.writer)) =
         loses.acts ∙ ap₂ (λ (b : List Act) (ys : List ℕ). b ++ (act.Lost q kind.Fault ∷ map act.Close ys)) same (ap₂ unless_survived detached_reader_same (sym writer)) in
-        let stood : RowsStand lim u (lost_as (survivor t q v) (unless_survived (survivor t q v) (Some y))) =
-        subst (RowsStand lim u) (tables_as (survivor t q v)) (subst (λ (o : Option ℕ). RowsStand lim u (all_closed (unless_survived o (Some y)) (shared_loss now q y v o heard))) detached_reader_same loses.rows) in
-        lossy_answered lim faults u t (with_event now ev (let_go now q (with_consumer w.c (Some back) (all_closed (unless_survived (survivor t q v) v.writer) (with_answer now x response w.joined w (writing_lost q (survivor t q v) v.writer (with_representation q (Some (lost_to (survivor t q v) v)) t))))))) before out
+        let stood : RowsStand limits u (lost_as (survivor t q v) (unless_survived (survivor t q v) (Some y))) =
+        subst (RowsStand limits u) (tables_as (survivor t q v)) (subst (λ (o : Option ℕ). RowsStand limits u (all_closed (unless_survived o (Some y)) (shared_loss now q y v o heard))) detached_reader_same loses.rows) in
+        lossy_answered limits faults u t (with_event now ev (let_go now q (with_consumer w.c (Some back) (all_closed (unless_survived (survivor t q v) v.writer) (with_answer now x response w.joined w (writing_lost q (survivor t q v) v.writer (with_representation q (Some (lost_to (survivor t q v) v)) t))))))) before out
         (act.Lost q kind.Fault ∷ map act.Close (unless_survived (survivor t q v) v.writer)) now ev q done writes_there kept_now refl failed acts_are
-        (stands_counted u _ now ev refl (subst (λ (o : Option ℕ). RowsStand lim u (let_go now q (with_consumer w.c (Some back) (all_closed (unless_survived (survivor t q v) o) (with_answer now x response w.joined w (writing_lost q (survivor t q v) o (with_representation q (Some (lost_to (survivor t q v) v)) t))))))) (sym writer) stood))
+        (stands_counted u _ now ev refl (subst (λ (o : Option ℕ). RowsStand limits u (let_go now q (with_consumer w.c (Some back) (all_closed (unless_survived (survivor t q v) o) (with_answer now x response w.joined w (writing_lost q (survivor t q v) o (with_representation q (Some (lost_to (survivor t q v) v)) t))))))) (sym writer) stood))

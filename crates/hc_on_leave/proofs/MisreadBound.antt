@@ -19,7 +19,7 @@ use Rattle.hc_effects.proofs.Stops.{writer_about}
 use Rattle.hc_effects.proofs.Tests.{none_some}
 use Rattle.hc_state.specs.declared.rows.Rows.{Rows}
 use Rattle.hc_state.specs.Stands.{Answered, RowsStand, KeepsRest}
-use Rattle.hc_state.proofs.CloseArm.{unawaited_go}
+use Rattle.hc_state.proofs.CloseHandler.{unawaited_go}
 use Rattle.hc_state.proofs.Closing.{stands_unstored}
 use Rattle.hc_state.proofs.Counting.{stands_counted}
 use Rattle.hc_state.proofs.LeftAlone.{HowLeft, how_left, left_unawaited}

@@ -1,4 +1,4 @@
--- One consumer changes and no exchange: what is kept stands for the tables then, where as much is held for it.
+-- One consumer changes and no exchange: what is kept represents the tables then, where as much is held for it.
 use Rattle.std.proofs.Common.{◌≡◌, ◌≢◌, inl, inr, ℕ, List, true, Option, Some, None, refl, ap, sym, ◌∙◌}
 use Rattle.hc_text.proofs.Basics.{eqb-other, eqb-same, same_or}
 use Rattle.hc_effects.proofs.Vocabulary.{Limits, is_live, is_live_place, with_consumer, family, Tables, Exchange, Representation}
@@ -61,7 +61,7 @@ module _ (t : Tables) (c : ℕ) (v z : rows.Consumer) (row : t.consumer c ≡ So
 
 -- ALL OF IT
 
-module _ {B : Type 0} {g : Ghosts B} {lim : Limits} (r u : Rows B g) (t : Tables) (c : ℕ) (v z : rows.Consumer) (k : Consumer) (stands : RowsStand lim r t) (row : t.consumer c ≡ Some v) (lived : is_live_place v.place ≡ true) (lives : is_live_place z.place ≡ true)
+module _ {B : Type 0} {g : Ghosts B} {limits : Limits} (r u : Rows B g) (t : Tables) (c : ℕ) (v z : rows.Consumer) (k : Consumer) (stands : RowsStand limits r t) (row : t.consumer c ≡ Some v) (lived : is_live_place v.place ≡ true) (lives : is_live_place z.place ≡ true)
     (last : u.last_start ≡ r.last_start) (exchanges : u.exchanges ≡ r.exchanges) (bounded : (shelf_of u.entries).limits ≡ (shelf_of r.entries).limits)
     (becomes : BecomesAt r.consumers u.consumers c (Some k)) (kept : KeepsConsumer t (Some k) (Some z)) (keys : (key : List ℕ) → KeepsKey (with_consumer c (Some z) t) key (kept_of u.keys key))
     (entries : KeepsEntries (with_consumer c (Some z) t) (shelf_of u.entries)) (much : HoldsAsMuch t c v z row) where
@@ -71,7 +71,7 @@ module _ {B : Type 0} {g : Ghosts B} {lim : Limits} (r u : Rows B g) (t : Tables
     | inr ne ↦ ap is_live (others t c v z row d (λ e. ne (sym e)))
   ]
 
-  pub stands_moved : RowsStand lim u (with_consumer c (Some z) t)
+  pub stands_moved : RowsStand limits u (with_consumer c (Some z) t)
   stands_moved = record {
     limits = bounded ∙ stands.limits;
     last_start = last ∙ stands.last_start;

@@ -1,4 +1,4 @@
--- An exchange brings bytes: what is kept stands for the tables then.
+-- An exchange brings bytes: what is kept represents the tables then.
 use Rattle.std.proofs.Common.{◌≡◌, ◌≢◌, inl, inr, ℕ, ◌+◌, List, ◌++◌, length, Bool, true, false, cond, Option, Some, None, refl, ap, ap₂, sym, ◌∙◌, subst}
 use Rattle.std.proofs.lemmas.List.{length-append}
 use Rattle.std.specs.Prelude.{is_some, is_none, nat_eq, bytes_eq, ◌&&◌, if◌then◌else◌}
@@ -26,7 +26,7 @@ use Rattle.hc_state.specs.Kept.{IsRunning, KeepsRunning, KeepsExchange, head_in,
 use Rattle.hc_state.specs.Lines.{KeepsKey, is_away, is_away_at}
 use Rattle.hc_state.specs.Stands.{RowsStand}
 use Rattle.hc_state.specs.Stored.{KeepsEntry, KeepsEntries, is_usable_row}
-use Rattle.hc_on_leave.proofs.AnswerArm.{all_reached, known_here, known_other}
+use Rattle.hc_on_leave.proofs.AnswerHandler.{all_reached, known_here, known_other}
 use Rattle.hc_state.proofs.OneOfEach.{first_by, bound_same, growing_same, kind_same}
 use Rattle.hc_state.proofs.PastRows.{SeesAlike, consumer_alike}
 use Rattle.hc_state.proofs.Ties.{key_same, entry_same, exchange_same, overs_open}
@@ -192,10 +192,10 @@ module _ (t : Tables) (now x : ℕ) (w : Exchange) (bytes : List ℕ) (vs : ℕ 
 
     -- ALL OF IT
 
-    module _ {B : Type 0} {g : Ghosts B} {lim : Limits} (r u : Rows B g) (stands : RowsStand lim r t) (unended : w.is_ended ≡ false) (like : (q : ℕ) → IsLike (t.representation q) (vs q)) (apart : (q : ℕ) → family x w ≢ q → vs q ≡ t.representation q) (hold : Bool) (o : Open) (running : (table_of r.exchanges x).running ≡ Some o)
+    module _ {B : Type 0} {g : Ghosts B} {limits : Limits} (r u : Rows B g) (stands : RowsStand limits r t) (unended : w.is_ended ≡ false) (like : (q : ℕ) → IsLike (t.representation q) (vs q)) (apart : (q : ℕ) → family x w ≢ q → vs q ≡ t.representation q) (hold : Bool) (o : Open) (running : (table_of r.exchanges x).running ≡ Some o)
         (last : u.last_start ≡ r.last_start) (same_map : u.consumers ≡ r.consumers) (same_keys : u.keys ≡ r.keys) (becomes : exch.Becomes (known.with_piece bytes hold) x r.exchanges u.exchanges)
         (held_here : (known.with_piece bytes hold (table_of r.exchanges x)).held ≡ held_for s x (Some z)) (held_else : (y : ℕ) (e : Exchange) → x ≢ y → t.exchange y ≡ Some e → held_for s y (Some e) ≡ held_for t y (Some e))
-        (bounded : (shelf_of u.entries).limits ≡ lim) (kept_else : (q : ℕ) → family x w ≢ q → (shelf_of u.entries).kept q ≡ (shelf_of r.entries).kept q) (order : (shelf_of u.entries).order ≡ (shelf_of r.entries).order)
+        (bounded : (shelf_of u.entries).limits ≡ limits) (kept_else : (q : ℕ) → family x w ≢ q → (shelf_of u.entries).kept q ≡ (shelf_of r.entries).kept q) (order : (shelf_of u.entries).order ≡ (shelf_of r.entries).order)
         (its : KeepsEntry s (family x w) ((shelf_of u.entries).kept (family x w)) (vs (family x w))) where
       is_running : IsRunning t x o w
       is_running = subst (KeepsRunning t x (Some o)) row (subst (λ (k : Option Open). KeepsRunning t x k (t.exchange x)) running (stands.exchanges x).running)
@@ -212,7 +212,7 @@ module _ (t : Tables) (now x : ℕ) (w : Exchange) (bytes : List ℕ) (vs : ℕ 
             (exchange_same t s y (table_of r.exchanges y) (record { row = others y ne; brings = λ e at. (like (family y e)).there; held = held_row y (t.exchange y) ne refl }) (stands.exchanges y))
       ]
 
-      pub stands_pieced : RowsStand lim u s
+      pub stands_pieced : RowsStand limits u s
       stands_pieced = record {
         limits = bounded;
         last_start = last ∙ stands.last_start;

@@ -31,8 +31,8 @@ entry_short t q n k (Some v) rows kept known = by_length kept.length
     by_length (told same) = rows v refl (sym same ∙ known)
     by_length (untold u) = none_some n (sym u.untold ∙ known)
 
--- where they stand for tables with the representations of a run
-pub shorts : {B : Type 0} {g : Ghosts B} {lim : Limits} (u : Rows B g) (t s : Tables) → Numbers t → t.received < 2 ^ 62 → s.representation ≡ t.representation → RowsStand lim u s → TellsShort (shelf_of u.entries)
+-- where they represent tables with the representations of a run
+pub shorts : {B : Type 0} {g : Ghosts B} {limits : Limits} (u : Rows B g) (t s : Tables) → Numbers t → t.received < 2 ^ 62 → s.representation ≡ t.representation → RowsStand limits u s → TellsShort (shelf_of u.entries)
 shorts u t s numbers few same stands q n k at known =
     entry_short s q n k (s.representation q) (λ v row is. below_room n t.received (numbers.totals q n v (sym (ap (λ f. f q) same) ∙ row) is) few)
     (subst (λ o. KeepsEntry s q o (s.representation q)) at (stands.entries.each q)) known
@@ -44,7 +44,7 @@ shorts_here r some q n k at known = merely_below n (2 ^ 62) some (λ s.
     shorts r t t s.numbers (few_received s.received) refl s.rows q n k at known)
 
 -- once a consumer is gone
-pub shorts_left : {B : Type 0} {g : Ghosts B} (r u : Rows B g) (c : ℕ) → ∥ Stands r ∥₁ → is_some (get nat_eq r.consumers c) ≡ true → ((lim : Limits) (t : Tables) (k : rows.Consumer) → Lawful t → t.consumer c ≡ Some k → RowsStand lim r t → RowsStand lim u (with_consumer c (Some (as_over k)) t)) → TellsShort (shelf_of u.entries)
+pub shorts_left : {B : Type 0} {g : Ghosts B} (r u : Rows B g) (c : ℕ) → ∥ Stands r ∥₁ → is_some (get nat_eq r.consumers c) ≡ true → ((limits : Limits) (t : Tables) (k : rows.Consumer) → Lawful t → t.consumer c ≡ Some k → RowsStand limits r t → RowsStand limits u (with_consumer c (Some (as_over k)) t)) → TellsShort (shelf_of u.entries)
 shorts_left r u c some lives leaves q n k at known = merely_below n (2 ^ 62) some (λ s.
     let t : Tables = s.t in
     let facts = s.facts in

@@ -1,4 +1,4 @@
--- A piece is stored, after what is idle made room for it: what is kept stands for the tables then.
+-- A piece is stored, after what is idle made room for it: what is kept represents the tables then.
 use Rattle.std.proofs.Common.{◌≡◌, ◌≢◌, inl, inr, ℕ, ◌+◌, ◌-◌, ◌<◌, ◌≤◌, ◌⊎◌, List, [], ◌∷◌, ◌++◌, length, max, Bool, true, false, Option, Some, None, refl, ap, sym, ◌∙◌, subst, arith}
 use mathlib.Core.Path.{fun_ext}
 use Rattle.std.specs.Prelude.{is_some, nat_eq, not, slice_index, map, option_map, ◌==◌, ◌&&◌, if◌then◌else◌}
@@ -38,7 +38,7 @@ use Rattle.hc_state.specs.Stops.{kind_left}
 use Rattle.hc_state.specs.Stored.{IsEntry, TellsLength, told, untold, KeepsEntry}
 use Rattle.hc_state.proofs.Fallbacks.{unstored_moved}
 use Rattle.hc_state.proofs.OneOfEach.{first_by}
-use Rattle.hc_on_leave.proofs.PieceArm.{Runs, runs_of, open_unended, not_overlong}
+use Rattle.hc_on_leave.proofs.PieceHandler.{Runs, runs_of, open_unended, not_overlong}
 use Rattle.hc_on_leave.proofs.PieceRows.{s, IsLike, like_same, grows_on, stands_pieced}
 
 still_there : (a : Bool) (cell : Cell) (o : Option Cell) → is_some o ≡ true → is_some (if a then Some cell else o) ≡ true

@@ -28,7 +28,7 @@ use Rattle.hc_state.proofs.LeftRows.{running_as, writing_as}
 
 -- HAS MORE
 
-module _ {B : Type 0} {g : Ghosts B} {lim : Limits} (r : Rows B g) (t : Tables) (stands : RowsStand lim r t) (k : Consumer) (v : rows.Consumer) (kept : IsKept t k v) (p : Representation) where
+module _ {B : Type 0} {g : Ghosts B} {limits : Limits} (r : Rows B g) (t : Tables) (stands : RowsStand limits r t) (k : Consumer) (v : rows.Consumer) (kept : IsKept t k v) (p : Representation) where
   own_as : if_running (table_of r.exchanges) k.own ≡ own_open t v
   own_as = running_as r t stands k.own ∙ ap (option_and_then (if_open t)) kept.own
 
@@ -43,7 +43,7 @@ module _ {B : Type 0} {g : Ghosts B} {lim : Limits} (r : Rows B g) (t : Tables) 
   pub more_none : is_some (if_running (table_of r.exchanges) k.own) ≡ false → k.hi ≡ None → false ≡ has_more t p v
   more_none off none = rw (sym (ap (λ (o : Option ℕ). is_some o) own_as) ∙ off, sym kept.ends ∙ none) refl
 
-  pub more_ahead : (law : Facts lim t) (q : ℕ) → t.representation q ≡ Some p → p.is_lost ≡ false → is_kept (shelf_of r.entries) q ≡ true → is_some (if_running (table_of r.exchanges) k.own) ≡ false → (hi : ℕ) → k.hi ≡ Some hi
+  pub more_ahead : (law : Facts limits t) (q : ℕ) → t.representation q ≡ Some p → p.is_lost ≡ false → is_kept (shelf_of r.entries) q ≡ true → is_some (if_running (table_of r.exchanges) k.own) ≡ false → (hi : ℕ) → k.hi ≡ Some hi
       → (b : Bool) → (IsTrue b ↔ Covers (cells_at (shelf_of r.entries) q) (k.lo + k.given) hi) → not b ≡ has_more t p v
   more_ahead facts q here stays there off hi at b tells =
       let entry = kept_entry r t stands q p here there in
@@ -52,7 +52,7 @@ module _ {B : Type 0} {g : Ghosts B} {lim : Limits} (r : Rows B g) (t : Tables) 
 
 -- THE EXCLUSIVE WRITER
 
-module _ {B : Type 0} {g : Ghosts B} {lim : Limits} (r : Rows B g) (t : Tables) (facts : Facts lim t) (stands : RowsStand lim r t) (q : ℕ) (p : Representation) (here : t.representation q ≡ Some p) where
+module _ {B : Type 0} {g : Ghosts B} {limits : Limits} (r : Rows B g) (t : Tables) (facts : Facts limits t) (stands : RowsStand limits r t) (q : ℕ) (p : Representation) (here : t.representation q ≡ Some p) where
   none_by : (o : Option ℕ) → exclusive t q p ≡ o → ((c : ℕ) → exclusive t q p ≡ Some c → ⊥) → None ≡ exclusive t q p
   none_by None at off = sym at
   none_by (Some c) at off = absurd (off c at)

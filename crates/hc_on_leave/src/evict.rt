@@ -25,8 +25,8 @@ use std::collections::HashMap;
 
 /// A representation isn't used for new consumers any more: whoever waits for it starts over.
 pub(crate) fn let_go<B: Backend>(rows: &mut Rows<B>, now: u64, r: u64)
-    ensures stands { (lim : Limits) (t : Tables) → MayLetGo t → RowsStand lim rows.old t
-        → RowsStand lim rows.new (let_go now r t) }
+    ensures stands { (limits : Limits) (t : Tables) → MayLetGo t → RowsStand limits rows.old t
+        → RowsStand limits rows.new (let_go now r t) }
     ensures around { KeepsAround rows.old rows.new }
 {
     if !is_current(rows, r) {
@@ -43,8 +43,8 @@ pub(crate) fn let_go<B: Backend>(rows: &mut Rows<B>, now: u64, r: u64)
 
 /// There is one, and it is let go.
 pub fn let_some_go<B: Backend>(rows: &mut Rows<B>, now: u64, r: Option<u64>)
-    ensures stands { (lim : Limits) (t : Tables) → MayLetGo t → RowsStand lim rows.old t
-        → RowsStand lim rows.new (let_some_go now r t) }
+    ensures stands { (limits : Limits) (t : Tables) → MayLetGo t → RowsStand limits rows.old t
+        → RowsStand limits rows.new (let_some_go now r t) }
     ensures last_start { rows.new.last_start ≡ rows.old.last_start }
     ensures exchanges { rows.new.exchanges ≡ rows.old.exchanges }
     ensures faults { (shelf_of rows.new.entries).faults ≡ (shelf_of rows.old.entries).faults }
@@ -57,8 +57,8 @@ pub fn let_some_go<B: Backend>(rows: &mut Rows<B>, now: u64, r: Option<u64>)
 /// Idle representations give way to a write, as few as make room for it, where that can be.
 pub fn make_room<B: Backend>(rows: &mut Rows<B>, now: u64, write: Write, out: &mut Acts)
     requires fits { HasActs (spare out.old) (room_for_write rows.old write) }
-    ensures gives { (lim : Limits) (t : Tables) → MayMakeRoom t → RowsStand lim rows.old t
-        → GivesWay lim rows.new t now (giving_way lim t write)
+    ensures gives { (limits : Limits) (t : Tables) → MayMakeRoom t → RowsStand limits rows.old t
+        → GivesWay limits rows.new t now (giving_way limits t write)
         (act_list out.old) (act_list out.new) }
     ensures appends { Appends (act_list out.old) (act_list out.new) }
     ensures room { LeavesActs (spare out.old) (spare out.new) (room_for_write rows.old write) }

@@ -22,8 +22,9 @@ use hc_text::Key;
 /// A consumer is gone.
 pub(crate) fn remove_consumer<B: Backend>(rows: &mut Rows<B>, c: u64)
     requires may { MayLeave rows.old c }
-    ensures stands { (lim : Limits) (t : Tables) (k : Consumer) → Lawful t → t.consumer c ≡ Some k
-        → RowsStand lim rows.old t → RowsStand lim rows.new (with_consumer c (Some (as_over k)) t) }
+    ensures stands { (limits : Limits) (t : Tables) (k : Consumer) → Lawful t
+        → t.consumer c ≡ Some k → RowsStand limits rows.old t
+        → RowsStand limits rows.new (with_consumer c (Some (as_over k)) t) }
     ensures faults { (shelf_of rows.new.entries).faults ≡ (shelf_of rows.old.entries).faults }
 {
     leave_place(rows, c);

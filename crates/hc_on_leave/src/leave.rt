@@ -9,7 +9,7 @@ ghost use Rattle.hc_exch.specs.Known.{is_open};
 ghost use Rattle.hc_model.specs.Moves.{Ends, Fails};
 ghost use Rattle.hc_rules.specs.declared.room.Limits.{Limits};
 ghost use Rattle.hc_state.specs.Stands.{Answers, AnswersMove, Stands, RowsStand};
-ghost use Rattle.hc_state.specs.Arms.{IsQueued, LeavesLine};
+ghost use Rattle.hc_state.specs.Handlers.{IsQueued, LeavesLine};
 ghost use Rattle.std.specs.List.{list_all};
 ghost use Rattle.hc_stored.specs.Views.{bound_in};
 ghost use Rattle.hc_model.specs.Currents.{is_number};
@@ -81,9 +81,9 @@ pub fn leave_line<B: Backend>(rows: &mut Rows<B>, c: u64)
 fn leave<B: Backend>(rows: &mut Rows<B>, now: u64, c: u64, out: &mut Acts)
     requires may { MayLeave rows.old c }
     requires room { 2 ≤ spare out.old }
-    ensures left { (lim : Limits) (t : Tables) (k : Consumer) → Facts lim t
-        → RowsStand lim rows.old t → t.consumer c ≡ Some k
-        → HasLeft lim (shelf_of rows.old.entries).faults rows.new t
+    ensures left { (limits : Limits) (t : Tables) (k : Consumer) → Facts limits t
+        → RowsStand limits rows.old t → t.consumer c ≡ Some k
+        → HasLeft limits (shelf_of rows.old.entries).faults rows.new t
         (act_list out.old) (act_list out.new) now c k }
     ensures faults { (shelf_of rows.old.entries).faults ≤ (shelf_of rows.new.entries).faults }
 {

@@ -37,8 +37,8 @@ pub fn lose_shared<B: Backend>(
 ) -> Option<u64>
     requires there { is_kept (shelf_of rows.old.entries) r ≡ true }
     requires room { 1 ≤ spare out.old }
-    ensures lost { (lim : Limits) (t : Tables) (v : Representation) → MayLoseShared t r x v
-        → RowsStand lim rows.old t → LosesShared lim rows.new t now r x v result }
+    ensures lost { (limits : Limits) (t : Tables) (v : Representation) → MayLoseShared t r x v
+        → RowsStand limits rows.old t → LosesShared limits rows.new t now r x v result }
     ensures acts { act_list out.new ≡ act_list out.old ++ act.Lost r kind ∷ [] }
     ensures room { spare out.new + 1 ≡ spare out.old }
     ensures around { KeepsAround rows.old rows.new }
@@ -68,9 +68,9 @@ pub fn lose_writing<B: Backend>(
     requires there { is_kept (shelf_of rows.old.entries) r ≡ true }
     requires running { is_open x (table_of rows.old.exchanges) ≡ true }
     requires room { 2 ≤ spare out.old }
-    ensures lost { (lim : Limits) (t : Tables) (v : Representation) → MayLoseShared t r x v
-        → RowsStand lim rows.old t
-        → LosesWriting lim rows.new t (act_list out.old) (act_list out.new) now r x v kind }
+    ensures lost { (limits : Limits) (t : Tables) (v : Representation) → MayLoseShared t r x v
+        → RowsStand limits rows.old t
+        → LosesWriting limits rows.new t (act_list out.old) (act_list out.new) now r x v kind }
     ensures faults { (shelf_of rows.new.entries).faults ≡ (shelf_of rows.old.entries).faults }
 {
     if lose_shared(rows, now, r, x, kind, out).is_none() {

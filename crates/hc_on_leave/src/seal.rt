@@ -69,9 +69,9 @@ pub fn stop_bringing<B: Backend>(
 )
     requires may { MayClose rows.old x }
     requires room { 1 ≤ spare out.old }
-    ensures stopped { (lim : Limits) (t : Tables) (f : ℕ → Option Consumer) → Facts lim t
-        → MayStop t f x alone → RowsStand lim rows.old (with_consumers f t)
-        → HasStopped lim (shelf_of rows.old.entries).faults rows.new t f
+    ensures stopped { (limits : Limits) (t : Tables) (f : ℕ → Option Consumer) → Facts limits t
+        → MayStop t f x alone → RowsStand limits rows.old (with_consumers f t)
+        → HasStopped limits (shelf_of rows.old.entries).faults rows.new t f
         (act_list out.old) (act_list out.new) now x }
     ensures faults { (shelf_of rows.old.entries).faults ≤ (shelf_of rows.new.entries).faults }
 {
@@ -97,11 +97,11 @@ fn seal_stopped<B: Backend>(
     requires may { MayClose rows.old x }
     requires there { is_kept (shelf_of rows.old.entries) r ≡ true }
     requires room { 1 ≤ spare out.old }
-    ensures stopped { (lim : Limits) (t : Tables) (f : ℕ → Option Consumer) → Facts lim t
-        → MayStop t f x alone → RowsStand lim rows.old (with_consumers f t)
+    ensures stopped { (limits : Limits) (t : Tables) (f : ℕ → Option Consumer) → Facts limits t
+        → MayStop t f x alone → RowsStand limits rows.old (with_consumers f t)
         → stop_of x (table_of rows.old.exchanges x).running (shelf_of rows.old.entries)
         ≡ stop.Seal r
-        → HasStopped lim (shelf_of rows.old.entries).faults rows.new t f
+        → HasStopped limits (shelf_of rows.old.entries).faults rows.new t f
         (act_list out.old) (act_list out.new) now x }
     ensures faults { (shelf_of rows.old.entries).faults ≤ (shelf_of rows.new.entries).faults }
 {
@@ -170,10 +170,10 @@ pub fn lose_to<B: Backend>(
 )
     requires there { is_kept (shelf_of rows.old.entries) r ≡ true }
     requires room { 1 ≤ spare out.old }
-    ensures lost { (lim : Limits) (t : Tables) (v : Representation) → MayLetGo t
+    ensures lost { (limits : Limits) (t : Tables) (v : Representation) → MayLetGo t
         → t.representation r ≡ Some v → v.alone ≡ None → HoldsNothing t r v alone
-        → RowsStand lim rows.old t
-        → RowsStand lim rows.new
+        → RowsStand limits rows.old t
+        → RowsStand limits rows.new
         (let_go now r (with_representation r (Some (lost_to alone v)) t)) }
     ensures acts { act_list out.new ≡ act_list out.old ++ act.Lost r kind ∷ [] }
     ensures room { spare out.new + 1 ≡ spare out.old }

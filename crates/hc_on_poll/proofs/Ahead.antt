@@ -10,7 +10,7 @@ use Rattle.hc_sparse.specs.declared.run.Run.{Run}
 use Rattle.hc_sparse.proofs.StretchLemmas.{stretch-absent, stretch-longest, stretch-only}
 use Rattle.hc_effects.proofs.Vocabulary.{is_at_end, cut_at, stretch_to}
 use Rattle.hc_effects.proofs.Tests.{none_some}
-use Rattle.hc_state.specs.Arms.{most}
+use Rattle.hc_state.specs.Handlers.{most}
 use Rattle.hc_on_poll.proofs.ReadLemmas.{some_more}
 
 -- what is read from the store, and how the tables see that

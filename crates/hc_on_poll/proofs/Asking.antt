@@ -1,4 +1,4 @@
--- The next bytes of an exchange are asked for: what is kept stands for the tables then.
+-- The next bytes of an exchange are asked for: what is kept represents the tables then.
 use Rattle.std.proofs.Common.{◌≡◌, ◌≢◌, inl, inr, ℕ, ◌+◌, ◌-◌, [], length, Bool, true, false, Option, Some, None, refl, ap, sym, ◌∙◌, subst}
 use Rattle.std.specs.Prelude.{nat_eq, bytes_eq, drop, option_map, ◌&&◌, if◌then◌else◌}
 use Rattle.std.specs.HashMap.{get, hash_map_len}
@@ -19,7 +19,7 @@ use Rattle.hc_model.specs.Rows as rows
 use Rattle.hc_state.specs.Stored.{is_over}
 use Rattle.hc_state.specs.declared.consumer.Consumer.{Consumer}
 use Rattle.hc_state.specs.declared.rows.Rows.{Rows}
-use Rattle.hc_state.specs.Arms.{asked_in}
+use Rattle.hc_state.specs.Handlers.{asked_in}
 use Rattle.hc_state.specs.Kept.{IsKept, KeepsConsumer, KeepsExchange, KeepsRunning, head_in, answer_at, held_for, held_of, held_alone, unstored_bytes}
 use Rattle.hc_state.specs.Lines.{KeepsKey, is_away, is_away_at}
 use Rattle.hc_state.specs.Stands.{RowsStand}
@@ -195,8 +195,8 @@ module _ (t : Tables) (x : ℕ) where
 
 -- ALL OF IT
 
-pub stands_asked : {B : Type 0} {g : Ghosts B} {lim : Limits} (r u : Rows B g) (t : Tables) (x : ℕ) → RowsStand lim r t → u.last_start ≡ r.last_start → u.consumers ≡ r.consumers → u.keys ≡ r.keys
-    → exch.Becomes known.with_asking x r.exchanges u.exchanges → shelf.Stays (shelf_of r.entries) (shelf_of u.entries) → RowsStand lim u (with_ask x t)
+pub stands_asked : {B : Type 0} {g : Ghosts B} {limits : Limits} (r u : Rows B g) (t : Tables) (x : ℕ) → RowsStand limits r t → u.last_start ≡ r.last_start → u.consumers ≡ r.consumers → u.keys ≡ r.keys
+    → exch.Becomes known.with_asking x r.exchanges u.exchanges → shelf.Stays (shelf_of r.entries) (shelf_of u.entries) → RowsStand limits u (with_ask x t)
 stands_asked r u t x stands last consumers keys becomes read = record {
   limits = read.limits ∙ stands.limits;
   last_start = last ∙ stands.last_start;
@@ -224,8 +224,8 @@ asked_is z on = by_running z.running refl
     by_running (Some o) is = let asked : o.asked ≡ true = rw is at on in rw (is, asked) refl
 
 -- they are asked for once
-pub stands_asked_already : {B : Type 0} {g : Ghosts B} {lim : Limits} (r u : Rows B g) (t : Tables) (x : ℕ) → RowsStand lim r t → asked_in (table_of r.exchanges x).running ≡ true → u.last_start ≡ r.last_start → u.consumers ≡ r.consumers → u.keys ≡ r.keys
-    → exch.Becomes known.with_asking x r.exchanges u.exchanges → shelf.Stays (shelf_of r.entries) (shelf_of u.entries) → RowsStand lim u t
+pub stands_asked_already : {B : Type 0} {g : Ghosts B} {limits : Limits} (r u : Rows B g) (t : Tables) (x : ℕ) → RowsStand limits r t → asked_in (table_of r.exchanges x).running ≡ true → u.last_start ≡ r.last_start → u.consumers ≡ r.consumers → u.keys ≡ r.keys
+    → exch.Becomes known.with_asking x r.exchanges u.exchanges → shelf.Stays (shelf_of r.entries) (shelf_of u.entries) → RowsStand limits u t
 stands_asked_already r u t x stands on last consumers keys becomes read = record {
   limits = read.limits ∙ stands.limits;
   last_start = last ∙ stands.last_start;

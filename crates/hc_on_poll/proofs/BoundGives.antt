@@ -1,4 +1,4 @@
--- Who is bound is given what is stored ahead of it, or what is held for it, or waits for more: what is kept stands for the tables then.
+-- Who is bound is given what is stored ahead of it, or what is held for it, or waits for more: what is kept represents the tables then.
 use Rattle.std.proofs.Common.{◌≡◌, ◌≢◌, inl, inr, ℕ, zero, suc, ◌+◌, ◌-◌, ◌<◌, ◌≤◌, List, [], ◌++◌, length, drop, take, min, Bool, true, false, Option, Some, None, refl, ap, ap₂, sym, ◌∙◌, subst, arith}
 use Rattle.std.proofs.Math.ListN.{drop_of_length-le}
 use Rattle.std.proofs.lemmas.Bool.Decides.{nat_tests}
@@ -27,7 +27,7 @@ use Rattle.hc_effects.proofs.GiveEffects.{gives_bytes}
 use Rattle.hc_effects.proofs.WaitEffects.{waits_on}
 use Rattle.hc_state.specs.declared.consumer.Consumer.{Consumer}
 use Rattle.hc_state.specs.declared.rows.Rows.{Rows}
-use Rattle.hc_state.specs.Arms.{asks_or_waits, asked_in, given_acts}
+use Rattle.hc_state.specs.Handlers.{asks_or_waits, asked_in, given_acts}
 use Rattle.hc_state.specs.Changes.{ChangesAt, once_given}
 use Rattle.hc_state.specs.Facts.{Facts}
 use Rattle.hc_state.specs.Kept.{KeepsExchange, KeepsRunning, held_for, held_of, held_alone, unread, unstored_bytes, first_lacking}
@@ -36,7 +36,7 @@ use Rattle.hc_state.proofs.Answering.{does_answered}
 use Rattle.hc_on_poll.proofs.Asking.{stands_asked, stands_asked_already}
 use Rattle.hc_on_poll.proofs.BoundViews.{Holds, absent_here, offset_is, unstored_own, unread_bound}
 use Rattle.hc_state.proofs.Counting.{stands_counted}
-use Rattle.hc_state.proofs.QueueArm.{becomes_by}
+use Rattle.hc_state.proofs.QueueHandler.{becomes_by}
 use Rattle.hc_state.proofs.ReaderSteps.{held_same, exchange_reading, stands_reading}
 use Rattle.hc_on_poll.proofs.ShowStored.{IsBoundRow}
 use Rattle.hc_on_poll.proofs.ReadPast.{itself}
@@ -90,7 +90,7 @@ given_drop n m body bytes is = taken n m body ∙ ap (λ (xs : List ℕ). drop (
 
 -- WHAT IS DONE
 
-module _ {B : Type 0} {g : Ghosts B} {lim : Limits} (r u : Rows B g) (t : Tables) (facts : Facts lim t) (stands : RowsStand lim r t) (now want c q : ℕ) (how : BoundBy) (k : Consumer) (rd : IsBoundRow t c q how k) (there : get nat_eq r.consumers c ≡ Some k) (before out : List Act)
+module _ {B : Type 0} {g : Ghosts B} {limits : Limits} (r u : Rows B g) (t : Tables) (facts : Facts limits t) (stands : RowsStand limits r t) (now want c q : ℕ) (how : BoundBy) (k : Consumer) (rd : IsBoundRow t c q how k) (there : get nat_eq r.consumers c ≡ Some k) (before out : List Act)
     (last : u.last_start ≡ r.last_start) (same_keys : u.keys ≡ r.keys) (same_entries : u.entries ≡ r.entries) where
   abbrev ev : Event
   ev = event.Poll c want
@@ -124,7 +124,7 @@ module _ {B : Type 0} {g : Ghosts B} {lim : Limits} (r u : Rows B g) (t : Tables
     unread_same y z = unread_bound y z w q rd.lo rd.hi how rd.at ∙ sym (unread_bound y z rd.v q rd.lo rd.hi how rd.at)
 
     module _ (changes : ChangesAt r.consumers u.consumers c (once_given l)) (next : next_of u.exchanges ≡ next_of r.exchanges) (exchanges : (y : ℕ) → KeepsExchange s y (table_of u.exchanges y)) where
-      stands_given : RowsStand lim u s
+      stands_given : RowsStand limits u s
       stands_given =
           let kp = rd.kept in
           stands_reading t c rd.v rd.v.shown (rd.v.given + l) rd.row r u stands kp.is_there last same_keys next unread_store
@@ -145,10 +145,10 @@ module _ {B : Type 0} {g : Ghosts B} {lim : Limits} (r u : Rows B g) (t : Tables
           })
           exchanges
 
-      gives_answered : (run : Run) → length run.bytes ≡ l → move_of t now want c rd.v ≡ Gives run → out ≡ before ++ acts_of c (Gives run) → Answered lim (shelf_of r.entries).faults u t before out now ev
+      gives_answered : (run : Run) → length run.bytes ≡ l → move_of t now want c rd.v ≡ Gives run → out ≡ before ++ acts_of c (Gives run) → Answered limits (shelf_of r.entries).faults u t before out now ev
       gives_answered run long move acts =
-          does_answered lim (shelf_of r.entries).faults u t (with_event now ev s) before out (acts_of c (Gives run)) now ev
-          (subst (λ (n : ℕ). Does lim t now ev NoFlaw (acts_of c (Gives run)) (with_event now ev (with_consumer c (Some (record rd.v { given = rd.v.given + n })) t))) long (gives_bytes lim t facts.law now c want rd.v rd.row run move)) refl refl acts
+          does_answered limits (shelf_of r.entries).faults u t (with_event now ev s) before out (acts_of c (Gives run)) now ev
+          (subst (λ (n : ℕ). Does limits t now ev NoFlaw (acts_of c (Gives run)) (with_event now ev (with_consumer c (Some (record rd.v { given = rd.v.given + n })) t))) long (gives_bytes limits t facts.law now c want rd.v rd.row run move)) refl refl acts
           (stands_counted u s now ev refl stands_given)
 
   -- OF WHAT IS STORED
@@ -173,7 +173,7 @@ module _ {B : Type 0} {g : Ghosts B} {lim : Limits} (r u : Rows B g) (t : Tables
             ap (λ (n : ℕ). drop (absent_from p.stored p.reach n (front e) - base e) e.body) (offset_then l t)
             ∙ (lacks ∙ ap (λ (n : ℕ). drop (absent_from p.stored p.reach n (front e) - base e) e.body) (offset_is r t facts stands c q how k rd)))
 
-    pub stored_answered : move_of t now want c rd.v ≡ Gives z → out ≡ before ++ given_acts c z.x z.at z.bytes → u.exchanges ≡ r.exchanges → ChangesAt r.consumers u.consumers c (once_given l) → Answered lim (shelf_of r.entries).faults u t before out now ev
+    pub stored_answered : move_of t now want c rd.v ≡ Gives z → out ≡ before ++ given_acts c z.x z.at z.bytes → u.exchanges ≡ r.exchanges → ChangesAt r.consumers u.consumers c (once_given l) → Answered limits (shelf_of r.entries).faults u t before out now ev
     stored_answered move acts exchanges changes =
         gives_answered l changes (ap (λ (x : _). next_of x) exchanges)
         (λ y. subst (λ x. KeepsExchange (with_consumer c (Some (record rd.v { given = rd.v.given + l })) t) y (table_of x y)) (sym exchanges) (exchange_reading t c rd.v rd.v.shown (rd.v.given + l) rd.row y (table_of r.exchanges y) (held_on y (t.exchange y)) (stands.exchanges y)))
@@ -236,21 +236,21 @@ module _ {B : Type 0} {g : Ghosts B} {lim : Limits} (r u : Rows B g) (t : Tables
           (exchange_reading t c rd.v rd.v.shown (rd.v.given + more) rd.row y (table_of r.exchanges y) (elsewhere y (t.exchange y) ne) (stands.exchanges y))
     ]
 
-    pub held_answered : move_of t now want c rd.v ≡ Gives (record { x = h.x; at = o; bytes = bytes }) → out ≡ before ++ given_acts c h.x o bytes → ChangesAt r.consumers u.consumers c (once_given more) → Answered lim (shelf_of r.entries).faults u t before out now ev
+    pub held_answered : move_of t now want c rd.v ≡ Gives (record { x = h.x; at = o; bytes = bytes }) → out ≡ before ++ given_acts c h.x o bytes → ChangesAt r.consumers u.consumers c (once_given more) → Answered limits (shelf_of r.entries).faults u t before out now ev
     held_answered move acts changes = gives_answered more changes becomes.next each_exchange (record { x = h.x; at = o; bytes = bytes }) refl move acts
 
   -- IT ASKS FOR MORE, OR WAITS FOR THAT
 
   module _ (x : ℕ) (consumers : u.consumers ≡ r.consumers) (becomes : exch.Becomes known.with_asking x r.exchanges u.exchanges) where
-    waits_by : (b : Bool) → asked_in (table_of r.exchanges x).running ≡ b → move_of t now want c rd.v ≡ asks_or_waits b x → out ≡ before ++ acts_of c (asks_or_waits b x) → Answered lim (shelf_of r.entries).faults u t before out now ev
+    waits_by : (b : Bool) → asked_in (table_of r.exchanges x).running ≡ b → move_of t now want c rd.v ≡ asks_or_waits b x → out ≡ before ++ acts_of c (asks_or_waits b x) → Answered limits (shelf_of r.entries).faults u t before out now ev
     waits_by false is move acts =
-        does_answered lim (shelf_of r.entries).faults u t (with_event now ev (with_ask x t)) before out (acts_of c (Asks x)) now ev
-        (asks lim t facts.law now c want rd.v rd.row x move) refl refl acts
+        does_answered limits (shelf_of r.entries).faults u t (with_event now ev (with_ask x t)) before out (acts_of c (Asks x)) now ev
+        (asks limits t facts.law now c want rd.v rd.row x move) refl refl acts
         (stands_counted u (with_ask x t) now ev refl (stands_asked r u t x stands last consumers same_keys becomes unread_store))
     waits_by true is move acts =
-        does_answered lim (shelf_of r.entries).faults u t (with_event now ev t) before out (acts_of c (moves.Waits (wait.Body x))) now ev
-        (waits_on lim t facts.law now c want rd.v rd.row (wait.Body x) move refl) refl refl acts
+        does_answered limits (shelf_of r.entries).faults u t (with_event now ev t) before out (acts_of c (moves.Waits (wait.Body x))) now ev
+        (waits_on limits t facts.law now c want rd.v rd.row (wait.Body x) move refl) refl refl acts
         (stands_counted u t now ev refl (stands_asked_already r u t x stands is last consumers same_keys becomes unread_store))
 
-    pub asks_answered : move_of t now want c rd.v ≡ asks_or_waits (asked_in (table_of r.exchanges x).running) x → out ≡ before ++ acts_of c (asks_or_waits (asked_in (table_of r.exchanges x).running) x) → Answered lim (shelf_of r.entries).faults u t before out now ev
+    pub asks_answered : move_of t now want c rd.v ≡ asks_or_waits (asked_in (table_of r.exchanges x).running) x → out ≡ before ++ acts_of c (asks_or_waits (asked_in (table_of r.exchanges x).running) x) → Answered limits (shelf_of r.entries).faults u t before out now ev
     asks_answered move acts = waits_by (asked_in (table_of r.exchanges x).running) refl move acts

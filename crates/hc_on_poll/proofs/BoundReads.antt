@@ -34,11 +34,11 @@ use Rattle.hc_effects.proofs.Tests.{none_some}
 use Rattle.hc_model.specs.Steps as steps
 use Rattle.hc_state.specs.declared.consumer.Consumer.{Consumer}
 use Rattle.hc_state.specs.declared.rows.Rows.{Rows}
-use Rattle.hc_state.specs.Arms.{most, asks_or_waits, asked_in}
+use Rattle.hc_state.specs.Handlers.{most, asks_or_waits, asked_in}
 use Rattle.hc_state.specs.Facts.{Facts}
 use Rattle.hc_state.specs.Kept.{KeepsRunning}
 use Rattle.hc_state.specs.Leaving.{if_running, writing_of}
-use Rattle.hc_state.specs.Reads.{goes_alone, held_own, bound_view, headless_own, is_headless_open, IsHeard, IsRunAhead, ReadViewIs}
+use Rattle.hc_state.specs.Reads.{goes_alone, held_own, bound_view, headless_own, is_headless_open, WaitsForNoHead, IsRunAhead, ReadViewIs}
 use Rattle.hc_state.specs.Stands.{RowsStand}
 use Rattle.hc_state.specs.Stored.{IsEntry, TellsLength, told, untold}
 use Rattle.hc_on_poll.proofs.Ahead.{IsAhead, ahead, none_ahead}
@@ -183,7 +183,7 @@ waits_some t table v x same some = by_own v.own refl some
 
 -- WHO READS ON
 
-module _ {B : Type 0} {g : Ghosts B} {lim : Limits} (r : Rows B g) (t : Tables) (facts : Facts lim t) (stands : RowsStand lim r t) (c q : ℕ) (how : BoundBy) (k : Consumer) (rd : IsBoundRow t c q how k) (now want : ℕ) (shown : k.shown ≡ true) where
+module _ {B : Type 0} {g : Ghosts B} {limits : Limits} (r : Rows B g) (t : Tables) (facts : Facts limits t) (stands : RowsStand limits r t) (c q : ℕ) (how : BoundBy) (k : Consumer) (rd : IsBoundRow t c q how k) (now want : ℕ) (shown : k.shown ≡ true) where
   abbrev o : ℕ
   o = k.lo + k.given
 
@@ -207,7 +207,7 @@ module _ {B : Type 0} {g : Ghosts B} {lim : Limits} (r : Rows B g) (t : Tables) 
       ap (λ (m : Option Move). or_else m (or_else (waits_for_head (option_and_then (if_headless t) (own_open t rd.v))) (by_place t now want c rd.v rd.v.place))) shows_none
       ∙ ap (λ (m : Option Move). or_else m (by_place t now want c rd.v rd.v.place)) waits
 
-  module _ (heard : IsHeard table k) where
+  module _ (heard : WaitsForNoHead table k) where
     by_reading : by_place t now want c rd.v rd.v.place ≡ reading t want c rd.v
     by_reading = ap (by_place t now want c rd.v) rd.at ∙ by_shown rd.v.shown (sym rd.kept.shown ∙ shown)
       where
@@ -594,7 +594,7 @@ module _ {B : Type 0} {g : Ghosts B} {lim : Limits} (r : Rows B g) (t : Tables) 
 
 -- WHAT FITS
 
-module _ {B : Type 0} {g : Ghosts B} {lim : Limits} (r : Rows B g) (t : Tables) (facts : Facts lim t) (stands : RowsStand lim r t) (c q : ℕ) (how : BoundBy) (k : Consumer) (rd : IsBoundRow t c q how k) (numbers : Numbers t) (few : t.received < 2 ^ 62) where
+module _ {B : Type 0} {g : Ghosts B} {limits : Limits} (r : Rows B g) (t : Tables) (facts : Facts limits t) (stands : RowsStand limits r t) (c q : ℕ) (how : BoundBy) (k : Consumer) (rd : IsBoundRow t c q how k) (numbers : Numbers t) (few : t.received < 2 ^ 62) where
   begins : k.lo ≡ rd.lo
   begins = rd.kept.begins ∙ ap (lo_of t) rd.at
 

@@ -82,7 +82,7 @@ next_as f h reach p (Some n) ends same it = next_is f reach p ends (Some n) (it.
 
 -- WHAT IS HELD
 
-module _ {B : Type 0} {g : Ghosts B} {lim : Limits} (r : Rows B g) (t : Tables) (facts : Facts lim t) (stands : RowsStand lim r t) (c q : ℕ) (how : BoundBy) (k : Consumer) (rd : IsBoundRow t c q how k) where
+module _ {B : Type 0} {g : Ghosts B} {limits : Limits} (r : Rows B g) (t : Tables) (facts : Facts limits t) (stands : RowsStand limits r t) (c q : ℕ) (how : BoundBy) (k : Consumer) (rd : IsBoundRow t c q how k) where
   -- what is stored ends where all of it does
   pub stored_ends : EndsBy rd.p.reach rd.p.stored
   stored_ends n le = by_cell (rd.p.stored n) refl
@@ -205,7 +205,7 @@ pub record Holds {B : Type 0} {g : Ghosts B} (r : Rows B g) (t : Tables) (c q : 
 
 -- WHAT IS LOOKED AT
 
-module _ {B : Type 0} {g : Ghosts B} {lim : Limits} (r : Rows B g) (t : Tables) (facts : Facts lim t) (stands : RowsStand lim r t) (c q : ℕ) (how : BoundBy) (k : Consumer) (rd : IsBoundRow t c q how k) where
+module _ {B : Type 0} {g : Ghosts B} {limits : Limits} (r : Rows B g) (t : Tables) (facts : Facts limits t) (stands : RowsStand limits r t) (c q : ℕ) (how : BoundBy) (k : Consumer) (rd : IsBoundRow t c q how k) where
   abbrev o : ℕ
   o = k.lo + k.given
 

@@ -178,7 +178,7 @@ written_as t p = by_writer p.writer refl
 
 -- ALL OF IT
 
-module _ {B : Type 0} {g : Ghosts B} {lim : Limits} (r : Rows B g) (t : Tables) (facts : Facts lim t) (stands : RowsStand lim r t) (now q : ℕ) (k : Consumer) (v : rows.Consumer) (is_kept : IsKept t k v) (p : Representation) (here : t.representation q ≡ Some p) (stays : p.is_gone ≡ false)
+module _ {B : Type 0} {g : Ghosts B} {limits : Limits} (r : Rows B g) (t : Tables) (facts : Facts limits t) (stands : RowsStand limits r t) (now q : ℕ) (k : Consumer) (v : rows.Consumer) (is_kept : IsKept t k v) (p : Representation) (here : t.representation q ≡ Some p) (stays : p.is_gone ≡ false)
     (e : Kept) (kept : (shelf_of r.entries).kept q ≡ Some e) where
   is : IsEntry t q e p
   is = entry_at r t stands q e kept p here

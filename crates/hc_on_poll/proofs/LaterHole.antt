@@ -1,4 +1,4 @@
--- Who is bound and reads on opens an exchange for the hole that it stands before: what is kept stands for the tables then.
+-- Who is bound and reads on opens an exchange for the hole that it stands before: what is kept represents the tables then.
 use Rattle.std.proofs.Common.{◌≡◌, ◌≢◌, ◌⊎◌, inl, inr, ℕ, ◌+◌, ◌-◌, ◌≤◌, ◌<◌, List, [], ◌++◌, drop, min, Bool, true, false, Option, Some, None, refl, ap, sym, ◌∙◌, subst, arith}
 use Rattle.std.proofs.Math.ListN.{drop_of_length-le}
 use Rattle.std.proofs.lemmas.Bool.Decides.{nat_tests}
@@ -42,9 +42,9 @@ use Rattle.hc_state.proofs.Fallbacks.{unstored_moved}
 use Rattle.hc_on_poll.proofs.BoundViews.{unstored_own, absent_here, lost_run, unread_bound}
 use Rattle.hc_state.proofs.Counting.{stands_counted}
 use Rattle.hc_state.proofs.OneOfEach.{stands_then, bound_same, first_row}
-use Rattle.hc_on_poll.proofs.OpenArm.{unread_yet}
+use Rattle.hc_on_poll.proofs.OpenHandler.{unread_yet}
 use Rattle.hc_on_poll.proofs.OpenKinds.{kinds_opened}
-use Rattle.hc_state.proofs.QueueArm.{becomes_by}
+use Rattle.hc_state.proofs.QueueHandler.{becomes_by}
 use Rattle.hc_on_poll.proofs.ShowStored.{IsBoundRow}
 use Rattle.hc_state.proofs.Ties.{entry_same, key_same, overs_opened}
 
@@ -55,7 +55,7 @@ record IsAtHole (t : Tables) (c q : ℕ) (v : rows.Consumer) (p : Representation
   n : ℕ
   none_held : held_of_lost c (offset t v) n (Some p) ≡ None
 
-module _ {B : Type 0} {g : Ghosts B} {lim : Limits} (r u : Rows B g) (t : Tables) (facts : Facts lim t) (stands : RowsStand lim r t) (now want c q x from to : ℕ) (how : BoundBy) (k : Consumer) (rd : IsBoundRow t c q how k) (there : get nat_eq r.consumers c ≡ Some k) (shown : k.shown ≡ true) (request copied : Request)
+module _ {B : Type 0} {g : Ghosts B} {limits : Limits} (r u : Rows B g) (t : Tables) (facts : Facts limits t) (stands : RowsStand limits r t) (now want c q x from to : ℕ) (how : BoundBy) (k : Consumer) (rd : IsBoundRow t c q how k) (there : get nat_eq r.consumers c ≡ Some k) (shown : k.shown ≡ true) (request copied : Request)
     (moves : move_of t now want c rd.v ≡ Opens (next_of r.exchanges) (need.Hole from to) request) (is_next : x ≡ next_of r.exchanges) (copies : copied ≡ request)
     (last : u.last_start ≡ r.last_start) (same_keys : u.keys ≡ r.keys) (same_entries : u.entries ≡ r.entries) (next : next_of u.exchanges ≡ next_of r.exchanges + 1)
     (launches : Changes (with_new_exchange c (role.Hole q) (need.Hole from to) copied now) (next_of r.exchanges) (table_of r.exchanges) (table_of u.exchanges)) (changes : ChangesAt r.consumers u.consumers c (with_own x)) where
@@ -309,7 +309,7 @@ module _ {B : Type 0} {g : Ghosts B} {lim : Limits} (r u : Rows B g) (t : Tables
   becomes : BecomesAt r.consumers u.consumers c (Some (with_own x k))
   becomes = becomes_by r.consumers u.consumers c k (with_own x) there changes
 
-  stands_filled : RowsStand lim u s
+  stands_filled : RowsStand limits u s
   stands_filled =
       stands_then r u t s c x (Some (with_own x k)) stands (last ∙ stands.last_start)
       (let before = stands.next in let above = x_is in omega (arith, next, before, above))
@@ -321,9 +321,9 @@ module _ {B : Type 0} {g : Ghosts B} {lim : Limits} (r u : Rows B g) (t : Tables
       (rw same_entries stands.limits)
       (rw same_entries entries_then)
 
-  pub filled_answered : (before out : List Act) → out ≡ before ++ acts_of c (Opens x n copied) → Answered lim (shelf_of r.entries).faults u t before out now (event.Poll c want)
+  pub filled_answered : (before out : List Act) → out ≡ before ++ acts_of c (Opens x n copied) → Answered limits (shelf_of r.entries).faults u t before out now (event.Poll c want)
   filled_answered before out told =
       let is : move_of t now want c v ≡ Opens x n request = moves ∙ ap (λ (y : ℕ). Opens y n request) (sym is_next) in
       let v_shown : v.shown ≡ true = sym rd.kept.shown ∙ shown in
-      does_answered lim (shelf_of r.entries).faults u t (with_event now (event.Poll c want) s) before out (acts_of c (Opens x n request)) now (event.Poll c want)
-      (fills_later lim t facts.law now c want v rd.row x from to request is q rd.lo rd.hi how rd.at v_shown) refl refl (told ∙ ap (λ (a : Request). before ++ acts_of c (Opens x n a)) copies) (stands_counted u s now (event.Poll c want) refl stands_filled)
+      does_answered limits (shelf_of r.entries).faults u t (with_event now (event.Poll c want) s) before out (acts_of c (Opens x n request)) now (event.Poll c want)
+      (fills_later limits t facts.law now c want v rd.row x from to request is q rd.lo rd.hi how rd.at v_shown) refl refl (told ∙ ap (λ (a : Request). before ++ acts_of c (Opens x n a)) copies) (stands_counted u s now (event.Poll c want) refl stands_filled)

@@ -9,7 +9,7 @@ use Rattle.hc_event.specs.declared.place.Place.TheVariants as place
 use Rattle.hc_event.specs.declared.place.BoundBy.TheVariants as by
 use Rattle.hc_model.specs.Rows as rows
 use Rattle.hc_state.specs.Lines.{KeepsKey, is_away, is_away_at}
-use Rattle.hc_on_poll.proofs.OpenArm.{WaitsFor, past, turned}
+use Rattle.hc_on_poll.proofs.OpenHandler.{WaitsFor, past, turned}
 use Rattle.hc_state.proofs.Ties.{key_same}
 
 module _ (t : Tables) (law : Lawful t) (x : ℕ) (z : Exchange) (free : t.exchange x ≡ None) where

@@ -9,7 +9,7 @@ use Rattle.hc_model.specs.Rows as rows
 use Rattle.hc_state.specs.declared.consumer.Consumer.{Consumer}
 use Rattle.hc_state.specs.Kept.{IsKept, IsRunning, answer_for, role_awaited}
 use Rattle.hc_state.proofs.Fallbacks.{answer_fallback}
-use Rattle.hc_on_poll.proofs.OpenArm.{WaitsFor, past, turned}
+use Rattle.hc_on_poll.proofs.OpenHandler.{WaitsFor, past, turned}
 
 module _ (t : Tables) (now c x : ℕ) (n : Need) (request : Request) (aim : Option ℕ) (v : rows.Consumer) (p : Place) (idle : reads v.place ≡ false) (at : WaitsFor x p) where
   abbrev pub w : rows.Consumer

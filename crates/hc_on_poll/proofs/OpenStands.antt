@@ -1,4 +1,4 @@
--- A consumer that reads nothing opens an exchange: what is kept stands for the tables then, where what is kept by key does.
+-- A consumer that reads nothing opens an exchange: what is kept represents the tables then, where what is kept by key does.
 use Rattle.std.proofs.Common.{◌≡◌, ◌≢◌, inl, inr, ℕ, ◌+◌, List, false, true, Option, Some, None, refl, ap, sym, ◌∙◌, subst, arith}
 use Rattle.std.specs.Prelude.{nat_eq}
 use Rattle.std.specs.HashMap.{get}
@@ -19,10 +19,10 @@ use Rattle.hc_state.specs.Lines.{KeepsKey}
 use Rattle.hc_state.specs.Stands.{RowsStand}
 use Rattle.hc_state.proofs.FallbackSteps.{length_same, live_same}
 use Rattle.hc_state.proofs.OneOfEach.{stands_then}
-use Rattle.hc_on_poll.proofs.OpenArm.{WaitsFor, unread_yet, held_else, none_held, entries_opened}
+use Rattle.hc_on_poll.proofs.OpenHandler.{WaitsFor, unread_yet, held_else, none_held, entries_opened}
 use Rattle.hc_on_poll.proofs.OpenRows.{runs, opener_kept, live_then}
 
-module _ {B : Type 0} {g : Ghosts B} {lim : Limits} (r u : Rows B g) (t : Tables) (law : Lawful t) (now c x : ℕ) (n : Need) (request copied : Request) (aim : Option ℕ) (role : Role) (k : Consumer) (v : rows.Consumer) (p : Place) (stands : RowsStand lim r t)
+module _ {B : Type 0} {g : Ghosts B} {limits : Limits} (r u : Rows B g) (t : Tables) (law : Lawful t) (now c x : ℕ) (n : Need) (request copied : Request) (aim : Option ℕ) (role : Role) (k : Consumer) (v : rows.Consumer) (p : Place) (stands : RowsStand limits r t)
     (there : get nat_eq r.consumers c ≡ Some k) (row : t.consumer c ≡ Some v) (idle : reads v.place ≡ false) (lived : is_live_place v.place ≡ true) (at : WaitsFor x p) (is_next : x ≡ t.opened + 1)
     (last : u.last_start ≡ r.last_start) (same_entries : u.entries ≡ r.entries) (next : next_of u.exchanges ≡ next_of r.exchanges + 1)
     (launches : Changes (with_new_exchange c role n copied now) x (table_of r.exchanges) (table_of u.exchanges)) (becomes : BecomesAt r.consumers u.consumers c (Some (record k { place = p; own = Some x }))) (copies : copied ≡ request) (role_is : role ≡ role_awaited (route_of n) aim) where
@@ -72,7 +72,7 @@ module _ {B : Type 0} {g : Ghosts B} {lim : Limits} (r u : Rows B g) (t : Tables
   kept_then = subst (KeepsConsumer s (Some (record k { place = p; own = Some x }))) (sym here)
       (opener_kept t now c x n request aim v p idle at k (subst (KeepsConsumer t (Some k)) row (subst (λ o. KeepsConsumer t o (t.consumer c)) there (stands.consumers c))))
 
-  pub stands_opened : ((key : List ℕ) → KeepsKey s key (kept_of u.keys key)) → RowsStand lim u s
+  pub stands_opened : ((key : List ℕ) → KeepsKey s key (kept_of u.keys key)) → RowsStand limits u s
   stands_opened keys =
       stands_then r u t s c x (Some (record k { place = p; own = Some x })) stands (last ∙ stands.last_start)
       (let before = stands.next in omega (arith, next, before, is_next))

@@ -30,7 +30,7 @@ use Rattle.hc_effects.proofs.PlanBy as plans
 use Rattle.hc_effects.proofs.Tests.{and_false}
 use Rattle.hc_state.specs.declared.consumer.Consumer.{Consumer}
 use Rattle.hc_state.specs.declared.rows.Rows.{Rows}
-use Rattle.hc_state.specs.Arms.{queues}
+use Rattle.hc_state.specs.Handlers.{queues}
 use Rattle.hc_state.specs.Facts.{Facts}
 use Rattle.hc_state.specs.Kept.{IsKept, KeepsConsumer}
 use Rattle.hc_state.specs.Plans.{IsIdle, IsWaiting, HasCurrent, IsPlanOf, IsShownPart, begin_of, end_of, AnswersFirst, AnswersPoll}
@@ -41,8 +41,8 @@ use Rattle.hc_on_poll.proofs.CandidateTies.{head_at_is, in_order, range_of_class
 use Rattle.hc_state.proofs.CurrentTies.{IsNow, now_kept, stays_stored, stored_ends, total_told}
 use Rattle.hc_on_poll.proofs.HoleTies.{hole_inside}
 use Rattle.hc_state.proofs.Maps.{known_of, some_that, merely_true, merely_within}
-use Rattle.hc_on_poll.proofs.PassesArm.{current_as}
-use Rattle.hc_on_poll.proofs.PlanArms.{found, waits_there, current_admits, plan_answers}
+use Rattle.hc_on_poll.proofs.PassesHandler.{current_as}
+use Rattle.hc_on_poll.proofs.PlanHandlers.{found, waits_there, current_admits, plan_answers}
 use Rattle.hc_state.proofs.Ties.{kept_row}
 use Rattle.hc_state.proofs.TurnTies.{least_none, among_in, filter_in}
 use Rattle.hc_state.proofs.Words.{few_received}
@@ -65,7 +65,7 @@ fills_asks view span hole is = by_only view.class.only refl is
     by_only false off same = off
     by_only true on same = absurd (from_never (bare_plan view) same)
 
-module _ {B : Type 0} {g : Ghosts B} {lim : Limits} (r : Rows B g) (t : Tables) (facts : Facts lim t) (stands : RowsStand lim r t) (c : ℕ) (k : Consumer) (v : rows.Consumer) (row : t.consumer c ≡ Some v) (kept : IsKept t k v) (q : ℕ) (held : HasCurrent r.keys q k)
+module _ {B : Type 0} {g : Ghosts B} {limits : Limits} (r : Rows B g) (t : Tables) (facts : Facts limits t) (stands : RowsStand limits r t) (c : ℕ) (k : Consumer) (v : rows.Consumer) (row : t.consumer c ≡ Some v) (kept : IsKept t k v) (q : ℕ) (held : HasCurrent r.keys q k)
     (head : StoredHead) (read : head_at (shelf_of r.entries) q ≡ Some (plain head)) (now : ℕ) where
   abbrev view : PlanView
   view = planning.plan_view t now c v
@@ -210,7 +210,7 @@ module _ {B : Type 0} {g : Ghosts B} {lim : Limits} (r : Rows B g) (t : Tables) 
       by_plan _ (plans.passes_by n way) same = absurd (cc)
       by_plan _ (plans.fetches n way validates bypasses cached) same = absurd (cc)
 
--- WHAT THE ARMS ASK FOR
+-- WHAT THE HANDLERS ASK FOR
 
 hole_alike : (a b : Head) (request : Request) (hole : Span) (total : ℕ) → a.fields ≡ b.fields → hole_request a request hole total ≡ hole_request b request hole total
 hole_alike a b request hole total fields = rw fields refl
@@ -225,7 +225,7 @@ module _ {B : Type 0} {g : Ghosts B} (r : Rows B g) (some : ∥ Stands r ∥₁)
   held_by_it : HasCurrent r.keys q it
   held_by_it = known_of (get nat_eq r.consumers c) it (HasCurrent r.keys q) there_is held
 
-  its_row : {lim : Limits} (t : Tables) → RowsStand lim r t → (v : rows.Consumer) × (t.consumer c ≡ Some v) × IsKept t it v
+  its_row : {limits : Limits} (t : Tables) → RowsStand limits r t → (v : rows.Consumer) × (t.consumer c ≡ Some v) × IsKept t it v
   its_row t stands = kept_row t it (t.consumer c) (subst (λ o. KeepsConsumer t o (t.consumer c)) there_is (stands.consumers c))
 
   module _ (span hole : Span) (is : IsPlanOf r now c (plan.FirstHole span hole)) where
@@ -255,7 +255,7 @@ module _ {B : Type 0} {g : Ghosts B} (r : Rows B g) (some : ∥ Stands r ∥₁)
 
     -- and what is answered
     pub filling_answers : (u : Rows B g) (before out : List Act) → IsSomeAnd (get nat_eq r.consumers c) (AnswersFirst r u before out now c (plain head) span hole) → AnswersPoll r u before out now c
-    filling_answers u before out answers = plan_answers r u before out now c it (plan.FirstHole span hole) there_is (found r some now c idle).2 is (λ want lim t v facts stands row kept move.
+    filling_answers u before out answers = plan_answers r u before out now c it (plan.FirstHole span hole) there_is (found r some now c idle).2 is (λ want limits t v facts stands row kept move.
         let f = filling r t facts stands c it v row kept q held_by_it head read now span hole (is _ t v facts stands row) in
         let here = at r t facts stands c it v row kept q held_by_it head read now in
         let total = total_is r t facts stands c it v row kept q held_by_it head read now in

@@ -142,7 +142,7 @@ unlooked v now off unpassed = by_disabled v.class.disabled refl
 abbrev view_as : RequestClass → ℕ → ℕ → ℕ → Place → ℕ → Option Candidate → PlanView
 view_as class now since c p turn o = record { moment = now; since = since; c = c; class = class; passed = has_passed p; kept = kept_by p; turn = turn; current = o }
 
-module _ {B : Type 0} {g : Ghosts B} {lim : Limits} (r : Rows B g) (t : Tables) (now c : ℕ) (k : Consumer) (v : rows.Consumer) (stands : RowsStand lim r t) (lists : IsListed t) (kept : IsKept t k v) where
+module _ {B : Type 0} {g : Ghosts B} {limits : Limits} (r : Rows B g) (t : Tables) (now c : ℕ) (k : Consumer) (v : rows.Consumer) (stands : RowsStand limits r t) (lists : IsListed t) (kept : IsKept t k v) where
   pub turns_are : unwrap_or (turn_with c (line_of r.keys k.request.key)) c ≡ lines.turn_with t v.request.key c
   turns_are =
       let same : k.request.key ≡ v.request.key = ap (λ (q : Request). q.key) kept.request in

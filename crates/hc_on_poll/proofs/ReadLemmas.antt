@@ -3,7 +3,7 @@ use Rattle.std.proofs.Common.{◌≡◌, ℕ, zero, suc, ◌<◌, List, [], ◌�
 use Rattle.std.proofs.lemmas.Bool.Decides.{nat_tests}
 use Rattle.std.specs.Prelude.{is_some, nat_lt}
 use Rattle.hc_effects.proofs.Vocabulary.{is_at_end, Move, or_else, run_of}
-use Rattle.hc_state.specs.Arms.{most}
+use Rattle.hc_state.specs.Handlers.{most}
 
 -- WHICH MOVE IT IS
 

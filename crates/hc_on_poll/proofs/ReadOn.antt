@@ -21,10 +21,10 @@ use Rattle.hc_exch.specs.Exchanges.{table_of}
 use Rattle.hc_exch.specs.Known as known
 use Rattle.hc_state.specs.declared.consumer.Consumer.{Consumer}
 use Rattle.hc_state.specs.declared.rows.Rows.{Rows}
-use Rattle.hc_state.specs.Arms.{most, given_acts, asks_or_waits, asked_in}
+use Rattle.hc_state.specs.Handlers.{most, given_acts, asks_or_waits, asked_in}
 use Rattle.hc_state.specs.Changes.{ChangesAt, once_given}
 use Rattle.hc_state.specs.Facts.{Facts}
-use Rattle.hc_state.specs.Reads.{IsShownAt, IsHeard, IsRunAhead, IsInLength, ReadViewIs}
+use Rattle.hc_state.specs.Reads.{IsShownAt, WaitsForNoHead, IsRunAhead, IsInLength, ReadViewIs}
 use Rattle.hc_state.specs.Stands.{RowsStand, Stands, Answered}
 use Rattle.hc_on_poll.proofs.BoundGives as gives
 use Rattle.hc_on_poll.proofs.BoundReads as bound
@@ -61,7 +61,7 @@ merely_in_length (Some head) x some h = merely_within head.total x some (λ p.
 
 module _ {B : Type 0} {g : Ghosts B} (r : Rows B g) (c q : ℕ) (k : Consumer) (at : get nat_eq r.consumers c ≡ Some k) (reads : IsShownAt q k) where
   -- its row
-  pub row_of : {lim : Limits} (t : Tables) → Facts lim t → RowsStand lim r t → IsBoundRow t c q reads.0.2 k
+  pub row_of : {limits : Limits} (t : Tables) → Facts limits t → RowsStand limits r t → IsBoundRow t c q reads.0.2 k
   row_of t facts stands = bound_row_of r t facts.law c q reads.0.0 reads.0.1 reads.0.2 k stands at reads.0.3
 
   module _ (some : ∥ Stands r ∥₁) where
@@ -94,7 +94,7 @@ module _ {B : Type 0} {g : Ghosts B} (r : Rows B g) (c q : ℕ) (k : Consumer) (
         pub run_fits : (z : Run) → run ≡ Some z → k.given + length z.bytes ≤ 2 ^ 62
         run_fits z is = merely_most (k.given + length z.bytes) (2 ^ 62) some (λ s. (bound.run_small r (t s) (facts s) s.rows c q reads.0.2 k (rd s) s.numbers (few_received s.received) want wants run run_is z is).1)
 
-        module _ (heard : IsHeard (table_of r.exchanges) k) (view : ReadView) (view_is : ReadViewIs r q c (option_map end_of run) view k) where
+        module _ (heard : WaitsForNoHead (table_of r.exchanges) k) (view : ReadView) (view_is : ReadViewIs r q c (option_map end_of run) view k) where
           -- where a step reads what is stored there is some
           pub run_there : (n : ℕ) → read_step view ≡ step.Stored n → is_some run ≡ true
           run_there n is = merely_true (is_some run) some (λ s. ap (λ (z : Option Run). is_some z) (bound.stored_move r (t s) (facts s) s.rows c q reads.0.2 k (rd s) 0 want reads.1 heard wants run run_is view view_is n is).1.read_is)
@@ -121,13 +121,13 @@ module _ {B : Type 0} {g : Ghosts B} (r : Rows B g) (c q : ℕ) (k : Consumer) (
 
   -- WHAT IT DOES
 
-  module _ {lim : Limits} (u : Rows B g) (before out : List Act) (now want : ℕ) (wants : 0 < want) (run : Option Run) (run_is : IsRunAhead (shelf_of r.entries) q want run k) (heard : IsHeard (table_of r.exchanges) k) (view : ReadView) (view_is : ReadViewIs r q c (option_map end_of run) view k)
-      (last : u.last_start ≡ r.last_start) (same_keys : u.keys ≡ r.keys) (same_entries : u.entries ≡ r.entries) (t : Tables) (facts : Facts lim t) (stands : RowsStand lim r t) where
+  module _ {limits : Limits} (u : Rows B g) (before out : List Act) (now want : ℕ) (wants : 0 < want) (run : Option Run) (run_is : IsRunAhead (shelf_of r.entries) q want run k) (heard : WaitsForNoHead (table_of r.exchanges) k) (view : ReadView) (view_is : ReadViewIs r q c (option_map end_of run) view k)
+      (last : u.last_start ≡ r.last_start) (same_keys : u.keys ≡ r.keys) (same_entries : u.entries ≡ r.entries) (t : Tables) (facts : Facts limits t) (stands : RowsStand limits r t) where
     abbrev its : IsBoundRow t c q reads.0.2 k
     its = row_of t facts stands
 
     -- what is stored is given
-    pub gives_stored : (n : ℕ) → read_step view ≡ step.Stored n → (z : Run) → run ≡ Some z → out ≡ before ++ given_acts c z.x z.at z.bytes → u.exchanges ≡ r.exchanges → ChangesAt r.consumers u.consumers c (once_given (length z.bytes)) → Answered lim (shelf_of r.entries).faults u t before out now (event.Poll c want)
+    pub gives_stored : (n : ℕ) → read_step view ≡ step.Stored n → (z : Run) → run ≡ Some z → out ≡ before ++ given_acts c z.x z.at z.bytes → u.exchanges ≡ r.exchanges → ChangesAt r.consumers u.consumers c (once_given (length z.bytes)) → Answered limits (shelf_of r.entries).faults u t before out now (event.Poll c want)
     gives_stored n is z read acts exchanges changes =
         let found = bound.stored_move r t facts stands c q reads.0.2 k its now want reads.1 heard wants run run_is view view_is n is in
         let same : found.0 ≡ z = some_is found.0 z (sym found.1.read_is ∙ read) in
@@ -137,7 +137,7 @@ module _ {B : Type 0} {g : Ghosts B} (r : Rows B g) (c q : ℕ) (k : Consumer) (
 
     -- what is held is given
     pub gives_held : read_step view ≡ step.Held → (x o n : ℕ) (bytes : List ℕ) → k.own ≡ Some x → o ≡ view.offset → n ≡ most view.hi view.offset want → bytes ≡ take n (table_of r.exchanges x).held → out ≡ before ++ given_acts c x o bytes → exch.Becomes (known.without_first n) x r.exchanges u.exchanges → ChangesAt r.consumers u.consumers c (once_given (length bytes))
-        → Answered lim (shelf_of r.entries).faults u t before out now (event.Poll c want)
+        → Answered limits (shelf_of r.entries).faults u t before out now (event.Poll c want)
     gives_held is x o n bytes own o_is n_is bytes_are acts becomes changes =
         let found = bound.held_move r t facts stands c q reads.0.2 k its now want reads.1 heard wants run run_is view view_is is in
         let h = found.0 in
@@ -152,7 +152,7 @@ module _ {B : Type 0} {g : Ghosts B} (r : Rows B g) (c q : ℕ) (k : Consumer) (
         found.1.move_is told (subst (λ (ys : List ℕ). ChangesAt r.consumers u.consumers c (once_given (length ys))) taken changes)
 
     -- it asks, or waits
-    pub asks_for : (x : ℕ) → read_step view ≡ step.Waits x → u.consumers ≡ r.consumers → exch.Becomes known.with_asking x r.exchanges u.exchanges → out ≡ before ++ acts_of c (asks_or_waits (asked_in (table_of r.exchanges x).running) x) → Answered lim (shelf_of r.entries).faults u t before out now (event.Poll c want)
+    pub asks_for : (x : ℕ) → read_step view ≡ step.Waits x → u.consumers ≡ r.consumers → exch.Becomes known.with_asking x r.exchanges u.exchanges → out ≡ before ++ acts_of c (asks_or_waits (asked_in (table_of r.exchanges x).running) x) → Answered limits (shelf_of r.entries).faults u t before out now (event.Poll c want)
     asks_for x is consumers becomes acts =
         let m = bound.waits_move r t facts stands c q reads.0.2 k its now want reads.1 heard wants run run_is view view_is x is in
         gives.asks_answered r u t facts stands now want c q reads.0.2 k its at before out last same_keys same_entries x consumers becomes m.move_is acts

@@ -34,7 +34,7 @@ use Rattle.hc_effects.proofs.WaitEffects.{waits_on}
 use Rattle.hc_effects.proofs.Tests.{none_some}
 use Rattle.hc_state.specs.declared.consumer.Consumer.{Consumer}
 use Rattle.hc_state.specs.declared.rows.Rows.{Rows}
-use Rattle.hc_state.specs.Arms.{IsShown, IsUnshown, past_view, source_in, most, asks_or_waits, asked_in, given_acts}
+use Rattle.hc_state.specs.Handlers.{IsShown, IsUnshown, past_view, source_in, most, asks_or_waits, asked_in, given_acts}
 use Rattle.hc_state.specs.Changes.{BecomesAt, ChangesAt, once_answered, once_given}
 use Rattle.hc_state.specs.Facts.{Facts}
 use Rattle.hc_state.specs.Kept.{IsKept, KeepsConsumer, KeepsExchange, KeepsRunning, answer_for, held_for, unread, unstored_bytes}
@@ -42,7 +42,7 @@ use Rattle.hc_state.specs.Stands.{RowsStand, Answered}
 use Rattle.hc_state.proofs.Answering.{does_answered}
 use Rattle.hc_on_poll.proofs.Asking.{stands_asked, stands_asked_already}
 use Rattle.hc_state.proofs.Counting.{stands_counted}
-use Rattle.hc_state.proofs.QueueArm.{becomes_by}
+use Rattle.hc_state.proofs.QueueHandler.{becomes_by}
 use Rattle.hc_on_poll.proofs.ReadLemmas.{first_is, second_is, third_is, run_some, run_is, some_more}
 use Rattle.hc_state.proofs.ReaderSteps.{held_same, exchange_reading, stands_reading}
 use Rattle.hc_state.proofs.Ties.{kept_row, runs_same}
@@ -56,7 +56,7 @@ pub record IsReading (t : Tables) (c x : ℕ) (k : Consumer) : Type 0 where
   pub at : v.place ≡ place.Direct x
   pub reads : ReadsPast t c x v
 
-pub reading_of : {B : Type 0} {g : Ghosts B} {lim : Limits} (r : Rows B g) (t : Tables) (law : Lawful t) (c x : ℕ) (k : Consumer) → RowsStand lim r t → get nat_eq r.consumers c ≡ Some k → k.place ≡ place.Direct x → IsReading t c x k
+pub reading_of : {B : Type 0} {g : Ghosts B} {limits : Limits} (r : Rows B g) (t : Tables) (law : Lawful t) (c x : ℕ) (k : Consumer) → RowsStand limits r t → get nat_eq r.consumers c ≡ Some k → k.place ≡ place.Direct x → IsReading t c x k
 reading_of r t law c x k stands there at =
     let (v, row, kept) = kept_row t k (t.consumer c) (subst (λ o. KeepsConsumer t o (t.consumer c)) there (stands.consumers c)) in
     let here = sym kept.place ∙ at in
@@ -119,7 +119,7 @@ answer_shown t x v z unshown at is = rw (unshown, at, is) refl
 held_is : (t : Tables) (x c : ℕ) (w : Exchange) (v : rows.Consumer) → t.consumer c ≡ Some v → w.c ≡ c → v.place ≡ place.Direct x → w.joined ≡ None → t.representation x ≡ None → held_for t x (Some w) ≡ drop v.given w.body
 held_is t x c w v row for_it at unjoined unfounded = rw (unjoined, unfounded, for_it, row, at, eqb-same x) refl
 
-module _ {B : Type 0} {g : Ghosts B} {lim : Limits} (r u : Rows B g) (t : Tables) (facts : Facts lim t) (now want c x : ℕ) (k : Consumer) (before out : List Act) (stands : RowsStand lim r t) (there : get nat_eq r.consumers c ≡ Some k) (at : IsUnshown x k)
+module _ {B : Type 0} {g : Ghosts B} {limits : Limits} (r u : Rows B g) (t : Tables) (facts : Facts limits t) (now want c x : ℕ) (k : Consumer) (before out : List Act) (stands : RowsStand limits r t) (there : get nat_eq r.consumers c ≡ Some k) (at : IsUnshown x k)
     (last : u.last_start ≡ r.last_start) (same_keys : u.keys ≡ r.keys) (same_entries : u.entries ≡ r.entries) (exchanges : u.exchanges ≡ r.exchanges) (changes : ChangesAt r.consumers u.consumers c once_answered) where
   rd : IsReading t c x k
   rd = reading_of r t facts.law c x k stands there at.0
@@ -138,14 +138,14 @@ module _ {B : Type 0} {g : Ghosts B} {lim : Limits} (r u : Rows B g) (t : Tables
   answer_is : k.answer ≡ rd.reads.w.head
   answer_is = rd.kept.answer ∙ answer_shown t x rd.v rd.reads.w unshown rd.at rd.reads.row
 
-  pub waits_answered : k.answer ≡ None → out ≡ before ++ (act.Pending c (wait.Head x) ∷ []) → Answered lim (shelf_of r.entries).faults u t before out now (event.Poll c want)
+  pub waits_answered : k.answer ≡ None → out ≡ before ++ (act.Pending c (wait.Head x) ∷ []) → Answered limits (shelf_of r.entries).faults u t before out now (event.Poll c want)
   waits_answered none acts =
       let ev = event.Poll c want in
       let m : Move = moves.Waits (wait.Head x) in
       let same : once_answered k ≡ k = rw none refl in
       let becomes = becomes_by r.consumers u.consumers c k once_answered there changes in
-      does_answered lim (shelf_of r.entries).faults u t (with_event now ev t) before out (acts_of c m) now ev
-      (waits_on lim t facts.law now c want rd.v rd.row (wait.Head x) (let bare = sym answer_is ∙ none in waits_move t now want c x rd.v rd.reads.w rd.at rd.reads.own rd.reads.row unshown bare (rd.reads.unheard bare).is_open) refl) refl refl acts
+      does_answered limits (shelf_of r.entries).faults u t (with_event now ev t) before out (acts_of c m) now ev
+      (waits_on limits t facts.law now c want rd.v rd.row (wait.Head x) (let bare = sym answer_is ∙ none in waits_move t now want c x rd.v rd.reads.w rd.at rd.reads.own rd.reads.row unshown bare (rd.reads.unheard bare).is_open) refl) refl refl acts
       (stands_counted u t now ev refl (record {
         limits = rw same_entries stands.limits;
         last_start = last ∙ stands.last_start;
@@ -165,7 +165,7 @@ module _ {B : Type 0} {g : Ghosts B} {lim : Limits} (r u : Rows B g) (t : Tables
         | inr ne ↦ rw (eqb-other c d ne) (stands.consumers d)
       ]
 
-  pub shows_answered : (head : Response) → k.answer ≡ Some head → out ≡ before ++ (act.Shown c x (why.Fetched x) head.status head.fields k.lo k.hi ∷ []) → Answered lim (shelf_of r.entries).faults u t before out now (event.Poll c want)
+  pub shows_answered : (head : Response) → k.answer ≡ Some head → out ≡ before ++ (act.Shown c x (why.Fetched x) head.status head.fields k.lo k.hi ∷ []) → Answered limits (shelf_of r.entries).faults u t before out now (event.Poll c want)
   shows_answered head some acts =
       let ev = event.Poll c want in
       let m : Move = Shows x (why.Fetched x) head k.lo k.hi in
@@ -174,8 +174,8 @@ module _ {B : Type 0} {g : Ghosts B} {lim : Limits} (r u : Rows B g) (t : Tables
       let q : Consumer = record k { shown = true; answer = None } in
       let change : once_answered k ≡ q = rw some refl in
       let kp = rd.kept in
-      does_answered lim (shelf_of r.entries).faults u t (with_event now ev s) before out (acts_of c m) now ev
-      (shows_reader lim t facts.law now c want v rd.row x (why.Fetched x) head k.lo k.hi (shows_move t now want c x v rd.reads.w rd.at rd.reads.own rd.reads.row head k.lo k.hi unshown (sym answer_is ∙ some) from to) (ap reads rd.at)) refl refl acts
+      does_answered limits (shelf_of r.entries).faults u t (with_event now ev s) before out (acts_of c m) now ev
+      (shows_reader limits t facts.law now c want v rd.row x (why.Fetched x) head k.lo k.hi (shows_move t now want c x v rd.reads.w rd.at rd.reads.own rd.reads.row head k.lo k.hi unshown (sym answer_is ∙ some) from to) (ap reads rd.at)) refl refl acts
       (stands_counted u s now ev refl
       (stands_reading t c v true v.given rd.row r u stands kp.is_there last same_keys (ap (λ z. next_of z) exchanges) (subst (λ z. shelf.Stays (shelf_of r.entries) (shelf_of z)) (sym same_entries) (record { kept = λ n. refl; order = refl; used = refl; limits = refl }))
       q (subst (λ z. BecomesAt r.consumers u.consumers c (Some z)) change (becomes_by r.consumers u.consumers c k once_answered there changes))
@@ -265,7 +265,7 @@ sources_are t x (Some o) w v keeps own at row = let opened = keeps.is_open in rw
 
 -- WHAT IS READ
 
-module _ {B : Type 0} {g : Ghosts B} {lim : Limits} (r : Rows B g) (t : Tables) (facts : Facts lim t) (want c x : ℕ) (k : Consumer) (stands : RowsStand lim r t) (rd : IsReading t c x k) (shown : k.shown ≡ true) (wants : 0 < want) where
+module _ {B : Type 0} {g : Ghosts B} {limits : Limits} (r : Rows B g) (t : Tables) (facts : Facts limits t) (want c x : ℕ) (k : Consumer) (stands : RowsStand limits r t) (rd : IsReading t c x k) (shown : k.shown ≡ true) (wants : 0 < want) where
   abbrev v : rows.Consumer
   v = rd.v
 
@@ -433,7 +433,7 @@ unstored_past t x y z p v n at = rw at refl
 pub itself : (t : Tables) (c : ℕ) (row : Option rows.Consumer) → (with_consumer c row t).consumer c ≡ row
 itself t c row = rw (eqb-same c) refl
 
-module _ {B : Type 0} {g : Ghosts B} {lim : Limits} (r u : Rows B g) (t : Tables) (facts : Facts lim t) (now want c x : ℕ) (k : Consumer) (before out : List Act) (stands : RowsStand lim r t) (there : get nat_eq r.consumers c ≡ Some k) (at : IsShown x k) (wants : 0 < want)
+module _ {B : Type 0} {g : Ghosts B} {limits : Limits} (r u : Rows B g) (t : Tables) (facts : Facts limits t) (now want c x : ℕ) (k : Consumer) (before out : List Act) (stands : RowsStand limits r t) (there : get nat_eq r.consumers c ≡ Some k) (at : IsShown x k) (wants : 0 < want)
     (last : u.last_start ≡ r.last_start) (same_keys : u.keys ≡ r.keys) (same_entries : u.entries ≡ r.entries) where
   abbrev ev : Event
   ev = event.Poll c want
@@ -453,7 +453,7 @@ module _ {B : Type 0} {g : Ghosts B} {lim : Limits} (r u : Rows B g) (t : Tables
       taken n m xs = grind (arith, common_steps)
 
   pub given_answered : (n : ℕ) (bytes : List ℕ) → read_step (past_view (table_of r.exchanges x) x (k.lo + k.given) k) ≡ step.Held → n ≡ most k.hi (k.lo + k.given) want → bytes ≡ take n (table_of r.exchanges x).held → out ≡ before ++ given_acts c x (k.lo + k.given) bytes
-      → exch.Becomes (known.without_first n) x r.exchanges u.exchanges → ChangesAt r.consumers u.consumers c (once_given (length bytes)) → Answered lim (shelf_of r.entries).faults u t before out now ev
+      → exch.Becomes (known.without_first n) x r.exchanges u.exchanges → ChangesAt r.consumers u.consumers c (once_given (length bytes)) → Answered limits (shelf_of r.entries).faults u t before out now ev
   given_answered n bytes is n_is bytes_are acts becomes changes =
       let run : Run = record { x = x; at = k.lo + k.given; bytes = bytes } in
       let most_are = bytes_are ∙ ap (λ (z : ℕ). take z (table_of r.exchanges x).held) n_is in
@@ -461,8 +461,8 @@ module _ {B : Type 0} {g : Ghosts B} {lim : Limits} (r u : Rows B g) (t : Tables
       let kp = shown_rd.kept in
       let more : ℕ = v.given + length bytes in
       let s : Tables = with_consumer c (Some (record v { given = more })) t in
-      does_answered lim (shelf_of r.entries).faults u t (with_event now ev s) before out (acts_of c (Gives run)) now ev
-      (gives_bytes lim t facts.law now c want v shown_rd.row run (gives_move r t facts want c x k stands shown_rd at.1 wants now bytes is most_are)) refl refl acts
+      does_answered limits (shelf_of r.entries).faults u t (with_event now ev s) before out (acts_of c (Gives run)) now ev
+      (gives_bytes limits t facts.law now c want v shown_rd.row run (gives_move r t facts want c x k stands shown_rd at.1 wants now bytes is most_are)) refl refl acts
       (stands_counted u s now ev refl
       (stands_reading t c v v.shown more shown_rd.row r u stands kp.is_there last same_keys becomes.next unread_store
       (once_given (length bytes) k) (becomes_by r.consumers u.consumers c k (once_given (length bytes)) there changes)
@@ -514,15 +514,15 @@ module _ {B : Type 0} {g : Ghosts B} {lim : Limits} (r u : Rows B g) (t : Tables
   -- it asks for more, or waits for that
 
   module _ (consumers : u.consumers ≡ r.consumers) (becomes : exch.Becomes known.with_asking x r.exchanges u.exchanges) where
-    waits_by : (b : Bool) → asked_in (table_of r.exchanges x).running ≡ b → move_of t now want c shown_rd.v ≡ asks_or_waits b x → out ≡ before ++ acts_of c (asks_or_waits b x) → Answered lim (shelf_of r.entries).faults u t before out now ev
+    waits_by : (b : Bool) → asked_in (table_of r.exchanges x).running ≡ b → move_of t now want c shown_rd.v ≡ asks_or_waits b x → out ≡ before ++ acts_of c (asks_or_waits b x) → Answered limits (shelf_of r.entries).faults u t before out now ev
     waits_by false is move acts =
-        does_answered lim (shelf_of r.entries).faults u t (with_event now ev (with_ask x t)) before out (acts_of c (Asks x)) now ev
-        (asks lim t facts.law now c want shown_rd.v shown_rd.row x move) refl refl acts
+        does_answered limits (shelf_of r.entries).faults u t (with_event now ev (with_ask x t)) before out (acts_of c (Asks x)) now ev
+        (asks limits t facts.law now c want shown_rd.v shown_rd.row x move) refl refl acts
         (stands_counted u (with_ask x t) now ev refl (stands_asked r u t x stands last consumers same_keys becomes unread_store))
     waits_by true is move acts =
-        does_answered lim (shelf_of r.entries).faults u t (with_event now ev t) before out (acts_of c (moves.Waits (wait.Body x))) now ev
-        (waits_on lim t facts.law now c want shown_rd.v shown_rd.row (wait.Body x) move refl) refl refl acts
+        does_answered limits (shelf_of r.entries).faults u t (with_event now ev t) before out (acts_of c (moves.Waits (wait.Body x))) now ev
+        (waits_on limits t facts.law now c want shown_rd.v shown_rd.row (wait.Body x) move refl) refl refl acts
         (stands_counted u t now ev refl (stands_asked_already r u t x stands is last consumers same_keys becomes unread_store))
 
-    pub asks_answered : (y : ℕ) → read_step (past_view (table_of r.exchanges x) x (k.lo + k.given) k) ≡ step.Waits y → out ≡ before ++ acts_of c (asks_or_waits (asked_in (table_of r.exchanges x).running) x) → Answered lim (shelf_of r.entries).faults u t before out now ev
+    pub asks_answered : (y : ℕ) → read_step (past_view (table_of r.exchanges x) x (k.lo + k.given) k) ≡ step.Waits y → out ≡ before ++ acts_of c (asks_or_waits (asked_in (table_of r.exchanges x).running) x) → Answered limits (shelf_of r.entries).faults u t before out now ev
     asks_answered y is acts = waits_by (asked_in (table_of r.exchanges x).running) refl (asks_move r t facts want c x k stands shown_rd at.1 wants now y is) acts

@@ -42,12 +42,12 @@ use Rattle.hc_state.specs.Stands.{RowsStand, Stands, Answered}
 use Rattle.hc_state.specs.Stored.{IsEntry, TellsLength, told, untold, KeepsEntry, is_first}
 use Rattle.hc_state.proofs.Answering.{does_answered}
 use Rattle.hc_state.proofs.Counting.{stands_counted}
-use Rattle.hc_state.proofs.QueueArm.{becomes_by}
+use Rattle.hc_state.proofs.QueueHandler.{becomes_by}
 use Rattle.hc_on_poll.proofs.ReadLemmas.{first_is, second_is}
 use Rattle.hc_state.proofs.ReaderSteps.{held_same, exchange_reading, stands_reading}
 use Rattle.hc_state.proofs.Ties.{kept_row}
 use Rattle.hc_state.proofs.Unbinding.{user_kept}
-use Rattle.hc_on_poll.proofs.WaitArms.{head_waits}
+use Rattle.hc_on_poll.proofs.WaitHandlers.{head_waits}
 use Rattle.hc_state.proofs.Words.{few_received}
 
 -- WHO IS BOUND
@@ -63,7 +63,7 @@ pub record IsBoundRow (t : Tables) (c q : ℕ) (how : BoundBy) (k : Consumer) : 
   pub p : Representation
   pub there : t.representation q ≡ Some p
 
-pub bound_row_of : {B : Type 0} {g : Ghosts B} {lim : Limits} (r : Rows B g) (t : Tables) (law : Lawful t) (c q lo : ℕ) (hi : Option ℕ) (how : BoundBy) (k : Consumer) → RowsStand lim r t → get nat_eq r.consumers c ≡ Some k → k.place ≡ place.Bound q lo hi how → IsBoundRow t c q how k
+pub bound_row_of : {B : Type 0} {g : Ghosts B} {limits : Limits} (r : Rows B g) (t : Tables) (law : Lawful t) (c q lo : ℕ) (hi : Option ℕ) (how : BoundBy) (k : Consumer) → RowsStand limits r t → get nat_eq r.consumers c ≡ Some k → k.place ≡ place.Bound q lo hi how → IsBoundRow t c q how k
 bound_row_of r t law c q lo hi how k stands there at =
     let (v, row, kept) = kept_row t k (t.consumer c) (subst (λ o. KeepsConsumer t o (t.consumer c)) there (stands.consumers c)) in
     let here = sym kept.place ∙ at in
@@ -71,11 +71,11 @@ bound_row_of r t law c q lo hi how k stands there at =
     record { v = v; row = row; kept = kept; lo = lo; hi = hi; at = here; p = rep.0; there = rep.1 }
 
 -- who is bound to what is kept
-pub bound_entry : {B : Type 0} {g : Ghosts B} {lim : Limits} (r : Rows B g) (t : Tables) (q : ℕ) (e : entry.Kept) (p : Representation) → RowsStand lim r t → (shelf_of r.entries).kept q ≡ Some e → t.representation q ≡ Some p → IsEntry t q e p
+pub bound_entry : {B : Type 0} {g : Ghosts B} {limits : Limits} (r : Rows B g) (t : Tables) (q : ℕ) (e : entry.Kept) (p : Representation) → RowsStand limits r t → (shelf_of r.entries).kept q ≡ Some e → t.representation q ≡ Some p → IsEntry t q e p
 bound_entry r t q e p stands kept there = subst (KeepsEntry t q (Some e)) there (subst (λ o. KeepsEntry t q o (t.representation q)) kept (stands.entries.each q))
 
 -- what somebody is bound to is kept
-pub bound_kept : {B : Type 0} {g : Ghosts B} {lim : Limits} (r : Rows B g) (t : Tables) (law : Lawful t) (c q : ℕ) (how : BoundBy) (k : Consumer) → RowsStand lim r t → IsBoundRow t c q how k → is_kept (shelf_of r.entries) q ≡ true
+pub bound_kept : {B : Type 0} {g : Ghosts B} {limits : Limits} (r : Rows B g) (t : Tables) (law : Lawful t) (c q : ℕ) (how : BoundBy) (k : Consumer) → RowsStand limits r t → IsBoundRow t c q how k → is_kept (shelf_of r.entries) q ≡ true
 bound_kept r t law c q how k stands rd = by_kept ((shelf_of r.entries).kept q) user
   where
     user : has_user c ((shelf_of r.entries).kept q) ≡ true
@@ -307,7 +307,7 @@ module _ {B : Type 0} {g : Ghosts B} (r : Rows B g) (c q : ℕ) (how : BoundBy) 
 
 -- MOVES
 
-module _ {B : Type 0} {g : Ghosts B} {lim : Limits} (r : Rows B g) (t : Tables) (facts : Facts lim t) (stands : RowsStand lim r t) (now want c q : ℕ) (how : BoundBy) (k : Consumer) (rd : IsBoundRow t c q how k) (unshown : rd.v.shown ≡ false) where
+module _ {B : Type 0} {g : Ghosts B} {limits : Limits} (r : Rows B g) (t : Tables) (facts : Facts limits t) (stands : RowsStand limits r t) (now want c q : ℕ) (how : BoundBy) (k : Consumer) (rd : IsBoundRow t c q how k) (unshown : rd.v.shown ≡ false) where
   to_be_shown : IsToBeShown t rd.v how
   to_be_shown = facts.law.sound.unshown c q rd.lo rd.hi how rd.v rd.row rd.at unshown
 
@@ -408,23 +408,23 @@ module _ {B : Type 0} {g : Ghosts B} {lim : Limits} (r : Rows B g) (t : Tables) 
         ∙ (ap₂ (λ (n : ℕ) (o : Option ℕ). Some (Shows q (why_shown q how) (shown_response rd.p.head (why_shown q how) (span_to n o) (is_part k.class how e.head.status)) n o)) (sym begins_at) (sym ends)
         ∙ ap (λ (h : Response). Some (Shows q (why_shown q how) h k.lo k.hi)) (sym head))))
 
--- THE ARM
+-- THE HANDLER
 
-module _ {B : Type 0} {g : Ghosts B} {lim : Limits} (r u : Rows B g) (t : Tables) (facts : Facts lim t) (stands : RowsStand lim r t) (now want c q : ℕ) (how : BoundBy) (k : Consumer) (there : get nat_eq r.consumers c ≡ Some k) (at : IsUnshownBy q how k) (before out : List Act) where
+module _ {B : Type 0} {g : Ghosts B} {limits : Limits} (r u : Rows B g) (t : Tables) (facts : Facts limits t) (stands : RowsStand limits r t) (now want c q : ℕ) (how : BoundBy) (k : Consumer) (there : get nat_eq r.consumers c ≡ Some k) (at : IsUnshownBy q how k) (before out : List Act) where
   mine : IsBoundRow t c q how k
   mine = bound_row_of r t facts.law c q at.0.0 at.0.1 how k stands there at.0.2
 
   unshown_v : mine.v.shown ≡ false
   unshown_v = sym mine.kept.shown ∙ at.1
 
-  pub first_waits_answered : (y : ℕ) → how ≡ by.FirstHole y → is_headless_open (table_of r.exchanges y).running ≡ true → out ≡ before ++ (act.Pending c (wait.Head y) ∷ []) → Answered lim (shelf_of r.entries).faults r t before out now (event.Poll c want)
+  pub first_waits_answered : (y : ℕ) → how ≡ by.FirstHole y → is_headless_open (table_of r.exchanges y).running ≡ true → out ≡ before ++ (act.Pending c (wait.Head y) ∷ []) → Answered limits (shelf_of r.entries).faults r t before out now (event.Poll c want)
   first_waits_answered y same on acts =
-      head_waits lim (shelf_of r.entries).faults r t facts.law now c want mine.v mine.row before out y (first_waits r t facts stands now want c q how k mine unshown_v y same on) acts stands
+      head_waits limits (shelf_of r.entries).faults r t facts.law now c want mine.v mine.row before out y (first_waits r t facts stands now want c q how k mine unshown_v y same on) acts stands
 
   pub stored_answered : waits_for_first (table_of r.exchanges) how ≡ false → (head : Head) → head_at (shelf_of r.entries) q ≡ Some head → (total : Option ℕ) → total ≡ option_or head.total k.hi → (answer : Response)
       → answer ≡ shown_response (record head { total = total }) (why_shown q how) (span_to k.lo k.hi) (is_part k.class how head.status) → out ≡ before ++ (act.Shown c q (why_shown q how) answer.status answer.fields k.lo k.hi ∷ [])
       → u.last_start ≡ r.last_start → u.keys ≡ r.keys → u.entries ≡ r.entries → u.exchanges ≡ r.exchanges → ChangesAt r.consumers u.consumers c once_shown
-      → Answered lim (shelf_of r.entries).faults u t before out now (event.Poll c want)
+      → Answered limits (shelf_of r.entries).faults u t before out now (event.Poll c want)
   stored_answered ready head stored total total_at answer answer_is acts last same_keys same_entries exchanges changes =
       let ev = event.Poll c want in
       let (e, kept_e, head_is) = entry_of_head ((shelf_of r.entries).kept q) head stored in
@@ -435,8 +435,8 @@ module _ {B : Type 0} {g : Ghosts B} {lim : Limits} (r u : Rows B g) (t : Tables
       let move = stored_shows r t facts stands now want c q how k mine unshown_v ready e is total (total_at ∙ ap (λ (h : Head). option_or h.total k.hi) (sym head_is)) in
       let same_answer = ap (λ (h : Head). shown_response (record h { total = total }) (why_shown q how) (span_to k.lo k.hi) (is_part k.class how h.status)) head_is ∙ sym answer_is in
       let m : Move = Shows q (why_shown q how) answer k.lo k.hi in
-      does_answered lim (shelf_of r.entries).faults u t (with_event now ev s) before out (acts_of c m) now ev
-      (shows_reader lim t facts.law now c want v mine.row q (why_shown q how) answer k.lo k.hi (move ∙ ap (λ (h : Response). Shows q (why_shown q how) h k.lo k.hi) same_answer) (ap reads mine.at)) refl refl acts
+      does_answered limits (shelf_of r.entries).faults u t (with_event now ev s) before out (acts_of c m) now ev
+      (shows_reader limits t facts.law now c want v mine.row q (why_shown q how) answer k.lo k.hi (move ∙ ap (λ (h : Response). Shows q (why_shown q how) h k.lo k.hi) same_answer) (ap reads mine.at)) refl refl acts
       (stands_counted u s now ev refl
       (stands_reading t c v true v.given mine.row r u stands kp.is_there last same_keys (ap (λ z. next_of z) exchanges) (subst (λ z. shelf.Stays (shelf_of r.entries) (shelf_of z)) (sym same_entries) (record { kept = λ n. refl; order = refl; used = refl; limits = refl }))
       (once_shown k) (becomes_by r.consumers u.consumers c k once_shown there changes)

@@ -1,4 +1,4 @@
--- What an arm of a poll finds: who may wait, leave its line or ask the origin, and what is current.
+-- What a handler of a poll finds: who may wait, leave its line or ask the origin, and what is current.
 use Rattle.std.specs.Prelude.{◌≡◌, ◌<◌, ◌^◌, ℕ, nat_eq, Option, Some, IsSomeAnd}
 use Rattle.std.specs.HashMap.{get}
 use Rattle.hc_store.specs.declared.backend.Backend.{Ghosts}
@@ -10,9 +10,9 @@ use Rattle.hc_entry.specs.declared.keys.KeyTable.{KeyTable}
 use Rattle.hc_exch.specs.Exchanges.{next_of, table_of}
 use Rattle.hc_state.specs.declared.consumer.Consumer.{Consumer}
 use Rattle.hc_state.specs.declared.rows.Rows.{Rows}
-use Rattle.hc_state.specs.Arms.{IsQueued}
+use Rattle.hc_state.specs.Handlers.{IsQueued}
 use Rattle.hc_state.specs.Plans.{IsIdle, IsKeptPassed, IsNext, IsWaiting, HasCurrent}
-use Rattle.hc_state.specs.Reads.{IsHeard, IsRunAhead, IsShownAt}
+use Rattle.hc_state.specs.Reads.{WaitsForNoHead, IsRunAhead, IsShownAt}
 use Rattle.hc_state.specs.Stands.{Stands}
 
 -- WHO READS NOTHING YET
@@ -39,7 +39,7 @@ pub record MayAsk (keys : KeyTable) (c : ℕ) (k : Consumer) : Type 0 where
 
 -- WHAT THE ROWS HAVE
 
--- The rows stand for some tables, and there is a number for one more exchange.
+-- The rows represent some tables, and there is a number for one more exchange.
 pub record MayOpen {B : Type 0} {g : Ghosts B} (r : Rows B g) : Type 0 where
   pub stands : ∥ Stands r ∥₁
   pub few : next_of r.exchanges < 2 ^ 62
@@ -56,5 +56,5 @@ pub record IsCurrentWith {B : Type 0} {g : Ghosts B} (r : Rows B g) (c q : ℕ) 
 pub record ReadsAhead {B : Type 0} {g : Ghosts B} (r : Rows B g) (q want : ℕ) (run : Option Run)
     (k : Consumer) : Type 0 where
   pub shown : IsShownAt q k
-  pub heard : IsHeard (table_of r.exchanges) k
+  pub heard : WaitsForNoHead (table_of r.exchanges) k
   pub ahead : IsRunAhead (shelf_of r.entries) q want run k

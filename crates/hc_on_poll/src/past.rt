@@ -4,7 +4,7 @@ ghost use Rattle.std.specs.HashMap.{get};
 ghost use Rattle.hc_event.specs.Acts.{act_list, spare};
 ghost use Rattle.hc_event.specs.declared.event.Event.TheVariants.{Poll};
 ghost use Rattle.hc_exch.specs.Exchanges.{table_of};
-ghost use Rattle.hc_state.specs.Arms.{IsShown, IsUnshown, past_view};
+ghost use Rattle.hc_state.specs.Handlers.{IsShown, IsUnshown, past_view};
 ghost use Rattle.hc_state.specs.Stands.{Answers, Stands};
 ghost use Rattle.hc_state.specs.Frames.{KeepsExchanges, KeepsFaults};
 

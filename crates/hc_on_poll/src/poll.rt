@@ -7,7 +7,7 @@ ghost use Rattle.hc_stored.specs.Entries.{shelf_of};
 ghost use Rattle.hc_exch.specs.Exchanges.{next_of};
 ghost use Rattle.hc_state.specs.Good.{StandsBy};
 ghost use Rattle.hc_state.specs.Stands.{Answers};
-ghost use Rattle.hc_state.specs.Arms.{HasTurn};
+ghost use Rattle.hc_state.specs.Handlers.{HasTurn};
 
 use crate::carry::carry_out;
 use crate::past::{await_answer, read_past};

@@ -14,7 +14,7 @@ ghost use Rattle.hc_store.specs.Causes.{HasCause, HasNoLimit};
 ghost use Rattle.hc_state.specs.Changes.{ChangesAt, once_given};
 ghost use Rattle.hc_state.specs.Leaving.{if_running, writing_of};
 ghost use Rattle.hc_state.specs.Stands.{Answers, KeepsRest};
-ghost use Rattle.hc_state.specs.Arms.{most, given_acts, asks_or_waits, asked_in};
+ghost use Rattle.hc_state.specs.Handlers.{most, given_acts, asks_or_waits, asked_in};
 ghost use Rattle.hc_state.specs.Reads.{goes_alone, headless_own, held_own, IsShownAt, ReadViewIs, ReadsStore, run_ahead};
 ghost use Rattle.hc_state.specs.Frames.{KeepsFaults};
 ghost use Rattle.hc_on_poll.specs.Ready.{MayOpen, ReadsAhead};

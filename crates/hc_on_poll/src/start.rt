@@ -5,7 +5,7 @@ ghost use Rattle.hc_event.specs.declared.act.Act.{Act};
 ghost use Rattle.hc_stored.specs.Entries.{shelf_of};
 ghost use Rattle.hc_entry.specs.Keys.{line_of};
 ghost use Rattle.hc_entry.specs.Lines.{is_in};
-ghost use Rattle.hc_state.specs.Arms.{IsEntered, KeepsRows};
+ghost use Rattle.hc_state.specs.Handlers.{IsEntered, KeepsRows};
 ghost use Rattle.hc_state.specs.Stands.{Answers, Stands};
 
 use hc_event::Request;

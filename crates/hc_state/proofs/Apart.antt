@@ -1,4 +1,4 @@
--- A consumer waits for its key no more, and is bound to nothing: what is kept by key and of representations stands for
+-- A consumer waits for its key no more, and is bound to nothing: what is kept by key and of representations represents
 -- the tables then.
 use Rattle.std.proofs.Common.{◌≡◌, ◌≢◌, ℕ, List, Bool, true, false, Some, refl, ap, sym, ◌∙◌, subst}
 use Rattle.std.specs.Prelude.{bytes_eq, ◌||◌}
@@ -16,7 +16,7 @@ use Rattle.hc_model.specs.Rows as rows
 use Rattle.hc_model.specs.Sound as sound
 use Rattle.hc_state.specs.Leaving.{LeavesKey, IsUserAt, UnbindsAt}
 use Rattle.hc_state.specs.Lines.{KeepsKey, has_turn, is_passed, is_away}
-use Rattle.hc_state.specs.Arms.{LeftIf}
+use Rattle.hc_state.specs.Handlers.{LeftIf}
 use Rattle.hc_state.specs.Stored.{KeepsEntries}
 use Rattle.hc_state.proofs.ConsumerSteps.{SaysOfIt, key_with, key_stays, keys_with}
 use Rattle.hc_state.proofs.KeySteps.{leaves_key}
@@ -74,7 +74,7 @@ module _ (t : Tables) (law : Lawful t) (c : ℕ) (v z : rows.Consumer) (row : t.
         (sym (ap (is_passed key) row) ∙ (sym (kept.passed c) ∙ offs.1.0))
         (sym (ap (is_away t key) row) ∙ (sym (kept.away c) ∙ offs.1.1))
 
-    -- what is kept by key stands for it
+    -- what is kept by key represents it
     pub keys_apart : (a b : KeyTable) → ((key : List ℕ) → KeepsKey t key (kept_of a key)) → LeavesKey c v.request.key a b → (key : List ℕ) → KeepsKey s key (kept_of b key)
     keys_apart a b kept leave = by_test (is_in c (line_of a v.request.key)) refl leave
       where
@@ -90,6 +90,6 @@ module _ (t : Tables) (law : Lawful t) (c : ℕ) (v z : rows.Consumer) (row : t.
 
   -- REPRESENTATIONS
 
-  -- what is kept of them stands for it
+  -- what is kept of them represents it
   pub entries_apart : (a b : Shelf) → KeepsEntries t a → UnbindsAt v.place c a b → KeepsEntries s b
   entries_apart = entries_unbound t law.sound.numbered.lists.started c v z row unbound

@@ -1,4 +1,4 @@
--- What most arms leave as it is: the last start and the representations.
+-- What most handlers leave as it is: the last start and the representations.
 use Rattle.std.proofs.Common.{◌≡◌, ◌∙◌}
 use Rattle.hc_store.specs.declared.backend.Backend.{Ghosts}
 use Rattle.hc_state.specs.declared.rows.Rows.{Rows}

@@ -1,4 +1,4 @@
--- An exchange is closed: what is kept stands for the tables in which it is over.
+-- An exchange is closed: what is kept represents the tables in which it is over.
 use Rattle.std.proofs.Common.{◌≡◌, ◌≢◌, inl, inr, ℕ, ◌+◌, ◌-◌, List, [], length, Bool, true, false, Option, Some, None, refl, ap, sym, ◌∙◌, subst}
 use Rattle.std.specs.Prelude.{nat_eq, bytes_eq, drop, option_map, ◌&&◌, if◌then◌else◌}
 use Rattle.std.specs.HashMap.{get, hash_map_len}
@@ -199,10 +199,10 @@ module _ (t : Tables) (x : ℕ) where
 
 -- ALL OF IT
 
-module _ {B : Type 0} {g : Ghosts B} {lim : Limits} (r u : Rows B g) (t : Tables) (x : ℕ) (stands : RowsStand lim r t) (unawaited : NobodyAwaits t x)
+module _ {B : Type 0} {g : Ghosts B} {limits : Limits} (r u : Rows B g) (t : Tables) (x : ℕ) (stands : RowsStand limits r t) (unawaited : NobodyAwaits t x)
     (last : u.last_start ≡ r.last_start) (consumers : u.consumers ≡ r.consumers) (keys : u.keys ≡ r.keys)
     (becomes : exch.Becomes known.without_exchange x r.exchanges u.exchanges) (bounded : (shelf_of u.entries).limits ≡ (shelf_of r.entries).limits) where
-  pub stands_closed : KeepsEntries (tables_after_close x t) (shelf_of u.entries) → RowsStand lim u (tables_after_close x t)
+  pub stands_closed : KeepsEntries (tables_after_close x t) (shelf_of u.entries) → RowsStand limits u (tables_after_close x t)
   stands_closed entries = record {
     limits = bounded ∙ stands.limits;
     last_start = last ∙ stands.last_start;
@@ -221,8 +221,8 @@ module _ {B : Type 0} {g : Ghosts B} {lim : Limits} (r u : Rows B g) (t : Tables
       ]
 
 -- it brings nothing of what isn't gone
-pub stands_unstored : {B : Type 0} {g : Ghosts B} {lim : Limits} (r u : Rows B g) (t : Tables) (x : ℕ) → RowsStand lim r t → NobodyAwaits t x → ((q : ℕ) (v : Representation) → t.representation q ≡ Some v → v.is_gone ≡ false → IsApart t x q)
-    → u.last_start ≡ r.last_start → u.consumers ≡ r.consumers → u.keys ≡ r.keys → u.entries ≡ r.entries → exch.Becomes known.without_exchange x r.exchanges u.exchanges → RowsStand lim u (tables_after_close x t)
+pub stands_unstored : {B : Type 0} {g : Ghosts B} {limits : Limits} (r u : Rows B g) (t : Tables) (x : ℕ) → RowsStand limits r t → NobodyAwaits t x → ((q : ℕ) (v : Representation) → t.representation q ≡ Some v → v.is_gone ≡ false → IsApart t x q)
+    → u.last_start ≡ r.last_start → u.consumers ≡ r.consumers → u.keys ≡ r.keys → u.entries ≡ r.entries → exch.Becomes known.without_exchange x r.exchanges u.exchanges → RowsStand limits u (tables_after_close x t)
 stands_unstored r u t x stands unawaited apart last consumers keys same_entries becomes =
     stands_closed r u t x stands unawaited last consumers keys becomes (ap (λ z. (shelf_of z).limits) same_entries)
     (subst (λ z. KeepsEntries (tables_after_close x t) (shelf_of z)) (sym same_entries) (entries_closed t x (shelf_of r.entries) apart stands.entries))

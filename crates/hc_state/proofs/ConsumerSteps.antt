@@ -1,4 +1,4 @@
--- One consumer's row is another: what is kept of it, of its key and of the representations stands for the tables then.
+-- One consumer's row is another: what is kept of it, of its key and of the representations represents the tables then.
 use Rattle.std.proofs.Common.{◌≡◌, ◌≢◌, ◌⊎◌, inl, inr, ℕ, ◌+◌, List, [], Bool, true, false, cond, eqb, Option, refl, sym, ◌∙◌, subst}
 use Rattle.std.specs.Prelude.{nat_eq, bytes_eq, ◌==◌, if◌then◌else◌}
 use Rattle.std.specs.HashMap.{get}
@@ -29,7 +29,7 @@ module _ (t : Tables) (c : ℕ) (row : Option rows.Consumer) where
   pub kept_with : (o : Option Consumer) → KeepsConsumer t o row → KeepsConsumer (with_consumer c row t) o row
   kept_with o kept = consumer_same t (with_consumer c row t) o row (λ v is. sees_same v.place) kept
 
-  -- the consumers that are kept stand for it
+  -- the consumers that are kept represent it
   pub all_kept_with : {B : Type 0} {g : Ghosts B} (r u : Rows B g) (o : Option Consumer) → BecomesAt r.consumers u.consumers c o → KeepsConsumer t o row
       → ((d : ℕ) → KeepsConsumer t (get nat_eq r.consumers d) (t.consumer d)) → (d : ℕ) → KeepsConsumer (with_consumer c row t) (get nat_eq u.consumers d) ((with_consumer c row t).consumer d)
   all_kept_with r u o becomes kept each d = elim (same_or c d) [

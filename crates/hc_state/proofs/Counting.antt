@@ -1,4 +1,4 @@
--- Where only the counts of the tables change, what is kept stands for them as before.
+-- Where only the counts of the tables change, what is kept represents them as before.
 use Rattle.std.proofs.Common.{◌≡◌, ℕ, ◌+◌, refl, ◌∙◌}
 use Rattle.std.specs.Prelude.{nat_eq}
 use Rattle.std.specs.HashMap.{get}
@@ -15,8 +15,8 @@ use Rattle.hc_state.proofs.Ties.{consumer_same, key_same, entry_same, exchange_s
 abbrev pub recounted : ℕ → ℕ → ℕ → Tables → Tables
 recounted moment entries received t = record t { moment = moment; entries = entries; received = received }
 
-pub stands_recounted : {B : Type 0} {g : Ghosts B} {lim : Limits} (r u : Rows B g) (t : Tables) (moment entries received : ℕ) → u.last_start ≡ r.last_start
-    → u.consumers ≡ r.consumers → u.exchanges ≡ r.exchanges → u.keys ≡ r.keys → u.entries ≡ r.entries → RowsStand lim r t → RowsStand lim u (recounted moment entries received t)
+pub stands_recounted : {B : Type 0} {g : Ghosts B} {limits : Limits} (r u : Rows B g) (t : Tables) (moment entries received : ℕ) → u.last_start ≡ r.last_start
+    → u.consumers ≡ r.consumers → u.exchanges ≡ r.exchanges → u.keys ≡ r.keys → u.entries ≡ r.entries → RowsStand limits r t → RowsStand limits u (recounted moment entries received t)
 unfolding current bound kind_of
 stands_recounted r u t moment entries received last consumers exchanges same_keys same_entries stands =
     let s : Tables = recounted moment entries received t in
@@ -35,6 +35,6 @@ stands_recounted r u t moment entries received last consumers exchanges same_key
     }
 
 -- an event that brings no bytes is counted
-pub stands_counted : {B : Type 0} {g : Ghosts B} {lim : Limits} (u : Rows B g) (t : Tables) (now : ℕ) (event : Event) → received_in event ≡ 0 → RowsStand lim u t → RowsStand lim u (with_event now event t)
+pub stands_counted : {B : Type 0} {g : Ghosts B} {limits : Limits} (u : Rows B g) (t : Tables) (now : ℕ) (event : Event) → received_in event ≡ 0 → RowsStand limits u t → RowsStand limits u (with_event now event t)
 stands_counted u t now event none stands =
     stands_recounted u u t now (t.entries + 1) (t.received + received_in event) refl refl refl refl refl stands

@@ -47,7 +47,7 @@ covers_as t q e p is ends b lo hi tells = same_test b (covers p.stored p.reach l
     (λ on. holes.covers_yes p.stored p.reach lo hi ends (λ n low up. ap (λ z. is_some z) (sym (is.cells n)) ∙ tells.0 on n low up))
     (λ on. tells.1 (λ n low up. ap (λ z. is_some z) (is.cells n) ∙ holes.covers_all p.stored p.reach lo hi on n low up))
 
-module _ {B : Type 0} {g : Ghosts B} {lim : Limits} (r : Rows B g) (t : Tables) (stands : RowsStand lim r t) where
+module _ {B : Type 0} {g : Ghosts B} {limits : Limits} (r : Rows B g) (t : Tables) (stands : RowsStand limits r t) where
   -- what is kept is an entry
   pub kept_entry : (q : ℕ) (p : Representation) → t.representation q ≡ Some p → is_kept (shelf_of r.entries) q ≡ true → (e : Kept) × ((shelf_of r.entries).kept q ≡ Some e) × IsEntry t q e p
   kept_entry q p here kept = by_kept ((shelf_of r.entries).kept q) refl kept (subst (KeepsEntry t q ((shelf_of r.entries).kept q)) here (stands.entries.each q))
@@ -87,7 +87,7 @@ pub viewed_entry : (o : Option Kept) (view : EntryView) → option_map view_of o
 viewed_entry None view is = none_some view is
 viewed_entry (Some e) view is = (e, refl, some_is (view_of e) view is)
 
-module _ {B : Type 0} {g : Ghosts B} {lim : Limits} (r : Rows B g) (t : Tables) (stands : RowsStand lim r t) (q : ℕ) (e : Kept) (kept : (shelf_of r.entries).kept q ≡ Some e) where
+module _ {B : Type 0} {g : Ghosts B} {limits : Limits} (r : Rows B g) (t : Tables) (stands : RowsStand limits r t) (q : ℕ) (e : Kept) (kept : (shelf_of r.entries).kept q ≡ Some e) where
   -- it has a row
   pub entry_row : (p : Representation) × (t.representation q ≡ Some p) × IsEntry t q e p
   entry_row = by_row (t.representation q) refl (subst (λ (o : Option Kept). KeepsEntry t q o (t.representation q)) kept (stands.entries.each q))

@@ -1,4 +1,4 @@
--- A consumer is gone, or is to fail: what is kept stands for the tables without it, or in which it is down.
+-- A consumer is gone, or is to fail: what is kept represents the tables without it, or in which it is down.
 use Rattle.std.proofs.Common.{◌≡◌, ◌≢◌, inl, inr, ℕ, ◌+◌, List, [], Bool, true, false, Option, Some, None, refl, ap, sym, ◌∙◌, subst, arith}
 use Rattle.std.proofs.lemmas.Bool.Decides.{nat_tests}
 use Rattle.std.specs.Prelude.{is_some, nat_eq, bytes_eq, drop, not, ◌&&◌, if◌then◌else◌}
@@ -29,7 +29,7 @@ use Rattle.hc_state.proofs.ConsumerSteps.{all_kept_with}
 use Rattle.hc_state.proofs.LiveCounts as counts
 use Rattle.hc_state.proofs.Maps.{merely_true}
 use Rattle.hc_state.proofs.FallbackSteps.{live_same}
-use Rattle.hc_state.proofs.QueueArm.{becomes_by}
+use Rattle.hc_state.proofs.QueueHandler.{becomes_by}
 use Rattle.hc_state.proofs.Ties.{exchange_same, kept_row, runs_same}
 
 -- TESTS
@@ -209,11 +209,11 @@ module _ (t : Tables) (law : Lawful t) (c : ℕ) (v : rows.Consumer) (row : t.co
 
   -- KEYS
 
-  -- what is kept by key stands for it
+  -- what is kept by key represents it
   keys_left : (a b : KeyTable) → ((key : List ℕ) → KeepsKey t key (kept_of a key)) → LeavesKey c v.request.key a b → (key : List ℕ) → KeepsKey s key (kept_of b key)
   keys_left = keys_apart t law c v moved row (moved_bound v at_now nowhere) (moved_line v at_now nowhere) (moved_passed v at_now nowhere) (moved_away v at_now nowhere t)
 
-  -- what is kept of representations stands for it
+  -- what is kept of representations represents it
   entries_left : (a b : Shelf) → KeepsEntries t a → UnbindsAt v.place c a b → KeepsEntries s b
   entries_left = entries_apart t law c v moved row (moved_bound v at_now nowhere)
 
@@ -251,14 +251,14 @@ merely_user place.Over c a some h = tt
 
 -- ALL OF IT
 
-module _ {B : Type 0} {g : Ghosts B} {lim : Limits} (r u : Rows B g) (t : Tables) (law : Lawful t) (c : ℕ) (k : Consumer) (v : rows.Consumer) (row : t.consumer c ≡ Some v) (at : get nat_eq r.consumers c ≡ Some k) (stands : RowsStand lim r t)
+module _ {B : Type 0} {g : Ghosts B} {limits : Limits} (r u : Rows B g) (t : Tables) (law : Lawful t) (c : ℕ) (k : Consumer) (v : rows.Consumer) (row : t.consumer c ≡ Some v) (at : get nat_eq r.consumers c ≡ Some k) (stands : RowsStand limits r t)
     (last : u.last_start ≡ r.last_start)
     (line : LeavesKey c k.request.key r.keys u.keys) (forgets : Forgets k.own r.exchanges u.exchanges) (unbinds : UnbindsAt k.place c (shelf_of r.entries) (shelf_of u.entries)) where
   pub kept : IsKept t k v
   kept = subst (λ o. KeepsConsumer t o (Some v)) at (subst (KeepsConsumer t (get nat_eq r.consumers c)) row (stands.consumers c))
 
   -- it stands there now
-  stands_moved : (p : Place) → IsNowhere p → (o : Option Consumer) → BecomesAt r.consumers u.consumers c o → hash_map_len u.consumers ≡ live (with_consumer c (Some (moved_to p v)) t) → KeepsConsumer t o (Some (moved_to p v)) → RowsStand lim u (with_consumer c (Some (moved_to p v)) t)
+  stands_moved : (p : Place) → IsNowhere p → (o : Option Consumer) → BecomesAt r.consumers u.consumers c o → hash_map_len u.consumers ≡ live (with_consumer c (Some (moved_to p v)) t) → KeepsConsumer t o (Some (moved_to p v)) → RowsStand limits u (with_consumer c (Some (moved_to p v)) t)
   stands_moved p nowhere o becomes count now = record {
     limits = unbinds_limits k.place c (shelf_of r.entries) (shelf_of u.entries) unbinds ∙ stands.limits;
     last_start = last ∙ stands.last_start;
@@ -271,13 +271,13 @@ module _ {B : Type 0} {g : Ghosts B} {lim : Limits} (r u : Rows B g) (t : Tables
   }
 
   -- it is gone
-  pub stands_left : BecomesAt r.consumers u.consumers c None → RowsStand lim u (with_consumer c (Some (as_over v)) t)
+  pub stands_left : BecomesAt r.consumers u.consumers c None → RowsStand limits u (with_consumer c (Some (as_over v)) t)
   stands_left becomes =
       stands_moved place.Over (over refl) None becomes
       (live_without t law c (hash_map_len u.consumers) (hash_map_len r.consumers) v (as_over v) row kept.is_there refl (ap (λ (o : Option Consumer). hash_map_len u.consumers + one o) (sym at) ∙ becomes.len) stands.count) refl
 
   -- it is to fail, and was shown nothing
-  pub stands_down : (why : Cause) → answer_for t v ≡ None → ChangesAt r.consumers u.consumers c (put_down why) → RowsStand lim u (with_consumer c (Some (moved_to (place.Down why) v)) t)
+  pub stands_down : (why : Cause) → answer_for t v ≡ None → ChangesAt r.consumers u.consumers c (put_down why) → RowsStand limits u (with_consumer c (Some (moved_to (place.Down why) v)) t)
   stands_down why unanswered changes =
       stands_moved (place.Down why) (down why refl) (Some (put_down why k)) (becomes_by r.consumers u.consumers c k (put_down why) at changes)
       (changes.len ∙ (stands.count ∙ sym (live_same t (with_consumer c (Some (moved_to (place.Down why) v)) t) refl lives)))
@@ -310,7 +310,7 @@ module _ {B : Type 0} {g : Ghosts B} {lim : Limits} (r u : Rows B g) (t : Tables
       ]
 
 -- where the consumer stands, it is bound
-pub user_of : {B : Type 0} {g : Ghosts B} {lim : Limits} (r : Rows B g) (t : Tables) (law : Lawful t) (c : ℕ) (k : Consumer) → get nat_eq r.consumers c ≡ Some k → RowsStand lim r t → IsUserAt k.place c (shelf_of r.entries)
+pub user_of : {B : Type 0} {g : Ghosts B} {limits : Limits} (r : Rows B g) (t : Tables) (law : Lawful t) (c : ℕ) (k : Consumer) → get nat_eq r.consumers c ≡ Some k → RowsStand limits r t → IsUserAt k.place c (shelf_of r.entries)
 user_of r t law c k at stands =
     let found = kept_row t k (t.consumer c) (subst (λ o. KeepsConsumer t o (t.consumer c)) at (stands.consumers c)) in
     subst (λ p. IsUserAt p c (shelf_of r.entries)) (sym found.2.place) (user_at t law c found.0 found.1 (shelf_of r.entries) stands.entries)

@@ -1,4 +1,4 @@
--- A consumer that reads nothing, before and after, stands elsewhere: what is kept stands for the tables then.
+-- A consumer that reads nothing, before and after, stands elsewhere: what is kept represents the tables then.
 use Rattle.std.proofs.Common.{◌≡◌, ◌≢◌, inl, inr, ℕ, List, [], ◌∷◌, length, true, false, Option, Some, None, refl, ap, sym, ◌∙◌, subst, arith}
 use Rattle.std.specs.Prelude.{is_some, nat_eq, filter, not}
 use Rattle.std.specs.HashMap.{get, hash_map_len}
@@ -53,7 +53,7 @@ one_is None is = false_true is
 one_is (Some a) is = refl
 
 -- what stays there isn't counted anew
-pub length_same : {B : Type 0} {g : Ghosts B} {lim : Limits} (r u : Rows B g) (t : Tables) (c : ℕ) (v : rows.Consumer) (q : Consumer) → RowsStand lim r t → t.consumer c ≡ Some v → is_live_place v.place ≡ true → BecomesAt r.consumers u.consumers c (Some q) → hash_map_len u.consumers ≡ hash_map_len r.consumers
+pub length_same : {B : Type 0} {g : Ghosts B} {limits : Limits} (r u : Rows B g) (t : Tables) (c : ℕ) (v : rows.Consumer) (q : Consumer) → RowsStand limits r t → t.consumer c ≡ Some v → is_live_place v.place ≡ true → BecomesAt r.consumers u.consumers c (Some q) → hash_map_len u.consumers ≡ hash_map_len r.consumers
 length_same r u t c v q stands row lives becomes =
     let kept : KeepsConsumer t (get nat_eq r.consumers c) (Some v) = subst (KeepsConsumer t (get nat_eq r.consumers c)) row (stands.consumers c) in
     let before : one (get nat_eq r.consumers c) ≡ 1 = one_is (get nat_eq r.consumers c) (some_by (get nat_eq r.consumers c) kept) in
@@ -66,7 +66,7 @@ length_same r u t c v q stands row lives becomes =
 
 -- ALL OF IT
 
-module _ {B : Type 0} {g : Ghosts B} {lim : Limits} (r u : Rows B g) (t : Tables) (c : ℕ) (v w : rows.Consumer) (q : Consumer) (stands : RowsStand lim r t) (row : t.consumer c ≡ Some v)
+module _ {B : Type 0} {g : Ghosts B} {limits : Limits} (r u : Rows B g) (t : Tables) (c : ℕ) (v w : rows.Consumer) (q : Consumer) (stands : RowsStand limits r t) (row : t.consumer c ≡ Some v)
     (was : reads v.place ≡ false) (is_now : reads w.place ≡ false) (lived : is_live_place v.place ≡ true) (lives : is_live_place w.place ≡ true)
     (last : u.last_start ≡ r.last_start) (exchanges : u.exchanges ≡ r.exchanges) (entries : u.entries ≡ r.entries)
     (becomes : BecomesAt r.consumers u.consumers c (Some q)) (kept : KeepsConsumer t (Some q) (Some w)) (keys : (key : List ℕ) → KeepsKey (with_consumer c (Some w) t) key (kept_of u.keys key)) where
@@ -95,7 +95,7 @@ module _ {B : Type 0} {g : Ghosts B} {lim : Limits} (r u : Rows B g) (t : Tables
   held x None = refl
   held x (Some z) = held_alike t s alike x z refl
 
-  pub falls_back : RowsStand lim u s
+  pub falls_back : RowsStand limits u s
   falls_back = record {
     limits = rw entries stands.limits;
     last_start = last ∙ stands.last_start;

@@ -24,7 +24,7 @@ use Rattle.hc_effects.proofs.Basics.{some_row}
 use Rattle.hc_state.specs.declared.consumer.Consumer.{Consumer}
 use Rattle.hc_state.specs.declared.rows.Rows.{Rows}
 use Rattle.hc_state.specs.Kept.{IsKept, KeepsConsumer, KeepsRunning}
-use Rattle.hc_state.specs.Arms.{IsDown}
+use Rattle.hc_state.specs.Handlers.{IsDown}
 use Rattle.hc_state.specs.Leaving.{if_running, writing_of, last_read, left_of}
 use Rattle.hc_state.specs.Stands.{RowsStand}
 use Rattle.hc_state.specs.Stored.{KeepsEntry, TellsWriter, as_written, forgotten, is_over}
@@ -76,7 +76,7 @@ shut : (o : Option Exchange) → is_over o ≡ true → is_open o ≡ false
 shut None on = refl
 shut (Some w) on = not_true w.is_open (λ opened. false_true (sym (ap not opened) ∙ on))
 
-module _ {B : Type 0} {g : Ghosts B} {lim : Limits} (r : Rows B g) (t : Tables) (stands : RowsStand lim r t) where
+module _ {B : Type 0} {g : Ghosts B} {limits : Limits} (r : Rows B g) (t : Tables) (stands : RowsStand limits r t) where
   pub is_open_as : (x : ℕ) → known.is_open x (table_of r.exchanges) ≡ is_open (t.exchange x)
   is_open_as x = open_as t x (table_of r.exchanges x).running (t.exchange x) (stands.exchanges x).running
 
@@ -153,7 +153,7 @@ pub open_row : (o : Option Exchange) → is_open o ≡ true → (w : Exchange) �
 open_row None on = false_true on
 open_row (Some w) on = (w, refl, on)
 
-module _ {B : Type 0} {g : Ghosts B} {lim : Limits} (r : Rows B g) (t : Tables) (law : Lawful t) (c : ℕ) (v : rows.Consumer) (row : t.consumer c ≡ Some v) (stands : RowsStand lim r t) where
+module _ {B : Type 0} {g : Ghosts B} {limits : Limits} (r : Rows B g) (t : Tables) (law : Lawful t) (c : ℕ) (v : rows.Consumer) (row : t.consumer c ≡ Some v) (stands : RowsStand limits r t) where
   kept_here : (k : Consumer) → get nat_eq r.consumers c ≡ Some k → IsKept t k v
   kept_here k at = subst (λ o. KeepsConsumer t o (Some v)) at (subst (KeepsConsumer t (get nat_eq r.consumers c)) row (stands.consumers c))
 
@@ -168,8 +168,8 @@ module _ {B : Type 0} {g : Ghosts B} {lim : Limits} (r : Rows B g) (t : Tables) 
       found.2 ∙ ap (λ (o : Option ℕ). if is_number o x then Some c else None) (kept_here found.0 found.1).own
 
 -- what it leaves is still open once it is gone
-pub left_runs : {B : Type 0} {g : Ghosts B} {lim : Limits} (r mid : Rows B g) (t : Tables) (law : Lawful t) (c x : ℕ) (left : Option ℕ) → is_some (get nat_eq r.consumers c) ≡ true → IsSomeAnd (get nat_eq r.consumers c) (λ k. left ≡ left_of r c k) → left ≡ Some x → RowsStand lim r t
-    → ((v : rows.Consumer) → t.consumer c ≡ Some v → RowsStand lim mid (with_consumer c (Some (as_over v)) t)) → is_some (table_of mid.exchanges x).running ≡ true
+pub left_runs : {B : Type 0} {g : Ghosts B} {limits : Limits} (r mid : Rows B g) (t : Tables) (law : Lawful t) (c x : ℕ) (left : Option ℕ) → is_some (get nat_eq r.consumers c) ≡ true → IsSomeAnd (get nat_eq r.consumers c) (λ k. left ≡ left_of r c k) → left ≡ Some x → RowsStand limits r t
+    → ((v : rows.Consumer) → t.consumer c ≡ Some v → RowsStand limits mid (with_consumer c (Some (as_over v)) t)) → is_some (table_of mid.exchanges x).running ≡ true
 left_runs r mid t law c x left lives known is stands after =
     let found = some_row (get nat_eq r.consumers c) lives in
     let kept = kept_row t found.0 (t.consumer c) (subst (λ o. KeepsConsumer t o (t.consumer c)) found.1 (stands.consumers c)) in
@@ -177,7 +177,7 @@ left_runs r mid t law c x left lives known is stands after =
     is_open_as mid (with_consumer c (Some (as_over kept.0)) t) (after kept.0 kept.1) x ∙ left_open t law.sound law.owned c kept.0 kept.1 x leaves
 
 -- the row of who is kept
-pub live_row : {B : Type 0} {g : Ghosts B} {lim : Limits} (r : Rows B g) (t : Tables) (c : ℕ) → is_some (get nat_eq r.consumers c) ≡ true → RowsStand lim r t → (v : rows.Consumer) × (t.consumer c ≡ Some v)
+pub live_row : {B : Type 0} {g : Ghosts B} {limits : Limits} (r : Rows B g) (t : Tables) (c : ℕ) → is_some (get nat_eq r.consumers c) ≡ true → RowsStand limits r t → (v : rows.Consumer) × (t.consumer c ≡ Some v)
 live_row r t c lives stands =
     let found = some_row (get nat_eq r.consumers c) lives in
     let kept = kept_row t found.0 (t.consumer c) (subst (λ o. KeepsConsumer t o (t.consumer c)) found.1 (stands.consumers c)) in
@@ -188,7 +188,7 @@ pub open_left : (t : Tables) (law : Lawful t) (c : ℕ) (v : rows.Consumer) → 
 open_left t law c v row x left = open_row (t.exchange x) (left_open t law.sound law.owned c v row x left)
 
 -- the row of who is down
-pub down_row : {B : Type 0} {g : Ghosts B} {lim : Limits} (r : Rows B g) (t : Tables) (c : ℕ) (why : Cause) → IsSomeAnd (get nat_eq r.consumers c) (IsDown why) → RowsStand lim r t → (v : rows.Consumer) × (t.consumer c ≡ Some v) × (v.place ≡ place.Down why)
+pub down_row : {B : Type 0} {g : Ghosts B} {limits : Limits} (r : Rows B g) (t : Tables) (c : ℕ) (why : Cause) → IsSomeAnd (get nat_eq r.consumers c) (IsDown why) → RowsStand limits r t → (v : rows.Consumer) × (t.consumer c ≡ Some v) × (v.place ≡ place.Down why)
 down_row r t c why down stands =
     let found = there (get nat_eq r.consumers c) (IsDown why) down in
     let kept = kept_row t found.0 (t.consumer c) (subst (λ o. KeepsConsumer t o (t.consumer c)) found.1 (stands.consumers c)) in

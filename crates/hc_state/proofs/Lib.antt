@@ -13,11 +13,11 @@ pub mod Closing
 pub mod LeftAlone
 pub mod LeftRows
 pub mod Stopping
-pub mod CloseArm
+pub mod CloseHandler
 pub mod Losing
 pub mod ListLoops
 pub mod StoredKinds
-pub mod SealArm
+pub mod SealHandler
 pub mod SealWritten
 pub mod Answering
 pub mod BoundLists
@@ -25,7 +25,7 @@ pub mod Rooms
 pub mod FallbackSteps
 pub mod ReaderSteps
 pub mod KeySteps
-pub mod QueueArm
+pub mod QueueHandler
 pub mod CurrentTies
 pub mod TurnTies
 pub mod LiveCounts

@@ -1,4 +1,4 @@
--- A representation is lost: what is kept stands for the tables in which it is.
+-- A representation is lost: what is kept represents the tables in which it is.
 use Rattle.std.proofs.Common.{◌≡◌, ◌≢◌, inl, inr, ℕ, List, [], ◌∷◌, true, Option, Some, None, refl, ap, sym, ◌∙◌, subst}
 use Rattle.std.specs.Prelude.{is_some, nat_eq, option_map}
 use Rattle.std.specs.HashMap.{get, hash_map_len}
@@ -174,9 +174,9 @@ module _ (t : Tables) (r : ℕ) (v : Representation) (alone : Option ℕ) (row :
 
 -- ALL OF IT
 
-pub stands_lost : {B : Type 0} {g : Ghosts B} {lim : Limits} (r u : Rows B g) (t : Tables) (q : ℕ) (v : Representation) (alone : Option ℕ) (row : t.representation q ≡ Some v) → RowsStand lim r t → v.alone ≡ None → HoldsNothing t q v alone
+pub stands_lost : {B : Type 0} {g : Ghosts B} {limits : Limits} (r u : Rows B g) (t : Tables) (q : ℕ) (v : Representation) (alone : Option ℕ) (row : t.representation q ≡ Some v) → RowsStand limits r t → v.alone ≡ None → HoldsNothing t q v alone
     → u.last_start ≡ r.last_start → u.consumers ≡ r.consumers → u.keys ≡ r.keys → u.exchanges ≡ r.exchanges
-    → shelf.Becomes (option_map (entry.kept_as_lost alone)) same_order q (shelf_of r.entries) (shelf_of u.entries) → shelf.is_kept (shelf_of r.entries) q ≡ true → RowsStand lim u (with_representation q (Some (lost_to alone v)) t)
+    → shelf.Becomes (option_map (entry.kept_as_lost alone)) same_order q (shelf_of r.entries) (shelf_of u.entries) → shelf.is_kept (shelf_of r.entries) q ≡ true → RowsStand limits u (with_representation q (Some (lost_to alone v)) t)
 stands_lost r u t q v alone row stands nobody nothing last consumers keys exchanges becomes there =
     let z : Tables = with_representation q (Some (lost_to alone v)) t in
     record {

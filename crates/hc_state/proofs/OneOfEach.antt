@@ -1,4 +1,4 @@
--- One consumer and one exchange change, and no representation: what is kept stands for the tables then.
+-- One consumer and one exchange change, and no representation: what is kept represents the tables then.
 use Rattle.std.proofs.Common.{◌≡◌, ◌≢◌, inl, inr, ℕ, ◌+◌, List, [], ◌∷◌, Bool, Option, Some, None, refl, ap, sym, ◌∙◌, subst}
 use Rattle.std.specs.Prelude.{is_some, nat_eq, filter}
 use Rattle.std.specs.List.{list_any}
@@ -73,14 +73,14 @@ entries_same t s shelf same used starts users firsts growing overs kept = record
 
 -- ALL OF IT
 
-module _ {B : Type 0} {g : Ghosts B} {lim : Limits} (r u : Rows B g) (t s : Tables) (c x : ℕ) (o : Option Consumer) (stands : RowsStand lim r t)
+module _ {B : Type 0} {g : Ghosts B} {limits : Limits} (r u : Rows B g) (t s : Tables) (c x : ℕ) (o : Option Consumer) (stands : RowsStand limits r t)
     (last : u.last_start ≡ s.last_start) (next : next_of u.exchanges ≡ s.opened + 1) (count : hash_map_len u.consumers ≡ live s)
     (becomes : BecomesAt r.consumers u.consumers c o) (tables : (y : ℕ) → y ≢ x → table_of u.exchanges y ≡ table_of r.exchanges y)
     (others : (d : ℕ) → d ≢ c → s.consumer d ≡ t.consumer d) (exchanges : (y : ℕ) → y ≢ x → s.exchange y ≡ t.exchange y) (same : (q : ℕ) → s.representation q ≡ t.representation q)
     (kept : KeepsConsumer s o (s.consumer c)) (known : KeepsExchange s x (table_of u.exchanges x)) (keys : (key : List ℕ) → KeepsKey s key (kept_of u.keys key))
     (nobody : (d : ℕ) (k : rows.Consumer) → d ≢ c → t.consumer d ≡ Some k → k.place ≡ place.Direct x → ⊥)
     (held : (y : ℕ) (w : Exchange) → y ≢ x → t.exchange y ≡ Some w → held_for s y (Some w) ≡ held_for t y (Some w))
-    (bounded : (shelf_of u.entries).limits ≡ lim) (entries : KeepsEntries s (shelf_of u.entries)) where
+    (bounded : (shelf_of u.entries).limits ≡ limits) (entries : KeepsEntries s (shelf_of u.entries)) where
   -- whoever else reads past the store, reads another exchange
   past_same : (d : ℕ) (v : rows.Consumer) → d ≢ c → t.consumer d ≡ Some v → (y : ℕ) → v.place ≡ place.Direct y → s.exchange y ≡ t.exchange y
   past_same d v ne row y at = elim (same_or y x) [
@@ -109,7 +109,7 @@ module _ {B : Type 0} {g : Ghosts B} {lim : Limits} (r u : Rows B g) (t s : Tabl
         (record { row = exchanges y off; brings = λ w at. ap is_some (same (family y w)); held = held_row y (t.exchange y) off refl }) (stands.exchanges y))
   ]
 
-  pub stands_then : RowsStand lim u s
+  pub stands_then : RowsStand limits u s
   stands_then = record {
     limits = bounded;
     last_start = last;

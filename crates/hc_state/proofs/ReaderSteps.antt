@@ -1,4 +1,4 @@
--- A consumer that reads stays where it stands, and is given more, or was shown its head: what is kept stands for the tables then.
+-- A consumer that reads stays where it stands, and is given more, or was shown its head: what is kept represents the tables then.
 use Rattle.std.proofs.Common.{◌≡◌, ◌≢◌, inl, inr, ℕ, ◌≤◌, List, arith, Bool, true, Option, Some, None, refl, ap, sym, ◌∙◌}
 use Rattle.std.specs.HashMap.{hash_map_len}
 use Rattle.hc_text.proofs.Basics.{eqb-other, eqb-same, same_or}
@@ -29,7 +29,7 @@ pub entries_read : (t : Tables) (a b : Shelf) → shelf.Stays a b → KeepsEntri
 entries_read t a b stays kept = record { each = λ q. rw (stays.kept q) (kept.each q); order = stays.order ∙ kept.order }
 
 -- what stands over a store stands after a read of it
-pub stands_read : {B : Type 0} {g : Ghosts B} {lim : Limits} (r u : Rows B g) (t : Tables) → u.last_start ≡ r.last_start → u.consumers ≡ r.consumers → u.exchanges ≡ r.exchanges → u.keys ≡ r.keys → shelf.Stays (shelf_of r.entries) (shelf_of u.entries) → RowsStand lim r t → RowsStand lim u t
+pub stands_read : {B : Type 0} {g : Ghosts B} {limits : Limits} (r u : Rows B g) (t : Tables) → u.last_start ≡ r.last_start → u.consumers ≡ r.consumers → u.exchanges ≡ r.exchanges → u.keys ≡ r.keys → shelf.Stays (shelf_of r.entries) (shelf_of u.entries) → RowsStand limits r t → RowsStand limits u t
 stands_read r u t last consumers exchanges same_keys read stands = record {
   limits = read.limits ∙ stands.limits;
   last_start = last ∙ stands.last_start;
@@ -136,10 +136,10 @@ module _ (t : Tables) (c : ℕ) (v : rows.Consumer) (shown : Bool) (given : ℕ)
   pub exchange_reading : (y : ℕ) (known : Known) → held_for s y (t.exchange y) ≡ held_for t y (t.exchange y) → KeepsExchange t y known → KeepsExchange s y known
   exchange_reading y known same kept = exchange_same t s y known (record { row = refl; brings = λ z at. refl; held = same }) kept
 
-  module _ {B : Type 0} {g : Ghosts B} {lim : Limits} (r u : Rows B g) (stands : RowsStand lim r t) (lived : is_live_place v.place ≡ true)
+  module _ {B : Type 0} {g : Ghosts B} {limits : Limits} (r u : Rows B g) (stands : RowsStand limits r t) (lived : is_live_place v.place ≡ true)
       (last : u.last_start ≡ r.last_start) (same_keys : u.keys ≡ r.keys) (next : next_of u.exchanges ≡ next_of r.exchanges) (read : shelf.Stays (shelf_of r.entries) (shelf_of u.entries))
       (q : Consumer) (becomes : BecomesAt r.consumers u.consumers c (Some q)) (kept : IsKept t q w) (exchanges : (y : ℕ) → KeepsExchange s y (table_of u.exchanges y)) where
-    pub stands_reading : RowsStand lim u s
+    pub stands_reading : RowsStand limits u s
     stands_reading = record {
       limits = read.limits ∙ stands.limits;
       last_start = last ∙ stands.last_start;

@@ -55,7 +55,7 @@ distinct_once (n ∷ ns) once = distinct-first n ns (not_among n ns once.0) (dis
 
 -- WHAT THE SHELF SAYS
 
-module _ {B : Type 0} {g : Ghosts B} {lim : Limits} (r : Rows B g) (t : Tables) (may : MayLetGo t) (stands : RowsStand lim r t) where
+module _ {B : Type 0} {g : Ghosts B} {limits : Limits} (r : Rows B g) (t : Tables) (may : MayLetGo t) (stands : RowsStand limits r t) where
   abbrev shelf : Shelf
   shelf = shelf_of r.entries
 
@@ -87,7 +87,7 @@ module _ {B : Type 0} {g : Ghosts B} {lim : Limits} (r : Rows B g) (t : Tables) 
       ∙ sym (filter_both (λ q. is_idle t q (t.representation q)) (λ q. is_unused (shelf.kept q)) (λ q. is_usable_row (t.representation q)) (reverse t.used)
       (λ q. row_idle q (shelf.kept q) (t.representation q) refl (stands.entries.each q))))
 
-module _ {B : Type 0} {g : Ghosts B} {lim : Limits} (r : Rows B g) (t : Tables) (law : MayMakeRoom t) (stands : RowsStand lim r t) where
+module _ {B : Type 0} {g : Ghosts B} {limits : Limits} (r : Rows B g) (t : Tables) (law : MayMakeRoom t) (stands : RowsStand limits r t) where
   abbrev its : Shelf
   its = shelf_of r.entries
 
@@ -127,10 +127,10 @@ module _ {B : Type 0} {g : Ghosts B} {lim : Limits} (r : Rows B g) (t : Tables) 
       ∙ ap (λ f. sum_by f t.founded) (same_functions (weight_at its) (weight_now t) weight_is)
 
   -- so the room is
-  pub room_is : (write : Write) → room_of its.limits its.used write (map (weight_at its) (idle its)) ≡ room_now lim t write
+  pub room_is : (write : Write) → room_of its.limits its.used write (map (weight_at its) (idle its)) ≡ room_now limits t write
   room_is write =
       rw (stands.limits, used_is, idle_is r t law.may stands)
-      (ap (λ f. room_of lim (weights_now t) write (map f (idle_now t))) (same_functions (weight_at its) (weight_now t) weight_is))
+      (ap (λ f. room_of limits (weights_now t) write (map f (idle_now t))) (same_functions (weight_at its) (weight_now t) weight_is))
 
 -- THE LOOP
 
@@ -169,7 +169,7 @@ map-append (x ∷ xs) ys = ap (λ zs. act.Evicted x ∷ zs) (map-append xs ys)
 
 -- The first i of those that were idle are evicted.
 pub record HaveGone {B : Type 0} {g : Ghosts B} (r u : Rows B g) (now i : ℕ) (before out : List Act) (whole spare : ℕ) : Type 0 where
-  pub gone : (lim : Limits) (t : Tables) → MayMakeRoom t → RowsStand lim r t → GivesWay lim u t now (take i (idle_now t)) before out
+  pub gone : (limits : Limits) (t : Tables) → MayMakeRoom t → RowsStand limits r t → GivesWay limits u t now (take i (idle_now t)) before out
   pub appends : Appends before out
   pub fits : spare + i ≡ whole
   pub last_start : u.last_start ≡ r.last_start
@@ -178,7 +178,7 @@ pub record HaveGone {B : Type 0} {g : Ghosts B} (r u : Rows B g) (now i : ℕ) (
 
 pub none_gone : {B : Type 0} {g : Ghosts B} (r : Rows B g) (now : ℕ) (before : List Act) (whole : ℕ) → HaveGone r r now 0 before before whole whole
 none_gone r now before whole = record {
-  gone = λ lim t law stands. record { acts = sym (append-nil before); rows = stands };
+  gone = λ limits t law stands. record { acts = sym (append-nil before); rows = stands };
   appends = ([], sym (append-nil before));
   fits = omega arith;
   last_start = refl;
@@ -188,16 +188,16 @@ none_gone r now before whole = record {
 
 module _ {B : Type 0} {g : Ghosts B} (r u : Rows B g) (now i : ℕ) (before out : List Act) (whole spare : ℕ) (gone : HaveGone r u now i before out whole spare) where
   -- what is idle then
-  idle_then : {lim : Limits} (t : Tables) → MayMakeRoom t → RowsStand lim r t → idle (shelf_of u.entries) ≡ drop i (idle_now t)
+  idle_then : {limits : Limits} (t : Tables) → MayMakeRoom t → RowsStand limits r t → idle (shelf_of u.entries) ≡ drop i (idle_now t)
   idle_then t law stands =
       idle_is u (let_all_go now (take i (idle_now t)) t) (keeps_may_all now (take i (idle_now t)) t law.may) (gone.gone _ t law stands).rows
       ∙ idle_after now (take i (idle_now t)) (drop i (idle_now t)) t law.may law.used (sym (take_rest i (idle_now t)))
 
   pub one_gone : (next : Rows B g) (n : ℕ) (after : List Act) (left : ℕ) → Some n ≡ first_of (idle (shelf_of u.entries)) → after ≡ out ++ (act.Evicted n ∷ []) → left + 1 ≡ spare
-      → ((lim : Limits) (t : Tables) → MayLetGo t → RowsStand lim u t → RowsStand lim next (let_go now n t)) → next.last_start ≡ u.last_start → next.exchanges ≡ u.exchanges
+      → ((limits : Limits) (t : Tables) → MayLetGo t → RowsStand limits u t → RowsStand limits next (let_go now n t)) → next.last_start ≡ u.last_start → next.exchanges ≡ u.exchanges
       → (shelf_of next.entries).faults ≡ (shelf_of u.entries).faults → HaveGone r next now (i + 1) before after whole left
   one_gone next n after left first acts less goes last exchanges faults = record {
-    gone = λ lim t law stands.
+    gone = λ limits t law stands.
         let xs = idle_now t in
         let was = gone.gone _ t law stands in
         let found = first_is (drop i xs) n (first ∙ ap first_of (idle_then t law stands)) in
@@ -205,7 +205,7 @@ module _ {B : Type 0} {g : Ghosts B} (r u : Rows B g) (now i : ℕ) (before out 
         record {
           acts = acts ∙ (ap (λ zs. zs ++ (act.Evicted n ∷ [])) was.acts ∙ (append_assoc before (map act.Evicted (take i xs)) (act.Evicted n ∷ [])
               ∙ (ap (λ zs. before ++ zs) (sym (map-append (take i xs) (n ∷ []))) ∙ ap (λ zs. before ++ map act.Evicted zs) (sym more))));
-          rows = subst (RowsStand lim next) (sym (ap (λ zs. let_all_go now zs t) more ∙ all_more now (take i xs) (n ∷ []) t)) (goes _ (let_all_go now (take i xs) t) (keeps_may_all now (take i xs) t law.may) was.rows);
+          rows = subst (RowsStand limits next) (sym (ap (λ zs. let_all_go now zs t) more ∙ all_more now (take i xs) (n ∷ []) t)) (goes _ (let_all_go now (take i xs) t) (keeps_may_all now (take i xs) t law.may) was.rows);
         };
     appends = (gone.appends.0 ++ (act.Evicted n ∷ []), acts ∙ (ap (λ zs. zs ++ (act.Evicted n ∷ [])) gone.appends.1 ∙ append_assoc before gone.appends.0 (act.Evicted n ∷ [])));
     fits = (let fits = gone.fits in omega (arith, fits, less));
@@ -215,26 +215,26 @@ module _ {B : Type 0} {g : Ghosts B} (r u : Rows B g) (now i : ℕ) (before out 
   }
 
   -- the room is that of the tables
-  way_is : (write : Write) (count : ℕ) → room_for_write r write ≡ room.After count → (lim : Limits) (t : Tables) → MayMakeRoom t → RowsStand lim r t → giving_way lim t write ≡ take count (idle_now t)
-  way_is write count is lim t law stands = ap (first_idle t) (sym (room_is r t law stands write) ∙ is)
+  way_is : (write : Write) (count : ℕ) → room_for_write r write ≡ room.After count → (limits : Limits) (t : Tables) → MayMakeRoom t → RowsStand limits r t → giving_way limits t write ≡ take count (idle_now t)
+  way_is write count is limits t law stands = ap (first_idle t) (sym (room_is r t law stands write) ∙ is)
 
-  pub all_gone : (write : Write) (count : ℕ) → room_for_write r write ≡ room.After count → i ≡ count → (lim : Limits) (t : Tables) → MayMakeRoom t → RowsStand lim r t → GivesWay lim u t now (giving_way lim t write) before out
-  all_gone write count is end lim t law stands =
-      subst (λ zs. GivesWay lim u t now zs before out) (ap (λ n. take n (idle_now t)) end ∙ sym (way_is write count is _ t law stands)) (gone.gone _ t law stands)
+  pub all_gone : (write : Write) (count : ℕ) → room_for_write r write ≡ room.After count → i ≡ count → (limits : Limits) (t : Tables) → MayMakeRoom t → RowsStand limits r t → GivesWay limits u t now (giving_way limits t write) before out
+  all_gone write count is end limits t law stands =
+      subst (λ zs. GivesWay limits u t now zs before out) (ap (λ n. take n (idle_now t)) end ∙ sym (way_is write count is _ t law stands)) (gone.gone _ t law stands)
 
   -- nothing more is idle
-  pub no_more : (write : Write) (count : ℕ) → room_for_write r write ≡ room.After count → i ≤ count → None ≡ first_of (idle (shelf_of u.entries)) → (lim : Limits) (t : Tables) → MayMakeRoom t → RowsStand lim r t → GivesWay lim u t now (giving_way lim t write) before out
-  no_more write count is le none lim t law stands =
+  pub no_more : (write : Write) (count : ℕ) → room_for_write r write ≡ room.After count → i ≤ count → None ≡ first_of (idle (shelf_of u.entries)) → (limits : Limits) (t : Tables) → MayMakeRoom t → RowsStand limits r t → GivesWay limits u t now (giving_way limits t write) before out
+  no_more write count is le none limits t law stands =
       let empty : drop i (idle_now t) ≡ [] = none_first (drop i (idle_now t)) (none ∙ ap first_of (idle_then t law stands)) in
-      subst (λ zs. GivesWay lim u t now zs before out) (sym (take_all i count (idle_now t) le empty) ∙ sym (way_is write count is _ t law stands)) (gone.gone _ t law stands)
+      subst (λ zs. GivesWay limits u t now zs before out) (sym (take_all i count (idle_now t) le empty) ∙ sym (way_is write count is _ t law stands)) (gone.gone _ t law stands)
 
 -- nothing gives way where that makes no room
-pub none_way : {B : Type 0} {g : Ghosts B} (r : Rows B g) (now : ℕ) (write : Write) (before : List Act) → ((count : ℕ) → room_for_write r write ≡ room.After count → ⊥) → (lim : Limits) (t : Tables) → MayMakeRoom t → RowsStand lim r t
-    → GivesWay lim r t now (giving_way lim t write) before before
-none_way r now write before never lim t law stands =
-    subst (λ zs. GivesWay lim r t now zs before before) (sym (by_room (room_for_write r write) refl)) (record { acts = sym (append-nil before); rows = stands })
+pub none_way : {B : Type 0} {g : Ghosts B} (r : Rows B g) (now : ℕ) (write : Write) (before : List Act) → ((count : ℕ) → room_for_write r write ≡ room.After count → ⊥) → (limits : Limits) (t : Tables) → MayMakeRoom t → RowsStand limits r t
+    → GivesWay limits r t now (giving_way limits t write) before before
+none_way r now write before never limits t law stands =
+    subst (λ zs. GivesWay limits r t now zs before before) (sym (by_room (room_for_write r write) refl)) (record { acts = sym (append-nil before); rows = stands })
   where
-    by_room : (z : Room) → room_for_write r write ≡ z → giving_way lim t write ≡ []
+    by_room : (z : Room) → room_for_write r write ≡ z → giving_way limits t write ≡ []
     by_room (room.After count) is = absurd (never count is)
     by_room room.TooLarge is = ap (first_idle t) (sym (room_is r t law stands write) ∙ is)
     by_room room.Full is = ap (first_idle t) (sym (room_is r t law stands write) ∙ is)

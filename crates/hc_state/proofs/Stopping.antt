@@ -60,7 +60,7 @@ Means t s shelf x w stop.Nothing = IsApartNow t x
 Means t s shelf x w (stop.LetGo q) = GoesWith t x q w
 Means t s shelf x w (stop.Seal q) = Stays t s shelf x q w
 
-module _ {B : Type 0} {g : Ghosts B} {lim : Limits} (r : Rows B g) (t : Tables) (facts : Facts lim t) (f : ℕ → Option rows.Consumer) (stands : RowsStand lim r (with_consumers f t))
+module _ {B : Type 0} {g : Ghosts B} {limits : Limits} (r : Rows B g) (t : Tables) (facts : Facts limits t) (f : ℕ → Option rows.Consumer) (stands : RowsStand limits r (with_consumers f t))
     (x : ℕ) (w : Exchange) (row : t.exchange x ≡ Some w) (opened : w.is_open ≡ true) where
   abbrev s : Tables
   s = with_consumers f t

@@ -1,4 +1,4 @@
--- What is kept stands for other tables too, item by item: what neither changes nor looks at what changes stays tied.
+-- What is kept represents other tables too, item by item: what neither changes nor looks at what changes stays tied.
 use Rattle.std.proofs.Common.{◌≡◌, ◌≢◌, inl, inr, ℕ, List, Bool, true, false, Option, Some, None, refl, ap, sym, ◌∙◌, subst}
 use Rattle.std.specs.Prelude.{is_some, is_none, not, option_map, if◌then◌else◌}
 use Rattle.hc_text.proofs.Basics.{false_true, same_or}

@@ -1,4 +1,4 @@
--- One consumer isn't bound any more: what is kept of representations stands for the tables in which its row is another.
+-- One consumer isn't bound any more: what is kept of representations represents the tables in which its row is another.
 use Rattle.std.proofs.Common.{◌≡◌, ◌≢◌, inl, inr, ℕ, List, [], ◌∷◌, Bool, true, false, cond, eqb, Option, Some, None, refl, ap, sym, ◌∙◌, subst}
 use Rattle.std.specs.Prelude.{is_some, not, ◌&&◌, if◌then◌else◌}
 use Rattle.std.specs.Option.{option_and_then}
@@ -165,7 +165,7 @@ module _ (t : Tables) (started : (d : ℕ) → is_some (t.consumer d) ≡ true �
     entry_left (Some e) None kept = absurd kept
     entry_left (Some e) (Some p) kept = left_by_test e p kept (e.is_gone && is_nobody (without itself c e.bound)) refl
 
-  -- what is kept of representations stands for it
+  -- what is kept of representations represents it
   pub entries_unbound : (a b : Shelf) → KeepsEntries t a → UnbindsAt v.place c a b → KeepsEntries s b
   entries_unbound a b kept unbinds = by_place v.place refl
     where

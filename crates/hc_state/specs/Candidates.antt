@@ -38,18 +38,18 @@ AllowedIs request now why e = why ≡ allowed e.head request now
 -- whether the consumer has more to come of q, until that is lost
 abbrev pub HasMoreIs : {B : Type 0} {g : Ghosts B} → Rows B g → ℕ → Consumer → Bool → Type 0
 HasMoreIs r q k more =
-    (lim : Limits) (t : Tables) (v : rows.Consumer) (p : Representation) → Facts lim t → RowsStand lim r t →
+    (limits : Limits) (t : Tables) (v : rows.Consumer) (p : Representation) → Facts limits t → RowsStand limits r t →
     IsKept t k v → t.representation q ≡ Some p → p.is_lost ≡ false → more ≡ has_more t p v
 
 -- who writes q alone, until that is lost
 abbrev pub ExclusiveIs : {B : Type 0} {g : Ghosts B} → Rows B g → ℕ → Option ℕ → Type 0
 ExclusiveIs r q writer =
-    (lim : Limits) (t : Tables) (p : Representation) → Facts lim t → RowsStand lim r t →
+    (limits : Limits) (t : Tables) (p : Representation) → Facts limits t → RowsStand limits r t →
     t.representation q ≡ Some p → p.is_lost ≡ false → writer ≡ exclusive t q p
 
 -- q as the plan of the consumer sees it, which is current for its key
 abbrev pub CandidateIs : {B : Type 0} {g : Ghosts B} → Rows B g → ℕ → ℕ → ℕ → Candidate → Type 0
 CandidateIs r now c q seen =
-    (lim : Limits) (t : Tables) (v : rows.Consumer) (p : Representation) → Facts lim t → RowsStand lim r t →
+    (limits : Limits) (t : Tables) (v : rows.Consumer) (p : Representation) → Facts limits t → RowsStand limits r t →
     t.consumer c ≡ Some v → t.representation q ≡ Some p →
     seen ≡ candidate t now q v.request p

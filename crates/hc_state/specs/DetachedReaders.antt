@@ -76,17 +76,17 @@ abbrev pub shared_loss : ℕ → ℕ → ℕ → Representation → Option ℕ �
 shared_loss now r x v detached_reader t =
     let_go now r (with_representation r (Some (lost_to detached_reader v)) (writing_lost r detached_reader (Some x) t))
 
-pub record LosesShared {B : Type 0} {g : Ghosts B} (lim : Limits) (u : Rows B g) (t : Tables) (now r x : ℕ)
+pub record LosesShared {B : Type 0} {g : Ghosts B} (limits : Limits) (u : Rows B g) (t : Tables) (now r x : ℕ)
     (v : Representation) (detached_reader : Option ℕ) : Type 0 where
   pub detached_reader_is : detached_reader ≡ survivor t r v
-  pub rows : RowsStand lim u (shared_loss now r x v detached_reader t)
+  pub rows : RowsStand limits u (shared_loss now r x v detached_reader t)
 
 -- and x is closed, where nobody goes on with it
-pub record LosesWriting {B : Type 0} {g : Ghosts B} (lim : Limits) (u : Rows B g) (t : Tables)
+pub record LosesWriting {B : Type 0} {g : Ghosts B} (limits : Limits) (u : Rows B g) (t : Tables)
     (before out : List Act) (now r x : ℕ) (v : Representation) (kind : LostKind) : Type 0 where
   pub acts : out ≡ before
       ++ (act.Lost r kind ∷ map act.Close (unless_survived (survivor t r v) (Some x)))
-  pub rows : RowsStand lim u (all_closed (unless_survived (survivor t r v) (Some x))
+  pub rows : RowsStand limits u (all_closed (unless_survived (survivor t r v) (Some x))
       (shared_loss now r x v (survivor t r v) t))
 
 -- WHERE A 304 MAY BE ABOUT IT
@@ -95,9 +95,9 @@ pub record LosesWriting {B : Type 0} {g : Ghosts B} (lim : Limits) (u : Rows B g
 -- failed more often than this
 abbrev pub AnswersLosing : {B : Type 0} {g : Ghosts B} → Rows B g → Rows B g → List Act → List Act → ℕ → ℕ → ℕ → ℕ → Response → Type 0
 AnswersLosing r u before out faults now x q response =
-    (lim : Limits) (t : Tables) (w : Exchange) → Facts lim t → RowsStand lim r t →
+    (limits : Limits) (t : Tables) (w : Exchange) → Facts limits t → RowsStand limits r t →
     denial t (event.Head x response) ≡ None → t.exchange x ≡ Some w → w.aim ≡ Some q →
     current t w.request.key ≡ Some q →
     head_case (record (head_view t false w response) { selects = false }) ≡ heads.NotValidated →
     faults < (shelf_of r.entries).faults →
-    Answered lim faults u t before out now (event.Head x response)
+    Answered limits faults u t before out now (event.Head x response)

@@ -115,8 +115,8 @@ Unbinds (Some k) c before after = UnbindsAt k.place c before after
 -- ALL OF IT
 
 -- The key is doomed: the acts, and the tables for which the rows stand.
-pub record IsDoomed {B : Type 0} {g : Ghosts B} (lim : Limits) (u : Rows B g) (t : Tables) (before out : List Act) (now : ℕ) (key : List ℕ) (refused : Option ℕ) : Type 0 where
+pub record IsDoomed {B : Type 0} {g : Ghosts B} (limits : Limits) (u : Rows B g) (t : Tables) (before out : List Act) (now : ℕ) (key : List ℕ) (refused : Option ℕ) : Type 0 where
   pub acts : out ≡ before ++ map act.Close (awaited_and t key refused)
-  pub rows : RowsStand lim u
+  pub rows : RowsStand limits u
       (let_some_go now (current t key)
       (all_closed (awaited_and t key refused) (woken now key t)))

@@ -1,4 +1,4 @@
--- What the arms use of the tables of every run.
+-- What the handlers use of the tables of every run.
 use Rattle.std.specs.Prelude.{◌≡◌, ◌≤◌, ℕ, true, Some, None, is_some}
 use Rattle.hc_sparse.specs.Cells.{Covers}
 use Rattle.hc_rules.specs.declared.room.Limits.{Limits}

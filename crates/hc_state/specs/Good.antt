@@ -9,7 +9,7 @@ use Rattle.hc_model.specs.Tables.{tables}
 use Rattle.hc_state.specs.declared.rows.Rows.{Rows}
 use Rattle.hc_state.specs.Stands.{StandsForSome, Stands, gate_of}
 
--- the rows stand for the tables of a run that is no later
+-- the rows represent the tables of a run that is no later
 abbrev pub StandsUntil : {B : Type 0} {g : Ghosts B} → Rows B g → ℕ → ℕ → Type 0
 StandsUntil r bytes moment = (s : StandsForSome r bytes) × ((tables s.contents s.h).moment ≤ moment)
 
@@ -17,11 +17,11 @@ StandsUntil r bytes moment = (s : StandsForSome r bytes) × ((tables s.contents 
 abbrev pub StandsAt : {B : Type 0} {g : Ghosts B} → Rows B g → ℕ → ℕ → Type 0
 StandsAt r bytes moment = (s : StandsForSome r bytes) × ((tables s.contents s.h).moment ≡ moment)
 
--- the rows stand for tables that are no later
+-- the rows represent tables that are no later
 abbrev pub StandsBy : {B : Type 0} {g : Ghosts B} → Rows B g → ℕ → Type 0
 StandsBy r moment = (s : Stands r) × (s.t.moment ≤ moment)
 
--- its rows stand for some run whose last moment is its own, each step opened one exchange at most, and that moment and the
+-- its rows represent some run whose last moment is its own, each step opened one exchange at most, and that moment and the
 -- number of who started last are those with which a cache may begin
 abbrev pub IsGood : {B : Type 0} {g : Ghosts B} → Rows B g → ℕ → ℕ → ℕ → Type 0
 IsGood r bytes moment n =

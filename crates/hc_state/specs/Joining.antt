@@ -106,8 +106,8 @@ LacksOnly from response (Some k) =
 -- asked for the whole
 abbrev pub ResumesIs : {B : Type 0} {g : Ghosts B} → Rows B g → ℕ → ℕ → ℕ → Response → Bool → Type 0
 ResumesIs r c x q response result =
-    (lim : Limits) (t : Tables) (w : Exchange) (p : Representation) (k : Kept) (from to : ℕ) →
-    Facts lim t → RowsStand lim r t → t.exchange x ≡ Some w → w.is_open ≡ true →
+    (limits : Limits) (t : Tables) (w : Exchange) (p : Representation) (k : Kept) (from to : ℕ) →
+    Facts limits t → RowsStand limits r t → t.exchange x ≡ Some w → w.is_open ≡ true →
     w.need ≡ need.Hole from to → w.c ≡ c → t.representation q ≡ Some p → p.is_lost ≡ false →
     (shelf_of r.entries).kept q ≡ Some k → k.head.total ≡ p.head.total →
     result ≡ resumes t response w p

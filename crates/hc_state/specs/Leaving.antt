@@ -20,7 +20,7 @@ use Rattle.hc_event.specs.declared.place.Place.TheVariants as place
 use Rattle.hc_model.specs.Currents.{is_number}
 use Rattle.hc_state.specs.declared.consumer.Consumer.{Consumer}
 use Rattle.hc_state.specs.declared.rows.Rows.{Rows}
-use Rattle.hc_state.specs.Arms.{LeftIf}
+use Rattle.hc_state.specs.Handlers.{LeftIf}
 
 -- WHAT IT LEAVES
 

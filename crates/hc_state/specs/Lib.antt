@@ -12,7 +12,7 @@ pub mod Plans
 pub mod Candidates
 pub mod Reads
 pub mod Heads
-pub mod Arms
+pub mod Handlers
 pub mod Leaving
 pub mod Dooms
 pub mod Stops

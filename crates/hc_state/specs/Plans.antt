@@ -37,7 +37,7 @@ use Rattle.hc_model.specs.Rows as rows
 use Rattle.hc_model.specs.Rows.{Tables}
 use Rattle.hc_state.specs.declared.consumer.Consumer.{Consumer}
 use Rattle.hc_state.specs.declared.rows.Rows.{Rows}
-use Rattle.hc_state.specs.Arms.{queues}
+use Rattle.hc_state.specs.Handlers.{queues}
 use Rattle.hc_state.specs.Facts.{Facts}
 use Rattle.hc_state.specs.Stands.{RowsStand, Answers, AnswersMove}
 
@@ -84,11 +84,11 @@ IsKeptPassed keys c k = has_passed k.place ≡ true → is_in c (line_of keys k.
 abbrev pub in_line : rows.Consumer → rows.Consumer
 in_line k = record k { place = place.Line }
 
--- the rows stand for tables in which it is in line
+-- the rows represent tables in which it is in line
 abbrev pub StandsInLine : {B : Type 0} {g : Ghosts B} → Rows B g → Rows B g → ℕ → Type 0
 StandsInLine r u c =
-    (lim : Limits) (t : Tables) (k : rows.Consumer) → Lawful t → RowsStand lim r t → t.consumer c ≡ Some k →
-    RowsStand lim u (with_consumer c (Some (in_line k)) t)
+    (limits : Limits) (t : Tables) (k : rows.Consumer) → Lawful t → RowsStand limits r t → t.consumer c ≡ Some k →
+    RowsStand limits u (with_consumer c (Some (in_line k)) t)
 
 -- WHO OPENS AN EXCHANGE
 
@@ -113,11 +113,11 @@ tables_in_turn now c x need request v t =
     with_consumer c (Some (record v { own = Some x; place = place.Turn x }))
     (with_opening x (just_opened now c need request (current t v.request.key)) t)
 
--- the rows stand for tables in which it does
+-- the rows represent tables in which it does
 abbrev pub BeginsTurn : {B : Type 0} {g : Ghosts B} → Rows B g → Rows B g → ℕ → ℕ → Need → Request → ℕ → Type 0
 BeginsTurn r u now c need request x =
-    (lim : Limits) (t : Tables) (v : rows.Consumer) → Facts lim t → RowsStand lim r t → t.consumer c ≡ Some v →
-    RowsStand lim u (tables_in_turn now c x need request v t)
+    (limits : Limits) (t : Tables) (v : rows.Consumer) → Facts limits t → RowsStand limits r t → t.consumer c ≡ Some v →
+    RowsStand limits u (tables_in_turn now c x need request v t)
 
 -- the poll is answered where c asks whether this stored head still holds
 abbrev pub AnswersValidating : {B : Type 0} {g : Ghosts B} → Rows B g → Rows B g → List Act → List Act → ℕ → ℕ → Head → Consumer → Type 0
@@ -140,12 +140,12 @@ HasCurrent keys r k = (kept_of keys k.request.key).current ≡ Some r
 abbrev pub let_through : ℕ → rows.Consumer → rows.Consumer
 let_through r k = record k { place = place.Passed r (kept_by k.place) }
 
--- the rows stand for tables in which it has
+-- the rows represent tables in which it has
 abbrev pub StandsPassed : {B : Type 0} {g : Ghosts B} → Rows B g → Rows B g → ℕ → ℕ → Type 0
 StandsPassed r u c q =
-    (lim : Limits) (t : Tables) (k : rows.Consumer) → Lawful t → RowsStand lim r t → t.consumer c ≡ Some k →
+    (limits : Limits) (t : Tables) (k : rows.Consumer) → Lawful t → RowsStand limits r t → t.consumer c ≡ Some k →
     current t k.request.key ≡ Some q →
-    RowsStand lim u (with_consumer c (Some (let_through q k)) t)
+    RowsStand limits u (with_consumer c (Some (let_through q k)) t)
 
 -- WHICH PLAN IS CARRIED OUT
 
@@ -158,10 +158,10 @@ abbrev pub IsLookedAt : KeyTable → PlanView → Option ℕ → Consumer → Ty
 IsLookedAt keys view seen k =
     seen ≡ (if looks_at_stored view then (kept_of keys k.request.key).current else None)
 
--- the plan of the consumer, by whatever tables the rows stand for
+-- the plan of the consumer, by whatever tables the rows represent
 abbrev pub IsPlanOf : {B : Type 0} {g : Ghosts B} → Rows B g → ℕ → ℕ → Plan → Type 0
 IsPlanOf r now c plan =
-    (lim : Limits) (t : Tables) (v : rows.Consumer) → Facts lim t → RowsStand lim r t → t.consumer c ≡ Some v →
+    (limits : Limits) (t : Tables) (v : rows.Consumer) → Facts limits t → RowsStand limits r t → t.consumer c ≡ Some v →
     plan_of (planning.plan_view t now c v) ≡ plan
 
 -- each poll of it is answered

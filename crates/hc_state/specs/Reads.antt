@@ -31,7 +31,7 @@ use Rattle.hc_model.specs.Rows as rows
 use Rattle.hc_model.specs.Rows.{Tables}
 use Rattle.hc_state.specs.declared.consumer.Consumer.{Consumer}
 use Rattle.hc_state.specs.declared.rows.Rows.{Rows}
-use Rattle.hc_state.specs.Arms.{most}
+use Rattle.hc_state.specs.Handlers.{most}
 use Rattle.hc_state.specs.Facts.{Facts}
 use Rattle.hc_state.specs.Leaving.{if_running, writing_of}
 use Rattle.hc_state.specs.Plans.{is_idle_at, AnswersFilling}
@@ -47,9 +47,9 @@ pub data MayMisread (t : Tables) (q : ℕ) (k : rows.Consumer) : Type 0 where
 -- the poll of c, which may read q, is answered where the store has failed since so many faults
 abbrev pub AnswersMisread : {B : Type 0} {g : Ghosts B} → Rows B g → Rows B g → List Act → List Act → ℕ → ℕ → ℕ → Type 0
 AnswersMisread r u before out now c q =
-    (want faults : ℕ) (lim : Limits) (t : Tables) (k : rows.Consumer) → faults < (shelf_of r.entries).faults →
-    Facts lim t → RowsStand lim r t → t.consumer c ≡ Some k → MayMisread t q k →
-    Answered lim faults u t before out now (event.Poll c want)
+    (want faults : ℕ) (limits : Limits) (t : Tables) (k : rows.Consumer) → faults < (shelf_of r.entries).faults →
+    Facts limits t → RowsStand limits r t → t.consumer c ≡ Some k → MayMisread t q k →
+    Answered limits faults u t before out now (event.Poll c want)
 
 -- WHO IS TO BE SHOWN A HEAD
 
@@ -140,8 +140,8 @@ headless_own table None = None
 headless_own table (Some x) = if is_headless_open (table x).running then Some x else None
 
 -- it waits for no head
-abbrev pub IsHeard : Table → Consumer → Type 0
-IsHeard table k = headless_own table k.own ≡ None
+abbrev pub WaitsForNoHead : Table → Consumer → Type 0
+WaitsForNoHead table k = headless_own table k.own ≡ None
 
 -- what stands ahead of it, as much as it wants and not past its end
 abbrev pub IsRunAhead : Shelf → ℕ → ℕ → Option Run → Consumer → Type 0

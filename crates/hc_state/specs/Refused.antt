@@ -32,17 +32,17 @@ use Rattle.hc_state.specs.Stopped.{HoldsNothing}
 -- THAT IT IS REFUSED
 
 -- What is idle made room for a piece of x, and the store refused that, for this reason.
-pub record Refuses {B : Type 0} {g : Ghosts B} (lim : Limits) (r u : Rows B g) (t : Tables) (now x : ℕ) (bytes : List ℕ)
+pub record Refuses {B : Type 0} {g : Ghosts B} (limits : Limits) (r u : Rows B g) (t : Tables) (now x : ℕ) (bytes : List ℕ)
     (kind : LostKind) (before out : List Act) : Type 0 where
-  pub gives : GivesWay lim u t now (evicted lim t now (event.Piece x bytes)) before out
-  pub may : may_lose (room_for lim t now (event.Piece x bytes)) kind ≡ true
+  pub gives : GivesWay limits u t now (evicted limits t now (event.Piece x bytes)) before out
+  pub may : may_lose (room_for limits t now (event.Piece x bytes)) kind ≡ true
   pub caused : kind ≡ kinds.Fault → (shelf_of r.entries).faults < (shelf_of u.entries).faults
 
 -- whatever tables the rows stood for
 pub record RefusesPiece {B : Type 0} {g : Ghosts B} (r u : Rows B g) (now x q : ℕ) (bytes : List ℕ)
     (kind : LostKind) (before out : List Act) (spare : ℕ) : Type 0 where
-  pub refuses : (lim : Limits) (t : Tables) → Facts lim t → RowsStand lim r t →
-      denial t (event.Piece x bytes) ≡ None → Refuses lim r u t now x bytes kind before out
+  pub refuses : (limits : Limits) (t : Tables) → Facts limits t → RowsStand limits r t →
+      denial t (event.Piece x bytes) ≡ None → Refuses limits r u t now x bytes kind before out
   pub there : is_kept (shelf_of u.entries) q ≡ true
   pub exchanges : u.exchanges ≡ r.exchanges
   pub room : 2 ≤ spare
@@ -115,10 +115,10 @@ pub record MayLosePiece (t : Tables) (now r x : ℕ) (w : Exchange) (v : Represe
 abbrev pub closes_with : Option ℕ → ℕ → List ℕ → Exchange → List ℕ
 closes_with detached_reader x bytes w = if is_none detached_reader then unless_reached x bytes w else []
 
-pub record LosesPiece {B : Type 0} {g : Ghosts B} (lim : Limits) (u : Rows B g) (t : Tables) (before out : List Act)
+pub record LosesPiece {B : Type 0} {g : Ghosts B} (limits : Limits) (u : Rows B g) (t : Tables) (before out : List Act)
     (now r x : ℕ) (bytes : List ℕ) (w : Exchange) (v : Representation) (kind : LostKind) : Type 0 where
   pub acts : out ≡ before
       ++ (act.Lost r kind ∷ map act.Close (closes_with (survivor t r v) x bytes w))
-  pub rows : RowsStand lim u (all_closed (closes_with (survivor t r v) x bytes w)
+  pub rows : RowsStand limits u (all_closed (closes_with (survivor t r v) x bytes w)
       (brought_lost now r x w bytes (as_gone (lost_to (survivor t r v) v))
       (shared_loss now r x v (survivor t r v) t)))

@@ -47,8 +47,8 @@ loss_by errors.TooLarge = Some kind.TooLarge
 loss_by errors.Full = Some kind.Full
 loss_by errors.NoMemory = None
 
--- These are evicted, one after another: it is told, and the rows stand for the tables without them.
-pub record GivesWay {B : Type 0} {g : Ghosts B} (lim : Limits) (u : Rows B g) (t : Tables) (now : ℕ) (rs : List ℕ)
+-- These are evicted, one after another: it is told, and the rows represent the tables without them.
+pub record GivesWay {B : Type 0} {g : Ghosts B} (limits : Limits) (u : Rows B g) (t : Tables) (now : ℕ) (rs : List ℕ)
     (before out : List Act) : Type 0 where
   pub acts : out ≡ before ++ map act.Evicted rs
-  pub rows : RowsStand lim u (let_all_go now rs t)
+  pub rows : RowsStand limits u (let_all_go now rs t)

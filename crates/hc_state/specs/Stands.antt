@@ -1,4 +1,4 @@
--- The rows, over a store that may hold so much, stand for what the tables say.
+-- The rows, over a store that may hold so much, represent what the tables say.
 use Rattle.std.specs.Prelude.{◌≡◌, ℕ, ◌+◌, ◌<◌, ◌≤◌, ◌^◌, List, ◌++◌, Bool, true, false, Option, Some, None, is_some, option_map, nat_eq}
 use Rattle.std.specs.Option.{option_and_then}
 use Rattle.std.specs.HashMap.{get, hash_map_len}
@@ -43,8 +43,8 @@ use Rattle.hc_state.specs.Kept.{KeepsConsumer, KeepsExchange}
 use Rattle.hc_state.specs.Lines.{KeepsKey}
 use Rattle.hc_state.specs.Stored.{KeepsEntries}
 
-pub record RowsStand {B : Type 0} {g : Ghosts B} (lim : Limits) (r : Rows B g) (t : Tables) : Type 0 where
-  pub limits : (shelf_of r.entries).limits ≡ lim
+pub record RowsStand {B : Type 0} {g : Ghosts B} (limits : Limits) (r : Rows B g) (t : Tables) : Type 0 where
+  pub limits : (shelf_of r.entries).limits ≡ limits
   pub last_start : r.last_start ≡ t.last_start
   pub next : next_of r.exchanges ≡ t.opened + 1
   pub count : hash_map_len r.consumers ≡ live t
@@ -53,7 +53,7 @@ pub record RowsStand {B : Type 0} {g : Ghosts B} (lim : Limits) (r : Rows B g) (
   pub keys : (key : List ℕ) → KeepsKey t key (kept_of r.keys key)
   pub entries : KeepsEntries t (shelf_of r.entries)
 
--- the rows stand for the tables of some run in which what comes is within limits, and of which so many bytes came at most
+-- the rows represent the tables of some run in which what comes is within limits, and of which so many bytes came at most
 pub record StandsForSome {B : Type 0} {g : Ghosts B} (r : Rows B g) (bytes : ℕ) : Type 0 where
   pub contents : Contents
   pub h : History
@@ -65,7 +65,7 @@ pub record StandsForSome {B : Type 0} {g : Ghosts B} (r : Rows B g) (bytes : ℕ
   pub received : (tables contents h).received ≤ bytes
   pub rows : RowsStand (shelf_of r.entries).limits r (tables contents h)
 
--- the rows stand for tables that have what those of every run have, and of which few bytes came
+-- the rows represent tables that have what those of every run have, and of which few bytes came
 pub record Stands {B : Type 0} {g : Ghosts B} (r : Rows B g) : Type 0 where
   pub limits : Limits
   pub t : Tables
@@ -109,7 +109,7 @@ pub record KeepsRest {B : Type 0} {g : Ghosts B} (r u : Rows B g) : Type 0 where
   pub keys : u.keys ≡ r.keys
   pub entries : u.entries ≡ r.entries
 
--- An accepted event is answered, with a flaw that may stand there and has its cause, and the rows stand for the tables
+-- An accepted event is answered, with a flaw that may stand there and has its cause, and the rows represent the tables
 -- after it.
 pub record Answered {B : Type 0} {g : Ghosts B} (limits : Limits) (faults : ℕ) (u : Rows B g) (t : Tables) (before out : List Act) (now : ℕ) (event : Event) : Type 0 where
   pub flaw : Flaw
@@ -119,40 +119,40 @@ pub record Answered {B : Type 0} {g : Ghosts B} (limits : Limits) (faults : ℕ)
   pub caused : is_fault flaw ≡ true → faults < (shelf_of u.entries).faults
   pub rows : RowsStand limits u (after_accepted t (entry_of limits t now event flaw))
 
--- whatever tables the rows stand for that have what those of every run have
+-- whatever tables the rows represent that have what those of every run have
 abbrev pub Answers : {B : Type 0} {g : Ghosts B} → Rows B g → Rows B g → List Act → List Act → ℕ → Event → Type 0
 Answers r u before out now event =
-    (lim : Limits) (t : Tables) → Facts lim t → RowsStand lim r t → denial t event ≡ None →
-    Answered lim (shelf_of r.entries).faults u t before out now event
+    (limits : Limits) (t : Tables) → Facts limits t → RowsStand limits r t → denial t event ≡ None →
+    Answered limits (shelf_of r.entries).faults u t before out now event
 
 -- and at which the poll of c makes this move
 abbrev pub AnswersMove : {B : Type 0} {g : Ghosts B} → Rows B g → Rows B g → List Act → List Act → ℕ → ℕ → ℕ → Move → Type 0
 AnswersMove r u before out now c want move =
-    (lim : Limits) (t : Tables) (k : Consumer) → Facts lim t → RowsStand lim r t → t.consumer c ≡ Some k →
+    (limits : Limits) (t : Tables) (k : Consumer) → Facts limits t → RowsStand limits r t → t.consumer c ≡ Some k →
     move_of t now want c k ≡ move →
-    Answered lim (shelf_of r.entries).faults u t before out now (event.Poll c want)
+    Answered limits (shelf_of r.entries).faults u t before out now (event.Poll c want)
 
 -- The head of an exchange is answered, where its case is this, it dooms nothing, and this isn't used any more.
 abbrev pub AnswersCase : {B : Type 0} {g : Ghosts B} → Rows B g → Rows B g → List Act → List Act → ℕ → ℕ → Response → HeadCase → Option ℕ → Type 0
 AnswersCase r u before out now x response case goes =
-    (lim : Limits) (t : Tables) (w : Exchange) → Facts lim t → RowsStand lim r t →
+    (limits : Limits) (t : Tables) (w : Exchange) → Facts limits t → RowsStand limits r t →
     denial t (event.Head x response) ≡ None → t.exchange x ≡ Some w →
     head_case (head_view t false w response) ≡ case → doomed_by_case (Some case) w response ≡ None →
     goes ≡ goes_with t w response case →
-    Answered lim (shelf_of r.entries).faults u t before out now (event.Head x response)
+    Answered limits (shelf_of r.entries).faults u t before out now (event.Head x response)
 
 -- the same, where it dooms its key
 abbrev pub AnswersDooming : {B : Type 0} {g : Ghosts B} → Rows B g → Rows B g → List Act → List Act → ℕ → ℕ → Response → HeadCase → Type 0
 AnswersDooming r u before out now x response case =
-    (lim : Limits) (t : Tables) (w : Exchange) → Facts lim t → RowsStand lim r t →
+    (limits : Limits) (t : Tables) (w : Exchange) → Facts limits t → RowsStand limits r t →
     denial t (event.Head x response) ≡ None → t.exchange x ≡ Some w →
     head_case (head_view t false w response) ≡ case → changes w response ≡ true →
-    Answered lim (shelf_of r.entries).faults u t before out now (event.Head x response)
+    Answered limits (shelf_of r.entries).faults u t before out now (event.Head x response)
 
 -- the same, where it is a 304 to a conditional request that was made about this, and may select that
 abbrev pub AnswersUnselected : {B : Type 0} {g : Ghosts B} → Rows B g → Rows B g → List Act → List Act → ℕ → ℕ → Response → Option ℕ → Type 0
 AnswersUnselected r u before out now x response aim =
-    (lim : Limits) (t : Tables) (w : Exchange) → Facts lim t → RowsStand lim r t →
+    (limits : Limits) (t : Tables) (w : Exchange) → Facts limits t → RowsStand limits r t →
     denial t (event.Head x response) ≡ None → t.exchange x ≡ Some w → aim ≡ w.aim →
     head_case (record (head_view t false w response) { selects = false }) ≡ heads.NotValidated →
-    Answered lim (shelf_of r.entries).faults u t before out now (event.Head x response)
+    Answered limits (shelf_of r.entries).faults u t before out now (event.Head x response)

@@ -75,23 +75,23 @@ pub record IsSealed (t : Tables) (x : ℕ) : Type 0 where
   pub kept : going_with t (Some x) ≡ None
 
 -- its seal failed: it is lost, and let go
-pub record SealFailed {B : Type 0} {g : Ghosts B} (lim : Limits) (faults : ℕ) (u : Rows B g)
+pub record SealFailed {B : Type 0} {g : Ghosts B} (limits : Limits) (faults : ℕ) (u : Rows B g)
     (t : Tables) (f : ℕ → Option Consumer) (before out : List Act) (now x : ℕ) : Type 0 where
   pub sealed : IsSealed t x
   pub acts : out ≡ before ++ (act.Lost sealed.r kind.Fault ∷ [])
   pub failed : faults < (shelf_of u.entries).faults
-  pub rows : RowsStand lim u (let_go now sealed.r
+  pub rows : RowsStand limits u (let_go now sealed.r
       (with_representation sealed.r
       (Some (lost_to (exclusive t sealed.r sealed.v) sealed.v))
       (tables_after_close x (with_consumers f t))))
 
 -- x is closed, and what it brought is sealed or let go
-pub data HasStopped {B : Type 0} {g : Ghosts B} (lim : Limits) (faults : ℕ) (u : Rows B g)
+pub data HasStopped {B : Type 0} {g : Ghosts B} (limits : Limits) (faults : ℕ) (u : Rows B g)
     (t : Tables) (f : ℕ → Option Consumer) (before out : List Act) (now x : ℕ) : Type 0 where
   quietly : out ≡ before →
-      RowsStand lim u (let_some_go now (going_with t (Some x)) (tables_after_close x (with_consumers f t))) →
-      HasStopped lim faults u t f before out now x
-  unsealed : SealFailed lim faults u t f before out now x → HasStopped lim faults u t f before out now x
+      RowsStand limits u (let_some_go now (going_with t (Some x)) (tables_after_close x (with_consumers f t))) →
+      HasStopped limits faults u t f before out now x
+  unsealed : SealFailed limits faults u t f before out now x → HasStopped limits faults u t f before out now x
 
 -- WHERE IT BREAKS OFF
 
@@ -108,16 +108,16 @@ pub data IsOwn (t : Tables) (x c : ℕ) (w : Exchange) : Type 0 where
       t.consumer c ≡ Some k → k.own ≡ Some x → IsOwn t x c w
 
 -- to whoever reads from it the failure is due, and it has stopped
-pub data BrokeOff {B : Type 0} {g : Ghosts B} (lim : Limits) (faults : ℕ) (u : Rows B g) (t : Tables)
+pub data BrokeOff {B : Type 0} {g : Ghosts B} (limits : Limits) (faults : ℕ) (u : Rows B g) (t : Tables)
     (before out : List Act) (now x : ℕ) (w : Exchange) (why : Cause) : Type 0 where
   own : (c : ℕ) → IsOwn t x c w →
-      HasStopped lim faults u t (due_for t (λ d. c == d) why) before out now x →
-      BrokeOff lim faults u t before out now x w why
+      HasStopped limits faults u t (due_for t (λ d. c == d) why) before out now x →
+      BrokeOff limits faults u t before out now x w why
   shared : (v : Representation) → t.representation (family x w) ≡ Some v →
       is_written t v ≡ true → v.writer ≡ Some x →
-      HasStopped lim faults u t (due_for t (λ d. is_bound (family x w) (t.consumer d)) why)
+      HasStopped limits faults u t (due_for t (λ d. is_bound (family x w) (t.consumer d)) why)
       before out now x →
-      BrokeOff lim faults u t before out now x w why
+      BrokeOff limits faults u t before out now x w why
 
 -- c, which was shown nothing, waits for its head
 pub record Waited (t : Tables) (x c : ℕ) (w : Exchange) (k : Consumer) : Type 0 where
@@ -144,15 +144,15 @@ pub record KeepsBesideEntries {B : Type 0} {g : Ghosts B} (r u : Rows B g) : Typ
   pub keys : u.keys ≡ r.keys
 
 -- what is stored is gone, or sealed as whole and so long, or lost and let go
-pub data SealedWhole {B : Type 0} {g : Ghosts B} (lim : Limits) (faults : ℕ) (r u : Rows B g)
+pub data SealedWhole {B : Type 0} {g : Ghosts B} (limits : Limits) (faults : ℕ) (r u : Rows B g)
     (t : Tables) (before out : List Act) (now q : ℕ) (v : Representation) (n : ℕ) : Type 0 where
   gone : v.is_gone ≡ true → out ≡ before → u ≡ r →
-      SealedWhole lim faults r u t before out now q v n
+      SealedWhole limits faults r u t before out now q v n
   sealed : v.is_gone ≡ false → out ≡ before → KeepsBesideEntries r u →
       Becomes (option_map (entry.sealed_kept kinds.Whole (Some n))) same_order q
       (shelf_of r.entries) (shelf_of u.entries) →
-      SealedWhole lim faults r u t before out now q v n
+      SealedWhole limits faults r u t before out now q v n
   lost : v.is_gone ≡ false → out ≡ before ++ (act.Lost q kind.Fault ∷ []) →
       faults < (shelf_of u.entries).faults →
-      RowsStand lim u (let_go now q (with_representation q (Some (lost_to None v)) t)) →
-      SealedWhole lim faults r u t before out now q v n
+      RowsStand limits u (let_go now q (with_representation q (Some (lost_to None v)) t)) →
+      SealedWhole limits faults r u t before out now q v n

@@ -3,7 +3,7 @@ ghost use Rattle.std.specs.Prelude.{◌≡◌, ◌+◌, ◌<◌, ◌^◌, Some, 
 ghost use Rattle.hc_event.specs.declared.place.Place.TheVariants as place;
 ghost use Rattle.hc_model.specs.Planning.{has_passed};
 ghost use Rattle.hc_model.specs.StartingOver.{awaited_exchange};
-ghost use Rattle.hc_state.specs.Arms.{queues};
+ghost use Rattle.hc_state.specs.Handlers.{queues};
 ghost use Rattle.hc_state.specs.Changes.{once_over};
 ghost use Rattle.hc_state.specs.DetachedReaders.{stands_at};
 

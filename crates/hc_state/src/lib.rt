@@ -1,4 +1,4 @@
-//! What a cache keeps, the changes of it, and when it stands for what the tables of a run say.
+//! What a cache keeps, the changes of it, and when it represents what the tables of a run say.
 #![tactic(auto)]
 
 mod changes;

@@ -8,7 +8,7 @@ use std::collections::HashMap;
 
 /// What is kept of the past: live consumers, open exchanges and what is held of them, who waits for
 /// each key, and the representations that are current or used. It is a plain record: what is done to
-/// it, and that it stands for the tables of a run, is said by the contracts of those who do it.
+/// it, and that it represents the tables of a run, is said by the contracts of those who do it.
 #[derive(Drop)]
 pub struct Rows<B: Backend> {
     /// The number of the last consumer that started.

@@ -15,10 +15,10 @@ use hc_contents::Contents;
 use hc_store::{Backend, StoreError};
 
 impl<B: Backend> Cache<B> {
-    /// What every history that the cache stands for leaves, while nobody is live. A cache that may hold
-    /// as much may begin with it, unless the number of the next exchange is above 2^60. The cache stands
-    /// for the same histories afterwards, whatever the answer. After a step that answered NoMemory it
-    /// stands for none, and NoMemory comes.
+    /// What every history that the cache represents leaves, while nobody is live. A cache that may
+    /// hold as much may begin with it, unless the number of the next exchange is above 2^60. The
+    /// cache represents the same histories afterwards, whatever the answer. After a step that
+    /// answered NoMemory it represents none, and NoMemory comes.
     pub fn contents(&mut self) -> Result<Contents, StoreError>
         requires idle { live_in self.old ≡ 0 }
         ensures told { IfOk result (λ found. (contents : model.Contents) (h : model.History)

@@ -2,11 +2,11 @@ use Rattle.std.proofs.Common.{◌≡◌, ℕ, arith, true, false, Option, Some, 
 use Rattle.std.specs.Prelude.{◌≤◌, Result, Ok, is_some}
 use Rattle.hc_effects.proofs.Vocabulary.{act_list, let_all_go, evicted, LostKind}
 use Rattle.hc_event.specs.declared.event.Event.TheVariants as event
-use Rattle.hc_on_body.proofs.GrowArm.{own_answered, shared_answered}
+use Rattle.hc_on_body.proofs.GrowHandler.{own_answered, shared_answered}
 use Rattle.hc_text.specs.declared.memory.NoMemory.{NoMemory}
 use Rattle.hc_on_body.proofs.Bringing.{may_bring}
 use Rattle.hc_on_leave.proofs.LoseTurn.{writes_it, unwritten}
-use Rattle.hc_on_leave.proofs.StoreArm.{stores_of}
+use Rattle.hc_on_leave.proofs.StoreHandler.{stores_of}
 use Rattle.hc_on_body.proofs.piece.grow.Goals as goal
 use Rattle.hc_state.proofs.Words.{ok_then}
 
@@ -35,7 +35,7 @@ from_same : {a b : ℕ} → b ≡ a → a ≤ b
 from_same is = omega (arith, is)
 
 pub returns-in-Some-clause-answers : goal.returns-in-Some-clause-answers
-returns-in-Some-clause-answers g c = ok_then c.lose_shared_piece.result c.lose_shared_piece.ensures.lost (λ lost lim t facts stands goes.
+returns-in-Some-clause-answers g c = ok_then c.lose_shared_piece.result c.lose_shared_piece.ensures.lost (λ lost limits t facts stands goes.
     let r = c.args.rows.now in
     let put = c.store_piece.new.rows in
     let refused = c.in_ok-store_piece.ensures.refused c.in-Some.kind (told c.in_ok-store_piece.field-0 (Some c.in-Some.kind) c.in-Some.is) in
@@ -44,10 +44,10 @@ returns-in-Some-clause-answers g c = ok_then c.lose_shared_piece.result c.lose_s
     let writes = some_one c.writing.result (sym c.is_some-writing.ensures ∙ c.if-writing.true) in
     let on = (writes_it r t facts stands c.args.r it.v there writes.0 (sym c.writing.ensures ∙ writes.1)).0 in
     shared_answered r put t facts stands c.args.now c.args.x c.args.r c.args.bytes.now goes it c.in-Some.kind (act_list c.args.out.now) (act_list c.store_piece.new.out) (refused.refuses _ t facts stands goes) on
-    c.lose_shared_piece.new.rows (act_list c.lose_shared_piece.new.out) (λ may stood. lost _ (let_all_go c.args.now (evicted lim t c.args.now (event.Piece c.args.x c.args.bytes.now)) t) it.w it.v may stood) (from_same c.lose_shared_piece.ensures.faults))
+    c.lose_shared_piece.new.rows (act_list c.lose_shared_piece.new.out) (λ may stood. lost _ (let_all_go c.args.now (evicted limits t c.args.now (event.Piece c.args.x c.args.bytes.now)) t) it.w it.v may stood) (from_same c.lose_shared_piece.ensures.faults))
 
 pub returns-in-Some-2-clause-answers : goal.returns-in-Some-2-clause-answers
-returns-in-Some-2-clause-answers g c = ok_then c.lose_own_piece.result c.lose_own_piece.ensures.lost (λ lost lim t facts stands goes.
+returns-in-Some-2-clause-answers g c = ok_then c.lose_own_piece.result c.lose_own_piece.ensures.lost (λ lost limits t facts stands goes.
     let r = c.args.rows.now in
     let put = c.store_piece.new.rows in
     let refused = c.in_ok-store_piece.ensures.refused c.in-Some.kind (told c.in_ok-store_piece.field-0 (Some c.in-Some.kind) c.in-Some.is) in
@@ -56,4 +56,4 @@ returns-in-Some-2-clause-answers g c = ok_then c.lose_own_piece.result c.lose_ow
     let off = unwritten r t facts stands c.args.r it.v there (sym c.writing.ensures ∙ none_at c.writing.result (sym c.is_some-writing.ensures ∙ c.if-writing.false)) in
     own_answered r put t facts stands c.args.now c.args.x c.args.r c.args.bytes.now goes it c.in-Some.kind (act_list c.args.out.now) (act_list c.store_piece.new.out) (refused.refuses _ t facts stands goes) off
     c.exclusive-alone.result (c.exclusive-alone.ensures _ t it.v facts stands there it.fresh)
-    c.lose_own_piece.new.rows (act_list c.lose_own_piece.new.out) (λ may stood. lost _ (let_all_go c.args.now (evicted lim t c.args.now (event.Piece c.args.x c.args.bytes.now)) t) it.w it.v may stood) c.lose_own_piece.ensures.acts (from_same c.lose_own_piece.ensures.faults))
+    c.lose_own_piece.new.rows (act_list c.lose_own_piece.new.out) (λ may stood. lost _ (let_all_go c.args.now (evicted limits t c.args.now (event.Piece c.args.x c.args.bytes.now)) t) it.w it.v may stood) c.lose_own_piece.ensures.acts (from_same c.lose_own_piece.ensures.faults))

@@ -1,11 +1,11 @@
 use Rattle.std.proofs.Common.{refl}
 use Rattle.hc_exch.specs.Exchanges.{table_of}
 use Rattle.hc_on_body.proofs.LosePiece.{own_stands}
-use Rattle.hc_on_leave.proofs.StoreArm.{accepted_open}
+use Rattle.hc_on_leave.proofs.StoreHandler.{accepted_open}
 use Rattle.hc_on_body.proofs.piece.lose_own_piece.Goals as goal
 
 pub returns-clause-lost : goal.returns-clause-lost
-returns-clause-lost g c = λ lim t w v may stands.
+returns-clause-lost g c = λ limits t w v may stands.
     let b = may.brings in
     let r = c.args.rows.now in
     let taken = accepted_open (table_of r.exchanges c.args.x).running _ c.requires.may.accepted in

@@ -4,11 +4,11 @@ use Rattle.hc_effects.proofs.Vocabulary.{act_list}
 use Rattle.hc_exch.specs.Exchanges.{table_of, Becomes}
 use Rattle.hc_exch.specs.Known.{with_piece}
 use Rattle.hc_on_body.proofs.LosePiece.{stays_so, closes_it}
-use Rattle.hc_on_leave.proofs.StoreArm.{accepted_open}
+use Rattle.hc_on_leave.proofs.StoreHandler.{accepted_open}
 use Rattle.hc_on_body.proofs.piece.lose_shared_piece.Goals as goal
 
 pub returns-then-is_some-clause-lost : goal.returns-then-is_some-clause-lost
-returns-then-is_some-clause-lost g c = λ lim t w v may stands.
+returns-then-is_some-clause-lost g c = λ limits t w v may stands.
     let r = c.args.rows.now in
     let taken = accepted_open (table_of r.exchanges c.args.x).running _ c.requires.may.accepted in
     let lost = c.lose_shared-detached_reader.ensures.lost _ t v may.shared stands in
@@ -18,7 +18,7 @@ returns-then-is_some-clause-lost g c = λ lim t w v may stands.
     (act_list c.args.out.now) (act_list c.lose_shared-detached_reader.new.out) (inl (ap not some)) c.lose_shared-detached_reader.ensures.acts
 
 pub returns-then-not-over-clause-lost : goal.returns-then-not-over-clause-lost
-returns-then-not-over-clause-lost g c = λ lim t w v may stands.
+returns-then-not-over-clause-lost g c = λ limits t w v may stands.
     let r = c.args.rows.now in
     let taken = accepted_open (table_of r.exchanges c.args.x).running _ c.requires.may.accepted in
     let lost = c.lose_shared-detached_reader.ensures.lost _ t v may.shared stands in
@@ -29,7 +29,7 @@ returns-then-not-over-clause-lost g c = λ lim t w v may stands.
     (act_list c.args.out.now) (act_list c.lose_shared-detached_reader.new.out) (act_list c.close.new.out) c.lose_shared-detached_reader.ensures.acts c.close.ensures.acts
 
 pub returns-else-not-over-clause-lost : goal.returns-else-not-over-clause-lost
-returns-else-not-over-clause-lost g c = λ lim t w v may stands.
+returns-else-not-over-clause-lost g c = λ limits t w v may stands.
     let r = c.args.rows.now in
     let taken = accepted_open (table_of r.exchanges c.args.x).running _ c.requires.may.accepted in
     let lost = c.lose_shared-detached_reader.ensures.lost _ t v may.shared stands in

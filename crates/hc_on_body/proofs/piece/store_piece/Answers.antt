@@ -16,7 +16,7 @@ use Rattle.hc_text.proofs.Basics.{same_some as same_row}
 use Rattle.hc_on_body.proofs.Bringing.{comes_below, may_bring}
 use Rattle.hc_on_body.proofs.FewActs.{has_few, leaves_two}
 use Rattle.hc_on_leave.proofs.RefusedPiece.{refused_by}
-use Rattle.hc_on_leave.proofs.StoreArm.{kept_of, kept_mid, absent_mid, answered_mid, refused_mid}
+use Rattle.hc_on_leave.proofs.StoreHandler.{kept_of, kept_mid, absent_mid, answered_mid, refused_mid}
 use Rattle.hc_on_body.proofs.piece.store_piece.Goals as goal
 
 pub make_room-requires : goal.make_room-requires

@@ -7,7 +7,7 @@ use Rattle.hc_effects.proofs.Vocabulary.{act_list}
 use Rattle.hc_state.specs.Stopped.{HasStopped, MayStop}
 use Rattle.hc_state.specs.Stored.{TellsShort}
 use Rattle.hc_on_leave.proofs.Shorts.{shorts_here}
-use Rattle.hc_on_body.proofs.StopArm.{breaks_off}
+use Rattle.hc_on_body.proofs.StopHandler.{breaks_off}
 use Rattle.hc_on_body.proofs.stop.break_off.Goals as goal
 
 pub stop_bringing-requires-clause-may : goal.stop_bringing-requires-clause-may
@@ -17,12 +17,12 @@ stop_bringing-requires-clause-may g c = record {
 }
 
 pub returns-clause-broken : goal.returns-clause-broken
-returns-clause-broken g c = λ lim t w facts stands broken.
+returns-clause-broken g c = λ limits t w facts stands broken.
     let r = c.args.rows.now in
     let mid = c.make_due_to.new.rows in
     let due = c.make_due_to.ensures in
     breaks_off r mid _ t facts stands c.args.x w broken c.readers-readers.result c.readers-readers.ensures c.args.cause due.rest due.exchanges due.consumers
     (shelf_of r.entries).faults c.args.now (act_list c.args.out.now) _
     (λ f may rows.
-    subst (λ n. HasStopped lim n c.stop_bringing.new.rows t f (act_list c.args.out.now) (act_list c.stop_bringing.new.out) c.args.now c.args.x) (ap (λ z. (shelf_of z).faults) due.rest.entries)
+    subst (λ n. HasStopped limits n c.stop_bringing.new.rows t f (act_list c.args.out.now) (act_list c.stop_bringing.new.out) c.args.now c.args.x) (ap (λ z. (shelf_of z).faults) due.rest.entries)
     (c.stop_bringing.ensures.stopped _ t f facts (subst (λ o. MayStop t f c.args.x o) (sym c.alone.ensures) may) rows))

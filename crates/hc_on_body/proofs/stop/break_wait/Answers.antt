@@ -2,12 +2,12 @@ use Rattle.std.proofs.Common.{nat_eq, refl, ◌∙◌}
 use Rattle.std.specs.HashMap.{get}
 use Rattle.hc_event.specs.declared.act.Cause.TheVariants as cause
 use Rattle.hc_state.specs.Leaving.{LeavesPlace}
-use Rattle.hc_on_body.proofs.BreakArm.{stands_broken}
+use Rattle.hc_on_body.proofs.BreakHandler.{stands_broken}
 use Rattle.hc_state.proofs.Words.{there}
 use Rattle.hc_on_body.proofs.stop.break_wait.Goals as goal
 
 pub returns-clause-broken : goal.returns-clause-broken
-returns-clause-broken g c = λ lim t w k facts stands waited.
+returns-clause-broken g c = λ limits t w k facts stands waited.
     let r = c.args.rows.now in
     let mid = c.leave_place.new.rows in
     let found = there (get nat_eq r.consumers c.args.c) (LeavesPlace r mid c.args.c) c.leave_place.ensures.place in

@@ -27,7 +27,7 @@ break_wait-requires-clause-may g c =
     }
 
 pub returns-then-was_shown-clause-answers : goal.returns-then-was_shown-clause-answers
-returns-then-was_shown-clause-answers g c = λ lim t facts stands accepts.
+returns-then-was_shown-clause-answers g c = λ limits t facts stands accepts.
     let r = c.args.rows.now in
     let x = c.args.x in
     let view = c.unwrap-view.result in
@@ -37,11 +37,11 @@ returns-then-was_shown-clause-answers g c = λ lim t facts stands accepts.
     ] in
     let seen = viewed r t x c.view.result view stands c.view.ensures c.unwrap-view.ensures in
     let broken = is_broken r t stands facts.law x view seen why in
-    fault_answered lim (shelf_of r.entries).faults _ t facts.law c.args.now x seen.w broken accepts (act_list c.args.out.now) _
+    fault_answered limits (shelf_of r.entries).faults _ t facts.law c.args.now x seen.w broken accepts (act_list c.args.out.now) _
     (c.break_off.ensures.broken _ t seen.w facts stands broken)
 
 pub returns-else-was_shown-clause-answers : goal.returns-else-was_shown-clause-answers
-returns-else-was_shown-clause-answers g c = λ lim t facts stands accepts.
+returns-else-was_shown-clause-answers g c = λ limits t facts stands accepts.
     let r = c.args.rows.now in
     let x = c.args.x in
     let view = c.unwrap-view.result in
@@ -55,5 +55,5 @@ returns-else-was_shown-clause-answers g c = λ lim t facts stands accepts.
     ] in
     let seen = viewed r t x c.view.result view stands c.view.ensures c.unwrap-view.ensures in
     let waits = waited r t stands facts.law x view seen headless unshown in
-    wait_answered lim (shelf_of r.entries).faults _ t facts.law c.args.now x view.c seen.w waits.0 (act_list c.args.out.now) waits.1 accepts
+    wait_answered limits (shelf_of r.entries).faults _ t facts.law c.args.now x view.c seen.w waits.0 (act_list c.args.out.now) waits.1 accepts
     (c.break_wait.ensures.broken _ t seen.w waits.0 facts stands waits.1)

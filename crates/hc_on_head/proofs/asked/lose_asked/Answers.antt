@@ -5,7 +5,7 @@ use Rattle.hc_effects.proofs.Vocabulary.{act_list, back_in_line, with_consumer}
 use Rattle.hc_event.specs.declared.act.Act.TheVariants as act
 use Rattle.hc_event.specs.declared.act.LostKind.TheVariants as kind
 use Rattle.hc_stored.specs.Entries.{shelf_of}
-use Rattle.hc_state.specs.Arms.{IsInKey}
+use Rattle.hc_state.specs.Handlers.{IsInKey}
 use Rattle.hc_state.specs.Stands.{RowsStand}
 use Rattle.hc_on_leave.proofs.HeardRows.{asker_of, asked_by}
 use Rattle.hc_on_head.proofs.LoseAsked.{awaits_it, kept_still, open_still}
@@ -26,7 +26,7 @@ lose_to-requires-clause-there g c =
     kept_still c.args.rows.now c.send_back.new.rows c.refuse.new.rows c.args.heard.now c.args.heard.x c.args.heard.c c.args.r c.requires.comes.stands c.requires.comes.accepted c.requires.comes.asker c.requires.waits c.requires.current c.send_back.ensures.stands c.refuse.ensures.rest.rest.entries c.send_back.ensures.rest.exchanges c.refuse.ensures.closed
 
 pub returns-in-Some-clause-answers : goal.returns-in-Some-clause-answers
-returns-in-Some-clause-answers g c = λ faults lim t w facts stands goes row aim cur is failed.
+returns-in-Some-clause-answers g c = λ faults limits t w facts stands goes row aim cur is failed.
     let r = c.args.rows.now in
     let first = c.send_back.new.rows in
     let second = c.refuse.new.rows in
@@ -40,7 +40,7 @@ returns-in-Some-clause-answers g c = λ faults lim t w facts stands goes row aim
     let for_it = asked_by r t x c.args.heard.c w stands c.requires.comes.accepted c.requires.comes.asker row in
     let writing = sym c.writing-writing.ensures ∙ c.in-Some.is in
     let waits = subst (λ (d : ℕ). IsSomeAnd (get nat_eq r.consumers d) (IsInKey r.keys d)) (sym for_it) c.requires.waits in
-    let stood = subst (λ (d : ℕ). RowsStand lim first (with_consumer d (Some (back_in_line now a.v)) t)) (sym for_it) (c.send_back.ensures.stands _ t x w a.v facts a.awaits for_it (awaits_it r t facts stands x w a waits) stands) in
+    let stood = subst (λ (d : ℕ). RowsStand limits first (with_consumer d (Some (back_in_line now a.v)) t)) (sym for_it) (c.send_back.ensures.stands _ t x w a.v facts a.awaits for_it (awaits_it r t facts stands x w a waits) stands) in
     let stood_too = heard_stands r second t facts stands now x response goes w row a q aim cur is first stood c.refuse.ensures.rest.rest c.refuse.ensures.rest.consumers c.refuse.ensures.closed in
     let lost = c.lose_writing.ensures.lost _ (heard r second t facts stands now x response goes w row a q aim cur is) (v r second t facts stands now x response goes w row a q aim cur is) (may_lose r second t facts stands now x response goes w row a q aim cur is y writing) stood_too in
     written_answered r second t facts stands now x response goes w row a q aim cur is y writing c.lose_writing.new.rows faults before (act_list c.refuse.new.out) (act_list c.lose_writing.new.out)
@@ -48,7 +48,7 @@ returns-in-Some-clause-answers g c = λ faults lim t w facts stands goes row aim
     (subst (λ (n : ℕ). faults < n) (sym (c.lose_writing.ensures.faults ∙ (ap (λ z. (shelf_of z).faults) c.refuse.ensures.rest.rest.entries ∙ c.send_back.ensures.rest.faults))) failed)
 
 pub returns-in-None-clause-answers : goal.returns-in-None-clause-answers
-returns-in-None-clause-answers g c = λ faults lim t w facts stands goes row aim cur is failed.
+returns-in-None-clause-answers g c = λ faults limits t w facts stands goes row aim cur is failed.
     let r = c.args.rows.now in
     let first = c.send_back.new.rows in
     let second = c.refuse.new.rows in
@@ -60,7 +60,7 @@ returns-in-None-clause-answers g c = λ faults lim t w facts stands goes row aim
     let a = asker_of r t facts now x response w stands goes row in
     let for_it = asked_by r t x c.args.heard.c w stands c.requires.comes.accepted c.requires.comes.asker row in
     let waits = subst (λ (d : ℕ). IsSomeAnd (get nat_eq r.consumers d) (IsInKey r.keys d)) (sym for_it) c.requires.waits in
-    let stood = subst (λ (d : ℕ). RowsStand lim first (with_consumer d (Some (back_in_line now a.v)) t)) (sym for_it) (c.send_back.ensures.stands _ t x w a.v facts a.awaits for_it (awaits_it r t facts stands x w a waits) stands) in
+    let stood = subst (λ (d : ℕ). RowsStand limits first (with_consumer d (Some (back_in_line now a.v)) t)) (sym for_it) (c.send_back.ensures.stands _ t x w a.v facts a.awaits for_it (awaits_it r t facts stands x w a waits) stands) in
     let stood_too = heard_stands r second t facts stands now x response goes w row a q aim cur is first stood c.refuse.ensures.rest.rest c.refuse.ensures.rest.consumers c.refuse.ensures.closed in
     let its = v r second t facts stands now x response goes w row a q aim cur is in
     let here = there r second t facts stands now x response goes w row a q aim cur is in

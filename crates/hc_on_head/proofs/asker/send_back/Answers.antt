@@ -1,7 +1,7 @@
 use Rattle.std.proofs.Common.{nat_eq, refl}
 use Rattle.std.specs.HashMap.{get}
 use Rattle.hc_stored.specs.Entries.{shelf_of}
-use Rattle.hc_on_leave.proofs.AskerArm.{stands_back_as}
+use Rattle.hc_on_leave.proofs.AskerHandler.{stands_back_as}
 use Rattle.hc_state.proofs.Dropping.{merely_user, user_of}
 use Rattle.hc_state.proofs.Maps.{lent}
 use Rattle.hc_on_head.proofs.asker.send_back.Goals as goal
@@ -15,7 +15,7 @@ unbind_from-requires g c =
     (λ s. user_of r s.t s.facts.law c.args.c k at s.rows)
 
 pub returns-clause-stands : goal.returns-clause-stands
-returns-clause-stands g c = λ lim t x w v facts awaits for_it waits stands.
+returns-clause-stands g c = λ limits t x w v facts awaits for_it waits stands.
     let r = c.args.rows.now in
     let k = c.unwrap-consumer.result.now in
     let at = lent c.get.result (get nat_eq r.consumers c.args.c) c.unwrap-consumer.result c.get.ensures.value c.unwrap-consumer.ensures in

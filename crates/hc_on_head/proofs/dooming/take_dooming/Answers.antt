@@ -6,7 +6,7 @@ use Rattle.hc_exch.specs.Openings.{opened_with}
 use Rattle.hc_state.specs.Dooms.{IsDoomed, IsUnheard}
 use Rattle.hc_state.specs.Heads.{is_bad_case}
 use Rattle.hc_on_leave.proofs.HeardRows.{asker_of, asked_by}
-use Rattle.hc_on_head.proofs.DoomingArms.{past_place, accepted_then, good_then, dooming_taken, dooming_bad, unheard_as}
+use Rattle.hc_on_head.proofs.DoomingHandlers.{past_place, accepted_then, good_then, dooming_taken, dooming_bad, unheard_as}
 use Rattle.hc_on_head.proofs.HeadTold.{taken_case}
 use Rattle.hc_on_head.proofs.dooming.take_dooming.Goals as goal
 
@@ -16,7 +16,7 @@ doom-requires-clause-unheard g c =
     (sym (ap (option_map opened_with) c.unwrap.ensures) ∙ c.opening.ensures) c.in_ok-key.ensures c.requires.past.opened
 
 pub returns-in-DirectBad-clause-answers : goal.returns-in-DirectBad-clause-answers
-returns-in-DirectBad-clause-answers g c = λ lim t w facts stands goes row is unsafe.
+returns-in-DirectBad-clause-answers g c = λ limits t w facts stands goes row is unsafe.
     let r = c.args.rows.now in
     let mid = c.doom.new.rows in
     let now = c.args.heard.now in
@@ -29,7 +29,7 @@ returns-in-DirectBad-clause-answers g c = λ lim t w facts stands goes row is un
     let past = past_place r t x w a c.in_ok-key.key stands unheard in
     dooming_bad r t facts stands now x response w a.v a.awaits past.0 mid (act_list c.args.out.now) _ goes unsafe _ c.args.heard.c for_it
     (subst (λ k. IsUnheard (table_of r.exchanges) k x) past.1 unheard) (is ∙ c.in-DirectBad.is)
-    (subst (λ k. IsDoomed lim mid t (act_list c.args.out.now) (act_list c.doom.new.out) now k (Some x)) past.1 (c.doom.ensures.doomed _ t facts.law stands))
+    (subst (λ k. IsDoomed limits mid t (act_list c.args.out.now) (act_list c.doom.new.out) now k (Some x)) past.1 (c.doom.ensures.doomed _ t facts.law stands))
     refl refl refl refl c.stand.ensures
 
 pub have_answer-requires-clause-accepted : goal.have_answer-requires-clause-accepted
@@ -46,7 +46,7 @@ have_answer-requires-clause-good g c =
     (c.requires.past.good (ap is_bad_case (taken_case c.args.case c.requires.past.case_is c.in_default.not-DirectBad)))
 
 pub returns-clause-answers : goal.returns-clause-answers
-returns-clause-answers g c = λ lim t w facts stands goes row is unsafe.
+returns-clause-answers g c = λ limits t w facts stands goes row is unsafe.
     let r = c.args.rows.now in
     let mid = c.doom-2.new.rows in
     let now = c.args.heard.now in
@@ -59,5 +59,5 @@ returns-clause-answers g c = λ lim t w facts stands goes row is unsafe.
     let past = past_place r t x w a c.in_ok-key.key stands unheard in
     dooming_taken r t facts stands now x response w a.v a.awaits past.0 mid (act_list c.args.out.now) _ goes unsafe _
     (is ∙ taken_case c.args.case c.requires.past.case_is c.in_default.not-DirectBad)
-    (subst (λ k. IsDoomed lim mid t (act_list c.args.out.now) (act_list c.doom-2.new.out) now k None) past.1 (c.doom-2.ensures.doomed _ t facts.law stands))
+    (subst (λ k. IsDoomed limits mid t (act_list c.args.out.now) (act_list c.doom-2.new.out) now k None) past.1 (c.doom-2.ensures.doomed _ t facts.law stands))
     (λ m alone stood. c.have_answer.ensures.stands _ m w a.v alone for_it stood)

@@ -25,7 +25,7 @@ put-requires g c = one_left c.args.rows.now c.fall_back.new.rows c.let_some_go.n
     c.requires.comes.stands (spare c.args.out.now) (spare c.make_room.new.out) c.requires.room c.make_room.ensures.room
 
 pub returns-clause-answers : goal.returns-clause-answers
-returns-clause-answers g c = λ lim t w facts stands goes row is doomless same. refused c.args.rows.now c.fall_back.new.rows c.let_some_go.new.rows c.let_some_go-2.new.rows c.args.heard.now c.args.heard.x c.args.heard.c c.args.goes c.current-current.result c.in_ok-founding.founding.key
+returns-clause-answers g c = λ limits t w facts stands goes row is doomless same. refused c.args.rows.now c.fall_back.new.rows c.let_some_go.new.rows c.let_some_go-2.new.rows c.args.heard.now c.args.heard.x c.args.heard.c c.args.goes c.current-current.result c.in_ok-founding.founding.key
     c.requires.comes.accepted c.requires.comes.asker (key_told c.args.rows.now c.args.heard.now c.args.heard.x c.args.heard.c c.args.case c.args.response.now c.in_ok-founding.founding c.in_ok-founding.ensures) c.current-current.ensures
     c.fall_back.ensures.stands c.let_some_go.ensures.stands c.let_some_go-2.ensures.stands
     c.make_room.new.rows (act_list c.args.out.now) (act_list c.make_room.new.out) c.make_room.ensures.gives (c.make_room.ensures.exchanges ∙ (c.let_some_go-2.ensures.exchanges ∙ (c.let_some_go.ensures.exchanges ∙ c.fall_back.ensures.rest.exchanges)))
@@ -34,7 +34,7 @@ returns-clause-answers g c = λ lim t w facts stands goes row is doomless same. 
     c.have_answer.ensures.stands c.put.ensures.acts
 
 pub returns-in_default-clause-answers : goal.returns-in_default-clause-answers
-returns-in_default-clause-answers g c = λ lim t w facts stands goes row is doomless same. taken c.args.rows.now c.fall_back.new.rows c.let_some_go.new.rows c.let_some_go-2.new.rows c.args.heard.now c.args.heard.x c.args.heard.c c.args.goes c.current-current.result c.in_ok-founding.founding.key
+returns-in_default-clause-answers g c = λ limits t w facts stands goes row is doomless same. taken c.args.rows.now c.fall_back.new.rows c.let_some_go.new.rows c.let_some_go-2.new.rows c.args.heard.now c.args.heard.x c.args.heard.c c.args.goes c.current-current.result c.in_ok-founding.founding.key
     c.requires.comes.accepted c.requires.comes.asker (key_told c.args.rows.now c.args.heard.now c.args.heard.x c.args.heard.c c.args.case c.args.response.now c.in_ok-founding.founding c.in_ok-founding.ensures) c.current-current.ensures
     c.fall_back.ensures.stands c.let_some_go.ensures.stands c.let_some_go-2.ensures.stands
     c.make_room.new.rows (act_list c.args.out.now) (act_list c.make_room.new.out) c.make_room.ensures.gives (c.make_room.ensures.exchanges ∙ (c.let_some_go-2.ensures.exchanges ∙ (c.let_some_go.ensures.exchanges ∙ c.fall_back.ensures.rest.exchanges)))

@@ -2,7 +2,7 @@ use Rattle.std.proofs.Common.{Some, inr, ap, sym, ◌∙◌}
 use Rattle.hc_effects.proofs.Vocabulary.{act_list, HeadCase, doomed_by_case}
 use Rattle.hc_state.specs.Heads.{is_bad_case, breaks_off, broken_by}
 use Rattle.hc_on_leave.proofs.HeardRows.{asker_of, asked_by}
-use Rattle.hc_on_leave.proofs.UnstoredArms.{alone_taken, taken_answered}
+use Rattle.hc_on_leave.proofs.UnstoredHandlers.{alone_taken, taken_answered}
 use Rattle.hc_on_head.proofs.HeadTold.{down_case, past_case, good_past, anew_case, downs_none}
 use Rattle.hc_on_head.proofs.JoinHeads.{aim_some, kept_this, about_this, join_case, good_join}
 use Rattle.hc_state.proofs.Words.{ok_then}
@@ -18,12 +18,12 @@ pub start_anew-requires-clause-waits : goal.start_anew-requires-clause-waits
 start_anew-requires-clause-waits g c = c.requires.fits.waits (anew_case c.args.case (inr c.in-FirstChanged.is))
 
 pub returns-in-DirectBad-clause-answers : goal.returns-in-DirectBad-clause-answers
-returns-in-DirectBad-clause-answers g c = λ lim t w facts stands goes row is doomless same.
+returns-in-DirectBad-clause-answers g c = λ limits t w facts stands goes row is doomless same.
     let on = down_case c.args.case c.in-DirectBad.is in
     c.put_down.ensures.answers c.args.case on _ t w facts stands goes row is doomless (downs_none t w c.args.response.now c.args.case on)
 
 pub returns-in-DirectTaken-clause-answers : goal.returns-in-DirectTaken-clause-answers
-returns-in-DirectTaken-clause-answers g c = ok_then c.answer_past.result c.answer_past.ensures.stands (λ stood lim t w facts stands goes row is doomless same.
+returns-in-DirectTaken-clause-answers g c = ok_then c.answer_past.result c.answer_past.ensures.stands (λ stood limits t w facts stands goes row is doomless same.
     let r = c.args.rows.now in
     let u = c.answer_past.new.rows in
     let now = c.args.heard.now in

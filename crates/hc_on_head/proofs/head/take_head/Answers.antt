@@ -34,7 +34,7 @@ take_dooming-requires-clause-room g c =
     omega (arith, few, room)
 
 pub returns-then-dooms-clause-answers : goal.returns-then-dooms-clause-answers
-returns-then-dooms-clause-answers g c = ok_then c.take_dooming.result c.take_dooming.ensures.answers (λ answers lim t facts stands goes.
+returns-then-dooms-clause-answers g c = ok_then c.take_dooming.result c.take_dooming.ensures.answers (λ answers limits t facts stands goes.
     let told = told_dooming c.args.rows.now c.args.x c.args.response.now c.view.result c.unwrap-view.result c.aim_of-aim.result c.case_of-case.result c.requires.accepted c.view.ensures c.unwrap-view.ensures c.aim_of-aim.ensures c.case_of-case.ensures
     c.dooms.result c.dooms.ensures c.if-dooms.true t facts stands in
     answers _ t told.w facts stands goes told.row told.is told.unsafe)
@@ -49,13 +49,13 @@ validate-requires-clause-waits g c =
     c.requires.stands (past_of_runs c.args.rows.now) lives (ap starts_anew c.in-NotValidated.is)
 
 pub returns-in-NotValidated-clause-answers : goal.returns-in-NotValidated-clause-answers
-returns-in-NotValidated-clause-answers g c = ok_then c.validate.result c.validate.ensures.answers (λ answers lim t facts stands goes.
+returns-in-NotValidated-clause-answers g c = ok_then c.validate.result c.validate.ensures.answers (λ answers limits t facts stands goes.
     let told = told_unselected c.args.rows.now c.args.x c.args.response.now c.view.result c.unwrap-view.result c.aim_of-aim.result c.case_of-case.result c.requires.accepted c.view.ensures c.unwrap-view.ensures c.aim_of-aim.ensures c.case_of-case.ensures
     t facts stands c.in-NotValidated.is in
     answers _ t told.w facts stands goes told.row told.about told.is)
 
 pub returns-clause-answers : goal.returns-clause-answers
-returns-clause-answers g c = ok_then c.take_case.result c.take_case.ensures.answers (λ answers lim t facts stands goes.
+returns-clause-answers g c = ok_then c.take_case.result c.take_case.ensures.answers (λ answers limits t facts stands goes.
     let told = told_as c.args.rows.now c.args.x c.args.response.now c.view.result c.unwrap-view.result c.aim_of-aim.result c.case_of-case.result c.requires.accepted c.view.ensures c.unwrap-view.ensures c.aim_of-aim.ensures c.case_of-case.ensures
     t facts stands c.dooms.result c.let_go_by-goes.result c.dooms.ensures c.if-dooms.false c.let_go_by-goes.ensures c.in_default.not-NotValidated in
     answers _ t told.w facts stands goes told.row told.is told.doomless told.same)

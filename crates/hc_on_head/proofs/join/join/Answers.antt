@@ -5,13 +5,13 @@ use Rattle.hc_effects.proofs.Vocabulary.{act_list}
 use Rattle.hc_stored.specs.Entries.{shelf_of}
 use Rattle.hc_exch.specs.Exchanges.{table_of}
 use Rattle.hc_effects.proofs.LettingGo.{may_let_go}
-use Rattle.hc_on_head.proofs.JoinArm.{join_of, gone_joined, past_answered, stands_alone, stands_shared, joins_answered, holds_alone, kept_growing, brings_lost, lost_answered}
+use Rattle.hc_on_head.proofs.JoinHandler.{join_of, gone_joined, past_answered, stands_alone, stands_shared, joins_answered, holds_alone, kept_growing, brings_lost, lost_answered}
 use Rattle.hc_on_head.proofs.JoinTold.{joins_of}
-use Rattle.hc_on_head.proofs.TurnArm.{stands_unrenewed}
+use Rattle.hc_on_head.proofs.TurnHandler.{stands_unrenewed}
 use Rattle.hc_on_head.proofs.join.join.Goals as goal
 
 pub returns-then-is_lost-clause-answers : goal.returns-then-is_lost-clause-answers
-returns-then-is_lost-clause-answers g c = λ k any joins lim t w facts stands goes row is doomless same.
+returns-then-is_lost-clause-answers g c = λ k any joins limits t w facts stands goes row is doomless same.
     let r = c.args.rows.now in
     let now = c.args.heard.now in
     let x = c.args.heard.x in
@@ -33,7 +33,7 @@ returns-then-resumes-clause-kept g c =
     record { told = tt; faults = omega (arith, same, later) }
 
 pub returns-then-resumes-clause-answers : goal.returns-then-resumes-clause-answers
-returns-then-resumes-clause-answers g c = λ k any joins lim t w facts stands goes row is doomless same.
+returns-then-resumes-clause-answers g c = λ k any joins limits t w facts stands goes row is doomless same.
     let r = c.args.rows.now in
     let now = c.args.heard.now in
     let x = c.args.heard.x in
@@ -47,7 +47,7 @@ returns-then-resumes-clause-answers g c = λ k any joins lim t w facts stands go
     (shelf_of r.entries).faults
 
 pub returns-else-resumes-clause-answers : goal.returns-else-resumes-clause-answers
-returns-else-resumes-clause-answers g c = λ k any joins lim t w facts stands goes row is doomless same.
+returns-else-resumes-clause-answers g c = λ k any joins limits t w facts stands goes row is doomless same.
     let r = c.args.rows.now in
     let now = c.args.heard.now in
     let x = c.args.heard.x in
@@ -65,7 +65,7 @@ bring-requires-in-Err-Fault-clause-live g c =
     c.lose_to.ensures.live c.args.heard.c ∙ (ap (λ z. is_some (get nat_eq z c.args.heard.c)) c.in-Err-Fault.ensures.fails.err.rest.consumers ∙ c.requires.comes.live)
 
 pub returns-in-Err-Fault-clause-answers : goal.returns-in-Err-Fault-clause-answers
-returns-in-Err-Fault-clause-answers g c = λ k any joins lim t w facts stands goes row is doomless same.
+returns-in-Err-Fault-clause-answers g c = λ k any joins limits t w facts stands goes row is doomless same.
     let r = c.args.rows.now in
     let mid = c.renew_growing.new.rows in
     let l = c.lose_to.new.rows in

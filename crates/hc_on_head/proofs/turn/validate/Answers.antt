@@ -11,11 +11,11 @@ use Rattle.hc_state.specs.Stands.{RowsStand}
 use Rattle.hc_state.specs.Stored.{is_usable_kept}
 use Rattle.hc_on_leave.proofs.HeadCases.{case_unselected}
 use Rattle.hc_on_leave.proofs.HeardRows.{asker_of, asked_by}
-use Rattle.hc_on_head.proofs.TurnArm.{answered_on, heard_on, usable_still, waits_on, at_turn, current_still, key_heard, not_still, selected_of, stands_selected, stands_unrenewed, still, tells_selected, there_still, unselected_case, unstill_as, validated_answered}
+use Rattle.hc_on_head.proofs.TurnHandler.{answered_on, heard_on, usable_still, waits_on, at_turn, current_still, key_heard, not_still, selected_of, stands_selected, stands_unrenewed, still, tells_selected, there_still, unselected_case, unstill_as, validated_answered}
 use Rattle.hc_on_head.proofs.turn.validate.Goals as goal
 
 pub returns-in_default-clause-answers : goal.returns-in_default-clause-answers
-returns-in_default-clause-answers g c = λ lim t w facts stands goes row about is.
+returns-in_default-clause-answers g c = λ limits t w facts stands goes row about is.
     let r = c.args.rows.now in
     let x = c.args.heard.x in
     let response = c.args.response.now in
@@ -47,7 +47,7 @@ start_anew-requires-in-Ok-false-clause-comes g c =
     heard_on r mid sel.rest c.args.heard (sel.head h.0 h.1) c.requires.comes
 
 pub returns-in-Ok-true-clause-answers : goal.returns-in-Ok-true-clause-answers
-returns-in-Ok-true-clause-answers g c = λ lim t w facts stands goes row about is.
+returns-in-Ok-true-clause-answers g c = λ limits t w facts stands goes row about is.
     let r = c.args.rows.now in
     let mid = c.select.new.rows in
     let thr = c.let_through.new.rows in
@@ -63,13 +63,13 @@ returns-in-Ok-true-clause-answers g c = λ lim t w facts stands goes row about i
     let for_it = asked_by r t x c.args.heard.c w stands c.requires.comes.accepted c.requires.comes.asker row in
     let found : c.select.result ≡ Ok true = cc in
     let sel = selected_of r mid x now q response c.select.result true found c.select.ensures.ok in
-    let stood = subst (λ (d : ℕ). RowsStand lim thr (with_consumer d (Some (record a.v { place = place.Passed q (Some x) })) (with_representation q (Some (with_refreshed_head now response w s.v)) t))) (sym for_it)
+    let stood = subst (λ (d : ℕ). RowsStand limits thr (with_consumer d (Some (record a.v { place = place.Passed q (Some x) })) (with_representation q (Some (with_refreshed_head now response w s.v)) t))) (sym for_it)
     (c.let_through.ensures.stands _ t w a.v (with_refreshed_head now response w s.v) facts.law a.awaits for_it (at_turn r mid thr u t facts stands now x response goes w a is q s.v s.named s.cur s.row before before) (stands_selected r mid t x now h.0 w q response stands h.1 row s sel)) in
     validated_answered r mid thr u t facts stands now x response goes w a is q s.v s.named s.cur s.row before (act_list c.refuse.new.out)
     (sym (tells_selected r mid t x now h.0 w q response stands h.1 row s true sel)) stood c.refuse.ensures.acts c.refuse.ensures.rest.rest c.refuse.ensures.rest.consumers c.refuse.ensures.closed
 
 pub returns-in-Ok-false-clause-answers : goal.returns-in-Ok-false-clause-answers
-returns-in-Ok-false-clause-answers g c = λ lim t w facts stands goes row about is.
+returns-in-Ok-false-clause-answers g c = λ limits t w facts stands goes row about is.
     let r = c.args.rows.now in
     let mid = c.select.new.rows in
     let u = c.start_anew-in-Ok-false.new.rows in
@@ -102,7 +102,7 @@ pub lose_asked-requires-clause-waits : goal.lose_asked-requires-clause-waits
 lose_asked-requires-clause-waits g c = waits_on c.args.rows.now c.select.new.rows c.in-Err-Fault.ensures.fails.err.rest c.args.heard.c c.requires.waits
 
 pub returns-in-Err-Fault-clause-answers : goal.returns-in-Err-Fault-clause-answers
-returns-in-Err-Fault-clause-answers g c = λ lim t w facts stands goes row about is.
+returns-in-Err-Fault-clause-answers g c = λ limits t w facts stands goes row about is.
     let r = c.args.rows.now in
     let mid = c.select.new.rows in
     let u = c.lose_asked.new.rows in

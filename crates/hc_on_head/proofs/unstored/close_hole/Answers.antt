@@ -1,11 +1,11 @@
 use Rattle.std.proofs.Common.{refl}
 use Rattle.hc_effects.proofs.Vocabulary.{act_list}
 use Rattle.hc_on_leave.proofs.HeardRows.{asker_of, asked_by}
-use Rattle.hc_on_leave.proofs.UnstoredArms.{due_then, late_answered}
+use Rattle.hc_on_leave.proofs.UnstoredHandlers.{due_then, late_answered}
 use Rattle.hc_on_head.proofs.unstored.close_hole.Goals as goal
 
 pub returns-clause-answers : goal.returns-clause-answers
-returns-clause-answers g c = λ k on because lim t w facts stands goes row is doomless same.
+returns-clause-answers g c = λ k on because limits t w facts stands goes row is doomless same.
     let r = c.args.rows.now in
     let now = c.args.heard.now in
     let x = c.args.heard.x in

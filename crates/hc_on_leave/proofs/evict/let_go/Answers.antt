@@ -1,5 +1,5 @@
 use Rattle.std.proofs.Common.{refl, sym, ◌∙◌}
-use Rattle.hc_on_leave.proofs.LetGoArm.{lets_go, lets_none_go}
+use Rattle.hc_on_leave.proofs.LetGoHandler.{lets_go, lets_none_go}
 use Rattle.hc_on_leave.proofs.evict.let_go.Goals as goal
 
 pub returns-then-not-is_current-clause-stands : goal.returns-then-not-is_current-clause-stands

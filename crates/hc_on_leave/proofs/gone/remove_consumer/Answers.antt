@@ -8,7 +8,7 @@ use Rattle.hc_state.proofs.Words.{there}
 use Rattle.hc_on_leave.proofs.gone.remove_consumer.Goals as goal
 
 pub returns-clause-stands : goal.returns-clause-stands
-returns-clause-stands g c = λ lim t v law row stands.
+returns-clause-stands g c = λ limits t v law row stands.
     let r = c.args.rows.now in
     let mid = c.leave_place.new.rows in
     let found = there (get nat_eq r.consumers c.args.c) (LeavesPlace r mid c.args.c) c.leave_place.ensures.place in

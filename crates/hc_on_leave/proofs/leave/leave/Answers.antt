@@ -3,7 +3,7 @@ use Rattle.std.specs.Prelude.{is_some}
 use Rattle.hc_effects.proofs.Vocabulary.{act_list}
 use Rattle.hc_exch.specs.Exchanges.{table_of}
 use Rattle.hc_state.specs.Left.{HasLeft}
-use Rattle.hc_state.proofs.CloseArm.{leaves_nothing, has_left}
+use Rattle.hc_state.proofs.CloseHandler.{leaves_nothing, has_left}
 use Rattle.hc_state.proofs.LeftAlone.{once_left, leave_stops}
 use Rattle.hc_state.proofs.LeftRows.{left_is, left_runs, open_left, own_is}
 use Rattle.hc_state.proofs.Maps.{merely_true}
@@ -25,12 +25,12 @@ stop_bringing-requires-clause-may g c =
     }
 
 pub returns-in-None-clause-left : goal.returns-in-None-clause-left
-returns-in-None-clause-left g c = λ lim t v facts stands row.
+returns-in-None-clause-left g c = λ limits t v facts stands row.
     let r = c.args.rows.now in
     leaves_nothing _ t c.args.c v c.args.now _ _ (sym (left_is r t facts.law c.args.c v row stands c.left_by.result c.left_by.ensures) ∙ c.in-None.is) (c.remove_consumer.ensures.stands _ t v facts.law row stands)
 
 pub returns-in-Some-clause-left : goal.returns-in-Some-clause-left
-returns-in-Some-clause-left g c = λ lim t v facts stands row.
+returns-in-Some-clause-left g c = λ limits t v facts stands row.
     let r = c.args.rows.now in
     let n = c.args.c in
     let x = c.in-Some.x in
@@ -40,5 +40,5 @@ returns-in-Some-clause-left g c = λ lim t v facts stands row.
     let own = own_is r t facts.law n v row stands x alone c.if_own-alone.ensures in
     let e = open_left t facts.law n v row x left in
     let stopped = c.stop_bringing.ensures.stopped _ t (once_left t n v) facts (leave_stops t facts.law n v row x left e.0 e.1 e.2 alone own) (removed.stands _ t v facts.law row stands) in
-    subst (λ (m : ℕ). HasLeft lim m c.stop_bringing.new.rows t (act_list c.args.out.now) (act_list c.stop_bringing.new.out) c.args.now n v) removed.faults
+    subst (λ (m : ℕ). HasLeft limits m c.stop_bringing.new.rows t (act_list c.args.out.now) (act_list c.stop_bringing.new.out) c.args.now n v) removed.faults
     (has_left _ t n v x c.args.now _ (act_list c.args.out.now) (act_list c.put.new.out) _ left c.put.ensures.acts stopped)

@@ -9,7 +9,7 @@ use Rattle.hc_state.specs.Reads.{bound, planned}
 use Rattle.hc_state.proofs.LeftRows.{left_is, left_runs}
 use Rattle.hc_state.proofs.Maps.{merely_true}
 use Rattle.hc_on_leave.proofs.MayGo.{may_with}
-use Rattle.hc_on_leave.proofs.MisreadArm.{idle_leaves, fault_answered}
+use Rattle.hc_on_leave.proofs.MisreadHandler.{idle_leaves, fault_answered}
 use Rattle.hc_on_leave.proofs.MisreadBound.{misread_alone, misread_closing}
 use Rattle.hc_on_leave.proofs.misread.misread_by.Goals as goal
 
@@ -31,27 +31,27 @@ returns-in_default-left g c =
     record {
       failed = search rules;
       memory = search rules;
-      answers = λ want faults lim t v failed facts stands row may.
+      answers = λ want faults limits t v failed facts stands row may.
           let still = subst (λ (n : ℕ). faults < n) (sym (gone.around.faults ∙ removed.faults)) failed in
           let leaves = sym (left_is r t facts.law c.args.c v row stands c.left_by-left.result c.left_by-left.ensures) ∙ c.in_default-left.is in
           let then = gone.stands _ _ (may_with t c.args.c v (as_over v) row refl (may_let_go t facts.law)) (removed.stands _ t v facts.law row stands) in
           elim may [
-            | bound at ↦ misread_alone lim t facts.law c.args.now c.args.c want c.args.r v row at c.let_go.new.rows faults (act_list c.args.out.now) (act_list c.put.new.out) still leaves c.put.ensures.acts then
-            | planned idle now_is ↦ fault_answered lim faults c.let_go.new.rows t facts.law c.args.now c.args.c want c.args.r v row idle (act_list c.args.out.now) (act_list c.put.new.out) now_is still c.put.ensures.acts then
+            | bound at ↦ misread_alone limits t facts.law c.args.now c.args.c want c.args.r v row at c.let_go.new.rows faults (act_list c.args.out.now) (act_list c.put.new.out) still leaves c.put.ensures.acts then
+            | planned idle now_is ↦ fault_answered limits faults c.let_go.new.rows t facts.law c.args.now c.args.c want c.args.r v row idle (act_list c.args.out.now) (act_list c.put.new.out) now_is still c.put.ensures.acts then
           ];
       faults = gone.around.faults ∙ removed.faults;
       kept = search rules;
     }
 
 pub returns-in-Some-clause-answers : goal.returns-in-Some-clause-answers
-returns-in-Some-clause-answers g c = λ want faults lim t v failed facts stands row may.
+returns-in-Some-clause-answers g c = λ want faults limits t v failed facts stands row may.
     let r = c.args.rows.now in
     let removed = c.remove_consumer.ensures in
     let gone = c.let_go.ensures in
     let shut = c.close.ensures in
     let leaves = sym (left_is r t facts.law c.args.c v row stands c.left_by-left.result c.left_by-left.ensures) ∙ c.in-Some.is in
     elim may [
-      | bound at ↦ misread_closing lim t facts.law c.args.now c.args.c want c.args.r v row at c.close.new.rows faults (act_list c.args.out.now) (act_list c.close.new.out)
+      | bound at ↦ misread_closing limits t facts.law c.args.now c.args.c want c.args.r v row at c.close.new.rows faults (act_list c.args.out.now) (act_list c.close.new.out)
           (subst (λ (n : ℕ). faults < n) (sym (ap (λ z. (shelf_of z).faults) shut.rest.entries ∙ (gone.around.faults ∙ removed.faults))) failed)
           c.let_go.new.rows c.in-Some.x (act_list c.put.new.out) leaves c.put.ensures.acts shut.acts shut.rest shut.consumers shut.closed
           (gone.stands _ _ (may_with t c.args.c v (as_over v) row refl (may_let_go t facts.law)) (removed.stands _ t v facts.law row stands))

@@ -12,7 +12,7 @@ use Rattle.hc_on_leave.proofs.WriterTies.{exclusive_written, exclusive_some, exc
 use Rattle.hc_on_leave.proofs.writers.exclusive.Goals as goal
 
 pub returns-then-is_some : goal.returns-then-is_some
-returns-then-is_some g c = λ lim t p facts stands here stays.
+returns-then-is_some g c = λ limits t p facts stands here stays.
     exclusive_written c.args.rows.now t facts stands c.args.r p here (ap (λ o. is_some o) (sym c.writing.ensures) ∙ (sym c.is_some.ensures ∙ c.if-is_some.true))
 
 pub has_more-requires-clause-counts : goal.has_more-requires-clause-counts
@@ -29,7 +29,7 @@ has_more-requires-clause-counts g c =
     alone_below r t facts s.rows q p here e is n (alone_row r t facts s.rows q p here e is n (ap (λ (z : EntryView). z.first) seen ∙ c.in_ok-c.was)) c.in_ok-consumer.consumer.now at s.numbers (few_received s.received))
 
 pub returns-then-is_some-2 : goal.returns-then-is_some-2
-returns-then-is_some-2 g c = λ lim t p facts stands here stays.
+returns-then-is_some-2 g c = λ limits t p facts stands here stays.
     let r = c.args.rows.now in
     let q = c.args.r in
     let (e, kept, seen) = viewed_entry ((shelf_of r.entries).kept q) c.in_ok-entry.field-0 (sym c.entry.ensures ∙ c.in_ok-entry.was) in
@@ -43,7 +43,7 @@ returns-then-is_some-2 g c = λ lim t p facts stands here stays.
     none_there k.due (k_kept.due ∙ both.0) (sym c.is_some-2.ensures ∙ c.if-is_some-2.true))
 
 pub returns-then-has_more : goal.returns-then-has_more
-returns-then-has_more g c = λ lim t p facts stands here stays.
+returns-then-has_more g c = λ limits t p facts stands here stays.
     let r = c.args.rows.now in
     let q = c.args.r in
     let (e, kept, seen) = viewed_entry ((shelf_of r.entries).kept q) c.in_ok-entry.field-0 (sym c.entry.ensures ∙ c.in_ok-entry.was) in
@@ -58,7 +58,7 @@ returns-then-has_more g c = λ lim t p facts stands here stays.
     (sym (c.has_more.ensures _ t a.v p facts stands k_kept here stays) ∙ c.if-has_more.true)
 
 pub returns-else-has_more : goal.returns-else-has_more
-returns-else-has_more g c = λ lim t p facts stands here stays.
+returns-else-has_more g c = λ limits t p facts stands here stays.
     let r = c.args.rows.now in
     let q = c.args.r in
     let (e, kept, seen) = viewed_entry ((shelf_of r.entries).kept q) c.in_ok-entry.field-0 (sym c.entry.ensures ∙ c.in_ok-entry.was) in

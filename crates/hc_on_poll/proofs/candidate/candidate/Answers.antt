@@ -11,7 +11,7 @@ use Rattle.hc_state.specs.Plans.{HasCurrent}
 use Rattle.hc_on_poll.proofs.CandidateTies.{seen_as, in_order, headed_entry, head_at_is}
 use Rattle.hc_state.proofs.CurrentTies.{viewed_entry, entry_row, stays_stored}
 use Rattle.hc_state.proofs.Maps.{lent, known_of, some_that, merely_below, merely_ordered}
-use Rattle.hc_on_poll.proofs.PassesArm.{current_as}
+use Rattle.hc_on_poll.proofs.PassesHandler.{current_as}
 use Rattle.hc_state.proofs.Ties.{kept_row}
 use Rattle.hc_on_poll.proofs.candidate.candidate.Goals as goal
 
@@ -46,7 +46,7 @@ pub exclusive-requires : goal.exclusive-requires
 exclusive-requires g c = record { stands = ∥∥₁_map c.requires.stands (λ u. u.0) }
 
 pub returns : goal.returns
-returns g c = λ lim t v p facts stands row here.
+returns g c = λ limits t v p facts stands row here.
     let r = c.args.rows.now in
     let q = c.args.r in
     let k = c.unwrap-consumer.result.now in

@@ -6,7 +6,7 @@ use Rattle.hc_record.specs.Plain.{plain}
 use Rattle.hc_state.specs.Kept.{KeepsConsumer}
 use Rattle.hc_state.specs.Plans.{PlanViewIs, IsLookedAt, IsIdle, HasCurrent}
 use Rattle.hc_state.proofs.Maps.{known_of}
-use Rattle.hc_on_poll.proofs.PlanArms.{unlooked_plan, some_plan_at, looked_current, current_kept, fault_only, read_current, read_until, read_some, read_answers, read_fault}
+use Rattle.hc_on_poll.proofs.PlanHandlers.{unlooked_plan, some_plan_at, looked_current, current_kept, fault_only, read_current, read_until, read_some, read_answers, read_fault}
 use Rattle.hc_state.proofs.Words.{there, ok_then, on_ok_two}
 use Rattle.hc_on_poll.proofs.carry.carry_out.Goals as goal
 
@@ -14,7 +14,7 @@ pub carry_out_bare-requires-clause-opens : goal.carry_out_bare-requires-clause-o
 carry_out_bare-requires-clause-opens g c = record { stands = ∥∥₁_map c.requires.stands (λ u. u.0); few = c.requires.few }
 
 pub carry_out_bare-requires-clause-plan : goal.carry_out_bare-requires-clause-plan
-carry_out_bare-requires-clause-plan g c = λ lim t v facts stands row.
+carry_out_bare-requires-clause-plan g c = λ limits t v facts stands row.
     let r = c.args.rows.now in
     let at_row = get nat_eq r.consumers c.args.c in
     let (k, at, idle) = there at_row IsIdle c.requires.idle in
@@ -39,7 +39,7 @@ pub carry_out_plan-requires-clause-opens : goal.carry_out_plan-requires-clause-o
 carry_out_plan-requires-clause-opens g c = record { stands = read_some c.args.rows.now c.head.new.self c.head.ensures.same c.args.now c.requires.stands; few = c.requires.few }
 
 pub carry_out_plan-requires-clause-plan : goal.carry_out_plan-requires-clause-plan
-carry_out_plan-requires-clause-plan g c = λ lim t v facts stands row.
+carry_out_plan-requires-clause-plan g c = λ limits t v facts stands row.
     let r = c.args.rows.now in
     let at_row = get nat_eq r.consumers c.args.c in
     let (k, at, idle) = there at_row IsIdle c.requires.idle in

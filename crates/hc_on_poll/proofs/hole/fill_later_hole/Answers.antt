@@ -23,7 +23,7 @@ returns-clause-answers g c =
     let at = lent c.get.result (get nat_eq r.consumers c.args.c) c.unwrap-consumer.result c.get.ensures.value c.unwrap-consumer.ensures in
     let reads = known_of (get nat_eq r.consumers c.args.c) k (IsShownAt c.args.r) at c.requires.shown in
     let launch = c.in_ok-x.ensures in
-    some_that (get nat_eq r.consumers c.args.c) k _ at (λ want lim t v facts stands row is.
+    some_that (get nat_eq r.consumers c.args.c) k _ at (λ want limits t v facts stands row is.
     let rd = bound_row_of r t facts.law c.args.c c.args.r reads.0.0 reads.0.1 reads.0.2 k stands at reads.0.3 in
     let one : v ≡ rd.v = same_row (t.consumer c.args.c) v rd.v row rd.row in
     filled_answered r _ t facts stands c.args.now want c.args.c c.args.r c.in_ok-x.x hole.lo hole.hi reads.0.2 k rd at reads.1 request c.in_ok-request.request

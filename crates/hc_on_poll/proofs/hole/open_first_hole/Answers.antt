@@ -11,10 +11,10 @@ use Rattle.hc_stored.specs.Entries.{shelf_of}
 use Rattle.hc_state.specs.Kept.{KeepsConsumer}
 use Rattle.hc_state.specs.Plans.{HasCurrent}
 use Rattle.hc_on_poll.specs.Ready.{MayPass}
-use Rattle.hc_on_poll.proofs.BindArm.{current_total}
-use Rattle.hc_on_poll.proofs.FirstArm.{filling_answered}
+use Rattle.hc_on_poll.proofs.BindHandler.{current_total}
+use Rattle.hc_on_poll.proofs.FirstHandler.{filling_answered}
 use Rattle.hc_state.proofs.Maps.{lent, known_of, some_that}
-use Rattle.hc_on_poll.proofs.PassesArm.{current_as}
+use Rattle.hc_on_poll.proofs.PassesHandler.{current_as}
 use Rattle.hc_on_poll.proofs.hole.open_first_hole.Goals as goal
 
 pub returns-clause-answers : goal.returns-clause-answers
@@ -29,7 +29,7 @@ returns-clause-answers g c =
     let launch = c.in_ok-x.ensures in
     let made = c.in_ok-request.ensures in
     let hole = need.Hole c.args.hole.lo c.args.hole.hi in
-    some_that at_row k _ at (λ wants want lim t v facts stands row is.
+    some_that at_row k _ at (λ wants want limits t v facts stands row is.
     let kept = subst (KeepsConsumer t (Some k)) row (subst (λ o. KeepsConsumer t o (t.consumer c.args.c)) at (stands.consumers c.args.c)) in
     let total = current_total r t v.request.key c.args.r head stands (current_as r t k v c.args.r stands kept now_is) c.requires.current.head in
     filling_answered r c.launch.new.self c.bind_first.new.self c.away.new.self c.bind_first-2.new.consumers t facts.law c.args.now c.args.c c.in_ok-x.x c.args.r c.args.span hole c.in_ok-request.request k v stands at row idle now_is c.requires.admits refl

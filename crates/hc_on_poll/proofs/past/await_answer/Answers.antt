@@ -1,13 +1,13 @@
 use Rattle.std.proofs.Common.{◌≡◌, None, Some, refl, sym, ◌∙◌, nat_eq}
 use Rattle.std.specs.HashMap.{get}
 use Rattle.hc_effects.proofs.Vocabulary.{act_list}
-use Rattle.hc_state.specs.Arms.{IsUnshown}
+use Rattle.hc_state.specs.Handlers.{IsUnshown}
 use Rattle.hc_state.proofs.Maps.{lent, known_of}
 use Rattle.hc_on_poll.proofs.ReadPast.{waits_answered, shows_answered}
 use Rattle.hc_on_poll.proofs.past.await_answer.Goals as goal
 
 pub returns-in_default-clause-answers : goal.returns-in_default-clause-answers
-returns-in_default-clause-answers g c = λ now want lim t facts rows accepted.
+returns-in_default-clause-answers g c = λ now want limits t facts rows accepted.
     let r = c.args.rows.now in
     let k = c.unwrap-consumer.result.now in
     let at = lent c.get.result (get nat_eq r.consumers c.args.c) c.unwrap-consumer.result c.get.ensures.value c.unwrap-consumer.ensures in
@@ -16,7 +16,7 @@ returns-in_default-clause-answers g c = λ now want lim t facts rows accepted.
     waits_answered r _ t facts now want c.args.c c.args.x k (act_list c.args.out.now) (act_list c.wait.new.out) rows at unshown refl refl refl refl c.show_answer.ensures.shown none c.wait.ensures.acts
 
 pub returns-clause-answers : goal.returns-clause-answers
-returns-clause-answers g c = λ now want lim t facts rows accepted.
+returns-clause-answers g c = λ now want limits t facts rows accepted.
     let r = c.args.rows.now in
     let k = c.unwrap-consumer.result.now in
     let at = lent c.get.result (get nat_eq r.consumers c.args.c) c.unwrap-consumer.result c.get.ensures.value c.unwrap-consumer.ensures in

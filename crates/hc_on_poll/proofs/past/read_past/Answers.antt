@@ -4,7 +4,7 @@ use Rattle.std.specs.HashMap.{get}
 use Rattle.hc_effects.proofs.Vocabulary.{act_list, read_step}
 use Rattle.hc_exch.specs.Exchanges.{table_of}
 use Rattle.hc_exch.specs.Known.{is_open}
-use Rattle.hc_state.specs.Arms.{IsShown}
+use Rattle.hc_state.specs.Handlers.{IsShown}
 use Rattle.hc_state.proofs.Maps.{lent, known_of, some_that, merely_true, merely_below}
 use Rattle.hc_state.proofs.Words.{few_received}
 use Rattle.hc_on_poll.proofs.ReadPast.{reading_of, offset_small, more_fits, waits_open, no_stored, no_hole, ends_move, fails_move, given_answered, asks_answered}
@@ -77,7 +77,7 @@ unreachable-requires g c =
     ])
 
 pub returns-in-Ended-clause-answers : goal.returns-in-Ended-clause-answers
-returns-in-Ended-clause-answers g c = λ lim t facts rows accepted.
+returns-in-Ended-clause-answers g c = λ limits t facts rows accepted.
     let r = c.args.rows.now in
     let k = c.unwrap-consumer.result.now in
     let at = lent c.get.result (get nat_eq r.consumers c.args.c) c.unwrap-consumer.result c.get.ensures.value c.unwrap-consumer.ensures in
@@ -86,7 +86,7 @@ returns-in-Ended-clause-answers g c = λ lim t facts rows accepted.
     c.end_reading.ensures.answers c.args.want _ t rd.v facts rows rd.row (ends_move r t facts c.args.want c.args.c c.args.x k rows rd shown.1 c.requires.wants c.args.now (sym (ap read_step c.past_view.ensures) ∙ (sym c.read_step.ensures ∙ c.in-Ended.is)))
 
 pub returns-in-Failed-clause-answers : goal.returns-in-Failed-clause-answers
-returns-in-Failed-clause-answers g c = λ lim t facts rows accepted.
+returns-in-Failed-clause-answers g c = λ limits t facts rows accepted.
     let r = c.args.rows.now in
     let k = c.unwrap-consumer.result.now in
     let at = lent c.get.result (get nat_eq r.consumers c.args.c) c.unwrap-consumer.result c.get.ensures.value c.unwrap-consumer.ensures in
@@ -95,7 +95,7 @@ returns-in-Failed-clause-answers g c = λ lim t facts rows accepted.
     c.fail.ensures.answers c.args.want _ t rd.v facts rows rd.row (fails_move r t facts c.args.want c.args.c c.args.x k rows rd shown.1 c.requires.wants c.args.now c.in-Failed.cause (sym (ap read_step c.past_view.ensures) ∙ (sym c.read_step.ensures ∙ c.in-Failed.is)))
 
 pub returns-in_ok-bytes-in-Held-clause-answers : goal.returns-in_ok-bytes-in-Held-clause-answers
-returns-in_ok-bytes-in-Held-clause-answers g c = λ lim t facts rows accepted.
+returns-in_ok-bytes-in-Held-clause-answers g c = λ limits t facts rows accepted.
     let r = c.args.rows.now in
     let k = c.unwrap-consumer.result.now in
     let at = lent c.get.result (get nat_eq r.consumers c.args.c) c.unwrap-consumer.result c.get.ensures.value c.unwrap-consumer.ensures in
@@ -105,7 +105,7 @@ returns-in_ok-bytes-in-Held-clause-answers g c = λ lim t facts rows accepted.
     c.most.result c.in_ok-bytes-in-Held.bytes (sym (ap read_step c.past_view.ensures) ∙ (sym c.read_step.ensures ∙ c.in-Held.is)) c.most.ensures c.in_ok-bytes-in-Held.ensures.bytes c.give.ensures.acts (rw c.give.ensures.exchanges c.in_ok-bytes-in-Held.ensures.ok) c.give.ensures.consumers
 
 pub returns-in-Waits-clause-answers : goal.returns-in-Waits-clause-answers
-returns-in-Waits-clause-answers g c = λ lim t facts rows accepted.
+returns-in-Waits-clause-answers g c = λ limits t facts rows accepted.
     let r = c.args.rows.now in
     let k = c.unwrap-consumer.result.now in
     let at = lent c.get.result (get nat_eq r.consumers c.args.c) c.unwrap-consumer.result c.get.ensures.value c.unwrap-consumer.ensures in

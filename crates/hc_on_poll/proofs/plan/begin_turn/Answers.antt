@@ -4,8 +4,8 @@ use Rattle.hc_exch.specs.Exchanges.{next_of}
 use Rattle.hc_state.specs.Plans.{IsIdle, IsOfItsKey}
 use Rattle.hc_on_poll.specs.Ready.{MayAsk}
 use Rattle.hc_state.proofs.Maps.{known_of, some_that, merely_true, merely_number}
-use Rattle.hc_on_poll.proofs.PlanArms.{may_queue}
-use Rattle.hc_on_poll.proofs.FetchArm.{holds_inside, holds_turn, stands_turned}
+use Rattle.hc_on_poll.proofs.PlanHandlers.{may_queue}
+use Rattle.hc_on_poll.proofs.FetchHandler.{holds_inside, holds_turn, stands_turned}
 use Rattle.hc_state.proofs.Words.{there}
 use Rattle.hc_on_poll.proofs.plan.begin_turn.Goals as goal
 
@@ -44,7 +44,7 @@ returns-clause-begun g c =
     let number = launch.number ∙ ap (λ e. next_of e) queued.rest.exchanges in
     record {
       number = number;
-      rows = λ lim t v facts stands row_is.
+      rows = λ limits t v facts stands row_is.
           stands_turned r c.queue_again.new.rows c.launch.new.self c.hold.new.self c.take_turn.new.consumers t facts.law c.args.now c.args.c c.in_ok-x.x c.args.need c.args.request.now c.current-aim.result k v stands at row_is
           asks.idle asks.next c.requires.turns (known_of row k (IsOfItsKey c.args.request.now) at c.requires.key) number c.current-aim.ensures
           queued.stands queued.consumer queued.rest.last_start queued.rest.entries queued.rest.exchanges launch.next launch.ok c.hold.ensures c.take_turn.ensures;

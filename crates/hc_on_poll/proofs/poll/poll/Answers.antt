@@ -3,10 +3,10 @@ use Rattle.std.proofs.Math.Logic.{∥∥₁_map}
 use Rattle.std.specs.HashMap.{get}
 use Rattle.hc_text.proofs.Basics.{false_true}
 use Rattle.hc_effects.proofs.Vocabulary.{is_live_place}
-use Rattle.hc_state.specs.Arms.{IsDown}
+use Rattle.hc_state.specs.Handlers.{IsDown}
 use Rattle.hc_state.proofs.LeftRows.{down_row}
 use Rattle.hc_state.proofs.Maps.{lent, some_that}
-use Rattle.hc_on_leave.proofs.LeaveArms.{down_fails}
+use Rattle.hc_on_leave.proofs.LeaveHandlers.{down_fails}
 use Rattle.hc_on_poll.proofs.Polled.{lives_there}
 use Rattle.hc_on_poll.proofs.poll.poll.Goals as goal
 
@@ -31,7 +31,7 @@ unreachable-requires g c =
 
 -- who is down fails by that
 pub returns-in-Down-clause-answers : goal.returns-in-Down-clause-answers
-returns-in-Down-clause-answers g c = λ lim t facts stands accepted.
+returns-in-Down-clause-answers g c = λ limits t facts stands accepted.
     let r = c.args.rows.now in
     let row = get nat_eq r.consumers c.args.c in
     let k = c.unwrap-consumer.result.now in

@@ -8,10 +8,10 @@ use Rattle.hc_state.specs.Reads.{IsShownAt}
 use Rattle.hc_on_poll.proofs.BoundMisread.{misread_after, answers_after, reads_after}
 use Rattle.hc_on_poll.proofs.BoundReads.{head_move}
 use Rattle.hc_state.proofs.Maps.{lent, known_of}
-use Rattle.hc_on_poll.proofs.PlanArms.{fault_only}
+use Rattle.hc_on_poll.proofs.PlanHandlers.{fault_only}
 use Rattle.hc_on_poll.proofs.ReadOn.{row_of, kept, offset_fits}
 use Rattle.hc_state.proofs.ReaderSteps.{some_read}
-use Rattle.hc_on_poll.proofs.WaitArms.{head_waits}
+use Rattle.hc_on_poll.proofs.WaitHandlers.{head_waits}
 use Rattle.hc_state.proofs.Words.{on_ok_two, ok_then}
 use Rattle.hc_on_poll.proofs.read.read_bound.Goals as goal
 
@@ -21,9 +21,9 @@ returns-in-Some-clause-answers g c =
     let k = c.unwrap-consumer.result.now in
     let at = lent c.get.result (get nat_eq r.consumers c.args.c) c.unwrap-consumer.result c.get.ensures.value c.unwrap-consumer.ensures in
     let reads = known_of (get nat_eq r.consumers c.args.c) k (IsShownAt c.args.r) at c.requires.shown in
-    λ lim t facts rows accepted.
+    λ limits t facts rows accepted.
     let rd = row_of r c.args.c c.args.r k at reads t facts rows in
-    head_waits lim (shelf_of r.entries).faults r t facts.law c.args.now c.args.c c.args.want rd.v rd.row (act_list c.args.out.now) (act_list c.wait.new.out) c.in-Some.x (head_move r t facts rows c.args.c c.args.r reads.0.2 k rd c.args.now c.args.want reads.1 c.in-Some.x (sym c.headless_own.ensures ∙ c.in-Some.is)) c.wait.ensures.acts rows
+    head_waits limits (shelf_of r.entries).faults r t facts.law c.args.now c.args.c c.args.want rd.v rd.row (act_list c.args.out.now) (act_list c.wait.new.out) c.in-Some.x (head_move r t facts rows c.args.c c.args.r reads.0.2 k rd c.args.now c.args.want reads.1 c.in-Some.x (sym c.headless_own.ensures ∙ c.in-Some.is)) c.wait.ensures.acts rows
 
 pub offset-offset-requires : goal.offset-offset-requires
 offset-offset-requires g c =
@@ -84,5 +84,5 @@ returns-in-Err-clause-answers g c =
     let at = lent c.get.result (get nat_eq r.consumers c.args.c) c.unwrap-consumer.result c.get.ensures.value c.unwrap-consumer.ensures in
     let reads = known_of (get nat_eq r.consumers c.args.c) k (IsShownAt c.args.r) at c.requires.shown in
     on_ok_two c.misread_by.result c.misread_by.ensures.failed c.misread_by.ensures.answers (λ other answers.
-    λ lim t facts rows accepted. misread_after r c.stored_ahead.new.rows c.misread_by.new.rows c.stored_ahead.ensures.same (act_list c.args.out.now) (act_list c.misread_by.new.out) c.args.now c.args.c c.args.r k at reads.0.2 (reads.0.0, reads.0.1, reads.0.3)
+    λ limits t facts rows accepted. misread_after r c.stored_ahead.new.rows c.misread_by.new.rows c.stored_ahead.ensures.same (act_list c.args.out.now) (act_list c.misread_by.new.out) c.args.now c.args.c c.args.r k at reads.0.2 (reads.0.0, reads.0.1, reads.0.3)
     (c.stored_ahead.ensures.cause.fault (fault_only c.stored_ahead.result c.in-Err.error c.in-Err.is c.stored_ahead.ensures.no_limit other)) answers c.args.want _ t facts rows)

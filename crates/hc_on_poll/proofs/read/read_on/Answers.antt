@@ -158,7 +158,7 @@ returns-in-Ended-clause-answers g c =
     let heard = known.heard in
     let ahead = known.ahead in
     let view_is = subst (λ z. ReadViewIs r c.args.r c.args.c z view k) c.end_of.ensures (known_of (get nat_eq r.consumers c.args.c) k _ at c.read_view-view.ensures) in
-    λ lim t facts rows accepted.
+    λ limits t facts rows accepted.
     let rd = row_of r c.args.c c.args.r k at reads t facts rows in
     c.end_reading.ensures.answers c.args.want _ t rd.v facts rows rd.row (ends_move r t facts rows c.args.c c.args.r reads.0.2 k rd c.args.now c.args.want reads.1 heard c.requires.wants run ahead view view_is (sym c.read_step.ensures ∙ c.in-Ended.is))
 
@@ -174,7 +174,7 @@ returns-in-Failed-clause-answers g c =
     let heard = known.heard in
     let ahead = known.ahead in
     let view_is = subst (λ z. ReadViewIs r c.args.r c.args.c z view k) c.end_of.ensures (known_of (get nat_eq r.consumers c.args.c) k _ at c.read_view-view.ensures) in
-    λ lim t facts rows accepted.
+    λ limits t facts rows accepted.
     let rd = row_of r c.args.c c.args.r k at reads t facts rows in
     c.fail.ensures.answers c.args.want _ t rd.v facts rows rd.row (fails_move r t facts rows c.args.c c.args.r reads.0.2 k rd c.args.now c.args.want reads.1 heard c.requires.wants run ahead view view_is c.in-Failed.cause (sym c.read_step.ensures ∙ c.in-Failed.is))
 
@@ -191,7 +191,7 @@ returns-in-Stored-clause-answers g c =
     let ahead = known.ahead in
     let view_is = subst (λ z. ReadViewIs r c.args.r c.args.c z view k) c.end_of.ensures (known_of (get nat_eq r.consumers c.args.c) k _ at c.read_view-view.ensures) in
     let rest = c.give.ensures.rest in
-    λ lim t facts rows accepted. gives_stored r c.args.c c.args.r k at reads c.give.new.rows (act_list c.args.out.now) (act_list c.give.new.out) c.args.now c.args.want c.requires.wants run ahead heard view view_is rest.last_start rest.keys rest.entries t facts rows
+    λ limits t facts rows accepted. gives_stored r c.args.c c.args.r k at reads c.give.new.rows (act_list c.args.out.now) (act_list c.give.new.out) c.args.now c.args.want c.requires.wants run ahead heard view view_is rest.last_start rest.keys rest.entries t facts rows
     c.in-Stored.upto (sym c.read_step.ensures ∙ c.in-Stored.is) c.unwrap-run.result c.unwrap-run.ensures c.give.ensures.acts c.give.ensures.exchanges c.give.ensures.consumers
 
 pub returns-in_ok-bytes-in-Held-clause-answers : goal.returns-in_ok-bytes-in-Held-clause-answers
@@ -208,7 +208,7 @@ returns-in_ok-bytes-in-Held-clause-answers g c =
     let view_is = subst (λ z. ReadViewIs r c.args.r c.args.c z view k) c.end_of.ensures (known_of (get nat_eq r.consumers c.args.c) k _ at c.read_view-view.ensures) in
     let give = c.give-in-Held.ensures in
     let rest = give.rest in
-    λ lim t facts rows accepted. gives_held r c.args.c c.args.r k at reads c.give-in-Held.new.rows (act_list c.args.out.now) (act_list c.give-in-Held.new.out) c.args.now c.args.want c.requires.wants run ahead heard view view_is rest.last_start rest.keys rest.entries t facts rows
+    λ limits t facts rows accepted. gives_held r c.args.c c.args.r k at reads c.give-in-Held.new.rows (act_list c.args.out.now) (act_list c.give-in-Held.new.out) c.args.now c.args.want c.requires.wants run ahead heard view view_is rest.last_start rest.keys rest.entries t facts rows
     (sym c.read_step.ensures ∙ c.in-Held.is) c.unwrap-x.result view.offset c.most-count.result c.in_ok-bytes-in-Held.bytes c.unwrap-x.ensures refl c.most-count.ensures c.in_ok-bytes-in-Held.ensures.bytes give.acts (rw give.exchanges c.in_ok-bytes-in-Held.ensures.ok) give.consumers
 
 pub returns-in-Waits-clause-answers : goal.returns-in-Waits-clause-answers
@@ -224,7 +224,7 @@ returns-in-Waits-clause-answers g c =
     let ahead = known.ahead in
     let view_is = subst (λ z. ReadViewIs r c.args.r c.args.c z view k) c.end_of.ensures (known_of (get nat_eq r.consumers c.args.c) k _ at c.read_view-view.ensures) in
     let rest = c.ask.ensures.rest in
-    λ lim t facts rows accepted. asks_for r c.args.c c.args.r k at reads c.ask.new.rows (act_list c.args.out.now) (act_list c.ask.new.out) c.args.now c.args.want c.requires.wants run ahead heard view view_is rest.last_start rest.keys rest.entries t facts rows
+    λ limits t facts rows accepted. asks_for r c.args.c c.args.r k at reads c.ask.new.rows (act_list c.args.out.now) (act_list c.ask.new.out) c.args.now c.args.want c.requires.wants run ahead heard view view_is rest.last_start rest.keys rest.entries t facts rows
     c.in-Waits.x (sym c.read_step.ensures ∙ c.in-Waits.is) c.ask.ensures.consumers c.ask.ensures.asked c.ask.ensures.acts
 
 pub returns-in-Hole-clause-answers : goal.returns-in-Hole-clause-answers
@@ -240,7 +240,7 @@ returns-in-Hole-clause-answers g c =
     let ahead = known.ahead in
     let view_is = subst (λ z. ReadViewIs r c.args.r c.args.c z view k) c.end_of.ensures (known_of (get nat_eq r.consumers c.args.c) k _ at c.read_view-view.ensures) in
     ok_then c.open_later_hole.result c.open_later_hole.ensures.answers (λ all.
-    λ lim t facts rows accepted.
+    λ limits t facts rows accepted.
     let rd = row_of r c.args.c c.args.r k at reads t facts rows in
     let f = hole_move r t facts rows c.args.c c.args.r reads.0.2 k rd c.args.now c.args.want reads.1 heard c.requires.wants run ahead view view_is c.in-Hole.hole (sym c.read_step.ensures ∙ c.in-Hole.is) in
     known_of (head_at (shelf_of r.entries) c.args.r) f.head _ f.head_is (known_of (get nat_eq r.consumers c.args.c) k _ at all) c.args.want _ t rd.v facts rows rd.row f.move_is)

@@ -6,9 +6,9 @@ use Rattle.hc_validate.specs.Showing.{shown_response}
 use Rattle.hc_state.specs.Kept.{KeepsConsumer}
 use Rattle.hc_state.specs.Plans.{HasCurrent}
 use Rattle.hc_on_poll.specs.Ready.{MayLeaveLine}
-use Rattle.hc_on_poll.proofs.BindArm.{bind_answered, shows_told, part_ends, current_total}
+use Rattle.hc_on_poll.proofs.BindHandler.{bind_answered, shows_told, part_ends, current_total}
 use Rattle.hc_state.proofs.Maps.{lent, known_of, some_that}
-use Rattle.hc_on_poll.proofs.PassesArm.{current_as}
+use Rattle.hc_on_poll.proofs.PassesHandler.{current_as}
 use Rattle.hc_on_poll.proofs.show.bind.Goals as goal
 
 pub returns-clause-answers : goal.returns-clause-answers
@@ -22,7 +22,7 @@ returns-clause-answers g c =
     let at = lent c.get.result at_row c.unwrap-consumer.result c.get.ensures.value c.unwrap-consumer.ensures in
     let idle = (known_of at_row k (MayLeaveLine r.keys c.args.c) at c.requires.leaves).idle in
     let now_is = known_of at_row k (HasCurrent r.keys c.args.r) at c.requires.current.current in
-    some_that at_row k _ at (λ now want lim t v facts stands row is.
+    some_that at_row k _ at (λ now want limits t v facts stands row is.
     let kept = subst (KeepsConsumer t (Some k)) row (subst (λ o. KeepsConsumer t o (t.consumer c.args.c)) at (stands.consumers c.args.c)) in
     let same = current_total r t v.request.key c.args.r head stands (current_as r t k v c.args.r stands kept now_is) c.requires.current.head in
     let response : Response = record { status = c.in_ok-shown.shown.status; fields = c.in_ok-shown.shown.fields } in

@@ -8,14 +8,14 @@ use Rattle.hc_stored.specs.Shelf.{is_kept}
 use Rattle.hc_state.specs.Reads.{IsUnshownBy}
 use Rattle.hc_state.proofs.Maps.{merely_true}
 use Rattle.hc_on_poll.proofs.BoundMisread.{misread_answered}
-use Rattle.hc_on_poll.proofs.PlanArms.{fault_only, read_answers}
+use Rattle.hc_on_poll.proofs.PlanHandlers.{fault_only, read_answers}
 use Rattle.hc_state.proofs.ReaderSteps.{some_read}
 use Rattle.hc_on_poll.proofs.ShowStored.{bound_row_of, bound_kept, first_waits_answered}
 use Rattle.hc_state.proofs.Words.{there, on_ok_two, ok_then}
 use Rattle.hc_on_poll.proofs.shown.await_stored.Goals as goal
 
 pub returns-then-is_headless-clause-answers : goal.returns-then-is_headless-clause-answers
-returns-then-is_headless-clause-answers g c = λ want lim t facts rows accepted.
+returns-then-is_headless-clause-answers g c = λ want limits t facts rows accepted.
     let r = c.args.rows.now in
     let (k, at, unshown) = there (get nat_eq r.consumers c.args.c) (IsUnshownBy c.args.r c.args.by) c.requires.unshown in
     first_waits_answered r r t facts rows c.args.now want c.args.c c.args.r c.args.by k at unshown (act_list c.args.out.now) (act_list c.wait.new.out) c.in-FirstHole.x c.in-FirstHole.is (sym c.is_headless.ensures ∙ c.if-is_headless.true) c.wait.ensures.acts
@@ -48,4 +48,4 @@ returns-in-Err-clause-answers g c =
     let r = c.args.rows.now in
     let (k, at, unshown) = there (get nat_eq r.consumers c.args.c) (IsUnshownBy c.args.r c.args.by) c.requires.unshown in
     on_ok_two c.misread_by.result c.misread_by.ensures.failed c.misread_by.ensures.answers (λ other answers.
-    λ want lim t facts rows accepted. misread_answered r c.head.new.self c.head.ensures.same (c.head.ensures.cause.fault (fault_only c.head.result c.in-Err.error c.in-Err.is c.head.ensures.no_limit other)) c.misread_by.new.rows (act_list c.args.out.now) (act_list c.misread_by.new.out) c.args.now c.args.c c.args.r k at c.args.by unshown.0 answers want _ t facts rows)
+    λ want limits t facts rows accepted. misread_answered r c.head.new.self c.head.ensures.same (c.head.ensures.cause.fault (fault_only c.head.result c.in-Err.error c.in-Err.is c.head.ensures.no_limit other)) c.misread_by.new.rows (act_list c.args.out.now) (act_list c.misread_by.new.out) c.args.now c.args.c c.args.r k at c.args.by unshown.0 answers want _ t facts rows)

@@ -60,7 +60,7 @@ shown-requires g c = λ on x span.
     by_result x (Some n) never some within small = let lt = within n refl in record { not_empty = some n refl; within = omega (arith, lt); small = small n refl }
 
 pub returns-clause-answers : goal.returns-clause-answers
-returns-clause-answers g c = λ now want lim t facts rows accepted.
+returns-clause-answers g c = λ now want limits t facts rows accepted.
     let r = c.args.rows.now in
     let k = c.unwrap-consumer.result.now in
     let answer = c.in_ok-shown.shown in

@@ -1,4 +1,4 @@
--- The head of an answer past the store came: what is kept stands for the tables then.
+-- The head of an answer past the store came: what is kept represents the tables then.
 use Rattle.std.proofs.Common.{◌≡◌, ◌≢◌, ℕ, Bool, true, false, cond, Option, Some, None, refl, ap, sym, ◌∙◌, subst, arith}
 use Rattle.std.specs.Prelude.{nat_eq, option_map}
 use Rattle.std.specs.HashMap.{get}
@@ -30,7 +30,7 @@ use Rattle.hc_state.specs.Stands.{RowsStand}
 use Rattle.hc_on_leave.proofs.HeardExchange.{held_empty, held_else, here, others, key_heard, entries_heard}
 use Rattle.hc_on_leave.proofs.HeardRows.{headless_of, runs_as, kept_as}
 use Rattle.hc_state.proofs.OneOfEach.{stands_then}
-use Rattle.hc_state.proofs.QueueArm.{becomes_by}
+use Rattle.hc_state.proofs.QueueHandler.{becomes_by}
 
 -- all that is promised has come
 pub all_reached : (o : Option ℕ) (n : ℕ) → is_all o n ≡ is_reached o n
@@ -44,7 +44,7 @@ known_here f x a b becomes = becomes.table x ∙ rw (eqb-same x) refl
 pub known_other : (f : Known → Known) (x y : ℕ) (a b : Exchanges) → exch.Becomes f x a b → y ≢ x → table_of b y ≡ table_of a y
 known_other f x y a b becomes ne = becomes.table y ∙ rw (eqb-other x y (λ e. ne (sym e))) refl
 
-module _ {B : Type 0} {g : Ghosts B} {lim : Limits} (r u : Rows B g) (t : Tables) (now x : ℕ) (response copied : Response) (w : Exchange) (v : rows.Consumer) (k : Consumer) (o : Open) (l : Length) (mid : Exchanges) (stands : RowsStand lim r t) (alone : IsReadAlone t x w v)
+module _ {B : Type 0} {g : Ghosts B} {limits : Limits} (r u : Rows B g) (t : Tables) (now x : ℕ) (response copied : Response) (w : Exchange) (v : rows.Consumer) (k : Consumer) (o : Open) (l : Length) (mid : Exchanges) (stands : RowsStand limits r t) (alone : IsReadAlone t x w v)
     (there : get nat_eq r.consumers w.c ≡ Some k) (running : (table_of r.exchanges x).running ≡ Some o) (told : l ≡ length_of w.need w.request response) (copies : copied ≡ response)
     (last : u.last_start ≡ r.last_start) (same_keys : u.keys ≡ r.keys) (same_entries : u.entries ≡ r.entries)
     (turned : exch.Becomes (known.turned_into role.Direct) x r.exchanges mid) (headed : exch.Becomes (known.with_good_head l) x mid u.exchanges) (changes : ChangesAt r.consumers u.consumers w.c (answered_by copied l)) where
@@ -142,7 +142,7 @@ module _ {B : Type 0} {g : Ghosts B} {lim : Limits} (r u : Rows B g) (t : Tables
         ∙ sym (ap (held_for s x) s_here ∙ held_empty s x z alone.bare.empty alone.bare.unjoined alone.bare.unfounded)))));
   }
 
-  pub stands_answered : RowsStand lim u s
+  pub stands_answered : RowsStand limits u s
   stands_answered =
       stands_then r u t s w.c x (Some (answered_by copied l k)) stands (last ∙ stands.last_start) (headed.next ∙ (turned.next ∙ stands.next))
       (changes.len ∙ stands.count) (becomes_by r.consumers u.consumers w.c k (answered_by copied l) there changes)
@@ -169,18 +169,18 @@ opened_as op running o is at =
     (ap (λ z. z.0) same, ap (λ z. z.1) same)
 
 -- whoever reads past the store is kept
-pub reader_kept : {B : Type 0} {g : Ghosts B} {lim : Limits} (r : Rows B g) (t : Tables) (c x : ℕ) (v : rows.Consumer) → RowsStand lim r t → t.consumer c ≡ Some v → v.place ≡ place.Direct x → (k : Consumer) × (get nat_eq r.consumers c ≡ Some k)
+pub reader_kept : {B : Type 0} {g : Ghosts B} {limits : Limits} (r : Rows B g) (t : Tables) (c x : ℕ) (v : rows.Consumer) → RowsStand limits r t → t.consumer c ≡ Some v → v.place ≡ place.Direct x → (k : Consumer) × (get nat_eq r.consumers c ≡ Some k)
 reader_kept r t c x v stands row at = by_kept (get nat_eq r.consumers c) refl (subst (KeepsConsumer t (get nat_eq r.consumers c)) row (stands.consumers c))
   where
     by_kept : (o : Option Consumer) → get nat_eq r.consumers c ≡ o → KeepsConsumer t o (Some v) → (k : Consumer) × (get nat_eq r.consumers c ≡ Some k)
     by_kept None there kept = false_true (sym kept ∙ rw at refl)
     by_kept (Some k) there kept = (k, there)
 
-pub stands_answered_as : {B : Type 0} {g : Ghosts B} {lim : Limits} (r u : Rows B g) (t : Tables) (now x c : ℕ) (response copied : Response) (w : Exchange) (v : rows.Consumer) (op : Opening) (l : Length) (mid : Exchanges) → RowsStand lim r t → IsReadAlone t x w v → w.c ≡ c
+pub stands_answered_as : {B : Type 0} {g : Ghosts B} {limits : Limits} (r u : Rows B g) (t : Tables) (now x c : ℕ) (response copied : Response) (w : Exchange) (v : rows.Consumer) (op : Opening) (l : Length) (mid : Exchanges) → RowsStand limits r t → IsReadAlone t x w v → w.c ≡ c
     → head_refusal (option_map open_view (table_of r.exchanges x).running) ≡ None → Some (opened_with op) ≡ option_map begins_with (table_of r.exchanges x).running → l ≡ length_of op.need.now op.request.now response
     → is_bad (length_by (table_of r.exchanges x).running response) ≡ false → copied ≡ response → u.last_start ≡ r.last_start → u.keys ≡ r.keys → u.entries ≡ r.entries
     → exch.Becomes (known.turned_into role.Direct) x r.exchanges mid → (is_bad (length_by (table_of mid x).running response) ≡ false → exch.Becomes (known.with_good_head (length_by (table_of mid x).running response)) x mid u.exchanges)
-    → ChangesAt r.consumers u.consumers c (answered_by copied l) → RowsStand lim u (effects.with_answer now x response w.joined w t)
+    → ChangesAt r.consumers u.consumers c (answered_by copied l) → RowsStand limits u (effects.with_answer now x response w.joined w t)
 stands_answered_as r u t now x c response copied w v op l mid stands alone for_it accepted opens told good copies last same_keys same_entries turned headed changes =
     let h = headless_of (table_of r.exchanges x).running accepted in
     let o = h.o in

@@ -175,21 +175,21 @@ module _ {B : Type 0} {g : Ghosts B} (limits : Limits) (u : Rows B g) (t : Table
 -- WHERE ITS CONSUMER LEFT
 
 -- it told that it is closed
-pub has_left : {B : Type 0} {g : Ghosts B} {lim : Limits} (u : Rows B g) (t : Tables) (c : ℕ) (v : rows.Consumer) (x now faults : ℕ) (before mid out : List Act) → left_by t c v ≡ Some x → mid ≡ before ++ (act.Close x ∷ []) → HasStopped lim faults u t (once_left t c v) mid out now x → HasLeft lim faults u t before out now c v
-has_left {lim = lim} u t c v x now faults before mid out left first (quietly same rows) =
+pub has_left : {B : Type 0} {g : Ghosts B} {limits : Limits} (u : Rows B g) (t : Tables) (c : ℕ) (v : rows.Consumer) (x now faults : ℕ) (before mid out : List Act) → left_by t c v ≡ Some x → mid ≡ before ++ (act.Close x ∷ []) → HasStopped limits faults u t (once_left t c v) mid out now x → HasLeft limits faults u t before out now c v
+has_left {limits = limits} u t c v x now faults before mid out left first (quietly same rows) =
     leaving.quietly (same ∙ (first ∙ ap (λ (z : Option ℕ). before ++ map act.Close (with_item_first z [])) (sym left)))
-    (subst (λ (z : Option ℕ). RowsStand lim u (let_some_go now (going_with t z) (with_consumer c (Some (as_over v)) (all_closed (with_item_first z []) t)))) (sym left) rows)
-has_left {lim = lim} u t c v x now faults before mid out left first (unsealed f) = leaving.unsealed (record {
+    (subst (λ (z : Option ℕ). RowsStand limits u (let_some_go now (going_with t z) (with_consumer c (Some (as_over v)) (all_closed (with_item_first z []) t)))) (sym left) rows)
+has_left {limits = limits} u t c v x now faults before mid out left first (unsealed f) = leaving.unsealed (record {
   x = x;
   left = left;
   sealed = f.sealed;
   acts = act_and before mid out (act.Close x) (act.Lost f.sealed.r kind.Fault ∷ []) first f.acts;
   failed = f.failed;
-  rows = subst (λ (z : Option ℕ). RowsStand lim u (let_go now f.sealed.r (with_representation f.sealed.r (Some (lost_to (exclusive t f.sealed.r f.sealed.v) f.sealed.v)) (with_consumer c (Some (as_over v)) (all_closed (with_item_first z []) t))))) (sym left) f.rows;
+  rows = subst (λ (z : Option ℕ). RowsStand limits u (let_go now f.sealed.r (with_representation f.sealed.r (Some (lost_to (exclusive t f.sealed.r f.sealed.v) f.sealed.v)) (with_consumer c (Some (as_over v)) (all_closed (with_item_first z []) t))))) (sym left) f.rows;
 })
 
 -- where it leaves nothing
-pub leaves_nothing : {B : Type 0} {g : Ghosts B} {lim : Limits} (u : Rows B g) (t : Tables) (c : ℕ) (v : rows.Consumer) (now faults : ℕ) (before : List Act) → left_by t c v ≡ None → RowsStand lim u (with_consumer c (Some (as_over v)) t) → HasLeft lim faults u t before before now c v
-leaves_nothing {lim = lim} u t c v now faults before none rows =
+pub leaves_nothing : {B : Type 0} {g : Ghosts B} {limits : Limits} (u : Rows B g) (t : Tables) (c : ℕ) (v : rows.Consumer) (now faults : ℕ) (before : List Act) → left_by t c v ≡ None → RowsStand limits u (with_consumer c (Some (as_over v)) t) → HasLeft limits faults u t before before now c v
+leaves_nothing {limits = limits} u t c v now faults before none rows =
     leaving.quietly (sym (append-nil before) ∙ ap (λ (z : Option ℕ). before ++ map act.Close (with_item_first z [])) (sym none))
-    (subst (λ (z : Option ℕ). RowsStand lim u (let_some_go now (going_with t z) (with_consumer c (Some (as_over v)) (all_closed (with_item_first z []) t)))) (sym none) rows)
+    (subst (λ (z : Option ℕ). RowsStand limits u (let_some_go now (going_with t z) (with_consumer c (Some (as_over v)) (all_closed (with_item_first z []) t)))) (sym none) rows)

@@ -1,4 +1,4 @@
--- The head of a representation is renewed: what is kept stands for the tables then.
+-- The head of a representation is renewed: what is kept represents the tables then.
 use Rattle.std.proofs.Common.{◌≡◌, ◌≢◌, inl, inr, ℕ, List, Option, Some, None, refl, ap, sym, ◌∙◌, subst}
 use Rattle.std.specs.Prelude.{is_some, nat_eq, option_map}
 use Rattle.std.specs.HashMap.{get, hash_map_len}
@@ -120,8 +120,8 @@ module _ (t : Tables) (now : ℕ) (response : Response) (w : Exchange) (r : ℕ)
 
 -- ALL OF IT
 
-pub stands_renewed : {B : Type 0} {g : Ghosts B} {lim : Limits} (r u : Rows B g) (t : Tables) (now : ℕ) (response : Response) (w : Exchange) (q : ℕ) (v : Representation) (e : Kept) → t.representation q ≡ Some v → RowsStand lim r t → KeepsBeside r u → (shelf_of r.entries).kept q ≡ Some e
-    → shelf.Becomes (option_map (with_head (renewed_head w.opened now response.fields e.head))) same_order q (shelf_of r.entries) (shelf_of u.entries) → RowsStand lim u (with_representation q (Some (with_refreshed_head now response w v)) t)
+pub stands_renewed : {B : Type 0} {g : Ghosts B} {limits : Limits} (r u : Rows B g) (t : Tables) (now : ℕ) (response : Response) (w : Exchange) (q : ℕ) (v : Representation) (e : Kept) → t.representation q ≡ Some v → RowsStand limits r t → KeepsBeside r u → (shelf_of r.entries).kept q ≡ Some e
+    → shelf.Becomes (option_map (with_head (renewed_head w.opened now response.fields e.head))) same_order q (shelf_of r.entries) (shelf_of u.entries) → RowsStand limits u (with_representation q (Some (with_refreshed_head now response w v)) t)
 stands_renewed r u t now response w q v e row stands rest at becomes =
     let m : Tables = with_representation q (Some (with_refreshed_head now response w v)) t in
     let consumers = rest.consumers in

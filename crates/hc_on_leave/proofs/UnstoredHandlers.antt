@@ -34,11 +34,11 @@ use Rattle.hc_state.specs.Facts.{Facts}
 use Rattle.hc_state.specs.Heads.{AwaitsHead, IsBare, IsReadAlone, IsUnread, puts_down, goes_past, starts_anew, breaks_off, broken_by, goes_with, unless_over}
 use Rattle.hc_state.specs.Stands.{Answered, KeepsRest, RowsStand}
 use Rattle.hc_state.proofs.Answering.{does_answered}
-use Rattle.hc_on_leave.proofs.AskerArm.{unended}
+use Rattle.hc_on_leave.proofs.AskerHandler.{unended}
 use Rattle.hc_state.proofs.Counting.{stands_counted}
-use Rattle.hc_on_leave.proofs.DueArm.{stands_due}
+use Rattle.hc_on_leave.proofs.DueHandler.{stands_due}
 use Rattle.hc_on_leave.proofs.HeardRows.{Asker, waits_as}
-use Rattle.hc_on_leave.proofs.RefuseArm.{stands_refused, closes_as}
+use Rattle.hc_on_leave.proofs.RefuseHandler.{stands_refused, closes_as}
 
 -- THE EXCHANGE, WHERE ITS CONSUMER STANDS ELSEWHERE
 
@@ -294,7 +294,7 @@ first_over t facts x c q lo hi v w awaits shown at =
     let headless : is_headless (Some w) ≡ true = rw (opened, bare) refl in
     false_true (sym (ap (λ (z : Exchange). is_headless (Some z)) one ∙ f.2) ∙ headless)
 
-module _ {B : Type 0} {g : Ghosts B} {lim : Limits} (r mid u : Rows B g) (t : Tables) (facts : Facts lim t) (now x : ℕ) (response : Response) (goes : denial t (event.Head x response) ≡ None) (w : Exchange) (v : rows.Consumer) (awaits : AwaitsHead t x w v) (before out : List Act)
+module _ {B : Type 0} {g : Ghosts B} {limits : Limits} (r mid u : Rows B g) (t : Tables) (facts : Facts limits t) (now x : ℕ) (response : Response) (goes : denial t (event.Head x response) ≡ None) (w : Exchange) (v : rows.Consumer) (awaits : AwaitsHead t x w v) (before out : List Act)
     (told : out ≡ before ++ map act.Close (unless_over x (length_by (table_of mid.exchanges x).running response))) (rest : KeepsRest mid u) (consumers : u.consumers ≡ mid.consumers) (becomes : exch.Becomes known.without_exchange x mid.exchanges u.exchanges) where
   abbrev ev : Event
   ev = event.Head x response
@@ -311,8 +311,8 @@ module _ {B : Type 0} {g : Ghosts B} {lim : Limits} (r mid u : Rows B g) (t : Ta
       unread_then t facts.law x w v awaits (moved z) z (rw (eqb-same w.c) refl) (λ d u is ne. inl (sym (beside t w.c d _ ne) ∙ is)) awaits.row
       (facts.law.sound.numbered.names.unfounded x w awaits.row awaits.headless) unfirst apart
 
-  module _ (z : rows.Consumer) (stands : RowsStand lim mid (moved z)) (unfirst : (q lo : ℕ) (hi : Option ℕ) → z.place ≡ place.Bound q lo hi (by.FirstHole x) → ⊥) (apart : z.place ≡ place.Direct x → ⊥) where
-    refused : RowsStand lim u (all_closed (unless_ended x response w) (heard (moved z)))
+  module _ (z : rows.Consumer) (stands : RowsStand limits mid (moved z)) (unfirst : (q lo : ℕ) (hi : Option ℕ) → z.place ≡ place.Bound q lo hi (by.FirstHole x) → ⊥) (apart : z.place ≡ place.Direct x → ⊥) where
+    refused : RowsStand limits u (all_closed (unless_ended x response w) (heard (moved z)))
     refused = stands_refused mid u (moved z) now x response w stands (unused z unfirst apart) rest consumers becomes
 
     acts_are : out ≡ before ++ map act.Close (unless_ended x response w)
@@ -332,23 +332,23 @@ module _ {B : Type 0} {g : Ghosts B} {lim : Limits} (r mid u : Rows B g) (t : Ta
   bad_told _ turn (cases.turn_bad way bad) = bad
   bad_told _ first (cases.first_bad way shown bad) = bad
 
-  put_down_does : (k : HeadCase) → Bad k → Is k → doomed_by_case (Some k) w response ≡ None → Does lim t now ev NoFlaw (act.Close x ∷ []) (with_event now ev (with_consumer w.c (Some down) (tables_after_close x (heard t))))
-  put_down_does _ direct is doomless = does.direct_bad lim t facts.law now x response goes w awaits.row v awaits.asker is (no_doom (changes w response) w doomless)
-  put_down_does _ turn is doomless = does.turn_bad lim t facts.law now x response goes w awaits.row v awaits.asker is
-  put_down_does _ first is doomless = does.first_bad lim t facts.law now x response goes w awaits.row v awaits.asker is
+  put_down_does : (k : HeadCase) → Bad k → Is k → doomed_by_case (Some k) w response ≡ None → Does limits t now ev NoFlaw (act.Close x ∷ []) (with_event now ev (with_consumer w.c (Some down) (tables_after_close x (heard t))))
+  put_down_does _ direct is doomless = does.direct_bad limits t facts.law now x response goes w awaits.row v awaits.asker is (no_doom (changes w response) w doomless)
+  put_down_does _ turn is doomless = does.turn_bad limits t facts.law now x response goes w awaits.row v awaits.asker is
+  put_down_does _ first is doomless = does.first_bad limits t facts.law now x response goes w awaits.row v awaits.asker is
 
-  pub put_down_answered : (k : HeadCase) → puts_down k ≡ true → Is k → doomed_by_case (Some k) w response ≡ None → RowsStand lim mid (moved down) → Answered lim (shelf_of r.entries).faults u t before out now ev
+  pub put_down_answered : (k : HeadCase) → puts_down k ≡ true → Is k → doomed_by_case (Some k) w response ≡ None → RowsStand limits mid (moved down) → Answered limits (shelf_of r.entries).faults u t before out now ev
   put_down_answered k on is doomless stands =
       let b = bad_of k on in
       let open_still : is_reached (promise_in w response) 0 ≡ false = stays_open w response (bad_told k b (by_case k is)) in
       let ended : unless_ended x response w ≡ x ∷ [] = rw open_still refl in
       let down_first : (q lo : ℕ) (hi : Option ℕ) → place.Down (cause.BadHead x) ≡ place.Bound q lo hi (by.FirstHole x) → ⊥ = λ q lo hi h. absurd (cc) in
       let down_apart : place.Down (cause.BadHead x) ≡ place.Direct x → ⊥ = λ h. absurd (cc) in
-      does_answered lim (shelf_of r.entries).faults u t (with_event now ev (with_consumer w.c (Some down) (tables_after_close x (heard t)))) before out (act.Close x ∷ []) now ev (put_down_does k b is doomless)
+      does_answered limits (shelf_of r.entries).faults u t (with_event now ev (with_consumer w.c (Some down) (tables_after_close x (heard t)))) before out (act.Close x ∷ []) now ev (put_down_does k b is doomless)
       (unwritten t now x response w k awaits.row is (bad_founds k b)) refl
       (acts_are down stands down_first down_apart ∙ ap (λ (ys : List ℕ). before ++ map act.Close ys) ended)
       (stands_counted u (with_consumer w.c (Some down) (tables_after_close x (heard t))) now ev refl
-      (subst (λ (ys : List ℕ). RowsStand lim u (all_closed ys (heard (moved down)))) ended (refused down stands down_first down_apart)))
+      (subst (λ (ys : List ℕ). RowsStand limits u (all_closed ys (heard (moved down)))) ended (refused down stands down_first down_apart)))
 
   -- WHAT IS STORED ISN'T WHAT WAS ASKED ABOUT
 
@@ -361,35 +361,35 @@ module _ {B : Type 0} {g : Ghosts B} {lim : Limits} (r mid u : Rows B g) (t : Ta
   quiet false = refl
 
   -- and it isn't used any more
-  module _ (f : Rows B g) (gone : Option ℕ) (lets : (m : Tables) → MayLetGo m → RowsStand lim u m → RowsStand lim f (let_some_go now gone m)) (z : rows.Consumer) (stands : RowsStand lim mid (moved z))
+  module _ (f : Rows B g) (gone : Option ℕ) (lets : (m : Tables) → MayLetGo m → RowsStand limits u m → RowsStand limits f (let_some_go now gone m)) (z : rows.Consumer) (stands : RowsStand limits mid (moved z))
       (unfirst : (q lo : ℕ) (hi : Option ℕ) → z.place ≡ place.Bound q lo hi (by.FirstHole x) → ⊥) (apart : z.place ≡ place.Direct x → ⊥) (unpassed : (q : ℕ) (kept : Option ℕ) → z.place ≡ place.Passed q kept → ⊥) where
     may_shut : MayLetGo (all_closed (unless_ended x response w) (heard (moved z)))
     may_shut = may_refused (heard (moved z)) x (is_reached (promise_in w response) 0) (may_heard (moved z) x _ (may_moved t w.c v z awaits.asker unpassed (may_let_go t facts.law)))
 
-    gone_then : RowsStand lim f (let_some_go now gone (with_consumer w.c (Some z) (all_closed (unless_ended x response w) (heard t))))
+    gone_then : RowsStand limits f (let_some_go now gone (with_consumer w.c (Some z) (all_closed (unless_ended x response w) (heard t))))
     gone_then =
-        subst (λ (m : Tables). RowsStand lim f (let_some_go now gone m)) (shut_is (is_reached (promise_in w response) 0) z)
+        subst (λ (m : Tables). RowsStand limits f (let_some_go now gone m)) (shut_is (is_reached (promise_in w response) 0) z)
         (lets (all_closed (unless_ended x response w) (heard (moved z))) may_shut (refused z stands unfirst apart))
 
     pub shut_answered : (k : HeadCase) → Is k → is_founding (Some k) ≡ false → gone ≡ goes_with t w response k
-        → Does lim t now ev NoFlaw (map act.Close (unless_ended x response w)) (with_event now ev (let_some_go now (goes_with t w response k) (with_consumer w.c (Some z) (all_closed (unless_ended x response w) (heard t)))))
-        → Answered lim (shelf_of r.entries).faults f t before out now ev
+        → Does limits t now ev NoFlaw (map act.Close (unless_ended x response w)) (with_event now ev (let_some_go now (goes_with t w response k) (with_consumer w.c (Some z) (all_closed (unless_ended x response w) (heard t)))))
+        → Answered limits (shelf_of r.entries).faults f t before out now ev
     shut_answered k is unfounding same done =
         let m : Tables = with_consumer w.c (Some z) (all_closed (unless_ended x response w) (heard t)) in
-        does_answered lim (shelf_of r.entries).faults f t (with_event now ev (let_some_go now (goes_with t w response k) m)) before out (map act.Close (unless_ended x response w)) now ev done
+        does_answered limits (shelf_of r.entries).faults f t (with_event now ev (let_some_go now (goes_with t w response k) m)) before out (map act.Close (unless_ended x response w)) now ev done
         (unwritten t now x response w k awaits.row is unfounding) (quiet (is_reached (promise_in w response) 0)) (acts_are z stands unfirst apart)
-        (stands_counted f (let_some_go now (goes_with t w response k) m) now ev refl (subst (λ (o : Option ℕ). RowsStand lim f (let_some_go now o m)) same gone_then))
+        (stands_counted f (let_some_go now (goes_with t w response k) m) now ev refl (subst (λ (o : Option ℕ). RowsStand limits f (let_some_go now o m)) same gone_then))
 
   abbrev back : rows.Consumer
   back = back_in_line now v
 
   abbrev ShutDoes : HeadCase → rows.Consumer → Type 0
-  ShutDoes k z = Does lim t now ev NoFlaw (map act.Close (unless_ended x response w)) (with_event now ev (let_some_go now (goes_with t w response k) (with_consumer w.c (Some z) (all_closed (unless_ended x response w) (heard t)))))
+  ShutDoes k z = Does limits t now ev NoFlaw (map act.Close (unless_ended x response w)) (with_event now ev (let_some_go now (goes_with t w response k) (with_consumer w.c (Some z) (all_closed (unless_ended x response w) (heard t)))))
 
   -- where it is over with its head, nothing is told
-  ended_does : (ys : List ℕ) (goes_on : Option ℕ) (z : rows.Consumer) → unless_ended x response w ≡ ys → Does lim t now ev NoFlaw (map act.Close ys) (with_event now ev (let_some_go now goes_on (with_consumer w.c (Some z) (all_closed ys (heard t)))))
-      → Does lim t now ev NoFlaw (map act.Close (unless_ended x response w)) (with_event now ev (let_some_go now goes_on (with_consumer w.c (Some z) (all_closed (unless_ended x response w) (heard t)))))
-  ended_does ys goes_on z is done = subst (λ (ys : List ℕ). Does lim t now ev NoFlaw (map act.Close ys) (with_event now ev (let_some_go now goes_on (with_consumer w.c (Some z) (all_closed ys (heard t)))))) (sym is) done
+  ended_does : (ys : List ℕ) (goes_on : Option ℕ) (z : rows.Consumer) → unless_ended x response w ≡ ys → Does limits t now ev NoFlaw (map act.Close ys) (with_event now ev (let_some_go now goes_on (with_consumer w.c (Some z) (all_closed ys (heard t)))))
+      → Does limits t now ev NoFlaw (map act.Close (unless_ended x response w)) (with_event now ev (let_some_go now goes_on (with_consumer w.c (Some z) (all_closed (unless_ended x response w) (heard t)))))
+  ended_does ys goes_on z is done = subst (λ (ys : List ℕ). Does limits t now ev NoFlaw (map act.Close ys) (with_event now ev (let_some_go now goes_on (with_consumer w.c (Some z) (all_closed ys (heard t)))))) (sym is) done
 
   -- a 304 has no body
   bodiless : response.status ≡ 304 → unless_ended x response w ≡ []
@@ -401,10 +401,10 @@ module _ {B : Type 0} {g : Ghosts B} {lim : Limits} (r mid u : Rows B g) (t : Ta
       or_last false = refl
 
   anew_does : (k : HeadCase) → Anew k → Is k → ShutDoes k back
-  anew_does _ unselected is = ended_does [] w.aim back (bodiless (unchanged (by_case case.NotValidated is))) (does.not_validated lim t facts.law now x response goes w awaits.row v awaits.asker is)
-  anew_does _ changed is = does.first_changed lim t facts.law now x response goes w awaits.row v awaits.asker is
+  anew_does _ unselected is = ended_does [] w.aim back (bodiless (unchanged (by_case case.NotValidated is))) (does.not_validated limits t facts.law now x response goes w awaits.row v awaits.asker is)
+  anew_does _ changed is = does.first_changed limits t facts.law now x response goes w awaits.row v awaits.asker is
 
-  pub anew_answered : (f : Rows B g) (gone : Option ℕ) (k : HeadCase) → starts_anew k ≡ true → Is k → gone ≡ goes_with t w response k → RowsStand lim mid (moved back) → ((m : Tables) → MayLetGo m → RowsStand lim u m → RowsStand lim f (let_some_go now gone m)) → Answered lim (shelf_of r.entries).faults f t before out now ev
+  pub anew_answered : (f : Rows B g) (gone : Option ℕ) (k : HeadCase) → starts_anew k ≡ true → Is k → gone ≡ goes_with t w response k → RowsStand limits mid (moved back) → ((m : Tables) → MayLetGo m → RowsStand limits u m → RowsStand limits f (let_some_go now gone m)) → Answered limits (shelf_of r.entries).faults f t before out now ev
   anew_answered f gone k on is same stands lets =
       shut_answered f gone lets back stands (λ q lo hi h. (let never : place.Line ≡ place.Bound q lo hi (by.FirstHole x) = h in absurd (cc))) (λ h. (let never : place.Line ≡ place.Direct x = h in absurd (cc)))
       (λ q kept h. (let never : place.Line ≡ place.Passed q kept = h in absurd (cc))) k is (anew_founds k (anew_of k on)) same (anew_does k (anew_of k on) is)
@@ -416,10 +416,10 @@ module _ {B : Type 0} {g : Ghosts B} {lim : Limits} (r mid u : Rows B g) (t : Ta
   late why = record v { due = Some why }
 
   late_does : (k : HeadCase) → Later k → Is k → ShutDoes k (late (broken_by x k))
-  late_does _ later_bad is = ended_does (x ∷ []) None (late (cause.BadHead x)) (rw (stays_open w response (later_told (by_case case.LaterBad is))) refl) (does.later_bad lim t facts.law now x response goes w awaits.row v awaits.asker is)
-  late_does _ later_changed is = does.later_changed lim t facts.law now x response goes w awaits.row v awaits.asker is
+  late_does _ later_bad is = ended_does (x ∷ []) None (late (cause.BadHead x)) (rw (stays_open w response (later_told (by_case case.LaterBad is))) refl) (does.later_bad limits t facts.law now x response goes w awaits.row v awaits.asker is)
+  late_does _ later_changed is = does.later_changed limits t facts.law now x response goes w awaits.row v awaits.asker is
 
-  pub late_answered : (f : Rows B g) (gone : Option ℕ) (k : HeadCase) → StandsFor x v (route_of w.need) → breaks_off k ≡ true → Is k → gone ≡ goes_with t w response k → RowsStand lim mid (moved (late (broken_by x k))) → ((m : Tables) → MayLetGo m → RowsStand lim u m → RowsStand lim f (let_some_go now gone m)) → Answered lim (shelf_of r.entries).faults f t before out now ev
+  pub late_answered : (f : Rows B g) (gone : Option ℕ) (k : HeadCase) → StandsFor x v (route_of w.need) → breaks_off k ≡ true → Is k → gone ≡ goes_with t w response k → RowsStand limits mid (moved (late (broken_by x k))) → ((m : Tables) → MayLetGo m → RowsStand limits u m → RowsStand limits f (let_some_go now gone m)) → Answered limits (shelf_of r.entries).faults f t before out now ev
   late_answered f gone k stood on is same stands lets =
       let l = later_of k on in
       let reader = late_reader x w v (head_view t false w response) k refl (ap was_shown awaits.asker) stood l (by_case k is) in
@@ -476,7 +476,7 @@ past_unshown x w v h _ needs shows stands passes (cases.passes_by way) = turn_un
 past_unshown x w v h _ needs shows stands first_error (cases.first_server_error way shown) = sym shows ∙ shown
 past_unshown x w v h _ needs shows stands first_passes (cases.first_passes_by way shown) = sym shows ∙ shown
 
-module _ {B : Type 0} {g : Ghosts B} {lim : Limits} (r mid u : Rows B g) (t : Tables) (facts : Facts lim t) (now x : ℕ) (response : Response) (goes : denial t (event.Head x response) ≡ None) (w : Exchange) (v : rows.Consumer) (awaits : AwaitsHead t x w v) (stood : StandsFor x v (route_of w.need)) (gone : Option ℕ) (before : List Act) where
+module _ {B : Type 0} {g : Ghosts B} {limits : Limits} (r mid u : Rows B g) (t : Tables) (facts : Facts limits t) (now x : ℕ) (response : Response) (goes : denial t (event.Head x response) ≡ None) (w : Exchange) (v : rows.Consumer) (awaits : AwaitsHead t x w v) (stood : StandsFor x v (route_of w.need)) (gone : Option ℕ) (before : List Act) where
   abbrev comes : Event
   comes = event.Head x response
 
@@ -489,11 +489,11 @@ module _ {B : Type 0} {g : Ghosts B} {lim : Limits} (r mid u : Rows B g) (t : Ta
   abbrev after : Tables
   after = with_answer now x response w.joined w reading
 
-  past_does : (k : HeadCase) → Past k → head_case (head_view t false w response) ≡ k → Does lim t now comes NoFlaw [] (with_event now comes (let_some_go now (goes_with t w response k) after))
-  past_does _ turn_error is = does.server_error lim t facts.law now x response goes w awaits.row v awaits.asker is
-  past_does _ passes is = does.passes_by lim t facts.law now x response goes w awaits.row v awaits.asker is
-  past_does _ first_error is = does.first_server_error lim t facts.law now x response goes w awaits.row v awaits.asker is
-  past_does _ first_passes is = does.first_passes_by lim t facts.law now x response goes w awaits.row v awaits.asker is
+  past_does : (k : HeadCase) → Past k → head_case (head_view t false w response) ≡ k → Does limits t now comes NoFlaw [] (with_event now comes (let_some_go now (goes_with t w response k) after))
+  past_does _ turn_error is = does.server_error limits t facts.law now x response goes w awaits.row v awaits.asker is
+  past_does _ passes is = does.passes_by limits t facts.law now x response goes w awaits.row v awaits.asker is
+  past_does _ first_error is = does.first_server_error limits t facts.law now x response goes w awaits.row v awaits.asker is
+  past_does _ first_passes is = does.first_passes_by limits t facts.law now x response goes w awaits.row v awaits.asker is
 
   shown_is : (head_view t false w response).shown ≡ v.shown
   shown_is = ap was_shown awaits.asker
@@ -507,18 +507,18 @@ module _ {B : Type 0} {g : Ghosts B} {lim : Limits} (r mid u : Rows B g) (t : Ta
   may_after : MayLetGo after
   may_after = may_heard reading x _ (may_moved t w.c v past awaits.asker (λ q kept h. (let never : place.Direct x ≡ place.Passed q kept = h in absurd (cc))) (may_let_go t facts.law))
 
-  pub past_answered : (k : HeadCase) → goes_past k ≡ true → head_case (head_view t false w response) ≡ k → gone ≡ goes_with t w response k → RowsStand lim mid after → (MayLetGo after → RowsStand lim mid after → RowsStand lim u (let_some_go now gone after)) → Answered lim (shelf_of r.entries).faults u t before before now comes
+  pub past_answered : (k : HeadCase) → goes_past k ≡ true → head_case (head_view t false w response) ≡ k → gone ≡ goes_with t w response k → RowsStand limits mid after → (MayLetGo after → RowsStand limits mid after → RowsStand limits u (let_some_go now gone after)) → Answered limits (shelf_of r.entries).faults u t before before now comes
   past_answered k on is same stands lets =
-      does_answered lim (shelf_of r.entries).faults u t (with_event now comes (let_some_go now (goes_with t w response k) after)) before before [] now comes (past_does k (past_of k on) is)
+      does_answered limits (shelf_of r.entries).faults u t (with_event now comes (let_some_go now (goes_with t w response k) after)) before before [] now comes (past_does k (past_of k on) is)
       (unwritten t now x response w k awaits.row is (past_founds k (past_of k on))) refl (sym (append-nil before))
-      (stands_counted u (let_some_go now (goes_with t w response k) after) now comes refl (subst (λ (o : Option ℕ). RowsStand lim u (let_some_go now o after)) same (lets may_after stands)))
+      (stands_counted u (let_some_go now (goes_with t w response k) after) now comes refl (subst (λ (o : Option ℕ). RowsStand limits u (let_some_go now o after)) same (lets may_after stands)))
 
 -- the failure of the case becomes due
-pub due_then : {B : Type 0} {g : Ghosts B} {lim : Limits} (r mid : Rows B g) (t : Tables) (facts : Facts lim t) (now x c : ℕ) (response : Response) (w : Exchange) (a : Asker r t x w) (why : Cause) (k : HeadCase) → denial t (event.Head x response) ≡ None → RowsStand lim r t → w.c ≡ c → why ≡ broken_by x k
+pub due_then : {B : Type 0} {g : Ghosts B} {limits : Limits} (r mid : Rows B g) (t : Tables) (facts : Facts limits t) (now x c : ℕ) (response : Response) (w : Exchange) (a : Asker r t x w) (why : Cause) (k : HeadCase) → denial t (event.Head x response) ≡ None → RowsStand limits r t → w.c ≡ c → why ≡ broken_by x k
     → mid.last_start ≡ r.last_start → mid.exchanges ≡ r.exchanges → mid.keys ≡ r.keys → mid.entries ≡ r.entries → ChangesAt r.consumers mid.consumers c (with_due why)
-    → RowsStand lim mid (with_consumer w.c (Some (record a.v { due = Some (broken_by x k) })) t)
-due_then {lim = lim} r mid t facts now x c response w a why k goes stands for_it because last exchanges same_keys same_entries changes =
-    stands_due r mid t w.c a.v a.k (broken_by x k) stands a.awaits.asker a.there a.is (undue lim t facts.law now x response goes w a.awaits.row a.v a.awaits.asker) last exchanges same_keys same_entries
+    → RowsStand limits mid (with_consumer w.c (Some (record a.v { due = Some (broken_by x k) })) t)
+due_then {limits = limits} r mid t facts now x c response w a why k goes stands for_it because last exchanges same_keys same_entries changes =
+    stands_due r mid t w.c a.v a.k (broken_by x k) stands a.awaits.asker a.there a.is (undue limits t facts.law now x response goes w a.awaits.row a.v a.awaits.asker) last exchanges same_keys same_entries
     (subst (λ (d : ℕ). ChangesAt r.consumers mid.consumers d (with_due (broken_by x k))) (sym for_it) (subst (λ (z : Cause). ChangesAt r.consumers mid.consumers c (with_due z)) because changes))
 
 -- AN ANSWER PAST THE STORE
@@ -532,7 +532,7 @@ taken_unshown x v _ (laws.later q lo hi how at shown) is = absurd (let never : r
 taken_way : {h : HeadView} → CaseBy h case.DirectTaken → route_of h.need ≡ route.Direct
 taken_way (cases.direct_taken way) = way
 
-module _ {B : Type 0} {g : Ghosts B} {lim : Limits} (r u : Rows B g) (t : Tables) (facts : Facts lim t) (now x : ℕ) (response : Response) (goes : denial t (event.Head x response) ≡ None) (w : Exchange) (v : rows.Consumer) (awaits : AwaitsHead t x w v) (stood : StandsFor x v (route_of w.need)) (is : head_case (head_view t false w response) ≡ case.DirectTaken) where
+module _ {B : Type 0} {g : Ghosts B} {limits : Limits} (r u : Rows B g) (t : Tables) (facts : Facts limits t) (now x : ℕ) (response : Response) (goes : denial t (event.Head x response) ≡ None) (w : Exchange) (v : rows.Consumer) (awaits : AwaitsHead t x w v) (stood : StandsFor x v (route_of w.need)) (is : head_case (head_view t false w response) ≡ case.DirectTaken) where
   at : v.place ≡ place.Direct x
   at = taken_unshown x v (route_of w.need) stood (taken_way (subst (CaseBy (head_view t false w response)) is (case_by (head_view t false w response))))
 
@@ -546,9 +546,9 @@ module _ {B : Type 0} {g : Ghosts B} {lim : Limits} (r u : Rows B g) (t : Tables
       read_then t facts.law x w v awaits t v awaits.asker (λ d u is ne. inl is) awaits.row (facts.law.sound.numbered.names.unfounded x w awaits.row awaits.headless)
       (λ q lo hi h. (let stands = at in let never : place.Direct x ≡ place.Bound q lo hi (by.FirstHole x) = sym stands ∙ h in absurd (cc))) at unshown
 
-  pub taken_answered : (before : List Act) → doomed_by_case (Some case.DirectTaken) w response ≡ None → RowsStand lim u (with_answer now x response w.joined w t) → Answered lim (shelf_of r.entries).faults u t before before now (event.Head x response)
+  pub taken_answered : (before : List Act) → doomed_by_case (Some case.DirectTaken) w response ≡ None → RowsStand limits u (with_answer now x response w.joined w t) → Answered limits (shelf_of r.entries).faults u t before before now (event.Head x response)
   taken_answered before doomless stands =
-      does_answered lim (shelf_of r.entries).faults u t (with_event now (event.Head x response) (with_answer now x response w.joined w t)) before before [] now (event.Head x response)
-      (does.taken lim t facts.law now x response goes w awaits.row v awaits.asker is (no_doom (changes w response) w doomless))
+      does_answered limits (shelf_of r.entries).faults u t (with_event now (event.Head x response) (with_answer now x response w.joined w t)) before before [] now (event.Head x response)
+      (does.taken limits t facts.law now x response goes w awaits.row v awaits.asker is (no_doom (changes w response) w doomless))
       (unwritten t now x response w case.DirectTaken awaits.row is refl) refl (sym (append-nil before))
       (stands_counted u (with_answer now x response w.joined w t) now (event.Head x response) refl stands)

@@ -1,4 +1,4 @@
--- A consumer that waits for the head of its exchange stands elsewhere: what is kept stands for the tables then.
+-- A consumer that waits for the head of its exchange stands elsewhere: what is kept represents the tables then.
 use Rattle.std.proofs.Common.{◌≡◌, inl, inr, ℕ, zero, suc, List, [], Bool, true, false, Some, None, refl, ap, sym, ◌∙◌, subst}
 use Rattle.std.specs.Prelude.{nat_eq, drop, bytes_eq, ◌&&◌}
 use Rattle.std.specs.HashMap.{get}
@@ -30,7 +30,7 @@ use Rattle.hc_on_leave.proofs.HeardRows.{live_at, waits_as, kept_as}
 use Rattle.hc_state.proofs.KeySteps.{not_lined, lined, comes_back, says_elsewhere}
 use Rattle.hc_on_leave.proofs.OneConsumer.{HoldsAsMuch, stands_moved}
 use Rattle.hc_on_leave.proofs.HeardExchange.{drop_none}
-use Rattle.hc_state.proofs.QueueArm.{becomes_by}
+use Rattle.hc_state.proofs.QueueHandler.{becomes_by}
 
 -- WHERE NOTHING IS READ
 
@@ -194,9 +194,9 @@ module _ (t : Tables) (law : Lawful t) (x : ℕ) (w : Exchange) (row : t.exchang
       lost = λ y e b there founded. lost_then y e b ∙ sym (asker_lost y e b there founded);
     }
 
-    pub stands_apart : {B : Type 0} {g : Ghosts B} {lim : Limits} (r u : Rows B g) (k : Consumer) → get nat_eq r.consumers w.c ≡ Some k → IsKept t k v → RowsStand lim r t
+    pub stands_apart : {B : Type 0} {g : Ghosts B} {limits : Limits} (r u : Rows B g) (k : Consumer) → get nat_eq r.consumers w.c ≡ Some k → IsKept t k v → RowsStand limits r t
         → u.last_start ≡ r.last_start → u.exchanges ≡ r.exchanges → ChangesAt r.consumers u.consumers w.c (standing_at p)
-        → LeavesKey w.c k.request.key r.keys u.keys → UnbindsAt k.place w.c (shelf_of r.entries) (shelf_of u.entries) → RowsStand lim u (with_consumer w.c (Some z) t)
+        → LeavesKey w.c k.request.key r.keys u.keys → UnbindsAt k.place w.c (shelf_of r.entries) (shelf_of u.entries) → RowsStand limits u (with_consumer w.c (Some z) t)
     stands_apart r u k there is stands last exchanges changes line unbinds =
         stands_moved r u t w.c v z (standing_at p k) stands asker (live_at x w v.place at) place_is.live last exchanges
         (unbinds_limits k.place w.c (shelf_of r.entries) (shelf_of u.entries) unbinds)
@@ -255,9 +255,9 @@ module _ (t : Tables) (law : Lawful t) (x : ℕ) (w : Exchange) (row : t.exchang
       lost = λ y e b there founded. sym (asker_lost y e b there founded);
     }
 
-    pub stands_queued : {B : Type 0} {g : Ghosts B} {lim : Limits} (r u : Rows B g) (k : Consumer) → get nat_eq r.consumers w.c ≡ Some k → IsKept t k v → RowsStand lim r t
+    pub stands_queued : {B : Type 0} {g : Ghosts B} {limits : Limits} (r u : Rows B g) (k : Consumer) → get nat_eq r.consumers w.c ≡ Some k → IsKept t k v → RowsStand limits r t
         → u.last_start ≡ r.last_start → u.exchanges ≡ r.exchanges → ChangesAt r.consumers u.consumers w.c (once_over now)
-        → keys.Becomes (on_line (come_back w.c)) k.request.key r.keys u.keys → UnbindsAt k.place w.c (shelf_of r.entries) (shelf_of u.entries) → RowsStand lim u (with_consumer w.c (Some back) t)
+        → keys.Becomes (on_line (come_back w.c)) k.request.key r.keys u.keys → UnbindsAt k.place w.c (shelf_of r.entries) (shelf_of u.entries) → RowsStand limits u (with_consumer w.c (Some back) t)
     stands_queued r u k there is stands last exchanges changes line unbinds =
         stands_moved r u t w.c v back (once_over now k) stands asker (live_at x w v.place at) refl last exchanges
         (unbinds_limits k.place w.c (shelf_of r.entries) (shelf_of u.entries) unbinds)
@@ -270,25 +270,25 @@ module _ (t : Tables) (law : Lawful t) (x : ℕ) (w : Exchange) (row : t.exchang
         back_much
 
 -- whoever it is called
-pub falls_back_as : {B : Type 0} {g : Ghosts B} {lim : Limits} (r u : Rows B g) (t : Tables) (law : Lawful t) (x c : ℕ) (w : Exchange) (v : rows.Consumer) (k : Consumer) (p : Place) → AwaitsHead t x w v → w.c ≡ c → StandsApart x p → get nat_eq r.consumers c ≡ Some k → RowsStand lim r t
+pub falls_back_as : {B : Type 0} {g : Ghosts B} {limits : Limits} (r u : Rows B g) (t : Tables) (law : Lawful t) (x c : ℕ) (w : Exchange) (v : rows.Consumer) (k : Consumer) (p : Place) → AwaitsHead t x w v → w.c ≡ c → StandsApart x p → get nat_eq r.consumers c ≡ Some k → RowsStand limits r t
     → u.last_start ≡ r.last_start → u.exchanges ≡ r.exchanges → ChangesAt r.consumers u.consumers c (standing_at p)
-    → LeavesKey c k.request.key r.keys u.keys → UnbindsAt k.place c (shelf_of r.entries) (shelf_of u.entries) → RowsStand lim u (with_consumer c (Some (record v { place = p })) t)
-falls_back_as {lim = lim} r u t law x c w v k p awaits for_it apart there stands last exchanges changes line unbinds =
+    → LeavesKey c k.request.key r.keys u.keys → UnbindsAt k.place c (shelf_of r.entries) (shelf_of u.entries) → RowsStand limits u (with_consumer c (Some (record v { place = p })) t)
+falls_back_as {limits = limits} r u t law x c w v k p awaits for_it apart there stands last exchanges changes line unbinds =
     let a = waits_as t law x w v awaits in
     let at : get nat_eq r.consumers w.c ≡ Some k = ap (get nat_eq r.consumers) for_it ∙ there in
-    subst (λ (d : ℕ). RowsStand lim u (with_consumer d (Some (record v { place = p })) t)) for_it
+    subst (λ (d : ℕ). RowsStand limits u (with_consumer d (Some (record v { place = p })) t)) for_it
     (stands_apart t law x w awaits.row awaits.is_open awaits.headless v awaits.asker a.own a.at p apart r u k at (kept_as r t w.c v k stands awaits.asker at) stands last exchanges
     (subst (λ (d : ℕ). ChangesAt r.consumers u.consumers d (standing_at p)) (sym for_it) changes)
     (subst (λ (d : ℕ). LeavesKey d k.request.key r.keys u.keys) (sym for_it) line)
     (subst (λ (d : ℕ). UnbindsAt k.place d (shelf_of r.entries) (shelf_of u.entries)) (sym for_it) unbinds))
 
-pub stands_back_as : {B : Type 0} {g : Ghosts B} {lim : Limits} (r u : Rows B g) (t : Tables) (law : Lawful t) (now x c : ℕ) (w : Exchange) (v : rows.Consumer) (k : Consumer) → AwaitsHead t x w v → w.c ≡ c → awaited_exchange v.place ≡ Some x → get nat_eq r.consumers c ≡ Some k → RowsStand lim r t
+pub stands_back_as : {B : Type 0} {g : Ghosts B} {limits : Limits} (r u : Rows B g) (t : Tables) (law : Lawful t) (now x c : ℕ) (w : Exchange) (v : rows.Consumer) (k : Consumer) → AwaitsHead t x w v → w.c ≡ c → awaited_exchange v.place ≡ Some x → get nat_eq r.consumers c ≡ Some k → RowsStand limits r t
     → u.last_start ≡ r.last_start → u.exchanges ≡ r.exchanges → ChangesAt r.consumers u.consumers c (once_over now)
-    → keys.Becomes (on_line (come_back c)) k.request.key r.keys u.keys → UnbindsAt k.place c (shelf_of r.entries) (shelf_of u.entries) → RowsStand lim u (with_consumer c (Some (back_in_line now v)) t)
-stands_back_as {lim = lim} r u t law now x c w v k awaits for_it waits there stands last exchanges changes line unbinds =
+    → keys.Becomes (on_line (come_back c)) k.request.key r.keys u.keys → UnbindsAt k.place c (shelf_of r.entries) (shelf_of u.entries) → RowsStand limits u (with_consumer c (Some (back_in_line now v)) t)
+stands_back_as {limits = limits} r u t law now x c w v k awaits for_it waits there stands last exchanges changes line unbinds =
     let a = waits_as t law x w v awaits in
     let at : get nat_eq r.consumers w.c ≡ Some k = ap (get nat_eq r.consumers) for_it ∙ there in
-    subst (λ (d : ℕ). RowsStand lim u (with_consumer d (Some (back_in_line now v)) t)) for_it
+    subst (λ (d : ℕ). RowsStand limits u (with_consumer d (Some (back_in_line now v)) t)) for_it
     (stands_queued t law x w awaits.row awaits.is_open awaits.headless v awaits.asker a.own a.at now waits r u k at (kept_as r t w.c v k stands awaits.asker at) stands last exchanges
     (subst (λ (d : ℕ). ChangesAt r.consumers u.consumers d (once_over now)) (sym for_it) changes)
     (subst (λ (d : ℕ). keys.Becomes (on_line (come_back d)) k.request.key r.keys u.keys) (sym for_it) line)

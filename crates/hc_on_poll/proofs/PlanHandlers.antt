@@ -1,4 +1,4 @@
--- A plan is carried out: what its arms ask for, and that what they answer is owed.
+-- A plan is carried out: what its handlers ask for, and that what they answer is owed.
 use Rattle.std.proofs.Math.Logic.{∥∥₁_map}
 use Rattle.std.proofs.Common.{◌≡◌, ◌≢◌, ℕ, ◌+◌, ◌<◌, ◌≤◌, arith, List, Bool, true, false, Option, Some, None, Result, Err, refl, ap, sym, ◌∙◌, subst}
 use Rattle.std.specs.Prelude.{nat_eq, is_some, not, unwrap_or, IsSomeAnd, ◌&&◌, ◌||◌, if◌then◌else◌}
@@ -49,7 +49,7 @@ use Rattle.hc_effects.proofs.Tests.{none_some}
 use Rattle.hc_effects.proofs.OpenedAs.{bypassing_is as bypassing_as}
 use Rattle.hc_state.specs.declared.consumer.Consumer.{Consumer}
 use Rattle.hc_state.specs.declared.rows.Rows.{Rows}
-use Rattle.hc_state.specs.Arms.{queues}
+use Rattle.hc_state.specs.Handlers.{queues}
 use Rattle.hc_state.specs.Facts.{Facts}
 use Rattle.hc_state.specs.Good.{StandsBy}
 use Rattle.hc_state.specs.Kept.{IsKept, KeepsConsumer}
@@ -63,14 +63,14 @@ use Rattle.hc_on_poll.proofs.Accepted.{poll_lives}
 use Rattle.hc_on_poll.proofs.CandidateTies.{head_at_is}
 use Rattle.hc_state.proofs.CurrentTies.{now_kept, total_told}
 use Rattle.hc_state.proofs.KeySteps.{lined}
-use Rattle.hc_on_poll.proofs.PassesArm.{current_as}
-use Rattle.hc_on_poll.proofs.PastArm.{queues_as}
+use Rattle.hc_on_poll.proofs.PassesHandler.{current_as}
+use Rattle.hc_on_poll.proofs.PastHandler.{queues_as}
 use Rattle.hc_on_poll.proofs.PlanTies.{plans_are, unlooked}
 use Rattle.hc_state.proofs.Maps.{known_of, some_that, merely_true, merely_number}
 use Rattle.hc_state.proofs.ReaderSteps.{stands_read}
 use Rattle.hc_state.proofs.Ties.{kept_row}
 use Rattle.hc_state.proofs.TurnTies.{turn_with_is}
-use Rattle.hc_on_poll.proofs.WaitArms.{plans_move}
+use Rattle.hc_on_poll.proofs.WaitHandlers.{plans_move}
 use Rattle.hc_state.proofs.Words.{there}
 use Rattle.hc_rules.proofs.RangeReads.{bytes_eq-same}
 
@@ -90,7 +90,7 @@ both_off false false on = (refl, refl)
 both_off false true on = false_true on
 both_off true b on = false_true on
 
-module _ {B : Type 0} {g : Ghosts B} {lim : Limits} (r : Rows B g) (t : Tables) (facts : Facts lim t) (stands : RowsStand lim r t) (c : ℕ) (k : Consumer) (v : rows.Consumer) (row : t.consumer c ≡ Some v) (kept : IsKept t k v) (idle : is_idle_at k.place ≡ true) where
+module _ {B : Type 0} {g : Ghosts B} {limits : Limits} (r : Rows B g) (t : Tables) (facts : Facts limits t) (stands : RowsStand limits r t) (c : ℕ) (k : Consumer) (v : rows.Consumer) (row : t.consumer c ≡ Some v) (kept : IsKept t k v) (idle : is_idle_at k.place ≡ true) where
   abbrev its : List ℕ
   its = v.request.key
 
@@ -269,7 +269,7 @@ module _ {B : Type 0} {g : Ghosts B} {lim : Limits} (r : Rows B g) (t : Tables) 
 
   -- the plan with what is current, as the code makes it
   pub some_plan_at : (now : ℕ) (view : PlanView) → view ≡ plan_view r now c k → (q : ℕ) (seen : Candidate) → HasCurrent r.keys q k
-      → ((p : Representation) → Facts lim t → RowsStand lim r t → t.consumer c ≡ Some v → t.representation q ≡ Some p → seen ≡ candidate t now q v.request p)
+      → ((p : Representation) → Facts limits t → RowsStand limits r t → t.consumer c ≡ Some v → t.representation q ≡ Some p → seen ≡ candidate t now q v.request p)
       → (p : Plan) → p ≡ plan_of (record view { current = Some seen }) → plan_of (planning.plan_view t now c v) ≡ p
   some_plan_at now view viewed q seen held sees p made =
       let at = now_kept r t stands its q (current_as r t k v q stands kept held) in
@@ -296,14 +296,14 @@ looked_current (Some k) keys view seen q looked some = by_test (looks_at_stored 
 
 -- a plan that its move answers is answered
 pub plan_answers : {B : Type 0} {g : Ghosts B} (r u : Rows B g) (before out : List Act) (now c : ℕ) (k : Consumer) (p : Plan) → get nat_eq r.consumers c ≡ Some k → is_idle_at k.place ≡ true → IsPlanOf r now c p
-    → ((want : ℕ) (lim : Limits) (t : Tables) (v : rows.Consumer) → Facts lim t → RowsStand lim r t → t.consumer c ≡ Some v → IsKept t k v → move_of t now want c v ≡ plan_move t v p → Answered lim (shelf_of r.entries).faults u t before out now (event.Poll c want))
+    → ((want : ℕ) (limits : Limits) (t : Tables) (v : rows.Consumer) → Facts limits t → RowsStand limits r t → t.consumer c ≡ Some v → IsKept t k v → move_of t now want c v ≡ plan_move t v p → Answered limits (shelf_of r.entries).faults u t before out now (event.Poll c want))
     → (want : ℕ) → Answers r u before out now (event.Poll c want)
-plan_answers r u before out now c k p there idle is answers = λ want lim t facts stands accepted.
+plan_answers r u before out now c k p there idle is answers = λ want limits t facts stands accepted.
     let (v, row, kept) = kept_row t k (t.consumer c) (subst (λ o. KeepsConsumer t o (t.consumer c)) there (stands.consumers c)) in
     answers want _ t v facts stands row kept (planned r t facts stands c k v row kept idle now want p (is _ t v facts stands row))
 
 -- the next exchange has the next number, and the request is the consumer's
-pub opens_next : {B : Type 0} {g : Ghosts B} {lim : Limits} (r : Rows B g) (t : Tables) (k : Consumer) (v : rows.Consumer) (n : Need) → RowsStand lim r t → IsKept t k v → opens t n v.request ≡ Opens (next_of r.exchanges) n k.request
+pub opens_next : {B : Type 0} {g : Ghosts B} {limits : Limits} (r : Rows B g) (t : Tables) (k : Consumer) (v : rows.Consumer) (n : Need) → RowsStand limits r t → IsKept t k v → opens t n v.request ≡ Opens (next_of r.exchanges) n k.request
 opens_next r t k v n stands kept = ap (λ (x : ℕ). Opens x n v.request) (sym stands.next) ∙ ap (λ (z : Request). Opens (next_of r.exchanges) n z) (sym kept.request)
 
 -- who goes past the store has a need for that
@@ -348,7 +348,7 @@ binds_shows t v q p why head None k here total fields range =
 binds_shows t v q p why head (Some span) k here total fields range =
     rw (here, range) (ap (λ (h : Response). Shows q why h span.lo (Some span.hi)) (shown_alike p.head head why (span_to span.lo (Some span.hi)) (is_some k.class.range) total fields))
 
--- WHAT THE ARMS ASK FOR
+-- WHAT THE HANDLERS ASK FOR
 
 module _ {B : Type 0} {g : Ghosts B} (r : Rows B g) (some : ∥ Stands r ∥₁) (now c : ℕ) (idle : IsSomeAnd (get nat_eq r.consumers c) IsIdle) where
   abbrev pub its_row : Option Consumer
@@ -436,17 +436,17 @@ module _ {B : Type 0} {g : Ghosts B} (r : Rows B g) (some : ∥ Stands r ∥₁)
 
   module _ (u : Rows B g) (before out : List Act) where
     pub direct_answers : (n : Need) → IsPlanOf r now c (plan.Direct n) → IsSomeAnd its_row (AnswersOpening r u before out now c n) → AnswersPoll r u before out now c
-    direct_answers n is answers = plan_answers r u before out now c found.0 (plan.Direct n) found.1 found.2 is (λ want lim t v facts stands row kept move.
+    direct_answers n is answers = plan_answers r u before out now c found.0 (plan.Direct n) found.1 found.2 is (λ want limits t v facts stands row kept move.
         known_of its_row found.0 (AnswersOpening r u before out now c n) found.1 answers want _ t v facts stands row (move ∙ opens_next r t found.0 v n stands kept))
 
     pub turn_answers : (d : ℕ) → IsPlanOf r now c (plan.Turn d) → ((moment want : ℕ) → AnswersMove r u before out moment c want (Waits (wait.Turn d))) → AnswersPoll r u before out now c
-    turn_answers d is answers = plan_answers r u before out now c found.0 (plan.Turn d) found.1 found.2 is (λ want lim t v facts stands row kept move. answers now want _ t v facts stands row move)
+    turn_answers d is answers = plan_answers r u before out now c found.0 (plan.Turn d) found.1 found.2 is (λ want limits t v facts stands row kept move. answers now want _ t v facts stands row move)
 
     pub busy_answers : (d : ℕ) (how : Option ℕ) → IsPlanOf r now c (plan.Busy d how) → ((moment want : ℕ) → AnswersMove r u before out moment c want (Waits (wait.Busy d))) → AnswersPoll r u before out now c
-    busy_answers d how is answers = plan_answers r u before out now c found.0 (plan.Busy d how) found.1 found.2 is (λ want lim t v facts stands row kept move. answers now want _ t v facts stands row move)
+    busy_answers d how is answers = plan_answers r u before out now c found.0 (plan.Busy d how) found.1 found.2 is (λ want limits t v facts stands row kept move. answers now want _ t v facts stands row move)
 
     pub miss_answers : IsPlanOf r now c plan.Miss → ((want : ℕ) → AnswersMove r u before out now c want (Fails cause.Miss)) → AnswersPoll r u before out now c
-    miss_answers is answers = plan_answers r u before out now c found.0 plan.Miss found.1 found.2 is (λ want lim t v facts stands row kept move. answers want _ t v facts stands row move)
+    miss_answers is answers = plan_answers r u before out now c found.0 plan.Miss found.1 found.2 is (λ want limits t v facts stands row kept move. answers want _ t v facts stands row move)
 
     fetched_plain : (t : Tables) (v : rows.Consumer) (n : Need) → n ≢ need.Validate → planning.origin_request t v n ≡ v.request
     fetched_plain t v need.Validate other = absurd (other refl)
@@ -459,11 +459,11 @@ module _ {B : Type 0} {g : Ghosts B} (r : Rows B g) (some : ∥ Stands r ∥₁)
     fetched_plain t v need.Unsatisfied other = refl
 
     pub fetch_answers : (n : Need) → n ≢ need.Validate → IsPlanOf r now c (plan.Fetch n) → IsSomeAnd its_row (AnswersOpening r u before out now c n) → AnswersPoll r u before out now c
-    fetch_answers n other is answers = plan_answers r u before out now c found.0 (plan.Fetch n) found.1 found.2 is (λ want lim t v facts stands row kept move.
+    fetch_answers n other is answers = plan_answers r u before out now c found.0 (plan.Fetch n) found.1 found.2 is (λ want limits t v facts stands row kept move.
         known_of its_row found.0 (AnswersOpening r u before out now c n) found.1 answers want _ t v facts stands row (move ∙ (ap (opens t n) (fetched_plain t v n other) ∙ opens_next r t found.0 v n stands kept)))
 
     pub validate_answers : (q : ℕ) (head : StoredHead) → IsSomeAnd its_row (HasCurrent r.keys q) → head_at (shelf_of r.entries) q ≡ Some (plain head) → IsPlanOf r now c (plan.Fetch need.Validate) → IsSomeAnd its_row (AnswersValidating r u before out now c (plain head)) → AnswersPoll r u before out now c
-    validate_answers q head held read is answers = plan_answers r u before out now c found.0 (plan.Fetch need.Validate) found.1 found.2 is (λ want lim t v facts stands row kept move.
+    validate_answers q head held read is answers = plan_answers r u before out now c found.0 (plan.Fetch need.Validate) found.1 found.2 is (λ want limits t v facts stands row kept move.
         let current_is = current_as r t found.0 v q stands kept (known_of its_row found.0 (HasCurrent r.keys q) found.1 held) in
         let at = now_kept r t stands v.request.key q current_is in
         let same : at.e.head ≡ plain head = head_at_is ((shelf_of r.entries).kept q) at.e head at.kept read in
@@ -476,7 +476,7 @@ module _ {B : Type 0} {g : Ghosts B} (r : Rows B g) (some : ∥ Stands r ∥₁)
 
     -- what it is shown is what its plan says of what is stored
     pub bind_answers : (why : Why) (span : Option Span) (q : ℕ) (head : StoredHead) → IsSomeAnd its_row (HasCurrent r.keys q) → head_at (shelf_of r.entries) q ≡ Some (plain head) → IsPlanOf r now c (plan.Bind why span) → IsSomeAnd its_row (AnswersShowing r u before out c q (plain head) why span) → AnswersPoll r u before out now c
-    bind_answers why span q head held read is answers = plan_answers r u before out now c found.0 (plan.Bind why span) found.1 found.2 is (λ want lim t v facts stands row kept move.
+    bind_answers why span q head held read is answers = plan_answers r u before out now c found.0 (plan.Bind why span) found.1 found.2 is (λ want limits t v facts stands row kept move.
         let current_is = current_as r t found.0 v q stands kept (known_of its_row found.0 (HasCurrent r.keys q) found.1 held) in
         let at = now_kept r t stands v.request.key q current_is in
         let same = head_at_is ((shelf_of r.entries).kept q) at.e head at.kept read in
@@ -487,7 +487,7 @@ module _ {B : Type 0} {g : Ghosts B} (r : Rows B g) (some : ∥ Stands r ∥₁)
 
 -- the same plan
 pub plan_same : {B : Type 0} {g : Ghosts B} (r : Rows B g) (now c : ℕ) (p q : Plan) → IsPlanOf r now c p → p ≡ q → IsPlanOf r now c q
-plan_same r now c p q is same = λ lim t v facts stands row. is _ t v facts stands row ∙ same
+plan_same r now c p q is same = λ limits t v facts stands row. is _ t v facts stands row ∙ same
 
 -- a plan that looks at nothing stored neither asks whether that still holds, nor reads it
 pub bare_validates : (view : PlanView) (n : Need) → view.current ≡ None → plan_of view ≡ plan.Fetch n → n ≢ need.Validate
@@ -568,7 +568,7 @@ module _ {B : Type 0} {g : Ghosts B} (r : Rows B g) (a : Entries B g) (stays : S
   abbrev read : Rows B g
   read = record r { entries = a }
 
-  pub read_stands : {lim : Limits} (t : Tables) → RowsStand lim r t → RowsStand lim read t
+  pub read_stands : {limits : Limits} (t : Tables) → RowsStand limits r t → RowsStand limits read t
   read_stands t stands = stands_read r read t refl refl refl refl stays stands
 
   -- what is current has the head that was read
@@ -583,14 +583,14 @@ module _ {B : Type 0} {g : Ghosts B} (r : Rows B g) (a : Entries B g) (stays : S
   read_some now some = ∥∥₁_map (read_until now some) (λ u. u.0)
 
   pub read_answers : (shelf_of r.entries).faults ≤ (shelf_of a).faults → (u : Rows B g) (before out : List Act) (now c : ℕ) → AnswersPoll read u before out now c → AnswersPoll r u before out now c
-  read_answers later u before out now c answers = λ want lim t facts stands accepted.
+  read_answers later u before out now c answers = λ want limits t facts stands accepted.
       let is = answers want _ t facts (read_stands t stands) accepted in
       record { flaw = is.flaw; acts = is.acts; shown = is.shown; may = is.may; caused = λ on. (let less = is.caused on in omega (arith, later, less)); rows = is.rows }
 
   -- it failed, for who reads nothing yet
   pub read_fault : (shelf_of r.entries).faults < (shelf_of a).faults → (u : Rows B g) (before out : List Act) (now c q : ℕ) → IsSomeAnd (get nat_eq r.consumers c) IsIdle → IsSomeAnd (get nat_eq r.consumers c) (HasCurrent r.keys q)
       → AnswersMisread read u before out now c q → AnswersPoll r u before out now c
-  read_fault failed u before out now c q idle held answers = λ want lim t facts stands accepted.
+  read_fault failed u before out now c q idle held answers = λ want limits t facts stands accepted.
       let (v, row) = polled_row t c want accepted in
       let (k, at, resting) = there (get nat_eq r.consumers c) IsIdle idle in
       let kept = subst (KeepsConsumer t (Some k)) row (subst (λ o. KeepsConsumer t o (t.consumer c)) at (stands.consumers c)) in

@@ -1,4 +1,4 @@
--- A consumer that had passed is in line again: what is kept stands for the tables then.
+-- A consumer that had passed is in line again: what is kept represents the tables then.
 use Rattle.std.proofs.Common.{◌≡◌, inl, inr, ℕ, ◌+◌, List, Bool, true, false, Option, Some, refl, ap, sym, ◌∙◌, subst}
 use Rattle.std.specs.Prelude.{nat_eq, bytes_eq, option_map, ◌==◌, if◌then◌else◌}
 use Rattle.std.specs.HashMap.{get}
@@ -75,17 +75,17 @@ in_line_kept t k v q how at kept = record {
     by_shown true is = rw is refl
     by_shown false is = rw (is, at) refl
 
-module _ {B : Type 0} {g : Ghosts B} {lim : Limits} (r u : Rows B g) (t : Tables) (law : Lawful t) (c : ℕ) (k : Consumer) (v : rows.Consumer) (stands : RowsStand lim r t) (there : get nat_eq r.consumers c ≡ Some k) (row : t.consumer c ≡ Some v)
+module _ {B : Type 0} {g : Ghosts B} {limits : Limits} (r u : Rows B g) (t : Tables) (law : Lawful t) (c : ℕ) (k : Consumer) (v : rows.Consumer) (stands : RowsStand limits r t) (there : get nat_eq r.consumers c ≡ Some k) (row : t.consumer c ≡ Some v)
     (last : u.last_start ≡ r.last_start) (exchanges : u.exchanges ≡ r.exchanges) (entries : u.entries ≡ r.entries) where
   kept : IsKept t k v
   kept = subst (KeepsConsumer t (Some k)) row (subst (λ o. KeepsConsumer t o (t.consumer c)) there (stands.consumers c))
 
   -- who stands in line already stays as it is
-  pub stands_still : k.place ≡ place.Line → u.consumers ≡ r.consumers → u.keys ≡ r.keys → RowsStand lim u (with_consumer c (Some (in_line v)) t)
+  pub stands_still : k.place ≡ place.Line → u.consumers ≡ r.consumers → u.keys ≡ r.keys → RowsStand limits u (with_consumer c (Some (in_line v)) t)
   stands_still at consumers same_keys =
       let still : in_line v ≡ v = ap (λ (p : Place). record v { place = p }) (sym (sym kept.place ∙ at)) in
       let same : with_consumer c (Some (in_line v)) t ≡ t = ap (λ (w : rows.Consumer). with_consumer c (Some w) t) still ∙ same_consumer t t c v row in
-      subst (RowsStand lim u) (sym same) (record {
+      subst (RowsStand limits u) (sym same) (record {
         limits = rw entries stands.limits;
         last_start = last ∙ stands.last_start;
         next = rw exchanges stands.next;
@@ -113,7 +113,7 @@ module _ {B : Type 0} {g : Ghosts B} {lim : Limits} (r u : Rows B g) (t : Tables
         (then_false (bytes_eq v.request.key v.request.key) false refl) (then_false (bytes_eq v.request.key v.request.key) false refl) (then_false (is_in_line v.request.key (Some (in_line v))) false refl))
         (λ other off. says_elsewhere t c v (in_line v) other row refl off)
 
-    pub stands_back : RowsStand lim u (with_consumer c (Some (in_line v)) t)
+    pub stands_back : RowsStand limits u (with_consumer c (Some (in_line v)) t)
     stands_back =
         falls_back r u t c v (in_line v) (lined_up k) stands row (ap reads v_at) refl (ap is_live_place v_at) refl last exchanges entries
         (becomes_by r.consumers u.consumers c k lined_up there changes) (in_line_kept t k v q how v_at kept) keys_then

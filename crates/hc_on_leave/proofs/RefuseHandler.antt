@@ -1,4 +1,4 @@
--- An exchange whose answer isn't used is over with its head, or closed: what is kept stands for the tables then.
+-- An exchange whose answer isn't used is over with its head, or closed: what is kept represents the tables then.
 use Rattle.std.proofs.Common.{◌≡◌, ◌≢◌, inl, inr, ℕ, [], ◌∷◌, Bool, true, false, Option, Some, None, refl, ap, sym, ◌∙◌, subst}
 use Rattle.std.specs.Prelude.{nat_eq, if◌then◌else◌}
 use Rattle.std.specs.HashMap.{get}
@@ -19,12 +19,12 @@ use Rattle.hc_state.specs.Changes.{BecomesAt}
 use Rattle.hc_state.specs.Heads.{IsBare, IsUnread, unless_over}
 use Rattle.hc_state.specs.Kept.{KeepsExchange, KeepsRunning, held_for}
 use Rattle.hc_state.specs.Stands.{RowsStand, KeepsRest}
-use Rattle.hc_on_leave.proofs.AnswerArm.{all_reached, known_here, known_other}
+use Rattle.hc_on_leave.proofs.AnswerHandler.{all_reached, known_here, known_other}
 use Rattle.hc_on_leave.proofs.HeardExchange.{held_empty, held_else, here, others, key_heard, entries_heard}
 use Rattle.hc_state.proofs.OneOfEach.{stands_then}
 use Rattle.hc_state.proofs.Ties.{consumer_same}
 
-module _ {B : Type 0} {g : Ghosts B} {lim : Limits} (r u : Rows B g) (t : Tables) (x : ℕ) (w z : Exchange) (stands : RowsStand lim r t) (unused : IsUnread t x w) (shut : z.is_open ≡ false) (empty : z.body ≡ []) (unjoined : z.joined ≡ None)
+module _ {B : Type 0} {g : Ghosts B} {limits : Limits} (r u : Rows B g) (t : Tables) (x : ℕ) (w z : Exchange) (stands : RowsStand limits r t) (unused : IsUnread t x w) (shut : z.is_open ≡ false) (empty : z.body ≡ []) (unjoined : z.joined ≡ None)
     (rest : KeepsRest r u) (consumers : u.consumers ≡ r.consumers) (becomes : exch.Becomes known.without_exchange x r.exchanges u.exchanges) where
   abbrev s : Tables
   s = with_exchange x (Some z) t
@@ -65,7 +65,7 @@ module _ {B : Type 0} {g : Ghosts B} {lim : Limits} (r u : Rows B g) (t : Tables
             ∙ sym (ap (held_for s x) s_here ∙ held_empty s x z empty unjoined bare.unfounded))));
       }
 
-  pub stands_shut : RowsStand lim u s
+  pub stands_shut : RowsStand limits u s
   stands_shut =
       stands_then r u t s w.c x (get nat_eq r.consumers w.c) stands (rest.last_start ∙ stands.last_start) (becomes.next ∙ stands.next)
       (rw consumers stands.count) stays (λ y ne. known_other known.without_exchange x y r.exchanges u.exchanges becomes ne) (λ d ne. refl) s_other (λ q. refl)
@@ -88,27 +88,27 @@ closed_twice t x a =
       | inr ne ↦ rw (eqb-other x y ne) refl
     ]
 
-module _ {B : Type 0} {g : Ghosts B} {lim : Limits} (r u : Rows B g) (t : Tables) (now x : ℕ) (response : Response) (w : Exchange) (stands : RowsStand lim r t) (unused : IsUnread t x w)
+module _ {B : Type 0} {g : Ghosts B} {limits : Limits} (r u : Rows B g) (t : Tables) (now x : ℕ) (response : Response) (w : Exchange) (stands : RowsStand limits r t) (unused : IsUnread t x w)
     (rest : KeepsRest r u) (consumers : u.consumers ≡ r.consumers) (becomes : exch.Becomes known.without_exchange x r.exchanges u.exchanges) where
-  by_test : (b : Bool) → is_reached (promise_in w response) 0 ≡ b → RowsStand lim u (all_closed (if b then [] else x ∷ []) (with_answer now x response w.joined w t))
+  by_test : (b : Bool) → is_reached (promise_in w response) 0 ≡ b → RowsStand limits u (all_closed (if b then [] else x ∷ []) (with_answer now x response w.joined w t))
   by_test true reached = stands_shut r u t x w (exchange_with_head now response w.joined w) stands unused (rw reached refl) unused.bare.empty unused.bare.unjoined rest consumers becomes
   by_test false reached =
-      subst (RowsStand lim u) (sym (closed_twice t x (exchange_with_head now response w.joined w)))
+      subst (RowsStand limits u) (sym (closed_twice t x (exchange_with_head now response w.joined w)))
       (stands_shut r u t x w (over (exchange_with_head now response w.joined w)) stands unused refl unused.bare.empty unused.bare.unjoined rest consumers becomes)
 
-  pub stands_refused : RowsStand lim u (all_closed (unless_ended x response w) (with_answer now x response w.joined w t))
+  pub stands_refused : RowsStand limits u (all_closed (unless_ended x response w) (with_answer now x response w.joined w t))
   stands_refused = by_test (is_reached (promise_in w response) 0) refl
 
 -- WHAT IS TOLD
 
 -- what the head says to the exchange
-pub length_as : {B : Type 0} {g : Ghosts B} {lim : Limits} (r : Rows B g) (t : Tables) (x : ℕ) (w : Exchange) (response : Response) → RowsStand lim r t → t.exchange x ≡ Some w → w.is_open ≡ true → length_by (table_of r.exchanges x).running response ≡ length_of w.need w.request response
+pub length_as : {B : Type 0} {g : Ghosts B} {limits : Limits} (r : Rows B g) (t : Tables) (x : ℕ) (w : Exchange) (response : Response) → RowsStand limits r t → t.exchange x ≡ Some w → w.is_open ≡ true → length_by (table_of r.exchanges x).running response ≡ length_of w.need w.request response
 length_as r t x w response stands row opened = by_running (table_of r.exchanges x).running refl (subst (KeepsRunning t x (table_of r.exchanges x).running) row (stands.exchanges x).running)
   where
     by_running : (z : Option Open) → (table_of r.exchanges x).running ≡ z → KeepsRunning t x z (Some w) → length_by (table_of r.exchanges x).running response ≡ length_of w.need w.request response
     by_running None at keeps = absurd (let never : false ≡ true = sym keeps ∙ opened in cc)
     by_running (Some o) at keeps = ap (λ (z : Option Open). length_by z response) at ∙ (ap (λ n. length_of n o.request response) keeps.need ∙ ap (λ q. length_of w.need q response) keeps.request)
 
-pub closes_as : {B : Type 0} {g : Ghosts B} {lim : Limits} (r : Rows B g) (t : Tables) (x : ℕ) (w : Exchange) (response : Response) → RowsStand lim r t → t.exchange x ≡ Some w → w.is_open ≡ true → unless_over x (length_by (table_of r.exchanges x).running response) ≡ unless_ended x response w
+pub closes_as : {B : Type 0} {g : Ghosts B} {limits : Limits} (r : Rows B g) (t : Tables) (x : ℕ) (w : Exchange) (response : Response) → RowsStand limits r t → t.exchange x ≡ Some w → w.is_open ≡ true → unless_over x (length_by (table_of r.exchanges x).running response) ≡ unless_ended x response w
 closes_as r t x w response stands row opened =
     ap (λ (b : Bool). if b then [] else x ∷ []) (all_reached (promise_of (length_by (table_of r.exchanges x).running response)) 0 ∙ ap (λ (l : Length). is_reached (promise_of l) 0) (length_as r t x w response stands row opened))

@@ -23,7 +23,7 @@ use Rattle.hc_model.specs.Rows as rows
 use Rattle.hc_effects.proofs.ShowEffects.{shows_new}
 use Rattle.hc_state.specs.declared.consumer.Consumer.{Consumer}
 use Rattle.hc_state.specs.declared.rows.Rows.{Rows}
-use Rattle.hc_state.specs.Arms.{IsLeft, LeavesLine}
+use Rattle.hc_state.specs.Handlers.{IsLeft, LeavesLine}
 use Rattle.hc_state.specs.Changes.{Numbered, ChangesAt, bound_shown}
 use Rattle.hc_state.specs.Kept.{IsKept, KeepsConsumer, KeepsExchange, held_for}
 use Rattle.hc_state.specs.Lines.{KeepsKey}
@@ -33,21 +33,21 @@ use Rattle.hc_state.specs.Stored.{KeepsEntries}
 use Rattle.hc_state.proofs.Answering.{does_answered}
 use Rattle.hc_state.proofs.Fallbacks.{answer_fallback}
 use Rattle.hc_state.proofs.FallbackSteps.{length_same, live_same}
-use Rattle.hc_on_poll.proofs.BoundArm.{held_bound, entry_with, entries_bound}
+use Rattle.hc_on_poll.proofs.BoundHandler.{held_bound, entry_with, entries_bound}
 use Rattle.hc_state.proofs.Counting.{stands_counted}
 use Rattle.hc_state.proofs.CurrentTies.{now_kept, total_told}
 use Rattle.hc_state.proofs.KeySteps.{apart_unsaid}
 use Rattle.hc_state.proofs.Maps.{known_of}
 use Rattle.hc_state.proofs.OneOfEach.{stands_then}
-use Rattle.hc_on_poll.proofs.OpenArm.{unread_yet}
-use Rattle.hc_on_poll.proofs.PassesArm.{current_as}
-use Rattle.hc_on_poll.proofs.PastArm.{idle_reads, idle_lives, keys_past}
-use Rattle.hc_state.proofs.QueueArm.{becomes_by}
+use Rattle.hc_on_poll.proofs.OpenHandler.{unread_yet}
+use Rattle.hc_on_poll.proofs.PassesHandler.{current_as}
+use Rattle.hc_on_poll.proofs.PastHandler.{idle_reads, idle_lives, keys_past}
+use Rattle.hc_state.proofs.QueueHandler.{becomes_by}
 use Rattle.hc_state.proofs.Ties.{exchange_same, key_same}
 use Rattle.std.proofs.Common.{inl, inr}
 use Rattle.hc_text.proofs.Basics.{eqb-other, eqb-same, same_or, some_inj as some_is}
 
-module _ {B : Type 0} {g : Ghosts B} {lim : Limits} (r mid : Rows B g) (a : Entries B g) (m : Numbered Consumer) (t : Tables) (law : Lawful t) (c q lo : ℕ) (hi : Option ℕ) (k : Consumer) (v : rows.Consumer) (stands : RowsStand lim r t) (there : get nat_eq r.consumers c ≡ Some k) (row : t.consumer c ≡ Some v) (idle : is_idle_at k.place ≡ true)
+module _ {B : Type 0} {g : Ghosts B} {limits : Limits} (r mid : Rows B g) (a : Entries B g) (m : Numbered Consumer) (t : Tables) (law : Lawful t) (c q lo : ℕ) (hi : Option ℕ) (k : Consumer) (v : rows.Consumer) (stands : RowsStand limits r t) (there : get nat_eq r.consumers c ≡ Some k) (row : t.consumer c ≡ Some v) (idle : is_idle_at k.place ≡ true)
     (now_is : HasCurrent r.keys q k) (ends : hi ≡ option_or hi (total_in (t.representation q))) (leaves : LeavesLine (record r { entries = a }) mid c) (binds : shelf.Becomes (option_map (with_user c)) (moved_first q) q (shelf_of r.entries) (shelf_of a)) (changes : ChangesAt mid.consumers m c (bound_shown q lo hi)) where
   abbrev u : Rows B g
   u = record mid { consumers = m }
@@ -114,10 +114,10 @@ module _ {B : Type 0} {g : Ghosts B} {lim : Limits} (r mid : Rows B g) (a : Entr
   unfolding kind_of
   kinds n b at = refl
 
-  shelf_limits : (shelf_of mid.entries).limits ≡ lim
+  shelf_limits : (shelf_of mid.entries).limits ≡ limits
   shelf_limits = ap (λ (e : Entries B g). (shelf_of e).limits) leaves.entries ∙ (binds.limits ∙ stands.limits)
 
-  pub stands_bound : RowsStand lim u s
+  pub stands_bound : RowsStand limits u s
   stands_bound =
       let now = now_kept r t stands v.request.key q at_q in
       let reads_none = idle_reads v.place v_idle in
@@ -139,10 +139,10 @@ module _ {B : Type 0} {g : Ghosts B} {lim : Limits} (r mid : Rows B g) (a : Entr
           let now = now_kept r t stands v.request.key q at_q in
           held_bound t s law c q lo hi by.Plan v w now.p row here others (idle_reads v.place v_idle) refl (λ n. refl) refl refl now.row now.stays kinds y e
 
-  pub bind_answered : (faults now want : ℕ) (why : Why) (head : Response) (before out : List Act) → move_of t now want c v ≡ Shows q why head lo hi → out ≡ before ++ (act.Shown c q why head.status head.fields lo hi ∷ []) → Answered lim faults u t before out now (event.Poll c want)
+  pub bind_answered : (faults now want : ℕ) (why : Why) (head : Response) (before out : List Act) → move_of t now want c v ≡ Shows q why head lo hi → out ≡ before ++ (act.Shown c q why head.status head.fields lo hi ∷ []) → Answered limits faults u t before out now (event.Poll c want)
   bind_answered faults now want why head before out is told =
-      does_answered lim faults u t (with_event now (event.Poll c want) s) before out (acts_of c (Shows q why head lo hi)) now (event.Poll c want)
-      (shows_new lim t law now c want v row q why head lo hi is (idle_reads v.place v_idle)) refl refl told (stands_counted u s now (event.Poll c want) refl stands_bound)
+      does_answered limits faults u t (with_event now (event.Poll c want) s) before out (acts_of c (Shows q why head lo hi)) now (event.Poll c want)
+      (shows_new limits t law now c want v row q why head lo hi is (idle_reads v.place v_idle)) refl refl told (stands_counted u s now (event.Poll c want) refl stands_bound)
 
 -- WHAT IS TOLD OF THE PART
 
@@ -160,7 +160,7 @@ part_ends row head None hi to same = by_known hi (to ∙ same)
 part_ends row head (Some span) hi to same = rw to refl
 
 -- the length that is stored of what is current is the one that the tables have
-pub current_total : {B : Type 0} {g : Ghosts B} {lim : Limits} (r : Rows B g) (t : Tables) (key : List ℕ) (q : ℕ) (head : Head) → RowsStand lim r t → current t key ≡ Some q → shelf.head_at (shelf_of r.entries) q ≡ Some head → head.total ≡ total_in (t.representation q)
+pub current_total : {B : Type 0} {g : Ghosts B} {limits : Limits} (r : Rows B g) (t : Tables) (key : List ℕ) (q : ℕ) (head : Head) → RowsStand limits r t → current t key ≡ Some q → shelf.head_at (shelf_of r.entries) q ≡ Some head → head.total ≡ total_in (t.representation q)
 current_total r t key q head stands at is =
     let now = now_kept r t stands key q at in
     let same = some_is now.e.head head (sym (ap (option_map (λ (e : Kept). e.head)) now.kept) ∙ is) in

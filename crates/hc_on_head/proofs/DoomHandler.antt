@@ -1,4 +1,4 @@
--- A key is doomed: what is kept stands for the tables in which whoever waits has started over, what that waited for is over, and what
+-- A key is doomed: what is kept represents the tables in which whoever waits has started over, what that waited for is over, and what
 -- was current is let go.
 use Rattle.std.proofs.Common.{◌≡◌, inl, inr, ℕ, List, ◌++◌, Bool, true, false, Option, Some, None, refl, ap, sym, ◌∙◌, subst}
 use Rattle.std.specs.Prelude.{IfSome, nat_eq, bytes_eq, map, option_map, unwrap_or, ◌&&◌, ◌||◌, if◌then◌else◌}
@@ -265,7 +265,7 @@ module _ (t : Tables) (law : Lawful t) (now : ℕ) (key xs : List ℕ) (bare : (
 
 -- ALL OF IT
 
-module _ {B : Type 0} {g : Ghosts B} {lim : Limits} (r u : Rows B g) (t : Tables) (law : Lawful t) (stands : RowsStand lim r t) (now : ℕ) (key : List ℕ) (refused : Option ℕ) (before out : List Act) (unheard : (x : ℕ) → refused ≡ Some x → IsUnheard (table_of r.exchanges) key x)
+module _ {B : Type 0} {g : Ghosts B} {limits : Limits} (r u : Rows B g) (t : Tables) (law : Lawful t) (stands : RowsStand limits r t) (now : ℕ) (key : List ℕ) (refused : Option ℕ) (before out : List Act) (unheard : (x : ℕ) → refused ≡ Some x → IsUnheard (table_of r.exchanges) key x)
     (closes : Closes r u.exchanges key refused before out) (consumers : ChangesAmong r.consumers u.consumers (λ c. is_in c (line_of r.keys key)) (once_over now)) (lines : keys.Becomes (on_line all_back) key r.keys u.keys)
     (entries : KeepsEntries (woken now key t) (shelf_of u.entries)) (bounded : (shelf_of u.entries).limits ≡ (shelf_of r.entries).limits) (last : u.last_start ≡ r.last_start) where
   abbrev xs : List ℕ
@@ -283,7 +283,7 @@ module _ {B : Type 0} {g : Ghosts B} {lim : Limits} (r u : Rows B g) (t : Tables
   known_is : (x : ℕ) → table_of u.exchanges x ≡ (if is_among x xs then known.without_exchange (table_of r.exchanges x) else table_of r.exchanges x)
   known_is x = subst (λ zs. table_of u.exchanges x ≡ (if is_among x zs then known.without_exchange (table_of r.exchanges x) else table_of r.exchanges x)) are_all (closes.known x)
 
-  stands_woken : RowsStand lim u (s t law now key xs)
+  stands_woken : RowsStand limits u (s t law now key xs)
   stands_woken = record {
     limits = bounded ∙ stands.limits;
     last_start = last ∙ stands.last_start;
@@ -296,12 +296,12 @@ module _ {B : Type 0} {g : Ghosts B} {lim : Limits} (r u : Rows B g) (t : Tables
   }
 
   -- once what was current is let go
-  pub doomed : (o : Option ℕ) (w : Rows B g) → o ≡ (kept_of r.keys key).current → ((z : Tables) → MayLetGo z → RowsStand lim u z → RowsStand lim w (let_some_go now o z)) → IsDoomed lim w t before out now key refused
+  pub doomed : (o : Option ℕ) (w : Rows B g) → o ≡ (kept_of r.keys key).current → ((z : Tables) → MayLetGo z → RowsStand limits u z → RowsStand limits w (let_some_go now o z)) → IsDoomed limits w t before out now key refused
   doomed o w is goes = record {
     acts = acts;
     rows =
-        subst (λ z. RowsStand lim w (let_some_go now z (all_closed xs (woken now key t)))) (is ∙ (stands.keys key).current)
-        (subst (λ z. RowsStand lim w (let_some_go now o z)) (sym (all_closed_is xs (woken now key t)))
+        subst (λ z. RowsStand limits w (let_some_go now z (all_closed xs (woken now key t)))) (is ∙ (stands.keys key).current)
+        (subst (λ z. RowsStand limits w (let_some_go now o z)) (sym (all_closed_is xs (woken now key t)))
         (goes (s t law now key xs) (may_then t law now key xs bare) stands_woken));
   }
 
@@ -312,7 +312,7 @@ if_some None P h a is = none_some a is
 if_some (Some b) P h a is = subst P (some_is b a is) h
 
 -- once what was awaited is closed
-pub keeps_line : {B : Type 0} {g : Ghosts B} {lim : Limits} (r mid : Rows B g) (t : Tables) (key : List ℕ) → RowsStand lim r t → mid.consumers ≡ r.consumers → KeepsRest r mid → KeepsLine mid t key
+pub keeps_line : {B : Type 0} {g : Ghosts B} {limits : Limits} (r mid : Rows B g) (t : Tables) (key : List ℕ) → RowsStand limits r t → mid.consumers ≡ r.consumers → KeepsRest r mid → KeepsLine mid t key
 keeps_line r mid t key stands same rest = record {
   consumers = λ c. rw same (stands.consumers c);
   line = (let keys_same = rest.keys in rw keys_same (stands.keys key));
@@ -324,11 +324,11 @@ module _ {B : Type 0} {g : Ghosts B} (r mid u : Rows B g) (now : ℕ) (key : Lis
     (consumers : ChangesAmong mid.consumers u.consumers (λ c. is_in c (line_of mid.keys key)) (once_over now)) (lines : keys.Becomes (on_line all_back) key mid.keys u.keys)
     (entries : (t : Tables) → Lawful t → KeepsLine mid t key → KeepsEntries (woken now key t) (shelf_of u.entries)) (bounded : (shelf_of u.entries).limits ≡ (shelf_of mid.entries).limits)
     (last : u.last_start ≡ mid.last_start) (exchanges : u.exchanges ≡ mid.exchanges) where
-  pub dooms : (o : Option ℕ) (w : Rows B g) → o ≡ (kept_of r.keys key).current → ((lim : Limits) (z : Tables) → MayLetGo z → RowsStand lim u z → RowsStand lim w (let_some_go now o z)) → (lim : Limits) (t : Tables) → Lawful t → RowsStand lim r t → IsDoomed lim w t before out now key refused
-  dooms o w is goes lim t law stands =
+  pub dooms : (o : Option ℕ) (w : Rows B g) → o ≡ (kept_of r.keys key).current → ((limits : Limits) (z : Tables) → MayLetGo z → RowsStand limits u z → RowsStand limits w (let_some_go now o z)) → (limits : Limits) (t : Tables) → Lawful t → RowsStand limits r t → IsDoomed limits w t before out now key refused
+  dooms o w is goes limits t law stands =
       doomed r u t law stands now key refused before out (if_some refused (IsUnheard (table_of r.exchanges) key) unheard)
       (subst (λ z. Closes r z key refused before out) (sym exchanges) closes)
       (subst (λ (z : KeyTable). ChangesAmong r.consumers u.consumers (λ c. is_in c (line_of z key)) (once_over now)) rest.keys (subst (λ z. ChangesAmong z u.consumers (λ c. is_in c (line_of mid.keys key)) (once_over now)) same_consumers consumers))
       (subst (λ (z : KeyTable). keys.Becomes (on_line all_back) key z u.keys) rest.keys lines)
       (entries t law (keeps_line r mid t key stands same_consumers rest))
-      (bounded ∙ ap (λ z. (shelf_of z).limits) rest.entries) (last ∙ rest.last_start) o w is (goes lim)
+      (bounded ∙ ap (λ z. (shelf_of z).limits) rest.entries) (last ∙ rest.last_start) o w is (goes limits)

@@ -1,4 +1,4 @@
--- What the arms of a step look at, and what they do.
+-- What the handlers of a step look at, and what they do.
 use Rattle.std.specs.Prelude.{◌≡◌, ℕ, ◌+◌, ◌-◌, List, [], ◌∷◌, length, nat_lt, nat_eq, Bool, true, false, Option, Some, None, is_some, unwrap_or, IsSomeAnd, if◌then◌else◌, ◌==◌, ◌&&◌, not}
 use Rattle.std.specs.HashMap.{get}
 use Rattle.hc_store.specs.declared.backend.Backend.{Ghosts}
@@ -102,7 +102,7 @@ past_view known x offset k = record {
 abbrev pub most : Option ℕ → ℕ → ℕ → ℕ
 most hi offset want = cut_at hi (offset + want) - offset
 
--- THE ARMS OF A POLL
+-- THE HANDLERS OF A POLL
 
 abbrev pub given_acts : ℕ → ℕ → ℕ → List ℕ → List Act
 given_acts c x at bytes = act.Given c x at bytes ∷ []

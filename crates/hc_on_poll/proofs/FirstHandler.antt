@@ -1,4 +1,4 @@
--- A consumer that reads nothing is bound to what is current as the only one, and opens an exchange for a first hole: what is kept stands for the tables then.
+-- A consumer that reads nothing is bound to what is current as the only one, and opens an exchange for a first hole: what is kept represents the tables then.
 use Rattle.std.proofs.Common.{◌≡◌, ◌≢◌, inl, inr, ℕ, ◌+◌, List, [], ◌++◌, Bool, true, false, Option, Some, None, refl, ap, sym, ◌∙◌, subst, arith}
 use Rattle.std.specs.Prelude.{bytes_eq, nat_eq, is_none, not, option_map, ◌&&◌}
 use Rattle.std.specs.HashMap.{get}
@@ -43,19 +43,19 @@ use Rattle.hc_state.specs.Stands.{Answered, RowsStand}
 use Rattle.hc_state.proofs.Answering.{does_answered}
 use Rattle.hc_state.proofs.Fallbacks.{answer_fallback}
 use Rattle.hc_state.proofs.FallbackSteps.{length_same, live_same}
-use Rattle.hc_on_poll.proofs.BoundArm.{held_bound, entry_first, entries_bound}
+use Rattle.hc_on_poll.proofs.BoundHandler.{held_bound, entry_first, entries_bound}
 use Rattle.hc_on_poll.proofs.CandidateTies.{range_of_class}
 use Rattle.hc_state.proofs.ConsumerSteps.{keys_with}
 use Rattle.hc_state.proofs.Counting.{stands_counted}
 use Rattle.hc_state.proofs.CurrentTies.{IsNow, now_kept}
 use Rattle.hc_state.proofs.KeySteps.{not_lined, says_elsewhere, away_key}
 use Rattle.hc_state.proofs.OneOfEach.{stands_then}
-use Rattle.hc_on_poll.proofs.OpenArm.{unread_yet}
+use Rattle.hc_on_poll.proofs.OpenHandler.{unread_yet}
 use Rattle.hc_on_poll.proofs.OpenKeys.{key_with_opening}
 use Rattle.hc_on_poll.proofs.OpenKinds.{kinds_opened}
-use Rattle.hc_on_poll.proofs.PassesArm.{current_as}
-use Rattle.hc_on_poll.proofs.PastArm.{idle_reads, idle_lives}
-use Rattle.hc_state.proofs.QueueArm.{becomes_by}
+use Rattle.hc_on_poll.proofs.PassesHandler.{current_as}
+use Rattle.hc_on_poll.proofs.PastHandler.{idle_reads, idle_lives}
+use Rattle.hc_state.proofs.QueueHandler.{becomes_by}
 use Rattle.hc_state.proofs.Ties.{key_same, overs_opened}
 
 -- nobody came to it alone
@@ -77,8 +77,8 @@ idle_unbound (place.Direct x) on = false_true on
 idle_unbound (place.Down why) on = false_true on
 idle_unbound place.Over on = false_true on
 
-module _ {B : Type 0} {g : Ghosts B} {lim : Limits} (r : Rows B g) (e : Exchanges) (a : Entries B g) (b : KeyTable) (m : Numbered Consumer) (t : Tables) (law : Lawful t) (now c x q : ℕ) (span : Span) (n : Need) (request : Request) (k : Consumer) (v : rows.Consumer)
-    (stands : RowsStand lim r t) (there : get nat_eq r.consumers c ≡ Some k) (row : t.consumer c ≡ Some v) (idle : is_idle_at k.place ≡ true) (now_is : HasCurrent r.keys q k) (admits : admits_first c ((shelf_of r.entries).kept q) ≡ true) (by_hole : route_of n ≡ route.Hole) (x_is : x ≡ next_of r.exchanges)
+module _ {B : Type 0} {g : Ghosts B} {limits : Limits} (r : Rows B g) (e : Exchanges) (a : Entries B g) (b : KeyTable) (m : Numbered Consumer) (t : Tables) (law : Lawful t) (now c x q : ℕ) (span : Span) (n : Need) (request : Request) (k : Consumer) (v : rows.Consumer)
+    (stands : RowsStand limits r t) (there : get nat_eq r.consumers c ≡ Some k) (row : t.consumer c ≡ Some v) (idle : is_idle_at k.place ≡ true) (now_is : HasCurrent r.keys q k) (admits : admits_first c ((shelf_of r.entries).kept q) ≡ true) (by_hole : route_of n ≡ route.Hole) (x_is : x ≡ next_of r.exchanges)
     (next : next_of e ≡ next_of r.exchanges + 1) (launches : Changes (with_new_exchange c (role.Hole q) n request now) (next_of r.exchanges) (table_of r.exchanges) (table_of e)) (binds : shelf.Becomes (option_map (with_first c)) (moved_first q) q (shelf_of r.entries) (shelf_of a))
     (goes : keys.Becomes (on_line (gone_away c)) k.request.key r.keys b) (changes : ChangesAt r.consumers m c (bound_first q span x)) where
   abbrev u : Rows B g
@@ -223,7 +223,7 @@ module _ {B : Type 0} {g : Ghosts B} {lim : Limits} (r : Rows B g) (e : Exchange
   held_else : (y : ℕ) (f : Exchange) → held_for s y (Some f) ≡ held_for t y (Some f)
   held_else = held_bound t s law c q span.lo (Some span.hi) (by.FirstHole x) v w at.p row here others (idle_reads v.place v_idle) refl (λ d. refl) refl refl at.row at.stays kinds
 
-  pub stands_filling : RowsStand lim u s
+  pub stands_filling : RowsStand limits u s
   stands_filling =
       let reads_none = idle_reads v.place v_idle in
       stands_then r u t s c x (Some (bound_first q span x k)) stands stands.last_start
@@ -237,11 +237,11 @@ module _ {B : Type 0} {g : Ghosts B} {lim : Limits} (r : Rows B g) (e : Exchange
       (entry_first t s law c q span.lo (Some span.hi) (by.FirstHole x) v w at.p row here others reads_none refl (λ d. refl) refl refl at.row at.stays kinds at.e at.is (overs_opened t.exchange s.exchange x free exchanges) x refl (first_none c ((shelf_of r.entries).kept q) at.e at.kept admits)) binds)
 
   pub filling_answered : (faults want : ℕ) (before out : List Act) (from to : ℕ) → n ≡ need.Hole from to → (total : Option ℕ) → total ≡ total_in (t.representation q) → wanted_of k.class.range total ≡ wanted.Interval span
-      → move_of t now want c v ≡ Opens x n request → out ≡ before ++ acts_of c (Opens x n request) → Answered lim faults u t before out now (event.Poll c want)
+      → move_of t now want c v ≡ Opens x n request → out ≡ before ++ acts_of c (Opens x n request) → Answered limits faults u t before out now (event.Poll c want)
   filling_answered faults want before out from to hole total same_total wants is told =
       let same : Opens x n request ≡ Opens x (need.Hole from to) request = ap (λ (y : Need). Opens x y request) hole in
       let range : k.class.range ≡ range_of v.request = ap (λ (y : RequestClass). y.range) kept.class_is ∙ range_of_class v.request in
       let wanted_is : wanted_of (range_of v.request) at.p.head.total ≡ wanted.Interval span =
       ap (λ (y : Option Asked). wanted_of y at.p.head.total) (sym range) ∙ (ap (wanted_of k.class.range) (sym (same_total ∙ ap total_in at.row)) ∙ wants) in
-      does_answered lim faults u t (with_event now (event.Poll c want) s) before out (acts_of c (Opens x n request)) now (event.Poll c want)
-      (rw hole (fills_first lim t law now c want v row x from to request (is ∙ same) (idle_unbound v.place v_idle) q at.p span at_q at.row wanted_is)) refl refl told (stands_counted u s now (event.Poll c want) refl stands_filling)
+      does_answered limits faults u t (with_event now (event.Poll c want) s) before out (acts_of c (Opens x n request)) now (event.Poll c want)
+      (rw hole (fills_first limits t law now c want v row x from to request (is ∙ same) (idle_unbound v.place v_idle) q at.p span at_q at.row wanted_is)) refl refl told (stands_counted u s now (event.Poll c want) refl stands_filling)

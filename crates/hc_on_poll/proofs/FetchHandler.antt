@@ -38,11 +38,11 @@ use Rattle.hc_state.proofs.KeySteps.{says_elsewhere, lined, holds_key}
 use Rattle.hc_state.proofs.Maps.{becomes_then}
 use Rattle.hc_on_leave.proofs.MayGo.{may_opened, may_with}
 use Rattle.hc_on_poll.specs.Keeps.{HasBegun}
-use Rattle.hc_on_poll.proofs.OpenArm as waiting
+use Rattle.hc_on_poll.proofs.OpenHandler as waiting
 use Rattle.hc_on_poll.proofs.OpenKeys.{key_opened}
 use Rattle.hc_on_poll.proofs.OpenStands.{stands_opened}
-use Rattle.hc_on_poll.proofs.PastArm.{idle_reads, idle_lives, queues_as}
-use Rattle.hc_on_poll.proofs.PlanArms.{or_first}
+use Rattle.hc_on_poll.proofs.PastHandler.{idle_reads, idle_lives, queues_as}
+use Rattle.hc_on_poll.proofs.PlanHandlers.{or_first}
 use Rattle.hc_state.proofs.Ties.{key_same, kept_row}
 use Rattle.hc_state.proofs.TurnTies.{turn_next}
 
@@ -61,8 +61,8 @@ idle_turn key v idle = then_false (is_in_line key (Some v)) (holds_place v.place
     by_place (place.Down why) on = refl
     by_place place.Over on = refl
 
-module _ {B : Type 0} {g : Ghosts B} {lim : Limits} (r mid : Rows B g) (t : Tables) (c : ℕ) (k : Consumer) (v : rows.Consumer) (stands : RowsStand lim r t) (row : t.consumer c ≡ Some v) (kept : IsKept t k v) (idle : is_idle_at k.place ≡ true)
-    (lined_up_too : RowsStand lim mid (with_consumer c (Some (in_line v)) t)) (next : IsNext r.keys c k) where
+module _ {B : Type 0} {g : Ghosts B} {limits : Limits} (r mid : Rows B g) (t : Tables) (c : ℕ) (k : Consumer) (v : rows.Consumer) (stands : RowsStand limits r t) (row : t.consumer c ≡ Some v) (kept : IsKept t k v) (idle : is_idle_at k.place ≡ true)
+    (lined_up_too : RowsStand limits mid (with_consumer c (Some (in_line v)) t)) (next : IsNext r.keys c k) where
   abbrev its : List ℕ
   its = v.request.key
 
@@ -144,7 +144,7 @@ module _ {B : Type 0} {g : Ghosts B} {lim : Limits} (r mid : Rows B g) (t : Tabl
         ]
 
 -- it may hold the turn
-module _ {B : Type 0} {g : Ghosts B} {lim : Limits} (r mid : Rows B g) (t : Tables) (law : Lawful t) (c : ℕ) (request : Request) (k : Consumer) (stands : RowsStand lim r t) (there : get nat_eq r.consumers c ≡ Some k) (idle : is_idle_at k.place ≡ true) (next : IsNext r.keys c k) (key_is : request.key ≡ k.request.key) (lines_up : StandsInLine r mid c) where
+module _ {B : Type 0} {g : Ghosts B} {limits : Limits} (r mid : Rows B g) (t : Tables) (law : Lawful t) (c : ℕ) (request : Request) (k : Consumer) (stands : RowsStand limits r t) (there : get nat_eq r.consumers c ≡ Some k) (idle : is_idle_at k.place ≡ true) (next : IsNext r.keys c k) (key_is : request.key ≡ k.request.key) (lines_up : StandsInLine r mid c) where
   found : (v : rows.Consumer) × (t.consumer c ≡ Some v) × IsKept t k v
   found = kept_row t k (t.consumer c) (subst (λ o. KeepsConsumer t o (t.consumer c)) there (stands.consumers c))
 
@@ -154,7 +154,7 @@ module _ {B : Type 0} {g : Ghosts B} {lim : Limits} (r mid : Rows B g) (t : Tabl
   its_key : v.request.key ≡ request.key
   its_key = sym (key_is ∙ ap (λ (z : Request). z.key) found.2.request)
 
-  queued : RowsStand lim mid (with_consumer c (Some (in_line v)) t)
+  queued : RowsStand limits mid (with_consumer c (Some (in_line v)) t)
   queued = lines_up _ t v law stands found.1
 
   pub holds_inside : is_in c (line_of mid.keys request.key) ≡ true
@@ -165,7 +165,7 @@ module _ {B : Type 0} {g : Ghosts B} {lim : Limits} (r mid : Rows B g) (t : Tabl
 
 -- ALL OF IT
 
-module _ {B : Type 0} {g : Ghosts B} {lim : Limits} (r mid : Rows B g) (e : Exchanges) (b : KeyTable) (m : Numbered Consumer) (t : Tables) (law : Lawful t) (now c x : ℕ) (n : Need) (request : Request) (aim : Option ℕ) (k : Consumer) (v : rows.Consumer) (stands : RowsStand lim r t) (there : get nat_eq r.consumers c ≡ Some k) (row : t.consumer c ≡ Some v) (idle : is_idle_at k.place ≡ true)
+module _ {B : Type 0} {g : Ghosts B} {limits : Limits} (r mid : Rows B g) (e : Exchanges) (b : KeyTable) (m : Numbered Consumer) (t : Tables) (law : Lawful t) (now c x : ℕ) (n : Need) (request : Request) (aim : Option ℕ) (k : Consumer) (v : rows.Consumer) (stands : RowsStand limits r t) (there : get nat_eq r.consumers c ≡ Some k) (row : t.consumer c ≡ Some v) (idle : is_idle_at k.place ≡ true)
     (next : IsNext r.keys c k) (turns : route_of n ≡ route.Turn) (key_is : request.key ≡ k.request.key) (x_is : x ≡ next_of r.exchanges) (aim_is : aim ≡ (kept_of r.keys request.key).current)
     (lines_up : StandsInLine r mid c) (first : ChangesAt r.consumers mid.consumers c lined_up) (last : mid.last_start ≡ r.last_start) (same_entries : mid.entries ≡ r.entries) (same_exchanges : mid.exchanges ≡ r.exchanges)
     (next_is : next_of e ≡ next_of mid.exchanges + 1) (launches : Changes (with_new_exchange c (role.Turn aim) n request now) (next_of mid.exchanges) (table_of mid.exchanges) (table_of e))
@@ -196,7 +196,7 @@ module _ {B : Type 0} {g : Ghosts B} {lim : Limits} (r mid : Rows B g) (e : Exch
       subst (λ (y : ℕ). Changes (with_new_exchange c (role.Turn aim) n request now) y (table_of r.exchanges) (table_of e)) (sym x_is)
       (subst (λ (a : Exchanges). Changes (with_new_exchange c (role.Turn aim) n request now) (next_of a) (table_of a) (table_of e)) same_exchanges launches)
 
-  pub stands_turned : RowsStand lim u (tables_in_turn now c x n request v t)
+  pub stands_turned : RowsStand limits u (tables_in_turn now c x n request v t)
   stands_turned =
       stands_opened r u t law now c x n request request (current t v.request.key) (role.Turn aim) k v (place.Turn x) stands there row (idle_reads v.place idle_it) (idle_lives v.place idle_it) waiting.turned is_next
       last same_entries (next_is ∙ ap (λ (a : Exchanges). next_of a + 1) same_exchanges) launched_then (becomes_then r.consumers mid.consumers m c k lined_up (with_turn x) there first second) refl (rw turns (ap role.Turn aimed))
@@ -224,21 +224,21 @@ module _ {B : Type 0} {g : Ghosts B} (limits : Limits) (faults : ℕ) (u : Rows 
       (bypasses limits t law now c want v row x request is) refl refl told (stands_counted u s now (event.Poll c want) refl stands)
 
 -- what is asked in its turn is answered
-pub asked_answered : {B : Type 0} {g : Ghosts B} {lim : Limits} (r u : Rows B g) (t : Tables) (facts : Facts lim t) (now c want x : ℕ) (v : rows.Consumer) → RowsStand lim r t → t.consumer c ≡ Some v → (n : Need) → route_of n ≡ route.Turn → n ≢ need.Bypass → (request asked : Request) → request ≡ asked
-    → move_of t now want c v ≡ Opens (next_of r.exchanges) n asked → HasBegun r u now c n request x → (before out : List Act) → out ≡ before ++ acts_of c (Opens x n request) → Answered lim (shelf_of r.entries).faults u t before out now (event.Poll c want)
-asked_answered {lim = lim} r u t facts now c want x v stands row n turns uses request asked same moves begun before out told =
+pub asked_answered : {B : Type 0} {g : Ghosts B} {limits : Limits} (r u : Rows B g) (t : Tables) (facts : Facts limits t) (now c want x : ℕ) (v : rows.Consumer) → RowsStand limits r t → t.consumer c ≡ Some v → (n : Need) → route_of n ≡ route.Turn → n ≢ need.Bypass → (request asked : Request) → request ≡ asked
+    → move_of t now want c v ≡ Opens (next_of r.exchanges) n asked → HasBegun r u now c n request x → (before out : List Act) → out ≡ before ++ acts_of c (Opens x n request) → Answered limits (shelf_of r.entries).faults u t before out now (event.Poll c want)
+asked_answered {limits = limits} r u t facts now c want x v stands row n turns uses request asked same moves begun before out told =
     let is : move_of t now want c v ≡ Opens x n request = moves ∙ (ap (λ (y : ℕ). Opens y n asked) (sym begun.number) ∙ ap (λ (z : Request). Opens x n z) (sym same)) in
-    fetch_answered lim (shelf_of r.entries).faults u t facts.law now c want x v row request before out n turns uses is told (begun.rows _ t v facts stands row)
+    fetch_answered limits (shelf_of r.entries).faults u t facts.law now c want x v row request before out n turns uses is told (begun.rows _ t v facts stands row)
 
 -- a consumer bypasses what is stored with its own request, and what was current is let go
-pub bypassed : {B : Type 0} {g : Ghosts B} {lim : Limits} (r mid u : Rows B g) (t : Tables) (facts : Facts lim t) (now c want x : ℕ) (k : Consumer) (v : rows.Consumer) → RowsStand lim r t → get nat_eq r.consumers c ≡ Some k → t.consumer c ≡ Some v → (copied : Request) → copied ≡ k.request → (now_is : Option ℕ) → now_is ≡ (kept_of r.keys copied.key).current
-    → move_of t now want c v ≡ Opens (next_of r.exchanges) need.Bypass k.request → x ≡ next_of r.exchanges → BeginsTurn r mid now c need.Bypass copied x → ((lim : Limits) (s : Tables) → MayLetGo s → RowsStand lim mid s → RowsStand lim u (let_some_go now now_is s))
-    → (before out : List Act) → out ≡ before ++ acts_of c (Opens x need.Bypass copied) → Answered lim (shelf_of r.entries).faults u t before out now (event.Poll c want)
-bypassed {lim = lim} r mid u t facts now c want x k v stands there row copied copies now_is at moves x_is begun goes before out told =
+pub bypassed : {B : Type 0} {g : Ghosts B} {limits : Limits} (r mid u : Rows B g) (t : Tables) (facts : Facts limits t) (now c want x : ℕ) (k : Consumer) (v : rows.Consumer) → RowsStand limits r t → get nat_eq r.consumers c ≡ Some k → t.consumer c ≡ Some v → (copied : Request) → copied ≡ k.request → (now_is : Option ℕ) → now_is ≡ (kept_of r.keys copied.key).current
+    → move_of t now want c v ≡ Opens (next_of r.exchanges) need.Bypass k.request → x ≡ next_of r.exchanges → BeginsTurn r mid now c need.Bypass copied x → ((limits : Limits) (s : Tables) → MayLetGo s → RowsStand limits mid s → RowsStand limits u (let_some_go now now_is s))
+    → (before out : List Act) → out ≡ before ++ acts_of c (Opens x need.Bypass copied) → Answered limits (shelf_of r.entries).faults u t before out now (event.Poll c want)
+bypassed {limits = limits} r mid u t facts now c want x k v stands there row copied copies now_is at moves x_is begun goes before out told =
     let kept : IsKept t k v = subst (KeepsConsumer t (Some k)) row (subst (λ o. KeepsConsumer t o (t.consumer c)) there (stands.consumers c)) in
     let key_is : copied.key ≡ v.request.key = ap (λ (z : Request). z.key) copies ∙ ap (λ (z : Request). z.key) kept.request in
     let same : now_is ≡ current t v.request.key = at ∙ (ap (λ (key : List ℕ). (kept_of r.keys key).current) key_is ∙ (stands.keys v.request.key).current) in
     let is : move_of t now want c v ≡ Opens x need.Bypass copied = moves ∙ (ap (λ (y : ℕ). Opens y need.Bypass k.request) (sym x_is) ∙ ap (λ (z : Request). Opens x need.Bypass z) (sym copies)) in
-    bypass_answered lim (shelf_of r.entries).faults u t facts.law now c want x v row copied before out is told
-    (subst (λ (o : Option ℕ). RowsStand lim u (let_some_go now o (tables_in_turn now c x need.Bypass copied v t))) same
-    (goes _ (tables_in_turn now c x need.Bypass copied v t) (may_go lim 0 u t facts.law now c want x v row copied before out need.Bypass) (begun _ t v facts stands row)))
+    bypass_answered limits (shelf_of r.entries).faults u t facts.law now c want x v row copied before out is told
+    (subst (λ (o : Option ℕ). RowsStand limits u (let_some_go now o (tables_in_turn now c x need.Bypass copied v t))) same
+    (goes _ (tables_in_turn now c x need.Bypass copied v t) (may_go limits 0 u t facts.law now c want x v row copied before out need.Bypass) (begun _ t v facts stands row)))

@@ -51,7 +51,7 @@ use Rattle.hc_on_leave.proofs.HeardRows.{runs_as}
 use Rattle.hc_on_leave.proofs.PieceRoom.{may_make_room}
 use Rattle.hc_state.proofs.OneOfEach.{bound_same}
 use Rattle.hc_state.proofs.Rooms.{used_is}
-use Rattle.hc_on_leave.proofs.UnstoredArms.{may_moved, read_then}
+use Rattle.hc_on_leave.proofs.UnstoredHandlers.{may_moved, read_then}
 
 -- WHAT WAS LET GO
 

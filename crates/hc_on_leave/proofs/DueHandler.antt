@@ -1,4 +1,4 @@
--- A failure becomes due to a consumer: what is kept stands for the tables then.
+-- A failure becomes due to a consumer: what is kept represents the tables then.
 use Rattle.std.proofs.Common.{◌≡◌, ◌≢◌, inl, inr, ℕ, List, Option, Some, None, refl, ap, sym, ◌∙◌}
 use Rattle.std.specs.Prelude.{nat_eq}
 use Rattle.std.specs.Option.{option_or}
@@ -19,9 +19,9 @@ use Rattle.hc_state.specs.Stored.{is_first}
 use Rattle.hc_state.proofs.ConsumerSteps.{key_with, key_stays}
 use Rattle.hc_on_leave.proofs.OneConsumer.{stands_moved}
 use Rattle.hc_state.proofs.OneOfEach.{entries_same}
-use Rattle.hc_state.proofs.QueueArm.{becomes_by}
+use Rattle.hc_state.proofs.QueueHandler.{becomes_by}
 
-module _ {B : Type 0} {g : Ghosts B} {lim : Limits} (r u : Rows B g) (t : Tables) (c : ℕ) (v : rows.Consumer) (k : Consumer) (why : Cause) (stands : RowsStand lim r t) (row : t.consumer c ≡ Some v) (there : get nat_eq r.consumers c ≡ Some k) (is : IsKept t k v) (undue : v.due ≡ None)
+module _ {B : Type 0} {g : Ghosts B} {limits : Limits} (r u : Rows B g) (t : Tables) (c : ℕ) (v : rows.Consumer) (k : Consumer) (why : Cause) (stands : RowsStand limits r t) (row : t.consumer c ≡ Some v) (there : get nat_eq r.consumers c ≡ Some k) (is : IsKept t k v) (undue : v.due ≡ None)
     (last : u.last_start ≡ r.last_start) (exchanges : u.exchanges ≡ r.exchanges) (same_keys : u.keys ≡ r.keys) (same_entries : u.entries ≡ r.entries) (changes : ChangesAt r.consumers u.consumers c (with_due why)) where
   abbrev z : rows.Consumer
   z = record v { due = Some why }
@@ -67,7 +67,7 @@ module _ {B : Type 0} {g : Ghosts B} {lim : Limits} (r u : Rows B g) (t : Tables
   keys_then key = rw same_keys (key_with t c (Some z) key (kept_of r.keys key) (kept_of r.keys key) (stands.keys key)
       (key_stays t c (Some z) key (kept_of r.keys key) (stands.keys key) (record { in_line = rw row refl; passed = rw row refl; away = rw row refl; turn = rw row refl })))
 
-  pub stands_due : RowsStand lim u s
+  pub stands_due : RowsStand limits u s
   stands_due =
       stands_moved r u t c v z (with_due why k) stands row is.is_there is.is_there last exchanges (ap (λ e. (shelf_of e).limits) same_entries)
       (becomes_by r.consumers u.consumers c k (with_due why) there changes) due_then keys_then

@@ -1,4 +1,4 @@
--- A consumer that read nothing becomes bound to what is current: what is held, and the representations, stand for the tables then.
+-- A consumer that read nothing becomes bound to what is current: what is held, and the representations, represent the tables then.
 use Rattle.std.proofs.Common.{◌≡◌, ◌≢◌, inl, inr, ℕ, List, [], ◌∷◌, Bool, true, false, Option, Some, None, refl, ap, sym, ◌∙◌, subst}
 use Rattle.std.specs.Prelude.{filter, not, option_map, ◌==◌, ◌&&◌}
 use Rattle.hc_text.proofs.Basics.{eqb-other, eqb-same, false_true, same_or, same_some as same_row, and_off as then_false}

@@ -30,7 +30,7 @@ use Rattle.hc_stored.specs.declared.view.EntryView.{EntryView}
 use Rattle.hc_exch.specs.declared.row.Open.{Open}
 use Rattle.hc_text.proofs.Basics.{any_none, eq_tells, eqb-other, eqb-same, false_true, same_or, some_inj as some_is, and_off as then_false}
 use Rattle.hc_state.specs.Stored.{IsEntry, TellsLength, told, untold, KeepsEntry, KeepsEntries}
-use Rattle.hc_state.proofs.CloseArm.{quiet, unawaited_go}
+use Rattle.hc_state.proofs.CloseHandler.{quiet, unawaited_go}
 use Rattle.hc_state.proofs.Closing.{entry_closed, stands_closed, stands_unstored}
 use Rattle.hc_state.proofs.OneOfEach.{first_row}
 use Rattle.hc_state.proofs.Stopping.{Stays}

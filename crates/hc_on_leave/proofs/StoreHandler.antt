@@ -34,7 +34,7 @@ use Rattle.hc_state.specs.Room.{GivesWay}
 use Rattle.hc_state.specs.Stands.{Answered, Answers, RowsStand, Stands, open_at}
 use Rattle.hc_state.specs.Stops.{brought_by, IsViewOf}
 use Rattle.hc_state.specs.Stored.{IsEntry, KeepsEntry}
-use Rattle.hc_on_leave.proofs.PieceArm.{Brought, brought_of, Runs, runs_of, brings_it, not_too_long}
+use Rattle.hc_on_leave.proofs.PieceHandler.{Brought, brought_of, Runs, runs_of, brings_it, not_too_long}
 use Rattle.hc_on_leave.proofs.PieceRoom.{may_make_room, room_same, gives_same, spared, room_there}
 use Rattle.hc_on_leave.proofs.Gates.{denies_as}
 use Rattle.hc_state.proofs.Maps.{merely_true, merely_false}
@@ -51,7 +51,7 @@ use Rattle.hc_event.specs.declared.act.LostKind.TheVariants as kinds
 use Rattle.hc_effects.proofs.WeightsLeft.{fits_after}
 use Rattle.hc_effects.proofs.Tests.{none_some}
 use Rattle.hc_state.specs.Refused.{Refuses}
-use Rattle.hc_on_leave.proofs.FoundArm.{bound_without, make_gone}
+use Rattle.hc_on_leave.proofs.FoundHandler.{bound_without, make_gone}
 use Rattle.hc_state.proofs.ReaderSteps.{stands_read}
 use Rattle.hc_on_leave.proofs.RefusedPiece.{Refused, too_large, not_large}
 use Rattle.hc_on_leave.proofs.RefusedPiece as refusals_of
@@ -69,11 +69,11 @@ pub record Stores (t : Tables) (x q n : ℕ) : Type 0 where
   pub fresh : v.is_lost ≡ false
 
 -- what the code looked at says that it isn't denied
-pub undenied_piece : {B : Type 0} {g : Ghosts B} {lim : Limits} (r : Rows B g) (t : Tables) (x : ℕ) (bytes : List ℕ) → RowsStand lim r t → piece_refusal (open_at r x) (length bytes) ≡ None → denial t (event.Piece x bytes) ≡ None
+pub undenied_piece : {B : Type 0} {g : Ghosts B} {limits : Limits} (r : Rows B g) (t : Tables) (x : ℕ) (bytes : List ℕ) → RowsStand limits r t → piece_refusal (open_at r x) (length bytes) ≡ None → denial t (event.Piece x bytes) ≡ None
 unfolding refusals.refusal_of
 undenied_piece r t x bytes stands none = sym (denies_as r t (event.Piece x bytes) stands) ∙ none
 
-pub stores_of : {B : Type 0} {g : Ghosts B} {lim : Limits} (r : Rows B g) (t : Tables) (facts : Facts lim t) (x q : ℕ) (bytes : List ℕ) → RowsStand lim r t → denial t (event.Piece x bytes) ≡ None → stored_by r x ≡ Some q → Stores t x q (length bytes)
+pub stores_of : {B : Type 0} {g : Ghosts B} {limits : Limits} (r : Rows B g) (t : Tables) (facts : Facts limits t) (x q : ℕ) (bytes : List ℕ) → RowsStand limits r t → denial t (event.Piece x bytes) ≡ None → stored_by r x ≡ Some q → Stores t x q (length bytes)
 stores_of r t facts x q bytes stands goes grows = by_brought (brought_by (table_of r.exchanges x).running) refl (ap (λ o. o) grows)
   where
     b : Brought t x (length bytes)
@@ -113,14 +113,14 @@ ends_then f reach at x bytes p ends past =
     rw (off, none) refl
 
 -- as many bytes are kept as are stored
-pub stored_size : {B : Type 0} {g : Ghosts B} {lim : Limits} (r : Rows B g) (t : Tables) (facts : Facts lim t) (q : ℕ) (v : Representation) (k : Kept) (m : Tables) → t.representation q ≡ Some v → IsInUse t q v → IsEntry m q k v → size k.cells ≡ v.size
+pub stored_size : {B : Type 0} {g : Ghosts B} {limits : Limits} (r : Rows B g) (t : Tables) (facts : Facts limits t) (q : ℕ) (v : Representation) (k : Kept) (m : Tables) → t.representation q ≡ Some v → IsInUse t q v → IsEntry m q k v → size k.cells ≡ v.size
 stored_size r t facts q v k m there used is = size-same k.cells v.stored is.cells ∙ sym (facts.sized q v there used)
 
 -- THE ROWS AFTER ROOM WAS MADE
 
-module _ {B : Type 0} {g : Ghosts B} {lim : Limits} (r mid put u : Rows B g) (t : Tables) (facts : Facts lim t) (stands : RowsStand lim r t) (now x q : ℕ) (bytes : List ℕ) (goes : denial t (event.Piece x bytes) ≡ None) (grows : stored_by r x ≡ Some q) (before out : List Act) (stored : ℕ)
+module _ {B : Type 0} {g : Ghosts B} {limits : Limits} (r mid put u : Rows B g) (t : Tables) (facts : Facts limits t) (stands : RowsStand limits r t) (now x q : ℕ) (bytes : List ℕ) (goes : denial t (event.Piece x bytes) ≡ None) (grows : stored_by r x ≡ Some q) (before out : List Act) (stored : ℕ)
     (had : (k : Kept) → (shelf_of r.entries).kept q ≡ Some k → stored ≡ size k.cells)
-    (gives : GivesWay lim mid t now (giving_way lim t (write.Piece stored (length bytes))) before out) (mid_last : mid.last_start ≡ r.last_start) (mid_exchanges : mid.exchanges ≡ r.exchanges) where
+    (gives : GivesWay limits mid t now (giving_way limits t (write.Piece stored (length bytes))) before out) (mid_last : mid.last_start ≡ r.last_start) (mid_exchanges : mid.exchanges ≡ r.exchanges) where
   pub it : Stores t x q (length bytes)
   it = stores_of r t facts x q bytes stands goes grows
 
@@ -149,16 +149,16 @@ module _ {B : Type 0} {g : Ghosts B} {lim : Limits} (r mid put u : Rows B g) (t 
   stored_is = had first.k (ap (shelf_of r.entries).kept (sym it.of_q) ∙ first.kept) ∙ stored_size r t facts (family x w) v first.k t it.there (λ gone. some_bound) first.is
 
   abbrev pub es : List ℕ
-  es = giving_way lim t (write.Piece v.size (length bytes))
+  es = giving_way limits t (write.Piece v.size (length bytes))
 
-  gives_es : GivesWay lim mid t now es before out
-  gives_es = subst (λ n. GivesWay lim mid t now (giving_way lim t (write.Piece n (length bytes))) before out) stored_is gives
+  gives_es : GivesWay limits mid t now es before out
+  gives_es = subst (λ n. GivesWay limits mid t now (giving_way limits t (write.Piece n (length bytes))) before out) stored_is gives
 
-  mid_stands : RowsStand lim mid (without now es t)
-  mid_stands = subst (RowsStand lim mid) (all_go_is now es t) gives_es.rows
+  mid_stands : RowsStand limits mid (without now es t)
+  mid_stands = subst (RowsStand limits mid) (all_go_is now es t) gives_es.rows
 
   kept_apart : is_in es (family x w) ≡ false
-  kept_apart = spared lim t facts.law now x bytes goes w it.row v it.there it.fresh it.taken.is_open it.taken.headed
+  kept_apart = spared limits t facts.law now x bytes goes w it.row v it.there it.fresh it.taken.is_open it.taken.headed
 
   m_row : (without now es t).representation (family x w) ≡ Some v
   m_row = (let apart = kept_apart in let there = it.there in rw apart there)
@@ -191,7 +191,7 @@ module _ {B : Type 0} {g : Ghosts B} {lim : Limits} (r mid put u : Rows B g) (t 
       ap (λ n. cells_at (shelf_of mid.entries) n p) (sym it.of_q) ∙ (ap (λ (e : Option Kept). cells_in e p) second.kept ∙ (second.is.cells p ∙ none))
 
   -- what it has of it, and may have
-  limits_are : (shelf_of mid.entries).limits ≡ lim
+  limits_are : (shelf_of mid.entries).limits ≡ limits
   limits_are = mid_stands.limits
 
   size_here : size_at (shelf_of mid.entries) q ≡ v.size
@@ -206,7 +206,7 @@ module _ {B : Type 0} {g : Ghosts B} {lim : Limits} (r mid put u : Rows B g) (t 
 
   told : IsViewOf v2 (cells_with (runs.o.base + runs.o.delivered) x bytes second.k.cells) (larger_view (length bytes) (view_of second.k))
   told = record {
-    total = tells mid u lim t facts now x bytes goes w v it.row it.taken.is_open it.taken.headed it.taken.some it.taken.fits it.there it.fresh es kept_apart second.k second.is.length;
+    total = tells mid u limits t facts now x bytes goes w v it.row it.taken.is_open it.taken.headed it.taken.some it.taken.fits it.there it.fresh es kept_apart second.k second.is.length;
     size = ap (λ n. n + length bytes) (stored_size r t facts (family x w) v second.k (without now es t) it.there (λ gone. some_bound) second.is);
     stored = λ p. ap (λ n. cells_with n x bytes second.k.cells p) at_front ∙ written_alike second.k.cells v.stored (front w) x bytes p (second.is.cells p);
     ends = λ p past. ends_then v.stored v.reach (front w) x bytes p (λ n le. none_by (v.stored n) (v.body n) ((facts.law.sound.rows (family x w) v it.there).store.some_stored n) ((facts.law.sound.rows (family x w) v it.there).store.ends n le)) past;
@@ -237,26 +237,26 @@ module _ {B : Type 0} {g : Ghosts B} {lim : Limits} (r mid put u : Rows B g) (t 
     fills = subst (λ e. shelf.Becomes (option_map (entry.kept_with_bytes (front w) x bytes puts_here.last)) same_order (family x w) (shelf_of mid.entries) (shelf_of e)) (sym u_entries)
         (subst (λ n. shelf.Becomes (option_map (entry.kept_with_bytes n x bytes puts_here.last)) same_order (family x w) (shelf_of mid.entries) (shelf_of put.entries)) at_front puts_here.fills)
 
-    had_room : has_room (room_for lim t now (event.Piece x bytes)) ≡ true
+    had_room : has_room (room_for limits t now (event.Piece x bytes)) ≡ true
     had_room =
-        ap has_room (room_same lim t facts.law now x bytes goes w it.row v it.there it.fresh)
-        ∙ room_there lim (weights_now t) v.size (length bytes) (map (weight_now t) (idle_now t)) entry_fits sum_fits
+        ap has_room (room_same limits t facts.law now x bytes goes w it.row v it.there it.fresh)
+        ∙ room_there limits (weights_now t) v.size (length bytes) (map (weight_now t) (idle_now t)) entry_fits sum_fits
       where
-        entry_fits : v.size + length bytes ≤ lim.max_entry
+        entry_fits : v.size + length bytes ≤ limits.max_entry
         entry_fits = subst (λ (l : Limits). v.size + length bytes ≤ l.max_entry) limits_are (subst (λ n. n + length bytes ≤ (shelf_of mid.entries).limits.max_entry) size_here within.0)
 
-        sum_fits : room_of lim (weights_now t) (write.Piece v.size (length bytes)) (map (weight_now t) (idle_now t)) ≡ room.Full → weights_now t + length bytes ≤ lim.max_total
+        sum_fits : room_of limits (weights_now t) (write.Piece v.size (length bytes)) (map (weight_now t) (idle_now t)) ≡ room.Full → weights_now t + length bytes ≤ limits.max_total
         sum_fits full =
             let none : es ≡ [] = ap (going.first_idle t) full in
-            let as_before : RowsStand lim mid t = subst (λ rs. RowsStand lim mid (let_all_go now rs t)) none gives_es.rows in
+            let as_before : RowsStand limits mid t = subst (λ rs. RowsStand limits mid (let_all_go now rs t)) none gives_es.rows in
             let used : (shelf_of mid.entries).used ≡ weights_now t = used_is mid t (may_make_room t facts) as_before in
             subst (λ (l : Limits). weights_now t + length bytes ≤ l.max_total) limits_are (subst (λ n. n + length bytes ≤ (shelf_of mid.entries).limits.max_total) used within.1)
 
-    pub store_answered : Answered lim (shelf_of r.entries).faults u t before out now (event.Piece x bytes)
+    pub store_answered : Answered limits (shelf_of r.entries).faults u t before out now (event.Piece x bytes)
     store_answered =
-        stored_answered mid u lim t facts now x bytes goes w v it.row it.taken.is_open it.taken.headed it.taken.some it.taken.fits it.there it.fresh es kept_apart (shelf_of r.entries).faults before out
-        (gives_same lim t facts.law now x bytes goes w it.row v it.there it.fresh) had_room gives_es.acts
-        (stored_stands mid u lim t facts now x bytes goes w v it.row it.taken.is_open it.taken.headed it.taken.some it.taken.fits it.there it.fresh es kept_apart puts_here.last kind_is mid_stands u_last u_map u_keys fills becomes)
+        stored_answered mid u limits t facts now x bytes goes w v it.row it.taken.is_open it.taken.headed it.taken.some it.taken.fits it.there it.fresh es kept_apart (shelf_of r.entries).faults before out
+        (gives_same limits t facts.law now x bytes goes w it.row v it.there it.fresh) had_room gives_es.acts
+        (stored_stands mid u limits t facts now x bytes goes w v it.row it.taken.is_open it.taken.headed it.taken.some it.taken.fits it.there it.fresh es kept_apart puts_here.last kind_is mid_stands u_last u_map u_keys fills becomes)
 
   -- WHERE IT REFUSED IT
 
@@ -266,8 +266,8 @@ module _ {B : Type 0} {g : Ghosts B} {lim : Limits} (r mid put u : Rows B g) (t 
     abbrev wrote : Write
     wrote = write.Piece v.size (length bytes)
 
-    its_room : room_for lim t now (event.Piece x bytes) ≡ room_now lim t wrote
-    its_room = room_same lim t facts.law now x bytes goes w it.row v it.there it.fresh
+    its_room : room_for limits t now (event.Piece x bytes) ≡ room_now limits t wrote
+    its_room = room_same limits t facts.law now x bytes goes w it.row v it.there it.fresh
 
     abbrev left : Tables
     left = let_all_go now es t
@@ -275,36 +275,36 @@ module _ {B : Type 0} {g : Ghosts B} {lim : Limits} (r mid put u : Rows B g) (t 
     sum_here : (shelf_of mid.entries).used ≡ weights_now left
     sum_here = used_is mid left (make_gone now es t (may_make_room t facts)) gives_es.rows
 
-    full_by : (entry : v.size + length bytes ≤ lim.max_entry) → lim.max_total < weights_now left + length bytes → (a : Room) → room_now lim t wrote ≡ a → may_lose a kinds.Full ≡ true
-    full_by entry more (room.After count) is = (let fits = fits_after lim now t wrote count (may_make_room t facts) is in absurd (omega (arith, fits, more)))
-    full_by entry more room.TooLarge is = absurd (not_large lim (weights_now t) v.size (length bytes) (map (weight_now t) (idle_now t)) entry is)
+    full_by : (entry : v.size + length bytes ≤ limits.max_entry) → limits.max_total < weights_now left + length bytes → (a : Room) → room_now limits t wrote ≡ a → may_lose a kinds.Full ≡ true
+    full_by entry more (room.After count) is = (let fits = fits_after limits now t wrote count (may_make_room t facts) is in absurd (omega (arith, fits, more)))
+    full_by entry more room.TooLarge is = absurd (not_large limits (weights_now t) v.size (length bytes) (map (weight_now t) (idle_now t)) entry is)
     full_by entry more room.Full is = refl
 
-    may_by : (k : LostKind) → Refused (shelf_of mid.entries).limits (size_at (shelf_of mid.entries) q + length bytes) ((shelf_of mid.entries).used + length bytes) (shelf_of mid.entries).faults (shelf_of put.entries).faults k → may_lose (room_now lim t wrote) k ≡ true
-    may_by _ (refusals_of.fault failed) = by_room (room_now lim t wrote)
+    may_by : (k : LostKind) → Refused (shelf_of mid.entries).limits (size_at (shelf_of mid.entries) q + length bytes) ((shelf_of mid.entries).used + length bytes) (shelf_of mid.entries).faults (shelf_of put.entries).faults k → may_lose (room_now limits t wrote) k ≡ true
+    may_by _ (refusals_of.fault failed) = by_room (room_now limits t wrote)
       where
         by_room : (a : Room) → may_lose a kinds.Fault ≡ true
         by_room (room.After count) = refl
         by_room room.TooLarge = refl
         by_room room.Full = refl
     may_by _ (refusals_of.large more) =
-        let here : lim.max_entry < v.size + length bytes = subst (λ (l : Limits). l.max_entry < v.size + length bytes) limits_are (subst (λ n. (shelf_of mid.entries).limits.max_entry < n + length bytes) size_here more) in
-        rw (too_large lim (weights_now t) v.size (length bytes) (map (weight_now t) (idle_now t)) here) refl
+        let here : limits.max_entry < v.size + length bytes = subst (λ (l : Limits). l.max_entry < v.size + length bytes) limits_are (subst (λ n. (shelf_of mid.entries).limits.max_entry < n + length bytes) size_here more) in
+        rw (too_large limits (weights_now t) v.size (length bytes) (map (weight_now t) (idle_now t)) here) refl
     may_by _ (refusals_of.full entry more) =
         full_by (subst (λ (l : Limits). v.size + length bytes ≤ l.max_entry) limits_are (subst (λ n. n + length bytes ≤ (shelf_of mid.entries).limits.max_entry) size_here entry))
         (subst (λ (l : Limits). l.max_total < weights_now left + length bytes) limits_are (subst (λ n. (shelf_of mid.entries).limits.max_total < n + length bytes) sum_here more))
-        (room_now lim t wrote) refl
+        (room_now limits t wrote) refl
 
     caused_by : (k : LostKind) → Refused (shelf_of mid.entries).limits (size_at (shelf_of mid.entries) q + length bytes) ((shelf_of mid.entries).used + length bytes) (shelf_of mid.entries).faults (shelf_of put.entries).faults k → k ≡ kinds.Fault → (shelf_of r.entries).faults < (shelf_of put.entries).faults
     caused_by _ (refusals_of.fault failed) is = subst (λ n. n < (shelf_of put.entries).faults) faulty failed
     caused_by _ (refusals_of.large more) is = absurd (let never : kinds.TooLarge ≡ kinds.Fault = is in cc)
     caused_by _ (refusals_of.full entry more) is = absurd (let never : kinds.Full ≡ kinds.Fault = is in cc)
 
-    pub refuses_it : Refuses lim r put t now x bytes kind before out
+    pub refuses_it : Refuses limits r put t now x bytes kind before out
     refuses_it =
-        let same = gives_same lim t facts.law now x bytes goes w it.row v it.there it.fresh in
+        let same = gives_same limits t facts.law now x bytes goes w it.row v it.there it.fresh in
         record {
-          gives = subst (λ rs. GivesWay lim put t now rs before out) (sym same) (record {
+          gives = subst (λ rs. GivesWay limits put t now rs before out) (sym same) (record {
             acts = gives_es.acts;
             rows = stands_read mid put left put_last put_map put_exchanges put_keys stays gives_es.rows;
           });
@@ -324,7 +324,7 @@ kept_of (Some k) e is = (k, refl, ap (λ (z : EntryView). z.size) (sym (some_is 
 
 module _ {B : Type 0} {g : Ghosts B} (r mid : Rows B g) (now x q : ℕ) (bytes : List ℕ) (some : ∥ Stands r ∥₁) (accepted : piece_refusal (open_at r x) (length bytes) ≡ None) (grows : stored_by r x ≡ Some q) (before out : List Act) (stored : ℕ)
     (had : (k : Kept) → (shelf_of r.entries).kept q ≡ Some k → stored ≡ size k.cells)
-    (gives : (lim : Limits) (t : Tables) → MayMakeRoom t → RowsStand lim r t → GivesWay lim mid t now (giving_way lim t (write.Piece stored (length bytes))) before out) (mid_last : mid.last_start ≡ r.last_start) (mid_exchanges : mid.exchanges ≡ r.exchanges) where
+    (gives : (limits : Limits) (t : Tables) → MayMakeRoom t → RowsStand limits r t → GivesWay limits mid t now (giving_way limits t (write.Piece stored (length bytes))) before out) (mid_last : mid.last_start ≡ r.last_start) (mid_exchanges : mid.exchanges ≡ r.exchanges) where
   pub kept_mid : is_kept (shelf_of mid.entries) q ≡ true
   kept_mid = merely_true (is_kept (shelf_of mid.entries) q) some (λ p.
       let t = p.t in
@@ -343,7 +343,7 @@ module _ {B : Type 0} {g : Ghosts B} (r mid : Rows B g) (now x q : ℕ) (bytes :
       → (size_at (shelf_of mid.entries) q + length bytes ≤ (shelf_of mid.entries).limits.max_entry) × ((shelf_of mid.entries).used + length bytes ≤ (shelf_of mid.entries).limits.max_total)
       → u.entries ≡ put.entries → u.last_start ≡ mid.last_start → u.consumers ≡ mid.consumers → u.keys ≡ mid.keys → exch.Becomes (known.with_piece bytes false) x mid.exchanges u.exchanges
       → Answers r u before out now (event.Piece x bytes)
-  answered_mid put u puts within entries last same_map same_keys becomes lim t facts stands goes =
+  answered_mid put u puts within entries last same_map same_keys becomes limits t facts stands goes =
       let made = gives _ t (may_make_room t facts) stands in
       let ran = runs r mid put u t facts stands now x q bytes goes grows before out stored had made mid_last mid_exchanges in
       store_answered r mid put u t facts stands now x q bytes goes grows before out stored had made mid_last mid_exchanges (puts ran.o ran.running) within entries last same_map same_keys becomes
@@ -351,8 +351,8 @@ module _ {B : Type 0} {g : Ghosts B} (r mid : Rows B g) (now x q : ℕ) (bytes :
   pub refused_mid : (put : Rows B g) (kind : LostKind) → shelf.Stays (shelf_of mid.entries) (shelf_of put.entries) → (shelf_of mid.entries).faults ≡ (shelf_of r.entries).faults
       → Refused (shelf_of mid.entries).limits (size_at (shelf_of mid.entries) q + length bytes) ((shelf_of mid.entries).used + length bytes) (shelf_of mid.entries).faults (shelf_of put.entries).faults kind
       → put.last_start ≡ mid.last_start → put.consumers ≡ mid.consumers → put.exchanges ≡ mid.exchanges → put.keys ≡ mid.keys
-      → (lim : Limits) (t : Tables) → Facts lim t → RowsStand lim r t → denial t (event.Piece x bytes) ≡ None → Refuses lim r put t now x bytes kind before out
-  refused_mid put kind stays faulty why last same_map exchanges same_keys lim t facts stands goes =
+      → (limits : Limits) (t : Tables) → Facts limits t → RowsStand limits r t → denial t (event.Piece x bytes) ≡ None → Refuses limits r put t now x bytes kind before out
+  refused_mid put kind stays faulty why last same_map exchanges same_keys limits t facts stands goes =
       refuses_it r mid put put t facts stands now x q bytes goes grows before out stored had (gives _ t (may_make_room t facts) stands) mid_last mid_exchanges
       kind stays faulty why last same_map exchanges same_keys
 

@@ -21,7 +21,7 @@ use Rattle.hc_model.specs.Rows as rows
 use Rattle.hc_effects.proofs.PastEffects.{passes_by}
 use Rattle.hc_state.specs.declared.consumer.Consumer.{Consumer}
 use Rattle.hc_state.specs.declared.rows.Rows.{Rows}
-use Rattle.hc_state.specs.Arms.{queues, IsLeft, LeftIf, LeavesLine}
+use Rattle.hc_state.specs.Handlers.{queues, IsLeft, LeftIf, LeavesLine}
 use Rattle.hc_state.specs.Changes.{Numbered, ChangesAt, reading_past}
 use Rattle.hc_state.specs.Kept.{IsKept, KeepsConsumer}
 use Rattle.hc_state.specs.Lines.{KeepsKey}
@@ -32,10 +32,10 @@ use Rattle.hc_state.proofs.ConsumerSteps.{keys_with, key_with, key_stays}
 use Rattle.hc_state.proofs.Counting.{stands_counted}
 use Rattle.hc_state.proofs.KeySteps.{IsUnsaid, leaves_key, says_elsewhere, says_none, apart_unsaid, unqueued_unsaid}
 use Rattle.hc_state.proofs.Maps.{known_of}
-use Rattle.hc_on_poll.proofs.OpenArm.{past}
+use Rattle.hc_on_poll.proofs.OpenHandler.{past}
 use Rattle.hc_on_poll.proofs.OpenKeys.{key_opened}
 use Rattle.hc_on_poll.proofs.OpenStands.{stands_opened}
-use Rattle.hc_state.proofs.QueueArm.{becomes_by}
+use Rattle.hc_state.proofs.QueueHandler.{becomes_by}
 
 -- WHO IS IDLE
 
@@ -103,7 +103,7 @@ module _ (t : Tables) (law : Lawful t) (c : ℕ) (k : Consumer) (v w : rows.Cons
 
 -- ALL OF IT
 
-module _ {B : Type 0} {g : Ghosts B} {lim : Limits} (r mid : Rows B g) (e : Exchanges) (m : Numbered Consumer) (t : Tables) (law : Lawful t) (now c want : ℕ) (n : Need) (k : Consumer) (v : rows.Consumer) (stands : RowsStand lim r t) (there : get nat_eq r.consumers c ≡ Some k) (row : t.consumer c ≡ Some v) (idle : is_idle_at k.place ≡ true)
+module _ {B : Type 0} {g : Ghosts B} {limits : Limits} (r mid : Rows B g) (e : Exchanges) (m : Numbered Consumer) (t : Tables) (law : Lawful t) (now c want : ℕ) (n : Need) (k : Consumer) (v : rows.Consumer) (stands : RowsStand limits r t) (there : get nat_eq r.consumers c ≡ Some k) (row : t.consumer c ≡ Some v) (idle : is_idle_at k.place ≡ true)
     (x : ℕ) (copied : Request) (copies : copied ≡ k.request) (way : route_of n ≡ route.Direct) (moves : move_of t now want c v ≡ Opens (next_of r.exchanges) n k.request) (is_next : x ≡ next_of r.exchanges) (next : next_of e ≡ next_of r.exchanges + 1)
     (launches : Changes (with_new_exchange c role.Direct n copied now) (next_of r.exchanges) (table_of r.exchanges) (table_of e)) (leaves : LeavesLine (record r { exchanges = e }) mid c) (changes : ChangesAt mid.consumers m c (reading_past x)) where
   abbrev u : Rows B g
@@ -136,14 +136,14 @@ module _ {B : Type 0} {g : Ghosts B} {lim : Limits} (r mid : Rows B g) (e : Exch
   left : IsLeft r.keys mid.keys c k
   left = known_of (get nat_eq r.consumers c) k (IsLeft r.keys mid.keys c) there leaves.line
 
-  stands_past : RowsStand lim u s
+  stands_past : RowsStand limits u s
   stands_past =
       stands_opened r u t law now c x n k.request copied (current t v.request.key) role.Direct k v (place.Direct x) stands there row (idle_reads v.place v_idle) (idle_lives v.place v_idle) past x_is
       leaves.last_start leaves.entries (ap next_of leaves.exchanges ∙ next) launched_then (becomes_by r.consumers m c k (reading_past x) there changed) copies (rw way refl)
       (λ key. key_opened t law c x w z (law.sound.numbered.lists.new_exchanges x (let above = x_is in omega (arith, above))) past key (kept_of mid.keys key) (keys_past t law c k v w row kept v_idle (λ other. apart_unsaid t other w refl refl refl) refl r.keys mid.keys stands.keys left key))
 
-  pub past_answered : (faults : ℕ) (before out : List Act) → out ≡ before ++ acts_of c (Opens x n copied) → Answered lim faults u t before out now (event.Poll c want)
+  pub past_answered : (faults : ℕ) (before out : List Act) → out ≡ before ++ acts_of c (Opens x n copied) → Answered limits faults u t before out now (event.Poll c want)
   past_answered faults before out told =
       let is : move_of t now want c v ≡ Opens x n k.request = moves ∙ ap (λ (y : ℕ). Opens y n k.request) (sym is_next) in
-      does_answered lim faults u t (with_event now (event.Poll c want) s) before out (acts_of c (Opens x n k.request)) now (event.Poll c want)
-      (passes_by lim t law now c want v row x n k.request is way) refl refl (told ∙ ap (λ (q : Request). before ++ acts_of c (Opens x n q)) copies) (stands_counted u s now (event.Poll c want) refl stands_past)
+      does_answered limits faults u t (with_event now (event.Poll c want) s) before out (acts_of c (Opens x n k.request)) now (event.Poll c want)
+      (passes_by limits t law now c want v row x n k.request is way) refl refl (told ∙ ap (λ (q : Request). before ++ acts_of c (Opens x n q)) copies) (stands_counted u s now (event.Poll c want) refl stands_past)

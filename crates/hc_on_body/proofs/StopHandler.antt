@@ -56,7 +56,7 @@ pub data ReadBy (t : Tables) (x : ℕ) (w : Exchange) (by : Readers) : Type 0 wh
   own : (c : ℕ) (k : rows.Consumer) (v : Representation) → t.representation (family x w) ≡ Some v → IsBound t (family x w) c k → own_open t k ≡ Some x → k.due ≡ None → IsExclusiveWriter t (family x w) v c → by ≡ readers.One c → ReadBy t x w by
   shared : (v : Representation) → t.representation (family x w) ≡ Some v → is_written t v ≡ true → v.writer ≡ Some x → by ≡ readers.All (family x w) → ReadBy t x w by
 
-module _ {B : Type 0} {g : Ghosts B} {lim : Limits} (r : Rows B g) (t : Tables) (facts : Facts lim t) (stands : RowsStand lim r t) (x : ℕ) (w : Exchange) (row : t.exchange x ≡ Some w) (opened : w.is_open ≡ true) where
+module _ {B : Type 0} {g : Ghosts B} {limits : Limits} (r : Rows B g) (t : Tables) (facts : Facts limits t) (stands : RowsStand limits r t) (x : ℕ) (w : Exchange) (row : t.exchange x ≡ Some w) (opened : w.is_open ≡ true) where
   abbrev law : Lawful t
   law = facts.law
 
@@ -265,30 +265,30 @@ module _ (limits : Limits) (t : Tables) (facts : Facts limits t) (x : ℕ) (w : 
 
 -- IT BREAKS OFF
 
-module _ {B : Type 0} {g : Ghosts B} {lim : Limits} (r mid u : Rows B g) (t : Tables) (facts : Facts lim t) (stands : RowsStand lim r t) (x : ℕ) (w : Exchange) (broken : IsBroken t x w) (by : Readers) (is : by ≡ readers_of x (table_of r.exchanges) (shelf_of r.entries)) (why : Cause)
+module _ {B : Type 0} {g : Ghosts B} {limits : Limits} (r mid u : Rows B g) (t : Tables) (facts : Facts limits t) (stands : RowsStand limits r t) (x : ℕ) (w : Exchange) (broken : IsBroken t x w) (by : Readers) (is : by ≡ readers_of x (table_of r.exchanges) (shelf_of r.entries)) (why : Cause)
     (rest : KeepsRest r mid) (same_exchanges : mid.exchanges ≡ r.exchanges) (changes : ChangesAmong r.consumers mid.consumers (reads_from (shelf_of r.entries) by) (with_due why))
-    (faults now : ℕ) (before out : List Act) (stops : (f : ℕ → Option rows.Consumer) → MayStop t f x (goes_on by) → RowsStand lim mid (with_consumers f t) → HasStopped lim faults u t f before out now x) where
-  dues : (among : ℕ → Bool) → ((d : ℕ) → reads_from (shelf_of r.entries) by d ≡ among d) → RowsStand lim mid (with_consumers (due_for t among why) t)
+    (faults now : ℕ) (before out : List Act) (stops : (f : ℕ → Option rows.Consumer) → MayStop t f x (goes_on by) → RowsStand limits mid (with_consumers f t) → HasStopped limits faults u t f before out now x) where
+  dues : (among : ℕ → Bool) → ((d : ℕ) → reads_from (shelf_of r.entries) by d ≡ among d) → RowsStand limits mid (with_consumers (due_for t among why) t)
   dues among alike = stands_due r mid t among why stands rest.last_start same_exchanges rest.keys rest.entries (among_as r.consumers mid.consumers (reads_from (shelf_of r.entries) by) among (with_due why) alike changes)
 
   reads_one : (c : ℕ) → by ≡ readers.One c → (d : ℕ) → reads_from (shelf_of r.entries) by d ≡ nat_eq c d
   reads_one c one d = ap (λ b. reads_from (shelf_of r.entries) b d) one
 
-  pub breaks_off : BrokeOff lim faults u t before out now x w why
+  pub breaks_off : BrokeOff limits faults u t before out now x w why
   breaks_off = by_readers (read_by r t facts stands x w broken.row broken.is_open)
     where
-      one_stops : (c : ℕ) → by ≡ readers.One c → MayStop t (due_for t (λ d. nat_eq c d) why) x (Some c) → HasStopped lim faults u t (due_for t (λ d. nat_eq c d) why) before out now x
+      one_stops : (c : ℕ) → by ≡ readers.One c → MayStop t (due_for t (λ d. nat_eq c d) why) x (Some c) → HasStopped limits faults u t (due_for t (λ d. nat_eq c d) why) before out now x
       one_stops c one may = stops (due_for t (λ d. nat_eq c d) why) (subst (λ o. MayStop t (due_for t (λ d. nat_eq c d) why) x o) (sym (ap goes_on one)) may) (dues (λ d. nat_eq c d) (reads_one c one))
 
-      by_readers : ReadBy t x w (readers_of x (table_of r.exchanges) (shelf_of r.entries)) → BrokeOff lim faults u t before out now x w why
+      by_readers : ReadBy t x w (readers_of x (table_of r.exchanges) (shelf_of r.entries)) → BrokeOff limits faults u t before out now x w why
       by_readers (past none one) =
-          stopped.own w.c (stopped.past none refl) (one_stops w.c (is ∙ one) (may_stop_past lim t facts x w broken w.c (λ d. nat_eq w.c d) why none))
+          stopped.own w.c (stopped.past none refl) (one_stops w.c (is ∙ one) (may_stop_past limits t facts x w broken w.c (λ d. nat_eq w.c d) why none))
       by_readers (own c k v there (sound.is_bound lo hi way at place_is) owns undue exclusive_writer one) =
           stopped.own c (stopped.brings k v there at (own_open_of t k x owns).own)
-          (one_stops c (is ∙ one) (may_stop_own lim t facts x w broken c k v there lo hi way at place_is owns undue exclusive_writer (λ d. nat_eq c d) why))
+          (one_stops c (is ∙ one) (may_stop_own limits t facts x w broken c k v there lo hi way at place_is owns undue exclusive_writer (λ d. nat_eq c d) why))
       by_readers (shared v there written writer all) =
           let those = is ∙ all in
           stopped.shared v there written writer
           (stops (due_for t (λ d. is_bound (family x w) (t.consumer d)) why)
-          (subst (λ o. MayStop t (due_for t (λ d. is_bound (family x w) (t.consumer d)) why) x o) (sym (ap goes_on those)) (may_stop_shared lim t facts x w broken v (λ d. is_bound (family x w) (t.consumer d)) why there written))
+          (subst (λ o. MayStop t (due_for t (λ d. is_bound (family x w) (t.consumer d)) why) x o) (sym (ap goes_on those)) (may_stop_shared limits t facts x w broken v (λ d. is_bound (family x w) (t.consumer d)) why there written))
           (dues (λ d. is_bound (family x w) (t.consumer d)) (λ d. ap (λ b. reads_from (shelf_of r.entries) b d) those ∙ users_are r t facts stands x w broken.row broken.is_open v there d)))

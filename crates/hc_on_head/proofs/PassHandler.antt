@@ -1,4 +1,4 @@
--- A consumer that has the turn may read what its 304 validated: what is kept stands for the tables then.
+-- A consumer that has the turn may read what its 304 validated: what is kept represents the tables then.
 use Rattle.std.proofs.Common.{◌≡◌, ℕ, Bool, true, false, Some, None, refl, ap, sym, ◌∙◌, subst}
 use Rattle.std.specs.Prelude.{bytes_eq, nat_eq, ◌&&◌}
 use Rattle.std.specs.HashMap.{get}
@@ -24,7 +24,7 @@ use Rattle.hc_state.proofs.ConsumerSteps.{keys_with}
 use Rattle.hc_on_leave.proofs.HeardRows.{kept_as}
 use Rattle.hc_state.proofs.KeySteps.{not_lined, passes_key, says_elsewhere}
 use Rattle.hc_on_leave.proofs.OneConsumer.{HoldsAsMuch, stands_moved}
-use Rattle.hc_state.proofs.QueueArm.{becomes_by}
+use Rattle.hc_state.proofs.QueueHandler.{becomes_by}
 use Rattle.hc_state.proofs.Unbinding.{entries_unbound}
 
 module _ (t : Tables) (law : Lawful t) (x : ℕ) (w : Exchange) (v : rows.Consumer) (awaits : AwaitsHead t x w v) (at : v.place ≡ place.Turn x) (q : ℕ) (p : Representation) where
@@ -65,9 +65,9 @@ module _ (t : Tables) (law : Lawful t) (x : ℕ) (w : Exchange) (v : rows.Consum
   first true on = refl
   first false on = on
 
-  pub stands_through : {B : Type 0} {g : Ghosts B} {lim : Limits} (r u : Rows B g) (k : Consumer) → get nat_eq r.consumers w.c ≡ Some k → RowsStand lim r m
+  pub stands_through : {B : Type 0} {g : Ghosts B} {limits : Limits} (r u : Rows B g) (k : Consumer) → get nat_eq r.consumers w.c ≡ Some k → RowsStand limits r m
       → u.last_start ≡ r.last_start → u.exchanges ≡ r.exchanges → u.entries ≡ r.entries → ChangesAt r.consumers u.consumers w.c (standing_at (place.Passed q (Some x)))
-      → keys.Becomes (on_line (lines.line_after_pass w.c)) k.request.key r.keys u.keys → RowsStand lim u (with_consumer w.c (Some z) m)
+      → keys.Becomes (on_line (lines.line_after_pass w.c)) k.request.key r.keys u.keys → RowsStand limits u (with_consumer w.c (Some z) m)
   stands_through r u k there stands last exchanges entries changes line =
       let is = kept_as r m w.c v k stands awaits.asker there in
       stands_moved r u m w.c v z (standing_at (place.Passed q (Some x)) k) stands awaits.asker (rw at refl) refl last exchanges
@@ -80,11 +80,11 @@ module _ (t : Tables) (law : Lawful t) (x : ℕ) (w : Exchange) (v : rows.Consum
       much
 
 -- whoever it is called
-pub through_as : {B : Type 0} {g : Ghosts B} {lim : Limits} (r u : Rows B g) (t : Tables) (law : Lawful t) (x c q : ℕ) (w : Exchange) (v : rows.Consumer) (k : Consumer) (p : Representation) → AwaitsHead t x w v → w.c ≡ c → v.place ≡ place.Turn x → get nat_eq r.consumers c ≡ Some k → RowsStand lim r (with_representation q (Some p) t)
+pub through_as : {B : Type 0} {g : Ghosts B} {limits : Limits} (r u : Rows B g) (t : Tables) (law : Lawful t) (x c q : ℕ) (w : Exchange) (v : rows.Consumer) (k : Consumer) (p : Representation) → AwaitsHead t x w v → w.c ≡ c → v.place ≡ place.Turn x → get nat_eq r.consumers c ≡ Some k → RowsStand limits r (with_representation q (Some p) t)
     → u.last_start ≡ r.last_start → u.exchanges ≡ r.exchanges → u.entries ≡ r.entries → ChangesAt r.consumers u.consumers c (standing_at (place.Passed q (Some x)))
-    → keys.Becomes (on_line (lines.line_after_pass c)) k.request.key r.keys u.keys → RowsStand lim u (with_consumer c (Some (record v { place = place.Passed q (Some x) })) (with_representation q (Some p) t))
-through_as {lim = lim} r u t law x c q w v k p awaits for_it at there stands last exchanges entries changes line =
-    subst (λ (d : ℕ). RowsStand lim u (with_consumer d (Some (record v { place = place.Passed q (Some x) })) (with_representation q (Some p) t))) for_it
+    → keys.Becomes (on_line (lines.line_after_pass c)) k.request.key r.keys u.keys → RowsStand limits u (with_consumer c (Some (record v { place = place.Passed q (Some x) })) (with_representation q (Some p) t))
+through_as {limits = limits} r u t law x c q w v k p awaits for_it at there stands last exchanges entries changes line =
+    subst (λ (d : ℕ). RowsStand limits u (with_consumer d (Some (record v { place = place.Passed q (Some x) })) (with_representation q (Some p) t))) for_it
     (stands_through t law x w v awaits at q p r u k (ap (get nat_eq r.consumers) for_it ∙ there) stands last exchanges entries
     (subst (λ (d : ℕ). ChangesAt r.consumers u.consumers d (standing_at (place.Passed q (Some x)))) (sym for_it) changes)
     (subst (λ (d : ℕ). keys.Becomes (on_line (lines.line_after_pass d)) k.request.key r.keys u.keys) (sym for_it) line))

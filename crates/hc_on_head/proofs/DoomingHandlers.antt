@@ -1,4 +1,4 @@
--- The head of an unsafe request dooms its key: it is answered, and what is kept stands for the tables then.
+-- The head of an unsafe request dooms its key: it is answered, and what is kept represents the tables then.
 use Rattle.std.proofs.Common.{◌≡◌, ◌≢◌, ◌⊎◌, inl, inr, ℕ, List, [], Bool, true, false, Option, Some, None, refl, ap, sym, ◌∙◌, subst}
 use Rattle.std.specs.Prelude.{is_some, is_none, nat_eq, bytes_eq, map, option_map, not, ◌&&◌, ◌||◌, if◌then◌else◌}
 use Rattle.std.specs.HashMap.{get}
@@ -37,7 +37,7 @@ use Rattle.hc_state.specs.Kept.{IsKept, KeepsConsumer, KeepsExchange, KeepsRunni
 use Rattle.hc_state.specs.Lines.{KeepsKey, has_turn, is_away, is_away_at, is_passed}
 use Rattle.hc_state.specs.Stands.{Answered, RowsStand, Stands}
 use Rattle.hc_state.specs.Stored.{KeepsEntries, is_over}
-use Rattle.hc_on_leave.proofs.AnswerArm.{reader_kept, opened_as}
+use Rattle.hc_on_leave.proofs.AnswerHandler.{reader_kept, opened_as}
 use Rattle.hc_state.proofs.Answering.{does_answered}
 use Rattle.hc_state.proofs.Fallbacks.{same, held_alike}
 use Rattle.hc_state.proofs.FallbackSteps.{live_same}
@@ -49,20 +49,20 @@ use Rattle.hc_on_leave.proofs.HeardExchange.{drop_none, held_empty}
 use Rattle.hc_on_head.proofs.HeadTold.{heard_as, past_of_runs}
 use Rattle.hc_on_leave.proofs.HeardRows.{Asker, headless_of, kept_as, runs_as}
 use Rattle.hc_state.proofs.KeySteps.{not_lined}
-use Rattle.hc_on_leave.proofs.LeaveArms.{flawless}
+use Rattle.hc_on_leave.proofs.LeaveHandlers.{flawless}
 use Rattle.hc_state.proofs.Maps.{merely_true, merely_false}
 use Rattle.hc_on_leave.proofs.OneConsumer.{HoldsAsMuch, held_same}
 use Rattle.hc_state.proofs.OneOfEach.{stands_then, entries_same, growing_same}
-use Rattle.hc_state.proofs.QueueArm.{becomes_by}
-use Rattle.hc_on_leave.proofs.RefuseArm.{length_as}
+use Rattle.hc_state.proofs.QueueHandler.{becomes_by}
+use Rattle.hc_on_leave.proofs.RefuseHandler.{length_as}
 use Rattle.hc_state.proofs.Ties.{key_same, overs_but}
 use Rattle.hc_state.proofs.Unbinding.{entries_unbound}
-use Rattle.hc_on_leave.proofs.UnstoredArms.{read_then, unwritten}
+use Rattle.hc_on_leave.proofs.UnstoredHandlers.{read_then, unwritten}
 
 -- WHOEVER READS A CLOSED EXCHANGE PAST THE STORE IS TO FAIL
 
 -- what is known of a closed exchange without bytes is that it isn't open
-module _ {B : Type 0} {g : Ghosts B} {lim : Limits} (r u : Rows B g) (m : Tables) (c x : ℕ) (e z : Exchange) (v : rows.Consumer) (k : Consumer) (stands : RowsStand lim r m)
+module _ {B : Type 0} {g : Ghosts B} {limits : Limits} (r u : Rows B g) (m : Tables) (c x : ℕ) (e z : Exchange) (v : rows.Consumer) (k : Consumer) (stands : RowsStand limits r m)
     (row : m.exchange x ≡ Some e) (over_now : e.is_open ≡ false) (empty : e.body ≡ []) (unjoined : e.joined ≡ None) (headless : e.head ≡ None) (unfounded : m.representation x ≡ None)
     (here : m.consumer c ≡ Some v) (at : v.place ≡ place.Direct x) (started : (n : ℕ) → is_some (m.consumer n) ≡ true → Among n m.starts)
     (only : (n : ℕ) (q : rows.Consumer) → m.consumer n ≡ Some q → q.place ≡ place.Direct x → n ≡ c)
@@ -226,7 +226,7 @@ module _ {B : Type 0} {g : Ghosts B} {lim : Limits} (r u : Rows B g) (m : Tables
     | inr ne ↦ ap is_live (c_other n (λ h. ne (sym h)))
   ]
 
-  pub stands_down : u.last_start ≡ r.last_start → u.exchanges ≡ r.exchanges → u.keys ≡ r.keys → u.entries ≡ r.entries → ChangesAt r.consumers u.consumers c (standing_at (place.Down why)) → RowsStand lim u s
+  pub stands_down : u.last_start ≡ r.last_start → u.exchanges ≡ r.exchanges → u.keys ≡ r.keys → u.entries ≡ r.entries → ChangesAt r.consumers u.consumers c (standing_at (place.Down why)) → RowsStand limits u s
   stands_down last exchanges same_keys same_entries alters =
       stands_then r u m s c x (Some (standing_at (place.Down why) k)) stands (last ∙ stands.last_start) (rw exchanges stands.next)
       (alters.len ∙ (stands.count ∙ sym (live_same m s refl lives)))
@@ -244,7 +244,7 @@ none_gone : (b : Bool) (o : Option Representation) → o ≡ None → (if b then
 none_gone true o none = rw none refl
 none_gone false o none = none
 
-module _ {B : Type 0} {g : Ghosts B} {lim : Limits} (r : Rows B g) (t : Tables) (facts : Facts lim t) (stands : RowsStand lim r t) (now x : ℕ) (response : Response) (w : Exchange) (v : rows.Consumer) (waits : AwaitsHead t x w v) (at : v.place ≡ place.Direct x) where
+module _ {B : Type 0} {g : Ghosts B} {limits : Limits} (r : Rows B g) (t : Tables) (facts : Facts limits t) (stands : RowsStand limits r t) (now x : ℕ) (response : Response) (w : Exchange) (v : rows.Consumer) (waits : AwaitsHead t x w v) (at : v.place ≡ place.Direct x) where
   abbrev key : List ℕ
   key = w.request.key
 
@@ -400,24 +400,24 @@ module _ {B : Type 0} {g : Ghosts B} {lim : Limits} (r : Rows B g) (t : Tables) 
     abbrev ev : Event
     ev = event.Head x response
 
-    pub dooming_taken : (u : Rows B g) → head_case (head_view t false w response) ≡ case.DirectTaken → IsDoomed lim mid t before out now key None → ((m : Tables) → IsReadAlone m x w v → RowsStand lim mid m → RowsStand lim u (with_answer now x response w.joined w m))
-        → Answered lim (shelf_of r.entries).faults u t before out now ev
+    pub dooming_taken : (u : Rows B g) → head_case (head_view t false w response) ≡ case.DirectTaken → IsDoomed limits mid t before out now key None → ((m : Tables) → IsReadAlone m x w v → RowsStand limits mid m → RowsStand limits u (with_answer now x response w.joined w m))
+        → Answered limits (shelf_of r.entries).faults u t before out now ev
     dooming_taken u is doomed answers =
-        does_answered lim (shelf_of r.entries).faults u t (with_event now ev (let_some_go now (current t key) (all_closed (awaited_and t key None) heard))) before out (map act.Close (awaited_and t key None)) now ev
-        (dooms_taken lim t facts.law now x response goes w waits.row v waits.asker unsafe is) (unwritten t now x response w case.DirectTaken waits.row is refl) (flawless (awaited_and t key None)) doomed.acts
-        (stands_counted u _ now ev refl (subst (RowsStand lim u) (answer_is None out_of_none) (answers (after None) (alone_doomed None out_of_none) (subst (RowsStand lim mid) (after_is None) doomed.rows))))
+        does_answered limits (shelf_of r.entries).faults u t (with_event now ev (let_some_go now (current t key) (all_closed (awaited_and t key None) heard))) before out (map act.Close (awaited_and t key None)) now ev
+        (dooms_taken limits t facts.law now x response goes w waits.row v waits.asker unsafe is) (unwritten t now x response w case.DirectTaken waits.row is refl) (flawless (awaited_and t key None)) doomed.acts
+        (stands_counted u _ now ev refl (subst (RowsStand limits u) (answer_is None out_of_none) (answers (after None) (alone_doomed None out_of_none) (subst (RowsStand limits mid) (after_is None) doomed.rows))))
 
-    pub dooming_bad : (u : Rows B g) (c : ℕ) → w.c ≡ c → IsUnheard (table_of r.exchanges) key x → head_case (head_view t false w response) ≡ case.DirectBad → IsDoomed lim mid t before out now key (Some x)
+    pub dooming_bad : (u : Rows B g) (c : ℕ) → w.c ≡ c → IsUnheard (table_of r.exchanges) key x → head_case (head_view t false w response) ≡ case.DirectBad → IsDoomed limits mid t before out now key (Some x)
         → u.last_start ≡ mid.last_start → u.exchanges ≡ mid.exchanges → u.keys ≡ mid.keys → u.entries ≡ mid.entries → ChangesAt mid.consumers u.consumers c (standing_at (place.Down (cause.BadHead x)))
-        → Answered lim (shelf_of r.entries).faults u t before out now ev
+        → Answered limits (shelf_of r.entries).faults u t before out now ev
     dooming_bad u c for_it unheard is doomed last exchanges same_keys same_entries changes =
         let in_it = in_refused unheard in
         let d : rows.Consumer = down (Some x) in_it in
-        let stood = subst (RowsStand lim mid) (after_is (Some x)) doomed.rows in
+        let stood = subst (RowsStand limits mid) (after_is (Some x)) doomed.rows in
         let k = reader_kept mid (after (Some x)) w.c x v stood (here (Some x)) at in
-        does_answered lim (shelf_of r.entries).faults u t (with_event now ev (let_some_go now (current t key) (with_consumer w.c (Some d) (all_closed (awaited_and t key (Some x)) heard)))) before out (map act.Close (awaited_and t key (Some x))) now ev
-        (dooms_bad lim t facts.law now x response goes w waits.row v waits.asker unsafe is) (unwritten t now x response w case.DirectBad waits.row is refl) (flawless (awaited_and t key (Some x))) doomed.acts
-        (stands_counted u _ now ev refl (subst (RowsStand lim u) (failure_is (Some x) in_it)
+        does_answered limits (shelf_of r.entries).faults u t (with_event now ev (let_some_go now (current t key) (with_consumer w.c (Some d) (all_closed (awaited_and t key (Some x)) heard)))) before out (map act.Close (awaited_and t key (Some x))) now ev
+        (dooms_bad limits t facts.law now x response goes w waits.row v waits.asker unsafe is) (unwritten t now x response w case.DirectBad waits.row is refl) (flawless (awaited_and t key (Some x))) doomed.acts
+        (stands_counted u _ now ev refl (subst (RowsStand limits u) (failure_is (Some x) in_it)
         (stands_down mid u (after (Some x)) w.c x (over w) (over z) v k.0 stood (shut_row (Some x) in_it) refl empty unjoined waits.headless (unfounded (Some x))
         (here (Some x)) at (started (Some x)) (only_it (Some x) in_it) refl empty unjoined k.1 (cause.BadHead x) last exchanges same_keys same_entries
         (subst (λ (n : ℕ). ChangesAt mid.consumers u.consumers n (standing_at (place.Down (cause.BadHead x)))) (sym for_it) changes))))
@@ -430,7 +430,7 @@ unheard_as table x op key_is accepted opens copied past =
     record { o = h.o; running = h.there; headless = h.headless; of_key = ap (λ (q : Request). q.key) (sym (opened_as op (table x).running h.o opens h.there).1) ∙ sym copied; past = past h.o h.there }
 
 -- it reads past the store what it waits for
-pub past_place : {B : Type 0} {g : Ghosts B} {lim : Limits} (r : Rows B g) (t : Tables) (x : ℕ) (w : Exchange) (a : Asker r t x w) (key : List ℕ) → RowsStand lim r t → IsUnheard (table_of r.exchanges) key x → (a.v.place ≡ place.Direct x) × (key ≡ w.request.key)
+pub past_place : {B : Type 0} {g : Ghosts B} {limits : Limits} (r : Rows B g) (t : Tables) (x : ℕ) (w : Exchange) (a : Asker r t x w) (key : List ℕ) → RowsStand limits r t → IsUnheard (table_of r.exchanges) key x → (a.v.place ≡ place.Direct x) × (key ≡ w.request.key)
 past_place r t x w a key stands u =
     let runs = runs_as r t x u.o w stands u.running a.awaits.row in
     (by_at a.at (ap route_of (sym runs.need) ∙ u.past), sym u.of_key ∙ ap (λ (q : Request). q.key) runs.request)
@@ -448,7 +448,7 @@ merely_accepted o some h = is_none_of (head_refusal (option_map open_view o)) (m
     is_none_of None on = refl
     is_none_of (Some a) on = false_true on
 
-accepted_row : {B : Type 0} {g : Ghosts B} {lim : Limits} (r : Rows B g) (m : Tables) (x : ℕ) (w : Exchange) → RowsStand lim r m → m.exchange x ≡ Some w → w.is_open ≡ true → w.head ≡ None → head_refusal (option_map open_view (table_of r.exchanges x).running) ≡ None
+accepted_row : {B : Type 0} {g : Ghosts B} {limits : Limits} (r : Rows B g) (m : Tables) (x : ℕ) (w : Exchange) → RowsStand limits r m → m.exchange x ≡ Some w → w.is_open ≡ true → w.head ≡ None → head_refusal (option_map open_view (table_of r.exchanges x).running) ≡ None
 accepted_row r m x w stands row opened bare = by_running (table_of r.exchanges x).running (subst (KeepsRunning m x (table_of r.exchanges x).running) row (stands.exchanges x).running)
   where
     by_running : (o : Option Open) → KeepsRunning m x o (Some w) → head_refusal (option_map open_view o) ≡ None
@@ -456,13 +456,13 @@ accepted_row r m x w stands row opened bare = by_running (table_of r.exchanges x
     by_running (Some o) keeps = ap (λ (b : Bool). if b then Some refusal.HeadTwice else None) (keeps.headed ∙ ap (λ z. is_some z) bare)
 
 module _ {B : Type 0} {g : Ghosts B} (r mid : Rows B g) (now x : ℕ) (key : List ℕ) (response : Response) (before out : List Act) (unheard : IsUnheard (table_of r.exchanges) key x) (some_past : ∥ Stands r ∥₁)
-    (dooms : (lim : Limits) (t : Tables) → Lawful t → RowsStand lim r t → IsDoomed lim mid t before out now key None) where
+    (dooms : (limits : Limits) (t : Tables) → Lawful t → RowsStand limits r t → IsDoomed limits mid t before out now key None) where
   -- the tables once it is doomed, and its exchange
   record Heard : Type 0 where
-    lim : Limits
+    limits : Limits
     m : Tables
     w : Exchange
-    rows : RowsStand lim mid m
+    rows : RowsStand limits mid m
     row : m.exchange x ≡ Some w
     is_open : w.is_open ≡ true
     headless : w.head ≡ None
@@ -476,7 +476,7 @@ module _ {B : Type 0} {g : Ghosts B} (r mid : Rows B g) (now x : ℕ) (key : Lis
       let waits = h.asked.awaits in
       let doomed = subst (λ (k : List ℕ). IsDoomed p.limits mid t before out now k None) at.1 (dooms _ t facts.law stands) in
       record {
-        lim = p.limits;
+        limits = p.limits;
         m = after r t facts stands now x response h.w h.asked.v waits at.0 None;
         w = h.w;
         rows = subst (RowsStand p.limits mid) (after_is r t facts stands now x response h.w h.asked.v waits at.0 None) doomed.rows;

@@ -1,4 +1,4 @@
--- A representation is let go: the rows stand for the tables without it.
+-- A representation is let go: the rows represent the tables without it.
 use Rattle.std.proofs.Common.{◌≡◌, ℕ, List, Bool, true, false, cond, Option, Some, None, refl, ap, sym, ◌∙◌, subst, arith}
 use Rattle.std.proofs.lemmas.Bool.Decides.{nat_tests}
 use Rattle.std.specs.Prelude.{is_some, nat_eq, bytes_eq, option_map, option_and_then, not, ◌&&◌, ◌||◌, ◌==◌, if◌then◌else◌}
@@ -58,7 +58,7 @@ gone_there false z = refl
 
 -- WHAT IS LET GO
 
-module _ {B : Type 0} {g : Ghosts B} {lim : Limits} (r u : Rows B g) (t : Tables) (may : MayLetGo t) (stands : RowsStand lim r t) (now n : ℕ) (k : Kept) (v : Representation)
+module _ {B : Type 0} {g : Ghosts B} {limits : Limits} (r u : Rows B g) (t : Tables) (may : MayLetGo t) (stands : RowsStand limits r t) (now n : ℕ) (k : Kept) (v : Representation)
     (at : (shelf_of r.entries).kept n ≡ Some k) (row : t.representation n ≡ Some v) (entry : IsEntry t n k v) (fresh : k.is_gone ≡ false) where
   abbrev s : Tables
   s = let_go now n t
@@ -393,7 +393,7 @@ module _ {B : Type 0} {g : Ghosts B} {lim : Limits} (r u : Rows B g) (t : Tables
   pub stands_without : (mid : KeyTable) → u.last_start ≡ r.last_start → u.exchanges ≡ r.exchanges
       → ChangesAmong r.consumers u.consumers (λ c. is_in c (line_of r.keys k.key)) (over_if_passed now)
       → keys.Becomes (on_line passed_back) k.key r.keys mid → keys.Becomes (with_current None) k.key mid u.keys
-      → shelves.Becomes (option_and_then kept.kept_as_gone) (taken_out n) n (shelf_of r.entries) (shelf_of u.entries) → RowsStand lim u s
+      → shelves.Becomes (option_and_then kept.kept_as_gone) (taken_out n) n (shelf_of r.entries) (shelf_of u.entries) → RowsStand limits u s
   stands_without mid last exchanges consumers line cleared forgot = record {
     limits = forgot.limits ∙ stands.limits;
     last_start = last ∙ stands.last_start;
@@ -424,8 +424,8 @@ pub lets_go : {B : Type 0} {g : Ghosts B} (r u : Rows B g) (now n : ℕ) (key : 
     → ChangesAmong r.consumers u.consumers (λ c. is_in c (line_of r.keys key)) (over_if_passed now)
     → keys.Becomes (on_line passed_back) key r.keys mid → keys.Becomes (with_current None) key mid u.keys
     → shelves.Becomes (option_and_then kept.kept_as_gone) (taken_out n) n (shelf_of r.entries) (shelf_of u.entries)
-    → (lim : Limits) (t : Tables) → MayLetGo t → RowsStand lim r t → RowsStand lim u (let_go now n t)
-lets_go r u now n key mid has_key usable last exchanges consumers line cleared forgot lim t may stands =
+    → (limits : Limits) (t : Tables) → MayLetGo t → RowsStand limits r t → RowsStand limits u (let_go now n t)
+lets_go r u now n key mid has_key usable last exchanges consumers line cleared forgot limits t may stands =
     let (k, at, of_key, fresh) = kept_key ((shelf_of r.entries).kept n) key has_key usable in
     let (v, row, entry) = entry_row t n k (t.representation n) (subst (λ o. KeepsEntry t n o (t.representation n)) at (stands.entries.each n)) in
     let its : key ≡ k.key = sym of_key in
@@ -435,9 +435,9 @@ lets_go r u now n key mid has_key usable last exchanges consumers line cleared f
 
 -- what isn't kept, or is gone, isn't let go once more
 pub lets_none_go : {B : Type 0} {g : Ghosts B} (r : Rows B g) (now n : ℕ) → is_usable_kept ((shelf_of r.entries).kept n) ≡ false
-    → (lim : Limits) (t : Tables) → MayLetGo t → RowsStand lim r t → RowsStand lim r (let_go now n t)
-lets_none_go r now n none lim t may stands =
-    subst (RowsStand lim r) (sym (let_go_nothing t may now n (λ v row. by_kept ((shelf_of r.entries).kept n) refl v row))) stands
+    → (limits : Limits) (t : Tables) → MayLetGo t → RowsStand limits r t → RowsStand limits r (let_go now n t)
+lets_none_go r now n none limits t may stands =
+    subst (RowsStand limits r) (sym (let_go_nothing t may now n (λ v row. by_kept ((shelf_of r.entries).kept n) refl v row))) stands
   where
     by_entry : (o : Option Kept) (v : Representation) → is_usable_kept o ≡ false → KeepsEntry t n o (Some v) → v.is_gone ≡ true
     by_entry None v off entry = entry.gone

@@ -33,7 +33,7 @@ use Rattle.hc_effects.proofs.PollKeeps.{current_stays}
 use Rattle.hc_effects.proofs.UpdateEffects.{validated}
 use Rattle.hc_effects.proofs.Tests.{and_false, none_some}
 use Rattle.hc_state.specs.declared.rows.Rows.{Rows}
-use Rattle.hc_state.specs.Arms.{IsInKey}
+use Rattle.hc_state.specs.Handlers.{IsInKey}
 use Rattle.hc_state.specs.Facts.{Facts}
 use Rattle.hc_state.specs.Heads.{AwaitsHead, IsAskedBy, IsUnread, unless_over}
 use Rattle.hc_state.specs.Renewals.{KeepsBeside, IsSelected, renewed_head}
@@ -42,19 +42,19 @@ use Rattle.hc_state.specs.Stored.{KeepsEntry, IsEntry, is_usable_kept}
 use Rattle.hc_state.proofs.Answering.{does_answered}
 use Rattle.hc_state.proofs.Counting.{stands_counted}
 use Rattle.hc_on_head.specs.declared.heard.Heard.{Heard}
-use Rattle.hc_on_head.specs.Comings.{IsHeard}
+use Rattle.hc_on_head.specs.Comings.{MayCome}
 use Rattle.hc_on_leave.proofs.HeadCases.{it_is, case_selected, case_unselected}
 use Rattle.hc_on_head.proofs.HeadTold.{past_of_runs}
 use Rattle.hc_on_leave.proofs.HeardRows.{Asker, headless_of, runs_as}
 use Rattle.hc_state.proofs.Maps.{merely_true}
-use Rattle.hc_on_leave.proofs.RefuseArm.{stands_refused, closes_as}
-use Rattle.hc_on_head.proofs.RenewedArm.{stands_renewed}
+use Rattle.hc_on_leave.proofs.RefuseHandler.{stands_refused, closes_as}
+use Rattle.hc_on_head.proofs.RenewedHandler.{stands_renewed}
 use Rattle.hc_state.proofs.ReaderSteps.{answered_since, stands_read}
-use Rattle.hc_on_leave.proofs.UnstoredArms.{beside, unread_then, unwritten}
+use Rattle.hc_on_leave.proofs.UnstoredHandlers.{beside, unread_then, unwritten}
 
 -- WHERE WHAT IS STORED STAYS
 
-pub stands_unrenewed : {B : Type 0} {g : Ghosts B} {lim : Limits} (r u : Rows B g) (t : Tables) → KeepsBeside r u → shelf.Stays (shelf_of r.entries) (shelf_of u.entries) → RowsStand lim r t → RowsStand lim u t
+pub stands_unrenewed : {B : Type 0} {g : Ghosts B} {limits : Limits} (r u : Rows B g) (t : Tables) → KeepsBeside r u → shelf.Stays (shelf_of r.entries) (shelf_of u.entries) → RowsStand limits r t → RowsStand limits u t
 stands_unrenewed r u t rest same stands = stands_read r u t rest.last_start rest.consumers rest.exchanges rest.keys same stands
 
 pub past_unrenewed : {B : Type 0} {g : Ghosts B} (r u : Rows B g) → KeepsBeside r u → shelf.Stays (shelf_of r.entries) (shelf_of u.entries) → Stands r → Stands u
@@ -71,7 +71,7 @@ past_unrenewed r u rest same p = record {
 -- WHAT IS CURRENT STILL
 
 -- one that is current is kept
-pub kept_current : {B : Type 0} {g : Ghosts B} {lim : Limits} (r : Rows B g) (t : Tables) (key : List ℕ) (q : ℕ) (v : Representation) → RowsStand lim r t → t.representation q ≡ Some v → v.is_gone ≡ false → (e : Kept) × ((shelf_of r.entries).kept q ≡ Some e) × IsEntry t q e v
+pub kept_current : {B : Type 0} {g : Ghosts B} {limits : Limits} (r : Rows B g) (t : Tables) (key : List ℕ) (q : ℕ) (v : Representation) → RowsStand limits r t → t.representation q ≡ Some v → v.is_gone ≡ false → (e : Kept) × ((shelf_of r.entries).kept q ≡ Some e) × IsEntry t q e v
 kept_current r t key q v stands row stays = by_kept ((shelf_of r.entries).kept q) refl (subst (KeepsEntry t q ((shelf_of r.entries).kept q)) row (stands.entries.each q))
   where
     by_kept : (k : Option Kept) → (shelf_of r.entries).kept q ≡ k → KeepsEntry t q k (Some v) → (e : Kept) × ((shelf_of r.entries).kept q ≡ Some e) × IsEntry t q e v
@@ -82,7 +82,7 @@ kept_current r t key q v stands row stays = by_kept ((shelf_of r.entries).kept q
 pub selects_same : (t : Tables) (q : ℕ) (e : Kept) (v : Representation) (response : Response) → IsEntry t q e v → selects e.head response ≡ selects v.head response
 selects_same t q e v response is = ap (λ (h : Head). selects h response) is.head
 
-module _ {B : Type 0} {g : Ghosts B} {lim : Limits} (r mid thr u : Rows B g) (t : Tables) (facts : Facts lim t) (stands : RowsStand lim r t) (now x : ℕ) (response : Response) (goes : denial t (event.Head x response) ≡ None) (w : Exchange) (a : Asker r t x w)
+module _ {B : Type 0} {g : Ghosts B} {limits : Limits} (r mid thr u : Rows B g) (t : Tables) (facts : Facts limits t) (stands : RowsStand limits r t) (now x : ℕ) (response : Response) (goes : denial t (event.Head x response) ≡ None) (w : Exchange) (a : Asker r t x w)
     (unselected : head_case (record (head_view t false w response) { selects = false }) ≡ case.NotValidated) (q : ℕ) (v : Representation) (aim : w.aim ≡ Some q) (cur : current t w.request.key ≡ Some q) (row : t.representation q ≡ Some v) (before out : List Act) where
   abbrev ev : Event
   ev = event.Head x response
@@ -135,15 +135,15 @@ module _ {B : Type 0} {g : Ghosts B} {lim : Limits} (r mid thr u : Rows B g) (t 
       unread_then t facts.law x w a.v aw moved z (rw (eqb-same w.c) refl) (λ d n is ne. inl (sym (beside m w.c d (Some z) ne) ∙ is)) aw.row unfounded
       (λ n lo hi h. (let never : place.Passed q (Some x) ≡ place.Bound n lo hi (by.FirstHole x) = h in absurd (cc))) (λ h. (let never : place.Passed q (Some x) ≡ place.Direct x = h in absurd (cc)))
 
-  pub validated_answered : selects v.head response ≡ true → RowsStand lim thr moved → out ≡ before ++ map act.Close (unless_over x (length_by (table_of thr.exchanges x).running response)) → KeepsRest thr u → u.consumers ≡ thr.consumers → exch.Becomes known.without_exchange x thr.exchanges u.exchanges
-      → Answered lim (shelf_of r.entries).faults u t before out now ev
+  pub validated_answered : selects v.head response ≡ true → RowsStand limits thr moved → out ≡ before ++ map act.Close (unless_over x (length_by (table_of thr.exchanges x).running response)) → KeepsRest thr u → u.consumers ≡ thr.consumers → exch.Becomes known.without_exchange x thr.exchanges u.exchanges
+      → Answered limits (shelf_of r.entries).faults u t before out now ev
   validated_answered on stood told rest consumers becomes =
       let validates_now : validates t w response ≡ true = rw (cur, aim, eqb-same q, row) on in
       let is = case_selected (head_view t false w response) unselected validates_now refl in
       let tells = told ∙ (ap (λ (ys : List ℕ). before ++ map act.Close ys) (closes_as thr moved x w response stood aw.row aw.is_open ∙ ended)) in
-      does_answered lim (shelf_of r.entries).faults u t (with_event now ev (with_consumer w.c (Some z) (with_answer now x response w.joined w m))) before out [] now ev
-      (validated lim t facts.law now x response goes w aw.row a.v aw.asker q v aim row is) (unwritten t now x response w case.Validated aw.row is refl) refl tells
-      (stands_counted u _ now ev refl (subst (λ (ys : List ℕ). RowsStand lim u (all_closed ys (with_answer now x response w.joined w moved))) ended (stands_refused thr u moved now x response w stood unread rest consumers becomes)))
+      does_answered limits (shelf_of r.entries).faults u t (with_event now ev (with_consumer w.c (Some z) (with_answer now x response w.joined w m))) before out [] now ev
+      (validated limits t facts.law now x response goes w aw.row a.v aw.asker q v aim row is) (unwritten t now x response w case.Validated aw.row is refl) refl tells
+      (stands_counted u _ now ev refl (subst (λ (ys : List ℕ). RowsStand limits u (all_closed ys (with_answer now x response w.joined w moved))) ended (stands_refused thr u moved now x response w stood unread rest consumers becomes)))
 
   -- IT DOESN'T
 
@@ -179,7 +179,7 @@ pub record IsStill {B : Type 0} {g : Ghosts B} (r : Rows B g) (t : Tables) (key 
   pub kept : (shelf_of r.entries).kept q ≡ Some e
   pub is : IsEntry t q e v
 
-pub still_kept : {B : Type 0} {g : Ghosts B} {lim : Limits} (r : Rows B g) (t : Tables) (key : List ℕ) (q : ℕ) → RowsStand lim r t → (kept_of r.keys key).current ≡ Some q → IsStill r t key q
+pub still_kept : {B : Type 0} {g : Ghosts B} {limits : Limits} (r : Rows B g) (t : Tables) (key : List ℕ) (q : ℕ) → RowsStand limits r t → (kept_of r.keys key).current ≡ Some q → IsStill r t key q
 still_kept r t key q stands is =
     let cur : current t key ≡ Some q = sym (stands.keys key).current ∙ is in
     let found = current_row t q key cur in
@@ -200,7 +200,7 @@ pub key_heard : {B : Type 0} {g : Ghosts B} (r : Rows B g) (x : ℕ) (aim : Opti
 key_heard r x aim found accepted tells = let h = headless_of (table_of r.exchanges x).running accepted in (h.o, h.there, tells h.o h.there)
 
 -- where it isn't current any more, nothing is selected
-pub unstill_as : {B : Type 0} {g : Ghosts B} {lim : Limits} (r : Rows B g) (t : Tables) (x : ℕ) (o : Open) (w : Exchange) (aim : Option ℕ) (response : Response) → RowsStand lim r t → (table_of r.exchanges x).running ≡ Some o → t.exchange x ≡ Some w → aim ≡ w.aim
+pub unstill_as : {B : Type 0} {g : Ghosts B} {limits : Limits} (r : Rows B g) (t : Tables) (x : ℕ) (o : Open) (w : Exchange) (aim : Option ℕ) (response : Response) → RowsStand limits r t → (table_of r.exchanges x).running ≡ Some o → t.exchange x ≡ Some w → aim ≡ w.aim
     → is_same_number (kept_of r.keys o.request.key).current aim ≡ false → validates t w response ≡ false
 unstill_as r t x o w aim response stands there row about off =
     let runs = runs_as r t x o w stands there row in
@@ -220,7 +220,7 @@ module _ {B : Type 0} {g : Ghosts B} (r mid : Rows B g) (rest : KeepsBeside r mi
   asked_on c x asked = (let exchanges = rest.exchanges in rw exchanges asked)
 
   -- what is heard then
-  pub heard_on : (heard : Heard) → shelf.Stays (shelf_of r.entries) (shelf_of mid.entries) → IsHeard r heard → IsHeard mid heard
+  pub heard_on : (heard : Heard) → shelf.Stays (shelf_of r.entries) (shelf_of mid.entries) → MayCome r heard → MayCome mid heard
   heard_on heard same comes = record {
     stands = ∥∥₁_map comes.stands (λ p. past_unrenewed r mid rest same p);
     accepted = accepted_on heard.x comes.accepted;
@@ -229,9 +229,9 @@ module _ {B : Type 0} {g : Ghosts B} (r mid : Rows B g) (rest : KeepsBeside r mi
   }
 
   -- what is answered from then on
-  pub answered_on : {lim : Limits} (u : Rows B g) (t : Tables) (before out : List Act) (now : ℕ) (ev : Event) → (shelf_of r.entries).faults ≤ (shelf_of mid.entries).faults → Answered lim (shelf_of mid.entries).faults u t before out now ev → Answered lim (shelf_of r.entries).faults u t before out now ev
-  answered_on {lim = lim} u t before out now ev le it =
-      answered_since lim (shelf_of r.entries).faults (shelf_of mid.entries).faults u t before out now ev le it
+  pub answered_on : {limits : Limits} (u : Rows B g) (t : Tables) (before out : List Act) (now : ℕ) (ev : Event) → (shelf_of r.entries).faults ≤ (shelf_of mid.entries).faults → Answered limits (shelf_of mid.entries).faults u t before out now ev → Answered limits (shelf_of r.entries).faults u t before out now ev
+  answered_on {limits = limits} u t before out now ev le it =
+      answered_since limits (shelf_of r.entries).faults (shelf_of mid.entries).faults u t before out now ev le it
 
 -- WHAT IT SELECTED
 
@@ -248,7 +248,7 @@ pub record IsCurrentStill {B : Type 0} {g : Ghosts B} (r : Rows B g) (t : Tables
   pub kept : (shelf_of r.entries).kept q ≡ Some e
   pub is : IsEntry t q e v
 
-pub current_still : {B : Type 0} {g : Ghosts B} {lim : Limits} (r : Rows B g) (t : Tables) (x : ℕ) (o : Open) (w : Exchange) (aim : Option ℕ) (q : ℕ) → RowsStand lim r t → (table_of r.exchanges x).running ≡ Some o → t.exchange x ≡ Some w → aim ≡ w.aim
+pub current_still : {B : Type 0} {g : Ghosts B} {limits : Limits} (r : Rows B g) (t : Tables) (x : ℕ) (o : Open) (w : Exchange) (aim : Option ℕ) (q : ℕ) → RowsStand limits r t → (table_of r.exchanges x).running ≡ Some o → t.exchange x ≡ Some w → aim ≡ w.aim
     → Some q ≡ (if is_same_number (kept_of r.keys o.request.key).current aim then aim else None) → IsCurrentStill r t w q
 current_still r t x o w aim q stands there row about tells =
     let runs = runs_as r t x o w stands there row in
@@ -256,11 +256,11 @@ current_still r t x o w aim q stands there row about tells =
     let s = still_kept r t o.request.key q stands found.0 in
     record { cur = ap (λ (n : Request). current t n.key) (sym runs.request) ∙ s.cur; named = sym about ∙ found.1; v = s.v; row = s.row; e = s.e; kept = s.kept; is = s.is }
 
-module _ {B : Type 0} {g : Ghosts B} {lim : Limits} (r mid : Rows B g) (t : Tables) (x now : ℕ) (o : Open) (w : Exchange) (q : ℕ) (response : Response) (stands : RowsStand lim r t) (there : (table_of r.exchanges x).running ≡ Some o) (row : t.exchange x ≡ Some w) (s : IsCurrentStill r t w q) where
+module _ {B : Type 0} {g : Ghosts B} {limits : Limits} (r mid : Rows B g) (t : Tables) (x now : ℕ) (o : Open) (w : Exchange) (q : ℕ) (response : Response) (stands : RowsStand limits r t) (there : (table_of r.exchanges x).running ≡ Some o) (row : t.exchange x ≡ Some w) (s : IsCurrentStill r t w q) where
   pub tells_selected : (b : Bool) → IsSelected r mid x now q response b → b ≡ selects s.v.head response
   tells_selected b sel = sel.tells s.e s.kept ∙ selects_same t q s.e s.v response s.is
 
-  pub stands_selected : IsSelected r mid x now q response true → RowsStand lim mid (with_representation q (Some (with_refreshed_head now response w s.v)) t)
+  pub stands_selected : IsSelected r mid x now q response true → RowsStand limits mid (with_representation q (Some (with_refreshed_head now response w s.v)) t)
   stands_selected sel =
       let runs = runs_as r t x o w stands there row in
       stands_renewed r mid t now response w q s.v s.e s.row stands sel.rest s.kept

@@ -28,14 +28,14 @@ use Rattle.hc_state.specs.Refused.{Brings, MayHold, MayLoseOwn, MayLosePiece, Lo
 use Rattle.hc_state.specs.Stands.{Answered, RowsStand}
 use Rattle.hc_state.specs.Stopped.{HoldsNothing}
 use Rattle.hc_state.proofs.Fallbacks.{unstored_moved}
-use Rattle.hc_on_leave.proofs.FoundArm.{bound_back, make_gone}
+use Rattle.hc_on_leave.proofs.FoundHandler.{bound_back, make_gone}
 use Rattle.hc_on_leave.proofs.LoseAlone.{holds_none}
 use Rattle.hc_on_leave.proofs.LoseTurn.{survivor_same}
 use Rattle.hc_on_body.proofs.LostPiece.{Owner, owner, owner_within, absent, reached, brought_some}
 use Rattle.hc_on_body.proofs.LostTables.{own_tables, open_tables, fails_tables}
-use Rattle.hc_on_leave.proofs.PieceArm.{open_unended}
+use Rattle.hc_on_leave.proofs.PieceHandler.{open_unended}
 use Rattle.hc_on_leave.proofs.PieceRoom.{may_make_room, gives_same, spared}
-use Rattle.hc_on_leave.proofs.StoreArm.{Stores}
+use Rattle.hc_on_leave.proofs.StoreHandler.{Stores}
 
 -- the acts show what is lost
 flaw_closes : (q : ℕ) (kind : LostKind) (xs rs : List ℕ) → flaw_in (map act.Evicted rs ++ (act.Lost q kind ∷ map act.Close xs)) ≡ Loses q kind
@@ -46,7 +46,7 @@ flaw_closes q kind xs (r ∷ rs) = flaw_closes q kind xs rs
 still : (now : ℕ) (es : List ℕ) (k : rows.Consumer) (q lo : ℕ) (hi : Option ℕ) (how : BoundBy) → k.place ≡ place.Bound q lo hi how → back_from_any now es k ≡ k
 still now es k q lo hi how at = rw at refl
 
-module _ {B : Type 0} {g : Ghosts B} {lim : Limits} (r put : Rows B g) (t : Tables) (facts : Facts lim t) (stands : RowsStand lim r t) (now x q : ℕ) (bytes : List ℕ) (goes : denial t (event.Piece x bytes) ≡ None) (it : Stores t x q (length bytes)) (kind : LostKind) (before mid : List Act) (refuses : Refuses lim r put t now x bytes kind before mid) where
+module _ {B : Type 0} {g : Ghosts B} {limits : Limits} (r put : Rows B g) (t : Tables) (facts : Facts limits t) (stands : RowsStand limits r t) (now x q : ℕ) (bytes : List ℕ) (goes : denial t (event.Piece x bytes) ≡ None) (it : Stores t x q (length bytes)) (kind : LostKind) (before mid : List Act) (refuses : Refuses limits r put t now x bytes kind before mid) where
   abbrev ev : Event
   ev = event.Piece x bytes
 
@@ -66,7 +66,7 @@ module _ {B : Type 0} {g : Ghosts B} {lim : Limits} (r put : Rows B g) (t : Tabl
   there = sym (ap t.representation it.of_q) ∙ it.there
 
   abbrev es : List ℕ
-  es = evicted lim t now ev
+  es = evicted limits t now ev
 
   abbrev left : Tables
   left = let_all_go now es t
@@ -77,8 +77,8 @@ module _ {B : Type 0} {g : Ghosts B} {lim : Limits} (r put : Rows B g) (t : Tabl
   apart : is_in es q ≡ false
   apart =
       ap (λ n. is_in es n) (sym it.of_q)
-      ∙ (ap (λ rs. is_in rs (family x w)) (gives_same lim t facts.law now x bytes goes w it.row v it.there it.fresh)
-      ∙ spared lim t facts.law now x bytes goes w it.row v it.there it.fresh opened headed)
+      ∙ (ap (λ rs. is_in rs (family x w)) (gives_same limits t facts.law now x bytes goes w it.row v it.there it.fresh)
+      ∙ spared limits t facts.law now x bytes goes w it.row v it.there it.fresh opened headed)
 
   there_left : left.representation q ≡ Some v
   there_left = ap (λ (z : Tables). z.representation q) left_is ∙ (let off = apart in let here = there in rw (off, here) refl)
@@ -123,8 +123,8 @@ module _ {B : Type 0} {g : Ghosts B} {lim : Limits} (r put : Rows B g) (t : Tabl
   fault_of kinds.TooLarge is = absurd (false_true is)
   fault_of kinds.Full is = absurd (false_true is)
 
-  answered_lost : (u : Rows B g) (s : Tables) (out : List Act) (xs : List ℕ) → Does lim t now ev (Loses q kind) (map act.Evicted es ++ (act.Lost q kind ∷ map act.Close xs)) s → out ≡ mid ++ (act.Lost q kind ∷ map act.Close xs)
-      → (shelf_of put.entries).faults ≤ (shelf_of u.entries).faults → RowsStand lim u s → Answered lim (shelf_of r.entries).faults u t before out now ev
+  answered_lost : (u : Rows B g) (s : Tables) (out : List Act) (xs : List ℕ) → Does limits t now ev (Loses q kind) (map act.Evicted es ++ (act.Lost q kind ∷ map act.Close xs)) s → out ≡ mid ++ (act.Lost q kind ∷ map act.Close xs)
+      → (shelf_of put.entries).faults ≤ (shelf_of u.entries).faults → RowsStand limits u s → Answered limits (shelf_of r.entries).faults u t before out now ev
   answered_lost u s out xs does told failed stood = record {
     flaw = Loses q kind;
     acts =
@@ -132,9 +132,9 @@ module _ {B : Type 0} {g : Ghosts B} {lim : Limits} (r put : Rows B g) (t : Tabl
         ∙ (append_assoc before (map act.Evicted es) (act.Lost q kind ∷ map act.Close xs)
         ∙ ap (λ z. before ++ z) (sym does.acts_are)));
     shown = ap flaw_in does.acts_are ∙ flaw_closes q kind xs es;
-    may = let writes = writes_it_now (entry_of lim t now ev (Loses q kind)) refl in let kept = kept_now in let may = refuses.may in rw (writes, kept, may) (ap (λ (b : Bool). b && true && true) (eqb-same q));
+    may = let writes = writes_it_now (entry_of limits t now ev (Loses q kind)) refl in let kept = kept_now in let may = refuses.may in rw (writes, kept, may) (ap (λ (b : Bool). b && true && true) (eqb-same q));
     caused = λ is. (let less = refuses.caused (fault_of kind is) in omega (arith, less, failed));
-    rows = subst (RowsStand lim u) (sym does.tables_are) stood;
+    rows = subst (RowsStand limits u) (sym does.tables_are) stood;
   }
 
   -- WHO WRITES IT ALONE
@@ -166,7 +166,7 @@ module _ {B : Type 0} {g : Ghosts B} {lim : Limits} (r put : Rows B g) (t : Tabl
           by_reader c k (sound.is_bound lo hi how here stood) is =
               ap (unstored_bytes left y z v) (bound_left c lo hi how k here stood ∙ sym here)
               ∙ (unstored_moved t left y z v (t.consumer c)
-              ∙ (sym (ap (held_alone t y z v) is) ∙ holds_none lim t facts q v there it.fresh y z at_first of_q))
+              ∙ (sym (ap (held_alone t y z v) is) ∙ holds_none limits t facts q v there it.fresh y z at_first of_q))
 
           by_writer : (o : Option ℕ) → o ≡ exclusive t q v → held_alone left y z v o ≡ []
           by_writer None is = refl
@@ -204,18 +204,18 @@ module _ {B : Type 0} {g : Ghosts B} {lim : Limits} (r put : Rows B g) (t : Tabl
           unmoved : (k : rows.Consumer) → k.place ≡ place.Bound q o.lo o.hi o.how → back_from now q k ≡ k
           unmoved k at = rw at refl
 
-      pub own_answered : (u : Rows B g) (out : List Act) → (MayLoseOwn left now q x w v alone → RowsStand lim put left → RowsStand lim u (brought_lost now q x w bytes (as_gone (lost_to alone v)) (own_loss now q v alone left)))
-          → out ≡ mid ++ (act.Lost q kind ∷ []) → (shelf_of put.entries).faults ≤ (shelf_of u.entries).faults → Answered lim (shelf_of r.entries).faults u t before out now ev
+      pub own_answered : (u : Rows B g) (out : List Act) → (MayLoseOwn left now q x w v alone → RowsStand limits put left → RowsStand limits u (brought_lost now q x w bytes (as_gone (lost_to alone v)) (own_loss now q v alone left)))
+          → out ≡ mid ++ (act.Lost q kind ∷ []) → (shelf_of put.entries).faults ≤ (shelf_of u.entries).faults → Answered limits (shelf_of r.entries).faults u t before out now ev
       own_answered u out loses told failed =
-          answered_lost u _ out [] (alone_does.loses_alone lim t facts.law now x bytes w it.row goes q v it.of_q there kind it.fresh off) told failed
-          (subst (RowsStand lim u) (sym (own_tables now q x bytes w v es t apart (exclusive t q v)))
-          (subst (λ (a : Option ℕ). RowsStand lim u (brought_lost now q x w bytes (as_gone (lost_to a v)) (own_loss now q v a left))) alone_is (loses may_own refuses.gives.rows)))
+          answered_lost u _ out [] (alone_does.loses_alone limits t facts.law now x bytes w it.row goes q v it.of_q there kind it.fresh off) told failed
+          (subst (RowsStand limits u) (sym (own_tables now q x bytes w v es t apart (exclusive t q v)))
+          (subst (λ (a : Option ℕ). RowsStand limits u (brought_lost now q x w bytes (as_gone (lost_to a v)) (own_loss now q v a left))) alone_is (loses may_own refuses.gives.rows)))
 
   -- IT IS WRITTEN FOR SEVERAL
 
   module _ (on : is_written t v ≡ true) where
     writer_is : v.writer ≡ Some x
-    writer_is = shared_does.writer_is lim t facts.law now x bytes w it.row goes q v it.of_q there kind on
+    writer_is = shared_does.writer_is limits t facts.law now x bytes w it.row goes q v it.of_q there kind on
 
     growing : (z : Exchange) × sound.IsGrowing t q v x z
     growing = (facts.law.sound.rows q v there).growing x on writer_is
@@ -296,23 +296,23 @@ module _ {B : Type 0} {g : Ghosts B} {lim : Limits} (r put : Rows B g) (t : Tabl
           detached_reader_holds d reader.0 one reader.1);
     }
 
-    pub shared_answered : (u : Rows B g) (out : List Act) → (MayLosePiece left now q x w v → RowsStand lim put left → LosesPiece lim u left mid out now q x bytes w v kind)
-        → (shelf_of put.entries).faults ≤ (shelf_of u.entries).faults → Answered lim (shelf_of r.entries).faults u t before out now ev
+    pub shared_answered : (u : Rows B g) (out : List Act) → (MayLosePiece left now q x w v → RowsStand limits put left → LosesPiece limits u left mid out now q x bytes w v kind)
+        → (shelf_of put.entries).faults ≤ (shelf_of u.entries).faults → Answered limits (shelf_of r.entries).faults u t before out now ev
     shared_answered u out loses failed = by_detached_reader (survivor t q v) refl
       where
-        lost : LosesPiece lim u left mid out now q x bytes w v kind
+        lost : LosesPiece limits u left mid out now q x bytes w v kind
         lost = loses may_piece refuses.gives.rows
 
         told_as : (o : Option ℕ) → survivor left q v ≡ o → out ≡ mid ++ (act.Lost q kind ∷ map act.Close (closes_with o x bytes w))
         told_as o is = lost.acts ∙ ap (λ (z : Option ℕ). mid ++ (act.Lost q kind ∷ map act.Close (closes_with z x bytes w))) is
 
-        rows_as : (o : Option ℕ) → survivor left q v ≡ o → RowsStand lim u (all_closed (closes_with o x bytes w) (brought_lost now q x w bytes (as_gone (lost_to o v)) (shared_loss now q x v o left)))
-        rows_as o is = subst (λ (z : Option ℕ). RowsStand lim u (all_closed (closes_with z x bytes w) (brought_lost now q x w bytes (as_gone (lost_to z v)) (shared_loss now q x v z left)))) is lost.rows
+        rows_as : (o : Option ℕ) → survivor left q v ≡ o → RowsStand limits u (all_closed (closes_with o x bytes w) (brought_lost now q x w bytes (as_gone (lost_to o v)) (shared_loss now q x v o left)))
+        rows_as o is = subst (λ (z : Option ℕ). RowsStand limits u (all_closed (closes_with z x bytes w) (brought_lost now q x w bytes (as_gone (lost_to z v)) (shared_loss now q x v z left)))) is lost.rows
 
-        by_detached_reader : (o : Option ℕ) → survivor t q v ≡ o → Answered lim (shelf_of r.entries).faults u t before out now ev
+        by_detached_reader : (o : Option ℕ) → survivor t q v ≡ o → Answered limits (shelf_of r.entries).faults u t before out now ev
         by_detached_reader (Some d) is =
-            answered_lost u _ out [] (shared_does.goes_on lim t facts.law now x bytes w it.row goes q v it.of_q there kind on d is) (told_as (Some d) (detached_reader_same ∙ is)) failed
-            (subst (RowsStand lim u) (sym (open_tables now q x bytes w v es t apart (Some d))) (rows_as (Some d) (detached_reader_same ∙ is)))
+            answered_lost u _ out [] (shared_does.goes_on limits t facts.law now x bytes w it.row goes q v it.of_q there kind on d is) (told_as (Some d) (detached_reader_same ∙ is)) failed
+            (subst (RowsStand limits u) (sym (open_tables now q x bytes w v es t apart (Some d))) (rows_as (Some d) (detached_reader_same ∙ is)))
         by_detached_reader None is =
-            answered_lost u _ out (unless_reached x bytes w) (shared_does.all_fail lim t facts.law now x bytes w it.row goes q v it.of_q there kind on is) (told_as None (detached_reader_same ∙ is)) failed
-            (subst (RowsStand lim u) (sym (fails_tables now q x bytes w v es t apart None (with_piece bytes w).is_open)) (rows_as None (detached_reader_same ∙ is)))
+            answered_lost u _ out (unless_reached x bytes w) (shared_does.all_fail limits t facts.law now x bytes w it.row goes q v it.of_q there kind on is) (told_as None (detached_reader_same ∙ is)) failed
+            (subst (RowsStand limits u) (sym (fails_tables now q x bytes w v es t apart None (with_piece bytes w).is_open)) (rows_as None (detached_reader_same ∙ is)))

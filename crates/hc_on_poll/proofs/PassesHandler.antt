@@ -1,4 +1,4 @@
--- A consumer waits for another that uses what is current, outside of the line: what is kept stands for the tables then.
+-- A consumer waits for another that uses what is current, outside of the line: what is kept represents the tables then.
 use Rattle.std.proofs.Common.{◌≡◌, ℕ, List, [], ◌∷◌, ◌++◌, Bool, true, false, Option, Some, None, refl, ap, sym, ◌∙◌, subst}
 use Rattle.std.specs.Prelude.{nat_eq, bytes_eq}
 use Rattle.std.specs.HashMap.{get}
@@ -31,9 +31,9 @@ use Rattle.hc_state.proofs.FallbackSteps.{falls_back}
 use Rattle.hc_state.proofs.ConsumerSteps.{keys_with}
 use Rattle.hc_state.proofs.Counting.{stands_counted}
 use Rattle.hc_state.proofs.KeySteps.{says_elsewhere, not_lined, passes_key}
-use Rattle.hc_state.proofs.QueueArm.{becomes_by}
+use Rattle.hc_state.proofs.QueueHandler.{becomes_by}
 
-module _ {B : Type 0} {g : Ghosts B} {lim : Limits} (r u : Rows B g) (t : Tables) (law : Lawful t) (c q : ℕ) (k : Consumer) (v : rows.Consumer) (stands : RowsStand lim r t) (there : get nat_eq r.consumers c ≡ Some k) (row : t.consumer c ≡ Some v) (now_is : current t v.request.key ≡ Some q)
+module _ {B : Type 0} {g : Ghosts B} {limits : Limits} (r u : Rows B g) (t : Tables) (law : Lawful t) (c q : ℕ) (k : Consumer) (v : rows.Consumer) (stands : RowsStand limits r t) (there : get nat_eq r.consumers c ≡ Some k) (row : t.consumer c ≡ Some v) (now_is : current t v.request.key ≡ Some q)
     (last : u.last_start ≡ r.last_start) (exchanges : u.exchanges ≡ r.exchanges) (entries : u.entries ≡ r.entries) where
   kept : IsKept t k v
   kept = subst (KeepsConsumer t (Some k)) row (subst (λ o. KeepsConsumer t o (t.consumer c)) there (stands.consumers c))
@@ -42,7 +42,7 @@ module _ {B : Type 0} {g : Ghosts B} {lim : Limits} (r u : Rows B g) (t : Tables
   w = let_through q v
 
   -- who has passed stays as it is
-  pub stands_passed : is_idle_at k.place ≡ true → (k.place ≡ place.Line → ⊥) → u.consumers ≡ r.consumers → u.keys ≡ r.keys → RowsStand lim u (with_consumer c (Some w) t)
+  pub stands_passed : is_idle_at k.place ≡ true → (k.place ≡ place.Line → ⊥) → u.consumers ≡ r.consumers → u.keys ≡ r.keys → RowsStand limits u (with_consumer c (Some w) t)
   stands_passed idle unlined consumers same_keys = by_place k.place refl
     where
       still : (n : ℕ) (how : Option ℕ) → v.place ≡ place.Passed n how → w ≡ v
@@ -51,8 +51,8 @@ module _ {B : Type 0} {g : Ghosts B} {lim : Limits} (r u : Rows B g) (t : Tables
           let same : q ≡ n = some_is q n (sym now_is ∙ waits.current_is) in
           ap (λ (p : Place). record v { place = p }) (ap (place.Passed q) (ap kept_by at) ∙ (ap (λ (m : ℕ). place.Passed m how) same ∙ sym at))
 
-      stands_still : with_consumer c (Some w) t ≡ t → RowsStand lim u (with_consumer c (Some w) t)
-      stands_still same = subst (RowsStand lim u) (sym same) (record {
+      stands_still : with_consumer c (Some w) t ≡ t → RowsStand limits u (with_consumer c (Some w) t)
+      stands_still same = subst (RowsStand limits u) (sym same) (record {
         limits = rw entries stands.limits;
         last_start = last ∙ stands.last_start;
         next = rw exchanges stands.next;
@@ -63,7 +63,7 @@ module _ {B : Type 0} {g : Ghosts B} {lim : Limits} (r u : Rows B g) (t : Tables
         entries = rw entries stands.entries;
       })
 
-      by_place : (p : Place) → k.place ≡ p → RowsStand lim u (with_consumer c (Some w) t)
+      by_place : (p : Place) → k.place ≡ p → RowsStand limits u (with_consumer c (Some w) t)
       by_place place.Line at = absurd (unlined at)
       by_place (place.Passed n how) at = stands_still (ap (λ (z : rows.Consumer). with_consumer c (Some z) t) (still n how (sym kept.place ∙ at)) ∙ same_consumer t t c v row)
       by_place (place.Turn x) at = false_true (sym (ap is_idle_at at) ∙ idle)
@@ -110,7 +110,7 @@ module _ {B : Type 0} {g : Ghosts B} {lim : Limits} (r u : Rows B g) (t : Tables
         (passes_key t c (Some w) its (kept_of r.keys its) line_off (rw (bytes_eq-same its its refl) refl) (then_false (bytes_eq its its) false refl) (and_false (is_in_line its (Some w)) false line_off))
         (λ other off. says_elsewhere t c v w other row refl off)
 
-    pub stands_let : RowsStand lim u (with_consumer c (Some w) t)
+    pub stands_let : RowsStand limits u (with_consumer c (Some w) t)
     stands_let =
         falls_back r u t c v w (passed_for q k) stands row (ap reads v_at) refl (ap is_live_place v_at) refl last exchanges entries
         (becomes_by r.consumers u.consumers c k (passed_for q) there changes) passed_kept keys_then
@@ -124,6 +124,6 @@ module _ {B : Type 0} {g : Ghosts B} (limits : Limits) (faults : ℕ) (u : Rows 
       (waits limits t law now c want v row (wait.Busy d) is) refl refl told (stands_counted u s now (event.Poll c want) refl (subst (RowsStand limits u) same stands))
 
 -- what is kept as current is
-pub current_as : {B : Type 0} {g : Ghosts B} {lim : Limits} (r : Rows B g) (t : Tables) (k : Consumer) (v : rows.Consumer) (q : ℕ) → RowsStand lim r t → IsKept t k v → HasCurrent r.keys q k → current t v.request.key ≡ Some q
+pub current_as : {B : Type 0} {g : Ghosts B} {limits : Limits} (r : Rows B g) (t : Tables) (k : Consumer) (v : rows.Consumer) (q : ℕ) → RowsStand limits r t → IsKept t k v → HasCurrent r.keys q k → current t v.request.key ≡ Some q
 current_as r t k v q stands kept at =
     sym (stands.keys v.request.key).current ∙ (ap (λ (key : List ℕ). (kept_of r.keys key).current) (sym (ap (λ (z : Request). z.key) kept.request)) ∙ at)

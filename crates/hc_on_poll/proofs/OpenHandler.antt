@@ -1,4 +1,4 @@
--- A consumer that reads nothing opens an exchange, for whose head it waits: what is kept stands for the tables then.
+-- A consumer that reads nothing opens an exchange, for whose head it waits: what is kept represents the tables then.
 use Rattle.std.proofs.Common.{◌≡◌, ◌≢◌, inl, inr, ℕ, zero, suc, List, [], ◌∷◌, false, Option, Some, None, refl, ap, sym, ◌∙◌, subst}
 use Rattle.std.specs.Prelude.{drop, filter, not}
 use Rattle.hc_text.proofs.Basics.{eqb-other, eqb-same, false_true, same_or}

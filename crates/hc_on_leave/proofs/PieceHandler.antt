@@ -1,4 +1,4 @@
--- A piece is answered that isn't stored: what is kept stands for the tables then.
+-- A piece is answered that isn't stored: what is kept represents the tables then.
 use Rattle.std.proofs.Common.{◌≡◌, ℕ, ◌+◌, ◌<◌, ◌≤◌, ◌^◌, List, [], ◌++◌, length, drop, Bool, true, false, cond, Option, Some, None, refl, ap, sym, ◌∙◌, subst, arith}
 use Rattle.std.proofs.lemmas.Bool.Decides.{nat_tests}
 use Rattle.std.proofs.lemmas.List.{append-nil, drop-append-le}
@@ -53,7 +53,7 @@ not_too_long o n none =
     let off = third.0 in
     (on_by o.headed first.0, grind (arith, nat_tests, off), λ p is. not_overlong o.promised (o.delivered + n) p third.1 is)
 
-pub piece_below : {B : Type 0} {g : Ghosts B} {lim : Limits} (r : Rows B g) (t : Tables) (facts : Facts lim t) (x n : ℕ) (o : Open) → Numbers t → t.received < 2 ^ 61 → n < 2 ^ 61 → RowsStand lim r t → (table_of r.exchanges x).running ≡ Some o → piece_refusal (Some (open_view o)) n ≡ None → o.base + o.delivered + n < 2 ^ 62 + 1
+pub piece_below : {B : Type 0} {g : Ghosts B} {limits : Limits} (r : Rows B g) (t : Tables) (facts : Facts limits t) (x n : ℕ) (o : Open) → Numbers t → t.received < 2 ^ 61 → n < 2 ^ 61 → RowsStand limits r t → (table_of r.exchanges x).running ≡ Some o → piece_refusal (Some (open_view o)) n ≡ None → o.base + o.delivered + n < 2 ^ 62 + 1
 piece_below r t facts x n o numbers few short stands running none =
     let allowed = not_too_long o n none in
     let h = heard_row r t x o stands running in
@@ -96,7 +96,7 @@ pub record Runs {B : Type 0} {g : Ghosts B} (r : Rows B g) (t : Tables) (x : ℕ
   pub running : (table_of r.exchanges x).running ≡ Some o
   pub is : IsRunning t x o w
 
-pub runs_of : {B : Type 0} {g : Ghosts B} {lim : Limits} (r : Rows B g) (t : Tables) (x : ℕ) (w : Exchange) → RowsStand lim r t → t.exchange x ≡ Some w → w.is_open ≡ true → Runs r t x w
+pub runs_of : {B : Type 0} {g : Ghosts B} {limits : Limits} (r : Rows B g) (t : Tables) (x : ℕ) (w : Exchange) → RowsStand limits r t → t.exchange x ≡ Some w → w.is_open ≡ true → Runs r t x w
 runs_of r t x w stands row opened = by_open (table_of r.exchanges x).running refl (subst (KeepsRunning t x (table_of r.exchanges x).running) row (stands.exchanges x).running)
   where
     by_open : (k : Option Open) → (table_of r.exchanges x).running ≡ k → KeepsRunning t x k (Some w) → Runs r t x w
@@ -120,7 +120,7 @@ brings_it t x q o w is headed some = by_row (t.representation (family x w)) refl
 
 -- PAST THE STORE
 
-module _ {B : Type 0} {g : Ghosts B} {lim : Limits} (r u : Rows B g) (t : Tables) (facts : Facts lim t) (stands : RowsStand lim r t) (now x : ℕ) (bytes : List ℕ) (goes : denial t (event.Piece x bytes) ≡ None) (past : brought_by (table_of r.exchanges x).running ≡ None)
+module _ {B : Type 0} {g : Ghosts B} {limits : Limits} (r u : Rows B g) (t : Tables) (facts : Facts limits t) (stands : RowsStand limits r t) (now x : ℕ) (bytes : List ℕ) (goes : denial t (event.Piece x bytes) ≡ None) (past : brought_by (table_of r.exchanges x).running ≡ None)
     (last : u.last_start ≡ r.last_start) (same_map : u.consumers ≡ r.consumers) (same_keys : u.keys ≡ r.keys) (same_entries : u.entries ≡ r.entries) (becomes : exch.Becomes (known.with_piece bytes true) x r.exchanges u.exchanges) where
   b : Brought t x (length bytes)
   b = brought_of t x bytes goes
@@ -157,7 +157,7 @@ module _ {B : Type 0} {g : Ghosts B} {lim : Limits} (r u : Rows B g) (t : Tables
       by_kept None kept = tt
       by_kept (Some k) kept = absurd kept
 
-  past_stands : RowsStand lim u after
+  past_stands : RowsStand limits u after
   past_stands =
       stands_pieced t now x b.w bytes t.representation b.row b.taken.is_open b.taken.headed r u stands (open_unended t facts.law x b.w b.row b.taken.is_open) (λ q. like_same (t.representation q) (t.representation q) refl) (λ q ne. refl) true runs.o runs.running
       last same_map same_keys becomes
@@ -165,9 +165,9 @@ module _ {B : Type 0} {g : Ghosts B} {lim : Limits} (r u : Rows B g) (t : Tables
       (λ y e ne at. held_alike t after (λ d. same refl) y e refl)
       (rw same_entries stands.limits) (λ q ne. rw same_entries refl) (rw same_entries refl) kept_none
 
-  pub past_answered : (before : List Act) → Answered lim (shelf_of r.entries).faults u t before before now (event.Piece x bytes)
+  pub past_answered : (before : List Act) → Answered limits (shelf_of r.entries).faults u t before before now (event.Piece x bytes)
   past_answered before =
-      does_answered lim (shelf_of r.entries).faults u t after before before [] now (event.Piece x bytes) (does.past lim t facts.law now x bytes b.w b.row goes none) unwritten refl (sym (append-nil before)) past_stands
+      does_answered limits (shelf_of r.entries).faults u t after before before [] now (event.Piece x bytes) (does.past limits t facts.law now x bytes b.w b.row goes none) unwritten refl (sym (append-nil before)) past_stands
     where
       unwritten : write_in t (entry_without_acts now (event.Piece x bytes)) (event.Piece x bytes) ≡ None
       unwritten =

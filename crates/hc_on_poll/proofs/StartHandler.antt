@@ -1,4 +1,4 @@
--- A start: what is kept stands for the tables after it.
+-- A start: what is kept represents the tables after it.
 use Rattle.std.proofs.Common.{◌≡◌, ◌≢◌, inl, inr, ℕ, ◌+◌, ◌<◌, List, [], ◌∷◌, Bool, true, false, cond, eqb, Option, Some, None, refl, ap, sym, ◌∙◌, subst, arith}
 use Rattle.std.specs.Prelude.{nat_eq, bytes_eq, filter, not, ◌&&◌, ◌||◌}
 use Rattle.std.specs.HashMap.{get, hash_map_len}
@@ -20,7 +20,7 @@ use Rattle.hc_event.specs.declared.place.BoundBy.TheVariants as by
 use Rattle.hc_model.specs.Rows as rows
 use Rattle.hc_state.specs.declared.consumer.Consumer.{Consumer}
 use Rattle.hc_state.specs.declared.rows.Rows.{Rows}
-use Rattle.hc_state.specs.Arms.{IsEntered}
+use Rattle.hc_state.specs.Handlers.{IsEntered}
 use Rattle.hc_state.specs.Changes.{BecomesAt}
 use Rattle.hc_state.specs.Kept.{KeepsConsumer, KeepsExchange, held_for}
 use Rattle.hc_state.specs.Lines.{KeepsKey, has_turn, is_passed, is_away}
@@ -31,7 +31,7 @@ use Rattle.hc_state.proofs.LiveCounts as counts
 use Rattle.hc_state.proofs.ConsumerSteps.{KeyAfter, SaysOfIt, key_with, key_stays, keys_with, at_it}
 use Rattle.hc_state.proofs.Ties.{kept_none, consumer_same, exchange_same, entry_same, key_same}
 
-module _ {B : Type 0} {g : Ghosts B} {lim : Limits} (r u : Rows B g) (t : Tables) (law : Lawful t) (now c : ℕ) (request copied : Request) (k : Consumer) (stands : RowsStand lim r t) (ascending : r.last_start < c) (copies : copied ≡ request)
+module _ {B : Type 0} {g : Ghosts B} {limits : Limits} (r u : Rows B g) (t : Tables) (law : Lawful t) (now c : ℕ) (request copied : Request) (k : Consumer) (stands : RowsStand limits r t) (ascending : r.last_start < c) (copies : copied ≡ request)
     (last : u.last_start ≡ c) (exchanges : u.exchanges ≡ r.exchanges) (same_entries : u.entries ≡ r.entries) (becomes : BecomesAt r.consumers u.consumers c (Some k))
     (is : k ≡ record { request = copied; class = class_of request; since = now; place = place.Line; own = None; shown = false; answer = None; lo = 0; hi = None; given = 0; due = None }) where
   abbrev s : Tables
@@ -194,7 +194,7 @@ module _ {B : Type 0} {g : Ghosts B} {lim : Limits} (r u : Rows B g) (t : Tables
       let all : hash_map_len u.consumers ≡ counts.counted h (c ∷ t.starts) = omega (arith, alike, more, lives, len, before) in
       all
 
-  pub stands_started : IsEntered queues c request.key r.keys u.keys → RowsStand lim u s
+  pub stands_started : IsEntered queues c request.key r.keys u.keys → RowsStand limits u s
   stands_started entered = record {
     limits = rw same_entries stands.limits;
     last_start = last;
@@ -209,7 +209,7 @@ module _ {B : Type 0} {g : Ghosts B} {lim : Limits} (r u : Rows B g) (t : Tables
 -- WHAT ENTERING NEEDS
 
 -- who hasn't started stands in no line
-pub not_in_yet : {B : Type 0} {g : Ghosts B} {lim : Limits} (r : Rows B g) (t : Tables) (law : Lawful t) (c : ℕ) (key : List ℕ) → RowsStand lim r t → r.last_start < c → is_in c (line_of r.keys key) ≡ false
+pub not_in_yet : {B : Type 0} {g : Ghosts B} {limits : Limits} (r : Rows B g) (t : Tables) (law : Lawful t) (c : ℕ) (key : List ℕ) → RowsStand limits r t → r.last_start < c → is_in c (line_of r.keys key) ≡ false
 not_in_yet r t law c key stands ascending =
     let same = stands.last_start in
     let fresh : t.consumer c ≡ None = law.sound.numbered.lists.new_consumers c (rw same at ascending) in

@@ -49,8 +49,8 @@ use Rattle.hc_on_head.proofs.JoinRows.{IsJoinable, stands_joined}
 use Rattle.hc_on_head.proofs.JoinTold.{Joins, first, later, goes_on, hole_aim, joinable_as, joinable_lost, joins_lost_too, joins_of, need_is, told_of, view_joins}
 use Rattle.hc_on_leave.proofs.LoseAlone.{holds_none}
 use Rattle.hc_state.proofs.Maps.{known_of}
-use Rattle.hc_state.proofs.QueueArm.{becomes_by}
-use Rattle.hc_on_leave.proofs.UnstoredArms.{unwritten}
+use Rattle.hc_state.proofs.QueueHandler.{becomes_by}
+use Rattle.hc_on_leave.proofs.UnstoredHandlers.{unwritten}
 
 -- ROWS THAT STAY
 
@@ -72,7 +72,7 @@ named_rows t now x c q response o w v p consumer representation =
 
 -- ITS ROWS THEN
 
-module _ {B : Type 0} {g : Ghosts B} {lim : Limits} (r u : Rows B g) (m : Tables) (now x q c : ℕ) (response : Response) (w : Exchange) (v : rows.Consumer) (p : Representation) (j : IsJoinable m x q w v p) (k : Consumer) (o : Open) (e : Kept) (stands : RowsStand lim r m) (for_it : w.c ≡ c) (there : get nat_eq r.consumers w.c ≡ Some k)
+module _ {B : Type 0} {g : Ghosts B} {limits : Limits} (r u : Rows B g) (m : Tables) (now x q c : ℕ) (response : Response) (w : Exchange) (v : rows.Consumer) (p : Representation) (j : IsJoinable m x q w v p) (k : Consumer) (o : Open) (e : Kept) (stands : RowsStand limits r m) (for_it : w.c ≡ c) (there : get nat_eq r.consumers w.c ≡ Some k)
     (running : (table_of r.exchanges x).running ≡ Some o) (on : is_reached (promise_in w response) 0 ≡ false) (kept : (shelf_of r.entries).kept q ≡ Some e) where
   is : IsEntry m q e p
   is = subst (λ (n : Option Kept). KeepsEntry m q n (Some p)) kept (subst (KeepsEntry m q ((shelf_of r.entries).kept q)) j.there (stands.entries.each q))
@@ -85,9 +85,9 @@ module _ {B : Type 0} {g : Ghosts B} {lim : Limits} (r u : Rows B g) (m : Tables
   own_apart y ne = ap (λ (n : Option ℕ). is_number n y) j.mine ∙ eqb-other x y ne
 
   -- what is gone brings no news
-  pub gone_joined : p.is_gone ≡ true → Brings r u c x q response → RowsStand lim u (with_answer now x response (Some q) w m)
+  pub gone_joined : p.is_gone ≡ true → Brings r u c x q response → RowsStand limits u (with_answer now x response (Some q) w m)
   gone_joined as_gone brings =
-      subst (RowsStand lim u) (named_rows m now x w.c q response (Some q) w v p j.asker j.there)
+      subst (RowsStand limits u) (named_rows m now x w.c q response (Some q) w v p j.asker j.there)
       (stands_joined m now x q response w v p j p.head refl p.writer v.own own_apart r u k o stands there running on
       (ap (λ z. (shelf_of z).limits) brings.entries ∙ stands.limits) brings.last_start
       (subst (λ (n : Option ℕ). BecomesAt r.consumers u.consumers w.c (Some (record k { own = n }))) its.own (stays_at r.consumers u.consumers w.c k brings.consumers there))
@@ -135,7 +135,7 @@ module _ {B : Type 0} {g : Ghosts B} {lim : Limits} (r u : Rows B g) (m : Tables
     others_then n ne = its_shelf.kept n ∙ rw (eqb-other q n ne) refl
 
     -- its consumer reads it alone
-    pub stands_alone : RowsStand lim brought (with_consumer w.c (Some (record v { own = v.own })) (with_answer now x response (Some q) w (with_representation q (Some (record p { head = h; writer = p.writer })) m)))
+    pub stands_alone : RowsStand limits brought (with_consumer w.c (Some (record v { own = v.own })) (with_answer now x response (Some q) w (with_representation q (Some (record p { head = h; writer = p.writer })) m)))
     stands_alone =
         stands_joined m now x q response w v p j h refl p.writer v.own own_apart r brought k o stands there running on
         (its_shelf.limits ∙ stands.limits) (brings.last_start ∙ grows.rest.last_start)
@@ -145,7 +145,7 @@ module _ {B : Type 0} {g : Ghosts B} {lim : Limits} (r u : Rows B g) (m : Tables
         (entry_growing m now x q response w v p j h refl refl p.writer v.own own_apart e news e.writer is on told_so refl refl is.writer))
 
     -- others may
-    pub stands_shared : Shares brought u c x q → RowsStand lim u (with_consumer w.c (Some (record v { own = None })) (with_answer now x response (Some q) w (with_representation q (Some (record p { head = h; writer = Some x })) m)))
+    pub stands_shared : Shares brought u c x q → RowsStand limits u (with_consumer w.c (Some (record v { own = None })) (with_answer now x response (Some q) w (with_representation q (Some (record p { head = h; writer = Some x })) m)))
     stands_shared shares =
         stands_joined m now x q response w v p j h refl (Some x) None (λ y ne. refl) r u k o stands there running on
         (shares.entries.limits ∙ (its_shelf.limits ∙ stands.limits)) (shares.last_start ∙ (brings.last_start ∙ grows.rest.last_start))
@@ -159,7 +159,7 @@ module _ {B : Type 0} {g : Ghosts B} {lim : Limits} (r u : Rows B g) (m : Tables
 
 -- IT IS ANSWERED
 
-module _ {B : Type 0} {g : Ghosts B} {lim : Limits} (r u : Rows B g) (t : Tables) (facts : Facts lim t) (now x : ℕ) (response : Response) (goes : denial t (event.Head x response) ≡ None) (w : Exchange) (a : Asker r t x w) (case : HeadCase) (how : Joins case) (is : head_case (head_view t false w response) ≡ case) (q : ℕ) (aim : w.aim ≡ Some q) (p : Representation) (there : t.representation q ≡ Some p) (before : List Act) where
+module _ {B : Type 0} {g : Ghosts B} {limits : Limits} (r u : Rows B g) (t : Tables) (facts : Facts limits t) (now x : ℕ) (response : Response) (goes : denial t (event.Head x response) ≡ None) (w : Exchange) (a : Asker r t x w) (case : HeadCase) (how : Joins case) (is : head_case (head_view t false w response) ≡ case) (q : ℕ) (aim : w.aim ≡ Some q) (p : Representation) (there : t.representation q ≡ Some p) (before : List Act) where
   abbrev ev : Event
   ev = event.Head x response
 
@@ -167,7 +167,7 @@ module _ {B : Type 0} {g : Ghosts B} {lim : Limits} (r u : Rows B g) (t : Tables
   on_joins first = refl
   on_joins later = refl
 
-  as_model : {k : HeadCase} → Joins k → does.Joins lim t facts.law now x response goes w a.awaits.row a.v a.awaits.asker q p aim there k
+  as_model : {k : HeadCase} → Joins k → does.Joins limits t facts.law now x response goes w a.awaits.row a.v a.awaits.asker q p aim there k
   as_model first = does.first
   as_model later = does.later
 
@@ -175,27 +175,27 @@ module _ {B : Type 0} {g : Ghosts B} {lim : Limits} (r u : Rows B g) (t : Tables
   founds_none = not_founding case (on_joins how)
 
   -- as before, where it was lost
-  pub past_answered : p.is_lost ≡ true → RowsStand lim u (with_answer now x response (Some q) w t) → Answered lim (shelf_of r.entries).faults u t before before now ev
+  pub past_answered : p.is_lost ≡ true → RowsStand limits u (with_answer now x response (Some q) w t) → Answered limits (shelf_of r.entries).faults u t before before now ev
   past_answered lost stood =
-      does_answered lim (shelf_of r.entries).faults u t (with_event now ev (with_answer now x response (Some q) w t)) before before [] now ev
-      (does.joins_past lim t facts.law now x response goes w a.awaits.row a.v a.awaits.asker q p aim there case (as_model how) is lost) (unwritten t now x response w case a.awaits.row is founds_none) refl (sym (append-nil before))
+      does_answered limits (shelf_of r.entries).faults u t (with_event now ev (with_answer now x response (Some q) w t)) before before [] now ev
+      (does.joins_past limits t facts.law now x response goes w a.awaits.row a.v a.awaits.asker q p aim there case (as_model how) is lost) (unwritten t now x response w case a.awaits.row is founds_none) refl (sym (append-nil before))
       (stands_counted u _ now ev refl stood)
 
   -- updated
   abbrev after : Bool → Tables
   after b = with_consumer w.c (Some (record a.v { own = if b then None else a.v.own })) (with_answer now x response (Some q) w (with_representation q (Some (record p { head = updated_head now response w p.head; writer = if b then Some x else p.writer })) t))
 
-  pub joins_answered : p.is_lost ≡ false → (b : Bool) → b ≡ resumes t response w p → RowsStand lim u (after b) → (faults : ℕ) → Answered lim faults u t before before now ev
+  pub joins_answered : p.is_lost ≡ false → (b : Bool) → b ≡ resumes t response w p → RowsStand limits u (after b) → (faults : ℕ) → Answered limits faults u t before before now ev
   joins_answered kept b same stood faults =
-      does_answered lim faults u t (with_event now ev (after (resumes t response w p))) before before [] now ev
-      (does.joins lim t facts.law now x response goes w a.awaits.row a.v a.awaits.asker q p aim there case (as_model how) is kept) (unwritten t now x response w case a.awaits.row is founds_none) refl (sym (append-nil before))
-      (stands_counted u _ now ev refl (subst (λ (n : Bool). RowsStand lim u (after n)) same stood))
+      does_answered limits faults u t (with_event now ev (after (resumes t response w p))) before before [] now ev
+      (does.joins limits t facts.law now x response goes w a.awaits.row a.v a.awaits.asker q p aim there case (as_model how) is kept) (unwritten t now x response w case a.awaits.row is founds_none) refl (sym (append-nil before))
+      (stands_counted u _ now ev refl (subst (λ (n : Bool). RowsStand limits u (after n)) same stood))
 
   -- lost
-  writes_it : written_representation t (entry_of lim t now ev (Loses q kind.Fault)) ≡ Some q
+  writes_it : written_representation t (entry_of limits t now ev (Loses q kind.Fault)) ≡ Some q
   unfolding written_representation
   writes_it =
-      let e = entry_of lim t now ev (Loses q kind.Fault) in
+      let e = entry_of limits t now ev (Loses q kind.Fault) in
       let k = head_case (head_view t (has_loss (lossless e).acts) w response) in
       let is_it : case_at t (lossless e) ≡ Some k = case_is t (lossless e) x response w refl a.awaits.row in
       let joins : is_joining (Some k) ≡ true = joins_again t false (has_loss (lossless e).acts) w response (head_case (head_view t false w response)) (case_by (head_view t false w response)) (ap (λ z. is_joining (Some z)) is ∙ on_joins how) in
@@ -209,16 +209,16 @@ module _ {B : Type 0} {g : Ghosts B} {lim : Limits} (r u : Rows B g) (t : Tables
 
   -- its consumer writes it alone
   pub alone : p.is_lost ≡ false → exclusive t q p ≡ Some w.c
-  alone kept = does.joins_alone lim t facts.law now x response goes w a.awaits.row a.v a.awaits.asker q p aim there case (as_model how) false is kept
+  alone kept = does.joins_alone limits t facts.law now x response goes w a.awaits.row a.v a.awaits.asker q p aim there case (as_model how) false is kept
 
   pub holds_alone : p.is_lost ≡ false → (c : ℕ) → w.c ≡ c → HoldsNothing t q p (Some c)
-  holds_alone kept c for_it = subst (λ (o : Option ℕ). HoldsNothing t q p o) (alone kept ∙ ap Some for_it) (holds_none lim t facts q p there kept)
+  holds_alone kept c for_it = subst (λ (o : Option ℕ). HoldsNothing t q p o) (alone kept ∙ ap Some for_it) (holds_none limits t facts q p there kept)
 
-  pub lost_answered : p.is_lost ≡ false → (c : ℕ) → w.c ≡ c → (faults : ℕ) (out : List Act) → out ≡ before ++ (act.Lost q kind.Fault ∷ []) → faults < (shelf_of u.entries).faults → RowsStand lim u (with_answer now x response (Some q) w (let_go now q (with_representation q (Some (lost_to (Some c) p)) t))) → Answered lim faults u t before out now ev
+  pub lost_answered : p.is_lost ≡ false → (c : ℕ) → w.c ≡ c → (faults : ℕ) (out : List Act) → out ≡ before ++ (act.Lost q kind.Fault ∷ []) → faults < (shelf_of u.entries).faults → RowsStand limits u (with_answer now x response (Some q) w (let_go now q (with_representation q (Some (lost_to (Some c) p)) t))) → Answered limits faults u t before out now ev
   lost_answered kept c for_it faults out told failed stood =
-      lossy_answered lim faults u t (with_event now ev (let_go now q (with_answer now x response (Some q) w (with_representation q (Some (lost_to (exclusive t q p) p)) t)))) before out (act.Lost q kind.Fault ∷ []) now ev q
-      (does.joins_lost lim t facts.law now x response goes w a.awaits.row a.v a.awaits.asker q p aim there case (as_model how) kind.Fault kept (joins_lost_too (head_view t false w response) case how is)) writes_it (ap is_kept there ∙ ap not kept) refl failed told
-      (stands_counted u _ now ev refl (subst (λ (o : Option ℕ). RowsStand lim u (let_go now q (with_answer now x response (Some q) w (with_representation q (Some (lost_to o p)) t)))) (sym (alone kept ∙ ap Some for_it)) stood))
+      lossy_answered limits faults u t (with_event now ev (let_go now q (with_answer now x response (Some q) w (with_representation q (Some (lost_to (exclusive t q p) p)) t)))) before out (act.Lost q kind.Fault ∷ []) now ev q
+      (does.joins_lost limits t facts.law now x response goes w a.awaits.row a.v a.awaits.asker q p aim there case (as_model how) kind.Fault kept (joins_lost_too (head_view t false w response) case how is)) writes_it (ap is_kept there ∙ ap not kept) refl failed told
+      (stands_counted u _ now ev refl (subst (λ (o : Option ℕ). RowsStand limits u (let_go now q (with_answer now x response (Some q) w (with_representation q (Some (lost_to o p)) t)))) (sym (alone kept ∙ ap Some for_it)) stood))
 
 -- BY WHAT THE CODE LOOKED UP
 
@@ -239,7 +239,7 @@ pub record IsJoin {B : Type 0} {g : Ghosts B} (r : Rows B g) (t : Tables) (x c q
   pub told : e.head.total ≡ p.head.total
   pub hole : (from : ℕ) × (to : ℕ) × (w.need ≡ need.Hole from to)
 
-pub join_of : {B : Type 0} {g : Ghosts B} {lim : Limits} (r : Rows B g) (t : Tables) (facts : Facts lim t) (stands : RowsStand lim r t) (now x c q : ℕ) (response : Response) (w : Exchange) (row : t.exchange x ≡ Some w) (k : HeadCase) → joins_hole k ≡ true → denial t (event.Head x response) ≡ None → head_case (head_view t false w response) ≡ k
+pub join_of : {B : Type 0} {g : Ghosts B} {limits : Limits} (r : Rows B g) (t : Tables) (facts : Facts limits t) (stands : RowsStand limits r t) (now x c q : ℕ) (response : Response) (w : Exchange) (row : t.exchange x ≡ Some w) (k : HeadCase) → joins_hole k ≡ true → denial t (event.Head x response) ≡ None → head_case (head_view t false w response) ≡ k
     → head_refusal (open_at r x) ≡ None → IsAskedBy c (table_of r.exchanges x).running → IsAbout q (table_of r.exchanges x).running → shelf.is_kept (shelf_of r.entries) q ≡ true → IsJoin r t x c q response w
 join_of r t facts stands now x c q response w row k joins goes is accepted asks opens kept =
     let a = asker_of r t facts now x response w stands goes row in
@@ -299,7 +299,7 @@ module _ {B : Type 0} {g : Ghosts B} (l u : Rows B g) (t : Tables) (law : Lawful
       let on_it : is_bound q (m.consumer w.c) ≡ true = ap (is_bound q) its_place.asker ∙ (ap (is_bound_place q) j.at ∙ eqb-same q) in
       filter_some (λ d. is_bound q (m.consumer d)) w.c m.starts (law.sound.numbered.lists.started w.c (ap (λ (z : Option rows.Consumer). is_some z) j.asker)) on_it none
 
-  pub brings_lost : {lim : Limits} → RowsStand lim l m → Brings l u c x q response → RowsStand lim u (with_answer now x response (Some q) w m)
+  pub brings_lost : {limits : Limits} → RowsStand limits l m → Brings l u c x q response → RowsStand limits u (with_answer now x response (Some q) w m)
   brings_lost stands brings =
       let e = by_kept ((shelf_of l.entries).kept q) refl (subst (KeepsEntry m q ((shelf_of l.entries).kept q)) its_place.there (stands.entries.each q)) in
       let k = by_consumer (get nat_eq l.consumers w.c) refl (subst (KeepsConsumer m (get nat_eq l.consumers w.c)) its_place.asker (stands.consumers w.c)) in

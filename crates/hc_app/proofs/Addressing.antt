@@ -1,16 +1,7 @@
 -- How an address is read: what a text begins with is found by its first dot or colon, since no number has one.
-use Rattle.std.proofs.Common.{◌≡◌, ◌⊎◌, inl, inr, ℕ, ◌+◌, ◌<◌, ◌≤◌, ◌^◌, true, List, [], ◌∷◌, ◌++◌, Option, Some, None, refl, ap, sym, ◌∙◌, arith}
-use Rattle.std.specs.Prelude.{◌==◌, IfNone}
-use Rattle.std.specs.Fmt.{decimal}
-use Rattle.std.specs.Str.Parse.{AllDigits}
-use Rattle.std.proofs.lemmas.Bool.{and_from, not_from_false, ne_eqb}
-use Rattle.std.proofs.lemmas.Fmt.{decimal_is_IsNumeral, decimal_injective}
-use Rattle.std.proofs.lemmas.Str.Parse.{digit_from_value}
-use Rattle.hc_text.specs.Cuts.{cut}
-use Rattle.hc_text.specs.Numbers.{IsPlain}
-use Rattle.hc_text.specs.Texts.{lacks}
-use Rattle.hc_text.proofs.Cuts.{lacks-decimal}
-use Rattle.hc_text.proofs.Cutting.{cut-first, append-cut}
+use Rattle.std.{proofs.{Common.{◌≡◌, ◌⊎◌, inl, inr, ℕ, ◌+◌, ◌<◌, ◌≤◌, ◌^◌, true, List, [], ◌∷◌, ◌++◌, Option, Some, None, refl, ap, sym, ◌∙◌, arith}, lemmas.{Bool.{and_from, not_from_false, ne_eqb}, Fmt.{decimal_is_IsNumeral, decimal_injective}, Str.Parse.{digit_from_value}}}, specs.{Prelude.{◌==◌, IfNone}, Fmt.{decimal}, Str.Parse.{AllDigits}}}
+use Rattle.hc_text.specs.{Cuts.{cut}, Numbers.{IsPlain}, Texts.{lacks}}
+use Rattle.hc_text.proofs.{Cuts.{lacks-decimal}, Cutting.{cut-first, append-cut}}
 use Rattle.hc_wire.specs.declared.event.Address.{Address}
 use Rattle.hc_app.specs.Addresses.{Begins, IsPort, IsAddress}
 

@@ -1,19 +1,13 @@
 -- How the test origin ended, and what was bound for it.
-use Rattle.std.proofs.Common.{◌≡◌, ◌≢◌, ◌∙◌, ℕ, Option, None, Some, refl, sym, subst}
-use Rattle.std.specs.Prelude.{IfSome}
+use Rattle.std.{proofs.Common.{◌≡◌, ◌≢◌, ◌∙◌, ℕ, Option, None, Some, refl, sym, subst}, specs.Prelude.{IfSome}}
 use Rattle.hc_origin.specs.Endings.{IsFresh}
 use Rattle.hc_sched.specs.declared.schedule.Ended.{Ended}
 use Rattle.hc_sched.specs.declared.schedule.Ended.TheVariants as ended
-use Rattle.hc_wire.specs.Events.{Stage, Unseen, IsOpen}
-use Rattle.hc_wire.specs.Logs.{Log, Tells, with_binding}
-use Rattle.hc_wire.specs.declared.event.Address.{Address}
-use Rattle.hc_wire.specs.declared.event.WireError.{WireError}
+use Rattle.hc_wire.specs.{Events.{Stage, Unseen, IsOpen}, Logs.{Log, Tells, with_binding}, declared.event.{Address.{Address}, WireError.{WireError}}}
 use Rattle.hc_wire.specs.declared.event.WireError.TheVariants as wire
-use Rattle.hc_app.specs.declared.status.Status.{Status}
+use Rattle.hc_app.specs.{declared.status.Status.{Status}, Answering.{IsEndedAs, AnswersOrigin, done, unwired, wanting}, Statuses.{unbound_as}}
 use Rattle.hc_app.specs.declared.status.Status.TheVariants as status
 use Rattle.hc_app.specs.Answering as answering
-use Rattle.hc_app.specs.Answering.{IsEndedAs, AnswersOrigin, done, unwired, wanting}
-use Rattle.hc_app.specs.Statuses.{unbound_as}
 
 pub fresh_bound : (old new : Option Log) (listen : Address) → Tells old new (with_binding (Some listen) None) → IfSome old IsFresh → IfSome new IsFresh
 fresh_bound None new listen tells fresh = subst (λ (o : Option Log). IfSome o IsFresh) (sym tells) tt

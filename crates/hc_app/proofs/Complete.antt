@@ -5,14 +5,9 @@
 -- (`refusal_is`), and a text that spells items isn't refused. A text begins with one image at most, which is refused
 -- or not (`image_apart`). So the status is the one that is due, or that of want of memory, and the other cases contradict the
 -- words or the input.
-use Rattle.std.proofs.Common.{◌≡◌, ◌⊎◌, ℕ, List, Option, Some, None, [], ◌∷◌, true, false, refl, ap, sym, ◌∙◌, subst, inl, inr, arith}
-use Rattle.std.specs.Prelude.{codes, bytes_eq}
-use Rattle.std.proofs.lemmas.Slice.Eq.{bytes_eq-Decides}
-use Rattle.hc_io.specs.Faults.{HasRisen}
-use Rattle.hc_io.specs.Source.{Gives}
-use Rattle.hc_sched.specs.declared.schedule.Refused.{Refused}
-use Rattle.hc_sched.specs.Laws.{refusal_of}
-use Rattle.hc_sched.specs.Schedule.{Item, Spells}
+use Rattle.std.{proofs.{Common.{◌≡◌, ◌⊎◌, ℕ, List, Option, Some, None, [], ◌∷◌, true, false, refl, ap, sym, ◌∙◌, subst, inl, inr, arith}, lemmas.Slice.Eq.{bytes_eq-Decides}}, specs.Prelude.{codes, bytes_eq}}
+use Rattle.hc_io.specs.{Faults.{HasRisen}, Source.{Gives}}
+use Rattle.hc_sched.specs.{declared.schedule.Refused.{Refused}, Laws.{refusal_of}, Schedule.{Item, Spells}}
 use Rattle.hc_sched.proofs.OneReading.{is_read}
 use Rattle.hc_driver.specs.Endings as endings
 use Rattle.hc_driver.specs.Endings.{Reach, IsRead, IsRefusedIn}
@@ -22,27 +17,18 @@ use Rattle.hc_contents.specs.declared.unfit.Unfit.TheVariants as unfit
 use Rattle.hc_model.specs.Entries.{Contents}
 use Rattle.hc_saving.specs.declared.open.OpenEnded.{OpenEnded}
 use Rattle.hc_saving.proofs.Opened.{opened_once}
-use Rattle.hc_app.specs.declared.command.Command.{Command}
+use Rattle.hc_app.specs.{declared.{command.Command.{Command}, status.Status.{Status}}, Commands.{IsCommand, replay, save, reopen, conditional, generate, origin, serve}, Fetching.{IsFetch}, Generating.{generating}, Opening.{IsRefusedImage, IsTaken}, Owing.{Streams, Duty, Quiet, Saying, Does}, Program.{OwesUsage, Keeps, Ends, IsDue, Completes, duty_of}, Replaying.{store_limits}, Statuses.{code_of}}
 use Rattle.hc_app.specs.declared.command.Command.TheVariants as command
-use Rattle.hc_app.specs.declared.status.Status.{Status}
 use Rattle.hc_app.specs.declared.status.Status.TheVariants as status
 use Rattle.hc_wire.specs.Logs.{Log}
-use Rattle.hc_app.specs.Commands.{IsCommand, replay, save, reopen, conditional, generate, origin, serve}
 use Rattle.hc_fetch.specs.declared.plan.FetchPlan.{FetchPlan}
-use Rattle.hc_app.specs.Fetching.{IsFetch}
 use Rattle.hc_app.specs.Fronting as fronting
 use Rattle.hc_app.specs.Generating as generates
-use Rattle.hc_app.specs.Generating.{generating}
 use Rattle.hc_app.specs.Opening as opening
-use Rattle.hc_app.specs.Opening.{IsRefusedImage, IsTaken}
 use Rattle.hc_app.specs.Owing as owing
-use Rattle.hc_app.specs.Owing.{Streams, Duty, Quiet, Saying, Does}
 use Rattle.hc_app.specs.Program as program
-use Rattle.hc_app.specs.Program.{OwesUsage, Keeps, Ends, IsDue, Completes, duty_of}
 use Rattle.hc_app.specs.Replaying as replaying
-use Rattle.hc_app.specs.Replaying.{store_limits}
 use Rattle.hc_app.specs.Saving as saving
-use Rattle.hc_app.specs.Statuses.{code_of}
 
 -- An ending that neither the input nor the outputs caused by a fault.
 abbrev IsFaultless : Status → Type 0

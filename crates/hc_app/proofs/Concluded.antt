@@ -1,19 +1,11 @@
 -- What an ending says of the status that it comes to.
-use Rattle.std.proofs.Common.{◌≡◌, ◌≢◌, ℕ, List, Option, Err, refl, sym, subst, inl}
-use Rattle.std.specs.Result.{IsErrOf}
-use Rattle.hc_io.specs.Faults.{HasRisen}
-use Rattle.hc_io.specs.Sink.{Takes, TakesFront}
-use Rattle.hc_io.specs.declared.sink.SinkError.{SinkError}
+use Rattle.std.{proofs.Common.{◌≡◌, ◌≢◌, ℕ, List, Option, Err, refl, sym, subst, inl}, specs.Result.{IsErrOf}}
+use Rattle.hc_io.specs.{Faults.{HasRisen}, Sink.{Takes, TakesFront}, declared.sink.SinkError.{SinkError}}
 use Rattle.hc_io.specs.declared.sink.SinkError.TheVariants as sink
-use Rattle.hc_sched.specs.declared.schedule.Ended.{Ended}
+use Rattle.hc_sched.specs.declared.schedule.{Ended.{Ended}, Refused.{Refused}}
 use Rattle.hc_sched.specs.declared.schedule.Ended.TheVariants as ended
-use Rattle.hc_sched.specs.declared.schedule.Refused.{Refused}
-use Rattle.hc_app.specs.declared.status.Status.{Status}
+use Rattle.hc_app.specs.{declared.status.Status.{Status}, Failing.{IsStreamStatus}, Concluding.{IsQuiet, Concludes, done, unreadable, unwritten, wanting, quiet, told, untold, wanting_word}, Statuses.{stopped_as}, Texts.{refusal_text}}
 use Rattle.hc_app.specs.declared.status.Status.TheVariants as status
-use Rattle.hc_app.specs.Failing.{IsStreamStatus}
-use Rattle.hc_app.specs.Concluding.{IsQuiet, Concludes, done, unreadable, unwritten, wanting, quiet, told, untold, wanting_word}
-use Rattle.hc_app.specs.Statuses.{stopped_as}
-use Rattle.hc_app.specs.Texts.{refusal_text}
 use Rattle.hc_app.proofs.Failed.{all_calm, diag_risen}
 
 pub is_quiet : (diag : Option (List ℕ)) (d : ℕ) (e x : Ended) (s : Status) → e ≡ x → IsQuiet x s → Concludes diag diag d d e s

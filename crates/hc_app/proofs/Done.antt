@@ -4,43 +4,28 @@
 -- the report that is owed or begun (`reported`, `begun`). An ending and what was told of it have the ending in common, so at each there
 -- are one or three cases (`does_replay`, `does_generate`). What the streams counted is handed on as the calls
 -- below told it.
-use Rattle.std.proofs.Common.{◌≡◌, ◌≢◌, ℕ, List, [], ◌∷◌, Option, Err, refl, sym, subst, arith}
-use Rattle.std.specs.Result.{IsErrOf}
-use Rattle.std.proofs.lemmas.List.{append-nil}
-use Rattle.hc_io.specs.Faults.{HasRisen}
-use Rattle.hc_io.specs.declared.sink.SinkError.{SinkError}
+use Rattle.std.{proofs.{Common.{◌≡◌, ◌≢◌, ℕ, List, [], ◌∷◌, Option, Err, refl, sym, subst, arith}, lemmas.List.{append-nil}}, specs.Result.{IsErrOf}}
+use Rattle.hc_io.specs.{Faults.{HasRisen}, declared.sink.SinkError.{SinkError}, Sink.{Takes, TakesFront}}
 use Rattle.hc_io.specs.declared.sink.SinkError.TheVariants as sink
-use Rattle.hc_io.specs.Sink.{Takes, TakesFront}
-use Rattle.hc_io.proofs.Givings.{gives_none}
-use Rattle.hc_io.proofs.Takings.{takes_none}
+use Rattle.hc_io.proofs.{Givings.{gives_none}, Takings.{takes_none}}
 use Rattle.hc_rules.specs.declared.room.Limits.{Limits}
-use Rattle.hc_sched.specs.declared.schedule.Ended.{Ended}
+use Rattle.hc_sched.specs.declared.schedule.{Ended.{Ended}, Timed.{Timed}}
 use Rattle.hc_sched.specs.declared.schedule.Ended.TheVariants as ended
-use Rattle.hc_sched.specs.declared.schedule.Timed.{Timed}
 use Rattle.hc_driver.specs.Endings as endings
-use Rattle.hc_driver.specs.Endings.{How, UpToEnd, SoFar, ToEnd, IsSteppedAtOnce}
-use Rattle.hc_driver.specs.Stepping.{History, report_of, report_before, last_entry}
+use Rattle.hc_driver.specs.{Endings.{How, UpToEnd, SoFar, ToEnd, IsSteppedAtOnce}, Stepping.{History, report_of, report_before, last_entry}}
 use Rattle.hc_driver.proofs.Reported.{all_reported}
-use Rattle.hc_model.specs.Entries.{no_contents}
-use Rattle.hc_model.specs.Runs.{IsRun}
-use Rattle.hc_core.specs.declared.cache.Cache.{Cache}
-use Rattle.hc_core.specs.Steps.{StandsFor, limits_in, faults_in}
+use Rattle.hc_model.specs.{Entries.{no_contents}, Runs.{IsRun}}
+use Rattle.hc_core.specs.{declared.cache.Cache.{Cache}, Steps.{StandsFor, limits_in, faults_in}}
 use Rattle.hc_replay.specs.Replays as replays
-use Rattle.hc_replay.specs.Replays.{IsReplayed, IsWholeRun}
-use Rattle.hc_replay.specs.Histories.{run_of}
+use Rattle.hc_replay.specs.{Replays.{IsReplayed, IsWholeRun}, Histories.{run_of}}
 use Rattle.hc_replay.specs.Generates as generates
-use Rattle.hc_app.specs.declared.status.Status.{Status}
+use Rattle.hc_app.specs.{declared.status.Status.{Status}, Concluding.{Concludes}, Owing.{Streams, Does}, Replaying.{store_limits, IsWhole, IsReport, BeginsReplay}, Statuses.{stopped_as}, Texts.{usage_text}}
 use Rattle.hc_app.specs.declared.status.Status.TheVariants as status
 use Rattle.hc_app.specs.Concluding as concluding
-use Rattle.hc_app.specs.Concluding.{Concludes}
 use Rattle.hc_app.specs.Generating as generating
 use Rattle.hc_app.specs.Owing as owing
-use Rattle.hc_app.specs.Owing.{Streams, Does}
 use Rattle.hc_app.specs.Program as program
 use Rattle.hc_app.specs.Replaying as replaying
-use Rattle.hc_app.specs.Replaying.{store_limits, IsWhole, IsReport, BeginsReplay}
-use Rattle.hc_app.specs.Statuses.{stopped_as}
-use Rattle.hc_app.specs.Texts.{usage_text}
 use Rattle.hc_app.proofs.Saved.{then_front}
 
 -- NO WIRE IS USED

@@ -1,13 +1,9 @@
 -- What a status says of the counts of faults.
-use Rattle.std.proofs.Common.{◌≡◌, ◌≢◌, ℕ, Err, refl, inr}
-use Rattle.std.specs.Result.{IsErrOf}
-use Rattle.hc_io.specs.Faults.{HasRisen}
-use Rattle.hc_io.specs.declared.sink.SinkError.{SinkError}
+use Rattle.std.{proofs.Common.{◌≡◌, ◌≢◌, ℕ, Err, refl, inr}, specs.Result.{IsErrOf}}
+use Rattle.hc_io.specs.{Faults.{HasRisen}, declared.sink.SinkError.{SinkError}}
 use Rattle.hc_io.specs.declared.sink.SinkError.TheVariants as sink
-use Rattle.hc_app.specs.declared.status.Status.{Status}
+use Rattle.hc_app.specs.{declared.status.Status.{Status}, Failing.{IsStreamStatus, IsWireStatus}, Statuses.{stopped_as}}
 use Rattle.hc_app.specs.declared.status.Status.TheVariants as status
-use Rattle.hc_app.specs.Failing.{IsStreamStatus, IsWireStatus}
-use Rattle.hc_app.specs.Statuses.{stopped_as}
 
 module _ (input input' out out' diag diag' : ℕ) where
   -- no count rises

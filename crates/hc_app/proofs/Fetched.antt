@@ -3,53 +3,28 @@
 -- What the words spell is a plan, or none (`is_plan`, `no_plan`, `no_parts`, `no_size`, `no_target`). A fetch ends as schedules do, or what
 -- ended it early is told (`stopped_told`, `stopped_untold`). Each ending of a fetch is one of what is owed, or begun
 -- (`does_fetch`). What a status says of faults it says of the ending that it comes from.
-use Rattle.std.proofs.Common.{◌≡◌, ◌≢◌, ℕ, ◌+◌, ◌≤◌, ◌^◌, List, [], ◌∷◌, length, Bool, true, false, Option, Some, None, Err, refl, sym, ap, ◌∙◌, subst, arith}
-use Rattle.std.specs.Prelude.{codes, bytes_eq, ◌==◌, if◌then◌else◌}
-use Rattle.std.specs.Option.{option_or}
-use Rattle.std.specs.Result.{IsErrOf}
-use Rattle.std.proofs.lemmas.Fmt.{decimal_injective}
+use Rattle.std.{proofs.{Common.{◌≡◌, ◌≢◌, ℕ, ◌+◌, ◌≤◌, ◌^◌, List, [], ◌∷◌, length, Bool, true, false, Option, Some, None, Err, refl, sym, ap, ◌∙◌, subst, arith}, lemmas.Fmt.{decimal_injective}}, specs.{Prelude.{codes, bytes_eq, ◌==◌, if◌then◌else◌}, Option.{option_or}, Result.{IsErrOf}}}
 use Rattle.hc_text.proofs.Basics.{not_some as none_some, some_inj}
-use Rattle.hc_io.specs.Faults.{HasRisen}
-use Rattle.hc_io.specs.Sink.{Takes, TakesFront}
-use Rattle.hc_io.specs.Source.{GivesAll}
-use Rattle.hc_io.specs.declared.sink.SinkError.{SinkError}
+use Rattle.hc_io.specs.{Faults.{HasRisen}, Sink.{Takes, TakesFront}, Source.{GivesAll}, declared.sink.SinkError.{SinkError}}
 use Rattle.hc_io.specs.declared.sink.SinkError.TheVariants as sink
 use Rattle.hc_text.specs.Numbers.{IsPlain}
 use Rattle.hc_target.specs.Targets.{is_target}
-use Rattle.hc_sched.specs.declared.schedule.Ended.{Ended}
+use Rattle.hc_sched.specs.{declared.schedule.{Ended.{Ended}, Refused.{Refused}, Timed.{Timed}}, Schedule.{Item, Spells, events_of}}
 use Rattle.hc_sched.specs.declared.schedule.Ended.TheVariants as ended
-use Rattle.hc_sched.specs.declared.schedule.Refused.{Refused}
-use Rattle.hc_sched.specs.declared.schedule.Timed.{Timed}
-use Rattle.hc_sched.specs.Schedule.{Item, Spells, events_of}
 use Rattle.hc_driver.specs.Endings.{Reach, ToEnd, SoFar, IsRead, IsSteppedAtOnce}
 use Rattle.hc_model.specs.Entries.{History}
-use Rattle.hc_fetch.specs.declared.ended.FetchEnded.{FetchEnded}
+use Rattle.hc_fetch.specs.{declared.{ended.FetchEnded.{FetchEnded}, plan.FetchPlan.{FetchPlan}}, Bounds.{IsPlan}, Deciding.{by_failure, by_heads, by_head, by_other, decided_by, fits}, Endings.{IsWholeBody, WritesAll, WritesSome, Fetches}, Fetches.{ended_with, is_done_by}, Gathering.{written_of, written_before, written_last}, Heads.{Head, first_head, first_in, heads_in}}
 use Rattle.hc_fetch.specs.declared.ended.FetchEnded.TheVariants as fetched
-use Rattle.hc_fetch.specs.declared.plan.FetchPlan.{FetchPlan}
-use Rattle.hc_fetch.specs.Bounds.{IsPlan}
-use Rattle.hc_fetch.specs.Deciding.{by_failure, by_heads, by_head, by_other, decided_by, fits}
 use Rattle.hc_fetch.specs.Endings as endings
-use Rattle.hc_fetch.specs.Endings.{IsWholeBody, WritesAll, WritesSome, Fetches}
-use Rattle.hc_fetch.specs.Fetches.{ended_with, is_done_by}
-use Rattle.hc_fetch.specs.Gathering.{written_of, written_before, written_last}
-use Rattle.hc_fetch.specs.Heads.{Head, first_head, first_in, heads_in}
 use Rattle.hc_event.specs.declared.act.Act.{Act}
 use Rattle.hc_event.specs.declared.act.Act.TheVariants as act
-use Rattle.hc_app.specs.declared.status.Status.{Status}
+use Rattle.hc_app.specs.{declared.status.Status.{Status}, Concluding.{Concludes}, Failing.{IsStreamStatus}, Fetching.{IsPlanOf, NoPlan, IsFetch, NoFetch, IsWritten, OwesFetch, BeginsFetch, IsStopped, IsEndedAs, ConcludesFetch}, Owing.{Streams, Saying, Does}, Replaying.{store_limits}, Statuses.{stopped_as}, Texts.{fetch_text}}
 use Rattle.hc_app.specs.declared.status.Status.TheVariants as status
 use Rattle.hc_app.specs.Concluding as concluding
-use Rattle.hc_app.specs.Concluding.{Concludes}
-use Rattle.hc_app.specs.Failing.{IsStreamStatus}
 use Rattle.hc_app.specs.Fetching as fetching
-use Rattle.hc_app.specs.Fetching.{IsPlanOf, NoPlan, IsFetch, NoFetch, IsWritten, OwesFetch, BeginsFetch, IsStopped, IsEndedAs, ConcludesFetch}
 use Rattle.hc_app.specs.Owing as owing
-use Rattle.hc_app.specs.Owing.{Streams, Saying, Does}
-use Rattle.hc_app.specs.Replaying.{store_limits}
-use Rattle.hc_app.specs.Statuses.{stopped_as}
-use Rattle.hc_app.specs.Texts.{fetch_text}
 use Rattle.hc_app.proofs.Concluded as concluded
-use Rattle.hc_app.proofs.Failed.{all_calm, diag_risen}
-use Rattle.hc_app.proofs.Wording.{same_text, other_text}
+use Rattle.hc_app.proofs.{Failed.{all_calm, diag_risen}, Wording.{same_text, other_text}}
 
 -- THE WORDS
 

@@ -3,34 +3,23 @@
 -- As at a replay: a store in memory counts no failure, so what the front told tells none (`fronted`), and how far events were
 -- replayed tells the report that is owed or begun (`reported`, `begun`). An ending and what was told of it have the ending in
 -- common, so at each there are one or three cases (`does_front`).
-use Rattle.std.proofs.Common.{◌≡◌, ◌≢◌, ℕ, List, [], ◌∷◌, Option, refl, sym, ap, ◌∙◌, subst, arith}
-use Rattle.std.proofs.lemmas.List.{append-nil}
+use Rattle.std.proofs.{Common.{◌≡◌, ◌≢◌, ℕ, List, [], ◌∷◌, Option, refl, sym, ap, ◌∙◌, subst, arith}, lemmas.List.{append-nil}}
 use Rattle.hc_io.specs.Faults.{HasRisen}
 use Rattle.hc_rules.specs.declared.room.Limits.{Limits}
-use Rattle.hc_sched.specs.declared.schedule.Ended.{Ended}
+use Rattle.hc_sched.specs.declared.schedule.{Ended.{Ended}, Timed.{Timed}}
 use Rattle.hc_sched.specs.declared.schedule.Ended.TheVariants as ended
-use Rattle.hc_sched.specs.declared.schedule.Timed.{Timed}
 use Rattle.hc_driver.specs.Endings as endings
-use Rattle.hc_driver.specs.Endings.{How, UpToEnd, ToEnd, IsSteppedAtOnce}
-use Rattle.hc_driver.specs.Stepping.{History, report_of, report_before, last_entry}
+use Rattle.hc_driver.specs.{Endings.{How, UpToEnd, ToEnd, IsSteppedAtOnce}, Stepping.{History, report_of, report_before, last_entry}}
 use Rattle.hc_driver.proofs.Reported.{all_reported}
-use Rattle.hc_model.specs.Entries.{no_contents}
-use Rattle.hc_model.specs.Runs.{IsRun}
+use Rattle.hc_model.specs.{Entries.{no_contents}, Runs.{IsRun}}
 use Rattle.hc_replay.specs.Replays.{IsWholeRun}
 use Rattle.hc_store.specs.declared.backend.Backend.{Ghosts}
-use Rattle.hc_front.specs.declared.front.Front.{Front}
-use Rattle.hc_front.specs.FrontHistories.{FrontHistory, core_of, told_of}
+use Rattle.hc_front.specs.{declared.front.Front.{Front}, FrontHistories.{FrontHistory, core_of, told_of}, Replays.{IsReplayed}, Steps.{FrontStands, limits_in, faults_in}}
 use Rattle.hc_front.specs.Replays as replays
-use Rattle.hc_front.specs.Replays.{IsReplayed}
-use Rattle.hc_front.specs.Steps.{FrontStands, limits_in, faults_in}
-use Rattle.hc_app.specs.declared.status.Status.{Status}
+use Rattle.hc_app.specs.{declared.status.Status.{Status}, Concluding.{Concludes}, Fronting.{IsFronted, IsFrontReport, BeginsFront}, Owing.{Streams, Does}, Replaying.{store_limits}}
 use Rattle.hc_app.specs.Concluding as concluding
-use Rattle.hc_app.specs.Concluding.{Concludes}
 use Rattle.hc_app.specs.Fronting as fronting
-use Rattle.hc_app.specs.Fronting.{IsFronted, IsFrontReport, BeginsFront}
 use Rattle.hc_app.specs.Owing as owing
-use Rattle.hc_app.specs.Owing.{Streams, Does}
-use Rattle.hc_app.specs.Replaying.{store_limits}
 
 -- a front in memory, whose store counts no failure
 module _ {B : Type 0} {g : Ghosts B} (s : Front B g) (new : FrontStands s no_contents []) (limits : limits_in s ≡ store_limits) (calm : (u : Front B g) → faults_in u ≡ 0) where

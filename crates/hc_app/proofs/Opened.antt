@@ -3,44 +3,27 @@
 -- Where the image is refused its text is told, and nothing was written (`does_refuse`). Else the schedule was run: what
 -- went on behind the image is the report that is owed or begun (`reported`, `begun`), at each ending (`does_run`). An
 -- ending says of its status what that of the schedule says, and no status but 7 comes of a refused image.
-use Rattle.std.proofs.Common.{◌≡◌, ◌≢◌, ℕ, List, [], ◌∷◌, Option, Some, None, Err, refl, sym, ap, subst}
-use Rattle.std.specs.Result.{IsErrOf}
-use Rattle.hc_io.specs.Faults.{HasRisen}
-use Rattle.hc_io.specs.Sink.{Takes, TakesFront}
-use Rattle.hc_io.specs.Source.{Gives, GivesAll}
-use Rattle.hc_io.specs.declared.sink.SinkError.{SinkError}
+use Rattle.std.{proofs.Common.{◌≡◌, ◌≢◌, ℕ, List, [], ◌∷◌, Option, Some, None, Err, refl, sym, ap, subst}, specs.Result.{IsErrOf}}
+use Rattle.hc_io.specs.{Faults.{HasRisen}, Sink.{Takes, TakesFront}, Source.{Gives, GivesAll}, declared.sink.SinkError.{SinkError}}
 use Rattle.hc_io.specs.declared.sink.SinkError.TheVariants as sink
-use Rattle.hc_sched.specs.declared.schedule.Ended.{Ended}
+use Rattle.hc_sched.specs.{declared.schedule.{Ended.{Ended}, Timed.{Timed}}, Schedule.{Spells}}
 use Rattle.hc_sched.specs.declared.schedule.Ended.TheVariants as ended
-use Rattle.hc_sched.specs.declared.schedule.Timed.{Timed}
-use Rattle.hc_sched.specs.Schedule.{Spells}
 use Rattle.hc_driver.specs.Endings as endings
-use Rattle.hc_driver.specs.Endings.{How, UpToEnd, ToEnd, IsSteppedAtOnce}
-use Rattle.hc_driver.specs.Stepping.{History, report_of, report_before, last_entry}
+use Rattle.hc_driver.specs.{Endings.{How, UpToEnd, ToEnd, IsSteppedAtOnce}, Stepping.{History, report_of, report_before, last_entry}}
 use Rattle.hc_driver.proofs.Reported.{all_reported}
 use Rattle.hc_contents.specs.Fit.{unfit_of}
 use Rattle.hc_model.specs.Entries.{Contents}
-use Rattle.hc_saving.specs.declared.open.OpenEnded.{OpenEnded}
+use Rattle.hc_saving.specs.{declared.open.OpenEnded.{OpenEnded}, Opens.{IsOpened, IsContinued, Continues}}
 use Rattle.hc_saving.specs.declared.open.OpenEnded.TheVariants as opened
 use Rattle.hc_saving.specs.Opens as opens
-use Rattle.hc_saving.specs.Opens.{IsOpened, IsContinued, Continues}
 use Rattle.hc_saving.proofs.Saved.{gives_front}
-use Rattle.hc_app.specs.declared.status.Status.{Status}
+use Rattle.hc_app.specs.{declared.status.Status.{Status}, Concluding.{Concludes}, Failing.{IsStreamStatus}, Opening.{IsRefusedImage, IsTaken, IsReportFrom, IsImageRefused, ConcludesOpen}, Owing.{Streams, Does}, Replaying.{store_limits}, Statuses.{stopped_as}, Texts.{image_text}}
 use Rattle.hc_app.specs.declared.status.Status.TheVariants as status
 use Rattle.hc_app.specs.Concluding as concluding
-use Rattle.hc_app.specs.Concluding.{Concludes}
-use Rattle.hc_app.specs.Failing.{IsStreamStatus}
 use Rattle.hc_app.specs.Opening as opening
-use Rattle.hc_app.specs.Opening.{IsRefusedImage, IsTaken, IsReportFrom, IsImageRefused, ConcludesOpen}
 use Rattle.hc_app.specs.Owing as owing
-use Rattle.hc_app.specs.Owing.{Streams, Does}
-use Rattle.hc_app.specs.Replaying.{store_limits}
-use Rattle.hc_app.specs.Statuses.{stopped_as}
-use Rattle.hc_app.specs.Texts.{image_text}
 use Rattle.hc_app.proofs.Concluded as concluded
-use Rattle.hc_app.proofs.Failed.{all_calm, diag_risen}
-use Rattle.hc_app.proofs.Done.{never_wire}
-use Rattle.hc_app.proofs.Saved.{untaken, none_taken}
+use Rattle.hc_app.proofs.{Failed.{all_calm, diag_risen}, Done.{never_wire}, Saved.{untaken, none_taken}}
 
 -- HOW IT IS TOLD
 

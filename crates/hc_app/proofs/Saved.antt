@@ -1,20 +1,15 @@
 -- What the program did, by how a save ended.
 use Rattle.std.proofs.Common.{◌≡◌, ◌≢◌, ℕ, List, [], Option, refl, sym, subst}
-use Rattle.hc_io.specs.Faults.{HasRisen}
-use Rattle.hc_io.specs.Sink.{Takes, TakesFront}
+use Rattle.hc_io.specs.{Faults.{HasRisen}, Sink.{Takes, TakesFront}}
 use Rattle.hc_io.proofs.Takings.{takes_none}
 use Rattle.hc_sched.specs.declared.schedule.Ended.{Ended}
 use Rattle.hc_sched.specs.declared.schedule.Ended.TheVariants as ended
-use Rattle.hc_driver.specs.Courses.{TakesThenFront}
-use Rattle.hc_driver.specs.Endings.{ToEnd}
+use Rattle.hc_driver.specs.{Courses.{TakesThenFront}, Endings.{ToEnd}}
 use Rattle.hc_saving.specs.Saves as saves
 use Rattle.hc_saving.proofs.Saved.{gives_front}
-use Rattle.hc_app.specs.declared.status.Status.{Status}
+use Rattle.hc_app.specs.{declared.status.Status.{Status}, Concluding.{Concludes}, Owing.{Streams, Does}, Replaying.{store_limits}}
 use Rattle.hc_app.specs.Concluding as concluding
-use Rattle.hc_app.specs.Concluding.{Concludes}
 use Rattle.hc_app.specs.Owing as owing
-use Rattle.hc_app.specs.Owing.{Streams, Does}
-use Rattle.hc_app.specs.Replaying.{store_limits}
 use Rattle.hc_app.specs.Saving as saving
 
 module _ (out out' : Option (List ℕ)) where

@@ -1,19 +1,14 @@
 -- How the serving loop ended, and what was bound for it.
-use Rattle.std.proofs.Common.{◌≡◌, ◌≢◌, ℕ, List, Option, None, Some, refl, sym, subst}
-use Rattle.std.specs.Prelude.{IfSome}
+use Rattle.std.{proofs.Common.{◌≡◌, ◌≢◌, ℕ, List, Option, None, Some, refl, sym, subst}, specs.Prelude.{IfSome}}
 use Rattle.hc_proxy.specs.Endings.{IsFresh}
 use Rattle.hc_origin.specs.Endings as origin
 use Rattle.hc_sched.specs.declared.schedule.Ended.{Ended}
 use Rattle.hc_sched.specs.declared.schedule.Ended.TheVariants as ended
-use Rattle.hc_wire.specs.Logs.{Log, Tells, with_binding}
-use Rattle.hc_wire.specs.declared.event.Address.{Address}
-use Rattle.hc_wire.specs.declared.event.WireError.{WireError}
+use Rattle.hc_wire.specs.{Logs.{Log, Tells, with_binding}, declared.event.{Address.{Address}, WireError.{WireError}}}
 use Rattle.hc_wire.specs.declared.event.WireError.TheVariants as wire
-use Rattle.hc_app.specs.declared.status.Status.{Status}
+use Rattle.hc_app.specs.{declared.status.Status.{Status}, Serving.{IsServedAs, ServesFrom, done, unwired, unwritten, wanting}, Statuses.{unbound_as}}
 use Rattle.hc_app.specs.declared.status.Status.TheVariants as status
 use Rattle.hc_app.specs.Serving as serving
-use Rattle.hc_app.specs.Serving.{IsServedAs, ServesFrom, done, unwired, unwritten, wanting}
-use Rattle.hc_app.specs.Statuses.{unbound_as}
 
 pub fresh_served : (old new : Option Log) (listen from : Address) → Tells old new (with_binding (Some listen) (Some from)) → IfSome old origin.IsFresh → IfSome new IsFresh
 fresh_served None new listen from tells fresh = subst (λ (o : Option Log). IfSome o IsFresh) (sym tells) tt

@@ -1,14 +1,9 @@
 -- Which words are a command.
-use Rattle.std.proofs.Common.{◌≡◌, ℕ, ◌<◌, ◌≤◌, List, [], ◌∷◌, length, get_or, Global, true, false, refl, ap, sym, ◌∙◌, subst, arith}
-use Rattle.std.specs.Prelude.{codes, bytes_eq}
-use Rattle.std.specs.declared.string.String.{String}
-use Rattle.std.proofs.lemmas.Fmt.{decimal_injective}
-use Rattle.std.proofs.lemmas.Slice.Eq.{bytes_eq-Decides}
+use Rattle.std.{proofs.{Common.{◌≡◌, ℕ, ◌<◌, ◌≤◌, List, [], ◌∷◌, length, get_or, Global, true, false, refl, ap, sym, ◌∙◌, subst, arith}, lemmas.{Fmt.{decimal_injective}, Slice.Eq.{bytes_eq-Decides}}}, specs.{Prelude.{codes, bytes_eq}, declared.string.String.{String}}}
 use Rattle.hc_text.specs.Numbers.{IsPlain}
 use Rattle.hc_app.specs.declared.command.Command.TheVariants as command
 use Rattle.hc_wire.specs.declared.event.Address.{Address}
-use Rattle.hc_app.specs.Addresses.{IsAddress}
-use Rattle.hc_app.specs.Commands.{IsCommand, IsNoCommand, IsNoGeneration, IsNoOrigin, replay, save, reopen, conditional, generate, origin, serve}
+use Rattle.hc_app.specs.{Addresses.{IsAddress}, Commands.{IsCommand, IsNoCommand, IsNoGeneration, IsNoOrigin, replay, save, reopen, conditional, generate, origin, serve}}
 
 -- HOW MANY THERE ARE
 

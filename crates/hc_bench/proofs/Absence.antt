@@ -1,8 +1,7 @@
 -- Nothing is yet at the places of the pieces that are to come.
 use Rattle.std.proofs.Common.{◌≡◌, ℕ, ◌+◌, ◌*◌, ◌<◌, ◌≤◌, ◌∙◌}
 use Rattle.hc_sparse.specs.Cells.{Cells, AreAbsent}
-use Rattle.hc_bench.specs.declared.order.Order.{Order}
-use Rattle.hc_bench.specs.Places.{place_of}
+use Rattle.hc_bench.specs.{declared.order.Order.{Order}, Places.{place_of}}
 
 -- nothing is at the places of all pieces but the first k that come
 abbrev pub AwaitsRest : Order → ℕ → ℕ → Cells → Type 0

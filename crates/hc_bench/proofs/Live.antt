@@ -1,9 +1,6 @@
 -- A slot that is called again and again.
-use Rattle.std.proofs.Common.{◌≡◌, ℕ, ◌+◌, ◌≤◌, List, length, true, Option, Some, None, eqb, refl, ap, ◌∙◌, arith}
-use Rattle.std.proofs.lemmas.Bool.Decides.{nat_tests}
-use Rattle.std.specs.Prelude.{is_some, option_map}
-use Rattle.hc_record.specs.declared.kind.Kind.{Kind}
-use Rattle.hc_record.specs.Head.{Head}
+use Rattle.std.{proofs.{Common.{◌≡◌, ℕ, ◌+◌, ◌≤◌, List, length, true, Option, Some, None, eqb, refl, ap, ◌∙◌, arith}, lemmas.Bool.Decides.{nat_tests}}, specs.Prelude.{is_some, option_map}}
+use Rattle.hc_record.specs.{declared.kind.Kind.{Kind}, Head.{Head}}
 use Rattle.hc_sparse.proofs.CellLemmas.{inside-past}
 use Rattle.hc_store.specs.Slots.{Held, Slots, is_live, cells_in, cells_held, slots_after, puts, with_bare}
 

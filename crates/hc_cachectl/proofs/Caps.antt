@@ -1,13 +1,7 @@
 -- Numbers that are told are small.
-use Rattle.std.proofs.Common.{ℕ, ◌≤◌, ◌==◌, List, [], ◌∷◌, Option, Some, None, inl, inr, arith}
-use Rattle.std.specs.Prelude.{IfSome, codes}
-use Rattle.std.specs.Option.{option_map, option_and_then, unwrap_or}
-use Rattle.std.specs.List.{find, list_all, list_any, after_first}
-use Rattle.std.specs.Char.{is_ascii_digit}
-use Rattle.std.proofs.lemmas.Bool.{cases_Bool}
+use Rattle.std.{proofs.{Common.{ℕ, ◌≤◌, ◌==◌, List, [], ◌∷◌, Option, Some, None, inl, inr, arith}, lemmas.Bool.{cases_Bool}}, specs.{Prelude.{IfSome, codes}, Option.{option_map, option_and_then, unwrap_or}, List.{find, list_all, list_any, after_first}, Char.{is_ascii_digit}}}
 use Rattle.hc_text.specs.Elements.{quote}
-use Rattle.hc_cachectl.specs.Seconds.{most_seconds, plain_seconds, quoted_content, seconds_of}
-use Rattle.hc_cachectl.specs.Directives.{is_directive, is_equals, argument_of, seconds_in, staleness_in, directives_of, IsCapped}
+use Rattle.hc_cachectl.specs.{Seconds.{most_seconds, plain_seconds, quoted_content, seconds_of}, Directives.{is_directive, is_equals, argument_of, seconds_in, staleness_in, directives_of, IsCapped}}
 
 abbrev IsSmall : Option ℕ → Type 0
 IsSmall o = IfSome o (λ n. n ≤ most_seconds)

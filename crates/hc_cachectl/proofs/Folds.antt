@@ -1,18 +1,7 @@
 -- What the elements say, read one by one, is what the first of each says.
-use Rattle.std.proofs.Common.{◌≡◌, ℕ, ◌+◌, ◌||◌, List, [], ◌∷◌, ◌++◌, drop, Option, Some, None, refl, sym, ap, ◌∙◌, inl, inr}
-use Rattle.std.specs.Prelude.{slice_get, codes}
-use Rattle.std.specs.Option.{option_or, option_map, option_and_then, unwrap_or}
-use Rattle.std.specs.List.{flat_map, find, list_any, after_first}
-use Rattle.std.proofs.Math.Bool.{or-false, or_assoc}
-use Rattle.std.proofs.lemmas.Bool.{cases_Bool}
-use Rattle.std.proofs.lemmas.List.{drop_more}
-use Rattle.std.proofs.lemmas.Option.{slice_get_within, get_or_from_slice_get}
+use Rattle.std.{proofs.{Common.{◌≡◌, ℕ, ◌+◌, ◌||◌, List, [], ◌∷◌, ◌++◌, drop, Option, Some, None, refl, sym, ap, ◌∙◌, inl, inr}, Math.Bool.{or-false, or_assoc}, lemmas.{Bool.{cases_Bool}, List.{drop_more}, Option.{slice_get_within, get_or_from_slice_get}}}, specs.{Prelude.{slice_get, codes}, Option.{option_or, option_map, option_and_then, unwrap_or}, List.{flat_map, find, list_any, after_first}}}
 use Rattle.hc_text.specs.Elements.{elements}
-use Rattle.hc_cachectl.specs.Seconds.{most_seconds, seconds_of}
-use Rattle.hc_cachectl.specs.Directives.{is_directive, is_equals, seconds_in, staleness_in, directives_of}
-use Rattle.hc_cachectl.specs.Found.{argument_in, directive_argument, present, nothing_found, with_element, with_elements, seconds_or, staleness_of, said_by}
-use Rattle.hc_cachectl.specs.declared.element.Argument.{Argument}
-use Rattle.hc_cachectl.specs.declared.found.Found.{Found}
+use Rattle.hc_cachectl.specs.{Seconds.{most_seconds, seconds_of}, Directives.{is_directive, is_equals, seconds_in, staleness_in, directives_of}, Found.{argument_in, directive_argument, present, nothing_found, with_element, with_elements, seconds_or, staleness_of, said_by}, declared.{element.Argument.{Argument}, found.Found.{Found}}}
 
 with_elements-append : (found : Found) (xs ys : List (List ℕ)) → with_elements found (xs ++ ys) ≡ with_elements (with_elements found xs) ys
 with_elements-append found [] ys = refl

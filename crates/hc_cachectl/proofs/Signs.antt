@@ -1,10 +1,5 @@
 -- Where the first byte of a kind stands, if one does.
-use Rattle.std.proofs.Common.{◌≡◌, ℕ, ◌-◌, ◌≤◌, Bool, true, false, List, [], ◌∷◌, length, Some, None, refl, sym, inl, inr, arith}
-use Rattle.std.specs.List.{position, position_or_len, list_any}
-use Rattle.std.proofs.lemmas.Bool.{cases_Bool, cases_lt, lt-ltb, le-ltb}
-use Rattle.std.proofs.lemmas.Option.{same_Some}
-use Rattle.std.proofs.lemmas.List.Folds.{list_any_at}
-use Rattle.std.proofs.lemmas.List.Sums.{passes_at_first}
+use Rattle.std.{proofs.{Common.{◌≡◌, ℕ, ◌-◌, ◌≤◌, Bool, true, false, List, [], ◌∷◌, length, Some, None, refl, sym, inl, inr, arith}, lemmas.{Bool.{cases_Bool, cases_lt, lt-ltb, le-ltb}, Option.{same_Some}, List.{Folds.{list_any_at}, Sums.{passes_at_first}}}}, specs.List.{position, position_or_len, list_any}}
 
 module _ (p : ℕ → Bool) where
   none : (xs : List ℕ) → length xs ≤ position_or_len p xs → list_any p xs ≡ false

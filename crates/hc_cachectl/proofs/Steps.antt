@@ -1,11 +1,5 @@
 -- Digits are counted one by one.
-use Rattle.std.proofs.Common.{◌≡◌, ◌≢◌, ℕ, ◌+◌, ◌*◌, ◌<◌, ◌≤◌, min, Bool, true, false, ◌⊎◌, List, [], ◌∷◌, length, drop, get_or, Option, Some, None, if◌then◌else◌, refl, ap, ◌∙◌, inl, inr, arith}
-use Rattle.std.specs.Option.{option_map, option_and_then, unwrap_or}
-use Rattle.std.specs.List.{list_all}
-use Rattle.std.specs.Char.{is_ascii_digit, digit_value}
-use Rattle.std.specs.Str.Parse.{digits_value_after}
-use Rattle.std.proofs.lemmas.Bool.{cases_lt, ne_eqb}
-use Rattle.std.proofs.lemmas.List.{drop_more, drop_all}
+use Rattle.std.{proofs.{Common.{◌≡◌, ◌≢◌, ℕ, ◌+◌, ◌*◌, ◌<◌, ◌≤◌, min, Bool, true, false, ◌⊎◌, List, [], ◌∷◌, length, drop, get_or, Option, Some, None, if◌then◌else◌, refl, ap, ◌∙◌, inl, inr, arith}, lemmas.{Bool.{cases_lt, ne_eqb}, List.{drop_more, drop_all}}}, specs.{Option.{option_map, option_and_then, unwrap_or}, List.{list_all}, Char.{is_ascii_digit, digit_value}, Str.Parse.{digits_value_after}}}
 use Rattle.hc_text.specs.Elements.{quote, backslash}
 use Rattle.hc_cachectl.specs.Seconds.{most_seconds, plain_seconds, quoted_content}
 

@@ -3,22 +3,13 @@
 -- Acts are told one after another: those that were told, with what is still to be told of those that were heard, are what is
 -- told of all (`told_more`). The fields that a 304 has are what is left of a copy where each other name was removed: each
 -- field that isn't told is removed by its own name, and one that is told by none (`left_told`).
-use Rattle.std.proofs.Common.{◌≡◌, ℕ, ◌+◌, ◌≤◌, Bool, true, false, List, [], ◌∷◌, ◌++◌, drop, map, cond, Some, refl, sym, ap, ◌∙◌, inl, inr}
-use Rattle.std.specs.Prelude.{slice_get, bytes_eq, filter, ◌||◌, not}
-use Rattle.std.specs.List.{list_any}
-use Rattle.std.proofs.lemmas.Bool.{cases_Bool, both_ways}
-use Rattle.std.proofs.lemmas.List.{append_assoc, drop_more}
-use Rattle.std.proofs.lemmas.Option.{slice_get_within, get_or_from_slice_get}
-use Rattle.std.proofs.lemmas.Slice.Eq.{bytes_eq-Decides}
+use Rattle.std.{proofs.{Common.{◌≡◌, ℕ, ◌+◌, ◌≤◌, Bool, true, false, List, [], ◌∷◌, ◌++◌, drop, map, cond, Some, refl, sym, ap, ◌∙◌, inl, inr}, lemmas.{Bool.{cases_Bool, both_ways}, List.{append_assoc, drop_more}, Option.{slice_get_within, get_or_from_slice_get}, Slice.Eq.{bytes_eq-Decides}}}, specs.{Prelude.{slice_get, bytes_eq, filter, ◌||◌, not}, List.{list_any}}}
 use Rattle.hc_text.proofs.Basics.{or_right as or_after, or_left as or_before}
-use Rattle.hc_event.specs.Filters.{leaves_in}
-use Rattle.hc_event.specs.declared.act.Act.{Act}
+use Rattle.hc_event.specs.{Filters.{leaves_in}, declared.act.Act.{Act}}
 use Rattle.hc_event.specs.declared.act.Act.TheVariants as act
 use Rattle.hc_fields.specs.FieldList.{has_name}
-use Rattle.hc_validate.specs.Heads.{FieldPairs}
-use Rattle.hc_validate.specs.Updates.{is_renewed, left_by}
-use Rattle.hc_condition.specs.NotModified.{is_told, told_fields, told_names}
-use Rattle.hc_condition.specs.Telling.{is_leaving}
+use Rattle.hc_validate.specs.{Heads.{FieldPairs}, Updates.{is_renewed, left_by}}
+use Rattle.hc_condition.specs.{NotModified.{is_told, told_fields, told_names}, Telling.{is_leaving}}
 
 -- ACTS
 

@@ -1,18 +1,11 @@
 -- How many items are good, told item by item, and why contents don't fit.
-use Rattle.std.proofs.Common.{◌≡◌, ℕ, zero, suc, ◌+◌, ◌<◌, ◌≤◌, map, reverse, List, [], ◌∷◌, length, take, drop, get_or, Bool, true, false, cond, Option, Some, None, refl, ap, sym, ◌∙◌, arith}
-use Rattle.std.proofs.lemmas.Bool.Decides.{nat_tests}
-use Rattle.std.proofs.lemmas.List.{length-map, reverse-append}
-use Rattle.std.specs.Prelude.{◌^◌, nat_le, nat_lt, not, is_none, ◌&&◌, if◌then◌else◌}
+use Rattle.std.{proofs.{Common.{◌≡◌, ℕ, zero, suc, ◌+◌, ◌<◌, ◌≤◌, map, reverse, List, [], ◌∷◌, length, take, drop, get_or, Bool, true, false, cond, Option, Some, None, refl, ap, sym, ◌∙◌, arith}, lemmas.{Bool.Decides.{nat_tests}, List.{length-map, reverse-append}}}, specs.Prelude.{◌^◌, nat_le, nat_lt, not, is_none, ◌&&◌, if◌then◌else◌}}
 use Rattle.hc_target.specs.Targets.{is_target}
 use Rattle.hc_rules.specs.declared.room.Limits.{Limits}
-use Rattle.hc_model.specs.Beginnings.{ascend_from, is_kind_right, has_right_head, has_own_numbers, is_good, are_good, weights_of, may_begin}
-use Rattle.hc_model.specs.Entries.{Content, Contents}
-use Rattle.hc_model.specs.Tables.{bytes_in}
+use Rattle.hc_model.specs.{Beginnings.{ascend_from, is_kind_right, has_right_head, has_own_numbers, is_good, are_good, weights_of, may_begin}, Entries.{Content, Contents}, Tables.{bytes_in}}
 use Rattle.hc_contents.specs.declared.contents.Content as coded
-use Rattle.hc_contents.specs.declared.unfit.Unfit.{Unfit}
+use Rattle.hc_contents.specs.{declared.unfit.Unfit.{Unfit}, Fit.{is_fit, count_good, has_good_numbers, unfit_of}, PlainContents.{plain_item}}
 use Rattle.hc_contents.specs.declared.unfit.Unfit.TheVariants as unfit
-use Rattle.hc_contents.specs.Fit.{is_fit, count_good, has_good_numbers, unfit_of}
-use Rattle.hc_contents.specs.PlainContents.{plain_item}
 use Rattle.hc_contents.proofs.Knowing.{take_told}
 
 -- ONE

@@ -1,8 +1,7 @@
 -- Where runs end and how many bytes they have, told run by run.
 use Rattle.std.proofs.Common.{◌≡◌, ℕ, ◌+◌, ◌≤◌, max, List}
 use Rattle.hc_sparse.specs.declared.run.Run.{Run}
-use Rattle.hc_model.specs.Beginnings.{ascend_from}
-use Rattle.hc_model.specs.Tables.{last_end, bytes_in}
+use Rattle.hc_model.specs.{Beginnings.{ascend_from}, Tables.{last_end, bytes_in}}
 
 -- all that was seen of the runs, before these
 pub record IsSeen (runs rest : List Run) (end bytes x total : ℕ) : Type 0 where

@@ -1,24 +1,10 @@
 -- Where numbers stand last, item by item.
-use Rattle.std.proofs.Common.{◌≡◌, ◌⊎◌, inl, inr, ℕ, zero, suc, ◌+◌, ◌<◌, ◌≤◌, min, map, List, [], ◌∷◌, ◌++◌, length, take, drop, get_or, Bool, true, false, cond, Option, Some, None, refl, ap, sym, ◌∙◌, subst, arith, length-append, take_all}
-use Rattle.std.proofs.lemmas.Bool.Decides.{nat_tests}
-use Rattle.std.proofs.lemmas.List.{drop_all, length-take, length-map}
-use Rattle.std.proofs.lemmas.List.Folds.{list_any-append}
-use Rattle.std.specs.Prelude.{nat_eq, nat_le, ◌==◌, ◌||◌}
-use Rattle.std.specs.List.{list_any}
-use Rattle.std.specs.Prelude.{Vec, bytes_eq, not}
-use Rattle.std.specs.Global.{Global}
-use Rattle.std.specs.Cmp.Lexicographic.{pointwise}
-use Rattle.std.specs.HashSet.{HashSet, contains, contains_by, PutsKey}
-use Rattle.std.proofs.lemmas.Cmp.{nat_list_eq_equiv}
-use Rattle.std.proofs.lemmas.List.Sorted.{list_any-IsPermutation}
-use Rattle.std.proofs.lemmas.Slice.Eq.{bytes_eq-Decides}
+use Rattle.std.{proofs.{Common.{◌≡◌, ◌⊎◌, inl, inr, ℕ, zero, suc, ◌+◌, ◌<◌, ◌≤◌, min, map, List, [], ◌∷◌, ◌++◌, length, take, drop, get_or, Bool, true, false, cond, Option, Some, None, refl, ap, sym, ◌∙◌, subst, arith, length-append, take_all}, lemmas.{Bool.Decides.{nat_tests}, List.{drop_all, length-take, length-map, Folds.{list_any-append}, Sorted.{list_any-IsPermutation}}, Cmp.{nat_list_eq_equiv}, Slice.Eq.{bytes_eq-Decides}}}, specs.{Prelude.{nat_eq, nat_le, ◌==◌, ◌||◌, Vec, bytes_eq, not}, List.{list_any}, Global.{Global}, Cmp.Lexicographic.{pointwise}, HashSet.{HashSet, contains, contains_by, PutsKey}}}
 use Rattle.hc_text.proofs.Basics.{or_false as or_none}
 use Rattle.hc_sparse.specs.declared.run.Run.{Run}
-use Rattle.hc_model.specs.Beginnings.{says}
-use Rattle.hc_model.specs.Entries.{Content}
+use Rattle.hc_model.specs.{Beginnings.{says}, Entries.{Content}}
 use Rattle.hc_contents.specs.declared.contents.Content as coded
-use Rattle.hc_contents.specs.Known.{TellsLast, is_from}
-use Rattle.hc_contents.specs.PlainContents.{plain_item}
+use Rattle.hc_contents.specs.{Known.{TellsLast, is_from}, PlainContents.{plain_item}}
 
 drop_append : {A : Type 0} (i : ℕ) (xs ys : List A) → i ≤ length xs → drop i (xs ++ ys) ≡ drop i xs ++ ys
 drop_append zero xs ys le = refl

@@ -1,8 +1,5 @@
 -- A cache that begins with contents represents the history that has no entry yet.
-use Rattle.std.proofs.Common.{◌≡◌, inl, inr, ◌+◌, ◌≤◌, ◌<◌, ◌^◌, List, [], ◌∷◌, map, true, None, Some, refl, ap, sym, ◌∙◌, subst, arith}
-use Rattle.std.specs.Prelude.{find, nat_lt, ◌==◌}
-use Rattle.std.proofs.lemmas.Bool.{cases_Bool}
-use Rattle.std.proofs.lemmas.Bool.Decides.{nat_tests}
+use Rattle.std.{proofs.{Common.{◌≡◌, inl, inr, ◌+◌, ◌≤◌, ◌<◌, ◌^◌, List, [], ◌∷◌, map, true, None, Some, refl, ap, sym, ◌∙◌, subst, arith}, lemmas.Bool.{cases_Bool, Decides.{nat_tests}}}, specs.Prelude.{find, nat_lt, ◌==◌}}
 use Rattle.hc_text.proofs.Basics.{and_left, and_right, some_inj as some_is}
 use Rattle.hc_stored.specs.Entries.{shelf_of}
 use Rattle.hc_store.specs.declared.backend.Backend.{Ghosts}
@@ -11,15 +8,11 @@ use Rattle.hc_effects.proofs.Tests.{none_some}
 use Rattle.hc_exch.specs.Exchanges.{next_of}
 use Rattle.hc_contents.specs.declared.contents.Content as coded
 use Rattle.hc_contents.specs.declared.contents.Contents as coded_all
-use Rattle.hc_contents.specs.Fit.{unfit_of}
-use Rattle.hc_contents.specs.PlainContents.{plain_contents, plain_item}
+use Rattle.hc_contents.specs.{Fit.{unfit_of}, PlainContents.{plain_contents, plain_item}}
 use Rattle.hc_contents.proofs.Counting.{begins_by}
-use Rattle.hc_state.specs.declared.rows.Rows.{Rows}
-use Rattle.hc_state.specs.Good.{StandsAt}
-use Rattle.hc_state.specs.Stands.{RowsStand}
+use Rattle.hc_state.specs.{declared.rows.Rows.{Rows}, Good.{StandsAt}, Stands.{RowsStand}}
 use Rattle.hc_state.proofs.Words.{none_received}
-use Rattle.hc_core.specs.declared.cache.Cache.{Cache}
-use Rattle.hc_core.specs.Steps.{StandsFor}
+use Rattle.hc_core.specs.{declared.cache.Cache.{Cache}, Steps.{StandsFor}}
 use Rattle.hc_core.proofs.BegunItems.{next_fits}
 
 -- a store may begin with what fits

@@ -1,39 +1,20 @@
 -- Items of contents, run by run and one by one.
-use Rattle.std.proofs.Common.{◌≡◌, ◌⊎◌, ℕ, zero, suc, ◌+◌, ◌<◌, ◌≤◌, ◌^◌, max, map, reverse, List, [], ◌∷◌, ◌++◌, length, take, drop, get_or, Bool, true, false, cond, eqb, Option, Some, None, refl, ap, sym, ◌∙◌, subst, inl, inr, arith, take_all}
-use Rattle.std.specs.Prelude.{Ok, Err, is_some, option_map, find, nat_le, nat_lt, ◌==◌, ◌&&◌, ◌||◌, not, if◌then◌else◌}
-use Rattle.std.specs.List.{list_any}
-use Rattle.std.specs.Option.{ForSome}
-use Rattle.std.proofs.lemmas.Bool.{cases_Bool, eqb-true}
-use Rattle.std.proofs.lemmas.Bool.Decides.{nat_tests}
-use Rattle.std.proofs.lemmas.List.{reverse-append, append_assoc}
-use Rattle.std.proofs.lemmas.List.Folds.{list_any-append}
-use Rattle.hc_store.specs.declared.backend.Backend.{Ghosts}
+use Rattle.std.{proofs.{Common.{◌≡◌, ◌⊎◌, ℕ, zero, suc, ◌+◌, ◌<◌, ◌≤◌, ◌^◌, max, map, reverse, List, [], ◌∷◌, ◌++◌, length, take, drop, get_or, Bool, true, false, cond, eqb, Option, Some, None, refl, ap, sym, ◌∙◌, subst, inl, inr, arith, take_all}, lemmas.{Bool.{cases_Bool, eqb-true, Decides.{nat_tests}}, List.{reverse-append, append_assoc, Folds.{list_any-append}, Sums.{sum_by-cons, sum_by-append, sum_by-take-le}}}}, specs.{Prelude.{Ok, Err, is_some, option_map, find, nat_le, nat_lt, ◌==◌, ◌&&◌, ◌||◌, not, if◌then◌else◌}, List.{list_any}, Option.{ForSome}}}
+use Rattle.hc_store.specs.{declared.backend.Backend.{Ghosts}, Causes.{HasCause}}
 use Rattle.hc_store.specs.declared.error.StoreError.TheVariants as error
-use Rattle.hc_store.specs.Causes.{HasCause}
-use Rattle.std.proofs.lemmas.List.Sums.{sum_by-cons, sum_by-append, sum_by-take-le}
 use Rattle.hc_text.proofs.Basics.{and_left, and_right, eqb-same, false_true, not_true as not_is}
-use Rattle.hc_sparse.specs.Cells.{AreAbsent, EndsBy, size, cells_with}
-use Rattle.hc_sparse.specs.Runs.{end_of}
-use Rattle.hc_sparse.specs.declared.run.Run.{Run}
-use Rattle.hc_sparse.proofs.CellLemmas.{inside-past}
-use Rattle.hc_sparse.proofs.SizeLemmas.{size-put}
+use Rattle.hc_sparse.specs.{Cells.{AreAbsent, EndsBy, size, cells_with}, Runs.{end_of}, declared.run.Run.{Run}}
+use Rattle.hc_sparse.proofs.{CellLemmas.{inside-past}, SizeLemmas.{size-put}}
 use Rattle.hc_effects.proofs.Vocabulary.{Limits, weight_of, ascend_from, is_kind_right, is_good, are_good, says, has_own_numbers, weights_of, may_begin, has_right_head, Content, Contents, Representation, first_tables, representation_of_content, last_end, bytes_in}
-use Rattle.hc_stored.specs.Begun.{with_runs}
-use Rattle.hc_stored.specs.Kept.{Kept, kept_with_bytes}
-use Rattle.hc_stored.specs.Shelf.{Shelf, Becomes, is_kept, cells_in, cells_at, size_at, same_order}
-use Rattle.hc_effects.proofs.Basics.{or_false, append_none}
-use Rattle.hc_effects.proofs.Tests.{none_some}
-use Rattle.hc_stored.specs.Entries.{shelf_of}
-use Rattle.hc_state.specs.declared.rows.Rows.{Rows}
-use Rattle.hc_state.specs.Stands.{RowsStand}
-use Rattle.hc_state.specs.Stored.{KeepsEntry}
+use Rattle.hc_stored.specs.{Begun.{with_runs}, Kept.{Kept, kept_with_bytes}, Shelf.{Shelf, Becomes, is_kept, cells_in, cells_at, size_at, same_order}, Entries.{shelf_of}}
+use Rattle.hc_effects.proofs.{Basics.{or_false, append_none}, Tests.{none_some}}
+use Rattle.hc_state.specs.{declared.rows.Rows.{Rows}, Stands.{RowsStand}, Stored.{KeepsEntry}}
 use Rattle.hc_core.specs.Begins.{with_items, KeepsItem}
 use Rattle.hc_contents.specs.declared.contents.Content as coded
 use Rattle.hc_contents.specs.declared.contents.Contents as coded_all
 use Rattle.hc_contents.specs.PlainContents.{plain_contents, plain_item}
 use Rattle.hc_contents.proofs.Counting.{longer}
-use Rattle.hc_core.proofs.BegunRuns.{runs_more}
-use Rattle.hc_core.proofs.BegunRows.{stands_more}
+use Rattle.hc_core.proofs.{BegunRuns.{runs_more}, BegunRows.{stands_more}}
 
 -- RUN BY RUN
 

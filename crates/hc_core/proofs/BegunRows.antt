@@ -1,31 +1,16 @@
 -- The rows represent what a store begins with, item by item.
-use Rattle.std.proofs.Common.{◌≡◌, inl, inr, ℕ, ◌<◌, max, List, [], ◌∷◌, ◌++◌, Bool, true, false, cond, eqb, Option, Some, None, refl, ap, sym, ◌∙◌, subst, arith}
-use Rattle.std.specs.Prelude.{nat_eq, filter, find, reverse, bytes_eq, option_map, ◌==◌, ◌&&◌, if◌then◌else◌}
-use Rattle.std.specs.HashMap.{get, hash_map_len}
-use Rattle.std.proofs.lemmas.Bool.{cases_Bool, eqb-true}
-use Rattle.std.proofs.lemmas.Bool.Decides.{nat_tests}
-use Rattle.std.proofs.lemmas.List.{map-append, reverse-append}
-use Rattle.std.proofs.lemmas.List.Folds.{find-append}
+use Rattle.std.{proofs.{Common.{◌≡◌, inl, inr, ℕ, ◌<◌, max, List, [], ◌∷◌, ◌++◌, Bool, true, false, cond, eqb, Option, Some, None, refl, ap, sym, ◌∙◌, subst, arith}, lemmas.{Bool.{cases_Bool, eqb-true, Decides.{nat_tests}}, List.{map-append, reverse-append, Folds.{find-append}}}}, specs.{Prelude.{nat_eq, filter, find, reverse, bytes_eq, option_map, ◌==◌, ◌&&◌, if◌then◌else◌}, HashMap.{get, hash_map_len}}}
 use Rattle.hc_text.proofs.Basics.{eqb-same, false_true, or_none}
 use Rattle.hc_store.specs.declared.backend.Backend.{Ghosts}
 use Rattle.hc_sparse.specs.Runs.{cells_of}
 use Rattle.hc_record.specs.declared.kind.Kind.TheVariants as kind
 use Rattle.hc_stored.specs.Begun as entries
-use Rattle.hc_stored.specs.Entries.{shelf_of}
-use Rattle.hc_stored.specs.Kept.{Kept}
-use Rattle.hc_entry.specs.Kept.{with_current, nothing}
-use Rattle.hc_entry.specs.Keys.{kept_of}
-use Rattle.hc_exch.specs.Exchanges.{table_of, next_of}
-use Rattle.hc_exch.specs.Known.{unknown}
-use Rattle.hc_exch.specs.declared.row.Open.{Open}
+use Rattle.hc_stored.specs.{Entries.{shelf_of}, Kept.{Kept}}
+use Rattle.hc_entry.specs.{Kept.{with_current, nothing}, Keys.{kept_of}}
+use Rattle.hc_exch.specs.{Exchanges.{table_of, next_of}, Known.{unknown}, declared.row.Open.{Open}}
 use Rattle.hc_effects.proofs.Vocabulary.{ascend_from, is_kind_right, current, is_usable, Content, Contents, kind_of, bound, Tables, Representation, first_tables, representation_of_content, numbers, last_end}
 use Rattle.hc_effects.proofs.Tests.{none_some}
-use Rattle.hc_state.specs.declared.rows.Rows.{Rows}
-use Rattle.hc_state.specs.declared.consumer.Consumer.{Consumer}
-use Rattle.hc_state.specs.Kept.{KeepsConsumer, KeepsExchange, KeepsRunning}
-use Rattle.hc_state.specs.Lines.{KeepsKey}
-use Rattle.hc_state.specs.Stands.{RowsStand}
-use Rattle.hc_state.specs.Stored.{IsEntry, KeepsEntry, is_usable_row}
+use Rattle.hc_state.specs.{declared.{rows.Rows.{Rows}, consumer.Consumer.{Consumer}}, Kept.{KeepsConsumer, KeepsExchange, KeepsRunning}, Lines.{KeepsKey}, Stands.{RowsStand}, Stored.{IsEntry, KeepsEntry, is_usable_row}}
 use Rattle.hc_state.specs.Stored as stored
 use Rattle.hc_core.proofs.BegunRuns.{runs_cells, runs_reach, runs_rest, kind_begun, whole_begun}
 use Rattle.hc_core.specs.Begins.{with_items, kept_item, KeepsItem}

@@ -1,24 +1,16 @@
 -- What runs that are put one after another leave, and of what kind that is.
-use Rattle.std.proofs.Common.{◌≡◌, ◌⊎◌, inl, inr, ℕ, ◌+◌, ◌-◌, ◌<◌, ◌≤◌, max, List, [], ◌∷◌, ◌++◌, length, Bool, true, false, Option, Some, None, refl, ap, sym, ◌∙◌, arith}
-use Rattle.std.specs.Prelude.{is_some, nat_le, nat_lt, ◌==◌, ◌&&◌, if◌then◌else◌}
-use Rattle.std.specs.Option.{option_or}
-use Rattle.std.proofs.lemmas.Bool.Decides.{nat_tests}
+use Rattle.std.{proofs.{Common.{◌≡◌, ◌⊎◌, inl, inr, ℕ, ◌+◌, ◌-◌, ◌<◌, ◌≤◌, max, List, [], ◌∷◌, ◌++◌, length, Bool, true, false, Option, Some, None, refl, ap, sym, ◌∙◌, arith}, lemmas.Bool.Decides.{nat_tests}}, specs.{Prelude.{is_some, nat_le, nat_lt, ◌==◌, ◌&&◌, if◌then◌else◌}, Option.{option_or}}}
 use Rattle.hc_text.proofs.Basics.{and_left, and_right, false_true}
-use Rattle.hc_sparse.specs.Cells.{Cells, Covers, size_below}
-use Rattle.hc_sparse.specs.Runs.{cells_of, end_of}
-use Rattle.hc_sparse.specs.declared.run.Run.{Run}
+use Rattle.hc_sparse.specs.{Cells.{Cells, Covers, size_below}, Runs.{cells_of, end_of}, declared.run.Run.{Run}}
 use Rattle.hc_sparse.proofs.CellLemmas.{inside-cases, inside-before}
 use Rattle.hc_record.specs.declared.kind.Kind.{Kind}
 use Rattle.hc_record.specs.declared.kind.Kind.TheVariants as kind
-use Rattle.hc_stored.specs.Begun.{with_runs}
-use Rattle.hc_stored.specs.Kept.{Kept, kept_with_bytes}
+use Rattle.hc_stored.specs.{Begun.{with_runs}, Kept.{Kept, kept_with_bytes}}
 use Rattle.hc_effects.proofs.Vocabulary.{ascend_from, kind_of_runs, same_kind, is_kind_right, runs_from, Content, Contents, covers, kind_of, is_front, last_end, bytes_in, representation_of_content}
 use Rattle.hc_model.specs.Kinds as kinds
 use Rattle.hc_model.specs.Tables as tables
-use Rattle.hc_laws.proofs.Begins.{ends_all}
+use Rattle.hc_laws.proofs.{Begins.{ends_all}, KindsLeft.{kind_by, kind_right, count_is, last_is}, Positions.{bytes_below, before_run}}
 use Rattle.hc_effects.proofs.HoleLemmas.{covers_all}
-use Rattle.hc_laws.proofs.KindsLeft.{kind_by, kind_right, count_is, last_is}
-use Rattle.hc_laws.proofs.Positions.{bytes_below, before_run}
 
 -- ONE AFTER ANOTHER
 

@@ -1,38 +1,23 @@
 -- What is told of all idle ones is the contents of each run that the cache represents, and a cache may begin with it.
-use Rattle.std.proofs.Common.{◌≡◌, inl, inr, ℕ, zero, suc, get_or, ◌<◌, ◌≤◌, ◌^◌, List, [], ◌∷◌, ◌++◌, map, Bool, true, false, Option, Some, None, refl, ap, sym, ◌∙◌, subst, arith}
-use Rattle.std.specs.Prelude.{is_some, option_map, filter, filter_map, reverse, ◌==◌, length}
-use Rattle.std.proofs.lemmas.Bool.{cases_Bool}
+use Rattle.std.{proofs.{Common.{◌≡◌, inl, inr, ℕ, zero, suc, get_or, ◌<◌, ◌≤◌, ◌^◌, List, [], ◌∷◌, ◌++◌, map, Bool, true, false, Option, Some, None, refl, ap, sym, ◌∙◌, subst, arith}, lemmas.Bool.{cases_Bool}}, specs.Prelude.{is_some, option_map, filter, filter_map, reverse, ◌==◌, length}}
 use Rattle.hc_text.proofs.Basics.{and_left, false_true, some_inj as some_is}
 use Rattle.hc_store.specs.declared.backend.Backend.{Ghosts}
 use Rattle.hc_sparse.specs.Cells.{Cells, EndsBy}
 use Rattle.hc_record.specs.Head.{Head, sealed_head}
-use Rattle.hc_stored.specs.Entries.{shelf_of}
-use Rattle.hc_stored.specs.Kept.{Kept}
+use Rattle.hc_stored.specs.{Entries.{shelf_of}, Kept.{Kept}, Shelf.{Shelf, Stays, idle, cells_at, cells_in}, Views.{key_in}}
 use Rattle.hc_stored.specs.Shelf as shelves
-use Rattle.hc_stored.specs.Shelf.{Shelf, Stays, idle, cells_at, cells_in}
-use Rattle.hc_stored.specs.Views.{key_in}
 use Rattle.hc_effects.proofs.Vocabulary.{may_begin, IsRun, content_of, content_at, contents_of, idle_now, runs_from, current, is_current, Content, Contents, History, kind_of, IsInLimits, bound, Lawful, Tables, Representation, IsStored, tables}
 use Rattle.hc_model.specs.Contents.{is_idle}
-use Rattle.hc_effects.proofs.Basics.{number_is, same_functions}
-use Rattle.hc_laws.proofs.RunsWithinLimits.{heads_come_within_limits}
-use Rattle.hc_laws.proofs.LeavesGood.{leaves_good}
-use Rattle.hc_effects.proofs.LettingGo.{may_let_go}
-use Rattle.hc_effects.proofs.PollKeeps.{current_stays}
+use Rattle.hc_effects.proofs.{Basics.{number_is, same_functions}, LettingGo.{may_let_go}, PollKeeps.{current_stays}}
+use Rattle.hc_laws.proofs.{RunsWithinLimits.{heads_come_within_limits}, LeavesGood.{leaves_good}}
 use Rattle.hc_exch.specs.Exchanges.{next_of}
 use Rattle.hc_contents.specs.declared.contents.Contents as coded_all
 use Rattle.hc_contents.specs.PlainContents.{plain_contents, plain_item}
-use Rattle.hc_state.specs.declared.rows.Rows.{Rows}
-use Rattle.hc_state.specs.Good.{StandsAt, IsGood}
-use Rattle.hc_state.specs.Remains.{TellsOne, TellsAll}
-use Rattle.hc_state.specs.Stands.{RowsStand}
-use Rattle.hc_state.specs.Stored.{IsEntry, KeepsEntry, TellsLength}
+use Rattle.hc_state.specs.{declared.rows.Rows.{Rows}, Good.{StandsAt, IsGood}, Remains.{TellsOne, TellsAll}, Stands.{RowsStand}, Stored.{IsEntry, KeepsEntry, TellsLength}}
 use Rattle.hc_state.specs.Stored as stored
-use Rattle.hc_state.proofs.Maps.{merely_true}
-use Rattle.hc_state.proofs.ReaderSteps.{stands_read}
-use Rattle.hc_state.proofs.Rooms.{idle_is}
+use Rattle.hc_state.proofs.{Maps.{merely_true}, ReaderSteps.{stands_read}, Rooms.{idle_is}}
 use Rattle.hc_core.proofs.Standing.{law_of_runs}
-use Rattle.hc_core.specs.declared.cache.Cache.{Cache}
-use Rattle.hc_core.specs.Steps.{StandsFor}
+use Rattle.hc_core.specs.{declared.cache.Cache.{Cache}, Steps.{StandsFor}}
 
 -- WHAT STAYS
 

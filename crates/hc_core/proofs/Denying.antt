@@ -1,16 +1,11 @@
 -- What is kept represents the tables after a denied event, and at the beginning.
-use Rattle.std.proofs.Common.{◌≡◌, ℕ, ◌+◌, List, [], None, refl, ap}
-use Rattle.std.specs.Prelude.{nat_eq}
-use Rattle.std.specs.HashMap.{get, hash_map_len}
+use Rattle.std.{proofs.Common.{◌≡◌, ℕ, ◌+◌, List, [], None, refl, ap}, specs.{Prelude.{nat_eq}, HashMap.{get, hash_map_len}}}
 use Rattle.hc_store.specs.declared.backend.Backend.{Ghosts}
 use Rattle.hc_stored.specs.Entries.{shelf_of}
-use Rattle.hc_entry.specs.Keys.{kept_of}
-use Rattle.hc_entry.specs.Kept.{nothing}
-use Rattle.hc_exch.specs.Exchanges.{table_of, next_of}
-use Rattle.hc_exch.specs.Known.{unknown}
+use Rattle.hc_entry.specs.{Keys.{kept_of}, Kept.{nothing}}
+use Rattle.hc_exch.specs.{Exchanges.{table_of, next_of}, Known.{unknown}}
 use Rattle.hc_effects.proofs.Vocabulary.{current, Entry, no_contents, Tables, first_tables, after_denied, received_in}
-use Rattle.hc_state.specs.declared.rows.Rows.{Rows}
-use Rattle.hc_state.specs.Stands.{RowsStand}
+use Rattle.hc_state.specs.{declared.rows.Rows.{Rows}, Stands.{RowsStand}}
 use Rattle.hc_state.proofs.Counting.{stands_recounted}
 
 pub stands_denied : {B : Type 0} {g : Ghosts B} (r : Rows B g) (t : Tables) (e : Entry) → RowsStand (shelf_of r.entries).limits r t → RowsStand (shelf_of r.entries).limits r (after_denied t e)

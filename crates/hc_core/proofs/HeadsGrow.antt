@@ -1,16 +1,13 @@
 -- In every run the head of a representation says that it grows: how much of it is stored is told of the tables, and not of its head.
-use Rattle.std.proofs.Common.{◌≡◌, ℕ, Option, Some, None, refl, ap, sym, ◌∙◌}
-use Rattle.std.specs.Prelude.{find, option_map, ◌==◌}
+use Rattle.std.{proofs.Common.{◌≡◌, ℕ, Option, Some, None, refl, ap, sym, ◌∙◌}, specs.Prelude.{find, option_map, ◌==◌}}
 use Rattle.hc_text.proofs.Basics.{some_inj as some_is}
 use Rattle.hc_record.specs.Head.{Head}
 use Rattle.hc_record.specs.declared.kind.Kind.TheVariants as kind
 use Rattle.hc_effects.proofs.Vocabulary.{Entry, Content, Contents, entry_of, OfRuns, Tables, Representation, first_tables, representation_of_content}
-use Rattle.hc_laws.proofs.HeadFrom.{HeadFrom, head_from}
+use Rattle.hc_laws.proofs.{HeadFrom.{HeadFrom, head_from}, RunFacts.{in_runs}}
 use Rattle.hc_laws.proofs.HeadFrom as from
-use Rattle.hc_effects.proofs.RepFrom.{RepFrom, rep_from}
+use Rattle.hc_effects.proofs.{RepFrom.{RepFrom, rep_from}, Tests.{none_some}}
 use Rattle.hc_effects.proofs.RepFrom as rep
-use Rattle.hc_effects.proofs.Tests.{none_some}
-use Rattle.hc_laws.proofs.RunFacts.{in_runs}
 
 abbrev pub HeadsGrow : Tables → Type 0
 HeadsGrow t = (r : ℕ) (v : Representation) → t.representation r ≡ Some v → v.head.kind ≡ kind.Growing

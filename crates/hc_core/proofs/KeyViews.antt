@@ -1,21 +1,14 @@
 -- What a cache tells of a key: whose turn it is, and how much is stored of what is current.
-use Rattle.std.proofs.Common.{◌≡◌, ℕ, List, Some, None, ap, sym, ◌∙◌}
-use Rattle.std.specs.Prelude.{option_map}
-use Rattle.std.specs.Option.{option_and_then}
+use Rattle.std.{proofs.Common.{◌≡◌, ℕ, List, Some, None, ap, sym, ◌∙◌}, specs.{Prelude.{option_map}, Option.{option_and_then}}}
 use Rattle.hc_text.proofs.Basics.{some_inj as some_is}
 use Rattle.hc_store.specs.declared.backend.Backend.{Ghosts}
-use Rattle.hc_stored.specs.declared.view.EntryView.{EntryView}
-use Rattle.hc_stored.specs.Entries.{shelf_of}
-use Rattle.hc_stored.specs.Views.{view_of}
-use Rattle.hc_entry.specs.Keys.{kept_of, line_of}
-use Rattle.hc_entry.specs.Lines.{turn_of}
+use Rattle.hc_stored.specs.{declared.view.EntryView.{EntryView}, Entries.{shelf_of}, Views.{view_of}}
+use Rattle.hc_entry.specs.{Keys.{kept_of, line_of}, Lines.{turn_of}}
 use Rattle.hc_effects.proofs.Vocabulary.{current, Contents, History, kind_of, kind_at, kind_for, turn, Tables, tables}
 use Rattle.hc_effects.proofs.Tests.{none_some}
 use Rattle.hc_laws.proofs.SoundRuns.{runs_are_sound}
-use Rattle.hc_state.proofs.CurrentTies.{IsNow, now_kept}
-use Rattle.hc_state.proofs.TurnTies.{turn_of_is}
-use Rattle.hc_core.specs.declared.cache.Cache.{Cache}
-use Rattle.hc_core.specs.Steps.{StandsFor}
+use Rattle.hc_state.proofs.{CurrentTies.{IsNow, now_kept}, TurnTies.{turn_of_is}}
+use Rattle.hc_core.specs.{declared.cache.Cache.{Cache}, Steps.{StandsFor}}
 
 module _ {B : Type 0} {g : Ghosts B} (s : Cache B g) (key : List ℕ) (contents : Contents) (h : History) (stands : StandsFor s contents h) where
   abbrev t : Tables

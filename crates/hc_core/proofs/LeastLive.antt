@@ -1,16 +1,10 @@
 -- The least of some numbers, and who of the live has it.
-use Rattle.std.proofs.Common.{◌≡◌, ◌⊎◌, ◌≤◌, inl, inr, ℕ, List, [], ◌∷◌, length, Bool, true, false, Option, Some, None, refl, ap, sym, ◌∙◌, subst, arith}
-use Rattle.std.specs.Prelude.{is_some, nat_eq, nat_lt, if◌then◌else◌, IfSome, IfNone}
+use Rattle.std.{proofs.{Common.{◌≡◌, ◌⊎◌, ◌≤◌, inl, inr, ℕ, List, [], ◌∷◌, length, Bool, true, false, Option, Some, None, refl, ap, sym, ◌∙◌, subst, arith}, lemmas.{Bool.Decides.{nat_tests}, Map.{Entries.{length-keys_of}, Made.{is_some-lookup}}}}, specs.{Prelude.{is_some, nat_eq, nat_lt, if◌then◌else◌, IfSome, IfNone}, Set.{is_member}}}
 use Rattle.std.specs.HashMap as hash
-use Rattle.std.specs.Set.{is_member}
-use Rattle.std.proofs.lemmas.Bool.Decides.{nat_tests}
-use Rattle.std.proofs.lemmas.Map.Entries.{length-keys_of}
-use Rattle.std.proofs.lemmas.Map.Made.{is_some-lookup}
 use Rattle.hc_effects.proofs.Vocabulary.{is_live, Contents, History, tables}
 use Rattle.hc_state.proofs.Ties.{kept_lives}
 use Rattle.hc_store.specs.declared.backend.Backend.{Ghosts}
-use Rattle.hc_core.specs.Steps.{StandsFor, IsLeastLive, live_in}
-use Rattle.hc_core.specs.declared.cache.Cache.{Cache}
+use Rattle.hc_core.specs.{Steps.{StandsFor, IsLeastLive, live_in}, declared.cache.Cache.{Cache}}
 
 abbrev pub lesser : Option ℕ → ℕ → ℕ
 lesser None k = k

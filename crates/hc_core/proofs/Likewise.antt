@@ -1,52 +1,25 @@
 -- Rows that keep contents, and nothing else, represent the tables of each run that leaves those, with nobody live.
-use Rattle.std.proofs.Common.{◌≡◌, ◌≢◌, inl, inr, ℕ, ◌+◌, ◌-◌, List, [], ◌∷◌, ◌++◌, Bool, true, false, Option, Some, None, refl, ap, sym, ◌∙◌, subst, arith}
-use Rattle.std.specs.Prelude.{bytes_eq, is_some, nat_eq, filter, filter_map, find, reverse, length, option_map, not, ◌==◌, ◌&&◌}
-use Rattle.std.specs.HashMap.{get}
-use Rattle.std.proofs.lemmas.Bool.{cases_Bool}
-use Rattle.std.proofs.lemmas.List.{reverse-append, reverse-reverse}
+use Rattle.std.{proofs.{Common.{◌≡◌, ◌≢◌, inl, inr, ℕ, ◌+◌, ◌-◌, List, [], ◌∷◌, ◌++◌, Bool, true, false, Option, Some, None, refl, ap, sym, ◌∙◌, subst, arith}, lemmas.{Bool.{cases_Bool}, List.{reverse-append, reverse-reverse}}}, specs.{Prelude.{bytes_eq, is_some, nat_eq, filter, filter_map, find, reverse, length, option_map, not, ◌==◌, ◌&&◌}, HashMap.{get}}}
 use Rattle.hc_text.proofs.Basics.{and_left, and_right, eqb-other, eqb-same, false_true, filter_same as filters_as, never_true as not_true, same_or, same_some as same_row, some_inj as some_is, and_off as then_false}
 use Rattle.hc_store.specs.declared.backend.Backend.{Ghosts}
-use Rattle.hc_sparse.specs.Cells.{EndsBy}
-use Rattle.hc_sparse.specs.Runs.{cells_of}
+use Rattle.hc_sparse.specs.{Cells.{EndsBy}, Runs.{cells_of}}
 use Rattle.hc_record.specs.Head.{sealed_head}
 use Rattle.hc_record.specs.declared.kind.Kind.TheVariants as kinds
 use Rattle.hc_effects.proofs.Vocabulary.{Limits, is_disabled, is_only, may_begin, are_good, is_good, ascend_from, is_kind_right, content_of, content_at, contents_of, idle_now, current, is_current, is_number, live, Content, Contents, is_open, is_in_line, holds_turn, bound, Lawful, Measures, Tables, Exchange, Representation, Among, Sound, first_tables, representation_of_content, numbers, last_end, tables}
-use Rattle.hc_stored.specs.Entries.{shelf_of}
-use Rattle.hc_stored.specs.Kept.{Kept}
+use Rattle.hc_stored.specs.{Entries.{shelf_of}, Kept.{Kept}}
 use Rattle.hc_entry.specs.Kept as keyed
 use Rattle.hc_entry.specs.Keys.{kept_of}
-use Rattle.hc_exch.specs.Exchanges.{table_of, next_of}
-use Rattle.hc_exch.specs.Known.{Known}
-use Rattle.hc_exch.specs.declared.row.Open.{Open}
+use Rattle.hc_exch.specs.{Exchanges.{table_of, next_of}, Known.{Known}, declared.row.Open.{Open}}
 use Rattle.hc_event.specs.declared.place.Place.TheVariants as place
 use Rattle.hc_model.specs.Contents.{is_idle}
 use Rattle.hc_model.specs.Rows as rows
-use Rattle.hc_effects.proofs.Basics.{number_is}
-use Rattle.hc_effects.proofs.Closed.{among_filter, among_append_left, reversed as among_reverse, among_append_right}
-use Rattle.hc_effects.proofs.CurrentKeeps.{current_is}
-use Rattle.hc_effects.proofs.KeysKeep.{current_row}
-use Rattle.hc_effects.proofs.PollKeeps.{current_stays}
-use Rattle.hc_laws.proofs.RunsFrom.{end_is}
-use Rattle.hc_laws.proofs.SoundRuns.{carried, measures_in_runs}
-use Rattle.hc_effects.proofs.Sums.{filter_among}
-use Rattle.hc_effects.proofs.Tests.{none_some}
-use Rattle.hc_state.specs.declared.consumer.Consumer.{Consumer}
-use Rattle.hc_state.specs.declared.rows.Rows.{Rows}
-use Rattle.hc_state.specs.Kept.{KeepsConsumer, KeepsExchange, KeepsRunning}
-use Rattle.hc_state.specs.Lines.{KeepsKey, has_turn, is_away, is_passed}
-use Rattle.hc_state.specs.Stands.{RowsStand}
-use Rattle.hc_state.specs.Stored.{IsEntry, KeepsEntry, TellsLength, TellsWriter, is_first, is_over, is_usable_row}
+use Rattle.hc_effects.proofs.{Basics.{number_is}, Closed.{among_filter, among_append_left, reversed as among_reverse, among_append_right}, CurrentKeeps.{current_is}, KeysKeep.{current_row}, PollKeeps.{current_stays}, Sums.{filter_among}, Tests.{none_some}}
+use Rattle.hc_laws.proofs.{RunsFrom.{end_is}, SoundRuns.{carried, measures_in_runs}}
+use Rattle.hc_state.specs.{declared.{consumer.Consumer.{Consumer}, rows.Rows.{Rows}}, Kept.{KeepsConsumer, KeepsExchange, KeepsRunning}, Lines.{KeepsKey, has_turn, is_away, is_passed}, Stands.{RowsStand}, Stored.{IsEntry, KeepsEntry, TellsLength, TellsWriter, is_first, is_over, is_usable_row}}
 use Rattle.hc_state.specs.Stored as stored
-use Rattle.hc_core.proofs.BegunRuns.{kind_begun}
-use Rattle.hc_state.proofs.CurrentTies.{stays_stored}
-use Rattle.hc_core.proofs.HeadsGrow.{HeadsGrow, heads_grow}
-use Rattle.hc_state.proofs.LiveCounts.{filter-reverse}
-use Rattle.hc_core.proofs.NobodyLive.{nobody, nobody_says, unbound, none_bound, shut, none_held}
-use Rattle.hc_core.proofs.RunsBack.{cells_back}
-use Rattle.hc_core.proofs.Standing.{law_of_runs}
-use Rattle.hc_core.specs.declared.cache.Cache.{Cache}
-use Rattle.hc_core.specs.Steps.{ServesAll}
-use Rattle.hc_core.proofs.BegunItems.{good_of}
+use Rattle.hc_core.proofs.{BegunRuns.{kind_begun}, HeadsGrow.{HeadsGrow, heads_grow}, NobodyLive.{nobody, nobody_says, unbound, none_bound, shut, none_held}, RunsBack.{cells_back}, Standing.{law_of_runs}, BegunItems.{good_of}}
+use Rattle.hc_state.proofs.{CurrentTies.{stays_stored}, LiveCounts.{filter-reverse}}
+use Rattle.hc_core.specs.{declared.cache.Cache.{Cache}, Steps.{ServesAll}}
 
 -- WHAT IS GOOD
 

@@ -5,9 +5,7 @@ use Rattle.hc_effects.proofs.Vocabulary.{Act, Refusal, Event, Limits, refusal_of
 use Rattle.hc_event.specs.declared.act.Act.TheVariants as act
 use Rattle.hc_exch.specs.Exchanges.{next_of}
 use Rattle.hc_effects.proofs.NumbersKeep.{opens_next}
-use Rattle.hc_state.specs.declared.rows.Rows.{Rows}
-use Rattle.hc_state.specs.Good.{StandsUntil}
-use Rattle.hc_state.specs.Stands.{Stands, Answers, gate_of}
+use Rattle.hc_state.specs.{declared.rows.Rows.{Rows}, Good.{StandsUntil}, Stands.{Stands, Answers, gate_of}}
 use Rattle.hc_state.proofs.Maps.{merely_below}
 use Rattle.hc_on_leave.proofs.Gates.{denies_as}
 use Rattle.hc_core.proofs.Standing.{stands_of_runs}

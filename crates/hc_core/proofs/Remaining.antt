@@ -1,15 +1,9 @@
 -- The longest runs, one after another.
-use Rattle.std.proofs.Common.{◌≡◌, ◌≢◌, ◌⊎◌, inl, inr, ℕ, zero, suc, ◌+◌, ◌-◌, ◌<◌, ◌≤◌, ◌^◌, List, [], ◌∷◌, ◌++◌, length, get_or, true, Option, Some, None, refl, ap, sym, ◌∙◌, subst, arith, append_assoc}
-use Rattle.std.specs.Prelude.{is_some, nat_eq, ◌==◌, ◌&&◌, if◌then◌else◌}
-use Rattle.std.proofs.lemmas.Bool.{cases_Bool}
-use Rattle.std.proofs.lemmas.Bool.Decides.{nat_tests}
+use Rattle.std.{proofs.{Common.{◌≡◌, ◌≢◌, ◌⊎◌, inl, inr, ℕ, zero, suc, ◌+◌, ◌-◌, ◌<◌, ◌≤◌, ◌^◌, List, [], ◌∷◌, ◌++◌, length, get_or, true, Option, Some, None, refl, ap, sym, ◌∙◌, subst, arith, append_assoc}, lemmas.Bool.{cases_Bool, Decides.{nat_tests}}}, specs.Prelude.{is_some, nat_eq, ◌==◌, ◌&&◌, if◌then◌else◌}}
 use Rattle.hc_text.proofs.Basics.{and_left, and_right, eqb-same, false_true, lt_or as split}
-use Rattle.hc_sparse.specs.Cells.{Cells, Cell, EndsBy, AreAbsent, IsNext}
-use Rattle.hc_sparse.specs.Stretch.{IsLongest}
-use Rattle.hc_sparse.specs.declared.run.Run.{Run}
+use Rattle.hc_sparse.specs.{Cells.{Cells, Cell, EndsBy, AreAbsent, IsNext}, Stretch.{IsLongest}, declared.run.Run.{Run}}
 use Rattle.hc_effects.proofs.Vocabulary.{run_from, with_cell, with_place, runs_from}
-use Rattle.hc_effects.proofs.Basics.{append_none}
-use Rattle.hc_effects.proofs.Tests.{none_some}
+use Rattle.hc_effects.proofs.{Basics.{append_none}, Tests.{none_some}}
 
 -- nothing is there: no run
 pub runs_none : (f : Cells) (p n : ℕ) → AreAbsent f p (p + n) → runs_from f p n ≡ []

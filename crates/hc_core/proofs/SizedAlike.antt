@@ -2,19 +2,13 @@
 -- positions below 2^62 alone. In a run that began with this cache no more came than it counted, so nothing is stored from
 -- there on. Any other run for which its rows stand has the same bytes stored of what is kept, and all that is in use is kept. So nothing
 -- is stored from there on in that run either, however many bytes came in it.
-use Rattle.std.proofs.Common.{◌≡◌, inl, inr, ℕ, ◌<◌, ◌≤◌, ◌^◌, max, true, Option, Some, None, refl, sym, ◌∙◌, subst, arith}
-use Rattle.std.proofs.lemmas.Bool.{cases_Bool}
-use Rattle.std.proofs.lemmas.Bool.Decides.{nat_tests}
-use Rattle.std.specs.Prelude.{is_some, nat_eq, nat_le}
+use Rattle.std.{proofs.{Common.{◌≡◌, inl, inr, ℕ, ◌<◌, ◌≤◌, ◌^◌, max, true, Option, Some, None, refl, sym, ◌∙◌, subst, arith}, lemmas.Bool.{cases_Bool, Decides.{nat_tests}}}, specs.Prelude.{is_some, nat_eq, nat_le}}
 use Rattle.hc_store.specs.declared.backend.Backend.{Ghosts}
 use Rattle.hc_sparse.specs.Cells.{Cell, Cells, EndsBy, size, size_below}
 use Rattle.hc_effects.proofs.Vocabulary.{Limits, Lawful, AreSized, Numbers, Tables, Representation, Sizes}
-use Rattle.hc_stored.specs.Entries.{shelf_of}
-use Rattle.hc_stored.specs.Kept.{Kept}
+use Rattle.hc_stored.specs.{Entries.{shelf_of}, Kept.{Kept}}
 use Rattle.hc_laws.proofs.Positions.{below_past}
-use Rattle.hc_state.specs.declared.rows.Rows.{Rows}
-use Rattle.hc_state.specs.Stands.{RowsStand}
-use Rattle.hc_state.specs.Stored.{KeepsEntry}
+use Rattle.hc_state.specs.{declared.rows.Rows.{Rows}, Stands.{RowsStand}, Stored.{KeepsEntry}}
 use Rattle.hc_state.proofs.Maps.{merely_true}
 use Rattle.hc_on_leave.proofs.StoreHandler.{none_by}
 

@@ -1,39 +1,13 @@
 -- The facts that hold of the tables of every run.
-use Rattle.std.proofs.Common.{◌≡◌, ℕ, ◌<◌, ◌≤◌, ◌^◌, true, Option, Some, None, sym, subst, arith}
-use Rattle.std.specs.Prelude.{is_some}
+use Rattle.std.{proofs.Common.{◌≡◌, ℕ, ◌<◌, ◌≤◌, ◌^◌, true, Option, Some, None, sym, subst, arith}, specs.Prelude.{is_some}}
 use Rattle.hc_text.proofs.Basics.{false_true}
 use Rattle.hc_stored.specs.Entries.{shelf_of}
 use Rattle.hc_store.specs.declared.backend.Backend.{Ghosts}
 use Rattle.hc_effects.proofs.Vocabulary.{Response, Limits, may_begin, Contents, History, front, Lawful, AreSized, Exchange, IsRun, tables}
 use Rattle.hc_sparse.specs.Cells.{Cells, Covers, size}
-use Rattle.hc_laws.proofs.AloneRuns.{alone_in_runs}
-use Rattle.hc_effects.proofs.Beside.{goes_on_at}
-use Rattle.hc_laws.proofs.RunsWithinLimits.{requests_are_within_limits}
-use Rattle.hc_laws.proofs.BringsRuns.{brings_in_runs}
-use Rattle.hc_laws.proofs.FrontRuns.{fronts_in_runs}
-use Rattle.hc_laws.proofs.FitsRuns.{fits}
-use Rattle.hc_laws.proofs.GivenRuns.{given_in_runs}
-use Rattle.hc_laws.proofs.GrowingRuns.{growing_in_runs}
-use Rattle.hc_laws.proofs.InRuns.{turned_in_runs}
-use Rattle.hc_laws.proofs.LiveRuns.{few_in_runs}
-use Rattle.hc_laws.proofs.OriginRuns.{origins_in_runs}
-use Rattle.hc_laws.proofs.PartRuns.{parts_in_runs}
-use Rattle.hc_laws.proofs.LossRuns.{losses_in_runs}
-use Rattle.hc_laws.proofs.NumberRuns.{numbers_in_runs}
-use Rattle.hc_laws.proofs.OrderRuns.{order_in_runs}
-use Rattle.hc_laws.proofs.PassedRuns.{passed_in_runs}
-use Rattle.hc_laws.proofs.PlaceRuns.{places_in_runs, endings_in_runs}
-use Rattle.hc_laws.proofs.SizesKeep.{sizes_in_runs}
-use Rattle.hc_laws.proofs.SoundRuns.{carried, measures_in_runs}
-use Rattle.hc_laws.proofs.StoredHeadsKeep.{heads_in_runs}
-use Rattle.hc_laws.proofs.TagRuns.{tags_in_runs}
-use Rattle.hc_effects.proofs.WeightsLeft.{weights_total}
-use Rattle.hc_laws.proofs.UnendedRuns.{unended_in_runs}
-use Rattle.hc_laws.proofs.WhoseRuns.{whose_in_runs}
-use Rattle.hc_state.specs.declared.rows.Rows.{Rows}
-use Rattle.hc_state.specs.Facts.{Facts}
-use Rattle.hc_state.specs.Stands.{RowsStand, StandsForSome, Stands}
-use Rattle.hc_state.specs.Good.{StandsUntil, StandsBy}
+use Rattle.hc_laws.proofs.{AloneRuns.{alone_in_runs}, RunsWithinLimits.{requests_are_within_limits}, BringsRuns.{brings_in_runs}, FrontRuns.{fronts_in_runs}, FitsRuns.{fits}, GivenRuns.{given_in_runs}, GrowingRuns.{growing_in_runs}, InRuns.{turned_in_runs}, LiveRuns.{few_in_runs}, OriginRuns.{origins_in_runs}, PartRuns.{parts_in_runs}, LossRuns.{losses_in_runs}, NumberRuns.{numbers_in_runs}, OrderRuns.{order_in_runs}, PassedRuns.{passed_in_runs}, PlaceRuns.{places_in_runs, endings_in_runs}, SizesKeep.{sizes_in_runs}, SoundRuns.{carried, measures_in_runs}, StoredHeadsKeep.{heads_in_runs}, TagRuns.{tags_in_runs}, UnendedRuns.{unended_in_runs}, WhoseRuns.{whose_in_runs}}
+use Rattle.hc_effects.proofs.{Beside.{goes_on_at}, WeightsLeft.{weights_total}}
+use Rattle.hc_state.specs.{declared.rows.Rows.{Rows}, Facts.{Facts}, Stands.{RowsStand, StandsForSome, Stands}, Good.{StandsUntil, StandsBy}}
 use Rattle.hc_state.proofs.Words.{few_received}
 use Rattle.hc_core.proofs.SizedAlike.{merely_same, sized_alike, sized_here}
 

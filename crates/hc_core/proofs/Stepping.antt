@@ -1,42 +1,20 @@
 -- The step of a cache: one entry more, denied or accepted.
-use Rattle.std.proofs.Common.{◌≡◌, ℕ, ◌+◌, ◌≤◌, ◌<◌, ◌^◌, List, [], ◌∷◌, ◌++◌, length, Bool, true, false, Option, Some, None, refl, ap, sym, ◌∙◌, subst, arith}
-use Rattle.std.proofs.Props.{props}
-use Rattle.std.proofs.Math.Bridge.{le_prop}
-use Rattle.std.proofs.Math.Logic.{∥∥₁_elim, ∥∥₁_map}
-use Rattle.std.proofs.Math.Seq.{drop-append_seam}
-use Rattle.std.specs.Prelude.{nat_eq, ◌||◌, drop, if◌then◌else◌}
-use Rattle.std.specs.HashMap.{get, hash_map_len}
+use Rattle.std.{proofs.{Common.{◌≡◌, ℕ, ◌+◌, ◌≤◌, ◌<◌, ◌^◌, List, [], ◌∷◌, ◌++◌, length, Bool, true, false, Option, Some, None, refl, ap, sym, ◌∙◌, subst, arith}, Props.{props}, Math.{Bridge.{le_prop}, Logic.{∥∥₁_elim, ∥∥₁_map}, Seq.{drop-append_seam}}}, specs.{Prelude.{nat_eq, ◌||◌, drop, if◌then◌else◌}, HashMap.{get, hash_map_len}}}
 use Rattle.hc_text.proofs.Basics.{or_right as or_second}
 use Rattle.hc_store.specs.declared.backend.Backend.{Ghosts}
 use Rattle.hc_effects.proofs.Vocabulary.{is_denied, Event, Act, Refusal, Limits, refusal_of, answer, accepted_acts, denied_or, may_begin, denial, Entry, History, Contents, no_contents, Flaw, NoFlaw, flaw_in, AreSized, HasFieldsWithinLimits, HasTarget, AreShort, Tables, IsRun, IsOwed, may_stand, may_be, tables, last_start_after, received_in, after, after_accepted, after_denied, IsEventWithinLimits, is_fault, failures_in}
 use Rattle.hc_effects.proofs.Tests.{none_some}
 use Rattle.hc_event.specs.declared.event.Event.TheVariants as event
 use Rattle.hc_event.specs.declared.act.Act.TheVariants as act
-use Rattle.hc_exch.specs.Exchanges.{table_of, next_of}
-use Rattle.hc_exch.specs.Known.{unknown}
+use Rattle.hc_exch.specs.{Exchanges.{table_of, next_of}, Known.{unknown}}
 use Rattle.hc_stored.specs.Entries.{shelf_of}
-use Rattle.hc_entry.specs.Keys.{kept_of}
-use Rattle.hc_entry.specs.Kept.{nothing}
-use Rattle.hc_laws.proofs.Barred.{next_tables, denied_tables}
-use Rattle.hc_laws.proofs.ChainRuns.{chains_in_runs}
-use Rattle.hc_laws.proofs.GivesStored.{gives_stored_in_runs}
-use Rattle.hc_laws.proofs.InRuns.{delivers_in_runs, turns_in_runs, dooms_in_runs, binds_in_runs}
-use Rattle.hc_laws.proofs.StoresGrow.{stores_grow_in_runs}
-use Rattle.hc_laws.proofs.TruthRuns.{truth_in_runs}
-use Rattle.hc_state.specs.declared.rows.Rows.{Rows}
-use Rattle.hc_state.specs.Stands.{RowsStand, StandsForSome, Answers, gate_of}
-use Rattle.hc_state.specs.Facts.{Facts}
-use Rattle.hc_state.specs.Good.{StandsUntil, StandsAt}
-use Rattle.hc_on_leave.proofs.Gates.{denies_as}
-use Rattle.hc_on_leave.proofs.Sets.{acts_set}
-use Rattle.hc_core.proofs.Standing.{facts_of_runs, sized_of_any, sized_of_some}
-use Rattle.hc_state.proofs.Maps.{merely_below}
-use Rattle.hc_state.proofs.Words.{more_received, none_received}
-use Rattle.hc_laws.proofs.Undenied.{undenied}
-use Rattle.hc_laws.proofs.FromNothing.{begins_well}
-use Rattle.hc_core.proofs.Denying.{stands_denied, stands_begun}
-use Rattle.hc_core.specs.declared.cache.Cache.{Cache}
-use Rattle.hc_core.specs.Steps.{StandsFor, Steps, KeepsPromises}
+use Rattle.hc_entry.specs.{Keys.{kept_of}, Kept.{nothing}}
+use Rattle.hc_laws.proofs.{Barred.{next_tables, denied_tables}, ChainRuns.{chains_in_runs}, GivesStored.{gives_stored_in_runs}, InRuns.{delivers_in_runs, turns_in_runs, dooms_in_runs, binds_in_runs}, StoresGrow.{stores_grow_in_runs}, TruthRuns.{truth_in_runs}, Undenied.{undenied}, FromNothing.{begins_well}}
+use Rattle.hc_state.specs.{declared.rows.Rows.{Rows}, Stands.{RowsStand, StandsForSome, Answers, gate_of}, Facts.{Facts}, Good.{StandsUntil, StandsAt}}
+use Rattle.hc_on_leave.proofs.{Gates.{denies_as}, Sets.{acts_set}}
+use Rattle.hc_core.proofs.{Standing.{facts_of_runs, sized_of_any, sized_of_some}, Denying.{stands_denied, stands_begun}}
+use Rattle.hc_state.proofs.{Maps.{merely_below}, Words.{more_received, none_received}}
+use Rattle.hc_core.specs.{declared.cache.Cache.{Cache}, Steps.{StandsFor, Steps, KeepsPromises}}
 
 -- THE BEGINNING
 

@@ -1,16 +1,10 @@
 -- What comes for an exchange comes once that was opened.
-use Rattle.std.proofs.Common.{◌≡◌, ℕ, ◌<◌, ◌≤◌, ◌^◌, Some, arith}
-use Rattle.std.proofs.Math.Bridge.{le_prop}
-use Rattle.std.proofs.Math.Logic.{∥∥₁_elim}
+use Rattle.std.proofs.{Common.{◌≡◌, ℕ, ◌<◌, ◌≤◌, ◌^◌, Some, arith}, Math.{Bridge.{le_prop}, Logic.{∥∥₁_elim}}}
 use Rattle.hc_stored.specs.Entries.{shelf_of}
 use Rattle.hc_store.specs.declared.backend.Backend.{Ghosts}
-use Rattle.hc_exch.specs.declared.row.Open.{Open}
-use Rattle.hc_exch.specs.Exchanges.{table_of}
+use Rattle.hc_exch.specs.{declared.row.Open.{Open}, Exchanges.{table_of}}
 use Rattle.hc_effects.proofs.Vocabulary.{Tables, StoredHeads, tables}
-use Rattle.hc_state.specs.declared.rows.Rows.{Rows}
-use Rattle.hc_state.specs.Good.{StandsUntil}
-use Rattle.hc_state.specs.Heads.{IsTimely}
-use Rattle.hc_state.specs.Stands.{RowsStand}
+use Rattle.hc_state.specs.{declared.rows.Rows.{Rows}, Good.{StandsUntil}, Heads.{IsTimely}, Stands.{RowsStand}}
 use Rattle.hc_on_leave.proofs.HeardRows.{heard_row}
 use Rattle.hc_laws.proofs.StoredHeadsKeep.{heads_in_runs}
 

@@ -5,28 +5,16 @@
 -- One event more went wholly or was the last one (`one_wholly`, `one_end`, `one_last`). Where the loop stops, the
 -- next event ended it (`written_end`), some first part of its text was taken (`written_last`), or it
 -- was refused memory (`written_lacking`).
-use Rattle.std.proofs.Common.{◌≡◌, ℕ, suc, ◌+◌, ◌<◌, ◌≤◌, List, [], ◌∷◌, ◌++◌, length, take, drop, get_or, Option, Result, Ok, Err, ◌⊎◌, Bool, true, false, refl, sym, ap, subst, ◌∙◌, inl, inr, arith, append_assoc, length-append}
-use Rattle.std.proofs.lemmas.List.{append-nil, take-append-drop, take_more, length-take}
-use Rattle.std.proofs.Math.Seq.{drop-cons}
-use Rattle.std.specs.Result.{IsErrAnd}
+use Rattle.std.{proofs.{Common.{◌≡◌, ℕ, suc, ◌+◌, ◌<◌, ◌≤◌, List, [], ◌∷◌, ◌++◌, length, take, drop, get_or, Option, Result, Ok, Err, ◌⊎◌, Bool, true, false, refl, sym, ap, subst, ◌∙◌, inl, inr, arith, append_assoc, length-append}, lemmas.List.{append-nil, take-append-drop, take_more, length-take}, Math.Seq.{drop-cons}}, specs.Result.{IsErrAnd}}
 use Rattle.hc_text.proofs.Basics.{nothing_first}
-use Rattle.hc_event.specs.declared.event.Event.{Event}
-use Rattle.hc_io.specs.Sink.{Takes, TakesFront}
-use Rattle.hc_io.specs.declared.sink.SinkError.{SinkError}
+use Rattle.hc_event.specs.{declared.event.Event.{Event}, Counting.{received_in}}
+use Rattle.hc_io.specs.{Sink.{Takes, TakesFront}, declared.sink.SinkError.{SinkError}}
 use Rattle.hc_io.specs.declared.sink.SinkError.TheVariants as sink
 use Rattle.hc_io.proofs.Takings.{takes_more, takes_none}
-use Rattle.hc_sched.specs.declared.schedule.Timed.{Timed}
-use Rattle.hc_sched.specs.Laws.{AreTimed}
-use Rattle.hc_event.specs.Counting.{received_in}
-use Rattle.hc_driver.specs.Counting.{size_of, last_moment}
-use Rattle.hc_driver.specs.Courses.{History, events_in, text_of, text_before, last_text, Leads, nothing, more, Lacks, TakesThenFront, Goes, wholly, up_to_end, up_to_last, up_to_want}
-use Rattle.hc_driver.specs.Endings.{How, Wholly, UpToEnd, UpToLast, UpToWant}
-use Rattle.hc_driver.specs.declared.stop.Stop.{Stop}
+use Rattle.hc_sched.specs.{declared.schedule.Timed.{Timed}, Laws.{AreTimed}}
+use Rattle.hc_driver.specs.{Counting.{size_of, last_moment}, Courses.{History, events_in, text_of, text_before, last_text, Leads, nothing, more, Lacks, TakesThenFront, Goes, wholly, up_to_end, up_to_last, up_to_want}, Endings.{How, Wholly, UpToEnd, UpToLast, UpToWant}, declared.stop.Stop.{Stop}, Pieces.{Some, Wants, Comes}, Stops.{of_sink}}
 use Rattle.hc_driver.specs.declared.stop.Stop.TheVariants as stop
-use Rattle.hc_driver.specs.Pieces.{Some, Wants, Comes}
-use Rattle.hc_driver.specs.Stops.{of_sink}
-use Rattle.hc_driver.proofs.Sizes.{size_of-append}
-use Rattle.hc_driver.proofs.Timings.{last-append}
+use Rattle.hc_driver.proofs.{Sizes.{size_of-append}, Timings.{last-append}}
 
 -- LISTS
 

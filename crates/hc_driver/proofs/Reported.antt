@@ -2,21 +2,13 @@
 --
 -- A course of which the answers are entries of a report was stepped: the entries have the acts (`stepped`), so what went so far
 -- as a course was stepped so far (`steps_so`). What holds of each way that events went holds at each ending (`ends_so`).
-use Rattle.std.proofs.Common.{◌≡◌, ℕ, ◌+◌, List, [], ◌∷◌, ◌++◌, length, Option, Result, Ok, Err, true, false, refl, sym, ap, subst, ◌∙◌, inr, arith}
-use Rattle.std.proofs.lemmas.List.{append-nil}
-use Rattle.std.specs.Result.{OnErr}
-use Rattle.hc_event.specs.declared.event.Event.{Event}
-use Rattle.hc_event.specs.declared.act.Act.{Act}
-use Rattle.hc_event.specs.Answering.{Appends}
+use Rattle.std.{proofs.{Common.{◌≡◌, ℕ, ◌+◌, List, [], ◌∷◌, ◌++◌, length, Option, Result, Ok, Err, true, false, refl, sym, ap, subst, ◌∙◌, inr, arith}, lemmas.List.{append-nil}}, specs.Result.{OnErr}}
+use Rattle.hc_event.specs.{declared.{event.Event.{Event}, act.Act.{Act}}, Answering.{Appends}}
 use Rattle.hc_io.specs.Sink.{Takes}
-use Rattle.hc_sched.specs.declared.schedule.Ended.{Ended}
-use Rattle.hc_sched.specs.declared.schedule.Timed.{Timed}
-use Rattle.hc_sched.specs.Report.{entry_text}
+use Rattle.hc_sched.specs.{declared.schedule.{Ended.{Ended}, Timed.{Timed}}, Report.{entry_text}}
 use Rattle.hc_driver.specs.Courses as courses
-use Rattle.hc_driver.specs.Courses.{Goes, Lacks, TakesThenFront}
+use Rattle.hc_driver.specs.{Courses.{Goes, Lacks, TakesThenFront}, Endings.{How, Ends}, Stepping.{Entry, History, events_in, report_of, report_before, last_entry, Leads, nothing, more, Tells, never, Steps, wholly, up_to_last, up_to_want}}
 use Rattle.hc_driver.specs.Endings as endings
-use Rattle.hc_driver.specs.Endings.{How, Ends}
-use Rattle.hc_driver.specs.Stepping.{Entry, History, events_in, report_of, report_before, last_entry, Leads, nothing, more, Tells, never, Steps, wholly, up_to_last, up_to_want}
 
 pub on_err : {E : Type 0} {P : Type 0} (r : Result (Unit {0}) E) → P → OnErr r P
 on_err (Ok x) p = tt

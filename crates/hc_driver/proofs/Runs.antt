@@ -5,39 +5,20 @@
 -- What came of the piece is a case of `Passes`. The loop goes on with the longer text (`on_more`), or ends as
 -- the piece did (`ends_stopped`): all that was read before the piece went wholly (`at_once`). At the end of the
 -- source the feed answers the refusal of the text (`ends_done`, `ends_cut_short`).
-use Rattle.std.proofs.Common.{◌≡◌, ◌⊎◌, ℕ, ◌+◌, ◌*◌, ◌≤◌, ◌^◌, List, [], ◌∷◌, ◌++◌, length, Option, Some, None, Result, Ok, Err, Bool, true, false, refl, sym, ap, subst, ◌∙◌, inl, inr, arith, append_assoc, length-append}
-use Rattle.std.proofs.lemmas.List.{append-nil}
-use Rattle.std.proofs.lemmas.Bool.{cases_Bool}
+use Rattle.std.{proofs.{Common.{◌≡◌, ◌⊎◌, ℕ, ◌+◌, ◌*◌, ◌≤◌, ◌^◌, List, [], ◌∷◌, ◌++◌, length, Option, Some, None, Result, Ok, Err, Bool, true, false, refl, sym, ap, subst, ◌∙◌, inl, inr, arith, append_assoc, length-append}, lemmas.{List.{append-nil}, Bool.{cases_Bool}}}, specs.Result.{IsErrAnd}}
 use Rattle.hc_event.specs.declared.event.Event.{Event}
 use Rattle.hc_io.specs.Source.{Gives, GivesAll, IsAtEnd}
-use Rattle.std.specs.Result.{IsErrAnd}
 use Rattle.hc_io.proofs.Givings.{gives_none, gives_more}
-use Rattle.hc_sched.specs.declared.place.Place.{Place}
-use Rattle.hc_sched.specs.declared.schedule.Refused.{Refused}
-use Rattle.hc_sched.specs.declared.schedule.Timed.{Timed}
+use Rattle.hc_sched.specs.{declared.{place.Place.{Place}, schedule.{Refused.{Refused}, Timed.{Timed}, FeedError.{FeedError}}}, Reading.{Progress, Reads, Stopped, after, events_in}, Feeding.{beginning, lines_in, is_between, Feeds, ending}, Laws.{AreTimed, refusal_at, refusal_of}, Schedule.{IsSmall}}
 use Rattle.hc_sched.specs.declared.schedule.Ended.TheVariants as ended
-use Rattle.hc_sched.specs.declared.schedule.FeedError.{FeedError}
 use Rattle.hc_sched.specs.declared.schedule.FeedError.TheVariants as error
-use Rattle.hc_sched.specs.Reading.{Progress, Reads, Stopped, after}
-use Rattle.hc_sched.specs.Reading.{events_in}
-use Rattle.hc_sched.specs.Feeding.{beginning, lines_in, is_between, Feeds, ending}
-use Rattle.hc_sched.specs.Laws.{AreTimed, refusal_at, refusal_of}
-use Rattle.hc_sched.specs.Schedule.{IsSmall}
-use Rattle.hc_sched.proofs.FeedLemmas.{after-append, after-stopped, events_in-append}
-use Rattle.hc_sched.proofs.OneReading.{brings_timed, is_read, is_spelled}
-use Rattle.hc_driver.specs.declared.stop.Stop.{Stop}
+use Rattle.hc_sched.proofs.{FeedLemmas.{after-append, after-stopped, events_in-append}, OneReading.{brings_timed, is_read, is_spelled}}
+use Rattle.hc_driver.specs.{declared.stop.Stop.{Stop}, Counting.{size_of, last_moment}, Courses.{Goes}, Endings.{How, Wholly, UpToEnd, UpToLast, UpToWant, SoFar, ToEnd, IsReading, events_from, IsUnrefused, IsRefused, IsRefusedAtOnce, IsSteppedAtOnce, Ends}, Pieces.{Wants, Comes, Passes}, Stops.{of_feed, ended_by, ended_as}}
 use Rattle.hc_driver.specs.declared.stop.Stop.TheVariants as stop
-use Rattle.hc_driver.specs.Counting.{size_of, last_moment}
 use Rattle.hc_driver.specs.Courses as courses
-use Rattle.hc_driver.specs.Courses.{Goes}
 use Rattle.hc_driver.specs.Endings as endings
-use Rattle.hc_driver.specs.Endings.{How, Wholly, UpToEnd, UpToLast, UpToWant, SoFar, ToEnd, IsReading, events_from, IsUnrefused, IsRefused, IsRefusedAtOnce, IsSteppedAtOnce, Ends}
 use Rattle.hc_driver.specs.Pieces as pieces
-use Rattle.hc_driver.specs.Pieces.{Wants, Comes, Passes}
-use Rattle.hc_driver.specs.Stops.{of_feed, ended_by, ended_as}
-use Rattle.hc_driver.proofs.Sizes.{size_of-append, brought_small, brought_few}
-use Rattle.hc_driver.proofs.Timings.{timed_from, timed_back, last-append, last_later}
-use Rattle.hc_driver.proofs.Going.{goes_none, goes_more, wholly_last}
+use Rattle.hc_driver.proofs.{Sizes.{size_of-append, brought_small, brought_few}, Timings.{timed_from, timed_back, last-append, last_later}, Going.{goes_none, goes_more, wholly_last}}
 
 -- how far a course and the streams are
 pub record Extent : Type 0 where

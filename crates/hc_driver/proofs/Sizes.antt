@@ -1,18 +1,12 @@
 -- What a text brings is no larger than the text.
-use Rattle.std.proofs.Common.{◌≡◌, ℕ, ◌+◌, ◌*◌, ◌≤◌, List, [], ◌∷◌, ◌++◌, length, ap, arith, length-append}
-use Rattle.std.specs.Prelude.{codes}
-use Rattle.std.specs.Fmt.{decimal}
+use Rattle.std.{proofs.Common.{◌≡◌, ℕ, ◌+◌, ◌*◌, ◌≤◌, List, [], ◌∷◌, ◌++◌, length, ap, arith, length-append}, specs.{Prelude.{codes}, Fmt.{decimal}}}
 use Rattle.hex.specs.Hex.{lower_digits}
 use Rattle.hex.proofs.HexLemmas.{length-encode_with}
-use Rattle.hc_event.specs.declared.event.Event.{Event}
+use Rattle.hc_event.specs.{declared.event.Event.{Event}, Counting.{received_in}}
 use Rattle.hc_event.specs.declared.event.Event.TheVariants as event
-use Rattle.hc_sched.specs.declared.schedule.Timed.{Timed}
-use Rattle.hc_sched.specs.Pieces.{piece_text}
-use Rattle.hc_sched.specs.Schedule.{Item, Moment, Happens, event_line, fields_in, fields_text, item_text, text_of, events_of}
+use Rattle.hc_sched.specs.{declared.schedule.Timed.{Timed}, Pieces.{piece_text}, Schedule.{Item, Moment, Happens, event_line, fields_in, fields_text, item_text, text_of, events_of}}
 use Rattle.hc_sched.proofs.OneReading.{brings_items}
-use Rattle.hc_event.specs.Counting.{received_in}
-use Rattle.hc_driver.specs.Counting.{size_of}
-use Rattle.hc_driver.specs.Endings.{events_from}
+use Rattle.hc_driver.specs.{Counting.{size_of}, Endings.{events_from}}
 
 pub size_of-append : (xs ys : List Timed) → size_of (xs ++ ys) ≡ size_of xs + size_of ys
 size_of-append [] ys = omega arith

@@ -1,7 +1,6 @@
 -- An event that has a spelling is within limits.
-use Rattle.hc_event.specs.declared.event.Event.{Event}
+use Rattle.hc_event.specs.{declared.event.Event.{Event}, WithinLimits.{IsEventWithinLimits}}
 use Rattle.hc_event.specs.declared.event.Event.TheVariants as event
-use Rattle.hc_event.specs.WithinLimits.{IsEventWithinLimits}
 use Rattle.hc_sched.specs.Schedule.{IsEvent}
 
 pub within_limits_spelled : (e : Event) → IsEvent e → IsEventWithinLimits e

@@ -1,7 +1,6 @@
 -- Events whose moments don't go back.
 use Rattle.std.proofs.Common.{◌≡◌, ℕ, ◌≤◌, List, [], ◌∷◌, ◌++◌, refl, arith}
-use Rattle.hc_sched.specs.declared.schedule.Timed.{Timed}
-use Rattle.hc_sched.specs.Laws.{AreTimed}
+use Rattle.hc_sched.specs.{declared.schedule.Timed.{Timed}, Laws.{AreTimed}}
 use Rattle.hc_driver.specs.Counting.{last_moment}
 
 pub timed_from : (a b : ℕ) (xs : List Timed) → b ≤ a → AreTimed a xs → AreTimed b xs

@@ -1,23 +1,13 @@
 -- The exchange of a writing that is on is nobody's own.
-use Rattle.std.proofs.Common.{◌≡◌, inl, inr, ℕ, Bool, true, false, Option, Some, None, refl, ap, sym, ◌∙◌, subst, arith}
-use Rattle.std.specs.Prelude.{if◌then◌else◌, is_some, ◌&&◌, ◌||◌, ◌==◌, not, nat_eq}
-use Rattle.std.proofs.lemmas.Bool.Decides.{nat_tests}
+use Rattle.std.{proofs.{Common.{◌≡◌, inl, inr, ℕ, Bool, true, false, Option, Some, None, refl, ap, sym, ◌∙◌, subst, arith}, lemmas.Bool.Decides.{nat_tests}}, specs.Prelude.{if◌then◌else◌, is_some, ◌&&◌, ◌||◌, ◌==◌, not, nat_eq}}
 use Rattle.hc_text.proofs.Basics.{and_left, and_right, not_some as none_some, not_true, same_some as same_row, some_inj}
 use Rattle.hc_effects.proofs.Vocabulary.{Event, Response, HeadCase, Limits, has_loss, loses_in, case_at, head_view, is_founding, is_joining, consumer_heard, by_head, becomes_shared, is_resumed, is_number, row_of, denial, Entry, family, is_open, Flaw, entry_of, Owners, is_written, is_open_writer, resumes, writer_at, Tables, Exchange, Representation, Consumer, may_stand, Sound, after_accepted}
 use Rattle.hc_event.specs.declared.event.Event.TheVariants as event
 use Rattle.hc_rules.specs.declared.heads.HeadCase.TheVariants as case
-use Rattle.hc_effects.proofs.Basics.{false_true, or_false, number_is}
-use Rattle.hc_effects.proofs.ExchangeFrom.{ExchangeFrom, exchange_from}
+use Rattle.hc_effects.proofs.{Basics.{false_true, or_false, number_is}, ExchangeFrom.{ExchangeFrom, exchange_from}, FirstKeeps.{case_of_head, is_new}, FoundBy.{CaseBy}, LossStands.{no_loss}, OwnFrom.{OwnFrom, own_from}, OwnersKeep.{is_opened, left_writing, new_number}, PieceKeeps.{eq_cases}, RepFrom.{RepFrom, rep_from, IsKept, IsResumed}}
 use Rattle.hc_effects.proofs.ExchangeFrom as exchange
-use Rattle.hc_effects.proofs.FirstKeeps.{case_of_head, is_new}
-use Rattle.hc_effects.proofs.FoundBy.{CaseBy}
 use Rattle.hc_effects.proofs.FoundBy as cases
-use Rattle.hc_effects.proofs.LossStands.{no_loss}
-use Rattle.hc_effects.proofs.OwnFrom.{OwnFrom, own_from}
 use Rattle.hc_effects.proofs.OwnFrom as own
-use Rattle.hc_effects.proofs.OwnersKeep.{is_opened, left_writing, new_number}
-use Rattle.hc_effects.proofs.PieceKeeps.{eq_cases}
-use Rattle.hc_effects.proofs.RepFrom.{RepFrom, rep_from, IsKept, IsResumed}
 use Rattle.hc_effects.proofs.RepFrom as rep
 
 -- a writing that is on

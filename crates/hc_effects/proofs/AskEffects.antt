@@ -1,14 +1,11 @@
 -- What a poll does that asks for the next bytes of an exchange.
-use Rattle.std.proofs.Common.{◌≡◌, ℕ, [], Bool, true, false, Option, Some, None, refl, ap, ◌∙◌}
-use Rattle.std.specs.Prelude.{◌==◌, ◌||◌, nat_eq, if◌then◌else◌, option_map}
+use Rattle.std.{proofs.Common.{◌≡◌, ℕ, [], Bool, true, false, Option, Some, None, refl, ap, ◌∙◌}, specs.Prelude.{◌==◌, ◌||◌, nat_eq, if◌then◌else◌, option_map}}
 use Rattle.hc_text.proofs.Basics.{eqb-same, not_some as none_some, plus_none}
 use Rattle.hc_event.specs.declared.event.Event.TheVariants as event
 use Rattle.hc_effects.proofs.Vocabulary.{Limits, consumer_acted, Does, with_event, to_bring, with_ask, Entry, exchange_after, NoFlaw, Lawful, Asks, acts_of, move_of, Tables, Exchange, Consumer}
-use Rattle.hc_effects.proofs.OfConsumers.{BringsNothing, brings_nothing, row_acted, binds_none}
+use Rattle.hc_effects.proofs.{OfConsumers.{BringsNothing, brings_nothing, row_acted, binds_none}, PollEffects.{none_waits, same_consumer, nothing_goes, poll_does}, Untouched.{own_stays, spared_bodiless, exchange_absent}}
 use Rattle.hc_effects.proofs.OfConsumers as event_of
-use Rattle.hc_effects.proofs.PollEffects.{none_waits, same_consumer, nothing_goes, poll_does}
 use Rattle.hc_effects.proofs.PollEffects as polls
-use Rattle.hc_effects.proofs.Untouched.{own_stays, spared_bodiless, exchange_absent}
 
 module _ (limits : Limits) (t : Tables) (law : Lawful t) (now c want : ℕ) (k : Consumer) (row : t.consumer c ≡ Some k) (x : ℕ) (is : move_of t now want c k ≡ Asks x) where
   abbrev e : Entry

@@ -1,6 +1,5 @@
 -- How a consumer that is bound after an entry became bound: it was, its head founds, its first hole is opened, or its plan shows it what is current.
-use Rattle.std.proofs.Common.{◌≡◌, ◌⊎◌, inl, inr, ℕ, Bool, true, false, Option, Some, None, refl, ap, sym, ◌∙◌}
-use Rattle.std.specs.Prelude.{if◌then◌else◌, ◌==◌, ◌&&◌, not, is_none}
+use Rattle.std.{proofs.Common.{◌≡◌, ◌⊎◌, inl, inr, ℕ, Bool, true, false, Option, Some, None, refl, ap, sym, ◌∙◌}, specs.Prelude.{if◌then◌else◌, ◌==◌, ◌&&◌, not, is_none}}
 use Rattle.hc_text.proofs.Basics.{bool_cases, some_inj}
 use Rattle.hc_effects.proofs.Vocabulary.{Opening, opening_in, leaves_in, Event, Response, Cause, Wait, HeadCase, Route, Wanted, route_of, range_of, wanted_of, Place, BoundBy, Showing, showing_in, wait_in, case_at, bound_to_wanted, place_by_case, passed_on, consumer_heard, by_head, by_fault, waiting_place, waiting, passed_by, kept_by, place_for_hole, opened_place, unless_bound, by_opening, shown_place, consumer_acted, consumer_settled, consumer_made, consumer_after, due_after, current, row_of, Entry, promise_in, founded_total, bound_to, reads, Tables, Exchange, Representation, Consumer, starts_over}
 use Rattle.hc_event.specs.declared.event.Event.TheVariants as event

@@ -1,43 +1,20 @@
 -- Where a reader stands is within where it stops reading, and no exchange brings more than it promised.
-use Rattle.std.proofs.Common.{◌≡◌, ◌⊎◌, inl, inr, ℕ, ◌+◌, ◌-◌, ◌<◌, ◌≤◌, List, [], ◌∷◌, length, Bool, true, false, Option, Some, None, refl, ap, sym, ◌∙◌, subst, arith, length-append}
-use Rattle.std.specs.Str.{str_to_ascii_lowercase}
-use Rattle.std.specs.Prelude.{bytes_eq, codes, take, drop, IfSome, nat_lt, nat_le, min, unwrap_or, ◌||◌, ◌&&◌, if◌then◌else◌}
-use Rattle.std.specs.Option.{option_map}
-use Rattle.std.proofs.lemmas.Bool.Decides.{nat_tests}
+use Rattle.std.{proofs.{Common.{◌≡◌, ◌⊎◌, inl, inr, ℕ, ◌+◌, ◌-◌, ◌<◌, ◌≤◌, List, [], ◌∷◌, length, Bool, true, false, Option, Some, None, refl, ap, sym, ◌∙◌, subst, arith, length-append}, lemmas.Bool.Decides.{nat_tests}}, specs.{Str.{str_to_ascii_lowercase}, Prelude.{bytes_eq, codes, take, drop, IfSome, nat_lt, nat_le, min, unwrap_or, ◌||◌, ◌&&◌, if◌then◌else◌}, Option.{option_map}}}
 use Rattle.hc_text.proofs.Basics.{not_some as none_some, or_off_right as or_false, same_some as same_row, some_inj, bool_cases}
-use Rattle.hc_range.specs.Spans.{resolved_span, IsInOrder}
-use Rattle.hc_range.specs.declared.range.Asked.{Asked}
-use Rattle.hc_range.specs.declared.range.Asked.TheVariants.{From, FromTo, Last}
-use Rattle.hc_range.specs.declared.range.Span.{Span}
+use Rattle.hc_range.specs.{Spans.{resolved_span, IsInOrder}, declared.range.{Asked.{Asked, TheVariants.{From, FromTo, Last}}, Span.{Span}}}
 use Rattle.hc_effects.proofs.Vocabulary.{opening_in, given_in, shows_in, Event, Request, Response, HeadCase, Limits, asked_in, spec_in, positions_from, positions_by, from_to, number_of, split_at, hyphen, overlong, piece_refusal, range_of, ranges_read, ranges_in, wanted_of, wanted_part, is_disabled, BoundBy, Showing, showing_in, case_at, consumer_heard, consumer_acted, consumer_made, consumer_after, by_opening, waiting, denial, as_open, Entry, Contents, promised_bytes, promise_of, Flaw, entry_of, Gives, Owners, move_of, reads, lo_of, hi_of, Tables, Exchange, Consumer, Sound, starts_over, first_tables, after_accepted, after_denied}
 use Rattle.hc_event.specs.declared.event.Event.TheVariants as event
 use Rattle.hc_rules.specs.declared.request.Wanted.TheVariants as wanted
 use Rattle.hc_rules.specs.Refusals as refusals
 use Rattle.hc_event.specs.declared.place.Place.TheVariants as place
-use Rattle.hc_effects.proofs.BoundFrom.{BoundFrom, IsRow, IsFounded, IsInterval, IsShown, bound_from}
+use Rattle.hc_effects.proofs.{BoundFrom.{BoundFrom, IsRow, IsFounded, IsInterval, IsShown, bound_from}, BoundKeeps.{shown_place_is}, ConsumerFilters.{acted, given_by}, ExchangeFrom.{ExchangeFrom, IsHeaded, exchange_from}, Fills.{Brings, brings, length_same}, FirstKeeps.{is_new}, Forward.{is_kept}, GivenNext.{given_next}, Givers.{gives_of, some_want}, MoveBy.{move_by}, Once.{taken}, PieceKeeps.{eq_cases}, PollActs.{ToOne, to_one}, Said.{IsShowing, showing_by}, ShownFrom.{ShownAs, shown_from}, ShownStays.{IsFallback, StaysOrIdle, shown_stays}, TurnPlaces.{is_after}}
 use Rattle.hc_effects.proofs.BoundFrom as from
-use Rattle.hc_effects.proofs.BoundKeeps.{shown_place_is}
-use Rattle.hc_effects.proofs.ConsumerFilters.{acted, given_by}
-use Rattle.hc_effects.proofs.ExchangeFrom.{ExchangeFrom, IsHeaded, exchange_from}
 use Rattle.hc_effects.proofs.ExchangeFrom as exchange
-use Rattle.hc_effects.proofs.Fills.{Brings, brings, length_same}
 use Rattle.hc_effects.proofs.Fills as fills_by
-use Rattle.hc_effects.proofs.FirstKeeps.{is_new}
-use Rattle.hc_effects.proofs.Forward.{is_kept}
-use Rattle.hc_effects.proofs.GivenNext.{given_next}
-use Rattle.hc_effects.proofs.Givers.{gives_of, some_want}
-use Rattle.hc_effects.proofs.MoveBy.{move_by}
-use Rattle.hc_effects.proofs.Once.{taken}
-use Rattle.hc_effects.proofs.PieceKeeps.{eq_cases}
-use Rattle.hc_effects.proofs.PollActs.{ToOne, to_one}
 use Rattle.hc_effects.proofs.PollActs as acts_to
-use Rattle.hc_effects.proofs.Said.{IsShowing, showing_by}
-use Rattle.hc_effects.proofs.ShownFrom.{ShownAs, shown_from}
 use Rattle.hc_effects.proofs.ShownFrom as shown_as
 use Rattle.hc_effects.proofs.ShownOnce as shown_once
-use Rattle.hc_effects.proofs.ShownStays.{IsFallback, StaysOrIdle, shown_stays}
 use Rattle.hc_effects.proofs.ShownStays as stands
-use Rattle.hc_effects.proofs.TurnPlaces.{is_after}
 
 -- INTERVALS
 

@@ -1,6 +1,5 @@
 -- The exclusive writer has all up to where its exchange goes on.
-use Rattle.std.proofs.Common.{◌≡◌, ◌⊎◌, inl, inr, ℕ, ◌+◌, ◌<◌, ◌≤◌, List, length, true, Option, Some, None, refl, ap, sym, ◌∙◌, subst, arith, length-append}
-use Rattle.std.specs.Prelude.{is_some}
+use Rattle.std.{proofs.Common.{◌≡◌, ◌⊎◌, inl, inr, ℕ, ◌+◌, ◌<◌, ◌≤◌, List, length, true, Option, Some, None, refl, ap, sym, ◌∙◌, subst, arith, length-append}, specs.Prelude.{is_some}}
 use Rattle.hc_text.proofs.Basics.{same_some as same_row, some_inj, lt_or as split}
 use Rattle.hc_sparse.specs.Cells.{Cells, Cell, Covers, cells_with}
 use Rattle.hc_sparse.proofs.CellLemmas.{inside-yes}
@@ -9,25 +8,9 @@ use Rattle.hc_event.specs.declared.act.Need.TheVariants as need
 use Rattle.hc_event.specs.declared.event.Event.TheVariants as event
 use Rattle.hc_event.specs.declared.place.Place.TheVariants as place
 use Rattle.hc_model.specs.Sound as sound
-use Rattle.hc_effects.proofs.AboutKeeps.{own_open_is}
-use Rattle.hc_effects.proofs.Basics.{false_true}
-use Rattle.hc_effects.proofs.Beside.{IsBeside, goes_on_at}
-use Rattle.hc_effects.proofs.BoundFrom.{IsRow}
-use Rattle.hc_effects.proofs.ConsumerFilters.{acted}
-use Rattle.hc_effects.proofs.Dues.{due_before}
-use Rattle.hc_effects.proofs.ExchangeFrom.{IsSame, IsHeaded}
-use Rattle.hc_effects.proofs.Fills.{Fills, fills, Brings, brings}
+use Rattle.hc_effects.proofs.{AboutKeeps.{own_open_is}, Basics.{false_true}, Beside.{IsBeside, goes_on_at}, BoundFrom.{IsRow}, ConsumerFilters.{acted}, Dues.{due_before}, ExchangeFrom.{IsSame, IsHeaded}, Fills.{Fills, fills, Brings, brings}, FirstKeeps.{is_new, is_opener}, HeadTo.{front_within}, LossBy.{IsReal}, MeasuresKeep.{IsHeld, held, piece_taken}, OpensFrom.{IsHole, opens_hole}, ExclusiveWriters.{bound_some}, PollTree.{OpensHole}, RepFrom.{IsKept}, Stays.{bodies_are_kept}}
 use Rattle.hc_effects.proofs.Fills as fills_by
-use Rattle.hc_effects.proofs.FirstKeeps.{is_new, is_opener}
-use Rattle.hc_effects.proofs.HeadTo.{front_within}
-use Rattle.hc_effects.proofs.LossBy.{IsReal}
-use Rattle.hc_effects.proofs.MeasuresKeep.{IsHeld, held, piece_taken}
-use Rattle.hc_effects.proofs.OpensFrom.{IsHole, opens_hole}
-use Rattle.hc_effects.proofs.ExclusiveWriters.{bound_some}
-use Rattle.hc_effects.proofs.PollTree.{OpensHole}
 use Rattle.hc_effects.proofs.PollTree as tree
-use Rattle.hc_effects.proofs.RepFrom.{IsKept}
-use Rattle.hc_effects.proofs.Stays.{bodies_are_kept}
 
 some_stays : (a b : Option Cell) → ((cell : Cell) → a ≡ Some cell → b ≡ Some cell) → is_some a ≡ true → is_some b ≡ true
 some_stays None b keeps there = absurd (false_true there)

@@ -1,7 +1,5 @@
 -- Of each key one representation at most isn't gone: what founds replaces what is current.
-use Rattle.std.proofs.Common.{◌≡◌, inl, inr, ℕ, List, [], ◌∷◌, Bool, true, false, cond, Option, Some, None, refl, ap, sym, ◌∙◌, arith}
-use Rattle.std.specs.Prelude.{◌&&◌, ◌||◌, not, ◌==◌, nat_eq, bytes_eq, find, is_some, if◌then◌else◌, option_map}
-use Rattle.std.proofs.lemmas.Bool.Decides.{nat_tests}
+use Rattle.std.{proofs.{Common.{◌≡◌, inl, inr, ℕ, List, [], ◌∷◌, Bool, true, false, cond, Option, Some, None, refl, ap, sym, ◌∙◌, arith}, lemmas.Bool.Decides.{nat_tests}}, specs.Prelude.{◌&&◌, ◌||◌, not, ◌==◌, nat_eq, bytes_eq, find, is_some, if◌then◌else◌, option_map}}
 use Rattle.hc_text.proofs.Basics.{and_both, bool_cases, eq_itself as eq-refl, not_true as not_gone, or_left, or_right, some_inj}
 use Rattle.hc_effects.proofs.Vocabulary.{Event, Response, HeadCase, accepted_acts, case_at, is_founding, current, is_usable, is_number, Entry, becomes_gone, goes_by_head, goes_by_exchange, goes_by_case, is_current_of, representation_after, representation_heard, representation_acted, founded_at, new_representation, representation_after_head, with_renewed_head, updates, representation_after_piece, with_total_if_none, length_in, family, exchange_at, Tables, Exchange, Representation, Sound, Among, OneCurrent, after_accepted}
 use Rattle.hc_event.specs.declared.event.Event.TheVariants as event

@@ -1,7 +1,6 @@
 -- What a doom does: whoever waits for the key starts over, the exchanges that they wait for are closed, and what is current is let go.
-use Rattle.std.proofs.Common.{◌≡◌, inl, inr, ℕ, List, [], Bool, true, false, Option, Some, None, refl, ap, ap₂, sym, ◌∙◌}
+use Rattle.std.{proofs.Common.{◌≡◌, inl, inr, ℕ, List, [], Bool, true, false, Option, Some, None, refl, ap, ap₂, sym, ◌∙◌}, specs.Prelude.{◌&&◌, ◌||◌, ◌==◌, is_none, bytes_eq, if◌then◌else◌, map, filter, reverse, option_map}}
 use mathlib.Core.Path.{fun_ext}
-use Rattle.std.specs.Prelude.{◌&&◌, ◌||◌, ◌==◌, is_none, bytes_eq, if◌then◌else◌, map, filter, reverse, option_map}
 use Rattle.hc_text.proofs.Basics.{and_left, and_right, bool_cases, not_some as none_some, never_true as not_so, and_off as then_false}
 use Rattle.hc_text.specs.declared.bytes.Key.{Key}
 use Rattle.hc_event.specs.declared.act.Act.TheVariants as act
@@ -9,17 +8,8 @@ use Rattle.hc_effects.proofs.Vocabulary.{Event, Limits, closing, closes_row, awa
 use Rattle.hc_event.specs.declared.event.Event.TheVariants as event
 use Rattle.hc_rules.specs.Refusals as refusals
 use Rattle.hc_rules.proofs.RangeReads.{bytes_eq-same, same_bytes}
-use Rattle.hc_effects.proofs.Basics.{false_true, number_is}
-use Rattle.hc_effects.proofs.ConsumerEffects.{some_all}
-use Rattle.hc_effects.proofs.DoomFrames.{sent_as, awaited_apart}
-use Rattle.hc_effects.proofs.FewClosings.{nothing_lost}
-use Rattle.hc_effects.proofs.KeyNames.{current_key}
-use Rattle.hc_effects.proofs.SameTables.{is_in, in_one, back_from_any, all_closed_is}
-use Rattle.hc_effects.proofs.Standing.{after_heard}
-use Rattle.hc_effects.proofs.Dues.{undue_of, stop_none}
-use Rattle.hc_effects.proofs.ToldFrames.{dooms, says_little, exchange_other, goes_as, closes_as, far, representation_by, representation_none, beside_same, starts_is, told_by, told_plainly}
+use Rattle.hc_effects.proofs.{Basics.{false_true, number_is}, ConsumerEffects.{some_all}, DoomFrames.{sent_as, awaited_apart}, FewClosings.{nothing_lost}, KeyNames.{current_key}, SameTables.{is_in, in_one, back_from_any, all_closed_is}, Standing.{after_heard}, Dues.{undue_of, stop_none}, ToldFrames.{dooms, says_little, exchange_other, goes_as, closes_as, far, representation_by, representation_none, beside_same, starts_is, told_by, told_plainly}, Untouched.{loss_spared, spared_bodiless, consumer_absent}}
 use Rattle.hc_effects.proofs.ToldFrames as told
-use Rattle.hc_effects.proofs.Untouched.{loss_spared, spared_bodiless, consumer_absent}
 
 module _ (limits : Limits) (t : Tables) (law : Lawful t) (now : ℕ) (key : Key) where
   abbrev ev : Event

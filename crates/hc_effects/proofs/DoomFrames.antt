@@ -1,12 +1,8 @@
 -- What a doom of a key comes to: who waits for it starts over, what they await is closed, and what is current is let go.
-use Rattle.std.proofs.Common.{◌≡◌, inl, inr, ℕ, List, [], ◌∷◌, Bool, true, false, Option, Some, None, refl, ap, sym, ◌∙◌}
-use Rattle.std.specs.Prelude.{bytes_eq, ◌&&◌, ◌||◌, if◌then◌else◌, option_map, filter, reverse}
+use Rattle.std.{proofs.Common.{◌≡◌, inl, inr, ℕ, List, [], ◌∷◌, Bool, true, false, Option, Some, None, refl, ap, sym, ◌∙◌}, specs.Prelude.{bytes_eq, ◌&&◌, ◌||◌, if◌then◌else◌, option_map, filter, reverse}}
 use Rattle.hc_text.proofs.Basics.{and_left, and_right, bool_cases, not_some as none_some, never_true as not_so, or_cases}
 use Rattle.hc_effects.proofs.Vocabulary.{back_in_line, is_number, sent_back, is_awaited, awaited_and, Tables, Exchange, Representation, Consumer, Sound, waits_at, awaits}
-use Rattle.hc_effects.proofs.Basics.{false_true, number_is}
-use Rattle.hc_effects.proofs.SameTables.{is_in, waits_for_any, back_from_any}
-use Rattle.hc_effects.proofs.PieceKeeps.{eq_cases}
-use Rattle.hc_effects.proofs.BoundStays.{none_of}
+use Rattle.hc_effects.proofs.{Basics.{false_true, number_is}, SameTables.{is_in, waits_for_any, back_from_any}, PieceKeeps.{eq_cases}, BoundStays.{none_of}}
 
 -- CONSUMERS
 

@@ -1,12 +1,7 @@
 -- What a consumer reads ends within the length of its body, where the end is known; and so all measures stay.
-use Rattle.std.proofs.Common.{◌≡◌, ◌⊎◌, inl, inr, ℕ, ◌+◌, ◌-◌, ◌≤◌, Bool, true, false, Option, Some, None, refl, ap, sym, ◌∙◌, subst, arith, min}
-use Rattle.std.specs.Prelude.{if◌then◌else◌, is_some, ◌&&◌, nat_eq, nat_lt}
-use Rattle.std.specs.Option.{option_or}
+use Rattle.std.{proofs.Common.{◌≡◌, ◌⊎◌, inl, inr, ℕ, ◌+◌, ◌-◌, ◌≤◌, Bool, true, false, Option, Some, None, refl, ap, sym, ◌∙◌, subst, arith, min}, specs.{Prelude.{if◌then◌else◌, is_some, ◌&&◌, nat_eq, nat_lt}, Option.{option_or}}}
 use Rattle.hc_text.proofs.Basics.{not_some as none_some, number_not, same_some as same_row, some_inj}
-use Rattle.hc_range.specs.declared.range.Asked.{Asked}
-use Rattle.hc_range.specs.declared.range.Asked.TheVariants.{FromTo, From, Last}
-use Rattle.hc_range.specs.declared.range.Span.{Span}
-use Rattle.hc_range.specs.Spans.{resolved_span}
+use Rattle.hc_range.specs.{declared.range.{Asked.{Asked, TheVariants.{FromTo, From, Last}}, Span.{Span}}, Spans.{resolved_span}}
 use Rattle.hc_effects.proofs.Vocabulary.{opening_in, Event, Response, HeadCase, Limits, range_of, wanted_of, wanted_part, BoundBy, Showing, showing_in, case_at, consumer_heard, by_opening, waiting, denial, Entry, promise_in, Flaw, founded_total, entry_of, Measures, Owners, move_of, reads, length_in, Tables, Exchange, Representation, Consumer, Sound, after_accepted}
 use Rattle.hc_event.specs.declared.event.Event.TheVariants as event
 use Rattle.hc_rules.specs.declared.heads.HeadCase.TheVariants as case
@@ -14,16 +9,9 @@ use Rattle.hc_rules.specs.declared.request.Wanted.TheVariants as wanted
 use Rattle.hc_event.specs.declared.place.Place.TheVariants as place
 use Rattle.hc_model.specs.Measures.{EndsWithin}
 use Rattle.hc_model.specs.Sound as sound
-use Rattle.hc_effects.proofs.Basics.{false_true}
-use Rattle.hc_effects.proofs.BoundFrom.{BoundFrom, IsRow, IsInterval, IsShown, IsFounded, bound_from}
+use Rattle.hc_effects.proofs.{Basics.{false_true}, BoundFrom.{BoundFrom, IsRow, IsInterval, IsShown, IsFounded, bound_from}, BoundKeeps.{shown_place_is}, FirstKeeps.{case_of_head, whole_200, replaced_200, is_new}, MeasuresKeep.{brings_kept, tight_kept, within_kept}, RepFrom.{RepFrom, rep_from, IsKept, IsEnded}, Said.{IsShowing, showing_by}, ShownFrom.{ShownAs, shown_from}}
 use Rattle.hc_effects.proofs.BoundFrom as from
-use Rattle.hc_effects.proofs.BoundKeeps.{shown_place_is}
-use Rattle.hc_effects.proofs.FirstKeeps.{case_of_head, whole_200, replaced_200, is_new}
-use Rattle.hc_effects.proofs.MeasuresKeep.{brings_kept, tight_kept, within_kept}
-use Rattle.hc_effects.proofs.RepFrom.{RepFrom, rep_from, IsKept, IsEnded}
 use Rattle.hc_effects.proofs.RepFrom as rep
-use Rattle.hc_effects.proofs.Said.{IsShowing, showing_by}
-use Rattle.hc_effects.proofs.ShownFrom.{ShownAs, shown_from}
 use Rattle.hc_effects.proofs.ShownFrom as shown_as
 
 -- A SPAN THAT IS WANTED

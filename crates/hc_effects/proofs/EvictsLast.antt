@@ -1,6 +1,5 @@
 -- What makes room comes last: an accepted event does what it does without it, and then each of those goes.
-use Rattle.std.proofs.Common.{◌≡◌, inl, inr, ℕ, zero, suc, List, [], ◌∷◌, ◌++◌, Bool, true, false, Option, Some, None, refl, ap, sym, ◌∙◌}
-use Rattle.std.specs.Prelude.{map, filter, take, reverse, is_some, ◌==◌}
+use Rattle.std.{proofs.Common.{◌≡◌, inl, inr, ℕ, zero, suc, List, [], ◌∷◌, ◌++◌, Bool, true, false, Option, Some, None, refl, ap, sym, ◌∙◌}, specs.Prelude.{map, filter, take, reverse, is_some, ◌==◌}}
 use Rattle.hc_text.proofs.Basics.{bool_cases, same_some as same_row}
 use Rattle.hc_effects.proofs.Vocabulary.{evicts_in, Act, Event, Response, HeadCase, Wanted, Limits, Room, range_of, wanted_of, Place, has_loss, fails_in, without_losses, accepted_acts, answer_acts, loss_acts, close_acts, case_at, case_of, head_view, consumer_heard, consumer_acted, by_head, place_by_case, bound_to_wanted, closing, denial, Entry, entry_without_acts, evict_all, unevicting, Flaw, NoFlaw, Loses, Misreads, flaw_in, founded_total, entry_of, Owners, IsAwaiting, Tables, Exchange, Representation, Consumer, may_be, Sound, starts_over, after_accepted, is_idle, idle, evicted, first_idle, room_for, write_in, written_representation, written_in}
 use Rattle.hc_event.specs.declared.act.Act.TheVariants as act
@@ -12,18 +11,8 @@ use Rattle.hc_event.specs.declared.place.BoundBy.TheVariants as by
 use Rattle.hc_event.specs.declared.place.Place.TheVariants as place
 use Rattle.hc_model.specs.Evictions.{unevicting_entry, EvictsLast, EvictionsComeLast}
 use Rattle.hc_model.specs.Owners as owners
-use Rattle.hc_effects.proofs.ActParts.{evicts_closes, evicts_lost, far_loss, far_closed}
-use Rattle.hc_effects.proofs.Alike.{alike_evicted, written_same}
-use Rattle.hc_effects.proofs.Basics.{false_true}
-use Rattle.hc_effects.proofs.EvictedRows.{tables_last}
-use Rattle.hc_effects.proofs.FirstKeeps.{is_new, case_of_head}
-use Rattle.hc_effects.proofs.FoundBy.{CaseBy}
+use Rattle.hc_effects.proofs.{ActParts.{evicts_closes, evicts_lost, far_loss, far_closed}, Alike.{alike_evicted, written_same}, Basics.{false_true}, EvictedRows.{tables_last}, FirstKeeps.{is_new, case_of_head}, FoundBy.{CaseBy}, GivingWay.{writes_nothing}, PieceKeeps.{eq_cases}, PieceServes.{IsQuietActs, quiet_acts}, PollEffects.{none_waits}, SameTables.{is_in, waits_for_any}}
 use Rattle.hc_effects.proofs.FoundBy as cases
-use Rattle.hc_effects.proofs.GivingWay.{writes_nothing}
-use Rattle.hc_effects.proofs.PieceKeeps.{eq_cases}
-use Rattle.hc_effects.proofs.PieceServes.{IsQuietActs, quiet_acts}
-use Rattle.hc_effects.proofs.PollEffects.{none_waits}
-use Rattle.hc_effects.proofs.SameTables.{is_in, waits_for_any}
 
 -- WHAT MAKES ROOM IS THERE
 

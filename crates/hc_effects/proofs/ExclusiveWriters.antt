@@ -1,8 +1,5 @@
 -- Who opens a hole is the only one who writes: no other open exchange is about the representation.
-use Rattle.std.proofs.Common.{◌≡◌, ◌≢◌, inl, inr, ℕ, ◌<◌, List, [], ◌∷◌, Bool, true, false, Option, Some, None, refl, sym, ◌∙◌, arith}
-use Rattle.std.specs.Prelude.{filter, ◌&&◌, not}
-use Rattle.std.specs.Option.{option_or}
-use Rattle.std.proofs.lemmas.Bool.Decides.{nat_tests}
+use Rattle.std.{proofs.{Common.{◌≡◌, ◌≢◌, inl, inr, ℕ, ◌<◌, List, [], ◌∷◌, Bool, true, false, Option, Some, None, refl, sym, ◌∙◌, arith}, lemmas.Bool.Decides.{nat_tests}}, specs.{Prelude.{filter, ◌&&◌, not}, Option.{option_or}}}
 use Rattle.hc_text.proofs.Basics.{bool_cases, same_some as same_row}
 use Rattle.hc_effects.proofs.Vocabulary.{is_written, bound, offset, hi_of, own_open, source, is_bound, shared_exchange, Tables, Representation, Consumer, Sound, Numbered, Among, IsAbout, IsBound, IsExclusiveWriter}
 use Rattle.hc_model.specs.Sound as sound

@@ -12,8 +12,7 @@ use Rattle.hc_rules.specs.Readings as readings
 use Rattle.hc_event.specs.declared.place.Place.TheVariants as place
 use Rattle.hc_event.specs.declared.place.BoundBy.TheVariants as by_how
 use Rattle.hc_model.specs.Moves as moves
-use Rattle.hc_effects.proofs.Joining.{mix}
-use Rattle.hc_effects.proofs.MoveBy.{MoveBy, move_by}
+use Rattle.hc_effects.proofs.{Joining.{mix}, MoveBy.{MoveBy, move_by}}
 use Rattle.hc_effects.proofs.MoveBy as by
 
 module _ (t : Tables) (now want c : ℕ) (k : Consumer) (why : Cause) where

@@ -1,8 +1,7 @@
 -- Where no head is refused, nothing doomed and no writing lost, just what somebody leaves is closed; and nothing makes room where
 -- nothing is written.
-use Rattle.std.proofs.Common.{◌≡◌, ℕ, List, [], ◌∷◌, Bool, false, Option, Some, None, refl, ap, ◌∙◌}
+use Rattle.std.{proofs.Common.{◌≡◌, ℕ, List, [], ◌∷◌, Bool, false, Option, Some, None, refl, ap, ◌∙◌}, specs.Prelude.{◌&&◌, ◌||◌, filter, reverse}}
 use mathlib.Core.Path.{fun_ext}
-use Rattle.std.specs.Prelude.{◌&&◌, ◌||◌, filter, reverse}
 use Rattle.hc_text.proofs.Basics.{and_off as then_false}
 use Rattle.hc_effects.proofs.Vocabulary.{Event, Limits, Write, case_at, closing, closes_row, must_close, is_refused, is_doomed, has_no_survivor, is_left, leaver, brings_head, is_number, doomed_key_of, Entry, entry_without_acts, exchange_heard, family, Tables, Exchange, Representation, evicted, first_idle, room_by, room_for, write_in, brings_body, loses_writing}
 use Rattle.hc_effects.proofs.Tests.{and_false}

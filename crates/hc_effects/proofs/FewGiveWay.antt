@@ -1,8 +1,5 @@
 -- Few give way: a piece has at most twice what a slot weighs.
-use Rattle.std.proofs.Common.{◌≡◌, inl, inr, ℕ, zero, suc, ◌+◌, ◌-◌, ◌≤◌, List, [], ◌∷◌, ◌++◌, length, Bool, true, false, Option, Some, None, refl, sym, ◌∙◌, subst, arith}
-use Rattle.std.specs.Prelude.{nat_le, map, filter, reverse, take, if◌then◌else◌}
-use Rattle.std.specs.Option.{option_and_then, option_map}
-use Rattle.std.proofs.lemmas.Bool.Decides.{nat_tests}
+use Rattle.std.{proofs.{Common.{◌≡◌, inl, inr, ℕ, zero, suc, ◌+◌, ◌-◌, ◌≤◌, List, [], ◌∷◌, ◌++◌, length, Bool, true, false, Option, Some, None, refl, sym, ◌∙◌, subst, arith}, lemmas.Bool.Decides.{nat_tests}}, specs.{Prelude.{nat_le, map, filter, reverse, take, if◌then◌else◌}, Option.{option_and_then, option_map}}}
 use Rattle.hc_text.proofs.Basics.{and_left, bool_cases, not_some as none_some, some_inj}
 use Rattle.hc_effects.proofs.Vocabulary.{Act, Event, gives_way, room_of, grown_by, is_too_large, Limits, Room, Write, answer_acts, loss_acts, case_at, is_founding, closing, Entry, entry_without_acts, family, Flaw, NoFlaw, Loses, Misreads, count_evicted, IsSmallPiece, Move, acts_of, Tables, Exchange, Representation, weight, weight_in, weights, idle, is_idle, stays_current, evicted, first_idle, room_for, room_by, write_in, write_of_piece, piece_write}
 use Rattle.hc_event.specs.declared.act.Act.TheVariants as act

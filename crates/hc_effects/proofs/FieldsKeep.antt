@@ -1,15 +1,10 @@
 -- No length stands among the fields of a stored head, and they stay within limits.
-use Rattle.std.proofs.Common.{◌≡◌, ◌≢◌, inl, inr, ℕ, ◌≤◌, List, [], ◌∷◌, length, Bool, true, false, refl, ap, sym, ◌∙◌, arith}
-use Rattle.std.specs.Prelude.{bytes_eq, nat_le, nat_lt, if◌then◌else◌, codes}
-use Rattle.std.specs.List.{list_any}
-use Rattle.std.proofs.lemmas.Bool.Decides.{nat_tests}
+use Rattle.std.{proofs.{Common.{◌≡◌, ◌≢◌, inl, inr, ℕ, ◌≤◌, List, [], ◌∷◌, length, Bool, true, false, refl, ap, sym, ◌∙◌, arith}, lemmas.Bool.Decides.{nat_tests}}, specs.{Prelude.{bytes_eq, nat_le, nat_lt, if◌then◌else◌, codes}, List.{list_any}}}
 use Rattle.hc_text.proofs.Basics.{and_left, and_right, bool_cases, never_true as not_true}
-use Rattle.hc_fields.specs.FieldList.{values_of, has_name, field_list_with, without, size_of}
-use Rattle.hc_fields.specs.FirstValues.{has_field}
+use Rattle.hc_fields.specs.{FieldList.{values_of, has_name, field_list_with, without, size_of}, FirstValues.{has_field}}
 use Rattle.hc_fields.proofs.Edits.{values_of-put_other, values_of-without_same, values_of-without_other}
 use Rattle.hc_rules.proofs.RangeReads.{same_bytes, bytes_eq-same}
-use Rattle.hc_validate.specs.Heads.{FieldPairs}
-use Rattle.hc_validate.specs.Updates.{fixed_names, is_fixed, changeable_fields, is_renewed, with_all, left_by, fields_with, is_within_limits, updated_fields}
+use Rattle.hc_validate.specs.{Heads.{FieldPairs}, Updates.{fixed_names, is_fixed, changeable_fields, is_renewed, with_all, left_by, fields_with, is_within_limits, updated_fields}}
 use Rattle.hc_validate.proofs.Settings.{length-without, size_of-without}
 use Rattle.hc_effects.proofs.Vocabulary.{kept_fields}
 use Rattle.hc_effects.proofs.Basics.{false_true}

@@ -1,13 +1,10 @@
 -- What an entry brings: bytes of a body and of an exchange, at a piece alone.
-use Rattle.std.proofs.Common.{◌≡◌, inl, inr, ℕ, ◌+◌, List, length, ◌++◌, Bool, true, false, Option, Some, None, refl, ap, sym, ◌∙◌, subst, max}
-use Rattle.std.specs.Prelude.{if◌then◌else◌, ◌==◌, ◌||◌, not}
+use Rattle.std.{proofs.Common.{◌≡◌, inl, inr, ℕ, ◌+◌, List, length, ◌++◌, Bool, true, false, Option, Some, None, refl, ap, sym, ◌∙◌, subst, max}, specs.Prelude.{if◌then◌else◌, ◌==◌, ◌||◌, not}}
 use Rattle.hc_text.proofs.Basics.{same_some as same_row, some_inj}
 use Rattle.hc_sparse.specs.Cells.{cells_with}
 use Rattle.hc_effects.proofs.Vocabulary.{Event, Request, Response, Need, length_of, loses_in, Entry, exchange_after, exchange_heard, exchange_acted, front, family, length_by, representation_heard, representation_acted, representation_after_head, with_renewed_head, updates, representation_after_piece, with_stored_bytes, with_total_if_none, length_in, Tables, Exchange, Representation}
 use Rattle.hc_event.specs.declared.event.Event.TheVariants as event
-use Rattle.hc_effects.proofs.Forward.{after_is}
-use Rattle.hc_effects.proofs.PieceKeeps.{eq_cases}
-use Rattle.hc_effects.proofs.RepFrom.{IsKept}
+use Rattle.hc_effects.proofs.{Forward.{after_is}, PieceKeeps.{eq_cases}, RepFrom.{IsKept}}
 
 module _ (t : Tables) (e : Entry) where
   -- a piece of the family of r comes

@@ -1,13 +1,10 @@
 -- What stays of a row: of an exchange whose it is and what it asks for, of a consumer its request.
-use Rattle.std.proofs.Common.{◌≡◌, inl, inr, ℕ, Bool, true, false, Option, Some, None, refl, ap, sym, ◌∙◌}
-use Rattle.std.specs.Prelude.{is_some}
+use Rattle.std.{proofs.Common.{◌≡◌, inl, inr, ℕ, Bool, true, false, Option, Some, None, refl, ap, sym, ◌∙◌}, specs.Prelude.{is_some}}
 use Rattle.hc_text.proofs.Basics.{same_some as same_row, some_inj}
 use Rattle.hc_effects.proofs.Vocabulary.{Opening, opening_in, closes_in, Event, exchange_in, consumer_after, consumer_settled, consumer_acted, consumer_heard, Entry, exchange_after, exchange_heard, exchange_acted, exchange_made, exchange_opened, Tables, Exchange, Consumer, starts_over}
 use Rattle.hc_event.specs.declared.event.Event.TheVariants as event
-use Rattle.hc_effects.proofs.ConsumerFilters.{acted}
-use Rattle.hc_effects.proofs.ExchangeFrom.{IsSame, ExchangeFrom, exchange_from, stays}
+use Rattle.hc_effects.proofs.{ConsumerFilters.{acted}, ExchangeFrom.{IsSame, ExchangeFrom, exchange_from, stays}, PieceKeeps.{eq_cases}}
 use Rattle.hc_effects.proofs.ExchangeFrom as exchange
-use Rattle.hc_effects.proofs.PieceKeeps.{eq_cases}
 
 module _ (t : Tables) (e : Entry) where
   -- an exchange goes on

@@ -1,9 +1,6 @@
 -- What makes room for what a head founds: what is idle once its consumer reads past the store, and what the head replaces was let go.
-use Rattle.std.proofs.Common.{◌≡◌, inl, inr, ℕ, List, [], ◌∷◌, length, take, Bool, true, false, Option, Some, None, refl, ap, sym, ◌∙◌, subst, arith}
+use Rattle.std.{proofs.{Common.{◌≡◌, inl, inr, ℕ, List, [], ◌∷◌, length, take, Bool, true, false, Option, Some, None, refl, ap, sym, ◌∙◌, subst, arith}, lemmas.Bool.Decides.{nat_tests}}, specs.{Prelude.{◌&&◌, ◌||◌, ◌==◌, not, nat_eq, if◌then◌else◌, option_map, map, filter, reverse}, List.{list_any, sum_by}}}
 use mathlib.Core.Path.{fun_ext}
-use Rattle.std.proofs.lemmas.Bool.Decides.{nat_tests}
-use Rattle.std.specs.Prelude.{◌&&◌, ◌||◌, ◌==◌, not, nat_eq, if◌then◌else◌, option_map, map, filter, reverse}
-use Rattle.std.specs.List.{list_any, sum_by}
 use Rattle.hc_text.proofs.Basics.{or_false as or_off}
 use Rattle.hc_effects.proofs.Vocabulary.{Event, Response, HeadCase, Limits, Room, head_case, route_of, room_of, weight_of, case_at, head_view, is_founding, idle_now, current, is_current, denial, doomed_by_case, as_gone, let_all_go, with_consumer, Entry, entry_without_acts, NoFlaw, goes_itself, goes_by_case, becomes_gone, Lawful, MayLetGo, weight_now, room_now, giving_way, IsAwaiting, bound, is_bound, is_bound_place, Tables, Exchange, Representation, Consumer, weight, idle, evicted, room_for, room_by, write_in, moves_on, stays_bound, stays_current, is_idle}
 use Rattle.hc_event.specs.declared.event.Event.TheVariants as event
@@ -15,14 +12,8 @@ use Rattle.hc_model.specs.Contents as contents
 use Rattle.hc_model.specs.LettingGo as going
 use Rattle.hc_model.specs.Owners as owners
 use Rattle.hc_model.specs.Weights as weights
-use Rattle.hc_effects.proofs.FirstKeeps.{case_is}
-use Rattle.hc_effects.proofs.FoundBy.{FoundingBy, founding_by}
+use Rattle.hc_effects.proofs.{FirstKeeps.{case_is}, FoundBy.{FoundingBy, founding_by}, HeadFacts.{waiter}, HeadFrames.{doomed_is, goes_by}, LettingGo.{bound_all, current_all}, PieceKeeps.{eq_cases}, SameTables.{is_in, all_go_is}}
 use Rattle.hc_effects.proofs.FoundBy as cases
-use Rattle.hc_effects.proofs.HeadFacts.{waiter}
-use Rattle.hc_effects.proofs.HeadFrames.{doomed_is, goes_by}
-use Rattle.hc_effects.proofs.LettingGo.{bound_all, current_all}
-use Rattle.hc_effects.proofs.PieceKeeps.{eq_cases}
-use Rattle.hc_effects.proofs.SameTables.{is_in, all_go_is}
 
 -- LISTS
 

@@ -4,12 +4,9 @@ use Rattle.hc_text.proofs.Basics.{eqb-same}
 use Rattle.hc_sparse.specs.declared.run.Run.{Run}
 use Rattle.hc_event.specs.declared.event.Event.TheVariants as event
 use Rattle.hc_effects.proofs.Vocabulary.{Limits, consumer_acted, Does, with_event, with_consumer, Entry, NoFlaw, Lawful, Gives, acts_of, move_of, Tables, Consumer}
-use Rattle.hc_effects.proofs.Basics.{append_none}
-use Rattle.hc_effects.proofs.OfConsumers.{BringsNothing, brings_nothing, binds_none, exchanges_stay}
+use Rattle.hc_effects.proofs.{Basics.{append_none}, OfConsumers.{BringsNothing, brings_nothing, binds_none, exchanges_stay}, PollEffects.{none_waits, nothing_goes, poll_does}, Untouched.{own_stays, spared_bodiless}}
 use Rattle.hc_effects.proofs.OfConsumers as event_of
-use Rattle.hc_effects.proofs.PollEffects.{none_waits, nothing_goes, poll_does}
 use Rattle.hc_effects.proofs.PollEffects as polls
-use Rattle.hc_effects.proofs.Untouched.{own_stays, spared_bodiless}
 
 module _ (limits : Limits) (t : Tables) (law : Lawful t) (now c want : ℕ) (k : Consumer) (row : t.consumer c ≡ Some k) (run : Run) (is : move_of t now want c k ≡ Gives run) where
   abbrev e : Entry

@@ -1,17 +1,9 @@
 -- What a poll gives: the next bytes of the body that its consumer reads, and none past its end.
-use Rattle.std.proofs.Common.{◌≡◌, inl, inr, ℕ, ◌+◌, ◌-◌, ◌<◌, ◌≤◌, List, [], ◌∷◌, length, Bool, true, false, cond, Option, Some, None, refl, ap, sym, ◌∙◌, subst, arith}
-use Rattle.std.specs.Prelude.{IfSome, slice_index, is_some, min, take, drop, ◌&&◌, nat_le, nat_lt, if◌then◌else◌}
-use Rattle.std.specs.Option.{option_and_then, option_map}
-use Rattle.std.proofs.Math.Nat.{min-le_left}
-use Rattle.std.proofs.lemmas.List.{get_or-drop, get_or-take, length-take, length-drop}
-use Rattle.std.proofs.lemmas.Bool.Decides.{nat_tests}
+use Rattle.std.{proofs.{Common.{◌≡◌, inl, inr, ℕ, ◌+◌, ◌-◌, ◌<◌, ◌≤◌, List, [], ◌∷◌, length, Bool, true, false, cond, Option, Some, None, refl, ap, sym, ◌∙◌, subst, arith}, Math.Nat.{min-le_left}, lemmas.{List.{get_or-drop, get_or-take, length-take, length-drop}, Bool.Decides.{nat_tests}}}, specs.{Prelude.{IfSome, slice_index, is_some, min, take, drop, ◌&&◌, nat_le, nat_lt, if◌then◌else◌}, Option.{option_and_then, option_map}}}
 use Rattle.hc_text.proofs.Basics.{bool_cases, min_few, not_some as none_some, some_inj}
 use Rattle.hc_range.specs.declared.range.Span.{Span}
 use Rattle.hc_sparse.proofs.StretchLemmas.{front, stretch-longest}
-use Rattle.hc_sparse.specs.Cells.{Cells, Cell, EndsBy}
-use Rattle.hc_sparse.specs.Runs.{end_of}
-use Rattle.hc_sparse.specs.Stretch.{stretch, stretch_of, bytes_from, IsLongest}
-use Rattle.hc_sparse.specs.declared.run.Run.{Run}
+use Rattle.hc_sparse.specs.{Cells.{Cells, Cell, EndsBy}, Runs.{end_of}, Stretch.{stretch, stretch_of, bytes_from, IsLongest}, declared.run.Run.{Run}}
 use Rattle.hc_effects.proofs.Vocabulary.{Cause, Request, read_step, is_at_end, cut_at, stored_or, held_or, fails_or, waits_or, opens, ReadView, Place, row_of, is_number, base, stretch_to, Nothing, Gives, Ends, Fails, gives, waits_for, opens_hole, bound_to, offset, hi_of, lo_of, Delivers, answer_cell, cell_by, body_of, direct_cell, Tables, Exchange, Representation, Consumer, Sound, IsStored, stored_from, stored_ahead, run_of, held_of_exchange, held_of_lost, held_at, run_held_for, read_view, most, later_hole, step_move, reading}
 use Rattle.hc_event.specs.declared.act.Wait.TheVariants as wait
 use Rattle.hc_event.specs.declared.place.Place.TheVariants as place

@@ -1,6 +1,5 @@
 -- A poll that gives is one of a reader, and wants something.
-use Rattle.std.proofs.Common.{◌≡◌, inl, inr, ℕ, zero, suc, ◌<◌, true, None, ap, sym, ◌∙◌, arith}
-use Rattle.std.specs.Prelude.{nat_lt}
+use Rattle.std.{proofs.Common.{◌≡◌, inl, inr, ℕ, zero, suc, ◌<◌, true, None, ap, sym, ◌∙◌, arith}, specs.Prelude.{nat_lt}}
 use Rattle.hc_text.proofs.Basics.{bool_cases}
 use Rattle.hc_sparse.specs.declared.run.Run.{Run}
 use Rattle.hc_event.specs.declared.act.Wait.TheVariants as wait
@@ -8,10 +7,8 @@ use Rattle.hc_effects.proofs.Vocabulary.{Event, denial, is_live, Move, Nothing, 
 use Rattle.hc_event.specs.declared.event.Event.TheVariants as event
 use Rattle.hc_rules.specs.Refusals as refusals
 use Rattle.hc_model.specs.Moves as moves
-use Rattle.hc_effects.proofs.Basics.{false_true}
-use Rattle.hc_effects.proofs.MoveBy.{MoveBy}
+use Rattle.hc_effects.proofs.{Basics.{false_true}, MoveBy.{MoveBy}, Once.{never}}
 use Rattle.hc_effects.proofs.MoveBy as by_move
-use Rattle.hc_effects.proofs.Once.{never}
 
 module _ (t : Tables) (c : ℕ) where
   zero_refused : denial t (event.Poll c 0) ≡ None → ⊥

@@ -1,8 +1,5 @@
 -- Whose an open exchange is that is about a representation: the writing's, or the exclusive writer's.
-use Rattle.std.proofs.Common.{◌≡◌, ◌⊎◌, inl, inr, ℕ, ◌<◌, ◌≤◌, List, [], ◌∷◌, Bool, true, false, cond, Option, Some, None, refl, ap, sym, ◌∙◌, subst, arith, min}
-use Rattle.std.specs.Prelude.{if◌then◌else◌, is_some, is_none, nat_le, map, filter}
-use Rattle.std.specs.Option.{option_or}
-use Rattle.std.proofs.lemmas.Bool.Decides.{nat_tests}
+use Rattle.std.{proofs.{Common.{◌≡◌, ◌⊎◌, inl, inr, ℕ, ◌<◌, ◌≤◌, List, [], ◌∷◌, Bool, true, false, cond, Option, Some, None, refl, ap, sym, ◌∙◌, subst, arith, min}, lemmas.Bool.Decides.{nat_tests}}, specs.{Prelude.{if◌then◌else◌, is_some, is_none, nat_le, map, filter}, Option.{option_or}}}
 use Rattle.hc_text.proofs.Basics.{both_true as and_both, and_left, and_right, bool_cases, not_some as none_some, never_true as not_so, or_left, or_right, same_some as same_row, some_inj}
 use Rattle.hc_effects.proofs.Vocabulary.{Opening, opening_in, leaves_in, Event, Response, Limits, Member, least, lesser, is_same_number, route_of, stands_at, BoundBy, loses_in, has_loss, case_at, is_joining, is_left, is_left_by, has_no_survivor, leaver, leaver_by, consumer_heard, consumer_acted, by_opening, own_after, left_to, waiting, due_after, back_in_line, is_number, denial, Entry, aim_from, exchange_in, is_for, is_open, family, becomes_due, cause_of_stop, cause_of_loss, cause_by_loss, cause_of_head, cause_by_case, stop_cause, Flaw, entry_of, Measures, Owners, IsAwaiting, move_of, is_written, bound, bound_to, own_open, reads, source, shared_exchange, Tables, Exchange, Representation, Consumer, Sound, Among, IsBound, IsAbout, IsHad, IsExclusiveWriter, IsFirst, starts_over, after_accepted, brings_body, came_alone, loses_writing, survivor, member, may_write}
 use Rattle.hc_event.specs.declared.event.Event.TheVariants as event
@@ -10,35 +7,12 @@ use Rattle.hc_rules.specs.declared.need.Route.TheVariants as route
 use Rattle.hc_event.specs.declared.place.Place.TheVariants as place
 use Rattle.hc_model.specs.Owners as owners
 use Rattle.hc_model.specs.Sound as sound
-use Rattle.hc_effects.proofs.AboutKeeps.{own_open_of, own_open_is}
-use Rattle.hc_effects.proofs.ApartKeeps.{written_by, is_on}
-use Rattle.hc_effects.proofs.Basics.{false_true, some_none, number_is, number_yes}
-use Rattle.hc_effects.proofs.BoundStays.{Stays, bound_stays}
-use Rattle.hc_effects.proofs.Closed.{before}
-use Rattle.hc_effects.proofs.Dues.{undue_of, stop_none, other_stop, loss_at, due_none}
-use Rattle.hc_effects.proofs.ExchangeFrom.{IsSame}
-use Rattle.hc_effects.proofs.FirstKeeps.{came_kept, case_is, is_new}
+use Rattle.hc_effects.proofs.{AboutKeeps.{own_open_of, own_open_is}, ApartKeeps.{written_by, is_on}, Basics.{false_true, some_none, number_is, number_yes}, BoundStays.{Stays, bound_stays}, Closed.{before}, Dues.{undue_of, stop_none, other_stop, loss_at, due_none}, ExchangeFrom.{IsSame}, FirstKeeps.{came_kept, case_is, is_new}, HasBound.{not_must, reader_of}, HeadKeeps.{is_join}, Losses.{exclusive_is}, LossBy.{IsReal, sealed_loss, seals_one, fresh}, OpensFrom.{opens_hole, hole_is}, OwnersKeep.{is_opened}, PieceKeeps.{eq_cases}, ExclusiveWriters.{writer_some, bound_some}, RepFrom.{RepFrom, rep_from, IsKept, IsResumed}, Said.{IsOpening, opening_by, leaving_by}, SaidActs.{leaves_leaver}, ServedKeeps.{lost_alone, kept_alone, over}, Stops.{writer_about}, WaitingKeeps.{stands, stays_on, unmet}, Waiters.{IsWaiter, waiter_of, unwritten, head_is_own, waits_undue}, WriterEnds.{loses_same}}
 use Rattle.hc_effects.proofs.Forward as forward
-use Rattle.hc_effects.proofs.HasBound.{not_must, reader_of}
-use Rattle.hc_effects.proofs.HeadKeeps.{is_join}
-use Rattle.hc_effects.proofs.Losses.{exclusive_is}
-use Rattle.hc_effects.proofs.LossBy.{IsReal, sealed_loss, seals_one, fresh}
 use Rattle.hc_effects.proofs.MemberStays as member
-use Rattle.hc_effects.proofs.OpensFrom.{opens_hole, hole_is}
 use Rattle.hc_effects.proofs.OpenedAs as opened
-use Rattle.hc_effects.proofs.OwnersKeep.{is_opened}
-use Rattle.hc_effects.proofs.PieceKeeps.{eq_cases}
-use Rattle.hc_effects.proofs.ExclusiveWriters.{writer_some, bound_some}
 use Rattle.hc_effects.proofs.PollTree as tree
-use Rattle.hc_effects.proofs.RepFrom.{RepFrom, rep_from, IsKept, IsResumed}
 use Rattle.hc_effects.proofs.RepFrom as rep
-use Rattle.hc_effects.proofs.Said.{IsOpening, opening_by, leaving_by}
-use Rattle.hc_effects.proofs.SaidActs.{leaves_leaver}
-use Rattle.hc_effects.proofs.ServedKeeps.{lost_alone, kept_alone, over}
-use Rattle.hc_effects.proofs.Stops.{writer_about}
-use Rattle.hc_effects.proofs.WaitingKeeps.{stands, stays_on, unmet}
-use Rattle.hc_effects.proofs.Waiters.{IsWaiter, waiter_of, unwritten, head_is_own, waits_undue}
-use Rattle.hc_effects.proofs.WriterEnds.{loses_same}
 
 -- WHO SURVIVES
 

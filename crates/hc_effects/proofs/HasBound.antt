@@ -1,8 +1,5 @@
 -- What is being written for several has a reader.
-use Rattle.std.proofs.Common.{◌≡◌, ◌≢◌, ◌⊎◌, inl, inr, ℕ, List, [], ◌∷◌, Bool, true, false, cond, Option, Some, None, refl, ap, sym, ◌∙◌, subst, arith}
-use Rattle.std.specs.Prelude.{◌&&◌, ◌||◌, ◌==◌, not, nat_eq, filter}
-use Rattle.std.specs.List.{list_all}
-use Rattle.std.proofs.lemmas.Bool.Decides.{nat_tests}
+use Rattle.std.{proofs.{Common.{◌≡◌, ◌≢◌, ◌⊎◌, inl, inr, ℕ, List, [], ◌∷◌, Bool, true, false, cond, Option, Some, None, refl, ap, sym, ◌∙◌, subst, arith}, lemmas.Bool.Decides.{nat_tests}}, specs.{Prelude.{◌&&◌, ◌||◌, ◌==◌, not, nat_eq, filter}, List.{list_all}}}
 use Rattle.hc_text.proofs.Basics.{both_true as and_both, and_left, and_right, bool_cases, not_some as none_some, never_true as not_so, or_cases, or_right, some_inj}
 use Rattle.hc_effects.proofs.Vocabulary.{leaves_in, closes_in, Event, Response, HeadCase, Limits, Place, BoundBy, case_at, head_view, is_founding, is_joining, must_close, is_left, is_left_by, is_last_reader, leaver, leaver_by, consumer_heard, consumer_acted, becomes_shared, by_head, place_by_case, due_after, back_in_line, is_number, denial, doomed_key_of, doomed_in, doomed_by_head, doomed_by_case, is_key, Entry, exchange_heard, exchange_acted, promise_in, exchange_at, is_for, is_open, Flaw, entry_of, Owners, IsAwaiting, is_written, is_bound, is_bound_place, bound, shared_exchange, Tables, Exchange, Representation, Consumer, may_stand, Sound, Numbered, Among, IsBound, starts_over, waits_at, sends_back, loses_what_it_waits_for, after_accepted, route_of, head_case, has_loss, writer_at}
 use Rattle.hc_event.specs.declared.event.Event.TheVariants as event
@@ -11,27 +8,10 @@ use Rattle.hc_event.specs.declared.place.Place.TheVariants as place
 use Rattle.hc_event.specs.declared.place.BoundBy.TheVariants as by
 use Rattle.hc_model.specs.Owners as owners
 use Rattle.hc_model.specs.Sound as sound
-use Rattle.hc_effects.proofs.ApartKeeps.{is_on, was_written, founded_shared}
-use Rattle.hc_effects.proofs.Basics.{false_true, number_is}
-use Rattle.hc_effects.proofs.BoundKeeps.{binds_kept}
-use Rattle.hc_effects.proofs.Closed.{before, closes}
-use Rattle.hc_effects.proofs.FirstKeeps.{case_is, is_new}
-use Rattle.hc_effects.proofs.Forward.{is_kept, after_is}
-use Rattle.hc_effects.proofs.MemberStays.{member_stays}
-use Rattle.hc_effects.proofs.NamesKeep.{names_are_kept}
-use Rattle.hc_effects.proofs.NumbersKeep.{numbers_are_kept}
-use Rattle.hc_effects.proofs.PieceKeeps.{eq_cases}
-use Rattle.hc_effects.proofs.ExclusiveWriters.{writer_some, bound_some}
-use Rattle.hc_effects.proofs.RepFrom.{RepFrom, rep_from, IsResumed}
+use Rattle.hc_effects.proofs.{ApartKeeps.{is_on, was_written, founded_shared}, Basics.{false_true, number_is}, BoundKeeps.{binds_kept}, Closed.{before, closes}, FirstKeeps.{case_is, is_new}, Forward.{is_kept, after_is}, MemberStays.{member_stays}, NamesKeep.{names_are_kept}, NumbersKeep.{numbers_are_kept}, PieceKeeps.{eq_cases}, ExclusiveWriters.{writer_some, bound_some}, RepFrom.{RepFrom, rep_from, IsResumed}, Said.{leaving_by}, SaidActs.{leaves_leaver}, ToBeShown.{heard_place}, FoundBy.{CaseBy, case_by}, Waiters.{IsWaiter, waiter_of}, WriterEnds.{all_same}}
 use Rattle.hc_effects.proofs.RepFrom as rep
-use Rattle.hc_effects.proofs.Said.{leaving_by}
-use Rattle.hc_effects.proofs.SaidActs.{leaves_leaver}
-use Rattle.hc_effects.proofs.ToBeShown.{heard_place}
-use Rattle.hc_effects.proofs.FoundBy.{CaseBy, case_by}
 use Rattle.hc_effects.proofs.FoundBy as cases
 use Rattle.hc_rules.specs.declared.need.Route.TheVariants as route
-use Rattle.hc_effects.proofs.Waiters.{IsWaiter, waiter_of}
-use Rattle.hc_effects.proofs.WriterEnds.{all_same}
 
 -- LISTS OF READERS
 

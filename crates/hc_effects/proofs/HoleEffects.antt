@@ -8,10 +8,7 @@ use Rattle.hc_rules.specs.declared.request.Wanted.TheVariants as wanted
 use Rattle.hc_event.specs.declared.place.Place.TheVariants as place
 use Rattle.hc_event.specs.declared.place.BoundBy.TheVariants as by
 use Rattle.hc_rules.specs.declared.need.Route.TheVariants as route
-use Rattle.hc_effects.proofs.Basics.{false_true}
-use Rattle.hc_effects.proofs.OfConsumers.{BringsNothing, binds_as}
-use Rattle.hc_effects.proofs.OpenEffects.{e, nothing, why, opens, keeps_all, about_current}
-use Rattle.hc_effects.proofs.PollEffects.{none_waits}
+use Rattle.hc_effects.proofs.{Basics.{false_true}, OfConsumers.{BringsNothing, binds_as}, OpenEffects.{e, nothing, why, opens, keeps_all, about_current}, PollEffects.{none_waits}}
 
 module _ (limits : Limits) (t : Tables) (law : Lawful t) (now c want : ℕ) (k : Consumer) (row : t.consumer c ≡ Some k) (x from to : ℕ) (request : Request) (is : move_of t now want c k ≡ Opens x (need.Hole from to) request) where
   abbrev n : Need

@@ -1,7 +1,5 @@
 -- Holes are absent, and what has none is covered.
-use Rattle.std.proofs.Common.{◌≡◌, ◌⊎◌, inl, inr, ℕ, zero, suc, ◌+◌, ◌-◌, ◌<◌, ◌≤◌, Bool, true, false, Option, Some, None, refl, sym, arith, min}
-use Rattle.std.specs.Prelude.{is_some, is_none}
-use Rattle.std.proofs.lemmas.Bool.Decides.{nat_tests}
+use Rattle.std.{proofs.{Common.{◌≡◌, ◌⊎◌, inl, inr, ℕ, zero, suc, ◌+◌, ◌-◌, ◌<◌, ◌≤◌, Bool, true, false, Option, Some, None, refl, sym, arith, min}, lemmas.Bool.Decides.{nat_tests}}, specs.Prelude.{is_some, is_none}}
 use Rattle.hc_text.proofs.Basics.{bool_cases, lt_cases}
 use Rattle.hc_sparse.specs.Cells.{Cells, Cell, EndsBy, Covers}
 use Rattle.hc_effects.proofs.Vocabulary.{first_place, absent_from, covers, hole_at}

@@ -1,13 +1,11 @@
 -- The holes for which exchanges are opened are absent.
-use Rattle.std.proofs.Common.{◌≡◌, inl, inr, ℕ, ◌<◌, ◌≤◌, true, false, Some, None, sym, ◌∙◌, arith}
-use Rattle.std.specs.Prelude.{is_some}
+use Rattle.std.{proofs.Common.{◌≡◌, inl, inr, ℕ, ◌<◌, ◌≤◌, true, false, Some, None, sym, ◌∙◌, arith}, specs.Prelude.{is_some}}
 use Rattle.hc_text.proofs.Basics.{bool_cases, lt_or as split}
 use Rattle.hc_range.specs.declared.range.Span.{Span}
 use Rattle.hc_sparse.specs.Cells.{Cells, EndsBy}
 use Rattle.hc_effects.proofs.Vocabulary.{front, first_hole, hole_at, absent_from, covers, offset, Tables, Representation, Consumer, Sound, IsSoundRepresentation, IsExclusiveWriter}
 use Rattle.hc_model.specs.Sound as sound
-use Rattle.hc_effects.proofs.HoleLemmas.{none_of, hole_absent}
-use Rattle.hc_effects.proofs.ExclusiveWriters.{IsAtHole, has_exclusive_writer}
+use Rattle.hc_effects.proofs.{HoleLemmas.{none_of, hole_absent}, ExclusiveWriters.{IsAtHole, has_exclusive_writer}}
 
 -- what is stored ends where the body ends
 pub stored_ends : (t : Tables) (r : ℕ) (v : Representation) → IsSoundRepresentation t r v → EndsBy v.reach v.stored

@@ -1,8 +1,5 @@
 -- What is idle at an event: those that are idle before it, but for what the event itself makes gone.
-use Rattle.std.proofs.Common.{◌≡◌, inl, inr, ℕ, List, [], ◌∷◌, length, Bool, true, false, Option, Some, None, refl, ap, sym, ◌∙◌, arith}
-use Rattle.std.specs.Prelude.{filter, reverse, nat_eq, ◌==◌, ◌&&◌, not}
-use Rattle.std.specs.List.{list_any}
-use Rattle.std.proofs.lemmas.Bool.Decides.{nat_tests}
+use Rattle.std.{proofs.{Common.{◌≡◌, inl, inr, ℕ, List, [], ◌∷◌, length, Bool, true, false, Option, Some, None, refl, ap, sym, ◌∙◌, arith}, lemmas.Bool.Decides.{nat_tests}}, specs.{Prelude.{filter, reverse, nat_eq, ◌==◌, ◌&&◌, not}, List.{list_any}}}
 use Rattle.hc_text.proofs.Basics.{and_left, and_right, bool_cases, not_some as none_some, or_left, or_right, same_some as same_row}
 use Rattle.hc_effects.proofs.Vocabulary.{Event, Response, HeadCase, route_of, Limits, Place, case_at, head_view, is_current, denial, Entry, entry_without_acts, outlasts, outlasts_row, exchange_at, is_for, NoFlaw, goes_itself, goes_by_case, goes_by_head, goes_by_exchange, Owners, IsAwaiting, bound, is_bound_place, Tables, Exchange, Representation, Consumer, Sound, Among, IsBound, idle, is_idle, stays_bound, moves_on, is_replacing}
 use Rattle.hc_event.specs.declared.event.Event.TheVariants as event
@@ -12,11 +9,8 @@ use Rattle.hc_model.specs.Contents as contents
 use Rattle.hc_model.specs.Evictions.{IdleButGone}
 use Rattle.hc_model.specs.Owners as owners
 use Rattle.hc_model.specs.Sound as sound
-use Rattle.hc_effects.proofs.Basics.{false_true, true_false, number_yes}
-use Rattle.hc_effects.proofs.FirstKeeps.{is_new, case_of_head}
-use Rattle.hc_effects.proofs.FoundBy.{CaseBy}
+use Rattle.hc_effects.proofs.{Basics.{false_true, true_false, number_yes}, FirstKeeps.{is_new, case_of_head}, FoundBy.{CaseBy}, HasBound.{reader_of}}
 use Rattle.hc_effects.proofs.FoundBy as cases
-use Rattle.hc_effects.proofs.HasBound.{reader_of}
 
 -- LISTS
 

@@ -1,7 +1,5 @@
 -- What an event names is of its key: the representation of an exchange, and what a consumer reads from.
-use Rattle.std.proofs.Common.{◌≡◌, inl, inr, ℕ, List, Bool, true, false, Option, Some, None, refl, ap, sym, ◌∙◌}
-use Rattle.std.specs.Prelude.{bytes_eq, ◌&&◌, ◌||◌, if◌then◌else◌, unwrap_or}
-use Rattle.std.specs.Option.{option_and_then, option_or}
+use Rattle.std.{proofs.Common.{◌≡◌, inl, inr, ℕ, List, Bool, true, false, Option, Some, None, refl, ap, sym, ◌∙◌}, specs.{Prelude.{bytes_eq, ◌&&◌, ◌||◌, if◌then◌else◌, unwrap_or}, Option.{option_and_then, option_or}}}
 use Rattle.hc_text.proofs.Basics.{and_left, bool_cases, eq_tells as eq_is, never_true as not_so, or_cases, same_some as same_row, some_inj}
 use Rattle.hc_effects.proofs.Vocabulary.{Event, Response, HeadCase, Place, BoundBy, case_at, current, is_usable, is_current, is_number, doomed_key_of, doomed_in, doomed_by_head, doomed_by_case, changes, is_key, Entry, family, is_open, HasRow, key_of, is_of_key, key_of_exchange, ExchangeKeys, ConsumerKeys, own_open, if_open, shared_exchange, writing_in, is_written, source, is_bound, is_bound_place, Tables, Exchange, Representation, Consumer}
 use Rattle.hc_event.specs.declared.event.Event.TheVariants as event
@@ -10,8 +8,7 @@ use Rattle.hc_rules.proofs.RangeReads.{bytes_eq-same, same_bytes}
 use Rattle.hc_event.specs.declared.place.Place.TheVariants as place
 use Rattle.hc_model.specs.Dooms.{doomed_if}
 use Rattle.hc_model.specs.Sound as sound
-use Rattle.hc_effects.proofs.Basics.{number_is, true_false}
-use Rattle.hc_effects.proofs.PollKeeps.{find_passes}
+use Rattle.hc_effects.proofs.{Basics.{number_is, true_false}, PollKeeps.{find_passes}}
 
 -- WORDS
 

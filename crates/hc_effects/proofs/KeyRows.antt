@@ -1,17 +1,12 @@
 -- The law of one key: rows of other keys stay, but for what makes room and who waits for that.
-use Rattle.std.proofs.Common.{◌≡◌, inl, inr, ℕ, ◌+◌, List, length, Bool, true, false, Option, Some, None, refl, ap, sym, ◌∙◌, subst, ◌⊎◌}
-use Rattle.std.specs.Prelude.{◌&&◌, ◌||◌, ◌==◌, nat_eq, not, if◌then◌else◌, is_none}
-use Rattle.std.specs.Option.{option_or, option_map}
+use Rattle.std.{proofs.Common.{◌≡◌, inl, inr, ℕ, ◌+◌, List, length, Bool, true, false, Option, Some, None, refl, ap, sym, ◌∙◌, subst, ◌⊎◌}, specs.{Prelude.{◌&&◌, ◌||◌, ◌==◌, nat_eq, not, if◌then◌else◌, is_none}, Option.{option_or, option_map}}}
 use Rattle.hc_text.proofs.Basics.{and_left, and_right as and_then, bool_cases, eq_tells as eq_is, not_some as none_some, never_true as not_true, or_cases, both_false as or_none, or_none as or_nothing, plus_none, some_inj}
 use Rattle.hc_effects.proofs.Vocabulary.{Opening, opening_in, asks_in, closes_in, evicts_in, leaves_in, shows_in, given_in, Event, Response, HeadCase, is_same_number, Place, BoundBy, loses_in, misreads_in, Showing, showing_in, case_at, consumer_after, consumer_settled, consumer_acted, consumer_heard, by_head, by_fault, by_opening, waiting, waiting_place, shown_place, own_after, left_to, due_after, back_in_line, is_current, doomed_key_of, bypass_key, is_key, Entry, exchange_after, exchange_heard, exchange_acted, family, exchange_in, exchange_at, is_for, becomes_due, cause_of_stop, cause_of_loss, cause_by_loss, cause_of_head, becomes_gone, goes_itself, goes_by_head, goes_by_exchange, goes_by_case, is_current_of, ends_early, ends_founding, stops_early, is_keepable, goes_in, key_of, key_of_exchange, ExchangeKeys, ConsumerKeys, reads, source, representation_after, representation_heard, representation_acted, representation_after_head, updates, representation_after_piece, Tables, Exchange, Representation, Consumer, starts_over, sends_back, loses_what_it_waits_for, waits_at, loses_writing}
 use Rattle.hc_event.specs.declared.event.Event.TheVariants as event
 use Rattle.hc_rules.specs.declared.heads.HeadCase.TheVariants as case
 use Rattle.hc_event.specs.declared.place.Place.TheVariants as place
 use Rattle.hc_model.specs.Keys.{loses}
-use Rattle.hc_effects.proofs.ActParts.{IsFarFrom}
-use Rattle.hc_effects.proofs.Basics.{number_is}
-use Rattle.hc_effects.proofs.KeyNames.{aims_key, opener_key, of_row, key_is, IsOther, not_other, doomed_key, family_key, current_key, source_key, bound_key}
-use Rattle.hc_effects.proofs.PieceKeeps.{eq_cases}
+use Rattle.hc_effects.proofs.{ActParts.{IsFarFrom}, Basics.{number_is}, KeyNames.{aims_key, opener_key, of_row, key_is, IsOther, not_other, doomed_key, family_key, current_key, source_key, bound_key}, PieceKeeps.{eq_cases}}
 
 -- WORDS
 

@@ -1,18 +1,11 @@
 -- What is of one key stays so: rows of exchanges and representations.
-use Rattle.std.proofs.Common.{◌≡◌, ◌⊎◌, inl, inr, ℕ, List, ◌++◌, Bool, true, false, Option, Some, None, refl, ap, sym, ◌∙◌, subst}
-use Rattle.std.specs.Prelude.{◌&&◌, ◌==◌, if◌then◌else◌}
-use Rattle.std.specs.Option.{option_map}
+use Rattle.std.{proofs.Common.{◌≡◌, ◌⊎◌, inl, inr, ℕ, List, ◌++◌, Bool, true, false, Option, Some, None, refl, ap, sym, ◌∙◌, subst}, specs.{Prelude.{◌&&◌, ◌==◌, if◌then◌else◌}, Option.{option_map}}}
 use Rattle.hc_text.proofs.Basics.{and_left, and_right as and_then, bool_cases, eq_itself as eq-refl, eq_tells as eq_is, not_some as none_some, some_inj}
 use Rattle.hc_effects.proofs.Vocabulary.{family, Opening, opening_in, Act, Event, Request, Response, Limits, accepted_acts, answer_acts, loss_acts, case_at, is_founding, is_joining, closing, current, is_usable, Entry, exchange_after, exchange_heard, exchange_acted, exchange_made, exchange_opened, Flaw, HasRow, Move, acts_of, representation_after, representation_heard, representation_acted, founded_at, new_representation, representation_after_head, with_renewed_head, updates, resumes, representation_after_piece, with_total_if_none, length_in, writer_at, Tables, Exchange, Representation, Consumer, after_accepted, evicted}
 use Rattle.hc_event.specs.declared.event.Event.TheVariants as event
 use Rattle.hc_rules.proofs.RangeReads.{same_bytes}
-use Rattle.hc_effects.proofs.ActParts.{IsAnswer, IsSaid, answer_is, said_is, asks_evicted, asks_closed, asks_closes, asks_lost, asks_loss}
+use Rattle.hc_effects.proofs.{ActParts.{IsAnswer, IsSaid, answer_is, said_is, asks_evicted, asks_closed, asks_closes, asks_lost, asks_loss}, Basics.{number_is}, CurrentKeeps.{heard_same}, PieceKeeps.{eq_cases}, PollKeeps.{find_passes}, PollKeys.{IsNear}}
 use Rattle.hc_effects.proofs.ActParts as parts
-use Rattle.hc_effects.proofs.Basics.{number_is}
-use Rattle.hc_effects.proofs.CurrentKeeps.{heard_same}
-use Rattle.hc_effects.proofs.PieceKeeps.{eq_cases}
-use Rattle.hc_effects.proofs.PollKeeps.{find_passes}
-use Rattle.hc_effects.proofs.PollKeys.{IsNear}
 use Rattle.hc_effects.proofs.PollKeys as polls
 
 -- an exchange that is there, of this key

@@ -1,19 +1,10 @@
 -- What letting a representation go leaves: who is bound and who is live, and all that is current but what goes.
-use Rattle.std.proofs.Common.{◌≡◌, inl, inr, ℕ, List, [], ◌∷◌, ◌++◌, length, Bool, true, false, Option, Some, None, refl, ap, sym, ◌∙◌, subst, arith}
-use Rattle.std.specs.Prelude.{nat_eq, option_map, is_some, filter, reverse, ◌&&◌, ◌||◌, not, ◌==◌, if◌then◌else◌}
-use Rattle.std.proofs.lemmas.Bool.Decides.{nat_tests}
+use Rattle.std.{proofs.{Common.{◌≡◌, inl, inr, ℕ, List, [], ◌∷◌, ◌++◌, length, Bool, true, false, Option, Some, None, refl, ap, sym, ◌∙◌, subst, arith}, lemmas.Bool.Decides.{nat_tests}}, specs.Prelude.{nat_eq, option_map, is_some, filter, reverse, ◌&&◌, ◌||◌, not, ◌==◌, if◌then◌else◌}}
 use Rattle.hc_text.proofs.Basics.{not_some as none_some, some_inj}
 use Rattle.hc_effects.proofs.Vocabulary.{Place, back_in_line, idle_now, current, is_usable, is_number, live, back_from, as_gone, let_go, let_all_go, evict, unless_it, Lawful, WaitsOn, MayLetGo, AreOnce, Passed, bound, Tables, Representation, Consumer, Among, OneCurrent}
 use Rattle.hc_event.specs.declared.place.Place.TheVariants as place
-use Rattle.hc_model.specs.Contents.{is_idle}
-use Rattle.hc_model.specs.Effects.{waits_for}
-use Rattle.hc_effects.proofs.Basics.{same_functions, false_true}
-use Rattle.hc_effects.proofs.CurrentKeeps.{find_only, usable, usable_row}
-use Rattle.hc_effects.proofs.Evicting.{evicts_one}
-use Rattle.hc_effects.proofs.IdleNow.{filter_both}
-use Rattle.hc_effects.proofs.PieceKeeps.{eq_cases}
-use Rattle.hc_effects.proofs.SameTables.{is_in}
-use Rattle.hc_effects.proofs.Sums.{filter_once, reverse_once}
+use Rattle.hc_model.specs.{Contents.{is_idle}, Effects.{waits_for}}
+use Rattle.hc_effects.proofs.{Basics.{same_functions, false_true}, CurrentKeeps.{find_only, usable, usable_row}, Evicting.{evicts_one}, IdleNow.{filter_both}, PieceKeeps.{eq_cases}, SameTables.{is_in}, Sums.{filter_once, reverse_once}}
 
 -- at the moment that it says, it is an eviction
 let_go_is : (now r : ℕ) (t : Tables) → let_go now r t ≡ record (evict r (record t { moment = now })) { moment = t.moment }

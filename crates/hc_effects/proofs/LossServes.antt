@@ -1,7 +1,5 @@
 -- At a piece that is lost, each bound consumer goes on alone, has all that it needs, or gets a failure.
-use Rattle.std.proofs.Common.{◌≡◌, ◌⊎◌, ℕ, List, Bool, true, false, cond, Option, Some, None, refl, ap, ◌∙◌, subst}
-use Rattle.std.specs.Prelude.{not, nat_eq, ◌&&◌, ◌||◌}
-use Rattle.std.specs.Option.{option_or}
+use Rattle.std.{proofs.Common.{◌≡◌, ◌⊎◌, ℕ, List, Bool, true, false, cond, Option, Some, None, refl, ap, ◌∙◌, subst}, specs.{Prelude.{not, nat_eq, ◌&&◌, ◌||◌}, Option.{option_or}}}
 use Rattle.hc_text.proofs.Basics.{both_true as and_both, cond_true as cond_left, or_left, some_inj}
 use Rattle.hc_effects.proofs.Vocabulary.{Act, Cause, loses_in, Entry, front, family, representation_after, representation_acted, representation_after_piece, with_stored_bytes, Tables, Exchange, Representation, goes_on_with}
 use Rattle.hc_effects.proofs.PieceKeeps.{of_piece}

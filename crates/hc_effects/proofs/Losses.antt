@@ -1,8 +1,5 @@
 -- Who goes on when a representation is lost: whoever may go on writing does, and the others have all they need.
-use Rattle.std.proofs.Common.{◌≡◌, ◌≢◌, ◌⊎◌, inl, inr, ℕ, List, [], ◌∷◌, Bool, true, false, Option, Some, None, refl, ap, sym, ◌∙◌, subst, arith, min}
-use Rattle.std.specs.Prelude.{is_some, is_none, not, ◌&&◌, ◌||◌, filter, map}
-use Rattle.std.specs.Option.{option_or}
-use Rattle.std.proofs.lemmas.Bool.Decides.{nat_tests}
+use Rattle.std.{proofs.{Common.{◌≡◌, ◌≢◌, ◌⊎◌, inl, inr, ℕ, List, [], ◌∷◌, Bool, true, false, Option, Some, None, refl, ap, sym, ◌∙◌, subst, arith, min}, lemmas.Bool.Decides.{nat_tests}}, specs.{Prelude.{is_some, is_none, not, ◌&&◌, ◌||◌, filter, map}, Option.{option_or}}}
 use Rattle.hc_text.proofs.Basics.{bool_cases, or_off_right as or_right, same_some as same_row}
 use Rattle.hc_sparse.specs.Cells.{Covers}
 use Rattle.hc_effects.proofs.Vocabulary.{covers, is_written, bound, is_bound_place, is_bound, offset, hi_of, Tables, Representation, Consumer, Sound, Among, IsBound, IsFirst, IsExclusiveWriter, may_write, bound_kind, bound_as, exclusive, came_alone, has_more, lacks_some, Place, least, lesser, is_of, is_same_kind}
@@ -10,8 +7,7 @@ use Rattle.hc_rules.specs.Admissions.{numbers}
 use Rattle.hc_rules.specs.declared.admission.BoundKind.TheVariants as kind
 use Rattle.hc_event.specs.declared.place.Place.TheVariants as place
 use Rattle.hc_model.specs.Sound as sound
-use Rattle.hc_effects.proofs.HoleLemmas.{covers_all}
-use Rattle.hc_effects.proofs.ExclusiveWriters.{eq-refl, row_of}
+use Rattle.hc_effects.proofs.{HoleLemmas.{covers_all}, ExclusiveWriters.{eq-refl, row_of}}
 
 -- THE LEAST OF A LIST OF ONE NUMBER
 

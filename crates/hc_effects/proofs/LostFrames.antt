@@ -1,17 +1,11 @@
 -- What it comes to that a shared writing is lost: one of those who read it goes on, to the others a failure is due, and where nobody
 -- goes on its exchange is closed.
-use Rattle.std.proofs.Common.{◌≡◌, inl, inr, ℕ, Bool, true, false, Option, Some, None, refl, ap, sym, ◌∙◌}
-use Rattle.std.specs.Prelude.{◌&&◌, not, nat_eq, if◌then◌else◌, is_none, is_some, unwrap_or}
-use Rattle.std.specs.Option.{option_or}
+use Rattle.std.{proofs.Common.{◌≡◌, inl, inr, ℕ, Bool, true, false, Option, Some, None, refl, ap, sym, ◌∙◌}, specs.{Prelude.{◌&&◌, not, nat_eq, if◌then◌else◌, is_none, is_some, unwrap_or}, Option.{option_or}}}
 use Rattle.hc_text.proofs.Basics.{and_right, eqb-same, not_some as none_some, or_none as or_nothing, same_some as same_row, some_inj}
 use Rattle.hc_effects.proofs.Vocabulary.{Cause, BoundBy, fails_in, has_no_survivor, consumer_after, consumer_acted, consumer_settled, own_after, is_number, doomed_key_of, left_with, Entry, family, is_open, becomes_due, Lawful, is_written, reads, Tables, Exchange, Representation, Consumer, starts_over, loses_writing, survivor, goes_on_with}
 use Rattle.hc_event.specs.declared.act.Cause.TheVariants as cause
 use Rattle.hc_event.specs.declared.place.Place.TheVariants as place
-use Rattle.hc_effects.proofs.ExclusiveWriters.{writer_some}
-use Rattle.hc_effects.proofs.PieceKeeps.{eq_cases}
-use Rattle.hc_effects.proofs.PieceServes.{IsQuietActs, acted_quiet}
-use Rattle.hc_effects.proofs.Stops.{writer_open}
-use Rattle.hc_effects.proofs.Untouched.{IsApart, starts_as}
+use Rattle.hc_effects.proofs.{ExclusiveWriters.{writer_some}, PieceKeeps.{eq_cases}, PieceServes.{IsQuietActs, acted_quiet}, Stops.{writer_open}, Untouched.{IsApart, starts_as}}
 
 -- the exchange of a writing
 pub record IsWriter (t : Tables) (r : ℕ) (v : Representation) : Type 0 where

@@ -1,13 +1,9 @@
 -- An open exchange brings no more of a body than there is to come, and what came ends at its reach, within its length.
-use Rattle.std.proofs.Common.{◌≡◌, ◌⊎◌, inl, inr, ℕ, ◌+◌, ◌<◌, ◌≤◌, List, [], length, Bool, true, false, Option, Some, None, refl, ap, sym, ◌∙◌, subst, arith, max, length-append}
-use Rattle.std.specs.Prelude.{if◌then◌else◌, is_some, nat_eq, nat_lt, unwrap_or}
-use Rattle.std.specs.Option.{option_or}
-use Rattle.std.proofs.lemmas.Bool.Decides.{nat_tests}
+use Rattle.std.{proofs.{Common.{◌≡◌, ◌⊎◌, inl, inr, ℕ, ◌+◌, ◌<◌, ◌≤◌, List, [], length, Bool, true, false, Option, Some, None, refl, ap, sym, ◌∙◌, subst, arith, max, length-append}, lemmas.Bool.Decides.{nat_tests}}, specs.{Prelude.{if◌then◌else◌, is_some, nat_eq, nat_lt, unwrap_or}, Option.{option_or}}}
 use Rattle.hc_text.proofs.Basics.{and_right, bool_cases, not_some as none_some, number_not, same_some as same_row, some_inj}
 use Rattle.hc_sparse.specs.Cells.{cells_with}
 use Rattle.hc_sparse.proofs.CellLemmas.{inside-cases}
-use Rattle.hc_range.specs.declared.range.Asked.{Asked}
-use Rattle.hc_range.specs.declared.range.ContentRange.{ContentRange}
+use Rattle.hc_range.specs.declared.range.{Asked.{Asked}, ContentRange.{ContentRange}}
 use Rattle.hc_range.specs.declared.range.ContentRange.TheVariants as range
 use Rattle.hc_effects.proofs.Vocabulary.{Event, Response, HeadCase, Length, Limits, head_case, fits_to_found, fits_part, length_of, base_of, promise_of, is_bad, route_of, content_range_of, piece_refusal, end_refusal, overlong, range_of, has_loss, case_at, head_view, is_founding, is_joining, fits_asker, denial, as_open, Entry, base, promised_bytes, front, family, length_by, Flaw, founded_total, entry_of, Measures, IsMeasured, Owners, new_representation, length_in, Tables, Exchange, Representation, Consumer, Sound, IsAbout, after_accepted}
 use Rattle.hc_event.specs.declared.event.Event.TheVariants as event
@@ -15,18 +11,10 @@ use Rattle.hc_rules.specs.declared.need.Route.TheVariants as route
 use Rattle.hc_rules.specs.Refusals as refusals
 use Rattle.hc_model.specs.Measures as measures
 use Rattle.hc_model.specs.Sound as sound
-use Rattle.hc_effects.proofs.Basics.{false_true}
-use Rattle.hc_effects.proofs.ExchangeFrom.{ExchangeFrom, IsSame, IsHeaded, exchange_from}
+use Rattle.hc_effects.proofs.{Basics.{false_true}, ExchangeFrom.{ExchangeFrom, IsSame, IsHeaded, exchange_from}, Fills.{Fills, fills, Brings, brings, length_same}, FirstKeeps.{case_is, is_new}, FoundBy.{FoundingBy, founding_by}, HeadKeeps.{is_join}, Once.{taken, IsTaken, never}, PartTold.{part_within, whole_base, IsWithin}, RepFrom.{RepFrom, rep_from, IsKept, IsEnded}}
 use Rattle.hc_effects.proofs.ExchangeFrom as exchange
-use Rattle.hc_effects.proofs.Fills.{Fills, fills, Brings, brings, length_same}
 use Rattle.hc_effects.proofs.Fills as fills_by
-use Rattle.hc_effects.proofs.FirstKeeps.{case_is, is_new}
-use Rattle.hc_effects.proofs.FoundBy.{FoundingBy, founding_by}
 use Rattle.hc_effects.proofs.FoundBy as cases
-use Rattle.hc_effects.proofs.HeadKeeps.{is_join}
-use Rattle.hc_effects.proofs.Once.{taken, IsTaken, never}
-use Rattle.hc_effects.proofs.PartTold.{part_within, whole_base, IsWithin}
-use Rattle.hc_effects.proofs.RepFrom.{RepFrom, rep_from, IsKept, IsEnded}
 use Rattle.hc_effects.proofs.RepFrom as rep
 
 -- a part that fits to found tells its length

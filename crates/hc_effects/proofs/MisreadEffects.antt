@@ -1,19 +1,13 @@
 -- What a poll does at which a read of the store fails: its consumer fails, and what it was to read is let go.
-use Rattle.std.proofs.Common.{◌≡◌, ℕ, List, [], ◌∷◌, ◌++◌, Bool, true, false, Option, Some, None, refl, ap, sym, ◌∙◌}
-use Rattle.std.specs.Prelude.{◌||◌, ◌==◌, not, nat_eq, map}
+use Rattle.std.{proofs.Common.{◌≡◌, ℕ, List, [], ◌∷◌, ◌++◌, Bool, true, false, Option, Some, None, refl, ap, sym, ◌∙◌}, specs.Prelude.{◌||◌, ◌==◌, not, nat_eq, map}}
 use Rattle.hc_text.proofs.Basics.{eqb-same, and_off as then_false}
 use Rattle.hc_effects.proofs.Vocabulary.{Act, Event, Limits, Place, fails_in, is_number, Does, with_event, with_consumer, let_go, let_some_go, let_all_go, as_over, left_by, going_with, with_leave, Entry, Flaw, Misreads, becomes_gone, goes_in, Lawful, Tables, Representation, Consumer, loses_what_it_waits_for, after_accepted, with_item_first}
 use Rattle.hc_event.specs.declared.act.Act.TheVariants as act
 use Rattle.hc_event.specs.declared.act.Cause.TheVariants as cause
 use Rattle.hc_event.specs.declared.event.Event.TheVariants as event
 use Rattle.hc_event.specs.declared.place.Place.TheVariants as place
-use Rattle.hc_effects.proofs.ActParts.{IsFarFrom}
-use Rattle.hc_effects.proofs.Basics.{append_none}
-use Rattle.hc_effects.proofs.ConsumerEffects.{representations, two_all}
-use Rattle.hc_effects.proofs.LeaveFrames.{IsFront, e, nothing, far, acts_left, loses_as, goes_by, leaves}
+use Rattle.hc_effects.proofs.{ActParts.{IsFarFrom}, Basics.{append_none}, ConsumerEffects.{representations, two_all}, LeaveFrames.{IsFront, e, nothing, far, acts_left, loses_as, goes_by, leaves}, OfConsumers.{BringsNothing}, SameTables.{is_in, all_closed_is}}
 use Rattle.hc_effects.proofs.LeaveFrames as front_of
-use Rattle.hc_effects.proofs.OfConsumers.{BringsNothing}
-use Rattle.hc_effects.proofs.SameTables.{is_in, all_closed_is}
 
 module _ (limits : Limits) (t : Tables) (law : Lawful t) (now c want : ℕ) (k : Consumer) (row : t.consumer c ≡ Some k) (r : ℕ) where
   abbrev ev : Event

@@ -1,16 +1,11 @@
 -- Each row has a number that was given out, and stands in its list.
-use Rattle.std.proofs.Common.{◌≡◌, inl, inr, ℕ, ◌+◌, ◌<◌, List, Bool, true, false, Option, Some, None, refl, ap, sym, ◌∙◌, arith}
-use Rattle.std.specs.Prelude.{◌&&◌, nat_eq, nat_le, is_some, if◌then◌else◌, option_map}
-use Rattle.std.proofs.lemmas.Bool.Decides.{nat_tests}
+use Rattle.std.{proofs.{Common.{◌≡◌, inl, inr, ℕ, ◌+◌, ◌<◌, List, Bool, true, false, Option, Some, None, refl, ap, sym, ◌∙◌, arith}, lemmas.Bool.Decides.{nat_tests}}, specs.Prelude.{◌&&◌, nat_eq, nat_le, is_some, if◌then◌else◌, option_map}}
 use Rattle.hc_effects.proofs.Vocabulary.{Opening, opening_in, Event, Request, Limits, accepted_acts, case_at, is_founding, consumer_after, consumer_made, denial, is_live, Entry, exchange_after, exchange_made, exchange_in, Flaw, representation_after, founded_at, new_representation, Tables, Exchange, Representation, Consumer, Sound, Among, IsListed, last_start_after, starts_after, opened_after, openings_after, founds, with_item_first}
 use Rattle.hc_event.specs.declared.event.Event.TheVariants as event
 use Rattle.hc_event.specs.declared.act.Refusal.TheVariants as refusal
 use Rattle.hc_rules.specs.Refusals as refusals
 use Rattle.hc_model.specs.Laws.{NumbersAreKept}
-use Rattle.hc_effects.proofs.EventsKeep.{told, cancels, poll_live}
-use Rattle.hc_effects.proofs.Once.{never}
-use Rattle.hc_effects.proofs.PieceKeeps.{eq_cases}
-use Rattle.hc_effects.proofs.PollKeeps.{poll_opens_next}
+use Rattle.hc_effects.proofs.{EventsKeep.{told, cancels, poll_live}, Once.{never}, PieceKeeps.{eq_cases}, PollKeeps.{poll_opens_next}}
 
 -- WHAT IS OPENED HAS THE NEXT NUMBER
 

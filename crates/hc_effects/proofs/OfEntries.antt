@@ -2,8 +2,7 @@
 use Rattle.std.proofs.Common.{◌≡◌, false, ℕ, List, None, ap, sym, ◌∙◌, subst}
 use Rattle.hc_effects.proofs.Vocabulary.{is_denied, Event, Act, Limits, denial, Entry, Flaw, flaw_in, entry_of, Measures, Owners, Tables, IsOwed, may_stand, Sound, after_accepted}
 use Rattle.hc_model.specs.Laws.{KeptByEntries}
-use Rattle.hc_effects.proofs.LossBy.{IsReal}
-use Rattle.hc_effects.proofs.Owed.{acts_are, goes}
+use Rattle.hc_effects.proofs.{LossBy.{IsReal}, Owed.{acts_are, goes}}
 
 abbrev pub KeptByReal : (Tables → Type 0) → Type 0
 KeptByReal P = (limits : Limits) (t : Tables) (now : ℕ) (flaw : Flaw) → Sound t → Owners t → Measures t → (ev : Event) → denial t ev ≡ None → IsReal limits t now ev flaw → P (after_accepted t (entry_of limits t now ev flaw))

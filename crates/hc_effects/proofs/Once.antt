@@ -1,7 +1,5 @@
 -- Delivered once: where a piece is accepted, none of its positions has come.
-use Rattle.std.proofs.Common.{◌≡◌, inl, inr, ℕ, ◌+◌, ◌<◌, ◌≤◌, length, Bool, true, false, Option, Some, None, refl, arith}
-use Rattle.std.specs.Prelude.{is_some, nat_lt, if◌then◌else◌, ◌==◌}
-use Rattle.std.proofs.lemmas.Bool.Decides.{nat_tests}
+use Rattle.std.{proofs.{Common.{◌≡◌, inl, inr, ℕ, ◌+◌, ◌<◌, ◌≤◌, length, Bool, true, false, Option, Some, None, refl, arith}, lemmas.Bool.Decides.{nat_tests}}, specs.Prelude.{is_some, nat_lt, if◌then◌else◌, ◌==◌}}
 use Rattle.hc_text.proofs.Basics.{bool_cases}
 use Rattle.hc_event.specs.declared.act.Refusal.TheVariants as refusal
 use Rattle.hc_effects.proofs.Vocabulary.{as_open, promised_bytes, front, DeliversOnce, Tables, Exchange, Sound, IsPromised, piece_refusal, overlong}

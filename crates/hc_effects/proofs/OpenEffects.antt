@@ -1,22 +1,13 @@
 -- What each poll does that opens an exchange: its number is new, its row, and its consumer owns it.
-use Rattle.std.proofs.Common.{◌≡◌, inl, inr, ℕ, ◌+◌, List, [], ◌∷◌, false, Option, Some, None, refl, ap, sym, ◌∙◌, subst, arith}
-use Rattle.std.specs.Prelude.{◌==◌, nat_eq, if◌then◌else◌}
+use Rattle.std.{proofs.Common.{◌≡◌, inl, inr, ℕ, ◌+◌, List, [], ◌∷◌, false, Option, Some, None, refl, ap, sym, ◌∙◌, subst, arith}, specs.Prelude.{◌==◌, nat_eq, if◌then◌else◌}}
 use Rattle.hc_text.proofs.Basics.{eqb-same, plus_none, some_inj}
 use Rattle.hc_effects.proofs.Vocabulary.{Opening, opening_in, Need, Request, route_of, Limits, Place, consumer_acted, opened_place, unless_bound, current, bypassed_for, Does, with_event, with_consumer, with_opening, just_opened, let_all_go, Entry, exchange_after, exchange_made, aim_from, aim_of, NoFlaw, becomes_gone, Lawful, Opens, acts_of, move_of, bound_to, reads, Tables, Exchange, Representation, Consumer, to_front, binds, is_hole}
 use Rattle.hc_event.specs.declared.event.Event.TheVariants as event
 use Rattle.hc_event.specs.declared.place.Place.TheVariants as place
-use Rattle.hc_effects.proofs.OfConsumers.{BringsNothing, brings_nothing, row_unsaid, binds_as}
+use Rattle.hc_effects.proofs.{OfConsumers.{BringsNothing, brings_nothing, row_unsaid, binds_as}, OpenedAs.{OpenedAs, opened_as}, PieceKeeps.{eq_cases}, PollEffects.{acts_are, nothing_goes, poll_does}, PollKeeps.{poll_opens_next}, Said.{IsOpening}, SameTables.{is_in, waits_for_any}, Untouched.{own_stays, spared_bodiless, exchange_absent}, WaitingNew.{aim_free}}
 use Rattle.hc_effects.proofs.OfConsumers as event_of
-use Rattle.hc_effects.proofs.OpenedAs.{OpenedAs, opened_as}
-use Rattle.hc_effects.proofs.PieceKeeps.{eq_cases}
-use Rattle.hc_effects.proofs.PollEffects.{acts_are, nothing_goes, poll_does}
 use Rattle.hc_effects.proofs.PollEffects as polls
-use Rattle.hc_effects.proofs.PollKeeps.{poll_opens_next}
-use Rattle.hc_effects.proofs.Said.{IsOpening}
 use Rattle.hc_effects.proofs.Said as said
-use Rattle.hc_effects.proofs.SameTables.{is_in, waits_for_any}
-use Rattle.hc_effects.proofs.Untouched.{own_stays, spared_bodiless, exchange_absent}
-use Rattle.hc_effects.proofs.WaitingNew.{aim_free}
 
 module _ (limits : Limits) (t : Tables) (law : Lawful t) (now c want : ℕ) (k : Consumer) (row : t.consumer c ≡ Some k) (x : ℕ) (n : Need) (request : Request) (is : move_of t now want c k ≡ Opens x n request) where
   -- the entry of the poll

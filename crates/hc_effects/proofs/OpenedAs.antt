@@ -1,8 +1,7 @@
 -- What an exchange is opened as: past the store, with the turn, for a first hole, or for a later one of who is bound.
 use Rattle.std.proofs.Common.{◌≡◌, inl, inr, ℕ, ◌+◌, Bool, true, false, cond, Option, Some, None, refl, ap, sym, ◌∙◌, subst}
 use Rattle.hc_text.proofs.Basics.{bool_cases, some_inj}
-use Rattle.hc_text.specs.declared.bytes.Key.{Key}
-use Rattle.hc_text.specs.declared.bytes.MethodName.{MethodName}
+use Rattle.hc_text.specs.declared.bytes.{Key.{Key}, MethodName.{MethodName}}
 use Rattle.hc_range.specs.declared.range.Span.{Span}
 use Rattle.hc_sparse.specs.declared.run.Run.{Run}
 use Rattle.hc_effects.proofs.Vocabulary.{Opening, Request, Response, Need, Why, Plan, ReadStep, route_of, plan_of, read_step, class_of, is_bypassing, is_disabled, range_of, wanted_of, Place, BoundBy, current, row_of, first_hole, Move, Nothing, Fails, Opens, gives, waits_for, opens_hole, shows_stored, plan_view, plan_move, origin_request, conditional_on, current_row, binds_current, hole_of, shows_at, shows_bound, shows_direct, shows_answer, has_joined, move_of, bound_to, Tables, Exchange, Representation, Consumer, Sound, read_view, step_move, later_hole, bound_row}
@@ -15,14 +14,10 @@ use Rattle.hc_rules.specs.declared.request.Wanted.TheVariants as wanted
 use Rattle.hc_event.specs.declared.place.Place.TheVariants as place
 use Rattle.hc_event.specs.declared.place.BoundBy.TheVariants as by_how
 use Rattle.hc_model.specs.Moves as moves
-use Rattle.hc_effects.proofs.Asked.{Asked, AskedBy, plan_asks}
-use Rattle.hc_effects.proofs.MoveBy.{MoveBy, IsHeard, move_by}
+use Rattle.hc_effects.proofs.{Asked.{Asked, AskedBy, plan_asks}, MoveBy.{MoveBy, IsHeard, move_by}, PlanBy.{PlanBy, plan_by}, Said.{IsOpening}, ShownFrom.{candidate_is}}
 use Rattle.hc_effects.proofs.MoveBy as by
-use Rattle.hc_effects.proofs.PlanBy.{PlanBy, plan_by}
 use Rattle.hc_effects.proofs.PlanBy as plans
-use Rattle.hc_effects.proofs.Said.{IsOpening}
 use Rattle.hc_effects.proofs.Said as said
-use Rattle.hc_effects.proofs.ShownFrom.{candidate_is}
 
 pub bypassing_is : (request : Request) → (class_of request).bypassing ≡ is_bypassing request
 unfolding class_of

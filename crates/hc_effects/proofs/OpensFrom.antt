@@ -5,9 +5,8 @@ use Rattle.hc_effects.proofs.Vocabulary.{Opening, Need, route_of, current, Move,
 use Rattle.hc_event.specs.declared.act.Need.TheVariants as need
 use Rattle.hc_rules.specs.declared.need.Route.TheVariants as route
 use Rattle.hc_model.specs.Sound as sound
-use Rattle.hc_effects.proofs.PollTree.{OpensHole, FineMove, fine_polled}
+use Rattle.hc_effects.proofs.{PollTree.{OpensHole, FineMove, fine_polled}, Said.{IsOpening}}
 use Rattle.hc_effects.proofs.PollTree as tree
-use Rattle.hc_effects.proofs.Said.{IsOpening}
 use Rattle.hc_effects.proofs.Said as said
 
 pub record IsHole (n : Need) : Type 0 where

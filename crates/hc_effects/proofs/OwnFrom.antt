@@ -1,7 +1,5 @@
 -- Where the own exchange of a consumer after an entry is from: it was its own, it is opened for it, or a lost writing is left to it.
-use Rattle.std.proofs.Common.{◌≡◌, ◌⊎◌, inl, inr, ℕ, Bool, true, false, Option, Some, None, refl, ap, ◌∙◌, arith}
-use Rattle.std.specs.Prelude.{if◌then◌else◌, ◌==◌, ◌&&◌, not, is_none}
-use Rattle.std.proofs.lemmas.Bool.Decides.{nat_tests}
+use Rattle.std.{proofs.{Common.{◌≡◌, ◌⊎◌, inl, inr, ℕ, Bool, true, false, Option, Some, None, refl, ap, ◌∙◌, arith}, lemmas.Bool.Decides.{nat_tests}}, specs.Prelude.{if◌then◌else◌, ◌==◌, ◌&&◌, not, is_none}}
 use Rattle.hc_text.proofs.Basics.{bool_cases, some_inj}
 use Rattle.hc_effects.proofs.Vocabulary.{Opening, opening_in, Event, Place, BoundBy, case_at, consumer_heard, by_head, by_fault, becomes_shared, by_opening, own_after, left_to, waiting, consumer_acted, consumer_settled, consumer_made, consumer_after, due_after, is_number, Entry, Tables, Exchange, Representation, Consumer, starts_over, loses_writing, survivor}
 use Rattle.hc_event.specs.declared.event.Event.TheVariants as event

@@ -1,24 +1,16 @@
 -- Whose an exchange is stays told: what is opened is of its consumer's key, and an own exchange is of one consumer alone.
-use Rattle.std.proofs.Common.{◌≡◌, inl, inr, ℕ, ◌+◌, Bool, true, false, cond, Option, Some, None, refl, ap, sym, ◌∙◌, subst, arith}
-use Rattle.std.specs.Prelude.{is_some}
+use Rattle.std.{proofs.Common.{◌≡◌, inl, inr, ℕ, ◌+◌, Bool, true, false, cond, Option, Some, None, refl, ap, sym, ◌∙◌, subst, arith}, specs.Prelude.{is_some}}
 use Rattle.hc_text.proofs.Basics.{and_left, and_right, same_some as same_row}
 use Rattle.hc_effects.proofs.Vocabulary.{Opening, opening_in, Event, Request, Response, writer_at, Limits, is_bypassing, Place, loses_in, denial, Entry, exchange_opened, family, Flaw, entry_of, Owners, IsFor, is_written, Tables, Exchange, Representation, Consumer, Sound, after_accepted, loses_writing, survivor}
 use Rattle.hc_event.specs.declared.event.Event.TheVariants as event
 use Rattle.hc_event.specs.declared.place.Place.TheVariants as place
 use Rattle.hc_event.specs.declared.place.BoundBy.TheVariants as by
 use Rattle.hc_model.specs.Owners.{IsOpener}
-use Rattle.hc_effects.proofs.BoundFrom.{BoundFrom, bound_from}
+use Rattle.hc_effects.proofs.{BoundFrom.{BoundFrom, bound_from}, ExchangeFrom.{ExchangeFrom, exchange_from}, Forward.{is_on, is_kept, opened_on}, NumbersKeep.{opens_next}, OpenedAs.{OpenedAs, opened_as}, OwnFrom.{OwnFrom, own_from, IsLeft}, RepFrom.{RepFrom, rep_from}, Said.{opening_by}}
 use Rattle.hc_effects.proofs.BoundFrom as bound
-use Rattle.hc_effects.proofs.ExchangeFrom.{ExchangeFrom, exchange_from}
 use Rattle.hc_effects.proofs.ExchangeFrom as exchange
-use Rattle.hc_effects.proofs.Forward.{is_on, is_kept, opened_on}
-use Rattle.hc_effects.proofs.NumbersKeep.{opens_next}
-use Rattle.hc_effects.proofs.OpenedAs.{OpenedAs, opened_as}
-use Rattle.hc_effects.proofs.OwnFrom.{OwnFrom, own_from, IsLeft}
 use Rattle.hc_effects.proofs.OwnFrom as own
-use Rattle.hc_effects.proofs.RepFrom.{RepFrom, rep_from}
 use Rattle.hc_effects.proofs.RepFrom as rep
-use Rattle.hc_effects.proofs.Said.{opening_by}
 
 module _ (limits : Limits) (t : Tables) (now : ℕ) (flaw : Flaw) (s : Sound t) (o : Owners t) (ev : Event) (goes : denial t ev ≡ None) where
   abbrev e : Entry

@@ -1,15 +1,8 @@
 -- What a part tells: its last position is before the length of the whole, and it promises no more.
-use Rattle.std.proofs.Common.{◌≡◌, inl, inr, ℕ, ◌+◌, ◌-◌, ◌<◌, ◌≤◌, List, [], ◌∷◌, Bool, true, false, cond, Option, Some, None, refl, arith}
-use Rattle.std.specs.Prelude.{nat_eq, nat_lt, nat_le, codes, bytes_eq, if◌then◌else◌, option_map, take, drop}
-use Rattle.std.specs.Option.{option_and_then}
-use Rattle.std.specs.Str.{str_to_ascii_lowercase}
-use Rattle.std.proofs.lemmas.Bool.Decides.{nat_tests}
+use Rattle.std.{proofs.{Common.{◌≡◌, inl, inr, ℕ, ◌+◌, ◌-◌, ◌<◌, ◌≤◌, List, [], ◌∷◌, Bool, true, false, cond, Option, Some, None, refl, arith}, lemmas.Bool.Decides.{nat_tests}}, specs.{Prelude.{nat_eq, nat_lt, nat_le, codes, bytes_eq, if◌then◌else◌, option_map, take, drop}, Option.{option_and_then}, Str.{str_to_ascii_lowercase}}}
 use Rattle.hc_text.proofs.Basics.{bool_cases, not_some as none_some, some_inj}
-use Rattle.hc_fields.specs.FieldElements.{elements_in}
-use Rattle.hc_fields.specs.FieldList.{values_of}
-use Rattle.hc_fields.specs.FirstValues.{only_of}
-use Rattle.hc_range.specs.declared.range.Asked.{Asked}
-use Rattle.hc_range.specs.declared.range.Asked.TheVariants.{FromTo, From, Last}
+use Rattle.hc_fields.specs.{FieldElements.{elements_in}, FieldList.{values_of}, FirstValues.{only_of}}
+use Rattle.hc_range.specs.declared.range.Asked.{Asked, TheVariants.{FromTo, From, Last}}
 use Rattle.hc_range.specs.declared.range.ContentRange.TheVariants as range
 use Rattle.hc_effects.proofs.Vocabulary.{Request, Response, Need, Length, Route, length_of, base_of, promise_of, is_bad, part_length, agrees, content_length_of, has_no_body, tells_part, all_tell, route_of, content_range_of, content_range_in, spec_in, positions_from, positions_by, from_to, number_of, split_at, hyphen}
 use Rattle.hc_rules.specs.declared.length.Length.TheVariants as told

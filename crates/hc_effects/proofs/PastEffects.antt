@@ -5,11 +5,8 @@ use Rattle.hc_event.specs.declared.act.Need.TheVariants as need
 use Rattle.hc_event.specs.declared.event.Event.TheVariants as event
 use Rattle.hc_rules.specs.declared.need.Route.TheVariants as route
 use Rattle.hc_event.specs.declared.place.Place.TheVariants as place
-use Rattle.hc_effects.proofs.Basics.{false_true}
-use Rattle.hc_effects.proofs.OpenEffects.{why, keeps_all, binds_none, about_current}
-use Rattle.hc_effects.proofs.OpenedAs.{Way}
+use Rattle.hc_effects.proofs.{Basics.{false_true}, OpenEffects.{why, keeps_all, binds_none, about_current}, OpenedAs.{Way}, PollEffects.{none_waits}}
 use Rattle.hc_effects.proofs.OpenedAs as opened
-use Rattle.hc_effects.proofs.PollEffects.{none_waits}
 
 -- it bypasses nothing
 plain_past : (n : Need) (request : Request) → route_of n ≡ route.Direct → bypassed_for n request.key ≡ None

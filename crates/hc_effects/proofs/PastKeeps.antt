@@ -1,7 +1,5 @@
 -- Who reads past the store and wasn't shown a head may be shown it, or waits for it.
-use Rattle.std.proofs.Common.{◌≡◌, ◌⊎◌, inl, inr, ℕ, Bool, true, false, Option, Some, None, refl, ap, sym, ◌∙◌, subst, arith}
-use Rattle.std.specs.Prelude.{if◌then◌else◌, is_some, is_none, ◌==◌, ◌&&◌, ◌||◌, not, nat_eq}
-use Rattle.std.proofs.lemmas.Bool.Decides.{nat_tests}
+use Rattle.std.{proofs.{Common.{◌≡◌, ◌⊎◌, inl, inr, ℕ, Bool, true, false, Option, Some, None, refl, ap, sym, ◌∙◌, subst, arith}, lemmas.Bool.Decides.{nat_tests}}, specs.Prelude.{if◌then◌else◌, is_some, is_none, ◌==◌, ◌&&◌, ◌||◌, not, nat_eq}}
 use Rattle.hc_text.proofs.Basics.{bool_cases, not_some as none_some, same_some as same_row, some_inj}
 use Rattle.hc_effects.proofs.Vocabulary.{Opening, opening_in, leaves_in, shows_in, Event, Request, Response, Wait, HeadCase, Route, Wanted, Limits, route_of, piece_refusal, range_of, wanted_of, Place, BoundBy, Showing, showing_in, wait_in, case_at, consumer_heard, consumer_acted, consumer_settled, consumer_made, consumer_after, by_head, by_fault, by_opening, shown_place, waiting, waiting_place, due_after, place_by_case, passed_on, passed_by, kept_by, bound_to_wanted, opened_place, place_for_hole, unless_bound, current, row_of, denial, as_open, Entry, exchange_opened, exchange_in, Flaw, founded_total, entry_of, Owners, IsPast, reads, bound_to, Tables, Exchange, Representation, Consumer, may_stand, Sound, starts_over, after_accepted}
 use Rattle.hc_event.specs.declared.event.Event.TheVariants as event
@@ -14,16 +12,7 @@ use Rattle.hc_rules.specs.Refusals as refusals
 use Rattle.hc_event.specs.declared.place.Place.TheVariants as place
 use Rattle.hc_event.specs.declared.place.BoundBy.TheVariants as by
 use Rattle.hc_model.specs.Owners as owners
-use Rattle.hc_effects.proofs.Basics.{false_true, or_false}
-use Rattle.hc_effects.proofs.ConsumerFilters.{acted}
-use Rattle.hc_effects.proofs.ExchangeFrom.{IsSame, IsHeaded}
-use Rattle.hc_effects.proofs.Forward.{is_on, opened_on, is_untouched}
-use Rattle.hc_effects.proofs.Once.{taken, never}
-use Rattle.hc_effects.proofs.OwnersKeep.{new_number}
-use Rattle.hc_effects.proofs.PieceKeeps.{eq_cases}
-use Rattle.hc_effects.proofs.ToBeShown.{heard_place}
-use Rattle.hc_effects.proofs.Waiters.{IsWaiter, waiter_of, unclosed}
-use Rattle.hc_effects.proofs.WaitingKeeps.{waiting_kept}
+use Rattle.hc_effects.proofs.{Basics.{false_true, or_false}, ConsumerFilters.{acted}, ExchangeFrom.{IsSame, IsHeaded}, Forward.{is_on, opened_on, is_untouched}, Once.{taken, never}, OwnersKeep.{new_number}, PieceKeeps.{eq_cases}, ToBeShown.{heard_place}, Waiters.{IsWaiter, waiter_of, unclosed}, WaitingKeeps.{waiting_kept}}
 
 -- WHERE A DIRECT PLACE IS FROM
 

@@ -1,7 +1,5 @@
 -- A piece, whether the store takes it or loses it, leaves each bound consumer served.
-use Rattle.std.proofs.Common.{◌≡◌, ℕ, ◌+◌, List, [], ◌∷◌, ◌++◌, Bool, true, false, cond, Option, Some, None, refl, ap, sym, ◌∙◌, subst}
-use Rattle.std.specs.Prelude.{map}
-use Rattle.std.specs.Option.{option_or}
+use Rattle.std.{proofs.Common.{◌≡◌, ℕ, ◌+◌, List, [], ◌∷◌, ◌++◌, Bool, true, false, cond, Option, Some, None, refl, ap, sym, ◌∙◌, subst}, specs.{Prelude.{map}, Option.{option_or}}}
 use Rattle.hc_text.proofs.Basics.{plus_none, some_inj}
 use Rattle.hc_effects.proofs.Vocabulary.{opening_in, shows_in, given_in, leaves_in, Act, wait_in, showing_in, loss_acts, consumer_after, consumer_acted, consumer_settled, own_after, Entry, becomes_due, Flaw, NoFlaw, Loses, Misreads, reads, Tables, Consumer, starts_over, BoundBy}
 use Rattle.hc_event.specs.declared.act.Act.TheVariants as act

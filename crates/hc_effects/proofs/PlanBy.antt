@@ -1,6 +1,5 @@
 -- Why a plan is what it is, in all that binds its consumer or opens an exchange for it.
-use Rattle.std.proofs.Common.{◌≡◌, ℕ, true, false, Option, Some, None, refl}
-use Rattle.std.specs.Prelude.{is_none, ◌&&◌}
+use Rattle.std.{proofs.Common.{◌≡◌, ℕ, true, false, Option, Some, None, refl}, specs.Prelude.{is_none, ◌&&◌}}
 use Rattle.hc_text.proofs.Basics.{and_left, and_right, either}
 use Rattle.hc_range.specs.declared.range.Span.{Span}
 use Rattle.hc_effects.proofs.Vocabulary.{Need, Why, Wanted, Plan, Candidate, PlanView, route_of, plan_of, bare_plan, in_time, from_store, by_current, by_why, by_wanted, by_exclusive, by_hole, by_bound, plan_on, why_by}

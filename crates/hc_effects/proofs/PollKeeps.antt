@@ -1,9 +1,7 @@
 -- A poll opens a hole only where it is absent and no other exchange is about it.
-use Rattle.std.proofs.Common.{◌≡◌, inl, inr, ℕ, ◌+◌, ◌<◌, ◌≤◌, List, [], ◌∷◌, ◌++◌, Bool, true, false, cond, Option, Some, None, refl, ap, sym, ◌∙◌, subst, arith}
-use Rattle.std.specs.Prelude.{find, map, ◌&&◌}
+use Rattle.std.{proofs.Common.{◌≡◌, inl, inr, ℕ, ◌+◌, ◌<◌, ◌≤◌, List, [], ◌∷◌, ◌++◌, Bool, true, false, cond, Option, Some, None, refl, ap, sym, ◌∙◌, subst, arith}, specs.Prelude.{find, map, ◌&&◌}}
 use Rattle.hc_text.proofs.Basics.{and_right, both_true as and_true, bool_cases, not_true, same_some as same_row, some_inj}
-use Rattle.hc_sparse.specs.Cells.{Cells, Cell}
-use Rattle.hc_sparse.specs.Stretch.{stretch, stretch_of}
+use Rattle.hc_sparse.specs.{Cells.{Cells, Cell}, Stretch.{stretch, stretch_of}}
 use Rattle.hc_effects.proofs.Vocabulary.{Opening, opening_in, Request, Act, Need, poll_acts, loss_acts, accepted_acts, closing, current, is_usable, is_number, Entry, aim_of, aim_from, Flaw, NoFlaw, Loses, Misreads, stretch_to, Move, Nothing, Asks, Opens, Shows, Gives, Ends, Fails, acts_of, poll_move, offset, Tables, Representation, Consumer, Sound, OneAbout, IsAbout, InHole, IsExclusiveWriter, held_of_lost, after_accepted, Place, Limits}
 use Rattle.hc_event.specs.declared.event.Event.TheVariants as event
 use Rattle.hc_event.specs.declared.act.Act.TheVariants as act
@@ -11,12 +9,8 @@ use Rattle.hc_event.specs.declared.act.Need.TheVariants as need
 use Rattle.hc_model.specs.Moves as moves
 use Rattle.hc_model.specs.Sound.{Waits as StillWaits}
 use Rattle.hc_model.specs.Sound as sound
-use Rattle.hc_effects.proofs.ExclusiveWriters.{IsAtHole, has_exclusive_writer, none_about, none_about_hole}
-use Rattle.hc_effects.proofs.QuietKeeps.{OpensWell, waits_kept, one_about_kept}
-use Rattle.hc_effects.proofs.HolesOpened.{first_absent, later_absent}
-use Rattle.hc_effects.proofs.PollTree.{OpensHole, FineMove, fine_polled}
+use Rattle.hc_effects.proofs.{ExclusiveWriters.{IsAtHole, has_exclusive_writer, none_about, none_about_hole}, QuietKeeps.{OpensWell, waits_kept, one_about_kept}, HolesOpened.{first_absent, later_absent}, PollTree.{OpensHole, FineMove, fine_polled}, Basics.{number_yes as is_same}}
 use Rattle.hc_effects.proofs.PollTree as tree
-use Rattle.hc_effects.proofs.Basics.{number_yes as is_same}
 
 -- WHAT IS CURRENT
 

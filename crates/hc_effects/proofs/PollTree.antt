@@ -1,14 +1,8 @@
 -- What a poll may open: a first hole where nobody reads, or a later hole where it is the exclusive writer.
-use Rattle.std.proofs.Common.{◌≡◌, ◌≢◌, inl, inr, ℕ, ◌+◌, ◌<◌, List, [], ◌∷◌, Bool, true, false, cond, Option, Some, None, refl, ap, sym, ◌∙◌, subst, arith}
-use Rattle.std.specs.Prelude.{if◌then◌else◌, is_some}
-use Rattle.std.specs.Option.{option_and_then, option_map}
-use Rattle.std.proofs.lemmas.Bool.Decides.{nat_tests}
+use Rattle.std.{proofs.{Common.{◌≡◌, ◌≢◌, inl, inr, ℕ, ◌+◌, ◌<◌, List, [], ◌∷◌, Bool, true, false, cond, Option, Some, None, refl, ap, sym, ◌∙◌, subst, arith}, lemmas.Bool.Decides.{nat_tests}}, specs.{Prelude.{if◌then◌else◌, is_some}, Option.{option_and_then, option_map}}}
 use Rattle.hc_text.proofs.Basics.{bool_cases, cond_false, none_of as not_some, some_inj}
 use Rattle.hc_range.specs.declared.range.Span.{Span}
-use Rattle.hc_sparse.specs.Cells.{Cells, Cell}
-use Rattle.hc_sparse.specs.Runs.{end_of}
-use Rattle.hc_sparse.specs.Stretch.{stretch, stretch_of}
-use Rattle.hc_sparse.specs.declared.run.Run.{Run}
+use Rattle.hc_sparse.specs.{Cells.{Cells, Cell}, Runs.{end_of}, Stretch.{stretch, stretch_of}, declared.run.Run.{Run}}
 use Rattle.hc_effects.proofs.Vocabulary.{Request, Response, Need, Wait, Why, Cause, Plan, Candidate, ReadStep, ReadView, least, lesser, read_step, is_at_end, hole_end, stored_or, held_or, fails_or, waits_or, Place, BoundBy, Tables, Exchange, Representation, Consumer, current, row_of, first_hole, hole_at, next_from, bound, bound_to, offset, hi_of, own_open, source, aim_from, Move, Nothing, Asks, Opens, Shows, Gives, Ends, Fails, opens_hole, shows_stored, gives, waits_for, plan_view, plan_move, planned_move, candidate, candidate_at, hole_of, binds_current, bound_row, stored_ahead, stored_from, run_held_for, held_at, held_of_lost, read_view, later_hole, step_move, reading, most, shows_answer, shows_direct, shows_bound, shows_at, shows_head, has_joined, if_headless, waits_for_head, or_else, by_place, poll_move, Sound, IsToBeShown}
 use Rattle.hc_event.specs.declared.act.Need.TheVariants as need
 use Rattle.hc_rules.specs.declared.reading.ReadStep.TheVariants as step
@@ -18,9 +12,7 @@ use Rattle.hc_event.specs.declared.place.BoundBy.TheVariants as by
 use Rattle.hc_model.specs.Holes.{end_by}
 use Rattle.hc_model.specs.Moves as moves
 use Rattle.hc_model.specs.Sound as sound
-use Rattle.hc_effects.proofs.Joining.{mix}
-use Rattle.hc_effects.proofs.ExclusiveWriters.{IsAtHole}
-use Rattle.hc_effects.proofs.PlanTree.{IsFree, Fine, fine_plan}
+use Rattle.hc_effects.proofs.{Joining.{mix}, ExclusiveWriters.{IsAtHole}, PlanTree.{IsFree, Fine, fine_plan}}
 use Rattle.hc_effects.proofs.PlanTree as plans
 
 -- why a poll of c may open an exchange for a hole

@@ -1,7 +1,6 @@
 -- Events that bring neither a head nor a piece keep what open exchanges are still to bring absent, and one exchange at most about each
 -- representation, if the exchange that they open is alone about its hole, which is absent.
-use Rattle.std.proofs.Common.{◌≡◌, inl, inr, ℕ, ◌≤◌, List, [], Bool, true, false, cond, Option, Some, None, refl, ap, sym, ◌∙◌, subst}
-use Rattle.std.specs.Prelude.{is_some, nat_eq, not}
+use Rattle.std.{proofs.Common.{◌≡◌, inl, inr, ℕ, ◌≤◌, List, [], Bool, true, false, cond, Option, Some, None, refl, ap, sym, ◌∙◌, subst}, specs.Prelude.{is_some, nat_eq, not}}
 use Rattle.hc_text.proofs.Basics.{and_right, same_some as same_row, some_inj}
 use Rattle.hc_effects.proofs.Vocabulary.{Opening, opening_in, closes_in, Event, Act, Entry, exchange_after, exchange_heard, exchange_acted, exchange_made, aim_of, base, promised_bytes, front, family, representation_after, representation_heard, founded_at, with_total_if_none, length_in, Tables, Exchange, Representation, Waits, Sound, OneAbout, IsAbout, IsPromised, InHole, after_accepted}
 use Rattle.hc_event.specs.declared.event.Event.TheVariants as event

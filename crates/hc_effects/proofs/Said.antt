@@ -1,6 +1,5 @@
 -- Whatever the acts of an accepted event say of a consumer, its poll says, by its move.
-use Rattle.std.proofs.Common.{◌≡◌, inl, inr, ℕ, List, [], ◌∷◌, ◌++◌, true, Option, Some, None, refl, ap, sym, ◌∙◌, subst}
-use Rattle.std.specs.Prelude.{map, ◌||◌, nat_eq}
+use Rattle.std.{proofs.Common.{◌≡◌, inl, inr, ℕ, List, [], ◌∷◌, ◌++◌, true, Option, Some, None, refl, ap, sym, ◌∙◌, subst}, specs.Prelude.{map, ◌||◌, nat_eq}}
 use Rattle.hc_text.proofs.Basics.{not_some as none_some, some_inj}
 use Rattle.hc_effects.proofs.Vocabulary.{Opening, opening_in, leaves_in, shows_in, Event, Request, Response, Act, Cause, Need, Wait, Why, Limits, Showing, showing_in, wait_in, accepted_acts, poll_acts, loss_acts, closing, denial, is_live, Flaw, NoFlaw, Loses, Misreads, Move, Nothing, Asks, Opens, Shows, Gives, Ends, Fails, acts_of, move_of, Tables, Consumer, Sound, evicted}
 use Rattle.hc_event.specs.declared.event.Event.TheVariants as event
@@ -9,10 +8,7 @@ use Rattle.hc_event.specs.declared.act.Cause.TheVariants as cause
 use Rattle.hc_event.specs.declared.act.Wait.TheVariants as wait
 use Rattle.hc_rules.specs.Refusals as refusals
 use Rattle.hc_model.specs.Moves as moves
-use Rattle.hc_effects.proofs.Basics.{false_true}
-use Rattle.hc_effects.proofs.EventsKeep.{poll_live}
-use Rattle.hc_effects.proofs.PieceKeeps.{eq_cases}
-use Rattle.hc_effects.proofs.PieceServes.{IsQuietActs, quiet_acts}
+use Rattle.hc_effects.proofs.{Basics.{false_true}, EventsKeep.{poll_live}, PieceKeeps.{eq_cases}, PieceServes.{IsQuietActs, quiet_acts}}
 
 -- ACTS THAT SAY NOTHING TO A CONSUMER
 

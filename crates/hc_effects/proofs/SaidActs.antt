@@ -1,14 +1,11 @@
 -- The acts that the closings see, beside all the acts of an entry: who leaves, and whether something is lost.
-use Rattle.std.proofs.Common.{◌≡◌, ℕ, List, [], ◌∷◌, ◌++◌, Bool, true, false, Some, None, refl, ap, sym, ◌∙◌, arith}
-use Rattle.std.specs.Prelude.{map, ◌||◌, nat_eq}
-use Rattle.std.proofs.lemmas.Bool.Decides.{nat_tests}
+use Rattle.std.{proofs.{Common.{◌≡◌, ℕ, List, [], ◌∷◌, ◌++◌, Bool, true, false, Some, None, refl, ap, sym, ◌∙◌, arith}, lemmas.Bool.Decides.{nat_tests}}, specs.Prelude.{map, ◌||◌, nat_eq}}
 use Rattle.hc_text.proofs.Basics.{or_false}
 use Rattle.hc_effects.proofs.Vocabulary.{leaves_in, Event, Act, Limits, has_loss, leaver_in, accepted_acts, poll_acts, loss_acts, closing, leaver_by, Flaw, NoFlaw, Loses, Misreads, Move, Nothing, Asks, Opens, Shows, Gives, Ends, Fails, acts_of, poll_move, Tables, Sound, evicted}
 use Rattle.hc_event.specs.declared.event.Event.TheVariants as event
 use Rattle.hc_event.specs.declared.act.Act.TheVariants as act
 use Rattle.hc_model.specs.Moves as moves
-use Rattle.hc_effects.proofs.Closed.{before}
-use Rattle.hc_effects.proofs.PieceServes.{quiet_acts}
+use Rattle.hc_effects.proofs.{Closed.{before}, PieceServes.{quiet_acts}}
 
 -- LOSSES
 

@@ -1,8 +1,6 @@
 -- Tables whose parts are the same are the same, and what lists of effects come to.
-use Rattle.std.proofs.Common.{◌≡◌, inl, inr, ℕ, List, [], ◌∷◌, Bool, true, false, Option, Some, None, refl, ap, ap₂, sym, ◌∙◌}
+use Rattle.std.{proofs.Common.{◌≡◌, inl, inr, ℕ, List, [], ◌∷◌, Bool, true, false, Option, Some, None, refl, ap, ap₂, sym, ◌∙◌}, specs.{Prelude.{◌==◌, ◌||◌, if◌then◌else◌, option_map}, Option.{option_or}}}
 use mathlib.Core.Path.{fun_ext}
-use Rattle.std.specs.Prelude.{◌==◌, ◌||◌, if◌then◌else◌, option_map}
-use Rattle.std.specs.Option.{option_or}
 use Rattle.hc_effects.proofs.Vocabulary.{Cause, Place, back_in_line, is_number, back_from, as_gone, let_go, let_all_go, let_some_go, over, tables_after_close, all_closed, failing, with_length, with_total_if_none, Tables, Exchange, Representation, Consumer, with_item_first}
 use Rattle.hc_event.specs.declared.place.Place.TheVariants as place
 use Rattle.hc_model.specs.Effects.{waits_for}

@@ -1,24 +1,12 @@
 -- What it does that a consumer leaves and the seal of what it leaves fails: that is lost, and let go.
-use Rattle.std.proofs.Common.{◌≡◌, inl, inr, ℕ, List, [], ◌∷◌, ◌++◌, Bool, true, false, Option, Some, None, refl, ap, sym, ◌∙◌, subst}
-use Rattle.std.specs.Prelude.{◌||◌, ◌==◌, nat_eq, if◌then◌else◌, map, option_map}
+use Rattle.std.{proofs.Common.{◌≡◌, inl, inr, ℕ, List, [], ◌∷◌, ◌++◌, Bool, true, false, Option, Some, None, refl, ap, sym, ◌∙◌, subst}, specs.Prelude.{◌||◌, ◌==◌, nat_eq, if◌then◌else◌, map, option_map}}
 use Rattle.hc_text.proofs.Basics.{eqb-same, not_some as none_some}
 use Rattle.hc_effects.proofs.Vocabulary.{Act, Cause, LostKind, Event, Limits, Place, loses_in, answer_acts, is_number, Does, with_event, with_consumer, with_representation, let_go, as_gone, as_over, left_by, is_unkeepable, going_with, with_leave, lost_to, Entry, family, Flaw, Loses, becomes_gone, Lawful, Ends, Fails, acts_of, move_of, poll_move, representation_after, representation_acted, Tables, Exchange, Representation, Consumer, loses_what_it_waits_for, after_accepted, with_item_first, exclusive}
 use Rattle.hc_event.specs.declared.act.Act.TheVariants as act
 use Rattle.hc_event.specs.declared.event.Event.TheVariants as event
 use Rattle.hc_event.specs.declared.place.Place.TheVariants as place
-use Rattle.hc_effects.proofs.ActParts.{IsFarFrom}
-use Rattle.hc_effects.proofs.Basics.{number_is}
-use Rattle.hc_effects.proofs.ConsumerEffects.{waits_as}
-use Rattle.hc_effects.proofs.FailsTold.{fails_told}
-use Rattle.hc_effects.proofs.KeyActs.{test_some}
-use Rattle.hc_effects.proofs.LeaveFrames.{IsFront, e, nothing, far, acts_left, loses_as, goes_by, leaves}
+use Rattle.hc_effects.proofs.{ActParts.{IsFarFrom}, Basics.{number_is}, ConsumerEffects.{waits_as}, FailsTold.{fails_told}, KeyActs.{test_some}, LeaveFrames.{IsFront, e, nothing, far, acts_left, loses_as, goes_by, leaves}, LeftBy.{left_passed}, OfConsumers.{BringsNothing}, PieceKeeps.{eq_cases}, PollEffects.{loses_none}, SameTables.{is_in, waits_for_any, all_closed_is}, Untouched.{representation_frame, representation_absent}}
 use Rattle.hc_effects.proofs.LeaveFrames as front_of
-use Rattle.hc_effects.proofs.LeftBy.{left_passed}
-use Rattle.hc_effects.proofs.OfConsumers.{BringsNothing}
-use Rattle.hc_effects.proofs.PieceKeeps.{eq_cases}
-use Rattle.hc_effects.proofs.PollEffects.{loses_none}
-use Rattle.hc_effects.proofs.SameTables.{is_in, waits_for_any, all_closed_is}
-use Rattle.hc_effects.proofs.Untouched.{representation_frame, representation_absent}
 
 module _ (limits : Limits) (t : Tables) (law : Lawful t) (now c : ℕ) (k : Consumer) (row : t.consumer c ≡ Some k) (x : ℕ) (w : Exchange) (r : ℕ) (v : Representation) (kind : LostKind) (left : left_by t c k ≡ Some x) (is_row : t.exchange x ≡ Some w) (of_family : family x w ≡ r) (there : t.representation r ≡ Some v) (kept : v.is_lost ≡ false) where
   module _ (ev : Event) (front : List Act) (is : IsFront c ev None front) (says : answer_acts t now ev (Loses r kind) ≡ front) where

@@ -1,8 +1,5 @@
 -- Whoever is bound and has nothing due reads with others, is the exclusive writer, or has all that it needs.
-use Rattle.std.proofs.Common.{◌≡◌, ◌⊎◌, inl, inr, ℕ, ◌+◌, ◌≤◌, List, [], length, Bool, true, false, Option, Some, None, refl, ap, sym, ◌∙◌, subst, arith}
-use Rattle.std.specs.Prelude.{if◌then◌else◌, is_some, is_none, ◌==◌, ◌&&◌, ◌||◌, not, nat_eq, unwrap_or}
-use Rattle.std.specs.Option.{option_or}
-use Rattle.std.proofs.lemmas.Bool.Decides.{nat_tests}
+use Rattle.std.{proofs.{Common.{◌≡◌, ◌⊎◌, inl, inr, ℕ, ◌+◌, ◌≤◌, List, [], length, Bool, true, false, Option, Some, None, refl, ap, sym, ◌∙◌, subst, arith}, lemmas.Bool.Decides.{nat_tests}}, specs.{Prelude.{if◌then◌else◌, is_some, is_none, ◌==◌, ◌&&◌, ◌||◌, not, nat_eq, unwrap_or}, Option.{option_or}}}
 use Rattle.hc_text.proofs.Basics.{both_true as and_both, and_left, and_right, bool_cases, not_some as none_some, same_some as same_row, some_inj}
 use Rattle.hc_sparse.specs.Cells.{Cells, Covers, cells_with}
 use Rattle.hc_sparse.proofs.CellLemmas.{inside-cases}
@@ -13,40 +10,13 @@ use Rattle.hc_rules.specs.declared.heads.HeadCase.TheVariants as case
 use Rattle.hc_event.specs.declared.place.Place.TheVariants as place
 use Rattle.hc_event.specs.declared.place.BoundBy.TheVariants as by
 use Rattle.hc_model.specs.Sound as sound
-use Rattle.hc_effects.proofs.ApartKeeps.{written_by, is_on}
-use Rattle.hc_effects.proofs.Basics.{false_true, number_is}
-use Rattle.hc_effects.proofs.BoundFrom.{BoundFrom, IsRow, IsFounded, IsFirstHole, IsShown, bound_from}
+use Rattle.hc_effects.proofs.{ApartKeeps.{written_by, is_on}, Basics.{false_true, number_is}, BoundFrom.{BoundFrom, IsRow, IsFounded, IsFirstHole, IsShown, bound_from}, BoundKeeps.{planned_at}, Closed.{before}, ConsumerFilters.{acted}, Dues.{due_before, undue_parts}, EndsKeep.{known_kept, measures_kept}, Fills.{Fills, fills}, FirstKeeps.{IsNew, came_kept, case_of_head, case_is, is_new, open_free, whole_200, replaced_200}, FoundBy.{CaseBy}, Forward.{after_is}, HoleLemmas.{covers_all}, LossBy.{IsReal, IsSealing, sealed_loss, seals_one, fresh}, LossServes.{survives}, Losses.{HasRest, goes_on_or_rests}, OwnersKeep.{is_opened}, ExclusiveWriters.{writer_some, none_about}, PollKeeps.{current_stays}, RepFrom.{RepFrom, rep_from, IsKept, IsResumed}, Said.{ShowsBy, leaving_by, showing_by}, SaidActs.{leaver_leaves}, ShownFrom.{ShownAs, IsPlanned}, Stops.{writer_about}, Unclosed.{had_to}, Waiters.{waiter_of, doomed_same, case_same}, WriterEnds.{all_stored}, WritingStops.{IsAll}}
 use Rattle.hc_effects.proofs.BoundFrom as from
-use Rattle.hc_effects.proofs.BoundKeeps.{planned_at}
-use Rattle.hc_effects.proofs.Closed.{before}
-use Rattle.hc_effects.proofs.ConsumerFilters.{acted}
-use Rattle.hc_effects.proofs.Dues.{due_before, undue_parts}
-use Rattle.hc_effects.proofs.EndsKeep.{known_kept, measures_kept}
-use Rattle.hc_effects.proofs.Fills.{Fills, fills}
 use Rattle.hc_effects.proofs.Fills as fills_by
-use Rattle.hc_effects.proofs.FirstKeeps.{IsNew, came_kept, case_of_head, case_is, is_new, open_free, whole_200, replaced_200}
-use Rattle.hc_effects.proofs.FoundBy.{CaseBy}
 use Rattle.hc_effects.proofs.FoundBy as cases
-use Rattle.hc_effects.proofs.Forward.{after_is}
 use Rattle.hc_effects.proofs.Forward as forward
-use Rattle.hc_effects.proofs.HoleLemmas.{covers_all}
-use Rattle.hc_effects.proofs.LossBy.{IsReal, IsSealing, sealed_loss, seals_one, fresh}
-use Rattle.hc_effects.proofs.LossServes.{survives}
-use Rattle.hc_effects.proofs.Losses.{HasRest, goes_on_or_rests}
-use Rattle.hc_effects.proofs.OwnersKeep.{is_opened}
-use Rattle.hc_effects.proofs.ExclusiveWriters.{writer_some, none_about}
-use Rattle.hc_effects.proofs.PollKeeps.{current_stays}
-use Rattle.hc_effects.proofs.RepFrom.{RepFrom, rep_from, IsKept, IsResumed}
 use Rattle.hc_effects.proofs.RepFrom as rep
-use Rattle.hc_effects.proofs.Said.{ShowsBy, leaving_by, showing_by}
-use Rattle.hc_effects.proofs.SaidActs.{leaver_leaves}
-use Rattle.hc_effects.proofs.ShownFrom.{ShownAs, IsPlanned}
 use Rattle.hc_effects.proofs.ShownFrom as shown_as
-use Rattle.hc_effects.proofs.Stops.{writer_about}
-use Rattle.hc_effects.proofs.Unclosed.{had_to}
-use Rattle.hc_effects.proofs.Waiters.{waiter_of, doomed_same, case_same}
-use Rattle.hc_effects.proofs.WriterEnds.{all_stored}
-use Rattle.hc_effects.proofs.WritingStops.{IsAll}
 
 -- what was written over stays there
 pub written_covers : (at x lo hi : ℕ) (bytes : List ℕ) (f : Cells) → Covers f lo hi → Covers (cells_with at x bytes f) lo hi

@@ -1,8 +1,6 @@
 -- What a piece does whose write is refused while it is written for several: one goes on alone, if one can, and the others fail.
-use Rattle.std.proofs.Common.{◌≡◌, inl, inr, ℕ, ◌+◌, List, [], ◌∷◌, ◌++◌, Bool, true, false, Option, Some, None, refl, ap, sym, ◌∙◌, subst}
+use Rattle.std.{proofs.Common.{◌≡◌, inl, inr, ℕ, ◌+◌, List, [], ◌∷◌, ◌++◌, Bool, true, false, Option, Some, None, refl, ap, sym, ◌∙◌, subst}, specs.{Prelude.{◌&&◌, ◌||◌, ◌==◌, not, nat_eq, length, is_some, is_none, if◌then◌else◌, map, filter, reverse, option_map}, Option.{option_or}}}
 use mathlib.Core.Path.{fun_ext}
-use Rattle.std.specs.Prelude.{◌&&◌, ◌||◌, ◌==◌, not, nat_eq, length, is_some, is_none, if◌then◌else◌, map, filter, reverse, option_map}
-use Rattle.std.specs.Option.{option_or}
 use Rattle.hc_text.proofs.Basics.{both_true as and_both, eqb-same, not_some as none_some, or_none as or_nothing, same_some as same_row, some_inj, and_off as then_false}
 use Rattle.hc_event.specs.declared.act.Act.TheVariants as act
 use Rattle.hc_effects.proofs.Vocabulary.{Cause, LostKind, piece_refusal, Limits, Place, BoundBy, loses_in, loss_acts, closing, closes_row, has_no_survivor, own_after, left_to, is_number, denial, as_open, Does, with_event, with_exchange, with_representation, left_with, if_bound, writing_lost, let_go, let_all_go, over, all_closed, lost_to, unless_reached, Entry, with_piece, family, front, becomes_due, cause_of_loss, cause_by_loss, Flaw, Loses, beside, becomes_gone, Lawful, is_bound_place, is_written, reads, with_stored_bytes, Tables, Exchange, Representation, Consumer, with_item_first, evicted, survivor, loses_writing}
@@ -11,24 +9,7 @@ use Rattle.hc_event.specs.declared.event.Event.TheVariants as event
 use Rattle.hc_rules.specs.Refusals as refusals
 use Rattle.hc_event.specs.declared.place.Place.TheVariants as place
 use Rattle.hc_model.specs.Sound as sound
-use Rattle.hc_effects.proofs.ApartKeeps.{is_on}
-use Rattle.hc_effects.proofs.Basics.{false_true, number_yes}
-use Rattle.hc_effects.proofs.Closed.{reversed}
-use Rattle.hc_effects.proofs.Dues.{stop_none}
-use Rattle.hc_effects.proofs.FewClosings.{ClosesLittle, closes_nothing}
-use Rattle.hc_effects.proofs.Frames.{undoomed}
-use Rattle.hc_effects.proofs.OfConsumers.{one_of, descends_once}
-use Rattle.hc_effects.proofs.Once.{IsTaken, taken}
-use Rattle.hc_effects.proofs.ExclusiveWriters.{writer_some}
-use Rattle.hc_effects.proofs.PieceEffects.{it, piece_goes, piece_brings, rows_by, lost_row}
-use Rattle.hc_effects.proofs.PieceKeeps.{eq_cases}
-use Rattle.hc_effects.proofs.SameTables.{is_in, back_from_any, all_closed_is}
-use Rattle.hc_effects.proofs.Stops.{writer_about}
-use Rattle.hc_effects.proofs.Sums.{reverse_once}
-use Rattle.hc_effects.proofs.Tests.{and_false}
-use Rattle.hc_effects.proofs.ToldFrames.{pieces, says_little, beside_same, consumer_by, told_by, told_does}
-use Rattle.hc_effects.proofs.Untouched.{IsSpared, loss_spared}
-use Rattle.hc_effects.proofs.ActParts.{leaver_lost}
+use Rattle.hc_effects.proofs.{ApartKeeps.{is_on}, Basics.{false_true, number_yes}, Closed.{reversed}, Dues.{stop_none}, FewClosings.{ClosesLittle, closes_nothing}, Frames.{undoomed}, OfConsumers.{one_of, descends_once}, Once.{IsTaken, taken}, ExclusiveWriters.{writer_some}, PieceEffects.{it, piece_goes, piece_brings, rows_by, lost_row}, PieceKeeps.{eq_cases}, SameTables.{is_in, back_from_any, all_closed_is}, Stops.{writer_about}, Sums.{reverse_once}, Tests.{and_false}, ToldFrames.{pieces, says_little, beside_same, consumer_by, told_by, told_does}, Untouched.{IsSpared, loss_spared}, ActParts.{leaver_lost}}
 
 module _ (limits : Limits) (t : Tables) (law : Lawful t) (now x : ℕ) (bytes : List ℕ) (w : Exchange) (row : t.exchange x ≡ Some w) (accepts : denial t (event.Piece x bytes) ≡ None) (r : ℕ) (v : Representation) (of_r : family x w ≡ r) (there : t.representation r ≡ Some v) (kind : LostKind) (on : is_written t v ≡ true) where
   abbrev ev : Rattle.hc_event.specs.declared.event.Event.Event

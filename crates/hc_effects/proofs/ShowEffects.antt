@@ -5,12 +5,9 @@ use Rattle.hc_effects.proofs.Vocabulary.{Why, Response, Limits, consumer_acted, 
 use Rattle.hc_event.specs.declared.event.Event.TheVariants as event
 use Rattle.hc_event.specs.declared.place.Place.TheVariants as place
 use Rattle.hc_event.specs.declared.place.BoundBy.TheVariants as by
-use Rattle.hc_effects.proofs.Basics.{false_true}
-use Rattle.hc_effects.proofs.OfConsumers.{BringsNothing, brings_nothing, binds_as, exchanges_stay}
+use Rattle.hc_effects.proofs.{Basics.{false_true}, OfConsumers.{BringsNothing, brings_nothing, binds_as, exchanges_stay}, PollEffects.{none_waits, nothing_goes, poll_does}, Untouched.{own_stays, spared_bodiless}}
 use Rattle.hc_effects.proofs.OfConsumers as event_of
-use Rattle.hc_effects.proofs.PollEffects.{none_waits, nothing_goes, poll_does}
 use Rattle.hc_effects.proofs.PollEffects as polls
-use Rattle.hc_effects.proofs.Untouched.{own_stays, spared_bodiless}
 
 module _ (limits : Limits) (t : Tables) (law : Lawful t) (now c want : ℕ) (k : Consumer) (row : t.consumer c ≡ Some k) (r : ℕ) (why : Why) (head : Response) (lo : ℕ) (hi : Option ℕ) (is : move_of t now want c k ≡ Shows r why head lo hi) where
   abbrev e : Entry

@@ -1,7 +1,5 @@
 -- A consumer is shown one head at most, and given nothing before that.
-use Rattle.std.proofs.Common.{◌≡◌, inl, inr, ℕ, ◌≤◌, List, [], ◌∷◌, ◌++◌, length, Bool, true, false, cond, Option, Some, None, refl, ap, sym, ◌∙◌, subst, arith}
-use Rattle.std.specs.Prelude.{map, not, is_none, ◌==◌}
-use Rattle.std.specs.Option.{option_and_then}
+use Rattle.std.{proofs.Common.{◌≡◌, inl, inr, ℕ, ◌≤◌, List, [], ◌∷◌, ◌++◌, length, Bool, true, false, cond, Option, Some, None, refl, ap, sym, ◌∙◌, subst, arith}, specs.{Prelude.{map, not, is_none, ◌==◌}, Option.{option_and_then}}}
 use Rattle.hc_text.proofs.Basics.{bool_cases, cond_false, cond_true, same_some as same_row, some_inj}
 use Rattle.hc_range.specs.declared.range.Span.{Span}
 use Rattle.hc_sparse.specs.declared.run.Run.{Run}
@@ -14,9 +12,7 @@ use Rattle.hc_rules.specs.declared.reading.ReadStep.TheVariants as step
 use Rattle.hc_event.specs.declared.place.Place.TheVariants as place
 use Rattle.hc_event.specs.declared.place.BoundBy.TheVariants as by
 use Rattle.hc_model.specs.Moves as moves
-use Rattle.hc_effects.proofs.Named.{IsFar, far_told, far_poll, far_closes, far_lost}
-use Rattle.hc_effects.proofs.PieceKeeps.{eq_cases}
-use Rattle.hc_effects.proofs.ReadFilters.{shows_are}
+use Rattle.hc_effects.proofs.{Named.{IsFar, far_told, far_poll, far_closes, far_lost}, PieceKeeps.{eq_cases}, ReadFilters.{shows_are}}
 
 -- A MOVE THAT SHOWS, AND ONE THAT GIVES
 

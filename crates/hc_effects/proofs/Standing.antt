@@ -1,24 +1,15 @@
 -- Who isn't spoken to stands where it stood, and what is current stays so.
-use Rattle.std.proofs.Common.{◌≡◌, inl, inr, ℕ, ◌+◌, List, [], ◌∷◌, ◌++◌, length, Bool, true, false, Option, Some, None, refl, ap, sym, ◌∙◌, arith}
-use Rattle.std.specs.Prelude.{find, filter, bytes_eq, is_some, nat_eq, ◌||◌, ◌&&◌, not, if◌then◌else◌}
-use Rattle.std.proofs.lemmas.Bool.Decides.{nat_tests}
+use Rattle.std.{proofs.{Common.{◌≡◌, inl, inr, ℕ, ◌+◌, List, [], ◌∷◌, ◌++◌, length, Bool, true, false, Option, Some, None, refl, ap, sym, ◌∙◌, arith}, lemmas.Bool.Decides.{nat_tests}}, specs.{Prelude.{find, filter, bytes_eq, is_some, nat_eq, ◌||◌, ◌&&◌, not, if◌then◌else◌}, Option.{option_or}}}
 use Rattle.hc_effects.proofs.Vocabulary.{Opening, opening_in, leaves_in, shows_in, given_in, Act, Event, Response, Cause, Limits, is_same_number, Place, Showing, showing_in, has_loss, accepted_acts, answer_acts, loss_acts, close_acts, is_asked, case_at, case_of, closing, consumer_heard, by_head, by_fault, by_opening, waiting, shown_place, own_after, left_to, consumer_acted, consumer_settled, consumer_made, consumer_after, back_in_line, current, is_usable, denial, Entry, doomed_key_of, is_key, exchange_in, exchange_at, is_for, Flaw, is_event_for, beside, StartsOverBy, becomes_due, cause_of_loss, cause_by_loss, cause_of_head, becomes_gone, goes_in, bound, is_bound, reads, source, founded_at, new_representation, representation_after, Tables, Exchange, Representation, Consumer, Sound, Among, starts_over, sends_back, loses_what_it_waits_for, after_accepted, founds, with_item_first, starts_after, evicted}
 use Rattle.hc_event.specs.declared.event.Event.TheVariants as event
-use Rattle.std.specs.Option.{option_or}
 use Rattle.hc_text.proofs.Basics.{and_left, and_right, bool_cases, not_some as none_some, or_cases, plus_none, some_inj}
 use Rattle.hc_rules.proofs.RangeReads.{bytes_eq-same}
 use Rattle.hc_event.specs.declared.place.Place.TheVariants as place
 use Rattle.hc_model.specs.Frames.{IsEntry, StandersStay, StartingOverIsCaused, loses_row, loses_reading, is_hit, ReadersStay, goes_back, has_passed_in, OthersStandStill, BoundStay, FoundsOther, unless_gone, CurrentStays, FoundedIsCurrent}
 use Rattle.hc_model.specs.Frames as frames
-use Rattle.hc_effects.proofs.ActParts.{IsAnswer, IsFarFrom, answer_is, said_is, far_evicted, far_loss, far_closed, far_said, far_closing, far_lost_only}
+use Rattle.hc_effects.proofs.{ActParts.{IsAnswer, IsFarFrom, answer_is, said_is, far_evicted, far_loss, far_closed, far_said, far_closing, far_lost_only}, Basics.{same_functions, false_true, or_false, some_row}, CurrentKeeps.{WasOrFounded, was_or_founded, current_is, usable, usable_row, find_only}, Frames.{parts_are_kept}, KeyNames.{current_key, key_is}, NamesKeep.{current_there}, NumbersKeep.{starts_later}}
 use Rattle.hc_effects.proofs.ActParts as parts
-use Rattle.hc_effects.proofs.Basics.{same_functions, false_true, or_false, some_row}
-use Rattle.hc_effects.proofs.CurrentKeeps.{WasOrFounded, was_or_founded, current_is, usable, usable_row, find_only}
 use Rattle.hc_effects.proofs.CurrentKeeps as currents
-use Rattle.hc_effects.proofs.Frames.{parts_are_kept}
-use Rattle.hc_effects.proofs.KeyNames.{current_key, key_is}
-use Rattle.hc_effects.proofs.NamesKeep.{current_there}
-use Rattle.hc_effects.proofs.NumbersKeep.{starts_later}
 
 -- CONSUMERS
 

@@ -1,17 +1,11 @@
 -- What a start does.
-use Rattle.std.proofs.Common.{◌≡◌, ℕ, [], ◌∷◌, ◌++◌, Bool, true, false, Some, None, refl, ap, ◌∙◌, arith}
-use Rattle.std.specs.Prelude.{nat_eq, nat_le, if◌then◌else◌, map}
-use Rattle.std.proofs.lemmas.Bool.Decides.{nat_tests}
+use Rattle.std.{proofs.{Common.{◌≡◌, ℕ, [], ◌∷◌, ◌++◌, Bool, true, false, Some, None, refl, ap, ◌∙◌, arith}, lemmas.Bool.Decides.{nat_tests}}, specs.Prelude.{nat_eq, nat_le, if◌then◌else◌, map}}
 use Rattle.hc_event.specs.declared.act.Act.TheVariants as act
 use Rattle.hc_event.specs.declared.act.Refusal.TheVariants as refusal
 use Rattle.hc_effects.proofs.Vocabulary.{Event, Request, Limits, accepted_acts, closing, new_consumer, consumer_after, denial, live, Does, with_event, with_start, Entry, entry_without_acts, NoFlaw, Lawful, Tables, after_accepted}
 use Rattle.hc_event.specs.declared.event.Event.TheVariants as event
 use Rattle.hc_rules.specs.Refusals as refusals
-use Rattle.hc_effects.proofs.ActParts.{far_closed}
-use Rattle.hc_effects.proofs.Basics.{some_none}
-use Rattle.hc_effects.proofs.ConsumerEffects.{after_by, others, representations}
-use Rattle.hc_effects.proofs.FewClosings.{closes_nothing, evicts_nothing}
-use Rattle.hc_effects.proofs.OfConsumers.{BringsNothing, brings_nothing, little, goes_nothing, exchanges_stay, binds_none}
+use Rattle.hc_effects.proofs.{ActParts.{far_closed}, Basics.{some_none}, ConsumerEffects.{after_by, others, representations}, FewClosings.{closes_nothing, evicts_nothing}, OfConsumers.{BringsNothing, brings_nothing, little, goes_nothing, exchanges_stay, binds_none}}
 use Rattle.hc_effects.proofs.OfConsumers as event_of
 
 module _ (limits : Limits) (t : Tables) (law : Lawful t) (now c : ℕ) (request : Request) where

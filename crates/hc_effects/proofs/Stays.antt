@@ -1,7 +1,5 @@
 -- What has come of a body stays.
-use Rattle.std.proofs.Common.{◌≡◌, inl, inr, ℕ, ◌+◌, List, length, Bool, true, false, cond, Option, Some, None, refl, ap, sym, ◌∙◌, arith}
-use Rattle.std.specs.Prelude.{nat_eq}
-use Rattle.std.proofs.lemmas.Bool.Decides.{nat_tests}
+use Rattle.std.{proofs.{Common.{◌≡◌, inl, inr, ℕ, ◌+◌, List, length, Bool, true, false, cond, Option, Some, None, refl, ap, sym, ◌∙◌, arith}, lemmas.Bool.Decides.{nat_tests}}, specs.Prelude.{nat_eq}}
 use Rattle.hc_text.proofs.Basics.{same_some as same_row}
 use Rattle.hc_event.specs.declared.event.Event.TheVariants as event
 use Rattle.hc_effects.proofs.Vocabulary.{Response, Act, denial, Event, Limits, Flaw, accepted_acts, Entry, front, family, Tables, Exchange, Representation, Sound, after_accepted}
@@ -9,10 +7,7 @@ use Rattle.hc_sparse.specs.Cells.{Cells, Cell, cells_with, AreAbsent}
 use Rattle.hc_sparse.proofs.CellLemmas.{inside-cases}
 use Rattle.hc_rules.specs.Refusals as refusals
 use Rattle.hc_model.specs.Laws.{BodiesAreKept}
-use Rattle.hc_effects.proofs.Once.{delivers_once, never}
-use Rattle.hc_effects.proofs.PieceKeeps.{was_representation, of_piece}
-use Rattle.hc_effects.proofs.QuietKeeps.{is_quiet, is_kept}
-use Rattle.hc_effects.proofs.HeadKeeps.{RepRow, rep_row, of_head}
+use Rattle.hc_effects.proofs.{Once.{delivers_once, never}, PieceKeeps.{was_representation, of_piece}, QuietKeeps.{is_quiet, is_kept}, HeadKeeps.{RepRow, rep_row, of_head}}
 use Rattle.hc_effects.proofs.HeadKeeps as head
 
 -- a cell that was there stays, where what is written was absent

@@ -1,7 +1,5 @@
 -- What an end or a fault comes to: who reads from the exchange, what is sealed, lost or let go with it.
-use Rattle.std.proofs.Common.{◌≡◌, inl, inr, ℕ, List, [], ◌++◌, Bool, true, false, Option, Some, None, refl, ap, sym, ◌∙◌, subst}
-use Rattle.std.specs.Prelude.{◌&&◌, ◌||◌, ◌==◌, not, nat_eq, length, is_some, if◌then◌else◌, option_map}
-use Rattle.std.specs.Option.{option_or}
+use Rattle.std.{proofs.Common.{◌≡◌, inl, inr, ℕ, List, [], ◌++◌, Bool, true, false, Option, Some, None, refl, ap, sym, ◌∙◌, subst}, specs.{Prelude.{◌&&◌, ◌||◌, ◌==◌, not, nat_eq, length, is_some, if◌then◌else◌, option_map}, Option.{option_or}}}
 use Rattle.hc_text.proofs.Basics.{bool_cases, eqb-same, not_some as none_some, or_none as or_nothing, or_false as or_off, same_some as same_row, and_off as then_false}
 use Rattle.hc_effects.proofs.Vocabulary.{closes_in, Act, Cause, Event, is_same_number, Limits, Place, loses_in, loss_acts, closing, leaver, leaver_by, consumer_after, consumer_heard, own_after, is_current, is_number, denial, doomed_key_of, Does, with_event, with_exchange, failing, let_all_go, as_gone, over, at_end, is_unkeepable, going_with, Entry, entry_without_acts, exchange_heard, family, exchange_in, becomes_due, cause_of_stop, cause_of_head, stop_cause, short_cause, Flaw, beside, becomes_gone, ends_early, ends_founding, stops_early, is_short, is_keepable, Lawful, is_bound_place, is_written, own_open, shared_exchange, source, writing_in, reads, representation_after, representation_heard, with_total_if_none, length_in, Tables, Exchange, Representation, Consumer, write_in, brings_body}
 use Rattle.hc_event.specs.declared.act.Cause.TheVariants as cause
@@ -9,19 +7,8 @@ use Rattle.hc_event.specs.declared.event.Event.TheVariants as event
 use Rattle.hc_rules.specs.Refusals as refusals
 use Rattle.hc_event.specs.declared.place.Place.TheVariants as place
 use Rattle.hc_model.specs.Sound as sound
-use Rattle.hc_effects.proofs.AboutKeeps.{own_open_of, own_open_is}
-use Rattle.hc_effects.proofs.Basics.{some_none, false_true, number_is}
-use Rattle.hc_effects.proofs.FewClosings.{closes_nothing, quiet_closes}
-use Rattle.hc_effects.proofs.Frames.{undoomed, may_doom}
-use Rattle.hc_effects.proofs.KeyActs.{test_some}
-use Rattle.hc_effects.proofs.PieceKeeps.{eq_cases}
-use Rattle.hc_effects.proofs.SameTables.{is_in, back_from_any}
-use Rattle.hc_effects.proofs.Stops.{source_is}
-use Rattle.hc_effects.proofs.Tests.{and_false}
-use Rattle.hc_effects.proofs.ToldFrames.{IsTold, says_little, exchange_one, goes_as, closes_as, representation_by, representation_none, beside_same, consumer_by, told_by, told_plainly}
+use Rattle.hc_effects.proofs.{AboutKeeps.{own_open_of, own_open_is}, Basics.{some_none, false_true, number_is}, FewClosings.{closes_nothing, quiet_closes}, Frames.{undoomed, may_doom}, KeyActs.{test_some}, PieceKeeps.{eq_cases}, SameTables.{is_in, back_from_any}, Stops.{source_is}, Tests.{and_false}, ToldFrames.{IsTold, says_little, exchange_one, goes_as, closes_as, representation_by, representation_none, beside_same, consumer_by, told_by, told_plainly}, Untouched.{IsSpared, own_stays, loss_spared, spared_bodiless}, ActParts.{leaver_lost}}
 use Rattle.hc_effects.proofs.ToldFrames as told
-use Rattle.hc_effects.proofs.Untouched.{IsSpared, own_stays, loss_spared, spared_bodiless}
-use Rattle.hc_effects.proofs.ActParts.{leaver_lost}
 
 -- WHAT STOPS
 

@@ -1,7 +1,6 @@
 -- What an end or a fault does of what brings a representation: who reads from it fails or knows its end, and it is sealed, let go or lost.
-use Rattle.std.proofs.Common.{◌≡◌, inl, inr, ℕ, [], ◌∷◌, Bool, true, false, Option, Some, None, refl, ap, sym, ◌∙◌, subst}
+use Rattle.std.{proofs.Common.{◌≡◌, inl, inr, ℕ, [], ◌∷◌, Bool, true, false, Option, Some, None, refl, ap, sym, ◌∙◌, subst}, specs.Prelude.{◌&&◌, ◌||◌, ◌==◌, not, nat_eq, length, is_some, is_none, if◌then◌else◌, option_map}}
 use mathlib.Core.Path.{fun_ext}
-use Rattle.std.specs.Prelude.{◌&&◌, ◌||◌, ◌==◌, not, nat_eq, length, is_some, is_none, if◌then◌else◌, option_map}
 use Rattle.hc_text.proofs.Basics.{eqb-same, not_some as none_some, same_some as same_row, some_inj}
 use Rattle.hc_event.specs.declared.act.Act.TheVariants as act
 use Rattle.hc_effects.proofs.Vocabulary.{Cause, LostKind, Event, Response, is_same_number, Limits, Place, consumer_heard, by_fault, is_number, denial, Does, with_event, with_exchange, with_due, with_dues, with_length, with_loss, if_bound, failing, let_go, let_some_go, as_gone, over, at_end, lost_to, is_unkeepable, going_with, family, promised_bytes, short_of, Flaw, NoFlaw, Loses, becomes_gone, is_short, Lawful, IsReading, is_bound, is_bound_place, is_written, reads, source, representation_after, representation_heard, Tables, Exchange, Representation, Consumer, with_item_first, exclusive}
@@ -9,14 +8,7 @@ use Rattle.hc_event.specs.declared.act.Cause.TheVariants as cause
 use Rattle.hc_event.specs.declared.event.Event.TheVariants as event
 use Rattle.hc_event.specs.declared.place.Place.TheVariants as place
 use Rattle.hc_model.specs.Owners as owners
-use Rattle.hc_effects.proofs.Basics.{false_true, number_is}
-use Rattle.hc_effects.proofs.ConsumerEffects.{some_all}
-use Rattle.hc_effects.proofs.KeyActs.{test_some}
-use Rattle.hc_effects.proofs.PieceKeeps.{eq_cases}
-use Rattle.hc_effects.proofs.SameTables.{is_in, in_one}
-use Rattle.hc_effects.proofs.StopEffects.{fault_unheard}
-use Rattle.hc_effects.proofs.StopFrames.{Stops, IsEnding, end_stops, fault_stops, end_of, fault_of, reads_own, reads_shared, it, going, goes_with, longer_row, heard_is, row_by, fails, stop_does, others_by}
-use Rattle.hc_effects.proofs.ToldFrames.{lost_by}
+use Rattle.hc_effects.proofs.{Basics.{false_true, number_is}, ConsumerEffects.{some_all}, KeyActs.{test_some}, PieceKeeps.{eq_cases}, SameTables.{is_in, in_one}, StopEffects.{fault_unheard}, StopFrames.{Stops, IsEnding, end_stops, fault_stops, end_of, fault_of, reads_own, reads_shared, it, going, goes_with, longer_row, heard_is, row_by, fails, stop_does, others_by}, ToldFrames.{lost_by}}
 
 module _ (limits : Limits) (t : Tables) (law : Lawful t) (now x : ℕ) (w : Exchange) (row : t.exchange x ≡ Some w) (r : ℕ) (v : Representation) (of_r : family x w ≡ r) (there : t.representation r ≡ Some v) where
   -- WHO READS FROM IT

@@ -1,8 +1,5 @@
 -- Where a shared writing stops: its members get a failure, or all that is left for them is stored.
-use Rattle.std.proofs.Common.{◌≡◌, inl, inr, ℕ, ◌+◌, ◌<◌, List, ◌++◌, length, true, false, Option, Some, None, refl, ap, sym, ◌∙◌, arith, length-append}
-use Rattle.std.specs.Prelude.{is_some}
-use Rattle.std.specs.Option.{option_or}
-use Rattle.std.proofs.lemmas.Bool.Decides.{nat_tests}
+use Rattle.std.{proofs.{Common.{◌≡◌, inl, inr, ℕ, ◌+◌, ◌<◌, List, ◌++◌, length, true, false, Option, Some, None, refl, ap, sym, ◌∙◌, arith, length-append}, lemmas.Bool.Decides.{nat_tests}}, specs.{Prelude.{is_some}, Option.{option_or}}}
 use Rattle.hc_text.proofs.Basics.{and_right, eq_tells as eq_of, some_inj, lt_or as split}
 use Rattle.hc_event.specs.declared.event.Event.TheVariants as event
 use Rattle.hc_effects.proofs.Vocabulary.{Cause, Entry, base, promised_bytes, front, is_open, is_reached, exchange_in, cause_of_stop, stop_cause, is_written, is_open_writer, own_open, source, shared_exchange, Tables, Exchange, Representation, Consumer, Sound, IsAbout, IsBound, IsGrowing, end_from, is_same_number}

@@ -1,14 +1,8 @@
 -- Sums over lists of numbers.
-use Rattle.std.proofs.Common.{◌≡◌, ◌⊎◌, inl, inr, ℕ, zero, suc, ◌+◌, ◌-◌, ◌≤◌, List, [], ◌∷◌, ◌++◌, Bool, true, Option, Some, None, refl, ap, sym, ◌∙◌, subst, arith}
-use Rattle.std.specs.Prelude.{if◌then◌else◌, ◌==◌, nat_le, map, filter, take, reverse}
-use Rattle.std.specs.List.{sum_by, list_any}
-use Rattle.std.specs.Option.{option_map}
-use Rattle.std.proofs.lemmas.Bool.Decides.{nat_tests}
-use Rattle.std.proofs.lemmas.List.Sums.{sum_by-cons, sum_by-append}
+use Rattle.std.{proofs.{Common.{◌≡◌, ◌⊎◌, inl, inr, ℕ, zero, suc, ◌+◌, ◌-◌, ◌≤◌, List, [], ◌∷◌, ◌++◌, Bool, true, Option, Some, None, refl, ap, sym, ◌∙◌, subst, arith}, lemmas.{Bool.Decides.{nat_tests}, List.Sums.{sum_by-cons, sum_by-append}}}, specs.{Prelude.{if◌then◌else◌, ◌==◌, nat_le, map, filter, take, reverse}, List.{sum_by, list_any}, Option.{option_map}}}
 use Rattle.hc_text.proofs.Basics.{bool_cases, not_some as none_some, reverse_is, some_inj}
 use Rattle.hc_effects.proofs.Vocabulary.{gives_way, AreOnce, Among}
-use Rattle.hc_effects.proofs.Basics.{false_true}
-use Rattle.hc_effects.proofs.PieceKeeps.{eq_cases}
+use Rattle.hc_effects.proofs.{Basics.{false_true}, PieceKeeps.{eq_cases}}
 
 pub sum_le : (f g : ℕ → ℕ) (rs : List ℕ) → ((r : ℕ) → Among r rs → f r ≤ g r) → sum_by f rs ≤ sum_by g rs
 sum_le f g [] le = omega arith

@@ -1,7 +1,5 @@
 -- Who survives the loss of a shared writing goes on alone: it stands where its exchange goes on, and nothing past that came.
-use Rattle.std.proofs.Common.{◌≡◌, ◌⊎◌, inl, inr, ℕ, ◌+◌, ◌<◌, ◌≤◌, List, [], ◌∷◌, length, true, Option, Some, None, refl, ap, sym, ◌∙◌, subst, arith, min, length-append}
-use Rattle.std.specs.Prelude.{if◌then◌else◌, is_some, ◌||◌, not, nat_eq, nat_le, map, filter}
-use Rattle.std.proofs.lemmas.Bool.Decides.{nat_tests}
+use Rattle.std.{proofs.{Common.{◌≡◌, ◌⊎◌, inl, inr, ℕ, ◌+◌, ◌<◌, ◌≤◌, List, [], ◌∷◌, length, true, Option, Some, None, refl, ap, sym, ◌∙◌, subst, arith, min, length-append}, lemmas.Bool.Decides.{nat_tests}}, specs.Prelude.{if◌then◌else◌, is_some, ◌||◌, not, nat_eq, nat_le, map, filter}}
 use Rattle.hc_text.proofs.Basics.{both_true as and_both, and_left, and_right, bool_cases, not_some as none_some, never_true as not_so, same_some as same_row, some_inj}
 use Rattle.hc_sparse.specs.Cells.{Cells, Covers, cells_with}
 use Rattle.hc_sparse.proofs.CellLemmas.{inside-past, inside-yes}
@@ -10,25 +8,11 @@ use Rattle.hc_event.specs.declared.event.Event.TheVariants as event
 use Rattle.hc_event.specs.declared.place.Place.TheVariants as place
 use Rattle.hc_model.specs.Laws.{SurvivorsGoOn}
 use Rattle.hc_model.specs.Sound as sound
-use Rattle.hc_effects.proofs.Basics.{false_true, number_yes}
-use Rattle.hc_effects.proofs.BoundStays.{bound_stays}
-use Rattle.hc_effects.proofs.ConsumerFilters.{acted}
-use Rattle.hc_effects.proofs.ExchangeFrom.{IsSame, IsHeaded}
-use Rattle.hc_effects.proofs.Fills.{Fills, fills, Brings, brings}
+use Rattle.hc_effects.proofs.{Basics.{false_true, number_yes}, BoundStays.{bound_stays}, ConsumerFilters.{acted}, ExchangeFrom.{IsSame, IsHeaded}, Fills.{Fills, fills, Brings, brings}, FirstKeeps.{is_new}, ApartKeeps.{is_on}, HadKeeps.{survivor_bound}, LossBy.{IsReal, fresh}, MeasuresKeep.{IsHeld, held, one_piece}, ExclusiveWriters.{writer_some}, OfEntries.{of_real}, HasBound.{reader_of}, RepFrom.{RepFrom, rep_from, IsKept}, Said.{leaving_by}}
 use Rattle.hc_effects.proofs.Fills as fills_by
-use Rattle.hc_effects.proofs.FirstKeeps.{is_new}
 use Rattle.hc_effects.proofs.Forward as forward
-use Rattle.hc_effects.proofs.ApartKeeps.{is_on}
-use Rattle.hc_effects.proofs.HadKeeps.{survivor_bound}
-use Rattle.hc_effects.proofs.LossBy.{IsReal, fresh}
-use Rattle.hc_effects.proofs.MeasuresKeep.{IsHeld, held, one_piece}
 use Rattle.hc_effects.proofs.MemberStays as member_stays
-use Rattle.hc_effects.proofs.ExclusiveWriters.{writer_some}
-use Rattle.hc_effects.proofs.OfEntries.{of_real}
-use Rattle.hc_effects.proofs.HasBound.{reader_of}
-use Rattle.hc_effects.proofs.RepFrom.{RepFrom, rep_from, IsKept}
 use Rattle.hc_effects.proofs.RepFrom as rep
-use Rattle.hc_effects.proofs.Said.{leaving_by}
 
 -- its own is the exchange of the writing, which has its head
 pub record GoesOn (t : Tables) (v : Representation) (k : Consumer) (writer : Option ℕ) : Type 0 where

@@ -1,18 +1,14 @@
 -- What heads tell is below 2^62: positions and lengths. So what is promised ends by 2^62.
-use Rattle.std.proofs.Common.{◌≡◌, ◌≤◌, ◌<◌, inl, inr, ℕ, ◌+◌, ◌-◌, ◌^◌, List, [], ◌∷◌, codes, Bool, true, false, Option, Some, None, refl, arith}
-use Rattle.std.specs.Prelude.{if◌then◌else◌, ◌==◌, option_and_then}
+use Rattle.std.{proofs.Common.{◌≡◌, ◌≤◌, ◌<◌, inl, inr, ℕ, ◌+◌, ◌-◌, ◌^◌, List, [], ◌∷◌, codes, Bool, true, false, Option, Some, None, refl, arith}, specs.Prelude.{if◌then◌else◌, ◌==◌, option_and_then}}
 use Rattle.hc_text.proofs.Basics.{bool_cases, not_some as none_some, some_inj}
-use Rattle.hc_fields.specs.FieldElements.{elements_in}
-use Rattle.hc_fields.specs.FieldList.{values_of}
-use Rattle.hc_fields.specs.FirstValues.{only_of}
+use Rattle.hc_fields.specs.{FieldElements.{elements_in}, FieldList.{values_of}, FirstValues.{only_of}}
 use Rattle.hc_range.specs.declared.range.ContentRange.{ContentRange}
 use Rattle.hc_range.specs.declared.range.ContentRange.TheVariants as range
 use Rattle.hc_effects.proofs.Vocabulary.{Request, Response, Need, Length, Route, length_of, content_length_of, part_length, all_tell, agrees, has_no_body, tells_part, base_of, promise_of, route_of, number_of, content_range_of, content_range_in, base, promised_bytes, length_by, total_of_part, founded_total, Exchange}
 use Rattle.hc_rules.specs.declared.need.Route.TheVariants as route
 use Rattle.hc_rules.specs.declared.length.Length.TheVariants as says
 use Rattle.hc_rules.specs.Lengths.{promised_or_bad}
-use Rattle.hc_rules.proofs.Numbers.{IsNumber-told}
-use Rattle.hc_rules.proofs.RangeReads.{content_range_in-some}
+use Rattle.hc_rules.proofs.{Numbers.{IsNumber-told}, RangeReads.{content_range_in-some}}
 
 -- what a head says of the length ends by 2^62
 abbrev pub EndsEarly : Length → Type 0

@@ -1,21 +1,12 @@
 -- What a poll does that opens an exchange with the turn: past what is stored, what is current is let go.
-use Rattle.std.proofs.Common.{◌≡◌, ◌≢◌, ℕ, [], Bool, true, false, Some, None, refl, ap, sym, ◌∙◌}
-use Rattle.std.specs.Prelude.{◌&&◌, ◌||◌, bytes_eq}
+use Rattle.std.{proofs.Common.{◌≡◌, ◌≢◌, ℕ, [], Bool, true, false, Some, None, refl, ap, sym, ◌∙◌}, specs.Prelude.{◌&&◌, ◌||◌, bytes_eq}}
 use Rattle.hc_effects.proofs.Vocabulary.{Need, Request, route_of, Limits, Place, opened_place, unless_bound, current, is_current, bypassed_for, Does, with_event, with_consumer, with_opening, just_opened, let_some_go, Entry, NoFlaw, becomes_gone, Lawful, Opens, acts_of, move_of, bound_to, Tables, Representation, Consumer, with_item_first, is_hole}
 use Rattle.hc_event.specs.declared.act.Need.TheVariants as need
 use Rattle.hc_event.specs.declared.event.Event.TheVariants as event
 use Rattle.hc_rules.specs.declared.need.Route.TheVariants as route
 use Rattle.hc_event.specs.declared.place.Place.TheVariants as place
-use Rattle.hc_effects.proofs.Basics.{false_true}
-use Rattle.hc_effects.proofs.ConsumerEffects.{some_all}
-use Rattle.hc_effects.proofs.KeyNames.{current_test}
-use Rattle.hc_effects.proofs.OfConsumers.{BringsNothing, goes_as, ends_none}
-use Rattle.hc_effects.proofs.OpenEffects.{e, nothing, why, keeps_all, binds_none, about_current}
-use Rattle.hc_effects.proofs.OpenedAs.{OpenedAs, Way}
+use Rattle.hc_effects.proofs.{Basics.{false_true}, ConsumerEffects.{some_all}, KeyNames.{current_test}, OfConsumers.{BringsNothing, goes_as, ends_none}, OpenEffects.{e, nothing, why, keeps_all, binds_none, about_current}, OpenedAs.{OpenedAs, Way}, PollEffects.{none_waits}, SameTables.{is_in, in_one, waits_for_any}, WaitEffects.{unread_undue}}
 use Rattle.hc_effects.proofs.OpenedAs as opened
-use Rattle.hc_effects.proofs.PollEffects.{none_waits}
-use Rattle.hc_effects.proofs.SameTables.{is_in, in_one, waits_for_any}
-use Rattle.hc_effects.proofs.WaitEffects.{unread_undue}
 
 plain_turn : (n : Need) (request : Request) → n ≢ need.Bypass → bypassed_for n request.key ≡ None
 plain_turn need.Disabled request other = refl

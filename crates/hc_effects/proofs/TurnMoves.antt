@@ -1,7 +1,5 @@
 -- What a poll does, and why: who opens for the turn has it, who waits for a body may read what is current.
-use Rattle.std.proofs.Common.{◌≡◌, inl, inr, ℕ, ◌+◌, Bool, true, false, cond, Option, Some, None, refl, ap, sym, ◌∙◌, subst}
-use Rattle.std.specs.Prelude.{◌==◌, if◌then◌else◌}
-use Rattle.std.specs.Option.{option_and_then, option_map}
+use Rattle.std.{proofs.Common.{◌≡◌, inl, inr, ℕ, ◌+◌, Bool, true, false, cond, Option, Some, None, refl, ap, sym, ◌∙◌, subst}, specs.{Prelude.{◌==◌, if◌then◌else◌}, Option.{option_and_then, option_map}}}
 use Rattle.hc_text.proofs.Basics.{bool_cases, not_some as none_some, some_inj}
 use Rattle.hc_range.specs.declared.range.Span.{Span}
 use Rattle.hc_sparse.specs.declared.run.Run.{Run}
@@ -16,9 +14,7 @@ use Rattle.hc_rules.specs.Readings as readings
 use Rattle.hc_event.specs.declared.place.Place.TheVariants as place
 use Rattle.hc_event.specs.declared.place.BoundBy.TheVariants as by
 use Rattle.hc_model.specs.Moves as moves
-use Rattle.hc_effects.proofs.Joining.{mix}
-use Rattle.hc_effects.proofs.PollTree.{never_plans}
-use Rattle.hc_effects.proofs.TurnPlans.{Planned, IsVaried, IsQueueing, plan_is}
+use Rattle.hc_effects.proofs.{Joining.{mix}, PollTree.{never_plans}, TurnPlans.{Planned, IsVaried, IsQueueing, plan_is}}
 use Rattle.hc_effects.proofs.TurnPlans as plans
 
 -- what is current answers the consumer's request too

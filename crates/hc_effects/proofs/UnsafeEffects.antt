@@ -1,7 +1,6 @@
 -- What the head of an unsafe request does that may have changed something: what is current for its key is doomed.
-use Rattle.std.proofs.Common.{◌≡◌, inl, inr, ℕ, List, [], ◌++◌, Bool, true, false, Option, Some, None, refl, ap, sym, ◌∙◌, subst}
+use Rattle.std.{proofs.Common.{◌≡◌, inl, inr, ℕ, List, [], ◌++◌, Bool, true, false, Option, Some, None, refl, ap, sym, ◌∙◌, subst}, specs.Prelude.{bytes_eq, ◌&&◌, ◌||◌, not, nat_eq, if◌then◌else◌, is_none, option_map, map, filter, reverse}}
 use mathlib.Core.Path.{fun_ext}
-use Rattle.std.specs.Prelude.{bytes_eq, ◌&&◌, ◌||◌, not, nat_eq, if◌then◌else◌, is_none, option_map, map, filter, reverse}
 use Rattle.hc_text.proofs.Basics.{eqb-same, not_some as none_some, some_inj, and_off as then_false}
 use Rattle.hc_event.specs.declared.act.Act.TheVariants as act
 use Rattle.hc_event.specs.declared.act.Cause.TheVariants as cause
@@ -11,17 +10,8 @@ use Rattle.hc_rules.specs.declared.heads.HeadCase.TheVariants as case
 use Rattle.hc_rules.specs.declared.need.Route.TheVariants as route
 use Rattle.hc_event.specs.declared.place.Place.TheVariants as place
 use Rattle.hc_model.specs.Owners as owners
-use Rattle.hc_effects.proofs.ConsumerEffects.{waits_as, some_all}
-use Rattle.hc_effects.proofs.DoomFrames.{sent_as, awaited_apart}
-use Rattle.hc_effects.proofs.FoundBy.{CaseBy, case_by}
+use Rattle.hc_effects.proofs.{ConsumerEffects.{waits_as, some_all}, DoomFrames.{sent_as, awaited_apart}, FoundBy.{CaseBy, case_by}, HeadFacts.{stays_open, new, waiter, undue, case_on, case_before, evicts_none, no_survivor}, HeadFrames.{e, spared_as, heard, doomed_is, goes_as, row_by, other_by, asker_goes_on, after_head}, KeyNames.{current_test}, PieceKeeps.{eq_cases}, PollEffects.{same_consumer}, SameTables.{is_in, in_one, waits_for_any, back_from_any, all_closed_is}, Untouched.{consumer_absent, IsSpared}}
 use Rattle.hc_effects.proofs.FoundBy as cases
-use Rattle.hc_effects.proofs.HeadFacts.{stays_open, new, waiter, undue, case_on, case_before, evicts_none, no_survivor}
-use Rattle.hc_effects.proofs.HeadFrames.{e, spared_as, heard, doomed_is, goes_as, row_by, other_by, asker_goes_on, after_head}
-use Rattle.hc_effects.proofs.KeyNames.{current_test}
-use Rattle.hc_effects.proofs.PieceKeeps.{eq_cases}
-use Rattle.hc_effects.proofs.PollEffects.{same_consumer}
-use Rattle.hc_effects.proofs.SameTables.{is_in, in_one, waits_for_any, back_from_any, all_closed_is}
-use Rattle.hc_effects.proofs.Untouched.{consumer_absent, IsSpared}
 
 two_off : (a : Bool) → (a || false || false) ≡ a
 two_off true = refl

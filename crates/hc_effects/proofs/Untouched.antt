@@ -1,14 +1,10 @@
 -- Whoever and whatever an entry does not speak of stays as it was, but for what becomes gone, and who waits for that.
-use Rattle.std.proofs.Common.{◌≡◌, ℕ, ◌+◌, List, length, Bool, true, false, Option, Some, None, refl, ap, sym, ◌∙◌}
-use Rattle.std.specs.Prelude.{◌&&◌, ◌||◌, not, nat_eq, if◌then◌else◌}
-use Rattle.std.specs.Option.{option_or, option_and_then}
+use Rattle.std.{proofs.Common.{◌≡◌, ℕ, ◌+◌, List, length, Bool, true, false, Option, Some, None, refl, ap, sym, ◌∙◌}, specs.{Prelude.{◌&&◌, ◌||◌, not, nat_eq, if◌then◌else◌}, Option.{option_or, option_and_then}}}
 use Rattle.hc_text.proofs.Basics.{not_some as none_some, or_none as or_nothing, plus_none, some_inj, and_off as then_false}
 use Rattle.hc_effects.proofs.Vocabulary.{Opening, opening_in, asks_in, closes_in, leaves_in, shows_in, given_in, Act, Event, Response, Place, BoundBy, loses_in, fails_in, Showing, showing_in, case_at, case_of, is_founding, consumer_after, consumer_settled, consumer_acted, consumer_heard, consumer_made, by_head, by_fault, by_opening, waiting, waiting_place, shown_place, own_after, left_to, due_after, back_in_line, doomed_key_of, is_key, as_gone, Entry, exchange_after, exchange_heard, exchange_acted, exchange_made, family, exchange_in, exchange_at, is_for, becomes_due, cause_of_stop, cause_of_loss, cause_by_loss, cause_of_head, becomes_gone, goes_in, reads, is_written, representation_after, representation_heard, representation_acted, founded_at, updates, Tables, Exchange, Representation, Consumer, starts_over, sends_back, waits_at, loses_what_it_waits_for, binds, loses_writing, brings_body}
 use Rattle.hc_event.specs.declared.event.Event.TheVariants as event
 use Rattle.hc_event.specs.declared.place.Place.TheVariants as place
-use Rattle.hc_effects.proofs.ActParts.{IsFarFrom}
-use Rattle.hc_effects.proofs.Dues.{undue_of, stop_none}
-use Rattle.hc_effects.proofs.Tests.{and_false}
+use Rattle.hc_effects.proofs.{ActParts.{IsFarFrom}, Dues.{undue_of, stop_none}, Tests.{and_false}}
 
 -- what the acts make of a consumer that its opening left as q
 abbrev pub acted_by : Tables → Entry → ℕ → Consumer → Consumer → Consumer

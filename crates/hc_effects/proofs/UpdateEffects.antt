@@ -1,6 +1,5 @@
 -- What heads do that update what is stored: a 304 that validates it, and a 206 that joins it. And where that is lost.
-use Rattle.std.proofs.Common.{◌≡◌, inl, inr, ℕ, List, [], ◌∷◌, Bool, true, false, Option, Some, None, refl, ap, sym, ◌∙◌, subst}
-use Rattle.std.specs.Prelude.{◌&&◌, ◌||◌, ◌==◌, not, nat_eq, if◌then◌else◌, option_map}
+use Rattle.std.{proofs.Common.{◌≡◌, inl, inr, ℕ, List, [], ◌∷◌, Bool, true, false, Option, Some, None, refl, ap, sym, ◌∙◌, subst}, specs.Prelude.{◌&&◌, ◌||◌, ◌==◌, not, nat_eq, if◌then◌else◌, option_map}}
 use Rattle.hc_text.proofs.Basics.{and_left, and_true, eqb-same, never_true as not_so, same_some as same_row, some_inj, and_off as then_false}
 use Rattle.hc_event.specs.declared.act.Act.TheVariants as act
 use Rattle.hc_effects.proofs.Vocabulary.{LostKind, Event, Response, HeadCase, HeadView, Limits, head_case, route_of, loses_in, has_loss, loss_acts, case_at, head_view, is_founding, is_updating, is_joining, is_refused, becomes_shared, back_in_line, consumer_after, current, is_number, denial, doomed_by_case, Does, with_event, let_go, with_consumer, with_representation, with_answer, with_refreshed_head, lost_to, as_gone, promise_in, is_reached, cause_by_case, Flaw, NoFlaw, Loses, goes_by_case, Lawful, IsAwaiting, is_written, representation_after, updates, resumes, Tables, Exchange, Representation, Consumer, sends_back, with_item_first, evicted, exclusive, goes_on_with, BoundBy, IsFirst, IsExclusiveWriter}
@@ -10,18 +9,8 @@ use Rattle.hc_rules.specs.declared.need.Route.TheVariants as route
 use Rattle.hc_event.specs.declared.place.Place.TheVariants as place
 use Rattle.hc_model.specs.Effects.{with_resumption}
 use Rattle.hc_model.specs.Owners as owners
-use Rattle.hc_effects.proofs.Basics.{false_true, true_false}
-use Rattle.hc_effects.proofs.FoundBy.{CaseBy, case_by, unchanged_founds, validated_selects}
+use Rattle.hc_effects.proofs.{Basics.{false_true, true_false}, FoundBy.{CaseBy, case_by, unchanged_founds, validated_selects}, HeadFacts.{waiter, evicts_none, head_does, goes_on, goes_back, goes_it, rows, rows_same, is_it}, HeadFrames.{e, heard, has_as, row_updates, row_loses, spared_as}, KeyRows.{same_number}, LossStands.{joins_again, not_founding}, PieceKeeps.{eq_cases}, PollEffects.{none_waits, same_consumer}, PollKeeps.{current_stays}, SameTables.{is_in, waits_for_any}, Waiters.{unwritten, waits_undue, own_open_is}}
 use Rattle.hc_effects.proofs.FoundBy as cases
-use Rattle.hc_effects.proofs.HeadFacts.{waiter, evicts_none, head_does, goes_on, goes_back, goes_it, rows, rows_same, is_it}
-use Rattle.hc_effects.proofs.HeadFrames.{e, heard, has_as, row_updates, row_loses, spared_as}
-use Rattle.hc_effects.proofs.KeyRows.{same_number}
-use Rattle.hc_effects.proofs.LossStands.{joins_again, not_founding}
-use Rattle.hc_effects.proofs.PieceKeeps.{eq_cases}
-use Rattle.hc_effects.proofs.PollEffects.{none_waits, same_consumer}
-use Rattle.hc_effects.proofs.PollKeeps.{current_stays}
-use Rattle.hc_effects.proofs.SameTables.{is_in, waits_for_any}
-use Rattle.hc_effects.proofs.Waiters.{unwritten, waits_undue, own_open_is}
 use Rattle.hc_model.specs.Sound as sound
 
 pub unchanged : {z : HeadView} → CaseBy z case.NotValidated → z.status ≡ 304

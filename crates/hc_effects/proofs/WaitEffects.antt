@@ -6,15 +6,10 @@ use Rattle.hc_event.specs.declared.act.Wait.TheVariants as wait
 use Rattle.hc_event.specs.declared.event.Event.TheVariants as event
 use Rattle.hc_event.specs.declared.place.Place.TheVariants as place
 use Rattle.hc_model.specs.Moves as moves
-use Rattle.hc_effects.proofs.Basics.{some_none}
-use Rattle.hc_effects.proofs.OfConsumers.{brings_nothing, exchanges_stay, binds_none}
+use Rattle.hc_effects.proofs.{Basics.{some_none}, OfConsumers.{brings_nothing, exchanges_stay, binds_none}, PollEffects.{none_waits, same_consumer, nothing_goes, poll_does}, Said.{WaitsAs}, Untouched.{own_stays, spared_bodiless}, WaitedAs.{IsForOthers, waited_as}}
 use Rattle.hc_effects.proofs.OfConsumers as event_of
-use Rattle.hc_effects.proofs.PollEffects.{none_waits, same_consumer, nothing_goes, poll_does}
 use Rattle.hc_effects.proofs.PollEffects as polls
-use Rattle.hc_effects.proofs.Said.{WaitsAs}
 use Rattle.hc_effects.proofs.Said as said
-use Rattle.hc_effects.proofs.Untouched.{own_stays, spared_bodiless}
-use Rattle.hc_effects.proofs.WaitedAs.{IsForOthers, waited_as}
 use Rattle.hc_effects.proofs.WaitedAs as waited
 
 -- who was shown nothing, has nothing to be shown and waits for no head has no failure due

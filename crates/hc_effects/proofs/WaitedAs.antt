@@ -11,13 +11,10 @@ use Rattle.hc_rules.specs.declared.reading.ReadStep.TheVariants as step
 use Rattle.hc_event.specs.declared.place.Place.TheVariants as place
 use Rattle.hc_event.specs.declared.place.BoundBy.TheVariants as by_how
 use Rattle.hc_model.specs.Moves as moves
-use Rattle.hc_effects.proofs.MoveBy.{MoveBy, IsHeard, move_by}
+use Rattle.hc_effects.proofs.{MoveBy.{MoveBy, IsHeard, move_by}, PlanBy.{PlanBy, plan_by}, Said.{WaitsAs}, OpenedAs.{bypassing_is}}
 use Rattle.hc_effects.proofs.MoveBy as by
-use Rattle.hc_effects.proofs.PlanBy.{PlanBy, plan_by}
 use Rattle.hc_effects.proofs.PlanBy as plans
-use Rattle.hc_effects.proofs.Said.{WaitsAs}
 use Rattle.hc_effects.proofs.Said as said
-use Rattle.hc_effects.proofs.OpenedAs.{bypassing_is}
 
 -- the waits that aren't for an exchange
 pub data IsForOthers : Wait → Type 0 where

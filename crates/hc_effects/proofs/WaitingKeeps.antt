@@ -1,7 +1,5 @@
 -- Whoever waits for the head of its own exchange goes on waiting as long as that is open.
-use Rattle.std.proofs.Common.{◌≡◌, inl, inr, ℕ, List, length, Bool, true, false, cond, Option, Some, None, refl, ap, sym, ◌∙◌, subst, arith}
-use Rattle.std.specs.Prelude.{if◌then◌else◌, is_some, ◌&&◌, ◌==◌, nat_eq}
-use Rattle.std.proofs.lemmas.Bool.Decides.{nat_tests}
+use Rattle.std.{proofs.{Common.{◌≡◌, inl, inr, ℕ, List, length, Bool, true, false, cond, Option, Some, None, refl, ap, sym, ◌∙◌, subst, arith}, lemmas.Bool.Decides.{nat_tests}}, specs.Prelude.{if◌then◌else◌, is_some, ◌&&◌, ◌==◌, nat_eq}}
 use Rattle.hc_text.proofs.Basics.{both_true as and_both, and_left, and_right, bool_cases, not_some as none_some, never_true as not_so, or_cases, or_left, or_right, same_some as same_row, some_inj}
 use Rattle.hc_effects.proofs.Vocabulary.{Opening, opening_in, leaves_in, closes_in, Event, Response, Wait, Limits, route_of, piece_refusal, Place, BoundBy, Showing, showing_in, wait_in, case_at, case_of, must_close, is_doomed, awaits, is_left, is_left_by, leaver, leaver_by, consumer_heard, consumer_acted, by_opening, shown_place, waiting, waiting_place, due_after, back_in_line, denial, as_open, doomed_key_of, is_key, Entry, exchange_heard, exchange_opened, exchange_in, exchange_at, is_for, is_headless, Flaw, entry_of, Owners, IsAwaiting, Awaits, poll_move, move_of, own_open, reads, Tables, Exchange, Consumer, Sound, starts_over, waits_at, awaited_exchange, sends_back, loses_what_it_waits_for, after_accepted, Opens, may_stand}
 use Rattle.hc_event.specs.declared.event.Event.TheVariants as event
@@ -10,22 +8,9 @@ use Rattle.hc_rules.specs.Refusals as refusals
 use Rattle.hc_event.specs.declared.place.Place.TheVariants as place
 use Rattle.hc_event.specs.declared.place.BoundBy.TheVariants as by
 use Rattle.hc_model.specs.Owners as owners
-use Rattle.hc_effects.proofs.Basics.{false_true, number_yes}
-use Rattle.hc_effects.proofs.Closed.{before, closes}
-use Rattle.hc_effects.proofs.ExchangeFrom.{ExchangeFrom, IsSame, exchange_from}
+use Rattle.hc_effects.proofs.{Basics.{false_true, number_yes}, Closed.{before, closes}, ExchangeFrom.{ExchangeFrom, IsSame, exchange_from}, Forward.{heard_other, is_kept}, Once.{taken}, PieceKeeps.{eq_cases}, Said.{IsShowing, WaitsAs, showing_by, waiting_by, opening_by}, SaidActs.{leaves_leaver}, ShownFrom.{shown_from}, WaitedAs.{IsForOthers, waited_as}, WaitingNew.{awaits as new_awaits}, OpenedAs.{opened_as, opening_is}, Waiters.{IsWaiter, waiter_of, heard_same, own_acted, own_open_is, not_heard, head_is_own, opening_stays, doomed_same, headless_is}, BoundStays.{headless_parts}}
 use Rattle.hc_effects.proofs.ExchangeFrom as exchange
-use Rattle.hc_effects.proofs.Forward.{heard_other, is_kept}
-use Rattle.hc_effects.proofs.Once.{taken}
-use Rattle.hc_effects.proofs.PieceKeeps.{eq_cases}
-use Rattle.hc_effects.proofs.Said.{IsShowing, WaitsAs, showing_by, waiting_by, opening_by}
-use Rattle.hc_effects.proofs.SaidActs.{leaves_leaver}
-use Rattle.hc_effects.proofs.ShownFrom.{shown_from}
-use Rattle.hc_effects.proofs.WaitedAs.{IsForOthers, waited_as}
 use Rattle.hc_effects.proofs.WaitedAs as waited
-use Rattle.hc_effects.proofs.WaitingNew.{awaits as new_awaits}
-use Rattle.hc_effects.proofs.OpenedAs.{opened_as, opening_is}
-use Rattle.hc_effects.proofs.Waiters.{IsWaiter, waiter_of, heard_same, own_acted, own_open_is, not_heard, head_is_own, opening_stays, doomed_same, headless_is}
-use Rattle.hc_effects.proofs.BoundStays.{headless_parts}
 
 module _ (limits : Limits) (t : Tables) (now : ℕ) (flaw : Flaw) (s : Sound t) (o : Owners t) (ev : Event) (goes : denial t ev ≡ None) where
   abbrev e : Entry

@@ -1,7 +1,5 @@
 -- For whom an exchange is opened waits for its head: past the store, with the turn, or bound to what it asks a hole of.
-use Rattle.std.proofs.Common.{◌≡◌, inl, inr, ℕ, List, Bool, true, false, cond, Option, Some, None, refl, ap, sym, ◌∙◌, subst, arith}
-use Rattle.std.specs.Prelude.{if◌then◌else◌, ◌&&◌, ◌||◌, ◌==◌, not, nat_eq}
-use Rattle.std.proofs.lemmas.Bool.Decides.{nat_tests}
+use Rattle.std.{proofs.{Common.{◌≡◌, inl, inr, ℕ, List, Bool, true, false, cond, Option, Some, None, refl, ap, sym, ◌∙◌, subst, arith}, lemmas.Bool.Decides.{nat_tests}}, specs.Prelude.{if◌then◌else◌, ◌&&◌, ◌||◌, ◌==◌, not, nat_eq}}
 use Rattle.hc_text.proofs.Basics.{and_left, and_right, never_true as not_so, or_cases}
 use Rattle.hc_range.specs.declared.range.Span.{Span}
 use Rattle.hc_effects.proofs.Vocabulary.{Opening, opening_in, leaves_in, closes_in, Event, Need, Route, Limits, route_of, is_bypassing, range_of, wanted_of, Place, BoundBy, Showing, showing_in, loses_in, misreads_in, case_at, opened_place, unless_bound, by_opening, shown_place, own_after, left_to, waiting, consumer_acted, due_after, back_in_line, current, is_current, denial, doomed_key_of, bypass_key, bypassed_by, bypassed_for, is_key, Entry, exchange_opened, aim_from, aim_of, exchange_at, is_for, Flaw, becomes_gone, goes_itself, goes_in, goes_by_head, ends_early, ends_founding, is_keepable, entry_of, Opens, Owners, IsAwaiting, Awaits, poll_move, bound_to, Tables, Exchange, Representation, Consumer, may_stand, Sound, starts_over, waits_at, sends_back, loses_what_it_waits_for, after_accepted}
@@ -12,12 +10,8 @@ use Rattle.hc_rules.specs.declared.request.Wanted.TheVariants as wanted
 use Rattle.hc_event.specs.declared.place.Place.TheVariants as place
 use Rattle.hc_event.specs.declared.place.BoundBy.TheVariants as by
 use Rattle.hc_model.specs.Owners as owners
-use Rattle.hc_effects.proofs.Basics.{false_true}
-use Rattle.hc_effects.proofs.FirstKeeps.{is_opener}
-use Rattle.hc_effects.proofs.Forward.{is_kept}
-use Rattle.hc_effects.proofs.OpenedAs.{OpenedAs, Way}
+use Rattle.hc_effects.proofs.{Basics.{false_true}, FirstKeeps.{is_opener}, Forward.{is_kept}, OpenedAs.{OpenedAs, Way}, OpeningPoll.{leaves_none, misreads_none, evicts_none, shows_none, doomed_not, case_not, closes_none, loses_none}}
 use Rattle.hc_effects.proofs.OpenedAs as opened
-use Rattle.hc_effects.proofs.OpeningPoll.{leaves_none, misreads_none, evicts_none, shows_none, doomed_not, case_not, closes_none, loses_none}
 
 bypassed_not : (n : Need) (key : List ℕ) → (n ≡ need.Bypass → ⊥) → bypassed_for n key ≡ None
 bypassed_not need.Disabled key off = refl

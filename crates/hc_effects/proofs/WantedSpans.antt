@@ -1,12 +1,7 @@
 -- What is wanted of a range in order is not empty.
-use Rattle.std.proofs.Common.{◌≡◌, ℕ, ◌+◌, ◌-◌, ◌<◌, ◌≤◌, Bool, true, false, Option, Some, None, refl, subst, arith}
-use Rattle.std.specs.Prelude.{is_some, nat_lt, min, ◌&&◌, if◌then◌else◌}
-use Rattle.std.proofs.lemmas.Bool.Decides.{nat_tests}
+use Rattle.std.{proofs.{Common.{◌≡◌, ℕ, ◌+◌, ◌-◌, ◌<◌, ◌≤◌, Bool, true, false, Option, Some, None, refl, subst, arith}, lemmas.Bool.Decides.{nat_tests}}, specs.Prelude.{is_some, nat_lt, min, ◌&&◌, if◌then◌else◌}}
 use Rattle.hc_text.proofs.Basics.{not_some as none_some, some_inj}
-use Rattle.hc_range.specs.Spans.{resolved_span, IsInOrder}
-use Rattle.hc_range.specs.declared.range.Asked.{Asked}
-use Rattle.hc_range.specs.declared.range.Asked.TheVariants.{From, FromTo, Last}
-use Rattle.hc_range.specs.declared.range.Span.{Span}
+use Rattle.hc_range.specs.{Spans.{resolved_span, IsInOrder}, declared.range.{Asked.{Asked, TheVariants.{From, FromTo, Last}}, Span.{Span}}}
 use Rattle.hc_rules.specs.declared.request.Wanted.TheVariants as wanted
 use Rattle.hc_effects.proofs.Vocabulary.{wanted_of, wanted_part}
 use Rattle.hc_effects.proofs.Basics.{false_true}

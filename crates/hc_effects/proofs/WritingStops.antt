@@ -1,23 +1,12 @@
 -- Where a shared writing ends that isn't cut short, all of it is stored.
-use Rattle.std.proofs.Common.{◌≡◌, ◌⊎◌, inl, inr, ℕ, ◌+◌, ◌<◌, ◌≤◌, List, length, ◌++◌, Bool, true, false, Option, Some, None, refl, ap, sym, ◌∙◌, arith}
-use Rattle.std.specs.Prelude.{if◌then◌else◌, is_some, ◌&&◌, ◌||◌, not, nat_eq, unwrap_or}
-use Rattle.std.specs.Option.{option_or}
-use Rattle.std.proofs.lemmas.Bool.Decides.{nat_tests}
+use Rattle.std.{proofs.{Common.{◌≡◌, ◌⊎◌, inl, inr, ℕ, ◌+◌, ◌<◌, ◌≤◌, List, length, ◌++◌, Bool, true, false, Option, Some, None, refl, ap, sym, ◌∙◌, arith}, lemmas.Bool.Decides.{nat_tests}}, specs.{Prelude.{if◌then◌else◌, is_some, ◌&&◌, ◌||◌, not, nat_eq, unwrap_or}, Option.{option_or}}}
 use Rattle.hc_text.proofs.Basics.{not_some as none_some, same_some as same_row}
 use Rattle.hc_sparse.specs.Cells.{Cells, Covers, cells_with}
 use Rattle.hc_effects.proofs.Vocabulary.{closes_in, Event, Response, Limits, loses_in, brings_head, denial, Entry, exchange_heard, is_open, is_reached, front, base, promised_bytes, Flaw, entry_of, Measures, IsMeasured, Owners, is_written, representation_heard, length_in, Tables, Exchange, Representation, Sound, IsGrowing, end_from, after_accepted, brings_body}
 use Rattle.hc_event.specs.declared.event.Event.TheVariants as event
 use Rattle.hc_model.specs.Measures as measures
-use Rattle.hc_effects.proofs.ApartKeeps.{is_on}
-use Rattle.hc_effects.proofs.Basics.{false_true}
-use Rattle.hc_effects.proofs.EndsKeep.{known_kept}
-use Rattle.hc_effects.proofs.Fills.{Fills, fills}
+use Rattle.hc_effects.proofs.{ApartKeeps.{is_on}, Basics.{false_true}, EndsKeep.{known_kept}, Fills.{Fills, fills}, FirstKeeps.{is_new}, Forward.{after_is}, PieceKeeps.{eq_cases}, RepFrom.{IsKept}, Stops.{last_piece, clean_end}}
 use Rattle.hc_effects.proofs.Fills as fills_by
-use Rattle.hc_effects.proofs.FirstKeeps.{is_new}
-use Rattle.hc_effects.proofs.Forward.{after_is}
-use Rattle.hc_effects.proofs.PieceKeeps.{eq_cases}
-use Rattle.hc_effects.proofs.RepFrom.{IsKept}
-use Rattle.hc_effects.proofs.Stops.{last_piece, clean_end}
 
 -- all of it is stored, and its length is known
 pub record IsAll (p : Representation) : Type 0 where

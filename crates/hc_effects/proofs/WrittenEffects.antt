@@ -1,8 +1,6 @@
 -- What a 304 does whose update is refused while what it validates is written for several: that writing is lost.
-use Rattle.std.proofs.Common.{◌≡◌, inl, inr, ℕ, ◌+◌, List, [], ◌∷◌, ◌++◌, Bool, true, false, Option, Some, None, refl, ap, sym, ◌∙◌, subst}
+use Rattle.std.{proofs.Common.{◌≡◌, inl, inr, ℕ, ◌+◌, List, [], ◌∷◌, ◌++◌, Bool, true, false, Option, Some, None, refl, ap, sym, ◌∙◌, subst}, specs.{Prelude.{◌&&◌, ◌==◌, not, nat_eq, if◌then◌else◌, is_some, option_map, map, filter, reverse}, Option.{option_or}}}
 use mathlib.Core.Path.{fun_ext}
-use Rattle.std.specs.Prelude.{◌&&◌, ◌==◌, not, nat_eq, if◌then◌else◌, is_some, option_map, map, filter, reverse}
-use Rattle.std.specs.Option.{option_or}
 use Rattle.hc_text.proofs.Basics.{and_left, bool_cases, eqb-same, not_some as none_some, never_true as not_so, not_true, or_false as or_off, same_some as same_row}
 use Rattle.hc_event.specs.declared.act.Act.TheVariants as act
 use Rattle.hc_event.specs.declared.act.Cause.TheVariants as cause
@@ -13,20 +11,8 @@ use Rattle.hc_rules.specs.declared.need.Route.TheVariants as route
 use Rattle.hc_event.specs.declared.place.Place.TheVariants as place
 use Rattle.hc_model.specs.Owners as owners
 use Rattle.hc_model.specs.Sound as sound
-use Rattle.hc_effects.proofs.Basics.{false_true, number_is}
-use Rattle.hc_effects.proofs.Closed.{reversed}
-use Rattle.hc_effects.proofs.FoundBy.{CaseBy, case_by, unchanged_founds}
+use Rattle.hc_effects.proofs.{Basics.{false_true, number_is}, Closed.{reversed}, FoundBy.{CaseBy, case_by, unchanged_founds}, HasBound.{bound_at}, HeadFacts.{new, waiter, undue, case_on, case_before, evicts_none}, HeadFrames.{e, far, loses_as, spared_as, apart, doomed_is, goes_by, goes_lost, rows_but, row_loses, other_row, asker_goes_back, after_head}, LostFrames.{goes_on_as, member_as, closed_with, writer_now, closed_row, closed_apart, no_survivor_as}, OfConsumers.{one_of, descends_once, and_so}, PieceKeeps.{eq_cases}, PieceServes.{quiet_acts}, SameTables.{is_in, in_one, waits_for_any, back_from_any}, Sums.{reverse_once}, Untouched.{IsSpared, consumer_absent}}
 use Rattle.hc_effects.proofs.FoundBy as cases
-use Rattle.hc_effects.proofs.HasBound.{bound_at}
-use Rattle.hc_effects.proofs.HeadFacts.{new, waiter, undue, case_on, case_before, evicts_none}
-use Rattle.hc_effects.proofs.HeadFrames.{e, far, loses_as, spared_as, apart, doomed_is, goes_by, goes_lost, rows_but, row_loses, other_row, asker_goes_back, after_head}
-use Rattle.hc_effects.proofs.LostFrames.{goes_on_as, member_as, closed_with, writer_now, closed_row, closed_apart, no_survivor_as}
-use Rattle.hc_effects.proofs.OfConsumers.{one_of, descends_once, and_so}
-use Rattle.hc_effects.proofs.PieceKeeps.{eq_cases}
-use Rattle.hc_effects.proofs.PieceServes.{quiet_acts}
-use Rattle.hc_effects.proofs.SameTables.{is_in, in_one, waits_for_any, back_from_any}
-use Rattle.hc_effects.proofs.Sums.{reverse_once}
-use Rattle.hc_effects.proofs.Untouched.{IsSpared, consumer_absent}
 
 pub by_turn : {z : HeadView} → CaseBy z case.NotValidated → (route_of z.need ≡ route.Turn) × (z.status ≡ 304)
 by_turn (cases.not_validated way status) = (way, status)

@@ -1,20 +1,7 @@
 -- What a change of one row does to all that is kept by key.
-use Rattle.std.proofs.Common.{◌≡◌, ℕ, List, Bool, true, false, not, Option, Some, Ok, Err, refl, sym, ap, subst, ◌∙◌, inl, inr}
-use Rattle.std.specs.Prelude.{Vec, Result, OnOk, OnErr, bytes_eq, nat_eq, is_some, ◌&&◌}
-use Rattle.std.specs.Global.{Global}
-use Rattle.std.specs.Cmp.Lexicographic.{pointwise}
-use Rattle.std.specs.Map.{lookup, KeepsOthers, IsKeyTest, AreApart}
-use Rattle.std.specs.HashMap.{UpdatesBy}
-use Rattle.std.proofs.lemmas.Bool.{cases_Bool}
-use Rattle.std.proofs.lemmas.Cmp.{nat_list_eq_equiv}
-use Rattle.std.proofs.lemmas.Slice.Eq.{bytes_eq-Decides}
-use Rattle.hc_entry.specs.declared.rows.KeyRow.{KeyRow}
-use Rattle.hc_entry.specs.declared.seat.Stand.{Stand}
+use Rattle.std.{proofs.{Common.{◌≡◌, ℕ, List, Bool, true, false, not, Option, Some, Ok, Err, refl, sym, ap, subst, ◌∙◌, inl, inr}, lemmas.{Bool.{cases_Bool}, Cmp.{nat_list_eq_equiv}, Slice.Eq.{bytes_eq-Decides}}}, specs.{Prelude.{Vec, Result, OnOk, OnErr, bytes_eq, nat_eq, is_some, ◌&&◌}, Global.{Global}, Cmp.Lexicographic.{pointwise}, Map.{lookup, KeepsOthers, IsKeyTest, AreApart}, HashMap.{UpdatesBy}}}
+use Rattle.hc_entry.specs.{declared.{rows.KeyRow.{KeyRow}, seat.Stand.{Stand}}, Seats.{moved_to}, Lines.{Line, is_in, is_empty, line_with, all_back, passed_back, IsOrderly}, Kept.{Kept, line_in, kept_in, on_line, with_current, is_nothing}, KeyRows.{Rows, row_at, rows_of, kept_by, RowChanges, RowsStay, IsTidyAt, IsTidy, AreOrderly}}
 use Rattle.hc_entry.specs.declared.seat.Stand.TheVariants as stand
-use Rattle.hc_entry.specs.Seats.{moved_to}
-use Rattle.hc_entry.specs.Lines.{Line, is_in, is_empty, line_with, all_back, passed_back, IsOrderly}
-use Rattle.hc_entry.specs.Kept.{Kept, line_in, kept_in, on_line, with_current, is_nothing}
-use Rattle.hc_entry.specs.KeyRows.{Rows, row_at, rows_of, kept_by, RowChanges, RowsStay, IsTidyAt, IsTidy, AreOrderly}
 use Rattle.hc_entry.proofs.OrderLemmas.{in-some, in-queued, orderly-queued, empty-all, empty-passed-back}
 
 abbrev pub is_same : Vec ℕ Global → Vec ℕ Global → Bool

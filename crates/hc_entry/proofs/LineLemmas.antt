@@ -1,13 +1,9 @@
 -- Consumers that go from list to list.
-use Rattle.std.proofs.Common.{◌≡◌, ℕ, List, [], ◌∷◌, true, false, eqb, Option, Some, None, refl, sym, ap, ◌∙◌, inl, inr}
-use Rattle.std.specs.Prelude.{min}
-use Rattle.std.specs.Option.{option_or}
-use Rattle.std.proofs.lemmas.Bool.{cases_Bool, eqb-false, eq-eqb, ne_eqb}
+use Rattle.std.{proofs.{Common.{◌≡◌, ℕ, List, [], ◌∷◌, true, false, eqb, Option, Some, None, refl, sym, ap, ◌∙◌, inl, inr}, lemmas.Bool.{cases_Bool, eqb-false, eq-eqb, ne_eqb}}, specs.{Prelude.{min}, Option.{option_or}}}
 use Rattle.hc_sorted.specs.Sorted.{is_sorted, with_item, without}
 use Rattle.hc_sorted.proofs.SortedLemmas.{has-with, has-without}
 use Rattle.hc_rules.specs.Least.{least}
-use Rattle.hc_entry.specs.Users.{itself, first_of}
-use Rattle.hc_entry.specs.Lines.{is_among, stands, holder_without, Line, holder_or, turn_with}
+use Rattle.hc_entry.specs.{Users.{itself, first_of}, Lines.{is_among, stands, holder_without, Line, holder_or, turn_with}}
 use Rattle.hc_entry.proofs.UserLemmas.{least-ascending}
 
 left-other : (c d : ℕ) (cs : List ℕ) → eqb c d ≡ false → is_among d (without itself c cs) ≡ is_among d cs

@@ -1,23 +1,12 @@
 -- What a change of one consumer's seat does to the lists of a line, its places and its tournament.
-use Rattle.std.proofs.Common.{◌≡◌, ℕ, zero, suc, ◌<◌, ◌≤◌, ◌⊎◌, List, [], ◌∷◌, length, map, set, Bool, true, false, not, eqb, Option, Some, None, refl, sym, ap, ◌∙◌, inl, inr, arith, get_or-set_same, get_or-set_other, length-set}
-use Rattle.std.specs.Prelude.{◌||◌, is_some, if◌then◌else◌, nat_eq}
-use Rattle.std.specs.Map.{keys_of}
-use Rattle.std.specs.List.{AllByRecursion, IsDistinct}
-use Rattle.std.proofs.lemmas.Bool.{cases_Bool, cases_eq, cases_lt, eqb-true, eqb-false, eq-eqb, ne_eqb}
-use Rattle.std.proofs.lemmas.List.{get_or_past}
+use Rattle.std.{proofs.{Common.{◌≡◌, ℕ, zero, suc, ◌<◌, ◌≤◌, ◌⊎◌, List, [], ◌∷◌, length, map, set, Bool, true, false, not, eqb, Option, Some, None, refl, sym, ap, ◌∙◌, inl, inr, arith, get_or-set_same, get_or-set_other, length-set}, lemmas.{Bool.{cases_Bool, cases_eq, cases_lt, eqb-true, eqb-false, eq-eqb, ne_eqb}, List.{get_or_past}}}, specs.{Prelude.{◌||◌, is_some, if◌then◌else◌, nat_eq}, Map.{keys_of}, List.{AllByRecursion, IsDistinct}}}
 use Rattle.hc_text.proofs.Basics.{same_consumer}
 use Rattle.hc_sorted.specs.Sorted.{above, is_sorted, is_at as numbered, with_item, without}
 use Rattle.hc_sorted.proofs.SortedLemmas.{is_sorted-above, has-above, has-with, has-without, is_sorted-with, is_sorted-filter, without-none}
 use Rattle.hc_rules.specs.Least.{least}
-use Rattle.hc_entry.specs.declared.seat.Seat.{Seat}
-use Rattle.hc_entry.specs.declared.seat.Stand.{Stand}
+use Rattle.hc_entry.specs.{declared.seat.{Seat.{Seat}, Stand.{Stand}}, Users.{itself, first_of}, Tournaments.{at, IsLeastAt}, Seats.{is_same_stand, called_at, seat_of, standing, called_from, seat_in_line, moved_to, IsSeated}, Lines.{Line, is_among, holder_without, stands, left_by}}
 use Rattle.hc_entry.specs.declared.seat.Stand.TheVariants as stand
-use Rattle.hc_entry.specs.Users.{itself, first_of}
-use Rattle.hc_entry.specs.Tournaments.{at, IsLeastAt}
-use Rattle.hc_entry.specs.Seats.{is_same_stand, called_at, seat_of, standing, called_from, seat_in_line, moved_to, IsSeated}
-use Rattle.hc_entry.specs.Lines.{Line, is_among, holder_without, stands, left_by}
-use Rattle.hc_entry.proofs.UserLemmas.{least-ascending}
-use Rattle.hc_entry.proofs.LineLemmas.{stands-left, stands-with}
+use Rattle.hc_entry.proofs.{UserLemmas.{least-ascending}, LineLemmas.{stands-left, stands-with}}
 
 -- two ascending lists with the same members are equal
 member_is : (n y : ℕ) (ys : List ℕ) → is_among n (y ∷ ys) ≡ true → (y ≡ n) ⊎ (is_among n ys ≡ true)

@@ -1,20 +1,9 @@
 -- Who stands where in a line, and at which seat.
-use Rattle.std.proofs.Common.{◌≡◌, ℕ, suc, ◌+◌, ◌<◌, List, [], ◌∷◌, length, Bool, true, false, eqb, Option, Some, None, refl, sym, ap, ◌∙◌, inl, inr, arith}
-use Rattle.std.specs.Prelude.{nat_eq, if◌then◌else◌}
-use Rattle.std.specs.Map.{keys_of}
-use Rattle.std.specs.List.{IsDistinct}
-use Rattle.std.proofs.lemmas.Bool.{cases_lt, eq-eqb, ne_eqb}
-use Rattle.std.proofs.lemmas.List.{get_or_past}
+use Rattle.std.{proofs.{Common.{◌≡◌, ℕ, suc, ◌+◌, ◌<◌, List, [], ◌∷◌, length, Bool, true, false, eqb, Option, Some, None, refl, sym, ap, ◌∙◌, inl, inr, arith}, lemmas.{Bool.{cases_lt, eq-eqb, ne_eqb}, List.{get_or_past}}}, specs.{Prelude.{nat_eq, if◌then◌else◌}, Map.{keys_of}, List.{IsDistinct}}}
 use Rattle.hc_sorted.specs.Sorted.{with_item}
-use Rattle.hc_entry.specs.Users.{itself}
-use Rattle.hc_entry.specs.declared.seat.Seat.{Seat}
-use Rattle.hc_entry.specs.declared.seat.Stand.{Stand}
+use Rattle.hc_entry.specs.{Users.{itself}, declared.seat.{Seat.{Seat}, Stand.{Stand}}, Tournaments.{at}, Seats.{is_same_stand, seat_of, standing, stand_in, IsSeated}, Lines.{is_among, is_empty, stands, IsOrderly}}
 use Rattle.hc_entry.specs.declared.seat.Stand.TheVariants as stand
-use Rattle.hc_entry.specs.Tournaments.{at}
-use Rattle.hc_entry.specs.Seats.{is_same_stand, seat_of, standing, stand_in, IsSeated}
-use Rattle.hc_entry.specs.Lines.{is_among, is_empty, stands, IsOrderly}
-use Rattle.hc_entry.proofs.SeatLemmas.{among-standing, standing-is_sorted, stands_at, line_of}
-use Rattle.hc_entry.proofs.OrderLemmas.{length-with}
+use Rattle.hc_entry.proofs.{SeatLemmas.{among-standing, standing-is_sorted, stands_at, line_of}, OrderLemmas.{length-with}}
 
 abbrev pub stand_of : Option Seat → Option Stand
 stand_of None = None

@@ -1,9 +1,5 @@
 -- A tournament's winner is the least, and who comes to a place plays its way up.
-use Rattle.std.proofs.Common.{◌≡◌, ℕ, zero, suc, ◌+◌, ◌-◌, ◌*◌, ◌/◌, ◌<◌, ◌≤◌, ◌⊎◌, List, length, drop, set, Option, Some, None, refl, sym, ap, ◌∙◌, inl, inr, arith, length-set, get_or-set_same, get_or-set_other, get_or-drop, length-drop, [], ◌∷◌}
-use Rattle.std.specs.Prelude.{min}
-use Rattle.std.proofs.Math.Nat.{min-eq_left, min-eq_right, min-le_left, min-le_right}
-use Rattle.std.proofs.lemmas.Bool.{cases_eq, cases_lt}
-use Rattle.std.proofs.lemmas.List.{get_or_past, drop-set-add}
+use Rattle.std.{proofs.{Common.{◌≡◌, ℕ, zero, suc, ◌+◌, ◌-◌, ◌*◌, ◌/◌, ◌<◌, ◌≤◌, ◌⊎◌, List, length, drop, set, Option, Some, None, refl, sym, ap, ◌∙◌, inl, inr, arith, length-set, get_or-set_same, get_or-set_other, get_or-drop, length-drop, [], ◌∷◌}, Math.Nat.{min-eq_left, min-eq_right, min-le_left, min-le_right}, lemmas.{Bool.{cases_eq, cases_lt}, List.{get_or_past, drop-set-add}}}, specs.Prelude.{min}}
 use Rattle.hc_entry.specs.Tournaments.{at, lesser_of, IsLeastAt, IsPlayed, IsPlayedBut}
 
 -- who goes on is one of the two

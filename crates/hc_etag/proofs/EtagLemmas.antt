@@ -1,8 +1,5 @@
 -- The bytes between the quotes of a tag end at the first quote.
-use Rattle.std.proofs.Common.{◌≡◌, ℕ, ◌+◌, ◌<◌, suc, Bool, true, false, cond, eqb, List, [], ◌∷◌, ◌++◌, length, get_or, take, refl, sym, ap, ◌∙◌, inl, inr, arith}
-use Rattle.std.specs.List.{prefix_len, list_all}
-use Rattle.std.proofs.lemmas.Bool.{cases_Bool, and_parts, and_from, cond-true, cond-false, both_ways, true≢false, false≢true}
-use Rattle.std.proofs.lemmas.List.{length-append, append_assoc, get_or_at}
+use Rattle.std.{proofs.{Common.{◌≡◌, ℕ, ◌+◌, ◌<◌, suc, Bool, true, false, cond, eqb, List, [], ◌∷◌, ◌++◌, length, get_or, take, refl, sym, ap, ◌∙◌, inl, inr, arith}, lemmas.{Bool.{cases_Bool, and_parts, and_from, cond-true, cond-false, both_ways, true≢false, false≢true}, List.{length-append, append_assoc, get_or_at}}}, specs.List.{prefix_len, list_all}}
 use Rattle.hc_etag.specs.Etags.{quote, is_etagc, IsOpaque, tag_text}
 
 pub IsOpaque-front : (text : List ℕ) → IsOpaque (take (prefix_len is_etagc text) text)

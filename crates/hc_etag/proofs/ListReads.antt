@@ -4,19 +4,9 @@
 -- byte is taken, up to the second quote (`within_quotes`). And what a text lists it spells (`listed_spelled`, by induction
 -- over the text, at each place where the reading may stand). So what is read, by its contract, is `list_in` of the text,
 -- and nothing is read where the text is no list (`list_is`).
-use Rattle.std.proofs.Common.{◌≡◌, ◌≢◌, ℕ, Bool, true, false, eqb, List, [], ◌∷◌, ◌++◌, Option, Some, None, refl, sym, ap, ◌∙◌, subst}
-use Rattle.std.specs.Prelude.{IfSome, IfNone, bytes_eq, option_map, ◌&&◌, if◌then◌else◌}
-use Rattle.std.proofs.lemmas.Bool.{and_parts, and_from, eqb-true}
-use Rattle.std.proofs.lemmas.List.{append_assoc, append-nil}
-use Rattle.std.proofs.lemmas.Slice.Eq.{bytes_eq-Decides}
-use Rattle.std.specs.List.{list_all}
+use Rattle.std.{proofs.{Common.{◌≡◌, ◌≢◌, ℕ, Bool, true, false, eqb, List, [], ◌∷◌, ◌++◌, Option, Some, None, refl, sym, ap, ◌∙◌, subst}, lemmas.{Bool.{and_parts, and_from, eqb-true}, List.{append_assoc, append-nil}, Slice.Eq.{bytes_eq-Decides}}}, specs.{Prelude.{IfSome, IfNone, bytes_eq, option_map, ◌&&◌, if◌then◌else◌}, List.{list_all}}}
 use Rattle.hc_text.specs.Elements.{comma, is_blank}
-use Rattle.hc_etag.specs.declared.list.TagList.{TagList}
-use Rattle.hc_etag.specs.declared.list.TagList.TheVariants.{Any, Tags}
-use Rattle.hc_etag.specs.Etags.{quote, is_etagc, IsOpaque, tag_text}
-use Rattle.hc_etag.specs.TagLists.{SpellsList, IsNoList}
-use Rattle.hc_etag.specs.Tags.{SpellsTags, ends, blank, separator, tag, IsTagList, any_text, values_of}
-use Rattle.hc_etag.specs.TagListTexts.{Place, Between, BehindW, BehindSlash, Within, with_tag, tags_from, AnyTag, TheseTags, if_some, list_in, plain_list}
+use Rattle.hc_etag.specs.{declared.list.TagList.{TagList, TheVariants.{Any, Tags}}, Etags.{quote, is_etagc, IsOpaque, tag_text}, TagLists.{SpellsList, IsNoList}, Tags.{SpellsTags, ends, blank, separator, tag, IsTagList, any_text, values_of}, TagListTexts.{Place, Between, BehindW, BehindSlash, Within, with_tag, tags_from, AnyTag, TheseTags, if_some, list_in, plain_list}}
 
 -- WHAT IS SPELLED IS LISTED
 

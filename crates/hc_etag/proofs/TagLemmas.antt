@@ -1,10 +1,7 @@
 -- A list of tags is read from its front.
-use Rattle.std.proofs.Common.{◌≡◌, ◌≢◌, ◌⊎◌, ℕ, Bool, true, false, eqb, List, [], ◌∷◌, ◌++◌, length, get_or, refl, sym, ap, ◌∙◌, subst, inl, inr}
-use Rattle.std.proofs.lemmas.Bool.{both_ways}
-use Rattle.std.proofs.lemmas.List.{append_assoc, append-nil, nil_from_length}
-use Rattle.hc_etag.specs.Etags.{IsOpaque, tag_text}
+use Rattle.std.proofs.{Common.{◌≡◌, ◌≢◌, ◌⊎◌, ℕ, Bool, true, false, eqb, List, [], ◌∷◌, ◌++◌, length, get_or, refl, sym, ap, ◌∙◌, subst, inl, inr}, lemmas.{Bool.{both_ways}, List.{append_assoc, append-nil, nil_from_length}}}
+use Rattle.hc_etag.specs.{Etags.{IsOpaque, tag_text}, Tags.{SpellsTags, ends, blank, separator, tag}}
 use Rattle.hc_text.specs.Elements.{comma, is_blank}
-use Rattle.hc_etag.specs.Tags.{SpellsTags, ends, blank, separator, tag}
 use Rattle.hc_etag.proofs.EtagLemmas.{tag_unique}
 
 -- the tags that are read, and what the rest of the text may be

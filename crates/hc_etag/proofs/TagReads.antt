@@ -1,13 +1,7 @@
 -- A strong tag is read where the text spells one.
-use Rattle.std.proofs.Common.{◌≡◌, ℕ, suc, ◌+◌, ◌-◌, ◌≤◌, true, false, eqb, leb, List, [], ◌∷◌, ◌++◌, length, take, get_or, Some, None, refl, sym, ap, ◌∙◌, subst, inl, inr, arith}
-use Rattle.std.specs.Prelude.{◌&&◌}
-use Rattle.std.specs.List.{list_all}
-use Rattle.std.proofs.lemmas.Bool.{cases_Bool, and_parts, and_from, eqb-true}
-use Rattle.std.proofs.lemmas.List.{take_more, length-append}
-use Rattle.std.proofs.Math.Seq.{take-length, take-append_seam}
+use Rattle.std.{proofs.{Common.{◌≡◌, ℕ, suc, ◌+◌, ◌-◌, ◌≤◌, true, false, eqb, leb, List, [], ◌∷◌, ◌++◌, length, take, get_or, Some, None, refl, sym, ap, ◌∙◌, subst, inl, inr, arith}, lemmas.{Bool.{cases_Bool, and_parts, and_from, eqb-true}, List.{take_more, length-append}}, Math.Seq.{take-length, take-append_seam}}, specs.{Prelude.{◌&&◌}, List.{list_all}}}
 use Rattle.hc_text.proofs.Basics.{le-leb}
-use Rattle.hc_etag.specs.Etags.{is_etagc, SpellsTag}
-use Rattle.hc_etag.specs.TagTexts.{inner, is_quoted, strong_in}
+use Rattle.hc_etag.specs.{Etags.{is_etagc, SpellsTag}, TagTexts.{inner, is_quoted, strong_in}}
 
 -- a list is what stands before its last element, and that
 last-split : (xs : List ℕ) (n : ℕ) → length xs ≡ n + 1 → xs ≡ take n xs ++ get_or xs n 0 ∷ []

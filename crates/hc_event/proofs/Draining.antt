@@ -1,12 +1,6 @@
 -- Acts that are handed out, one after another.
-use Rattle.std.proofs.Common.{◌≡◌, List, [], ◌∷◌, ◌++◌, Option, Some, None, refl, sym, ap, ◌∙◌, subst}
-use Rattle.std.specs.Prelude.{reverse, IfNone, MatchOption}
-use Rattle.std.specs.Option.{option_to_list}
-use Rattle.std.proofs.lemmas.List.{append-nil, reverse-append}
-use Rattle.hc_event.specs.declared.act.Act.{Act}
-use Rattle.hc_event.specs.declared.drain.Drain.{Drain}
-use Rattle.std.specs.Iterator.{Yields}
-use Rattle.hc_event.specs.Drain.{left_of, Steps, KeepsRoom, KeepsAlong}
+use Rattle.std.{proofs.{Common.{◌≡◌, List, [], ◌∷◌, ◌++◌, Option, Some, None, refl, sym, ap, ◌∙◌, subst}, lemmas.List.{append-nil, reverse-append}}, specs.{Prelude.{reverse, IfNone, MatchOption}, Option.{option_to_list}, Iterator.{Yields}}}
+use Rattle.hc_event.specs.{declared.{act.Act.{Act}, drain.Drain.{Drain}}, Drain.{left_of, Steps, KeepsRoom, KeepsAlong}}
 
 -- the last of a list stands first in its reverse
 pub last_first : (old new : List Act) (last : Option Act) → old ≡ new ++ option_to_list last → IfNone last (old ≡ [])

@@ -1,13 +1,8 @@
 -- The lists of wanted exchanges, as an exchange changes.
-use Rattle.std.proofs.Common.{◌≡◌, ◌≢◌, ℕ, List, true, false, not, eqb, Option, Some, None, refl, sym, ap, ◌∙◌, inl, inr}
-use Rattle.std.specs.Prelude.{is_some}
-use Rattle.std.proofs.lemmas.Bool.{cases_Bool, eq-eqb, ne_eqb, eqb-true, eqb-false}
+use Rattle.std.{proofs.{Common.{◌≡◌, ◌≢◌, ℕ, List, true, false, not, eqb, Option, Some, None, refl, sym, ap, ◌∙◌, inl, inr}, lemmas.Bool.{cases_Bool, eq-eqb, ne_eqb, eqb-true, eqb-false}}, specs.Prelude.{is_some}}
 use Rattle.hc_sorted.specs.Sorted.{with_item, without}
 use Rattle.hc_sorted.proofs.SortedLemmas.{has-with, has-without}
-use Rattle.hc_exch.specs.declared.row.Open.{Open}
-use Rattle.hc_exch.specs.Wishes.{Wished, itself, is_among, asks, rests, leaves, wants_more}
-use Rattle.hc_exch.specs.Known.{Known, Table, unknown, is_wanted, is_idle, Changes}
-use Rattle.hc_exch.specs.Agreement.{Agrees, AgreesBut}
+use Rattle.hc_exch.specs.{declared.row.Open.{Open}, Wishes.{Wished, itself, is_among, asks, rests, leaves, wants_more}, Known.{Known, Table, unknown, is_wanted, is_idle, Changes}, Agreement.{Agrees, AgreesBut}}
 
 with-other : (x y : ℕ) (xs : List ℕ) → y ≢ x → is_among y (with_item itself x xs) ≡ is_among y xs
 with-other x y xs ne = has-with itself y x xs ∙ rw (ne_eqb x y (λ e. ne (sym e))) refl

@@ -1,9 +1,5 @@
 -- Bytes in a queue of pieces.
-use Rattle.std.proofs.Common.{◌≡◌, ℕ, zero, suc, ◌+◌, ◌-◌, ◌<◌, ◌≤◌, List, [], ◌∷◌, ◌++◌, length, take, drop, refl, sym, ap, ◌∙◌, inl, inr, arith, append_assoc, length-append, length-drop}
-use Rattle.std.proofs.lemmas.List.{drop-append-le, take-append-le, append-nil}
-use Rattle.std.proofs.Math.Seq.{take-length}
-use Rattle.std.specs.Prelude.{min}
-use Rattle.std.proofs.lemmas.Bool.{cases_lt}
+use Rattle.std.{proofs.{Common.{◌≡◌, ℕ, zero, suc, ◌+◌, ◌-◌, ◌<◌, ◌≤◌, List, [], ◌∷◌, ◌++◌, length, take, drop, refl, sym, ap, ◌∙◌, inl, inr, arith, append_assoc, length-append, length-drop}, lemmas.{List.{drop-append-le, take-append-le, append-nil}, Bool.{cases_lt}}, Math.Seq.{take-length}}, specs.Prelude.{min}}
 use Rattle.hc_text.proofs.Basics.{drop-whole}
 use Rattle.hc_exch.specs.Pieces.{bytes_of_pieces, first_length, IsCounted, TakesFront}
 

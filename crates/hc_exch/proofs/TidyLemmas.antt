@@ -1,16 +1,7 @@
 -- Each row says something, none has a number that is still to come, and not more is held than came.
-use Rattle.std.proofs.Common.{◌≡◌, ◌≢◌, ℕ, ◌+◌, ◌≤◌, true, eqb, Option, Some, None, refl, ap, ◌∙◌, inl, inr, arith}
-use Rattle.std.specs.Prelude.{is_some, nat_eq}
-use Rattle.std.specs.HashMap.{get}
-use Rattle.std.proofs.lemmas.Bool.{cases_Bool, eqb-true, eqb-false}
-use Rattle.hc_event.specs.declared.act.Need.{Need}
-use Rattle.hc_event.specs.declared.event.Request.{Request}
-use Rattle.hc_exch.specs.declared.role.Role.{Role}
-use Rattle.hc_exch.specs.declared.row.Row.{Row}
-use Rattle.hc_exch.specs.Wishes.{Wished, wants_more, leaves}
-use Rattle.hc_exch.specs.Known.{Known, unknown, with_new_exchange, exchange_at_opening, is_idle, Changes, fits}
-use Rattle.hc_exch.specs.Rows.{Rows, rows_of, known_by, keeps}
-use Rattle.hc_exch.specs.Agreement.{Agrees, IsTidy}
+use Rattle.std.{proofs.{Common.{◌≡◌, ◌≢◌, ℕ, ◌+◌, ◌≤◌, true, eqb, Option, Some, None, refl, ap, ◌∙◌, inl, inr, arith}, lemmas.Bool.{cases_Bool, eqb-true, eqb-false}}, specs.{Prelude.{is_some, nat_eq}, HashMap.{get}}}
+use Rattle.hc_event.specs.declared.{act.Need.{Need}, event.Request.{Request}}
+use Rattle.hc_exch.specs.{declared.{role.Role.{Role}, row.Row.{Row}}, Wishes.{Wished, wants_more, leaves}, Known.{Known, unknown, with_new_exchange, exchange_at_opening, is_idle, Changes, fits}, Rows.{Rows, rows_of, known_by, keeps}, Agreement.{Agrees, IsTidy}}
 use Rattle.hc_exch.proofs.AgreementLemmas.{agrees-same, agrees-leaves, agrees-wanted, agrees_but-new, changes-other, changes-same}
 
 keeps-by : (o : Option Row) → is_some (known_by o).running ≡ true → keeps o ≡ true

@@ -4,20 +4,12 @@
 -- stands again (`over`). The former are written at once (`given_here`), the latter are kept, unless longer ones are (`kept`).
 -- To write bytes is to append those from the end on (`written_on`): they are the gathered ones (`bytes_from`). Then the first that is
 -- ahead is taken while it begins no later (`taken`); where none does, nothing is gathered at the end (`none_left`).
-use Rattle.std.proofs.Common.{◌≡◌, ◌⊎◌, inl, inr, ℕ, zero, suc, ◌+◌, ◌-◌, ◌<◌, ◌≤◌, ◌^◌, min, List, ◌∷◌, ◌++◌, length, drop, Bool, true, false, Result, Ok, Err, Option, Some, None, refl, ap, sym, ◌∙◌, subst, arith, append_assoc}
-use Rattle.std.specs.Prelude.{if◌then◌else◌, is_some, IsSome, IfSome, OnOk, slice_index}
-use Rattle.std.specs.Ordering.{nat_cmp}
-use Rattle.std.specs.BTreeMap.{Updates, IsLowerBound, btree_map_len, get}
-use Rattle.std.proofs.Math.Seq.{drop-cons}
-use Rattle.std.proofs.lemmas.Bool.{cases_lt}
-use Rattle.std.proofs.lemmas.List.{append-nil, drop_all}
-use Rattle.std.proofs.lemmas.Map.Keys.{le_from_not_gt}
+use Rattle.std.{proofs.{Common.{◌≡◌, ◌⊎◌, inl, inr, ℕ, zero, suc, ◌+◌, ◌-◌, ◌<◌, ◌≤◌, ◌^◌, min, List, ◌∷◌, ◌++◌, length, drop, Bool, true, false, Result, Ok, Err, Option, Some, None, refl, ap, sym, ◌∙◌, subst, arith, append_assoc}, Math.Seq.{drop-cons}, lemmas.{Bool.{cases_lt}, List.{append-nil, drop_all}, Map.Keys.{le_from_not_gt}}}, specs.{Prelude.{if◌then◌else◌, is_some, IsSome, IfSome, OnOk, slice_index}, Ordering.{nat_cmp}, BTreeMap.{Updates, IsLowerBound, btree_map_len, get}}}
 use Rattle.hc_text.proofs.Basics.{none_or, not_some as none_some, some_inj}
 use Rattle.hc_sparse.specs.Cells.{Cells, Cell, Covers, nothing, inside, cells_with}
 use Rattle.hc_sparse.proofs.CellLemmas.{inside-cases, inside-before}
 use Rattle.hc_effects.proofs.Basics.{some_row}
-use Rattle.hc_fetch.specs.Ahead.{Ahead, Stand, Fit, IsIn, IsAhead, KeepsBut, Keeps, KeepsAll, Appends}
-use Rattle.hc_fetch.specs.Gathering.{byte_before, bytes_on}
+use Rattle.hc_fetch.specs.{Ahead.{Ahead, Stand, Fit, IsIn, IsAhead, KeepsBut, Keeps, KeepsAll, Appends}, Gathering.{byte_before, bytes_on}}
 use Rattle.hc_fetch.proofs.Maps.{map-own, map-other, map-empty, same_or_not}
 
 -- BYTES THAT ARE GIVEN

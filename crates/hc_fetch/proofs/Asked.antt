@@ -1,14 +1,9 @@
 -- The fetch's own requests are within limits.
-use Rattle.std.proofs.Common.{ℕ, ◌-◌, ◌*◌, ◌^◌, ◌<◌, ◌≤◌, ◌++◌, length, Bool, true, false, Some, None, arith, length-append}
-use Rattle.std.specs.Prelude.{codes, if◌then◌else◌, ◌==◌}
-use Rattle.std.specs.Fmt.{decimal}
-use Rattle.std.proofs.lemmas.Nat.{mul-le}
+use Rattle.std.{proofs.{Common.{ℕ, ◌-◌, ◌*◌, ◌^◌, ◌<◌, ◌≤◌, ◌++◌, length, Bool, true, false, Some, None, arith, length-append}, lemmas.Nat.{mul-le}}, specs.{Prelude.{codes, if◌then◌else◌, ◌==◌}, Fmt.{decimal}}}
 use Rattle.hc_effects.proofs.Vocabulary.{IsEventWithinLimits}
 use Rattle.hc_fields.specs.FieldList.{IsWithinLimits}
 use Rattle.hc_validate.proofs.Numbers.{short-decimal}
-use Rattle.hc_fetch.specs.declared.plan.FetchPlan.{FetchPlan}
-use Rattle.hc_fetch.specs.Bounds.{IsPlan}
-use Rattle.hc_fetch.specs.Plans.{fields_for, first_start, part_start, part_count, last_position}
+use Rattle.hc_fetch.specs.{declared.plan.FetchPlan.{FetchPlan}, Bounds.{IsPlan}, Plans.{fields_for, first_start, part_start, part_count, last_position}}
 
 one_within : (first last : ℕ) → first < 2 ^ 64 → last < 2 ^ 64 → IsWithinLimits (fields_for (Some (first, last)))
 one_within first last low high =

@@ -3,24 +3,16 @@
 -- What an event gives is next in what its consumer was shown before, which is of the representation that was shown first
 -- (`gives_first`). Bodies only grow, also by the fetch's own starts (`grows_behind`). So all that is gathered
 -- stands in that body, by induction over the events (`gathered_there`); nothing is gathered before the first head.
-use Rattle.std.proofs.Common.{◌≡◌, ℕ, zero, suc, ◌+◌, ◌<◌, List, [], ◌∷◌, ◌++◌, length, true, Option, Some, None, refl, ap, sym, ◌∙◌, subst, arith}
-use Rattle.std.specs.Prelude.{slice_index}
-use Rattle.std.specs.Option.{option_or}
+use Rattle.std.{proofs.Common.{◌≡◌, ℕ, zero, suc, ◌+◌, ◌<◌, List, [], ◌∷◌, ◌++◌, length, true, Option, Some, None, refl, ap, sym, ◌∙◌, subst, arith}, specs.{Prelude.{slice_index}, Option.{option_or}}}
 use Rattle.hc_text.proofs.Basics.{not_some as none_some, some_inj}
 use Rattle.hc_sparse.specs.Cells.{Cells, Cell}
 use Rattle.hc_event.specs.declared.act.Act.TheVariants as act
 use Rattle.hc_effects.proofs.Vocabulary.{Limits, may_begin, Entry, History, no_contents, shown_of, Delivers, Says, body_of, Tables, IsRun, tables}
 use Rattle.hc_model.specs.Laws.{Grows}
 use Rattle.hc_effects.proofs.Basics.{append_none}
-use Rattle.hc_laws.proofs.GrowsInRuns.{bodies_grow_in_runs}
-use Rattle.hc_laws.proofs.ReadNext.{gives_next}
-use Rattle.hc_fetch.specs.declared.plan.FetchPlan.{FetchPlan}
-use Rattle.hc_fetch.specs.Fetches.{started, starts_behind, cache_history}
-use Rattle.hc_fetch.specs.Gathering.{gathered, given_end, written_of}
-use Rattle.hc_fetch.specs.Heads.{Head, heads_in, first_in, first_head}
-use Rattle.hc_fetch.specs.Laws.{IsFetchRun, WritesTheBody, WritesOn}
-use Rattle.hc_fetch.proofs.Shows.{IsFirst, reads_first, was_undecided}
-use Rattle.hc_fetch.proofs.Gathers.{Stands, GivesOf, IsPartOf, gathers_there, gathers_on, writes_on, written_held}
+use Rattle.hc_laws.proofs.{GrowsInRuns.{bodies_grow_in_runs}, ReadNext.{gives_next}}
+use Rattle.hc_fetch.specs.{declared.plan.FetchPlan.{FetchPlan}, Fetches.{started, starts_behind, cache_history}, Gathering.{gathered, given_end, written_of}, Heads.{Head, heads_in, first_in, first_head}, Laws.{IsFetchRun, WritesTheBody, WritesOn}}
+use Rattle.hc_fetch.proofs.{Shows.{IsFirst, reads_first, was_undecided}, Gathers.{Stands, GivesOf, IsPartOf, gathers_there, gathers_on, writes_on, written_held}}
 
 -- RUNS
 

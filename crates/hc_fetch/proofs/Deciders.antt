@@ -1,14 +1,7 @@
 -- What the code decides at a head is what is to be decided.
-use Rattle.std.proofs.Common.{◌≡◌, ◌==◌, arith, Bool, true, false, Option, Some, None, refl, ap, sym, ◌∙◌}
-use Rattle.std.specs.Prelude.{is_some, if◌then◌else◌}
-use Rattle.std.proofs.lemmas.Bool.Decides.{nat_tests}
-use Rattle.hc_fetch.specs.declared.ended.FetchEnded.{FetchEnded}
+use Rattle.std.{proofs.{Common.{◌≡◌, ◌==◌, arith, Bool, true, false, Option, Some, None, refl, ap, sym, ◌∙◌}, lemmas.Bool.Decides.{nat_tests}}, specs.Prelude.{is_some, if◌then◌else◌}}
+use Rattle.hc_fetch.specs.{declared.{ended.FetchEnded.{FetchEnded}, first.First.{First}, plan.FetchPlan.{FetchPlan}}, Deciding.{by_head, by_other, fits}, Firsts.{by_first, first_as}, Heads.{Head, total_of}}
 use Rattle.hc_fetch.specs.declared.ended.FetchEnded.TheVariants as ended
-use Rattle.hc_fetch.specs.declared.first.First.{First}
-use Rattle.hc_fetch.specs.declared.plan.FetchPlan.{FetchPlan}
-use Rattle.hc_fetch.specs.Deciding.{by_head, by_other, fits}
-use Rattle.hc_fetch.specs.Firsts.{by_first, first_as}
-use Rattle.hc_fetch.specs.Heads.{Head, total_of}
 
 pub shown_as : (before : Option Head) → is_some (first_as before) ≡ is_some before
 shown_as None = refl

@@ -3,29 +3,15 @@
 -- Of what is stored the end is its length, of an answer past the store what was promised, or what came. So no byte is past it
 -- (`before_end`), and it stays by the law that the end of what is read stays (`end_kept`), which asks that an answer past the store has
 -- its head: so that is kept beside (`KnownEnd`).
-use Rattle.std.proofs.Common.{◌≡◌, inl, inr, ℕ, ◌+◌, ◌<◌, ◌≤◌, ◌∷◌, length, Bool, true, false, Option, Some, None, refl, ap, sym, ◌∙◌, subst, arith}
-use Rattle.std.specs.Prelude.{◌&&◌, nat_le, nat_lt, is_some}
-use Rattle.std.proofs.lemmas.Bool.Decides.{nat_tests}
+use Rattle.std.{proofs.{Common.{◌≡◌, inl, inr, ℕ, ◌+◌, ◌<◌, ◌≤◌, ◌∷◌, length, Bool, true, false, Option, Some, None, refl, ap, sym, ◌∙◌, subst, arith}, lemmas.Bool.Decides.{nat_tests}}, specs.Prelude.{◌&&◌, nat_le, nat_lt, is_some}}
 use Rattle.hc_text.proofs.Basics.{and_right, bool_cases, not_some as none_some, some_inj}
 use Rattle.hc_sparse.specs.Cells.{Cell}
 use Rattle.hc_effects.proofs.Vocabulary.{is_denied, Event, Response, Limits, may_begin, total_in, denial, Entry, History, Contents, base, front, promised_bytes, length_by, Flaw, flaw_in, entry_of, Measures, Places, end_of_direct, end_in, body_of, cell_by, direct_cell, answer_cell, end_of, end_by, Tables, Exchange, Representation, IsRun, Sound, tables, after_accepted, after_denied}
 use Rattle.hc_event.specs.declared.place.BoundBy.TheVariants as by
 use Rattle.hc_event.specs.declared.place.Place.TheVariants as place
-use Rattle.hc_effects.proofs.Basics.{false_true}
-use Rattle.hc_effects.proofs.FirstKeeps.{is_new}
-use Rattle.hc_effects.proofs.Forward.{is_on}
-use Rattle.hc_effects.proofs.RepFrom.{RepFrom, rep_from}
+use Rattle.hc_effects.proofs.{Basics.{false_true}, FirstKeeps.{is_new}, Forward.{is_on}, RepFrom.{RepFrom, rep_from}, OfEntries.{of_real}, PastApart.{IsHeadedRow}, ShownStays.{IsFallback}}
 use Rattle.hc_effects.proofs.RepFrom as rep
-use Rattle.hc_laws.proofs.Barred.{next_tables, denied_tables}
-use Rattle.hc_effects.proofs.OfEntries.{of_real}
-use Rattle.hc_effects.proofs.PastApart.{IsHeadedRow}
-use Rattle.hc_laws.proofs.PlaceRuns.{places_in_runs}
-use Rattle.hc_laws.proofs.ReadAs.{hi_stays}
-use Rattle.hc_laws.proofs.ReadEnds.{no_base}
-use Rattle.hc_laws.proofs.ReadJoined.{fallback}
-use Rattle.hc_effects.proofs.ShownStays.{IsFallback}
-use Rattle.hc_laws.proofs.SoundRuns.{carried}
-use Rattle.hc_laws.proofs.PlacesKept.{direct_inj}
+use Rattle.hc_laws.proofs.{Barred.{next_tables, denied_tables}, PlaceRuns.{places_in_runs}, ReadAs.{hi_stays}, ReadEnds.{no_base}, ReadJoined.{fallback}, SoundRuns.{carried}, PlacesKept.{direct_inj}}
 
 -- NO BYTE IS PAST THE END
 

@@ -4,41 +4,23 @@
 -- over it is open, so all is written (`all_written`). Where it is over, the last event decided or was foreign (`over_ends`).
 -- Where the sink or memory failed it is one of the three, and all was taken but a last part of what the last event
 -- brought (`some_written`). What decides is no failure of the input or the output (`own_decided`), so their causes are the course's.
-use Rattle.std.proofs.Common.{◌≡◌, ◌≢◌, ℕ, ◌+◌, List, [], ◌∷◌, ◌++◌, length, Bool, true, false, Option, Some, None, refl, ap, sym, ◌∙◌, subst}
-use Rattle.std.specs.Prelude.{is_some, if◌then◌else◌}
-use Rattle.std.specs.Option.{option_or}
-use Rattle.std.proofs.lemmas.List.{append-nil}
+use Rattle.std.{proofs.{Common.{◌≡◌, ◌≢◌, ℕ, ◌+◌, List, [], ◌∷◌, ◌++◌, length, Bool, true, false, Option, Some, None, refl, ap, sym, ◌∙◌, subst}, lemmas.List.{append-nil}}, specs.{Prelude.{is_some, if◌then◌else◌}, Option.{option_or}}}
 use Rattle.hc_text.proofs.Basics.{nothing_first as nothing_more}
 use Rattle.hc_effects.proofs.Vocabulary.{Act, Limits, History}
 use Rattle.hc_event.specs.declared.act.Act.TheVariants as act
-use Rattle.hc_io.specs.Sink.{Takes}
-use Rattle.hc_io.specs.Source.{Gives}
-use Rattle.hc_sched.specs.declared.schedule.Ended.{Ended}
+use Rattle.hc_io.specs.{Sink.{Takes}, Source.{Gives}}
+use Rattle.hc_sched.specs.{declared.schedule.{Ended.{Ended}, Timed.{Timed}}, Schedule.{events_of}}
 use Rattle.hc_sched.specs.declared.schedule.Ended.TheVariants as course
-use Rattle.hc_sched.specs.declared.schedule.Timed.{Timed}
-use Rattle.hc_sched.specs.Schedule.{events_of}
 use Rattle.hc_driver.specs.Courses as courses
-use Rattle.hc_driver.specs.Courses.{Goes, TakesThenFront, text_of, text_before, last_text}
+use Rattle.hc_driver.specs.{Courses.{Goes, TakesThenFront, text_of, text_before, last_text}, Endings.{How, Wholly, UpToEnd, UpToLast, UpToWant, Ends, IsSteppedAtOnce, events_from}}
 use Rattle.hc_driver.specs.Endings as endings
-use Rattle.hc_driver.specs.Endings.{How, Wholly, UpToEnd, UpToLast, UpToWant, Ends, IsSteppedAtOnce, events_from}
 use Rattle.hc_effects.proofs.Basics.{true_false}
 use Rattle.hc_core.specs.Steps.{limits_in}
-use Rattle.hc_fetch.specs.declared.ended.FetchEnded.{FetchEnded}
+use Rattle.hc_fetch.specs.{declared.{ended.FetchEnded.{FetchEnded}, fetching.Fetching.{Fetching}, plan.FetchPlan.{FetchPlan}}, Bounds.{IsPlan}, Deciding.{by_failure, by_head, by_heads, by_other, fits, decided_by, is_undecided}, Endings.{events_in, IsFetched, WritesAll, WritesSome, IsWholeBody, Fetches, ended_as}, Fetches.{ended_with, is_done_by}, Gathering.{written_of, written_before, written_last}, Heads.{Head, heads_in, first_in, first_head}, Steps.{StandsForFetch, Tells}}
 use Rattle.hc_fetch.specs.declared.ended.FetchEnded.TheVariants as ended
-use Rattle.hc_fetch.specs.declared.fetching.Fetching.{Fetching}
-use Rattle.hc_fetch.specs.declared.plan.FetchPlan.{FetchPlan}
-use Rattle.hc_fetch.specs.Bounds.{IsPlan}
-use Rattle.hc_fetch.specs.Deciding.{by_failure, by_head, by_heads, by_other, fits, decided_by, is_undecided}
 use Rattle.hc_fetch.specs.Endings as fetches
-use Rattle.hc_fetch.specs.Endings.{events_in, IsFetched, WritesAll, WritesSome, IsWholeBody, Fetches, ended_as}
-use Rattle.hc_fetch.specs.Fetches.{ended_with, is_done_by}
-use Rattle.hc_fetch.specs.Gathering.{written_of, written_before, written_last}
-use Rattle.hc_fetch.specs.Heads.{Head, heads_in, first_in, first_head}
-use Rattle.hc_fetch.specs.Steps.{StandsForFetch, Tells}
 use Rattle.hc_laws.proofs.FromNothing.{begins_well}
-use Rattle.hc_fetch.proofs.Followed.{IsAt, at_open, at_decision, at_foreign, followed, last_is, all_joined, last_joined, over}
-use Rattle.hc_fetch.proofs.Shows.{was_undecided}
-use Rattle.hc_fetch.proofs.Whole.{writes_all_of_it}
+use Rattle.hc_fetch.proofs.{Followed.{IsAt, at_open, at_decision, at_foreign, followed, last_is, all_joined, last_joined, over}, Shows.{was_undecided}, Whole.{writes_all_of_it}}
 
 -- WHAT DECIDES IS NO FAILURE OF INPUT OR OUTPUT
 

@@ -2,9 +2,7 @@
 --
 -- At the beginning it starts alone (`begun`), and each event of the input keeps it so (`lone_before`). The head that it is shown first is
 -- that of a poll (`shower`), so what is known of what is shown first holds of it (`first_told`).
-use Rattle.std.proofs.Common.{◌≡◌, inl, inr, ℕ, List, [], ◌∷◌, ◌++◌, Bool, true, false, Option, Some, None, refl, ap, sym, ◌∙◌, subst}
-use Rattle.std.specs.Prelude.{◌==◌, ◌&&◌, is_none, if◌then◌else◌}
-use Rattle.std.specs.Option.{option_or}
+use Rattle.std.{proofs.Common.{◌≡◌, inl, inr, ℕ, List, [], ◌∷◌, ◌++◌, Bool, true, false, Option, Some, None, refl, ap, sym, ◌∙◌, subst}, specs.{Prelude.{◌==◌, ◌&&◌, is_none, if◌then◌else◌}, Option.{option_or}}}
 use Rattle.hc_text.proofs.Basics.{bool_cases, not_some as none_some, some_inj}
 use Rattle.hc_effects.proofs.Vocabulary.{is_denied, shows_in, Act, Why, Event, Response, Limits, answer_acts, may_begin, case_of, consumer_after, new_consumer, current, Entry, History, no_contents, entry_without_acts, exchange_after, Flaw, flaw_in, Shown, shown_in, Move, Nothing, Asks, Opens, Shows, Gives, Ends, Fails, acts_of, move_of, Says, representation_after, Tables, Consumer, IsRun, tables, after_accepted}
 use Rattle.hc_event.specs.declared.act.Act.TheVariants as act
@@ -13,31 +11,13 @@ use Rattle.hc_event.specs.declared.act.Wait.TheVariants as wait
 use Rattle.hc_event.specs.declared.event.Event.TheVariants as event
 use Rattle.hc_event.specs.declared.place.Place.TheVariants as place
 use Rattle.hc_model.specs.Moves as moves
-use Rattle.hc_effects.proofs.ActParts.{IsSaid, said_is}
+use Rattle.hc_effects.proofs.{ActParts.{IsSaid, said_is}, Basics.{some_none, or_false}, Owed.{acts_are, denied_shows}, PieceKeeps.{eq_cases}}
 use Rattle.hc_effects.proofs.ActParts as parts
-use Rattle.hc_effects.proofs.Basics.{some_none, or_false}
-use Rattle.hc_effects.proofs.Owed.{acts_are, denied_shows}
-use Rattle.hc_effects.proofs.PieceKeeps.{eq_cases}
-use Rattle.hc_laws.proofs.TurnFacts.{IsTaken}
-use Rattle.hc_laws.proofs.AimRuns.{aims_in_runs}
-use Rattle.hc_laws.proofs.Barred.{next_tables, denied_tables}
-use Rattle.hc_laws.proofs.PartRuns.{parts_in_runs}
-use Rattle.hc_laws.proofs.PassedRuns.{passed_in_runs}
-use Rattle.hc_laws.proofs.PlaceRuns.{places_in_runs}
-use Rattle.hc_laws.proofs.ReadNext.{by_said}
+use Rattle.hc_laws.proofs.{TurnFacts.{IsTaken}, AimRuns.{aims_in_runs}, Barred.{next_tables, denied_tables}, PartRuns.{parts_in_runs}, PassedRuns.{passed_in_runs}, PlaceRuns.{places_in_runs}, ReadNext.{by_said}, SoundRuns.{carried}}
 use Rattle.hc_laws.proofs.ReadNext as next
-use Rattle.hc_laws.proofs.SoundRuns.{carried}
-use Rattle.hc_fetch.specs.declared.plan.FetchPlan.{FetchPlan}
-use Rattle.hc_fetch.specs.Bounds.{IsPlan}
-use Rattle.hc_fetch.specs.Deciding.{has_foreign, is_foreign, decided_by}
-use Rattle.hc_fetch.specs.Fetches.{started, starts_behind, start_by_head, cache_history}
-use Rattle.hc_fetch.specs.Heads.{Head, heads_in, first_in, first_head}
-use Rattle.hc_fetch.specs.Laws.{IsFetchRun}
-use Rattle.hc_fetch.specs.Plans.{first_start, first_fields, request_of}
-use Rattle.hc_fetch.proofs.Bodies.{run_before, earlier}
-use Rattle.hc_fetch.proofs.LoneRuns.{IsLone, lone_kept, lone_denied, not_first}
+use Rattle.hc_fetch.specs.{declared.plan.FetchPlan.{FetchPlan}, Bounds.{IsPlan}, Deciding.{has_foreign, is_foreign, decided_by}, Fetches.{started, starts_behind, start_by_head, cache_history}, Heads.{Head, heads_in, first_in, first_head}, Laws.{IsFetchRun}, Plans.{first_start, first_fields, request_of}}
+use Rattle.hc_fetch.proofs.{Bodies.{run_before, earlier}, LoneRuns.{IsLone, lone_kept, lone_denied, not_first}, ShownFacts.{FirstShown, first_shown}}
 use Rattle.hc_fetch.proofs.LoneRuns as lone
-use Rattle.hc_fetch.proofs.ShownFacts.{FirstShown, first_shown}
 
 -- AT THE BEGINNING
 

@@ -1,20 +1,10 @@
 -- Where nothing was decided the first consumer was shown the whole, or a part of a known whole. So it is done just where the code says so.
-use Rattle.std.proofs.Common.{◌≡◌, ℕ, ◌==◌, List, [], ◌∷◌, length, Bool, true, false, Option, Some, None, refl, ap, sym, ◌∙◌, subst, arith}
-use Rattle.std.specs.Prelude.{if◌then◌else◌, is_some, is_none, not, ◌&&◌, ◌||◌}
-use Rattle.std.specs.Option.{option_or}
-use Rattle.std.proofs.lemmas.Bool.Decides.{nat_tests}
+use Rattle.std.{proofs.{Common.{◌≡◌, ℕ, ◌==◌, List, [], ◌∷◌, length, Bool, true, false, Option, Some, None, refl, ap, sym, ◌∙◌, subst, arith}, lemmas.Bool.Decides.{nat_tests}}, specs.{Prelude.{if◌then◌else◌, is_some, is_none, not, ◌&&◌, ◌||◌}, Option.{option_or}}}
 use Rattle.hc_text.proofs.Basics.{and_right, not_some as none_some}
 use Rattle.hc_effects.proofs.Vocabulary.{History}
 use Rattle.hc_effects.proofs.Basics.{false_true}
 use Rattle.hc_fetch.specs.declared.ended.FetchEnded.TheVariants as ended
-use Rattle.hc_fetch.specs.declared.fetching.Fetching.{Fetching}
-use Rattle.hc_fetch.specs.declared.plan.FetchPlan.{FetchPlan}
-use Rattle.hc_fetch.specs.Deciding.{by_other, by_head, by_heads, fits, fits_first, decided_by, is_undecided}
-use Rattle.hc_fetch.specs.Fetches.{ended_with, is_done_by, is_all, has_ended}
-use Rattle.hc_fetch.specs.Firsts.{first_as, is_done_at, is_done_with}
-use Rattle.hc_fetch.specs.Gathering.{written_of}
-use Rattle.hc_fetch.specs.Heads.{Head, heads_in, first_in, first_head, total_of, total_by}
-use Rattle.hc_fetch.specs.Steps.{StandsForFetch}
+use Rattle.hc_fetch.specs.{declared.{fetching.Fetching.{Fetching}, plan.FetchPlan.{FetchPlan}}, Deciding.{by_other, by_head, by_heads, fits, fits_first, decided_by, is_undecided}, Fetches.{ended_with, is_done_by, is_all, has_ended}, Firsts.{first_as, is_done_at, is_done_with}, Gathering.{written_of}, Heads.{Head, heads_in, first_in, first_head, total_of, total_by}, Steps.{StandsForFetch}}
 use Rattle.hc_fetch.proofs.Shows.{decides_nothing, no_heads_decide, none_left, none_right, unfit}
 
 -- the first consumer's first head among these is such a one

@@ -2,29 +2,19 @@
 --
 -- By induction on its events: where nothing was decided, the fetch stands for them (`at_open`); else the last one decided
 -- (`at_decision`), or is foreign and wasn't stepped (`at_foreign`). What was told is what is written of them.
-use Rattle.std.proofs.Common.{◌≡◌, ℕ, ◌+◌, List, [], ◌∷◌, ◌++◌, length, drop, Bool, true, false, Option, Some, None, refl, ap, sym, ◌∙◌, subst}
-use Rattle.std.specs.Prelude.{is_some}
+use Rattle.std.{proofs.Common.{◌≡◌, ℕ, ◌+◌, List, [], ◌∷◌, ◌++◌, length, drop, Bool, true, false, Option, Some, None, refl, ap, sym, ◌∙◌, subst}, specs.Prelude.{is_some}}
 use Rattle.hc_text.proofs.Basics.{drop-whole as drop_front}
 use Rattle.hc_sched.specs.declared.schedule.Timed.{Timed}
 use Rattle.hc_driver.specs.Courses as courses
 use Rattle.hc_driver.specs.Courses.{Told, Leads, text_of, text_before, last_text}
 use Rattle.hc_effects.proofs.Vocabulary.{Limits, Entry, History, no_contents, IsRun}
 use Rattle.hc_effects.proofs.Basics.{true_false}
-use Rattle.hc_laws.proofs.FromNothing.{begins_well}
-use Rattle.hc_laws.proofs.ReadWhole.{runs_read_whole}
+use Rattle.hc_laws.proofs.{FromNothing.{begins_well}, ReadWhole.{runs_read_whole}}
 use Rattle.hc_core.specs.Steps.{limits_in}
-use Rattle.hc_fetch.specs.declared.ended.FetchEnded.{FetchEnded}
+use Rattle.hc_fetch.specs.{declared.{ended.FetchEnded.{FetchEnded}, fetching.Fetching.{Fetching}, plan.FetchPlan.{FetchPlan}}, Deciding.{is_foreign, has_foreign, decided_by, is_undecided, is_undecided_before}, Endings.{IsFetched, events_in, failures}, Fetches.{cache_history}, Gathering.{written_of, written_before, written_last}, Steps.{HasHeard, StandsForFetch, Answers, Tells}}
 use Rattle.hc_fetch.specs.declared.ended.FetchEnded.TheVariants as ended
-use Rattle.hc_fetch.specs.declared.fetching.Fetching.{Fetching}
-use Rattle.hc_fetch.specs.declared.plan.FetchPlan.{FetchPlan}
-use Rattle.hc_fetch.specs.Deciding.{is_foreign, has_foreign, decided_by, is_undecided, is_undecided_before}
-use Rattle.hc_fetch.specs.Endings.{IsFetched, events_in, failures}
-use Rattle.hc_fetch.specs.Fetches.{cache_history}
-use Rattle.hc_fetch.specs.Gathering.{written_of, written_before, written_last}
 use Rattle.hc_fetch.specs.Steps as steps
-use Rattle.hc_fetch.specs.Steps.{HasHeard, StandsForFetch, Answers, Tells}
-use Rattle.hc_fetch.proofs.Bodies.{writes_the_body}
-use Rattle.hc_fetch.proofs.Shows.{was_undecided}
+use Rattle.hc_fetch.proofs.{Bodies.{writes_the_body}, Shows.{was_undecided}}
 
 pub fetched : (limits : Limits) (plan : FetchPlan) (f : History) → IsRun limits no_contents (cache_history plan f) → is_undecided_before plan f ≡ true → failures f ≡ 0 → has_foreign f ≡ false → IsFetched limits plan f
 fetched limits plan f run before sound own = record {

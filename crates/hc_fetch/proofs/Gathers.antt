@@ -3,8 +3,7 @@
 -- What is given by an entry stands in that body before it. So over what stands there too, nothing is changed that was
 -- gathered before (`gathers_on`), and all stands there again (`gathers_there`). The bytes from 0 on without a gap
 -- are some first part of those of what has more (`writes_on`), and stand in the body (`written_held`).
-use Rattle.std.proofs.Common.{◌≡◌, inl, inr, ℕ, zero, suc, ◌+◌, ◌-◌, ◌<◌, ◌≤◌, List, [], ◌∷◌, ◌++◌, length, Bool, Option, Some, None, refl, ap, sym, ◌∙◌, subst, arith}
-use Rattle.std.specs.Prelude.{if◌then◌else◌, slice_index}
+use Rattle.std.{proofs.Common.{◌≡◌, inl, inr, ℕ, zero, suc, ◌+◌, ◌-◌, ◌<◌, ◌≤◌, List, [], ◌∷◌, ◌++◌, length, Bool, Option, Some, None, refl, ap, sym, ◌∙◌, subst, arith}, specs.Prelude.{if◌then◌else◌, slice_index}}
 use Rattle.hc_sparse.specs.Cells.{Cells, Cell, cells_with}
 use Rattle.hc_sparse.proofs.CellLemmas.{inside-cases}
 use Rattle.hc_effects.proofs.Vocabulary.{Act, Delivers, Holds, Says, body_of, Tables}

@@ -3,9 +3,7 @@
 -- By the law that runs read whole each act that gives bytes gives those behind what was given before. So along the acts of an entry what
 -- was given, from where the consumer began, is gathered (`acts_cover`); and along the events, since the fetch's own starts give
 -- nothing (`given_covered`).
-use Rattle.std.proofs.Common.{◌≡◌, inl, inr, ℕ, ◌+◌, ◌<◌, ◌≤◌, List, [], ◌∷◌, ◌++◌, length, true, false, refl, ap, sym, ◌∙◌, subst, arith, append_assoc, length-append}
-use Rattle.std.specs.Prelude.{◌==◌, is_some}
-use Rattle.std.proofs.lemmas.Bool.{cases_lt}
+use Rattle.std.{proofs.{Common.{◌≡◌, inl, inr, ℕ, ◌+◌, ◌<◌, ◌≤◌, List, [], ◌∷◌, ◌++◌, length, true, false, refl, ap, sym, ◌∙◌, subst, arith, append_assoc, length-append}, lemmas.Bool.{cases_lt}}, specs.Prelude.{◌==◌, is_some}}
 use Rattle.hc_text.proofs.Basics.{bool_cases, eqb-same}
 use Rattle.hc_sparse.specs.Cells.{Cells, cells_with}
 use Rattle.hc_sparse.proofs.CellLemmas.{inside-cases}
@@ -14,12 +12,8 @@ use Rattle.hc_event.specs.declared.act.Act.TheVariants as act
 use Rattle.hc_model.specs.Reads.{shown_before, given_before}
 use Rattle.hc_effects.proofs.Basics.{append_none}
 use Rattle.hc_laws.proofs.ReadWhole.{runs_read_whole}
-use Rattle.hc_fetch.specs.declared.plan.FetchPlan.{FetchPlan}
-use Rattle.hc_fetch.specs.Fetches.{started, starts_behind, cache_history}
-use Rattle.hc_fetch.specs.Gathering.{gathered_in, gathered}
-use Rattle.hc_fetch.specs.Laws.{IsFetchRun}
-use Rattle.hc_fetch.proofs.Bodies.{run_before, earlier}
-use Rattle.hc_fetch.proofs.Shows.{IsSilent, starts_silent, silent_shows, started_shows}
+use Rattle.hc_fetch.specs.{declared.plan.FetchPlan.{FetchPlan}, Fetches.{started, starts_behind, cache_history}, Gathering.{gathered_in, gathered}, Laws.{IsFetchRun}}
+use Rattle.hc_fetch.proofs.{Bodies.{run_before, earlier}, Shows.{IsSilent, starts_silent, silent_shows, started_shows}}
 
 -- all of it is gathered
 abbrev pub Covered : List Shown → List ℕ → Cells → Type 0

@@ -4,34 +4,15 @@
 -- one event more, and with the starts behind it. So what is given agrees with what was gathered (`fit`), and all of it is
 -- heard (`hears_more`). The others start in the code just where the run has their starts (`starts_as`). What stands in the fields
 -- around the event, as the count, is no part of what was heard (`SameHeard`): so the step tells it of the whole fetch (`tells_so`).
-use Rattle.std.proofs.Common.{◌≡◌, ℕ, ◌+◌, ◌<◌, ◌≤◌, ◌^◌, List, [], ◌∷◌, ◌++◌, length, Bool, true, false, Option, Some, None, refl, ap, sym, ◌∙◌, subst, arith}
-use Rattle.std.specs.Prelude.{if◌then◌else◌, is_some, is_none, ◌&&◌, ◌||◌}
-use Rattle.std.specs.Option.{option_or}
+use Rattle.std.{proofs.Common.{◌≡◌, ℕ, ◌+◌, ◌<◌, ◌≤◌, ◌^◌, List, [], ◌∷◌, ◌++◌, length, Bool, true, false, Option, Some, None, refl, ap, sym, ◌∙◌, subst, arith}, specs.{Prelude.{if◌then◌else◌, is_some, is_none, ◌&&◌, ◌||◌}, Option.{option_or}}}
 use Rattle.hc_text.proofs.Basics.{both_true as and_both, not_some as none_some}
 use Rattle.hc_sparse.specs.Cells.{nothing}
 use Rattle.hc_event.specs.Counting.{received_in}
 use Rattle.hc_effects.proofs.Vocabulary.{Act, Event, Entry, History, no_contents, tables}
 use Rattle.hc_effects.proofs.Basics.{true_false}
 use Rattle.hc_core.specs.Steps.{StandsFor, limits_in, bytes_received, last_moment, steps}
-use Rattle.hc_fetch.specs.declared.ended.FetchEnded.{FetchEnded}
-use Rattle.hc_fetch.specs.declared.fetching.Fetching.{Fetching}
-use Rattle.hc_fetch.specs.declared.first.First.{First}
-use Rattle.hc_fetch.specs.declared.gathering.Gathered.{Gathered}
-use Rattle.hc_fetch.specs.declared.plan.FetchPlan.{FetchPlan}
-use Rattle.hc_fetch.specs.Ahead.{KeepsAll}
-use Rattle.hc_fetch.specs.Bounds.{AreFew, starts_allowed}
-use Rattle.hc_fetch.specs.Deciding.{is_foreign, has_foreign, by_failure, by_heads, decided_by, is_undecided}
-use Rattle.hc_fetch.specs.Fetches.{cache_history, started, starts_behind, start_by_head, start_by_total, ends_in, has_ended}
-use Rattle.hc_fetch.specs.Firsts.{first_as, total_in, total_to_start}
-use Rattle.hc_fetch.specs.Gathering.{gathered, written_of}
-use Rattle.hc_fetch.specs.Heads.{Head, heads_in, first_in, first_head}
-use Rattle.hc_fetch.specs.Hearing.{KeepsRest, Steps, HasStarted, Starts, Takes, AllFit}
-use Rattle.hc_fetch.specs.Laws.{IsFetchRun}
-use Rattle.hc_fetch.specs.Plans.{part_count}
-use Rattle.hc_fetch.specs.Steps.{HasHeard, HasHeardOpen, StandsForFetch, HearsMore, IsAnswered, Hears, Answers}
-use Rattle.hc_fetch.proofs.Overs.{written_long, writes_more}
-use Rattle.hc_fetch.proofs.Positions.{all_fit}
-use Rattle.hc_fetch.proofs.Started.{brings, first_brings, total_brings, one_started_before, received_none, started_on}
+use Rattle.hc_fetch.specs.{declared.{ended.FetchEnded.{FetchEnded}, fetching.Fetching.{Fetching}, first.First.{First}, gathering.Gathered.{Gathered}, plan.FetchPlan.{FetchPlan}}, Ahead.{KeepsAll}, Bounds.{AreFew, starts_allowed}, Deciding.{is_foreign, has_foreign, by_failure, by_heads, decided_by, is_undecided}, Fetches.{cache_history, started, starts_behind, start_by_head, start_by_total, ends_in, has_ended}, Firsts.{first_as, total_in, total_to_start}, Gathering.{gathered, written_of}, Heads.{Head, heads_in, first_in, first_head}, Hearing.{KeepsRest, Steps, HasStarted, Starts, Takes, AllFit}, Laws.{IsFetchRun}, Plans.{part_count}, Steps.{HasHeard, HasHeardOpen, StandsForFetch, HearsMore, IsAnswered, Hears, Answers}}
+use Rattle.hc_fetch.proofs.{Overs.{written_long, writes_more}, Positions.{all_fit}, Started.{brings, first_brings, total_brings, one_started_before, received_none, started_on}}
 
 -- WHEN THE OTHERS START
 

@@ -4,31 +4,14 @@
 -- as does what was shown first, and what one act gives is kept over what was there. The loop goes from the first act on, so it
 -- keeps that whatever is taken of the acts that are left makes what is taken of all. A head is seen (`takes_shown`), bytes are given
 -- (`takes_given`), an end is told (`takes_ended`), and nothing is taken of an act of another kind.
-use Rattle.std.proofs.Common.{◌≡◌, ℕ, suc, ◌+◌, ◌<◌, ◌≤◌, ◌==◌, get_or, drop, length, List, [], ◌∷◌, Bool, true, false, Option, Some, None, refl, ap, sym, ◌∙◌, subst, arith}
-use Rattle.std.specs.Prelude.{◌||◌, if◌then◌else◌, is_some}
-use Rattle.std.specs.Option.{option_or}
-use Rattle.std.proofs.Math.Seq.{drop-cons}
-use Rattle.std.proofs.lemmas.Bool.Decides.{nat_tests}
-use Rattle.std.proofs.lemmas.List.{drop_all}
+use Rattle.std.{proofs.{Common.{◌≡◌, ℕ, suc, ◌+◌, ◌<◌, ◌≤◌, ◌==◌, get_or, drop, length, List, [], ◌∷◌, Bool, true, false, Option, Some, None, refl, ap, sym, ◌∙◌, subst, arith}, Math.Seq.{drop-cons}, lemmas.{Bool.Decides.{nat_tests}, List.{drop_all}}}, specs.{Prelude.{◌||◌, if◌then◌else◌, is_some}, Option.{option_or}}}
 use Rattle.hc_text.proofs.Basics.{not_some as none_some, or_false, or_none}
 use Rattle.hc_sparse.specs.Cells.{Cells, cells_with}
 use Rattle.hc_effects.proofs.Vocabulary.{Act, Why}
 use Rattle.hc_event.specs.declared.act.Act.TheVariants as act
 use Rattle.hc_effects.proofs.Basics.{false_true}
-use Rattle.hc_fetch.specs.declared.ended.FetchEnded.{FetchEnded}
-use Rattle.hc_fetch.specs.declared.fetching.Fetching.{Fetching}
-use Rattle.hc_fetch.specs.declared.gathering.Gathered.{Gathered}
-use Rattle.hc_fetch.specs.declared.plan.FetchPlan.{FetchPlan}
-use Rattle.hc_fetch.specs.Ahead.{Fit, KeepsAll, Appends}
-use Rattle.hc_fetch.specs.Deciding.{by_head, by_heads}
-use Rattle.hc_fetch.specs.Fetches.{ends_in}
-use Rattle.hc_fetch.specs.Firsts.{first_as}
-use Rattle.hc_fetch.specs.Gathering.{gathered_in}
-use Rattle.hc_fetch.specs.Heads.{Head, heads_in, first_in, total_of}
-use Rattle.hc_fetch.specs.Hearing.{KeepsOthers, Sees, AllFit, Takes}
-use Rattle.hc_fetch.proofs.Aheads.{appends_none, appends_more}
-use Rattle.hc_fetch.proofs.Overs.{appends_over}
-use Rattle.hc_fetch.proofs.Shows.{or_assoc}
+use Rattle.hc_fetch.specs.{declared.{ended.FetchEnded.{FetchEnded}, fetching.Fetching.{Fetching}, gathering.Gathered.{Gathered}, plan.FetchPlan.{FetchPlan}}, Ahead.{Fit, KeepsAll, Appends}, Deciding.{by_head, by_heads}, Fetches.{ends_in}, Firsts.{first_as}, Gathering.{gathered_in}, Heads.{Head, heads_in, first_in, total_of}, Hearing.{KeepsOthers, Sees, AllFit, Takes}}
+use Rattle.hc_fetch.proofs.{Aheads.{appends_none, appends_more}, Overs.{appends_over}, Shows.{or_assoc}}
 
 or_both : (a b c : Bool) → ((a || b) || c) ≡ (a || (b || c))
 or_both true b c = refl

@@ -3,9 +3,7 @@
 -- By a poll it is shown a head, waits for one, or opens an exchange for what is missed (`lone_move`). By an entry it stands where it
 -- stood, or the head of its exchange binds it or puts it past the store, or it starts over, which it does where it was free (`place_after`).
 -- So where it is free after an entry it was before, and nothing was founded (`free_before`): what is current stays or goes.
-use Rattle.std.proofs.Common.{◌≡◌, ◌⊎◌, inl, inr, ℕ, ◌+◌, ◌<◌, ◌^◌, List, Bool, true, false, Option, Some, None, refl, ap, sym, ◌∙◌, subst, arith}
-use Rattle.std.specs.Prelude.{◌==◌, ◌&&◌, ◌||◌, not, nat_eq, nat_le, is_none, is_some, if◌then◌else◌}
-use Rattle.std.specs.Option.{option_and_then, option_or}
+use Rattle.std.{proofs.Common.{◌≡◌, ◌⊎◌, inl, inr, ℕ, ◌+◌, ◌<◌, ◌^◌, List, Bool, true, false, Option, Some, None, refl, ap, sym, ◌∙◌, subst, arith}, specs.{Prelude.{◌==◌, ◌&&◌, ◌||◌, not, nat_eq, nat_le, is_none, is_some, if◌then◌else◌}, Option.{option_and_then, option_or}}}
 use Rattle.hc_text.proofs.Basics.{and_left, and_right, bool_cases, either, not_some as none_some, or_cases, some_inj, eq_is as status_is}
 use Rattle.hc_effects.proofs.Vocabulary.{Opening, opening_in, leaves_in, shows_in, Cause, Need, Wait, Why, Event, Request, Response, BoundBy, Place, content_range_of, HeadCase, HeadView, Wanted, Limits, head_case, turn_case, case_on, fits_to_found, fits_part, length_of, is_bad, route_of, is_disabled, is_only, is_bypassing, range_of, wanted_of, Showing, showing_in, wait_in, has_loss, Aims, case_at, case_of, head_view, is_founding, fits_asker, bound_to_wanted, place_by_case, consumer_heard, by_head, by_fault, waiting_place, waiting, opened_place, unless_bound, by_opening, shown_place, consumer_acted, consumer_settled, consumer_made, consumer_after, current, denial, doomed_key_of, doomed_in, is_key, Entry, is_headless, exchange_at, is_for, flaw_in, founded_total, total_of_part, Move, Nothing, Opens, Shows, Fails, shows_stored, IsPast, IsAwaiting, Passed, move_of, shows_head, shows_at, shows_bound, shows_direct, shows_answer, has_joined, or_else, waits_for_head, if_headless, by_place, own_open, bound_to, Tables, Exchange, Representation, Consumer, new_representation, length_in, starts_over, waits_at, sends_back, loses_what_it_waits_for, after_accepted, after_denied}
 use Rattle.hc_event.specs.declared.act.Cause.TheVariants as cause
@@ -14,36 +12,19 @@ use Rattle.hc_event.specs.declared.act.Wait.TheVariants as wait
 use Rattle.hc_event.specs.declared.event.Event.TheVariants as event
 use Rattle.hc_event.specs.declared.place.BoundBy.TheVariants as by
 use Rattle.hc_event.specs.declared.place.Place.TheVariants as place
-use Rattle.hc_range.specs.declared.range.Asked.{Asked}
-use Rattle.hc_range.specs.declared.range.ContentRange.{ContentRange}
+use Rattle.hc_range.specs.declared.range.{Asked.{Asked}, ContentRange.{ContentRange}}
 use Rattle.hc_range.specs.declared.range.ContentRange.TheVariants as range
 use Rattle.hc_rules.specs.declared.heads.HeadCase.TheVariants as case
 use Rattle.hc_rules.specs.declared.request.Wanted.TheVariants as wanted
 use Rattle.hc_model.specs.Moves as moves
 use Rattle.hc_model.specs.Owners as owners
-use Rattle.hc_effects.proofs.BoundFrom.{place_inj}
-use Rattle.hc_effects.proofs.Basics.{some_none, false_true, true_false, some_row}
-use Rattle.hc_effects.proofs.ExchangeFrom.{IsHeaded, ExchangeFrom, exchange_from}
+use Rattle.hc_effects.proofs.{BoundFrom.{place_inj}, Basics.{some_none, false_true, true_false, some_row}, ExchangeFrom.{IsHeaded, ExchangeFrom, exchange_from}, FirstKeeps.{case_is, is_new}, MoveBy.{MoveBy, IsHeard, move_by}, Owed.{acts_are, goes}, RepFrom.{RepFrom, rep_from}, Said.{shows_it, IsOpening, WaitsAs, opening_by, waiting_by}, ShownOnce.{is_showing}, Standing.{current_stays}, ToldNumbers.{founded_early}, TurnPlaces.{is_after}}
 use Rattle.hc_effects.proofs.ExchangeFrom as exchange
-use Rattle.hc_effects.proofs.FirstKeeps.{case_is, is_new}
-use Rattle.hc_effects.proofs.MoveBy.{MoveBy, IsHeard, move_by}
 use Rattle.hc_effects.proofs.MoveBy as by_move
-use Rattle.hc_effects.proofs.Owed.{acts_are, goes}
-use Rattle.hc_effects.proofs.RepFrom.{RepFrom, rep_from}
 use Rattle.hc_effects.proofs.RepFrom as rep
-use Rattle.hc_effects.proofs.Said.{shows_it, IsOpening, WaitsAs, opening_by, waiting_by}
 use Rattle.hc_effects.proofs.Said as said
-use Rattle.hc_effects.proofs.ShownOnce.{is_showing}
-use Rattle.hc_effects.proofs.Standing.{current_stays}
-use Rattle.hc_effects.proofs.ToldNumbers.{founded_early}
-use Rattle.hc_laws.proofs.TurnFacts.{IsTaken}
-use Rattle.hc_effects.proofs.TurnPlaces.{is_after}
-use Rattle.hc_laws.proofs.SoundRuns.{IsCarried}
-use Rattle.hc_laws.proofs.CoversNew.{head_inj}
-use Rattle.hc_fetch.specs.declared.plan.FetchPlan.{FetchPlan}
-use Rattle.hc_fetch.specs.Bounds.{IsPlan}
-use Rattle.hc_fetch.specs.Deciding.{is_foreign}
-use Rattle.hc_fetch.specs.Plans.{first_fields, request_of}
+use Rattle.hc_laws.proofs.{TurnFacts.{IsTaken}, SoundRuns.{IsCarried}, CoversNew.{head_inj}}
+use Rattle.hc_fetch.specs.{declared.plan.FetchPlan.{FetchPlan}, Bounds.{IsPlan}, Deciding.{is_foreign}, Plans.{first_fields, request_of}}
 use Rattle.hc_fetch.proofs.Lone.{IsFirstRange, first_range, wanted_first, turn_is, cached, asks_origin, plain, planned}
 
 -- it reads nothing, and its plan is still to be made or its head to come

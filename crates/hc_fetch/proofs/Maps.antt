@@ -1,9 +1,5 @@
 -- A map by number, changed at one.
-use Rattle.std.proofs.Common.{◌≡◌, ◌⊎◌, inl, inr, ℕ, ◌<◌, [], ◌∷◌, false, eqb, ltb, Option, None, refl, arith}
-use Rattle.std.specs.Ordering.{nat_cmp}
-use Rattle.std.specs.BTreeMap.{BTreeMap, Updates, btree_map_len, get}
-use Rattle.std.proofs.lemmas.Bool.{cases_Bool}
-use Rattle.std.proofs.lemmas.Bool.Decides.{nat_tests}
+use Rattle.std.{proofs.{Common.{◌≡◌, ◌⊎◌, inl, inr, ℕ, ◌<◌, [], ◌∷◌, false, eqb, ltb, Option, None, refl, arith}, lemmas.Bool.{cases_Bool, Decides.{nat_tests}}}, specs.{Ordering.{nat_cmp}, BTreeMap.{BTreeMap, Updates, btree_map_len, get}}}
 use Rattle.hc_text.proofs.Basics.{no_entries}
 
 apart : (j k : ℕ) → (j ≡ k → ⊥) → eqb j k ≡ false

@@ -3,18 +3,14 @@
 -- A byte that was gathered is the same in all that is gathered over it (`over_all`), so bytes without a gap are the same
 -- there (`bytes_same`). No byte is gathered at or behind `given_end` (`given_below`). So where all up to some position
 -- is gathered, and nothing there, what is written are the bytes up to it (`written_is`).
-use Rattle.std.proofs.Common.{◌≡◌, inl, inr, ℕ, zero, suc, ◌+◌, ◌-◌, ◌<◌, ◌≤◌, max, List, [], ◌∷◌, ◌++◌, length, Bool, Option, Some, None, refl, ap, sym, ◌∙◌, subst, arith}
-use Rattle.std.specs.Prelude.{is_some, if◌then◌else◌, slice_index}
-use Rattle.std.proofs.lemmas.List.{append-nil}
+use Rattle.std.{proofs.{Common.{◌≡◌, inl, inr, ℕ, zero, suc, ◌+◌, ◌-◌, ◌<◌, ◌≤◌, max, List, [], ◌∷◌, ◌++◌, length, Bool, Option, Some, None, refl, ap, sym, ◌∙◌, subst, arith}, lemmas.List.{append-nil}}, specs.Prelude.{is_some, if◌then◌else◌, slice_index}}
 use Rattle.hc_text.proofs.Basics.{not_some as none_some}
 use Rattle.hc_sparse.specs.Cells.{Cells, Cell, Covers, cells_with}
 use Rattle.hc_sparse.proofs.CellLemmas.{inside-cases}
 use Rattle.hc_effects.proofs.Vocabulary.{Act, Entry, History}
 use Rattle.hc_effects.proofs.Basics.{some_row}
 use Rattle.hc_event.specs.declared.act.Act.TheVariants as act
-use Rattle.hc_fetch.specs.Ahead.{KeepsAll, Appends, Ahead}
-use Rattle.hc_fetch.specs.Gathering.{byte_before, bytes_on, gathered, gathered_in, given_end, given_end_in, written_of}
-use Rattle.hc_fetch.specs.Hearing.{AllFit}
+use Rattle.hc_fetch.specs.{Ahead.{KeepsAll, Appends, Ahead}, Gathering.{byte_before, bytes_on, gathered, gathered_in, given_end, given_end_in, written_of}, Hearing.{AllFit}}
 use Rattle.hc_fetch.proofs.Aheads.{byte_over, bytes_join}
 
 -- a byte that is somewhere is there too

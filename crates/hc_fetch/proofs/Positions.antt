@@ -2,26 +2,15 @@
 --
 -- A body has no byte at or past 2^62 where fewer were received (`below_most`). What an event gives is some bytes of the body that
 -- was shown first, and so is what was gathered before: so both agree (`all_fit`).
-use Rattle.std.proofs.Common.{◌≡◌, ◌≢◌, inl, inr, ℕ, ◌+◌, ◌-◌, ◌<◌, ◌≤◌, ◌^◌, List, [], ◌∷◌, length, true, Option, Some, None, refl, ap, sym, ◌∙◌, arith}
-use Rattle.std.specs.Prelude.{if◌then◌else◌, ◌&&◌}
-use Rattle.std.proofs.lemmas.Bool.{cases_lt}
+use Rattle.std.{proofs.{Common.{◌≡◌, ◌≢◌, inl, inr, ℕ, ◌+◌, ◌-◌, ◌<◌, ◌≤◌, ◌^◌, List, [], ◌∷◌, length, true, Option, Some, None, refl, ap, sym, ◌∙◌, arith}, lemmas.Bool.{cases_lt}}, specs.Prelude.{if◌then◌else◌, ◌&&◌}}
 use Rattle.hc_text.proofs.Basics.{not_some as none_some, some_inj}
 use Rattle.hc_sparse.specs.Cells.{Cells, Cell, EndsBy, cells_with}
 use Rattle.hc_effects.proofs.Vocabulary.{Act, Limits, may_begin, Entry, History, no_contents, Numbers, AreShort, Delivers, Says, body_of, direct_cell, cell_by, Tables, Exchange, Representation, IsRun, tables}
 use Rattle.hc_event.specs.declared.act.Act.TheVariants as act
 use Rattle.hc_model.specs.Numbers.{most}
-use Rattle.hc_laws.proofs.LawfulRuns.{lawful_in_runs}
-use Rattle.hc_laws.proofs.NumberRuns.{numbers_in_runs}
-use Rattle.hc_laws.proofs.ReadNext.{gives_next}
-use Rattle.hc_laws.proofs.PlacesGiven.{answer_below}
-use Rattle.hc_fetch.specs.declared.plan.FetchPlan.{FetchPlan}
-use Rattle.hc_fetch.specs.Ahead.{Fit}
-use Rattle.hc_fetch.specs.Gathering.{gathered}
-use Rattle.hc_fetch.specs.Heads.{Head, first_head}
-use Rattle.hc_fetch.specs.Hearing.{AllFit}
-use Rattle.hc_fetch.specs.Laws.{IsFetchRun}
-use Rattle.hc_fetch.proofs.Bodies.{before, earlier, run_on, gathered_there, gives_of, gives_none, goes_there}
-use Rattle.hc_fetch.proofs.Gathers.{Stands, GivesOf, one_stands}
+use Rattle.hc_laws.proofs.{LawfulRuns.{lawful_in_runs}, NumberRuns.{numbers_in_runs}, ReadNext.{gives_next}, PlacesGiven.{answer_below}}
+use Rattle.hc_fetch.specs.{declared.plan.FetchPlan.{FetchPlan}, Ahead.{Fit}, Gathering.{gathered}, Heads.{Head, first_head}, Hearing.{AllFit}, Laws.{IsFetchRun}}
+use Rattle.hc_fetch.proofs.{Bodies.{before, earlier, run_on, gathered_there, gives_of, gives_none, goes_there}, Gathers.{Stands, GivesOf, one_stands}}
 
 -- WHERE A BODY ENDS
 

@@ -1,15 +1,5 @@
 -- The text that asks for a range is a value of a field.
-use Rattle.std.proofs.Common.{◌≡◌, ℕ, ◌-◌, ◌^◌, ◌<◌, true, false, not, ◌||◌, ◌==◌, List, ◌++◌, length, refl, ap, ◌∙◌, arith, length-append}
-use Rattle.std.specs.Prelude.{codes, slice_index}
-use Rattle.std.specs.List.{list_all}
-use Rattle.std.specs.Fmt.{decimal}
-use Rattle.std.proofs.lemmas.Bool.{or_right}
-use Rattle.std.proofs.lemmas.Fmt.{decimal_is_IsNumeral}
-use Rattle.std.proofs.lemmas.List.{get_or-append_right, get_or_append_left}
-use Rattle.std.proofs.lemmas.List.Folds.{list_all-append}
-use Rattle.std.proofs.lemmas.Str.Parse.{digit_at}
-use Rattle.std.proofs.lemmas.Bool.Decides.{nat_tests}
-use Rattle.std.specs.Int.{IsInRange}
+use Rattle.std.{proofs.{Common.{◌≡◌, ℕ, ◌-◌, ◌^◌, ◌<◌, true, false, not, ◌||◌, ◌==◌, List, ◌++◌, length, refl, ap, ◌∙◌, arith, length-append}, lemmas.{Bool.{or_right, Decides.{nat_tests}}, Fmt.{decimal_is_IsNumeral}, List.{get_or-append_right, get_or_append_left, Folds.{list_all-append}}, Str.Parse.{digit_at}}}, specs.{Prelude.{codes, slice_index}, List.{list_all}, Fmt.{decimal}, Int.{IsInRange}}}
 use Rattle.hc_text.proofs.Basics.{and_left, some-decimal as some}
 use Rattle.http_header.specs.Token.{is_value_byte}
 use Rattle.hc_text.specs.Elements.{is_blank}

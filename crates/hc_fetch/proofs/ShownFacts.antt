@@ -3,18 +3,11 @@
 -- It is shown what its head founded, or its answer past the store (`LoneMove`). A 206 of what is stored tells the length that is
 -- stored; one past the store brings a part of its whole, and isn't bad: so the end is known, and no later than what is told
 -- (`part`). A 200 begins at the first position, and where an end is shown that is the end of the body (`whole`).
-use Rattle.std.proofs.Common.{◌≡◌, ℕ, ◌+◌, ◌-◌, ◌<◌, ◌≤◌, List, [], ◌∷◌, Bool, true, false, inl, inr, Option, Some, None, refl, ap, sym, ◌∙◌, subst, arith}
-use Rattle.std.specs.Prelude.{◌==◌, ◌&&◌, codes, map, filter, nat_eq, is_some}
-use Rattle.std.specs.Option.{option_or, option_and_then}
-use Rattle.std.specs.Fmt.{decimal}
-use Rattle.std.proofs.lemmas.Bool.Decides.{nat_tests}
+use Rattle.std.{proofs.{Common.{◌≡◌, ℕ, ◌+◌, ◌-◌, ◌<◌, ◌≤◌, List, [], ◌∷◌, Bool, true, false, inl, inr, Option, Some, None, refl, ap, sym, ◌∙◌, subst, arith}, lemmas.Bool.Decides.{nat_tests}}, specs.{Prelude.{◌==◌, ◌&&◌, codes, map, filter, nat_eq, is_some}, Option.{option_or, option_and_then}, Fmt.{decimal}}}
 use Rattle.hc_text.proofs.Basics.{bool_cases, not_some as none_some, same_bytes as same_name, some_inj, and_right, and_left}
-use Rattle.hc_fields.specs.FieldList.{comes_before, field_list_with, has_name, values_of, without}
-use Rattle.hc_fields.specs.FirstValues.{only_of}
-use Rattle.hc_range.specs.declared.range.ContentRange.{ContentRange}
+use Rattle.hc_fields.specs.{FieldList.{comes_before, field_list_with, has_name, values_of, without}, FirstValues.{only_of}}
+use Rattle.hc_range.specs.{declared.range.{ContentRange.{ContentRange}, Span.{Span}}, Spans.{IsWithin, content_range_text}}
 use Rattle.hc_range.specs.declared.range.ContentRange.TheVariants as range
-use Rattle.hc_range.specs.declared.range.Span.{Span}
-use Rattle.hc_range.specs.Spans.{IsWithin, content_range_text}
 use Rattle.hc_range.proofs.RangeLemmas.{content_range_text_spells}
 use Rattle.hc_effects.proofs.Vocabulary.{Why, Response, Place, length_of, base_of, promise_of, route_of, content_range_of, content_range_in, total_in, base, Move, Shows, shows_stored, span_to, Parts, Places, is_ranged, shows_at, shows_direct, shows_answer, hi_of, end_in, end_of_direct, end_by, Tables, Exchange, Representation, Consumer}
 use Rattle.hc_event.specs.declared.act.Why.TheVariants as why_is
@@ -22,16 +15,12 @@ use Rattle.hc_event.specs.declared.place.BoundBy.TheVariants as by
 use Rattle.hc_event.specs.declared.place.Place.TheVariants as place
 use Rattle.hc_rules.specs.declared.need.Route.TheVariants as route
 use Rattle.hc_rules.proofs.RangeReads.{content_range_in-spelled}
-use Rattle.hc_validate.specs.Heads.{FieldPairs, with_one}
-use Rattle.hc_validate.specs.Showing.{with_age, with_range, part_of, shown_as, shown_response}
+use Rattle.hc_validate.specs.{Heads.{FieldPairs, with_one}, Showing.{with_age, with_range, part_of, shown_as, shown_response}}
 use Rattle.hc_model.specs.Sound as sound
-use Rattle.hc_effects.proofs.Basics.{false_true, some_row}
-use Rattle.hc_effects.proofs.PartTold.{part_within, whole_base}
+use Rattle.hc_effects.proofs.{Basics.{false_true, some_row}, PartTold.{part_within, whole_base}}
 use Rattle.hc_laws.proofs.SoundRuns.{IsCarried}
-use Rattle.hc_fetch.specs.declared.plan.FetchPlan.{FetchPlan}
-use Rattle.hc_fetch.specs.Heads.{Head, total_of, total_by}
-use Rattle.hc_fetch.proofs.Ends.{KnownEnd, KnownHead}
-use Rattle.hc_fetch.proofs.LoneRuns.{IsLone}
+use Rattle.hc_fetch.specs.{declared.plan.FetchPlan.{FetchPlan}, Heads.{Head, total_of, total_by}}
+use Rattle.hc_fetch.proofs.{Ends.{KnownEnd, KnownHead}, LoneRuns.{IsLone}}
 
 -- A FIELD THAT STANDS ONCE
 

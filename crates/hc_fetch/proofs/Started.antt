@@ -4,19 +4,13 @@
 -- head nobody starts behind an event (`none_behind`). So where no event is foreign, at most the first consumer started
 -- then (`one_started`). An entry brings the bytes of its event, denied or not (`brings`), and the fetch's own starts bring none
 -- (`starts_bring`).
-use Rattle.std.proofs.Common.{◌≡◌, ℕ, zero, suc, ◌+◌, ◌≤◌, List, [], ◌∷◌, ◌++◌, length, Bool, true, false, Option, Some, None, refl, ap, sym, ◌∙◌, subst, arith}
-use Rattle.std.specs.Prelude.{if◌then◌else◌, ◌&&◌, ◌==◌}
+use Rattle.std.{proofs.Common.{◌≡◌, ℕ, zero, suc, ◌+◌, ◌≤◌, List, [], ◌∷◌, ◌++◌, length, Bool, true, false, Option, Some, None, refl, ap, sym, ◌∙◌, subst, arith}, specs.Prelude.{if◌then◌else◌, ◌&&◌, ◌==◌}}
 use Rattle.hc_text.proofs.Basics.{filter_short as few_pass}
 use Rattle.hc_effects.proofs.Vocabulary.{is_denied, Event, Request, live, is_live, Entry, History, no_contents, entry_without_acts, Tables, tables, after, after_accepted, after_denied, last_start_after, starts_after, received_in}
 use Rattle.hc_event.specs.Counting as counting
 use Rattle.hc_event.specs.declared.event.Event.TheVariants as event
 use Rattle.hc_effects.proofs.Basics.{or_false, false_true}
-use Rattle.hc_fetch.specs.declared.plan.FetchPlan.{FetchPlan}
-use Rattle.hc_fetch.specs.Deciding.{is_foreign, has_foreign}
-use Rattle.hc_fetch.specs.Fetches.{started, start_by_head, start_by_total, parts_start, cache_history}
-use Rattle.hc_fetch.specs.Heads.{Head, heads_in, first_in, first_head}
-use Rattle.hc_fetch.specs.Hearing.{HasStarted}
-use Rattle.hc_fetch.specs.Plans.{first_start, part_start, part_count}
+use Rattle.hc_fetch.specs.{declared.plan.FetchPlan.{FetchPlan}, Deciding.{is_foreign, has_foreign}, Fetches.{started, start_by_head, start_by_total, parts_start, cache_history}, Heads.{Head, heads_in, first_in, first_head}, Hearing.{HasStarted}, Plans.{first_start, part_start, part_count}}
 use Rattle.hc_fetch.proofs.FirstHeads.{none_first, none_starts as none_behind}
 use Rattle.hc_core.proofs.Stepping.{received_after}
 

@@ -2,24 +2,14 @@
 --
 -- A start of the next consumer, where fewer than 1,024 started, is answered by nothing (`own_start`): so the first one starts where nothing
 -- happened yet (`begins_first`), and the others one after another (`StartsOn`).
-use Rattle.std.proofs.Common.{◌≡◌, ℕ, zero, suc, ◌+◌, ◌-◌, ◌*◌, ◌<◌, ◌≤◌, List, [], ◌∷◌, ◌++◌, length, Bool, true, false, Option, Some, None, refl, ap, sym, ◌∙◌, subst, arith, min, max, ◌/◌}
-use Rattle.std.specs.Prelude.{if◌then◌else◌, ◌==◌}
-use Rattle.std.proofs.lemmas.Bool.Decides.{nat_tests}
+use Rattle.std.{proofs.{Common.{◌≡◌, ℕ, zero, suc, ◌+◌, ◌-◌, ◌*◌, ◌<◌, ◌≤◌, List, [], ◌∷◌, ◌++◌, length, Bool, true, false, Option, Some, None, refl, ap, sym, ◌∙◌, subst, arith, min, max, ◌/◌}, lemmas.Bool.Decides.{nat_tests}}, specs.Prelude.{if◌then◌else◌, ◌==◌}}
 use Rattle.hc_effects.proofs.Vocabulary.{Act, Request, Limits, Entry, History, no_contents, entry_without_acts, failures_in, IsOwed, tables}
 use Rattle.hc_event.specs.declared.event.Event.TheVariants as event
 use Rattle.hc_store.specs.declared.backend.Backend.{Ghosts}
 use Rattle.hc_laws.proofs.LawfulRuns.{lawful_in_runs}
-use Rattle.hc_core.specs.declared.cache.Cache.{Cache}
-use Rattle.hc_core.specs.Steps.{StandsFor, Answers, limits_in, last_moment, bytes_received, steps}
-use Rattle.hc_fetch.specs.declared.fetching.Fetching.{Fetching}
-use Rattle.hc_fetch.specs.declared.first.First.{First}
-use Rattle.hc_fetch.specs.declared.plan.FetchPlan.{FetchPlan}
-use Rattle.hc_fetch.specs.Bounds.{AreFew, starts_allowed}
-use Rattle.hc_fetch.specs.Fetches.{started, parts_start, cache_history, starts_behind}
-use Rattle.hc_fetch.specs.Hearing.{HasStarted, KeepsRest, Begins, Starts}
-use Rattle.hc_fetch.specs.Plans.{part_start, part_count, request_of, fields_for, last_position, first_start, first_fields}
-use Rattle.hc_fetch.proofs.Started.{few_live, none_started, started_more}
-use Rattle.hc_fetch.proofs.Starts.{start_silent}
+use Rattle.hc_core.specs.{declared.cache.Cache.{Cache}, Steps.{StandsFor, Answers, limits_in, last_moment, bytes_received, steps}}
+use Rattle.hc_fetch.specs.{declared.{fetching.Fetching.{Fetching}, first.First.{First}, plan.FetchPlan.{FetchPlan}}, Bounds.{AreFew, starts_allowed}, Fetches.{started, parts_start, cache_history, starts_behind}, Hearing.{HasStarted, KeepsRest, Begins, Starts}, Plans.{part_start, part_count, request_of, fields_for, last_position, first_start, first_fields}}
+use Rattle.hc_fetch.proofs.{Started.{few_live, none_started, started_more}, Starts.{start_silent}}
 
 -- ONE START
 

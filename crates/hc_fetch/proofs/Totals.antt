@@ -1,16 +1,9 @@
 -- The length of a whole that a head tells is below 2^62.
-use Rattle.std.proofs.Common.{◌≡◌, ℕ, ◌<◌, ◌^◌, ◌==◌, List, Bool, true, false, Option, Some, None, refl, ap, sym, ◌∙◌, arith}
-use Rattle.std.specs.Prelude.{if◌then◌else◌, nat_lt}
-use Rattle.std.proofs.lemmas.Bool.Decides.{nat_tests}
-use Rattle.hc_range.specs.declared.range.ContentRange.{ContentRange}
-use Rattle.hc_range.specs.declared.range.ContentRange.TheVariants.{Part, Unsatisfied}
+use Rattle.std.{proofs.{Common.{◌≡◌, ℕ, ◌<◌, ◌^◌, ◌==◌, List, Bool, true, false, Option, Some, None, refl, ap, sym, ◌∙◌, arith}, lemmas.Bool.Decides.{nat_tests}}, specs.Prelude.{if◌then◌else◌, nat_lt}}
+use Rattle.hc_range.specs.declared.range.ContentRange.{ContentRange, TheVariants.{Part, Unsatisfied}}
 use Rattle.hc_effects.proofs.Vocabulary.{content_range_of}
 use Rattle.hc_effects.proofs.ToldNumbers.{range_early}
-use Rattle.hc_fetch.specs.declared.ended.FetchEnded.{FetchEnded}
-use Rattle.hc_fetch.specs.declared.first.First.{First}
-use Rattle.hc_fetch.specs.Bounds.{is_short}
-use Rattle.hc_fetch.specs.Firsts.{total_in, total_to_start}
-use Rattle.hc_fetch.specs.Heads.{Head, total_of, total_by}
+use Rattle.hc_fetch.specs.{declared.{ended.FetchEnded.{FetchEnded}, first.First.{First}}, Bounds.{is_short}, Firsts.{total_in, total_to_start}, Heads.{Head, total_of, total_by}}
 use Rattle.hc_fetch.proofs.Going.{none_to_start}
 
 by_part : (fields : List (List ℕ × List ℕ)) (first last : ℕ) (total : Option ℕ) → content_range_of fields ≡ Some (Part first last total) → is_short total ≡ true

@@ -4,31 +4,16 @@
 -- the end where the consumer is told it (`FirstKnown`, by induction over the events in `first_known`). What is written is the front of what is
 -- gathered, none of which is past the end. After a part as much was written as the whole has, which is no less than the end; after the
 -- whole the consumer was given all up to the end, and that is gathered: so what is written ends where the body does.
-use Rattle.std.proofs.Common.{◌≡◌, ◌⊎◌, inl, inr, ℕ, zero, suc, ◌+◌, ◌<◌, ◌≤◌, List, [], ◌∷◌, ◌++◌, length, true, false, Option, Some, None, refl, ap, sym, ◌∙◌, subst, arith, length-append}
-use Rattle.std.specs.Prelude.{◌==◌, ◌||◌, is_some, if◌then◌else◌}
-use Rattle.std.specs.Option.{option_or}
+use Rattle.std.{proofs.Common.{◌≡◌, ◌⊎◌, inl, inr, ℕ, zero, suc, ◌+◌, ◌<◌, ◌≤◌, List, [], ◌∷◌, ◌++◌, length, true, false, Option, Some, None, refl, ap, sym, ◌∙◌, subst, arith, length-append}, specs.{Prelude.{◌==◌, ◌||◌, is_some, if◌then◌else◌}, Option.{option_or}}}
 use Rattle.hc_text.proofs.Basics.{bool_cases, nil_cons, not_some as none_some, some_inj}
 use Rattle.hc_sparse.specs.Cells.{Cells, Cell, cells_with}
 use Rattle.hc_effects.proofs.Vocabulary.{Act, Limits, may_begin, Entry, History, no_contents, Shown, shown_in, shown_of, given_of, Says, IsEnd, end_of, IsRun, tables}
 use Rattle.hc_event.specs.declared.act.Act.TheVariants as act
 use Rattle.hc_effects.proofs.Basics.{append_none, false_true, or_false}
-use Rattle.hc_laws.proofs.OneHead.{one_head_is_shown}
-use Rattle.hc_laws.proofs.ReadEnds.{ends_well}
-use Rattle.hc_laws.proofs.ReadJoined.{one_inj}
+use Rattle.hc_laws.proofs.{OneHead.{one_head_is_shown}, ReadEnds.{ends_well}, ReadJoined.{one_inj}}
 use Rattle.hc_fetch.specs.declared.ended.FetchEnded.TheVariants as ended
-use Rattle.hc_fetch.specs.declared.plan.FetchPlan.{FetchPlan}
-use Rattle.hc_fetch.specs.Bounds.{IsPlan}
-use Rattle.hc_fetch.specs.Deciding.{has_foreign, is_foreign}
-use Rattle.hc_fetch.specs.Fetches.{started, starts_behind, cache_history, ends_in, has_ended, is_all, is_done_by, ended_with}
-use Rattle.hc_fetch.specs.Gathering.{gathered, given_end, bytes_on, byte_before, written_of}
-use Rattle.hc_fetch.specs.Heads.{Head, heads_in, first_in, first_head, total_of}
-use Rattle.hc_fetch.specs.Laws.{IsFetchRun, WritesAllOfIt}
-use Rattle.hc_fetch.proofs.Bodies.{run_before, earlier, writes_the_body}
-use Rattle.hc_fetch.proofs.Ends.{KnownEnd, KnownHead, before_end, end_kept, head_kept}
-use Rattle.hc_fetch.proofs.FirstHeads.{among, first_told, lone_before, none_first, none_shown}
-use Rattle.hc_fetch.proofs.GivenFirst.{given_covered, shown_step, started_gives, over}
-use Rattle.hc_fetch.proofs.Shows.{started_shows}
-use Rattle.hc_fetch.proofs.ShownFacts.{TellsPart, tells_part, FirstShown}
+use Rattle.hc_fetch.specs.{declared.plan.FetchPlan.{FetchPlan}, Bounds.{IsPlan}, Deciding.{has_foreign, is_foreign}, Fetches.{started, starts_behind, cache_history, ends_in, has_ended, is_all, is_done_by, ended_with}, Gathering.{gathered, given_end, bytes_on, byte_before, written_of}, Heads.{Head, heads_in, first_in, first_head, total_of}, Laws.{IsFetchRun, WritesAllOfIt}}
+use Rattle.hc_fetch.proofs.{Bodies.{run_before, earlier, writes_the_body}, Ends.{KnownEnd, KnownHead, before_end, end_kept, head_kept}, FirstHeads.{among, first_told, lone_before, none_first, none_shown}, GivenFirst.{given_covered, shown_step, started_gives, over}, Shows.{started_shows}, ShownFacts.{TellsPart, tells_part, FirstShown}}
 
 -- LISTS OF ACTS
 

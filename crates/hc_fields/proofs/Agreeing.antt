@@ -1,11 +1,5 @@
 -- What is left of joined values, piece by piece.
-use Rattle.std.proofs.Common.{◌≡◌, ℕ, suc, ◌+◌, ◌<◌, List, [], ◌∷◌, ◌++◌, length, drop, take, get_or, refl, sym, ap, ◌∙◌, ◌≢◌, ◌≤◌, ◌↔◌, append_assoc, add-one, Bool, true, false, not, inl, inr}
-use Rattle.std.specs.Prelude.{bytes_eq, codes, slice_get, Option, Some, None}
-use Rattle.std.proofs.lemmas.Bool.{both_ways, cases_Bool}
-use Rattle.std.proofs.lemmas.Slice.Eq.{bytes_eq-Decides}
-use Rattle.std.proofs.Math.Seq.{drop-cons}
-use Rattle.std.proofs.lemmas.List.{take-append-drop, take-append-le, append_cancel_left}
-use Rattle.std.proofs.lemmas.Option.{slice_get-get_or}
+use Rattle.std.{proofs.{Common.{◌≡◌, ℕ, suc, ◌+◌, ◌<◌, List, [], ◌∷◌, ◌++◌, length, drop, take, get_or, refl, sym, ap, ◌∙◌, ◌≢◌, ◌≤◌, ◌↔◌, append_assoc, add-one, Bool, true, false, not, inl, inr}, lemmas.{Bool.{both_ways, cases_Bool}, Slice.Eq.{bytes_eq-Decides}, List.{take-append-drop, take-append-le, append_cancel_left}, Option.{slice_get-get_or}}, Math.Seq.{drop-cons}}, specs.Prelude.{bytes_eq, codes, slice_get, Option, Some, None}}
 use Rattle.hc_fields.specs.Agreement.{left_of}
 
 -- what separates two values, and the value behind it

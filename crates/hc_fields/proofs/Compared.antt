@@ -1,13 +1,5 @@
 -- A name that is lowered and compared byte by byte.
-use Rattle.std.proofs.Common.{◌≡◌, ℕ, zero, suc, ◌+◌, ◌<◌, ap, ◌∙◌, true, false, List, Ordering, [], ◌∷◌, length, drop, get_or, refl, arith}
-use Rattle.std.proofs.lemmas.Bool.Decides.{nat_tests}
-use Rattle.std.specs.Prelude.{min}
-use Rattle.std.specs.Ordering.{nat_cmp, ordering_then, is_ne}
-use Rattle.std.specs.declared.cmp.Ordering.TheVariants.{Less, Equal, Greater}
-use Rattle.std.specs.Cmp.Lexicographic.{slice_cmp}
-use Rattle.std.proofs.Math.Seq.{drop-cons}
-use Rattle.std.proofs.lemmas.List.{length-map, get_or-map}
-use Rattle.std.specs.Char.{to_ascii_lowercase}
+use Rattle.std.{proofs.{Common.{◌≡◌, ℕ, zero, suc, ◌+◌, ◌<◌, ap, ◌∙◌, true, false, List, Ordering, [], ◌∷◌, length, drop, get_or, refl, arith}, lemmas.{Bool.Decides.{nat_tests}, List.{length-map, get_or-map}}, Math.Seq.{drop-cons}}, specs.{Prelude.{min}, Ordering.{nat_cmp, ordering_then, is_ne}, declared.cmp.Ordering.TheVariants.{Less, Equal, Greater}, Cmp.Lexicographic.{slice_cmp}, Char.{to_ascii_lowercase}}}
 use Rattle.http_header.specs.Token.{lowercase}
 
 -- where the bytes at a place differ they decide

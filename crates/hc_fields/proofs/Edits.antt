@@ -1,15 +1,7 @@
 -- What adding and removing fields does to a list, and what it keeps.
-use Rattle.std.proofs.Common.{◌≡◌, ◌≢◌, ℕ, ◌+◌, ◌<◌, ◌≤◌, Bool, true, false, not, List, [], ◌∷◌, ◌++◌, length, take, drop, refl, sym, ap, inl, inr, arith, one-add}
-use Rattle.std.specs.Prelude.{filter}
-use Rattle.std.specs.List.{All, insert}
-use Rattle.std.proofs.lemmas.Bool.{cases_Bool, and_from, false_from_ne_true}
-use Rattle.std.proofs.lemmas.List.Elements.{All-cons, All-head, All-tail, All-filter}
-use Rattle.std.proofs.lemmas.List.Filters.{sum_by-filter_both, length-filter_both}
-use Rattle.std.proofs.lemmas.List.Sums.{sum_by-cons}
-use Rattle.std.proofs.lemmas.Slice.Eq.{bytes_eq-Decides}
+use Rattle.std.{proofs.{Common.{◌≡◌, ◌≢◌, ℕ, ◌+◌, ◌<◌, ◌≤◌, Bool, true, false, not, List, [], ◌∷◌, ◌++◌, length, take, drop, refl, sym, ap, inl, inr, arith, one-add}, lemmas.{Bool.{cases_Bool, and_from, false_from_ne_true}, List.{Elements.{All-cons, All-head, All-tail, All-filter}, Filters.{sum_by-filter_both, length-filter_both}, Sums.{sum_by-cons}}, Slice.Eq.{bytes_eq-Decides}}}, specs.{Prelude.{filter}, List.{All, insert}}}
 use Rattle.hc_fields.specs.FieldList.{comes_before, field_list_with, has_name, values_of, without, size_of, is_sorted, start_of, end_of, IsField, IsFieldList}
-use Rattle.hc_fields.proofs.Names.{one_way, cases_names}
-use Rattle.hc_fields.proofs.Sorted.{Pair, list_all-weaker, list_all-filter, list_all-put, to_not, sorted_rest, after_rest, filter-after, without-after, start_of-before, start_of-stop, end_of-more, end_of-stop, NoneBefore, start_of-none}
+use Rattle.hc_fields.proofs.{Names.{one_way, cases_names}, Sorted.{Pair, list_all-weaker, list_all-filter, list_all-put, to_not, sorted_rest, after_rest, filter-after, without-after, start_of-before, start_of-stop, end_of-more, end_of-stop, NoneBefore, start_of-none}}
 
 -- the bytes of one field
 abbrev pub bytes_of : Pair → ℕ

@@ -1,15 +1,7 @@
 -- The ends of a list of fields: what may follow it, and what it begins with.
-use Rattle.std.proofs.Common.{◌≡◌, ℕ, suc, ◌+◌, ◌-◌, ◌<◌, Bool, true, false, not, List, [], ◌∷◌, ◌++◌, length, get_or, Some, refl, ap, inl, inr, arith, length-append}
-use Rattle.std.specs.Prelude.{slice_get}
-use Rattle.std.specs.List.{All, list_all}
-use Rattle.std.proofs.lemmas.Bool.{cases_Bool, and_parts, and_from, both_ways, false_from_ne_true}
-use Rattle.std.proofs.lemmas.List.{get_or_append_left, get_or_at}
-use Rattle.std.proofs.lemmas.List.Elements.{All-nil}
-use Rattle.std.proofs.lemmas.List.Sums.{sum_by-append}
-use Rattle.std.proofs.lemmas.Option.{get_or_from_slice_get, slice_get_within}
+use Rattle.std.{proofs.{Common.{◌≡◌, ℕ, suc, ◌+◌, ◌-◌, ◌<◌, Bool, true, false, not, List, [], ◌∷◌, ◌++◌, length, get_or, Some, refl, ap, inl, inr, arith, length-append}, lemmas.{Bool.{cases_Bool, and_parts, and_from, both_ways, false_from_ne_true}, List.{get_or_append_left, get_or_at, Elements.{All-nil}, Sums.{sum_by-append}}, Option.{get_or_from_slice_get, slice_get_within}}}, specs.{Prelude.{slice_get}, List.{All, list_all}}}
 use Rattle.hc_fields.specs.FieldList.{comes_before, field_list_with, is_sorted, IsField, IsFieldList}
-use Rattle.hc_fields.proofs.Names.{chain}
-use Rattle.hc_fields.proofs.Sorted.{Pair, list_all_at, not_before, to_not, sorted_at, sorted_rest}
+use Rattle.hc_fields.proofs.{Names.{chain}, Sorted.{Pair, list_all_at, not_before, to_not, sorted_at, sorted_rest}}
 
 list_all-append : (p : Pair → Bool) (fs gs : List Pair) → list_all p (fs ++ gs) ≡ true → list_all p fs ≡ true
 list_all-append p [] gs h = refl

@@ -1,13 +1,8 @@
 -- Field lines: a text begins with one of them at most, and spells one list of a length.
-use Rattle.std.proofs.Common.{◌≡◌, ◌≢◌, ℕ, ◌<◌, ◌≤◌, true, List, [], ◌∷◌, ◌++◌, length, IsTrue, refl, sym, ap, ◌∙◌, inl, inr, arith, length-append}
-use Rattle.std.specs.List.{All, list_all}
-use Rattle.std.proofs.lemmas.Bool.{cases_eq, and_parts, and_from, both_ways, ne_eqb, not_from_false}
-use Rattle.std.proofs.lemmas.List.{append_assoc, append-nil, nil_from_length, get_or_at}
-use Rattle.std.proofs.lemmas.List.Elements.{All-head, All-tail}
+use Rattle.std.{proofs.{Common.{◌≡◌, ◌≢◌, ℕ, ◌<◌, ◌≤◌, true, List, [], ◌∷◌, ◌++◌, length, IsTrue, refl, sym, ap, ◌∙◌, inl, inr, arith, length-append}, lemmas.{Bool.{cases_eq, and_parts, and_from, both_ways, ne_eqb, not_from_false}, List.{append_assoc, append-nil, nil_from_length, get_or_at, Elements.{All-head, All-tail}}}}, specs.List.{All, list_all}}
 use Rattle.http_header.specs.Token.{AllPass, is_token_byte, is_value_byte}
-use Rattle.hc_fields.specs.FieldList.{IsField, IsFieldList, IsListOf}
+use Rattle.hc_fields.specs.{FieldList.{IsField, IsFieldList, IsListOf}, Lines.{field_text, fields_text}}
 use Rattle.hc_fields.proofs.Ends.{IsFieldList-prefix}
-use Rattle.hc_fields.specs.Lines.{field_text, fields_text}
 use Rattle.hc_text.specs.Texts.{lacks}
 use Rattle.hc_text.proofs.Cuts.{cut_once}
 

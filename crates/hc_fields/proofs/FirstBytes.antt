@@ -1,9 +1,5 @@
 -- The first of some byte in a text, as a search tells it.
-use Rattle.std.proofs.Common.{◌≡◌, ℕ, ◌<◌, Bool, true, false, List, length, get_or, Option, Some, None, refl, inl, inr, arith}
-use Rattle.std.specs.Prelude.{◌==◌, position}
-use Rattle.std.specs.List.{position_or_len}
-use Rattle.std.proofs.lemmas.Bool.{lt-ltb, le-ltb, cases_Bool}
-use Rattle.std.proofs.lemmas.List.Sums.{position_or_len_is}
+use Rattle.std.{proofs.{Common.{◌≡◌, ℕ, ◌<◌, Bool, true, false, List, length, get_or, Option, Some, None, refl, inl, inr, arith}, lemmas.{Bool.{lt-ltb, le-ltb, cases_Bool}, List.Sums.{position_or_len_is}}}, specs.{Prelude.{◌==◌, position}, List.{position_or_len}}}
 use Rattle.memchr.specs.Find.{IsFirstByte, is_byte}
 
 not_at : (e b : ℕ) → ¬ ((b == e) ≡ true) → (b == e) ≡ false

@@ -1,16 +1,7 @@
 -- How long joined values are.
-use Rattle.std.proofs.Common.{◌≡◌, ℕ, suc, ◌+◌, ◌-◌, ◌*◌, ◌<◌, ◌≤◌, List, [], ◌∷◌, ◌++◌, length, take, drop, get_or, map, refl, sym, ap, ◌∙◌, arith, length-append}
-use Rattle.std.specs.Prelude.{codes, filter, Some}
-use Rattle.std.specs.List.{All, flat_map}
-use Rattle.std.proofs.lemmas.List.Elements.{All-head, All-tail}
-use Rattle.std.proofs.lemmas.List.{take_more, take_all, take-append-drop, map-append, length-map}
-use Rattle.std.proofs.lemmas.List.Concat.{flat_map-append}
-use Rattle.std.proofs.lemmas.List.Sums.{sum_by-cons}
-use Rattle.hc_fields.specs.declared.mark.Mark.{Mark}
-use Rattle.hc_fields.specs.FieldList.{size_of, has_name, joined_of}
-use Rattle.hc_fields.specs.Marks.{field_at, fields_at, separated_text, AreMarked, IsLineAt}
-use Rattle.hc_fields.proofs.Sorted.{Pair}
-use Rattle.hc_fields.proofs.Edits.{size_of-parts, length-parts}
+use Rattle.std.{proofs.{Common.{◌≡◌, ℕ, suc, ◌+◌, ◌-◌, ◌*◌, ◌<◌, ◌≤◌, List, [], ◌∷◌, ◌++◌, length, take, drop, get_or, map, refl, sym, ap, ◌∙◌, arith, length-append}, lemmas.List.{take_more, take_all, take-append-drop, map-append, length-map, Elements.{All-head, All-tail}, Concat.{flat_map-append}, Sums.{sum_by-cons}}}, specs.{Prelude.{codes, filter, Some}, List.{All, flat_map}}}
+use Rattle.hc_fields.specs.{declared.mark.Mark.{Mark}, FieldList.{size_of, has_name, joined_of}, Marks.{field_at, fields_at, separated_text, AreMarked, IsLineAt}}
+use Rattle.hc_fields.proofs.{Sorted.{Pair}, Edits.{size_of-parts, length-parts}}
 
 abbrev bytes : Pair → ℕ
 bytes f = length f.0 + length f.1

@@ -1,24 +1,9 @@
 -- What a text and its marks stand for once a line was put or some went.
-use Rattle.std.specs.Prelude.{filter, slice_get, Some}
-use Rattle.std.proofs.lemmas.Option.{slice_get-map, slice_get-get_or}
-use Rattle.std.proofs.Common.{◌≡◌, ℕ, Bool, true, get_or, ◌+◌, ◌-◌, ◌<◌, ◌≤◌, List, [], ◌∷◌, ◌++◌, length, take, drop, map, refl, sym, ◌∙◌, ap, arith, add-zero}
-use Rattle.std.specs.List.{All, remove_range}
-use Rattle.std.specs.Char.{to_ascii_lowercase}
-use Rattle.std.proofs.lemmas.List.{length-map, get_or-map, take-map, drop-map, map-append, take_at, take_all, drop_all, take-append-drop}
-use Rattle.std.proofs.lemmas.List.Elements.{All-append, All-take, All-drop}
-use Rattle.std.proofs.lemmas.List.Sums.{sum_by_more}
+use Rattle.std.{specs.{Prelude.{filter, slice_get, Some}, List.{All, remove_range}, Char.{to_ascii_lowercase}}, proofs.{lemmas.{Option.{slice_get-map, slice_get-get_or}, List.{length-map, get_or-map, take-map, drop-map, map-append, take_at, take_all, drop_all, take-append-drop, Elements.{All-append, All-take, All-drop}, Sums.{sum_by_more}}}, Common.{◌≡◌, ℕ, Bool, true, get_or, ◌+◌, ◌-◌, ◌<◌, ◌≤◌, List, [], ◌∷◌, ◌++◌, length, take, drop, map, refl, sym, ◌∙◌, ap, arith, add-zero}}}
 use Rattle.http_header.specs.Token.{lowercase}
 use Rattle.http_header.proofs.TokenLemmas.{IsHeaderName-lowercase}
-use Rattle.hc_fields.specs.declared.mark.Mark.{Mark}
-use Rattle.hc_fields.specs.FieldList.{field_list_with, size_of, has_name, without, is_sorted, start_of, end_of, IsField, IsAllowed, HasPlace}
-use Rattle.hc_fields.specs.declared.search.Place.{Place}
-use Rattle.hc_fields.specs.Place.{IsPlace}
-use Rattle.hc_fields.specs.Lines.{field_text, fields_text}
-use Rattle.hc_fields.specs.Marks.{field_at, fields_at, IsLineAt, IsKept}
-use Rattle.hc_fields.proofs.Sorted.{Pair, is_parted}
-use Rattle.hc_fields.proofs.Edits.{put-insert, put-without, size_of-put, IsFieldList-put, IsFieldList-without}
-use Rattle.hc_fields.proofs.LineLemmas.{fields_text-push}
-use Rattle.hc_fields.proofs.MarkLemmas.{mark, marks_with, fields_at-with, lines-with}
+use Rattle.hc_fields.specs.{declared.{mark.Mark.{Mark}, search.Place.{Place}}, FieldList.{field_list_with, size_of, has_name, without, is_sorted, start_of, end_of, IsField, IsAllowed, HasPlace}, Place.{IsPlace}, Lines.{field_text, fields_text}, Marks.{field_at, fields_at, IsLineAt, IsKept}}
+use Rattle.hc_fields.proofs.{Sorted.{Pair, is_parted}, Edits.{put-insert, put-without, size_of-put, IsFieldList-put, IsFieldList-without}, LineLemmas.{fields_text-push}, MarkLemmas.{mark, marks_with, fields_at-with, lines-with}}
 
 -- the lowered name and the value of an allowed field
 pub IsField-lowered : (count size : ℕ) (name value : List ℕ) → HasPlace count size name value → IsField (lowercase name, value)

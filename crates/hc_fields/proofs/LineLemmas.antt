@@ -1,9 +1,6 @@
 -- Lines of fields, and a text that grows.
-use Rattle.std.proofs.Common.{◌≡◌, ℕ, ◌+◌, ◌<◌, List, [], ◌∷◌, ◌++◌, length, take, get_or, refl, sym, ap, ◌∙◌, arith, length-append}
-use Rattle.std.proofs.lemmas.List.{append_assoc, append-nil, map_more, take-take, take_at}
-use Rattle.hc_fields.specs.declared.mark.Mark.{Mark}
-use Rattle.hc_fields.specs.Lines.{field_text, fields_text}
-use Rattle.hc_fields.specs.Marks.{field_at, fields_at}
+use Rattle.std.proofs.{Common.{◌≡◌, ℕ, ◌+◌, ◌<◌, List, [], ◌∷◌, ◌++◌, length, take, get_or, refl, sym, ap, ◌∙◌, arith, length-append}, lemmas.List.{append_assoc, append-nil, map_more, take-take, take_at}}
+use Rattle.hc_fields.specs.{declared.mark.Mark.{Mark}, Lines.{field_text, fields_text}, Marks.{field_at, fields_at}}
 use Rattle.hc_fields.proofs.Sorted.{Pair}
 
 pub fields_text-append : (fs gs : List Pair) → fields_text (fs ++ gs) ≡ fields_text fs ++ fields_text gs

@@ -1,12 +1,6 @@
 -- Lines that stand in a text, and what a text that grows keeps of them.
-use Rattle.std.proofs.Common.{◌≡◌, ℕ, ◌+◌, ◌-◌, ◌<◌, ◌≤◌, List, [], ◌∷◌, ◌++◌, length, take, drop, get_or, refl, sym, ap, ◌∙◌, arith, length-append}
-use Rattle.std.specs.Prelude.{slice_range, codes}
-use Rattle.std.specs.List.{All}
-use Rattle.std.proofs.lemmas.List.{append_assoc, append-nil, map_more, map-append, take-map, drop-map, take_at, drop_at, take-append-le, drop-append-le, length-drop}
-use Rattle.std.proofs.lemmas.List.Elements.{All-head, All-tail, All-append, All-cons, All-nil, All-take, All-drop}
-use Rattle.hc_fields.specs.declared.mark.Mark.{Mark}
-use Rattle.hc_fields.specs.Lines.{field_text}
-use Rattle.hc_fields.specs.Marks.{field_at, fields_at, mark_of, IsLineAt, IsPacked}
+use Rattle.std.{proofs.{Common.{◌≡◌, ℕ, ◌+◌, ◌-◌, ◌<◌, ◌≤◌, List, [], ◌∷◌, ◌++◌, length, take, drop, get_or, refl, sym, ap, ◌∙◌, arith, length-append}, lemmas.List.{append_assoc, append-nil, map_more, map-append, take-map, drop-map, take_at, drop_at, take-append-le, drop-append-le, length-drop, Elements.{All-head, All-tail, All-append, All-cons, All-nil, All-take, All-drop}}}, specs.{Prelude.{slice_range, codes}, List.{All}}}
+use Rattle.hc_fields.specs.{declared.mark.Mark.{Mark}, Lines.{field_text}, Marks.{field_at, fields_at, mark_of, IsLineAt, IsPacked}}
 use Rattle.hc_fields.proofs.LineLemmas.{fields_text-push}
 
 -- a range of a text stays where the text grows

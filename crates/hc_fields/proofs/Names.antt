@@ -1,15 +1,5 @@
 -- The order of names by their bytes.
-use Rattle.std.proofs.Common.{◌≡◌, ℕ, true, false, List, Ordering, refl, sym, ◌∙◌, inl, inr, ◌⊎◌}
-use Rattle.std.specs.Ordering.{nat_cmp, is_lt, is_eq, ordering_reverse}
-use Rattle.std.specs.declared.cmp.Ordering.TheVariants.{Less, Equal, Greater}
-use Rattle.std.specs.Cmp.{IsStrictWeakOrder}
-use Rattle.std.specs.Cmp.Lexicographic.{slice_cmp}
-use Rattle.std.specs.Prelude.{bytes_eq}
-use Rattle.std.proofs.lemmas.Bool.{cases_Bool, false_from_ne_true, true_from_ne_false, both_ways}
-use Rattle.std.proofs.lemmas.Cmp.{nat_list_cmp_total}
-use Rattle.std.proofs.lemmas.List.Sorted.{ranks_by}
-use Rattle.std.proofs.lemmas.Map.Text.{is_eq-slice_cmp}
-use Rattle.std.proofs.lemmas.Slice.Eq.{bytes_eq-Decides}
+use Rattle.std.{proofs.{Common.{◌≡◌, ℕ, true, false, List, Ordering, refl, sym, ◌∙◌, inl, inr, ◌⊎◌}, lemmas.{Bool.{cases_Bool, false_from_ne_true, true_from_ne_false, both_ways}, Cmp.{nat_list_cmp_total}, List.Sorted.{ranks_by}, Map.Text.{is_eq-slice_cmp}, Slice.Eq.{bytes_eq-Decides}}}, specs.{Ordering.{nat_cmp, is_lt, is_eq, ordering_reverse}, declared.cmp.Ordering.TheVariants.{Less, Equal, Greater}, Cmp.{IsStrictWeakOrder, Lexicographic.{slice_cmp}}, Prelude.{bytes_eq}}}
 use Rattle.hc_fields.specs.FieldList.{comes_before}
 
 order : IsStrictWeakOrder comes_before

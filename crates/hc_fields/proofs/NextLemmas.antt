@@ -1,20 +1,7 @@
 -- One more field line of a text that is read.
-use Rattle.std.proofs.Common.{◌≡◌, ℕ, ◌+◌, ◌<◌, ◌≤◌, false, not, List, [], ◌∷◌, ◌++◌, length, take, drop, sym, ap, ◌∙◌, arith, length-append}
-use Rattle.std.specs.List.{list_all}
-use Rattle.std.proofs.lemmas.Bool.{both_ways}
-use Rattle.std.proofs.lemmas.List.{append_assoc, take-append-drop, take_at, length-map, length-take-le, length-drop}
-use Rattle.std.proofs.lemmas.List.Sums.{sum_by_push}
-use Rattle.hc_fields.specs.declared.mark.Mark.{Mark}
-use Rattle.hc_fields.specs.declared.reading.Read.{Read}
-use Rattle.hc_fields.specs.FieldList.{IsField, IsFieldList, IsListOf, comes_before}
-use Rattle.hc_fields.specs.Lines.{field_text, fields_text, BeginsWith}
-use Rattle.hc_fields.specs.Marks.{field_at, fields_at, mark_of, AreMarked}
-use Rattle.hc_fields.specs.Read.{IsRead}
-use Rattle.hc_fields.proofs.Edits.{IsFieldList-put}
-use Rattle.hc_fields.proofs.Ends.{NoneAfter, put-last, sorted-last}
-use Rattle.hc_fields.proofs.FieldTexts.{IsLine-field, field_once, no_next}
-use Rattle.hc_fields.proofs.LineLemmas.{fields_text-push}
-use Rattle.hc_fields.proofs.MarkLemmas.{lines-grown, fields_at-grown, push_fields, push_lines}
+use Rattle.std.{proofs.{Common.{◌≡◌, ℕ, ◌+◌, ◌<◌, ◌≤◌, false, not, List, [], ◌∷◌, ◌++◌, length, take, drop, sym, ap, ◌∙◌, arith, length-append}, lemmas.{Bool.{both_ways}, List.{append_assoc, take-append-drop, take_at, length-map, length-take-le, length-drop, Sums.{sum_by_push}}}}, specs.List.{list_all}}
+use Rattle.hc_fields.specs.{declared.{mark.Mark.{Mark}, reading.Read.{Read}}, FieldList.{IsField, IsFieldList, IsListOf, comes_before}, Lines.{field_text, fields_text, BeginsWith}, Marks.{field_at, fields_at, mark_of, AreMarked}, Read.{IsRead}}
+use Rattle.hc_fields.proofs.{Edits.{IsFieldList-put}, Ends.{NoneAfter, put-last, sorted-last}, FieldTexts.{IsLine-field, field_once, no_next}, LineLemmas.{fields_text-push}, MarkLemmas.{lines-grown, fields_at-grown, push_fields, push_lines}}
 
 abbrev Pair : Type 0
 Pair = List ℕ × List ℕ

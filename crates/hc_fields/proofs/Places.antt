@@ -1,14 +1,7 @@
 -- What a binary search over marks finds, as a place in the list of their fields.
-use Rattle.std.proofs.Common.{◌≡◌, ℕ, ◌+◌, ◌<◌, ◌≤◌, Bool, true, false, not, List, [], length, get_or, refl, sym, arith}
-use Rattle.std.specs.List.{position_or_len}
-use Rattle.std.proofs.lemmas.Bool.{not-false, both_ways, true_from_ne_false}
-use Rattle.std.proofs.lemmas.List.{get_or-map}
-use Rattle.std.proofs.lemmas.List.Sums.{position_or_len_is, fails_before_first}
-use Rattle.hc_fields.specs.declared.mark.Mark.{Mark}
-use Rattle.hc_fields.specs.FieldList.{comes_before, is_sorted, start_of}
-use Rattle.hc_fields.specs.Marks.{field_at, fields_at}
-use Rattle.hc_fields.proofs.Names.{one_way, chain, upto_before}
-use Rattle.hc_fields.proofs.Sorted.{Pair, sorted_at}
+use Rattle.std.{proofs.{Common.{◌≡◌, ℕ, ◌+◌, ◌<◌, ◌≤◌, Bool, true, false, not, List, [], length, get_or, refl, sym, arith}, lemmas.{Bool.{not-false, both_ways, true_from_ne_false}, List.{get_or-map, Sums.{position_or_len_is, fails_before_first}}}}, specs.List.{position_or_len}}
+use Rattle.hc_fields.specs.{declared.mark.Mark.{Mark}, FieldList.{comes_before, is_sorted, start_of}, Marks.{field_at, fields_at}}
+use Rattle.hc_fields.proofs.{Names.{one_way, chain, upto_before}, Sorted.{Pair, sorted_at}}
 
 -- any mark, for reads past the end of a list
 abbrev pub no_mark : Mark

@@ -1,18 +1,8 @@
 -- A field line at the front of a text, byte by byte.
-use Rattle.std.proofs.Common.{◌≡◌, ◌≢◌, ℕ, zero, suc, ◌<◌, ◌≤◌, Bool, true, false, not, List, [], ◌∷◌, ◌++◌, length, take, drop, get_or, Some, None, IsTrue, refl, sym, ◌∙◌, inl, inr, arith, one-add, length-append}
-use Rattle.std.specs.Prelude.{position}
-use Rattle.std.specs.List.{list_all, position_or_len}
-use Rattle.std.specs.Char.{to_ascii_lowercase, is_ascii_uppercase}
-use Rattle.std.proofs.lemmas.Bool.{cases_eq, and_parts, and_from, both_ways, not-false, not-true, lt-ltb, ne_eqb, not_from_false}
-use Rattle.std.proofs.lemmas.Option.{none-some, same_Some}
-use Rattle.std.proofs.lemmas.List.{drop_at}
-use Rattle.std.proofs.lemmas.List.Elements.{All-head, All-tail, All-cons, All-nil}
-use Rattle.std.proofs.lemmas.List.Quantifiers.{position-Some}
-use Rattle.std.proofs.lemmas.Bool.Decides.{nat_tests}
+use Rattle.std.{proofs.{Common.{◌≡◌, ◌≢◌, ℕ, zero, suc, ◌<◌, ◌≤◌, Bool, true, false, not, List, [], ◌∷◌, ◌++◌, length, take, drop, get_or, Some, None, IsTrue, refl, sym, ◌∙◌, inl, inr, arith, one-add, length-append}, lemmas.{Bool.{cases_eq, and_parts, and_from, both_ways, not-false, not-true, lt-ltb, ne_eqb, not_from_false, Decides.{nat_tests}}, Option.{none-some, same_Some}, List.{drop_at, Elements.{All-head, All-tail, All-cons, All-nil}, Quantifiers.{position-Some}}}}, specs.{Prelude.{position}, List.{list_all, position_or_len}, Char.{to_ascii_lowercase, is_ascii_uppercase}}}
 use Rattle.http_header.specs.Token.{AllPass, lowercase, is_token_byte, is_value_byte}
 use Rattle.hc_text.specs.Texts.{lacks}
-use Rattle.hc_fields.specs.FieldList.{IsField, has_own_ends}
-use Rattle.hc_fields.specs.Lines.{field_text, is_lower_byte, BeginsWith, IsCut}
+use Rattle.hc_fields.specs.{FieldList.{IsField, has_own_ends}, Lines.{field_text, is_lower_byte, BeginsWith, IsCut}}
 use Rattle.hc_text.proofs.Cuts.{cut_once}
 use Rattle.hc_fields.proofs.FieldTexts.{field_apart, field_once, IsLine, IsLine-field}
 

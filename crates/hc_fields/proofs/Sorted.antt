@@ -1,8 +1,5 @@
 -- Sorted lists of fields: where a name stands, and what keeps the order.
-use Rattle.std.proofs.Common.{◌≡◌, ℕ, zero, suc, ◌+◌, ◌<◌, ◌≤◌, Bool, true, false, not, List, [], ◌∷◌, ◌++◌, length, take, drop, get_or, refl, ap, inl, inr, arith, one-add}
-use Rattle.std.specs.Prelude.{filter, ◌&&◌}
-use Rattle.std.specs.List.{list_all}
-use Rattle.std.proofs.lemmas.Bool.{cases_Bool, and_parts, and_from, both_ways}
+use Rattle.std.{proofs.{Common.{◌≡◌, ℕ, zero, suc, ◌+◌, ◌<◌, ◌≤◌, Bool, true, false, not, List, [], ◌∷◌, ◌++◌, length, take, drop, get_or, refl, ap, inl, inr, arith, one-add}, lemmas.Bool.{cases_Bool, and_parts, and_from, both_ways}}, specs.{Prelude.{filter, ◌&&◌}, List.{list_all}}}
 use Rattle.hc_fields.specs.FieldList.{comes_before, field_list_with, has_name, without, is_sorted, start_of, end_of}
 use Rattle.hc_fields.proofs.Names.{irreflexive, before_upto, differs_from_before, bytes_eq-swap, cases_names}
 

@@ -1,10 +1,6 @@
 -- How long the text of a date is.
-use Rattle.std.proofs.Common.{◌≡◌, ◌⊎◌, ℕ, ◌≤◌, ◌<◌, ◌-◌, List, [], ◌∷◌, ◌++◌, length, get_or, inl, inr, arith, length-append, refl, zero, suc, ◌+◌}
-use Rattle.std.specs.Prelude.{codes}
-use Rattle.httpdate.specs.declared.parts.Parts.{Parts}
-use Rattle.httpdate.specs.declared.date.HttpDate.{HttpDate}
-use Rattle.httpdate.specs.Date.{IsDateText}
-use Rattle.httpdate.specs.Text.{asctime_date, day_name, day_name_rest, digit_zero, imf_fixdate, month_name, rfc850_date, space, two_digits}
+use Rattle.std.{proofs.Common.{◌≡◌, ◌⊎◌, ℕ, ◌≤◌, ◌<◌, ◌-◌, List, [], ◌∷◌, ◌++◌, length, get_or, inl, inr, arith, length-append, refl, zero, suc, ◌+◌}, specs.Prelude.{codes}}
+use Rattle.httpdate.specs.{declared.{parts.Parts.{Parts}, date.HttpDate.{HttpDate}}, Date.{IsDateText}, Text.{asctime_date, day_name, day_name_rest, digit_zero, imf_fixdate, month_name, rfc850_date, space, two_digits}}
 
 -- no text of a list is longer than this
 abbrev AreShort : ℕ → List (List ℕ) → Type 0

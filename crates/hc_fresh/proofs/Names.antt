@@ -1,10 +1,5 @@
 -- The names of all values of Vary, value by value.
-use Rattle.std.proofs.Common.{◌≡◌, ℕ, ◌+◌, ◌&&◌, Bool, List, [], ◌++◌, drop, Some, ◌∙◌}
-use Rattle.std.specs.Prelude.{slice_get}
-use Rattle.std.specs.List.{flat_map, list_all}
-use Rattle.std.proofs.lemmas.List.{drop_more}
-use Rattle.std.proofs.lemmas.List.Folds.{list_all-append}
-use Rattle.std.proofs.lemmas.Option.{slice_get_within, get_or_from_slice_get}
+use Rattle.std.{proofs.{Common.{◌≡◌, ℕ, ◌+◌, ◌&&◌, Bool, List, [], ◌++◌, drop, Some, ◌∙◌}, lemmas.{List.{drop_more, Folds.{list_all-append}}, Option.{slice_get_within, get_or_from_slice_get}}}, specs.{Prelude.{slice_get}, List.{flat_map, list_all}}}
 use Rattle.hc_text.specs.Elements.{elements}
 
 -- the elements of one more value pass, and those of all further ones

@@ -1,6 +1,5 @@
 -- A token by its test.
-use Rattle.std.proofs.Common.{◌≡◌, ℕ, true, List, [], ◌∷◌, ◌<◌, arith}
-use Rattle.std.proofs.lemmas.List.Sums.{AllPass-from_list_all, list_all-from_AllPass}
+use Rattle.std.proofs.{Common.{◌≡◌, ℕ, true, List, [], ◌∷◌, ◌<◌, arith}, lemmas.List.Sums.{AllPass-from_list_all, list_all-from_AllPass}}
 use Rattle.http_header.specs.Token.{IsToken, is_token_byte}
 use Rattle.hc_fresh.specs.Vary.{is_token}
 

@@ -1,18 +1,11 @@
 -- What a use without validation says of its head and request.
-use Rattle.std.proofs.Common.{◌≡◌, ◌≢◌, ◌⊎◌, ℕ, ◌+◌, ◌-◌, ◌<◌, ◌≤◌, true, false, ltb, Option, Some, None, refl, inl, inr, subst}
-use Rattle.std.specs.Prelude.{IfSome, ◌||◌}
+use Rattle.std.{proofs.Common.{◌≡◌, ◌≢◌, ◌⊎◌, ℕ, ◌+◌, ◌-◌, ◌<◌, ◌≤◌, true, false, ltb, Option, Some, None, refl, inl, inr, subst}, specs.Prelude.{IfSome, ◌||◌}}
 use Rattle.hc_text.proofs.Basics.{either, leb-le, ltb-le, ltb-lt}
-use Rattle.hc_event.specs.declared.event.Load.{Load}
+use Rattle.hc_event.specs.declared.{event.{Load.{Load}, Request.{Request}}, act.Why.{Why}}
 use Rattle.hc_event.specs.declared.event.Load.TheVariants as load
-use Rattle.hc_event.specs.declared.event.Request.{Request}
-use Rattle.hc_event.specs.declared.act.Why.{Why}
 use Rattle.hc_cachectl.specs.Directives.{of_request, of_response}
 use Rattle.hc_record.specs.Head.{Head}
-use Rattle.hc_fresh.specs.Ages.{age}
-use Rattle.hc_fresh.specs.Allowed.{accepts, is_older, is_skip, is_validate, is_zero, lacks}
-use Rattle.hc_fresh.specs.Facts.{allowed}
-use Rattle.hc_fresh.specs.Lifetimes.{lifetime}
-use Rattle.hc_fresh.specs.Laws.{AcceptsStale, IsRightUse, NeedsNone, UsesAreRight}
+use Rattle.hc_fresh.specs.{Ages.{age}, Allowed.{accepts, is_older, is_skip, is_validate, is_zero, lacks}, Facts.{allowed}, Lifetimes.{lifetime}, Laws.{AcceptsStale, IsRightUse, NeedsNone, UsesAreRight}}
 
 -- what an answer says, where there is one
 abbrev IsRight : Head → Request → ℕ → Option Why → Type 0

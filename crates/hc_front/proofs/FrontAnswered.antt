@@ -4,9 +4,7 @@
 -- the front's event, by definition. What is kept of each consumer is as it is to be (Watchings). So the front stands for one
 -- event more (`answers`), whichever way the event was answered: as it came (`passes`, `starts_unwatched`, `polls_unwatched`,
 -- `cancels`), without its condition (`starts_denied`, `starts_on`), by an end (`polls_end`), or by a 304 (`polls_on`).
-use Rattle.std.proofs.Common.{◌≡◌, ℕ, Bool, true, false, List, [], ◌∷◌, ◌++◌, map, Option, Some, None, refl, sym, ap, ◌∙◌, subst, arith}
-use Rattle.std.specs.Prelude.{nat_eq, if◌then◌else◌}
-use Rattle.std.specs.List.{list_any}
+use Rattle.std.{proofs.Common.{◌≡◌, ℕ, Bool, true, false, List, [], ◌∷◌, ◌++◌, map, Option, Some, None, refl, sym, ap, ◌∙◌, subst, arith}, specs.{Prelude.{nat_eq, if◌then◌else◌}, List.{list_any}}}
 use Rattle.hc_store.specs.declared.backend.Backend.{Ghosts}
 use Rattle.hc_effects.proofs.Vocabulary.{is_denied, leaves_in, Act, Event, Request, Contents, Flaw, flaw_in, failures_in, is_fault, Lawful, Tables, IsOwed}
 use Rattle.hc_event.specs.declared.act.Act.TheVariants as act
@@ -15,15 +13,8 @@ use Rattle.hc_model.specs.Flaws.{flaw_by}
 use Rattle.hc_laws.proofs.LawfulRuns.{lawful_in_runs}
 use Rattle.hc_core.specs.Steps as core
 use Rattle.hc_core.specs.Steps.{StandsFor, Answers}
-use Rattle.hc_front.specs.declared.front.Front.{Front}
-use Rattle.hc_front.specs.declared.watches.Watched.{Watched}
-use Rattle.hc_front.specs.declared.watches.Watches.{Watches}
-use Rattle.hc_condition.specs.NotModified.{is_not_modified, told_fields, unconditioned}
-use Rattle.hc_condition.specs.Telling.{act_told, is_satisfying}
-use Rattle.hc_front.specs.Watching.{watched_in, newly, settled, ChangesAt}
-use Rattle.hc_front.specs.Fronts.{Fronted, Heard, is_watched, is_ending, handed, told, core_entry, front_after}
-use Rattle.hc_front.specs.FrontHistories.{FrontHistory, fronted, core_of}
-use Rattle.hc_front.specs.Steps.{FrontStands, FrontAnswers, limits_in}
+use Rattle.hc_front.specs.{declared.{front.Front.{Front}, watches.{Watched.{Watched}, Watches.{Watches}}}, Watching.{watched_in, newly, settled, ChangesAt}, Fronts.{Fronted, Heard, is_watched, is_ending, handed, told, core_entry, front_after}, FrontHistories.{FrontHistory, fronted, core_of}, Steps.{FrontStands, FrontAnswers, limits_in}}
+use Rattle.hc_condition.specs.{NotModified.{is_not_modified, told_fields, unconditioned}, Telling.{act_told, is_satisfying}}
 use Rattle.hc_front.proofs.Watchings.{core_is, watched_live, one_and_others, others_keep, cancels_own, cancels_others, handed_as_it_is, handed_without, unwatched_start, denied_start, start_others, starts_watched, poll_others, poll_none, poll_ends, poll_leaves, poll_satisfies, poll_goes_on}
 
 -- WHAT THE ACTS TELL OF THE STORE

@@ -2,17 +2,12 @@
 --
 -- Nobody is under watch then (`nobody_watched`): only a start of an external request puts somebody there. So what is handed on is
 -- what came, and what is told is what was heard (`plain_else`).
-use Rattle.std.proofs.Common.{◌≡◌, ℕ, Bool, true, false, List, [], ◌∷◌, Option, Some, None, refl, sym, ap, ◌∙◌}
-use Rattle.std.specs.Prelude.{◌&&◌, not, nat_eq, if◌then◌else◌}
+use Rattle.std.{proofs.Common.{◌≡◌, ℕ, Bool, true, false, List, [], ◌∷◌, Option, Some, None, refl, sym, ap, ◌∙◌}, specs.Prelude.{◌&&◌, not, nat_eq, if◌then◌else◌}}
 use Rattle.hc_effects.proofs.Vocabulary.{is_denied, Act, Event, Request, is_live, Entry, History, Contents, Tables, Consumer, after}
 use Rattle.hc_event.specs.declared.event.Event.TheVariants as event
 use Rattle.hc_replay.specs.Histories.{run_of}
-use Rattle.hc_front.specs.declared.watches.Watched.{Watched}
+use Rattle.hc_front.specs.{declared.watches.Watched.{Watched}, Fronts.{Fronted, Heard, is_watched, is_ending, handed, told, watched_by, while_live, core_entry, front_after}, FrontHistories.{FrontHistory, fronted, told_of}, Laws.{starts_external, HasNoneExternal, IsPlainElse}, Watching.{newly}}
 use Rattle.hc_condition.specs.External.{is_external}
-use Rattle.hc_front.specs.Fronts.{Fronted, Heard, is_watched, is_ending, handed, told, watched_by, while_live, core_entry, front_after}
-use Rattle.hc_front.specs.FrontHistories.{FrontHistory, fronted, told_of}
-use Rattle.hc_front.specs.Laws.{starts_external, HasNoneExternal, IsPlainElse}
-use Rattle.hc_front.specs.Watching.{newly}
 
 -- only what is external is watched
 not_watched : (t : Tables) (request : Request) → is_external request ≡ false → is_watched t request ≡ false

@@ -2,11 +2,7 @@
 --
 -- Each way is one of FrontAnswered, with the acts that the cache appended as what was heard. What the cache says of the key of a
 -- request is what the definitions ask (`watched_by_kind`).
-use Rattle.std.proofs.Common.{◌≡◌, ℕ, ◌+◌, ◌-◌, ◌≤◌, Bool, true, false, List, [], ◌∷◌, ◌++◌, length, take, drop, map, Option, Some, None, refl, sym, ap, ◌∙◌, subst, arith}
-use Rattle.std.specs.Prelude.{◌&&◌, not, codes, is_some, is_none, option_map, Result, Ok, Err, OnOk, OnErr, IfOk}
-use Rattle.std.specs.List.{list_any}
-use Rattle.std.proofs.lemmas.List.{append_assoc, length-append}
-use Rattle.std.proofs.Math.Seq.{take-append_seam, drop-append_seam, take-length}
+use Rattle.std.{proofs.{Common.{◌≡◌, ℕ, ◌+◌, ◌-◌, ◌≤◌, Bool, true, false, List, [], ◌∷◌, ◌++◌, length, take, drop, map, Option, Some, None, refl, sym, ap, ◌∙◌, subst, arith}, lemmas.List.{append_assoc, length-append}, Math.Seq.{take-append_seam, drop-append_seam, take-length}}, specs.{Prelude.{◌&&◌, not, codes, is_some, is_none, option_map, Result, Ok, Err, OnOk, OnErr, IfOk}, List.{list_any}}}
 use Rattle.hc_fields.specs.FieldList.{without}
 use Rattle.hc_validate.proofs.Settings.{length-without, size_of-without}
 use Rattle.hc_effects.proofs.Vocabulary.{IsEventWithinLimits, is_denied, leaves_in, Act, Event, Request, current, is_usable, Contents, History, kind_of, kind_at, kind_for, Tables, Representation, tables}
@@ -18,18 +14,10 @@ use Rattle.hc_record.specs.declared.kind.Kind.{Kind}
 use Rattle.hc_effects.proofs.PollKeeps.{find_passes}
 use Rattle.hc_core.specs.Steps as core
 use Rattle.hc_core.specs.Steps.{StandsFor}
-use Rattle.hc_condition.specs.External.{is_external}
-use Rattle.hc_condition.specs.NotModified.{unconditioned}
-use Rattle.hc_condition.specs.Telling.{act_told, is_leaving, is_satisfying}
+use Rattle.hc_condition.specs.{External.{is_external}, NotModified.{unconditioned}, Telling.{act_told, is_leaving, is_satisfying}}
 use Rattle.hc_condition.proofs.Told.{any_leaves}
-use Rattle.hc_front.specs.declared.front.Front.{Front}
-use Rattle.hc_front.specs.declared.watches.Watched.{Watched}
-use Rattle.hc_front.specs.Fronts.{is_watched, is_ending}
-use Rattle.hc_front.specs.FrontHistories.{FrontHistory, fronted, core_of}
-use Rattle.hc_front.specs.Steps.{FrontStands, FrontAnswers, HasStepped, last_moment, bytes_received}
-use Rattle.hc_front.specs.Watching.{watched_in, newly, settled, ChangesAt}
-use Rattle.hc_front.proofs.FrontAnswered.{passes, cancels, starts_unwatched, starts_denied, starts_on, polls_unwatched, polls_end, polls_on}
-use Rattle.hc_front.proofs.Watchings.{core_is}
+use Rattle.hc_front.specs.{declared.{front.Front.{Front}, watches.Watched.{Watched}}, Fronts.{is_watched, is_ending}, FrontHistories.{FrontHistory, fronted, core_of}, Steps.{FrontStands, FrontAnswers, HasStepped, last_moment, bytes_received}, Watching.{watched_in, newly, settled, ChangesAt}}
+use Rattle.hc_front.proofs.{FrontAnswered.{passes, cancels, starts_unwatched, starts_denied, starts_on, polls_unwatched, polls_end, polls_on}, Watchings.{core_is}}
 
 -- OUTCOMES
 

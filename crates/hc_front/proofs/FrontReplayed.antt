@@ -6,21 +6,14 @@
 use Rattle.std.proofs.Common.{◌≡◌, ℕ, ◌+◌, ◌≤◌, List, [], ◌∷◌, ◌++◌, length, true, Option, refl, ap, sym, ◌∙◌, subst, arith}
 use Rattle.hc_store.specs.declared.backend.Backend.{Ghosts}
 use Rattle.hc_effects.proofs.Vocabulary.{Act, Event, Limits, Contents, IsRun}
-use Rattle.hc_sched.specs.declared.schedule.Ended.{Ended}
-use Rattle.hc_sched.specs.declared.schedule.Timed.{Timed}
-use Rattle.hc_driver.specs.Endings.{How, Ends}
+use Rattle.hc_sched.specs.declared.schedule.{Ended.{Ended}, Timed.{Timed}}
+use Rattle.hc_driver.specs.{Endings.{How, Ends}, Stepping.{events_in, Leads, nothing, more, Steps}}
 use Rattle.hc_driver.specs.Stepping as steps
-use Rattle.hc_driver.specs.Stepping.{events_in, Leads, nothing, more, Steps}
 use Rattle.hc_driver.proofs.Reported.{ends_so}
 use Rattle.hc_laws.proofs.ReadWhole.{runs_read_whole}
 use Rattle.hc_replay.specs.Histories.{failures}
-use Rattle.hc_front.specs.declared.front.Front.{Front}
-use Rattle.hc_front.specs.Fronts.{Heard}
-use Rattle.hc_front.specs.FrontHistories.{FrontHistory, fronted, core_of, told_of, front_entry}
+use Rattle.hc_front.specs.{declared.front.Front.{Front}, Fronts.{Heard}, FrontHistories.{FrontHistory, fronted, core_of, told_of, front_entry}, Replays.{GoesOn, IsReplayed, ReplaysFront}, Steps.{FrontStands, FrontAnswers, has_failed, limits_in, faults_in, steps as steps_in}}
 use Rattle.hc_front.specs.Replays as replays
-use Rattle.hc_front.specs.Replays.{GoesOn, IsReplayed, ReplaysFront}
-use Rattle.hc_front.specs.Steps.{FrontStands, FrontAnswers, has_failed, limits_in, faults_in}
-use Rattle.hc_front.specs.Steps.{steps as steps_in}
 
 module _ {B : Type 0} {g : Ghosts B} where
   -- how a front answers

@@ -3,8 +3,7 @@
 -- Such a request goes past the cache (`past`): it has a condition of the caller's own. Its consumer has only started, so no head
 -- is there for it and none comes. Its poll does its plan, which opens an exchange with its request (`opens`). A store that doesn't
 -- fail loses nothing by a poll, so this is all that is answered. The front hands the poll on, and tells the same.
-use Rattle.std.proofs.Common.{◌≡◌, ℕ, ◌+◌, Bool, true, false, List, [], ◌∷◌, Option, Some, None, refl, ap, sym, ◌∙◌, subst}
-use Rattle.std.specs.Prelude.{◌&&◌, ◌||◌, not, codes, is_none, if◌then◌else◌}
+use Rattle.std.{proofs.Common.{◌≡◌, ℕ, ◌+◌, Bool, true, false, List, [], ◌∷◌, Option, Some, None, refl, ap, sym, ◌∙◌, subst}, specs.Prelude.{◌&&◌, ◌||◌, not, codes, is_none, if◌then◌else◌}}
 use Rattle.hc_fields.specs.FirstValues.{has_field}
 use Rattle.hc_cachectl.specs.Directives.{of_request}
 use Rattle.hc_effects.proofs.Vocabulary.{is_denied, Act, Refusal, Event, Request, plan_of, is_get, ranges_read, ranges_in, is_disabled, is_only, class_of, Limits, answer, accepted_acts, denied_or, new_consumer, Entry, NoFlaw, failures_in, Lawful, Opens, acts_of, plan_view, plan_move, move_of, Tables, Consumer, IsOwed, size_flaw, owed, room_for}
@@ -13,13 +12,10 @@ use Rattle.hc_event.specs.declared.event.Event.TheVariants as event
 use Rattle.hc_rules.specs.Requests.{disables, has_condition}
 use Rattle.hc_rules.specs.declared.plan.Plan.TheVariants as plan
 use Rattle.hc_effects.proofs.Owed.{goes}
-use Rattle.hc_laws.proofs.Faultless.{faultless_are_owed}
-use Rattle.hc_laws.proofs.LawfulRuns.{lawful_in_runs}
+use Rattle.hc_laws.proofs.{Faultless.{faultless_are_owed}, LawfulRuns.{lawful_in_runs}}
 use Rattle.hc_effects.proofs.PollEffects as polls
 use Rattle.hc_condition.specs.External.{none_match_of, are_tags, is_date_or_absent, is_about_copy, asks_more, is_external}
-use Rattle.hc_front.specs.Fronts.{Fronted, Heard, is_ending, handed, told, core_entry}
-use Rattle.hc_front.specs.FrontHistories.{fronted, core_of}
-use Rattle.hc_front.specs.Laws.{ConditionsGoOn}
+use Rattle.hc_front.specs.{Fronts.{Fronted, Heard, is_ending, handed, told, core_entry}, FrontHistories.{fronted, core_of}, Laws.{ConditionsGoOn}}
 use Rattle.hc_front.proofs.Watchings.{core_is}
 
 -- IT GOES PAST THE CACHE

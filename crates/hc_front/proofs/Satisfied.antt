@@ -4,10 +4,7 @@
 -- shows it a head. By that poll it is given nothing (`shows_alone`), and before its one head nothing was: a law of hc_model. From
 -- then on its polls that want bytes are cancels, and those that want none are denied (`quiet`). So it stays satisfied until it is
 -- over, and is over then (`stays`).
-use Rattle.std.proofs.Common.{◌≡◌, ◌⊎◌, inl, inr, ℕ, ◌+◌, ◌≤◌, Bool, true, false, List, [], ◌∷◌, ◌++◌, length, map, Option, Some, None, refl, sym, ap, ◌∙◌, subst, arith, length-append}
-use Rattle.std.specs.Prelude.{◌&&◌, ◌||◌, not, nat_eq, nat_lt, if◌then◌else◌}
-use Rattle.std.specs.List.{list_any}
-use Rattle.std.proofs.lemmas.Bool.Decides.{nat_tests}
+use Rattle.std.{proofs.{Common.{◌≡◌, ◌⊎◌, inl, inr, ℕ, ◌+◌, ◌≤◌, Bool, true, false, List, [], ◌∷◌, ◌++◌, length, map, Option, Some, None, refl, sym, ap, ◌∙◌, subst, arith, length-append}, lemmas.Bool.Decides.{nat_tests}}, specs.{Prelude.{◌&&◌, ◌||◌, not, nat_eq, nat_lt, if◌then◌else◌}, List.{list_any}}}
 use Rattle.hc_text.proofs.Basics.{bool_cases}
 use Rattle.hc_effects.proofs.Vocabulary.{is_denied, given_in, Act, Event, Request, Limits, accepted_acts, poll_acts, loss_acts, may_begin, closing, consumer_after, denial, is_live, is_live_place, Entry, History, Contents, Flaw, NoFlaw, Loses, Misreads, flaw_in, Shown, shown_in, shown_of, given_of, Lawful, Move, acts_of, poll_move, Tables, Consumer, IsRun, IsOwed, after}
 use Rattle.hc_event.specs.declared.act.Act.TheVariants as act
@@ -15,24 +12,12 @@ use Rattle.hc_event.specs.declared.event.Event.TheVariants as event
 use Rattle.hc_event.specs.declared.place.Place.TheVariants as place
 use Rattle.hc_rules.specs.Refusals as refusals
 use Rattle.hc_model.specs.Moves as moves
-use Rattle.hc_effects.proofs.ActParts.{far_closing, far_lost_only}
-use Rattle.hc_effects.proofs.Basics.{some_none}
-use Rattle.hc_effects.proofs.EventsKeep.{poll_live}
-use Rattle.hc_effects.proofs.Givers.{some_want}
-use Rattle.hc_laws.proofs.OneHead.{one_head_is_shown}
+use Rattle.hc_effects.proofs.{ActParts.{far_closing, far_lost_only}, Basics.{some_none}, EventsKeep.{poll_live}, Givers.{some_want}, Owed.{IsDenied, is_denial, goes, acts_are, denied_gives}}
+use Rattle.hc_laws.proofs.{OneHead.{one_head_is_shown}, TurnFacts.{far_from}, LawfulRuns.{lawful_in_runs}, LiveAfter.{consumer_behind, dead_stays}}
 use Rattle.hc_effects.proofs.Owed as owed_by
-use Rattle.hc_effects.proofs.Owed.{IsDenied, is_denial, goes, acts_are, denied_gives}
-use Rattle.hc_laws.proofs.TurnFacts.{far_from}
-use Rattle.hc_laws.proofs.LawfulRuns.{lawful_in_runs}
-use Rattle.hc_laws.proofs.LiveAfter.{consumer_behind, dead_stays}
 use Rattle.hc_replay.specs.Histories.{run_of}
-use Rattle.hc_condition.specs.NotModified.{is_not_modified, told_fields, unconditioned}
-use Rattle.hc_condition.specs.Telling.{act_told, is_satisfying}
-use Rattle.hc_front.specs.declared.watches.Watched.{Watched}
-use Rattle.hc_front.specs.Fronts.{Fronted, Heard, is_watched, is_ending, handed, told, told_by, watched_polled, watched_by, while_live, core_entry, front_after}
-use Rattle.hc_front.specs.FrontHistories.{FrontHistory, fronted, core_of, told_of}
-use Rattle.hc_front.specs.Laws.{SatisfiedGetNothing}
-use Rattle.hc_front.specs.Watching.{newly}
+use Rattle.hc_condition.specs.{NotModified.{is_not_modified, told_fields, unconditioned}, Telling.{act_told, is_satisfying}}
+use Rattle.hc_front.specs.{declared.watches.Watched.{Watched}, Fronts.{Fronted, Heard, is_watched, is_ending, handed, told, told_by, watched_polled, watched_by, while_live, core_entry, front_after}, FrontHistories.{FrontHistory, fronted, core_of, told_of}, Laws.{SatisfiedGetNothing}, Watching.{newly}}
 use Rattle.hc_front.proofs.Watchings.{core_is, watched_live, is_new}
 use Rattle.hc_core.proofs.NobodyLive.{over_by as over_is}
 

@@ -4,26 +4,16 @@
 -- poll (`stays`): laws of hc_laws. So all but the consumer of the event keep what they had (`keeps`). What is kept of that one
 -- is new where it starts (`starts_watched`), gone where it leaves (`gone`), and told that its copy holds by a poll that shows
 -- so (`polls_on`).
-use Rattle.std.proofs.Common.{◌≡◌, ℕ, Bool, true, false, List, [], ◌∷◌, Option, Some, None, refl, sym, ap, ◌∙◌, subst, arith}
-use Rattle.std.specs.Prelude.{◌&&◌, ◌||◌, not, nat_eq, nat_le, if◌then◌else◌}
-use Rattle.std.specs.List.{list_any}
-use Rattle.std.proofs.lemmas.Bool.{eqb-true, both_ways}
-use Rattle.std.proofs.lemmas.Bool.Decides.{nat_tests}
+use Rattle.std.{proofs.{Common.{◌≡◌, ℕ, Bool, true, false, List, [], ◌∷◌, Option, Some, None, refl, sym, ap, ◌∙◌, subst, arith}, lemmas.Bool.{eqb-true, both_ways, Decides.{nat_tests}}}, specs.{Prelude.{◌&&◌, ◌||◌, not, nat_eq, nat_le, if◌then◌else◌}, List.{list_any}}}
 use Rattle.hc_text.proofs.Basics.{eq_itself as itself}
 use Rattle.hc_effects.proofs.Vocabulary.{is_denied, leaves_in, Act, Event, Request, Limits, consumer_after, denial, is_live, live, Entry, Contents, Lawful, Tables, Consumer, IsOwed, tables, after}
 use Rattle.hc_event.specs.declared.act.Refusal.TheVariants as refusal
 use Rattle.hc_event.specs.declared.event.Event.TheVariants as event
 use Rattle.hc_rules.specs.Refusals as refusals
-use Rattle.hc_effects.proofs.Basics.{some_none}
-use Rattle.hc_effects.proofs.Owed.{goes}
-use Rattle.hc_laws.proofs.StaysLive.{stays_live}
-use Rattle.hc_laws.proofs.WhoLeaves.{leaver_polls, cancelled_over, told_over}
-use Rattle.hc_front.specs.declared.watches.Watched.{Watched}
-use Rattle.hc_condition.specs.NotModified.{unconditioned}
-use Rattle.hc_condition.specs.Telling.{is_satisfying}
-use Rattle.hc_front.specs.Watching.{newly, satisfied_now}
-use Rattle.hc_front.specs.Fronts.{Fronted, Heard, is_watched, is_ending, handed, watched_polled, watched_by, while_live, core_entry, front_after}
-use Rattle.hc_front.specs.FrontHistories.{FrontHistory, fronted, core_of}
+use Rattle.hc_effects.proofs.{Basics.{some_none}, Owed.{goes}}
+use Rattle.hc_laws.proofs.{StaysLive.{stays_live}, WhoLeaves.{leaver_polls, cancelled_over, told_over}}
+use Rattle.hc_front.specs.{declared.watches.Watched.{Watched}, Watching.{newly, satisfied_now}, Fronts.{Fronted, Heard, is_watched, is_ending, handed, watched_polled, watched_by, while_live, core_entry, front_after}, FrontHistories.{FrontHistory, fronted, core_of}}
+use Rattle.hc_condition.specs.{NotModified.{unconditioned}, Telling.{is_satisfying}}
 
 -- THE TABLES OF THE CACHE
 

@@ -1,12 +1,8 @@
 -- What the filters over acts say, act by act.
-use Rattle.std.proofs.Common.{◌≡◌, ℕ, Bool, List, [], ◌∷◌, ◌==◌, ◌||◌, not, refl, ap}
-use Rattle.std.specs.Prelude.{filter}
-use Rattle.std.specs.List.{list_any}
-use Rattle.hc_event.specs.declared.act.Act.{Act}
+use Rattle.std.{proofs.Common.{◌≡◌, ℕ, Bool, List, [], ◌∷◌, ◌==◌, ◌||◌, not, refl, ap}, specs.{Prelude.{filter}, List.{list_any}}}
+use Rattle.hc_event.specs.{declared.act.Act.{Act}, Filters.{closes_in, leaves_in}}
 use Rattle.hc_event.specs.declared.act.Act.TheVariants as act
-use Rattle.hc_event.specs.Filters.{closes_in, leaves_in}
-use Rattle.hc_generate.specs.declared.exchange.Exchange.{Exchange}
-use Rattle.hc_generate.specs.Hearing.{closes, leaves, still_live, still_open}
+use Rattle.hc_generate.specs.{declared.exchange.Exchange.{Exchange}, Hearing.{closes, leaves, still_live, still_open}}
 
 closes_in-any : (x : ℕ) (acts : List Act) → list_any (closes x) acts ≡ closes_in x acts
 closes_in-any x [] = refl

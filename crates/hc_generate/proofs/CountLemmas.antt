@@ -1,7 +1,5 @@
 -- Counts that stand still at their end.
-use Rattle.std.proofs.Common.{◌≡◌, ℕ, ◌+◌, ◌<◌, List, length, take, get_or, arith}
-use Rattle.std.specs.List.{sum_by}
-use Rattle.std.proofs.lemmas.List.Sums.{sum_by_more}
+use Rattle.std.{proofs.{Common.{◌≡◌, ℕ, ◌+◌, ◌<◌, List, length, take, get_or, arith}, lemmas.List.Sums.{sum_by_more}}, specs.List.{sum_by}}
 use Rattle.hc_generate.specs.Summary.{up_to_end}
 
 -- the sum of some first items and of one more

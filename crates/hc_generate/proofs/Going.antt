@@ -1,22 +1,11 @@
 -- A round more of the generator.
-use Rattle.std.proofs.Common.{◌≡◌, ℕ, zero, suc, ◌+◌, ◌^◌, ◌<◌, ◌≤◌, List, length, Bool, true, false, Option, Some, None, refl, ap, sym, ◌∙◌, subst, arith}
-use Rattle.std.specs.Prelude.{nat_lt, Result, Ok, Err, IfOk, is_err}
-use Rattle.hc_event.specs.declared.event.Event.{Event}
-use Rattle.hc_event.specs.WithinLimits.{IsEventWithinLimits}
+use Rattle.std.{proofs.Common.{◌≡◌, ℕ, zero, suc, ◌+◌, ◌^◌, ◌<◌, ◌≤◌, List, length, Bool, true, false, Option, Some, None, refl, ap, sym, ◌∙◌, subst, arith}, specs.Prelude.{nat_lt, Result, Ok, Err, IfOk, is_err}}
+use Rattle.hc_event.specs.{declared.event.Event.{Event}, WithinLimits.{IsEventWithinLimits}}
 use Rattle.hc_sorted.specs.Sorted.{item_with}
-use Rattle.hc_generate.specs.declared.action.Action.{Action}
+use Rattle.hc_generate.specs.{declared.{action.Action.{Action}, exchange.{Exchange.{Exchange}, Brought.{Brought}, Owed.{Owed}}}, Actions.{action_of}, Draws.{draw_below, choice_of}, Rounds.{IsShort, IsShortIfMade, IsWithinLimitsIfMade, Move, Nothing, Makes, Answers, onward, start_move, polled_by, answered_by, answered_to, cancelled_by, faulted_by, by_action, round, IsMade, IsRound}, Sending.{Brings, number_of, origin_bytes, next_length}, States.{State}}
 use Rattle.hc_generate.specs.declared.action.Action.TheVariants as action
-use Rattle.hc_generate.specs.declared.exchange.Exchange.{Exchange}
-use Rattle.hc_generate.specs.declared.exchange.Brought.{Brought}
-use Rattle.hc_generate.specs.declared.exchange.Owed.{Owed}
 use Rattle.hc_generate.specs.declared.exchange.Owed.TheVariants as owes
-use Rattle.hc_generate.specs.Actions.{action_of}
-use Rattle.hc_generate.specs.Draws.{draw_below, choice_of}
-use Rattle.hc_generate.specs.Rounds.{IsShort, IsShortIfMade, IsWithinLimitsIfMade, Move, Nothing, Makes, Answers, onward, start_move, polled_by, answered_by, answered_to, cancelled_by, faulted_by, by_action, round, IsMade, IsRound}
-use Rattle.hc_generate.specs.Sending.{Brings, number_of, origin_bytes, next_length}
-use Rattle.hc_generate.specs.States.{State}
-use Rattle.hc_generate.proofs.LimitsKept.{within_limits_answer, within_limits_request}
-use Rattle.hc_generate.proofs.Targets.{request_is_for_target}
+use Rattle.hc_generate.proofs.{LimitsKept.{within_limits_answer, within_limits_request}, Targets.{request_is_for_target}}
 
 -- time doesn't go back, and what is made is small
 abbrev Fine : State → Move → Type 0

@@ -1,27 +1,14 @@
 -- What is made is no larger than what a schedule can spell.
-use Rattle.std.proofs.Common.{◌≡◌, ℕ, ◌+◌, ◌-◌, ◌/◌, ◌^◌, ◌<◌, ◌≤◌, List, [], ◌++◌, length, Bool, true, false, Option, Some, None, refl, sym, subst, arith, length-append, min}
-use Rattle.std.proofs.Math.Nat.{mod-lt}
-use Rattle.std.proofs.lemmas.Bool.Decides.{nat_tests}
-use Rattle.std.specs.Prelude.{codes, bytes_eq, nat_le, nat_lt, ◌==◌, ◌&&◌, if◌then◌else◌, drop, take}
-use Rattle.std.specs.Fmt.{decimal}
-use Rattle.std.specs.Str.Parse.{digits_value}
+use Rattle.std.{proofs.{Common.{◌≡◌, ℕ, ◌+◌, ◌-◌, ◌/◌, ◌^◌, ◌<◌, ◌≤◌, List, [], ◌++◌, length, Bool, true, false, Option, Some, None, refl, sym, subst, arith, length-append, min}, Math.Nat.{mod-lt}, lemmas.Bool.Decides.{nat_tests}}, specs.{Prelude.{codes, bytes_eq, nat_le, nat_lt, ◌==◌, ◌&&◌, if◌then◌else◌, drop, take}, Fmt.{decimal}, Str.Parse.{digits_value}}}
 use Rattle.hc_text.proofs.Basics.{and_right as both, some_same as some_is}
 use Rattle.hc_event.specs.declared.event.Request.{Request}
 use Rattle.hc_fields.specs.FieldList.{IsWithinLimits, size_of}
-use Rattle.hc_range.specs.declared.range.Asked.{Asked}
+use Rattle.hc_range.specs.{declared.range.{Asked.{Asked}, Span.{Span}}, Spans.{resolved_span, content_range_text}}
 use Rattle.hc_range.specs.declared.range.Asked.TheVariants as asked
-use Rattle.hc_range.specs.declared.range.Span.{Span}
-use Rattle.hc_range.specs.Spans.{resolved_span, content_range_text}
-use Rattle.hc_validate.specs.Heads.{FieldPairs, with_one}
-use Rattle.hc_validate.specs.Showing.{with_length}
-use Rattle.hc_validate.specs.declared.origin.Answer.{Answer}
-use Rattle.hc_validate.specs.Origin.{IsOriginAnswer, IsAnswerOf, answer_by, cut_by, common, size_asked, size_at, size_in, path_of, part, whole, unsatisfied_answer, may_cut}
-use Rattle.hc_validate.proofs.Common.{size-common}
-use Rattle.hc_validate.proofs.Numbers.{short-decimal}
-use Rattle.hc_validate.proofs.Settings.{length-with_one, size_of-with_one}
-use Rattle.hc_generate.specs.Draws.{draw_below, state_after_draw}
+use Rattle.hc_validate.specs.{Heads.{FieldPairs, with_one}, Showing.{with_length}, declared.origin.Answer.{Answer}, Origin.{IsOriginAnswer, IsAnswerOf, answer_by, cut_by, common, size_asked, size_at, size_in, path_of, part, whole, unsatisfied_answer, may_cut}}
+use Rattle.hc_validate.proofs.{Common.{size-common}, Numbers.{short-decimal}, Settings.{length-with_one, size_of-with_one}}
+use Rattle.hc_generate.specs.{Draws.{draw_below, state_after_draw}, Requests.{drawn_request, range_from}}
 use Rattle.hc_generate.specs.Requests as made
-use Rattle.hc_generate.specs.Requests.{drawn_request, range_from}
 use Rattle.hc_generate.proofs.RangeTexts.{short-range}
 
 -- HOW LONG A REPRESENTATION IS

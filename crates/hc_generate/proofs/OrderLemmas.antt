@@ -1,12 +1,8 @@
 -- Numbers stay in order.
-use Rattle.std.proofs.Common.{◌≡◌, ℕ, ◌+◌, ◌≤◌, List, [], ◌∷◌, Bool, true, false, eqb, refl, ap, ◌∙◌, sym, inl, inr, arith, ◌||◌, ◌⊎◌}
-use Rattle.std.specs.Prelude.{filter, Some, is_some}
-use Rattle.std.proofs.lemmas.Bool.{cases_Bool, eqb-true, eq-eqb, or_right}
+use Rattle.std.{proofs.{Common.{◌≡◌, ℕ, ◌+◌, ◌≤◌, List, [], ◌∷◌, Bool, true, false, eqb, refl, ap, ◌∙◌, sym, inl, inr, arith, ◌||◌, ◌⊎◌}, lemmas.Bool.{cases_Bool, eqb-true, eq-eqb, or_right}}, specs.Prelude.{filter, Some, is_some}}
 use Rattle.hc_sorted.specs.Sorted.{has, is_at, item_with, with_item, without}
 use Rattle.hc_sorted.proofs.SortedLemmas.{has-with, has-without, has-found}
-use Rattle.hc_generate.specs.declared.exchange.Exchange.{Exchange}
-use Rattle.hc_generate.specs.Sending.{number_of}
-use Rattle.hc_generate.specs.States.{itself}
+use Rattle.hc_generate.specs.{declared.exchange.Exchange.{Exchange}, Sending.{number_of}, States.{itself}}
 
 -- those that are live are at most `last`
 abbrev pub AreStarted : ℕ → List ℕ → Type 0

@@ -1,19 +1,9 @@
 -- The text of a range up to the end is a value of a field.
-use Rattle.std.proofs.Common.{◌≡◌, ℕ, ◌-◌, ◌^◌, ◌<◌, ◌≤◌, true, not, ◌||◌, ◌==◌, List, [], ◌∷◌, ◌++◌, length, refl, ap, subst, ◌∙◌, arith, length-append}
-use Rattle.std.specs.Prelude.{codes, slice_index}
-use Rattle.std.specs.List.{list_all}
-use Rattle.std.specs.Fmt.{decimal}
-use Rattle.std.proofs.lemmas.Bool.{or_right, and_parts}
-use Rattle.std.proofs.lemmas.List.{get_or-append_right}
-use Rattle.std.proofs.lemmas.List.Folds.{list_all-append}
+use Rattle.std.{proofs.{Common.{◌≡◌, ℕ, ◌-◌, ◌^◌, ◌<◌, ◌≤◌, true, not, ◌||◌, ◌==◌, List, [], ◌∷◌, ◌++◌, length, refl, ap, subst, ◌∙◌, arith, length-append}, lemmas.{Bool.{or_right, and_parts}, List.{get_or-append_right, Folds.{list_all-append}}}}, specs.{Prelude.{codes, slice_index}, List.{list_all}, Fmt.{decimal}}}
 use Rattle.http_header.specs.Token.{is_value_byte}
 use Rattle.hc_text.specs.Elements.{is_blank}
-use Rattle.hc_fields.specs.FieldList.{is_own_value}
-use Rattle.hc_fields.specs.declared.error.FieldError.{FieldError}
-use Rattle.hc_fields.specs.FieldList.{Refuses}
-use Rattle.hc_validate.proofs.Settings.{never_refused}
-use Rattle.hc_validate.proofs.Numbers.{own-decimal, short-decimal}
-use Rattle.hc_validate.proofs.Names.{IsToken-range}
+use Rattle.hc_fields.specs.{FieldList.{is_own_value, Refuses}, declared.error.FieldError.{FieldError}}
+use Rattle.hc_validate.proofs.{Settings.{never_refused}, Numbers.{own-decimal, short-decimal}, Names.{IsToken-range}}
 use Rattle.hc_generate.specs.Requests.{range_text}
 
 pub own-range : (l : ℕ) → l < 2 ^ 64 → is_own_value (range_text l) ≡ true

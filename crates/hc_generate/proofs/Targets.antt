@@ -1,14 +1,9 @@
 -- The keys are targets.
-use Rattle.std.proofs.Common.{◌≡◌, ℕ, zero, suc, ◌<◌, Bool, true, refl, arith}
-use Rattle.std.specs.Prelude.{◌&&◌}
-use Rattle.std.specs.Fmt.{digits}
-use Rattle.std.proofs.lemmas.Bool.{and_parts}
+use Rattle.std.{proofs.{Common.{◌≡◌, ℕ, zero, suc, ◌<◌, Bool, true, refl, arith}, lemmas.Bool.{and_parts}}, specs.{Prelude.{◌&&◌}, Fmt.{digits}}}
 use Rattle.hc_text.specs.Cuts.{cut, behind}
-use Rattle.hc_target.specs.Targets.{is_target, is_short_word}
-use Rattle.hc_target.specs.PlainTargets.{is_plain_target}
+use Rattle.hc_target.specs.{Targets.{is_target, is_short_word}, PlainTargets.{is_plain_target}}
 use Rattle.hc_target.proofs.PlainTargets.{plain_target}
-use Rattle.hc_generate.specs.Draws.{draw_below}
-use Rattle.hc_generate.specs.Requests.{key_of, drawn_request}
+use Rattle.hc_generate.specs.{Draws.{draw_below}, Requests.{key_of, drawn_request}}
 use Rattle.hc_generate.proofs.LimitsKept.{drawn_below}
 
 -- a target that needs no reading

@@ -1,15 +1,9 @@
 -- What the text of a head of a request comes to.
-use Rattle.std.proofs.Common.{◌≡◌, ℕ, ◌<◌, ◌≤◌, List, [], ◌++◌, length, drop, length-drop, refl, sym, ap, subst, ◌∙◌, inl, inr, arith}
-use Rattle.std.specs.Prelude.{Result, Err}
-use Rattle.std.proofs.lemmas.List.{drop_all, append-nil}
+use Rattle.std.{proofs.{Common.{◌≡◌, ℕ, ◌<◌, ◌≤◌, List, [], ◌++◌, length, drop, length-drop, refl, sym, ap, subst, ◌∙◌, inl, inr, arith}, lemmas.List.{drop_all, append-nil}}, specs.Prelude.{Result, Err}}
 use Rattle.httparse.specs.Grammar.{RequestHead, ReadsRequest}
 use Rattle.httparse.proofs.GrammarLemmas.{request_unique}
-use Rattle.hc_head.specs.declared.message.MsgError.{MsgError}
+use Rattle.hc_head.specs.{declared.message.{MsgError.{MsgError}, WireRequest.{WireRequest}}, Rules.{fields_of}, Requests.{Asked, Denies, asked_of, IsRequest, IsAskedBy}, Calls.{Gives, CallsFor}}
 use Rattle.hc_head.specs.declared.message.MsgError.TheVariants as error
-use Rattle.hc_head.specs.declared.message.WireRequest.{WireRequest}
-use Rattle.hc_head.specs.Rules.{fields_of}
-use Rattle.hc_head.specs.Requests.{Asked, Denies, asked_of, IsRequest, IsAskedBy}
-use Rattle.hc_head.specs.Calls.{Gives, CallsFor}
 
 bad_call : (text : List ℕ) → ((head : RequestHead) → ¬ (IsRequest text head)) → CallsFor text (Err error.BadHead)
 bad_call text none = record { asked = Denies error.BadHead; gives = inl refl; comes = inr (none, refl) }

@@ -1,20 +1,12 @@
 -- What elements say, read one by one, is what they say as a whole.
-use Rattle.std.proofs.Common.{◌≡◌, ℕ, ◌+◌, ◌<◌, length, drop, get_or, List, [], ◌∷◌, ◌++◌, refl, sym, ap, ◌∙◌, inl, inr}
-use Rattle.std.specs.Prelude.{codes, bytes_eq}
-use Rattle.std.proofs.lemmas.Bool.{cases_Bool}
+use Rattle.std.{proofs.{Common.{◌≡◌, ℕ, ◌+◌, ◌<◌, length, drop, get_or, List, [], ◌∷◌, ◌++◌, refl, sym, ap, ◌∙◌, inl, inr}, lemmas.Bool.{cases_Bool}}, specs.Prelude.{codes, bytes_eq}}
 use Rattle.http_header.specs.Token.{lowercase}
 use Rattle.hc_text.specs.Elements.{elements}
-use Rattle.hc_fields.specs.FieldList.{has_name}
-use Rattle.hc_fields.specs.FieldElements.{elements_in}
-use Rattle.hc_rules.specs.declared.length.Length.{Length}
-use Rattle.hc_rules.specs.LengthSoFar.{with_element, with_elements}
-use Rattle.hc_head.specs.declared.lengths.Coding.{Coding}
-use Rattle.hc_head.specs.declared.lengths.Coding.TheVariants.{Plain, Other}
+use Rattle.hc_fields.specs.{FieldList.{has_name}, FieldElements.{elements_in}}
+use Rattle.hc_rules.specs.{declared.length.Length.{Length}, LengthSoFar.{with_element, with_elements}}
+use Rattle.hc_head.specs.{declared.lengths.Coding.{Coding, TheVariants.{Plain, Other}}, Held.{field_in, fields_in}, Responses.{is_chunked}, Codings.{with_coding, with_codings, is_coding, coding_with, length_with}}
 use Rattle.httparse.specs.declared.borrowed.Header.{Header}
-use Rattle.hc_head.specs.Held.{field_in, fields_in}
 use Rattle.hc_head.proofs.Heads.{fields_from}
-use Rattle.hc_head.specs.Responses.{is_chunked}
-use Rattle.hc_head.specs.Codings.{with_coding, with_codings, is_coding, coding_with, length_with}
 
 with_elements-append : (so_far : Length) (xs ys : List (List ℕ)) → with_elements so_far (xs ++ ys) ≡ with_elements (with_elements so_far xs) ys
 with_elements-append so_far [] ys = refl

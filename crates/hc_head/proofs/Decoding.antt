@@ -2,25 +2,12 @@
 -- `response_reads`), and a head that is read prints as the text (`request_prints`, `response_prints`). Since the grammar
 -- reads one head at most, the head that the equations find is the one that counts; and where they find none, there is
 -- none.
-use Rattle.std.proofs.Common.{◌≡◌, ℕ, zero, suc, ◌<◌, ◌≤◌, ◌==◌, Bool, true, false, List, [], ◌∷◌, ◌++◌, length, take, drop, refl, sym, ap, subst, ◌∙◌, inl, inr, arith, append_assoc, length-append}
-use Rattle.std.specs.Prelude.{◌&&◌, nat_lt, map, All, bytes_eq, codes, Option, Some, None, option_map, option_and_then, if◌then◌else◌}
-use Rattle.std.specs.List.{list_all, flat_map}
-use Rattle.std.specs.Char.{is_ascii_digit}
-use Rattle.std.specs.Str.{is_utf8}
-use Rattle.std.proofs.lemmas.Bool.{cases_Bool, and_parts, eqb-true, ne_eqb, ltb-true, ltb-false, lt-ltb}
-use Rattle.std.proofs.lemmas.Str.{IsUtf8-from_is_utf8, is_utf8-from_IsUtf8}
-use Rattle.std.proofs.lemmas.List.{append-nil, take-append-drop, drop-drop}
-use Rattle.std.proofs.lemmas.List.Sums.{AllPass-from_list_all, list_all-from_AllPass}
-use Rattle.std.proofs.lemmas.Slice.Eq.{bytes_eq-Decides}
+use Rattle.std.{proofs.{Common.{◌≡◌, ℕ, zero, suc, ◌<◌, ◌≤◌, ◌==◌, Bool, true, false, List, [], ◌∷◌, ◌++◌, length, take, drop, refl, sym, ap, subst, ◌∙◌, inl, inr, arith, append_assoc, length-append}, lemmas.{Bool.{cases_Bool, and_parts, eqb-true, ne_eqb, ltb-true, ltb-false, lt-ltb}, Str.{IsUtf8-from_is_utf8, is_utf8-from_IsUtf8}, List.{append-nil, take-append-drop, drop-drop, Sums.{AllPass-from_list_all, list_all-from_AllPass}}, Slice.Eq.{bytes_eq-Decides}}}, specs.{Prelude.{◌&&◌, nat_lt, map, All, bytes_eq, codes, Option, Some, None, option_map, option_and_then, if◌then◌else◌}, List.{list_all, flat_map}, Char.{is_ascii_digit}, Str.{is_utf8}}}
 use Rattle.hc_text.proofs.Basics.{mapped_from, not_some, some_inj as some_same}
 use Rattle.httparse.specs.Grammar.{LineEnd, print_end, print_blank, print_version, Field, IsField, print_section, RequestHead, IsRequestHead, print_request, ReadsRequest, ResponseHead, IsResponseHead, print_response, print_reason, reason_phrase, AllPass, ReadsResponse, is_token, is_token_byte, is_uri_byte, is_value_byte}
 use Rattle.httparse.proofs.GrammarLemmas.{cons-append, print_request-append, print_response-append, request_unique, response_unique}
-use Rattle.hc_head.specs.Requests.{IsAskedBy}
-use Rattle.hc_head.specs.Responses.{IsHeardIn}
-use Rattle.hc_head.specs.HeadLines.{Line, lines_behind, is_empty, blank_in, behind_blank, before, behind, minor_of, Section, section_of, is_request, request_with, request_by, request_of_lines, request_head, reason_of, has_status, response_with, response_by, response_of_lines, response_head}
-use Rattle.hc_head.specs.Decoding.{asked_by_head, asked_in, heard_by_head, heard_in}
-use Rattle.hc_head.proofs.LineTexts.{is_plain, all_not, all_plain, plain_append, print_line, line_printed, lines_make, cut_before, cut_behind, cut_makes, cut_within}
-use Rattle.hc_head.proofs.HeadTexts.{bound_from, token_true, token_plain, no_space, field_line, section_read, section_lines, section_make, empty_line, blank_lines, blank_read, behind_read, blank_make, minor_read, minor_make}
+use Rattle.hc_head.specs.{Requests.{IsAskedBy}, Responses.{IsHeardIn}, HeadLines.{Line, lines_behind, is_empty, blank_in, behind_blank, before, behind, minor_of, Section, section_of, is_request, request_with, request_by, request_of_lines, request_head, reason_of, has_status, response_with, response_by, response_of_lines, response_head}, Decoding.{asked_by_head, asked_in, heard_by_head, heard_in}}
+use Rattle.hc_head.proofs.{LineTexts.{is_plain, all_not, all_plain, plain_append, print_line, line_printed, lines_make, cut_before, cut_behind, cut_makes, cut_within}, HeadTexts.{bound_from, token_true, token_plain, no_space, field_line, section_read, section_lines, section_make, empty_line, blank_lines, blank_read, behind_read, blank_make, minor_read, minor_make}}
 
 -- lines that are printed are read
 version_plain : (minor : ℕ) → minor ≤ 1 → list_all is_plain (print_version minor) ≡ true

@@ -1,9 +1,6 @@
 -- What is found in the first bytes of a piece is found in the piece.
-use Rattle.std.proofs.Common.{◌≡◌, ℕ, ◌+◌, ◌<◌, ◌≤◌, List, ◌∷◌, ◌++◌, length, take, drop, sym, ap, ◌∙◌, arith, append_assoc, length-append, length-take, length-drop}
-use Rattle.std.proofs.lemmas.List.{take-append-drop}
-use Rattle.hc_head.specs.declared.scan.Scan.{Scan}
-use Rattle.hc_head.specs.Scans.{is_open, IsHeadEnd, StaysOpen}
-use Rattle.hc_head.specs.Finding.{IsLong}
+use Rattle.std.proofs.{Common.{◌≡◌, ℕ, ◌+◌, ◌<◌, ◌≤◌, List, ◌∷◌, ◌++◌, length, take, drop, sym, ap, ◌∙◌, arith, append_assoc, length-append, length-take, length-drop}, lemmas.List.{take-append-drop}}
+use Rattle.hc_head.specs.{declared.scan.Scan.{Scan}, Scans.{is_open, IsHeadEnd, StaysOpen}, Finding.{IsLong}}
 
 pub front_end : (front rest piece : List ℕ) (room : ℕ) → front ++ 10 ∷ rest ≡ take room piece → front ++ 10 ∷ (rest ++ drop room piece) ≡ piece
 front_end front rest piece room h =

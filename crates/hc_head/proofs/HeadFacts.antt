@@ -1,24 +1,14 @@
 -- What the grammar of a head says of its fields.
-use Rattle.std.proofs.Common.{◌≡◌, ℕ, zero, suc, ◌+◌, ◌-◌, ◌<◌, ◌≤◌, ◌==◌, true, false, List, [], ◌∷◌, ◌++◌, length, reverse, get_or, refl, sym, ap, subst, ◌∙◌, inl, inr, arith, length-append}
-use Rattle.std.specs.Prelude.{◌⊎◌, ◌||◌, map, All, IsTrue}
-use Rattle.std.specs.List.{list_all, flat_map}
-use Rattle.std.proofs.lemmas.Bool.{cases_Bool, ne_eqb}
-use Rattle.std.proofs.lemmas.List.Sums.{list_all-from_AllPass, sum_by-cons}
-use Rattle.std.proofs.lemmas.List.{length-reverse, reverse-append, reverse-reverse, get_or_append_left}
-use Rattle.std.proofs.Math.Seq.{get_or-append_seam}
+use Rattle.std.{proofs.{Common.{◌≡◌, ℕ, zero, suc, ◌+◌, ◌-◌, ◌<◌, ◌≤◌, ◌==◌, true, false, List, [], ◌∷◌, ◌++◌, length, reverse, get_or, refl, sym, ap, subst, ◌∙◌, inl, inr, arith, length-append}, lemmas.{Bool.{cases_Bool, ne_eqb}, List.{length-reverse, reverse-append, reverse-reverse, get_or_append_left, Sums.{list_all-from_AllPass, sum_by-cons}}}, Math.Seq.{get_or-append_seam}}, specs.{Prelude.{◌⊎◌, ◌||◌, map, All, IsTrue}, List.{list_all, flat_map}}}
 use Rattle.hc_text.proofs.Basics.{cond_either}
 use Rattle.http_header.specs.Token as header
 use Rattle.httparse.specs.Grammar as grammar
-use Rattle.httparse.specs.Grammar.{Field, IsField, AllPass, skip_ows, trim_ows, is_ows, print_field, RequestHead, print_request, ResponseHead, print_response, ReadsRequest, ReadsResponse}
-use Rattle.httparse.specs.declared.borrowed.Header.{Header}
-use Rattle.httparse.specs.Borrowed.{header_parts}
-use Rattle.httparse.specs.Spans.{name_and_value}
+use Rattle.httparse.specs.{Grammar.{Field, IsField, AllPass, skip_ows, trim_ows, is_ows, print_field, RequestHead, print_request, ResponseHead, print_response, ReadsRequest, ReadsResponse}, declared.borrowed.Header.{Header}, Borrowed.{header_parts}, Spans.{name_and_value}}
 use Rattle.hc_text.specs.Elements.{is_blank}
-use Rattle.hc_head.specs.Held.{IsGood, fields_in}
+use Rattle.hc_head.specs.{Held.{IsGood, fields_in}, Rules.{lowercase_field, fields_of}}
 use Rattle.httparse.proofs.TrimLemmas.{AllPass-trim_ows}
 use Rattle.hc_fields.specs.FieldList.{is_own_value, has_own_ends, size_of}
 use Rattle.hc_fields.proofs.Kept.{length-lowercase}
-use Rattle.hc_head.specs.Rules.{lowercase_field, fields_of}
 
 token_byte : (b : ℕ) → grammar.is_token_byte b ≡ header.is_token_byte b
 unfolding grammar.is_token_byte header.is_token_byte

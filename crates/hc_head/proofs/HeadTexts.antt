@@ -3,14 +3,7 @@
 -- first line (`request_read`, `request_make`, `response_read`, `response_make`). So the equations read what the grammar
 -- reads and nothing else, and a text comes to what they say (`asked_in_is`, `heard_in_is`): since the grammar reads one
 -- head at most, the head that the equations find is the one that counts.
-use Rattle.std.proofs.Common.{◌≡◌, ℕ, zero, suc, ◌<◌, ◌≤◌, true, false, List, [], ◌∷◌, ◌++◌, length, refl, sym, ap, subst, ◌∙◌, inl, inr, arith, append_assoc}
-use Rattle.std.specs.Prelude.{nat_lt, map, All, bytes_eq, codes, Option, Some, None, option_map, option_and_then}
-use Rattle.std.specs.List.{list_all, flat_map}
-use Rattle.std.proofs.lemmas.Bool.{cases_Bool, and_parts, eqb-true, ltb-true, lt-ltb}
-use Rattle.std.proofs.lemmas.List.{append-nil}
-use Rattle.std.proofs.lemmas.List.Elements.{All-cons, All-head, All-tail}
-use Rattle.std.proofs.lemmas.List.Sums.{AllPass-from_list_all, list_all-from_AllPass}
-use Rattle.std.proofs.lemmas.Slice.Eq.{bytes_eq-Decides}
+use Rattle.std.{proofs.{Common.{◌≡◌, ℕ, zero, suc, ◌<◌, ◌≤◌, true, false, List, [], ◌∷◌, ◌++◌, length, refl, sym, ap, subst, ◌∙◌, inl, inr, arith, append_assoc}, lemmas.{Bool.{cases_Bool, and_parts, eqb-true, ltb-true, lt-ltb}, List.{append-nil, Elements.{All-cons, All-head, All-tail}, Sums.{AllPass-from_list_all, list_all-from_AllPass}}, Slice.Eq.{bytes_eq-Decides}}}, specs.{Prelude.{nat_lt, map, All, bytes_eq, codes, Option, Some, None, option_map, option_and_then}, List.{list_all, flat_map}}}
 use Rattle.hc_text.proofs.Basics.{mapped_from, not_some, some_inj as some_same}
 use Rattle.httparse.specs.Grammar.{LineEnd, print_end, print_blank, print_version, Field, print_field, IsField, print_section, is_token, is_token_byte, is_value_byte}
 use Rattle.httparse.proofs.GrammarLemmas.{cons-append}

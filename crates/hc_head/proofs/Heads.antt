@@ -1,15 +1,8 @@
 -- The fields that the code has, one by one.
-use Rattle.std.proofs.Common.{◌≡◌, ℕ, ◌+◌, ◌<◌, Bool, true, false, List, [], ◌∷◌, length, drop, get_or, zero, suc, ◌≤◌, refl, sym, ap, ◌∙◌, inl, inr, arith}
-use Rattle.std.specs.Prelude.{◌||◌, nat_le, filter}
-use Rattle.std.specs.List.{list_any}
-use Rattle.std.proofs.lemmas.Bool.{cases_Bool, and_parts, leb-true}
-use Rattle.std.proofs.lemmas.List.{drop_more}
-use Rattle.std.proofs.lemmas.List.Sums.{sum_by-cons}
+use Rattle.std.{proofs.{Common.{◌≡◌, ℕ, ◌+◌, ◌<◌, Bool, true, false, List, [], ◌∷◌, length, drop, get_or, zero, suc, ◌≤◌, refl, sym, ap, ◌∙◌, inl, inr, arith}, lemmas.{Bool.{cases_Bool, and_parts, leb-true}, List.{drop_more, Sums.{sum_by-cons}}}}, specs.{Prelude.{◌||◌, nat_le, filter}, List.{list_any}}}
 use Rattle.hc_fields.specs.FieldList.{size_of}
-use Rattle.hc_head.specs.declared.fields.Leaving.{Leaving}
-use Rattle.hc_head.specs.Rules.{is_within_limits, is_kept, put_all}
+use Rattle.hc_head.specs.{declared.fields.Leaving.{Leaving}, Rules.{is_within_limits, is_kept, put_all}, Held.{field_in, fields_in, with_field}}
 use Rattle.httparse.specs.declared.borrowed.Header.{Header}
-use Rattle.hc_head.specs.Held.{field_in, fields_in, with_field}
 
 -- the field at a place, and those behind it
 pub fields_from : (headers : List Header) (i : ℕ) (d : Header) → i < length headers → fields_in (drop i headers) ≡ field_in (get_or headers i d) ∷ fields_in (drop (i + 1) headers)

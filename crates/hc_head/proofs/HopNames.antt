@@ -1,8 +1,5 @@
 -- Names of fields that concern the connection alone are told apart by their lengths.
-use Rattle.std.proofs.Common.{◌≡◌, ◌≢◌, ℕ, Bool, false, List, length, inl, inr, sym, ap, ◌∙◌, arith}
-use Rattle.std.specs.Prelude.{codes, bytes_eq}
-use Rattle.std.proofs.lemmas.Bool.{cases_Bool, false_from_ne_true}
-use Rattle.std.proofs.lemmas.Slice.Eq.{bytes_eq-Decides}
+use Rattle.std.{proofs.{Common.{◌≡◌, ◌≢◌, ℕ, Bool, false, List, length, inl, inr, sym, ap, ◌∙◌, arith}, lemmas.{Bool.{cases_Bool, false_from_ne_true}, Slice.Eq.{bytes_eq-Decides}}}, specs.Prelude.{codes, bytes_eq}}
 use Rattle.http_header.specs.Token.{lowercase}
 use Rattle.hc_fields.proofs.Kept.{length-lowercase}
 use Rattle.hc_head.specs.Rules.{is_hop_name}

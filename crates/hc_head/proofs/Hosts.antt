@@ -1,6 +1,5 @@
 -- The one value of a name, field by field.
-use Rattle.std.proofs.Common.{◌≡◌, ℕ, ◌+◌, ◌<◌, List, ◌∷◌, ◌∙◌}
-use Rattle.std.specs.Prelude.{Option, Some, None}
+use Rattle.std.{proofs.Common.{◌≡◌, ℕ, ◌+◌, ◌<◌, List, ◌∷◌, ◌∙◌}, specs.Prelude.{Option, Some, None}}
 use Rattle.hc_fields.specs.FirstValues.{only_of}
 
 -- the one value, where this one was found before

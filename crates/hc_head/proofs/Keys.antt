@@ -1,15 +1,7 @@
 -- The key of a text: what the URL Standard reads it as.
-use Rattle.std.proofs.Common.{◌≡◌, ℕ, true, false, List, inl, inr, refl, sym, ap, ◌∙◌}
-use Rattle.std.specs.Prelude.{◌&&◌, ◌||◌, ◌⊎◌, IfOk, Result, Option, Some, None, Ok, Err, IsUtf8, bytes_eq, codes, is_none}
-use Rattle.std.specs.Str.{is_utf8}
-use Rattle.std.proofs.lemmas.Bool.{and_parts, false_from_ne_true}
-use Rattle.std.proofs.lemmas.Str.{IsUtf8-from_is_utf8, is_utf8-from_IsUtf8}
-use Rattle.url.specs.Parts.{Parts, serialize, IsValid}
+use Rattle.std.{proofs.{Common.{◌≡◌, ℕ, true, false, List, inl, inr, refl, sym, ap, ◌∙◌}, lemmas.{Bool.{and_parts, false_from_ne_true}, Str.{IsUtf8-from_is_utf8, is_utf8-from_IsUtf8}}}, specs.{Prelude.{◌&&◌, ◌||◌, ◌⊎◌, IfOk, Result, Option, Some, None, Ok, Err, IsUtf8, bytes_eq, codes, is_none}, Str.{is_utf8}}}
+use Rattle.url.specs.{Parts.{Parts, serialize, IsValid}, declared.error.ParseError.{ParseError, TheVariants.{OutOfMemory, Overflow}}, Parser.{Parsed, parse_url, with_tail}, Setters.{set_fragment}}
 use Rattle.url.proofs.ValidLemmas.{with_own_tail}
-use Rattle.url.specs.declared.error.ParseError.{ParseError}
-use Rattle.url.specs.declared.error.ParseError.TheVariants.{OutOfMemory, Overflow}
-use Rattle.url.specs.Parser.{Parsed, parse_url, with_tail}
-use Rattle.url.specs.Setters.{set_fragment}
 use Rattle.hc_text.specs.declared.memory.NoMemory.{NoMemory}
 use Rattle.hc_rules.proofs.RangeReads.{same_bytes}
 use Rattle.hc_target.specs.Targets.{is_target, is_short_word, gives_text, has_own_text, ReadsTarget}

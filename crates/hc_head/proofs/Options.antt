@@ -1,16 +1,10 @@
 -- Where Connection names no field but those that concern the connection alone anyway, no other field is an option.
-use Rattle.std.proofs.Common.{◌≡◌, ℕ, ◌<◌, Bool, true, false, List, [], ◌∷◌, length, get_or, zero, suc, refl, sym, ap, ◌∙◌, inl, inr, arith}
-use Rattle.std.specs.Prelude.{◌&&◌, ◌||◌, not, codes, bytes_eq}
-use Rattle.std.specs.List.{list_any}
-use Rattle.std.proofs.lemmas.Bool.{cases_Bool, or_parts, or_right, or_left, true≢false}
-use Rattle.std.proofs.lemmas.Slice.Eq.{bytes_eq-Decides}
+use Rattle.std.{proofs.{Common.{◌≡◌, ℕ, ◌<◌, Bool, true, false, List, [], ◌∷◌, length, get_or, zero, suc, refl, sym, ap, ◌∙◌, inl, inr, arith}, lemmas.{Bool.{cases_Bool, or_parts, or_right, or_left, true≢false}, Slice.Eq.{bytes_eq-Decides}}}, specs.{Prelude.{◌&&◌, ◌||◌, not, codes, bytes_eq}, List.{list_any}}}
 use Rattle.http_header.specs.Token.{lowercase}
 use Rattle.hc_text.specs.Elements.{elements}
 use Rattle.hc_fields.specs.FieldList.{has_name}
 use Rattle.httparse.specs.declared.borrowed.Header.{Header}
-use Rattle.hc_head.specs.Rules.{is_there, is_hop_name, is_option, lists_name}
-use Rattle.hc_head.specs.Options.{names_other, lists_other, is_other, has_others}
-use Rattle.hc_head.specs.Held.{field_in, fields_in}
+use Rattle.hc_head.specs.{Rules.{is_there, is_hop_name, is_option, lists_name}, Options.{names_other, lists_other, is_other, has_others}, Held.{field_in, fields_in}}
 
 named_is_other : (all : List (List ℕ × List ℕ)) (name : List ℕ) → is_there name all ≡ true → is_hop_name name ≡ false
     → (e : List ℕ) → bytes_eq (lowercase e) name ≡ true → names_other all e ≡ true

@@ -1,15 +1,9 @@
 -- What the text of a head comes to.
-use Rattle.std.proofs.Common.{◌≡◌, ℕ, ◌<◌, ◌≤◌, Bool, List, [], ◌++◌, length, drop, length-drop, refl, sym, ap, subst, ◌∙◌, inl, inr, arith}
-use Rattle.std.specs.Prelude.{Result, Err}
-use Rattle.std.proofs.lemmas.List.{drop_all, append-nil}
+use Rattle.std.{proofs.{Common.{◌≡◌, ℕ, ◌<◌, ◌≤◌, Bool, List, [], ◌++◌, length, drop, length-drop, refl, sym, ap, subst, ◌∙◌, inl, inr, arith}, lemmas.List.{drop_all, append-nil}}, specs.Prelude.{Result, Err}}
 use Rattle.httparse.specs.Grammar.{ResponseHead, ReadsResponse, status_code}
 use Rattle.httparse.proofs.GrammarLemmas.{response_unique}
-use Rattle.hc_head.specs.declared.message.MsgError.{MsgError}
+use Rattle.hc_head.specs.{declared.{message.MsgError.{MsgError}, response.Reply.{Reply}}, Rules.{fields_of}, Responses.{Heard, Refuses, heard_of, IsResponse, IsHeardIn}, Replies.{Hears, RepliesTo}}
 use Rattle.hc_head.specs.declared.message.MsgError.TheVariants as error
-use Rattle.hc_head.specs.declared.response.Reply.{Reply}
-use Rattle.hc_head.specs.Rules.{fields_of}
-use Rattle.hc_head.specs.Responses.{Heard, Refuses, heard_of, IsResponse, IsHeardIn}
-use Rattle.hc_head.specs.Replies.{Hears, RepliesTo}
 
 pub bad_reply : (told : Bool) (text : List ℕ) → ((head : ResponseHead) → ¬ (IsResponse text head)) → RepliesTo told text (Err error.BadHead)
 bad_reply told text none = record { heard = Refuses error.BadHead; hears = inl refl; comes = inr (none, refl) }

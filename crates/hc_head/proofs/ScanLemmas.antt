@@ -1,12 +1,7 @@
 -- The search for the end of a head, over bytes that are put together.
-use Rattle.std.proofs.Common.{◌≡◌, ℕ, ◌+◌, ◌≤◌, ◌==◌, true, false, List, [], ◌∷◌, ◌++◌, length, take, drop, refl, sym, ap, ◌∙◌, inl, inr, arith, append_assoc, length-append}
-use Rattle.std.specs.Prelude.{not}
-use Rattle.std.proofs.lemmas.Bool.{and_parts, cases_Bool}
-use Rattle.std.proofs.lemmas.List.{take_at, drop_at}
+use Rattle.std.{proofs.{Common.{◌≡◌, ℕ, ◌+◌, ◌≤◌, ◌==◌, true, false, List, [], ◌∷◌, ◌++◌, length, take, drop, refl, sym, ap, ◌∙◌, inl, inr, arith, append_assoc, length-append}, lemmas.{Bool.{and_parts, cases_Bool}, List.{take_at, drop_at}}}, specs.Prelude.{not}}
 use Rattle.hc_text.specs.Texts.{lacks}
-use Rattle.hc_head.specs.declared.scan.Scan.{Scan}
-use Rattle.hc_head.specs.declared.scan.Scan.TheVariants.{Before, BeforeReturn, Within, Beginning, BeginningReturn, Ended}
-use Rattle.hc_head.specs.Scans.{scan_byte, scan_all, is_open, IsHeadEnd, StaysOpen, IsLineBefore}
+use Rattle.hc_head.specs.{declared.scan.Scan.{Scan, TheVariants.{Before, BeforeReturn, Within, Beginning, BeginningReturn, Ended}}, Scans.{scan_byte, scan_all, is_open, IsHeadEnd, StaysOpen, IsLineBefore}}
 
 pub scan_all-append : (scan : Scan) (xs ys : List ℕ) → scan_all scan (xs ++ ys) ≡ scan_all (scan_all scan xs) ys
 scan_all-append scan [] ys = refl

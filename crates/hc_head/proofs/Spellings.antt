@@ -2,37 +2,16 @@
 -- field that is passed on is one of a list (`own_fields`). Put one behind another they stay a list, as few and as small
 -- as the head (`put_spelled`), and leaving some out keeps that. The tests that come before a head is granted or shown
 -- say the rest: each is met by the cases of the definition.
-use Rattle.std.proofs.Common.{◌≡◌, ℕ, suc, ◌+◌, ◌≤◌, Bool, true, false, List, [], ◌∷◌, length, refl, sym, ap, subst, ◌∙◌, inl, inr, arith, length-append}
-use Rattle.std.specs.Prelude.{◌||◌, not, nat_le, nat_lt, filter, All, codes, bytes_eq, Option, Some, None, Ok, Err}
-use Rattle.std.specs.Option.{option_and_then}
-use Rattle.std.specs.Str.{is_utf8}
-use Rattle.std.proofs.lemmas.Bool.{cases_Bool, and_parts, or_parts, leb-true, leb-false, ltb-false}
-use Rattle.std.proofs.lemmas.List.Elements.{All-cons, All-head, All-tail, All-filter}
-use Rattle.std.proofs.lemmas.List.Sums.{list_all-from_AllPass, sum_by-cons}
-use Rattle.std.proofs.lemmas.List.Filters.{length-filter_both, sum_by-filter_both}
+use Rattle.std.{proofs.{Common.{◌≡◌, ℕ, suc, ◌+◌, ◌≤◌, Bool, true, false, List, [], ◌∷◌, length, refl, sym, ap, subst, ◌∙◌, inl, inr, arith, length-append}, lemmas.{Bool.{cases_Bool, and_parts, or_parts, leb-true, leb-false, ltb-false}, List.{Elements.{All-cons, All-head, All-tail, All-filter}, Sums.{list_all-from_AllPass, sum_by-cons}, Filters.{length-filter_both, sum_by-filter_both}}}}, specs.{Prelude.{◌||◌, not, nat_le, nat_lt, filter, All, codes, bytes_eq, Option, Some, None, Ok, Err}, Option.{option_and_then}, Str.{is_utf8}}}
 use Rattle.http_header.specs.Token as header
 use Rattle.httparse.specs.Grammar as grammar
-use Rattle.httparse.specs.Grammar.{Field, status_code, print_request, print_response}
-use Rattle.httparse.specs.Spans.{name_and_value}
+use Rattle.httparse.specs.{Grammar.{Field, status_code, print_request, print_response}, Spans.{name_and_value}}
 use Rattle.hc_fields.specs.FieldList.{IsField, IsFieldList, field_list_with, size_of}
-use Rattle.hc_fields.proofs.Kept.{IsField-lowered, length-lowercase}
-use Rattle.hc_fields.proofs.Edits.{length-put, size_of-put, IsFieldList-put}
-use Rattle.hc_fields.proofs.Ends.{IsFieldList-nil}
-use Rattle.hc_head.specs.declared.fields.Leaving.{Leaving}
-use Rattle.hc_head.specs.Rules.{lowercase_field, fields_of, is_within_limits, is_kept, put_all, kept_of}
-use Rattle.url.specs.Parts.{Parts, serialize}
-use Rattle.url.specs.Parser.{Parsed, parse_url}
-use Rattle.url.specs.Setters.{set_fragment}
+use Rattle.hc_fields.proofs.{Kept.{IsField-lowered, length-lowercase}, Edits.{length-put, size_of-put, IsFieldList-put}, Ends.{IsFieldList-nil}}
+use Rattle.hc_head.specs.{declared.{fields.Leaving.{Leaving, TheVariants.{Address}}, framing.Framing.{Framing}, message.{MsgError.{MsgError, TheVariants.{BadHead, BadLength, UnsupportedMethod}}, WireRequest.{WireRequest}}}, Rules.{lowercase_field, fields_of, is_within_limits, is_kept, put_all, kept_of}, Requests.{Grants, Denies, asked_text, asked_of, own_key, key_in, key_of, may_have_body, request_of, with_key, IsAskedBy}, Responses.{Skips, Shows, Refuses, framing_of, left_out, with_framing, is_interim, heard_of, IsHeardIn}, Spellings.{AreSpelledFields, IsSpelledRequest, IsSpelledResponse}}
+use Rattle.url.specs.{Parts.{Parts, serialize}, Parser.{Parsed, parse_url}, Setters.{set_fragment}}
 use Rattle.hc_event.specs.declared.event.Response.{Response}
 use Rattle.hc_target.specs.Targets.{is_target}
-use Rattle.hc_head.specs.declared.fields.Leaving.TheVariants.{Address}
-use Rattle.hc_head.specs.declared.framing.Framing.{Framing}
-use Rattle.hc_head.specs.declared.message.MsgError.{MsgError}
-use Rattle.hc_head.specs.declared.message.MsgError.TheVariants.{BadHead, BadLength, UnsupportedMethod}
-use Rattle.hc_head.specs.declared.message.WireRequest.{WireRequest}
-use Rattle.hc_head.specs.Requests.{Grants, Denies, asked_text, asked_of, own_key, key_in, key_of, may_have_body, request_of, with_key, IsAskedBy}
-use Rattle.hc_head.specs.Responses.{Skips, Shows, Refuses, framing_of, left_out, with_framing, is_interim, heard_of, IsHeardIn}
-use Rattle.hc_head.specs.Spellings.{AreSpelledFields, IsSpelledRequest, IsSpelledResponse}
 use Rattle.hc_head.proofs.HeadFacts.{is_token, own_value, small_request, small_response}
 
 -- the fields of a head, one by one

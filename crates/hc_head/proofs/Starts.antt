@@ -1,7 +1,5 @@
 -- What begins a request begins as it does.
-use Rattle.std.proofs.Common.{◌≡◌, ℕ, ◌+◌, ◌==◌, Bool, true, false, List, [], ◌∷◌, ◌++◌, refl, inl, inr}
-use Rattle.std.specs.Prelude.{◌&&◌, nat_lt}
-use Rattle.std.proofs.lemmas.Bool.{cases_Bool, and_parts}
+use Rattle.std.{proofs.{Common.{◌≡◌, ℕ, ◌+◌, ◌==◌, Bool, true, false, List, [], ◌∷◌, ◌++◌, refl, inl, inr}, lemmas.Bool.{cases_Bool, and_parts}}, specs.Prelude.{◌&&◌, nat_lt}}
 use Rattle.http_header.specs.Token.{is_token_byte}
 use Rattle.hc_head.specs.Starts.{goes_on_as_method, goes_on_as_request, begins_request}
 

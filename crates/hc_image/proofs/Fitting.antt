@@ -4,19 +4,11 @@
 -- ends by the length of its representation, which a head keeps small, and each run has a byte, so there
 -- are no more runs than the length. Each item weighs 32,768 at least, so there are few items. Each head
 -- has a record, since its type keeps that.
-use Rattle.std.proofs.Common.{◌≡◌, ℕ, ◌+◌, ◌*◌, ◌<◌, ◌≤◌, ◌^◌, max, map, true, List, [], ◌∷◌, length, Option, Some, None, refl, arith}
-use Rattle.std.specs.List.{All, list_all}
-use Rattle.std.specs.Prelude.{nat_lt, nat_le}
-use Rattle.std.proofs.lemmas.Bool.{and_parts, both_ways}
-use Rattle.std.proofs.lemmas.Bool.Decides.{nat_tests}
-use Rattle.std.proofs.lemmas.List.Elements.{All-nil, All-cons}
-use Rattle.std.proofs.lemmas.List.Sums.{sum_by-cons}
+use Rattle.std.{proofs.{Common.{◌≡◌, ℕ, ◌+◌, ◌*◌, ◌<◌, ◌≤◌, ◌^◌, max, map, true, List, [], ◌∷◌, length, Option, Some, None, refl, arith}, lemmas.{Bool.{and_parts, both_ways, Decides.{nat_tests}}, List.{Elements.{All-nil, All-cons}, Sums.{sum_by-cons}}}}, specs.{List.{All, list_all}, Prelude.{nat_lt, nat_le}}}
 use Rattle.hc_record.specs.Head.{IsHead, IsSmallTotal}
 use Rattle.hc_rules.specs.declared.room.Limits.{Limits}
 use Rattle.hc_sparse.specs.declared.run.Run.{Run}
-use Rattle.hc_model.specs.Beginnings.{ascend_from, is_own_run, is_kind_right, is_good, are_good, weights_of, may_begin}
-use Rattle.hc_model.specs.Entries.{Content, Contents}
-use Rattle.hc_model.specs.Tables.{last_end, bytes_in}
+use Rattle.hc_model.specs.{Beginnings.{ascend_from, is_own_run, is_kind_right, is_good, are_good, weights_of, may_begin}, Entries.{Content, Contents}, Tables.{last_end, bytes_in}}
 use Rattle.hc_contents.specs.declared.contents.Content as coded
 use Rattle.hc_contents.specs.declared.contents.Contents as coded_contents
 use Rattle.hc_contents.specs.PlainContents.{plain_item, plain_contents}

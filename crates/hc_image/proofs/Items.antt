@@ -3,15 +3,11 @@
 -- Where a text begins with an item, what is left behind its line begins with its record, and what is left
 -- behind that with its runs. So where a part can't be taken, no item begins the text. Where all are taken,
 -- they are an item, and what is left stands behind it.
-use Rattle.std.proofs.Common.{◌≡◌, ◌≢◌, ℕ, List, ◌++◌, length, refl, sym, ap, ◌∙◌}
-use Rattle.std.proofs.lemmas.List.{append_assoc}
+use Rattle.std.proofs.{Common.{◌≡◌, ◌≢◌, ℕ, List, ◌++◌, length, refl, sym, ap, ◌∙◌}, lemmas.List.{append_assoc}}
 use Rattle.hc_record.specs.Head.{Head}
 use Rattle.hc_sparse.specs.declared.run.Run.{Run}
 use Rattle.hc_model.specs.Entries.{Content}
-use Rattle.hc_image.specs.declared.item.ItemLine.{ItemLine}
-use Rattle.hc_image.specs.Images.{item_line, runs_text}
-use Rattle.hc_image.specs.Parts.{AreRuns, HasItemLine, SpellsHead, line_text}
-use Rattle.hc_image.specs.Spelled.{SpellsItem}
+use Rattle.hc_image.specs.{declared.item.ItemLine.{ItemLine}, Images.{item_line, runs_text}, Parts.{AreRuns, HasItemLine, SpellsHead, line_text}, Spelled.{SpellsItem}}
 use Rattle.hc_image.proofs.Once.{SameLine, line_once, item_parts, head_once}
 
 -- a text that begins with an item

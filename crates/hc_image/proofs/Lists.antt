@@ -3,16 +3,12 @@
 -- What was read so far spells a first part of the text. Where another list of so many parts begins the
 -- text too, it has the same first parts and then some, and its next part begins what is left. So where
 -- no part begins what is left, no such list begins the text.
-use Rattle.std.proofs.Common.{◌≡◌, ◌≢◌, ℕ, zero, suc, ◌+◌, ◌<◌, map, List, [], ◌∷◌, ◌++◌, length, take, get_or, refl, sym, ap, ◌∙◌, arith, length-append}
-use Rattle.std.specs.List.{All}
-use Rattle.std.proofs.lemmas.List.{append_assoc, append-nil, get_or_at}
+use Rattle.std.{proofs.{Common.{◌≡◌, ◌≢◌, ℕ, zero, suc, ◌+◌, ◌<◌, map, List, [], ◌∷◌, ◌++◌, length, take, get_or, refl, sym, ap, ◌∙◌, arith, length-append}, lemmas.List.{append_assoc, append-nil, get_or_at}}, specs.List.{All}}
 use Rattle.hc_sparse.specs.declared.run.Run.{Run}
 use Rattle.hc_model.specs.Entries.{Content}
 use Rattle.hc_contents.specs.declared.contents.Content as coded
 use Rattle.hc_contents.specs.PlainContents.{plain_item}
-use Rattle.hc_image.specs.Images.{HasRunText, run_text, runs_text, item_text, items_text}
-use Rattle.hc_image.specs.Parts.{AreRuns, SpellsMany}
-use Rattle.hc_image.specs.Spelled.{SpellsItem, SpellsItems}
+use Rattle.hc_image.specs.{Images.{HasRunText, run_text, runs_text, item_text, items_text}, Parts.{AreRuns, SpellsMany}, Spelled.{SpellsItem, SpellsItems}}
 use Rattle.hc_image.proofs.Once.{runs_rest, items_rest}
 
 -- RUNS

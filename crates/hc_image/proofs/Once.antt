@@ -4,30 +4,17 @@
 -- first space, a record by the law of records, the bytes of a run by their count. So two parts of one
 -- kind at the front of one text are equal, and so is what stands behind them. Lists follow by induction:
 -- where one has no more parts than the other, the other has the same ones and then some.
-use Rattle.std.proofs.Common.{◌≡◌, ℕ, ◌<◌, ◌≤◌, true, List, [], ◌∷◌, ◌++◌, length, take, drop, refl, sym, ap, ◌∙◌, arith, length-append}
-use Rattle.std.specs.List.{All}
-use Rattle.std.specs.Prelude.{codes}
-use Rattle.std.proofs.lemmas.Bool.{and_parts}
-use Rattle.std.proofs.lemmas.List.{append_assoc, append-nil, append_cancel_left, append_cancel_right, take_at, drop_at, nil_from_length}
-use Rattle.std.proofs.lemmas.List.Elements.{All-head, All-tail}
+use Rattle.std.{proofs.{Common.{◌≡◌, ℕ, ◌<◌, ◌≤◌, true, List, [], ◌∷◌, ◌++◌, length, take, drop, refl, sym, ap, ◌∙◌, arith, length-append}, lemmas.{Bool.{and_parts}, List.{append_assoc, append-nil, append_cancel_left, append_cancel_right, take_at, drop_at, nil_from_length, Elements.{All-head, All-tail}}}}, specs.{List.{All}, Prelude.{codes}}}
 use Rattle.hc_text.specs.Texts.{IsSmall, lacks}
 use Rattle.hc_text.proofs.Cuts.{cut_once}
 use Rattle.hc_target.specs.Targets.{is_short_word, is_target}
 use Rattle.hc_fields.specs.Lines.{fields_text}
 use Rattle.hc_fields.proofs.FieldTexts.{fields_once}
-use Rattle.hc_record.specs.declared.version.Version.{Version}
-use Rattle.hc_record.specs.declared.version.Version.TheVariants.{First}
-use Rattle.hc_record.specs.Head.{Head, IsHead}
-use Rattle.hc_record.specs.Lines.{number_and_end, joining_text, tag_line}
-use Rattle.hc_record.specs.Parts.{first_text, AreSmall}
-use Rattle.hc_record.specs.Record.{spelling}
-use Rattle.hc_record.proofs.Once.{ended_once}
-use Rattle.hc_record.proofs.SameRecords.{same_head}
-use Rattle.hc_record.proofs.Stages.{numbers_of, first_of, AreFirst-of, spelling-parts, first_once, tag_once, lacks-own}
+use Rattle.hc_record.specs.{declared.version.Version.{Version, TheVariants.{First}}, Head.{Head, IsHead}, Lines.{number_and_end, joining_text, tag_line}, Parts.{first_text, AreSmall}, Record.{spelling}}
+use Rattle.hc_record.proofs.{Once.{ended_once}, SameRecords.{same_head}, Stages.{numbers_of, first_of, AreFirst-of, spelling-parts, first_once, tag_once, lacks-own}}
 use Rattle.hc_sparse.specs.declared.run.Run.{Run}
 use Rattle.hc_model.specs.Entries.{Content, Contents}
-use Rattle.hc_image.specs.Images.{HasRunText, run_line, run_text, runs_text, item_line, lines_of, first_lines}
-use Rattle.hc_image.specs.Spelled.{SpellsItem, SpellsItems, SpellsImage}
+use Rattle.hc_image.specs.{Images.{HasRunText, run_line, run_text, runs_text, item_line, lines_of, first_lines}, Spelled.{SpellsItem, SpellsItems, SpellsImage}}
 
 -- RECORDS
 

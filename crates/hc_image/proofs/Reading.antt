@@ -3,20 +3,13 @@
 -- Where a text begins with an image, what is left behind its first lines begins with its items. So where
 -- either can't be taken, no image begins the text. Where both are taken, they are an image, and each
 -- image that begins the text is this one.
-use Rattle.std.proofs.Common.{◌≡◌, ◌≢◌, ℕ, ◌+◌, ◌-◌, map, List, [], ◌∷◌, ◌++◌, length, take, refl, sym, ap, ◌∙◌, arith, length-append}
-use Rattle.std.specs.Prelude.{codes}
-use Rattle.std.proofs.lemmas.List.{append_assoc, append_cancel_left, take_at}
+use Rattle.std.{proofs.{Common.{◌≡◌, ◌≢◌, ℕ, ◌+◌, ◌-◌, map, List, [], ◌∷◌, ◌++◌, length, take, refl, sym, ap, ◌∙◌, arith, length-append}, lemmas.List.{append_assoc, append_cancel_left, take_at}}, specs.Prelude.{codes}}
 use Rattle.hc_record.proofs.Once.{ended_once}
 use Rattle.hc_model.specs.Entries.{Content, Contents}
 use Rattle.hc_contents.specs.declared.contents.Content as coded
 use Rattle.hc_contents.specs.declared.contents.Contents as coded_contents
 use Rattle.hc_contents.specs.PlainContents.{plain_item, plain_contents}
-use Rattle.hc_image.specs.declared.read.FirstLines.{FirstLines}
-use Rattle.hc_image.specs.declared.read.ImageRead.{ImageRead}
-use Rattle.hc_image.specs.Images.{first_lines}
-use Rattle.hc_image.specs.Parts.{AreSmall, SpellsMany, lines_text}
-use Rattle.hc_image.specs.Readings.{IsReadFrom, IsReadBack}
-use Rattle.hc_image.specs.Spelled.{SpellsImage}
+use Rattle.hc_image.specs.{declared.read.{FirstLines.{FirstLines}, ImageRead.{ImageRead}}, Images.{first_lines}, Parts.{AreSmall, SpellsMany, lines_text}, Readings.{IsReadFrom, IsReadBack}, Spelled.{SpellsImage}}
 use Rattle.hc_image.proofs.Once.{lines_apart, image_once}
 
 -- a text that begins with an image

@@ -4,27 +4,14 @@
 -- in the second version, and a line for each field. No line has a line feed but at its end, so the first
 -- line feed of a text that begins with a record ends its first line, and so on. What is left behind the
 -- last line is what stands behind the record.
-use Rattle.std.proofs.Common.{◌≡◌, ◌≢◌, ℕ, zero, suc, ◌+◌, ◌<◌, ◌-◌, true, false, List, [], ◌∷◌, ◌++◌, length, drop, get_or, Option, Some, None, refl, sym, ap, ◌∙◌, arith}
-use Rattle.std.specs.Prelude.{codes, replicate}
-use Rattle.std.specs.List.{All}
-use Rattle.std.specs.Fmt.{decimal}
-use Rattle.std.proofs.lemmas.List.{append_assoc}
-use Rattle.std.proofs.lemmas.List.Elements.{All-head, All-tail}
+use Rattle.std.{proofs.{Common.{◌≡◌, ◌≢◌, ℕ, zero, suc, ◌+◌, ◌<◌, ◌-◌, true, false, List, [], ◌∷◌, ◌++◌, length, drop, get_or, Option, Some, None, refl, sym, ap, ◌∙◌, arith}, lemmas.List.{append_assoc, Elements.{All-head, All-tail}}}, specs.{Prelude.{codes, replicate}, List.{All}, Fmt.{decimal}}}
 use Rattle.http_header.specs.Token.{is_token_byte}
 use Rattle.hc_text.specs.Texts.{lacks}
-use Rattle.hc_text.proofs.Cuts.{cut_once, lacks-not, lacks-decimal}
-use Rattle.hc_text.proofs.Cutting.{lacks-append}
-use Rattle.hc_fields.specs.FieldList.{values_of, IsField}
-use Rattle.hc_fields.specs.Lines.{field_text, fields_text, is_lower_byte}
-use Rattle.hc_fields.proofs.FieldTexts.{IsLine-field}
-use Rattle.hc_fields.proofs.ReadLemmas.{IsCut-field, lacks-kind}
-use Rattle.hc_record.specs.declared.kind.Kind.{Kind}
+use Rattle.hc_text.proofs.{Cuts.{cut_once, lacks-not, lacks-decimal}, Cutting.{lacks-append}}
+use Rattle.hc_fields.specs.{FieldList.{values_of, IsField}, Lines.{field_text, fields_text, is_lower_byte}}
+use Rattle.hc_fields.proofs.{FieldTexts.{IsLine-field}, ReadLemmas.{IsCut-field, lacks-kind}}
+use Rattle.hc_record.specs.{declared.{kind.Kind.{Kind}, version.Version.{Version, TheVariants.{First, Second}}}, Head.{Head, IsHead, IsSmallTotal}, Lines.{kind_byte, total_text, joining_text, tag_line}, Record.{head_numbers, spelling}}
 use Rattle.hc_record.specs.declared.kind.Kind.TheVariants as kind
-use Rattle.hc_record.specs.declared.version.Version.{Version}
-use Rattle.hc_record.specs.declared.version.Version.TheVariants.{First, Second}
-use Rattle.hc_record.specs.Head.{Head, IsHead, IsSmallTotal}
-use Rattle.hc_record.specs.Lines.{kind_byte, total_text, joining_text, tag_line}
-use Rattle.hc_record.specs.Record.{head_numbers, spelling}
 use Rattle.hc_record.proofs.JoiningLemmas.{lacks-joining}
 use Rattle.hc_image.specs.Counts.{version_text}
 

@@ -1,13 +1,8 @@
 -- What a cursor takes: a number before a byte, and a block of bytes before a line feed.
-use Rattle.std.proofs.Common.{◌≡◌, ◌≢◌, ℕ, ◌<◌, ◌≤◌, true, List, [], ◌∷◌, ◌++◌, length, drop, Option, Some, None, sym, ap, ◌∙◌}
-use Rattle.std.specs.Prelude.{IfSome, IfNone}
-use Rattle.std.specs.Fmt.{decimal}
-use Rattle.std.proofs.lemmas.List.{append_assoc, drop_at}
-use Rattle.hc_text.specs.Numbers.{IsPlain}
-use Rattle.hc_text.specs.Texts.{IsSmall, lacks}
+use Rattle.std.{proofs.{Common.{◌≡◌, ◌≢◌, ℕ, ◌<◌, ◌≤◌, true, List, [], ◌∷◌, ◌++◌, length, drop, Option, Some, None, sym, ap, ◌∙◌}, lemmas.List.{append_assoc, drop_at}}, specs.{Prelude.{IfSome, IfNone}, Fmt.{decimal}}}
+use Rattle.hc_text.specs.{Numbers.{IsPlain}, Texts.{IsSmall, lacks}}
 use Rattle.hc_text.proofs.Cuts.{cut_once, lacks-decimal}
-use Rattle.hc_record.specs.Lines.{number_and_end}
-use Rattle.hc_record.specs.Reading.{Takes}
+use Rattle.hc_record.specs.{Lines.{number_and_end}, Reading.{Takes}}
 
 pub number_taken : (e : ℕ) (old new text : List ℕ) (read : Option ℕ) → e < 48 → lacks e text ≡ true → text ++ e ∷ new ≡ old → IfSome read (IsPlain text) → IfNone read ((n : ℕ) → ¬ (IsPlain text n)) → Takes (number_and_end e) IsSmall old new read
 number_taken e old new text None below lacking is found none = λ n after small same.

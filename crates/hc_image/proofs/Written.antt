@@ -1,12 +1,8 @@
 -- What has an image has the one that is written.
-use Rattle.std.proofs.Common.{List, [], ◌∷◌, refl}
-use Rattle.std.specs.List.{All}
-use Rattle.std.proofs.lemmas.List.Elements.{All-head, All-tail}
-use Rattle.hc_record.specs.declared.version.Version.TheVariants.{Second}
-use Rattle.hc_record.specs.Record.{spelling}
+use Rattle.std.{proofs.{Common.{List, [], ◌∷◌, refl}, lemmas.List.Elements.{All-head, All-tail}}, specs.List.{All}}
+use Rattle.hc_record.specs.{declared.version.Version.TheVariants.{Second}, Record.{spelling}}
 use Rattle.hc_model.specs.Entries.{Content, Contents}
-use Rattle.hc_image.specs.Images.{HasItemText, HasImage, item_text, items_text, image_of}
-use Rattle.hc_image.specs.Spelled.{SpellsItem, SpellsItems, SpellsImage}
+use Rattle.hc_image.specs.{Images.{HasItemText, HasImage, item_text, items_text, image_of}, Spelled.{SpellsItem, SpellsItems, SpellsImage}}
 
 pub item_written : (item : Content) → HasItemText item → SpellsItem (item_text item) item
 item_written item has =

@@ -1,6 +1,5 @@
 -- Bytes that are given one after another.
-use Rattle.std.proofs.Common.{◌≡◌, ℕ, ◌+◌, ◌≤◌, List, [], ◌++◌, take, drop, Option, Some, None, refl, sym, ◌∙◌, append_assoc, take-add}
-use Rattle.std.proofs.lemmas.List.{take-take, drop-drop, take-append-drop}
+use Rattle.std.proofs.{Common.{◌≡◌, ℕ, ◌+◌, ◌≤◌, List, [], ◌++◌, take, drop, Option, Some, None, refl, sym, ◌∙◌, append_assoc, take-add}, lemmas.List.{take-take, drop-drop, take-append-drop}}
 use Rattle.hc_io.specs.Source.{Gives}
 
 pub gives_none : (old : Option (List ℕ)) → Gives old old []

@@ -1,8 +1,5 @@
 -- Bytes that go in one after another.
-use Rattle.std.proofs.Common.{◌≡◌, ℕ, ◌+◌, ◌<◌, ◌≤◌, List, [], ◌++◌, length, take, drop, Option, Some, None, refl, sym, ap, ◌∙◌, arith, append_assoc}
-use Rattle.std.proofs.Common.{◌-◌, take-add}
-use Rattle.std.proofs.lemmas.Grind.{common_steps}
-use Rattle.std.proofs.lemmas.List.{append-nil}
+use Rattle.std.proofs.{Common.{◌≡◌, ℕ, ◌+◌, ◌<◌, ◌≤◌, List, [], ◌++◌, length, take, drop, Option, Some, None, refl, sym, ap, ◌∙◌, arith, append_assoc, ◌-◌, take-add}, lemmas.{Grind.{common_steps}, List.{append-nil}}}
 use Rattle.hc_io.specs.Sink.{Takes}
 
 pub takes_none : (old : Option (List ℕ)) → Takes old old []

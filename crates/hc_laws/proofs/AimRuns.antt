@@ -1,26 +1,15 @@
 -- What is asked about what is stored names it, and what joined it joined that, in every run.
-use Rattle.std.proofs.Common.{◌≡◌, ℕ, Bool, true, false, Option, Some, None, refl, ap, sym, ◌∙◌, subst}
-use Rattle.std.specs.Prelude.{is_some, ◌==◌, ◌&&◌, not}
-use Rattle.std.specs.Option.{option_map, option_and_then}
+use Rattle.std.{proofs.Common.{◌≡◌, ℕ, Bool, true, false, Option, Some, None, refl, ap, sym, ◌∙◌, subst}, specs.{Prelude.{is_some, ◌==◌, ◌&&◌, not}, Option.{option_map, option_and_then}}}
 use Rattle.hc_text.proofs.Basics.{not_some as none_some}
 use Rattle.hc_effects.proofs.Vocabulary.{Event, Need, Response, head_case, is_conditional, Limits, route_of, Place, Aims, head_view, validates, joins_row, current, denial, Entry, aim_of, aim_from, Flaw, IsOfOneKey, entry_of, OfRuns, OfRunsIn, plan_view, candidate, candidate_at, bound_to, Tables, Exchange, Representation, Consumer, Sound, tables, after_accepted}
 use Rattle.hc_event.specs.declared.act.Need.TheVariants as need
 use Rattle.hc_rules.specs.declared.need.Route.TheVariants as route
 use Rattle.hc_event.specs.declared.place.Place.TheVariants as place
 use Rattle.hc_model.specs.Aims.{HasAim, CaseWithoutAim, is_about_some, needs_aim}
-use Rattle.hc_effects.proofs.Asked.{Asked, HasCandidate}
-use Rattle.hc_effects.proofs.Basics.{some_none, some_row, false_true}
-use Rattle.hc_effects.proofs.ExchangeFrom.{ExchangeFrom, exchange_from}
+use Rattle.hc_effects.proofs.{Asked.{Asked, HasCandidate}, Basics.{some_none, some_row, false_true}, ExchangeFrom.{ExchangeFrom, exchange_from}, NamesKeep.{current_there}, OpenedAs.{Way, opened_as}, Said.{opening_by}, ShownFrom.{candidate_is}, WaitingNew.{aim_free}}
 use Rattle.hc_effects.proofs.ExchangeFrom as exchange
-use Rattle.hc_laws.proofs.InRuns.{one_key_in_runs}
-use Rattle.hc_effects.proofs.NamesKeep.{current_there}
-use Rattle.hc_effects.proofs.OpenedAs.{Way, opened_as}
+use Rattle.hc_laws.proofs.{InRuns.{one_key_in_runs}, Reasons.{aimed}, RunFacts.{in_runs}}
 use Rattle.hc_effects.proofs.OpenedAs as opened
-use Rattle.hc_laws.proofs.Reasons.{aimed}
-use Rattle.hc_laws.proofs.RunFacts.{in_runs}
-use Rattle.hc_effects.proofs.Said.{opening_by}
-use Rattle.hc_effects.proofs.ShownFrom.{candidate_is}
-use Rattle.hc_effects.proofs.WaitingNew.{aim_free}
 
 -- what is carried along a run
 record Names (limits : Limits) (t : Tables) : Type 0 where

@@ -4,14 +4,9 @@ use Rattle.hc_text.proofs.Basics.{not_some as none_some, same_some as same_row}
 use Rattle.hc_effects.proofs.Vocabulary.{Event, Request, Limits, case_at, is_joining, consumer_heard, waiting, current, denial, Entry, Contents, exchange_opened, aim_of, Flaw, entry_of, Owners, bound_to, Tables, Exchange, Consumer, Sound, first_tables, after_accepted, after_denied}
 use Rattle.hc_event.specs.declared.place.BoundBy.TheVariants as by
 use Rattle.hc_event.specs.declared.place.Place.TheVariants as place
-use Rattle.hc_effects.proofs.BoundFrom.{BoundFrom, bound_from}
+use Rattle.hc_effects.proofs.{BoundFrom.{BoundFrom, bound_from}, ExchangeFrom.{ExchangeFrom, IsHeaded, exchange_from}, FirstKeeps.{is_new, is_opener}, Forward.{is_on, opened_on}, OwnersKeep.{new_number}, WaitingNew.{aim_free}}
 use Rattle.hc_effects.proofs.BoundFrom as from
-use Rattle.hc_effects.proofs.ExchangeFrom.{ExchangeFrom, IsHeaded, exchange_from}
 use Rattle.hc_effects.proofs.ExchangeFrom as exchange
-use Rattle.hc_effects.proofs.FirstKeeps.{is_new, is_opener}
-use Rattle.hc_effects.proofs.Forward.{is_on, opened_on}
-use Rattle.hc_effects.proofs.OwnersKeep.{new_number}
-use Rattle.hc_effects.proofs.WaitingNew.{aim_free}
 
 pub record IsAimed (t : Tables) : Type 0 where
   pub first : (c r lo y : ℕ) (hi : Option ℕ) (k : Consumer) (w : Exchange) → t.consumer c ≡ Some k → k.place ≡ place.Bound r lo hi (by.FirstHole y) → t.exchange y ≡ Some w → w.aim ≡ Some r

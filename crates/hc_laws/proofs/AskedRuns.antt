@@ -3,9 +3,7 @@
 -- Only a poll asks, and for the exchange from which its consumer reads. Where that has no head it isn't written for several,
 -- so it is the consumer's own. But who waits for the head of its own is told so, and asks nothing. So what has no head wasn't
 -- asked, at the beginning and after each entry. A piece takes the asking away, and the acts of a head or a piece ask nothing.
-use Rattle.std.proofs.Common.{◌≡◌, inl, inr, ℕ, [], ◌∷◌, ◌++◌, Bool, true, false, Option, Some, None, refl, ap, sym, ◌∙◌, subst}
-use Rattle.std.specs.Prelude.{is_some, if◌then◌else◌, ◌==◌, ◌||◌}
-use Rattle.std.specs.Option.{option_or}
+use Rattle.std.{proofs.Common.{◌≡◌, inl, inr, ℕ, [], ◌∷◌, ◌++◌, Bool, true, false, Option, Some, None, refl, ap, sym, ◌∙◌, subst}, specs.{Prelude.{is_some, if◌then◌else◌, ◌==◌, ◌||◌}, Option.{option_or}}}
 use Rattle.hc_text.proofs.Basics.{bool_cases, not_some as none_some, same_some as same_row, some_inj}
 use Rattle.hc_effects.proofs.Vocabulary.{Opening, opening_in, asks_in, is_denied, Event, Response, head_refusal, Limits, Place, accepted_acts, answer_acts, loss_acts, may_begin, closing, denial, as_open, is_live, Entry, History, Contents, exchange_after, exchange_acted, exchange_heard, exchange_made, exchange_opened, with_head, with_piece, exchange_in, is_headless, flaw_in, OfRuns, OfHistories, Turns, Move, Nothing, Asks, Opens, Shows, Gives, Ends, Fails, acts_of, Owners, poll_move, is_written, own_open, shared_exchange, writing_in, source, Tables, Exchange, Representation, Consumer, IsRun, IsOwed, Sound, tables, after_accepted, after_denied, brings_body}
 use Rattle.hc_event.specs.declared.act.Wait.TheVariants as wait
@@ -14,20 +12,10 @@ use Rattle.hc_rules.specs.Refusals as refusals
 use Rattle.hc_event.specs.declared.place.Place.TheVariants as place
 use Rattle.hc_model.specs.Asking.{AsksAnew}
 use Rattle.hc_model.specs.Moves as moves
-use Rattle.hc_effects.proofs.AboutKeeps.{own_open_of}
-use Rattle.hc_laws.proofs.Barred.{next_tables, denied_tables}
-use Rattle.hc_effects.proofs.ActParts.{asks_closed, asks_loss}
-use Rattle.hc_effects.proofs.Basics.{false_true, some_none}
-use Rattle.hc_effects.proofs.EventsKeep.{poll_live}
-use Rattle.hc_laws.proofs.InRuns.{turned_in_runs}
-use Rattle.hc_effects.proofs.Owed.{goes}
-use Rattle.hc_effects.proofs.PieceKeeps.{eq_cases}
-use Rattle.hc_effects.proofs.PollKeys.{IsNear, near_polled}
+use Rattle.hc_effects.proofs.{AboutKeeps.{own_open_of}, ActParts.{asks_closed, asks_loss}, Basics.{false_true, some_none}, EventsKeep.{poll_live}, Owed.{goes}, PieceKeeps.{eq_cases}, PollKeys.{IsNear, near_polled}}
+use Rattle.hc_laws.proofs.{Barred.{next_tables, denied_tables}, InRuns.{turned_in_runs}, SoundRuns.{carried}, TurnFacts.{IsTaken, AtPoll, at_poll, told_quiet, is_asking, behind, seen}, TurnStays.{head_opens, head_none, polls_head}}
 use Rattle.hc_effects.proofs.PollKeys as near
-use Rattle.hc_laws.proofs.SoundRuns.{carried}
-use Rattle.hc_laws.proofs.TurnFacts.{IsTaken, AtPoll, at_poll, told_quiet, is_asking, behind, seen}
 use Rattle.hc_laws.proofs.TurnFacts as facts
-use Rattle.hc_laws.proofs.TurnStays.{head_opens, head_none, polls_head}
 
 -- what has no head wasn't asked
 pub record AreUnasked (t : Tables) : Type 0 where

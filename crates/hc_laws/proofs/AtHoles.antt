@@ -9,23 +9,10 @@ use Rattle.hc_event.specs.declared.act.Need.TheVariants as need
 use Rattle.hc_rules.specs.declared.need.Route.TheVariants as route
 use Rattle.hc_event.specs.declared.place.Place.TheVariants as place
 use Rattle.hc_model.specs.Sound as sound
-use Rattle.hc_laws.proofs.Barred.{next_tables, denied_tables}
-use Rattle.hc_effects.proofs.Basics.{true_false}
-use Rattle.hc_effects.proofs.ExclusiveWriters.{bound_some}
-use Rattle.hc_effects.proofs.HoleLemmas.{hole_some}
-use Rattle.hc_laws.proofs.InRuns.{turned_in_runs}
-use Rattle.hc_effects.proofs.KeysKeep.{same_exchange}
-use Rattle.hc_effects.proofs.OpensFrom.{IsHole, hole_is, opens_hole}
-use Rattle.hc_effects.proofs.Owed.{goes}
-use Rattle.hc_effects.proofs.PollTree.{OpensHole}
+use Rattle.hc_laws.proofs.{Barred.{next_tables, denied_tables}, InRuns.{turned_in_runs}, SoundRuns.{runs_are_sound}, TurnFacts.{IsTaken}, TurnOpens.{OpensFor, opened_at, opener_after}, TurnStays.{after_same}, TurnsKeep.{WasHeadless, was_headless, same_entry}}
+use Rattle.hc_effects.proofs.{Basics.{true_false}, ExclusiveWriters.{bound_some}, HoleLemmas.{hole_some}, KeysKeep.{same_exchange}, OpensFrom.{IsHole, hole_is, opens_hole}, Owed.{goes}, PollTree.{OpensHole}, Said.{OpensBy, opening_by}}
 use Rattle.hc_effects.proofs.PollTree as tree
-use Rattle.hc_effects.proofs.Said.{OpensBy, opening_by}
-use Rattle.hc_laws.proofs.SoundRuns.{runs_are_sound}
-use Rattle.hc_laws.proofs.TurnFacts.{IsTaken}
-use Rattle.hc_laws.proofs.TurnOpens.{OpensFor, opened_at, opener_after}
 use Rattle.hc_laws.proofs.TurnOpens as opens
-use Rattle.hc_laws.proofs.TurnStays.{after_same}
-use Rattle.hc_laws.proofs.TurnsKeep.{WasHeadless, was_headless, same_entry}
 use Rattle.hc_laws.proofs.TurnsKeep as keeps
 
 -- c waits so with this exchange

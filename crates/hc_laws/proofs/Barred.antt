@@ -1,35 +1,19 @@
 -- What isn't gone, and what may still found, was opened after the last doom of its key.
-use Rattle.std.proofs.Common.{◌≡◌, ◌≢◌, ◌⊎◌, inl, inr, ℕ, ◌+◌, ◌<◌, ◌≤◌, List, ◌∷◌, Bool, true, false, Option, Some, None, refl, ap, sym, ◌∙◌, subst, arith}
-use Rattle.std.specs.Prelude.{◌||◌, nat_eq, if◌then◌else◌}
-use Rattle.std.specs.Option.{option_map}
+use Rattle.std.{proofs.Common.{◌≡◌, ◌≢◌, ◌⊎◌, inl, inr, ℕ, ◌+◌, ◌<◌, ◌≤◌, List, ◌∷◌, Bool, true, false, Option, Some, None, refl, ap, sym, ◌∙◌, subst, arith}, specs.{Prelude.{◌||◌, nat_eq, if◌then◌else◌}, Option.{option_map}}}
 use Rattle.hc_text.proofs.Basics.{bool_cases, not_some as none_some, never_true as not_true, same_some as same_row}
 use Rattle.hc_effects.proofs.Vocabulary.{Opening, opening_in, is_denied, Request, Response, route_of, head_refusal, head_case, case_on, direct_case, first_case, later_case, HeadCase, HeadView, Route, Limits, BoundBy, has_loss, Showing, showing_in, case_at, case_of, head_view, is_founding, was_shown, consumer_heard, by_opening, waiting, is_current, is_number, denial, as_open, doomed_key_of, doomed_in, doomed_by_head, doomed_by_case, is_key, Entry, History, Content, Contents, exchange_heard, is_headless, Flaw, flaw_in, becomes_gone, IsOfOneKey, Turns, StandsFor, IsBarred, AreNumbered, IsBoundBehindDooms, item_of, reads, Tables, Exchange, Representation, Consumer, IsOwed, Sound, IsBound, tables, after, after_accepted, after_denied, representation_of_content, opened_after, awaited_exchange}
 use Rattle.hc_event.specs.declared.event.Event.TheVariants as event
 use Rattle.hc_rules.specs.Refusals as refusals
 use Rattle.hc_rules.specs.declared.heads.HeadCase.TheVariants as case
 use Rattle.hc_rules.specs.declared.need.Route.TheVariants as route
-use Rattle.hc_model.specs.Currents.{current as current_of}
-use Rattle.hc_model.specs.Laws.{BarrierIsKept, BarrierBegins, IsNewlyBound, barrier, barrier_at}
+use Rattle.hc_model.specs.{Currents.{current as current_of}, Laws.{BarrierIsKept, BarrierBegins, IsNewlyBound, barrier, barrier_at}}
 use Rattle.hc_model.specs.Laws as laws
 use Rattle.hc_model.specs.Sound as sound
-use Rattle.hc_effects.proofs.BoundFrom.{BoundFrom, bound_from}
+use Rattle.hc_effects.proofs.{BoundFrom.{BoundFrom, bound_from}, BoundKeeps.{founding_is, planned_at}, CurrentKeeps.{current_is, WasOrFounded, was_or_founded}, KeysKeep.{same_exchange}, Joining.{mix}, KeyNames.{key_is, opener_key}, Owed.{goes}, PieceKeeps.{eq_cases}, PollKeeps.{current_stays}, Said.{ShowsBy, showing_by}, ShownFrom.{IsPlanned, ShownAs}}
 use Rattle.hc_effects.proofs.BoundFrom as from
-use Rattle.hc_effects.proofs.BoundKeeps.{founding_is, planned_at}
-use Rattle.hc_effects.proofs.CurrentKeeps.{current_is, WasOrFounded, was_or_founded}
 use Rattle.hc_effects.proofs.CurrentKeeps as current
-use Rattle.hc_effects.proofs.KeysKeep.{same_exchange}
-use Rattle.hc_effects.proofs.Joining.{mix}
-use Rattle.hc_effects.proofs.KeyNames.{key_is, opener_key}
-use Rattle.hc_effects.proofs.Owed.{goes}
-use Rattle.hc_effects.proofs.PieceKeeps.{eq_cases}
-use Rattle.hc_effects.proofs.PollKeeps.{current_stays}
-use Rattle.hc_effects.proofs.Said.{ShowsBy, showing_by}
-use Rattle.hc_effects.proofs.ShownFrom.{IsPlanned, ShownAs}
 use Rattle.hc_effects.proofs.ShownFrom as shown
-use Rattle.hc_laws.proofs.TurnFacts.{IsTaken}
-use Rattle.hc_laws.proofs.TurnOpens.{opened_at}
-use Rattle.hc_laws.proofs.TurnStays.{head_opens, dooms, after_same}
-use Rattle.hc_laws.proofs.TurnsKeep.{WasHeadless, was_headless}
+use Rattle.hc_laws.proofs.{TurnFacts.{IsTaken}, TurnOpens.{opened_at}, TurnStays.{head_opens, dooms, after_same}, TurnsKeep.{WasHeadless, was_headless}}
 use Rattle.hc_laws.proofs.TurnsKeep as keeps
 
 -- THE FOUNDING CASES

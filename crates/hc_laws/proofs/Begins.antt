@@ -1,17 +1,12 @@
 -- The tables of a store that begins with contents are sound.
-use Rattle.std.proofs.Common.{◌≡◌, inl, inr, ℕ, ◌-◌, ◌<◌, ◌≤◌, List, [], ◌∷◌, ◌++◌, length, true, Option, Some, None, refl, ap, sym, ◌∙◌, subst, arith}
-use Rattle.std.specs.Prelude.{is_some, find, map, option_map, nat_eq}
-use Rattle.std.proofs.lemmas.Bool.Decides.{nat_tests}
+use Rattle.std.{proofs.{Common.{◌≡◌, inl, inr, ℕ, ◌-◌, ◌<◌, ◌≤◌, List, [], ◌∷◌, ◌++◌, length, true, Option, Some, None, refl, ap, sym, ◌∙◌, subst, arith}, lemmas.Bool.Decides.{nat_tests}}, specs.Prelude.{is_some, find, map, option_map, nat_eq}}
 use Rattle.hc_text.proofs.Basics.{bool_cases, not_some as none_some, some_inj}
-use Rattle.hc_sparse.specs.Cells.{EndsBy}
-use Rattle.hc_sparse.specs.Runs.{cells_of, end_of}
-use Rattle.hc_sparse.specs.declared.run.Run.{Run}
+use Rattle.hc_sparse.specs.{Cells.{EndsBy}, Runs.{cells_of, end_of}, declared.run.Run.{Run}}
 use Rattle.hc_sparse.proofs.CellLemmas.{inside-past}
 use Rattle.hc_effects.proofs.Vocabulary.{Content, Contents, IsStart, item_of, is_written, Representation, Among, IsAbout, IsFirst, IsSoundRepresentation, first_tables, representation_of_content, last_end, numbers}
 use Rattle.hc_model.specs.Laws.{StartsAreSound}
 use Rattle.hc_model.specs.Sound as sound
-use Rattle.hc_effects.proofs.Basics.{false_true}
-use Rattle.hc_effects.proofs.Closed.{reversed}
+use Rattle.hc_effects.proofs.{Basics.{false_true}, Closed.{reversed}}
 use Rattle.hc_laws.proofs.BesideKeeps.{nobody}
 
 -- a row of the begun tables is a loaded item

@@ -3,13 +3,8 @@ use Rattle.std.proofs.Common.{◌≡◌, ℕ, None, sym, ◌∙◌}
 use Rattle.hc_text.proofs.Basics.{not_some as none_some}
 use Rattle.hc_effects.proofs.Vocabulary.{Event, Limits, denial, Entry, Contents, Flaw, entry_of, AfterDenials, Measures, Owners, Tables, Representation, Consumer, Sound, IsBound, first_tables, after_accepted, after_denied}
 use Rattle.hc_model.specs.Sound as sound
-use Rattle.hc_effects.proofs.Beside.{IsBeside}
-use Rattle.hc_laws.proofs.CachedKeeps.{cached_kept}
-use Rattle.hc_laws.proofs.CoversKept.{covered_kept}
-use Rattle.hc_laws.proofs.DeniedKeeps.{written_same, was_bound, was_first, was_exclusive_writer}
-use Rattle.hc_effects.proofs.LossBy.{IsReal}
-use Rattle.hc_effects.proofs.Losses.{HasRest}
-use Rattle.hc_laws.proofs.Rests.{rested_kept}
+use Rattle.hc_effects.proofs.{Beside.{IsBeside}, LossBy.{IsReal}, Losses.{HasRest}}
+use Rattle.hc_laws.proofs.{CachedKeeps.{cached_kept}, CoversKept.{covered_kept}, DeniedKeeps.{written_same, was_bound, was_first, was_exclusive_writer}, Rests.{rested_kept}}
 
 -- nobody reads at the beginning
 pub nobody : (contents : Contents) (r c : ℕ) (k : Consumer) → IsBound (first_tables contents) r c k → ⊥

@@ -1,27 +1,16 @@
 -- What an exchange brought stands in its body, and nothing else there is from it, in every run.
-use Rattle.std.proofs.Common.{◌≡◌, ◌≤◌, ◌<◌, ◌⊎◌, inl, inr, ℕ, ◌+◌, ◌-◌, List, [], ◌∷◌, ◌++◌, length, length-append, Bool, true, false, Option, Some, None, refl, ap, sym, ◌∙◌, subst, arith}
-use Rattle.std.specs.Prelude.{is_some, slice_index, unwrap_or}
-use Rattle.std.proofs.Math.ListN.{get_or-append}
-use Rattle.std.proofs.Math.Seq.{get_or-append_right}
+use Rattle.std.{proofs.{Common.{◌≡◌, ◌≤◌, ◌<◌, ◌⊎◌, inl, inr, ℕ, ◌+◌, ◌-◌, List, [], ◌∷◌, ◌++◌, length, length-append, Bool, true, false, Option, Some, None, refl, ap, sym, ◌∙◌, subst, arith}, Math.{ListN.{get_or-append}, Seq.{get_or-append_right}}}, specs.Prelude.{is_some, slice_index, unwrap_or}}
 use Rattle.hc_text.proofs.Basics.{not_some as none_some, same_some as same_row, some_inj}
 use Rattle.hc_sparse.specs.Cells.{Cell, inside, cells_with}
 use Rattle.hc_sparse.proofs.CellLemmas.{inside-cases}
 use Rattle.hc_effects.proofs.Vocabulary.{is_denied, Event, Response, base_of, Limits, denial, Entry, base, front, family, Flaw, flaw_in, entry_of, OfRuns, Brings, cell_from, Measures, Origins, MayDeliver, Owners, Tables, Exchange, Representation, Sound, tables, after_accepted}
 use Rattle.hc_event.specs.declared.event.Event.TheVariants as event
 use Rattle.hc_model.specs.Origins as origins
-use Rattle.hc_effects.proofs.Basics.{false_true}
-use Rattle.hc_effects.proofs.ExchangeFrom.{ExchangeFrom, exchange_from, IsSame}
+use Rattle.hc_effects.proofs.{Basics.{false_true}, ExchangeFrom.{ExchangeFrom, exchange_from, IsSame}, Fills.{Fills, fills, IsPiece, brings, length_same}, FirstKeeps.{is_new}, NumbersKeep.{opens_next}, OfEntries.{of_real}, Once.{delivers_once}, RepFrom.{RepFrom, rep_from, IsKept}}
 use Rattle.hc_effects.proofs.ExchangeFrom as exchange
-use Rattle.hc_effects.proofs.Fills.{Fills, fills, IsPiece, brings, length_same}
 use Rattle.hc_effects.proofs.Fills as fills_by
-use Rattle.hc_effects.proofs.FirstKeeps.{is_new}
-use Rattle.hc_effects.proofs.NumbersKeep.{opens_next}
-use Rattle.hc_effects.proofs.OfEntries.{of_real}
-use Rattle.hc_effects.proofs.Once.{delivers_once}
-use Rattle.hc_laws.proofs.OriginRuns.{origins_in_runs}
-use Rattle.hc_effects.proofs.RepFrom.{RepFrom, rep_from, IsKept}
+use Rattle.hc_laws.proofs.{OriginRuns.{origins_in_runs}, SoundRuns.{IsCarried, carried}}
 use Rattle.hc_effects.proofs.RepFrom as rep
-use Rattle.hc_laws.proofs.SoundRuns.{IsCarried, carried}
 
 -- what comes behind the bytes of w
 pub more_bytes : (w : Exchange) (bytes : List ℕ) (p : ℕ) → base w ≤ p → front w ≤ p → slice_index (w.body ++ bytes) (p - base w) ≡ slice_index bytes (p - front w)

@@ -6,20 +6,11 @@ use Rattle.hc_event.specs.declared.event.Event.TheVariants as event
 use Rattle.hc_rules.specs.declared.need.Route.TheVariants as route
 use Rattle.hc_event.specs.declared.place.Place.TheVariants as place
 use Rattle.hc_model.specs.Owners as owners
-use Rattle.hc_effects.proofs.Basics.{false_true}
-use Rattle.hc_effects.proofs.Beside.{IsBeside, is_cached_place}
-use Rattle.hc_effects.proofs.BoundFrom.{BoundFrom, bound_from}
+use Rattle.hc_effects.proofs.{Basics.{false_true}, Beside.{IsBeside, is_cached_place}, BoundFrom.{BoundFrom, bound_from}, BoundKeeps.{planned_at, founding_is}, FirstKeeps.{case_is, is_new}, FoundBy.{founding_by, founds_way}, OwnersKeep.{is_opened}, PieceKeeps.{eq_cases}, TurnPlaces.{ComesFrom, IsPlain, is_after}, Waiters.{waiter_of}}
 use Rattle.hc_effects.proofs.BoundFrom as from
-use Rattle.hc_effects.proofs.BoundKeeps.{planned_at, founding_is}
-use Rattle.hc_effects.proofs.FirstKeeps.{case_is, is_new}
 use Rattle.hc_effects.proofs.Forward as forward
-use Rattle.hc_effects.proofs.FoundBy.{founding_by, founds_way}
 use Rattle.hc_effects.proofs.OpenedAs as opened
-use Rattle.hc_effects.proofs.OwnersKeep.{is_opened}
-use Rattle.hc_effects.proofs.PieceKeeps.{eq_cases}
-use Rattle.hc_effects.proofs.TurnPlaces.{ComesFrom, IsPlain, is_after}
 use Rattle.hc_effects.proofs.TurnPlaces as turn
-use Rattle.hc_effects.proofs.Waiters.{waiter_of}
 
 -- who starts stands in the line
 starts_line : (c now : ℕ) (ev : Event) (u : Consumer) → consumer_made c now ev ≡ Some u → u.place ≡ place.Line

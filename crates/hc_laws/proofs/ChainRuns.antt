@@ -1,22 +1,14 @@
 -- Waits end, in every run: a chain of them goes on over two more consumers at most.
-use Rattle.std.proofs.Common.{◌≡◌, ℕ, ◌<◌, true, false, Option, Some, None, refl, ap, sym, ◌∙◌, subst}
-use Rattle.std.specs.Prelude.{nat_eq}
+use Rattle.std.{proofs.Common.{◌≡◌, ℕ, ◌<◌, true, false, Option, Some, None, refl, ap, sym, ◌∙◌, subst}, specs.Prelude.{nat_eq}}
 use Rattle.hc_event.specs.declared.act.Wait.TheVariants as wait
 use Rattle.hc_effects.proofs.Vocabulary.{MoveEnds, is_live, is_live_place, Endings, Unended, OfRuns, WaitsEnd, WaitsForNobody, turn, Move, Places, plan_view, move_of, poll_move, Tables, Consumer, Sound, IsBound, tables}
 use Rattle.hc_model.specs.Chains.{PollsEnd, ChainEnds, ChainsEnd}
 use Rattle.hc_model.specs.Moves as moves
 use Rattle.hc_model.specs.Sound as sound
-use Rattle.hc_effects.proofs.Basics.{false_true}
-use Rattle.hc_laws.proofs.BehindTurns.{StandsInLine, behind_turn, turn_stands, turn_without}
-use Rattle.hc_laws.proofs.LivePolls.{Goes, live_goes}
-use Rattle.hc_laws.proofs.PlaceRuns.{places_in_runs, endings_in_runs}
-use Rattle.hc_effects.proofs.Said.{WaitsAs}
+use Rattle.hc_effects.proofs.{Basics.{false_true}, Said.{WaitsAs}, WaitedAs.{waited_as}}
+use Rattle.hc_laws.proofs.{BehindTurns.{StandsInLine, behind_turn, turn_stands, turn_without}, LivePolls.{Goes, live_goes}, PlaceRuns.{places_in_runs, endings_in_runs}, SoundRuns.{runs_are_sound}, UnendedRuns.{unended_in_runs}, WaitsInRuns.{waits_in_runs}}
 use Rattle.hc_effects.proofs.Said as said
-use Rattle.hc_laws.proofs.SoundRuns.{runs_are_sound}
-use Rattle.hc_laws.proofs.UnendedRuns.{unended_in_runs}
-use Rattle.hc_effects.proofs.WaitedAs.{waited_as}
 use Rattle.hc_effects.proofs.WaitedAs as waited
-use Rattle.hc_laws.proofs.WaitsInRuns.{waits_in_runs}
 
 module _ (t : Tables) (s : Sound t) (places : Places t) (endings : Endings t) (unended : Unended t) (w : WaitsEnd t) where
   -- it ends where the chain goes on from each consumer that it waits for

@@ -1,6 +1,5 @@
 -- After an entry the exclusive writer has all up to where its exchange goes on.
-use Rattle.std.proofs.Common.{◌≡◌, ◌⊎◌, inl, inr, ℕ, ◌+◌, ◌<◌, ◌≤◌, true, false, Option, Some, None, refl, ap, sym, ◌∙◌, subst, arith}
-use Rattle.std.specs.Prelude.{is_some, nat_eq}
+use Rattle.std.{proofs.Common.{◌≡◌, ◌⊎◌, inl, inr, ℕ, ◌+◌, ◌<◌, ◌≤◌, true, false, Option, Some, None, refl, ap, sym, ◌∙◌, subst, arith}, specs.Prelude.{is_some, nat_eq}}
 use Rattle.hc_text.proofs.Basics.{and_left, not_some as none_some, same_some as same_row, some_inj}
 use Rattle.hc_sparse.specs.Cells.{Covers}
 use Rattle.hc_effects.proofs.Vocabulary.{Opening, opening_in, Event, Response, Limits, route_of, BoundBy, Showing, showing_in, case_at, consumer_heard, consumer_acted, by_opening, waiting, due_after, denial, Entry, exchange_opened, front, Flaw, entry_of, Measures, Owners, bound_to, offset, lo_of, reads, hole_start, Tables, Exchange, Representation, Consumer, Sound, IsBound, IsExclusiveWriter, after_accepted, brings_body, came_alone, loses_writing, survivor}
@@ -9,32 +8,14 @@ use Rattle.hc_rules.specs.declared.need.Route.TheVariants as route
 use Rattle.hc_event.specs.declared.place.Place.TheVariants as place
 use Rattle.hc_event.specs.declared.place.BoundBy.TheVariants as by
 use Rattle.hc_model.specs.Sound as sound
-use Rattle.hc_effects.proofs.Basics.{false_true, some_row}
-use Rattle.hc_effects.proofs.Beside.{IsBeside, goes_on_at}
-use Rattle.hc_effects.proofs.BoundFrom.{BoundFrom, IsRow, IsFounded, IsFirstHole, IsShown, bound_from, place_inj}
+use Rattle.hc_effects.proofs.{Basics.{false_true, some_row}, Beside.{IsBeside, goes_on_at}, BoundFrom.{BoundFrom, IsRow, IsFounded, IsFirstHole, IsShown, bound_from, place_inj}, BoundKeeps.{planned_at}, Covers.{own_covers, grown, offset_more, later_start, headed_at}, ExchangeFrom.{IsSame, IsHeaded}, FirstKeeps.{is_new}, LossBy.{IsReal}, OwnFrom.{OwnFrom, IsLeft, own_from, after_by}, OwnersKeep.{is_opened, new_number}, PieceKeeps.{eq_cases}, PollKeeps.{current_stays}, RepFrom.{RepFrom, rep_from, IsKept}, Said.{ShowsBy, showing_by}, ShownFrom.{ShownAs, IsPlanned}, Survives.{goes_on}, ToBeShown.{heard_place}, Waiters.{IsWaiter, waiter_of}}
 use Rattle.hc_effects.proofs.BoundFrom as from
-use Rattle.hc_effects.proofs.BoundKeeps.{planned_at}
-use Rattle.hc_effects.proofs.Covers.{own_covers, grown, offset_more, later_start, headed_at}
-use Rattle.hc_laws.proofs.CoversNew.{founds_within, hole_covers}
-use Rattle.hc_effects.proofs.ExchangeFrom.{IsSame, IsHeaded}
-use Rattle.hc_effects.proofs.FirstKeeps.{is_new}
+use Rattle.hc_laws.proofs.{CoversNew.{founds_within, hole_covers}, ExclusiveWriterFrom.{ExclusiveWriterFrom, alone_from, exclusive_writer_from, had_exclusive_writer}}
 use Rattle.hc_effects.proofs.Forward as forward
-use Rattle.hc_effects.proofs.LossBy.{IsReal}
-use Rattle.hc_effects.proofs.OwnFrom.{OwnFrom, IsLeft, own_from, after_by}
 use Rattle.hc_effects.proofs.OwnFrom as own
-use Rattle.hc_effects.proofs.OwnersKeep.{is_opened, new_number}
-use Rattle.hc_laws.proofs.ExclusiveWriterFrom.{ExclusiveWriterFrom, alone_from, exclusive_writer_from, had_exclusive_writer}
 use Rattle.hc_laws.proofs.ExclusiveWriterFrom as exclusive_writers
-use Rattle.hc_effects.proofs.PieceKeeps.{eq_cases}
-use Rattle.hc_effects.proofs.PollKeeps.{current_stays}
-use Rattle.hc_effects.proofs.RepFrom.{RepFrom, rep_from, IsKept}
 use Rattle.hc_effects.proofs.RepFrom as rep
-use Rattle.hc_effects.proofs.Said.{ShowsBy, showing_by}
-use Rattle.hc_effects.proofs.ShownFrom.{ShownAs, IsPlanned}
 use Rattle.hc_effects.proofs.ShownFrom as shown_as
-use Rattle.hc_effects.proofs.Survives.{goes_on}
-use Rattle.hc_effects.proofs.ToBeShown.{heard_place}
-use Rattle.hc_effects.proofs.Waiters.{IsWaiter, waiter_of}
 
 module _ (limits : Limits) (t : Tables) (now : ℕ) (flaw : Flaw) (s : Sound t) (o : Owners t) (m : Measures t) (i : IsBeside t) (ev : Event) (goes : denial t ev ≡ None) (real : IsReal limits t now ev flaw) where
   abbrev e : Entry

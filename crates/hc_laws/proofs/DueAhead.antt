@@ -1,6 +1,5 @@
 -- The detached reader has all that its own exchange goes on behind, or that brought nothing: also where a failure is due.
-use Rattle.std.proofs.Common.{◌≡◌, ◌⊎◌, inl, inr, ℕ, ◌≤◌, List, [], length, Bool, true, false, Option, Some, None, refl, ap, sym, ◌∙◌, subst, arith}
-use Rattle.std.specs.Prelude.{◌&&◌, if◌then◌else◌}
+use Rattle.std.{proofs.Common.{◌≡◌, ◌⊎◌, inl, inr, ℕ, ◌≤◌, List, [], length, Bool, true, false, Option, Some, None, refl, ap, sym, ◌∙◌, subst, arith}, specs.Prelude.{◌&&◌, if◌then◌else◌}}
 use Rattle.hc_text.proofs.Basics.{not_some as none_some, same_some as same_row, some_inj}
 use Rattle.hc_sparse.specs.Cells.{Covers}
 use Rattle.hc_effects.proofs.Vocabulary.{Cause, Event, Response, base_of, HeadCase, Limits, BoundBy, case_at, consumer_heard, consumer_acted, becomes_shared, denial, Entry, base, front, is_for, becomes_due, stop_cause, cause_of_head, cause_by_case, Flaw, entry_of, Measures, Owners, is_written, offset, own_open, reads, Tables, Exchange, Representation, Consumer, Sound, IsBound, IsExclusiveWriter, IsHad, after_accepted, has_more}
@@ -8,32 +7,14 @@ use Rattle.hc_event.specs.declared.event.Event.TheVariants as event
 use Rattle.hc_rules.specs.declared.heads.HeadCase.TheVariants as case
 use Rattle.hc_event.specs.declared.place.Place.TheVariants as place
 use Rattle.hc_model.specs.Sound as sound
-use Rattle.hc_effects.proofs.AboutKeeps.{own_open_is}
-use Rattle.hc_effects.proofs.Basics.{false_true, some_row}
-use Rattle.hc_effects.proofs.Beside.{IsBeside}
-use Rattle.hc_effects.proofs.BoundFrom.{BoundFrom, IsRow, bound_from}
+use Rattle.hc_effects.proofs.{AboutKeeps.{own_open_is}, Basics.{false_true, some_row}, Beside.{IsBeside}, BoundFrom.{BoundFrom, IsRow, bound_from}, Covers.{grown, offset_more, headed_at}, Dues.{due_none, undue_of, stop_none, loss_at}, Exclusives.{IsExclusive}, ExchangeFrom.{IsSame, IsHeaded}, Fills.{Brings, brings, length_same}, FirstKeeps.{IsNew, is_new}, LossBy.{IsReal}, MeasuresKeep.{piece_taken}, OwnFrom.{OwnFrom, own_from}, ExclusiveWriters.{one_exclusive_writer}, RepFrom.{RepFrom, rep_from, IsKept}, Survives.{goes_on}, Waiters.{waiter_as}}
 use Rattle.hc_effects.proofs.BoundFrom as from
-use Rattle.hc_effects.proofs.Covers.{grown, offset_more, headed_at}
-use Rattle.hc_effects.proofs.Dues.{due_none, undue_of, stop_none, loss_at}
-use Rattle.hc_effects.proofs.Exclusives.{IsExclusive}
-use Rattle.hc_effects.proofs.ExchangeFrom.{IsSame, IsHeaded}
-use Rattle.hc_effects.proofs.Fills.{Brings, brings, length_same}
 use Rattle.hc_effects.proofs.Fills as fills_by
-use Rattle.hc_effects.proofs.FirstKeeps.{IsNew, is_new}
 use Rattle.hc_effects.proofs.Forward as forward
-use Rattle.hc_laws.proofs.GoAlone.{lost_of, opens_not, shown_not, founds_not, opens_undue, left_loses, unwritten_lost, rest_more}
-use Rattle.hc_effects.proofs.LossBy.{IsReal}
-use Rattle.hc_effects.proofs.MeasuresKeep.{piece_taken}
-use Rattle.hc_effects.proofs.OwnFrom.{OwnFrom, own_from}
+use Rattle.hc_laws.proofs.{GoAlone.{lost_of, opens_not, shown_not, founds_not, opens_undue, left_loses, unwritten_lost, rest_more}, OwnNone.{IsShared, own_none}, ExclusiveWriterFrom.{ExclusiveWriterFrom, alone_from}}
 use Rattle.hc_effects.proofs.OwnFrom as own
-use Rattle.hc_laws.proofs.OwnNone.{IsShared, own_none}
-use Rattle.hc_laws.proofs.ExclusiveWriterFrom.{ExclusiveWriterFrom, alone_from}
 use Rattle.hc_laws.proofs.ExclusiveWriterFrom as exclusive_writers
-use Rattle.hc_effects.proofs.ExclusiveWriters.{one_exclusive_writer}
-use Rattle.hc_effects.proofs.RepFrom.{RepFrom, rep_from, IsKept}
 use Rattle.hc_effects.proofs.RepFrom as rep
-use Rattle.hc_effects.proofs.Survives.{goes_on}
-use Rattle.hc_effects.proofs.Waiters.{waiter_as}
 
 -- its own exchange brought nothing, or all is there up to where that goes on
 pub record IsAhead (t : Tables) (v : Representation) (k : Consumer) : Type 0 where

@@ -1,23 +1,14 @@
 -- As long as nothing is due for the one that became bound alone, nothing is due for whoever reads beside it: after each accepted event too.
-use Rattle.std.proofs.Common.{◌≡◌, inl, inr, ℕ, true, false, Option, Some, None, refl, ap, sym, ◌∙◌, subst}
-use Rattle.std.specs.Prelude.{is_some}
+use Rattle.std.{proofs.Common.{◌≡◌, inl, inr, ℕ, true, false, Option, Some, None, refl, ap, sym, ◌∙◌, subst}, specs.Prelude.{is_some}}
 use Rattle.hc_text.proofs.Basics.{same_some as same_row}
 use Rattle.hc_effects.proofs.Vocabulary.{Opening, opening_in, Event, Response, Limits, BoundBy, Showing, showing_in, consumer_heard, consumer_acted, by_opening, waiting, route_of, current, denial, Entry, Flaw, entry_of, Owners, bound_to, reads, Tables, Exchange, Representation, Consumer, Sound, IsBound, IsFirst, after_accepted, came_alone}
 use Rattle.hc_event.specs.declared.event.Event.TheVariants as event
 use Rattle.hc_event.specs.declared.place.Place.TheVariants as place
 use Rattle.hc_rules.specs.declared.need.Route.TheVariants as route
 use Rattle.hc_model.specs.Sound as sound
-use Rattle.hc_effects.proofs.Basics.{false_true}
-use Rattle.hc_effects.proofs.BoundFrom.{BoundFrom, IsRow, IsShown, bound_from}
+use Rattle.hc_effects.proofs.{Basics.{false_true}, BoundFrom.{BoundFrom, IsRow, IsShown, bound_from}, BoundKeeps.{shown_place_is}, Dues.{undue_of, due_none, due_before}, FirstKeeps.{is_new, came_kept, open_free}, OwnersKeep.{is_opened}, PieceKeeps.{eq_cases}, ExclusiveWriters.{bound_some}, Said.{showing_by}}
 use Rattle.hc_effects.proofs.BoundFrom as from
-use Rattle.hc_effects.proofs.BoundKeeps.{shown_place_is}
-use Rattle.hc_effects.proofs.Dues.{undue_of, due_none, due_before}
 use Rattle.hc_laws.proofs.FirstDues.{beside, poll_undue, unlost}
-use Rattle.hc_effects.proofs.FirstKeeps.{is_new, came_kept, open_free}
-use Rattle.hc_effects.proofs.OwnersKeep.{is_opened}
-use Rattle.hc_effects.proofs.PieceKeeps.{eq_cases}
-use Rattle.hc_effects.proofs.ExclusiveWriters.{bound_some}
-use Rattle.hc_effects.proofs.Said.{showing_by}
 
 module _ (limits : Limits) (t : Tables) (now : ℕ) (flaw : Flaw) (s : Sound t) (o : Owners t) (ev : Event) (goes : denial t ev ≡ None) where
   abbrev e : Entry

@@ -1,7 +1,5 @@
 -- A store may begin with nothing.
-use Rattle.std.proofs.Common.{◌≡◌, ℕ, true, arith}
-use Rattle.std.specs.Prelude.{nat_le}
-use Rattle.std.proofs.lemmas.Bool.Decides.{nat_tests}
+use Rattle.std.{proofs.{Common.{◌≡◌, ℕ, true, arith}, lemmas.Bool.Decides.{nat_tests}}, specs.Prelude.{nat_le}}
 use Rattle.hc_effects.proofs.Vocabulary.{Limits, may_begin, no_contents}
 
 no_weight : (n : ℕ) → nat_le 0 n ≡ true

@@ -1,7 +1,5 @@
 -- A reader's own open exchange goes on no earlier than where it began to read, in every run.
-use Rattle.std.proofs.Common.{◌≡◌, ◌⊎◌, inl, inr, ℕ, ◌+◌, ◌≤◌, List, length, ◌++◌, true, false, Option, Some, None, refl, ap, sym, ◌∙◌, subst, arith, length-append}
-use Rattle.std.specs.Prelude.{is_some}
-use Rattle.std.specs.Option.{option_and_then}
+use Rattle.std.{proofs.Common.{◌≡◌, ◌⊎◌, inl, inr, ℕ, ◌+◌, ◌≤◌, List, length, ◌++◌, true, false, Option, Some, None, refl, ap, sym, ◌∙◌, subst, arith, length-append}, specs.{Prelude.{is_some}, Option.{option_and_then}}}
 use Rattle.hc_text.proofs.Basics.{and_left, and_right, not_some as none_some, same_some as same_row, some_inj}
 use Rattle.hc_effects.proofs.Vocabulary.{Opening, opening_in, Event, Response, Limits, base_of, route_of, BoundBy, Showing, showing_in, case_at, consumer_heard, waiting, by_opening, denial, Entry, base, front, is_headless, Flaw, goes_on_at, if_headless, entry_of, OfRuns, OfRunsIn, Measures, Owners, IsReading, reads, offset, lo_of, bound_to, hole_start, Tables, Exchange, Representation, Consumer, Sound, after_accepted, brings_body}
 use Rattle.hc_event.specs.declared.event.Event.TheVariants as event
@@ -10,35 +8,14 @@ use Rattle.hc_event.specs.declared.place.Place.TheVariants as place
 use Rattle.hc_model.specs.Fronts.{Fronts}
 use Rattle.hc_model.specs.Owners as owners
 use Rattle.hc_model.specs.Sound as sound
-use Rattle.hc_effects.proofs.AboutKeeps.{own_open_is}
-use Rattle.hc_effects.proofs.Basics.{false_true, some_row}
-use Rattle.hc_effects.proofs.Beside.{IsBeside}
-use Rattle.hc_effects.proofs.BoundFrom.{BoundFrom, IsRow, IsFounded, IsFirstHole, IsShown, bound_from, place_inj}
+use Rattle.hc_effects.proofs.{AboutKeeps.{own_open_is}, Basics.{false_true, some_row}, Beside.{IsBeside}, BoundFrom.{BoundFrom, IsRow, IsFounded, IsFirstHole, IsShown, bound_from, place_inj}, BoundKeeps.{planned_at, opens_none}, Covers.{headed_at, bare_at, later_from, none_before}, ExchangeFrom.{IsSame, IsHeaded}, Fills.{Brings, brings, length_same}, FirstKeeps.{is_new, is_opener}, HeadTo.{told_is, joined, length_is}, HeadedAs.{unmet}, LossBy.{IsReal}, OpensFrom.{opens_hole, hole_is}, OwnFrom.{OwnFrom, IsLeft, own_from}, OwnersKeep.{is_opened, new_number}, Said.{ShowsBy, showing_by}, ShownFrom.{IsPlanned}, Survives.{survivor_offset}, ToBeShown.{heard_place}, Waiters.{IsWaiter, waiter_of}}
 use Rattle.hc_effects.proofs.BoundFrom as from
-use Rattle.hc_effects.proofs.BoundKeeps.{planned_at, opens_none}
-use Rattle.hc_effects.proofs.Covers.{headed_at, bare_at, later_from, none_before}
-use Rattle.hc_laws.proofs.CoversKept.{own_opened, opened_row}
-use Rattle.hc_laws.proofs.CoversNew.{founds_from, hole_begins}
-use Rattle.hc_effects.proofs.ExchangeFrom.{IsSame, IsHeaded}
-use Rattle.hc_effects.proofs.Fills.{Brings, brings, length_same}
+use Rattle.hc_laws.proofs.{CoversKept.{own_opened, opened_row}, CoversNew.{founds_from, hole_begins}, RunFacts.{in_runs}}
 use Rattle.hc_effects.proofs.Fills as fills_by
-use Rattle.hc_effects.proofs.FirstKeeps.{is_new, is_opener}
 use Rattle.hc_effects.proofs.Forward as forward
-use Rattle.hc_effects.proofs.HeadTo.{told_is, joined, length_is}
-use Rattle.hc_effects.proofs.HeadedAs.{unmet}
-use Rattle.hc_effects.proofs.LossBy.{IsReal}
 use Rattle.hc_effects.proofs.OpenedAs as opened_as
-use Rattle.hc_effects.proofs.OpensFrom.{opens_hole, hole_is}
-use Rattle.hc_effects.proofs.OwnFrom.{OwnFrom, IsLeft, own_from}
 use Rattle.hc_effects.proofs.OwnFrom as own
-use Rattle.hc_effects.proofs.OwnersKeep.{is_opened, new_number}
 use Rattle.hc_effects.proofs.PartTold as told
-use Rattle.hc_laws.proofs.RunFacts.{in_runs}
-use Rattle.hc_effects.proofs.Said.{ShowsBy, showing_by}
-use Rattle.hc_effects.proofs.ShownFrom.{IsPlanned}
-use Rattle.hc_effects.proofs.Survives.{survivor_offset}
-use Rattle.hc_effects.proofs.ToBeShown.{heard_place}
-use Rattle.hc_effects.proofs.Waiters.{IsWaiter, waiter_of}
 
 poll_head : (x c want : ℕ) (response : Response) → event.Head x response ≡ event.Poll c want → ⊥
 poll_head x c want response is = cc

@@ -1,22 +1,13 @@
 -- What a reader was given stands in the body, and not past its end, in every run.
-use Rattle.std.proofs.Common.{◌≡◌, ◌≤◌, ◌<◌, ◌⊎◌, inl, inr, ℕ, ◌+◌, ◌-◌, List, length, Bool, true, false, Option, Some, None, refl, ap, sym, ◌∙◌, subst, arith}
-use Rattle.std.specs.Prelude.{is_some, nat_lt}
-use Rattle.std.specs.Option.{option_or}
-use Rattle.std.proofs.lemmas.Bool.Decides.{nat_tests}
+use Rattle.std.{proofs.{Common.{◌≡◌, ◌≤◌, ◌<◌, ◌⊎◌, inl, inr, ℕ, ◌+◌, ◌-◌, List, length, Bool, true, false, Option, Some, None, refl, ap, sym, ◌∙◌, subst, arith}, lemmas.Bool.Decides.{nat_tests}}, specs.{Prelude.{is_some, nat_lt}, Option.{option_or}}}
 use Rattle.hc_text.proofs.Basics.{bool_cases, some_inj}
 use Rattle.hc_sparse.specs.Cells.{Cell, Covers}
 use Rattle.hc_event.specs.declared.place.Place.TheVariants as place
 use Rattle.hc_effects.proofs.Vocabulary.{BoundBy, total_in, given_of, OfRuns, IsRun, may_begin, History, Contents, Limits, Measures, hi_of, lo_of, reads, Holds, cell_by, Tables, Representation, Consumer, Sound, tables}
 use Rattle.hc_model.specs.Given.{Given, IsWithin}
 use Rattle.hc_model.specs.Sound as sound
-use Rattle.hc_effects.proofs.Basics.{false_true, some_row}
-use Rattle.hc_effects.proofs.Bounded.{IsBounded}
-use Rattle.hc_effects.proofs.GivenNext.{read_of}
-use Rattle.hc_laws.proofs.ReadAs.{IsRead}
-use Rattle.hc_laws.proofs.ReadEnds.{bounded}
-use Rattle.hc_laws.proofs.ReadJoined.{joined_in_runs, is_told}
-use Rattle.hc_laws.proofs.ReadNext.{shown_one}
-use Rattle.hc_laws.proofs.SoundRuns.{carried}
+use Rattle.hc_effects.proofs.{Basics.{false_true, some_row}, Bounded.{IsBounded}, GivenNext.{read_of}}
+use Rattle.hc_laws.proofs.{ReadAs.{IsRead}, ReadEnds.{bounded}, ReadJoined.{joined_in_runs, is_told}, ReadNext.{shown_one}, SoundRuns.{carried}}
 
 -- what was given of the body that was shown
 pub record AreCovered (t : Tables) : Type 0 where

@@ -2,15 +2,9 @@
 --
 -- It waits for no head: the hole for which its exchange asks is where it stands, and there nothing is stored. So it reads, and
 -- what is stored comes first.
-use Rattle.std.proofs.Common.{◌≡◌, inl, inr, ℕ, ◌+◌, ◌-◌, ◌<◌, List, [], ◌∷◌, ◌++◌, length, true, false, Option, Some, None, refl, ap, sym, ◌∙◌, subst, arith, length-append}
-use Rattle.std.specs.Prelude.{is_some, if◌then◌else◌, IfSome, nat_eq}
-use Rattle.std.specs.Option.{option_and_then, option_map}
-use Rattle.std.proofs.lemmas.Bool.Decides.{nat_tests}
+use Rattle.std.{proofs.{Common.{◌≡◌, inl, inr, ℕ, ◌+◌, ◌-◌, ◌<◌, List, [], ◌∷◌, ◌++◌, length, true, false, Option, Some, None, refl, ap, sym, ◌∙◌, subst, arith, length-append}, lemmas.Bool.Decides.{nat_tests}}, specs.{Prelude.{is_some, if◌then◌else◌, IfSome, nat_eq}, Option.{option_and_then, option_map}}}
 use Rattle.hc_text.proofs.Basics.{bool_cases, not_some as none_some, same_some as same_row}
-use Rattle.hc_sparse.specs.Cells.{Cells, Cell}
-use Rattle.hc_sparse.specs.Runs.{end_of}
-use Rattle.hc_sparse.specs.Stretch.{stretch, stretch_of}
-use Rattle.hc_sparse.specs.declared.run.Run.{Run}
+use Rattle.hc_sparse.specs.{Cells.{Cells, Cell}, Runs.{end_of}, Stretch.{stretch, stretch_of}, declared.run.Run.{Run}}
 use Rattle.hc_effects.proofs.Vocabulary.{given_in, Response, read_step, is_at_end, cut_at, stored_or, held_or, fails_or, waits_or, ReadStep, Limits, Place, BoundBy, row_of, Entry, is_headless, failures_in, OfHistories, Turns, Gives, gives, acts_of, Owners, planned_move, move_of, shows_at, if_headless, waits_for_head, or_else, by_place, bound_to, lo_of, offset, hi_of, own_open, source, Tables, Exchange, Representation, Consumer, Sound, IsBound, IsAbout, InHole, bound_row, stored_from, stored_ahead, read_view, step_move, reading, tables}
 use Rattle.hc_event.specs.declared.event.Event.TheVariants as event
 use Rattle.hc_rules.specs.Readings as readings
@@ -18,17 +12,9 @@ use Rattle.hc_rules.specs.declared.reading.ReadStep.TheVariants as step
 use Rattle.hc_event.specs.declared.place.Place.TheVariants as place
 use Rattle.hc_model.specs.Reads.{GivesStored}
 use Rattle.hc_model.specs.Sound as sound
-use Rattle.hc_effects.proofs.AboutKeeps.{own_open_of}
-use Rattle.hc_laws.proofs.AtHoles.{AreAtHoles, at_holes_in_runs}
-use Rattle.hc_effects.proofs.Basics.{false_true, some_row}
-use Rattle.hc_effects.proofs.GivenNext.{given_next}
-use Rattle.hc_effects.proofs.Givers.{some_want}
-use Rattle.hc_laws.proofs.InRuns.{turned_in_runs}
-use Rattle.hc_effects.proofs.Owed.{goes}
-use Rattle.hc_laws.proofs.SoundRuns.{carried}
-use Rattle.hc_laws.proofs.TurnFacts.{IsTaken, AtPoll, at_poll, behind}
+use Rattle.hc_effects.proofs.{AboutKeeps.{own_open_of}, Basics.{false_true, some_row}, GivenNext.{given_next}, Givers.{some_want}, Owed.{goes}}
+use Rattle.hc_laws.proofs.{AtHoles.{AreAtHoles, at_holes_in_runs}, InRuns.{turned_in_runs}, SoundRuns.{carried}, TurnFacts.{IsTaken, AtPoll, at_poll, behind}, TurnStays.{head_none}}
 use Rattle.hc_laws.proofs.TurnFacts as facts
-use Rattle.hc_laws.proofs.TurnStays.{head_none}
 
 module _ (t : Tables) (s : Sound t) (o : Owners t) (turns : Turns t) (are : AreAtHoles t) (c r lo : ℕ) (hi : Option ℕ) (how : BoundBy) (k : Consumer) (v : Representation) (row : t.consumer c ≡ Some k) (shown : k.shown ≡ true) (at : k.place ≡ place.Bound r lo hi how) (there : t.representation r ≡ Some v) (stored : is_some (v.stored (offset t k)) ≡ true) where
   reader : IsBound t r c k

@@ -1,7 +1,5 @@
 -- After an entry the detached reader reads on soundly.
-use Rattle.std.proofs.Common.{◌≡◌, ◌⊎◌, inl, inr, ℕ, ◌+◌, ◌≤◌, List, [], ◌∷◌, length, Bool, true, false, Option, Some, None, refl, ap, sym, ◌∙◌, subst, arith, length-append}
-use Rattle.std.specs.Prelude.{if◌then◌else◌, is_some, ◌||◌, not}
-use Rattle.std.specs.Option.{option_and_then}
+use Rattle.std.{proofs.Common.{◌≡◌, ◌⊎◌, inl, inr, ℕ, ◌+◌, ◌≤◌, List, [], ◌∷◌, length, Bool, true, false, Option, Some, None, refl, ap, sym, ◌∙◌, subst, arith, length-append}, specs.{Prelude.{if◌then◌else◌, is_some, ◌||◌, not}, Option.{option_and_then}}}
 use Rattle.hc_text.proofs.Basics.{and_left, and_right, not_some as none_some, same_some as same_row, some_inj, lt_or as split}
 use Rattle.hc_sparse.specs.Cells.{Cells, Covers, cells_with}
 use Rattle.hc_sparse.proofs.CellLemmas.{inside-past}
@@ -11,48 +9,17 @@ use Rattle.hc_event.specs.declared.event.Event.TheVariants as event
 use Rattle.hc_rules.specs.declared.heads.HeadCase.TheVariants as case
 use Rattle.hc_event.specs.declared.place.Place.TheVariants as place
 use Rattle.hc_model.specs.Sound as sound
-use Rattle.hc_effects.proofs.AboutKeeps.{own_open_of}
-use Rattle.hc_effects.proofs.Basics.{false_true, true_false, some_row}
-use Rattle.hc_effects.proofs.Beside.{IsBeside, goes_on_at}
-use Rattle.hc_effects.proofs.BoundFrom.{BoundFrom, IsRow, IsShown, bound_from}
+use Rattle.hc_effects.proofs.{AboutKeeps.{own_open_of}, Basics.{false_true, true_false, some_row}, Beside.{IsBeside, goes_on_at}, BoundFrom.{BoundFrom, IsRow, IsShown, bound_from}, BoundKeeps.{planned_at}, Covers.{headed_at, offset_more}, Dues.{due_before, due_none, undue_of, stop_none, loss_at}, EventsKeep.{deliveries_are_kept}, ExchangeFrom.{IsSame, IsHeaded}, Exclusives.{IsExclusive}, Fills.{Fills, fills, Brings, brings}, FirstKeeps.{is_new, is_opener}, HoleLemmas.{covers_yes}, HolesOpened.{stored_ends}, LossBy.{IsReal}, Losses.{HasRest}, MeasuresKeep.{IsHeld, held, piece_taken}, OpensFrom.{opens_hole, hole_is}, OwnFrom.{OwnFrom, own_from}, OwnersKeep.{is_opened, there_kept}, ExclusiveWriters.{one_exclusive_writer, has_exclusive_writer, bound_some}, PollKeeps.{current_stays, not_come}, PollTree.{OpensHole}, RepFrom.{RepFrom, rep_from, IsKept}, Said.{ShowsBy, showing_by}, ShownFrom.{ShownAs, IsPlanned}, Survives.{goes_on}, ToBeShown.{heard_place}}
 use Rattle.hc_effects.proofs.BoundFrom as from
-use Rattle.hc_effects.proofs.BoundKeeps.{planned_at}
-use Rattle.hc_effects.proofs.Covers.{headed_at, offset_more}
-use Rattle.hc_laws.proofs.CoversKept.{covered_kept, not_alone}
-use Rattle.hc_effects.proofs.Dues.{due_before, due_none, undue_of, stop_none, loss_at}
-use Rattle.hc_effects.proofs.EventsKeep.{deliveries_are_kept}
-use Rattle.hc_effects.proofs.ExchangeFrom.{IsSame, IsHeaded}
-use Rattle.hc_effects.proofs.Exclusives.{IsExclusive}
-use Rattle.hc_effects.proofs.Fills.{Fills, fills, Brings, brings}
+use Rattle.hc_laws.proofs.{CoversKept.{covered_kept, not_alone}, OwnNone.{IsShared, own_none}, ExclusiveWriterFrom.{ExclusiveWriterFrom, alone_from}, SoundKept.{GoAlone}, StoreKeeps.{stores_are_kept}}
 use Rattle.hc_effects.proofs.Fills as fills_by
-use Rattle.hc_effects.proofs.FirstKeeps.{is_new, is_opener}
 use Rattle.hc_effects.proofs.Forward as forward
-use Rattle.hc_effects.proofs.HoleLemmas.{covers_yes}
-use Rattle.hc_effects.proofs.HolesOpened.{stored_ends}
-use Rattle.hc_effects.proofs.LossBy.{IsReal}
-use Rattle.hc_effects.proofs.Losses.{HasRest}
-use Rattle.hc_effects.proofs.MeasuresKeep.{IsHeld, held, piece_taken}
 use Rattle.hc_effects.proofs.OpenedAs as opened
-use Rattle.hc_effects.proofs.OpensFrom.{opens_hole, hole_is}
-use Rattle.hc_effects.proofs.OwnFrom.{OwnFrom, own_from}
 use Rattle.hc_effects.proofs.OwnFrom as own
-use Rattle.hc_laws.proofs.OwnNone.{IsShared, own_none}
-use Rattle.hc_effects.proofs.OwnersKeep.{is_opened, there_kept}
-use Rattle.hc_laws.proofs.ExclusiveWriterFrom.{ExclusiveWriterFrom, alone_from}
 use Rattle.hc_laws.proofs.ExclusiveWriterFrom as exclusive_writers
-use Rattle.hc_effects.proofs.ExclusiveWriters.{one_exclusive_writer, has_exclusive_writer, bound_some}
-use Rattle.hc_effects.proofs.PollKeeps.{current_stays, not_come}
-use Rattle.hc_effects.proofs.PollTree.{OpensHole}
 use Rattle.hc_effects.proofs.PollTree as tree
-use Rattle.hc_effects.proofs.RepFrom.{RepFrom, rep_from, IsKept}
 use Rattle.hc_effects.proofs.RepFrom as rep
-use Rattle.hc_effects.proofs.Said.{ShowsBy, showing_by}
-use Rattle.hc_effects.proofs.ShownFrom.{ShownAs, IsPlanned}
 use Rattle.hc_effects.proofs.ShownFrom as shown_as
-use Rattle.hc_laws.proofs.SoundKept.{GoAlone}
-use Rattle.hc_laws.proofs.StoreKeeps.{stores_are_kept}
-use Rattle.hc_effects.proofs.Survives.{goes_on}
-use Rattle.hc_effects.proofs.ToBeShown.{heard_place}
 use Rattle.hc_laws.proofs.TogetherHeads as together
 
 -- where something is lost, there is a loss

@@ -1,7 +1,5 @@
 -- While a writing is on, just what its exchange has brought is stored, and it promises all that is missing.
-use Rattle.std.proofs.Common.{◌≡◌, ◌⊎◌, inl, inr, ℕ, zero, suc, ◌+◌, ◌-◌, ◌<◌, ◌≤◌, List, length, Bool, true, false, Option, Some, None, refl, ap, sym, ◌∙◌, subst, arith, max, min, length-append}
-use Rattle.std.specs.Prelude.{if◌then◌else◌, is_some, is_none, ◌==◌, ◌&&◌, ◌||◌, not, nat_eq, nat_le, unwrap_or}
-use Rattle.std.proofs.lemmas.Bool.Decides.{nat_tests}
+use Rattle.std.{proofs.{Common.{◌≡◌, ◌⊎◌, inl, inr, ℕ, zero, suc, ◌+◌, ◌-◌, ◌<◌, ◌≤◌, List, length, Bool, true, false, Option, Some, None, refl, ap, sym, ◌∙◌, subst, arith, max, min, length-append}, lemmas.Bool.Decides.{nat_tests}}, specs.Prelude.{if◌then◌else◌, is_some, is_none, ◌==◌, ◌&&◌, ◌||◌, not, nat_eq, nat_le, unwrap_or}}
 use Rattle.hc_text.proofs.Basics.{and_left, and_right, bool_cases, not_some as none_some, same_some as same_row, some_inj}
 use Rattle.hc_sparse.specs.Cells.{cells_with, Cells, Covers}
 use Rattle.hc_sparse.proofs.CellLemmas.{inside-cases}
@@ -10,21 +8,11 @@ use Rattle.hc_effects.proofs.Vocabulary.{Event, Response, Need, Length, Limits, 
 use Rattle.hc_event.specs.declared.event.Event.TheVariants as event
 use Rattle.hc_rules.specs.declared.length.Length.TheVariants as told
 use Rattle.hc_rules.specs.declared.need.Route.TheVariants as route
-use Rattle.hc_effects.proofs.ApartKeeps.{IsOn, is_on, was_written}
-use Rattle.hc_effects.proofs.Basics.{false_true, number_is}
-use Rattle.hc_effects.proofs.ExchangeFrom.{IsSame, IsHeaded}
-use Rattle.hc_effects.proofs.Fills.{Fills, fills, Brings, brings}
+use Rattle.hc_effects.proofs.{ApartKeeps.{IsOn, is_on, was_written}, Basics.{false_true, number_is}, ExchangeFrom.{IsSame, IsHeaded}, Fills.{Fills, fills, Brings, brings}, FirstKeeps.{case_is, is_new}, Forward.{after_is}, HeadKeeps.{IsJoin, is_join}, HoleLemmas.{covers_all, first_to}, MeasuresKeep.{held, IsHeld, total_same, one_piece}, PartTold.{part_told, whole_base, IsTold, part_order}, RepFrom.{RepFrom, rep_from, IsKept, IsResumed}}
 use Rattle.hc_effects.proofs.Fills as fills_by
-use Rattle.hc_effects.proofs.FirstKeeps.{case_is, is_new}
-use Rattle.hc_effects.proofs.Forward.{after_is}
 use Rattle.hc_effects.proofs.Forward as forward
 use Rattle.hc_laws.proofs.Founders.{founders_kept}
-use Rattle.hc_effects.proofs.HeadKeeps.{IsJoin, is_join}
-use Rattle.hc_effects.proofs.HoleLemmas.{covers_all, first_to}
-use Rattle.hc_effects.proofs.MeasuresKeep.{held, IsHeld, total_same, one_piece}
-use Rattle.hc_effects.proofs.PartTold.{part_told, whole_base, IsTold, part_order}
 use Rattle.hc_effects.proofs.PartTold as tells
-use Rattle.hc_effects.proofs.RepFrom.{RepFrom, rep_from, IsKept, IsResumed}
 use Rattle.hc_effects.proofs.RepFrom as rep
 
 -- what covers from the first position on isn't past the reach

@@ -1,27 +1,14 @@
 -- One exchange at most brings a representation, and where it stops nothing brings it any more, in every run.
-use Rattle.std.proofs.Common.{◌≡◌, inl, inr, ℕ, List, [], ◌∷◌, Bool, true, false, Option, Some, None, refl, ap, sym, ◌∙◌, subst, arith}
-use Rattle.std.specs.Prelude.{if◌then◌else◌, is_some, ◌==◌, unwrap_or, nat_eq}
-use Rattle.std.specs.List.{list_any}
-use Rattle.std.proofs.lemmas.Bool.Decides.{nat_tests}
+use Rattle.std.{proofs.{Common.{◌≡◌, inl, inr, ℕ, List, [], ◌∷◌, Bool, true, false, Option, Some, None, refl, ap, sym, ◌∙◌, subst, arith}, lemmas.Bool.Decides.{nat_tests}}, specs.{Prelude.{if◌then◌else◌, is_some, ◌==◌, unwrap_or, nat_eq}, List.{list_any}}}
 use Rattle.hc_text.proofs.Basics.{and_left, and_right, bool_cases, not_some as none_some}
 use Rattle.hc_effects.proofs.Vocabulary.{is_denied, Event, Response, Limits, has_loss, case_at, is_joining, denial, Entry, family, is_open, Flaw, flaw_in, Grows, IsComing, entry_of, is_growing, brings_to, OfRuns, Measures, IsMeasured, is_written, Tables, Exchange, Representation, Sound, IsAbout, tables, after_accepted, after_denied}
 use Rattle.hc_model.specs.Growing.{Growing, StopsGrowing, StopsInRuns}
 use Rattle.hc_model.specs.Measures as measures
 use Rattle.hc_model.specs.Sound as sound
-use Rattle.hc_effects.proofs.ApartKeeps.{is_on}
-use Rattle.hc_laws.proofs.Barred.{next_tables, denied_tables}
-use Rattle.hc_effects.proofs.Basics.{false_true, some_row}
-use Rattle.hc_effects.proofs.ExchangeFrom.{ExchangeFrom, exchange_from, IsHeaded}
+use Rattle.hc_effects.proofs.{ApartKeeps.{is_on}, Basics.{false_true, some_row}, ExchangeFrom.{ExchangeFrom, exchange_from, IsHeaded}, FirstKeeps.{is_new, case_is}, HeadKeeps.{is_join, is_aimed}, OfEntries.{of_real}, ExclusiveWriters.{writer_some}}
+use Rattle.hc_laws.proofs.{Barred.{next_tables, denied_tables}, FitsKept.{any_some}, SoundRuns.{carried}, Unknowns.{Unknown}, WaitsInRuns.{unknown_in_runs}}
 use Rattle.hc_effects.proofs.ExchangeFrom as exchange
-use Rattle.hc_effects.proofs.FirstKeeps.{is_new, case_is}
-use Rattle.hc_laws.proofs.FitsKept.{any_some}
-use Rattle.hc_effects.proofs.HeadKeeps.{is_join, is_aimed}
-use Rattle.hc_effects.proofs.OfEntries.{of_real}
-use Rattle.hc_effects.proofs.ExclusiveWriters.{writer_some}
 use Rattle.hc_effects.proofs.RepFrom as rep
-use Rattle.hc_laws.proofs.SoundRuns.{carried}
-use Rattle.hc_laws.proofs.Unknowns.{Unknown}
-use Rattle.hc_laws.proofs.WaitsInRuns.{unknown_in_runs}
 
 any_of : (test : ℕ → Bool) (ns : List ℕ) → list_any test ns ≡ true → (n : ℕ) × (test n ≡ true)
 any_of test [] h = absurd (false_true h)

@@ -1,24 +1,14 @@
 -- What a body has stays, at each entry of a run: that of a representation, and that of an answer past the store.
-use Rattle.std.proofs.Common.{◌≡◌, ◌⊎◌, inl, inr, ℕ, ◌+◌, ◌-◌, ◌<◌, ◌≤◌, List, ◌∷◌, ◌++◌, length, Bool, true, false, Option, Some, None, refl, ap, sym, ◌∙◌, subst, arith, length-append}
-use Rattle.std.specs.Prelude.{is_some, slice_index, ◌&&◌, nat_le, nat_lt}
-use Rattle.std.proofs.Math.ListN.{get_or-append}
-use Rattle.std.proofs.lemmas.Bool.Decides.{nat_tests}
+use Rattle.std.{proofs.{Common.{◌≡◌, ◌⊎◌, inl, inr, ℕ, ◌+◌, ◌-◌, ◌<◌, ◌≤◌, List, ◌∷◌, ◌++◌, length, Bool, true, false, Option, Some, None, refl, ap, sym, ◌∙◌, subst, arith, length-append}, Math.ListN.{get_or-append}, lemmas.Bool.Decides.{nat_tests}}, specs.Prelude.{is_some, slice_index, ◌&&◌, nat_le, nat_lt}}
 use Rattle.hc_text.proofs.Basics.{and_left, and_right, bool_cases, not_some as none_some, same_some as same_row, some_inj}
 use Rattle.hc_sparse.specs.Cells.{Cell}
 use Rattle.hc_effects.proofs.Vocabulary.{is_denied, Event, Limits, base_of, denial, Entry, History, Contents, base, front, Flaw, entry_of, answer_cell, direct_cell, cell_by, body_of, Tables, Exchange, Representation, IsOwed, Sound, tables, after_accepted, after_denied}
 use Rattle.hc_model.specs.Laws.{Grows, BodiesGrowInRuns}
-use Rattle.hc_laws.proofs.Barred.{next_tables, denied_tables}
-use Rattle.hc_effects.proofs.Basics.{false_true}
-use Rattle.hc_effects.proofs.ExchangeFrom.{IsSame, IsHeaded}
-use Rattle.hc_effects.proofs.Fills.{Brings, brings, length_same}
+use Rattle.hc_laws.proofs.{Barred.{next_tables, denied_tables}, SoundRuns.{runs_are_sound}}
+use Rattle.hc_effects.proofs.{Basics.{false_true}, ExchangeFrom.{IsSame, IsHeaded}, Fills.{Brings, brings, length_same}, FirstKeeps.{is_new}, OfEntries.{of_real}, RepFrom.{RepFrom, rep_from}, Stays.{bodies_are_kept}}
 use Rattle.hc_effects.proofs.Fills as fills_by
-use Rattle.hc_effects.proofs.FirstKeeps.{is_new}
 use Rattle.hc_effects.proofs.Forward as forward
-use Rattle.hc_effects.proofs.OfEntries.{of_real}
-use Rattle.hc_effects.proofs.RepFrom.{RepFrom, rep_from}
 use Rattle.hc_effects.proofs.RepFrom as rep
-use Rattle.hc_laws.proofs.SoundRuns.{runs_are_sound}
-use Rattle.hc_effects.proofs.Stays.{bodies_are_kept}
 
 -- AN ANSWER PAST THE STORE
 

@@ -1,13 +1,8 @@
 -- Whose an exchange is when its head comes, and so after each entry.
-use Rattle.std.proofs.Common.{◌≡◌, ◌⊎◌, inl, inr, ℕ, List, [], ◌∷◌, Bool, true, false, Option, Some, None, refl, ap, sym, ◌∙◌, subst, arith}
-use Rattle.std.specs.Prelude.{if◌then◌else◌, is_some, ◌==◌, ◌&&◌, ◌||◌, not, nat_eq, unwrap_or}
-use Rattle.std.proofs.lemmas.Bool.Decides.{nat_tests}
+use Rattle.std.{proofs.{Common.{◌≡◌, ◌⊎◌, inl, inr, ℕ, List, [], ◌∷◌, Bool, true, false, Option, Some, None, refl, ap, sym, ◌∙◌, subst, arith}, lemmas.Bool.Decides.{nat_tests}}, specs.Prelude.{if◌then◌else◌, is_some, ◌==◌, ◌&&◌, ◌||◌, not, nat_eq, unwrap_or}}
 use Rattle.hc_text.proofs.Basics.{both_true as and_both, and_left, and_right, bool_cases, not_some as none_some, never_true as not_so, not_true, number_not, or_left, or_right, same_some as same_row}
-use Rattle.hc_range.specs.declared.range.Asked.{Asked}
-use Rattle.hc_range.specs.declared.range.ContentRange.{ContentRange}
+use Rattle.hc_range.specs.{declared.range.{Asked.{Asked}, ContentRange.{ContentRange}, Span.{Span}}, Spans.{resolved_span}}
 use Rattle.hc_range.specs.declared.range.ContentRange.TheVariants as range
-use Rattle.hc_range.specs.declared.range.Span.{Span}
-use Rattle.hc_range.specs.Spans.{resolved_span}
 use Rattle.hc_effects.proofs.Vocabulary.{Opening, opening_in, Act, Event, Response, HeadCase, Limits, head_case, fits_to_found, fits_part, begins_at, route_of, content_range_of, range_of, wanted_of, wanted_part, BoundBy, loses_in, has_loss, case_at, head_view, is_founding, is_joining, is_updating, fits_asker, consumer_heard, consumer_acted, by_head, by_opening, own_after, left_to, waiting, due_after, place_by_case, becomes_shared, is_resumed, bound_to_wanted, is_number, row_of, denial, Entry, is_for, is_open, family, cause_of_head, cause_by_case, Flaw, founded_total, entry_of, Measures, Owners, is_written, reads, representation_heard, new_representation, resumes, updates, writer_at, with_renewed_head, representation_after_head, Tables, Exchange, Representation, Consumer, Sound, IsAbout, IsHad, starts_over, after_accepted, came_alone, status_in, loses_writing}
 use Rattle.hc_event.specs.declared.act.Act.TheVariants as act
 use Rattle.hc_event.specs.declared.event.Event.TheVariants as event
@@ -18,27 +13,12 @@ use Rattle.hc_event.specs.declared.place.Place.TheVariants as place
 use Rattle.hc_event.specs.declared.place.BoundBy.TheVariants as by
 use Rattle.hc_model.specs.ConsumerRows.{with_head}
 use Rattle.hc_model.specs.Sound as sound
-use Rattle.hc_effects.proofs.AboutKeeps.{own_open_is}
-use Rattle.hc_effects.proofs.ApartKeeps.{written_by}
-use Rattle.hc_effects.proofs.Basics.{false_true, or_false}
-use Rattle.hc_effects.proofs.Dues.{due_none}
-use Rattle.hc_effects.proofs.ExchangeFrom.{ExchangeFrom, IsSame, IsHeaded, exchange_from}
+use Rattle.hc_effects.proofs.{AboutKeeps.{own_open_is}, ApartKeeps.{written_by}, Basics.{false_true, or_false}, Dues.{due_none}, ExchangeFrom.{ExchangeFrom, IsSame, IsHeaded, exchange_from}, FirstKeeps.{case_is, is_new}, FoundBy.{FoundingBy, founding_by}, HadKeeps.{own_had, settled, bare_had, was_headed}, HasBound.{head_stands, stays_on, joins_place, awaiting_bound}, HeadKeeps.{is_join}, LossBy.{IsReal}, MeasuresKeep.{founder_not}, OwnersKeep.{is_opened}, RepFrom.{RepFrom, rep_from, IsKept}, Waiters.{IsWaiter, waiter_of, unwritten, waits_undue}}
 use Rattle.hc_effects.proofs.ExchangeFrom as exchange
-use Rattle.hc_effects.proofs.FirstKeeps.{case_is, is_new}
-use Rattle.hc_effects.proofs.FoundBy.{FoundingBy, founding_by}
 use Rattle.hc_effects.proofs.FoundBy as cases
 use Rattle.hc_effects.proofs.Forward as forward
-use Rattle.hc_effects.proofs.HadKeeps.{own_had, settled, bare_had, was_headed}
-use Rattle.hc_laws.proofs.HadNew.{new_had}
-use Rattle.hc_effects.proofs.HasBound.{head_stands, stays_on, joins_place, awaiting_bound}
-use Rattle.hc_effects.proofs.HeadKeeps.{is_join}
-use Rattle.hc_effects.proofs.LossBy.{IsReal}
-use Rattle.hc_effects.proofs.MeasuresKeep.{founder_not}
-use Rattle.hc_effects.proofs.OwnersKeep.{is_opened}
-use Rattle.hc_effects.proofs.RepFrom.{RepFrom, rep_from, IsKept}
+use Rattle.hc_laws.proofs.{HadNew.{new_had}, UndueKeeps.{founder_undue, no_cause}}
 use Rattle.hc_effects.proofs.RepFrom as rep
-use Rattle.hc_laws.proofs.UndueKeeps.{founder_undue, no_cause}
-use Rattle.hc_effects.proofs.Waiters.{IsWaiter, waiter_of, unwritten, waits_undue}
 
 -- where nothing is lost, r isn't
 pub lossless_none : (r : ℕ) (acts : List Act) → has_loss acts ≡ false → loses_in r acts ≡ false

@@ -1,18 +1,10 @@
 -- One key, one turn and the barrier of dooms in each run from contents by which a store may begin.
 use Rattle.std.proofs.Common.{◌≡◌, ℕ, [], ◌∷◌, Bool, true, false, refl, subst}
 use Rattle.hc_effects.proofs.Vocabulary.{is_denied, Limits, current, Entry, History, Contents, flaw_in, IsOfOneKey, may_begin, OfRuns, DeliversOnce, HasOneTurn, Turns, HasPassed, IsBarred, OfHistories, IsBoundBehindDooms, Tables, Consumer, IsRun, IsOwed, Sound, IsBound, tables, after_accepted, after_denied}
-use Rattle.hc_model.specs.Keys.{KeepsOthers}
-use Rattle.hc_model.specs.Laws.{DoomsInRuns, KeysInRuns}
+use Rattle.hc_model.specs.{Keys.{KeepsOthers}, Laws.{DoomsInRuns, KeysInRuns}}
 use Rattle.hc_model.specs.Sound as sound
-use Rattle.hc_laws.proofs.Barred.{next_tables, denied_tables, barrier_is_kept, barrier_begins, binds_behind}
-use Rattle.hc_laws.proofs.KeysPlaces.{keys_are_kept, keys_begin}
-use Rattle.hc_laws.proofs.OneKey.{law_of_one_key}
-use Rattle.hc_effects.proofs.Once.{delivers_once}
-use Rattle.hc_effects.proofs.Owed.{goes}
-use Rattle.hc_laws.proofs.SoundRuns.{runs_are_sound}
-use Rattle.hc_laws.proofs.Starts.{numbers_begin}
-use Rattle.hc_laws.proofs.TurnFacts.{IsTaken}
-use Rattle.hc_laws.proofs.TurnsKeep.{turns_are_kept, turns_begin, turns_are_one, same_entry}
+use Rattle.hc_laws.proofs.{Barred.{next_tables, denied_tables, barrier_is_kept, barrier_begins, binds_behind}, KeysPlaces.{keys_are_kept, keys_begin}, OneKey.{law_of_one_key}, SoundRuns.{runs_are_sound}, Starts.{numbers_begin}, TurnFacts.{IsTaken}, TurnsKeep.{turns_are_kept, turns_begin, turns_are_one, same_entry}}
+use Rattle.hc_effects.proofs.{Once.{delivers_once}, Owed.{goes}}
 
 -- what is of one key and who has the turn, of a run so far
 record Holds (contents : Contents) (h : History) : Type 0 where

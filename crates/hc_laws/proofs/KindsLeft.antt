@@ -1,16 +1,12 @@
 -- The kind of what is left is that of its runs.
-use Rattle.std.proofs.Common.{◌≡◌, inl, inr, ℕ, ◌+◌, ◌-◌, ◌<◌, ◌≤◌, Bool, true, refl, ap, sym, ◌∙◌, arith}
-use Rattle.std.specs.Prelude.{is_some, nat_lt, ◌==◌, ◌&&◌, if◌then◌else◌}
-use Rattle.std.proofs.lemmas.Bool.Decides.{nat_tests}
+use Rattle.std.{proofs.{Common.{◌≡◌, inl, inr, ℕ, ◌+◌, ◌-◌, ◌<◌, ◌≤◌, Bool, true, refl, ap, sym, ◌∙◌, arith}, lemmas.Bool.Decides.{nat_tests}}, specs.Prelude.{is_some, nat_lt, ◌==◌, ◌&&◌, if◌then◌else◌}}
 use Rattle.hc_text.proofs.Basics.{both_true as and_both, and_left, and_right, bool_cases, eq_is, eq_yes, same_test}
 use Rattle.hc_record.specs.declared.kind.Kind.{Kind}
 use Rattle.hc_record.specs.declared.kind.Kind.TheVariants as kind
 use Rattle.hc_sparse.specs.Cells.{Cells, Covers, EndsBy, size_below}
 use Rattle.hc_effects.proofs.Vocabulary.{kind_of_runs, same_kind, runs_from, covers, last_end, bytes_in}
-use Rattle.hc_effects.proofs.Basics.{false_true}
-use Rattle.hc_effects.proofs.HoleLemmas.{covers_all, covers_yes}
-use Rattle.hc_laws.proofs.Positions.{below_full, below_most, full_below, no_other_below}
-use Rattle.hc_laws.proofs.RunsFrom.{bytes_from, end_is}
+use Rattle.hc_effects.proofs.{Basics.{false_true}, HoleLemmas.{covers_all, covers_yes}}
+use Rattle.hc_laws.proofs.{Positions.{below_full, below_most, full_below, no_other_below}, RunsFrom.{bytes_from, end_is}}
 
 same_self : (k : Kind) → same_kind k k ≡ true
 same_self kind.Growing = refl

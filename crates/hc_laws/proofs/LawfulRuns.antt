@@ -1,14 +1,6 @@
 -- The tables of every run keep the laws.
 use Rattle.hc_effects.proofs.Vocabulary.{Lawful, OfRuns}
-use Rattle.hc_laws.proofs.AloneRuns.{alone_in_runs}
-use Rattle.hc_laws.proofs.GivenRuns.{given_in_runs}
-use Rattle.hc_laws.proofs.GrowingRuns.{growing_in_runs}
-use Rattle.hc_laws.proofs.InRuns.{one_key_in_runs}
-use Rattle.hc_laws.proofs.OrderRuns.{order_in_runs}
-use Rattle.hc_laws.proofs.PassedRuns.{passed_in_runs}
-use Rattle.hc_laws.proofs.PlaceRuns.{places_in_runs, endings_in_runs}
-use Rattle.hc_laws.proofs.SoundRuns.{owners_in_runs, runs_are_sound}
-use Rattle.hc_laws.proofs.WhoseRuns.{whose_in_runs}
+use Rattle.hc_laws.proofs.{AloneRuns.{alone_in_runs}, GivenRuns.{given_in_runs}, GrowingRuns.{growing_in_runs}, InRuns.{one_key_in_runs}, OrderRuns.{order_in_runs}, PassedRuns.{passed_in_runs}, PlaceRuns.{places_in_runs, endings_in_runs}, SoundRuns.{owners_in_runs, runs_are_sound}, WhoseRuns.{whose_in_runs}}
 
 pub lawful_in_runs : OfRuns Lawful
 lawful_in_runs limits contents h may run = record {

@@ -1,38 +1,16 @@
 -- A store may begin with what a run leaves.
-use Rattle.std.proofs.Common.{◌≡◌, ◌≢◌, inl, inr, ℕ, ◌+◌, ◌<◌, ◌≤◌, ◌^◌, List, [], ◌∷◌, length, Bool, true, false, Option, Some, None, refl, ap, sym, ◌∙◌, subst, arith}
-use Rattle.std.specs.Prelude.{is_some, nat_eq, nat_le, nat_lt, bytes_eq, ◌==◌, ◌&&◌, ◌||◌, not, filter, filter_map, reverse, option_map, if◌then◌else◌}
-use Rattle.std.specs.List.{list_any, sum_by}
-use Rattle.std.proofs.lemmas.Bool.Decides.{nat_tests}
-use Rattle.std.proofs.lemmas.List.Sums.{sum_by-cons}
+use Rattle.std.{proofs.{Common.{◌≡◌, ◌≢◌, inl, inr, ℕ, ◌+◌, ◌<◌, ◌≤◌, ◌^◌, List, [], ◌∷◌, length, Bool, true, false, Option, Some, None, refl, ap, sym, ◌∙◌, subst, arith}, lemmas.{Bool.Decides.{nat_tests}, List.Sums.{sum_by-cons}}}, specs.{Prelude.{is_some, nat_eq, nat_le, nat_lt, bytes_eq, ◌==◌, ◌&&◌, ◌||◌, not, filter, filter_map, reverse, option_map, if◌then◌else◌}, List.{list_any, sum_by}}}
 use Rattle.hc_text.proofs.Basics.{both_true as and_both, and_left, and_right, bool_cases, not_some as none_some, some_inj}
 use Rattle.hc_record.specs.declared.kind.Kind.TheVariants as kind
 use Rattle.hc_rules.proofs.RangeReads.{same_bytes}
 use Rattle.hc_effects.proofs.Vocabulary.{weight_of, Limits, may_begin, are_good, is_good, is_given_out, has_own_numbers, is_own_run, says, is_kind_right, same_kind, kind_of_runs, ascend_from, needs_tag, is_whole, has_right_head, weights_of, runs_from, content_of, content_at, idle_now, contents_of, is_current, Content, Contents, family, covers, kind_of, brings_to, is_complete, covers_all, is_front, IsInLimits, AreOnce, HasByte, Origins, bound, is_written, Tables, Exchange, Representation, Sizes, Sound, Among, IsStored, StoredHeads, AreWithinLimits, IsOfOne, Tags, tables, bytes_in, last_end, KeysAreTargets}
-use Rattle.hc_sparse.specs.Cells.{Covers}
-use Rattle.hc_sparse.specs.declared.run.Run.{Run}
-use Rattle.hc_model.specs.Contents.{is_idle}
-use Rattle.hc_model.specs.Laws.{LeavesInRuns}
+use Rattle.hc_sparse.specs.{Cells.{Covers}, declared.run.Run.{Run}}
+use Rattle.hc_model.specs.{Contents.{is_idle}, Laws.{LeavesInRuns}}
 use Rattle.hc_model.specs.Origins as origins
 use Rattle.hc_model.specs.Sound as sound
 use Rattle.hc_model.specs.StoredHeads as heads
-use Rattle.hc_effects.proofs.Basics.{false_true}
-use Rattle.hc_laws.proofs.FitsKept.{Fits}
-use Rattle.hc_effects.proofs.HoleLemmas.{covers_yes}
-use Rattle.hc_laws.proofs.KindsLeft.{kind_by, kind_right, count_is, last_is}
-use Rattle.hc_laws.proofs.OriginRuns.{origins_in_runs}
-use Rattle.hc_effects.proofs.ExclusiveWriters.{none_about}
-use Rattle.hc_effects.proofs.PieceKeeps.{eq_cases}
-use Rattle.hc_effects.proofs.PollKeeps.{current_stays}
-use Rattle.hc_laws.proofs.RunsFrom.{HasCell, is_of, of_cell, all_of, ascends}
-use Rattle.hc_laws.proofs.SizesKeep.{sized_runs}
-use Rattle.hc_laws.proofs.SoundRuns.{IsCarried, carried}
-use Rattle.hc_laws.proofs.StoredHeadsKeep.{heads_in_runs, within_limits_in_runs}
-use Rattle.hc_laws.proofs.TargetRuns.{keys_stay_targets}
-use Rattle.hc_effects.proofs.Sums.{sum_le, sum_some, is_in, among_of, filter_among, filter_once, reverse_among, reverse_once}
-use Rattle.hc_laws.proofs.TagRuns.{tags_in_runs}
-use Rattle.hc_laws.proofs.Unknowns.{Unknown}
-use Rattle.hc_laws.proofs.WaitsInRuns.{unknown_in_runs}
-use Rattle.hc_effects.proofs.Weighed.{held, total, held_is}
+use Rattle.hc_effects.proofs.{Basics.{false_true}, HoleLemmas.{covers_yes}, ExclusiveWriters.{none_about}, PieceKeeps.{eq_cases}, PollKeeps.{current_stays}, Sums.{sum_le, sum_some, is_in, among_of, filter_among, filter_once, reverse_among, reverse_once}, Weighed.{held, total, held_is}}
+use Rattle.hc_laws.proofs.{FitsKept.{Fits}, KindsLeft.{kind_by, kind_right, count_is, last_is}, OriginRuns.{origins_in_runs}, RunsFrom.{HasCell, is_of, of_cell, all_of, ascends}, SizesKeep.{sized_runs}, SoundRuns.{IsCarried, carried}, StoredHeadsKeep.{heads_in_runs, within_limits_in_runs}, TargetRuns.{keys_stay_targets}, TagRuns.{tags_in_runs}, Unknowns.{Unknown}, WaitsInRuns.{unknown_in_runs}}
 use Rattle.hc_effects.proofs.Weighed as weighed
 
 not_by : (b : Bool) → b ≡ false → not b ≡ true

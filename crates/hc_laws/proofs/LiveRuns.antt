@@ -1,7 +1,5 @@
 -- Who is over stays so. So no more are live than may start, in every run.
-use Rattle.std.proofs.Common.{◌≡◌, inl, inr, ℕ, ◌+◌, ◌<◌, ◌≤◌, List, [], ◌∷◌, length, Bool, true, false, Option, Some, None, refl, ap, sym, ◌∙◌, arith}
-use Rattle.std.specs.Prelude.{filter, nat_eq, nat_lt, nat_le, is_none, ◌||◌, ◌&&◌, not, if◌then◌else◌}
-use Rattle.std.proofs.lemmas.Bool.Decides.{nat_tests}
+use Rattle.std.{proofs.{Common.{◌≡◌, inl, inr, ℕ, ◌+◌, ◌<◌, ◌≤◌, List, [], ◌∷◌, length, Bool, true, false, Option, Some, None, refl, ap, sym, ◌∙◌, arith}, lemmas.Bool.Decides.{nat_tests}}, specs.Prelude.{filter, nat_eq, nat_lt, nat_le, is_none, ◌||◌, ◌&&◌, not, if◌then◌else◌}}
 use Rattle.hc_text.proofs.Basics.{bool_cases, not_some as none_some, never_true as not_so, and_off as right_off}
 use Rattle.hc_event.specs.declared.act.Refusal.TheVariants as refusal
 use Rattle.hc_effects.proofs.Vocabulary.{Event, Request, Response, Limits, Place, has_loss, case_at, case_of, consumer_heard, consumer_made, consumer_after, by_fault, back_in_line, denial, is_live, is_live_place, live, doomed_key_of, is_key, Entry, is_for, Flaw, is_event_for, beside, StartsOverBy, entry_of, OfRuns, OfRunsIn, Descends, Owners, IsAwaiting, Tables, Exchange, Consumer, Sound, starts_over, waits_at, sends_back, loses_what_it_waits_for, after_accepted, starts_after}
@@ -11,14 +9,8 @@ use Rattle.hc_event.specs.declared.place.Place.TheVariants as place
 use Rattle.hc_model.specs.Frames as frames
 use Rattle.hc_model.specs.Live.{FewLive}
 use Rattle.hc_model.specs.Owners as owners
-use Rattle.hc_effects.proofs.Basics.{false_true, true_false, some_none}
-use Rattle.hc_effects.proofs.EventsKeep.{poll_live}
-use Rattle.hc_effects.proofs.FirstKeeps.{is_new}
-use Rattle.hc_effects.proofs.NumbersKeep.{starts_later}
-use Rattle.hc_laws.proofs.OrderRuns.{starts_on}
-use Rattle.hc_laws.proofs.RunFacts.{in_runs}
-use Rattle.hc_effects.proofs.Standing.{far_by, after_heard, standers_stay, starting_over_is_caused}
-use Rattle.hc_effects.proofs.Waiters.{waiter_as, fault_open_of}
+use Rattle.hc_effects.proofs.{Basics.{false_true, true_false, some_none}, EventsKeep.{poll_live}, FirstKeeps.{is_new}, NumbersKeep.{starts_later}, Standing.{far_by, after_heard, standers_stay, starting_over_is_caused}, Waiters.{waiter_as, fault_open_of}}
+use Rattle.hc_laws.proofs.{OrderRuns.{starts_on}, RunFacts.{in_runs}}
 
 -- NO MORE OF A LIST
 

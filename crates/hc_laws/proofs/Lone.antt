@@ -1,40 +1,18 @@
 -- Beside who came alone others are bound only where that has neither an open exchange of its own nor a hole ahead: at each entry.
-use Rattle.std.proofs.Common.{◌≡◌, ◌⊎◌, inl, inr, ℕ, ◌<◌, Bool, true, false, Option, Some, None, refl, ap, sym, ◌∙◌, subst, arith}
-use Rattle.std.specs.Prelude.{is_some, is_none, ◌&&◌, ◌||◌}
+use Rattle.std.{proofs.Common.{◌≡◌, ◌⊎◌, inl, inr, ℕ, ◌<◌, Bool, true, false, Option, Some, None, refl, ap, sym, ◌∙◌, subst, arith}, specs.Prelude.{is_some, is_none, ◌&&◌, ◌||◌}}
 use Rattle.hc_text.proofs.Basics.{all_three, and_left, and_right, bool_cases, not_some as none_some, or_off_right as or_right, same_some as same_row, some_inj}
 use Rattle.hc_effects.proofs.Vocabulary.{Opening, opening_in, Event, Response, route_of, Limits, BoundBy, loses_in, Showing, showing_in, consumer_heard, consumer_acted, by_opening, waiting, current, denial, Entry, is_open, aim_from, becomes_due, Flaw, entry_of, Measures, Owners, move_of, is_written, own_open, offset, hi_of, bound_to, reads, Tables, Exchange, Representation, Consumer, Sound, IsBound, IsFirst, after_accepted, came_alone, may_write, has_more, lacks_some, exclusive, brings_body}
 use Rattle.hc_event.specs.declared.event.Event.TheVariants as event
 use Rattle.hc_rules.specs.declared.need.Route.TheVariants as route
 use Rattle.hc_event.specs.declared.place.Place.TheVariants as place
 use Rattle.hc_model.specs.Sound as sound
-use Rattle.hc_effects.proofs.AboutKeeps.{own_open_of, own_open_is}
-use Rattle.hc_effects.proofs.ApartKeeps.{written_by}
-use Rattle.hc_effects.proofs.Basics.{false_true, or_false}
-use Rattle.hc_effects.proofs.BoundFrom.{BoundFrom, IsRow, IsShown, bound_from, place_inj}
+use Rattle.hc_effects.proofs.{AboutKeeps.{own_open_of, own_open_is}, ApartKeeps.{written_by}, Basics.{false_true, or_false}, BoundFrom.{BoundFrom, IsRow, IsShown, bound_from, place_inj}, BoundKeeps.{shown_place_is}, Dues.{due_before}, ExchangeFrom.{ExchangeFrom, exchange_from}, FirstKeeps.{is_new, is_opener, came_kept, open_free}, LossBy.{IsReal}, Losses.{HasRest, exclusive_is, no_more, or_end}, OpensFrom.{hole_is, opens_hole}, OwnFrom.{OwnFrom, own_from}, OwnersKeep.{is_opened}, ExclusiveWriters.{IsAtHole, bound_some, shares_source, writer_some}, PollTree.{OpensHole}, RepFrom.{RepFrom, rep_from, IsKept, IsResumed}, Said.{IsShowing, showing_by}, ServedKeeps.{rest_by, still_rests, resumed_not}, ShownFrom.{shown_from}, Stops.{writer_about}, ToBeShown.{heard_place}, WriterEnds.{all_stored}}
 use Rattle.hc_effects.proofs.BoundFrom as from
-use Rattle.hc_effects.proofs.BoundKeeps.{shown_place_is}
-use Rattle.hc_effects.proofs.Dues.{due_before}
-use Rattle.hc_effects.proofs.ExchangeFrom.{ExchangeFrom, exchange_from}
 use Rattle.hc_effects.proofs.ExchangeFrom as exchange
-use Rattle.hc_effects.proofs.FirstKeeps.{is_new, is_opener, came_kept, open_free}
-use Rattle.hc_effects.proofs.LossBy.{IsReal}
-use Rattle.hc_effects.proofs.Losses.{HasRest, exclusive_is, no_more, or_end}
 use Rattle.hc_effects.proofs.OpenedAs as opened
-use Rattle.hc_effects.proofs.OpensFrom.{hole_is, opens_hole}
-use Rattle.hc_effects.proofs.OwnFrom.{OwnFrom, own_from}
 use Rattle.hc_effects.proofs.OwnFrom as own
-use Rattle.hc_effects.proofs.OwnersKeep.{is_opened}
-use Rattle.hc_effects.proofs.ExclusiveWriters.{IsAtHole, bound_some, shares_source, writer_some}
-use Rattle.hc_effects.proofs.PollTree.{OpensHole}
 use Rattle.hc_effects.proofs.PollTree as tree
-use Rattle.hc_effects.proofs.RepFrom.{RepFrom, rep_from, IsKept, IsResumed}
 use Rattle.hc_effects.proofs.RepFrom as rep
-use Rattle.hc_effects.proofs.Said.{IsShowing, showing_by}
-use Rattle.hc_effects.proofs.ServedKeeps.{rest_by, still_rests, resumed_not}
-use Rattle.hc_effects.proofs.ShownFrom.{shown_from}
-use Rattle.hc_effects.proofs.Stops.{writer_about}
-use Rattle.hc_effects.proofs.ToBeShown.{heard_place}
-use Rattle.hc_effects.proofs.WriterEnds.{all_stored}
 
 -- it reads what is stored, and nothing comes for it
 pub record IsResting (t : Tables) (v : Representation) (k : Consumer) : Type 0 where

@@ -1,24 +1,13 @@
 -- What is held for the detached reader came of its own exchange, in every run.
-use Rattle.std.proofs.Common.{◌≡◌, ◌⊎◌, inl, inr, ℕ, zero, suc, ◌+◌, ◌-◌, ◌≤◌, ◌<◌, List, [], ◌∷◌, length, take, drop, Bool, true, false, Option, Some, None, refl, ap, sym, ◌∙◌, subst, arith}
-use Rattle.std.specs.Prelude.{◌==◌, is_some, slice_index, min, nat_eq, nat_lt}
-use Rattle.std.proofs.Math.ListN.{drop_of_length-le}
-use Rattle.std.proofs.Math.Seq.{drop-cons}
-use Rattle.std.proofs.lemmas.List.{length-drop, length-take, take_all}
-use Rattle.std.proofs.lemmas.Bool.Decides.{nat_tests}
+use Rattle.std.{proofs.{Common.{◌≡◌, ◌⊎◌, inl, inr, ℕ, zero, suc, ◌+◌, ◌-◌, ◌≤◌, ◌<◌, List, [], ◌∷◌, length, take, drop, Bool, true, false, Option, Some, None, refl, ap, sym, ◌∙◌, subst, arith}, Math.{ListN.{drop_of_length-le}, Seq.{drop-cons}}, lemmas.{List.{length-drop, length-take, take_all}, Bool.Decides.{nat_tests}}}, specs.Prelude.{◌==◌, is_some, slice_index, min, nat_eq, nat_lt}}
 use Rattle.hc_text.proofs.Basics.{bool_cases, not_some as none_some, same_some as same_row, some_inj}
-use Rattle.hc_sparse.specs.Cells.{Cell, Cells, Covers}
-use Rattle.hc_sparse.specs.Stretch.{bytes_from, goes_on, stretch, stretch_of}
+use Rattle.hc_sparse.specs.{Cells.{Cell, Cells, Covers}, Stretch.{bytes_from, goes_on, stretch, stretch_of}}
 use Rattle.hc_effects.proofs.Vocabulary.{is_denied, Response, Limits, BoundBy, is_number, Entry, Contents, base, front, flaw_in, OfRuns, Brings, HoldsOwn, cell_from, offset, Tables, Exchange, Representation, Consumer, IsOwed, Sound, IsBound, run_held_for, held_at, held_of_lost, run_of, tables, first_tables, after, after_accepted, after_denied}
 use Rattle.hc_event.specs.declared.place.Place.TheVariants as place
 use Rattle.hc_model.specs.Losses.{Losses, IsHeldFrom}
 use Rattle.hc_model.specs.Sound as sound
-use Rattle.hc_effects.proofs.Basics.{false_true}
-use Rattle.hc_laws.proofs.BringsRuns.{brings_in_runs}
-use Rattle.hc_laws.proofs.DueAhead.{IsAhead, AreAhead, ahead_kept}
-use Rattle.hc_effects.proofs.OfEntries.{of_real}
-use Rattle.hc_effects.proofs.ExclusiveWriters.{eq-refl}
-use Rattle.hc_laws.proofs.SoundRuns.{IsCarried, carried}
-use Rattle.hc_laws.proofs.Tails.{AreTails, IsTail, tails_kept}
+use Rattle.hc_effects.proofs.{Basics.{false_true}, OfEntries.{of_real}, ExclusiveWriters.{eq-refl}}
+use Rattle.hc_laws.proofs.{BringsRuns.{brings_in_runs}, DueAhead.{IsAhead, AreAhead, ahead_kept}, SoundRuns.{IsCarried, carried}, Tails.{AreTails, IsTail, tails_kept}}
 
 -- OVER A RUN
 

@@ -1,12 +1,8 @@
 -- What a store may begin with is measured: what came of a body ends at its reach, within its length.
-use Rattle.std.proofs.Common.{◌≡◌, ◌⊎◌, inl, inr, ℕ, ◌+◌, ◌<◌, ◌≤◌, List, [], ◌∷◌, length, Bool, true, Option, Some, None, refl, ap, sym, ◌∙◌, arith, max}
-use Rattle.std.specs.Prelude.{is_some, find, nat_lt, nat_le, option_map, ◌==◌}
-use Rattle.std.proofs.lemmas.Bool.Decides.{nat_tests}
+use Rattle.std.{proofs.{Common.{◌≡◌, ◌⊎◌, inl, inr, ℕ, ◌+◌, ◌<◌, ◌≤◌, List, [], ◌∷◌, length, Bool, true, Option, Some, None, refl, ap, sym, ◌∙◌, arith, max}, lemmas.Bool.Decides.{nat_tests}}, specs.Prelude.{is_some, find, nat_lt, nat_le, option_map, ◌==◌}}
 use Rattle.hc_text.proofs.Basics.{and_left, and_right, bool_cases, not_some as none_some, some_inj}
 use Rattle.hc_sparse.proofs.CellLemmas.{inside-cases}
-use Rattle.hc_sparse.specs.Cells.{cells_with, Cells}
-use Rattle.hc_sparse.specs.Runs.{cells_of, end_of}
-use Rattle.hc_sparse.specs.declared.run.Run.{Run}
+use Rattle.hc_sparse.specs.{Cells.{cells_with, Cells}, Runs.{cells_of, end_of}, declared.run.Run.{Run}}
 use Rattle.hc_effects.proofs.Vocabulary.{Limits, may_begin, are_good, is_good, ascend_from, is_kind_right, Content, Contents, Measures, Representation, first_tables, representation_of_content, last_end}
 use Rattle.hc_effects.proofs.PieceKeeps.{eq_cases}
 

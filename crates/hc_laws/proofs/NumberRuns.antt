@@ -1,27 +1,16 @@
 -- How large numbers become, in every run from contents whose lengths heads can tell.
-use Rattle.std.proofs.Common.{◌≡◌, ◌<◌, ◌≤◌, ◌⊎◌, inl, inr, ℕ, ◌+◌, ◌^◌, List, [], ◌∷◌, length, length-append, Bool, true, false, Option, Some, None, refl, ap, sym, ◌∙◌, subst, arith}
-use Rattle.std.specs.Prelude.{max, option_map}
-use Rattle.std.specs.Option.{option_or}
+use Rattle.std.{proofs.Common.{◌≡◌, ◌<◌, ◌≤◌, ◌⊎◌, inl, inr, ℕ, ◌+◌, ◌^◌, List, [], ◌∷◌, length, length-append, Bool, true, false, Option, Some, None, refl, ap, sym, ◌∙◌, subst, arith}, specs.{Prelude.{max, option_map}, Option.{option_or}}}
 use Rattle.hc_text.proofs.Basics.{not_some as none_some, some_inj}
 use Rattle.hc_effects.proofs.Vocabulary.{is_denied, Event, base_of, Limits, BoundBy, may_begin, is_kind_right, Entry, History, Content, Contents, base, promised_bytes, front, item_of, Measures, Numbers, AreShort, Places, length_in, Tables, Exchange, Representation, Consumer, IsRun, Sound, tables, after_accepted, first_tables, representation_of_content}
 use Rattle.hc_event.specs.declared.event.Event.TheVariants as event
 use Rattle.hc_event.specs.declared.place.Place.TheVariants as place
 use Rattle.hc_model.specs.Numbers.{NumbersInRuns, most, too_long}
 use Rattle.hc_model.specs.Sound as sound
-use Rattle.hc_laws.proofs.Barred.{next_tables, denied_tables}
-use Rattle.hc_effects.proofs.Basics.{false_true, some_row}
-use Rattle.hc_effects.proofs.Bounded.{IsBounded}
+use Rattle.hc_laws.proofs.{Barred.{next_tables, denied_tables}, MeasuresBegin.{measures_begin, known_item}, PlaceRuns.{places_in_runs}, ReadEnds.{bounded, no_base}, SoundRuns.{carried}}
+use Rattle.hc_effects.proofs.{Basics.{false_true, some_row}, Bounded.{IsBounded}, Fills.{Fills, fills, Brings, brings, length_same}, Forward.{is_on}, RepFrom.{RepFrom, rep_from}, ToldNumbers.{promise_early, founded_early}}
 use Rattle.hc_effects.proofs.ExchangeFrom as exchange
-use Rattle.hc_effects.proofs.Fills.{Fills, fills, Brings, brings, length_same}
 use Rattle.hc_effects.proofs.Fills as fills_by
-use Rattle.hc_effects.proofs.Forward.{is_on}
-use Rattle.hc_laws.proofs.MeasuresBegin.{measures_begin, known_item}
-use Rattle.hc_laws.proofs.PlaceRuns.{places_in_runs}
-use Rattle.hc_laws.proofs.ReadEnds.{bounded, no_base}
-use Rattle.hc_effects.proofs.RepFrom.{RepFrom, rep_from}
 use Rattle.hc_effects.proofs.RepFrom as rep
-use Rattle.hc_laws.proofs.SoundRuns.{carried}
-use Rattle.hc_effects.proofs.ToldNumbers.{promise_early, founded_early}
 
 -- OF ONE STATE
 

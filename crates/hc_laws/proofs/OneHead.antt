@@ -1,12 +1,8 @@
 -- Over a whole run, a consumer is shown one head at most, and given nothing before that.
-use Rattle.std.proofs.Common.{◌≡◌, ℕ, ◌≤◌, List, [], ◌∷◌, ◌++◌, length, Bool, true, false, Option, Some, None, refl, ap, sym, ◌∙◌, subst, arith, length-append}
-use Rattle.std.specs.Prelude.{not, is_none}
-use Rattle.std.specs.Option.{option_map_or}
+use Rattle.std.{proofs.Common.{◌≡◌, ℕ, ◌≤◌, List, [], ◌∷◌, ◌++◌, length, Bool, true, false, Option, Some, None, refl, ap, sym, ◌∙◌, subst, arith, length-append}, specs.{Prelude.{not, is_none}, Option.{option_map_or}}}
 use Rattle.hc_effects.proofs.Vocabulary.{is_denied, given_in, Limits, Entry, History, Contents, flaw_in, Shown, first, shown_in, shown_of, given_of, Tables, Consumer, IsRun, IsOwed, tables}
 use Rattle.hc_model.specs.Reads.{OneHeadIsShown}
-use Rattle.hc_effects.proofs.Owed.{acts_are, denied_gives, denied_shows}
-use Rattle.hc_effects.proofs.ReadFilters.{consumers_are_filtered, far_owed}
-use Rattle.hc_effects.proofs.ShownOnce.{IsShownWell, by_event, no_first, unshown_of}
+use Rattle.hc_effects.proofs.{Owed.{acts_are, denied_gives, denied_shows}, ReadFilters.{consumers_are_filtered, far_owed}, ShownOnce.{IsShownWell, by_event, no_first, unshown_of}}
 
 -- what holds of the list so far
 record IsWell (shown : List Shown) (given : List ℕ) : Type 0 where

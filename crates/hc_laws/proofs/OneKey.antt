@@ -1,17 +1,12 @@
 -- The law of one key: an entry of a run changes what is said of its own key, and else only how much is idle.
-use Rattle.std.proofs.Common.{◌≡◌, Bool, ℕ, length, true, false, Option, Some, None, refl, ap, sym, ◌∙◌}
-use Rattle.std.specs.Prelude.{if◌then◌else◌, ◌==◌, ◌&&◌}
-use Rattle.std.specs.Option.{option_map}
+use Rattle.std.{proofs.Common.{◌≡◌, Bool, ℕ, length, true, false, Option, Some, None, refl, ap, sym, ◌∙◌}, specs.{Prelude.{if◌then◌else◌, ◌==◌, ◌&&◌}, Option.{option_map}}}
 use Rattle.hc_text.proofs.Basics.{not_some as none_some, some_inj}
 use Rattle.hc_effects.proofs.Vocabulary.{Opening, opening_in, evicts_in, is_denied, Event, Response, head_refusal, piece_refusal, end_refusal, fault_refusal, Limits, denial, as_open, Entry, exchange_in, flaw_in, key_of, is_of_key, ExchangeKeys, ConsumerKeys, exchange_after, exchange_made, exchange_opened, consumer_after, consumer_made, new_consumer, case_at, is_founding, new_representation, founded_at, representation_after, Tables, Exchange, Representation, Consumer, IsOwed, may_stand, may_be}
 use Rattle.hc_event.specs.declared.event.Event.TheVariants as event
 use Rattle.hc_rules.specs.Refusals as refusals
 use Rattle.hc_model.specs.Keys.{concerns_exchange, concerns_representation, concerns_consumer, IsEvicted, LawOfOneKey}
 use Rattle.hc_effects.proofs.KeyActs as acts
-use Rattle.hc_effects.proofs.KeyNames.{IsOther}
-use Rattle.hc_effects.proofs.KeyRows.{IsFarEntry, exchange_stays, representation_row, consumer_row}
-use Rattle.hc_effects.proofs.Once.{never}
-use Rattle.hc_effects.proofs.Owed.{acts_are, goes}
+use Rattle.hc_effects.proofs.{KeyNames.{IsOther}, KeyRows.{IsFarEntry, exchange_stays, representation_row, consumer_row}, Once.{never}, Owed.{acts_are, goes}}
 
 -- an accepted event of an exchange is of one that is there
 came : (o : Option Exchange) → (o ≡ None → ⊥) → (w : Exchange) × (o ≡ Some w)

@@ -1,14 +1,10 @@
 -- What an entry opens is asked for by the key of its consumer's start, in every run.
-use Rattle.std.proofs.Common.{◌≡◌, [], ◌∷◌, Bool, true, false, Some, refl, ap, sym, ◌∙◌}
-use Rattle.std.specs.Option.{option_map}
+use Rattle.std.{proofs.Common.{◌≡◌, [], ◌∷◌, Bool, true, false, Some, refl, ap, sym, ◌∙◌}, specs.Option.{option_map}}
 use Rattle.hc_text.proofs.Basics.{not_some as none_some}
 use Rattle.hc_effects.proofs.Vocabulary.{Opening, opening_in, is_denied, Limits, may_begin, Entry, History, Contents, OfHistories, Consumer, IsRun, IsOwed, tables}
 use Rattle.hc_model.specs.Keys.{IsOfItsStart, OpensForKey}
-use Rattle.hc_laws.proofs.InRuns.{turned_in_runs}
+use Rattle.hc_laws.proofs.{InRuns.{turned_in_runs}, RepresentationFilters.{runs_are_filtered}, SoundRuns.{runs_are_sound}, TurnOpens.{opened_at}}
 use Rattle.hc_effects.proofs.Owed.{denied_opens}
-use Rattle.hc_laws.proofs.RepresentationFilters.{runs_are_filtered}
-use Rattle.hc_laws.proofs.SoundRuns.{runs_are_sound}
-use Rattle.hc_laws.proofs.TurnOpens.{opened_at}
 
 by_denial : (limits : Limits) (contents : Contents) (h : History) (e : Entry) (b : Bool) → is_denied e.acts ≡ b → may_begin limits contents ≡ true → IsRun limits contents h → IsOwed limits (tables contents h) e → (o : Opening) → opening_in e.acts ≡ Some o → IsOfItsStart h o
 by_denial limits contents h e true denied may run owed o is = absurd (none_some o (sym (denied_opens e.acts denied) ∙ is))

@@ -4,24 +4,15 @@
 -- A member of such a writing has no other of its own, since one at most is open about what it reads. So from each live
 -- consumer goes one exchange at most, and all open ones are among these. Their numbers fall, so each stands once: and what
 -- falls is no longer than a list that has each of it.
-use Rattle.std.proofs.Common.{◌≡◌, ◌⊎◌, inl, inr, ℕ, suc, ◌+◌, ◌<◌, ◌≤◌, List, [], ◌∷◌, length, map, Bool, true, Option, Some, None, refl, ap, sym, ◌∙◌, arith}
-use Rattle.std.specs.Prelude.{filter, is_some, if◌then◌else◌, ◌==◌, unwrap_or}
-use Rattle.std.specs.Option.{option_or}
+use Rattle.std.{proofs.Common.{◌≡◌, ◌⊎◌, inl, inr, ℕ, suc, ◌+◌, ◌<◌, ◌≤◌, List, [], ◌∷◌, length, map, Bool, true, Option, Some, None, refl, ap, sym, ◌∙◌, arith}, specs.{Prelude.{filter, is_some, if◌then◌else◌, ◌==◌, unwrap_or}, Option.{option_or}}}
 use Rattle.hc_text.proofs.Basics.{bool_cases, map_long, same_some as same_row}
 use Rattle.hc_effects.proofs.Vocabulary.{Place, live, is_live, is_live_place, family, is_open, OfRuns, open_now, Descends, InOrder, is_written, bound, own_open, shared_exchange, source, Tables, Exchange, Representation, Consumer, Sound, Among, IsBound, IsAbout, tables, Whose, IsSomebodys, may_own}
 use Rattle.hc_event.specs.declared.place.Place.TheVariants as place
 use Rattle.hc_model.specs.Live.{IsReader, FewOpen}
 use Rattle.hc_model.specs.Sound as sound
 use Rattle.hc_model.specs.Whose as whose
-use Rattle.hc_effects.proofs.AboutKeeps.{own_open_is}
-use Rattle.hc_effects.proofs.Basics.{false_true}
-use Rattle.hc_effects.proofs.Closed.{among_filter}
-use Rattle.hc_effects.proofs.HasBound.{among_passes, some_among, reader_of}
-use Rattle.hc_laws.proofs.OrderRuns.{order_in_runs}
-use Rattle.hc_effects.proofs.PieceKeeps.{eq_cases}
-use Rattle.hc_effects.proofs.OfConsumers.{all_below}
-use Rattle.hc_laws.proofs.SoundRuns.{runs_are_sound}
-use Rattle.hc_laws.proofs.WhoseRuns.{whose_in_runs}
+use Rattle.hc_effects.proofs.{AboutKeeps.{own_open_is}, Basics.{false_true}, Closed.{among_filter}, HasBound.{among_passes, some_among, reader_of}, PieceKeeps.{eq_cases}, OfConsumers.{all_below}}
+use Rattle.hc_laws.proofs.{OrderRuns.{order_in_runs}, SoundRuns.{runs_are_sound}, WhoseRuns.{whose_in_runs}}
 
 -- WHO READS FROM IT
 

@@ -2,9 +2,8 @@
 use Rattle.std.proofs.Common.{◌≡◌, ℕ, ◌+◌, ◌<◌, ◌≤◌, List, [], ◌∷◌, Option, Some, None, refl, arith}
 use Rattle.hc_effects.proofs.Vocabulary.{Opening, opening_in, Event, Limits, denial, Flaw, entry_of, OfRuns, OfRunsIn, Descends, InOrder, Tables, Sound, after_accepted, last_start_after, starts_after, opened_after, openings_after}
 use Rattle.hc_event.specs.declared.event.Event.TheVariants as event
-use Rattle.hc_laws.proofs.FitsRuns.{fits}
+use Rattle.hc_laws.proofs.{FitsRuns.{fits}, RunFacts.{in_runs}}
 use Rattle.hc_effects.proofs.NumbersKeep.{opens_next, starts_later}
-use Rattle.hc_laws.proofs.RunFacts.{in_runs}
 
 -- what only rises along a run
 record Ascends (limits : Limits) (t : Tables) : Type 0 where

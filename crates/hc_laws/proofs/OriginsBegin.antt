@@ -1,17 +1,11 @@
 -- With what a store may begin, a number names the bytes of one body alone.
-use Rattle.std.proofs.Common.{◌≡◌, inl, inr, ℕ, ◌-◌, ◌<◌, ◌≤◌, List, [], ◌∷◌, length, Bool, true, false, Option, Some, None, refl, ap, sym, ◌∙◌, arith}
-use Rattle.std.specs.Prelude.{is_some, find, nat_eq, nat_lt, option_map, ◌==◌, ◌&&◌}
-use Rattle.std.specs.List.{list_any, list_all}
-use Rattle.std.proofs.lemmas.Bool.Decides.{nat_tests}
+use Rattle.std.{proofs.{Common.{◌≡◌, inl, inr, ℕ, ◌-◌, ◌<◌, ◌≤◌, List, [], ◌∷◌, length, Bool, true, false, Option, Some, None, refl, ap, sym, ◌∙◌, arith}, lemmas.Bool.Decides.{nat_tests}}, specs.{Prelude.{is_some, find, nat_eq, nat_lt, option_map, ◌==◌, ◌&&◌}, List.{list_any, list_all}}}
 use Rattle.hc_text.proofs.Basics.{and_left, and_right, bool_cases, not_some as none_some, not_true, or_right, some_inj}
 use Rattle.hc_effects.proofs.Vocabulary.{Limits, may_begin, are_good, is_good, is_given_out, is_own_run, says, Content, Contents, HasByte, Origins, Representation, first_tables, representation_of_content}
 use Rattle.hc_sparse.proofs.CellLemmas.{inside-cases}
-use Rattle.hc_sparse.specs.Cells.{Cell}
-use Rattle.hc_sparse.specs.Runs.{cells_of}
-use Rattle.hc_sparse.specs.declared.run.Run.{Run}
+use Rattle.hc_sparse.specs.{Cells.{Cell}, Runs.{cells_of}, declared.run.Run.{Run}}
 use Rattle.hc_model.specs.Origins as origins
-use Rattle.hc_effects.proofs.Basics.{false_true, or_false}
-use Rattle.hc_effects.proofs.PieceKeeps.{eq_cases}
+use Rattle.hc_effects.proofs.{Basics.{false_true, or_false}, PieceKeeps.{eq_cases}}
 use Rattle.hc_laws.proofs.Starts.{numbers_begin}
 
 abbrev pub of_number : ℕ → Content → Bool

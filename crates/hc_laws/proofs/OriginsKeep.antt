@@ -1,22 +1,13 @@
 -- A number goes on naming the bytes of one body alone.
-use Rattle.std.proofs.Common.{◌≡◌, ◌⊎◌, inl, inr, ℕ, ◌+◌, ◌<◌, ◌≤◌, List, length, true, Option, Some, None, refl, ap, sym, ◌∙◌, arith}
-use Rattle.std.specs.Prelude.{is_some, nat_lt, unwrap_or}
-use Rattle.std.proofs.lemmas.Bool.Decides.{nat_tests}
+use Rattle.std.{proofs.{Common.{◌≡◌, ◌⊎◌, inl, inr, ℕ, ◌+◌, ◌<◌, ◌≤◌, List, length, true, Option, Some, None, refl, ap, sym, ◌∙◌, arith}, lemmas.Bool.Decides.{nat_tests}}, specs.Prelude.{is_some, nat_lt, unwrap_or}}
 use Rattle.hc_text.proofs.Basics.{bool_cases, not_some as none_some, same_some as same_row, some_inj}
 use Rattle.hc_effects.proofs.Vocabulary.{Opening, opening_in, Event, Limits, denial, Entry, family, front, Flaw, entry_of, Measures, HasByte, MayDeliver, Origins, Owners, Tables, Exchange, Representation, Sound, after_accepted, after_denied, opened_after}
 use Rattle.hc_sparse.specs.Cells.{Cell, cells_with}
 use Rattle.hc_sparse.proofs.CellLemmas.{inside-cases}
 use Rattle.hc_model.specs.Origins as origins
-use Rattle.hc_effects.proofs.Basics.{false_true}
-use Rattle.hc_effects.proofs.ExchangeFrom.{ExchangeFrom, exchange_from}
+use Rattle.hc_effects.proofs.{Basics.{false_true}, ExchangeFrom.{ExchangeFrom, exchange_from}, Fills.{Fills, IsPiece, fills}, FirstKeeps.{is_new}, Forward.{is_on}, MeasuresKeep.{piece_taken}, NumbersKeep.{opens_next}, RepFrom.{RepFrom, rep_from}}
 use Rattle.hc_effects.proofs.ExchangeFrom as exchange
-use Rattle.hc_effects.proofs.Fills.{Fills, IsPiece, fills}
 use Rattle.hc_effects.proofs.Fills as fill
-use Rattle.hc_effects.proofs.FirstKeeps.{is_new}
-use Rattle.hc_effects.proofs.Forward.{is_on}
-use Rattle.hc_effects.proofs.MeasuresKeep.{piece_taken}
-use Rattle.hc_effects.proofs.NumbersKeep.{opens_next}
-use Rattle.hc_effects.proofs.RepFrom.{RepFrom, rep_from}
 use Rattle.hc_effects.proofs.RepFrom as rep
 
 some_there : {A : Type 0} (o : Option A) (a : A) → o ≡ Some a → is_some o ≡ true

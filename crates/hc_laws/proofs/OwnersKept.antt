@@ -2,16 +2,8 @@
 use Rattle.std.proofs.Common.{◌≡◌, ℕ, true, None, ◌∙◌}
 use Rattle.hc_text.proofs.Basics.{not_some as none_some}
 use Rattle.hc_effects.proofs.Vocabulary.{Event, Limits, denial, Contents, Flaw, entry_of, Owners, Tables, may_stand, Sound, after_accepted, first_tables}
-use Rattle.hc_effects.proofs.ApartKeeps.{apart_kept}
-use Rattle.hc_laws.proofs.FirstDueKeeps.{first_due_kept}
-use Rattle.hc_laws.proofs.FirstDues.{idle_kept}
-use Rattle.hc_laws.proofs.Founders.{founders_kept}
-use Rattle.hc_effects.proofs.OwnersKeep.{openers_kept, there_kept, one_kept, first_kept, writers_kept}
-use Rattle.hc_laws.proofs.PassedKeeps.{passed_kept}
-use Rattle.hc_laws.proofs.KeysPlaces.{loaded_writer}
-use Rattle.hc_effects.proofs.PastKeeps.{past_kept}
-use Rattle.hc_effects.proofs.ReadingKeeps.{reading_kept}
-use Rattle.hc_effects.proofs.WaitingKeeps.{waiting_kept}
+use Rattle.hc_effects.proofs.{ApartKeeps.{apart_kept}, OwnersKeep.{openers_kept, there_kept, one_kept, first_kept, writers_kept}, PastKeeps.{past_kept}, ReadingKeeps.{reading_kept}, WaitingKeeps.{waiting_kept}}
+use Rattle.hc_laws.proofs.{FirstDueKeeps.{first_due_kept}, FirstDues.{idle_kept}, Founders.{founders_kept}, PassedKeeps.{passed_kept}, KeysPlaces.{loaded_writer}}
 
 pub owners_kept : (limits : Limits) (t : Tables) (now : ℕ) (flaw : Flaw) → Sound t → Owners t → (ev : Event) → denial t ev ≡ None → may_stand limits t (entry_of limits t now ev flaw) ≡ true → Owners (after_accepted t (entry_of limits t now ev flaw))
 owners_kept limits t now flaw s o ev goes stand = record {

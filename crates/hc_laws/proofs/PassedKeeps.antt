@@ -7,15 +7,10 @@ use Rattle.hc_event.specs.declared.act.Need.TheVariants as need
 use Rattle.hc_event.specs.declared.act.Wait.TheVariants as wait
 use Rattle.hc_rules.specs.declared.heads.HeadCase.TheVariants as case
 use Rattle.hc_event.specs.declared.place.Place.TheVariants as place
-use Rattle.hc_effects.proofs.Basics.{false_true}
-use Rattle.hc_effects.proofs.FirstKeeps.{case_of_head}
-use Rattle.hc_effects.proofs.FoundBy.{CaseBy}
+use Rattle.hc_effects.proofs.{Basics.{false_true}, FirstKeeps.{case_of_head}, FoundBy.{CaseBy}, Forward.{is_kept}, Said.{waiting_by}, WaitedAs.{waited_as}}
 use Rattle.hc_effects.proofs.FoundBy as cases
-use Rattle.hc_effects.proofs.Forward.{is_kept}
 use Rattle.hc_laws.proofs.PassedFrom.{PassedFrom, passed_from}
 use Rattle.hc_laws.proofs.PassedFrom as passed
-use Rattle.hc_effects.proofs.Said.{waiting_by}
-use Rattle.hc_effects.proofs.WaitedAs.{waited_as}
 use Rattle.hc_effects.proofs.WaitedAs as waited
 
 -- only what validates is conditional

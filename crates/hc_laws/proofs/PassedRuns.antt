@@ -3,13 +3,8 @@ use Rattle.std.proofs.Common.{◌≡◌, ℕ, Bool, true, false, Option, Some, N
 use Rattle.hc_event.specs.declared.place.Place.TheVariants as place
 use Rattle.hc_effects.proofs.Vocabulary.{OfRuns, Turns, Owners, Passed, Places, own_open, Tables, Exchange, Consumer, tables}
 use Rattle.hc_model.specs.Passed.{WaitsForCurrent, OwnsOver}
-use Rattle.hc_effects.proofs.Basics.{some_none, some_row}
-use Rattle.hc_laws.proofs.InRuns.{turned_in_runs}
-use Rattle.hc_effects.proofs.KeyNames.{current_key}
-use Rattle.hc_laws.proofs.PlacesStand.{Stands, AreStanding}
-use Rattle.hc_laws.proofs.PlaceRuns.{known_in_runs, places_in_runs}
-use Rattle.hc_effects.proofs.PollKeeps.{current_stays}
-use Rattle.hc_laws.proofs.SoundRuns.{owners_in_runs}
+use Rattle.hc_effects.proofs.{Basics.{some_none, some_row}, KeyNames.{current_key}, PollKeeps.{current_stays}}
+use Rattle.hc_laws.proofs.{InRuns.{turned_in_runs}, PlacesStand.{Stands, AreStanding}, PlaceRuns.{known_in_runs, places_in_runs}, SoundRuns.{owners_in_runs}}
 
 module _ (t : Tables) (o : Owners t) (turns : Turns t) (places : Places t) (stands : AreStanding t) where
   waits_by : (c r : ℕ) (kept : Option ℕ) (k : Consumer) → t.consumer c ≡ Some k → k.place ≡ place.Passed r kept → WaitsForCurrent t r k

@@ -1,6 +1,5 @@
 -- What holds of a consumer by its place holds in every run.
-use Rattle.std.proofs.Common.{◌≡◌, ℕ, [], ◌∷◌, Bool, true, false, Option, Some, None, refl, ap, sym, ◌∙◌, subst}
-use Rattle.std.specs.Prelude.{is_some}
+use Rattle.std.{proofs.Common.{◌≡◌, ℕ, [], ◌∷◌, Bool, true, false, Option, Some, None, refl, ap, sym, ◌∙◌, subst}, specs.Prelude.{is_some}}
 use Rattle.hc_text.proofs.Basics.{not_some as none_some, same_some as same_row}
 use Rattle.hc_effects.proofs.Vocabulary.{is_denied, Response, Limits, route_of, Place, Endings, Entry, History, Contents, is_open, flaw_in, entry_of, OfRuns, Turns, Owners, IsAwaiting, IsPast, IsReading, Places, IsAway, ReadsPast, own_open, reads, hi_of, end_in, Tables, Exchange, Consumer, IsOwed, Sound, tables, first_tables, after_accepted, after_denied}
 use Rattle.hc_rules.specs.declared.need.Route.TheVariants as route
@@ -8,26 +7,8 @@ use Rattle.hc_event.specs.declared.place.Place.TheVariants as place
 use Rattle.hc_event.specs.declared.place.BoundBy.TheVariants as by
 use Rattle.hc_model.specs.Owners as owners
 use Rattle.hc_model.specs.Places.{IsIdle, AwaitsTurn, IsUnheard}
-use Rattle.hc_laws.proofs.Barred.{next_tables, denied_tables}
-use Rattle.hc_effects.proofs.Basics.{false_true}
-use Rattle.hc_effects.proofs.Beside.{IsBeside, is_cached_place}
-use Rattle.hc_effects.proofs.Bounded.{IsBounded}
-use Rattle.hc_laws.proofs.InRuns.{turned_in_runs}
-use Rattle.hc_effects.proofs.OfEntries.{of_real}
-use Rattle.hc_laws.proofs.PlacesKept.{AreOwn, IsOwnTurn, own_kept, turn_direct, bound_turn}
-use Rattle.hc_laws.proofs.PlacesRead.{AreRead, read_kept}
-use Rattle.hc_laws.proofs.PlacesEnded.{AreEnded, ended_kept}
-use Rattle.hc_laws.proofs.PlacesGiven.{ArePast, past_kept}
-use Rattle.hc_laws.proofs.PlacesShown.{AreReaders, IsReader, readers_kept}
-use Rattle.hc_laws.proofs.PlacesStand.{Stands, AreStanding, standing_kept}
-use Rattle.hc_laws.proofs.PlacesTold.{AreTold, told_kept, told_denied, down_told}
-use Rattle.hc_laws.proofs.ReadEnds.{bounded}
-use Rattle.hc_laws.proofs.ReadJoined.{fallback}
-use Rattle.hc_effects.proofs.ShownStays.{IsFallback}
-use Rattle.hc_effects.proofs.PastApart.{bound_direct}
-use Rattle.hc_laws.proofs.SoundRuns.{IsCarried, carried}
-use Rattle.hc_laws.proofs.TurnFacts.{IsTaken}
-use Rattle.hc_laws.proofs.Unreached.{unreached}
+use Rattle.hc_laws.proofs.{Barred.{next_tables, denied_tables}, InRuns.{turned_in_runs}, PlacesKept.{AreOwn, IsOwnTurn, own_kept, turn_direct, bound_turn}, PlacesRead.{AreRead, read_kept}, PlacesEnded.{AreEnded, ended_kept}, PlacesGiven.{ArePast, past_kept}, PlacesShown.{AreReaders, IsReader, readers_kept}, PlacesStand.{Stands, AreStanding, standing_kept}, PlacesTold.{AreTold, told_kept, told_denied, down_told}, ReadEnds.{bounded}, ReadJoined.{fallback}, SoundRuns.{IsCarried, carried}, TurnFacts.{IsTaken}, Unreached.{unreached}}
+use Rattle.hc_effects.proofs.{Basics.{false_true}, Beside.{IsBeside, is_cached_place}, Bounded.{IsBounded}, OfEntries.{of_real}, ShownStays.{IsFallback}, PastApart.{bound_direct}}
 
 -- OVER A RUN
 

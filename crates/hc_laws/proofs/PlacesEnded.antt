@@ -1,33 +1,14 @@
 -- Of an answer past the store that is over without a failure all came, at each entry.
-use Rattle.std.proofs.Common.{◌≡◌, inl, inr, ℕ, ◌+◌, ◌≤◌, List, [], ◌++◌, length, Bool, true, false, Option, Some, None, refl, ap, sym, ◌∙◌, subst, arith}
-use Rattle.std.specs.Prelude.{if◌then◌else◌, ◌==◌, ◌&&◌, not, nat_eq, nat_lt, unwrap_or}
-use Rattle.std.specs.Option.{option_or}
-use Rattle.std.proofs.lemmas.Bool.Decides.{nat_tests}
+use Rattle.std.{proofs.{Common.{◌≡◌, inl, inr, ℕ, ◌+◌, ◌≤◌, List, [], ◌++◌, length, Bool, true, false, Option, Some, None, refl, ap, sym, ◌∙◌, subst, arith}, lemmas.Bool.Decides.{nat_tests}}, specs.{Prelude.{if◌then◌else◌, ◌==◌, ◌&&◌, not, nat_eq, nat_lt, unwrap_or}, Option.{option_or}}}
 use Rattle.hc_text.proofs.Basics.{and_left, and_right, bool_cases, not_some as none_some, never_true as not_so, or_cases, same_some as same_row, some_inj}
 use Rattle.hc_effects.proofs.Vocabulary.{closes_in, Act, Event, Response, Limits, case_at, must_close, is_refused, brings_head, is_doomed, awaits, has_no_survivor, is_left, leaver, consumer_heard, consumer_acted, by_head, is_number, denial, Entry, exchange_in, base, front, promised_bytes, family, is_reached, exchange_heard, exchange_acted, with_head, with_piece, promise_in, stop_cause, short_of, short_cause, Flaw, entry_of, Measures, Owners, end_of_direct, own_open, source, shared_exchange, reads, Tables, Exchange, Consumer, Sound, awaited_exchange, after_accepted}
 use Rattle.hc_event.specs.declared.event.Event.TheVariants as event
 use Rattle.hc_event.specs.declared.place.Place.TheVariants as place
 use Rattle.hc_event.specs.declared.place.BoundBy.TheVariants as by
-use Rattle.hc_effects.proofs.Basics.{false_true}
-use Rattle.hc_effects.proofs.Bounded.{IsBounded}
-use Rattle.hc_effects.proofs.Closed.{before}
-use Rattle.hc_effects.proofs.Dues.{due_before, undue_parts}
-use Rattle.hc_effects.proofs.ExchangeFrom.{ExchangeFrom, exchange_from}
+use Rattle.hc_effects.proofs.{Basics.{false_true}, Bounded.{IsBounded}, Closed.{before}, Dues.{due_before, undue_parts}, ExchangeFrom.{ExchangeFrom, exchange_from}, FirstKeeps.{is_new}, Forward.{after_is}, MeasuresKeep.{piece_taken, ender}, Once.{never}, OwnersKeep.{new_number}, PastKeeps.{IsFrom, PlaceFrom, direct_from}, PieceKeeps.{eq_cases}, ShownStays.{IsFallback}, ToBeShown.{heard_place}, Unclosed.{had_to}, Waiters.{IsWaiter, waiter_as, case_same, unclosed_unless, unleft, fault_open_of}}
 use Rattle.hc_effects.proofs.ExchangeFrom as exchange
-use Rattle.hc_effects.proofs.FirstKeeps.{is_new}
-use Rattle.hc_effects.proofs.Forward.{after_is}
-use Rattle.hc_effects.proofs.MeasuresKeep.{piece_taken, ender}
-use Rattle.hc_effects.proofs.Once.{never}
-use Rattle.hc_effects.proofs.OwnersKeep.{new_number}
-use Rattle.hc_effects.proofs.PastKeeps.{IsFrom, PlaceFrom, direct_from}
 use Rattle.hc_effects.proofs.PastKeeps as past
-use Rattle.hc_effects.proofs.PieceKeeps.{eq_cases}
-use Rattle.hc_laws.proofs.PlacesKept.{AreOwn, left_past, head_poll, over_direct}
-use Rattle.hc_laws.proofs.ReadEnds.{no_base}
-use Rattle.hc_effects.proofs.ShownStays.{IsFallback}
-use Rattle.hc_effects.proofs.ToBeShown.{heard_place}
-use Rattle.hc_effects.proofs.Unclosed.{had_to}
-use Rattle.hc_effects.proofs.Waiters.{IsWaiter, waiter_as, case_same, unclosed_unless, unleft, fault_open_of}
+use Rattle.hc_laws.proofs.{PlacesKept.{AreOwn, left_past, head_poll, over_direct}, ReadEnds.{no_base}}
 
 -- all of it came, and where it ends is known
 abbrev pub IsAllCome : Exchange → Type 0

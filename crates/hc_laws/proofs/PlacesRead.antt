@@ -1,6 +1,5 @@
 -- What an open exchange brings that is of no representation is read past the store, at each entry.
-use Rattle.std.proofs.Common.{◌≡◌, ◌⊎◌, inl, inr, ℕ, true, false, Option, Some, None, refl, ap, sym, ◌∙◌}
-use Rattle.std.specs.Prelude.{is_some, is_none, ◌==◌, ◌&&◌, ◌||◌, not, unwrap_or}
+use Rattle.std.{proofs.Common.{◌≡◌, ◌⊎◌, inl, inr, ℕ, true, false, Option, Some, None, refl, ap, sym, ◌∙◌}, specs.Prelude.{is_some, is_none, ◌==◌, ◌&&◌, ◌||◌, not, unwrap_or}}
 use Rattle.hc_text.proofs.Basics.{all_false, and_left, and_off, and_right, bool_cases, never_true as not_so, same_some as same_row, some_inj}
 use Rattle.hc_effects.proofs.Vocabulary.{opening_in, Event, Response, HeadCase, head_case, Limits, route_of, has_loss, case_at, case_of, head_view, consumer_heard, by_head, by_fault, waiting, own_after, denial, doomed_key_of, doomed_in, doomed_by_head, doomed_by_case, is_key, Entry, exchange_at, is_for, family, Flaw, entry_of, Owners, IsAwaiting, bound_to, Tables, Exchange, Representation, Consumer, Sound, starts_over, sends_back, waits_at, loses_what_it_waits_for, after_accepted}
 use Rattle.hc_event.specs.declared.event.Event.TheVariants as event
@@ -9,22 +8,12 @@ use Rattle.hc_event.specs.declared.place.Place.TheVariants as place
 use Rattle.hc_model.specs.Owners as owners
 use Rattle.hc_model.specs.Places.{IsReadPast}
 use Rattle.hc_model.specs.Sound as sound
-use Rattle.hc_effects.proofs.Basics.{false_true}
-use Rattle.hc_effects.proofs.ExchangeFrom.{ExchangeFrom, exchange_from, IsSame, IsHeaded}
+use Rattle.hc_effects.proofs.{Basics.{false_true}, ExchangeFrom.{ExchangeFrom, exchange_from, IsSame, IsHeaded}, FirstKeeps.{is_new, case_is}, Forward.{is_kept}, FoundBy.{CaseBy, case_by}, HeadedAs.{HeadedAs, headed_as, not_refused, not_unmodified}, OwnFrom.{IsRow}, PieceKeeps.{eq_cases}, ReadingKeeps.{reader_stays}, ShownStays.{IsFallback}, Waiters.{IsWaiter, waiter_of}}
 use Rattle.hc_effects.proofs.ExchangeFrom as exchange
-use Rattle.hc_effects.proofs.FirstKeeps.{is_new, case_is}
-use Rattle.hc_effects.proofs.Forward.{is_kept}
-use Rattle.hc_effects.proofs.FoundBy.{CaseBy, case_by}
 use Rattle.hc_effects.proofs.FoundBy as cases
-use Rattle.hc_effects.proofs.HeadedAs.{HeadedAs, headed_as, not_refused, not_unmodified}
 use Rattle.hc_effects.proofs.HeadedAs as head
-use Rattle.hc_effects.proofs.OwnFrom.{IsRow}
-use Rattle.hc_effects.proofs.PieceKeeps.{eq_cases}
 use Rattle.hc_laws.proofs.PlacesKept.{AreOwn, past_unopened, opening_stays, own_free, settled}
-use Rattle.hc_effects.proofs.ReadingKeeps.{reader_stays}
 use Rattle.hc_effects.proofs.RepFrom as rep
-use Rattle.hc_effects.proofs.ShownStays.{IsFallback}
-use Rattle.hc_effects.proofs.Waiters.{IsWaiter, waiter_of}
 
 -- who reads what is open and of no representation
 pub record AreRead (t : Tables) : Type 0 where

@@ -1,6 +1,5 @@
 -- Who was shown a head reads, or is over, at each entry.
-use Rattle.std.proofs.Common.{◌≡◌, inl, inr, ℕ, ◌++◌, Bool, true, false, Option, Some, None, refl, ap, sym, ◌∙◌, subst}
-use Rattle.std.specs.Prelude.{if◌then◌else◌, is_none, is_some, ◌==◌, ◌&&◌, ◌||◌, not}
+use Rattle.std.{proofs.Common.{◌≡◌, inl, inr, ℕ, ◌++◌, Bool, true, false, Option, Some, None, refl, ap, sym, ◌∙◌, subst}, specs.Prelude.{if◌then◌else◌, is_none, is_some, ◌==◌, ◌&&◌, ◌||◌, not}}
 use Rattle.hc_text.proofs.Basics.{all_false, and_left, and_off, and_right, bool_cases, never_true as not_so, or_cases, same_some as same_row}
 use Rattle.hc_effects.proofs.Vocabulary.{Opening, opening_in, leaves_in, shows_in, Event, Response, Wait, Why, HeadCase, head_case, Limits, route_of, Place, has_loss, fails_in, misreads_in, leaver_in, Showing, showing_in, wait_in, loss_acts, case_at, case_of, head_view, was_shown, consumer_heard, by_head, by_fault, by_opening, shown_place, waiting, waiting_place, place_by_case, denial, doomed_key_of, bypassed_by, is_key, Entry, exchange_at, is_for, is_headless, Flaw, flaw_in, becomes_gone, goes_in, entry_of, Turns, Shows, acts_of, Owners, IsAwaiting, move_of, bound_to, reads, Tables, Exchange, Representation, Consumer, Sound, starts_over, sends_back, waits_at, loses_what_it_waits_for, after_accepted}
 use Rattle.hc_event.specs.declared.event.Event.TheVariants as event
@@ -10,23 +9,12 @@ use Rattle.hc_event.specs.declared.place.Place.TheVariants as place
 use Rattle.hc_event.specs.declared.place.BoundBy.TheVariants as by
 use Rattle.hc_model.specs.Owners as owners
 use Rattle.hc_effects.proofs.ActParts as parts
-use Rattle.hc_laws.proofs.FallbackKeeps.{landing, new_unshown}
-use Rattle.hc_effects.proofs.Basics.{false_true}
-use Rattle.hc_effects.proofs.FirstKeeps.{is_new, case_is, is_opener}
-use Rattle.hc_effects.proofs.FoundBy.{CaseBy, case_by}
+use Rattle.hc_laws.proofs.{FallbackKeeps.{landing, new_unshown}, PlacesKept.{AreOwn, settled}, TurnFacts.{IsTaken, AtPoll, seen, behind, far_behind, opens_behind, misreads_behind, at_poll, eq-refl}}
+use Rattle.hc_effects.proofs.{Basics.{false_true}, FirstKeeps.{is_new, case_is, is_opener}, FoundBy.{CaseBy, case_by}, OpenedAs.{opened_as}, PieceKeeps.{eq_cases}, Said.{WaitsAs, waiting_by}, ShownStays.{IsFallback, way_bound, shows_not, unless_same}, TurnPlaces.{is_after}, WaitedAs.{IsForOthers, waited_as}, Waiters.{IsWaiter, waiter_of}}
 use Rattle.hc_effects.proofs.FoundBy as cases
-use Rattle.hc_effects.proofs.OpenedAs.{opened_as}
-use Rattle.hc_effects.proofs.PieceKeeps.{eq_cases}
-use Rattle.hc_laws.proofs.PlacesKept.{AreOwn, settled}
-use Rattle.hc_effects.proofs.Said.{WaitsAs, waiting_by}
-use Rattle.hc_effects.proofs.ShownStays.{IsFallback, way_bound, shows_not, unless_same}
-use Rattle.hc_laws.proofs.TurnFacts.{IsTaken, AtPoll, seen, behind, far_behind, opens_behind, misreads_behind, at_poll, eq-refl}
 use Rattle.hc_laws.proofs.TurnFacts as facts
 use Rattle.hc_laws.proofs.TurnOpens as opens
-use Rattle.hc_effects.proofs.TurnPlaces.{is_after}
-use Rattle.hc_effects.proofs.WaitedAs.{IsForOthers, waited_as}
 use Rattle.hc_effects.proofs.WaitedAs as waited
-use Rattle.hc_effects.proofs.Waiters.{IsWaiter, waiter_of}
 
 -- it reads there, or is over
 abbrev pub IsReader : Place → Type 0

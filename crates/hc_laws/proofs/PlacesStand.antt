@@ -1,7 +1,5 @@
 -- Who stands in the line owns nothing, and who asks, or fails for what it asked, may ask the origin: at each entry.
-use Rattle.std.proofs.Common.{◌≡◌, ◌⊎◌, inl, inr, ℕ, Bool, true, false, Option, Some, None, refl, ap, sym, ◌∙◌, subst, arith}
-use Rattle.std.specs.Prelude.{if◌then◌else◌, is_some, is_none, ◌==◌, ◌&&◌, not, nat_eq}
-use Rattle.std.proofs.lemmas.Bool.Decides.{nat_tests}
+use Rattle.std.{proofs.{Common.{◌≡◌, ◌⊎◌, inl, inr, ℕ, Bool, true, false, Option, Some, None, refl, ap, sym, ◌∙◌, subst, arith}, lemmas.Bool.Decides.{nat_tests}}, specs.Prelude.{if◌then◌else◌, is_some, is_none, ◌==◌, ◌&&◌, not, nat_eq}}
 use Rattle.hc_text.proofs.Basics.{and_left, and_right, bool_cases, not_some as none_some, same_some as same_row}
 use Rattle.hc_effects.proofs.Vocabulary.{Opening, opening_in, leaves_in, Wait, Event, Request, Response, HeadCase, Route, Wanted, Limits, head_case, route_of, is_only, range_of, wanted_of, Place, BoundBy, has_loss, wait_in, Showing, showing_in, case_at, head_view, consumer_heard, consumer_acted, consumer_settled, by_head, by_fault, by_opening, becomes_shared, own_after, waiting, waiting_place, passed_by, kept_by, opened_place, unless_bound, shown_place, back_in_line, due_after, place_by_case, passed_on, bound_to_wanted, current, denial, Entry, is_headless, Flaw, founded_total, entry_of, Turns, StandsFor, Move, Owners, move_of, bound_to, reads, Tables, Exchange, Consumer, Sound, starts_over, after_accepted}
 use Rattle.hc_event.specs.declared.act.Wait.TheVariants as wait
@@ -13,29 +11,13 @@ use Rattle.hc_event.specs.declared.place.Place.TheVariants as place
 use Rattle.hc_event.specs.declared.place.BoundBy.TheVariants as by
 use Rattle.hc_model.specs.Laws as laws
 use Rattle.hc_model.specs.Moves as moves
-use Rattle.hc_effects.proofs.Basics.{false_true}
-use Rattle.hc_effects.proofs.BoundFrom.{IsRow}
-use Rattle.hc_effects.proofs.FirstKeeps.{is_new, case_is, is_opener}
-use Rattle.hc_effects.proofs.Forward.{is_kept}
-use Rattle.hc_effects.proofs.FoundBy.{CaseBy, case_by}
+use Rattle.hc_effects.proofs.{Basics.{false_true}, BoundFrom.{IsRow}, FirstKeeps.{is_new, case_is, is_opener}, Forward.{is_kept}, FoundBy.{CaseBy, case_by}, MoveBy.{IsHeard}, PieceKeeps.{eq_cases}, Said.{WaitsAs, waiting_by}, ShownStays.{IsFallback, unless_same}, ToBeShown.{heard_place}, TurnMoves.{Does, IsNew, Plans, KeptNone, kept_none, does_polled}, WaitedAs.{WaitedAs, waited_as}, Waiters.{fault_open_of}}
 use Rattle.hc_effects.proofs.FoundBy as cases
-use Rattle.hc_effects.proofs.MoveBy.{IsHeard}
-use Rattle.hc_effects.proofs.PieceKeeps.{eq_cases}
-use Rattle.hc_laws.proofs.PlacesKept.{AreOwn, waits_not, past_not, own_poll, own_is, unopened, poll_of, new_is, turn_bare}
-use Rattle.hc_laws.proofs.PlacesShown.{AreReaders, head_same}
-use Rattle.hc_effects.proofs.Said.{WaitsAs, waiting_by}
+use Rattle.hc_laws.proofs.{PlacesKept.{AreOwn, waits_not, past_not, own_poll, own_is, unopened, poll_of, new_is, turn_bare}, PlacesShown.{AreReaders, head_same}, TurnFacts.{IsTaken}, TurnHeads.{valid_aim}, TurnOpens.{OpensFor, opened_at}}
 use Rattle.hc_effects.proofs.Said as said
-use Rattle.hc_effects.proofs.ShownStays.{IsFallback, unless_same}
-use Rattle.hc_effects.proofs.ToBeShown.{heard_place}
-use Rattle.hc_laws.proofs.TurnFacts.{IsTaken}
-use Rattle.hc_laws.proofs.TurnHeads.{valid_aim}
-use Rattle.hc_effects.proofs.TurnMoves.{Does, IsNew, Plans, KeptNone, kept_none, does_polled}
 use Rattle.hc_effects.proofs.TurnMoves as does
-use Rattle.hc_laws.proofs.TurnOpens.{OpensFor, opened_at}
 use Rattle.hc_laws.proofs.TurnOpens as opens
-use Rattle.hc_effects.proofs.WaitedAs.{WaitedAs, waited_as}
 use Rattle.hc_effects.proofs.WaitedAs as waited
-use Rattle.hc_effects.proofs.Waiters.{fault_open_of}
 
 -- what holds of a consumer's own exchange and request by its place
 abbrev pub Stands : Place → Option ℕ → Request → Type 0

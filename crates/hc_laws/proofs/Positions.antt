@@ -1,12 +1,7 @@
 -- At how many positions below a place something is.
-use Rattle.std.proofs.Common.{◌≡◌, inl, inr, ℕ, zero, suc, ◌+◌, ◌-◌, ◌<◌, ◌≤◌, List, [], ◌∷◌, length, true, false, cond, None, refl, ap, sym, ◌∙◌, arith, min, max}
-use Rattle.std.specs.Prelude.{is_some, nat_le, nat_lt}
-use Rattle.std.proofs.lemmas.Bool.Decides.{nat_tests}
-use Rattle.std.proofs.lemmas.List.Sums.{sum_by-cons}
+use Rattle.std.{proofs.{Common.{◌≡◌, inl, inr, ℕ, zero, suc, ◌+◌, ◌-◌, ◌<◌, ◌≤◌, List, [], ◌∷◌, length, true, false, cond, None, refl, ap, sym, ◌∙◌, arith, min, max}, lemmas.{Bool.Decides.{nat_tests}, List.Sums.{sum_by-cons}}}, specs.Prelude.{is_some, nat_le, nat_lt}}
 use Rattle.hc_text.proofs.Basics.{and_left, and_right, bool_cases}
-use Rattle.hc_sparse.specs.Cells.{Cells, Covers, EndsBy, AreAbsent, cells_with, size_below}
-use Rattle.hc_sparse.specs.Runs.{cells_of, end_of}
-use Rattle.hc_sparse.specs.declared.run.Run.{Run}
+use Rattle.hc_sparse.specs.{Cells.{Cells, Covers, EndsBy, AreAbsent, cells_with, size_below}, Runs.{cells_of, end_of}, declared.run.Run.{Run}}
 use Rattle.hc_sparse.proofs.CellLemmas.{inside-cases, inside-before}
 use Rattle.hc_effects.proofs.Vocabulary.{ascend_from, last_end, bytes_in}
 use Rattle.hc_laws.proofs.Begins.{ends_all}

@@ -1,12 +1,8 @@
 -- Who is told the end was given all up to it.
-use Rattle.std.proofs.Common.{◌≡◌, inl, inr, ℕ, ◌+◌, ◌-◌, ◌<◌, ◌≤◌, List, [], ◌∷◌, length, Bool, true, false, Option, Some, None, refl, ap, sym, ◌∙◌, subst, arith}
-use Rattle.std.specs.Prelude.{is_some, nat_le, nat_lt, ◌&&◌, if◌then◌else◌}
-use Rattle.std.specs.Option.{option_or}
-use Rattle.std.proofs.lemmas.Bool.Decides.{nat_tests}
+use Rattle.std.{proofs.{Common.{◌≡◌, inl, inr, ℕ, ◌+◌, ◌-◌, ◌<◌, ◌≤◌, List, [], ◌∷◌, length, Bool, true, false, Option, Some, None, refl, ap, sym, ◌∙◌, subst, arith}, lemmas.Bool.Decides.{nat_tests}}, specs.{Prelude.{is_some, nat_le, nat_lt, ◌&&◌, if◌then◌else◌}, Option.{option_or}}}
 use Rattle.hc_text.proofs.Basics.{and_right, bool_cases, not_some as none_some, some_inj}
 use Rattle.hc_range.specs.declared.range.Span.{Span}
-use Rattle.hc_sparse.specs.Cells.{Cell}
-use Rattle.hc_sparse.specs.declared.run.Run.{Run}
+use Rattle.hc_sparse.specs.{Cells.{Cell}, declared.run.Run.{Run}}
 use Rattle.hc_effects.proofs.Vocabulary.{is_denied, Event, Request, Response, Act, Cause, Why, Length, Plan, ReadView, Limits, base_of, promise_of, plan_of, read_step, is_at_end, stored_or, held_or, fails_or, waits_or, opens, BoundBy, Place, accepted_acts, answer_acts, may_begin, total_in, Entry, History, Contents, base, promised_bytes, length_by, Flaw, flaw_in, Shown, shown_of, given_of, OfRuns, Measures, Move, Nothing, Asks, Opens, Shows, Gives, Ends, Fails, acts_of, gives, waits_for, opens_hole, shows_stored, plan_move, plan_view, binds_current, move_of, shows_at, shows_bound, shows_direct, shows_answer, has_joined, reads, lo_of, hi_of, offset, base_in, end_in, end_of_direct, ReadsAct, Says, Holds, IsEnd, body_of, cell_by, direct_cell, answer_cell, end_by, Tables, Exchange, Representation, Consumer, IsRun, IsOwed, Sound, step_move, reading, read_view, later_hole, tables, after_accepted}
 use Rattle.hc_event.specs.declared.act.Act.TheVariants as act
 use Rattle.hc_event.specs.declared.act.Cause.TheVariants as cause
@@ -19,22 +15,12 @@ use Rattle.hc_model.specs.Exchanges as exchanges
 use Rattle.hc_model.specs.Moves as moves
 use Rattle.hc_model.specs.Reads.{EndsWell}
 use Rattle.hc_model.specs.Reads as spec
-use Rattle.hc_effects.proofs.ActParts.{IsSaid, said_is}
+use Rattle.hc_effects.proofs.{ActParts.{IsSaid, said_is}, Basics.{false_true, append_none}, Bounded.{IsBounded, bounded_begun, bounded_denied, bounded_kept}, GivenNext.{read_of}, MoveBy.{MoveBy, move_by}, OfEntries.{of_real}, Owed.{IsDenied, is_denial, acts_are}}
 use Rattle.hc_effects.proofs.ActParts as parts
-use Rattle.hc_laws.proofs.Barred.{next_tables, denied_tables}
-use Rattle.hc_effects.proofs.Basics.{false_true, append_none}
-use Rattle.hc_effects.proofs.Bounded.{IsBounded, bounded_begun, bounded_denied, bounded_kept}
-use Rattle.hc_effects.proofs.GivenNext.{read_of}
-use Rattle.hc_effects.proofs.MoveBy.{MoveBy, move_by}
+use Rattle.hc_laws.proofs.{Barred.{next_tables, denied_tables}, ReadAs.{IsRead}, ReadJoined.{joined_in_runs, is_told, fallback}, ReadNext.{by_said, shown_one}, SoundRuns.{carried}}
 use Rattle.hc_effects.proofs.MoveBy as by_move
-use Rattle.hc_effects.proofs.OfEntries.{of_real}
-use Rattle.hc_effects.proofs.Owed.{IsDenied, is_denial, acts_are}
 use Rattle.hc_effects.proofs.Owed as owed_acts
-use Rattle.hc_laws.proofs.ReadAs.{IsRead}
-use Rattle.hc_laws.proofs.ReadJoined.{joined_in_runs, is_told, fallback}
-use Rattle.hc_laws.proofs.ReadNext.{by_said, shown_one}
 use Rattle.hc_laws.proofs.ReadNext as next
-use Rattle.hc_laws.proofs.SoundRuns.{carried}
 
 -- BOUNDED IN RUNS
 

@@ -1,35 +1,15 @@
 -- What a consumer was given over a run, joined, is the body of what it was shown, from where it was shown it.
-use Rattle.std.proofs.Common.{◌≡◌, inl, inr, ℕ, zero, suc, ◌+◌, ◌-◌, ◌<◌, ◌≤◌, List, [], ◌∷◌, ◌++◌, length, Bool, true, false, Option, Some, None, refl, ap, sym, ◌∙◌, subst, arith, length-append}
-use Rattle.std.specs.Prelude.{IfSome, slice_index, nat_lt, not}
-use Rattle.std.specs.Option.{option_map_or}
-use Rattle.std.proofs.Math.ListN.{get_or-append}
-use Rattle.std.proofs.Math.Seq.{get_or-append_right}
-use Rattle.std.proofs.lemmas.Bool.Decides.{nat_tests}
+use Rattle.std.{proofs.{Common.{◌≡◌, inl, inr, ℕ, zero, suc, ◌+◌, ◌-◌, ◌<◌, ◌≤◌, List, [], ◌∷◌, ◌++◌, length, Bool, true, false, Option, Some, None, refl, ap, sym, ◌∙◌, subst, arith, length-append}, Math.{ListN.{get_or-append}, Seq.{get_or-append_right}}, lemmas.Bool.Decides.{nat_tests}}, specs.{Prelude.{IfSome, slice_index, nat_lt, not}, Option.{option_map_or}}}
 use Rattle.hc_text.proofs.Basics.{nil_cons, not_some as none_some, bool_cases, some_inj}
 use Rattle.hc_sparse.specs.declared.run.Run.{Run}
 use Rattle.hc_effects.proofs.Vocabulary.{is_denied, given_in, Event, Limits, Place, may_begin, denial, Entry, History, Contents, Flaw, flaw_in, Shown, shown_in, shown_of, given_of, entry_of, OfRuns, Gives, Owners, move_of, reads, hi_of, lo_of, Delivers, Holds, body_of, Tables, Consumer, IsRun, IsOwed, Sound, tables, after_accepted, after_denied}
 use Rattle.hc_event.specs.declared.event.Event.TheVariants as event
 use Rattle.hc_event.specs.declared.place.Place.TheVariants as place
-use Rattle.hc_model.specs.Laws.{Grows}
-use Rattle.hc_model.specs.Reads.{BodiesAreRead}
-use Rattle.hc_laws.proofs.FallbackKeeps.{landing_by, fallback_begun, fallback_denied, fallback_kept}
-use Rattle.hc_laws.proofs.Barred.{next_tables, denied_tables}
-use Rattle.hc_effects.proofs.Basics.{false_true, append_none}
-use Rattle.hc_effects.proofs.GivenNext.{read_of, given_next}
-use Rattle.hc_effects.proofs.Givers.{some_want, gives_of}
-use Rattle.hc_laws.proofs.GrowsInRuns.{grows}
-use Rattle.hc_effects.proofs.MoveBy.{move_by}
-use Rattle.hc_effects.proofs.OfEntries.{of_real}
-use Rattle.hc_laws.proofs.OneHead.{one_head_is_shown}
-use Rattle.hc_effects.proofs.Owed.{denied_gives, denied_shows}
-use Rattle.hc_effects.proofs.PollActs.{ToOne, to_one}
+use Rattle.hc_model.specs.{Laws.{Grows}, Reads.{BodiesAreRead}}
+use Rattle.hc_laws.proofs.{FallbackKeeps.{landing_by, fallback_begun, fallback_denied, fallback_kept}, Barred.{next_tables, denied_tables}, GrowsInRuns.{grows}, OneHead.{one_head_is_shown}, ReadAs.{IsRead, read_kept, landed_read}, SoundRuns.{IsCarried, carried}}
+use Rattle.hc_effects.proofs.{Basics.{false_true, append_none}, GivenNext.{read_of, given_next}, Givers.{some_want, gives_of}, MoveBy.{move_by}, OfEntries.{of_real}, Owed.{denied_gives, denied_shows}, PollActs.{ToOne, to_one}, ReadFilters.{consumers_are_filtered}, ShownOnce.{no_first}, ShownStays.{IsFallback, StaysOrIdle, shown_stays}}
 use Rattle.hc_effects.proofs.PollActs as acts_to
-use Rattle.hc_laws.proofs.ReadAs.{IsRead, read_kept, landed_read}
-use Rattle.hc_effects.proofs.ReadFilters.{consumers_are_filtered}
-use Rattle.hc_effects.proofs.ShownOnce.{no_first}
-use Rattle.hc_effects.proofs.ShownStays.{IsFallback, StaysOrIdle, shown_stays}
 use Rattle.hc_effects.proofs.ShownStays as stands
-use Rattle.hc_laws.proofs.SoundRuns.{IsCarried, carried}
 
 pub one_inj : (x y : Shown) → x ∷ [] ≡ y ∷ [] → x ≡ y
 one_inj x y is = cc

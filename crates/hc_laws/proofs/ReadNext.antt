@@ -1,7 +1,5 @@
 -- What a consumer is given is next in the body that it was shown, and within its end.
-use Rattle.std.proofs.Common.{◌≡◌, ◌≢◌, ◌⊎◌, inl, inr, ℕ, ◌+◌, ◌<◌, ◌≤◌, List, [], ◌∷◌, ◌++◌, length, Bool, true, false, Option, Some, refl, ap, sym, ◌∙◌, subst, arith}
-use Rattle.std.specs.Prelude.{map, not, is_none}
-use Rattle.std.specs.Option.{option_map_or}
+use Rattle.std.{proofs.Common.{◌≡◌, ◌≢◌, ◌⊎◌, inl, inr, ℕ, ◌+◌, ◌<◌, ◌≤◌, List, [], ◌∷◌, ◌++◌, length, Bool, true, false, Option, Some, refl, ap, sym, ◌∙◌, subst, arith}, specs.{Prelude.{map, not, is_none}, Option.{option_map_or}}}
 use Rattle.hc_sparse.specs.declared.run.Run.{Run}
 use Rattle.hc_effects.proofs.Vocabulary.{is_denied, Event, Act, Why, Limits, accepted_acts, answer_acts, loss_acts, close_acts, may_begin, Entry, History, Contents, Flaw, NoFlaw, Loses, Misreads, flaw_in, Shown, first, shown_of, given_of, Move, Nothing, Asks, Opens, Shows, Gives, Ends, Fails, acts_of, move_of, ReadsAct, Says, Tables, Consumer, IsRun, tables, evicted}
 use Rattle.hc_event.specs.declared.event.Event.TheVariants as event
@@ -9,16 +7,10 @@ use Rattle.hc_event.specs.declared.act.Act.TheVariants as act
 use Rattle.hc_event.specs.declared.act.Cause.TheVariants as cause
 use Rattle.hc_model.specs.Moves as moves
 use Rattle.hc_model.specs.Reads.{GivesNext}
-use Rattle.hc_effects.proofs.ActParts.{IsAnswer, IsSaid, answer_is, said_is}
+use Rattle.hc_effects.proofs.{ActParts.{IsAnswer, IsSaid, answer_is, said_is}, Basics.{append_none}, Owed.{IsDenied, is_denial, acts_are, goes}, ReadFilters.{consumers_are_filtered}, ShownOnce.{is_giving, unshown_gives}}
 use Rattle.hc_effects.proofs.ActParts as parts
-use Rattle.hc_effects.proofs.Basics.{append_none}
-use Rattle.hc_laws.proofs.OneHead.{one_head_is_shown}
-use Rattle.hc_effects.proofs.Owed.{IsDenied, is_denial, acts_are, goes}
+use Rattle.hc_laws.proofs.{OneHead.{one_head_is_shown}, ReadJoined.{next_of, joined_in_runs, is_told, fallback}, SoundRuns.{carried}}
 use Rattle.hc_effects.proofs.Owed as owed_acts
-use Rattle.hc_effects.proofs.ReadFilters.{consumers_are_filtered}
-use Rattle.hc_laws.proofs.ReadJoined.{next_of, joined_in_runs, is_told, fallback}
-use Rattle.hc_effects.proofs.ShownOnce.{is_giving, unshown_gives}
-use Rattle.hc_laws.proofs.SoundRuns.{carried}
 
 -- WHO SAYS IT
 

@@ -1,24 +1,15 @@
 -- Every run reads whole: each consumer is shown one head at most, for a reason that holds, and reads one interval of the body of that.
-use Rattle.std.proofs.Common.{◌≡◌, inl, ℕ, List, [], ◌∷◌, ◌++◌, Bool, true, false, Some, refl, ap, sym, ◌∙◌, subst}
-use Rattle.std.specs.Prelude.{map}
+use Rattle.std.{proofs.Common.{◌≡◌, inl, ℕ, List, [], ◌∷◌, ◌++◌, Bool, true, false, Some, refl, ap, sym, ◌∙◌, subst}, specs.Prelude.{map}}
 use Rattle.hc_effects.proofs.Vocabulary.{is_denied, Act, Limits, accepted_acts, answer_acts, loss_acts, close_acts, may_begin, Entry, History, Contents, Flaw, NoFlaw, Loses, Misreads, flaw_in, shown_of, given_of, Move, Nothing, Asks, Opens, Shows, Gives, Ends, Fails, acts_of, move_of, ReadsAct, ReadsActs, Says, Tables, Consumer, IsRun, tables, evicted}
 use Rattle.hc_event.specs.declared.act.Act.TheVariants as act
 use Rattle.hc_event.specs.declared.act.Cause.TheVariants as cause
 use Rattle.hc_event.specs.declared.act.Wait.TheVariants as wait
 use Rattle.hc_model.specs.Moves as moves
 use Rattle.hc_model.specs.Reads.{ReadsEach, RunsReadWhole}
-use Rattle.hc_effects.proofs.ActParts.{IsAnswer, IsSaid, answer_is, said_is}
+use Rattle.hc_effects.proofs.{ActParts.{IsAnswer, IsSaid, answer_is, said_is}, Basics.{false_true, append_none}, Owed.{IsDenied, is_denial, acts_are}, ShownOnce.{is_showing, shown_shows}}
 use Rattle.hc_effects.proofs.ActParts as parts
-use Rattle.hc_effects.proofs.Basics.{false_true, append_none}
-use Rattle.hc_effects.proofs.Owed.{IsDenied, is_denial, acts_are}
 use Rattle.hc_effects.proofs.Owed as owed_acts
-use Rattle.hc_laws.proofs.ReadEnds.{ends_well}
-use Rattle.hc_laws.proofs.ReadJoined.{bodies_are_read, is_told}
-use Rattle.hc_laws.proofs.ReadNext.{gives_next}
-use Rattle.hc_laws.proofs.Reasons.{reason_holds}
-use Rattle.hc_effects.proofs.ShownOnce.{is_showing, shown_shows}
-use Rattle.hc_laws.proofs.SoundRuns.{runs_are_sound}
-use Rattle.hc_laws.proofs.WhyShown.{shown_why}
+use Rattle.hc_laws.proofs.{ReadEnds.{ends_well}, ReadJoined.{bodies_are_read, is_told}, ReadNext.{gives_next}, Reasons.{reason_holds}, SoundRuns.{runs_are_sound}, WhyShown.{shown_why}}
 
 -- ACTS THAT NO READER IS TOLD
 

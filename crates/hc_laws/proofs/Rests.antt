@@ -1,8 +1,5 @@
 -- Who became bound as the only one and has no exchange of its own has all that is left, where nobody writes it.
-use Rattle.std.proofs.Common.{◌≡◌, ◌⊎◌, inl, inr, ℕ, ◌+◌, ◌-◌, ◌≤◌, List, Bool, true, false, Option, Some, None, refl, ap, sym, ◌∙◌, subst, arith}
-use Rattle.std.specs.Prelude.{if◌then◌else◌, is_some, ◌==◌, nat_eq, bytes_eq, codes, unwrap_or}
-use Rattle.std.proofs.lemmas.Bool.Decides.{nat_tests}
-use Rattle.std.proofs.lemmas.Slice.Eq.{bytes_eq-Decides}
+use Rattle.std.{proofs.{Common.{◌≡◌, ◌⊎◌, inl, inr, ℕ, ◌+◌, ◌-◌, ◌≤◌, List, Bool, true, false, Option, Some, None, refl, ap, sym, ◌∙◌, subst, arith}, lemmas.{Bool.Decides.{nat_tests}, Slice.Eq.{bytes_eq-Decides}}}, specs.Prelude.{if◌then◌else◌, is_some, ◌==◌, nat_eq, bytes_eq, codes, unwrap_or}}
 use Rattle.hc_text.proofs.Basics.{bool_cases, not_some as none_some, same_some as same_row, some_inj}
 use Rattle.hc_range.specs.declared.range.ContentRange.TheVariants as range
 use Rattle.hc_text.specs.declared.bytes.MethodName.{MethodName}
@@ -15,30 +12,12 @@ use Rattle.hc_rules.specs.declared.need.Route.TheVariants as route
 use Rattle.hc_event.specs.declared.place.Place.TheVariants as place
 use Rattle.hc_event.specs.declared.place.BoundBy.TheVariants as by
 use Rattle.hc_model.specs.Sound as sound
-use Rattle.hc_effects.proofs.AboutKeeps.{own_open_of}
-use Rattle.hc_effects.proofs.ApartKeeps.{written_by}
-use Rattle.hc_effects.proofs.Basics.{false_true, true_false, or_false, some_none}
-use Rattle.hc_effects.proofs.Beside.{IsBeside}
-use Rattle.hc_effects.proofs.BoundFrom.{BoundFrom, IsRow, IsFounded, bound_from}
+use Rattle.hc_effects.proofs.{AboutKeeps.{own_open_of}, ApartKeeps.{written_by}, Basics.{false_true, true_false, or_false, some_none}, Beside.{IsBeside}, BoundFrom.{BoundFrom, IsRow, IsFounded, bound_from}, Dues.{due_before}, ExchangeFrom.{IsHeaded}, FirstKeeps.{case_of_head, whole_200, replaced_200, is_new, came_kept, one_first_kept, founded_came}, HeadKeeps.{IsJoin}, LossBy.{IsReal}, Losses.{HasRest}, PartTold.{part_order}, ExclusiveWriters.{writer_some}, PieceKeeps.{eq_cases}, RepFrom.{RepFrom, rep_from, IsKept, IsResumed}, ServedKeeps.{rest_by, still_rests, resumed_not, none_promised}, Waiters.{waiter_of}, WriterEnds.{all_stored}}
 use Rattle.hc_effects.proofs.BoundFrom as from
-use Rattle.hc_effects.proofs.Dues.{due_before}
-use Rattle.hc_effects.proofs.ExchangeFrom.{IsHeaded}
-use Rattle.hc_effects.proofs.FirstKeeps.{case_of_head, whole_200, replaced_200, is_new, came_kept, one_first_kept, founded_came}
 use Rattle.hc_effects.proofs.Forward as forward
-use Rattle.hc_laws.proofs.HadHeaded.{had_kept}
-use Rattle.hc_effects.proofs.HeadKeeps.{IsJoin}
-use Rattle.hc_effects.proofs.LossBy.{IsReal}
-use Rattle.hc_effects.proofs.Losses.{HasRest}
-use Rattle.hc_laws.proofs.OwnNone.{IsShared, own_none, after_none}
-use Rattle.hc_effects.proofs.PartTold.{part_order}
-use Rattle.hc_effects.proofs.ExclusiveWriters.{writer_some}
-use Rattle.hc_effects.proofs.PieceKeeps.{eq_cases}
-use Rattle.hc_effects.proofs.RepFrom.{RepFrom, rep_from, IsKept, IsResumed}
+use Rattle.hc_laws.proofs.{HadHeaded.{had_kept}, OwnNone.{IsShared, own_none, after_none}}
 use Rattle.hc_effects.proofs.RepFrom as rep
-use Rattle.hc_effects.proofs.ServedKeeps.{rest_by, still_rests, resumed_not, none_promised}
 use Rattle.hc_laws.proofs.TogetherHeads as together
-use Rattle.hc_effects.proofs.Waiters.{waiter_of}
-use Rattle.hc_effects.proofs.WriterEnds.{all_stored}
 
 -- WHO READS GETS A BODY
 

@@ -1,8 +1,7 @@
 -- What a store begins with, and each entry keeps, holds of every run.
 use Rattle.std.proofs.Common.{◌≡◌, ◌≤◌, ℕ, [], ◌∷◌, Bool, true, false, None, refl}
 use Rattle.hc_effects.proofs.Vocabulary.{is_denied, Event, Limits, may_begin, denial, Entry, Contents, Flaw, flaw_in, entry_of, OfRunsIn, Tables, IsOwed, tables, first_tables, after, after_accepted, after_denied}
-use Rattle.hc_effects.proofs.LossBy.{IsReal}
-use Rattle.hc_effects.proofs.OfEntries.{of_real}
+use Rattle.hc_effects.proofs.{LossBy.{IsReal}, OfEntries.{of_real}}
 use Rattle.hc_laws.proofs.SoundRuns.{IsCarried, carried}
 
 module _ (P : Limits → Tables → Type 0) where

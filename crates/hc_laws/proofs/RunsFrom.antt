@@ -1,13 +1,7 @@
 -- What is stored as runs: as many bytes as positions, up to the last one, ascending, each of a number that delivered.
-use Rattle.std.proofs.Common.{◌≡◌, inl, inr, ℕ, zero, suc, ◌+◌, ◌<◌, ◌≤◌, List, [], ◌∷◌, length, Bool, true, false, cond, Option, Some, None, refl, ap, sym, ◌∙◌, arith, max}
-use Rattle.std.specs.Prelude.{is_some, nat_eq, nat_le, nat_lt, ◌==◌, ◌&&◌, ◌||◌, not, if◌then◌else◌}
-use Rattle.std.specs.List.{list_any, list_all}
-use Rattle.std.proofs.lemmas.Bool.Decides.{nat_tests}
-use Rattle.std.proofs.lemmas.List.Sums.{sum_by-cons}
+use Rattle.std.{proofs.{Common.{◌≡◌, inl, inr, ℕ, zero, suc, ◌+◌, ◌<◌, ◌≤◌, List, [], ◌∷◌, length, Bool, true, false, cond, Option, Some, None, refl, ap, sym, ◌∙◌, arith, max}, lemmas.{Bool.Decides.{nat_tests}, List.Sums.{sum_by-cons}}}, specs.{Prelude.{is_some, nat_eq, nat_le, nat_lt, ◌==◌, ◌&&◌, ◌||◌, not, if◌then◌else◌}, List.{list_any, list_all}}}
 use Rattle.hc_text.proofs.Basics.{and_left, and_right, bool_cases, or_right}
-use Rattle.hc_sparse.specs.Cells.{Cells, Cell, size_below}
-use Rattle.hc_sparse.specs.Runs.{end_of}
-use Rattle.hc_sparse.specs.declared.run.Run.{Run}
+use Rattle.hc_sparse.specs.{Cells.{Cells, Cell, size_below}, Runs.{end_of}, declared.run.Run.{Run}}
 use Rattle.hc_effects.proofs.Vocabulary.{ascend_from, run_from, with_cell, with_place, runs_from, last_end, bytes_in}
 use Rattle.hc_effects.proofs.Basics.{false_true}
 

@@ -1,7 +1,5 @@
 -- What each start brings, each request that is kept has: few and short fields, and a target as its key.
-use Rattle.std.proofs.Common.{◌≡◌, ℕ, List, [], ◌∷◌, ◌++◌, Bool, true, false, Some, ap, sym, ◌∙◌, subst, arith}
-use Rattle.std.specs.Prelude.{option_map, ◌==◌, if◌then◌else◌}
-use Rattle.std.proofs.lemmas.Bool.Decides.{nat_tests}
+use Rattle.std.{proofs.{Common.{◌≡◌, ℕ, List, [], ◌∷◌, ◌++◌, Bool, true, false, Some, ap, sym, ◌∙◌, subst, arith}, lemmas.Bool.Decides.{nat_tests}}, specs.Prelude.{option_map, ◌==◌, if◌then◌else◌}}
 use Rattle.hc_text.proofs.Basics.{not_some as none_some, some_inj}
 use Rattle.hc_effects.proofs.Vocabulary.{is_denied, Event, Request, Entry, Contents, History, each, first, if_accepted, request_in, HasFieldsWithinLimits, HasTarget, Consumer, IsHeadWithinLimits, tables}
 use Rattle.hc_event.specs.declared.event.Event.TheVariants as event

@@ -1,25 +1,12 @@
 -- How much is stored stays the count of positions, and no more than an entry may have.
-use Rattle.std.proofs.Common.{◌≡◌, inl, inr, ℕ, ◌+◌, ◌≤◌, List, [], ◌∷◌, length, Bool, true, false, Option, Some, None, refl, ap, sym, ◌∙◌, subst, arith, max}
-use Rattle.std.specs.Prelude.{◌||◌, ◌==◌, not, nat_le, find, if◌then◌else◌, option_map}
-use Rattle.std.proofs.lemmas.Bool.Decides.{nat_tests}
+use Rattle.std.{proofs.{Common.{◌≡◌, inl, inr, ℕ, ◌+◌, ◌≤◌, List, [], ◌∷◌, length, Bool, true, false, Option, Some, None, refl, ap, sym, ◌∙◌, subst, arith, max}, lemmas.Bool.Decides.{nat_tests}}, specs.Prelude.{◌||◌, ◌==◌, not, nat_le, find, if◌then◌else◌, option_map}}
 use Rattle.hc_text.proofs.Basics.{and_left, and_right, eq_tells as eq_is, not_some as none_some, some_inj}
 use Rattle.hc_effects.proofs.Vocabulary.{Event, Response, Limits, loses_in, may_begin, are_good, is_good, denial, Entry, Content, Contents, front, family, Flaw, entry_of, OfRunsIn, representation_heard, representation_after_head, with_renewed_head, updates, representation_after_piece, with_stored_bytes, with_total_if_none, length_in, Tables, Exchange, Representation, Sizes, Sound, IsStored, first_tables, representation_of_content, bytes_in, after_accepted, after_denied}
 use Rattle.hc_event.specs.declared.event.Event.TheVariants as event
 use Rattle.hc_sparse.specs.Cells.{AreAbsent, nothing, size_below}
-use Rattle.hc_effects.proofs.Basics.{false_true}
-use Rattle.hc_laws.proofs.FitsKept.{Fits, stored_small}
-use Rattle.hc_laws.proofs.FitsRuns.{fits_begin, fits_denied, fits_kept}
-use Rattle.hc_effects.proofs.LossBy.{IsReal}
-use Rattle.hc_laws.proofs.MeasuresBegin.{ascending_item}
-use Rattle.hc_effects.proofs.Once.{delivers_once}
-use Rattle.hc_effects.proofs.PieceKeeps.{eq_cases}
-use Rattle.hc_laws.proofs.Positions.{below_none, below_past, below_put, bytes_below}
-use Rattle.hc_effects.proofs.RepFrom.{RepFrom, rep_from}
+use Rattle.hc_effects.proofs.{Basics.{false_true}, LossBy.{IsReal}, Once.{delivers_once}, PieceKeeps.{eq_cases}, RepFrom.{RepFrom, rep_from}, Weighed.{sized}, GivenNext.{stored_ends}}
+use Rattle.hc_laws.proofs.{FitsKept.{Fits, stored_small}, FitsRuns.{fits_begin, fits_denied, fits_kept}, MeasuresBegin.{ascending_item}, Positions.{below_none, below_past, below_put, bytes_below}, RunFacts.{in_runs}, SoundRuns.{IsCarried}}
 use Rattle.hc_effects.proofs.RepFrom as rep
-use Rattle.hc_laws.proofs.RunFacts.{in_runs}
-use Rattle.hc_laws.proofs.SoundRuns.{IsCarried}
-use Rattle.hc_effects.proofs.Weighed.{sized}
-use Rattle.hc_effects.proofs.GivenNext.{stored_ends}
 
 -- THE COUNT
 

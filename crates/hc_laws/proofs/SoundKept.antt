@@ -1,21 +1,8 @@
 -- What is sound stays so at each real entry, but for the detached reader.
 use Rattle.std.proofs.Common.{◌≡◌, ℕ, Some, None}
 use Rattle.hc_effects.proofs.Vocabulary.{Event, Limits, denial, Flaw, entry_of, Measures, Owners, Tables, Representation, Consumer, Sound, IsBound, IsAlone, after_accepted}
-use Rattle.hc_effects.proofs.AboutKeeps.{own_about_kept}
-use Rattle.hc_effects.proofs.BoundKeeps.{binds_kept}
-use Rattle.hc_effects.proofs.CurrentKeeps.{one_current_is_kept}
-use Rattle.hc_effects.proofs.EventsKeep.{deliveries_are_kept}
-use Rattle.hc_effects.proofs.FirstKeeps.{ends_kept, one_first_kept}
-use Rattle.hc_laws.proofs.GrowingKeeps.{growing_kept}
-use Rattle.hc_laws.proofs.HadHeaded.{had_kept}
-use Rattle.hc_effects.proofs.HasBound.{has_bound_kept}
-use Rattle.hc_effects.proofs.LossBy.{IsReal}
-use Rattle.hc_effects.proofs.NamesKeep.{names_are_kept}
-use Rattle.hc_effects.proofs.NumbersKeep.{numbers_are_kept}
-use Rattle.hc_effects.proofs.ServedKeeps.{served_kept}
-use Rattle.hc_laws.proofs.StoreKeeps.{stores_are_kept}
-use Rattle.hc_effects.proofs.ToBeShown.{unshown_kept}
-use Rattle.hc_laws.proofs.UndueKeeps.{undue_kept}
+use Rattle.hc_effects.proofs.{AboutKeeps.{own_about_kept}, BoundKeeps.{binds_kept}, CurrentKeeps.{one_current_is_kept}, EventsKeep.{deliveries_are_kept}, FirstKeeps.{ends_kept, one_first_kept}, HasBound.{has_bound_kept}, LossBy.{IsReal}, NamesKeep.{names_are_kept}, NumbersKeep.{numbers_are_kept}, ServedKeeps.{served_kept}, ToBeShown.{unshown_kept}}
+use Rattle.hc_laws.proofs.{GrowingKeeps.{growing_kept}, HadHeaded.{had_kept}, StoreKeeps.{stores_are_kept}, UndueKeeps.{undue_kept}}
 
 -- the detached reader reads on soundly
 abbrev pub GoAlone : Tables → Type 0

@@ -2,18 +2,8 @@
 use Rattle.std.proofs.Common.{◌≡◌, List, [], ◌∷◌, Bool, true, false, refl, ap, sym, ◌∙◌, subst}
 use Rattle.hc_effects.proofs.Vocabulary.{is_denied, Act, Limits, Entry, flaw_in, entry_of, OfRuns, Measures, Owners, Tables, IsOwed, may_stand, Sound, tables, after, after_accepted}
 use Rattle.hc_model.specs.Sound.{RunsAreSound}
-use Rattle.hc_laws.proofs.Begins.{begun_sound}
-use Rattle.hc_effects.proofs.Beside.{IsBeside}
-use Rattle.hc_laws.proofs.BesideKeeps.{beside_begun, beside_denied, beside_kept}
-use Rattle.hc_laws.proofs.DeniedKeeps.{denied_sound, denied_owners, denied_measures}
-use Rattle.hc_effects.proofs.EndsKeep.{measures_kept}
-use Rattle.hc_laws.proofs.GoAlone.{go_alone}
-use Rattle.hc_effects.proofs.LossBy.{IsReal}
-use Rattle.hc_laws.proofs.MeasuresBegin.{measures_begin}
-use Rattle.hc_effects.proofs.Owed.{acts_are, goes}
-use Rattle.hc_laws.proofs.OwnersKept.{owners_begun, owners_kept}
-use Rattle.hc_laws.proofs.SoundKept.{sound_kept}
-use Rattle.hc_laws.proofs.Starts.{starts}
+use Rattle.hc_laws.proofs.{Begins.{begun_sound}, BesideKeeps.{beside_begun, beside_denied, beside_kept}, DeniedKeeps.{denied_sound, denied_owners, denied_measures}, GoAlone.{go_alone}, MeasuresBegin.{measures_begin}, OwnersKept.{owners_begun, owners_kept}, SoundKept.{sound_kept}, Starts.{starts}}
+use Rattle.hc_effects.proofs.{Beside.{IsBeside}, EndsKeep.{measures_kept}, LossBy.{IsReal}, Owed.{acts_are, goes}}
 
 -- what is carried along a run
 pub record IsCarried (t : Tables) : Type 0 where

@@ -1,16 +1,12 @@
 -- All that came of a representation is stored until it is lost, and what is stored came.
-use Rattle.std.proofs.Common.{◌≡◌, ◌⊎◌, inl, inr, ℕ, ◌+◌, ◌≤◌, List, length, Bool, true, false, cond, Option, Some, None, refl, ap, sym, ◌∙◌, subst, arith, max}
-use Rattle.std.specs.Prelude.{◌&&◌, ◌||◌, not, ◌==◌, nat_eq, is_some, if◌then◌else◌, option_map}
-use Rattle.std.proofs.lemmas.Bool.Decides.{nat_tests}
+use Rattle.std.{proofs.{Common.{◌≡◌, ◌⊎◌, inl, inr, ℕ, ◌+◌, ◌≤◌, List, length, Bool, true, false, cond, Option, Some, None, refl, ap, sym, ◌∙◌, subst, arith, max}, lemmas.Bool.Decides.{nat_tests}}, specs.Prelude.{◌&&◌, ◌||◌, not, ◌==◌, nat_eq, is_some, if◌then◌else◌, option_map}}
 use Rattle.hc_text.proofs.Basics.{bool_cases, or_cases as lost_or, or_left, or_right, some_inj}
 use Rattle.hc_effects.proofs.Vocabulary.{Event, loses_in, accepted_acts, denial, Entry, family, front, becomes_gone, representation_after, representation_heard, representation_acted, founded_at, new_representation, representation_after_head, with_renewed_head, updates, representation_after_piece, with_stored_bytes, with_total_if_none, length_in, Tables, Exchange, Representation, Sound, IsStored}
 use Rattle.hc_event.specs.declared.event.Event.TheVariants as event
 use Rattle.hc_sparse.specs.Cells.{Cells, Cell, EndsBy, AreAbsent, cells_with}
 use Rattle.hc_sparse.proofs.CellLemmas.{inside-cases, inside-past, inside-yes}
 use Rattle.hc_model.specs.Laws.{StoresAreKept}
-use Rattle.hc_effects.proofs.Basics.{or_false}
-use Rattle.hc_effects.proofs.Once.{delivers_once}
-use Rattle.hc_effects.proofs.CurrentKeeps.{heard_same}
+use Rattle.hc_effects.proofs.{Basics.{or_false}, Once.{delivers_once}, CurrentKeeps.{heard_same}}
 use Rattle.hc_laws.proofs.RepresentationFilters.{written_at}
 
 -- WHAT AN EVENT LEAVES OF A ROW

@@ -1,7 +1,5 @@
 -- The moments of stored heads stay in order, and no length stands among their fields.
-use Rattle.std.proofs.Common.{◌≡◌, inl, inr, ℕ, ◌≤◌, List, [], ◌∷◌, Bool, true, false, None, Option, Some, refl, ap, sym, ◌∙◌, subst, arith}
-use Rattle.std.specs.Prelude.{◌==◌, nat_le, find, option_map, codes}
-use Rattle.std.proofs.lemmas.Bool.Decides.{nat_tests}
+use Rattle.std.{proofs.{Common.{◌≡◌, inl, inr, ℕ, ◌≤◌, List, [], ◌∷◌, Bool, true, false, None, Option, Some, refl, ap, sym, ◌∙◌, subst, arith}, lemmas.Bool.Decides.{nat_tests}}, specs.Prelude.{◌==◌, nat_le, find, option_map, codes}}
 use Rattle.hc_text.proofs.Basics.{and_left, and_right, not_some as none_some, not_true as not_yes, some_inj}
 use Rattle.hc_effects.proofs.Vocabulary.{is_denied, Event, Response, Limits, may_begin, are_good, has_right_head, Entry, History, Content, Contents, exchange_heard, exchange_acted, OfRuns, Tables, Exchange, Representation, StoredHeads, IsHeadWithinLimits, AreWithinLimits, tables, first_tables, representation_of_content, after, after_accepted, after_denied}
 use Rattle.hc_event.specs.declared.event.Event.TheVariants as event
@@ -9,16 +7,11 @@ use Rattle.hc_fields.specs.FirstValues.{has_field}
 use Rattle.hc_record.specs.Head.{Head}
 use Rattle.hc_validate.specs.Updates.{is_within_limits}
 use Rattle.hc_model.specs.StoredHeads.{HeadsAreWithinLimits}
-use Rattle.hc_effects.proofs.ExchangeFrom.{ExchangeFrom, exchange_from}
+use Rattle.hc_effects.proofs.{ExchangeFrom.{ExchangeFrom, exchange_from}, FieldsKeep.{length_kept, range_kept, length_none, range_none, within_limits_kept, within_limits_founded}, Forward.{after_is}, PieceKeeps.{eq_cases}, RepFrom.{RepFrom, rep_from}}
 use Rattle.hc_effects.proofs.ExchangeFrom as exchange
-use Rattle.hc_effects.proofs.FieldsKeep.{length_kept, range_kept, length_none, range_none, within_limits_kept, within_limits_founded}
-use Rattle.hc_effects.proofs.Forward.{after_is}
-use Rattle.hc_laws.proofs.HeadFrom.{HeadFrom, head_from}
+use Rattle.hc_laws.proofs.{HeadFrom.{HeadFrom, head_from}, RunFacts.{in_runs}}
 use Rattle.hc_laws.proofs.HeadFrom as from
-use Rattle.hc_effects.proofs.PieceKeeps.{eq_cases}
-use Rattle.hc_effects.proofs.RepFrom.{RepFrom, rep_from}
 use Rattle.hc_effects.proofs.RepFrom as rep
-use Rattle.hc_laws.proofs.RunFacts.{in_runs}
 
 -- the moment of its opening stays
 opened_heard : (t : Tables) (e : Entry) (x : ℕ) (ev : Event) (w : Exchange) → (exchange_heard t e x ev w).opened ≡ w.opened

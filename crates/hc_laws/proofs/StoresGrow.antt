@@ -1,21 +1,13 @@
 -- What is stored stays, at each entry of a run: a piece brings what wasn't there.
-use Rattle.std.proofs.Common.{◌≡◌, ℕ, ◌+◌, List, [], ◌∷◌, length, Bool, true, false, Option, Some, None, refl, ap, sym, ◌∙◌, subst}
-use Rattle.std.specs.Prelude.{is_some, if◌then◌else◌, ◌||◌, not}
+use Rattle.std.{proofs.Common.{◌≡◌, ℕ, ◌+◌, List, [], ◌∷◌, length, Bool, true, false, Option, Some, None, refl, ap, sym, ◌∙◌, subst}, specs.Prelude.{is_some, if◌then◌else◌, ◌||◌, not}}
 use Rattle.hc_text.proofs.Basics.{not_some as none_some, never_true as not_so, same_some as same_row}
 use Rattle.hc_sparse.specs.Cells.{Cells, Cell, AreAbsent, cells_with}
 use Rattle.hc_effects.proofs.Vocabulary.{is_denied, Event, Limits, loses_in, denial, Entry, History, Contents, front, Flaw, flaw_in, entry_of, OfHistories, Tables, Exchange, Representation, IsOwed, Sound, IsStored, tables, after_accepted, after_denied}
 use Rattle.hc_model.specs.Laws.{HasStored, GrowsStored, StoresGrow}
-use Rattle.hc_laws.proofs.Barred.{next_tables, denied_tables}
-use Rattle.hc_effects.proofs.Basics.{false_true, some_row}
-use Rattle.hc_effects.proofs.Fills.{Fills, IsPiece, fills}
+use Rattle.hc_laws.proofs.{Barred.{next_tables, denied_tables}, SoundRuns.{runs_are_sound}}
+use Rattle.hc_effects.proofs.{Basics.{false_true, some_row}, Fills.{Fills, IsPiece, fills}, HoleLemmas.{none_of}, OfEntries.{of_real}, Once.{delivers_once}, RepFrom.{RepFrom, IsKept, rep_from}, Stays.{stays_written}}
 use Rattle.hc_effects.proofs.Fills as fills_by
-use Rattle.hc_effects.proofs.HoleLemmas.{none_of}
-use Rattle.hc_effects.proofs.OfEntries.{of_real}
-use Rattle.hc_effects.proofs.Once.{delivers_once}
-use Rattle.hc_effects.proofs.RepFrom.{RepFrom, IsKept, rep_from}
 use Rattle.hc_effects.proofs.RepFrom as rep
-use Rattle.hc_laws.proofs.SoundRuns.{runs_are_sound}
-use Rattle.hc_effects.proofs.Stays.{stays_written}
 
 module _ (limits : Limits) (t : Tables) (now : ℕ) (flaw : Flaw) (s : Sound t) (ev : Event) (goes : denial t ev ≡ None) where
   abbrev e : Entry

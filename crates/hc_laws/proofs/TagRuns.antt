@@ -1,24 +1,13 @@
 -- In every run what has no tag by which others could join it comes from its one exchange, or is all there.
-use Rattle.std.proofs.Common.{◌≡◌, ◌≢◌, inl, inr, ℕ, List, [], ◌∷◌, Bool, true, false, Option, Some, None, refl, ap, sym, ◌∙◌, arith}
-use Rattle.std.specs.Prelude.{is_some, ◌||◌, ◌==◌, not, nat_eq, find, option_map, if◌then◌else◌}
-use Rattle.std.specs.List.{list_any}
-use Rattle.std.proofs.lemmas.Bool.Decides.{nat_tests}
+use Rattle.std.{proofs.{Common.{◌≡◌, ◌≢◌, inl, inr, ℕ, List, [], ◌∷◌, Bool, true, false, Option, Some, None, refl, ap, sym, ◌∙◌, arith}, lemmas.Bool.Decides.{nat_tests}}, specs.{Prelude.{is_some, ◌||◌, ◌==◌, not, nat_eq, find, option_map, if◌then◌else◌}, List.{list_any}}}
 use Rattle.hc_text.proofs.Basics.{and_left, and_right, not_some as none_some, not_false as not_no, some_inj}
 use Rattle.hc_record.specs.declared.kind.Kind.{Kind}
 use Rattle.hc_record.specs.declared.kind.Kind.TheVariants as kind
 use Rattle.hc_effects.proofs.Vocabulary.{Limits, may_begin, needs_tag, is_whole, is_kind_right, kind_of_runs, same_kind, Content, Contents, OfRuns, HasByte, Representation, IsOfOne, Tags, first_tables, representation_of_content, last_end, bytes_in}
-use Rattle.hc_sparse.specs.Cells.{Covers, size_below}
-use Rattle.hc_sparse.specs.Runs.{cells_of}
-use Rattle.hc_sparse.specs.declared.run.Run.{Run}
+use Rattle.hc_sparse.specs.{Cells.{Covers, size_below}, Runs.{cells_of}, declared.run.Run.{Run}}
 use Rattle.hc_model.specs.StoredHeads as heads
-use Rattle.hc_effects.proofs.Basics.{false_true, or_false}
-use Rattle.hc_laws.proofs.MeasuresBegin.{ascending_item, known_item}
-use Rattle.hc_laws.proofs.OriginsBegin.{byte_of, has_run}
-use Rattle.hc_effects.proofs.PieceKeeps.{eq_cases}
-use Rattle.hc_laws.proofs.Positions.{below_full, bytes_below}
-use Rattle.hc_laws.proofs.RunFacts.{in_runs}
-use Rattle.hc_laws.proofs.StoredHeadsKeep.{right_head}
-use Rattle.hc_laws.proofs.TagsKeep.{tags_kept, tags_denied}
+use Rattle.hc_effects.proofs.{Basics.{false_true, or_false}, PieceKeeps.{eq_cases}}
+use Rattle.hc_laws.proofs.{MeasuresBegin.{ascending_item, known_item}, OriginsBegin.{byte_of, has_run}, Positions.{below_full, bytes_below}, RunFacts.{in_runs}, StoredHeadsKeep.{right_head}, TagsKeep.{tags_kept, tags_denied}}
 
 -- an item without a tag
 record IsUntagged (item : Content) : Type 0 where

@@ -1,13 +1,10 @@
 -- What has no tag by which others could join it comes from its one exchange, or is all there.
-use Rattle.std.proofs.Common.{◌≡◌, ◌≢◌, ◌⊎◌, inl, inr, ℕ, List, [], ◌∷◌, length, Bool, true, false, Option, Some, None, refl, ap, sym, ◌∙◌, arith}
-use Rattle.std.specs.Prelude.{is_some, ◌||◌, not, unwrap_or, if◌then◌else◌, codes}
-use Rattle.std.specs.Option.{option_and_then}
+use Rattle.std.{proofs.Common.{◌≡◌, ◌≢◌, ◌⊎◌, inl, inr, ℕ, List, [], ◌∷◌, length, Bool, true, false, Option, Some, None, refl, ap, sym, ◌∙◌, arith}, specs.{Prelude.{is_some, ◌||◌, not, unwrap_or, if◌then◌else◌, codes}, Option.{option_and_then}}}
 use Rattle.hc_text.proofs.Basics.{and_left, and_right, not_some as none_some, some_inj}
 use Rattle.hc_etag.specs.TagTexts.{strong_in}
 use Rattle.hc_effects.proofs.Vocabulary.{Event, Response, fits_to_found, range_of, strong_of, Limits, loses_in, has_loss, case_at, is_joining, fits_asker, row_of, denial, Entry, is_open, front, Flaw, is_keepable, entry_of, HasByte, is_written, new_representation, Tables, Exchange, Representation, Consumer, IsGrowing, IsOfOne, Tags, after_accepted, after_denied}
 use Rattle.hc_event.specs.declared.event.Event.TheVariants as event
-use Rattle.hc_fields.specs.FieldList.{values_of}
-use Rattle.hc_fields.specs.FirstValues.{only_of}
+use Rattle.hc_fields.specs.{FieldList.{values_of}, FirstValues.{only_of}}
 use Rattle.hc_range.specs.declared.range.Asked.{Asked}
 use Rattle.hc_record.specs.Head.{joining_of, one_strong_opaque, strong_opaque}
 use Rattle.hc_record.proofs.JoiningLemmas.{strong_opaque-tag}
@@ -16,28 +13,12 @@ use Rattle.hc_sparse.specs.Cells.{Cells, Covers, cells_with}
 use Rattle.hc_sparse.proofs.CellLemmas.{inside-cases}
 use Rattle.hc_model.specs.Origins as origins
 use Rattle.hc_model.specs.StoredHeads as heads
-use Rattle.hc_effects.proofs.ApartKeeps.{written_by, is_on}
-use Rattle.hc_effects.proofs.Basics.{false_true, some_none, number_is}
-use Rattle.hc_laws.proofs.DeniedKeeps.{written_same}
-use Rattle.hc_effects.proofs.EndsKeep.{known_kept}
-use Rattle.hc_effects.proofs.ExchangeFrom.{ExchangeFrom, exchange_from, IsHeaded}
+use Rattle.hc_effects.proofs.{ApartKeeps.{written_by, is_on}, Basics.{false_true, some_none, number_is}, EndsKeep.{known_kept}, ExchangeFrom.{ExchangeFrom, exchange_from, IsHeaded}, FieldsKeep.{etag_kept}, Fills.{Fills, fills}, FirstKeeps.{case_is}, HeadKeeps.{is_join}, LossBy.{IsReal}, ExclusiveWriters.{writer_some}, RepFrom.{RepFrom, rep_from, IsKept, IsResumed}, WritingStops.{IsAll}}
+use Rattle.hc_laws.proofs.{DeniedKeeps.{written_same}, FoundedAs.{FoundedAs, founded_as}, HeadFrom.{joining_kept}, Lasting.{was_not_gone, not_lost, lasting}, OriginsKeep.{Brought, from_before, was_byte}, SoundRuns.{IsCarried}}
 use Rattle.hc_effects.proofs.ExchangeFrom as exchange
-use Rattle.hc_effects.proofs.FieldsKeep.{etag_kept}
-use Rattle.hc_effects.proofs.Fills.{Fills, fills}
 use Rattle.hc_effects.proofs.Fills as fill
-use Rattle.hc_effects.proofs.FirstKeeps.{case_is}
-use Rattle.hc_laws.proofs.FoundedAs.{FoundedAs, founded_as}
 use Rattle.hc_laws.proofs.FoundedAs as founded
-use Rattle.hc_laws.proofs.HeadFrom.{joining_kept}
-use Rattle.hc_effects.proofs.HeadKeeps.{is_join}
-use Rattle.hc_laws.proofs.Lasting.{was_not_gone, not_lost, lasting}
-use Rattle.hc_effects.proofs.LossBy.{IsReal}
-use Rattle.hc_laws.proofs.OriginsKeep.{Brought, from_before, was_byte}
-use Rattle.hc_effects.proofs.ExclusiveWriters.{writer_some}
-use Rattle.hc_effects.proofs.RepFrom.{RepFrom, rep_from, IsKept, IsResumed}
 use Rattle.hc_effects.proofs.RepFrom as rep
-use Rattle.hc_laws.proofs.SoundRuns.{IsCarried}
-use Rattle.hc_effects.proofs.WritingStops.{IsAll}
 
 -- THE TAG OF A PART THAT FOUNDS
 

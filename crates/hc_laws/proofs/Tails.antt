@@ -1,6 +1,5 @@
 -- What the own exchange of the detached reader brought since the loss is held, and all else ahead of it is stored: at each entry.
-use Rattle.std.proofs.Common.{◌≡◌, ◌⊎◌, inl, inr, ℕ, ◌+◌, ◌≤◌, ◌<◌, List, [], length, length-append, Bool, true, false, Option, Some, None, refl, ap, sym, ◌∙◌, arith}
-use Rattle.std.specs.Prelude.{is_some, ◌||◌, unwrap_or}
+use Rattle.std.{proofs.Common.{◌≡◌, ◌⊎◌, inl, inr, ℕ, ◌+◌, ◌≤◌, ◌<◌, List, [], length, length-append, Bool, true, false, Option, Some, None, refl, ap, sym, ◌∙◌, arith}, specs.Prelude.{is_some, ◌||◌, unwrap_or}}
 use Rattle.hc_text.proofs.Basics.{and_right, not_some as none_some, same_some as same_row, some_inj}
 use Rattle.hc_sparse.specs.Cells.{Cells, inside, cells_with}
 use Rattle.hc_sparse.proofs.CellLemmas.{inside-cases}
@@ -8,32 +7,14 @@ use Rattle.hc_effects.proofs.Vocabulary.{Opening, opening_in, Event, Response, b
 use Rattle.hc_event.specs.declared.event.Event.TheVariants as event
 use Rattle.hc_event.specs.declared.place.Place.TheVariants as place
 use Rattle.hc_model.specs.Sound as sound
-use Rattle.hc_effects.proofs.AboutKeeps.{own_open_of, own_open_is}
-use Rattle.hc_effects.proofs.ApartKeeps.{is_on}
-use Rattle.hc_effects.proofs.Basics.{false_true}
-use Rattle.hc_effects.proofs.Beside.{IsBeside}
-use Rattle.hc_effects.proofs.BoundFrom.{BoundFrom, IsRow, bound_from}
+use Rattle.hc_effects.proofs.{AboutKeeps.{own_open_of, own_open_is}, ApartKeeps.{is_on}, Basics.{false_true}, Beside.{IsBeside}, BoundFrom.{BoundFrom, IsRow, bound_from}, Covers.{offset_more}, ExchangeFrom.{ExchangeFrom, exchange_from, IsSame}, Fills.{Fills, fills, IsPiece, brings, length_same}, FirstKeeps.{is_new}, LossBy.{IsReal}, MeasuresKeep.{piece_taken}, Once.{delivers_once}, OwnFrom.{OwnFrom, own_from}, OwnersKeep.{new_number}, ExclusiveWriters.{one_exclusive_writer}, RepFrom.{RepFrom, rep_from, IsKept}, Stops.{writer_about}, Survives.{goes_on}}
 use Rattle.hc_effects.proofs.BoundFrom as from
-use Rattle.hc_effects.proofs.Covers.{offset_more}
-use Rattle.hc_effects.proofs.ExchangeFrom.{ExchangeFrom, exchange_from, IsSame}
 use Rattle.hc_effects.proofs.ExchangeFrom as exchange
-use Rattle.hc_effects.proofs.Fills.{Fills, fills, IsPiece, brings, length_same}
 use Rattle.hc_effects.proofs.Fills as fills_by
-use Rattle.hc_effects.proofs.FirstKeeps.{is_new}
-use Rattle.hc_laws.proofs.GoAlone.{bare_front, stored_same, opens_not, shown_not, founds_not, left_loses, lost_of, opens_undue}
-use Rattle.hc_effects.proofs.LossBy.{IsReal}
-use Rattle.hc_effects.proofs.MeasuresKeep.{piece_taken}
-use Rattle.hc_effects.proofs.Once.{delivers_once}
-use Rattle.hc_effects.proofs.OwnFrom.{OwnFrom, own_from}
+use Rattle.hc_laws.proofs.{GoAlone.{bare_front, stored_same, opens_not, shown_not, founds_not, left_loses, lost_of, opens_undue}, ExclusiveWriterFrom.{ExclusiveWriterFrom, alone_from}}
 use Rattle.hc_effects.proofs.OwnFrom as own
-use Rattle.hc_effects.proofs.OwnersKeep.{new_number}
-use Rattle.hc_laws.proofs.ExclusiveWriterFrom.{ExclusiveWriterFrom, alone_from}
 use Rattle.hc_laws.proofs.ExclusiveWriterFrom as exclusive_writers
-use Rattle.hc_effects.proofs.ExclusiveWriters.{one_exclusive_writer}
-use Rattle.hc_effects.proofs.RepFrom.{RepFrom, rep_from, IsKept}
 use Rattle.hc_effects.proofs.RepFrom as rep
-use Rattle.hc_effects.proofs.Stops.{writer_about}
-use Rattle.hc_effects.proofs.Survives.{goes_on}
 
 -- from this position on nothing is stored of what its exchange brought
 pub record IsTail (t : Tables) (r : ℕ) (v : Representation) (k : Consumer) (x : ℕ) (w : Exchange) : Type 0 where

@@ -4,14 +4,9 @@ use Rattle.hc_text.proofs.Basics.{same_some as same_row}
 use Rattle.hc_effects.proofs.Vocabulary.{Event, route_of, Limits, BoundBy, case_at, is_joining, denial, Entry, Flaw, entry_of, Owners, Tables, Exchange, Consumer, Sound}
 use Rattle.hc_rules.specs.declared.need.Route.TheVariants as route
 use Rattle.hc_event.specs.declared.place.Place.TheVariants as place
-use Rattle.hc_effects.proofs.BoundFrom.{IsRow}
-use Rattle.hc_effects.proofs.ExchangeFrom.{IsHeaded, IsSame}
-use Rattle.hc_effects.proofs.FirstKeeps.{IsNew, is_new}
-use Rattle.hc_effects.proofs.Forward.{IsOn, is_on}
-use Rattle.hc_effects.proofs.HeadKeeps.{IsJoin}
+use Rattle.hc_effects.proofs.{BoundFrom.{IsRow}, ExchangeFrom.{IsHeaded, IsSame}, FirstKeeps.{IsNew, is_new}, Forward.{IsOn, is_on}, HeadKeeps.{IsJoin}, Waiters.{IsWaiter, waiter_of}}
 use Rattle.hc_effects.proofs.HeadTo as to
 use Rattle.hc_laws.proofs.OwnNone.{IsShared}
-use Rattle.hc_effects.proofs.Waiters.{IsWaiter, waiter_of}
 
 module _ (limits : Limits) (t : Tables) (now : ℕ) (flaw : Flaw) (s : Sound t) (o : Owners t) (ev : Event) (goes : denial t ev ≡ None) where
   abbrev e : Entry

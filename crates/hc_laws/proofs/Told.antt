@@ -2,9 +2,7 @@
 --
 -- The acts of an accepted poll are those of its move, then what is closed and what is lost, which tell nobody. Where the move
 -- is to wait, nobody leaves: so nothing is closed, nothing is written, and nothing is lost.
-use Rattle.std.proofs.Common.{◌≡◌, ℕ, List, [], ◌∷◌, ◌++◌, Bool, true, false, Option, Some, None, refl, ap, sym, ◌∙◌, subst, arith}
-use Rattle.std.specs.Prelude.{map, nat_eq, ◌||◌}
-use Rattle.std.proofs.lemmas.Bool.Decides.{nat_tests}
+use Rattle.std.{proofs.{Common.{◌≡◌, ℕ, List, [], ◌∷◌, ◌++◌, Bool, true, false, Option, Some, None, refl, ap, sym, ◌∙◌, subst, arith}, lemmas.Bool.Decides.{nat_tests}}, specs.Prelude.{map, nat_eq, ◌||◌}}
 use Rattle.hc_effects.proofs.Vocabulary.{is_denied, closes_in, Act, Event, Limits, leaver_in, loses_in, answer_acts, loss_acts, close_acts, closing, denial, is_live, Entry, Flaw, NoFlaw, Loses, Misreads, flaw_in, OfHistories, Turns, Move, Nothing, Asks, Opens, Shows, Gives, Ends, Fails, acts_of, Tables, Consumer, IsOwed, Sound, tables, tellings, IsOneTo, TellsOne, TellsBy, evicted}
 use Rattle.hc_event.specs.declared.act.Act.TheVariants as act
 use Rattle.hc_event.specs.declared.act.Cause.TheVariants as cause
@@ -14,17 +12,11 @@ use Rattle.hc_rules.specs.Refusals as refusals
 use Rattle.hc_model.specs.Moves as moves
 use Rattle.hc_model.specs.Tellings.{WaitsLast, TellsWhoPolls}
 use Rattle.hc_model.specs.Tellings as tells
-use Rattle.hc_effects.proofs.ActParts.{leaver_lost, IsAnswer, answer_is}
+use Rattle.hc_effects.proofs.{ActParts.{leaver_lost, IsAnswer, answer_is}, Basics.{false_true, true_false}, EventsKeep.{poll_live}, Owed.{IsDenied, is_denial, goes}}
 use Rattle.hc_effects.proofs.ActParts as parts
-use Rattle.hc_effects.proofs.Basics.{false_true, true_false}
-use Rattle.hc_effects.proofs.EventsKeep.{poll_live}
-use Rattle.hc_laws.proofs.InRuns.{turned_in_runs}
-use Rattle.hc_effects.proofs.Owed.{IsDenied, is_denial, goes}
+use Rattle.hc_laws.proofs.{InRuns.{turned_in_runs}, SoundRuns.{runs_are_sound}, TurnFacts.{IsTaken, AtPoll, at_poll, acts_is, behind, seen}, TurnOpens.{closes_none, loses_none}}
 use Rattle.hc_effects.proofs.Owed as owed_by
-use Rattle.hc_laws.proofs.SoundRuns.{runs_are_sound}
-use Rattle.hc_laws.proofs.TurnFacts.{IsTaken, AtPoll, at_poll, acts_is, behind, seen}
 use Rattle.hc_laws.proofs.TurnFacts as facts
-use Rattle.hc_laws.proofs.TurnOpens.{closes_none, loses_none}
 
 -- WHAT TELLS NOBODY
 

@@ -1,18 +1,12 @@
 -- What is called truncated is some first bytes, since as many bytes are stored as positions: records are truthful in every run.
-use Rattle.std.proofs.Common.{◌≡◌, inl, inr, ℕ, ◌<◌, ◌≤◌, true, false, Bool, cond, Option, Some, None, refl, ap, sym, ◌∙◌, arith}
-use Rattle.std.specs.Prelude.{is_some, nat_lt, option_map}
-use Rattle.std.specs.Option.{option_and_then}
-use Rattle.std.proofs.lemmas.Bool.Decides.{nat_tests}
+use Rattle.std.{proofs.{Common.{◌≡◌, inl, inr, ℕ, ◌<◌, ◌≤◌, true, false, Bool, cond, Option, Some, None, refl, ap, sym, ◌∙◌, arith}, lemmas.Bool.Decides.{nat_tests}}, specs.{Prelude.{is_some, nat_lt, option_map}, Option.{option_and_then}}}
 use Rattle.hc_text.proofs.Basics.{and_left, and_right as and_then, bool_cases}
 use Rattle.hc_record.specs.declared.kind.Kind.TheVariants as kind
 use Rattle.hc_sparse.specs.Cells.{Cell, Covers, size_below}
 use Rattle.hc_effects.proofs.Vocabulary.{kind_of, kind_at, is_growing, is_complete, is_front, OfRuns, Representation, IsStored, tables}
 use Rattle.hc_model.specs.Laws.{IsFront, IsTruthful, TruncatedIsFront}
 use Rattle.hc_effects.proofs.HoleLemmas.{covers_all}
-use Rattle.hc_laws.proofs.Positions.{no_other_below}
-use Rattle.hc_laws.proofs.SizesKeep.{sizes_in_runs}
-use Rattle.hc_laws.proofs.SoundRuns.{runs_are_sound}
-use Rattle.hc_laws.proofs.Truthful.{whole_is}
+use Rattle.hc_laws.proofs.{Positions.{no_other_below}, SizesKeep.{sizes_in_runs}, SoundRuns.{runs_are_sound}, Truthful.{whole_is}}
 
 front_by : (growing complete front : Bool) → (cond growing kind.Growing (cond complete kind.Whole (cond front kind.Truncated kind.Ranges))) ≡ kind.Truncated → front ≡ true
 front_by growing complete true h = refl

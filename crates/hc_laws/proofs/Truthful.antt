@@ -1,7 +1,5 @@
 -- What is called whole is whole.
-use Rattle.std.proofs.Common.{◌≡◌, ℕ, List, Bool, true, false, cond, Option, Some, None, refl, ap, sym, ◌∙◌}
-use Rattle.std.specs.Prelude.{option_map}
-use Rattle.std.specs.Option.{option_and_then}
+use Rattle.std.{proofs.Common.{◌≡◌, ℕ, List, Bool, true, false, cond, Option, Some, None, refl, ap, sym, ◌∙◌}, specs.{Prelude.{option_map}, Option.{option_and_then}}}
 use Rattle.hc_record.specs.declared.kind.Kind.TheVariants as kind
 use Rattle.hc_effects.proofs.Vocabulary.{current, kind_of, kind_for, kind_at, is_growing, is_complete, is_front, covers_all, Tables, Representation}
 use Rattle.hc_model.specs.Laws.{IsWhole}

@@ -1,7 +1,5 @@
 -- Of a key at most one exchange of the turn waits for its head, and its consumer has the turn.
-use Rattle.std.proofs.Common.{◌≡◌, ◌⊎◌, inl, inr, ℕ, List, [], ◌∷◌, ◌++◌, Bool, true, false, Option, Some, None, refl, ap, sym, ◌∙◌, subst}
-use Rattle.std.specs.Prelude.{length, ◌&&◌, ◌||◌, ◌==◌, not, is_none, is_some, if◌then◌else◌, filter, find, unwrap_or, bytes_eq}
-use Rattle.std.specs.Option.{option_or}
+use Rattle.std.{proofs.Common.{◌≡◌, ◌⊎◌, inl, inr, ℕ, List, [], ◌∷◌, ◌++◌, Bool, true, false, Option, Some, None, refl, ap, sym, ◌∙◌, subst}, specs.{Prelude.{length, ◌&&◌, ◌||◌, ◌==◌, not, is_none, is_some, if◌then◌else◌, filter, find, unwrap_or, bytes_eq}, Option.{option_or}}}
 use Rattle.hc_text.proofs.Basics.{and_left, and_right as and_then, bool_cases, eq_itself as eq-refl, not_some as none_some, never_true as not_true, or_cases, or_off_right as or_last, same_some as same_row, some_inj}
 use Rattle.hc_effects.proofs.Vocabulary.{Opening, opening_in, closes_in, leaves_in, shows_in, Act, Need, Wait, Event, Request, Response, least, route_of, head_refusal, is_bypassing, is_disabled, is_only, Route, Limits, Place, wait_in, fails_in, leaver_in, misreads_in, loss_acts, case_at, consumer_after, consumer_made, new_consumer, unless_bound, opened_place, current, is_usable, denial, as_open, bypassed_by, doomed_key_of, is_key, Entry, exchange_after, exchange_heard, exchange_acted, exchange_opened, aim_of, aim_from, is_headless, exchange_at, is_for, promised_bytes, is_reached, flaw_in, becomes_gone, goes_in, IsOfOneKey, entry_of, Turns, IsAwaited, StandsFor, HasPassed, HasOneTurn, turn, turn_with, holder, holds_turn, holds_place, line, is_in_line, stands_in_line, Move, acts_of, has_joined, bound_to, representation_after, representation_heard, representation_acted, Tables, Exchange, Representation, Consumer, Sound, Among, IsListed, OneCurrent, starts_over, loses_what_it_waits_for, sends_back, waits_at, after_accepted}
 use Rattle.hc_event.specs.declared.act.Need.TheVariants as need
@@ -19,26 +17,14 @@ use Rattle.hc_model.specs.Laws.{IsInTurn, TurnsAreKept, TurnsBegin, TurnsAreOne}
 use Rattle.hc_model.specs.Laws as laws
 use Rattle.hc_model.specs.Moves as moves
 use Rattle.hc_effects.proofs.ActParts as parts
-use Rattle.hc_effects.proofs.CurrentKeeps.{heard_same, find_only, usable, usable_row, one_current_is_kept}
-use Rattle.hc_effects.proofs.KeyNames.{opener_key, current_key}
-use Rattle.hc_effects.proofs.KeysKeep.{same_exchange, exchange_was}
+use Rattle.hc_effects.proofs.{CurrentKeeps.{heard_same, find_only, usable, usable_row, one_current_is_kept}, KeyNames.{opener_key, current_key}, KeysKeep.{same_exchange, exchange_was}, NumbersKeep.{numbers_are_kept}, Owed.{goes}, PieceKeeps.{eq_cases}, PollKeeps.{current_stays}, TurnMoves.{Does, MayRead, Queues}, TurnPlaces.{ComesFrom, IsPlain, IsAfter, StaysOrPlain, is_after}}
 use Rattle.hc_effects.proofs.KeysKeep as keeps
-use Rattle.hc_effects.proofs.NumbersKeep.{numbers_are_kept}
-use Rattle.hc_effects.proofs.Owed.{goes}
-use Rattle.hc_effects.proofs.PieceKeeps.{eq_cases}
-use Rattle.hc_effects.proofs.PollKeeps.{current_stays}
-use Rattle.hc_laws.proofs.TurnFacts.{IsTaken, AtPoll, acts_is, seen, behind, far_behind, opens_behind, misreads_behind, at_poll, far_from, fails_leaves}
+use Rattle.hc_laws.proofs.{TurnFacts.{IsTaken, AtPoll, acts_is, seen, behind, far_behind, opens_behind, misreads_behind, at_poll, far_from, fails_leaves}, TurnHeads.{valid_is}, TurnOpens.{OpensFor, IsOpenedAt, IsOpener, opened_at, opener_after, opener_stands}, TurnStays.{head_opens, head_none, stands_on}, VaryKeeps.{same_agreement}}
 use Rattle.hc_laws.proofs.TurnFacts as facts
-use Rattle.hc_laws.proofs.TurnHeads.{valid_is}
 use Rattle.hc_laws.proofs.TurnHeads as heads
-use Rattle.hc_effects.proofs.TurnMoves.{Does, MayRead, Queues}
 use Rattle.hc_effects.proofs.TurnMoves as does
-use Rattle.hc_laws.proofs.TurnOpens.{OpensFor, IsOpenedAt, IsOpener, opened_at, opener_after, opener_stands}
 use Rattle.hc_laws.proofs.TurnOpens as opens
-use Rattle.hc_effects.proofs.TurnPlaces.{ComesFrom, IsPlain, IsAfter, StaysOrPlain, is_after}
 use Rattle.hc_effects.proofs.TurnPlaces as places
-use Rattle.hc_laws.proofs.TurnStays.{head_opens, head_none, stands_on}
-use Rattle.hc_laws.proofs.VaryKeeps.{same_agreement}
 
 -- WHOSE TURN IT IS
 

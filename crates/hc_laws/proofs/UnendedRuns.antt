@@ -1,8 +1,5 @@
 -- The detached reader of what has no known end reads from the exchange that founded it, which is still open: in every run.
-use Rattle.std.proofs.Common.{◌≡◌, ◌⊎◌, inl, inr, ℕ, List, length, Bool, true, false, Option, Some, None, refl, ap, sym, ◌∙◌, subst, arith}
-use Rattle.std.specs.Prelude.{◌&&◌, ◌++◌, is_some, is_none, nat_eq, unwrap_or, if◌then◌else◌}
-use Rattle.std.specs.Option.{option_or}
-use Rattle.std.proofs.lemmas.Bool.Decides.{nat_tests}
+use Rattle.std.{proofs.{Common.{◌≡◌, ◌⊎◌, inl, inr, ℕ, List, length, Bool, true, false, Option, Some, None, refl, ap, sym, ◌∙◌, subst, arith}, lemmas.Bool.Decides.{nat_tests}}, specs.{Prelude.{◌&&◌, ◌++◌, is_some, is_none, nat_eq, unwrap_or, if◌then◌else◌}, Option.{option_or}}}
 use Rattle.hc_text.proofs.Basics.{and_left, and_right, not_some as none_some, never_true as not_so, or_cases, same_some as same_row, some_inj}
 use Rattle.hc_effects.proofs.Vocabulary.{Opening, leaves_in, closes_in, opening_in, Event, Response, is_same_number, Limits, BoundBy, case_at, must_close, is_refused, brings_head, is_doomed, has_no_survivor, is_left, leaver, leaver_by, consumer_heard, consumer_acted, is_number, denial, Unended, Entry, aim_from, exchange_acted, exchange_heard, with_piece, exchange_in, family, is_open, is_reached, promised_bytes, becomes_due, stop_cause, Flaw, entry_of, OfRuns, Measures, IsMeasured, Owners, bound, bound_to, is_written, own_open, shared_exchange, source, reads, Tables, Exchange, Representation, Consumer, Sound, IsBound, IsFirst, IsGrowing, after_accepted, brings_body, came_alone, loses_writing, survivor}
 use Rattle.hc_event.specs.declared.act.Cause.TheVariants as cause
@@ -10,42 +7,14 @@ use Rattle.hc_event.specs.declared.event.Event.TheVariants as event
 use Rattle.hc_event.specs.declared.place.Place.TheVariants as place
 use Rattle.hc_model.specs.Measures as measures
 use Rattle.hc_model.specs.Sound as sound
-use Rattle.hc_effects.proofs.AboutKeeps.{IsOwn, own_open_of, own_open_is}
-use Rattle.hc_effects.proofs.ApartKeeps.{is_on}
-use Rattle.hc_effects.proofs.Basics.{false_true}
-use Rattle.hc_effects.proofs.Beside.{IsBeside}
-use Rattle.hc_effects.proofs.BoundFrom.{BoundFrom, IsRow, bound_from}
+use Rattle.hc_effects.proofs.{AboutKeeps.{IsOwn, own_open_of, own_open_is}, ApartKeeps.{is_on}, Basics.{false_true}, Beside.{IsBeside}, BoundFrom.{BoundFrom, IsRow, bound_from}, Closed.{before}, Dues.{due_before, undue_parts}, FirstKeeps.{is_new, is_opener}, Forward.{after_is}, LossBy.{IsReal}, OpensFrom.{opens_hole, hole_is}, OwnFrom.{OwnFrom, own_from}, OwnersKeep.{is_opened}, ExclusiveWriters.{bound_some, writer_some}, PieceKeeps.{eq_cases}, PollTree.{OpensHole}, RepFrom.{RepFrom, rep_from, IsKept, IsEnded}, Said.{leaving_by}, SaidActs.{leaver_leaves}, Stops.{source_is}, Survives.{goes_on}, ToBeShown.{heard_place}, Unclosed.{had_to}, Waiters.{unleft, waiter_as}, WritingStops.{ended_total}, WriterEnds.{none_of}}
 use Rattle.hc_effects.proofs.BoundFrom as from
-use Rattle.hc_effects.proofs.Closed.{before}
-use Rattle.hc_effects.proofs.Dues.{due_before, undue_parts}
-use Rattle.hc_effects.proofs.FirstKeeps.{is_new, is_opener}
-use Rattle.hc_effects.proofs.Forward.{after_is}
-use Rattle.hc_laws.proofs.GoAlone.{lost_of, opens_not, shown_not, founds_not, left_loses, unwritten_lost}
-use Rattle.hc_effects.proofs.LossBy.{IsReal}
+use Rattle.hc_laws.proofs.{GoAlone.{lost_of, opens_not, shown_not, founds_not, left_loses, unwritten_lost}, OwnNone.{IsShared, own_none}, ExclusiveWriterFrom.{ExclusiveWriterFrom, alone_from}, RunFacts.{in_runs}}
 use Rattle.hc_effects.proofs.OpenedAs as opened
-use Rattle.hc_effects.proofs.OpensFrom.{opens_hole, hole_is}
-use Rattle.hc_effects.proofs.OwnFrom.{OwnFrom, own_from}
 use Rattle.hc_effects.proofs.OwnFrom as own
-use Rattle.hc_laws.proofs.OwnNone.{IsShared, own_none}
-use Rattle.hc_effects.proofs.OwnersKeep.{is_opened}
-use Rattle.hc_laws.proofs.ExclusiveWriterFrom.{ExclusiveWriterFrom, alone_from}
 use Rattle.hc_laws.proofs.ExclusiveWriterFrom as exclusive_writers
-use Rattle.hc_effects.proofs.ExclusiveWriters.{bound_some, writer_some}
-use Rattle.hc_effects.proofs.PieceKeeps.{eq_cases}
-use Rattle.hc_effects.proofs.PollTree.{OpensHole}
 use Rattle.hc_effects.proofs.PollTree as tree
-use Rattle.hc_effects.proofs.RepFrom.{RepFrom, rep_from, IsKept, IsEnded}
 use Rattle.hc_effects.proofs.RepFrom as rep
-use Rattle.hc_laws.proofs.RunFacts.{in_runs}
-use Rattle.hc_effects.proofs.Said.{leaving_by}
-use Rattle.hc_effects.proofs.SaidActs.{leaver_leaves}
-use Rattle.hc_effects.proofs.Stops.{source_is}
-use Rattle.hc_effects.proofs.Survives.{goes_on}
-use Rattle.hc_effects.proofs.ToBeShown.{heard_place}
-use Rattle.hc_effects.proofs.Unclosed.{had_to}
-use Rattle.hc_effects.proofs.Waiters.{unleft, waiter_as}
-use Rattle.hc_effects.proofs.WritingStops.{ended_total}
-use Rattle.hc_effects.proofs.WriterEnds.{none_of}
 
 pub or_none : (a : Option ℕ) (n : ℕ) → option_or a (Some n) ≡ None → ⊥
 or_none None n h = none_some n (sym h)

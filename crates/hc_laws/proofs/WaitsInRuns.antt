@@ -1,30 +1,15 @@
 -- No wait goes in a circle, in any run: who reads past the store waits for nobody, whom a busy one waits for reads, and what has no known length, or is written for several, is read.
-use Rattle.std.proofs.Common.{◌≡◌, ◌≢◌, ◌⊎◌, inl, inr, ℕ, List, [], ◌∷◌, true, Option, Some, None, refl, ap, sym, ◌∙◌, subst}
-use Rattle.std.specs.Prelude.{is_some}
-use Rattle.std.specs.Option.{option_and_then}
+use Rattle.std.{proofs.Common.{◌≡◌, ◌≢◌, ◌⊎◌, inl, inr, ℕ, List, [], ◌∷◌, true, Option, Some, None, refl, ap, sym, ◌∙◌, subst}, specs.{Prelude.{is_some}, Option.{option_and_then}}}
 use Rattle.hc_effects.proofs.Vocabulary.{Wait, Response, Candidate, least, range_of, wanted_of, current, is_headless, OfRuns, WaitsEnd, WaitsForNobody, Owners, IsPast, plan_view, move_of, shows_at, shows_answer, shows_direct, if_headless, is_written, bound, own_open, Tables, Exchange, Representation, Consumer, Sound, IsBound, tables}
 use Rattle.hc_event.specs.declared.act.Wait.TheVariants as wait
 use Rattle.hc_rules.specs.declared.request.Wanted.TheVariants as wanted
 use Rattle.hc_event.specs.declared.place.Place.TheVariants as place
 use Rattle.hc_model.specs.Moves as moves
 use Rattle.hc_model.specs.Owners as owners
-use Rattle.hc_effects.proofs.AboutKeeps.{own_open_is}
-use Rattle.hc_effects.proofs.Basics.{false_true, some_none}
-use Rattle.hc_laws.proofs.BusyPlans.{BusyBy, busy_by}
+use Rattle.hc_effects.proofs.{AboutKeeps.{own_open_is}, Basics.{false_true, some_none}, Exclusives.{exclusive_parts}, HadKeeps.{among_least}, HasBound.{reader_of}, PollKeeps.{current_stays}, Said.{WaitsAs}, ShownFrom.{IsCandidate, candidate_is}, WaitedAs.{IsForOthers, waited_as}}
+use Rattle.hc_laws.proofs.{BusyPlans.{BusyBy, busy_by}, Going.{turns_go, readers_go}, InRuns.{turned_in_runs}, RunFacts.{in_runs}, SoundRuns.{IsCarried, carried}, Unknowns.{Unknown, unknown_begun, unknown_denied, unknown_kept}}
 use Rattle.hc_laws.proofs.BusyPlans as busy
-use Rattle.hc_effects.proofs.Exclusives.{exclusive_parts}
-use Rattle.hc_laws.proofs.Going.{turns_go, readers_go}
-use Rattle.hc_effects.proofs.HadKeeps.{among_least}
-use Rattle.hc_effects.proofs.HasBound.{reader_of}
-use Rattle.hc_laws.proofs.InRuns.{turned_in_runs}
-use Rattle.hc_effects.proofs.PollKeeps.{current_stays}
-use Rattle.hc_effects.proofs.Said.{WaitsAs}
 use Rattle.hc_effects.proofs.Said as said
-use Rattle.hc_effects.proofs.ShownFrom.{IsCandidate, candidate_is}
-use Rattle.hc_laws.proofs.RunFacts.{in_runs}
-use Rattle.hc_laws.proofs.SoundRuns.{IsCarried, carried}
-use Rattle.hc_laws.proofs.Unknowns.{Unknown, unknown_begun, unknown_denied, unknown_kept}
-use Rattle.hc_effects.proofs.WaitedAs.{IsForOthers, waited_as}
 use Rattle.hc_effects.proofs.WaitedAs as waited
 
 some_answer : (t : Tables) (x : ℕ) (w : Exchange) (o : Option Response) → is_some o ≡ true → shows_answer t x w o ≡ None → ⊥

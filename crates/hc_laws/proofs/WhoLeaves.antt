@@ -3,9 +3,7 @@
 -- The acts of a leave are what is said to the leaver, what is closed, and what is lost: a seal of what is closed may fail. Its row
 -- behind them is over, unless it starts over: at a leave only who waits for what goes could. Who waits so owns nothing, so nothing
 -- is closed, and nothing is lost. By any other entry the place of a live consumer becomes none but one at which it is live.
-use Rattle.std.proofs.Common.{◌≡◌, ◌⊎◌, inl, inr, ℕ, List, [], ◌∷◌, ◌++◌, Bool, true, false, Option, Some, None, refl, ap, sym, ◌∙◌, subst, arith}
-use Rattle.std.specs.Prelude.{◌&&◌, map, nat_eq, nat_lt}
-use Rattle.std.proofs.lemmas.Bool.Decides.{nat_tests}
+use Rattle.std.{proofs.{Common.{◌≡◌, ◌⊎◌, inl, inr, ℕ, List, [], ◌∷◌, ◌++◌, Bool, true, false, Option, Some, None, refl, ap, sym, ◌∙◌, subst, arith}, lemmas.Bool.Decides.{nat_tests}}, specs.Prelude.{◌&&◌, map, nat_eq, nat_lt}}
 use Rattle.hc_text.proofs.Basics.{and_left, bool_cases, false_true, not_some as none_some, eq_itself as same_number}
 use Rattle.hc_effects.proofs.Vocabulary.{closes_in, is_denied, leaves_in, Act, Event, Place, Limits, fails_in, loses_in, without_losses, accepted_acts, answer_acts, loss_acts, closing, consumer_after, denial, is_live, left_by, Entry, Flaw, NoFlaw, Loses, Misreads, flaw_in, becomes_gone, goes_in, Lawful, Move, acts_of, move_of, poll_move, Tables, Representation, Consumer, IsOwed, may_be, loses_what_it_waits_for, after, with_item_first, written_representation, written_in, seals_at, stops, first_found, lossless}
 use Rattle.hc_event.specs.declared.act.Act.TheVariants as act
@@ -14,19 +12,10 @@ use Rattle.hc_event.specs.declared.event.Event.TheVariants as event
 use Rattle.hc_event.specs.declared.place.Place.TheVariants as place
 use Rattle.hc_rules.specs.Refusals as refusals
 use Rattle.hc_model.specs.Moves as moves
-use Rattle.hc_effects.proofs.ActParts.{far_closing, far_lost_only}
-use Rattle.hc_effects.proofs.Basics.{number_is}
-use Rattle.hc_effects.proofs.EventsKeep.{poll_live}
-use Rattle.hc_effects.proofs.FailsTold.{fails_told}
-use Rattle.hc_effects.proofs.LeftBy.{left_passed}
-use Rattle.hc_effects.proofs.Owed.{goes, acts_are, is_denial, IsDenied}
+use Rattle.hc_effects.proofs.{ActParts.{far_closing, far_lost_only}, Basics.{number_is}, EventsKeep.{poll_live}, FailsTold.{fails_told}, LeftBy.{left_passed}, Owed.{goes, acts_are, is_denial, IsDenied}, LeaveFrames.{IsFront, acts_left, goes_by, itself}, KeyActs.{closes_lossless}}
 use Rattle.hc_effects.proofs.Owed as owed_by
-use Rattle.hc_laws.proofs.TurnFacts.{far_from, may_be_so}
-use Rattle.hc_effects.proofs.LeaveFrames.{IsFront, acts_left, goes_by, itself}
+use Rattle.hc_laws.proofs.{TurnFacts.{far_from, may_be_so}, Accepted.{is_accepted}, LiveAfter.{Starts, was_live}}
 use Rattle.hc_effects.proofs.LeaveFrames as frames
-use Rattle.hc_effects.proofs.KeyActs.{closes_lossless}
-use Rattle.hc_laws.proofs.Accepted.{is_accepted}
-use Rattle.hc_laws.proofs.LiveAfter.{Starts, was_live}
 
 -- WHAT IS SAID TO WHO LEAVES
 

@@ -1,6 +1,5 @@
 -- Each open exchange is somebody's, in every run.
-use Rattle.std.proofs.Common.{◌≡◌, ℕ, true, Option, Some, None, refl, ap, sym, ◌∙◌}
-use Rattle.std.specs.Prelude.{is_some, unwrap_or}
+use Rattle.std.{proofs.Common.{◌≡◌, ℕ, true, Option, Some, None, refl, ap, sym, ◌∙◌}, specs.Prelude.{is_some, unwrap_or}}
 use Rattle.hc_text.proofs.Basics.{not_some as none_some}
 use Rattle.hc_effects.proofs.Vocabulary.{Response, Place, family, IsOfOneKey, OfRuns, Owners, IsAwaiting, Places, own_open, Tables, Exchange, Representation, Consumer, Sound, IsHad, tables, Whose, IsSomebodys, IsOwner, may_own}
 use Rattle.hc_event.specs.declared.place.Place.TheVariants as place
@@ -8,12 +7,8 @@ use Rattle.hc_model.specs.Owners as owners
 use Rattle.hc_model.specs.Sound as sound
 use Rattle.hc_model.specs.Whose.{IsOfKey}
 use Rattle.hc_model.specs.Whose as whose
-use Rattle.hc_effects.proofs.AboutKeeps.{own_open_of}
-use Rattle.hc_laws.proofs.InRuns.{turned_in_runs}
-use Rattle.hc_laws.proofs.OwnersFor.{owners_for}
-use Rattle.hc_effects.proofs.ExclusiveWriters.{none_about}
-use Rattle.hc_laws.proofs.PlaceRuns.{places_in_runs}
-use Rattle.hc_laws.proofs.SoundRuns.{carried}
+use Rattle.hc_effects.proofs.{AboutKeeps.{own_open_of}, ExclusiveWriters.{none_about}}
+use Rattle.hc_laws.proofs.{InRuns.{turned_in_runs}, OwnersFor.{owners_for}, PlaceRuns.{places_in_runs}, SoundRuns.{carried}}
 
 module _ (t : Tables) (s : Sound t) (o : Owners t) (one : IsOfOneKey t) (places : Places t) (owner : (c x : ℕ) (k : Consumer) (w : Exchange) → t.consumer c ≡ Some k → k.own ≡ Some x → t.exchange x ≡ Some w → IsOwner t x w c) where
   awaiting_owns : (x : ℕ) (w : Exchange) (p : Place) → IsAwaiting x w p → may_own p ≡ true

@@ -1,7 +1,5 @@
 -- Why a consumer is shown a head: it came for it, its first hole joined, freshness allows it, or it kept a 304.
-use Rattle.std.proofs.Common.{◌≡◌, inl, inr, ℕ, ◌+◌, Bool, true, false, Option, Some, None, refl, ap, sym, ◌∙◌}
-use Rattle.std.specs.Prelude.{is_none, ◌&&◌, nat_le}
-use Rattle.std.specs.Option.{option_map}
+use Rattle.std.{proofs.Common.{◌≡◌, inl, inr, ℕ, ◌+◌, Bool, true, false, Option, Some, None, refl, ap, sym, ◌∙◌}, specs.{Prelude.{is_none, ◌&&◌, nat_le}, Option.{option_map}}}
 use Rattle.hc_text.proofs.Basics.{bool_cases, not_some as none_some, some_inj}
 use Rattle.hc_range.specs.declared.range.Span.{Span}
 use Rattle.hc_effects.proofs.Vocabulary.{Request, Response, Why, Candidate, Plan, PlanView, Wanted, plan_of, bare_plan, in_time, from_store, by_current, by_why, by_wanted, by_exclusive, by_hole, by_bound, plan_on, why_by, queues, BoundBy, Place, kept_by, current, total_in, base, Move, Nothing, Shows, Fails, shows_stored, opens_hole, plan_view, plan_move, candidate, binds_current, move_of, shows_at, shows_bound, shows_direct, shows_answer, has_joined, hi_of, Tables, Exchange, Representation, Consumer, Sound}
@@ -14,10 +12,8 @@ use Rattle.hc_fresh.specs.Facts.{allowed}
 use Rattle.hc_event.specs.declared.place.BoundBy.TheVariants as by
 use Rattle.hc_event.specs.declared.place.Place.TheVariants as place
 use Rattle.hc_model.specs.Moves as moves
-use Rattle.hc_effects.proofs.Joining.{mix}
-use Rattle.hc_effects.proofs.MoveBy.{MoveBy, move_by}
+use Rattle.hc_effects.proofs.{Joining.{mix}, MoveBy.{MoveBy, move_by}, ShownOnce.{is_showing, shown_shows}}
 use Rattle.hc_effects.proofs.MoveBy as by_move
-use Rattle.hc_effects.proofs.ShownOnce.{is_showing, shown_shows}
 
 -- A PLAN
 

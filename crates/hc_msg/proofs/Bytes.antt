@@ -1,18 +1,10 @@
 -- Where bytes lead within heads, chunk lines and bodies.
-use Rattle.std.proofs.Common.{◌≡◌, ℕ, suc, ◌+◌, ◌-◌, ◌<◌, ◌≤◌, ◌==◌, true, false, true≢false, inl, inr, List, [], ◌∷◌, ◌++◌, length, take, refl, sym, ap, subst, ◌∙◌, arith, append_assoc, length-append, lt-ltb}
-use Rattle.std.specs.Prelude.{not, nat_lt, map}
-use Rattle.std.proofs.lemmas.Bool.{cases_Bool, and_parts, ne_eqb, le-ltb}
-use Rattle.std.proofs.lemmas.List.{append-nil, take_at}
+use Rattle.std.{proofs.{Common.{◌≡◌, ℕ, suc, ◌+◌, ◌-◌, ◌<◌, ◌≤◌, ◌==◌, true, false, true≢false, inl, inr, List, [], ◌∷◌, ◌++◌, length, take, refl, sym, ap, subst, ◌∙◌, arith, append_assoc, length-append, lt-ltb}, lemmas.{Bool.{cases_Bool, and_parts, ne_eqb, le-ltb}, List.{append-nil, take_at}}}, specs.Prelude.{not, nat_lt, map}}
 use Rattle.hc_text.specs.Texts.{lacks}
 use Rattle.hc_head.specs.declared.message.MsgError.TheVariants as error
-use Rattle.hc_head.specs.declared.scan.Scan.{Scan}
-use Rattle.hc_head.specs.declared.scan.Scan.TheVariants.{Before, BeforeReturn, Within, Beginning, BeginningReturn, Ended}
-use Rattle.hc_head.specs.Scans.{scan_byte, scan_all, is_open, IsHeadEnd, IsLineBefore}
-use Rattle.hc_msg.specs.Reading.{Kind, Requests, Responses, Reading, Heading, Counts, Runs, Sizing, Chunk, Failed, Byte, Step, quiet, fails, counts, chunk, begins_head, move_of, HeadMakes, LineMakes, Makes, Leads, TellsAtLast, Token}
-use Rattle.hc_head.specs.Finding.{IsLong}
-use Rattle.hc_msg.specs.Chunks.{IsLongLine}
-use Rattle.hc_head.proofs.ScanLemmas.{not_equal}
-use Rattle.hc_head.proofs.Starts.{begins_front}
+use Rattle.hc_head.specs.{declared.scan.Scan.{Scan, TheVariants.{Before, BeforeReturn, Within, Beginning, BeginningReturn, Ended}}, Scans.{scan_byte, scan_all, is_open, IsHeadEnd, IsLineBefore}, Finding.{IsLong}}
+use Rattle.hc_msg.specs.{Reading.{Kind, Requests, Responses, Reading, Heading, Counts, Runs, Sizing, Chunk, Failed, Byte, Step, quiet, fails, counts, chunk, begins_head, move_of, HeadMakes, LineMakes, Makes, Leads, TellsAtLast, Token}, Chunks.{IsLongLine}}
+use Rattle.hc_head.proofs.{ScanLemmas.{not_equal}, Starts.{begins_front}}
 use Rattle.hc_msg.proofs.Leading.{leads_on, leads_byte, stays_failed}
 
 pub open_before : (scan : Scan) (bytes : List ℕ) → is_open (scan_all scan bytes) ≡ true → is_open scan ≡ true

@@ -2,27 +2,13 @@
 -- kept of the beginning of a head is what may follow it (`GoesOn`), so behind further bytes it says whether a request
 -- can begin with all of them (`begun`, `not_begun`). Where it can't, the first byte that shows it leads to BadHead:
 -- before that byte the search for the end of the head is open (`AreOfHead`), so the reading was still within the head.
-use Rattle.std.proofs.Common.{◌≡◌, ℕ, ◌+◌, ◌-◌, ◌<◌, ◌≤◌, true, false, List, [], ◌∷◌, ◌++◌, length, take, drop, refl, sym, ap, subst, ◌∙◌, inl, inr, arith, append_assoc, length-append, length-take}
-use Rattle.std.specs.Prelude.{◌⊎◌, Result, Ok, Err}
-use Rattle.std.proofs.lemmas.List.{append-nil, take_at, take-append-le, take-append-drop}
-use Rattle.hc_head.specs.declared.message.MsgError.{MsgError}
+use Rattle.std.{proofs.{Common.{◌≡◌, ℕ, ◌+◌, ◌-◌, ◌<◌, ◌≤◌, true, false, List, [], ◌∷◌, ◌++◌, length, take, drop, refl, sym, ap, subst, ◌∙◌, inl, inr, arith, append_assoc, length-append, length-take}, lemmas.List.{append-nil, take_at, take-append-le, take-append-drop}}, specs.Prelude.{◌⊎◌, Result, Ok, Err}}
+use Rattle.hc_head.specs.{declared.{message.{MsgError.{MsgError}, WireRequest.{WireRequest}}, scan.{Scan.{Scan}, Sought.{Sought}}, start.Start.{Start, TheVariants.{Before, BeforeReturn, Method, Past}}}, Scans.{scan_all, is_open, IsHeadEnd, StaysOpen}, Starts.{begins_request, goes_on_from}, Finding.{IsLong, Finds}, Requests.{Asked, Grants, IsAskedBy}, Calls.{Gives}}
 use Rattle.hc_head.specs.declared.message.MsgError.TheVariants as error
-use Rattle.hc_head.specs.declared.message.WireRequest.{WireRequest}
-use Rattle.hc_head.specs.declared.scan.Scan.{Scan}
-use Rattle.hc_head.specs.Scans.{scan_all, is_open, IsHeadEnd, StaysOpen}
-use Rattle.hc_head.specs.declared.scan.Sought.{Sought}
 use Rattle.hc_head.specs.declared.scan.Sought.TheVariants as sought
-use Rattle.hc_head.specs.declared.start.Start.{Start}
-use Rattle.hc_head.specs.declared.start.Start.TheVariants.{Before, BeforeReturn, Method, Past}
-use Rattle.hc_head.specs.Starts.{begins_request, goes_on_from}
-use Rattle.hc_head.specs.Finding.{IsLong, Finds}
-use Rattle.hc_head.specs.Requests.{Asked, Grants, IsAskedBy}
-use Rattle.hc_msg.specs.Reading.{Requests, Heading, Failed, Asks, heading, after_asked, Leads, TellsAtLast}
-use Rattle.hc_head.specs.Calls.{Gives}
+use Rattle.hc_msg.specs.{Reading.{Requests, Heading, Failed, Asks, heading, after_asked, Leads, TellsAtLast}, Asking.{Called, GoesOn, head_count}}
 use Rattle.hc_head.proofs.ScanLemmas.{scan_all-append}
-use Rattle.hc_msg.specs.Asking.{Called, GoesOn, head_count}
-use Rattle.hc_msg.proofs.Leading.{leads_on, stays_failed}
-use Rattle.hc_msg.proofs.Bytes.{open_before, heading_on, heading_ends, heading_tells, heading_long, heading_refused}
+use Rattle.hc_msg.proofs.{Leading.{leads_on, stays_failed}, Bytes.{open_before, heading_on, heading_ends, heading_tells, heading_long, heading_refused}}
 
 -- a whole head
 asked_leads : (scan : Scan) (held rest : List ℕ) (n : ℕ) (asked : Asked) → IsHeadEnd scan rest n → length held + n ≤ 32768

@@ -1,7 +1,5 @@
 -- Texts that are appended one behind another.
-use Rattle.std.proofs.Common.{◌≡◌, ℕ, false, List, [], ◌∷◌, ◌++◌, length, take, drop, refl, sym, ap, ◌∙◌, append_assoc}
-use Rattle.std.specs.Prelude.{codes}
-use Rattle.std.proofs.lemmas.List.{append-nil, take_at, take-append-drop}
+use Rattle.std.{proofs.{Common.{◌≡◌, ℕ, false, List, [], ◌∷◌, ◌++◌, length, take, drop, refl, sym, ap, ◌∙◌, append_assoc}, lemmas.List.{append-nil, take_at, take-append-drop}}, specs.Prelude.{codes}}
 use Rattle.hc_event.specs.declared.event.Response.{Response}
 use Rattle.hc_msg.specs.Writing.{Keeps, crlf, line_of, lines_of, status_line, response_text, closing_of}
 

@@ -1,6 +1,5 @@
 -- What is found in the first bytes of a piece is found in the piece.
-use Rattle.std.proofs.Common.{◌≡◌, ℕ, ◌+◌, ◌<◌, ◌≤◌, true, List, ◌++◌, length, take, drop, arith, length-take, length-drop}
-use Rattle.std.proofs.lemmas.List.{take-append-drop}
+use Rattle.std.proofs.{Common.{◌≡◌, ℕ, ◌+◌, ◌<◌, ◌≤◌, true, List, ◌++◌, length, take, drop, arith, length-take, length-drop}, lemmas.List.{take-append-drop}}
 use Rattle.hc_text.specs.Texts.{lacks}
 use Rattle.hc_head.specs.Scans.{IsLineBefore}
 use Rattle.hc_head.proofs.Fronts.{front_end, front_len}

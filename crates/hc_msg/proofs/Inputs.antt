@@ -2,26 +2,13 @@
 -- tell nothing are passed (`passes_next`). What is left then is a head that is told at its last byte (`tells_next`), bytes
 -- of a body that stand together (`brings_next`), an end or an error. That a byte tells nothing shows that it isn't one of a
 -- body, and that a token is no byte shows the same of the last byte of a head.
-use Rattle.std.proofs.Common.{◌≡◌, ℕ, ◌-◌, ◌<◌, true, List, [], ◌∷◌, ◌++◌, length, take, drop, refl, sym, ap, subst, ◌∙◌, inl, inr, arith, append_assoc, length-take, lt-ltb}
-use Rattle.std.specs.Prelude.{◌⊎◌, nat_lt, min, Option, Some, None, Result, Ok, Err}
-use Rattle.std.proofs.lemmas.List.{append-nil, drop_all, take-append-drop, drop-drop}
-use Rattle.hc_head.specs.declared.message.MsgError.{MsgError}
+use Rattle.std.{proofs.{Common.{◌≡◌, ℕ, ◌-◌, ◌<◌, true, List, [], ◌∷◌, ◌++◌, length, take, drop, refl, sym, ap, subst, ◌∙◌, inl, inr, arith, append_assoc, length-take, lt-ltb}, lemmas.List.{append-nil, drop_all, take-append-drop, drop-drop}}, specs.Prelude.{◌⊎◌, nat_lt, min, Option, Some, None, Result, Ok, Err}}
+use Rattle.hc_head.specs.{declared.message.{MsgError.{MsgError}, WireRequest.{WireRequest}}, Decoding.{asked_in, heard_in}}
 use Rattle.hc_head.specs.declared.message.MsgError.TheVariants as error
-use Rattle.hc_head.specs.declared.message.WireRequest.{WireRequest}
-use Rattle.hc_head.specs.Decoding.{asked_in, heard_in}
 use Rattle.hc_head.proofs.Decoding.{asked_in_is, heard_in_is}
-use Rattle.hc_msg.specs.declared.message.Taken.{Taken}
-use Rattle.hc_msg.specs.declared.message.WirePart.{WirePart}
+use Rattle.hc_msg.specs.{declared.{message.{Taken.{Taken}, WirePart.{WirePart}}, call.Call.{Call}}, Sizes.{size_in}, Reading.{Reading, Requests, Responses, Heading, Counts, Runs, Sizing, Chunk, ChunkEnd, ChunkReturn, Trailing, Whole, Done, Failed, Token, Asks, Answers, Byte, Step, Move, Goes, EndsHead, EndsLine, Stays, counts, chunk, move_of, Makes, Leads, TellsAtLast}, Taking.{stretch, goes_on, byte_tokens, GivesBytes, IsSpent, Completes, Takes}, Asking.{asking, asking_by, CompletesRequest, TakesRequest}, Inputs.{Next, Waits, Tells, Brings, Ends, Fails, step_of, stopped, body_behind, told_or, next_in, IsNextError, IsNextPart, TakesNext, IsNextRequest, TakesNextRequest}}
 use Rattle.hc_msg.specs.declared.message.WirePart.TheVariants as part
-use Rattle.hc_msg.specs.Sizes.{size_in}
-use Rattle.hc_msg.specs.Reading.{Reading, Requests, Responses, Heading, Counts, Runs, Sizing, Chunk, ChunkEnd, ChunkReturn, Trailing, Whole, Done, Failed, Token, Asks, Answers, Byte, Step, Move, Goes, EndsHead, EndsLine, Stays, counts, chunk, move_of, Makes, Leads, TellsAtLast}
-use Rattle.hc_msg.specs.Taking.{stretch, goes_on, byte_tokens, GivesBytes, IsSpent, Completes, Takes}
-use Rattle.hc_msg.specs.declared.call.Call.{Call}
-use Rattle.hc_msg.specs.Asking.{asking, asking_by, CompletesRequest, TakesRequest}
-use Rattle.hc_msg.specs.Inputs.{Next, Waits, Tells, Brings, Ends, Fails, step_of, stopped, body_behind, told_or, next_in, IsNextError, IsNextPart, TakesNext, IsNextRequest, TakesNextRequest}
-use Rattle.hc_msg.proofs.Leading.{makes_one, leads_one}
-use Rattle.hc_msg.proofs.Sizes.{size_in_is}
-use Rattle.hc_msg.proofs.Bytes.{counts_some, counts_on, chunk_on, runs_on}
+use Rattle.hc_msg.proofs.{Leading.{makes_one, leads_one}, Sizes.{size_in_is}, Bytes.{counts_some, counts_on, chunk_on, runs_on}}
 
 -- STEPS
 

@@ -1,13 +1,10 @@
 -- What bytes lead to has one answer, and bytes that are put together lead on.
-use Rattle.std.proofs.Common.{◌≡◌, ℕ, Bool, List, [], ◌∷◌, ◌++◌, Option, Some, None, refl, sym, ap, subst, ◌∙◌, append_assoc}
-use Rattle.std.proofs.lemmas.List.{append-nil}
+use Rattle.std.proofs.{Common.{◌≡◌, ℕ, Bool, List, [], ◌∷◌, ◌++◌, Option, Some, None, refl, sym, ap, subst, ◌∙◌, append_assoc}, lemmas.List.{append-nil}}
 use Rattle.httparse.specs.Grammar.{ChunkLine, chunk_size}
 use Rattle.httparse.proofs.ChunkLemmas.{chunk_line_unique}
 use Rattle.hc_head.specs.declared.message.MsgError.{MsgError}
-use Rattle.hc_head.proofs.Calls.{asked_one}
-use Rattle.hc_head.proofs.Replies.{heard_one}
-use Rattle.hc_msg.specs.Chunks.{LineSays}
-use Rattle.hc_msg.specs.Reading.{Kind, Requests, Responses, Reading, Failed, Token, Step, Move, Goes, EndsHead, EndsLine, Stays, fails, after_asked, after_heard, after_line, move_of, AsksFor, AnswersWith, HeadMakes, Makes, Leads, TellsAtLast}
+use Rattle.hc_head.proofs.{Calls.{asked_one}, Replies.{heard_one}}
+use Rattle.hc_msg.specs.{Chunks.{LineSays}, Reading.{Kind, Requests, Responses, Reading, Failed, Token, Step, Move, Goes, EndsHead, EndsLine, Stays, fails, after_asked, after_heard, after_line, move_of, AsksFor, AnswersWith, HeadMakes, Makes, Leads, TellsAtLast}}
 
 asks_one : (text : List ℕ) (a b : Step) → AsksFor text a → AsksFor text b → a ≡ b
 asks_one text a b x y = x.2 ∙ ap after_asked (asked_one text x.0 y.0 x.1 y.1) ∙ sym y.2

@@ -1,9 +1,6 @@
 -- What the chunk line at the front of a text says of the whole text.
-use Rattle.std.proofs.Common.{◌≡◌, ℕ, ◌^◌, ◌<◌, ◌≤◌, List, [], length, drop, length-drop, sym, ap, subst, ◌∙◌, arith}
-use Rattle.std.specs.Prelude.{Some}
-use Rattle.std.proofs.lemmas.List.{drop_all}
-use Rattle.httparse.specs.Grammar.{ChunkLine, ReadsChunkLine, chunk_size}
-use Rattle.httparse.specs.Spans.{IsChunkLineAt}
+use Rattle.std.{proofs.{Common.{◌≡◌, ℕ, ◌^◌, ◌<◌, ◌≤◌, List, [], length, drop, length-drop, sym, ap, subst, ◌∙◌, arith}, lemmas.List.{drop_all}}, specs.Prelude.{Some}}
+use Rattle.httparse.specs.{Grammar.{ChunkLine, ReadsChunkLine, chunk_size}, Spans.{IsChunkLineAt}}
 use Rattle.httparse.proofs.ChunkLemmas.{chunk_line_unique}
 use Rattle.hc_msg.specs.Chunks.{IsLineOf, LineSays}
 

@@ -1,18 +1,11 @@
 -- What a look shows is what stands next.
-use Rattle.std.proofs.Common.{◌≡◌, ℕ, ◌<◌, Bool, true, false, true≢false, List, [], ◌∷◌, length, refl, sym, ap, subst, ◌∙◌, arith}
-use Rattle.std.specs.Prelude.{IfOk, Option, Some, None, Result, Ok, Err}
+use Rattle.std.{proofs.Common.{◌≡◌, ℕ, ◌<◌, Bool, true, false, true≢false, List, [], ◌∷◌, length, refl, sym, ap, subst, ◌∙◌, arith}, specs.Prelude.{IfOk, Option, Some, None, Result, Ok, Err}}
 use Rattle.hc_head.specs.declared.message.MsgError.{MsgError}
 use Rattle.hc_text.specs.declared.memory.NoMemory.{NoMemory}
-use Rattle.hc_msg.specs.declared.answer.State.{State}
+use Rattle.hc_msg.specs.{declared.{answer.State.{State}, message.{Look.{Look}, Taken.{Taken}, WirePart.{WirePart}}}, Reading.{Reading}, Taking.{reading_by, IsSoundAt, IsKeptAt, goes_on, Takes}, Inputs.{Next, stopped, is_in_body, next_in, IsNextError, IsNextPart, look_of}}
 use Rattle.hc_msg.specs.declared.answer.State.TheVariants as state
-use Rattle.hc_msg.specs.declared.message.Look.{Look}
 use Rattle.hc_msg.specs.declared.message.Look.TheVariants as look
-use Rattle.hc_msg.specs.declared.message.Taken.{Taken}
-use Rattle.hc_msg.specs.declared.message.WirePart.{WirePart}
 use Rattle.hc_msg.specs.declared.message.WirePart.TheVariants as part
-use Rattle.hc_msg.specs.Reading.{Reading}
-use Rattle.hc_msg.specs.Taking.{reading_by, IsSoundAt, IsKeptAt, goes_on, Takes}
-use Rattle.hc_msg.specs.Inputs.{Next, stopped, is_in_body, next_in, IsNextError, IsNextPart, look_of}
 use Rattle.hc_msg.proofs.Inputs.{takes_next}
 
 -- BEFORE ANYTHING IS READ

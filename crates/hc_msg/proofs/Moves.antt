@@ -1,29 +1,14 @@
 -- What the code makes of the first bytes of a piece is where they lead.
-use Rattle.std.proofs.Common.{◌≡◌, ℕ, ◌+◌, ◌-◌, ◌<◌, ◌≤◌, ◌==◌, Bool, true, List, [], ◌∷◌, ◌++◌, length, take, drop, get_or, refl, sym, ap, subst, ◌∙◌, inl, inr, arith, length-take, length-drop, take-add}
-use Rattle.std.specs.Prelude.{◌⊎◌, map, min, OnOk, Option, Some, None, Result, Ok, Err}
-use Rattle.std.proofs.lemmas.List.{take_all, take-append-drop}
-use Rattle.hc_msg.specs.declared.answer.Moved.{Moved}
+use Rattle.std.{proofs.{Common.{◌≡◌, ℕ, ◌+◌, ◌-◌, ◌<◌, ◌≤◌, ◌==◌, Bool, true, List, [], ◌∷◌, ◌++◌, length, take, drop, get_or, refl, sym, ap, subst, ◌∙◌, inl, inr, arith, length-take, length-drop, take-add}, lemmas.List.{take_all, take-append-drop}}, specs.Prelude.{◌⊎◌, map, min, OnOk, Option, Some, None, Result, Ok, Err}}
+use Rattle.hc_msg.specs.{declared.{answer.{Moved.{Moved}, State.{State}}, trailer.Trailer.{Trailer}, message.WirePart.{WirePart}}, Chunks.{LineSays, IsLongLine, trail}, Reading.{Reading, Responses, Heading, Failed, Counts, Runs, Sizing, Chunk, ChunkEnd, ChunkReturn, Trailing, Byte, counts, chunk, reading_of_chunk, after_line, Answers, after_heard, heading, body, quiet, fails, Makes, move_of, Leads, TellsAtLast}, Taking.{reading_by, Moves, Takes, Completes, Replied, Enters, IsPieceOf, Expects, TrailMoves}}
 use Rattle.hc_msg.specs.declared.answer.Moved.TheVariants as moved
-use Rattle.hc_head.specs.declared.message.MsgError.{MsgError}
+use Rattle.hc_head.specs.{declared.{message.MsgError.{MsgError}, response.Reply.{Reply}, scan.Scan.{Scan}}, Scans.{scan_all, is_open, IsHeadEnd, StaysOpen, IsLineBefore}, Finding.{IsLong}, Responses.{Heard, Shows, IsHeardIn}, Replies.{Hears}}
 use Rattle.hc_head.specs.declared.message.MsgError.TheVariants as error
 use Rattle.hc_msg.specs.declared.message.WirePart.TheVariants as part
-use Rattle.hc_head.specs.declared.response.Reply.{Reply}
 use Rattle.hc_head.specs.declared.response.Reply.TheVariants as reply
-use Rattle.hc_head.specs.declared.scan.Scan.{Scan}
-use Rattle.hc_head.specs.Scans.{scan_all, is_open, IsHeadEnd, StaysOpen, IsLineBefore}
 use Rattle.hc_text.specs.Texts.{lacks}
-use Rattle.hc_msg.specs.Chunks.{LineSays, IsLongLine, trail}
-use Rattle.hc_msg.specs.declared.trailer.Trailer.{Trailer}
-use Rattle.hc_msg.specs.declared.answer.State.{State}
 use Rattle.hc_msg.specs.declared.answer.State.TheVariants as state
-use Rattle.hc_msg.specs.declared.message.WirePart.{WirePart}
-use Rattle.hc_head.specs.Finding.{IsLong}
-use Rattle.hc_head.specs.Responses.{Heard, Shows, IsHeardIn}
-use Rattle.hc_msg.specs.Reading.{Reading, Responses, Heading, Failed, Counts, Runs, Sizing, Chunk, ChunkEnd, ChunkReturn, Trailing, Byte, counts, chunk, reading_of_chunk, after_line, Answers, after_heard, heading, body, quiet, fails, Makes, move_of, Leads, TellsAtLast}
-use Rattle.hc_head.specs.Replies.{Hears}
-use Rattle.hc_msg.specs.Taking.{reading_by, Moves, Takes, Completes, Replied, Enters, IsPieceOf, Expects, TrailMoves}
-use Rattle.hc_msg.proofs.Leading.{leads_on, leads_byte, stays_failed, tells_on}
-use Rattle.hc_msg.proofs.Bytes.{heading_on, heading_ends, heading_tells, heading_long, line_on, line_ends, line_long, counts_on, counts_some, chunk_on, runs_on}
+use Rattle.hc_msg.proofs.{Leading.{leads_on, leads_byte, stays_failed, tells_on}, Bytes.{heading_on, heading_ends, heading_tells, heading_long, line_on, line_ends, line_long, counts_on, counts_some, chunk_on, runs_on}}
 
 -- a whole head
 heard_leads : (nb : Bool) (scan : Scan) (held rest : List ℕ) (n : ℕ) (heard : Heard) → IsHeadEnd scan rest n → length held + n ≤ 32768

@@ -3,28 +3,12 @@
 -- By induction on the input. A step tells one head at most, and never leads behind the end of a message (`IsFair`), so
 -- where it tells nothing the rest of the input says what stands next (`passes_stands`), and where it tells something
 -- that stands next. Within a body the bytes that stand together lead on by the laws of bodies.
-use Rattle.std.proofs.Common.{◌≡◌, ℕ, ◌+◌, ◌-◌, ◌<◌, ◌≤◌, ◌==◌, Bool, true, false, List, [], ◌∷◌, ◌++◌, length, take, drop, refl, sym, ap, subst, ◌∙◌, inl, inr, arith, length-take}
-use Rattle.std.specs.Prelude.{not, nat_lt, min, if◌then◌else◌, Option, Some, None}
-use Rattle.std.proofs.lemmas.Bool.{cases_Bool, ltb-true}
-use Rattle.std.proofs.lemmas.List.{take-append-drop}
-use Rattle.hc_head.specs.declared.framing.Framing.{Framing}
+use Rattle.std.{proofs.{Common.{◌≡◌, ℕ, ◌+◌, ◌-◌, ◌<◌, ◌≤◌, ◌==◌, Bool, true, false, List, [], ◌∷◌, ◌++◌, length, take, drop, refl, sym, ap, subst, ◌∙◌, inl, inr, arith, length-take}, lemmas.{Bool.{cases_Bool, ltb-true}, List.{take-append-drop}}}, specs.Prelude.{not, nat_lt, min, if◌then◌else◌, Option, Some, None}}
+use Rattle.hc_head.specs.{declared.framing.Framing.{Framing}, Decoding.{asked_in, heard_in}, Requests.{Asked, Grants, Denies}, Responses.{Heard, Skips, Shows, Refuses}, Scans.{scan_byte, is_open}}
 use Rattle.hc_head.specs.declared.framing.Framing.TheVariants as framing
-use Rattle.hc_head.specs.Decoding.{asked_in, heard_in}
-use Rattle.hc_head.specs.Requests.{Asked, Grants, Denies}
-use Rattle.hc_head.specs.Responses.{Heard, Skips, Shows, Refuses}
-use Rattle.hc_head.specs.Scans.{scan_byte, is_open}
 use Rattle.hc_head.proofs.Decoding.{asked_in_is, heard_in_is}
-use Rattle.hc_msg.specs.declared.trailer.Trails.{Trails}
-use Rattle.hc_msg.specs.declared.trailer.Trails.TheVariants.{On, Ends as Closes, TooLong}
-use Rattle.hc_msg.specs.Chunks.{trail}
-use Rattle.hc_msg.specs.Sizes.{size_in}
-use Rattle.hc_msg.specs.Reading.{Kind, Requests, Responses, Reading, Heading, Counts, Runs, Sizing, Chunk, ChunkEnd, ChunkReturn, Trailing, Whole, Done, Failed, Token, Byte, Step, Move, Goes, EndsHead, EndsLine, Stays, quiet, counts, chunk, body, after_asked, after_heard, after_line, after_trail, begins_head, move_of, Makes, Leads}
-use Rattle.hc_msg.specs.Taking.{stretch, goes_on, byte_tokens}
-use Rattle.hc_msg.specs.Inputs.{Next, Waits, Tells, Brings, Ends, Fails, step_of, body_behind, brought, told_or, next_in}
-use Rattle.hc_msg.specs.NextParts.{StandsNext}
-use Rattle.hc_msg.proofs.Leading.{leads_on, leads_byte, stays_failed, tells_on}
-use Rattle.hc_msg.proofs.Sizes.{size_in_is}
-use Rattle.hc_msg.proofs.Bytes.{counts_some, counts_on, chunk_on, runs_on}
+use Rattle.hc_msg.specs.{declared.trailer.Trails.{Trails, TheVariants.{On, Ends as Closes, TooLong}}, Chunks.{trail}, Sizes.{size_in}, Reading.{Kind, Requests, Responses, Reading, Heading, Counts, Runs, Sizing, Chunk, ChunkEnd, ChunkReturn, Trailing, Whole, Done, Failed, Token, Byte, Step, Move, Goes, EndsHead, EndsLine, Stays, quiet, counts, chunk, body, after_asked, after_heard, after_line, after_trail, begins_head, move_of, Makes, Leads}, Taking.{stretch, goes_on, byte_tokens}, Inputs.{Next, Waits, Tells, Brings, Ends, Fails, step_of, body_behind, brought, told_or, next_in}, NextParts.{StandsNext}}
+use Rattle.hc_msg.proofs.{Leading.{leads_on, leads_byte, stays_failed, tells_on}, Sizes.{size_in_is}, Bytes.{counts_some, counts_on, chunk_on, runs_on}}
 
 -- STEPS
 

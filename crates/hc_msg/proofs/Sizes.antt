@@ -1,19 +1,10 @@
 -- A chunk line says what the equations say. A printed line is cut into its digits, its blanks and its extension again,
 -- since what follows each of these begins with another byte (`run_cut`). The other way, what was cut is a line that
 -- prints as the text (`size_makes`).
-use Rattle.std.proofs.Common.{◌≡◌, ℕ, suc, ◌+◌, ◌-◌, ◌^◌, ◌<◌, ◌==◌, Bool, true, false, List, [], ◌∷◌, ◌++◌, length, take, drop, refl, sym, ap, subst, ◌∙◌, inl, inr, arith, append_assoc, length-append}
-use Rattle.std.specs.Prelude.{◌&&◌, nat_lt, nat_le, bytes_eq, Option, Some, None, if◌then◌else◌}
-use Rattle.std.specs.List.{list_all, prefix_len}
-use Rattle.std.specs.Char.{is_ascii_hexdigit}
-use Rattle.std.specs.Str.Parse.{digits_value}
-use Rattle.std.proofs.lemmas.Bool.{cases_Bool, and_parts, eqb-true, ltb-true, lt-ltb, leb-true, le-leb}
-use Rattle.std.proofs.lemmas.List.{append-nil, take_at, drop_at, take-append-drop}
-use Rattle.std.proofs.lemmas.List.Sums.{AllPass-from_list_all, list_all-from_AllPass}
-use Rattle.std.proofs.lemmas.Slice.Eq.{bytes_eq-Decides}
+use Rattle.std.{proofs.{Common.{◌≡◌, ℕ, suc, ◌+◌, ◌-◌, ◌^◌, ◌<◌, ◌==◌, Bool, true, false, List, [], ◌∷◌, ◌++◌, length, take, drop, refl, sym, ap, subst, ◌∙◌, inl, inr, arith, append_assoc, length-append}, lemmas.{Bool.{cases_Bool, and_parts, eqb-true, ltb-true, lt-ltb, leb-true, le-leb}, List.{append-nil, take_at, drop_at, take-append-drop, Sums.{AllPass-from_list_all, list_all-from_AllPass}}, Slice.Eq.{bytes_eq-Decides}}}, specs.{Prelude.{◌&&◌, nat_lt, nat_le, bytes_eq, Option, Some, None, if◌then◌else◌}, List.{list_all, prefix_len}, Char.{is_ascii_hexdigit}, Str.Parse.{digits_value}}}
 use Rattle.hc_text.proofs.Basics.{not_some, some_inj as some_same}
 use Rattle.httparse.specs.Grammar.{ChunkLine, IsChunkLine, print_chunk_line, print_extension, IsExtension, chunk_size, is_ows, is_extension_byte}
-use Rattle.hc_msg.specs.Chunks.{IsLineOf, LineSays}
-use Rattle.hc_msg.specs.Sizes.{digits_in, behind_digits, behind_pad, is_extension, is_chunk_line, size_by, size_in}
+use Rattle.hc_msg.specs.{Chunks.{IsLineOf, LineSays}, Sizes.{digits_in, behind_digits, behind_pad, is_extension, is_chunk_line, size_by, size_in}}
 
 -- a run of bytes that pass a test, and what stands behind it
 run_len : (test : ℕ → Bool) (run rest : List ℕ) → list_all test run ≡ true → prefix_len test rest ≡ 0 → prefix_len test (run ++ rest) ≡ length run

@@ -1,26 +1,10 @@
 -- What bytes tell has a spelling: only a whole head tells something that needs one, and its text is short.
-use Rattle.std.proofs.Common.{◌≡◌, ℕ, ◌≤◌, ◌==◌, Bool, List, [], ◌∷◌, ◌++◌, length, sym, subst, inl, inr, arith, length-append}
-use Rattle.std.specs.Prelude.{nat_lt, All, IfSome, if◌then◌else◌, Option, Some, None, Result, Ok, Err}
-use Rattle.std.proofs.lemmas.Bool.{cases_Bool, ltb-true}
-use Rattle.std.proofs.lemmas.List.Elements.{All-cons, All-head, All-append}
-use Rattle.hc_head.specs.declared.message.MsgError.{MsgError}
-use Rattle.hc_head.specs.declared.message.WireRequest.{WireRequest}
-use Rattle.hc_head.specs.declared.scan.Scan.{Scan}
-use Rattle.hc_head.specs.Scans.{scan_byte, is_open}
-use Rattle.hc_head.specs.Requests.{Asked, Grants, Denies, IsAskedBy}
-use Rattle.hc_head.specs.Responses.{Heard, Skips, Shows, Refuses, IsHeardIn}
+use Rattle.std.{proofs.{Common.{◌≡◌, ℕ, ◌≤◌, ◌==◌, Bool, List, [], ◌∷◌, ◌++◌, length, sym, subst, inl, inr, arith, length-append}, lemmas.{Bool.{cases_Bool, ltb-true}, List.Elements.{All-cons, All-head, All-append}}}, specs.Prelude.{nat_lt, All, IfSome, if◌then◌else◌, Option, Some, None, Result, Ok, Err}}
+use Rattle.hc_head.specs.{declared.{message.{MsgError.{MsgError}, WireRequest.{WireRequest}}, scan.Scan.{Scan}}, Scans.{scan_byte, is_open}, Requests.{Asked, Grants, Denies, IsAskedBy}, Responses.{Heard, Skips, Shows, Refuses, IsHeardIn}}
 use Rattle.hc_head.proofs.Spellings.{granted_spelled, shown_spelled}
-use Rattle.hc_msg.specs.declared.message.Taken.{Taken}
-use Rattle.hc_msg.specs.declared.message.WirePart.{WirePart}
+use Rattle.hc_msg.specs.{declared.{message.{Taken.{Taken}, WirePart.{WirePart}}, trailer.Trails.{Trails, TheVariants.{On, Ends, TooLong}}}, Chunks.{trail}, Reading.{Kind, Requests, Responses, Reading, Heading, Counts, Runs, Sizing, Chunk, ChunkEnd, ChunkReturn, Trailing, Whole, Done, Failed, Token, Asks, Answers, Byte, Step, Goes, after_asked, after_heard, after_line, after_trail, begins_head, move_of, HeadMakes, Makes, Leads}, Asking.{TakesRequest, CompletesRequest}, Taking.{Takes, Completes}, Spelled.{IsSpelled, IsSpelledPart, GivesSpelled}}
 use Rattle.hc_msg.specs.declared.message.WirePart.TheVariants as part
-use Rattle.hc_msg.specs.declared.trailer.Trails.{Trails}
-use Rattle.hc_msg.specs.declared.trailer.Trails.TheVariants.{On, Ends, TooLong}
-use Rattle.hc_msg.specs.Chunks.{trail}
-use Rattle.hc_msg.specs.Reading.{Kind, Requests, Responses, Reading, Heading, Counts, Runs, Sizing, Chunk, ChunkEnd, ChunkReturn, Trailing, Whole, Done, Failed, Token, Asks, Answers, Byte, Step, Goes, after_asked, after_heard, after_line, after_trail, begins_head, move_of, HeadMakes, Makes, Leads}
-use Rattle.hc_msg.specs.Asking.{TakesRequest, CompletesRequest}
-use Rattle.hc_msg.specs.Taking.{Takes, Completes}
 use Rattle.hc_msg.proofs.Leading.{tells_leads}
-use Rattle.hc_msg.specs.Spelled.{IsSpelled, IsSpelledPart, GivesSpelled}
 
 none_spelled : All IsSpelled []
 none_spelled = λ k d lt. absurd (omega arith)

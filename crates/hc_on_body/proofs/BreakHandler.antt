@@ -1,8 +1,6 @@
 -- An exchange breaks: before its head its consumer is put down, and else whoever reads from it fails.
-use Rattle.std.proofs.Common.{◌≡◌, ◌≢◌, inl, inr, ℕ, [], ◌∷◌, ◌++◌, true, false, Option, Some, None, refl, ap, sym, ◌∙◌, subst}
+use Rattle.std.{proofs.Common.{◌≡◌, ◌≢◌, inl, inr, ℕ, [], ◌∷◌, ◌++◌, true, false, Option, Some, None, refl, ap, sym, ◌∙◌, subst}, specs.{Prelude.{nat_eq, option_map, ◌&&◌, ◌==◌, if◌then◌else◌}, HashMap.{get}}}
 use mathlib.Core.Path.{fun_ext}
-use Rattle.std.specs.Prelude.{nat_eq, option_map, ◌&&◌, ◌==◌, if◌then◌else◌}
-use Rattle.std.specs.HashMap.{get}
 use Rattle.hc_text.proofs.Basics.{eqb-other, eqb-same, same_or, same_some as same_row, some_inj as some_is, and_off as then_false}
 use Rattle.hc_effects.proofs.Vocabulary.{Limits, Cause, tables_after_close, over, with_consumer, with_exchange, family, brings_to, Lawful, IsAwaiting, Tables, Exchange, Representation}
 use Rattle.hc_effects.proofs.Tests.{none_some}
@@ -14,15 +12,8 @@ use Rattle.hc_event.specs.declared.place.BoundBy.TheVariants as by
 use Rattle.hc_model.specs.Effects as effects
 use Rattle.hc_model.specs.Owners as owners
 use Rattle.hc_model.specs.Rows as rows
-use Rattle.hc_state.specs.declared.consumer.Consumer.{Consumer}
-use Rattle.hc_state.specs.declared.rows.Rows.{Rows}
-use Rattle.hc_state.specs.Changes.{ChangesAt, put_down}
-use Rattle.hc_state.specs.Kept.{answer_for, answer_at}
-use Rattle.hc_state.specs.Leaving.{LeavesPlace}
-use Rattle.hc_state.specs.Stands.{RowsStand}
-use Rattle.hc_state.specs.Stopped.{NobodyAwaits, Waited}
-use Rattle.hc_state.proofs.Closing.{stands_unstored}
-use Rattle.hc_state.proofs.Dropping.{stands_down, moved_to}
+use Rattle.hc_state.specs.{declared.{consumer.Consumer.{Consumer}, rows.Rows.{Rows}}, Changes.{ChangesAt, put_down}, Kept.{answer_for, answer_at}, Leaving.{LeavesPlace}, Stands.{RowsStand}, Stopped.{NobodyAwaits, Waited}}
+use Rattle.hc_state.proofs.{Closing.{stands_unstored}, Dropping.{stands_down, moved_to}}
 
 -- the rows once it is closed, told in two ways
 abbrev mapped_over : Tables → ℕ → ℕ → Option Exchange

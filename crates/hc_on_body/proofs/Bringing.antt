@@ -1,13 +1,9 @@
 -- What an exchange may bring of a piece that is accepted.
-use Rattle.std.proofs.Common.{◌≡◌, ℕ, true, Option, None, refl, sym, subst, arith}
-use Rattle.std.specs.Prelude.{option_map}
+use Rattle.std.{proofs.Common.{◌≡◌, ℕ, true, Option, None, refl, sym, subst, arith}, specs.Prelude.{option_map}}
 use Rattle.hc_store.specs.declared.backend.Backend.{Ghosts}
 use Rattle.hc_effects.proofs.Vocabulary.{piece_refusal}
-use Rattle.hc_stored.specs.Entries.{shelf_of}
-use Rattle.hc_stored.specs.Shelf.{is_kept}
-use Rattle.hc_exch.specs.declared.exchanges.Exchanges.{Exchanges}
-use Rattle.hc_exch.specs.Exchanges.{table_of}
-use Rattle.hc_exch.specs.Known.{EndsBelow, open_view}
+use Rattle.hc_stored.specs.{Entries.{shelf_of}, Shelf.{is_kept}}
+use Rattle.hc_exch.specs.{declared.exchanges.Exchanges.{Exchanges}, Exchanges.{table_of}, Known.{EndsBelow, open_view}}
 use Rattle.hc_state.specs.declared.rows.Rows.{Rows}
 use Rattle.hc_on_leave.proofs.PieceHandler.{ends_below}
 use Rattle.hc_on_body.specs.Arrivals.{IsPieceFor, MayBring}

@@ -1,27 +1,16 @@
 -- An exchange ended cleanly, where it promised a length: what is kept represents that as for one that is closed.
-use Rattle.std.proofs.Common.{◌≡◌, ℕ, ◌+◌, ◌-◌, List, [], length, Bool, true, false, Option, Some, None, refl, ap, sym, ◌∙◌}
-use Rattle.std.specs.Prelude.{nat_eq, bytes_eq, drop, ◌==◌, ◌&&◌, if◌then◌else◌}
-use Rattle.std.specs.HashMap.{get}
+use Rattle.std.{proofs.Common.{◌≡◌, ℕ, ◌+◌, ◌-◌, List, [], length, Bool, true, false, Option, Some, None, refl, ap, sym, ◌∙◌}, specs.{Prelude.{nat_eq, bytes_eq, drop, ◌==◌, ◌&&◌, if◌then◌else◌}, HashMap.{get}}}
 use Rattle.hc_text.proofs.Basics.{false_true}
 use Rattle.hc_effects.proofs.Vocabulary.{Limits, Response, base_of, promise_of, Place, current, is_number, over, at_end, base, family, promised_bytes, is_headless, length_by, absent_from, brings_to, offset, is_bound_place, base_in, end_in, end_of_direct, Tables, Exchange, Representation}
 use Rattle.hc_store.specs.declared.backend.Backend.{Ghosts}
 use Rattle.hc_stored.specs.Entries.{shelf_of}
 use Rattle.hc_entry.specs.Keys.{kept_of}
-use Rattle.hc_exch.specs.declared.row.Open.{Open}
-use Rattle.hc_exch.specs.Exchanges.{table_of}
+use Rattle.hc_exch.specs.{declared.row.Open.{Open}, Exchanges.{table_of}}
 use Rattle.hc_event.specs.declared.place.Place.TheVariants as place
 use Rattle.hc_event.specs.declared.place.BoundBy.TheVariants as by
 use Rattle.hc_model.specs.Rows as rows
-use Rattle.hc_state.specs.Stored.{is_over}
-use Rattle.hc_state.specs.declared.rows.Rows.{Rows}
-use Rattle.hc_state.specs.Kept.{KeepsRunning, head_in, held_for, held_of, held_alone, unstored_bytes}
-use Rattle.hc_state.specs.Lines.{is_away, is_away_at}
-use Rattle.hc_state.specs.Stands.{RowsStand}
-use Rattle.hc_state.proofs.Fallbacks.{same, held_alike}
-use Rattle.hc_state.proofs.Closing.{base_over, promise_over}
-use Rattle.hc_state.proofs.OneOfEach.{entries_same, growing_same}
-use Rattle.hc_state.proofs.PastRows.{consumer_alike}
-use Rattle.hc_state.proofs.Ties.{key_same, runs_same}
+use Rattle.hc_state.specs.{Stored.{is_over}, declared.rows.Rows.{Rows}, Kept.{KeepsRunning, head_in, held_for, held_of, held_alone, unstored_bytes}, Lines.{is_away, is_away_at}, Stands.{RowsStand}}
+use Rattle.hc_state.proofs.{Fallbacks.{same, held_alike}, Closing.{base_over, promise_over}, OneOfEach.{entries_same, growing_same}, PastRows.{consumer_alike}, Ties.{key_same, runs_same}}
 
 pub base_end : (w : Exchange) → base (at_end w) ≡ base w
 base_end w = by_head w.head

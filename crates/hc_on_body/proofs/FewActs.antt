@@ -1,14 +1,10 @@
 -- The acts of what gives way to a piece fit: two at most give way to a small one.
-use Rattle.std.proofs.Common.{◌≡◌, ℕ, ◌<◌, ◌≤◌, ◌^◌, refl, sym, ◌∙◌, arith}
-use Rattle.std.proofs.Math.Bridge.{le_prop}
-use Rattle.std.proofs.Math.Logic.{∥∥₁_elim}
+use Rattle.std.proofs.{Common.{◌≡◌, ℕ, ◌<◌, ◌≤◌, ◌^◌, refl, sym, ◌∙◌, arith}, Math.{Bridge.{le_prop}, Logic.{∥∥₁_elim}}}
 use Rattle.hc_store.specs.declared.backend.Backend.{Ghosts}
 use Rattle.hc_effects.proofs.Vocabulary.{grown_by, Room, Write}
 use Rattle.hc_rules.specs.declared.room.Room.TheVariants as room
 use Rattle.hc_effects.proofs.WeightsLeft.{two_give_way}
-use Rattle.hc_state.specs.declared.rows.Rows.{Rows}
-use Rattle.hc_state.specs.Room.{HasActs, LeavesActs, room_for_write}
-use Rattle.hc_state.specs.Stands.{Stands}
+use Rattle.hc_state.specs.{declared.rows.Rows.{Rows}, Room.{HasActs, LeavesActs, room_for_write}, Stands.{Stands}}
 use Rattle.hc_on_leave.proofs.PieceRoom.{may_make_room}
 use Rattle.hc_state.proofs.Rooms.{room_is}
 

@@ -1,7 +1,5 @@
 -- The store refuses a piece: it is lost, who can goes on with it, and that is answered.
-use Rattle.std.proofs.Common.{◌≡◌, ℕ, ◌+◌, ◌≤◌, List, [], ◌∷◌, ◌++◌, length, Bool, true, false, Option, Some, None, refl, ap, sym, ◌∙◌, subst, arith}
-use Rattle.std.proofs.lemmas.List.{append_assoc}
-use Rattle.std.specs.Prelude.{is_some, map, option_map, ◌&&◌, ◌==◌}
+use Rattle.std.{proofs.{Common.{◌≡◌, ℕ, ◌+◌, ◌≤◌, List, [], ◌∷◌, ◌++◌, length, Bool, true, false, Option, Some, None, refl, ap, sym, ◌∙◌, subst, arith}, lemmas.List.{append_assoc}}, specs.Prelude.{is_some, map, option_map, ◌&&◌, ◌==◌}}
 use Rattle.hc_text.proofs.Basics.{eqb-same, false_true, some_inj as some_is, and_off as then_false}
 use Rattle.hc_effects.proofs.Vocabulary.{Limits, Act, LostKind, Event, Place, BoundBy, denial, Does, all_closed, back_from, as_gone, if_bound, left_with, let_all_go, lost_to, unless_reached, with_piece, family, front, Loses, flaw_in, entry_of, MayLetGo, is_bound, is_bound_place, is_written, offset, Tables, Exchange, Representation, IsExclusiveWriter, IsBound, evicted, exclusive, has_more, offset_in, survivor, written_representation, is_fault}
 use Rattle.hc_store.specs.declared.backend.Backend.{Ghosts}
@@ -12,30 +10,13 @@ use Rattle.hc_stored.specs.Entries.{shelf_of}
 use Rattle.hc_event.specs.declared.place.Place.TheVariants as place
 use Rattle.hc_model.specs.Rows as rows
 use Rattle.hc_model.specs.Sound as sound
-use Rattle.hc_effects.proofs.Exclusives.{exclusive_parts}
-use Rattle.hc_effects.proofs.HadKeeps.{survivor_bound}
-use Rattle.hc_effects.proofs.HasBound.{reader_of}
-use Rattle.hc_effects.proofs.LettingGo.{may_let_go}
+use Rattle.hc_effects.proofs.{Exclusives.{exclusive_parts}, HadKeeps.{survivor_bound}, HasBound.{reader_of}, LettingGo.{may_let_go}, SameTables.{all_go_is, back_from_any, is_in, without}, Survives.{survivor_offset}}
 use Rattle.hc_effects.proofs.PieceEffects as alone_does
-use Rattle.hc_effects.proofs.SameTables.{all_go_is, back_from_any, is_in, without}
 use Rattle.hc_effects.proofs.SharedLossEffects as shared_does
-use Rattle.hc_effects.proofs.Survives.{survivor_offset}
-use Rattle.hc_state.specs.declared.rows.Rows.{Rows}
-use Rattle.hc_state.specs.Facts.{Facts}
-use Rattle.hc_state.specs.DetachedReaders.{MayLoseShared, shared_loss}
-use Rattle.hc_state.specs.Kept.{held_alone, unstored_bytes}
-use Rattle.hc_state.specs.Refused.{Brings, MayHold, MayLoseOwn, MayLosePiece, LosesPiece, Refuses, brought_lost, closes_with, own_loss}
-use Rattle.hc_state.specs.Stands.{Answered, RowsStand}
-use Rattle.hc_state.specs.Stopped.{HoldsNothing}
+use Rattle.hc_state.specs.{declared.rows.Rows.{Rows}, Facts.{Facts}, DetachedReaders.{MayLoseShared, shared_loss}, Kept.{held_alone, unstored_bytes}, Refused.{Brings, MayHold, MayLoseOwn, MayLosePiece, LosesPiece, Refuses, brought_lost, closes_with, own_loss}, Stands.{Answered, RowsStand}, Stopped.{HoldsNothing}}
 use Rattle.hc_state.proofs.Fallbacks.{unstored_moved}
-use Rattle.hc_on_leave.proofs.FoundHandler.{bound_back, make_gone}
-use Rattle.hc_on_leave.proofs.LoseAlone.{holds_none}
-use Rattle.hc_on_leave.proofs.LoseTurn.{survivor_same}
-use Rattle.hc_on_body.proofs.LostPiece.{Owner, owner, owner_within, absent, reached, brought_some}
-use Rattle.hc_on_body.proofs.LostTables.{own_tables, open_tables, fails_tables}
-use Rattle.hc_on_leave.proofs.PieceHandler.{open_unended}
-use Rattle.hc_on_leave.proofs.PieceRoom.{may_make_room, gives_same, spared}
-use Rattle.hc_on_leave.proofs.StoreHandler.{Stores}
+use Rattle.hc_on_leave.proofs.{FoundHandler.{bound_back, make_gone}, LoseAlone.{holds_none}, LoseTurn.{survivor_same}, PieceHandler.{open_unended}, PieceRoom.{may_make_room, gives_same, spared}, StoreHandler.{Stores}}
+use Rattle.hc_on_body.proofs.{LostPiece.{Owner, owner, owner_within, absent, reached, brought_some}, LostTables.{own_tables, open_tables, fails_tables}}
 
 -- the acts show what is lost
 flaw_closes : (q : ℕ) (kind : LostKind) (xs rs : List ℕ) → flaw_in (map act.Evicted rs ++ (act.Lost q kind ∷ map act.Close xs)) ≡ Loses q kind

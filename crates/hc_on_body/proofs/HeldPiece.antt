@@ -1,29 +1,18 @@
 -- A piece of what was lost is held for its detached reader: what is kept represents the tables then.
-use Rattle.std.proofs.Common.{◌≡◌, ◌≢◌, inl, inr, ℕ, ◌+◌, ◌-◌, ◌<◌, ◌≤◌, ◌⊎◌, List, [], ◌∷◌, ◌++◌, length, drop, max, min, Bool, true, false, Option, Some, None, refl, ap, sym, ◌∙◌, subst, arith}
-use Rattle.std.proofs.lemmas.List.{drop-append-le, length-append}
-use Rattle.std.specs.Prelude.{is_some, is_none, ◌==◌, ◌&&◌, if◌then◌else◌}
+use Rattle.std.{proofs.{Common.{◌≡◌, ◌≢◌, inl, inr, ℕ, ◌+◌, ◌-◌, ◌<◌, ◌≤◌, ◌⊎◌, List, [], ◌∷◌, ◌++◌, length, drop, max, min, Bool, true, false, Option, Some, None, refl, ap, sym, ◌∙◌, subst, arith}, lemmas.List.{drop-append-le, length-append}}, specs.Prelude.{is_some, is_none, ◌==◌, ◌&&◌, if◌then◌else◌}}
 use Rattle.hc_text.proofs.Basics.{eqb-other, eqb-same, false_true, order, same_or}
 use Rattle.hc_effects.proofs.Vocabulary.{Limits, is_number, with_piece, family, base, front, first_place, absent_from, bound, is_bound_place, with_stored_bytes, Tables, Exchange, Representation}
 use Rattle.hc_store.specs.declared.backend.Backend.{Ghosts}
 use Rattle.hc_sparse.specs.Cells.{Cell, Cells, inside}
-use Rattle.hc_stored.specs.Entries.{shelf_of}
-use Rattle.hc_stored.specs.Kept.{Kept}
-use Rattle.hc_stored.specs.declared.entries.Entries.{Entries}
+use Rattle.hc_stored.specs.{Entries.{shelf_of}, Kept.{Kept}, declared.entries.Entries.{Entries}}
 use Rattle.hc_exch.specs.Exchanges as exch
 use Rattle.hc_exch.specs.Exchanges.{table_of}
 use Rattle.hc_exch.specs.Known as known
 use Rattle.hc_event.specs.declared.place.Place.TheVariants as place
 use Rattle.hc_effects.proofs.HoleLemmas.{first_from, first_to, first_before, first_passes}
-use Rattle.hc_state.proofs.Ties.{overs_open, writer_then}
-use Rattle.hc_state.specs.declared.rows.Rows.{Rows}
-use Rattle.hc_state.specs.Kept.{first_lacking, unstored_bytes, held_alone, held_of, held_for}
-use Rattle.hc_state.specs.Refused.{GoesOn, MayHold}
-use Rattle.hc_state.specs.Stands.{RowsStand}
-use Rattle.hc_state.specs.Stored.{IsEntry, TellsLength, told, untold, KeepsEntry}
-use Rattle.hc_state.proofs.Fallbacks.{unstored_moved}
-use Rattle.hc_state.proofs.OneOfEach.{first_by}
-use Rattle.hc_on_leave.proofs.PieceHandler.{Runs, runs_of}
-use Rattle.hc_on_leave.proofs.PieceRows.{s, IsLike, like_same, stands_pieced}
+use Rattle.hc_state.proofs.{Ties.{overs_open, writer_then}, Fallbacks.{unstored_moved}, OneOfEach.{first_by}}
+use Rattle.hc_state.specs.{declared.rows.Rows.{Rows}, Kept.{first_lacking, unstored_bytes, held_alone, held_of, held_for}, Refused.{GoesOn, MayHold}, Stands.{RowsStand}, Stored.{IsEntry, TellsLength, told, untold, KeepsEntry}}
+use Rattle.hc_on_leave.proofs.{PieceHandler.{Runs, runs_of}, PieceRows.{s, IsLike, like_same, stands_pieced}}
 
 -- WHAT IS HELD, WITH MORE BYTES
 

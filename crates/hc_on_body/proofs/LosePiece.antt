@@ -1,25 +1,16 @@
 -- A piece that the store refuses is lost: what is kept represents the tables then.
-use Rattle.std.proofs.Common.{◌≡◌, ◌⊎◌, inl, inr, ℕ, ◌+◌, ◌<◌, List, [], ◌∷◌, ◌++◌, length, Bool, true, false, Option, Some, None, refl, ap, sym, ◌∙◌, subst}
-use Rattle.std.specs.Prelude.{is_some, is_none, nat_eq, not, map, ◌==◌, ◌&&◌, if◌then◌else◌}
+use Rattle.std.{proofs.Common.{◌≡◌, ◌⊎◌, inl, inr, ℕ, ◌+◌, ◌<◌, List, [], ◌∷◌, ◌++◌, length, Bool, true, false, Option, Some, None, refl, ap, sym, ◌∙◌, subst}, specs.Prelude.{is_some, is_none, nat_eq, not, map, ◌==◌, ◌&&◌, if◌then◌else◌}}
 use Rattle.hc_text.proofs.Basics.{eqb-other, eqb-same, false_true, same_or, same_some as same_row, and_off as then_false}
 use Rattle.hc_effects.proofs.Vocabulary.{Limits, Act, LostKind, Response, all_closed, as_gone, lost_to, with_piece, family, front, promised_bytes, is_reached, is_headless, brings_to, with_stored_bytes, Tables, Exchange, Representation, survivor}
 use Rattle.hc_store.specs.declared.backend.Backend.{Ghosts}
 use Rattle.hc_event.specs.declared.act.Act.TheVariants as act
-use Rattle.hc_exch.specs.declared.row.Open.{Open}
+use Rattle.hc_exch.specs.{declared.row.Open.{Open}, Exchanges.{table_of}, Known.{is_last_of}}
 use Rattle.hc_exch.specs.Exchanges as exch
-use Rattle.hc_exch.specs.Exchanges.{table_of}
 use Rattle.hc_exch.specs.Known as known
-use Rattle.hc_exch.specs.Known.{is_last_of}
-use Rattle.hc_state.specs.declared.rows.Rows.{Rows}
-use Rattle.hc_state.specs.DetachedReaders.{shared_loss}
-use Rattle.hc_state.specs.Refused.{Brings, MayHold, MayLoseOwn, MayLosePiece, LosesPiece, brought_lost, own_loss, closes_with}
-use Rattle.hc_state.specs.Stands.{KeepsRest, RowsStand}
-use Rattle.hc_state.specs.Stopped.{NobodyAwaits}
-use Rattle.hc_state.proofs.Closing.{stands_unstored}
+use Rattle.hc_state.specs.{declared.rows.Rows.{Rows}, DetachedReaders.{shared_loss}, Refused.{Brings, MayHold, MayLoseOwn, MayLosePiece, LosesPiece, brought_lost, own_loss, closes_with}, Stands.{KeepsRest, RowsStand}, Stopped.{NobodyAwaits}}
+use Rattle.hc_state.proofs.{Closing.{stands_unstored}, Maps.{act_and}}
 use Rattle.hc_on_body.proofs.HeldPiece.{held_stands, dropped_stands}
-use Rattle.hc_state.proofs.Maps.{act_and}
-use Rattle.hc_on_leave.proofs.PieceHandler.{Runs, runs_of}
-use Rattle.hc_on_leave.proofs.PieceRows.{s, like_same, last_is}
+use Rattle.hc_on_leave.proofs.{PieceHandler.{Runs, runs_of}, PieceRows.{s, like_same, last_is}}
 
 -- the rows that represent the tables once a loss was told, and then for those with the piece
 module _ {B : Type 0} {g : Ghosts B} {limits : Limits} (mid u : Rows B g) (t : Tables) (now r x : ℕ) (bytes : List ℕ) (w : Exchange) (v : Representation) (stands : RowsStand limits mid t) (row : t.exchange x ≡ Some w) (opened : w.is_open ≡ true) (headed : is_some w.head ≡ true) (of_r : family x w ≡ r) (there : t.representation r ≡ Some v) (lost : v.is_lost ≡ true) (is_gone : v.is_gone ≡ true) (unended : w.is_ended ≡ false)

@@ -1,37 +1,23 @@
 -- A piece of what was lost is held for its detached reader: what is kept represents the tables then.
-use Rattle.std.proofs.Common.{◌≡◌, ◌≢◌, inl, inr, ℕ, ◌+◌, ◌-◌, ◌<◌, ◌≤◌, ◌⊎◌, List, [], ◌∷◌, ◌++◌, length, Bool, true, false, Option, Some, None, refl, ap, sym, ◌∙◌, subst, arith}
-use Rattle.std.proofs.lemmas.List.{append-nil}
-use Rattle.std.specs.Prelude.{is_some, ◌==◌, ◌&&◌, if◌then◌else◌}
+use Rattle.std.{proofs.{Common.{◌≡◌, ◌≢◌, inl, inr, ℕ, ◌+◌, ◌-◌, ◌<◌, ◌≤◌, ◌⊎◌, List, [], ◌∷◌, ◌++◌, length, Bool, true, false, Option, Some, None, refl, ap, sym, ◌∙◌, subst, arith}, lemmas.List.{append-nil}}, specs.Prelude.{is_some, ◌==◌, ◌&&◌, if◌then◌else◌}}
 use Rattle.hc_text.proofs.Basics.{false_true, order}
 use Rattle.hc_effects.proofs.Vocabulary.{Limits, Act, BoundBy, denial, entry_without_acts, with_piece, family, base, front, is_written, own_open, with_stored_bytes, Tables, Exchange, Representation, Sound, IsExclusiveWriter, IsHad, write_in, goes_on_at}
 use Rattle.hc_store.specs.declared.backend.Backend.{Ghosts}
 use Rattle.hc_sparse.specs.Cells.{Cell}
 use Rattle.hc_event.specs.declared.event.Event.TheVariants as event
-use Rattle.hc_stored.specs.Entries.{shelf_of}
-use Rattle.hc_stored.specs.Kept.{Kept}
+use Rattle.hc_stored.specs.{Entries.{shelf_of}, Kept.{Kept}}
 use Rattle.hc_exch.specs.Exchanges as exch
 use Rattle.hc_exch.specs.Exchanges.{table_of}
 use Rattle.hc_exch.specs.Known as known
 use Rattle.hc_event.specs.declared.place.Place.TheVariants as place
 use Rattle.hc_model.specs.Rows as rows
 use Rattle.hc_model.specs.Sound as sound
-use Rattle.hc_effects.proofs.AboutKeeps.{own_open_of}
-use Rattle.hc_effects.proofs.Covers.{headed_at}
-use Rattle.hc_effects.proofs.Once.{delivers_once}
+use Rattle.hc_effects.proofs.{AboutKeeps.{own_open_of}, Covers.{headed_at}, Once.{delivers_once}, Tests.{none_some}}
 use Rattle.hc_effects.proofs.PieceEffects as does
-use Rattle.hc_effects.proofs.Tests.{none_some}
-use Rattle.hc_state.specs.declared.rows.Rows.{Rows}
-use Rattle.hc_state.specs.Facts.{Facts}
-use Rattle.hc_state.specs.Pieces.{unless_lost, stored_at, stored_by}
-use Rattle.hc_state.specs.Refused.{GoesOn, MayHold}
-use Rattle.hc_state.specs.Stands.{Answered, RowsStand}
-use Rattle.hc_state.specs.Stops.{brought_by}
-use Rattle.hc_state.specs.Stored.{KeepsEntry}
+use Rattle.hc_state.specs.{declared.rows.Rows.{Rows}, Facts.{Facts}, Pieces.{unless_lost, stored_at, stored_by}, Refused.{GoesOn, MayHold}, Stands.{Answered, RowsStand}, Stops.{brought_by}, Stored.{KeepsEntry}}
 use Rattle.hc_state.proofs.Answering.{does_answered}
 use Rattle.hc_on_body.proofs.HeldPiece.{held_stands}
-use Rattle.hc_on_leave.proofs.PieceHandler.{Brought, brought_of, Runs, runs_of, open_unended, brings_it, past_answered}
-use Rattle.hc_on_leave.proofs.PieceRows.{s}
-use Rattle.hc_on_leave.proofs.StoreHandler.{none_by}
+use Rattle.hc_on_leave.proofs.{PieceHandler.{Brought, brought_of, Runs, runs_of, open_unended, brings_it, past_answered}, PieceRows.{s}, StoreHandler.{none_by}}
 
 -- whose an open exchange is that isn't the writing's
 pub record Owner (t : Tables) (x : ℕ) (w : Exchange) (v : Representation) : Type 0 where

@@ -1,23 +1,13 @@
 -- What is told of an open exchange, and of the consumer that waits for its head, is what the tables say.
-use Rattle.std.proofs.Common.{◌≡◌, ◌⊎◌, inl, inr, ℕ, length, true, false, Option, Some, None, refl, ap, sym, ◌∙◌, subst}
-use Rattle.std.specs.Prelude.{is_some, option_map, nat_eq}
-use Rattle.std.specs.HashMap.{get}
+use Rattle.std.{proofs.Common.{◌≡◌, ◌⊎◌, inl, inr, ℕ, length, true, false, Option, Some, None, refl, ap, sym, ◌∙◌, subst}, specs.{Prelude.{is_some, option_map, nat_eq}, HashMap.{get}}}
 use Rattle.hc_text.proofs.Basics.{false_true, none_of, same_some as same_row, some_inj as some_is}
 use Rattle.hc_effects.proofs.Vocabulary.{Limits, is_live, is_live_place, promised_bytes, Lawful, Awaits, IsAwaiting, Tables, Exchange}
 use Rattle.hc_effects.proofs.Tests.{none_some}
 use Rattle.hc_store.specs.declared.backend.Backend.{Ghosts}
-use Rattle.hc_exch.specs.declared.row.ExchangeView.{ExchangeView}
-use Rattle.hc_exch.specs.declared.row.Open.{Open}
-use Rattle.hc_exch.specs.Exchanges.{table_of}
-use Rattle.hc_exch.specs.Known.{view_of}
+use Rattle.hc_exch.specs.{declared.row.{ExchangeView.{ExchangeView}, Open.{Open}}, Exchanges.{table_of}, Known.{view_of}}
 use Rattle.hc_model.specs.Owners as owners
 use Rattle.hc_model.specs.Rows as rows
-use Rattle.hc_state.specs.declared.consumer.Consumer.{Consumer}
-use Rattle.hc_state.specs.declared.rows.Rows.{Rows}
-use Rattle.hc_state.specs.Kept.{KeepsRunning, KeepsConsumer}
-use Rattle.hc_state.specs.Stands.{RowsStand}
-use Rattle.hc_state.specs.Stopped.{IsBroken, Waited}
-use Rattle.hc_state.specs.Stops.{is_shown}
+use Rattle.hc_state.specs.{declared.{consumer.Consumer.{Consumer}, rows.Rows.{Rows}}, Kept.{KeepsRunning, KeepsConsumer}, Stands.{RowsStand}, Stopped.{IsBroken, Waited}, Stops.{is_shown}}
 
 pub record Viewed (t : Tables) (x : ℕ) (view : ExchangeView) : Type 0 where
   pub w : Exchange

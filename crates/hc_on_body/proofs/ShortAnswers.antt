@@ -1,9 +1,6 @@
 -- An exchange that ends with less than it promised is a failure, which is answered.
-use Rattle.std.proofs.Common.{◌≡◌, ◌≢◌, inl, inr, ℕ, ◌<◌, ◌≤◌, List, [], ◌∷◌, length, Bool, true, false, Option, Some, None, refl, ap, sym, ◌∙◌, subst, arith}
+use Rattle.std.{proofs.{Common.{◌≡◌, ◌≢◌, inl, inr, ℕ, ◌<◌, ◌≤◌, List, [], ◌∷◌, length, Bool, true, false, Option, Some, None, refl, ap, sym, ◌∙◌, subst, arith}, lemmas.Bool.Decides.{nat_tests}}, specs.{Prelude.{is_some, nat_eq, nat_lt, option_map, ◌==◌, ◌&&◌, if◌then◌else◌}, Option.{option_or}}}
 use mathlib.Core.Path.{fun_ext}
-use Rattle.std.proofs.lemmas.Bool.Decides.{nat_tests}
-use Rattle.std.specs.Prelude.{is_some, nat_eq, nat_lt, option_map, ◌==◌, ◌&&◌, if◌then◌else◌}
-use Rattle.std.specs.Option.{option_or}
 use Rattle.hc_text.proofs.Basics.{eqb-other, eqb-same, false_true, same_or, same_some as same_row}
 use Rattle.hc_store.specs.declared.backend.Backend.{Ghosts}
 use Rattle.hc_effects.proofs.Vocabulary.{Act, Cause, Limits, denial, Does, with_event, tables_after_close, at_end, with_due, with_dues, with_exchange, with_length, with_loss, with_representation, let_go, let_some_go, lost_to, going_with, family, promised_bytes, is_reached, short_of, NoFlaw, Loses, is_short, is_below, stops_early, IsMeasured, told, untold, is_bound, with_total_if_none, Tables, Exchange, Representation, written_representation, exclusive}
@@ -13,16 +10,11 @@ use Rattle.hc_event.specs.declared.act.LostKind.TheVariants as kind
 use Rattle.hc_event.specs.declared.event.Event.TheVariants as event
 use Rattle.hc_model.specs.Rows as rows
 use Rattle.hc_effects.proofs.StopEffects as past_effects
-use Rattle.hc_effects.proofs.StopFrames.{end_of}
+use Rattle.hc_effects.proofs.{StopFrames.{end_of}, Tests.{none_some}}
 use Rattle.hc_effects.proofs.StopSeals as seal_effects
-use Rattle.hc_effects.proofs.Tests.{none_some}
-use Rattle.hc_state.specs.declared.rows.Rows.{Rows}
-use Rattle.hc_state.specs.Facts.{Facts}
-use Rattle.hc_state.specs.Stands.{Answered, RowsStand}
+use Rattle.hc_state.specs.{declared.rows.Rows.{Rows}, Facts.{Facts}, Stands.{Answered, RowsStand}, Stopped.{with_consumers, due_for, HasStopped, IsBroken, BrokeOff}}
 use Rattle.hc_state.specs.Stopped as stopped
-use Rattle.hc_state.specs.Stopped.{with_consumers, due_for, HasStopped, IsBroken, BrokeOff}
-use Rattle.hc_on_body.proofs.Ended.{with_over, with_end, stands_ended}
-use Rattle.hc_on_body.proofs.StopAnswers.{StopsBy, stopped_answered, own_tables, shared_tables, nothing_goes}
+use Rattle.hc_on_body.proofs.{Ended.{with_over, with_end, stands_ended}, StopAnswers.{StopsBy, stopped_answered, own_tables, shared_tables, nothing_goes}}
 
 -- A LENGTH THAT IS KNOWN STAYS
 

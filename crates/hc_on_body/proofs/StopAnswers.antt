@@ -1,8 +1,6 @@
 -- An end or a fault by which something fails is answered.
-use Rattle.std.proofs.Common.{◌≡◌, inl, inr, ℕ, ◌<◌, List, [], ◌∷◌, ◌++◌, Bool, true, false, Option, Some, None, refl, ap, sym, ◌∙◌, subst}
+use Rattle.std.{proofs.{Common.{◌≡◌, inl, inr, ℕ, ◌<◌, List, [], ◌∷◌, ◌++◌, Bool, true, false, Option, Some, None, refl, ap, sym, ◌∙◌, subst}, lemmas.List.{append-nil}}, specs.Prelude.{is_some, nat_eq, option_map, ◌==◌, ◌||◌, if◌then◌else◌}}
 use mathlib.Core.Path.{fun_ext}
-use Rattle.std.proofs.lemmas.List.{append-nil}
-use Rattle.std.specs.Prelude.{is_some, nat_eq, option_map, ◌==◌, ◌||◌, if◌then◌else◌}
 use Rattle.hc_text.proofs.Basics.{eqb-other, eqb-same, false_true, or_false as or_none, same_or, same_some as same_row}
 use Rattle.hc_store.specs.declared.backend.Backend.{Ghosts}
 use Rattle.hc_effects.proofs.Vocabulary.{Act, Cause, Event, Response, Limits, denial, Does, with_event, tables_after_close, over, put_down, failing, if_bound, with_consumer, with_due, with_dues, with_exchange, with_loss, with_representation, let_go, let_some_go, lost_to, going_with, Entry, entry_without_acts, family, NoFlaw, Loses, stops_early, Lawful, is_bound, is_bound_place, Tables, Exchange, Representation, received_in, write_in, written_representation, sealed_representation, lossless, stops, exclusive}
@@ -14,14 +12,10 @@ use Rattle.hc_model.specs.Rows as rows
 use Rattle.hc_effects.proofs.StopEffects as past_effects
 use Rattle.hc_effects.proofs.StopSeals as seal_effects
 use Rattle.hc_effects.proofs.Tests.{none_some}
-use Rattle.hc_state.specs.declared.rows.Rows.{Rows}
-use Rattle.hc_state.specs.Stands.{Answered, RowsStand}
+use Rattle.hc_state.specs.{declared.rows.Rows.{Rows}, Stands.{Answered, RowsStand}, Stopped.{with_consumers, due_for, HasStopped, quietly, unsealed, IsBroken, BrokeOff, Waited}}
 use Rattle.hc_state.specs.Stopped as stopped
-use Rattle.hc_state.specs.Stopped.{with_consumers, due_for, HasStopped, quietly, unsealed, IsBroken, BrokeOff, Waited}
-use Rattle.hc_state.proofs.Answering.{does_answered, lossy_answered}
+use Rattle.hc_state.proofs.{Answering.{does_answered, lossy_answered}, Counting.{stands_counted}, SealWritten.{sealed_stopping}}
 use Rattle.hc_on_body.proofs.BreakHandler.{closed_is}
-use Rattle.hc_state.proofs.Counting.{stands_counted}
-use Rattle.hc_state.proofs.SealWritten.{sealed_stopping}
 
 -- THE TABLES, AS THE EVENT LEAVES THEM
 

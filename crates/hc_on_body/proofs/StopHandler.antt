@@ -1,45 +1,22 @@
 -- An exchange stops with less than it should have brought: who reads from it, and that it may be closed.
-use Rattle.std.proofs.Common.{◌≡◌, ◌≢◌, ℕ, ◌+◌, ◌-◌, ◌<◌, ◌≤◌, ◌^◌, List, [], length, Bool, true, false, Option, Some, None, refl, ap, sym, ◌∙◌, subst, arith}
-use Rattle.std.proofs.lemmas.Bool.Decides.{nat_tests}
-use Rattle.std.proofs.lemmas.List.{drop_all}
-use Rattle.std.specs.Prelude.{is_some, nat_eq, nat_le, drop, unwrap_or, option_map, ◌&&◌, ◌==◌, if◌then◌else◌}
-use Rattle.std.specs.HashMap.{get}
+use Rattle.std.{proofs.{Common.{◌≡◌, ◌≢◌, ℕ, ◌+◌, ◌-◌, ◌<◌, ◌≤◌, ◌^◌, List, [], length, Bool, true, false, Option, Some, None, refl, ap, sym, ◌∙◌, subst, arith}, lemmas.{Bool.Decides.{nat_tests}, List.{drop_all}}}, specs.{Prelude.{is_some, nat_eq, nat_le, drop, unwrap_or, option_map, ◌&&◌, ◌==◌, if◌then◌else◌}, HashMap.{get}}}
 use Rattle.hc_text.proofs.Basics.{eqb-same, false_true, same_some as same_row, and_off as then_false}
 use Rattle.hc_store.specs.declared.backend.Backend.{Ghosts}
 use Rattle.hc_effects.proofs.Vocabulary.{Act, Cause, Response, Limits, BoundBy, is_number, base, front, family, is_headless, Lawful, own_open, is_bound, is_bound_place, is_written, writing_in, offset, Tables, Exchange, Representation, IsBound, IsAbout, IsHad, IsExclusiveWriter, IsOwner, exclusive, has_more}
 use Rattle.hc_sparse.specs.Cells.{Cell, Covers, EndsBy}
 use Rattle.hc_sorted.specs.Sorted.{has}
-use Rattle.hc_stored.specs.Entries.{shelf_of}
-use Rattle.hc_stored.specs.Kept.{Kept, itself}
-use Rattle.hc_stored.specs.Views.{bound_in}
+use Rattle.hc_stored.specs.{Entries.{shelf_of}, Kept.{Kept, itself}, Views.{bound_in}}
 use Rattle.hc_exch.specs.Exchanges.{table_of}
 use Rattle.hc_event.specs.declared.place.Place.TheVariants as place
 use Rattle.hc_model.specs.Rows as rows
 use Rattle.hc_model.specs.Sound as sound
 use Rattle.hc_model.specs.Whose as whose
-use Rattle.hc_effects.proofs.AboutKeeps.{own_open_of}
-use Rattle.hc_effects.proofs.Exclusives.{exclusive_parts}
-use Rattle.hc_effects.proofs.HoleLemmas.{covers_yes}
-use Rattle.hc_effects.proofs.LettingGo.{may_let_go}
-use Rattle.hc_effects.proofs.Stops.{writer_about}
-use Rattle.hc_effects.proofs.Tests.{none_some}
-use Rattle.hc_state.specs.declared.rows.Rows.{Rows}
-use Rattle.hc_state.specs.declared.stop.Readers.{Readers}
+use Rattle.hc_effects.proofs.{AboutKeeps.{own_open_of}, Exclusives.{exclusive_parts}, HoleLemmas.{covers_yes}, LettingGo.{may_let_go}, Stops.{writer_about}, Tests.{none_some}}
+use Rattle.hc_state.specs.{declared.{rows.Rows.{Rows}, stop.Readers.{Readers}}, Changes.{Numbered, ChangesAmong, with_due}, Facts.{Facts}, Kept.{held_alone, unstored_bytes, first_lacking}, Leaving.{writing_of}, Stands.{RowsStand, KeepsRest}, Stopped.{with_consumers, due_for, NobodyAwaits, MayStop, IsBroken, HasStopped, BrokeOff}, Stops.{readers_of, readers_by, reads_from, goes_on, opener_of, alone_in}, Stored.{KeepsEntry}}
 use Rattle.hc_state.specs.declared.stop.Readers.TheVariants as readers
-use Rattle.hc_state.specs.Changes.{Numbered, ChangesAmong, with_due}
-use Rattle.hc_state.specs.Facts.{Facts}
-use Rattle.hc_state.specs.Kept.{held_alone, unstored_bytes, first_lacking}
-use Rattle.hc_state.specs.Leaving.{writing_of}
-use Rattle.hc_state.specs.Stands.{RowsStand, KeepsRest}
 use Rattle.hc_state.specs.Stopped as stopped
-use Rattle.hc_state.specs.Stopped.{with_consumers, due_for, NobodyAwaits, MayStop, IsBroken, HasStopped, BrokeOff}
-use Rattle.hc_state.specs.Stops.{readers_of, readers_by, reads_from, goes_on, opener_of, alone_in}
-use Rattle.hc_state.specs.Stored.{KeepsEntry}
-use Rattle.hc_state.proofs.Fallbacks.{unstored_moved}
+use Rattle.hc_state.proofs.{Fallbacks.{unstored_moved}, LeftAlone.{unwritten_none}, LeftRows.{writing_as}, Stopping.{runs, head_there, brought_some, brought_none}}
 use Rattle.hc_on_body.proofs.DueRows.{told_same, may_due, awaits_due, stands_due}
-use Rattle.hc_state.proofs.LeftAlone.{unwritten_none}
-use Rattle.hc_state.proofs.LeftRows.{writing_as}
-use Rattle.hc_state.proofs.Stopping.{runs, head_there, brought_some, brought_none}
 
 -- the same ones, told otherwise
 pub among_as : {A : Type 0} (old new : Numbered A) (f h : ℕ → Bool) (change : A → A) → ((d : ℕ) → f d ≡ h d) → ChangesAmong old new f change → ChangesAmong old new h change

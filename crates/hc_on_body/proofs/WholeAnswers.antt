@@ -1,10 +1,6 @@
 -- An exchange that ends, whose head told no length, is answered.
-use Rattle.std.proofs.Common.{◌≡◌, ◌≢◌, inl, inr, ℕ, ◌<◌, ◌≤◌, ◌^◌, List, [], ◌∷◌, length, Bool, true, false, Option, Some, None, refl, ap, sym, ◌∙◌, subst, arith}
+use Rattle.std.{proofs.{Common.{◌≡◌, ◌≢◌, inl, inr, ℕ, ◌<◌, ◌≤◌, ◌^◌, List, [], ◌∷◌, length, Bool, true, false, Option, Some, None, refl, ap, sym, ◌∙◌, subst, arith}, lemmas.{Bool.Decides.{nat_tests}, List.{append-nil}}}, specs.{Prelude.{is_some, nat_eq, option_map, ◌==◌, ◌||◌, ◌&&◌, if◌then◌else◌}, Option.{option_or}}}
 use mathlib.Core.Path.{fun_ext}
-use Rattle.std.proofs.lemmas.Bool.Decides.{nat_tests}
-use Rattle.std.proofs.lemmas.List.{append-nil}
-use Rattle.std.specs.Prelude.{is_some, nat_eq, option_map, ◌==◌, ◌||◌, ◌&&◌, if◌then◌else◌}
-use Rattle.std.specs.Option.{option_or}
 use Rattle.hc_text.proofs.Basics.{any_none, eqb-other, eqb-same, false_true, same_or, same_some as same_row, some_inj as some_is, and_off as then_false}
 use Rattle.hc_store.specs.declared.backend.Backend.{Ghosts}
 use Rattle.hc_effects.proofs.Vocabulary.{Act, Cause, Response, Limits, denial, Does, with_event, at_end, failing, if_bound, with_due, with_dues, with_exchange, with_length, with_loss, with_representation, let_go, let_some_go, as_gone, lost_to, going_with, Entry, base, front, family, promised_bytes, is_headless, short_of, NoFlaw, Loses, is_short, stops_early, Grows, IsComing, is_growing, brings_to, Lawful, IsMeasured, told, untold, bound, is_bound, is_bound_place, with_total_if_none, Tables, Exchange, Representation, IsAbout, written_representation, exclusive, status_in}
@@ -14,10 +10,8 @@ use Rattle.hc_event.specs.declared.event.Event.TheVariants as event
 use Rattle.hc_record.specs.declared.kind.Kind.TheVariants as kinds
 use Rattle.hc_sorted.specs.Sorted.{has}
 use Rattle.hc_sparse.specs.Cells.{Cell, Covers, EndsBy}
-use Rattle.hc_stored.specs.Entries.{shelf_of}
+use Rattle.hc_stored.specs.{Entries.{shelf_of}, Kept.{Kept, itself}, Views.{bound_in}}
 use Rattle.hc_stored.specs.Kept as entry
-use Rattle.hc_stored.specs.Kept.{Kept, itself}
-use Rattle.hc_stored.specs.Views.{bound_in}
 use Rattle.hc_exch.specs.Exchanges as exch
 use Rattle.hc_exch.specs.Exchanges.{table_of}
 use Rattle.hc_exch.specs.Known as known
@@ -25,31 +19,14 @@ use Rattle.hc_event.specs.declared.place.Place.TheVariants as place
 use Rattle.hc_model.specs.Rows as rows
 use Rattle.hc_model.specs.Sound as sound
 use Rattle.hc_model.specs.Whose as whose
-use Rattle.hc_effects.proofs.LettingGo.{may_let_go, bound_let_go}
+use Rattle.hc_effects.proofs.{LettingGo.{may_let_go, bound_let_go}, StopFrames.{end_of}, Tests.{none_some}}
 use Rattle.hc_effects.proofs.StopEffects as past_effects
-use Rattle.hc_effects.proofs.StopFrames.{end_of}
 use Rattle.hc_effects.proofs.StopSeals as seal_effects
-use Rattle.hc_effects.proofs.Tests.{none_some}
-use Rattle.hc_state.specs.declared.rows.Rows.{Rows}
-use Rattle.hc_state.specs.Changes.{ChangesAt, ChangesAmong}
+use Rattle.hc_state.specs.{declared.rows.Rows.{Rows}, Changes.{ChangesAt, ChangesAmong}, Facts.{Facts}, Stands.{Answered, RowsStand}, Stopped.{SealedWhole, NobodyAwaits}, Stops.{brought_by}, Stored.{KeepsEntry}}
 use Rattle.hc_state.specs.Changes as changes
-use Rattle.hc_state.specs.Facts.{Facts}
-use Rattle.hc_state.specs.Stands.{Answered, RowsStand}
 use Rattle.hc_state.specs.Stopped as stopped
-use Rattle.hc_state.specs.Stopped.{SealedWhole, NobodyAwaits}
-use Rattle.hc_state.specs.Stops.{brought_by}
-use Rattle.hc_state.specs.Stored.{KeepsEntry}
-use Rattle.hc_state.proofs.Answering.{does_answered, lossy_answered}
-use Rattle.hc_on_body.proofs.CameAlone.{NobodyFirst, nobody_first, nobody_first_go}
-use Rattle.hc_state.proofs.CloseHandler.{unread_go, unawaited_go}
-use Rattle.hc_state.proofs.Counting.{stands_counted}
-use Rattle.hc_state.proofs.Losing.{may_lost}
-use Rattle.hc_state.proofs.OneOfEach.{first_by}
-use Rattle.hc_state.proofs.SealHandler.{nothing_else}
-use Rattle.hc_state.proofs.SealWritten.{sealed_lasting}
-use Rattle.hc_on_body.proofs.StopHandler.{none_alone}
-use Rattle.hc_state.proofs.Stopping.{head_there, brought_some, brought_none}
-use Rattle.hc_on_body.proofs.WholeEnds.{stands_whole, entries_whole, gone_longer, sealed_longer, stands_past}
+use Rattle.hc_state.proofs.{Answering.{does_answered, lossy_answered}, CloseHandler.{unread_go, unawaited_go}, Counting.{stands_counted}, Losing.{may_lost}, OneOfEach.{first_by}, SealHandler.{nothing_else}, SealWritten.{sealed_lasting}, Stopping.{head_there, brought_some, brought_none}}
+use Rattle.hc_on_body.proofs.{CameAlone.{NobodyFirst, nobody_first, nobody_first_go}, StopHandler.{none_alone}, WholeEnds.{stands_whole, entries_whole, gone_longer, sealed_longer, stands_past}}
 
 -- A FAILURE THAT NONE IS
 

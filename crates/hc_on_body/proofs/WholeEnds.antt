@@ -1,44 +1,25 @@
 -- An exchange ends whose head told no length: what came is all. What is kept represents that.
-use Rattle.std.proofs.Common.{◌≡◌, ◌≢◌, inl, inr, ℕ, List, length, Bool, true, false, Option, Some, None, refl, ap, sym, ◌∙◌, subst}
-use Rattle.std.specs.Prelude.{is_some, nat_eq, filter, option_map, if◌then◌else◌}
-use Rattle.std.specs.Option.{option_or}
-use Rattle.std.specs.HashMap.{get}
+use Rattle.std.{proofs.Common.{◌≡◌, ◌≢◌, inl, inr, ℕ, List, length, Bool, true, false, Option, Some, None, refl, ap, sym, ◌∙◌, subst}, specs.{Prelude.{is_some, nat_eq, filter, option_map, if◌then◌else◌}, Option.{option_or}, HashMap.{get}}}
 use Rattle.hc_text.proofs.Basics.{eq_tells, eqb-other, eqb-same, false_true, filters_same, finds_same, same_or, same_some as same_row, and_off as then_false}
 use Rattle.hc_effects.proofs.Vocabulary.{Limits, Response, Place, BoundBy, current, is_number, is_usable, total_in, at_end, with_exchange, with_length, family, promised_bytes, kind_of, is_growing, is_complete, covers_all, brings_to, Lawful, bound, is_bound, is_bound_place, base_in, end_in, end_of_direct, lo_of, hi_of, with_total_if_none, Tables, Exchange, Representation, status_in}
 use Rattle.hc_store.specs.declared.backend.Backend.{Ghosts}
 use Rattle.hc_record.specs.declared.kind.Kind.TheVariants as kinds
 use Rattle.hc_record.specs.Head.{Head, sealed_head}
 use Rattle.hc_sparse.specs.Cells.{Covers, EndsBy}
-use Rattle.hc_stored.specs.Entries.{shelf_of}
+use Rattle.hc_stored.specs.{Entries.{shelf_of}, Kept.{Kept}, Shelf.{Shelf}}
 use Rattle.hc_stored.specs.Kept as entry
-use Rattle.hc_stored.specs.Kept.{Kept}
-use Rattle.hc_stored.specs.Shelf.{Shelf}
 use Rattle.hc_entry.specs.Keys.{kept_of}
 use Rattle.hc_entry.specs.Kept as keyed
 use Rattle.hc_exch.specs.Exchanges as exch
-use Rattle.hc_exch.specs.Exchanges.{table_of}
+use Rattle.hc_exch.specs.{Exchanges.{table_of}, Known.{Known}}
 use Rattle.hc_exch.specs.Known as known
-use Rattle.hc_exch.specs.Known.{Known}
 use Rattle.hc_event.specs.declared.place.Place.TheVariants as place
 use Rattle.hc_model.specs.Rows as rows
-use Rattle.hc_effects.proofs.HoleLemmas.{covers_yes}
-use Rattle.hc_effects.proofs.Tests.{none_some}
-use Rattle.hc_state.specs.declared.consumer.Consumer.{Consumer}
-use Rattle.hc_state.specs.declared.rows.Rows.{Rows}
-use Rattle.hc_state.specs.Changes.{ChangesAt, ChangesAmong}
+use Rattle.hc_effects.proofs.{HoleLemmas.{covers_yes}, Tests.{none_some}}
+use Rattle.hc_state.specs.{declared.{consumer.Consumer.{Consumer}, rows.Rows.{Rows}}, Changes.{ChangesAt, ChangesAmong}, Kept.{IsKept, KeepsConsumer, KeepsExchange, head_in, answer_at, held_for, held_of, held_alone, unstored_bytes}, Lines.{KeepsKey}, Stands.{RowsStand}, Stopped.{NobodyAwaits}, Stored.{IsEntry, TellsLength, told, untold, KeepsEntry, KeepsEntries, is_first, is_usable_row, is_over}}
 use Rattle.hc_state.specs.Changes as changes
-use Rattle.hc_state.specs.Kept.{IsKept, KeepsConsumer, KeepsExchange, head_in, answer_at, held_for, held_of, held_alone, unstored_bytes}
-use Rattle.hc_state.specs.Lines.{KeepsKey}
-use Rattle.hc_state.specs.Stands.{RowsStand}
-use Rattle.hc_state.specs.Stopped.{NobodyAwaits}
-use Rattle.hc_state.specs.Stored.{IsEntry, TellsLength, told, untold, KeepsEntry, KeepsEntries, is_first, is_usable_row, is_over}
-use Rattle.hc_state.proofs.Fallbacks.{unstored_moved}
-use Rattle.hc_on_body.proofs.BreakHandler.{closed_is}
-use Rattle.hc_on_body.proofs.CameAlone.{NobodyFirst}
-use Rattle.hc_state.proofs.Closing.{exchange_closed, key_closed, entries_closed}
-use Rattle.hc_on_body.proofs.Ended.{with_over, told_alike, runs_end, held_end, away_end, base_end, promise_end}
-use Rattle.hc_state.proofs.OneOfEach.{first_by, growing_same, kind_same, entries_same}
-use Rattle.hc_state.proofs.Ties.{entry_same, exchange_same, key_same, kept_same, put_over, writer_then}
+use Rattle.hc_state.proofs.{Fallbacks.{unstored_moved}, Closing.{exchange_closed, key_closed, entries_closed}, OneOfEach.{first_by, growing_same, kind_same, entries_same}, Ties.{entry_same, exchange_same, key_same, kept_same, put_over, writer_then}}
+use Rattle.hc_on_body.proofs.{BreakHandler.{closed_is}, CameAlone.{NobodyFirst}, Ended.{with_over, told_alike, runs_end, held_end, away_end, base_end, promise_end}}
 
 -- THE EXCHANGE
 

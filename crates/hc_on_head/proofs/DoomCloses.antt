@@ -1,19 +1,12 @@
 -- Which exchanges a doom closes: those for whose heads the ones wait who wait for the key, and the refused one.
-use Rattle.std.proofs.Common.{◌≡◌, ◌≢◌, inl, inr, ℕ, ◌+◌, ◌<◌, ◌≤◌, List, [], ◌∷◌, length, Bool, true, false, Option, Some, None, refl, ap, sym, ◌∙◌, subst, arith}
-use Rattle.std.specs.Prelude.{filter, reverse, is_some, is_none, bytes_eq, option_and_then, nat_eq, ◌==◌, ◌&&◌, ◌||◌, if◌then◌else◌}
-use Rattle.std.specs.HashMap.{get, hash_map_len}
+use Rattle.std.{proofs.Common.{◌≡◌, ◌≢◌, inl, inr, ℕ, ◌+◌, ◌<◌, ◌≤◌, List, [], ◌∷◌, length, Bool, true, false, Option, Some, None, refl, ap, sym, ◌∙◌, subst, arith}, specs.{Prelude.{filter, reverse, is_some, is_none, bytes_eq, option_and_then, nat_eq, ◌==◌, ◌&&◌, ◌||◌, if◌then◌else◌}, HashMap.{get, hash_map_len}}}
 use Rattle.hc_text.proofs.Basics.{and_both as both_parts, or_cases as either_part, eqb-other, eqb-same, false_true, none_by, none_of, same_or, same_some as same_row, some_inj as some_is}
 use Rattle.hc_effects.proofs.Vocabulary.{Limits, Request, route_of, Place, awaits, is_number, is_live, is_awaited, awaited_and, is_headless, Lawful, IsAwaiting, Awaits, Tables, Exchange, awaited_exchange, waits_at, with_item_first}
-use Rattle.hc_effects.proofs.Tests.{none_some}
-use Rattle.hc_effects.proofs.Basics.{number_yes, number_is}
+use Rattle.hc_effects.proofs.{Tests.{none_some}, Basics.{number_yes, number_is}}
 use Rattle.hc_store.specs.declared.backend.Backend.{Ghosts}
-use Rattle.hc_entry.specs.Keys.{line_of}
-use Rattle.hc_entry.specs.Lines.{is_among, is_in}
-use Rattle.hc_entry.specs.Users.{itself}
+use Rattle.hc_entry.specs.{Keys.{line_of}, Lines.{is_among, is_in}, Users.{itself}}
 use Rattle.hc_entry.proofs.SeatLemmas.{same_members, first_in}
-use Rattle.hc_exch.specs.declared.row.Open.{Open}
-use Rattle.hc_exch.specs.Exchanges.{table_of}
-use Rattle.hc_exch.specs.Known.{is_open}
+use Rattle.hc_exch.specs.{declared.row.Open.{Open}, Exchanges.{table_of}, Known.{is_open}}
 use Rattle.hc_sorted.specs.Sorted.{is_sorted}
 use Rattle.hc_sorted.proofs.SortedLemmas.{is_sorted-filter, is_sorted-above}
 use Rattle.hc_rules.specs.declared.need.Route.TheVariants as route
@@ -23,15 +16,9 @@ use Rattle.hc_event.specs.declared.place.BoundBy.TheVariants as by
 use Rattle.hc_model.specs.Exchanges as exchanges
 use Rattle.hc_model.specs.Owners as owners
 use Rattle.hc_model.specs.Rows as rows
-use Rattle.hc_state.specs.declared.consumer.Consumer.{Consumer}
-use Rattle.hc_state.specs.declared.rows.Rows.{Rows}
-use Rattle.hc_state.specs.Dooms.{IsAwaited, IsToClose, IsUnheard}
-use Rattle.hc_state.specs.Kept.{KeepsConsumer, KeepsRunning}
-use Rattle.hc_state.specs.Stands.{RowsStand}
-use Rattle.hc_on_head.proofs.AscendingLists.{above_first, among_later, among_cases, is_first, is_later, among-reverse, reverse_ascends}
-use Rattle.hc_state.proofs.Ties.{kept_row}
-use Rattle.hc_state.proofs.TurnTies.{among_in, filter_in}
-use Rattle.hc_on_head.proofs.Woken.{stands_for, Stood, nobody, back, beside, stays, stood, Waits, waits_of, waiting_lives}
+use Rattle.hc_state.specs.{declared.{consumer.Consumer.{Consumer}, rows.Rows.{Rows}}, Dooms.{IsAwaited, IsToClose, IsUnheard}, Kept.{KeepsConsumer, KeepsRunning}, Stands.{RowsStand}}
+use Rattle.hc_on_head.proofs.{AscendingLists.{above_first, among_later, among_cases, is_first, is_later, among-reverse, reverse_ascends}, Woken.{stands_for, Stood, nobody, back, beside, stays, stood, Waits, waits_of, waiting_lives}}
+use Rattle.hc_state.proofs.{Ties.{kept_row}, TurnTies.{among_in, filter_in}}
 
 -- NO MORE THAN THERE ARE
 

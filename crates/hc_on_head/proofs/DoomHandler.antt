@@ -1,18 +1,13 @@
 -- A key is doomed: what is kept represents the tables in which whoever waits has started over, what that waited for is over, and what
 -- was current is let go.
-use Rattle.std.proofs.Common.{◌≡◌, inl, inr, ℕ, List, ◌++◌, Bool, true, false, Option, Some, None, refl, ap, sym, ◌∙◌, subst}
-use Rattle.std.specs.Prelude.{IfSome, nat_eq, bytes_eq, map, option_map, unwrap_or, ◌&&◌, ◌||◌, if◌then◌else◌}
+use Rattle.std.{proofs.Common.{◌≡◌, inl, inr, ℕ, List, ◌++◌, Bool, true, false, Option, Some, None, refl, ap, sym, ◌∙◌, subst}, specs.Prelude.{IfSome, nat_eq, bytes_eq, map, option_map, unwrap_or, ◌&&◌, ◌||◌, if◌then◌else◌}}
 use Rattle.hc_text.proofs.Basics.{eqb-other, false_true, mapped, same_or, same_some as same_row, some_inj as some_is, and_off as then_false}
 use Rattle.hc_effects.proofs.Vocabulary.{Limits, Act, is_disabled, is_only, Place, back_in_line, current, is_live, over, all_closed, awaited_and, let_some_go, woken, family, is_headless, brings_to, Lawful, MayLetGo, WaitsOn, is_in_line, Tables, Exchange, Representation, waits_at}
 use Rattle.hc_store.specs.declared.backend.Backend.{Ghosts}
 use Rattle.hc_event.specs.declared.act.Act.TheVariants as act
-use Rattle.hc_stored.specs.Entries.{shelf_of}
-use Rattle.hc_stored.specs.Shelf.{Shelf}
-use Rattle.hc_entry.specs.declared.keys.KeyTable.{KeyTable}
+use Rattle.hc_stored.specs.{Entries.{shelf_of}, Shelf.{Shelf}}
+use Rattle.hc_entry.specs.{declared.keys.KeyTable.{KeyTable}, Keys.{kept_of, line_of}, Kept.{Kept, on_line, line_in}, Lines.{is_among, is_in, all_back}}
 use Rattle.hc_entry.specs.Keys as keys
-use Rattle.hc_entry.specs.Keys.{kept_of, line_of}
-use Rattle.hc_entry.specs.Kept.{Kept, on_line, line_in}
-use Rattle.hc_entry.specs.Lines.{is_among, is_in, all_back}
 use Rattle.hc_entry.proofs.OrderLemmas.{among-all}
 use Rattle.hc_exch.specs.Exchanges.{table_of}
 use Rattle.hc_exch.specs.Known as known
@@ -20,22 +15,10 @@ use Rattle.hc_rules.proofs.RangeReads.{same_bytes, bytes_eq-same}
 use Rattle.hc_event.specs.declared.place.Place.TheVariants as place
 use Rattle.hc_event.specs.declared.place.BoundBy.TheVariants as by
 use Rattle.hc_model.specs.Rows as rows
-use Rattle.hc_effects.proofs.LettingGo.{may_let_go}
-use Rattle.hc_effects.proofs.SameTables.{all_closed_is}
-use Rattle.hc_effects.proofs.Tests.{and_false, none_some}
-use Rattle.hc_state.specs.declared.rows.Rows.{Rows}
-use Rattle.hc_state.specs.Changes.{ChangesAmong, once_over}
-use Rattle.hc_state.specs.Dooms.{Closes, IsUnheard, KeepsLine, IsDoomed}
-use Rattle.hc_state.specs.Lines.{KeepsKey, has_turn, is_passed, is_away, is_away_at}
-use Rattle.hc_state.specs.Stands.{RowsStand, KeepsRest}
-use Rattle.hc_state.specs.Stored.{KeepsEntry, KeepsEntries, is_over}
-use Rattle.hc_state.proofs.FallbackSteps.{live_same}
-use Rattle.hc_on_head.proofs.DoomCloses.{IsBare, bare_among, closes_are}
-use Rattle.hc_on_head.proofs.DoomTies.{s, exchange_is, over_row, line_row, same_consumer, none_row, all_consumers, exchange_shut}
-use Rattle.hc_state.proofs.OneOfEach.{first_row, bound_same, growing_same, kind_same}
-use Rattle.hc_state.proofs.Ties.{entry_same, key_same, overs_closed}
-use Rattle.hc_state.proofs.Apart.{or_offs}
-use Rattle.hc_on_head.proofs.Woken.{stands_for, Stood, nobody, back, beside, stays, stood, waiting_lives, bytes-flip}
+use Rattle.hc_effects.proofs.{LettingGo.{may_let_go}, SameTables.{all_closed_is}, Tests.{and_false, none_some}}
+use Rattle.hc_state.specs.{declared.rows.Rows.{Rows}, Changes.{ChangesAmong, once_over}, Dooms.{Closes, IsUnheard, KeepsLine, IsDoomed}, Lines.{KeepsKey, has_turn, is_passed, is_away, is_away_at}, Stands.{RowsStand, KeepsRest}, Stored.{KeepsEntry, KeepsEntries, is_over}}
+use Rattle.hc_state.proofs.{FallbackSteps.{live_same}, OneOfEach.{first_row, bound_same, growing_same, kind_same}, Ties.{entry_same, key_same, overs_closed}, Apart.{or_offs}}
+use Rattle.hc_on_head.proofs.{DoomCloses.{IsBare, bare_among, closes_are}, DoomTies.{s, exchange_is, over_row, line_row, same_consumer, none_row, all_consumers, exchange_shut}, Woken.{stands_for, Stood, nobody, back, beside, stays, stood, waiting_lives, bytes-flip}}
 
 module _ (t : Tables) (law : Lawful t) (now : ℕ) (key xs : List ℕ) (bare : (x : ℕ) → is_among x xs ≡ true → IsBare t key x) where
   abbrev after : Tables

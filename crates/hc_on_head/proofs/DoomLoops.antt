@@ -1,27 +1,17 @@
 -- The loop of a doom, in ascending order of exchanges: which exchange is closed next, and what was closed so far.
-use Rattle.std.proofs.Common.{◌≡◌, ◌≢◌, ◌⊎◌, inl, inr, ℕ, ◌+◌, ◌<◌, ◌≤◌, List, [], ◌∷◌, ◌++◌, length, min, Bool, true, false, cond, eqb, leb, Option, Some, None, refl, ap, sym, ◌∙◌, subst, arith, length-append}
-use Rattle.std.proofs.lemmas.Bool.Decides.{nat_tests}
-use Rattle.std.proofs.lemmas.List.{append_assoc, append-nil}
-use Rattle.std.specs.Prelude.{map, nat_eq, nat_le, option_and_then, ◌||◌}
-use Rattle.std.specs.HashMap.{get}
+use Rattle.std.{proofs.{Common.{◌≡◌, ◌≢◌, ◌⊎◌, inl, inr, ℕ, ◌+◌, ◌<◌, ◌≤◌, List, [], ◌∷◌, ◌++◌, length, min, Bool, true, false, cond, eqb, leb, Option, Some, None, refl, ap, sym, ◌∙◌, subst, arith, length-append}, lemmas.{Bool.Decides.{nat_tests}, List.{append_assoc, append-nil}}}, specs.{Prelude.{map, nat_eq, nat_le, option_and_then, ◌||◌}, HashMap.{get}}}
 use Rattle.hc_text.proofs.Basics.{eqb-other, eqb-same, false_true, same_or, some_inj as some_is}
 use Rattle.hc_store.specs.declared.backend.Backend.{Ghosts}
 use Rattle.hc_effects.proofs.Vocabulary.{Act, lesser, awaited_exchange}
 use Rattle.hc_effects.proofs.Tests.{none_some}
 use Rattle.hc_event.specs.declared.act.Act.TheVariants as act
-use Rattle.hc_entry.specs.declared.keys.KeyTable.{KeyTable}
-use Rattle.hc_entry.specs.Keys.{line_of, seated_at, AllAreSeatedBelow}
-use Rattle.hc_entry.specs.Lines.{is_among, is_in}
-use Rattle.hc_entry.specs.Users.{itself}
+use Rattle.hc_entry.specs.{declared.keys.KeyTable.{KeyTable}, Keys.{line_of, seated_at, AllAreSeatedBelow}, Lines.{is_among, is_in}, Users.{itself}}
 use Rattle.hc_entry.proofs.SeatLemmas.{first_in}
-use Rattle.hc_exch.specs.declared.exchanges.Exchanges.{Exchanges}
+use Rattle.hc_exch.specs.{declared.exchanges.Exchanges.{Exchanges}, Exchanges.{table_of, next_of}}
 use Rattle.hc_exch.specs.Exchanges as exch
-use Rattle.hc_exch.specs.Exchanges.{table_of, next_of}
 use Rattle.hc_exch.specs.Known as known
 use Rattle.hc_sorted.specs.Sorted.{is_sorted}
-use Rattle.hc_state.specs.declared.consumer.Consumer.{Consumer}
-use Rattle.hc_state.specs.declared.rows.Rows.{Rows}
-use Rattle.hc_state.specs.Dooms.{awaited_by, IsAwaited, IsToClose, IsNext, AreAtMost, nearer, Closes}
+use Rattle.hc_state.specs.{declared.{consumer.Consumer.{Consumer}, rows.Rows.{Rows}}, Dooms.{awaited_by, IsAwaited, IsToClose, IsNext, AreAtMost, nearer, Closes}}
 use Rattle.hc_on_head.proofs.AscendingLists.{among-append, among_cases, is_first, is_later, ascends_last}
 
 -- THE NEXT ONE

@@ -1,30 +1,19 @@
 -- A doom: what is kept of consumers, and of exchanges, represents the tables in which whoever waits has started over.
-use Rattle.std.proofs.Common.{◌≡◌, ℕ, zero, suc, ◌+◌, List, [], ◌∷◌, drop, Bool, true, false, eqb, Option, Some, None, refl, ap, sym, ◌∙◌, subst}
-use Rattle.std.specs.Prelude.{nat_eq, bytes_eq, option_map, ◌&&◌, ◌||◌, if◌then◌else◌}
-use Rattle.std.specs.HashMap.{get}
+use Rattle.std.{proofs.Common.{◌≡◌, ℕ, zero, suc, ◌+◌, List, [], ◌∷◌, drop, Bool, true, false, eqb, Option, Some, None, refl, ap, sym, ◌∙◌, subst}, specs.{Prelude.{nat_eq, bytes_eq, option_map, ◌&&◌, ◌||◌, if◌then◌else◌}, HashMap.{get}}}
 use Rattle.hc_text.proofs.Basics.{false_true, same_some as same_row, some_inj as some_is}
 use Rattle.hc_effects.proofs.Vocabulary.{Limits, Response, is_disabled, is_only, Place, back_in_line, is_number, over, woken, family, promised_bytes, is_open, Lawful, lo_of, hi_of, base_in, end_in, end_of_direct, is_bound_place, Tables, Exchange, Representation, waits_at}
 use Rattle.hc_store.specs.declared.backend.Backend.{Ghosts}
-use Rattle.hc_entry.specs.Keys.{line_of}
-use Rattle.hc_entry.specs.Lines.{is_among, is_in}
+use Rattle.hc_entry.specs.{Keys.{line_of}, Lines.{is_among, is_in}}
 use Rattle.hc_exch.specs.Known as known
 use Rattle.hc_exch.specs.Known.{Known}
 use Rattle.hc_event.specs.declared.place.Place.TheVariants as place
 use Rattle.hc_event.specs.declared.place.BoundBy.TheVariants as by
 use Rattle.hc_model.specs.Rows as rows
 use Rattle.hc_effects.proofs.SameTables as tables
-use Rattle.hc_effects.proofs.SameTables.{shut}
-use Rattle.hc_effects.proofs.Basics.{number_is}
-use Rattle.hc_state.specs.declared.consumer.Consumer.{Consumer}
-use Rattle.hc_state.specs.declared.rows.Rows.{Rows}
-use Rattle.hc_state.specs.Changes.{ChangesAmong, once_over}
-use Rattle.hc_state.specs.Kept.{IsKept, KeepsConsumer, KeepsExchange, KeepsRunning, head_in, answer_at, held_for, held_of, held_alone, unread, unstored_bytes}
-use Rattle.hc_state.specs.Stands.{RowsStand}
-use Rattle.hc_state.proofs.Fallbacks.{unstored_moved}
-use Rattle.hc_state.proofs.Closing.{base_over, of_over, promise_over}
-use Rattle.hc_on_head.proofs.DoomCloses.{headless_row}
-use Rattle.hc_state.proofs.Ties.{kept_none, exchange_same}
-use Rattle.hc_on_head.proofs.Woken.{bytes-flip, stands_for, Stood, nobody, back, beside, stays, stood, starts_over, stays_so, waiting_lives}
+use Rattle.hc_effects.proofs.{SameTables.{shut}, Basics.{number_is}}
+use Rattle.hc_state.specs.{declared.{consumer.Consumer.{Consumer}, rows.Rows.{Rows}}, Changes.{ChangesAmong, once_over}, Kept.{IsKept, KeepsConsumer, KeepsExchange, KeepsRunning, head_in, answer_at, held_for, held_of, held_alone, unread, unstored_bytes}, Stands.{RowsStand}}
+use Rattle.hc_state.proofs.{Fallbacks.{unstored_moved}, Closing.{base_over, of_over, promise_over}, Ties.{kept_none, exchange_same}}
+use Rattle.hc_on_head.proofs.{DoomCloses.{headless_row}, Woken.{bytes-flip, stands_for, Stood, nobody, back, beside, stays, stood, starts_over, stays_so, waiting_lives}}
 
 -- AN EXCHANGE THAT IS OVER
 

@@ -1,7 +1,5 @@
 -- The head of an unsafe request dooms its key: it is answered, and what is kept represents the tables then.
-use Rattle.std.proofs.Common.{◌≡◌, ◌≢◌, ◌⊎◌, inl, inr, ℕ, List, [], Bool, true, false, Option, Some, None, refl, ap, sym, ◌∙◌, subst}
-use Rattle.std.specs.Prelude.{is_some, is_none, nat_eq, bytes_eq, map, option_map, not, ◌&&◌, ◌||◌, if◌then◌else◌}
-use Rattle.std.specs.HashMap.{get}
+use Rattle.std.{proofs.Common.{◌≡◌, ◌≢◌, ◌⊎◌, inl, inr, ℕ, List, [], Bool, true, false, Option, Some, None, refl, ap, sym, ◌∙◌, subst}, specs.{Prelude.{is_some, is_none, nat_eq, bytes_eq, map, option_map, not, ◌&&◌, ◌||◌, if◌then◌else◌}, HashMap.{get}}}
 use Rattle.hc_text.proofs.Basics.{eqb-other, eqb-same, false_true, same_or, same_some as same_row, some_inj as some_is, and_off as then_false}
 use Rattle.hc_effects.proofs.Vocabulary.{Limits, Act, Cause, Event, Response, head_case, Request, length_of, is_bad, route_of, head_refusal, head_view, awaits, back_in_line, current, denial, is_live, changes, with_event, as_gone, over, exchange_with_head, all_closed, let_some_go, with_answer, with_consumer, with_exchange, sent_back, woken, is_awaited, awaited_and, is_headless, brings_to, Lawful, is_in_line, IsAwaiting, Tables, Exchange, Representation, Among, waits_at, with_item_first}
 use Rattle.hc_store.specs.declared.backend.Backend.{Ghosts}
@@ -12,52 +10,18 @@ use Rattle.hc_rules.specs.declared.heads.HeadCase.TheVariants as case
 use Rattle.hc_stored.specs.Entries.{shelf_of}
 use Rattle.hc_event.specs.declared.act.Refusal.TheVariants as refusal
 use Rattle.hc_rules.specs.declared.need.Route.TheVariants as route
-use Rattle.hc_exch.specs.declared.row.Open.{Open}
-use Rattle.hc_exch.specs.Exchanges.{table_of}
-use Rattle.hc_exch.specs.Known.{Table, open_view, begins_with, length_by}
-use Rattle.hc_exch.specs.Openings.{opened_with}
-use Rattle.hc_exch.specs.declared.row.Opening.{Opening}
+use Rattle.hc_exch.specs.{declared.row.{Open.{Open}, Opening.{Opening}}, Exchanges.{table_of}, Known.{Table, open_view, begins_with, length_by}, Openings.{opened_with}}
 use Rattle.hc_entry.specs.Keys.{kept_of}
 use Rattle.hc_event.specs.declared.place.Place.TheVariants as place
 use Rattle.hc_event.specs.declared.place.BoundBy.TheVariants as by
 use Rattle.hc_model.specs.Owners as owners
 use Rattle.hc_model.specs.Rows as rows
-use Rattle.hc_effects.proofs.Basics.{same_functions}
+use Rattle.hc_effects.proofs.{Basics.{same_functions}, SameTables.{without, shut, back_from_any, waits_for_any, some_go_is, all_closed_is}, UnsafeEffects.{dooms_taken, dooms_bad}, Tests.{and_false, none_some}}
 use Rattle.hc_effects.proofs.SameTables as tables
-use Rattle.hc_effects.proofs.SameTables.{without, shut, back_from_any, waits_for_any, some_go_is, all_closed_is}
-use Rattle.hc_effects.proofs.UnsafeEffects.{dooms_taken, dooms_bad}
-use Rattle.hc_effects.proofs.Tests.{and_false, none_some}
-use Rattle.hc_state.specs.declared.consumer.Consumer.{Consumer}
-use Rattle.hc_state.specs.declared.rows.Rows.{Rows}
-use Rattle.hc_state.specs.Changes.{ChangesAt, standing_at}
-use Rattle.hc_state.specs.Dooms.{IsUnheard, IsDoomed}
-use Rattle.hc_state.specs.Facts.{Facts}
-use Rattle.hc_state.specs.Heads.{AwaitsHead, IsPastStore, IsReadAlone}
-use Rattle.hc_state.specs.Kept.{IsKept, KeepsConsumer, KeepsExchange, KeepsRunning, answer_for, unread, held_for}
-use Rattle.hc_state.specs.Lines.{KeepsKey, has_turn, is_away, is_away_at, is_passed}
-use Rattle.hc_state.specs.Stands.{Answered, RowsStand, Stands}
-use Rattle.hc_state.specs.Stored.{KeepsEntries, is_over}
-use Rattle.hc_on_leave.proofs.AnswerHandler.{reader_kept, opened_as}
-use Rattle.hc_state.proofs.Answering.{does_answered}
-use Rattle.hc_state.proofs.Fallbacks.{same, held_alike}
-use Rattle.hc_state.proofs.FallbackSteps.{live_same}
-use Rattle.hc_state.proofs.ConsumerSteps.{SaysOfIt, key_with, key_stays}
-use Rattle.hc_state.proofs.Counting.{stands_counted}
-use Rattle.hc_on_head.proofs.DoomCloses.{among_is}
-use Rattle.hc_on_head.proofs.DoomTies.{in_is}
-use Rattle.hc_on_leave.proofs.HeardExchange.{drop_none, held_empty}
-use Rattle.hc_on_head.proofs.HeadTold.{heard_as, past_of_runs}
-use Rattle.hc_on_leave.proofs.HeardRows.{Asker, headless_of, kept_as, runs_as}
-use Rattle.hc_state.proofs.KeySteps.{not_lined}
-use Rattle.hc_on_leave.proofs.LeaveHandlers.{flawless}
-use Rattle.hc_state.proofs.Maps.{merely_true, merely_false}
-use Rattle.hc_on_leave.proofs.OneConsumer.{HoldsAsMuch, held_same}
-use Rattle.hc_state.proofs.OneOfEach.{stands_then, entries_same, growing_same}
-use Rattle.hc_state.proofs.QueueHandler.{becomes_by}
-use Rattle.hc_on_leave.proofs.RefuseHandler.{length_as}
-use Rattle.hc_state.proofs.Ties.{key_same, overs_but}
-use Rattle.hc_state.proofs.Unbinding.{entries_unbound}
-use Rattle.hc_on_leave.proofs.UnstoredHandlers.{read_then, unwritten}
+use Rattle.hc_state.specs.{declared.{consumer.Consumer.{Consumer}, rows.Rows.{Rows}}, Changes.{ChangesAt, standing_at}, Dooms.{IsUnheard, IsDoomed}, Facts.{Facts}, Heads.{AwaitsHead, IsPastStore, IsReadAlone}, Kept.{IsKept, KeepsConsumer, KeepsExchange, KeepsRunning, answer_for, unread, held_for}, Lines.{KeepsKey, has_turn, is_away, is_away_at, is_passed}, Stands.{Answered, RowsStand, Stands}, Stored.{KeepsEntries, is_over}}
+use Rattle.hc_on_leave.proofs.{AnswerHandler.{reader_kept, opened_as}, HeardExchange.{drop_none, held_empty}, HeardRows.{Asker, headless_of, kept_as, runs_as}, LeaveHandlers.{flawless}, OneConsumer.{HoldsAsMuch, held_same}, RefuseHandler.{length_as}, UnstoredHandlers.{read_then, unwritten}}
+use Rattle.hc_state.proofs.{Answering.{does_answered}, Fallbacks.{same, held_alike}, FallbackSteps.{live_same}, ConsumerSteps.{SaysOfIt, key_with, key_stays}, Counting.{stands_counted}, KeySteps.{not_lined}, Maps.{merely_true, merely_false}, OneOfEach.{stands_then, entries_same, growing_same}, QueueHandler.{becomes_by}, Ties.{key_same, overs_but}, Unbinding.{entries_unbound}}
+use Rattle.hc_on_head.proofs.{DoomCloses.{among_is}, DoomTies.{in_is}, HeadTold.{heard_as, past_of_runs}}
 
 -- WHOEVER READS A CLOSED EXCHANGE PAST THE STORE IS TO FAIL
 

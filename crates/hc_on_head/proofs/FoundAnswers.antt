@@ -1,11 +1,7 @@
 -- By what the code did at a head that founds: what it asked for may be asked for, and the head is answered.
-use Rattle.std.proofs.Common.{◌≡◌, ℕ, ◌+◌, ◌<◌, ◌≤◌, List, [], ◌∷◌, ◌++◌, true, false, Option, Some, None, Result, Ok, Err, refl, ap, sym, ◌∙◌, subst, arith}
-use Rattle.std.specs.Prelude.{IsSomeAnd, is_some, nat_eq, option_map}
-use Rattle.std.specs.HashMap.{get}
+use Rattle.std.{proofs.Common.{◌≡◌, ℕ, ◌+◌, ◌<◌, ◌≤◌, List, [], ◌∷◌, ◌++◌, true, false, Option, Some, None, Result, Ok, Err, refl, ap, sym, ◌∙◌, subst, arith}, specs.{Prelude.{IsSomeAnd, is_some, nat_eq, option_map}, HashMap.{get}}}
 use Rattle.hc_text.proofs.Basics.{none_of, some_inj as some_is}
-use Rattle.hc_store.specs.Causes.{HasCause, IsWithin}
-use Rattle.hc_store.specs.declared.backend.Backend.{Ghosts}
-use Rattle.hc_store.specs.declared.error.StoreError.{StoreError}
+use Rattle.hc_store.specs.{Causes.{HasCause, IsWithin}, declared.{backend.Backend.{Ghosts}, error.StoreError.{StoreError}}}
 use Rattle.hc_store.specs.declared.error.StoreError.TheVariants as errors
 use Rattle.hc_effects.proofs.Vocabulary.{Act, LostKind, Request, Response, HeadCase, RequestClass, Limits, Room, head_case, head_refusal, class_of, range_of, head_view, is_founding, current, denial, let_some_go, with_consumer, with_answer, Loses, MayMakeRoom, MayLetGo, giving_way, Tables, Exchange, may_lose, room_for, is_fault}
 use Rattle.hc_event.specs.declared.act.Act.TheVariants as act
@@ -13,36 +9,16 @@ use Rattle.hc_event.specs.declared.act.LostKind.TheVariants as kinds
 use Rattle.hc_event.specs.declared.event.Event.TheVariants as event
 use Rattle.hc_rules.specs.declared.room.Room.TheVariants as room
 use Rattle.hc_rules.specs.declared.room.Write.TheVariants as write
-use Rattle.hc_stored.specs.Entries.{shelf_of}
-use Rattle.hc_stored.specs.Kept.{Kept}
+use Rattle.hc_stored.specs.{Entries.{shelf_of}, Kept.{Kept}}
 use Rattle.hc_entry.specs.Keys.{kept_of}
-use Rattle.hc_exch.specs.declared.exchanges.Exchanges.{Exchanges}
-use Rattle.hc_exch.specs.declared.row.Open.{Open}
-use Rattle.hc_exch.specs.Exchanges.{table_of}
-use Rattle.hc_exch.specs.Known.{open_view}
+use Rattle.hc_exch.specs.{declared.{exchanges.Exchanges.{Exchanges}, row.Open.{Open}}, Exchanges.{table_of}, Known.{open_view}}
 use Rattle.hc_event.specs.declared.place.Place.TheVariants as place
 use Rattle.hc_model.specs.Rows as rows
-use Rattle.hc_effects.proofs.FoundDoes.{Founds, founds_of}
-use Rattle.hc_effects.proofs.Tests.{none_some}
-use Rattle.hc_effects.proofs.EventsKeep.{no_head as head_none}
-use Rattle.hc_state.specs.declared.consumer.Consumer.{Consumer}
-use Rattle.hc_state.specs.declared.rows.Rows.{Rows}
-use Rattle.hc_state.specs.declared.founded.Founding.{Founding}
-use Rattle.hc_state.specs.Facts.{Facts}
-use Rattle.hc_state.specs.Founding.{BeginsFounding, IsFounding}
-use Rattle.hc_state.specs.Heads.{AwaitsHead, IsAskedBy, IsReadAlone, StandsApart, goes_with}
-use Rattle.hc_state.specs.Kept.{IsRunning}
-use Rattle.hc_state.specs.Renewals.{IsUnrenewed}
-use Rattle.hc_state.specs.Room.{HasActs, LeavesActs, GivesWay, loss_by, room_for_write}
-use Rattle.hc_state.specs.Stands.{Answered, RowsStand, Stands}
-use Rattle.hc_state.specs.Stored.{KeepsEntry}
-use Rattle.hc_on_leave.proofs.AnswerHandler.{reader_kept}
-use Rattle.hc_on_leave.proofs.FoundHandler.{fallback, first, second, es, m, may_fallback, may_first, make_second, one_way, m_unfounded, m_asker, read_alone, founds_answered, lost_answered, full_told}
+use Rattle.hc_effects.proofs.{FoundDoes.{Founds, founds_of}, Tests.{none_some}, EventsKeep.{no_head as head_none}}
+use Rattle.hc_state.specs.{declared.{consumer.Consumer.{Consumer}, rows.Rows.{Rows}, founded.Founding.{Founding}}, Facts.{Facts}, Founding.{BeginsFounding, IsFounding}, Heads.{AwaitsHead, IsAskedBy, IsReadAlone, StandsApart, goes_with}, Kept.{IsRunning}, Renewals.{IsUnrenewed}, Room.{HasActs, LeavesActs, GivesWay, loss_by, room_for_write}, Stands.{Answered, RowsStand, Stands}, Stored.{KeepsEntry}}
+use Rattle.hc_on_leave.proofs.{AnswerHandler.{reader_kept}, FoundHandler.{fallback, first, second, es, m, may_fallback, may_first, make_second, one_way, m_unfounded, m_asker, read_alone, founds_answered, lost_answered, full_told}, HeardRows.{Asker, Headless, asker, headless_of, heard_row, runs_as}}
 use Rattle.hc_on_head.proofs.HeadTold.{past_of_runs}
-use Rattle.hc_on_leave.proofs.HeardRows.{Asker, Headless, asker, headless_of, heard_row, runs_as}
-use Rattle.hc_state.proofs.Maps.{known_of, merely_below, merely_false}
-use Rattle.hc_state.proofs.ReaderSteps.{stands_read}
-use Rattle.hc_state.proofs.Rooms.{room_is}
+use Rattle.hc_state.proofs.{Maps.{known_of, merely_below, merely_false}, ReaderSteps.{stands_read}, Rooms.{room_is}}
 
 class_range : (request : Request) → (class_of request).range ≡ range_of request
 unfolding class_of

@@ -1,20 +1,12 @@
 -- A slot is taken for what is founded: what changes with it.
-use Rattle.std.proofs.Common.{◌≡◌, ◌≢◌, inl, inr, ℕ, ◌<◌, ◌^◌, false, Option, Some, None, refl, ap, sym, ◌∙◌, subst}
-use Rattle.std.specs.Prelude.{option_map, ◌==◌, if◌then◌else◌}
+use Rattle.std.{proofs.Common.{◌≡◌, ◌≢◌, inl, inr, ℕ, ◌<◌, ◌^◌, false, Option, Some, None, refl, ap, sym, ◌∙◌, subst}, specs.Prelude.{option_map, ◌==◌, if◌then◌else◌}}
 use Rattle.hc_text.proofs.Basics.{eqb-other, eqb-same, same_or}
 use Rattle.hc_effects.proofs.Vocabulary.{Need, Request, Response, Length, is_bad, length_of, promise_of, content_range_of, just_opened, total_of_part}
 use Rattle.hc_effects.proofs.ToldNumbers.{founded_early}
-use Rattle.hc_entry.specs.declared.keys.KeyTable.{KeyTable}
+use Rattle.hc_entry.specs.{declared.keys.KeyTable.{KeyTable}, Kept.{with_current}}
 use Rattle.hc_entry.specs.Keys as keys
-use Rattle.hc_entry.specs.Kept.{with_current}
-use Rattle.hc_exch.specs.declared.exchanges.Exchanges.{Exchanges}
-use Rattle.hc_exch.specs.declared.role.Role.{Role}
+use Rattle.hc_exch.specs.{declared.{exchanges.Exchanges.{Exchanges}, role.Role.{Role}, row.{Open.{Open}, Opening.{Opening}}}, Exchanges.{table_of, Becomes}, Known.{Known, with_good_head, turned_into, length_by, begins_with}, Openings.{opened_with}}
 use Rattle.hc_exch.specs.declared.role.Role.TheVariants as role
-use Rattle.hc_exch.specs.declared.row.Open.{Open}
-use Rattle.hc_exch.specs.declared.row.Opening.{Opening}
-use Rattle.hc_exch.specs.Exchanges.{table_of, Becomes}
-use Rattle.hc_exch.specs.Known.{Known, with_good_head, turned_into, length_by, begins_with}
-use Rattle.hc_exch.specs.Openings.{opened_with}
 use Rattle.hc_state.specs.Founding.{brings_body}
 use Rattle.hc_on_leave.proofs.AnswerHandler.{known_here, known_other, opened_as}
 

@@ -1,7 +1,5 @@
 -- What the code looked up of a head is what the tables say: its consumer, its case, what it dooms and what goes with it.
-use Rattle.std.proofs.Common.{◌≡◌, ◌⊎◌, inl, inr, ℕ, List, Bool, true, false, Option, Some, None, refl, ap, ap₂, sym, ◌∙◌, subst}
-use Rattle.std.specs.Prelude.{IsTrue, ◌==◌, is_some, nat_eq, nat_lt, option_map, IsSomeAnd, ◌&&◌, ◌||◌, if◌then◌else◌}
-use Rattle.std.specs.HashMap.{get}
+use Rattle.std.{proofs.Common.{◌≡◌, ◌⊎◌, inl, inr, ℕ, List, Bool, true, false, Option, Some, None, refl, ap, ap₂, sym, ◌∙◌, subst}, specs.{Prelude.{IsTrue, ◌==◌, is_some, nat_eq, nat_lt, option_map, IsSomeAnd, ◌&&◌, ◌||◌, if◌then◌else◌}, HashMap.{get}}}
 use Rattle.hc_text.proofs.Basics.{and_both as both_of, false_true, same_some as same_row, some_inj as some_is}
 use Rattle.hc_effects.proofs.Vocabulary.{Limits, Request, Response, HeadCase, HeadView, Route, head_case, case_on, is_bad, route_of, head_refusal, Place, head_view, is_founding, current, doomed_by_case, changes, is_headless, is_in_line, Tables, Exchange, awaited_exchange}
 use Rattle.hc_store.specs.declared.backend.Backend.{Ghosts}
@@ -10,34 +8,17 @@ use Rattle.hc_rules.specs.declared.heads.HeadCase.TheVariants as case
 use Rattle.hc_rules.specs.declared.need.Route.TheVariants as route
 use Rattle.hc_rules.proofs.RangeReads.{bytes_eq-same}
 use Rattle.hc_stored.specs.Entries.{shelf_of}
-use Rattle.hc_entry.specs.Keys.{kept_of, line_of}
-use Rattle.hc_entry.specs.Lines.{is_among, is_in}
-use Rattle.hc_exch.specs.declared.row.ExchangeView.{ExchangeView}
-use Rattle.hc_exch.specs.declared.row.Open.{Open}
-use Rattle.hc_exch.specs.Exchanges.{table_of}
-use Rattle.hc_exch.specs.Known.{open_view, view_of, length_by}
+use Rattle.hc_entry.specs.{Keys.{kept_of, line_of}, Lines.{is_among, is_in}}
+use Rattle.hc_exch.specs.{declared.row.{ExchangeView.{ExchangeView}, Open.{Open}}, Exchanges.{table_of}, Known.{open_view, view_of, length_by}}
 use Rattle.hc_event.specs.declared.place.Place.TheVariants as place
 use Rattle.hc_event.specs.declared.place.BoundBy.TheVariants as by
-use Rattle.hc_effects.proofs.FoundBy.{CaseBy, case_by, turn_direct}
+use Rattle.hc_effects.proofs.{FoundBy.{CaseBy, case_by, turn_direct}, Basics.{some_row}, Tests.{none_some}}
 use Rattle.hc_effects.proofs.FoundBy as cases
-use Rattle.hc_effects.proofs.Basics.{some_row}
-use Rattle.hc_effects.proofs.Tests.{none_some}
-use Rattle.hc_state.specs.declared.consumer.Consumer.{Consumer}
-use Rattle.hc_state.specs.declared.rows.Rows.{Rows}
-use Rattle.hc_state.specs.Handlers.{IsInKey}
-use Rattle.hc_state.specs.Facts.{Facts}
-use Rattle.hc_state.specs.Founding.{MayFound}
-use Rattle.hc_state.specs.Heads.{aim_in, kept_at, heard_view, changes_by, is_past_case, is_bad_case, IsPastStore, puts_down, goes_past, starts_anew, let_go_by, goes_with}
-use Rattle.hc_state.specs.Kept.{IsRunning}
-use Rattle.hc_state.specs.Lines.{is_away, is_away_at}
-use Rattle.hc_state.specs.Stands.{RowsStand, Stands}
-use Rattle.hc_on_leave.proofs.HeadCases.{it_is}
+use Rattle.hc_state.specs.{declared.{consumer.Consumer.{Consumer}, rows.Rows.{Rows}}, Handlers.{IsInKey}, Facts.{Facts}, Founding.{MayFound}, Heads.{aim_in, kept_at, heard_view, changes_by, is_past_case, is_bad_case, IsPastStore, puts_down, goes_past, starts_anew, let_go_by, goes_with}, Kept.{IsRunning}, Lines.{is_away, is_away_at}, Stands.{RowsStand, Stands}}
+use Rattle.hc_on_leave.proofs.{HeadCases.{it_is}, HeardRows.{Asker, Headless, asker, headless_of, heard_row, runs_as}, UnstoredHandlers.{awaits_viewed}}
 use Rattle.hc_on_head.specs.Comings.{MayCome, IsPast}
 use Rattle.hc_on_head.proofs.HeadViews.{case_is, aim_is, view_is as views_as}
-use Rattle.hc_on_leave.proofs.HeardRows.{Asker, Headless, asker, headless_of, heard_row, runs_as}
-use Rattle.hc_state.proofs.KeySteps.{lined}
-use Rattle.hc_state.proofs.Maps.{merely_true, some_that}
-use Rattle.hc_on_leave.proofs.UnstoredHandlers.{awaits_viewed}
+use Rattle.hc_state.proofs.{KeySteps.{lined}, Maps.{merely_true, some_that}}
 
 -- A BAD HEAD IS OF A BAD CASE
 

@@ -1,22 +1,13 @@
 -- What the case of a head looks at is what the tables say.
-use Rattle.std.proofs.Common.{◌≡◌, ◌≤◌, ◌<◌, ℕ, List, [], Bool, true, false, Option, Some, None, refl, ap, ap₂, sym, ◌∙◌, subst, arith}
-use Rattle.std.proofs.lemmas.Bool.Decides.{nat_tests}
-use Rattle.std.specs.Prelude.{codes, is_some, nat_eq, nat_le, option_and_then, option_map, ◌==◌, if◌then◌else◌}
-use Rattle.std.specs.Option.{IfSome}
-use Rattle.std.specs.HashMap.{get}
+use Rattle.std.{proofs.{Common.{◌≡◌, ◌≤◌, ◌<◌, ℕ, List, [], Bool, true, false, Option, Some, None, refl, ap, ap₂, sym, ◌∙◌, subst, arith}, lemmas.Bool.Decides.{nat_tests}}, specs.{Prelude.{codes, is_some, nat_eq, nat_le, option_and_then, option_map, ◌==◌, if◌then◌else◌}, Option.{IfSome}, HashMap.{get}}}
 use Rattle.hc_text.proofs.Basics.{eqb-same, false_true, some_inj as some_is}
 use Rattle.hc_effects.proofs.Vocabulary.{Limits, Need, Request, Response, RequestClass, HeadCase, HeadView, head_case, is_conditional, is_storable, fits_to_found, length_of, is_bad, content_range_in, content_range_of, class_of, range_of, Route, route_of, BoundBy, joins_by, joins_row, fits_asker, was_shown, head_view, row_of, IsAwaiting, bound, is_bound, InHole, Tables, Exchange, Representation}
 use Rattle.hc_store.specs.declared.backend.Backend.{Ghosts}
-use Rattle.hc_range.specs.declared.range.Asked.{Asked}
-use Rattle.hc_range.specs.declared.range.Asked.TheVariants.{From, FromTo, Last}
-use Rattle.hc_range.specs.declared.range.Span.{Span}
-use Rattle.hc_range.specs.Spans.{IsInOrder}
+use Rattle.hc_range.specs.{declared.range.{Asked.{Asked, TheVariants.{From, FromTo, Last}}, Span.{Span}}, Spans.{IsInOrder}}
 use Rattle.hc_range.specs.declared.range.ContentRange.TheVariants as range
 use Rattle.hc_sparse.specs.Cells.{Covers}
-use Rattle.hc_fields.specs.FieldList.{values_of}
-use Rattle.hc_fields.specs.FirstValues.{only_of}
-use Rattle.hc_etag.specs.declared.tag.Tag.{Tag}
-use Rattle.hc_etag.specs.Tags.{value_of}
+use Rattle.hc_fields.specs.{FieldList.{values_of}, FirstValues.{only_of}}
+use Rattle.hc_etag.specs.{declared.tag.Tag.{Tag}, Tags.{value_of}}
 use Rattle.hc_record.specs.Head.{Head}
 use Rattle.hc_event.specs.declared.act.Need.TheVariants as need
 use Rattle.hc_rules.specs.declared.joins.HoleAnswer.TheVariants as answer
@@ -24,31 +15,15 @@ use Rattle.hc_rules.specs.declared.heads.HeadCase.TheVariants as case
 use Rattle.hc_rules.specs.Joins.{joins, hole_answer}
 use Rattle.hc_rules.proofs.RangeReads.{content_range_in-some}
 use Rattle.hc_rules.specs.declared.need.Route.TheVariants as route
-use Rattle.hc_exch.specs.declared.row.Open.{Open}
-use Rattle.hc_exch.specs.Exchanges.{table_of}
-use Rattle.hc_stored.specs.declared.view.EntryView.{EntryView}
-use Rattle.hc_stored.specs.Entries.{shelf_of}
-use Rattle.hc_stored.specs.Kept.{Kept}
-use Rattle.hc_stored.specs.Shelf.{Shelf}
-use Rattle.hc_stored.specs.Views.{view_of, tag_in}
+use Rattle.hc_exch.specs.{declared.row.Open.{Open}, Exchanges.{table_of}}
+use Rattle.hc_stored.specs.{declared.view.EntryView.{EntryView}, Entries.{shelf_of}, Kept.{Kept}, Shelf.{Shelf}, Views.{view_of, tag_in}}
 use Rattle.hc_event.specs.declared.place.Place.TheVariants as place
 use Rattle.hc_model.specs.Owners as owners
 use Rattle.hc_model.specs.Rows as rows
-use Rattle.hc_effects.proofs.Bounded.{range_order}
-use Rattle.hc_effects.proofs.Joining.{filling}
-use Rattle.hc_effects.proofs.ExclusiveWriters.{filter_some}
-use Rattle.hc_effects.proofs.Tests.{none_some}
-use Rattle.hc_state.specs.declared.consumer.Consumer.{Consumer}
-use Rattle.hc_state.specs.declared.rows.Rows.{Rows}
-use Rattle.hc_state.specs.Facts.{Facts}
-use Rattle.hc_state.specs.Heads.{aim_in, kept_at, joins_kept, heard_view}
-use Rattle.hc_state.specs.Kept.{IsRunning, KeepsConsumer, role_awaited}
-use Rattle.hc_state.specs.Stands.{RowsStand}
-use Rattle.hc_state.specs.Stored.{KeepsEntry, IsEntry, TellsLength, told, untold}
-use Rattle.hc_on_leave.proofs.HeadCases.{case_same}
-use Rattle.hc_on_leave.proofs.HeardRows.{Asker, runs_as}
-use Rattle.hc_state.proofs.Maps.{merely_true}
-use Rattle.hc_state.proofs.Ties.{kept_row}
+use Rattle.hc_effects.proofs.{Bounded.{range_order}, Joining.{filling}, ExclusiveWriters.{filter_some}, Tests.{none_some}}
+use Rattle.hc_state.specs.{declared.{consumer.Consumer.{Consumer}, rows.Rows.{Rows}}, Facts.{Facts}, Heads.{aim_in, kept_at, joins_kept, heard_view}, Kept.{IsRunning, KeepsConsumer, role_awaited}, Stands.{RowsStand}, Stored.{KeepsEntry, IsEntry, TellsLength, told, untold}}
+use Rattle.hc_on_leave.proofs.{HeadCases.{case_same}, HeardRows.{Asker, runs_as}}
+use Rattle.hc_state.proofs.{Maps.{merely_true}, Ties.{kept_row}}
 
 -- THE RANGE
 

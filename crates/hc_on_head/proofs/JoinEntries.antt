@@ -1,18 +1,15 @@
 -- The head of an exchange came that brings bytes of a hole: what is kept of representations represents the tables then.
-use Rattle.std.proofs.Common.{◌≡◌, ◌≢◌, inl, inr, ℕ, true, false, Option, Some, refl, ap, sym, ◌∙◌, subst}
-use Rattle.std.specs.Prelude.{nat_eq}
+use Rattle.std.{proofs.Common.{◌≡◌, ◌≢◌, inl, inr, ℕ, true, false, Option, Some, refl, ap, sym, ◌∙◌, subst}, specs.Prelude.{nat_eq}}
 use Rattle.hc_text.proofs.Basics.{eqb-other, eqb-same, false_true, filters_same, same_or, and_off as then_false}
 use Rattle.hc_effects.proofs.Vocabulary.{Response, is_number, promise_in, family, is_reached, brings_to, is_growing, kind_of, bound, is_bound, Tables, Exchange, Representation, status_in}
 use Rattle.hc_effects.proofs.Tests.{none_some}
 use Rattle.hc_record.specs.Head.{Head, sealed_head}
 use Rattle.hc_record.specs.declared.kind.Kind.TheVariants as kinds
-use Rattle.hc_stored.specs.Kept.{Kept}
-use Rattle.hc_stored.specs.Shelf.{Shelf}
+use Rattle.hc_stored.specs.{Kept.{Kept}, Shelf.{Shelf}}
 use Rattle.hc_model.specs.Rows as rows
 use Rattle.hc_state.specs.Stored.{IsEntry, TellsLength, told, untold, KeepsEntry, KeepsEntries, is_first, is_usable_row, TellsWriter}
 use Rattle.hc_on_head.proofs.JoinRows.{IsJoinable, s, z, told_consumer, told_representation, exchange_here, exchange_other, representation_here, representation_other}
-use Rattle.hc_state.proofs.OneOfEach.{bound_same, first_by, growing_same, kind_same}
-use Rattle.hc_state.proofs.Ties.{entry_same, OversStay, overs_open, writer_then}
+use Rattle.hc_state.proofs.{OneOfEach.{bound_same, first_by, growing_same, kind_same}, Ties.{entry_same, OversStay, overs_open, writer_then}}
 use Rattle.hc_on_leave.proofs.FoundRows.{any_some}
 
 module _ (t : Tables) (now x q : ℕ) (response : Response) (w : Exchange) (v : rows.Consumer) (p : Representation) (j : IsJoinable t x q w v p) (h : Head) (total : h.total ≡ p.head.total) (status : h.status ≡ p.head.status) (wr : Option ℕ) (own : Option ℕ) (apart : (y : ℕ) → x ≢ y → is_number own y ≡ false) where

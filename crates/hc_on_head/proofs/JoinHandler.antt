@@ -1,9 +1,6 @@
 -- A head that joins is answered.
-use Rattle.std.proofs.Common.{◌≡◌, ◌≢◌, inl, inr, ℕ, ◌+◌, ◌<◌, List, [], ◌∷◌, ◌++◌, Bool, true, false, Option, Some, None, refl, ap, ap₂, sym, ◌∙◌, subst}
+use Rattle.std.{proofs.{Common.{◌≡◌, ◌≢◌, inl, inr, ℕ, ◌+◌, ◌<◌, List, [], ◌∷◌, ◌++◌, Bool, true, false, Option, Some, None, refl, ap, ap₂, sym, ◌∙◌, subst}, lemmas.List.{append-nil}}, specs.{Prelude.{is_some, IsSomeAnd, nat_eq, not, option_map, ◌||◌, ◌==◌, if◌then◌else◌}, HashMap.{get, hash_map_len}}}
 use mathlib.Core.Path.{fun_ext}
-use Rattle.std.proofs.lemmas.List.{append-nil}
-use Rattle.std.specs.Prelude.{is_some, IsSomeAnd, nat_eq, not, option_map, ◌||◌, ◌==◌, if◌then◌else◌}
-use Rattle.std.specs.HashMap.{get, hash_map_len}
 use Rattle.hc_text.proofs.Basics.{eqb-other, eqb-same, false_true, same_or}
 use Rattle.hc_effects.proofs.Vocabulary.{Limits, Act, Event, Response, HeadCase, head_case, head_refusal, has_loss, head_view, case_at, is_founding, is_joining, is_number, denial, is_live_place, with_event, let_go, lost_to, as_gone, with_answer, with_consumer, with_representation, promise_in, is_reached, Loses, updated_head, entry_of, Lawful, bound, is_bound, is_bound_place, resumes, Tables, Exchange, Representation, is_kept, exclusive, written_representation, head_writes, may_validate, lossless}
 use Rattle.hc_store.specs.declared.backend.Backend.{Ghosts}
@@ -14,43 +11,17 @@ use Rattle.hc_event.specs.declared.event.Event.TheVariants as event
 use Rattle.hc_record.specs.Head.{Head, sealed_head}
 use Rattle.hc_record.specs.declared.kind.Kind.TheVariants as kinds
 use Rattle.hc_validate.specs.Updates.{updated_fields}
-use Rattle.hc_stored.specs.Entries.{shelf_of}
-use Rattle.hc_stored.specs.Kept.{Kept, with_head, written_by}
-use Rattle.hc_stored.specs.Shelf.{same_order}
+use Rattle.hc_stored.specs.{Entries.{shelf_of}, Kept.{Kept, with_head, written_by}, Shelf.{same_order}}
 use Rattle.hc_stored.specs.Shelf as shelf
-use Rattle.hc_exch.specs.declared.row.Open.{Open}
+use Rattle.hc_exch.specs.{declared.row.Open.{Open}, Exchanges.{table_of}}
 use Rattle.hc_exch.specs.Exchanges as exch
-use Rattle.hc_exch.specs.Exchanges.{table_of}
 use Rattle.hc_model.specs.Rows as rows
-use Rattle.hc_effects.proofs.FirstKeeps.{case_is}
-use Rattle.hc_effects.proofs.FoundBy.{case_by}
-use Rattle.hc_effects.proofs.ExclusiveWriters.{filter_some}
-use Rattle.hc_effects.proofs.LossStands.{joins_again, not_founding}
+use Rattle.hc_effects.proofs.{FirstKeeps.{case_is}, FoundBy.{case_by}, ExclusiveWriters.{filter_some}, LossStands.{joins_again, not_founding}, Basics.{some_row}}
 use Rattle.hc_effects.proofs.UpdateEffects as does
-use Rattle.hc_effects.proofs.Basics.{some_row}
-use Rattle.hc_state.specs.declared.consumer.Consumer.{Consumer}
-use Rattle.hc_state.specs.declared.rows.Rows.{Rows}
-use Rattle.hc_state.specs.Changes.{BecomesAt, ChangesAt, Numbered}
-use Rattle.hc_state.specs.Facts.{Facts}
-use Rattle.hc_state.specs.Heads.{IsAskedBy}
-use Rattle.hc_state.specs.Joining.{Brings, bringing, IsAbout, IsGrowing, Shares, growing, joins_hole, without_own}
-use Rattle.hc_state.specs.Kept.{IsKept, KeepsConsumer}
-use Rattle.hc_state.specs.Leaving.{LeavesKey}
-use Rattle.hc_state.specs.Renewals.{renewed_head}
-use Rattle.hc_state.specs.Stands.{Answered, RowsStand, open_at}
-use Rattle.hc_state.specs.Stopped.{HoldsNothing}
-use Rattle.hc_state.specs.Stored.{IsEntry, KeepsEntry, as_written}
-use Rattle.hc_state.proofs.Answering.{does_answered, lossy_answered}
-use Rattle.hc_state.proofs.Counting.{stands_counted}
-use Rattle.hc_state.proofs.CurrentTies.{entry_row}
-use Rattle.hc_on_leave.proofs.HeardRows.{Asker, asked_by, asker_of, headless_of, kept_as, runs_as}
-use Rattle.hc_on_head.proofs.JoinEntries.{entries_joined, entry_gone, entry_growing}
-use Rattle.hc_on_head.proofs.JoinRows.{IsJoinable, stands_joined}
-use Rattle.hc_on_head.proofs.JoinTold.{Joins, first, later, goes_on, hole_aim, joinable_as, joinable_lost, joins_lost_too, joins_of, need_is, told_of, view_joins}
-use Rattle.hc_on_leave.proofs.LoseAlone.{holds_none}
-use Rattle.hc_state.proofs.Maps.{known_of}
-use Rattle.hc_state.proofs.QueueHandler.{becomes_by}
-use Rattle.hc_on_leave.proofs.UnstoredHandlers.{unwritten}
+use Rattle.hc_state.specs.{declared.{consumer.Consumer.{Consumer}, rows.Rows.{Rows}}, Changes.{BecomesAt, ChangesAt, Numbered}, Facts.{Facts}, Heads.{IsAskedBy}, Joining.{Brings, bringing, IsAbout, IsGrowing, Shares, growing, joins_hole, without_own}, Kept.{IsKept, KeepsConsumer}, Leaving.{LeavesKey}, Renewals.{renewed_head}, Stands.{Answered, RowsStand, open_at}, Stopped.{HoldsNothing}, Stored.{IsEntry, KeepsEntry, as_written}}
+use Rattle.hc_state.proofs.{Answering.{does_answered, lossy_answered}, Counting.{stands_counted}, CurrentTies.{entry_row}, Maps.{known_of}, QueueHandler.{becomes_by}}
+use Rattle.hc_on_leave.proofs.{HeardRows.{Asker, asked_by, asker_of, headless_of, kept_as, runs_as}, LoseAlone.{holds_none}, UnstoredHandlers.{unwritten}}
+use Rattle.hc_on_head.proofs.{JoinEntries.{entries_joined, entry_gone, entry_growing}, JoinRows.{IsJoinable, stands_joined}, JoinTold.{Joins, first, later, goes_on, hole_aim, joinable_as, joinable_lost, joins_lost_too, joins_of, need_is, told_of, view_joins}}
 
 -- ROWS THAT STAY
 

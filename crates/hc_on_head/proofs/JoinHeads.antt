@@ -1,32 +1,19 @@
 -- What a head that joins was opened about is kept; and a 304 isn't said to select what is stored before that is looked at.
-use Rattle.std.proofs.Common.{◌≡◌, ◌⊎◌, inl, inr, ℕ, true, false, Option, Some, None, refl, ap, sym, ◌∙◌, subst}
-use Rattle.std.specs.Prelude.{is_some, IsSomeAnd, nat_eq, option_map}
-use Rattle.std.specs.HashMap.{get}
+use Rattle.std.{proofs.Common.{◌≡◌, ◌⊎◌, inl, inr, ℕ, true, false, Option, Some, None, refl, ap, sym, ◌∙◌, subst}, specs.{Prelude.{is_some, IsSomeAnd, nat_eq, option_map}, HashMap.{get}}}
 use Rattle.hc_text.proofs.Basics.{false_true}
 use Rattle.hc_store.specs.declared.backend.Backend.{Ghosts}
 use Rattle.hc_fields.specs.FieldList.{IsWithinLimits}
 use Rattle.hc_effects.proofs.Vocabulary.{Need, Response, HeadCase, HeadView, head_case, head_refusal}
 use Rattle.hc_event.specs.declared.act.Need.TheVariants as need
 use Rattle.hc_rules.specs.declared.heads.HeadCase.TheVariants as case
-use Rattle.hc_stored.specs.Entries.{shelf_of}
-use Rattle.hc_stored.specs.Kept.{Kept}
-use Rattle.hc_stored.specs.Shelf.{Shelf, is_kept}
-use Rattle.hc_exch.specs.declared.row.ExchangeView.{ExchangeView}
-use Rattle.hc_exch.specs.declared.row.Open.{Open}
-use Rattle.hc_exch.specs.Exchanges.{table_of}
-use Rattle.hc_exch.specs.Known.{open_view, view_of}
-use Rattle.hc_effects.proofs.FoundBy.{CaseBy, case_by}
+use Rattle.hc_stored.specs.{Entries.{shelf_of}, Kept.{Kept}, Shelf.{Shelf, is_kept}}
+use Rattle.hc_exch.specs.{declared.row.{ExchangeView.{ExchangeView}, Open.{Open}}, Exchanges.{table_of}, Known.{open_view, view_of}}
+use Rattle.hc_effects.proofs.{FoundBy.{CaseBy, case_by}, Basics.{some_row}}
 use Rattle.hc_effects.proofs.FoundBy as cases
-use Rattle.hc_effects.proofs.Basics.{some_row}
-use Rattle.hc_state.specs.declared.consumer.Consumer.{Consumer}
-use Rattle.hc_state.specs.declared.rows.Rows.{Rows}
-use Rattle.hc_state.specs.Heads.{aim_in, heard_view, is_bad_case, joins_kept, kept_at}
-use Rattle.hc_state.specs.Joining.{IsAbout, IsAboutKept, joins_hole}
-use Rattle.hc_state.specs.Stands.{Stands}
-use Rattle.hc_on_leave.proofs.HeadCases.{case_unvalidated}
+use Rattle.hc_state.specs.{declared.{consumer.Consumer.{Consumer}, rows.Rows.{Rows}}, Heads.{aim_in, heard_view, is_bad_case, joins_kept, kept_at}, Joining.{IsAbout, IsAboutKept, joins_hole}, Stands.{Stands}}
+use Rattle.hc_on_leave.proofs.{HeadCases.{case_unvalidated}, HeardRows.{Headless, headless_of}}
 use Rattle.hc_on_head.specs.Comings.{FitsCase}
 use Rattle.hc_on_head.proofs.HeadTold.{founds_as, good_as, past_of_runs, viewed_as, waits_as_told}
-use Rattle.hc_on_leave.proofs.HeardRows.{Headless, headless_of}
 
 -- nothing joins what isn't kept
 unkept : (n : Need) (response : Response) → joins_kept n None response ≡ true → {A : Type 0} → A

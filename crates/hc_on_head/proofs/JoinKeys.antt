@@ -1,21 +1,13 @@
 -- A consumer waits for its key no more: what is kept by key represents the tables without it.
-use Rattle.std.proofs.Common.{◌≡◌, ℕ, List, Bool, true, false, Some, None, refl, ap, sym, ◌∙◌, subst}
-use Rattle.std.specs.Prelude.{bytes_eq, ◌||◌}
+use Rattle.std.{proofs.Common.{◌≡◌, ℕ, List, Bool, true, false, Some, None, refl, ap, sym, ◌∙◌, subst}, specs.Prelude.{bytes_eq, ◌||◌}}
 use Rattle.hc_rules.proofs.RangeReads.{same_bytes}
-use Rattle.hc_entry.specs.declared.keys.KeyTable.{KeyTable}
+use Rattle.hc_entry.specs.{declared.keys.KeyTable.{KeyTable}, Kept.{on_line}, Keys.{kept_of, line_of}, Lines.{is_among, is_in, left_by}}
 use Rattle.hc_entry.specs.Kept as keyed
-use Rattle.hc_entry.specs.Kept.{on_line}
-use Rattle.hc_entry.specs.Keys.{kept_of, line_of}
-use Rattle.hc_entry.specs.Lines.{is_among, is_in, left_by}
 use Rattle.hc_effects.proofs.Vocabulary.{with_consumer, is_in_line, holds_turn, Tables}
 use Rattle.hc_effects.proofs.Tests.{and_false}
 use Rattle.hc_model.specs.Rows as rows
-use Rattle.hc_state.specs.Handlers.{LeftIf}
-use Rattle.hc_state.specs.Leaving.{LeavesKey}
-use Rattle.hc_state.specs.Lines.{KeepsKey, has_turn, is_passed, is_away}
-use Rattle.hc_state.proofs.ConsumerSteps.{SaysOfIt, key_with, key_stays, keys_with}
-use Rattle.hc_state.proofs.KeySteps.{leaves_key, off_line, off_passed, off_away}
-use Rattle.hc_state.proofs.Apart.{or_offs}
+use Rattle.hc_state.specs.{Handlers.{LeftIf}, Leaving.{LeavesKey}, Lines.{KeepsKey, has_turn, is_passed, is_away}}
+use Rattle.hc_state.proofs.{ConsumerSteps.{SaysOfIt, key_with, key_stays, keys_with}, KeySteps.{leaves_key, off_line, off_passed, off_away}, Apart.{or_offs}}
 
 module _ (t : Tables) (c : ℕ) (v : rows.Consumer) (row : t.consumer c ≡ Some v) where
   -- nothing was said of it

@@ -1,38 +1,19 @@
 -- Whether an exchange brings all that is missing, for who asks for the whole, is what the tables say.
-use Rattle.std.proofs.Common.{◌≡◌, ℕ, Bool, true, false, Option, Some, None, refl, ap, sym, ◌∙◌, subst, arith}
-use Rattle.std.proofs.lemmas.Bool.Decides.{nat_tests}
-use Rattle.std.specs.Prelude.{is_some, is_none, nat_eq, option_map, ◌&&◌, ◌==◌, ◌↔◌, IsTrue}
-use Rattle.std.specs.HashMap.{get}
+use Rattle.std.{proofs.{Common.{◌≡◌, ℕ, Bool, true, false, Option, Some, None, refl, ap, sym, ◌∙◌, subst, arith}, lemmas.Bool.Decides.{nat_tests}}, specs.{Prelude.{is_some, is_none, nat_eq, option_map, ◌&&◌, ◌==◌, ◌↔◌, IsTrue}, HashMap.{get}}}
 use Rattle.hc_text.proofs.Basics.{eqb-same, false_true, some_inj as some_is}
 use Rattle.hc_effects.proofs.Vocabulary.{Limits, Response, RequestClass, content_range_of, class_of, covers, asks_whole, hole_start, is_last_part, resumes, Tables, Exchange, Representation}
 use Rattle.hc_store.specs.declared.backend.Backend.{Ghosts}
 use Rattle.hc_sparse.specs.Cells.{Covers, size}
 use Rattle.hc_range.specs.declared.range.Asked.{Asked}
 use Rattle.hc_event.specs.declared.act.Need.TheVariants as need
-use Rattle.hc_stored.specs.Entries.{shelf_of}
-use Rattle.hc_stored.specs.Kept.{Kept}
-use Rattle.hc_stored.specs.declared.view.EntryView.{EntryView}
-use Rattle.hc_stored.specs.Shelf.{cells_in}
-use Rattle.hc_stored.specs.Views.{view_of}
-use Rattle.hc_exch.specs.declared.row.Open.{Open}
-use Rattle.hc_exch.specs.Exchanges.{table_of}
-use Rattle.hc_exch.specs.Known.{begins_with}
-use Rattle.hc_exch.specs.declared.row.Opening.{Opening}
-use Rattle.hc_exch.specs.Openings.{opened_with}
+use Rattle.hc_stored.specs.{Entries.{shelf_of}, Kept.{Kept}, declared.view.EntryView.{EntryView}, Shelf.{cells_in}, Views.{view_of}}
+use Rattle.hc_exch.specs.{declared.row.{Open.{Open}, Opening.{Opening}}, Exchanges.{table_of}, Known.{begins_with}, Openings.{opened_with}}
 use Rattle.hc_model.specs.Rows as rows
 use Rattle.hc_effects.proofs.HoleLemmas as holes
 use Rattle.hc_effects.proofs.Tests.{none_some}
-use Rattle.hc_state.specs.declared.consumer.Consumer.{Consumer}
-use Rattle.hc_state.specs.declared.rows.Rows.{Rows}
-use Rattle.hc_state.specs.Facts.{Facts}
-use Rattle.hc_state.specs.Joining.{LacksOnly}
-use Rattle.hc_state.specs.Kept.{KeepsConsumer, KeepsRunning}
-use Rattle.hc_state.specs.Stands.{RowsStand}
-use Rattle.hc_state.specs.Stored.{IsEntry}
-use Rattle.hc_on_leave.proofs.AnswerHandler.{opened_as}
-use Rattle.hc_state.proofs.CurrentTies.{covers_as, entry_at, stored_ends}
-use Rattle.hc_on_leave.proofs.StoreHandler.{stored_size}
-use Rattle.hc_state.proofs.Ties.{kept_row}
+use Rattle.hc_state.specs.{declared.{consumer.Consumer.{Consumer}, rows.Rows.{Rows}}, Facts.{Facts}, Joining.{LacksOnly}, Kept.{KeepsConsumer, KeepsRunning}, Stands.{RowsStand}, Stored.{IsEntry}}
+use Rattle.hc_on_leave.proofs.{AnswerHandler.{opened_as}, StoreHandler.{stored_size}}
+use Rattle.hc_state.proofs.{CurrentTies.{covers_as, entry_at, stored_ends}, Ties.{kept_row}}
 
 -- a request for the whole has no range
 whole_as : (k : Consumer) (v : rows.Consumer) → k.class ≡ class_of v.request → is_none k.class.range ≡ asks_whole (Some v)

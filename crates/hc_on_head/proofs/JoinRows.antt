@@ -1,7 +1,5 @@
 -- The head of an exchange came that brings bytes of a hole: what is kept represents the tables then.
-use Rattle.std.proofs.Common.{◌≡◌, ◌≢◌, ◌⊎◌, inl, inr, ℕ, ◌-◌, List, [], Bool, true, false, Option, Some, None, refl, ap, sym, ◌∙◌, subst}
-use Rattle.std.specs.Prelude.{is_some, nat_eq, drop, bytes_eq, option_map, ◌&&◌, if◌then◌else◌}
-use Rattle.std.specs.HashMap.{get}
+use Rattle.std.{proofs.Common.{◌≡◌, ◌≢◌, ◌⊎◌, inl, inr, ℕ, ◌-◌, List, [], Bool, true, false, Option, Some, None, refl, ap, sym, ◌∙◌, subst}, specs.{Prelude.{is_some, nat_eq, drop, bytes_eq, option_map, ◌&&◌, if◌then◌else◌}, HashMap.{get}}}
 use Rattle.hc_text.proofs.Basics.{eqb-other, eqb-same, finds_same, same_or, and_off as then_false}
 use Rattle.hc_effects.proofs.Vocabulary.{Limits, Response, Length, length_of, base_of, promise_of, Place, BoundBy, current, is_usable, is_number, total_in, is_live, is_live_place, exchange_with_head, with_answer, with_consumer, with_representation, promise_in, base, family, is_headless, is_reached, is_in_line, stands_in_line, has_passed, is_bound_place, Tables, Exchange, Representation, Among}
 use Rattle.hc_effects.proofs.Tests.{and_false}
@@ -11,30 +9,15 @@ use Rattle.hc_stored.specs.Entries.{shelf_of}
 use Rattle.hc_entry.specs.Keys.{kept_of}
 use Rattle.hc_entry.specs.Kept as keyed
 use Rattle.hc_exch.specs.declared.role.Role.TheVariants as role
-use Rattle.hc_exch.specs.declared.row.Open.{Open}
+use Rattle.hc_exch.specs.{declared.row.Open.{Open}, Exchanges.{table_of}, Known.{Known, is_all, length_by}}
 use Rattle.hc_exch.specs.Exchanges as exch
-use Rattle.hc_exch.specs.Exchanges.{table_of}
-use Rattle.hc_exch.specs.Known.{Known, is_all, length_by}
 use Rattle.hc_event.specs.declared.place.Place.TheVariants as place
 use Rattle.hc_event.specs.declared.place.BoundBy.TheVariants as by
 use Rattle.hc_model.specs.Rows as rows
-use Rattle.hc_state.specs.declared.consumer.Consumer.{Consumer}
-use Rattle.hc_state.specs.declared.rows.Rows.{Rows}
-use Rattle.hc_state.specs.Changes.{BecomesAt}
-use Rattle.hc_state.specs.Joining.{bringing}
-use Rattle.hc_state.specs.Kept.{IsKept, IsRunning, KeepsConsumer, KeepsExchange, KeepsRunning, first_lacking, held_for, held_of, held_alone, unread, unstored_bytes}
-use Rattle.hc_state.specs.Leaving.{LeavesKey}
-use Rattle.hc_state.specs.Lines.{KeepsKey, has_turn, is_passed, is_away, is_away_at}
-use Rattle.hc_state.specs.Stands.{RowsStand}
-use Rattle.hc_state.specs.Stored.{KeepsEntries}
-use Rattle.hc_on_leave.proofs.AnswerHandler.{all_reached, known_here, known_other}
-use Rattle.hc_state.proofs.FallbackSteps.{live_same, length_same}
-use Rattle.hc_state.proofs.Fallbacks.{unstored_moved}
-use Rattle.hc_on_leave.proofs.HeardExchange.{drop_none, held_empty}
-use Rattle.hc_on_leave.proofs.HeardRows.{kept_as, runs_as}
+use Rattle.hc_state.specs.{declared.{consumer.Consumer.{Consumer}, rows.Rows.{Rows}}, Changes.{BecomesAt}, Joining.{bringing}, Kept.{IsKept, IsRunning, KeepsConsumer, KeepsExchange, KeepsRunning, first_lacking, held_for, held_of, held_alone, unread, unstored_bytes}, Leaving.{LeavesKey}, Lines.{KeepsKey, has_turn, is_passed, is_away, is_away_at}, Stands.{RowsStand}, Stored.{KeepsEntries}}
+use Rattle.hc_on_leave.proofs.{AnswerHandler.{all_reached, known_here, known_other}, HeardExchange.{drop_none, held_empty}, HeardRows.{kept_as, runs_as}}
+use Rattle.hc_state.proofs.{FallbackSteps.{live_same, length_same}, Fallbacks.{unstored_moved}, KeySteps.{not_lined}, Ties.{consumer_same, exchange_same, key_same, kept_same}}
 use Rattle.hc_on_head.proofs.JoinKeys.{keys_left}
-use Rattle.hc_state.proofs.KeySteps.{not_lined}
-use Rattle.hc_state.proofs.Ties.{consumer_same, exchange_same, key_same, kept_same}
 
 -- x, of which nothing came yet, waits for its head for a consumer that is bound to q and reads on from it
 pub record IsJoinable (t : Tables) (x q : ℕ) (w : Exchange) (v : rows.Consumer) (p : Representation) : Type 0 where

@@ -1,6 +1,5 @@
 -- A head that joins: how long its part is, and who waits for it.
-use Rattle.std.proofs.Common.{◌≡◌, ◌⊎◌, inl, inr, ℕ, ◌+◌, ◌-◌, ◌<◌, ◌≤◌, List, Bool, true, false, Option, Some, None, refl, ap, ap₂, sym, ◌∙◌, subst, arith}
-use Rattle.std.specs.Prelude.{codes, is_some, bytes_eq, not, ◌||◌, ◌==◌, if◌then◌else◌, option_map}
+use Rattle.std.{proofs.Common.{◌≡◌, ◌⊎◌, inl, inr, ℕ, ◌+◌, ◌-◌, ◌<◌, ◌≤◌, List, Bool, true, false, Option, Some, None, refl, ap, ap₂, sym, ◌∙◌, subst, arith}, specs.Prelude.{codes, is_some, bytes_eq, not, ◌||◌, ◌==◌, if◌then◌else◌, option_map}}
 use Rattle.hc_text.proofs.Basics.{eqb-other, eqb-same, false_true, same_or, same_some as same_row, some_inj as some_is}
 use Rattle.hc_effects.proofs.Vocabulary.{Limits, Need, Request, Response, HeadCase, HeadView, Length, head_case, length_of, content_length_of, is_bad, is_head, has_no_body, promise_of, agrees, route_of, content_range_of, is_get, is_disabled, BoundBy, head_view, joins_row, row_of, as_gone, lost_to, let_go, with_representation, back_from, promise_in, is_headless, is_reached, StandsFor, IsAwaiting, Tables, Exchange, Representation, InHole}
 use Rattle.hc_store.specs.declared.backend.Backend.{Ghosts}
@@ -19,19 +18,11 @@ use Rattle.hc_model.specs.Effects.{waits_for}
 use Rattle.hc_model.specs.Laws as laws
 use Rattle.hc_model.specs.Owners as owners
 use Rattle.hc_model.specs.Rows as rows
-use Rattle.hc_effects.proofs.FoundBy.{CaseBy, case_by}
+use Rattle.hc_effects.proofs.{FoundBy.{CaseBy, case_by}, Joining.{IsFilling, filling}, Tests.{none_some}}
 use Rattle.hc_effects.proofs.FoundBy as cases
-use Rattle.hc_effects.proofs.Joining.{IsFilling, filling}
-use Rattle.hc_effects.proofs.Tests.{none_some}
-use Rattle.hc_state.specs.declared.rows.Rows.{Rows}
-use Rattle.hc_state.specs.Facts.{Facts}
-use Rattle.hc_state.specs.Heads.{aim_in}
-use Rattle.hc_state.specs.Joining.{joins_hole}
-use Rattle.hc_state.specs.Kept.{IsRunning, role_awaited}
-use Rattle.hc_state.specs.Stored.{IsEntry, TellsLength, told, untold}
-use Rattle.hc_on_head.proofs.HeadViews.{no_hole_left, part_within}
+use Rattle.hc_state.specs.{declared.rows.Rows.{Rows}, Facts.{Facts}, Heads.{aim_in}, Joining.{joins_hole}, Kept.{IsRunning, role_awaited}, Stored.{IsEntry, TellsLength, told, untold}}
+use Rattle.hc_on_head.proofs.{HeadViews.{no_hole_left, part_within}, JoinRows.{IsJoinable}}
 use Rattle.hc_on_leave.proofs.HeardRows.{Asker}
-use Rattle.hc_on_head.proofs.JoinRows.{IsJoinable}
 
 -- WHICH CASE IT IS
 

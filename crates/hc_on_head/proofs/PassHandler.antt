@@ -1,31 +1,18 @@
 -- A consumer that has the turn may read what its 304 validated: what is kept represents the tables then.
-use Rattle.std.proofs.Common.{◌≡◌, ℕ, Bool, true, false, Some, None, refl, ap, sym, ◌∙◌, subst}
-use Rattle.std.specs.Prelude.{bytes_eq, nat_eq, ◌&&◌}
-use Rattle.std.specs.HashMap.{get}
+use Rattle.std.{proofs.Common.{◌≡◌, ℕ, Bool, true, false, Some, None, refl, ap, sym, ◌∙◌, subst}, specs.{Prelude.{bytes_eq, nat_eq, ◌&&◌}, HashMap.{get}}}
 use Rattle.hc_text.proofs.Basics.{and_off as then_false}
 use Rattle.hc_effects.proofs.Vocabulary.{Limits, Request, with_consumer, with_representation, Lawful, is_in_line, Tables, Exchange, Representation}
 use Rattle.hc_store.specs.declared.backend.Backend.{Ghosts}
 use Rattle.hc_stored.specs.Entries.{shelf_of}
 use Rattle.hc_entry.specs.Keys as keys
-use Rattle.hc_entry.specs.Keys.{kept_of}
-use Rattle.hc_entry.specs.Kept.{on_line}
+use Rattle.hc_entry.specs.{Keys.{kept_of}, Kept.{on_line}}
 use Rattle.hc_entry.specs.Lines as lines
 use Rattle.hc_rules.proofs.RangeReads.{bytes_eq-same}
 use Rattle.hc_event.specs.declared.place.Place.TheVariants as place
 use Rattle.hc_model.specs.Rows as rows
-use Rattle.hc_state.specs.declared.consumer.Consumer.{Consumer}
-use Rattle.hc_state.specs.declared.rows.Rows.{Rows}
-use Rattle.hc_state.specs.Changes.{ChangesAt, standing_at}
-use Rattle.hc_state.specs.Heads.{AwaitsHead}
-use Rattle.hc_state.specs.Kept.{IsKept, answer_for}
-use Rattle.hc_state.specs.Leaving.{UnbindsAt}
-use Rattle.hc_state.specs.Stands.{RowsStand}
-use Rattle.hc_state.proofs.ConsumerSteps.{keys_with}
-use Rattle.hc_on_leave.proofs.HeardRows.{kept_as}
-use Rattle.hc_state.proofs.KeySteps.{not_lined, passes_key, says_elsewhere}
-use Rattle.hc_on_leave.proofs.OneConsumer.{HoldsAsMuch, stands_moved}
-use Rattle.hc_state.proofs.QueueHandler.{becomes_by}
-use Rattle.hc_state.proofs.Unbinding.{entries_unbound}
+use Rattle.hc_state.specs.{declared.{consumer.Consumer.{Consumer}, rows.Rows.{Rows}}, Changes.{ChangesAt, standing_at}, Heads.{AwaitsHead}, Kept.{IsKept, answer_for}, Leaving.{UnbindsAt}, Stands.{RowsStand}}
+use Rattle.hc_state.proofs.{ConsumerSteps.{keys_with}, KeySteps.{not_lined, passes_key, says_elsewhere}, QueueHandler.{becomes_by}, Unbinding.{entries_unbound}}
+use Rattle.hc_on_leave.proofs.{HeardRows.{kept_as}, OneConsumer.{HoldsAsMuch, stands_moved}}
 
 module _ (t : Tables) (law : Lawful t) (x : ℕ) (w : Exchange) (v : rows.Consumer) (awaits : AwaitsHead t x w v) (at : v.place ≡ place.Turn x) (q : ℕ) (p : Representation) where
   abbrev m : Tables

@@ -1,27 +1,17 @@
 -- The head of a representation is renewed: what is kept represents the tables then.
-use Rattle.std.proofs.Common.{◌≡◌, ◌≢◌, inl, inr, ℕ, List, Option, Some, None, refl, ap, sym, ◌∙◌, subst}
-use Rattle.std.specs.Prelude.{is_some, nat_eq, option_map}
-use Rattle.std.specs.HashMap.{get, hash_map_len}
+use Rattle.std.{proofs.Common.{◌≡◌, ◌≢◌, inl, inr, ℕ, List, Option, Some, None, refl, ap, sym, ◌∙◌, subst}, specs.{Prelude.{is_some, nat_eq, option_map}, HashMap.{get, hash_map_len}}}
 use Rattle.hc_text.proofs.Basics.{eqb-other, eqb-same, filters_same, finds_same, same_or}
 use Rattle.hc_effects.proofs.Vocabulary.{Limits, Response, current, is_usable, total_in, with_representation, with_refreshed_head, family, kind_of, bound, Tables, Exchange, Representation, status_in}
 use Rattle.hc_store.specs.declared.backend.Backend.{Ghosts}
 use Rattle.hc_record.specs.Head.{Head}
 use Rattle.hc_validate.specs.Updates.{updated_fields}
-use Rattle.hc_stored.specs.Entries.{shelf_of}
-use Rattle.hc_stored.specs.Kept.{Kept, with_head}
+use Rattle.hc_stored.specs.{Entries.{shelf_of}, Kept.{Kept, with_head}, Shelf.{Shelf, same_order}}
 use Rattle.hc_stored.specs.Shelf as shelf
-use Rattle.hc_stored.specs.Shelf.{Shelf, same_order}
 use Rattle.hc_entry.specs.Keys.{kept_of}
 use Rattle.hc_exch.specs.Exchanges.{table_of, next_of}
 use Rattle.hc_model.specs.Rows as rows
-use Rattle.hc_state.specs.declared.rows.Rows.{Rows}
-use Rattle.hc_state.specs.Kept.{unstored_bytes, held_alone, held_of, held_for}
-use Rattle.hc_state.specs.Renewals.{KeepsBeside, renewed_head}
-use Rattle.hc_state.specs.Stands.{RowsStand}
-use Rattle.hc_state.specs.Stored.{IsEntry, TellsLength, told, untold, KeepsEntry, KeepsEntries, is_usable_row}
-use Rattle.hc_state.proofs.Fallbacks.{unstored_moved}
-use Rattle.hc_state.proofs.OneOfEach.{first_by}
-use Rattle.hc_state.proofs.Ties.{consumer_same, exchange_same, entry_same, key_same}
+use Rattle.hc_state.specs.{declared.rows.Rows.{Rows}, Kept.{unstored_bytes, held_alone, held_of, held_for}, Renewals.{KeepsBeside, renewed_head}, Stands.{RowsStand}, Stored.{IsEntry, TellsLength, told, untold, KeepsEntry, KeepsEntries, is_usable_row}}
+use Rattle.hc_state.proofs.{Fallbacks.{unstored_moved}, OneOfEach.{first_by}, Ties.{consumer_same, exchange_same, entry_same, key_same}}
 
 module _ (t : Tables) (now : ℕ) (response : Response) (w : Exchange) (r : ℕ) (v : Representation) (row : t.representation r ≡ Some v) where
   abbrev z : Representation

@@ -1,12 +1,7 @@
 -- A 304 that may be about what is stored: it is answered.
-use Rattle.std.proofs.Common.{◌≡◌, inl, inr, ℕ, ◌≤◌, List, [], ◌∷◌, ◌++◌, Bool, true, false, Option, Some, None, Result, Ok, refl, ap, ap₂, sym, ◌∙◌, subst, arith}
-use Rattle.std.proofs.Math.Logic.{∥∥₁_map}
-use Rattle.std.proofs.lemmas.Bool.Decides.{nat_tests}
-use Rattle.std.specs.Prelude.{is_some, IfOk, IsSomeAnd, nat_eq, map, option_map, not, ◌||◌, if◌then◌else◌}
-use Rattle.std.specs.HashMap.{get}
+use Rattle.std.{proofs.{Common.{◌≡◌, inl, inr, ℕ, ◌≤◌, List, [], ◌∷◌, ◌++◌, Bool, true, false, Option, Some, None, Result, Ok, refl, ap, ap₂, sym, ◌∙◌, subst, arith}, Math.Logic.{∥∥₁_map}, lemmas.Bool.Decides.{nat_tests}}, specs.{Prelude.{is_some, IfOk, IsSomeAnd, nat_eq, map, option_map, not, ◌||◌, if◌then◌else◌}, HashMap.{get}}}
 use Rattle.hc_text.proofs.Basics.{eqb-other, eqb-same, false_true, same_or}
-use Rattle.hc_store.specs.declared.backend.Backend.{Ghosts}
-use Rattle.hc_store.specs.declared.error.StoreError.{StoreError}
+use Rattle.hc_store.specs.declared.{backend.Backend.{Ghosts}, error.StoreError.{StoreError}}
 use Rattle.hc_effects.proofs.Vocabulary.{Act, Event, Request, Response, Limits, head_case, length_of, is_head, is_same_number, head_refusal, head_view, validates, current, row_of, denial, with_event, all_closed, with_answer, with_consumer, with_representation, with_refreshed_head, unless_ended, promise_in, is_reached, IsAwaiting, Tables, Exchange, Representation}
 use Rattle.hc_event.specs.declared.act.Act.TheVariants as act
 use Rattle.hc_event.specs.declared.event.Event.TheVariants as event
@@ -14,43 +9,23 @@ use Rattle.hc_record.specs.Head.{Head}
 use Rattle.hc_rules.specs.declared.heads.HeadCase.TheVariants as case
 use Rattle.hc_rules.specs.declared.need.Route.TheVariants as route
 use Rattle.hc_validate.specs.Selection.{selects}
-use Rattle.hc_stored.specs.Entries.{shelf_of}
-use Rattle.hc_stored.specs.Kept.{Kept, with_head}
+use Rattle.hc_stored.specs.{Entries.{shelf_of}, Kept.{Kept, with_head}}
 use Rattle.hc_stored.specs.Shelf as shelf
 use Rattle.hc_entry.specs.Keys.{kept_of}
-use Rattle.hc_exch.specs.declared.row.Open.{Open}
-use Rattle.hc_exch.specs.Exchanges.{table_of}
+use Rattle.hc_exch.specs.{declared.row.Open.{Open}, Exchanges.{table_of}, Known.{open_view, length_by}}
 use Rattle.hc_exch.specs.Exchanges as exch
 use Rattle.hc_exch.specs.Known as known
-use Rattle.hc_exch.specs.Known.{open_view, length_by}
 use Rattle.hc_event.specs.declared.place.Place.TheVariants as place
 use Rattle.hc_event.specs.declared.place.BoundBy.TheVariants as by
 use Rattle.hc_model.specs.Cases.{selects_row}
 use Rattle.hc_model.specs.Owners as owners
 use Rattle.hc_model.specs.Rows as rows
-use Rattle.hc_effects.proofs.KeysKeep.{current_row}
-use Rattle.hc_effects.proofs.PollKeeps.{current_stays}
-use Rattle.hc_effects.proofs.UpdateEffects.{validated}
-use Rattle.hc_effects.proofs.Tests.{and_false, none_some}
-use Rattle.hc_state.specs.declared.rows.Rows.{Rows}
-use Rattle.hc_state.specs.Handlers.{IsInKey}
-use Rattle.hc_state.specs.Facts.{Facts}
-use Rattle.hc_state.specs.Heads.{AwaitsHead, IsAskedBy, IsUnread, unless_over}
-use Rattle.hc_state.specs.Renewals.{KeepsBeside, IsSelected, renewed_head}
-use Rattle.hc_state.specs.Stands.{Answered, KeepsRest, RowsStand, Stands}
-use Rattle.hc_state.specs.Stored.{KeepsEntry, IsEntry, is_usable_kept}
-use Rattle.hc_state.proofs.Answering.{does_answered}
-use Rattle.hc_state.proofs.Counting.{stands_counted}
-use Rattle.hc_on_head.specs.declared.heard.Heard.{Heard}
-use Rattle.hc_on_head.specs.Comings.{MayCome}
-use Rattle.hc_on_leave.proofs.HeadCases.{it_is, case_selected, case_unselected}
-use Rattle.hc_on_head.proofs.HeadTold.{past_of_runs}
-use Rattle.hc_on_leave.proofs.HeardRows.{Asker, headless_of, runs_as}
-use Rattle.hc_state.proofs.Maps.{merely_true}
-use Rattle.hc_on_leave.proofs.RefuseHandler.{stands_refused, closes_as}
-use Rattle.hc_on_head.proofs.RenewedHandler.{stands_renewed}
-use Rattle.hc_state.proofs.ReaderSteps.{answered_since, stands_read}
-use Rattle.hc_on_leave.proofs.UnstoredHandlers.{beside, unread_then, unwritten}
+use Rattle.hc_effects.proofs.{KeysKeep.{current_row}, PollKeeps.{current_stays}, UpdateEffects.{validated}, Tests.{and_false, none_some}}
+use Rattle.hc_state.specs.{declared.rows.Rows.{Rows}, Handlers.{IsInKey}, Facts.{Facts}, Heads.{AwaitsHead, IsAskedBy, IsUnread, unless_over}, Renewals.{KeepsBeside, IsSelected, renewed_head}, Stands.{Answered, KeepsRest, RowsStand, Stands}, Stored.{KeepsEntry, IsEntry, is_usable_kept}}
+use Rattle.hc_state.proofs.{Answering.{does_answered}, Counting.{stands_counted}, Maps.{merely_true}, ReaderSteps.{answered_since, stands_read}}
+use Rattle.hc_on_head.specs.{declared.heard.Heard.{Heard}, Comings.{MayCome}}
+use Rattle.hc_on_leave.proofs.{HeadCases.{it_is, case_selected, case_unselected}, HeardRows.{Asker, headless_of, runs_as}, RefuseHandler.{stands_refused, closes_as}, UnstoredHandlers.{beside, unread_then, unwritten}}
+use Rattle.hc_on_head.proofs.{HeadTold.{past_of_runs}, RenewedHandler.{stands_renewed}}
 
 -- WHERE WHAT IS STORED STAYS
 

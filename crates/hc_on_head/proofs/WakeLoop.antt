@@ -1,34 +1,18 @@
 -- The loop of a doom over the seats of its key: who started over so far, and is bound to nothing.
-use Rattle.std.proofs.Common.{◌≡◌, ◌≢◌, inl, inr, ℕ, ◌+◌, ◌<◌, ◌≤◌, List, Bool, true, false, Option, Some, None, refl, ap, sym, ◌∙◌, subst, arith}
-use Rattle.std.specs.Prelude.{is_some, nat_eq, option_map}
-use Rattle.std.specs.HashMap.{get}
+use Rattle.std.{proofs.Common.{◌≡◌, ◌≢◌, inl, inr, ℕ, ◌+◌, ◌<◌, ◌≤◌, List, Bool, true, false, Option, Some, None, refl, ap, sym, ◌∙◌, subst, arith}, specs.{Prelude.{is_some, nat_eq, option_map}, HashMap.{get}}}
 use Rattle.hc_text.proofs.Basics.{eqb-other, eqb-same, false_true, mapped, same_or, same_some as same_row, some_inj as some_is}
 use Rattle.hc_store.specs.declared.backend.Backend.{Ghosts}
-use Rattle.hc_stored.specs.Entries.{shelf_of}
-use Rattle.hc_stored.specs.Shelf.{Shelf}
-use Rattle.hc_entry.specs.declared.keys.KeyTable.{KeyTable}
+use Rattle.hc_stored.specs.{Entries.{shelf_of}, Shelf.{Shelf}}
+use Rattle.hc_entry.specs.{declared.keys.KeyTable.{KeyTable}, Keys.{kept_of, line_of, seated_at, AllAreSeatedBelow, IsItsSeat}, Kept.{on_line}, Lines.{is_in, all_back}}
 use Rattle.hc_entry.specs.Keys as keys
-use Rattle.hc_entry.specs.Keys.{kept_of, line_of, seated_at, AllAreSeatedBelow, IsItsSeat}
-use Rattle.hc_entry.specs.Kept.{on_line}
-use Rattle.hc_entry.specs.Lines.{is_in, all_back}
 use Rattle.hc_event.specs.declared.place.Place.TheVariants as place
 use Rattle.hc_effects.proofs.Vocabulary.{back_in_line, is_live, with_consumer, woken, Lawful, is_bound, Tables, Among}
 use Rattle.hc_effects.proofs.Tests.{none_some}
 use Rattle.hc_model.specs.Rows as rows
 use Rattle.hc_model.specs.Sound as sound
-use Rattle.hc_state.specs.declared.consumer.Consumer.{Consumer}
-use Rattle.hc_state.specs.declared.rows.Rows.{Rows}
-use Rattle.hc_state.specs.Changes.{ChangesAt, ChangesAmong, once_over}
-use Rattle.hc_state.specs.Dooms.{KeepsLine, KeepsSomeLine, IsUser, Unbinds}
-use Rattle.hc_state.specs.Kept.{KeepsConsumer}
-use Rattle.hc_state.specs.Leaving.{IsUserAt, UnbindsAt}
-use Rattle.hc_state.specs.Lines.{KeepsKey}
-use Rattle.hc_state.specs.Stored.{KeepsEntries, is_first}
-use Rattle.hc_state.proofs.Dropping.{merely_user, unbinds_limits}
-use Rattle.hc_state.proofs.OneOfEach.{entries_same}
+use Rattle.hc_state.specs.{declared.{consumer.Consumer.{Consumer}, rows.Rows.{Rows}}, Changes.{ChangesAt, ChangesAmong, once_over}, Dooms.{KeepsLine, KeepsSomeLine, IsUser, Unbinds}, Kept.{KeepsConsumer}, Leaving.{IsUserAt, UnbindsAt}, Lines.{KeepsKey}, Stored.{KeepsEntries, is_first}}
+use Rattle.hc_state.proofs.{Dropping.{merely_user, unbinds_limits}, OneOfEach.{entries_same}, Ties.{kept_row}, Unbinding.{entries_unbound, user_kept}}
 use Rattle.hc_on_leave.proofs.SeatLoops.{AreChangedBelow, none_changed, nobody_more, one_more, all_changed, last_or}
-use Rattle.hc_state.proofs.Ties.{kept_row}
-use Rattle.hc_state.proofs.Unbinding.{entries_unbound, user_kept}
 use Rattle.hc_on_head.proofs.Woken.{stands_for, Stood, nobody, back, beside, stays, stood, Waits, waits_of, starts_over, stays_so, waiting_lives}
 
 -- with these consumers

@@ -1,6 +1,5 @@
 -- Who waits for a key that is doomed: where it stood, and that it is bound to nothing once it starts over.
-use Rattle.std.proofs.Common.{◌≡◌, ℕ, List, Bool, true, false, Option, Some, None, refl, ap, sym, ◌∙◌}
-use Rattle.std.specs.Prelude.{bytes_eq, not, option_map, ◌&&◌, ◌||◌}
+use Rattle.std.{proofs.Common.{◌≡◌, ℕ, List, Bool, true, false, Option, Some, None, refl, ap, sym, ◌∙◌}, specs.Prelude.{bytes_eq, not, option_map, ◌&&◌, ◌||◌}}
 use Rattle.hc_text.proofs.Basics.{false_true, and_off as then_false}
 use Rattle.hc_effects.proofs.Vocabulary.{is_disabled, is_only, Place, back_in_line, is_live_place, sent_back, is_headless, Lawful, is_in_line, Queues, Tables, waits_at}
 use Rattle.hc_rules.proofs.RangeReads.{same_bytes, bytes_eq-same}

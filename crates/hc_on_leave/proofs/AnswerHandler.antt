@@ -1,36 +1,21 @@
 -- The head of an answer past the store came: what is kept represents the tables then.
-use Rattle.std.proofs.Common.{◌≡◌, ◌≢◌, ℕ, Bool, true, false, cond, Option, Some, None, refl, ap, sym, ◌∙◌, subst, arith}
-use Rattle.std.specs.Prelude.{nat_eq, option_map}
-use Rattle.std.specs.HashMap.{get}
+use Rattle.std.{proofs.Common.{◌≡◌, ◌≢◌, ℕ, Bool, true, false, cond, Option, Some, None, refl, ap, sym, ◌∙◌, subst, arith}, specs.{Prelude.{nat_eq, option_map}, HashMap.{get}}}
 use Rattle.hc_text.proofs.Basics.{eqb-other, eqb-same, false_true, some_inj as some_is}
 use Rattle.hc_effects.proofs.Vocabulary.{Limits, Response, Length, length_of, is_bad, base_of, promise_of, head_refusal, exchange_with_head, is_reached, promised_bytes, lo_of, hi_of, Tables, Exchange}
 use Rattle.hc_store.specs.declared.backend.Backend.{Ghosts}
 use Rattle.hc_rules.specs.declared.length.Length.TheVariants as says
 use Rattle.hc_stored.specs.Entries.{shelf_of}
 use Rattle.hc_exch.specs.declared.role.Role.TheVariants as role
-use Rattle.hc_exch.specs.declared.row.Open.{Open}
-use Rattle.hc_exch.specs.declared.row.Opening.{Opening}
-use Rattle.hc_exch.specs.declared.exchanges.Exchanges.{Exchanges}
-use Rattle.hc_exch.specs.Exchanges.{table_of}
+use Rattle.hc_exch.specs.{declared.{row.{Open.{Open}, Opening.{Opening}}, exchanges.Exchanges.{Exchanges}}, Exchanges.{table_of}, Known.{Known, is_all, open_view, begins_with, length_by}, Openings.{opened_with}}
 use Rattle.hc_exch.specs.Exchanges as exch
 use Rattle.hc_exch.specs.Known as known
-use Rattle.hc_exch.specs.Known.{Known, is_all, open_view, begins_with, length_by}
-use Rattle.hc_exch.specs.Openings.{opened_with}
 use Rattle.hc_event.specs.declared.place.Place.TheVariants as place
 use Rattle.hc_model.specs.Effects as effects
 use Rattle.hc_model.specs.Rows as rows
-use Rattle.hc_state.specs.declared.consumer.Consumer.{Consumer}
-use Rattle.hc_state.specs.declared.rows.Rows.{Rows}
-use Rattle.hc_state.specs.Changes.{Numbered, ChangesAt, with_answer}
-use Rattle.hc_effects.proofs.ToldNumbers.{EndsEarly}
-use Rattle.hc_effects.proofs.Tests.{none_some}
-use Rattle.hc_state.specs.Heads.{IsReadAlone, EndsInRange, answered_by, end_of_answer, end_from}
-use Rattle.hc_state.specs.Kept.{IsKept, IsRunning, KeepsConsumer, KeepsExchange, KeepsRunning, answer_for, held_for}
-use Rattle.hc_state.specs.Stands.{RowsStand}
-use Rattle.hc_on_leave.proofs.HeardExchange.{held_empty, held_else, here, others, key_heard, entries_heard}
-use Rattle.hc_on_leave.proofs.HeardRows.{headless_of, runs_as, kept_as}
-use Rattle.hc_state.proofs.OneOfEach.{stands_then}
-use Rattle.hc_state.proofs.QueueHandler.{becomes_by}
+use Rattle.hc_state.specs.{declared.{consumer.Consumer.{Consumer}, rows.Rows.{Rows}}, Changes.{Numbered, ChangesAt, with_answer}, Heads.{IsReadAlone, EndsInRange, answered_by, end_of_answer, end_from}, Kept.{IsKept, IsRunning, KeepsConsumer, KeepsExchange, KeepsRunning, answer_for, held_for}, Stands.{RowsStand}}
+use Rattle.hc_effects.proofs.{ToldNumbers.{EndsEarly}, Tests.{none_some}}
+use Rattle.hc_on_leave.proofs.{HeardExchange.{held_empty, held_else, here, others, key_heard, entries_heard}, HeardRows.{headless_of, runs_as, kept_as}}
+use Rattle.hc_state.proofs.{OneOfEach.{stands_then}, QueueHandler.{becomes_by}}
 
 -- all that is promised has come
 pub all_reached : (o : Option ℕ) (n : ℕ) → is_all o n ≡ is_reached o n

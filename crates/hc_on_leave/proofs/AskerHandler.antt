@@ -1,36 +1,19 @@
 -- A consumer that waits for the head of its exchange stands elsewhere: what is kept represents the tables then.
-use Rattle.std.proofs.Common.{◌≡◌, inl, inr, ℕ, zero, suc, List, [], Bool, true, false, Some, None, refl, ap, sym, ◌∙◌, subst}
-use Rattle.std.specs.Prelude.{nat_eq, drop, bytes_eq, ◌&&◌}
-use Rattle.std.specs.HashMap.{get}
+use Rattle.std.{proofs.Common.{◌≡◌, inl, inr, ℕ, zero, suc, List, [], Bool, true, false, Some, None, refl, ap, sym, ◌∙◌, subst}, specs.{Prelude.{nat_eq, drop, bytes_eq, ◌&&◌}, HashMap.{get}}}
 use Rattle.hc_text.proofs.Basics.{eqb-other, eqb-same, false_true, same_or, same_some as same_row, and_off as then_false}
 use Rattle.hc_effects.proofs.Vocabulary.{Limits, Request, Place, back_in_line, is_live_place, with_consumer, family, Lawful, is_in_line, stands_in_line, IsAwaiting, Queues, has_passed, is_bound_place, lo_of, hi_of, Tables, Exchange, Representation, awaited_exchange}
 use Rattle.hc_effects.proofs.Tests.{none_some}
 use Rattle.hc_store.specs.declared.backend.Backend.{Ghosts}
 use Rattle.hc_stored.specs.Entries.{shelf_of}
 use Rattle.hc_entry.specs.Keys as keys
-use Rattle.hc_entry.specs.Keys.{kept_of}
-use Rattle.hc_entry.specs.Kept.{on_line}
-use Rattle.hc_entry.specs.Lines.{come_back}
+use Rattle.hc_entry.specs.{Keys.{kept_of}, Kept.{on_line}, Lines.{come_back}}
 use Rattle.hc_event.specs.declared.place.Place.TheVariants as place
 use Rattle.hc_event.specs.declared.place.BoundBy.TheVariants as by
 use Rattle.hc_model.specs.Owners as owners
 use Rattle.hc_model.specs.Rows as rows
-use Rattle.hc_state.specs.declared.consumer.Consumer.{Consumer}
-use Rattle.hc_state.specs.declared.rows.Rows.{Rows}
-use Rattle.hc_state.specs.Changes.{ChangesAt, standing_at, once_over}
-use Rattle.hc_state.specs.Heads.{AwaitsHead, StandsApart}
-use Rattle.hc_state.specs.Kept.{IsKept, answer_for, unread, unstored_bytes}
-use Rattle.hc_state.specs.Leaving.{LeavesKey, UnbindsAt}
-use Rattle.hc_state.specs.Lines.{is_away_at}
-use Rattle.hc_state.specs.Stands.{RowsStand}
-use Rattle.hc_state.proofs.Apart.{keys_apart, entries_apart}
-use Rattle.hc_state.proofs.ConsumerSteps.{keys_with}
-use Rattle.hc_state.proofs.Dropping.{unbinds_limits}
-use Rattle.hc_on_leave.proofs.HeardRows.{live_at, waits_as, kept_as}
-use Rattle.hc_state.proofs.KeySteps.{not_lined, lined, comes_back, says_elsewhere}
-use Rattle.hc_on_leave.proofs.OneConsumer.{HoldsAsMuch, stands_moved}
-use Rattle.hc_on_leave.proofs.HeardExchange.{drop_none}
-use Rattle.hc_state.proofs.QueueHandler.{becomes_by}
+use Rattle.hc_state.specs.{declared.{consumer.Consumer.{Consumer}, rows.Rows.{Rows}}, Changes.{ChangesAt, standing_at, once_over}, Heads.{AwaitsHead, StandsApart}, Kept.{IsKept, answer_for, unread, unstored_bytes}, Leaving.{LeavesKey, UnbindsAt}, Lines.{is_away_at}, Stands.{RowsStand}}
+use Rattle.hc_state.proofs.{Apart.{keys_apart, entries_apart}, ConsumerSteps.{keys_with}, Dropping.{unbinds_limits}, KeySteps.{not_lined, lined, comes_back, says_elsewhere}, QueueHandler.{becomes_by}}
+use Rattle.hc_on_leave.proofs.{HeardRows.{live_at, waits_as, kept_as}, OneConsumer.{HoldsAsMuch, stands_moved}, HeardExchange.{drop_none}}
 
 -- WHERE NOTHING IS READ
 

@@ -1,11 +1,5 @@
 -- A head that founds is answered, where the store takes what it founds, and where it refuses that.
-use Rattle.std.proofs.Common.{◌≡◌, ◌≢◌, ◌⊎◌, inl, inr, ℕ, ◌+◌, ◌<◌, ◌≤◌, List, [], ◌∷◌, ◌++◌, Bool, true, false, Option, Some, None, refl, ap, ap₂, sym, ◌∙◌, subst, arith}
-use Rattle.std.proofs.lemmas.Bool.{cases_Bool}
-use Rattle.std.proofs.lemmas.Bool.Decides.{nat_tests}
-use Rattle.std.proofs.lemmas.List.{append_assoc}
-use Rattle.std.specs.Prelude.{◌==◌, ◌&&◌, not, is_some, nat_eq, nat_le, filter, map, option_map, unwrap_or, if◌then◌else◌}
-use Rattle.std.specs.HashMap.{get}
-use Rattle.std.specs.Option.{option_or}
+use Rattle.std.{proofs.{Common.{◌≡◌, ◌≢◌, ◌⊎◌, inl, inr, ℕ, ◌+◌, ◌<◌, ◌≤◌, List, [], ◌∷◌, ◌++◌, Bool, true, false, Option, Some, None, refl, ap, ap₂, sym, ◌∙◌, subst, arith}, lemmas.{Bool.{cases_Bool, Decides.{nat_tests}}, List.{append_assoc}}}, specs.{Prelude.{◌==◌, ◌&&◌, not, is_some, nat_eq, nat_le, filter, map, option_map, unwrap_or, if◌then◌else◌}, HashMap.{get}, Option.{option_or}}}
 use Rattle.hc_text.proofs.Basics.{eqb-other, eqb-same, false_true, same_or, some_inj as some_is}
 use Rattle.hc_store.specs.declared.backend.Backend.{Ghosts}
 use Rattle.hc_range.specs.declared.range.Span.{Span}
@@ -18,40 +12,16 @@ use Rattle.hc_rules.specs.declared.request.Wanted.TheVariants as wanted
 use Rattle.hc_rules.specs.declared.room.Room.TheVariants as room
 use Rattle.hc_rules.specs.declared.room.Write.TheVariants as write
 use Rattle.hc_stored.specs.Entries.{shelf_of}
-use Rattle.hc_exch.specs.Exchanges.{table_of}
-use Rattle.hc_exch.specs.Known.{length_by}
-use Rattle.hc_exch.specs.declared.row.Open.{Open}
+use Rattle.hc_exch.specs.{Exchanges.{table_of}, Known.{length_by}, declared.row.Open.{Open}}
 use Rattle.hc_event.specs.declared.place.Place.TheVariants as place
 use Rattle.hc_event.specs.declared.place.BoundBy.TheVariants as by
 use Rattle.hc_model.specs.LettingGo.{first_idle}
 use Rattle.hc_model.specs.Rows as rows
 use Rattle.hc_model.specs.Sound as sound
-use Rattle.hc_effects.proofs.FoundCases.{founding_writes}
-use Rattle.hc_effects.proofs.FoundDoes.{Founds, whole, part, replaced, founds_does, founds_goes, lost_does, replaces, founder, status_is, total_whole, empty_total, part_wanted, founder_unshown, is_part}
-use Rattle.hc_effects.proofs.FoundEffects.{all_one, room_apart, room_one, current_there}
-use Rattle.hc_effects.proofs.FoundOrder.{founded_last, past_last}
-use Rattle.hc_effects.proofs.FoundRoom.{room_same, gives_same}
-use Rattle.hc_effects.proofs.KeyActs.{HasRow}
-use Rattle.hc_effects.proofs.LettingGo.{may_let_go, keeps_may, keeps_may_all}
-use Rattle.hc_effects.proofs.SameTables.{is_in, waits_for_any, back_from_any, without, all_go_is}
-use Rattle.hc_effects.proofs.WeightsLeft.{all_weigh_less, all_weigh_apart, fits_after, one_gives_way}
-use Rattle.hc_effects.proofs.Tests.{none_some}
-use Rattle.hc_state.specs.declared.consumer.Consumer.{Consumer}
-use Rattle.hc_state.specs.declared.rows.Rows.{Rows}
-use Rattle.hc_state.specs.declared.founded.Founding.{Founding}
-use Rattle.hc_state.specs.Facts.{Facts}
-use Rattle.hc_state.specs.Founding.{BeginsFounding, IsFounding, is_shared_by, part_by, total_by}
-use Rattle.hc_state.specs.Heads.{AwaitsHead, IsReadAlone, goes_with}
-use Rattle.hc_state.specs.Kept.{IsRunning}
-use Rattle.hc_state.specs.Room.{GivesWay}
-use Rattle.hc_state.specs.Stands.{Answered, RowsStand}
-use Rattle.hc_state.proofs.Counting.{stands_counted}
-use Rattle.hc_on_leave.proofs.FoundRows.{IsUnfounded, founded_stands}
-use Rattle.hc_on_leave.proofs.HeardRows.{runs_as}
-use Rattle.hc_on_leave.proofs.PieceRoom.{may_make_room}
-use Rattle.hc_state.proofs.OneOfEach.{bound_same}
-use Rattle.hc_state.proofs.Rooms.{used_is}
-use Rattle.hc_on_leave.proofs.UnstoredHandlers.{may_moved, read_then}
+use Rattle.hc_effects.proofs.{FoundCases.{founding_writes}, FoundDoes.{Founds, whole, part, replaced, founds_does, founds_goes, lost_does, replaces, founder, status_is, total_whole, empty_total, part_wanted, founder_unshown, is_part}, FoundEffects.{all_one, room_apart, room_one, current_there}, FoundOrder.{founded_last, past_last}, FoundRoom.{room_same, gives_same}, KeyActs.{HasRow}, LettingGo.{may_let_go, keeps_may, keeps_may_all}, SameTables.{is_in, waits_for_any, back_from_any, without, all_go_is}, WeightsLeft.{all_weigh_less, all_weigh_apart, fits_after, one_gives_way}, Tests.{none_some}}
+use Rattle.hc_state.specs.{declared.{consumer.Consumer.{Consumer}, rows.Rows.{Rows}, founded.Founding.{Founding}}, Facts.{Facts}, Founding.{BeginsFounding, IsFounding, is_shared_by, part_by, total_by}, Heads.{AwaitsHead, IsReadAlone, goes_with}, Kept.{IsRunning}, Room.{GivesWay}, Stands.{Answered, RowsStand}}
+use Rattle.hc_state.proofs.{Counting.{stands_counted}, OneOfEach.{bound_same}, Rooms.{used_is}}
+use Rattle.hc_on_leave.proofs.{FoundRows.{IsUnfounded, founded_stands}, HeardRows.{runs_as}, PieceRoom.{may_make_room}, UnstoredHandlers.{may_moved, read_then}}
 
 -- WHAT WAS LET GO
 

@@ -1,55 +1,29 @@
 -- An exchange founds a representation for the one that reads it past the store: what is kept represents the tables then.
-use Rattle.std.proofs.Common.{◌≡◌, ◌≢◌, ◌⊎◌, inl, inr, ℕ, List, [], ◌∷◌, Bool, true, false, Option, Some, None, refl, ap, ap₂, sym, ◌∙◌, subst, arith}
-use Rattle.std.proofs.lemmas.Bool.Decides.{nat_tests}
-use Rattle.std.specs.Prelude.{◌==◌, ◌&&◌, ◌||◌, not, nat_eq, bytes_eq, filter, find, is_some, if◌then◌else◌}
-use Rattle.std.specs.HashMap.{get}
-use Rattle.std.specs.List.{list_any}
-use Rattle.std.specs.Option.{option_or}
+use Rattle.std.{proofs.{Common.{◌≡◌, ◌≢◌, ◌⊎◌, inl, inr, ℕ, List, [], ◌∷◌, Bool, true, false, Option, Some, None, refl, ap, ap₂, sym, ◌∙◌, subst, arith}, lemmas.Bool.Decides.{nat_tests}}, specs.{Prelude.{◌==◌, ◌&&◌, ◌||◌, not, nat_eq, bytes_eq, filter, find, is_some, if◌then◌else◌}, HashMap.{get}, List.{list_any}, Option.{option_or}}}
 use Rattle.hc_text.proofs.Basics.{any_none, eqb-other, eqb-same, false_true, never_true as not_true, same_or, some_inj as some_is}
 use Rattle.hc_effects.proofs.Vocabulary.{Limits, Need, Request, Response, Length, length_of, base_of, promise_of, content_range_of, Place, BoundBy, current, is_number, is_usable, total_in, is_live, exchange_with_head, just_founded, with_consumer, with_founding, promise_in, family, is_reached, founded_total, total_of_part, varied_by, kind_of, is_growing, brings_to, is_bound, is_bound_place, Tables, Exchange, Representation, Among, came_alone, is_in_line}
 use Rattle.hc_effects.proofs.Tests.{and_false}
 use Rattle.hc_store.specs.declared.backend.Backend.{Ghosts}
 use Rattle.hc_sparse.specs.Cells.{Covers, nothing}
 use Rattle.hc_sorted.specs.Sorted.{has}
-use Rattle.hc_record.specs.Head.{Head, sealed_head}
-use Rattle.hc_record.specs.Plain.{plain}
+use Rattle.hc_record.specs.{Head.{Head, sealed_head}, Plain.{plain}}
 use Rattle.hc_record.specs.declared.kind.Kind.TheVariants as kinds
 use Rattle.hc_rules.proofs.RangeReads.{bytes_eq-same, same_bytes}
-use Rattle.hc_stored.specs.Entries.{shelf_of}
-use Rattle.hc_stored.specs.Kept.{Kept, itself, alone_if}
+use Rattle.hc_stored.specs.{Entries.{shelf_of}, Kept.{Kept, itself, alone_if}}
 use Rattle.hc_stored.specs.Kept as entry
-use Rattle.hc_entry.specs.Keys.{kept_of}
+use Rattle.hc_entry.specs.{Keys.{kept_of}, Kept.{with_current}}
 use Rattle.hc_entry.specs.Kept as keyed
-use Rattle.hc_entry.specs.Kept.{with_current}
 use Rattle.hc_exch.specs.declared.role.Role.TheVariants as role
-use Rattle.hc_exch.specs.declared.row.Open.{Open}
-use Rattle.hc_exch.specs.Exchanges.{table_of}
-use Rattle.hc_exch.specs.Known.{Known, is_all, length_by}
+use Rattle.hc_exch.specs.{declared.row.Open.{Open}, Exchanges.{table_of}, Known.{Known, is_all, length_by}}
 use Rattle.hc_event.specs.declared.place.Place.TheVariants as place
 use Rattle.hc_event.specs.declared.place.BoundBy.TheVariants as by
 use Rattle.hc_model.specs.Effects as effects
 use Rattle.hc_model.specs.Heads.{founded_head}
 use Rattle.hc_model.specs.Rows as rows
-use Rattle.hc_state.specs.declared.consumer.Consumer.{Consumer}
-use Rattle.hc_state.specs.declared.rows.Rows.{Rows}
-use Rattle.hc_state.specs.declared.founded.Founding.{Founding}
-use Rattle.hc_state.specs.Changes.{BecomesAt}
-use Rattle.hc_state.specs.Founding.{BeginsFounding, founds_with, brings_body, head_by, total_by, kind_begun, writer_by}
-use Rattle.hc_state.specs.Heads.{IsReadAlone}
-use Rattle.hc_state.specs.Kept.{IsKept, IsRunning, KeepsConsumer, KeepsExchange, KeepsRunning, answer_for, held_alone, held_for, held_of, unread, unstored_bytes}
-use Rattle.hc_state.specs.Lines.{KeepsKey, has_turn, is_away, is_passed}
-use Rattle.hc_state.specs.Stands.{RowsStand}
-use Rattle.hc_state.specs.Stored.{IsEntry, KeepsEntry, KeepsEntries, is_first, is_usable_row, as_written}
+use Rattle.hc_state.specs.{declared.{consumer.Consumer.{Consumer}, rows.Rows.{Rows}, founded.Founding.{Founding}}, Changes.{BecomesAt}, Founding.{BeginsFounding, founds_with, brings_body, head_by, total_by, kind_begun, writer_by}, Heads.{IsReadAlone}, Kept.{IsKept, IsRunning, KeepsConsumer, KeepsExchange, KeepsRunning, answer_for, held_alone, held_for, held_of, unread, unstored_bytes}, Lines.{KeepsKey, has_turn, is_away, is_passed}, Stands.{RowsStand}, Stored.{IsEntry, KeepsEntry, KeepsEntries, is_first, is_usable_row, as_written}}
 use Rattle.hc_state.specs.Stored as stored
-use Rattle.hc_on_leave.proofs.AnswerHandler.{all_reached}
-use Rattle.hc_state.proofs.Fallbacks.{unstored_moved}
-use Rattle.hc_state.proofs.FallbackSteps.{live_same}
-use Rattle.hc_on_leave.proofs.HeardExchange.{entries_heard, key_heard, held_empty}
-use Rattle.hc_on_leave.proofs.HeardRows.{runs_as, kept_as}
-use Rattle.hc_state.proofs.KeySteps.{IsUnsaid, apart_unsaid}
-use Rattle.hc_state.proofs.OneOfEach.{bound_same, kind_same}
-use Rattle.hc_state.proofs.QueueHandler.{becomes_by}
-use Rattle.hc_state.proofs.Ties.{consumer_same, entry_same, exchange_same}
+use Rattle.hc_on_leave.proofs.{AnswerHandler.{all_reached}, HeardExchange.{entries_heard, key_heard, held_empty}, HeardRows.{runs_as, kept_as}}
+use Rattle.hc_state.proofs.{Fallbacks.{unstored_moved}, FallbackSteps.{live_same}, KeySteps.{IsUnsaid, apart_unsaid}, OneOfEach.{bound_same, kind_same}, QueueHandler.{becomes_by}, Ties.{consumer_same, entry_same, exchange_same}}
 
 -- It is listed, nobody is bound to what has its number, and no other exchange brings that.
 pub record IsUnfounded (m : Tables) (x : ℕ) : Type 0 where

@@ -1,6 +1,5 @@
 -- An exchange of which nothing came yet is another: what is kept by key, of representations and of other exchanges stays.
-use Rattle.std.proofs.Common.{◌≡◌, ◌≢◌, inl, inr, ℕ, zero, suc, List, [], Bool, true, false, Option, Some, None, refl, ap, sym, ◌∙◌, subst}
-use Rattle.std.specs.Prelude.{nat_eq, drop, bytes_eq, ◌&&◌}
+use Rattle.std.{proofs.Common.{◌≡◌, ◌≢◌, inl, inr, ℕ, zero, suc, List, [], Bool, true, false, Option, Some, None, refl, ap, sym, ◌∙◌, subst}, specs.Prelude.{nat_eq, drop, bytes_eq, ◌&&◌}}
 use Rattle.hc_text.proofs.Basics.{eqb-other, eqb-same, same_or, and_off as then_false}
 use Rattle.hc_stored.specs.Shelf.{Shelf}
 use Rattle.hc_entry.specs.Kept as keyed
@@ -9,13 +8,8 @@ use Rattle.hc_effects.proofs.Tests.{none_some}
 use Rattle.hc_event.specs.declared.place.Place.TheVariants as place
 use Rattle.hc_event.specs.declared.place.BoundBy.TheVariants as by
 use Rattle.hc_model.specs.Rows as rows
-use Rattle.hc_state.specs.Heads.{IsBare}
-use Rattle.hc_state.specs.Kept.{unread, held_for}
-use Rattle.hc_state.specs.Lines.{KeepsKey, is_away, is_away_at}
-use Rattle.hc_state.specs.Stored.{KeepsEntries}
-use Rattle.hc_state.proofs.Fallbacks.{same, held_alike}
-use Rattle.hc_state.proofs.OneOfEach.{bound_same, first_row, growing_same, kind_same}
-use Rattle.hc_state.proofs.Ties.{key_same, entry_same, overs_open}
+use Rattle.hc_state.specs.{Heads.{IsBare}, Kept.{unread, held_for}, Lines.{KeepsKey, is_away, is_away_at}, Stored.{KeepsEntries}}
+use Rattle.hc_state.proofs.{Fallbacks.{same, held_alike}, OneOfEach.{bound_same, first_row, growing_same, kind_same}, Ties.{key_same, entry_same, overs_open}}
 
 abbrev none : List ℕ
 none = []

@@ -1,26 +1,15 @@
 -- An open exchange without a head, and the consumer that waits for that: what is kept of both.
-use Rattle.std.proofs.Common.{◌≡◌, ℕ, Bool, true, false, Option, Some, None, refl, ap, sym, ◌∙◌, subst}
-use Rattle.std.specs.Prelude.{is_some, nat_eq, option_map, if◌then◌else◌}
-use Rattle.std.specs.HashMap.{get}
+use Rattle.std.{proofs.Common.{◌≡◌, ℕ, Bool, true, false, Option, Some, None, refl, ap, sym, ◌∙◌, subst}, specs.{Prelude.{is_some, nat_eq, option_map, if◌then◌else◌}, HashMap.{get}}}
 use Rattle.hc_text.proofs.Basics.{false_true, same_some as same_row}
 use Rattle.hc_effects.proofs.Vocabulary.{Limits, Response, route_of, head_refusal, Place, denial, is_live_place, NoFlaw, Lawful, StandsFor, IsAwaited, IsAwaiting, Awaits, Tables, Exchange}
 use Rattle.hc_store.specs.declared.backend.Backend.{Ghosts}
 use Rattle.hc_event.specs.declared.act.Refusal.TheVariants as refusal
 use Rattle.hc_event.specs.declared.event.Event.TheVariants as event
-use Rattle.hc_exch.specs.declared.row.Open.{Open}
-use Rattle.hc_exch.specs.Exchanges.{table_of}
-use Rattle.hc_exch.specs.Known.{open_view}
+use Rattle.hc_exch.specs.{declared.row.Open.{Open}, Exchanges.{table_of}, Known.{open_view}}
 use Rattle.hc_model.specs.Owners as owners
 use Rattle.hc_model.specs.Rows as rows
-use Rattle.hc_effects.proofs.FirstKeeps.{is_new}
-use Rattle.hc_effects.proofs.Tests.{none_some}
-use Rattle.hc_effects.proofs.EventsKeep.{no_head}
-use Rattle.hc_state.specs.declared.consumer.Consumer.{Consumer}
-use Rattle.hc_state.specs.declared.rows.Rows.{Rows}
-use Rattle.hc_state.specs.Facts.{Facts}
-use Rattle.hc_state.specs.Heads.{AwaitsHead, IsAskedBy}
-use Rattle.hc_state.specs.Kept.{IsKept, IsRunning, KeepsConsumer, KeepsRunning}
-use Rattle.hc_state.specs.Stands.{RowsStand}
+use Rattle.hc_effects.proofs.{FirstKeeps.{is_new}, Tests.{none_some}, EventsKeep.{no_head}}
+use Rattle.hc_state.specs.{declared.{consumer.Consumer.{Consumer}, rows.Rows.{Rows}}, Facts.{Facts}, Heads.{AwaitsHead, IsAskedBy}, Kept.{IsKept, IsRunning, KeepsConsumer, KeepsRunning}, Stands.{RowsStand}}
 
 -- WHAT ISN'T DENIED
 

@@ -1,7 +1,5 @@
 -- Who is cancelled, ends or fails: the event is answered.
-use Rattle.std.proofs.Common.{◌≡◌, ℕ, List, [], ◌∷◌, ◌++◌, Bool, true, false, Some, None, refl, ap, sym, ◌∙◌}
-use Rattle.std.proofs.lemmas.List.{append_assoc}
-use Rattle.std.specs.Prelude.{nat_eq, map, ◌||◌}
+use Rattle.std.{proofs.{Common.{◌≡◌, ℕ, List, [], ◌∷◌, ◌++◌, Bool, true, false, Some, None, refl, ap, sym, ◌∙◌}, lemmas.List.{append_assoc}}, specs.Prelude.{nat_eq, map, ◌||◌}}
 use Rattle.hc_text.proofs.Basics.{false_true}
 use Rattle.hc_store.specs.declared.backend.Backend.{Ghosts}
 use Rattle.hc_effects.proofs.Vocabulary.{Act, Cause, Limits, Does, with_event, let_some_go, let_go, left_by, going_with, with_leave, with_representation, lost_to, family, NoFlaw, Loses, flaw_in, Lawful, Ends, Fails, is_failed_read, move_of, Tables, Representation, is_kept, with_item_first, written_representation, exclusive}
@@ -14,12 +12,8 @@ use Rattle.hc_model.specs.Rows as rows
 use Rattle.hc_effects.proofs.FailsTold.{fails_told}
 use Rattle.hc_effects.proofs.LeaveEffects as effects
 use Rattle.hc_effects.proofs.SealEffects as seal_effects
-use Rattle.hc_state.specs.declared.rows.Rows.{Rows}
-use Rattle.hc_state.specs.Left.{HasLeft, quietly, unsealed}
-use Rattle.hc_state.specs.Stands.{Answered}
-use Rattle.hc_state.proofs.Answering.{does_answered, lossy_answered}
-use Rattle.hc_state.proofs.Counting.{stands_counted}
-use Rattle.hc_state.proofs.SealWritten.{sealed_leaving}
+use Rattle.hc_state.specs.{declared.rows.Rows.{Rows}, Left.{HasLeft, quietly, unsealed}, Stands.{Answered}}
+use Rattle.hc_state.proofs.{Answering.{does_answered, lossy_answered}, Counting.{stands_counted}, SealWritten.{sealed_leaving}}
 
 -- who is down fails by that
 pub down_fails : (t : Tables) (law : Lawful t) (now want c : ℕ) (k : rows.Consumer) (why : Cause) → t.consumer c ≡ Some k → k.place ≡ place.Down why → move_of t now want c k ≡ Fails why

@@ -1,22 +1,13 @@
 -- A representation is let go: the rows represent the tables without it.
-use Rattle.std.proofs.Common.{◌≡◌, ℕ, List, Bool, true, false, cond, Option, Some, None, refl, ap, sym, ◌∙◌, subst, arith}
-use Rattle.std.proofs.lemmas.Bool.Decides.{nat_tests}
-use Rattle.std.specs.Prelude.{is_some, nat_eq, bytes_eq, option_map, option_and_then, not, ◌&&◌, ◌||◌, ◌==◌, if◌then◌else◌}
-use Rattle.std.specs.HashMap.{get}
+use Rattle.std.{proofs.{Common.{◌≡◌, ℕ, List, Bool, true, false, cond, Option, Some, None, refl, ap, sym, ◌∙◌, subst, arith}, lemmas.Bool.Decides.{nat_tests}}, specs.{Prelude.{is_some, nat_eq, bytes_eq, option_map, option_and_then, not, ◌&&◌, ◌||◌, ◌==◌, if◌then◌else◌}, HashMap.{get}}}
 use Rattle.hc_text.proofs.Basics.{eqb-same, false_true, mapped, some_inj as some_is, and_off as then_false}
 use Rattle.hc_effects.proofs.Vocabulary.{Limits, Place, back_in_line, current, is_usable, total_in, is_live, as_gone, let_go, unless_it, family, MayLetGo, is_in_line, holds_turn, Queues, has_passed, Tables, Exchange, Representation, status_in}
 use Rattle.hc_store.specs.declared.backend.Backend.{Ghosts}
-use Rattle.hc_stored.specs.Entries.{shelf_of}
+use Rattle.hc_stored.specs.{Entries.{shelf_of}, Kept.{Kept, itself, is_nobody}, Views.{key_in}, Shelf.{taken_out}}
 use Rattle.hc_stored.specs.Kept as kept
-use Rattle.hc_stored.specs.Kept.{Kept, itself, is_nobody}
 use Rattle.hc_stored.specs.Shelf as shelves
-use Rattle.hc_stored.specs.Views.{key_in}
-use Rattle.hc_stored.specs.Shelf.{taken_out}
-use Rattle.hc_entry.specs.declared.keys.KeyTable.{KeyTable}
+use Rattle.hc_entry.specs.{declared.keys.KeyTable.{KeyTable}, Keys.{kept_of, line_of}, Kept.{on_line, with_current}, Lines.{is_among, is_in, passed_back}}
 use Rattle.hc_entry.specs.Keys as keys
-use Rattle.hc_entry.specs.Keys.{kept_of, line_of}
-use Rattle.hc_entry.specs.Kept.{on_line, with_current}
-use Rattle.hc_entry.specs.Lines.{is_among, is_in, passed_back}
 use Rattle.hc_entry.proofs.OrderLemmas.{among-merged}
 use Rattle.hc_exch.specs.Exchanges.{table_of, next_of}
 use Rattle.hc_sorted.specs.Sorted.{without}
@@ -24,21 +15,9 @@ use Rattle.hc_rules.proofs.RangeReads.{same_bytes, bytes_eq-same}
 use Rattle.hc_event.specs.declared.place.Place.TheVariants as place
 use Rattle.hc_model.specs.Effects.{waits_for}
 use Rattle.hc_model.specs.Rows as rows
-use Rattle.hc_effects.proofs.CurrentKeeps.{usable_row}
-use Rattle.hc_effects.proofs.IdleNow.{filter_both}
-use Rattle.hc_effects.proofs.LettingGo.{current_let_go, bound_let_go, live_let_go, current_may, let_go_nothing}
-use Rattle.hc_effects.proofs.PollKeeps.{find_passes}
-use Rattle.hc_state.specs.declared.consumer.Consumer.{Consumer}
-use Rattle.hc_state.specs.declared.rows.Rows.{Rows}
-use Rattle.hc_state.specs.Changes.{ChangesAmong, over_if_passed}
-use Rattle.hc_state.specs.Kept.{KeepsConsumer, KeepsExchange, held_for}
-use Rattle.hc_state.specs.Lines.{KeepsKey, has_turn, is_passed, is_away}
-use Rattle.hc_state.specs.Stands.{RowsStand}
-use Rattle.hc_state.specs.Stored.{IsEntry, TellsLength, told, untold, KeepsEntry, KeepsEntries, is_first, is_usable_row, is_usable_kept}
-use Rattle.hc_state.proofs.Fallbacks.{IsAlike, same, fallback, held_gone, users_alike}
-use Rattle.hc_state.proofs.BoundLists.{bound_none, bound_some}
-use Rattle.hc_state.proofs.OneOfEach.{first_by, kind_same}
-use Rattle.hc_state.proofs.Ties.{consumer_same, key_same, entry_same, exchange_same, SaysSame, UsesSame}
+use Rattle.hc_effects.proofs.{CurrentKeeps.{usable_row}, IdleNow.{filter_both}, LettingGo.{current_let_go, bound_let_go, live_let_go, current_may, let_go_nothing}, PollKeeps.{find_passes}}
+use Rattle.hc_state.specs.{declared.{consumer.Consumer.{Consumer}, rows.Rows.{Rows}}, Changes.{ChangesAmong, over_if_passed}, Kept.{KeepsConsumer, KeepsExchange, held_for}, Lines.{KeepsKey, has_turn, is_passed, is_away}, Stands.{RowsStand}, Stored.{IsEntry, TellsLength, told, untold, KeepsEntry, KeepsEntries, is_first, is_usable_row, is_usable_kept}}
+use Rattle.hc_state.proofs.{Fallbacks.{IsAlike, same, fallback, held_gone, users_alike}, BoundLists.{bound_none, bound_some}, OneOfEach.{first_by, kind_same}, Ties.{consumer_same, key_same, entry_same, exchange_same, SaysSame, UsesSame}}
 
 -- ROWS THAT ARE GONE
 

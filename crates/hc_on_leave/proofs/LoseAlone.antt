@@ -1,18 +1,12 @@
 -- Nothing is held for who writes alone what isn't lost: all that its exchange brought is stored.
-use Rattle.std.proofs.Common.{◌≡◌, ℕ, ◌-◌, ◌≤◌, [], length, drop, Bool, true, false, Option, Some, None, refl, ap, ◌∙◌, arith}
-use Rattle.std.proofs.lemmas.Bool.Decides.{nat_tests}
-use Rattle.std.proofs.lemmas.List.{drop_all}
-use Rattle.std.specs.Prelude.{is_some, nat_eq, nat_le, ◌&&◌, if◌then◌else◌}
+use Rattle.std.{proofs.{Common.{◌≡◌, ℕ, ◌-◌, ◌≤◌, [], length, drop, Bool, true, false, Option, Some, None, refl, ap, ◌∙◌, arith}, lemmas.{Bool.Decides.{nat_tests}, List.{drop_all}}}, specs.Prelude.{is_some, nat_eq, nat_le, ◌&&◌, if◌then◌else◌}}
 use Rattle.hc_text.proofs.Basics.{and_off as then_false}
 use Rattle.hc_effects.proofs.Vocabulary.{Response, Limits, is_number, base, front, family, is_bound_place, offset, Tables, Exchange, Representation, IsBound, IsExclusiveWriter, exclusive}
 use Rattle.hc_sparse.specs.Cells.{Cell, EndsBy, Covers}
 use Rattle.hc_model.specs.Rows as rows
 use Rattle.hc_model.specs.Sound as sound
-use Rattle.hc_effects.proofs.Exclusives.{exclusive_parts}
-use Rattle.hc_effects.proofs.HoleLemmas.{covers_yes}
-use Rattle.hc_state.specs.Facts.{Facts}
-use Rattle.hc_state.specs.Kept.{held_alone, unstored_bytes, first_lacking}
-use Rattle.hc_state.specs.Stopped.{HoldsNothing}
+use Rattle.hc_effects.proofs.{Exclusives.{exclusive_parts}, HoleLemmas.{covers_yes}}
+use Rattle.hc_state.specs.{Facts.{Facts}, Kept.{held_alone, unstored_bytes, first_lacking}, Stopped.{HoldsNothing}}
 use Rattle.hc_on_leave.proofs.HeardExchange.{drop_none}
 
 module _ (limits : Limits) (t : Tables) (facts : Facts limits t) (q : ℕ) (v : Representation) (there : t.representation q ≡ Some v) (kept : v.is_lost ≡ false) where

@@ -1,8 +1,6 @@
 -- What a 304 may be about can't be read or updated: it is lost, and whoever asked starts over. That is answered.
-use Rattle.std.proofs.Common.{◌≡◌, ◌≢◌, inl, inr, ℕ, ◌<◌, List, [], ◌∷◌, ◌++◌, Bool, true, false, Option, Some, None, refl, ap, ap₂, sym, ◌∙◌, subst}
+use Rattle.std.{proofs.{Common.{◌≡◌, ◌≢◌, inl, inr, ℕ, ◌<◌, List, [], ◌∷◌, ◌++◌, Bool, true, false, Option, Some, None, refl, ap, ap₂, sym, ◌∙◌, subst}, lemmas.List.{append-nil}}, specs.Prelude.{is_some, is_none, nat_eq, map, option_map, not, ◌&&◌, ◌||◌, ◌==◌, if◌then◌else◌}}
 use mathlib.Core.Path.{fun_ext}
-use Rattle.std.proofs.lemmas.List.{append-nil}
-use Rattle.std.specs.Prelude.{is_some, is_none, nat_eq, map, option_map, not, ◌&&◌, ◌||◌, ◌==◌, if◌then◌else◌}
 use Rattle.hc_text.proofs.Basics.{eqb-other, eqb-same, false_true, same_or, same_some as same_row, and_off as then_false}
 use Rattle.hc_effects.proofs.Vocabulary.{Limits, Act, LostKind, Event, Response, head_case, length_of, is_head, is_same_number, Place, has_loss, head_view, is_founding, is_joining, case_at, back_in_line, current, denial, with_event, all_closed, with_answer, with_consumer, with_representation, writing_lost, let_go, lost_to, unless_ended, unless_survived, back_from, promise_in, family, is_reached, is_headless, Loses, entry_of, brings_to, MayLetGo, IsAwaiting, bound, is_bound, is_bound_place, is_written, writing_in, Tables, Exchange, Representation, is_kept, IsGrowing, exclusive, survivor, offset_in, written_representation, head_writes, may_validate, lossless}
 use Rattle.hc_store.specs.declared.backend.Backend.{Ghosts}
@@ -12,45 +10,17 @@ use Rattle.hc_event.specs.declared.event.Event.TheVariants as event
 use Rattle.hc_rules.specs.declared.heads.HeadCase.TheVariants as case
 use Rattle.hc_rules.specs.declared.need.Route.TheVariants as route
 use Rattle.hc_stored.specs.Entries.{shelf_of}
-use Rattle.hc_exch.specs.Exchanges.{table_of}
+use Rattle.hc_exch.specs.{Exchanges.{table_of}, Known.{length_by, is_open}}
 use Rattle.hc_exch.specs.Exchanges as exch
 use Rattle.hc_exch.specs.Known as known
-use Rattle.hc_exch.specs.Known.{length_by, is_open}
 use Rattle.hc_event.specs.declared.place.Place.TheVariants as place
 use Rattle.hc_event.specs.declared.place.BoundBy.TheVariants as by
 use Rattle.hc_model.specs.Owners as owners
 use Rattle.hc_model.specs.Rows as rows
-use Rattle.hc_effects.proofs.FirstKeeps.{case_is}
-use Rattle.hc_effects.proofs.FoundBy.{unchanged_founds}
-use Rattle.hc_effects.proofs.KeysKeep.{current_row}
-use Rattle.hc_effects.proofs.LettingGo.{may_let_go}
-use Rattle.hc_effects.proofs.ExclusiveWriters.{writer_some}
-use Rattle.hc_effects.proofs.PollKeeps.{current_stays}
-use Rattle.hc_effects.proofs.UpdateEffects.{validated_lost}
-use Rattle.hc_effects.proofs.WrittenEffects.{validated_lost_written}
-use Rattle.hc_effects.proofs.Tests.{none_some}
-use Rattle.hc_state.specs.declared.rows.Rows.{Rows}
-use Rattle.hc_state.specs.Facts.{Facts}
-use Rattle.hc_state.specs.Heads.{IsUnread, unless_over}
-use Rattle.hc_state.specs.DetachedReaders.{MayLoseShared, LosesWriting, shared_loss}
-use Rattle.hc_state.specs.Kept.{unstored_bytes}
-use Rattle.hc_state.specs.Leaving.{writing_of}
-use Rattle.hc_state.specs.Stands.{Answered, KeepsRest, RowsStand}
-use Rattle.hc_state.specs.Stopped.{HoldsNothing, NobodyAwaits}
-use Rattle.hc_state.proofs.Answering.{lossy_answered}
-use Rattle.hc_state.proofs.Fallbacks.{unstored_moved}
-use Rattle.hc_state.proofs.Closing.{stands_unstored}
-use Rattle.hc_state.proofs.Counting.{stands_counted}
-use Rattle.hc_state.proofs.CurrentTies.{stays_stored}
-use Rattle.hc_on_leave.proofs.HeadCases.{it_is, parts, case_lost_too}
-use Rattle.hc_on_leave.proofs.HeardRows.{Asker}
-use Rattle.hc_state.proofs.LeftRows.{writing_as}
-use Rattle.hc_on_leave.proofs.LoseAlone.{holds_none}
-use Rattle.hc_on_leave.proofs.LoseDetachedReaders.{bound_among, members_in}
-use Rattle.hc_state.proofs.Maps.{act_and}
-use Rattle.hc_on_leave.proofs.RefuseHandler.{stands_refused, closes_as}
-use Rattle.hc_state.proofs.TurnTies.{least_alike}
-use Rattle.hc_on_leave.proofs.UnstoredHandlers.{beside, unread_then, may_moved, may_heard}
+use Rattle.hc_effects.proofs.{FirstKeeps.{case_is}, FoundBy.{unchanged_founds}, KeysKeep.{current_row}, LettingGo.{may_let_go}, ExclusiveWriters.{writer_some}, PollKeeps.{current_stays}, UpdateEffects.{validated_lost}, WrittenEffects.{validated_lost_written}, Tests.{none_some}}
+use Rattle.hc_state.specs.{declared.rows.Rows.{Rows}, Facts.{Facts}, Heads.{IsUnread, unless_over}, DetachedReaders.{MayLoseShared, LosesWriting, shared_loss}, Kept.{unstored_bytes}, Leaving.{writing_of}, Stands.{Answered, KeepsRest, RowsStand}, Stopped.{HoldsNothing, NobodyAwaits}}
+use Rattle.hc_state.proofs.{Answering.{lossy_answered}, Fallbacks.{unstored_moved}, Closing.{stands_unstored}, Counting.{stands_counted}, CurrentTies.{stays_stored}, LeftRows.{writing_as}, Maps.{act_and}, TurnTies.{least_alike}}
+use Rattle.hc_on_leave.proofs.{HeadCases.{it_is, parts, case_lost_too}, HeardRows.{Asker}, LoseAlone.{holds_none}, LoseDetachedReaders.{bound_among, members_in}, RefuseHandler.{stands_refused, closes_as}, UnstoredHandlers.{beside, unread_then, may_moved, may_heard}}
 
 -- A WRITING IS LOST
 

@@ -1,7 +1,5 @@
 -- What a consumer is bound to can't be read: it fails, what nobody reads any more is closed, and that is let go.
-use Rattle.std.proofs.Common.{◌≡◌, ◌≢◌, ℕ, ◌<◌, List, [], ◌∷◌, ◌++◌, Bool, true, false, Option, Some, None, refl, ap, sym, ◌∙◌, subst, arith}
-use Rattle.std.proofs.lemmas.Bool.Decides.{nat_tests}
-use Rattle.std.specs.Prelude.{is_some, nat_eq, map, option_map, ◌||◌, ◌&&◌, if◌then◌else◌}
+use Rattle.std.{proofs.{Common.{◌≡◌, ◌≢◌, ℕ, ◌<◌, List, [], ◌∷◌, ◌++◌, Bool, true, false, Option, Some, None, refl, ap, sym, ◌∙◌, subst, arith}, lemmas.Bool.Decides.{nat_tests}}, specs.Prelude.{is_some, nat_eq, map, option_map, ◌||◌, ◌&&◌, if◌then◌else◌}}
 use Rattle.hc_text.proofs.Basics.{eqb-other, eqb-same, false_true, or_left as or_first, same_some as same_row, some_inj as some_is, and_off as then_false}
 use Rattle.hc_store.specs.declared.backend.Backend.{Ghosts}
 use Rattle.hc_stored.specs.Entries.{shelf_of}
@@ -13,18 +11,10 @@ use Rattle.hc_exch.specs.Exchanges as exch
 use Rattle.hc_exch.specs.Known as known
 use Rattle.hc_event.specs.declared.place.Place.TheVariants as place
 use Rattle.hc_model.specs.Sound as sound
-use Rattle.hc_effects.proofs.LettingGo.{may_let_go, keeps_may, let_go_nothing}
-use Rattle.hc_effects.proofs.MisreadEffects.{misreads}
-use Rattle.hc_effects.proofs.Stops.{writer_about}
-use Rattle.hc_effects.proofs.Tests.{none_some}
-use Rattle.hc_state.specs.declared.rows.Rows.{Rows}
-use Rattle.hc_state.specs.Stands.{Answered, RowsStand, KeepsRest}
-use Rattle.hc_state.proofs.CloseHandler.{unawaited_go}
-use Rattle.hc_state.proofs.Closing.{stands_unstored}
-use Rattle.hc_state.proofs.Counting.{stands_counted}
-use Rattle.hc_state.proofs.LeftAlone.{HowLeft, how_left, left_unawaited}
+use Rattle.hc_effects.proofs.{LettingGo.{may_let_go, keeps_may, let_go_nothing}, MisreadEffects.{misreads}, Stops.{writer_about}, Tests.{none_some}}
+use Rattle.hc_state.specs.{declared.rows.Rows.{Rows}, Stands.{Answered, RowsStand, KeepsRest}}
+use Rattle.hc_state.proofs.{CloseHandler.{unawaited_go}, Closing.{stands_unstored}, Counting.{stands_counted}, LeftAlone.{HowLeft, how_left, left_unawaited}, Maps.{act_and}}
 use Rattle.hc_state.proofs.LeftAlone as left
-use Rattle.hc_state.proofs.Maps.{act_and}
 use Rattle.hc_on_leave.proofs.MayGo.{may_with}
 
 -- where it is bound

@@ -1,6 +1,5 @@
 -- The stored head of what is current can't be read: who asked for it fails, and what is current is let go.
-use Rattle.std.proofs.Common.{◌≡◌, ℕ, ◌<◌, List, [], ◌∷◌, ◌++◌, true, false, Option, Some, None, refl, ap, sym, ◌∙◌, subst}
-use Rattle.std.specs.Prelude.{map, ◌||◌}
+use Rattle.std.{proofs.Common.{◌≡◌, ℕ, ◌<◌, List, [], ◌∷◌, ◌++◌, true, false, Option, Some, None, refl, ap, sym, ◌∙◌, subst}, specs.Prelude.{map, ◌||◌}}
 use Rattle.hc_text.proofs.Basics.{eqb-same, false_true, or_right as or_last}
 use Rattle.hc_store.specs.declared.backend.Backend.{Ghosts}
 use Rattle.hc_stored.specs.Entries.{shelf_of}
@@ -10,9 +9,7 @@ use Rattle.hc_event.specs.declared.act.Cause.TheVariants as cause
 use Rattle.hc_event.specs.declared.event.Event.TheVariants as event
 use Rattle.hc_event.specs.declared.place.Place.TheVariants as place
 use Rattle.hc_effects.proofs.MisreadEffects.{misreads}
-use Rattle.hc_state.specs.declared.rows.Rows.{Rows}
-use Rattle.hc_state.specs.Plans.{is_idle_at}
-use Rattle.hc_state.specs.Stands.{Answered, RowsStand}
+use Rattle.hc_state.specs.{declared.rows.Rows.{Rows}, Plans.{is_idle_at}, Stands.{Answered, RowsStand}}
 use Rattle.hc_state.proofs.Counting.{stands_counted}
 
 -- who reads nothing leaves no exchange

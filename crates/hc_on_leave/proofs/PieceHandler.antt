@@ -1,35 +1,19 @@
 -- A piece is answered that isn't stored: what is kept represents the tables then.
-use Rattle.std.proofs.Common.{◌≡◌, ℕ, ◌+◌, ◌<◌, ◌≤◌, ◌^◌, List, [], ◌++◌, length, drop, Bool, true, false, cond, Option, Some, None, refl, ap, sym, ◌∙◌, subst, arith}
-use Rattle.std.proofs.lemmas.Bool.Decides.{nat_tests}
-use Rattle.std.proofs.lemmas.List.{append-nil, drop-append-le}
-use Rattle.std.specs.Prelude.{is_some, is_none, nat_lt, not, option_map, ◌==◌}
+use Rattle.std.{proofs.{Common.{◌≡◌, ℕ, ◌+◌, ◌<◌, ◌≤◌, ◌^◌, List, [], ◌++◌, length, drop, Bool, true, false, cond, Option, Some, None, refl, ap, sym, ◌∙◌, subst, arith}, lemmas.{Bool.Decides.{nat_tests}, List.{append-nil, drop-append-le}}}, specs.Prelude.{is_some, is_none, nat_lt, not, option_map, ◌==◌}}
 use Rattle.hc_text.proofs.Basics.{eqb-same, false_true, never_true as not_true, not_false as on_by, same_some as same_row, some_inj as some_is}
 use Rattle.hc_effects.proofs.Vocabulary.{Limits, Act, Refusal, piece_refusal, overlong, denial, as_open, entry_without_acts, with_piece, family, promised_bytes, base, Lawful, Numbers, Tables, Exchange, Representation, write_in}
 use Rattle.hc_store.specs.declared.backend.Backend.{Ghosts}
 use Rattle.hc_event.specs.declared.event.Event.TheVariants as event
 use Rattle.hc_rules.specs.Refusals as refusals
-use Rattle.hc_stored.specs.Entries.{shelf_of}
-use Rattle.hc_stored.specs.Kept.{Kept}
-use Rattle.hc_stored.specs.declared.entries.Entries.{Entries}
+use Rattle.hc_stored.specs.{Entries.{shelf_of}, Kept.{Kept}, declared.entries.Entries.{Entries}}
 use Rattle.hc_exch.specs.Exchanges as exch
-use Rattle.hc_exch.specs.Exchanges.{table_of}
+use Rattle.hc_exch.specs.{Exchanges.{table_of}, Known.{open_view, EndsBelow}, declared.row.Open.{Open}}
 use Rattle.hc_exch.specs.Known as known
-use Rattle.hc_exch.specs.Known.{open_view, EndsBelow}
-use Rattle.hc_exch.specs.declared.row.Open.{Open}
-use Rattle.hc_effects.proofs.Once.{IsTaken, taken}
+use Rattle.hc_effects.proofs.{Once.{IsTaken, taken}, Tests.{none_some}}
 use Rattle.hc_effects.proofs.PieceEffects as does
-use Rattle.hc_effects.proofs.Tests.{none_some}
-use Rattle.hc_state.specs.declared.rows.Rows.{Rows}
-use Rattle.hc_state.specs.Facts.{Facts}
-use Rattle.hc_state.specs.Kept.{IsRunning, KeepsRunning, unread, held_of, held_for}
-use Rattle.hc_state.specs.Stands.{Answered, RowsStand, Stands}
-use Rattle.hc_state.specs.Stops.{body_of, brought_by}
-use Rattle.hc_state.specs.Stored.{KeepsEntry}
-use Rattle.hc_state.proofs.Answering.{does_answered}
-use Rattle.hc_state.proofs.Fallbacks.{held_alike, same}
-use Rattle.hc_on_leave.proofs.HeardRows.{heard_row}
-use Rattle.hc_state.proofs.Maps.{merely_below}
-use Rattle.hc_on_leave.proofs.PieceRows.{s, like_same, stands_pieced, none_is}
+use Rattle.hc_state.specs.{declared.rows.Rows.{Rows}, Facts.{Facts}, Kept.{IsRunning, KeepsRunning, unread, held_of, held_for}, Stands.{Answered, RowsStand, Stands}, Stops.{body_of, brought_by}, Stored.{KeepsEntry}}
+use Rattle.hc_state.proofs.{Answering.{does_answered}, Fallbacks.{held_alike, same}, Maps.{merely_below}}
+use Rattle.hc_on_leave.proofs.{HeardRows.{heard_row}, PieceRows.{s, like_same, stands_pieced, none_is}}
 
 -- HOW FAR IT REACHES
 

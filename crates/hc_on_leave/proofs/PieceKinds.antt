@@ -1,19 +1,13 @@
 -- How much is stored of a representation with a piece more.
-use Rattle.std.proofs.Common.{◌≡◌, ℕ, ◌+◌, ◌<◌, ◌≤◌, ◌^◌, List, length, Bool, true, false, Option, Some, None, refl, ◌∙◌, subst, arith}
-use Rattle.std.proofs.lemmas.Bool.Decides.{nat_tests}
-use Rattle.std.specs.Prelude.{nat_lt, nat_le, option_map, ◌&&◌, ◌↔◌, IsTrue, if◌then◌else◌}
+use Rattle.std.{proofs.{Common.{◌≡◌, ℕ, ◌+◌, ◌<◌, ◌≤◌, ◌^◌, List, length, Bool, true, false, Option, Some, None, refl, ◌∙◌, subst, arith}, lemmas.Bool.Decides.{nat_tests}}, specs.Prelude.{nat_lt, nat_le, option_map, ◌&&◌, ◌↔◌, IsTrue, if◌then◌else◌}}
 use Rattle.hc_text.proofs.Basics.{some_inj as some_is}
 use Rattle.hc_record.specs.declared.kind.Kind.TheVariants as kind
 use Rattle.hc_sparse.specs.Cells.{Covers, inside, cells_with}
 use Rattle.hc_sparse.proofs.SizeLemmas.{size-le}
-use Rattle.hc_stored.specs.declared.view.EntryView.{EntryView}
-use Rattle.hc_stored.specs.Kept.{Kept}
-use Rattle.hc_stored.specs.Shelf.{Shelf, cells_in, cells_at}
-use Rattle.hc_stored.specs.Views.{view_of}
+use Rattle.hc_stored.specs.{declared.view.EntryView.{EntryView}, Kept.{Kept}, Shelf.{Shelf, cells_in, cells_at}, Views.{view_of}}
 use Rattle.hc_effects.proofs.Vocabulary.{is_complete, is_front, Representation}
 use Rattle.hc_effects.proofs.Tests.{none_some}
-use Rattle.hc_state.specs.Pieces.{larger_view}
-use Rattle.hc_state.specs.Stops.{IsViewOf, kind_left}
+use Rattle.hc_state.specs.{Pieces.{larger_view}, Stops.{IsViewOf, kind_left}}
 use Rattle.hc_state.proofs.StoredKinds.{complete_as, incomplete_as, front_as}
 
 -- behind the piece it brings nothing

@@ -1,9 +1,6 @@
 -- What gives way to a piece is what is idle before it, and what the piece is of isn't among that.
-use Rattle.std.proofs.Common.{◌≡◌, ◌≢◌, inl, inr, ℕ, zero, suc, ◌+◌, ◌≤◌, List, [], ◌∷◌, length, take, Bool, true, false, Option, Some, None, refl, ap, sym, ◌∙◌, arith}
+use Rattle.std.{proofs.{Common.{◌≡◌, ◌≢◌, inl, inr, ℕ, zero, suc, ◌+◌, ◌≤◌, List, [], ◌∷◌, length, take, Bool, true, false, Option, Some, None, refl, ap, sym, ◌∙◌, arith}, lemmas.Bool.Decides.{nat_tests}}, specs.{Prelude.{is_some, nat_eq, nat_le, nat_lt, filter, map, reverse, not, ◌==◌, ◌&&◌, ◌||◌, if◌then◌else◌}, List.{sum_by}}}
 use mathlib.Core.Path.{fun_ext}
-use Rattle.std.proofs.lemmas.Bool.Decides.{nat_tests}
-use Rattle.std.specs.Prelude.{is_some, nat_eq, nat_le, nat_lt, filter, map, reverse, not, ◌==◌, ◌&&◌, ◌||◌, if◌then◌else◌}
-use Rattle.std.specs.List.{sum_by}
 use Rattle.hc_text.proofs.Basics.{and_true, eqb-other, false_true, or_off_left as or_first, same_or, and_off as then_false}
 use Rattle.hc_event.specs.declared.event.Event.TheVariants as event
 use Rattle.hc_effects.proofs.Vocabulary.{Limits, Room, Write, room_of, gives_way, weight_of, idle_now, is_current, denial, Entry, entry_without_acts, outlasts, outlasts_row, family, NoFlaw, goes_itself, becomes_gone, Lawful, MayMakeRoom, weight_now, room_now, giving_way, bound, Tables, Exchange, Representation, has_room, weight, idle, evicted, room_for, room_by, write_in, stays_bound}
@@ -13,11 +10,8 @@ use Rattle.hc_model.specs.Contents as contents
 use Rattle.hc_model.specs.LettingGo as going
 use Rattle.hc_model.specs.Sound as sound
 use Rattle.hc_model.specs.Weights as weights
-use Rattle.hc_effects.proofs.IdleNow.{idle_but_gone, bound_is}
-use Rattle.hc_effects.proofs.LettingGo.{may_let_go}
+use Rattle.hc_effects.proofs.{IdleNow.{idle_but_gone, bound_is}, LettingGo.{may_let_go}, SameTables.{is_in}, Tests.{none_some}}
 use Rattle.hc_effects.proofs.PieceEffects as does
-use Rattle.hc_effects.proofs.SameTables.{is_in}
-use Rattle.hc_effects.proofs.Tests.{none_some}
 use Rattle.hc_state.specs.Facts.{Facts}
 
 -- LISTS

@@ -1,28 +1,18 @@
 -- An exchange whose answer isn't used is over with its head, or closed: what is kept represents the tables then.
-use Rattle.std.proofs.Common.{◌≡◌, ◌≢◌, inl, inr, ℕ, [], ◌∷◌, Bool, true, false, Option, Some, None, refl, ap, sym, ◌∙◌, subst}
-use Rattle.std.specs.Prelude.{nat_eq, if◌then◌else◌}
-use Rattle.std.specs.HashMap.{get}
+use Rattle.std.{proofs.Common.{◌≡◌, ◌≢◌, inl, inr, ℕ, [], ◌∷◌, Bool, true, false, Option, Some, None, refl, ap, sym, ◌∙◌, subst}, specs.{Prelude.{nat_eq, if◌then◌else◌}, HashMap.{get}}}
 use Rattle.hc_text.proofs.Basics.{eqb-other, eqb-same, same_or}
 use Rattle.hc_effects.proofs.Vocabulary.{Limits, Response, Length, length_of, promise_of, with_answer, with_exchange, exchange_with_head, over, tables_after_close, all_closed, unless_ended, promise_in, is_reached, Tables, Exchange}
 use Rattle.hc_store.specs.declared.backend.Backend.{Ghosts}
 use Rattle.hc_stored.specs.Entries.{shelf_of}
-use Rattle.hc_exch.specs.declared.row.Open.{Open}
-use Rattle.hc_exch.specs.Exchanges.{table_of}
+use Rattle.hc_exch.specs.{declared.row.Open.{Open}, Exchanges.{table_of}, Known.{Known, length_by}}
 use Rattle.hc_exch.specs.Exchanges as exch
 use Rattle.hc_exch.specs.Known as known
-use Rattle.hc_exch.specs.Known.{Known, length_by}
 use Rattle.hc_event.specs.declared.place.Place.TheVariants as place
 use Rattle.hc_model.specs.Rows as rows
 use Rattle.hc_effects.proofs.Basics.{same_functions}
-use Rattle.hc_state.specs.declared.rows.Rows.{Rows}
-use Rattle.hc_state.specs.Changes.{BecomesAt}
-use Rattle.hc_state.specs.Heads.{IsBare, IsUnread, unless_over}
-use Rattle.hc_state.specs.Kept.{KeepsExchange, KeepsRunning, held_for}
-use Rattle.hc_state.specs.Stands.{RowsStand, KeepsRest}
-use Rattle.hc_on_leave.proofs.AnswerHandler.{all_reached, known_here, known_other}
-use Rattle.hc_on_leave.proofs.HeardExchange.{held_empty, held_else, here, others, key_heard, entries_heard}
-use Rattle.hc_state.proofs.OneOfEach.{stands_then}
-use Rattle.hc_state.proofs.Ties.{consumer_same}
+use Rattle.hc_state.specs.{declared.rows.Rows.{Rows}, Changes.{BecomesAt}, Heads.{IsBare, IsUnread, unless_over}, Kept.{KeepsExchange, KeepsRunning, held_for}, Stands.{RowsStand, KeepsRest}}
+use Rattle.hc_on_leave.proofs.{AnswerHandler.{all_reached, known_here, known_other}, HeardExchange.{held_empty, held_else, here, others, key_heard, entries_heard}}
+use Rattle.hc_state.proofs.{OneOfEach.{stands_then}, Ties.{consumer_same}}
 
 module _ {B : Type 0} {g : Ghosts B} {limits : Limits} (r u : Rows B g) (t : Tables) (x : ℕ) (w z : Exchange) (stands : RowsStand limits r t) (unused : IsUnread t x w) (shut : z.is_open ≡ false) (empty : z.body ≡ []) (unjoined : z.joined ≡ None)
     (rest : KeepsRest r u) (consumers : u.consumers ≡ r.consumers) (becomes : exch.Becomes known.without_exchange x r.exchanges u.exchanges) where

@@ -1,10 +1,7 @@
 -- The store refuses a piece for which room was made: why.
-use Rattle.std.proofs.Common.{◌≡◌, ℕ, ◌+◌, ◌<◌, ◌≤◌, List, true, false, Option, Some, None, refl, subst, arith}
-use Rattle.std.proofs.lemmas.Bool.Decides.{nat_tests}
-use Rattle.std.specs.Prelude.{nat_lt, Result, Err, if◌then◌else◌}
+use Rattle.std.{proofs.{Common.{◌≡◌, ℕ, ◌+◌, ◌<◌, ◌≤◌, List, true, false, Option, Some, None, refl, subst, arith}, lemmas.Bool.Decides.{nat_tests}}, specs.Prelude.{nat_lt, Result, Err, if◌then◌else◌}}
 use Rattle.hc_text.proofs.Basics.{some_inj as some_is}
-use Rattle.hc_store.specs.Causes.{HasCause, IsWithin}
-use Rattle.hc_store.specs.declared.error.StoreError.{StoreError}
+use Rattle.hc_store.specs.{Causes.{HasCause, IsWithin}, declared.error.StoreError.{StoreError}}
 use Rattle.hc_store.specs.declared.error.StoreError.TheVariants as errors
 use Rattle.hc_effects.proofs.Vocabulary.{LostKind, room_of, gives_way, Limits}
 use Rattle.hc_event.specs.declared.act.LostKind.TheVariants as kinds

@@ -1,23 +1,12 @@
 -- Lengths that are told are short enough for a store.
-use Rattle.std.proofs.Common.{◌≡◌, ℕ, ◌+◌, ◌<◌, ◌^◌, max, true, Option, Some, None, refl, ap, sym, ◌∙◌, subst, arith}
-use Rattle.std.proofs.lemmas.Bool.Decides.{nat_tests}
-use Rattle.std.specs.Prelude.{option_map, nat_eq, is_some, IfSome}
-use Rattle.std.specs.HashMap.{get}
+use Rattle.std.{proofs.{Common.{◌≡◌, ℕ, ◌+◌, ◌<◌, ◌^◌, max, true, Option, Some, None, refl, ap, sym, ◌∙◌, subst, arith}, lemmas.Bool.Decides.{nat_tests}}, specs.{Prelude.{option_map, nat_eq, is_some, IfSome}, HashMap.{get}}}
 use Rattle.hc_effects.proofs.Vocabulary.{Limits, with_consumer, as_over, Lawful, Numbers, Tables, Representation}
 use Rattle.hc_effects.proofs.Tests.{none_some}
 use Rattle.hc_store.specs.declared.backend.Backend.{Ghosts}
-use Rattle.hc_stored.specs.declared.view.EntryView.{EntryView}
-use Rattle.hc_stored.specs.Entries.{shelf_of}
-use Rattle.hc_stored.specs.Kept.{Kept}
-use Rattle.hc_stored.specs.Shelf.{Shelf}
-use Rattle.hc_stored.specs.Views.{view_of}
+use Rattle.hc_stored.specs.{declared.view.EntryView.{EntryView}, Entries.{shelf_of}, Kept.{Kept}, Shelf.{Shelf}, Views.{view_of}}
 use Rattle.hc_model.specs.Rows as rows
-use Rattle.hc_state.specs.declared.rows.Rows.{Rows}
-use Rattle.hc_state.specs.Stands.{RowsStand, Stands}
-use Rattle.hc_state.specs.Stored.{KeepsEntry, TellsLength, told, untold, TellsShort}
-use Rattle.hc_state.proofs.LeftRows.{live_row}
-use Rattle.hc_state.proofs.Maps.{merely_below}
-use Rattle.hc_state.proofs.Words.{few_received}
+use Rattle.hc_state.specs.{declared.rows.Rows.{Rows}, Stands.{RowsStand, Stands}, Stored.{KeepsEntry, TellsLength, told, untold, TellsShort}}
+use Rattle.hc_state.proofs.{LeftRows.{live_row}, Maps.{merely_below}, Words.{few_received}}
 
 below_room : (n m : ℕ) → n < max (2 ^ 62) (m + 1) → m < 2 ^ 62 → n < 2 ^ 62
 below_room n m lt small = grind (arith, nat_tests)

@@ -1,6 +1,5 @@
 -- A piece is stored, by what the code did: it is answered.
-use Rattle.std.proofs.Common.{◌≡◌, ◌≢◌, ℕ, ◌+◌, ◌<◌, ◌≤◌, ◌^◌, List, [], ◌++◌, length, max, Bool, true, false, Option, Some, None, refl, ap, sym, ◌∙◌, subst, arith}
-use Rattle.std.specs.Prelude.{is_some, not, map, option_map, ◌&&◌, if◌then◌else◌}
+use Rattle.std.{proofs.{Common.{◌≡◌, ◌≢◌, ℕ, ◌+◌, ◌<◌, ◌≤◌, ◌^◌, List, [], ◌++◌, length, max, Bool, true, false, Option, Some, None, refl, ap, sym, ◌∙◌, subst, arith}, Math.{Logic.{∥∥₁_elim}, Seq.{take-append_seam}}}, specs.Prelude.{is_some, not, map, option_map, ◌&&◌, if◌then◌else◌, take}}
 use Rattle.hc_store.specs.declared.backend.Backend.{Ghosts}
 use Rattle.hc_sparse.specs.Cells.{Cell, Cells, AreAbsent, EndsBy, cells_with, size}
 use Rattle.hc_sparse.proofs.SizeLemmas.{size-same}
@@ -10,52 +9,22 @@ use Rattle.hc_event.specs.declared.event.Event.TheVariants as event
 use Rattle.hc_rules.specs.Refusals as refusals
 use Rattle.hc_rules.specs.declared.room.Room.TheVariants as room
 use Rattle.hc_rules.specs.declared.room.Write.TheVariants as write
-use Rattle.hc_stored.specs.declared.view.EntryView.{EntryView}
-use Rattle.hc_stored.specs.Entries.{shelf_of}
+use Rattle.hc_stored.specs.{declared.view.EntryView.{EntryView}, Entries.{shelf_of}, Kept.{Kept}, Shelf.{is_kept, size_at, cells_in, cells_at, same_order}, Views.{view_of}}
 use Rattle.hc_stored.specs.Kept as entry
-use Rattle.hc_stored.specs.Kept.{Kept}
 use Rattle.hc_stored.specs.Shelf as shelf
-use Rattle.hc_stored.specs.Shelf.{is_kept, size_at, cells_in, cells_at, same_order}
-use Rattle.hc_stored.specs.Views.{view_of}
 use Rattle.hc_exch.specs.Exchanges as exch
-use Rattle.hc_exch.specs.Exchanges.{table_of}
+use Rattle.hc_exch.specs.{Exchanges.{table_of}, Known.{is_open, is_last_of, open_view}, declared.row.Open.{Open}}
 use Rattle.hc_exch.specs.Known as known
-use Rattle.hc_exch.specs.Known.{is_open, is_last_of, open_view}
-use Rattle.hc_exch.specs.declared.row.Open.{Open}
 use Rattle.hc_model.specs.LettingGo as going
 use Rattle.hc_model.specs.Sound as sound
-use Rattle.hc_effects.proofs.HoleLemmas.{none_of}
-use Rattle.hc_effects.proofs.Once.{IsTaken, delivers_once}
-use Rattle.hc_effects.proofs.SameTables.{is_in, without, all_go_is}
-use Rattle.hc_state.specs.declared.rows.Rows.{Rows}
-use Rattle.hc_state.specs.Facts.{Facts}
-use Rattle.hc_state.specs.Pieces.{unless_lost, stored_at, stored_by, larger_view, IsLastKind, PutsPiece}
-use Rattle.hc_state.specs.Room.{GivesWay}
-use Rattle.hc_state.specs.Stands.{Answered, Answers, RowsStand, Stands, open_at}
-use Rattle.hc_state.specs.Stops.{brought_by, IsViewOf}
-use Rattle.hc_state.specs.Stored.{IsEntry, KeepsEntry}
-use Rattle.hc_on_leave.proofs.PieceHandler.{Brought, brought_of, Runs, runs_of, brings_it, not_too_long}
-use Rattle.hc_on_leave.proofs.PieceRoom.{may_make_room, room_same, gives_same, spared, room_there}
-use Rattle.hc_on_leave.proofs.Gates.{denies_as}
-use Rattle.hc_state.proofs.Maps.{merely_true, merely_false}
-use Rattle.hc_on_leave.proofs.PieceKinds.{outside_behind}
-use Rattle.hc_on_leave.proofs.PieceRows.{IsLike, like_same, last_is}
-use Rattle.hc_state.proofs.Rooms.{used_is}
-use Rattle.hc_on_leave.proofs.StoredPiece.{written_alike, tells, stored_stands, stored_answered}
-use Rattle.std.proofs.Math.Logic.{∥∥₁_elim}
-use Rattle.std.proofs.Math.Seq.{take-append_seam}
-use Rattle.std.specs.Prelude.{take}
+use Rattle.hc_effects.proofs.{HoleLemmas.{none_of}, Once.{IsTaken, delivers_once}, SameTables.{is_in, without, all_go_is}, WeightsLeft.{fits_after}, Tests.{none_some}}
+use Rattle.hc_state.specs.{declared.rows.Rows.{Rows}, Facts.{Facts}, Pieces.{unless_lost, stored_at, stored_by, larger_view, IsLastKind, PutsPiece}, Room.{GivesWay}, Stands.{Answered, Answers, RowsStand, Stands, open_at}, Stops.{brought_by, IsViewOf}, Stored.{IsEntry, KeepsEntry}, Refused.{Refuses}}
+use Rattle.hc_on_leave.proofs.{PieceHandler.{Brought, brought_of, Runs, runs_of, brings_it, not_too_long}, PieceRoom.{may_make_room, room_same, gives_same, spared, room_there}, Gates.{denies_as}, PieceKinds.{outside_behind}, PieceRows.{IsLike, like_same, last_is}, StoredPiece.{written_alike, tells, stored_stands, stored_answered}, FoundHandler.{bound_without, make_gone}, RefusedPiece.{Refused, too_large, not_large}, Sets.{acts_set}}
+use Rattle.hc_state.proofs.{Maps.{merely_true, merely_false}, Rooms.{used_is}, ReaderSteps.{stands_read}}
 use Rattle.hc_text.proofs.Basics.{some_inj as some_is}
 use Rattle.hc_event.specs.declared.act.Act.TheVariants as act
 use Rattle.hc_event.specs.declared.act.LostKind.TheVariants as kinds
-use Rattle.hc_effects.proofs.WeightsLeft.{fits_after}
-use Rattle.hc_effects.proofs.Tests.{none_some}
-use Rattle.hc_state.specs.Refused.{Refuses}
-use Rattle.hc_on_leave.proofs.FoundHandler.{bound_without, make_gone}
-use Rattle.hc_state.proofs.ReaderSteps.{stands_read}
-use Rattle.hc_on_leave.proofs.RefusedPiece.{Refused, too_large, not_large}
 use Rattle.hc_on_leave.proofs.RefusedPiece as refusals_of
-use Rattle.hc_on_leave.proofs.Sets.{acts_set}
 
 -- WHAT IS STORED OF IT
 

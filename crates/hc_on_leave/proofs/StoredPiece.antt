@@ -1,45 +1,28 @@
 -- A piece is stored, after what is idle made room for it: what is kept represents the tables then.
-use Rattle.std.proofs.Common.{◌≡◌, ◌≢◌, inl, inr, ℕ, ◌+◌, ◌-◌, ◌<◌, ◌≤◌, ◌⊎◌, List, [], ◌∷◌, ◌++◌, length, max, Bool, true, false, Option, Some, None, refl, ap, sym, ◌∙◌, subst, arith}
+use Rattle.std.{proofs.Common.{◌≡◌, ◌≢◌, inl, inr, ℕ, ◌+◌, ◌-◌, ◌<◌, ◌≤◌, ◌⊎◌, List, [], ◌∷◌, ◌++◌, length, max, Bool, true, false, Option, Some, None, refl, ap, sym, ◌∙◌, subst, arith}, specs.Prelude.{is_some, nat_eq, not, slice_index, map, option_map, ◌==◌, ◌&&◌, if◌then◌else◌}}
 use mathlib.Core.Path.{fun_ext}
-use Rattle.std.specs.Prelude.{is_some, nat_eq, not, slice_index, map, option_map, ◌==◌, ◌&&◌, if◌then◌else◌}
 use Rattle.hc_text.proofs.Basics.{eqb-other, eqb-same, false_true, any_none as none_passes, never_true as not_true, same_or, some_inj as some_is}
-use Rattle.hc_store.specs.declared.backend.Backend.{Ghosts}
-use Rattle.hc_store.specs.Heads.{with_kind}
+use Rattle.hc_store.specs.{declared.backend.Backend.{Ghosts}, Heads.{with_kind}}
 use Rattle.hc_sparse.specs.Cells.{Cell, Cells, Covers, inside, cells_with}
-use Rattle.hc_record.specs.Head.{Head, sealed_head}
-use Rattle.hc_record.specs.declared.kind.Kind.{Kind}
+use Rattle.hc_record.specs.{Head.{Head, sealed_head}, declared.kind.Kind.{Kind}}
 use Rattle.hc_record.specs.declared.kind.Kind.TheVariants as kinds
 use Rattle.hc_effects.proofs.Vocabulary.{Act, Response, overlong, Limits, denial, with_event, let_all_go, with_exchange, with_representation, as_gone, with_piece, family, front, promised_bytes, NoFlaw, flaw_in, Grows, IsMeasured, kind_of, is_growing, brings_to, is_complete, is_front, bound, with_stored_bytes, Tables, Exchange, Representation, has_room, room_for, evicted}
 use Rattle.hc_event.specs.declared.act.Act.TheVariants as act
 use Rattle.hc_event.specs.declared.event.Event.TheVariants as event
-use Rattle.hc_stored.specs.Entries.{shelf_of}
+use Rattle.hc_stored.specs.{Entries.{shelf_of}, Kept.{Kept}, Shelf.{same_order}}
 use Rattle.hc_stored.specs.Kept as entry
-use Rattle.hc_stored.specs.Kept.{Kept}
 use Rattle.hc_stored.specs.Shelf as shelf
-use Rattle.hc_stored.specs.Shelf.{same_order}
 use Rattle.hc_exch.specs.Exchanges as exch
 use Rattle.hc_exch.specs.Known as known
 use Rattle.hc_model.specs.Measures as measures
 use Rattle.hc_model.specs.Kinds as stored_kinds
 use Rattle.hc_model.specs.Rows as rows
 use Rattle.hc_model.specs.Sound as sound
-use Rattle.hc_effects.proofs.HoleLemmas.{covers_all}
-use Rattle.hc_effects.proofs.Once.{delivers_once}
+use Rattle.hc_effects.proofs.{HoleLemmas.{covers_all}, Once.{delivers_once}, SameTables.{is_in, without, all_go_is}, Tests.{none_some}}
 use Rattle.hc_effects.proofs.PieceEffects as does
-use Rattle.hc_effects.proofs.SameTables.{is_in, without, all_go_is}
-use Rattle.hc_effects.proofs.Tests.{none_some}
-use Rattle.hc_state.proofs.Ties.{overs_open, writer_then}
-use Rattle.hc_state.specs.declared.rows.Rows.{Rows}
-use Rattle.hc_state.specs.Facts.{Facts}
-use Rattle.hc_state.specs.Kept.{held_alone, held_of, held_for}
-use Rattle.hc_state.specs.Pieces.{IsLastKind, more, ends}
-use Rattle.hc_state.specs.Stands.{Answered, RowsStand}
-use Rattle.hc_state.specs.Stops.{kind_left}
-use Rattle.hc_state.specs.Stored.{IsEntry, TellsLength, told, untold, KeepsEntry}
-use Rattle.hc_state.proofs.Fallbacks.{unstored_moved}
-use Rattle.hc_state.proofs.OneOfEach.{first_by}
-use Rattle.hc_on_leave.proofs.PieceHandler.{Runs, runs_of, open_unended, not_overlong}
-use Rattle.hc_on_leave.proofs.PieceRows.{s, IsLike, like_same, grows_on, stands_pieced}
+use Rattle.hc_state.proofs.{Ties.{overs_open, writer_then}, Fallbacks.{unstored_moved}, OneOfEach.{first_by}}
+use Rattle.hc_state.specs.{declared.rows.Rows.{Rows}, Facts.{Facts}, Kept.{held_alone, held_of, held_for}, Pieces.{IsLastKind, more, ends}, Stands.{Answered, RowsStand}, Stops.{kind_left}, Stored.{IsEntry, TellsLength, told, untold, KeepsEntry}}
+use Rattle.hc_on_leave.proofs.{PieceHandler.{Runs, runs_of, open_unended, not_overlong}, PieceRows.{s, IsLike, like_same, grows_on, stands_pieced}}
 
 still_there : (a : Bool) (cell : Cell) (o : Option Cell) → is_some o ≡ true → is_some (if a then Some cell else o) ≡ true
 still_there true cell o on = refl

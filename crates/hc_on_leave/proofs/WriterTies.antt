@@ -1,30 +1,17 @@
 -- Who writes what is stored alone, by what is kept, is who does by the tables.
-use Rattle.std.proofs.Common.{◌≡◌, ◌⊎◌, inl, inr, ℕ, ◌+◌, ◌<◌, ◌≤◌, ◌^◌, Bool, true, false, max, Option, Some, None, refl, ap, sym, ◌∙◌, subst, arith}
-use Rattle.std.proofs.lemmas.Bool.Decides.{nat_tests}
-use Rattle.std.specs.Prelude.{is_some, nat_eq, not, ◌&&◌, ◌↔◌, IsTrue}
-use Rattle.std.specs.Option.{option_and_then}
-use Rattle.std.specs.HashMap.{get}
+use Rattle.std.{proofs.{Common.{◌≡◌, ◌⊎◌, inl, inr, ℕ, ◌+◌, ◌<◌, ◌≤◌, ◌^◌, Bool, true, false, max, Option, Some, None, refl, ap, sym, ◌∙◌, subst, arith}, lemmas.Bool.Decides.{nat_tests}}, specs.{Prelude.{is_some, nat_eq, not, ◌&&◌, ◌↔◌, IsTrue}, Option.{option_and_then}, HashMap.{get}}}
 use Rattle.hc_text.proofs.Basics.{eqb-same, false_true, some_inj as some_is}
 use Rattle.hc_effects.proofs.Vocabulary.{Limits, Place, BoundBy, is_number, own_open, if_open, is_written, is_bound_place, offset, lo_of, Numbers, Tables, Representation, IsFirst, IsBound, exclusive, has_more, lacks_some, came_alone}
 use Rattle.hc_store.specs.declared.backend.Backend.{Ghosts}
 use Rattle.hc_sparse.specs.Cells.{Covers}
-use Rattle.hc_stored.specs.Entries.{shelf_of}
-use Rattle.hc_stored.specs.Kept.{Kept}
-use Rattle.hc_stored.specs.Shelf.{cells_at, cells_in, is_kept}
+use Rattle.hc_stored.specs.{Entries.{shelf_of}, Kept.{Kept}, Shelf.{cells_at, cells_in, is_kept}}
 use Rattle.hc_exch.specs.Exchanges.{table_of}
 use Rattle.hc_event.specs.declared.place.Place.TheVariants as place
 use Rattle.hc_model.specs.Rows as rows
 use Rattle.hc_model.specs.Sound as sound
 use Rattle.hc_effects.proofs.Exclusives.{exclusive_parts}
-use Rattle.hc_state.specs.declared.consumer.Consumer.{Consumer}
-use Rattle.hc_state.specs.declared.rows.Rows.{Rows}
-use Rattle.hc_state.specs.Facts.{Facts}
-use Rattle.hc_state.specs.Kept.{IsKept, KeepsConsumer}
-use Rattle.hc_state.specs.Leaving.{if_running, writing_of}
-use Rattle.hc_state.specs.Stands.{RowsStand}
-use Rattle.hc_state.specs.Stored.{IsEntry, is_first}
-use Rattle.hc_state.proofs.CurrentTies.{stored_ends, covers_as, kept_entry}
-use Rattle.hc_state.proofs.LeftRows.{running_as, writing_as}
+use Rattle.hc_state.specs.{declared.{consumer.Consumer.{Consumer}, rows.Rows.{Rows}}, Facts.{Facts}, Kept.{IsKept, KeepsConsumer}, Leaving.{if_running, writing_of}, Stands.{RowsStand}, Stored.{IsEntry, is_first}}
+use Rattle.hc_state.proofs.{CurrentTies.{stored_ends, covers_as, kept_entry}, LeftRows.{running_as, writing_as}}
 
 -- HAS MORE
 

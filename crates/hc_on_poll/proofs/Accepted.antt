@@ -1,7 +1,5 @@
 -- What an event says that isn't denied.
-use Rattle.std.proofs.Common.{◌≡◌, ℕ, ◌<◌, List, length, Bool, true, false, Option, Some, None, refl, sym, arith}
-use Rattle.std.proofs.lemmas.Bool.Decides.{nat_tests}
-use Rattle.std.specs.Prelude.{nat_le, nat_lt, ◌==◌, if◌then◌else◌, not}
+use Rattle.std.{proofs.{Common.{◌≡◌, ℕ, ◌<◌, List, length, Bool, true, false, Option, Some, None, refl, sym, arith}, lemmas.Bool.Decides.{nat_tests}}, specs.Prelude.{nat_le, nat_lt, ◌==◌, if◌then◌else◌, not}}
 use Rattle.hc_text.proofs.Basics.{not_false as not_off}
 use Rattle.hc_event.specs.declared.event.Event.TheVariants as event
 use Rattle.hc_effects.proofs.Vocabulary.{Request, Response, Refusal, Gate, refusal_of, head_refusal, piece_refusal, end_refusal, fault_refusal}

@@ -1,12 +1,7 @@
 -- What is stored ahead of a reader: as much as it wants, and not past its end.
-use Rattle.std.proofs.Common.{◌≡◌, inl, inr, ℕ, ◌+◌, ◌-◌, ◌<◌, ◌≤◌, length, min, true, false, Option, Some, None, refl, ap, sym, ◌∙◌, subst, arith}
-use Rattle.std.proofs.lemmas.Bool.Decides.{nat_tests}
-use Rattle.std.specs.Prelude.{is_some, slice_index}
+use Rattle.std.{proofs.{Common.{◌≡◌, inl, inr, ℕ, ◌+◌, ◌-◌, ◌<◌, ◌≤◌, length, min, true, false, Option, Some, None, refl, ap, sym, ◌∙◌, subst, arith}, lemmas.Bool.Decides.{nat_tests}}, specs.Prelude.{is_some, slice_index}}
 use Rattle.hc_text.proofs.Basics.{false_true, lt_or, some_inj as some_is}
-use Rattle.hc_sparse.specs.Cells.{Cells, Cell, EndsBy}
-use Rattle.hc_sparse.specs.Runs.{end_of}
-use Rattle.hc_sparse.specs.Stretch.{stretch, IsLongest}
-use Rattle.hc_sparse.specs.declared.run.Run.{Run}
+use Rattle.hc_sparse.specs.{Cells.{Cells, Cell, EndsBy}, Runs.{end_of}, Stretch.{stretch, IsLongest}, declared.run.Run.{Run}}
 use Rattle.hc_sparse.proofs.StretchLemmas.{stretch-absent, stretch-longest, stretch-only}
 use Rattle.hc_effects.proofs.Vocabulary.{is_at_end, cut_at, stretch_to}
 use Rattle.hc_effects.proofs.Tests.{none_some}

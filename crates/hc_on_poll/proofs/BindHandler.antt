@@ -1,14 +1,8 @@
 -- A consumer is bound to what is current by its plan, and shown its head.
-use Rattle.std.proofs.Common.{◌≡◌, ◌≢◌, ℕ, ◌+◌, List, ◌∷◌, [], ◌++◌, Bool, true, Option, Some, None, refl, ap, sym, ◌∙◌, subst, arith}
-use Rattle.std.specs.Prelude.{nat_eq, is_some, option_map}
-use Rattle.std.specs.HashMap.{get}
-use Rattle.std.specs.Option.{option_or}
+use Rattle.std.{proofs.Common.{◌≡◌, ◌≢◌, ℕ, ◌+◌, List, ◌∷◌, [], ◌++◌, Bool, true, Option, Some, None, refl, ap, sym, ◌∙◌, subst, arith, inl, inr}, specs.{Prelude.{nat_eq, is_some, option_map}, HashMap.{get}, Option.{option_or}}}
 use Rattle.hc_store.specs.declared.backend.Backend.{Ghosts}
 use Rattle.hc_entry.specs.Keys.{kept_of}
-use Rattle.hc_stored.specs.declared.entries.Entries.{Entries}
-use Rattle.hc_stored.specs.Entries.{shelf_of}
-use Rattle.hc_stored.specs.Kept.{Kept, with_user}
-use Rattle.hc_stored.specs.Shelf.{moved_first}
+use Rattle.hc_stored.specs.{declared.entries.Entries.{Entries}, Entries.{shelf_of}, Kept.{Kept, with_user}, Shelf.{moved_first}}
 use Rattle.hc_stored.specs.Shelf as shelf
 use Rattle.hc_effects.proofs.Vocabulary.{Act, Why, Response, Limits, current, total_in, is_live, with_event, with_consumer, used_last, kind_of, Lawful, Shows, acts_of, span_to, move_of, Tables, Exchange, Representation}
 use Rattle.hc_event.specs.declared.act.Act.TheVariants as act
@@ -21,30 +15,9 @@ use Rattle.hc_event.specs.declared.place.Place.TheVariants as place
 use Rattle.hc_event.specs.declared.place.BoundBy.TheVariants as by
 use Rattle.hc_model.specs.Rows as rows
 use Rattle.hc_effects.proofs.ShowEffects.{shows_new}
-use Rattle.hc_state.specs.declared.consumer.Consumer.{Consumer}
-use Rattle.hc_state.specs.declared.rows.Rows.{Rows}
-use Rattle.hc_state.specs.Handlers.{IsLeft, LeavesLine}
-use Rattle.hc_state.specs.Changes.{Numbered, ChangesAt, bound_shown}
-use Rattle.hc_state.specs.Kept.{IsKept, KeepsConsumer, KeepsExchange, held_for}
-use Rattle.hc_state.specs.Lines.{KeepsKey}
-use Rattle.hc_state.specs.Plans.{is_idle_at, begin_of, end_of, shows_part, HasCurrent}
-use Rattle.hc_state.specs.Stands.{Answered, RowsStand}
-use Rattle.hc_state.specs.Stored.{KeepsEntries}
-use Rattle.hc_state.proofs.Answering.{does_answered}
-use Rattle.hc_state.proofs.Fallbacks.{answer_fallback}
-use Rattle.hc_state.proofs.FallbackSteps.{length_same, live_same}
-use Rattle.hc_on_poll.proofs.BoundHandler.{held_bound, entry_with, entries_bound}
-use Rattle.hc_state.proofs.Counting.{stands_counted}
-use Rattle.hc_state.proofs.CurrentTies.{now_kept, total_told}
-use Rattle.hc_state.proofs.KeySteps.{apart_unsaid}
-use Rattle.hc_state.proofs.Maps.{known_of}
-use Rattle.hc_state.proofs.OneOfEach.{stands_then}
-use Rattle.hc_on_poll.proofs.OpenHandler.{unread_yet}
-use Rattle.hc_on_poll.proofs.PassesHandler.{current_as}
-use Rattle.hc_on_poll.proofs.PastHandler.{idle_reads, idle_lives, keys_past}
-use Rattle.hc_state.proofs.QueueHandler.{becomes_by}
-use Rattle.hc_state.proofs.Ties.{exchange_same, key_same}
-use Rattle.std.proofs.Common.{inl, inr}
+use Rattle.hc_state.specs.{declared.{consumer.Consumer.{Consumer}, rows.Rows.{Rows}}, Handlers.{IsLeft, LeavesLine}, Changes.{Numbered, ChangesAt, bound_shown}, Kept.{IsKept, KeepsConsumer, KeepsExchange, held_for}, Lines.{KeepsKey}, Plans.{is_idle_at, begin_of, end_of, shows_part, HasCurrent}, Stands.{Answered, RowsStand}, Stored.{KeepsEntries}}
+use Rattle.hc_state.proofs.{Answering.{does_answered}, Fallbacks.{answer_fallback}, FallbackSteps.{length_same, live_same}, Counting.{stands_counted}, CurrentTies.{now_kept, total_told}, KeySteps.{apart_unsaid}, Maps.{known_of}, OneOfEach.{stands_then}, QueueHandler.{becomes_by}, Ties.{exchange_same, key_same}}
+use Rattle.hc_on_poll.proofs.{BoundHandler.{held_bound, entry_with, entries_bound}, OpenHandler.{unread_yet}, PassesHandler.{current_as}, PastHandler.{idle_reads, idle_lives, keys_past}}
 use Rattle.hc_text.proofs.Basics.{eqb-other, eqb-same, same_or, some_inj as some_is}
 
 module _ {B : Type 0} {g : Ghosts B} {limits : Limits} (r mid : Rows B g) (a : Entries B g) (m : Numbered Consumer) (t : Tables) (law : Lawful t) (c q lo : ℕ) (hi : Option ℕ) (k : Consumer) (v : rows.Consumer) (stands : RowsStand limits r t) (there : get nat_eq r.consumers c ≡ Some k) (row : t.consumer c ≡ Some v) (idle : is_idle_at k.place ≡ true)

@@ -1,46 +1,23 @@
 -- Who is bound is given what is stored ahead of it, or what is held for it, or waits for more: what is kept represents the tables then.
-use Rattle.std.proofs.Common.{◌≡◌, ◌≢◌, inl, inr, ℕ, zero, suc, ◌+◌, ◌-◌, ◌<◌, ◌≤◌, List, [], ◌++◌, length, drop, take, min, Bool, true, false, Option, Some, None, refl, ap, ap₂, sym, ◌∙◌, subst, arith}
-use Rattle.std.proofs.Math.ListN.{drop_of_length-le}
-use Rattle.std.proofs.lemmas.Bool.Decides.{nat_tests}
-use Rattle.std.proofs.lemmas.Grind.{common_steps}
-use Rattle.std.specs.Prelude.{is_some, is_none, nat_eq, ◌&&◌, if◌then◌else◌}
-use Rattle.std.specs.HashMap.{get}
+use Rattle.std.{proofs.{Common.{◌≡◌, ◌≢◌, inl, inr, ℕ, zero, suc, ◌+◌, ◌-◌, ◌<◌, ◌≤◌, List, [], ◌++◌, length, drop, take, min, Bool, true, false, Option, Some, None, refl, ap, ap₂, sym, ◌∙◌, subst, arith}, Math.ListN.{drop_of_length-le}, lemmas.{Bool.Decides.{nat_tests}, Grind.{common_steps}}}, specs.{Prelude.{is_some, is_none, nat_eq, ◌&&◌, if◌then◌else◌}, HashMap.{get}}}
 use Rattle.hc_text.proofs.Basics.{and_both as both_true, eqb-other, eqb-same, false_true, lt_cases as lt_or, same_or, same_some as same_row}
 use Rattle.hc_effects.proofs.Vocabulary.{Limits, Act, Event, BoundBy, is_number, Does, with_consumer, with_ask, with_event, base, front, family, NoFlaw, first_place, absent_from, Gives, Asks, acts_of, move_of, is_bound_place, lo_of, offset, Tables, Exchange, Representation}
 use Rattle.hc_store.specs.declared.backend.Backend.{Ghosts}
 use Rattle.hc_event.specs.declared.act.Wait.TheVariants as wait
 use Rattle.hc_event.specs.declared.event.Event.TheVariants as event
-use Rattle.hc_sparse.specs.Cells.{Cells}
-use Rattle.hc_sparse.specs.Runs.{end_of}
-use Rattle.hc_sparse.specs.declared.run.Run.{Run}
+use Rattle.hc_sparse.specs.{Cells.{Cells}, Runs.{end_of}, declared.run.Run.{Run}}
 use Rattle.hc_stored.specs.Entries.{shelf_of}
 use Rattle.hc_stored.specs.Shelf as shelf
 use Rattle.hc_exch.specs.Exchanges as exch
-use Rattle.hc_exch.specs.Exchanges.{table_of, next_of}
+use Rattle.hc_exch.specs.{Exchanges.{table_of, next_of}, Known.{Known}}
 use Rattle.hc_exch.specs.Known as known
-use Rattle.hc_exch.specs.Known.{Known}
 use Rattle.hc_event.specs.declared.place.Place.TheVariants as place
 use Rattle.hc_model.specs.Moves as moves
 use Rattle.hc_model.specs.Rows as rows
-use Rattle.hc_effects.proofs.AskEffects.{asks}
-use Rattle.hc_effects.proofs.GiveEffects.{gives_bytes}
-use Rattle.hc_effects.proofs.WaitEffects.{waits_on}
-use Rattle.hc_state.specs.declared.consumer.Consumer.{Consumer}
-use Rattle.hc_state.specs.declared.rows.Rows.{Rows}
-use Rattle.hc_state.specs.Handlers.{asks_or_waits, asked_in, given_acts}
-use Rattle.hc_state.specs.Changes.{ChangesAt, once_given}
-use Rattle.hc_state.specs.Facts.{Facts}
-use Rattle.hc_state.specs.Kept.{KeepsExchange, KeepsRunning, held_for, held_of, held_alone, unread, unstored_bytes, first_lacking}
-use Rattle.hc_state.specs.Stands.{RowsStand, Answered}
-use Rattle.hc_state.proofs.Answering.{does_answered}
-use Rattle.hc_on_poll.proofs.Asking.{stands_asked, stands_asked_already}
-use Rattle.hc_on_poll.proofs.BoundViews.{Holds, absent_here, offset_is, unstored_own, unread_bound}
-use Rattle.hc_state.proofs.Counting.{stands_counted}
-use Rattle.hc_state.proofs.QueueHandler.{becomes_by}
-use Rattle.hc_state.proofs.ReaderSteps.{held_same, exchange_reading, stands_reading}
-use Rattle.hc_on_poll.proofs.ShowStored.{IsBoundRow}
-use Rattle.hc_on_poll.proofs.ReadPast.{itself}
-use Rattle.hc_state.proofs.Ties.{runs_same}
+use Rattle.hc_effects.proofs.{AskEffects.{asks}, GiveEffects.{gives_bytes}, WaitEffects.{waits_on}}
+use Rattle.hc_state.specs.{declared.{consumer.Consumer.{Consumer}, rows.Rows.{Rows}}, Handlers.{asks_or_waits, asked_in, given_acts}, Changes.{ChangesAt, once_given}, Facts.{Facts}, Kept.{KeepsExchange, KeepsRunning, held_for, held_of, held_alone, unread, unstored_bytes, first_lacking}, Stands.{RowsStand, Answered}}
+use Rattle.hc_state.proofs.{Answering.{does_answered}, Counting.{stands_counted}, QueueHandler.{becomes_by}, ReaderSteps.{held_same, exchange_reading, stands_reading}, Ties.{runs_same}}
+use Rattle.hc_on_poll.proofs.{Asking.{stands_asked, stands_asked_already}, BoundViews.{Holds, absent_here, offset_is, unstored_own, unread_bound}, ShowStored.{IsBoundRow}, ReadPast.{itself}}
 use Rattle.hc_partial.proofs.HoleLemmas.{present-none}
 
 -- WHAT ISN'T STORED, PAST WHAT IS

@@ -1,24 +1,17 @@
 -- A consumer that read nothing becomes bound to what is current: what is held, and the representations, represent the tables then.
-use Rattle.std.proofs.Common.{◌≡◌, ◌≢◌, inl, inr, ℕ, List, [], ◌∷◌, Bool, true, false, Option, Some, None, refl, ap, sym, ◌∙◌, subst}
-use Rattle.std.specs.Prelude.{filter, not, option_map, ◌==◌, ◌&&◌}
+use Rattle.std.{proofs.Common.{◌≡◌, ◌≢◌, inl, inr, ℕ, List, [], ◌∷◌, Bool, true, false, Option, Some, None, refl, ap, sym, ◌∙◌, subst}, specs.Prelude.{filter, not, option_map, ◌==◌, ◌&&◌}}
 use Rattle.hc_text.proofs.Basics.{eqb-other, eqb-same, false_true, same_or, same_some as same_row, and_off as then_false}
 use Rattle.hc_sorted.specs.Sorted.{has, with_item, without}
 use Rattle.hc_sorted.proofs.SortedLemmas.{has-with}
-use Rattle.hc_stored.specs.Kept.{Kept, itself, with_user, with_first}
-use Rattle.hc_stored.specs.Shelf.{Shelf, Becomes, moved_first}
+use Rattle.hc_stored.specs.{Kept.{Kept, itself, with_user, with_first}, Shelf.{Shelf, Becomes, moved_first}}
 use Rattle.hc_effects.proofs.Vocabulary.{Place, BoundBy, is_number, family, kind_of, Lawful, reads, is_bound, is_bound_place, Tables, Exchange, Representation, came_alone}
 use Rattle.hc_effects.proofs.Tests.{and_false, none_some}
 use Rattle.hc_event.specs.declared.place.Place.TheVariants as place
 use Rattle.hc_event.specs.declared.place.BoundBy.TheVariants as by
 use Rattle.hc_model.specs.Rows as rows
-use Rattle.hc_state.specs.Kept.{held_for, held_of, held_alone, unread, unstored_bytes}
-use Rattle.hc_state.specs.Stored.{IsEntry, KeepsEntry, KeepsEntries, is_first, is_usable_row}
+use Rattle.hc_state.specs.{Kept.{held_for, held_of, held_alone, unread, unstored_bytes}, Stored.{IsEntry, KeepsEntry, KeepsEntries, is_first, is_usable_row}}
 use Rattle.hc_state.specs.Stored as stored
-use Rattle.hc_state.proofs.Fallbacks.{unread_fallback, unstored_fallback, unstored_moved}
-use Rattle.hc_state.proofs.FallbackSteps.{first_fallback}
-use Rattle.hc_state.proofs.CurrentTies.{stays_stored, total_told}
-use Rattle.hc_state.proofs.OneOfEach.{first_row, bound_same}
-use Rattle.hc_state.proofs.Ties.{entry_same, OversStay, writer_then}
+use Rattle.hc_state.proofs.{Fallbacks.{unread_fallback, unstored_fallback, unstored_moved}, FallbackSteps.{first_fallback}, CurrentTies.{stays_stored, total_told}, OneOfEach.{first_row, bound_same}, Ties.{entry_same, OversStay, writer_then}}
 
 -- LISTS
 

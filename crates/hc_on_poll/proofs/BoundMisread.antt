@@ -1,31 +1,16 @@
 -- A read of what a consumer is bound to failed: its poll is answered by that.
-use Rattle.std.proofs.Common.{◌≡◌, ℕ, ◌+◌, ◌<◌, ◌≤◌, List, Option, Some, None, ap, ap₂, sym, ◌∙◌}
-use Rattle.std.specs.Prelude.{nat_eq, IsSomeAnd, if◌then◌else◌, ◌==◌}
-use Rattle.std.specs.HashMap.{get}
+use Rattle.std.{proofs.Common.{◌≡◌, ℕ, ◌+◌, ◌<◌, ◌≤◌, List, Option, Some, None, ap, ap₂, sym, ◌∙◌}, specs.{Prelude.{nat_eq, IsSomeAnd, if◌then◌else◌, ◌==◌}, HashMap.{get}}}
 use Rattle.hc_text.proofs.Basics.{eqb-same}
 use Rattle.hc_store.specs.declared.backend.Backend.{Ghosts}
 use Rattle.hc_effects.proofs.Vocabulary.{Act, Event, Limits, BoundBy, is_bound_place, Tables}
 use Rattle.hc_event.specs.declared.event.Event.TheVariants as event
-use Rattle.hc_stored.specs.declared.entries.Entries.{Entries}
-use Rattle.hc_stored.specs.Entries.{shelf_of}
-use Rattle.hc_stored.specs.Kept.{Kept}
-use Rattle.hc_stored.specs.Shelf.{Shelf, Stays, cells_in}
-use Rattle.hc_sparse.specs.Stretch.{stretch}
-use Rattle.hc_sparse.specs.declared.run.Run.{Run}
-use Rattle.hc_exch.specs.declared.exchanges.Exchanges.{Exchanges}
-use Rattle.hc_exch.specs.Exchanges.{table_of}
-use Rattle.hc_state.specs.Handlers.{most}
-use Rattle.hc_state.specs.Changes.{Numbered}
-use Rattle.hc_state.specs.declared.consumer.Consumer.{Consumer}
-use Rattle.hc_state.specs.declared.rows.Rows.{Rows}
-use Rattle.hc_state.specs.Facts.{Facts}
-use Rattle.hc_state.specs.Reads.{AnswersMisread, IsBoundBy, WaitsForNoHead, IsShownAt, ReadsStore, bound, headless_own, run_ahead}
-use Rattle.hc_state.specs.Stands.{RowsStand, Answered, Answers}
+use Rattle.hc_stored.specs.{declared.entries.Entries.{Entries}, Entries.{shelf_of}, Kept.{Kept}, Shelf.{Shelf, Stays, cells_in}}
+use Rattle.hc_sparse.specs.{Stretch.{stretch}, declared.run.Run.{Run}}
+use Rattle.hc_exch.specs.{declared.exchanges.Exchanges.{Exchanges}, Exchanges.{table_of}}
+use Rattle.hc_state.specs.{Handlers.{most}, Changes.{Numbered}, declared.{consumer.Consumer.{Consumer}, rows.Rows.{Rows}}, Facts.{Facts}, Reads.{AnswersMisread, IsBoundBy, WaitsForNoHead, IsShownAt, ReadsStore, bound, headless_own, run_ahead}, Stands.{RowsStand, Answered, Answers}}
 use Rattle.hc_on_poll.specs.Ready.{ReadsAhead}
-use Rattle.hc_on_poll.proofs.PlanHandlers.{read_stands}
-use Rattle.hc_state.proofs.Maps.{some_that}
-use Rattle.hc_state.proofs.ReaderSteps.{stands_read, answered_since}
-use Rattle.hc_on_poll.proofs.ShowStored.{bound_row_of}
+use Rattle.hc_on_poll.proofs.{PlanHandlers.{read_stands}, ShowStored.{bound_row_of}}
+use Rattle.hc_state.proofs.{Maps.{some_that}, ReaderSteps.{stands_read, answered_since}}
 
 module _ {B : Type 0} {g : Ghosts B} (r : Rows B g) (a : Entries B g) (stays : Stays (shelf_of r.entries) (shelf_of a)) (failed : (shelf_of r.entries).faults < (shelf_of a).faults) (u : Rows B g) (before out : List Act) (now c q : ℕ) (k : Consumer) (there : get nat_eq r.consumers c ≡ Some k) where
   pub misread_answered : (how : _) → IsBoundBy q how k → AnswersMisread (record r { entries = a }) u before out now c q → (want : ℕ) (limits : Limits) (t : Tables) → Facts limits t → RowsStand limits r t → Answered limits (shelf_of r.entries).faults u t before out now (event.Poll c want)

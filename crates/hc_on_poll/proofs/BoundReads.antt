@@ -1,51 +1,28 @@
 -- Polls of who is bound and was shown its head: the step of what is looked at is the move of the tables.
-use Rattle.std.proofs.Common.{◌≡◌, ◌⊎◌, inl, inr, ℕ, ◌+◌, ◌-◌, ◌<◌, ◌≤◌, ◌^◌, min, Bool, true, false, Option, Some, None, refl, ap, ap₂, sym, ◌∙◌, subst, arith}
-use Rattle.std.proofs.lemmas.Bool.Decides.{nat_tests}
-use Rattle.std.proofs.lemmas.List.{length-drop, length-take}
-use Rattle.std.specs.Prelude.{List, length, take, unwrap_or, is_some, is_none, nat_eq, nat_lt, option_and_then, option_map, ◌==◌, ◌&&◌, if◌then◌else◌}
-use Rattle.std.specs.Option.{option_or}
+use Rattle.std.{proofs.{Common.{◌≡◌, ◌⊎◌, inl, inr, ℕ, ◌+◌, ◌-◌, ◌<◌, ◌≤◌, ◌^◌, min, Bool, true, false, Option, Some, None, refl, ap, ap₂, sym, ◌∙◌, subst, arith}, lemmas.{Bool.Decides.{nat_tests}, List.{length-drop, length-take}}}, specs.{Prelude.{List, length, take, unwrap_or, is_some, is_none, nat_eq, nat_lt, option_and_then, option_map, ◌==◌, ◌&&◌, if◌then◌else◌}, Option.{option_or}}}
 use Rattle.hc_text.proofs.Basics.{eqb-same, false_true, none_of, same_or, same_some as same_row, some_inj as some_is}
 use Rattle.hc_effects.proofs.Vocabulary.{Limits, Cause, Request, ReadStep, ReadView, read_step, is_at_end, cut_at, stored_or, held_or, fails_or, waits_or, hole_end, BoundBy, Place, is_number, total_in, base, is_headless, is_open, stretch_to, Move, Opens, Gives, Ends, Fails, gives, waits_for, opens_hole, hole_request, planned_move, move_of, shows_head, shows_at, if_headless, waits_for_head, by_place, or_else, own_open, shared_exchange, source, offset, hi_of, lo_of, if_open, is_written, writing_in, Numbers, Tables, Exchange, Representation, IsBound, IsFirst, IsExclusiveWriter, IsServed, came_alone, reading, step_move, later_hole, run_held_for, stored_ahead, next_stored, run_of}
 use Rattle.hc_store.specs.declared.backend.Backend.{Ghosts}
 use Rattle.hc_event.specs.declared.act.Need.TheVariants as need
 use Rattle.hc_event.specs.declared.act.Wait.TheVariants as wait
-use Rattle.hc_range.specs.Spans.{IsWithin}
-use Rattle.hc_range.specs.declared.range.Span.{Span}
+use Rattle.hc_range.specs.{Spans.{IsWithin}, declared.range.Span.{Span}}
 use Rattle.hc_record.specs.Head.{Head}
-use Rattle.hc_sparse.specs.Cells.{Cells, Cell, Covers, IsNext}
-use Rattle.hc_sparse.specs.Runs.{end_of}
-use Rattle.hc_sparse.specs.Stretch.{stretch}
-use Rattle.hc_sparse.specs.declared.run.Run.{Run}
+use Rattle.hc_sparse.specs.{Cells.{Cells, Cell, Covers, IsNext}, Runs.{end_of}, Stretch.{stretch}, declared.run.Run.{Run}}
 use Rattle.hc_sparse.proofs.StretchLemmas.{stretch-absent}
 use Rattle.hc_rules.specs.declared.reading.ReadStep.TheVariants as step
-use Rattle.hc_stored.specs.Entries.{shelf_of}
+use Rattle.hc_stored.specs.{Entries.{shelf_of}, Shelf.{cells_at, head_at}}
 use Rattle.hc_stored.specs.Kept as entry
-use Rattle.hc_stored.specs.Shelf.{cells_at, head_at}
-use Rattle.hc_exch.specs.Exchanges.{table_of, next_of}
-use Rattle.hc_exch.specs.Known.{Table}
+use Rattle.hc_exch.specs.{Exchanges.{table_of, next_of}, Known.{Table}, declared.row.Open.{Open}}
 use Rattle.hc_exch.specs.Known as known
-use Rattle.hc_exch.specs.declared.row.Open.{Open}
 use Rattle.hc_event.specs.declared.place.Place.TheVariants as place
 use Rattle.hc_model.specs.Moves as moves
 use Rattle.hc_model.specs.Rows as rows
 use Rattle.hc_model.specs.Sound as sound
-use Rattle.hc_effects.proofs.ExclusiveWriters.{writer_some}
-use Rattle.hc_effects.proofs.Tests.{none_some}
+use Rattle.hc_effects.proofs.{ExclusiveWriters.{writer_some}, Tests.{none_some}}
 use Rattle.hc_model.specs.Steps as steps
-use Rattle.hc_state.specs.declared.consumer.Consumer.{Consumer}
-use Rattle.hc_state.specs.declared.rows.Rows.{Rows}
-use Rattle.hc_state.specs.Handlers.{most, asks_or_waits, asked_in}
-use Rattle.hc_state.specs.Facts.{Facts}
-use Rattle.hc_state.specs.Kept.{KeepsRunning}
-use Rattle.hc_state.specs.Leaving.{if_running, writing_of}
-use Rattle.hc_state.specs.Reads.{goes_alone, held_own, bound_view, headless_own, is_headless_open, WaitsForNoHead, IsRunAhead, ReadViewIs}
-use Rattle.hc_state.specs.Stands.{RowsStand}
-use Rattle.hc_state.specs.Stored.{IsEntry, TellsLength, told, untold}
-use Rattle.hc_on_poll.proofs.Ahead.{IsAhead, ahead, none_ahead}
-use Rattle.hc_on_poll.proofs.BoundViews.{Holds, next_as, offset_is, entry_there, entry_is, cells_are, ends_by, bound_at, ahead_is, next_ahead, source_is, held_is, held_same, holds_something, lost_run}
+use Rattle.hc_state.specs.{declared.{consumer.Consumer.{Consumer}, rows.Rows.{Rows}}, Handlers.{most, asks_or_waits, asked_in}, Facts.{Facts}, Kept.{KeepsRunning}, Leaving.{if_running, writing_of}, Reads.{goes_alone, held_own, bound_view, headless_own, is_headless_open, WaitsForNoHead, IsRunAhead, ReadViewIs}, Stands.{RowsStand}, Stored.{IsEntry, TellsLength, told, untold}}
+use Rattle.hc_on_poll.proofs.{Ahead.{IsAhead, ahead, none_ahead}, BoundViews.{Holds, next_as, offset_is, entry_there, entry_is, cells_are, ends_by, bound_at, ahead_is, next_ahead, source_is, held_is, held_same, holds_something, lost_run}, ReadLemmas.{third_is, some_more}, ShowStored.{IsBoundRow, headless_as}}
 use Rattle.hc_on_poll.proofs.ReadLemmas as lemmas
-use Rattle.hc_on_poll.proofs.ReadLemmas.{third_is, some_more}
-use Rattle.hc_on_poll.proofs.ShowStored.{IsBoundRow, headless_as}
 
 -- THE STEP, BY ITS PARTS
 

@@ -1,36 +1,20 @@
 -- What the reading of who is bound looks at is what the tables have, and its step is theirs.
-use Rattle.std.proofs.Common.{◌≡◌, inl, inr, ℕ, zero, suc, ◌+◌, ◌-◌, ◌<◌, ◌≤◌, List, [], ◌∷◌, length, drop, take, min, Bool, true, false, Option, Some, None, refl, ap, ap₂, sym, ◌∙◌, arith}
-use Rattle.std.proofs.lemmas.Bool.Decides.{nat_tests}
-use Rattle.std.specs.Prelude.{is_some, is_none, nat_eq, nat_lt, option_and_then, ◌&&◌, if◌then◌else◌}
-use Rattle.std.specs.Option.{option_or}
+use Rattle.std.{proofs.{Common.{◌≡◌, inl, inr, ℕ, zero, suc, ◌+◌, ◌-◌, ◌<◌, ◌≤◌, List, [], ◌∷◌, length, drop, take, min, Bool, true, false, Option, Some, None, refl, ap, ap₂, sym, ◌∙◌, arith}, lemmas.Bool.Decides.{nat_tests}}, specs.{Prelude.{is_some, is_none, nat_eq, nat_lt, option_and_then, ◌&&◌, if◌then◌else◌}, Option.{option_or}}}
 use Rattle.hc_text.proofs.Basics.{and_both as both_true, eqb-same, false_true, lt_cases as lt_or, same_or, same_some as same_row, some_inj as some_is}
 use Rattle.hc_effects.proofs.Vocabulary.{Limits, BoundBy, Place, is_number, row_of, base, front, family, stretch_to, next_from, first_place, absent_from, HoldsOwn, MayDeliver, offset, if_open, source, shared_exchange, bound_to, is_bound_place, Tables, Exchange, Representation, IsBound, run_held_for, held_at, stored_ahead, stored_from, next_stored, bound_row, run_of, held_of_lost}
 use Rattle.hc_store.specs.declared.backend.Backend.{Ghosts}
-use Rattle.hc_sparse.specs.Cells.{Cells, Cell, EndsBy, IsNext, AreAbsent}
-use Rattle.hc_sparse.specs.Stretch.{stretch, stretch_of}
-use Rattle.hc_sparse.specs.declared.run.Run.{Run}
-use Rattle.hc_stored.specs.Entries.{shelf_of}
+use Rattle.hc_sparse.specs.{Cells.{Cells, Cell, EndsBy, IsNext, AreAbsent}, Stretch.{stretch, stretch_of}, declared.run.Run.{Run}}
+use Rattle.hc_stored.specs.{Entries.{shelf_of}, Shelf.{cells_at, cells_in}}
 use Rattle.hc_stored.specs.Kept as entry
-use Rattle.hc_stored.specs.Shelf.{cells_at, cells_in}
 use Rattle.hc_exch.specs.Exchanges.{table_of}
 use Rattle.hc_event.specs.declared.place.Place.TheVariants as place
 use Rattle.hc_model.specs.Origins as origins
 use Rattle.hc_model.specs.Rows as rows
 use Rattle.hc_model.specs.Sound as sound
-use Rattle.hc_effects.proofs.Basics.{same_functions, some_row, number_is as is_it}
-use Rattle.hc_effects.proofs.HoleLemmas.{first_from, first_before, first_passes}
-use Rattle.hc_effects.proofs.Tests.{none_some}
-use Rattle.hc_state.specs.declared.consumer.Consumer.{Consumer}
-use Rattle.hc_state.specs.declared.rows.Rows.{Rows}
-use Rattle.hc_state.specs.Facts.{Facts}
-use Rattle.hc_state.specs.Kept.{held_for, held_of, held_alone, unread, unstored_bytes, first_lacking}
-use Rattle.hc_state.specs.Leaving.{if_running, writing_of}
-use Rattle.hc_state.specs.Reads.{goes_alone, held_own}
-use Rattle.hc_state.specs.Stands.{RowsStand}
-use Rattle.hc_state.specs.Stored.{IsEntry}
+use Rattle.hc_effects.proofs.{Basics.{same_functions, some_row, number_is as is_it}, HoleLemmas.{first_from, first_before, first_passes}, Tests.{none_some}}
+use Rattle.hc_state.specs.{declared.{consumer.Consumer.{Consumer}, rows.Rows.{Rows}}, Facts.{Facts}, Kept.{held_for, held_of, held_alone, unread, unstored_bytes, first_lacking}, Leaving.{if_running, writing_of}, Reads.{goes_alone, held_own}, Stands.{RowsStand}, Stored.{IsEntry}}
 use Rattle.hc_state.proofs.LeftRows.{running_as, writing_as}
-use Rattle.hc_on_poll.proofs.ReadLemmas.{run_some}
-use Rattle.hc_on_poll.proofs.ShowStored.{IsBoundRow, bound_entry, bound_kept}
+use Rattle.hc_on_poll.proofs.{ReadLemmas.{run_some}, ShowStored.{IsBoundRow, bound_entry, bound_kept}}
 
 -- THE NEXT BYTE
 

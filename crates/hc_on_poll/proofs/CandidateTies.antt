@@ -1,59 +1,24 @@
 -- What is current, as the plan of a consumer sees it, is as the tables have it.
-use Rattle.std.proofs.Common.{◌≡◌, ℕ, ◌<◌, ◌≤◌, ◌^◌, List, [], ◌∷◌, Bool, true, false, min, Option, Some, None, refl, ap, sym, ◌∙◌, arith}
-use Rattle.std.specs.Prelude.{is_some, option_map}
-use Rattle.std.specs.Option.{option_and_then, unwrap_or}
-use Rattle.std.specs.Str.Parse.{digits_value}
-use Rattle.std.specs.Char.{is_ascii_digit}
-use Rattle.std.specs.List.{list_all}
-use Rattle.std.proofs.lemmas.Bool.Decides.{nat_tests}
-use Rattle.std.specs.Prelude.{codes, nat_lt, not, slice_get, ◌&&◌, if◌then◌else◌}
+use Rattle.std.{proofs.{Common.{◌≡◌, ℕ, ◌<◌, ◌≤◌, ◌^◌, List, [], ◌∷◌, Bool, true, false, min, Option, Some, None, refl, ap, sym, ◌∙◌, arith}, lemmas.Bool.Decides.{nat_tests}}, specs.{Prelude.{is_some, option_map, codes, nat_lt, not, slice_get, ◌&&◌, if◌then◌else◌}, Option.{option_and_then, unwrap_or}, Str.Parse.{digits_value}, Char.{is_ascii_digit}, List.{list_all}}}
 use Rattle.hc_text.proofs.Basics.{and_both as and_parts, some_inj as some_is}
 use Rattle.hc_effects.proofs.Vocabulary.{Limits, Request, Candidate, RequestClass, least, lesser, class_of, range_of, wanted_of, is_open, Lawful, candidate, hole_of, bound, is_bound, is_written, writing_in, Tables, Representation, exclusive}
-use Rattle.hc_cachectl.specs.Directives.{of_request, of_response}
-use Rattle.hc_cachectl.specs.Seconds.{plain_seconds, most_seconds}
+use Rattle.hc_cachectl.specs.{Directives.{of_request, of_response}, Seconds.{plain_seconds, most_seconds}}
 use Rattle.hc_fields.specs.FirstValues.{first_value}
-use Rattle.hc_record.specs.Head.{Head}
-use Rattle.hc_range.specs.declared.range.Asked.{Asked}
-use Rattle.hc_range.specs.Spans.{IsInOrder}
+use Rattle.hc_record.specs.{Head.{Head, sealed_head}, declared.{head.StoredHead.{StoredHead}, kind.Kind.{Kind}}, Plain.{plain}}
+use Rattle.hc_range.specs.{declared.range.Asked.{Asked}, Spans.{IsInOrder}}
 use Rattle.hc_sparse.specs.Cells.{EndsBy}
-use Rattle.hc_record.specs.declared.head.StoredHead.{StoredHead}
-use Rattle.hc_record.specs.declared.kind.Kind.{Kind}
 use Rattle.hc_record.specs.declared.kind.Kind.TheVariants as kinds
-use Rattle.hc_record.specs.Head.{sealed_head}
-use Rattle.hc_record.specs.Plain.{plain}
 use Rattle.hc_sorted.specs.Sorted.{above, is_sorted}
-use Rattle.hc_store.specs.declared.backend.Backend.{Ghosts}
-use Rattle.hc_store.specs.Slots.{Held}
+use Rattle.hc_store.specs.{declared.backend.Backend.{Ghosts}, Slots.{Held}}
 use Rattle.hc_entry.specs.Lines.{is_among}
 use Rattle.hc_exch.specs.Exchanges.{table_of}
-use Rattle.hc_stored.specs.declared.entries.Entries.{Entries}
-use Rattle.hc_stored.specs.declared.view.EntryView.{EntryView}
-use Rattle.hc_stored.specs.Entries.{shelf_of}
-use Rattle.hc_stored.specs.Kept.{Kept, itself}
-use Rattle.hc_stored.specs.Rows.{Row, rows_of, kept_by, kept_of}
-use Rattle.hc_stored.specs.Shelf.{cells_at, cells_in}
-use Rattle.hc_stored.specs.Views.{facts_in, view_of, bound_in}
-use Rattle.hc_fresh.specs.declared.facts.HeadFacts.{HeadFacts}
-use Rattle.hc_fresh.specs.Allowed.{allowed_by}
-use Rattle.hc_fresh.specs.Lifetimes.{lifetime, lifetime_by}
-use Rattle.hc_fresh.specs.Vary.{matches_vary}
+use Rattle.hc_stored.specs.{declared.{entries.Entries.{Entries}, view.EntryView.{EntryView}}, Entries.{shelf_of}, Kept.{Kept, itself}, Rows.{Row, rows_of, kept_by, kept_of}, Shelf.{cells_at, cells_in}, Views.{facts_in, view_of, bound_in}}
+use Rattle.hc_fresh.specs.{declared.facts.HeadFacts.{HeadFacts}, Allowed.{allowed_by}, Lifetimes.{lifetime, lifetime_by}, Vary.{matches_vary}, Ages.{age, age_value, corrected_initial_age}, Facts.{head_facts, allowed}}
 use Rattle.hc_model.specs.Rows as rows
-use Rattle.hc_effects.proofs.Bounded.{range_order}
-use Rattle.hc_effects.proofs.Tests.{none_some}
-use Rattle.hc_fresh.specs.Ages.{age, age_value, corrected_initial_age}
-use Rattle.hc_fresh.specs.Facts.{head_facts, allowed}
-use Rattle.hc_state.specs.declared.consumer.Consumer.{Consumer}
-use Rattle.hc_state.specs.declared.rows.Rows.{Rows}
-use Rattle.hc_state.specs.Candidates.{hole_in, AllowedIs}
-use Rattle.hc_state.specs.Facts.{Facts}
-use Rattle.hc_state.specs.Kept.{IsKept}
-use Rattle.hc_state.specs.Leaving.{writing_of}
-use Rattle.hc_state.specs.Stands.{RowsStand}
-use Rattle.hc_state.specs.Stored.{IsEntry}
-use Rattle.hc_state.proofs.CurrentTies.{stored_ends, stays_stored, total_told, entry_at}
+use Rattle.hc_effects.proofs.{Bounded.{range_order}, Tests.{none_some}}
+use Rattle.hc_state.specs.{declared.{consumer.Consumer.{Consumer}, rows.Rows.{Rows}}, Candidates.{hole_in, AllowedIs}, Facts.{Facts}, Kept.{IsKept}, Leaving.{writing_of}, Stands.{RowsStand}, Stored.{IsEntry}}
+use Rattle.hc_state.proofs.{CurrentTies.{stored_ends, stays_stored, total_told, entry_at}, LeftRows.{writing_as}, TurnTies.{least_alike, filter_in, among_in}}
 use Rattle.hc_on_poll.proofs.HoleTies.{hole_as}
-use Rattle.hc_state.proofs.LeftRows.{writing_as}
-use Rattle.hc_state.proofs.TurnTies.{least_alike, filter_in, among_in}
 
 -- AGES
 

@@ -1,50 +1,26 @@
 -- The consumer whose turn it is asks the origin: it waits with the turn for the head of its exchange.
-use Rattle.std.proofs.Common.{◌≡◌, ◌≢◌, inl, inr, ℕ, ◌+◌, List, ◌++◌, true, false, Option, Some, None, refl, ap, sym, ◌∙◌, subst, arith}
-use Rattle.std.specs.Prelude.{nat_eq, bytes_eq, not}
-use Rattle.std.specs.HashMap.{get}
+use Rattle.std.{proofs.Common.{◌≡◌, ◌≢◌, inl, inr, ℕ, ◌+◌, List, ◌++◌, true, false, Option, Some, None, refl, ap, sym, ◌∙◌, subst, arith}, specs.{Prelude.{nat_eq, bytes_eq, not}, HashMap.{get}}}
 use Rattle.hc_text.proofs.Basics.{and_both as both_true, eqb-other, eqb-same, false_true, not_true as not_on, same_or, and_off as then_false}
 use Rattle.hc_store.specs.declared.backend.Backend.{Ghosts}
 use Rattle.hc_stored.specs.Entries.{shelf_of}
-use Rattle.hc_entry.specs.declared.keys.KeyTable.{KeyTable}
+use Rattle.hc_entry.specs.{declared.keys.KeyTable.{KeyTable}, Keys.{kept_of, line_of}, Kept.{on_line, line_in}, Lines.{is_among, is_in, held_by, turn_of, turn_with}}
 use Rattle.hc_entry.specs.Keys as keys
-use Rattle.hc_entry.specs.Keys.{kept_of, line_of}
 use Rattle.hc_entry.specs.Kept as keyed
-use Rattle.hc_entry.specs.Kept.{on_line, line_in}
-use Rattle.hc_entry.specs.Lines.{is_among, is_in, held_by, turn_of, turn_with}
 use Rattle.hc_effects.proofs.Vocabulary.{Act, Need, Request, Limits, route_of, is_disabled, is_only, Place, current, with_event, with_consumer, with_opening, just_opened, let_some_go, Lawful, MayLetGo, is_in_line, holds_place, Opens, acts_of, move_of, Tables, Exchange}
 use Rattle.hc_event.specs.declared.act.Need.TheVariants as need
 use Rattle.hc_event.specs.declared.event.Event.TheVariants as event
 use Rattle.hc_rules.specs.declared.need.Route.TheVariants as route
 use Rattle.hc_exch.specs.declared.role.Role.TheVariants as role
-use Rattle.hc_exch.specs.declared.exchanges.Exchanges.{Exchanges}
-use Rattle.hc_exch.specs.Exchanges.{table_of, next_of}
-use Rattle.hc_exch.specs.Known.{with_new_exchange, Changes}
+use Rattle.hc_exch.specs.{declared.exchanges.Exchanges.{Exchanges}, Exchanges.{table_of, next_of}, Known.{with_new_exchange, Changes}}
 use Rattle.hc_event.specs.declared.place.Place.TheVariants as place
 use Rattle.hc_model.specs.Rows as rows
-use Rattle.hc_effects.proofs.LettingGo.{may_let_go}
-use Rattle.hc_effects.proofs.TurnEffects.{fetches, bypasses}
-use Rattle.hc_state.specs.declared.consumer.Consumer.{Consumer}
-use Rattle.hc_state.specs.declared.rows.Rows.{Rows}
-use Rattle.hc_state.specs.Changes.{Numbered, ChangesAt, lined_up, with_turn}
-use Rattle.hc_state.specs.Facts.{Facts}
-use Rattle.hc_state.specs.Kept.{IsKept, KeepsConsumer}
-use Rattle.hc_state.specs.Lines.{KeepsKey, has_turn, is_passed, is_away}
-use Rattle.hc_state.specs.Plans.{is_idle_at, in_line, tables_in_turn, IsNext, StandsInLine, BeginsTurn}
-use Rattle.hc_state.specs.Stands.{Answered, RowsStand}
-use Rattle.hc_state.proofs.Answering.{does_answered}
-use Rattle.hc_state.proofs.ConsumerSteps.{keys_with}
-use Rattle.hc_state.proofs.Counting.{stands_counted}
-use Rattle.hc_state.proofs.KeySteps.{says_elsewhere, lined, holds_key}
-use Rattle.hc_state.proofs.Maps.{becomes_then}
+use Rattle.hc_effects.proofs.{LettingGo.{may_let_go}, TurnEffects.{fetches, bypasses}}
+use Rattle.hc_state.specs.{declared.{consumer.Consumer.{Consumer}, rows.Rows.{Rows}}, Changes.{Numbered, ChangesAt, lined_up, with_turn}, Facts.{Facts}, Kept.{IsKept, KeepsConsumer}, Lines.{KeepsKey, has_turn, is_passed, is_away}, Plans.{is_idle_at, in_line, tables_in_turn, IsNext, StandsInLine, BeginsTurn}, Stands.{Answered, RowsStand}}
+use Rattle.hc_state.proofs.{Answering.{does_answered}, ConsumerSteps.{keys_with}, Counting.{stands_counted}, KeySteps.{says_elsewhere, lined, holds_key}, Maps.{becomes_then}, Ties.{key_same, kept_row}, TurnTies.{turn_next}}
 use Rattle.hc_on_leave.proofs.MayGo.{may_opened, may_with}
 use Rattle.hc_on_poll.specs.Keeps.{HasBegun}
 use Rattle.hc_on_poll.proofs.OpenHandler as waiting
-use Rattle.hc_on_poll.proofs.OpenKeys.{key_opened}
-use Rattle.hc_on_poll.proofs.OpenStands.{stands_opened}
-use Rattle.hc_on_poll.proofs.PastHandler.{idle_reads, idle_lives, queues_as}
-use Rattle.hc_on_poll.proofs.PlanHandlers.{or_first}
-use Rattle.hc_state.proofs.Ties.{key_same, kept_row}
-use Rattle.hc_state.proofs.TurnTies.{turn_next}
+use Rattle.hc_on_poll.proofs.{OpenKeys.{key_opened}, OpenStands.{stands_opened}, PastHandler.{idle_reads, idle_lives, queues_as}, PlanHandlers.{or_first}}
 
 -- WHO IS NEXT
 

@@ -1,62 +1,28 @@
 -- A consumer that reads nothing is bound to what is current as the only one, and opens an exchange for a first hole: what is kept represents the tables then.
-use Rattle.std.proofs.Common.{◌≡◌, ◌≢◌, inl, inr, ℕ, ◌+◌, List, [], ◌++◌, Bool, true, false, Option, Some, None, refl, ap, sym, ◌∙◌, subst, arith}
-use Rattle.std.specs.Prelude.{bytes_eq, nat_eq, is_none, not, option_map, ◌&&◌}
-use Rattle.std.specs.HashMap.{get}
+use Rattle.std.{proofs.Common.{◌≡◌, ◌≢◌, inl, inr, ℕ, ◌+◌, List, [], ◌++◌, Bool, true, false, Option, Some, None, refl, ap, sym, ◌∙◌, subst, arith}, specs.{Prelude.{bytes_eq, nat_eq, is_none, not, option_map, ◌&&◌}, HashMap.{get}}}
 use Rattle.hc_text.proofs.Basics.{eqb-other, eqb-same, false_true, same_or, and_off as then_false}
 use Rattle.hc_store.specs.declared.backend.Backend.{Ghosts}
 use Rattle.hc_effects.proofs.Vocabulary.{Act, Need, Request, RequestClass, Limits, route_of, range_of, wanted_of, Place, current, total_in, is_live, with_event, used_last, with_consumer, with_opening, just_opened, kind_of, Lawful, is_in_line, Opens, acts_of, move_of, bound_to, Tables, Exchange, Representation}
 use Rattle.hc_event.specs.declared.act.Need.TheVariants as need
 use Rattle.hc_event.specs.declared.event.Event.TheVariants as event
-use Rattle.hc_range.specs.declared.range.Asked.{Asked}
-use Rattle.hc_range.specs.declared.range.Span.{Span}
+use Rattle.hc_range.specs.declared.range.{Asked.{Asked}, Span.{Span}}
 use Rattle.hc_sorted.specs.Sorted.{has}
 use Rattle.hc_rules.specs.declared.need.Route.TheVariants as route
 use Rattle.hc_rules.specs.declared.request.Wanted.TheVariants as wanted
 use Rattle.hc_rules.proofs.RangeReads.{bytes_eq-same}
-use Rattle.hc_entry.specs.declared.keys.KeyTable.{KeyTable}
+use Rattle.hc_entry.specs.{declared.keys.KeyTable.{KeyTable}, Keys.{kept_of}, Kept.{on_line}, Lines.{gone_away}}
 use Rattle.hc_entry.specs.Keys as keys
-use Rattle.hc_entry.specs.Keys.{kept_of}
-use Rattle.hc_entry.specs.Kept.{on_line}
-use Rattle.hc_entry.specs.Lines.{gone_away}
-use Rattle.hc_stored.specs.declared.entries.Entries.{Entries}
-use Rattle.hc_stored.specs.Entries.{shelf_of}
-use Rattle.hc_stored.specs.Kept.{Kept, itself, with_first}
-use Rattle.hc_stored.specs.Shelf.{moved_first}
+use Rattle.hc_stored.specs.{declared.entries.Entries.{Entries}, Entries.{shelf_of}, Kept.{Kept, itself, with_first}, Shelf.{moved_first}, Views.{admits_first}}
 use Rattle.hc_stored.specs.Shelf as shelf
-use Rattle.hc_stored.specs.Views.{admits_first}
-use Rattle.hc_exch.specs.declared.exchanges.Exchanges.{Exchanges}
+use Rattle.hc_exch.specs.{declared.exchanges.Exchanges.{Exchanges}, Exchanges.{table_of, next_of}, Known.{with_new_exchange, exchange_at_opening, Changes}}
 use Rattle.hc_exch.specs.declared.role.Role.TheVariants as role
-use Rattle.hc_exch.specs.Exchanges.{table_of, next_of}
-use Rattle.hc_exch.specs.Known.{with_new_exchange, exchange_at_opening, Changes}
 use Rattle.hc_event.specs.declared.place.Place.TheVariants as place
 use Rattle.hc_event.specs.declared.place.BoundBy.TheVariants as by
 use Rattle.hc_model.specs.Rows as rows
-use Rattle.hc_effects.proofs.HoleEffects.{fills_first}
-use Rattle.hc_effects.proofs.Tests.{and_false}
-use Rattle.hc_state.specs.declared.consumer.Consumer.{Consumer}
-use Rattle.hc_state.specs.declared.rows.Rows.{Rows}
-use Rattle.hc_state.specs.Changes.{Numbered, ChangesAt, BecomesAt, bound_first}
-use Rattle.hc_state.specs.Kept.{IsKept, IsRunning, KeepsConsumer, KeepsExchange, KeepsRunning, answer_for, held_for}
-use Rattle.hc_state.specs.Lines.{KeepsKey, is_away}
-use Rattle.hc_state.specs.Plans.{is_idle_at, HasCurrent}
-use Rattle.hc_state.specs.Stands.{Answered, RowsStand}
-use Rattle.hc_state.proofs.Answering.{does_answered}
-use Rattle.hc_state.proofs.Fallbacks.{answer_fallback}
-use Rattle.hc_state.proofs.FallbackSteps.{length_same, live_same}
-use Rattle.hc_on_poll.proofs.BoundHandler.{held_bound, entry_first, entries_bound}
-use Rattle.hc_on_poll.proofs.CandidateTies.{range_of_class}
-use Rattle.hc_state.proofs.ConsumerSteps.{keys_with}
-use Rattle.hc_state.proofs.Counting.{stands_counted}
-use Rattle.hc_state.proofs.CurrentTies.{IsNow, now_kept}
-use Rattle.hc_state.proofs.KeySteps.{not_lined, says_elsewhere, away_key}
-use Rattle.hc_state.proofs.OneOfEach.{stands_then}
-use Rattle.hc_on_poll.proofs.OpenHandler.{unread_yet}
-use Rattle.hc_on_poll.proofs.OpenKeys.{key_with_opening}
-use Rattle.hc_on_poll.proofs.OpenKinds.{kinds_opened}
-use Rattle.hc_on_poll.proofs.PassesHandler.{current_as}
-use Rattle.hc_on_poll.proofs.PastHandler.{idle_reads, idle_lives}
-use Rattle.hc_state.proofs.QueueHandler.{becomes_by}
-use Rattle.hc_state.proofs.Ties.{key_same, overs_opened}
+use Rattle.hc_effects.proofs.{HoleEffects.{fills_first}, Tests.{and_false}}
+use Rattle.hc_state.specs.{declared.{consumer.Consumer.{Consumer}, rows.Rows.{Rows}}, Changes.{Numbered, ChangesAt, BecomesAt, bound_first}, Kept.{IsKept, IsRunning, KeepsConsumer, KeepsExchange, KeepsRunning, answer_for, held_for}, Lines.{KeepsKey, is_away}, Plans.{is_idle_at, HasCurrent}, Stands.{Answered, RowsStand}}
+use Rattle.hc_state.proofs.{Answering.{does_answered}, Fallbacks.{answer_fallback}, FallbackSteps.{length_same, live_same}, ConsumerSteps.{keys_with}, Counting.{stands_counted}, CurrentTies.{IsNow, now_kept}, KeySteps.{not_lined, says_elsewhere, away_key}, OneOfEach.{stands_then}, QueueHandler.{becomes_by}, Ties.{key_same, overs_opened}}
+use Rattle.hc_on_poll.proofs.{BoundHandler.{held_bound, entry_first, entries_bound}, CandidateTies.{range_of_class}, OpenHandler.{unread_yet}, OpenKeys.{key_with_opening}, OpenKinds.{kinds_opened}, PassesHandler.{current_as}, PastHandler.{idle_reads, idle_lives}}
 
 -- nobody came to it alone
 first_none : (c : ℕ) (o : Option Kept) (e : Kept) → o ≡ Some e → admits_first c o ≡ true → e.first ≡ None

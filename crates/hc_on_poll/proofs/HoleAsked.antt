@@ -1,14 +1,9 @@
 -- What is asked for a hole: the fields that are set are good and short.
-use Rattle.std.proofs.Common.{◌≡◌, ◌≤◌, ℕ, List, [], ◌++◌, length, true, Option, Some, None, Bor, refl, ap, sym, ◌∙◌, subst, arith}
-use Rattle.std.specs.Prelude.{unwrap_or, IsSomeAnd}
-use Rattle.std.specs.Option.{option_copied}
-use Rattle.hc_fields.specs.FieldList.{IsFieldList, is_own_value}
-use Rattle.hc_fields.specs.FirstValues.{first_value}
-use Rattle.hc_range.specs.declared.range.Span.{Span}
-use Rattle.hc_range.specs.Spans.{IsWithin, range_text}
+use Rattle.std.{proofs.Common.{◌≡◌, ◌≤◌, ℕ, List, [], ◌++◌, length, true, Option, Some, None, Bor, refl, ap, sym, ◌∙◌, subst, arith}, specs.{Prelude.{unwrap_or, IsSomeAnd}, Option.{option_copied}}}
+use Rattle.hc_fields.specs.{FieldList.{IsFieldList, is_own_value}, FirstValues.{first_value}}
+use Rattle.hc_range.specs.{declared.range.Span.{Span}, Spans.{IsWithin, range_text}}
 use Rattle.hc_validate.specs.Heads.{FieldPairs}
-use Rattle.hc_validate.proofs.Numbers.{own-range, short-range}
-use Rattle.hc_validate.proofs.Stored.{IsFit, first_fits}
+use Rattle.hc_validate.proofs.{Numbers.{own-range, short-range}, Stored.{IsFit, first_fits}}
 
 -- the text of a range, as it is set
 pub record IsRangeText (text : List ℕ) : Type 0 where

@@ -1,7 +1,5 @@
 -- The first hole in what is stored is that of the tables, where nothing is stored from a position on.
-use Rattle.std.proofs.Common.{◌≡◌, inl, inr, ℕ, ◌+◌, ◌-◌, ◌<◌, ◌≤◌, true, false, min, Option, Some, None, refl, ap, sym, ◌∙◌, subst, arith}
-use Rattle.std.proofs.lemmas.Bool.Decides.{nat_tests}
-use Rattle.std.specs.Prelude.{is_some, is_none}
+use Rattle.std.{proofs.{Common.{◌≡◌, inl, inr, ℕ, ◌+◌, ◌-◌, ◌<◌, ◌≤◌, true, false, min, Option, Some, None, refl, ap, sym, ◌∙◌, subst, arith}, lemmas.Bool.Decides.{nat_tests}}, specs.Prelude.{is_some, is_none}}
 use Rattle.hc_text.proofs.Basics.{le_or, lt_cases as lt_or}
 use Rattle.hc_range.specs.declared.range.Span.{Span}
 use Rattle.hc_sparse.specs.Cells.{Cells, Cell, EndsBy, Covers}
@@ -9,10 +7,7 @@ use Rattle.hc_effects.proofs.Vocabulary.{Wanted, first_place, absent_from, cover
 use Rattle.hc_rules.specs.declared.request.Wanted.TheVariants as wanted
 use Rattle.hc_partial.specs.Holes as partial
 use Rattle.hc_partial.proofs.HoleLemmas.{absent_from_is, present_from_is, first_hole-none, first_hole-some, first_hole-empty}
-use Rattle.hc_effects.proofs.Basics.{same_functions}
-use Rattle.hc_effects.proofs.HoleLemmas.{first_from, first_to, first_before, first_passes, some_of, not_none, hole_absent, hole_some}
-use Rattle.hc_effects.proofs.HolesOpened.{first_hole_is}
-use Rattle.hc_effects.proofs.Tests.{none_some}
+use Rattle.hc_effects.proofs.{Basics.{same_functions}, HoleLemmas.{first_from, first_to, first_before, first_passes, some_of, not_none, hole_absent, hole_some}, HolesOpened.{first_hole_is}, Tests.{none_some}}
 use Rattle.hc_state.specs.Candidates.{hole_in}
 
 none_is : (o : Option Cell) → o ≡ None → is_some o ≡ true → ⊥

@@ -1,9 +1,5 @@
 -- Who is bound and reads on opens an exchange for the hole that it stands before: what is kept represents the tables then.
-use Rattle.std.proofs.Common.{◌≡◌, ◌≢◌, ◌⊎◌, inl, inr, ℕ, ◌+◌, ◌-◌, ◌≤◌, ◌<◌, List, [], ◌++◌, drop, min, Bool, true, false, Option, Some, None, refl, ap, sym, ◌∙◌, subst, arith}
-use Rattle.std.proofs.Math.ListN.{drop_of_length-le}
-use Rattle.std.proofs.lemmas.Bool.Decides.{nat_tests}
-use Rattle.std.specs.Prelude.{is_some, nat_eq, bytes_eq, ◌&&◌, if◌then◌else◌}
-use Rattle.std.specs.HashMap.{get}
+use Rattle.std.{proofs.{Common.{◌≡◌, ◌≢◌, ◌⊎◌, inl, inr, ℕ, ◌+◌, ◌-◌, ◌≤◌, ◌<◌, List, [], ◌++◌, drop, min, Bool, true, false, Option, Some, None, refl, ap, sym, ◌∙◌, subst, arith}, Math.ListN.{drop_of_length-le}, lemmas.Bool.Decides.{nat_tests}}, specs.{Prelude.{is_some, nat_eq, bytes_eq, ◌&&◌, if◌then◌else◌}, HashMap.{get}}}
 use Rattle.hc_text.proofs.Basics.{and_both as both_true, eqb-other, eqb-same, false_true, same_or, same_some as same_row, some_inj as some_is}
 use Rattle.hc_effects.proofs.Vocabulary.{Limits, Opening, Act, Need, Request, BoundBy, Place, current, is_number, is_live, with_consumer, with_opening, just_opened, with_event, aim_from, base, front, family, stretch_to, is_in_line, Opens, acts_of, move_of, bound, bound_to, hi_of, is_bound, is_bound_place, lo_of, offset, Tables, Exchange, Representation, IsBound, held_of_lost}
 use Rattle.hc_store.specs.declared.backend.Backend.{Ghosts}
@@ -14,39 +10,17 @@ use Rattle.hc_sparse.proofs.StretchLemmas.{stretch-absent}
 use Rattle.hc_stored.specs.Entries.{shelf_of}
 use Rattle.hc_entry.specs.Keys.{kept_of}
 use Rattle.hc_exch.specs.declared.role.Role.TheVariants as role
-use Rattle.hc_exch.specs.Exchanges.{table_of, next_of}
-use Rattle.hc_exch.specs.Known.{with_new_exchange, exchange_at_opening, Changes}
+use Rattle.hc_exch.specs.{Exchanges.{table_of, next_of}, Known.{with_new_exchange, exchange_at_opening, Changes}}
 use Rattle.hc_event.specs.declared.place.BoundBy.TheVariants as by
 use Rattle.hc_event.specs.declared.place.Place.TheVariants as place
 use Rattle.hc_model.specs.Rows as rows
 use Rattle.hc_model.specs.Sound as sound
-use Rattle.hc_effects.proofs.HoleEffects.{fills_later}
-use Rattle.hc_effects.proofs.OpensFrom.{opens_hole}
-use Rattle.hc_effects.proofs.ExclusiveWriters.{bound_some}
-use Rattle.hc_effects.proofs.PollTree.{OpensHole}
+use Rattle.hc_effects.proofs.{HoleEffects.{fills_later}, OpensFrom.{opens_hole}, ExclusiveWriters.{bound_some}, PollTree.{OpensHole}, Said.{IsOpening}, Tests.{none_some}}
 use Rattle.hc_effects.proofs.PollTree as tree
-use Rattle.hc_effects.proofs.Said.{IsOpening}
 use Rattle.hc_effects.proofs.Said as said
-use Rattle.hc_effects.proofs.Tests.{none_some}
-use Rattle.hc_state.specs.declared.consumer.Consumer.{Consumer}
-use Rattle.hc_state.specs.declared.rows.Rows.{Rows}
-use Rattle.hc_state.specs.Changes.{ChangesAt, BecomesAt, with_own}
-use Rattle.hc_state.specs.Facts.{Facts}
-use Rattle.hc_state.specs.Kept.{IsKept, KeepsConsumer, KeepsExchange, answer_at, KeepsRunning, first_lacking, held_for, held_of, held_alone, unread, unstored_bytes}
-use Rattle.hc_state.specs.Lines.{KeepsKey, has_turn, is_passed, is_away, is_away_at}
-use Rattle.hc_state.specs.Stands.{RowsStand, Answered}
-use Rattle.hc_state.specs.Stored.{KeepsEntries, is_first}
-use Rattle.hc_state.proofs.Answering.{does_answered}
-use Rattle.hc_state.proofs.FallbackSteps.{length_same, live_same}
-use Rattle.hc_state.proofs.Fallbacks.{unstored_moved}
-use Rattle.hc_on_poll.proofs.BoundViews.{unstored_own, absent_here, lost_run, unread_bound}
-use Rattle.hc_state.proofs.Counting.{stands_counted}
-use Rattle.hc_state.proofs.OneOfEach.{stands_then, bound_same, first_row}
-use Rattle.hc_on_poll.proofs.OpenHandler.{unread_yet}
-use Rattle.hc_on_poll.proofs.OpenKinds.{kinds_opened}
-use Rattle.hc_state.proofs.QueueHandler.{becomes_by}
-use Rattle.hc_on_poll.proofs.ShowStored.{IsBoundRow}
-use Rattle.hc_state.proofs.Ties.{entry_same, key_same, overs_opened}
+use Rattle.hc_state.specs.{declared.{consumer.Consumer.{Consumer}, rows.Rows.{Rows}}, Changes.{ChangesAt, BecomesAt, with_own}, Facts.{Facts}, Kept.{IsKept, KeepsConsumer, KeepsExchange, answer_at, KeepsRunning, first_lacking, held_for, held_of, held_alone, unread, unstored_bytes}, Lines.{KeepsKey, has_turn, is_passed, is_away, is_away_at}, Stands.{RowsStand, Answered}, Stored.{KeepsEntries, is_first}}
+use Rattle.hc_state.proofs.{Answering.{does_answered}, FallbackSteps.{length_same, live_same}, Fallbacks.{unstored_moved}, Counting.{stands_counted}, OneOfEach.{stands_then, bound_same, first_row}, QueueHandler.{becomes_by}, Ties.{entry_same, key_same, overs_opened}}
+use Rattle.hc_on_poll.proofs.{BoundViews.{unstored_own, absent_here, lost_run, unread_bound}, OpenHandler.{unread_yet}, OpenKinds.{kinds_opened}, ShowStored.{IsBoundRow}}
 
 -- where it stands before a hole
 record IsAtHole (t : Tables) (c q : ℕ) (v : rows.Consumer) (p : Representation) : Type 0 where

@@ -1,6 +1,5 @@
 -- An exchange that is opened changes nothing of what is kept by key.
-use Rattle.std.proofs.Common.{◌≡◌, ◌≢◌, inl, inr, ℕ, List, Bool, Option, Some, None, refl, ap, sym, ◌∙◌}
-use Rattle.std.specs.Prelude.{bytes_eq, ◌&&◌}
+use Rattle.std.{proofs.Common.{◌≡◌, ◌≢◌, inl, inr, ℕ, List, Bool, Option, Some, None, refl, ap, sym, ◌∙◌}, specs.Prelude.{bytes_eq, ◌&&◌}}
 use Rattle.hc_text.proofs.Basics.{eqb-other, eqb-same, same_or}
 use Rattle.hc_entry.specs.Kept as keyed
 use Rattle.hc_effects.proofs.Vocabulary.{Place, current, with_consumer, with_opening, Lawful, Tables, Exchange}

@@ -1,7 +1,5 @@
 -- An exchange that is opened brings nothing to a representation that was there before: how much of that is stored stays.
-use Rattle.std.proofs.Common.{◌≡◌, ◌≢◌, inl, inr, ℕ, List, [], ◌∷◌, Bool, true, false, Some, None, refl, ap, sym, ◌∙◌}
-use Rattle.std.specs.Prelude.{◌==◌, ◌&&◌}
-use Rattle.std.specs.List.{list_any}
+use Rattle.std.{proofs.Common.{◌≡◌, ◌≢◌, inl, inr, ℕ, List, [], ◌∷◌, Bool, true, false, Some, None, refl, ap, sym, ◌∙◌}, specs.{Prelude.{◌==◌, ◌&&◌}, List.{list_any}}}
 use Rattle.hc_text.proofs.Basics.{eqb-other, same_or}
 use Rattle.hc_effects.proofs.Vocabulary.{kind_of, is_growing, brings_to, Tables, Exchange, Representation}
 use Rattle.hc_effects.proofs.Tests.{none_some}

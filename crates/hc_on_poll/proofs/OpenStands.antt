@@ -1,26 +1,15 @@
 -- A consumer that reads nothing opens an exchange: what is kept represents the tables then, where what is kept by key does.
-use Rattle.std.proofs.Common.{◌≡◌, ◌≢◌, inl, inr, ℕ, ◌+◌, List, false, true, Option, Some, None, refl, ap, sym, ◌∙◌, subst, arith}
-use Rattle.std.specs.Prelude.{nat_eq}
-use Rattle.std.specs.HashMap.{get}
+use Rattle.std.{proofs.Common.{◌≡◌, ◌≢◌, inl, inr, ℕ, ◌+◌, List, false, true, Option, Some, None, refl, ap, sym, ◌∙◌, subst, arith}, specs.{Prelude.{nat_eq}, HashMap.{get}}}
 use Rattle.hc_text.proofs.Basics.{eqb-other, eqb-same, same_or}
 use Rattle.hc_effects.proofs.Vocabulary.{Limits, Need, Request, route_of, Place, is_live, is_live_place, with_consumer, with_opening, just_opened, Lawful, reads, Tables, Exchange}
 use Rattle.hc_store.specs.declared.backend.Backend.{Ghosts}
 use Rattle.hc_stored.specs.Entries.{shelf_of}
 use Rattle.hc_entry.specs.Keys.{kept_of}
-use Rattle.hc_exch.specs.declared.role.Role.{Role}
-use Rattle.hc_exch.specs.Exchanges.{table_of, next_of}
-use Rattle.hc_exch.specs.Known.{with_new_exchange, exchange_at_opening, Changes}
+use Rattle.hc_exch.specs.{declared.role.Role.{Role}, Exchanges.{table_of, next_of}, Known.{with_new_exchange, exchange_at_opening, Changes}}
 use Rattle.hc_model.specs.Rows as rows
-use Rattle.hc_state.specs.declared.consumer.Consumer.{Consumer}
-use Rattle.hc_state.specs.declared.rows.Rows.{Rows}
-use Rattle.hc_state.specs.Changes.{BecomesAt}
-use Rattle.hc_state.specs.Kept.{KeepsConsumer, KeepsExchange, KeepsRunning, held_for, role_awaited}
-use Rattle.hc_state.specs.Lines.{KeepsKey}
-use Rattle.hc_state.specs.Stands.{RowsStand}
-use Rattle.hc_state.proofs.FallbackSteps.{length_same, live_same}
-use Rattle.hc_state.proofs.OneOfEach.{stands_then}
-use Rattle.hc_on_poll.proofs.OpenHandler.{WaitsFor, unread_yet, held_else, none_held, entries_opened}
-use Rattle.hc_on_poll.proofs.OpenRows.{runs, opener_kept, live_then}
+use Rattle.hc_state.specs.{declared.{consumer.Consumer.{Consumer}, rows.Rows.{Rows}}, Changes.{BecomesAt}, Kept.{KeepsConsumer, KeepsExchange, KeepsRunning, held_for, role_awaited}, Lines.{KeepsKey}, Stands.{RowsStand}}
+use Rattle.hc_state.proofs.{FallbackSteps.{length_same, live_same}, OneOfEach.{stands_then}}
+use Rattle.hc_on_poll.proofs.{OpenHandler.{WaitsFor, unread_yet, held_else, none_held, entries_opened}, OpenRows.{runs, opener_kept, live_then}}
 
 module _ {B : Type 0} {g : Ghosts B} {limits : Limits} (r u : Rows B g) (t : Tables) (law : Lawful t) (now c x : ℕ) (n : Need) (request copied : Request) (aim : Option ℕ) (role : Role) (k : Consumer) (v : rows.Consumer) (p : Place) (stands : RowsStand limits r t)
     (there : get nat_eq r.consumers c ≡ Some k) (row : t.consumer c ≡ Some v) (idle : reads v.place ≡ false) (lived : is_live_place v.place ≡ true) (at : WaitsFor x p) (is_next : x ≡ t.opened + 1)

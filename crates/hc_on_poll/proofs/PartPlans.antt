@@ -1,51 +1,24 @@
 -- A plan that uses what is current: the part that its consumer is shown isn't empty, nor is the hole that it fills, and nobody else is bound then.
-use Rattle.std.proofs.Common.{◌≡◌, ℕ, ◌+◌, ◌<◌, ◌≤◌, ◌^◌, List, Bool, true, false, max, Option, Some, None, refl, ap, sym, ◌∙◌, subst, arith}
-use Rattle.std.specs.Prelude.{nat_eq, is_some, is_none, not, option_map, unwrap_or, IsSomeAnd, ◌&&◌, if◌then◌else◌}
-use Rattle.std.specs.Option.{option_and_then}
-use Rattle.std.specs.HashMap.{get}
+use Rattle.std.{proofs.Common.{◌≡◌, ℕ, ◌+◌, ◌<◌, ◌≤◌, ◌^◌, List, Bool, true, false, max, Option, Some, None, refl, ap, sym, ◌∙◌, subst, arith}, specs.{Prelude.{nat_eq, is_some, is_none, not, option_map, unwrap_or, IsSomeAnd, ◌&&◌, if◌then◌else◌}, Option.{option_and_then}, HashMap.{get}}}
 use Rattle.hc_text.proofs.Basics.{eqb-same, false_true, some_inj as some_is}
 use Rattle.hc_effects.proofs.Vocabulary.{Limits, Act, Why, Request, Candidate, Plan, PlanView, RequestClass, least, plan_of, bare_plan, from_store, in_time, class_of, range_of, wanted_of, current, is_number, row_of, first_hole, Opens, opens_hole, span_to, hole_request, candidate, candidate_at, hole_of, bound, is_bound, is_bound_place, Numbers, Tables, Representation, came_alone}
 use Rattle.hc_store.specs.declared.backend.Backend.{Ghosts}
 use Rattle.hc_event.specs.declared.act.Need.TheVariants as need
-use Rattle.hc_range.specs.declared.range.Asked.{Asked}
-use Rattle.hc_range.specs.declared.range.Span.{Span}
-use Rattle.hc_range.specs.Spans.{IsWithin}
-use Rattle.hc_record.specs.declared.head.StoredHead.{StoredHead}
-use Rattle.hc_record.specs.Head.{Head}
-use Rattle.hc_record.specs.Plain.{plain}
+use Rattle.hc_range.specs.{declared.range.{Asked.{Asked}, Span.{Span}}, Spans.{IsWithin}}
+use Rattle.hc_record.specs.{declared.head.StoredHead.{StoredHead}, Head.{Head}, Plain.{plain}}
 use Rattle.hc_sorted.specs.Sorted.{has}
 use Rattle.hc_rules.specs.declared.plan.Plan.TheVariants as plan
 use Rattle.hc_rules.specs.declared.request.Wanted.TheVariants as wanted
 use Rattle.hc_entry.specs.Lines.{is_among}
-use Rattle.hc_stored.specs.Entries.{shelf_of}
-use Rattle.hc_stored.specs.Kept.{itself}
-use Rattle.hc_stored.specs.Shelf.{head_at}
-use Rattle.hc_stored.specs.Views.{admits, admits_first}
+use Rattle.hc_stored.specs.{Entries.{shelf_of}, Kept.{itself}, Shelf.{head_at}, Views.{admits, admits_first}}
 use Rattle.hc_model.specs.Planning as planning
 use Rattle.hc_model.specs.Rows as rows
-use Rattle.hc_effects.proofs.EndsKeep.{wanted_within}
-use Rattle.hc_effects.proofs.WantedSpans.{wanted_some}
-use Rattle.hc_effects.proofs.PlanBy.{PlanBy, plan_by}
+use Rattle.hc_effects.proofs.{EndsKeep.{wanted_within}, WantedSpans.{wanted_some}, PlanBy.{PlanBy, plan_by}, Tests.{and_false}}
 use Rattle.hc_effects.proofs.PlanBy as plans
-use Rattle.hc_effects.proofs.Tests.{and_false}
-use Rattle.hc_state.specs.declared.consumer.Consumer.{Consumer}
-use Rattle.hc_state.specs.declared.rows.Rows.{Rows}
-use Rattle.hc_state.specs.Handlers.{queues}
-use Rattle.hc_state.specs.Facts.{Facts}
-use Rattle.hc_state.specs.Kept.{IsKept, KeepsConsumer}
-use Rattle.hc_state.specs.Plans.{IsIdle, IsWaiting, HasCurrent, IsPlanOf, IsShownPart, begin_of, end_of, AnswersFirst, AnswersPoll}
-use Rattle.hc_state.specs.Stands.{RowsStand, Stands}
-use Rattle.hc_state.specs.Stored.{is_first}
+use Rattle.hc_state.specs.{declared.{consumer.Consumer.{Consumer}, rows.Rows.{Rows}}, Handlers.{queues}, Facts.{Facts}, Kept.{IsKept, KeepsConsumer}, Plans.{IsIdle, IsWaiting, HasCurrent, IsPlanOf, IsShownPart, begin_of, end_of, AnswersFirst, AnswersPoll}, Stands.{RowsStand, Stands}, Stored.{is_first}}
 use Rattle.hc_on_poll.specs.Ready.{MayPass}
-use Rattle.hc_on_poll.proofs.CandidateTies.{head_at_is, in_order, range_of_class}
-use Rattle.hc_state.proofs.CurrentTies.{IsNow, now_kept, stays_stored, stored_ends, total_told}
-use Rattle.hc_on_poll.proofs.HoleTies.{hole_inside}
-use Rattle.hc_state.proofs.Maps.{known_of, some_that, merely_true, merely_within}
-use Rattle.hc_on_poll.proofs.PassesHandler.{current_as}
-use Rattle.hc_on_poll.proofs.PlanHandlers.{found, waits_there, current_admits, plan_answers}
-use Rattle.hc_state.proofs.Ties.{kept_row}
-use Rattle.hc_state.proofs.TurnTies.{least_none, among_in, filter_in}
-use Rattle.hc_state.proofs.Words.{few_received}
+use Rattle.hc_on_poll.proofs.{CandidateTies.{head_at_is, in_order, range_of_class}, HoleTies.{hole_inside}, PassesHandler.{current_as}, PlanHandlers.{found, waits_there, current_admits, plan_answers}}
+use Rattle.hc_state.proofs.{CurrentTies.{IsNow, now_kept, stays_stored, stored_ends, total_told}, Maps.{known_of, some_that, merely_true, merely_within}, Ties.{kept_row}, TurnTies.{least_none, among_in, filter_in}, Words.{few_received}}
 
 -- who fills a hole may ask the origin
 fills_asks : (view : PlanView) (span hole : Span) → plan_of view ≡ plan.FirstHole span hole → view.class.only ≡ false

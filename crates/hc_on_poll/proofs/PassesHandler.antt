@@ -1,13 +1,9 @@
 -- A consumer waits for another that uses what is current, outside of the line: what is kept represents the tables then.
-use Rattle.std.proofs.Common.{◌≡◌, ℕ, List, [], ◌∷◌, ◌++◌, Bool, true, false, Option, Some, None, refl, ap, sym, ◌∙◌, subst}
-use Rattle.std.specs.Prelude.{nat_eq, bytes_eq}
-use Rattle.std.specs.HashMap.{get}
+use Rattle.std.{proofs.Common.{◌≡◌, ℕ, List, [], ◌∷◌, ◌++◌, Bool, true, false, Option, Some, None, refl, ap, sym, ◌∙◌, subst}, specs.{Prelude.{nat_eq, bytes_eq}, HashMap.{get}}}
 use Rattle.hc_text.proofs.Basics.{false_true, some_inj as some_is, and_off as then_false}
 use Rattle.hc_store.specs.declared.backend.Backend.{Ghosts}
 use Rattle.hc_entry.specs.Keys as keys
-use Rattle.hc_entry.specs.Keys.{kept_of}
-use Rattle.hc_entry.specs.Kept.{on_line}
-use Rattle.hc_entry.specs.Lines.{line_after_pass}
+use Rattle.hc_entry.specs.{Keys.{kept_of}, Kept.{on_line}, Lines.{line_after_pass}}
 use Rattle.hc_effects.proofs.Vocabulary.{Act, Request, Limits, Place, kept_by, passed_by, current, is_live_place, with_event, with_consumer, Lawful, is_in_line, acts_of, move_of, reads, Tables}
 use Rattle.hc_event.specs.declared.act.Act.TheVariants as act
 use Rattle.hc_event.specs.declared.act.Wait.TheVariants as wait
@@ -16,22 +12,9 @@ use Rattle.hc_rules.proofs.RangeReads.{bytes_eq-same}
 use Rattle.hc_event.specs.declared.place.Place.TheVariants as place
 use Rattle.hc_model.specs.Moves as moves
 use Rattle.hc_model.specs.Rows as rows
-use Rattle.hc_effects.proofs.PollEffects.{same_consumer}
-use Rattle.hc_effects.proofs.WaitEffects.{waits}
-use Rattle.hc_effects.proofs.Tests.{and_false}
-use Rattle.hc_state.specs.declared.consumer.Consumer.{Consumer}
-use Rattle.hc_state.specs.declared.rows.Rows.{Rows}
-use Rattle.hc_state.specs.Changes.{ChangesAt, passed_for}
-use Rattle.hc_state.specs.Kept.{IsKept, KeepsConsumer, answer_for}
-use Rattle.hc_state.specs.Lines.{KeepsKey}
-use Rattle.hc_state.specs.Plans.{is_idle_at, let_through, HasCurrent}
-use Rattle.hc_state.specs.Stands.{Answered, RowsStand}
-use Rattle.hc_state.proofs.Answering.{does_answered}
-use Rattle.hc_state.proofs.FallbackSteps.{falls_back}
-use Rattle.hc_state.proofs.ConsumerSteps.{keys_with}
-use Rattle.hc_state.proofs.Counting.{stands_counted}
-use Rattle.hc_state.proofs.KeySteps.{says_elsewhere, not_lined, passes_key}
-use Rattle.hc_state.proofs.QueueHandler.{becomes_by}
+use Rattle.hc_effects.proofs.{PollEffects.{same_consumer}, WaitEffects.{waits}, Tests.{and_false}}
+use Rattle.hc_state.specs.{declared.{consumer.Consumer.{Consumer}, rows.Rows.{Rows}}, Changes.{ChangesAt, passed_for}, Kept.{IsKept, KeepsConsumer, answer_for}, Lines.{KeepsKey}, Plans.{is_idle_at, let_through, HasCurrent}, Stands.{Answered, RowsStand}}
+use Rattle.hc_state.proofs.{Answering.{does_answered}, FallbackSteps.{falls_back}, ConsumerSteps.{keys_with}, Counting.{stands_counted}, KeySteps.{says_elsewhere, not_lined, passes_key}, QueueHandler.{becomes_by}}
 
 module _ {B : Type 0} {g : Ghosts B} {limits : Limits} (r u : Rows B g) (t : Tables) (law : Lawful t) (c q : ℕ) (k : Consumer) (v : rows.Consumer) (stands : RowsStand limits r t) (there : get nat_eq r.consumers c ≡ Some k) (row : t.consumer c ≡ Some v) (now_is : current t v.request.key ≡ Some q)
     (last : u.last_start ≡ r.last_start) (exchanges : u.exchanges ≡ r.exchanges) (entries : u.entries ≡ r.entries) where

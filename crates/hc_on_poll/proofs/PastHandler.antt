@@ -1,41 +1,20 @@
 -- A consumer that reads nothing goes past the store: it opens its exchange, and stands in no line.
-use Rattle.std.proofs.Common.{◌≡◌, ℕ, ◌+◌, List, ◌++◌, Bool, true, false, Some, refl, ap, sym, ◌∙◌, subst, arith}
-use Rattle.std.specs.Prelude.{nat_eq, not, ◌&&◌}
-use Rattle.std.specs.HashMap.{get}
+use Rattle.std.{proofs.Common.{◌≡◌, ℕ, ◌+◌, List, ◌++◌, Bool, true, false, Some, refl, ap, sym, ◌∙◌, subst, arith}, specs.{Prelude.{nat_eq, not, ◌&&◌}, HashMap.{get}}}
 use Rattle.hc_text.proofs.Basics.{false_true}
 use Rattle.hc_store.specs.declared.backend.Backend.{Ghosts}
-use Rattle.hc_entry.specs.declared.keys.KeyTable.{KeyTable}
+use Rattle.hc_entry.specs.{declared.keys.KeyTable.{KeyTable}, Keys.{kept_of}, Kept.{on_line}, Lines.{left_by}}
 use Rattle.hc_entry.specs.Keys as keys
-use Rattle.hc_entry.specs.Keys.{kept_of}
-use Rattle.hc_entry.specs.Kept.{on_line}
-use Rattle.hc_entry.specs.Lines.{left_by}
 use Rattle.hc_effects.proofs.Vocabulary.{Act, Need, Request, RequestClass, Limits, route_of, class_of, is_disabled, is_only, Place, current, is_live_place, with_event, with_consumer, with_opening, just_opened, Lawful, Opens, acts_of, move_of, reads, Tables, Exchange}
 use Rattle.hc_event.specs.declared.event.Event.TheVariants as event
 use Rattle.hc_rules.specs.declared.need.Route.TheVariants as route
 use Rattle.hc_exch.specs.declared.role.Role.TheVariants as role
-use Rattle.hc_exch.specs.declared.exchanges.Exchanges.{Exchanges}
-use Rattle.hc_exch.specs.Exchanges.{table_of, next_of}
-use Rattle.hc_exch.specs.Known.{with_new_exchange, Changes}
+use Rattle.hc_exch.specs.{declared.exchanges.Exchanges.{Exchanges}, Exchanges.{table_of, next_of}, Known.{with_new_exchange, Changes}}
 use Rattle.hc_event.specs.declared.place.Place.TheVariants as place
 use Rattle.hc_model.specs.Rows as rows
 use Rattle.hc_effects.proofs.PastEffects.{passes_by}
-use Rattle.hc_state.specs.declared.consumer.Consumer.{Consumer}
-use Rattle.hc_state.specs.declared.rows.Rows.{Rows}
-use Rattle.hc_state.specs.Handlers.{queues, IsLeft, LeftIf, LeavesLine}
-use Rattle.hc_state.specs.Changes.{Numbered, ChangesAt, reading_past}
-use Rattle.hc_state.specs.Kept.{IsKept, KeepsConsumer}
-use Rattle.hc_state.specs.Lines.{KeepsKey}
-use Rattle.hc_state.specs.Plans.{is_idle_at}
-use Rattle.hc_state.specs.Stands.{Answered, RowsStand}
-use Rattle.hc_state.proofs.Answering.{does_answered}
-use Rattle.hc_state.proofs.ConsumerSteps.{keys_with, key_with, key_stays}
-use Rattle.hc_state.proofs.Counting.{stands_counted}
-use Rattle.hc_state.proofs.KeySteps.{IsUnsaid, leaves_key, says_elsewhere, says_none, apart_unsaid, unqueued_unsaid}
-use Rattle.hc_state.proofs.Maps.{known_of}
-use Rattle.hc_on_poll.proofs.OpenHandler.{past}
-use Rattle.hc_on_poll.proofs.OpenKeys.{key_opened}
-use Rattle.hc_on_poll.proofs.OpenStands.{stands_opened}
-use Rattle.hc_state.proofs.QueueHandler.{becomes_by}
+use Rattle.hc_state.specs.{declared.{consumer.Consumer.{Consumer}, rows.Rows.{Rows}}, Handlers.{queues, IsLeft, LeftIf, LeavesLine}, Changes.{Numbered, ChangesAt, reading_past}, Kept.{IsKept, KeepsConsumer}, Lines.{KeepsKey}, Plans.{is_idle_at}, Stands.{Answered, RowsStand}}
+use Rattle.hc_state.proofs.{Answering.{does_answered}, ConsumerSteps.{keys_with, key_with, key_stays}, Counting.{stands_counted}, KeySteps.{IsUnsaid, leaves_key, says_elsewhere, says_none, apart_unsaid, unqueued_unsaid}, Maps.{known_of}, QueueHandler.{becomes_by}}
+use Rattle.hc_on_poll.proofs.{OpenHandler.{past}, OpenKeys.{key_opened}, OpenStands.{stands_opened}}
 
 -- WHO IS IDLE
 

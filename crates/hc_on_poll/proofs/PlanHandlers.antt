@@ -1,77 +1,36 @@
 -- A plan is carried out: what its handlers ask for, and that what they answer is owed.
-use Rattle.std.proofs.Math.Logic.{∥∥₁_map}
-use Rattle.std.proofs.Common.{◌≡◌, ◌≢◌, ℕ, ◌+◌, ◌<◌, ◌≤◌, arith, List, Bool, true, false, Option, Some, None, Result, Err, refl, ap, sym, ◌∙◌, subst}
-use Rattle.std.specs.Prelude.{nat_eq, is_some, not, unwrap_or, IsSomeAnd, ◌&&◌, ◌||◌, if◌then◌else◌}
-use Rattle.std.specs.Option.{option_and_then, option_map}
-use Rattle.std.specs.HashMap.{get}
+use Rattle.std.{proofs.{Math.Logic.{∥∥₁_map}, Common.{◌≡◌, ◌≢◌, ℕ, ◌+◌, ◌<◌, ◌≤◌, arith, List, Bool, true, false, Option, Some, None, Result, Err, refl, ap, sym, ◌∙◌, subst}}, specs.{Prelude.{nat_eq, is_some, not, unwrap_or, IsSomeAnd, ◌&&◌, ◌||◌, if◌then◌else◌}, Option.{option_and_then, option_map}, HashMap.{get}}}
 use Rattle.hc_text.proofs.Basics.{false_true}
 use Rattle.hc_effects.proofs.Vocabulary.{Limits, Act, Need, Why, Response, Request, Route, Candidate, Plan, PlanView, least, lesser, route_of, plan_of, bare_plan, from_store, in_time, by_current, RequestClass, class_of, is_bypassing, is_disabled, is_only, Place, current, row_of, denial, gate, is_live, is_in_line, Move, Opens, Fails, Shows, span_to, plan_move, has_passed, candidate, candidate_at, move_of, is_bound, is_bound_place, Tables, Representation}
-use Rattle.hc_store.specs.declared.backend.Backend.{Ghosts}
-use Rattle.hc_store.specs.declared.error.StoreError.{StoreError}
+use Rattle.hc_store.specs.{declared.{backend.Backend.{Ghosts}, error.StoreError.{StoreError}}, Causes.{HasNoLimit}}
 use Rattle.hc_store.specs.declared.error.StoreError.TheVariants as errors
-use Rattle.hc_store.specs.Causes.{HasNoLimit}
 use Rattle.hc_sorted.specs.Sorted.{has}
-use Rattle.hc_stored.specs.declared.entries.Entries.{Entries}
-use Rattle.hc_stored.specs.Entries.{shelf_of}
-use Rattle.hc_stored.specs.Kept.{Kept, itself}
-use Rattle.hc_stored.specs.Shelf.{is_kept, head_at, Stays}
-use Rattle.hc_stored.specs.Views.{admits}
-use Rattle.hc_entry.specs.declared.keys.KeyTable.{KeyTable}
-use Rattle.hc_entry.specs.Keys.{kept_of, line_of}
-use Rattle.hc_entry.specs.Kept.{line_in}
-use Rattle.hc_entry.specs.Lines.{Line, is_among, is_in, turn_with}
+use Rattle.hc_stored.specs.{declared.entries.Entries.{Entries}, Entries.{shelf_of}, Kept.{Kept, itself}, Shelf.{is_kept, head_at, Stays}, Views.{admits}}
+use Rattle.hc_entry.specs.{declared.keys.KeyTable.{KeyTable}, Keys.{kept_of, line_of}, Kept.{line_in}, Lines.{Line, is_among, is_in, turn_with}}
 use Rattle.hc_event.specs.declared.act.Need.TheVariants as need
 use Rattle.hc_range.specs.declared.range.Span.{Span}
-use Rattle.hc_validate.specs.Showing.{shown_response}
+use Rattle.hc_validate.specs.{Showing.{shown_response}, Conditions.{conditional}}
 use Rattle.hc_event.specs.declared.event.Event.TheVariants as event
 use Rattle.hc_rules.specs.declared.need.Route.TheVariants as route
 use Rattle.hc_rules.specs.declared.plan.Plan.TheVariants as plan
 use Rattle.hc_rules.specs.Plans as rules
 use Rattle.hc_exch.specs.Exchanges.{next_of}
 use Rattle.hc_event.specs.declared.place.Place.TheVariants as place
-use Rattle.hc_record.specs.declared.head.StoredHead.{StoredHead}
-use Rattle.hc_record.specs.Head.{Head}
-use Rattle.hc_record.specs.Plain.{plain}
-use Rattle.hc_validate.specs.Conditions.{conditional}
+use Rattle.hc_record.specs.{declared.head.StoredHead.{StoredHead}, Head.{Head}, Plain.{plain}}
 use Rattle.hc_model.specs.Lines as lines
 use Rattle.hc_event.specs.declared.act.Cause.TheVariants as cause
 use Rattle.hc_event.specs.declared.act.Wait.TheVariants as wait
 use Rattle.hc_model.specs.Moves.{Waits, opens}
 use Rattle.hc_model.specs.Planning as planning
 use Rattle.hc_model.specs.Rows as rows
-use Rattle.hc_effects.proofs.Asked.{Asked, AskedBy, plan_asks}
-use Rattle.hc_effects.proofs.Joining.{mix}
-use Rattle.hc_effects.proofs.PlanBy.{PlanBy, plan_by}
+use Rattle.hc_effects.proofs.{Asked.{Asked, AskedBy, plan_asks}, Joining.{mix}, PlanBy.{PlanBy, plan_by}, TurnMoves.{Does, Queues, does_polled}, Tests.{none_some}, OpenedAs.{bypassing_is as bypassing_as}}
 use Rattle.hc_effects.proofs.PlanBy as plans
-use Rattle.hc_effects.proofs.TurnMoves.{Does, Queues, does_polled}
 use Rattle.hc_effects.proofs.TurnMoves as does
-use Rattle.hc_effects.proofs.Tests.{none_some}
-use Rattle.hc_effects.proofs.OpenedAs.{bypassing_is as bypassing_as}
-use Rattle.hc_state.specs.declared.consumer.Consumer.{Consumer}
-use Rattle.hc_state.specs.declared.rows.Rows.{Rows}
-use Rattle.hc_state.specs.Handlers.{queues}
-use Rattle.hc_state.specs.Facts.{Facts}
-use Rattle.hc_state.specs.Good.{StandsBy}
-use Rattle.hc_state.specs.Kept.{IsKept, KeepsConsumer}
-use Rattle.hc_state.specs.Lines.{is_passed}
-use Rattle.hc_state.specs.Plans.{plan_view, looks_at_stored, is_idle_at, IsIdle, IsLookedAt, IsNext, IsWaiting, IsKeptPassed, HasCurrent, IsPlanOf, shows_part, AnswersShowing, AnswersOpening, AnswersValidating, AnswersPoll}
-use Rattle.hc_state.specs.Reads.{AnswersMisread}
+use Rattle.hc_state.specs.{declared.{consumer.Consumer.{Consumer}, rows.Rows.{Rows}}, Handlers.{queues}, Facts.{Facts}, Good.{StandsBy}, Kept.{IsKept, KeepsConsumer}, Lines.{is_passed}, Plans.{plan_view, looks_at_stored, is_idle_at, IsIdle, IsLookedAt, IsNext, IsWaiting, IsKeptPassed, HasCurrent, IsPlanOf, shows_part, AnswersShowing, AnswersOpening, AnswersValidating, AnswersPoll}, Reads.{AnswersMisread}, Stands.{Answered, Answers, AnswersMove, RowsStand, Stands}}
 use Rattle.hc_state.specs.Reads as reads
-use Rattle.hc_state.specs.Stands.{Answered, Answers, AnswersMove, RowsStand, Stands}
 use Rattle.hc_on_poll.specs.Ready.{IsCurrentWith, MayAsk, MayLeaveLine, MayPass, MayQueue}
-use Rattle.hc_on_poll.proofs.Accepted.{poll_lives}
-use Rattle.hc_on_poll.proofs.CandidateTies.{head_at_is}
-use Rattle.hc_state.proofs.CurrentTies.{now_kept, total_told}
-use Rattle.hc_state.proofs.KeySteps.{lined}
-use Rattle.hc_on_poll.proofs.PassesHandler.{current_as}
-use Rattle.hc_on_poll.proofs.PastHandler.{queues_as}
-use Rattle.hc_on_poll.proofs.PlanTies.{plans_are, unlooked}
-use Rattle.hc_state.proofs.Maps.{known_of, some_that, merely_true, merely_number}
-use Rattle.hc_state.proofs.ReaderSteps.{stands_read}
-use Rattle.hc_state.proofs.Ties.{kept_row}
-use Rattle.hc_state.proofs.TurnTies.{turn_with_is}
-use Rattle.hc_on_poll.proofs.WaitHandlers.{plans_move}
-use Rattle.hc_state.proofs.Words.{there}
+use Rattle.hc_on_poll.proofs.{Accepted.{poll_lives}, CandidateTies.{head_at_is}, PassesHandler.{current_as}, PastHandler.{queues_as}, PlanTies.{plans_are, unlooked}, WaitHandlers.{plans_move}}
+use Rattle.hc_state.proofs.{CurrentTies.{now_kept, total_told}, KeySteps.{lined}, Maps.{known_of, some_that, merely_true, merely_number}, ReaderSteps.{stands_read}, Ties.{kept_row}, TurnTies.{turn_with_is}, Words.{there}}
 use Rattle.hc_rules.proofs.RangeReads.{bytes_eq-same}
 
 -- WHO WAITS FOR ITS KEY

@@ -1,21 +1,15 @@
 -- The plan of a consumer, but for what is current, is that of the tables.
-use Rattle.std.proofs.Common.{◌≡◌, ℕ, List, Bool, true, false, cond, eqb, Option, Some, None, refl, ap, sym, ◌∙◌}
-use Rattle.std.specs.Prelude.{is_none, unwrap_or, ◌&&◌}
+use Rattle.std.{proofs.Common.{◌≡◌, ℕ, List, Bool, true, false, cond, eqb, Option, Some, None, refl, ap, sym, ◌∙◌}, specs.Prelude.{is_none, unwrap_or, ◌&&◌}}
 use Rattle.hc_text.proofs.Basics.{false_true}
 use Rattle.hc_effects.proofs.Vocabulary.{Limits, Why, Request, Candidate, Plan, PlanView, RequestClass, Wanted, plan_of, bare_plan, in_time, from_store, queues, by_current, by_why, plan_on, by_wanted, by_exclusive, by_hole, by_bound, why_by, class_of, Place, kept_by, has_passed, Tables, IsListed}
 use Rattle.hc_store.specs.declared.backend.Backend.{Ghosts}
 use Rattle.hc_range.specs.declared.range.Span.{Span}
-use Rattle.hc_entry.specs.Keys.{kept_of, line_of}
-use Rattle.hc_entry.specs.Lines.{turn_with}
+use Rattle.hc_entry.specs.{Keys.{kept_of, line_of}, Lines.{turn_with}}
 use Rattle.hc_rules.specs.declared.request.Wanted.TheVariants as wants
 use Rattle.hc_model.specs.Lines as lines
 use Rattle.hc_model.specs.Planning as planning
 use Rattle.hc_model.specs.Rows as rows
-use Rattle.hc_state.specs.declared.consumer.Consumer.{Consumer}
-use Rattle.hc_state.specs.declared.rows.Rows.{Rows}
-use Rattle.hc_state.specs.Kept.{IsKept}
-use Rattle.hc_state.specs.Plans.{plan_view, looks_at_stored}
-use Rattle.hc_state.specs.Stands.{RowsStand}
+use Rattle.hc_state.specs.{declared.{consumer.Consumer.{Consumer}, rows.Rows.{Rows}}, Kept.{IsKept}, Plans.{plan_view, looks_at_stored}, Stands.{RowsStand}}
 use Rattle.hc_state.proofs.TurnTies.{turn_with_is}
 
 -- SINCE WHEN IT WAITS

@@ -1,19 +1,11 @@
 -- What is known of a consumer that is polled: it is live, and its request has few and short fields.
-use Rattle.std.proofs.Common.{◌≡◌, ℕ, length, true, Some, sym, ap, ◌∙◌, subst, arith}
-use Rattle.std.specs.Prelude.{nat_eq, IsSomeAnd}
-use Rattle.std.specs.HashMap.{get}
+use Rattle.std.{proofs.Common.{◌≡◌, ℕ, length, true, Some, sym, ap, ◌∙◌, subst, arith}, specs.{Prelude.{nat_eq, IsSomeAnd}, HashMap.{get}}}
 use Rattle.hc_store.specs.declared.backend.Backend.{Ghosts}
 use Rattle.hc_effects.proofs.Vocabulary.{Request, Place, is_live_place}
 use Rattle.hc_fields.specs.FieldList.{IsWithinLimits, size_of}
 use Rattle.hc_model.specs.Rows as rows
-use Rattle.hc_state.specs.declared.consumer.Consumer.{Consumer}
-use Rattle.hc_state.specs.declared.rows.Rows.{Rows}
-use Rattle.hc_state.specs.Kept.{IsKept, KeepsConsumer}
-use Rattle.hc_state.specs.Plans.{IsRequestWithinLimits}
-use Rattle.hc_state.specs.Stands.{Stands}
-use Rattle.hc_state.proofs.Maps.{merely_true, merely_below, some_that}
-use Rattle.hc_state.proofs.Ties.{kept_row}
-use Rattle.hc_state.proofs.Words.{there}
+use Rattle.hc_state.specs.{declared.{consumer.Consumer.{Consumer}, rows.Rows.{Rows}}, Kept.{IsKept, KeepsConsumer}, Plans.{IsRequestWithinLimits}, Stands.{Stands}}
+use Rattle.hc_state.proofs.{Maps.{merely_true, merely_below, some_that}, Ties.{kept_row}, Words.{there}}
 
 module _ {B : Type 0} {g : Ghosts B} (r : Rows B g) (some : ∥ Stands r ∥₁) (c : ℕ) (k : Consumer) (there : get nat_eq r.consumers c ≡ Some k) where
   its_row : (s : Stands r) → (v : rows.Consumer) × (s.t.consumer c ≡ Some v) × IsKept s.t k v

@@ -1,36 +1,23 @@
 -- Who is bound reads on: what its calls need holds wherever there is some past.
-use Rattle.std.proofs.Common.{◌≡◌, ℕ, ◌+◌, ◌<◌, ◌≤◌, ◌^◌, List, ◌++◌, length, take, true, Option, Some, None, refl, ap, ap₂, sym, ◌∙◌, subst, arith}
-use Rattle.std.proofs.lemmas.Grind.{not_there}
-use Rattle.std.specs.Prelude.{is_some, nat_eq, option_map, IsSomeAnd, IfSome}
-use Rattle.std.specs.HashMap.{get}
+use Rattle.std.{proofs.{Common.{◌≡◌, ℕ, ◌+◌, ◌<◌, ◌≤◌, ◌^◌, List, ◌++◌, length, take, true, Option, Some, None, refl, ap, ap₂, sym, ◌∙◌, subst, arith}, lemmas.Grind.{not_there}}, specs.{Prelude.{is_some, nat_eq, option_map, IsSomeAnd, IfSome}, HashMap.{get}}}
 use Rattle.hc_text.proofs.Basics.{some_inj as some_is}
 use Rattle.hc_effects.proofs.Vocabulary.{Limits, Act, ReadView, read_step, acts_of, Tables}
 use Rattle.hc_effects.proofs.Tests.{none_some}
 use Rattle.hc_store.specs.declared.backend.Backend.{Ghosts}
 use Rattle.hc_event.specs.declared.event.Event.TheVariants as event
-use Rattle.hc_range.specs.Spans.{IsWithin}
-use Rattle.hc_range.specs.declared.range.Span.{Span}
+use Rattle.hc_range.specs.{Spans.{IsWithin}, declared.range.Span.{Span}}
 use Rattle.hc_record.specs.Head.{Head}
-use Rattle.hc_sparse.specs.Runs.{end_of}
-use Rattle.hc_sparse.specs.declared.run.Run.{Run}
+use Rattle.hc_sparse.specs.{Runs.{end_of}, declared.run.Run.{Run}}
 use Rattle.hc_rules.specs.declared.reading.ReadStep.TheVariants as step
-use Rattle.hc_stored.specs.Entries.{shelf_of}
-use Rattle.hc_stored.specs.Shelf.{head_at, is_kept}
+use Rattle.hc_stored.specs.{Entries.{shelf_of}, Shelf.{head_at, is_kept}}
 use Rattle.hc_exch.specs.Exchanges as exch
 use Rattle.hc_exch.specs.Exchanges.{table_of}
 use Rattle.hc_exch.specs.Known as known
-use Rattle.hc_state.specs.declared.consumer.Consumer.{Consumer}
-use Rattle.hc_state.specs.declared.rows.Rows.{Rows}
-use Rattle.hc_state.specs.Handlers.{most, given_acts, asks_or_waits, asked_in}
-use Rattle.hc_state.specs.Changes.{ChangesAt, once_given}
-use Rattle.hc_state.specs.Facts.{Facts}
-use Rattle.hc_state.specs.Reads.{IsShownAt, WaitsForNoHead, IsRunAhead, IsInLength, ReadViewIs}
-use Rattle.hc_state.specs.Stands.{RowsStand, Stands, Answered}
+use Rattle.hc_state.specs.{declared.{consumer.Consumer.{Consumer}, rows.Rows.{Rows}}, Handlers.{most, given_acts, asks_or_waits, asked_in}, Changes.{ChangesAt, once_given}, Facts.{Facts}, Reads.{IsShownAt, WaitsForNoHead, IsRunAhead, IsInLength, ReadViewIs}, Stands.{RowsStand, Stands, Answered}}
 use Rattle.hc_on_poll.proofs.BoundGives as gives
 use Rattle.hc_on_poll.proofs.BoundReads as bound
-use Rattle.hc_state.proofs.Maps.{merely_true, merely_below}
+use Rattle.hc_state.proofs.{Maps.{merely_true, merely_below}, Words.{few_received}}
 use Rattle.hc_on_poll.proofs.ShowStored.{IsBoundRow, bound_row_of, bound_kept}
-use Rattle.hc_state.proofs.Words.{few_received}
 
 -- WHEREVER THERE IS SOME PAST
 

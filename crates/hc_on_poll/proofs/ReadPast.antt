@@ -1,10 +1,5 @@
 -- Polls of who goes past the store: what is looked at is what the tables have, and what is done is what they owe.
-use Rattle.std.proofs.Common.{◌≡◌, ◌≢◌, inl, inr, ℕ, ◌+◌, ◌-◌, ◌≤◌, ◌<◌, ◌^◌, List, [], ◌∷◌, ◌++◌, length, drop, take, Bool, true, false, min, Option, Some, None, refl, ap, ap₂, sym, ◌∙◌, subst, arith}
-use Rattle.std.proofs.lemmas.Bool.Decides.{nat_tests}
-use Rattle.std.proofs.lemmas.Grind.{common_steps}
-use Rattle.std.proofs.lemmas.List.{length-drop, length-take}
-use Rattle.std.specs.Prelude.{is_some, is_none, nat_lt, nat_eq, option_and_then, if◌then◌else◌, ◌&&◌}
-use Rattle.std.specs.HashMap.{get}
+use Rattle.std.{proofs.{Common.{◌≡◌, ◌≢◌, inl, inr, ℕ, ◌+◌, ◌-◌, ◌≤◌, ◌<◌, ◌^◌, List, [], ◌∷◌, ◌++◌, length, drop, take, Bool, true, false, min, Option, Some, None, refl, ap, ap₂, sym, ◌∙◌, subst, arith}, lemmas.{Bool.Decides.{nat_tests}, Grind.{common_steps}, List.{length-drop, length-take}}}, specs.{Prelude.{is_some, is_none, nat_lt, nat_eq, option_and_then, if◌then◌else◌, ◌&&◌}, HashMap.{get}}}
 use Rattle.hc_text.proofs.Basics.{eqb-other, eqb-same, false_true, same_or, some_inj as some_is}
 use Rattle.hc_effects.proofs.Vocabulary.{Limits, Act, Cause, Event, Response, ReadStep, ReadView, read_step, is_at_end, cut_at, held_or, fails_or, waits_or, with_consumer, with_ask, with_event, base, front, Lawful, Move, Gives, Ends, Fails, Asks, Shows, acts_of, gives, waits_for, ReadsPast, planned_move, move_of, shows_head, shows_answer, shows_direct, if_headless, waits_for_head, by_place, or_else, own_open, source, offset, hi_of, lo_of, base_in, end_in, reads, Numbers, Tables, Exchange, Representation, reading, step_move, run_held_for, run_of}
 use Rattle.hc_store.specs.declared.backend.Backend.{Ghosts}
@@ -19,33 +14,16 @@ use Rattle.hc_rules.specs.Readings.{hole_ahead}
 use Rattle.hc_stored.specs.Entries.{shelf_of}
 use Rattle.hc_stored.specs.Shelf as shelf
 use Rattle.hc_exch.specs.Exchanges as exch
-use Rattle.hc_exch.specs.Exchanges.{table_of, next_of}
+use Rattle.hc_exch.specs.{Exchanges.{table_of, next_of}, Known.{Known}, declared.row.Open.{Open}}
 use Rattle.hc_exch.specs.Known as known
-use Rattle.hc_exch.specs.Known.{Known}
-use Rattle.hc_exch.specs.declared.row.Open.{Open}
 use Rattle.hc_event.specs.declared.place.Place.TheVariants as place
 use Rattle.hc_model.specs.Moves as moves
 use Rattle.hc_model.specs.Rows as rows
 use Rattle.hc_model.specs.Steps as steps
-use Rattle.hc_effects.proofs.AskEffects.{asks}
-use Rattle.hc_effects.proofs.GiveEffects.{gives_bytes}
-use Rattle.hc_effects.proofs.ShowEffects.{shows_reader}
-use Rattle.hc_effects.proofs.WaitEffects.{waits_on}
-use Rattle.hc_effects.proofs.Tests.{none_some}
-use Rattle.hc_state.specs.declared.consumer.Consumer.{Consumer}
-use Rattle.hc_state.specs.declared.rows.Rows.{Rows}
-use Rattle.hc_state.specs.Handlers.{IsShown, IsUnshown, past_view, source_in, most, asks_or_waits, asked_in, given_acts}
-use Rattle.hc_state.specs.Changes.{BecomesAt, ChangesAt, once_answered, once_given}
-use Rattle.hc_state.specs.Facts.{Facts}
-use Rattle.hc_state.specs.Kept.{IsKept, KeepsConsumer, KeepsExchange, KeepsRunning, answer_for, held_for, unread, unstored_bytes}
-use Rattle.hc_state.specs.Stands.{RowsStand, Answered}
-use Rattle.hc_state.proofs.Answering.{does_answered}
-use Rattle.hc_on_poll.proofs.Asking.{stands_asked, stands_asked_already}
-use Rattle.hc_state.proofs.Counting.{stands_counted}
-use Rattle.hc_state.proofs.QueueHandler.{becomes_by}
-use Rattle.hc_on_poll.proofs.ReadLemmas.{first_is, second_is, third_is, run_some, run_is, some_more}
-use Rattle.hc_state.proofs.ReaderSteps.{held_same, exchange_reading, stands_reading}
-use Rattle.hc_state.proofs.Ties.{kept_row, runs_same}
+use Rattle.hc_effects.proofs.{AskEffects.{asks}, GiveEffects.{gives_bytes}, ShowEffects.{shows_reader}, WaitEffects.{waits_on}, Tests.{none_some}}
+use Rattle.hc_state.specs.{declared.{consumer.Consumer.{Consumer}, rows.Rows.{Rows}}, Handlers.{IsShown, IsUnshown, past_view, source_in, most, asks_or_waits, asked_in, given_acts}, Changes.{BecomesAt, ChangesAt, once_answered, once_given}, Facts.{Facts}, Kept.{IsKept, KeepsConsumer, KeepsExchange, KeepsRunning, answer_for, held_for, unread, unstored_bytes}, Stands.{RowsStand, Answered}}
+use Rattle.hc_state.proofs.{Answering.{does_answered}, Counting.{stands_counted}, QueueHandler.{becomes_by}, ReaderSteps.{held_same, exchange_reading, stands_reading}, Ties.{kept_row, runs_same}}
+use Rattle.hc_on_poll.proofs.{Asking.{stands_asked, stands_asked_already}, ReadLemmas.{first_is, second_is, third_is, run_some, run_is, some_more}}
 
 -- WHO READS PAST THE STORE
 

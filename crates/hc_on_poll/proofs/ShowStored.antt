@@ -1,9 +1,5 @@
 -- The stored head is shown to who is bound: what is shown is what the tables say.
-use Rattle.std.proofs.Common.{◌≡◌, ◌≢◌, ℕ, ◌<◌, ◌≤◌, ◌^◌, List, [], ◌∷◌, ◌++◌, Bool, true, false, Option, Some, None, refl, ap, ap₂, sym, ◌∙◌, subst, arith}
-use Rattle.std.proofs.lemmas.Bool.Decides.{nat_tests}
-use Rattle.std.specs.Prelude.{is_some, is_none, nat_eq, option_and_then, option_map, not, ◌&&◌, if◌then◌else◌}
-use Rattle.std.specs.Option.{option_or}
-use Rattle.std.specs.HashMap.{get}
+use Rattle.std.{proofs.{Common.{◌≡◌, ◌≢◌, ℕ, ◌<◌, ◌≤◌, ◌^◌, List, [], ◌∷◌, ◌++◌, Bool, true, false, Option, Some, None, refl, ap, ap₂, sym, ◌∙◌, subst, arith}, lemmas.Bool.Decides.{nat_tests}}, specs.{Prelude.{is_some, is_none, nat_eq, option_and_then, option_map, not, ◌&&◌, if◌then◌else◌}, Option.{option_or}, HashMap.{get}}}
 use Rattle.hc_text.proofs.Basics.{eqb-same, false_true, some_inj as some_is}
 use Rattle.hc_effects.proofs.Vocabulary.{Limits, Act, Why, Response, class_of, RequestClass, BoundBy, is_number, total_in, with_consumer, with_event, is_headless, Lawful, Move, Shows, acts_of, span_to, shows_stored, is_ranged, move_of, shows_head, shows_at, shows_bound, has_joined, if_headless, waits_for_head, by_place, or_else, own_open, hi_of, lo_of, reads, Numbers, Tables, Exchange, Representation, IsToBeShown, status_in, came_alone}
 use Rattle.hc_store.specs.declared.backend.Backend.{Ghosts}
@@ -11,44 +7,23 @@ use Rattle.hc_event.specs.declared.act.Act.TheVariants as act
 use Rattle.hc_event.specs.declared.act.Wait.TheVariants as wait
 use Rattle.hc_event.specs.declared.act.Why.TheVariants as why
 use Rattle.hc_event.specs.declared.event.Event.TheVariants as event
-use Rattle.hc_range.specs.Spans.{IsWithin}
-use Rattle.hc_range.specs.declared.range.Span.{Span}
+use Rattle.hc_range.specs.{Spans.{IsWithin}, declared.range.Span.{Span}}
 use Rattle.hc_record.specs.Head.{Head, sealed_head}
 use Rattle.hc_record.specs.declared.kind.Kind.TheVariants as kinds
 use Rattle.hc_validate.specs.Showing.{shown_response}
-use Rattle.hc_stored.specs.Entries.{shelf_of}
+use Rattle.hc_stored.specs.{Entries.{shelf_of}, Shelf.{head_at, is_kept}, Views.{has_user}}
 use Rattle.hc_stored.specs.Kept as entry
 use Rattle.hc_stored.specs.Shelf as shelf
-use Rattle.hc_stored.specs.Shelf.{head_at, is_kept}
-use Rattle.hc_stored.specs.Views.{has_user}
-use Rattle.hc_exch.specs.Exchanges.{table_of, next_of}
-use Rattle.hc_exch.specs.declared.row.Open.{Open}
+use Rattle.hc_exch.specs.{Exchanges.{table_of, next_of}, declared.row.Open.{Open}}
 use Rattle.hc_event.specs.declared.place.BoundBy.TheVariants as by
 use Rattle.hc_event.specs.declared.place.Place.TheVariants as place
 use Rattle.hc_model.specs.Moves as moves
 use Rattle.hc_model.specs.Rows as rows
 use Rattle.hc_model.specs.Sound as sound
-use Rattle.hc_effects.proofs.ShowEffects.{shows_reader}
-use Rattle.hc_effects.proofs.Tests.{none_some}
-use Rattle.hc_effects.proofs.Basics.{some_row}
-use Rattle.hc_state.specs.declared.consumer.Consumer.{Consumer}
-use Rattle.hc_state.specs.declared.rows.Rows.{Rows}
-use Rattle.hc_state.specs.Changes.{ChangesAt, once_shown}
-use Rattle.hc_state.specs.Facts.{Facts}
-use Rattle.hc_state.specs.Kept.{IsKept, answer_at, KeepsConsumer, KeepsExchange, KeepsRunning, held_for}
-use Rattle.hc_state.specs.Leaving.{IsUserAt}
-use Rattle.hc_state.specs.Reads.{IsUnshownBy, is_headless_open, waits_for_first, may_be_part, is_part, why_shown}
-use Rattle.hc_state.specs.Stands.{RowsStand, Stands, Answered}
-use Rattle.hc_state.specs.Stored.{IsEntry, TellsLength, told, untold, KeepsEntry, is_first}
-use Rattle.hc_state.proofs.Answering.{does_answered}
-use Rattle.hc_state.proofs.Counting.{stands_counted}
-use Rattle.hc_state.proofs.QueueHandler.{becomes_by}
-use Rattle.hc_on_poll.proofs.ReadLemmas.{first_is, second_is}
-use Rattle.hc_state.proofs.ReaderSteps.{held_same, exchange_reading, stands_reading}
-use Rattle.hc_state.proofs.Ties.{kept_row}
-use Rattle.hc_state.proofs.Unbinding.{user_kept}
-use Rattle.hc_on_poll.proofs.WaitHandlers.{head_waits}
-use Rattle.hc_state.proofs.Words.{few_received}
+use Rattle.hc_effects.proofs.{ShowEffects.{shows_reader}, Tests.{none_some}, Basics.{some_row}}
+use Rattle.hc_state.specs.{declared.{consumer.Consumer.{Consumer}, rows.Rows.{Rows}}, Changes.{ChangesAt, once_shown}, Facts.{Facts}, Kept.{IsKept, answer_at, KeepsConsumer, KeepsExchange, KeepsRunning, held_for}, Leaving.{IsUserAt}, Reads.{IsUnshownBy, is_headless_open, waits_for_first, may_be_part, is_part, why_shown}, Stands.{RowsStand, Stands, Answered}, Stored.{IsEntry, TellsLength, told, untold, KeepsEntry, is_first}}
+use Rattle.hc_state.proofs.{Answering.{does_answered}, Counting.{stands_counted}, QueueHandler.{becomes_by}, ReaderSteps.{held_same, exchange_reading, stands_reading}, Ties.{kept_row}, Unbinding.{user_kept}, Words.{few_received}}
+use Rattle.hc_on_poll.proofs.{ReadLemmas.{first_is, second_is}, WaitHandlers.{head_waits}}
 
 -- WHO IS BOUND
 

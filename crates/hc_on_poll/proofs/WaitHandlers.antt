@@ -9,11 +9,8 @@ use Rattle.hc_event.specs.declared.act.Wait.TheVariants as wait
 use Rattle.hc_event.specs.declared.place.Place.TheVariants as place
 use Rattle.hc_model.specs.Moves as moves
 use Rattle.hc_effects.proofs.WaitEffects.{waits, waits_on}
-use Rattle.hc_state.specs.declared.rows.Rows.{Rows}
-use Rattle.hc_state.specs.Plans.{is_idle_at, in_line}
-use Rattle.hc_state.specs.Stands.{Answered, RowsStand}
-use Rattle.hc_state.proofs.Answering.{does_answered}
-use Rattle.hc_state.proofs.Counting.{stands_counted}
+use Rattle.hc_state.specs.{declared.rows.Rows.{Rows}, Plans.{is_idle_at, in_line}, Stands.{Answered, RowsStand}}
+use Rattle.hc_state.proofs.{Answering.{does_answered}, Counting.{stands_counted}}
 
 -- whoever waits in line, or has passed, does what its plan says
 pub plans_move : (t : Tables) (law : Lawful t) (now want c : ℕ) (v : Consumer) → t.consumer c ≡ Some v → is_idle_at v.place ≡ true → move_of t now want c v ≡ planned_move t now c v

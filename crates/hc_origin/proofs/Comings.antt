@@ -3,20 +3,13 @@
 -- A call brings to what came of a connection what its event says, and to the others nothing. Bytes behind a whole
 -- request, and behind a refused one, change nothing of it; where it isn't whole, they are read from where its
 -- reading stands (`next_more`). So what a connection is answered stays.
-use Rattle.std.proofs.Common.{◌≡◌, ℕ, List, [], ◌∷◌, ◌++◌, Bool, true, false, not, Option, Some, None, refl, sym, ap, subst, ◌∙◌, inl, inr, append_assoc}
-use Rattle.std.specs.Prelude.{if◌then◌else◌, ◌||◌, ◌&&◌, is_some}
-use Rattle.std.proofs.lemmas.List.{append-nil}
-use Rattle.std.proofs.lemmas.Bool.{cases_Bool}
+use Rattle.std.{proofs.{Common.{◌≡◌, ℕ, List, [], ◌∷◌, ◌++◌, Bool, true, false, not, Option, Some, None, refl, sym, ap, subst, ◌∙◌, inl, inr, append_assoc}, lemmas.{List.{append-nil}, Bool.{cases_Bool}}}, specs.Prelude.{if◌then◌else◌, ◌||◌, ◌&&◌, is_some}}
 use Rattle.hc_text.proofs.Basics.{cond_either as or_all, or_false as or_none}
 use Rattle.hc_event.specs.declared.event.Request.{Request}
-use Rattle.hc_wire.specs.Logs.{Called}
-use Rattle.hc_wire.specs.Scripts.{is_got_by}
-use Rattle.hc_msg.specs.Inputs.{Next, Waits, Tells, Brings, Ends, Fails, next_in, told_or, is_in_body, step_of}
+use Rattle.hc_wire.specs.{Logs.{Called}, Scripts.{is_got_by}}
+use Rattle.hc_msg.specs.{Inputs.{Next, Waits, Tells, Brings, Ends, Fails, next_in, told_or, is_in_body, step_of}, Reading.{Reading, Heading, Counts, Runs, Sizing, Chunk, ChunkEnd, ChunkReturn, Trailing, Whole, Done, Failed, Token, move_of, heading, Requests}}
 use Rattle.hc_msg.proofs.Inputs.{failed_next}
-use Rattle.hc_msg.specs.Reading.{Reading, Heading, Counts, Runs, Sizing, Chunk, ChunkEnd, ChunkReturn, Trailing, Whole, Done, Failed, Token, move_of, heading, Requests}
-use Rattle.hc_origin.specs.Coming.{Came, bytes_of, came_of, first_in, has_stopped, is_accept_of, is_accepted, is_cut_off, is_failing, is_refused, is_stop_of, request_from, request_in}
-use Rattle.hc_origin.specs.Answering.{IsAnswer}
-use Rattle.hc_origin.specs.Going.{with_bytes, with_stop}
+use Rattle.hc_origin.specs.{Coming.{Came, bytes_of, came_of, first_in, has_stopped, is_accept_of, is_accepted, is_cut_off, is_failing, is_refused, is_stop_of, request_from, request_in}, Answering.{IsAnswer}, Going.{with_bytes, with_stop}}
 
 -- ONE MORE CALL
 

@@ -3,32 +3,15 @@
 -- A fresh log has nobody, so nothing need be kept (`fresh-rests`). Behind the last turn the log says what each connection
 -- was sent and that what is lacking was offered (`rests-ending`), and to close one changes none of that (`closes-one`).
 -- Once nothing is kept, nobody is open (`nobody-left`).
-use Rattle.std.proofs.Common.{◌≡◌, ℕ, ◌+◌, ◌<◌, ◌≤◌, List, [], ◌∷◌, ◌++◌, length, Bool, true, false, eqb, Option, Some, None, Ok, Err, refl, sym, ap, subst, ◌∙◌, inl, inr, arith}
-use Rattle.std.specs.Prelude.{Result, IsErrAnd, find, is_some, IfSome}
-use Rattle.std.specs.Option.{option_map}
+use Rattle.std.{proofs.Common.{◌≡◌, ℕ, ◌+◌, ◌<◌, ◌≤◌, List, [], ◌∷◌, ◌++◌, length, Bool, true, false, eqb, Option, Some, None, Ok, Err, refl, sym, ap, subst, ◌∙◌, inl, inr, arith}, specs.{Prelude.{Result, IsErrAnd, find, is_some, IfSome}, Option.{option_map}}}
 use Rattle.hc_text.proofs.Basics.{asked_none}
 use Rattle.hc_sched.specs.declared.schedule.Ended.{Ended}
 use Rattle.hc_sched.specs.declared.schedule.Ended.TheVariants as ended
-use Rattle.hc_origin.specs.declared.origin.Origin.{Origin}
-use Rattle.hc_origin.specs.declared.stop.Stop.{Stop}
+use Rattle.hc_origin.specs.{declared.{origin.Origin.{Origin}, stop.Stop.{Stop}}, Stops.{ended_as}, Coming.{Came, came_of, request_in}, Turns.{Closes, refused, cut_off, answered}, Endings.{Answers, done, unwired, wanting, AnswersAs, IsAnswered, IsFresh, IsLog, WasSent}, Replies.{Unsent, unsent_in}, Keeping.{Follows, IsLacking, PlaceOf, Rests, nothing, told_as}, Going.{GoesTo, IsEnding, IsOver, TurnsTo, asking_in, nobody}}
 use Rattle.hc_origin.specs.declared.stop.Stop.TheVariants as stop
-use Rattle.hc_origin.specs.Stops.{ended_as}
-use Rattle.hc_wire.specs.Events.{Stage, IsOpen, closed_of, with_stage}
-use Rattle.hc_wire.specs.Following.{live_from}
-use Rattle.hc_wire.specs.Logs.{Called, Log, Taker, Tells, changed_at, empty_log, is_numbered, shut, with_closed}
+use Rattle.hc_wire.specs.{Events.{Stage, IsOpen, closed_of, with_stage}, Following.{live_from}, Logs.{Called, Log, Taker, Tells, changed_at, empty_log, is_numbered, shut, with_closed}}
 use Rattle.hc_msg.specs.Reading.{Reading}
-use Rattle.hc_origin.specs.Coming.{Came, came_of, request_in}
-use Rattle.hc_origin.specs.Turns.{Closes, refused, cut_off, answered}
-use Rattle.hc_origin.specs.Endings.{Answers, done, unwired, wanting, AnswersAs, IsAnswered, IsFresh, IsLog, WasSent}
-use Rattle.hc_origin.specs.Replies.{Unsent, unsent_in}
-use Rattle.hc_origin.specs.Keeping.{Follows, IsLacking, PlaceOf, Rests, nothing, told_as}
-use Rattle.hc_origin.specs.Going.{GoesTo, IsEnding, IsOver, TurnsTo, asking_in, nobody}
-use Rattle.hc_origin.proofs.Comings.{cut-none, refused-none, waits-none}
-use Rattle.hc_origin.proofs.Fitting.{all-later, later-shut}
-use Rattle.hc_origin.proofs.Places.{at_or, keeps-log}
-use Rattle.hc_origin.proofs.Steps.{follows-closed}
-use Rattle.hc_origin.proofs.Takers.{apart_sym, find-changed, find-other}
-use Rattle.hc_origin.proofs.Unsents.{others-with}
+use Rattle.hc_origin.proofs.{Comings.{cut-none, refused-none, waits-none}, Fitting.{all-later, later-shut}, Places.{at_or, keeps-log}, Steps.{follows-closed}, Takers.{apart_sym, find-changed, find-other}, Unsents.{others-with}}
 
 -- THE BEGINNING
 

@@ -3,24 +3,12 @@
 -- What a call says of its open connections rests on the calls before it alone. What it says of a closed one is told by
 -- the takers: a connection that is closed stays so, and takes nothing more (`Later`). So each call goes on fitting while
 -- open connections change and new ones come. The next call fits by what is kept of each number (`next-fits`).
-use Rattle.std.proofs.Common.{◌≡◌, ℕ, ◌<◌, List, [], ◌∷◌, ◌++◌, length, Bool, true, false, not, eqb, Option, Some, None, refl, sym, ap, subst, ◌∙◌, inl, inr, append_assoc, arith, length-append}
-use Rattle.std.specs.Prelude.{find, map, filter, is_some, ◌&&◌, IfSome}
-use Rattle.std.specs.List.{list_any}
-use Rattle.std.specs.Option.{option_map}
-use Rattle.std.proofs.lemmas.List.{append-nil}
-use Rattle.std.proofs.lemmas.Bool.{cases_Bool, eqb-true, eq-eqb}
+use Rattle.std.{proofs.{Common.{◌≡◌, ℕ, ◌<◌, List, [], ◌∷◌, ◌++◌, length, Bool, true, false, not, eqb, Option, Some, None, refl, sym, ap, subst, ◌∙◌, inl, inr, append_assoc, arith, length-append}, lemmas.{List.{append-nil}, Bool.{cases_Bool, eqb-true, eq-eqb}}}, specs.{Prelude.{find, map, filter, is_some, ◌&&◌, IfSome}, List.{list_any}, Option.{option_map}}}
 use Rattle.hc_text.proofs.Basics.{and_none as and_false, asked_none}
-use Rattle.hc_wire.specs.declared.event.WireEvent.{WireEvent}
-use Rattle.hc_wire.specs.Events.{Unseen, Closed}
-use Rattle.hc_wire.specs.Following.{is_live, live_from}
-use Rattle.hc_wire.specs.Logs.{Called, Log, Taker, changed_at, is_at_end, is_numbered, is_taking, sent_from, sent_in, shut, stage_from, stage_in, stage_of, standing_of, standings_in}
+use Rattle.hc_wire.specs.{declared.event.WireEvent.{WireEvent}, Events.{Unseen, Closed}, Following.{is_live, live_from}, Logs.{Called, Log, Taker, changed_at, is_at_end, is_numbered, is_taking, sent_from, sent_in, shut, stage_from, stage_in, stage_of, standing_of, standings_in}}
 use Rattle.hc_msg.specs.Reading.{Reading}
-use Rattle.hc_origin.specs.Coming.{Came, came_of, is_accepted, request_in}
-use Rattle.hc_origin.specs.Turns.{AllFit, AllStand, Closes, Fits, StandsRight, is_of}
-use Rattle.hc_origin.specs.Replies.{Unsent, unsent_in}
-use Rattle.hc_origin.specs.Keeping.{AreApart, IsAsking, IsLacking, IsOwing, PlaceOf, Rests}
-use Rattle.hc_origin.proofs.Comings.{answer-on, waits-none, waits-on}
-use Rattle.hc_origin.proofs.Takers.{behind, find-before, find-changed, find-other, unlisted}
+use Rattle.hc_origin.specs.{Coming.{Came, came_of, is_accepted, request_in}, Turns.{AllFit, AllStand, Closes, Fits, StandsRight, is_of}, Replies.{Unsent, unsent_in}, Keeping.{AreApart, IsAsking, IsLacking, IsOwing, PlaceOf, Rests}}
+use Rattle.hc_origin.proofs.{Comings.{answer-on, waits-none, waits-on}, Takers.{behind, find-before, find-changed, find-other, unlisted}}
 
 -- LATER
 

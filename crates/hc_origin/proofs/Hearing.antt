@@ -2,23 +2,13 @@
 --
 -- Bytes come to a reader, if one is kept (`ReadsOn`): then the request goes on, is whole or is refused. Where none is
 -- kept the connection is answered already, and stays so. The same where it ends or breaks.
-use Rattle.std.proofs.Common.{◌≡◌, ℕ, List, Bool, false, eqb, Option, Some, None, Ok, Err, refl, inl, inr}
-use Rattle.std.specs.Prelude.{Result, OnOk, drop}
+use Rattle.std.{proofs.Common.{◌≡◌, ℕ, List, Bool, false, eqb, Option, Some, None, Ok, Err, refl, inl, inr}, specs.Prelude.{Result, OnOk, drop}}
 use Rattle.hc_text.specs.declared.memory.NoMemory.{NoMemory}
-use Rattle.hc_head.specs.declared.message.MsgError.{MsgError}
-use Rattle.hc_head.specs.declared.message.WireRequest.{WireRequest}
-use Rattle.hc_msg.specs.declared.message.Taken.{Taken}
-use Rattle.hc_msg.specs.Inputs.{IsNextRequest, TakesNextRequest, next_in}
-use Rattle.hc_msg.specs.Reading.{Reading}
-use Rattle.hc_wire.specs.Events.{Stage}
-use Rattle.hc_wire.specs.Logs.{Log}
-use Rattle.hc_origin.specs.declared.origin.Origin.{Origin}
-use Rattle.hc_origin.specs.Coming.{Came}
-use Rattle.hc_origin.specs.Replies.{Unsent}
-use Rattle.hc_origin.specs.Keeping.{Follows, Keeps}
-use Rattle.hc_origin.specs.Going.{AreKept, GoesTo, HandlesTo, Hears, IsGot, IsTaken, ReadsOn, with_bytes}
-use Rattle.hc_origin.proofs.Comings.{answer-more}
-use Rattle.hc_origin.proofs.Steps.{answered-kept, read-asks, read-fails, read-on}
+use Rattle.hc_head.specs.declared.message.{MsgError.{MsgError}, WireRequest.{WireRequest}}
+use Rattle.hc_msg.specs.{declared.message.Taken.{Taken}, Inputs.{IsNextRequest, TakesNextRequest, next_in}, Reading.{Reading}}
+use Rattle.hc_wire.specs.{Events.{Stage}, Logs.{Log}}
+use Rattle.hc_origin.specs.{declared.origin.Origin.{Origin}, Coming.{Came}, Replies.{Unsent}, Keeping.{Follows, Keeps}, Going.{AreKept, GoesTo, HandlesTo, Hears, IsGot, IsTaken, ReadsOn, with_bytes}}
+use Rattle.hc_origin.proofs.{Comings.{answer-more}, Steps.{answered-kept, read-asks, read-fails, read-on}}
 
 -- the log is the one that was
 pub stays-kept : (tells : Bool) (log : Log) (told : Option Log) (stages : ℕ → Stage) (P : Log → Type 0) → Follows tells told stages log → P log → GoesTo tells log told stages P

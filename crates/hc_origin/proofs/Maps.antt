@@ -1,8 +1,5 @@
 -- A map by number, changed at one.
-use Rattle.std.proofs.Common.{◌≡◌, ℕ, ◌<◌, [], ◌∷◌, false, eqb, ltb, Option, None, refl, inl, inr}
-use Rattle.std.specs.Ordering.{nat_cmp}
-use Rattle.std.specs.BTreeMap.{BTreeMap, Updates, btree_map_len, get}
-use Rattle.std.proofs.lemmas.Bool.{cases_Bool}
+use Rattle.std.{proofs.{Common.{◌≡◌, ℕ, ◌<◌, [], ◌∷◌, false, eqb, ltb, Option, None, refl, inl, inr}, lemmas.Bool.{cases_Bool}}, specs.{Ordering.{nat_cmp}, BTreeMap.{BTreeMap, Updates, btree_map_len, get}}}
 use Rattle.hc_text.proofs.Basics.{no_entries}
 use Rattle.hc_origin.proofs.Takers.{apart_sym}
 

@@ -3,26 +3,11 @@
 -- It is owed what it lacks, so what it takes and what is left of it are its answer (`sent-kept`). If something is left it
 -- took less than it was offered, and is put behind those that were offered theirs. If nothing is left it has taken its
 -- answer, and is closed (`closed-kept`). What the others lack stays (`lacking-other`).
-use Rattle.std.proofs.Common.{◌≡◌, ℕ, ◌<◌, List, [], ◌∷◌, ◌++◌, length, Bool, true, false, eqb, Option, Some, None, refl, sym, ap, subst, ◌∙◌, append_assoc}
-use Rattle.std.specs.Prelude.{find, IfSome}
-use Rattle.std.specs.Option.{option_map}
-use Rattle.std.proofs.lemmas.List.{append-nil}
-use Rattle.hc_wire.specs.Events.{Stage, closed_of, with_stage}
-use Rattle.hc_wire.specs.Following.{is_live, live_from}
-use Rattle.hc_wire.specs.Logs.{Log, Taker, Tells, changed_at, is_numbered, shut, taking, with_closed, with_sent}
+use Rattle.std.{proofs.{Common.{◌≡◌, ℕ, ◌<◌, List, [], ◌∷◌, ◌++◌, length, Bool, true, false, eqb, Option, Some, None, refl, sym, ap, subst, ◌∙◌, append_assoc}, lemmas.List.{append-nil}}, specs.{Prelude.{find, IfSome}, Option.{option_map}}}
+use Rattle.hc_wire.specs.{Events.{Stage, closed_of, with_stage}, Following.{is_live, live_from}, Logs.{Log, Taker, Tells, changed_at, is_numbered, shut, taking, with_closed, with_sent}}
 use Rattle.hc_msg.specs.Reading.{Reading}
-use Rattle.hc_origin.specs.Coming.{Came, came_of, is_accepted}
-use Rattle.hc_origin.specs.Answering.{IsAnswer}
-use Rattle.hc_origin.specs.Turns.{answered}
-use Rattle.hc_origin.specs.Endings.{IsLog}
-use Rattle.hc_origin.specs.Replies.{Sends, Unsent, unsent_in}
-use Rattle.hc_origin.specs.Keeping.{AreLacking, Follows, IsGone, IsLacking, IsOwing, Keeps, PlaceIn, PlaceOf}
-use Rattle.hc_origin.specs.Going.{AreOffered, GoesTo}
-use Rattle.hc_origin.proofs.Fitting.{all-later, later-changed, later-shut}
-use Rattle.hc_origin.proofs.Places.{at_or, keeps-log, place-same}
-use Rattle.hc_origin.proofs.Steps.{follows-closed, follows-sent}
-use Rattle.hc_origin.proofs.Takers.{apart-changed, apart_sym, find-changed, find-other}
-use Rattle.hc_origin.proofs.Unsents.{moved, none-behind, once-moved, once-replaced, once-without, others-with, others-without, own-in, own-with, own-without}
+use Rattle.hc_origin.specs.{Coming.{Came, came_of, is_accepted}, Answering.{IsAnswer}, Turns.{answered}, Endings.{IsLog}, Replies.{Sends, Unsent, unsent_in}, Keeping.{AreLacking, Follows, IsGone, IsLacking, IsOwing, Keeps, PlaceIn, PlaceOf}, Going.{AreOffered, GoesTo}}
+use Rattle.hc_origin.proofs.{Fitting.{all-later, later-changed, later-shut}, Places.{at_or, keeps-log, place-same}, Steps.{follows-closed, follows-sent}, Takers.{apart-changed, apart_sym, find-changed, find-other}, Unsents.{moved, none-behind, once-moved, once-replaced, once-without, others-with, others-without, own-in, own-with, own-without}}
 
 -- what one is kept as that lacks bytes
 place-owes : (a : Bool) (came : Came) (o : Option Taker) (r : Option Reading) (u : Option (List ℕ)) (bytes : List ℕ) → PlaceOf a came o r u → u ≡ Some bytes

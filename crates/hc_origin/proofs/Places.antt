@@ -3,28 +3,12 @@
 -- A step is about one connection. What is kept of the others stays, since their bytes, their taker and what they are
 -- owed stay (`place-other`, `others-moved`). Of the one in hand it is shown by what is kept of it: it is accepted, its
 -- request is read on, is whole or is refused, it was cut off, it took bytes, or it took all.
-use Rattle.std.proofs.Common.{◌≡◌, ℕ, List, [], ◌++◌, Bool, true, false, eqb, Option, Some, None, refl, sym, ap, subst, ◌∙◌, inl, inr}
-use Rattle.std.specs.Prelude.{find, IfSome}
-use Rattle.std.specs.Option.{option_map}
-use Rattle.std.proofs.lemmas.List.{append-nil}
-use Rattle.std.proofs.lemmas.Bool.{cases_Bool, eqb-true, eq-eqb}
-use Rattle.hc_wire.specs.declared.event.WireEvent.{WireEvent}
+use Rattle.std.{proofs.{Common.{◌≡◌, ℕ, List, [], ◌++◌, Bool, true, false, eqb, Option, Some, None, refl, sym, ap, subst, ◌∙◌, inl, inr}, lemmas.{List.{append-nil}, Bool.{cases_Bool, eqb-true, eq-eqb}}}, specs.{Prelude.{find, IfSome}, Option.{option_map}}}
+use Rattle.hc_wire.specs.{declared.event.WireEvent.{WireEvent}, Events.{Stage, Unseen, Open, Closed, IsOfOpen, IsOpen, IsUnended}, Following.{live_from}, Logs.{Called, Log, Taker, fresh, is_numbered, over, standings_in, takers_with, with_call}, Scripts.{is_got_by}}
 use Rattle.hc_wire.specs.declared.event.WireEvent.TheVariants as event
-use Rattle.hc_wire.specs.Events.{Stage, Unseen, Open, Closed, IsOfOpen, IsOpen, IsUnended}
-use Rattle.hc_wire.specs.Following.{live_from}
-use Rattle.hc_wire.specs.Logs.{Called, Log, Taker, fresh, is_numbered, over, standings_in, takers_with, with_call}
-use Rattle.hc_wire.specs.Scripts.{is_got_by}
 use Rattle.hc_msg.specs.Reading.{Reading}
-use Rattle.hc_origin.specs.Coming.{Came, came_of, is_accept_of, is_accepted, is_stop_of}
-use Rattle.hc_origin.specs.Answering.{IsAnswer}
-use Rattle.hc_origin.specs.Turns.{AllFit, Closes, refused, cut_off, answered}
-use Rattle.hc_origin.specs.Endings.{IsLog, WasSent}
-use Rattle.hc_origin.specs.Replies.{Unsent, unsent_in}
-use Rattle.hc_origin.specs.Keeping.{AreApart, Follows, Keeps, PlaceIn, PlaceOf, Rests, nothing}
-use Rattle.hc_origin.specs.Going.{Hears, HearsOf, Heard, KeepsOthers, Welcomes, with_bytes, with_stop}
-use Rattle.hc_origin.proofs.Comings.{accepted-same, answer-more, answer-stop, came-got, came-other, came-stop}
-use Rattle.hc_origin.proofs.Fitting.{Later, all-later, all-more, fits-later, later-changed, later-last, later-same, next-fits}
-use Rattle.hc_origin.proofs.Takers.{apart-changed, apart-last, apart_sym, find-before, find-changed, find-last, find-other}
+use Rattle.hc_origin.specs.{Coming.{Came, came_of, is_accept_of, is_accepted, is_stop_of}, Answering.{IsAnswer}, Turns.{AllFit, Closes, refused, cut_off, answered}, Endings.{IsLog, WasSent}, Replies.{Unsent, unsent_in}, Keeping.{AreApart, Follows, Keeps, PlaceIn, PlaceOf, Rests, nothing}, Going.{Hears, HearsOf, Heard, KeepsOthers, Welcomes, with_bytes, with_stop}}
+use Rattle.hc_origin.proofs.{Comings.{accepted-same, answer-more, answer-stop, came-got, came-other, came-stop}, Fitting.{Later, all-later, all-more, fits-later, later-changed, later-last, later-same, next-fits}, Takers.{apart-changed, apart-last, apart_sym, find-before, find-changed, find-last, find-other}}
 
 -- PLACES
 

@@ -3,14 +3,9 @@
 -- A part of a run of positions is a run of positions, and what stands at two runs is the same where their first
 -- positions leave the same remainder by 26. So the part of the letters that begins at a remainder is what stands from
 -- any position with it on.
-use Rattle.std.proofs.Common.{◌≡◌, ℕ, suc, zero, ◌+◌, ◌-◌, ◌<◌, ◌≤◌, List, [], ◌∷◌, ◌++◌, length, take, drop, refl, sym, ap, ◌∙◌, arith, length-append, length-drop}
-use Rattle.std.specs.Prelude.{◌%◌, map, min}
-use Rattle.std.specs.List.{range_with_len}
-use Rattle.std.proofs.lemmas.List.FromFn.{length-map-range_with_len, take-map-range_with_len, map-range_with_len_more}
-use Rattle.std.proofs.lemmas.List.{drop-drop, drop_all}
+use Rattle.std.{proofs.{Common.{◌≡◌, ℕ, suc, zero, ◌+◌, ◌-◌, ◌<◌, ◌≤◌, List, [], ◌∷◌, ◌++◌, length, take, drop, refl, sym, ap, ◌∙◌, arith, length-append, length-drop}, lemmas.List.{drop-drop, drop_all, FromFn.{length-map-range_with_len, take-map-range_with_len, map-range_with_len_more}}}, specs.{Prelude.{◌%◌, map, min}, List.{range_with_len}}}
 use Rattle.hc_validate.specs.Origin.{origin_byte}
-use Rattle.hc_origin.specs.Answering.{bytes_between}
-use Rattle.hc_origin.specs.Replies.{AreLetters, IsPiece}
+use Rattle.hc_origin.specs.{Answering.{bytes_between}, Replies.{AreLetters, IsPiece}}
 
 pub run : ℕ → ℕ → List ℕ
 run a n = map origin_byte (range_with_len a n)

@@ -2,10 +2,7 @@
 --
 -- To send nothing changes nothing, and to send some bytes and then more is to send them together. So the pieces that
 -- were taken are told as one (`sends-more`), of which the last may have been taken in part.
-use Rattle.std.proofs.Common.{◌≡◌, ℕ, ◌-◌, ◌<◌, ◌≤◌, List, [], ◌∷◌, ◌++◌, length, take, drop, Bool, true, false, Option, Some, None, refl, sym, ap, subst, ◌∙◌, inl, inr, arith, append_assoc, length-take, length-drop, lt-ltb, ltb}
-use Rattle.std.specs.Prelude.{if◌then◌else◌, nat_lt}
-use Rattle.std.proofs.lemmas.List.{take-append-drop, take-take}
-use Rattle.std.proofs.lemmas.Bool.{cases_Bool, ltb-true}
+use Rattle.std.{proofs.{Common.{◌≡◌, ℕ, ◌-◌, ◌<◌, ◌≤◌, List, [], ◌∷◌, ◌++◌, length, take, drop, Bool, true, false, Option, Some, None, refl, sym, ap, subst, ◌∙◌, inl, inr, arith, append_assoc, length-take, length-drop, lt-ltb, ltb}, lemmas.{List.{take-append-drop, take-take}, Bool.{cases_Bool, ltb-true}}}, specs.Prelude.{if◌then◌else◌, nat_lt}}
 use Rattle.hc_wire.specs.Logs.{Log, Tells, with_sent}
 use Rattle.hc_wire.proofs.SentLemmas.{sent-none, tells-both}
 use Rattle.hc_origin.specs.Replies.{IsPiece, Sends}

@@ -3,31 +3,14 @@
 -- A log is followed through each call of the wire (`follows-call`, `follows-closed`, `follows-sent`). A new connection
 -- asks (`accepted-kept`). Of one that asks, its bytes are read on, its request is whole or it leaves (`read-..`,
 -- `asked-kept`, `left-kept`). One that is answered took some bytes (`sent-kept`), and is closed once it took all.
-use Rattle.std.proofs.Common.{◌≡◌, ℕ, List, [], ◌∷◌, ◌++◌, length, Bool, true, false, eqb, Option, Some, None, refl, sym, ap, subst, ◌∙◌}
-use Rattle.std.specs.Prelude.{find, ◌&&◌}
-use Rattle.std.specs.Option.{option_map}
-use Rattle.std.proofs.lemmas.Bool.{eq-eqb}
+use Rattle.std.{proofs.{Common.{◌≡◌, ℕ, List, [], ◌∷◌, ◌++◌, length, Bool, true, false, eqb, Option, Some, None, refl, sym, ap, subst, ◌∙◌}, lemmas.Bool.{eq-eqb}}, specs.{Prelude.{find, ◌&&◌}, Option.{option_map}}}
 use Rattle.hc_event.specs.declared.event.Request.{Request}
-use Rattle.hc_head.specs.declared.message.MsgError.{MsgError}
-use Rattle.hc_head.specs.declared.message.WireRequest.{WireRequest}
-use Rattle.hc_wire.specs.declared.event.WireEvent.{WireEvent}
+use Rattle.hc_head.specs.declared.message.{MsgError.{MsgError}, WireRequest.{WireRequest}}
+use Rattle.hc_wire.specs.{declared.event.WireEvent.{WireEvent}, Events.{Stage, Unseen, Open, Closed, Fresh, IsOfOpen, IsOpen, closed_of, ended_of, stages_after, with_stage}, Following.{is_live, live_from}, Logs.{Log, Taker, Tells, changed_at, fresh, is_numbered, over, shut, taking, with_call, with_closed, with_sent}}
 use Rattle.hc_wire.specs.declared.event.WireEvent.TheVariants as event
-use Rattle.hc_wire.specs.Events.{Stage, Unseen, Open, Closed, Fresh, IsOfOpen, IsOpen, closed_of, ended_of, stages_after, with_stage}
-use Rattle.hc_wire.specs.Following.{is_live, live_from}
-use Rattle.hc_wire.specs.Logs.{Log, Taker, Tells, changed_at, fresh, is_numbered, over, shut, taking, with_call, with_closed, with_sent}
-use Rattle.hc_msg.specs.Inputs.{Waits, Tells as Told, Fails, next_in}
-use Rattle.hc_msg.specs.Reading.{Reading, Requests, Asks as AsksFor, heading}
-use Rattle.hc_origin.specs.Coming.{Came, came_of, first_in, is_accepted, is_failing, request_from}
-use Rattle.hc_origin.specs.Answering.{IsAnswer, Responds}
-use Rattle.hc_origin.specs.Turns.{Closes, refused}
-use Rattle.hc_origin.specs.Replies.{Unsent, unsent_in}
-use Rattle.hc_origin.specs.Keeping.{Follows, IsAsking, IsGone, IsOwing, Keeps, PlaceIn, PlaceOf, nothing, told_as}
-use Rattle.hc_origin.specs.Going.{Asks, Hears, IsUnanswered, Leaves, Welcomes, with_bytes}
-use Rattle.hc_origin.proofs.Comings.{waits-more}
-use Rattle.hc_origin.proofs.Fitting.{all-later, later-shut}
-use Rattle.hc_origin.proofs.Places.{at_or, others-asking, place-same, with-own}
-use Rattle.hc_origin.proofs.Takers.{apart-changed, apart_sym, find-before, find-changed, find-last, find-other}
-use Rattle.hc_origin.proofs.Unsents.{once-with, others-with, own-with}
+use Rattle.hc_msg.specs.{Inputs.{Waits, Tells as Told, Fails, next_in}, Reading.{Reading, Requests, Asks as AsksFor, heading}}
+use Rattle.hc_origin.specs.{Coming.{Came, came_of, first_in, is_accepted, is_failing, request_from}, Answering.{IsAnswer, Responds}, Turns.{Closes, refused}, Replies.{Unsent, unsent_in}, Keeping.{Follows, IsAsking, IsGone, IsOwing, Keeps, PlaceIn, PlaceOf, nothing, told_as}, Going.{Asks, Hears, IsUnanswered, Leaves, Welcomes, with_bytes}}
+use Rattle.hc_origin.proofs.{Comings.{waits-more}, Fitting.{all-later, later-shut}, Places.{at_or, others-asking, place-same, with-own}, Takers.{apart-changed, apart_sym, find-before, find-changed, find-last, find-other}, Unsents.{once-with, others-with, own-with}}
 
 -- THE LOG
 

@@ -3,14 +3,9 @@
 -- Each lemma goes along the list, by whether the connection in hand has the number that changes and the number that is
 -- asked for. A change that keeps numbers changes what is found by one number, and nothing of the others. No number
 -- stands twice (`AreApart`), so what holds of each number holds of each connection.
-use Rattle.std.proofs.Common.{◌≡◌, ℕ, List, [], ◌∷◌, ◌++◌, true, false, eqb, Some, None, refl, sym, ap, subst, ◌∙◌, inl, inr}
-use Rattle.std.specs.Prelude.{map, filter, find}
-use Rattle.std.specs.List.{list_any}
-use Rattle.std.specs.Option.{option_map}
-use Rattle.std.proofs.lemmas.Bool.{cases_Bool, eqb-true, eqb-false, eq-eqb, ne_eqb}
+use Rattle.std.{proofs.{Common.{◌≡◌, ℕ, List, [], ◌∷◌, ◌++◌, true, false, eqb, Some, None, refl, sym, ap, subst, ◌∙◌, inl, inr}, lemmas.Bool.{cases_Bool, eqb-true, eqb-false, eq-eqb, ne_eqb}}, specs.{Prelude.{map, filter, find}, List.{list_any}, Option.{option_map}}}
 use Rattle.hc_wire.specs.Logs.{Taker, is_numbered, changed_at, standing_of, is_taking}
-use Rattle.hc_origin.specs.Turns.{is_of}
-use Rattle.hc_origin.specs.Keeping.{AreApart}
+use Rattle.hc_origin.specs.{Turns.{is_of}, Keeping.{AreApart}}
 
 -- the other way round
 pub apart_sym : (j k : ℕ) → eqb j k ≡ false → eqb k j ≡ false

@@ -3,18 +3,10 @@
 -- The log goes on by the call (`heard` of Places says what is kept behind it), by what its event brings and by what is
 -- sent. Each of these goes on from the log that the one before it led to (`goes-on`). Where one stops the turn, the log
 -- that it led to is one already.
-use Rattle.std.proofs.Common.{◌≡◌, ℕ, ◌+◌, ◌<◌, ◌≤◌, List, [], ◌∷◌, ◌++◌, length, Bool, true, false, Option, Ok, Err, refl, sym, ap, subst, ◌∙◌, arith, length-append}
-use Rattle.std.specs.Prelude.{Result, IsErrAnd}
-use Rattle.hc_wire.specs.declared.event.WireEvent.{WireEvent}
-use Rattle.hc_wire.specs.Events.{Stage, IsOpen}
-use Rattle.hc_wire.specs.Logs.{Log, with_call, standings_in}
+use Rattle.std.{proofs.Common.{◌≡◌, ℕ, ◌+◌, ◌<◌, ◌≤◌, List, [], ◌∷◌, ◌++◌, length, Bool, true, false, Option, Ok, Err, refl, sym, ap, subst, ◌∙◌, arith, length-append}, specs.Prelude.{Result, IsErrAnd}}
+use Rattle.hc_wire.specs.{declared.event.WireEvent.{WireEvent}, Events.{Stage, IsOpen}, Logs.{Log, with_call, standings_in}}
 use Rattle.hc_msg.specs.Reading.{Reading}
-use Rattle.hc_origin.specs.declared.origin.Origin.{Origin}
-use Rattle.hc_origin.specs.declared.stop.Stop.{Stop}
-use Rattle.hc_origin.specs.Endings.{IsLog}
-use Rattle.hc_origin.specs.Replies.{Offers, Sends, Unsent}
-use Rattle.hc_origin.specs.Keeping.{Follows, Rests}
-use Rattle.hc_origin.specs.Going.{GoesTo, Heard, OffersTo, SendsTo, TurnsTo}
+use Rattle.hc_origin.specs.{declared.{origin.Origin.{Origin}, stop.Stop.{Stop}}, Endings.{IsLog}, Replies.{Offers, Sends, Unsent}, Keeping.{Follows, Rests}, Going.{GoesTo, Heard, OffersTo, SendsTo, TurnsTo}}
 use Rattle.hc_origin.proofs.Places.{heard-log, keeps-log}
 
 pub goes-on : (tells : Bool) (log : Log) (told new : Option Log) (stages next : ℕ → Stage) (P Q : Log → Type 0) → GoesTo tells log told stages P

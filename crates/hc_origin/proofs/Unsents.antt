@@ -2,8 +2,7 @@
 --
 -- One in the middle of a list is taken out, and one is put behind it. No connection stands twice, so behind that
 -- nothing of it is left.
-use Rattle.std.proofs.Common.{◌≡◌, ℕ, List, [], ◌∷◌, ◌++◌, true, false, eqb, Some, None, refl, sym, ap, subst, ◌∙◌, inl, inr, append_assoc}
-use Rattle.std.proofs.lemmas.Bool.{cases_Bool, eqb-true, eq-eqb}
+use Rattle.std.proofs.{Common.{◌≡◌, ℕ, List, [], ◌∷◌, ◌++◌, true, false, eqb, Some, None, refl, sym, ap, subst, ◌∙◌, inl, inr, append_assoc}, lemmas.Bool.{cases_Bool, eqb-true, eq-eqb}}
 use Rattle.hc_origin.specs.Replies.{Unsent, StandOnce, unsent_in}
 use Rattle.hc_origin.proofs.Takers.{apart_sym}
 

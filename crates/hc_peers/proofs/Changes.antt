@@ -1,17 +1,8 @@
 -- What a map or a set has once one key of it changed.
-use Rattle.std.proofs.Common.{◌≡◌, ◌≢◌, ℕ, Bool, false, Option, eqb, inl, inr, refl, sym, ap, ◌∙◌, arith}
-use Rattle.std.specs.Prelude.{nat_eq, if◌then◌else◌}
+use Rattle.std.{proofs.{Common.{◌≡◌, ◌≢◌, ℕ, Bool, false, Option, eqb, inl, inr, refl, sym, ap, ◌∙◌, arith}, lemmas.Bool.{ne_eqb, eqb-true, eqb-false, cases_Bool, eq-eqb, Decides.{nat_tests}}}, specs.{Prelude.{nat_eq, if◌then◌else◌}, HashMap.{HashMap}, BTreeMap.{BTreeMap, is_at}, BTreeSet.{BTreeSet}, Map.{lookup}, List.{list_any}, Ordering.{nat_cmp}}}
 use Rattle.std.specs.HashMap as hash
-use Rattle.std.specs.HashMap.{HashMap}
 use Rattle.std.specs.BTreeMap as tree
-use Rattle.std.specs.BTreeMap.{BTreeMap, is_at}
 use Rattle.std.specs.BTreeSet as set
-use Rattle.std.specs.BTreeSet.{BTreeSet}
-use Rattle.std.specs.Map.{lookup}
-use Rattle.std.specs.List.{list_any}
-use Rattle.std.specs.Ordering.{nat_cmp}
-use Rattle.std.proofs.lemmas.Bool.{ne_eqb, eqb-true, eqb-false, cases_Bool, eq-eqb}
-use Rattle.std.proofs.lemmas.Bool.Decides.{nat_tests}
 
 -- At one key it is this now.
 pub record Changed {A : Type 0} (k : ℕ) (after : A) (old new : ℕ → A) : Type 0 where

@@ -2,19 +2,12 @@
 -- consumer of the row stays, comes or goes. Of the set of those to be read only what it says of the row is new. The set
 -- of those that are looked at may grow; it loses the row alone, where it is settled. Each lemma has the rows before and
 -- now, and what changed between them, so that an answer gives it what the calls of std's maps say.
-use Rattle.std.proofs.Common.{◌≡◌, ◌≢◌, ℕ, Bool, true, false, Option, Some, None, eqb, inl, inr, sym, ap, ◌∙◌}
-use Rattle.std.specs.Prelude.{nat_eq, is_none, ◌&&◌, if◌then◌else◌}
+use Rattle.std.{proofs.{Common.{◌≡◌, ◌≢◌, ℕ, Bool, true, false, Option, Some, None, eqb, inl, inr, sym, ap, ◌∙◌}, lemmas.Bool.{cases_Bool, eqb-true, eqb-false}}, specs.{Prelude.{nat_eq, is_none, ◌&&◌, if◌then◌else◌}, HashMap.{HashMap}, BTreeMap.{BTreeMap}, BTreeSet.{BTreeSet}, Ordering.{nat_cmp}}}
 use Rattle.std.specs.HashMap as hash
-use Rattle.std.specs.HashMap.{HashMap}
 use Rattle.std.specs.BTreeMap as tree
-use Rattle.std.specs.BTreeMap.{BTreeMap}
 use Rattle.std.specs.BTreeSet as set
-use Rattle.std.specs.BTreeSet.{BTreeSet}
-use Rattle.std.specs.Ordering.{nat_cmp}
-use Rattle.std.proofs.lemmas.Bool.{cases_Bool, eqb-true, eqb-false}
 use Rattle.hc_text.proofs.Basics.{some_same as some-same}
-use Rattle.hc_peers.specs.declared.client.Client.{Client}
-use Rattle.hc_peers.specs.Agreement.{IsLiveTable, IsReadySet, IsTouchedSet, consumer_at, ready_at, settled_at}
+use Rattle.hc_peers.specs.{declared.client.Client.{Client}, Agreement.{IsLiveTable, IsReadySet, IsTouchedSet, consumer_at, ready_at, settled_at}}
 use Rattle.hc_peers.proofs.Changes.{Changed, at-each, changed-by}
 
 module _ {S : Type 0} (rows now : HashMap ℕ Client S) (k : ℕ) (after : Option Client)

@@ -1,27 +1,11 @@
 -- No more consumers are live than there are clients, and the next request of no more is to be read. Each list has no
 -- number twice. Those to be read are among the connections. The connections of the live consumers are too, and none
 -- of them stands there twice, since a row has one consumer.
-use Rattle.std.proofs.Common.{◌≡◌, ℕ, suc, ◌≤◌, List, [], ◌∷◌, length, true, false, Option, Some, None, inl, inr, eqb, refl, sym, ap, ◌∙◌, arith, rules}
-use Rattle.std.specs.Prelude.{nat_eq, is_some, Contains, IsSome, ◌↔◌}
-use Rattle.std.specs.Cmp.{nat_eq_equiv, nat_cmp_total, unsigned_Decides, eq_by_cmp_equiv}
+use Rattle.std.{proofs.{Common.{◌≡◌, ℕ, suc, ◌≤◌, List, [], ◌∷◌, length, true, false, Option, Some, None, inl, inr, eqb, refl, sym, ap, ◌∙◌, arith, rules}, lemmas.{Bool.{cases_Bool, eqb-true, eqb-false, Decides.{nat_tests}}, Map.{Entries.{length-keys_of, length-values_of, btree_map_get_place}, Keys.{IsDistinct-from_sorted}, Made.{length-le_from_is_member, length-from_same_keys, is_some-lookup, is_member-Decides}}}}, specs.{Prelude.{nat_eq, is_some, Contains, IsSome, ◌↔◌}, Cmp.{nat_eq_equiv, nat_cmp_total, unsigned_Decides, eq_by_cmp_equiv}, HashMap.{HashMap}, BTreeMap.{BTreeMap}, BTreeSet.{BTreeSet}, List.{IsDistinct, AllByRecursion, list_any, slice_get, Sorted.{IsStrictlySortedBy}}, Map.{keys_of, values_of}, Set.{is_member}, Ordering.{nat_cmp, eq_by_cmp}}}
 use Rattle.std.specs.HashMap as hash
-use Rattle.std.specs.HashMap.{HashMap}
 use Rattle.std.specs.BTreeMap as tree
-use Rattle.std.specs.BTreeMap.{BTreeMap}
 use Rattle.std.specs.BTreeSet as set
-use Rattle.std.specs.BTreeSet.{BTreeSet}
-use Rattle.std.specs.List.{IsDistinct, AllByRecursion, list_any, slice_get}
-use Rattle.std.specs.Map.{keys_of, values_of}
-use Rattle.std.specs.Set.{is_member}
-use Rattle.std.specs.List.Sorted.{IsStrictlySortedBy}
-use Rattle.std.specs.Ordering.{nat_cmp, eq_by_cmp}
-use Rattle.std.proofs.lemmas.Bool.{cases_Bool, eqb-true, eqb-false}
-use Rattle.std.proofs.lemmas.Bool.Decides.{nat_tests}
-use Rattle.std.proofs.lemmas.Map.Entries.{length-keys_of, length-values_of, btree_map_get_place}
-use Rattle.std.proofs.lemmas.Map.Keys.{IsDistinct-from_sorted}
-use Rattle.std.proofs.lemmas.Map.Made.{length-le_from_is_member, length-from_same_keys, is_some-lookup, is_member-Decides}
-use Rattle.hc_peers.specs.declared.client.Client.{Client}
-use Rattle.hc_peers.specs.Agreement.{IsReadySet, IsLiveTable, ready_at, consumer_at}
+use Rattle.hc_peers.specs.{declared.client.Client.{Client}, Agreement.{IsReadySet, IsLiveTable, ready_at, consumer_at}}
 
 -- the two tests of the order and of the equality are one
 same-test : (x y : ℕ) → eq_by_cmp nat_cmp x y ≡ eqb x y

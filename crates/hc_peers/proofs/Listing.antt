@@ -1,7 +1,5 @@
 -- One turn of a loop that lists the keys which pass a test.
-use Rattle.std.proofs.Common.{◌≡◌, ℕ, Bool, true, false, List, [], ◌∷◌, ◌++◌, ◌∙◌, append_assoc}
-use Rattle.std.specs.Prelude.{filter}
-use Rattle.std.specs.Map.{keys_of}
+use Rattle.std.{proofs.Common.{◌≡◌, ℕ, Bool, true, false, List, [], ◌∷◌, ◌++◌, ◌∙◌, append_assoc}, specs.{Prelude.{filter}, Map.{keys_of}}}
 
 pub list-more : (p : ℕ → Bool) (to to' base : List ℕ) (s t : List (ℕ × ℕ)) (x : ℕ × ℕ) → s ≡ x ∷ t → to ++ filter p (keys_of s) ≡ base
     → p x.0 ≡ true → to' ≡ to ++ x.0 ∷ [] → to' ++ filter p (keys_of t) ≡ base

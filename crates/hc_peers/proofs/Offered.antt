@@ -2,14 +2,8 @@
 -- change of the wire's log. Where all was taken and the client is to be closed, it leaves; else it stays, and the wire
 -- knows whether it is read.
 use Rattle.std.proofs.Common.{◌≡◌, ℕ, List, Bool, true, false, Option, Some, None, refl, sym, ap, ◌∙◌}
-use Rattle.hc_wire.specs.Events.{Stage, with_stage, closed_of}
-use Rattle.hc_wire.specs.Logs.{Log, Tells, with_closed}
-use Rattle.hc_peers.specs.declared.client.Client.{Client}
-use Rattle.hc_peers.specs.declared.clients.Clients.{Clients}
-use Rattle.hc_peers.specs.Clients.{client_of, Becomes}
-use Rattle.hc_peers.specs.Offering.{IsOffered, IsOfferedTo, sent_more, reading_told, stage_told}
-use Rattle.hc_peers.specs.Offers.{Offers}
-use Rattle.hc_peers.specs.Peers.{is_over, is_idle}
+use Rattle.hc_wire.specs.{Events.{Stage, with_stage, closed_of}, Logs.{Log, Tells, with_closed}}
+use Rattle.hc_peers.specs.{declared.{client.Client.{Client}, clients.Clients.{Clients}}, Clients.{client_of, Becomes}, Offering.{IsOffered, IsOfferedTo, sent_more, reading_told, stage_told}, Offers.{Offers}, Peers.{is_over, is_idle}}
 
 pub tells-then : (l m n : Option Log) (f g : Log → Log) → Tells l m f → Tells m n g → Tells l n (λ x. g (f x))
 tells-then None m n f g first second = let h = rw first at second in h

@@ -3,23 +3,14 @@
 -- each of these makes one part of the test false. The same goes for whether it is settled. What was read is taken by the
 -- cases of what stands next, of which those that can't be are refused. An act is for one row alone: that whose consumer
 -- it names.
-use Rattle.std.proofs.Common.{◌≡◌, ◌≢◌, ℕ, zero, suc, ◌<◌, List, [], length, drop, Bool, true, false, Option, Some, None, Ok, Err, eqb, inl, inr, refl, sym, ap, ◌∙◌, arith}
-use Rattle.std.specs.Prelude.{is_none, ◌&&◌}
-use Rattle.std.proofs.lemmas.Bool.{cases_Bool, eqb-true, eq-eqb, ne_eqb}
-use Rattle.std.proofs.lemmas.List.{nil_from_length}
+use Rattle.std.{proofs.{Common.{◌≡◌, ◌≢◌, ℕ, zero, suc, ◌<◌, List, [], length, drop, Bool, true, false, Option, Some, None, Ok, Err, eqb, inl, inr, refl, sym, ap, ◌∙◌, arith}, lemmas.{Bool.{cases_Bool, eqb-true, eq-eqb, ne_eqb}, List.{nil_from_length}}}, specs.Prelude.{is_none, ◌&&◌}}
 use Rattle.hc_text.proofs.Basics.{and_none as and-false}
 use Rattle.hc_event.specs.declared.act.Act.{Act}
-use Rattle.hc_head.specs.declared.message.MsgError.{MsgError}
+use Rattle.hc_head.specs.declared.message.{MsgError.{MsgError}, WireRequest.{WireRequest}}
 use Rattle.hc_head.specs.declared.message.MsgError.TheVariants as error
-use Rattle.hc_head.specs.declared.message.WireRequest.{WireRequest}
-use Rattle.hc_msg.specs.Inputs.{Next, Waits, Tells, Brings, Ends, Fails, next_in}
-use Rattle.hc_msg.specs.Reading.{Asks, Answers, Byte}
-use Rattle.hc_peers.specs.declared.client.Client.{Client}
+use Rattle.hc_msg.specs.{Inputs.{Next, Waits, Tells, Brings, Ends, Fails, next_in}, Reading.{Asks, Answers, Byte}}
+use Rattle.hc_peers.specs.{declared.client.Client.{Client}, Agreement.{consumer_at, ready_at}, Peers.{is_ready, is_idle, is_settled, is_over, is_same, Reads, IsRead, asks, refused, answered, addressee}, Clients.{hearing, told_by, answered_in, is_same_consumer}, Offering.{sent_more}}
 use Rattle.hc_peers.specs.declared.clients.Heard.TheVariants as heard
-use Rattle.hc_peers.specs.Agreement.{consumer_at, ready_at}
-use Rattle.hc_peers.specs.Peers.{is_ready, is_idle, is_settled, is_over, is_same, Reads, IsRead, asks, refused, answered, addressee}
-use Rattle.hc_peers.specs.Clients.{hearing, told_by, answered_in, is_same_consumer}
-use Rattle.hc_peers.specs.Offering.{sent_more}
 
 -- WHO ISN'T TO BE READ
 

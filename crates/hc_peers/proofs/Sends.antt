@@ -2,11 +2,7 @@
 -- as it is, and sending twice, the first time without falling short, is sending both texts at once. An offer that took all of its bytes leaves nothing, so the next one
 -- begins where it ended; one that leaves something is the last. The lemmas at the end put three offers together, as a box
 -- makes them of its three parts.
-use Rattle.std.proofs.Common.{◌≡◌, ℕ, ◌+◌, ◌<◌, ◌≤◌, List, [], ◌∷◌, ◌++◌, length, take, drop, false, Option, refl, sym, ap, ◌∙◌, arith, length-append, length-drop}
-use Rattle.std.specs.Prelude.{nat_lt}
-use Rattle.std.proofs.lemmas.Bool.Decides.{nat_tests}
-use Rattle.std.proofs.lemmas.List.{drop-append-le, take-append-le}
-use Rattle.std.proofs.Math.Seq.{take-length, take-append-add, drop-append-add}
+use Rattle.std.{proofs.{Common.{◌≡◌, ℕ, ◌+◌, ◌<◌, ◌≤◌, List, [], ◌∷◌, ◌++◌, length, take, drop, false, Option, refl, sym, ap, ◌∙◌, arith, length-append, length-drop}, lemmas.{Bool.Decides.{nat_tests}, List.{drop-append-le, take-append-le}}, Math.Seq.{take-length, take-append-add, drop-append-add}}, specs.Prelude.{nat_lt}}
 use Rattle.hc_wire.specs.Logs.{Log, Tells, with_sent}
 use Rattle.hc_wire.proofs.SentLemmas.{tells-none, tells-both}
 use Rattle.hc_peers.specs.Offers.{Offers, OffersSome}

@@ -1,13 +1,8 @@
 -- What is taken of an answer is what stands next in its connection.
-use Rattle.std.proofs.Common.{◌≡◌, ℕ, List, [], ◌∷◌, Option, Some, None, Ok, refl, inl, inr}
-use Rattle.std.proofs.lemmas.Bool.{cases_Bool}
-use Rattle.hc_msg.specs.declared.message.WirePart.{WirePart}
+use Rattle.std.proofs.{Common.{◌≡◌, ℕ, List, [], ◌∷◌, Option, Some, None, Ok, refl, inl, inr}, lemmas.Bool.{cases_Bool}}
+use Rattle.hc_msg.specs.{declared.message.WirePart.{WirePart}, Inputs.{IsNextPart, next_in, look_of, told_or, is_in_body, step_of}, Reading.{Reading, Token, move_of}, Taking.{Completes, goes_on}}
 use Rattle.hc_msg.specs.declared.message.WirePart.TheVariants as part
-use Rattle.hc_msg.specs.Inputs.{IsNextPart, next_in, look_of, told_or, is_in_body, step_of}
-use Rattle.hc_msg.specs.Reading.{Reading, Token, move_of}
-use Rattle.hc_msg.specs.Taking.{Completes, goes_on}
-use Rattle.hc_peers.specs.declared.upstream.Upstream.{Upstream}
-use Rattle.hc_peers.specs.Origins.{Takes, next_of, read_to, left_behind}
+use Rattle.hc_peers.specs.{declared.upstream.Upstream.{Upstream}, Origins.{Takes, next_of, read_to, left_behind}}
 
 pub taken-part : (old : Upstream) (used : ℕ) (got : Option WirePart) (t : Reading) → IsNextPart (next_of old) old.input used got t
     → Completes old.reader old.input 16384 used got t → Takes old (read_to t (left_behind got used old.input) old) (Ok got)

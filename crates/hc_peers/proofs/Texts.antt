@@ -1,7 +1,5 @@
 -- The answers without a body, as texts, and the status of whatever has none of its own.
-use Rattle.std.proofs.Common.{◌≡◌, ℕ, [], refl}
-use Rattle.std.specs.Prelude.{codes}
-use Rattle.std.specs.Fmt.{digits}
+use Rattle.std.{proofs.Common.{◌≡◌, ℕ, [], refl}, specs.{Prelude.{codes}, Fmt.{digits}}}
 use Rattle.hc_msg.specs.Writing.{chunk_text}
 use Rattle.hc_event.specs.declared.act.Cause.{Cause}
 use Rattle.hc_event.specs.declared.act.Cause.TheVariants as cause

@@ -1,14 +1,8 @@
 -- The tables of connections to the origin, as an exchange goes.
-use Rattle.std.proofs.Common.{◌≡◌, ◌≢◌, ℕ, true, false, Option, Some, None, refl, sym, ap, ◌∙◌}
-use Rattle.std.specs.Prelude.{nat_eq, is_some}
+use Rattle.std.{proofs.{Common.{◌≡◌, ◌≢◌, ℕ, true, false, Option, Some, None, refl, sym, ap, ◌∙◌}, lemmas.Bool.{eqb-true, eq-eqb, ne_eqb}}, specs.{Prelude.{nat_eq, is_some}, HashMap.{HashMap}, BTreeSet.{BTreeSet}, Ordering.{nat_cmp}}}
 use Rattle.std.specs.HashMap as hash
-use Rattle.std.specs.HashMap.{HashMap}
 use Rattle.std.specs.BTreeSet as set
-use Rattle.std.specs.BTreeSet.{BTreeSet}
-use Rattle.std.specs.Ordering.{nat_cmp}
-use Rattle.std.proofs.lemmas.Bool.{eqb-true, eq-eqb, ne_eqb}
-use Rattle.hc_peers.specs.declared.upstream.Upstream.{Upstream}
-use Rattle.hc_peers.specs.Agreement.{IsDialledTable, AreThere, is_at, is_numbered}
+use Rattle.hc_peers.specs.{declared.upstream.Upstream.{Upstream}, Agreement.{IsDialledTable, AreThere, is_at, is_numbered}}
 use Rattle.hc_peers.proofs.Changes.{Changed, at-each}
 
 -- the only exchange of a connection

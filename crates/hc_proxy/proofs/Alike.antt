@@ -2,23 +2,15 @@
 --
 -- Each part of what is kept looks at a few fields: the cache at what was stepped and recorded, the clients at their table, the
 -- connections to the origin at theirs, the wire at both and at what is to be closed. Where these fields are the same, so is that part.
-use Rattle.std.proofs.Common.{◌≡◌, ◌⊎◌, inl, inr, ◌≤◌, ◌<◌, ℕ, List, ◌+◌, ◌++◌, Option, Some, None, ap, sym, ◌∙◌, subst}
-use Rattle.std.specs.Prelude.{Contains, IsSome}
+use Rattle.std.{proofs.Common.{◌≡◌, ◌⊎◌, inl, inr, ◌≤◌, ◌<◌, ℕ, List, ◌+◌, ◌++◌, Option, Some, None, ap, sym, ◌∙◌, subst}, specs.Prelude.{Contains, IsSome}}
 use Rattle.hc_core.specs.Steps.{StandsFor, last_moment, limits_in, bytes_received}
 use Rattle.hc_effects.proofs.Vocabulary.{Act, no_contents}
-use Rattle.hc_peers.specs.Clients.{client_of}
-use Rattle.hc_peers.specs.Upstreams.{upstream_of, is_news, is_touched}
-use Rattle.hc_peers.specs.declared.clients.Clients.{Clients}
+use Rattle.hc_peers.specs.{Clients.{client_of}, Upstreams.{upstream_of, is_news, is_touched}, declared.clients.Clients.{Clients}}
 use Rattle.hc_peers.specs.declared.upstream.Upstream as origin
 use Rattle.hc_store.specs.declared.backend.Backend.{Ghosts}
 use Rattle.hc_wire.specs.Events.{Stage}
 use Rattle.hc_proxy.specs.declared.proxy.Proxy as loop
-use Rattle.hc_proxy.specs.Connections.{taken_at}
-use Rattle.hc_proxy.specs.Headed.{AreHeaded}
-use Rattle.hc_proxy.specs.Invariants.{unread}
-use Rattle.hc_proxy.specs.Keeping.{Frame, Turn, HasCache, HasClients, HasUpstreams, IsClientAt, IsUpstreamAt, AtWire}
-use Rattle.hc_proxy.specs.Records.{text_of, last_of}
-use Rattle.hc_proxy.specs.Rows.{Client, Upstream, Proxy}
+use Rattle.hc_proxy.specs.{Connections.{taken_at}, Headed.{AreHeaded}, Invariants.{unread}, Keeping.{Frame, Turn, HasCache, HasClients, HasUpstreams, IsClientAt, IsUpstreamAt, AtWire}, Records.{text_of, last_of}, Rows.{Client, Upstream, Proxy}}
 
 module _ {B : Type 0} {g : Ghosts B} where
   -- THE CACHE

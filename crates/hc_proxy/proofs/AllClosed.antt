@@ -3,28 +3,15 @@
 -- Whoever is open between turns is a client's or an exchange's, since nothing is left to be closed. So each taker that is live is among
 -- the connections that are closed. The close of one shuts its taker, whose number no other has, and leaves the others. Behind all of them
 -- none is live: so the takers are those of before, all shut.
-use Rattle.std.proofs.Common.{◌≡◌, ◌⊎◌, inl, inr, ℕ, List, [], ◌∷◌, Bool, true, false, Option, Some, None, refl, ap, sym, ◌∙◌, subst, arith, append-nil}
-use Rattle.std.specs.Prelude.{◌&&◌, ◌||◌, nat_eq, find, map, Contains, IsSome, if◌then◌else◌}
-use Rattle.std.specs.List.{list_all}
-use Rattle.std.proofs.lemmas.Bool.Decides.{nat_tests}
+use Rattle.std.{proofs.{Common.{◌≡◌, ◌⊎◌, inl, inr, ℕ, List, [], ◌∷◌, Bool, true, false, Option, Some, None, refl, ap, sym, ◌∙◌, subst, arith, append-nil}, lemmas.Bool.Decides.{nat_tests}}, specs.{Prelude.{◌&&◌, ◌||◌, nat_eq, find, map, Contains, IsSome, if◌then◌else◌}, List.{list_all}}}
 use Rattle.hc_text.proofs.Basics.{and_left, and_right, both_true as both_hold}
-use Rattle.hc_peers.specs.Clients.{client_of}
-use Rattle.hc_peers.specs.Upstreams.{upstream_of}
+use Rattle.hc_peers.specs.{Clients.{client_of}, Upstreams.{upstream_of}}
 use Rattle.hc_peers.specs.declared.upstream.Upstream as origin
 use Rattle.hc_store.specs.declared.backend.Backend.{Ghosts}
-use Rattle.hc_wire.specs.Events.{Stage, IsOpen}
-use Rattle.hc_wire.specs.Logs.{Log, Taker, is_numbered, changed_at, shut}
+use Rattle.hc_wire.specs.{Events.{Stage, IsOpen}, Logs.{Log, Taker, is_numbered, changed_at, shut}}
 use Rattle.hc_proxy.specs.declared.proxy.Proxy as loop
-use Rattle.hc_proxy.specs.Keeping.{Frame}
-use Rattle.hc_proxy.specs.Logging.{Follows, AreApart}
-use Rattle.hc_proxy.specs.Resting.{Rests}
-use Rattle.hc_proxy.specs.Rows.{Proxy}
-use Rattle.hc_proxy.specs.Serving.{IsClosed, all_closed}
-use Rattle.hc_proxy.specs.Underway.{shut_each, Closes}
-use Rattle.hc_proxy.proofs.Marked.{among_contained}
-use Rattle.hc_proxy.proofs.SkippedSteps.{among}
-use Rattle.hc_proxy.proofs.Takers.{apart_stays}
-use Rattle.hc_proxy.proofs.TakersStand.{all_found, taker_stage}
+use Rattle.hc_proxy.specs.{Keeping.{Frame}, Logging.{Follows, AreApart}, Resting.{Rests}, Rows.{Proxy}, Serving.{IsClosed, all_closed}, Underway.{shut_each, Closes}}
+use Rattle.hc_proxy.proofs.{Marked.{among_contained}, SkippedSteps.{among}, Takers.{apart_stays}, TakersStand.{all_found, taker_stage}}
 
 -- one that is open is among these
 abbrev is_among : List ℕ → Taker → Bool

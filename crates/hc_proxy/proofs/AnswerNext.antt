@@ -3,24 +3,14 @@
 -- A byte of a head tells nothing or the head of an answer, and a byte of a chunk line, of the bytes behind a chunk or of a trailer section
 -- tells nothing. Behind each of them an answer is read on: what is to come of a body or of a chunk is never nothing, since behind its last
 -- byte the reading stands elsewhere. So each byte of a body is brought, and none is told alone. The bytes are gone through one by one.
-use Rattle.std.proofs.Common.{◌≡◌, ℕ, ◌+◌, ◌-◌, ◌++◌, List, [], ◌∷◌, length, Bool, true, false, Option, Some, None, refl, sym, arith}
-use Rattle.std.specs.Prelude.{◌==◌, nat_le, nat_lt, min, if◌then◌else◌}
-use Rattle.std.proofs.lemmas.Bool.Decides.{nat_tests}
+use Rattle.std.{proofs.{Common.{◌≡◌, ℕ, ◌+◌, ◌-◌, ◌++◌, List, [], ◌∷◌, length, Bool, true, false, Option, Some, None, refl, sym, arith}, lemmas.Bool.Decides.{nat_tests}}, specs.Prelude.{◌==◌, nat_le, nat_lt, min, if◌then◌else◌}}
 use Rattle.hc_text.proofs.Basics.{true_false}
-use Rattle.hc_head.specs.Decoding.{heard_in}
-use Rattle.hc_head.specs.Responses.{Heard, Skips, Shows, Refuses}
-use Rattle.hc_head.specs.Scans.{scan_byte, is_open}
-use Rattle.hc_head.specs.declared.framing.Framing.{Framing}
+use Rattle.hc_head.specs.{Decoding.{heard_in}, Responses.{Heard, Skips, Shows, Refuses}, Scans.{scan_byte, is_open}, declared.{framing.Framing.{Framing}, scan.Scan.{Scan}}}
 use Rattle.hc_head.specs.declared.framing.Framing.TheVariants as framing
 use Rattle.hc_head.specs.declared.message.MsgError.TheVariants as error
-use Rattle.hc_head.specs.declared.scan.Scan.{Scan}
-use Rattle.hc_msg.specs.Chunks.{trailer_place, trail_on, trail}
-use Rattle.hc_msg.specs.declared.trailer.Trailer.{Trailer}
+use Rattle.hc_msg.specs.{Chunks.{trailer_place, trail_on, trail}, declared.trailer.Trailer.{Trailer}, Inputs.{Next, Waits, Tells, Brings, Fails, next_in, told_or, step_of}, Reading.{Requests, Responses, Reading, Heading, Counts, Runs, Sizing, Chunk, ChunkEnd, ChunkReturn, Trailing, Whole, Done, Failed, Token, Asks, Answers, Byte, Step, Goes, EndsHead, EndsLine, quiet, fails, counts, chunk, body, after_heard, after_line, after_trail, reading_of_chunk, head_move, line_move, move_of}, Sizes.{size_in}}
 use Rattle.hc_msg.specs.declared.trailer.Trailer.TheVariants as trailer
-use Rattle.hc_msg.specs.Inputs.{Next, Waits, Tells, Brings, Fails, next_in, told_or, step_of}
 use Rattle.hc_msg.specs.Inputs as inputs
-use Rattle.hc_msg.specs.Reading.{Requests, Responses, Reading, Heading, Counts, Runs, Sizing, Chunk, ChunkEnd, ChunkReturn, Trailing, Whole, Done, Failed, Token, Asks, Answers, Byte, Step, Goes, EndsHead, EndsLine, quiet, fails, counts, chunk, body, after_heard, after_line, after_trail, reading_of_chunk, head_move, line_move, move_of}
-use Rattle.hc_msg.specs.Sizes.{size_in}
 use Rattle.hc_proxy.specs.Headed.{is_answer}
 
 abbrev pub IsAnswerNext : Next → Type 0

@@ -4,23 +4,15 @@
 -- stand those that wait, and no others, unless the client is gone or its number is one of a dial. A call adds its bytes
 -- to those that wait. What stands next is read as its bytes lead, so a request that is told is the next of what the first bytes ask for.
 -- A start has the next number, so who held the consumers before it holds them behind it.
-use Rattle.std.proofs.Common.{◌≡◌, ◌≤◌, ◌<◌, inl, inr, ℕ, zero, suc, ◌+◌, List, [], ◌∷◌, ◌++◌, Bool, true, false, Option, Some, None, refl, ap, sym, ◌∙◌, subst, arith, append_assoc, append-nil}
-use Rattle.std.specs.Prelude.{nat_eq, map, take, if◌then◌else◌, IsSome}
-use Rattle.std.proofs.lemmas.Bool.Decides.{nat_tests}
-use Rattle.std.proofs.lemmas.List.{map-append}
+use Rattle.std.{proofs.{Common.{◌≡◌, ◌≤◌, ◌<◌, inl, inr, ℕ, zero, suc, ◌+◌, List, [], ◌∷◌, ◌++◌, Bool, true, false, Option, Some, None, refl, ap, sym, ◌∙◌, subst, arith, append_assoc, append-nil}, lemmas.{Bool.Decides.{nat_tests}, List.{map-append}}}, specs.Prelude.{nat_eq, map, take, if◌then◌else◌, IsSome}}
 use Rattle.hc_effects.proofs.Vocabulary.{Event, Request, History}
 use Rattle.hc_event.specs.declared.event.Event.TheVariants as event
 use Rattle.hc_head.specs.declared.message.WireRequest.{WireRequest}
-use Rattle.hc_msg.specs.NextParts.{IsReadOn}
-use Rattle.hc_msg.specs.Reading.{Reading, Requests, Token, Asks, Leads, heading}
+use Rattle.hc_msg.specs.{NextParts.{IsReadOn}, Reading.{Reading, Requests, Token, Asks, Leads, heading}}
 use Rattle.hc_msg.proofs.Leading.{leads_on}
 use Rattle.hc_wire.specs.Logs.{Called}
 use Rattle.hc_wire.specs.declared.event.WireEvent.TheVariants as wire
-use Rattle.hc_proxy.specs.Asked.{got_by, got_from, is_at, started_by, starts_of, count_by, starts_in, IsNextStart, AreClients}
-use Rattle.hc_proxy.specs.Connections.{place_from, exchange_of}
-use Rattle.hc_proxy.specs.Invariants.{IsOfRequests}
-use Rattle.hc_proxy.specs.Rows.{Client, with}
-use Rattle.hc_proxy.specs.Starts.{read_to}
+use Rattle.hc_proxy.specs.{Asked.{got_by, got_from, is_at, started_by, starts_of, count_by, starts_in, IsNextStart, AreClients}, Connections.{place_from, exchange_of}, Invariants.{IsOfRequests}, Rows.{Client, with}, Starts.{read_to}}
 use Rattle.hc_proxy.proofs.NetworkKeeps.{is_of_exchange}
 
 -- EVENTS

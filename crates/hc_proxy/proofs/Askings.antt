@@ -1,19 +1,12 @@
 -- An act asks for more of an exchange: it is looked at again, and all else stays.
-use Rattle.std.proofs.Common.{◌≡◌, ◌⊎◌, inl, inr, ℕ, ◌≤◌, ◌<◌, List, ◌∷◌, Bool, true, false, Option, Some, None, refl, ap, sym, ◌∙◌, subst, arith, length}
-use Rattle.std.specs.Prelude.{nat_eq, nat_lt, IsSome}
-use Rattle.std.specs.Option.{is_some}
-use Rattle.std.proofs.lemmas.Bool.Decides.{nat_tests}
+use Rattle.std.{proofs.{Common.{◌≡◌, ◌⊎◌, inl, inr, ℕ, ◌≤◌, ◌<◌, List, ◌∷◌, Bool, true, false, Option, Some, None, refl, ap, sym, ◌∙◌, subst, arith, length}, lemmas.Bool.Decides.{nat_tests}}, specs.{Prelude.{nat_eq, nat_lt, IsSome}, Option.{is_some}}}
 use Rattle.hc_effects.proofs.Vocabulary.{asks_in, Act, is_open, is_wanted}
 use Rattle.hc_event.specs.declared.act.Act.TheVariants as act
 use Rattle.hc_store.specs.declared.backend.Backend.{Ghosts}
-use Rattle.hc_peers.specs.Upstreams.{upstream_of, is_news, is_touched, Stays, Marks}
+use Rattle.hc_peers.specs.{Upstreams.{upstream_of, is_news, is_touched, Stays, Marks}, declared.upstreams.Upstreams.{Upstreams}}
 use Rattle.hc_peers.specs.declared.upstream.Upstream as origin
-use Rattle.hc_peers.specs.declared.upstreams.Upstreams.{Upstreams}
 use Rattle.hc_proxy.specs.declared.proxy.Proxy as loop
-use Rattle.hc_proxy.specs.Connections.{taken_at}
-use Rattle.hc_proxy.specs.Invariants.{is_due, is_due_by}
-use Rattle.hc_proxy.specs.Keeping.{Turn, HasUpstreams, IsUpstreamAt, AtWire}
-use Rattle.hc_proxy.specs.Rows.{Upstream, Proxy}
+use Rattle.hc_proxy.specs.{Connections.{taken_at}, Invariants.{is_due, is_due_by}, Keeping.{Turn, HasUpstreams, IsUpstreamAt, AtWire}, Rows.{Upstream, Proxy}}
 
 undue : (wanted : Bool) (o : Option Upstream) → o ≡ None → is_due_by wanted o ≡ false
 undue wanted o none = ap (is_due_by wanted) none

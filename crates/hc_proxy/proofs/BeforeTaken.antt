@@ -2,27 +2,16 @@
 --
 -- In a turn a client is owed something more in three ways: a request of it is refused, which asks that it was sent all; or an act is
 -- sent to it, by a poll that asked that too. All other changes leave what stands before as it is.
-use Rattle.std.proofs.Common.{◌≡◌, ◌≤◌, ◌⊎◌, inl, inr, ℕ, ◌+◌, List, [], ◌∷◌, ◌++◌, Bool, true, false, Option, Some, None, refl, ap, sym, ◌∙◌, subst, arith}
-use Rattle.std.specs.Prelude.{◌&&◌, ◌||◌, not, nat_eq, nat_lt, length, is_none, if◌then◌else◌, option_map}
-use Rattle.std.proofs.lemmas.Bool.Decides.{nat_tests}
+use Rattle.std.{proofs.{Common.{◌≡◌, ◌≤◌, ◌⊎◌, inl, inr, ℕ, ◌+◌, List, [], ◌∷◌, ◌++◌, Bool, true, false, Option, Some, None, refl, ap, sym, ◌∙◌, subst, arith}, lemmas.Bool.Decides.{nat_tests}}, specs.Prelude.{◌&&◌, ◌||◌, not, nat_eq, nat_lt, length, is_none, if◌then◌else◌, option_map}}
 use Rattle.hc_effects.proofs.Vocabulary.{Act, Event, is_open, Limits}
 use Rattle.hc_event.specs.declared.act.Act.TheVariants as act
 use Rattle.hc_event.specs.declared.event.Event.TheVariants as event
 use Rattle.hc_head.specs.declared.message.WireRequest.{WireRequest}
-use Rattle.hc_msg.specs.Inputs.{Next, Waits, Tells, Brings, Ends, Fails, next_in}
-use Rattle.hc_msg.specs.Reading.{Failed, Token, Asks, Answers, Byte}
+use Rattle.hc_msg.specs.{Inputs.{Next, Waits, Tells, Brings, Ends, Fails, next_in}, Reading.{Failed, Token, Asks, Answers, Byte}}
 use Rattle.hc_peers.specs.Renderings.{rendering, form_behind, is_last, closes}
-use Rattle.hc_wire.specs.Logs.{Called}
-use Rattle.hc_wire.specs.declared.event.WireEvent.{WireEvent}
+use Rattle.hc_wire.specs.{Logs.{Called}, declared.event.WireEvent.{WireEvent}}
 use Rattle.hc_wire.specs.declared.event.WireEvent.TheVariants as wire
-use Rattle.hc_proxy.specs.Carrying.{answered, answers, carried_out, all_carried_out, carried, acts_in}
-use Rattle.hc_proxy.specs.Connections.{taken_at, has_unsent, exchange_of}
-use Rattle.hc_proxy.specs.Handling.{clients_here, client_comes, left, cancelled, leaves, client_sends, sends, ends, broke, handled_by, handled}
-use Rattle.hc_proxy.specs.Invariants.{IsServed, AreServed, addressee}
-use Rattle.hc_proxy.specs.Polls.{polled_all, each_polled, polled, may_be_polled, live_consumers}
-use Rattle.hc_proxy.specs.Rows.{Client, Proxy, new_client, with_client}
-use Rattle.hc_proxy.specs.Starts.{read_to, asks, with_holder, started, refused, hears_request, hears, hears_if, each_heard, is_ready, started_all}
-use Rattle.hc_proxy.specs.Steps.{with_entry, stepped}
+use Rattle.hc_proxy.specs.{Carrying.{answered, answers, carried_out, all_carried_out, carried, acts_in}, Connections.{taken_at, has_unsent, exchange_of}, Handling.{clients_here, client_comes, left, cancelled, leaves, client_sends, sends, ends, broke, handled_by, handled}, Invariants.{IsServed, AreServed, addressee}, Polls.{polled_all, each_polled, polled, may_be_polled, live_consumers}, Rows.{Client, Proxy, new_client, with_client}, Starts.{read_to, asks, with_holder, started, refused, hears_request, hears, hears_if, each_heard, is_ready, started_all}, Steps.{with_entry, stepped}}
 
 pub some_is : (a b : Client) → Some a ≡ Some b → a ≡ b
 some_is a b h = cc

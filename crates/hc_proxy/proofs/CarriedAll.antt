@@ -3,33 +3,16 @@
 -- What was carried out so far leads to tables behind which the acts that are left lead to the same. Where something fails, as many
 -- connections were dialled as exchanges were opened at most. Behind the last act, each exchange has its connection. Those that are
 -- closed then are of nobody who is kept, so closing them changes nothing of what is kept.
-use Rattle.std.proofs.Common.{◌≡◌, ◌⊎◌, inl, inr, ℕ, List, [], ◌∷◌, ◌++◌, Bool, true, false, Option, Some, None, refl, ap, sym, ◌∙◌, subst, arith, length, append_assoc}
-use Rattle.std.specs.Prelude.{nat_eq, Contains, if◌then◌else◌}
-use Rattle.std.specs.List.{list_any}
-use Rattle.std.proofs.lemmas.List.{append-nil}
-use Rattle.std.proofs.Math.Logic.{∥∥₁_map}
-use Rattle.std.specs.Cmp.{nat_eq_equiv}
-use Rattle.std.proofs.lemmas.Map.Views.{Contains-from_any, list_any-from_Contains}
-use Rattle.std.proofs.lemmas.List.Elements.{Contains-append_cases}
+use Rattle.std.{proofs.{Common.{◌≡◌, ◌⊎◌, inl, inr, ℕ, List, [], ◌∷◌, ◌++◌, Bool, true, false, Option, Some, None, refl, ap, sym, ◌∙◌, subst, arith, length, append_assoc}, lemmas.{List.{append-nil, Elements.{Contains-append_cases}}, Map.Views.{Contains-from_any, list_any-from_Contains}}, Math.Logic.{∥∥₁_map}}, specs.{Prelude.{nat_eq, Contains, if◌then◌else◌}, List.{list_any}, Cmp.{nat_eq_equiv}}}
 use Rattle.hc_text.proofs.Basics.{eq_tells as same_of}
 use Rattle.hc_effects.proofs.Vocabulary.{act_list, Act, Tables}
 use Rattle.hc_store.specs.declared.backend.Backend.{Ghosts}
-use Rattle.hc_wire.specs.Events.{Stage, Unseen, Open, Closed, IsOpen, closed_of}
-use Rattle.hc_wire.specs.Logs.{Log, stage_in, sent_in}
+use Rattle.hc_wire.specs.{Events.{Stage, Unseen, Open, Closed, IsOpen, closed_of}, Logs.{Log, stage_in, sent_in}}
 use Rattle.hc_proxy.specs.declared.proxy.Proxy as loop
-use Rattle.hc_proxy.specs.Carrying.{acts_in, carried_out, carried}
+use Rattle.hc_proxy.specs.{Carrying.{acts_in, carried_out, carried}, Keeping.{Turn, AtWire, KeepsPolled}, Connections.{taken_at}, Logging.{Dials}, Resting.{KeepsCarried}, Rows.{Proxy}, TurnSteps.{CarriedOut, CarriedSome}, Underway.{Closes, KeepsUnderway, OnWire, GoesOn, IsNext, IsPolledOn, IsUnderway, dialling}}
 use mathlib.Core.Path.{fun_ext}
-use Rattle.hc_proxy.specs.Keeping.{Turn, AtWire, KeepsPolled}
 use Rattle.hc_proxy.proofs.Sendings as sent
-use Rattle.hc_proxy.specs.Connections.{taken_at}
-use Rattle.hc_proxy.specs.Logging.{Dials}
-use Rattle.hc_proxy.specs.Resting.{KeepsCarried}
-use Rattle.hc_proxy.specs.Rows.{Proxy}
-use Rattle.hc_proxy.specs.TurnSteps.{CarriedOut, CarriedSome}
-use Rattle.hc_proxy.specs.Underway.{Closes, KeepsUnderway, OnWire, GoesOn, IsNext, IsPolledOn, IsUnderway, dialling}
-use Rattle.hc_proxy.proofs.Holders.{HeldBy, held_of}
-use Rattle.hc_proxy.proofs.CarriedOut.{same_tables, all_live, rests_of}
-use Rattle.hc_proxy.proofs.Closings.{dials_none}
+use Rattle.hc_proxy.proofs.{Holders.{HeldBy, held_of}, CarriedOut.{same_tables, all_live, rests_of}, Closings.{dials_none}}
 
 -- DIALS ONE BEHIND ANOTHER
 

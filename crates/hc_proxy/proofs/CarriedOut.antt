@@ -3,17 +3,12 @@
 -- Tables stay as they are then. An act that is sent to a consumer changes its client alone. If it is the last, that client waits for
 -- nobody from then on, and the consumer is over: so nobody is missed. An act that is not the last leaves its client to wait. Behind
 -- all acts each consumer that a client waits for is live: who was told that it is over isn't waited for any more.
-use Rattle.std.proofs.Common.{◌≡◌, ◌⊎◌, inl, inr, ℕ, List, [], ◌∷◌, ◌++◌, Bool, true, false, Option, Some, None, refl, ap, sym, ◌∙◌, subst, arith}
-use Rattle.std.specs.Prelude.{◌||◌, nat_eq, length, if◌then◌else◌}
-use Rattle.std.proofs.lemmas.Bool.Decides.{nat_tests}
+use Rattle.std.{proofs.{Common.{◌≡◌, ◌⊎◌, inl, inr, ℕ, List, [], ◌∷◌, ◌++◌, Bool, true, false, Option, Some, None, refl, ap, sym, ◌∙◌, subst, arith}, lemmas.Bool.Decides.{nat_tests}}, specs.Prelude.{◌||◌, nat_eq, length, if◌then◌else◌}}
 use Rattle.hc_text.proofs.Basics.{or_cases, eq_itself as same_number, some_inj}
 use Rattle.hc_effects.proofs.Vocabulary.{leaves_in, Act, is_live, Tables}
 use Rattle.hc_event.specs.declared.act.Act.TheVariants as act
-use Rattle.hc_peers.specs.Renderings.{rendering, form_behind, is_last, closes}
-use Rattle.hc_peers.specs.declared.reply.Reply.{Reply}
-use Rattle.hc_proxy.specs.Carrying.{answered, answers, carried_out, all_carried_out}
-use Rattle.hc_proxy.specs.Invariants.{AreOver, IsHolder, HasConsumers}
-use Rattle.hc_proxy.specs.Rows.{Client, Proxy, with_client}
+use Rattle.hc_peers.specs.{Renderings.{rendering, form_behind, is_last, closes}, declared.reply.Reply.{Reply}}
+use Rattle.hc_proxy.specs.{Carrying.{answered, answers, carried_out, all_carried_out}, Invariants.{AreOver, IsHolder, HasConsumers}, Rows.{Client, Proxy, with_client}}
 use Rattle.hc_proxy.proofs.Holders.{IsAlive, HeldBy, one_holder, one_held, IsChanged, changed_row, changed_here, changed_off}
 
 -- THE CONSUMER THAT AN ACT IS SENT TO

@@ -2,40 +2,20 @@
 --
 -- Tables, history and moment stay as they are. An act that is sent to a consumer changes one client, on both sides the same one.
 -- One that asks for more puts the exchange into the lists. All that isn't carried out changes nothing.
-use Rattle.std.proofs.Common.{◌≡◌, inl, inr, ℕ, ◌+◌, List, [], ◌∷◌, Bool, true, false, Option, Some, None, refl, ap, sym, ◌∙◌, subst, arith, length, length-append}
-use Rattle.std.proofs.lemmas.List.{append-nil}
+use Rattle.std.{proofs.{Common.{◌≡◌, inl, inr, ℕ, ◌+◌, List, [], ◌∷◌, Bool, true, false, Option, Some, None, refl, ap, sym, ◌∙◌, subst, arith, length, length-append}, lemmas.List.{append-nil}}, specs.{Prelude.{IsSome, Result, Ok, Err, OnErr}, Option.{is_some}}}
 use mathlib.Core.Path.{fun_ext}
-use Rattle.std.specs.Prelude.{IsSome, Result, Ok, Err, OnErr}
-use Rattle.std.specs.Option.{is_some}
 use Rattle.hc_effects.proofs.Vocabulary.{Act, Need, Request}
 use Rattle.hc_event.specs.declared.act.Act.TheVariants as act
 use Rattle.hc_store.specs.declared.backend.Backend.{Ghosts}
-use Rattle.hc_wire.specs.Events.{Stage}
-use Rattle.hc_wire.specs.Logs.{Log, with_dialled}
-use Rattle.hc_peers.specs.Clients.{client_of, answered_in}
+use Rattle.hc_wire.specs.{Events.{Stage}, Logs.{Log, with_dialled}}
+use Rattle.hc_peers.specs.{Clients.{client_of, answered_in}, Upstreams.{upstream_of, is_news, is_touched, Stays, Marks}, declared.{clients.Clients.{Clients}, upstreams.Upstreams.{Upstreams}}}
 use Rattle.hc_peers.specs.Peers as peers
-use Rattle.hc_peers.specs.Upstreams.{upstream_of, is_news, is_touched, Stays, Marks}
 use Rattle.hc_peers.specs.declared.client.Client as peer
-use Rattle.hc_peers.specs.declared.clients.Clients.{Clients}
-use Rattle.hc_peers.specs.declared.upstreams.Upstreams.{Upstreams}
 use Rattle.hc_proxy.specs.declared.proxy.Proxy as loop
-use Rattle.hc_proxy.specs.Carrying.{answered, answers, carried_out}
-use Rattle.hc_proxy.specs.Invariants.{IsHolder, IsServed, AreServed, AreOver, AreShut, ArePlain}
-use Rattle.hc_proxy.specs.Connections.{taken_at}
-use Rattle.hc_proxy.specs.Keeping.{Turn, HasUpstreams, IsClientAt}
-use Rattle.hc_proxy.specs.Rows.{Proxy, with_client}
-use Rattle.hc_proxy.specs.Underway.{HasHolders, KeepsUnderway, OnWire, GoesOn, DialsSome, one, none, dialling}
-use Rattle.hc_proxy.proofs.Alike.{cache_moves, cache_with}
-use Rattle.hc_proxy.proofs.Askings.{asked_go, wire_asked}
-use Rattle.hc_proxy.proofs.CarriedOut.{sent_to, act_keeps, over_later}
-use Rattle.hc_proxy.proofs.Closings.{dials_none}
-use Rattle.hc_proxy.proofs.Dialings.{follows_dialled, dials_one}
-use Rattle.hc_proxy.proofs.Holders.{HeldBy}
+use Rattle.hc_proxy.specs.{Carrying.{answered, answers, carried_out}, Invariants.{IsHolder, IsServed, AreServed, AreOver, AreShut, ArePlain}, Connections.{taken_at}, Keeping.{Turn, HasUpstreams, IsClientAt}, Rows.{Proxy, with_client}, Underway.{HasHolders, KeepsUnderway, OnWire, GoesOn, DialsSome, one, none, dialling}, TurnSteps.{CarriedSome, HasStopCause}, declared.stop.Stop.{Stop}}
+use Rattle.hc_proxy.proofs.{Alike.{cache_moves, cache_with}, Askings.{asked_go, wire_asked}, CarriedOut.{sent_to, act_keeps, over_later}, Closings.{dials_none}, Dialings.{follows_dialled, dials_one}, Holders.{HeldBy}, OpensUp.{up_grows}}
 use Rattle.hc_proxy.proofs.Sendings as sent
-use Rattle.hc_proxy.specs.TurnSteps.{CarriedSome, HasStopCause}
-use Rattle.hc_proxy.specs.declared.stop.Stop.{Stop}
 use Rattle.hc_proxy.specs.declared.stop.Stop.TheVariants as stop
-use Rattle.hc_proxy.proofs.OpensUp.{up_grows}
 
 -- WHO WAITS FOR WHOM
 

@@ -2,22 +2,15 @@
 --
 -- Each step calls the wire alone, the sink alone, or neither. Where one of them fails it counts that, and where it doesn't nothing is
 -- counted (their contracts). So the cause of a turn is that of the step that stopped it, and the loop ends by it.
-use Rattle.std.proofs.Common.{◌≡◌, ℕ, Ok, Err, refl, ap, sym, ◌∙◌, subst}
-use Rattle.std.specs.Prelude.{Result, IsErrAnd}
+use Rattle.std.{proofs.Common.{◌≡◌, ℕ, Ok, Err, refl, ap, sym, ◌∙◌, subst}, specs.Prelude.{Result, IsErrAnd}}
 use Rattle.hc_io.specs.Faults as sink
-use Rattle.hc_io.specs.Sink.{HasSinkCause}
-use Rattle.hc_io.specs.declared.sink.SinkError.{SinkError}
+use Rattle.hc_io.specs.{Sink.{HasSinkCause}, declared.sink.SinkError.{SinkError}}
 use Rattle.hc_io.specs.declared.sink.SinkError.TheVariants as sink_error
 use Rattle.hc_sched.specs.declared.schedule.Ended.TheVariants as ended
-use Rattle.hc_wire.specs.Wires.{HasRisen, HasWireCause}
-use Rattle.hc_wire.specs.declared.event.WireError.{WireError}
+use Rattle.hc_wire.specs.{Wires.{HasRisen, HasWireCause}, declared.event.WireError.{WireError}}
 use Rattle.hc_wire.specs.declared.event.WireError.TheVariants as wire_error
-use Rattle.hc_proxy.specs.declared.stop.Stop.{Stop}
+use Rattle.hc_proxy.specs.{declared.stop.Stop.{Stop}, Endings.{MayEnd}, Serving.{HasCauses}, Stops.{ended_as, of_sink, of_wire}, TurnSteps.{HasStopCause}}
 use Rattle.hc_proxy.specs.declared.stop.Stop.TheVariants as stop
-use Rattle.hc_proxy.specs.Endings.{MayEnd}
-use Rattle.hc_proxy.specs.Serving.{HasCauses}
-use Rattle.hc_proxy.specs.Stops.{ended_as, of_sink, of_wire}
-use Rattle.hc_proxy.specs.TurnSteps.{HasStopCause}
 
 pub err_is : {T : Type 0} (result : Result T Stop) (e : Stop) → IsErrAnd result (λ s. s ≡ e) → result ≡ Err e
 err_is (Ok x) e is = absurd is

@@ -3,43 +3,21 @@
 -- Its number was never handed out, so it is that of no client and of no connection to the origin, and it doesn't stand among those that
 -- were accepted. Where fewer than 512 clients are here it is one of them from now on. Else its connection is to be closed, and the tables
 -- stay as they are.
-use Rattle.std.proofs.Common.{◌≡◌, ◌≢◌, ◌⊎◌, inl, inr, ◌≤◌, ◌<◌, ℕ, ◌+◌, List, [], ◌∷◌, ◌++◌, length, Bool, true, false, Option, Some, None, refl, ap, sym, ◌∙◌, subst, arith}
-use Rattle.std.specs.Prelude.{◌&&◌, nat_eq, nat_lt, not, is_none, if◌then◌else◌, IsSome, Contains, ◌↔◌}
-use Rattle.std.specs.List.{list_all}
-use Rattle.std.specs.List.Sorted.{IsStrictlySortedBy}
-use Rattle.std.specs.Ordering.{nat_cmp}
-use Rattle.std.proofs.lemmas.Bool.Decides.{nat_tests}
-use Rattle.std.proofs.lemmas.List.Elements.{Contains-append_right, Contains-append_cases}
+use Rattle.std.{proofs.{Common.{◌≡◌, ◌≢◌, ◌⊎◌, inl, inr, ◌≤◌, ◌<◌, ℕ, ◌+◌, List, [], ◌∷◌, ◌++◌, length, Bool, true, false, Option, Some, None, refl, ap, sym, ◌∙◌, subst, arith}, lemmas.{Bool.Decides.{nat_tests}, List.Elements.{Contains-append_right, Contains-append_cases}}}, specs.{Prelude.{◌&&◌, nat_eq, nat_lt, not, is_none, if◌then◌else◌, IsSome, Contains, ◌↔◌}, List.{list_all, Sorted.{IsStrictlySortedBy}}, Ordering.{nat_cmp}}}
 use Rattle.hc_text.proofs.Basics.{eq_itself as same_number, some_inj}
 use Rattle.hc_core.specs.Steps.{faults_in}
 use Rattle.hc_effects.proofs.PieceKeeps.{eq_cases}
-use Rattle.hc_peers.specs.Clients.{client_of}
+use Rattle.hc_peers.specs.{Clients.{client_of}, Upstreams.{upstream_of}, declared.clients.Clients.{Clients}}
 use Rattle.hc_peers.specs.Clients as clients
 use Rattle.hc_peers.specs.Peers as peers
-use Rattle.hc_peers.specs.Upstreams.{upstream_of}
 use Rattle.hc_peers.specs.declared.client.Client as peer
-use Rattle.hc_peers.specs.declared.clients.Clients.{Clients}
 use Rattle.hc_peers.specs.declared.upstream.Upstream as origin
 use Rattle.hc_store.specs.declared.backend.Backend.{Ghosts}
 use Rattle.hc_wire.specs.Events.{Unseen, Open, Fresh, IsOpen}
 use Rattle.hc_wire.specs.declared.event.WireEvent.TheVariants as wire
 use Rattle.hc_proxy.specs.declared.proxy.Proxy as loop
-use Rattle.hc_proxy.specs.Carrying.{acts_in}
-use Rattle.hc_proxy.specs.Connections.{exchange_of, taken_at}
-use Rattle.hc_proxy.specs.Handling.{is_client, clients_here, client_comes}
-use Rattle.hc_proxy.specs.Invariants.{is_quiet}
-use Rattle.hc_proxy.specs.Keeping.{Turn, HasClients, IsClient, IsClientAt, AtWire, AreSeen, AreKnown, Begun, Keeps, KeepsQuiet, Goes}
-use Rattle.hc_proxy.specs.Rows.{Proxy, new_client}
-use Rattle.hc_proxy.specs.Waiting.{is_waiting}
-use Rattle.hc_proxy.proofs.Alike.{cache_moves, cache_with}
-use Rattle.hc_proxy.proofs.Holders.{held_of, of_held}
-use Rattle.hc_proxy.proofs.HoldersBegin.{comes_keeps}
-use Rattle.hc_proxy.proofs.Inserted.{inserted_sorted, inserted_here, inserted_on, inserted_back, passed_more}
-use Rattle.hc_proxy.proofs.Marked.{among_contained, contained_among}
-use Rattle.hc_proxy.proofs.SkippedSteps.{among}
-use Rattle.hc_proxy.proofs.StartsOn.{just_here, here_order}
-use Rattle.hc_proxy.proofs.Turning.{with_new}
-use Rattle.hc_proxy.proofs.HangsOff.{one_of}
+use Rattle.hc_proxy.specs.{Carrying.{acts_in}, Connections.{exchange_of, taken_at}, Handling.{is_client, clients_here, client_comes}, Invariants.{is_quiet}, Keeping.{Turn, HasClients, IsClient, IsClientAt, AtWire, AreSeen, AreKnown, Begun, Keeps, KeepsQuiet, Goes}, Rows.{Proxy, new_client}, Waiting.{is_waiting}}
+use Rattle.hc_proxy.proofs.{Alike.{cache_moves, cache_with}, Holders.{held_of, of_held}, HoldersBegin.{comes_keeps}, Inserted.{inserted_sorted, inserted_here, inserted_on, inserted_back, passed_more}, Marked.{among_contained, contained_among}, SkippedSteps.{among}, StartsOn.{just_here, here_order}, Turning.{with_new}, HangsOff.{one_of}}
 
 none_in : {A : Type 0} (j : ℕ) (ks : List ℕ) → ks ≡ [] → Contains ks j → A
 none_in j [] is (n, within, at) = absurd (omega arith)

@@ -5,28 +5,13 @@
 -- before, so nothing was started for it and no live consumer is its own. The network changes connections to the origin alone, and steps
 -- events of exchanges, which start nobody (`other_on`). So the client is followed by all of these up to the starts (`starts_on`), and what
 -- was carried out before the turn is the measure of what it is owed until then.
-use Rattle.std.proofs.Common.{◌≡◌, ℕ, List, [], ◌++◌, Bool, true, false, Option, Some, None, refl, ap, sym, ◌∙◌, subst, arith}
-use Rattle.std.specs.Prelude.{◌&&◌, ◌||◌, nat_eq, nat_lt, length, is_none, option_map, if◌then◌else◌}
-use Rattle.std.proofs.lemmas.Bool.Decides.{nat_tests}
+use Rattle.std.{proofs.{Common.{◌≡◌, ℕ, List, [], ◌++◌, Bool, true, false, Option, Some, None, refl, ap, sym, ◌∙◌, subst, arith}, lemmas.Bool.Decides.{nat_tests}}, specs.Prelude.{◌&&◌, ◌||◌, nat_eq, nat_lt, length, is_none, option_map, if◌then◌else◌}}
 use Rattle.hc_effects.proofs.Vocabulary.{Event, Request, History, is_open, Limits}
 use Rattle.hc_event.specs.declared.event.Event.TheVariants as event
-use Rattle.hc_wire.specs.Logs.{Called}
-use Rattle.hc_wire.specs.declared.event.WireEvent.{WireEvent}
+use Rattle.hc_wire.specs.{Logs.{Called}, declared.event.WireEvent.{WireEvent}}
 use Rattle.hc_wire.specs.declared.event.WireEvent.TheVariants as wire
-use Rattle.hc_proxy.specs.Asked.{got_by, starts_of}
-use Rattle.hc_proxy.specs.Connections.{exchange_of, stands}
-use Rattle.hc_proxy.specs.Handling.{seen_at, clients_here, inserted, client_comes, left, cancelled, leaves, client_sends, sends, ends, broke, handled_by, handled}
-use Rattle.hc_proxy.specs.Network.{heard}
-use Rattle.hc_proxy.specs.Rendered.{consumers_of}
-use Rattle.hc_proxy.specs.Rows.{Client, Upstream, Proxy, new_client, with, with_client}
-use Rattle.hc_proxy.specs.Starts.{started_all}
-use Rattle.hc_proxy.specs.Steps.{stepped}
-use Rattle.hc_proxy.specs.Waiting.{is_poll}
-use Rattle.hc_proxy.proofs.Asked.{of_exchange, more_calls, IsRead, alike, passes, waits}
-use Rattle.hc_proxy.proofs.ClientSteps.{IsRow, Follows, put_all, still, other_on, change_on, starts_on}
-use Rattle.hc_proxy.proofs.NetworkKeeps.{is_of_exchange, IsKeptByNetwork, heard_keeps}
-use Rattle.hc_proxy.proofs.Owings.{Owes, owes_alike, new_owes}
-use Rattle.hc_proxy.proofs.Turning.{with_new}
+use Rattle.hc_proxy.specs.{Asked.{got_by, starts_of}, Connections.{exchange_of, stands}, Handling.{seen_at, clients_here, inserted, client_comes, left, cancelled, leaves, client_sends, sends, ends, broke, handled_by, handled}, Network.{heard}, Rendered.{consumers_of}, Rows.{Client, Upstream, Proxy, new_client, with, with_client}, Starts.{started_all}, Steps.{stepped}, Waiting.{is_poll}}
+use Rattle.hc_proxy.proofs.{Asked.{of_exchange, more_calls, IsRead, alike, passes, waits}, ClientSteps.{IsRow, Follows, put_all, still, other_on, change_on, starts_on}, NetworkKeeps.{is_of_exchange, IsKeptByNetwork, heard_keeps}, Owings.{Owes, owes_alike, new_owes}, Turning.{with_new}}
 
 pub no_poll : (ev : Event) → is_of_exchange ev ≡ true → is_poll ev ≡ false
 no_poll (event.Start c request) is = absurd (let never : false ≡ true = is in cc)

@@ -4,37 +4,15 @@
 -- before them is sent to anybody and a poll tells its own consumer alone. So what is sent to a consumer of this client is sent to the one
 -- that it waits for, while it is here, and its answer goes on by that (`owes_last`). Who is live behind the turn was live before the
 -- polls and isn't told that it is over: so it is still waited for.
-use Rattle.std.proofs.Common.{◌≡◌, ◌⊎◌, inl, inr, ◌≤◌, ◌<◌, ℕ, List, [], ◌∷◌, ◌++◌, Bool, true, false, Option, Some, None, refl, ap, sym, ◌∙◌, subst, arith, append_assoc, append-nil}
-use Rattle.std.specs.Prelude.{◌&&◌, ◌||◌, not, nat_eq, filter, option_map, if◌then◌else◌}
-use Rattle.std.proofs.lemmas.Bool.Decides.{nat_tests}
-use Rattle.std.proofs.lemmas.List.Elements.{filter-append}
+use Rattle.std.{proofs.{Common.{◌≡◌, ◌⊎◌, inl, inr, ◌≤◌, ◌<◌, ℕ, List, [], ◌∷◌, ◌++◌, Bool, true, false, Option, Some, None, refl, ap, sym, ◌∙◌, subst, arith, append_assoc, append-nil}, lemmas.{Bool.Decides.{nat_tests}, List.Elements.{filter-append}}}, specs.Prelude.{◌&&◌, ◌||◌, not, nat_eq, filter, option_map, if◌then◌else◌}}
 use Rattle.hc_text.proofs.Basics.{some_inj as some_is}
 use Rattle.hc_effects.proofs.Vocabulary.{leaves_in, Act, Request, is_live, Entry, History, Tables, IsOwed, owed, Limits}
 use Rattle.hc_event.specs.declared.event.Event.TheVariants as event
 use Rattle.hc_head.specs.declared.message.WireRequest.{WireRequest}
 use Rattle.hc_peers.specs.Renderings.{reply_to}
 use Rattle.hc_wire.specs.Logs.{Called}
-use Rattle.hc_proxy.specs.Asked.{is_at, starts_of, starts_in, AreClients}
-use Rattle.hc_proxy.specs.Carrying.{acts_in, carried}
-use Rattle.hc_proxy.specs.Connections.{has_unsent}
-use Rattle.hc_proxy.specs.Invariants.{addressee}
-use Rattle.hc_proxy.specs.Polls.{live_consumers, takes_more, may_be_polled, polled, each_polled, polled_all}
-use Rattle.hc_proxy.specs.Rendered.{is_answer_to, answer_to, rendered, answers_to, consumers_of, error_answer}
-use Rattle.hc_proxy.specs.Rows.{Client, Proxy}
-use Rattle.hc_proxy.specs.Steps.{with_entry, stepped}
-use Rattle.hc_proxy.proofs.Ascending.{lives_are}
-use Rattle.hc_proxy.proofs.Asked.{alike}
-use Rattle.hc_proxy.proofs.ClientSteps.{other_live, over_here, HasRow, IsRow, Holds, Follows, row_less}
-use Rattle.hc_proxy.proofs.ConsumersOf.{consumers_its}
-use Rattle.hc_proxy.proofs.FoundClients.{sent_told, AreNotTo, quiet_not}
-use Rattle.hc_proxy.proofs.Later.{IsSame, carried_is_same}
-use Rattle.hc_proxy.proofs.OwedActs.{sent_is, told_all, AreIts, AreFor, for_less, owes_past, owes_last, not_true, all_wait, IsKept, all_keep, all_rows}
-use Rattle.hc_proxy.proofs.Owings.{answers_more, is_number, answers_whom, all_alone, answer_alone, all_same, HasError, IsNew, HasLast, Owes, owes_by}
-use Rattle.hc_proxy.proofs.PolledAlone.{AreTo, polls_alone}
-use Rattle.hc_proxy.proofs.SkippedSteps.{among}
-use Rattle.hc_proxy.proofs.Stands.{Stands, StandsOn, law_of, owed_here, goes_on, stands_out}
-use Rattle.hc_proxy.proofs.StaysOver.{HasOver}
-use Rattle.hc_proxy.proofs.Turning.{carried_keeps, open_any}
+use Rattle.hc_proxy.specs.{Asked.{is_at, starts_of, starts_in, AreClients}, Carrying.{acts_in, carried}, Connections.{has_unsent}, Invariants.{addressee}, Polls.{live_consumers, takes_more, may_be_polled, polled, each_polled, polled_all}, Rendered.{is_answer_to, answer_to, rendered, answers_to, consumers_of, error_answer}, Rows.{Client, Proxy}, Steps.{with_entry, stepped}}
+use Rattle.hc_proxy.proofs.{Ascending.{lives_are}, Asked.{alike}, ClientSteps.{other_live, over_here, HasRow, IsRow, Holds, Follows, row_less}, ConsumersOf.{consumers_its}, FoundClients.{sent_told, AreNotTo, quiet_not}, Later.{IsSame, carried_is_same}, OwedActs.{sent_is, told_all, AreIts, AreFor, for_less, owes_past, owes_last, not_true, all_wait, IsKept, all_keep, all_rows}, Owings.{answers_more, is_number, answers_whom, all_alone, answer_alone, all_same, HasError, IsNew, HasLast, Owes, owes_by}, PolledAlone.{AreTo, polls_alone}, SkippedSteps.{among}, Stands.{Stands, StandsOn, law_of, owed_here, goes_on, stands_out}, StaysOver.{HasOver}, Turning.{carried_keeps, open_any}}
 
 -- POLLS, of tables before them
 

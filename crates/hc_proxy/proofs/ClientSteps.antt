@@ -4,35 +4,17 @@
 -- is the one it waits for. Nothing is told to a consumer before the polls, so what was carried out before the turn stays the measure of
 -- what is owed. An event that starts nobody makes nobody live. A client asks for more only where it waits for nothing and isn't to be
 -- closed: so its new consumer is the only live one, and no error answer is behind.
-use Rattle.std.proofs.Common.{◌≡◌, ◌⊎◌, inl, inr, ◌≤◌, ◌<◌, ℕ, ◌+◌, List, [], ◌∷◌, ◌++◌, Bool, true, false, Option, Some, None, refl, ap, sym, ◌∙◌, subst, arith, append-nil}
-use Rattle.std.specs.Prelude.{nat_eq, IsSome, option_map, if◌then◌else◌}
-use Rattle.std.proofs.lemmas.Bool.Decides.{nat_tests}
+use Rattle.std.{proofs.{Common.{◌≡◌, ◌⊎◌, inl, inr, ◌≤◌, ◌<◌, ℕ, ◌+◌, List, [], ◌∷◌, ◌++◌, Bool, true, false, Option, Some, None, refl, ap, sym, ◌∙◌, subst, arith, append-nil}, lemmas.Bool.Decides.{nat_tests}}, specs.Prelude.{nat_eq, IsSome, option_map, if◌then◌else◌}}
 use Rattle.hc_text.proofs.Basics.{some_inj as some_is}
 use Rattle.hc_effects.proofs.Vocabulary.{Event, Request, is_live, Entry, History, owed, Limits}
 use Rattle.hc_event.specs.declared.event.Event.TheVariants as event
 use Rattle.hc_head.specs.declared.message.WireRequest.{WireRequest}
 use Rattle.hc_laws.proofs.LiveAfter.{Starts, was_live}
-use Rattle.hc_msg.specs.Inputs.{Next, Waits, Tells, Brings, Ends, Fails, next_in}
-use Rattle.hc_msg.specs.NextParts.{StandsNext}
-use Rattle.hc_msg.specs.Reading.{Reading, Heading, Requests, Failed, Token, Asks, Answers, Byte}
-use Rattle.hc_msg.proofs.Leading.{tells_leads}
-use Rattle.hc_msg.proofs.NextParts.{stands_next}
+use Rattle.hc_msg.specs.{Inputs.{Next, Waits, Tells, Brings, Ends, Fails, next_in}, NextParts.{StandsNext}, Reading.{Reading, Heading, Requests, Failed, Token, Asks, Answers, Byte}}
+use Rattle.hc_msg.proofs.{Leading.{tells_leads}, NextParts.{stands_next}}
 use Rattle.hc_wire.specs.Logs.{Called}
-use Rattle.hc_proxy.specs.Asked.{is_at, started_by, starts_of, count_by, starts_in, AreClients}
-use Rattle.hc_proxy.specs.Carrying.{acts_in}
-use Rattle.hc_proxy.specs.Handling.{clients_here}
-use Rattle.hc_proxy.specs.Rendered.{answer_to, consumer_by, consumers_of, error_answer}
-use Rattle.hc_proxy.specs.Rows.{Client, Upstream, Proxy, with, with_client}
-use Rattle.hc_proxy.specs.Starts.{read_to, asks, with_holder, started, refused, hears_request, hears, hears_if, is_ready, each_heard, started_all}
-use Rattle.hc_proxy.specs.Steps.{with_entry, stepped}
-use Rattle.hc_proxy.specs.Waiting.{is_poll}
-use Rattle.hc_proxy.proofs.Asked.{IsOther, other_starts, other_count, other_next, starts_kept, clients_kept, IsRead, alike, reads_on, read_all, all_read}
-use Rattle.hc_proxy.proofs.ConsumersOf.{other_consumers, consumers_kept, consumers_below}
-use Rattle.hc_proxy.proofs.NextAsks.{IsHead, of_head, IsNextAsked, next_asks, ready_idle}
-use Rattle.hc_proxy.proofs.Owings.{Owes, owes_read, owes_refused, owes_asks}
-use Rattle.hc_proxy.proofs.QuietActs.{AreQuiet, quiet_both, is_quiet_entry}
-use Rattle.hc_proxy.proofs.Stands.{Stands, law_of, owed_here, goes_on}
-use Rattle.hc_proxy.proofs.StaysOver.{HasOver, over_keeps}
+use Rattle.hc_proxy.specs.{Asked.{is_at, started_by, starts_of, count_by, starts_in, AreClients}, Carrying.{acts_in}, Handling.{clients_here}, Rendered.{answer_to, consumer_by, consumers_of, error_answer}, Rows.{Client, Upstream, Proxy, with, with_client}, Starts.{read_to, asks, with_holder, started, refused, hears_request, hears, hears_if, is_ready, each_heard, started_all}, Steps.{with_entry, stepped}, Waiting.{is_poll}}
+use Rattle.hc_proxy.proofs.{Asked.{IsOther, other_starts, other_count, other_next, starts_kept, clients_kept, IsRead, alike, reads_on, read_all, all_read}, ConsumersOf.{other_consumers, consumers_kept, consumers_below}, NextAsks.{IsHead, of_head, IsNextAsked, next_asks, ready_idle}, Owings.{Owes, owes_read, owes_refused, owes_asks}, QuietActs.{AreQuiet, quiet_both, is_quiet_entry}, Stands.{Stands, law_of, owed_here, goes_on}, StaysOver.{HasOver, over_keeps}}
 
 starts_other : (c : ℕ) (ev : Event) → IsOther ev → Starts c ev → ⊥
 starts_other c (event.Start d request) off is = off

@@ -7,21 +7,8 @@
 use Rattle.std.proofs.Common.{◌≡◌, ℕ, List, [], ◌∷◌, ◌++◌, false, true, Option, Some, None, refl, ap, sym, ◌∙◌, subst, append_assoc, append-nil}
 use Rattle.hc_effects.proofs.Vocabulary.{Request, Entry, Limits}
 use Rattle.hc_wire.specs.Logs.{Called, Log}
-use Rattle.hc_proxy.specs.Asked.{got_from, starts_of, HasAsked, IsAsked, nothing, since, StartsAreAsked}
-use Rattle.hc_proxy.specs.Connections.{exchange_of}
-use Rattle.hc_proxy.specs.Handling.{begun, handled}
-use Rattle.hc_proxy.specs.Network.{heard}
-use Rattle.hc_proxy.specs.Rendered.{IsAnswered, AnswersAreOwed}
-use Rattle.hc_proxy.specs.Rows.{Client, Proxy, unused}
-use Rattle.hc_proxy.specs.Starts.{started_all}
-use Rattle.hc_proxy.specs.Turns.{so_far, happened, turned, turned_by, behind_all}
-use Rattle.hc_proxy.proofs.Asked.{more_calls, place_shorter, IsRead}
-use Rattle.hc_proxy.proofs.ClientEvents.{seen_row, before_polls}
-use Rattle.hc_proxy.proofs.ClientPolls.{Rested, polls_on, carries_on}
-use Rattle.hc_proxy.proofs.ClientSteps.{IsRow, Follows, row_on}
-use Rattle.hc_proxy.proofs.Later.{carried_is_same}
-use Rattle.hc_proxy.proofs.Parts.{turn_part}
-use Rattle.hc_proxy.proofs.Stands.{begins_turn, turn_goes, unused_stands}
+use Rattle.hc_proxy.specs.{Asked.{got_from, starts_of, HasAsked, IsAsked, nothing, since, StartsAreAsked}, Connections.{exchange_of}, Handling.{begun, handled}, Network.{heard}, Rendered.{IsAnswered, AnswersAreOwed}, Rows.{Client, Proxy, unused}, Starts.{started_all}, Turns.{so_far, happened, turned, turned_by, behind_all}}
+use Rattle.hc_proxy.proofs.{Asked.{more_calls, place_shorter, IsRead}, ClientEvents.{seen_row, before_polls}, ClientPolls.{Rested, polls_on, carries_on}, ClientSteps.{IsRow, Follows, row_on}, Later.{carried_is_same}, Parts.{turn_part}, Stands.{begins_turn, turn_goes, unused_stands}}
 
 -- A TURN
 

@@ -2,19 +2,13 @@
 --
 -- An accepted entry closes what had a row, and the row is shut behind it. No entry opens it again: what an entry opens is the next
 -- exchange, whose number wasn't given out.
-use Rattle.std.proofs.Common.{◌≡◌, inl, inr, ◌≤◌, ℕ, ◌+◌, List, [], ◌∷◌, ◌++◌, Bool, true, false, Option, Some, None, refl, ap, sym, ◌∙◌, arith}
-use Rattle.std.specs.Prelude.{◌||◌, nat_eq, nat_lt}
-use Rattle.std.proofs.lemmas.Bool.Decides.{nat_tests}
+use Rattle.std.{proofs.{Common.{◌≡◌, inl, inr, ◌≤◌, ℕ, ◌+◌, List, [], ◌∷◌, ◌++◌, Bool, true, false, Option, Some, None, refl, ap, sym, ◌∙◌, arith}, lemmas.Bool.Decides.{nat_tests}}, specs.Prelude.{◌||◌, nat_eq, nat_lt}}
 use Rattle.hc_text.proofs.Basics.{or_cases, true_false}
 use Rattle.hc_effects.proofs.Vocabulary.{closes_in, is_denied, Act, Limits, Entry, exchange_after, is_open, flaw_in, Exchange, IsOwed, after}
 use Rattle.hc_event.specs.declared.act.Act.TheVariants as act
-use Rattle.hc_effects.proofs.Owed.{acts_are, is_denial, IsDenied, denied}
-use Rattle.hc_effects.proofs.Unclosed.{had_row}
-use Rattle.hc_proxy.specs.Invariants.{AreClosed}
-use Rattle.hc_proxy.specs.Rows.{Proxy}
-use Rattle.hc_proxy.proofs.OpenAfter.{was_open}
-use Rattle.hc_proxy.proofs.Stands.{Stands, is_sound}
-use Rattle.hc_proxy.proofs.StepOn.{opens_behind, opened_grows}
+use Rattle.hc_effects.proofs.{Owed.{acts_are, is_denial, IsDenied, denied}, Unclosed.{had_row}}
+use Rattle.hc_proxy.specs.{Invariants.{AreClosed}, Rows.{Proxy}}
+use Rattle.hc_proxy.proofs.{OpenAfter.{was_open}, Stands.{Stands, is_sound}, StepOn.{opens_behind, opened_grows}}
 
 -- LISTS OF ACTS
 

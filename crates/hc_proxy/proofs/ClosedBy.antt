@@ -3,10 +3,7 @@
 -- More is waited for, so `take` answered no part, and the row is read to the end of its bytes. Then `finish` tells whether the answer is
 -- whole by the close. What was handed before, the close and the lists behind it are one step of the definitions: two steps of the cache
 -- are made at most, since behind two the exchange isn't open, and the close makes one only of an open exchange.
-use Rattle.std.proofs.Common.{◌≡◌, inl, inr, ℕ, ◌+◌, ◌≤◌, Bool, true, false, Option, Some, None, refl, ap, sym, ◌∙◌, subst, arith}
-use Rattle.std.specs.Prelude.{◌^◌, Result, Ok, Err}
-use Rattle.std.specs.Result.{is_ok, is_err}
-use Rattle.std.proofs.Math.Logic.{∥∥₁_map}
+use Rattle.std.{proofs.{Common.{◌≡◌, inl, inr, ℕ, ◌+◌, ◌≤◌, Bool, true, false, Option, Some, None, refl, ap, sym, ◌∙◌, subst, arith}, Math.Logic.{∥∥₁_map}}, specs.{Prelude.{◌^◌, Result, Ok, Err}, Result.{is_ok, is_err}}}
 use Rattle.hc_text.proofs.Basics.{eq_itself as same_number}
 use Rattle.hc_core.specs.Steps.{steps, faults_in, bytes_received}
 use Rattle.hc_event.specs.declared.event.Event.TheVariants as event
@@ -14,23 +11,14 @@ use Rattle.hc_head.specs.declared.message.MsgError.{MsgError}
 use Rattle.hc_head.specs.declared.message.MsgError.TheVariants as error
 use Rattle.hc_effects.proofs.Vocabulary.{is_open}
 use Rattle.hc_msg.specs.declared.message.Look.TheVariants as look
-use Rattle.hc_msg.specs.declared.message.WirePart.{WirePart}
-use Rattle.hc_msg.specs.Inputs.{Next, look_of}
-use Rattle.hc_msg.specs.Taking.{ending}
+use Rattle.hc_msg.specs.{declared.message.WirePart.{WirePart}, Inputs.{Next, look_of}, Taking.{ending}}
 use Rattle.hc_peers.specs.Origins as origins
-use Rattle.hc_peers.specs.Upstreams.{upstream_of, has_ended_at, look_at, Becomes, ListsStay, TakesOf}
+use Rattle.hc_peers.specs.{Upstreams.{upstream_of, has_ended_at, look_at, Becomes, ListsStay, TakesOf}, declared.upstreams.Upstreams.{Upstreams}}
 use Rattle.hc_peers.specs.declared.upstream.Upstream as origin
-use Rattle.hc_peers.specs.declared.upstreams.Upstreams.{Upstreams}
 use Rattle.hc_store.specs.declared.backend.Backend.{Ghosts}
 use Rattle.hc_proxy.specs.declared.proxy.Proxy as loop
-use Rattle.hc_proxy.specs.Hearing.{MayStep, HasHanded, HasFinished, HasHeard}
-use Rattle.hc_proxy.specs.Invariants.{unread}
-use Rattle.hc_proxy.specs.Keeping.{Turn, HasCache, KeepsBut, KeepsQuiet, Stepped, RestStays, Goes}
-use Rattle.hc_proxy.specs.Network.{handed, closed}
-use Rattle.hc_proxy.specs.Rows.{Proxy}
-use Rattle.hc_proxy.proofs.FinishedOn.{cut_finished, whole_finished}
-use Rattle.hc_proxy.proofs.HandedOn.{rows, apart_both}
-use Rattle.hc_proxy.proofs.TakenParts.{TakenNone, waits_taken, looks_waits}
+use Rattle.hc_proxy.specs.{Hearing.{MayStep, HasHanded, HasFinished, HasHeard}, Invariants.{unread}, Keeping.{Turn, HasCache, KeepsBut, KeepsQuiet, Stepped, RestStays, Goes}, Network.{handed, closed}, Rows.{Proxy}}
+use Rattle.hc_proxy.proofs.{FinishedOn.{cut_finished, whole_finished}, HandedOn.{rows, apart_both}, TakenParts.{TakenNone, waits_taken, looks_waits}}
 
 -- where more is waited for, the read fails by want of memory alone
 pub only_memory : (z : ℕ) (old new : Upstreams) (out : Result (Option WirePart) MsgError) (e : MsgError) → look_at (upstream_of old z) ≡ look.Waits

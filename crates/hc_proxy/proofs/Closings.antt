@@ -2,17 +2,10 @@
 --
 -- A connection that is closed has its taker shut, and its stage is that of a closed one; all others stand as before, and nothing is sent.
 -- So what is said of some closes holds of one more, in any order, and of each first part of a list.
-use Rattle.std.proofs.Common.{◌≡◌, ◌⊎◌, ℕ, List, [], ◌∷◌, ◌++◌, Bool, true, false, Option, Some, None, eqb, refl, sym, ap, ◌∙◌, inl, inr, subst, arith, get_or, take, length, ◌+◌, ◌<◌}
-use Rattle.std.specs.Prelude.{nat_eq, ◌||◌, if◌then◌else◌}
-use Rattle.std.specs.List.{list_any}
-use Rattle.std.proofs.lemmas.Bool.{cases_Bool, eqb-true}
-use Rattle.std.proofs.lemmas.List.{append-nil, take_more}
-use Rattle.std.proofs.Math.Seq.{take-length}
-use Rattle.hc_wire.specs.Events.{Stage, Unseen, Open, Closed, with_stage, closed_of}
-use Rattle.hc_wire.specs.Logs.{Log, Taker, Tells, stage_in, changed_at, shut, with_closed}
+use Rattle.std.{proofs.{Common.{◌≡◌, ◌⊎◌, ℕ, List, [], ◌∷◌, ◌++◌, Bool, true, false, Option, Some, None, eqb, refl, sym, ap, ◌∙◌, inl, inr, subst, arith, get_or, take, length, ◌+◌, ◌<◌}, lemmas.{Bool.{cases_Bool, eqb-true}, List.{append-nil, take_more}}, Math.Seq.{take-length}}, specs.{Prelude.{nat_eq, ◌||◌, if◌then◌else◌}, List.{list_any}}}
+use Rattle.hc_wire.specs.{Events.{Stage, Unseen, Open, Closed, with_stage, closed_of}, Logs.{Log, Taker, Tells, stage_in, changed_at, shut, with_closed}}
 use Rattle.hc_wire.proofs.LogLemmas.{stages-changed, stage_shut}
-use Rattle.hc_proxy.specs.Logging.{Follows, Dials}
-use Rattle.hc_proxy.specs.Underway.{closed_among, shut_each, Closes}
+use Rattle.hc_proxy.specs.{Logging.{Follows, Dials}, Underway.{closed_among, shut_each, Closes}}
 use Rattle.hc_proxy.proofs.Takers.{apart_stays, sent_stays}
 
 pub told_on : (told told' : Option Log) (log : Log) (f : Log → Log) → (told ≡ None) ⊎ (told ≡ Some log) → Tells told told' f → (told' ≡ None) ⊎ (told' ≡ Some (f log))

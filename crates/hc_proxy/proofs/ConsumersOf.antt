@@ -1,14 +1,9 @@
 -- The consumers of a client, by the history: they are its own, each started behind those before it.
-use Rattle.std.proofs.Common.{◌≡◌, ◌<◌, ℕ, ◌+◌, List, [], ◌∷◌, ◌++◌, Bool, true, false, Option, refl, ap, arith}
-use Rattle.std.specs.Prelude.{if◌then◌else◌}
+use Rattle.std.{proofs.Common.{◌≡◌, ◌<◌, ℕ, ◌+◌, List, [], ◌∷◌, ◌++◌, Bool, true, false, Option, refl, ap, arith}, specs.Prelude.{if◌then◌else◌}}
 use Rattle.hc_effects.proofs.Vocabulary.{Event, History}
 use Rattle.hc_event.specs.declared.event.Event.TheVariants as event
-use Rattle.hc_proxy.specs.Asked.{is_at, count_by, starts_in, IsNextStart, AreClients}
-use Rattle.hc_proxy.specs.Rendered.{consumer_by, consumers_of}
-use Rattle.hc_proxy.specs.Rows.{with}
-use Rattle.hc_proxy.proofs.Asked.{IsOther, kept_at}
-use Rattle.hc_proxy.proofs.OwedActs.{AreIts}
-use Rattle.hc_proxy.proofs.Owings.{AreBelow}
+use Rattle.hc_proxy.specs.{Asked.{is_at, count_by, starts_in, IsNextStart, AreClients}, Rendered.{consumer_by, consumers_of}, Rows.{with}}
+use Rattle.hc_proxy.proofs.{Asked.{IsOther, kept_at}, OwedActs.{AreIts}, Owings.{AreBelow}}
 
 -- an event that starts nobody
 pub other_consumers : (holder : ℕ → Option ℕ) (k : ℕ) (ev : Event) → IsOther ev → consumer_by holder k ev ≡ []

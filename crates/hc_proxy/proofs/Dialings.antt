@@ -2,47 +2,21 @@
 --
 -- The connection stands at the next place of those that were dialled, and its number names no other. It has taken nothing, and is
 -- owed the request on both sides. All other connections stay as they are, and so do the clients and the tables.
-use Rattle.std.proofs.Common.{◌≡◌, ◌⊎◌, inl, inr, ℕ, zero, suc, ◌+◌, ◌-◌, ◌≤◌, List, [], ◌∷◌, ◌++◌, Bool, true, false, Option, Some, None, refl, ap, sym, ◌∙◌, subst, arith, length, drop, eqb, length-append}
-use Rattle.std.specs.Prelude.{nat_eq, find, ◌&&◌, Ok, Err, IsSome, Contains, if◌then◌else◌}
-use Rattle.std.specs.List.{sum_by}
-use Rattle.std.proofs.Math.Logic.{∥∥₁_elim}
-use Rattle.std.proofs.lemmas.List.Sums.{sum_by-cons}
-use Rattle.std.proofs.lemmas.Bool.{cases_Bool}
-use Rattle.std.proofs.lemmas.Bool.Decides.{nat_tests}
+use Rattle.std.{proofs.{Common.{◌≡◌, ◌⊎◌, inl, inr, ℕ, zero, suc, ◌+◌, ◌-◌, ◌≤◌, List, [], ◌∷◌, ◌++◌, Bool, true, false, Option, Some, None, refl, ap, sym, ◌∙◌, subst, arith, length, drop, eqb, length-append}, Math.Logic.{∥∥₁_elim}, lemmas.{List.Sums.{sum_by-cons}, Bool.{cases_Bool, Decides.{nat_tests}}}}, specs.{Prelude.{nat_eq, find, ◌&&◌, Ok, Err, IsSome, Contains, if◌then◌else◌}, List.{sum_by}, Str.{is_utf8}}}
 use Rattle.hc_effects.proofs.Vocabulary.{asks_in, closes_in, Act, Need, Request, is_open, is_wanted}
 use Rattle.hc_event.specs.declared.act.Act.TheVariants as act
 use Rattle.hc_target.specs.Targets.{is_short_word, is_target}
-use Rattle.std.specs.Str.{is_utf8}
 use Rattle.hc_text.proofs.Basics.{eq_itself as same_number, some_inj as some_is}
-use Rattle.url.specs.Parts.{Parts}
-use Rattle.url.specs.Parser.{Parsed, parse_url}
+use Rattle.url.specs.{Parts.{Parts}, Parser.{Parsed, parse_url}}
 use Rattle.hc_msg.specs.Writing.{request_text}
 use Rattle.hc_store.specs.declared.backend.Backend.{Ghosts}
-use Rattle.hc_wire.specs.Events.{Stage, Unseen, Open, Closed, Fresh, with_stage, IsOpen}
-use Rattle.hc_wire.specs.Logs.{Log, Taker, is_numbered, stage_in, sent_in, sent_from, fresh, with_dialled}
+use Rattle.hc_wire.specs.{Events.{Stage, Unseen, Open, Closed, Fresh, with_stage, IsOpen}, Logs.{Log, Taker, is_numbered, stage_in, sent_in, sent_from, fresh, with_dialled}}
 use Rattle.hc_wire.proofs.LogLemmas.{stages-fresh}
-use Rattle.hc_peers.specs.Origins.{new_upstream}
-use Rattle.hc_peers.specs.Renderings.{is_head}
-use Rattle.hc_peers.specs.Clients.{client_of}
-use Rattle.hc_peers.specs.Peers.{is_same}
-use Rattle.hc_peers.specs.Upstreams.{upstream_of, is_news, is_touched, Becomes}
+use Rattle.hc_peers.specs.{Origins.{new_upstream}, Renderings.{is_head}, Clients.{client_of}, Peers.{is_same}, Upstreams.{upstream_of, is_news, is_touched, Becomes}, declared.upstreams.Upstreams.{Upstreams}}
 use Rattle.hc_peers.specs.declared.upstream.Upstream as origin
-use Rattle.hc_peers.specs.declared.upstreams.Upstreams.{Upstreams}
 use Rattle.hc_proxy.specs.declared.proxy.Proxy as loop
-use Rattle.hc_proxy.specs.Carrying.{opened, text_by, sent_request}
-use Rattle.hc_proxy.specs.Connections.{first_of, connection_of, exchange_of, taken_at}
-use Rattle.hc_proxy.specs.Headed.{IsReadAs, AreHeaded}
-use Rattle.hc_proxy.specs.Invariants.{OpensUp, is_due_by, is_part, unread_of, IsHeardOut}
-use Rattle.hc_proxy.specs.Keeping.{Turn, HasCache, HasUpstreams, IsUpstream, IsUpstreamAt, AtWire}
-use Rattle.hc_proxy.specs.Logging.{Follows, Dials, AreApart}
-use Rattle.hc_proxy.specs.Network.{next_of}
-use Rattle.hc_proxy.specs.Rows.{Upstream, Proxy, with}
-use Rattle.hc_proxy.specs.Underway.{DialsOne, Opens, KeepsUnderway, OnWire, GoesOn, IsNext, dialling}
-use Rattle.hc_proxy.proofs.CarriedOut.{act_keeps}
-use Rattle.hc_proxy.proofs.Closings.{told_on}
-use Rattle.hc_proxy.proofs.MoreConnections.{connection_stays, connection_comes, nobodys_stays, names_more}
-use Rattle.hc_proxy.proofs.Followed.{unseen_none as nobody_yet}
-use Rattle.hc_proxy.proofs.OpensUp.{up_grows as ups}
+use Rattle.hc_proxy.specs.{Carrying.{opened, text_by, sent_request}, Connections.{first_of, connection_of, exchange_of, taken_at}, Headed.{IsReadAs, AreHeaded}, Invariants.{OpensUp, is_due_by, is_part, unread_of, IsHeardOut}, Keeping.{Turn, HasCache, HasUpstreams, IsUpstream, IsUpstreamAt, AtWire}, Logging.{Follows, Dials, AreApart}, Network.{next_of}, Rows.{Upstream, Proxy, with}, Underway.{DialsOne, Opens, KeepsUnderway, OnWire, GoesOn, IsNext, dialling}}
+use Rattle.hc_proxy.proofs.{CarriedOut.{act_keeps}, Closings.{told_on}, MoreConnections.{connection_stays, connection_comes, nobodys_stays, names_more}, Followed.{unseen_none as nobody_yet}, OpensUp.{up_grows as ups}}
 
 -- THE LOG
 

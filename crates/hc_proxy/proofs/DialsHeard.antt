@@ -2,24 +2,15 @@
 --
 -- A connection has the place at which its number stands first. So it has that among fewer dials that reach so far, and among more. The
 -- bytes of a call stand behind those of the calls before it, and what had ended before a call has ended behind it.
-use Rattle.std.proofs.Common.{◌≡◌, ◌≤◌, ◌<◌, ℕ, zero, suc, ◌+◌, ◌-◌, List, [], ◌∷◌, ◌++◌, Bool, true, false, Option, Some, None, refl, ap, ◌∙◌, arith}
-use Rattle.std.specs.Prelude.{◌||◌, nat_eq, length, take, drop, Ok, Err, Contains, if◌then◌else◌, option_map}
-use Rattle.std.proofs.lemmas.Bool.Decides.{nat_tests}
+use Rattle.std.{proofs.{Common.{◌≡◌, ◌≤◌, ◌<◌, ℕ, zero, suc, ◌+◌, ◌-◌, List, [], ◌∷◌, ◌++◌, Bool, true, false, Option, Some, None, refl, ap, ◌∙◌, arith}, lemmas.Bool.Decides.{nat_tests}}, specs.Prelude.{◌||◌, nat_eq, length, take, drop, Ok, Err, Contains, if◌then◌else◌, option_map}}
 use Rattle.hc_effects.proofs.Vocabulary.{Act, Event, Limits}
 use Rattle.hc_event.specs.declared.event.Event.TheVariants as event
 use Rattle.hc_head.specs.declared.message.MsgError.TheVariants as error
-use Rattle.hc_msg.specs.Reading.{Reading, Heading, Counts, Runs, Sizing, Chunk, ChunkEnd, ChunkReturn, Trailing, Whole, Done, Failed}
-use Rattle.hc_msg.specs.Taking.{ending}
-use Rattle.hc_msg.specs.declared.message.WirePart.{WirePart}
+use Rattle.hc_msg.specs.{Reading.{Reading, Heading, Counts, Runs, Sizing, Chunk, ChunkEnd, ChunkReturn, Trailing, Whole, Done, Failed}, Taking.{ending}, declared.message.WirePart.{WirePart}}
 use Rattle.hc_msg.specs.declared.message.WirePart.TheVariants as part
 use Rattle.hc_wire.specs.Logs.{Called}
-use Rattle.hc_proxy.specs.Asked.{got_by, got_from}
-use Rattle.hc_proxy.specs.Connections.{place_from, exchange_of, first_of, connection_of}
-use Rattle.hc_proxy.specs.Rows.{Upstream, Proxy}
-use Rattle.hc_proxy.specs.Steps.{with_entry, stepped}
-use Rattle.hc_proxy.specs.Ended.{is_end_of, has_ended}
-use Rattle.hc_proxy.proofs.Asked.{got_more}
-use Rattle.hc_proxy.proofs.Turning.{IsKept}
+use Rattle.hc_proxy.specs.{Asked.{got_by, got_from}, Connections.{place_from, exchange_of, first_of, connection_of}, Rows.{Upstream, Proxy}, Steps.{with_entry, stepped}, Ended.{is_end_of, has_ended}}
+use Rattle.hc_proxy.proofs.{Asked.{got_more}, Turning.{IsKept}}
 
 -- PLACES
 

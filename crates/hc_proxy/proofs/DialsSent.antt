@@ -2,19 +2,11 @@
 --
 -- What a connection has taken is as before. Whose it is stays so too, since a number that is dialled was handed out to nobody. A new
 -- connection has taken nothing.
-use Rattle.std.proofs.Common.{◌≡◌, ℕ, zero, suc, ◌+◌, List, [], ◌∷◌, ◌++◌, Bool, true, false, Option, Some, None, refl, ap, sym, ◌∙◌, arith}
-use Rattle.std.specs.Prelude.{nat_eq, find, length, Contains, if◌then◌else◌}
-use Rattle.std.specs.List.{list_all}
-use Rattle.std.proofs.lemmas.Bool.Decides.{nat_tests}
+use Rattle.std.{proofs.{Common.{◌≡◌, ℕ, zero, suc, ◌+◌, List, [], ◌∷◌, ◌++◌, Bool, true, false, Option, Some, None, refl, ap, sym, ◌∙◌, arith}, lemmas.Bool.Decides.{nat_tests}}, specs.{Prelude.{nat_eq, find, length, Contains, if◌then◌else◌}, List.{list_all}}}
 use Rattle.hc_text.proofs.Basics.{and_left, and_right}
-use Rattle.hc_wire.specs.Events.{Unseen, Open, Closed}
-use Rattle.hc_wire.specs.Logs.{Log, Taker, is_numbered, stage_from, stage_in, sent_in, sent_from}
-use Rattle.hc_proxy.specs.Connections.{place_from, exchange_of}
-use Rattle.hc_proxy.specs.Endings.{client_was_sent, upstream_was_sent, sent_by, was_sent}
-use Rattle.hc_proxy.specs.Logging.{AreApart, Dials}
-use Rattle.hc_proxy.specs.Rows.{Upstream, Proxy}
-use Rattle.hc_proxy.proofs.MoreConnections.{exchange_stays}
-use Rattle.hc_proxy.proofs.TakersStand.{all_found, found_number, sent_found}
+use Rattle.hc_wire.specs.{Events.{Unseen, Open, Closed}, Logs.{Log, Taker, is_numbered, stage_from, stage_in, sent_in, sent_from}}
+use Rattle.hc_proxy.specs.{Connections.{place_from, exchange_of}, Endings.{client_was_sent, upstream_was_sent, sent_by, was_sent}, Logging.{AreApart, Dials}, Rows.{Upstream, Proxy}}
+use Rattle.hc_proxy.proofs.{MoreConnections.{exchange_stays}, TakersStand.{all_found, found_number, sent_found}}
 
 -- WHAT HOLDS OF ALL
 

@@ -2,35 +2,18 @@
 --
 -- What is kept says nothing of this exchange beside what it has. An event of it, or one of no exchange, opens nothing and asks for
 -- nothing. Of the other exchanges it closes some, which the acts tell, and all that are still open are wanted as they were.
-use Rattle.std.proofs.Common.{◌≡◌, ◌⊎◌, inl, inr, ◌≤◌, ℕ, ◌+◌, List, [], ◌++◌, length, Bool, true, false, Some, None, refl, ap, sym, ◌∙◌, subst, arith}
-use Rattle.std.specs.Prelude.{◌||◌, ◌&&◌, if◌then◌else◌, nat_eq, not, IsSome, Contains}
-use Rattle.std.specs.List.{list_all}
+use Rattle.std.{proofs.Common.{◌≡◌, ◌⊎◌, inl, inr, ◌≤◌, ℕ, ◌+◌, List, [], ◌++◌, length, Bool, true, false, Some, None, refl, ap, sym, ◌∙◌, subst, arith}, specs.{Prelude.{◌||◌, ◌&&◌, if◌then◌else◌, nat_eq, not, IsSome, Contains}, List.{list_all}}}
 use Rattle.hc_text.proofs.Basics.{or_right, true_false}
 use Rattle.hc_core.specs.Steps.{steps}
 use Rattle.hc_effects.proofs.Vocabulary.{opening_in, asks_in, closes_in, is_denied, Act, Event, is_open, is_wanted, Lawful, after, after_accepted, after_denied, opened_after}
 use Rattle.hc_event.specs.declared.event.Event.TheVariants as event
 use Rattle.hc_effects.proofs.PieceKeeps.{eq_cases}
-use Rattle.hc_peers.specs.Peers.{is_same}
-use Rattle.hc_peers.specs.Upstreams.{upstream_of, is_news, is_touched}
+use Rattle.hc_peers.specs.{Peers.{is_same}, Upstreams.{upstream_of, is_news, is_touched}}
 use Rattle.hc_peers.specs.declared.upstream.Upstream as origin
 use Rattle.hc_store.specs.declared.backend.Backend.{Ghosts}
 use Rattle.hc_proxy.specs.declared.proxy.Proxy as loop
-use Rattle.hc_proxy.specs.Carrying.{acts_in}
-use Rattle.hc_proxy.specs.Connections.{taken_at}
-use Rattle.hc_proxy.specs.Invariants.{is_due}
-use Rattle.hc_proxy.specs.Keeping.{Turn, HasUpstreamsBut, IsUpstreamAt, KeepsBut, KeepsQuiet, Stepped, RestStays}
-use Rattle.hc_proxy.specs.Rows.{Proxy}
-use Rattle.hc_proxy.specs.Steps.{with_entry}
-use Rattle.hc_proxy.specs.Waiting.{is_poll, is_waiting}
-use Rattle.hc_proxy.proofs.Alike.{clients_move, wire_moves}
-use Rattle.hc_proxy.proofs.ClosedActs.{closes_both, closed_behind}
-use Rattle.hc_proxy.proofs.Holders.{entry_keeps}
-use Rattle.hc_proxy.proofs.IdleExchanges.{due_stays}
-use Rattle.hc_proxy.proofs.OpenAfter.{OpensIt, Stops, was_open, was_wanted, stays_open, stays_wanted}
-use Rattle.hc_proxy.proofs.OpensUp.{entry_opens}
-use Rattle.hc_proxy.proofs.QuietActs.{AreQuiet, quiet_both, is_quiet_entry, quiet_opens_none, quiet_asks_none}
-use Rattle.hc_proxy.proofs.Stands.{Stands}
-use Rattle.hc_proxy.proofs.StepOn.{stands_of, law_of}
+use Rattle.hc_proxy.specs.{Carrying.{acts_in}, Connections.{taken_at}, Invariants.{is_due}, Keeping.{Turn, HasUpstreamsBut, IsUpstreamAt, KeepsBut, KeepsQuiet, Stepped, RestStays}, Rows.{Proxy}, Steps.{with_entry}, Waiting.{is_poll, is_waiting}}
+use Rattle.hc_proxy.proofs.{Alike.{clients_move, wire_moves}, ClosedActs.{closes_both, closed_behind}, Holders.{entry_keeps}, IdleExchanges.{due_stays}, OpenAfter.{OpensIt, Stops, was_open, was_wanted, stays_open, stays_wanted}, OpensUp.{entry_opens}, QuietActs.{AreQuiet, quiet_both, is_quiet_entry, quiet_opens_none, quiet_asks_none}, Stands.{Stands}, StepOn.{stands_of, law_of}}
 use Rattle.hc_laws.proofs.LiveAfter.{Starts}
 
 -- the event says something of z, or of no exchange

@@ -1,28 +1,18 @@
 -- An event comes of an open connection: what was kept before it is kept behind it.
 --
 -- It says that an end was handed out, or changes no stage. So who was open is open, reading on as before, and no number is new.
-use Rattle.std.proofs.Common.{◌≡◌, ◌⊎◌, inl, inr, ◌≤◌, ℕ, ◌+◌, List, Bool, true, Option, Some, None, refl, ap, sym, ◌∙◌, subst, arith}
-use Rattle.std.specs.Prelude.{nat_eq, not, if◌then◌else◌}
-use Rattle.std.specs.List.{list_all}
-use Rattle.std.proofs.lemmas.Bool.Decides.{nat_tests}
-use Rattle.std.proofs.Math.Logic.{∥∥₁_map, ∥∥₁_elim}
+use Rattle.std.{proofs.{Common.{◌≡◌, ◌⊎◌, inl, inr, ◌≤◌, ℕ, ◌+◌, List, Bool, true, Option, Some, None, refl, ap, sym, ◌∙◌, subst, arith}, lemmas.Bool.Decides.{nat_tests}, Math.Logic.{∥∥₁_map, ∥∥₁_elim}}, specs.{Prelude.{nat_eq, not, if◌then◌else◌}, List.{list_all}}}
 use Rattle.hc_effects.proofs.Vocabulary.{Event, received_in}
 use Rattle.hc_effects.proofs.PieceKeeps.{eq_cases}
 use Rattle.hc_peers.specs.Clients.{client_of}
 use Rattle.hc_peers.specs.declared.client.Client as peer
 use Rattle.hc_store.specs.declared.backend.Backend.{Ghosts}
-use Rattle.hc_wire.specs.Events.{Stage, Unseen, Open, Closed, IsOpen, IsUnended, ended_of, got_bytes}
-use Rattle.hc_wire.specs.declared.event.WireEvent.{WireEvent}
+use Rattle.hc_wire.specs.{Events.{Stage, Unseen, Open, Closed, IsOpen, IsUnended, ended_of, got_bytes}, declared.event.WireEvent.{WireEvent}}
 use Rattle.hc_wire.specs.declared.event.WireEvent.TheVariants as wire
 use Rattle.hc_core.specs.Steps.{bytes_received, faults_in}
 use Rattle.hc_proxy.specs.declared.proxy.Proxy as loop
-use Rattle.hc_proxy.specs.Carrying.{acts_in}
-use Rattle.hc_proxy.specs.Handling.{handled, handled_by}
-use Rattle.hc_proxy.specs.Invariants.{is_quiet, unread}
-use Rattle.hc_proxy.specs.Keeping.{Frame, Turn, HasCache, AtWire, AtEvent, IsAtEvent, StandsForSome, Begun, IsBegun, KeepsQuiet, Stepped, Goes}
-use Rattle.hc_proxy.specs.Rows.{Proxy}
+use Rattle.hc_proxy.specs.{Carrying.{acts_in}, Handling.{handled, handled_by}, Invariants.{is_quiet, unread}, Keeping.{Frame, Turn, HasCache, AtWire, AtEvent, IsAtEvent, StandsForSome, Begun, IsBegun, KeepsQuiet, Stepped, Goes}, Rows.{Proxy}, Waiting.{is_waiting}}
 use Rattle.hc_proxy.proofs.Alike.{cache_moves}
-use Rattle.hc_proxy.specs.Waiting.{is_waiting}
 
 -- THE STAGES
 

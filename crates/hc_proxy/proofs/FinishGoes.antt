@@ -2,31 +2,14 @@
 --
 -- What is written changes nothing of what is kept but how much of the record is left. The dials and closes of the acts send nothing, and
 -- what is sent then is a first part of what is owed. So the turn may be cut short anywhere.
-use Rattle.std.proofs.Common.{◌≡◌, ◌≤◌, ℕ, List, [], ◌∷◌, ◌++◌, Bool, true, false, Option, None, refl, ap, sym, ◌∙◌, arith, append-nil, length-append}
-use Rattle.std.specs.Prelude.{nat_eq, length, map, reverse, option_map, if◌then◌else◌}
+use Rattle.std.{proofs.Common.{◌≡◌, ◌≤◌, ℕ, List, [], ◌∷◌, ◌++◌, Bool, true, false, Option, None, refl, ap, sym, ◌∙◌, arith, append-nil, length-append}, specs.Prelude.{nat_eq, length, map, reverse, option_map, if◌then◌else◌}}
 use Rattle.hc_io.specs.Sink.{Takes, TakesFront}
 use Rattle.hc_effects.proofs.Vocabulary.{History}
 use Rattle.hc_store.specs.declared.backend.Backend.{Ghosts}
-use Rattle.hc_wire.specs.Events.{Stage, Unseen}
-use Rattle.hc_wire.specs.Logs.{Log, stage_in}
+use Rattle.hc_wire.specs.{Events.{Stage, Unseen}, Logs.{Log, stage_in}}
 use Rattle.hc_proxy.specs.declared.proxy.Proxy as loop
-use Rattle.hc_proxy.specs.declared.record.Record.{Record}
-use Rattle.hc_proxy.specs.Carrying.{answered, carried, acts_in}
-use Rattle.hc_proxy.specs.Endings.{SentOn}
-use Rattle.hc_proxy.specs.Keeping.{Turn, HasCache, KeepsPolled}
-use Rattle.hc_proxy.specs.Logging.{Dials, AreApart}
-use Rattle.hc_proxy.specs.Records.{text_of, last_of}
-use Rattle.hc_proxy.specs.Resting.{Rests}
-use Rattle.hc_proxy.specs.Rows.{Client, Proxy}
-use Rattle.hc_proxy.specs.Serving.{FinishesTurn, CutsTurn}
-use Rattle.hc_proxy.specs.TurnSteps.{CarriedOut, CarriedSome, SentAll, SentSome}
-use Rattle.hc_proxy.specs.Turns.{timed_of, text_behind}
-use Rattle.hc_proxy.specs.Underway.{OnWire}
-use Rattle.hc_proxy.specs.Waiting.{waits}
-use Rattle.hc_proxy.proofs.DialsSent.{dials_sent}
-use Rattle.hc_proxy.proofs.Later.{carried_is_same}
-use Rattle.hc_proxy.proofs.OpensUp.{up_grows}
-use Rattle.hc_proxy.proofs.Turning.{IsCarried, open_any, carried_keeps}
+use Rattle.hc_proxy.specs.{declared.record.Record.{Record}, Carrying.{answered, carried, acts_in}, Endings.{SentOn}, Keeping.{Turn, HasCache, KeepsPolled}, Logging.{Dials, AreApart}, Records.{text_of, last_of}, Resting.{Rests}, Rows.{Client, Proxy}, Serving.{FinishesTurn, CutsTurn}, TurnSteps.{CarriedOut, CarriedSome, SentAll, SentSome}, Turns.{timed_of, text_behind}, Underway.{OnWire}, Waiting.{waits}}
+use Rattle.hc_proxy.proofs.{DialsSent.{dials_sent}, Later.{carried_is_same}, OpensUp.{up_grows}, Turning.{IsCarried, open_any, carried_keeps}}
 
 -- WHERE NO CLIENT WAS, none is behind the acts
 

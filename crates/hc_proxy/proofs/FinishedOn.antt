@@ -3,44 +3,23 @@
 -- Where a part stands next, nothing is done. An error is a fault. Where all was read, the row is read to the end of the connection, and
 -- the end is stepped, or a fault. Either shuts the exchange: an end since whoever reads behind a head has that. So the row of the code
 -- need not be that of the definitions, which stays: behind the step it is let go.
-use Rattle.std.proofs.Common.{◌≡◌, inl, inr, ◌≤◌, ◌<◌, ℕ, ◌+◌, [], Bool, true, false, Option, Some, None, refl, ap, sym, ◌∙◌, subst, arith}
-use Rattle.std.specs.Prelude.{◌&&◌, nat_eq, option_map, if◌then◌else◌, Result, Ok, Err}
-use Rattle.std.specs.Result.{is_ok}
+use Rattle.std.{proofs.Common.{◌≡◌, inl, inr, ◌≤◌, ◌<◌, ℕ, ◌+◌, [], Bool, true, false, Option, Some, None, refl, ap, sym, ◌∙◌, subst, arith}, specs.{Prelude.{◌&&◌, nat_eq, option_map, if◌then◌else◌, Result, Ok, Err}, Result.{is_ok}}}
 use Rattle.hc_text.proofs.Basics.{some_inj, true_false}
 use Rattle.hc_core.specs.Steps.{faults_in, steps, bytes_received}
 use Rattle.hc_effects.proofs.Vocabulary.{Event, Entry, is_open, is_wanted, Exchange, owed, after}
 use Rattle.hc_event.specs.declared.event.Event.TheVariants as event
 use Rattle.hc_head.specs.declared.message.MsgError.{MsgError}
 use Rattle.hc_effects.proofs.PieceKeeps.{eq_cases}
-use Rattle.hc_msg.specs.declared.message.Look.{Look}
+use Rattle.hc_msg.specs.{declared.message.{Look.{Look}, WirePart.{WirePart}}, Inputs.{Next, Waits, Tells, Brings, Ends, Fails, look_of}, Reading.{Reading, Heading, Counts, Runs, Sizing, Chunk, ChunkEnd, ChunkReturn, Trailing, Whole, Done, Failed}, Taking.{ending, reading_at_end}}
 use Rattle.hc_msg.specs.declared.message.Look.TheVariants as look
-use Rattle.hc_msg.specs.declared.message.WirePart.{WirePart}
-use Rattle.hc_msg.specs.Inputs.{Next, Waits, Tells, Brings, Ends, Fails, look_of}
-use Rattle.hc_msg.specs.Reading.{Reading, Heading, Counts, Runs, Sizing, Chunk, ChunkEnd, ChunkReturn, Trailing, Whole, Done, Failed}
-use Rattle.hc_msg.specs.Taking.{ending, reading_at_end}
 use Rattle.hc_peers.specs.Origins as origins
-use Rattle.hc_peers.specs.Upstreams.{upstream_of, has_ended_at, look_at, Becomes, ListsStay}
+use Rattle.hc_peers.specs.{Upstreams.{upstream_of, has_ended_at, look_at, Becomes, ListsStay}, declared.upstreams.Upstreams.{Upstreams}}
 use Rattle.hc_peers.specs.declared.upstream.Upstream as origin
-use Rattle.hc_peers.specs.declared.upstreams.Upstreams.{Upstreams}
 use Rattle.hc_store.specs.declared.backend.Backend.{Ghosts}
 use Rattle.hc_proxy.specs.declared.proxy.Proxy as loop
-use Rattle.hc_proxy.specs.Carrying.{acts_in}
-use Rattle.hc_proxy.specs.Connections.{taken_at}
-use Rattle.hc_proxy.specs.Headed.{is_answer, is_begun, has_head}
-use Rattle.hc_proxy.specs.Hearing.{IsApart, IsHeardAt, HasFinished}
-use Rattle.hc_proxy.specs.Invariants.{IsHolder, is_part, is_due_by, unread}
-use Rattle.hc_proxy.specs.Keeping.{Turn, HasCache, HasUpstreamsBut, IsUpstreamAt, KeepsBut, Stepped, RestStays, Goes}
-use Rattle.hc_proxy.specs.Network.{next_of, read_to, event_at_close, closes, closes_if, closed}
-use Rattle.hc_proxy.specs.Rows.{Upstream, Proxy, with_upstream}
-use Rattle.hc_proxy.specs.Steps.{with_entry}
+use Rattle.hc_proxy.specs.{Carrying.{acts_in}, Connections.{taken_at}, Headed.{is_answer, is_begun, has_head}, Hearing.{IsApart, IsHeardAt, HasFinished}, Invariants.{IsHolder, is_part, is_due_by, unread}, Keeping.{Turn, HasCache, HasUpstreamsBut, IsUpstreamAt, KeepsBut, Stepped, RestStays, Goes}, Network.{next_of, read_to, event_at_close, closes, closes_if, closed}, Rows.{Upstream, Proxy, with_upstream}, Steps.{with_entry}, Waiting.{is_poll}}
 use Rattle.hc_laws.proofs.Accepted as accepted
-use Rattle.hc_proxy.proofs.Alike.{cache_moves, cache_rows}
-use Rattle.hc_proxy.proofs.HandedOn.{BothRows, rows, next_is, read_keeps, headed_was, apart_none, apart_step, end_but, fault_but, fault_shuts}
-use Rattle.hc_proxy.proofs.NextBegun.{begun_waits}
-use Rattle.hc_proxy.proofs.QuietActs.{AreQuiet, is_quiet_entry, quiet_opens_none}
-use Rattle.hc_proxy.proofs.TakenParts.{TakenNone, looks_fails}
-use Rattle.hc_proxy.proofs.Unread.{unread_entry}
-use Rattle.hc_proxy.specs.Waiting.{is_poll}
+use Rattle.hc_proxy.proofs.{Alike.{cache_moves, cache_rows}, HandedOn.{BothRows, rows, next_is, read_keeps, headed_was, apart_none, apart_step, end_but, fault_but, fault_shuts}, NextBegun.{begun_waits}, QuietActs.{AreQuiet, is_quiet_entry, quiet_opens_none}, TakenParts.{TakenNone, looks_fails}, Unread.{unread_entry}}
 
 -- READ TO THE END OF THE CONNECTION
 

@@ -3,42 +3,17 @@
 -- Each connection that is open is that of a client or of an exchange (`WhoStands`). Of it the wire was told whether it is read, and it
 -- lacks something only where it took less than it was offered. The other way round, each client that isn't to be closed and each open
 -- exchange has a connection, which is open.
-use Rattle.std.proofs.Common.{◌≡◌, ◌⊎◌, inl, inr, ◌≤◌, ℕ, List, [], ◌∷◌, ◌++◌, Bool, true, false, Option, Some, None, refl, ap, sym, ◌∙◌, subst, arith}
-use Rattle.std.specs.Prelude.{◌&&◌, ◌||◌, not, nat_eq, nat_lt, is_none, is_some, find, length, take, filter, reverse, Contains, IsSome, if◌then◌else◌}
-use Rattle.std.specs.List.{list_all}
-use Rattle.std.proofs.lemmas.Bool.Decides.{nat_tests}
-use Rattle.std.proofs.Math.Seq.{take-length}
-use Rattle.std.proofs.lemmas.List.{reverse-append}
+use Rattle.std.{proofs.{Common.{◌≡◌, ◌⊎◌, inl, inr, ◌≤◌, ℕ, List, [], ◌∷◌, ◌++◌, Bool, true, false, Option, Some, None, refl, ap, sym, ◌∙◌, subst, arith}, lemmas.{Bool.Decides.{nat_tests}, List.{reverse-append}}, Math.Seq.{take-length}}, specs.{Prelude.{◌&&◌, ◌||◌, not, nat_eq, nat_lt, is_none, is_some, find, length, take, filter, reverse, Contains, IsSome, if◌then◌else◌}, List.{list_all}}}
 use Rattle.hc_text.proofs.Basics.{and_left, and_right, both_true as both_hold, some_inj as some_is}
 use Rattle.hc_effects.proofs.Vocabulary.{is_open, is_wanted, Sound}
-use Rattle.hc_peers.specs.Clients.{client_of}
-use Rattle.hc_peers.specs.Peers.{is_idle}
-use Rattle.hc_peers.specs.Upstreams.{upstream_of}
+use Rattle.hc_peers.specs.{Clients.{client_of}, Peers.{is_idle, is_same}, Upstreams.{upstream_of}}
 use Rattle.hc_peers.specs.declared.client.Client as peer
 use Rattle.hc_peers.specs.declared.upstream.Upstream as origin
 use Rattle.hc_store.specs.declared.backend.Backend.{Ghosts}
-use Rattle.hc_wire.specs.Events.{Stage, Open, IsOpen}
-use Rattle.hc_wire.specs.Logs.{Log, Taker, Called, is_numbered, is_at_end, standings_in, stage_in, sent_in}
-use Rattle.hc_wire.specs.declared.connection.Standing.{Standing}
+use Rattle.hc_wire.specs.{Events.{Stage, Open, IsOpen}, Logs.{Log, Taker, Called, is_numbered, is_at_end, standings_in, stage_in, sent_in}, declared.connection.Standing.{Standing}}
 use Rattle.hc_proxy.specs.declared.proxy.Proxy as loop
-use Rattle.hc_proxy.specs.Connections.{exchange_of, stands, taken_at, has_unsent}
-use Rattle.hc_proxy.specs.Keeping.{Frame, IsClient, IsUpstream, IsUpstreamAt, HasUpstreams}
-use Rattle.hc_peers.specs.Peers.{is_same}
-use Rattle.hc_proxy.specs.Listening.{is_read, reads_right}
-use Rattle.hc_proxy.specs.Logging.{AreApart, short_from, is_short}
-use Rattle.hc_proxy.specs.Loops.{Fits}
-use Rattle.hc_proxy.specs.Network.{open_exchanges}
-use Rattle.hc_proxy.specs.Resting.{IsRestingClient, IsRestingAt, Rests, resting_call}
-use Rattle.hc_proxy.specs.Rows.{Client, Upstream, Proxy}
-use Rattle.hc_proxy.specs.Sending.{owed_by, owed_to, is_sent, sends_right}
-use Rattle.hc_proxy.specs.Standings.{Whose, OfClient, OfExchange, OfNobody, whose_by, whose, may_stand, is_right, client_stands, number_stands, exchange_stands, stand_right}
-use Rattle.hc_proxy.specs.Turns.{so_far}
-use Rattle.hc_proxy.specs.Waiting.{waits}
-use Rattle.hc_proxy.proofs.KeepsOn.{dialled_within}
-use Rattle.hc_proxy.proofs.Rows.{sent_all}
-use Rattle.hc_proxy.proofs.Stands.{is_sound}
-use Rattle.hc_proxy.proofs.StepOn.{stands_of}
-use Rattle.hc_proxy.proofs.TakersStand.{found_number, taken_found, stands_found, stands_missing, standings_all, taker_stage, sent_found, open_taker}
+use Rattle.hc_proxy.specs.{Connections.{exchange_of, stands, taken_at, has_unsent}, Keeping.{Frame, IsClient, IsUpstream, IsUpstreamAt, HasUpstreams}, Listening.{is_read, reads_right}, Logging.{AreApart, short_from, is_short}, Loops.{Fits}, Network.{open_exchanges}, Resting.{IsRestingClient, IsRestingAt, Rests, resting_call}, Rows.{Client, Upstream, Proxy}, Sending.{owed_by, owed_to, is_sent, sends_right}, Standings.{Whose, OfClient, OfExchange, OfNobody, whose_by, whose, may_stand, is_right, client_stands, number_stands, exchange_stands, stand_right}, Turns.{so_far}, Waiting.{waits}}
+use Rattle.hc_proxy.proofs.{KeepsOn.{dialled_within}, Rows.{sent_all}, Stands.{is_sound}, StepOn.{stands_of}, TakersStand.{found_number, taken_found, stands_found, stands_missing, standings_all, taker_stage, sent_found, open_taker}}
 use Rattle.hc_state.proofs.LeftRows.{all_passing}
 
 -- LISTS

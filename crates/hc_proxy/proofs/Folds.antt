@@ -2,9 +2,7 @@
 use Rattle.std.proofs.Common.{◌≡◌, ℕ, List, [], ◌∷◌, ◌++◌, refl}
 use Rattle.hc_effects.proofs.Vocabulary.{Limits}
 use Rattle.hc_wire.specs.Logs.{Called}
-use Rattle.hc_proxy.specs.Loops.{Fits, AllFit}
-use Rattle.hc_proxy.specs.Rows.{Proxy}
-use Rattle.hc_proxy.specs.Turns.{turned, turned_by}
+use Rattle.hc_proxy.specs.{Loops.{Fits, AllFit}, Rows.{Proxy}, Turns.{turned, turned_by}}
 
 module _ (limits : Limits) (dialled : List ℕ) where
   -- the tables behind it are those of its turn, behind the calls before it

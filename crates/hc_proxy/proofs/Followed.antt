@@ -2,13 +2,8 @@
 --
 -- A change of one connection keeps its number, so the others are found as before, and no two have one number. A new connection has a
 -- number that no other has, since the wire hands out such alone.
-use Rattle.std.proofs.Common.{◌≡◌, ◌⊎◌, ℕ, List, [], ◌∷◌, ◌++◌, Bool, true, false, Option, Some, None, refl, ap, sym, ◌∙◌, subst, arith}
-use Rattle.std.specs.Prelude.{nat_eq, find, length, if◌then◌else◌, option_map}
-use Rattle.std.specs.Option.{option_or}
-use Rattle.std.proofs.lemmas.Bool.Decides.{nat_tests}
-use Rattle.hc_wire.specs.Events.{Stage, Unseen, Open, Closed, Fresh, with_stage, closed_of, reading_of, ended_of, stages_after, IsOfOpen}
-use Rattle.hc_wire.specs.Logs.{Log, Taker, Tells, fresh, stage_of, is_numbered, stage_from, sent_from, stage_in, sent_in, changed_at, over, taking, reading, shut, with_call, with_dialled, with_sent, with_reading, with_closed}
-use Rattle.hc_wire.specs.declared.event.WireEvent.{WireEvent}
+use Rattle.std.{proofs.{Common.{◌≡◌, ◌⊎◌, ℕ, List, [], ◌∷◌, ◌++◌, Bool, true, false, Option, Some, None, refl, ap, sym, ◌∙◌, subst, arith}, lemmas.Bool.Decides.{nat_tests}}, specs.{Prelude.{nat_eq, find, length, if◌then◌else◌, option_map}, Option.{option_or}}}
+use Rattle.hc_wire.specs.{Events.{Stage, Unseen, Open, Closed, Fresh, with_stage, closed_of, reading_of, ended_of, stages_after, IsOfOpen}, Logs.{Log, Taker, Tells, fresh, stage_of, is_numbered, stage_from, sent_from, stage_in, sent_in, changed_at, over, taking, reading, shut, with_call, with_dialled, with_sent, with_reading, with_closed}, declared.event.WireEvent.{WireEvent}}
 use Rattle.hc_wire.specs.declared.event.WireEvent.TheVariants as event
 use Rattle.hc_proxy.specs.Logging.{Follows, AreApart}
 use Rattle.hc_proxy.proofs.Closings.{told_on}

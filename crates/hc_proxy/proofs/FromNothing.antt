@@ -2,26 +2,17 @@
 --
 -- The tables of the empty history have no exchange and no consumer, and count nothing. The tables of the code are empty too, and so is
 -- the log. Most fields speak of a row that is there, of which there is none. The counts are 0.
-use Rattle.std.proofs.Common.{◌≡◌, ℕ, zero, suc, ◌-◌, List, [], ◌++◌, length, drop, Bool, true, false, Some, None, refl, ap, sym, ◌∙◌, subst, arith}
-use Rattle.std.specs.Prelude.{nat_eq, if◌then◌else◌, IsSome, Contains}
+use Rattle.std.{proofs.Common.{◌≡◌, ℕ, zero, suc, ◌-◌, List, [], ◌++◌, length, drop, Bool, true, false, Some, None, refl, ap, sym, ◌∙◌, subst, arith}, specs.Prelude.{nat_eq, if◌then◌else◌, IsSome, Contains}}
 use Rattle.hc_text.proofs.Basics.{false_true, none_some}
 use Rattle.hc_core.specs.Steps.{last_moment, bytes_received}
 use Rattle.hc_effects.proofs.Vocabulary.{act_list, is_live, no_contents, is_open, tables}
-use Rattle.hc_peers.specs.Clients.{client_of}
-use Rattle.hc_peers.specs.Upstreams.{upstream_of}
+use Rattle.hc_peers.specs.{Clients.{client_of}, Upstreams.{upstream_of}}
 use Rattle.hc_peers.specs.declared.client.Client as peer
 use Rattle.hc_peers.specs.declared.upstream.Upstream as origin
 use Rattle.hc_store.specs.declared.backend.Backend.{Ghosts}
-use Rattle.hc_wire.specs.Events.{Stage, IsOpen}
-use Rattle.hc_wire.specs.Logs.{Log, Called, Taker, stage_in}
+use Rattle.hc_wire.specs.{Events.{Stage, IsOpen}, Logs.{Log, Called, Taker, stage_in}}
 use Rattle.hc_proxy.specs.declared.proxy.Proxy as loop
-use Rattle.hc_proxy.specs.Connections.{exchange_of, connection_of, first_of}
-use Rattle.hc_proxy.specs.Endings.{IsFresh}
-use Rattle.hc_proxy.specs.Invariants.{HasConsumers, NamesOne, unread}
-use Rattle.hc_proxy.specs.Keeping.{Frame, HasCache, HasUpstreams, AtWire, IsUnused}
-use Rattle.hc_proxy.specs.Records.{text_of, last_of}
-use Rattle.hc_proxy.specs.Resting.{IsRestingAt, Rests, resting_call}
-use Rattle.hc_proxy.specs.Rows.{unused}
+use Rattle.hc_proxy.specs.{Connections.{exchange_of, connection_of, first_of}, Endings.{IsFresh}, Invariants.{HasConsumers, NamesOne, unread}, Keeping.{Frame, HasCache, HasUpstreams, AtWire, IsUnused}, Records.{text_of, last_of}, Resting.{IsRestingAt, Rests, resting_call}, Rows.{unused}}
 use Rattle.hc_proxy.proofs.Inserted.{ascends_sorted}
 
 none_in : {A : Type 0} (k : ℕ) → Contains [] k → A

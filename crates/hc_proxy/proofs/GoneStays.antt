@@ -2,28 +2,14 @@
 --
 -- What comes of its connection is dropped, and it isn't let go again. It isn't among the clients whose requests are read, and what is
 -- read of others changes no row of it. What is sent to a consumer of it changes nothing.
-use Rattle.std.proofs.Common.{◌≡◌, ℕ, List, [], ◌∷◌, Bool, true, false, Option, Some, None, refl, ap, sym, ◌∙◌, arith}
-use Rattle.std.specs.Prelude.{◌&&◌, ◌||◌, not, nat_eq, nat_lt, length, filter, is_none, if◌then◌else◌, option_map}
-use Rattle.std.proofs.lemmas.Bool.Decides.{nat_tests}
+use Rattle.std.{proofs.{Common.{◌≡◌, ℕ, List, [], ◌∷◌, Bool, true, false, Option, Some, None, refl, ap, sym, ◌∙◌, arith}, lemmas.Bool.Decides.{nat_tests}}, specs.Prelude.{◌&&◌, ◌||◌, not, nat_eq, nat_lt, length, filter, is_none, if◌then◌else◌, option_map}}
 use Rattle.hc_effects.proofs.Vocabulary.{Act, Event, is_open, Limits}
 use Rattle.hc_event.specs.declared.act.Act.TheVariants as act
 use Rattle.hc_event.specs.declared.event.Event.TheVariants as event
-use Rattle.hc_wire.specs.Logs.{Called}
-use Rattle.hc_wire.specs.declared.event.WireEvent.{WireEvent}
+use Rattle.hc_wire.specs.{Logs.{Called}, declared.event.WireEvent.{WireEvent}}
 use Rattle.hc_wire.specs.declared.event.WireEvent.TheVariants as wire
-use Rattle.hc_proxy.specs.Carrying.{answered, answers, carried_out, all_carried_out, carried, acts_in}
-use Rattle.hc_proxy.specs.Connections.{exchange_of}
-use Rattle.hc_proxy.specs.Handling.{is_client, clients_here, inserted, client_comes, left, cancelled, leaves, client_sends, sends, ends, broke, handled_by, handled}
-use Rattle.hc_proxy.specs.Network.{heard}
-use Rattle.hc_proxy.specs.Polls.{polled_all, each_polled, polled, may_be_polled, live_consumers}
-use Rattle.hc_proxy.specs.Rows.{Client, Proxy, new_client, with, with_client}
-use Rattle.hc_proxy.specs.Starts.{hears_if, each_heard, started_all}
-use Rattle.hc_proxy.specs.Steps.{with_entry, stepped}
-use Rattle.hc_proxy.specs.Turns.{happened}
-use Rattle.hc_proxy.proofs.IdleClients.{started_apart}
-use Rattle.hc_proxy.proofs.NetworkKeeps.{same_clients}
-use Rattle.hc_proxy.proofs.SkippedSteps.{among}
-use Rattle.hc_proxy.proofs.BeforeTaken.{some_is}
+use Rattle.hc_proxy.specs.{Carrying.{answered, answers, carried_out, all_carried_out, carried, acts_in}, Connections.{exchange_of}, Handling.{is_client, clients_here, inserted, client_comes, left, cancelled, leaves, client_sends, sends, ends, broke, handled_by, handled}, Network.{heard}, Polls.{polled_all, each_polled, polled, may_be_polled, live_consumers}, Rows.{Client, Proxy, new_client, with, with_client}, Starts.{hears_if, each_heard, started_all}, Steps.{with_entry, stepped}, Turns.{happened}}
+use Rattle.hc_proxy.proofs.{IdleClients.{started_apart}, NetworkKeeps.{same_clients}, SkippedSteps.{among}, BeforeTaken.{some_is}}
 
 module _ (limits : Limits) (call : Called) (k : ℕ) (r : Client) (gone : r.gone ≡ true) where
   abbrev Has : Proxy → Type 0

@@ -2,48 +2,22 @@
 --
 -- A connection that is open is a client's or an exchange's, and none is to be closed yet. So where no exchange has it, it is a client's,
 -- whose number is that of none that was dialled.
-use Rattle.std.proofs.Common.{◌≡◌, inl, inr, ◌≤◌, ◌<◌, ℕ, ◌+◌, List, [], ◌++◌, length, Bool, true, false, Option, Some, None, refl, ap, sym, ◌∙◌, subst, arith}
-use Rattle.std.specs.Prelude.{◌^◌, nat_lt, not, option_map, if◌then◌else◌, IsSome, Contains}
-use Rattle.std.specs.Option.{is_some}
-use Rattle.std.proofs.Math.Bridge.{le_prop}
-use Rattle.std.proofs.Math.Logic.{∥∥₁_map, ∥∥₁_elim}
-use Rattle.std.proofs.lemmas.Bool.Decides.{nat_tests}
-use Rattle.std.proofs.lemmas.List.{length-append}
+use Rattle.std.{proofs.{Common.{◌≡◌, inl, inr, ◌≤◌, ◌<◌, ℕ, ◌+◌, List, [], ◌++◌, length, Bool, true, false, Option, Some, None, refl, ap, sym, ◌∙◌, subst, arith}, Math.{Bridge.{le_prop}, Logic.{∥∥₁_map, ∥∥₁_elim}}, lemmas.{Bool.Decides.{nat_tests}, List.{length-append}}}, specs.{Prelude.{◌^◌, nat_lt, not, option_map, if◌then◌else◌, IsSome, Contains}, Option.{is_some}}}
 use Rattle.hc_text.proofs.Basics.{none_some, eq_itself as same_number, some_inj, true_false}
 use Rattle.hc_core.specs.Steps.{faults_in, steps, bytes_received}
 use Rattle.hc_effects.proofs.Vocabulary.{asks_in, closes_in, is_open, is_wanted, Exchange, after, Lawful}
 use Rattle.hc_event.specs.declared.event.Event.TheVariants as event
-use Rattle.hc_peers.specs.Agreement.{is_at}
-use Rattle.hc_peers.specs.Clients.{client_of}
+use Rattle.hc_peers.specs.{Agreement.{is_at}, Clients.{client_of}, Peers.{is_same}, Upstreams.{upstream_of, is_news, is_touched, Becomes, Marks}, declared.{clients.Clients.{Clients}, upstreams.Upstreams.{Upstreams}}}
 use Rattle.hc_peers.specs.Clients as clients
 use Rattle.hc_peers.specs.Origins as origins
-use Rattle.hc_peers.specs.Peers.{is_same}
-use Rattle.hc_peers.specs.Upstreams.{upstream_of, is_news, is_touched, Becomes, Marks}
 use Rattle.hc_peers.specs.declared.client.Client as peer
-use Rattle.hc_peers.specs.declared.clients.Clients.{Clients}
 use Rattle.hc_peers.specs.declared.upstream.Upstream as origin
-use Rattle.hc_peers.specs.declared.upstreams.Upstreams.{Upstreams}
 use Rattle.hc_store.specs.declared.backend.Backend.{Ghosts}
 use Rattle.hc_proxy.specs.declared.proxy.Proxy as loop
-use Rattle.hc_proxy.specs.Carrying.{acts_in}
-use Rattle.hc_proxy.specs.Connections.{exchange_of, taken_at}
-use Rattle.hc_proxy.specs.Handling.{is_client, client_sends, origin_sends, origin_ends, sends, ends, broke}
-use Rattle.hc_proxy.specs.Invariants.{IsHolder, unread, unread_of}
-use Rattle.hc_proxy.specs.Keeping.{Turn, HasCache, IsClientAt, Frame, AtEvent, IsAtEvent, StandsForSome, KeepsBut, KeepsQuiet, HangsUp, Stepped, RestStays, Goes}
-use Rattle.hc_proxy.specs.Rows.{Client, Upstream, Proxy, with_client, with_upstream}
+use Rattle.hc_proxy.specs.{Carrying.{acts_in}, Connections.{exchange_of, taken_at}, Handling.{is_client, client_sends, origin_sends, origin_ends, sends, ends, broke}, Invariants.{IsHolder, unread, unread_of}, Keeping.{Turn, HasCache, IsClientAt, Frame, AtEvent, IsAtEvent, StandsForSome, KeepsBut, KeepsQuiet, HangsUp, Stepped, RestStays, Goes}, Rows.{Client, Upstream, Proxy, with_client, with_upstream}, Steps.{with_entry}}
 use Rattle.hc_proxy.specs.Steps as steps_of
-use Rattle.hc_proxy.specs.Steps.{with_entry}
 use Rattle.hc_laws.proofs.Accepted.{fault_closes}
-use Rattle.hc_proxy.proofs.Alike.{cache_moves, cache_with, upstreams_move}
-use Rattle.hc_proxy.proofs.DoneFor.{but_it, IsDone, done_all, but_stepped}
-use Rattle.hc_proxy.proofs.HandedOn.{open_number}
-use Rattle.hc_proxy.proofs.HangsOff.{has_row}
-use Rattle.hc_proxy.proofs.Holders.{held_of, of_held, change_keeps, sends_keep}
-use Rattle.hc_proxy.proofs.HungUp.{hung_up}
-use Rattle.hc_proxy.proofs.OriginRows.{row_changed}
-use Rattle.hc_proxy.proofs.RowChanges.{ChangesClient, changed_clients, row_was, wire_same, seen_still, upstreams_with}
-use Rattle.hc_proxy.proofs.StepOn.{law_of}
-use Rattle.hc_proxy.proofs.Unread.{unread_grows}
+use Rattle.hc_proxy.proofs.{Alike.{cache_moves, cache_with, upstreams_move}, DoneFor.{but_it, IsDone, done_all, but_stepped}, HandedOn.{open_number}, HangsOff.{has_row}, Holders.{held_of, of_held, change_keeps, sends_keep}, HungUp.{hung_up}, OriginRows.{row_changed}, RowChanges.{ChangesClient, changed_clients, row_was, wire_same, seen_still, upstreams_with}, StepOn.{law_of}, Unread.{unread_grows}}
 
 at_number : (k : ℕ) (u : origin.Upstream) → is_at k (Some u) ≡ true → u.k ≡ k
 at_number k u h = grind (arith, nat_tests)

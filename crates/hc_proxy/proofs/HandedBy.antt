@@ -3,31 +3,21 @@
 -- The cache wants a part of the exchange, and one may stand next. So the exchange is open, and has its row on both sides. What `take`
 -- answered is what stands next of that row: an error, nothing, or a part. A part has room in some tables: a head and an end bring no
 -- bytes, so in those before, and a piece in those behind the read. By what was taken the call goes as the definitions go.
-use Rattle.std.proofs.Common.{◌≡◌, ◌≤◌, ◌<◌, ℕ, ◌+◌, true, Option, Some, None, refl, sym, ◌∙◌, arith}
-use Rattle.std.specs.Prelude.{◌&&◌, ◌^◌, Result, Ok, Err}
-use Rattle.std.proofs.Math.Logic.{∥∥₁_map}
+use Rattle.std.{proofs.{Common.{◌≡◌, ◌≤◌, ◌<◌, ℕ, ◌+◌, true, Option, Some, None, refl, sym, ◌∙◌, arith}, Math.Logic.{∥∥₁_map}}, specs.Prelude.{◌&&◌, ◌^◌, Result, Ok, Err}}
 use Rattle.hc_core.specs.Steps.{steps, faults_in, bytes_received}
 use Rattle.hc_event.specs.declared.event.Event.TheVariants as event
 use Rattle.hc_head.specs.declared.message.MsgError.{MsgError}
 use Rattle.hc_head.specs.declared.message.MsgError.TheVariants as error
 use Rattle.hc_effects.proofs.Vocabulary.{is_open, is_wanted}
-use Rattle.hc_msg.specs.declared.message.WirePart.{WirePart}
+use Rattle.hc_msg.specs.{declared.message.WirePart.{WirePart}, Inputs.{Next}}
 use Rattle.hc_msg.specs.declared.message.WirePart.TheVariants as part
-use Rattle.hc_msg.specs.Inputs.{Next}
 use Rattle.hc_peers.specs.Origins as origins
-use Rattle.hc_peers.specs.Upstreams.{upstream_of, has_news_at, ListsStay, TakesOf}
+use Rattle.hc_peers.specs.{Upstreams.{upstream_of, has_news_at, ListsStay, TakesOf}, declared.upstreams.Upstreams.{Upstreams}}
 use Rattle.hc_peers.specs.declared.upstream.Upstream as origin
-use Rattle.hc_peers.specs.declared.upstreams.Upstreams.{Upstreams}
 use Rattle.hc_store.specs.declared.backend.Backend.{Ghosts}
 use Rattle.hc_proxy.specs.declared.proxy.Proxy as loop
-use Rattle.hc_proxy.specs.Hearing.{IsFit, length_of, PartStepped, MayTake, MayStep, HasHanded}
-use Rattle.hc_proxy.specs.Invariants.{unread}
-use Rattle.hc_proxy.specs.Keeping.{Turn, HasCache, KeepsBut, Stepped, RestStays, Goes}
-use Rattle.hc_proxy.specs.Network.{handed, hands}
-use Rattle.hc_proxy.specs.Rows.{Proxy}
-use Rattle.hc_proxy.proofs.HandedOn.{rows, wants_open, wants_handed, waits_goes, fails_goes, end_goes, r, piece_kept, piece_room, piece_goes, head_goes}
-use Rattle.hc_proxy.proofs.HeardOne.{cache_over, may_here, may_few, here_small}
-use Rattle.hc_proxy.proofs.TakenParts.{IsTakenAs, some_taken, none_taken, err_taken, taken_fits}
+use Rattle.hc_proxy.specs.{Hearing.{IsFit, length_of, PartStepped, MayTake, MayStep, HasHanded}, Invariants.{unread}, Keeping.{Turn, HasCache, KeepsBut, Stepped, RestStays, Goes}, Network.{handed, hands}, Rows.{Proxy}}
+use Rattle.hc_proxy.proofs.{HandedOn.{rows, wants_open, wants_handed, waits_goes, fails_goes, end_goes, r, piece_kept, piece_room, piece_goes, head_goes}, HeardOne.{cache_over, may_here, may_few, here_small}, TakenParts.{IsTakenAs, some_taken, none_taken, err_taken, taken_fits}}
 
 module _ {B : Type 0} {g : Ghosts B} (z : ℕ) (x : loop.Proxy B g) (wants : (t : Turn) (p : Proxy) → KeepsBut z t x p → (is_wanted (p.tables.exchange z) && has_news_at (upstream_of x.upstreams z)) ≡ true) where
   abbrev on : (t : Turn) (p : Proxy) → KeepsBut z t x p → is_open (p.tables.exchange z) ≡ true

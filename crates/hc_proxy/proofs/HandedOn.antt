@@ -4,9 +4,7 @@
 -- what stands next. A head is stepped before the row is read on: behind it the exchange has its head, as reading on asks for. All else
 -- is read first. A piece takes as many bytes from what wasn't read as the cache receives. Behind a piece that was denied a fault shuts
 -- the exchange; so two steps are made only where it isn't open any more.
-use Rattle.std.proofs.Common.{◌≡◌, ◌⊎◌, inl, inr, ◌≤◌, ℕ, ◌+◌, List, [], ◌∷◌, length, Bool, true, false, Option, Some, None, refl, ap, sym, ◌∙◌, subst, arith}
-use Rattle.std.specs.Prelude.{◌&&◌, ◌||◌, nat_eq, nat_lt, option_map}
-use Rattle.std.proofs.lemmas.Bool.Decides.{nat_tests}
+use Rattle.std.{proofs.{Common.{◌≡◌, ◌⊎◌, inl, inr, ◌≤◌, ℕ, ◌+◌, List, [], ◌∷◌, length, Bool, true, false, Option, Some, None, refl, ap, sym, ◌∙◌, subst, arith}, lemmas.Bool.Decides.{nat_tests}}, specs.Prelude.{◌&&◌, ◌||◌, nat_eq, nat_lt, option_map}}
 use Rattle.hc_text.proofs.Basics.{some_inj, true_false}
 use Rattle.hc_core.specs.Steps.{faults_in, steps, bytes_received}
 use Rattle.hc_effects.proofs.Vocabulary.{is_denied, Act, Event, Response, Entry, is_open, is_wanted, Lawful, Tables, Exchange, Among, after}
@@ -14,36 +12,16 @@ use Rattle.hc_effects.proofs.OfConsumers.{open_there}
 use Rattle.hc_event.specs.declared.act.Act.TheVariants as act
 use Rattle.hc_event.specs.declared.event.Event.TheVariants as event
 use Rattle.hc_msg.specs.declared.message.WirePart.TheVariants as part
-use Rattle.hc_msg.specs.Inputs.{Next, Waits, Tells, Brings, Ends, Fails}
-use Rattle.hc_msg.specs.Reading.{Reading, Done, Failed, Answers}
+use Rattle.hc_msg.specs.{Inputs.{Next, Waits, Tells, Brings, Ends, Fails}, Reading.{Reading, Done, Failed, Answers}}
 use Rattle.hc_peers.specs.Origins as origins
-use Rattle.hc_peers.specs.Upstreams.{upstream_of, is_news, is_touched, has_news_at, Becomes, ListsStay}
+use Rattle.hc_peers.specs.{Upstreams.{upstream_of, is_news, is_touched, has_news_at, Becomes, ListsStay}, declared.upstreams.Upstreams.{Upstreams}}
 use Rattle.hc_peers.specs.declared.upstream.Upstream as origin
-use Rattle.hc_peers.specs.declared.upstreams.Upstreams.{Upstreams}
 use Rattle.hc_store.specs.declared.backend.Backend.{Ghosts}
 use Rattle.hc_proxy.specs.declared.proxy.Proxy as loop
-use Rattle.hc_proxy.specs.Carrying.{acts_in}
-use Rattle.hc_proxy.specs.Connections.{taken_at}
-use Rattle.hc_proxy.specs.Headed.{is_begun, has_head, IsReadAs}
-use Rattle.hc_proxy.specs.Hearing.{IsApart, HasHanded, FaultStepped, PieceStepped}
-use Rattle.hc_proxy.specs.Invariants.{OpensUp, unread, unread_of}
-use Rattle.hc_proxy.specs.Keeping.{Turn, HasCache, IsUpstream, IsUpstreamAt, KeepsBut, Stepped, RestStays, Goes}
-use Rattle.hc_proxy.specs.Network.{has_news, next_of, read_to, unless_denied, hands, hands_if, handed}
-use Rattle.hc_proxy.specs.Rows.{Upstream, Proxy, with_upstream}
-use Rattle.hc_proxy.specs.Steps.{with_entry}
+use Rattle.hc_proxy.specs.{Carrying.{acts_in}, Connections.{taken_at}, Headed.{is_begun, has_head, IsReadAs}, Hearing.{IsApart, HasHanded, FaultStepped, PieceStepped}, Invariants.{OpensUp, unread, unread_of}, Keeping.{Turn, HasCache, IsUpstream, IsUpstreamAt, KeepsBut, Stepped, RestStays, Goes}, Network.{has_news, next_of, read_to, unless_denied, hands, hands_if, handed}, Rows.{Upstream, Proxy, with_upstream}, Steps.{with_entry}, Waiting.{is_poll}}
 use Rattle.hc_proxy.specs.Steps as steps_of
-use Rattle.hc_proxy.specs.Waiting.{is_poll}
 use Rattle.hc_laws.proofs.Accepted as accepted
-use Rattle.hc_proxy.proofs.Alike.{cache_moves}
-use Rattle.hc_proxy.proofs.AnswerNext.{IsAnswerNext, answer_next}
-use Rattle.hc_proxy.proofs.DoneFor.{but_stepped}
-use Rattle.hc_proxy.proofs.NextBegun.{begun_waits, begun_brings, begun_ends}
-use Rattle.hc_proxy.proofs.OpenAfter.{was_open}
-use Rattle.hc_proxy.proofs.OriginRows.{row_changed}
-use Rattle.hc_proxy.proofs.QuietActs.{AreQuiet, is_quiet_entry, quiet_opens_none}
-use Rattle.hc_proxy.proofs.StepOn.{law_of}
-use Rattle.hc_proxy.proofs.TakenParts.{news_same, next_same, TakenNone, TakenErr, IsTakenAs, IsReadOff, brought_off, told_off}
-use Rattle.hc_proxy.proofs.Unread.{among, unread_grows, unread_falls}
+use Rattle.hc_proxy.proofs.{Alike.{cache_moves}, AnswerNext.{IsAnswerNext, answer_next}, DoneFor.{but_stepped}, NextBegun.{begun_waits, begun_brings, begun_ends}, OpenAfter.{was_open}, OriginRows.{row_changed}, QuietActs.{AreQuiet, is_quiet_entry, quiet_opens_none}, StepOn.{law_of}, TakenParts.{news_same, next_same, TakenNone, TakenErr, IsTakenAs, IsReadOff, brought_off, told_off}, Unread.{among, unread_grows, unread_falls}}
 
 -- quiet acts open nothing
 pub quiet_up : (acts : List Act) (n m : ℕ) → AreQuiet acts → OpensUp n acts m → n ≡ m

@@ -1,9 +1,7 @@
 -- An act closes an exchange: its connection is hung up.
 --
 -- The exchange is over behind the turn. No act behind this one closes it again, and it holds for the others what held before.
-use Rattle.std.proofs.Common.{◌≡◌, ◌⊎◌, inl, inr, ◌≤◌, ℕ, List, ◌∷◌, Bool, true, false, Some, None, refl, sym, ◌∙◌, subst, arith}
-use Rattle.std.specs.Prelude.{nat_eq, ◌||◌, IsSome}
-use Rattle.std.proofs.lemmas.Bool.Decides.{nat_tests}
+use Rattle.std.{proofs.{Common.{◌≡◌, ◌⊎◌, inl, inr, ◌≤◌, ℕ, List, ◌∷◌, Bool, true, false, Some, None, refl, sym, ◌∙◌, subst, arith}, lemmas.Bool.Decides.{nat_tests}}, specs.Prelude.{nat_eq, ◌||◌, IsSome}}
 use Rattle.hc_text.proofs.Basics.{eq_itself as same_number}
 use Rattle.hc_core.specs.Steps.{steps}
 use Rattle.hc_effects.proofs.Vocabulary.{closes_in, Act, is_open}
@@ -11,13 +9,8 @@ use Rattle.hc_event.specs.declared.act.Act.TheVariants as act
 use Rattle.hc_peers.specs.Upstreams.{upstream_of}
 use Rattle.hc_store.specs.declared.backend.Backend.{Ghosts}
 use Rattle.hc_proxy.specs.declared.proxy.Proxy as loop
-use Rattle.hc_proxy.specs.Invariants.{AreShut}
-use Rattle.hc_proxy.specs.Keeping.{Turn, HasUpstreams, HangsUp}
-use Rattle.hc_proxy.specs.Rows.{Proxy}
-use Rattle.hc_proxy.specs.Underway.{HasHolders, KeepsUnderway}
-use Rattle.hc_proxy.proofs.Alike.{cache_moves, clients_move}
-use Rattle.hc_proxy.proofs.CarriedOut.{act_keeps}
-use Rattle.hc_proxy.proofs.HangsOff.{off_row, was_there, open_apart, rows_left, some_there, wire_left, known_left}
+use Rattle.hc_proxy.specs.{Invariants.{AreShut}, Keeping.{Turn, HasUpstreams, HangsUp}, Rows.{Proxy}, Underway.{HasHolders, KeepsUnderway}}
+use Rattle.hc_proxy.proofs.{Alike.{cache_moves, clients_move}, CarriedOut.{act_keeps}, HangsOff.{off_row, was_there, open_apart, rows_left, some_there, wire_left, known_left}}
 
 module _ {B : Type 0} {g : Ghosts B} (t : Turn) (z : ℕ) (acts : List Act) (x x' : loop.Proxy B g) (p : Proxy) (h : KeepsUnderway t (act.Close z ∷ acts) x p) (u : HangsUp z x x') where
   abbrev ups : HasUpstreams t x p (act.Close z ∷ acts)

@@ -2,24 +2,17 @@
 --
 -- The exchange has no row behind it, and all others keep theirs. The number of its connection is that of no client, since a client's
 -- number is no exchange's, and that of no other exchange, since each number names one. So it is closed alone.
-use Rattle.std.proofs.Common.{◌≡◌, ◌≢◌, ◌⊎◌, inl, inr, ◌≤◌, ℕ, zero, suc, [], ◌∷◌, length, true, false, Option, Some, None, refl, ap, sym, ◌∙◌, subst, arith}
-use Rattle.std.specs.Prelude.{nat_eq, Contains, IsSome}
-use Rattle.std.proofs.lemmas.List.Elements.{Contains-append_left, Contains-append_right, Contains-append_cases}
+use Rattle.std.{proofs.{Common.{◌≡◌, ◌≢◌, ◌⊎◌, inl, inr, ◌≤◌, ℕ, zero, suc, [], ◌∷◌, length, true, false, Option, Some, None, refl, ap, sym, ◌∙◌, subst, arith}, lemmas.List.Elements.{Contains-append_left, Contains-append_right, Contains-append_cases}}, specs.Prelude.{nat_eq, Contains, IsSome}}
 use Rattle.hc_text.proofs.Basics.{none_some, eq_itself as same_number, some_inj, true_false}
 use Rattle.hc_effects.proofs.Vocabulary.{is_open}
 use Rattle.hc_effects.proofs.PieceKeeps.{eq_cases}
-use Rattle.hc_peers.specs.Clients.{client_of}
-use Rattle.hc_peers.specs.Upstreams.{upstream_of}
+use Rattle.hc_peers.specs.{Clients.{client_of}, Upstreams.{upstream_of}, declared.clients.Clients.{Clients}}
 use Rattle.hc_peers.specs.declared.client.Client as peer
-use Rattle.hc_peers.specs.declared.clients.Clients.{Clients}
 use Rattle.hc_peers.specs.declared.upstream.Upstream as origin
 use Rattle.hc_store.specs.declared.backend.Backend.{Ghosts}
 use Rattle.hc_wire.specs.Events.{Unseen, Open, IsOpen}
 use Rattle.hc_proxy.specs.declared.proxy.Proxy as loop
-use Rattle.hc_proxy.specs.Connections.{exchange_of, connection_of, taken_at}
-use Rattle.hc_proxy.specs.Invariants.{NamesOne}
-use Rattle.hc_proxy.specs.Keeping.{Turn, HasClients, IsUpstreamAt, IsClientAt, AtWire, AreKnown, HangsUp, closed_by}
-use Rattle.hc_proxy.specs.Rows.{Client, Proxy}
+use Rattle.hc_proxy.specs.{Connections.{exchange_of, connection_of, taken_at}, Invariants.{NamesOne}, Keeping.{Turn, HasClients, IsUpstreamAt, IsClientAt, AtWire, AreKnown, HangsUp, closed_by}, Rows.{Client, Proxy}}
 
 -- a client that is kept has a row
 pub has_row : (taken : ℕ) (o : Option peer.Client) (r : Option Client) (c : peer.Client) → IsClientAt taken o r → o ≡ Some c → IsSome r

@@ -3,13 +3,7 @@ use Rattle.std.proofs.Common.{◌≡◌, ℕ, ap, ◌∙◌, arith}
 use Rattle.hc_core.specs.Steps.{faults_in}
 use Rattle.hc_store.specs.declared.backend.Backend.{Ghosts}
 use Rattle.hc_proxy.specs.declared.proxy.Proxy as loop
-use Rattle.hc_proxy.specs.Handling.{handled}
-use Rattle.hc_proxy.specs.Keeping.{Turn, KeepsQuiet, KeepsHeard, KeepsPolled, Goes}
-use Rattle.hc_proxy.specs.Network.{heard}
-use Rattle.hc_proxy.specs.Polls.{polled_all}
-use Rattle.hc_proxy.specs.Rows.{Proxy}
-use Rattle.hc_proxy.specs.Starts.{started_all}
-use Rattle.hc_proxy.specs.Turns.{happened}
+use Rattle.hc_proxy.specs.{Handling.{handled}, Keeping.{Turn, KeepsQuiet, KeepsHeard, KeepsPolled, Goes}, Network.{heard}, Polls.{polled_all}, Rows.{Proxy}, Starts.{started_all}, Turns.{happened}}
 
 module _ {B : Type 0} {g : Ghosts B} where
   goes_then : (K L : loop.Proxy B g → Proxy → Type 0) (before : ℕ) (x y : loop.Proxy B g) (owed_by : Proxy) (step : Proxy → Proxy) (one : Goes K before x owed_by) → Goes L (faults_in x.cache) y (step one.q) → Goes L before y (step owed_by)

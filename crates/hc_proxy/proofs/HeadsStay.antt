@@ -1,11 +1,8 @@
 -- An exchange keeps its head. So where the answers were read behind their heads, the exchanges have these behind an entry too.
-use Rattle.std.proofs.Common.{◌≡◌, ◌⊎◌, inl, inr, ℕ, Bool, true, false, Option, Some, None, refl, ap, sym, ◌∙◌}
-use Rattle.std.specs.Prelude.{nat_eq, is_some, if◌then◌else◌}
+use Rattle.std.{proofs.Common.{◌≡◌, ◌⊎◌, inl, inr, ℕ, Bool, true, false, Option, Some, None, refl, ap, sym, ◌∙◌}, specs.Prelude.{nat_eq, is_some, if◌then◌else◌}}
 use Rattle.hc_effects.proofs.Vocabulary.{opening_in, Event, Entry, exchange_after, exchange_heard, with_head, with_piece, Tables, Exchange, after}
 use Rattle.hc_event.specs.declared.event.Event.TheVariants as event
-use Rattle.hc_proxy.specs.Headed.{has_head, IsReadAs, AreHeaded}
-use Rattle.hc_proxy.specs.Rows.{Proxy}
-use Rattle.hc_proxy.specs.Steps.{with_entry}
+use Rattle.hc_proxy.specs.{Headed.{has_head, IsReadAs, AreHeaded}, Rows.{Proxy}, Steps.{with_entry}}
 use Rattle.hc_proxy.proofs.OpenAfter.{OpensIt, was_open, exchange_behind}
 
 heard_headed : (t : Tables) (e : Entry) (y : ℕ) (ev : Event) (w : Exchange) → is_some w.head ≡ true → is_some (exchange_heard t e y ev w).head ≡ true

@@ -4,37 +4,16 @@
 -- open at first, and each takes two at most. No more exchanges are open than clients are here. Whoever is open and isn't among the news
 -- has nothing due, so the definitions come to the same over all open exchanges. Of each whose connection has ended a part stands next:
 -- of those gone through by their step, of the others since nothing is due.
-use Rattle.std.proofs.Common.{◌≡◌, ◌⊎◌, inl, inr, ◌≤◌, ℕ, ◌+◌, ◌*◌, List, [], ◌∷◌, ◌++◌, length, Bool, true, false, Some, refl, ap, sym, ◌∙◌, arith}
-use Rattle.std.specs.Prelude.{◌^◌, ◌&&◌, ◌||◌, not, filter}
-use Rattle.std.specs.List.Sorted.{IsStrictlySortedBy}
-use Rattle.std.specs.Ordering.{nat_cmp}
-use Rattle.std.proofs.lemmas.List.{length-reverse}
+use Rattle.std.{proofs.{Common.{◌≡◌, ◌⊎◌, inl, inr, ◌≤◌, ℕ, ◌+◌, ◌*◌, List, [], ◌∷◌, ◌++◌, length, Bool, true, false, Some, refl, ap, sym, ◌∙◌, arith}, lemmas.List.{length-reverse}}, specs.{Prelude.{◌^◌, ◌&&◌, ◌||◌, not, filter}, List.Sorted.{IsStrictlySortedBy}, Ordering.{nat_cmp}}}
 use Rattle.hc_text.proofs.Basics.{true_false}
 use Rattle.hc_core.specs.Steps.{faults_in, steps}
 use Rattle.hc_effects.proofs.Vocabulary.{asks_in, is_open, is_wanted, Lawful, open_now, Limits}
 use Rattle.hc_effects.proofs.PieceKeeps.{eq_cases}
-use Rattle.hc_peers.specs.Upstreams.{is_news, news_of}
-use Rattle.hc_peers.specs.declared.upstreams.Upstreams.{Upstreams}
+use Rattle.hc_peers.specs.{Upstreams.{is_news, news_of}, declared.upstreams.Upstreams.{Upstreams}}
 use Rattle.hc_store.specs.declared.backend.Backend.{Ghosts}
 use Rattle.hc_proxy.specs.declared.proxy.Proxy as loop
-use Rattle.hc_proxy.specs.Carrying.{acts_in}
-use Rattle.hc_proxy.specs.Handling.{clients_here}
-use Rattle.hc_proxy.specs.Hearing.{HasHeard, MayStep}
-use Rattle.hc_proxy.specs.Invariants.{is_due, is_due_by, is_part}
-use Rattle.hc_proxy.specs.Keeping.{Turn, KeepsQuiet, KeepsHeard, Goes}
-use Rattle.hc_proxy.specs.Network.{has_news, next_of, open_exchanges, handed, closed, each_heard, heard}
-use Rattle.hc_proxy.specs.Rows.{Upstream, Proxy}
-use Rattle.hc_proxy.proofs.Alike.{cache_moves, clients_move}
-use Rattle.hc_proxy.proofs.Ascending.{opens_ascend, opens_are}
-use Rattle.hc_proxy.proofs.DoneFor.{but_it}
-use Rattle.hc_proxy.proofs.FewHere.{few_open}
-use Rattle.hc_proxy.proofs.IdleExchanges.{Idle, heard_one, is_skipped, is_each}
-use Rattle.hc_proxy.proofs.Marked.{keys_among, sorted_ascends, passed_among}
-use Rattle.hc_proxy.proofs.QuietActs.{quiet_asks_none}
-use Rattle.hc_proxy.proofs.SkippedSteps.{among, Ascends, same_each}
-use Rattle.hc_proxy.proofs.Stands.{Stands}
-use Rattle.hc_proxy.proofs.StepOn.{stands_of, law_of, run_of}
-use Rattle.hc_proxy.proofs.UpShort.{up_short, filter_up, filter_both, passes_one}
+use Rattle.hc_proxy.specs.{Carrying.{acts_in}, Handling.{clients_here}, Hearing.{HasHeard, MayStep}, Invariants.{is_due, is_due_by, is_part}, Keeping.{Turn, KeepsQuiet, KeepsHeard, Goes}, Network.{has_news, next_of, open_exchanges, handed, closed, each_heard, heard}, Rows.{Upstream, Proxy}}
+use Rattle.hc_proxy.proofs.{Alike.{cache_moves, clients_move}, Ascending.{opens_ascend, opens_are}, DoneFor.{but_it}, FewHere.{few_open}, IdleExchanges.{Idle, heard_one, is_skipped, is_each}, Marked.{keys_among, sorted_ascends, passed_among}, QuietActs.{quiet_asks_none}, SkippedSteps.{among, Ascends, same_each}, Stands.{Stands}, StepOn.{stands_of, law_of, run_of}, UpShort.{up_short, filter_up, filter_both, passes_one}}
 
 -- who stands in the list of the news
 pub news_among : (s : Upstreams) (y : ℕ) → among y (news_of s) ≡ is_news s y

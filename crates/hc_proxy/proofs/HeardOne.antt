@@ -4,28 +4,17 @@
 -- them: so its number was given out, and some steps are left for it. A piece has room where tables have it. Its acts begin behind those
 -- before, so whether it was denied is told by the acts from there on; and a fault behind a denied piece is stepped over the tables
 -- behind that piece.
-use Rattle.std.proofs.Common.{◌≡◌, inl, inr, ◌≤◌, ◌<◌, ℕ, ◌+◌, List, length, length-append, drop, Bool, true, false, refl, ap, sym, ◌∙◌, subst, arith}
-use Rattle.std.specs.Prelude.{◌^◌, nat_lt}
-use Rattle.std.proofs.Math.Bridge.{le_prop}
-use Rattle.std.proofs.Math.Logic.{∥∥₁_elim, ∥∥₁_map}
+use Rattle.std.{proofs.{Common.{◌≡◌, inl, inr, ◌≤◌, ◌<◌, ℕ, ◌+◌, List, length, length-append, drop, Bool, true, false, refl, ap, sym, ◌∙◌, subst, arith}, Math.{Bridge.{le_prop}, Logic.{∥∥₁_elim, ∥∥₁_map}}}, specs.Prelude.{◌^◌, nat_lt}}
 use Rattle.hc_core.specs.Steps.{StandsFor, steps, bytes_received}
 use Rattle.hc_effects.proofs.Vocabulary.{act_list, is_denied, History, Contents, no_contents, is_open, Tables, tables}
 use Rattle.hc_event.specs.declared.event.Event.TheVariants as event
 use Rattle.hc_msg.specs.declared.message.WirePart.{WirePart}
 use Rattle.hc_msg.specs.declared.message.WirePart.TheVariants as part
-use Rattle.hc_peers.specs.Upstreams.{is_news}
-use Rattle.hc_peers.specs.declared.upstreams.Upstreams.{Upstreams}
+use Rattle.hc_peers.specs.{Upstreams.{is_news}, declared.upstreams.Upstreams.{Upstreams}}
 use Rattle.hc_store.specs.declared.backend.Backend.{Ghosts}
 use Rattle.hc_proxy.specs.declared.proxy.Proxy as loop
-use Rattle.hc_proxy.specs.Hearing.{length_of, PartStepped, MayTake, MayStep, IsOpenHere}
-use Rattle.hc_proxy.specs.Invariants.{unread}
-use Rattle.hc_proxy.specs.Keeping.{Frame, Turn, HasCache, StandsForSome, Stepped, RestStays, KeepsBut}
-use Rattle.hc_proxy.specs.Rows.{Proxy}
-use Rattle.hc_proxy.specs.Steps.{with_entry}
-use Rattle.hc_proxy.proofs.Alike.{cache_moves}
-use Rattle.hc_proxy.proofs.HandedOn.{open_number}
-use Rattle.hc_proxy.proofs.PollOne.{appended}
-use Rattle.hc_proxy.proofs.StepOn.{law_of}
+use Rattle.hc_proxy.specs.{Hearing.{length_of, PartStepped, MayTake, MayStep, IsOpenHere}, Invariants.{unread}, Keeping.{Frame, Turn, HasCache, StandsForSome, Stepped, RestStays, KeepsBut}, Rows.{Proxy}, Steps.{with_entry}}
+use Rattle.hc_proxy.proofs.{Alike.{cache_moves}, HandedOn.{open_number}, PollOne.{appended}, StepOn.{law_of}}
 
 module _ {B : Type 0} {g : Ghosts B} where
   -- so few bytes more are received

@@ -2,34 +2,18 @@
 --
 -- The code looks at the news alone. Where a part of an exchange is wanted it is open, and so it has a row of the code that is alike:
 -- what the code tells of it is what the definitions say. Whoever is open and isn't among the news has nothing due, so it brings nothing.
-use Rattle.std.proofs.Common.{◌≡◌, ◌≤◌, ℕ, List, [], ◌∷◌, ◌++◌, length, Bool, true, false, Option, Some, None, refl, ap, sym, ◌∙◌, arith}
-use Rattle.std.specs.Prelude.{◌&&◌, ◌||◌, not, nat_eq, nat_lt}
-use Rattle.std.specs.List.{list_any}
-use Rattle.std.proofs.lemmas.Bool.Decides.{nat_tests}
+use Rattle.std.{proofs.{Common.{◌≡◌, ◌≤◌, ℕ, List, [], ◌∷◌, ◌++◌, length, Bool, true, false, Option, Some, None, refl, ap, sym, ◌∙◌, arith}, lemmas.Bool.Decides.{nat_tests}}, specs.{Prelude.{◌&&◌, ◌||◌, not, nat_eq, nat_lt}, List.{list_any}}}
 use Rattle.hc_text.proofs.Basics.{true_false}
 use Rattle.hc_effects.proofs.Vocabulary.{is_open, is_wanted, Lawful}
 use Rattle.hc_msg.specs.Inputs.{look_of}
 use Rattle.hc_peers.specs.Upstreams.{upstream_of, is_news, news_of, has_news_at, look_at}
 use Rattle.hc_peers.specs.declared.upstream.Upstream as origin
 use Rattle.hc_store.specs.declared.backend.Backend.{Ghosts}
-use Rattle.hc_wire.specs.Events.{Unseen}
-use Rattle.hc_wire.specs.Logs.{Log, Called}
+use Rattle.hc_wire.specs.{Events.{Unseen}, Logs.{Log, Called}}
 use Rattle.hc_wire.specs.declared.event.WireEvent.TheVariants as wire
 use Rattle.hc_proxy.specs.declared.proxy.Proxy as loop
-use Rattle.hc_proxy.specs.Hearing.{has_next}
-use Rattle.hc_proxy.specs.Invariants.{is_due_by, is_part}
-use Rattle.hc_proxy.specs.Keeping.{Frame, HasUpstreams, IsUpstreamAt}
-use Rattle.hc_proxy.specs.Network.{has_news, next_of, open_exchanges}
-use Rattle.hc_proxy.specs.Resting.{Rests, resting_call}
-use Rattle.hc_proxy.specs.Rows.{Upstream, Proxy}
-use Rattle.hc_proxy.specs.Waiting.{hears_nothing}
-use Rattle.hc_proxy.proofs.Ascending.{opens_ascend, opens_are}
-use Rattle.hc_proxy.proofs.HeardAll.{news_among}
-use Rattle.hc_proxy.proofs.SkippedSteps.{among}
-use Rattle.hc_proxy.proofs.StepOn.{law_of}
-use Rattle.hc_proxy.proofs.TakenParts.{news_same, next_same}
-use Rattle.hc_proxy.proofs.Waited.{brings_by, brings, nothing_brought}
-use Rattle.hc_proxy.proofs.HandedOn.{wanted_open}
+use Rattle.hc_proxy.specs.{Hearing.{has_next}, Invariants.{is_due_by, is_part}, Keeping.{Frame, HasUpstreams, IsUpstreamAt}, Network.{has_news, next_of, open_exchanges}, Resting.{Rests, resting_call}, Rows.{Upstream, Proxy}, Waiting.{hears_nothing}}
+use Rattle.hc_proxy.proofs.{Ascending.{opens_ascend, opens_are}, HeardAll.{news_among}, SkippedSteps.{among}, StepOn.{law_of}, TakenParts.{news_same, next_same}, Waited.{brings_by, brings, nothing_brought}, HandedOn.{wanted_open}}
 
 -- LISTS
 

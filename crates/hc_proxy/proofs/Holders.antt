@@ -4,27 +4,16 @@
 -- told by its acts that it is over, unless it is cancelled. So an entry keeps who holds whom, but for a start and a cancel. A start
 -- goes with the client that asks for it: its number is new, so no other client holds it. A cancel goes with the client that leaves:
 -- its consumer is over, and nobody else holds that.
-use Rattle.std.proofs.Common.{◌≡◌, ◌⊎◌, inl, inr, ◌≤◌, ◌<◌, ℕ, ◌+◌, List, [], ◌∷◌, ◌++◌, Bool, true, false, Option, Some, None, refl, ap, sym, ◌∙◌, subst, arith}
-use Rattle.std.specs.Prelude.{◌||◌, nat_eq, option_map, if◌then◌else◌}
-use Rattle.std.proofs.lemmas.Bool.Decides.{nat_tests}
+use Rattle.std.{proofs.{Common.{◌≡◌, ◌⊎◌, inl, inr, ◌≤◌, ◌<◌, ℕ, ◌+◌, List, [], ◌∷◌, ◌++◌, Bool, true, false, Option, Some, None, refl, ap, sym, ◌∙◌, subst, arith}, lemmas.Bool.Decides.{nat_tests}}, specs.Prelude.{◌||◌, nat_eq, option_map, if◌then◌else◌}}
 use Rattle.hc_text.proofs.Basics.{number_not as apart, or_left, or_right, eq_itself as same_number, some_inj}
 use Rattle.hc_effects.proofs.Vocabulary.{leaves_in, Act, Event, Limits, is_live, live, Entry, Lawful, IsOwed, after}
 use Rattle.hc_event.specs.declared.act.Act.TheVariants as act
 use Rattle.hc_event.specs.declared.event.Event.TheVariants as event
-use Rattle.hc_head.specs.declared.message.MsgError.{MsgError}
-use Rattle.hc_head.specs.declared.message.WireRequest.{WireRequest}
+use Rattle.hc_head.specs.declared.message.{MsgError.{MsgError}, WireRequest.{WireRequest}}
 use Rattle.hc_msg.specs.Reading.{Reading}
 use Rattle.hc_effects.proofs.PieceKeeps.{eq_cases}
-use Rattle.hc_proxy.specs.Carrying.{acts_in}
-use Rattle.hc_proxy.specs.Handling.{left, client_sends}
-use Rattle.hc_proxy.specs.Invariants.{IsHolder, HasConsumers}
-use Rattle.hc_proxy.specs.Rows.{Client, Proxy, with_client}
-use Rattle.hc_proxy.specs.Starts.{read_to, asks, with_holder, refused}
-use Rattle.hc_proxy.specs.Steps.{with_entry}
-use Rattle.hc_laws.proofs.Accepted.{starts_live}
-use Rattle.hc_laws.proofs.LiveAfter.{Starts, was_live}
-use Rattle.hc_laws.proofs.StaysLive.{stays_live}
-use Rattle.hc_laws.proofs.WhoLeaves.{cancelled_over}
+use Rattle.hc_proxy.specs.{Carrying.{acts_in}, Handling.{left, client_sends}, Invariants.{IsHolder, HasConsumers}, Rows.{Client, Proxy, with_client}, Starts.{read_to, asks, with_holder, refused}, Steps.{with_entry}}
+use Rattle.hc_laws.proofs.{Accepted.{starts_live}, LiveAfter.{Starts, was_live}, StaysLive.{stays_live}, WhoLeaves.{cancelled_over}}
 
 -- WHO WAITS, where these acts are still to be carried out
 

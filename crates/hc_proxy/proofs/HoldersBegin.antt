@@ -2,20 +2,13 @@
 --
 -- A turn begins with no acts, so whoever is waited for must be live: so it is behind the acts of the turn before. A client whose
 -- connection doesn't stand any more was to be closed, and waits for nobody.
-use Rattle.std.proofs.Common.{◌≡◌, inl, inr, ℕ, zero, suc, List, [], ◌∷◌, Bool, true, false, Option, Some, None, refl, ap, sym, ◌∙◌, arith}
-use Rattle.std.specs.Prelude.{◌||◌, Contains, option_map, if◌then◌else◌}
-use Rattle.std.specs.List.{list_all}
+use Rattle.std.{proofs.Common.{◌≡◌, inl, inr, ℕ, zero, suc, List, [], ◌∷◌, Bool, true, false, Option, Some, None, refl, ap, sym, ◌∙◌, arith}, specs.{Prelude.{◌||◌, Contains, option_map, if◌then◌else◌}, List.{list_all}}}
 use Rattle.hc_text.proofs.Basics.{and_left, and_right, some_inj}
 use Rattle.hc_effects.proofs.Vocabulary.{Act, is_live, Tables}
 use Rattle.hc_effects.proofs.PieceKeeps.{eq_cases}
 use Rattle.hc_wire.specs.Logs.{Called}
-use Rattle.hc_proxy.specs.Carrying.{acts_in}
-use Rattle.hc_proxy.specs.Connections.{stands}
-use Rattle.hc_proxy.specs.Handling.{seen_at, begun}
-use Rattle.hc_proxy.specs.Invariants.{IsHolder, HasConsumers}
-use Rattle.hc_proxy.specs.Rows.{Client, Upstream, Proxy, new_client, with_upstream}
-use Rattle.hc_proxy.proofs.Holders.{IsAlive, HeldBy, held_of, of_held}
-use Rattle.hc_proxy.proofs.Turning.{with_new}
+use Rattle.hc_proxy.specs.{Carrying.{acts_in}, Connections.{stands}, Handling.{seen_at, begun}, Invariants.{IsHolder, HasConsumers}, Rows.{Client, Upstream, Proxy, new_client, with_upstream}}
+use Rattle.hc_proxy.proofs.{Holders.{IsAlive, HeldBy, held_of, of_held}, Turning.{with_new}}
 
 -- CLIENTS AND TABLES STAY
 

@@ -1,16 +1,12 @@
 -- A connection that is hung up in a turn, of an exchange that isn't open any more: what the loop keeps behind it.
-use Rattle.std.proofs.Common.{◌≡◌, ◌⊎◌, ◌≤◌, ℕ, true, false, refl, ap, sym, ◌∙◌, subst}
-use Rattle.std.specs.Prelude.{nat_eq, IsSome}
+use Rattle.std.{proofs.Common.{◌≡◌, ◌⊎◌, ◌≤◌, ℕ, true, false, refl, ap, sym, ◌∙◌, subst}, specs.Prelude.{nat_eq, IsSome}}
 use Rattle.hc_core.specs.Steps.{steps}
 use Rattle.hc_effects.proofs.Vocabulary.{act_list, closes_in, is_open}
 use Rattle.hc_peers.specs.Upstreams.{upstream_of}
 use Rattle.hc_store.specs.declared.backend.Backend.{Ghosts}
 use Rattle.hc_proxy.specs.declared.proxy.Proxy as loop
-use Rattle.hc_proxy.specs.Carrying.{acts_in}
-use Rattle.hc_proxy.specs.Keeping.{Turn, HasUpstreams, HasUpstreamsBut, KeepsBut, KeepsQuiet, HangsUp}
-use Rattle.hc_proxy.specs.Rows.{Proxy}
-use Rattle.hc_proxy.proofs.Alike.{cache_moves, clients_move}
-use Rattle.hc_proxy.proofs.HangsOff.{off_row, was_there, open_apart, rows_left, some_there, wire_left, known_left}
+use Rattle.hc_proxy.specs.{Carrying.{acts_in}, Keeping.{Turn, HasUpstreams, HasUpstreamsBut, KeepsBut, KeepsQuiet, HangsUp}, Rows.{Proxy}}
+use Rattle.hc_proxy.proofs.{Alike.{cache_moves, clients_move}, HangsOff.{off_row, was_there, open_apart, rows_left, some_there, wire_left, known_left}}
 
 module _ {B : Type 0} {g : Ghosts B} (t : Turn) (z : ℕ) (x x' : loop.Proxy B g) (p : Proxy) (h : KeepsBut z t x p) (shut : is_open (p.tables.exchange z) ≡ false) (u : HangsUp z x x') where
   abbrev ups : HasUpstreamsBut z t x p (acts_in p.part)

@@ -3,19 +3,14 @@
 --
 -- An unready client is passed over, and stays unready while others are read: so the ready ones are gone through alone. A poll changes
 -- no row of a client and no holder, so who may be polled is the same before and behind it.
-use Rattle.std.proofs.Common.{◌≡◌, ℕ, List, [], ◌∷◌, Bool, true, false, Option, Some, None, refl, ap, ◌∙◌}
-use Rattle.std.specs.Prelude.{nat_eq, ◌+◌, if◌then◌else◌}
+use Rattle.std.{proofs.Common.{◌≡◌, ℕ, List, [], ◌∷◌, Bool, true, false, Option, Some, None, refl, ap, ◌∙◌}, specs.Prelude.{nat_eq, ◌+◌, if◌then◌else◌}}
 use Rattle.hc_effects.proofs.Vocabulary.{Event, Limits}
 use Rattle.hc_event.specs.declared.event.Event.TheVariants as event
 use Rattle.hc_head.specs.declared.message.WireRequest.{WireRequest}
-use Rattle.hc_msg.specs.Inputs.{Next, Waits, Tells, Brings, Ends, Fails, next_in}
-use Rattle.hc_msg.specs.Reading.{Failed, Token, Asks, Answers, Byte}
+use Rattle.hc_msg.specs.{Inputs.{Next, Waits, Tells, Brings, Ends, Fails, next_in}, Reading.{Failed, Token, Asks, Answers, Byte}}
 use Rattle.hc_wire.specs.Logs.{Called}
-use Rattle.hc_proxy.specs.Polls.{may_be_polled, polled, each_polled}
-use Rattle.hc_proxy.specs.Rows.{Client, Proxy, with_client}
-use Rattle.hc_proxy.specs.Starts.{read_to, asks, with_holder, started, refused, hears_request, hears, hears_if, is_ready}
+use Rattle.hc_proxy.specs.{Polls.{may_be_polled, polled, each_polled}, Rows.{Client, Proxy, with_client}, Starts.{read_to, asks, with_holder, started, refused, hears_request, hears, hears_if, is_ready}, Steps.{with_entry, stepped}}
 use Rattle.hc_proxy.specs.Starts as starts
-use Rattle.hc_proxy.specs.Steps.{with_entry, stepped}
 use Rattle.hc_proxy.proofs.SkippedSteps.{IsSkipped, each}
 
 module _ (limits : Limits) (call : Called) where

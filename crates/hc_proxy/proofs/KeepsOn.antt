@@ -3,30 +3,17 @@
 -- No row changes in the code. What is open behind the entry was open before, or is opened by it: then it is the next exchange, which
 -- isn't dialled yet. What was open stays so, unless the acts close it. What is wanted behind the entry was wanted before, or the acts
 -- ask for it, or it is that next one. So the lists of the code still have whoever is to be looked at.
-use Rattle.std.proofs.Common.{◌≡◌, ◌⊎◌, inl, inr, ◌≤◌, ◌<◌, ℕ, zero, suc, ◌+◌, ◌-◌, Bool, true, false, List, [], ◌∷◌, ◌++◌, Option, Some, None, refl, ap, sym, ◌∙◌, subst, arith}
-use Rattle.std.specs.Prelude.{◌||◌, nat_eq, length, drop, Contains, if◌then◌else◌}
+use Rattle.std.{proofs.Common.{◌≡◌, ◌⊎◌, inl, inr, ◌≤◌, ◌<◌, ℕ, zero, suc, ◌+◌, ◌-◌, Bool, true, false, List, [], ◌∷◌, ◌++◌, Option, Some, None, refl, ap, sym, ◌∙◌, subst, arith}, specs.Prelude.{◌||◌, nat_eq, length, drop, Contains, if◌then◌else◌}}
 use Rattle.hc_text.proofs.Basics.{or_off_left as or_first, or_left, or_right, or_off_right as or_second}
 use Rattle.hc_core.specs.Steps.{steps}
 use Rattle.hc_effects.proofs.Vocabulary.{opening_in, asks_in, closes_in, Act, Event, Entry, is_open, is_wanted, IsOwed, after}
 use Rattle.hc_event.specs.declared.act.Act.TheVariants as act
-use Rattle.hc_peers.specs.Peers.{is_same}
-use Rattle.hc_peers.specs.Upstreams.{upstream_of, is_news, is_touched}
+use Rattle.hc_peers.specs.{Peers.{is_same}, Upstreams.{upstream_of, is_news, is_touched}}
 use Rattle.hc_peers.specs.declared.upstream.Upstream as origin
 use Rattle.hc_store.specs.declared.backend.Backend.{Ghosts}
 use Rattle.hc_proxy.specs.declared.proxy.Proxy as loop
-use Rattle.hc_proxy.specs.Carrying.{acts_in}
-use Rattle.hc_proxy.specs.Connections.{connection_of, first_of}
-use Rattle.hc_proxy.specs.Invariants.{HasConsumers, is_due_by, is_part, IsHeardOut, AreClosed}
-use Rattle.hc_proxy.specs.Keeping.{Frame, Turn, HasCache, HasActs, HasClients, HasUpstreams, AtWire, AreSeen, AreKnown, Keeps, Stepped, RestStays}
-use Rattle.hc_proxy.specs.Network.{has_news, next_of}
-use Rattle.hc_proxy.specs.Rows.{Upstream, Proxy}
-use Rattle.hc_proxy.specs.Steps.{with_entry}
-use Rattle.hc_proxy.proofs.Alike.{clients_move, upstreams_move, wire_moves}
-use Rattle.hc_proxy.proofs.ClosedActs.{turn_or, closes_both, closed_behind}
-use Rattle.hc_proxy.proofs.OpenAfter.{OpensIt, Stops, was_open, stays_open, was_wanted, stays_wanted}
-use Rattle.hc_proxy.proofs.OpensUp.{entry_opens, up_grows}
-use Rattle.hc_proxy.proofs.Stands.{Stands}
-use Rattle.hc_proxy.proofs.StepOn.{stands_of, opens_behind, opened_little}
+use Rattle.hc_proxy.specs.{Carrying.{acts_in}, Connections.{connection_of, first_of}, Invariants.{HasConsumers, is_due_by, is_part, IsHeardOut, AreClosed}, Keeping.{Frame, Turn, HasCache, HasActs, HasClients, HasUpstreams, AtWire, AreSeen, AreKnown, Keeps, Stepped, RestStays}, Network.{has_news, next_of}, Rows.{Upstream, Proxy}, Steps.{with_entry}}
+use Rattle.hc_proxy.proofs.{Alike.{clients_move, upstreams_move, wire_moves}, ClosedActs.{turn_or, closes_both, closed_behind}, OpenAfter.{OpensIt, Stops, was_open, stays_open, was_wanted, stays_wanted}, OpensUp.{entry_opens, up_grows}, Stands.{Stands}, StepOn.{stands_of, opens_behind, opened_little}}
 
 -- LISTS OF ACTS
 

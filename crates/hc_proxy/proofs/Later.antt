@@ -3,18 +3,11 @@
 -- Each change of a client's row appends, or leaves what is owed as it is. A new client replaces no row, since
 -- its number is new. The rows of connections to the origin are owed their request from the first on, and only an
 -- exchange that is opened replaces a row. So for those it is asked which exchanges the acts open.
-use Rattle.std.proofs.Common.{◌≡◌, ℕ, Bool, true, false, List, [], ◌∷◌, ◌++◌, Option, Some, None, refl, ap, sym, ◌∙◌, arith, length, append_assoc, append-nil}
-use Rattle.std.proofs.lemmas.Bool.Decides.{nat_tests}
-use Rattle.std.specs.Prelude.{nat_eq, ◌||◌, if◌then◌else◌, option_map}
+use Rattle.std.{proofs.{Common.{◌≡◌, ℕ, Bool, true, false, List, [], ◌∷◌, ◌++◌, Option, Some, None, refl, ap, sym, ◌∙◌, arith, length, append_assoc, append-nil}, lemmas.Bool.Decides.{nat_tests}}, specs.Prelude.{nat_eq, ◌||◌, if◌then◌else◌, option_map}}
 use Rattle.hc_effects.proofs.Vocabulary.{Act, Entry, Limits}
 use Rattle.hc_peers.specs.Renderings.{rendering, empty_answer, error_status, form_behind, is_last, closes}
 use Rattle.hc_wire.specs.Logs.{Called}
-use Rattle.hc_proxy.specs.Carrying.{answered, carried, acts_in}
-use Rattle.hc_proxy.specs.Connections.{stands}
-use Rattle.hc_proxy.specs.Handling.{begun, seen_at}
-use Rattle.hc_proxy.specs.Rows.{Client, Upstream, Proxy}
-use Rattle.hc_proxy.specs.Steps.{with_entry}
-use Rattle.hc_proxy.specs.Turns.{so_far, happened, turned, turned_by}
+use Rattle.hc_proxy.specs.{Carrying.{answered, carried, acts_in}, Connections.{stands}, Handling.{begun, seen_at}, Rows.{Client, Upstream, Proxy}, Steps.{with_entry}, Turns.{so_far, happened, turned, turned_by}}
 use Rattle.hc_proxy.proofs.Turning.{IsChange, IsOriginChange, IsKept, IsCarried, OpenOnly, carried_keeps, open_any, turned_keeps}
 use Rattle.hc_proxy.proofs.Turning as kinds
 

@@ -1,43 +1,22 @@
 -- A client leaves: its row is gone, its connection is to be closed, and its consumer is cancelled, where it waits for something.
 --
 -- A cancel says something of no exchange. So of each exchange all is kept that is kept beside any other one.
-use Rattle.std.proofs.Common.{◌≡◌, ◌≢◌, ◌⊎◌, inl, inr, ◌≤◌, ℕ, zero, suc, ◌+◌, List, [], ◌∷◌, ◌++◌, Bool, true, false, Option, Some, None, refl, ap, sym, ◌∙◌, subst, arith}
-use Rattle.std.specs.Prelude.{◌&&◌, nat_eq, not, option_map, if◌then◌else◌, IsSome, Contains}
-use Rattle.std.specs.List.{list_all}
-use Rattle.std.proofs.lemmas.Bool.Decides.{nat_tests}
-use Rattle.std.proofs.lemmas.List.Elements.{Contains-append_left, Contains-append_right, Contains-append_cases}
+use Rattle.std.{proofs.{Common.{◌≡◌, ◌≢◌, ◌⊎◌, inl, inr, ◌≤◌, ℕ, zero, suc, ◌+◌, List, [], ◌∷◌, ◌++◌, Bool, true, false, Option, Some, None, refl, ap, sym, ◌∙◌, subst, arith}, lemmas.{Bool.Decides.{nat_tests}, List.Elements.{Contains-append_left, Contains-append_right, Contains-append_cases}}}, specs.{Prelude.{◌&&◌, nat_eq, not, option_map, if◌then◌else◌, IsSome, Contains}, List.{list_all}}}
 use Rattle.hc_text.proofs.Basics.{none_some, some_inj, true_false}
 use Rattle.hc_core.specs.Steps.{faults_in, steps, bytes_received}
 use Rattle.hc_effects.proofs.Vocabulary.{act_list, closes_in, Act, is_open, is_wanted, Lawful, after}
 use Rattle.hc_event.specs.declared.event.Event.TheVariants as event
 use Rattle.hc_effects.proofs.PieceKeeps.{eq_cases}
-use Rattle.hc_peers.specs.Agreement.{is_at}
-use Rattle.hc_peers.specs.Clients.{client_of}
+use Rattle.hc_peers.specs.{Agreement.{is_at}, Clients.{client_of}, Peers.{is_same}, Upstreams.{upstream_of}, declared.clients.Clients.{Clients}}
 use Rattle.hc_peers.specs.Clients as clients
-use Rattle.hc_peers.specs.Peers.{is_same}
-use Rattle.hc_peers.specs.Upstreams.{upstream_of}
 use Rattle.hc_peers.specs.declared.client.Client as peer
-use Rattle.hc_peers.specs.declared.clients.Clients.{Clients}
 use Rattle.hc_peers.specs.declared.upstream.Upstream as origin
 use Rattle.hc_store.specs.declared.backend.Backend.{Ghosts}
 use Rattle.hc_wire.specs.Events.{Stage, Unseen, Open, Closed, IsOpen}
 use Rattle.hc_proxy.specs.declared.proxy.Proxy as loop
-use Rattle.hc_proxy.specs.Carrying.{acts_in}
-use Rattle.hc_proxy.specs.Connections.{taken_at}
-use Rattle.hc_proxy.specs.Handling.{is_client, left, leaves, cancelled, client_leaves}
-use Rattle.hc_proxy.specs.Invariants.{IsHolder, unread}
-use Rattle.hc_proxy.specs.Keeping.{Frame, Turn, HasCache, HasClients, HasUpstreams, HasUpstreamsBut, IsClientAt, AtWire, AreKnown, AtEvent, KeepsQuiet, Stepped, RestStays, Goes}
-use Rattle.hc_proxy.specs.Rows.{Client, Proxy, with_client}
+use Rattle.hc_proxy.specs.{Carrying.{acts_in}, Connections.{taken_at}, Handling.{is_client, left, leaves, cancelled, client_leaves}, Invariants.{IsHolder, unread}, Keeping.{Frame, Turn, HasCache, HasClients, HasUpstreams, HasUpstreamsBut, IsClientAt, AtWire, AreKnown, AtEvent, KeepsQuiet, Stepped, RestStays, Goes}, Rows.{Client, Proxy, with_client}, Steps.{with_entry}, Waiting.{is_poll, is_waiting}}
 use Rattle.hc_proxy.specs.Steps as steps_of
-use Rattle.hc_proxy.specs.Steps.{with_entry}
-use Rattle.hc_proxy.specs.Waiting.{is_poll, is_waiting}
-use Rattle.hc_proxy.proofs.Alike.{cache_moves, clients_move, cache_with, upstreams_move}
-use Rattle.hc_proxy.proofs.ClosedActs.{closed_behind}
-use Rattle.hc_proxy.proofs.DoneFor.{but_it, but_upstreams, opened_same, waits_not}
-use Rattle.hc_proxy.proofs.Holders.{leave_keeps, idle_leave_keeps}
-use Rattle.hc_proxy.proofs.QuietActs.{AreQuiet, is_quiet_entry, quiet_both}
-use Rattle.hc_proxy.proofs.RowChanges.{ChangesClient, changed_clients, reads_as, none_stays, row_was, seen_still, upstreams_with}
-use Rattle.hc_proxy.proofs.StepOn.{law_of, stands_of}
+use Rattle.hc_proxy.proofs.{Alike.{cache_moves, clients_move, cache_with, upstreams_move}, ClosedActs.{closed_behind}, DoneFor.{but_it, but_upstreams, opened_same, waits_not}, Holders.{leave_keeps, idle_leave_keeps}, QuietActs.{AreQuiet, is_quiet_entry, quiet_both}, RowChanges.{ChangesClient, changed_clients, reads_as, none_stays, row_was, seen_still, upstreams_with}, StepOn.{law_of, stands_of}}
 
 -- WHAT IS KEPT BESIDE ANY ONE is kept of all
 

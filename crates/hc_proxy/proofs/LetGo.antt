@@ -2,18 +2,12 @@
 --
 -- No change of a client's row within a turn says that it was let go, and none brings back who is gone. Where a turn begins, who is
 -- let go is gone from then on.
-use Rattle.std.proofs.Common.{◌≡◌, ℕ, Bool, true, false, List, [], ◌∷◌, ◌++◌, length, Option, Some, None, refl, ap, sym, ◌∙◌}
-use Rattle.std.specs.Prelude.{nat_eq, ◌||◌, if◌then◌else◌, option_map}
+use Rattle.std.{proofs.Common.{◌≡◌, ℕ, Bool, true, false, List, [], ◌∷◌, ◌++◌, length, Option, Some, None, refl, ap, sym, ◌∙◌}, specs.Prelude.{nat_eq, ◌||◌, if◌then◌else◌, option_map}}
 use Rattle.hc_text.proofs.Basics.{some_inj as some_is}
 use Rattle.hc_effects.proofs.Vocabulary.{Act, Entry, Limits}
 use Rattle.hc_peers.specs.Renderings.{rendering, form_behind, is_last, closes}
 use Rattle.hc_wire.specs.Logs.{Called}
-use Rattle.hc_proxy.specs.Carrying.{answered, carried, acts_in}
-use Rattle.hc_proxy.specs.Connections.{stands}
-use Rattle.hc_proxy.specs.Handling.{begun, seen_at}
-use Rattle.hc_proxy.specs.Rows.{Client, Proxy, new_client, unused}
-use Rattle.hc_proxy.specs.Steps.{with_entry}
-use Rattle.hc_proxy.specs.Turns.{so_far, happened, turned, turned_by}
+use Rattle.hc_proxy.specs.{Carrying.{answered, carried, acts_in}, Connections.{stands}, Handling.{begun, seen_at}, Rows.{Client, Proxy, new_client, unused}, Steps.{with_entry}, Turns.{so_far, happened, turned, turned_by}}
 use Rattle.hc_proxy.proofs.Turning.{IsChange, IsKept, IsCarried, happened_keeps, carried_keeps, open_any}
 use Rattle.hc_proxy.proofs.Turning as kinds
 

@@ -2,47 +2,24 @@
 --
 -- Between turns the log is one of the loop's, and what was written is the record so far (`IsTurning`). A turn that is made goes on so. One
 -- that is cut short ends the loop; so does the closing of all connections behind the last turn, which sends nothing.
-use Rattle.std.proofs.Common.{◌≡◌, ◌⊎◌, inl, inr, ◌≤◌, ◌<◌, ℕ, ◌+◌, ◌-◌, List, [], ◌∷◌, ◌++◌, Bool, true, false, Option, Some, None, Ok, Err, refl, ap, sym, ◌∙◌, subst, arith, append_assoc, append-nil}
-use Rattle.std.specs.Prelude.{◌&&◌, ◌||◌, not, nat_eq, nat_lt, find, filter, map, drop, length, option_map, IfSome, Result, IsErrAnd, if◌then◌else◌}
-use Rattle.std.specs.List.{list_all}
-use Rattle.std.proofs.lemmas.Bool.Decides.{nat_tests}
-use Rattle.std.proofs.lemmas.List.{length-drop}
+use Rattle.std.{proofs.{Common.{◌≡◌, ◌⊎◌, inl, inr, ◌≤◌, ◌<◌, ℕ, ◌+◌, ◌-◌, List, [], ◌∷◌, ◌++◌, Bool, true, false, Option, Some, None, Ok, Err, refl, ap, sym, ◌∙◌, subst, arith, append_assoc, append-nil}, lemmas.{Bool.Decides.{nat_tests}, List.{length-drop}}}, specs.{Prelude.{◌&&◌, ◌||◌, not, nat_eq, nat_lt, find, filter, map, drop, length, option_map, IfSome, Result, IsErrAnd, if◌then◌else◌}, List.{list_all}}}
 use Rattle.hc_text.proofs.Basics.{both_true as both_hold, or_left, or_right}
 use Rattle.hc_core.specs.Steps.{steps, faults_in}
 use Rattle.hc_io.specs.Sink.{Takes, TakesFront}
 use Rattle.hc_io.proofs.Takings.{takes_more as takes_both, takes_none}
 use Rattle.hc_effects.proofs.Vocabulary.{is_open, tables, Limits}
-use Rattle.hc_peers.specs.Clients.{client_of}
-use Rattle.hc_peers.specs.Upstreams.{upstream_of}
+use Rattle.hc_peers.specs.{Clients.{client_of}, Upstreams.{upstream_of}}
 use Rattle.hc_peers.specs.declared.client.Client as peer
 use Rattle.hc_peers.specs.declared.upstream.Upstream as origin
 use Rattle.hc_sched.specs.declared.schedule.Ended.{Ended}
 use Rattle.hc_sched.specs.declared.schedule.Ended.TheVariants as ended
 use Rattle.hc_store.specs.declared.backend.Backend.{Ghosts}
-use Rattle.hc_wire.specs.Events.{Stage, Unseen}
-use Rattle.hc_wire.specs.Logs.{Log, Taker, Called, empty_log, is_numbered, is_at_end, shut, standings_in, stage_from, stage_in, sent_in}
+use Rattle.hc_wire.specs.{Events.{Stage, Unseen}, Logs.{Log, Taker, Called, empty_log, is_numbered, is_at_end, shut, standings_in, stage_from, stage_in, sent_in}}
 use Rattle.hc_wire.specs.declared.event.WireEvent.TheVariants as event
 use Rattle.hc_proxy.specs.declared.proxy.Proxy as loop
-use Rattle.hc_proxy.specs.declared.stop.Stop.{Stop}
+use Rattle.hc_proxy.specs.{declared.stop.Stop.{Stop}, Connections.{connection_of, taken_at}, Endings.{IsLog, IsFresh, Serves, was_sent}, Keeping.{Frame, HasUpstreams, IsUpstream, IsUpstreamAt}, Logging.{AreApart, short_from, is_short}, Loops.{AllFit}, Network.{open_exchanges, heard}, Records.{text_of}, Resting.{IsRestingClient, IsRestingAt, Rests}, Rows.{Client, Upstream, Proxy, unused}, Sending.{owed_by, is_taken, client_is_sent, taker_of, exchange_is_sent, all_is_sent}, Serving.{IsOfLoop, IsCutShort, IsStill, Begins, TurnsTo, TurnStops, EndsBy, ServesAs, IsClosed, all_closed}, Stops.{ended_as, ended_by}, Turns.{turned_by, behind_all, record_of}, Waiting.{waits}}
 use Rattle.hc_proxy.specs.declared.stop.Stop.TheVariants as stop
-use Rattle.hc_proxy.specs.Connections.{connection_of, taken_at}
-use Rattle.hc_proxy.specs.Endings.{IsLog, IsFresh, Serves, was_sent}
-use Rattle.hc_proxy.specs.Keeping.{Frame, HasUpstreams, IsUpstream, IsUpstreamAt}
-use Rattle.hc_proxy.specs.Logging.{AreApart, short_from, is_short}
-use Rattle.hc_proxy.specs.Loops.{AllFit}
-use Rattle.hc_proxy.specs.Network.{open_exchanges, heard}
-use Rattle.hc_proxy.specs.Records.{text_of}
-use Rattle.hc_proxy.specs.Resting.{IsRestingClient, IsRestingAt, Rests}
-use Rattle.hc_proxy.specs.Rows.{Client, Upstream, Proxy, unused}
-use Rattle.hc_proxy.specs.Sending.{owed_by, is_taken, client_is_sent, taker_of, exchange_is_sent, all_is_sent}
-use Rattle.hc_proxy.specs.Serving.{IsOfLoop, IsCutShort, IsStill, Begins, TurnsTo, TurnStops, EndsBy, ServesAs, IsClosed, all_closed}
-use Rattle.hc_proxy.specs.Stops.{ended_as, ended_by}
-use Rattle.hc_proxy.specs.Turns.{turned_by, behind_all, record_of}
-use Rattle.hc_proxy.specs.Waiting.{waits}
-use Rattle.hc_proxy.proofs.Fitting.{all_reversed, opened_within}
-use Rattle.hc_proxy.proofs.FinishGoes.{takes_all}
-use Rattle.hc_proxy.proofs.Rows.{sent_all}
-use Rattle.hc_proxy.proofs.TakersStand.{open_taker, sent_found, taken_found}
+use Rattle.hc_proxy.proofs.{Fitting.{all_reversed, opened_within}, FinishGoes.{takes_all}, Rows.{sent_all}, TakersStand.{open_taker, sent_found, taken_found}}
 use Rattle.hc_state.proofs.LeftRows.{all_passing}
 
 -- WHAT A SINK TOOK

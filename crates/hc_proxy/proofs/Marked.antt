@@ -2,19 +2,9 @@
 --
 -- Std's order on a list is that it ascends, by recursion. A list has a number exactly where the test of one element after another finds it;
 -- of those that pass a test, just those that are there and pass. The tables' own tests are the same.
-use Rattle.std.proofs.Common.{◌≡◌, ◌≤◌, ◌<◌, ℕ, zero, suc, ◌+◌, Bool, true, false, List, [], ◌∷◌, get_or, refl, ap, sym, ◌∙◌, arith}
-use Rattle.std.specs.Prelude.{◌||◌, nat_eq, length, filter, Contains, is_some, if◌then◌else◌}
-use Rattle.std.specs.List.{list_any}
-use Rattle.std.specs.List.Sorted.{IsStrictlySortedBy}
-use Rattle.std.specs.Ordering.{nat_cmp}
-use Rattle.std.proofs.lemmas.Bool.Decides.{nat_tests}
-use Rattle.std.proofs.lemmas.Map.Keys.{sorted_tail, below_from_sorted}
-use Rattle.std.proofs.lemmas.Map.Made.{is_some-lookup}
-use Rattle.std.specs.BTreeMap.{is_at}
+use Rattle.std.{proofs.{Common.{◌≡◌, ◌≤◌, ◌<◌, ℕ, zero, suc, ◌+◌, Bool, true, false, List, [], ◌∷◌, get_or, refl, ap, sym, ◌∙◌, arith}, lemmas.{Bool.Decides.{nat_tests}, Map.{Keys.{sorted_tail, below_from_sorted}, Made.{is_some-lookup}}}}, specs.{Prelude.{◌||◌, nat_eq, length, filter, Contains, is_some, if◌then◌else◌}, List.{list_any, Sorted.{IsStrictlySortedBy}}, Ordering.{nat_cmp}, BTreeMap.{is_at}}}
 use Rattle.std.specs.BTreeMap as tree
-use Rattle.hc_peers.specs.Agreement.{ready_at}
-use Rattle.hc_peers.specs.Clients.{client_of, consumers_of, ready_of}
-use Rattle.hc_peers.specs.declared.clients.Clients.{Clients}
+use Rattle.hc_peers.specs.{Agreement.{ready_at}, Clients.{client_of, consumers_of, ready_of}, declared.clients.Clients.{Clients}}
 use Rattle.hc_proxy.proofs.SkippedSteps.{among, Ascends}
 
 abbrev FirstFrom : ℕ → List ℕ → Type 0

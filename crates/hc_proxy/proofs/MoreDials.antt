@@ -3,18 +3,10 @@
 -- A turn looks only at the dials of the exchanges that were opened before it. Exchanges are only added, so where
 -- there are as many dials as exchanges behind all turns, there were before each of them. What is dialled
 -- behind those isn't looked at.
-use Rattle.std.proofs.Common.{◌≡◌, ◌≤◌, ℕ, List, [], ◌∷◌, ◌++◌, length, refl, ap, sym, ◌∙◌, subst, arith}
-use Rattle.std.proofs.lemmas.List.{take-append-le}
+use Rattle.std.proofs.{Common.{◌≡◌, ◌≤◌, ℕ, List, [], ◌∷◌, ◌++◌, length, refl, ap, sym, ◌∙◌, subst, arith}, lemmas.List.{take-append-le}}
 use Rattle.hc_effects.proofs.Vocabulary.{Limits}
 use Rattle.hc_wire.specs.Logs.{Called}
-use Rattle.hc_proxy.specs.Carrying.{carried}
-use Rattle.hc_proxy.specs.Handling.{begun}
-use Rattle.hc_proxy.specs.Listening.{reads_right}
-use Rattle.hc_proxy.specs.Loops.{Fits, AllFit}
-use Rattle.hc_proxy.specs.Rows.{Proxy}
-use Rattle.hc_proxy.specs.Sending.{sends_right}
-use Rattle.hc_proxy.specs.Standings.{stand_right}
-use Rattle.hc_proxy.specs.Turns.{so_far, happened, turned, turned_by}
+use Rattle.hc_proxy.specs.{Carrying.{carried}, Handling.{begun}, Listening.{reads_right}, Loops.{Fits, AllFit}, Rows.{Proxy}, Sending.{sends_right}, Standings.{stand_right}, Turns.{so_far, happened, turned, turned_by}}
 use Rattle.hc_proxy.proofs.Stands.{Stands, turn_goes, turns_go}
 
 module _ (limits : Limits) (dialled more : List ℕ) where

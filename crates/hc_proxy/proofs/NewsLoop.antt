@@ -2,27 +2,14 @@
 --
 -- A list is what was gone through, the next one, and those behind it. It ascends, so those behind the next one are others: they are still
 -- among the news. So what HeardAll says of one step holds at each index. The bound on the steps is shown of some tables.
-use Rattle.std.proofs.Common.{◌≡◌, ◌≤◌, ◌<◌, ℕ, ◌+◌, suc, List, [], ◌∷◌, ◌++◌, length, get_or, Bool, true, false, refl, ap, sym, ◌∙◌, subst, arith}
-use Rattle.std.specs.Prelude.{◌||◌, ◌^◌, nat_eq, take, drop}
-use Rattle.std.specs.List.Sorted.{IsStrictlySortedBy}
-use Rattle.std.specs.Ordering.{nat_cmp}
-use Rattle.std.proofs.Math.Bridge.{le_prop}
-use Rattle.std.proofs.Math.Logic.{∥∥₁_elim, ∥∥₁_map}
-use Rattle.std.proofs.Math.Seq.{drop-cons}
-use Rattle.std.proofs.lemmas.Bool.Decides.{nat_tests}
-use Rattle.std.proofs.lemmas.List.{take_more, take_all, drop_all, take-append-drop}
+use Rattle.std.{proofs.{Common.{◌≡◌, ◌≤◌, ◌<◌, ℕ, ◌+◌, suc, List, [], ◌∷◌, ◌++◌, length, get_or, Bool, true, false, refl, ap, sym, ◌∙◌, subst, arith}, Math.{Bridge.{le_prop}, Logic.{∥∥₁_elim, ∥∥₁_map}, Seq.{drop-cons}}, lemmas.{Bool.Decides.{nat_tests}, List.{take_more, take_all, drop_all, take-append-drop}}}, specs.{Prelude.{◌||◌, ◌^◌, nat_eq, take, drop}, List.Sorted.{IsStrictlySortedBy}, Ordering.{nat_cmp}}}
 use Rattle.hc_text.proofs.Basics.{eq_itself as same_number, true_false}
 use Rattle.hc_core.specs.Steps.{faults_in, steps}
 use Rattle.hc_peers.specs.Upstreams.{is_news, news_of}
 use Rattle.hc_store.specs.declared.backend.Backend.{Ghosts}
 use Rattle.hc_proxy.specs.declared.proxy.Proxy as loop
-use Rattle.hc_proxy.specs.Hearing.{HasHeard, MayStep, NewsOff}
-use Rattle.hc_proxy.specs.Keeping.{Turn, KeepsQuiet, KeepsHeard, IsQuiet, Goes}
-use Rattle.hc_proxy.specs.Network.{handed, closed, heard}
-use Rattle.hc_proxy.specs.Rows.{Proxy}
-use Rattle.hc_proxy.proofs.HeardAll.{HearsTo, hears_begin, hears_next, hears_may, hears_count, hears_end, news_among}
-use Rattle.hc_proxy.proofs.Marked.{sorted_ascends}
-use Rattle.hc_proxy.proofs.SkippedSteps.{among, Ascends, not_below}
+use Rattle.hc_proxy.specs.{Hearing.{HasHeard, MayStep, NewsOff}, Keeping.{Turn, KeepsQuiet, KeepsHeard, IsQuiet, Goes}, Network.{handed, closed, heard}, Rows.{Proxy}}
+use Rattle.hc_proxy.proofs.{HeardAll.{HearsTo, hears_begin, hears_next, hears_may, hears_count, hears_end, news_among}, Marked.{sorted_ascends}, SkippedSteps.{among, Ascends, not_below}}
 
 -- THE LIST AT AN INDEX
 

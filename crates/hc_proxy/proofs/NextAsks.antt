@@ -1,19 +1,10 @@
 -- What stands next of a client is a request, an error, or nothing yet: of requests no other part is told. And who is ready to be read.
-use Rattle.std.proofs.Common.{◌≡◌, ℕ, List, [], ◌∷◌, ◌++◌, Bool, true, false, Option, Some, None, refl, length}
-use Rattle.std.specs.Prelude.{◌&&◌, not, nat_lt, is_none, if◌then◌else◌}
-use Rattle.hc_head.specs.Decoding.{asked_in}
-use Rattle.hc_head.specs.Requests.{Asked, Grants, Denies}
-use Rattle.hc_head.specs.Scans.{scan_byte, is_open}
-use Rattle.hc_head.specs.Starts.{begins_request}
+use Rattle.std.{proofs.Common.{◌≡◌, ℕ, List, [], ◌∷◌, ◌++◌, Bool, true, false, Option, Some, None, refl, length}, specs.Prelude.{◌&&◌, not, nat_lt, is_none, if◌then◌else◌}}
+use Rattle.hc_head.specs.{Decoding.{asked_in}, Requests.{Asked, Grants, Denies}, Scans.{scan_byte, is_open}, Starts.{begins_request}, declared.scan.Scan.{Scan}}
 use Rattle.hc_head.specs.declared.message.MsgError.TheVariants as error
-use Rattle.hc_head.specs.declared.scan.Scan.{Scan}
-use Rattle.hc_msg.specs.Inputs.{Next, Waits, Tells, Fails, step_of, told_or, next_in}
-use Rattle.hc_msg.specs.Reading.{Reading, Heading, Requests, Failed, Token, Asks, Answers, Byte, Step, Move, Goes, EndsHead, quiet, fails, after_asked, head_move, move_of}
+use Rattle.hc_msg.specs.{Inputs.{Next, Waits, Tells, Fails, step_of, told_or, next_in}, Reading.{Reading, Heading, Requests, Failed, Token, Asks, Answers, Byte, Step, Move, Goes, EndsHead, quiet, fails, after_asked, head_move, move_of}}
 use Rattle.hc_wire.specs.Logs.{Called}
-use Rattle.hc_proxy.specs.Connections.{has_unsent}
-use Rattle.hc_proxy.specs.Invariants.{IsOfRequests}
-use Rattle.hc_proxy.specs.Rows.{Client}
-use Rattle.hc_proxy.specs.Starts.{is_ready}
+use Rattle.hc_proxy.specs.{Connections.{has_unsent}, Invariants.{IsOfRequests}, Rows.{Client}, Starts.{is_ready}}
 
 -- within the head of a request
 abbrev pub IsHead : Reading → Type 0

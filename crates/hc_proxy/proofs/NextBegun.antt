@@ -1,15 +1,9 @@
 -- What stands next where a head is still read: no body and no end. So whoever reads behind a head was told that.
-use Rattle.std.proofs.Common.{◌≡◌, ℕ, ◌++◌, List, [], ◌∷◌, length, Bool, true, false, refl, sym, ◌∙◌, subst}
-use Rattle.std.specs.Prelude.{nat_lt, not, if◌then◌else◌}
+use Rattle.std.{proofs.Common.{◌≡◌, ℕ, ◌++◌, List, [], ◌∷◌, length, Bool, true, false, refl, sym, ◌∙◌, subst}, specs.Prelude.{nat_lt, not, if◌then◌else◌}}
 use Rattle.hc_text.proofs.Basics.{true_false}
-use Rattle.hc_head.specs.Decoding.{asked_in, heard_in}
-use Rattle.hc_head.specs.Requests.{Asked, Grants, Denies}
-use Rattle.hc_head.specs.Responses.{Heard, Skips, Shows, Refuses}
-use Rattle.hc_head.specs.Scans.{scan_byte, is_open}
+use Rattle.hc_head.specs.{Decoding.{asked_in, heard_in}, Requests.{Asked, Grants, Denies}, Responses.{Heard, Skips, Shows, Refuses}, Scans.{scan_byte, is_open}, declared.scan.Scan.{Scan}}
 use Rattle.hc_head.specs.declared.message.MsgError.TheVariants as error
-use Rattle.hc_head.specs.declared.scan.Scan.{Scan}
-use Rattle.hc_msg.specs.Inputs.{Next, Waits, Tells, Brings, Ends, Fails, next_in, told_or, step_of}
-use Rattle.hc_msg.specs.Reading.{Kind, Requests, Responses, Reading, Heading, Counts, Runs, Sizing, Chunk, ChunkEnd, ChunkReturn, Trailing, Whole, Done, Failed, Token, Answers, Step, Goes, EndsHead, quiet, fails, after_asked, after_heard, begins_head, head_move, move_of}
+use Rattle.hc_msg.specs.{Inputs.{Next, Waits, Tells, Brings, Ends, Fails, next_in, told_or, step_of}, Reading.{Kind, Requests, Responses, Reading, Heading, Counts, Runs, Sizing, Chunk, ChunkEnd, ChunkReturn, Trailing, Whole, Done, Failed, Token, Answers, Step, Goes, EndsHead, quiet, fails, after_asked, after_heard, begins_head, head_move, move_of}}
 use Rattle.hc_proxy.specs.Headed.{is_begun}
 
 -- neither a body, nor an end, nor a wait behind a head

@@ -1,20 +1,11 @@
 -- What is told of bytes that came has a spelling: a request and a head are events of a schedule.
-use Rattle.std.proofs.Common.{◌≡◌, ◌≤◌, ◌<◌, ◌^◌, ℕ, true, List, [], ◌∷◌, refl, subst, arith}
-use Rattle.std.specs.Prelude.{nat_le, length}
-use Rattle.std.proofs.lemmas.Bool.Decides.{nat_tests}
-use Rattle.std.proofs.lemmas.List.Elements.{All-head}
+use Rattle.std.{proofs.{Common.{◌≡◌, ◌≤◌, ◌<◌, ◌^◌, ℕ, true, List, [], ◌∷◌, refl, subst, arith}, lemmas.{Bool.Decides.{nat_tests}, List.Elements.{All-head}}}, specs.Prelude.{nat_le, length}}
 use Rattle.hc_event.specs.declared.event.Event.TheVariants as event
 use Rattle.hc_effects.proofs.Vocabulary.{Request, Response}
 use Rattle.hc_head.specs.Spellings.{IsMethod, IsSpelledRequest, IsSpelledResponse}
-use Rattle.hc_msg.specs.Inputs.{Tells, next_in}
-use Rattle.hc_msg.specs.NextParts.{IsToldFirst, StandsNext}
-use Rattle.hc_msg.specs.Reading.{Reading, Token}
-use Rattle.hc_msg.specs.Spelled.{IsSpelled}
-use Rattle.hc_msg.proofs.Leading.{tells_leads}
-use Rattle.hc_msg.proofs.NextParts.{stands_next}
-use Rattle.hc_msg.proofs.Spelled.{tokens_spelled}
-use Rattle.hc_sched.specs.FirstLines.{is_method}
-use Rattle.hc_sched.specs.Schedule.{IsEvent}
+use Rattle.hc_msg.specs.{Inputs.{Tells, next_in}, NextParts.{IsToldFirst, StandsNext}, Reading.{Reading, Token}, Spelled.{IsSpelled}}
+use Rattle.hc_msg.proofs.{Leading.{tells_leads}, NextParts.{stands_next}, Spelled.{tokens_spelled}}
+use Rattle.hc_sched.specs.{FirstLines.{is_method}, Schedule.{IsEvent}}
 
 -- what is told next has a spelling
 pub told_spelled : (most : ℕ) (s : Reading) (input : List ℕ) (token : Token) (t : Reading) (rest : List ℕ) → next_in most s input ≡ Tells token t rest → IsSpelled token

@@ -2,34 +2,15 @@
 --
 -- Who isn't touched lacks nothing and is read as it is to be. Each offer settles one more, and leaves all others as they were. So behind
 -- the last one nobody lacks anything but where the wire took less than it was offered. An offer that fails has sent some first part.
-use Rattle.std.proofs.Common.{◌≡◌, ◌⊎◌, inl, ℕ, ◌+◌, ◌<◌, List, [], ◌∷◌, Bool, true, false, Option, Some, None, refl, sym, ◌∙◌, subst, arith, length, drop, get_or, drop-cons, add-one}
-use Rattle.std.specs.Prelude.{nat_eq, nat_lt, ◌&&◌, ◌||◌, ◌==◌, not, cond}
-use Rattle.std.specs.List.{list_any}
-use Rattle.std.specs.BTreeMap.{is_at}
-use Rattle.std.specs.Ordering.{is_eq, nat_cmp}
-use Rattle.std.specs.declared.cmp.Ordering.TheVariants.{Less, Equal, Greater}
-use Rattle.std.proofs.lemmas.Bool.Decides.{nat_tests}
-use Rattle.std.proofs.lemmas.List.{nil_from_length}
+use Rattle.std.{proofs.{Common.{◌≡◌, ◌⊎◌, inl, ℕ, ◌+◌, ◌<◌, List, [], ◌∷◌, Bool, true, false, Option, Some, None, refl, sym, ◌∙◌, subst, arith, length, drop, get_or, drop-cons, add-one}, lemmas.{Bool.Decides.{nat_tests}, List.{nil_from_length}}}, specs.{Prelude.{nat_eq, nat_lt, ◌&&◌, ◌||◌, ◌==◌, not, cond}, List.{list_any}, BTreeMap.{is_at}, Ordering.{is_eq, nat_cmp}, declared.cmp.Ordering.TheVariants.{Less, Equal, Greater}}}
 use Rattle.hc_effects.proofs.Vocabulary.{is_wanted}
-use Rattle.hc_wire.specs.Events.{Stage}
-use Rattle.hc_wire.specs.Logs.{Log}
-use Rattle.hc_peers.specs.Agreement.{settled_at}
-use Rattle.hc_peers.specs.Clients.{client_of, is_touched, touched_of}
-use Rattle.hc_peers.specs.Offering.{unsent_at, unsent_up, number_at, IsOffered, IsOfferedOrigin}
-use Rattle.hc_peers.specs.Offers.{OffersSome}
-use Rattle.hc_peers.specs.Peers.{is_idle, is_same}
+use Rattle.hc_wire.specs.{Events.{Stage}, Logs.{Log}}
+use Rattle.hc_peers.specs.{Agreement.{settled_at}, Clients.{client_of, is_touched, touched_of}, Offering.{unsent_at, unsent_up, number_at, IsOffered, IsOfferedOrigin}, Offers.{OffersSome}, Peers.{is_idle, is_same}, Upstreams.{upstream_of, is_news, lacks_at, Marks}, declared.{clients.Clients.{Clients}, upstreams.Upstreams.{Upstreams}}}
 use Rattle.hc_peers.specs.Upstreams as upstreams
-use Rattle.hc_peers.specs.Upstreams.{upstream_of, is_news, lacks_at, Marks}
 use Rattle.hc_peers.specs.declared.client.Client as peer
-use Rattle.hc_peers.specs.declared.clients.Clients.{Clients}
 use Rattle.hc_peers.specs.declared.upstream.Upstream as origin
-use Rattle.hc_peers.specs.declared.upstreams.Upstreams.{Upstreams}
-use Rattle.hc_proxy.specs.Logging.{Follows}
-use Rattle.hc_proxy.specs.Rows.{Proxy}
-use Rattle.hc_proxy.specs.TurnSteps.{SentSome}
-use Rattle.hc_proxy.specs.Unsent.{HasConnections, IsSentAt, AreSent, IsSentOriginAt, Sends, SendsToClients, SendsToOrigins}
-use Rattle.hc_proxy.proofs.OfferedClients.{client_goes, client_fails, sends_none}
-use Rattle.hc_proxy.proofs.OfferedOrigins.{origin_goes, origin_fails}
+use Rattle.hc_proxy.specs.{Logging.{Follows}, Rows.{Proxy}, TurnSteps.{SentSome}, Unsent.{HasConnections, IsSentAt, AreSent, IsSentOriginAt, Sends, SendsToClients, SendsToOrigins}}
+use Rattle.hc_proxy.proofs.{OfferedClients.{client_goes, client_fails, sends_none}, OfferedOrigins.{origin_goes, origin_fails}}
 
 -- WHO IS LEFT
 

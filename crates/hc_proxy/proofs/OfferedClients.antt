@@ -2,34 +2,15 @@
 --
 -- What it takes are the first of the bytes that it lacks, so the rest is what is owed and wasn't taken. Where it is to be closed and has
 -- taken all it leaves the table, else the wire is told whether it is read. No other connection has its number, so all others stay.
-use Rattle.std.proofs.Common.{◌≡◌, ◌⊎◌, inl, inr, ℕ, zero, suc, ◌+◌, ◌-◌, ◌≤◌, List, [], ◌∷◌, Bool, true, false, Option, Some, None, refl, ap, sym, ◌∙◌, subst, arith, length, take, drop, length-append, length-drop}
-use Rattle.std.specs.Prelude.{nat_eq, nat_lt, ◌&&◌, ◌==◌, find, IsSome}
-use Rattle.std.proofs.lemmas.Bool.Decides.{nat_tests}
-use Rattle.std.proofs.lemmas.List.{length-take-le, drop_all}
-use Rattle.std.proofs.Math.Seq.{drop-nil}
+use Rattle.std.{proofs.{Common.{◌≡◌, ◌⊎◌, inl, inr, ℕ, zero, suc, ◌+◌, ◌-◌, ◌≤◌, List, [], ◌∷◌, Bool, true, false, Option, Some, None, refl, ap, sym, ◌∙◌, subst, arith, length, take, drop, length-append, length-drop}, lemmas.{Bool.Decides.{nat_tests}, List.{length-take-le, drop_all}}, Math.Seq.{drop-nil}}, specs.Prelude.{nat_eq, nat_lt, ◌&&◌, ◌==◌, find, IsSome}}
 use Rattle.hc_text.proofs.Basics.{eq_itself as same_number, some_inj as some_is}
-use Rattle.hc_wire.specs.Events.{Stage, Open, Closed, with_stage, closed_of, reading_of, IsOpen}
-use Rattle.hc_wire.specs.Logs.{Log, Taker, is_numbered, is_at_end, stage_from, sent_from, stage_in, sent_in, with_sent, with_reading, with_closed}
-use Rattle.hc_peers.specs.Clients.{client_of, Becomes}
-use Rattle.hc_peers.specs.Offering.{reading_told, stage_told, sent_of, sent_more, log_behind, unsent_at, IsOfferedTo, IsOfferedAt, IsOffered}
-use Rattle.hc_peers.specs.Offers.{OffersSome}
-use Rattle.hc_peers.specs.Peers.{is_idle, is_over, is_same}
-use Rattle.hc_peers.specs.Upstreams.{upstream_of}
+use Rattle.hc_wire.specs.{Events.{Stage, Open, Closed, with_stage, closed_of, reading_of, IsOpen}, Logs.{Log, Taker, is_numbered, is_at_end, stage_from, sent_from, stage_in, sent_in, with_sent, with_reading, with_closed}}
+use Rattle.hc_peers.specs.{Clients.{client_of, Becomes}, Offering.{reading_told, stage_told, sent_of, sent_more, log_behind, unsent_at, IsOfferedTo, IsOfferedAt, IsOffered}, Offers.{OffersSome}, Peers.{is_idle, is_over, is_same}, Upstreams.{upstream_of}, declared.{clients.Clients.{Clients}, upstreams.Upstreams.{Upstreams}}}
 use Rattle.hc_peers.specs.declared.client.Client as peer
-use Rattle.hc_peers.specs.declared.clients.Clients.{Clients}
 use Rattle.hc_peers.specs.declared.upstream.Upstream as origin
-use Rattle.hc_peers.specs.declared.upstreams.Upstreams.{Upstreams}
 use Rattle.hc_peers.proofs.Rows.{same-itself}
-use Rattle.hc_proxy.specs.Connections.{exchange_of, connection_of}
-use Rattle.hc_proxy.specs.Keeping.{IsClient, IsUpstream, IsUpstreamAt}
-use Rattle.hc_proxy.specs.Invariants.{NamesOne}
-use Rattle.hc_proxy.specs.Logging.{Follows, short_from, is_short}
-use Rattle.hc_proxy.specs.Rows.{Client, Upstream, Proxy}
-use Rattle.hc_proxy.specs.TurnSteps.{SentSome}
-use Rattle.hc_proxy.specs.Unsent.{taken_in, IsKnownAt, HasConnections, IsSentAt, Sends}
-use Rattle.hc_proxy.proofs.Followed.{follows_sent, follows_closed, follows_reading}
-use Rattle.hc_proxy.proofs.Taken.{MovesAt, client_front, moves_sent, moves_closed, moves_reading, none_front, some_sent}
-use Rattle.hc_proxy.proofs.Closings.{told_on}
+use Rattle.hc_proxy.specs.{Connections.{exchange_of, connection_of}, Keeping.{IsClient, IsUpstream, IsUpstreamAt}, Invariants.{NamesOne}, Logging.{Follows, short_from, is_short}, Rows.{Client, Upstream, Proxy}, TurnSteps.{SentSome}, Unsent.{taken_in, IsKnownAt, HasConnections, IsSentAt, Sends}}
+use Rattle.hc_proxy.proofs.{Followed.{follows_sent, follows_closed, follows_reading}, Taken.{MovesAt, client_front, moves_sent, moves_closed, moves_reading, none_front, some_sent}, Closings.{told_on}}
 
 pub none_some : {A : Type 0} {X : Type 0} (v : A) → None ≡ Some v → X
 none_some v is = absurd (let never : None ≡ Some v = is in cc)

@@ -2,37 +2,16 @@
 --
 -- What it takes are the first of the bytes that it lacks, so the rest is what is owed and wasn't taken. Then the wire is told to read
 -- it while its exchange is wanted. Each exchange has a connection of its own, and no client has that number, so all others stay.
-use Rattle.std.proofs.Common.{◌≡◌, ◌⊎◌, inl, inr, ℕ, ◌+◌, ◌-◌, ◌≤◌, List, [], Bool, true, false, Option, Some, None, refl, ap, sym, ◌∙◌, subst, arith, length, take, drop, length-append, length-drop}
-use Rattle.std.specs.Prelude.{nat_eq, nat_lt, ◌&&◌, ◌==◌, not, IsSome}
-use Rattle.std.proofs.lemmas.Bool.Decides.{nat_tests}
-use Rattle.std.proofs.lemmas.List.{length-take-le, drop_all, nil_from_length}
-use Rattle.std.proofs.Math.Seq.{drop-nil}
+use Rattle.std.{proofs.{Common.{◌≡◌, ◌⊎◌, inl, inr, ℕ, ◌+◌, ◌-◌, ◌≤◌, List, [], Bool, true, false, Option, Some, None, refl, ap, sym, ◌∙◌, subst, arith, length, take, drop, length-append, length-drop}, lemmas.{Bool.Decides.{nat_tests}, List.{length-take-le, drop_all, nil_from_length}}, Math.Seq.{drop-nil}}, specs.Prelude.{nat_eq, nat_lt, ◌&&◌, ◌==◌, not, IsSome}}
 use Rattle.hc_text.proofs.Basics.{eq_itself as same_number, some_inj as some_is}
 use Rattle.hc_effects.proofs.Vocabulary.{is_open, is_wanted}
-use Rattle.hc_wire.specs.Events.{Stage, Open, with_stage, reading_of, IsOpen}
-use Rattle.hc_wire.specs.Logs.{Log, stage_in, sent_in, with_sent, with_reading}
-use Rattle.hc_peers.specs.Clients.{client_of}
-use Rattle.hc_peers.specs.Offering.{reading_told, sent_of, unsent_up, number_at, IsOfferedUp, IsOfferedUpAt, IsOfferedOrigin}
-use Rattle.hc_peers.specs.Offers.{OffersSome}
-use Rattle.hc_peers.specs.Peers.{is_same}
-use Rattle.hc_peers.specs.Upstreams.{upstream_of, is_news, is_touched, lacks_at, Becomes, Marks}
+use Rattle.hc_wire.specs.{Events.{Stage, Open, with_stage, reading_of, IsOpen}, Logs.{Log, stage_in, sent_in, with_sent, with_reading}}
+use Rattle.hc_peers.specs.{Clients.{client_of}, Offering.{reading_told, sent_of, unsent_up, number_at, IsOfferedUp, IsOfferedUpAt, IsOfferedOrigin}, Offers.{OffersSome}, Peers.{is_same}, Upstreams.{upstream_of, is_news, is_touched, lacks_at, Becomes, Marks}, declared.{clients.Clients.{Clients}, upstreams.Upstreams.{Upstreams}}}
 use Rattle.hc_peers.specs.declared.client.Client as peer
-use Rattle.hc_peers.specs.declared.clients.Clients.{Clients}
 use Rattle.hc_peers.specs.declared.upstream.Upstream as origin
-use Rattle.hc_peers.specs.declared.upstreams.Upstreams.{Upstreams}
 use Rattle.hc_peers.proofs.Rows.{same-itself}
-use Rattle.hc_proxy.specs.Connections.{exchange_of, connection_of}
-use Rattle.hc_proxy.specs.Invariants.{NamesOne}
-use Rattle.hc_proxy.specs.Keeping.{IsUpstream, IsUpstreamAt}
-use Rattle.hc_proxy.specs.Logging.{Follows, is_short}
-use Rattle.hc_proxy.specs.Resting.{IsRestingUpstream}
-use Rattle.hc_proxy.specs.Rows.{Client, Upstream, Proxy}
-use Rattle.hc_proxy.specs.TurnSteps.{SentSome}
-use Rattle.hc_proxy.specs.Unsent.{taken_in, IsKnownAt, HasConnections, IsSentAt, AreSent, IsSentOriginAt, Sends}
-use Rattle.hc_proxy.proofs.Followed.{follows_sent, follows_reading}
-use Rattle.hc_proxy.proofs.Taken.{MovesAt, origin_front, moves_sent, moves_reading, none_front, some_sent}
-use Rattle.hc_proxy.proofs.OfferedClients.{drop_more, was_same, known_same, sent_same, upstream_same, taken_off, stage_off, short_off, none_some, sends_none}
-use Rattle.hc_proxy.proofs.Closings.{told_on}
+use Rattle.hc_proxy.specs.{Connections.{exchange_of, connection_of}, Invariants.{NamesOne}, Keeping.{IsUpstream, IsUpstreamAt}, Logging.{Follows, is_short}, Resting.{IsRestingUpstream}, Rows.{Client, Upstream, Proxy}, TurnSteps.{SentSome}, Unsent.{taken_in, IsKnownAt, HasConnections, IsSentAt, AreSent, IsSentOriginAt, Sends}}
+use Rattle.hc_proxy.proofs.{Followed.{follows_sent, follows_reading}, Taken.{MovesAt, origin_front, moves_sent, moves_reading, none_front, some_sent}, OfferedClients.{drop_more, was_same, known_same, sent_same, upstream_same, taken_off, stage_off, short_off, none_some, sends_none}, Closings.{told_on}}
 
 -- nobody is known of whom the tables tell nothing
 known_none : (log log' : Log) (j : ℕ) (o : Option peer.Client) → IsKnownAt log j o None → IsKnownAt log' j o None

@@ -3,18 +3,12 @@
 -- Behind each byte the reading stands within a head, a body, a chunk line, a chunk, a trailer section, at the end of the message or at an
 -- error, by the cases of where it stood before. At the end of a message no byte is read. So where it doesn't stand behind a told end
 -- before some bytes, it doesn't behind them.
-use Rattle.std.proofs.Common.{◌≡◌, ℕ, ◌+◌, ◌-◌, ◌++◌, List, [], ◌∷◌, length, Bool, true, false, Option, Some, None, refl, ap, sym, ◌∙◌}
-use Rattle.std.specs.Prelude.{◌==◌, not, nat_lt, nat_le, if◌then◌else◌}
-use Rattle.hc_head.specs.Requests.{Asked, Grants, Denies}
-use Rattle.hc_head.specs.Responses.{Heard, Skips, Shows, Refuses}
-use Rattle.hc_head.specs.Scans.{scan_byte, is_open}
-use Rattle.hc_head.specs.declared.framing.Framing.{Framing}
+use Rattle.std.{proofs.Common.{◌≡◌, ℕ, ◌+◌, ◌-◌, ◌++◌, List, [], ◌∷◌, length, Bool, true, false, Option, Some, None, refl, ap, sym, ◌∙◌}, specs.Prelude.{◌==◌, not, nat_lt, nat_le, if◌then◌else◌}}
+use Rattle.hc_head.specs.{Requests.{Asked, Grants, Denies}, Responses.{Heard, Skips, Shows, Refuses}, Scans.{scan_byte, is_open}, declared.framing.Framing.{Framing}}
 use Rattle.hc_head.specs.declared.framing.Framing.TheVariants as framing
 use Rattle.hc_head.specs.declared.message.MsgError.TheVariants as error
-use Rattle.hc_msg.specs.Chunks.{trailer_place, trail_on, trail}
-use Rattle.hc_msg.specs.declared.trailer.Trailer.{Trailer}
+use Rattle.hc_msg.specs.{Chunks.{trailer_place, trail_on, trail}, declared.trailer.Trailer.{Trailer}, Reading.{Requests, Responses, Reading, Heading, Counts, Runs, Sizing, Chunk, ChunkEnd, ChunkReturn, Trailing, Whole, Done, Failed, Token, Step, Move, Goes, EndsHead, EndsLine, Stays, quiet, fails, counts, chunk, body, after_asked, after_heard, after_line, after_trail, begins_head, move_of, Makes, Leads}}
 use Rattle.hc_msg.specs.declared.trailer.Trailer.TheVariants as trailer
-use Rattle.hc_msg.specs.Reading.{Requests, Responses, Reading, Heading, Counts, Runs, Sizing, Chunk, ChunkEnd, ChunkReturn, Trailing, Whole, Done, Failed, Token, Step, Move, Goes, EndsHead, EndsLine, Stays, quiet, fails, counts, chunk, body, after_asked, after_heard, after_line, after_trail, begins_head, move_of, Makes, Leads}
 
 abbrev is_done : Reading → Bool
 is_done Done = true

@@ -3,24 +3,15 @@
 -- An accepted poll opens the next exchange or none, and no other event opens any. So each act of a turn that opens
 -- opens one that is new in this turn, and counted behind it. A row of a connection to the origin is one of an
 -- exchange that was opened. So no such row is replaced, and what it is owed stays as it was.
-use Rattle.std.proofs.Common.{◌≡◌, ◌≤◌, ◌<◌, ℕ, ◌+◌, Bool, true, false, List, [], ◌∷◌, ◌++◌, Option, Some, None, refl, ap, sym, ◌∙◌, subst, arith}
-use Rattle.std.proofs.lemmas.Bool.Decides.{nat_tests}
-use Rattle.std.specs.Prelude.{nat_eq, if◌then◌else◌, map, option_map}
+use Rattle.std.{proofs.{Common.{◌≡◌, ◌≤◌, ◌<◌, ℕ, ◌+◌, Bool, true, false, List, [], ◌∷◌, ◌++◌, Option, Some, None, refl, ap, sym, ◌∙◌, subst, arith}, lemmas.Bool.Decides.{nat_tests}}, specs.Prelude.{nat_eq, if◌then◌else◌, map, option_map}}
 use Rattle.hc_effects.proofs.Vocabulary.{Opening, opening_in, is_denied, Act, Need, Event, Request, Limits, accepted_acts, answer_acts, poll_acts, loss_acts, close_acts, closing, Entry, Flaw, NoFlaw, Loses, Misreads, flaw_in, Move, Nothing, Asks, Opens, Shows, Gives, Ends, Fails, acts_of, poll_move, Tables, IsOwed, owed, Sound, after, opened_after, evicted}
 use Rattle.hc_event.specs.declared.act.Act.TheVariants as act
 use Rattle.hc_event.specs.declared.event.Event.TheVariants as event
 use Rattle.hc_model.specs.Moves as moves
-use Rattle.hc_effects.proofs.NumbersKeep.{opens_next}
-use Rattle.hc_effects.proofs.Owed.{goes, acts_are, is_denial, IsDenied, denied}
+use Rattle.hc_effects.proofs.{NumbersKeep.{opens_next}, Owed.{goes, acts_are, is_denial, IsDenied, denied}}
 use Rattle.hc_wire.specs.Logs.{Called}
-use Rattle.hc_proxy.specs.Carrying.{acts_in, carried}
-use Rattle.hc_proxy.specs.Handling.{begun}
-use Rattle.hc_proxy.specs.Rows.{Upstream, Proxy, unused}
-use Rattle.hc_proxy.specs.Steps.{with_entry, stepped}
-use Rattle.hc_proxy.specs.Turns.{so_far, happened, turned, turned_by}
-use Rattle.hc_proxy.proofs.Later.{OriginStays, carried_is_same, both_origins, origin_stays}
-use Rattle.hc_proxy.proofs.Stands.{Stands, stands_on, begins_turn, is_sound, owed_here, goes_on, turn_goes, unused_stands}
-use Rattle.hc_proxy.proofs.Turning.{IsKept, IsCarried, OpenOnly, happened_keeps, carried_keeps}
+use Rattle.hc_proxy.specs.{Carrying.{acts_in, carried}, Handling.{begun}, Rows.{Upstream, Proxy, unused}, Steps.{with_entry, stepped}, Turns.{so_far, happened, turned, turned_by}}
+use Rattle.hc_proxy.proofs.{Later.{OriginStays, carried_is_same, both_origins, origin_stays}, Stands.{Stands, stands_on, begins_turn, is_sound, owed_here, goes_on, turn_goes, unused_stands}, Turning.{IsKept, IsCarried, OpenOnly, happened_keeps, carried_keeps}}
 
 -- LISTS OF ACTS
 

@@ -1,19 +1,14 @@
 -- The acts of a turn open exchanges one after another: those behind the last one before it, up to the last one that is counted.
 --
 -- An entry that is owed opens one exchange at most, the next, and counts it. So acts that open one after another are followed by such.
-use Rattle.std.proofs.Common.{◌≡◌, ◌≤◌, ℕ, ◌+◌, Bool, true, false, List, [], ◌∷◌, ◌++◌, Some, refl, sym, subst, arith}
-use Rattle.std.specs.Prelude.{map}
+use Rattle.std.{proofs.Common.{◌≡◌, ◌≤◌, ℕ, ◌+◌, Bool, true, false, List, [], ◌∷◌, ◌++◌, Some, refl, sym, subst, arith}, specs.Prelude.{map}}
 use Rattle.hc_effects.proofs.Vocabulary.{Opening, opening_in, is_denied, Act, Event, Limits, accepted_acts, answer_acts, poll_acts, loss_acts, close_acts, closing, Entry, Flaw, NoFlaw, Loses, Misreads, flaw_in, Move, Nothing, Asks, Opens, Shows, Gives, Ends, Fails, acts_of, poll_move, Tables, IsOwed, after, opened_after, evicted}
 use Rattle.hc_event.specs.declared.act.Act.TheVariants as act
 use Rattle.hc_event.specs.declared.event.Event.TheVariants as event
 use Rattle.hc_model.specs.Moves as moves
 use Rattle.hc_effects.proofs.Owed.{acts_are, is_denial, IsDenied, denied}
-use Rattle.hc_proxy.specs.Invariants.{OpensUp}
-use Rattle.hc_proxy.specs.Rows.{Proxy}
-use Rattle.hc_proxy.proofs.Openings.{open_both, evicts_open, closes_open, lost_open}
-use Rattle.hc_proxy.proofs.Stands.{Stands}
-use Rattle.hc_proxy.proofs.StepOn.{opens_behind}
-use Rattle.hc_proxy.proofs.Turning.{OpenOnly}
+use Rattle.hc_proxy.specs.{Invariants.{OpensUp}, Rows.{Proxy}}
+use Rattle.hc_proxy.proofs.{Openings.{open_both, evicts_open, closes_open, lost_open}, Stands.{Stands}, StepOn.{opens_behind}, Turning.{OpenOnly}}
 
 -- LISTS OF ACTS
 

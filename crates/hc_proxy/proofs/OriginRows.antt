@@ -2,25 +2,17 @@
 --
 -- Where both rows are changed alike, what is kept stays kept. The exchange keeps its connection, so the numbers stay, and the wire reads
 -- on as it was told. No more bytes are unread than there is room for. Its answer is read behind its head only where it has that.
-use Rattle.std.proofs.Common.{◌≡◌, ◌⊎◌, inl, inr, ◌≤◌, ◌<◌, ℕ, ◌+◌, length, true, false, Option, Some, None, refl, ap, sym, ◌∙◌, subst}
-use Rattle.std.specs.Prelude.{nat_eq, option_map, IsSome, Contains}
+use Rattle.std.{proofs.Common.{◌≡◌, ◌⊎◌, inl, inr, ◌≤◌, ◌<◌, ℕ, ◌+◌, length, true, false, Option, Some, None, refl, ap, sym, ◌∙◌, subst}, specs.Prelude.{nat_eq, option_map, IsSome, Contains}}
 use Rattle.hc_text.proofs.Basics.{none_some, eq_itself as same_number, some_inj}
 use Rattle.hc_core.specs.Steps.{bytes_received}
 use Rattle.hc_effects.proofs.Vocabulary.{is_open, is_wanted}
 use Rattle.hc_effects.proofs.PieceKeeps.{eq_cases}
-use Rattle.hc_peers.specs.Clients.{client_of}
-use Rattle.hc_peers.specs.Upstreams.{upstream_of, is_news, is_touched, Becomes}
+use Rattle.hc_peers.specs.{Clients.{client_of}, Upstreams.{upstream_of, is_news, is_touched, Becomes}, declared.upstreams.Upstreams.{Upstreams}}
 use Rattle.hc_peers.specs.declared.upstream.Upstream as origin
-use Rattle.hc_peers.specs.declared.upstreams.Upstreams.{Upstreams}
 use Rattle.hc_store.specs.declared.backend.Backend.{Ghosts}
 use Rattle.hc_wire.specs.Events.{Open}
 use Rattle.hc_proxy.specs.declared.proxy.Proxy as loop
-use Rattle.hc_proxy.specs.Carrying.{acts_in}
-use Rattle.hc_proxy.specs.Connections.{taken_at}
-use Rattle.hc_proxy.specs.Headed.{IsReadAs, AreHeaded}
-use Rattle.hc_proxy.specs.Invariants.{IsHolder, is_due_by, unread}
-use Rattle.hc_proxy.specs.Keeping.{Turn, HasCache, HasUpstreamsBut, IsUpstream, IsUpstreamAt, AtWire, KeepsBut}
-use Rattle.hc_proxy.specs.Rows.{Upstream, Proxy, with_upstream}
+use Rattle.hc_proxy.specs.{Carrying.{acts_in}, Connections.{taken_at}, Headed.{IsReadAs, AreHeaded}, Invariants.{IsHolder, is_due_by, unread}, Keeping.{Turn, HasCache, HasUpstreamsBut, IsUpstream, IsUpstreamAt, AtWire, KeepsBut}, Rows.{Upstream, Proxy, with_upstream}}
 use Rattle.hc_proxy.proofs.Alike.{cache_moves, cache_rows}
 
 -- a row that is kept has one in the definitions

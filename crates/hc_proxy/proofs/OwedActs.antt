@@ -4,22 +4,13 @@
 -- stays. Else each that is sent to it goes to its last consumer, whose answer goes on by the rendering of the act; the error answer
 -- isn't there yet. The row says how far that answer is, so it renders the act as the whole answer does. Only a last act ends the wait,
 -- and who is told that is over: so a consumer that is live behind all of them is still waited for.
-use Rattle.std.proofs.Common.{◌≡◌, ◌⊎◌, inl, inr, ℕ, List, [], ◌∷◌, ◌++◌, Bool, true, false, Option, Some, None, refl, ap, sym, ◌∙◌, subst, arith, length, append_assoc, append-nil}
-use Rattle.std.specs.Prelude.{◌||◌, nat_eq, option_map, if◌then◌else◌}
-use Rattle.std.proofs.lemmas.Bool.Decides.{nat_tests}
+use Rattle.std.{proofs.{Common.{◌≡◌, ◌⊎◌, inl, inr, ℕ, List, [], ◌∷◌, ◌++◌, Bool, true, false, Option, Some, None, refl, ap, sym, ◌∙◌, subst, arith, length, append_assoc, append-nil}, lemmas.Bool.Decides.{nat_tests}}, specs.Prelude.{◌||◌, nat_eq, option_map, if◌then◌else◌}}
 use Rattle.hc_effects.proofs.Vocabulary.{leaves_in, Act, History}
 use Rattle.hc_event.specs.declared.act.Act.TheVariants as act
 use Rattle.hc_head.specs.declared.message.WireRequest.{WireRequest}
-use Rattle.hc_peers.specs.declared.reply.Reply.{Reply}
-use Rattle.hc_peers.specs.Renderings.{rendering, form_behind, is_last, closes, reply_to}
-use Rattle.hc_proxy.specs.Asked.{is_at}
-use Rattle.hc_proxy.specs.Carrying.{answered, carried_out, all_carried_out}
-use Rattle.hc_proxy.specs.Invariants.{addressee}
-use Rattle.hc_proxy.specs.Rendered.{is_answer_to, answer_to, rendered, answers_to, error_answer}
-use Rattle.hc_proxy.specs.Rows.{Client, Proxy}
-use Rattle.hc_proxy.proofs.CarriedOut.{sent_to, last_leaves, later_leaves}
-use Rattle.hc_proxy.proofs.FoundClients.{answered_clients, sent_clients, clients_are, holders_stay}
-use Rattle.hc_proxy.proofs.Owings.{reply_behind, AreSame, AreBelow, is_number, answers_whom, alone, all_alone, to_other, to_it, below_same, rendered_both, behind_both, answers_more, answers_same, Owes, owes_by}
+use Rattle.hc_peers.specs.{declared.reply.Reply.{Reply}, Renderings.{rendering, form_behind, is_last, closes, reply_to}}
+use Rattle.hc_proxy.specs.{Asked.{is_at}, Carrying.{answered, carried_out, all_carried_out}, Invariants.{addressee}, Rendered.{is_answer_to, answer_to, rendered, answers_to, error_answer}, Rows.{Client, Proxy}}
+use Rattle.hc_proxy.proofs.{CarriedOut.{sent_to, last_leaves, later_leaves}, FoundClients.{answered_clients, sent_clients, clients_are, holders_stay}, Owings.{reply_behind, AreSame, AreBelow, is_number, answers_whom, alone, all_alone, to_other, to_it, below_same, rendered_both, behind_both, answers_more, answers_same, Owes, owes_by}}
 
 pub sent_is : (a : Act) → sent_to a ≡ addressee a
 sent_is (act.Shown c r why status fields lo hi) = refl

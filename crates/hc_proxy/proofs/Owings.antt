@@ -4,22 +4,15 @@
 -- `reply` says. An act to another consumer changes no answer of this client. One to its last consumer puts its
 -- rendering behind the last answer. A request that is asked next has an empty answer at first, since nothing was told to a consumer
 -- that has not started. Each act is taken as an entry of its own, behind the history before the turn.
-use Rattle.std.proofs.Common.{◌≡◌, ◌⊎◌, inl, inr, ◌<◌, ℕ, suc, List, [], ◌∷◌, ◌++◌, Bool, true, false, Option, Some, None, refl, ap, sym, ◌∙◌, subst, arith, length, append_assoc, append-nil}
-use Rattle.std.specs.Prelude.{nat_eq, filter, if◌then◌else◌}
-use Rattle.std.proofs.lemmas.Bool.Decides.{nat_tests}
+use Rattle.std.{proofs.{Common.{◌≡◌, ◌⊎◌, inl, inr, ◌<◌, ℕ, suc, List, [], ◌∷◌, ◌++◌, Bool, true, false, Option, Some, None, refl, ap, sym, ◌∙◌, subst, arith, length, append_assoc, append-nil}, lemmas.Bool.Decides.{nat_tests}}, specs.Prelude.{nat_eq, filter, if◌then◌else◌}}
 use Rattle.hc_text.proofs.Basics.{eq_itself as itself}
 use Rattle.hc_effects.proofs.Vocabulary.{Act, Entry, History}
 use Rattle.hc_event.specs.declared.act.Act.TheVariants as act
 use Rattle.hc_event.specs.declared.event.Event.TheVariants as event
-use Rattle.hc_head.specs.declared.message.MsgError.{MsgError}
-use Rattle.hc_head.specs.declared.message.WireRequest.{WireRequest}
+use Rattle.hc_head.specs.declared.message.{MsgError.{MsgError}, WireRequest.{WireRequest}}
 use Rattle.hc_msg.specs.Reading.{Reading, Failed}
-use Rattle.hc_peers.specs.declared.reply.Reply.{Reply}
-use Rattle.hc_peers.specs.Renderings.{rendering, form_behind, reply_to, empty_answer, error_status}
-use Rattle.hc_proxy.specs.Invariants.{addressee}
-use Rattle.hc_proxy.specs.Rendered.{is_answer_to, answer_to, rendered, answers_to, error_answer}
-use Rattle.hc_proxy.specs.Rows.{Client, new_client}
-use Rattle.hc_proxy.specs.Starts.{read_to, asks, refused}
+use Rattle.hc_peers.specs.{declared.reply.Reply.{Reply}, Renderings.{rendering, form_behind, reply_to, empty_answer, error_status}}
+use Rattle.hc_proxy.specs.{Invariants.{addressee}, Rendered.{is_answer_to, answer_to, rendered, answers_to, error_answer}, Rows.{Client, new_client}, Starts.{read_to, asks, refused}}
 
 -- ONE ANSWER
 

@@ -1,14 +1,9 @@
 -- The entries of a turn stand first in the history, the newest first, and each is at the moment of the turn.
-use Rattle.std.proofs.Common.{◌≡◌, ℕ, List, [], ◌∷◌, ◌++◌, refl, ap, sym, ◌∙◌, subst}
-use Rattle.std.specs.Prelude.{max}
+use Rattle.std.{proofs.Common.{◌≡◌, ℕ, List, [], ◌∷◌, ◌++◌, refl, ap, sym, ◌∙◌, subst}, specs.Prelude.{max}}
 use Rattle.hc_effects.proofs.Vocabulary.{Event, Limits, Entry, History, owed}
 use Rattle.hc_wire.specs.Logs.{Called}
-use Rattle.hc_proxy.specs.Handling.{begun}
-use Rattle.hc_proxy.specs.Rows.{Proxy}
-use Rattle.hc_proxy.specs.Steps.{with_entry, stepped}
-use Rattle.hc_proxy.specs.Turns.{so_far, happened, turned}
-use Rattle.hc_proxy.proofs.Later.{carried_is_same}
-use Rattle.hc_proxy.proofs.Turning.{IsKept, happened_keeps}
+use Rattle.hc_proxy.specs.{Handling.{begun}, Rows.{Proxy}, Steps.{with_entry, stepped}, Turns.{so_far, happened, turned}}
+use Rattle.hc_proxy.proofs.{Later.{carried_is_same}, Turning.{IsKept, happened_keeps}}
 
 abbrev pub AllAt : ℕ → List Entry → Type 0
 AllAt now [] = Unit {0}

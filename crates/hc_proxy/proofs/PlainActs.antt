@@ -9,14 +9,8 @@ use Rattle.hc_effects.proofs.Vocabulary.{Opening, opening_in, closes_in, is_deni
 use Rattle.hc_event.specs.declared.act.Act.TheVariants as act
 use Rattle.hc_target.specs.Targets.{is_target}
 use Rattle.hc_effects.proofs.Owed.{acts_are, is_denial, IsDenied, denied, denied_opens}
-use Rattle.hc_proxy.specs.Invariants.{ArePlain}
-use Rattle.hc_proxy.specs.Rows.{Proxy}
-use Rattle.hc_proxy.proofs.ClosedActs.{closes_both}
-use Rattle.hc_proxy.proofs.OpenAfter.{Stops, stays_open}
-use Rattle.hc_proxy.proofs.OpensUp.{OpenNone, OpenOnce, accepted_once}
-use Rattle.hc_proxy.proofs.QuietActs.{AreQuiet}
-use Rattle.hc_proxy.proofs.Stands.{Stands, is_sound}
-use Rattle.hc_proxy.proofs.StepOn.{opens_behind}
+use Rattle.hc_proxy.specs.{Invariants.{ArePlain}, Rows.{Proxy}}
+use Rattle.hc_proxy.proofs.{ClosedActs.{closes_both}, OpenAfter.{Stops, stays_open}, OpensUp.{OpenNone, OpenOnce, accepted_once}, QuietActs.{AreQuiet}, Stands.{Stands, is_sound}, StepOn.{opens_behind}}
 
 -- LISTS OF ACTS
 

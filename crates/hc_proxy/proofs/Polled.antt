@@ -2,24 +2,15 @@
 --
 -- Polls are made in ascending order, over a store that may fail. Each adds its acts behind those before, and tells one consumer at
 -- most, its own (a law of the cache). So the acts that are sent to consumers stand in ascending order.
-use Rattle.std.proofs.Common.{◌≡◌, ◌⊎◌, inl, inr, ◌≤◌, ℕ, ◌+◌, List, [], ◌∷◌, ◌++◌, Bool, true, false, Option, Some, None, refl, ap, sym, ◌∙◌, subst, arith, append_assoc, append-nil}
-use Rattle.std.specs.Prelude.{is_some, nat_eq, ◌||◌, if◌then◌else◌}
-use Rattle.std.proofs.lemmas.Bool.Decides.{nat_tests}
+use Rattle.std.{proofs.{Common.{◌≡◌, ◌⊎◌, inl, inr, ◌≤◌, ℕ, ◌+◌, List, [], ◌∷◌, ◌++◌, Bool, true, false, Option, Some, None, refl, ap, sym, ◌∙◌, subst, arith, append_assoc, append-nil}, lemmas.Bool.Decides.{nat_tests}}, specs.Prelude.{is_some, nat_eq, ◌||◌, if◌then◌else◌}}
 use Rattle.hc_effects.proofs.Vocabulary.{is_denied, Act, Limits, Entry, no_contents, IsRun, IsOwed, tables, after, told_to, tellings, IsOneTo, TellsBy}
 use Rattle.hc_event.specs.declared.act.Act.TheVariants as act
 use Rattle.hc_event.specs.declared.event.Event.TheVariants as event
 use Rattle.hc_model.specs.Tellings as tells
 use Rattle.hc_wire.specs.Logs.{Called}
-use Rattle.hc_laws.proofs.Told.{told_in_runs}
-use Rattle.hc_proxy.specs.Carrying.{acts_in}
-use Rattle.hc_proxy.specs.Invariants.{addressee}
-use Rattle.hc_proxy.specs.Polls.{may_be_polled}
-use Rattle.hc_proxy.specs.Rows.{Proxy}
-use Rattle.hc_proxy.specs.Steps.{with_entry}
-use Rattle.hc_proxy.proofs.ServedActs.{IsTold, TellsUp, UpBy}
-use Rattle.hc_proxy.proofs.SkippedSteps.{Ascends, among}
-use Rattle.hc_laws.proofs.FromNothing.{begins_well}
-use Rattle.hc_proxy.proofs.Stands.{Stands, moment_by}
+use Rattle.hc_laws.proofs.{Told.{told_in_runs}, FromNothing.{begins_well}}
+use Rattle.hc_proxy.specs.{Carrying.{acts_in}, Invariants.{addressee}, Polls.{may_be_polled}, Rows.{Proxy}, Steps.{with_entry}}
+use Rattle.hc_proxy.proofs.{ServedActs.{IsTold, TellsUp, UpBy}, SkippedSteps.{Ascends, among}, Stands.{Stands, moment_by}}
 
 -- LISTS OF ACTS
 

@@ -3,51 +3,21 @@
 -- The code goes through those live consumers alone whose clients were sent all, in ascending order. Before the polls no act tells
 -- anybody that it is over: so these are the live ones of the tables. Each poll is one of the definitions', over a store that may
 -- fail. It changes no client: so who may be polled stays so. What the polls add tells each its own consumer.
-use Rattle.std.proofs.Common.{◌≡◌, inl, inr, ◌≤◌, ℕ, ◌+◌, Bool, true, false, List, [], ◌∷◌, ◌++◌, Option, Some, None, refl, ap, sym, ◌∙◌, subst, arith}
-use Rattle.std.specs.Prelude.{◌||◌, ◌&&◌, not, filter, is_some, length, Contains, IsSome, ◌↔◌, if◌then◌else◌}
+use Rattle.std.{proofs.{Common.{◌≡◌, inl, inr, ◌≤◌, ℕ, ◌+◌, Bool, true, false, List, [], ◌∷◌, ◌++◌, Option, Some, None, refl, ap, sym, ◌∙◌, subst, arith}, Math.{Bridge.{le_prop}, Logic.{∥∥₁_elim}}, lemmas.List.Kept.{IsStrictlySortedBy-filter}}, specs.{Prelude.{◌||◌, ◌&&◌, not, filter, is_some, length, Contains, IsSome, ◌↔◌, if◌then◌else◌}, List.{list_all, Sorted.{IsStrictlySortedBy}}, Ordering.{nat_cmp}}}
 use Rattle.std.specs.BTreeMap as tree
-use Rattle.std.specs.List.{list_all}
-use Rattle.std.specs.List.Sorted.{IsStrictlySortedBy}
-use Rattle.std.specs.Ordering.{nat_cmp}
-use Rattle.std.proofs.Math.Bridge.{le_prop}
-use Rattle.std.proofs.Math.Logic.{∥∥₁_elim}
-use Rattle.std.proofs.lemmas.List.Kept.{IsStrictlySortedBy-filter}
 use Rattle.hc_text.proofs.Basics.{filter_short}
 use Rattle.hc_core.specs.Steps.{faults_in, steps}
 use Rattle.hc_effects.proofs.Vocabulary.{Event, Limits, is_live, Entry, no_contents, owed, RequestsAreForTargets}
 use Rattle.hc_event.specs.declared.event.Event.TheVariants as event
-use Rattle.hc_laws.proofs.RunsWithinLimits.{requests_are_for_targets}
+use Rattle.hc_laws.proofs.{RunsWithinLimits.{requests_are_for_targets}, LiveAfter.{Starts}}
 use Rattle.hc_peers.specs.Clients.{client_of, consumers_of}
 use Rattle.hc_peers.specs.Clients as peers
 use Rattle.hc_store.specs.declared.backend.Backend.{Ghosts}
 use Rattle.hc_wire.specs.Logs.{Called}
 use Rattle.hc_proxy.specs.declared.proxy.Proxy as loop
-use Rattle.hc_proxy.specs.Carrying.{acts_in}
-use Rattle.hc_proxy.specs.Handling.{clients_here}
-use Rattle.hc_proxy.specs.Invariants.{HasConsumers, IsHolder, IsHeardOut, ArePlain}
-use Rattle.hc_proxy.specs.Keeping.{Frame, Turn, HasCache, HasMoved, Keeps, KeepsHeard, KeepsPolled, IsHeard, PolledBy, RestStays, Goes}
-use Rattle.hc_proxy.specs.Polls.{takes_more, may_be_polled, polled, each_polled, polled_all, live_consumers}
-use Rattle.hc_proxy.specs.Rows.{Client, Upstream, Proxy}
-use Rattle.hc_proxy.specs.Steps.{with_entry, stepped}
-use Rattle.hc_proxy.specs.Waiting.{is_poll, pends, is_waiting}
-use Rattle.hc_proxy.proofs.Ascending.{lives_ascend, lives_are}
-use Rattle.hc_proxy.proofs.Holders.{entry_keeps}
-use Rattle.hc_proxy.proofs.IdleClients.{IsUnpolled, polled_one, unpolled_skipped, polls_are_each}
-use Rattle.hc_proxy.proofs.KeepsOn.{keeps_on, heard_on}
-use Rattle.hc_laws.proofs.LiveAfter.{Starts}
-use Rattle.hc_proxy.proofs.Marked.{sorted_ascends, among_passes, passed_among, lives_among}
-use Rattle.hc_proxy.proofs.OpenAfter.{Stops}
-use Rattle.hc_proxy.proofs.PlainActs.{plain_behind, quiet_plain}
-use Rattle.hc_proxy.proofs.Polled.{IsPollOf, PollsBy, polls_add}
+use Rattle.hc_proxy.specs.{Carrying.{acts_in}, Handling.{clients_here}, Invariants.{HasConsumers, IsHolder, IsHeardOut, ArePlain}, Keeping.{Frame, Turn, HasCache, HasMoved, Keeps, KeepsHeard, KeepsPolled, IsHeard, PolledBy, RestStays, Goes}, Polls.{takes_more, may_be_polled, polled, each_polled, polled_all, live_consumers}, Rows.{Client, Upstream, Proxy}, Steps.{with_entry, stepped}, Waiting.{is_poll, pends, is_waiting}}
+use Rattle.hc_proxy.proofs.{Ascending.{lives_ascend, lives_are}, Holders.{entry_keeps}, IdleClients.{IsUnpolled, polled_one, unpolled_skipped, polls_are_each}, KeepsOn.{keeps_on, heard_on}, Marked.{sorted_ascends, among_passes, passed_among, lives_among}, OpenAfter.{Stops}, PlainActs.{plain_behind, quiet_plain}, Polled.{IsPollOf, PollsBy, polls_add}, QuietActs.{quiet_ends_none}, Rows.{holder_of, live_at, taking_is}, Served.{served_behind}, SkippedSteps.{among, Ascends, same_each}, StartsOn.{just_here, here_order}, StaysOver.{HasOver, are_over, over_keeps}, StepOn.{stands_of, law_of}, HandedOn.{quiet_up}}
 use Rattle.hc_proxy.proofs.Polled as by
-use Rattle.hc_proxy.proofs.QuietActs.{quiet_ends_none}
-use Rattle.hc_proxy.proofs.Rows.{holder_of, live_at, taking_is}
-use Rattle.hc_proxy.proofs.Served.{served_behind}
-use Rattle.hc_proxy.proofs.SkippedSteps.{among, Ascends, same_each}
-use Rattle.hc_proxy.proofs.StartsOn.{just_here, here_order}
-use Rattle.hc_proxy.proofs.StaysOver.{HasOver, are_over, over_keeps}
-use Rattle.hc_proxy.proofs.StepOn.{stands_of, law_of}
-use Rattle.hc_proxy.proofs.HandedOn.{quiet_up}
 
 -- POLLS, one more
 

@@ -3,29 +3,16 @@
 --
 -- What was taken at the call of the turn is what was taken by now of each connection that is open, since nothing was sent since then.
 -- Offers change the tables of connections and the log alone. Of an open connection the log and its standings say the same.
-use Rattle.std.proofs.Common.{◌≡◌, ◌⊎◌, inl, inr, ℕ, zero, suc, ◌-◌, ◌≤◌, ◌<◌, List, [], ◌∷◌, Bool, true, false, Option, Some, None, refl, ap, sym, ◌∙◌, subst, arith, length, drop, eqb}
-use Rattle.std.specs.Prelude.{nat_eq, map, filter, find, IsSome, Contains, if◌then◌else◌}
-use Rattle.std.proofs.lemmas.Bool.{cases_Bool}
+use Rattle.std.{proofs.{Common.{◌≡◌, ◌⊎◌, inl, inr, ℕ, zero, suc, ◌-◌, ◌≤◌, ◌<◌, List, [], ◌∷◌, Bool, true, false, Option, Some, None, refl, ap, sym, ◌∙◌, subst, arith, length, drop, eqb}, lemmas.Bool.{cases_Bool}}, specs.Prelude.{nat_eq, map, filter, find, IsSome, Contains, if◌then◌else◌}}
 use Rattle.hc_effects.proofs.Vocabulary.{is_open, is_wanted}
 use Rattle.hc_store.specs.declared.backend.Backend.{Ghosts}
-use Rattle.hc_wire.specs.Events.{Stage, Unseen, Open, Closed, IsOpen}
-use Rattle.hc_wire.specs.Logs.{Log, Taker, Called, stage_in, sent_in, standing_of, is_taking}
-use Rattle.hc_peers.specs.Clients.{client_of}
-use Rattle.hc_peers.specs.Upstreams.{upstream_of}
+use Rattle.hc_wire.specs.{Events.{Stage, Unseen, Open, Closed, IsOpen}, Logs.{Log, Taker, Called, stage_in, sent_in, standing_of, is_taking}}
+use Rattle.hc_peers.specs.{Clients.{client_of}, Upstreams.{upstream_of}}
 use Rattle.hc_peers.specs.declared.client.Client as peer
 use Rattle.hc_peers.specs.declared.upstream.Upstream as origin
 use Rattle.hc_proxy.specs.declared.proxy.Proxy as loop
-use Rattle.hc_proxy.specs.Connections.{exchange_of, connection_of, first_of, is_of, taken_by, taken_at}
-use Rattle.hc_proxy.specs.Invariants.{NamesOne}
-use Rattle.hc_proxy.specs.Keeping.{Frame, Turn, HasCache, HasUpstreams, IsClient, IsClientAt}
-use Rattle.hc_proxy.specs.Resting.{KeepsCarried, IsRestingAt, IsRestingUpstream, resting_call, Rests}
-use Rattle.hc_proxy.specs.Rows.{Client, Proxy}
-use Rattle.hc_proxy.specs.TurnSteps.{SentAll}
-use Rattle.hc_proxy.specs.Underway.{OnWire}
-use Rattle.hc_proxy.specs.Unsent.{taken_in, IsKnownAt, HasConnections, IsSentAt, IsSentOriginAt, SendsToClients, SendsToOrigins, OthersStay}
-use Rattle.hc_proxy.proofs.Alike.{cache_moves}
-use Rattle.hc_proxy.proofs.OfferedAll.{sends_both}
-use Rattle.hc_proxy.proofs.OfferedClients.{upstream_same, none_some}
+use Rattle.hc_proxy.specs.{Connections.{exchange_of, connection_of, first_of, is_of, taken_by, taken_at}, Invariants.{NamesOne}, Keeping.{Frame, Turn, HasCache, HasUpstreams, IsClient, IsClientAt}, Resting.{KeepsCarried, IsRestingAt, IsRestingUpstream, resting_call, Rests}, Rows.{Client, Proxy}, TurnSteps.{SentAll}, Underway.{OnWire}, Unsent.{taken_in, IsKnownAt, HasConnections, IsSentAt, IsSentOriginAt, SendsToClients, SendsToOrigins, OthersStay}}
+use Rattle.hc_proxy.proofs.{Alike.{cache_moves}, OfferedAll.{sends_both}, OfferedClients.{upstream_same, none_some}}
 
 none_in : (k : ℕ) (ks : List ℕ) → ks ≡ [] → Contains ks k → ⊥
 none_in k ks empty among = by_place (subst (λ (ns : List ℕ). Contains ns k) empty among)

@@ -1,19 +1,12 @@
 -- What rests between turns does so whatever list a step goes over; and whether the next turn waits.
-use Rattle.std.proofs.Common.{◌≡◌, ◌≤◌, [], Bool, true, false, refl, ap, sym, ◌∙◌, subst}
-use Rattle.std.specs.Prelude.{◌&&◌, not}
-use Rattle.std.specs.List.{list_all}
+use Rattle.std.{proofs.Common.{◌≡◌, ◌≤◌, [], Bool, true, false, refl, ap, sym, ◌∙◌, subst}, specs.{Prelude.{◌&&◌, not}, List.{list_all}}}
 use Rattle.hc_core.specs.Steps.{steps}
 use Rattle.hc_effects.proofs.Vocabulary.{act_list, Limits}
-use Rattle.hc_peers.specs.Clients.{client_of}
-use Rattle.hc_peers.specs.Upstreams.{upstream_of}
+use Rattle.hc_peers.specs.{Clients.{client_of}, Upstreams.{upstream_of}}
 use Rattle.hc_store.specs.declared.backend.Backend.{Ghosts}
 use Rattle.hc_wire.specs.Logs.{Log, stage_in}
 use Rattle.hc_proxy.specs.declared.proxy.Proxy as loop
-use Rattle.hc_proxy.specs.Hearing.{OnlyRound}
-use Rattle.hc_proxy.specs.Keeping.{Frame}
-use Rattle.hc_proxy.specs.Resting.{IsRestingAt, Rests, resting_call}
-use Rattle.hc_proxy.specs.Rows.{Proxy}
-use Rattle.hc_proxy.specs.Waiting.{is_waiting, hears_nothing, waits}
+use Rattle.hc_proxy.specs.{Hearing.{OnlyRound}, Keeping.{Frame}, Resting.{IsRestingAt, Rests, resting_call}, Rows.{Proxy}, Waiting.{is_waiting, hears_nothing, waits}}
 use Rattle.hc_proxy.proofs.Alike.{cache_moves, upstreams_move, wire_moves}
 
 module _ {B : Type 0} {g : Ghosts B} (f : Frame) (x x' : loop.Proxy B g) (p : Proxy) (log : Log) where

@@ -2,24 +2,17 @@
 --
 -- Where both rows are changed alike, what is kept stays kept: the others have theirs. A client that sends, or that leaves, keeps its
 -- place among those that were accepted, and no more are here than before. Of an exchange so many bytes more are unread at most.
-use Rattle.std.proofs.Common.{◌≡◌, ◌⊎◌, inl, inr, ◌≤◌, ℕ, List, [], ◌∷◌, length, Bool, true, false, Option, Some, None, refl, ap, sym, ◌∙◌, subst, arith}
-use Rattle.std.specs.Prelude.{nat_eq, filter, option_map, if◌then◌else◌, IsSome, Contains}
+use Rattle.std.{proofs.Common.{◌≡◌, ◌⊎◌, inl, inr, ◌≤◌, ℕ, List, [], ◌∷◌, length, Bool, true, false, Option, Some, None, refl, ap, sym, ◌∙◌, subst, arith}, specs.Prelude.{nat_eq, filter, option_map, if◌then◌else◌, IsSome, Contains}}
 use Rattle.hc_text.proofs.Basics.{none_some, eq_itself as same_number}
 use Rattle.hc_effects.proofs.PieceKeeps.{eq_cases}
-use Rattle.hc_peers.specs.Clients.{client_of}
+use Rattle.hc_peers.specs.{Clients.{client_of}, Upstreams.{upstream_of}, declared.clients.Clients.{Clients}}
 use Rattle.hc_peers.specs.Clients as clients
-use Rattle.hc_peers.specs.Upstreams.{upstream_of}
 use Rattle.hc_peers.specs.declared.client.Client as peer
-use Rattle.hc_peers.specs.declared.clients.Clients.{Clients}
 use Rattle.hc_peers.specs.declared.upstream.Upstream as origin
 use Rattle.hc_store.specs.declared.backend.Backend.{Ghosts}
 use Rattle.hc_wire.specs.Events.{Stage, Unseen, Open}
 use Rattle.hc_proxy.specs.declared.proxy.Proxy as loop
-use Rattle.hc_proxy.specs.Carrying.{acts_in}
-use Rattle.hc_proxy.specs.Connections.{exchange_of, taken_at}
-use Rattle.hc_proxy.specs.Handling.{is_client, clients_here}
-use Rattle.hc_proxy.specs.Keeping.{Turn, HasClients, HasUpstreams, IsClientAt, AtWire}
-use Rattle.hc_proxy.specs.Rows.{Client, Proxy, with_client}
+use Rattle.hc_proxy.specs.{Carrying.{acts_in}, Connections.{exchange_of, taken_at}, Handling.{is_client, clients_here}, Keeping.{Turn, HasClients, HasUpstreams, IsClientAt, AtWire}, Rows.{Client, Proxy, with_client}}
 
 -- no more pass a test that passes less
 pub fewer : (f h : ℕ → Bool) (xs : List ℕ) → ((n : ℕ) → h n ≡ true → f n ≡ true) → length (filter h xs) ≤ length (filter f xs)

@@ -2,27 +2,17 @@
 --
 -- A client has the same reader, input, consumer and reply in both, and is owed what is unsent behind what it took: so nothing is unsent
 -- exactly where it took all. The table of the live consumers names the client that waits for each.
-use Rattle.std.proofs.Common.{◌≡◌, ◌≤◌, ℕ, ◌-◌, Bool, true, false, List, Option, Some, None, refl, ap, sym, ◌∙◌, subst, arith}
-use Rattle.std.specs.Prelude.{◌&&◌, not, is_none, nat_eq, nat_lt, length, drop}
+use Rattle.std.{proofs.{Common.{◌≡◌, ◌≤◌, ℕ, ◌-◌, Bool, true, false, List, Option, Some, None, refl, ap, sym, ◌∙◌, subst, arith}, lemmas.{Bool.Decides.{nat_tests}, List.{length-drop}}}, specs.{Prelude.{◌&&◌, not, is_none, nat_eq, nat_lt, length, drop}, Ordering.{nat_cmp}}}
 use Rattle.std.specs.BTreeMap as tree
-use Rattle.std.specs.Ordering.{nat_cmp}
-use Rattle.std.proofs.lemmas.Bool.Decides.{nat_tests}
-use Rattle.std.proofs.lemmas.List.{length-drop}
 use Rattle.hc_text.proofs.Basics.{some_inj as some_is}
-use Rattle.hc_peers.specs.Agreement.{consumer_at}
-use Rattle.hc_peers.specs.Clients.{client_of, has_all, is_taking}
+use Rattle.hc_peers.specs.{Agreement.{consumer_at}, Clients.{client_of, has_all, is_taking}}
 use Rattle.hc_peers.specs.Clients as peers
 use Rattle.hc_peers.specs.Peers as peers_by
 use Rattle.hc_peers.specs.declared.client.Client as peer
 use Rattle.hc_store.specs.declared.backend.Backend.{Ghosts}
 use Rattle.hc_wire.specs.Logs.{Called}
 use Rattle.hc_proxy.specs.declared.proxy.Proxy as loop
-use Rattle.hc_proxy.specs.Connections.{taken_at}
-use Rattle.hc_proxy.specs.Invariants.{IsHolder}
-use Rattle.hc_proxy.specs.Keeping.{Turn, IsClient, IsClientAt, HasClients}
-use Rattle.hc_proxy.specs.Polls.{takes_more}
-use Rattle.hc_proxy.specs.Rows.{Client, Proxy}
-use Rattle.hc_proxy.specs.Starts.{is_ready}
+use Rattle.hc_proxy.specs.{Connections.{taken_at}, Invariants.{IsHolder}, Keeping.{Turn, IsClient, IsClientAt, HasClients}, Polls.{takes_more}, Rows.{Client, Proxy}, Starts.{is_ready}}
 
 -- ONE CLIENT
 

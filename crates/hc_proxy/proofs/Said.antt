@@ -3,32 +3,14 @@
 -- Each call fits the tables before it, so a test over all of its standings, clients or open exchanges holds of each one of them. The
 -- record: a turn adds its events to the history, so those of all turns are joined turn by turn. The dials: an entry opens the next
 -- exchange or none, so the number of the last exchange counts the Opened acts of the run.
-use Rattle.std.proofs.Common.{◌≡◌, ◌≤◌, ◌<◌, ℕ, zero, suc, ◌+◌, List, [], ◌∷◌, ◌++◌, Bool, true, false, Option, Some, None, refl, ap, sym, ◌∙◌, subst, arith}
-use Rattle.std.specs.Prelude.{◌&&◌, ◌||◌, nat_lt, not, length, take, map, reverse, find, Contains}
-use Rattle.std.specs.List.{list_all}
-use Rattle.std.proofs.lemmas.Bool.Decides.{nat_tests}
-use Rattle.std.proofs.lemmas.List.{take_all, map-append, reverse-append}
+use Rattle.std.{proofs.{Common.{◌≡◌, ◌≤◌, ◌<◌, ℕ, zero, suc, ◌+◌, List, [], ◌∷◌, ◌++◌, Bool, true, false, Option, Some, None, refl, ap, sym, ◌∙◌, subst, arith}, lemmas.{Bool.Decides.{nat_tests}, List.{take_all, map-append, reverse-append}}}, specs.{Prelude.{◌&&◌, ◌||◌, nat_lt, not, length, take, map, reverse, find, Contains}, List.{list_all}}}
 use Rattle.hc_text.proofs.Basics.{and_left, and_right, both_false as both_off, not_true as not_false}
 use Rattle.hc_effects.proofs.Vocabulary.{Act, Limits, History, no_contents, Tables, IsRun, tables, after}
 use Rattle.hc_event.specs.declared.act.Act.TheVariants as act
-use Rattle.hc_wire.specs.declared.connection.Standing.{Standing}
-use Rattle.hc_wire.specs.Logs.{Called, Log, Taker, is_at_end, is_numbered}
+use Rattle.hc_wire.specs.{declared.connection.Standing.{Standing}, Logs.{Called, Log, Taker, is_at_end, is_numbered}}
 use Rattle.hc_peers.specs.Peers.{is_same}
-use Rattle.hc_proxy.specs.Connections.{connection_of, has_unsent, stands}
-use Rattle.hc_proxy.specs.Invariants.{OpensUp}
-use Rattle.hc_proxy.specs.Listening.{is_read}
-use Rattle.hc_proxy.specs.Loops.{Fits, AllFit}
-use Rattle.hc_proxy.specs.Network.{open_exchanges}
-use Rattle.hc_proxy.specs.Rows.{Client, Proxy, unused}
-use Rattle.hc_proxy.specs.Sending.{owed_by, owed_to, is_sent, is_taken, client_is_sent, taker_of, exchange_is_sent}
-use Rattle.hc_proxy.specs.Sentences.{IsCallAsSaid, LogsAreAsSaid, EndsAreAsSaid, MayStand, whose_at, events_till, opened_in, opened_by}
-use Rattle.hc_proxy.specs.Standings.{Whose, OfClient, OfExchange, OfNobody, is_right, may_stand, client_stands, number_stands, exchange_stands}
-use Rattle.hc_proxy.specs.Turns.{so_far, turned, turned_by, behind_all, behind_calls, part_of, events_of, record_of, text_behind, timed_of}
-use Rattle.hc_proxy.proofs.Folds.{turned_more}
-use Rattle.hc_proxy.proofs.OfferedClients.{was_same}
-use Rattle.hc_proxy.proofs.OpensUp.{entry_opens}
-use Rattle.hc_proxy.proofs.Parts.{turn_part}
-use Rattle.hc_proxy.proofs.Stands.{Stands, loops_are_runs}
+use Rattle.hc_proxy.specs.{Connections.{connection_of, has_unsent, stands}, Invariants.{OpensUp}, Listening.{is_read}, Loops.{Fits, AllFit}, Network.{open_exchanges}, Rows.{Client, Proxy, unused}, Sending.{owed_by, owed_to, is_sent, is_taken, client_is_sent, taker_of, exchange_is_sent}, Sentences.{IsCallAsSaid, LogsAreAsSaid, EndsAreAsSaid, MayStand, whose_at, events_till, opened_in, opened_by}, Standings.{Whose, OfClient, OfExchange, OfNobody, is_right, may_stand, client_stands, number_stands, exchange_stands}, Turns.{so_far, turned, turned_by, behind_all, behind_calls, part_of, events_of, record_of, text_behind, timed_of}}
+use Rattle.hc_proxy.proofs.{Folds.{turned_more}, OfferedClients.{was_same}, OpensUp.{entry_opens}, Parts.{turn_part}, Stands.{Stands, loops_are_runs}}
 
 -- LISTS AND TESTS
 

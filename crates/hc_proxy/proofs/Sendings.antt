@@ -4,27 +4,16 @@
 -- Both are one client: the act finds a client that was served, and nobody else waits for its consumer. What that client has taken
 -- is a first part of what it was owed, so the bytes behind it are the same ones on both sides. All other clients stay, and so do
 -- the tables, the connections to the origin and the wire.
-use Rattle.std.proofs.Common.{◌≡◌, inl, inr, ℕ, ◌≤◌, List, [], ◌∷◌, ◌++◌, Bool, true, false, Option, Some, None, refl, ap, sym, ◌∙◌, subst, arith, length, length-append}
-use Rattle.std.specs.Prelude.{nat_eq, not, ◌||◌, option_map, IsSome, if◌then◌else◌}
-use Rattle.std.proofs.lemmas.Bool.Decides.{nat_tests}
-use Rattle.std.proofs.lemmas.List.{drop-append-le}
+use Rattle.std.{proofs.{Common.{◌≡◌, inl, inr, ℕ, ◌≤◌, List, [], ◌∷◌, ◌++◌, Bool, true, false, Option, Some, None, refl, ap, sym, ◌∙◌, subst, arith, length, length-append}, lemmas.{Bool.Decides.{nat_tests}, List.{drop-append-le}}}, specs.Prelude.{nat_eq, not, ◌||◌, option_map, IsSome, if◌then◌else◌}}
 use Rattle.hc_text.proofs.Basics.{filter_same, eq_itself as same_number, some_inj as some_is}
 use Rattle.hc_effects.proofs.Vocabulary.{Act}
 use Rattle.hc_store.specs.declared.backend.Backend.{Ghosts}
 use Rattle.hc_wire.specs.Events.{Open}
-use Rattle.hc_peers.specs.Clients.{client_of, answered_in, is_same_consumer}
+use Rattle.hc_peers.specs.{Clients.{client_of, answered_in, is_same_consumer}, Renderings.{rendering, form_behind, is_last, closes}, declared.{clients.Clients.{Clients}, reply.Reply.{Reply}}}
 use Rattle.hc_peers.specs.Peers as peers
-use Rattle.hc_peers.specs.Renderings.{rendering, form_behind, is_last, closes}
 use Rattle.hc_peers.specs.declared.client.Client as peer
-use Rattle.hc_peers.specs.declared.clients.Clients.{Clients}
-use Rattle.hc_peers.specs.declared.reply.Reply.{Reply}
 use Rattle.hc_proxy.specs.declared.proxy.Proxy as loop
-use Rattle.hc_proxy.specs.Carrying.{answered}
-use Rattle.hc_proxy.specs.Connections.{taken_at}
-use Rattle.hc_proxy.specs.Handling.{is_client}
-use Rattle.hc_proxy.specs.Invariants.{IsHolder}
-use Rattle.hc_proxy.specs.Keeping.{Turn, HasClients, HasUpstreams, AtWire, AreSeen, IsClient, IsClientAt}
-use Rattle.hc_proxy.specs.Rows.{Client, Proxy, with_client}
+use Rattle.hc_proxy.specs.{Carrying.{answered}, Connections.{taken_at}, Handling.{is_client}, Invariants.{IsHolder}, Keeping.{Turn, HasClients, HasUpstreams, AtWire, AreSeen, IsClient, IsClientAt}, Rows.{Client, Proxy, with_client}}
 
 pub both : {A C D : Type 0} (f : A → C → D) {a a' : A} {b b' : C} → a ≡ a' → b ≡ b' → f a b ≡ f a' b'
 both f {a} {a'} {b} {b'} one two = ap (λ x. f x b) one ∙ ap (λ y. f a' y) two

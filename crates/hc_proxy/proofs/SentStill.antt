@@ -3,36 +3,14 @@
 -- What is owed only grows, by appending. What stands before the last act or error answer is what stood there before the turn, or was taken
 -- at the call. Who was let go before stays as it is. Who is let go now was to be closed, and has taken all; and what it is owed stays as
 -- it is, since it is gone.
-use Rattle.std.proofs.Common.{◌≡◌, ◌⊎◌, inl, inr, ◌≤◌, ℕ, List, [], ◌∷◌, ◌++◌, Bool, true, false, Option, Some, None, refl, ap, sym, ◌∙◌, subst, arith}
-use Rattle.std.specs.Prelude.{◌&&◌, ◌||◌, not, nat_eq, nat_le, min, find, length, take, option_map, if◌then◌else◌}
-use Rattle.std.specs.List.{list_all}
-use Rattle.std.proofs.lemmas.Bool.Decides.{nat_tests}
-use Rattle.std.proofs.lemmas.List.{take-append-le, length-take}
-use Rattle.std.proofs.lemmas.Slice.Eq.{bytes_eq-Decides}
+use Rattle.std.{proofs.{Common.{◌≡◌, ◌⊎◌, inl, inr, ◌≤◌, ℕ, List, [], ◌∷◌, ◌++◌, Bool, true, false, Option, Some, None, refl, ap, sym, ◌∙◌, subst, arith}, lemmas.{Bool.Decides.{nat_tests}, List.{take-append-le, length-take}, Slice.Eq.{bytes_eq-Decides}}}, specs.{Prelude.{◌&&◌, ◌||◌, not, nat_eq, nat_le, min, find, length, take, option_map, if◌then◌else◌}, List.{list_all}}}
 use Rattle.hc_text.proofs.Basics.{all_three, both_of, some_inj as some_is}
 use Rattle.hc_effects.proofs.Vocabulary.{Limits}
-use Rattle.hc_wire.specs.Logs.{Log, Taker, Called, is_numbered, sent_in, sent_from, with_call}
-use Rattle.hc_wire.specs.declared.event.WireEvent.{WireEvent}
+use Rattle.hc_wire.specs.{Logs.{Log, Taker, Called, is_numbered, sent_in, sent_from, with_call}, declared.event.WireEvent.{WireEvent}}
 use Rattle.hc_wire.specs.declared.event.WireEvent.TheVariants as event
-use Rattle.hc_proxy.specs.Carrying.{carried, acts_in}
-use Rattle.hc_proxy.specs.Connections.{exchange_of, stands, taken_at}
-use Rattle.hc_proxy.specs.Endings.{is_front, client_was_sent, upstream_was_sent, sent_by, was_sent}
-use Rattle.hc_proxy.specs.Handling.{begun, seen_at, handled}
-use Rattle.hc_proxy.specs.Invariants.{AreServed}
-use Rattle.hc_proxy.specs.Logging.{AreApart}
-use Rattle.hc_proxy.specs.Network.{heard}
-use Rattle.hc_proxy.specs.Rows.{Client, Upstream, Proxy}
-use Rattle.hc_proxy.specs.Starts.{started_all}
-use Rattle.hc_proxy.specs.Turns.{so_far, happened, turned}
+use Rattle.hc_proxy.specs.{Carrying.{carried, acts_in}, Connections.{exchange_of, stands, taken_at}, Endings.{is_front, client_was_sent, upstream_was_sent, sent_by, was_sent}, Handling.{begun, seen_at, handled}, Invariants.{AreServed}, Logging.{AreApart}, Network.{heard}, Rows.{Client, Upstream, Proxy}, Starts.{started_all}, Turns.{so_far, happened, turned}}
 use Rattle.hc_proxy.proofs.BeforeTaken as before
-use Rattle.hc_proxy.proofs.DialsSent.{all_give, origin_unsent}
-use Rattle.hc_proxy.proofs.GoneStays.{happened_has, carried_has}
-use Rattle.hc_proxy.proofs.Later.{client_grows}
-use Rattle.hc_proxy.proofs.LetGo.{AreGone, turn_lets_go}
-use Rattle.hc_proxy.proofs.NetworkKeeps.{same_clients}
-use Rattle.hc_proxy.proofs.Openings.{StandsKnown, origin_grows}
-use Rattle.hc_proxy.proofs.TakersStand.{all_found, found_number, sent_found, taken_within, taken_missing}
-use Rattle.hc_proxy.proofs.TurnBegins.{called, sent_by_call}
+use Rattle.hc_proxy.proofs.{DialsSent.{all_give, origin_unsent}, GoneStays.{happened_has, carried_has}, Later.{client_grows}, LetGo.{AreGone, turn_lets_go}, NetworkKeeps.{same_clients}, Openings.{StandsKnown, origin_grows}, TakersStand.{all_found, found_number, sent_found, taken_within, taken_missing}, TurnBegins.{called, sent_by_call}}
 
 -- FRONTS
 

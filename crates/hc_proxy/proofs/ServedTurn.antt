@@ -4,49 +4,18 @@
 -- (`served_behind`). That holds where the turn begins, and each change until the polls keeps it (`WellHeld`): an event of the wire, the
 -- events of exchanges, and the starts, each of a client that waits for nothing. Nobody goes while the starts are made, so whoever was
 -- here at first is here when its request is read.
-use Rattle.std.proofs.Common.{◌≡◌, inl, inr, ◌≤◌, ◌<◌, ℕ, ◌+◌, List, [], ◌∷◌, ◌++◌, Bool, true, false, Option, Some, None, refl, ap, sym, ◌∙◌, subst, arith}
-use Rattle.std.specs.Prelude.{◌&&◌, not, nat_eq, nat_lt, is_none, length, filter, option_map, Contains, IsSome, if◌then◌else◌}
-use Rattle.std.proofs.lemmas.Bool.Decides.{nat_tests}
+use Rattle.std.{proofs.{Common.{◌≡◌, inl, inr, ◌≤◌, ◌<◌, ℕ, ◌+◌, List, [], ◌∷◌, ◌++◌, Bool, true, false, Option, Some, None, refl, ap, sym, ◌∙◌, subst, arith}, lemmas.Bool.Decides.{nat_tests}}, specs.Prelude.{◌&&◌, not, nat_eq, nat_lt, is_none, length, filter, option_map, Contains, IsSome, if◌then◌else◌}}
 use Rattle.hc_text.proofs.Basics.{some_inj as some_is}
 use Rattle.hc_effects.proofs.Vocabulary.{is_denied, Event, live, Entry, is_open, IsOwed, owed, Limits}
 use Rattle.hc_event.specs.declared.event.Event.TheVariants as event
 use Rattle.hc_head.specs.declared.message.WireRequest.{WireRequest}
 use Rattle.hc_effects.proofs.PieceKeeps.{eq_cases}
-use Rattle.hc_msg.specs.Inputs.{Next, Waits, Tells, Brings, Ends, Fails, next_in}
-use Rattle.hc_msg.specs.Reading.{Reading, Failed, Token, Asks, Answers, Byte}
-use Rattle.hc_wire.specs.Logs.{Called}
-use Rattle.hc_wire.specs.declared.event.WireEvent.{WireEvent}
+use Rattle.hc_msg.specs.{Inputs.{Next, Waits, Tells, Brings, Ends, Fails, next_in}, Reading.{Reading, Failed, Token, Asks, Answers, Byte}}
+use Rattle.hc_wire.specs.{Logs.{Called}, declared.event.WireEvent.{WireEvent}}
 use Rattle.hc_wire.specs.declared.event.WireEvent.TheVariants as wire
-use Rattle.hc_proxy.specs.Carrying.{acts_in}
-use Rattle.hc_proxy.specs.Connections.{exchange_of}
-use Rattle.hc_proxy.specs.Handling.{is_client, clients_here, inserted, client_comes, left, cancelled, leaves, client_sends, origin_sends, origin_ends, sends, ends, broke, handled_by, handled}
-use Rattle.hc_proxy.specs.Invariants.{IsHolder, HasConsumers, AreServed}
-use Rattle.hc_proxy.specs.Keeping.{IsNumbered}
-use Rattle.hc_proxy.specs.Network.{heard}
-use Rattle.hc_proxy.specs.Polls.{polled_all, each_polled, live_consumers}
-use Rattle.hc_proxy.specs.Rows.{Client, Upstream, Proxy, with_client, with_upstream}
-use Rattle.hc_proxy.specs.Starts.{read_to, asks, with_holder, started, refused, hears_request, hears, is_ready, hears_if, each_heard, started_all}
-use Rattle.hc_proxy.specs.Steps.{with_entry, stepped}
-use Rattle.hc_proxy.specs.Turns.{happened}
-use Rattle.hc_proxy.specs.Waiting.{is_poll}
-use Rattle.hc_proxy.proofs.Ascending.{lives_ascend, lives_are}
-use Rattle.hc_proxy.proofs.FewHere.{few_live}
-use Rattle.hc_proxy.proofs.Holders.{held_of, of_held, KeepsWho, change_keeps, sends_keep, reads_keep, refused_keeps, entry_keeps, leave_keeps, start_keeps, idle_leave_keeps, changed_here}
-use Rattle.hc_proxy.proofs.HoldersBegin.{origin_keeps, comes_keeps}
-use Rattle.hc_proxy.proofs.Inserted.{inserted_here, inserted_on, passed_more}
+use Rattle.hc_proxy.specs.{Carrying.{acts_in}, Connections.{exchange_of}, Handling.{is_client, clients_here, inserted, client_comes, left, cancelled, leaves, client_sends, origin_sends, origin_ends, sends, ends, broke, handled_by, handled}, Invariants.{IsHolder, HasConsumers, AreServed}, Keeping.{IsNumbered}, Network.{heard}, Polls.{polled_all, each_polled, live_consumers}, Rows.{Client, Upstream, Proxy, with_client, with_upstream}, Starts.{read_to, asks, with_holder, started, refused, hears_request, hears, is_ready, hears_if, each_heard, started_all}, Steps.{with_entry, stepped}, Turns.{happened}, Waiting.{is_poll}}
+use Rattle.hc_proxy.proofs.{Ascending.{lives_ascend, lives_are}, FewHere.{few_live}, Holders.{held_of, of_held, KeepsWho, change_keeps, sends_keep, reads_keep, refused_keeps, entry_keeps, leave_keeps, start_keeps, idle_leave_keeps, changed_here}, HoldersBegin.{origin_keeps, comes_keeps}, Inserted.{inserted_here, inserted_on, passed_more}, Marked.{among_contained, contained_among}, NetworkKeeps.{is_of_exchange, heard_keeps}, NextAsks.{ready_idle}, Polled.{polls_add}, QuietActs.{AreQuiet, quiet_both, is_quiet_entry}, RowChanges.{fewer}, Served.{served_behind, each_is_by}, SkippedSteps.{among}, Stands.{Stands, law_of, owed_here, goes_on}, StepOn.{start_by}, Turning.{with_new}, ClientEvents.{no_poll}}
 use Rattle.hc_laws.proofs.LiveAfter.{Starts}
-use Rattle.hc_proxy.proofs.Marked.{among_contained, contained_among}
-use Rattle.hc_proxy.proofs.NetworkKeeps.{is_of_exchange, heard_keeps}
-use Rattle.hc_proxy.proofs.NextAsks.{ready_idle}
-use Rattle.hc_proxy.proofs.Polled.{polls_add}
-use Rattle.hc_proxy.proofs.QuietActs.{AreQuiet, quiet_both, is_quiet_entry}
-use Rattle.hc_proxy.proofs.RowChanges.{fewer}
-use Rattle.hc_proxy.proofs.Served.{served_behind, each_is_by}
-use Rattle.hc_proxy.proofs.SkippedSteps.{among}
-use Rattle.hc_proxy.proofs.Stands.{Stands, law_of, owed_here, goes_on}
-use Rattle.hc_proxy.proofs.StepOn.{start_by}
-use Rattle.hc_proxy.proofs.Turning.{with_new}
-use Rattle.hc_proxy.proofs.ClientEvents.{no_poll}
 
 -- WHAT IS KEPT
 

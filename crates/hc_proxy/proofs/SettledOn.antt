@@ -3,27 +3,16 @@
 -- The lists tell nothing of the rows, so a change of them alone keeps all that is kept while something is done for the exchange. What is
 -- open stands among those that are looked at when all is sent. It leaves the list of the news only where no part is wanted, or none may
 -- stand next: there nothing is due, since of a connection that has ended a part stands next.
-use Rattle.std.proofs.Common.{◌≡◌, ◌⊎◌, inl, inr, ℕ, Bool, true, false, Option, Some, None, refl, sym, ◌∙◌, subst}
-use Rattle.std.specs.Prelude.{◌&&◌, nat_eq, not, IsSome, Contains}
+use Rattle.std.{proofs.Common.{◌≡◌, ◌⊎◌, inl, inr, ℕ, Bool, true, false, Option, Some, None, refl, sym, ◌∙◌, subst}, specs.Prelude.{◌&&◌, nat_eq, not, IsSome, Contains}}
 use Rattle.hc_text.proofs.Basics.{eq_itself as same_number, true_false}
 use Rattle.hc_effects.proofs.Vocabulary.{is_open, is_wanted}
-use Rattle.hc_peers.specs.Clients.{client_of}
-use Rattle.hc_peers.specs.Upstreams.{upstream_of, is_news, is_touched, has_news_at, Stays, Marks}
+use Rattle.hc_peers.specs.{Clients.{client_of}, Upstreams.{upstream_of, is_news, is_touched, has_news_at, Stays, Marks}, declared.upstreams.Upstreams.{Upstreams}}
 use Rattle.hc_peers.specs.declared.upstream.Upstream as origin
-use Rattle.hc_peers.specs.declared.upstreams.Upstreams.{Upstreams}
 use Rattle.hc_store.specs.declared.backend.Backend.{Ghosts}
 use Rattle.hc_wire.specs.Events.{Stage}
 use Rattle.hc_proxy.specs.declared.proxy.Proxy as loop
-use Rattle.hc_proxy.specs.Carrying.{acts_in}
-use Rattle.hc_proxy.specs.Connections.{taken_at}
-use Rattle.hc_proxy.specs.Hearing.{IsHeardAt}
-use Rattle.hc_proxy.specs.Invariants.{is_part, is_due_by}
-use Rattle.hc_proxy.specs.Keeping.{Turn, HasUpstreamsBut, IsUpstreamAt, AtWire, KeepsBut, KeepsQuiet}
-use Rattle.hc_proxy.specs.Network.{next_of}
-use Rattle.hc_proxy.specs.Rows.{Upstream, Proxy}
-use Rattle.hc_proxy.proofs.Alike.{cache_moves, clients_move}
-use Rattle.hc_proxy.proofs.DoneFor.{done_all}
-use Rattle.hc_proxy.proofs.HandedOn.{wants_not}
+use Rattle.hc_proxy.specs.{Carrying.{acts_in}, Connections.{taken_at}, Hearing.{IsHeardAt}, Invariants.{is_part, is_due_by}, Keeping.{Turn, HasUpstreamsBut, IsUpstreamAt, AtWire, KeepsBut, KeepsQuiet}, Network.{next_of}, Rows.{Upstream, Proxy}}
+use Rattle.hc_proxy.proofs.{Alike.{cache_moves, clients_move}, DoneFor.{done_all}, HandedOn.{wants_not}}
 
 module _ {B : Type 0} {g : Ghosts B} where
   -- OTHER LISTS

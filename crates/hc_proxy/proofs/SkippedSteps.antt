@@ -3,9 +3,7 @@
 -- An element that is idle is passed over, and stays idle while others are gone through. So two lists come to the same that
 -- differ in idle ones alone: where their first elements are one, both take its step; else the less of them isn't in the
 -- other list, so it is idle.
-use Rattle.std.proofs.Common.{◌≡◌, ◌⊎◌, inl, inr, ◌≤◌, ℕ, ◌+◌, List, [], ◌∷◌, Bool, true, false, refl, ap, sym, ◌∙◌, subst, arith}
-use Rattle.std.specs.Prelude.{nat_eq, nat_lt, ◌||◌}
-use Rattle.std.proofs.lemmas.Bool.Decides.{nat_tests}
+use Rattle.std.{proofs.{Common.{◌≡◌, ◌⊎◌, inl, inr, ◌≤◌, ℕ, ◌+◌, List, [], ◌∷◌, Bool, true, false, refl, ap, sym, ◌∙◌, subst, arith}, lemmas.Bool.Decides.{nat_tests}}, specs.Prelude.{nat_eq, nat_lt, ◌||◌}}
 
 abbrev pub among : ℕ → List ℕ → Bool
 among x [] = false

@@ -6,21 +6,10 @@
 -- An entry opens the next exchange or none, so the number of the last one only grows.
 use Rattle.std.proofs.Common.{◌≡◌, ◌≤◌, ℕ, ◌+◌, Bool, true, false, List, [], ◌∷◌, Option, Some, None, refl, ap, sym, ◌∙◌, subst, arith}
 use Rattle.hc_effects.proofs.Vocabulary.{Opening, opening_in, is_denied, Event, Limits, Entry, no_contents, Lawful, Places, Tables, IsRun, IsOwed, owed, Sound, tables, after, opened_after, flaw_in}
-use Rattle.hc_effects.proofs.NumbersKeep.{opens_next}
-use Rattle.hc_effects.proofs.Owed.{goes, acts_are}
-use Rattle.hc_laws.proofs.FromNothing.{begins_well}
-use Rattle.hc_laws.proofs.LawfulRuns.{lawful_in_runs}
-use Rattle.hc_laws.proofs.PlaceRuns.{places_in_runs}
-use Rattle.hc_laws.proofs.ReadWhole.{runs_read_whole}
-use Rattle.hc_laws.proofs.SoundRuns.{runs_are_sound}
+use Rattle.hc_effects.proofs.{NumbersKeep.{opens_next}, Owed.{goes, acts_are}}
+use Rattle.hc_laws.proofs.{FromNothing.{begins_well}, LawfulRuns.{lawful_in_runs}, PlaceRuns.{places_in_runs}, ReadWhole.{runs_read_whole}, SoundRuns.{runs_are_sound}, OwedEntries.{owed_is_owed}}
 use Rattle.hc_wire.specs.Logs.{Called, Log}
-use Rattle.hc_proxy.specs.Carrying.{acts_in}
-use Rattle.hc_proxy.specs.Handling.{begun}
-use Rattle.hc_proxy.specs.Laws.{LoopsAreRuns}
-use Rattle.hc_proxy.specs.Rows.{Proxy, unused}
-use Rattle.hc_proxy.specs.Steps.{with_entry, stepped}
-use Rattle.hc_proxy.specs.Turns.{so_far, happened, turned, turned_by, behind_all}
-use Rattle.hc_laws.proofs.OwedEntries.{owed_is_owed}
+use Rattle.hc_proxy.specs.{Carrying.{acts_in}, Handling.{begun}, Laws.{LoopsAreRuns}, Rows.{Proxy, unused}, Steps.{with_entry, stepped}, Turns.{so_far, happened, turned, turned_by, behind_all}}
 use Rattle.hc_proxy.proofs.Turning.{IsKept, IsCarried, open_any, turned_keeps}
 
 pub record Stands (limits : Limits) (p : Proxy) : Type 0 where

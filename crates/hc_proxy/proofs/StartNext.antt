@@ -3,32 +3,20 @@
 -- The table tells by what stands next what it did: nobody's was to be read, nothing is asked for, or a request. Of requests no other
 -- part stands next (NextAsks), so each case is one of those that StartOne proves. The tables may be any that the cache stands for: what
 -- a call asks for is shown of some of them, since it is a bound.
-use Rattle.std.proofs.Common.{◌≡◌, ◌≢◌, ◌≤◌, ◌<◌, ◌^◌, ℕ, ◌+◌, List, [], ◌∷◌, true, Some, refl, ap, sym, ◌∙◌, subst, arith}
-use Rattle.std.proofs.Math.Bridge.{le_prop}
-use Rattle.std.proofs.Math.Logic.{∥∥₁_map, ∥∥₁_elim}
+use Rattle.std.proofs.{Common.{◌≡◌, ◌≢◌, ◌≤◌, ◌<◌, ◌^◌, ℕ, ◌+◌, List, [], ◌∷◌, true, Some, refl, ap, sym, ◌∙◌, subst, arith}, Math.{Bridge.{le_prop}, Logic.{∥∥₁_map, ∥∥₁_elim}}}
 use Rattle.hc_core.specs.Steps.{faults_in, steps, bytes_received}
 use Rattle.hc_event.specs.declared.event.Event.TheVariants as event
 use Rattle.hc_effects.proofs.Vocabulary.{Request}
-use Rattle.hc_msg.specs.Inputs.{Next, Waits, Tells, Brings, Ends, Fails, next_in}
-use Rattle.hc_msg.specs.Reading.{Asks, Answers, Byte}
-use Rattle.hc_peers.specs.Agreement.{consumer_at}
-use Rattle.hc_peers.specs.Clients.{client_of, ready_of, hearing, told_by, HearsNext}
+use Rattle.hc_msg.specs.{Inputs.{Next, Waits, Tells, Brings, Ends, Fails, next_in}, Reading.{Asks, Answers, Byte}}
+use Rattle.hc_peers.specs.{Agreement.{consumer_at}, Clients.{client_of, ready_of, hearing, told_by, HearsNext}, declared.clients.{Clients.{Clients}, Heard.{Heard}}}
 use Rattle.hc_peers.specs.Clients as clients
 use Rattle.hc_peers.specs.declared.client.Client as peer
-use Rattle.hc_peers.specs.declared.clients.Clients.{Clients}
 use Rattle.hc_peers.specs.declared.clients.Heard.TheVariants as told
-use Rattle.hc_peers.specs.declared.clients.Heard.{Heard}
 use Rattle.hc_sched.specs.Schedule.{IsEvent}
 use Rattle.hc_store.specs.declared.backend.Backend.{Ghosts}
 use Rattle.hc_proxy.specs.declared.proxy.Proxy as loop
-use Rattle.hc_proxy.specs.Invariants.{unread}
-use Rattle.hc_proxy.specs.Keeping.{Frame, Turn, HasCache, StandsForSome, KeepsHeard, IsHeard, IsNext, Stepped, RestStays, Goes, first_ready}
-use Rattle.hc_proxy.specs.Rows.{Proxy}
-use Rattle.hc_proxy.specs.Starts.{hears, each_heard}
-use Rattle.hc_proxy.proofs.NextAsks.{of_head, IsNextAsked, next_asks}
-use Rattle.hc_proxy.proofs.NextSpelled.{told_spelled, start_spelled}
-use Rattle.hc_proxy.proofs.Rows.{holder_of}
-use Rattle.hc_proxy.proofs.StartOne.{nobody_goes, each_is, of_requests, waits_goes, fails_goes, asked_cache, asks_goes}
+use Rattle.hc_proxy.specs.{Invariants.{unread}, Keeping.{Frame, Turn, HasCache, StandsForSome, KeepsHeard, IsHeard, IsNext, Stepped, RestStays, Goes, first_ready}, Rows.{Proxy}, Starts.{hears, each_heard}}
+use Rattle.hc_proxy.proofs.{NextAsks.{of_head, IsNextAsked, next_asks}, NextSpelled.{told_spelled, start_spelled}, Rows.{holder_of}, StartOne.{nobody_goes, each_is, of_requests, waits_goes, fails_goes, asked_cache, asks_goes}}
 
 -- BY WHAT STANDS NEXT
 

@@ -4,50 +4,22 @@
 -- next is nothing yet, an error or a request. In each case its row is changed alike in the code and in the definitions, and all others
 -- stay. A request starts a consumer with the next number, whose holder is this client: no other one has that number. A start stops no
 -- exchange, and its acts are quiet.
-use Rattle.std.proofs.Common.{◌≡◌, ◌⊎◌, inl, inr, ◌≤◌, ◌<◌, ℕ, ◌+◌, List, [], ◌∷◌, ◌++◌, length, Bool, true, false, Option, Some, None, refl, ap, sym, ◌∙◌, subst, arith}
-use Rattle.std.specs.Prelude.{◌&&◌, nat_eq, nat_lt, not, is_none, option_map, if◌then◌else◌, IsSome, Contains}
-use Rattle.std.specs.List.{list_all}
-use Rattle.std.proofs.Math.Path.{fun_ext}
-use Rattle.std.proofs.lemmas.List.{length-append, drop-append-le}
+use Rattle.std.{proofs.{Common.{◌≡◌, ◌⊎◌, inl, inr, ◌≤◌, ◌<◌, ℕ, ◌+◌, List, [], ◌∷◌, ◌++◌, length, Bool, true, false, Option, Some, None, refl, ap, sym, ◌∙◌, subst, arith}, Math.Path.{fun_ext}, lemmas.List.{length-append, drop-append-le}}, specs.{Prelude.{◌&&◌, nat_eq, nat_lt, not, is_none, option_map, if◌then◌else◌, IsSome, Contains}, List.{list_all}}}
 use Rattle.hc_text.proofs.Basics.{none_some, not_true as not_so, eq_itself as same_number}
 use Rattle.hc_core.specs.Steps.{faults_in, steps}
 use Rattle.hc_event.specs.declared.event.Event.TheVariants as event
 use Rattle.hc_effects.proofs.Vocabulary.{Request, live, Entry, owed}
-use Rattle.hc_head.specs.declared.message.MsgError.{MsgError}
-use Rattle.hc_head.specs.declared.message.WireRequest.{WireRequest}
-use Rattle.hc_msg.specs.Inputs.{Next, next_in}
-use Rattle.hc_msg.specs.Reading.{Reading, Failed}
-use Rattle.hc_peers.specs.Agreement.{ready_at}
-use Rattle.hc_peers.specs.Clients.{client_of, ready_of}
+use Rattle.hc_head.specs.declared.message.{MsgError.{MsgError}, WireRequest.{WireRequest}}
+use Rattle.hc_msg.specs.{Inputs.{Next, next_in}, Reading.{Reading, Failed}}
+use Rattle.hc_peers.specs.{Agreement.{ready_at}, Clients.{client_of, ready_of}, Renderings.{empty_answer, error_status}, Upstreams.{upstream_of}, declared.clients.Clients.{Clients}}
 use Rattle.hc_peers.specs.Clients as clients
 use Rattle.hc_peers.specs.Peers as peers
-use Rattle.hc_peers.specs.Renderings.{empty_answer, error_status}
-use Rattle.hc_peers.specs.Upstreams.{upstream_of}
 use Rattle.hc_peers.specs.declared.client.Client as peer
-use Rattle.hc_peers.specs.declared.clients.Clients.{Clients}
 use Rattle.hc_peers.specs.declared.upstream.Upstream as origin
 use Rattle.hc_store.specs.declared.backend.Backend.{Ghosts}
 use Rattle.hc_proxy.specs.declared.proxy.Proxy as loop
-use Rattle.hc_proxy.specs.Carrying.{acts_in}
-use Rattle.hc_proxy.specs.Connections.{taken_at}
-use Rattle.hc_proxy.specs.Handling.{is_client, clients_here}
-use Rattle.hc_proxy.specs.Invariants.{HasConsumers, IsOfRequests}
-use Rattle.hc_proxy.specs.Keeping.{Turn, HasCache, HasClients, HasUpstreams, IsClient, IsClientAt, AtWire, AreSeen, Keeps, KeepsHeard, Stepped, RestStays, Goes, first_ready}
-use Rattle.hc_proxy.specs.Rows.{Client, Proxy, changed, with_client}
-use Rattle.hc_proxy.specs.Starts.{read_to, asks, refused, with_holder, started, is_ready, hears, hears_if, each_heard}
-use Rattle.hc_proxy.specs.Steps.{with_entry}
-use Rattle.hc_proxy.specs.Waiting.{is_poll, is_waiting}
-use Rattle.hc_proxy.proofs.Alike.{cache_moves, cache_with, upstreams_move}
-use Rattle.hc_proxy.proofs.FewHere.{few_live}
-use Rattle.hc_proxy.proofs.Holders.{KeepsWho, held_of, of_held, change_keeps, changed_here, reads_keep, start_keeps}
-use Rattle.hc_proxy.proofs.KeepsOn.{keeps_on, heard_on}
-use Rattle.hc_proxy.proofs.Marked.{ready_among}
-use Rattle.hc_proxy.proofs.OpenAfter.{Stops}
-use Rattle.hc_proxy.proofs.QuietActs.{is_quiet_entry, quiet_both}
-use Rattle.hc_proxy.proofs.RowChanges.{ChangesClient, changed_clients, row_was, wire_same, seen_still, upstreams_with}
-use Rattle.hc_proxy.proofs.Rows.{readies}
-use Rattle.hc_proxy.proofs.SkippedSteps.{among}
-use Rattle.hc_proxy.proofs.StepOn.{law_of, stands_of}
+use Rattle.hc_proxy.specs.{Carrying.{acts_in}, Connections.{taken_at}, Handling.{is_client, clients_here}, Invariants.{HasConsumers, IsOfRequests}, Keeping.{Turn, HasCache, HasClients, HasUpstreams, IsClient, IsClientAt, AtWire, AreSeen, Keeps, KeepsHeard, Stepped, RestStays, Goes, first_ready}, Rows.{Client, Proxy, changed, with_client}, Starts.{read_to, asks, refused, with_holder, started, is_ready, hears, hears_if, each_heard}, Steps.{with_entry}, Waiting.{is_poll, is_waiting}}
+use Rattle.hc_proxy.proofs.{Alike.{cache_moves, cache_with, upstreams_move}, FewHere.{few_live}, Holders.{KeepsWho, held_of, of_held, change_keeps, changed_here, reads_keep, start_keeps}, KeepsOn.{keeps_on, heard_on}, Marked.{ready_among}, OpenAfter.{Stops}, QuietActs.{is_quiet_entry, quiet_both}, RowChanges.{ChangesClient, changed_clients, row_was, wire_same, seen_still, upstreams_with}, Rows.{readies}, SkippedSteps.{among}, StepOn.{law_of, stands_of}}
 
 -- ONE THAT IS READY
 

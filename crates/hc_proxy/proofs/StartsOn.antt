@@ -2,28 +2,14 @@
 --
 -- The code goes through those clients alone whose next request is to be read, in ascending order. The others of the definitions are
 -- passed over there. What is done for one changes no other, so the list of the code has just those that are left.
-use Rattle.std.proofs.Common.{◌≡◌, ◌≤◌, ℕ, Bool, true, false, List, [], ◌∷◌, Option, Some, None, refl, ap, sym, ◌∙◌, subst, arith}
-use Rattle.std.specs.Prelude.{not, length, Contains, IsSome, ◌↔◌}
-use Rattle.std.specs.List.Sorted.{IsStrictlySortedBy}
-use Rattle.std.specs.Ordering.{nat_cmp}
-use Rattle.std.proofs.lemmas.List.Kept.{IsStrictlySortedBy-filter}
-use Rattle.std.proofs.Math.Bridge.{le_prop}
-use Rattle.std.proofs.Math.Logic.{∥∥₁_elim}
+use Rattle.std.{proofs.{Common.{◌≡◌, ◌≤◌, ℕ, Bool, true, false, List, [], ◌∷◌, Option, Some, None, refl, ap, sym, ◌∙◌, subst, arith}, lemmas.List.Kept.{IsStrictlySortedBy-filter}, Math.{Bridge.{le_prop}, Logic.{∥∥₁_elim}}}, specs.{Prelude.{not, length, Contains, IsSome, ◌↔◌}, List.Sorted.{IsStrictlySortedBy}, Ordering.{nat_cmp}}}
 use Rattle.hc_core.specs.Steps.{faults_in}
-use Rattle.hc_peers.specs.Agreement.{ready_at}
-use Rattle.hc_peers.specs.Clients.{client_of, ready_of}
+use Rattle.hc_peers.specs.{Agreement.{ready_at}, Clients.{client_of, ready_of}}
 use Rattle.hc_peers.specs.declared.client.Client as peer
 use Rattle.hc_store.specs.declared.backend.Backend.{Ghosts}
 use Rattle.hc_proxy.specs.declared.proxy.Proxy as loop
-use Rattle.hc_proxy.specs.Connections.{taken_at}
-use Rattle.hc_proxy.specs.Handling.{is_client, clients_here}
-use Rattle.hc_proxy.specs.Keeping.{Turn, IsClientAt, HasClients, KeepsHeard, IsHeard, Goes, first_ready}
-use Rattle.hc_proxy.specs.Rows.{Client, Proxy}
-use Rattle.hc_proxy.specs.Starts.{each_heard, started_all}
-use Rattle.hc_proxy.proofs.IdleClients.{IsUnready, ready_by, started_one, unready_skipped, starts_are_each}
-use Rattle.hc_proxy.proofs.Marked.{sorted_ascends, among_passes, passed_among, among_contained, contained_among, ready_among}
-use Rattle.hc_proxy.proofs.Rows.{client_here, readies}
-use Rattle.hc_proxy.proofs.SkippedSteps.{among, same_each}
+use Rattle.hc_proxy.specs.{Connections.{taken_at}, Handling.{is_client, clients_here}, Keeping.{Turn, IsClientAt, HasClients, KeepsHeard, IsHeard, Goes, first_ready}, Rows.{Client, Proxy}, Starts.{each_heard, started_all}}
+use Rattle.hc_proxy.proofs.{IdleClients.{IsUnready, ready_by, started_one, unready_skipped, starts_are_each}, Marked.{sorted_ascends, among_passes, passed_among, among_contained, contained_among, ready_among}, Rows.{client_here, readies}, SkippedSteps.{among, same_each}}
 
 module _ {B : Type 0} {g : Ghosts B} where
   -- WHO IS HERE

@@ -3,13 +3,9 @@ use Rattle.std.proofs.Common.{◌≡◌, inl, inr, ℕ, true, false, Option, Som
 use Rattle.hc_text.proofs.Basics.{or_cases}
 use Rattle.hc_effects.proofs.Vocabulary.{leaves_in, Limits, consumer_after, consumer_settled, consumer_acted, consumer_heard, is_live, Entry, Lawful, Tables, Consumer, IsOwed, after}
 use Rattle.hc_event.specs.declared.place.Place.TheVariants as place
-use Rattle.hc_proxy.specs.Carrying.{acts_in}
-use Rattle.hc_proxy.specs.Rows.{Proxy}
-use Rattle.hc_proxy.specs.Steps.{with_entry}
-use Rattle.hc_proxy.specs.Invariants.{AreOver}
+use Rattle.hc_proxy.specs.{Carrying.{acts_in}, Rows.{Proxy}, Steps.{with_entry}, Invariants.{AreOver}}
 use Rattle.hc_proxy.proofs.Holders.{leaves_append}
-use Rattle.hc_laws.proofs.LiveAfter.{consumer_behind, dead_stays}
-use Rattle.hc_laws.proofs.WhoLeaves.{told_over, told_live}
+use Rattle.hc_laws.proofs.{LiveAfter.{consumer_behind, dead_stays}, WhoLeaves.{told_over, told_live}}
 use Rattle.hc_core.proofs.NobodyLive.{over_by as over_place}
 
 -- it started, and is over

@@ -3,30 +3,17 @@
 -- The cache says that it stands for one entry more. So the entry is owed by the tables, and these are those of the run behind it. An
 -- entry opens the next exchange or none, of which nothing came: so no more bytes are unread than before. A start has a number that
 -- was given out. The record is that of the run, since the code writes the text of the event behind that of those before.
-use Rattle.std.proofs.Common.{◌≡◌, ◌≤◌, ℕ, ◌+◌, Bool, true, false, List, ◌∷◌, ◌++◌, Option, Some, None, refl, ap, sym, ◌∙◌, subst, arith, append_assoc}
-use Rattle.std.specs.Prelude.{if◌then◌else◌}
+use Rattle.std.{proofs.Common.{◌≡◌, ◌≤◌, ℕ, ◌+◌, Bool, true, false, List, ◌∷◌, ◌++◌, Option, Some, None, refl, ap, sym, ◌∙◌, subst, arith, append_assoc}, specs.Prelude.{if◌then◌else◌}}
 use Rattle.hc_core.specs.Steps.{StandsFor, Steps, faults_in, last_moment, limits_in, bytes_received}
 use Rattle.hc_effects.proofs.Vocabulary.{act_list, Opening, opening_in, is_denied, IsEventWithinLimits, Event, Entry, no_contents, flaw_in, failures_in, Lawful, Tables, IsRun, IsOwed, owed, tables, after, after_accepted, after_denied, opened_after, last_start_after, received_in, HasTarget, Limits}
 use Rattle.hc_event.specs.declared.event.Event.TheVariants as event
-use Rattle.hc_effects.proofs.NumbersKeep.{opens_next}
-use Rattle.hc_effects.proofs.Owed.{goes, acts_are, denied_opens}
-use Rattle.hc_laws.proofs.Faultless.{faultless_are_owed}
-use Rattle.hc_laws.proofs.LawfulRuns.{lawful_in_runs}
+use Rattle.hc_effects.proofs.{NumbersKeep.{opens_next}, Owed.{goes, acts_are, denied_opens}}
+use Rattle.hc_laws.proofs.{Faultless.{faultless_are_owed}, LawfulRuns.{lawful_in_runs}, FromNothing.{begins_well}}
 use Rattle.hc_sched.specs.Schedule.{IsEvent, timed_text}
 use Rattle.hc_store.specs.declared.backend.Backend.{Ghosts}
 use Rattle.hc_proxy.specs.declared.proxy.Proxy as loop
-use Rattle.hc_proxy.specs.Invariants.{unread, last_event}
-use Rattle.hc_proxy.specs.Keeping.{Frame, HasCache, IsNumbered, Stepped, RestStays}
-use Rattle.hc_proxy.specs.Records.{text_of, last_of}
-use Rattle.hc_proxy.specs.Rows.{Proxy}
-use Rattle.hc_proxy.specs.Steps.{with_entry}
-use Rattle.hc_proxy.specs.Turns.{record_of}
-use Rattle.hc_proxy.proofs.HeadsStay.{headed_on}
-use Rattle.hc_proxy.proofs.OpenAfter.{OpensIt}
-use Rattle.hc_laws.proofs.FromNothing.{begins_well}
-use Rattle.hc_proxy.proofs.Stands.{Stands, is_sound, grows_by}
-use Rattle.hc_proxy.proofs.Texts.{record_more}
-use Rattle.hc_proxy.proofs.Unread.{unread_entry}
+use Rattle.hc_proxy.specs.{Invariants.{unread, last_event}, Keeping.{Frame, HasCache, IsNumbered, Stepped, RestStays}, Records.{text_of, last_of}, Rows.{Proxy}, Steps.{with_entry}, Turns.{record_of}}
+use Rattle.hc_proxy.proofs.{HeadsStay.{headed_on}, OpenAfter.{OpensIt}, Stands.{Stands, is_sound, grows_by}, Texts.{record_more}, Unread.{unread_entry}}
 
 -- AN EVENT THAT HAS A SPELLING is within limits
 

@@ -4,27 +4,14 @@
 -- these changes the one row of the log that has its number: all others are found as before. What it has taken was a first part of
 -- what it is owed, and what it takes comes next there, so it still has a first part. A log that follows the wire without being told
 -- shows how the connections stand behind each change.
-use Rattle.std.proofs.Common.{◌≡◌, ◌⊎◌, inl, inr, ℕ, zero, suc, ◌+◌, List, [], ◌∷◌, ◌++◌, Bool, true, false, Option, Some, None, refl, ap, sym, ◌∙◌, arith, length, take, drop, eqb, length-append}
-use Rattle.std.specs.Prelude.{nat_eq, nat_le, ◌&&◌, ◌||◌, ◌==◌, not, find, option_map, if◌then◌else◌}
-use Rattle.std.specs.List.{list_all}
-use Rattle.std.proofs.Math.Seq.{take-append-add, drop-nil}
-use Rattle.std.proofs.lemmas.Bool.{cases_Bool}
-use Rattle.std.proofs.lemmas.Bool.Decides.{nat_tests}
-use Rattle.std.proofs.lemmas.List.{take-append-drop, length-take, take_min, append-nil}
+use Rattle.std.{proofs.{Common.{◌≡◌, ◌⊎◌, inl, inr, ℕ, zero, suc, ◌+◌, List, [], ◌∷◌, ◌++◌, Bool, true, false, Option, Some, None, refl, ap, sym, ◌∙◌, arith, length, take, drop, eqb, length-append}, Math.Seq.{take-append-add, drop-nil}, lemmas.{Bool.{cases_Bool, Decides.{nat_tests}}, List.{take-append-drop, length-take, take_min, append-nil}}}, specs.{Prelude.{nat_eq, nat_le, ◌&&◌, ◌||◌, ◌==◌, not, find, option_map, if◌then◌else◌}, List.{list_all}}}
 use Rattle.hc_text.proofs.Basics.{all_three, and_left as and_first, and_right as and_second, eq_itself as same_number, both_of as three}
 use Rattle.hc_rules.proofs.RangeReads.{bytes_eq-same, same_bytes}
-use Rattle.hc_wire.specs.Events.{Stage, Unseen, Open, Closed, reading_of}
-use Rattle.hc_wire.specs.Logs.{Log, Taker, is_numbered, is_at_end, stage_of, stage_from, sent_from, stage_in, sent_in, changed_at, taking, reading, shut, with_sent, with_reading, with_closed}
+use Rattle.hc_wire.specs.{Events.{Stage, Unseen, Open, Closed, reading_of}, Logs.{Log, Taker, is_numbered, is_at_end, stage_of, stage_from, sent_from, stage_in, sent_in, changed_at, taking, reading, shut, with_sent, with_reading, with_closed}}
 use Rattle.hc_wire.proofs.LogLemmas.{stages-same}
 use Rattle.hc_peers.specs.Offers.{OffersSome}
-use Rattle.hc_proxy.specs.Connections.{exchange_of}
-use Rattle.hc_proxy.specs.Endings.{is_front, client_was_sent, upstream_was_sent, sent_by, was_sent}
-use Rattle.hc_proxy.specs.Logging.{short_from, is_short}
-use Rattle.hc_proxy.specs.Rows.{Client, Upstream, Proxy}
-use Rattle.hc_proxy.specs.TurnSteps.{SentSome}
-use Rattle.hc_proxy.specs.Unsent.{Sends}
-use Rattle.hc_proxy.proofs.Followed.{KeepsNumber, found}
-use Rattle.hc_proxy.proofs.Closings.{told_on}
+use Rattle.hc_proxy.specs.{Connections.{exchange_of}, Endings.{is_front, client_was_sent, upstream_was_sent, sent_by, was_sent}, Logging.{short_from, is_short}, Rows.{Client, Upstream, Proxy}, TurnSteps.{SentSome}, Unsent.{Sends}}
+use Rattle.hc_proxy.proofs.{Followed.{KeepsNumber, found}, Closings.{told_on}}
 
 -- FIRST PARTS
 

@@ -4,27 +4,16 @@
 -- cases that is: no part where more is waited for, a head, a piece or an end as it stands next, an error where the reading is at one. In
 -- each case the row is read on as far as the definitions read it. A piece and what is left behind it are no longer than what wasn't read,
 -- and a piece has at most 16,384 bytes. A head that is told has a spelling. So each part fits a schedule.
-use Rattle.std.proofs.Common.{◌≡◌, inl, inr, ◌≤◌, ℕ, ◌+◌, ◌++◌, List, [], ◌∷◌, length, Bool, true, false, Option, Some, None, refl, ap, sym, ◌∙◌, subst, arith}
-use Rattle.std.specs.Prelude.{Result, Ok, Err, ◌||◌, ◌==◌, nat_lt, not}
-use Rattle.std.specs.Result.{is_err}
-use Rattle.std.proofs.lemmas.Bool.Decides.{nat_tests}
-use Rattle.std.proofs.lemmas.List.{length-append}
+use Rattle.std.{proofs.{Common.{◌≡◌, inl, inr, ◌≤◌, ℕ, ◌+◌, ◌++◌, List, [], ◌∷◌, length, Bool, true, false, Option, Some, None, refl, ap, sym, ◌∙◌, subst, arith}, lemmas.{Bool.Decides.{nat_tests}, List.{length-append}}}, specs.{Prelude.{Result, Ok, Err, ◌||◌, ◌==◌, nat_lt, not}, Result.{is_err}}}
 use Rattle.hc_head.specs.declared.message.MsgError.{MsgError}
 use Rattle.hc_head.specs.declared.message.MsgError.TheVariants as error
 use Rattle.hc_msg.specs.declared.message.Look.TheVariants as look
-use Rattle.hc_msg.specs.declared.message.WirePart.{WirePart}
+use Rattle.hc_msg.specs.{declared.message.WirePart.{WirePart}, Inputs.{Next, Waits, Tells, Brings, Ends, Fails, next_in, look_of}, NextParts.{IsBroughtFirst, StandsNext}, Reading.{Reading, Done, Failed, Token, Asks, Answers, Byte}, Taking.{is_whole}}
 use Rattle.hc_msg.specs.declared.message.WirePart.TheVariants as part
-use Rattle.hc_msg.specs.Inputs.{Next, Waits, Tells, Brings, Ends, Fails, next_in, look_of}
-use Rattle.hc_msg.specs.NextParts.{IsBroughtFirst, StandsNext}
-use Rattle.hc_msg.specs.Reading.{Reading, Done, Failed, Token, Asks, Answers, Byte}
-use Rattle.hc_msg.specs.Taking.{is_whole}
 use Rattle.hc_msg.proofs.NextParts.{stands_next}
 use Rattle.hc_peers.specs.Origins as origins
 use Rattle.hc_peers.specs.declared.upstream.Upstream as origin
-use Rattle.hc_proxy.specs.Hearing.{IsFit}
-use Rattle.hc_proxy.specs.Keeping.{IsUpstream}
-use Rattle.hc_proxy.specs.Network.{has_news, next_of}
-use Rattle.hc_proxy.specs.Rows.{Upstream}
+use Rattle.hc_proxy.specs.{Hearing.{IsFit}, Keeping.{IsUpstream}, Network.{has_news, next_of}, Rows.{Upstream}}
 use Rattle.hc_proxy.proofs.NextSpelled.{told_spelled}
 
 -- A ROW AND ITS ROW IN THE DEFINITIONS

@@ -1,7 +1,5 @@
 -- A connection of a log that changes: numbers stay apart, and what is sent stays where the change leaves it.
-use Rattle.std.proofs.Common.{◌≡◌, ℕ, List, [], ◌∷◌, Some, None, eqb, refl, inl, inr}
-use Rattle.std.specs.Prelude.{find}
-use Rattle.std.proofs.lemmas.Bool.{cases_Bool}
+use Rattle.std.{proofs.{Common.{◌≡◌, ℕ, List, [], ◌∷◌, Some, None, eqb, refl, inl, inr}, lemmas.Bool.{cases_Bool}}, specs.Prelude.{find}}
 use Rattle.hc_wire.specs.Logs.{Taker, is_numbered, sent_in, changed_at}
 use Rattle.hc_proxy.specs.Logging.{AreApart}
 

@@ -2,16 +2,10 @@
 --
 -- No two takers have one number. So each is the one that is found by its number, and what holds of each that is found holds of all.
 -- A call tells of each taker that is open; so whose number is found in it, and what that has taken, are the taker's.
-use Rattle.std.proofs.Common.{◌≡◌, ◌≤◌, ℕ, List, [], ◌∷◌, Bool, true, false, Option, Some, None, refl, ap, sym, ◌∙◌, arith}
-use Rattle.std.specs.Prelude.{◌&&◌, ◌||◌, nat_eq, find, filter, map, length, is_some, if◌then◌else◌}
-use Rattle.std.specs.List.{list_all, list_any}
-use Rattle.std.proofs.lemmas.Bool.Decides.{nat_tests}
+use Rattle.std.{proofs.{Common.{◌≡◌, ◌≤◌, ℕ, List, [], ◌∷◌, Bool, true, false, Option, Some, None, refl, ap, sym, ◌∙◌, arith}, lemmas.Bool.Decides.{nat_tests}}, specs.{Prelude.{◌&&◌, ◌||◌, nat_eq, find, filter, map, length, is_some, if◌then◌else◌}, List.{list_all, list_any}}}
 use Rattle.hc_text.proofs.Basics.{both_true as both_hold, eq_itself as same_test, some_inj as some_is}
-use Rattle.hc_wire.specs.Events.{Stage, Unseen, Open, Closed}
-use Rattle.hc_wire.specs.Logs.{Log, Taker, Called, is_numbered, is_taking, standing_of, standings_in, stage_from, stage_in, sent_from, sent_in}
-use Rattle.hc_wire.specs.declared.connection.Standing.{Standing}
-use Rattle.hc_proxy.specs.Connections.{is_of, stands, taken_at, taken_by}
-use Rattle.hc_proxy.specs.Logging.{AreApart}
+use Rattle.hc_wire.specs.{Events.{Stage, Unseen, Open, Closed}, Logs.{Log, Taker, Called, is_numbered, is_taking, standing_of, standings_in, stage_from, stage_in, sent_from, sent_in}, declared.connection.Standing.{Standing}}
+use Rattle.hc_proxy.specs.{Connections.{is_of, stands, taken_at, taken_by}, Logging.{AreApart}}
 
 -- WHOEVER IS FOUND
 

@@ -1,12 +1,8 @@
 -- The record behind one more event: its text behind that of the events before.
-use Rattle.std.proofs.Common.{◌≡◌, ℕ, List, [], ◌∷◌, ◌++◌, refl, ap, sym, ◌∙◌, append_assoc, append-nil}
-use Rattle.std.specs.Prelude.{map, reverse}
-use Rattle.std.proofs.lemmas.List.{reverse-append, map-append}
-use Rattle.hc_sched.specs.declared.schedule.Timed.{Timed}
-use Rattle.hc_sched.specs.Schedule.{timed_text}
+use Rattle.std.{proofs.{Common.{◌≡◌, ℕ, List, [], ◌∷◌, ◌++◌, refl, ap, sym, ◌∙◌, append_assoc, append-nil}, lemmas.List.{reverse-append, map-append}}, specs.Prelude.{map, reverse}}
+use Rattle.hc_sched.specs.{declared.schedule.Timed.{Timed}, Schedule.{timed_text}}
 use Rattle.hc_effects.proofs.Vocabulary.{Entry, History}
-use Rattle.hc_proxy.specs.Invariants.{last_event}
-use Rattle.hc_proxy.specs.Turns.{timed_of, text_behind}
+use Rattle.hc_proxy.specs.{Invariants.{last_event}, Turns.{timed_of, text_behind}}
 
 -- the moment behind events
 abbrev end_of : ℕ → List Timed → ℕ

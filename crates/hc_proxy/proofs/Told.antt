@@ -1,19 +1,11 @@
 -- What is told of the answer of an exchange is what the first bytes of its connection tell, and an end is told behind a whole answer.
-use Rattle.std.proofs.Common.{◌≡◌, ◌⊎◌, inl, inr, ℕ, List, [], ◌∷◌, ◌++◌, Bool, true, Option, Some, None, refl, ap, sym, ◌∙◌, subst, arith}
-use Rattle.std.specs.Prelude.{nat_eq}
-use Rattle.std.proofs.lemmas.Bool.Decides.{nat_tests}
+use Rattle.std.{proofs.{Common.{◌≡◌, ◌⊎◌, inl, inr, ℕ, List, [], ◌∷◌, ◌++◌, Bool, true, Option, Some, None, refl, ap, sym, ◌∙◌, subst, arith}, lemmas.Bool.Decides.{nat_tests}}, specs.Prelude.{nat_eq}}
 use Rattle.hc_text.proofs.Basics.{nothing_first as front_nil, false_true as never_true}
 use Rattle.hc_effects.proofs.Vocabulary.{Entry, History, Limits}
 use Rattle.hc_msg.specs.Reading.{Reading, Responses, Whole, Token, Leads, heading}
 use Rattle.hc_wire.specs.Logs.{Log}
-use Rattle.hc_proxy.specs.Asked.{got_from}
-use Rattle.hc_proxy.specs.Connections.{connection_of}
-use Rattle.hc_proxy.specs.Rows.{Upstream, Proxy, unused}
-use Rattle.hc_proxy.specs.Told.{told_of, HasSent, IsTold, nothing, since, EventsAreTold}
-use Rattle.hc_proxy.specs.Ended.{IsClosed, IsWhole, EndsAreTold}
-use Rattle.hc_proxy.specs.Turns.{so_far, turned_by, behind_all}
-use Rattle.hc_proxy.proofs.DialsHeard.{came_by, is_end, IsCutBy}
-use Rattle.hc_proxy.proofs.HeardRows.{IsHeard, IsEnd, HasEnds, HasHeard, turns_on}
+use Rattle.hc_proxy.specs.{Asked.{got_from}, Connections.{connection_of}, Rows.{Upstream, Proxy, unused}, Told.{told_of, HasSent, IsTold, nothing, since, EventsAreTold}, Ended.{IsClosed, IsWhole, EndsAreTold}, Turns.{so_far, turned_by, behind_all}}
+use Rattle.hc_proxy.proofs.{DialsHeard.{came_by, is_end, IsCutBy}, HeardRows.{IsHeard, IsEnd, HasEnds, HasHeard, turns_on}}
 
 module _ (limits : Limits) (log : Log) (x : ℕ) where
   is_sent : (v : Upstream) (tokens : List Token) → IsHeard limits log.dialled x (so_far (behind_all limits log) log.dialled) log.calls v tokens → IsTold limits log x tokens

@@ -2,32 +2,15 @@
 --
 -- Whose connection doesn't stand any more was let go: it isn't kept, and is gone from now on. All others are as they were, and have
 -- taken what the call tells. The log goes on by the call, and each connection stands as the wire says behind it.
-use Rattle.std.proofs.Common.{◌≡◌, ◌⊎◌, inl, inr, ◌≤◌, ◌<◌, ◌^◌, ℕ, ◌+◌, ◌*◌, List, [], Bool, true, false, Option, Some, None, refl, ap, sym, ◌∙◌, subst, arith}
-use Rattle.std.specs.Prelude.{◌||◌, not, nat_eq, is_some, max, find, length, option_map, Contains, IsSome, if◌then◌else◌}
-use Rattle.std.proofs.lemmas.Bool.Decides.{nat_tests}
-use Rattle.std.proofs.lemmas.List.{length-take}
+use Rattle.std.{proofs.{Common.{◌≡◌, ◌⊎◌, inl, inr, ◌≤◌, ◌<◌, ◌^◌, ℕ, ◌+◌, ◌*◌, List, [], Bool, true, false, Option, Some, None, refl, ap, sym, ◌∙◌, subst, arith}, lemmas.{Bool.Decides.{nat_tests}, List.{length-take}}}, specs.Prelude.{◌||◌, not, nat_eq, is_some, max, find, length, option_map, Contains, IsSome, if◌then◌else◌}}
 use Rattle.hc_peers.specs.Clients.{client_of}
 use Rattle.hc_peers.specs.declared.client.Client as peer
 use Rattle.hc_store.specs.declared.backend.Backend.{Ghosts}
-use Rattle.hc_wire.specs.Events.{Stage, Unseen, Open, Closed, Fresh, IsOpen, IsOfOpen, FitsIn, ended_of, stages_after, got_bytes}
-use Rattle.hc_wire.specs.Logs.{Log, Taker, Called, Tells, is_numbered, over, standings_in, stage_from, stage_in, sent_from, sent_in, takers_with, with_call}
-use Rattle.hc_wire.specs.declared.event.WireEvent.{WireEvent}
+use Rattle.hc_wire.specs.{Events.{Stage, Unseen, Open, Closed, Fresh, IsOpen, IsOfOpen, FitsIn, ended_of, stages_after, got_bytes}, Logs.{Log, Taker, Called, Tells, is_numbered, over, standings_in, stage_from, stage_in, sent_from, sent_in, takers_with, with_call}, declared.event.WireEvent.{WireEvent}}
 use Rattle.hc_wire.specs.declared.event.WireEvent.TheVariants as event
 use Rattle.hc_proxy.specs.declared.proxy.Proxy as loop
-use Rattle.hc_proxy.specs.Connections.{stands, taken_at}
-use Rattle.hc_proxy.specs.Handling.{begun, seen_at, clients_here, is_client}
-use Rattle.hc_proxy.specs.Invariants.{HasConsumers}
-use Rattle.hc_proxy.specs.Keeping.{Frame, Turn, HasCache, HasClients, HasUpstreams, IsClient, IsClientAt, AtWire, Begun}
-use Rattle.hc_proxy.specs.Resting.{IsRestingAt, Rests}
-use Rattle.hc_proxy.specs.Rows.{Client, Proxy}
-use Rattle.hc_proxy.specs.Serving.{IsStill}
-use Rattle.hc_proxy.specs.Standings.{client_stands}
-use Rattle.hc_proxy.specs.Underway.{OnWire}
-use Rattle.hc_proxy.proofs.Fitting.{client_there_stands, nobody_stands}
-use Rattle.hc_proxy.proofs.Followed.{follows_call, sent_changed, sent_new, unseen_none}
-use Rattle.hc_proxy.proofs.HoldersBegin.{AllStand, begin_keeps}
-use Rattle.hc_proxy.proofs.RowChanges.{fewer}
-use Rattle.hc_proxy.proofs.TakersStand.{taken_found, taken_missing, stands_found, open_taker, sent_found}
+use Rattle.hc_proxy.specs.{Connections.{stands, taken_at}, Handling.{begun, seen_at, clients_here, is_client}, Invariants.{HasConsumers}, Keeping.{Frame, Turn, HasCache, HasClients, HasUpstreams, IsClient, IsClientAt, AtWire, Begun}, Resting.{IsRestingAt, Rests}, Rows.{Client, Proxy}, Serving.{IsStill}, Standings.{client_stands}, Underway.{OnWire}}
+use Rattle.hc_proxy.proofs.{Fitting.{client_there_stands, nobody_stands}, Followed.{follows_call, sent_changed, sent_new, unseen_none}, HoldersBegin.{AllStand, begin_keeps}, RowChanges.{fewer}, TakersStand.{taken_found, taken_missing, stands_found, open_taker, sent_found}}
 
 -- what the call tells
 abbrev pub called : Log → Bool → ℕ → WireEvent → List ℕ → Called

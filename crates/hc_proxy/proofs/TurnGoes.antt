@@ -3,47 +3,17 @@
 -- The call fits what rested before it, so the log with it is one of the loop's, whose last turn is taken as whole. Where the turn is cut
 -- short, each connection has taken a first part of what it is owed behind the whole turn, and what was written is a first part of its
 -- record. Where it isn't, the tables behind it are those that the definitions owe, if the store counted no failure.
-use Rattle.std.proofs.Common.{◌≡◌, ◌≤◌, ◌<◌, ◌^◌, ℕ, ◌+◌, List, [], ◌∷◌, ◌++◌, Bool, true, false, Option, refl, ap, sym, ◌∙◌, subst, arith, append_assoc, append-nil}
-use Rattle.std.specs.Prelude.{length, map, max, reverse, find, Result, IfOk, OnErr}
-use Rattle.std.specs.List.{list_all}
-use Rattle.std.proofs.lemmas.List.{length-append}
+use Rattle.std.{proofs.{Common.{◌≡◌, ◌≤◌, ◌<◌, ◌^◌, ℕ, ◌+◌, List, [], ◌∷◌, ◌++◌, Bool, true, false, Option, refl, ap, sym, ◌∙◌, subst, arith, append_assoc, append-nil}, lemmas.List.{length-append}}, specs.{Prelude.{length, map, max, reverse, find, Result, IfOk, OnErr}, List.{list_all}}}
 use Rattle.hc_core.specs.Steps.{steps, faults_in}
 use Rattle.hc_io.proofs.Takings.{takes_none}
 use Rattle.hc_effects.proofs.Vocabulary.{Entry, History, Limits}
 use Rattle.hc_store.specs.declared.backend.Backend.{Ghosts}
 use Rattle.hc_sched.specs.Schedule.{timed_text}
-use Rattle.hc_wire.specs.Events.{Stage, Unseen, IsOfOpen, FitsIn, stages_after, got_bytes}
-use Rattle.hc_wire.specs.Logs.{Log, Called, Tells, is_numbered, stage_from, with_call}
-use Rattle.hc_wire.specs.declared.event.WireEvent.{WireEvent}
+use Rattle.hc_wire.specs.{Events.{Stage, Unseen, IsOfOpen, FitsIn, stages_after, got_bytes}, Logs.{Log, Called, Tells, is_numbered, stage_from, with_call}, declared.event.WireEvent.{WireEvent}}
 use Rattle.hc_wire.specs.declared.event.WireEvent.TheVariants as event
 use Rattle.hc_proxy.specs.declared.proxy.Proxy as loop
-use Rattle.hc_proxy.specs.declared.stop.Stop.{Stop}
-use Rattle.hc_proxy.specs.Carrying.{acts_in, carried}
-use Rattle.hc_proxy.specs.Endings.{was_sent}
-use Rattle.hc_proxy.specs.Handling.{begun}
-use Rattle.hc_proxy.specs.Invariants.{AreServed, last_event}
-use Rattle.hc_proxy.specs.Keeping.{Frame, Turn, Begun, KeepsPolled, Goes}
-use Rattle.hc_proxy.specs.Loops.{Fits, AllFit}
-use Rattle.hc_proxy.specs.Records.{text_of}
-use Rattle.hc_proxy.specs.Rows.{Proxy, unused}
-use Rattle.hc_proxy.specs.Serving.{IsOfLoop, IsCutShort, IsStill, FinishesTurn, CutsTurn, TurnsTo, TurnStops}
-use Rattle.hc_proxy.specs.Turns.{so_far, happened, turned, turned_by, behind_all, record_of, timed_of, text_behind}
-use Rattle.hc_proxy.specs.Underway.{OnWire, IsPolledOn}
-use Rattle.hc_proxy.specs.Waiting.{waits}
-use Rattle.hc_proxy.proofs.Fitting.{dialled_all, fits_now}
-use Rattle.hc_proxy.proofs.Folds.{turned_more, fit_more}
-use Rattle.hc_proxy.proofs.Later.{carried_is_same}
-use Rattle.hc_proxy.proofs.LetGo.{AreGone, turns_gone, unused_gone}
-use Rattle.hc_proxy.proofs.Marked.{contained_among}
-use Rattle.hc_proxy.proofs.MoreDials.{turn_same, turns_same, fits_same, all_fit}
-use Rattle.hc_proxy.proofs.Openings.{StandsKnown, unused_known, turns_know}
-use Rattle.hc_proxy.proofs.Parts.{turn_part}
-use Rattle.hc_proxy.proofs.SentStill.{sent_still}
-use Rattle.hc_proxy.proofs.ServedTurn.{WellHeld, happened_served}
-use Rattle.hc_proxy.proofs.SkippedSteps.{among}
-use Rattle.hc_proxy.proofs.Stands.{turn_goes, unused_stands}
-use Rattle.hc_proxy.proofs.StepOn.{stands_of}
-use Rattle.hc_proxy.proofs.Texts.{record_more}
+use Rattle.hc_proxy.specs.{declared.stop.Stop.{Stop}, Carrying.{acts_in, carried}, Endings.{was_sent}, Handling.{begun}, Invariants.{AreServed, last_event}, Keeping.{Frame, Turn, Begun, KeepsPolled, Goes}, Loops.{Fits, AllFit}, Records.{text_of}, Rows.{Proxy, unused}, Serving.{IsOfLoop, IsCutShort, IsStill, FinishesTurn, CutsTurn, TurnsTo, TurnStops}, Turns.{so_far, happened, turned, turned_by, behind_all, record_of, timed_of, text_behind}, Underway.{OnWire, IsPolledOn}, Waiting.{waits}}
+use Rattle.hc_proxy.proofs.{Fitting.{dialled_all, fits_now}, Folds.{turned_more, fit_more}, Later.{carried_is_same}, LetGo.{AreGone, turns_gone, unused_gone}, Marked.{contained_among}, MoreDials.{turn_same, turns_same, fits_same, all_fit}, Openings.{StandsKnown, unused_known, turns_know}, Parts.{turn_part}, SentStill.{sent_still}, ServedTurn.{WellHeld, happened_served}, SkippedSteps.{among}, Stands.{turn_goes, unused_stands}, StepOn.{stands_of}, Texts.{record_more}}
 use Rattle.hc_proxy.proofs.TurnBegins as begins
 use Rattle.hc_peers.proofs.Outcomes.{err-map, if_ok-map}
 

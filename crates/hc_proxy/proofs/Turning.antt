@@ -4,30 +4,17 @@
 -- client, the holder of a consumer, an event that is stepped, and an exchange that is opened. A relation
 -- between the tables before and behind that holds of each, of none and of two in a row holds of a turn, where it
 -- holds of its beginning. So the definitions are walked through once, here, and each law names what it is of each kind.
-use Rattle.std.proofs.Common.{◌≡◌, ℕ, ◌+◌, Bool, true, false, List, [], ◌∷◌, Option, Some, None, refl}
-use Rattle.std.specs.Prelude.{◌&&◌, is_none, nat_lt, length, if◌then◌else◌}
+use Rattle.std.{proofs.Common.{◌≡◌, ℕ, ◌+◌, Bool, true, false, List, [], ◌∷◌, Option, Some, None, refl}, specs.Prelude.{◌&&◌, is_none, nat_lt, length, if◌then◌else◌}}
 use Rattle.hc_effects.proofs.Vocabulary.{Act, Event, Request, is_open, Limits}
 use Rattle.hc_event.specs.declared.act.Act.TheVariants as act
 use Rattle.hc_event.specs.declared.event.Event.TheVariants as event
-use Rattle.hc_head.specs.declared.message.MsgError.{MsgError}
-use Rattle.hc_head.specs.declared.message.WireRequest.{WireRequest}
-use Rattle.hc_msg.specs.Inputs.{Next, Waits, Tells, Brings, Ends, Fails, next_in}
-use Rattle.hc_msg.specs.Reading.{Reading, Done, Failed, Token, Asks, Answers, Byte}
-use Rattle.hc_msg.specs.Taking.{ending}
-use Rattle.hc_wire.specs.Logs.{Called}
-use Rattle.hc_wire.specs.declared.event.WireEvent.{WireEvent}
+use Rattle.hc_head.specs.declared.message.{MsgError.{MsgError}, WireRequest.{WireRequest}}
+use Rattle.hc_msg.specs.{Inputs.{Next, Waits, Tells, Brings, Ends, Fails, next_in}, Reading.{Reading, Done, Failed, Token, Asks, Answers, Byte}, Taking.{ending}}
+use Rattle.hc_wire.specs.{Logs.{Called}, declared.event.WireEvent.{WireEvent}}
 use Rattle.hc_wire.specs.declared.event.WireEvent.TheVariants as wire
-use Rattle.hc_proxy.specs.Carrying.{answered, answers, opened, all_carried_out, carried, acts_in}
-use Rattle.hc_proxy.specs.Connections.{exchange_of}
-use Rattle.hc_proxy.specs.Handling.{begun, inserted, clients_here, left, cancelled, leaves, client_sends, origin_sends, origin_ends, breaks, sends, ends, broke, handled_by, handled}
-use Rattle.hc_proxy.specs.Network.{open_exchanges, is_last_denied, unless_denied, next_of, hands_head, hands, hands_if, event_at_close, closes, closes_if, handed, closed, heard}
+use Rattle.hc_proxy.specs.{Carrying.{answered, answers, opened, all_carried_out, carried, acts_in}, Connections.{exchange_of}, Handling.{begun, inserted, clients_here, left, cancelled, leaves, client_sends, origin_sends, origin_ends, breaks, sends, ends, broke, handled_by, handled}, Network.{open_exchanges, is_last_denied, unless_denied, next_of, hands_head, hands, hands_if, event_at_close, closes, closes_if, handed, closed, heard}, Polls.{live_consumers, may_be_polled, polled, each_polled, polled_all}, Rows.{Client, Upstream, Proxy, new_client, with, with_client, with_upstream}, Starts.{asks, with_holder, started, refused, hears_request, hears, is_ready, hears_if, started_all}, Steps.{stepped}, Turns.{so_far, happened, turned}}
 use Rattle.hc_proxy.specs.Network as network
-use Rattle.hc_proxy.specs.Polls.{live_consumers, may_be_polled, polled, each_polled, polled_all}
-use Rattle.hc_proxy.specs.Rows.{Client, Upstream, Proxy, new_client, with, with_client, with_upstream}
-use Rattle.hc_proxy.specs.Starts.{asks, with_holder, started, refused, hears_request, hears, is_ready, hears_if, started_all}
 use Rattle.hc_proxy.specs.Starts as starts
-use Rattle.hc_proxy.specs.Steps.{stepped}
-use Rattle.hc_proxy.specs.Turns.{so_far, happened, turned}
 
 -- THE KINDS OF CHANGES
 

@@ -2,15 +2,9 @@
 --
 -- It is a sum over the exchanges, whose numbers fall, so each stands once. Where one row has more or less, the sum has no more than so much
 -- more, or so much less. What an entry opens has a row of which nothing came.
-use Rattle.std.proofs.Common.{◌≡◌, ◌≤◌, ◌<◌, ℕ, ◌+◌, List, [], ◌∷◌, Bool, true, false, Option, Some, None, refl, ap, sym, subst, arith}
-use Rattle.std.specs.Prelude.{nat_eq, ◌||◌, if◌then◌else◌, option_map}
-use Rattle.std.specs.List.{sum_by}
-use Rattle.std.proofs.lemmas.Bool.Decides.{nat_tests}
-use Rattle.std.proofs.lemmas.List.Sums.{sum_by-cons}
+use Rattle.std.{proofs.{Common.{◌≡◌, ◌≤◌, ◌<◌, ℕ, ◌+◌, List, [], ◌∷◌, Bool, true, false, Option, Some, None, refl, ap, sym, subst, arith}, lemmas.{Bool.Decides.{nat_tests}, List.Sums.{sum_by-cons}}}, specs.{Prelude.{nat_eq, ◌||◌, if◌then◌else◌, option_map}, List.{sum_by}}}
 use Rattle.hc_effects.proofs.Vocabulary.{Opening, opening_in, is_denied, Entry, Descends, after, after_accepted, after_denied, openings_after}
-use Rattle.hc_proxy.specs.Invariants.{unread_of, unread}
-use Rattle.hc_proxy.specs.Rows.{Upstream, Proxy, with_upstream}
-use Rattle.hc_proxy.specs.Steps.{with_entry}
+use Rattle.hc_proxy.specs.{Invariants.{unread_of, unread}, Rows.{Upstream, Proxy, with_upstream}, Steps.{with_entry}}
 
 -- SUMS, where one member changes
 

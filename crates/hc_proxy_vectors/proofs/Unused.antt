@@ -1,9 +1,6 @@
 -- A wire that tells no call has handed out no number.
 use Rattle.std.proofs.Common.{◌≡◌, ℕ, ap, sym, subst, List, [], Option, None, Some, IfSome, refl}
-use Rattle.hc_wire.specs.declared.script.ScriptWire.{ScriptWire}
-use Rattle.hc_wire.specs.Events.{Unseen}
-use Rattle.hc_wire.specs.Logs.{Log, Taker, empty_log, stage_in}
-use Rattle.hc_wire.specs.Plays.{told}
+use Rattle.hc_wire.specs.{declared.script.ScriptWire.{ScriptWire}, Events.{Unseen}, Logs.{Log, Taker, empty_log, stage_in}, Plays.{told}}
 use Rattle.hc_proxy.specs.Endings.{IsFresh}
 
 -- the connections of a log, if there is one

@@ -1,17 +1,7 @@
 -- A text spells one range at most.
-use Rattle.std.proofs.Common.{◌≡◌, ◌≢◌, ℕ, ◌+◌, ◌<◌, ◌≤◌, Bool, true, false, eqb, not, List, [], ◌∷◌, ◌++◌, length, take, drop, map, Option, Some, refl, sym, ap, ◌∙◌, subst, inl, inr, arith, lit≤}
-use Rattle.std.specs.Char.{digit_value, to_ascii_lowercase}
-use Rattle.std.specs.List.{list_all}
-use Rattle.std.specs.Str.Parse.{AllDigits}
-use Rattle.std.proofs.lemmas.Bool.{cases_Bool, and_parts, and_from, eqb-true, eq-eqb, both_ways, not_from_false, not_from_true}
-use Rattle.std.proofs.lemmas.List.{append_assoc, length-append, length-map, take_at, drop_at}
+use Rattle.std.{proofs.{Common.{◌≡◌, ◌≢◌, ℕ, ◌+◌, ◌<◌, ◌≤◌, Bool, true, false, eqb, not, List, [], ◌∷◌, ◌++◌, length, take, drop, map, Option, Some, refl, sym, ap, ◌∙◌, subst, inl, inr, arith, lit≤}, lemmas.{Bool.{cases_Bool, and_parts, and_from, eqb-true, eq-eqb, both_ways, not_from_false, not_from_true}, List.{append_assoc, length-append, length-map, take_at, drop_at}}}, specs.{Char.{digit_value, to_ascii_lowercase}, List.{list_all}, Str.Parse.{AllDigits}}}
 use Rattle.hc_text.specs.Numbers.{IsNumber}
-use Rattle.hc_range.specs.Bytes.{LacksByte}
-use Rattle.hc_range.specs.declared.range.Asked.{Asked}
-use Rattle.hc_range.specs.declared.range.Asked.TheVariants.{From, FromTo, Last}
-use Rattle.hc_range.specs.declared.range.ContentRange.{ContentRange}
-use Rattle.hc_range.specs.declared.range.ContentRange.TheVariants.{Part, Unsatisfied}
-use Rattle.hc_range.specs.Ranges.{SpellsPositions, SpellsSpec, SpellsRange, SpellsTotal, SpellsResponse, SpellsContentRange}
+use Rattle.hc_range.specs.{Bytes.{LacksByte}, declared.range.{Asked.{Asked, TheVariants.{From, FromTo, Last}}, ContentRange.{ContentRange, TheVariants.{Part, Unsatisfied}}}, Ranges.{SpellsPositions, SpellsSpec, SpellsRange, SpellsTotal, SpellsResponse, SpellsContentRange}}
 
 abbrev other : ℕ → ℕ → Bool
 other c b = not (eqb b c)

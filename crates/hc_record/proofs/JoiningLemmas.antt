@@ -1,18 +1,10 @@
 -- The one strong tag of a list of values.
-use Rattle.std.proofs.Common.{◌≡◌, ℕ, ◌-◌, Bool, true, false, List, [], ◌∷◌, ◌++◌, length, Option, Some, None, refl, sym, ap, ◌∙◌, inl, inr, arith, length-append}
-use Rattle.std.specs.Prelude.{bytes_eq, ◌&&◌, Result, Ok, Err, OnErr}
-use Rattle.std.specs.List.{list_all}
-use Rattle.std.proofs.lemmas.Bool.{cases_Bool, cases_eq, ne_eqb, not_from_false, and_parts, and_from, both_ways}
-use Rattle.std.proofs.lemmas.List.{take_at}
-use Rattle.std.proofs.lemmas.Option.{none-some, same_Some}
-use Rattle.std.proofs.lemmas.Slice.Eq.{bytes_eq-Decides}
+use Rattle.std.{proofs.{Common.{◌≡◌, ℕ, ◌-◌, Bool, true, false, List, [], ◌∷◌, ◌++◌, length, Option, Some, None, refl, sym, ap, ◌∙◌, inl, inr, arith, length-append}, lemmas.{Bool.{cases_Bool, cases_eq, ne_eqb, not_from_false, and_parts, and_from, both_ways}, List.{take_at}, Option.{none-some, same_Some}, Slice.Eq.{bytes_eq-Decides}}}, specs.{Prelude.{bytes_eq, ◌&&◌, Result, Ok, Err, OnErr}, List.{list_all}}}
 use Rattle.hc_text.specs.Texts.{lacks}
-use Rattle.hc_etag.specs.Etags.{quote, is_etagc, IsOpaque, SpellsTag, tag_text}
-use Rattle.hc_etag.specs.TagTexts.{strong_in}
+use Rattle.hc_etag.specs.{Etags.{quote, is_etagc, IsOpaque, SpellsTag, tag_text}, TagTexts.{strong_in}}
 use Rattle.hc_etag.proofs.TagReads.{strong_in-spelled}
 use Rattle.hc_fields.specs.FirstValues.{only_of}
-use Rattle.hc_record.specs.Head.{inside_of, strong_opaque, one_strong_opaque}
-use Rattle.hc_record.specs.Lines.{joining_text}
+use Rattle.hc_record.specs.{Head.{inside_of, strong_opaque, one_strong_opaque}, Lines.{joining_text}}
 
 inside-tag : (opaque : List ℕ) → inside_of (tag_text false opaque) ≡ opaque
 inside-tag opaque =

@@ -1,19 +1,7 @@
 -- A plain number before the first of some byte.
-use Rattle.std.proofs.Common.{◌≡◌, ℕ, suc, ◌+◌, ◌-◌, ◌<◌, ◌≤◌, ◌^◌, Bool, true, List, ◌∷◌, ◌++◌, length, take, drop, get_or, sym, ap, ◌∙◌, inl, inr, arith, rules}
-use Rattle.std.specs.Char.{is_ascii_digit}
-use Rattle.std.specs.Fmt.{decimal}
-use Rattle.std.specs.List.{list_all}
-use Rattle.std.specs.Str.Parse.{digits_value}
-use Rattle.std.proofs.Math.Seq.{take-append-add}
-use Rattle.std.proofs.lemmas.Bool.{cases_lt, and_parts}
-use Rattle.std.proofs.lemmas.Fmt.{decimal_is_IsNumeral, decimal-digits_value}
-use Rattle.std.proofs.lemmas.List.{take-append-drop, take-append-le}
-use Rattle.std.proofs.lemmas.List.Folds.{list_all-append}
-use Rattle.std.proofs.lemmas.Str.Parse.{IsNumeralModel, numerals_by_value, digits_value-take-le}
-use Rattle.hc_text.specs.Numbers.{IsPlain}
-use Rattle.hc_text.specs.Texts.{lacks}
-use Rattle.hc_text.proofs.NumberLemmas.{tested-AllDigits}
-use Rattle.hc_text.proofs.Cuts.{cut_once, lacks-decimal, lacks-not}
+use Rattle.std.{proofs.{Common.{◌≡◌, ℕ, suc, ◌+◌, ◌-◌, ◌<◌, ◌≤◌, ◌^◌, Bool, true, List, ◌∷◌, ◌++◌, length, take, drop, get_or, sym, ap, ◌∙◌, inl, inr, arith, rules}, Math.Seq.{take-append-add}, lemmas.{Bool.{cases_lt, and_parts}, Fmt.{decimal_is_IsNumeral, decimal-digits_value}, List.{take-append-drop, take-append-le, Folds.{list_all-append}}, Str.Parse.{IsNumeralModel, numerals_by_value, digits_value-take-le}}}, specs.{Char.{is_ascii_digit}, Fmt.{decimal}, List.{list_all}, Str.Parse.{digits_value}}}
+use Rattle.hc_text.specs.{Numbers.{IsPlain}, Texts.{lacks}}
+use Rattle.hc_text.proofs.{NumberLemmas.{tested-AllDigits}, Cuts.{cut_once, lacks-decimal, lacks-not}}
 use Rattle.hc_record.specs.Lines.{IsSmall}
 
 pub tested : IsNumeralModel (λ ds. list_all is_ascii_digit ds ≡ true) (digits_value 10)

@@ -1,15 +1,7 @@
 -- A text begins with one part of each form at most.
-use Rattle.std.proofs.Common.{◌≡◌, ◌≢◌, ℕ, ◌<◌, List, [], ◌∷◌, ◌++◌, take, drop, Option, Some, None, refl, sym, ap, ◌∙◌, arith}
-use Rattle.std.specs.Prelude.{if◌then◌else◌, ◌==◌, replicate}
-use Rattle.std.specs.Fmt.{decimal}
-use Rattle.std.proofs.lemmas.Fmt.{decimal_injective}
-use Rattle.std.proofs.lemmas.List.{append_assoc, take_at, drop_at}
+use Rattle.std.{proofs.{Common.{◌≡◌, ◌≢◌, ℕ, ◌<◌, List, [], ◌∷◌, ◌++◌, take, drop, Option, Some, None, refl, sym, ap, ◌∙◌, arith}, lemmas.{Fmt.{decimal_injective}, List.{append_assoc, take_at, drop_at}}}, specs.{Prelude.{if◌then◌else◌, ◌==◌, replicate}, Fmt.{decimal}}}
 use Rattle.hc_text.specs.Numbers.{IsNumber}
-use Rattle.hc_record.specs.declared.kind.Kind.{Kind}
-use Rattle.hc_record.specs.declared.kind.Kind.TheVariants.{Growing, Whole, Truncated, Ranges}
-use Rattle.hc_record.specs.declared.parts.Numbers.{Numbers}
-use Rattle.hc_record.specs.Lines.{kind_byte, total_text, seal_line, numbers_line, number_and_end, IsSmall, IsSmallTotal}
-use Rattle.hc_record.specs.Parts.{numbers_text, AreSmall}
+use Rattle.hc_record.specs.{declared.{kind.Kind.{Kind, TheVariants.{Growing, Whole, Truncated, Ranges}}, parts.Numbers.{Numbers}}, Lines.{kind_byte, total_text, seal_line, numbers_line, number_and_end, IsSmall, IsSmallTotal}, Parts.{numbers_text, AreSmall}}
 use Rattle.hc_text.proofs.Cuts.{cut_once, lacks-decimal}
 use Rattle.hc_record.proofs.Totals.{length-total_text, IsNumber-total}
 

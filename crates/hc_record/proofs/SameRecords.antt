@@ -1,15 +1,9 @@
 -- Two heads of which one's record begins the other's.
-use Rattle.std.proofs.Common.{◌≡◌, ℕ, List, [], ◌++◌, Option, refl, sym, ap, ◌∙◌}
-use Rattle.std.proofs.lemmas.List.{append_assoc, append-nil}
+use Rattle.std.proofs.{Common.{◌≡◌, ℕ, List, [], ◌++◌, Option, refl, sym, ap, ◌∙◌}, lemmas.List.{append_assoc, append-nil}}
 use Rattle.hc_fields.specs.Lines.{fields_text}
 use Rattle.hc_fields.proofs.FieldTexts.{fields_once}
-use Rattle.hc_record.specs.declared.kind.Kind.{Kind}
-use Rattle.hc_record.specs.declared.version.Version.{Version}
-use Rattle.hc_record.specs.Head.{Head, IsHead, joining_of}
-use Rattle.hc_record.specs.Lines.{joining_text, tag_line}
-use Rattle.hc_record.specs.Record.{field_lines, spelling}
+use Rattle.hc_record.specs.{declared.{kind.Kind.{Kind}, version.Version.{Version}}, Head.{Head, IsHead, joining_of}, Lines.{joining_text, tag_line}, Record.{field_lines, spelling}, Parts.{first_text}}
 use Rattle.hc_record.proofs.Stages.{first_of, AreFirst-of, rest_lines, spelling-parts, first_once, tag_once, lacks-own}
-use Rattle.hc_record.specs.Parts.{first_text}
 
 pub record Same (a b : Head) (v w : Version) (rest : List ℕ) : Type 0 where
   pub version : v ≡ w

@@ -1,24 +1,11 @@
 -- A record read from its front: what is left behind each of its parts.
-use Rattle.std.proofs.Common.{◌≡◌, ◌≢◌, ℕ, true, List, [], ◌∷◌, ◌++◌, length, take, drop, get_or, IsTrue, refl, sym, ap, ◌∙◌, inl, inr, arith}
-use Rattle.std.specs.Prelude.{◌==◌, ◌||◌, codes}
-use Rattle.std.proofs.lemmas.Bool.{or_cases, eqb-true}
-use Rattle.std.proofs.lemmas.List.{append_assoc, append-nil, take_at, drop_at}
+use Rattle.std.{proofs.{Common.{◌≡◌, ◌≢◌, ℕ, true, List, [], ◌∷◌, ◌++◌, length, take, drop, get_or, IsTrue, refl, sym, ap, ◌∙◌, inl, inr, arith}, lemmas.{Bool.{or_cases, eqb-true}, List.{append_assoc, append-nil, take_at, drop_at}}}, specs.Prelude.{◌==◌, ◌||◌, codes}}
 use Rattle.hc_text.specs.Texts.{lacks}
-use Rattle.hc_fields.specs.FieldList.{values_of, IsListOf}
-use Rattle.hc_fields.specs.Lines.{fields_text}
+use Rattle.hc_fields.specs.{FieldList.{values_of, IsListOf}, Lines.{fields_text}}
 use Rattle.hc_text.proofs.Cuts.{cut_once}
 use Rattle.hc_fields.proofs.FieldTexts.{fields_once}
-use Rattle.hc_record.specs.declared.version.Version.{Version}
-use Rattle.hc_record.specs.declared.version.Version.TheVariants.{First, Second}
-use Rattle.hc_record.specs.declared.parts.Seal.{Seal}
-use Rattle.hc_record.specs.declared.parts.Numbers.{Numbers}
-use Rattle.hc_record.specs.declared.parts.FirstLines.{FirstLines}
-use Rattle.hc_record.specs.Head.{Head, IsHead}
-use Rattle.hc_record.specs.Lines.{IsSmall, version_line, seal_line, joining_text, tag_line}
-use Rattle.hc_record.specs.Parts.{seal_text, IsSmallSeal, numbers_text, AreSmall, first_text, AreFirst}
-use Rattle.hc_record.specs.Record.{field_lines, spelling}
-use Rattle.hc_record.proofs.JoiningLemmas.{lacks-joining}
-use Rattle.hc_record.proofs.Once.{SameSeal, seal_once, SameNumbers, numbers_once}
+use Rattle.hc_record.specs.{declared.{version.Version.{Version, TheVariants.{First, Second}}, parts.{Seal.{Seal}, Numbers.{Numbers}, FirstLines.{FirstLines}}}, Head.{Head, IsHead}, Lines.{IsSmall, version_line, seal_line, joining_text, tag_line}, Parts.{seal_text, IsSmallSeal, numbers_text, AreSmall, first_text, AreFirst}, Record.{field_lines, spelling}}
+use Rattle.hc_record.proofs.{JoiningLemmas.{lacks-joining}, Once.{SameSeal, seal_once, SameNumbers, numbers_once}}
 
 pub status_cases : (status : ℕ) → IsTrue (status == 200 || status == 206) → (status ≢ 200) × (status ≢ 206) → ⊥
 status_cases status known other =

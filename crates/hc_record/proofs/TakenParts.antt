@@ -1,10 +1,5 @@
 -- The parts that a cursor takes.
-use Rattle.std.proofs.Common.{◌≡◌, ◌≢◌, ℕ, false, List, ◌++◌, take, Option, Some, None, refl, sym, ap, ◌∙◌}
-use Rattle.std.specs.Prelude.{replicate, bytes_eq}
-use Rattle.std.proofs.lemmas.Bool.{both_ways}
-use Rattle.std.proofs.lemmas.Option.{same_Some}
-use Rattle.std.proofs.lemmas.Slice.Eq.{bytes_eq-Decides}
-use Rattle.std.proofs.lemmas.List.{take_at}
+use Rattle.std.{proofs.{Common.{◌≡◌, ◌≢◌, ℕ, false, List, ◌++◌, take, Option, Some, None, refl, sym, ap, ◌∙◌}, lemmas.{Bool.{both_ways}, Option.{same_Some}, Slice.Eq.{bytes_eq-Decides}, List.{take_at}}}, specs.Prelude.{replicate, bytes_eq}}
 use Rattle.hc_text.specs.Numbers.{IsNumber}
 use Rattle.hc_record.specs.Lines.{IsSmall, IsSmallTotal, total_text}
 use Rattle.hc_record.proofs.Totals.{length-total_text, IsNumber-total}

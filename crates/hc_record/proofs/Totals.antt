@@ -1,22 +1,8 @@
 -- The 20 bytes of a total.
-use Rattle.std.proofs.Common.{◌≡◌, ℕ, zero, suc, ◌-◌, ◌<◌, ◌≤◌, ◌^◌, List, [], ◌∷◌, ◌++◌, length, take, drop, Option, Some, None, refl, sym, ap, ◌∙◌, inl, inr, arith, length-append}
-use Rattle.std.specs.Prelude.{replicate}
-use Rattle.std.specs.List.{replace_range}
+use Rattle.std.{proofs.{Common.{◌≡◌, ℕ, zero, suc, ◌-◌, ◌<◌, ◌≤◌, ◌^◌, List, [], ◌∷◌, ◌++◌, length, take, drop, Option, Some, None, refl, sym, ap, ◌∙◌, inl, inr, arith, length-append}, lemmas.{Bool.{cases_eq}, Option.{same_Some}, Fmt.{length-decimal-le, decimal_is_IsNumeral, decimal-digits_value}, Str.Parse.{IsNumeralModel, numerals_by_value, tells_digits}, List.{length-replicate, append_assoc, drop_at, drop-drop}}}, specs.{Prelude.{replicate}, List.{replace_range}, Fmt.{decimal}, Str.Parse.{AllDigits, digits_value}}}
 use borrow.Rule.Slice.PartMut.{put_mid}
-use Rattle.std.specs.Fmt.{decimal}
-use Rattle.std.specs.Str.Parse.{AllDigits, digits_value}
-use Rattle.std.proofs.lemmas.Bool.{cases_eq}
-use Rattle.std.proofs.lemmas.Option.{same_Some}
-use Rattle.std.proofs.lemmas.Fmt.{length-decimal-le, decimal_is_IsNumeral, decimal-digits_value}
-use Rattle.std.proofs.lemmas.Str.Parse.{IsNumeralModel, numerals_by_value, tells_digits}
 use Rattle.hc_text.specs.Numbers.{IsNumber}
-use Rattle.std.proofs.lemmas.List.{length-replicate, append_assoc, drop_at, drop-drop}
-use Rattle.hc_record.specs.declared.kind.Kind.{Kind}
-use Rattle.hc_record.specs.declared.version.Version.{Version}
-use Rattle.hc_record.specs.declared.version.Version.TheVariants.{First, Second}
-use Rattle.hc_record.specs.Head.{Head, sealed_head}
-use Rattle.hc_record.specs.Lines.{IsSmall, IsSmallTotal, total_text, sealed_record}
-use Rattle.hc_record.specs.Record.{later_lines, spelling}
+use Rattle.hc_record.specs.{declared.{kind.Kind.{Kind}, version.Version.{Version, TheVariants.{First, Second}}}, Head.{Head, sealed_head}, Lines.{IsSmall, IsSmallTotal, total_text, sealed_record}, Record.{later_lines, spelling}}
 
 pub length-decimal : (n : ℕ) → IsSmall n → length (decimal n) ≤ 20
 length-decimal n small = length-decimal-le 20 n (omega arith) (omega arith) (omega arith)

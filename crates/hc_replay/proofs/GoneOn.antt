@@ -4,15 +4,11 @@ use Rattle.hc_effects.proofs.Vocabulary.{Event, Act, Limits, Contents, History, 
 use Rattle.hc_event.specs.declared.event.Event.TheVariants as event
 use Rattle.hc_sorted.specs.Sorted.{is_sorted}
 use Rattle.hc_exch.specs.Wishes.{is_among, itself}
-use Rattle.hc_generate.specs.Hearing.{state_after}
-use Rattle.hc_generate.specs.Rounds.{IsRound, IsShort}
-use Rattle.hc_generate.specs.States.{State}
+use Rattle.hc_generate.specs.{Hearing.{state_after}, Rounds.{IsRound, IsShort}, States.{State}}
 use Rattle.hc_core.specs.Steps as core
 use Rattle.hc_core.specs.Steps.{StandsFor, Answers, last_moment, bytes_received, limits_in}
-use Rattle.hc_replay.specs.declared.rounds.Rounds.{Rounds}
+use Rattle.hc_replay.specs.{declared.rounds.Rounds.{Rounds}, Generates.{MayGoOn, Stands}, Summaries.{HasGone, AreWanted, entry_at}}
 use Rattle.hc_replay.specs.Summaries as summaries
-use Rattle.hc_replay.specs.Generates.{MayGoOn, Stands}
-use Rattle.hc_replay.specs.Summaries.{HasGone, AreWanted, entry_at}
 use Rattle.hc_replay.proofs.Reported.{new_moment}
 
 pub stands_new : (limits : Limits) (seed : ℕ) (r : Rounds) → StandsFor r.cache no_contents [] → core.steps r.cache + bytes_received r.cache ≡ 0 → limits_in r.cache ≡ limits → r.generator ≡ Rattle.hc_generate.specs.States.beginning seed → Stands limits seed 0 r

@@ -9,25 +9,18 @@ use Rattle.std.proofs.Common.{◌≡◌, ℕ, ◌+◌, ◌≤◌, List, [], ◌+
 use Rattle.hc_io.specs.Source.{Gives, GivesAll}
 use Rattle.hc_store.specs.declared.backend.Backend.{Ghosts}
 use Rattle.hc_effects.proofs.Vocabulary.{Act, Event, Limits, Contents, History, no_contents, IsRun, tables}
-use Rattle.hc_sched.specs.declared.schedule.Ended.{Ended}
+use Rattle.hc_sched.specs.{declared.schedule.{Ended.{Ended}, Refused.{Refused}, Timed.{Timed}}, Laws.{refusal_of}}
 use Rattle.hc_sched.specs.declared.schedule.Ended.TheVariants as ended
-use Rattle.hc_sched.specs.declared.schedule.Refused.{Refused}
-use Rattle.hc_sched.specs.declared.schedule.Timed.{Timed}
-use Rattle.hc_sched.specs.Laws.{refusal_of}
 use Rattle.hc_sched.proofs.OneReading.{is_read}
 use Rattle.hc_driver.specs.Endings as endings
-use Rattle.hc_driver.specs.Endings.{How, Ends, IsRefused}
+use Rattle.hc_driver.specs.{Endings.{How, Ends, IsRefused}, Stepping.{events_in, Leads, nothing, more, Steps}}
 use Rattle.hc_driver.specs.Stepping as steps
-use Rattle.hc_driver.specs.Stepping.{events_in, Leads, nothing, more, Steps}
 use Rattle.hc_driver.proofs.Reported.{ends_so}
 use Rattle.hc_effects.proofs.Basics.{some_none}
 use Rattle.hc_laws.proofs.ReadWhole.{runs_read_whole}
-use Rattle.hc_core.specs.declared.cache.Cache.{Cache}
-use Rattle.hc_core.specs.Steps.{StandsFor, Answers, has_failed, limits_in, faults_in, last_moment}
-use Rattle.hc_core.specs.Steps.{steps as steps_in}
+use Rattle.hc_core.specs.{declared.cache.Cache.{Cache}, Steps.{StandsFor, Answers, has_failed, limits_in, faults_in, last_moment, steps as steps_in}}
 use Rattle.hc_replay.specs.Replays as replays
-use Rattle.hc_replay.specs.Replays.{GoesOn, IsReplayed, Replays, Completes}
-use Rattle.hc_replay.specs.Histories.{run_of, failures}
+use Rattle.hc_replay.specs.{Replays.{GoesOn, IsReplayed, Replays, Completes}, Histories.{run_of, failures}}
 
 module _ {B : Type 0} {g : Ghosts B} where
   -- a new cache comes from no moment

@@ -1,20 +1,9 @@
 -- Who is admitted beside others is planned so.
-use Rattle.std.proofs.Common.{◌≡◌, ℕ, Bool, true, false, cond, Option, Some, None, refl, ap, ◌∙◌}
-use Rattle.std.specs.Prelude.{◌&&◌, is_some, is_none}
-use Rattle.hc_range.specs.declared.range.Asked.{Asked}
-use Rattle.hc_range.specs.declared.range.Span.{Span}
+use Rattle.std.{proofs.Common.{◌≡◌, ℕ, Bool, true, false, cond, Option, Some, None, refl, ap, ◌∙◌}, specs.Prelude.{◌&&◌, is_some, is_none}}
+use Rattle.hc_range.specs.declared.range.{Asked.{Asked}, Span.{Span}}
 use Rattle.hc_event.specs.declared.act.Why.{Why}
-use Rattle.hc_rules.specs.declared.request.Wanted.{Wanted}
-use Rattle.hc_rules.specs.declared.plan.Plan.TheVariants.{Bind}
-use Rattle.hc_rules.specs.declared.plan.Plan.{Plan}
-use Rattle.hc_rules.specs.declared.plan.Candidate.{Candidate}
-use Rattle.hc_rules.specs.declared.plan.PlanView.{PlanView}
+use Rattle.hc_rules.specs.{declared.{request.Wanted.{Wanted}, plan.{Plan.{Plan, TheVariants.{Bind}}, Candidate.{Candidate}, PlanView.{PlanView}}, admission.Admission.{Admission, TheVariants.{Reader}}}, Plans.{by_wanted, by_exclusive, by_hole, by_bound, busy}, Admissions.{admission_of, beside_writing, beside_exclusive, with_holes, least_of}, Laws.{carried_out, AdmitsAsPlanned}}
 use Rattle.hc_rules.specs.declared.admission.BoundKind.TheVariants as kind
-use Rattle.hc_rules.specs.declared.admission.Admission.{Admission}
-use Rattle.hc_rules.specs.declared.admission.Admission.TheVariants.{Reader}
-use Rattle.hc_rules.specs.Plans.{by_wanted, by_exclusive, by_hole, by_bound, busy}
-use Rattle.hc_rules.specs.Admissions.{admission_of, beside_writing, beside_exclusive, with_holes, least_of}
-use Rattle.hc_rules.specs.Laws.{carried_out, AdmitsAsPlanned}
 
 bound-planned : (v : PlanView) (why : Why) (span hole : Span) (least : Option ℕ) → by_bound v span hole least ≡ carried_out v why span (Some hole) (with_holes least)
 bound-planned v why span hole None = refl

@@ -1,14 +1,7 @@
 -- What the cases of heads say of their heads.
-use Rattle.std.proofs.Common.{◌≡◌, ◌≤◌, eqb, leb}
-use Rattle.std.specs.Prelude.{◌&&◌, ◌||◌, not}
-use Rattle.std.proofs.lemmas.Bool.{and_parts, eqb-true}
+use Rattle.std.{proofs.{Common.{◌≡◌, ◌≤◌, eqb, leb}, lemmas.Bool.{and_parts, eqb-true}}, specs.Prelude.{◌&&◌, ◌||◌, not}}
 use Rattle.hc_text.proofs.Basics.{either, leb-le, not_true as not_lost}
-use Rattle.hc_rules.specs.declared.need.Route.{Route}
-use Rattle.hc_rules.specs.declared.need.Route.TheVariants.{Direct, Turn, Hole}
-use Rattle.hc_rules.specs.declared.heads.HeadView.{HeadView}
-use Rattle.hc_rules.specs.Needs.{route_of}
-use Rattle.hc_rules.specs.HeadCases.{head_case, case_on, direct_case, turn_case, first_case, later_case}
-use Rattle.hc_rules.specs.Laws.{IsRightCase, CasesAreRight}
+use Rattle.hc_rules.specs.{declared.{need.Route.{Route, TheVariants.{Direct, Turn, Hole}}, heads.HeadView.{HeadView}}, Needs.{route_of}, HeadCases.{head_case, case_on, direct_case, turn_case, first_case, later_case}, Laws.{IsRightCase, CasesAreRight}}
 
 direct-right : (v : HeadView) → IsRightCase v (direct_case v)
 direct-right v = either (IsRightCase v) v.bad _ _ (λ bad. bad) (λ good. good)

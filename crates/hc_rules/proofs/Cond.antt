@@ -1,3 +1,2 @@
 -- Facts about a choice.
-use Rattle.std.proofs.Common.{◌≡◌, ◌⊎◌}
-use Rattle.std.specs.Prelude.{◌&&◌}
+use Rattle.std.{proofs.Common.{◌≡◌, ◌⊎◌}, specs.Prelude.{◌&&◌}}

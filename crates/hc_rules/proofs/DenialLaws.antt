@@ -1,16 +1,8 @@
 -- A denied event names the least refusal that applies.
-use Rattle.std.proofs.Common.{◌≡◌, ◌≢◌, ℕ, ◌+◌, ◌<◌, ◌≤◌, true, false, eqb, leb, ltb, length, Option, Some, None, refl, sym, ◌∙◌, arith, lit≤}
-use Rattle.std.specs.Prelude.{not}
-use Rattle.std.proofs.lemmas.Bool.{eqb-true}
-use Rattle.std.proofs.lemmas.Bool.Decides.{nat_tests}
+use Rattle.std.{proofs.{Common.{◌≡◌, ◌≢◌, ℕ, ◌+◌, ◌<◌, ◌≤◌, true, false, eqb, leb, ltb, length, Option, Some, None, refl, sym, ◌∙◌, arith, lit≤}, lemmas.Bool.{eqb-true, Decides.{nat_tests}}}, specs.Prelude.{not}}
 use Rattle.hc_text.proofs.Basics.{not_true as denied, either, not_false as granted, leb-le, leb-lt, ltb-le, ltb-lt}
-use Rattle.hc_event.specs.declared.event.Event.TheVariants.{Start, Poll, Head, Piece, End, Fault, Cancel, Doom}
-use Rattle.hc_event.specs.declared.act.Refusal.{Refusal}
-use Rattle.hc_event.specs.declared.act.Refusal.TheVariants.{NotRising, TooManyConsumers, NoConsumer, Finished, WantZero, NoExchange, HeadTwice, NoHeadYet, NotAsked, EmptyPiece, Overlong}
-use Rattle.hc_rules.specs.declared.refusal.Gate.{Gate}
-use Rattle.hc_rules.specs.declared.refusal.OpenExchange.{OpenExchange}
-use Rattle.hc_rules.specs.Refusals.{refusal_of, start_refusal, poll_refusal, consumer_refusal, head_refusal, piece_refusal, end_refusal, fault_refusal, overlong}
-use Rattle.hc_rules.specs.Laws.{rank, IsLeast, StopsClosed, DenialsAreLeast, StopsStart, StopsPoll, StopsCancel, StopsHead, StopsPiece, StopsEnd, StopsFault}
+use Rattle.hc_event.specs.declared.{event.Event.TheVariants.{Start, Poll, Head, Piece, End, Fault, Cancel, Doom}, act.Refusal.{Refusal, TheVariants.{NotRising, TooManyConsumers, NoConsumer, Finished, WantZero, NoExchange, HeadTwice, NoHeadYet, NotAsked, EmptyPiece, Overlong}}}
+use Rattle.hc_rules.specs.{declared.refusal.{Gate.{Gate}, OpenExchange.{OpenExchange}}, Refusals.{refusal_of, start_refusal, poll_refusal, consumer_refusal, head_refusal, piece_refusal, end_refusal, fault_refusal, overlong}, Laws.{rank, IsLeast, StopsClosed, DenialsAreLeast, StopsStart, StopsPoll, StopsCancel, StopsHead, StopsPiece, StopsEnd, StopsFault}}
 
 eqb-other : (m n : ℕ) → eqb m n ≡ false → m ≢ n
 eqb-other m n h = grind (arith, nat_tests)

@@ -1,18 +1,10 @@
 -- What joins brings bytes of the hole from the same representation, and nothing else does.
-use Rattle.std.proofs.Common.{◌≡◌, ℕ, ◌+◌, ◌<◌, Bool, true, false, eqb, leb, List, Option, Some, None, refl, sym, ap, ◌∙◌, inl, inr, arith}
-use Rattle.std.specs.Prelude.{◌&&◌, not, bytes_eq}
-use Rattle.std.proofs.lemmas.Bool.{and_parts, and_from, eqb-true}
-use Rattle.std.proofs.lemmas.Bool.Decides.{nat_tests}
+use Rattle.std.{proofs.{Common.{◌≡◌, ℕ, ◌+◌, ◌<◌, Bool, true, false, eqb, leb, List, Option, Some, None, refl, sym, ap, ◌∙◌, inl, inr, arith}, lemmas.Bool.{and_parts, and_from, eqb-true, Decides.{nat_tests}}}, specs.Prelude.{◌&&◌, not, bytes_eq}}
 use Rattle.hc_text.proofs.Basics.{not_true as denied, eqb-same}
-use Rattle.hc_range.specs.declared.range.Span.{Span}
-use Rattle.hc_range.specs.declared.range.ContentRange.{ContentRange}
-use Rattle.hc_range.specs.declared.range.ContentRange.TheVariants.{Part, Unsatisfied}
+use Rattle.hc_range.specs.declared.range.{Span.{Span}, ContentRange.{ContentRange, TheVariants.{Part, Unsatisfied}}}
 use Rattle.hc_cachectl.specs.Directives.{of_response}
 use Rattle.hc_event.specs.declared.event.Response.{Response}
-use Rattle.hc_rules.specs.RangeTexts.{content_range_of}
-use Rattle.hc_rules.specs.TagTexts.{strong_of, strongly_equals, is_same_tag}
-use Rattle.hc_rules.specs.Joins.{joins, fills}
-use Rattle.hc_rules.specs.Laws.{IsJoin, JoinsAreRight}
+use Rattle.hc_rules.specs.{RangeTexts.{content_range_of}, TagTexts.{strong_of, strongly_equals, is_same_tag}, Joins.{joins, fills}, Laws.{IsJoin, JoinsAreRight}}
 use Rattle.hc_rules.proofs.RangeReads.{seen, same_bytes, bytes_eq-same}
 
 leb-lt : (m n : ℕ) → leb (m + 1) n ≡ true → m < n

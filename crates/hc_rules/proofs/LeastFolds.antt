@@ -1,10 +1,5 @@
 -- The least of a list, taken element by element.
-use Rattle.std.proofs.Common.{◌≡◌, ℕ, ◌+◌, ◌<◌, Bool, true, false, cond, List, [], ◌∷◌, ◌++◌, length, take, map, get_or, Option, Some, None, refl, ap, ◌∙◌, inl, inr, arith}
-use Rattle.std.specs.Prelude.{filter, min}
-use Rattle.std.proofs.lemmas.Bool.{cases_Bool}
-use Rattle.std.proofs.lemmas.List.{take_more, map-append, append-nil}
-use Rattle.std.proofs.lemmas.List.Elements.{filter-append}
-use Rattle.std.proofs.Math.Nat.{min_comm}
+use Rattle.std.{proofs.{Common.{◌≡◌, ℕ, ◌+◌, ◌<◌, Bool, true, false, cond, List, [], ◌∷◌, ◌++◌, length, take, map, get_or, Option, Some, None, refl, ap, ◌∙◌, inl, inr, arith}, lemmas.{Bool.{cases_Bool}, List.{take_more, map-append, append-nil, Elements.{filter-append}}}, Math.Nat.{min_comm}}, specs.Prelude.{filter, min}}
 use Rattle.hc_rules.specs.Least.{lesser, least}
 
 min_swap : (a x y : ℕ) → min (min a x) y ≡ min (min a y) x

@@ -1,17 +1,9 @@
 -- The least of a list is one of it, and none is less.
-use Rattle.std.proofs.Common.{◌≡◌, ◌≢◌, ℕ, zero, suc, ◌≤◌, Bool, true, cond, min, List, [], ◌∷◌, map, get_or, Option, Some, None, refl, sym, subst, inl, inr, arith}
-use Rattle.std.specs.Prelude.{All, Contains, filter}
-use Rattle.std.proofs.lemmas.Bool.{cases_Bool, cases_lt}
-use Rattle.std.proofs.lemmas.List.Elements.{All-cons, All-nil}
+use Rattle.std.{proofs.{Common.{◌≡◌, ◌≢◌, ℕ, zero, suc, ◌≤◌, Bool, true, cond, min, List, [], ◌∷◌, map, get_or, Option, Some, None, refl, sym, subst, inl, inr, arith}, lemmas.{Bool.{cases_Bool, cases_lt}, List.Elements.{All-cons, All-nil}}}, specs.Prelude.{All, Contains, filter}}
 use Rattle.hc_text.proofs.Basics.{either}
-use Rattle.hc_rules.specs.declared.survivor.Member.{Member}
-use Rattle.hc_rules.specs.declared.admission.Bound.{Bound}
+use Rattle.hc_rules.specs.{declared.{survivor.Member.{Member}, admission.Bound.{Bound}}, Least.{least, lesser}, Survivors.{stands_at}, Admissions.{admission_of, beside_writing, beside_exclusive, with_holes, is_of, numbers, least_of, least_bound}, Laws.{IsLeastOf, SurvivorsAreLeast, IsRightAdmission, AdmissionsAreRight, those}}
 use Rattle.hc_rules.specs.declared.admission.BoundKind.TheVariants as kind
 use Rattle.hc_rules.specs.declared.admission.Admission.TheVariants as admission
-use Rattle.hc_rules.specs.Least.{least, lesser}
-use Rattle.hc_rules.specs.Survivors.{stands_at}
-use Rattle.hc_rules.specs.Admissions.{admission_of, beside_writing, beside_exclusive, with_holes, is_of, numbers, least_of, least_bound}
-use Rattle.hc_rules.specs.Laws.{IsLeastOf, SurvivorsAreLeast, IsRightAdmission, AdmissionsAreRight, those}
 
 contains-here : (n : ℕ) (ns : List ℕ) → Contains (n ∷ ns) n
 contains-here n ns = (0, omega arith, refl)

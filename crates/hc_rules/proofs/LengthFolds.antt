@@ -1,17 +1,8 @@
 -- What the elements tell, read one by one, is what they tell as a whole.
-use Rattle.std.proofs.Common.{◌≡◌, ℕ, ◌+◌, ◌&&◌, List, [], ◌∷◌, ◌++◌, drop, cond, Option, Some, None, refl, sym, inl, inr}
-use Rattle.std.specs.Prelude.{slice_get}
-use Rattle.std.specs.List.{flat_map}
-use Rattle.std.proofs.lemmas.Bool.{cases_Bool}
-use Rattle.std.proofs.lemmas.List.{drop_more}
-use Rattle.std.proofs.lemmas.Option.{slice_get_within, get_or_from_slice_get}
+use Rattle.std.{proofs.{Common.{◌≡◌, ℕ, ◌+◌, ◌&&◌, List, [], ◌∷◌, ◌++◌, drop, cond, Option, Some, None, refl, sym, inl, inr}, lemmas.{Bool.{cases_Bool}, List.{drop_more}, Option.{slice_get_within, get_or_from_slice_get}}}, specs.{Prelude.{slice_get}, List.{flat_map}}}
 use Rattle.hc_text.proofs.Basics.{eqb-same}
 use Rattle.hc_text.specs.Elements.{elements}
-use Rattle.hc_rules.specs.declared.length.Length.{Length}
-use Rattle.hc_rules.specs.declared.length.Length.TheVariants.{Unknown, Promised, Bad}
-use Rattle.hc_rules.specs.Lengths.{is_same_number, promised_or_bad, all_tell, content_length_of}
-use Rattle.hc_rules.specs.RangeTexts.{number_of}
-use Rattle.hc_rules.specs.LengthSoFar.{with_element, with_elements}
+use Rattle.hc_rules.specs.{declared.length.Length.{Length, TheVariants.{Unknown, Promised, Bad}}, Lengths.{is_same_number, promised_or_bad, all_tell, content_length_of}, RangeTexts.{number_of}, LengthSoFar.{with_element, with_elements}}
 
 with_elements-append : (so_far : Length) (xs ys : List (List ℕ)) → with_elements so_far (xs ++ ys) ≡ with_elements (with_elements so_far xs) ys
 with_elements-append so_far [] ys = refl

@@ -1,23 +1,11 @@
 -- What is said of the length of a body is what its head says.
-use Rattle.std.proofs.Common.{◌≡◌, ◌≢◌, ◌⊎◌, ℕ, ◌+◌, ◌-◌, true, false, List, [], ◌∷◌, Option, Some, None, refl, sym, ap, inl, inr}
-use Rattle.std.specs.Prelude.{All}
-use Rattle.std.specs.List.{list_all}
-use Rattle.std.proofs.lemmas.Bool.{and_parts, eqb-true, both_ways}
-use Rattle.std.proofs.lemmas.List.Elements.{All-nil, All-cons}
+use Rattle.std.{proofs.{Common.{◌≡◌, ◌≢◌, ◌⊎◌, ℕ, ◌+◌, ◌-◌, true, false, List, [], ◌∷◌, Option, Some, None, refl, sym, ap, inl, inr}, lemmas.{Bool.{and_parts, eqb-true, both_ways}, List.Elements.{All-nil, All-cons}}}, specs.{Prelude.{All}, List.{list_all}}}
 use Rattle.hc_text.proofs.Basics.{either}
 use Rattle.hc_range.specs.declared.range.ContentRange.{ContentRange}
 use Rattle.hc_range.specs.declared.range.ContentRange.TheVariants as range
-use Rattle.hc_event.specs.declared.event.Request.{Request}
-use Rattle.hc_event.specs.declared.event.Response.{Response}
-use Rattle.hc_event.specs.declared.act.Need.{Need}
-use Rattle.hc_rules.specs.declared.need.Route.{Route}
+use Rattle.hc_event.specs.declared.{event.{Request.{Request}, Response.{Response}}, act.Need.{Need}}
+use Rattle.hc_rules.specs.{declared.{need.Route.{Route}, length.Length.{Length, TheVariants.{Unknown, Promised, Part, Bad}}}, Needs.{route_of}, Lengths.{is_same_number, promised_or_bad, all_tell, content_length_of, has_no_body, agrees, part_length, tells_part, length_of}, RangeTexts.{number_of, content_range_of}, Laws.{declared_in, AllSay, IsRightLength, LengthsAreRight}}
 use Rattle.hc_rules.specs.declared.need.Route.TheVariants as route
-use Rattle.hc_rules.specs.declared.length.Length.{Length}
-use Rattle.hc_rules.specs.declared.length.Length.TheVariants.{Unknown, Promised, Part, Bad}
-use Rattle.hc_rules.specs.Needs.{route_of}
-use Rattle.hc_rules.specs.Lengths.{is_same_number, promised_or_bad, all_tell, content_length_of, has_no_body, agrees, part_length, tells_part, length_of}
-use Rattle.hc_rules.specs.RangeTexts.{number_of, content_range_of}
-use Rattle.hc_rules.specs.Laws.{declared_in, AllSay, IsRightLength, LengthsAreRight}
 
 same : (n : ℕ) (o : Option ℕ) → is_same_number (Some n) o ≡ true → o ≡ Some n
 same n None h = absurd (both_ways _ refl h)

@@ -1,11 +1,6 @@
 -- What is read as a number is one, and what isn't is none.
-use Rattle.std.proofs.Common.{◌≡◌, ◌≢◌, ℕ, ◌<◌, ◌≤◌, ◌^◌, List, length, Bool, true, leb, ltb, Option, Some, None, refl, sym, arith, lt-ltb, inl, inr}
-use Rattle.std.specs.Prelude.{◌&&◌, IfSome, IfNone}
+use Rattle.std.{proofs.{Common.{◌≡◌, ◌≢◌, ℕ, ◌<◌, ◌≤◌, ◌^◌, List, length, Bool, true, leb, ltb, Option, Some, None, refl, sym, arith, lt-ltb, inl, inr}, lemmas.{Bool.{cases_Bool, and_parts}, Str.Parse.{IsNumeralModel, numerals_by_value, tells_all_ascii_digits}}}, specs.{Prelude.{◌&&◌, IfSome, IfNone}, Str.{all_ascii_digits, Parse.{digits_value, IsNumeral}}}}
 use Rattle.hc_text.specs.Numbers.{IsNumber}
-use Rattle.std.specs.Str.{all_ascii_digits}
-use Rattle.std.specs.Str.Parse.{digits_value, IsNumeral}
-use Rattle.std.proofs.lemmas.Bool.{cases_Bool, and_parts}
-use Rattle.std.proofs.lemmas.Str.Parse.{IsNumeralModel, numerals_by_value, tells_all_ascii_digits}
 use Rattle.hc_text.proofs.Basics.{le-leb, leb-le, ltb-lt}
 use Rattle.hc_rules.specs.RangeTexts.{number_of}
 

@@ -1,21 +1,11 @@
 -- What plans say of their views.
-use Rattle.std.proofs.Common.{◌≡◌, ◌≢◌, ℕ, ◌+◌, ◌<◌, ◌⊎◌, Bool, true, false, eqb, leb, Option, Some, None, refl, ap, inl, inr, arith}
-use Rattle.std.specs.Prelude.{IsSome, ◌&&◌, ◌||◌, not, is_none}
-use Rattle.std.proofs.lemmas.Bool.{cases_Bool, eqb-true, and_parts}
-use Rattle.std.proofs.lemmas.Bool.Decides.{nat_tests}
+use Rattle.std.{proofs.{Common.{◌≡◌, ◌≢◌, ℕ, ◌+◌, ◌<◌, ◌⊎◌, Bool, true, false, eqb, leb, Option, Some, None, refl, ap, inl, inr, arith}, lemmas.Bool.{cases_Bool, eqb-true, and_parts, Decides.{nat_tests}}}, specs.Prelude.{IsSome, ◌&&◌, ◌||◌, not, is_none}}
 use Rattle.hc_text.proofs.Basics.{either, leb-lt}
 use Rattle.hc_range.specs.declared.range.Span.{Span}
 use Rattle.hc_event.specs.declared.act.Why.{Why}
 use Rattle.hc_rules.specs.declared.need.Route.TheVariants as route
-use Rattle.hc_rules.specs.declared.request.Wanted.{Wanted}
+use Rattle.hc_rules.specs.{declared.{request.Wanted.{Wanted}, plan.{Plan.{Plan, TheVariants.{Direct, Turn, Fetch, Bind, FirstHole, Busy, Miss}}, Candidate.{Candidate}, PlanView.{PlanView}}}, Needs.{route_of}, Plans.{plan_of, bare_plan, by_current, by_why, by_wanted, by_exclusive, by_hole, by_bound, why_by, allowed_by, is_back, queues, in_time, from_store}, Laws.{IsRightPlan, HasTurn, MayRead, PlansAreRight}}
 use Rattle.hc_rules.specs.declared.request.Wanted.TheVariants as wants
-use Rattle.hc_rules.specs.declared.plan.Plan.{Plan}
-use Rattle.hc_rules.specs.declared.plan.Plan.TheVariants.{Direct, Turn, Fetch, Bind, FirstHole, Busy, Miss}
-use Rattle.hc_rules.specs.declared.plan.Candidate.{Candidate}
-use Rattle.hc_rules.specs.declared.plan.PlanView.{PlanView}
-use Rattle.hc_rules.specs.Needs.{route_of}
-use Rattle.hc_rules.specs.Plans.{plan_of, bare_plan, by_current, by_why, by_wanted, by_exclusive, by_hole, by_bound, why_by, allowed_by, is_back, queues, in_time, from_store}
-use Rattle.hc_rules.specs.Laws.{IsRightPlan, HasTurn, MayRead, PlansAreRight}
 
 -- what the first row that applies says, before the exceptions
 abbrev IsBare : PlanView → Plan → Type 0

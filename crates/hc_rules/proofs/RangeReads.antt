@@ -1,20 +1,8 @@
 -- What is read of Range and Content-Range is what their grammar spells.
-use Rattle.std.proofs.Common.{◌≡◌, ℕ, ◌<◌, ◌≤◌, ◌⊎◌, Bool, true, false, eqb, leb, ltb, not, List, [], ◌∷◌, ◌++◌, take, drop, map, Option, Some, None, refl, sym, ap, ◌∙◌, subst, inl, inr, arith, lit≤, lt-ltb}
-use Rattle.std.specs.Prelude.{bytes_eq, option_map, IfSome}
-use Rattle.std.specs.Char.{digit_value, to_ascii_lowercase}
-use Rattle.std.specs.List.{list_all}
-use Rattle.std.specs.Str.Parse.{AllDigits}
-use Rattle.std.proofs.lemmas.Bool.{cases_Bool, and_parts, and_from, eqb-true, not_from_false, not_from_true, both_ways}
-use Rattle.std.proofs.lemmas.List.{append_assoc, take-append-drop}
-use Rattle.std.proofs.lemmas.Slice.Eq.{bytes_eq-Decides}
+use Rattle.std.{proofs.{Common.{◌≡◌, ℕ, ◌<◌, ◌≤◌, ◌⊎◌, Bool, true, false, eqb, leb, ltb, not, List, [], ◌∷◌, ◌++◌, take, drop, map, Option, Some, None, refl, sym, ap, ◌∙◌, subst, inl, inr, arith, lit≤, lt-ltb}, lemmas.{Bool.{cases_Bool, and_parts, and_from, eqb-true, not_from_false, not_from_true, both_ways}, List.{append_assoc, take-append-drop}, Slice.Eq.{bytes_eq-Decides}}}, specs.{Prelude.{bytes_eq, option_map, IfSome}, Char.{digit_value, to_ascii_lowercase}, List.{list_all}, Str.Parse.{AllDigits}}}
 use Rattle.hc_text.proofs.Basics.{eqb-same, le-leb, leb-le, ltb-lt}
 use Rattle.hc_text.specs.Numbers.{IsNumber}
-use Rattle.hc_range.specs.Bytes.{LacksByte}
-use Rattle.hc_range.specs.declared.range.Asked.{Asked}
-use Rattle.hc_range.specs.declared.range.Asked.TheVariants.{From, FromTo, Last}
-use Rattle.hc_range.specs.declared.range.ContentRange.{ContentRange}
-use Rattle.hc_range.specs.declared.range.ContentRange.TheVariants.{Part, Unsatisfied}
-use Rattle.hc_range.specs.Ranges.{SpellsPositions, SpellsSpec, SpellsRange, SpellsTotal, SpellsResponse, SpellsContentRange}
+use Rattle.hc_range.specs.{Bytes.{LacksByte}, declared.range.{Asked.{Asked, TheVariants.{From, FromTo, Last}}, ContentRange.{ContentRange, TheVariants.{Part, Unsatisfied}}}, Ranges.{SpellsPositions, SpellsSpec, SpellsRange, SpellsTotal, SpellsResponse, SpellsContentRange}}
 use Rattle.hc_range.proofs.ReadLemmas.{range_at, content_range_at, number_some}
 use Rattle.hc_rules.specs.RangeTexts.{number_of, with_byte, split_at, from_to, positions_by, positions_from, spec_in, asked_in, with_total, without_part, content_range_from, response_from, response_in, content_range_in}
 use Rattle.hc_rules.proofs.Numbers.{number_of-number, IsNumber-told}

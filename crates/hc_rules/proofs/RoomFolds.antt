@@ -1,6 +1,5 @@
 -- How many give way, told one by one.
-use Rattle.std.proofs.Common.{◌≡◌, ℕ, ◌+◌, ◌≤◌, List, [], ◌∷◌, Option, Some, refl, sym, ap, ◌∙◌, arith}
-use Rattle.std.specs.Prelude.{option_map}
+use Rattle.std.{proofs.Common.{◌≡◌, ℕ, ◌+◌, ◌≤◌, List, [], ◌∷◌, Option, Some, refl, sym, ap, ◌∙◌, arith}, specs.Prelude.{option_map}}
 use Rattle.hc_text.proofs.Basics.{le-leb}
 use Rattle.hc_rules.specs.Rooms.{gives_way}
 

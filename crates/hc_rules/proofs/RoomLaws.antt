@@ -1,10 +1,7 @@
 -- What gives way is the shortest prefix that makes room.
-use Rattle.std.proofs.Common.{◌≡◌, ℕ, suc, zero, ◌+◌, ◌-◌, ◌<◌, ◌≤◌, leb, List, [], ◌∷◌, length, take, Option, Some, None, arith}
-use Rattle.std.specs.Prelude.{sum, option_map}
-use Rattle.std.proofs.lemmas.List.Sums.{sum_by-cons}
+use Rattle.std.{proofs.{Common.{◌≡◌, ℕ, suc, zero, ◌+◌, ◌-◌, ◌<◌, ◌≤◌, leb, List, [], ◌∷◌, length, take, Option, Some, None, arith}, lemmas.List.Sums.{sum_by-cons}}, specs.Prelude.{sum, option_map}}
 use Rattle.hc_text.proofs.Basics.{either, leb-le, leb-lt}
-use Rattle.hc_rules.specs.Rooms.{gives_way}
-use Rattle.hc_rules.specs.Laws.{IsShortest, ShortestGivesWay, sum_without}
+use Rattle.hc_rules.specs.{Rooms.{gives_way}, Laws.{IsShortest, ShortestGivesWay, sum_without}}
 
 none-first : (most all : ℕ) (idle : List ℕ) → all ≤ most → IsShortest most all idle (Some 0)
 none-first most all idle fits = (omega arith, let e : all - 0 ≤ most = omega arith in e, λ fewer below. absurd (omega arith))

@@ -1,12 +1,8 @@
 -- What the steps of reading say of their views.
-use Rattle.std.proofs.Common.{◌≡◌, ℕ, ◌≤◌, true, Option, Some, None, refl, arith}
-use Rattle.std.proofs.Math.Nat.{min-le_left, min-le_right}
-use Rattle.std.specs.Prelude.{IsSome, IfSome}
+use Rattle.std.{proofs.{Common.{◌≡◌, ℕ, ◌≤◌, true, Option, Some, None, refl, arith}, Math.Nat.{min-le_left, min-le_right}}, specs.Prelude.{IsSome, IfSome}}
 use Rattle.hc_text.proofs.Basics.{either, leb-le}
 use Rattle.hc_event.specs.declared.act.Cause.{Cause}
-use Rattle.hc_rules.specs.declared.reading.ReadView.{ReadView}
-use Rattle.hc_rules.specs.Readings.{read_step, is_at_end, cut_at, stored_or, held_or, fails_or, waits_or, opens}
-use Rattle.hc_rules.specs.Laws.{IsRightStep, HasNothing, StepsAreRight}
+use Rattle.hc_rules.specs.{declared.reading.ReadView.{ReadView}, Readings.{read_step, is_at_end, cut_at, stored_or, held_or, fails_or, waits_or, opens}, Laws.{IsRightStep, HasNothing, StepsAreRight}}
 
 at_end : (hi : Option ℕ) (offset : ℕ) → is_at_end hi offset ≡ true → IfSome hi (λ n. n ≤ offset) × IsSome hi
 at_end None offset h = absurd (cc)

@@ -4,22 +4,14 @@
 -- (`is_leaving`). Who is cancelled is over, all others are as live as they were, and nobody starts: so one less is live
 -- (`one_less`). What has left so far is kept as the way to the end: whatever leaves behind it, leaves behind the
 -- history at first (`IsLeaving`).
-use Rattle.std.proofs.Common.{◌≡◌, ◌≢◌, ◌≤◌, ℕ, ◌+◌, List, [], ◌∷◌, length, Bool, true, false, Option, Some, None, refl, ap, sym, ◌∙◌, subst, arith}
-use Rattle.std.specs.Prelude.{is_some, nat_eq, if◌then◌else◌}
-use Rattle.std.proofs.Math.Bridge.{le_prop}
-use Rattle.std.proofs.Math.Logic.{∥∥₁_elim, ∥∥₁_map}
-use Rattle.std.proofs.lemmas.Bool.Decides.{nat_tests}
+use Rattle.std.{proofs.{Common.{◌≡◌, ◌≢◌, ◌≤◌, ℕ, ◌+◌, List, [], ◌∷◌, length, Bool, true, false, Option, Some, None, refl, ap, sym, ◌∙◌, subst, arith}, Math.{Bridge.{le_prop}, Logic.{∥∥₁_elim, ∥∥₁_map}}, lemmas.Bool.Decides.{nat_tests}}, specs.Prelude.{is_some, nat_eq, if◌then◌else◌}}
 use Rattle.hc_effects.proofs.Vocabulary.{Act, Event, Limits, live, is_live, Entry, History, Contents, failures_in, Lawful, Tables, Consumer, IsOwed, owed, tables, after, starts_after}
 use Rattle.hc_event.specs.declared.event.Event.TheVariants as event
 use Rattle.hc_store.specs.declared.backend.Backend.{Ghosts}
 use Rattle.hc_model.specs.Live.{Leaves}
-use Rattle.hc_laws.proofs.Faultless.{faultless_are_owed}
-use Rattle.hc_laws.proofs.LawfulRuns.{lawful_in_runs}
-use Rattle.hc_laws.proofs.LeaverGoes.{leaver_goes}
-use Rattle.hc_laws.proofs.LiveRuns.{few_in_runs}
+use Rattle.hc_laws.proofs.{Faultless.{faultless_are_owed}, LawfulRuns.{lawful_in_runs}, LeaverGoes.{leaver_goes}, LiveRuns.{few_in_runs}}
 use Rattle.hc_state.proofs.LiveCounts.{counted, one, counted_moves}
-use Rattle.hc_core.specs.declared.cache.Cache.{Cache}
-use Rattle.hc_core.specs.Steps.{StandsFor, Answers, Steps, IsLeastLive, faults_in, limits_in, last_moment, live_in, steps, bytes_received}
+use Rattle.hc_core.specs.{declared.cache.Cache.{Cache}, Steps.{StandsFor, Answers, Steps, IsLeastLive, faults_in, limits_in, last_moment, live_in, steps, bytes_received}}
 use Rattle.hc_saving.specs.Leaving.{AllLeave, HasLeft, StandsForAny, leaving}
 use Rattle.hc_saving.specs.Leaving as leaving_all
 

@@ -5,38 +5,27 @@
 -- so an image of such contents is never refused (`always_taken`). A cache that begins with contents stands for their
 -- beginning, and for each run that leaves them. Its store counts no failure, so no act tells one. So what was replayed
 -- is a run from the contents, and goes on behind whatever left them (`continued`), at each ending (`ends_continued`).
-use Rattle.std.proofs.Common.{◌≡◌, ◌≢◌, ◌≤◌, ℕ, ◌+◌, List, [], ◌∷◌, ◌++◌, true, false, Option, Some, None, refl, sym, ◌∙◌, subst, arith}
-use Rattle.std.specs.Prelude.{is_none}
-use Rattle.std.proofs.lemmas.List.{append-nil}
+use Rattle.std.{proofs.{Common.{◌≡◌, ◌≢◌, ◌≤◌, ℕ, ◌+◌, List, [], ◌∷◌, ◌++◌, true, false, Option, Some, None, refl, sym, ◌∙◌, subst, arith}, lemmas.List.{append-nil}}, specs.Prelude.{is_none}}
 use Rattle.hc_io.specs.Source.{GivesAll}
-use Rattle.hc_sched.specs.declared.schedule.Ended.{Ended}
+use Rattle.hc_sched.specs.{declared.schedule.{Ended.{Ended}, Timed.{Timed}}, Schedule.{Spells}}
 use Rattle.hc_sched.specs.declared.schedule.Ended.TheVariants as ended
-use Rattle.hc_sched.specs.declared.schedule.Timed.{Timed}
-use Rattle.hc_sched.specs.Schedule.{Spells}
 use Rattle.hc_driver.specs.Endings.{How, Ends}
 use Rattle.hc_driver.specs.Stepping as steps
 use Rattle.hc_driver.proofs.Reported.{ends_so}
 use Rattle.hc_effects.proofs.Vocabulary.{Limits, may_begin, History, Contents, IsRun, tables}
 use Rattle.hc_store.specs.declared.backend.Backend.{Ghosts}
-use Rattle.hc_contents.specs.Fit.{unfit_of}
-use Rattle.hc_contents.specs.declared.unfit.Unfit.{Unfit}
+use Rattle.hc_contents.specs.{Fit.{unfit_of}, declared.unfit.Unfit.{Unfit}}
 use Rattle.hc_contents.specs.declared.unfit.Unfit.TheVariants as unfit
 use Rattle.hc_contents.proofs.Counting.{begins_by}
-use Rattle.hc_core.specs.Begins.{IsCause}
-use Rattle.hc_core.specs.declared.begin.ContentsError.{ContentsError}
+use Rattle.hc_core.specs.{Begins.{IsCause}, declared.{begin.ContentsError.{ContentsError}, cache.Cache.{Cache}}, Steps.{StandsFor, ServesAll, faults_in, limits_in, last_moment}}
 use Rattle.hc_core.specs.declared.begin.ContentsError.TheVariants as error
-use Rattle.hc_core.specs.declared.cache.Cache.{Cache}
-use Rattle.hc_core.specs.Steps.{StandsFor, ServesAll, faults_in, limits_in, last_moment}
-use Rattle.hc_replay.specs.Histories.{run_of}
+use Rattle.hc_replay.specs.{Histories.{run_of}, Replays.{IsWholeRun, IsReplayed, Replays}}
 use Rattle.hc_replay.specs.Replays as replays
-use Rattle.hc_replay.specs.Replays.{IsWholeRun, IsReplayed, Replays}
-use Rattle.hc_image.specs.Readings.{BeginsWithNone}
-use Rattle.hc_image.specs.Spelled.{SpellsImage}
+use Rattle.hc_image.specs.{Readings.{BeginsWithNone}, Spelled.{SpellsImage}}
 use Rattle.hc_image.proofs.Once.{image_once}
-use Rattle.hc_saving.specs.declared.open.OpenEnded.{OpenEnded}
+use Rattle.hc_saving.specs.{declared.open.OpenEnded.{OpenEnded}, Opens.{IsOpened, Leaves, IsContinued, Continues, Opens, Completes, IsImageTaken, IsUnopened, BeginsWith, IsUnbegun, refused_by}}
 use Rattle.hc_saving.specs.declared.open.OpenEnded.TheVariants as opened
 use Rattle.hc_saving.specs.Opens as opens
-use Rattle.hc_saving.specs.Opens.{IsOpened, Leaves, IsContinued, Continues, Opens, Completes, IsImageTaken, IsUnopened, BeginsWith, IsUnbegun, refused_by}
 use Rattle.hc_saving.proofs.Saved.{gives_front}
 
 -- WHICH IMAGE

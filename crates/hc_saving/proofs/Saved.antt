@@ -4,40 +4,25 @@
 -- (`stepped`). A run's last moment is that of its last event (`moment_of`). What is left behind it has an image, with
 -- which a store may begin: no more exchanges were opened than events came, and the text that brought them had at least
 -- two bytes for each (`is_left`). So what was written is the image of what was left, at each ending.
-use Rattle.std.proofs.Common.{◌≡◌, ◌≢◌, inl, inr, ◌≤◌, ◌<◌, ◌^◌, ℕ, suc, ◌+◌, ◌-◌, List, [], ◌∷◌, ◌++◌, length, Bool, true, false, Option, Some, None, refl, ap, sym, ◌∙◌, subst, arith}
-use Rattle.std.specs.Prelude.{if◌then◌else◌}
-use Rattle.std.proofs.lemmas.List.{append-nil}
+use Rattle.std.{proofs.{Common.{◌≡◌, ◌≢◌, inl, inr, ◌≤◌, ◌<◌, ◌^◌, ℕ, suc, ◌+◌, ◌-◌, List, [], ◌∷◌, ◌++◌, length, Bool, true, false, Option, Some, None, refl, ap, sym, ◌∙◌, subst, arith}, lemmas.List.{append-nil}}, specs.Prelude.{if◌then◌else◌}}
 use Rattle.hc_effects.proofs.Vocabulary.{is_denied, Limits, may_begin, contents_of, History, Contents, no_contents, IsRun, tables, after, after_accepted, after_denied}
-use Rattle.hc_io.specs.Faults.{HasRisen}
-use Rattle.hc_io.specs.Source.{Gives, GivesAll}
-use Rattle.hc_sched.specs.declared.schedule.Ended.{Ended}
+use Rattle.hc_io.specs.{Faults.{HasRisen}, Source.{Gives, GivesAll}}
+use Rattle.hc_sched.specs.{declared.schedule.{Ended.{Ended}, Timed.{Timed}}, Laws.{AreTimed}, Schedule.{Item, Spells, events_of}}
 use Rattle.hc_sched.specs.declared.schedule.Ended.TheVariants as ended
-use Rattle.hc_sched.specs.declared.schedule.Timed.{Timed}
-use Rattle.hc_sched.specs.Laws.{AreTimed}
-use Rattle.hc_sched.specs.Schedule.{Item, Spells, events_of}
 use Rattle.hc_sched.proofs.OneReading.{is_read, brings_timed}
 use Rattle.hc_driver.specs.Courses as courses
-use Rattle.hc_driver.specs.Courses.{Goes}
+use Rattle.hc_driver.specs.{Courses.{Goes}, Endings.{How, Wholly, UpToEnd, Ends}, Stepping.{never}}
 use Rattle.hc_driver.specs.Endings as endings
-use Rattle.hc_driver.specs.Endings.{How, Wholly, UpToEnd, Ends}
 use Rattle.hc_driver.specs.Stepping as steps
-use Rattle.hc_driver.specs.Stepping.{never}
 use Rattle.hc_driver.proofs.Timings.{timed_back}
 use Rattle.hc_store.specs.declared.backend.Backend.{Ghosts}
-use Rattle.hc_laws.proofs.CountedOpenings.{openings_counted}
-use Rattle.hc_laws.proofs.ReadWhole.{runs_read_whole}
-use Rattle.hc_core.specs.declared.cache.Cache.{Cache}
-use Rattle.hc_core.specs.Steps.{StandsFor, Answers, limits_in, last_moment, steps as steps_in}
-use Rattle.hc_replay.specs.Histories.{run_of, failures}
-use Rattle.hc_replay.specs.Replays.{IsWholeRun, IsReplayed}
+use Rattle.hc_laws.proofs.{CountedOpenings.{openings_counted}, ReadWhole.{runs_read_whole}}
+use Rattle.hc_core.specs.{declared.cache.Cache.{Cache}, Steps.{StandsFor, Answers, limits_in, last_moment, steps as steps_in}}
+use Rattle.hc_replay.specs.{Histories.{run_of, failures}, Replays.{IsWholeRun, IsReplayed}}
 use Rattle.hc_replay.proofs.Reported.{replayed, leads_limits}
-use Rattle.hc_image.specs.Images.{image_of}
-use Rattle.hc_image.specs.Spelled.{SpellsImage}
-use Rattle.hc_saving.specs.declared.silent.Silent.{Silent}
-use Rattle.hc_saving.specs.Leaving.{HasLeft}
+use Rattle.hc_image.specs.{Images.{image_of}, Spelled.{SpellsImage}}
+use Rattle.hc_saving.specs.{declared.silent.Silent.{Silent}, Leaving.{HasLeft}, Saves.{IsLeft, IsSaved, Saves, Writes, saved_of}, Silence.{AnswersSilently, IsSpent}}
 use Rattle.hc_saving.specs.Saves as saves
-use Rattle.hc_saving.specs.Saves.{IsLeft, IsSaved, Saves, Writes, saved_of}
-use Rattle.hc_saving.specs.Silence.{AnswersSilently, IsSpent}
 
 -- WHAT IS LEFT
 

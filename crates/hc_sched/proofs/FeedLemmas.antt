@@ -1,18 +1,9 @@
 -- A text is read piece by piece.
-use Rattle.std.proofs.Common.{◌≡◌, ℕ, ◌+◌, ◌<◌, ◌≤◌, ◌==◌, true, not, List, [], ◌∷◌, ◌++◌, length, Some, Result, Err, refl, sym, ap, ◌∙◌, inl, inr, arith, append_assoc, length-append, lt-ltb}
-use Rattle.std.proofs.lemmas.Bool.{cases_lt, and_parts, le-ltb, not-true}
-use Rattle.std.proofs.lemmas.List.{append-nil}
+use Rattle.std.proofs.{Common.{◌≡◌, ℕ, ◌+◌, ◌<◌, ◌≤◌, ◌==◌, true, not, List, [], ◌∷◌, ◌++◌, length, Some, Result, Err, refl, sym, ap, ◌∙◌, inl, inr, arith, append_assoc, length-append, lt-ltb}, lemmas.{Bool.{cases_lt, and_parts, le-ltb, not-true}, List.{append-nil}}}
 use Rattle.hc_text.specs.Texts.{lacks}
-use Rattle.hc_sched.specs.declared.place.Place.{Place}
-use Rattle.hc_sched.specs.declared.reader.Reader.{Reader}
-use Rattle.hc_sched.specs.declared.schedule.FeedError.{FeedError}
+use Rattle.hc_sched.specs.{declared.{place.Place.{Place}, reader.Reader.{Reader}, schedule.{FeedError.{FeedError}, Refused.{Refused}, Timed.{Timed}}}, Reading.{Progress, Reads, Stopped, Step, refuse, quiet, take_line, take_byte, after, events_in}, Feeding.{join_line, AddsFirst, ReadsOn, Feeds, AnswersAgain, progress_of}, Taking.{Does, Takes}}
 use Rattle.hc_sched.specs.declared.schedule.FeedError.TheVariants as error
-use Rattle.hc_sched.specs.declared.schedule.Refused.{Refused}
 use Rattle.hc_sched.specs.declared.schedule.SchedRefusal.TheVariants as why
-use Rattle.hc_sched.specs.declared.schedule.Timed.{Timed}
-use Rattle.hc_sched.specs.Reading.{Progress, Reads, Stopped, Step, refuse, quiet, take_line, take_byte, after, events_in}
-use Rattle.hc_sched.specs.Feeding.{join_line, AddsFirst, ReadsOn, Feeds, AnswersAgain, progress_of}
-use Rattle.hc_sched.specs.Taking.{Does, Takes}
 
 -- A refused text stays so.
 

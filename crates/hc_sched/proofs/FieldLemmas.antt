@@ -1,10 +1,7 @@
 -- What the test of a field tells.
-use Rattle.std.proofs.Common.{◌≡◌, ℕ, ◌+◌, ◌<◌, ◌≤◌, true, List, length, arith, leb-true, refl, inl, inr}
-use Rattle.std.specs.List.{list_all}
-use Rattle.std.proofs.lemmas.Bool.{and_parts}
-use Rattle.hc_fields.specs.FieldList.{IsField, Refuses, has_own_ends, size_of}
+use Rattle.std.{proofs.{Common.{◌≡◌, ℕ, ◌+◌, ◌<◌, ◌≤◌, true, List, length, arith, leb-true, refl, inl, inr}, lemmas.Bool.{and_parts}}, specs.List.{list_all}}
+use Rattle.hc_fields.specs.{FieldList.{IsField, Refuses, has_own_ends, size_of}, declared.error.FieldError.{FieldError}}
 use Rattle.http_header.specs.Token.{is_value_byte}
-use Rattle.hc_fields.specs.declared.error.FieldError.{FieldError}
 use Rattle.hc_fields.specs.declared.error.FieldError.TheVariants as error
 use Rattle.hc_fields.proofs.ReadLemmas.{IsField-cut}
 use Rattle.hc_sched.specs.FieldLines.{may_follow, is_lower_token, has_room, keeps_order}

@@ -1,16 +1,10 @@
 -- A field line that is spelled is read.
-use Rattle.std.proofs.Common.{◌≡◌, ℕ, ◌+◌, ◌≤◌, true, false, List, [], ◌∷◌, ◌++◌, length, Some, refl, ◌∙◌, arith, append_assoc, length-append, le-leb}
-use Rattle.std.specs.Prelude.{codes}
-use Rattle.std.proofs.lemmas.List.Sums.{sum_by-append}
+use Rattle.std.{proofs.{Common.{◌≡◌, ℕ, ◌+◌, ◌≤◌, true, false, List, [], ◌∷◌, ◌++◌, length, Some, refl, ◌∙◌, arith, append_assoc, length-append, le-leb}, lemmas.List.Sums.{sum_by-append}}, specs.Prelude.{codes}}
 use Rattle.http_header.specs.Token.{is_token_byte}
 use Rattle.hc_text.specs.Texts.{lacks}
-use Rattle.hc_fields.specs.FieldList.{IsField, size_of, field_list_with}
-use Rattle.hc_fields.specs.Lines.{field_text, is_lower_byte}
-use Rattle.hc_fields.proofs.Ends.{IsField-last, IsFieldList-prefix, sorted-last, put-last}
-use Rattle.hc_fields.proofs.FieldTexts.{IsLine-field}
-use Rattle.hc_fields.proofs.ReadLemmas.{IsCut-field, lacks-kind as lacks-failing}
-use Rattle.hc_sched.specs.FieldLines.{field_parts, is_lower_token, has_room, may_follow, field_of}
-use Rattle.hc_sched.specs.Schedule.{IsHead}
+use Rattle.hc_fields.specs.{FieldList.{IsField, size_of, field_list_with}, Lines.{field_text, is_lower_byte}}
+use Rattle.hc_fields.proofs.{Ends.{IsField-last, IsFieldList-prefix, sorted-last, put-last}, FieldTexts.{IsLine-field}, ReadLemmas.{IsCut-field, lacks-kind as lacks-failing}}
+use Rattle.hc_sched.specs.{FieldLines.{field_parts, is_lower_token, has_room, may_follow, field_of}, Schedule.{IsHead}}
 use Rattle.hc_text.proofs.Cutting.{cut-first, behind-append, lacks-append}
 
 abbrev pub Pair : Type 0

@@ -1,23 +1,14 @@
 -- The first line of an item that is spelled is read.
-use Rattle.std.proofs.Common.{◌≡◌, ℕ, ◌≤◌, true, false, List, ◌∷◌, ◌++◌, length, Some, refl, ap, ◌∙◌, arith, length-append, le-leb, leb-true}
-use Rattle.std.specs.Prelude.{codes, option_map}
-use Rattle.std.specs.Fmt.{decimal}
-use Rattle.std.proofs.lemmas.Bool.{and_parts}
+use Rattle.std.{proofs.{Common.{◌≡◌, ℕ, ◌≤◌, true, false, List, ◌∷◌, ◌++◌, length, Some, refl, ap, ◌∙◌, arith, length-append, le-leb, leb-true}, lemmas.Bool.{and_parts}}, specs.{Prelude.{codes, option_map}, Fmt.{decimal}}}
 use Rattle.http_header.specs.Token.{is_token_byte}
-use Rattle.hc_text.specs.Texts.{lacks, IsSmall}
+use Rattle.hc_text.specs.{Texts.{lacks, IsSmall}, Cuts.{behind}}
 use Rattle.hc_event.specs.declared.event.Event.TheVariants as event
 use Rattle.hc_event.specs.declared.event.Load.{Load}
 use Rattle.hc_event.specs.declared.event.Load.TheVariants as load
-use Rattle.hc_sched.specs.Words.{plain_of, plain_within, number_and_rest}
-use Rattle.hc_text.specs.Cuts.{behind}
-use Rattle.hc_sched.specs.Pieces.{piece_text}
+use Rattle.hc_sched.specs.{Words.{plain_of, plain_within, number_and_rest}, Pieces.{piece_text}, FirstLines.{First, Sets, Starts, Heads, Brings, Dooms, Tells, is_method, is_word, load_of, how_of, start_of, poll_of, head_of, piece_of, doom_of, first_of}, Schedule.{Item, Moment, Happens, load_word, item_line, IsItem}}
 use Rattle.hc_target.specs.Targets.{is_target, is_short_word}
-use Rattle.hc_sched.specs.FirstLines.{First, Sets, Starts, Heads, Brings, Dooms, Tells, is_method, is_word, load_of, how_of, start_of, poll_of, head_of, piece_of, doom_of, first_of}
-use Rattle.hc_sched.specs.Schedule.{Item, Moment, Happens, load_word, item_line, IsItem}
-use Rattle.hc_text.proofs.Cutting.{cut-first, lacks-append}
-use Rattle.hc_text.proofs.Cuts.{lacks-decimal}
-use Rattle.hc_sched.proofs.Plain.{plain_of-decimal, plain-short}
-use Rattle.hc_sched.proofs.Hex.{IsPiece, is_piece_text-of, lacks-piece_text, length-piece_text}
+use Rattle.hc_text.proofs.{Cutting.{cut-first, lacks-append}, Cuts.{lacks-decimal}}
+use Rattle.hc_sched.proofs.{Plain.{plain_of-decimal, plain-short}, Hex.{IsPiece, is_piece_text-of, lacks-piece_text, length-piece_text}}
 use Rattle.hc_fields.proofs.ReadLemmas.{lacks-kind}
 
 numbered-is : (n : ℕ) (rest : List ℕ) → IsSmall n → number_and_rest (decimal n ++ 32 ∷ rest) ≡ Some (n, rest)

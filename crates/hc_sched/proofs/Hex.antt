@@ -1,18 +1,8 @@
 -- Lower-case hexadecimal.
-use Rattle.std.proofs.Common.{◌≡◌, ℕ, zero, suc, ◌+◌, ◌*◌, ◌/◌, ◌%◌, ◌<◌, ◌≤◌, ◌==◌, Bool, true, false, not, ◌&&◌, ◌||◌, List, [], ◌∷◌, length, slice_index, Option, Some, None, unwrap_or, Result, Ok, Err, refl, sym, ap, ◌∙◌, arith, inl, inr}
-use Rattle.std.proofs.lemmas.Bool.{and_parts, cases_Bool, cases_lt, eqb-true, eq-eqb, leb-true, le-leb, false_from_ne_true, agree_below_at}
-use Rattle.std.specs.Prelude.{All, bytes_eq, codes}
-use Rattle.std.proofs.lemmas.Slice.Eq.{bytes_eq-Decides}
-use Rattle.std.proofs.lemmas.List.{get_or_past}
+use Rattle.std.{proofs.{Common.{◌≡◌, ℕ, zero, suc, ◌+◌, ◌*◌, ◌/◌, ◌%◌, ◌<◌, ◌≤◌, ◌==◌, Bool, true, false, not, ◌&&◌, ◌||◌, List, [], ◌∷◌, length, slice_index, Option, Some, None, unwrap_or, Result, Ok, Err, refl, sym, ap, ◌∙◌, arith, inl, inr}, lemmas.{Bool.{and_parts, cases_Bool, cases_lt, eqb-true, eq-eqb, leb-true, le-leb, false_from_ne_true, agree_below_at, Decides.{nat_tests}}, Slice.Eq.{bytes_eq-Decides}, List.{get_or_past, Elements.{All-weaker, All-head, All-tail, All-nil, All-from_get_or}, Sums.{AllPass-from_list_all}}}}, specs.{Prelude.{All, bytes_eq, codes}, List.{AllPass, list_all}, Result.{result_unwrap_or}}}
 use Rattle.hc_text.specs.Texts.{lacks}
-use Rattle.std.proofs.lemmas.Bool.Decides.{nat_tests}
-use Rattle.std.specs.List.{AllPass, list_all}
-use Rattle.std.proofs.lemmas.List.Elements.{All-weaker, All-head, All-tail, All-nil, All-from_get_or}
-use Rattle.std.proofs.lemmas.List.Sums.{AllPass-from_list_all}
 use Rattle.hex.proofs.HexLemmas.{decode_of-digits, decode_of-even, decode_of-ok, decode_of-encode_lower, length-encode_with}
-use Rattle.std.specs.Result.{result_unwrap_or}
-use Rattle.hex.specs.Hex.{IsBytes, decode_of, decode_pairs, encode_lower, digit_or_error, is_hex_digit, encode_with, hex_digit_value, lower_digits, pair_value, value_at, ◌>>=◌}
-use Rattle.hex.specs.declared.error.FromHexError.{FromHexError}
+use Rattle.hex.specs.{Hex.{IsBytes, decode_of, decode_pairs, encode_lower, digit_or_error, is_hex_digit, encode_with, hex_digit_value, lower_digits, pair_value, value_at, ◌>>=◌}, declared.error.FromHexError.{FromHexError}}
 use Rattle.hc_sched.specs.Pieces.{piece_text, is_lower_digit, is_hex_text, is_piece_text, bytes_of}
 
 -- a lower-case digit stands in the table at the place of its value

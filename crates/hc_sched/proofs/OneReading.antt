@@ -1,28 +1,12 @@
 -- A text has one reading.
-use Rattle.std.proofs.Common.{◌≡◌, ◌≢◌, ℕ, ◌+◌, ◌≤◌, ◌==◌, ◌&&◌, true, List, [], ◌∷◌, ◌++◌, length, Option, Some, None, refl, sym, ap, subst, ◌∙◌, inl, inr, arith, append_assoc, length-append}
-use Rattle.std.specs.Prelude.{is_none}
-use Rattle.std.proofs.lemmas.Bool.{cases_Bool, eqb-true}
-use Rattle.std.proofs.lemmas.List.{append-nil}
+use Rattle.std.{proofs.{Common.{◌≡◌, ◌≢◌, ℕ, ◌+◌, ◌≤◌, ◌==◌, ◌&&◌, true, List, [], ◌∷◌, ◌++◌, length, Option, Some, None, refl, sym, ap, subst, ◌∙◌, inl, inr, arith, append_assoc, length-append}, lemmas.{Bool.{cases_Bool, eqb-true}, List.{append-nil}}}, specs.Prelude.{is_none}}
 use Rattle.hc_event.specs.declared.event.Event.TheVariants as event
 use Rattle.hc_fields.specs.Lines.{fields_text}
 use Rattle.hc_text.proofs.Cuts.{cut_once}
 use Rattle.hc_fields.proofs.FieldTexts.{fields_once}
-use Rattle.hc_sched.specs.declared.begun.Begun.{Begun}
-use Rattle.hc_sched.specs.declared.schedule.Refused.{Refused}
-use Rattle.hc_sched.specs.declared.schedule.Timed.{Timed}
+use Rattle.hc_sched.specs.{declared.{begun.Begun.{Begun}, schedule.{Refused.{Refused}, Timed.{Timed}}}, Pieces.{bytes_of}, FirstLines.{First, Sets, Starts, Heads, Brings, Dooms, Tells, first_of}, Reading.{Progress, Reads, Stopped, Spent, after, events_in}, Feeding.{beginning, is_between}, Schedule.{Item, Moment, Happens, item_line, item_fields, item_text, text_of, IsHead, IsItem, IsSmall, IsSchedule, Spells, moment_after, events_of}, Laws.{HasRead, AreTimed, refusal_at, refusal_of}}
 use Rattle.hc_sched.specs.declared.schedule.SchedRefusal.TheVariants as why
-use Rattle.hc_sched.specs.Pieces.{bytes_of}
-use Rattle.hc_sched.specs.FirstLines.{First, Sets, Starts, Heads, Brings, Dooms, Tells, first_of}
-use Rattle.hc_sched.specs.Reading.{Progress, Reads, Stopped, Spent, after, events_in}
-use Rattle.hc_sched.specs.Feeding.{beginning, is_between}
-use Rattle.hc_sched.specs.Schedule.{Item, Moment, Happens, item_line, item_fields, item_text, text_of, IsHead, IsItem, IsSmall, IsSchedule, Spells, moment_after, events_of}
-use Rattle.hc_sched.specs.Laws.{HasRead, AreTimed, refusal_at, refusal_of}
-use Rattle.hc_sched.proofs.FieldReads.{Pair}
-use Rattle.hc_sched.proofs.FeedLemmas.{after-append, after-stopped, events_in-append}
-use Rattle.hc_sched.proofs.Forms.{first_for, first_of-line, line-short}
-use Rattle.hc_sched.proofs.Hex.{bytes_of-piece_text}
-use Rattle.hc_sched.proofs.Spelled.{items_read}
-use Rattle.hc_sched.proofs.Standing.{StandsFor, begun_text, text_step}
+use Rattle.hc_sched.proofs.{FieldReads.{Pair}, FeedLemmas.{after-append, after-stopped, events_in-append}, Forms.{first_for, first_of-line, line-short}, Hex.{bytes_of-piece_text}, Spelled.{items_read}, Standing.{StandsFor, begun_text, text_step}}
 
 pub is_read : (now : ℕ) (text : List ℕ) (items : List Item) → Spells now text items
     → (refusal_of now text ≡ None) × (events_in (beginning now) text ≡ events_of now items)

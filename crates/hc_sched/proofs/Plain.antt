@@ -1,11 +1,5 @@
 -- Plain numbers.
-use Rattle.std.proofs.Common.{◌≡◌, ℕ, ◌^◌, ◌<◌, ◌≤◌, length, Bool, true, not, ◌&&◌, ◌==◌, List, [], ◌∷◌, Option, Some, None, refl, sym, ap, ◌∙◌, inl, inr, arith, lt-ltb}
-use Rattle.std.specs.Prelude.{IfSome, OnSome, IfNone, bytes_eq, nat_lt}
-use Rattle.std.specs.Fmt.{decimal}
-use Rattle.std.specs.Str.Parse.{digits_value, AllDigits}
-use Rattle.std.proofs.lemmas.Bool.{cases_Bool, and_parts, ltb-true, ne_eqb}
-use Rattle.std.proofs.lemmas.Fmt.{decimal_is_IsNumeral, length-decimal-le}
-use Rattle.std.proofs.lemmas.Slice.Eq.{bytes_eq-Decides}
+use Rattle.std.{proofs.{Common.{◌≡◌, ℕ, ◌^◌, ◌<◌, ◌≤◌, length, Bool, true, not, ◌&&◌, ◌==◌, List, [], ◌∷◌, Option, Some, None, refl, sym, ap, ◌∙◌, inl, inr, arith, lt-ltb}, lemmas.{Bool.{cases_Bool, and_parts, ltb-true, ne_eqb}, Fmt.{decimal_is_IsNumeral, length-decimal-le}, Slice.Eq.{bytes_eq-Decides}}}, specs.{Prelude.{IfSome, OnSome, IfNone, bytes_eq, nat_lt}, Fmt.{decimal}, Str.Parse.{digits_value, AllDigits}}}
 use Rattle.hc_text.specs.Numbers.{IsPlain}
 use Rattle.hc_sched.specs.Words.{plain_of}
 use Rattle.hc_text.proofs.Cutting.{none_or_some}

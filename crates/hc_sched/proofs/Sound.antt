@@ -1,23 +1,12 @@
 -- A text that is read is spelled: what stands for each place of the reading.
-use Rattle.std.proofs.Common.{◌≡◌, ◌⊎◌, ℕ, ◌≤◌, ◌&&◌, Bool, true, false, List, [], ◌∷◌, ◌++◌, Option, Some, None, refl, sym, ap, subst, ◌∙◌, inl, inr, leb-true}
-use Rattle.std.specs.Prelude.{codes, nat_le, bytes_eq, option_map, if◌then◌else◌}
-use Rattle.std.specs.Fmt.{decimal}
-use Rattle.std.proofs.lemmas.Bool.{cases_Bool, and_parts}
-use Rattle.std.proofs.lemmas.Slice.Eq.{bytes_eq-Decides}
-use Rattle.hc_text.proofs.Basics.{mapped_from as option_map-parts}
-use Rattle.hc_text.specs.Texts.{IsSmall}
+use Rattle.std.{proofs.{Common.{◌≡◌, ◌⊎◌, ℕ, ◌≤◌, ◌&&◌, Bool, true, false, List, [], ◌∷◌, ◌++◌, Option, Some, None, refl, sym, ap, subst, ◌∙◌, inl, inr, leb-true}, lemmas.{Bool.{cases_Bool, and_parts}, Slice.Eq.{bytes_eq-Decides}}}, specs.{Prelude.{codes, nat_le, bytes_eq, option_map, if◌then◌else◌}, Fmt.{decimal}}}
+use Rattle.hc_text.proofs.{Basics.{mapped_from as option_map-parts}, Cutting.{append-cut, append-behind}}
+use Rattle.hc_text.specs.{Texts.{IsSmall}, Cuts.{cut, behind}}
 use Rattle.hc_event.specs.declared.event.Event.TheVariants as event
 use Rattle.hc_event.specs.declared.event.Load.{Load}
 use Rattle.hc_event.specs.declared.event.Load.TheVariants as load
-use Rattle.hc_sched.specs.Words.{◌>>=◌, or_else, plain_of, plain_within, number_and_rest}
-use Rattle.hc_text.specs.Cuts.{cut, behind}
-use Rattle.hc_sched.specs.Pieces.{piece_text, bytes_of, is_piece_text}
-use Rattle.hc_sched.specs.FirstLines.{First, Sets, Starts, Heads, Brings, Dooms, Tells, is_method, is_word, load_of, how_of, start_of, poll_of, head_of, piece_of, doom_of, first_of}
-use Rattle.hc_sched.specs.Schedule.{load_word, event_line, fields_in, IsEvent}
-use Rattle.hc_sched.proofs.Steps.{bind-Some}
-use Rattle.hc_text.proofs.Cutting.{append-cut, append-behind}
-use Rattle.hc_sched.proofs.Plain.{IsPlain-plain_of}
-use Rattle.hc_sched.proofs.Hex.{IsPiece, IsPiece-text}
+use Rattle.hc_sched.specs.{Words.{◌>>=◌, or_else, plain_of, plain_within, number_and_rest}, Pieces.{piece_text, bytes_of, is_piece_text}, FirstLines.{First, Sets, Starts, Heads, Brings, Dooms, Tells, is_method, is_word, load_of, how_of, start_of, poll_of, head_of, piece_of, doom_of, first_of}, Schedule.{load_word, event_line, fields_in, IsEvent}}
+use Rattle.hc_sched.proofs.{Steps.{bind-Some}, Plain.{IsPlain-plain_of}, Hex.{IsPiece, IsPiece-text}}
 
 -- What a first line that says so is.
 abbrev pub Says : List ℕ → First → Type 0

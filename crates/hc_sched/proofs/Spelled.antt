@@ -1,24 +1,13 @@
 -- A text that is spelled is read: as its events, and to the end of an item.
-use Rattle.std.proofs.Common.{◌≡◌, ℕ, ◌+◌, ◌-◌, ◌<◌, ◌≤◌, ◌==◌, true, false, List, [], ◌∷◌, ◌++◌, length, Option, Some, None, refl, sym, ap, subst, ◌∙◌, arith, inl, inr, append_assoc}
-use Rattle.std.proofs.lemmas.Bool.{le-ltb, ne_eqb, eq-eqb, cases_eq}
-use Rattle.std.proofs.lemmas.List.{append-nil}
+use Rattle.std.proofs.{Common.{◌≡◌, ℕ, ◌+◌, ◌-◌, ◌<◌, ◌≤◌, ◌==◌, true, false, List, [], ◌∷◌, ◌++◌, length, Option, Some, None, refl, sym, ap, subst, ◌∙◌, arith, inl, inr, append_assoc}, lemmas.{Bool.{le-ltb, ne_eqb, eq-eqb, cases_eq}, List.{append-nil}}}
 use Rattle.hc_text.specs.Texts.{lacks}
 use Rattle.hc_event.specs.declared.event.Event.{Event}
 use Rattle.hc_event.specs.declared.event.Event.TheVariants as event
 use Rattle.hc_fields.specs.Lines.{field_text, fields_text}
-use Rattle.hc_sched.specs.declared.begun.Opening.{Opening}
+use Rattle.hc_sched.specs.{declared.{begun.Opening.{Opening}, place.Place.{Place}, schedule.Timed.{Timed}}, FirstLines.{First, first_of}, Reading.{Progress, Reads, Step, pass, happen, begin, event_of, take_first, take_field, take_line, after, events_in}, Schedule.{Item, Moment, Happens, item_text, item_line, item_fields, text_of, IsHead, IsItem, IsEvent, IsSmall, IsSchedule, moment_after, moment_end, event_at, events_of}, Laws.{Gives, at_rest, IsReadBack}}
 use Rattle.hc_sched.specs.declared.begun.Opening.TheVariants as opening
-use Rattle.hc_sched.specs.declared.place.Place.{Place}
-use Rattle.hc_sched.specs.declared.schedule.Timed.{Timed}
-use Rattle.hc_sched.specs.FirstLines.{First, first_of}
 use Rattle.hc_target.specs.Targets.{is_target}
-use Rattle.hc_sched.specs.Reading.{Progress, Reads, Step, pass, happen, begin, event_of, take_first, take_field, take_line, after, events_in}
-use Rattle.hc_sched.specs.Schedule.{Item, Moment, Happens, item_text, item_line, item_fields, text_of, IsHead, IsItem, IsEvent, IsSmall, IsSchedule, moment_after, moment_end, event_at, events_of}
-use Rattle.hc_sched.specs.Laws.{Gives, at_rest, IsReadBack}
-use Rattle.hc_sched.proofs.Hex.{IsPiece, bytes_of-piece_text}
-use Rattle.hc_sched.proofs.FeedLemmas.{line_passes, join_short, after-append, events_in-append}
-use Rattle.hc_sched.proofs.FieldReads.{Pair, line_of, field_text-line, lacks-field, field_of-line, put-head, IsHead-prefix, field-short}
-use Rattle.hc_sched.proofs.Forms.{first_for, first_of-line, IsShortLine, line-short}
+use Rattle.hc_sched.proofs.{Hex.{IsPiece, bytes_of-piece_text}, FeedLemmas.{line_passes, join_short, after-append, events_in-append}, FieldReads.{Pair, line_of, field_text-line, lacks-field, field_of-line, put-head, IsHead-prefix, field-short}, Forms.{first_for, first_of-line, IsShortLine, line-short}}
 use Rattle.hc_fields.proofs.Ends.{IsField-last}
 
 pub Gives-append : (s t u : Progress) (xs ys : List ℕ) (es fs : List Timed) → Gives s xs t es → Gives t ys u fs → Gives s (xs ++ ys) u (es ++ fs)

@@ -1,34 +1,14 @@
 -- A text that is read is spelled: what a place of the reading stands for, byte by byte.
-use Rattle.std.proofs.Common.{◌≡◌, ℕ, ◌+◌, ◌-◌, ◌<◌, ◌≤◌, ◌==◌, true, List, [], ◌∷◌, ◌++◌, length, Option, Some, None, refl, sym, ap, subst, ◌∙◌, inl, inr, arith, append_assoc, lt-ltb}
-use Rattle.std.specs.Prelude.{codes}
-use Rattle.std.specs.Fmt.{decimal}
-use Rattle.std.proofs.lemmas.Bool.{cases_Bool, cases_lt, cases_eq, eq-eqb, ne_eqb, eqb-true, le-ltb}
-use Rattle.std.proofs.lemmas.List.{append-nil}
-use Rattle.hc_text.specs.Texts.{IsSmall}
+use Rattle.std.{proofs.{Common.{◌≡◌, ℕ, ◌+◌, ◌-◌, ◌<◌, ◌≤◌, ◌==◌, true, List, [], ◌∷◌, ◌++◌, length, Option, Some, None, refl, sym, ap, subst, ◌∙◌, inl, inr, arith, append_assoc, lt-ltb}, lemmas.{Bool.{cases_Bool, cases_lt, cases_eq, eq-eqb, ne_eqb, eqb-true, le-ltb}, List.{append-nil}}}, specs.{Prelude.{codes}, Fmt.{decimal}}}
+use Rattle.hc_text.specs.{Texts.{IsSmall}, Cuts.{cut, behind}}
 use Rattle.hc_event.specs.declared.event.Event.TheVariants as event
-use Rattle.hc_fields.specs.FieldList.{field_list_with}
-use Rattle.hc_fields.specs.Lines.{fields_text}
-use Rattle.hc_fields.proofs.Edits.{IsFieldList-put, length-put, size_of-put}
-use Rattle.hc_fields.proofs.Ends.{put-last}
-use Rattle.hc_fields.proofs.LineLemmas.{fields_text-push}
-use Rattle.hc_sched.specs.declared.begun.Begun.{Begun}
-use Rattle.hc_sched.specs.declared.begun.Opening.{Opening}
+use Rattle.hc_fields.specs.{FieldList.{field_list_with}, Lines.{fields_text}}
+use Rattle.hc_fields.proofs.{Edits.{IsFieldList-put, length-put, size_of-put}, Ends.{put-last}, LineLemmas.{fields_text-push}}
+use Rattle.hc_sched.specs.{declared.{begun.{Begun.{Begun}, Opening.{Opening}}, place.Place.{Place}, schedule.Timed.{Timed}}, Pieces.{bytes_of}, FirstLines.{First, Sets, Starts, Heads, Brings, Dooms, Tells, is_method, first_of}, FieldLines.{field_parts, may_follow, field_of}, Reading.{Progress, Reads, Stopped, Spent, Step, begin, event_of, take_first, take_field, take_next, take_line, take_byte, after, events_in}, Schedule.{Item, Moment, Happens, load_word, event_line, item_line, item_fields, item_text, fields_in, text_of, IsHead, IsEvent, IsItem, IsSchedule, moment_after, moment_end, event_at, events_of}, Laws.{HasRead}}
 use Rattle.hc_sched.specs.declared.begun.Opening.TheVariants as opening
-use Rattle.hc_sched.specs.declared.place.Place.{Place}
-use Rattle.hc_sched.specs.declared.schedule.Timed.{Timed}
-use Rattle.hc_text.specs.Cuts.{cut, behind}
-use Rattle.hc_sched.specs.Pieces.{bytes_of}
 use Rattle.hc_target.specs.Targets.{is_target}
-use Rattle.hc_sched.specs.FirstLines.{First, Sets, Starts, Heads, Brings, Dooms, Tells, is_method, first_of}
-use Rattle.hc_sched.specs.FieldLines.{field_parts, may_follow, field_of}
-use Rattle.hc_sched.specs.Reading.{Progress, Reads, Stopped, Spent, Step, begin, event_of, take_first, take_field, take_next, take_line, take_byte, after, events_in}
-use Rattle.hc_sched.specs.Schedule.{Item, Moment, Happens, load_word, event_line, item_line, item_fields, item_text, fields_in, text_of, IsHead, IsEvent, IsItem, IsSchedule, moment_after, moment_end, event_at, events_of}
-use Rattle.hc_sched.specs.Laws.{HasRead}
-use Rattle.hc_sched.proofs.Steps.{bind-Some}
+use Rattle.hc_sched.proofs.{Steps.{bind-Some}, FieldLemmas.{Follows-from_test}, FieldReads.{Pair, line_of, field_text-line}, Sound.{Says, first_of-says, test_passes}}
 use Rattle.hc_text.proofs.Cutting.{none_or_some, append-cut, append-behind}
-use Rattle.hc_sched.proofs.FieldLemmas.{Follows-from_test}
-use Rattle.hc_sched.proofs.FieldReads.{Pair, line_of, field_text-line}
-use Rattle.hc_sched.proofs.Sound.{Says, first_of-says, test_passes}
 
 -- the first line of an item with so many fields
 abbrev pub opening_line : Opening → ℕ → List ℕ

@@ -1,12 +1,8 @@
 -- Events of sockets, and the numbers that were handed out.
-use Rattle.std.proofs.Common.{◌≡◌, ℕ, true, false, eqb, Option, None, Some, sym, ap, subst, ◌∙◌}
-use Rattle.std.specs.Prelude.{if◌then◌else◌}
-use Rattle.std.specs.HashMap.{HashMap}
-use Rattle.hc_wire.specs.declared.event.WireEvent.{WireEvent}
+use Rattle.std.{proofs.Common.{◌≡◌, ℕ, true, false, eqb, Option, None, Some, sym, ap, subst, ◌∙◌}, specs.{Prelude.{if◌then◌else◌}, HashMap.{HashMap}}}
+use Rattle.hc_wire.specs.{declared.event.WireEvent.{WireEvent}, Events.{Stage, Unseen, Open, Closed, Fresh, ended_of, IsOpen, IsUnended}}
 use Rattle.hc_wire.specs.declared.event.WireEvent.TheVariants as event
-use Rattle.hc_sockets.specs.declared.socket.Socket.{Socket}
-use Rattle.hc_wire.specs.Events.{Stage, Unseen, Open, Closed, Fresh, ended_of, IsOpen, IsUnended}
-use Rattle.hc_sockets.specs.Sockets.{lives_after, IsOfLive}
+use Rattle.hc_sockets.specs.{declared.socket.Socket.{Socket}, Sockets.{lives_after, IsOfLive}}
 
 -- what is live before is live after
 pub live-same : (f g : ℕ → Stage) → ((k : ℕ) → g k ≡ f k) → (e : WireEvent) → IsOfLive g e → IsOfLive f e

@@ -1,10 +1,5 @@
 -- Where a number stands in a list whose numbers rise, and what changes there leave.
-use Rattle.std.proofs.Common.{◌≡◌, ℕ, zero, suc, ◌+◌, ◌<◌, ◌≤◌, List, [], ◌∷◌, length, get_or, set, Bool, true, false, not, cond, eqb, leb, ltb, Some, None, refl, sym, ap, ◌∙◌, inl, inr, arith, lt-ltb}
-use Rattle.std.specs.Prelude.{◌&&◌, ◌||◌, filter, is_some}
-use Rattle.std.specs.List.{list_any, insert, remove}
-use Rattle.std.specs.List.Sorted.{IsNonDecreasingBy, IsPartitionPoint}
-use Rattle.std.proofs.lemmas.Bool.{cases_Bool, and_parts, le-leb, lt-leb, ltb-true, ltb-false, leb-true, leb-false, eqb-true, eqb-false, eq-eqb, ne_eqb}
-use Rattle.std.proofs.lemmas.List.Sums.{position_or_len_is}
+use Rattle.std.{proofs.{Common.{◌≡◌, ℕ, zero, suc, ◌+◌, ◌<◌, ◌≤◌, List, [], ◌∷◌, length, get_or, set, Bool, true, false, not, cond, eqb, leb, ltb, Some, None, refl, sym, ap, ◌∙◌, inl, inr, arith, lt-ltb}, lemmas.{Bool.{cases_Bool, and_parts, le-leb, lt-leb, ltb-true, ltb-false, leb-true, leb-false, eqb-true, eqb-false, eq-eqb, ne_eqb}, List.Sums.{position_or_len_is}}}, specs.{Prelude.{◌&&◌, ◌||◌, filter, is_some}, List.{list_any, insert, remove, Sorted.{IsNonDecreasingBy, IsPartitionPoint}}}}
 use Rattle.hc_text.proofs.Basics.{and_false}
 use Rattle.hc_sorted.specs.Sorted.{above, is_sorted, is_at, has, item_with, with_item, without, with_replacement, place}
 

@@ -1,22 +1,9 @@
 -- What blocks and the list of all bytes have, by the position.
-use Rattle.std.proofs.Common.{◌≡◌, ◌≢◌, inl, inr, ℕ, ◌+◌, ◌-◌, ◌/◌, ◌%◌, ◌<◌, ◌≤◌, ◌^◌, List, ◌++◌, length, get_or, true, false, Option, Some, None, refl, sym, ap, ◌∙◌, arith, length-append}
-use Rattle.std.proofs.lemmas.Bool.{lt-ltb}
+use Rattle.std.{proofs.{Common.{◌≡◌, ◌≢◌, inl, inr, ℕ, ◌+◌, ◌-◌, ◌/◌, ◌%◌, ◌<◌, ◌≤◌, ◌^◌, List, ◌++◌, length, get_or, true, false, Option, Some, None, refl, sym, ap, ◌∙◌, arith, length-append}, lemmas.{Bool.{lt-ltb}, List.{get_or_append_left, get_or-append-add, Edits.{length-between, get_or-between}}}}, specs.{Prelude.{slice_range, Result, Ok, Err, OnOk, OnErr}, Ordering.{nat_cmp}, BTreeMap.{BTreeMap, get}}}
 use borrow.Author.Tests.{ltb-true}
-use Rattle.std.proofs.lemmas.List.{get_or_append_left, get_or-append-add}
-use Rattle.std.proofs.lemmas.List.Edits.{length-between, get_or-between}
-use Rattle.std.specs.Prelude.{slice_range, Result, Ok, Err, OnOk, OnErr}
-use Rattle.hc_sparse.proofs.SizeLemmas.{size-put, size-same}
-use Rattle.std.specs.Ordering.{nat_cmp}
-use Rattle.std.specs.BTreeMap.{BTreeMap, get}
+use Rattle.hc_sparse.proofs.{SizeLemmas.{size-put, size-same}, CellLemmas.{inside-cases}}
 use Rattle.hc_text.proofs.Basics.{lt_or as split}
-use Rattle.hc_sparse.specs.Cells.{cells_with, AreAbsent, size}
-use Rattle.hc_sparse.specs.Extents.{Mark, Marks, mark, claimed_marks, end_of, AreFree, IsExtentFrom}
-use Rattle.hc_sparse.specs.Stretch.{IsPart}
-use Rattle.hc_sparse.specs.declared.extents.Extent.{Extent}
-use Rattle.hc_sparse.specs.Blocks.{marks_in}
-use Rattle.hc_sparse.specs.BlockMaps.{cells_by, cell_of, marks, AreBelow, is_within, AreWithin}
-use Rattle.hc_sparse.specs.declared.block.Block.{Block}
-use Rattle.hc_sparse.proofs.CellLemmas.{inside-cases}
+use Rattle.hc_sparse.specs.{Cells.{cells_with, AreAbsent, size}, Extents.{Mark, Marks, mark, claimed_marks, end_of, AreFree, IsExtentFrom}, Stretch.{IsPart}, declared.{extents.Extent.{Extent}, block.Block.{Block}}, Blocks.{marks_in}, BlockMaps.{cells_by, cell_of, marks, AreBelow, is_within, AreWithin}}
 
 block-is : (p i : ℕ) → p % 4096 + i < 4096 → (p + i) / 4096 ≡ p / 4096
 block-is p i lt = omega arith

@@ -1,7 +1,5 @@
 -- Bytes that are written over what was there.
-use Rattle.std.proofs.Common.{◌≡◌, ◌⊎◌, ℕ, ◌+◌, ◌<◌, ◌≤◌, true, false, arith, List, ◌++◌, length, inl, inr, refl, ◌-◌, length-append}
-use Rattle.std.proofs.lemmas.List.{get_or_append_left, get_or-append-add}
-use Rattle.std.proofs.lemmas.Bool.Decides.{nat_tests}
+use Rattle.std.proofs.{Common.{◌≡◌, ◌⊎◌, ℕ, ◌+◌, ◌<◌, ◌≤◌, true, false, arith, List, ◌++◌, length, inl, inr, refl, ◌-◌, length-append}, lemmas.{List.{get_or_append_left, get_or-append-add}, Bool.Decides.{nat_tests}}}
 use Rattle.hc_sparse.specs.Cells.{Cells, cells_with, inside}
 
 pub inside-yes : (at n p : ℕ) → at ≤ p → p < at + n → inside at n p ≡ true

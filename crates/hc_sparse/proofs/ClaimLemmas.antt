@@ -1,14 +1,8 @@
 -- Offsets made an exchange's.
-use Rattle.std.proofs.Common.{◌≡◌, inl, inr, ℕ, zero, suc, ◌+◌, ◌-◌, ◌<◌, ◌≤◌, List, [], ◌∷◌, length, Bool, true, false, cond, Option, Some, None, refl, sym, ap, ◌∙◌, arith, add-one, get_or, set}
-use Rattle.std.specs.Prelude.{Result, Ok, Err, IsOk, is_ok}
-use Rattle.std.proofs.lemmas.Bool.Decides.{nat_tests}
-use Rattle.std.specs.List.{insert}
+use Rattle.std.{proofs.{Common.{◌≡◌, inl, inr, ℕ, zero, suc, ◌+◌, ◌-◌, ◌<◌, ◌≤◌, List, [], ◌∷◌, length, Bool, true, false, cond, Option, Some, None, refl, sym, ap, ◌∙◌, arith, add-one, get_or, set}, lemmas.Bool.Decides.{nat_tests}}, specs.{Prelude.{Result, Ok, Err, IsOk, is_ok}, List.{insert}}}
 use Rattle.hc_text.proofs.Basics.{le_or as le_cases}
-use Rattle.hc_sparse.specs.Cells.{inside}
-use Rattle.hc_sparse.specs.Extents.{Mark, Marks, mark, marks_of, ascend, place_of, end_of, longer_extent, claimed_marks, AreFree}
-use Rattle.hc_sparse.specs.declared.extents.Extent.{Extent}
-use Rattle.hc_sparse.proofs.CellLemmas.{inside-yes, inside-before, inside-past, inside-cases}
-use Rattle.hc_sparse.proofs.ExtentLemmas.{ascend-cons, ascend-with, at-from}
+use Rattle.hc_sparse.specs.{Cells.{inside}, Extents.{Mark, Marks, mark, marks_of, ascend, place_of, end_of, longer_extent, claimed_marks, AreFree}, declared.extents.Extent.{Extent}}
+use Rattle.hc_sparse.proofs.{CellLemmas.{inside-yes, inside-before, inside-past, inside-cases}, ExtentLemmas.{ascend-cons, ascend-with, at-from}}
 
 -- Extents none of which has an offset up to one ascend from there.
 ascend-past : (n m : ℕ) (es : List Extent) → ascend n es ≡ true → AreFree (marks_of es) n m → m ≤ 4096 → ascend m es ≡ true

@@ -1,12 +1,7 @@
 -- Extents one after another, and whose they make offsets.
-use Rattle.std.specs.List.Sorted.{IsPartitionedBy, IsPartitionPoint}
-use Rattle.std.proofs.Common.{◌≡◌, inl, inr, ℕ, zero, suc, ◌<◌, ◌≤◌, List, [], ◌∷◌, length, true, false, None, refl, arith, add-one, get_or}
-use Rattle.std.proofs.lemmas.Bool.{leb-true, le-leb}
-use Rattle.std.proofs.lemmas.Bool.Decides.{nat_tests}
-use Rattle.std.specs.Prelude.{nat_le}
+use Rattle.std.{specs.{List.Sorted.{IsPartitionedBy, IsPartitionPoint}, Prelude.{nat_le}}, proofs.{Common.{◌≡◌, inl, inr, ℕ, zero, suc, ◌<◌, ◌≤◌, List, [], ◌∷◌, length, true, false, None, refl, arith, add-one, get_or}, lemmas.Bool.{leb-true, le-leb, Decides.{nat_tests}}}}
 use Rattle.hc_text.proofs.Basics.{le_or as le_cases}
-use Rattle.hc_sparse.specs.Extents.{marks_of, ascend, place_of, end_of, IsExtentFrom}
-use Rattle.hc_sparse.specs.declared.extents.Extent.{Extent}
+use Rattle.hc_sparse.specs.{Extents.{marks_of, ascend, place_of, end_of, IsExtentFrom}, declared.extents.Extent.{Extent}}
 use Rattle.hc_sparse.proofs.CellLemmas.{inside-yes, inside-before, inside-past}
 
 pub ascend-cons : (n : ℕ) (e : Extent) (es : List Extent) → ascend n (e ∷ es) ≡ true → (n ≤ e.at) × (0 < e.len) × (ascend (end_of e) es ≡ true)

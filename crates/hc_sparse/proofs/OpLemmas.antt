@@ -1,12 +1,7 @@
 -- Operations one after another.
-use Rattle.std.proofs.Common.{◌≡◌, inl, inr, ℕ, zero, suc, ◌+◌, ◌<◌, ◌≤◌, List, [], ◌∷◌, ◌++◌, length, take, Bool, true, false, Option, Some, None, refl, sym, ap, ◌∙◌, arith, add-one, get_or}
-use Rattle.std.proofs.Math.Seq.{take-suc}
-use Rattle.std.specs.Prelude.{is_some, not, ◌&&◌, nat_le, Result, Ok, Err, OnErr}
+use Rattle.std.{proofs.{Common.{◌≡◌, inl, inr, ℕ, zero, suc, ◌+◌, ◌<◌, ◌≤◌, List, [], ◌∷◌, ◌++◌, length, take, Bool, true, false, Option, Some, None, refl, sym, ap, ◌∙◌, arith, add-one, get_or}, Math.Seq.{take-suc}}, specs.Prelude.{is_some, not, ◌&&◌, nat_le, Result, Ok, Err, OnErr}}
 use Rattle.hc_text.proofs.Basics.{le_or as le_cases, never_true as one-of, lt_or as split}
-use Rattle.hc_sparse.specs.Cells.{Cells, Cell, AreAbsent, IsNext}
-use Rattle.hc_sparse.specs.Ops.{are_absent, after, cells_after, IsAnswer, AreAnswers, HasAnswered}
-use Rattle.hc_sparse.specs.declared.ops.SparseOp.{SparseOp}
-use Rattle.hc_sparse.specs.declared.ops.SparseAnswer.{SparseAnswer}
+use Rattle.hc_sparse.specs.{Cells.{Cells, Cell, AreAbsent, IsNext}, Ops.{are_absent, after, cells_after, IsAnswer, AreAnswers, HasAnswered}, declared.ops.{SparseOp.{SparseOp}, SparseAnswer.{SparseAnswer}}}
 
 absent-is : (o : Option Cell) → is_some o ≡ false → o ≡ None
 absent-is None is = refl

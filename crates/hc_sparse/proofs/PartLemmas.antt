@@ -1,11 +1,7 @@
 -- Bytes that are kept in one place.
 use Rattle.std.proofs.Common.{◌≡◌, inl, inr, ℕ, ◌+◌, ◌-◌, ◌≤◌, List, ◌++◌, length, Some, refl, ap, ◌∙◌, arith, get_or, take, drop, get_or-take, get_or-drop, length-take, length-drop}
 use Rattle.hc_text.proofs.Basics.{lt_or as split}
-use Rattle.hc_sparse.specs.Cells.{Cells, Covers, GoesTo}
-use Rattle.hc_sparse.specs.Runs.{cells_of, cell_in}
-use Rattle.hc_sparse.specs.Runs.{IsRunFrom}
-use Rattle.hc_sparse.specs.Stretch.{bytes_from, IsPart}
-use Rattle.hc_sparse.specs.declared.run.Run.{Run}
+use Rattle.hc_sparse.specs.{Cells.{Cells, Covers, GoesTo}, Runs.{cells_of, cell_in, IsRunFrom}, Stretch.{bytes_from, IsPart}, declared.run.Run.{Run}}
 use Rattle.hc_sparse.proofs.StretchLemmas.{bytes-append}
 
 -- What a part has of a stretch.

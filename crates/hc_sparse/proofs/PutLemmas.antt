@@ -1,13 +1,8 @@
 -- Bytes put among runs.
-use Rattle.std.proofs.Common.{◌≡◌, inl, inr, ℕ, zero, suc, ◌+◌, ◌-◌, ◌<◌, ◌≤◌, ◌^◌, List, [], ◌∷◌, length, Bool, true, false, cond, Option, Some, None, refl, sym, ap, ◌∙◌, arith, add-one, get_or, length-append, set}
-use Rattle.std.proofs.lemmas.Bool.Decides.{nat_tests}
-use Rattle.std.specs.List.{insert}
+use Rattle.std.{proofs.{Common.{◌≡◌, inl, inr, ℕ, zero, suc, ◌+◌, ◌-◌, ◌<◌, ◌≤◌, ◌^◌, List, [], ◌∷◌, length, Bool, true, false, cond, Option, Some, None, refl, sym, ap, ◌∙◌, arith, add-one, get_or, length-append, set}, lemmas.Bool.Decides.{nat_tests}}, specs.List.{insert}}
 use Rattle.hc_text.proofs.Basics.{le_or as le_cases}
-use Rattle.hc_sparse.specs.Cells.{Cells, Cell, cells_with, inside, AreAbsent}
-use Rattle.hc_sparse.specs.Runs.{cells_of, cell_in, ascend, place_of, end_of, longer_run}
-use Rattle.hc_sparse.specs.declared.run.Run.{Run}
-use Rattle.hc_sparse.proofs.CellLemmas.{inside-yes, inside-past, inside-cases, written-append}
-use Rattle.hc_sparse.proofs.RunLemmas.{ascend-cons, ascend-with, at-from}
+use Rattle.hc_sparse.specs.{Cells.{Cells, Cell, cells_with, inside, AreAbsent}, Runs.{cells_of, cell_in, ascend, place_of, end_of, longer_run}, declared.run.Run.{Run}}
+use Rattle.hc_sparse.proofs.{CellLemmas.{inside-yes, inside-past, inside-cases, written-append}, RunLemmas.{ascend-cons, ascend-with, at-from}}
 
 -- Runs among which nothing is up to a position ascend from there.
 ascend-past : (n m : ℕ) (rs : List Run) → ascend n rs ≡ true → AreAbsent (cells_of rs) n m → m ≤ 2 ^ 62 → ascend m rs ≡ true

@@ -1,13 +1,7 @@
 -- Runs one after another, and what they have.
-use Rattle.std.specs.List.Sorted.{IsPartitionedBy, IsPartitionPoint}
-use Rattle.std.proofs.Common.{◌≡◌, ◌⊎◌, inl, inr, ℕ, zero, suc, ◌<◌, ◌≤◌, ◌^◌, List, [], ◌∷◌, length, true, false, Some, None, refl, arith, add-one, get_or, max}
-use Rattle.std.proofs.lemmas.Bool.{leb-true, le-leb}
-use Rattle.std.proofs.lemmas.Bool.Decides.{nat_tests}
-use Rattle.std.specs.Prelude.{nat_le}
+use Rattle.std.{specs.{List.Sorted.{IsPartitionedBy, IsPartitionPoint}, Prelude.{nat_le}}, proofs.{Common.{◌≡◌, ◌⊎◌, inl, inr, ℕ, zero, suc, ◌<◌, ◌≤◌, ◌^◌, List, [], ◌∷◌, length, true, false, Some, None, refl, arith, add-one, get_or, max}, lemmas.Bool.{leb-true, le-leb, Decides.{nat_tests}}}}
 use Rattle.hc_text.proofs.Basics.{le_or as le_cases}
-use Rattle.hc_sparse.specs.Cells.{EndsBy, IsNext}
-use Rattle.hc_sparse.specs.Runs.{cells_of, ascend, place_of, end_of, IsRunFrom}
-use Rattle.hc_sparse.specs.declared.run.Run.{Run}
+use Rattle.hc_sparse.specs.{Cells.{EndsBy, IsNext}, Runs.{cells_of, ascend, place_of, end_of, IsRunFrom}, declared.run.Run.{Run}}
 use Rattle.hc_sparse.proofs.CellLemmas.{inside-yes, inside-before, inside-past}
 
 pub ascend-cons : (n : ℕ) (r : Run) (rs : List Run) → ascend n (r ∷ rs) ≡ true → (n ≤ r.at) × (0 < length r.bytes) × (ascend (end_of r) rs ≡ true)

@@ -1,7 +1,6 @@
 -- At how many positions something is.
-use Rattle.std.proofs.Common.{◌≡◌, inl, inr, ℕ, suc, zero, ◌+◌, ◌-◌, ◌≤◌, ◌^◌, List, length, true, false, cond, None, refl, ap, ◌∙◌, arith, min}
+use Rattle.std.{proofs.Common.{◌≡◌, inl, inr, ℕ, suc, zero, ◌+◌, ◌-◌, ◌≤◌, ◌^◌, List, length, true, false, cond, None, refl, ap, ◌∙◌, arith, min}, specs.Prelude.{is_some}}
 use mathlib.Core.Path.{fun_ext}
-use Rattle.std.specs.Prelude.{is_some}
 use Rattle.hc_sparse.specs.Cells.{Cells, cells_with, AreAbsent, size, size_below}
 use Rattle.hc_sparse.proofs.CellLemmas.{inside-cases}
 

@@ -1,12 +1,7 @@
 -- Spans that somebody has.
-use Rattle.std.proofs.Common.{◌≡◌, ◌≢◌, inl, inr, ℕ, Some, None, refl, sym, ◌∙◌, ◌+◌, arith}
-use Rattle.std.proofs.lemmas.Bool.{cases_eq}
-use Rattle.std.proofs.lemmas.Grind.{common_steps}
-use Rattle.std.specs.Ordering.{nat_cmp}
-use Rattle.std.specs.BTreeMap.{BTreeMap, get, Updates}
+use Rattle.std.{proofs.{Common.{◌≡◌, ◌≢◌, inl, inr, ℕ, Some, None, refl, sym, ◌∙◌, ◌+◌, arith}, lemmas.{Bool.{cases_eq}, Grind.{common_steps}}}, specs.{Ordering.{nat_cmp}, BTreeMap.{BTreeMap, get, Updates}}}
 use Rattle.hc_text.proofs.Basics.{lt_or as split}
-use Rattle.hc_sparse.specs.Extents.{Marks, HaveAll, claimed_marks}
-use Rattle.hc_sparse.specs.SpanMaps.{IsSpan, AllHad}
+use Rattle.hc_sparse.specs.{Extents.{Marks, HaveAll, claimed_marks}, SpanMaps.{IsSpan, AllHad}}
 use Rattle.hc_sparse.proofs.CellLemmas.{inside-yes, inside-cases}
 
 -- A span that is put over two beside it, of which the first goes.

@@ -1,11 +1,7 @@
 -- Stretches of bytes of one exchange.
-use Rattle.std.proofs.Common.{◌≡◌, ◌≢◌, inl, inr, ℕ, zero, suc, ◌+◌, ◌-◌, ◌<◌, ◌≤◌, List, [], ◌∷◌, ◌++◌, length, true, false, eqb, Option, Some, None, refl, sym, ap, ◌∙◌, arith, get_or, take, zero-add, append_assoc}
-use Rattle.std.proofs.lemmas.Bool.Decides.{nat_tests, eqb_tells}
-use Rattle.std.specs.Prelude.{◌↔◌, IfSome}
+use Rattle.std.{proofs.{Common.{◌≡◌, ◌≢◌, inl, inr, ℕ, zero, suc, ◌+◌, ◌-◌, ◌<◌, ◌≤◌, List, [], ◌∷◌, ◌++◌, length, true, false, eqb, Option, Some, None, refl, sym, ap, ◌∙◌, arith, get_or, take, zero-add, append_assoc}, lemmas.Bool.Decides.{nat_tests, eqb_tells}}, specs.Prelude.{◌↔◌, IfSome}}
 use Rattle.hc_text.proofs.Basics.{lt_or as split}
-use Rattle.hc_sparse.specs.Cells.{Cells, Cell, AreOf, AreAbsent, cells_with}
-use Rattle.hc_sparse.specs.Stretch.{bytes_from, goes_on, stretch, stretch_of, IsLongest}
-use Rattle.hc_sparse.specs.declared.run.Run.{Run}
+use Rattle.hc_sparse.specs.{Cells.{Cells, Cell, AreOf, AreAbsent, cells_with}, Stretch.{bytes_from, goes_on, stretch, stretch_of, IsLongest}, declared.run.Run.{Run}}
 use Rattle.hc_sparse.proofs.CellLemmas.{inside-yes, inside-before, inside-past, inside-cases}
 
 -- Bytes of x that stand one after another.

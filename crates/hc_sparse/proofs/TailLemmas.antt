@@ -1,11 +1,7 @@
 -- Where the bytes of a tail stand.
 use Rattle.std.proofs.Common.{◌≡◌, ℕ, ◌+◌, ◌-◌, ◌<◌, ◌≤◌, true, Some, arith}
 use borrow.Author.Tests.{ltb-true}
-use Rattle.hc_sparse.specs.Cells.{inside}
-use Rattle.hc_sparse.specs.Extents.{Marks, mark}
-use Rattle.hc_sparse.specs.BlockMaps.{is_within, AreWithin}
-use Rattle.hc_sparse.specs.Places.{with_tail}
-use Rattle.hc_sparse.specs.declared.extents.Extent.{Extent}
+use Rattle.hc_sparse.specs.{Cells.{inside}, Extents.{Marks, mark}, BlockMaps.{is_within, AreWithin}, Places.{with_tail}, declared.extents.Extent.{Extent}}
 use Rattle.hc_sparse.proofs.CellLemmas.{inside-yes}
 
 -- The bytes of a tail are among all bytes.

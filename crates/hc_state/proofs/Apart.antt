@@ -1,26 +1,17 @@
 -- A consumer waits for its key no more, and is bound to nothing: what is kept by key and of representations represents
 -- the tables then.
-use Rattle.std.proofs.Common.{◌≡◌, ◌≢◌, ℕ, List, Bool, true, false, Some, refl, ap, sym, ◌∙◌, subst}
-use Rattle.std.specs.Prelude.{bytes_eq, ◌||◌}
+use Rattle.std.{proofs.Common.{◌≡◌, ◌≢◌, ℕ, List, Bool, true, false, Some, refl, ap, sym, ◌∙◌, subst}, specs.Prelude.{bytes_eq, ◌||◌}}
 use Rattle.hc_text.proofs.Basics.{eqb-other, eqb-same, false_true}
 use Rattle.hc_rules.proofs.RangeReads.{same_bytes}
-use Rattle.hc_entry.specs.declared.keys.KeyTable.{KeyTable}
-use Rattle.hc_entry.specs.Keys.{kept_of, line_of}
+use Rattle.hc_entry.specs.{declared.keys.KeyTable.{KeyTable}, Keys.{kept_of, line_of}, Kept.{on_line}, Lines.{is_among, is_in, left_by}}
 use Rattle.hc_entry.specs.Kept as keyed
-use Rattle.hc_entry.specs.Kept.{on_line}
-use Rattle.hc_entry.specs.Lines.{is_among, is_in, left_by}
 use Rattle.hc_stored.specs.Shelf.{Shelf}
 use Rattle.hc_effects.proofs.Vocabulary.{with_consumer, Lawful, is_in_line, is_bound, Tables}
 use Rattle.hc_effects.proofs.Tests.{and_false}
 use Rattle.hc_model.specs.Rows as rows
 use Rattle.hc_model.specs.Sound as sound
-use Rattle.hc_state.specs.Leaving.{LeavesKey, IsUserAt, UnbindsAt}
-use Rattle.hc_state.specs.Lines.{KeepsKey, has_turn, is_passed, is_away}
-use Rattle.hc_state.specs.Handlers.{LeftIf}
-use Rattle.hc_state.specs.Stored.{KeepsEntries}
-use Rattle.hc_state.proofs.ConsumerSteps.{SaysOfIt, key_with, key_stays, keys_with}
-use Rattle.hc_state.proofs.KeySteps.{leaves_key}
-use Rattle.hc_state.proofs.Unbinding.{entries_unbound, user_kept}
+use Rattle.hc_state.specs.{Leaving.{LeavesKey, IsUserAt, UnbindsAt}, Lines.{KeepsKey, has_turn, is_passed, is_away}, Handlers.{LeftIf}, Stored.{KeepsEntries}}
+use Rattle.hc_state.proofs.{ConsumerSteps.{SaysOfIt, key_with, key_stays, keys_with}, KeySteps.{leaves_key}, Unbinding.{entries_unbound, user_kept}}
 
 -- TESTS
 

@@ -1,8 +1,5 @@
 -- An exchange is closed that stops: the acts, and the tables for which the rows stand.
-use Rattle.std.proofs.Common.{◌≡◌, ◌≢◌, inl, inr, ℕ, List, [], ◌∷◌, ◌++◌, Bool, true, false, Option, Some, None, refl, ap, sym, ◌∙◌, subst, arith}
-use Rattle.std.proofs.lemmas.Bool.Decides.{nat_tests}
-use Rattle.std.proofs.lemmas.List.{append-nil}
-use Rattle.std.specs.Prelude.{nat_eq, map, option_map, ◌&&◌, if◌then◌else◌}
+use Rattle.std.{proofs.{Common.{◌≡◌, ◌≢◌, inl, inr, ℕ, List, [], ◌∷◌, ◌++◌, Bool, true, false, Option, Some, None, refl, ap, sym, ◌∙◌, subst, arith}, lemmas.{Bool.Decides.{nat_tests}, List.{append-nil}}}, specs.Prelude.{nat_eq, map, option_map, ◌&&◌, if◌then◌else◌}}
 use Rattle.hc_text.proofs.Basics.{eqb-other, eqb-same, false_true, same_or, same_some as same_row, some_inj as some_is, and_off as then_false}
 use Rattle.hc_store.specs.declared.backend.Backend.{Ghosts}
 use Rattle.hc_effects.proofs.Vocabulary.{Act, Limits, Place, BoundBy, back_in_line, with_consumer, as_over, with_representation, tables_after_close, all_closed, let_go, let_some_go, as_gone, lost_to, back_from, left_by, going_with, is_unkeepable, family, brings_to, Tables, Representation, with_item_first, exclusive}
@@ -14,18 +11,10 @@ use Rattle.hc_event.specs.declared.place.Place.TheVariants as place
 use Rattle.hc_event.specs.declared.place.BoundBy.TheVariants as by
 use Rattle.hc_model.specs.Effects.{waits_for}
 use Rattle.hc_model.specs.Rows as rows
-use Rattle.hc_effects.proofs.SameTables.{same_tables}
-use Rattle.hc_effects.proofs.Tests.{none_some}
-use Rattle.hc_state.specs.declared.rows.Rows.{Rows}
-use Rattle.hc_state.specs.Facts.{Facts}
+use Rattle.hc_effects.proofs.{SameTables.{same_tables}, Tests.{none_some}}
+use Rattle.hc_state.specs.{declared.rows.Rows.{Rows}, Facts.{Facts}, Left.{HasLeft}, Stands.{RowsStand, KeepsRest}, Stopped.{with_consumers, NobodyAwaits, MayStop, HasStopped, quietly, unsealed}}
 use Rattle.hc_state.specs.Left as leaving
-use Rattle.hc_state.specs.Left.{HasLeft}
-use Rattle.hc_state.specs.Stands.{RowsStand, KeepsRest}
-use Rattle.hc_state.specs.Stopped.{with_consumers, NobodyAwaits, MayStop, HasStopped, quietly, unsealed}
-use Rattle.hc_state.proofs.Closing.{stands_unstored}
-use Rattle.hc_state.proofs.LeftAlone.{once_left}
-use Rattle.hc_state.proofs.Maps.{act_and}
-use Rattle.hc_state.proofs.Stopping.{IsApartNow, GoesWith}
+use Rattle.hc_state.proofs.{Closing.{stands_unstored}, LeftAlone.{once_left}, Maps.{act_and}, Stopping.{IsApartNow, GoesWith}}
 
 -- WHAT IS LET GO
 

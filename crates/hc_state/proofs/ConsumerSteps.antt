@@ -1,22 +1,14 @@
 -- One consumer's row is another: what is kept of it, of its key and of the representations represents the tables then.
-use Rattle.std.proofs.Common.{◌≡◌, ◌≢◌, ◌⊎◌, inl, inr, ℕ, ◌+◌, List, [], Bool, true, false, cond, eqb, Option, refl, sym, ◌∙◌, subst}
-use Rattle.std.specs.Prelude.{nat_eq, bytes_eq, ◌==◌, if◌then◌else◌}
-use Rattle.std.specs.HashMap.{get}
+use Rattle.std.{proofs.Common.{◌≡◌, ◌≢◌, ◌⊎◌, inl, inr, ℕ, ◌+◌, List, [], Bool, true, false, cond, eqb, Option, refl, sym, ◌∙◌, subst}, specs.{Prelude.{nat_eq, bytes_eq, ◌==◌, if◌then◌else◌}, HashMap.{get}}}
 use Rattle.hc_text.proofs.Basics.{eqb-other, eqb-same, same_or}
 use Rattle.hc_store.specs.declared.backend.Backend.{Ghosts}
-use Rattle.hc_entry.specs.declared.keys.KeyTable.{KeyTable}
+use Rattle.hc_entry.specs.{declared.keys.KeyTable.{KeyTable}, Keys.{kept_of}, Lines.{is_among, is_held_by}}
 use Rattle.hc_entry.specs.Keys as keys
-use Rattle.hc_entry.specs.Keys.{kept_of}
 use Rattle.hc_entry.specs.Kept as keyed
-use Rattle.hc_entry.specs.Lines.{is_among, is_held_by}
 use Rattle.hc_effects.proofs.Vocabulary.{current, with_consumer, is_in_line, Tables}
 use Rattle.hc_model.specs.Rows as rows
 use Rattle.hc_rules.proofs.RangeReads.{same_bytes}
-use Rattle.hc_state.specs.declared.consumer.Consumer.{Consumer}
-use Rattle.hc_state.specs.declared.rows.Rows.{Rows}
-use Rattle.hc_state.specs.Changes.{BecomesAt}
-use Rattle.hc_state.specs.Kept.{KeepsConsumer}
-use Rattle.hc_state.specs.Lines.{KeepsKey, has_turn, is_passed, is_away}
+use Rattle.hc_state.specs.{declared.{consumer.Consumer.{Consumer}, rows.Rows.{Rows}}, Changes.{BecomesAt}, Kept.{KeepsConsumer}, Lines.{KeepsKey, has_turn, is_passed, is_away}}
 use Rattle.hc_state.proofs.Ties.{SeesSame, consumer_same}
 
 -- CONSUMERS

@@ -1,14 +1,11 @@
 -- Where only the counts of the tables change, what is kept represents them as before.
-use Rattle.std.proofs.Common.{◌≡◌, ℕ, ◌+◌, refl, ◌∙◌}
-use Rattle.std.specs.Prelude.{nat_eq}
-use Rattle.std.specs.HashMap.{get}
+use Rattle.std.{proofs.Common.{◌≡◌, ℕ, ◌+◌, refl, ◌∙◌}, specs.{Prelude.{nat_eq}, HashMap.{get}}}
 use Rattle.hc_effects.proofs.Vocabulary.{Limits, current, kind_of, bound, Event, with_event, Tables, received_in}
 use Rattle.hc_store.specs.declared.backend.Backend.{Ghosts}
 use Rattle.hc_stored.specs.Entries.{shelf_of}
 use Rattle.hc_entry.specs.Keys.{kept_of}
 use Rattle.hc_exch.specs.Exchanges.{table_of}
-use Rattle.hc_state.specs.declared.rows.Rows.{Rows}
-use Rattle.hc_state.specs.Stands.{RowsStand}
+use Rattle.hc_state.specs.{declared.rows.Rows.{Rows}, Stands.{RowsStand}}
 use Rattle.hc_state.proofs.Ties.{consumer_same, key_same, entry_same, exchange_same}
 
 -- the same tables, with other counts

@@ -1,22 +1,13 @@
 -- What is stored of a representation is what the tables say, and what is current is kept.
-use Rattle.std.proofs.Common.{◌≡◌, ℕ, List, Bool, true, false, Option, Some, None, refl, ap, sym, ◌∙◌, subst}
-use Rattle.std.specs.Prelude.{is_some, option_map, ◌↔◌, IsTrue}
+use Rattle.std.{proofs.Common.{◌≡◌, ℕ, List, Bool, true, false, Option, Some, None, refl, ap, sym, ◌∙◌, subst}, specs.Prelude.{is_some, option_map, ◌↔◌, IsTrue}}
 use Rattle.hc_text.proofs.Basics.{false_true, same_test, some_inj as some_is}
 use Rattle.hc_effects.proofs.Vocabulary.{Limits, current, covers, Lawful, Tables, Representation}
 use Rattle.hc_store.specs.declared.backend.Backend.{Ghosts}
 use Rattle.hc_sparse.specs.Cells.{EndsBy, Covers}
-use Rattle.hc_stored.specs.declared.view.EntryView.{EntryView}
-use Rattle.hc_stored.specs.Entries.{shelf_of}
-use Rattle.hc_stored.specs.Kept.{Kept}
-use Rattle.hc_stored.specs.Shelf.{is_kept}
-use Rattle.hc_stored.specs.Views.{view_of}
+use Rattle.hc_stored.specs.{declared.view.EntryView.{EntryView}, Entries.{shelf_of}, Kept.{Kept}, Shelf.{is_kept}, Views.{view_of}}
 use Rattle.hc_effects.proofs.HoleLemmas as holes
-use Rattle.hc_effects.proofs.KeysKeep.{current_row}
-use Rattle.hc_effects.proofs.PollKeeps.{current_stays}
-use Rattle.hc_effects.proofs.Tests.{none_some}
-use Rattle.hc_state.specs.declared.rows.Rows.{Rows}
-use Rattle.hc_state.specs.Stands.{RowsStand}
-use Rattle.hc_state.specs.Stored.{IsEntry, KeepsEntry, TellsLength, told, untold}
+use Rattle.hc_effects.proofs.{KeysKeep.{current_row}, PollKeeps.{current_stays}, Tests.{none_some}}
+use Rattle.hc_state.specs.{declared.rows.Rows.{Rows}, Stands.{RowsStand}, Stored.{IsEntry, KeepsEntry, TellsLength, told, untold}}
 
 -- WHAT IS STORED
 

@@ -1,36 +1,17 @@
 -- A consumer is gone, or is to fail: what is kept represents the tables without it, or in which it is down.
-use Rattle.std.proofs.Common.{◌≡◌, ◌≢◌, inl, inr, ℕ, ◌+◌, List, [], Bool, true, false, Option, Some, None, refl, ap, sym, ◌∙◌, subst, arith}
-use Rattle.std.proofs.lemmas.Bool.Decides.{nat_tests}
-use Rattle.std.specs.Prelude.{is_some, nat_eq, bytes_eq, drop, not, ◌&&◌, if◌then◌else◌}
-use Rattle.std.specs.HashMap.{get, hash_map_len}
+use Rattle.std.{proofs.{Common.{◌≡◌, ◌≢◌, inl, inr, ℕ, ◌+◌, List, [], Bool, true, false, Option, Some, None, refl, ap, sym, ◌∙◌, subst, arith}, lemmas.Bool.Decides.{nat_tests}}, specs.{Prelude.{is_some, nat_eq, bytes_eq, drop, not, ◌&&◌, if◌then◌else◌}, HashMap.{get, hash_map_len}}}
 use Rattle.hc_text.proofs.Basics.{eqb-other, eqb-same, false_true, same_or, and_off as then_false}
 use Rattle.hc_effects.proofs.Vocabulary.{Limits, Cause, Request, Response, is_disabled, is_only, Place, is_number, is_live, live, with_consumer, as_over, family, Lawful, is_in_line, stands_in_line, has_passed, is_bound_place, Tables, Exchange, Representation, Among, came_alone}
-use Rattle.hc_effects.proofs.Tests.{and_false}
-use Rattle.hc_effects.proofs.Basics.{number_is as number_tells}
+use Rattle.hc_effects.proofs.{Tests.{and_false}, Basics.{number_is as number_tells}}
 use Rattle.hc_store.specs.declared.backend.Backend.{Ghosts}
-use Rattle.hc_entry.specs.declared.keys.KeyTable.{KeyTable}
-use Rattle.hc_entry.specs.Keys.{kept_of}
-use Rattle.hc_exch.specs.Exchanges.{table_of}
-use Rattle.hc_exch.specs.Known.{Known, forgotten}
-use Rattle.hc_stored.specs.Entries.{shelf_of}
-use Rattle.hc_stored.specs.Shelf.{Shelf}
+use Rattle.hc_entry.specs.{declared.keys.KeyTable.{KeyTable}, Keys.{kept_of}}
+use Rattle.hc_exch.specs.{Exchanges.{table_of}, Known.{Known, forgotten}}
+use Rattle.hc_stored.specs.{Entries.{shelf_of}, Shelf.{Shelf}}
 use Rattle.hc_event.specs.declared.place.Place.TheVariants as place
 use Rattle.hc_model.specs.Rows as rows
-use Rattle.hc_state.specs.declared.consumer.Consumer.{Consumer}
-use Rattle.hc_state.specs.declared.rows.Rows.{Rows}
-use Rattle.hc_state.specs.Changes.{ChangesAt, BecomesAt, one, put_down}
-use Rattle.hc_state.specs.Kept.{IsKept, KeepsConsumer, KeepsExchange, answer_for, is_direct, held_for, held_of, held_alone, unread, unstored_bytes}
-use Rattle.hc_state.specs.Leaving.{LeavesKey, Forgets, IsUserAt, UnbindsAt}
-use Rattle.hc_state.specs.Lines.{KeepsKey, is_passed, is_away, is_away_at}
-use Rattle.hc_state.specs.Stands.{RowsStand}
-use Rattle.hc_state.specs.Stored.{KeepsEntries, is_first}
-use Rattle.hc_state.proofs.Apart.{keys_apart, entries_apart, user_at}
-use Rattle.hc_state.proofs.ConsumerSteps.{all_kept_with}
+use Rattle.hc_state.specs.{declared.{consumer.Consumer.{Consumer}, rows.Rows.{Rows}}, Changes.{ChangesAt, BecomesAt, one, put_down}, Kept.{IsKept, KeepsConsumer, KeepsExchange, answer_for, is_direct, held_for, held_of, held_alone, unread, unstored_bytes}, Leaving.{LeavesKey, Forgets, IsUserAt, UnbindsAt}, Lines.{KeepsKey, is_passed, is_away, is_away_at}, Stands.{RowsStand}, Stored.{KeepsEntries, is_first}}
+use Rattle.hc_state.proofs.{Apart.{keys_apart, entries_apart, user_at}, ConsumerSteps.{all_kept_with}, Maps.{merely_true}, FallbackSteps.{live_same}, QueueHandler.{becomes_by}, Ties.{exchange_same, kept_row, runs_same}}
 use Rattle.hc_state.proofs.LiveCounts as counts
-use Rattle.hc_state.proofs.Maps.{merely_true}
-use Rattle.hc_state.proofs.FallbackSteps.{live_same}
-use Rattle.hc_state.proofs.QueueHandler.{becomes_by}
-use Rattle.hc_state.proofs.Ties.{exchange_same, kept_row, runs_same}
 
 -- TESTS
 

@@ -1,12 +1,9 @@
 -- What is kept of a consumer's key where it is in line again, leaves, or takes the turn; of another key the same is said.
-use Rattle.std.proofs.Common.{◌≡◌, inl, inr, ℕ, List, Bool, true, false, cond, eqb, Option, Some, None, refl, ap, sym, ◌∙◌}
-use Rattle.std.specs.Prelude.{bytes_eq, ◌&&◌, ◌||◌, not}
+use Rattle.std.{proofs.Common.{◌≡◌, inl, inr, ℕ, List, Bool, true, false, cond, eqb, Option, Some, None, refl, ap, sym, ◌∙◌}, specs.Prelude.{bytes_eq, ◌&&◌, ◌||◌, not}}
 use Rattle.hc_text.proofs.Basics.{eqb-other, eqb-same, false_true, same_or, and_off as then_false}
 use Rattle.hc_entry.specs.Kept as keyed
-use Rattle.hc_entry.specs.Kept.{on_line}
+use Rattle.hc_entry.specs.{Kept.{on_line}, Lines.{is_among, is_held_by, holder_without, come_back, held_by, left_by}, Users.{itself}}
 use Rattle.hc_entry.specs.Lines as lines
-use Rattle.hc_entry.specs.Lines.{is_among, is_held_by, holder_without, come_back, held_by, left_by}
-use Rattle.hc_entry.specs.Users.{itself}
 use Rattle.hc_sorted.specs.Sorted.{with_item, without}
 use Rattle.hc_sorted.proofs.SortedLemmas.{has-with, has-without}
 use Rattle.hc_effects.proofs.Vocabulary.{is_disabled, is_only, is_in_line, stands_in_line, holds_place, has_passed, Tables}

@@ -1,21 +1,12 @@
 -- What a consumer leaves nobody else reads.
-use Rattle.std.proofs.Common.{◌≡◌, ◌≢◌, ◌⊎◌, inl, inr, ℕ, [], Bool, true, false, Option, Some, None, refl, ap, sym, ◌∙◌, subst}
-use Rattle.std.specs.Prelude.{is_some, is_none, not, ◌==◌, ◌&&◌, ◌||◌, if◌then◌else◌}
-use Rattle.std.specs.Option.{option_or}
+use Rattle.std.{proofs.Common.{◌≡◌, ◌≢◌, ◌⊎◌, inl, inr, ℕ, [], Bool, true, false, Option, Some, None, refl, ap, sym, ◌∙◌, subst}, specs.{Prelude.{is_some, is_none, not, ◌==◌, ◌&&◌, ◌||◌, if◌then◌else◌}, Option.{option_or}}}
 use Rattle.hc_text.proofs.Basics.{eqb-other, eqb-same, false_true, same_or, same_some as same_row, some_inj as some_is, and_off as then_false}
 use Rattle.hc_effects.proofs.Vocabulary.{Place, BoundBy, is_last_reader, is_number, with_consumer, as_over, left_by, family, is_open, is_headless, Lawful, MayLetGo, own_open, shared_exchange, writing_in, is_written, Tables, Exchange, Representation, Consumer, IsBound, IsAbout, IsHad, IsExclusiveWriter, exclusive, has_more, Response}
 use Rattle.hc_event.specs.declared.place.Place.TheVariants as place
 use Rattle.hc_event.specs.declared.place.BoundBy.TheVariants as by
 use Rattle.hc_model.specs.Sound as sound
-use Rattle.hc_effects.proofs.AboutKeeps.{own_open_of}
-use Rattle.hc_effects.proofs.Basics.{number_is}
-use Rattle.hc_effects.proofs.Exclusives.{exclusive_parts}
-use Rattle.hc_effects.proofs.KeyActs.{test_some}
-use Rattle.hc_effects.proofs.LettingGo.{may_let_go}
-use Rattle.hc_effects.proofs.Stops.{writer_about}
-use Rattle.hc_effects.proofs.Tests.{none_some}
-use Rattle.hc_state.specs.Kept.{held_alone}
-use Rattle.hc_state.specs.Stopped.{NobodyAwaits, HoldsNothing, MayStop}
+use Rattle.hc_effects.proofs.{AboutKeeps.{own_open_of}, Basics.{number_is}, Exclusives.{exclusive_parts}, KeyActs.{test_some}, LettingGo.{may_let_go}, Stops.{writer_about}, Tests.{none_some}}
+use Rattle.hc_state.specs.{Kept.{held_alone}, Stopped.{NobodyAwaits, HoldsNothing, MayStop}}
 
 pub unwritten_none : (t : Tables) (v : Representation) → v.writer ≡ None → is_written t v ≡ false
 unfolding is_written

@@ -1,35 +1,18 @@
 -- What the rows say that a consumer leaves is what the tables say.
-use Rattle.std.proofs.Common.{◌≡◌, inl, inr, ℕ, List, [], ◌∷◌, Bool, true, false, Option, Some, None, refl, ap, ap₂, sym, ◌∙◌, subst, arith}
-use Rattle.std.proofs.lemmas.Bool.Decides.{nat_tests}
-use Rattle.std.specs.Prelude.{is_some, IsSomeAnd, nat_eq, filter, not, ◌&&◌, ◌||◌, ◌==◌, if◌then◌else◌}
-use Rattle.std.specs.List.{list_all}
-use Rattle.std.specs.Option.{option_or, option_and_then}
-use Rattle.std.specs.HashMap.{get}
+use Rattle.std.{proofs.{Common.{◌≡◌, inl, inr, ℕ, List, [], ◌∷◌, Bool, true, false, Option, Some, None, refl, ap, ap₂, sym, ◌∙◌, subst, arith}, lemmas.Bool.Decides.{nat_tests}}, specs.{Prelude.{is_some, IsSomeAnd, nat_eq, filter, not, ◌&&◌, ◌||◌, ◌==◌, if◌then◌else◌}, List.{list_all}, Option.{option_or, option_and_then}, HashMap.{get}}}
 use Rattle.hc_text.proofs.Basics.{both_true as and_both, and_left as and_first, and_right as and_then, eqb-same, false_true, never_true as not_true, or_right as or_then, same_test}
 use Rattle.hc_effects.proofs.Vocabulary.{Limits, Place, is_last_reader, is_number, left_by, with_consumer, as_over, is_open, Lawful, bound, is_bound, if_open, shared_exchange, writing_in, is_written, is_open_writer, Tables, Exchange, Representation, Among, Cause}
 use Rattle.hc_store.specs.declared.backend.Backend.{Ghosts}
 use Rattle.hc_sorted.specs.Sorted.{has}
-use Rattle.hc_stored.specs.Entries.{shelf_of}
-use Rattle.hc_stored.specs.Kept.{Kept, itself}
-use Rattle.hc_stored.specs.Views.{bound_in}
-use Rattle.hc_exch.specs.Exchanges.{table_of}
+use Rattle.hc_stored.specs.{Entries.{shelf_of}, Kept.{Kept, itself}, Views.{bound_in}}
+use Rattle.hc_exch.specs.{Exchanges.{table_of}, declared.row.Open.{Open}}
 use Rattle.hc_exch.specs.Known as known
-use Rattle.hc_exch.specs.declared.row.Open.{Open}
 use Rattle.hc_event.specs.declared.place.Place.TheVariants as place
 use Rattle.hc_model.specs.Rows as rows
 use Rattle.hc_model.specs.Sound as sound
-use Rattle.hc_effects.proofs.OfConsumers.{left_open}
-use Rattle.hc_effects.proofs.ExclusiveWriters.{filter_some}
-use Rattle.hc_effects.proofs.Basics.{some_row}
-use Rattle.hc_state.specs.declared.consumer.Consumer.{Consumer}
-use Rattle.hc_state.specs.declared.rows.Rows.{Rows}
-use Rattle.hc_state.specs.Kept.{IsKept, KeepsConsumer, KeepsRunning}
-use Rattle.hc_state.specs.Handlers.{IsDown}
-use Rattle.hc_state.specs.Leaving.{if_running, writing_of, last_read, left_of}
-use Rattle.hc_state.specs.Stands.{RowsStand}
-use Rattle.hc_state.specs.Stored.{KeepsEntry, TellsWriter, as_written, forgotten, is_over}
-use Rattle.hc_state.proofs.Ties.{kept_row}
-use Rattle.hc_state.proofs.Words.{there}
+use Rattle.hc_effects.proofs.{OfConsumers.{left_open}, ExclusiveWriters.{filter_some}, Basics.{some_row}}
+use Rattle.hc_state.specs.{declared.{consumer.Consumer.{Consumer}, rows.Rows.{Rows}}, Kept.{IsKept, KeepsConsumer, KeepsRunning}, Handlers.{IsDown}, Leaving.{if_running, writing_of, last_read, left_of}, Stands.{RowsStand}, Stored.{KeepsEntry, TellsWriter, as_written, forgotten, is_over}}
+use Rattle.hc_state.proofs.{Ties.{kept_row}, Words.{there}}
 
 -- LISTS
 

@@ -1,16 +1,8 @@
 -- What a call of a map leaves, and what holds wherever there is some past.
-use Rattle.std.proofs.Common.{◌≡◌, ◌≢◌, inl, inr, ℕ, ◌+◌, ◌<◌, ◌≤◌, ◌^◌, List, [], ◌∷◌, ◌++◌, Bool, true, false, Option, Some, None, Bor, refl, ap, sym, ◌∙◌, arith}
-use Rattle.std.proofs.lemmas.Bool.Decides.{nat_tests}
-use Rattle.std.proofs.lemmas.Grind.{not_there}
-use Rattle.std.proofs.lemmas.List.{append_assoc}
-use Rattle.std.specs.Prelude.{is_some, nat_eq, nat_lt, option_map, if◌then◌else◌, IsSomeAnd, IfSome}
-use Rattle.std.specs.Option.{option_copied}
-use Rattle.std.specs.HashMap.{get, get_by, hash_map_len, UpdatesBy}
+use Rattle.std.{proofs.{Common.{◌≡◌, ◌≢◌, inl, inr, ℕ, ◌+◌, ◌<◌, ◌≤◌, ◌^◌, List, [], ◌∷◌, ◌++◌, Bool, true, false, Option, Some, None, Bor, refl, ap, sym, ◌∙◌, arith}, lemmas.{Bool.Decides.{nat_tests}, Grind.{not_there}, List.{append_assoc}}}, specs.{Prelude.{is_some, nat_eq, nat_lt, option_map, if◌then◌else◌, IsSomeAnd, IfSome}, Option.{option_copied}, HashMap.{get, get_by, hash_map_len, UpdatesBy}}}
 use Rattle.hc_text.proofs.Basics.{eqb-other, eqb-same, same_or}
-use Rattle.hc_range.specs.declared.range.Asked.{Asked}
+use Rattle.hc_range.specs.{declared.range.{Asked.{Asked}, Span.{Span}}, Spans.{IsInOrder, IsWithin}}
 use Rattle.hc_range.specs.declared.range.Asked.TheVariants as asked
-use Rattle.hc_range.specs.declared.range.Span.{Span}
-use Rattle.hc_range.specs.Spans.{IsInOrder, IsWithin}
 use Rattle.hc_effects.proofs.Vocabulary.{Act}
 use Rattle.hc_entry.specs.Lines.{is_held_by}
 use Rattle.hc_state.specs.Changes.{Numbered, ChangesAt, BecomesAt, one}

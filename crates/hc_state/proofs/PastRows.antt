@@ -1,11 +1,9 @@
 -- Whoever reads past the store sees of an exchange its head, where its body begins, and where that ends.
-use Rattle.std.proofs.Common.{◌≡◌, ℕ, Option, Some, None, refl, ap, sym, ◌∙◌}
-use Rattle.std.specs.Prelude.{if◌then◌else◌}
+use Rattle.std.{proofs.Common.{◌≡◌, ℕ, Option, Some, None, refl, ap, sym, ◌∙◌}, specs.Prelude.{if◌then◌else◌}}
 use Rattle.hc_effects.proofs.Vocabulary.{Place, total_in, base_in, end_in, lo_of, hi_of, Tables}
 use Rattle.hc_event.specs.declared.place.Place.TheVariants as place
 use Rattle.hc_model.specs.Rows as rows
-use Rattle.hc_state.specs.declared.consumer.Consumer.{Consumer}
-use Rattle.hc_state.specs.Kept.{IsKept, KeepsConsumer, head_in, answer_for}
+use Rattle.hc_state.specs.{declared.consumer.Consumer.{Consumer}, Kept.{IsKept, KeepsConsumer, head_in, answer_for}}
 
 -- of each exchange, and of each length
 pub record SeesAlike (t s : Tables) : Type 0 where

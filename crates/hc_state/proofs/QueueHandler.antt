@@ -1,27 +1,15 @@
 -- A consumer that had passed is in line again: what is kept represents the tables then.
-use Rattle.std.proofs.Common.{◌≡◌, inl, inr, ℕ, ◌+◌, List, Bool, true, false, Option, Some, refl, ap, sym, ◌∙◌, subst}
-use Rattle.std.specs.Prelude.{nat_eq, bytes_eq, option_map, ◌==◌, if◌then◌else◌}
-use Rattle.std.specs.HashMap.{get}
+use Rattle.std.{proofs.Common.{◌≡◌, inl, inr, ℕ, ◌+◌, List, Bool, true, false, Option, Some, refl, ap, sym, ◌∙◌, subst}, specs.{Prelude.{nat_eq, bytes_eq, option_map, ◌==◌, if◌then◌else◌}, HashMap.{get}}}
 use Rattle.hc_text.proofs.Basics.{eqb-other, eqb-same, false_true, same_or, and_off as then_false}
 use Rattle.hc_effects.proofs.Vocabulary.{Limits, Request, Place, is_live_place, with_consumer, Lawful, is_in_line, reads, Tables}
 use Rattle.hc_store.specs.declared.backend.Backend.{Ghosts}
 use Rattle.hc_entry.specs.Keys as keys
-use Rattle.hc_entry.specs.Keys.{kept_of}
-use Rattle.hc_entry.specs.Kept.{on_line}
-use Rattle.hc_entry.specs.Lines.{come_back}
+use Rattle.hc_entry.specs.{Keys.{kept_of}, Kept.{on_line}, Lines.{come_back}}
 use Rattle.hc_event.specs.declared.place.Place.TheVariants as place
 use Rattle.hc_model.specs.Rows as rows
 use Rattle.hc_effects.proofs.PollEffects.{same_consumer}
-use Rattle.hc_state.specs.declared.consumer.Consumer.{Consumer}
-use Rattle.hc_state.specs.declared.rows.Rows.{Rows}
-use Rattle.hc_state.specs.Changes.{Numbered, ChangesAt, BecomesAt, lined_up}
-use Rattle.hc_state.specs.Kept.{IsKept, KeepsConsumer, answer_for}
-use Rattle.hc_state.specs.Lines.{KeepsKey}
-use Rattle.hc_state.specs.Plans.{is_idle_at, in_line}
-use Rattle.hc_state.specs.Stands.{RowsStand}
-use Rattle.hc_state.proofs.FallbackSteps.{falls_back}
-use Rattle.hc_state.proofs.ConsumerSteps.{keys_with}
-use Rattle.hc_state.proofs.KeySteps.{says_elsewhere, lined, comes_back}
+use Rattle.hc_state.specs.{declared.{consumer.Consumer.{Consumer}, rows.Rows.{Rows}}, Changes.{Numbered, ChangesAt, BecomesAt, lined_up}, Kept.{IsKept, KeepsConsumer, answer_for}, Lines.{KeepsKey}, Plans.{is_idle_at, in_line}, Stands.{RowsStand}}
+use Rattle.hc_state.proofs.{FallbackSteps.{falls_back}, ConsumerSteps.{keys_with}, KeySteps.{says_elsewhere, lined, comes_back}}
 
 -- a consumer that is there is another
 pub becomes_by : (r u : Numbered Consumer) (c : ℕ) (k : Consumer) (f : Consumer → Consumer) → get nat_eq r c ≡ Some k → ChangesAt r u c f → BecomesAt r u c (Some (f k))

@@ -1,28 +1,15 @@
 -- A consumer that reads stays where it stands, and is given more, or was shown its head: what is kept represents the tables then.
-use Rattle.std.proofs.Common.{◌≡◌, ◌≢◌, inl, inr, ℕ, ◌≤◌, List, arith, Bool, true, Option, Some, None, refl, ap, sym, ◌∙◌}
-use Rattle.std.specs.HashMap.{hash_map_len}
+use Rattle.std.{proofs.Common.{◌≡◌, ◌≢◌, inl, inr, ℕ, ◌≤◌, List, arith, Bool, true, Option, Some, None, refl, ap, sym, ◌∙◌}, specs.HashMap.{hash_map_len}}
 use Rattle.hc_text.proofs.Basics.{eqb-other, eqb-same, same_or}
 use Rattle.hc_store.specs.declared.backend.Backend.{Ghosts}
 use Rattle.hc_effects.proofs.Vocabulary.{Event, Act, Limits, is_live, is_live_place, with_consumer, family, is_in_line, is_bound, Tables, Exchange, Representation}
-use Rattle.hc_stored.specs.Entries.{shelf_of}
+use Rattle.hc_stored.specs.{Entries.{shelf_of}, Shelf.{Shelf}}
 use Rattle.hc_stored.specs.Shelf as shelf
-use Rattle.hc_stored.specs.Shelf.{Shelf}
 use Rattle.hc_entry.specs.Keys.{kept_of}
-use Rattle.hc_exch.specs.Exchanges.{table_of, next_of}
-use Rattle.hc_exch.specs.Known.{Known}
+use Rattle.hc_exch.specs.{Exchanges.{table_of, next_of}, Known.{Known}}
 use Rattle.hc_model.specs.Rows as rows
-use Rattle.hc_state.specs.declared.consumer.Consumer.{Consumer}
-use Rattle.hc_state.specs.declared.rows.Rows.{Rows}
-use Rattle.hc_state.specs.Changes.{BecomesAt}
-use Rattle.hc_state.specs.Kept.{IsKept, KeepsExchange, held_for, held_of, held_alone, unread, unstored_bytes}
-use Rattle.hc_state.specs.Lines.{has_turn, is_passed, is_away}
-use Rattle.hc_state.specs.Stands.{RowsStand, Stands, Answered}
-use Rattle.hc_state.specs.Stored.{KeepsEntries, is_first}
-use Rattle.hc_state.proofs.FallbackSteps.{length_same, live_same}
-use Rattle.hc_state.proofs.Fallbacks.{unstored_moved}
-use Rattle.hc_state.proofs.ConsumerSteps.{SaysOfIt, all_kept_with, key_stays, key_with}
-use Rattle.hc_state.proofs.OneOfEach.{entries_same}
-use Rattle.hc_state.proofs.Ties.{exchange_same}
+use Rattle.hc_state.specs.{declared.{consumer.Consumer.{Consumer}, rows.Rows.{Rows}}, Changes.{BecomesAt}, Kept.{IsKept, KeepsExchange, held_for, held_of, held_alone, unread, unstored_bytes}, Lines.{has_turn, is_passed, is_away}, Stands.{RowsStand, Stands, Answered}, Stored.{KeepsEntries, is_first}}
+use Rattle.hc_state.proofs.{FallbackSteps.{length_same, live_same}, Fallbacks.{unstored_moved}, ConsumerSteps.{SaysOfIt, all_kept_with, key_stays, key_with}, OneOfEach.{entries_same}, Ties.{exchange_same}}
 
 -- what stays of the representations, over a store that was read
 pub entries_read : (t : Tables) (a b : Shelf) → shelf.Stays a b → KeepsEntries t a → KeepsEntries t b

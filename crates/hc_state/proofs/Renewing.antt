@@ -1,19 +1,12 @@
 -- A renewed head is one that can be stored.
-use Rattle.std.proofs.Common.{◌≡◌, ℕ, ◌<◌, ◌≤◌, ◌^◌, length, true, Option, Some, refl, ap, ap₂, sym, ◌∙◌, subst, arith}
-use Rattle.std.specs.Prelude.{codes, nat_eq, nat_le, option_map, if◌then◌else◌}
-use Rattle.std.proofs.lemmas.Bool.Decides.{nat_tests}
+use Rattle.std.{proofs.{Common.{◌≡◌, ℕ, ◌<◌, ◌≤◌, ◌^◌, length, true, Option, Some, refl, ap, ap₂, sym, ◌∙◌, subst, arith}, lemmas.Bool.Decides.{nat_tests}}, specs.Prelude.{codes, nat_eq, nat_le, option_map, if◌then◌else◌}}
 use Rattle.hc_text.proofs.Basics.{and_left, and_right, some_inj as some_is}
 use Rattle.hc_fields.specs.FieldList.{IsFieldList, IsWithinLimits, size_of}
 use Rattle.hc_record.specs.Head.{Head, IsHead, one_strong_opaque}
-use Rattle.hc_validate.specs.Heads.{FieldPairs}
-use Rattle.hc_validate.specs.Updates.{is_within_limits, updated_fields}
+use Rattle.hc_validate.specs.{Heads.{FieldPairs}, Updates.{is_within_limits, updated_fields}}
 use Rattle.hc_effects.proofs.FieldsKeep.{values_kept, within_limits_kept}
-use Rattle.hc_stored.specs.Kept.{Kept, with_head}
-use Rattle.hc_stored.specs.Shelf.{Shelf, Becomes, Stays, head_at, same_order}
-use Rattle.hc_exch.specs.declared.row.Open.{Open}
-use Rattle.hc_exch.specs.declared.row.Opening.{Opening}
-use Rattle.hc_exch.specs.Known.{begins_with}
-use Rattle.hc_exch.specs.Openings.{opened_with}
+use Rattle.hc_stored.specs.{Kept.{Kept, with_head}, Shelf.{Shelf, Becomes, Stays, head_at, same_order}}
+use Rattle.hc_exch.specs.{declared.row.{Open.{Open}, Opening.{Opening}}, Known.{begins_with}, Openings.{opened_with}}
 use Rattle.hc_state.specs.Renewals.{renewed_head, Renews}
 
 within_limits_test : (fields : FieldPairs) → IsWithinLimits fields → is_within_limits fields ≡ true

@@ -1,34 +1,18 @@
 -- What is idle on the shelf, and what each representation weighs there, is what the tables say.
-use Rattle.std.proofs.Common.{◌≡◌, ◌≢◌, inl, inr, ℕ, suc, ◌+◌, ◌≤◌, List, [], ◌∷◌, ◌++◌, length, take, drop, Bool, true, false, eqb, Option, Some, None, refl, ap, sym, ◌∙◌, subst, arith, rules, zero, add-one}
-use Rattle.std.proofs.lemmas.List.{append_assoc, append-nil}
-use Rattle.std.proofs.lemmas.Bool.Decides.{nat_tests}
-use Rattle.std.specs.Prelude.{is_some, nat_eq, filter, map, reverse, not, ◌&&◌, ◌||◌, ◌==◌}
-use Rattle.std.specs.List.{sum_by, IsDistinct}
+use Rattle.std.{proofs.{Common.{◌≡◌, ◌≢◌, inl, inr, ℕ, suc, ◌+◌, ◌≤◌, List, [], ◌∷◌, ◌++◌, length, take, drop, Bool, true, false, eqb, Option, Some, None, refl, ap, sym, ◌∙◌, subst, arith, rules, zero, add-one}, lemmas.{List.{append_assoc, append-nil}, Bool.Decides.{nat_tests}}}, specs.{Prelude.{is_some, nat_eq, filter, map, reverse, not, ◌&&◌, ◌||◌, ◌==◌}, List.{sum_by, IsDistinct}}}
 use Rattle.hc_text.proofs.Basics.{eqb-other, eqb-same, false_true, same_or, some_inj as some_is}
 use Rattle.hc_effects.proofs.Vocabulary.{Limits, Act, Room, Write, weight_of, room_of, idle_now, current, is_current, is_number, let_go, let_all_go, MayMakeRoom, MayLetGo, weight_now, weights_now, room_now, giving_way, AreOnce, bound, Tables, Representation, Among}
 use Rattle.hc_store.specs.declared.backend.Backend.{Ghosts}
-use Rattle.hc_stored.specs.Entries.{shelf_of}
-use Rattle.hc_stored.specs.Kept.{Kept, itself, is_nobody}
-use Rattle.hc_stored.specs.Shelf.{Shelf, idle, is_unused, weigh_kept, weight_at, first_of}
-use Rattle.hc_stored.proofs.OrderLemmas.{distinct-first}
-use Rattle.hc_stored.proofs.WeightLemmas.{weight-kept}
+use Rattle.hc_stored.specs.{Entries.{shelf_of}, Kept.{Kept, itself, is_nobody}, Shelf.{Shelf, idle, is_unused, weigh_kept, weight_at, first_of}}
+use Rattle.hc_stored.proofs.{OrderLemmas.{distinct-first}, WeightLemmas.{weight-kept}}
 use Rattle.hc_sorted.specs.Sorted.{has}
 use Rattle.hc_event.specs.declared.act.Act.TheVariants as act
 use Rattle.hc_rules.specs.declared.room.Room.TheVariants as room
 use Rattle.hc_sparse.proofs.SizeLemmas.{size-same}
-use Rattle.hc_model.specs.Contents.{is_idle}
-use Rattle.hc_model.specs.LettingGo.{weight_in, first_idle}
-use Rattle.hc_effects.proofs.Basics.{same_functions, number_is}
-use Rattle.hc_effects.proofs.IdleNow.{filter_both}
-use Rattle.hc_effects.proofs.LettingGo.{current_may, keeps_may_all, all_more, idle_after}
-use Rattle.hc_effects.proofs.PollKeeps.{current_stays}
-use Rattle.hc_effects.proofs.Tests.{none_some}
-use Rattle.hc_state.specs.declared.rows.Rows.{Rows}
-use Rattle.hc_state.specs.Room.{LeavesActs, room_for_write, GivesWay, Appends}
-use Rattle.hc_state.specs.Stands.{RowsStand}
-use Rattle.hc_state.specs.Stored.{KeepsEntry, is_usable_row}
-use Rattle.hc_state.proofs.BoundLists.{nobody_bound}
-use Rattle.hc_state.proofs.LiveCounts.{filter-reverse}
+use Rattle.hc_model.specs.{Contents.{is_idle}, LettingGo.{weight_in, first_idle}}
+use Rattle.hc_effects.proofs.{Basics.{same_functions, number_is}, IdleNow.{filter_both}, LettingGo.{current_may, keeps_may_all, all_more, idle_after}, PollKeeps.{current_stays}, Tests.{none_some}}
+use Rattle.hc_state.specs.{declared.rows.Rows.{Rows}, Room.{LeavesActs, room_for_write, GivesWay, Appends}, Stands.{RowsStand}, Stored.{KeepsEntry, is_usable_row}}
+use Rattle.hc_state.proofs.{BoundLists.{nobody_bound}, LiveCounts.{filter-reverse}}
 
 -- LISTS OF NUMBERS
 

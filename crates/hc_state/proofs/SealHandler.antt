@@ -1,6 +1,5 @@
 -- An exchange that stops is closed, and what it brought is sealed, or lost where its seal fails.
-use Rattle.std.proofs.Common.{◌≡◌, ◌≢◌, inl, inr, ℕ, ◌<◌, List, [], ◌∷◌, ◌++◌, Bool, true, false, Option, Some, None, refl, ap, sym, ◌∙◌, subst}
-use Rattle.std.specs.Prelude.{is_some, nat_eq, option_map, ◌&&◌, if◌then◌else◌}
+use Rattle.std.{proofs.Common.{◌≡◌, ◌≢◌, inl, inr, ℕ, ◌<◌, List, [], ◌∷◌, ◌++◌, Bool, true, false, Option, Some, None, refl, ap, sym, ◌∙◌, subst}, specs.Prelude.{is_some, nat_eq, option_map, ◌&&◌, if◌then◌else◌}}
 use Rattle.hc_store.specs.declared.backend.Backend.{Ghosts}
 use Rattle.hc_effects.proofs.Vocabulary.{Act, Limits, with_representation, tables_after_close, over, let_go, as_gone, lost_to, family, Grows, Lawful, kind_of, is_growing, is_complete, is_front, covers_all, brings_to, Tables, Exchange, Representation, bound, exclusive, Response}
 use Rattle.hc_event.specs.declared.act.Act.TheVariants as act
@@ -8,32 +7,19 @@ use Rattle.hc_event.specs.declared.act.LostKind.TheVariants as kind
 use Rattle.hc_record.specs.declared.kind.Kind.{Kind}
 use Rattle.hc_record.specs.declared.kind.Kind.TheVariants as kinds
 use Rattle.hc_sparse.specs.Cells.{Covers}
-use Rattle.hc_stored.specs.Entries.{shelf_of}
+use Rattle.hc_stored.specs.{Entries.{shelf_of}, Kept.{Kept}, Shelf.{Shelf, same_order}, Views.{view_of}, declared.view.EntryView.{EntryView}}
 use Rattle.hc_stored.specs.Kept as entry
-use Rattle.hc_stored.specs.Kept.{Kept}
 use Rattle.hc_stored.specs.Shelf as shelf
-use Rattle.hc_stored.specs.Shelf.{Shelf, same_order}
-use Rattle.hc_stored.specs.Views.{view_of}
 use Rattle.hc_exch.specs.Exchanges as exch
 use Rattle.hc_exch.specs.Known as known
 use Rattle.hc_model.specs.Rows as rows
 use Rattle.hc_effects.proofs.HoleLemmas as holes
 use Rattle.hc_effects.proofs.Tests.{none_some}
-use Rattle.hc_state.proofs.Ties.{overs_closed, writer_then}
-use Rattle.hc_state.specs.declared.rows.Rows.{Rows}
-use Rattle.hc_state.specs.Facts.{Facts}
-use Rattle.hc_state.specs.Stopped.{with_consumers, HoldsNothing, MayStop, HasStopped, unsealed}
-use Rattle.hc_state.specs.Stands.{RowsStand, KeepsRest}
+use Rattle.hc_state.proofs.{Ties.{overs_closed, writer_then}, CloseHandler.{quiet, unawaited_go}, Closing.{entry_closed, stands_closed, stands_unstored}, OneOfEach.{first_row}, Stopping.{Stays}}
+use Rattle.hc_state.specs.{declared.rows.Rows.{Rows}, Facts.{Facts}, Stopped.{with_consumers, HoldsNothing, MayStop, HasStopped, unsealed}, Stands.{RowsStand, KeepsRest}, Stops.{brought_by, goes_with, stop_by, stop_at, stop_of, IsViewOf, kind_left}, Stored.{IsEntry, TellsLength, told, untold, KeepsEntry, KeepsEntries}}
 use Rattle.hc_state.specs.declared.stop.Stop.TheVariants as stop
-use Rattle.hc_state.specs.Stops.{brought_by, goes_with, stop_by, stop_at, stop_of, IsViewOf, kind_left}
-use Rattle.hc_stored.specs.declared.view.EntryView.{EntryView}
 use Rattle.hc_exch.specs.declared.row.Open.{Open}
 use Rattle.hc_text.proofs.Basics.{any_none, eq_tells, eqb-other, eqb-same, false_true, same_or, some_inj as some_is, and_off as then_false}
-use Rattle.hc_state.specs.Stored.{IsEntry, TellsLength, told, untold, KeepsEntry, KeepsEntries}
-use Rattle.hc_state.proofs.CloseHandler.{quiet, unawaited_go}
-use Rattle.hc_state.proofs.Closing.{entry_closed, stands_closed, stands_unstored}
-use Rattle.hc_state.proofs.OneOfEach.{first_row}
-use Rattle.hc_state.proofs.Stopping.{Stays}
 
 -- what is called whole is
 whole_covers : (v : Representation) (n : ℕ) → kind_left v ≡ kinds.Whole → v.head.total ≡ Some n → Covers v.stored 0 n

@@ -1,7 +1,5 @@
 -- What becomes of what an exchange brought, by what is kept of it, where that stops.
-use Rattle.std.proofs.Common.{◌≡◌, ◌≢◌, ℕ, ◌<◌, ◌^◌, Bool, true, false, Option, Some, None, refl, ap, sym, ◌∙◌, subst, arith}
-use Rattle.std.proofs.lemmas.Bool.Decides.{nat_tests}
-use Rattle.std.specs.Prelude.{is_some, is_none, nat_eq, not, ◌&&◌, if◌then◌else◌}
+use Rattle.std.{proofs.{Common.{◌≡◌, ◌≢◌, ℕ, ◌<◌, ◌^◌, Bool, true, false, Option, Some, None, refl, ap, sym, ◌∙◌, subst, arith}, lemmas.Bool.Decides.{nat_tests}}, specs.Prelude.{is_some, is_none, nat_eq, not, ◌&&◌, if◌then◌else◌}}
 use Rattle.hc_text.proofs.Basics.{eqb-other, eqb-same, false_true, same_some as same_row, and_off as then_false}
 use Rattle.hc_effects.proofs.Vocabulary.{Limits, Response, Route, route_of, is_unkeepable, going_with, family, is_keepable, brings_to, Tables, Exchange, Representation}
 use Rattle.hc_effects.proofs.Tests.{none_some}
@@ -10,23 +8,12 @@ use Rattle.hc_record.specs.Head.{Head}
 use Rattle.hc_sparse.specs.Cells.{EndsBy}
 use Rattle.hc_sparse.proofs.SizeLemmas.{size-same}
 use Rattle.hc_rules.specs.declared.need.Route.TheVariants as route
-use Rattle.hc_stored.specs.Entries.{shelf_of}
-use Rattle.hc_stored.specs.Kept.{Kept}
-use Rattle.hc_stored.specs.Shelf.{Shelf}
-use Rattle.hc_stored.specs.Views.{view_of}
-use Rattle.hc_exch.specs.Exchanges.{table_of}
+use Rattle.hc_stored.specs.{Entries.{shelf_of}, Kept.{Kept}, Shelf.{Shelf}, Views.{view_of}}
+use Rattle.hc_exch.specs.{Exchanges.{table_of}, declared.row.Open.{Open}}
 use Rattle.hc_exch.specs.declared.role.Role.TheVariants as role
-use Rattle.hc_exch.specs.declared.row.Open.{Open}
 use Rattle.hc_model.specs.Rows as rows
-use Rattle.hc_state.specs.declared.rows.Rows.{Rows}
-use Rattle.hc_state.specs.declared.stop.Stop.{Stop}
+use Rattle.hc_state.specs.{declared.{rows.Rows.{Rows}, stop.Stop.{Stop}}, Facts.{Facts}, Kept.{IsRunning, KeepsRunning, role_of, role_awaited}, Stands.{RowsStand}, Stopped.{with_consumers}, Stops.{body_of, brought_by, may_complete, goes_with, stop_by, stop_at, stop_of, IsViewOf}, Stored.{IsEntry, KeepsEntry, TellsLength, told, untold}}
 use Rattle.hc_state.specs.declared.stop.Stop.TheVariants as stop
-use Rattle.hc_state.specs.Facts.{Facts}
-use Rattle.hc_state.specs.Kept.{IsRunning, KeepsRunning, role_of, role_awaited}
-use Rattle.hc_state.specs.Stands.{RowsStand}
-use Rattle.hc_state.specs.Stopped.{with_consumers}
-use Rattle.hc_state.specs.Stops.{body_of, brought_by, may_complete, goes_with, stop_by, stop_at, stop_of, IsViewOf}
-use Rattle.hc_state.specs.Stored.{IsEntry, KeepsEntry, TellsLength, told, untold}
 
 -- nothing is stored by it that isn't gone
 pub record IsApartNow (t : Tables) (x : ℕ) : Type 0 where

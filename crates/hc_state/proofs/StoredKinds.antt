@@ -1,7 +1,5 @@
 -- How much is stored of a representation, by what is told of what is kept.
-use Rattle.std.proofs.Common.{◌≡◌, ℕ, ◌<◌, Bool, true, false, Some, None, refl, ap, sym, ◌∙◌, subst, arith}
-use Rattle.std.proofs.lemmas.Bool.Decides.{nat_tests}
-use Rattle.std.specs.Prelude.{is_some, nat_lt, ◌&&◌, ◌↔◌, IsTrue}
+use Rattle.std.{proofs.{Common.{◌≡◌, ℕ, ◌<◌, Bool, true, false, Some, None, refl, ap, sym, ◌∙◌, subst, arith}, lemmas.Bool.Decides.{nat_tests}}, specs.Prelude.{is_some, nat_lt, ◌&&◌, ◌↔◌, IsTrue}}
 use Rattle.hc_text.proofs.Basics.{same_test}
 use Rattle.hc_sparse.specs.Cells.{Cells, Covers}
 use Rattle.hc_stored.specs.declared.view.EntryView.{EntryView}

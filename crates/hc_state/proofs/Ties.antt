@@ -1,20 +1,14 @@
 -- What is kept represents other tables too, item by item: what neither changes nor looks at what changes stays tied.
-use Rattle.std.proofs.Common.{◌≡◌, ◌≢◌, inl, inr, ℕ, List, Bool, true, false, Option, Some, None, refl, ap, sym, ◌∙◌, subst}
-use Rattle.std.specs.Prelude.{is_some, is_none, not, option_map, if◌then◌else◌}
+use Rattle.std.{proofs.Common.{◌≡◌, ◌≢◌, inl, inr, ℕ, List, Bool, true, false, Option, Some, None, refl, ap, sym, ◌∙◌, subst}, specs.Prelude.{is_some, is_none, not, option_map, if◌then◌else◌}}
 use Rattle.hc_text.proofs.Basics.{false_true, same_or}
 use Rattle.hc_entry.specs.Kept as keyed
 use Rattle.hc_effects.proofs.Vocabulary.{route_of, Place, BoundBy, current, total_in, is_live, over, family, kind_of, is_in_line, bound, is_bound, hi_of, lo_of, Tables, Exchange, Representation}
-use Rattle.hc_exch.specs.Known.{Known}
-use Rattle.hc_exch.specs.declared.role.Role.{Role}
+use Rattle.hc_exch.specs.{Known.{Known}, declared.{role.Role.{Role}, row.Open.{Open}}}
 use Rattle.hc_exch.specs.declared.role.Role.TheVariants as role
-use Rattle.hc_exch.specs.declared.row.Open.{Open}
 use Rattle.hc_stored.specs.Kept.{Kept}
 use Rattle.hc_event.specs.declared.place.Place.TheVariants as place
 use Rattle.hc_model.specs.Rows as rows
-use Rattle.hc_state.specs.declared.consumer.Consumer.{Consumer}
-use Rattle.hc_state.specs.Kept.{IsKept, IsRunning, KeepsConsumer, KeepsExchange, KeepsRunning, answer_for, held_for, role_awaited}
-use Rattle.hc_state.specs.Lines.{KeepsKey, has_turn, is_passed, is_away}
-use Rattle.hc_state.specs.Stored.{KeepsEntry, TellsWriter, as_written, forgotten, is_first, is_over}
+use Rattle.hc_state.specs.{declared.consumer.Consumer.{Consumer}, Kept.{IsKept, IsRunning, KeepsConsumer, KeepsExchange, KeepsRunning, answer_for, held_for, role_awaited}, Lines.{KeepsKey, has_turn, is_passed, is_away}, Stored.{KeepsEntry, TellsWriter, as_written, forgotten, is_first, is_over}}
 
 -- CONSUMERS
 

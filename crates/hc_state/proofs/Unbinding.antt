@@ -1,26 +1,19 @@
 -- One consumer isn't bound any more: what is kept of representations represents the tables in which its row is another.
-use Rattle.std.proofs.Common.{◌≡◌, ◌≢◌, inl, inr, ℕ, List, [], ◌∷◌, Bool, true, false, cond, eqb, Option, Some, None, refl, ap, sym, ◌∙◌, subst}
-use Rattle.std.specs.Prelude.{is_some, not, ◌&&◌, if◌then◌else◌}
-use Rattle.std.specs.Option.{option_and_then}
+use Rattle.std.{proofs.Common.{◌≡◌, ◌≢◌, inl, inr, ℕ, List, [], ◌∷◌, Bool, true, false, cond, eqb, Option, Some, None, refl, ap, sym, ◌∙◌, subst}, specs.{Prelude.{is_some, not, ◌&&◌, if◌then◌else◌}, Option.{option_and_then}}}
 use Rattle.hc_text.proofs.Basics.{eqb-other, eqb-same, false_true, same_or}
 use Rattle.hc_sorted.specs.Sorted.{has, without}
 use Rattle.hc_sorted.proofs.SortedLemmas.{has-without}
 use Rattle.hc_stored.specs.Kept as entry
-use Rattle.hc_stored.specs.Kept.{Kept, itself, is_nobody, unless_it, without_user}
+use Rattle.hc_stored.specs.{Kept.{Kept, itself, is_nobody, unless_it, without_user}, Shelf.{Shelf, same_order}, Views.{bound_in}}
 use Rattle.hc_stored.specs.Shelf as shelf
-use Rattle.hc_stored.specs.Shelf.{Shelf, same_order}
-use Rattle.hc_stored.specs.Views.{bound_in}
 use Rattle.hc_entry.specs.Lines.{is_among}
 use Rattle.hc_effects.proofs.Vocabulary.{Place, BoundBy, is_number, with_consumer, kind_of, bound, is_bound, is_bound_place, Tables, Representation, Among, came_alone}
 use Rattle.hc_event.specs.declared.place.Place.TheVariants as place
 use Rattle.hc_model.specs.Rows as rows
-use Rattle.hc_effects.proofs.ExclusiveWriters.{filter_some}
-use Rattle.hc_effects.proofs.Tests.{and_false}
-use Rattle.hc_state.specs.Leaving.{IsUserAt, UnbindsAt}
-use Rattle.hc_state.specs.Stored.{IsEntry, TellsLength, told, untold, KeepsEntry, KeepsEntries, is_first}
+use Rattle.hc_effects.proofs.{ExclusiveWriters.{filter_some}, Tests.{and_false}}
+use Rattle.hc_state.specs.{Leaving.{IsUserAt, UnbindsAt}, Stored.{IsEntry, TellsLength, told, untold, KeepsEntry, KeepsEntries, is_first}}
 use Rattle.hc_state.proofs.LiveCounts as counts
-use Rattle.hc_state.proofs.OneOfEach.{bound_same}
-use Rattle.hc_state.proofs.Ties.{entry_same}
+use Rattle.hc_state.proofs.{OneOfEach.{bound_same}, Ties.{entry_same}}
 
 -- it isn't among them any more
 pub without_is : (c : ℕ) (cs : List ℕ) (d : ℕ) → is_among d (without itself c cs) ≡ cond (eqb c d) false (is_among d cs)

@@ -1,18 +1,12 @@
 -- What slots hold, and what they weigh.
-use Rattle.std.proofs.Common.{◌≡◌, ◌≢◌, inl, inr, ℕ, zero, suc, ◌+◌, ◌<◌, ◌≤◌, ◌^◌, List, length, eqb, true, false, Option, Some, None, refl, sym, ap, ◌∙◌, subst, arith}
+use Rattle.std.{proofs.{Common.{◌≡◌, ◌≢◌, inl, inr, ℕ, zero, suc, ◌+◌, ◌<◌, ◌≤◌, ◌^◌, List, length, eqb, true, false, Option, Some, None, refl, sym, ap, ◌∙◌, subst, arith}, lemmas.Bool.Decides.{nat_tests, eqb_tells}}, specs.Prelude.{is_some, option_map, Result, Ok, Err, OnOk, OnErr}}
 use mathlib.Core.Path.{fun_ext}
-use Rattle.std.specs.Prelude.{is_some, option_map, Result, Ok, Err, OnOk, OnErr}
-use Rattle.std.proofs.lemmas.Bool.Decides.{nat_tests, eqb_tells}
 use Rattle.slab.specs.Slab.{Slab, get, with_value, Updates}
 use Rattle.slab.proofs.SlabLemmas.{Updates-with_value}
-use Rattle.hc_sparse.specs.Cells.{nothing, AreAbsent}
-use Rattle.hc_sparse.specs.Sparse.{sparse_cells}
+use Rattle.hc_sparse.specs.{Cells.{nothing, AreAbsent}, Sparse.{sparse_cells}}
 use Rattle.hc_sparse.proofs.SizeLemmas.{size-written, size-none}
-use Rattle.hc_record.specs.declared.kind.Kind.{Kind}
-use Rattle.hc_store.specs.declared.entry.Entry.{Entry}
-use Rattle.hc_record.specs.Head.{Head}
-use Rattle.hc_store.specs.Slots.{Held, Slots, with_slot, slots_after, puts, weigh, weight, weight_below, cells_held, cells_in, bare}
-use Rattle.hc_store.specs.Entries.{entry_contents, held_at, slots_of}
+use Rattle.hc_record.specs.{declared.kind.Kind.{Kind}, Head.{Head}}
+use Rattle.hc_store.specs.{declared.entry.Entry.{Entry}, Slots.{Held, Slots, with_slot, slots_after, puts, weigh, weight, weight_below, cells_held, cells_in, bare}, Entries.{entry_contents, held_at, slots_of}}
 
 -- A sum in which one slot changes.
 module _ (n : ℕ) (entry_contents : Option Held) (slots : Slots) where

@@ -1,15 +1,9 @@
 -- The order has the rows that aren't gone, after a change of one row too.
-use Rattle.std.proofs.Common.{◌≡◌, ℕ, List, ◌∷◌, Bool, true, false, not, eqb, Option, Some, None, refl, sym, ap, ◌∙◌, inl, inr, arith}
-use Rattle.std.specs.Prelude.{is_some, is_none, option_map, ◌&&◌}
-use Rattle.std.proofs.lemmas.Bool.{cases_Bool, and_parts, eqb-true}
-use Rattle.std.proofs.lemmas.Bool.Decides.{nat_tests}
+use Rattle.std.{proofs.{Common.{◌≡◌, ℕ, List, ◌∷◌, Bool, true, false, not, eqb, Option, Some, None, refl, sym, ap, ◌∙◌, inl, inr, arith}, lemmas.Bool.{cases_Bool, and_parts, eqb-true, Decides.{nat_tests}}}, specs.Prelude.{is_some, is_none, option_map, ◌&&◌}}
 use Rattle.hc_sorted.specs.Sorted.{is_sorted, has, without}
 use Rattle.hc_sorted.proofs.SortedLemmas.{has-without}
 use Rattle.hc_store.specs.Slots.{Held, Slots}
-use Rattle.hc_stored.specs.Kept.{Kept, itself, is_nobody}
-use Rattle.hc_stored.specs.Rows.{Row, Rows, with_row, Changes, kept_of, kept_by, slot_at, users_at, unused_by, going, is_current, is_over}
-use Rattle.hc_stored.specs.Shelved.{IsShelved, AreShelved}
-use Rattle.hc_stored.specs.Views.{admits, admits_first, has_user}
+use Rattle.hc_stored.specs.{Kept.{Kept, itself, is_nobody}, Rows.{Row, Rows, with_row, Changes, kept_of, kept_by, slot_at, users_at, unused_by, going, is_current, is_over}, Shelved.{IsShelved, AreShelved}, Views.{admits, admits_first, has_user}}
 
 -- what is kept is a row, of some slot
 pub slot-kept : (slots : Slots) (o : Option Row) → is_some (kept_by slots o) ≡ true → (n : ℕ) × (slot_at o ≡ Some n)

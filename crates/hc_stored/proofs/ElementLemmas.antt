@@ -1,10 +1,5 @@
 -- The elements of all values of a name, value by value.
-use Rattle.std.proofs.Common.{◌≡◌, ℕ, ◌+◌, Bool, List, [], drop, Some}
-use Rattle.std.specs.Prelude.{slice_get, ◌||◌}
-use Rattle.std.specs.List.{flat_map, list_any}
-use Rattle.std.proofs.lemmas.List.{drop_more}
-use Rattle.std.proofs.lemmas.List.Folds.{list_any-append}
-use Rattle.std.proofs.lemmas.Option.{slice_get_within, get_or_from_slice_get}
+use Rattle.std.{proofs.{Common.{◌≡◌, ℕ, ◌+◌, Bool, List, [], drop, Some}, lemmas.{List.{drop_more, Folds.{list_any-append}}, Option.{slice_get_within, get_or_from_slice_get}}}, specs.{Prelude.{slice_get, ◌||◌}, List.{flat_map, list_any}}}
 use Rattle.hc_text.specs.Elements.{elements}
 
 -- an element of one more value passes, or one of the further ones

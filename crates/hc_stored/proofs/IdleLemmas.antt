@@ -1,14 +1,8 @@
 -- The idle ones, one by one from the end of the order.
-use Rattle.std.proofs.Common.{◌≡◌, ℕ, suc, ◌+◌, ◌-◌, ◌<◌, List, [], ◌∷◌, ◌++◌, Bool, true, false, leb, Option, Some, None, refl, ap, ◌∙◌, arith}
-use Rattle.std.specs.Prelude.{option_map, filter, reverse, is_some}
-use Rattle.std.specs.Map.{keys_of}
-use Rattle.std.proofs.lemmas.Bool.Decides.{nat_tests}
-use Rattle.std.proofs.lemmas.List.{map-append, reverse-append}
+use Rattle.std.{proofs.{Common.{◌≡◌, ℕ, suc, ◌+◌, ◌-◌, ◌<◌, List, [], ◌∷◌, ◌++◌, Bool, true, false, leb, Option, Some, None, refl, ap, ◌∙◌, arith}, lemmas.{Bool.Decides.{nat_tests}, List.{map-append, reverse-append}}}, specs.{Prelude.{option_map, filter, reverse, is_some}, Map.{keys_of}}}
 use Rattle.hc_store.specs.Slots.{Held, Slots}
 use Rattle.hc_rules.specs.Rooms.{gives_way}
-use Rattle.hc_stored.specs.Rows.{Row, Rows, kept_by, kept_of, is_unused_row}
-use Rattle.hc_stored.specs.Shelf.{is_unused}
-use Rattle.hc_stored.specs.Shelved.{IsShelved, AreShelved}
+use Rattle.hc_stored.specs.{Rows.{Row, Rows, kept_by, kept_of, is_unused_row}, Shelf.{is_unused}, Shelved.{IsShelved, AreShelved}}
 
 unused-held : (row : Row) (o : Option Held) → is_some o ≡ true → is_unused_row (Some row) ≡ is_unused (option_map (kept_of row) o)
 unused-held row None live = absurd (let never : false ≡ true = live in cc)

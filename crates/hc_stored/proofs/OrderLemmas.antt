@@ -1,12 +1,5 @@
 -- Numbers that stand once each, as the keys of a cache, and what a step of the cache leaves of them.
-use Rattle.std.proofs.Common.{◌≡◌, ℕ, ◌-◌, ◌≤◌, List, [], ◌∷◌, length, true, false, cond, eqb, Some, None, refl, sym, ap, ◌∙◌, inl, inr, arith}
-use Rattle.std.specs.Prelude.{nat_eq}
-use Rattle.std.specs.List.{AllByRecursion, IsDistinct}
-use Rattle.std.specs.Map.{keys_of, lookup_entry, remove_entry}
-use Rattle.std.proofs.lemmas.Bool.{cases_Bool, eqb-true}
-use Rattle.std.proofs.lemmas.Bool.Decides.{nat_tests}
-use Rattle.std.proofs.lemmas.List.{take_all}
-use Rattle.std.proofs.lemmas.Map.Keys.{IsDistinct-head, IsDistinct-tail, IsDistinct-cons}
+use Rattle.std.{proofs.{Common.{◌≡◌, ℕ, ◌-◌, ◌≤◌, List, [], ◌∷◌, length, true, false, cond, eqb, Some, None, refl, sym, ap, ◌∙◌, inl, inr, arith}, lemmas.{Bool.{cases_Bool, eqb-true, Decides.{nat_tests}}, List.{take_all}, Map.Keys.{IsDistinct-head, IsDistinct-tail, IsDistinct-cons}}}, specs.{Prelude.{nat_eq}, List.{AllByRecursion, IsDistinct}, Map.{keys_of, lookup_entry, remove_entry}}}
 use Rattle.lru.specs.LruCache.{LruCache, promoted, put_entries}
 use Rattle.hc_sorted.specs.Sorted.{has, without}
 use Rattle.hc_stored.specs.Kept.{itself}

@@ -1,8 +1,5 @@
 -- Where the last byte ends once bytes are written.
-use Rattle.std.proofs.Common.{◌≡◌, ℕ, ◌+◌, ◌-◌, ◌<◌, ◌≤◌, ◌⊎◌, List, length, true, false, eqb, leb, refl, ◌∙◌, inl, inr, arith}
-use Rattle.std.specs.Prelude.{is_some, max, ◌||◌}
-use Rattle.std.proofs.lemmas.Bool.{cases_Bool}
-use Rattle.std.proofs.lemmas.Bool.Decides.{nat_tests}
+use Rattle.std.{proofs.{Common.{◌≡◌, ℕ, ◌+◌, ◌-◌, ◌<◌, ◌≤◌, ◌⊎◌, List, length, true, false, eqb, leb, refl, ◌∙◌, inl, inr, arith}, lemmas.Bool.{cases_Bool, Decides.{nat_tests}}}, specs.Prelude.{is_some, max, ◌||◌}}
 use Rattle.hc_sparse.specs.Cells.{Cells, inside, cells_with, nothing, EndsBy}
 use Rattle.hc_stored.specs.Shelved.{Reaches}
 

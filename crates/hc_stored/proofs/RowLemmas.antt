@@ -1,23 +1,12 @@
 -- A row agrees with what its slot holds after each change, and the order with the rows.
-use Rattle.std.proofs.Common.{◌≡◌, ℕ, ◌+◌, ◌<◌, ◌^◌, List, [], ◌∷◌, length, Bool, true, false, not, eqb, cond, Option, Some, None, refl, sym, ap, ◌∙◌, inl, inr, arith}
-use Rattle.std.specs.Prelude.{option_map, ◌&&◌, ◌||◌, nat_le}
-use Rattle.std.proofs.lemmas.Bool.{cases_Bool}
-use Rattle.std.proofs.lemmas.Bool.Decides.{nat_tests}
+use Rattle.std.{proofs.{Common.{◌≡◌, ℕ, ◌+◌, ◌<◌, ◌^◌, List, [], ◌∷◌, length, Bool, true, false, not, eqb, cond, Option, Some, None, refl, sym, ap, ◌∙◌, inl, inr, arith}, lemmas.Bool.{cases_Bool, Decides.{nat_tests}}}, specs.Prelude.{option_map, ◌&&◌, ◌||◌, nat_le}}
 use Rattle.hc_sorted.specs.Sorted.{has, with_item, without}
 use Rattle.hc_sorted.proofs.SortedLemmas.{is_sorted-with, is_sorted-filter, has-with, has-without}
-use Rattle.hc_record.specs.declared.kind.Kind.{Kind}
-use Rattle.hc_record.specs.Head.{Head, sealed_head}
-use Rattle.hc_fresh.specs.Ages.{corrected_initial_age}
-use Rattle.hc_fresh.specs.Facts.{head_facts}
-use Rattle.hc_fresh.specs.Lifetimes.{lifetime, lifetime_by}
+use Rattle.hc_record.specs.{declared.kind.Kind.{Kind}, Head.{Head, sealed_head}}
+use Rattle.hc_fresh.specs.{Ages.{corrected_initial_age}, Facts.{head_facts}, Lifetimes.{lifetime, lifetime_by}}
 use Rattle.hc_cachectl.specs.Directives.{of_response}
-use Rattle.hc_store.specs.Heads.{with_kind}
-use Rattle.hc_store.specs.Slots.{Held, bare, rewrites, puts, seals}
-use Rattle.hc_stored.specs.Begun.{begun_row}
-use Rattle.hc_stored.specs.Heads.{Summary, summary_of}
-use Rattle.hc_stored.specs.Kept.{itself, unless_it, is_nobody}
-use Rattle.hc_stored.specs.Rows.{Row, with_summary, with_last, reaching, sealed_as, used_by, used_first_by, unused_by, going, losing, written_in, founded_row}
-use Rattle.hc_stored.specs.Shelved.{is_among, IsShelved}
+use Rattle.hc_store.specs.{Heads.{with_kind}, Slots.{Held, bare, rewrites, puts, seals}}
+use Rattle.hc_stored.specs.{Begun.{begun_row}, Heads.{Summary, summary_of}, Kept.{itself, unless_it, is_nobody}, Rows.{Row, with_summary, with_last, reaching, sealed_as, used_by, used_first_by, unused_by, going, losing, written_in, founded_row}, Shelved.{is_among, IsShelved}}
 use Rattle.hc_stored.proofs.ReachLemmas.{reaches-nothing, reaches-written}
 
 summary-is : (b : Held) (summary : Summary) → option_map (λ (h : Held). summary_of h.head) (Some b) ≡ Some summary → summary_of b.head ≡ summary

@@ -1,19 +1,9 @@
 -- Rows, order and slots agree after a change of one row and its slot.
-use Rattle.std.proofs.Common.{◌≡◌, ℕ, ◌<◌, ◌^◌, List, true, false, eqb, cond, Option, Some, None, refl, sym, ap, ◌∙◌, subst, inl, inr, arith}
-use Rattle.std.specs.Prelude.{is_some, option_map}
+use Rattle.std.{proofs.{Common.{◌≡◌, ℕ, ◌<◌, ◌^◌, List, true, false, eqb, cond, Option, Some, None, refl, sym, ap, ◌∙◌, subst, inl, inr, arith}, Math.Logic.{∥∥₁_map}, lemmas.{Bool.{cases_Bool, eqb-true, Decides.{nat_tests}}, Grind.{merely}, Iterator.Adapters.{option_map_id}}}, specs.Prelude.{is_some, option_map}}
 use mathlib.Core.Path.{fun_ext}
-use Rattle.std.proofs.Math.Logic.{∥∥₁_map}
-use Rattle.std.proofs.lemmas.Bool.{cases_Bool, eqb-true}
-use Rattle.std.proofs.lemmas.Bool.Decides.{nat_tests}
-use Rattle.std.proofs.lemmas.Grind.{merely}
-use Rattle.std.proofs.lemmas.Iterator.Adapters.{option_map_id}
 use Rattle.hc_sorted.specs.Sorted.{has}
 use Rattle.hc_store.specs.Slots.{Held, Slots, with_slot, slots_after, is_live, cells_held}
-use Rattle.hc_stored.specs.Heads.{summary_of}
-use Rattle.hc_stored.specs.Kept.{Kept, itself}
-use Rattle.hc_stored.specs.Rows.{Row, Rows, with_row, Changes, kept_by, kept_of, slot_at, is_current}
-use Rattle.hc_stored.specs.Shelf.{cells_in}
-use Rattle.hc_stored.specs.Shelved.{IsShelved, Owner, AreShelved}
+use Rattle.hc_stored.specs.{Heads.{summary_of}, Kept.{Kept, itself}, Rows.{Row, Rows, with_row, Changes, kept_by, kept_of, slot_at, is_current}, Shelf.{cells_in}, Shelved.{IsShelved, Owner, AreShelved}}
 use Rattle.hc_stored.proofs.WeightLemmas.{slot-there}
 
 -- OF ONE ROW

@@ -1,20 +1,9 @@
 -- What all slots weigh is what those who own them weigh.
-use Rattle.std.proofs.Common.{◌≡◌, ℕ, ◌+◌, ◌<◌, ◌^◌, List, [], ◌∷◌, true, false, eqb, Option, Some, None, refl, sym, ap, ◌∙◌, inl, inr, arith}
-use Rattle.std.specs.Prelude.{is_some, option_map, nat_eq, if◌then◌else◌}
-use Rattle.std.specs.List.{AllByRecursion, IsDistinct, sum_by}
-use Rattle.std.proofs.Math.Logic.{∥∥₁_map}
-use Rattle.std.proofs.lemmas.Bool.{cases_Bool, eqb-true}
-use Rattle.std.proofs.lemmas.Bool.Decides.{nat_tests}
-use Rattle.std.proofs.lemmas.Grind.{not_there}
-use Rattle.std.proofs.lemmas.List.Sums.{sum_by-cons}
-use Rattle.std.proofs.lemmas.Map.Keys.{IsDistinct-head, IsDistinct-tail}
+use Rattle.std.{proofs.{Common.{◌≡◌, ℕ, ◌+◌, ◌<◌, ◌^◌, List, [], ◌∷◌, true, false, eqb, Option, Some, None, refl, sym, ap, ◌∙◌, inl, inr, arith}, Math.Logic.{∥∥₁_map}, lemmas.{Bool.{cases_Bool, eqb-true, Decides.{nat_tests}}, Grind.{not_there}, List.Sums.{sum_by-cons}, Map.Keys.{IsDistinct-head, IsDistinct-tail}}}, specs.{Prelude.{is_some, option_map, nat_eq, if◌then◌else◌}, List.{AllByRecursion, IsDistinct, sum_by}}}
 use Rattle.hc_sorted.specs.Sorted.{has}
 use Rattle.hc_store.specs.Slots.{Held, Slots, with_slot, is_live, weigh, weight}
 use Rattle.hc_store.proofs.Weights.{weight-none, weight-gone}
-use Rattle.hc_stored.specs.Kept.{itself}
-use Rattle.hc_stored.specs.Rows.{Row, Rows, kept_by, kept_of, slot_at}
-use Rattle.hc_stored.specs.Shelf.{weigh_kept}
-use Rattle.hc_stored.specs.Shelved.{Owner, AreShelved}
+use Rattle.hc_stored.specs.{Kept.{itself}, Rows.{Row, Rows, kept_by, kept_of, slot_at}, Shelf.{weigh_kept}, Shelved.{Owner, AreShelved}}
 
 -- WHO OWNS SLOTS
 

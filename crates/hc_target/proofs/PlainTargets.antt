@@ -1,30 +1,10 @@
 -- A plain target is a target.
-use Rattle.std.proofs.Common.{◌≡◌, ℕ, ◌≤◌, ◌==◌, ◌&&◌, ◌||◌, not, Bool, true, false, List, [], ◌∷◌, ◌++◌, length, Option, Some, None, refl, sym, ap, subst, ◌∙◌, inl, inr, arith, leb-true}
-use Rattle.std.specs.Prelude.{codes, All, IfSome, IsUtf8, IsAscii, Ok, nat_le, if◌then◌else◌}
-use Rattle.std.specs.List.{list_all}
-use Rattle.std.specs.Char.{is_ascii_digit, is_digit, to_ascii_lowercase}
-use Rattle.std.proofs.lemmas.Bool.{cases_Bool, and_parts, and_from, eqb-true, ne_eqb}
-use Rattle.std.proofs.lemmas.Bool.Decides.{nat_tests}
-use Rattle.std.proofs.lemmas.List.{append-nil}
-use Rattle.std.proofs.lemmas.List.Elements.{All-nil, All-cons}
-use Rattle.std.proofs.lemmas.Str.{IsUtf8-from_ascii}
-use Rattle.std.proofs.lemmas.Slice.Eq.{bytes_eq-Decides}
+use Rattle.std.{proofs.{Common.{◌≡◌, ℕ, ◌≤◌, ◌==◌, ◌&&◌, ◌||◌, not, Bool, true, false, List, [], ◌∷◌, ◌++◌, length, Option, Some, None, refl, sym, ap, subst, ◌∙◌, inl, inr, arith, leb-true}, lemmas.{Bool.{cases_Bool, and_parts, and_from, eqb-true, ne_eqb, Decides.{nat_tests}}, List.{append-nil, Elements.{All-nil, All-cons}}, Str.{IsUtf8-from_ascii}, Slice.Eq.{bytes_eq-Decides}}}, specs.{Prelude.{codes, All, IfSome, IsUtf8, IsAscii, Ok, nat_le, if◌then◌else◌}, List.{list_all}, Char.{is_ascii_digit, is_digit, to_ascii_lowercase}}}
 use Rattle.percent_encoding.specs.Percent.{IsKept}
-use Rattle.url.proofs.SetLemmas.{kept_from_passes}
-use Rattle.url.proofs.Theorems.{parse_url-serialize_special}
-use Rattle.url.specs.Parser.{parse_url}
-use Rattle.url.specs.declared.sets.TheConstants.{FORBIDDEN_DOMAIN, PATH, SPECIAL_QUERY, USERINFO}
-use Rattle.url.specs.declared.scheme.SchemeType.TheVariants.{SpecialNotFile}
-use Rattle.url.specs.Input.{rsplit_once, rsplit_step, lowercase, is_empty}
-use Rattle.url.specs.Ipv4.{ends_in_a_number, last_label, last_label_of, parse_number, is_number}
-use Rattle.url.specs.Host.{IsDomain}
-use Rattle.url.specs.Path.{IsSegment, IsSegmentList, join_segments, dot_count}
-use Rattle.url.specs.Scheme.{default_port, scheme_type, is_slash, scheme_len}
-use Rattle.url.specs.Parts.{IsValid, IsValidHead, serialize, kind_of}
-use Rattle.url.proofs.ValidLemmas.{IsAscii-serialize}
+use Rattle.url.proofs.{SetLemmas.{kept_from_passes}, Theorems.{parse_url-serialize_special}, ValidLemmas.{IsAscii-serialize}}
+use Rattle.url.specs.{Parser.{parse_url}, declared.{sets.TheConstants.{FORBIDDEN_DOMAIN, PATH, SPECIAL_QUERY, USERINFO}, scheme.SchemeType.TheVariants.{SpecialNotFile}}, Input.{rsplit_once, rsplit_step, lowercase, is_empty}, Ipv4.{ends_in_a_number, last_label, last_label_of, parse_number, is_number}, Host.{IsDomain}, Path.{IsSegment, IsSegmentList, join_segments, dot_count}, Scheme.{default_port, scheme_type, is_slash, scheme_len}, Parts.{IsValid, IsValidHead, serialize, kind_of}}
 use Rattle.hc_text.specs.Cuts.{cut, behind}
-use Rattle.hc_target.specs.Targets.{is_target, is_short_word, has_own_text, ReadsTarget}
-use Rattle.hc_target.specs.PlainTargets.{is_host_byte, is_path_byte, is_query_byte, begins_dots, is_plain_path, is_plain_path_and_query, is_plain_rest, is_plain_target, plain_url}
+use Rattle.hc_target.specs.{Targets.{is_target, is_short_word, has_own_text, ReadsTarget}, PlainTargets.{is_host_byte, is_path_byte, is_query_byte, begins_dots, is_plain_path, is_plain_path_and_query, is_plain_rest, is_plain_target, plain_url}}
 use Rattle.hc_text.proofs.Cutting.{none_or_some, append-cut, append-behind}
 use Rattle.hc_target.proofs.TargetLemmas.{is_target-own}
 

@@ -1,12 +1,7 @@
 -- Targets and texts that are none.
-use Rattle.std.proofs.Common.{◌≡◌, ℕ, Bool, true, false, List, refl, sym, ap, ◌∙◌, ◌&&◌}
-use Rattle.std.specs.Prelude.{IsUtf8, None, Ok}
-use Rattle.std.specs.Str.{is_utf8}
-use Rattle.std.proofs.lemmas.Bool.{and_parts, false_from_ne_true}
-use Rattle.std.proofs.lemmas.Str.{IsUtf8-from_is_utf8, is_utf8-from_IsUtf8}
-use Rattle.url.specs.Parser.{Parsed, parse_url}
+use Rattle.std.{proofs.{Common.{◌≡◌, ℕ, Bool, true, false, List, refl, sym, ap, ◌∙◌, ◌&&◌}, lemmas.{Bool.{and_parts, false_from_ne_true}, Str.{IsUtf8-from_is_utf8, is_utf8-from_IsUtf8}}}, specs.{Prelude.{IsUtf8, None, Ok}, Str.{is_utf8}}}
+use Rattle.url.specs.{Parser.{Parsed, parse_url}, Parts.{Parts}}
 use Rattle.hc_target.specs.Targets.{is_target, is_short_word, gives_text, has_own_text}
-use Rattle.url.specs.Parts.{Parts}
 
 pub is_target-not_utf8 : (text : List ℕ) → ¬ (IsUtf8 text) → is_target text ≡ false
 unfolding is_target

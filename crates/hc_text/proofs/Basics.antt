@@ -1,20 +1,5 @@
 -- Tests, options and lists: what std lacks, each once.
-use Rattle.std.proofs.Common.{Bool, List, None, Option, Some, [], arith, cond, drop, eqb, false, inl, inr, leb, length, ltb, map, refl, suc, sym, take, true, ℕ, ◌++◌, ◌+◌, ◌-◌, ◌<◌, ◌^◌, ◌∷◌, ◌≡◌, ◌≢◌, ◌≤◌, ◌⊎◌}
-use Rattle.std.proofs.Math.Seq.{drop-append_seam}
-use Rattle.std.proofs.lemmas.Bool.Decides.{eqb_tells, nat_tests}
-use Rattle.std.proofs.lemmas.Fmt.{decimal_is_IsNumeral}
-use Rattle.std.proofs.lemmas.List.{length-drop, reverse-append, take_all}
-use Rattle.std.proofs.lemmas.Slice.Eq.{bytes_eq-Decides}
-use Rattle.std.proofs.lemmas.Str.Parse.{digit_from_value}
-use Rattle.std.specs.BTreeMap.{is_at}
-use Rattle.std.specs.Fmt.{decimal}
-use Rattle.std.specs.Int.{IsInRange}
-use Rattle.std.specs.List.{list_all, list_any}
-use Rattle.std.specs.Map.{lookup}
-use Rattle.std.specs.Option.{option_or}
-use Rattle.std.specs.Ordering.{nat_cmp}
-use Rattle.std.specs.Prelude.{bytes_eq, filter, find, if◌then◌else◌, is_none, is_some, min, nat_eq, nat_le, nat_lt, not, option_map, reverse, ◌&&◌, ◌==◌, ◌||◌}
-use Rattle.std.specs.Str.Parse.{AllDigits}
+use Rattle.std.{proofs.{Common.{Bool, List, None, Option, Some, [], arith, cond, drop, eqb, false, inl, inr, leb, length, ltb, map, refl, suc, sym, take, true, ℕ, ◌++◌, ◌+◌, ◌-◌, ◌<◌, ◌^◌, ◌∷◌, ◌≡◌, ◌≢◌, ◌≤◌, ◌⊎◌}, Math.Seq.{drop-append_seam}, lemmas.{Bool.Decides.{eqb_tells, nat_tests}, Fmt.{decimal_is_IsNumeral}, List.{length-drop, reverse-append, take_all}, Slice.Eq.{bytes_eq-Decides}, Str.Parse.{digit_from_value}}}, specs.{BTreeMap.{is_at}, Fmt.{decimal}, Int.{IsInRange}, List.{list_all, list_any}, Map.{lookup}, Option.{option_or}, Ordering.{nat_cmp}, Prelude.{bytes_eq, filter, find, if◌then◌else◌, is_none, is_some, min, nat_eq, nat_le, nat_lt, not, option_map, reverse, ◌&&◌, ◌==◌, ◌||◌}, Str.Parse.{AllDigits}}}
 
 pub eq_itself : (d : ℕ) → nat_eq d d ≡ true
 eq_itself d = grind (arith, nat_tests)

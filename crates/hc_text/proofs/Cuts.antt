@@ -1,16 +1,5 @@
 -- A text that is cut at the first of some byte.
-use Rattle.std.proofs.Common.{◌≡◌, ℕ, zero, suc, ◌+◌, ◌<◌, ◌≤◌, ◌^◌, Bool, true, false, List, [], ◌∷◌, ◌++◌, length, take, drop, get_or, Some, None, refl, sym, inl, inr, arith}
-use Rattle.std.specs.Prelude.{◌==◌, position}
-use Rattle.std.specs.List.{position_or_len}
-use Rattle.std.specs.Fmt.{decimal}
-use Rattle.std.specs.Str.Parse.{AllDigits}
-use Rattle.std.proofs.lemmas.Bool.{cases_lt, and_parts, and_from, eqb-true, ne_eqb, both_ways, eq-eqb, lt-ltb, not_from_false, not_from_true}
-use Rattle.std.proofs.lemmas.Option.{none-some}
-use Rattle.std.proofs.lemmas.Fmt.{decimal_is_IsNumeral}
-use Rattle.std.proofs.lemmas.List.{take-append-drop, take_all, drop_more}
-use Rattle.std.proofs.lemmas.List.Quantifiers.{position-Some}
-use Rattle.std.proofs.lemmas.List.Sums.{fails_before_first}
-use Rattle.std.proofs.lemmas.Str.Parse.{digit_from_value}
+use Rattle.std.{proofs.{Common.{◌≡◌, ℕ, zero, suc, ◌+◌, ◌<◌, ◌≤◌, ◌^◌, Bool, true, false, List, [], ◌∷◌, ◌++◌, length, take, drop, get_or, Some, None, refl, sym, inl, inr, arith}, lemmas.{Bool.{cases_lt, and_parts, and_from, eqb-true, ne_eqb, both_ways, eq-eqb, lt-ltb, not_from_false, not_from_true}, Option.{none-some}, Fmt.{decimal_is_IsNumeral}, List.{take-append-drop, take_all, drop_more, Quantifiers.{position-Some}, Sums.{fails_before_first}}, Str.Parse.{digit_from_value}}}, specs.{Prelude.{◌==◌, position}, List.{position_or_len}, Fmt.{decimal}, Str.Parse.{AllDigits}}}
 use Rattle.hc_text.specs.Texts.{lacks}
 
 abbrev is : ℕ → ℕ → Bool

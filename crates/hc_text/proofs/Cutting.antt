@@ -1,11 +1,5 @@
 -- A text that is cut, and what stands behind a prefix.
-use Rattle.std.proofs.Common.{◌≡◌, ℕ, suc, ◌+◌, ◌<◌, ◌≤◌, ◌⊎◌, ◌==◌, true, not, List, [], ◌∷◌, ◌++◌, length, take, drop, get_or, Option, Some, None, refl, sym, ap, ◌∙◌, inl, inr, arith, lt-ltb}
-use Rattle.std.specs.Prelude.{bytes_eq, option_map}
-use Rattle.std.specs.List.{position_or_len}
-use Rattle.std.proofs.lemmas.Bool.{cases_Bool, cases_lt, and_parts, eqb-true, eq-eqb, le-ltb}
-use Rattle.std.proofs.lemmas.List.{take-append-drop, take_at, drop_at}
-use Rattle.std.proofs.lemmas.List.Sums.{passes_at_first, split_at_first}
-use Rattle.std.proofs.lemmas.Slice.Eq.{bytes_eq-Decides}
+use Rattle.std.{proofs.{Common.{◌≡◌, ℕ, suc, ◌+◌, ◌<◌, ◌≤◌, ◌⊎◌, ◌==◌, true, not, List, [], ◌∷◌, ◌++◌, length, take, drop, get_or, Option, Some, None, refl, sym, ap, ◌∙◌, inl, inr, arith, lt-ltb}, lemmas.{Bool.{cases_Bool, cases_lt, and_parts, eqb-true, eq-eqb, le-ltb}, List.{take-append-drop, take_at, drop_at, Sums.{passes_at_first, split_at_first}}, Slice.Eq.{bytes_eq-Decides}}}, specs.{Prelude.{bytes_eq, option_map}, List.{position_or_len}}}
 pub use Rattle.hc_text.specs.Texts.{lacks}
 use Rattle.hc_text.specs.Cuts.{cut, behind}
 

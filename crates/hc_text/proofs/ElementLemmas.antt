@@ -1,10 +1,5 @@
 -- How a text is cut, one byte after another, and what is left of it without the elements in front.
-use Rattle.std.proofs.Common.{◌≡◌, ◌≢◌, ℕ, ◌+◌, ◌-◌, ◌<◌, ◌≤◌, Bool, true, false, cond, eqb, not, List, [], ◌∷◌, ◌++◌, length, get_or, take, drop, refl, sym, ap, ◌∙◌, subst, inl, inr, arith}
-use Rattle.std.specs.Prelude.{slice_range, reverse, min}
-use Rattle.std.proofs.Math.Seq.{take-add}
-use Rattle.std.proofs.lemmas.Bool.{cases_lt, or_cases, eqb-true, cond-false, cond-true, not_from_false, ne_eqb, both_ways, true≢false, false≢true}
-use Rattle.std.proofs.lemmas.List.{append_assoc, append-nil, at_drop_more, at_drop_all, drop-drop, reverse-append, reverse-reverse}
-use Rattle.std.proofs.lemmas.List.Edits.{between_none, between_more, length-between, get_or-between}
+use Rattle.std.{proofs.{Common.{◌≡◌, ◌≢◌, ℕ, ◌+◌, ◌-◌, ◌<◌, ◌≤◌, Bool, true, false, cond, eqb, not, List, [], ◌∷◌, ◌++◌, length, get_or, take, drop, refl, sym, ap, ◌∙◌, subst, inl, inr, arith}, Math.Seq.{take-add}, lemmas.{Bool.{cases_lt, or_cases, eqb-true, cond-false, cond-true, not_from_false, ne_eqb, both_ways, true≢false, false≢true}, List.{append_assoc, append-nil, at_drop_more, at_drop_all, drop-drop, reverse-append, reverse-reverse, Edits.{between_none, between_more, length-between, get_or-between}}}}, specs.Prelude.{slice_range, reverse, min}}
 use Rattle.hc_text.specs.Elements.{comma, is_blank, Place, Outside, Within, Taken, after, separates, begin_with, cut_pieces, skip_blanks, trim_end, trimmed_text, elements_of, elements}
 
 pub begin_with-begin_with : (xs ys : List ℕ) (pieces : List (List ℕ)) → begin_with xs (begin_with ys pieces) ≡ begin_with (xs ++ ys) pieces

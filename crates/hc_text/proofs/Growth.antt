@@ -1,7 +1,5 @@
 -- Texts that grow.
-use Rattle.std.proofs.Common.{◌≡◌, ℕ, zero, suc, ◌+◌, List, [], ◌∷◌, ◌++◌, take, Some, refl, arith, append_assoc}
-use Rattle.std.specs.List.{slice_get}
-use Rattle.std.proofs.lemmas.List.{append-nil}
+use Rattle.std.{proofs.{Common.{◌≡◌, ℕ, zero, suc, ◌+◌, List, [], ◌∷◌, ◌++◌, take, Some, refl, arith, append_assoc}, lemmas.List.{append-nil}}, specs.List.{slice_get}}
 
 -- the text of a list whose elements are written one after another
 module _ {X : Type 0} (text : X → List ℕ) (texts : List X → List ℕ) (none : texts [] ≡ []) (one : (x : X) (xs : List X) → texts (x ∷ xs) ≡ text x ++ texts xs) where

@@ -1,10 +1,6 @@
 -- A text has one cut, and calls of `next_item` give its elements.
-use Rattle.std.proofs.Common.{◌≡◌, ℕ, true, false, List, [], ◌∷◌, ◌++◌, map, drop, refl, sym, ap, ◌∙◌, subst, inl, inr}
-use Rattle.std.specs.List.{join_with_byte}
-use Rattle.std.proofs.lemmas.Bool.{cases_Bool, eqb-true, cond-false, cond-true, false≢true}
-use Rattle.hc_text.specs.declared.list.Item.{Item}
-use Rattle.hc_text.specs.Elements.{comma, Place, Outside, Within, Taken, after, separates, begin_with, cut_pieces, place_after, NoneSeparates, ArePieces, elements}
-use Rattle.hc_text.specs.Items.{AreItemsFrom, item_bytes}
+use Rattle.std.{proofs.{Common.{◌≡◌, ℕ, true, false, List, [], ◌∷◌, ◌++◌, map, drop, refl, sym, ap, ◌∙◌, subst, inl, inr}, lemmas.Bool.{cases_Bool, eqb-true, cond-false, cond-true, false≢true}}, specs.List.{join_with_byte}}
+use Rattle.hc_text.specs.{declared.list.Item.{Item}, Elements.{comma, Place, Outside, Within, Taken, after, separates, begin_with, cut_pieces, place_after, NoneSeparates, ArePieces, elements}, Items.{AreItemsFrom, item_bytes}}
 
 pub items_are_elements : (text : List ℕ) (from : ℕ) (items : List Item) → AreItemsFrom text from items → map (item_bytes text) items ≡ elements (drop from text)
 items_are_elements text from [] h = sym h

@@ -1,12 +1,5 @@
 -- What the two words for numbers in decimal have to do with one another.
-use Rattle.std.proofs.Common.{◌≡◌, ℕ, ◌<◌, ◌≤◌, ◌^◌, List, length, get_or, sym, ap, ◌∙◌, subst, inl, inr, arith, rules, true}
-use Rattle.std.specs.Char.{is_ascii_digit}
-use Rattle.std.specs.Fmt.{decimal}
-use Rattle.std.specs.List.{list_all}
-use Rattle.std.specs.Str.Parse.{AllDigits, digits_value}
-use Rattle.std.proofs.lemmas.Bool.{cases_lt}
-use Rattle.std.proofs.lemmas.Fmt.{decimal_is_IsNumeral, decimal_digit, first_decimal, length-decimal-le, decimal-digits_value}
-use Rattle.std.proofs.lemmas.Str.Parse.{IsNumeralModel, numerals_by_value, tells_digits}
+use Rattle.std.{proofs.{Common.{◌≡◌, ℕ, ◌<◌, ◌≤◌, ◌^◌, List, length, get_or, sym, ap, ◌∙◌, subst, inl, inr, arith, rules, true}, lemmas.{Bool.{cases_lt}, Fmt.{decimal_is_IsNumeral, decimal_digit, first_decimal, length-decimal-le, decimal-digits_value}, Str.Parse.{IsNumeralModel, numerals_by_value, tells_digits}}}, specs.{Char.{is_ascii_digit}, Fmt.{decimal}, List.{list_all}, Str.Parse.{AllDigits, digits_value}}}
 use Rattle.hc_text.specs.Numbers.{IsPlain, IsNumber}
 
 pub own : IsNumeralModel (AllDigits 10) (digits_value 10)

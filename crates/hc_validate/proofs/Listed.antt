@@ -1,10 +1,7 @@
 -- Whether a list of tags has one.
-use Rattle.std.proofs.Common.{◌≡◌, ◌↔◌, Bool, ◌||◌, ℕ, List, [], ◌∷◌, Option, Some, refl, ap, subst}
+use Rattle.std.{proofs.Common.{◌≡◌, ◌↔◌, Bool, ◌||◌, ℕ, List, [], ◌∷◌, Option, Some, refl, ap, subst}, specs.{Prelude.{Result, IfOk, IsTrue, IsSomeAnd, bytes_eq}, List.{list_any}}}
 use Rattle.hc_text.specs.declared.memory.NoMemory.{NoMemory}
-use Rattle.std.specs.Prelude.{Result, IfOk, IsTrue, IsSomeAnd, bytes_eq}
-use Rattle.std.specs.List.{list_any}
-use Rattle.hc_etag.specs.declared.tag.Tag.{Tag}
-use Rattle.hc_etag.specs.Tags.{values_of}
+use Rattle.hc_etag.specs.{declared.tag.Tag.{Tag}, Tags.{values_of}}
 use Rattle.hc_validate.specs.Origin.{Lists, has_tag, is_tag}
 
 -- a test of tags is one of their values

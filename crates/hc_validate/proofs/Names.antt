@@ -1,6 +1,5 @@
 -- The names that are set are tokens.
-use Rattle.std.proofs.Common.{arith, refl}
-use Rattle.std.specs.Prelude.{codes}
+use Rattle.std.{proofs.Common.{arith, refl}, specs.Prelude.{codes}}
 use Rattle.http_header.specs.Token.{IsToken, is_token_byte}
 use Rattle.http_header.proofs.TokenLemmas.{AllPass-from_test}
 

@@ -1,22 +1,10 @@
 -- Numbers as values of fields.
-use Rattle.std.proofs.Common.{◌≡◌, ℕ, ◌-◌, ◌^◌, ◌<◌, ◌≤◌, Bool, true, false, not, ◌||◌, ◌==◌, List, [], ◌∷◌, ◌++◌, length, refl, ap, sym, ◌∙◌, subst, arith, length-append}
-use Rattle.std.specs.Prelude.{codes, slice_index, if◌then◌else◌}
-use Rattle.std.specs.List.{list_all}
-use Rattle.std.specs.Fmt.{decimal}
-use Rattle.std.specs.Int.{IsInRange}
-use Rattle.std.specs.Str.Parse.{AllDigits}
-use Rattle.std.proofs.lemmas.Bool.{or_right}
-use Rattle.std.proofs.lemmas.Bool.Decides.{nat_tests}
-use Rattle.std.proofs.lemmas.Fmt.{decimal_is_IsNumeral, length-decimal-le}
-use Rattle.std.proofs.lemmas.List.{append-nil, get_or-append_right, get_or_append_left}
-use Rattle.std.proofs.lemmas.List.Folds.{list_all-append}
-use Rattle.std.proofs.lemmas.Str.Parse.{digit_at}
+use Rattle.std.{proofs.{Common.{◌≡◌, ℕ, ◌-◌, ◌^◌, ◌<◌, ◌≤◌, Bool, true, false, not, ◌||◌, ◌==◌, List, [], ◌∷◌, ◌++◌, length, refl, ap, sym, ◌∙◌, subst, arith, length-append}, lemmas.{Bool.{or_right, Decides.{nat_tests}}, Fmt.{decimal_is_IsNumeral, length-decimal-le}, List.{append-nil, get_or-append_right, get_or_append_left, Folds.{list_all-append}}, Str.Parse.{digit_at}}}, specs.{Prelude.{codes, slice_index, if◌then◌else◌}, List.{list_all}, Fmt.{decimal}, Int.{IsInRange}, Str.Parse.{AllDigits}}}
 use Rattle.hc_text.proofs.Basics.{list_all-digits, some-decimal}
 use Rattle.http_header.specs.Token.{is_value_byte}
 use Rattle.hc_text.specs.Elements.{is_blank}
 use Rattle.hc_fields.specs.FieldList.{is_own_value}
-use Rattle.hc_range.specs.declared.range.Span.{Span}
-use Rattle.hc_range.specs.Spans.{IsWithin, content_range_text, range_text}
+use Rattle.hc_range.specs.{declared.range.Span.{Span}, Spans.{IsWithin, content_range_text, range_text}}
 
 is_value_byte-digit : (c : ℕ) → IsInRange 48 57 c → is_value_byte c ≡ true
 is_value_byte-digit c h = grind (arith, nat_tests)

@@ -1,13 +1,8 @@
 -- A field that isn't refused, and how much longer the list is with it.
-use Rattle.std.proofs.Common.{◌≡◌, ℕ, ◌+◌, ◌≤◌, ◌<◌, true, List, length, inl, inr, arith}
-use Rattle.std.proofs.lemmas.Bool.{both_ways}
+use Rattle.std.{proofs.{Common.{◌≡◌, ℕ, ◌+◌, ◌≤◌, ◌<◌, true, List, length, inl, inr, arith}, lemmas.{Bool.{both_ways}, List.{length-map}}}, specs.Char.{to_ascii_lowercase}}
 use Rattle.http_header.specs.Token.{IsToken, lowercase}
-use Rattle.hc_fields.specs.declared.error.FieldError.{FieldError}
-use Rattle.hc_fields.specs.declared.error.FieldError.TheVariants.{BadName, BadValue, TooMany, TooLong, NoMemory}
-use Rattle.hc_fields.specs.FieldList.{Refuses, is_own_value, size_of, without}
+use Rattle.hc_fields.specs.{declared.error.FieldError.{FieldError, TheVariants.{BadName, BadValue, TooMany, TooLong, NoMemory}}, FieldList.{Refuses, is_own_value, size_of, without}}
 use Rattle.hc_fields.proofs.Edits.{length-parts, length-put, size_of-parts, size_of-put}
-use Rattle.std.specs.Char.{to_ascii_lowercase}
-use Rattle.std.proofs.lemmas.List.{length-map}
 use Rattle.hc_validate.specs.Heads.{FieldPairs, with_one}
 
 pub length-without : (name : List ℕ) (fields : FieldPairs) → length (without name fields) ≤ length fields

@@ -1,8 +1,5 @@
 -- The size that a path tells.
-use Rattle.std.proofs.Common.{◌≡◌, ℕ, ◌<◌, ◌≤◌, false, List, Some, None, refl, sym, arith, leb}
-use Rattle.std.specs.Str.Parse.{digits_value}
-use Rattle.std.proofs.lemmas.Bool.Decides.{nat_tests}
-use Rattle.std.proofs.lemmas.Fmt.{decimal_is_IsNumeral}
+use Rattle.std.{proofs.{Common.{◌≡◌, ℕ, ◌<◌, ◌≤◌, false, List, Some, None, refl, sym, arith, leb}, lemmas.{Bool.Decides.{nat_tests}, Fmt.{decimal_is_IsNumeral}}}, specs.Str.Parse.{digits_value}}
 use Rattle.hc_text.proofs.Basics.{le-leb as leb-from, same_bytes}
 use Rattle.hc_text.specs.Numbers.{IsPlain}
 use Rattle.hc_validate.specs.Origin.{size_in}

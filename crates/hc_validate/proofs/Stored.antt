@@ -1,9 +1,6 @@
 -- The values of a stored head are values of fields.
-use Rattle.std.proofs.Common.{◌≡◌, ℕ, zero, suc, ◌≤◌, true, List, [], ◌∷◌, length, inl, inr, subst, arith}
-use Rattle.std.specs.Prelude.{All, Some, slice_get}
-use Rattle.std.proofs.lemmas.Bool.{cases_Bool}
-use Rattle.hc_fields.specs.FieldList.{IsField, IsFieldList, has_name, is_own_value, values_of}
-use Rattle.hc_fields.specs.FirstValues.{first_value}
+use Rattle.std.{proofs.{Common.{◌≡◌, ℕ, zero, suc, ◌≤◌, true, List, [], ◌∷◌, length, inl, inr, subst, arith}, lemmas.Bool.{cases_Bool}}, specs.Prelude.{All, Some, slice_get}}
+use Rattle.hc_fields.specs.{FieldList.{IsField, IsFieldList, has_name, is_own_value, values_of}, FirstValues.{first_value}}
 use Rattle.hc_validate.specs.Heads.{FieldPairs}
 
 -- a value that a field may have

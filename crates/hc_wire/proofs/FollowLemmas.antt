@@ -1,11 +1,6 @@
 -- What is left of a script.
-use Rattle.std.proofs.Common.{◌≡◌, ℕ, suc, ◌+◌, ◌<◌, List, [], ◌∷◌, length, get_or, drop, Some, refl, sym, ap, ◌∙◌, inl, inr, arith, add-one, drop-cons}
-use Rattle.std.proofs.lemmas.Bool.{cases_Bool}
-use Rattle.std.proofs.lemmas.List.{drop_more}
-use Rattle.hc_wire.specs.declared.event.WireEvent.{WireEvent}
-use Rattle.hc_wire.specs.declared.scripted.Scripted.{Scripted}
-use Rattle.hc_wire.specs.Logs.{Taker}
-use Rattle.hc_wire.specs.Following.{left_at, behind_first, behind_past, is_past, coming_in, coming_by, coming_of}
+use Rattle.std.proofs.{Common.{◌≡◌, ℕ, suc, ◌+◌, ◌<◌, List, [], ◌∷◌, length, get_or, drop, Some, refl, sym, ap, ◌∙◌, inl, inr, arith, add-one, drop-cons}, lemmas.{Bool.{cases_Bool}, List.{drop_more}}}
+use Rattle.hc_wire.specs.{declared.{event.WireEvent.{WireEvent}, scripted.Scripted.{Scripted}}, Logs.{Taker}, Following.{left_at, behind_first, behind_past, is_past, coming_in, coming_by, coming_of}}
 
 -- behind the first item
 pub behind_one : (script : List Scripted) (at off : ℕ) → at < length script → left_at script (at + 1) 0 ≡ behind_first (drop at script) off

@@ -4,16 +4,9 @@
 -- connection in hand has the number that changes and the number that is asked for. A change that keeps the number changes
 -- that stage alone, as `closed_of`, `reading_of` and `ended_of` say. A new connection stands last, and so is found where
 -- nobody had its number. What a test finds (`live_from`, `unended_from`, `reads_from`) tells the stage by its three parts.
-use Rattle.std.proofs.Common.{◌≡◌, ℕ, ◌<◌, ◌≤◌, List, [], ◌∷◌, ◌++◌, length, get_or, set, Bool, true, false, ◌&&◌, eqb, ltb, Some, None, refl, sym, ap, ◌∙◌, inl, inr, arith}
-use Rattle.std.specs.Prelude.{position}
-use Rattle.std.specs.List.{position_or_len}
-use Rattle.std.proofs.Math.Numerals.{one-add}
-use Rattle.std.proofs.lemmas.Bool.{cases_Bool, eqb-true, eqb-false, eq-eqb, ne_eqb, ltb-true, ltb-false}
-use Rattle.hc_wire.specs.declared.event.WireEvent.{WireEvent}
+use Rattle.std.{proofs.{Common.{◌≡◌, ℕ, ◌<◌, ◌≤◌, List, [], ◌∷◌, ◌++◌, length, get_or, set, Bool, true, false, ◌&&◌, eqb, ltb, Some, None, refl, sym, ap, ◌∙◌, inl, inr, arith}, Math.Numerals.{one-add}, lemmas.Bool.{cases_Bool, eqb-true, eqb-false, eq-eqb, ne_eqb, ltb-true, ltb-false}}, specs.{Prelude.{position, if◌then◌else◌}, List.{position_or_len}}}
+use Rattle.hc_wire.specs.{declared.event.WireEvent.{WireEvent}, Events.{Stage, Unseen, Open, Closed, Fresh, with_stage, closed_of, reading_of, ended_of, stages_after, IsOfOpen}, Logs.{Taker, is_numbered, stage_of, stage_in, changed_at, fresh, reading, shut, over, takers_with}}
 use Rattle.hc_wire.specs.declared.event.WireEvent.TheVariants as event
-use Rattle.std.specs.Prelude.{if◌then◌else◌}
-use Rattle.hc_wire.specs.Events.{Stage, Unseen, Open, Closed, Fresh, with_stage, closed_of, reading_of, ended_of, stages_after, IsOfOpen}
-use Rattle.hc_wire.specs.Logs.{Taker, is_numbered, stage_of, stage_in, changed_at, fresh, reading, shut, over, takers_with}
 
 module _ (k : ℕ) (change : Taker → Taker) (number : (c : Taker) → (change c).k ≡ c.k) where
   -- a change that keeps number and life keeps each stage

@@ -1,13 +1,7 @@
 -- What comes of a script.
-use Rattle.std.proofs.Common.{◌≡◌, ℕ, List, [], ◌∷◌, refl, sym, ap, ◌∙◌, inl, inr}
-use Rattle.std.proofs.lemmas.Bool.{cases_Bool}
-use Rattle.hc_wire.specs.declared.event.WireEvent.{WireEvent}
+use Rattle.std.proofs.{Common.{◌≡◌, ℕ, List, [], ◌∷◌, refl, sym, ap, ◌∙◌, inl, inr}, lemmas.Bool.{cases_Bool}}
+use Rattle.hc_wire.specs.{declared.{event.WireEvent.{WireEvent}, script.ScriptWire.{ScriptWire}, scripted.Scripted.{Scripted}}, Logs.{Taker}, Following.{is_reading, coming_in, coming_by, is_quiet}, Plays.{script_due, script_next, IsIdle}}
 use Rattle.hc_wire.specs.declared.event.WireEvent.TheVariants as event
-use Rattle.hc_wire.specs.declared.script.ScriptWire.{ScriptWire}
-use Rattle.hc_wire.specs.declared.scripted.Scripted.{Scripted}
-use Rattle.hc_wire.specs.Logs.{Taker}
-use Rattle.hc_wire.specs.Following.{is_reading, coming_in, coming_by, is_quiet}
-use Rattle.hc_wire.specs.Plays.{script_due, script_next, IsIdle}
 
 -- whether it is Quiet doesn't hang on the room
 quiet_by : (cs : List Taker) (last r q off : ℕ) (s : Scripted) (e : WireEvent) → is_quiet (coming_by cs last r off s e).1 ≡ is_quiet (coming_by cs last q off s e).1

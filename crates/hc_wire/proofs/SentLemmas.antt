@@ -1,7 +1,5 @@
 -- What a connection is sent, nothing or in two goes: for one connection, for the list of them, and for the log.
-use Rattle.std.proofs.Common.{◌≡◌, ℕ, List, [], ◌∷◌, ◌++◌, length, Bool, false, Option, Some, None, eqb, refl, sym, ap, ◌∙◌, inl, inr, append_assoc}
-use Rattle.std.proofs.lemmas.Bool.{cases_Bool}
-use Rattle.std.proofs.lemmas.List.{append-nil}
+use Rattle.std.proofs.{Common.{◌≡◌, ℕ, List, [], ◌∷◌, ◌++◌, length, Bool, false, Option, Some, None, eqb, refl, sym, ap, ◌∙◌, inl, inr, append_assoc}, lemmas.{Bool.{cases_Bool}, List.{append-nil}}}
 use Rattle.hc_wire.specs.Logs.{Log, Taker, Tells, with_sent, changed_at, taking}
 
 -- NOTHING IS SENT

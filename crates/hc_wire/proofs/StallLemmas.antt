@@ -4,14 +4,8 @@
 -- the one in hand is of the connection that changes and of the one that is asked for. Without its stalls a connection takes
 -- all. What is used up is taken from its first stall, and so `min` of what is left falls by as much. The place of that
 -- stall, which the code looks up, is where the definition changes the list.
-use Rattle.std.proofs.Common.{◌≡◌, ℕ, ◌+◌, ◌-◌, ◌<◌, ◌≤◌, ◌==◌, Bool, false, not, List, [], ◌∷◌, ◌++◌, length, get_or, set, find, min, Option, None, Some, filter, refl, sym, ap, ◌∙◌, inl, inr, arith}
-use Rattle.std.specs.Prelude.{if◌then◌else◌, position, nat_lt}
-use Rattle.std.specs.List.{position_or_len}
-use Rattle.std.proofs.Math.Numerals.{one-add}
-use Rattle.std.proofs.lemmas.Bool.{ltb-true, ltb-false}
-use Rattle.std.proofs.lemmas.Bool.{cases_Bool, eqb-true, eq-eqb}
-use Rattle.hc_wire.specs.declared.script.Stall.{Stall}
-use Rattle.hc_wire.specs.Following.{is_stall_of, room_from, room_in, used, used_at}
+use Rattle.std.{proofs.{Common.{◌≡◌, ℕ, ◌+◌, ◌-◌, ◌<◌, ◌≤◌, ◌==◌, Bool, false, not, List, [], ◌∷◌, ◌++◌, length, get_or, set, find, min, Option, None, Some, filter, refl, sym, ap, ◌∙◌, inl, inr, arith}, Math.Numerals.{one-add}, lemmas.Bool.{ltb-true, ltb-false, cases_Bool, eqb-true, eq-eqb}}, specs.{Prelude.{if◌then◌else◌, position, nat_lt}, List.{position_or_len}}}
+use Rattle.hc_wire.specs.{declared.script.Stall.{Stall}, Following.{is_stall_of, room_from, room_in, used, used_at}}
 
 -- it isn't a stall of the connection
 abbrev pub is_other : ℕ → Stall → Bool

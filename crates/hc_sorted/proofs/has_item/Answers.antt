@@ -1,5 +1,4 @@
-use Rattle.std.proofs.Common.{◌≡◌, Option, Some, None, refl, sym, ap, ◌∙◌, Bor}
-use Rattle.std.specs.Option.{option_copied, is_some}
+use Rattle.std.{proofs.Common.{◌≡◌, Option, Some, None, refl, sym, ap, ◌∙◌, Bor}, specs.Option.{option_copied, is_some}}
 use Rattle.hc_sorted.proofs.SortedLemmas.{has-found}
 use Rattle.hc_sorted.proofs.has_item.Goals as goal
 

@@ -1,6 +1,4 @@
-use Rattle.std.proofs.Common.{ap, ◌∙◌, sym}
-use Rattle.std.proofs.lemmas.Bool.{ltb-true, ltb-false}
-use Rattle.std.specs.Option.{option_copied}
+use Rattle.std.{proofs.{Common.{ap, ◌∙◌, sym}, lemmas.Bool.{ltb-true, ltb-false}}, specs.Option.{option_copied}}
 use Rattle.hc_sorted.proofs.SortedLemmas.{found_here, found_other, found_past}
 use Rattle.hc_sorted.proofs.item_at.Goals as goal
 

@@ -1,7 +1,5 @@
-use Rattle.std.proofs.Common.{rules, of_calls, ltb}
+use Rattle.std.proofs.{Common.{rules, of_calls, ltb}, lemmas.{Fn.{always_returns_same}, List.Sorted.{IsPartitionedBy-ltb}}}
 use Rattle.hc_sorted.proofs.SortedLemmas.{place_is, IsNonDecreasingBy-is_sorted}
-use Rattle.std.proofs.lemmas.Fn.{always_returns_same}
-use Rattle.std.proofs.lemmas.List.Sorted.{IsPartitionedBy-ltb}
 use Rattle.hc_sorted.proofs.place_of.Goals as goal
 
 pub returns-clause-place : goal.returns-clause-place

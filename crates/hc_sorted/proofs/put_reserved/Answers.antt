@@ -1,5 +1,4 @@
-use Rattle.std.proofs.Common.{◌≡◌, true}
-use Rattle.std.specs.Result.{is_ok}
+use Rattle.std.{proofs.Common.{◌≡◌, true}, specs.Result.{is_ok}}
 use Rattle.hc_sorted.proofs.SortedLemmas.{insert-place, is_sorted-with}
 use Rattle.hc_sorted.proofs.put_reserved.Goals as goal
 

@@ -1,6 +1,5 @@
 use Rattle.std.proofs.Common.{◌≤◌, arith}
-use Rattle.hc_app.proofs.Fetched.{same_plain}
-use Rattle.hc_app.proofs.fetching.number_up_to.Goals.{else-n-ge1-via-then-n-ge1+else-n-most, else-n-ge1-via-else-n-ge1}
+use Rattle.hc_app.proofs.{Fetched.{same_plain}, fetching.number_up_to.Goals.{else-n-ge1-via-then-n-ge1+else-n-most, else-n-ge1-via-else-n-ge1}}
 use Rattle.hc_app.proofs.fetching.number_up_to.Goals as goal
 
 pub returns-else-n-ge1-clause-none : goal.returns-else-n-ge1-clause-none

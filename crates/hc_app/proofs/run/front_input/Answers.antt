@@ -2,9 +2,7 @@ use Rattle.std.proofs.Common.{refl, ◌∙◌, arith}
 use Rattle.hc_replay.proofs.Reported.{new_moment}
 use Rattle.hc_model.specs.Entries.{no_contents}
 use Rattle.hc_app.specs.Owing.{wanting_all}
-use Rattle.hc_app.proofs.Done.{never_wire}
-use Rattle.hc_app.proofs.Fronted.{does_front}
-use Rattle.hc_app.proofs.Concluded.{wireless, stream_status}
+use Rattle.hc_app.proofs.{Done.{never_wire}, Fronted.{does_front}, Concluded.{wireless, stream_status}}
 use Rattle.hc_app.proofs.run.front_input.Goals as goal
 
 pub returns-in_default-clause-does : goal.returns-in_default-clause-does

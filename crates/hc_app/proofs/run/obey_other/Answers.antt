@@ -1,9 +1,7 @@
 use Rattle.std.proofs.Common.{refl, subst, inl}
-use Rattle.hc_app.specs.Commands.{IsCommand}
-use Rattle.hc_app.specs.Program.{obeyed, answered, served, told}
+use Rattle.hc_app.specs.{Commands.{IsCommand}, Program.{obeyed, answered, served, told}}
 use Rattle.hc_app.specs.declared.status.Status.TheVariants as status
-use Rattle.hc_app.proofs.Done.{usage_said, usage_unsaid}
-use Rattle.hc_app.proofs.Failed.{all_calm, stopped_status, stopped_wireless, wire_still}
+use Rattle.hc_app.proofs.{Done.{usage_said, usage_unsaid}, Failed.{all_calm, stopped_status, stopped_wireless, wire_still}}
 use Rattle.hc_app.proofs.run.obey_other.Goals as goal
 
 pub returns-in-Some-Replay-clause-keeps : goal.returns-in-Some-Replay-clause-keeps

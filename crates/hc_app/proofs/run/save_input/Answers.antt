@@ -2,8 +2,7 @@ use Rattle.std.proofs.Common.{refl, subst}
 use Rattle.hc_rules.specs.declared.room.Limits.{Limits}
 use Rattle.hc_saving.specs.Saves.{Saves}
 use Rattle.hc_app.specs.Owing.{wanting_all}
-use Rattle.hc_app.proofs.Saved.{does_save, never_wired}
-use Rattle.hc_app.proofs.Concluded.{wireless, stream_status}
+use Rattle.hc_app.proofs.{Saved.{does_save, never_wired}, Concluded.{wireless, stream_status}}
 use Rattle.hc_app.proofs.run.save_input.Goals as goal
 
 pub returns-in_default-clause-does : goal.returns-in_default-clause-does

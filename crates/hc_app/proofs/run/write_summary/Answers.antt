@@ -1,6 +1,5 @@
 use Rattle.std.proofs.Common.{refl}
-use Rattle.hc_app.proofs.Done.{does_generate, never_read, never_wired}
-use Rattle.hc_app.proofs.Concluded.{wireless, stream_status}
+use Rattle.hc_app.proofs.{Done.{does_generate, never_read, never_wired}, Concluded.{wireless, stream_status}}
 use Rattle.hc_app.proofs.run.write_summary.Goals as goal
 
 pub conclude-requires : goal.conclude-requires

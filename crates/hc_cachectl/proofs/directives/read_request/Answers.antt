@@ -1,5 +1,4 @@
-use Rattle.std.proofs.Common.{refl}
-use Rattle.std.specs.Prelude.{codes}
+use Rattle.std.{proofs.Common.{refl}, specs.Prelude.{codes}}
 use Rattle.hc_fields.specs.FieldElements.{elements_in}
 use Rattle.hc_cachectl.proofs.Folds.{found_no_cache}
 use Rattle.hc_cachectl.proofs.directives.read_request.Goals as goal

@@ -1,7 +1,6 @@
 use Rattle.std.specs.Prelude.{codes}
 use Rattle.hc_fields.specs.FieldElements.{elements_in}
-use Rattle.hc_cachectl.proofs.Caps.{capped}
-use Rattle.hc_cachectl.proofs.Folds.{said_is}
+use Rattle.hc_cachectl.proofs.{Caps.{capped}, Folds.{said_is}}
 use Rattle.hc_cachectl.proofs.directives.read_response.Goals as goal
 
 pub returns : goal.returns

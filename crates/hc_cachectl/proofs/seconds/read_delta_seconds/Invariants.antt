@@ -1,5 +1,4 @@
-use Rattle.std.proofs.Common.{◌≡◌, ◌≤◌, drop}
-use Rattle.std.specs.Option.{unwrap_or}
+use Rattle.std.{proofs.Common.{◌≡◌, ◌≤◌, drop}, specs.Option.{unwrap_or}}
 use Rattle.hc_cachectl.specs.Seconds.{most_seconds, plain_seconds}
 use Rattle.hc_cachectl.proofs.Steps.{seconds_after}
 use Rattle.hc_cachectl.proofs.seconds.read_delta_seconds.Given as goal

@@ -1,7 +1,6 @@
 use Rattle.std.proofs.Common.{◌<◌, length, ◌∙◌, sym, inl, inr, arith}
-use Rattle.hc_cachectl.proofs.Steps.{quoted_is, SaysNext, next_digit, next_other, closed_early, never_closed}
+use Rattle.hc_cachectl.proofs.{Steps.{quoted_is, SaysNext, next_digit, next_other, closed_early, never_closed}, seconds.read_quoted.Goals.{then-text-at-eq92, else-text-at-eq92, then-loop-at-test+else-text-at-ne34, else-loop-at-test, else-at-text-via-then-at-text+else-text-at-eq34, else-at-text-via-else-at-text}}
 use Rattle.hc_cachectl.proofs.seconds.read_quoted.Goals as goal
-use Rattle.hc_cachectl.proofs.seconds.read_quoted.Goals.{then-text-at-eq92, else-text-at-eq92, then-loop-at-test+else-text-at-ne34, else-loop-at-test, else-at-text-via-then-at-text+else-text-at-eq34, else-at-text-via-else-at-text}
 
 pub loop-at-init : goal.loop-at-init
 loop-at-init c = record { inside = omega arith; small = omega arith; seconds = quoted_is c.args.text.now }

@@ -1,5 +1,4 @@
-use Rattle.std.proofs.Common.{◌≡◌, ◌≤◌, ◌-◌, length, drop}
-use Rattle.std.specs.Option.{option_and_then, unwrap_or}
+use Rattle.std.{proofs.Common.{◌≡◌, ◌≤◌, ◌-◌, length, drop}, specs.Option.{option_and_then, unwrap_or}}
 use Rattle.hc_cachectl.specs.Seconds.{most_seconds, plain_seconds, quoted_content}
 use Rattle.hc_cachectl.proofs.Steps.{quoted_after}
 use Rattle.hc_cachectl.proofs.seconds.read_quoted.Given as goal

@@ -1,7 +1,5 @@
-use Rattle.std.proofs.Common.{◌≡◌, ◌∙◌, Option, Some, None, refl, ap, sym}
-use Rattle.std.specs.Prelude.{is_some, option_map}
-use Rattle.hc_etag.specs.declared.list.TagList.{TagList}
-use Rattle.hc_etag.specs.TagListTexts.{plain_list}
+use Rattle.std.{proofs.Common.{◌≡◌, ◌∙◌, Option, Some, None, refl, ap, sym}, specs.Prelude.{is_some, option_map}}
+use Rattle.hc_etag.specs.{declared.list.TagList.{TagList}, TagListTexts.{plain_list}}
 use Rattle.hc_etag.proofs.ListReads.{list_is}
 use Rattle.hc_condition.proofs.external.is_tag_list.Goals as goal
 

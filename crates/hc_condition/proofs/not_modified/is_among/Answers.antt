@@ -1,7 +1,5 @@
-use Rattle.std.proofs.Common.{◌∙◌, ap}
-use Rattle.hc_etag.specs.Tags.{values_of}
-use Rattle.hc_etag.specs.TagListTexts.{TheseTags}
-use Rattle.std.specs.Prelude.{Some}
+use Rattle.std.{proofs.Common.{◌∙◌, ap}, specs.Prelude.{Some}}
+use Rattle.hc_etag.specs.{Tags.{values_of}, TagListTexts.{TheseTags}}
 use Rattle.hc_validate.proofs.Listed.{any_of}
 use Rattle.hc_condition.specs.NotModified.{lists}
 use Rattle.hc_condition.proofs.not_modified.is_among.Goals as goal

@@ -1,8 +1,5 @@
-use Rattle.std.proofs.Common.{◌≡◌, ◌++◌, length, take, map}
-use Rattle.std.specs.Prelude.{◌||◌}
-use Rattle.std.specs.List.{list_any}
-use Rattle.hc_event.specs.Acts.{act_list}
-use Rattle.hc_event.specs.Drain.{left_of}
+use Rattle.std.{proofs.Common.{◌≡◌, ◌++◌, length, take, map}, specs.{Prelude.{◌||◌}, List.{list_any}}}
+use Rattle.hc_event.specs.{Acts.{act_list}, Drain.{left_of}}
 use Rattle.hc_condition.specs.Telling.{act_told, is_satisfying}
 use Rattle.hc_condition.proofs.telling.tell_each.Given as goal
 

@@ -1,5 +1,4 @@
-use Rattle.std.proofs.Common.{nat_eq, refl}
-use Rattle.std.specs.HashMap.{get}
+use Rattle.std.{proofs.Common.{nat_eq, refl}, specs.HashMap.{get}}
 use Rattle.hc_contents.proofs.Knowing.{tells_none, tells_next, tells_all}
 use Rattle.hc_contents.proofs.seen.last_places.Goals as goal
 

@@ -1,7 +1,5 @@
-use Rattle.std.proofs.Common.{map, take, nat_eq}
-use Rattle.std.specs.HashMap.{get}
-use Rattle.hc_contents.specs.Known.{TellsLast}
-use Rattle.hc_contents.specs.PlainContents.{plain_item}
+use Rattle.std.{proofs.Common.{map, take, nat_eq}, specs.HashMap.{get}}
+use Rattle.hc_contents.specs.{Known.{TellsLast}, PlainContents.{plain_item}}
 use Rattle.hc_contents.proofs.seen.last_places.Given as goal
 
 abbrev pub invariant-loop-i : goal.invariant-loop-i

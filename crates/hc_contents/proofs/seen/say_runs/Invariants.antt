@@ -1,7 +1,4 @@
-use Rattle.std.proofs.Common.{◌≡◌, ℕ, take, nat_eq}
-use Rattle.std.specs.Prelude.{◌==◌, ◌||◌}
-use Rattle.std.specs.HashSet.{contains}
-use Rattle.std.specs.List.{list_any}
+use Rattle.std.{proofs.Common.{◌≡◌, ℕ, take, nat_eq}, specs.{Prelude.{◌==◌, ◌||◌}, HashSet.{contains}, List.{list_any}}}
 use Rattle.hc_sparse.specs.declared.run.Run.{Run}
 use Rattle.hc_contents.proofs.seen.say_runs.Given as goal
 

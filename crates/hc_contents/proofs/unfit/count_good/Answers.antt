@@ -1,9 +1,7 @@
 use Rattle.std.proofs.Common.{rules, arith, ◌≡◌, List, [], map, reverse, take, true, false, ap, sym, ◌∙◌, subst}
 use Rattle.hc_model.specs.Entries.{Content}
 use Rattle.hc_contents.specs.declared.contents.Content as coded
-use Rattle.hc_contents.specs.Fit.{count_good}
-use Rattle.hc_contents.specs.Known.{Knows}
-use Rattle.hc_contents.specs.PlainContents.{plain_contents, plain_item}
+use Rattle.hc_contents.specs.{Fit.{count_good}, Known.{Knows}, PlainContents.{plain_contents, plain_item}}
 use Rattle.hc_contents.proofs.Counting.{stopped, goes_on, more_before, longer}
 use Rattle.hc_contents.proofs.unfit.count_good.Goals as goal
 

@@ -1,6 +1,5 @@
 use Rattle.std.proofs.Common.{map, reverse, take}
-use Rattle.hc_contents.specs.Known.{Knows}
-use Rattle.hc_contents.specs.PlainContents.{plain_contents, plain_item}
+use Rattle.hc_contents.specs.{Known.{Knows}, PlainContents.{plain_contents, plain_item}}
 use Rattle.hc_contents.proofs.Counting.{IsCounted}
 use Rattle.hc_contents.proofs.unfit.count_good.Given as goal
 

@@ -1,7 +1,6 @@
 use Rattle.std.proofs.Common.{◌≡◌, ◌+◌, ◌∙◌, drop, true, false, ap, rules, arith}
 use Rattle.hc_target.specs.Targets.{is_target}
-use Rattle.hc_contents.specs.declared.contents.Content.{Content}
-use Rattle.hc_contents.specs.PlainContents.{plain_contents, plain_item}
+use Rattle.hc_contents.specs.{declared.contents.Content.{Content}, PlainContents.{plain_contents, plain_item}}
 use Rattle.hc_contents.proofs.Counting.{good_by, bad_by}
 use Rattle.hc_contents.proofs.unfit.is_good.Goals as goal
 

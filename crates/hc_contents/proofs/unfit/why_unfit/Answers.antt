@@ -1,6 +1,4 @@
-use Rattle.std.proofs.Common.{rules, arith, ◌≡◌, ◌<◌, ◌≤◌, List, length, map, true, false, ap, sym, ◌∙◌}
-use Rattle.std.specs.Prelude.{nat_le}
-use Rattle.std.proofs.lemmas.List.{length-map}
+use Rattle.std.{proofs.{Common.{rules, arith, ◌≡◌, ◌<◌, ◌≤◌, List, length, map, true, false, ap, sym, ◌∙◌}, lemmas.List.{length-map}}, specs.Prelude.{nat_le}}
 use Rattle.hc_model.specs.Beginnings.{weights_of}
 use Rattle.hc_contents.specs.declared.contents.Content as coded
 use Rattle.hc_contents.specs.PlainContents.{plain_contents, plain_item}

@@ -1,5 +1,4 @@
-use Rattle.std.proofs.Common.{◌≡◌, take, Ok, refl, ◌∙◌, ap, arith}
-use Rattle.std.proofs.lemmas.List.{length-take}
+use Rattle.std.proofs.{Common.{◌≡◌, take, Ok, refl, ◌∙◌, ap, arith}, lemmas.List.{length-take}}
 use Rattle.hc_driver.proofs.Runs.{on_start, next_timed, next_small, next_few, on_more, ends_source, ends_as, few_on, over_as, ends_cut_short, ends_done}
 use Rattle.hc_driver.proofs.through.run.Goals as goal
 

@@ -1,8 +1,5 @@
 use Rattle.std.proofs.Common.{Option, None, sym, ap, ◌∙◌}
-use Rattle.hc_entry.specs.declared.rows.KeyRow.{KeyRow}
-use Rattle.hc_entry.specs.Lines.{Line, line_with}
-use Rattle.hc_entry.specs.Kept.{on_line, kept_in}
-use Rattle.hc_entry.specs.KeyRows.{kept_by}
+use Rattle.hc_entry.specs.{declared.rows.KeyRow.{KeyRow}, Lines.{Line, line_with}, Kept.{on_line, kept_in}, KeyRows.{kept_by}}
 use Rattle.hc_entry.proofs.KeyLemmas.{row-changes}
 use Rattle.hc_entry.proofs.rows.begin_in.Goals as goal
 

@@ -1,7 +1,5 @@
 use Rattle.std.proofs.Common.{Option, None, sym, ap, ◌∙◌, rules}
-use Rattle.hc_entry.specs.declared.rows.KeyRow.{KeyRow}
-use Rattle.hc_entry.specs.Kept.{with_current}
-use Rattle.hc_entry.specs.KeyRows.{kept_by}
+use Rattle.hc_entry.specs.{declared.rows.KeyRow.{KeyRow}, Kept.{with_current}, KeyRows.{kept_by}}
 use Rattle.hc_entry.proofs.KeyLemmas.{row-there, row-changes}
 use Rattle.hc_entry.proofs.rows.clear_current_in.Goals as goal
 

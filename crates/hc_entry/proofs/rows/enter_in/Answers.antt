@@ -1,8 +1,5 @@
 use Rattle.std.proofs.Common.{Option, Some, refl, sym, ap, ◌∙◌, rules}
-use Rattle.hc_entry.specs.declared.rows.KeyRow.{KeyRow}
-use Rattle.hc_entry.specs.Lines.{Line, is_in, line_with}
-use Rattle.hc_entry.specs.Kept.{line_in}
-use Rattle.hc_entry.specs.KeyRows.{kept_by, RowsStay}
+use Rattle.hc_entry.specs.{declared.rows.KeyRow.{KeyRow}, Lines.{Line, is_in, line_with}, Kept.{line_in}, KeyRows.{kept_by, RowsStay}}
 use Rattle.hc_entry.proofs.KeyLemmas.{row-there, row-stays, line-changes, on-err}
 use Rattle.hc_entry.proofs.rows.enter_in.Goals as goal
 

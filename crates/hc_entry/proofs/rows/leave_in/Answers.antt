@@ -1,8 +1,5 @@
 use Rattle.std.proofs.Common.{Option, refl, sym, ap, ◌∙◌, rules}
-use Rattle.hc_entry.specs.declared.rows.KeyRow.{KeyRow}
-use Rattle.hc_entry.specs.Lines.{is_in, left_by}
-use Rattle.hc_entry.specs.Kept.{line_in}
-use Rattle.hc_entry.specs.KeyRows.{kept_by}
+use Rattle.hc_entry.specs.{declared.rows.KeyRow.{KeyRow}, Lines.{is_in, left_by}, Kept.{line_in}, KeyRows.{kept_by}}
 use Rattle.hc_entry.proofs.KeyLemmas.{row-there, line-changes}
 use Rattle.hc_entry.proofs.rows.leave_in.Goals as goal
 

@@ -1,8 +1,5 @@
 use Rattle.std.proofs.Common.{Option, Some, None, subst, sym, ap, ◌∙◌, rules}
-use Rattle.hc_entry.specs.declared.rows.KeyRow.{KeyRow}
-use Rattle.hc_entry.specs.Lines.{Line}
-use Rattle.hc_entry.specs.Kept.{with_current, kept_in}
-use Rattle.hc_entry.specs.KeyRows.{Rows, kept_by, RowChanges, rows_of}
+use Rattle.hc_entry.specs.{declared.rows.KeyRow.{KeyRow}, Lines.{Line}, Kept.{with_current, kept_in}, KeyRows.{Rows, kept_by, RowChanges, rows_of}}
 use Rattle.hc_entry.proofs.KeyLemmas.{row-there, row-changes}
 use Rattle.hc_entry.proofs.rows.make_current_in.Goals as goal
 

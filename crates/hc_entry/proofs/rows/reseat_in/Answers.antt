@@ -1,9 +1,5 @@
 use Rattle.std.proofs.Common.{Option, sym, ap, ◌∙◌, rules}
-use Rattle.hc_entry.specs.declared.rows.KeyRow.{KeyRow}
-use Rattle.hc_entry.specs.Lines.{is_in}
-use Rattle.hc_entry.specs.Seats.{moved_to}
-use Rattle.hc_entry.specs.Kept.{line_in}
-use Rattle.hc_entry.specs.KeyRows.{kept_by}
+use Rattle.hc_entry.specs.{declared.rows.KeyRow.{KeyRow}, Lines.{is_in}, Seats.{moved_to}, Kept.{line_in}, KeyRows.{kept_by}}
 use Rattle.hc_entry.proofs.KeyLemmas.{row-there, line-changes, moved-commutes}
 use Rattle.hc_entry.proofs.rows.reseat_in.Goals as goal
 

@@ -1,5 +1,4 @@
-use Rattle.std.proofs.Common.{◌≡◌, ℕ, ◌∙◌, length, get_or, take, sym, ap, subst, arith}
-use Rattle.std.proofs.lemmas.List.Sums.{prefix_len-le-length}
+use Rattle.std.proofs.{Common.{◌≡◌, ℕ, ◌∙◌, length, get_or, take, sym, ap, subst, arith}, lemmas.List.Sums.{prefix_len-le-length}}
 use Rattle.hc_etag.specs.Etags.{is_etagc, IsOpaque}
 use Rattle.hc_etag.proofs.EtagLemmas.{opaque_here, IsOpaque-front}
 use Rattle.hc_etag.proofs.front.front_opaque.Goals as goal

@@ -1,10 +1,5 @@
-use Rattle.std.proofs.Common.{◌≡◌, ◌≢◌, ℕ, List, [], ◌∷◌, length, true, false, arith, ap, refl, sym, ◌∙◌}
-use Rattle.std.specs.Prelude.{bytes_eq}
-use Rattle.std.proofs.lemmas.Bool.{eqb-true, eq-eqb}
-use Rattle.std.proofs.lemmas.List.{nil_from_length}
-use Rattle.std.proofs.lemmas.Slice.Eq.{bytes_eq-Decides}
-use Rattle.hc_etag.specs.declared.tag.Tag.{Tag}
-use Rattle.hc_etag.specs.Tags.{any_text, values_of}
+use Rattle.std.{proofs.{Common.{◌≡◌, ◌≢◌, ℕ, List, [], ◌∷◌, length, true, false, arith, ap, refl, sym, ◌∙◌}, lemmas.{Bool.{eqb-true, eq-eqb}, List.{nil_from_length}, Slice.Eq.{bytes_eq-Decides}}}, specs.Prelude.{bytes_eq}}
+use Rattle.hc_etag.specs.{declared.tag.Tag.{Tag}, Tags.{any_text, values_of}}
 use Rattle.hc_etag.proofs.ListReads.{any_listed, tags_read, none_read}
 use Rattle.hc_etag.proofs.list.read_tag_list.Goals as goal
 

@@ -1,5 +1,4 @@
-use Rattle.std.proofs.Common.{◌≡◌, ◌∙◌, ℕ, Bool, false, List, [], ◌∷◌, ◌++◌, sym, ap, subst}
-use Rattle.std.proofs.lemmas.List.{map_push}
+use Rattle.std.proofs.{Common.{◌≡◌, ◌∙◌, ℕ, Bool, false, List, [], ◌∷◌, ◌++◌, sym, ap, subst}, lemmas.List.{map_push}}
 use Rattle.hc_etag.specs.Tags.{value_of, values_of}
 use Rattle.hc_etag.proofs.TagLemmas.{IsReadUpTo, read_blank, read_comma, read_tag, all_read}
 use Rattle.hc_etag.proofs.list.read_tags.Goals as goal

@@ -1,6 +1,4 @@
-use Rattle.std.proofs.Common.{◌∙◌, ℕ, List, [], length, eqb, sym, ap}
-use Rattle.std.proofs.lemmas.Bool.{both_ways}
-use Rattle.std.proofs.lemmas.List.{append-nil}
+use Rattle.std.proofs.{Common.{◌∙◌, ℕ, List, [], length, eqb, sym, ap}, lemmas.{Bool.{both_ways}, List.{append-nil}}}
 use Rattle.hc_etag.specs.Etags.{tag_text}
 use Rattle.hc_etag.proofs.EtagLemmas.{tag_unique}
 use Rattle.hc_etag.proofs.read.read_tag.Goals as goal

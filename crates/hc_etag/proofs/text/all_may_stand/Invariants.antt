@@ -1,5 +1,4 @@
-use Rattle.std.proofs.Common.{◌≡◌, take}
-use Rattle.std.specs.List.{list_all}
+use Rattle.std.{proofs.Common.{◌≡◌, take}, specs.List.{list_all}}
 use Rattle.hc_etag.specs.Etags.{is_etagc}
 use Rattle.hc_etag.proofs.text.all_may_stand.Given as goal
 

@@ -1,7 +1,4 @@
-use Rattle.std.proofs.Common.{◌≡◌, ℕ, false, List, codes, refl, sym, arith, subst, inl, inr}
-use Rattle.std.specs.Prelude.{bytes_eq}
-use Rattle.std.proofs.lemmas.Bool.{cases_Bool}
-use Rattle.std.proofs.lemmas.Slice.Eq.{bytes_eq-Decides}
+use Rattle.std.{proofs.{Common.{◌≡◌, ℕ, false, List, codes, refl, sym, arith, subst, inl, inr}, lemmas.{Bool.{cases_Bool}, Slice.Eq.{bytes_eq-Decides}}}, specs.Prelude.{bytes_eq}}
 use Rattle.http_header.specs.Token.{is_token_byte, IsToken}
 use Rattle.http_header.proofs.TokenLemmas.{AllPass-from_test}
 use Rattle.http.specs.Method.{is_among, safe_methods}

@@ -1,5 +1,4 @@
-use Rattle.std.proofs.Common.{rules, sym, ap, ◌∙◌}
-use Rattle.std.specs.Option.{option_copied}
+use Rattle.std.{proofs.Common.{rules, sym, ap, ◌∙◌}, specs.Option.{option_copied}}
 use Rattle.hc_exch.specs.Rows.{rows_of}
 use Rattle.hc_exch.proofs.AgreementLemmas.{agrees-leaves, agrees-asks, agrees-rests}
 use Rattle.hc_exch.proofs.exchanges.list.Goals as goal

@@ -1,5 +1,4 @@
-use Rattle.std.proofs.Common.{◌≡◌, ◌+◌, ◌-◌, ◌≤◌, ◌++◌, length, drop, vec_len, vec_capacity}
-use Rattle.std.specs.VecDeque.{deque_len}
+use Rattle.std.{proofs.Common.{◌≡◌, ◌+◌, ◌-◌, ◌≤◌, ◌++◌, length, drop, vec_len, vec_capacity}, specs.VecDeque.{deque_len}}
 use Rattle.hc_exch.specs.Pieces.{bytes_of_pieces, first_length}
 use Rattle.hc_exch.proofs.held.take_front.Given as goal
 

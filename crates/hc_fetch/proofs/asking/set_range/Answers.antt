@@ -1,5 +1,4 @@
-use Rattle.std.proofs.Common.{◌∙◌, ◌++◌, ◌∷◌, [], ℕ, List, ap}
-use Rattle.std.specs.Fmt.{decimal}
+use Rattle.std.{proofs.Common.{◌∙◌, ◌++◌, ◌∷◌, [], ℕ, List, ap}, specs.Fmt.{decimal}}
 use Rattle.hc_fields.specs.FieldList.{is_own_value}
 use Rattle.hc_validate.proofs.Names.{IsToken-range}
 use Rattle.hc_fetch.proofs.Ranges.{own-asked}

@@ -1,5 +1,4 @@
-use Rattle.hc_fetch.proofs.Bodies.{writes_the_body, writes_on_with_more}
-use Rattle.hc_fetch.proofs.Whole.{writes_all_of_it}
+use Rattle.hc_fetch.proofs.{Bodies.{writes_the_body, writes_on_with_more}, Whole.{writes_all_of_it}}
 use Rattle.hc_fetch.proofs.laws.what_is_written_is_the_body.Goals as goal
 
 pub returns-clause-body : goal.returns-clause-body

@@ -1,8 +1,7 @@
 use Rattle.std.proofs.Common.{sym, ◌∙◌, ap, subst, arith}
 use Rattle.hc_core.specs.Steps.{limits_in}
 use Rattle.hc_fetch.specs.Endings.{Fetches, ended_as}
-use Rattle.hc_fetch.proofs.Fetched.{IsOwn, done_ends, cut_ends, no_wire, source_back, sink_back}
-use Rattle.hc_fetch.proofs.Starting.{new_moment}
+use Rattle.hc_fetch.proofs.{Fetched.{IsOwn, done_ends, cut_ends, no_wire, source_back, sink_back}, Starting.{new_moment}}
 use Rattle.hc_fetch.proofs.through.fetch.Goals as goal
 
 pub go_through-requires-clause-later : goal.go_through-requires-clause-later

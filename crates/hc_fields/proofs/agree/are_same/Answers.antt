@@ -1,7 +1,5 @@
-use Rattle.std.proofs.Common.{◌≡◌, ◌≢◌, ◌≤◌, ◌∙◌, List, ℕ, ◌++◌, true, false, length, take, drop, sym, ap, arith}
-use Rattle.std.specs.Option.{option_copied}
-use Rattle.hc_fields.specs.Agreement.{behind}
-use Rattle.hc_fields.specs.Joined.{all_values}
+use Rattle.std.{proofs.Common.{◌≡◌, ◌≢◌, ◌≤◌, ◌∙◌, List, ℕ, ◌++◌, true, false, length, take, drop, sym, ap, arith}, specs.Option.{option_copied}}
+use Rattle.hc_fields.specs.{Agreement.{behind}, Joined.{all_values}}
 use Rattle.hc_fields.proofs.Agreeing.{differ, other_from, same_behind, same_from}
 use Rattle.hc_fields.proofs.agree.are_same.Goals as goal
 

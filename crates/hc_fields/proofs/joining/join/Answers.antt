@@ -1,7 +1,6 @@
 use Rattle.std.proofs.Common.{length, take, ap, arith, length-append}
 use Rattle.hc_fields.specs.Marks.{separated_text}
-use Rattle.hc_fields.proofs.Joins.{separated-within, separated-le}
-use Rattle.hc_fields.proofs.Places.{no_mark}
+use Rattle.hc_fields.proofs.{Joins.{separated-within, separated-le}, Places.{no_mark}}
 use Rattle.hc_fields.proofs.joining.join.Goals as goal
 
 pub overflow_add-first : goal.overflow_add-first

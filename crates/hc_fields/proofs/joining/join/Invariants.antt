@@ -1,5 +1,4 @@
-use Rattle.std.proofs.Common.{◌≡◌, ◌++◌, ◌+◌, ◌≤◌, length, take}
-use Rattle.std.specs.Prelude.{vec_capacity}
+use Rattle.std.{proofs.Common.{◌≡◌, ◌++◌, ◌+◌, ◌≤◌, length, take}, specs.Prelude.{vec_capacity}}
 use Rattle.hc_fields.specs.Marks.{separated_text}
 use Rattle.hc_fields.proofs.joining.join.Given as goal
 

@@ -1,6 +1,5 @@
 use Rattle.std.proofs.Common.{arith}
-use Rattle.hc_fields.proofs.Joins.{separated-within, separated-le}
-use Rattle.hc_fields.proofs.Places.{no_mark}
+use Rattle.hc_fields.proofs.{Joins.{separated-within, separated-le}, Places.{no_mark}}
 use Rattle.hc_fields.proofs.joining.separated_len.Goals as goal
 
 pub overflow_add-total-in-loop-mark : goal.overflow_add-total-in-loop-mark

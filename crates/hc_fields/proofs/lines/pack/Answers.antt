@@ -1,6 +1,5 @@
 use Rattle.std.proofs.Common.{◌∙◌, refl}
-use Rattle.hc_fields.proofs.MarkLemmas.{packed_more}
-use Rattle.hc_fields.proofs.Places.{no_mark}
+use Rattle.hc_fields.proofs.{MarkLemmas.{packed_more}, Places.{no_mark}}
 use Rattle.hc_fields.proofs.lines.pack.Goals as goal
 
 pub loop-mark-preserved : goal.loop-mark-preserved

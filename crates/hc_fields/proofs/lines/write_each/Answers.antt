@@ -1,9 +1,6 @@
-use Rattle.std.proofs.Common.{take, get_or}
-use Rattle.std.proofs.lemmas.List.{append_assoc}
-use Rattle.hc_fields.specs.Lines.{fields_text, field_text}
-use Rattle.hc_fields.specs.Marks.{field_at, fields_at}
-use Rattle.hc_fields.proofs.LineLemmas.{fields_text-more}
-use Rattle.hc_fields.proofs.Places.{no_mark}
+use Rattle.std.proofs.{Common.{take, get_or}, lemmas.List.{append_assoc}}
+use Rattle.hc_fields.specs.{Lines.{fields_text, field_text}, Marks.{field_at, fields_at}}
+use Rattle.hc_fields.proofs.{LineLemmas.{fields_text-more}, Places.{no_mark}}
 use Rattle.hc_fields.proofs.lines.write_each.Goals as goal
 
 pub loop-mark-preserved : goal.loop-mark-preserved

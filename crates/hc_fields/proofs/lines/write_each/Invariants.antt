@@ -1,6 +1,5 @@
 use Rattle.std.proofs.Common.{◌≡◌, ◌++◌, take}
-use Rattle.hc_fields.specs.Lines.{fields_text}
-use Rattle.hc_fields.specs.Marks.{fields_at}
+use Rattle.hc_fields.specs.{Lines.{fields_text}, Marks.{fields_at}}
 use Rattle.hc_fields.proofs.lines.write_each.Given as goal
 
 abbrev pub invariant-loop-mark : goal.invariant-loop-mark

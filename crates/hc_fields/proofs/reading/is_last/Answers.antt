@@ -1,8 +1,6 @@
 use Rattle.std.proofs.Common.{◌-◌, length, get_or}
 use Rattle.hc_fields.specs.Marks.{field_at, fields_at}
-use Rattle.hc_fields.proofs.Ends.{none_after-last}
-use Rattle.hc_fields.proofs.Kept.{last_at}
-use Rattle.hc_fields.proofs.Places.{no_mark}
+use Rattle.hc_fields.proofs.{Ends.{none_after-last}, Kept.{last_at}, Places.{no_mark}}
 use Rattle.hc_fields.proofs.reading.is_last.Goals as goal
 
 pub returns-in-len1-up : goal.returns-in-len1-up

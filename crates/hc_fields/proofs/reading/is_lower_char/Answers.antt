@@ -1,9 +1,6 @@
-use Rattle.std.proofs.Common.{◌≡◌, ℕ, ◌==◌, ◌<◌, Bool, true, false, map, cond, get_or, refl, ap, ◌∙◌, arith}
-use Rattle.std.proofs.lemmas.List.FromFn.{get_or-map-range_with_len}
-use Rattle.std.specs.List.{range_with_len}
+use Rattle.std.{proofs.{Common.{◌≡◌, ℕ, ◌==◌, ◌<◌, Bool, true, false, map, cond, get_or, refl, ap, ◌∙◌, arith}, lemmas.List.FromFn.{get_or-map-range_with_len}}, specs.List.{range_with_len}}
 use Rattle.http_header.specs.Token.{is_token_byte}
-use Rattle.hc_fields.specs.Lines.{is_lower_byte}
-use Rattle.hc_fields.specs.declared.reading.TheConstants.{LOWER_CHARS}
+use Rattle.hc_fields.specs.{Lines.{is_lower_byte}, declared.reading.TheConstants.{LOWER_CHARS}}
 use Rattle.hc_fields.proofs.reading.is_lower_char.Goals as goal
 
 abbrev mark : ℕ → ℕ

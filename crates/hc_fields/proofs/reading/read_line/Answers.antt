@@ -1,10 +1,6 @@
-use Rattle.std.proofs.Common.{◌≡◌, ℕ, ◌<◌, length, false, sym, ◌∙◌, arith}
-use Rattle.std.specs.Prelude.{◌==◌}
-use Rattle.std.proofs.lemmas.Bool.Decides.{nat_tests}
-use Rattle.std.proofs.lemmas.Bool.{both_ways, and_parts, eqb-true}
-use Rattle.hc_fields.proofs.ReadLemmas.{IsCut-field, IsField-cut, same_line}
+use Rattle.std.{proofs.{Common.{◌≡◌, ℕ, ◌<◌, length, false, sym, ◌∙◌, arith}, lemmas.Bool.{both_ways, and_parts, eqb-true, Decides.{nat_tests}}}, specs.Prelude.{◌==◌}}
+use Rattle.hc_fields.proofs.{ReadLemmas.{IsCut-field, IsField-cut, same_line}, reading.read_line.Goals.{then-is_empty-via-then-is_empty, then-is_empty-via-else-is_empty+then-value-gt8192, then-is_empty-via-else-is_empty+else-value-gt8192+then-not-has_own_ends}}
 use Rattle.hc_fields.proofs.reading.read_line.Goals as goal
-use Rattle.hc_fields.proofs.reading.read_line.Goals.{then-is_empty-via-then-is_empty, then-is_empty-via-else-is_empty+then-value-gt8192, then-is_empty-via-else-is_empty+else-value-gt8192+then-not-has_own_ends}
 
 some_bytes : (n : ℕ) → (n == 0) ≡ false → 0 < n
 some_bytes n h = grind (arith, nat_tests)

@@ -1,10 +1,6 @@
-use Rattle.std.proofs.Common.{refl, sym, ◌∙◌, arith}
-use Rattle.std.proofs.lemmas.List.{take_rest}
-use Rattle.hc_fields.proofs.Ends.{IsField-last}
-use Rattle.hc_fields.proofs.MarkLemmas.{length-field_text}
-use Rattle.hc_fields.proofs.NextLemmas.{fields-whole, marked-whole, same_next, too_many, too_long, too_early, IsRead-push}
+use Rattle.std.proofs.{Common.{refl, sym, ◌∙◌, arith}, lemmas.List.{take_rest}}
+use Rattle.hc_fields.proofs.{Ends.{IsField-last}, MarkLemmas.{length-field_text}, NextLemmas.{fields-whole, marked-whole, same_next, too_many, too_long, too_early, IsRead-push}, reading.read_next.Goals.{then-len-ge80-via-then-len-ge80, then-len-ge80-via-else-len-ge80+then-size-gt49152, then-len-ge80-via-else-len-ge80+else-size-gt49152+then-not-is_last}}
 use Rattle.hc_fields.proofs.reading.read_next.Goals as goal
-use Rattle.hc_fields.proofs.reading.read_next.Goals.{then-len-ge80-via-then-len-ge80, then-len-ge80-via-else-len-ge80+then-size-gt49152, then-len-ge80-via-else-len-ge80+else-size-gt49152+then-not-is_last}
 
 pub is_last-requires : goal.is_last-requires
 is_last-requires c =

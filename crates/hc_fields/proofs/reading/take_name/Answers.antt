@@ -1,7 +1,4 @@
-use Rattle.std.proofs.Common.{ℕ, List, [], ◌∷◌, ◌++◌, take, ap, sym, ◌∙◌}
-use Rattle.std.proofs.lemmas.Bool.Decides.{Decides-eqb}
-use Rattle.std.proofs.lemmas.List.{take-append-drop}
-use Rattle.std.proofs.lemmas.Slice.Eq.{strip_prefix_is}
+use Rattle.std.proofs.{Common.{ℕ, List, [], ◌∷◌, ◌++◌, take, ap, sym, ◌∙◌}, lemmas.{Bool.Decides.{Decides-eqb}, List.{take-append-drop}, Slice.Eq.{strip_prefix_is}}}
 use Rattle.hc_fields.specs.Lines.{is_lower_byte}
 use Rattle.hc_fields.proofs.ReadLemmas.{no_other, kind-position, behind-kind, colon_ends}
 use Rattle.hc_fields.proofs.reading.take_name.Goals as goal

@@ -1,6 +1,4 @@
-use Rattle.std.proofs.Common.{◌+◌, ◌-◌, length, drop, sym, ◌∙◌, arith}
-use Rattle.std.proofs.lemmas.Bool.{both_ways}
-use Rattle.std.proofs.lemmas.List.{take_all, length-drop}
+use Rattle.std.proofs.{Common.{◌+◌, ◌-◌, length, drop, sym, ◌∙◌, arith}, lemmas.{Bool.{both_ways}, List.{take_all, length-drop}}}
 use Rattle.http_header.specs.Token.{is_value_byte}
 use Rattle.hc_text.proofs.Cuts.{lacks-all, lacks-not, cut-position, cut_once}
 use Rattle.hc_fields.proofs.ReadLemmas.{lacks-kind, feed_ends}

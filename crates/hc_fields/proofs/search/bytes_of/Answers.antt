@@ -1,6 +1,5 @@
 use Rattle.std.proofs.Common.{refl}
-use Rattle.hc_fields.proofs.Kept.{size_of-more}
-use Rattle.hc_fields.proofs.Places.{no_mark}
+use Rattle.hc_fields.proofs.{Kept.{size_of-more}, Places.{no_mark}}
 use Rattle.hc_fields.proofs.search.bytes_of.Goals as goal
 
 pub loop-mark-preserved : goal.loop-mark-preserved

@@ -1,6 +1,4 @@
-use Rattle.std.proofs.Common.{◌≡◌, drop}
-use Rattle.std.specs.Ordering.{nat_cmp}
-use Rattle.std.specs.Cmp.Lexicographic.{slice_cmp}
+use Rattle.std.{proofs.Common.{◌≡◌, drop}, specs.{Ordering.{nat_cmp}, Cmp.Lexicographic.{slice_cmp}}}
 use Rattle.http_header.specs.Token.{lowercase}
 use Rattle.hc_fields.proofs.search.compare_lowered.Given as goal
 

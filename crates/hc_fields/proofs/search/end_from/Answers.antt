@@ -1,7 +1,4 @@
-use Rattle.std.proofs.Common.{◌≡◌, [], length, inl, inr, sym, arith}
-use Rattle.std.proofs.lemmas.Bool.{cases_lt}
-use Rattle.std.proofs.lemmas.List.{length-map}
-use Rattle.std.proofs.lemmas.List.Sums.{position_or_len_is}
+use Rattle.std.proofs.{Common.{◌≡◌, [], length, inl, inr, sym, arith}, lemmas.{Bool.{cases_lt}, List.{length-map, Sums.{position_or_len_is}}}}
 use Rattle.http_header.specs.Token.{lowercase}
 use Rattle.hc_fields.specs.Marks.{field_at, fields_at}
 use Rattle.hc_fields.proofs.Places.{no_mark, is_behind, before_start, nth_is}

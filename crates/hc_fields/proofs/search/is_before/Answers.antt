@@ -1,8 +1,4 @@
-use Rattle.std.proofs.Common.{◌≡◌, Ordering, refl}
-use Rattle.std.specs.Ordering.{nat_cmp, is_lt, is_gt, ordering_reverse}
-use Rattle.std.specs.Cmp.Lexicographic.{slice_cmp}
-use Rattle.std.specs.declared.cmp.Ordering.TheVariants.{Less, Equal, Greater}
-use Rattle.std.proofs.lemmas.Cmp.{nat_list_cmp_total}
+use Rattle.std.{proofs.{Common.{◌≡◌, Ordering, refl}, lemmas.Cmp.{nat_list_cmp_total}}, specs.{Ordering.{nat_cmp, is_lt, is_gt, ordering_reverse}, Cmp.Lexicographic.{slice_cmp}, declared.cmp.Ordering.TheVariants.{Less, Equal, Greater}}}
 use Rattle.http_header.specs.Token.{lowercase}
 use Rattle.hc_fields.specs.Marks.{field_at}
 use Rattle.hc_fields.proofs.search.is_before.Goals as goal

@@ -1,9 +1,7 @@
 use Rattle.std.proofs.Common.{arith}
 use Rattle.http_header.specs.Token.{lowercase}
 use Rattle.hc_fields.specs.Marks.{fields_at}
-use Rattle.hc_fields.proofs.Edits.{size_of-parts, length-parts}
-use Rattle.hc_fields.proofs.Kept.{fields_at-named, length-fields_at}
-use Rattle.hc_fields.proofs.Sorted.{is_parted}
+use Rattle.hc_fields.proofs.{Edits.{size_of-parts, length-parts}, Kept.{fields_at-named, length-fields_at}, Sorted.{is_parted}}
 use Rattle.hc_fields.proofs.search.place_of.Goals as goal
 
 pub bytes_of-requires-clause-small : goal.bytes_of-requires-clause-small

@@ -1,5 +1,4 @@
-use Rattle.std.proofs.Common.{◌+◌, ◌-◌, ◌/◌, refl, arith}
-use Rattle.std.proofs.lemmas.List.{length-map}
+use Rattle.std.proofs.{Common.{◌+◌, ◌-◌, ◌/◌, refl, arith}, lemmas.List.{length-map}}
 use Rattle.http_header.specs.Token.{lowercase}
 use Rattle.hc_fields.specs.Marks.{field_at, fields_at}
 use Rattle.hc_fields.proofs.Places.{no_mark, searched, searched_left, searched_right, ascending_start, not_before, nth_is}

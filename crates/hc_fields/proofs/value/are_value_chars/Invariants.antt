@@ -1,5 +1,4 @@
-use Rattle.std.proofs.Common.{◌≡◌, take}
-use Rattle.std.specs.List.{list_all}
+use Rattle.std.{proofs.Common.{◌≡◌, take}, specs.List.{list_all}}
 use Rattle.http_header.specs.Token.{is_value_byte}
 use Rattle.hc_fields.proofs.value.are_value_chars.Given as goal
 

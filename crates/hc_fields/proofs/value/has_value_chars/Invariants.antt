@@ -1,6 +1,4 @@
-use Rattle.std.proofs.Common.{◌≡◌, ◌+◌, ◌-◌, ◌≤◌, take, drop}
-use Rattle.std.specs.Prelude.{◌&&◌}
-use Rattle.std.specs.List.{list_all}
+use Rattle.std.{proofs.Common.{◌≡◌, ◌+◌, ◌-◌, ◌≤◌, take, drop}, specs.{Prelude.{◌&&◌}, List.{list_all}}}
 use Rattle.http_header.specs.Token.{is_value_byte}
 use Rattle.hc_fields.proofs.value.has_value_chars.Given as goal
 

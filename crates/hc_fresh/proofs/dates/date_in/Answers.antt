@@ -1,5 +1,4 @@
-use Rattle.std.proofs.Common.{◌≡◌, ◌≤◌, ◌∙◌, List, ℕ, length, subst}
-use Rattle.std.specs.Prelude.{Some}
+use Rattle.std.{proofs.Common.{◌≡◌, ◌≤◌, ◌∙◌, List, ℕ, length, subst}, specs.Prelude.{Some}}
 use Rattle.hc_fresh.proofs.DateTexts.{length-date}
 use Rattle.hc_fresh.proofs.dates.date_in.Goals as goal
 

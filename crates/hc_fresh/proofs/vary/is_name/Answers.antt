@@ -1,5 +1,4 @@
-use Rattle.std.proofs.Common.{◌≡◌, ◌∙◌, true, false, inl, inr, refl}
-use Rattle.std.proofs.lemmas.Bool.{both_ways, cases_Bool}
+use Rattle.std.proofs.{Common.{◌≡◌, ◌∙◌, true, false, inl, inr, refl}, lemmas.Bool.{both_ways, cases_Bool}}
 use Rattle.hc_fresh.specs.Vary.{is_token}
 use Rattle.hc_fresh.proofs.Tokens.{is_token-from, IsToken-from}
 use Rattle.hc_fresh.proofs.vary.is_name.Goals as goal

@@ -1,5 +1,4 @@
-use Rattle.std.proofs.Common.{◌≡◌, ◌-◌, length, drop}
-use Rattle.std.specs.List.{list_all}
+use Rattle.std.{proofs.Common.{◌≡◌, ◌-◌, length, drop}, specs.List.{list_all}}
 use Rattle.hc_text.specs.Elements.{elements}
 use Rattle.hc_record.specs.Plain.{plain}
 use Rattle.hc_fresh.specs.Vary.{matches_on}

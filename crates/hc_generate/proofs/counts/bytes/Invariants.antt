@@ -1,5 +1,4 @@
-use Rattle.std.proofs.Common.{◌≡◌, take}
-use Rattle.std.specs.List.{sum_by}
+use Rattle.std.{proofs.Common.{◌≡◌, take}, specs.List.{sum_by}}
 use Rattle.hc_generate.specs.Summary.{given_size, up_to_end}
 use Rattle.hc_generate.proofs.counts.bytes.Given as goal
 

@@ -1,10 +1,7 @@
-use Rattle.std.proofs.Common.{◌≡◌, ◌∙◌, ℕ, ap, not, rules, of_calls}
-use Rattle.std.specs.List.{list_any}
-use Rattle.std.proofs.lemmas.Fn.{filter_same}
+use Rattle.std.{proofs.{Common.{◌≡◌, ◌∙◌, ℕ, ap, not, rules, of_calls}, lemmas.Fn.{filter_same}}, specs.List.{list_any}}
 use Rattle.hc_sorted.specs.Sorted.{is_sorted}
 use Rattle.hc_sorted.proofs.SortedLemmas.{is_sorted-filter}
-use Rattle.hc_generate.specs.Hearing.{leaves, still_live}
-use Rattle.hc_generate.specs.States.{itself}
+use Rattle.hc_generate.specs.{Hearing.{leaves, still_live}, States.{itself}}
 use Rattle.hc_generate.proofs.ActLemmas.{still_live-any}
 use Rattle.hc_generate.proofs.hearing.forget_gone.Goals as goal
 

@@ -1,5 +1,4 @@
-use Rattle.hc_head.specs.Options.{is_other}
-use Rattle.hc_head.specs.Held.{fields_in}
+use Rattle.hc_head.specs.{Options.{is_other}, Held.{fields_in}}
 use Rattle.hc_head.proofs.Heads.{any_next, any_here}
 use Rattle.hc_head.proofs.fields.has_others.Goals as goal
 

@@ -1,7 +1,5 @@
-use Rattle.std.proofs.Common.{◌≡◌, drop}
-use Rattle.std.specs.List.{list_any}
-use Rattle.hc_head.specs.Options.{is_other, has_others}
-use Rattle.hc_head.specs.Held.{fields_in}
+use Rattle.std.{proofs.Common.{◌≡◌, drop}, specs.List.{list_any}}
+use Rattle.hc_head.specs.{Options.{is_other, has_others}, Held.{fields_in}}
 use Rattle.hc_head.proofs.fields.has_others.Given as goal
 
 abbrev pub invariant-loop-header : goal.invariant-loop-header

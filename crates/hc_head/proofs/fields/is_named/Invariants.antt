@@ -1,8 +1,6 @@
-use Rattle.std.proofs.Common.{◌≡◌, drop}
-use Rattle.std.specs.List.{list_any}
+use Rattle.std.{proofs.Common.{◌≡◌, drop}, specs.List.{list_any}}
 use Rattle.http_header.specs.Token.{lowercase}
-use Rattle.hc_head.specs.Rules.{is_option}
-use Rattle.hc_head.specs.Held.{fields_in}
+use Rattle.hc_head.specs.{Rules.{is_option}, Held.{fields_in}}
 use Rattle.hc_head.proofs.fields.is_named.Given as goal
 
 abbrev pub invariant-loop-header : goal.invariant-loop-header

@@ -1,7 +1,6 @@
 use Rattle.std.proofs.Common.{◌≡◌, drop}
 use Rattle.http_header.specs.Token.{lowercase}
-use Rattle.hc_head.specs.Rules.{is_there}
-use Rattle.hc_head.specs.Held.{fields_in}
+use Rattle.hc_head.specs.{Rules.{is_there}, Held.{fields_in}}
 use Rattle.hc_head.proofs.fields.is_there.Given as goal
 
 abbrev pub invariant-loop-header : goal.invariant-loop-header

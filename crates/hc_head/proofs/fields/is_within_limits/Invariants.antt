@@ -1,6 +1,5 @@
 use Rattle.std.proofs.Common.{◌≡◌, drop}
-use Rattle.hc_head.specs.Rules.{is_within_limits}
-use Rattle.hc_head.specs.Held.{fields_in}
+use Rattle.hc_head.specs.{Rules.{is_within_limits}, Held.{fields_in}}
 use Rattle.hc_head.proofs.fields.is_within_limits.Given as goal
 
 abbrev pub invariant-loop-header : goal.invariant-loop-header

@@ -1,7 +1,6 @@
 use Rattle.std.proofs.Common.{arith}
 use Rattle.hc_head.specs.Held.{fields_in}
-use Rattle.hc_head.proofs.Heads.{within_limits_at, kept_next, kept_small}
-use Rattle.hc_head.proofs.Options.{there_at}
+use Rattle.hc_head.proofs.{Heads.{within_limits_at, kept_next, kept_small}, Options.{there_at}}
 use Rattle.hc_head.proofs.fields.kept_of.Goals as goal
 
 pub pass_on-requires-clause-short : goal.pass_on-requires-clause-short

@@ -1,8 +1,6 @@
-use Rattle.std.proofs.Common.{◌≡◌, ◌+◌, ◌≤◌, length, drop}
-use Rattle.std.specs.Prelude.{filter}
+use Rattle.std.{proofs.Common.{◌≡◌, ◌+◌, ◌≤◌, length, drop}, specs.Prelude.{filter}}
 use Rattle.hc_fields.specs.FieldList.{size_of}
-use Rattle.hc_head.specs.Rules.{is_kept, kept_of, put_all}
-use Rattle.hc_head.specs.Held.{fields_in}
+use Rattle.hc_head.specs.{Rules.{is_kept, kept_of, put_all}, Held.{fields_in}}
 use Rattle.hc_head.proofs.fields.kept_of.Given as goal
 
 abbrev pub invariant-loop-header : goal.invariant-loop-header

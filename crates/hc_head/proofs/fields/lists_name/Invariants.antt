@@ -1,6 +1,4 @@
-use Rattle.std.proofs.Common.{◌≡◌, ◌-◌, length, drop}
-use Rattle.std.specs.Prelude.{bytes_eq}
-use Rattle.std.specs.List.{list_any}
+use Rattle.std.{proofs.Common.{◌≡◌, ◌-◌, length, drop}, specs.{Prelude.{bytes_eq}, List.{list_any}}}
 use Rattle.http_header.specs.Token.{lowercase}
 use Rattle.hc_text.specs.Elements.{elements}
 use Rattle.hc_head.specs.Rules.{lists_name}

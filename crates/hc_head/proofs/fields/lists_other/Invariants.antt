@@ -1,8 +1,6 @@
-use Rattle.std.proofs.Common.{◌≡◌, ◌-◌, length, drop}
-use Rattle.std.specs.List.{list_any}
+use Rattle.std.{proofs.Common.{◌≡◌, ◌-◌, length, drop}, specs.List.{list_any}}
 use Rattle.hc_text.specs.Elements.{elements}
-use Rattle.hc_head.specs.Options.{names_other, lists_other}
-use Rattle.hc_head.specs.Held.{fields_in}
+use Rattle.hc_head.specs.{Options.{names_other, lists_other}, Held.{fields_in}}
 use Rattle.hc_head.proofs.fields.lists_other.Given as goal
 
 abbrev pub invariant-loop-item : goal.invariant-loop-item

@@ -1,9 +1,6 @@
-use Rattle.std.proofs.Common.{◌≡◌, [], drop, ◌∙◌, ap}
-use Rattle.std.proofs.lemmas.List.{drop_all}
-use Rattle.std.specs.Prelude.{codes}
+use Rattle.std.{proofs.{Common.{◌≡◌, [], drop, ◌∙◌, ap}, lemmas.List.{drop_all}}, specs.Prelude.{codes}}
 use Rattle.hc_fields.specs.FieldElements.{elements_in}
-use Rattle.hc_head.specs.Codings.{is_coding}
-use Rattle.hc_head.specs.Held.{fields_in}
+use Rattle.hc_head.specs.{Codings.{is_coding}, Held.{fields_in}}
 use Rattle.hc_head.proofs.CodingFolds.{coding_next, coding_is}
 use Rattle.hc_head.proofs.lengths.is_chunked.Goals as goal
 

@@ -1,9 +1,6 @@
-use Rattle.std.proofs.Common.{◌≡◌, drop}
-use Rattle.std.specs.Prelude.{codes}
+use Rattle.std.{proofs.Common.{◌≡◌, drop}, specs.Prelude.{codes}}
 use Rattle.hc_fields.specs.FieldElements.{elements_in}
-use Rattle.hc_head.specs.declared.lengths.Coding.TheVariants.{Plain}
-use Rattle.hc_head.specs.Codings.{with_codings}
-use Rattle.hc_head.specs.Held.{fields_in}
+use Rattle.hc_head.specs.{declared.lengths.Coding.TheVariants.{Plain}, Codings.{with_codings}, Held.{fields_in}}
 use Rattle.hc_head.proofs.lengths.is_chunked.Given as goal
 
 abbrev pub invariant-loop-header : goal.invariant-loop-header

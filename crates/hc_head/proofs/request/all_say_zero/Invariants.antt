@@ -1,7 +1,5 @@
-use Rattle.std.proofs.Common.{◌≡◌, drop}
-use Rattle.std.specs.List.{list_all}
-use Rattle.hc_head.specs.Requests.{says_zero}
-use Rattle.hc_head.specs.Held.{fields_in}
+use Rattle.std.{proofs.Common.{◌≡◌, drop}, specs.List.{list_all}}
+use Rattle.hc_head.specs.{Requests.{says_zero}, Held.{fields_in}}
 use Rattle.hc_head.proofs.request.all_say_zero.Given as goal
 
 abbrev pub invariant-loop-header : goal.invariant-loop-header

@@ -1,11 +1,7 @@
-use Rattle.std.proofs.Common.{◌≡◌, length, ap, ◌∙◌, arith, rules}
-use Rattle.std.specs.Prelude.{map}
-use Rattle.std.specs.Option.{option_copied}
+use Rattle.std.{proofs.Common.{◌≡◌, length, ap, ◌∙◌, arith, rules}, specs.{Prelude.{map}, Option.{option_copied}}}
 use Rattle.hc_text.proofs.Basics.{same_some as same_value}
-use Rattle.hc_head.specs.Rules.{lowercase_field, fields_of}
-use Rattle.hc_head.specs.Held.{fields_in}
-use Rattle.hc_head.proofs.HeadFacts.{good_at, same_count, small_asked}
-use Rattle.hc_head.proofs.Calls.{short_call, full_call, no_call, over_call, whole_call}
+use Rattle.hc_head.specs.{Rules.{lowercase_field, fields_of}, Held.{fields_in}}
+use Rattle.hc_head.proofs.{HeadFacts.{good_at, same_count, small_asked}, Calls.{short_call, full_call, no_call, over_call, whole_call}}
 use Rattle.hc_head.proofs.request.call_of.Goals as goal
 
 pub returns-then-len-text : goal.returns-then-len-text

@@ -1,8 +1,5 @@
-use Rattle.std.proofs.Common.{◌≡◌, drop}
-use Rattle.std.specs.Prelude.{codes}
-use Rattle.std.specs.Option.{option_copied}
-use Rattle.hc_fields.specs.FieldList.{values_of}
-use Rattle.hc_fields.specs.FirstValues.{only_of}
+use Rattle.std.{proofs.Common.{◌≡◌, drop}, specs.{Prelude.{codes}, Option.{option_copied}}}
+use Rattle.hc_fields.specs.{FieldList.{values_of}, FirstValues.{only_of}}
 use Rattle.hc_head.specs.Held.{fields_in}
 use Rattle.hc_head.proofs.Hosts.{only_with}
 use Rattle.hc_head.proofs.request.host_of.Given as goal

@@ -1,5 +1,4 @@
-use Rattle.std.proofs.Common.{◌≡◌, sym, ◌∙◌, ap, rules}
-use Rattle.std.specs.Prelude.{None}
+use Rattle.std.{proofs.Common.{◌≡◌, sym, ◌∙◌, ap, rules}, specs.Prelude.{None}}
 use Rattle.url.specs.Setters.{set_fragment}
 use Rattle.hc_head.specs.Requests.{own_key}
 use Rattle.hc_head.proofs.Keys.{no_text_key, read_key_is, key_given}

@@ -1,10 +1,7 @@
-use Rattle.std.proofs.Common.{◌≡◌, length, ap, arith, rules}
-use Rattle.std.specs.Prelude.{map}
+use Rattle.std.{proofs.Common.{◌≡◌, length, ap, arith, rules}, specs.Prelude.{map}}
 use Rattle.hc_text.proofs.Basics.{same_consumer as same_some}
-use Rattle.hc_head.specs.Rules.{lowercase_field, fields_of}
-use Rattle.hc_head.specs.Held.{fields_in}
-use Rattle.hc_head.proofs.HeadFacts.{good_at, same_count, small_headers}
-use Rattle.hc_head.proofs.Replies.{short_reply, full_reply, no_reply, over_reply, whole_reply}
+use Rattle.hc_head.specs.{Rules.{lowercase_field, fields_of}, Held.{fields_in}}
+use Rattle.hc_head.proofs.{HeadFacts.{good_at, same_count, small_headers}, Replies.{short_reply, full_reply, no_reply, over_reply, whole_reply}}
 use Rattle.hc_head.proofs.response.reply_of.Goals as goal
 
 pub returns-then-len-text : goal.returns-then-len-text

@@ -1,8 +1,4 @@
-use Rattle.std.proofs.Common.{◌≡◌, ℕ, ◌+◌, ◌<◌, ◌==◌, List, Option, Some, None, true, false, length, take, drop, get_or, refl, sym, arith, lt-ltb, length-take}
-use Rattle.std.specs.Prelude.{position, nat_lt}
-use Rattle.std.specs.List.{position_or_len}
-use Rattle.std.proofs.lemmas.Bool.{le-ltb, false_from_ne_true}
-use Rattle.std.proofs.lemmas.List.Sums.{position_or_len_is}
+use Rattle.std.{proofs.{Common.{◌≡◌, ℕ, ◌+◌, ◌<◌, ◌==◌, List, Option, Some, None, true, false, length, take, drop, get_or, refl, sym, arith, lt-ltb, length-take}, lemmas.{Bool.{le-ltb, false_from_ne_true}, List.Sums.{position_or_len_is}}}, specs.{Prelude.{position, nat_lt}, List.{position_or_len}}}
 use Rattle.memchr.specs.Find.{IsFirstByte, is_byte}
 use Rattle.hc_text.proofs.Cuts.{cut-position, lacks-all}
 use Rattle.hc_head.specs.Scans.{IsLineEnd}

@@ -1,5 +1,4 @@
-use Rattle.std.proofs.Common.{◌≡◌, ◌+◌, ◌-◌, take, drop, length, length-drop, arith, rules}
-use Rattle.std.proofs.lemmas.List.{take_all}
+use Rattle.std.proofs.{Common.{◌≡◌, ◌+◌, ◌-◌, take, drop, length, length-drop, arith, rules}, lemmas.List.{take_all}}
 use Rattle.hc_head.proofs.ScanLemmas.{Passed-line, Passed-ends, Passed-rest}
 use Rattle.hc_head.proofs.scan.seek.Goals as goal
 

@@ -1,5 +1,4 @@
-use Rattle.std.proofs.Common.{sym, ◌∙◌, codes, ◌∷◌, []}
-use Rattle.std.proofs.lemmas.List.{append_assoc, append_cancel_left}
+use Rattle.std.proofs.{Common.{sym, ◌∙◌, codes, ◌∷◌, []}, lemmas.List.{append_assoc, append_cancel_left}}
 use Rattle.hc_text.proofs.Cuts.{cut_once}
 use Rattle.hc_record.specs.Lines.{number_and_end}
 use Rattle.hc_image.proofs.Once.{item_apart, lacks-target}

@@ -1,5 +1,4 @@
-use Rattle.std.proofs.Common.{arith, sym, ◌∙◌}
-use Rattle.std.proofs.lemmas.List.{append_assoc}
+use Rattle.std.proofs.{Common.{arith, sym, ◌∙◌}, lemmas.List.{append_assoc}}
 use Rattle.hc_record.specs.Lines.{number_and_end}
 use Rattle.hc_image.proofs.Once.{behind}
 use Rattle.hc_image.proofs.item.take_item_numbers.Goals as goal

@@ -1,6 +1,4 @@
-use Rattle.std.proofs.Common.{◌≡◌, false, sym, ap, ◌∙◌, ◌∷◌, [], rules, arith}
-use Rattle.std.proofs.lemmas.Bool.{both_ways}
-use Rattle.std.proofs.lemmas.List.{append_assoc}
+use Rattle.std.proofs.{Common.{◌≡◌, false, sym, ap, ◌∙◌, ◌∷◌, [], rules, arith}, lemmas.{Bool.{both_ways}, List.{append_assoc}}}
 use Rattle.hc_target.specs.Targets.{is_target}
 use Rattle.hc_text.proofs.Cuts.{cut_once}
 use Rattle.hc_image.proofs.Once.{lacks-target}

@@ -1,7 +1,6 @@
 use Rattle.std.proofs.Common.{rules}
 use Rattle.hc_contents.specs.PlainContents.{plain_contents}
-use Rattle.hc_image.proofs.Fitting.{image_of_good}
-use Rattle.hc_image.proofs.Written.{image_written}
+use Rattle.hc_image.proofs.{Fitting.{image_of_good}, Written.{image_written}}
 use Rattle.hc_image.proofs.laws.contents_have_images.Goals as goal
 
 pub returns-clause-has : goal.returns-clause-has

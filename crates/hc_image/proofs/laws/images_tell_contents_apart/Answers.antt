@@ -1,7 +1,5 @@
-use Rattle.std.proofs.Common.{refl, sym, ◌++◌, []}
-use Rattle.std.proofs.lemmas.List.{append-nil}
-use Rattle.hc_image.proofs.Once.{image_once}
-use Rattle.hc_image.proofs.Written.{image_written}
+use Rattle.std.proofs.{Common.{refl, sym, ◌++◌, []}, lemmas.List.{append-nil}}
+use Rattle.hc_image.proofs.{Once.{image_once}, Written.{image_written}}
 use Rattle.hc_image.proofs.laws.images_tell_contents_apart.Goals as goal
 
 pub returns-clause-apart : goal.returns-clause-apart

@@ -1,6 +1,5 @@
 use Rattle.std.proofs.Common.{◌≡◌, ℕ, List, ◌++◌, drop}
-use Rattle.hc_fields.specs.FieldList.{IsListOf}
-use Rattle.hc_fields.specs.Lines.{fields_text}
+use Rattle.hc_fields.specs.{FieldList.{IsListOf}, Lines.{fields_text}}
 use Rattle.hc_image.proofs.record.skip_fields.Given as goal
 
 abbrev pub invariant-loop : goal.invariant-loop

@@ -1,7 +1,6 @@
 use Rattle.std.proofs.Common.{arith, sym, ◌∙◌, length}
-use Rattle.hc_record.proofs.Once.{numbers_apart}
+use Rattle.hc_record.proofs.Once.{numbers_apart, ended_once}
 use Rattle.hc_image.proofs.Once.{behind, numbers_small}
-use Rattle.hc_record.proofs.Once.{ended_once}
 use Rattle.hc_image.proofs.record.take_counts.Goals as goal
 
 pub returns-in_err-_status : goal.returns-in_err-_status

@@ -1,5 +1,4 @@
-use Rattle.std.proofs.Common.{sym, ◌∙◌, ◌∷◌, [], ◌++◌, length}
-use Rattle.std.proofs.lemmas.List.{append_assoc}
+use Rattle.std.proofs.{Common.{sym, ◌∙◌, ◌∷◌, [], ◌++◌, length}, lemmas.List.{append_assoc}}
 use Rattle.hc_image.specs.Images.{run_line}
 use Rattle.hc_image.proofs.Once.{run_line_once}
 use Rattle.hc_image.proofs.runs.take_run.Goals as goal

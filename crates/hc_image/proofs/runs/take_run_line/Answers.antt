@@ -1,5 +1,4 @@
-use Rattle.std.proofs.Common.{arith, sym, ◌∙◌, codes}
-use Rattle.std.proofs.lemmas.List.{append_cancel_left}
+use Rattle.std.proofs.{Common.{arith, sym, ◌∙◌, codes}, lemmas.List.{append_cancel_left}}
 use Rattle.hc_image.proofs.Once.{behind, run_line_apart}
 use Rattle.hc_image.proofs.runs.take_run_line.Goals as goal
 

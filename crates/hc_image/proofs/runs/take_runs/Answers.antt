@@ -1,5 +1,4 @@
-use Rattle.std.proofs.Common.{arith, ◌∷◌, [], length-append}
-use Rattle.std.proofs.lemmas.List.Elements.{All-push}
+use Rattle.std.proofs.{Common.{arith, ◌∷◌, [], length-append}, lemmas.List.Elements.{All-push}}
 use Rattle.hc_image.specs.Images.{HasRunText}
 use Rattle.hc_image.proofs.Lists.{no_runs, one_more_run}
 use Rattle.hc_image.proofs.runs.take_runs.Goals as goal

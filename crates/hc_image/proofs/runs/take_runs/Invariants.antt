@@ -1,6 +1,5 @@
 use Rattle.std.proofs.Common.{◌≡◌, ◌++◌}
-use Rattle.hc_image.specs.Images.{runs_text}
-use Rattle.hc_image.specs.Parts.{AreRuns}
+use Rattle.hc_image.specs.{Images.{runs_text}, Parts.{AreRuns}}
 use Rattle.hc_image.proofs.runs.take_runs.Given as goal
 
 abbrev pub invariant-loop : goal.invariant-loop

@@ -1,10 +1,6 @@
-use Rattle.std.proofs.Common.{◌≡◌, ℕ, List, ◌++◌, ap, ◌∙◌, length}
-use Rattle.std.proofs.lemmas.List.{append_assoc}
-use Rattle.std.proofs.lemmas.Result.{err_from_is_err_and}
+use Rattle.std.proofs.{Common.{◌≡◌, ℕ, List, ◌++◌, ap, ◌∙◌, length}, lemmas.{List.{append_assoc}, Result.{err_from_is_err_and}}}
 use Rattle.hc_fields.proofs.LineLemmas.{begins_with}
-use Rattle.hc_record.specs.declared.version.Version.TheVariants.{Second}
-use Rattle.hc_record.specs.Plain.{plain}
-use Rattle.hc_record.specs.Record.{spelling}
+use Rattle.hc_record.specs.{declared.version.Version.TheVariants.{Second}, Plain.{plain}, Record.{spelling}}
 use Rattle.hc_sparse.specs.declared.run.Run.{Run}
 use Rattle.hc_image.specs.Images.{item_line, runs_text}
 use Rattle.hc_image.proofs.write.write_item.Goals as goal

@@ -1,5 +1,4 @@
-use Rattle.std.proofs.Common.{ap, ◌∙◌, length, take, map}
-use Rattle.std.proofs.lemmas.Result.{err_from_is_err_and}
+use Rattle.std.proofs.{Common.{ap, ◌∙◌, length, take, map}, lemmas.Result.{err_from_is_err_and}}
 use Rattle.hc_fields.proofs.LineLemmas.{begins_with}
 use Rattle.hc_contents.specs.PlainContents.{plain_item}
 use Rattle.hc_image.specs.Images.{items_text}

@@ -1,5 +1,4 @@
-use Rattle.std.proofs.Common.{ap, ◌∙◌, length, take}
-use Rattle.std.proofs.lemmas.Result.{err_from_is_err_and}
+use Rattle.std.proofs.{Common.{ap, ◌∙◌, length, take}, lemmas.Result.{err_from_is_err_and}}
 use Rattle.hc_fields.proofs.LineLemmas.{begins_with}
 use Rattle.hc_image.specs.Images.{runs_text}
 use Rattle.hc_image.proofs.Lists.{runs_next}

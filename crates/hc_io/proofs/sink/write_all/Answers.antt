@@ -1,5 +1,4 @@
-use Rattle.std.proofs.Common.{arith, take, drop}
-use Rattle.std.proofs.lemmas.List.{take-append-drop}
+use Rattle.std.proofs.{Common.{arith, take, drop}, lemmas.List.{take-append-drop}}
 use Rattle.hc_io.proofs.Takings.{takes_next, within_next}
 use Rattle.hc_io.proofs.sink.write_all.Goals as goal
 

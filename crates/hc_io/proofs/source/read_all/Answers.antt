@@ -1,5 +1,4 @@
-use Rattle.std.proofs.Common.{◌≡◌, take, arith, rules, ap, ◌∙◌}
-use Rattle.std.proofs.lemmas.List.{with_items_is, places}
+use Rattle.std.proofs.{Common.{◌≡◌, take, arith, rules, ap, ◌∙◌}, lemmas.List.{with_items_is, places}}
 use Rattle.hc_io.proofs.Givings.{gives_next}
 use Rattle.hc_io.proofs.source.read_all.Goals as goal
 

@@ -1,10 +1,6 @@
 -- What is sound delivers once, and what shows this is kept.
-use Rattle.hc_laws.proofs.GrowsInRuns.{bodies_grow_in_runs}
-use Rattle.hc_laws.proofs.InRuns.{delivers_in_runs}
-use Rattle.hc_laws.proofs.StoresGrow.{stores_grow_in_runs}
-use Rattle.hc_effects.proofs.Once.{delivers_once}
-use Rattle.hc_effects.proofs.Stays.{bodies_are_kept}
-use Rattle.hc_effects.proofs.EventsKeep.{deliveries_are_kept}
+use Rattle.hc_laws.proofs.{GrowsInRuns.{bodies_grow_in_runs}, InRuns.{delivers_in_runs}, StoresGrow.{stores_grow_in_runs}}
+use Rattle.hc_effects.proofs.{Once.{delivers_once}, Stays.{bodies_are_kept}, EventsKeep.{deliveries_are_kept}}
 use Rattle.hc_laws.proofs.laws.deliveries_come_once.Goals as goal
 
 pub returns-clause-once : goal.returns-clause-once

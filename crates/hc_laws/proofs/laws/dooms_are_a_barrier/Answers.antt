@@ -1,6 +1,5 @@
 -- What isn't gone stands behind the last doom of its key, and what shows this is kept.
-use Rattle.hc_laws.proofs.Barred.{barrier_is_kept, barrier_begins}
-use Rattle.hc_laws.proofs.InRuns.{dooms_in_runs, binds_in_runs}
+use Rattle.hc_laws.proofs.{Barred.{barrier_is_kept, barrier_begins}, InRuns.{dooms_in_runs, binds_in_runs}}
 use Rattle.hc_laws.proofs.laws.dooms_are_a_barrier.Goals as goal
 
 pub returns-clause-kept : goal.returns-clause-kept

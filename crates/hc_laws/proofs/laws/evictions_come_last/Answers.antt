@@ -1,8 +1,5 @@
 -- What makes room comes last.
-use Rattle.hc_effects.proofs.Evicting.{evicts_one, any_leaves_one_current}
-use Rattle.hc_effects.proofs.EvictsLast.{evictions_come_last}
-use Rattle.hc_effects.proofs.GivingWay.{makes_room, some_give_way, has_no_room, has_too_large, writes_nothing}
-use Rattle.hc_effects.proofs.IdleNow.{idle_but_gone}
+use Rattle.hc_effects.proofs.{Evicting.{evicts_one, any_leaves_one_current}, EvictsLast.{evictions_come_last}, GivingWay.{makes_room, some_give_way, has_no_room, has_too_large, writes_nothing}, IdleNow.{idle_but_gone}}
 use Rattle.hc_laws.proofs.laws.evictions_come_last.Goals as goal
 
 pub returns-clause-last : goal.returns-clause-last

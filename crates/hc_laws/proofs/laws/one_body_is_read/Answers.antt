@@ -1,7 +1,4 @@
-use Rattle.hc_laws.proofs.GivesStored.{gives_stored_in_runs}
-use Rattle.hc_laws.proofs.ReadEnds.{ends_well}
-use Rattle.hc_laws.proofs.ReadJoined.{bodies_are_read}
-use Rattle.hc_laws.proofs.ReadNext.{gives_next}
+use Rattle.hc_laws.proofs.{GivesStored.{gives_stored_in_runs}, ReadEnds.{ends_well}, ReadJoined.{bodies_are_read}, ReadNext.{gives_next}}
 use Rattle.hc_laws.proofs.laws.one_body_is_read.Goals as goal
 
 pub returns-clause-joined : goal.returns-clause-joined

@@ -1,6 +1,5 @@
 -- One has the turn, and what shows this is kept.
-use Rattle.hc_laws.proofs.InRuns.{turns_in_runs}
-use Rattle.hc_laws.proofs.TurnsKeep.{turns_are_one, turns_are_kept, turns_begin}
+use Rattle.hc_laws.proofs.{InRuns.{turns_in_runs}, TurnsKeep.{turns_are_one, turns_are_kept, turns_begin}}
 use Rattle.hc_laws.proofs.laws.one_has_the_turn.Goals as goal
 
 pub returns-clause-one : goal.returns-clause-one

@@ -1,8 +1,5 @@
 -- An entry leaves what is of other keys, and keeps what is of one key so.
-use Rattle.hc_laws.proofs.InRuns.{keys_in_runs, one_key_in_runs}
-use Rattle.hc_laws.proofs.OpenKeys.{open_keys_in_runs}
-use Rattle.hc_laws.proofs.KeysPlaces.{keys_are_kept, keys_begin}
-use Rattle.hc_laws.proofs.OneKey.{law_of_one_key}
+use Rattle.hc_laws.proofs.{InRuns.{keys_in_runs, one_key_in_runs}, OpenKeys.{open_keys_in_runs}, KeysPlaces.{keys_are_kept, keys_begin}, OneKey.{law_of_one_key}}
 use Rattle.hc_laws.proofs.laws.other_keys_stay.Goals as goal
 
 pub returns-clause-law : goal.returns-clause-law

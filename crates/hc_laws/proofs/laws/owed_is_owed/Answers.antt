@@ -1,7 +1,6 @@
 -- What is owed of a store that never fails may come next.
 use Rattle.hc_effects.proofs.Vocabulary.{tables}
-use Rattle.hc_laws.proofs.LawfulRuns.{lawful_in_runs}
-use Rattle.hc_laws.proofs.OwedEntries.{owed_is_owed}
+use Rattle.hc_laws.proofs.{LawfulRuns.{lawful_in_runs}, OwedEntries.{owed_is_owed}}
 use Rattle.hc_laws.proofs.laws.owed_is_owed.Goals as goal
 
 pub returns : goal.returns

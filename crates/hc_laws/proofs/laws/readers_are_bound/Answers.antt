@@ -1,10 +1,6 @@
 -- Readers are bound to what is there.
-use Rattle.hc_effects.proofs.AboutKeeps.{own_about_kept}
-use Rattle.hc_effects.proofs.BoundKeeps.{binds_kept}
-use Rattle.hc_effects.proofs.FirstKeeps.{ends_kept, one_first_kept}
-use Rattle.hc_effects.proofs.HasBound.{has_bound_kept}
+use Rattle.hc_effects.proofs.{AboutKeeps.{own_about_kept}, BoundKeeps.{binds_kept}, FirstKeeps.{ends_kept, one_first_kept}, HasBound.{has_bound_kept}, ToBeShown.{unshown_kept}}
 use Rattle.hc_laws.proofs.UndueKeeps.{undue_kept}
-use Rattle.hc_effects.proofs.ToBeShown.{unshown_kept}
 use Rattle.hc_laws.proofs.laws.readers_are_bound.Goals as goal
 
 pub returns-clause-there : goal.returns-clause-there

@@ -1,8 +1,7 @@
 -- Readers are served, and exchanges are had.
 use Rattle.hc_model.specs.Laws.{AreServed, AreHad}
 use Rattle.hc_laws.proofs.HadHeaded.{had_kept}
-use Rattle.hc_effects.proofs.OfEntries.{of_entries}
-use Rattle.hc_effects.proofs.ServedKeeps.{served_kept}
+use Rattle.hc_effects.proofs.{OfEntries.{of_entries}, ServedKeeps.{served_kept}}
 use Rattle.hc_laws.proofs.laws.readers_are_served.Goals as goal
 
 pub returns-clause-served : goal.returns-clause-served

@@ -1,6 +1,5 @@
 -- Who has the turn, who is bound, and that no wait goes in a circle.
-use Rattle.hc_laws.proofs.Going.{turns_go, readers_go}
-use Rattle.hc_laws.proofs.WaitsInRuns.{waits_in_runs}
+use Rattle.hc_laws.proofs.{Going.{turns_go, readers_go}, WaitsInRuns.{waits_in_runs}}
 use Rattle.hc_laws.proofs.laws.some_go_on.Goals as goal
 
 pub returns-clause-turn : goal.returns-clause-turn

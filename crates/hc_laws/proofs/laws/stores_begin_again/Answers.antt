@@ -1,10 +1,5 @@
 -- A store may begin with what a run leaves.
-use Rattle.hc_laws.proofs.LeavesGood.{leaves_good}
-use Rattle.hc_laws.proofs.OriginRuns.{origins_in_runs}
-use Rattle.hc_laws.proofs.SizesKeep.{sizes_in_runs}
-use Rattle.hc_laws.proofs.StoredHeadsKeep.{heads_in_runs}
-use Rattle.hc_laws.proofs.TagRuns.{tags_in_runs}
-use Rattle.hc_laws.proofs.TargetRuns.{keys_stay_targets}
+use Rattle.hc_laws.proofs.{LeavesGood.{leaves_good}, OriginRuns.{origins_in_runs}, SizesKeep.{sizes_in_runs}, StoredHeadsKeep.{heads_in_runs}, TagRuns.{tags_in_runs}, TargetRuns.{keys_stay_targets}}
 use Rattle.hc_laws.proofs.laws.stores_begin_again.Goals as goal
 
 pub returns-clause-again : goal.returns-clause-again

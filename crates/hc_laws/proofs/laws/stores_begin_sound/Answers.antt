@@ -1,5 +1,4 @@
-use Rattle.hc_laws.proofs.Begins.{begun_sound}
-use Rattle.hc_laws.proofs.Starts.{starts}
+use Rattle.hc_laws.proofs.{Begins.{begun_sound}, Starts.{starts}}
 use Rattle.hc_laws.proofs.laws.stores_begin_sound.Goals as goal
 
 pub returns-clause-sound : goal.returns-clause-sound

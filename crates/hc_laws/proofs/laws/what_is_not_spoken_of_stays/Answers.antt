@@ -1,6 +1,5 @@
 -- What an entry doesn't speak of stays.
-use Rattle.hc_effects.proofs.Frames.{parts_are_kept, others_stay, others_dont_go, gone_is_caused, exchanges_stay}
-use Rattle.hc_effects.proofs.Standing.{standers_stay, readers_stay, starting_over_is_caused, others_stand_still, bound_stay, current_stays, founded_is_current}
+use Rattle.hc_effects.proofs.{Frames.{parts_are_kept, others_stay, others_dont_go, gone_is_caused, exchanges_stay}, Standing.{standers_stay, readers_stay, starting_over_is_caused, others_stand_still, bound_stay, current_stays, founded_is_current}}
 use Rattle.hc_laws.proofs.laws.what_is_not_spoken_of_stays.Goals as goal
 
 pub returns-clause-parts : goal.returns-clause-parts

@@ -1,7 +1,6 @@
 -- Who leaves is over, and all others are as live as they were.
 use Rattle.hc_effects.proofs.Vocabulary.{tables}
-use Rattle.hc_laws.proofs.LawfulRuns.{lawful_in_runs}
-use Rattle.hc_laws.proofs.LeaverGoes.{leaver_goes}
+use Rattle.hc_laws.proofs.{LawfulRuns.{lawful_in_runs}, LeaverGoes.{leaver_goes}}
 use Rattle.hc_laws.proofs.laws.who_leaves_goes.Goals as goal
 
 pub returns : goal.returns

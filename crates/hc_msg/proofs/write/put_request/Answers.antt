@@ -1,5 +1,4 @@
-use Rattle.std.proofs.Common.{◌++◌, rules}
-use Rattle.std.specs.Prelude.{codes}
+use Rattle.std.{proofs.Common.{◌++◌, rules}, specs.Prelude.{codes}}
 use Rattle.hc_msg.specs.Writing.{crlf, lines_of, host_line, request_line}
 use Rattle.hc_msg.proofs.Chains.{four}
 use Rattle.hc_msg.proofs.write.put_request.Goals as goal

@@ -1,5 +1,4 @@
-use Rattle.std.proofs.Common.{◌≡◌, sym, subst, ◌∙◌, rules}
-use Rattle.std.specs.Prelude.{IsUtf8}
+use Rattle.std.{proofs.Common.{◌≡◌, sym, subst, ◌∙◌, rules}, specs.Prelude.{IsUtf8}}
 use Rattle.hc_head.proofs.Keys.{target_text, target_faults}
 use Rattle.hc_msg.proofs.write.url_of.Goals as goal
 

@@ -1,7 +1,5 @@
-use Rattle.std.proofs.Common.{◌≡◌, ◌++◌, Result, Ok, Err, subst}
-use Rattle.std.specs.Prelude.{OnOk, None}
-use Rattle.url.specs.Parts.{Parts}
-use Rattle.url.specs.Parser.{parse_url}
+use Rattle.std.{proofs.Common.{◌≡◌, ◌++◌, Result, Ok, Err, subst}, specs.Prelude.{OnOk, None}}
+use Rattle.url.specs.{Parts.{Parts}, Parser.{parse_url}}
 use Rattle.hc_text.specs.declared.memory.NoMemory.{NoMemory}
 use Rattle.hc_msg.specs.Writing.{request_text}
 use Rattle.hc_head.proofs.Keys.{same_read}

@@ -1,6 +1,5 @@
 use Rattle.std.proofs.Common.{refl}
-use Rattle.hc_on_body.proofs.Bringing.{comes_below}
-use Rattle.hc_on_body.proofs.LostPiece.{held_answered}
+use Rattle.hc_on_body.proofs.{Bringing.{comes_below}, LostPiece.{held_answered}}
 use Rattle.hc_on_body.proofs.piece.hold_piece.Goals as goal
 
 pub piece-requires-clause-below : goal.piece-requires-clause-below

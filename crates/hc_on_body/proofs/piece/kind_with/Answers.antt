@@ -1,9 +1,6 @@
-use Rattle.std.proofs.Common.{◌≡◌, ◌+◌, ◌≤◌, ◌^◌, false, ap, sym, ◌∙◌, arith}
-use Rattle.std.specs.Prelude.{option_map}
+use Rattle.std.{proofs.Common.{◌≡◌, ◌+◌, ◌≤◌, ◌^◌, false, ap, sym, ◌∙◌, arith}, specs.Prelude.{option_map}}
 use Rattle.hc_text.proofs.Basics.{some_inj as some_is}
-use Rattle.hc_stored.specs.declared.view.EntryView.{EntryView}
-use Rattle.hc_stored.specs.Entries.{shelf_of}
-use Rattle.hc_stored.specs.Views.{view_of}
+use Rattle.hc_stored.specs.{declared.view.EntryView.{EntryView}, Entries.{shelf_of}, Views.{view_of}}
 use Rattle.hc_effects.proofs.Vocabulary.{is_complete}
 use Rattle.hc_on_leave.proofs.PieceKinds.{complete_with, incomplete_with, front_with, is_whole, is_truncated, is_parts, entry_small, none_told}
 use Rattle.hc_on_body.proofs.piece.kind_with.Goals as goal

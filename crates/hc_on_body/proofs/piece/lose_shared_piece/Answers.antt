@@ -1,8 +1,6 @@
-use Rattle.std.proofs.Common.{◌≡◌, inl, inr, Bool, true, false, refl, ◌∙◌, sym, ap, subst}
-use Rattle.std.specs.Prelude.{not, is_some}
+use Rattle.std.{proofs.Common.{◌≡◌, inl, inr, Bool, true, false, refl, ◌∙◌, sym, ap, subst}, specs.Prelude.{not, is_some}}
 use Rattle.hc_effects.proofs.Vocabulary.{act_list}
-use Rattle.hc_exch.specs.Exchanges.{table_of, Becomes}
-use Rattle.hc_exch.specs.Known.{with_piece}
+use Rattle.hc_exch.specs.{Exchanges.{table_of, Becomes}, Known.{with_piece}}
 use Rattle.hc_on_body.proofs.LosePiece.{stays_so, closes_it}
 use Rattle.hc_on_leave.proofs.StoreHandler.{accepted_open}
 use Rattle.hc_on_body.proofs.piece.lose_shared_piece.Goals as goal

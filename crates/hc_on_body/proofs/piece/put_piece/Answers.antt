@@ -1,16 +1,11 @@
-use Rattle.std.proofs.Common.{◌≡◌, ◌+◌, length, refl, ap, sym, ◌∙◌, subst}
-use Rattle.std.specs.Prelude.{option_map}
+use Rattle.std.{proofs.Common.{◌≡◌, ◌+◌, length, refl, ap, sym, ◌∙◌, subst}, specs.Prelude.{option_map}}
 use Rattle.hc_text.proofs.Basics.{some_inj as some_is}
 use Rattle.hc_sparse.specs.Cells.{cells_with}
-use Rattle.hc_stored.specs.Entries.{shelf_of}
-use Rattle.hc_stored.specs.Kept.{kept_with_bytes}
+use Rattle.hc_stored.specs.{Entries.{shelf_of}, Kept.{kept_with_bytes}, Shelf.{same_order}}
 use Rattle.hc_stored.specs.Shelf as shelf
-use Rattle.hc_stored.specs.Shelf.{same_order}
 use Rattle.hc_stored.specs.Views as views
-use Rattle.hc_exch.specs.declared.row.ExchangeView.{ExchangeView}
-use Rattle.hc_exch.specs.Known.{view_of, is_all}
-use Rattle.hc_state.specs.Pieces.{larger_view, IsLastKind}
-use Rattle.hc_state.specs.Stops.{IsViewOf}
+use Rattle.hc_exch.specs.{declared.row.ExchangeView.{ExchangeView}, Known.{view_of, is_all}}
+use Rattle.hc_state.specs.{Pieces.{larger_view, IsLastKind}, Stops.{IsViewOf}}
 use Rattle.hc_state.proofs.Words.{ok_then}
 use Rattle.hc_on_body.proofs.piece.put_piece.Goals as goal
 

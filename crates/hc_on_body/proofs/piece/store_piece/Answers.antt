@@ -1,22 +1,15 @@
-use Rattle.std.proofs.Common.{◌≡◌, ◌+◌, length, false, Option, Some, refl, ap, sym, ◌∙◌, subst, arith}
+use Rattle.std.{proofs.Common.{◌≡◌, ◌+◌, length, false, Option, Some, refl, ap, sym, ◌∙◌, subst, arith}, specs.Prelude.{Result, Ok, Err, is_some}}
 use Rattle.hc_sparse.specs.Cells.{size}
 use Rattle.hc_effects.proofs.Vocabulary.{act_list, spare, LostKind}
 use Rattle.hc_rules.specs.declared.room.Write.TheVariants as write
-use Rattle.hc_stored.specs.Entries.{shelf_of}
-use Rattle.hc_stored.specs.Kept.{Kept}
-use Rattle.hc_exch.specs.declared.exchanges.Exchanges.{Exchanges}
-use Rattle.hc_exch.specs.Exchanges.{table_of, Becomes}
-use Rattle.hc_exch.specs.Known.{with_piece, EndsBelow}
+use Rattle.hc_stored.specs.{Entries.{shelf_of}, Kept.{Kept}, Shelf.{size_at}}
+use Rattle.hc_exch.specs.{declared.exchanges.Exchanges.{Exchanges}, Exchanges.{table_of, Becomes}, Known.{with_piece, EndsBelow}}
 use Rattle.hc_text.specs.declared.memory.NoMemory.{NoMemory}
 use Rattle.hc_store.specs.declared.error.StoreError.{StoreError}
-use Rattle.hc_stored.specs.Shelf.{size_at}
 use Rattle.hc_state.specs.Room.{loss_by}
-use Rattle.std.specs.Prelude.{Result, Ok, Err, is_some}
 use Rattle.hc_text.proofs.Basics.{same_some as same_row}
-use Rattle.hc_on_body.proofs.Bringing.{comes_below, may_bring}
-use Rattle.hc_on_body.proofs.FewActs.{has_few, leaves_two}
-use Rattle.hc_on_leave.proofs.RefusedPiece.{refused_by}
-use Rattle.hc_on_leave.proofs.StoreHandler.{kept_of, kept_mid, absent_mid, answered_mid, refused_mid}
+use Rattle.hc_on_body.proofs.{Bringing.{comes_below, may_bring}, FewActs.{has_few, leaves_two}}
+use Rattle.hc_on_leave.proofs.{RefusedPiece.{refused_by}, StoreHandler.{kept_of, kept_mid, absent_mid, answered_mid, refused_mid}}
 use Rattle.hc_on_body.proofs.piece.store_piece.Goals as goal
 
 pub make_room-requires : goal.make_room-requires

@@ -1,11 +1,8 @@
 use Rattle.std.proofs.Common.{◌≡◌, true, ap, sym, subst}
-use Rattle.hc_exch.specs.declared.exchanges.Exchanges.{Exchanges}
-use Rattle.hc_exch.specs.Exchanges.{table_of}
-use Rattle.hc_exch.specs.Known.{is_open}
+use Rattle.hc_exch.specs.{declared.exchanges.Exchanges.{Exchanges}, Exchanges.{table_of}, Known.{is_open}}
 use Rattle.hc_stored.specs.Entries.{shelf_of}
 use Rattle.hc_effects.proofs.Vocabulary.{act_list}
-use Rattle.hc_state.specs.Stopped.{HasStopped, MayStop}
-use Rattle.hc_state.specs.Stored.{TellsShort}
+use Rattle.hc_state.specs.{Stopped.{HasStopped, MayStop}, Stored.{TellsShort}}
 use Rattle.hc_on_leave.proofs.Shorts.{shorts_here}
 use Rattle.hc_on_body.proofs.StopHandler.{breaks_off}
 use Rattle.hc_on_body.proofs.stop.break_off.Goals as goal

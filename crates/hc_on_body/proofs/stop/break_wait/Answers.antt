@@ -1,5 +1,4 @@
-use Rattle.std.proofs.Common.{nat_eq, refl, ◌∙◌}
-use Rattle.std.specs.HashMap.{get}
+use Rattle.std.{proofs.Common.{nat_eq, refl, ◌∙◌}, specs.HashMap.{get}}
 use Rattle.hc_event.specs.declared.act.Cause.TheVariants as cause
 use Rattle.hc_state.specs.Leaving.{LeavesPlace}
 use Rattle.hc_on_body.proofs.BreakHandler.{stands_broken}

@@ -4,8 +4,7 @@ use Rattle.hc_event.specs.declared.act.Cause.TheVariants as cause
 use Rattle.hc_stored.specs.Entries.{shelf_of}
 use Rattle.hc_effects.proofs.StopFrames.{end_of}
 use Rattle.hc_state.specs.Stopped.{BrokeOff}
-use Rattle.hc_on_body.proofs.OpenViews.{viewed, is_broken}
-use Rattle.hc_on_body.proofs.ShortAnswers.{short_answered}
+use Rattle.hc_on_body.proofs.{OpenViews.{viewed, is_broken}, ShortAnswers.{short_answered}}
 use Rattle.hc_on_body.proofs.stop.end.Goals as goal
 
 pub returns-in-Some-clause-answers : goal.returns-in-Some-clause-answers

@@ -1,18 +1,12 @@
-use Rattle.std.proofs.Common.{◌≡◌, ℕ, ◌^◌, None, refl, ap, ◌∙◌, subst}
-use Rattle.std.specs.Prelude.{is_some}
+use Rattle.std.{proofs.Common.{◌≡◌, ℕ, ◌^◌, None, refl, ap, ◌∙◌, subst}, specs.Prelude.{is_some}}
 use Rattle.hc_text.proofs.Basics.{same_some as same_row}
 use Rattle.hc_effects.proofs.Vocabulary.{act_list, promised_bytes}
-use Rattle.hc_stored.specs.Entries.{shelf_of}
-use Rattle.hc_stored.specs.Kept.{itself}
-use Rattle.hc_stored.specs.Views.{bound_in}
+use Rattle.hc_stored.specs.{Entries.{shelf_of}, Kept.{itself}, Views.{bound_in}}
 use Rattle.hc_sorted.specs.Sorted.{has}
 use Rattle.hc_effects.proofs.LettingGo.{may_let_go}
-use Rattle.hc_state.specs.Changes.{ChangesAmong, with_end}
-use Rattle.hc_state.specs.Stopped.{SealedWhole}
-use Rattle.hc_state.proofs.Maps.{merely_true, merely_below}
-use Rattle.hc_on_body.proofs.OpenViews.{viewed}
-use Rattle.hc_on_body.proofs.WholeAnswers.{past_answered, whole_answered, brought_row, unbrought, brought_kept, delivered_short, nobody_alone, own_family}
-use Rattle.hc_state.proofs.Words.{few_received}
+use Rattle.hc_state.specs.{Changes.{ChangesAmong, with_end}, Stopped.{SealedWhole}}
+use Rattle.hc_state.proofs.{Maps.{merely_true, merely_below}, Words.{few_received}}
+use Rattle.hc_on_body.proofs.{OpenViews.{viewed}, WholeAnswers.{past_answered, whole_answered, brought_row, unbrought, brought_kept, delivered_short, nobody_alone, own_family}}
 use Rattle.hc_on_body.proofs.stop.end_whole.Goals as goal
 
 pub seal_whole-requires-clause-there : goal.seal_whole-requires-clause-there

@@ -1,14 +1,10 @@
-use Rattle.std.proofs.Common.{◌≡◌, ◌⊎◌, inl, inr, nat_eq, true, false, sym, ◌∙◌}
-use Rattle.std.specs.Prelude.{is_some}
-use Rattle.std.specs.HashMap.{get}
+use Rattle.std.{proofs.Common.{◌≡◌, ◌⊎◌, inl, inr, nat_eq, true, false, sym, ◌∙◌}, specs.{Prelude.{is_some}, HashMap.{get}}}
 use Rattle.hc_text.proofs.Basics.{false_true}
 use Rattle.hc_effects.proofs.Vocabulary.{act_list}
 use Rattle.hc_stored.specs.Entries.{shelf_of}
 use Rattle.hc_state.specs.Stops.{is_shown}
 use Rattle.hc_state.proofs.Maps.{merely_true}
-use Rattle.hc_on_body.proofs.OpenViews.{viewed, waiter_lives, is_broken, waited}
-use Rattle.hc_on_body.proofs.StopAnswers.{fault_answered, wait_answered}
-use Rattle.hc_on_body.proofs.stop.fault.Goals.{then-view, else-view}
+use Rattle.hc_on_body.proofs.{OpenViews.{viewed, waiter_lives, is_broken, waited}, StopAnswers.{fault_answered, wait_answered}, stop.fault.Goals.{then-view, else-view}}
 use Rattle.hc_on_body.proofs.stop.fault.Goals as goal
 
 pub break_wait-requires-clause-may : goal.break_wait-requires-clause-may

@@ -1,15 +1,11 @@
-use Rattle.std.proofs.Common.{◌<◌, ℕ, [], ◌∷◌, ◌++◌, Some, nat_eq, ap, sym, ◌∙◌, subst}
-use Rattle.std.specs.Prelude.{IsSomeAnd}
-use Rattle.std.specs.HashMap.{get}
+use Rattle.std.{proofs.Common.{◌<◌, ℕ, [], ◌∷◌, ◌++◌, Some, nat_eq, ap, sym, ◌∙◌, subst}, specs.{Prelude.{IsSomeAnd}, HashMap.{get}}}
 use Rattle.hc_effects.proofs.Vocabulary.{act_list, back_in_line, with_consumer}
 use Rattle.hc_event.specs.declared.act.Act.TheVariants as act
 use Rattle.hc_event.specs.declared.act.LostKind.TheVariants as kind
 use Rattle.hc_stored.specs.Entries.{shelf_of}
-use Rattle.hc_state.specs.Handlers.{IsInKey}
-use Rattle.hc_state.specs.Stands.{RowsStand}
-use Rattle.hc_on_leave.proofs.HeardRows.{asker_of, asked_by}
+use Rattle.hc_state.specs.{Handlers.{IsInKey}, Stands.{RowsStand}}
+use Rattle.hc_on_leave.proofs.{HeardRows.{asker_of, asked_by}, LoseTurn.{v, there, kept, heard, heard_stands, quiet, may_lose, unwritten, alone_answered, written_answered}}
 use Rattle.hc_on_head.proofs.LoseAsked.{awaits_it, kept_still, open_still}
-use Rattle.hc_on_leave.proofs.LoseTurn.{v, there, kept, heard, heard_stands, quiet, may_lose, unwritten, alone_answered, written_answered}
 use Rattle.hc_on_head.proofs.asked.lose_asked.Goals as goal
 
 pub lose_writing-requires-clause-there : goal.lose_writing-requires-clause-there

@@ -1,5 +1,4 @@
-use Rattle.std.proofs.Common.{nat_eq, refl}
-use Rattle.std.specs.HashMap.{get}
+use Rattle.std.{proofs.Common.{nat_eq, refl}, specs.HashMap.{get}}
 use Rattle.hc_state.specs.Handlers.{IsInKey}
 use Rattle.hc_state.proofs.Maps.{known_of, lent}
 use Rattle.hc_on_head.proofs.PassHandler.{through_as}

@@ -1,6 +1,5 @@
-use Rattle.std.proofs.Common.{Some, None, refl, ap, ◌∙◌, arith}
+use Rattle.std.{proofs.Common.{Some, None, refl, ap, ◌∙◌, arith}, specs.Prelude.{is_some}}
 use Rattle.hc_exch.specs.Known.{Known}
-use Rattle.std.specs.Prelude.{is_some}
 use Rattle.hc_effects.proofs.Vocabulary.{act_list, spare}
 use Rattle.hc_state.specs.Dooms.{behind}
 use Rattle.hc_on_head.proofs.DoomLoops.{none_closed, known_yet, fits_yet, one_closed, all_closed, next_as}

@@ -1,12 +1,8 @@
-use Rattle.std.proofs.Common.{◌+◌, ◌<◌, length, arith}
-use Rattle.std.proofs.Math.Logic.{∥∥₁_map}
-use Rattle.std.specs.HashMap.{hash_map_len}
+use Rattle.std.{proofs.{Common.{◌+◌, ◌<◌, length, arith}, Math.Logic.{∥∥₁_map}}, specs.HashMap.{hash_map_len}}
 use Rattle.hc_effects.proofs.Vocabulary.{act_list}
-use Rattle.hc_exch.specs.Exchanges.{table_of}
-use Rattle.hc_exch.specs.Known.{is_open}
+use Rattle.hc_exch.specs.{Exchanges.{table_of}, Known.{is_open}}
 use Rattle.hc_state.specs.Dooms.{IsUnheard}
-use Rattle.hc_on_head.proofs.DoomHandler.{dooms, keeps_line, if_some}
-use Rattle.hc_on_head.proofs.DoomCloses.{runs, few_close}
+use Rattle.hc_on_head.proofs.{DoomHandler.{dooms, keeps_line, if_some}, DoomCloses.{runs, few_close}}
 use Rattle.hc_state.proofs.Maps.{merely_true, merely_below}
 use Rattle.hc_on_head.proofs.doom.doom.Goals as goal
 

@@ -3,8 +3,7 @@ use Rattle.hc_effects.proofs.Vocabulary.{act_list, awaited_and}
 use Rattle.hc_event.specs.declared.event.Event.TheVariants as event
 use Rattle.hc_stored.specs.Entries.{shelf_of}
 use Rattle.hc_effects.proofs.DoomEffects.{doom_does}
-use Rattle.hc_state.proofs.Answering.{does_answered}
-use Rattle.hc_state.proofs.Counting.{stands_counted}
+use Rattle.hc_state.proofs.{Answering.{does_answered}, Counting.{stands_counted}}
 use Rattle.hc_on_leave.proofs.LeaveHandlers.{flawless}
 use Rattle.hc_on_head.proofs.doom.take_doom.Goals as goal
 

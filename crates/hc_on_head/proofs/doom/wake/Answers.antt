@@ -1,7 +1,6 @@
 use Rattle.std.proofs.Common.{◌+◌, sym, ◌∙◌, subst}
 use Rattle.hc_text.proofs.Basics.{none_or as none_is}
-use Rattle.hc_on_head.proofs.WakeLoop.{WokenSoFar, begins, no_seat, user, one_back, all_over, entries_then, all_lined}
-use Rattle.hc_on_head.proofs.doom.wake.Goals.{in-Some, in_default}
+use Rattle.hc_on_head.proofs.{WakeLoop.{WokenSoFar, begins, no_seat, user, one_back, all_over, entries_then, all_lined}, doom.wake.Goals.{in-Some, in_default}}
 use Rattle.hc_on_head.proofs.doom.wake.Goals as goal
 
 pub loop-i-init : goal.loop-i-init

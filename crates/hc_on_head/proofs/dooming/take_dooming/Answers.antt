@@ -1,13 +1,9 @@
-use Rattle.std.proofs.Common.{Some, None, refl, ap, sym, ◌∙◌, subst}
-use Rattle.std.specs.Prelude.{option_map}
+use Rattle.std.{proofs.Common.{Some, None, refl, ap, sym, ◌∙◌, subst}, specs.Prelude.{option_map}}
 use Rattle.hc_effects.proofs.Vocabulary.{act_list}
-use Rattle.hc_exch.specs.Exchanges.{table_of}
-use Rattle.hc_exch.specs.Openings.{opened_with}
-use Rattle.hc_state.specs.Dooms.{IsDoomed, IsUnheard}
-use Rattle.hc_state.specs.Heads.{is_bad_case}
+use Rattle.hc_exch.specs.{Exchanges.{table_of}, Openings.{opened_with}}
+use Rattle.hc_state.specs.{Dooms.{IsDoomed, IsUnheard}, Heads.{is_bad_case}}
 use Rattle.hc_on_leave.proofs.HeardRows.{asker_of, asked_by}
-use Rattle.hc_on_head.proofs.DoomingHandlers.{past_place, accepted_then, good_then, dooming_taken, dooming_bad, unheard_as}
-use Rattle.hc_on_head.proofs.HeadTold.{taken_case}
+use Rattle.hc_on_head.proofs.{DoomingHandlers.{past_place, accepted_then, good_then, dooming_taken, dooming_bad, unheard_as}, HeadTold.{taken_case}}
 use Rattle.hc_on_head.proofs.dooming.take_dooming.Goals as goal
 
 pub doom-requires-clause-unheard : goal.doom-requires-clause-unheard

@@ -1,15 +1,10 @@
-use Rattle.std.proofs.Common.{◌≡◌, ℕ, Option, Some, not, refl, ap, sym, ◌∙◌, subst}
-use Rattle.std.specs.Prelude.{option_map}
+use Rattle.std.{proofs.Common.{◌≡◌, ℕ, Option, Some, not, refl, ap, sym, ◌∙◌, subst}, specs.Prelude.{option_map}}
 use Rattle.hc_record.specs.Plain.{plain}
-use Rattle.hc_stored.specs.Entries.{shelf_of}
-use Rattle.hc_stored.specs.Kept.{founded_kept}
-use Rattle.hc_stored.specs.Shelf.{Becomes, first_in}
-use Rattle.hc_exch.specs.Exchanges.{table_of}
-use Rattle.hc_exch.specs.Openings.{opened_with}
+use Rattle.hc_stored.specs.{Entries.{shelf_of}, Kept.{founded_kept}, Shelf.{Becomes, first_in}}
+use Rattle.hc_exch.specs.{Exchanges.{table_of}, Openings.{opened_with}}
 use Rattle.hc_state.specs.Founding.{writer_by}
-use Rattle.hc_on_head.proofs.FoundSlot.{brings_founded, current_of}
+use Rattle.hc_on_head.proofs.{FoundSlot.{brings_founded, current_of}, found.found_with.Goals.{then-shared, else-shared}}
 use Rattle.hc_on_head.proofs.found.found_with.Goals as goal
-use Rattle.hc_on_head.proofs.found.found_with.Goals.{then-shared, else-shared}
 
 pub returns-clause-ok : goal.returns-clause-ok
 returns-clause-ok g c =

@@ -1,8 +1,7 @@
 use Rattle.std.proofs.Common.{◌≡◌, ap, sym, ◌∙◌}
 use Rattle.hc_effects.proofs.Vocabulary.{total_of_part, promise_of}
-use Rattle.hc_on_head.proofs.FoundSlot.{total_with, total_small, total_then, total_else}
+use Rattle.hc_on_head.proofs.{FoundSlot.{total_with, total_small, total_then, total_else}, found.head_founded.Goals.{then-response-eq206, else-response-eq206}}
 use Rattle.hc_on_head.proofs.found.head_founded.Goals as goal
-use Rattle.hc_on_head.proofs.found.head_founded.Goals.{then-response-eq206, else-response-eq206}
 
 pub founded_head-requires-clause-total : goal.founded_head-requires-clause-total
 founded_head-requires-clause-total g c =

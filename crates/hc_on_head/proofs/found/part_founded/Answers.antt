@@ -1,5 +1,4 @@
-use Rattle.std.proofs.Common.{nat_eq}
-use Rattle.std.specs.HashMap.{get}
+use Rattle.std.{proofs.Common.{nat_eq}, specs.HashMap.{get}}
 use Rattle.hc_on_head.proofs.HeadViews.{merely_ordered, range_ordered}
 use Rattle.hc_state.proofs.Maps.{lent}
 use Rattle.hc_on_head.proofs.found.part_founded.Goals as goal

@@ -1,9 +1,7 @@
 use Rattle.std.proofs.Common.{ap, arith}
 use Rattle.hc_state.specs.Heads.{starts_anew}
-use Rattle.hc_on_head.proofs.HeadTold.{live_now, heard_now, waits_as_told, told_as, past_of_runs, past_as, told_dooming, told_unselected}
-use Rattle.hc_on_head.proofs.JoinHeads.{fits_as}
-use Rattle.hc_state.proofs.Words.{ok_then}
-use Rattle.hc_state.proofs.Kept.{few_kept}
+use Rattle.hc_on_head.proofs.{HeadTold.{live_now, heard_now, waits_as_told, told_as, past_of_runs, past_as, told_dooming, told_unselected}, JoinHeads.{fits_as}}
+use Rattle.hc_state.proofs.{Words.{ok_then}, Kept.{few_kept}}
 use Rattle.hc_on_head.proofs.head.take_head.Goals as goal
 
 pub case_of-case-requires-clause-live : goal.case_of-case-requires-clause-live

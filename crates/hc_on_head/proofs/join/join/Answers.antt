@@ -1,13 +1,9 @@
-use Rattle.std.proofs.Common.{◌<◌, ℕ, Some, true, false, Err, ap, sym, ◌∙◌, subst, arith}
-use Rattle.std.specs.Prelude.{is_some, nat_eq}
-use Rattle.std.specs.HashMap.{get}
+use Rattle.std.{proofs.Common.{◌<◌, ℕ, Some, true, false, Err, ap, sym, ◌∙◌, subst, arith}, specs.{Prelude.{is_some, nat_eq}, HashMap.{get}}}
 use Rattle.hc_effects.proofs.Vocabulary.{act_list}
 use Rattle.hc_stored.specs.Entries.{shelf_of}
 use Rattle.hc_exch.specs.Exchanges.{table_of}
 use Rattle.hc_effects.proofs.LettingGo.{may_let_go}
-use Rattle.hc_on_head.proofs.JoinHandler.{join_of, gone_joined, past_answered, stands_alone, stands_shared, joins_answered, holds_alone, kept_growing, brings_lost, lost_answered}
-use Rattle.hc_on_head.proofs.JoinTold.{joins_of}
-use Rattle.hc_on_head.proofs.TurnHandler.{stands_unrenewed}
+use Rattle.hc_on_head.proofs.{JoinHandler.{join_of, gone_joined, past_answered, stands_alone, stands_shared, joins_answered, holds_alone, kept_growing, brings_lost, lost_answered}, JoinTold.{joins_of}, TurnHandler.{stands_unrenewed}}
 use Rattle.hc_on_head.proofs.join.join.Goals as goal
 
 pub returns-then-is_lost-clause-answers : goal.returns-then-is_lost-clause-answers

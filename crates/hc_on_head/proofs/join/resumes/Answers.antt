@@ -1,6 +1,4 @@
-use Rattle.std.proofs.Common.{ℕ, nat_eq, ap, sym, ◌∙◌, subst}
-use Rattle.std.specs.Prelude.{option_map, ◌↔◌, IsTrue}
-use Rattle.std.specs.HashMap.{get}
+use Rattle.std.{proofs.Common.{ℕ, nat_eq, ap, sym, ◌∙◌, subst}, specs.{Prelude.{option_map, ◌↔◌, IsTrue}, HashMap.{get}}}
 use Rattle.hc_stored.specs.Entries.{shelf_of}
 use Rattle.hc_exch.specs.Openings.{opened_with}
 use Rattle.hc_state.specs.Joining.{LacksOnly}

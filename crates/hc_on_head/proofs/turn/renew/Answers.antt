@@ -1,11 +1,8 @@
-use Rattle.std.proofs.Common.{refl, ap, sym, ◌∙◌}
-use Rattle.std.specs.Prelude.{option_map}
-use Rattle.hc_exch.specs.Exchanges.{table_of}
-use Rattle.hc_exch.specs.Openings.{opened_with}
+use Rattle.std.{proofs.Common.{refl, ap, sym, ◌∙◌}, specs.Prelude.{option_map}}
+use Rattle.hc_exch.specs.{Exchanges.{table_of}, Openings.{opened_with}}
 use Rattle.hc_record.specs.Plain.{plain}
 use Rattle.hc_stored.specs.Entries.{shelf_of}
-use Rattle.hc_state.proofs.Renewing.{opened_moment, renewed_by}
-use Rattle.hc_state.proofs.Words.{ok_then}
+use Rattle.hc_state.proofs.{Renewing.{opened_moment, renewed_by}, Words.{ok_then}}
 use Rattle.hc_on_head.proofs.turn.renew.Goals as goal
 
 pub returns-clause-ok : goal.returns-clause-ok

@@ -1,7 +1,6 @@
 use Rattle.std.proofs.Common.{ap, sym, ◌∙◌}
 use Rattle.hc_stored.specs.Entries.{shelf_of}
-use Rattle.hc_record.specs.Head.{Head}
-use Rattle.hc_record.specs.Plain.{plain}
+use Rattle.hc_record.specs.{Head.{Head}, Plain.{plain}}
 use Rattle.hc_validate.specs.Selection.{selects}
 use Rattle.hc_state.proofs.Renewing.{head_is, renews_read}
 use Rattle.hc_on_head.proofs.turn.select.Goals as goal

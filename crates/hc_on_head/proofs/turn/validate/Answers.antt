@@ -1,5 +1,4 @@
-use Rattle.std.proofs.Common.{◌≡◌, ℕ, true, false, Some, Ok, Err, refl, ap, sym, ◌∙◌, subst}
-use Rattle.std.specs.Prelude.{is_some}
+use Rattle.std.{proofs.Common.{◌≡◌, ℕ, true, false, Some, Ok, Err, refl, ap, sym, ◌∙◌, subst}, specs.Prelude.{is_some}}
 use Rattle.hc_text.proofs.Basics.{none_or as none_is}
 use Rattle.hc_effects.proofs.Vocabulary.{act_list, head_view, with_consumer, with_representation, with_refreshed_head}
 use Rattle.hc_event.specs.declared.event.Event.TheVariants as event
@@ -7,10 +6,8 @@ use Rattle.hc_rules.specs.declared.heads.HeadCase.TheVariants as case
 use Rattle.hc_stored.specs.Entries.{shelf_of}
 use Rattle.hc_entry.specs.Keys.{kept_of}
 use Rattle.hc_event.specs.declared.place.Place.TheVariants as place
-use Rattle.hc_state.specs.Stands.{RowsStand}
-use Rattle.hc_state.specs.Stored.{is_usable_kept}
-use Rattle.hc_on_leave.proofs.HeadCases.{case_unselected}
-use Rattle.hc_on_leave.proofs.HeardRows.{asker_of, asked_by}
+use Rattle.hc_state.specs.{Stands.{RowsStand}, Stored.{is_usable_kept}}
+use Rattle.hc_on_leave.proofs.{HeadCases.{case_unselected}, HeardRows.{asker_of, asked_by}}
 use Rattle.hc_on_head.proofs.TurnHandler.{answered_on, heard_on, usable_still, waits_on, at_turn, current_still, key_heard, not_still, selected_of, stands_selected, stands_unrenewed, still, tells_selected, there_still, unselected_case, unstill_as, validated_answered}
 use Rattle.hc_on_head.proofs.turn.validate.Goals as goal
 

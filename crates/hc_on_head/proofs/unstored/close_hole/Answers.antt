@@ -1,7 +1,6 @@
 use Rattle.std.proofs.Common.{refl}
 use Rattle.hc_effects.proofs.Vocabulary.{act_list}
-use Rattle.hc_on_leave.proofs.HeardRows.{asker_of, asked_by}
-use Rattle.hc_on_leave.proofs.UnstoredHandlers.{due_then, late_answered}
+use Rattle.hc_on_leave.proofs.{HeardRows.{asker_of, asked_by}, UnstoredHandlers.{due_then, late_answered}}
 use Rattle.hc_on_head.proofs.unstored.close_hole.Goals as goal
 
 pub returns-clause-answers : goal.returns-clause-answers

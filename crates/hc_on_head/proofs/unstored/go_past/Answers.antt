@@ -2,8 +2,7 @@ use Rattle.std.proofs.Common.{ℕ, Some, refl, sym, subst}
 use Rattle.hc_event.specs.declared.place.Place.TheVariants as place
 use Rattle.hc_effects.proofs.Vocabulary.{with_consumer}
 use Rattle.hc_state.specs.Stands.{RowsStand}
-use Rattle.hc_on_leave.proofs.HeardRows.{asker_of, asked_by}
-use Rattle.hc_on_leave.proofs.UnstoredHandlers.{alone_past, past_answered}
+use Rattle.hc_on_leave.proofs.{HeardRows.{asker_of, asked_by}, UnstoredHandlers.{alone_past, past_answered}}
 use Rattle.hc_on_head.proofs.unstored.go_past.Goals as goal
 
 pub returns-clause-answers : goal.returns-clause-answers

@@ -1,5 +1,4 @@
-use Rattle.std.proofs.Common.{refl, ap, sym, ◌∙◌, subst}
-use Rattle.std.specs.Prelude.{option_map}
+use Rattle.std.{proofs.Common.{refl, ap, sym, ◌∙◌, subst}, specs.Prelude.{option_map}}
 use Rattle.hc_exch.specs.Openings.{opened_with}
 use Rattle.hc_effects.proofs.ToldNumbers.{length_early}
 use Rattle.hc_state.specs.Heads.{EndsInRange}

@@ -3,8 +3,7 @@ use Rattle.hc_effects.proofs.Vocabulary.{act_list, with_consumer}
 use Rattle.hc_event.specs.declared.act.Cause.TheVariants as cause
 use Rattle.hc_event.specs.declared.place.Place.TheVariants as place
 use Rattle.hc_state.specs.Stands.{RowsStand}
-use Rattle.hc_on_leave.proofs.HeardRows.{asker_of, asked_by}
-use Rattle.hc_on_leave.proofs.UnstoredHandlers.{put_down_answered}
+use Rattle.hc_on_leave.proofs.{HeardRows.{asker_of, asked_by}, UnstoredHandlers.{put_down_answered}}
 use Rattle.hc_on_head.proofs.unstored.put_down.Goals as goal
 
 pub returns-clause-answers : goal.returns-clause-answers

@@ -1,8 +1,7 @@
 use Rattle.std.proofs.Common.{ℕ, Some, sym, subst}
 use Rattle.hc_effects.proofs.Vocabulary.{act_list, back_in_line, with_consumer}
 use Rattle.hc_state.specs.Stands.{RowsStand}
-use Rattle.hc_on_leave.proofs.HeardRows.{asker_of, asked_by}
-use Rattle.hc_on_leave.proofs.UnstoredHandlers.{awaits_anew, anew_answered}
+use Rattle.hc_on_leave.proofs.{HeardRows.{asker_of, asked_by}, UnstoredHandlers.{awaits_anew, anew_answered}}
 use Rattle.hc_on_head.proofs.unstored.start_anew.Goals as goal
 
 pub returns-clause-answers : goal.returns-clause-answers

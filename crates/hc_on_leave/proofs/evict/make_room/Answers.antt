@@ -1,5 +1,4 @@
-use Rattle.std.proofs.Common.{[], refl, sym, ◌∙◌, arith}
-use Rattle.std.proofs.lemmas.List.{append-nil}
+use Rattle.std.proofs.{Common.{[], refl, sym, ◌∙◌, arith}, lemmas.List.{append-nil}}
 use Rattle.hc_effects.proofs.Vocabulary.{act_list, spare}
 use Rattle.hc_state.specs.Room.{room_for_write}
 use Rattle.hc_state.proofs.Rooms.{one_gone, all_gone, no_more, none_way, leaves_all}

@@ -1,8 +1,7 @@
 use Rattle.std.proofs.Common.{◌+◌, sym, ◌∙◌, subst}
 use Rattle.hc_text.proofs.Basics.{none_or as none_is}
 use Rattle.hc_state.specs.Changes.{over_if_passed}
-use Rattle.hc_on_leave.proofs.SeatLoops.{AreChangedBelow, none_changed, nobody_more, one_more, all_changed}
-use Rattle.hc_on_leave.proofs.evict.start_passed_over.Goals.{in-Some, in_default}
+use Rattle.hc_on_leave.proofs.{SeatLoops.{AreChangedBelow, none_changed, nobody_more, one_more, all_changed}, evict.start_passed_over.Goals.{in-Some, in_default}}
 use Rattle.hc_on_leave.proofs.evict.start_passed_over.Goals as goal
 
 pub loop-i-init : goal.loop-i-init

@@ -1,9 +1,7 @@
-use Rattle.std.proofs.Common.{nat_eq, refl}
-use Rattle.std.specs.HashMap.{get}
+use Rattle.std.{proofs.Common.{nat_eq, refl}, specs.HashMap.{get}}
 use Rattle.hc_stored.specs.Entries.{shelf_of}
 use Rattle.hc_state.specs.Leaving.{LeavesPlace}
-use Rattle.hc_state.proofs.Dropping.{merely_user, user_of}
-use Rattle.hc_state.proofs.Maps.{lent, some_that}
+use Rattle.hc_state.proofs.{Dropping.{merely_user, user_of}, Maps.{lent, some_that}}
 use Rattle.hc_on_leave.proofs.gone.leave_place.Goals as goal
 
 pub unbind_from-requires : goal.unbind_from-requires

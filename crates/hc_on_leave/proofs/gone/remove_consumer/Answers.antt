@@ -1,10 +1,6 @@
-use Rattle.std.proofs.Common.{nat_eq, None, subst, ◌∙◌}
-use Rattle.std.specs.HashMap.{get}
-use Rattle.hc_state.specs.Changes.{BecomesAt}
-use Rattle.hc_state.specs.Leaving.{LeavesPlace}
-use Rattle.hc_state.proofs.Dropping.{stands_left}
-use Rattle.hc_state.proofs.Maps.{removed}
-use Rattle.hc_state.proofs.Words.{there}
+use Rattle.std.{proofs.Common.{nat_eq, None, subst, ◌∙◌}, specs.HashMap.{get}}
+use Rattle.hc_state.specs.{Changes.{BecomesAt}, Leaving.{LeavesPlace}}
+use Rattle.hc_state.proofs.{Dropping.{stands_left}, Maps.{removed}, Words.{there}}
 use Rattle.hc_on_leave.proofs.gone.remove_consumer.Goals as goal
 
 pub returns-clause-stands : goal.returns-clause-stands

@@ -1,12 +1,8 @@
-use Rattle.std.proofs.Common.{ℕ, sym, ◌∙◌, subst}
-use Rattle.std.specs.Prelude.{is_some}
+use Rattle.std.{proofs.Common.{ℕ, sym, ◌∙◌, subst}, specs.Prelude.{is_some}}
 use Rattle.hc_effects.proofs.Vocabulary.{act_list}
 use Rattle.hc_exch.specs.Exchanges.{table_of}
 use Rattle.hc_state.specs.Left.{HasLeft}
-use Rattle.hc_state.proofs.CloseHandler.{leaves_nothing, has_left}
-use Rattle.hc_state.proofs.LeftAlone.{once_left, leave_stops}
-use Rattle.hc_state.proofs.LeftRows.{left_is, left_runs, open_left, own_is}
-use Rattle.hc_state.proofs.Maps.{merely_true}
+use Rattle.hc_state.proofs.{CloseHandler.{leaves_nothing, has_left}, LeftAlone.{once_left, leave_stops}, LeftRows.{left_is, left_runs, open_left, own_is}, Maps.{merely_true}}
 use Rattle.hc_on_leave.proofs.Shorts.{shorts_left}
 use Rattle.hc_on_leave.proofs.leave.leave.Goals as goal
 

@@ -1,8 +1,6 @@
-use Rattle.std.proofs.Common.{nat_eq, sym, ◌∙◌}
-use Rattle.std.specs.HashMap.{get}
+use Rattle.std.{proofs.Common.{nat_eq, sym, ◌∙◌}, specs.HashMap.{get}}
 use Rattle.hc_state.specs.DetachedReaders.{stands_at}
-use Rattle.hc_on_leave.proofs.LoseDetachedReaders.{takes_next, leaves_next}
-use Rattle.hc_on_leave.proofs.lose.detached_reader.Goals.{then-stands_at, else-stands_at}
+use Rattle.hc_on_leave.proofs.{LoseDetachedReaders.{takes_next, leaves_next}, lose.detached_reader.Goals.{then-stands_at, else-stands_at}}
 use Rattle.hc_on_leave.proofs.lose.detached_reader.Goals as goal
 
 pub loop-c-preserved : goal.loop-c-preserved

@@ -1,6 +1,4 @@
-use Rattle.std.proofs.Common.{◌≡◌, nat_eq, take}
-use Rattle.std.specs.Prelude.{filter}
-use Rattle.std.specs.HashMap.{get}
+use Rattle.std.{proofs.Common.{◌≡◌, nat_eq, take}, specs.{Prelude.{filter}, HashMap.{get}}}
 use Rattle.hc_effects.proofs.Vocabulary.{least}
 use Rattle.hc_state.specs.DetachedReaders.{stands_at}
 use Rattle.hc_on_leave.proofs.lose.detached_reader.Given as goal

@@ -1,5 +1,4 @@
-use Rattle.std.proofs.Common.{refl, ap, ◌∙◌}
-use Rattle.std.specs.Prelude.{not}
+use Rattle.std.{proofs.Common.{refl, ap, ◌∙◌}, specs.Prelude.{not}}
 use Rattle.hc_effects.proofs.Vocabulary.{act_list}
 use Rattle.hc_on_leave.proofs.LoseTurn.{closes_loss, loses_on, loses_out}
 use Rattle.hc_on_leave.proofs.lose.lose_writing.Goals as goal

@@ -1,16 +1,11 @@
-use Rattle.std.proofs.Common.{◌≡◌, ◌<◌, ℕ, refl, ap, sym, ◌∙◌, subst, true, rules}
-use Rattle.std.specs.Prelude.{is_some}
+use Rattle.std.{proofs.Common.{◌≡◌, ◌<◌, ℕ, refl, ap, sym, ◌∙◌, subst, true, rules}, specs.Prelude.{is_some}}
 use Rattle.hc_effects.proofs.Vocabulary.{act_list, as_over}
 use Rattle.hc_stored.specs.Entries.{shelf_of}
 use Rattle.hc_exch.specs.Exchanges.{table_of}
-use Rattle.hc_effects.proofs.LettingGo.{may_let_go}
-use Rattle.hc_effects.proofs.Tests.{none_some}
+use Rattle.hc_effects.proofs.{LettingGo.{may_let_go}, Tests.{none_some}}
 use Rattle.hc_state.specs.Reads.{bound, planned}
-use Rattle.hc_state.proofs.LeftRows.{left_is, left_runs}
-use Rattle.hc_state.proofs.Maps.{merely_true}
-use Rattle.hc_on_leave.proofs.MayGo.{may_with}
-use Rattle.hc_on_leave.proofs.MisreadHandler.{idle_leaves, fault_answered}
-use Rattle.hc_on_leave.proofs.MisreadBound.{misread_alone, misread_closing}
+use Rattle.hc_state.proofs.{LeftRows.{left_is, left_runs}, Maps.{merely_true}}
+use Rattle.hc_on_leave.proofs.{MayGo.{may_with}, MisreadHandler.{idle_leaves, fault_answered}, MisreadBound.{misread_alone, misread_closing}}
 use Rattle.hc_on_leave.proofs.misread.misread_by.Goals as goal
 
 pub close-requires-clause-running : goal.close-requires-clause-running

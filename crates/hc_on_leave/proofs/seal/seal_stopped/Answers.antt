@@ -1,13 +1,10 @@
 use Rattle.std.proofs.Common.{ℕ, ◌<◌, [], Err, refl, ap, sym, ◌∙◌, subst}
 use Rattle.hc_effects.proofs.Vocabulary.{act_list}
-use Rattle.hc_stored.specs.Entries.{shelf_of}
-use Rattle.hc_stored.specs.declared.view.EntryView.{EntryView}
+use Rattle.hc_stored.specs.{Entries.{shelf_of}, declared.view.EntryView.{EntryView}}
 use Rattle.hc_state.specs.declared.stop.Stop.TheVariants as stop
 use Rattle.hc_state.specs.Stopped.{with_consumers}
-use Rattle.hc_state.proofs.SealHandler.{stopped_sealed, stopped_lost, viewed, told_kept, nobody_yet, nothing_held}
-use Rattle.hc_state.proofs.ReaderSteps.{stands_read}
+use Rattle.hc_state.proofs.{SealHandler.{stopped_sealed, stopped_lost, viewed, told_kept, nobody_yet, nothing_held}, ReaderSteps.{stands_read}, Stopping.{Stays, means_it}}
 use Rattle.hc_on_leave.proofs.Shorts.{view_short}
-use Rattle.hc_state.proofs.Stopping.{Stays, means_it}
 use Rattle.hc_on_leave.proofs.seal.seal_stopped.Goals as goal
 
 pub seal-requires-clause-total : goal.seal-requires-clause-total

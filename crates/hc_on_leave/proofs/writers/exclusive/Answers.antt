@@ -1,13 +1,8 @@
-use Rattle.std.proofs.Common.{Some, nat_eq, ap, sym, ◌∙◌, subst}
-use Rattle.std.specs.Prelude.{is_some}
-use Rattle.std.specs.HashMap.{get}
+use Rattle.std.{proofs.Common.{Some, nat_eq, ap, sym, ◌∙◌, subst}, specs.{Prelude.{is_some}, HashMap.{get}}}
 use Rattle.hc_text.proofs.Basics.{false_true, none_of}
-use Rattle.hc_stored.specs.declared.view.EntryView.{EntryView}
-use Rattle.hc_stored.specs.Entries.{shelf_of}
+use Rattle.hc_stored.specs.{declared.view.EntryView.{EntryView}, Entries.{shelf_of}}
 use Rattle.hc_state.specs.Kept.{IsKept, KeepsConsumer}
-use Rattle.hc_state.proofs.CurrentTies.{viewed_entry, entry_row, entry_at}
-use Rattle.hc_state.proofs.Maps.{merely_below, lent}
-use Rattle.hc_state.proofs.Words.{few_received, none_there}
+use Rattle.hc_state.proofs.{CurrentTies.{viewed_entry, entry_row, entry_at}, Maps.{merely_below, lent}, Words.{few_received, none_there}}
 use Rattle.hc_on_leave.proofs.WriterTies.{exclusive_written, exclusive_some, exclusive_off, alone_row, alone_below}
 use Rattle.hc_on_leave.proofs.writers.exclusive.Goals as goal
 

@@ -1,8 +1,6 @@
-use Rattle.std.proofs.Common.{ℕ, ap, sym, ◌∙◌, subst}
-use Rattle.std.specs.Prelude.{is_some, ◌↔◌, IsTrue}
+use Rattle.std.{proofs.Common.{ℕ, ap, sym, ◌∙◌, subst}, specs.Prelude.{is_some, ◌↔◌, IsTrue}}
 use Rattle.hc_sparse.specs.Cells.{Covers}
-use Rattle.hc_stored.specs.Entries.{shelf_of}
-use Rattle.hc_stored.specs.Shelf.{cells_at}
+use Rattle.hc_stored.specs.{Entries.{shelf_of}, Shelf.{cells_at}}
 use Rattle.hc_on_leave.proofs.WriterTies.{more_own, more_none, more_ahead}
 use Rattle.hc_on_leave.proofs.writers.has_more.Goals as goal
 

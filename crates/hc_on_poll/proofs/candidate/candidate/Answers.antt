@@ -1,18 +1,10 @@
-use Rattle.std.proofs.Common.{◌<◌, ◌+◌, ℕ, List, Option, Some, nat_eq, ap, sym, ◌∙◌, subst, arith}
-use Rattle.std.proofs.Math.Logic.{∥∥₁_map}
-use Rattle.std.specs.Prelude.{is_some, slice_get}
-use Rattle.std.specs.HashMap.{get}
+use Rattle.std.{proofs.{Common.{◌<◌, ◌+◌, ℕ, List, Option, Some, nat_eq, ap, sym, ◌∙◌, subst, arith}, Math.Logic.{∥∥₁_map}}, specs.{Prelude.{is_some, slice_get}, HashMap.{get}}}
 use Rattle.hc_record.specs.Head.{Head}
 use Rattle.hc_stored.specs.Entries.{shelf_of}
 use Rattle.hc_effects.proofs.PollKeeps.{current_stays}
-use Rattle.hc_state.specs.Candidates.{AllowedIs}
-use Rattle.hc_state.specs.Kept.{KeepsConsumer}
-use Rattle.hc_state.specs.Plans.{HasCurrent}
-use Rattle.hc_on_poll.proofs.CandidateTies.{seen_as, in_order, headed_entry, head_at_is}
-use Rattle.hc_state.proofs.CurrentTies.{viewed_entry, entry_row, stays_stored}
-use Rattle.hc_state.proofs.Maps.{lent, known_of, some_that, merely_below, merely_ordered}
-use Rattle.hc_on_poll.proofs.PassesHandler.{current_as}
-use Rattle.hc_state.proofs.Ties.{kept_row}
+use Rattle.hc_state.specs.{Candidates.{AllowedIs}, Kept.{KeepsConsumer}, Plans.{HasCurrent}}
+use Rattle.hc_on_poll.proofs.{CandidateTies.{seen_as, in_order, headed_entry, head_at_is}, PassesHandler.{current_as}}
+use Rattle.hc_state.proofs.{CurrentTies.{viewed_entry, entry_row, stays_stored}, Maps.{lent, known_of, some_that, merely_below, merely_ordered}, Ties.{kept_row}}
 use Rattle.hc_on_poll.proofs.candidate.candidate.Goals as goal
 
 pub wanted_of-span-requires : goal.wanted_of-span-requires

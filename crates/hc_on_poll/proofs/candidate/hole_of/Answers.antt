@@ -1,6 +1,5 @@
 use Rattle.std.proofs.Common.{ap, sym, ◌∙◌}
-use Rattle.hc_stored.specs.Entries.{shelf_of}
-use Rattle.hc_stored.specs.Shelf.{cells_at}
+use Rattle.hc_stored.specs.{Entries.{shelf_of}, Shelf.{cells_at}}
 use Rattle.hc_sparse.specs.Cells.{Cells}
 use Rattle.hc_partial.specs.Holes.{first_hole}
 use Rattle.hc_state.specs.Candidates.{hole_in}

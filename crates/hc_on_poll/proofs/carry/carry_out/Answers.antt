@@ -1,13 +1,9 @@
-use Rattle.std.proofs.Common.{Some, nat_eq, subst}
-use Rattle.std.proofs.Math.Logic.{∥∥₁_map}
-use Rattle.std.specs.HashMap.{get}
+use Rattle.std.{proofs.{Common.{Some, nat_eq, subst}, Math.Logic.{∥∥₁_map}}, specs.HashMap.{get}}
 use Rattle.hc_effects.proofs.Vocabulary.{act_list}
 use Rattle.hc_record.specs.Plain.{plain}
-use Rattle.hc_state.specs.Kept.{KeepsConsumer}
-use Rattle.hc_state.specs.Plans.{PlanViewIs, IsLookedAt, IsIdle, HasCurrent}
-use Rattle.hc_state.proofs.Maps.{known_of}
+use Rattle.hc_state.specs.{Kept.{KeepsConsumer}, Plans.{PlanViewIs, IsLookedAt, IsIdle, HasCurrent}}
+use Rattle.hc_state.proofs.{Maps.{known_of}, Words.{there, ok_then, on_ok_two}}
 use Rattle.hc_on_poll.proofs.PlanHandlers.{unlooked_plan, some_plan_at, looked_current, current_kept, fault_only, read_current, read_until, read_some, read_answers, read_fault}
-use Rattle.hc_state.proofs.Words.{there, ok_then, on_ok_two}
 use Rattle.hc_on_poll.proofs.carry.carry_out.Goals as goal
 
 pub carry_out_bare-requires-clause-opens : goal.carry_out_bare-requires-clause-opens

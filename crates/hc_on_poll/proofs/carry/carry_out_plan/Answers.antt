@@ -3,10 +3,8 @@ use Rattle.hc_effects.proofs.Vocabulary.{act_list}
 use Rattle.hc_event.specs.declared.act.Need.TheVariants as needs
 use Rattle.hc_rules.specs.declared.plan.Plan.TheVariants as plan
 use Rattle.hc_state.specs.Plans.{IsIdle}
-use Rattle.hc_on_poll.proofs.PlanHandlers.{planned_asks, planned_past, planned_route, may_leave_line, may_queue, may_pass, current_admits, plan_same, direct_answers, turn_answers, fetch_answers, validate_answers, busy_answers, bind_answers, miss_answers}
-use Rattle.hc_on_poll.proofs.PartPlans.{filling_passes, filling_hole, filling_alone, filling_answers, part_there}
+use Rattle.hc_on_poll.proofs.{PlanHandlers.{planned_asks, planned_past, planned_route, may_leave_line, may_queue, may_pass, current_admits, plan_same, direct_answers, turn_answers, fetch_answers, validate_answers, busy_answers, bind_answers, miss_answers}, PartPlans.{filling_passes, filling_hole, filling_alone, filling_answers, part_there}, Polled.{limits_there}}
 use Rattle.hc_on_poll.proofs.carry.carry_out_plan.Goals as goal
-use Rattle.hc_on_poll.proofs.Polled.{limits_there}
 use Rattle.hc_state.proofs.Words.{ok_then}
 
 pub open_past-requires-clause-leaves : goal.open_past-requires-clause-leaves

@@ -1,6 +1,4 @@
-use Rattle.std.proofs.Common.{◌≡◌, refl, subst, nat_eq}
-use Rattle.std.specs.Prelude.{unwrap_or}
-use Rattle.std.specs.HashMap.{get}
+use Rattle.std.{proofs.Common.{◌≡◌, refl, subst, nat_eq}, specs.{Prelude.{unwrap_or}, HashMap.{get}}}
 use Rattle.hc_text.proofs.Basics.{same_some as same_row}
 use Rattle.hc_effects.proofs.Vocabulary.{act_list, Opens, hole_request, move_of}
 use Rattle.hc_event.specs.declared.act.Need.TheVariants as need
@@ -8,9 +6,8 @@ use Rattle.hc_record.specs.Plain.{plain}
 use Rattle.hc_exch.specs.Exchanges.{next_of}
 use Rattle.hc_model.specs.Rows as rows
 use Rattle.hc_state.specs.Reads.{IsShownAt}
-use Rattle.hc_on_poll.proofs.LaterHole.{filled_answered}
+use Rattle.hc_on_poll.proofs.{LaterHole.{filled_answered}, ShowStored.{bound_row_of}}
 use Rattle.hc_state.proofs.Maps.{lent, known_of, some_that}
-use Rattle.hc_on_poll.proofs.ShowStored.{bound_row_of}
 use Rattle.hc_on_poll.proofs.hole.fill_later_hole.Goals as goal
 
 pub returns-clause-answers : goal.returns-clause-answers

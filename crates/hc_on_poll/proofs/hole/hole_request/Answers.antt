@@ -1,9 +1,7 @@
-use Rattle.std.proofs.Common.{Bor, List, ℕ, refl, ap, sym, ◌∙◌, subst, arith}
-use Rattle.std.specs.Prelude.{codes}
+use Rattle.std.{proofs.Common.{Bor, List, ℕ, refl, ap, sym, ◌∙◌, subst, arith}, specs.Prelude.{codes}}
 use Rattle.hc_effects.proofs.Vocabulary.{Request}
 use Rattle.hc_fields.specs.FieldList.{size_of}
-use Rattle.hc_validate.proofs.Names.{IsToken-range, IsToken-if_range}
-use Rattle.hc_validate.proofs.Stored.{IsFit}
+use Rattle.hc_validate.proofs.{Names.{IsToken-range, IsToken-if_range}, Stored.{IsFit}}
 use Rattle.hc_on_poll.proofs.HoleAsked.{IsRangeText, range_fits, lent_or, first_or_fits}
 use Rattle.hc_on_poll.proofs.hole.hole_request.Goals as goal
 

@@ -1,20 +1,14 @@
-use Rattle.std.proofs.Common.{ℕ, List, Some, refl, nat_eq, ap, sym, ◌∙◌, subst}
-use Rattle.std.specs.Prelude.{unwrap_or}
-use Rattle.std.specs.HashMap.{get}
+use Rattle.std.{proofs.Common.{ℕ, List, Some, refl, nat_eq, ap, sym, ◌∙◌, subst}, specs.{Prelude.{unwrap_or}, HashMap.{get}}}
 use Rattle.hc_effects.proofs.Vocabulary.{act_list, Request, Opens, hole_request}
 use Rattle.hc_event.specs.declared.act.Need.TheVariants as need
 use Rattle.hc_record.specs.Plain.{plain}
 use Rattle.hc_entry.specs.Keys as keys
-use Rattle.hc_entry.specs.Kept.{on_line}
-use Rattle.hc_entry.specs.Lines.{gone_away}
+use Rattle.hc_entry.specs.{Kept.{on_line}, Lines.{gone_away}}
 use Rattle.hc_stored.specs.Entries.{shelf_of}
-use Rattle.hc_state.specs.Kept.{KeepsConsumer}
-use Rattle.hc_state.specs.Plans.{HasCurrent}
+use Rattle.hc_state.specs.{Kept.{KeepsConsumer}, Plans.{HasCurrent}}
 use Rattle.hc_on_poll.specs.Ready.{MayPass}
-use Rattle.hc_on_poll.proofs.BindHandler.{current_total}
-use Rattle.hc_on_poll.proofs.FirstHandler.{filling_answered}
+use Rattle.hc_on_poll.proofs.{BindHandler.{current_total}, FirstHandler.{filling_answered}, PassesHandler.{current_as}}
 use Rattle.hc_state.proofs.Maps.{lent, known_of, some_that}
-use Rattle.hc_on_poll.proofs.PassesHandler.{current_as}
 use Rattle.hc_on_poll.proofs.hole.open_first_hole.Goals as goal
 
 pub returns-clause-answers : goal.returns-clause-answers

@@ -1,16 +1,9 @@
-use Rattle.std.proofs.Common.{refl, nat_eq}
-use Rattle.std.proofs.Math.Logic.{∥∥₁_map}
-use Rattle.std.specs.HashMap.{get}
+use Rattle.std.{proofs.{Common.{refl, nat_eq}, Math.Logic.{∥∥₁_map}}, specs.HashMap.{get}}
 use Rattle.hc_effects.proofs.Vocabulary.{act_list}
-use Rattle.hc_stored.specs.Entries.{shelf_of}
-use Rattle.hc_stored.specs.Shelf.{head_at}
+use Rattle.hc_stored.specs.{Entries.{shelf_of}, Shelf.{head_at}}
 use Rattle.hc_state.specs.Reads.{IsInLength, IsShownAt}
-use Rattle.hc_on_poll.proofs.BoundMisread.{misread_answered}
-use Rattle.hc_state.proofs.Maps.{some_that}
-use Rattle.hc_on_poll.proofs.PlanHandlers.{fault_only}
-use Rattle.hc_on_poll.proofs.Polled.{limits_there}
-use Rattle.hc_state.proofs.ReaderSteps.{some_read}
-use Rattle.hc_state.proofs.Words.{there, on_ok_two}
+use Rattle.hc_on_poll.proofs.{BoundMisread.{misread_answered}, PlanHandlers.{fault_only}, Polled.{limits_there}}
+use Rattle.hc_state.proofs.{Maps.{some_that}, ReaderSteps.{some_read}, Words.{there, on_ok_two}}
 use Rattle.hc_on_poll.proofs.hole.open_later_hole.Goals as goal
 
 pub fill_later_hole-requires-clause-within_limits : goal.fill_later_hole-requires-clause-within_limits

@@ -1,5 +1,4 @@
-use Rattle.std.proofs.Common.{◌≡◌, None, Some, refl, sym, ◌∙◌, nat_eq}
-use Rattle.std.specs.HashMap.{get}
+use Rattle.std.{proofs.Common.{◌≡◌, None, Some, refl, sym, ◌∙◌, nat_eq}, specs.HashMap.{get}}
 use Rattle.hc_effects.proofs.Vocabulary.{act_list}
 use Rattle.hc_state.specs.Handlers.{IsUnshown}
 use Rattle.hc_state.proofs.Maps.{lent, known_of}

@@ -1,12 +1,8 @@
-use Rattle.std.proofs.Common.{◌+◌, ◌<◌, ◌≤◌, ◌^◌, ap, sym, ◌∙◌, arith, nat_eq, length, inl, inr}
-use Rattle.std.proofs.lemmas.Grind.{not_there}
-use Rattle.std.specs.HashMap.{get}
+use Rattle.std.{proofs.{Common.{◌+◌, ◌<◌, ◌≤◌, ◌^◌, ap, sym, ◌∙◌, arith, nat_eq, length, inl, inr}, lemmas.Grind.{not_there}}, specs.HashMap.{get}}
 use Rattle.hc_effects.proofs.Vocabulary.{act_list, read_step}
-use Rattle.hc_exch.specs.Exchanges.{table_of}
-use Rattle.hc_exch.specs.Known.{is_open}
+use Rattle.hc_exch.specs.{Exchanges.{table_of}, Known.{is_open}}
 use Rattle.hc_state.specs.Handlers.{IsShown}
-use Rattle.hc_state.proofs.Maps.{lent, known_of, some_that, merely_true, merely_below}
-use Rattle.hc_state.proofs.Words.{few_received}
+use Rattle.hc_state.proofs.{Maps.{lent, known_of, some_that, merely_true, merely_below}, Words.{few_received}}
 use Rattle.hc_on_poll.proofs.ReadPast.{reading_of, offset_small, more_fits, waits_open, no_stored, no_hole, ends_move, fails_move, given_answered, asks_answered}
 use Rattle.hc_on_poll.proofs.past.read_past.Goals as goal
 

@@ -1,12 +1,9 @@
-use Rattle.std.proofs.Common.{nat_eq, ap, ◌∙◌}
-use Rattle.std.specs.HashMap.{get}
+use Rattle.std.{proofs.Common.{nat_eq, ap, ◌∙◌}, specs.HashMap.{get}}
 use Rattle.hc_exch.specs.Exchanges.{next_of}
 use Rattle.hc_state.specs.Plans.{IsIdle, IsOfItsKey}
 use Rattle.hc_on_poll.specs.Ready.{MayAsk}
-use Rattle.hc_state.proofs.Maps.{known_of, some_that, merely_true, merely_number}
-use Rattle.hc_on_poll.proofs.PlanHandlers.{may_queue}
-use Rattle.hc_on_poll.proofs.FetchHandler.{holds_inside, holds_turn, stands_turned}
-use Rattle.hc_state.proofs.Words.{there}
+use Rattle.hc_state.proofs.{Maps.{known_of, some_that, merely_true, merely_number}, Words.{there}}
+use Rattle.hc_on_poll.proofs.{PlanHandlers.{may_queue}, FetchHandler.{holds_inside, holds_turn, stands_turned}}
 use Rattle.hc_on_poll.proofs.plan.begin_turn.Goals as goal
 
 pub hold-requires-clause-inside : goal.hold-requires-clause-inside

@@ -1,5 +1,4 @@
-use Rattle.std.proofs.Common.{nat_eq, ap}
-use Rattle.std.specs.HashMap.{get}
+use Rattle.std.{proofs.Common.{nat_eq, ap}, specs.HashMap.{get}}
 use Rattle.hc_effects.proofs.Vocabulary.{act_list, Request}
 use Rattle.hc_state.proofs.Maps.{lent, some_that}
 use Rattle.hc_on_poll.proofs.FetchHandler.{bypassed}

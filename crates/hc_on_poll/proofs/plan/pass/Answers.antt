@@ -1,5 +1,4 @@
-use Rattle.std.proofs.Common.{nat_eq, refl}
-use Rattle.std.specs.HashMap.{get}
+use Rattle.std.{proofs.Common.{nat_eq, refl}, specs.HashMap.{get}}
 use Rattle.hc_on_poll.specs.Ready.{MayPass}
 use Rattle.hc_state.proofs.Maps.{lent, known_of}
 use Rattle.hc_on_poll.proofs.PassesHandler.{stands_passed, stands_let}

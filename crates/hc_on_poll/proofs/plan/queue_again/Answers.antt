@@ -1,8 +1,6 @@
-use Rattle.std.proofs.Common.{refl, nat_eq}
-use Rattle.std.specs.HashMap.{get}
+use Rattle.std.{proofs.Common.{refl, nat_eq}, specs.HashMap.{get}}
 use Rattle.hc_on_poll.specs.Ready.{MayQueue}
-use Rattle.hc_state.proofs.Maps.{lent, known_of}
-use Rattle.hc_state.proofs.QueueHandler.{stands_still, stands_back, line_by, changes_still}
+use Rattle.hc_state.proofs.{Maps.{lent, known_of}, QueueHandler.{stands_still, stands_back, line_by, changes_still}}
 use Rattle.hc_on_poll.proofs.plan.queue_again.Goals as goal
 
 pub returns-in-Passed-clause-stands : goal.returns-in-Passed-clause-stands

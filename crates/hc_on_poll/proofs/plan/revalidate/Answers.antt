@@ -1,12 +1,10 @@
-use Rattle.std.proofs.Common.{◌≡◌, nat_eq, refl}
-use Rattle.std.specs.HashMap.{get}
+use Rattle.std.{proofs.Common.{◌≡◌, nat_eq, refl}, specs.HashMap.{get}}
 use Rattle.hc_effects.proofs.Vocabulary.{act_list}
 use Rattle.hc_event.specs.declared.act.Need.TheVariants as needs
 use Rattle.hc_record.specs.Plain.{plain}
 use Rattle.hc_validate.specs.Conditions.{conditional}
 use Rattle.hc_state.proofs.Maps.{lent, some_that}
-use Rattle.hc_on_poll.proofs.FetchHandler.{asked_answered}
-use Rattle.hc_on_poll.proofs.Polled.{within_limits_there}
+use Rattle.hc_on_poll.proofs.{FetchHandler.{asked_answered}, Polled.{within_limits_there}}
 use Rattle.hc_on_poll.proofs.plan.revalidate.Goals as goal
 
 pub conditional-requires : goal.conditional-requires

@@ -1,9 +1,7 @@
-use Rattle.std.proofs.Common.{Some, nat_eq, subst}
-use Rattle.std.specs.HashMap.{get}
+use Rattle.std.{proofs.Common.{Some, nat_eq, subst}, specs.HashMap.{get}}
 use Rattle.hc_effects.proofs.Vocabulary.{act_list}
 use Rattle.hc_stored.specs.Entries.{shelf_of}
-use Rattle.hc_state.specs.Kept.{KeepsConsumer}
-use Rattle.hc_state.specs.Plans.{HasCurrent}
+use Rattle.hc_state.specs.{Kept.{KeepsConsumer}, Plans.{HasCurrent}}
 use Rattle.hc_on_poll.proofs.PassesHandler.{use_waits, current_as}
 use Rattle.hc_state.proofs.Words.{there}
 use Rattle.hc_on_poll.proofs.plan.wait_for_use.Goals as goal

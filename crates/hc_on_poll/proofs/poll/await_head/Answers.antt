@@ -1,12 +1,9 @@
-use Rattle.std.proofs.Common.{nat_eq, sym, ◌∙◌, subst}
-use Rattle.std.specs.HashMap.{get}
+use Rattle.std.{proofs.Common.{nat_eq, sym, ◌∙◌, subst}, specs.HashMap.{get}}
 use Rattle.hc_effects.proofs.Vocabulary.{act_list}
 use Rattle.hc_stored.specs.Entries.{shelf_of}
-use Rattle.hc_state.specs.Handlers.{HasTurn}
-use Rattle.hc_state.specs.Kept.{KeepsConsumer}
-use Rattle.hc_state.proofs.Ties.{kept_row}
+use Rattle.hc_state.specs.{Handlers.{HasTurn}, Kept.{KeepsConsumer}}
+use Rattle.hc_state.proofs.{Ties.{kept_row}, Words.{there}}
 use Rattle.hc_on_poll.proofs.WaitHandlers.{turn_move, head_waits}
-use Rattle.hc_state.proofs.Words.{there}
 use Rattle.hc_on_poll.proofs.poll.await_head.Goals as goal
 
 pub returns : goal.returns

@@ -1,11 +1,8 @@
-use Rattle.std.proofs.Common.{ap, sym, ◌∙◌, nat_eq}
-use Rattle.std.proofs.Math.Logic.{∥∥₁_map}
-use Rattle.std.specs.HashMap.{get}
+use Rattle.std.{proofs.{Common.{ap, sym, ◌∙◌, nat_eq}, Math.Logic.{∥∥₁_map}}, specs.HashMap.{get}}
 use Rattle.hc_text.proofs.Basics.{false_true}
 use Rattle.hc_effects.proofs.Vocabulary.{is_live_place}
 use Rattle.hc_state.specs.Handlers.{IsDown}
-use Rattle.hc_state.proofs.LeftRows.{down_row}
-use Rattle.hc_state.proofs.Maps.{lent, some_that}
+use Rattle.hc_state.proofs.{LeftRows.{down_row}, Maps.{lent, some_that}}
 use Rattle.hc_on_leave.proofs.LeaveHandlers.{down_fails}
 use Rattle.hc_on_poll.proofs.Polled.{lives_there}
 use Rattle.hc_on_poll.proofs.poll.poll.Goals as goal

@@ -1,18 +1,10 @@
-use Rattle.std.proofs.Common.{sym, ◌∙◌, arith, nat_eq}
-use Rattle.std.proofs.Math.Logic.{∥∥₁_map}
-use Rattle.std.specs.HashMap.{get}
+use Rattle.std.{proofs.{Common.{sym, ◌∙◌, arith, nat_eq}, Math.Logic.{∥∥₁_map}}, specs.HashMap.{get}}
 use Rattle.hc_effects.proofs.Vocabulary.{act_list}
 use Rattle.hc_event.specs.declared.event.Event.TheVariants as event
 use Rattle.hc_stored.specs.Entries.{shelf_of}
 use Rattle.hc_state.specs.Reads.{IsShownAt}
-use Rattle.hc_on_poll.proofs.BoundMisread.{misread_after, answers_after, reads_after}
-use Rattle.hc_on_poll.proofs.BoundReads.{head_move}
-use Rattle.hc_state.proofs.Maps.{lent, known_of}
-use Rattle.hc_on_poll.proofs.PlanHandlers.{fault_only}
-use Rattle.hc_on_poll.proofs.ReadOn.{row_of, kept, offset_fits}
-use Rattle.hc_state.proofs.ReaderSteps.{some_read}
-use Rattle.hc_on_poll.proofs.WaitHandlers.{head_waits}
-use Rattle.hc_state.proofs.Words.{on_ok_two, ok_then}
+use Rattle.hc_on_poll.proofs.{BoundMisread.{misread_after, answers_after, reads_after}, BoundReads.{head_move}, PlanHandlers.{fault_only}, ReadOn.{row_of, kept, offset_fits}, WaitHandlers.{head_waits}}
+use Rattle.hc_state.proofs.{Maps.{lent, known_of}, ReaderSteps.{some_read}, Words.{on_ok_two, ok_then}}
 use Rattle.hc_on_poll.proofs.read.read_bound.Goals as goal
 
 pub returns-in-Some-clause-answers : goal.returns-in-Some-clause-answers

@@ -1,15 +1,11 @@
-use Rattle.std.proofs.Common.{◌≡◌, ◌+◌, ◌≤◌, ◌^◌, ap, sym, ◌∙◌, refl, length, take, subst, arith, nat_eq}
-use Rattle.std.specs.HashMap.{get}
+use Rattle.std.{proofs.Common.{◌≡◌, ◌+◌, ◌≤◌, ◌^◌, ap, sym, ◌∙◌, refl, length, take, subst, arith, nat_eq}, specs.HashMap.{get}}
 use Rattle.hc_effects.proofs.Vocabulary.{act_list, ReadView}
-use Rattle.hc_stored.specs.Entries.{shelf_of}
-use Rattle.hc_stored.specs.Shelf.{head_at}
+use Rattle.hc_stored.specs.{Entries.{shelf_of}, Shelf.{head_at}}
 use Rattle.hc_exch.specs.Exchanges.{table_of}
 use Rattle.hc_state.specs.Reads.{IsShownAt, ReadViewIs}
 use Rattle.hc_on_poll.specs.Ready.{ReadsAhead}
-use Rattle.hc_on_poll.proofs.BoundReads.{ends_move, fails_move, hole_move}
-use Rattle.hc_state.proofs.Maps.{lent, known_of, some_that}
-use Rattle.hc_state.proofs.Words.{ok_then}
-use Rattle.hc_on_poll.proofs.ReadOn.{row_of, kept, offset_fits, end_fits, run_fits, run_there, own_there, held_fits, source_runs, hole_within, gives_stored, gives_held, asks_for}
+use Rattle.hc_on_poll.proofs.{BoundReads.{ends_move, fails_move, hole_move}, ReadOn.{row_of, kept, offset_fits, end_fits, run_fits, run_there, own_there, held_fits, source_runs, hole_within, gives_stored, gives_held, asks_for}}
+use Rattle.hc_state.proofs.{Maps.{lent, known_of, some_that}, Words.{ok_then}}
 use Rattle.hc_on_poll.proofs.read.read_on.Goals as goal
 
 pub end_of-requires : goal.end_of-requires

@@ -1,14 +1,11 @@
-use Rattle.std.proofs.Common.{Some, nat_eq, ap, ◌∙◌, subst}
-use Rattle.std.specs.HashMap.{get}
+use Rattle.std.{proofs.Common.{Some, nat_eq, ap, ◌∙◌, subst}, specs.HashMap.{get}}
 use Rattle.hc_effects.proofs.Vocabulary.{act_list, Response}
 use Rattle.hc_record.specs.Plain.{plain}
 use Rattle.hc_validate.specs.Showing.{shown_response}
-use Rattle.hc_state.specs.Kept.{KeepsConsumer}
-use Rattle.hc_state.specs.Plans.{HasCurrent}
+use Rattle.hc_state.specs.{Kept.{KeepsConsumer}, Plans.{HasCurrent}}
 use Rattle.hc_on_poll.specs.Ready.{MayLeaveLine}
-use Rattle.hc_on_poll.proofs.BindHandler.{bind_answered, shows_told, part_ends, current_total}
+use Rattle.hc_on_poll.proofs.{BindHandler.{bind_answered, shows_told, part_ends, current_total}, PassesHandler.{current_as}}
 use Rattle.hc_state.proofs.Maps.{lent, known_of, some_that}
-use Rattle.hc_on_poll.proofs.PassesHandler.{current_as}
 use Rattle.hc_on_poll.proofs.show.bind.Goals as goal
 
 pub returns-clause-answers : goal.returns-clause-answers

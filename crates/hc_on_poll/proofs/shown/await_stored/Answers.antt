@@ -1,17 +1,9 @@
-use Rattle.std.proofs.Common.{refl, ap, sym, ◌∙◌, nat_eq}
-use Rattle.std.proofs.Math.Logic.{∥∥₁_map}
-use Rattle.std.specs.Prelude.{is_some}
-use Rattle.std.specs.HashMap.{get}
+use Rattle.std.{proofs.{Common.{refl, ap, sym, ◌∙◌, nat_eq}, Math.Logic.{∥∥₁_map}}, specs.{Prelude.{is_some}, HashMap.{get}}}
 use Rattle.hc_effects.proofs.Vocabulary.{act_list}
-use Rattle.hc_stored.specs.Entries.{shelf_of}
-use Rattle.hc_stored.specs.Shelf.{is_kept}
+use Rattle.hc_stored.specs.{Entries.{shelf_of}, Shelf.{is_kept}}
 use Rattle.hc_state.specs.Reads.{IsUnshownBy}
-use Rattle.hc_state.proofs.Maps.{merely_true}
-use Rattle.hc_on_poll.proofs.BoundMisread.{misread_answered}
-use Rattle.hc_on_poll.proofs.PlanHandlers.{fault_only, read_answers}
-use Rattle.hc_state.proofs.ReaderSteps.{some_read}
-use Rattle.hc_on_poll.proofs.ShowStored.{bound_row_of, bound_kept, first_waits_answered}
-use Rattle.hc_state.proofs.Words.{there, on_ok_two, ok_then}
+use Rattle.hc_state.proofs.{Maps.{merely_true}, ReaderSteps.{some_read}, Words.{there, on_ok_two, ok_then}}
+use Rattle.hc_on_poll.proofs.{BoundMisread.{misread_answered}, PlanHandlers.{fault_only, read_answers}, ShowStored.{bound_row_of, bound_kept, first_waits_answered}}
 use Rattle.hc_on_poll.proofs.shown.await_stored.Goals as goal
 
 pub returns-then-is_headless-clause-answers : goal.returns-then-is_headless-clause-answers

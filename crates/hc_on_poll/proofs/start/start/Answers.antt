@@ -1,14 +1,11 @@
-use Rattle.std.proofs.Common.{Bool, false, None, refl, ap, sym, ◌∙◌, subst}
-use Rattle.std.proofs.lemmas.List.{append-nil}
-use Rattle.std.specs.Prelude.{◌&&◌, not}
+use Rattle.std.{proofs.{Common.{Bool, false, None, refl, ap, sym, ◌∙◌, subst}, lemmas.List.{append-nil}}, specs.Prelude.{◌&&◌, not}}
 use Rattle.hc_event.specs.declared.event.Event.TheVariants as event
 use Rattle.hc_effects.proofs.Vocabulary.{RequestClass}
 use Rattle.hc_stored.specs.Entries.{shelf_of}
 use Rattle.hc_event.specs.declared.place.Place.TheVariants as place
 use Rattle.hc_effects.proofs.StartEffects.{starts}
 use Rattle.hc_state.specs.Handlers.{IsEntered}
-use Rattle.hc_state.proofs.Answering.{does_answered}
-use Rattle.hc_state.proofs.Maps.{inserted, merely_false}
+use Rattle.hc_state.proofs.{Answering.{does_answered}, Maps.{inserted, merely_false}}
 use Rattle.hc_on_poll.proofs.StartHandler.{stands_started, not_in_yet, class_queues}
 use Rattle.hc_on_poll.proofs.start.start.Goals as goal
 

@@ -1,7 +1,6 @@
 use Rattle.std.proofs.Common.{◌≡◌, take}
 use Rattle.hc_wire.specs.Logs.{Log}
-use Rattle.hc_proxy.specs.Logging.{Follows}
-use Rattle.hc_proxy.specs.Underway.{Closes}
+use Rattle.hc_proxy.specs.{Logging.{Follows}, Underway.{Closes}}
 use Rattle.hc_proxy.proofs.carry.close_each.Given as goal
 
 abbrev pub invariant-loop-k : goal.invariant-loop-k

@@ -1,5 +1,4 @@
-use Rattle.std.proofs.Common.{rules, ◌∙◌, refl, subst, ℕ, List, ◌+◌, ◌<◌, ◌≤◌, length, drop, get_or}
-use Rattle.std.proofs.lemmas.List.{drop_all}
+use Rattle.std.proofs.{Common.{rules, ◌∙◌, refl, subst, ℕ, List, ◌+◌, ◌<◌, ◌≤◌, length, drop, get_or}, lemmas.List.{drop_all}}
 use Rattle.hc_proxy.specs.Unsent.{SendsToClients}
 use Rattle.hc_proxy.proofs.OfferedAll.{next_left, clients_next, clients_fail}
 use Rattle.hc_proxy.proofs.send.offer_clients.Goals as goal

@@ -1,5 +1,4 @@
-use Rattle.std.proofs.Common.{rules, ◌≡◌, ◌∙◌, refl, ap, sym, subst, ℕ, List, ◌+◌, ◌<◌, ◌≤◌, length, drop, get_or}
-use Rattle.std.proofs.lemmas.List.{drop_all}
+use Rattle.std.proofs.{Common.{rules, ◌≡◌, ◌∙◌, refl, ap, sym, subst, ℕ, List, ◌+◌, ◌<◌, ◌≤◌, length, drop, get_or}, lemmas.List.{drop_all}}
 use Rattle.hc_effects.proofs.Vocabulary.{no_contents, is_wanted, Tables}
 use Rattle.hc_proxy.specs.Unsent.{SendsToOrigins}
 use Rattle.hc_proxy.proofs.OfferedAll.{next_left, origins_next, origins_fail}

@@ -1,6 +1,5 @@
 use Rattle.std.proofs.Common.{◌≡◌, Some}
-use Rattle.hc_wire.specs.Logs.{empty_log}
-use Rattle.hc_wire.specs.Plays.{told}
+use Rattle.hc_wire.specs.{Logs.{empty_log}, Plays.{told}}
 use Rattle.hc_proxy_vectors.proofs.trial.wire_of.Given as goal
 
 abbrev pub invariant-loop-stall : goal.invariant-loop-stall

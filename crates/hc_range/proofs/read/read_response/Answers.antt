@@ -1,6 +1,4 @@
-use Rattle.std.proofs.Common.{ℕ, [], ◌∷◌, subst, sym, ◌∙◌}
-use Rattle.std.proofs.lemmas.Bool.{iff_false}
-use Rattle.std.proofs.lemmas.List.{append_assoc}
+use Rattle.std.proofs.{Common.{ℕ, [], ◌∷◌, subst, sym, ◌∙◌}, lemmas.{Bool.{iff_false}, List.{append_assoc}}}
 use Rattle.hc_range.specs.Ranges.{SpellsTotal}
 use Rattle.hc_range.proofs.ReadLemmas.{response_at, tells_unsatisfied, tells_part, number_unique, same_total, same_last, same_part}
 use Rattle.hc_range.proofs.read.read_response.Goals as goal

@@ -1,5 +1,4 @@
-use Rattle.std.proofs.Common.{◌≡◌, length, sym, ◌∙◌}
-use Rattle.std.proofs.lemmas.Bool.{eqb-true, eqb-false}
+use Rattle.std.proofs.{Common.{◌≡◌, length, sym, ◌∙◌}, lemmas.Bool.{eqb-true, eqb-false}}
 use Rattle.hc_range.proofs.ReadLemmas.{spec_at, asks_last, asks_from, asks_positions, number_unique, same_positions}
 use Rattle.hc_range.proofs.read.read_spec.Goals as goal
 

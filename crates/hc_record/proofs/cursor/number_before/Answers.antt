@@ -1,15 +1,7 @@
-use Rattle.std.proofs.Common.{◌≡◌, ℕ, ◌+◌, ◌<◌, ◌==◌, true, not, List, ◌∷◌, ◌++◌, length, take, drop, get_or, sym, ap, ◌∙◌, arith}
-use Rattle.std.specs.Char.{is_ascii_digit, digit_value}
-use Rattle.std.specs.Str.Parse.{digits_value}
-use Rattle.std.proofs.lemmas.Bool.{and_from, and_parts, both_ways, ne_eqb, not_from_false}
-use Rattle.std.proofs.lemmas.List.{take-append-drop, drop_more}
-use Rattle.std.proofs.lemmas.List.Folds.{list_all_more}
-use Rattle.std.proofs.lemmas.Str.{digit_value_digit}
-use Rattle.std.proofs.lemmas.Int.Digits.{digits_value_more}
+use Rattle.std.{proofs.{Common.{◌≡◌, ℕ, ◌+◌, ◌<◌, ◌==◌, true, not, List, ◌∷◌, ◌++◌, length, take, drop, get_or, sym, ap, ◌∙◌, arith}, lemmas.{Bool.{and_from, and_parts, both_ways, ne_eqb, not_from_false}, List.{take-append-drop, drop_more, Folds.{list_all_more}}, Str.{digit_value_digit}, Int.Digits.{digits_value_more}}}, specs.{Char.{is_ascii_digit, digit_value}, Str.Parse.{digits_value}}}
 use Rattle.hc_text.specs.Texts.{lacks}
-use Rattle.hc_record.proofs.NumberCuts.{number_is, value_is, next_in}
+use Rattle.hc_record.proofs.{NumberCuts.{number_is, value_is, next_in}, cursor.number_before.Goals.{then-not-is_ascii_digit-via-then-not-is_ascii_digit, then-not-is_ascii_digit-via-else-not-is_ascii_digit+then-n}}
 use Rattle.hc_record.proofs.cursor.number_before.Goals as goal
-use Rattle.hc_record.proofs.cursor.number_before.Goals.{then-not-is_ascii_digit-via-then-not-is_ascii_digit, then-not-is_ascii_digit-via-else-not-is_ascii_digit+then-n}
 
 pub returns-else-is_plain-clause-none : goal.returns-else-is_plain-clause-none
 returns-else-is_plain-clause-none c = λ m after small is.

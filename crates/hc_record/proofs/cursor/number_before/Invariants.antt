@@ -1,7 +1,4 @@
-use Rattle.std.proofs.Common.{◌≡◌, ◌≤◌, take, true}
-use Rattle.std.specs.Char.{is_ascii_digit}
-use Rattle.std.specs.List.{list_all}
-use Rattle.std.specs.Str.Parse.{digits_value}
+use Rattle.std.{proofs.Common.{◌≡◌, ◌≤◌, take, true}, specs.{Char.{is_ascii_digit}, List.{list_all}, Str.Parse.{digits_value}}}
 use Rattle.hc_text.specs.Texts.{lacks}
 use Rattle.hc_record.proofs.cursor.number_before.Given as goal
 

@@ -1,5 +1,4 @@
-use Rattle.hc_record.proofs.Totals.{total-IsNumber}
-use Rattle.hc_record.proofs.TakenParts.{no_total_text, small_total}
+use Rattle.hc_record.proofs.{Totals.{total-IsNumber}, TakenParts.{no_total_text, small_total}}
 use Rattle.hc_record.proofs.cursor.read_total.Goals as goal
 
 pub returns-in-Some : goal.returns-in-Some

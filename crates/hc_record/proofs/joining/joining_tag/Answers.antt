@@ -1,5 +1,4 @@
-use Rattle.std.proofs.Common.{◌∷◌, [], List, ℕ, false, Some, sym, ap, ◌∙◌}
-use Rattle.std.specs.Prelude.{codes}
+use Rattle.std.{proofs.Common.{◌∷◌, [], List, ℕ, false, Some, sym, ap, ◌∙◌}, specs.Prelude.{codes}}
 use Rattle.hc_etag.proofs.TagReads.{strong_in-some}
 use Rattle.hc_fields.specs.FieldList.{values_of}
 use Rattle.hc_record.specs.Head.{strong_opaque, one_strong_opaque}

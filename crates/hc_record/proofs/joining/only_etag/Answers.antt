@@ -1,8 +1,4 @@
-use Rattle.std.proofs.Common.{◌≡◌, ℕ, ◌+◌, ◌≤◌, true, false, List, [], ◌∷◌, ◌++◌, cond, length, take, get_or, Some, sym, ap, ◌∙◌, arith, length-append}
-use Rattle.std.specs.Prelude.{bytes_eq, codes, filter, map, slice_get}
-use Rattle.std.proofs.lemmas.List.{append-nil, map-append, nil_from_length}
-use Rattle.std.proofs.lemmas.List.Elements.{filter_more}
-use Rattle.std.proofs.lemmas.Option.{get_or_from_slice_get, slice_get_within}
+use Rattle.std.{proofs.{Common.{◌≡◌, ℕ, ◌+◌, ◌≤◌, true, false, List, [], ◌∷◌, ◌++◌, cond, length, take, get_or, Some, sym, ap, ◌∙◌, arith, length-append}, lemmas.{List.{append-nil, map-append, nil_from_length, Elements.{filter_more}}, Option.{get_or_from_slice_get, slice_get_within}}}, specs.Prelude.{bytes_eq, codes, filter, map, slice_get}}
 use Rattle.hc_fields.specs.FieldList.{has_name, values_of}
 use Rattle.hc_record.proofs.joining.only_etag.Goals as goal
 use Rattle.hc_record.proofs.joining.only_etag.Goals.{then-eq, else-eq}

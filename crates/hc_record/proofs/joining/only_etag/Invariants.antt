@@ -1,5 +1,4 @@
-use Rattle.std.proofs.Common.{◌≡◌, ◌≤◌, ◌∷◌, [], length, take}
-use Rattle.std.specs.Prelude.{codes}
+use Rattle.std.{proofs.Common.{◌≡◌, ◌≤◌, ◌∷◌, [], length, take}, specs.Prelude.{codes}}
 use Rattle.hc_fields.specs.FieldList.{values_of}
 use Rattle.hc_record.proofs.joining.only_etag.Given as goal
 

@@ -1,8 +1,4 @@
-use Rattle.std.proofs.Common.{◌≡◌, ℕ, Bool, List, [], ◌∷◌, ◌++◌, refl, sym, ap, ◌∙◌}
-use Rattle.std.specs.Prelude.{◌↔◌, IsTrue, bytes_eq}
-use Rattle.std.proofs.lemmas.Bool.{eqb-true}
-use Rattle.std.proofs.lemmas.List.{append_cancel_right}
-use Rattle.std.proofs.lemmas.Slice.Eq.{bytes_eq-Decides}
+use Rattle.std.{proofs.{Common.{◌≡◌, ℕ, Bool, List, [], ◌∷◌, ◌++◌, refl, sym, ap, ◌∙◌}, lemmas.{Bool.{eqb-true}, List.{append_cancel_right}, Slice.Eq.{bytes_eq-Decides}}}, specs.Prelude.{◌↔◌, IsTrue, bytes_eq}}
 use Rattle.hc_etag.specs.Etags.{quote}
 use Rattle.hc_record.proofs.parts.is_quoted.Goals as goal
 use Rattle.hc_record.proofs.parts.is_quoted.Goals.{then-first-eq34, else-first-eq34}

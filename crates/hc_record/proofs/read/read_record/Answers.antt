@@ -1,13 +1,8 @@
-use Rattle.std.proofs.Common.{◌≡◌, List, ℕ, Option, [], refl, ap, sym, ◌∙◌}
-use Rattle.std.proofs.lemmas.Bool.{false≢true}
-use Rattle.std.proofs.lemmas.List.{append-nil}
+use Rattle.std.proofs.{Common.{◌≡◌, List, ℕ, Option, [], refl, ap, sym, ◌∙◌}, lemmas.{Bool.{false≢true}, List.{append-nil}}}
 use Rattle.hc_fields.specs.Lines.{fields_text}
-use Rattle.hc_record.specs.Head.{joining_of, opaque_of}
-use Rattle.hc_record.specs.Lines.{joining_text, tag_line}
-use Rattle.hc_record.specs.Record.{field_lines}
-use Rattle.hc_record.proofs.Stages.{first_of, AreFirst-of, rest_lines, whole, lacks-own, tag_first, vary_of, fields_of, after_tag, after_vary, after_fields, assembled}
+use Rattle.hc_record.specs.{Head.{joining_of, opaque_of}, Lines.{joining_text, tag_line}, Record.{field_lines}}
+use Rattle.hc_record.proofs.{Stages.{first_of, AreFirst-of, rest_lines, whole, lacks-own, tag_first, vary_of, fields_of, after_tag, after_vary, after_fields, assembled}, read.read_record.Goals.{then-not-is_at_end-via-then-not-is_at_end, then-not-is_at_end-via-else-not-is_at_end+then-not-within_limits}}
 use Rattle.hc_record.proofs.read.read_record.Goals as goal
-use Rattle.hc_record.proofs.read.read_record.Goals.{then-not-is_at_end-via-then-not-is_at_end, then-not-is_at_end-via-else-not-is_at_end+then-not-within_limits}
 
 pub returns-in_default-clause-none : goal.returns-in_default-clause-none
 returns-in_default-clause-none c = λ head own r.

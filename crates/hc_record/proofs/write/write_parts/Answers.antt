@@ -1,11 +1,6 @@
-use Rattle.std.proofs.Common.{◌≡◌, ℕ, List, ◌++◌, ap, ◌∙◌, length}
-use Rattle.std.proofs.lemmas.List.{append_assoc}
-use Rattle.std.proofs.lemmas.Result.{err_from_is_err_and}
+use Rattle.std.proofs.{Common.{◌≡◌, ℕ, List, ◌++◌, ap, ◌∙◌, length}, lemmas.{List.{append_assoc}, Result.{err_from_is_err_and}}}
 use Rattle.hc_fields.proofs.LineLemmas.{begins_with}
-use Rattle.hc_record.specs.declared.version.Version.TheVariants.{Second}
-use Rattle.hc_record.specs.Lines.{version_line, seal_line}
-use Rattle.hc_record.specs.Plain.{plain}
-use Rattle.hc_record.specs.Record.{head_numbers}
+use Rattle.hc_record.specs.{declared.version.Version.TheVariants.{Second}, Lines.{version_line, seal_line}, Plain.{plain}, Record.{head_numbers}}
 use Rattle.hc_record.proofs.write.write_parts.Goals as goal
 
 pub returns-in_err-write_numbers-clause-err : goal.returns-in_err-write_numbers-clause-err

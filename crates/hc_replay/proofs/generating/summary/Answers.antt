@@ -1,7 +1,6 @@
 use Rattle.std.proofs.Common.{◌≡◌, ◌++◌, List, ℕ, arith, ap, subst, ◌∙◌}
-use Rattle.hc_replay.specs.declared.generating.TheConstants.{PROGRAM_LIMITS}
+use Rattle.hc_replay.specs.{declared.generating.TheConstants.{PROGRAM_LIMITS}, Summaries.{HasGone}}
 use Rattle.hc_generate.specs.Summary.{summary_text}
-use Rattle.hc_replay.specs.Summaries.{HasGone}
 use Rattle.hc_replay.proofs.GoneOn.{may_go_on}
 use Rattle.hc_replay.proofs.generating.summary.Goals as goal
 

@@ -1,5 +1,4 @@
-use Rattle.hc_replay.specs.declared.generating.TheConstants.{PROGRAM_LIMITS}
-use Rattle.hc_replay.specs.Generates.{Stands}
+use Rattle.hc_replay.specs.{declared.generating.TheConstants.{PROGRAM_LIMITS}, Generates.{Stands}}
 use Rattle.hc_replay.proofs.generating.summary.Given as goal
 
 abbrev pub invariant-loop : goal.invariant-loop

@@ -1,9 +1,7 @@
 use Rattle.std.proofs.Common.{◌∙◌, sym}
-use Rattle.hc_rules.specs.Admissions.{is_of}
-use Rattle.hc_rules.specs.declared.admission.Bound.{Bound}
-use Rattle.hc_rules.proofs.LeastFolds.{least_taken, least_left}
+use Rattle.hc_rules.specs.{Admissions.{is_of}, declared.admission.Bound.{Bound}}
+use Rattle.hc_rules.proofs.{LeastFolds.{least_taken, least_left}, admission.least_of.Goals.{then-is_of, else-is_of}}
 use Rattle.hc_rules.proofs.admission.least_of.Goals as goal
-use Rattle.hc_rules.proofs.admission.least_of.Goals.{then-is_of, else-is_of}
 
 pub loop-b-preserved : goal.loop-b-preserved
 loop-b-preserved c =

@@ -1,5 +1,4 @@
-use Rattle.hc_rules.proofs.AdmissionLaws.{admits-as-planned}
-use Rattle.hc_rules.proofs.LeastLaws.{admissions-right}
+use Rattle.hc_rules.proofs.{AdmissionLaws.{admits-as-planned}, LeastLaws.{admissions-right}}
 use Rattle.hc_rules.proofs.laws.admissions_are_right.Goals as goal
 
 pub returns-clause-beside : goal.returns-clause-beside

@@ -1,5 +1,4 @@
-use Rattle.std.proofs.Common.{◌≡◌, ◌+◌, ℕ, drop}
-use Rattle.std.specs.Prelude.{option_map}
+use Rattle.std.{proofs.Common.{◌≡◌, ◌+◌, ℕ, drop}, specs.Prelude.{option_map}}
 use Rattle.hc_rules.specs.Rooms.{gives_way}
 use Rattle.hc_rules.proofs.room.gives_way.Given as goal
 

@@ -1,11 +1,8 @@
-use Rattle.std.proofs.Common.{◌∙◌}
-use Rattle.std.proofs.lemmas.Bool.{eq-eqb}
+use Rattle.std.proofs.{Common.{◌∙◌}, lemmas.Bool.{eq-eqb}}
 use Rattle.hc_text.proofs.Basics.{eqb-other}
-use Rattle.hc_rules.specs.Survivors.{stands_at}
-use Rattle.hc_rules.specs.declared.survivor.Member.{Member}
-use Rattle.hc_rules.proofs.LeastFolds.{least_taken, least_left}
+use Rattle.hc_rules.specs.{Survivors.{stands_at}, declared.survivor.Member.{Member}}
+use Rattle.hc_rules.proofs.{LeastFolds.{least_taken, least_left}, survivor.survivor_at.Goals.{then-member-end, else-member-end}}
 use Rattle.hc_rules.proofs.survivor.survivor_at.Goals as goal
-use Rattle.hc_rules.proofs.survivor.survivor_at.Goals.{then-member-end, else-member-end}
 
 pub loop-member-preserved : goal.loop-member-preserved
 loop-member-preserved c =

@@ -2,8 +2,7 @@ use Rattle.std.proofs.Common.{rules, arith, ◌∙◌, ◌≤◌, ◌+◌, ◌^�
 use Rattle.hc_contents.specs.PlainContents.{plain_contents}
 use Rattle.hc_effects.proofs.Vocabulary.{no_contents}
 use Rattle.hc_core.specs.Steps.{limits_in}
-use Rattle.hc_image.proofs.Fitting.{image_of_good}
-use Rattle.hc_image.proofs.Written.{image_written}
+use Rattle.hc_image.proofs.{Fitting.{image_of_good}, Written.{image_written}}
 use Rattle.hc_saving.proofs.Saved.{image_left}
 use Rattle.hc_saving.proofs.leaving.image_left.Goals as goal
 

@@ -1,8 +1,6 @@
-use Rattle.std.proofs.Common.{ℕ, List, ◌++◌, take, ap, ◌∙◌, subst}
-use Rattle.std.proofs.lemmas.List.{take-append-drop}
+use Rattle.std.proofs.{Common.{ℕ, List, ◌++◌, take, ap, ◌∙◌, subst}, lemmas.List.{take-append-drop}}
 use Rattle.hc_contents.specs.PlainContents.{plain_contents}
-use Rattle.hc_image.specs.Readings.{BeginsWithNone}
-use Rattle.hc_image.specs.Spelled.{SpellsImage}
+use Rattle.hc_image.specs.{Readings.{BeginsWithNone}, Spelled.{SpellsImage}}
 use Rattle.hc_saving.specs.Opens as opens
 use Rattle.hc_saving.proofs.reopening.parts_of.Goals as goal
 

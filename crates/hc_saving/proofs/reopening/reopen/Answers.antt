@@ -3,8 +3,7 @@ use Rattle.hc_contents.specs.PlainContents.{plain_contents}
 use Rattle.hc_io.specs.Memory.{PlainState}
 use Rattle.hc_saving.specs.Opens as opens
 use Rattle.hc_saving.specs.Saves.{saved_of}
-use Rattle.hc_saving.proofs.Opened.{always_taken, begun_moment, reopened_ends, reopened_completes, unbegun_ends, unbegun_completes, unopened_ends, unopened_completes}
-use Rattle.hc_saving.proofs.Saved.{never_risen}
+use Rattle.hc_saving.proofs.{Opened.{always_taken, begun_moment, reopened_ends, reopened_completes, unbegun_ends, unbegun_completes, unopened_ends, unopened_completes}, Saved.{never_risen}}
 use Rattle.hc_saving.proofs.reopening.reopen.Goals as goal
 
 pub returns-in-Err-SourceFailed-clause-ends : goal.returns-in-Err-SourceFailed-clause-ends

@@ -1,6 +1,4 @@
-use Rattle.std.proofs.Common.{◌≡◌, ℕ, List, [], ◌∷◌, ◌++◌, refl, append_assoc}
-use Rattle.std.specs.Fmt.{decimal, digits}
-use Rattle.std.specs.Prelude.{codes}
+use Rattle.std.{proofs.Common.{◌≡◌, ℕ, List, [], ◌∷◌, ◌++◌, refl, append_assoc}, specs.{Fmt.{decimal, digits}, Prelude.{codes}}}
 use Rattle.hc_sched.proofs.event.write_poll.Goals as goal
 
 usual : decimal 16384 ≡ codes "16384"

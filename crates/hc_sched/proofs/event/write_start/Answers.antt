@@ -1,6 +1,4 @@
-use Rattle.std.proofs.Common.{◌≡◌, ℕ, List, [], ◌∷◌, ◌++◌, length, append_assoc}
-use Rattle.std.specs.Fmt.{decimal}
-use Rattle.std.specs.Prelude.{Result, Ok, Err, OnOk, codes}
+use Rattle.std.{proofs.Common.{◌≡◌, ℕ, List, [], ◌∷◌, ◌++◌, length, append_assoc}, specs.{Fmt.{decimal}, Prelude.{Result, Ok, Err, OnOk, codes}}}
 use Rattle.hc_sched.specs.Schedule.{load_word}
 use Rattle.hc_sched.proofs.event.write_start.Goals as goal
 

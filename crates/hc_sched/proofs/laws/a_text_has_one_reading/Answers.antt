@@ -1,5 +1,4 @@
-use Rattle.hc_sched.proofs.FeedLemmas.{after-append, events_in-append}
-use Rattle.hc_sched.proofs.OneReading.{is_read, is_spelled, one_spelling, stays_refused, brings_items, brings_all, brings_timed}
+use Rattle.hc_sched.proofs.{FeedLemmas.{after-append, events_in-append}, OneReading.{is_read, is_spelled, one_spelling, stays_refused, brings_items, brings_all, brings_timed}}
 use Rattle.hc_sched.proofs.laws.a_text_has_one_reading.Goals as goal
 
 pub returns-clause-spelled : goal.returns-clause-spelled

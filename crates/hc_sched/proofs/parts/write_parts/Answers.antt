@@ -1,5 +1,4 @@
-use Rattle.std.proofs.Common.{refl}
-use Rattle.std.proofs.lemmas.Option.{slice_get-get_or}
+use Rattle.std.proofs.{Common.{refl}, lemmas.Option.{slice_get-get_or}}
 use Rattle.hc_sched.specs.Parts.{part_text, parts_text}
 use Rattle.hc_text.proofs.Growth.{texts_grow}
 use Rattle.hc_sched.proofs.parts.write_parts.Goals as goal

@@ -1,6 +1,4 @@
-use Rattle.std.proofs.Common.{◌≡◌, ℕ, ◌+◌, ◌-◌, ◌==◌, length, take, drop, arith, length-drop, Some, None, true, rules}
-use Rattle.std.specs.Prelude.{position}
-use Rattle.std.proofs.lemmas.List.{take_all}
+use Rattle.std.{proofs.{Common.{◌≡◌, ℕ, ◌+◌, ◌-◌, ◌==◌, length, take, drop, arith, length-drop, Some, None, true, rules}, lemmas.List.{take_all}}, specs.Prelude.{position}}
 use Rattle.hc_text.specs.Texts.{lacks}
 use Rattle.hc_text.proofs.Cuts.{cut-position, lacks-all}
 use Rattle.hc_sched.proofs.reader.next_line.Goals as goal

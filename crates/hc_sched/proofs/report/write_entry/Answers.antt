@@ -1,5 +1,4 @@
-use Rattle.std.proofs.Common.{refl}
-use Rattle.std.proofs.lemmas.Option.{slice_get_read}
+use Rattle.std.proofs.{Common.{refl}, lemmas.Option.{slice_get_read}}
 use Rattle.hc_sched.specs.Report.{act_text, acts_text}
 use Rattle.hc_text.proofs.Growth.{texts_grow}
 use Rattle.hc_sched.proofs.report.write_entry.Goals as goal

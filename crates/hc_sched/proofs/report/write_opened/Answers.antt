@@ -1,5 +1,4 @@
-use Rattle.std.proofs.Common.{◌∙◌, append_assoc}
-use Rattle.std.proofs.lemmas.Result.{on_ok_weaker}
+use Rattle.std.proofs.{Common.{◌∙◌, append_assoc}, lemmas.Result.{on_ok_weaker}}
 use Rattle.hc_sched.proofs.report.write_opened.Goals as goal
 
 pub returns-clause-ok : goal.returns-clause-ok

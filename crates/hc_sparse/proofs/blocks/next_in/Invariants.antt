@@ -1,6 +1,5 @@
 use Rattle.std.proofs.Common.{◌-◌, ◌≤◌, ◌^◌}
-use Rattle.hc_sparse.specs.Extents.{AreFree}
-use Rattle.hc_sparse.specs.BlockMaps.{marks}
+use Rattle.hc_sparse.specs.{Extents.{AreFree}, BlockMaps.{marks}}
 use Rattle.hc_sparse.proofs.blocks.next_in.Given as goal
 
 abbrev pub invariant-loop-n : goal.invariant-loop-n

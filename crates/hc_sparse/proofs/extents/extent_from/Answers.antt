@@ -1,10 +1,6 @@
-use Rattle.std.proofs.Common.{◌≡◌, ℕ, ◌<◌, ◌≤◌, List, length, Option, Some, None, true, sym, ◌∙◌, ap, arith, get_or, subst}
-use Rattle.std.proofs.lemmas.Bool.Decides.{nat_tests}
-use Rattle.std.specs.Option.{IsNone, IfSome}
-use Rattle.std.specs.Slice.{IsItemAt}
+use Rattle.std.{proofs.{Common.{◌≡◌, ℕ, ◌<◌, ◌≤◌, List, length, Option, Some, None, true, sym, ◌∙◌, ap, arith, get_or, subst}, lemmas.Bool.Decides.{nat_tests}}, specs.{Option.{IsNone, IfSome}, Slice.{IsItemAt}}}
 use denote.Ref.{Bor}
-use Rattle.hc_sparse.specs.declared.extents.Extent.{Extent}
-use Rattle.hc_sparse.specs.Extents.{ascend, place_of, IsExtentFrom}
+use Rattle.hc_sparse.specs.{declared.extents.Extent.{Extent}, Extents.{ascend, place_of, IsExtentFrom}}
 use Rattle.hc_sparse.proofs.ExtentLemmas.{extent-at_place, none-from_place}
 use Rattle.hc_sparse.proofs.extents.extent_from.Goals as goal
 

@@ -1,6 +1,4 @@
-use Rattle.std.proofs.Common.{rules}
-use Rattle.std.proofs.lemmas.List.Sorted.{IsPartitionPoint-from_clause}
-use Rattle.std.specs.Prelude.{nat_le}
+use Rattle.std.{proofs.{Common.{rules}, lemmas.List.Sorted.{IsPartitionPoint-from_clause}}, specs.Prelude.{nat_le}}
 use Rattle.hc_sparse.specs.Runs.{end_of}
 use Rattle.hc_sparse.proofs.RunLemmas.{partitioned, place-is}
 use Rattle.hc_sparse.proofs.runs.place_of.Goals as goal

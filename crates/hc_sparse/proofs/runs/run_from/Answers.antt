@@ -1,10 +1,6 @@
-use Rattle.std.proofs.Common.{◌≡◌, ℕ, ◌<◌, ◌≤◌, List, length, Option, Some, None, true, sym, ◌∙◌, ap, arith, get_or, subst}
-use Rattle.std.proofs.lemmas.Bool.Decides.{nat_tests}
-use Rattle.std.specs.Option.{IsNone, IfSome}
-use Rattle.std.specs.Slice.{IsItemAt}
+use Rattle.std.{proofs.{Common.{◌≡◌, ℕ, ◌<◌, ◌≤◌, List, length, Option, Some, None, true, sym, ◌∙◌, ap, arith, get_or, subst}, lemmas.Bool.Decides.{nat_tests}}, specs.{Option.{IsNone, IfSome}, Slice.{IsItemAt}}}
 use denote.Ref.{Bor}
-use Rattle.hc_sparse.specs.declared.run.Run.{Run}
-use Rattle.hc_sparse.specs.Runs.{ascend, place_of, IsRunFrom}
+use Rattle.hc_sparse.specs.{declared.run.Run.{Run}, Runs.{ascend, place_of, IsRunFrom}}
 use Rattle.hc_sparse.proofs.RunLemmas.{run-at_place, none-from_place}
 use Rattle.hc_sparse.proofs.runs.run_from.Goals as goal
 

@@ -1,5 +1,4 @@
-use Rattle.std.proofs.Common.{sym, subst, ◌∙◌, ap}
-use Rattle.std.specs.Prelude.{codes}
+use Rattle.std.{proofs.Common.{sym, subst, ◌∙◌, ap}, specs.Prelude.{codes}}
 use Rattle.hc_fields.specs.FieldList.{IsWithinLimits, without}
 use Rattle.hc_state.proofs.Varied.{kept_within_limits}
 use Rattle.hc_state.proofs.founded.founded_head.Goals as goal

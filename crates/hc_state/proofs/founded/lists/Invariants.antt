@@ -1,5 +1,4 @@
-use Rattle.std.proofs.Common.{◌≡◌, ◌-◌, length, drop}
-use Rattle.std.specs.List.{list_any}
+use Rattle.std.{proofs.Common.{◌≡◌, ◌-◌, length, drop}, specs.List.{list_any}}
 use Rattle.hc_text.specs.Elements.{elements}
 use Rattle.hc_state.specs.Founding.{is_named_by}
 use Rattle.hc_state.proofs.founded.lists.Given as goal

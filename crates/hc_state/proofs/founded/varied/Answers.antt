@@ -1,11 +1,8 @@
-use Rattle.std.proofs.Common.{◌∙◌, ◌+◌, ℕ, List, ◌≤◌, drop, length, ap, arith, sym}
-use Rattle.std.proofs.lemmas.List.{drop_all}
-use Rattle.hc_validate.specs.Heads.{FieldPairs}
-use Rattle.hc_validate.specs.Updates.{left_by}
+use Rattle.std.proofs.{Common.{◌∙◌, ◌+◌, ℕ, List, ◌≤◌, drop, length, ap, arith, sym}, lemmas.List.{drop_all}}
+use Rattle.hc_validate.specs.{Heads.{FieldPairs}, Updates.{left_by}}
 use Rattle.hc_validate.proofs.Renewals.{left_by-nil}
-use Rattle.hc_state.proofs.Varied.{unnamed, varied-first, varied-removed, varied-kept}
+use Rattle.hc_state.proofs.{Varied.{unnamed, varied-first, varied-removed, varied-kept}, founded.varied.Goals.{then-not-is_varied, else-not-is_varied}}
 use Rattle.hc_state.proofs.founded.varied.Goals as goal
-use Rattle.hc_state.proofs.founded.varied.Goals.{then-not-is_varied, else-not-is_varied}
 
 pub loop-i-init : goal.loop-i-init
 loop-i-init c = ap (left_by (unnamed c.args.told.now c.args.asked.now)) c.in_ok-fields.ensures ∙ varied-first c.args.asked.now c.args.told.now

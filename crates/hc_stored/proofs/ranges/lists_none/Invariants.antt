@@ -1,5 +1,4 @@
-use Rattle.std.proofs.Common.{◌≡◌, ◌-◌, length, drop}
-use Rattle.std.specs.List.{list_any}
+use Rattle.std.{proofs.Common.{◌≡◌, ◌-◌, length, drop}, specs.List.{list_any}}
 use Rattle.hc_text.specs.Elements.{elements}
 use Rattle.hc_stored.specs.Heads.{is_none_element}
 use Rattle.hc_stored.proofs.ranges.lists_none.Given as goal

@@ -1,6 +1,5 @@
 use Rattle.std.proofs.Common.{sym, rules}
-use Rattle.hc_target.proofs.TargetLemmas.{is_target-not_utf8, is_target-own}
-use Rattle.hc_target.proofs.PlainTargets.{plain_target}
+use Rattle.hc_target.proofs.{TargetLemmas.{is_target-not_utf8, is_target-own}, PlainTargets.{plain_target}}
 use Rattle.hc_target.proofs.target.is_target.Goals as goal
 
 pub returns-in_default-clause-value : goal.returns-in_default-clause-value

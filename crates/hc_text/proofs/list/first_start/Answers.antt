@@ -1,7 +1,6 @@
 use Rattle.std.proofs.Common.{◌∙◌, sym, arith}
-use Rattle.hc_text.proofs.ElementLemmas.{elements_skip_blank, elements_skip_comma, elements_past}
+use Rattle.hc_text.proofs.{ElementLemmas.{elements_skip_blank, elements_skip_comma, elements_past}, list.first_start.Goals.{else-not-is_blank-via-then-not-is_blank+else-text-at-ne44, else-not-is_blank-via-else-not-is_blank}}
 use Rattle.hc_text.proofs.list.first_start.Goals as goal
-use Rattle.hc_text.proofs.list.first_start.Goals.{else-not-is_blank-via-then-not-is_blank+else-text-at-ne44, else-not-is_blank-via-else-not-is_blank}
 
 pub loop-at-preserved : goal.loop-at-preserved
 loop-at-preserved c =

@@ -1,5 +1,4 @@
-use Rattle.std.proofs.Common.{◌≡◌, ◌-◌, ◌≤◌, length, drop}
-use Rattle.std.specs.Prelude.{slice_range}
+use Rattle.std.{proofs.Common.{◌≡◌, ◌-◌, ◌≤◌, length, drop}, specs.Prelude.{slice_range}}
 use Rattle.hc_text.specs.Elements.{cut_pieces, begin_with, Outside}
 use Rattle.hc_text.proofs.list.piece_end.Given as goal
 

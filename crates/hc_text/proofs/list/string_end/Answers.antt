@@ -1,8 +1,7 @@
 use Rattle.std.proofs.Common.{arith}
 use Rattle.hc_text.specs.Elements.{Within}
-use Rattle.hc_text.proofs.ElementLemmas.{cut_start, cut_close, cut_taken, cut_within}
+use Rattle.hc_text.proofs.{ElementLemmas.{cut_start, cut_close, cut_taken, cut_within}, list.string_end.Goals.{then-taken, else-taken+else-text-at-eq34}}
 use Rattle.hc_text.proofs.list.string_end.Goals as goal
-use Rattle.hc_text.proofs.list.string_end.Goals.{then-taken, else-taken+else-text-at-eq34}
 
 pub loop-at-init : goal.loop-at-init
 loop-at-init c = cut_start c.args.text.now c.args.start Within

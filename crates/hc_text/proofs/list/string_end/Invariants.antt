@@ -1,5 +1,4 @@
-use Rattle.std.proofs.Common.{◌≡◌, cond, drop}
-use Rattle.std.specs.Prelude.{slice_range}
+use Rattle.std.{proofs.Common.{◌≡◌, cond, drop}, specs.Prelude.{slice_range}}
 use Rattle.hc_text.specs.Elements.{cut_pieces, begin_with, Within, Taken}
 use Rattle.hc_text.proofs.list.string_end.Given as goal
 

@@ -1,5 +1,4 @@
-use Rattle.std.proofs.Common.{◌≡◌, ◌-◌, ◌+◌, ◌∙◌, sym, ap, arith}
-use Rattle.std.specs.Prelude.{slice_range}
+use Rattle.std.{proofs.Common.{◌≡◌, ◌-◌, ◌+◌, ◌∙◌, sym, ap, arith}, specs.Prelude.{slice_range}}
 use Rattle.hc_text.specs.Elements.{trim_end}
 use Rattle.hc_text.proofs.ElementLemmas.{before_blank, blanks_more, trim_end_less, trim_end_here}
 use Rattle.hc_text.proofs.list.trimmed_end.Goals as goal

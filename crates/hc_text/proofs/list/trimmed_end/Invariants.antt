@@ -1,5 +1,4 @@
-use Rattle.std.proofs.Common.{◌≡◌, ℕ, ◌<◌, ◌≤◌, true, get_or}
-use Rattle.std.specs.Prelude.{slice_range}
+use Rattle.std.{proofs.Common.{◌≡◌, ℕ, ◌<◌, ◌≤◌, true, get_or}, specs.Prelude.{slice_range}}
 use Rattle.hc_text.specs.Elements.{trim_end, is_blank}
 use Rattle.hc_text.proofs.list.trimmed_end.Given as goal
 

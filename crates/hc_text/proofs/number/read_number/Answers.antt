@@ -1,10 +1,4 @@
-use Rattle.std.proofs.Common.{◌≡◌, ℕ, ◌+◌, ◌<◌, ◌==◌, false, List, [], ◌∷◌, length, refl, sym, ◌∙◌, arith}
-use Rattle.std.specs.Char.{is_ascii_digit}
-use Rattle.std.proofs.lemmas.Bool.{and_from, both_ways}
-use Rattle.std.proofs.lemmas.List.{take_all}
-use Rattle.std.proofs.lemmas.List.Folds.{list_all_at, list_all_more}
-use Rattle.std.proofs.lemmas.Int.Digits.{digits_value_more}
-use Rattle.std.proofs.lemmas.Str.Parse.{digits_value-take-le}
+use Rattle.std.{proofs.{Common.{◌≡◌, ℕ, ◌+◌, ◌<◌, ◌==◌, false, List, [], ◌∷◌, length, refl, sym, ◌∙◌, arith}, lemmas.{Bool.{and_from, both_ways}, List.{take_all, Folds.{list_all_at, list_all_more}}, Int.Digits.{digits_value_more}, Str.Parse.{digits_value-take-le}}}, specs.Char.{is_ascii_digit}}
 use Rattle.hc_text.proofs.NumberLemmas.{tested-AllDigits, IsNumber-tested}
 use Rattle.hc_text.proofs.number.read_number.Goals as goal
 

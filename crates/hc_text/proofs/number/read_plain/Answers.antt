@@ -1,8 +1,7 @@
 use Rattle.std.proofs.Common.{◌≡◌, ℕ, ◌≤◌, List, [], ◌∷◌, length, get_or, Option, Some, None, IfSome, IfNone, arith}
 use Rattle.hc_text.specs.Numbers.{IsPlain, IsNumber}
-use Rattle.hc_text.proofs.NumberLemmas.{IsNumber-plain, IsPlain-number, plain_first}
+use Rattle.hc_text.proofs.{NumberLemmas.{IsNumber-plain, IsPlain-number, plain_first}, number.read_plain.Goals.{else-text-gt1-via-then-text-gt1+else-text-eq48, else-text-gt1-via-else-text-gt1}}
 use Rattle.hc_text.proofs.number.read_plain.Goals as goal
-use Rattle.hc_text.proofs.number.read_plain.Goals.{else-text-gt1-via-then-text-gt1+else-text-eq48, else-text-gt1-via-else-text-gt1}
 
 one_byte : (text : List ℕ) → length text ≤ 1 → get_or text 0 0 ≡ 48 → length text ≡ 1
 one_byte [] short zero = absurd (omega arith)

@@ -1,6 +1,4 @@
-use Rattle.std.proofs.Common.{◌≡◌, ℕ, ◌+◌, ◌==◌, List, Option, Some, None, Bool, true, false, not, refl, ap, take, drop, sym, ◌∙◌}
-use Rattle.std.specs.Prelude.{position, is_some}
-use Rattle.std.proofs.lemmas.Bool.{false_from_ne_true}
+use Rattle.std.{proofs.{Common.{◌≡◌, ℕ, ◌+◌, ◌==◌, List, Option, Some, None, Bool, true, false, not, refl, ap, take, drop, sym, ◌∙◌}, lemmas.Bool.{false_from_ne_true}}, specs.Prelude.{position, is_some}}
 use Rattle.hc_text.specs.Texts.{lacks}
 use Rattle.hc_text.proofs.Cuts.{cut-position, lacks-all, lacks-not}
 use Rattle.hc_text.proofs.split.lacks.Goals as goal

@@ -1,6 +1,4 @@
-use Rattle.std.proofs.Common.{◌+◌, arith, sym}
-use Rattle.std.specs.List.{prefix_len}
-use Rattle.std.proofs.lemmas.List.{drop_all}
+use Rattle.std.{proofs.{Common.{◌+◌, arith, sym}, lemmas.List.{drop_all}}, specs.List.{prefix_len}}
 use Rattle.hc_validate.specs.Origin.{is_other}
 use Rattle.hc_validate.proofs.asking.behind_slash.Goals as goal
 

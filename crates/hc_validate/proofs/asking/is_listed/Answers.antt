@@ -1,5 +1,4 @@
-use Rattle.std.proofs.Common.{◌≡◌, Some}
-use Rattle.std.specs.Prelude.{codes}
+use Rattle.std.{proofs.Common.{◌≡◌, Some}, specs.Prelude.{codes}}
 use Rattle.hc_fields.specs.FieldList.{joined_of, values_of}
 use Rattle.hc_validate.proofs.Listed.{listed_in}
 use Rattle.hc_validate.proofs.asking.is_listed.Goals as goal

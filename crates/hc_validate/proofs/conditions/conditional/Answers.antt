@@ -1,9 +1,7 @@
-use Rattle.std.proofs.Common.{◌≡◌, ◌∙◌, ap, arith, sym, refl}
-use Rattle.std.specs.Prelude.{codes, is_some, Option, Some, None, option_map}
+use Rattle.std.{proofs.Common.{◌≡◌, ◌∙◌, ap, arith, sym, refl}, specs.Prelude.{codes, is_some, Option, Some, None, option_map}}
 use Rattle.hc_etag.specs.PlainTags.{plain_tag}
 use Rattle.hc_fields.specs.FieldList.{size_of}
-use Rattle.hc_validate.proofs.Names.{IsToken-if_modified_since, IsToken-if_none_match}
-use Rattle.hc_validate.proofs.Stored.{first_fits}
+use Rattle.hc_validate.proofs.{Names.{IsToken-if_modified_since, IsToken-if_none_match}, Stored.{first_fits}}
 use Rattle.hc_validate.proofs.conditions.conditional.Goals as goal
 
 is_some-option_map : {A B : Type 0} (f : A → B) (o : Option A) → is_some (option_map f o) ≡ is_some o

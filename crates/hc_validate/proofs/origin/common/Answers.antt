@@ -1,8 +1,6 @@
-use Rattle.std.proofs.Common.{◌≡◌, ◌∙◌, ◌++◌, ◌∷◌, [], ℕ, List, ap}
-use Rattle.std.specs.Fmt.{decimal}
+use Rattle.std.{proofs.Common.{◌≡◌, ◌∙◌, ◌++◌, ◌∷◌, [], ℕ, List, ap}, specs.Fmt.{decimal}}
 use Rattle.hc_fields.specs.FieldList.{is_own_value}
-use Rattle.hc_validate.proofs.Names.{IsToken-accept_ranges, IsToken-cache_control, IsToken-etag}
-use Rattle.hc_validate.proofs.Numbers.{own-quoted, quoted}
+use Rattle.hc_validate.proofs.{Names.{IsToken-accept_ranges, IsToken-cache_control, IsToken-etag}, Numbers.{own-quoted, quoted}}
 use Rattle.hc_validate.proofs.origin.common.Goals as goal
 
 pub set_field-requires-clause-name : goal.set_field-requires-clause-name

@@ -1,10 +1,6 @@
-use Rattle.std.proofs.Common.{◌∙◌, ◌++◌, ℕ, List, ap, arith}
-use Rattle.std.specs.Fmt.{decimal}
-use Rattle.std.specs.Prelude.{codes}
+use Rattle.std.{proofs.Common.{◌∙◌, ◌++◌, ℕ, List, ap, arith}, specs.{Fmt.{decimal}, Prelude.{codes}}}
 use Rattle.hc_fields.specs.FieldList.{is_own_value, size_of}
-use Rattle.hc_validate.proofs.Names.{IsToken-content_length, IsToken-content_range}
-use Rattle.hc_validate.proofs.Numbers.{own-unsatisfied}
-use Rattle.hc_validate.proofs.Common.{size-common}
+use Rattle.hc_validate.proofs.{Names.{IsToken-content_length, IsToken-content_range}, Numbers.{own-unsatisfied}, Common.{size-common}}
 use Rattle.hc_validate.proofs.origin.unsatisfied.Goals as goal
 
 pub set_number-requires-clause-name : goal.set_number-requires-clause-name

@@ -1,7 +1,6 @@
 use Rattle.std.proofs.Common.{ap, arith}
 use Rattle.hc_fields.specs.FieldList.{size_of}
-use Rattle.hc_validate.proofs.Names.{IsToken-content_length}
-use Rattle.hc_validate.proofs.Common.{size-common}
+use Rattle.hc_validate.proofs.{Names.{IsToken-content_length}, Common.{size-common}}
 use Rattle.hc_validate.proofs.origin.whole.Goals as goal
 
 pub set_number-requires-clause-name : goal.set_number-requires-clause-name

@@ -1,8 +1,7 @@
 use Rattle.std.proofs.Common.{◌∙◌, ◌++◌, ℕ, List, ap}
 use Rattle.hc_fields.specs.FieldList.{is_own_value}
 use Rattle.hc_range.specs.Spans.{content_range_text}
-use Rattle.hc_validate.proofs.Names.{IsToken-content_length, IsToken-content_range}
-use Rattle.hc_validate.proofs.Numbers.{own-content_range}
+use Rattle.hc_validate.proofs.{Names.{IsToken-content_length, IsToken-content_range}, Numbers.{own-content_range}}
 use Rattle.hc_validate.proofs.showing.add_range.Goals as goal
 
 pub set_number-requires-clause-name : goal.set_number-requires-clause-name

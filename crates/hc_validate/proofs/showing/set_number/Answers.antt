@@ -1,5 +1,4 @@
-use Rattle.std.proofs.Common.{◌∙◌, ◌++◌, ℕ, List, ap}
-use Rattle.std.specs.Fmt.{decimal}
+use Rattle.std.{proofs.Common.{◌∙◌, ◌++◌, ℕ, List, ap}, specs.Fmt.{decimal}}
 use Rattle.hc_fields.specs.FieldList.{is_own_value}
 use Rattle.hc_validate.proofs.Numbers.{own-decimal}
 use Rattle.hc_validate.proofs.showing.set_number.Goals as goal

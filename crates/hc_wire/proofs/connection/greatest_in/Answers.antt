@@ -1,9 +1,5 @@
-use Rattle.std.proofs.Common.{◌≡◌, ℕ, ◌++◌, ◌∷◌, [], take, false, eqb, ltb, ap, ◌∙◌, inl, inr, subst, arith}
-use Rattle.std.proofs.Math.Nat.{le-max_left, le-max_right}
-use Rattle.std.proofs.lemmas.Bool.{cases_Bool, ne_eqb, ltb-true, ltb-false}
-use Rattle.std.proofs.lemmas.List.{take_more}
-use Rattle.hc_wire.specs.Events.{Unseen}
-use Rattle.hc_wire.specs.Logs.{Taker, stage_in}
+use Rattle.std.proofs.{Common.{◌≡◌, ℕ, ◌++◌, ◌∷◌, [], take, false, eqb, ltb, ap, ◌∙◌, inl, inr, subst, arith}, Math.Nat.{le-max_left, le-max_right}, lemmas.{Bool.{cases_Bool, ne_eqb, ltb-true, ltb-false}, List.{take_more}}}
+use Rattle.hc_wire.specs.{Events.{Unseen}, Logs.{Taker, stage_in}}
 use Rattle.hc_wire.proofs.LogLemmas.{unseen-more, unseen-less, seen-last}
 use Rattle.hc_wire.proofs.connection.greatest_in.Goals as goal
 

@@ -1,6 +1,5 @@
 use Rattle.std.proofs.Common.{◌≡◌, ℕ, ◌<◌, take}
-use Rattle.hc_wire.specs.Events.{Unseen}
-use Rattle.hc_wire.specs.Logs.{stage_in}
+use Rattle.hc_wire.specs.{Events.{Unseen}, Logs.{stage_in}}
 use Rattle.hc_wire.proofs.connection.greatest_in.Given as goal
 
 abbrev pub invariant-loop-c : goal.invariant-loop-c

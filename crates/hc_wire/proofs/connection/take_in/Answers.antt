@@ -1,6 +1,4 @@
-use Rattle.std.proofs.Common.{◌≡◌, Result, Ok, Err, set, sym, ◌∙◌}
-use Rattle.std.specs.Prelude.{OnOk}
-use Rattle.std.specs.declared.alloc.AllocError.{AllocError}
+use Rattle.std.{proofs.Common.{◌≡◌, Result, Ok, Err, set, sym, ◌∙◌}, specs.{Prelude.{OnOk}, declared.alloc.AllocError.{AllocError}}}
 use Rattle.hc_wire.specs.Logs.{taking, changed_at}
 use Rattle.hc_wire.proofs.LogLemmas.{changed-some, changed-none}
 use Rattle.hc_wire.proofs.connection.take_in.Goals as goal

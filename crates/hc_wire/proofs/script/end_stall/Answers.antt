@@ -1,5 +1,4 @@
-use Rattle.std.proofs.Common.{rules}
-use Rattle.std.proofs.lemmas.Fn.{filter_same}
+use Rattle.std.proofs.{Common.{rules}, lemmas.Fn.{filter_same}}
 use Rattle.hc_wire.proofs.StallLemmas.{is_other, unstalled}
 use Rattle.hc_wire.proofs.script.end_stall.Goals as goal
 

@@ -1,5 +1,4 @@
-use Rattle.std.proofs.Common.{rules}
-use Rattle.std.proofs.lemmas.Fn.{filter_same}
+use Rattle.std.proofs.{Common.{rules}, lemmas.Fn.{filter_same}}
 use Rattle.hc_wire.proofs.StallLemmas.{is_other, stalled_anew}
 use Rattle.hc_wire.proofs.script.stall_in.Goals as goal
 

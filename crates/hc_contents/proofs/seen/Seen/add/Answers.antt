@@ -1,7 +1,4 @@
-use Rattle.std.proofs.Common.{ℕ, List, ◌∙◌, ap, bytes_eq, nat_eq}
-use Rattle.std.specs.Prelude.{◌||◌, ◌==◌}
-use Rattle.std.specs.List.{list_any}
-use Rattle.std.specs.HashSet.{contains, contains_by}
+use Rattle.std.{proofs.Common.{ℕ, List, ◌∙◌, ap, bytes_eq, nat_eq}, specs.{Prelude.{◌||◌, ◌==◌}, List.{list_any}, HashSet.{contains, contains_by}}}
 use Rattle.hc_sparse.specs.declared.run.Run.{Run}
 use Rattle.hc_contents.specs.PlainContents.{plain_item}
 use Rattle.hc_contents.proofs.Knowing.{key_added, said_more}

@@ -1,5 +1,4 @@
-use Rattle.std.proofs.Common.{ℕ, List, ◌∙◌, ap, bytes_eq}
-use Rattle.std.specs.HashSet.{contains_by}
+use Rattle.std.{proofs.Common.{ℕ, List, ◌∙◌, ap, bytes_eq}, specs.HashSet.{contains_by}}
 use Rattle.hc_contents.proofs.seen.Seen.has_key.Goals as goal
 
 pub returns : goal.returns

@@ -1,5 +1,4 @@
-use Rattle.std.proofs.Common.{◌+◌, ◌∙◌, ap, sym, not, drop}
-use Rattle.std.specs.Prelude.{◌&&◌}
+use Rattle.std.{proofs.Common.{◌+◌, ◌∙◌, ap, sym, not, drop}, specs.Prelude.{◌&&◌}}
 use Rattle.hc_model.specs.Beginnings.{has_own_numbers}
 use Rattle.hc_contents.specs.PlainContents.{plain_item}
 use Rattle.hc_contents.proofs.seen.Seen.is_apart.Goals as goal

@@ -1,5 +1,4 @@
-use Rattle.std.proofs.Common.{refl}
-use Rattle.std.proofs.Math.Logic.{∥∥₁_map}
+use Rattle.std.proofs.{Common.{refl}, Math.Logic.{∥∥₁_map}}
 use Rattle.hc_core.proofs.ContentsTold.{contents_told, may_again, good_still}
 use Rattle.hc_core.proofs.cache.Cache.contents.Goals as goal
 

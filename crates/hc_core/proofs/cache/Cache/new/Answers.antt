@@ -1,5 +1,4 @@
-use Rattle.std.proofs.Common.{◌≡◌, ℕ, None, refl, ap, ◌∙◌, arith, nat_eq}
-use Rattle.std.specs.HashMap.{get}
+use Rattle.std.{proofs.Common.{◌≡◌, ℕ, None, refl, ap, ◌∙◌, arith, nat_eq}, specs.HashMap.{get}}
 use Rattle.hc_core.proofs.Stepping.{begins_good, stands_beginning}
 use Rattle.hc_core.proofs.cache.Cache.new.Goals as goal
 

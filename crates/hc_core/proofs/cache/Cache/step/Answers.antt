@@ -1,11 +1,8 @@
-use Rattle.std.proofs.Common.{ℕ, ◌+◌, refl, sym, subst, arith}
-use Rattle.std.proofs.Math.Logic.{∥∥₁_map}
+use Rattle.std.proofs.{Common.{ℕ, ◌+◌, refl, sym, subst, arith}, Math.Logic.{∥∥₁_map}}
 use Rattle.hc_effects.proofs.Vocabulary.{act_list, refusal_of}
 use Rattle.hc_effects.proofs.Basics.{some_row}
-use Rattle.hc_state.specs.Good.{StandsAt}
-use Rattle.hc_state.specs.Stands.{gate_of}
-use Rattle.hc_core.proofs.Opened.{next_after}
-use Rattle.hc_core.proofs.Stepping.{small_part, fewer, until_at, some_after, small_starts, steps_on, keeps_promises}
+use Rattle.hc_state.specs.{Good.{StandsAt}, Stands.{gate_of}}
+use Rattle.hc_core.proofs.{Opened.{next_after}, Stepping.{small_part, fewer, until_at, some_after, small_starts, steps_on, keeps_promises}}
 use Rattle.hc_core.proofs.cache.Cache.step.Goals as goal
 
 pub answer-requires-clause-stands : goal.answer-requires-clause-stands

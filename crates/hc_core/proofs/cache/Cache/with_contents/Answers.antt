@@ -1,9 +1,7 @@
 use Rattle.std.proofs.Common.{◌≡◌, ◌<◌, ◌≤◌, ◌^◌, true, refl, sym, ◌∙◌, subst, arith}
 use Rattle.hc_effects.proofs.Vocabulary.{Limits, may_begin}
 use Rattle.hc_contents.specs.PlainContents.{plain_contents}
-use Rattle.hc_core.proofs.BegunCache.{may_by, stands_begun_with, good_begun_with, next_begun_with, numbers_fit, small_begun_with}
-use Rattle.hc_core.proofs.BegunItems.{next_fits}
-use Rattle.hc_core.proofs.Likewise.{serves_all}
+use Rattle.hc_core.proofs.{BegunCache.{may_by, stands_begun_with, good_begun_with, next_begun_with, numbers_fit, small_begun_with}, BegunItems.{next_fits}, Likewise.{serves_all}}
 use Rattle.hc_core.proofs.cache.Cache.with_contents.Goals as goal
 
 pub returns-in-Some-clause-refused : goal.returns-in-Some-clause-refused

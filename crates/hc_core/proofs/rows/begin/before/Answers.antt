@@ -1,5 +1,4 @@
-use Rattle.std.proofs.Common.{◌≡◌, ℕ, None, refl, ap, ◌∙◌, nat_eq}
-use Rattle.std.specs.HashMap.{get}
+use Rattle.std.{proofs.Common.{◌≡◌, ℕ, None, refl, ap, ◌∙◌, nat_eq}, specs.HashMap.{get}}
 use Rattle.hc_contents.specs.PlainContents.{plain_contents}
 use Rattle.hc_core.proofs.BegunRows.{stands_before}
 use Rattle.hc_core.proofs.rows.begin.before.Goals as goal

@@ -1,9 +1,6 @@
-use Rattle.std.proofs.Common.{◌≡◌, ℕ, ◌+◌, ◌≤◌, ◌<◌, ◌^◌, List, length, None, ap, ◌∙◌, subst, arith}
-use Rattle.std.specs.Prelude.{option_map}
+use Rattle.std.{proofs.Common.{◌≡◌, ℕ, ◌+◌, ◌≤◌, ◌<◌, ◌^◌, List, length, None, ap, ◌∙◌, subst, arith}, specs.Prelude.{option_map}}
 use Rattle.hc_sparse.proofs.SizeLemmas.{size-none}
-use Rattle.hc_stored.specs.Entries.{shelf_of}
-use Rattle.hc_stored.specs.Kept.{kept_with_bytes}
-use Rattle.hc_stored.specs.Shelf.{Becomes, same_order}
+use Rattle.hc_stored.specs.{Entries.{shelf_of}, Kept.{kept_with_bytes}, Shelf.{Becomes, same_order}}
 use Rattle.hc_core.proofs.BegunItems.{none_put, still_kept, is_placed, more_put, calm_ok}
 use Rattle.hc_core.proofs.rows.begin.put_runs.Goals as goal
 

@@ -1,5 +1,4 @@
-use Rattle.std.proofs.Common.{◌≡◌, Some, refl, ap, sym, ◌∙◌, subst}
-use Rattle.std.specs.Option.{option_copied}
+use Rattle.std.{proofs.Common.{◌≡◌, Some, refl, ap, sym, ◌∙◌, subst}, specs.Option.{option_copied}}
 use Rattle.hc_sparse.specs.Cells.{Cells, EndsBy}
 use Rattle.hc_stored.specs.Entries.{shelf_of}
 use Rattle.hc_effects.proofs.Vocabulary.{runs_from}

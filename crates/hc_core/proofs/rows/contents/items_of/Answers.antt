@@ -1,13 +1,10 @@
-use Rattle.std.proofs.Common.{◌≡◌, ℕ, ◌+◌, ◌<◌, List, [], ◌∷◌, ◌++◌, take, map, get_or, true, ap, sym, ◌∙◌, subst}
-use Rattle.std.specs.Prelude.{is_some}
-use Rattle.std.proofs.lemmas.List.{map-append}
+use Rattle.std.{proofs.{Common.{◌≡◌, ℕ, ◌+◌, ◌<◌, List, [], ◌∷◌, ◌++◌, take, map, get_or, true, ap, sym, ◌∙◌, subst}, lemmas.List.{map-append}}, specs.Prelude.{is_some}}
 use Rattle.hc_stored.specs.Entries.{shelf_of}
 use Rattle.hc_effects.proofs.Vocabulary.{Content}
 use Rattle.hc_contents.specs.declared.contents.Content as coded
 use Rattle.hc_contents.specs.PlainContents.{plain_item}
 use Rattle.hc_state.specs.Remains.{TellsAll}
-use Rattle.hc_core.proofs.BegunItems.{calm_ok, take_next}
-use Rattle.hc_core.proofs.ContentsTold.{stays_then, idle_at, one_back, tells_more, any_default}
+use Rattle.hc_core.proofs.{BegunItems.{calm_ok, take_next}, ContentsTold.{stays_then, idle_at, one_back, tells_more, any_default}}
 use Rattle.hc_core.proofs.rows.contents.items_of.Goals as goal
 
 pub content_of-requires : goal.content_of-requires

@@ -1,6 +1,5 @@
 use Rattle.std.proofs.Common.{◌≡◌, map, take}
-use Rattle.hc_stored.specs.Entries.{shelf_of}
-use Rattle.hc_stored.specs.Shelf.{Stays}
+use Rattle.hc_stored.specs.{Entries.{shelf_of}, Shelf.{Stays}}
 use Rattle.hc_contents.specs.PlainContents.{plain_item}
 use Rattle.hc_state.specs.Remains.{TellsAll}
 use Rattle.hc_core.proofs.rows.contents.items_of.Given as goal

@@ -1,15 +1,9 @@
-use Rattle.std.proofs.Common.{◌≡◌, ℕ, ◌+◌, ◌-◌, ◌≤◌, ◌<◌, ◌^◌, List, [], ◌∷◌, ◌++◌, length, None, Some, Option, refl, ap, sym, ◌∙◌, subst, arith}
-use Rattle.std.specs.Prelude.{is_some, IfSome}
+use Rattle.std.{proofs.Common.{◌≡◌, ℕ, ◌+◌, ◌-◌, ◌≤◌, ◌<◌, ◌^◌, List, [], ◌∷◌, ◌++◌, length, None, Some, Option, refl, ap, sym, ◌∙◌, subst, arith}, specs.Prelude.{is_some, IfSome}}
 use Rattle.hc_text.proofs.Basics.{false_true}
-use Rattle.hc_sparse.specs.Cells.{Cells, IsNext}
-use Rattle.hc_sparse.specs.Stretch.{stretch, IsLongest}
-use Rattle.hc_sparse.specs.declared.run.Run.{Run}
+use Rattle.hc_sparse.specs.{Cells.{Cells, IsNext}, Stretch.{stretch, IsLongest}, declared.run.Run.{Run}}
 use Rattle.hc_sparse.proofs.StretchLemmas.{stretch-absent, stretch-longest}
-use Rattle.hc_stored.specs.Entries.{shelf_of}
-use Rattle.hc_stored.specs.Shelf.{cells_at}
-use Rattle.hc_core.proofs.Remaining.{AreFound, none_found, more_found, all_found, goes_nearer, stays_within, some_left}
-use Rattle.hc_core.proofs.BegunItems.{calm_ok}
-use Rattle.hc_core.proofs.ContentsTold.{stays_itself, stays_then, cells_same}
+use Rattle.hc_stored.specs.{Entries.{shelf_of}, Shelf.{cells_at}}
+use Rattle.hc_core.proofs.{Remaining.{AreFound, none_found, more_found, all_found, goes_nearer, stays_within, some_left}, BegunItems.{calm_ok}, ContentsTold.{stays_itself, stays_then, cells_same}}
 use Rattle.hc_core.proofs.rows.contents.runs_of.Goals as goal
 
 pub runs-init : goal.runs-init

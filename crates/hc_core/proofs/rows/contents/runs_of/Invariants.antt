@@ -1,6 +1,5 @@
 use Rattle.std.proofs.Common.{◌≡◌, ◌-◌, ◌≤◌, ◌^◌}
-use Rattle.hc_stored.specs.Entries.{shelf_of}
-use Rattle.hc_stored.specs.Shelf.{Stays, cells_at}
+use Rattle.hc_stored.specs.{Entries.{shelf_of}, Shelf.{Stays, cells_at}}
 use Rattle.hc_core.proofs.Remaining.{AreFound}
 use Rattle.hc_core.proofs.rows.contents.runs_of.Given as goal
 

@@ -1,8 +1,6 @@
 use Rattle.std.proofs.Common.{List, sym, subst, arith}
-use Rattle.hc_sched.specs.declared.schedule.Timed.{Timed}
-use Rattle.hc_sched.specs.Laws.{AreTimed}
-use Rattle.hc_driver.proofs.Timings.{timed_front}
-use Rattle.hc_driver.proofs.Runs.{fed_front, front_small, front_few, passes_stopped, passes_fed, comes_err}
+use Rattle.hc_sched.specs.{declared.schedule.Timed.{Timed}, Laws.{AreTimed}}
+use Rattle.hc_driver.proofs.{Timings.{timed_front}, Runs.{fed_front, front_small, front_few, passes_stopped, passes_fed, comes_err}}
 use Rattle.hc_driver.proofs.answering.Answering.go_piece.Goals as goal
 
 pub go_all-requires-clause-timed : goal.go_all-requires-clause-timed

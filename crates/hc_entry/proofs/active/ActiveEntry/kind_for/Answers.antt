@@ -1,5 +1,4 @@
-use Rattle.std.proofs.Common.{◌≡◌, [], true, subst, ap, ◌∙◌}
-use Rattle.std.specs.Prelude.{IfSome}
+use Rattle.std.{proofs.Common.{◌≡◌, [], true, subst, ap, ◌∙◌}, specs.Prelude.{IfSome}}
 use Rattle.hc_rules.specs.declared.admission.BoundKind.TheVariants as kind
 use Rattle.hc_rules.specs.Admissions.{admission_of, is_same_kind}
 use Rattle.hc_entry.specs.Users.{Users, are_all, first_of, admission_by, kind_by}

@@ -1,5 +1,4 @@
-use Rattle.std.proofs.Common.{◌≤◌, length, refl, sym, ap, ◌∙◌, arith}
-use Rattle.std.proofs.lemmas.Bool.{and_parts}
+use Rattle.std.proofs.{Common.{◌≤◌, length, refl, sym, ap, ◌∙◌, arith}, lemmas.Bool.{and_parts}}
 use Rattle.hc_sorted.specs.Sorted.{has}
 use Rattle.hc_rules.specs.declared.admission.BoundKind.TheVariants as kind
 use Rattle.hc_rules.specs.Admissions.{is_same_kind}

@@ -1,5 +1,4 @@
-use Rattle.std.proofs.Common.{◌≡◌, ◌≤◌, length, true, false, refl, sym, ap, ◌∙◌, arith}
-use Rattle.std.specs.Prelude.{◌&&◌}
+use Rattle.std.{proofs.Common.{◌≡◌, ◌≤◌, length, true, false, refl, sym, ap, ◌∙◌, arith}, specs.Prelude.{◌&&◌}}
 use Rattle.hc_sorted.specs.Sorted.{has}
 use Rattle.hc_rules.specs.declared.admission.BoundKind.TheVariants as kind
 use Rattle.hc_rules.specs.Admissions.{is_same_kind}

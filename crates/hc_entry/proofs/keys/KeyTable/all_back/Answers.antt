@@ -1,9 +1,6 @@
 use Rattle.std.proofs.Common.{sym, ap, ◌∙◌}
-use Rattle.hc_entry.specs.Lines.{all_back}
-use Rattle.hc_entry.specs.Kept.{line_in, on_line, is_nothing}
-use Rattle.hc_entry.specs.KeyRows.{rows_of}
-use Rattle.hc_entry.proofs.OrderLemmas.{orderly-all}
-use Rattle.hc_entry.proofs.KeyLemmas.{kept-here, tidy-changes, orderly-changes, nothing-all}
+use Rattle.hc_entry.specs.{Lines.{all_back}, Kept.{line_in, on_line, is_nothing}, KeyRows.{rows_of}}
+use Rattle.hc_entry.proofs.{OrderLemmas.{orderly-all}, KeyLemmas.{kept-here, tidy-changes, orderly-changes, nothing-all}}
 use Rattle.hc_entry.proofs.keys.KeyTable.all_back.Goals as goal
 
 pub invariant_of-self : goal.invariant_of-self

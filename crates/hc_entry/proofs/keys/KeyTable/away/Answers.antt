@@ -1,8 +1,5 @@
-use Rattle.hc_entry.specs.Lines.{gone_away}
-use Rattle.hc_entry.specs.Kept.{line_in, on_line}
-use Rattle.hc_entry.specs.KeyRows.{rows_of}
-use Rattle.hc_entry.proofs.OrderLemmas.{in-away, orderly-away}
-use Rattle.hc_entry.proofs.KeyLemmas.{tidy-some, orderly-changes, awaited-some}
+use Rattle.hc_entry.specs.{Lines.{gone_away}, Kept.{line_in, on_line}, KeyRows.{rows_of}}
+use Rattle.hc_entry.proofs.{OrderLemmas.{in-away, orderly-away}, KeyLemmas.{tidy-some, orderly-changes, awaited-some}}
 use Rattle.hc_entry.proofs.keys.KeyTable.away.Goals as goal
 
 pub invariant_of-self : goal.invariant_of-self

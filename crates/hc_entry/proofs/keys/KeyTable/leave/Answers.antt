@@ -1,8 +1,5 @@
-use Rattle.hc_entry.specs.Lines.{left_by}
-use Rattle.hc_entry.specs.Kept.{Kept, line_in, on_line}
-use Rattle.hc_entry.specs.KeyRows.{rows_of}
-use Rattle.hc_entry.proofs.OrderLemmas.{orderly-apart}
-use Rattle.hc_entry.proofs.KeyLemmas.{tidy-changes, tidy-elsewhere, orderly-changes}
+use Rattle.hc_entry.specs.{Lines.{left_by}, Kept.{Kept, line_in, on_line}, KeyRows.{rows_of}}
+use Rattle.hc_entry.proofs.{OrderLemmas.{orderly-apart}, KeyLemmas.{tidy-changes, tidy-elsewhere, orderly-changes}}
 use Rattle.hc_entry.proofs.keys.KeyTable.leave.Goals as goal
 
 pub invariant_of-self : goal.invariant_of-self

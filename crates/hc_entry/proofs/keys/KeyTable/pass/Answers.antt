@@ -1,8 +1,5 @@
-use Rattle.hc_entry.specs.Lines.{line_after_pass}
-use Rattle.hc_entry.specs.Kept.{line_in, on_line}
-use Rattle.hc_entry.specs.KeyRows.{rows_of}
-use Rattle.hc_entry.proofs.OrderLemmas.{in-passed, orderly-passed}
-use Rattle.hc_entry.proofs.KeyLemmas.{tidy-some, orderly-changes, awaited-some}
+use Rattle.hc_entry.specs.{Lines.{line_after_pass}, Kept.{line_in, on_line}, KeyRows.{rows_of}}
+use Rattle.hc_entry.proofs.{OrderLemmas.{in-passed, orderly-passed}, KeyLemmas.{tidy-some, orderly-changes, awaited-some}}
 use Rattle.hc_entry.proofs.keys.KeyTable.pass.Goals as goal
 
 pub invariant_of-self : goal.invariant_of-self

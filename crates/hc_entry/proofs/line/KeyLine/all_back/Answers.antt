@@ -1,10 +1,7 @@
 use Rattle.std.proofs.Common.{◌+◌, subst, sym, ap, ◌∙◌, arith}
 use Rattle.hc_text.proofs.Basics.{none_or as none-there}
 use Rattle.hc_entry.specs.Lines.{Line, all_back}
-use Rattle.hc_entry.proofs.SeatLemmas.{line_of}
-use Rattle.hc_entry.proofs.StandLemmas.{orderly-seated}
-use Rattle.hc_entry.proofs.AllBackLemmas.{AreBackBelow, freed, back-none, back-next, back-empty, back-all}
-use Rattle.hc_entry.proofs.line.KeyLine.all_back.Goals.{in-Some, in_default}
+use Rattle.hc_entry.proofs.{SeatLemmas.{line_of}, StandLemmas.{orderly-seated}, AllBackLemmas.{AreBackBelow, freed, back-none, back-next, back-empty, back-all}, line.KeyLine.all_back.Goals.{in-Some, in_default}}
 use Rattle.hc_entry.proofs.line.KeyLine.all_back.Goals as goal
 
 pub loop-i-init : goal.loop-i-init

@@ -1,8 +1,7 @@
 use Rattle.std.proofs.Common.{◌≡◌, ℕ, List, Option, refl, sym, ap, ◌∙◌, arith}
 use Rattle.slab.specs.Slab.{Slab}
 use Rattle.hc_entry.specs.declared.seat.Stand.TheVariants as stand
-use Rattle.hc_entry.specs.Tournaments.{at}
-use Rattle.hc_entry.specs.Lines.{is_in}
+use Rattle.hc_entry.specs.{Tournaments.{at}, Lines.{is_in}}
 use Rattle.hc_entry.proofs.SeatLemmas.{no-seat, seated-entered, entered-in_line, entered-other}
 use Rattle.hc_entry.proofs.line.KeyLine.enter.Goals as goal
 

@@ -1,9 +1,7 @@
 use Rattle.std.proofs.Common.{ap, ◌∙◌}
 use Rattle.hc_entry.specs.declared.seat.Stand.TheVariants as stand
-use Rattle.hc_entry.specs.Seats.{standing}
-use Rattle.hc_entry.specs.Lines.{turn_of}
-use Rattle.hc_entry.proofs.LineLemmas.{stands-held}
-use Rattle.hc_entry.proofs.SeatLemmas.{standing-is_sorted}
+use Rattle.hc_entry.specs.{Seats.{standing}, Lines.{turn_of}}
+use Rattle.hc_entry.proofs.{LineLemmas.{stands-held}, SeatLemmas.{standing-is_sorted}}
 use Rattle.hc_entry.proofs.line.KeyLine.hold.Goals as goal
 
 pub invariant_of-self : goal.invariant_of-self

@@ -1,5 +1,4 @@
-use Rattle.std.proofs.Common.{◌≡◌, Bool, true, false, length, None, refl, sym, ap, ◌∙◌}
-use Rattle.std.specs.Bool.{OnTrue}
+use Rattle.std.{proofs.Common.{◌≡◌, Bool, true, false, length, None, refl, sym, ap, ◌∙◌}, specs.Bool.{OnTrue}}
 use Rattle.hc_entry.specs.Lines.{Line, is_empty}
 use Rattle.hc_entry.proofs.StandLemmas.{empty-seats, test-zero, free-seats, no-entries}
 use Rattle.hc_entry.proofs.line.KeyLine.is_empty.Goals as goal

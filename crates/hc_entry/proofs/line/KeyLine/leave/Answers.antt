@@ -1,6 +1,5 @@
 use Rattle.std.proofs.Common.{sym, ap, ◌∙◌}
-use Rattle.hc_entry.specs.Seats.{seat_of}
-use Rattle.hc_entry.specs.Lines.{is_in, left_by}
+use Rattle.hc_entry.specs.{Seats.{seat_of}, Lines.{is_in, left_by}}
 use Rattle.hc_entry.proofs.SeatLemmas.{seat-in, some-seat, seated-left, places-left, line-left}
 use Rattle.hc_entry.proofs.line.KeyLine.leave.Goals as goal
 

@@ -1,7 +1,5 @@
-use Rattle.std.proofs.Common.{◌≡◌, ℕ, true, Option, Some, None, sym, ap, ◌∙◌}
-use Rattle.std.specs.Prelude.{IfSome}
-use Rattle.hc_entry.specs.Tournaments.{at}
-use Rattle.hc_entry.specs.Lines.{is_in}
+use Rattle.std.{proofs.Common.{◌≡◌, ℕ, true, Option, Some, None, sym, ap, ◌∙◌}, specs.Prelude.{IfSome}}
+use Rattle.hc_entry.specs.{Tournaments.{at}, Lines.{is_in}}
 use Rattle.hc_entry.proofs.SeatLemmas.{seat-in, place-seat}
 use Rattle.hc_entry.proofs.line.KeyLine.seated.Goals as goal
 

@@ -1,8 +1,6 @@
 use Rattle.std.proofs.Common.{sym, ap, ◌∙◌, arith}
-use Rattle.hc_entry.specs.Seats.{seat_of}
-use Rattle.hc_entry.specs.Lines.{Line, is_in, consumer_at}
-use Rattle.hc_entry.proofs.SeatLemmas.{seat-in, some-seat}
-use Rattle.hc_entry.proofs.StandLemmas.{place-within}
+use Rattle.hc_entry.specs.{Seats.{seat_of}, Lines.{Line, is_in, consumer_at}}
+use Rattle.hc_entry.proofs.{SeatLemmas.{seat-in, some-seat}, StandLemmas.{place-within}}
 use Rattle.hc_entry.proofs.line.KeyLine.seats.Goals as goal
 
 pub returns : goal.returns

@@ -1,6 +1,5 @@
 use Rattle.std.proofs.Common.{ap, ◌∙◌}
-use Rattle.hc_entry.specs.Seats.{seat_of, moved_to}
-use Rattle.hc_entry.specs.Lines.{is_in}
+use Rattle.hc_entry.specs.{Seats.{seat_of, moved_to}, Lines.{is_in}}
 use Rattle.hc_entry.proofs.SeatLemmas.{seat-in, some-seat, place-room, seated-moved, line-moved}
 use Rattle.hc_entry.proofs.line.KeyLine.stands_at.Goals as goal
 

@@ -1,7 +1,6 @@
 use Rattle.std.proofs.Common.{ap, ◌∙◌}
 use Rattle.hc_entry.specs.Lines.{turn_of, holder_or}
-use Rattle.hc_entry.proofs.LineLemmas.{or-holder}
-use Rattle.hc_entry.proofs.SeatLemmas.{turn-least}
+use Rattle.hc_entry.proofs.{LineLemmas.{or-holder}, SeatLemmas.{turn-least}}
 use Rattle.hc_entry.proofs.line.KeyLine.turn.Goals as goal
 
 pub returns : goal.returns

@@ -1,7 +1,6 @@
 use Rattle.std.proofs.Common.{Some, sym, ap, ◌∙◌}
 use Rattle.hc_entry.specs.Lines.{turn_with}
-use Rattle.hc_entry.proofs.LineLemmas.{turn_with-first, turn_with-none}
-use Rattle.hc_entry.proofs.SeatLemmas.{turn-least, line_of}
+use Rattle.hc_entry.proofs.{LineLemmas.{turn_with-first, turn_with-none}, SeatLemmas.{turn-least, line_of}}
 use Rattle.hc_entry.proofs.line.KeyLine.turn_with.Goals as goal
 
 pub returns-in-None-Some : goal.returns-in-None-Some

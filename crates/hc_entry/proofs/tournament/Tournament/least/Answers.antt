@@ -1,5 +1,4 @@
-use Rattle.std.proofs.Common.{◌≤◌, None, arith}
-use Rattle.std.proofs.lemmas.List.{get_or_read}
+use Rattle.std.proofs.{Common.{◌≤◌, None, arith}, lemmas.List.{get_or_read}}
 use Rattle.hc_entry.proofs.TournamentLemmas.{wins}
 use Rattle.hc_entry.proofs.tournament.Tournament.least.Goals as goal
 

@@ -1,5 +1,4 @@
-use Rattle.std.proofs.Common.{ℕ, ◌+◌, List, Option, set, drop, length, ap, ◌∙◌, arith, length-set}
-use Rattle.std.proofs.lemmas.List.{take_all, take-append-le}
+use Rattle.std.proofs.{Common.{ℕ, ◌+◌, List, Option, set, drop, length, ap, ◌∙◌, arith, length-set}, lemmas.List.{take_all, take-append-le}}
 use Rattle.hc_entry.specs.Tournaments.{at}
 use Rattle.hc_entry.proofs.TournamentLemmas.{places-set}
 use Rattle.hc_entry.proofs.tournament.Tournament.set.Goals as goal

@@ -1,5 +1,4 @@
-use Rattle.std.proofs.Common.{◌≡◌, ◌≤◌, length, sym, ap, ◌∙◌, arith}
-use Rattle.std.specs.Prelude.{min}
+use Rattle.std.{proofs.Common.{◌≡◌, ◌≤◌, length, sym, ap, ◌∙◌, arith}, specs.Prelude.{min}}
 use Rattle.hc_exch.proofs.PieceLemmas.{IsCounted-take, take-min, drop-min, length-view}
 use Rattle.hc_exch.proofs.held.Held.take.Goals as goal
 

@@ -1,10 +1,7 @@
 use Rattle.std.proofs.Common.{◌≡◌, subst, List, ℕ, Bool, Some, None}
 use Rattle.hc_effects.proofs.Vocabulary.{act_list, Act}
-use Rattle.hc_fetch.specs.Deciding.{by_failure}
-use Rattle.hc_fetch.specs.Firsts.{total_to_start}
-use Rattle.hc_fetch.specs.Hearing.{Takes}
-use Rattle.hc_fetch.proofs.Going.{answered_alone, answered_with}
-use Rattle.hc_fetch.proofs.Totals.{short_start}
+use Rattle.hc_fetch.specs.{Deciding.{by_failure}, Firsts.{total_to_start}, Hearing.{Takes}}
+use Rattle.hc_fetch.proofs.{Going.{answered_alone, answered_with}, Totals.{short_start}}
 use Rattle.hc_fetch.proofs.fetching.Fetching.answer_event.Goals as goal
 
 pub start_others-requires-clause-total : goal.start_others-requires-clause-total

@@ -1,8 +1,7 @@
 use Rattle.std.proofs.Common.{◌≡◌, ◌+◌, sym, refl, subst, arith}
 use Rattle.hc_effects.proofs.Vocabulary.{Event, IsEventWithinLimits, failures_in, received_in}
 use Rattle.hc_core.specs.Steps.{Answers, bytes_received}
-use Rattle.hc_fetch.proofs.Asked.{first_within}
-use Rattle.hc_fetch.proofs.Starting.{begins_none, begins_one, none_came, none_counted}
+use Rattle.hc_fetch.proofs.{Asked.{first_within}, Starting.{begins_none, begins_one, none_came, none_counted}}
 use Rattle.hc_fetch.proofs.fetching.Fetching.begin.Goals as goal
 
 pub returns-then-self-gt1 : goal.returns-then-self-gt1

@@ -1,7 +1,6 @@
 use Rattle.std.proofs.Common.{◌∙◌, sym, subst, List, Option, arith, drop, ◌+◌}
 use Rattle.hc_effects.proofs.Vocabulary.{Act}
-use Rattle.hc_fetch.specs.declared.ended.FetchEnded.{FetchEnded}
-use Rattle.hc_fetch.specs.Hearing.{Takes}
+use Rattle.hc_fetch.specs.{declared.ended.FetchEnded.{FetchEnded}, Hearing.{Takes}}
 use Rattle.hc_fetch.proofs.Hearings.{takes_none, takes_then, next_act, no_more}
 use Rattle.hc_fetch.proofs.fetching.Fetching.hear.Goals as goal
 

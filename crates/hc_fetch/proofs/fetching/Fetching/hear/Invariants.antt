@@ -1,8 +1,5 @@
 use Rattle.std.proofs.Common.{◌≡◌, ℕ, List, Option, drop}
-use Rattle.hc_fetch.specs.declared.ended.FetchEnded.{FetchEnded}
-use Rattle.hc_fetch.specs.declared.fetching.Fetching.{Fetching}
-use Rattle.hc_fetch.specs.Deciding.{by_failure}
-use Rattle.hc_fetch.specs.Hearing.{Takes}
+use Rattle.hc_fetch.specs.{declared.{ended.FetchEnded.{FetchEnded}, fetching.Fetching.{Fetching}}, Deciding.{by_failure}, Hearing.{Takes}}
 use Rattle.hc_fetch.proofs.fetching.Fetching.hear.Given as goal
 
 -- whatever is taken of the acts that are left is what is taken of all of them

@@ -1,8 +1,7 @@
 use Rattle.std.proofs.Common.{◌∙◌, refl, ap, Option, Some, ℕ}
 use Rattle.hc_text.proofs.Basics.{none_of as none_is}
 use Rattle.hc_fetch.specs.Bounds.{is_short}
-use Rattle.hc_fetch.proofs.Hearings.{sees_new}
-use Rattle.hc_fetch.proofs.Totals.{short_total}
+use Rattle.hc_fetch.proofs.{Hearings.{sees_new}, Totals.{short_total}}
 use Rattle.hc_fetch.proofs.fetching.Fetching.see.Goals as goal
 
 pub invariant_of-self-clause-short : goal.invariant_of-self-clause-short

@@ -1,11 +1,8 @@
 use Rattle.std.proofs.Common.{◌≡◌, ◌+◌, sym, refl, subst, arith}
 use Rattle.hc_effects.proofs.Vocabulary.{Event, IsEventWithinLimits, received_in}
 use Rattle.hc_core.specs.Steps.{Answers, bytes_received}
-use Rattle.hc_fetch.specs.declared.plan.FetchPlan.{FetchPlan}
-use Rattle.hc_fetch.specs.Hearing.{Starts}
-use Rattle.hc_fetch.specs.Plans.{part_start}
-use Rattle.hc_fetch.proofs.Asked.{part_within}
-use Rattle.hc_fetch.proofs.Starting.{starts_next, all_starts, few_parts}
+use Rattle.hc_fetch.specs.{declared.plan.FetchPlan.{FetchPlan}, Hearing.{Starts}, Plans.{part_start}}
+use Rattle.hc_fetch.proofs.{Asked.{part_within}, Starting.{starts_next, all_starts, few_parts}}
 use Rattle.hc_fetch.proofs.fetching.Fetching.start_others.Goals as goal
 
 pub step-requires-clause-within_limits : goal.step-requires-clause-within_limits

@@ -1,6 +1,4 @@
-use Rattle.std.proofs.Common.{List, ℕ, Some, subst}
-use Rattle.std.specs.Ordering.{nat_cmp}
-use Rattle.std.specs.BTreeMap.{Updates}
+use Rattle.std.{proofs.Common.{List, ℕ, Some, subst}, specs.{Ordering.{nat_cmp}, BTreeMap.{Updates}}}
 use Rattle.hc_fetch.proofs.Aheads.{kept_new, kept_old}
 use Rattle.hc_fetch.proofs.gathering.Gathered.keep.Goals as goal
 

@@ -1,5 +1,4 @@
-use Rattle.std.proofs.Common.{◌∙◌, ap}
-use Rattle.std.specs.Prelude.{is_some}
+use Rattle.std.{proofs.Common.{◌∙◌, ap}, specs.Prelude.{is_some}}
 use Rattle.hc_fetch.proofs.Deciders.{shown_as, decides_other, decides_status}
 use Rattle.hc_fetch.proofs.plan.FetchPlan.decision.Goals as goal
 

@@ -1,7 +1,4 @@
-use Rattle.std.proofs.Common.{◌≡◌, ◌∙◌, ◌<◌, length, [], None, refl, ap, sym}
-use Rattle.std.proofs.lemmas.Bool.{eqb-true}
-use Rattle.std.proofs.lemmas.List.{nil_from_length}
-use Rattle.std.specs.Option.{option_copied}
+use Rattle.std.{proofs.{Common.{◌≡◌, ◌∙◌, ◌<◌, length, [], None, refl, ap, sym}, lemmas.{Bool.{eqb-true}, List.{nil_from_length}}}, specs.Option.{option_copied}}
 use Rattle.hc_fields.specs.Joined.{all_values}
 use Rattle.hc_fields.proofs.Agreeing.{next_piece}
 use Rattle.hc_fields.proofs.agree.Joined.advance.Goals as goal

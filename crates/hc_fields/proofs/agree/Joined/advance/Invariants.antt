@@ -1,5 +1,4 @@
-use Rattle.std.proofs.Common.{◌≡◌, ℕ, ◌+◌, ◌*◌, ◌-◌, length, List, Option, Some, None}
-use Rattle.std.specs.Option.{option_copied}
+use Rattle.std.{proofs.Common.{◌≡◌, ℕ, ◌+◌, ◌*◌, ◌-◌, length, List, Option, Some, None}, specs.Option.{option_copied}}
 use Rattle.hc_fields.specs.Joined.{all_values, bytes_left}
 use Rattle.hc_fields.proofs.agree.Joined.advance.Given as goal
 

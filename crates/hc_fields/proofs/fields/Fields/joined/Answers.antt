@@ -1,6 +1,5 @@
 use Rattle.http_header.specs.Token.{lowercase}
-use Rattle.hc_fields.proofs.Joins.{Fit-rest, joined_of-rest, named_fit}
-use Rattle.hc_fields.proofs.Places.{no_mark}
+use Rattle.hc_fields.proofs.{Joins.{Fit-rest, joined_of-rest, named_fit}, Places.{no_mark}}
 use Rattle.hc_fields.proofs.fields.Fields.joined.Goals as goal
 
 pub join-requires : goal.join-requires

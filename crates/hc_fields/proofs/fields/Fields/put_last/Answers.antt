@@ -1,9 +1,7 @@
-use Rattle.std.proofs.Common.{refl, sym, ◌∙◌}
-use Rattle.std.proofs.lemmas.Bool.{eqb-true, both_ways}
+use Rattle.std.proofs.{Common.{refl, sym, ◌∙◌}, lemmas.Bool.{eqb-true, both_ways}}
 use Rattle.http_header.specs.Token.{lowercase}
-use Rattle.hc_fields.proofs.Kept.{IsPut, length-lowercase, put_is, IsKept-put}
+use Rattle.hc_fields.proofs.{Kept.{IsPut, length-lowercase, put_is, IsKept-put}, fields.Fields.put_last.Goals.{then-self, else-self}}
 use Rattle.hc_fields.proofs.fields.Fields.put_last.Goals as goal
-use Rattle.hc_fields.proofs.fields.Fields.put_last.Goals.{then-self, else-self}
 
 put : (c : goal.After-self-2-1) → IsPut c.self.inside.text.items c.self.inside.marks.items (lowercase c.args.name.now) c.args.value.now c.end_place-at.result c.end_place-at.result c.put_line.new.text.items c.put_line.new.marks.items
 put c = record { text_is = c.in_ok-put_line.ensures.text; marks_are = c.in_ok-put_line.ensures.marks ∙ rw (length-lowercase c.args.name.now, c.self.inside.text.ok.0) refl }

@@ -1,12 +1,8 @@
-use Rattle.std.proofs.Common.{◌≡◌, sym, ◌∙◌}
-use Rattle.std.proofs.lemmas.Bool.{eqb-true, both_ways}
+use Rattle.std.proofs.{Common.{◌≡◌, sym, ◌∙◌}, lemmas.Bool.{eqb-true, both_ways}}
 use Rattle.http_header.specs.Token.{lowercase}
-use Rattle.hc_fields.specs.Marks.{fields_at}
-use Rattle.hc_fields.specs.FieldList.{without}
-use Rattle.hc_fields.proofs.Edits.{values_of-without_same, values_of-without_other}
-use Rattle.hc_fields.proofs.Kept.{left_is, IsKept-left}
+use Rattle.hc_fields.specs.{Marks.{fields_at}, FieldList.{without}}
+use Rattle.hc_fields.proofs.{Edits.{values_of-without_same, values_of-without_other}, Kept.{left_is, IsKept-left}, fields.Fields.remove.Goals.{then-self, else-self}}
 use Rattle.hc_fields.proofs.fields.Fields.remove.Goals as goal
-use Rattle.hc_fields.proofs.fields.Fields.remove.Goals.{then-self, else-self}
 
 left : (c : goal.After-self-2-1) → fields_at c.self.inside.text.items c.take_out.new.marks.items ≡ without (lowercase c.args.name.now) (fields_at c.self.inside.text.items c.self.inside.marks.items)
 left c =

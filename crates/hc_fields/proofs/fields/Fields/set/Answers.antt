@@ -1,12 +1,8 @@
-use Rattle.std.proofs.Common.{◌≡◌, ◌+◌, refl, sym, ◌∙◌}
-use Rattle.std.proofs.lemmas.Bool.{eqb-true, both_ways}
+use Rattle.std.proofs.{Common.{◌≡◌, ◌+◌, refl, sym, ◌∙◌}, lemmas.Bool.{eqb-true, both_ways}}
 use Rattle.http_header.specs.Token.{lowercase}
-use Rattle.hc_fields.specs.FieldList.{field_list_with, without}
-use Rattle.hc_fields.specs.Marks.{fields_at}
-use Rattle.hc_fields.proofs.Edits.{sorted-without, values_of-put_same, values_of-put_other, values_of-without_same, values_of-without_other}
-use Rattle.hc_fields.proofs.Kept.{IsPut, length-lowercase, set_is, IsKept-set}
+use Rattle.hc_fields.specs.{FieldList.{field_list_with, without}, Marks.{fields_at}}
+use Rattle.hc_fields.proofs.{Edits.{sorted-without, values_of-put_same, values_of-put_other, values_of-without_same, values_of-without_other}, Kept.{IsPut, length-lowercase, set_is, IsKept-set}, fields.Fields.set.Goals.{then-self, else-self}}
 use Rattle.hc_fields.proofs.fields.Fields.set.Goals as goal
-use Rattle.hc_fields.proofs.fields.Fields.set.Goals.{then-self, else-self}
 
 set : (c : goal.After-self-2-1) → IsPut c.self.inside.text.items c.self.inside.marks.items (lowercase c.args.name.now) c.args.value.now c.place_of-place.result.start (c.place_of-place.result.start + c.place_of-place.result.count) c.put_line.new.text.items c.put_line.new.marks.items
 set c = record { text_is = c.in_ok-put_line.ensures.text; marks_are = c.in_ok-put_line.ensures.marks ∙ rw (length-lowercase c.args.name.now, c.self.inside.text.ok.0) refl }

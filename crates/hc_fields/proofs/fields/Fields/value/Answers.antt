@@ -1,5 +1,4 @@
-use Rattle.std.proofs.Common.{sym}
-use Rattle.std.proofs.lemmas.Bool.{ltb-true}
+use Rattle.std.proofs.{Common.{sym}, lemmas.Bool.{ltb-true}}
 use Rattle.hc_fields.proofs.Kept.{value_at}
 use Rattle.hc_fields.proofs.fields.Fields.value.Goals as goal
 

@@ -1,10 +1,7 @@
-use Rattle.std.proofs.Common.{List, refl, sym, ap, ◌∙◌, subst}
-use Rattle.std.specs.Prelude.{OnOk, Option}
+use Rattle.std.{proofs.Common.{List, refl, sym, ap, ◌∙◌, subst}, specs.Prelude.{OnOk, Option}}
 use Rattle.hc_effects.proofs.Vocabulary.{act_list, Act, Event}
 use Rattle.hc_core.specs.Steps as core
-use Rattle.hc_front.specs.declared.watches.Watched.{Watched}
-use Rattle.hc_front.specs.Fronts.{is_ending}
-use Rattle.hc_front.specs.Steps.{HasStepped}
+use Rattle.hc_front.specs.{declared.watches.Watched.{Watched}, Fronts.{is_ending}, Steps.{HasStepped}}
 use Rattle.hc_front.proofs.FrontPaths.{on_four, polled_at, settled_at}
 use Rattle.hc_front.proofs.front.Front.poll.Goals as goal
 

@@ -1,5 +1,4 @@
-use Rattle.std.proofs.Common.{refl, sym, ap, ◌∙◌, subst}
-use Rattle.std.specs.Prelude.{Some}
+use Rattle.std.{proofs.Common.{refl, sym, ap, ◌∙◌, subst}, specs.Prelude.{Some}}
 use Rattle.hc_effects.proofs.Vocabulary.{act_list, is_denied, IsEventWithinLimits, Request}
 use Rattle.hc_event.specs.declared.event.Event.TheVariants as event
 use Rattle.hc_core.specs.Steps as core

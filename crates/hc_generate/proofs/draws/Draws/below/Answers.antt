@@ -1,5 +1,4 @@
-use Rattle.std.proofs.Common.{ℕ, ◌*◌, ◌/◌, ◌%◌, ◌^◌, ap}
-use Rattle.std.proofs.Math.Nat.{mod-add-mod}
+use Rattle.std.proofs.{Common.{ℕ, ◌*◌, ◌/◌, ◌%◌, ◌^◌, ap}, Math.Nat.{mod-add-mod}}
 use Rattle.hc_generate.specs.Draws.{draw_below, state_after_draw}
 use Rattle.hc_generate.proofs.draws.Draws.below.Goals as goal
 

@@ -1,6 +1,4 @@
-use Rattle.std.proofs.Common.{sym, ◌∙◌}
-use Rattle.std.proofs.lemmas.Bool.Decides.{Decides-eqb}
-use Rattle.std.proofs.lemmas.Slice.Eq.{strip_prefix_is}
+use Rattle.std.proofs.{Common.{sym, ◌∙◌}, lemmas.{Bool.Decides.{Decides-eqb}, Slice.Eq.{strip_prefix_is}}}
 use Rattle.hc_image.proofs.cursor.Cursor.take_bytes.Goals as goal
 
 pub returns-in_err-rest : goal.returns-in_err-rest

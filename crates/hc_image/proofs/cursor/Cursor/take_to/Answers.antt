@@ -1,5 +1,4 @@
-use Rattle.std.proofs.Common.{sym}
-use Rattle.std.proofs.lemmas.List.{take_rest}
+use Rattle.std.proofs.{Common.{sym}, lemmas.List.{take_rest}}
 use Rattle.hc_text.proofs.Cuts.{lacks-all, cut-position}
 use Rattle.hc_image.proofs.cursor.Cursor.take_to.Goals as goal
 

@@ -1,5 +1,4 @@
-use Rattle.std.proofs.Common.{◌≤◌, ◌+◌, ◌-◌, drop, arith}
-use Rattle.std.proofs.lemmas.List.{length-take}
+use Rattle.std.proofs.{Common.{◌≤◌, ◌+◌, ◌-◌, drop, arith}, lemmas.List.{length-take}}
 use Rattle.hc_io.proofs.Givings.{split_left}
 use Rattle.hc_io.proofs.memory.MemorySourceSource.read.Goals as goal
 

@@ -1,9 +1,7 @@
 use Rattle.std.proofs.Common.{◌≡◌, ◌<◌, true, false, length, rules}
-use Rattle.hc_msg.specs.Inputs.{stopped, is_in_body, look_of}
-use Rattle.hc_msg.specs.Taking.{reading_of, goes_on}
-use Rattle.hc_msg.proofs.Looks.{empty_looks, over_looks, body_looks, kept_sound}
+use Rattle.hc_msg.specs.{Inputs.{stopped, is_in_body, look_of}, Taking.{reading_of, goes_on}}
+use Rattle.hc_msg.proofs.{Looks.{empty_looks, over_looks, body_looks, kept_sound}, answer.Answer.look.Goals.{then-is_empty-via-then-is_empty, then-is_empty-via-else-is_empty+then-not-goes_on}}
 use Rattle.hc_msg.proofs.answer.Answer.look.Goals as goal
-use Rattle.hc_msg.proofs.answer.Answer.look.Goals.{then-is_empty-via-then-is_empty, then-is_empty-via-else-is_empty+then-not-goes_on}
 
 pub returns-then-is_empty : goal.returns-then-is_empty
 returns-then-is_empty c =

@@ -1,5 +1,4 @@
-use Rattle.std.proofs.Common.{◌≡◌, ◌-◌, Err, take, drop, length, length-drop, arith, rules}
-use Rattle.std.proofs.lemmas.List.{take_all}
+use Rattle.std.proofs.{Common.{◌≡◌, ◌-◌, Err, take, drop, length, length-drop, arith, rules}, lemmas.List.{take_all}}
 use Rattle.hc_msg.specs.Taking.{reading_of}
 use Rattle.hc_msg.proofs.Moves.{passes_on, gives_on, fails_on}
 use Rattle.hc_msg.proofs.answer.Answer.take.Goals as goal

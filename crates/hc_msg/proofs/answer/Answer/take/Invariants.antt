@@ -1,6 +1,5 @@
 use Rattle.std.proofs.Common.{[], take, ◌≤◌, ◌-◌, length}
-use Rattle.hc_msg.specs.Reading.{Leads}
-use Rattle.hc_msg.specs.Taking.{reading_of, IsSound}
+use Rattle.hc_msg.specs.{Reading.{Leads}, Taking.{reading_of, IsSound}}
 use Rattle.hc_msg.proofs.answer.Answer.take.Given as goal
 
 abbrev pub invariant-loop-used : goal.invariant-loop-used

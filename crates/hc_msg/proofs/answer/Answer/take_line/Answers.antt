@@ -1,7 +1,5 @@
 use Rattle.std.proofs.Common.{◌≡◌, Err, ap, rules}
-use Rattle.hc_msg.specs.declared.answer.State.{State}
-use Rattle.hc_msg.specs.Taking.{reading_by}
-use Rattle.hc_msg.specs.Reading.{Done}
+use Rattle.hc_msg.specs.{declared.answer.State.{State}, Taking.{reading_by}, Reading.{Done}}
 use Rattle.hc_msg.proofs.Moves.{line_too_long, line_stays}
 use Rattle.hc_msg.proofs.answer.Answer.take_line.Goals as goal
 

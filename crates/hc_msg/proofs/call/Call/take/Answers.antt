@@ -1,5 +1,4 @@
-use Rattle.std.proofs.Common.{◌≡◌, Ok, Err, length, take, refl, arith, rules}
-use Rattle.std.proofs.lemmas.List.{take_all}
+use Rattle.std.proofs.{Common.{◌≡◌, Ok, Err, length, take, refl, arith, rules}, lemmas.List.{take_all}}
 use Rattle.hc_head.specs.declared.scan.Sought.TheVariants as sought
 use Rattle.hc_msg.proofs.Calls.{begun, not_begun, call_tells, call_fails, call_long, call_open}
 use Rattle.hc_msg.proofs.call.Call.take.Goals as goal

@@ -1,12 +1,7 @@
 use Rattle.std.proofs.Common.{◌≡◌, ◌⊎◌, Ok, [], sym, ap, subst, ◌∙◌, rules}
 use Rattle.hc_head.specs.declared.message.MsgError.TheVariants as error
-use Rattle.hc_msg.specs.declared.answer.State.{State}
-use Rattle.hc_msg.specs.Taking.{reading_by, reading_of}
-use Rattle.hc_msg.specs.Reading.{Reading, Done, Failed, Leads}
-use Rattle.hc_msg.specs.Inputs.{TakesNext}
-use Rattle.hc_msg.proofs.Inputs.{error_next, done_takes, takes_next}
-use Rattle.hc_msg.proofs.Moves.{failed_takes}
-use Rattle.hc_msg.proofs.Spelled.{part_spelled}
+use Rattle.hc_msg.specs.{declared.answer.State.{State}, Taking.{reading_by, reading_of}, Reading.{Reading, Done, Failed, Leads}, Inputs.{TakesNext}}
+use Rattle.hc_msg.proofs.{Inputs.{error_next, done_takes, takes_next}, Moves.{failed_takes}, Spelled.{part_spelled}}
 use Rattle.hc_msg.proofs.reader.ResponseReader.take.Goals as goal
 
 pub returns-in-Failed-clause-takes : goal.returns-in-Failed-clause-takes

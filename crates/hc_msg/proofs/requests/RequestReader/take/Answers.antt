@@ -1,10 +1,6 @@
 use Rattle.std.proofs.Common.{◌≡◌, Ok, [], sym, ap, subst, ◌∙◌, inr, rules}
-use Rattle.hc_msg.specs.Reading.{Reading, Failed, Leads}
-use Rattle.hc_msg.specs.Asking.{asking, asking_by}
-use Rattle.hc_msg.specs.Inputs.{next_in, IsNextError}
-use Rattle.hc_msg.proofs.Inputs.{error_next, call_next}
-use Rattle.hc_msg.proofs.Leading.{stays_failed}
-use Rattle.hc_msg.proofs.Spelled.{request_spelled}
+use Rattle.hc_msg.specs.{Reading.{Reading, Failed, Leads}, Asking.{asking, asking_by}, Inputs.{next_in, IsNextError}}
+use Rattle.hc_msg.proofs.{Inputs.{error_next, call_next}, Leading.{stays_failed}, Spelled.{request_spelled}}
 use Rattle.hc_msg.proofs.requests.RequestReader.take.Goals as goal
 
 pub returns-in-Some-clause-takes : goal.returns-in-Some-clause-takes

@@ -1,5 +1,4 @@
-use Rattle.std.proofs.Common.{ℕ, ap, ◌∙◌}
-use Rattle.std.specs.Prelude.{min}
+use Rattle.std.{proofs.Common.{ℕ, ap, ◌∙◌}, specs.Prelude.{min}}
 use Rattle.hc_origin.proofs.Runs.{letters-part}
 use Rattle.hc_origin.proofs.letters.Letters.part.Goals as goal
 

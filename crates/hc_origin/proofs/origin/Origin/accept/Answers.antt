@@ -1,7 +1,6 @@
 use Rattle.std.proofs.Common.{Some, ap, ◌∙◌}
 use Rattle.hc_msg.specs.Reading.{Reading}
-use Rattle.hc_origin.proofs.Maps.{map-other, map-own}
-use Rattle.hc_origin.proofs.Steps.{accepted-kept}
+use Rattle.hc_origin.proofs.{Maps.{map-other, map-own}, Steps.{accepted-kept}}
 use Rattle.hc_origin.proofs.origin.Origin.accept.Goals as goal
 
 pub returns : goal.returns

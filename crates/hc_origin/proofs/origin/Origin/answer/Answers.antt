@@ -1,11 +1,7 @@
-use Rattle.std.proofs.Common.{◌++◌, ◌∷◌, [], subst, sym}
+use Rattle.std.{proofs.Common.{◌++◌, ◌∷◌, [], subst, sym}, specs.Prelude.{ℕ, List, Option}}
 use Rattle.hc_msg.specs.Reading.{Reading}
-use Rattle.std.specs.Prelude.{ℕ, List, Option}
-use Rattle.hc_origin.proofs.Maps.{map-other, map-own}
-use Rattle.hc_origin.proofs.Steps.{asked-kept}
-use Rattle.hc_origin.specs.Going.{asking_in}
-use Rattle.hc_origin.specs.Keeping.{Keeps}
-use Rattle.hc_origin.specs.Replies.{Unsent}
+use Rattle.hc_origin.proofs.{Maps.{map-other, map-own}, Steps.{asked-kept}}
+use Rattle.hc_origin.specs.{Going.{asking_in}, Keeping.{Keeps}, Replies.{Unsent}}
 use Rattle.hc_origin.proofs.origin.Origin.answer.Goals as goal
 
 pub returns : goal.returns

@@ -1,6 +1,5 @@
 use Rattle.std.proofs.Common.{refl}
-use Rattle.hc_origin.proofs.Maps.{map-other, map-own}
-use Rattle.hc_origin.proofs.Steps.{follows-closed, left-kept}
+use Rattle.hc_origin.proofs.{Maps.{map-other, map-own}, Steps.{follows-closed, left-kept}}
 use Rattle.hc_wire.specs.Logs.{with_closed}
 use Rattle.hc_origin.proofs.origin.Origin.close.Goals as goal
 

@@ -1,8 +1,6 @@
 use Rattle.std.proofs.Common.{refl, ◌∙◌}
 use Rattle.hc_origin.specs.Going.{asking_in}
-use Rattle.hc_origin.proofs.Ends.{closes-one, ending-nobody}
-use Rattle.hc_origin.proofs.Maps.{map-empty, map-other}
-use Rattle.hc_origin.proofs.Turning.{goes-on}
+use Rattle.hc_origin.proofs.{Ends.{closes-one, ending-nobody}, Maps.{map-empty, map-other}, Turning.{goes-on}}
 use Rattle.hc_origin.proofs.origin.Origin.close_all.Goals as goal
 
 pub loop-k-preserved-in-Some : goal.loop-k-preserved-in-Some

@@ -1,8 +1,6 @@
-use Rattle.std.proofs.Common.{◌≡◌, Bool}
-use Rattle.std.specs.BTreeMap.{btree_map_len}
+use Rattle.std.{proofs.Common.{◌≡◌, Bool}, specs.BTreeMap.{btree_map_len}}
 use Rattle.hc_wire.specs.Logs.{Log}
-use Rattle.hc_origin.specs.Keeping.{Follows}
-use Rattle.hc_origin.specs.Going.{GoesTo, IsEnding, asking_in}
+use Rattle.hc_origin.specs.{Keeping.{Follows}, Going.{GoesTo, IsEnding, asking_in}}
 use Rattle.hc_origin.proofs.origin.Origin.close_all.Given as goal
 
 abbrev pub invariant-loop-k : goal.invariant-loop-k

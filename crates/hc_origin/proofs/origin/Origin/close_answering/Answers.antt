@@ -1,8 +1,6 @@
 use Rattle.std.proofs.Common.{ap, ◌∙◌}
-use Rattle.hc_origin.specs.Replies.{Unsent}
-use Rattle.hc_origin.specs.Going.{nobody}
-use Rattle.hc_origin.proofs.Ends.{pops-one}
-use Rattle.hc_origin.proofs.Turning.{goes-on}
+use Rattle.hc_origin.specs.{Replies.{Unsent}, Going.{nobody}}
+use Rattle.hc_origin.proofs.{Ends.{pops-one}, Turning.{goes-on}}
 use Rattle.hc_origin.proofs.origin.Origin.close_answering.Goals as goal
 
 pub loop-reply-preserved : goal.loop-reply-preserved

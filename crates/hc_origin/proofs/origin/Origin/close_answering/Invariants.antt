@@ -1,8 +1,6 @@
-use Rattle.std.proofs.Common.{◌≡◌, Bool}
-use Rattle.std.specs.Prelude.{vec_len}
+use Rattle.std.{proofs.Common.{◌≡◌, Bool}, specs.Prelude.{vec_len}}
 use Rattle.hc_wire.specs.Logs.{Log}
-use Rattle.hc_origin.specs.Keeping.{Follows}
-use Rattle.hc_origin.specs.Going.{GoesTo, IsEnding, nobody}
+use Rattle.hc_origin.specs.{Keeping.{Follows}, Going.{GoesTo, IsEnding, nobody}}
 use Rattle.hc_origin.proofs.origin.Origin.close_answering.Given as goal
 
 abbrev pub invariant-loop-reply : goal.invariant-loop-reply

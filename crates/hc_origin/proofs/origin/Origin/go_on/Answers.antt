@@ -1,5 +1,4 @@
-use Rattle.std.proofs.Common.{subst}
-use Rattle.std.specs.Prelude.{Option}
+use Rattle.std.{proofs.Common.{subst}, specs.Prelude.{Option}}
 use Rattle.hc_head.specs.declared.message.WireRequest.{WireRequest}
 use Rattle.hc_origin.specs.Going.{IsGot, asking_in}
 use Rattle.hc_origin.proofs.origin.Origin.go_on.Goals as goal

@@ -1,6 +1,5 @@
 use Rattle.std.proofs.Common.{subst}
-use Rattle.hc_wire.specs.Events.{got_bytes}
-use Rattle.hc_wire.specs.declared.event.WireEvent.{WireEvent}
+use Rattle.hc_wire.specs.{Events.{got_bytes}, declared.event.WireEvent.{WireEvent}}
 use Rattle.hc_origin.specs.Going.{Heard, asking_in}
 use Rattle.hc_origin.proofs.origin.Origin.handle.Goals as goal
 

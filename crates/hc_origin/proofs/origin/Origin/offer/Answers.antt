@@ -1,8 +1,6 @@
 use Rattle.std.proofs.Common.{List, ◌++◌, ◌∷◌, [], true, false, ap, subst, sym}
-use Rattle.hc_origin.specs.Going.{AreOffered, GoesTo, asking_in}
-use Rattle.hc_origin.specs.Replies.{Unsent}
-use Rattle.hc_origin.proofs.Offers.{offers-closed, offers-log, offers-some}
-use Rattle.hc_origin.proofs.Turning.{offers-false, offers-true, stops-offer}
+use Rattle.hc_origin.specs.{Going.{AreOffered, GoesTo, asking_in}, Replies.{Unsent}}
+use Rattle.hc_origin.proofs.{Offers.{offers-closed, offers-log, offers-some}, Turning.{offers-false, offers-true, stops-offer}}
 use Rattle.hc_origin.proofs.origin.Origin.offer.Goals as goal
 
 pub returns-in_err-send-clause-offers : goal.returns-in_err-send-clause-offers

@@ -1,9 +1,7 @@
 use Rattle.hc_origin.specs.Going.{IsTaken, asking_in}
 use Rattle.hc_origin.proofs.Hearing.{handles-kept}
-use Rattle.std.proofs.Common.{subst}
-use Rattle.std.specs.Prelude.{Result}
-use Rattle.hc_head.specs.declared.message.MsgError.{MsgError}
-use Rattle.hc_head.specs.declared.message.WireRequest.{WireRequest}
+use Rattle.std.{proofs.Common.{subst}, specs.Prelude.{Result}}
+use Rattle.hc_head.specs.declared.message.{MsgError.{MsgError}, WireRequest.{WireRequest}}
 use Rattle.hc_msg.specs.declared.message.Taken.{Taken}
 use Rattle.hc_origin.proofs.origin.Origin.take.Goals as goal
 

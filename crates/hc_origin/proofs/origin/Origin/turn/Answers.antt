@@ -1,10 +1,7 @@
 use Rattle.std.proofs.Common.{true}
-use Rattle.hc_wire.specs.Events.{got_bytes}
-use Rattle.hc_wire.specs.Logs.{with_call}
+use Rattle.hc_wire.specs.{Events.{got_bytes}, Logs.{with_call}}
 use Rattle.hc_origin.specs.Going.{asking_in}
-use Rattle.hc_origin.proofs.Places.{heard}
-use Rattle.hc_origin.proofs.Steps.{follows-call}
-use Rattle.hc_origin.proofs.Turning.{sent-turn, uncalled-turn, unhandled-turn}
+use Rattle.hc_origin.proofs.{Places.{heard}, Steps.{follows-call}, Turning.{sent-turn, uncalled-turn, unhandled-turn}}
 use Rattle.hc_origin.proofs.origin.Origin.turn.Goals as goal
 
 pub returns-in_err-event-clause-turns : goal.returns-in_err-event-clause-turns

@@ -1,7 +1,5 @@
-use Rattle.std.proofs.Common.{◌≡◌, ◌++◌, ◌-◌, ℕ, List, length, drop, sym, ap, subst, ◌∙◌, ◌≤◌, arith}
-use Rattle.std.specs.Prelude.{min}
-use Rattle.hc_origin.specs.Answering.{bytes_between}
-use Rattle.hc_origin.specs.Replies.{Unsent}
+use Rattle.std.{proofs.Common.{◌≡◌, ◌++◌, ◌-◌, ℕ, List, length, drop, sym, ap, subst, ◌∙◌, ◌≤◌, arith}, specs.Prelude.{min}}
+use Rattle.hc_origin.specs.{Answering.{bytes_between}, Replies.{Unsent}}
 use Rattle.hc_origin.proofs.Runs.{skip-drops, skip-within}
 use Rattle.hc_origin.proofs.reply.Reply.skip.Goals as goal
 

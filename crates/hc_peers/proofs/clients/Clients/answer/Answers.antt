@@ -1,15 +1,7 @@
-use Rattle.std.proofs.Common.{◌≡◌, true, None, Some, refl, sym, ap, ◌∙◌, rules}
-use Rattle.std.specs.Prelude.{nat_eq}
+use Rattle.std.{proofs.Common.{◌≡◌, true, None, Some, refl, sym, ap, ◌∙◌, rules}, specs.Prelude.{nat_eq}}
 use Rattle.std.specs.HashMap as hash
-use Rattle.hc_peers.specs.declared.client.Client.{Client}
-use Rattle.hc_peers.specs.Agreement.{consumer_at}
-use Rattle.hc_peers.specs.Peers.{addressee}
-use Rattle.hc_peers.specs.Renderings.{is_last}
-use Rattle.hc_peers.specs.Clients.{answered_in}
-use Rattle.hc_peers.proofs.Changes.{changed-hash, changed-set, changed-none, changed-by, at-each}
-use Rattle.hc_peers.proofs.ClientTables.{live-kept, live-answered, ready-now, touched-now}
-use Rattle.hc_peers.proofs.Outcomes.{ok-map}
-use Rattle.hc_peers.proofs.Rows.{live-not-ready, answered-here, answered-apart}
+use Rattle.hc_peers.specs.{declared.client.Client.{Client}, Agreement.{consumer_at}, Peers.{addressee}, Renderings.{is_last}, Clients.{answered_in}}
+use Rattle.hc_peers.proofs.{Changes.{changed-hash, changed-set, changed-none, changed-by, at-each}, ClientTables.{live-kept, live-answered, ready-now, touched-now}, Outcomes.{ok-map}, Rows.{live-not-ready, answered-here, answered-apart}}
 use Rattle.hc_peers.proofs.clients.Clients.answer.Goals as goal
 
 pub returns-in_default-get : goal.returns-in_default-get

@@ -1,11 +1,7 @@
-use Rattle.std.proofs.Common.{Some, sym, ap, ◌∙◌, refl}
-use Rattle.std.specs.Prelude.{nat_eq}
+use Rattle.std.{proofs.Common.{Some, sym, ap, ◌∙◌, refl}, specs.Prelude.{nat_eq}}
 use Rattle.std.specs.HashMap as hash
-use Rattle.hc_peers.specs.declared.client.Client.{Client}
-use Rattle.hc_peers.specs.Agreement.{consumer_at, ready_at, settled_at}
-use Rattle.hc_peers.proofs.Changes.{changed-hash, changed-none, changed-same, hash-unchanged}
-use Rattle.hc_peers.proofs.ClientTables.{live-kept, ready-now, touched-now}
-use Rattle.hc_peers.proofs.Outcomes.{either}
+use Rattle.hc_peers.specs.{declared.client.Client.{Client}, Agreement.{consumer_at, ready_at, settled_at}}
+use Rattle.hc_peers.proofs.{Changes.{changed-hash, changed-none, changed-same, hash-unchanged}, ClientTables.{live-kept, ready-now, touched-now}, Outcomes.{either}}
 use Rattle.hc_peers.proofs.clients.Clients.come.Goals as goal
 
 pub invariant_of-self : goal.invariant_of-self

@@ -1,16 +1,10 @@
-use Rattle.std.proofs.Common.{◌≡◌, true, false, Some, refl, sym, ap, ◌∙◌, rules}
-use Rattle.std.specs.Prelude.{nat_eq}
+use Rattle.std.{proofs.Common.{◌≡◌, true, false, Some, refl, sym, ap, ◌∙◌, rules}, specs.{Prelude.{nat_eq}, Ordering.{nat_cmp}}}
 use Rattle.std.specs.HashMap as hash
 use Rattle.std.specs.BTreeSet as set
-use Rattle.std.specs.Ordering.{nat_cmp}
 use Rattle.hc_text.proofs.Basics.{falls as not-before}
 use Rattle.hc_msg.specs.Inputs.{next_in}
-use Rattle.hc_peers.specs.declared.client.Client.{Client}
-use Rattle.hc_peers.specs.Agreement.{consumer_at, ready_at, settled_at}
-use Rattle.hc_peers.specs.Clients.{somebody, hearing}
-use Rattle.hc_peers.proofs.Changes.{changed-hash, changed-set, changed-by, by-changed, set-unchanged}
-use Rattle.hc_peers.proofs.ClientTables.{live-kept, live-new, ready-now, touched-now}
-use Rattle.hc_peers.proofs.Rows.{empty-not-ready, closing-not-ready, ready-consumer, none-left, some-heard, error-heard, nobody-at}
+use Rattle.hc_peers.specs.{declared.client.Client.{Client}, Agreement.{consumer_at, ready_at, settled_at}, Clients.{somebody, hearing}}
+use Rattle.hc_peers.proofs.{Changes.{changed-hash, changed-set, changed-by, by-changed, set-unchanged}, ClientTables.{live-kept, live-new, ready-now, touched-now}, Rows.{empty-not-ready, closing-not-ready, ready-consumer, none-left, some-heard, error-heard, nobody-at}}
 use Rattle.hc_peers.proofs.clients.Clients.hear_next.Goals as goal
 
 pub invariant_of-self-in-Ok-None : goal.invariant_of-self-in-Ok-None

@@ -1,7 +1,6 @@
 use Rattle.std.proofs.Common.{None, sym, ap, ◌∙◌, refl}
 use Rattle.hc_peers.specs.Agreement.{consumer_at}
-use Rattle.hc_peers.proofs.Changes.{changed-hash, changed-tree, changed-set}
-use Rattle.hc_peers.proofs.ClientTables.{live-kept, live-gone, ready-now, touched-now}
+use Rattle.hc_peers.proofs.{Changes.{changed-hash, changed-tree, changed-set}, ClientTables.{live-kept, live-gone, ready-now, touched-now}}
 use Rattle.hc_peers.proofs.clients.Clients.leave.Goals as goal
 
 pub invariant_of-self-in-Some : goal.invariant_of-self-in-Some

@@ -1,7 +1,4 @@
-use Rattle.std.proofs.Common.{sym, ap, ◌∙◌}
-use Rattle.std.specs.Cmp.{nat_cmp_total}
-use Rattle.std.specs.Map.Iter.{deref_pair}
-use Rattle.std.proofs.lemmas.Map.Iter.{btree_map_turn, rest_more}
+use Rattle.std.{proofs.{Common.{sym, ap, ◌∙◌}, lemmas.Map.Iter.{btree_map_turn, rest_more}}, specs.{Cmp.{nat_cmp_total}, Map.Iter.{deref_pair}}}
 use Rattle.hc_peers.specs.Clients.{takes_more, is_taking}
 use Rattle.hc_peers.proofs.Listing.{list-more, list-less}
 use Rattle.hc_peers.proofs.clients.Clients.list_taking.Goals as goal

@@ -1,6 +1,4 @@
-use Rattle.std.proofs.Common.{◌≡◌, ◌++◌}
-use Rattle.std.specs.Prelude.{filter}
-use Rattle.std.specs.Map.{keys_of}
+use Rattle.std.{proofs.Common.{◌≡◌, ◌++◌}, specs.{Prelude.{filter}, Map.{keys_of}}}
 use Rattle.std.specs.BTreeMap as tree
 use Rattle.hc_peers.specs.Clients.{takes_more}
 use Rattle.hc_peers.proofs.clients.Clients.list_taking.Given as goal

@@ -1,12 +1,6 @@
 use Rattle.std.proofs.Common.{◌≡◌, List, Bool, true, false, None, Some, ℕ, refl, sym, ap, ◌∙◌, rules}
-use Rattle.hc_peers.specs.declared.client.Client.{Client}
-use Rattle.hc_peers.specs.Offering.{sent_more}
-use Rattle.hc_peers.specs.Agreement.{consumer_at, ready_at, settled_at}
-use Rattle.hc_peers.specs.Peers.{is_settled, is_idle}
-use Rattle.hc_peers.proofs.Changes.{changed-hash, changed-set, changed-by, changed-none, by-changed}
-use Rattle.hc_peers.proofs.ClientTables.{live-kept, ready-now, touched-now}
-use Rattle.hc_peers.proofs.Offered.{offered-over, offered-stays}
-use Rattle.hc_peers.proofs.Rows.{owed-not-ready, owed-not-settled, closing-not-ready, closing-not-settled, over-closing, settled-still, settled-sent}
+use Rattle.hc_peers.specs.{declared.client.Client.{Client}, Offering.{sent_more}, Agreement.{consumer_at, ready_at, settled_at}, Peers.{is_settled, is_idle}}
+use Rattle.hc_peers.proofs.{Changes.{changed-hash, changed-set, changed-by, changed-none, by-changed}, ClientTables.{live-kept, ready-now, touched-now}, Offered.{offered-over, offered-stays}, Rows.{owed-not-ready, owed-not-settled, closing-not-ready, closing-not-settled, over-closing, settled-still, settled-sent}}
 use Rattle.hc_peers.proofs.clients.Clients.offer.Goals as goal
 
 pub invariant_of-self-in-Break-1 : goal.invariant_of-self-in-Break-1

@@ -1,8 +1,6 @@
 use Rattle.std.proofs.Common.{Some, ap, ◌∙◌, refl, rules}
-use Rattle.hc_peers.specs.declared.client.Client.{Client}
-use Rattle.hc_peers.specs.Agreement.{consumer_at, settled_at}
-use Rattle.hc_peers.proofs.Changes.{changed-hash, changed-by}
-use Rattle.hc_peers.proofs.ClientTables.{live-kept, ready-now, touched-now}
+use Rattle.hc_peers.specs.{declared.client.Client.{Client}, Agreement.{consumer_at, settled_at}}
+use Rattle.hc_peers.proofs.{Changes.{changed-hash, changed-by}, ClientTables.{live-kept, ready-now, touched-now}}
 use Rattle.hc_peers.proofs.clients.Clients.receive.Goals as goal
 
 pub invariant_of-self-2 : goal.invariant_of-self-2

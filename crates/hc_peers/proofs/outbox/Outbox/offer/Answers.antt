@@ -1,7 +1,5 @@
-use Rattle.std.proofs.Common.{◌≡◌, ◌<◌, [], length, rules, sym, ◌∙◌, eqb-true}
-use Rattle.std.proofs.lemmas.List.{nil_from_length}
-use Rattle.hc_peers.proofs.Sends.{some-second, offers-second, some-third, offers-third}
-use Rattle.hc_peers.proofs.Outcomes.{on-err, ok-map, err-map}
+use Rattle.std.proofs.{Common.{◌≡◌, ◌<◌, [], length, rules, sym, ◌∙◌, eqb-true}, lemmas.List.{nil_from_length}}
+use Rattle.hc_peers.proofs.{Sends.{some-second, offers-second, some-third, offers-third}, Outcomes.{on-err, ok-map, err-map}}
 use Rattle.hc_peers.proofs.outbox.Outbox.offer.Goals as goal
 
 pub returns-in_err-offer-2-clause-err : goal.returns-in_err-offer-2-clause-err

@@ -1,7 +1,5 @@
-use Rattle.std.proofs.Common.{sym, ◌∙◌, eqb-true}
-use Rattle.std.proofs.lemmas.List.{nil_from_length}
-use Rattle.hc_peers.proofs.Sends.{offers-none, some-none}
-use Rattle.hc_peers.proofs.Outcomes.{on-err}
+use Rattle.std.proofs.{Common.{sym, ◌∙◌, eqb-true}, lemmas.List.{nil_from_length}}
+use Rattle.hc_peers.proofs.{Sends.{offers-none, some-none}, Outcomes.{on-err}}
 use Rattle.hc_peers.proofs.queue.Queue.offer.Goals as goal
 
 pub returns-then-is_empty-clause-ok : goal.returns-then-is_empty-clause-ok

@@ -1,6 +1,5 @@
 use Rattle.std.proofs.Common.{None, false}
-use Rattle.hc_peers.proofs.Changes.{changed-hash, changed-set}
-use Rattle.hc_peers.proofs.UpstreamTables.{dialled-gone, there-gone}
+use Rattle.hc_peers.proofs.{Changes.{changed-hash, changed-set}, UpstreamTables.{dialled-gone, there-gone}}
 use Rattle.hc_peers.proofs.upstreams.Upstreams.hang_up.Goals as goal
 
 pub invariant_of-self-2 : goal.invariant_of-self-2

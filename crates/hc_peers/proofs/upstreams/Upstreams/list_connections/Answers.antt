@@ -1,5 +1,4 @@
-use Rattle.hc_peers.proofs.Counting.{contains-key}
-use Rattle.hc_peers.proofs.UpstreamTables.{dialled-at}
+use Rattle.hc_peers.proofs.{Counting.{contains-key}, UpstreamTables.{dialled-at}}
 use Rattle.hc_peers.proofs.upstreams.Upstreams.list_connections.Goals as goal
 
 pub returns-in_err-push-clause-all : goal.returns-in_err-push-clause-all

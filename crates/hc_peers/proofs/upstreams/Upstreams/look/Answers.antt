@@ -1,8 +1,7 @@
 use Rattle.std.proofs.Common.{ℕ, List, ap, ◌∙◌}
 use Rattle.hc_msg.specs.Inputs.{look_of, next_in}
 use Rattle.hc_peers.specs.Upstreams.{look_at}
-use Rattle.hc_peers.proofs.Outcomes.{if_ok-map}
-use Rattle.hc_peers.proofs.Takings.{looks-alike}
+use Rattle.hc_peers.proofs.{Outcomes.{if_ok-map}, Takings.{looks-alike}}
 use Rattle.hc_peers.proofs.upstreams.Upstreams.look.Goals as goal
 
 pub returns-in-Some : goal.returns-in-Some

@@ -1,6 +1,5 @@
 use Rattle.std.proofs.Common.{refl}
-use Rattle.hc_proxy.proofs.Outcomes.{on_both}
-use Rattle.hc_proxy.proofs.GotBytes.{break_goes, some_cache, small_bytes, small_exchange}
+use Rattle.hc_proxy.proofs.{Outcomes.{on_both}, GotBytes.{break_goes, some_cache, small_bytes, small_exchange}}
 use Rattle.hc_proxy.proofs.proxy.Proxy.broke.Goals as goal
 
 pub happen-requires-clause-stands : goal.happen-requires-clause-stands

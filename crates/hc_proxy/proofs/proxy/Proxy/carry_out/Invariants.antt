@@ -1,9 +1,8 @@
 use Rattle.std.proofs.Common.{◌≡◌}
 use Rattle.hc_effects.proofs.Vocabulary.{left_of}
 use Rattle.hc_wire.specs.Logs.{Log}
-use Rattle.hc_proxy.specs.Keeping.{Turn, KeepsPolled}
+use Rattle.hc_proxy.specs.{Keeping.{Turn, KeepsPolled}, Underway.{OnWire, IsUnderway}}
 use Rattle.hc_proxy.specs.Rows as rows
-use Rattle.hc_proxy.specs.Underway.{OnWire, IsUnderway}
 use Rattle.hc_proxy.proofs.proxy.Proxy.carry_out.Given as goal
 
 abbrev pub invariant-loop-act : goal.invariant-loop-act

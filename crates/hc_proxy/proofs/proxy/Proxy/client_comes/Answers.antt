@@ -1,7 +1,6 @@
 use Rattle.std.proofs.Common.{◌≡◌, ◌≤◌, ◌<◌, length, refl, arith}
 use Rattle.hc_proxy.specs.Handling.{clients_here}
-use Rattle.hc_proxy.proofs.ClientComes.{refused_goes, come_goes, count_here}
-use Rattle.hc_proxy.proofs.EventComes.{come_free}
+use Rattle.hc_proxy.proofs.{ClientComes.{refused_goes, come_goes, count_here}, EventComes.{come_free}}
 use Rattle.hc_proxy.proofs.proxy.Proxy.client_comes.Goals as goal
 
 pub come-requires : goal.come-requires

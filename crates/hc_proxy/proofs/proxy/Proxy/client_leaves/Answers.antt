@@ -1,11 +1,8 @@
 use Rattle.std.proofs.Common.{refl, sym, subst}
 use Rattle.hc_core.specs.Steps.{faults_in}
-use Rattle.hc_proxy.specs.Handling.{client_leaves}
-use Rattle.hc_proxy.specs.Keeping.{KeepsQuiet, Goes}
-use Rattle.hc_proxy.proofs.GotBytes.{some_cache, small_bytes, small_consumer}
+use Rattle.hc_proxy.specs.{Handling.{client_leaves}, Keeping.{KeepsQuiet, Goes}}
+use Rattle.hc_proxy.proofs.{GotBytes.{some_cache, small_bytes, small_consumer}, proxy.Proxy.client_leaves.Goals.{in-Some-consumer+in_ok-happen, in_default-consumer}, LeaveGoes.{leave_by, idle_by}}
 use Rattle.hc_proxy.proofs.proxy.Proxy.client_leaves.Goals as goal
-use Rattle.hc_proxy.proofs.proxy.Proxy.client_leaves.Goals.{in-Some-consumer+in_ok-happen, in_default-consumer}
-use Rattle.hc_proxy.proofs.LeaveGoes.{leave_by, idle_by}
 
 pub happen-requires-clause-stands : goal.happen-requires-clause-stands
 happen-requires-clause-stands g c = some_cache c.args.self.now c.args.k _ refl refl refl refl c.requires.at

@@ -1,8 +1,5 @@
-use Rattle.std.proofs.Common.{◌≡◌, ap, true, false, refl, rules, arith}
-use Rattle.std.specs.Result.{is_err}
-use Rattle.hc_proxy.proofs.ClosedBy.{only_memory, cut_goes, whole_goes}
-use Rattle.hc_proxy.proofs.HeardOne.{here_stands, here_small, few_bytes}
-use Rattle.hc_proxy.proofs.Outcomes.{on_both, ok_pair}
+use Rattle.std.{proofs.Common.{◌≡◌, ap, true, false, refl, rules, arith}, specs.Result.{is_err}}
+use Rattle.hc_proxy.proofs.{ClosedBy.{only_memory, cut_goes, whole_goes}, HeardOne.{here_stands, here_small, few_bytes}, Outcomes.{on_both, ok_pair}}
 use Rattle.hc_proxy.proofs.proxy.Proxy.close.Goals as goal
 
 pub unreachable-requires : goal.unreachable-requires

@@ -2,9 +2,7 @@ use Rattle.std.proofs.Common.{◌≡◌, ◌≤◌, ◌+◌, ◌^◌, sym, ◌�
 use Rattle.hc_core.specs.Steps.{steps}
 use Rattle.hc_msg.specs.declared.message.Look.TheVariants as look
 use Rattle.hc_peers.specs.Upstreams.{upstream_of, look_at}
-use Rattle.hc_proxy.proofs.FinishedOn.{shut_finished, unended_finished, part_finished, fails_finished}
-use Rattle.hc_proxy.proofs.HeardOne.{open_is, may_stands, may_here, may_few, here_small}
-use Rattle.hc_proxy.proofs.Outcomes.{on_both, ok_pair}
+use Rattle.hc_proxy.proofs.{FinishedOn.{shut_finished, unended_finished, part_finished, fails_finished}, HeardOne.{open_is, may_stands, may_here, may_few, here_small}, Outcomes.{on_both, ok_pair}}
 use Rattle.hc_proxy.proofs.proxy.Proxy.finish.Goals as goal
 
 pub returns-then-not-is_open-clause-goes : goal.returns-then-not-is_open-clause-goes

@@ -1,11 +1,6 @@
-use Rattle.std.proofs.Common.{Bool, Err, ap, sym, subst}
-use Rattle.std.proofs.Math.Logic.{∥∥₁_map}
-use Rattle.hc_proxy.specs.Carrying.{carried}
-use Rattle.hc_proxy.specs.Records.{text_of}
-use Rattle.hc_proxy.specs.Serving.{HasCauses}
-use Rattle.hc_proxy.specs.Stops.{of_sink}
-use Rattle.hc_proxy.proofs.Causes.{err_is, by_sink, by_wire}
-use Rattle.hc_proxy.proofs.FinishGoes.{writing, behind, written_keeps, written_wire, cut_writing, cut_carrying, cut_sending, cut_waiting, finishes}
+use Rattle.std.proofs.{Common.{Bool, Err, ap, sym, subst}, Math.Logic.{∥∥₁_map}}
+use Rattle.hc_proxy.specs.{Carrying.{carried}, Records.{text_of}, Serving.{HasCauses}, Stops.{of_sink}}
+use Rattle.hc_proxy.proofs.{Causes.{err_is, by_sink, by_wire}, FinishGoes.{writing, behind, written_keeps, written_wire, cut_writing, cut_carrying, cut_sending, cut_waiting, finishes}}
 use Rattle.hc_proxy.proofs.proxy.Proxy.finish_turn.Goals as goal
 use Rattle.hc_record.proofs.JoiningLemmas.{on_err}
 

@@ -1,8 +1,5 @@
 use Rattle.std.proofs.Common.{◌≡◌, sym, ◌∙◌, true, false, refl, rules, arith}
-use Rattle.hc_proxy.proofs.HandedBy.{hand_few, hand_small, hand_fit, hand_take, hand_goes, none_goes, err_goes}
-use Rattle.hc_proxy.proofs.HandedOn.{none_handed}
-use Rattle.hc_proxy.proofs.HeardOne.{may_stands, still_news}
-use Rattle.hc_proxy.proofs.Outcomes.{on_both, ok_pair}
+use Rattle.hc_proxy.proofs.{HandedBy.{hand_few, hand_small, hand_fit, hand_take, hand_goes, none_goes, err_goes}, HandedOn.{none_handed}, HeardOne.{may_stands, still_news}, Outcomes.{on_both, ok_pair}}
 use Rattle.hc_proxy.proofs.proxy.Proxy.hand.Goals as goal
 
 pub returns-then-not-is_wanted-clause-goes : goal.returns-then-not-is_wanted-clause-goes

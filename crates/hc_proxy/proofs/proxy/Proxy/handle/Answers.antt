@@ -1,9 +1,7 @@
-use Rattle.std.proofs.Common.{inl, inr, sym, subst}
-use Rattle.std.proofs.Math.Logic.{∥∥₁_map}
+use Rattle.std.proofs.{Common.{inl, inr, sym, subst}, Math.Logic.{∥∥₁_map}}
 use Rattle.hc_core.specs.Steps.{faults_in}
 use Rattle.hc_proxy.specs.Keeping.{Begun, IsBegun, KeepsQuiet, Goes}
-use Rattle.hc_proxy.proofs.EventComes.{got_at, broke_at, ended_at, handled_is, event_is_at, room_goes, quiet_goes}
-use Rattle.hc_proxy.proofs.Outcomes.{on_both}
+use Rattle.hc_proxy.proofs.{EventComes.{got_at, broke_at, ended_at, handled_is, event_is_at, room_goes, quiet_goes}, Outcomes.{on_both}}
 use Rattle.hc_proxy.proofs.proxy.Proxy.handle.Goals as goal
 
 pub ended-requires-clause-at : goal.ended-requires-clause-at

@@ -1,6 +1,5 @@
 use Rattle.std.proofs.Common.{refl, true}
-use Rattle.hc_proxy.proofs.EventComes.{same_some, same_step}
-use Rattle.hc_proxy.proofs.Outcomes.{on_both}
+use Rattle.hc_proxy.proofs.{EventComes.{same_some, same_step}, Outcomes.{on_both}}
 use Rattle.hc_proxy.proofs.proxy.Proxy.happen.Goals as goal
 
 pub step-requires-clause-stands : goal.step-requires-clause-stands

@@ -1,8 +1,6 @@
 use Rattle.std.proofs.Common.{◌≡◌, ◌∙◌, true}
 use Rattle.hc_peers.specs.Upstreams.{is_news}
-use Rattle.hc_proxy.proofs.ClosedBy.{finish_may, hear_goes}
-use Rattle.hc_proxy.proofs.DoneFor.{but_it}
-use Rattle.hc_proxy.proofs.Outcomes.{on_both, ok_pair}
+use Rattle.hc_proxy.proofs.{ClosedBy.{finish_may, hear_goes}, DoneFor.{but_it}, Outcomes.{on_both, ok_pair}}
 use Rattle.hc_proxy.proofs.proxy.Proxy.hear.Goals as goal
 
 pub finish-requires : goal.finish-requires

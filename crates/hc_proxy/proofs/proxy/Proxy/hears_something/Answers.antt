@@ -1,11 +1,6 @@
-use Rattle.std.proofs.Common.{◌≡◌, ◌≤◌, ◌<◌, ℕ, ◌+◌, ◌∷◌, [], ◌++◌, List, false, length, get_or, refl, ap, sym, ◌∙◌, arith}
-use Rattle.std.specs.Prelude.{take}
-use Rattle.std.proofs.lemmas.List.{take_more, take_all}
+use Rattle.std.{proofs.{Common.{◌≡◌, ◌≤◌, ◌<◌, ℕ, ◌+◌, ◌∷◌, [], ◌++◌, List, false, length, get_or, refl, ap, sym, ◌∙◌, arith}, lemmas.List.{take_more, take_all}}, specs.Prelude.{take}}
 use Rattle.hc_peers.specs.Upstreams.{news_of}
-use Rattle.hc_proxy.proofs.Alike.{cache_moves}
-use Rattle.hc_proxy.proofs.HearsSome.{brings_same, some_heard, none_heard, none_more}
-use Rattle.hc_proxy.proofs.SkippedSteps.{among}
-use Rattle.hc_proxy.proofs.Waited.{brings}
+use Rattle.hc_proxy.proofs.{Alike.{cache_moves}, HearsSome.{brings_same, some_heard, none_heard, none_more}, SkippedSteps.{among}, Waited.{brings}}
 use Rattle.hc_proxy.proofs.proxy.Proxy.hears_something.Goals as goal
 
 pub returns-then-branch-clause-answers : goal.returns-then-branch-clause-answers

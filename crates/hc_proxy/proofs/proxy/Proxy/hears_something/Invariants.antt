@@ -1,11 +1,8 @@
-use Rattle.std.proofs.Common.{◌≡◌, ℕ, true, false}
-use Rattle.std.specs.Prelude.{take}
+use Rattle.std.{proofs.Common.{◌≡◌, ℕ, true, false}, specs.Prelude.{take}}
 use Rattle.hc_wire.specs.Logs.{Log}
-use Rattle.hc_proxy.specs.Keeping.{Frame}
-use Rattle.hc_proxy.specs.Resting.{Rests}
+use Rattle.hc_proxy.specs.{Keeping.{Frame}, Resting.{Rests}}
 use Rattle.hc_proxy.specs.Rows as rows
-use Rattle.hc_proxy.proofs.SkippedSteps.{among}
-use Rattle.hc_proxy.proofs.Waited.{brings}
+use Rattle.hc_proxy.proofs.{SkippedSteps.{among}, Waited.{brings}}
 use Rattle.hc_proxy.proofs.proxy.Proxy.hears_something.Given as goal
 
 abbrev pub invariant-loop-i : goal.invariant-loop-i

@@ -1,14 +1,7 @@
-use Rattle.std.proofs.Common.{◌≡◌, ℕ, List, ◌++◌, true, ap, sym, ◌∙◌, subst}
-use Rattle.std.specs.Prelude.{nat_eq, Contains, IsSome}
-use Rattle.std.specs.Cmp.{unsigned_Decides}
-use Rattle.std.specs.Map.{keys_of}
-use Rattle.std.specs.Set.{is_member}
-use Rattle.std.proofs.lemmas.List.Elements.{Contains-append_left, Contains-append_right}
-use Rattle.std.proofs.lemmas.Map.Made.{is_some-lookup, is_member-Decides}
-use Rattle.hc_peers.specs.Clients.{client_of}
+use Rattle.std.{proofs.{Common.{◌≡◌, ℕ, List, ◌++◌, true, ap, sym, ◌∙◌, subst}, lemmas.{List.Elements.{Contains-append_left, Contains-append_right}, Map.Made.{is_some-lookup, is_member-Decides}}}, specs.{Prelude.{nat_eq, Contains, IsSome}, Cmp.{unsigned_Decides}, Map.{keys_of}, Set.{is_member}}}
+use Rattle.hc_peers.specs.{Clients.{client_of}, declared.clients.Clients.{Clients}}
 use Rattle.hc_peers.specs.Clients as clients
 use Rattle.hc_peers.specs.Upstreams as origins
-use Rattle.hc_peers.specs.declared.clients.Clients.{Clients}
 use Rattle.hc_proxy.proofs.AllClosed.{closes_all}
 use Rattle.hc_proxy.proofs.proxy.Proxy.leave.Goals as goal
 

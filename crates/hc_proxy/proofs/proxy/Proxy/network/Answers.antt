@@ -1,11 +1,7 @@
-use Rattle.std.proofs.Common.{◌≡◌, ◌≤◌, ◌<◌, ℕ, ◌++◌, List, length, get_or, refl, ap, sym, ◌∙◌, subst, arith}
-use Rattle.std.specs.Ordering.{nat_cmp}
-use Rattle.std.specs.List.Sorted.{IsStrictlySortedBy}
+use Rattle.std.{proofs.Common.{◌≡◌, ◌≤◌, ◌<◌, ℕ, ◌++◌, List, length, get_or, refl, ap, sym, ◌∙◌, subst, arith}, specs.{Ordering.{nat_cmp}, List.Sorted.{IsStrictlySortedBy}}}
 use Rattle.hc_peers.specs.Upstreams.{is_news, news_of}
-use Rattle.hc_proxy.specs.Hearing.{HasHeard, MayStep, NewsOff}
+use Rattle.hc_proxy.specs.{Hearing.{HasHeard, MayStep, NewsOff}, Keeping.{Goes}, Network.{handed, closed}}
 use Rattle.hc_core.specs.Steps.{faults_in, steps}
-use Rattle.hc_proxy.specs.Keeping.{Goes}
-use Rattle.hc_proxy.specs.Network.{handed, closed}
 use Rattle.hc_proxy.proofs.NewsLoop.{at_first, listed_there, may_there, at_next, all_heard, few_steps}
 use Rattle.hc_proxy.proofs.proxy.Proxy.network.Goals as goal
 

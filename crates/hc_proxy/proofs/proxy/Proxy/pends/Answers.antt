@@ -1,6 +1,4 @@
-use Rattle.std.proofs.Common.{◌≡◌, List, [], ◌∷◌, refl, ap, ◌∙◌, drop}
-use Rattle.std.specs.List.{list_any}
-use Rattle.std.proofs.lemmas.List.{take_rest}
+use Rattle.std.{proofs.{Common.{◌≡◌, List, [], ◌∷◌, refl, ap, ◌∙◌, drop}, lemmas.List.{take_rest}}, specs.List.{list_any}}
 use Rattle.hc_effects.proofs.Vocabulary.{act_list, Act}
 use Rattle.hc_event.specs.declared.act.Act.TheVariants as act
 use Rattle.hc_proxy.specs.Waiting.{pends, pends_alone}

@@ -1,10 +1,7 @@
-use Rattle.std.proofs.Common.{◌≡◌, ◌≤◌, ◌+◌, ◌^◌, true, false, length, ap, sym, ◌∙◌, arith, length-append}
-use Rattle.std.proofs.Math.Bridge.{le_prop}
-use Rattle.std.proofs.Math.Logic.{∥∥₁_elim}
+use Rattle.std.proofs.{Common.{◌≡◌, ◌≤◌, ◌+◌, ◌^◌, true, false, length, ap, sym, ◌∙◌, arith, length-append}, Math.{Bridge.{le_prop}, Logic.{∥∥₁_elim}}}
 use Rattle.hc_core.specs.Steps.{bytes_received}
 use Rattle.hc_effects.proofs.Vocabulary.{act_list}
-use Rattle.hc_proxy.specs.Invariants.{unread}
-use Rattle.hc_proxy.specs.Waiting.{pends}
+use Rattle.hc_proxy.specs.{Invariants.{unread}, Waiting.{pends}}
 use Rattle.hc_proxy.proofs.PollOne.{appended, polled_waits, polled_moves}
 use Rattle.hc_proxy.proofs.proxy.Proxy.poll.Goals as goal
 

@@ -1,12 +1,7 @@
-use Rattle.std.proofs.Common.{◌≡◌, ◌≤◌, ◌<◌, ◌+◌, ◌^◌, ◌++◌, ◌∷◌, [], ℕ, true, List, length, get_or, refl, ap, sym, ◌∙◌, subst, arith}
-use Rattle.std.specs.Prelude.{take, filter}
-use Rattle.std.proofs.Math.Logic.{∥∥₁_map}
-use Rattle.std.proofs.lemmas.List.{take_more, take_all}
+use Rattle.std.{proofs.{Common.{◌≡◌, ◌≤◌, ◌<◌, ◌+◌, ◌^◌, ◌++◌, ◌∷◌, [], ℕ, true, List, length, get_or, refl, ap, sym, ◌∙◌, subst, arith}, Math.Logic.{∥∥₁_map}, lemmas.List.{take_more, take_all}}, specs.Prelude.{take, filter}}
 use Rattle.hc_core.specs.Steps.{steps}
 use Rattle.hc_peers.specs.Clients.{consumers_of, takes_more}
-use Rattle.hc_proxy.proofs.Marked.{among_at}
-use Rattle.hc_proxy.proofs.PollsOn.{PollsTo, polls_begin, polls_next, polls_end, round_may, few_of, small_of, heard_round}
-use Rattle.hc_proxy.proofs.SkippedSteps.{among}
+use Rattle.hc_proxy.proofs.{Marked.{among_at}, PollsOn.{PollsTo, polls_begin, polls_next, polls_end, round_may, few_of, small_of, heard_round}, SkippedSteps.{among}}
 use Rattle.hc_proxy.proofs.proxy.Proxy.polls.Goals as goal
 
 pub loop-i-init : goal.loop-i-init

@@ -1,5 +1,4 @@
-use Rattle.std.proofs.Common.{◌≡◌, ◌+◌}
-use Rattle.std.specs.Prelude.{take}
+use Rattle.std.{proofs.Common.{◌≡◌, ◌+◌}, specs.Prelude.{take}}
 use Rattle.hc_core.specs.Steps.{steps}
 use Rattle.hc_proxy.specs.Keeping.{Turn, KeepsHeard}
 use Rattle.hc_proxy.specs.Rows as rows

@@ -1,7 +1,6 @@
 use Rattle.std.proofs.Common.{refl, []}
 use Rattle.hc_proxy.specs.Unsent.{SendsToClients}
-use Rattle.hc_proxy.proofs.OfferedAll.{fails_later}
-use Rattle.hc_proxy.proofs.RestsBehind.{carried_has, cache_kept, sent_both}
+use Rattle.hc_proxy.proofs.{OfferedAll.{fails_later}, RestsBehind.{carried_has, cache_kept, sent_both}}
 use Rattle.hc_proxy.proofs.proxy.Proxy.send.Goals as goal
 use Rattle.hc_peers.proofs.Outcomes.{err-map, ok-map}
 use Rattle.hc_record.proofs.JoiningLemmas.{on_err}

@@ -1,11 +1,7 @@
-use Rattle.std.proofs.Common.{◌≡◌, ◌≤◌, ◌<◌, ℕ, refl, ap, sym, ◌∙◌, subst, arith}
-use Rattle.std.proofs.Math.Logic.{∥∥₁_map}
+use Rattle.std.proofs.{Common.{◌≡◌, ◌≤◌, ◌<◌, ℕ, refl, ap, sym, ◌∙◌, subst, arith}, Math.Logic.{∥∥₁_map}}
 use Rattle.hc_sched.specs.declared.schedule.Ended.TheVariants as ended
-use Rattle.hc_proxy.specs.Rows.{unused}
-use Rattle.hc_proxy.specs.Serving.{EndsBy, HasCauses}
-use Rattle.hc_proxy.specs.Waiting.{waits}
-use Rattle.hc_proxy.proofs.Causes.{err_is, calm_ok, calm_err, causes_as, causes_from, wire_kept, sink_kept}
-use Rattle.hc_proxy.proofs.LoopGoes.{first_waits, turning_begins, turning_on, turning_stops, turning_wants, turning_ends}
+use Rattle.hc_proxy.specs.{Rows.{unused}, Serving.{EndsBy, HasCauses}, Waiting.{waits}}
+use Rattle.hc_proxy.proofs.{Causes.{err_is, calm_ok, calm_err, causes_as, causes_from, wire_kept, sink_kept}, LoopGoes.{first_waits, turning_begins, turning_on, turning_stops, turning_wants, turning_ends}}
 use Rattle.hc_proxy.proofs.proxy.Proxy.serve.Goals as goal
 
 pub loop-turn-init : goal.loop-turn-init

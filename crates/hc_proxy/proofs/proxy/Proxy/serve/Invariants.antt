@@ -1,7 +1,6 @@
 use Rattle.std.proofs.Common.{◌≡◌, ◌≤◌}
 use Rattle.hc_wire.specs.Logs.{Log}
-use Rattle.hc_proxy.specs.Keeping.{Frame}
-use Rattle.hc_proxy.specs.Serving.{IsReady, Begins}
+use Rattle.hc_proxy.specs.{Keeping.{Frame}, Serving.{IsReady, Begins}}
 use Rattle.hc_proxy.proofs.LoopGoes.{IsTurning}
 use Rattle.hc_proxy.proofs.proxy.Proxy.serve.Given as goal
 

@@ -1,9 +1,6 @@
 use Rattle.std.proofs.Common.{◌≡◌, sym, ◌∙◌, true, false, rules}
 use Rattle.hc_effects.proofs.Vocabulary.{is_open}
-use Rattle.hc_proxy.proofs.HeardOne.{open_is, cache_over}
-use Rattle.hc_proxy.proofs.HungUp.{hung_up}
-use Rattle.hc_proxy.proofs.Outcomes.{on_both}
-use Rattle.hc_proxy.proofs.SettledOn.{wanted_settled, unwanted_settled}
+use Rattle.hc_proxy.proofs.{HeardOne.{open_is, cache_over}, HungUp.{hung_up}, Outcomes.{on_both}, SettledOn.{wanted_settled, unwanted_settled}}
 use Rattle.hc_proxy.proofs.proxy.Proxy.settle.Goals as goal
 
 pub returns-then-not-is_open-clause-goes : goal.returns-then-not-is_open-clause-goes

@@ -1,5 +1,4 @@
-use Rattle.std.proofs.Common.{◌≡◌, ◌≤◌, ◌+◌, ◌^◌, ◌∷◌, true, false, length, ap, subst, arith}
-use Rattle.std.proofs.Math.Logic.{∥∥₁_map}
+use Rattle.std.proofs.{Common.{◌≡◌, ◌≤◌, ◌+◌, ◌^◌, ◌∷◌, true, false, length, ap, subst, arith}, Math.Logic.{∥∥₁_map}}
 use Rattle.hc_core.specs.Steps.{steps}
 use Rattle.hc_peers.specs.Clients.{ready_of}
 use Rattle.hc_proxy.specs.Keeping.{IsNext}

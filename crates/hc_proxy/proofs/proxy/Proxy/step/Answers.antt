@@ -1,9 +1,6 @@
-use Rattle.std.proofs.Common.{◌≡◌, ◌≤◌, ◌<◌, ◌^◌, refl, arith}
-use Rattle.std.proofs.Math.Bridge.{le_prop}
-use Rattle.std.proofs.Math.Logic.{∥∥₁_elim}
+use Rattle.std.proofs.{Common.{◌≡◌, ◌≤◌, ◌<◌, ◌^◌, refl, arith}, Math.{Bridge.{le_prop}, Logic.{∥∥₁_elim}}}
 use Rattle.hc_core.specs.Steps.{last_moment}
-use Rattle.hc_proxy.specs.Invariants.{last_event}
-use Rattle.hc_proxy.specs.Records.{last_of}
+use Rattle.hc_proxy.specs.{Invariants.{last_event}, Records.{last_of}}
 use Rattle.hc_proxy.proofs.StepOn.{stepped_so}
 use Rattle.hc_proxy.proofs.proxy.Proxy.step.Goals as goal
 

@@ -1,7 +1,6 @@
 use Rattle.std.proofs.Common.{arith, rules, subst}
 use Rattle.hc_proxy.specs.Hearing.{IsFit}
-use Rattle.hc_proxy.proofs.HeardOne.{few_bytes, take_stands, first_within, mid_stands, piece_passes, piece_denied}
-use Rattle.hc_proxy.proofs.Outcomes.{on_three}
+use Rattle.hc_proxy.proofs.{HeardOne.{few_bytes, take_stands, first_within, mid_stands, piece_passes, piece_denied}, Outcomes.{on_three}}
 use Rattle.hc_proxy.proofs.proxy.Proxy.step_part.Goals as goal
 
 pub happen-requires-clause-stands : goal.happen-requires-clause-stands

@@ -1,10 +1,7 @@
-use Rattle.std.proofs.Common.{ℕ, false, ◌≤◌, ◌+◌, ◌*◌, ◌^◌, sym, ◌∙◌, subst, arith}
-use Rattle.std.proofs.Math.Bridge.{le_prop}
-use Rattle.std.proofs.Math.Logic.{∥∥₁_map, ∥∥₁_elim}
+use Rattle.std.proofs.{Common.{ℕ, false, ◌≤◌, ◌+◌, ◌*◌, ◌^◌, sym, ◌∙◌, subst, arith}, Math.{Bridge.{le_prop}, Logic.{∥∥₁_map, ∥∥₁_elim}}}
 use Rattle.hc_core.specs.Steps.{steps}
 use Rattle.hc_wire.specs.Events.{FitsIn}
-use Rattle.hc_proxy.specs.Handling.{begun}
-use Rattle.hc_proxy.specs.Keeping.{Begun}
+use Rattle.hc_proxy.specs.{Handling.{begun}, Keeping.{Begun}}
 use Rattle.hc_proxy.proofs.TurnBegins as begins
 use Rattle.hc_proxy.proofs.TurnGoes as goes
 use Rattle.hc_proxy.proofs.proxy.Proxy.turn.Goals as goal

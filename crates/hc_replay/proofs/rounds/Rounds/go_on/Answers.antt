@@ -1,6 +1,5 @@
 use Rattle.std.proofs.Common.{◌++◌, refl, ◌∙◌, subst, ap}
-use Rattle.hc_generate.specs.Hearing.{state_after}
-use Rattle.hc_generate.specs.Rounds.{IsRound, IsShortIfMade}
+use Rattle.hc_generate.specs.{Hearing.{state_after}, Rounds.{IsRound, IsShortIfMade}}
 use Rattle.hc_replay.proofs.GoneOn.{stands_quietly, stands_on}
 use Rattle.hc_replay.proofs.rounds.Rounds.go_on.Goals as goal
 

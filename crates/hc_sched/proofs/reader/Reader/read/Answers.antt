@@ -1,6 +1,5 @@
 use Rattle.std.proofs.Common.{◌≡◌, ◌∷◌, ◌++◌, [], Err, length, arith, rules, length-append, ap}
-use Rattle.hc_sched.specs.Feeding.{join_line}
-use Rattle.hc_sched.specs.Taking.{Does}
+use Rattle.hc_sched.specs.{Feeding.{join_line}, Taking.{Does}}
 use Rattle.hc_sched.proofs.FeedLemmas.{Still-next, Still-fails}
 use Rattle.hc_sched.proofs.reader.Reader.read.Goals as goal
 

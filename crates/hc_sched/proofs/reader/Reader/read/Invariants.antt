@@ -1,6 +1,5 @@
 use Rattle.std.proofs.Common.{◌+◌, ◌≤◌, length}
-use Rattle.hc_sched.specs.Reading.{Reads}
-use Rattle.hc_sched.specs.Feeding.{IsWithin}
+use Rattle.hc_sched.specs.{Reading.{Reads}, Feeding.{IsWithin}}
 use Rattle.hc_sched.proofs.FeedLemmas.{Still}
 use Rattle.hc_sched.proofs.reader.Reader.read.Given as goal
 

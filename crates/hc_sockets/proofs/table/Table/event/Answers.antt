@@ -1,5 +1,4 @@
-use Rattle.std.proofs.Common.{Option, None, Some, ◌∙◌}
-use Rattle.std.specs.Prelude.{IfSome}
+use Rattle.std.{proofs.Common.{Option, None, Some, ◌∙◌}, specs.Prelude.{IfSome}}
 use Rattle.hc_wire.specs.declared.event.WireEvent.{WireEvent}
 use Rattle.hc_sockets.specs.Sockets.{life, IsOfLive}
 use Rattle.hc_sockets.proofs.SocketLemmas.{live-same, after-same}

@@ -1,6 +1,5 @@
 use Rattle.std.proofs.Common.{◌≡◌, ◌+◌, sym, ap, ◌∙◌, length, rules}
-use Rattle.hc_sparse.specs.Cells.{size}
-use Rattle.hc_sparse.specs.Runs.{cells_of}
+use Rattle.hc_sparse.specs.{Cells.{size}, Runs.{cells_of}}
 use Rattle.hc_sparse.proofs.SizeLemmas.{size-le, size-put}
 use Rattle.hc_sparse.proofs.plain.PlainSparseSparseBytes.put.Goals as goal
 

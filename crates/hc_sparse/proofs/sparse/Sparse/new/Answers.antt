@@ -1,6 +1,5 @@
 use Rattle.std.proofs.Common.{length, refl, sym, ap, ◌∙◌}
-use Rattle.hc_sparse.specs.BlockMaps.{cells_by, cell_of}
-use Rattle.hc_sparse.specs.Places.{marks_at}
+use Rattle.hc_sparse.specs.{BlockMaps.{cells_by, cell_of}, Places.{marks_at}}
 use Rattle.hc_sparse.proofs.SizeLemmas.{size-none}
 use Rattle.hc_sparse.proofs.sparse.Sparse.new.Goals as goal
 

@@ -1,6 +1,5 @@
 use mathlib.Core.Path.{fun_ext}
-use Rattle.hc_sparse.specs.Places.{marks_at}
-use Rattle.hc_sparse.specs.Sparse.{sparse_cells}
+use Rattle.hc_sparse.specs.{Places.{marks_at}, Sparse.{sparse_cells}}
 use Rattle.hc_sparse.proofs.BlockLemmas.{IsKept, put-kept, put-cells}
 use Rattle.hc_sparse.proofs.sparse.SparseSparseBytes.put.Goals as goal
 

@@ -1,8 +1,5 @@
 use Rattle.std.proofs.Common.{◌≡◌, sym, ◌∙◌, arith}
-use Rattle.hc_record.specs.declared.version.Version.TheVariants.{Second}
-use Rattle.hc_record.specs.Head.{sealed_head}
-use Rattle.hc_record.specs.Plain.{plain}
-use Rattle.hc_record.specs.Record.{spelling}
+use Rattle.hc_record.specs.{declared.version.Version.TheVariants.{Second}, Head.{sealed_head}, Plain.{plain}, Record.{spelling}}
 use Rattle.hc_store.proofs.Texts.{whole-text}
 use Rattle.hc_store.proofs.entry.Entry.seal.Goals as goal
 

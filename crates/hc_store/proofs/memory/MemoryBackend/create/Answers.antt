@@ -1,7 +1,6 @@
 use Rattle.std.proofs.Common.{◌≡◌, ◌+◌, sym, ◌∙◌, ap, rules}
 use Rattle.hc_record.specs.Plain.{plain}
-use Rattle.hc_store.specs.Entries.{slots_of}
-use Rattle.hc_store.specs.Slots.{weight}
+use Rattle.hc_store.specs.{Entries.{slots_of}, Slots.{weight}}
 use Rattle.hc_store.proofs.Weights.{weight-new}
 use Rattle.hc_store.proofs.memory.MemoryBackend.create.Goals as goal
 

@@ -1,6 +1,5 @@
 use Rattle.std.proofs.Common.{◌≡◌, ◌-◌, arith}
-use Rattle.hc_store.specs.Entries.{slots_of}
-use Rattle.hc_store.specs.Slots.{weigh, weight}
+use Rattle.hc_store.specs.{Entries.{slots_of}, Slots.{weigh, weight}}
 use Rattle.hc_store.proofs.Weights.{weight-gone}
 use Rattle.hc_store.proofs.memory.MemoryBackend.drop_slot.Goals as goal
 

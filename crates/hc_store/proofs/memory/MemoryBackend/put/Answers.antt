@@ -1,8 +1,7 @@
 use Rattle.std.proofs.Common.{◌≡◌, ◌+◌, sym, ◌∙◌, ap, length, rules}
 use Rattle.hc_sparse.specs.Sparse.{sparse_cells}
 use Rattle.hc_sparse.proofs.SizeLemmas.{size-le}
-use Rattle.hc_store.specs.Entries.{slots_of}
-use Rattle.hc_store.specs.Slots.{weight}
+use Rattle.hc_store.specs.{Entries.{slots_of}, Slots.{weight}}
 use Rattle.hc_store.proofs.Weights.{weight-put}
 use Rattle.hc_store.proofs.memory.MemoryBackend.put.Goals as goal
 

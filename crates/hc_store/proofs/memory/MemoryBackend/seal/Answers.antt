@@ -1,7 +1,6 @@
 use Rattle.std.proofs.Common.{refl, sym, ◌∙◌}
 use mathlib.Core.Path.{fun_ext}
-use Rattle.hc_store.specs.Entries.{slots_of}
-use Rattle.hc_store.specs.Slots.{seals}
+use Rattle.hc_store.specs.{Entries.{slots_of}, Slots.{seals}}
 use Rattle.hc_store.proofs.Weights.{weight-kept}
 use Rattle.hc_store.proofs.memory.MemoryBackend.seal.Goals as goal
 

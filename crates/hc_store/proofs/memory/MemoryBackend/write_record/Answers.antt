@@ -1,8 +1,7 @@
 use Rattle.std.proofs.Common.{refl, sym, ◌∙◌}
 use mathlib.Core.Path.{fun_ext}
 use Rattle.hc_record.specs.Plain.{plain}
-use Rattle.hc_store.specs.Entries.{slots_of}
-use Rattle.hc_store.specs.Slots.{rewrites}
+use Rattle.hc_store.specs.{Entries.{slots_of}, Slots.{rewrites}}
 use Rattle.hc_store.proofs.Weights.{weight-tried}
 use Rattle.hc_store.proofs.memory.MemoryBackend.write_record.Goals as goal
 

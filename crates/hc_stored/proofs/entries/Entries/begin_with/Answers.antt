@@ -2,12 +2,8 @@ use Rattle.std.proofs.Common.{◌≡◌, ℕ, ◌<◌, ◌^◌, Some, refl, ap, 
 use Rattle.hc_record.specs.Plain.{plain}
 use Rattle.hc_store.specs.Slots.{Slots, bare}
 use Rattle.hc_store.proofs.Weights.{weight-new}
-use Rattle.hc_stored.specs.Begun.{begun_row}
-use Rattle.hc_stored.specs.Heads.{summary_of}
-use Rattle.hc_stored.specs.Rows.{Row, rows_of, with_row}
-use Rattle.hc_stored.proofs.ShelfLemmas.{added-shelved, added-kept, same-shelved, same-slots, slots-back}
-use Rattle.hc_stored.proofs.RowLemmas.{shelved-begun}
-use Rattle.hc_stored.proofs.CurrentLemmas.{ordered-more, no-row}
+use Rattle.hc_stored.specs.{Begun.{begun_row}, Heads.{summary_of}, Rows.{Row, rows_of, with_row}}
+use Rattle.hc_stored.proofs.{ShelfLemmas.{added-shelved, added-kept, same-shelved, same-slots, slots-back}, RowLemmas.{shelved-begun}, CurrentLemmas.{ordered-more, no-row}}
 use Rattle.hc_stored.proofs.entries.Entries.begin_with.Goals as goal
 
 pub invariant_of-self-in-Err : goal.invariant_of-self-in-Err

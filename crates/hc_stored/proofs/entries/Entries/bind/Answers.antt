@@ -1,8 +1,6 @@
 use Rattle.std.proofs.Common.{refl}
 use Rattle.hc_stored.specs.Rows.{rows_of, used_by}
-use Rattle.hc_stored.proofs.ShelfLemmas.{updated-shelved, kept-slots, same-shelved}
-use Rattle.hc_stored.proofs.RowLemmas.{shelved-bound}
-use Rattle.hc_stored.proofs.CurrentLemmas.{admits-row, ascending-users, absent-user, ordered-first}
+use Rattle.hc_stored.proofs.{ShelfLemmas.{updated-shelved, kept-slots, same-shelved}, RowLemmas.{shelved-bound}, CurrentLemmas.{admits-row, ascending-users, absent-user, ordered-first}}
 use Rattle.hc_stored.proofs.entries.Entries.bind.Goals as goal
 
 pub bind_in-requires-clause-ascending : goal.bind_in-requires-clause-ascending

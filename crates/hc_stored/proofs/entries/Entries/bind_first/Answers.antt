@@ -1,8 +1,6 @@
 use Rattle.std.proofs.Common.{refl}
 use Rattle.hc_stored.specs.Rows.{rows_of, used_first_by}
-use Rattle.hc_stored.proofs.ShelfLemmas.{updated-shelved, kept-slots, same-shelved}
-use Rattle.hc_stored.proofs.RowLemmas.{shelved-first}
-use Rattle.hc_stored.proofs.CurrentLemmas.{admits-row, admits-from_first, ascending-users, absent-user, ordered-first}
+use Rattle.hc_stored.proofs.{ShelfLemmas.{updated-shelved, kept-slots, same-shelved}, RowLemmas.{shelved-first}, CurrentLemmas.{admits-row, admits-from_first, ascending-users, absent-user, ordered-first}}
 use Rattle.hc_stored.proofs.entries.Entries.bind_first.Goals as goal
 
 pub bind_first_in-requires-clause-ascending : goal.bind_first_in-requires-clause-ascending

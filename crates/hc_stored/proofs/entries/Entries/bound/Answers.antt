@@ -1,5 +1,4 @@
-use Rattle.std.proofs.Common.{sym, ap}
-use Rattle.std.specs.Prelude.{option_map}
+use Rattle.std.{proofs.Common.{sym, ap}, specs.Prelude.{option_map}}
 use Rattle.hc_stored.specs.Rows.{row_of}
 use Rattle.hc_stored.proofs.ShelfLemmas.{kept-there}
 use Rattle.hc_stored.proofs.entries.Entries.bound.Goals as goal

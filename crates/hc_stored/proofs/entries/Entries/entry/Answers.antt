@@ -1,11 +1,8 @@
-use Rattle.std.proofs.Common.{◌≡◌, ◌+◌, ◌-◌, sym, ap, ◌∙◌, arith}
-use Rattle.std.specs.Prelude.{option_map, Some, is_some}
+use Rattle.std.{proofs.Common.{◌≡◌, ◌+◌, ◌-◌, sym, ap, ◌∙◌, arith}, specs.Prelude.{option_map, Some, is_some}}
 use Rattle.hc_sparse.specs.Cells.{size}
 use Rattle.hc_store.specs.Slots.{weigh}
-use Rattle.hc_stored.specs.Rows.{row_of}
-use Rattle.hc_stored.specs.Views.{view_of_row}
-use Rattle.hc_stored.proofs.ShelfLemmas.{standing, kept-there}
-use Rattle.hc_stored.proofs.ViewLemmas.{view-is}
+use Rattle.hc_stored.specs.{Rows.{row_of}, Views.{view_of_row}}
+use Rattle.hc_stored.proofs.{ShelfLemmas.{standing, kept-there}, ViewLemmas.{view-is}}
 use Rattle.hc_stored.proofs.entries.Entries.entry.Goals as goal
 
 pub used_by-size-requires : goal.used_by-size-requires

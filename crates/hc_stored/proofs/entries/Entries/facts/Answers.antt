@@ -1,7 +1,5 @@
-use Rattle.std.proofs.Common.{sym, ap}
-use Rattle.std.specs.Prelude.{option_map, Some}
-use Rattle.hc_stored.specs.Heads.{Summary}
-use Rattle.hc_stored.specs.Rows.{row_of}
+use Rattle.std.{proofs.Common.{sym, ap}, specs.Prelude.{option_map, Some}}
+use Rattle.hc_stored.specs.{Heads.{Summary}, Rows.{row_of}}
 use Rattle.hc_stored.proofs.ShelfLemmas.{standing, kept-there}
 use Rattle.hc_stored.proofs.entries.Entries.facts.Goals as goal
 

@@ -1,6 +1,5 @@
 use Rattle.std.proofs.Common.{ℕ, sym, ap, ◌∙◌}
-use Rattle.hc_stored.specs.Entries.{shelf_of}
-use Rattle.hc_stored.specs.Shelf.{is_unused, first_of}
+use Rattle.hc_stored.specs.{Entries.{shelf_of}, Shelf.{is_unused, first_of}}
 use Rattle.hc_stored.proofs.IdleLemmas.{unused-kept, idle-last}
 use Rattle.hc_stored.proofs.entries.Entries.first_idle.Goals as goal
 

@@ -1,8 +1,5 @@
-use Rattle.std.proofs.Common.{◌≡◌}
-use Rattle.std.specs.Prelude.{filter, reverse}
-use Rattle.std.specs.Map.{keys_of}
-use Rattle.hc_stored.specs.Entries.{shelf_of}
-use Rattle.hc_stored.specs.Shelf.{is_unused, idle, first_of}
+use Rattle.std.{proofs.Common.{◌≡◌}, specs.{Prelude.{filter, reverse}, Map.{keys_of}}}
+use Rattle.hc_stored.specs.{Entries.{shelf_of}, Shelf.{is_unused, idle, first_of}}
 use Rattle.hc_stored.proofs.entries.Entries.first_idle.Given as goal
 
 abbrev pub invariant-loop-r : goal.invariant-loop-r

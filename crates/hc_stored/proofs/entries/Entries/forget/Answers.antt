@@ -1,9 +1,7 @@
 use Rattle.std.proofs.Common.{refl, sym, ap, ◌∙◌, None}
 use Rattle.hc_store.specs.Slots.{Slots}
 use Rattle.hc_stored.specs.Rows.{rows_of, going}
-use Rattle.hc_stored.proofs.ShelfLemmas.{updated-shelved, dropped-shelved, kept-slots}
-use Rattle.hc_stored.proofs.RowLemmas.{shelved-going}
-use Rattle.hc_stored.proofs.CurrentLemmas.{slot-kept, slot-before, row-after, gone-after, used-gone, ordered-going, ordered-out}
+use Rattle.hc_stored.proofs.{ShelfLemmas.{updated-shelved, dropped-shelved, kept-slots}, RowLemmas.{shelved-going}, CurrentLemmas.{slot-kept, slot-before, row-after, gone-after, used-gone, ordered-going, ordered-out}}
 use Rattle.hc_stored.proofs.entries.Entries.forget.Goals as goal
 
 pub invariant_of-self : goal.invariant_of-self

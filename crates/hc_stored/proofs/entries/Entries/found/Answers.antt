@@ -1,11 +1,8 @@
 use Rattle.std.proofs.Common.{◌≡◌, ℕ, ◌<◌, ◌^◌, Some, refl, ap, ◌∙◌, rules}
 use Rattle.hc_record.specs.Plain.{plain}
 use Rattle.hc_store.specs.Slots.{Slots, bare}
-use Rattle.hc_stored.specs.Heads.{summary_of}
-use Rattle.hc_stored.specs.Rows.{Row, rows_of, founded_row, with_row}
-use Rattle.hc_stored.proofs.ShelfLemmas.{added-shelved, added-kept, same-shelved, same-slots, slots-back}
-use Rattle.hc_stored.proofs.RowLemmas.{shelved-founded}
-use Rattle.hc_stored.proofs.CurrentLemmas.{ordered-more, no-row}
+use Rattle.hc_stored.specs.{Heads.{summary_of}, Rows.{Row, rows_of, founded_row, with_row}}
+use Rattle.hc_stored.proofs.{ShelfLemmas.{added-shelved, added-kept, same-shelved, same-slots, slots-back}, RowLemmas.{shelved-founded}, CurrentLemmas.{ordered-more, no-row}}
 use Rattle.hc_stored.proofs.entries.Entries.found.Goals as goal
 
 pub invariant_of-self-in-Err : goal.invariant_of-self-in-Err

@@ -1,8 +1,5 @@
-use Rattle.std.proofs.Common.{◌≡◌, ℕ, ◌++◌, ◌∷◌, [], List, refl, sym, ap, ◌∙◌, append_assoc}
-use Rattle.std.specs.Prelude.{filter, reverse}
-use Rattle.std.specs.Map.{keys_of}
-use Rattle.hc_stored.specs.Entries.{shelf_of}
-use Rattle.hc_stored.specs.Shelf.{is_unused}
+use Rattle.std.{proofs.Common.{◌≡◌, ℕ, ◌++◌, ◌∷◌, [], List, refl, sym, ap, ◌∙◌, append_assoc}, specs.{Prelude.{filter, reverse}, Map.{keys_of}}}
+use Rattle.hc_stored.specs.{Entries.{shelf_of}, Shelf.{is_unused}}
 use Rattle.hc_stored.proofs.IdleLemmas.{unused-kept, idle-last}
 use Rattle.hc_stored.proofs.entries.Entries.idle.Goals as goal
 

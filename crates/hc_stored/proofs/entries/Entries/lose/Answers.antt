@@ -1,8 +1,6 @@
 use Rattle.std.proofs.Common.{refl}
 use Rattle.hc_stored.specs.Rows.{rows_of, losing}
-use Rattle.hc_stored.proofs.ShelfLemmas.{updated-shelved, kept-slots}
-use Rattle.hc_stored.proofs.RowLemmas.{shelved-lost}
-use Rattle.hc_stored.proofs.CurrentLemmas.{slot-kept, ordered-same}
+use Rattle.hc_stored.proofs.{ShelfLemmas.{updated-shelved, kept-slots}, RowLemmas.{shelved-lost}, CurrentLemmas.{slot-kept, ordered-same}}
 use Rattle.hc_stored.proofs.entries.Entries.lose.Goals as goal
 
 pub invariant_of-self : goal.invariant_of-self

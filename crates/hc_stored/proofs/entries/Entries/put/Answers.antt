@@ -2,9 +2,7 @@ use Rattle.std.proofs.Common.{◌+◌, length, refl, ap, ◌∙◌}
 use Rattle.hc_store.specs.Slots.{Slots, puts}
 use Rattle.hc_store.proofs.Weights.{weight-put}
 use Rattle.hc_stored.specs.Rows.{rows_of, reaching}
-use Rattle.hc_stored.proofs.ShelfLemmas.{updated-shelved, cells-kept, live-slot, slot-number}
-use Rattle.hc_stored.proofs.RowLemmas.{shelved-filled}
-use Rattle.hc_stored.proofs.CurrentLemmas.{ordered-same}
+use Rattle.hc_stored.proofs.{ShelfLemmas.{updated-shelved, cells-kept, live-slot, slot-number}, RowLemmas.{shelved-filled}, CurrentLemmas.{ordered-same}}
 use Rattle.hc_stored.proofs.entries.Entries.put.Goals as goal
 
 pub put-requires-clause-absent : goal.put-requires-clause-absent

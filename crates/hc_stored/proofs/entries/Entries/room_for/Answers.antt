@@ -1,16 +1,9 @@
-use Rattle.std.proofs.Common.{ℕ, ◌≡◌, ◌+◌, ◌-◌, List, [], ◌∷◌, length, sym, ap, ◌∙◌, arith, length-append}
-use Rattle.std.specs.Prelude.{option_map, map, filter, reverse}
-use Rattle.std.specs.Map.{keys_of}
+use Rattle.std.{proofs.Common.{ℕ, ◌≡◌, ◌+◌, ◌-◌, List, [], ◌∷◌, length, sym, ap, ◌∙◌, arith, length-append}, specs.{Prelude.{option_map, map, filter, reverse}, Map.{keys_of}}}
 use Rattle.hc_rules.proofs.RoomFolds.{fits_now}
-use Rattle.hc_rules.specs.declared.room.Limits.{Limits}
-use Rattle.hc_rules.specs.Rooms.{room_by, gives_way}
+use Rattle.hc_rules.specs.{declared.room.Limits.{Limits}, Rooms.{room_by, gives_way}}
 use Rattle.hc_store.specs.Slots.{weight}
-use Rattle.hc_stored.specs.Entries.{shelf_of}
-use Rattle.hc_stored.specs.Rows.{rows_of}
-use Rattle.hc_stored.specs.Shelf.{is_unused, weight_at, idle}
-use Rattle.hc_stored.proofs.ShelfLemmas.{live-slot}
-use Rattle.hc_stored.proofs.WeightLemmas.{weight-there}
-use Rattle.hc_stored.proofs.IdleLemmas.{unused-kept, idle-last, gives-more}
+use Rattle.hc_stored.specs.{Entries.{shelf_of}, Rows.{rows_of}, Shelf.{is_unused, weight_at, idle}}
+use Rattle.hc_stored.proofs.{ShelfLemmas.{live-slot}, WeightLemmas.{weight-there}, IdleLemmas.{unused-kept, idle-last, gives-more}}
 use Rattle.hc_stored.proofs.entries.Entries.room_for.Goals as goal
 
 pub returns-then-left-most : goal.returns-then-left-most

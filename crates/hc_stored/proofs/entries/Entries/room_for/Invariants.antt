@@ -1,9 +1,6 @@
-use Rattle.std.proofs.Common.{◌≡◌, ◌+◌, ◌≤◌, ℕ, length}
-use Rattle.std.specs.Prelude.{option_map, map, filter, reverse}
-use Rattle.std.specs.Map.{keys_of}
+use Rattle.std.{proofs.Common.{◌≡◌, ◌+◌, ◌≤◌, ℕ, length}, specs.{Prelude.{option_map, map, filter, reverse}, Map.{keys_of}}}
 use Rattle.hc_rules.specs.Rooms.{gives_way}
-use Rattle.hc_stored.specs.Entries.{shelf_of}
-use Rattle.hc_stored.specs.Shelf.{weight_at, is_unused, idle}
+use Rattle.hc_stored.specs.{Entries.{shelf_of}, Shelf.{weight_at, is_unused, idle}}
 use Rattle.hc_stored.proofs.entries.Entries.room_for.Given as goal
 
 abbrev pub invariant-loop-r : goal.invariant-loop-r

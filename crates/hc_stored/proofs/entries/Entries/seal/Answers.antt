@@ -1,9 +1,7 @@
 use Rattle.std.proofs.Common.{refl, ap, ◌∙◌}
 use Rattle.hc_store.specs.Slots.{Slots, seals}
 use Rattle.hc_stored.specs.Rows.{sealed_as}
-use Rattle.hc_stored.proofs.ShelfLemmas.{updated-shelved}
-use Rattle.hc_stored.proofs.RowLemmas.{shelved-sealed}
-use Rattle.hc_stored.proofs.CurrentLemmas.{ordered-same}
+use Rattle.hc_stored.proofs.{ShelfLemmas.{updated-shelved}, RowLemmas.{shelved-sealed}, CurrentLemmas.{ordered-same}}
 use Rattle.hc_stored.proofs.entries.Entries.seal.Goals as goal
 
 pub invariant_of-self-2 : goal.invariant_of-self-2

@@ -1,9 +1,7 @@
 use Rattle.std.proofs.Common.{refl, sym, ap, ◌∙◌, None}
 use Rattle.hc_store.specs.Slots.{Slots}
 use Rattle.hc_stored.specs.Rows.{rows_of, unused_by}
-use Rattle.hc_stored.proofs.ShelfLemmas.{updated-shelved, dropped-shelved, kept-slots}
-use Rattle.hc_stored.proofs.RowLemmas.{shelved-left}
-use Rattle.hc_stored.proofs.CurrentLemmas.{user-slot, ascending-users, slot-before, row-after, gone-after, kept-left, gone-left, ordered-same, ordered-left}
+use Rattle.hc_stored.proofs.{ShelfLemmas.{updated-shelved, dropped-shelved, kept-slots}, RowLemmas.{shelved-left}, CurrentLemmas.{user-slot, ascending-users, slot-before, row-after, gone-after, kept-left, gone-left, ordered-same, ordered-left}}
 use Rattle.hc_stored.proofs.entries.Entries.unbind.Goals as goal
 
 pub unbind_in-requires : goal.unbind_in-requires

@@ -1,11 +1,8 @@
 use Rattle.std.proofs.Common.{refl, ap, ◌∙◌}
 use Rattle.hc_record.specs.Plain.{plain}
 use Rattle.hc_store.specs.Slots.{Slots, rewrites}
-use Rattle.hc_stored.specs.Kept.{with_head}
-use Rattle.hc_stored.specs.Rows.{summary_in, with_summary}
-use Rattle.hc_stored.proofs.ShelfLemmas.{updated-shelved, updated-kept}
-use Rattle.hc_stored.proofs.RowLemmas.{shelved-rewritten}
-use Rattle.hc_stored.proofs.CurrentLemmas.{ordered-same}
+use Rattle.hc_stored.specs.{Kept.{with_head}, Rows.{summary_in, with_summary}}
+use Rattle.hc_stored.proofs.{ShelfLemmas.{updated-shelved, updated-kept}, RowLemmas.{shelved-rewritten}, CurrentLemmas.{ordered-same}}
 use Rattle.hc_stored.proofs.entries.Entries.update.Goals as goal
 
 pub invariant_of-self-2 : goal.invariant_of-self-2

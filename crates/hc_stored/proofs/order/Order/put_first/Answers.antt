@@ -1,5 +1,4 @@
-use Rattle.std.proofs.Common.{◌≡◌, ◌<◌, ◌≤◌, ◌-◌, ◌^◌, length, false, arith}
-use Rattle.std.specs.Map.{keys_of}
+use Rattle.std.{proofs.Common.{◌≡◌, ◌<◌, ◌≤◌, ◌-◌, ◌^◌, length, false, arith}, specs.Map.{keys_of}}
 use Rattle.hc_sorted.specs.Sorted.{has}
 use Rattle.hc_stored.specs.Kept.{itself}
 use Rattle.hc_stored.proofs.OrderLemmas.{keys-put, distinct-first}

@@ -1,7 +1,5 @@
 use Rattle.std.proofs.Common.{◌≡◌, ℕ, length, sym, ap, ◌∙◌, rules}
-use Rattle.hc_wire.specs.declared.event.WireEvent.{WireEvent}
-use Rattle.hc_wire.specs.Following.{left_at, coming}
-use Rattle.hc_wire.specs.Plays.{script_due}
+use Rattle.hc_wire.specs.{declared.event.WireEvent.{WireEvent}, Following.{left_at, coming}, Plays.{script_due}}
 use Rattle.hc_wire.proofs.FollowLemmas.{stands, comes_at}
 use Rattle.hc_wire.proofs.script.ScriptWire.due.Goals as goal
 

@@ -1,6 +1,5 @@
 use Rattle.std.proofs.Common.{List, refl, ap, ◌∙◌}
-use Rattle.hc_wire.specs.Events.{closed_of}
-use Rattle.hc_wire.specs.Logs.{Taker, stage_in, shut}
+use Rattle.hc_wire.specs.{Events.{closed_of}, Logs.{Taker, stage_in, shut}}
 use Rattle.hc_wire.proofs.LogLemmas.{stages-changed, stage_shut}
 use Rattle.hc_wire.proofs.script.ScriptWireWire.close.Goals as goal
 

@@ -1,6 +1,5 @@
 use Rattle.std.proofs.Common.{◌≡◌, ℕ, ◌+◌, List, ◌++◌, ◌∷◌, [], sym, ap, ◌∙◌, arith}
-use Rattle.hc_wire.specs.declared.script.ScriptWire.{ScriptWire}
-use Rattle.hc_wire.specs.Logs.{Taker, stage_in, fresh}
+use Rattle.hc_wire.specs.{declared.script.ScriptWire.{ScriptWire}, Logs.{Taker, stage_in, fresh}}
 use Rattle.hc_wire.proofs.LogLemmas.{stages-fresh}
 use Rattle.hc_wire.proofs.script.ScriptWireWire.dial.Goals as goal
 

@@ -1,13 +1,6 @@
-use Rattle.std.proofs.Common.{◌≡◌, ℕ, List, length, ap, ◌∙◌, subst}
-use Rattle.std.specs.Prelude.{if◌then◌else◌}
-use Rattle.hc_wire.specs.declared.script.ScriptWire.{ScriptWire}
-use Rattle.hc_wire.specs.Events.{IsOfOpen, got_bytes}
-use Rattle.hc_wire.specs.Logs.{Taker, stage_in, takers_with}
-use Rattle.hc_wire.specs.Following.{Left, bytes_left, behind_event, is_room}
-use Rattle.hc_wire.specs.Stalls.{room_of}
-use Rattle.hc_wire.specs.Plays.{script_due, script_next}
-use Rattle.hc_wire.proofs.LogLemmas.{stages-joined}
-use Rattle.hc_wire.proofs.PlayLemmas.{idle_where, pair_is}
+use Rattle.std.{proofs.Common.{◌≡◌, ℕ, List, length, ap, ◌∙◌, subst}, specs.Prelude.{if◌then◌else◌}}
+use Rattle.hc_wire.specs.{declared.script.ScriptWire.{ScriptWire}, Events.{IsOfOpen, got_bytes}, Logs.{Taker, stage_in, takers_with}, Following.{Left, bytes_left, behind_event, is_room}, Stalls.{room_of}, Plays.{script_due, script_next}}
+use Rattle.hc_wire.proofs.{LogLemmas.{stages-joined}, PlayLemmas.{idle_where, pair_is}}
 use Rattle.hc_wire.proofs.script.ScriptWireWire.next.Goals as goal
 
 pub returns-clause-stages : goal.returns-clause-stages

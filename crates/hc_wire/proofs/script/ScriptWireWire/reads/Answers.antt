@@ -1,6 +1,5 @@
 use Rattle.std.proofs.Common.{List, refl, ap, ◌∙◌}
-use Rattle.hc_wire.specs.Events.{reading_of}
-use Rattle.hc_wire.specs.Logs.{Taker, stage_in, reading}
+use Rattle.hc_wire.specs.{Events.{reading_of}, Logs.{Taker, stage_in, reading}}
 use Rattle.hc_wire.proofs.LogLemmas.{stages-changed, stage_read}
 use Rattle.hc_wire.proofs.script.ScriptWireWire.reads.Goals as goal
 

@@ -1,11 +1,6 @@
 use Rattle.std.proofs.Common.{◌+◌, ◌-◌, List, refl, ap, ◌∙◌}
-use Rattle.hc_wire.specs.declared.script.ScriptWire.{ScriptWire}
-use Rattle.hc_wire.specs.Logs.{Taker, stage_in}
-use Rattle.hc_wire.specs.declared.script.Stall.{Stall}
-use Rattle.hc_wire.specs.Following.{room_in}
-use Rattle.hc_wire.specs.Stalls.{room_of}
-use Rattle.hc_wire.proofs.StallLemmas.{used_own, used_other}
-use Rattle.hc_wire.proofs.LogLemmas.{stages-same}
+use Rattle.hc_wire.specs.{declared.script.{ScriptWire.{ScriptWire}, Stall.{Stall}}, Logs.{Taker, stage_in}, Following.{room_in}, Stalls.{room_of}}
+use Rattle.hc_wire.proofs.{StallLemmas.{used_own, used_other}, LogLemmas.{stages-same}}
 use Rattle.hc_wire.proofs.script.ScriptWireWire.send.Goals as goal
 
 pub returns-clause-stages : goal.returns-clause-stages

@@ -1,6 +1,6 @@
 -- What a binary search over marks finds, as a place in the list of their fields.
-use Rattle.std.{proofs.{Common.{◌≡◌, ℕ, ◌+◌, ◌<◌, ◌≤◌, Bool, true, false, not, List, [], length, get_or, refl, sym, arith}, lemmas.{Bool.{not-false, both_ways, true_from_ne_false}, List.{get_or-map, Sums.{position_or_len_is, fails_before_first}}}}, specs.List.{position_or_len}}
-use Rattle.hc_fields.specs.{declared.mark.Mark.{Mark}, FieldList.{comes_before, is_sorted, start_of}, Marks.{field_at, fields_at}}
+use Rattle.std.{proofs.{Common.{◌≡◌, ℕ, ◌+◌, ◌<◌, ◌≤◌, Bool, true, false, not, List, [], length, get_or, Ordering, ap, inl, inr, refl, sym, ◌∙◌, arith}, lemmas.{Cmp.{nat_list_cmp_total}, Bool.{not-false, both_ways, true_from_ne_false, cases_lt}, List.{get_or-map, Sums.{position_or_len_is, fails_before_first, passes_at_first}}}}, specs.{List.{position_or_len}, Ordering.{nat_cmp, is_lt, is_eq, is_gt, ordering_reverse}, Cmp.Lexicographic.{slice_cmp}, declared.cmp.Ordering.TheVariants.{Less, Equal, Greater}}}
+use Rattle.hc_fields.specs.{declared.mark.Mark.{Mark}, FieldList.{comes_before, is_sorted, start_of, end_of}, Marks.{field_at, fields_at}}
 use Rattle.hc_fields.proofs.{Names.{one_way, chain, upto_before}, Sorted.{Pair, sorted_at}}
 
 -- any mark, for reads past the end of a list
@@ -69,3 +69,79 @@ before_start name fs k lt =
 -- the field at a mark of the list
 pub nth_is : (text : List ℕ) (marks : List Mark) (i : ℕ) (d : Mark) → i < length marks → get_or (fields_at text marks) i ([], []) ≡ field_at text (get_or marks i d)
 nth_is text marks i d lt = get_or-map (field_at text) marks i d ([], []) lt
+
+is_gt-reverse : (o : Ordering) → is_gt (ordering_reverse o) ≡ is_lt o
+is_gt-reverse Less = refl
+is_gt-reverse Equal = refl
+is_gt-reverse Greater = refl
+
+is_lt-rest : (o : Ordering) → is_gt o ≡ false → is_eq o ≡ false → is_lt o ≡ true
+is_lt-rest Less gt eq = refl
+is_lt-rest Equal gt eq = absurd (both_ways _ eq refl)
+is_lt-rest Greater gt eq = absurd (both_ways _ gt refl)
+
+is_lt-equal : (o : Ordering) → is_eq o ≡ true → is_lt o ≡ false
+is_lt-equal Less eq = absurd (both_ways _ refl eq)
+is_lt-equal Equal eq = refl
+is_lt-equal Greater eq = refl
+
+-- how a name compares with that of a field tells whether the field comes before it
+before_by_order : (name : List ℕ) (f : Pair) → comes_before f.0 name ≡ is_gt (slice_cmp nat_cmp name f.0)
+before_by_order name f = rw (nat_list_cmp_total.antisymm name f.0) (sym (is_gt-reverse (slice_cmp nat_cmp f.0 name)))
+
+-- how far the search for a name has come: between `low` and `high`, and whether the field at `high` has the name; where
+-- it hasn't, all fields from there on come after it
+pub record Narrowed (name : List ℕ) (fs : List Pair) (low high : ℕ) (found : Bool) : Type 0 where
+  pub place : Searched (not_before name) fs low high
+  pub absent : found ≡ false → (k : ℕ) → high ≤ k → k < length fs → is_behind name (get_or fs k ([], [])) ≡ true
+  pub present : found ≡ true → (high < length fs) × (is_behind name (get_or fs high ([], [])) ≡ false)
+
+pub narrowed_right : (name : List ℕ) (fs : List Pair) (low middle high : ℕ) (found : Bool) (o : Ordering)
+    → is_sorted fs ≡ true → Narrowed name fs low high found → middle < high
+    → o ≡ slice_cmp nat_cmp name (get_or fs middle ([], [])).0 → is_gt o ≡ true → Narrowed name fs (middle + 1) high found
+narrowed_right name fs low middle high found o sorted n lt is gt =
+    record {
+      place = searched_right (not_before name) fs low middle high (ascending_start name fs sorted) n.place lt
+          (rw (before_by_order name (get_or fs middle ([], [])), ← is, gt) refl);
+      absent = n.absent;
+      present = n.present;
+    }
+
+pub narrowed_left : (name : List ℕ) (fs : List Pair) (low middle high : ℕ) (found : Bool) (o : Ordering)
+    → is_sorted fs ≡ true → Narrowed name fs low high found → low ≤ middle → middle < high
+    → o ≡ slice_cmp nat_cmp name (get_or fs middle ([], [])).0 → is_gt o ≡ false → Narrowed name fs low middle (is_eq o)
+narrowed_left name fs low middle high found o sorted n le lt is gt =
+    record {
+      place = searched_left (not_before name) fs low middle high (ascending_start name fs sorted) n.place le lt
+          (rw (before_by_order name (get_or fs middle ([], [])), ← is, gt) refl);
+      absent = λ other k above k_lt.
+          let behind : is_behind name (get_or fs middle ([], [])) ≡ true = ap is_lt (sym is) ∙ is_lt-rest o gt other in
+          true_from_ne_false _ (λ e. both_ways _ (ascending_end name fs sorted middle k above k_lt e) behind);
+      present = λ same.
+          let within = n.place.within in
+          (omega (arith, lt, within), ap is_lt (sym is) ∙ is_lt-equal o same);
+    }
+
+-- where no field has the name, those of the name end where they begin
+pub narrowed_absent : (name : List ℕ) (fs : List Pair) (low high : ℕ) (found : Bool)
+    → Narrowed name fs low high found → high ≤ low → found ≡ false → low ≡ end_of name fs
+narrowed_absent name fs low high found n le off =
+    let start = searched (not_before name) fs low high n.place le in
+    let within = n.place.within in
+    let order = n.place.order in
+    sym (position_or_len_is (is_behind name) fs low ([], []) (omega (arith, within, order, le)) (λ k lt. before_start name fs k (rw start at lt))
+    (λ lt. n.absent off low le lt))
+
+-- where a field has the name, those of the name end behind it
+pub narrowed_present : (name : List ℕ) (fs : List Pair) (low high : ℕ) (found : Bool)
+    → is_sorted fs ≡ true → Narrowed name fs low high found → high ≤ low → found ≡ true → low < end_of name fs
+narrowed_present name fs low high found sorted n le on =
+    let order = n.place.order in
+    let both = n.present on in
+    let lt = both.0 in
+    elim (cases_lt low (end_of name fs)) [
+      | inl before ↦ before
+      | inr after ↦
+          let inside : end_of name fs < length fs = omega (arith, after, order, le, lt) in
+          absurd (both_ways _ (ascending_end name fs sorted (end_of name fs) high (omega (arith, after, order, le)) lt both.1) (passes_at_first (is_behind name) fs ([], []) inside))
+    ]

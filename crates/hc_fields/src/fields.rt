@@ -48,6 +48,12 @@ impl Model for Fields {
     ghost invariant = { λ f. IsKept f.text.items f.marks.items f.size f.in_order };
 }
 
+/// A copy of some fields has room for two more, as the age and the length of an answer that is shown.
+const MORE_FIELDS: usize = 2;
+
+/// It has room for so many bytes more.
+const MORE_BYTES: usize = 64;
+
 /// Why a field that is a token and a value is refused beside `count` fields of `size` bytes.
 fn excess(count: usize, size: usize, name: &[u8], value: &[u8]) -> Option<FieldError>
     requires within { size ≤ 49152 }
@@ -153,11 +159,16 @@ impl Fields {
         ensures { IfOk result (λ copy. copy ≡ self.now) }
     {
         let alloc = *self.text.allocator();
+        if self.marks.is_empty() {
+            return Fields::new(alloc);
+        }
         if self.text.len() > self.size + 3 * self.marks.len() {
             return self.packed(alloc);
         }
-        let text = Vec::from_slice(alloc, &self.text)?;
-        let marks = Vec::from_slice(alloc, &self.marks)?;
+        let mut text = Vec::with_capacity(alloc, self.text.len() + MORE_BYTES)?;
+        text.extend_from_slice(&self.text).unwrap();
+        let mut marks = Vec::with_capacity(alloc, self.marks.len() + MORE_FIELDS)?;
+        marks.extend_from_slice(&self.marks).unwrap();
         Ok(Fields {
             text,
             marks,

@@ -1,5 +1,6 @@
 //! Where the fields of a name stand in a list sorted by name, by binary search.
 ghost use Rattle.std.specs.Prelude.{◌≡◌, ◌≤◌, ◌+◌, ◌<◌, length, true, filter, All, MatchBool};
+ghost use Rattle.std.specs.Bool.{OnTrue, OnFalse};
 ghost use Rattle.std.specs.Ordering.{nat_cmp};
 ghost use Rattle.std.specs.Cmp.Lexicographic.{slice_cmp};
 ghost use Rattle.http_header.specs.Token.{lowercase};
@@ -24,12 +25,12 @@ fn compare_lowered(name: &[u8], bytes: &[u8]) -> Ordering
     name.len().cmp(&bytes.len())
 }
 
-/// Whether the name at the mark comes before this one.
-fn is_before(text: &[u8], mark: Mark, name: &[u8]) -> bool
+/// How a name, once lowered, compares with that at the mark.
+fn compare_at(text: &[u8], mark: Mark, name: &[u8]) -> Ordering
     requires { IsLineAt text.now mark }
-    ensures { result ≡ comes_before (field_at text.now mark).0 (lowercase name.now) }
+    ensures { result ≡ slice_cmp nat_cmp (lowercase name.now) (field_at text.now mark).0 }
 {
-    compare_lowered(name, mark.name(text)).is_gt()
+    compare_lowered(name, mark.name(text))
 }
 
 /// Whether the name at the mark comes after this one.
@@ -37,26 +38,34 @@ fn is_after(text: &[u8], mark: Mark, name: &[u8]) -> bool
     requires { IsLineAt text.now mark }
     ensures { result ≡ comes_before (lowercase name.now) (field_at text.now mark).0 }
 {
-    compare_lowered(name, mark.name(text)).is_lt()
+    compare_at(text, mark, name).is_lt()
 }
 
-/// Where the fields of a name begin: past all whose names come before it.
-fn start_place(text: &[u8], marks: &[Mark], name: &[u8]) -> usize
+/// Where the fields of a name begin, past all whose names come before it, and whether there is one.
+/// Where there is none, they end there too.
+fn start_place(text: &[u8], marks: &[Mark], name: &[u8]) -> (usize, bool)
     requires { AreMarked text.now marks.now }
-    ensures place { result ≡ start_of (lowercase name.now) (fields_at text.now marks.now) }
-    ensures within { result ≤ length marks.now }
+    ensures place { result.0 ≡ start_of (lowercase name.now) (fields_at text.now marks.now) }
+    ensures absent { OnFalse result.1
+        (result.0 ≡ end_of (lowercase name.now) (fields_at text.now marks.now)) }
+    ensures present { OnTrue result.1
+        (result.0 < end_of (lowercase name.now) (fields_at text.now marks.now)) }
+    ensures within { result.0 ≤ length marks.now }
 {
     let mut low = 0;
     let mut high = marks.len();
+    let mut found = false;
     while low < high {
         let middle = low + (high - low) / 2;
-        if is_before(text, marks[middle], name) {
+        let order = compare_at(text, marks[middle], name);
+        if order.is_gt() {
             low = middle + 1;
         } else {
             high = middle;
+            found = order.is_eq();
         }
     }
-    low
+    (low, found)
 }
 
 /// Where the fields of a name end: before all whose names come after it.
@@ -78,11 +87,11 @@ pub(crate) fn end_place(text: &[u8], marks: &[Mark], name: &[u8]) -> usize
     low
 }
 
-/// Where the fields of a name end that begin at `start`.
-// They are walked, since mostly a name has one field or none.
+/// Where the fields of a name end, which isn't before `start`.
+// They are walked, since mostly a name has one field.
 fn end_from(text: &[u8], marks: &[Mark], name: &[u8], start: usize) -> usize
     requires marks { AreMarked text.now marks.now }
-    requires start { start ≡ start_of (lowercase name.now) (fields_at text.now marks.now) }
+    requires start { start ≤ end_of (lowercase name.now) (fields_at text.now marks.now) }
     ensures place { result ≡ end_of (lowercase name.now) (fields_at text.now marks.now) }
     ensures within { result ≤ length marks.now }
 {
@@ -102,8 +111,11 @@ fn places(text: &[u8], marks: &[Mark], name: &[u8]) -> (usize, usize)
     ensures order { result.0 ≤ result.1 }
     ensures within { result.1 ≤ length marks.now }
 {
-    let start = start_place(text, marks, name);
-    (start, end_from(text, marks, name, start))
+    let (start, found) = start_place(text, marks, name);
+    if !found {
+        return (start, start);
+    }
+    (start, end_from(text, marks, name, start + 1))
 }
 
 /// The marks of the fields of a name, in any case of it.

@@ -1,12 +1,13 @@
-use Rattle.std.proofs.{Common.{◌≡◌, [], length, inl, inr, sym, arith}, lemmas.{Bool.{cases_lt}, List.{length-map, Sums.{position_or_len_is}}}}
+use Rattle.std.proofs.{Common.{◌≡◌, [], length, inl, inr, sym, arith}, lemmas.{Bool.{cases_lt}, List.{length-map, Sums.{position_or_len_is, fails_before_first}}}}
 use Rattle.http_header.specs.Token.{lowercase}
 use Rattle.hc_fields.specs.Marks.{field_at, fields_at}
-use Rattle.hc_fields.proofs.Places.{no_mark, is_behind, before_start, nth_is}
+use Rattle.hc_fields.proofs.Places.{no_mark, is_behind, nth_is}
 use Rattle.hc_fields.proofs.search.end_from.Goals as goal
 
 pub loop-end-init : goal.loop-end-init
 loop-end-init c k lt =
-    before_start (lowercase c.args.name.now) (fields_at c.args.text.now c.args.marks.now) k (rw c.requires.start at lt)
+    let start = c.requires.start in
+    fails_before_first (is_behind (lowercase c.args.name.now)) (fields_at c.args.text.now c.args.marks.now) k ([], []) (omega (arith, lt, start))
 
 pub returns-then-is_after-clause-place : goal.returns-then-is_after-clause-place
 returns-then-is_after-clause-place c =

@@ -64,7 +64,7 @@ fn read_sparse<M: SparseBytes>(body: &mut M, pieces: u64, times: u64) -> Result<
 /// Reads one piece.
 fn read_at<M: SparseBytes>(body: &M, at: u64) -> Result<(), BenchError> {
     match body.run_at(at, WANT as usize)? {
-        Some(run) if run.bytes.bytes.len() == WANT as usize => Ok(()),
+        Some(run) if run.bytes.len() == WANT as usize => Ok(()),
         _ => Err(BenchError::Wrong),
     }
 }

@@ -76,7 +76,7 @@ fn piece(alloc: Global, len: usize) -> Result<Event, BenchError>
     let bytes = vec![in alloc; b'x'; len]?;
     Ok(Event::Piece {
         x: 1,
-        bytes: Bytes { bytes },
+        bytes: Bytes::of(bytes),
     })
 }
 

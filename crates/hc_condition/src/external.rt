@@ -33,7 +33,7 @@ fn are_tags(alloc: Global, fields: &Fields) -> Result<bool, NoMemory>
     ensures { IfOk result (λ answer. answer ≡ are_tags (none_match_of fields.now)) }
 {
     match fields.joined(b"if-none-match")? {
-        Some(text) => is_tag_list(alloc, text.bytes.as_slice()),
+        Some(text) => is_tag_list(alloc, text.as_slice()),
         None => Ok(true),
     }
 }

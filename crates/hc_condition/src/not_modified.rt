@@ -31,7 +31,7 @@ pub fn is_not_modified(
         return Ok(false);
     }
     match request.fields.joined(b"if-none-match")? {
-        Some(text) => lists(alloc, text.bytes.as_slice(), fields),
+        Some(text) => lists(alloc, text.as_slice(), fields),
         None => Ok(is_no_later(
             only_date(fields, b"last-modified"),
             only_date(&request.fields, b"if-modified-since"),
@@ -72,9 +72,7 @@ fn is_among(tags: &TagItems, fields: &Fields) -> bool
 fn has_opaque(tags: &TagItems, opaque: &[u8]) -> bool
     ensures { result ≡ list_any (is_tag opaque.now) tags.now }
 {
-    tags.items
-        .iter()
-        .any(|tag| tag.opaque.bytes.as_slice() == opaque)
+    tags.items.iter().any(|tag| tag.opaque.as_slice() == opaque)
 }
 
 /// The tag of a head, where its ETag stands once and is one.

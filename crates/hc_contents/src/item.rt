@@ -76,7 +76,7 @@ fn ends_by(run: &Run, total: u64) -> bool
 pub(crate) fn count_of(run: &Run) -> u64
     ensures { result ≡ length run.now.bytes }
 {
-    run.bytes.bytes.len() as u64
+    run.bytes.len() as u64
 }
 
 /// The kind of what has such runs and such a length.

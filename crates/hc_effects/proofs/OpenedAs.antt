@@ -1,7 +1,7 @@
 -- What an exchange is opened as: past the store, with the turn, for a first hole, or for a later one of who is bound.
 use Rattle.std.proofs.Common.{◌≡◌, inl, inr, ℕ, ◌+◌, Bool, true, false, cond, Option, Some, None, refl, ap, sym, ◌∙◌, subst}
 use Rattle.hc_text.proofs.Basics.{bool_cases, some_inj}
-use Rattle.hc_text.specs.declared.bytes.{Key.{Key}, MethodName.{MethodName}}
+use Rattle.hc_text.specs.declared.names.{Key.{Key}, MethodName.{MethodName}}
 use Rattle.hc_range.specs.declared.range.Span.{Span}
 use Rattle.hc_sparse.specs.declared.run.Run.{Run}
 use Rattle.hc_effects.proofs.Vocabulary.{Opening, Request, Response, Need, Why, Plan, ReadStep, route_of, plan_of, read_step, class_of, is_bypassing, is_disabled, range_of, wanted_of, Place, BoundBy, current, row_of, first_hole, Move, Nothing, Fails, Opens, gives, waits_for, opens_hole, shows_stored, plan_view, plan_move, origin_request, conditional_on, current_row, binds_current, hole_of, shows_at, shows_bound, shows_direct, shows_answer, has_joined, move_of, bound_to, Tables, Exchange, Representation, Consumer, Sound, read_view, step_move, later_hole, bound_row}

@@ -25,7 +25,7 @@ impl Front<'_> {
         let bytes = self.opaque.to_vec(alloc)?;
         Ok(Tag {
             weak: self.weak,
-            opaque: Bytes { bytes },
+            opaque: Bytes::of(bytes),
         })
     }
 }

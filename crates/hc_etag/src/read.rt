@@ -31,7 +31,7 @@ pub fn write_tag(tag: &Tag, to: &mut Vec<u8>) -> Result<(), NoMemory>
     ensures ok { OnOk result (to.new.items ≡ to.old.items ++ tag_text tag.now.weak tag.now.opaque) }
     ensures err { OnErr result (to.new.items ≡ to.old.items) }
 {
-    let opaque = tag.opaque.bytes.as_slice();
+    let opaque = tag.opaque.as_slice();
     to.reserve(opaque.len() + 4)?;
     to.extend_from_slice(if tag.weak { b"W/\"" } else { b"\"" })?;
     to.extend_from_slice(opaque)?;

@@ -36,5 +36,5 @@ pub fn strong_equal(a: &Tag, b: &Tag) -> bool
 pub fn weak_equal(a: &Tag, b: &Tag) -> bool
     ensures { IsTrue result ↔ (a.now.opaque ≡ b.now.opaque) }
 {
-    a.opaque.bytes.as_slice() == b.opaque.bytes.as_slice()
+    a.opaque.as_slice() == b.opaque.as_slice()
 }

@@ -211,7 +211,7 @@ impl Exchanges {
         ensures ok { OnOk result (Becomes (without_first want) x self.old self.new) }
         ensures err { OnErr result (Stays self.old self.new) }
     {
-        let bytes = take_in(self.alloc, &mut self.rows, x, want)?;
+        let bytes = take_in(&mut self.rows, x, want)?;
         tidy_in(&mut self.rows, x);
         Ok(bytes)
     }

@@ -59,7 +59,7 @@ impl Held {
     {
         let count = bytes.len();
         let bytes = bytes.to_vec(*self.pieces.allocator())?;
-        self.pieces.push_back(Bytes { bytes })?;
+        self.pieces.push_back(Bytes::of(bytes))?;
         self.len += count;
         Ok(())
     }
@@ -84,7 +84,7 @@ fn first_len(pieces: &VecDeque<Bytes>) -> usize
     ensures { result ≡ first_length pieces.now.items }
 {
     match pieces.front() {
-        Some(piece) => piece.bytes.len(),
+        Some(piece) => piece.len(),
         None => 0,
     }
 }
@@ -112,7 +112,7 @@ fn take_front(
         let left = count - bytes.len();
         read = take_part(pieces, read, left, &mut bytes);
     }
-    Ok((Bytes { bytes }, read))
+    Ok((Bytes::of(bytes), read))
 }
 
 /// What is left of the first piece, or so many bytes of it, goes to the end of what is taken. How
@@ -130,7 +130,7 @@ fn take_part(pieces: &mut VecDeque<Bytes>, read: usize, most: usize, taken: &mut
         < deque_len pieces.old + vec_len taken.new }
     ensures room { vec_capacity taken.old ≤ vec_capacity taken.new }
 {
-    let rest = &pieces.front().unwrap().bytes[read..];
+    let rest = &pieces.front().unwrap().as_slice()[read..];
     let all = rest.len() <= most;
     let part = if all { rest } else { &rest[..most] };
     if taken.extend_from_slice(part).is_err() {

@@ -116,12 +116,7 @@ pub(crate) fn close_in(rows: &mut HashMap<u64, Row>, x: u64)
 }
 
 /// The first bytes that are held, at most `want`, are given.
-pub(crate) fn take_in(
-    alloc: Global,
-    rows: &mut HashMap<u64, Row>,
-    x: u64,
-    want: usize,
-) -> Result<Bytes, NoMemory>
+pub(crate) fn take_in(rows: &mut HashMap<u64, Row>, x: u64, want: usize) -> Result<Bytes, NoMemory>
     ensures bytes { IfOk result (λ bytes. bytes ≡ take want (held_in rows.old x)) }
     ensures ok { OnOk result
         (Changes (without_first want) x (rows_of rows.old) (rows_of rows.new)) }
@@ -130,9 +125,7 @@ pub(crate) fn take_in(
 {
     match rows.get_mut(&x) {
         Some(row) => row.held.take(want),
-        None => Ok(Bytes {
-            bytes: Vec::new(alloc),
-        }),
+        None => Ok(Bytes::new()),
     }
 }
 

@@ -54,7 +54,7 @@ impl Gathered {
         if at > self.written {
             return self.keep(at, bytes);
         }
-        self.write(at, bytes.bytes.as_slice(), text)?;
+        self.write(at, bytes.as_slice(), text)?;
         self.write_ahead(text)
     }
 
@@ -82,7 +82,7 @@ impl Gathered {
             → get nat_cmp self.now.ahead at ≡ Some other → length other ≤ length bytes.now }
     {
         match self.ahead.get(&at) {
-            Some(other) => bytes.bytes.len() <= other.bytes.len(),
+            Some(other) => bytes.len() <= other.len(),
             None => false,
         }
     }
@@ -95,7 +95,7 @@ impl Gathered {
             → Appends f self.old.written self.new.written text.old.items text.new.items) }
     {
         while let Some((at, bytes)) = self.take_next() {
-            self.write(at, bytes.bytes.as_slice(), text)?;
+            self.write(at, bytes.as_slice(), text)?;
         }
         Ok(())
     }

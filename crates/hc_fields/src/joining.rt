@@ -40,5 +40,5 @@ pub(crate) fn join(
         bytes.extend_from_slice(b", ").unwrap();
         bytes.extend_from_slice(mark.value(text)).unwrap();
     }
-    Ok(Bytes { bytes })
+    Ok(Bytes::of(bytes))
 }

@@ -105,7 +105,7 @@ fn bytes(acts: &[Act]) -> u64
     let mut sum: u64 = 0;
     for act in acts {
         if let Act::Given { bytes, .. } = act {
-            sum = sum.saturating_add(bytes.bytes.len() as u64);
+            sum = sum.saturating_add(bytes.len() as u64);
         }
     }
     sum

@@ -90,7 +90,7 @@ fn origin_bytes(alloc: Global, at: u64, n: u64) -> Result<Bytes, NoMemory>
     for i in 0..n {
         bytes.push(origin_byte(at + i))?;
     }
-    Ok(Bytes { bytes })
+    Ok(Bytes::of(bytes))
 }
 
 /// The exchange is owed the bytes from `at` up to `hi`. Where these are none it is forgotten.

@@ -38,9 +38,7 @@ fn take_run(alloc: Global, rest: &mut Cursor<'_>) -> Result<Option<Run>, NoMemor
     let Some(bytes) = rest.take_block(line.count) else {
         return Ok(None);
     };
-    let bytes = Bytes {
-        bytes: Vec::from_slice(alloc, bytes)?,
-    };
+    let bytes = Bytes::of(Vec::from_slice(alloc, bytes)?);
     Ok(Some(Run {
         x: line.x,
         at: line.at,

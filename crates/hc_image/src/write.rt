@@ -102,7 +102,7 @@ fn write_run(run: &Run, to: &mut Vec<u8>) -> Result<(), NoMemory>
     ensures ok { OnOk result (to.new.items ≡ to.old.items ++ run_text run.now) }
     ensures err { OnErr result (take (vec_len to.old) to.new.items ≡ to.old.items) }
 {
-    let bytes = run.bytes.bytes.as_slice();
+    let bytes = run.bytes.as_slice();
     write_bytes(b"run ", to)?;
     write_ended(run.x, b' ', to)?;
     write_ended(run.at, b' ', to)?;

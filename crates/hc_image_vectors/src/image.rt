@@ -53,7 +53,7 @@ fn tell_item(item: &Content, to: &mut String) -> Result<(), NoMemory> {
 
 fn tell_run(run: &Run, to: &mut String) -> Result<(), NoMemory> {
     write!(to, " {}@{} ", run.x, run.at)?;
-    quote(run.bytes.bytes.as_slice(), to)
+    quote(run.bytes.as_slice(), to)
 }
 
 /// The image that is written of what is read of the text.

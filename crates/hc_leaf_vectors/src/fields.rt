@@ -66,7 +66,7 @@ fn tell_lines(fields: &Fields, text: &[u8], to: &mut String) -> Result<(), NoMem
 
 fn tell_joined(fields: &Fields, name: &[u8], to: &mut String) -> Result<(), NoMemory> {
     match fields.joined(name)? {
-        Some(joined) => quote(&joined.bytes, to),
+        Some(joined) => quote(joined.as_slice(), to),
         None => Ok(to.push_str("None")?),
     }
 }

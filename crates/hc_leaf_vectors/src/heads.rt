@@ -64,7 +64,7 @@ pub(crate) fn tell_head(head: &StoredHead, to: &mut String) -> Result<(), NoMemo
     write!(to, "{:?} {:?} {}", head.kind, head.total, head.status)?;
     write!(to, " {} {} ", head.requested, head.answered)?;
     match &head.joining {
-        Some(tag) => quote(&tag.opaque.bytes, to)?,
+        Some(tag) => quote(tag.opaque.as_slice(), to)?,
         None => to.push_str("None")?,
     }
     tell_lines(&head.vary_fields, to)?;

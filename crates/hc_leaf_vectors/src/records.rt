@@ -60,7 +60,7 @@ fn tell_joining(v: &Vector, to: &mut String) -> Result<bool, Fault> {
         to.push_str("None")?;
         return Ok(true);
     };
-    quote(&tag.opaque.bytes, to)?;
+    quote(tag.opaque.as_slice(), to)?;
     Ok(!tag.weak)
 }
 

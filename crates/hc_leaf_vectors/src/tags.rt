@@ -22,7 +22,7 @@ pub(crate) fn call(v: &Vector, to: &mut String) -> Result<bool, NoMemory> {
 
 fn tell_tag(v: &Vector, to: &mut String) -> Result<(), NoMemory> {
     match read_tag(v.alloc(), v.text(0))? {
-        Some(tag) => tell_opaque(tag.weak, &tag.opaque.bytes, to),
+        Some(tag) => tell_opaque(tag.weak, tag.opaque.as_slice(), to),
         None => tell_none(to),
     }
 }

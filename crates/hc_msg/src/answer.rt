@@ -136,7 +136,7 @@ fn piece_of(alloc: Global, rest: &[u8], n: usize) -> Result<Moved, MsgError>
     ensures { IsPieceOf rest.now n result }
 {
     let bytes = Vec::from_slice(alloc, &rest[..n])?;
-    Ok(Moved::Gives(n, WirePart::Piece(Bytes { bytes })))
+    Ok(Moved::Gives(n, WirePart::Piece(Bytes::of(bytes))))
 }
 
 impl Answer {

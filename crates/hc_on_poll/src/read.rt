@@ -212,7 +212,7 @@ pub(crate) fn give<B: Backend>(
     ensures rest { KeepsRest rows.old rows.new }
     ensures exchanges { rows.new.exchanges ≡ rows.old.exchanges }
 {
-    count_given(&mut rows.consumers, c, bytes.bytes.len() as u64);
+    count_given(&mut rows.consumers, c, bytes.len() as u64);
     put(out, Act::Given { c, x, at, bytes });
 }
 
@@ -241,7 +241,7 @@ fn end_of(run: &Option<Run>) -> Option<u64>
     ensures { result ≡ option_map end_of run.now }
 {
     match run {
-        Some(run) => Some(run.at + run.bytes.bytes.len() as u64),
+        Some(run) => Some(run.at + run.bytes.len() as u64),
         None => None,
     }
 }

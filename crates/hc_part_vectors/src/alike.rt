@@ -1,5 +1,5 @@
 //! Many small pieces in a row, each of an exchange of its own: they cross the border of a block.
-use crate::bytes::answer;
+use crate::sparse::answer;
 use hc_sparse::{PlainSparse, Presence, Span2, Sparse, SparseAnswer, SparseBytes, SparseOp};
 use hc_text::{Bytes, NoMemory};
 use std::alloc::Global;
@@ -36,7 +36,7 @@ fn is_put<M: SparseBytes>(alloc: Global, map: &mut M, place: u64) -> Result<bool
     let op = SparseOp::Put {
         at: FIRST.saturating_add(place.saturating_mul(SIZE)),
         x: place,
-        bytes: Bytes { bytes },
+        bytes: Bytes::of(bytes),
     };
     Ok(matches!(answer(alloc, map, op)?, Some(SparseAnswer::Done)))
 }

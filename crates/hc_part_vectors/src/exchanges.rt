@@ -105,7 +105,7 @@ impl Table {
     fn piece(&mut self, v: &Vector, to: &mut String) -> Result<(), Fault> {
         let x = v.number(0);
         let bytes = v.text(1).to_vec(v.alloc())?;
-        let bytes = Bytes { bytes };
+        let bytes = Bytes::of(bytes);
         self.give(&Event::Piece { x, bytes }, v.word(2) == "held", to)
     }
 
@@ -121,7 +121,7 @@ impl Table {
                 write!(to, "good {is_good}: ")?;
             }
             Event::Piece { x, bytes } => {
-                let bytes = bytes.bytes.as_slice();
+                let bytes = bytes.as_slice();
                 if !is_small(&self.exchanges, *x) || bytes.len() >= 1000 {
                     return Err(Fault::NoSuchCall);
                 }
@@ -136,7 +136,7 @@ impl Table {
     /// Takes bytes that are held, and writes them.
     fn take(&mut self, v: &Vector, to: &mut String) -> Result<(), Fault> {
         let held = self.exchanges.take_held(v.number(0), v.number(1) as usize)?;
-        quote(held.bytes.as_slice(), to)?;
+        quote(held.as_slice(), to)?;
         to.push_str(": ")?;
         Ok(())
     }

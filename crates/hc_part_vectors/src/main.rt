@@ -6,7 +6,6 @@
 
 mod active;
 mod alike;
-mod bytes;
 mod entries;
 mod exchanges;
 mod keys;
@@ -14,18 +13,19 @@ mod lines;
 mod order;
 mod samples;
 mod sorted;
+mod sparse;
 mod stitching;
 mod stores;
 mod values;
 
 use active::Binding;
-use bytes::ManyBytes;
 use entries::Shelf;
 use exchanges::Table;
 use hc_vector::{Calls, Fault, Vector, tell_all};
 use keys::TwoKeys;
 use lines::Line;
 use sorted::{Members, Numbers};
+use sparse::ManyBytes;
 use std::alloc::Global;
 use std::process::ExitCode;
 use stores::Cupboard;

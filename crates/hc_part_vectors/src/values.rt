@@ -29,7 +29,7 @@ pub(crate) fn tell_run(run: &Option<Run>, to: &mut String) -> Result<(), Fault> 
     let x = run.x;
     let at = run.at;
     write!(to, "of {x} at {at} ")?;
-    tell_bytes(run.bytes.bytes.as_slice(), to)
+    tell_bytes(run.bytes.as_slice(), to)
 }
 
 /// Writes the stretch that a store read, or why it read none.

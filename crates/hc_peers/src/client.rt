@@ -160,12 +160,12 @@ impl Client {
         ensures err { OnErr result (self.new.consumer ≡ self.old.consumer) }
     {
         if self.reply.form != Form::Chunks {
-            return self.unsent.hand(bytes.bytes);
+            return self.unsent.hand(bytes);
         }
         text.clear();
-        write_chunk_size(bytes.bytes.len(), text)?;
+        write_chunk_size(bytes.len(), text)?;
         self.unsent.push(text)?;
-        self.unsent.hand(bytes.bytes)?;
+        self.unsent.hand(bytes)?;
         self.unsent.push(b"\r\n")
     }
 

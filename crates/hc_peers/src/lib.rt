@@ -3,6 +3,7 @@
 
 mod client;
 mod clients;
+mod handed;
 mod outbox;
 mod queue;
 mod reply;

@@ -3,8 +3,9 @@ ghost use Rattle.std.specs.Prelude.{◌≡◌, ◌<◌, ◌==◌, ◌++◌, ℕ,
 ghost use Rattle.hc_wire.specs.Wires.{HasWireCause};
 ghost use Rattle.hc_peers.specs.Offers.{Offers, OffersSome};
 
+use crate::handed::Handed;
 use crate::queue::Queue;
-use hc_text::NoMemory;
+use hc_text::{Bytes, NoMemory};
 use hc_wire::{Wire, WireError};
 use std::alloc::Global;
 use std::marker::Model;
@@ -16,7 +17,7 @@ use std::marker::Model;
 #[derive(Drop)]
 pub struct Outbox {
     front: Queue,
-    body: Queue,
+    body: Handed,
     back: Queue,
 }
 
@@ -35,7 +36,7 @@ impl Outbox {
     {
         Outbox {
             front: Queue::new(alloc),
-            body: Queue::new(alloc),
+            body: Handed::of(Bytes::new()),
             back: Queue::new(alloc),
         }
     }
@@ -59,15 +60,15 @@ impl Outbox {
     }
 
     /// These come last. They aren't copied where no body waits.
-    pub fn hand(&mut self, bytes: Vec<u8>) -> Result<(), NoMemory>
-        ensures ok { OnOk result (self.new ≡ self.old ++ bytes.items) }
+    pub fn hand(&mut self, bytes: Bytes) -> Result<(), NoMemory>
+        ensures ok { OnOk result (self.new ≡ self.old ++ bytes) }
         ensures err { OnErr result (self.new ≡ self.old) }
     {
         if self.body.is_empty() && self.back.is_empty() {
-            self.body = Queue::of(bytes);
+            self.body = Handed::of(bytes);
             Ok(())
         } else {
-            self.back.push(&bytes)
+            self.back.push(bytes.as_slice())
         }
     }
 

@@ -102,9 +102,8 @@ impl Queue {
         if self.is_empty() {
             return Ok(());
         }
-        let left = self.bytes.len() - self.used;
-        let n = wire.hand(k, &mut self.bytes, self.used)?;
-        self.used = if n == left { 0 } else { self.used + n };
+        let n = wire.send(k, self.rest())?;
+        self.skip(n);
         Ok(())
     }
 

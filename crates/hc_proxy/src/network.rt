@@ -140,7 +140,7 @@ impl<B: Backend> Proxy<B> {
                 Ok(())
             }
             WirePart::Piece(bytes) => {
-                are_bytes(bytes.bytes.as_slice());
+                are_bytes(bytes.as_slice());
                 let first = self.happen(Event::Piece { x, bytes })?;
                 if self.is_denied(first) {
                     return self.fail(x);

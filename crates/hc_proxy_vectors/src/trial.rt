@@ -58,9 +58,7 @@ impl Trial {
             self.script.push(Scripted {
                 moment: v.number(0),
                 event: WireEvent::Accepted(k),
-                bytes: Bytes {
-                    bytes: Vec::new(self.alloc),
-                },
+                bytes: Bytes::new(),
             })?;
         }
         Ok(())
@@ -122,7 +120,7 @@ fn event_of(v: &Vector) -> Result<Scripted, Fault> {
     Ok(Scripted {
         moment: v.number(0),
         event,
-        bytes: Bytes { bytes },
+        bytes: Bytes::of(bytes),
     })
 }
 

@@ -31,7 +31,7 @@ pub fn joining_tag(alloc: Global, fields: &Fields) -> Result<Option<Tag>, NoMemo
     let bytes = opaque.to_vec(alloc)?;
     Ok(Some(Tag {
         weak: false,
-        opaque: Bytes { bytes },
+        opaque: Bytes::of(bytes),
     }))
 }
 

@@ -97,7 +97,7 @@ fn is_joining_text(text: &[u8], joining: &Option<Tag>) -> bool
 {
     match joining {
         None => text == b"-".as_slice(),
-        Some(tag) => is_quoted(text, &tag.opaque.bytes),
+        Some(tag) => is_quoted(text, tag.opaque.as_slice()),
     }
 }
 

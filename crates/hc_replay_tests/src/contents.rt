@@ -137,7 +137,7 @@ fn is_one(contents: &Contents, kind: Kind, runs: &[(u64, u64, &[u8])]) -> bool {
         && item.head.total == Some(6)
         && found.len() == runs.len()
         && found.iter().zip(runs).all(|(run, (x, at, bytes))| {
-            run.x == *x && run.at == *at && run.bytes.bytes.as_slice() == *bytes
+            run.x == *x && run.at == *at && run.bytes.as_slice() == *bytes
         })
 }
 

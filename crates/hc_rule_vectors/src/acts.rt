@@ -135,7 +135,7 @@ fn given(v: &Vector) -> Result<Act, Fault> {
         c: v.number(0),
         x: v.number(1),
         at: v.number(2),
-        bytes: Bytes { bytes },
+        bytes: Bytes::of(bytes),
     })
 }
 

@@ -86,7 +86,7 @@ impl Heard {
     fn keep(&mut self, taken: &Taken<WirePart>, is_over: bool) -> Result<Option<usize>, Fault> {
         match &taken.got {
             Some(WirePart::Head(response)) => tell_response(response, &mut self.head)?,
-            Some(WirePart::Piece(bytes)) => self.body.extend_from_slice(&bytes.bytes)?,
+            Some(WirePart::Piece(bytes)) => self.body.extend_from_slice(bytes.as_slice())?,
             Some(WirePart::End) => self.is_ended = true,
             None if is_over => return Ok(None),
             None => {}

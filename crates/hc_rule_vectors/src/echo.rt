@@ -89,7 +89,7 @@ impl Flow {
                 self.left = length_of(response);
                 Ok(Vec::new(alloc))
             }
-            Event::Piece { bytes, .. } => self.piece(bytes.copy()?),
+            Event::Piece { bytes, .. } => self.piece(alloc, bytes.copy()?),
             Event::Cancel { .. } if self.is_opened => one(alloc, Act::Close { x: c }),
             Event::Cancel { .. } => Ok(Vec::new(alloc)),
             _ => {
@@ -128,13 +128,9 @@ impl Flow {
         )
     }
 
-    fn piece(&mut self, bytes: Bytes) -> Result<Vec<Act>, NoMemory> {
+    fn piece(&mut self, alloc: Global, bytes: Bytes) -> Result<Vec<Act>, NoMemory> {
         let c = self.c;
-        let alloc = *bytes.bytes.allocator();
-        let left = self
-            .left
-            .unwrap_or(0)
-            .saturating_sub(bytes.bytes.len() as u64);
+        let left = self.left.unwrap_or(0).saturating_sub(bytes.len() as u64);
         self.left = Some(left);
         let given = Act::Given {
             c,

@@ -55,7 +55,7 @@ pub(crate) fn tell_event(event: &Event, to: &mut String) -> Result<(), Fault> {
         }
         Event::Piece { x, bytes } => {
             write!(to, "piece {x} ")?;
-            return tell_bytes(&bytes.bytes, to);
+            return tell_bytes(bytes.as_slice(), to);
         }
         Event::End { x } => write!(to, "end {x}")?,
         Event::Fault { x } => write!(to, "fault {x}")?,

@@ -93,7 +93,7 @@ pub fn exchange_refusal(exchange: Option<OpenExchange>, event: &Event) -> Option
 {
     match event {
         Event::Head { .. } => head_refusal(exchange),
-        Event::Piece { bytes, .. } => piece_refusal(exchange, bytes.bytes.len()),
+        Event::Piece { bytes, .. } => piece_refusal(exchange, bytes.len()),
         Event::End { .. } => end_refusal(exchange),
         Event::Fault { .. } => fault_refusal(exchange),
         _ => None,

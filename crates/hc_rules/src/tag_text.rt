@@ -21,6 +21,6 @@ pub(crate) fn strongly_equals(fields: &Fields, tag: &Tag) -> bool
     }
     match strong_of(fields) {
         None => false,
-        Some(opaque) => opaque == tag.opaque.bytes.as_slice(),
+        Some(opaque) => opaque == tag.opaque.as_slice(),
     }
 }

@@ -144,7 +144,7 @@ fn write_item(event: &Event, to: &mut Vec<u8>) -> Result<(), NoMemory>
         Event::Start { c, request } => write_start(*c, request, to),
         Event::Poll { c, want } => write_poll(*c, *want, to),
         Event::Head { x, response } => write_head(*x, response, to),
-        Event::Piece { x, bytes } => write_piece(*x, bytes.bytes.as_slice(), to),
+        Event::Piece { x, bytes } => write_piece(*x, bytes.as_slice(), to),
         Event::End { x } => write_numbered(b"end ", *x, to),
         Event::Fault { x } => write_numbered(b"fault ", *x, to),
         Event::Cancel { c } => write_numbered(b"cancel ", *c, to),

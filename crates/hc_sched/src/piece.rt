@@ -43,12 +43,10 @@ pub(crate) fn read_bytes(alloc: Global, text: &[u8]) -> Result<Bytes, NoMemory>
     ensures { IfOk result (λ bytes. bytes ≡ bytes_of text.now) }
 {
     if text == b"-".as_slice() {
-        return Ok(Bytes {
-            bytes: Vec::new(alloc),
-        });
+        return Ok(Bytes::new());
     }
     match hex::decode(alloc, text) {
-        Ok(bytes) => Ok(Bytes { bytes }),
+        Ok(bytes) => Ok(Bytes::of(bytes)),
         Err(e) => match e {
             FromHexError::OutOfMemory => Err(NoMemory),
             _ => unreachable!(),

@@ -292,7 +292,7 @@ fn write_act(act: &Act, to: &mut Vec<u8>) -> Result<(), NoMemory>
             write_shown(*c, *r, *why, to)?;
             write_head(*status, *lo, *hi, fields, to)
         }
-        Act::Given { c, x, at, bytes } => write_given(*c, *x, *at, bytes.bytes.as_slice(), to),
+        Act::Given { c, x, at, bytes } => write_given(*c, *x, *at, bytes.as_slice(), to),
         Act::Ended { c } => write_parts(&[Text(b"ended "), Number(*c), Text(b"\n")], to),
         Act::Failed { c, cause } => write_failed(*c, *cause, to),
         Act::Pending { c, wait } => write_pending(*c, *wait, to),

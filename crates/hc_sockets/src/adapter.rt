@@ -6,6 +6,7 @@ ghost use Rattle.hc_sockets.specs.Sockets.{stage_at, life, event_or_quiet, IsBel
 
 use crate::socket::Socket;
 use crate::table::Table;
+use hc_text::Bytes;
 use hc_wire::{Address, MOST_EVENTS, Wire, WireError, WireEvent};
 use mio::net::{TcpListener, TcpStream};
 use mio::{Events, Interest, Poll, Token};
@@ -234,14 +235,14 @@ impl<R: Net + Clock + AllocGlobal + Drop> Wire for MioWire<R> {
         Ok(self.table.send(k, from)?)
     }
 
-    fn hand(&mut self, k: u64, from: &mut Vec<u8>, used: usize) -> Result<usize, WireError> {
+    fn hand(&mut self, k: u64, from: &mut Bytes, used: usize) -> Result<usize, WireError> {
         if used == 0 {
             return Ok(self.table.keep(k, from)?);
         }
         let left = from.len() - used;
-        let n = self.table.send(k, &from[used..])?;
+        let n = self.table.send(k, &from.as_slice()[used..])?;
         if n == left {
-            from.clear();
+            *from = Bytes::new();
         }
         Ok(n)
     }

@@ -1,8 +1,9 @@
 //! The bytes that a connection has taken and the system hasn't.
 ghost use Rattle.std.specs.Prelude.{◌≡◌, [], OnOk, OnErr};
 
+use hc_text::{Bytes, NoMemory};
 use mio::net::TcpStream;
-use std::alloc::{AllocError, Global};
+use std::alloc::Global;
 use std::collections::VecDeque;
 use std::io::{IoSlice, Write};
 use std::{io, mem};
@@ -14,7 +15,7 @@ const FEW: usize = 4_096;
 #[derive(Drop)]
 pub(crate) struct Held {
     first: Vec<u8>,
-    lists: VecDeque<Vec<u8>>,
+    lists: VecDeque<Bytes>,
     /// How many bytes of `first` were sent or, where that has none, of the first list.
     sent: usize,
     /// How many bytes were taken since none was held.
@@ -50,33 +51,31 @@ impl Held {
     }
 
     /// These come last.
-    pub(crate) fn copy(&mut self, bytes: &[u8]) -> Result<(), AllocError> {
+    pub(crate) fn copy(&mut self, bytes: &[u8]) -> Result<(), NoMemory> {
+        let alloc = *self.first.allocator();
         match self.lists.back_mut() {
             None => self.first.extend_from_slice(bytes)?,
-            Some(last) if last.len() < FEW => last.extend_from_slice(bytes)?,
-            Some(last) => {
-                let alloc = *last.allocator();
-                self.lists.push_back(bytes.to_vec(alloc)?)?;
-            }
+            Some(last) if last.len() < FEW => last.append(alloc, bytes)?,
+            Some(_) => self.lists.push_back(Bytes::of(bytes.to_vec(alloc)?))?,
         }
         self.taken = self.taken.saturating_add(bytes.len());
         Ok(())
     }
 
     /// Those of the list come last, which is empty then. It is kept itself, unless it has few.
-    pub(crate) fn keep(&mut self, list: &mut Vec<u8>) -> Result<(), AllocError>
-        ensures ok { OnOk result (list.new.items ≡ []) }
-        ensures err { OnErr result (list.new.items ≡ list.old.items) }
+    pub(crate) fn keep(&mut self, list: &mut Bytes) -> Result<(), NoMemory>
+        ensures ok { OnOk result (list.new ≡ []) }
+        ensures err { OnErr result (list.new ≡ list.old) }
     {
         if list.len() < FEW {
             self.copy(list.as_slice())?;
-            list.clear();
+            *list = Bytes::new();
             return Ok(());
         }
         self.lists.reserve(1)?;
         self.taken = self.taken.saturating_add(list.len());
-        let none = Vec::new(*list.allocator());
-        self.lists.push_back_reserved(mem::replace(list, none));
+        self.lists
+            .push_back_reserved(mem::replace(list, Bytes::new()));
         Ok(())
     }
 

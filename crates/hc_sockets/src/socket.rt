@@ -4,10 +4,11 @@ ghost use Rattle.hc_wire.specs.Events.{FitsIn};
 ghost use Rattle.hc_sockets.specs.Sockets.{IsOf, KeepsStage, ends_by};
 
 use crate::held::Held;
+use hc_text::{Bytes, NoMemory};
 use hc_wire::WireEvent;
 use mio::event::Event;
 use mio::net::TcpStream;
-use std::alloc::{AllocError, Global};
+use std::alloc::Global;
 use std::io::{ErrorKind, Read};
 
 /// From how many bytes on what is held is sent at once. Then no more are taken until all are sent.
@@ -226,7 +227,7 @@ impl Socket {
 
     /// How many bytes of the slice it takes: all, or none while enough are held. One that is broken takes
     /// all.
-    pub(crate) fn take(&mut self, from: &[u8]) -> Result<usize, AllocError>
+    pub(crate) fn take(&mut self, from: &[u8]) -> Result<usize, NoMemory>
         ensures within { IfOk result (λ n. n ≤ length from.now) }
         ensures kept { KeepsStage self.old self.new }
     {
@@ -243,16 +244,16 @@ impl Socket {
     }
 
     /// The same of a list, which is empty where all are taken.
-    pub(crate) fn keep(&mut self, from: &mut Vec<u8>) -> Result<usize, AllocError>
-        ensures within { IfOk result (λ n. n ≤ length from.old.items) }
-        ensures left { IfOk result (λ n. from.new.items
-            ≡ (if n == length from.old.items then [] else from.old.items)) }
-        ensures err { OnErr result (from.new.items ≡ from.old.items) }
+    pub(crate) fn keep(&mut self, from: &mut Bytes) -> Result<usize, NoMemory>
+        ensures within { IfOk result (λ n. n ≤ length from.old) }
+        ensures left { IfOk result (λ n. from.new
+            ≡ (if n == length from.old then [] else from.old)) }
+        ensures err { OnErr result (from.new ≡ from.old) }
         ensures kept { KeepsStage self.old self.new }
     {
         let n = from.len();
         if self.is_deaf() {
-            from.clear();
+            *from = Bytes::new();
             return Ok(n);
         }
         if n > 0 && !self.makes_room() {

@@ -5,6 +5,7 @@ ghost use Rattle.hc_wire.specs.Events.{Closed, Fresh, FitsIn, with_stage, closed
 ghost use Rattle.hc_sockets.specs.Sockets.{life, life_of, lives_after, IsOfLive};
 
 use crate::socket::{NO_NEWS, News, Socket};
+use hc_text::{Bytes, NoMemory};
 use hc_wire::WireEvent;
 use mio::event::Event;
 use std::alloc::{AllocError, Global};
@@ -122,7 +123,7 @@ impl Table {
     }
 
     /// How many bytes the connection takes. One that isn't there takes all.
-    pub(crate) fn send(&mut self, k: u64, from: &[u8]) -> Result<usize, AllocError>
+    pub(crate) fn send(&mut self, k: u64, from: &[u8]) -> Result<usize, NoMemory>
         ensures within { IfOk result (λ n. n ≤ length from.now) }
         ensures kept { (j : ℕ) → life self.new.sockets j ≡ life self.old.sockets j }
     {
@@ -133,11 +134,11 @@ impl Table {
     }
 
     /// The same of a list, which is empty where all are taken.
-    pub(crate) fn keep(&mut self, k: u64, from: &mut Vec<u8>) -> Result<usize, AllocError>
-        ensures within { IfOk result (λ n. n ≤ length from.old.items) }
-        ensures left { IfOk result (λ n. from.new.items
-            ≡ (if n == length from.old.items then [] else from.old.items)) }
-        ensures err { OnErr result (from.new.items ≡ from.old.items) }
+    pub(crate) fn keep(&mut self, k: u64, from: &mut Bytes) -> Result<usize, NoMemory>
+        ensures within { IfOk result (λ n. n ≤ length from.old) }
+        ensures left { IfOk result (λ n. from.new
+            ≡ (if n == length from.old then [] else from.old)) }
+        ensures err { OnErr result (from.new ≡ from.old) }
         ensures kept { (j : ℕ) → life self.new.sockets j ≡ life self.old.sockets j }
     {
         self.unsent.reserve(1)?;
@@ -259,7 +260,7 @@ fn take_in(
     sockets: &mut HashMap<u64, Socket>,
     k: u64,
     from: &[u8],
-) -> Result<(usize, News), AllocError>
+) -> Result<(usize, News), NoMemory>
     ensures within { IfOk result (λ taken. taken.0 ≤ length from.now) }
     ensures kept { (j : ℕ) → life sockets.new j ≡ life sockets.old j }
 {
@@ -276,12 +277,12 @@ fn take_in(
 fn keep_in(
     sockets: &mut HashMap<u64, Socket>,
     k: u64,
-    from: &mut Vec<u8>,
-) -> Result<(usize, News), AllocError>
-    ensures within { IfOk result (λ taken. taken.0 ≤ length from.old.items) }
-    ensures left { IfOk result (λ taken. from.new.items
-        ≡ (if taken.0 == length from.old.items then [] else from.old.items)) }
-    ensures err { OnErr result (from.new.items ≡ from.old.items) }
+    from: &mut Bytes,
+) -> Result<(usize, News), NoMemory>
+    ensures within { IfOk result (λ taken. taken.0 ≤ length from.old) }
+    ensures left { IfOk result (λ taken. from.new
+        ≡ (if taken.0 == length from.old then [] else from.old)) }
+    ensures err { OnErr result (from.new ≡ from.old) }
     ensures kept { (j : ℕ) → life sockets.new j ≡ life sockets.old j }
 {
     match sockets.get_mut(&k) {
@@ -291,7 +292,7 @@ fn keep_in(
         }
         None => {
             let n = from.len();
-            from.clear();
+            *from = Bytes::new();
             Ok((n, NO_NEWS))
         }
     }

@@ -4,6 +4,7 @@ ghost use Rattle.std.specs.Prelude.{◌<◌, length};
 use crate::fault::Fault;
 use crate::pattern::Pattern;
 use hc_sockets::MioWire;
+use hc_text::Bytes;
 use hc_wire::{Wire, WireEvent};
 use std::alloc::Global;
 use std::net::Net;
@@ -124,7 +125,7 @@ impl<R: Net + Clock + AllocGlobal + Drop> Side<R> {
         if !self.hands {
             return Ok(self.wire.send(k, bytes)?);
         }
-        let mut list = Vec::from_slice(self.alloc, bytes)?;
+        let mut list = Bytes::of(Vec::from_slice(self.alloc, bytes)?);
         let n = self.wire.hand(k, &mut list, 0)?;
         if n < bytes.len() && list.as_slice() != bytes {
             return Err(Fault::OtherBytes(self.sent));

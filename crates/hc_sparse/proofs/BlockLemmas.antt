@@ -1,9 +1,9 @@
 -- What blocks and the list of all bytes have, by the position.
-use Rattle.std.{proofs.{Common.{◌≡◌, ◌≢◌, inl, inr, ℕ, ◌+◌, ◌-◌, ◌/◌, ◌%◌, ◌<◌, ◌≤◌, ◌^◌, List, ◌++◌, length, get_or, true, false, Option, Some, None, refl, sym, ap, ◌∙◌, arith, length-append}, lemmas.{Bool.{lt-ltb}, List.{get_or_append_left, get_or-append-add, Edits.{length-between, get_or-between}}}}, specs.{Prelude.{slice_range, Result, Ok, Err, OnOk, OnErr}, Ordering.{nat_cmp}, BTreeMap.{BTreeMap, get}}}
+use Rattle.std.{proofs.{Common.{◌≡◌, ◌≢◌, inl, inr, ℕ, ◌+◌, ◌-◌, ◌/◌, ◌%◌, ◌<◌, ◌≤◌, ◌^◌, List, ◌++◌, length, get_or, take, drop, get_or-take, get_or-drop, length-drop, true, false, Option, Some, None, refl, sym, ap, ◌∙◌, arith, length-append}, lemmas.{Bool.{lt-ltb}, List.{get_or_append_left, get_or-append-add, length-take-le}}}, specs.{Prelude.{Result, Ok, Err, OnOk, OnErr}, Ordering.{nat_cmp}, BTreeMap.{BTreeMap, get}}}
 use borrow.Author.Tests.{ltb-true}
-use Rattle.hc_sparse.proofs.{SizeLemmas.{size-put, size-same}, CellLemmas.{inside-cases}}
+use Rattle.hc_sparse.proofs.{SizeLemmas.{size-put, size-same, size-le}, CellLemmas.{inside-cases}}
 use Rattle.hc_text.proofs.Basics.{lt_or as split}
-use Rattle.hc_sparse.specs.{Cells.{cells_with, AreAbsent, size}, Extents.{Mark, Marks, mark, claimed_marks, end_of, AreFree, IsExtentFrom}, Stretch.{IsPart}, declared.{extents.Extent.{Extent}, block.Block.{Block}}, Blocks.{marks_in}, BlockMaps.{cells_by, cell_of, marks, AreBelow, is_within, AreWithin}}
+use Rattle.hc_sparse.specs.{Cells.{Cell, cells_with, AreAbsent, size}, Extents.{Mark, Marks, mark, claimed_marks, end_of, rest_of, AreFree, IsExtentFrom, IsExtentAt, IsWhole}, Stretch.{IsPart, IsLongest}, declared.{extents.Extent.{Extent}, block.Block.{Block}}, Growing.{Begin}, Blocks.{marks_in}, BlockMaps.{cells_by, cell_of, marks, AreBelow, is_within, AreWithin}}
 
 block-is : (p i : ℕ) → p % 4096 + i < 4096 → (p + i) / 4096 ≡ p / 4096
 block-is p i lt = omega arith
@@ -76,27 +76,71 @@ some-number m n b below there =
       | inr le ↦ absurd (let never : true ≡ false = rw there at (below n le) in cc)
     ]
 
-cell-here : (m : BTreeMap ℕ Block) (bytes : List ℕ) (p i place x : ℕ) (b : Block) → get nat_cmp m (p / 4096) ≡ Some b → p % 4096 + i < 4096 → marks_in b (p % 4096 + i) ≡ Some (record { x = x; place = place }) → cells_by (marks m) bytes (p + i) ≡ Some (record { byte = get_or bytes place 0; x = x })
-cell-here m bytes p i place x b there lt is = ap (cell_of bytes) (marks-here m p i b there lt ∙ is)
+-- Whose a byte is.
+abbrev x_of : Option Cell → ℕ
+x_of None = 0
+x_of (Some cell) = cell.x
 
--- The bytes of an extent from an offset on are a part.
-pub extent-part : (m : BTreeMap ℕ Block) (bytes : List ℕ) (p : ℕ) (b : Block) (e : Extent) → AreBelow m → AreWithin (marks m) (length bytes) → get nat_cmp m (p / 4096) ≡ Some b → IsExtentFrom b.extents.items (p % 4096) e → e.at ≤ p % 4096
-    → IsPart (cells_by (marks m) bytes) p e.x (slice_range bytes (e.from + (p % 4096 - e.at)) (e.from + e.len))
-extent-part m bytes p b e below within there is by =
+-- A byte of an exchange is told by a mark of it.
+other-mark : (bytes : List ℕ) (o : Option Mark) (x byte : ℕ) → ((place : ℕ) → o ≢ Some (record { x = x; place = place })) → cell_of bytes o ≢ Some (record { byte = byte; x = x })
+other-mark bytes None x byte not is = cc
+other-mark bytes (Some own) x byte not is = not own.place (let same : own.x ≡ x = ap x_of is in rw (← same) refl)
+
+-- The extent of a position, from there on.
+pub extent-here : (m : BTreeMap ℕ Block) (p : ℕ) (b : Block) (e : Extent) → AreBelow m → get nat_cmp m (p / 4096) ≡ Some b → IsExtentFrom b.extents.items (p % 4096) e → e.at ≤ p % 4096
+    → IsExtentAt (marks m) p (rest_of e p (p % 4096 - e.at))
+extent-here m p b e below there is by =
     let past = is.past in
     let ends = is.end in
-    let fits = part-within m (length bytes) p b e within there is by in
     let number = some-number m (p / 4096) b below there in
-    let start : ℕ = e.from + (p % 4096 - e.at) in
-    let is-len : length (slice_range bytes start (e.from + e.len)) ≡ e.from + e.len - start = length-between bytes start (e.from + e.len) fits in
     record {
-      some = omega (arith, is-len);
-      end = omega (arith, is-len);
+      at = refl;
+      some = omega arith;
+      end = omega arith;
       each = λ i lt.
-          let place : e.from + (p % 4096 + i - e.at) ≡ start + i = omega arith in
-          let byte : get_or (slice_range bytes start (e.from + e.len)) i 0 ≡ get_or bytes (start + i) 0 = get_or-between bytes start (e.from + e.len) i 0 (omega (arith, is-len)) in
-          let here = cell-here m bytes p i (e.from + (p % 4096 + i - e.at)) e.x b there (omega (arith, is-len)) (is.marks (p % 4096 + i) (omega arith) (omega (arith, is-len))) in
-          rw byte (rw place at here);
+          let place : e.from + (p % 4096 + i - e.at) ≡ e.from + (p % 4096 - e.at) + i = omega arith in
+          let here = marks-here m p i b there (omega arith) ∙ is.marks (p % 4096 + i) (omega arith) (omega arith) in
+          rw place at here;
+    }
+
+-- The bytes of an extent are among all bytes.
+pub extent-within : (f : Marks) (count p : ℕ) (e : Extent) → AreWithin f count → IsExtentAt f p e → e.from + e.len ≤ count
+extent-within f count p e within is =
+    let some = is.some in
+    let last : is_within count (f (p + (e.len - 1))) ≡ true = within (p + (e.len - 1)) in
+    let lt : e.from + (e.len - 1) < count = ltb-true (e.from + (e.len - 1)) count (rw (is.each (e.len - 1) (omega arith)) at last) in
+    omega arith
+
+-- The first bytes of an extent, or all, are a part.
+pub extent-part : (f : Marks) (bytes first : List ℕ) (p : ℕ) (e : Extent) → IsExtentAt f p e → 0 < length first → length first ≤ e.len → Begin first (drop e.from bytes) → IsPart (cells_by f bytes) p e.x first
+extent-part f bytes first p e is some most begins =
+    let end = is.end in
+    let at = is.at in
+    record {
+      some = some;
+      end = omega arith;
+      each = λ i lt.
+          let byte : get_or first i 0 ≡ get_or bytes (e.from + i) 0 = ap (λ xs. get_or xs i 0) (sym begins) ∙ (get_or-take (length first) (drop e.from bytes) i 0 lt ∙ get_or-drop e.from bytes i 0) in
+          rw byte (ap (cell_of bytes) (is.each i (omega arith)));
+    }
+
+-- A whole extent's bytes are the longest stretch.
+pub whole-longest : (f : Marks) (bytes : List ℕ) (p want : ℕ) (e : Extent) → AreWithin f (length bytes) → IsWhole f p want e → IsLongest (cells_by f bytes) p want (record { x = e.x; at = p; bytes = take e.len (drop e.from bytes) })
+whole-longest f bytes p want e within is =
+    let fits = extent-within f (length bytes) p e within is.extent in
+    let all : List ℕ = take e.len (drop e.from bytes) in
+    let len : length all ≡ e.len = length-take-le e.len (drop e.from bytes) (omega (arith, length-drop e.from bytes)) in
+    let some = is.extent.some in
+    let most = is.most in
+    record {
+      from = refl;
+      some = omega (arith, len);
+      most = omega (arith, len);
+      each = λ i lt.
+          let byte : get_or all i 0 ≡ get_or bytes (e.from + i) 0 = get_or-take e.len (drop e.from bytes) i 0 (omega (arith, len)) ∙ get_or-drop e.from bytes i 0 in
+          rw byte (ap (cell_of bytes) (is.extent.each i (omega (arith, len))));
+      ends = λ lt byte there.
+          other-mark bytes (f (p + e.len)) e.x byte (is.ends (omega (arith, len))) (rw len at there);
     }
 
 -- What a put leaves: all bytes are of some mark, and there are as many as positions.
@@ -116,3 +160,14 @@ put-kept (Err e) f g bytes more piece at x kept absent end own longer same uncha
   within = rw unchanged (same-within f g (length bytes) same kept.within);
   counts = rw unchanged (kept.counts ∙ size-same (cells_by f bytes) (cells_by g bytes) (λ q. sym (same-cells f g bytes same q)));
 }
+
+-- The bytes of all marks stand before this place.
+pub kept-within : (f : Marks) (bytes : List ℕ) → AreWithin f (length bytes) → length bytes ≡ size (cells_by f bytes) → AreWithin f (2 ^ 63)
+kept-within f bytes within counts p =
+    let most = size-le (cells_by f bytes) in
+    more-within (length bytes) (2 ^ 63) (f p) (omega (arith, counts, most)) (within p)
+
+-- What an error says.
+pub on-err : {T E : Type 0} (r : Result T E) (P : Type 0) → P → OnErr r P
+on-err (Ok x) P p = tt
+on-err (Err e) P p = p

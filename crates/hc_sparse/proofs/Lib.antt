@@ -10,3 +10,4 @@ pub mod BlockLemmas
 pub mod SpanLemmas
 pub mod TailLemmas
 pub mod OpLemmas
+pub mod GrowingLemmas

@@ -1,5 +1,5 @@
 -- Runs one after another, and what they have.
-use Rattle.std.{specs.{List.Sorted.{IsPartitionedBy, IsPartitionPoint}, Prelude.{nat_le}}, proofs.{Common.{◌≡◌, ◌⊎◌, inl, inr, ℕ, zero, suc, ◌<◌, ◌≤◌, ◌^◌, List, [], ◌∷◌, length, true, false, Some, None, refl, arith, add-one, get_or, max}, lemmas.Bool.{leb-true, le-leb, Decides.{nat_tests}}}}
+use Rattle.std.{specs.{List.Sorted.{IsPartitionedBy, IsPartitionPoint}, Prelude.{nat_le}}, proofs.{Common.{◌≡◌, inl, inr, ℕ, zero, suc, ◌<◌, ◌≤◌, ◌^◌, List, [], ◌∷◌, length, true, false, Some, None, refl, arith, add-one, get_or, max}, lemmas.Bool.{leb-true, le-leb, Decides.{nat_tests}}}}
 use Rattle.hc_text.proofs.Basics.{le_or as le_cases}
 use Rattle.hc_sparse.specs.{Cells.{EndsBy, IsNext}, Runs.{cells_of, ascend, place_of, end_of, IsRunFrom}, declared.run.Run.{Run}}
 use Rattle.hc_sparse.proofs.CellLemmas.{inside-yes, inside-before, inside-past}

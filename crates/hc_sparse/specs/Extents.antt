@@ -1,5 +1,5 @@
 -- Which exchange delivered what is at each offset of a block, and where its byte stands.
-use Rattle.std.specs.Prelude.{◌≡◌, ℕ, ◌+◌, ◌-◌, ◌<◌, ◌≤◌, List, [], ◌∷◌, Bool, true, is_some, Option, Some, None, if◌then◌else◌, ◌&&◌, nat_lt, nat_le}
+use Rattle.std.specs.Prelude.{◌≡◌, ◌≢◌, ℕ, ◌+◌, ◌-◌, ◌<◌, ◌≤◌, ◌^◌, List, [], ◌∷◌, Bool, true, is_some, Option, Some, None, if◌then◌else◌, ◌&&◌, nat_lt, nat_le}
 use Rattle.hc_sparse.specs.Cells.{inside}
 use Rattle.hc_sparse.specs.declared.extents.Extent.{Extent}
 
@@ -76,3 +76,20 @@ pub record IsExtentFrom (es : List Extent) (o : ℕ) (e : Extent) : Type 0 where
 -- The offsets of an extent are its exchange's, and every other is as it was.
 abbrev pub ClaimsExtent : List Extent → List Extent → Extent → Type 0
 ClaimsExtent es fs e = (o : ℕ) → marks_of fs o ≡ claimed_marks e.at e.len e.x e.from (marks_of es) o
+
+-- An extent begins at a position, and each of its positions has its mark.
+pub record IsExtentAt (f : Marks) (p : ℕ) (e : Extent) : Type 0 where
+  pub at : e.at ≡ p
+  pub some : 0 < e.len
+  pub end : end_of e ≤ 2 ^ 62
+  pub each : (i : ℕ) → i < e.len → f (p + i) ≡ Some (record { x = e.x; place = e.from + i })
+
+-- An extent has all positions of its exchange from one on, at most so many.
+pub record IsWhole (f : Marks) (p want : ℕ) (e : Extent) : Type 0 where
+  pub extent : IsExtentAt f p e
+  pub most : e.len ≤ want
+  pub ends : e.len < want → (place : ℕ) → f (p + e.len) ≢ Some (record { x = e.x; place = place })
+
+-- What an extent has behind its first offsets, which begins at a position.
+abbrev pub rest_of : Extent → ℕ → ℕ → Extent
+rest_of e at skipped = record { x = e.x; at = at; len = e.len - skipped; from = e.from + skipped }

@@ -3,6 +3,7 @@ pub mod Stretch
 pub mod Runs
 pub mod Plain
 pub mod Extents
+pub mod Growing
 pub mod Blocks
 pub mod BlockMaps
 pub mod SpanMaps

@@ -6,4 +6,4 @@ use Rattle.hc_sparse.specs.declared.sparse.Sparse.{Sparse}
 
 -- What is at each position.
 unfoldable pub sparse_cells : Sparse → Cells
-sparse_cells s = cells_by (marks_at s.places) s.bytes.items
+sparse_cells s = cells_by (marks_at s.places) s.bytes

@@ -2,35 +2,26 @@
 ghost use Rattle.std.specs.Prelude.{◌≡◌, ◌+◌, ◌≤◌, ◌<◌, ◌%◌, ◌^◌, ℕ, length, None, true, Some, IfSome, IsNone, OnOk, OnErr};
 ghost use Rattle.std.specs.Ordering.{nat_cmp};
 ghost use Rattle.std.specs.BTreeMap.{get};
-ghost use Rattle.hc_sparse.specs.Stretch.{IsPart};
-ghost use Rattle.hc_sparse.specs.Extents.{claimed_marks, end_of, AreFree, Reaches, IsNextMark};
-ghost use Rattle.hc_sparse.specs.BlockMaps.{cells_by, marks, AreBelow, AreWithin, HaveSame, IsFirstFrom};
+ghost use Rattle.hc_sparse.specs.Extents.{claimed_marks, end_of, AreFree, Reaches, IsNextMark, IsExtentAt};
+ghost use Rattle.hc_sparse.specs.BlockMaps.{marks, AreBelow, AreWithin, HaveSame, IsFirstFrom};
 
 use crate::block::{Block, LEN};
-use crate::extents::Extent;
+use crate::extents::{Extent, rest_of};
 use hc_text::NoMemory;
 use std::alloc::Global;
 use std::collections::BTreeMap;
 
-/// The bytes of one exchange from a position on, to no further than its block's end.
-pub(crate) fn part_in<'a>(
-    blocks: &BTreeMap<u64, Block>,
-    bytes: &'a [u8],
-    p: u64,
-) -> Option<(u64, &'a [u8])>
+/// Positions of one exchange from one on, to no further than its block's end.
+pub(crate) fn extent_in(blocks: &BTreeMap<u64, Block>, p: u64) -> Option<Extent>
     requires below { AreBelow blocks.now }
-    requires within { AreWithin (marks blocks.now) (length bytes.now) }
+    requires within { AreWithin (marks blocks.now) (2 ^ 63) }
     ensures none { IsNone result → marks blocks.now p ≡ None }
-    ensures some { IfSome result
-        (λ part. IsPart (cells_by (marks blocks.now) bytes.now) p part.0 part.1.now) }
+    ensures some { IfSome result (IsExtentAt (marks blocks.now) p) }
 {
     let o = (p % LEN as u64) as usize;
     let extent = blocks.get(&(p / LEN as u64))?.extent(o)?;
     let skipped = o - extent.at;
-    Some((
-        extent.x,
-        &bytes[extent.from + skipped..extent.from + extent.len],
-    ))
+    Some(rest_of(extent, p as usize, skipped))
 }
 
 /// Where those bytes end.

@@ -1,6 +1,6 @@
 //! Whose the offsets of a block are, as extents in order, none of which overlap.
-ghost use Rattle.std.specs.Prelude.{◌≡◌, ◌↔◌, ◌+◌, ◌≤◌, ◌<◌, IsTrue, ℕ, length, true, IfSome, IsNone, vec_len, vec_capacity};
-ghost use Rattle.hc_sparse.specs.Extents.{marks_of, ascend, place_of, end_of, AreFree, ClaimsExtent, Follows, IsExtentFrom};
+ghost use Rattle.std.specs.Prelude.{◌≡◌, ◌↔◌, ◌+◌, ◌≤◌, ◌<◌, ◌^◌, IsTrue, ℕ, length, true, IfSome, IsNone, vec_len, vec_capacity};
+ghost use Rattle.hc_sparse.specs.Extents.{marks_of, ascend, place_of, end_of, AreFree, ClaimsExtent, Follows, IsExtentFrom, rest_of};
 
 /// Offsets that are all of one exchange. Their bytes stand one after another from the place `from` on.
 #[derive(Clone, Copy, Debug, PartialEq, Eq)]
@@ -66,6 +66,20 @@ pub(crate) fn claim(extents: &mut Vec<Extent>, new: Extent)
         return;
     }
     let _ = extents.insert(place, new);
+}
+
+/// What an extent has behind its first offsets, which begins at a position.
+pub(crate) fn rest_of(extent: Extent, at: usize, skipped: usize) -> Extent
+    requires within { skipped ≤ extent.len }
+    requires small { extent.from + extent.len < 2 ^ 64 }
+    ensures { result ≡ rest_of extent at skipped }
+{
+    Extent {
+        x: extent.x,
+        at,
+        len: extent.len - skipped,
+        from: extent.from + skipped,
+    }
 }
 
 /// Whether another extent goes on just where this one ends, with bytes of its exchange that stand

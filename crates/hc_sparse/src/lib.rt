@@ -4,6 +4,7 @@
 mod block;
 mod blocks;
 mod extents;
+mod growing;
 mod law;
 mod ops;
 mod parts;

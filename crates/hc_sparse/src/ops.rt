@@ -78,7 +78,7 @@ fn answer_of<M: SparseBytes>(map: &mut M, op: &SparseOp) -> Result<SparseAnswer,
     ensures err { OnErr result (M.cells map.new ≡ M.cells map.old) }
 {
     match op {
-        SparseOp::Put { at, x, bytes } => put_absent(map, *at, *x, bytes.bytes.as_slice()),
+        SparseOp::Put { at, x, bytes } => put_absent(map, *at, *x, bytes.as_slice()),
         SparseOp::RunAt { p, want } => Ok(SparseAnswer::Run(map.run_at(*p, *want)?)),
         SparseOp::Next { p } => Ok(SparseAnswer::Next(map.next_present(*p))),
     }

@@ -58,7 +58,7 @@ pub(crate) fn stretch_at<P: Parts>(
     Ok(Some(Run {
         x,
         at: p,
-        bytes: Bytes { bytes },
+        bytes: Bytes::of(bytes),
     }))
 }
 
@@ -99,7 +99,7 @@ fn part_of<P: Parts>(kept: &P, x: u64, p: u64, most: usize) -> &[u8]
 }
 
 /// At most so many bytes, from the first on.
-fn first_of(bytes: &[u8], most: usize) -> &[u8]
+pub(crate) fn first_of(bytes: &[u8], most: usize) -> &[u8]
     ensures { result.now ≡ take most bytes.now }
 {
     &bytes[..most.min(bytes.len())]

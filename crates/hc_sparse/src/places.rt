@@ -1,14 +1,13 @@
 //! Whose each position is, and where its byte stands.
 ghost use Rattle.std.specs.Prelude.{◌≡◌, ◌+◌, ◌≤◌, ◌<◌, ◌^◌, ℕ, [], ◌∷◌, length, None, IfSome, IsNone, OnOk, OnErr};
-ghost use Rattle.hc_sparse.specs.Stretch.{IsPart};
-ghost use Rattle.hc_sparse.specs.Extents.{end_of, marks_of, AreFree, Reaches, IsNextMark};
-ghost use Rattle.hc_sparse.specs.BlockMaps.{cells_by, marks, AreBelow, AreWithin};
+ghost use Rattle.hc_sparse.specs.Extents.{end_of, marks_of, AreFree, Reaches, IsNextMark, IsExtentAt};
+ghost use Rattle.hc_sparse.specs.BlockMaps.{marks, AreBelow, AreWithin};
 ghost use Rattle.hc_sparse.specs.Spans.{AreHad};
 ghost use Rattle.std.proofs.Props.{props};
 
 use crate::block::Block;
-use crate::blocks::{end_in, next_in, part_in, part_len, put_part};
-use crate::extents::{Extent, is_followed};
+use crate::blocks::{end_in, extent_in, next_in, part_len, put_part};
+use crate::extents::{Extent, is_followed, rest_of};
 use crate::spans::Spans;
 use hc_text::NoMemory;
 use std::alloc::Global;
@@ -30,7 +29,7 @@ pub(crate) struct Places {
 }
 
 impl Places {
-    ghost use Rattle.hc_sparse.specs.Places.{marks_at, KeepsMarks, MarksExtent};
+    ghost use Rattle.hc_sparse.specs.Places.{marks_at, KeepsMarks, MarksExtent, IsReadyFor};
 
     /// Nobody has anything.
     pub(crate) fn new(alloc: Global) -> Places
@@ -48,20 +47,18 @@ impl Places {
         }
     }
 
-    /// The bytes of one exchange from a position on, as far as they are kept in one place.
-    pub(crate) fn part<'a>(&self, bytes: &'a [u8], p: u64) -> Option<(u64, &'a [u8])>
-        requires { AreWithin (marks_at self.now) (length bytes.now) }
+    /// Positions of one exchange from one on, whose bytes stand one after another.
+    pub(crate) fn extent(&self, p: u64) -> Option<Extent>
+        requires { AreWithin (marks_at self.now) (2 ^ 63) }
         ensures none { IsNone result → marks_at self.now p ≡ None }
-        ensures some { IfSome result
-            (λ part. IsPart (cells_by (marks_at self.now) bytes.now) p part.0 part.1.now) }
+        ensures some { IfSome result (IsExtentAt (marks_at self.now) p) }
     {
         let tail = &self.tail;
         let o = p as usize;
         if tail.at <= o && o - tail.at < tail.len {
-            let skipped = o - tail.at;
-            return Some((tail.x, &bytes[tail.from + skipped..tail.from + tail.len]));
+            return Some(rest_of(*tail, o, o - tail.at));
         }
-        part_in(&self.blocks, bytes, p)
+        extent_in(&self.blocks, p)
     }
 
     /// A position up to which somebody has each from one on.
@@ -93,21 +90,30 @@ impl Places {
         }
     }
 
-    /// Gives positions that nobody has to an exchange, all of them or none.
-    pub(crate) fn put(&mut self, alloc: Global, new: Extent) -> Result<(), NoMemory>
+    /// Makes ready for an extent: the tail is one that it goes on from, or empty.
+    pub(crate) fn make_ready(&mut self, alloc: Global, new: Extent) -> Result<(), NoMemory>
+        ensures same { KeepsMarks self.old self.new }
+        ensures ready { OnOk result (IsReadyFor new self.new) }
+    {
+        if is_followed(&self.tail, new) {
+            return Ok(());
+        }
+        self.settle(alloc)
+    }
+
+    /// Gives positions that nobody has to an exchange.
+    pub(crate) fn put(&mut self, new: Extent)
+        requires ready { IsReadyFor new self.old }
         requires free { AreFree (marks_at self.old) new.at (end_of new) }
         requires end { end_of new ≤ 2 ^ 62 }
         requires room { new.from + new.len < 2 ^ 64 }
-        ensures ok { OnOk result (MarksExtent self.old self.new new) }
-        ensures err { OnErr result (KeepsMarks self.old self.new) }
+        ensures { MarksExtent self.old self.new new }
     {
         if is_followed(&self.tail, new) {
             self.tail.len += new.len;
-            return Ok(());
+        } else {
+            self.tail = new;
         }
-        self.settle(alloc)?;
-        self.tail = new;
-        Ok(())
     }
 
     /// Gives the blocks what the tail has.

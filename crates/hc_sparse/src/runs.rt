@@ -12,7 +12,7 @@ use std::alloc::Global;
 fn ends_by(run: &Run, p: u64) -> bool
     ensures { IsTrue result ↔ (end_of run.now ≤ p) }
 {
-    run.at <= p && run.bytes.bytes.as_slice().len() as u64 <= p - run.at
+    run.at <= p && run.bytes.as_slice().len() as u64 <= p - run.at
 }
 
 /// How many runs end at a position or before it.
@@ -52,7 +52,7 @@ pub(crate) fn rest_of(run: &Run, p: u64) -> &[u8]
     ensures { result.now ≡ drop (p - run.now.at) run.now.bytes }
 {
     let place = (p - run.at) as usize;
-    &run.bytes.bytes.as_slice()[place..]
+    &run.bytes.as_slice()[place..]
 }
 
 /// Puts bytes of an exchange at absent positions, behind the runs that end there or before.
@@ -69,7 +69,8 @@ pub(crate) fn put_run(runs: &mut Vec<Run>, at: u64, x: u64, bytes: &[u8]) -> Res
 {
     let place = place_of(runs.as_slice(), at);
     if place > 0 && is_followed(&runs[place - 1], at, x) {
-        lengthen(&mut runs[place - 1], bytes)?;
+        let alloc = *runs.allocator();
+        lengthen(alloc, &mut runs[place - 1], bytes)?;
         return Ok(());
     }
     let bytes = copy_of(*runs.allocator(), bytes)?;
@@ -81,14 +82,14 @@ pub(crate) fn put_run(runs: &mut Vec<Run>, at: u64, x: u64, bytes: &[u8]) -> Res
 fn is_followed(run: &Run, at: u64, x: u64) -> bool
     ensures { IsTrue result ↔ (run.now.x ≡ x) × (end_of run.now ≡ at) }
 {
-    run.x == x && run.at <= at && run.bytes.bytes.as_slice().len() as u64 == at - run.at
+    run.x == x && run.at <= at && run.bytes.as_slice().len() as u64 == at - run.at
 }
 
 /// Puts more bytes at the end of a run.
-fn lengthen(run: &mut Run, more: &[u8]) -> Result<(), NoMemory>
+fn lengthen(alloc: Global, run: &mut Run, more: &[u8]) -> Result<(), NoMemory>
     ensures { run.new ≡ (if is_ok result then longer_run run.old more.now else run.old) }
 {
-    run.bytes.bytes.extend_from_slice(more)?;
+    run.bytes.append(alloc, more)?;
     Ok(())
 }
 
@@ -96,5 +97,5 @@ fn copy_of(alloc: Global, bytes: &[u8]) -> Result<Bytes, NoMemory>
     ensures { IfOk result (λ copy. copy ≡ bytes.now) }
 {
     let bytes = bytes.to_vec(alloc)?;
-    Ok(Bytes { bytes })
+    Ok(Bytes::of(bytes))
 }

@@ -44,7 +44,7 @@ impl Course for Countdown {
         self.moment = now;
         self.steps += 1;
         self.received += match event {
-            Event::Piece { bytes, .. } => bytes.bytes.len() as u64,
+            Event::Piece { bytes, .. } => bytes.len() as u64,
             _ => 0,
         };
         Ok(())

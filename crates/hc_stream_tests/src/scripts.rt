@@ -20,9 +20,7 @@ fn wire_of<R: Abort>(
         script.push(Scripted {
             moment: line.0,
             event: line.1,
-            bytes: Bytes {
-                bytes: line.2.as_bytes().to_vec(alloc)?,
-            },
+            bytes: Bytes::of(line.2.as_bytes().to_vec(alloc)?),
         })?;
     }
     assert!(rt; is_script(script.as_slice()));

@@ -1,3 +1,4 @@
+pub mod Bodies
 pub mod Numbers
 pub mod Elements
 pub mod Items

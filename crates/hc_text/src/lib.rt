@@ -2,19 +2,21 @@
 #![tactic(auto)]
 
 mod blank;
-mod bytes;
+mod body;
 mod law;
 mod list;
 mod memory;
+mod names;
 mod number;
 mod split;
 mod token;
 
 pub use blank::is_blank;
-pub use bytes::{Bytes, Key, MethodName, Value};
+pub use body::Bytes;
 pub use law::{a_text_has_one_cut, calls_give_the_elements};
 pub use list::{Item, next_item};
 pub use memory::NoMemory;
+pub use names::{Key, MethodName, Value};
 pub use number::{read_number, read_plain, write_number};
 pub use split::{cut, lacks, position_of};
 pub use token::is_token;

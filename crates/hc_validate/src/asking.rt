@@ -74,7 +74,7 @@ pub(crate) fn is_listed(fields: &Fields, opaque: &[u8]) -> Result<bool, NoMemory
     ensures { IfOk result (λ listed. IsTrue listed ↔ IsListed opaque.now fields.now) }
 {
     match fields.joined(b"if-none-match")? {
-        Some(text) => lists(fields.allocator(), text.bytes.as_slice(), opaque),
+        Some(text) => lists(fields.allocator(), text.as_slice(), opaque),
         None => Ok(false),
     }
 }
@@ -97,9 +97,7 @@ fn lists(alloc: Global, text: &[u8], opaque: &[u8]) -> Result<bool, NoMemory>
 fn has_tag(tags: &TagItems, opaque: &[u8]) -> bool
     ensures { result ≡ list_any (is_tag opaque.now) tags.now }
 {
-    tags.items
-        .iter()
-        .any(|tag| tag.opaque.bytes.as_slice() == opaque)
+    tags.items.iter().any(|tag| tag.opaque.as_slice() == opaque)
 }
 
 /// What Range asks for, where it stands once and can be read.

@@ -1,6 +1,7 @@
 //! What a wire hands out, and why a call fails.
 ghost use Rattle.std.specs.Prelude.{◌≡◌};
 
+use hc_text::NoMemory;
 use std::alloc::{AllocError, AllocFailed};
 
 /// An IPv4 address and a port.
@@ -34,6 +35,16 @@ pub enum WireError {
     WireFailed,
     /// There was not enough memory. Nothing changed.
     NoMemory,
+}
+
+impl From<NoMemory> for WireError {
+    ghost use Rattle.hc_wire.specs.declared.event.WireError.TheVariants as error;
+
+    ghost from_gives = { λ _ e. e ≡ error.NoMemory };
+
+    fn from(_: NoMemory) -> Self {
+        WireError::NoMemory
+    }
 }
 
 impl From<AllocError> for WireError {

@@ -202,13 +202,13 @@ impl ScriptWire {
             WireEvent::Quiet => WireEvent::Quiet,
             WireEvent::Accepted(k) if !is_seen(self.connections.as_slice(), k) => item.event,
             WireEvent::Got(k, _) if is_unended(self.connections.as_slice(), k) => {
-                if off >= item.bytes.bytes.len() {
+                if off >= item.bytes.len() {
                     return None;
                 }
                 if !is_read(self.connections.as_slice(), k) {
                     return Some((self.moment, WireEvent::Quiet));
                 }
-                WireEvent::Got(k, copy_rest(item.bytes.bytes.as_slice(), off, into))
+                WireEvent::Got(k, copy_rest(item.bytes.as_slice(), off, into))
             }
             WireEvent::Ended(k) if is_unended(self.connections.as_slice(), k) => item.event,
             WireEvent::Broke(k) | WireEvent::Room(k) if is_open(self.connections.as_slice(), k) => {

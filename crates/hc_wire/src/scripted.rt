@@ -21,9 +21,7 @@ pub fn is_script(script: &[Scripted]) -> bool
     ensures { IsTrue result ↔ IsScript script.now }
 {
     script.iter().all(|s| s.moment < 1 << 62)
-        && script
-            .iter()
-            .all(|s| is_sized(s.event, s.bytes.bytes.as_slice()))
+        && script.iter().all(|s| is_sized(s.event, s.bytes.as_slice()))
         && ends_once(script)
 }
 

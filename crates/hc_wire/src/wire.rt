@@ -3,6 +3,7 @@ ghost use Rattle.std.specs.Prelude.{◌≡◌, ◌+◌, ◌<◌, ◌≤◌, ◌^
 ghost use Rattle.std.specs.Result.{is_ok};
 
 use crate::event::{Address, WireError, WireEvent};
+use hc_text::Bytes;
 
 /// The most events that a wire hands out.
 pub const MOST_EVENTS: u64 = 1 << 45;
@@ -86,23 +87,23 @@ pub trait Wire {
 
     /// As `send`, of the bytes of a list from a place on. Where the connection takes all of them, the
     /// list is empty afterwards, and else as before.
-    fn hand(&mut self, k: u64, from: &mut Vec<u8>, used: usize) -> Result<usize, WireError>
-        requires { used ≤ length from.old.items }
-        ensures within { IfOk result (λ n. n ≤ length (drop used from.old.items)) }
+    fn hand(&mut self, k: u64, from: &mut Bytes, used: usize) -> Result<usize, WireError>
+        requires { used ≤ length from.old }
+        ensures within { IfOk result (λ n. n ≤ length (drop used from.old)) }
         ensures stages { (j : ℕ) → stages self.new j ≡ stages self.old j }
         ensures ok { IfOk result (λ n. Tells (log self.old) (log self.new) (with_sent k
-            (take n (drop used from.old.items)) (nat_lt n (length (drop used from.old.items))))) }
+            (take n (drop used from.old)) (nat_lt n (length (drop used from.old))))) }
         ensures err { OnErr result (log self.new ≡ log self.old) }
-        ensures left { IfOk result (λ n. from.new.items
-            ≡ (if n == length (drop used from.old.items) then [] else from.old.items)) }
-        ensures kept { OnErr result (from.new.items ≡ from.old.items) }
+        ensures left { IfOk result (λ n. from.new
+            ≡ (if n == length (drop used from.old) then [] else from.old)) }
+        ensures kept { OnErr result (from.new ≡ from.old) }
         ensures events { events self.new ≡ events self.old }
         ensures cause { HasWireCause (faults self.old) (faults self.new) result }
     {
         let left = from.len() - used;
-        let n = self.send(k, &from[used..])?;
+        let n = self.send(k, &from.as_slice()[used..])?;
         if n == left {
-            from.clear();
+            *from = Bytes::new();
         }
         Ok(n)
     }

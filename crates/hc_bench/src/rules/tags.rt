@@ -10,7 +10,7 @@ pub(super) fn read_tags(alloc: Global, times: u64) -> Result<(), BenchError> {
     for round in 0..times {
         let (text, opaque) = tag_case(round);
         let tag = read_tag(alloc, text)?.ok_or(BenchError::Wrong)?;
-        if tag.opaque.bytes.as_slice() != opaque {
+        if tag.opaque.as_slice() != opaque {
             return Err(BenchError::Wrong);
         }
     }
@@ -124,6 +124,6 @@ fn hash_tag(alloc: Global) -> Result<Tag, BenchError> {
     let bytes = b"33a64df551425fcc55e4d42a148795d9f25f89d4".to_vec(alloc)?;
     Ok(Tag {
         weak: false,
-        opaque: Bytes { bytes },
+        opaque: Bytes::of(bytes),
     })
 }

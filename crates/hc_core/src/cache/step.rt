@@ -93,7 +93,7 @@ fn received_in(event: &Event) -> u64
     ensures { result ≡ received_in event.now }
 {
     match event {
-        Event::Piece { bytes, .. } => bytes.bytes.len() as u64,
+        Event::Piece { bytes, .. } => bytes.len() as u64,
         _ => 0,
     }
 }

@@ -82,7 +82,7 @@ fn accept<B: Backend>(
         Event::Start { c, request } => start(rows, now, *c, request),
         Event::Poll { c, want } => poll(rows, now, *c, *want, out),
         Event::Head { x, response } => take_head(rows, now, *x, response, out),
-        Event::Piece { x, bytes } => { take_piece(rows, now, *x, bytes.bytes.as_slice(), out) }
+        Event::Piece { x, bytes } => take_piece(rows, now, *x, bytes.as_slice(), out),
         Event::End { x } => {
             end(rows, now, *x, out);
             Ok(())

@@ -132,5 +132,5 @@ fn put_runs<B: Backend>(entries: &mut Entries<B>, r: u64, runs: &[Run]) -> Resul
 fn bytes_of(run: &Run) -> &[u8]
     ensures { result.now ≡ run.now.bytes }
 {
-    run.bytes.bytes.as_slice()
+    run.bytes.as_slice()
 }

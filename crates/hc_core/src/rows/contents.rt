@@ -85,5 +85,5 @@ fn runs_of<B: Backend>(
 fn count_of(run: &Run) -> u64
     ensures { result ≡ length run.now.bytes }
 {
-    run.bytes.bytes.len() as u64
+    run.bytes.len() as u64
 }

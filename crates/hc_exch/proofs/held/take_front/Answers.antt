@@ -1,4 +1,4 @@
-use Rattle.std.proofs.Common.{◌≡◌, vec_len, length, arith}
+use Rattle.std.proofs.Common.{◌≡◌, ◌∙◌, vec_len, length, arith}
 use Rattle.hc_exch.proofs.PieceLemmas.{taken_is, rest_is}
 use Rattle.hc_exch.proofs.held.take_front.Goals as goal
 
@@ -10,7 +10,7 @@ returns-clause-ok c =
     let full : vec_len c.loop-bytes.bytes ≡ c.args.count = omega arith in
     let size : length c.loop-bytes.bytes.items ≡ c.args.count = let ok = c.loop-bytes.bytes.ok in omega arith in
     record {
-      bytes = taken_is c.loop-bytes.bytes.items _ _ _ i.all size;
+      bytes = c.of.ensures ∙ taken_is c.loop-bytes.bytes.items _ _ _ i.all size;
       rest = rest_is c.loop-bytes.bytes.items _ _ _ i.all size;
       front = i.front;
     }

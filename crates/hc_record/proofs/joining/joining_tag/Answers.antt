@@ -21,7 +21,7 @@ pub invariant_of-result : goal.invariant_of-result
 invariant_of-result c =
     let spelled = strong_in-some c.in-Some.value.now c.in-Some-strong_in.opaque.now (sym c.in-Some-strong_in.ensures.value) in
     let same = c.in_ok-bytes.ensures.items_if_clones_equal (λ x y e. e) in
-    record { etagc = rw same spelled.0 }
+    record { etagc = rw (c.of.ensures, same) spelled.0 }
 
 pub returns-clause-value : goal.returns-clause-value
 returns-clause-value c =
@@ -29,4 +29,4 @@ returns-clause-value c =
     let one = only_value_is (values_of (codes "etag") c.args.fields.now) c.in-Some.value.now (sym c.in-Some.ensures) in
     let spelled = strong_in-some c.in-Some.value.now opaque (sym c.in-Some-strong_in.ensures.value) in
     let same = c.in_ok-bytes.ensures.items_if_clones_equal (λ x y e. e) in
-    ap Some same ∙ sym (ap one_strong_opaque one ∙ (ap strong_opaque spelled.1 ∙ strong_opaque-tag opaque spelled.0))
+    ap Some (c.of.ensures ∙ same) ∙ sym (ap one_strong_opaque one ∙ (ap strong_opaque spelled.1 ∙ strong_opaque-tag opaque spelled.0))

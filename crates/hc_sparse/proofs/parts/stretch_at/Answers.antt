@@ -13,4 +13,4 @@ pub returns-clause-ok : goal.returns-clause-ok
 unfolding stretch
 returns-clause-ok g c =
     let here = part-here (g.P.Parts.kept c.args.kept.now) c.args.p c.in-Some.x c.in-Some.field-0-1.now c.in-Some.ensures.some in
-    rw (here, c.in_ok-append_from.ensures) refl
+    rw (here, c.of.ensures, c.in_ok-append_from.ensures) refl

@@ -8,7 +8,6 @@ returns-in-Some c =
     let joined = joined_of (values_of (codes "if-none-match") c.args.fields.now) in
     let e = c.in_ok-text.ensures in
     let f = c.in-Some.is in
-    let v = c.text.view_is in
-    let s = c.as_slice.ensures.value in
+    let s = c.as_slice.ensures in
     let is : Some c.as_slice.result.now ≡ joined = cc in
     listed_in c.args.opaque.now c.as_slice.result.now joined c.lists.result is c.lists.ensures

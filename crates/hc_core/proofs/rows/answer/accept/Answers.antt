@@ -25,7 +25,7 @@ take_head-requires-clause-accepted g c = head_free (gate_of c.args.rows.now (eve
 pub take_piece-requires-clause-accepted : goal.take_piece-requires-clause-accepted
 take_piece-requires-clause-accepted g c =
     let free = piece_free (gate_of c.args.rows.now (event.Piece c.in-Piece.x c.in-Piece.bytes)) c.in-Piece.x c.in-Piece.bytes (rw c.in-Piece.is at c.requires.accepted) in
-    ap (λ n. piece_refusal (open_at c.args.rows.now c.in-Piece.x) n) (ap length (c.as_slice.ensures.value ∙ c.bytes.view_is)) ∙ free
+    ap (λ n. piece_refusal (open_at c.args.rows.now c.in-Piece.x) n) (ap length c.as_slice.ensures) ∙ free
 
 pub end-requires-clause-accepted : goal.end-requires-clause-accepted
 end-requires-clause-accepted g c = end_free (gate_of c.args.rows.now (event.End c.in-End.x)) c.in-End.x (rw c.in-End.is at c.requires.accepted)
@@ -65,7 +65,7 @@ take_head-requires-clause-timely g c = timely c.args.rows.now _ c.in-Head.x c.ar
 
 pub take_piece-requires-clause-short : goal.take_piece-requires-clause-short
 take_piece-requires-clause-short g c =
-    let count : length c.as_slice.result.now ≡ length c.in-Piece.bytes = ap length (c.as_slice.ensures.value ∙ c.bytes.view_is) in
+    let count : length c.as_slice.result.now ≡ length c.in-Piece.bytes = ap length c.as_slice.ensures in
     let small : length c.in-Piece.bytes ≤ 65536 = rw c.in-Piece.is at c.requires.within_limits in
     omega (arith, count, small)
 

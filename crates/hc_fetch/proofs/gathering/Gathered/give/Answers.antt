@@ -1,4 +1,4 @@
-use Rattle.std.proofs.Common.{◌≡◌, arith}
+use Rattle.std.proofs.Common.{◌≡◌, sym, arith}
 use Rattle.hc_sparse.specs.Cells.{cells_with}
 use Rattle.hc_fetch.proofs.Aheads.{given_seen, appends_more, on_map}
 use Rattle.hc_fetch.proofs.gathering.Gathered.give.Goals as goal
@@ -10,9 +10,7 @@ returns-then-at-self-clause-keeps c =
 
 pub returns-clause-keeps : goal.returns-clause-keeps
 returns-clause-keeps c =
-    let view = c.bytes.view_is in
-    let value = c.as_slice.ensures.value in
-    let same : c.args.bytes.now ≡ c.as_slice.result.now = cc in
+    let same : c.args.bytes.now ≡ c.as_slice.result.now = sym c.as_slice.ensures in
     on_map c.write_ahead.result
     (λ all f x k fit. all (cells_with c.args.at x c.args.bytes.now f) (c.in_ok-write.ensures.keeps (cells_with c.args.at x c.args.bytes.now f)
     (given_seen f c.args.at x c.args.bytes.now fit c.args.self.now.ahead c.args.self.now.written c.if-at-self.false k c.as_slice.result.now same)))
@@ -20,9 +18,7 @@ returns-clause-keeps c =
 
 pub returns-clause-text : goal.returns-clause-text
 returns-clause-text c =
-    let view = c.bytes.view_is in
-    let value = c.as_slice.ensures.value in
-    let same : c.args.bytes.now ≡ c.as_slice.result.now = cc in
+    let same : c.args.bytes.now ≡ c.as_slice.result.now = sym c.as_slice.ensures in
     on_map c.write_ahead.result
     (λ all f x k fit.
     let here = given_seen f c.args.at x c.args.bytes.now fit c.args.self.now.ahead c.args.self.now.written c.if-at-self.false k c.as_slice.result.now same in

@@ -8,4 +8,4 @@ returns-then-is_empty-clause-ok g c =
 
 pub returns-in_err-n-clause-err : goal.returns-in_err-n-clause-err
 returns-in_err-n-clause-err g c =
-    on-err c.from_residual.result _ (some-none c.args.k c.args.self.now (g.W.Wire.log c.args.wire.now) (g.W.Wire.log c.hand.new.self) c.in_err-n.ensures.err)
+    on-err c.from_residual.result _ (some-none c.args.k c.args.self.now (g.W.Wire.log c.args.wire.now) (g.W.Wire.log c.send.new.self) c.in_err-n.ensures.err)

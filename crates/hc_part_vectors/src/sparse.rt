@@ -164,7 +164,7 @@ fn put_of(v: &Vector, at: usize) -> Result<SparseOp, NoMemory> {
     Ok(SparseOp::Put {
         at: v.number(at),
         x: v.number(at.saturating_add(1)),
-        bytes: Bytes { bytes },
+        bytes: Bytes::of(bytes),
     })
 }
 
@@ -216,7 +216,7 @@ fn is_allowed(op: &SparseOp) -> bool
 {
     match op {
         SparseOp::Put { at, bytes, .. } => {
-            let len = bytes.bytes.as_slice().len() as u64;
+            let len = bytes.as_slice().len() as u64;
             *at <= END && len <= END - *at
         }
         SparseOp::RunAt { want, .. } => *want > 0,

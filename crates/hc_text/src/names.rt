@@ -4,30 +4,6 @@ ghost use Rattle.std.specs.Prelude.{◌≡◌, IfOk};
 use crate::memory::NoMemory;
 use std::marker::Model;
 
-/// Bytes of a body.
-#[derive(Debug, Drop)]
-pub struct Bytes {
-    pub bytes: Vec<u8>,
-}
-
-impl Model for Bytes {
-    ghost use Rattle.std.specs.Prelude.{List, ℕ};
-
-    ghost Value = { List ℕ };
-
-    ghost view = { λ b. b.bytes.items };
-}
-
-impl Bytes {
-    /// An equal value of its own.
-    pub fn copy(&self) -> Result<Bytes, NoMemory>
-        ensures { IfOk result (λ copy. copy ≡ self.now) }
-    {
-        let bytes = self.bytes.to_vec(*self.bytes.allocator())?;
-        Ok(Bytes { bytes })
-    }
-}
-
 /// The key of a stored answer: the serialization of its URL without a fragment.
 #[derive(Debug, Drop)]
 pub struct Key {

@@ -14,7 +14,8 @@ use hc_event::{Response, Why};
 use hc_fields::Fields;
 use hc_range::{Span, write_content_range};
 use hc_record::StoredHead;
-use hc_text::{NoMemory, write_number};
+use hc_text::NoMemory;
+use itoa::Buffer;
 
 /// The head that a consumer is shown of a stored one (RFC 9110 sections 14.4 and 15.3.7): a 206 of the
 /// span where the consumer is `ranged` and has one, and else a 200, with `content-length` where the
@@ -87,7 +88,6 @@ pub(crate) fn set_number(fields: &mut Fields, name: &[u8], number: u64) -> Resul
     ensures count { OnOk result (length fields.new ≤ length fields.old + 1) }
     ensures size { OnOk result (size_of fields.new ≤ size_of fields.old + (length name.now + 20)) }
 {
-    let mut text = Vec::new(fields.allocator());
-    write_number(number, &mut text)?;
-    set_field(fields, name, text.as_slice())
+    let mut buffer = Buffer::new();
+    set_field(fields, name, buffer.format(number).as_bytes())
 }

@@ -16,6 +16,8 @@ impl<B: Backend> Entries<B> {
     ghost use Rattle.hc_stored.specs.Entries.{shelf_of};
 
     /// What is told of the representation. None exactly where it isn't kept.
+    // Callers mostly want one field or two of it, so that the rest needn't be read where it is inlined.
+    #[inline(always)]
     pub fn entry(&self, r: u64) -> Option<EntryView>
         ensures { result ≡ option_map view_of ((shelf_of self.now).kept r) }
     {

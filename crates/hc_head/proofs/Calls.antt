@@ -25,6 +25,10 @@ full_call text rest h reads many =
 pub no_call : (text : List ℕ) → ((h : RequestHead) (rest : List ℕ) → ¬ (ReadsRequest text h rest)) → CallsFor text (Err error.BadHead)
 no_call text none = bad_call text (λ head x. none head [] x.reads)
 
+-- no bytes can follow that make it a head
+pub never_call : (text : List ℕ) → ((more : List ℕ) (h : RequestHead) (rest : List ℕ) → ¬ (ReadsRequest (text ++ more) h rest)) → CallsFor text (Err error.BadHead)
+never_call text never = bad_call text (λ head x. never [] head [] (subst (λ (t : List ℕ). ReadsRequest t head []) (sym (append-nil text)) x.reads))
+
 pub over_call : (text : List ℕ) → ((more : List ℕ) (h : RequestHead) (rest : List ℕ) → ReadsRequest (text ++ more) h rest → 64 < length h.fields) → CallsFor text (Err error.BadHead)
 over_call text over =
     bad_call text (λ head x.

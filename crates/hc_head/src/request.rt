@@ -1,5 +1,5 @@
 //! The whole head of a request.
-ghost use Rattle.std.specs.Prelude.{◌≡◌, ◌≤◌, ◌++◌, true, codes, length, option_map, IfOk};
+ghost use Rattle.std.specs.Prelude.{◌≡◌, ◌≤◌, ◌++◌, true, codes, length, option_map, IfOk, IfSome, IfNone};
 ghost use Rattle.std.specs.List.{list_all};
 ghost use Rattle.std.specs.Option.{option_copied, option_and_then};
 ghost use Rattle.hc_fields.specs.FieldList.{size_of, values_of};
@@ -8,6 +8,7 @@ ghost use Rattle.hc_head.specs.Requests.{asked_of, asked_text, is_host_byte, is_
 ghost use Rattle.hc_head.specs.Held.{fields_in, field_in, AreGood};
 ghost use Rattle.hc_head.specs.Rules.{is_within_limits};
 ghost use Rattle.hc_head.specs.Calls.{Gives, CallsFor};
+ghost use Rattle.httparse.specs.Spans.{RequestOverflows};
 
 use crate::fields::{Leaving, has_name, is_there, is_within_limits, kept_of};
 use crate::head::MOST_FIELDS;
@@ -15,13 +16,16 @@ use crate::message::{MsgError, WireRequest};
 use hc_event::{Load, Request};
 use hc_target::is_target;
 use hc_text::{Key, MethodName, NoMemory};
-use httparse::{EMPTY_HEADER, Header, Request as Head, Status};
+use httparse::{EMPTY_HEADER, Error, Header, Request as Head, Status};
 use std::alloc::Global;
 use std::str;
 use url::{ParseError, Url};
 
 /// A method has at most this many bytes.
 const MOST_METHOD: usize = 15;
+
+/// Most requests have at most this many fields.
+const FEW_FIELDS: usize = 16;
 
 /// The value of Host, where it stands once.
 fn host_of<'a>(headers: &[Header<'a>]) -> Option<&'a [u8]>
@@ -244,27 +248,57 @@ fn asked_of(
     Ok(with_key(alloc, method, minor, headers, bytes, key)?)
 }
 
-/// What the text asks for, which ends with the empty line of a head.
-pub fn call_of(alloc: Global, text: &[u8]) -> Result<WireRequest, MsgError>
+/// What the text asks for, whose fields are read into this room. None where they are more.
+fn call_in<'b>(
+    alloc: Global,
+    text: &'b [u8],
+    room: &mut [Header<'b>],
+) -> Option<Result<WireRequest, MsgError>>
     requires { length text.now ≤ 32768 }
-    ensures { CallsFor text.now result }
+    ensures call { IfSome result (CallsFor text.now) }
+    ensures none { IfNone result (RequestOverflows (length room.old) text.now) }
 {
-    let mut room = [EMPTY_HEADER; MOST_FIELDS];
-    let mut head = Head::new(&mut room);
+    let mut head = Head::new(room);
     match head.parse(text) {
         Ok(Status::Complete(len)) => {
             if len < text.len() {
-                return Err(MsgError::BadHead);
+                return Some(Err(MsgError::BadHead));
             }
             if head.headers.len() > MOST_FIELDS {
-                return Err(MsgError::BadHead);
+                return Some(Err(MsgError::BadHead));
             }
             let method = head.method.unwrap().as_bytes();
             let target = head.path.unwrap().as_bytes();
             let minor = head.version.unwrap();
-            asked_of(alloc, method, target, minor, head.headers, len)
+            Some(asked_of(alloc, method, target, minor, head.headers, len))
         }
-        Ok(Status::Partial) => Err(MsgError::BadHead),
-        Err(_) => Err(MsgError::BadHead),
+        Ok(Status::Partial) => Some(Err(MsgError::BadHead)),
+        Err(Error::TooManyHeaders) => None,
+        Err(_) => Some(Err(MsgError::BadHead)),
+    }
+}
+
+/// The same, with room for as many fields as a head may have.
+fn long_call_of(alloc: Global, text: &[u8]) -> Result<WireRequest, MsgError>
+    requires { length text.now ≤ 32768 }
+    ensures { CallsFor text.now result }
+{
+    let mut room = [EMPTY_HEADER; MOST_FIELDS];
+    match call_in(alloc, text, &mut room) {
+        Some(call) => call,
+        None => Err(MsgError::BadHead),
+    }
+}
+
+/// What the text asks for, which ends with the empty line of a head. Most have few fields, so they are
+/// read in a small room first: to make a large one costs more than to read them.
+pub fn call_of(alloc: Global, text: &[u8]) -> Result<WireRequest, MsgError>
+    requires { length text.now ≤ 32768 }
+    ensures { CallsFor text.now result }
+{
+    let mut room = [EMPTY_HEADER; FEW_FIELDS];
+    match call_in(alloc, text, &mut room) {
+        Some(call) => call,
+        None => long_call_of(alloc, text),
     }
 }

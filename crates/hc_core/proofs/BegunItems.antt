@@ -1,4 +1,9 @@
 -- Items of contents, run by run and one by one.
+--
+-- Two loops put contents into a store, and a record says what was put so far. `ArePut` is of the runs of one item: they
+-- ascend. So each next one is put where no byte is yet, and within the limits (`more_put`). `AreKept` is of items: each
+-- is good, so its number is new, its weight fits, and by `BegunRows` the rows represent one item more
+-- (`one_more_kept`). The loops of `put_runs` and `begin_with` use these, and so does `with_contents`.
 use Rattle.std.{proofs.{Common.{◌≡◌, ◌⊎◌, ℕ, zero, suc, ◌+◌, ◌<◌, ◌≤◌, ◌^◌, max, map, reverse, List, [], ◌∷◌, ◌++◌, length, take, drop, get_or, Bool, true, false, cond, eqb, Option, Some, None, refl, ap, sym, ◌∙◌, subst, inl, inr, arith, take_all}, lemmas.{Bool.{cases_Bool, eqb-true, Decides.{nat_tests}}, List.{reverse-append, append_assoc, Folds.{list_any-append}, Sums.{sum_by-cons, sum_by-append, sum_by-take-le}}}}, specs.{Prelude.{Ok, Err, is_some, option_map, find, nat_le, nat_lt, ◌==◌, ◌&&◌, ◌||◌, not, if◌then◌else◌}, List.{list_any}, Option.{ForSome}}}
 use Rattle.hc_store.specs.{declared.backend.Backend.{Ghosts}, Causes.{HasCause}}
 use Rattle.hc_store.specs.declared.error.StoreError.TheVariants as error

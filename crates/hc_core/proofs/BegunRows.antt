@@ -1,4 +1,9 @@
 -- The rows represent what a store begins with, item by item.
+--
+-- With no item there are empty tables and empty rows (`stands_before`). One item more has a new number, so every other
+-- row and entry stays. Its entry has the work (`entry_new`). It has the bytes of its runs, its kind is right by what
+-- the contents promise, and nobody reads or writes it. It is the last one used, and current for its key. `stands_more`
+-- joins this; `BegunItems` repeats it for all items.
 use Rattle.std.{proofs.{Common.{◌≡◌, inl, inr, ℕ, ◌<◌, max, List, [], ◌∷◌, ◌++◌, Bool, true, false, cond, eqb, Option, Some, None, refl, ap, sym, ◌∙◌, subst, arith}, lemmas.{Bool.{cases_Bool, eqb-true, Decides.{nat_tests}}, List.{map-append, reverse-append, Folds.{find-append}}}}, specs.{Prelude.{nat_eq, filter, find, reverse, bytes_eq, option_map, ◌==◌, ◌&&◌, if◌then◌else◌}, HashMap.{get, hash_map_len}}}
 use Rattle.hc_text.proofs.Basics.{eqb-same, false_true, or_none}
 use Rattle.hc_store.specs.declared.backend.Backend.{Ghosts}

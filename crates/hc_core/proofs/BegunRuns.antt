@@ -1,4 +1,9 @@
 -- What runs that are put one after another leave, and of what kind that is.
+--
+-- Runs that ascend don't overlap, so at each position stands the byte of the run that has it (`runs_cells`). They reach
+-- to the last end (`runs_reach`), and nothing else of an entry changes (`runs_rest`). The kind has the work. It depends
+-- on where they end and how many bytes they have, so contents say it right (`kind_begun`). What is called whole covers
+-- its length (`whole_begun`). `BegunItems`, `BegunRows` and `Likewise` use these.
 use Rattle.std.{proofs.{Common.{◌≡◌, ◌⊎◌, inl, inr, ℕ, ◌+◌, ◌-◌, ◌<◌, ◌≤◌, max, List, [], ◌∷◌, ◌++◌, length, Bool, true, false, Option, Some, None, refl, ap, sym, ◌∙◌, arith}, lemmas.Bool.Decides.{nat_tests}}, specs.{Prelude.{is_some, nat_le, nat_lt, ◌==◌, ◌&&◌, if◌then◌else◌}, Option.{option_or}}}
 use Rattle.hc_text.proofs.Basics.{and_left, and_right, false_true}
 use Rattle.hc_sparse.specs.{Cells.{Cells, Covers, size_below}, Runs.{cells_of, end_of}, declared.run.Run.{Run}}

@@ -1,4 +1,9 @@
 -- What is told of all idle ones is the contents of each run that the cache represents, and a cache may begin with it.
+--
+-- What is idle on the shelf is idle in the tables, in the same order. The item that is told of one has its key, its
+-- head and the runs of its bytes. The entry of what isn't gone tells length and kind, so that item is the one of the
+-- tables (`content_is`, `items_are`). `contents_told` joins this. What such a run leaves is fit to begin with
+-- (`may_again`). Reading leaves the cache as good as it was (`good_still`), as the loops need.
 use Rattle.std.{proofs.{Common.{◌≡◌, inl, inr, ℕ, zero, suc, get_or, ◌<◌, ◌≤◌, ◌^◌, List, [], ◌∷◌, ◌++◌, map, Bool, true, false, Option, Some, None, refl, ap, sym, ◌∙◌, subst, arith}, lemmas.Bool.{cases_Bool}}, specs.Prelude.{is_some, option_map, filter, filter_map, reverse, ◌==◌, length}}
 use Rattle.hc_text.proofs.Basics.{and_left, false_true, some_inj as some_is}
 use Rattle.hc_store.specs.declared.backend.Backend.{Ghosts}

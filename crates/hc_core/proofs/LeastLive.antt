@@ -1,4 +1,9 @@
 -- The least of some numbers, and who of the live has it.
+--
+-- The loop keeps the lesser of what it has and the next number. By induction over the list the result is one of them,
+-- and none is lower (`least_is`); it is none only of an empty list (`least_none`). The numbers of the rows are those of
+-- the live, in each run that the cache represents. So with none nobody is live (`none_lives`), and else it is the least
+-- of them (`least_lives`). `if_none` and `if_some` say it where the loop of `least_live` ends.
 use Rattle.std.{proofs.{Common.{◌≡◌, ◌⊎◌, ◌≤◌, inl, inr, ℕ, List, [], ◌∷◌, length, Bool, true, false, Option, Some, None, refl, ap, sym, ◌∙◌, subst, arith}, lemmas.{Bool.Decides.{nat_tests}, Map.{Entries.{length-keys_of}, Made.{is_some-lookup}}}}, specs.{Prelude.{is_some, nat_eq, nat_lt, if◌then◌else◌, IfSome, IfNone}, Set.{is_member}}}
 use Rattle.std.specs.HashMap as hash
 use Rattle.hc_effects.proofs.Vocabulary.{is_live, Contents, History, tables}

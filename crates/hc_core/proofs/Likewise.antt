@@ -1,4 +1,9 @@
 -- Rows that keep contents, and nothing else, represent the tables of each run that leaves those, with nobody live.
+--
+-- With nobody live nobody is bound, waits or has a turn, and no exchange is open. A number is in the contents if its
+-- row isn't gone, and such a row is idle (`remains`). What isn't gone has the work: the item has its bytes, as all of
+-- them are stored, and its writer is over and forgotten (`entry_is`). What is gone, or never was there, is kept
+-- nowhere. `rows_likewise` joins this, and `serves_all` says it of the cache for `with_contents`.
 use Rattle.std.{proofs.{Common.{◌≡◌, ◌≢◌, inl, inr, ℕ, ◌+◌, ◌-◌, List, [], ◌∷◌, ◌++◌, Bool, true, false, Option, Some, None, refl, ap, sym, ◌∙◌, subst, arith}, lemmas.{Bool.{cases_Bool}, List.{reverse-append, reverse-reverse}}}, specs.{Prelude.{bytes_eq, is_some, nat_eq, filter, filter_map, find, reverse, length, option_map, not, ◌==◌, ◌&&◌}, HashMap.{get}}}
 use Rattle.hc_text.proofs.Basics.{and_left, and_right, eqb-other, eqb-same, false_true, filter_same as filters_as, never_true as not_true, same_or, same_some as same_row, some_inj as some_is, and_off as then_false}
 use Rattle.hc_store.specs.declared.backend.Backend.{Ghosts}

@@ -1,4 +1,9 @@
 -- The longest runs, one after another.
+--
+-- The list of all runs is built from behind, byte by byte; the loop finds them from the front. `AreFound` says that
+-- those so far are the first of that list, and that the rest is the list from a position on. What is absent in front is
+-- passed over (`runs_skip`). The longest run of one exchange is then the first of the rest, since behind it is no byte
+-- of that (`runs_next`). So one more is found (`more_found`). `runs_of` uses these.
 use Rattle.std.{proofs.{Common.{◌≡◌, ◌≢◌, ◌⊎◌, inl, inr, ℕ, zero, suc, ◌+◌, ◌-◌, ◌<◌, ◌≤◌, ◌^◌, List, [], ◌∷◌, ◌++◌, length, get_or, true, Option, Some, None, refl, ap, sym, ◌∙◌, subst, arith, append_assoc}, lemmas.Bool.{cases_Bool, Decides.{nat_tests}}}, specs.Prelude.{is_some, nat_eq, ◌==◌, ◌&&◌, if◌then◌else◌}}
 use Rattle.hc_text.proofs.Basics.{and_left, and_right, eqb-same, false_true, lt_or as split}
 use Rattle.hc_sparse.specs.{Cells.{Cells, Cell, EndsBy, AreAbsent, IsNext}, Stretch.{IsLongest}, declared.run.Run.{Run}}

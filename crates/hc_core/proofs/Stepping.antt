@@ -1,4 +1,9 @@
 -- The step of a cache: one entry more, denied or accepted.
+--
+-- A new cache represents the empty run (`stands_beginning`). At an event the rows deny just what the tables deny. If it
+-- is denied, the rows stay, and the tables but for moment and count. If not, the tables of the run have the facts. So
+-- what the occasion answers is owed, and its rows represent the tables after it (`by_refusal`). `steps_on` joins this
+-- for `step`; the promises of `keeps_promises` are the laws of that run.
 use Rattle.std.{proofs.{Common.{◌≡◌, ℕ, ◌+◌, ◌≤◌, ◌<◌, ◌^◌, List, [], ◌∷◌, ◌++◌, length, Bool, true, false, Option, Some, None, refl, ap, sym, ◌∙◌, subst, arith}, Props.{props}, Math.{Bridge.{le_prop}, Logic.{∥∥₁_elim, ∥∥₁_map}, Seq.{drop-append_seam}}}, specs.{Prelude.{nat_eq, ◌||◌, drop, if◌then◌else◌}, HashMap.{get, hash_map_len}}}
 use Rattle.hc_text.proofs.Basics.{or_right as or_second}
 use Rattle.hc_store.specs.declared.backend.Backend.{Ghosts}

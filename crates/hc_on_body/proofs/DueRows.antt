@@ -1,4 +1,9 @@
 -- A failure becomes due to some consumers: what is kept represents the tables in which it is.
+--
+-- Nothing else of them changes, so whatever doesn't look at what is due is told as before (`told_same`). That is who is
+-- live or bound, what keys say, and what is held. Each consumer is kept with the failure, unless one was due already,
+-- as in the tables (`kept_due`). `stands_due` joins this. What may be let go or closed stays so (`may_due`,
+-- `awaits_due`). `StopHandler` uses these for the readers of an exchange that stops.
 use Rattle.std.{proofs.Common.{◌≡◌, ℕ, List, Bool, true, false, Option, Some, None, refl, ap, sym, ◌∙◌, subst}, specs.{Prelude.{is_some, nat_eq, bytes_eq, option_map, ◌&&◌, if◌then◌else◌}, Option.{option_or}, HashMap.{get}}}
 use Rattle.hc_text.proofs.Basics.{some_inj as some_is}
 use Rattle.hc_effects.proofs.Vocabulary.{Limits, Cause, Place, current, is_live, failing, family, MayLetGo, is_in_line, is_bound, Tables, Exchange, Representation}

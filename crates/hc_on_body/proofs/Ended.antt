@@ -1,4 +1,9 @@
 -- An exchange ended cleanly, where it promised a length: what is kept represents that as for one that is closed.
+--
+-- The tables differ in how it ended, which what is kept doesn't tell. So whatever doesn't look at that is told alike
+-- (`told_alike`): head, base, what is held, and keys. Where its body ends has the work: an exchange that is closed has
+-- the promised end, and one that ended what came. Since it promised a length, both are told by that (`end_alike`).
+-- `stands_ended` joins these for `ShortAnswers`; `WholeEnds` uses its parts.
 use Rattle.std.{proofs.Common.{◌≡◌, ℕ, ◌+◌, ◌-◌, List, [], length, Bool, true, false, Option, Some, None, refl, ap, sym, ◌∙◌}, specs.{Prelude.{nat_eq, bytes_eq, drop, ◌==◌, ◌&&◌, if◌then◌else◌}, HashMap.{get}}}
 use Rattle.hc_text.proofs.Basics.{false_true}
 use Rattle.hc_effects.proofs.Vocabulary.{Limits, Response, base_of, promise_of, Place, current, is_number, over, at_end, base, family, promised_bytes, is_headless, length_by, absent_from, brings_to, offset, is_bound_place, base_in, end_in, end_of_direct, Tables, Exchange, Representation}

@@ -1,4 +1,9 @@
 -- The store refuses a piece: it is lost, who can goes on with it, and that is answered.
+--
+-- What gave way before doesn't touch what is brought: its row, its exchange and who is bound are as they were
+-- (`there_left`, `row_left`, `bound_left`). Where it isn't written for several, the owner of the exchange is the
+-- exclusive writer and reads on alone (`own_answered`). Where it is, one who stands at its end goes on, or nobody, and
+-- the exchange is closed (`shared_answered`). That who goes on has all that is stored has the work. `grow` uses both.
 use Rattle.std.{proofs.{Common.{◌≡◌, ℕ, ◌+◌, ◌≤◌, List, [], ◌∷◌, ◌++◌, length, Bool, true, false, Option, Some, None, refl, ap, sym, ◌∙◌, subst, arith}, lemmas.List.{append_assoc}}, specs.Prelude.{is_some, map, option_map, ◌&&◌, ◌==◌}}
 use Rattle.hc_text.proofs.Basics.{eqb-same, false_true, some_inj as some_is, and_off as then_false}
 use Rattle.hc_effects.proofs.Vocabulary.{Limits, Act, LostKind, Event, Place, BoundBy, denial, Does, all_closed, back_from, as_gone, if_bound, left_with, let_all_go, lost_to, unless_reached, with_piece, family, front, Loses, flaw_in, entry_of, MayLetGo, is_bound, is_bound_place, is_written, offset, Tables, Exchange, Representation, IsExclusiveWriter, IsBound, evicted, exclusive, has_more, offset_in, survivor, written_representation, is_fault}

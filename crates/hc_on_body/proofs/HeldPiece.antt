@@ -1,4 +1,9 @@
 -- A piece of what was lost is held for its detached reader: what is kept represents the tables then.
+--
+-- What is held for it is what it still lacks: the bytes of its exchange from the first one that isn't stored for it. No
+-- byte is stored where the piece begins, so that place stays the same, or nothing came before. So what is held grows by
+-- just the piece (`more`). Where nobody goes on, nothing is held, and the piece is dropped. `by_held` joins both with
+-- `PieceRows`; `LosePiece` and `LostPiece` use `held_stands` and `dropped_stands`.
 use Rattle.std.{proofs.{Common.{◌≡◌, ◌≢◌, inl, inr, ℕ, ◌+◌, ◌-◌, ◌<◌, ◌≤◌, ◌⊎◌, List, [], ◌∷◌, ◌++◌, length, drop, max, min, Bool, true, false, Option, Some, None, refl, ap, sym, ◌∙◌, subst, arith}, lemmas.List.{drop-append-le, length-append}}, specs.Prelude.{is_some, is_none, ◌==◌, ◌&&◌, if◌then◌else◌}}
 use Rattle.hc_text.proofs.Basics.{eqb-other, eqb-same, false_true, order, same_or}
 use Rattle.hc_effects.proofs.Vocabulary.{Limits, is_number, with_piece, family, base, front, first_place, absent_from, bound, is_bound_place, with_stored_bytes, Tables, Exchange, Representation}

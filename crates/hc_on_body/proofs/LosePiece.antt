@@ -1,4 +1,9 @@
 -- A piece that the store refuses is lost: what is kept represents the tables then.
+--
+-- The code loses what is written first, and then the piece comes to the exchange. By `HeldPiece` it is held for who
+-- goes on alone, or dropped (`held_lost`, `dropped_lost`). Who wrote it alone goes on (`own_stands`). Of what several
+-- read together, who goes on holds it, and the exchange stays (`stays_so`). Where nobody does, it is closed, unless the
+-- piece was its last (`closes_it`). `lose_own_piece` and `lose_shared_piece` use these.
 use Rattle.std.{proofs.Common.{◌≡◌, ◌⊎◌, inl, inr, ℕ, ◌+◌, ◌<◌, List, [], ◌∷◌, ◌++◌, length, Bool, true, false, Option, Some, None, refl, ap, sym, ◌∙◌, subst}, specs.Prelude.{is_some, is_none, nat_eq, not, map, ◌==◌, ◌&&◌, if◌then◌else◌}}
 use Rattle.hc_text.proofs.Basics.{eqb-other, eqb-same, false_true, same_or, same_some as same_row, and_off as then_false}
 use Rattle.hc_effects.proofs.Vocabulary.{Limits, Act, LostKind, Response, all_closed, as_gone, lost_to, with_piece, family, front, promised_bytes, is_reached, is_headless, brings_to, with_stored_bytes, Tables, Exchange, Representation, survivor}

@@ -1,4 +1,9 @@
--- A piece of what was lost is held for its detached reader: what is kept represents the tables then.
+-- A piece that is held is answered: for the detached reader of what was lost, or for who reads past the store.
+--
+-- What is lost isn't written for several. So by the laws its open exchange has an owner, which is bound to it and goes
+-- on alone (`owner`). It has begun to read no further than the exchange came, and where the piece comes nothing is
+-- stored (`owner_within`, `absent`): so `HeldPiece` applies (`lost_answered`). `held_answered` joins this with a piece
+-- past the store, for `hold_piece`. `GrowHandler` takes the owner and its facts.
 use Rattle.std.{proofs.{Common.{◌≡◌, ◌≢◌, inl, inr, ℕ, ◌+◌, ◌-◌, ◌<◌, ◌≤◌, ◌⊎◌, List, [], ◌∷◌, ◌++◌, length, Bool, true, false, Option, Some, None, refl, ap, sym, ◌∙◌, subst, arith}, lemmas.List.{append-nil}}, specs.Prelude.{is_some, ◌==◌, ◌&&◌, if◌then◌else◌}}
 use Rattle.hc_text.proofs.Basics.{false_true, order}
 use Rattle.hc_effects.proofs.Vocabulary.{Limits, Act, BoundBy, denial, entry_without_acts, with_piece, family, base, front, is_written, own_open, with_stored_bytes, Tables, Exchange, Representation, Sound, IsExclusiveWriter, IsHad, write_in, goes_on_at}

@@ -1,4 +1,9 @@
 -- The tables where a piece is lost for which others gave way: in whichever order that is told, they are the same.
+--
+-- The effects let the others go last, and the code first. Who waited for one that gave way starts over, and who reads
+-- what is lost goes on or has a failure due. One consumer has one place, so these are different ones (`left_later`).
+-- What is lost isn't among what gave way, so its row is the same too (`rows_then`). There are three cases: an own
+-- exchange, a shared one that stays open, and one that is closed. `GrowHandler` uses them.
 use Rattle.std.{proofs.Common.{◌≡◌, inl, inr, ℕ, List, [], ◌∷◌, Bool, true, false, Option, Some, None, refl, ap, ap₂, sym, ◌∙◌}, specs.Prelude.{◌==◌, option_map, if◌then◌else◌}}
 use mathlib.Core.Path.{fun_ext}
 use Rattle.hc_text.proofs.Basics.{eqb-other, eqb-same, same_or}

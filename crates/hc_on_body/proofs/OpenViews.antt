@@ -1,4 +1,9 @@
 -- What is told of an open exchange, and of the consumer that waits for its head, is what the tables say.
+--
+-- What the code looks up is of an exchange that is kept as open. Its consumer, whether it has a head, how much came and
+-- what was promised are those of the row (`viewed`). By the laws the consumer of one without a head waits for that. So
+-- it is live and kept, and whether it was shown a head is told alike (`shown_is`, `waited`). The functions `end`,
+-- `end_whole` and `fault` begin with these.
 use Rattle.std.{proofs.Common.{◌≡◌, ◌⊎◌, inl, inr, ℕ, length, true, false, Option, Some, None, refl, ap, sym, ◌∙◌, subst}, specs.{Prelude.{is_some, option_map, nat_eq}, HashMap.{get}}}
 use Rattle.hc_text.proofs.Basics.{false_true, none_of, same_some as same_row, some_inj as some_is}
 use Rattle.hc_effects.proofs.Vocabulary.{Limits, is_live, is_live_place, promised_bytes, Lawful, Awaits, IsAwaiting, Tables, Exchange}

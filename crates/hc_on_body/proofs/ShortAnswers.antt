@@ -1,4 +1,9 @@
 -- An exchange that ends with less than it promised is a failure, which is answered.
+--
+-- It promised a length, so what it founded has one, and the end tells none (`length_stays`). What is kept tells an end
+-- as it tells a close (`Ended`). So the end is an event that stops it, as in `StopAnswers`. There are three cases: past
+-- the store, the exchange of one reader, or one that writes for several. In each the failure of the tables is the one
+-- that the code made due (`short_answered`). `end` uses this.
 use Rattle.std.{proofs.{Common.{◌≡◌, ◌≢◌, inl, inr, ℕ, ◌<◌, ◌≤◌, List, [], ◌∷◌, length, Bool, true, false, Option, Some, None, refl, ap, sym, ◌∙◌, subst, arith}, lemmas.Bool.Decides.{nat_tests}}, specs.{Prelude.{is_some, nat_eq, nat_lt, option_map, ◌==◌, ◌&&◌, if◌then◌else◌}, Option.{option_or}}}
 use mathlib.Core.Path.{fun_ext}
 use Rattle.hc_text.proofs.Basics.{eqb-other, eqb-same, false_true, same_or, same_some as same_row}

@@ -1,4 +1,9 @@
 -- An end or a fault by which something fails is answered.
+--
+-- An event that stops an exchange seals what it brought, or loses it. `StopsBy` lists the effects of both, and
+-- `stopped_answered` makes the answer of them. Code and effects tell the tables in two ways, which the first lemmas
+-- equate. A fault is such an event past the store, of one reader, or of what is written for several (`fault_answered`).
+-- Before the head its consumer fails (`wait_answered`). `ShortAnswers` does the same for an end.
 use Rattle.std.{proofs.{Common.{◌≡◌, inl, inr, ℕ, ◌<◌, List, [], ◌∷◌, ◌++◌, Bool, true, false, Option, Some, None, refl, ap, sym, ◌∙◌, subst}, lemmas.List.{append-nil}}, specs.Prelude.{is_some, nat_eq, option_map, ◌==◌, ◌||◌, if◌then◌else◌}}
 use mathlib.Core.Path.{fun_ext}
 use Rattle.hc_text.proofs.Basics.{eqb-other, eqb-same, false_true, or_false as or_none, same_or, same_some as same_row}

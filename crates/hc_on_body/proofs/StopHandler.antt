@@ -1,4 +1,9 @@
 -- An exchange stops with less than it should have brought: who reads from it, and that it may be closed.
+--
+-- By the laws there are three kinds of readers (`ReadBy`). These are its consumer past the store, one bound reader
+-- whose own it is, or all for whom it writes. The code finds the same ones (`read_by`). In each case a failure is due
+-- to them, and the exchange may be closed (`may_stop_..`). The one bound reader has the work: nothing is held for it.
+-- `breaks_off` joins the cases for `break_off`.
 use Rattle.std.{proofs.{Common.{◌≡◌, ◌≢◌, ℕ, ◌+◌, ◌-◌, ◌<◌, ◌≤◌, ◌^◌, List, [], length, Bool, true, false, Option, Some, None, refl, ap, sym, ◌∙◌, subst, arith}, lemmas.{Bool.Decides.{nat_tests}, List.{drop_all}}}, specs.{Prelude.{is_some, nat_eq, nat_le, drop, unwrap_or, option_map, ◌&&◌, ◌==◌, if◌then◌else◌}, HashMap.{get}}}
 use Rattle.hc_text.proofs.Basics.{eqb-same, false_true, same_some as same_row, and_off as then_false}
 use Rattle.hc_store.specs.declared.backend.Backend.{Ghosts}

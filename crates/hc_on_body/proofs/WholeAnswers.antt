@@ -1,4 +1,9 @@
 -- An exchange that ends, whose head told no length, is answered.
+--
+-- Nothing is short then, so no failure is due (`unfailing`). Past the store only its consumer learns the length
+-- (`past_answered`). What it founded begins at byte 0 and is all stored (`measured`). It may be gone before, be sealed
+-- as whole, or be lost as the seal fails. What isn't gone is written for several, so nobody goes on alone. The code
+-- loses it before its length is told, and the tables after, which is the same (`lost_whole`). `end_whole` uses these.
 use Rattle.std.{proofs.{Common.{◌≡◌, ◌≢◌, inl, inr, ℕ, ◌<◌, ◌≤◌, ◌^◌, List, [], ◌∷◌, length, Bool, true, false, Option, Some, None, refl, ap, sym, ◌∙◌, subst, arith}, lemmas.{Bool.Decides.{nat_tests}, List.{append-nil}}}, specs.{Prelude.{is_some, nat_eq, option_map, ◌==◌, ◌||◌, ◌&&◌, if◌then◌else◌}, Option.{option_or}}}
 use mathlib.Core.Path.{fun_ext}
 use Rattle.hc_text.proofs.Basics.{any_none, eqb-other, eqb-same, false_true, same_or, same_some as same_row, some_inj as some_is, and_off as then_false}

@@ -1,4 +1,9 @@
 -- An exchange ends whose head told no length: what came is all. What is kept represents that.
+--
+-- First the exchange is over and ended; then what it founded has that length. Whatever doesn't look at the length is
+-- told as before (`told_longer`), so exchanges, keys and other entries stay. Who is bound learns where the body ends
+-- (`one_knows`): that has the work. Its entry is sealed with the length, or is gone and doesn't tell it. `stands_whole`
+-- joins this with the entries; `stands_past` is for an exchange past the store. `WholeAnswers` uses both.
 use Rattle.std.{proofs.Common.{◌≡◌, ◌≢◌, inl, inr, ℕ, List, length, Bool, true, false, Option, Some, None, refl, ap, sym, ◌∙◌, subst}, specs.{Prelude.{is_some, nat_eq, filter, option_map, if◌then◌else◌}, Option.{option_or}, HashMap.{get}}}
 use Rattle.hc_text.proofs.Basics.{eq_tells, eqb-other, eqb-same, false_true, filters_same, finds_same, same_or, same_some as same_row, and_off as then_false}
 use Rattle.hc_effects.proofs.Vocabulary.{Limits, Response, Place, BoundBy, current, is_number, is_usable, total_in, at_end, with_exchange, with_length, family, promised_bytes, kind_of, is_growing, is_complete, covers_all, brings_to, Lawful, bound, is_bound, is_bound_place, base_in, end_in, end_of_direct, lo_of, hi_of, with_total_if_none, Tables, Exchange, Representation, status_in}

@@ -1,4 +1,9 @@
 -- The loop of a doom, in ascending order of exchanges: which exchange is closed next, and what was closed so far.
+--
+-- The next one is the least, not below `from`, that a seat waits for or that is refused. It is found by a loop over the
+-- seats (`none_seen`, `more_seen`, `all_seen`). By `ClosesBelow` just those below `from` are closed. Each next one goes
+-- to the end of an ascending list, so none is closed twice (`one_closed`). Where there is no next, all are
+-- (`all_closed`). Invariants and answers of `next_to_close` and `close_awaited` use these.
 use Rattle.std.{proofs.{Common.{◌≡◌, ◌≢◌, ◌⊎◌, inl, inr, ℕ, ◌+◌, ◌<◌, ◌≤◌, List, [], ◌∷◌, ◌++◌, length, min, Bool, true, false, cond, eqb, leb, Option, Some, None, refl, ap, sym, ◌∙◌, subst, arith, length-append}, lemmas.{Bool.Decides.{nat_tests}, List.{append_assoc, append-nil}}}, specs.{Prelude.{map, nat_eq, nat_le, option_and_then, ◌||◌}, HashMap.{get}}}
 use Rattle.hc_text.proofs.Basics.{eqb-other, eqb-same, false_true, same_or, some_inj as some_is}
 use Rattle.hc_store.specs.declared.backend.Backend.{Ghosts}

@@ -1,4 +1,9 @@
 -- What the case of a head looks at is what the tables say.
+--
+-- The code looks at need and request of the exchange, whether its consumer was shown a head, and the entry that it is
+-- about. Whether a 206 joins has the work. Tag and length are told of the entry, unless it is gone and all of it came.
+-- Then no hole is left, so neither joins (`no_hole_left`, `joins_same`). `view_is` joins these; `case_is` is for all
+-- cases but a 304 that selects.
 use Rattle.std.{proofs.{Common.{◌≡◌, ◌≤◌, ◌<◌, ℕ, List, [], Bool, true, false, Option, Some, None, refl, ap, ap₂, sym, ◌∙◌, subst, arith}, lemmas.Bool.Decides.{nat_tests}}, specs.{Prelude.{codes, is_some, nat_eq, nat_le, option_and_then, option_map, ◌==◌, if◌then◌else◌}, Option.{IfSome}, HashMap.{get}}}
 use Rattle.hc_text.proofs.Basics.{eqb-same, false_true, some_inj as some_is}
 use Rattle.hc_effects.proofs.Vocabulary.{Limits, Need, Request, Response, RequestClass, HeadCase, HeadView, head_case, is_conditional, is_storable, fits_to_found, length_of, is_bad, content_range_in, content_range_of, class_of, range_of, Route, route_of, BoundBy, joins_by, joins_row, fits_asker, was_shown, head_view, row_of, IsAwaiting, bound, is_bound, InHole, Tables, Exchange, Representation}

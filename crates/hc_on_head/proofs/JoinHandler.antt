@@ -1,4 +1,9 @@
 -- A head that joins is answered.
+--
+-- `join_of` says what the code looked up: consumer, exchange, representation and entry. Where that was lost before,
+-- only the exchange changes (`past_answered`). Else the stored head is renewed, and `JoinRows` has the rest. Its
+-- consumer reads it alone, or shares it if it resumes a download (`stands_alone`, `stands_shared`). Where the renewal
+-- fails, it is lost to this consumer, its exclusive writer (`lost_answered`). `join` uses all.
 use Rattle.std.{proofs.{Common.{◌≡◌, ◌≢◌, inl, inr, ℕ, ◌+◌, ◌<◌, List, [], ◌∷◌, ◌++◌, Bool, true, false, Option, Some, None, refl, ap, ap₂, sym, ◌∙◌, subst}, lemmas.List.{append-nil}}, specs.{Prelude.{is_some, IsSomeAnd, nat_eq, not, option_map, ◌||◌, ◌==◌, if◌then◌else◌}, HashMap.{get, hash_map_len}}}
 use mathlib.Core.Path.{fun_ext}
 use Rattle.hc_text.proofs.Basics.{eqb-other, eqb-same, false_true, same_or}

@@ -1,4 +1,9 @@
--- What a head that joins was opened about is kept; and a 304 isn't said to select what is stored before that is looked at.
+-- What a head that joins is about is kept; and no case says yet that a 304 selects what is stored.
+--
+-- By its case a head that joins brings bytes of a hole of what is named, and nothing joins what isn't kept. So there is
+-- an aim, and it is kept (`joins_aim`, `aim_kept`). The code tells the case before it looks whether a 304 selects, so
+-- that case isn't among them (`unvalidated_as`). `fits_as` joins what each case says, by the lemmas of `HeadTold`: the
+-- head is good, founds, joins, or its consumer waits in its key. `take_head` and `take_case` use these.
 use Rattle.std.{proofs.Common.{◌≡◌, ◌⊎◌, inl, inr, ℕ, true, false, Option, Some, None, refl, ap, sym, ◌∙◌, subst}, specs.{Prelude.{is_some, IsSomeAnd, nat_eq, option_map}, HashMap.{get}}}
 use Rattle.hc_text.proofs.Basics.{false_true}
 use Rattle.hc_store.specs.declared.backend.Backend.{Ghosts}

@@ -1,4 +1,9 @@
 -- Whether an exchange brings all that is missing, for who asks for the whole, is what the tables say.
+--
+-- Four tests tell it: the request has no range, the part is the last one, all before it is stored, and nothing else is.
+-- The entry of what isn't lost has the same bytes, as many, and tells the length, so each test is the same
+-- (`resumes_is`). The code joins the last three (`lacks_is`), and asks for them only if there is no range. With one the
+-- exchange doesn't resume (`resumes_not`); else it does just where they hold (`resumes_as`). `resumes` uses these.
 use Rattle.std.{proofs.{Common.{◌≡◌, ℕ, Bool, true, false, Option, Some, None, refl, ap, sym, ◌∙◌, subst, arith}, lemmas.Bool.Decides.{nat_tests}}, specs.{Prelude.{is_some, is_none, nat_eq, option_map, ◌&&◌, ◌==◌, ◌↔◌, IsTrue}, HashMap.{get}}}
 use Rattle.hc_text.proofs.Basics.{eqb-same, false_true, some_inj as some_is}
 use Rattle.hc_effects.proofs.Vocabulary.{Limits, Response, RequestClass, content_range_of, class_of, covers, asks_whole, hole_start, is_last_part, resumes, Tables, Exchange, Representation}

@@ -1,4 +1,9 @@
 -- The head of an exchange came that brings bytes of a hole: what is kept represents the tables then.
+--
+-- `IsJoinable` says of what: an open exchange without head or bytes, of a consumer that is bound and reads on from it.
+-- What looks at neither the exchange of the consumer, nor the head and writer of the representation, is told as before.
+-- So other consumers, exchanges and keys stay. Nothing is held of the exchange, since nothing came. Its consumer waits
+-- in its key no more, which has the work (`key_then`). `stands_joined` takes the entries from `JoinEntries`.
 use Rattle.std.{proofs.Common.{◌≡◌, ◌≢◌, ◌⊎◌, inl, inr, ℕ, ◌-◌, List, [], Bool, true, false, Option, Some, None, refl, ap, sym, ◌∙◌, subst}, specs.{Prelude.{is_some, nat_eq, drop, bytes_eq, option_map, ◌&&◌, if◌then◌else◌}, HashMap.{get}}}
 use Rattle.hc_text.proofs.Basics.{eqb-other, eqb-same, finds_same, same_or, and_off as then_false}
 use Rattle.hc_effects.proofs.Vocabulary.{Limits, Response, Length, length_of, base_of, promise_of, Place, BoundBy, current, is_usable, is_number, total_in, is_live, is_live_place, exchange_with_head, with_answer, with_consumer, with_representation, promise_in, base, family, is_headless, is_reached, is_in_line, stands_in_line, has_passed, is_bound_place, Tables, Exchange, Representation, Among}

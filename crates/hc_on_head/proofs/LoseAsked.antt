@@ -1,4 +1,9 @@
 -- What is kept still once whoever asked by a 304 stands in line again: what is current, and what writes it for several.
+--
+-- Who waits in its key waits to found or to join, so it may be sent back in line (`awaits_it`). Then the rows represent
+-- tables in which what is current isn't gone, so it is kept still (`kept_still`). The exchange that writes it has a
+-- head, so it isn't the one that was heard and closed: it is open still (`open_still`). `lose_asked` needs both before
+-- it loses what is current.
 use Rattle.std.{proofs.Common.{◌≡◌, ◌≢◌, ℕ, List, Bool, true, false, Option, Some, None, refl, ap, sym, ◌∙◌, subst}, specs.{Prelude.{is_some, nat_eq, bytes_eq, not, IsSomeAnd, ◌||◌, if◌then◌else◌}, HashMap.{get}}}
 use Rattle.hc_text.proofs.Basics.{false_true, same_some as same_row, and_off as then_false}
 use Rattle.hc_effects.proofs.Vocabulary.{Limits, Request, route_of, head_refusal, BoundBy, back_in_line, with_consumer, is_headless, StandsFor, is_in_line, stands_in_line, has_passed, Tables, Exchange, Representation, awaited_exchange}

@@ -1,4 +1,9 @@
 -- The head of a representation is renewed: what is kept represents the tables then.
+--
+-- An update changes fields and moments of a head, and no length, status or key. So what looks at none of these is told
+-- as before (`told_same`): consumers, what is held, what is current, and other entries. Its own entry has the same
+-- fields and moments, since the code updates it by the same rule from the same opening (`entry_renewed`).
+-- `stands_renewed` joins these; `TurnHandler` uses it for a 304 that selects.
 use Rattle.std.{proofs.Common.{◌≡◌, ◌≢◌, inl, inr, ℕ, List, Option, Some, None, refl, ap, sym, ◌∙◌, subst}, specs.{Prelude.{is_some, nat_eq, option_map}, HashMap.{get, hash_map_len}}}
 use Rattle.hc_text.proofs.Basics.{eqb-other, eqb-same, filters_same, finds_same, same_or}
 use Rattle.hc_effects.proofs.Vocabulary.{Limits, Response, current, is_usable, total_in, with_representation, with_refreshed_head, family, kind_of, bound, Tables, Exchange, Representation, status_in}

@@ -1,4 +1,9 @@
 -- A 304 that may be about what is stored: it is answered.
+--
+-- A 304 has no body, so its exchange is over with it, and by its case the consumer has the turn (`at_turn`). Where what
+-- it is about is still current, the entry tells whether it is selected (`tells_selected`). If so, the head is renewed
+-- and the consumer let through (`validated_answered`). If not, the rows stay, and it is answered as other heads are
+-- (`answered_on`). `validate` joins these; where the store fails, `LoseTurn` has it.
 use Rattle.std.{proofs.{Common.{◌≡◌, inl, inr, ℕ, ◌≤◌, List, [], ◌∷◌, ◌++◌, Bool, true, false, Option, Some, None, Result, Ok, refl, ap, ap₂, sym, ◌∙◌, subst, arith}, Math.Logic.{∥∥₁_map}, lemmas.Bool.Decides.{nat_tests}}, specs.{Prelude.{is_some, IfOk, IsSomeAnd, nat_eq, map, option_map, not, ◌||◌, if◌then◌else◌}, HashMap.{get}}}
 use Rattle.hc_text.proofs.Basics.{eqb-other, eqb-same, false_true, same_or}
 use Rattle.hc_store.specs.declared.{backend.Backend.{Ghosts}, error.StoreError.{StoreError}}

@@ -1,4 +1,9 @@
 -- Who waits for a key that is doomed: where it stood, and that it is bound to nothing once it starts over.
+--
+-- A consumer isn't there, waits for the key and is kept in its line, stands beside that line, or doesn't wait for the
+-- key (`Stood`). Its place tells which (`by_place`): it waits in line, with the turn, let through, or before a first
+-- hole. By the laws such a request waits with others. So whoever is kept in the line waits (`waits_of`), and starts
+-- over (`starts_over`). The other files on dooms use these.
 use Rattle.std.{proofs.Common.{◌≡◌, ℕ, List, Bool, true, false, Option, Some, None, refl, ap, sym, ◌∙◌}, specs.Prelude.{bytes_eq, not, option_map, ◌&&◌, ◌||◌}}
 use Rattle.hc_text.proofs.Basics.{false_true, and_off as then_false}
 use Rattle.hc_effects.proofs.Vocabulary.{is_disabled, is_only, Place, back_in_line, is_live_place, sent_back, is_headless, Lawful, is_in_line, Queues, Tables, waits_at}

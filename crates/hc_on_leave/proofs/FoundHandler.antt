@@ -1,4 +1,9 @@
 -- A head that founds is answered, where the store takes what it founds, and where it refuses that.
+--
+-- The code has its consumer read past the store first, then lets go what is replaced and what is current, and makes
+-- room. By these steps the tables have room as the rules say, and one gives way at most (`one_way`). Nothing has the
+-- number of what is founded yet (`m_fresh`), so `FoundRows` applies (`founds_answered`). Where the store refuses, the
+-- consumer reads on past it, and the loss is of a kind that the room allows (`lost_answered`). `found` uses both.
 use Rattle.std.{proofs.{Common.{◌≡◌, ◌≢◌, ◌⊎◌, inl, inr, ℕ, ◌+◌, ◌<◌, ◌≤◌, List, [], ◌∷◌, ◌++◌, Bool, true, false, Option, Some, None, refl, ap, ap₂, sym, ◌∙◌, subst, arith}, lemmas.{Bool.{cases_Bool, Decides.{nat_tests}}, List.{append_assoc}}}, specs.{Prelude.{◌==◌, ◌&&◌, not, is_some, nat_eq, nat_le, filter, map, option_map, unwrap_or, if◌then◌else◌}, HashMap.{get}, Option.{option_or}}}
 use Rattle.hc_text.proofs.Basics.{eqb-other, eqb-same, false_true, same_or, some_inj as some_is}
 use Rattle.hc_store.specs.declared.backend.Backend.{Ghosts}

@@ -1,4 +1,9 @@
--- An exchange founds a representation for the one that reads it past the store: what is kept represents the tables then.
+-- An exchange founds a representation for its one reader past the store: what is kept represents the tables then.
+--
+-- Nobody else reads the exchange, and nothing has its number yet (`IsUnfounded`). So all other rows stay: of them
+-- nothing is held otherwise, other keys say the same, and other entries keep their users. The work is its own items.
+-- The consumer is bound now, the exchange brings a body, the key has it as current, and its entry is new
+-- (`began_kept`). `founded_stands` joins them for `FoundHandler`.
 use Rattle.std.{proofs.{Common.{◌≡◌, ◌≢◌, ◌⊎◌, inl, inr, ℕ, List, [], ◌∷◌, Bool, true, false, Option, Some, None, refl, ap, ap₂, sym, ◌∙◌, subst, arith}, lemmas.Bool.Decides.{nat_tests}}, specs.{Prelude.{◌==◌, ◌&&◌, ◌||◌, not, nat_eq, bytes_eq, filter, find, is_some, if◌then◌else◌}, HashMap.{get}, List.{list_any}, Option.{option_or}}}
 use Rattle.hc_text.proofs.Basics.{any_none, eqb-other, eqb-same, false_true, never_true as not_true, same_or, some_inj as some_is}
 use Rattle.hc_effects.proofs.Vocabulary.{Limits, Need, Request, Response, Length, length_of, base_of, promise_of, content_range_of, Place, BoundBy, current, is_number, is_usable, total_in, is_live, exchange_with_head, just_founded, with_consumer, with_founding, promise_in, family, is_reached, founded_total, total_of_part, varied_by, kind_of, is_growing, brings_to, is_bound, is_bound_place, Tables, Exchange, Representation, Among, came_alone, is_in_line}

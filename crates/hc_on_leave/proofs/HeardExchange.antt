@@ -1,4 +1,9 @@
--- An exchange of which nothing came yet is another: what is kept by key, of representations and of other exchanges stays.
+-- An exchange of which nothing came yet is another: keys, representations and other exchanges are kept as before.
+--
+-- Without bytes nothing of it is held (`held_empty`), and of every other exchange as much as before. Nobody waits for
+-- its head bound by a first hole (`IsBare`), so of each key the same is said. It founded and joined nothing, before and
+-- after, so it brings nothing of what is there: every entry keeps its kind (`entries_heard`). The files on heads past
+-- the store, and on those that found or are refused, use these.
 use Rattle.std.{proofs.Common.{◌≡◌, ◌≢◌, inl, inr, ℕ, zero, suc, List, [], Bool, true, false, Option, Some, None, refl, ap, sym, ◌∙◌, subst}, specs.Prelude.{nat_eq, drop, bytes_eq, ◌&&◌}}
 use Rattle.hc_text.proofs.Basics.{eqb-other, eqb-same, same_or, and_off as then_false}
 use Rattle.hc_stored.specs.Shelf.{Shelf}

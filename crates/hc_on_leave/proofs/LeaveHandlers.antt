@@ -1,4 +1,9 @@
 -- Who is cancelled, ends or fails: the event is answered.
+--
+-- `HasLeft` has two cases. Either nothing failed: the effect of the event says its acts, which show no flaw
+-- (`flawless`, `shows`), and the rows represent its tables. Or a seal failed: then it is the effect with that loss, and
+-- what is lost is what the event seals, which was kept before. A cancel tells nothing first, the two polls tell an end
+-- or a failure (`poll_answered`). The functions `cancel`, `end_reading` and `fail` use these.
 use Rattle.std.{proofs.{Common.{◌≡◌, ℕ, List, [], ◌∷◌, ◌++◌, Bool, true, false, Some, None, refl, ap, sym, ◌∙◌}, lemmas.List.{append_assoc}}, specs.Prelude.{nat_eq, map, ◌||◌}}
 use Rattle.hc_text.proofs.Basics.{false_true}
 use Rattle.hc_store.specs.declared.backend.Backend.{Ghosts}

@@ -1,4 +1,9 @@
 -- A representation is let go: the rows represent the tables without it.
+--
+-- A consumer is of three kinds: it isn't there, it was let through to this one, or it stays (`Stood`). The second kind
+-- has the work. The code looks for it in the line of the key, and puts it back as the tables do (`started_over`). Its
+-- key has no current one then, and of other keys the same is said. The entry is marked as gone, or dropped where nobody
+-- is bound. `stands_without` joins this; `let_go` uses the last two lemmas, for what is usable and for what isn't.
 use Rattle.std.{proofs.{Common.{◌≡◌, ℕ, List, Bool, true, false, cond, Option, Some, None, refl, ap, sym, ◌∙◌, subst, arith}, lemmas.Bool.Decides.{nat_tests}}, specs.{Prelude.{is_some, nat_eq, bytes_eq, option_map, option_and_then, not, ◌&&◌, ◌||◌, ◌==◌, if◌then◌else◌}, HashMap.{get}}}
 use Rattle.hc_text.proofs.Basics.{eqb-same, false_true, mapped, some_inj as some_is, and_off as then_false}
 use Rattle.hc_effects.proofs.Vocabulary.{Limits, Place, back_in_line, current, is_usable, total_in, is_live, as_gone, let_go, unless_it, family, MayLetGo, is_in_line, holds_turn, Queues, has_passed, Tables, Exchange, Representation, status_in}

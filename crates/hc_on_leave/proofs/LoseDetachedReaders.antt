@@ -1,4 +1,9 @@
 -- Who goes on with what several read together is whom the tables name, and nothing is held for it yet.
+--
+-- The tables name the least of those who are bound and stand where all that came ends. The code looks for the least in
+-- a loop over who is bound (`takes_next`, `leaves_next`), and both lists have the same members (`members_in`). Since it
+-- stands at the end, no byte of its exchange is left that isn't stored for it (`nothing_held`). `loses_shared` joins
+-- these with `stands_parted` of `LoseParts` and the loss of the entry, for `lose_shared`.
 use Rattle.std.{proofs.{Common.{◌≡◌, inl, inr, ℕ, ◌+◌, ◌-◌, ◌<◌, ◌≤◌, List, [], ◌∷◌, ◌++◌, length, drop, take, get_or, min, Bool, true, false, cond, Option, Some, None, refl, ap, ap₂, sym, ◌∙◌, subst, arith}, lemmas.{Bool.{cases_Bool, Decides.{nat_tests}}, List.{append-nil, drop_all, take_more, Elements.{filter-append}}}}, specs.{Prelude.{is_some, is_none, nat_eq, filter, map, option_map, ◌&&◌, ◌||◌, ◌==◌, if◌then◌else◌}, HashMap.{get}}}
 use Rattle.hc_text.proofs.Basics.{eqb-same, false_true, same_some as same_row, and_off as then_false}
 use Rattle.hc_effects.proofs.Vocabulary.{Limits, Member, least, lesser, Place, is_number, is_live_place, if_bound, left_with, let_go, lost_to, with_representation, writing_lost, base, front, family, MayLetGo, bound, is_bound, is_bound_place, offset, lo_of, Tables, Exchange, Representation, survivor, member, offset_in}

@@ -1,4 +1,9 @@
 -- What a 304 may be about can't be read or updated: it is lost, and whoever asked starts over. That is answered.
+--
+-- First a loss of what is written for several: its exchange is closed where nobody goes on (`loses_on`, `loses_out`).
+-- The code hears the head and moves its consumer before it loses, and the tables after. That is no matter, as that
+-- consumer isn't bound: the same one goes on in both (`survivor_same`). `alone_answered` is the case where nothing is
+-- written for several; in `written_answered` the exchange that writes is another one. `lose_asked` uses both.
 use Rattle.std.{proofs.{Common.{◌≡◌, ◌≢◌, inl, inr, ℕ, ◌<◌, List, [], ◌∷◌, ◌++◌, Bool, true, false, Option, Some, None, refl, ap, ap₂, sym, ◌∙◌, subst}, lemmas.List.{append-nil}}, specs.Prelude.{is_some, is_none, nat_eq, map, option_map, not, ◌&&◌, ◌||◌, ◌==◌, if◌then◌else◌}}
 use mathlib.Core.Path.{fun_ext}
 use Rattle.hc_text.proofs.Basics.{eqb-other, eqb-same, false_true, same_or, same_some as same_row, and_off as then_false}

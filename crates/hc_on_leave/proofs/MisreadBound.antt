@@ -1,4 +1,9 @@
 -- What a consumer is bound to can't be read: it fails, what nobody reads any more is closed, and that is let go.
+--
+-- What it leaves is about what it was to read (`left_about`). So if that goes with the closed exchange, it is the same
+-- one, and goes once (`going_is`). The code lets it go before it closes the exchange, and the tables after. What isn't
+-- gone isn't brought by that exchange, so this is no matter (`apart`, `same_closed`). `misread_by` uses the two cases:
+-- an exchange is left (`misread_closing`), or none (`misread_alone`).
 use Rattle.std.{proofs.{Common.{◌≡◌, ◌≢◌, ℕ, ◌<◌, List, [], ◌∷◌, ◌++◌, Bool, true, false, Option, Some, None, refl, ap, sym, ◌∙◌, subst, arith}, lemmas.Bool.Decides.{nat_tests}}, specs.Prelude.{is_some, nat_eq, map, option_map, ◌||◌, ◌&&◌, if◌then◌else◌}}
 use Rattle.hc_text.proofs.Basics.{eqb-other, eqb-same, false_true, or_left as or_first, same_some as same_row, some_inj as some_is, and_off as then_false}
 use Rattle.hc_store.specs.declared.backend.Backend.{Ghosts}

@@ -1,4 +1,9 @@
 -- A piece is answered that isn't stored: what is kept represents the tables then.
+--
+-- First what it means that a piece isn't denied. Its exchange is open and has its head, and no more comes than that
+-- promised (`not_too_long`, `brought_of`, `runs_of`). Whether it brings something is told by its role (`brings_it`,
+-- `brings_none`). All files on pieces use these. Past the store its one reader has read no more than came, so what is
+-- held for it grows by just the piece (`held_then`). By `PieceRows` that is answered.
 use Rattle.std.{proofs.{Common.{◌≡◌, ℕ, ◌+◌, ◌<◌, ◌≤◌, ◌^◌, List, [], ◌++◌, length, drop, Bool, true, false, cond, Option, Some, None, refl, ap, sym, ◌∙◌, subst, arith}, lemmas.{Bool.Decides.{nat_tests}, List.{append-nil, drop-append-le}}}, specs.Prelude.{is_some, is_none, nat_lt, not, option_map, ◌==◌}}
 use Rattle.hc_text.proofs.Basics.{eqb-same, false_true, never_true as not_true, not_false as on_by, same_some as same_row, some_inj as some_is}
 use Rattle.hc_effects.proofs.Vocabulary.{Limits, Act, Refusal, piece_refusal, overlong, denial, as_open, entry_without_acts, with_piece, family, promised_bytes, base, Lawful, Numbers, Tables, Exchange, Representation, write_in}

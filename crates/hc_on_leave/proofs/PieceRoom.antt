@@ -1,4 +1,9 @@
 -- What gives way to a piece is what is idle before it, and what the piece is of isn't among that.
+--
+-- A piece lets nothing go by itself. So the same is idle at the piece as now, and weighs as much: the room is the same
+-- (`room_same`, `gives_same`). What an open exchange brings is read by somebody, so it isn't idle (`spared`). That room
+-- may be made is a fact of the run (`may_make_room`). Where the store took the bytes there was room, since they fit the
+-- limits (`room_there`). `StoreHandler`, `GrowHandler` and `FoundHandler` use these.
 use Rattle.std.{proofs.{Common.{◌≡◌, ◌≢◌, inl, inr, ℕ, zero, suc, ◌+◌, ◌≤◌, List, [], ◌∷◌, length, take, Bool, true, false, Option, Some, None, refl, ap, sym, ◌∙◌, arith}, lemmas.Bool.Decides.{nat_tests}}, specs.{Prelude.{is_some, nat_eq, nat_le, nat_lt, filter, map, reverse, not, ◌==◌, ◌&&◌, ◌||◌, if◌then◌else◌}, List.{sum_by}}}
 use mathlib.Core.Path.{fun_ext}
 use Rattle.hc_text.proofs.Basics.{and_true, eqb-other, false_true, or_off_left as or_first, same_or, and_off as then_false}

@@ -1,4 +1,9 @@
 -- A piece is stored, by what the code did: it is answered.
+--
+-- A piece that isn't denied is of an open exchange with its head (`stores_of`). What that brings has a reader, so it
+-- gave no way. It is still kept, and nothing stands where the bytes go, as the store asks. Where the store took them,
+-- `StoredPiece` answers. Where it refused them, the kind of loss has the work: the entry is too large, the store is
+-- full, or a call failed (`refuses_it`). `store_piece` uses the last module.
 use Rattle.std.{proofs.{Common.{◌≡◌, ◌≢◌, ℕ, ◌+◌, ◌<◌, ◌≤◌, ◌^◌, List, [], ◌++◌, length, max, Bool, true, false, Option, Some, None, refl, ap, sym, ◌∙◌, subst, arith}, Math.{Logic.{∥∥₁_elim}, Seq.{take-append_seam}}}, specs.Prelude.{is_some, not, map, option_map, ◌&&◌, if◌then◌else◌, take}}
 use Rattle.hc_store.specs.declared.backend.Backend.{Ghosts}
 use Rattle.hc_sparse.specs.Cells.{Cell, Cells, AreAbsent, EndsBy, cells_with, size}

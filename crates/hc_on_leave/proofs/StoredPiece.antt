@@ -1,4 +1,9 @@
 -- A piece is stored, after what is idle made room for it: what is kept represents the tables then.
+--
+-- The entry that grows has the work (`entry_then`): its bytes are as those of the tables, and its length is told. Its
+-- kind stays that of what grows, unless these bytes are the last. No other exchange brings it, so it stops then, and
+-- the kind that is left was stored with them. Letting go and storing are of different representations, so their order
+-- is no matter (`tables_are`). By `PieceRows` the rest follows; `stored_answered` is what `StoreHandler` uses.
 use Rattle.std.{proofs.Common.{◌≡◌, ◌≢◌, inl, inr, ℕ, ◌+◌, ◌-◌, ◌<◌, ◌≤◌, ◌⊎◌, List, [], ◌∷◌, ◌++◌, length, max, Bool, true, false, Option, Some, None, refl, ap, sym, ◌∙◌, subst, arith}, specs.Prelude.{is_some, nat_eq, not, slice_index, map, option_map, ◌==◌, ◌&&◌, if◌then◌else◌}}
 use mathlib.Core.Path.{fun_ext}
 use Rattle.hc_text.proofs.Basics.{eqb-other, eqb-same, false_true, any_none as none_passes, never_true as not_true, same_or, some_inj as some_is}

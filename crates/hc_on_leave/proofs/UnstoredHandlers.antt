@@ -1,4 +1,9 @@
 -- Heads of which nothing is stored are answered.
+--
+-- A type lists the cases that the code treats alike, and an effect says for each what the tables become. At a bad head
+-- who waits for it fails. Where what is stored isn't what was asked about, who waits starts over; where a head was
+-- shown already, a failure is due. Other answers go on past the store. That nobody reads the exchange (`IsUnread`), or
+-- this consumer alone (`IsReadAlone`), has the work. `take_case` and its parts use this.
 use Rattle.std.{proofs.{Common.{◌≡◌, ◌≢◌, ◌⊎◌, inl, inr, ℕ, List, [], ◌∷◌, ◌++◌, Bool, true, false, Option, Some, None, refl, ap, sym, ◌∙◌, subst}, lemmas.List.{append-nil}}, specs.Prelude.{is_some, map, ◌||◌, if◌then◌else◌}}
 use Rattle.hc_text.proofs.Basics.{eqb-other, eqb-same, false_true, same_or, same_some as same_row, some_inj as some_is}
 use Rattle.hc_store.specs.declared.backend.Backend.{Ghosts}

@@ -1,4 +1,9 @@
 -- Who writes what is stored alone, by what is kept, is who does by the tables.
+--
+-- That is who came alone, has no failure due, and has more to come. More is to come if an exchange of its own is open,
+-- or a byte before its known end isn't stored (`more_own`, `more_none`, `more_ahead`). The entry keeps who came alone,
+-- and the tables have that consumer (`alone_row`). What is written for several nobody writes alone
+-- (`exclusive_written`). `exclusive` and `has_more` use these, case by case.
 use Rattle.std.{proofs.{Common.{◌≡◌, ◌⊎◌, inl, inr, ℕ, ◌+◌, ◌<◌, ◌≤◌, ◌^◌, Bool, true, false, max, Option, Some, None, refl, ap, sym, ◌∙◌, subst, arith}, lemmas.Bool.Decides.{nat_tests}}, specs.{Prelude.{is_some, nat_eq, not, ◌&&◌, ◌↔◌, IsTrue}, Option.{option_and_then}, HashMap.{get}}}
 use Rattle.hc_text.proofs.Basics.{eqb-same, false_true, some_inj as some_is}
 use Rattle.hc_effects.proofs.Vocabulary.{Limits, Place, BoundBy, is_number, own_open, if_open, is_written, is_bound_place, offset, lo_of, Numbers, Tables, Representation, IsFirst, IsBound, exclusive, has_more, lacks_some, came_alone}

@@ -1,4 +1,9 @@
 -- What is stored ahead of a reader: as much as it wants, and not past its end.
+--
+-- The code reads a run of one exchange, cut where the reader stops. The tables look at the run of all that it wants,
+-- cut where the stored bytes end. Both begin at the same byte, so both are of one exchange, or neither is there
+-- (`none_ahead`). The longest run ends once, so the shorter one ends where the other does, or where the reader stops
+-- (`upto`, `cut`). `ahead` says it of the run that was read, for `BoundReads`.
 use Rattle.std.{proofs.{Common.{◌≡◌, inl, inr, ℕ, ◌+◌, ◌-◌, ◌<◌, ◌≤◌, length, min, true, false, Option, Some, None, refl, ap, sym, ◌∙◌, subst, arith}, lemmas.Bool.Decides.{nat_tests}}, specs.Prelude.{is_some, slice_index}}
 use Rattle.hc_text.proofs.Basics.{false_true, lt_or, some_inj as some_is}
 use Rattle.hc_sparse.specs.{Cells.{Cells, Cell, EndsBy}, Runs.{end_of}, Stretch.{stretch, IsLongest}, declared.run.Run.{Run}}

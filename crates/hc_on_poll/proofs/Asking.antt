@@ -1,4 +1,9 @@
 -- The next bytes of an exchange are asked for: what is kept represents the tables then.
+--
+-- An exchange that is asked has the same head, body, base and promised length. What looks at these alone sees no
+-- difference (`looks`): what is held, consumers, keys and entries. Of the exchange itself it is kept that it was asked
+-- (`exchange_bringing`). `stands_asked` joins this. Where it was asked already, neither the tables nor the rows change
+-- (`stands_asked_already`). `BoundGives` and `ReadPast` use both, for who asks or waits.
 use Rattle.std.{proofs.Common.{◌≡◌, ◌≢◌, inl, inr, ℕ, ◌+◌, ◌-◌, [], length, Bool, true, false, Option, Some, None, refl, ap, sym, ◌∙◌, subst}, specs.{Prelude.{nat_eq, bytes_eq, drop, option_map, ◌&&◌, if◌then◌else◌}, HashMap.{get, hash_map_len}}}
 use Rattle.hc_text.proofs.Basics.{eqb-other, eqb-same, same_or}
 use Rattle.hc_effects.proofs.Vocabulary.{Limits, Response, base_of, promise_of, Place, current, is_number, with_ask, to_bring, base, promised_bytes, family, is_headless, length_by, brings_to, absent_from, end_in, end_of_direct, base_in, lo_of, hi_of, offset, is_bound_place, Tables, Exchange, Representation}

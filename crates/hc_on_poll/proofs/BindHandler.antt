@@ -1,4 +1,9 @@
 -- A consumer is bound to what is current by its plan, and shown its head.
+--
+-- It read nothing, and is bound and shown a head now: its row is rebuilt (`bound_kept`), and in its key it waits no
+-- more. By `BoundHandler` nothing is held otherwise, and the entry has one user more. All else stays by `stands_then`,
+-- since no exchange changes (`stands_bound`). What is shown is the part that the plan says of the stored length, which
+-- is that of the tables (`shows_told`, `part_ends`, `current_total`). `bind` uses `bind_answered`.
 use Rattle.std.{proofs.Common.{◌≡◌, ◌≢◌, ℕ, ◌+◌, List, ◌∷◌, [], ◌++◌, Bool, true, Option, Some, None, refl, ap, sym, ◌∙◌, subst, arith, inl, inr}, specs.{Prelude.{nat_eq, is_some, option_map}, HashMap.{get}, Option.{option_or}}}
 use Rattle.hc_store.specs.declared.backend.Backend.{Ghosts}
 use Rattle.hc_entry.specs.Keys.{kept_of}

@@ -1,4 +1,9 @@
--- Who is bound is given what is stored ahead of it, or what is held for it, or waits for more: what is kept represents the tables then.
+-- A bound reader is given what is stored ahead or held for it, or waits for more: the rows represent the tables then.
+--
+-- In all three cases only the consumer's count of bytes changes, or that an exchange is asked. What is held has the
+-- work. If stored bytes are given, what is held for the reader stays: its first lacking byte is past them all the same
+-- (`lacks_same`). If held bytes are given, nothing behind them is stored, so just these go (`lacking`). More bytes are
+-- asked for by `Asking`. `ReadOn` uses the three lemmas `.._answered`.
 use Rattle.std.{proofs.{Common.{◌≡◌, ◌≢◌, inl, inr, ℕ, zero, suc, ◌+◌, ◌-◌, ◌<◌, ◌≤◌, List, [], ◌++◌, length, drop, take, min, Bool, true, false, Option, Some, None, refl, ap, ap₂, sym, ◌∙◌, subst, arith}, Math.ListN.{drop_of_length-le}, lemmas.{Bool.Decides.{nat_tests}, Grind.{common_steps}}}, specs.{Prelude.{is_some, is_none, nat_eq, ◌&&◌, if◌then◌else◌}, HashMap.{get}}}
 use Rattle.hc_text.proofs.Basics.{and_both as both_true, eqb-other, eqb-same, false_true, lt_cases as lt_or, same_or, same_some as same_row}
 use Rattle.hc_effects.proofs.Vocabulary.{Limits, Act, Event, BoundBy, is_number, Does, with_consumer, with_ask, with_event, base, front, family, NoFlaw, first_place, absent_from, Gives, Asks, acts_of, move_of, is_bound_place, lo_of, offset, Tables, Exchange, Representation}

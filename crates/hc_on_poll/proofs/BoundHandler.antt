@@ -1,4 +1,9 @@
--- A consumer that read nothing becomes bound to what is current: what is held, and the representations, represent the tables then.
+-- A consumer that read nothing is bound to what is current: what is held and the entries represent the tables then.
+--
+-- What is current isn't lost, so nobody goes on alone with it, and nothing is held for its new reader (`held_bound`).
+-- Every other entry has the users that it had. Its own has one more: by a plan (`entry_with`), or as the one that came
+-- alone, where nobody did (`entry_first`). It is the last one used then, so the order has the work: filtering and
+-- moving to the front may be swapped (`entries_bound`). `BindHandler` and `FirstHandler` use these.
 use Rattle.std.{proofs.Common.{◌≡◌, ◌≢◌, inl, inr, ℕ, List, [], ◌∷◌, Bool, true, false, Option, Some, None, refl, ap, sym, ◌∙◌, subst}, specs.Prelude.{filter, not, option_map, ◌==◌, ◌&&◌}}
 use Rattle.hc_text.proofs.Basics.{eqb-other, eqb-same, false_true, same_or, same_some as same_row, and_off as then_false}
 use Rattle.hc_sorted.specs.Sorted.{has, with_item, without}

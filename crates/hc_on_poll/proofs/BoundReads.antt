@@ -1,4 +1,9 @@
 -- Polls of who is bound and was shown its head: the step of what is looked at is the move of the tables.
+--
+-- `BoundViews` says that both look at the same, but for how far they read ahead, which makes no other step
+-- (`SeesAhead`). Each step is then read back to what was seen, and gives its move. A hole has the work. Its reader
+-- writes alone or goes on alone, so it ends somewhere, and its entry tells a length that the hole is within
+-- (`hole_move`). The last module bounds the numbers. `ReadOn` uses these for `read_on`.
 use Rattle.std.{proofs.{Common.{◌≡◌, ◌⊎◌, inl, inr, ℕ, ◌+◌, ◌-◌, ◌<◌, ◌≤◌, ◌^◌, min, Bool, true, false, Option, Some, None, refl, ap, ap₂, sym, ◌∙◌, subst, arith}, lemmas.{Bool.Decides.{nat_tests}, List.{length-drop, length-take}}}, specs.{Prelude.{List, length, take, unwrap_or, is_some, is_none, nat_eq, nat_lt, option_and_then, option_map, ◌==◌, ◌&&◌, if◌then◌else◌}, Option.{option_or}}}
 use Rattle.hc_text.proofs.Basics.{eqb-same, false_true, none_of, same_or, same_some as same_row, some_inj as some_is}
 use Rattle.hc_effects.proofs.Vocabulary.{Limits, Cause, Request, ReadStep, ReadView, read_step, is_at_end, cut_at, stored_or, held_or, fails_or, waits_or, hole_end, BoundBy, Place, is_number, total_in, base, is_headless, is_open, stretch_to, Move, Opens, Gives, Ends, Fails, gives, waits_for, opens_hole, hole_request, planned_move, move_of, shows_head, shows_at, if_headless, waits_for_head, by_place, or_else, own_open, shared_exchange, source, offset, hi_of, lo_of, if_open, is_written, writing_in, Numbers, Tables, Exchange, Representation, IsBound, IsFirst, IsExclusiveWriter, IsServed, came_alone, reading, step_move, later_hole, run_held_for, stored_ahead, next_stored, run_of}

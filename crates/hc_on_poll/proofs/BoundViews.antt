@@ -1,4 +1,9 @@
 -- What the reading of who is bound looks at is what the tables have, and its step is theirs.
+--
+-- Item by item: where it stands, what is stored ahead, the next stored byte (`next_as`), who brings more (`source_is`),
+-- and what is held. The last has the work. Something is held just for who goes on alone with what was lost, of its own
+-- exchange. Where it stands before no stored byte, that is the rest of the body that came (`Holds`). By that both tell
+-- alike whether something is held (`held_same`, `holds_something`). `BoundReads` joins these.
 use Rattle.std.{proofs.{Common.{◌≡◌, inl, inr, ℕ, zero, suc, ◌+◌, ◌-◌, ◌<◌, ◌≤◌, List, [], ◌∷◌, length, drop, take, min, Bool, true, false, Option, Some, None, refl, ap, ap₂, sym, ◌∙◌, arith}, lemmas.Bool.Decides.{nat_tests}}, specs.{Prelude.{is_some, is_none, nat_eq, nat_lt, option_and_then, ◌&&◌, if◌then◌else◌}, Option.{option_or}}}
 use Rattle.hc_text.proofs.Basics.{and_both as both_true, eqb-same, false_true, lt_cases as lt_or, same_or, same_some as same_row, some_inj as some_is}
 use Rattle.hc_effects.proofs.Vocabulary.{Limits, BoundBy, Place, is_number, row_of, base, front, family, stretch_to, next_from, first_place, absent_from, HoldsOwn, MayDeliver, offset, if_open, source, shared_exchange, bound_to, is_bound_place, Tables, Exchange, Representation, IsBound, run_held_for, held_at, stored_ahead, stored_from, next_stored, bound_row, run_of, held_of_lost}

@@ -1,4 +1,9 @@
 -- What is current, as the plan of a consumer sees it, is as the tables have it.
+--
+-- Item by item: whether it may be used and whether Vary matches, by head, request and moment, where kind and length
+-- don't matter (`allowed_kind`). Then what is wanted, the first hole in that (`hole_as`), and who writes it. Who is
+-- bound first has some work: the entry keeps its users in ascending order, so that is the least (`least_bound_as`).
+-- `seen_as` joins them for `candidate`; ages stay in range (`age_small`).
 use Rattle.std.{proofs.{Common.{◌≡◌, ℕ, ◌<◌, ◌≤◌, ◌^◌, List, [], ◌∷◌, Bool, true, false, min, Option, Some, None, refl, ap, sym, ◌∙◌, arith}, lemmas.Bool.Decides.{nat_tests}}, specs.{Prelude.{is_some, option_map, codes, nat_lt, not, slice_get, ◌&&◌, if◌then◌else◌}, Option.{option_and_then, unwrap_or}, Str.Parse.{digits_value}, Char.{is_ascii_digit}, List.{list_all}}}
 use Rattle.hc_text.proofs.Basics.{and_both as and_parts, some_inj as some_is}
 use Rattle.hc_effects.proofs.Vocabulary.{Limits, Request, Candidate, RequestClass, least, lesser, class_of, range_of, wanted_of, is_open, Lawful, candidate, hole_of, bound, is_bound, is_written, writing_in, Tables, Representation, exclusive}

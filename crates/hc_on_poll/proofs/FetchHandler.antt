@@ -1,4 +1,9 @@
 -- The consumer whose turn it is asks the origin: it waits with the turn for the head of its exchange.
+--
+-- The code has it stand in line first, then hold the turn, and the tables both at once. Since it is next, nobody holds
+-- the turn, and it is the least in line (`turn_free`). So its key keeps it as the holder then (`keys_turned`), which
+-- has the work; the exchange is new, and nothing is held of it. `stands_turned` joins this for `begin_turn`.
+-- `asked_answered` and `bypassed` answer the poll, the latter once what was current is let go.
 use Rattle.std.{proofs.Common.{◌≡◌, ◌≢◌, inl, inr, ℕ, ◌+◌, List, ◌++◌, true, false, Option, Some, None, refl, ap, sym, ◌∙◌, subst, arith}, specs.{Prelude.{nat_eq, bytes_eq, not}, HashMap.{get}}}
 use Rattle.hc_text.proofs.Basics.{and_both as both_true, eqb-other, eqb-same, false_true, not_true as not_on, same_or, and_off as then_false}
 use Rattle.hc_store.specs.declared.backend.Backend.{Ghosts}

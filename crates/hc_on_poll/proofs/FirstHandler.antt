@@ -1,4 +1,9 @@
--- A consumer that reads nothing is bound to what is current as the only one, and opens an exchange for a first hole: what is kept represents the tables then.
+-- Who is bound as the only one opens an exchange for a first hole: what is kept represents the tables then.
+--
+-- The consumer read nothing before, so nothing is held for it, and no answer is kept for it. Its entry has it as bound,
+-- and as the one that came alone: nobody was kept as that (`first_none`). Its exchange is new and brought nothing yet
+-- (`known_then`). In its key it is away, since it waits for the head of that exchange (`keys_then`). `stands_filling`
+-- joins this, and `filling_answered` the effect with it, for `open_first_hole`.
 use Rattle.std.{proofs.Common.{◌≡◌, ◌≢◌, inl, inr, ℕ, ◌+◌, List, [], ◌++◌, Bool, true, false, Option, Some, None, refl, ap, sym, ◌∙◌, subst, arith}, specs.{Prelude.{bytes_eq, nat_eq, is_none, not, option_map, ◌&&◌}, HashMap.{get}}}
 use Rattle.hc_text.proofs.Basics.{eqb-other, eqb-same, false_true, same_or, and_off as then_false}
 use Rattle.hc_store.specs.declared.backend.Backend.{Ghosts}

@@ -1,4 +1,9 @@
 -- The first hole in what is stored is that of the tables, where nothing is stored from a position on.
+--
+-- The code looks for the first absent byte of a span, and then for the next that is there. The tables look no further
+-- than the stored bytes reach. Behind that nothing is there, so both find the same begin (`absent_is`), and where it
+-- isn't the end of the span the same end (`end_is`). `holes_same` joins the cases: the span is empty, is covered, or
+-- has a hole. That lies inside (`hole_inside`). `hole_as` is for `CandidateTies`.
 use Rattle.std.{proofs.{Common.{◌≡◌, inl, inr, ℕ, ◌+◌, ◌-◌, ◌<◌, ◌≤◌, true, false, min, Option, Some, None, refl, ap, sym, ◌∙◌, subst, arith}, lemmas.Bool.Decides.{nat_tests}}, specs.Prelude.{is_some, is_none}}
 use Rattle.hc_text.proofs.Basics.{le_or, lt_cases as lt_or}
 use Rattle.hc_range.specs.declared.range.Span.{Span}

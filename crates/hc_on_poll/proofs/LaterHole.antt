@@ -1,4 +1,9 @@
--- Who is bound and reads on opens an exchange for the hole that it stands before: what is kept represents the tables then.
+-- A bound reader opens an exchange for the hole that it stands before: what is kept represents the tables then.
+--
+-- It has another exchange of its own then, and all else of it stays. What is held has the work. It stands where no byte
+-- is stored, no failure is due and nothing is held for it (`IsAtHole`). So its old exchange brought nothing that it
+-- lacks (`nothing`), and the new one nothing yet. Keys, users and kinds are told as before. `stands_filled` joins this,
+-- and `filled_answered` the effect with it, for `fill_later_hole`.
 use Rattle.std.{proofs.{Common.{◌≡◌, ◌≢◌, ◌⊎◌, inl, inr, ℕ, ◌+◌, ◌-◌, ◌≤◌, ◌<◌, List, [], ◌++◌, drop, min, Bool, true, false, Option, Some, None, refl, ap, sym, ◌∙◌, subst, arith}, Math.ListN.{drop_of_length-le}, lemmas.Bool.Decides.{nat_tests}}, specs.{Prelude.{is_some, nat_eq, bytes_eq, ◌&&◌, if◌then◌else◌}, HashMap.{get}}}
 use Rattle.hc_text.proofs.Basics.{and_both as both_true, eqb-other, eqb-same, false_true, same_or, same_some as same_row, some_inj as some_is}
 use Rattle.hc_effects.proofs.Vocabulary.{Limits, Opening, Act, Need, Request, BoundBy, Place, current, is_number, is_live, with_consumer, with_opening, just_opened, with_event, aim_from, base, front, family, stretch_to, is_in_line, Opens, acts_of, move_of, bound, bound_to, hi_of, is_bound, is_bound_place, lo_of, offset, Tables, Exchange, Representation, IsBound, held_of_lost}

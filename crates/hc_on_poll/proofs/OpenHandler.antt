@@ -1,4 +1,9 @@
 -- A consumer that reads nothing opens an exchange, for whose head it waits: what is kept represents the tables then.
+--
+-- It goes past the store or has the turn (`WaitsFor`): in both places it is bound to nothing, and has nothing unread.
+-- So who is bound or came alone stays (`users`, `firsts`). The exchange is new: nobody reads it (`unread_yet`), and
+-- nothing of it is held, as no byte came (`none_held`). Of every other as much is held. Nothing that is there is
+-- brought by it, so entries stay (`entries_opened`). The handlers of plans use these.
 use Rattle.std.{proofs.Common.{◌≡◌, ◌≢◌, inl, inr, ℕ, zero, suc, List, [], ◌∷◌, false, Option, Some, None, refl, ap, sym, ◌∙◌, subst}, specs.Prelude.{drop, filter, not}}
 use Rattle.hc_text.proofs.Basics.{eqb-other, eqb-same, false_true, same_or}
 use Rattle.hc_stored.specs.Shelf.{Shelf}

@@ -1,4 +1,9 @@
--- A plan that uses what is current: the part that its consumer is shown isn't empty, nor is the hole that it fills, and nobody else is bound then.
+-- A plan that uses what is current: its part isn't empty, nor is the hole that it fills, and nobody else is bound then.
+--
+-- What the plan sees of what is current is what the entry has: length, fields and the bytes that are there. A plan for
+-- a first hole says by its rule what its consumer wants, which hole that has, and that nobody is bound (`IsFilling`).
+-- So the hole lies within the length, and the entry admits a first reader. A part that is shown lies within it too
+-- (`part_within`). `carry_out_plan` uses the last module, which needs just that some tables are represented.
 use Rattle.std.{proofs.Common.{◌≡◌, ℕ, ◌+◌, ◌<◌, ◌≤◌, ◌^◌, List, Bool, true, false, max, Option, Some, None, refl, ap, sym, ◌∙◌, subst, arith}, specs.{Prelude.{nat_eq, is_some, is_none, not, option_map, unwrap_or, IsSomeAnd, ◌&&◌, if◌then◌else◌}, Option.{option_and_then}, HashMap.{get}}}
 use Rattle.hc_text.proofs.Basics.{eqb-same, false_true, some_inj as some_is}
 use Rattle.hc_effects.proofs.Vocabulary.{Limits, Act, Why, Request, Candidate, Plan, PlanView, RequestClass, least, plan_of, bare_plan, from_store, in_time, class_of, range_of, wanted_of, current, is_number, row_of, first_hole, Opens, opens_hole, span_to, hole_request, candidate, candidate_at, hole_of, bound, is_bound, is_bound_place, Numbers, Tables, Representation, came_alone}

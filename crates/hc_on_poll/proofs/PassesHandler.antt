@@ -1,4 +1,9 @@
 -- A consumer waits for another that uses what is current, outside of the line: what is kept represents the tables then.
+--
+-- One that is let through already stays as it is (`stands_passed`). One that stands in line leaves that and is kept
+-- among those that passed: both places read nothing, so by `falls_back` all else stays (`stands_let`). What it waits
+-- for is what its key keeps as current (`current_as`), so the wait is the one that its move owes (`use_waits`).
+-- `wait_for_use` and `pass` use these.
 use Rattle.std.{proofs.Common.{◌≡◌, ℕ, List, [], ◌∷◌, ◌++◌, Bool, true, false, Option, Some, None, refl, ap, sym, ◌∙◌, subst}, specs.{Prelude.{nat_eq, bytes_eq}, HashMap.{get}}}
 use Rattle.hc_text.proofs.Basics.{false_true, some_inj as some_is, and_off as then_false}
 use Rattle.hc_store.specs.declared.backend.Backend.{Ghosts}

@@ -1,4 +1,9 @@
 -- A consumer that reads nothing goes past the store: it opens its exchange, and stands in no line.
+--
+-- Idle is who stands in line or was let through: it is live and reads nothing (`idle_reads`, `idle_lives`). Its key has
+-- the work. Where it waits with others the code takes it out of the line. Where it doesn't, nothing is said of it,
+-- before or after (`unsaid`, `keys_past`). The exchange is new, so by `OpenHandler` nothing is held of it and entries
+-- stay (`stands_past`). `open_past` uses `past_answered`; other plans use the lemmas on who is idle.
 use Rattle.std.{proofs.Common.{◌≡◌, ℕ, ◌+◌, List, ◌++◌, Bool, true, false, Some, refl, ap, sym, ◌∙◌, subst, arith}, specs.{Prelude.{nat_eq, not, ◌&&◌}, HashMap.{get}}}
 use Rattle.hc_text.proofs.Basics.{false_true}
 use Rattle.hc_store.specs.declared.backend.Backend.{Ghosts}

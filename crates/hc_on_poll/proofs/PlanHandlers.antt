@@ -1,4 +1,9 @@
 -- A plan is carried out: what its handlers ask for, and that what they answer is owed.
+--
+-- First the code's plan is the one of the tables: it sees the same of what is current, and the rest by `PlanTies`
+-- (`some_plan_at`). By the effects of their moves, who asks with the turn is next in line, and who waits for another
+-- waits with others (`next_by`, `busy_by`). For each plan a lemma `.._answers` joins its move with the handler's
+-- answer. A head that is read changes no rows, or only counts a fault.
 use Rattle.std.{proofs.{Math.Logic.{∥∥₁_map}, Common.{◌≡◌, ◌≢◌, ℕ, ◌+◌, ◌<◌, ◌≤◌, arith, List, Bool, true, false, Option, Some, None, Result, Err, refl, ap, sym, ◌∙◌, subst}}, specs.{Prelude.{nat_eq, is_some, not, unwrap_or, IsSomeAnd, ◌&&◌, ◌||◌, if◌then◌else◌}, Option.{option_and_then, option_map}, HashMap.{get}}}
 use Rattle.hc_text.proofs.Basics.{false_true}
 use Rattle.hc_effects.proofs.Vocabulary.{Limits, Act, Need, Why, Response, Request, Route, Candidate, Plan, PlanView, least, lesser, route_of, plan_of, bare_plan, from_store, in_time, by_current, RequestClass, class_of, is_bypassing, is_disabled, is_only, Place, current, row_of, denial, gate, is_live, is_in_line, Move, Opens, Fails, Shows, span_to, plan_move, has_passed, candidate, candidate_at, move_of, is_bound, is_bound_place, Tables, Representation}

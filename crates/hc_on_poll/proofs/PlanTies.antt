@@ -1,4 +1,9 @@
 -- The plan of a consumer, but for what is current, is that of the tables.
+--
+-- The plan looks at since when a consumer waits only where it waits with others, and there the code keeps the same
+-- (`since_unread`, `since_is`). Class and place are as kept, and the turn of its key is told alike, by `TurnTies`
+-- (`turns_are`). So with the same of what is current the plan is the same (`plans_are`). Where the code doesn't look at
+-- what is current, by `looks_at_stored`, the plan is the same without it (`unlooked`). `PlanHandlers` uses these.
 use Rattle.std.{proofs.Common.{◌≡◌, ℕ, List, Bool, true, false, cond, eqb, Option, Some, None, refl, ap, sym, ◌∙◌}, specs.Prelude.{is_none, unwrap_or, ◌&&◌}}
 use Rattle.hc_text.proofs.Basics.{false_true}
 use Rattle.hc_effects.proofs.Vocabulary.{Limits, Why, Request, Candidate, Plan, PlanView, RequestClass, Wanted, plan_of, bare_plan, in_time, from_store, queues, by_current, by_why, plan_on, by_wanted, by_exclusive, by_hole, by_bound, why_by, class_of, Place, kept_by, has_passed, Tables, IsListed}

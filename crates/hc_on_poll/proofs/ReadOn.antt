@@ -1,4 +1,9 @@
--- Who is bound reads on: what its calls need holds wherever there is some past.
+-- Who is bound reads on: what its calls need holds wherever some tables are represented.
+--
+-- What a call needs is a plain fact of rows and numbers. So it may be taken from tables of which is known just that
+-- there are some (`merely_most`, `merely_within`). `BoundReads` gives it for each step. What is read is there, what is
+-- given stays in range, what is asked is open, and a hole is within the length. Then `BoundGives` answers what was done
+-- (`gives_stored`, `gives_held`, `asks_for`). `read_on` and `read_bound` use these.
 use Rattle.std.{proofs.{Common.{◌≡◌, ℕ, ◌+◌, ◌<◌, ◌≤◌, ◌^◌, List, ◌++◌, length, take, true, Option, Some, None, refl, ap, ap₂, sym, ◌∙◌, subst, arith}, lemmas.Grind.{not_there}}, specs.{Prelude.{is_some, nat_eq, option_map, IsSomeAnd, IfSome}, HashMap.{get}}}
 use Rattle.hc_text.proofs.Basics.{some_inj as some_is}
 use Rattle.hc_effects.proofs.Vocabulary.{Limits, Act, ReadView, read_step, acts_of, Tables}

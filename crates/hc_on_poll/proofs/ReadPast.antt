@@ -1,4 +1,9 @@
 -- Polls of who goes past the store: what is looked at is what the tables have, and what is done is what they owe.
+--
+-- Its exchange is its own and has no other reader, and what is held of it is what the consumer wasn't given yet. Before
+-- it was shown a head it waits for one or is shown it (`waits_answered`, `shows_answered`). Then its step is read back
+-- to the move of the tables. It can't be to read the store (`no_stored`), nor to fill a hole: where no more comes, its
+-- answer is at the end (`no_hole`). `await_answer` and `read_past` use these.
 use Rattle.std.{proofs.{Common.{◌≡◌, ◌≢◌, inl, inr, ℕ, ◌+◌, ◌-◌, ◌≤◌, ◌<◌, ◌^◌, List, [], ◌∷◌, ◌++◌, length, drop, take, Bool, true, false, min, Option, Some, None, refl, ap, ap₂, sym, ◌∙◌, subst, arith}, lemmas.{Bool.Decides.{nat_tests}, Grind.{common_steps}, List.{length-drop, length-take}}}, specs.{Prelude.{is_some, is_none, nat_lt, nat_eq, option_and_then, if◌then◌else◌, ◌&&◌}, HashMap.{get}}}
 use Rattle.hc_text.proofs.Basics.{eqb-other, eqb-same, false_true, same_or, some_inj as some_is}
 use Rattle.hc_effects.proofs.Vocabulary.{Limits, Act, Cause, Event, Response, ReadStep, ReadView, read_step, is_at_end, cut_at, held_or, fails_or, waits_or, with_consumer, with_ask, with_event, base, front, Lawful, Move, Gives, Ends, Fails, Asks, Shows, acts_of, gives, waits_for, ReadsPast, planned_move, move_of, shows_head, shows_answer, shows_direct, if_headless, waits_for_head, by_place, or_else, own_open, source, offset, hi_of, lo_of, base_in, end_in, reads, Numbers, Tables, Exchange, Representation, reading, step_move, run_held_for, run_of}

@@ -1,4 +1,9 @@
 -- The stored head is shown to who is bound: what is shown is what the tables say.
+--
+-- Only length and fields of a head are shown (`shown_as_told`). The length has the work. The entry of what is gone may
+-- not tell it, and then it is where the reader stops, as the code takes it (`total_is`). Where a part is shown, it
+-- isn't empty and lies within the length (`part_fits`, `part_known`). Who waits for the head of a first hole waits on
+-- (`first_waits_answered`); all others are shown the head (`stored_answered`).
 use Rattle.std.{proofs.{Common.{◌≡◌, ◌≢◌, ℕ, ◌<◌, ◌≤◌, ◌^◌, List, [], ◌∷◌, ◌++◌, Bool, true, false, Option, Some, None, refl, ap, ap₂, sym, ◌∙◌, subst, arith}, lemmas.Bool.Decides.{nat_tests}}, specs.{Prelude.{is_some, is_none, nat_eq, option_and_then, option_map, not, ◌&&◌, if◌then◌else◌}, Option.{option_or}, HashMap.{get}}}
 use Rattle.hc_text.proofs.Basics.{eqb-same, false_true, some_inj as some_is}
 use Rattle.hc_effects.proofs.Vocabulary.{Limits, Act, Why, Response, class_of, RequestClass, BoundBy, is_number, total_in, with_consumer, with_event, is_headless, Lawful, Move, Shows, acts_of, span_to, shows_stored, is_ranged, move_of, shows_head, shows_at, shows_bound, has_joined, if_headless, waits_for_head, by_place, or_else, own_open, hi_of, lo_of, reads, Numbers, Tables, Exchange, Representation, IsToBeShown, status_in, came_alone}

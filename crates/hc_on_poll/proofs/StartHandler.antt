@@ -1,4 +1,9 @@
 -- A start: what is kept represents the tables after it.
+--
+-- The consumer is new: its number is above all that started, so it wasn't there (`fresh`). It is nowhere bound and
+-- reads nothing, so exchanges, what is held and entries stay as they were. Its key has the work. It stands in that line
+-- unless its request bypasses the store or is for stored answers alone (`enters`). `stands_started` joins this;
+-- `not_in_yet` is what the code needs to enter it in the line. `start` uses both.
 use Rattle.std.{proofs.Common.{◌≡◌, ◌≢◌, inl, inr, ℕ, ◌+◌, ◌<◌, List, [], ◌∷◌, Bool, true, false, cond, eqb, Option, Some, None, refl, ap, sym, ◌∙◌, subst, arith}, specs.{Prelude.{nat_eq, bytes_eq, filter, not, ◌&&◌, ◌||◌}, HashMap.{get, hash_map_len}}}
 use Rattle.hc_text.proofs.Basics.{eqb-other, eqb-same, same_or, and_off as then_false}
 use Rattle.hc_effects.proofs.Vocabulary.{Limits, Request, class_of, is_disabled, is_only, Place, is_in_line, new_consumer, current, is_live, live, with_consumer, with_start, with_event, kind_of, Lawful, bound, is_bound, Tables, Exchange}

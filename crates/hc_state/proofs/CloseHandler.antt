@@ -1,4 +1,9 @@
--- An exchange is closed that stops: the acts, and the tables for which the rows stand.
+-- An exchange is closed that stops: the acts, and the tables that the rows represent.
+--
+-- By `Stopping` it brought nothing that stays, or a 200 that can't be completed later; what is to be sealed is for
+-- `SealHandler`. In the first case what it founded is gone already, if anything, and letting that go changes nothing
+-- (`let_gone_is`). In the second that is let go before. Who starts over then reads nothing and waits for no head, so
+-- the exchange may still be closed (`stopped_going`). `has_left` says the same of a leave.
 use Rattle.std.{proofs.{Common.{◌≡◌, ◌≢◌, inl, inr, ℕ, List, [], ◌∷◌, ◌++◌, Bool, true, false, Option, Some, None, refl, ap, sym, ◌∙◌, subst, arith}, lemmas.{Bool.Decides.{nat_tests}, List.{append-nil}}}, specs.Prelude.{nat_eq, map, option_map, ◌&&◌, if◌then◌else◌}}
 use Rattle.hc_text.proofs.Basics.{eqb-other, eqb-same, false_true, same_or, same_some as same_row, some_inj as some_is, and_off as then_false}
 use Rattle.hc_store.specs.declared.backend.Backend.{Ghosts}

@@ -1,4 +1,9 @@
 -- An exchange is closed: what is kept represents the tables in which it is over.
+--
+-- What is over keeps its head and its bytes. So whoever reads it past the store sees the same, and as much is held.
+-- Keys tell the same, since nobody awaits its head. Representations have the work: what the exchange brought grows no
+-- more. `stands_closed` takes their entries as its user proved them, behind a seal or a loss. `stands_unstored` is for
+-- an exchange that brings only what is gone.
 use Rattle.std.{proofs.Common.{◌≡◌, ◌≢◌, inl, inr, ℕ, ◌+◌, ◌-◌, List, [], length, Bool, true, false, Option, Some, None, refl, ap, sym, ◌∙◌, subst}, specs.{Prelude.{nat_eq, bytes_eq, drop, option_map, ◌&&◌, if◌then◌else◌}, HashMap.{get, hash_map_len}}}
 use Rattle.hc_text.proofs.Basics.{eqb-other, eqb-same, same_or}
 use Rattle.hc_effects.proofs.Vocabulary.{Limits, Response, base_of, promise_of, Place, current, is_number, tables_after_close, over, base, promised_bytes, family, is_open, is_headless, length_by, absent_from, is_growing, brings_to, bound, offset, is_bound_place, base_in, end_in, end_of_direct, Tables, Exchange, Representation}

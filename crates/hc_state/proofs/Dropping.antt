@@ -1,4 +1,9 @@
 -- A consumer is gone, or is to fail: what is kept represents the tables without it, or in which it is down.
+--
+-- Both places are treated alike (`IsNowhere`): who stands there is in no line, is bound to nothing, and reads nothing.
+-- So keys and representations lose it, as `LeavesKey` and `UnbindsAt` say. What is held has the work. By the laws
+-- nobody else owns its exchange, so nothing is held of that, and of every other as much. `stands_moved` joins this;
+-- `stands_left` and `stands_down` are its two cases.
 use Rattle.std.{proofs.{Common.{◌≡◌, ◌≢◌, inl, inr, ℕ, ◌+◌, List, [], Bool, true, false, Option, Some, None, refl, ap, sym, ◌∙◌, subst, arith}, lemmas.Bool.Decides.{nat_tests}}, specs.{Prelude.{is_some, nat_eq, bytes_eq, drop, not, ◌&&◌, if◌then◌else◌}, HashMap.{get, hash_map_len}}}
 use Rattle.hc_text.proofs.Basics.{eqb-other, eqb-same, false_true, same_or, and_off as then_false}
 use Rattle.hc_effects.proofs.Vocabulary.{Limits, Cause, Request, Response, is_disabled, is_only, Place, is_number, is_live, live, with_consumer, as_over, family, Lawful, is_in_line, stands_in_line, has_passed, is_bound_place, Tables, Exchange, Representation, Among, came_alone}

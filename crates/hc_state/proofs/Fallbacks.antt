@@ -1,4 +1,9 @@
 -- Consumers that read nothing: nothing is held for them, and they are bound to nothing.
+--
+-- A row is alike in two tables if it stays, or reads nothing in both (`IsAlike`). By its place, who reads nothing has
+-- nothing unread or unstored. So where all rows are alike, as much is held of each exchange (`held_alike`), also if a
+-- representation goes whose bytes stay (`held_gone`). And the same ones are bound (`users_alike`). `FallbackSteps`,
+-- `StartHandler` and `LetGoHandler` use this. Most files on what is held use `unstored_moved`.
 use Rattle.std.{proofs.Common.{◌≡◌, ℕ, [], Bool, true, false, Option, Some, None, refl, ap, sym, ◌∙◌}, specs.Prelude.{not, option_map, if◌then◌else◌}}
 use Rattle.hc_text.proofs.Basics.{false_true}
 use Rattle.hc_effects.proofs.Vocabulary.{Place, as_gone, family, reads, is_bound, Tables, Exchange, Representation, Consumer}

@@ -1,4 +1,9 @@
--- What is kept of a consumer's key where it is in line again, leaves, or takes the turn; of another key the same is said.
+-- What is kept of a consumer's key where it is in line again, leaves or takes the turn; other keys say the same.
+--
+-- A key keeps who is in line, has passed, or is away, and who holds the turn. The tables say this of a consumer by its
+-- place and request, and of another key than its own nothing (`says_elsewhere`). Each step of the code changes the
+-- membership of one number in three lists, and the holder, just as the consumer's new row does. For the turn, nobody
+-- may have held it before (`holds_key`).
 use Rattle.std.{proofs.Common.{◌≡◌, inl, inr, ℕ, List, Bool, true, false, cond, eqb, Option, Some, None, refl, ap, sym, ◌∙◌}, specs.Prelude.{bytes_eq, ◌&&◌, ◌||◌, not}}
 use Rattle.hc_text.proofs.Basics.{eqb-other, eqb-same, false_true, same_or, and_off as then_false}
 use Rattle.hc_entry.specs.Kept as keyed

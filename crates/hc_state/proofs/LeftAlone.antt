@@ -1,4 +1,9 @@
 -- What a consumer leaves nobody else reads.
+--
+-- That is its own exchange, or the one that wrote for several, whose last reader it was (`HowLeft`). Nobody awaits its
+-- head: an own one belongs to one consumer, and one that writes for several has its head. The exclusive writer of what
+-- it brings has the work. Where it is owned, the laws say that this is the consumer, and else there is none.
+-- `leave_stops` joins these: what a leaver left may be closed.
 use Rattle.std.{proofs.Common.{◌≡◌, ◌≢◌, ◌⊎◌, inl, inr, ℕ, [], Bool, true, false, Option, Some, None, refl, ap, sym, ◌∙◌, subst}, specs.{Prelude.{is_some, is_none, not, ◌==◌, ◌&&◌, ◌||◌, if◌then◌else◌}, Option.{option_or}}}
 use Rattle.hc_text.proofs.Basics.{eqb-other, eqb-same, false_true, same_or, same_some as same_row, some_inj as some_is, and_off as then_false}
 use Rattle.hc_effects.proofs.Vocabulary.{Place, BoundBy, is_last_reader, is_number, with_consumer, as_over, left_by, family, is_open, is_headless, Lawful, MayLetGo, own_open, shared_exchange, writing_in, is_written, Tables, Exchange, Representation, Consumer, IsBound, IsAbout, IsHad, IsExclusiveWriter, exclusive, has_more, Response}

@@ -1,4 +1,9 @@
 -- What the rows say that a consumer leaves is what the tables say.
+--
+-- It leaves its own exchange if that is open, or the one that writes what it alone reads. Both tell alike whether an
+-- exchange is open (`is_open_as`), and a writer that was forgotten is over (`writing_as`). Whether all who are bound
+-- are this one has the work: two lists with the same members pass the same tests. `left_as` joins these. The last
+-- lemmas say it of what the code found, for the files of leaves and misreads.
 use Rattle.std.{proofs.{Common.{◌≡◌, inl, inr, ℕ, List, [], ◌∷◌, Bool, true, false, Option, Some, None, refl, ap, ap₂, sym, ◌∙◌, subst, arith}, lemmas.Bool.Decides.{nat_tests}}, specs.{Prelude.{is_some, IsSomeAnd, nat_eq, filter, not, ◌&&◌, ◌||◌, ◌==◌, if◌then◌else◌}, List.{list_all}, Option.{option_or, option_and_then}, HashMap.{get}}}
 use Rattle.hc_text.proofs.Basics.{both_true as and_both, and_left as and_first, and_right as and_then, eqb-same, false_true, never_true as not_true, or_right as or_then, same_test}
 use Rattle.hc_effects.proofs.Vocabulary.{Limits, Place, is_last_reader, is_number, left_by, with_consumer, as_over, is_open, Lawful, bound, is_bound, if_open, shared_exchange, writing_in, is_written, is_open_writer, Tables, Exchange, Representation, Among, Cause}

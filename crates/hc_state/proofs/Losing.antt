@@ -1,4 +1,9 @@
 -- A representation is lost: what is kept represents the tables in which it is.
+--
+-- Of its row only changes that it is lost, and who goes on alone. What looks at neither is told as before
+-- (`told_same`): so are consumers, keys and other entries. What is held has the work. Nobody went on alone before, and
+-- nothing is held for the one who does now (`held_lost`), as the user of this file proves. `stands_lost` joins this for
+-- `lose_to`; by `may_lost` it may be let go then.
 use Rattle.std.{proofs.Common.{◌≡◌, ◌≢◌, inl, inr, ℕ, List, [], ◌∷◌, true, Option, Some, None, refl, ap, sym, ◌∙◌, subst}, specs.{Prelude.{is_some, nat_eq, option_map}, HashMap.{get, hash_map_len}}}
 use Rattle.hc_text.proofs.Basics.{eqb-other, eqb-same, false_true, filters_same, finds_same, same_or, same_some as same_row}
 use Rattle.hc_effects.proofs.Vocabulary.{Limits, Place, current, is_usable, total_in, with_representation, lost_to, family, kind_of, MayLetGo, bound, Tables, Exchange, Representation, status_in}

@@ -1,4 +1,9 @@
--- A consumer that reads stays where it stands, and is given more, or was shown its head: what is kept represents the tables then.
+-- A consumer that reads is given more, or was shown its head, where it stands: what is kept represents the tables then.
+--
+-- Its place stays, so keys, who is bound or came alone, and who is live are told as before. What is held of exchanges
+-- may change, so that is for its user: where as much is unread and unstored, as much is held (`held_same`).
+-- `stands_reading` joins this. The first lemmas are for reads of the store, which change no more than the count of
+-- faults. Rows stay (`stands_read`), and an answer after it is one before it (`answered_since`).
 use Rattle.std.{proofs.Common.{◌≡◌, ◌≢◌, inl, inr, ℕ, ◌≤◌, List, arith, Bool, true, Option, Some, None, refl, ap, sym, ◌∙◌}, specs.HashMap.{hash_map_len}}
 use Rattle.hc_text.proofs.Basics.{eqb-other, eqb-same, same_or}
 use Rattle.hc_store.specs.declared.backend.Backend.{Ghosts}

@@ -1,4 +1,9 @@
 -- What is idle on the shelf, and what each representation weighs there, is what the tables say.
+--
+-- Both lists are in the same order, so they are compared row by row. What is kept and usable is current for its key,
+-- and nobody is bound to it where its list is empty. So the room for a write is the same (`room_is`). The loop evicts
+-- one after another. By `HaveGone` the first i of the idle are gone: `none_gone` begins, `one_gone` makes a step, and
+-- `all_gone` and `no_more` end it. `make_room` of `hc_on_leave` uses these.
 use Rattle.std.{proofs.{Common.{◌≡◌, ◌≢◌, inl, inr, ℕ, suc, ◌+◌, ◌≤◌, List, [], ◌∷◌, ◌++◌, length, take, drop, Bool, true, false, eqb, Option, Some, None, refl, ap, sym, ◌∙◌, subst, arith, rules, zero, add-one}, lemmas.{List.{append_assoc, append-nil}, Bool.Decides.{nat_tests}}}, specs.{Prelude.{is_some, nat_eq, filter, map, reverse, not, ◌&&◌, ◌||◌, ◌==◌}, List.{sum_by, IsDistinct}}}
 use Rattle.hc_text.proofs.Basics.{eqb-other, eqb-same, false_true, same_or, some_inj as some_is}
 use Rattle.hc_effects.proofs.Vocabulary.{Limits, Act, Room, Write, weight_of, room_of, idle_now, current, is_current, is_number, let_go, let_all_go, MayMakeRoom, MayLetGo, weight_now, weights_now, room_now, giving_way, AreOnce, bound, Tables, Representation, Among}

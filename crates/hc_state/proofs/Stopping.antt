@@ -1,4 +1,9 @@
 -- What becomes of what an exchange brought, by what is kept of it, where that stops.
+--
+-- The code decides `Nothing`, `LetGo` or `Seal`, and `Means` says for each what the tables have then. The exchange is
+-- known to bring what it founded or joined, or else nothing. Of that the entry decides: it is gone, or there. If it is
+-- there, status and size on the shelf are those of the tables, so both call it unkeepable in the same case. `means_it`
+-- is what `CloseHandler`, `SealHandler` and the stops of `hc_on_body` use.
 use Rattle.std.{proofs.{Common.{◌≡◌, ◌≢◌, ℕ, ◌<◌, ◌^◌, Bool, true, false, Option, Some, None, refl, ap, sym, ◌∙◌, subst, arith}, lemmas.Bool.Decides.{nat_tests}}, specs.Prelude.{is_some, is_none, nat_eq, not, ◌&&◌, if◌then◌else◌}}
 use Rattle.hc_text.proofs.Basics.{eqb-other, eqb-same, false_true, same_some as same_row, and_off as then_false}
 use Rattle.hc_effects.proofs.Vocabulary.{Limits, Response, Route, route_of, is_unkeepable, going_with, family, is_keepable, brings_to, Tables, Exchange, Representation}

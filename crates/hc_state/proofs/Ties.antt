@@ -1,4 +1,9 @@
 -- What is kept represents other tables too, item by item: what neither changes nor looks at what changes stays tied.
+--
+-- A record says what an item looks at: `SeesSame` of a consumer, `SaysSame` of a key, `UsesSame` of a representation,
+-- `LooksSame` of an exchange. Where that is equal in both tables, the same item represents its row in both:
+-- `consumer_same`, `key_same`, `entry_same`, `exchange_same`. The lemmas between say that exchanges that are over stay
+-- so, since a writer may be forgotten then. Most files on the rows use these for all that an event leaves alone.
 use Rattle.std.{proofs.Common.{◌≡◌, ◌≢◌, inl, inr, ℕ, List, Bool, true, false, Option, Some, None, refl, ap, sym, ◌∙◌, subst}, specs.Prelude.{is_some, is_none, not, option_map, if◌then◌else◌}}
 use Rattle.hc_text.proofs.Basics.{false_true, same_or}
 use Rattle.hc_entry.specs.Kept as keyed

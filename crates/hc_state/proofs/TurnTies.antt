@@ -1,4 +1,9 @@
 -- Whose turn it is: what is kept of a key tells it as the tables do.
+--
+-- The turn is its holder's, or else that of the least in line. The two lists of a line may differ in order, but have
+-- the same members: so their least is the same (`least_alike`). The holder is looked for among all who started
+-- (`find_on`, `find_off`). `turn_of_is` joins both, and by `turn_is` nobody holds the turn where who is next doesn't.
+-- `turn_next` is for who stands in line only from now on. The plan of a poll uses them.
 use Rattle.std.{proofs.{Common.{◌≡◌, ◌≢◌, ◌⊎◌, inl, inr, ℕ, ◌≤◌, List, [], ◌∷◌, Bool, true, false, min, eqb, Option, Some, None, refl, ap, sym, ◌∙◌, arith}, lemmas.Bool.Decides.{nat_tests}}, specs.{Prelude.{filter, find, is_some, unwrap_or, ◌&&◌, ◌||◌}, Option.{option_or}}}
 use Rattle.hc_text.proofs.Basics.{and_both as and_parts, bool_cases, eq_by, eqb-same, false_true, or_cases as in_either, or_right as later_in, same_or, some_inj as some_is}
 use Rattle.hc_entry.specs.{Kept.{Kept, line_in}, Lines.{is_among, is_held_by, turn_of, turn_with}}

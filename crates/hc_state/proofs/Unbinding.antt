@@ -1,4 +1,9 @@
 -- One consumer isn't bound any more: what is kept of representations represents the tables in which its row is another.
+--
+-- To what it wasn't bound the same are bound, so those entries stay (`entry_stays`). What it was bound to has the work:
+-- it leaves the list of that. Where this was gone and nobody is left, the entry is dropped, and the tables count nobody
+-- bound to it either. Else the entry stays with the shorter list. `entries_unbound` joins the two, and `user_kept` says
+-- that whoever is bound is on the list.
 use Rattle.std.{proofs.Common.{◌≡◌, ◌≢◌, inl, inr, ℕ, List, [], ◌∷◌, Bool, true, false, cond, eqb, Option, Some, None, refl, ap, sym, ◌∙◌, subst}, specs.{Prelude.{is_some, not, ◌&&◌, if◌then◌else◌}, Option.{option_and_then}}}
 use Rattle.hc_text.proofs.Basics.{eqb-other, eqb-same, false_true, same_or}
 use Rattle.hc_sorted.specs.Sorted.{has, without}

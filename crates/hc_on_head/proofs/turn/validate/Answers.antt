@@ -1,3 +1,9 @@
+-- What `validate` needs of its calls, and what it answers in each of its four cases.
+--
+-- What it was opened about may be current no more: then nothing is selected, and `start_anew` answers. Else it is kept,
+-- so it may be asked whether the head selects it (`select`). Each answer starts from `current_still`: what is current
+-- is what the exchange was opened about. Where it selects, `TurnHandler` answers; where it doesn't, `start_anew` does,
+-- from rows that stay. At a fault the rows stay too, and `lose_asked` answers.
 use Rattle.std.{proofs.Common.{◌≡◌, ℕ, true, false, Some, Ok, Err, refl, ap, sym, ◌∙◌, subst}, specs.Prelude.{is_some}}
 use Rattle.hc_text.proofs.Basics.{none_or as none_is}
 use Rattle.hc_effects.proofs.Vocabulary.{act_list, head_view, with_consumer, with_representation, with_refreshed_head}

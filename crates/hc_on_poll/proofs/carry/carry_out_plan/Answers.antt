@@ -1,3 +1,9 @@
+-- What `carry_out_plan` needs of its calls, and what it answers for each plan over what is current.
+--
+-- Each plan is that of whatever tables the rows represent. So by `PlanHandlers` and `PartPlans` its consumer may do
+-- what the call asks. That is to leave the line, to ask with the turn, to be bound, or to fill a first hole. What the
+-- called function answers is what the move of that plan owes. Each answer is one lemma `.._answers`, with the contract
+-- of the call; calls that may lack memory are read only where they succeed.
 use Rattle.std.proofs.Common.{◌≡◌, ap, ◌∙◌}
 use Rattle.hc_effects.proofs.Vocabulary.{act_list}
 use Rattle.hc_event.specs.declared.act.Need.TheVariants as needs

@@ -1,3 +1,9 @@
+-- What `read_past` needs of its calls, and what it answers for each step of a reader past the store.
+--
+-- Numbers stay in range and what it asks is open in any tables that the rows represent. So both are taken from those
+-- that are there. Two steps can't come, to read the store and to fill a hole: by `ReadPast` neither is the step of such
+-- a reader (`unreachable`). The others are answered each by its move: an end or a failure by what leaves, held bytes
+-- and a wait by `given_answered` and `asks_answered`.
 use Rattle.std.{proofs.{Common.{◌+◌, ◌<◌, ◌≤◌, ◌^◌, ap, sym, ◌∙◌, arith, nat_eq, length, inl, inr}, lemmas.Grind.{not_there}}, specs.HashMap.{get}}
 use Rattle.hc_effects.proofs.Vocabulary.{act_list, read_step}
 use Rattle.hc_exch.specs.{Exchanges.{table_of}, Known.{is_open}}

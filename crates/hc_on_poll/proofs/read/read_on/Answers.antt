@@ -1,3 +1,9 @@
+-- What `read_on` needs of its calls, and what it answers for each step of a bound reader.
+--
+-- What its calls need holds in any tables that the rows represent, so by `ReadOn` it is taken from those that are
+-- there. The answers go case by case. The step is that of the view that was read, and `BoundReads` tells its move.
+-- `BoundGives` or the called function answers that move. Ends and failures are answered by what leaves, holes by
+-- `open_later_hole`. For held bytes there may be no memory.
 use Rattle.std.{proofs.Common.{◌≡◌, ◌+◌, ◌≤◌, ◌^◌, ap, sym, ◌∙◌, refl, length, take, subst, arith, nat_eq}, specs.HashMap.{get}}
 use Rattle.hc_effects.proofs.Vocabulary.{act_list, ReadView}
 use Rattle.hc_stored.specs.{Entries.{shelf_of}, Shelf.{head_at}}

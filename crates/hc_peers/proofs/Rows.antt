@@ -3,13 +3,13 @@
 -- each of these makes one part of the test false. The same goes for whether it is settled. What was read is taken by the
 -- cases of what stands next, of which those that can't be are refused. An act is for one row alone: that whose consumer
 -- it names.
-use Rattle.std.{proofs.{Common.{◌≡◌, ◌≢◌, ℕ, zero, suc, ◌<◌, List, [], length, drop, Bool, true, false, Option, Some, None, Ok, Err, eqb, inl, inr, refl, sym, ap, ◌∙◌, arith}, lemmas.{Bool.{cases_Bool, eqb-true, eq-eqb, ne_eqb}, List.{nil_from_length}}}, specs.Prelude.{is_none, ◌&&◌}}
+use Rattle.std.{proofs.{Common.{◌≡◌, ◌≢◌, ℕ, zero, suc, ◌<◌, List, [], length, drop, Bool, true, false, Option, Some, None, Ok, Err, eqb, inl, inr, refl, sym, ap, ◌∙◌, arith}, lemmas.{Bool.{cases_Bool, eqb-true, eq-eqb, ne_eqb}, List.{nil_from_length}}}, specs.Prelude.{is_none, ◌&&◌, IsSome}}
 use Rattle.hc_text.proofs.Basics.{and_none as and-false}
 use Rattle.hc_event.specs.declared.act.Act.{Act}
 use Rattle.hc_head.specs.declared.message.{MsgError.{MsgError}, WireRequest.{WireRequest}}
 use Rattle.hc_head.specs.declared.message.MsgError.TheVariants as error
 use Rattle.hc_msg.specs.{Inputs.{Next, Waits, Tells, Brings, Ends, Fails, next_in}, Reading.{Asks, Answers, Byte}}
-use Rattle.hc_peers.specs.{declared.client.Client.{Client}, Agreement.{consumer_at, ready_at}, Peers.{is_ready, is_idle, is_settled, is_over, is_same, Reads, IsRead, asks, refused, answered, addressee}, Clients.{hearing, told_by, answered_in, is_same_consumer}, Offering.{sent_more}}
+use Rattle.hc_peers.specs.{declared.client.Client.{Client}, Agreement.{consumer_at, ready_at, settled_at}, Peers.{is_ready, is_idle, is_settled, is_over, is_same, Reads, IsRead, asks, refused, answered, addressee}, Clients.{hearing, told_by, answered_in, is_same_consumer, has_all}, Offering.{sent_more}}
 use Rattle.hc_peers.specs.declared.clients.Heard.TheVariants as heard
 
 -- WHO ISN'T TO BE READ
@@ -30,6 +30,10 @@ owed n some = ne_eqb n 0 (λ e. absurd (omega arith))
 pub owed-not-ready : (x : Client) → 0 < length x.unsent → is_ready x ≡ false
 owed-not-ready x some = rw (owed (length x.unsent) some) (simp and-false)
 
+pub live-there : (o : Option Client) (c : ℕ) → consumer_at o ≡ Some c → IsSome o
+live-there None c is = absurd (cc)
+live-there (Some x) c is = refl
+
 pub ready-consumer : (o : Option Client) → ready_at o ≡ true → consumer_at o ≡ None
 ready-consumer None on = absurd (cc)
 ready-consumer (Some x) on = by x.consumer refl where
@@ -49,6 +53,14 @@ pub over-closing : (x : Client) → is_over x ≡ true → x.closing ≡ true
 over-closing x over = elim (cases_Bool x.closing) [
   | inl on ↦ on
   | inr off ↦ absurd (let none : is_over x ≡ false = rw off refl in cc)
+]
+
+-- who is there and settled was sent all
+pub settled-has-all : (o : Option Client) → IsSome o → settled_at o ≡ true → has_all o ≡ true
+settled-has-all None is on = is
+settled-has-all (Some x) is on = elim (cases_Bool (eqb (length x.unsent) 0)) [
+  | inl none ↦ none
+  | inr some ↦ absurd (let off : is_settled x ≡ false = rw some refl in cc)
 ]
 
 pub same-itself : (a : Bool) → is_same a a ≡ true

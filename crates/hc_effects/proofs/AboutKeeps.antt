@@ -1,6 +1,6 @@
 -- The open exchange of who is bound is about what that is bound to.
-use Rattle.std.{proofs.Common.{◌≡◌, ◌⊎◌, inl, inr, ℕ, Bool, true, Option, Some, None, refl, ap, sym, ◌∙◌}, specs.{Prelude.{if◌then◌else◌, is_some, unwrap_or}, Option.{option_and_then}}}
-use Rattle.hc_text.proofs.Basics.{bool_cases, not_some as none_some, same_some as same_row, some_inj}
+use Rattle.std.{proofs.{lemmas.Bool.Decides.{nat_tests}, Common.{arith, ◌≡◌, ◌⊎◌, inl, inr, ℕ, Bool, true, Option, Some, None, refl, ap, sym, ◌∙◌}}, specs.{Prelude.{if◌then◌else◌, is_some, unwrap_or}, Option.{option_and_then}}}
+use Rattle.hc_text.proofs.Basics.{not_some as none_some, same_some as same_row}
 use Rattle.hc_effects.proofs.Vocabulary.{Event, Response, Limits, BoundBy, consumer_heard, denial, Entry, is_open, family, Flaw, entry_of, Owners, IsAwaiting, Awaits, own_open, if_open, Tables, Exchange, Consumer, may_stand, Sound, IsBound, IsAbout, after_accepted}
 use Rattle.hc_event.specs.declared.event.Event.TheVariants as event
 use Rattle.hc_event.specs.declared.place.Place.TheVariants as place
@@ -20,19 +20,8 @@ pub record IsOwn (t : Tables) (k : Consumer) (x : ℕ) : Type 0 where
   pub row : t.exchange x ≡ Some w
   pub opened : w.is_open ≡ true
 
-row_by : (t : Tables) (x : ℕ) (z : Option Exchange) → t.exchange x ≡ z → is_open z ≡ true → (w : Exchange) × (t.exchange x ≡ Some w) × (w.is_open ≡ true)
-row_by t x None row on = absurd (false_true on)
-row_by t x (Some w) row on = (w, row, on)
-
 own_by : (t : Tables) (k : Consumer) (x : ℕ) (z : Option ℕ) → k.own ≡ z → option_and_then (if_open t) z ≡ Some x → IsOwn t k x
-own_by t k x None mine h = absurd (none_some x h)
-own_by t k x (Some y) mine h = elim (bool_cases (is_open (t.exchange y))) [
-  | inr off ↦ absurd (none_some x (rw off at h))
-  | inl on ↦
-      let same : y ≡ x = some_inj y x (rw on at h) in
-      let got = row_by t x (t.exchange x) refl (ap (λ n. is_open (t.exchange n)) (sym same) ∙ on) in
-      record { own = mine ∙ ap Some same; w = got.0; row = got.1; opened = got.2 }
-]
+own_by t k x z mine h = grind (arith, nat_tests)
 
 pub own_open_of : (t : Tables) (k : Consumer) (x : ℕ) → own_open t k ≡ Some x → IsOwn t k x
 own_open_of t k x h = own_by t k x k.own refl h

@@ -1,11 +1,10 @@
 -- What the parts of an answer say: what makes room, what is lost, what is closed, and what is said to the consumer of a poll.
-use Rattle.std.{proofs.Common.{◌≡◌, inl, inr, ℕ, List, [], ◌∷◌, ◌++◌, Bool, true, false, Option, Some, None, refl, ap, sym, ◌∙◌}, specs.Prelude.{map, filter, ◌==◌, ◌||◌, nat_eq}}
+use Rattle.std.{proofs.{lemmas.Bool.Decides.{nat_tests}, Common.{arith, ◌≡◌, inl, inr, ℕ, List, [], ◌∷◌, ◌++◌, Bool, true, false, Option, Some, None, refl, ap, sym, ◌∙◌}}, specs.Prelude.{map, filter, ◌==◌, ◌||◌, nat_eq}}
 use Rattle.hc_text.proofs.Basics.{bool_cases, some_inj as some_is}
-use Rattle.hc_effects.proofs.Vocabulary.{Opening, opening_in, asks_in, closes_in, shows_in, given_in, leaves_in, evicts_in, Act, Event, Limits, loses_in, misreads_in, fails_in, leaver_in, wait_in, Showing, showing_in, accepted_acts, answer_acts, poll_acts, loss_acts, close_acts, Flaw, NoFlaw, Loses, Misreads, Move, Nothing, Asks, Opens, Shows, Gives, Ends, Fails, acts_of, poll_move, Tables, Consumer, evicted}
+use Rattle.hc_effects.proofs.Vocabulary.{Opening, opening_in, asks_in, closes_in, shows_in, given_in, leaves_in, evicts_in, Act, Event, Limits, loses_in, misreads_in, fails_in, leaver_in, wait_in, Showing, showing_in, accepted_acts, answer_acts, poll_acts, loss_acts, close_acts, Flaw, NoFlaw, Loses, Misreads, Move, Nothing, Opens, Shows, Gives, Ends, Fails, acts_of, poll_move, Tables, Consumer, evicted}
 use Rattle.hc_event.specs.declared.act.Act.TheVariants as act
 use Rattle.hc_event.specs.declared.act.Cause.TheVariants as cause
 use Rattle.hc_event.specs.declared.event.Event.TheVariants as event
-use Rattle.hc_model.specs.Moves as moves
 use Rattle.hc_effects.proofs.{PieceKeeps.{eq_cases}, PollKeys.{IsNear, near_polled}}
 
 -- THE PARTS
@@ -18,12 +17,7 @@ pub data IsAnswer (limits : Limits) (t : Tables) (now : ℕ) (ev : Event) (flaw 
 pub answer_is : (limits : Limits) (t : Tables) (now : ℕ) (ev : Event) (flaw : Flaw) → IsAnswer limits t now ev flaw (accepted_acts limits t now ev flaw)
 answer_is limits t now (event.Poll c want) flaw = asked
 answer_is limits t now (event.Cancel c) flaw = asked
-answer_is limits t now (event.Start c request) flaw = told refl
-answer_is limits t now (event.Head x response) flaw = told refl
-answer_is limits t now (event.Piece x bytes) flaw = told refl
-answer_is limits t now (event.End x) flaw = told refl
-answer_is limits t now (event.Fault x) flaw = told refl
-answer_is limits t now (event.Doom key) flaw = told refl
+answer_is limits t now _ flaw = told refl
 
 -- what is said to the consumer of a poll: nothing, its move, or that a read failed
 pub data IsSaid (t : Tables) (now : ℕ) (ev : Event) (flaw : Flaw) : List Act → Type 0 where
@@ -42,13 +36,7 @@ said_is t now (event.Poll c want) flaw = by_flaw flaw
     by_flaw NoFlaw = by_row NoFlaw (t.consumer c) refl
     by_flaw (Loses r kind) = by_row (Loses r kind) (t.consumer c) refl
     by_flaw (Misreads r) = misreads c want r refl refl
-said_is t now (event.Start c request) flaw = silent
-said_is t now (event.Head x response) flaw = silent
-said_is t now (event.Piece x bytes) flaw = silent
-said_is t now (event.End x) flaw = silent
-said_is t now (event.Fault x) flaw = silent
-said_is t now (event.Cancel c) flaw = silent
-said_is t now (event.Doom key) flaw = silent
+said_is t now _ flaw = silent
 
 -- WHAT NONE BUT A POLL SAYS
 
@@ -72,13 +60,11 @@ asks_closes x r (y ∷ ys) = let a = asks_closes x r ys in record { asks = a.ask
 
 pub asks_lost : (x r : ℕ) (flaw : Flaw) (rest : List Act) → AsksAs x r (loss_acts flaw ++ rest) rest
 asks_lost x r NoFlaw rest = record { asks = refl; misreads = refl; opens = refl }
-asks_lost x r (Loses q kind) rest = record { asks = refl; misreads = refl; opens = refl }
-asks_lost x r (Misreads q) rest = record { asks = refl; misreads = refl; opens = refl }
+asks_lost x r _ rest = record { asks = refl; misreads = refl; opens = refl }
 
 pub asks_loss : (x r : ℕ) (flaw : Flaw) → AsksAs x r (loss_acts flaw) []
 asks_loss x r NoFlaw = record { asks = refl; misreads = refl; opens = refl }
-asks_loss x r (Loses q kind) = record { asks = refl; misreads = refl; opens = refl }
-asks_loss x r (Misreads q) = record { asks = refl; misreads = refl; opens = refl }
+asks_loss x r _ = record { asks = refl; misreads = refl; opens = refl }
 
 -- WHAT IS CLOSED, LOST AND EVICTED
 
@@ -88,14 +74,11 @@ closes_evicted x [] rest = refl
 closes_evicted x (q ∷ rs) rest = closes_evicted x rs rest
 
 pub closes_lost : (x : ℕ) (flaw : Flaw) (rest : List Act) → closes_in x (loss_acts flaw ++ rest) ≡ closes_in x rest
-closes_lost x NoFlaw rest = refl
-closes_lost x (Loses q kind) rest = refl
-closes_lost x (Misreads q) rest = refl
+closes_lost x flaw rest = grind (arith, nat_tests)
 
 pub closes_before : (x : ℕ) (ys : List ℕ) (flaw : Flaw) → closes_in x (map act.Close ys ++ loss_acts flaw) ≡ closes_in x (map act.Close ys)
 closes_before x [] NoFlaw = refl
-closes_before x [] (Loses q kind) = refl
-closes_before x [] (Misreads q) = refl
+closes_before x [] _ = refl
 closes_before x (y ∷ ys) flaw = ap (λ b. (y == x) || b) (closes_before x ys flaw)
 
 -- what fails the test isn't closed
@@ -123,9 +106,8 @@ loses_closes r [] = refl
 loses_closes r (y ∷ ys) = loses_closes r ys
 
 pub loses_before : (r : ℕ) (flaw : Flaw) (ys : List ℕ) → loses_in r (loss_acts flaw ++ map act.Close ys) ≡ loses_in r (loss_acts flaw)
-loses_before r NoFlaw ys = loses_closes r ys
 loses_before r (Loses q kind) ys = ap (λ b. (q == r) || b) (loses_closes r ys)
-loses_before r (Misreads q) ys = loses_closes r ys
+loses_before r _ ys = loses_closes r ys
 
 -- what makes room
 pub evicts_closes : (r : ℕ) (ys : List ℕ) → evicts_in r (map act.Close ys) ≡ false
@@ -133,14 +115,11 @@ evicts_closes r [] = refl
 evicts_closes r (y ∷ ys) = evicts_closes r ys
 
 pub evicts_lost : (r : ℕ) (flaw : Flaw) (rest : List Act) → evicts_in r (loss_acts flaw ++ rest) ≡ evicts_in r rest
-evicts_lost r NoFlaw rest = refl
-evicts_lost r (Loses q kind) rest = refl
-evicts_lost r (Misreads q) rest = refl
+evicts_lost r flaw rest = grind (arith, nat_tests)
 
 pub evicts_closed : (r : ℕ) (ys : List ℕ) (flaw : Flaw) → evicts_in r (map act.Close ys ++ loss_acts flaw) ≡ false
 evicts_closed r [] NoFlaw = refl
-evicts_closed r [] (Loses q kind) = refl
-evicts_closed r [] (Misreads q) = refl
+evicts_closed r [] _ = refl
 evicts_closed r (y ∷ ys) flaw = evicts_closed r ys flaw
 
 -- each of them has this
@@ -164,13 +143,7 @@ pub record ClosesAs (x r : ℕ) (acts rest : List Act) : Type 0 where
 
 pub move_closes : (x r c : ℕ) (m : Move) (rest : List Act) → ClosesAs x r (acts_of c m ++ rest) rest
 move_closes x r c Nothing rest = record { closes = refl; loses = refl; evicts = refl }
-move_closes x r c (moves.Waits wait) rest = record { closes = refl; loses = refl; evicts = refl }
-move_closes x r c (Asks y) rest = record { closes = refl; loses = refl; evicts = refl }
-move_closes x r c (Opens y n request) rest = record { closes = refl; loses = refl; evicts = refl }
-move_closes x r c (Shows q why head lo hi) rest = record { closes = refl; loses = refl; evicts = refl }
-move_closes x r c (Gives run) rest = record { closes = refl; loses = refl; evicts = refl }
-move_closes x r c Ends rest = record { closes = refl; loses = refl; evicts = refl }
-move_closes x r c (Fails cause) rest = record { closes = refl; loses = refl; evicts = refl }
+move_closes x r c _ rest = record { closes = refl; loses = refl; evicts = refl }
 
 pub said_closes : (x r : ℕ) (t : Tables) (now : ℕ) (ev : Event) (flaw : Flaw) (acts rest : List Act) → IsSaid t now ev flaw acts → ClosesAs x r (acts ++ rest) rest
 said_closes x r t now ev flaw _ rest silent = record { closes = refl; loses = refl; evicts = refl }
@@ -193,14 +166,12 @@ far_nil : (c : ℕ) → IsFarFrom c []
 far_nil c = record { waits = refl; leaves = refl; fails = refl; shows = refl; given = refl; opens = λ o h. absurd (let never : None ≡ Some o = h in cc); showing = λ s h. absurd (let never : None ≡ Some s = h in cc) }
 
 pub far_loss : (c : ℕ) (flaw : Flaw) (rest : List Act) → IsFarFrom c rest → IsFarFrom c (loss_acts flaw ++ rest)
-far_loss c NoFlaw rest far = far
 far_loss c (Loses r kind) rest far = record { waits = far.waits; leaves = far.leaves; fails = far.fails; shows = far.shows; given = far.given; opens = far.opens; showing = far.showing }
-far_loss c (Misreads r) rest far = far
+far_loss c _ rest far = far
 
 pub far_lost_only : (c : ℕ) (flaw : Flaw) → IsFarFrom c (loss_acts flaw)
-far_lost_only c NoFlaw = far_nil c
 far_lost_only c (Loses r kind) = let far = far_nil c in record { waits = refl; leaves = refl; fails = refl; shows = refl; given = refl; opens = far.opens; showing = far.showing }
-far_lost_only c (Misreads r) = far_nil c
+far_lost_only c _ = far_nil c
 
 pub far_closing : (c : ℕ) (ys : List ℕ) (rest : List Act) → IsFarFrom c rest → IsFarFrom c (map act.Close ys ++ rest)
 far_closing c [] rest far = far
@@ -216,8 +187,6 @@ far_evicted c (r ∷ rs) rest far = let f = far_evicted c rs rest far in record 
 
 pub far_other : (c d : ℕ) (m : Move) (rest : List Act) → nat_eq d c ≡ false → IsFarFrom c rest → IsFarFrom c (acts_of d m ++ rest)
 far_other c d Nothing rest other far = far
-far_other c d (moves.Waits wait) rest other far = record { waits = rw other far.waits; leaves = far.leaves; fails = far.fails; shows = far.shows; given = far.given; opens = far.opens; showing = far.showing }
-far_other c d (Asks x) rest other far = record { waits = rw other far.waits; leaves = far.leaves; fails = far.fails; shows = far.shows; given = far.given; opens = far.opens; showing = far.showing }
 far_other c d (Opens x n request) rest other far = record {
   waits = rw other far.waits;
   leaves = far.leaves;
@@ -239,6 +208,7 @@ far_other c d (Shows r why head lo hi) rest other far = record {
 far_other c d (Gives run) rest other far = record { waits = far.waits; leaves = far.leaves; fails = far.fails; shows = far.shows; given = rw other far.given; opens = far.opens; showing = far.showing }
 far_other c d Ends rest other far = record { waits = far.waits; leaves = rw other far.leaves; fails = far.fails; shows = far.shows; given = far.given; opens = far.opens; showing = far.showing }
 far_other c d (Fails cause) rest other far = record { waits = far.waits; leaves = rw other far.leaves; fails = rw other far.fails; shows = far.shows; given = far.given; opens = far.opens; showing = far.showing }
+far_other c d _ rest other far = record { waits = rw other far.waits; leaves = far.leaves; fails = far.fails; shows = far.shows; given = far.given; opens = far.opens; showing = far.showing }
 
 pub far_said : (c : ℕ) (t : Tables) (now : ℕ) (ev : Event) (flaw : Flaw) (acts rest : List Act) → ((d want : ℕ) → ev ≡ event.Poll d want → nat_eq d c ≡ false) → IsSaid t now ev flaw acts → IsFarFrom c rest → IsFarFrom c (acts ++ rest)
 far_said c t now ev flaw _ rest other silent far = far
@@ -248,6 +218,4 @@ far_said c t now ev flaw _ rest other (misreads d want q at is) far = far_other 
 -- WHO LEAVES
 
 pub leaver_lost : (flaw : Flaw) → leaver_in (loss_acts flaw) ≡ None
-leaver_lost NoFlaw = refl
-leaver_lost (Loses r kind) = refl
-leaver_lost (Misreads r) = refl
+leaver_lost flaw = grind (arith, nat_tests)

@@ -1,10 +1,9 @@
 -- Two entries of one event whose acts say the same but for what makes room do the same but for that.
-use Rattle.std.{proofs.Common.{◌≡◌, ℕ, List, [], ◌∷◌, ◌++◌, Bool, Option, Some, None, refl, ap, ◌∙◌}, specs.Prelude.{map, ◌==◌, ◌||◌, ◌&&◌, not, if◌then◌else◌}}
-use Rattle.hc_effects.proofs.Vocabulary.{Opening, opening_in, asks_in, closes_in, shows_in, given_in, leaves_in, Act, Event, Response, HeadCase, Place, loses_in, has_loss, misreads_in, fails_in, wait_in, showing_in, case_at, case_of, consumer_heard, by_head, becomes_shared, is_resumed, waiting, by_opening, own_after, left_to, consumer_acted, row_of, is_current, doomed_key_of, doomed_in, doomed_by_head, doomed_by_case, bypass_key, bypassed_by, is_key, Entry, exchange_after, exchange_heard, exchange_acted, exchange_made, exchange_at, family, becomes_due, cause_of_loss, cause_by_loss, cause_of_head, goes_by_case, goes_by_exchange, ends_founding, is_keepable, goes_itself, representation_heard, representation_after_head, representation_after_piece, founded_at, Tables, Exchange, Representation, Consumer, founds, binds, written_in, head_writes, first_found, sealed_representation, seals_at, sealed_by, is_sealed, stops}
+use Rattle.std.{proofs.{lemmas.Bool.Decides.{nat_tests}, Common.{arith, ◌≡◌, ℕ, List, [], ◌∷◌, ◌++◌, Bool, Option, Some, None, refl, ap, ◌∙◌}}, specs.Prelude.{map, ◌==◌, ◌||◌, ◌&&◌, not, if◌then◌else◌}}
+use Rattle.hc_effects.proofs.Vocabulary.{Opening, opening_in, asks_in, closes_in, shows_in, given_in, leaves_in, Act, Event, Response, HeadCase, Place, loses_in, has_loss, misreads_in, fails_in, wait_in, showing_in, case_at, case_of, consumer_heard, by_head, consumer_acted, is_current, doomed_key_of, doomed_in, bypass_key, bypassed_by, is_key, Entry, exchange_after, exchange_heard, exchange_acted, exchange_made, exchange_at, family, becomes_due, cause_of_loss, cause_of_head, goes_by_case, goes_by_exchange, ends_founding, is_keepable, goes_itself, representation_heard, founded_at, Tables, Exchange, Representation, Consumer, founds, binds, written_in, head_writes, first_found, sealed_representation, seals_at, sealed_by, is_sealed, stops}
 use Rattle.hc_event.specs.declared.act.Act.TheVariants as act
 use Rattle.hc_event.specs.declared.event.Event.TheVariants as event
 use Rattle.hc_rules.specs.declared.heads.HeadCase.TheVariants as case
-use Rattle.hc_event.specs.declared.place.Place.TheVariants as place
 
 -- the acts say the same but for what makes room
 pub record AreAlike (a b : List Act) : Type 0 where
@@ -42,14 +41,8 @@ module _ (t : Tables) (now : ℕ) (ev : Event) (a b : List Act) (k : AreAlike a 
 
   -- WHAT GOES
 
-  doomed_row : (response : Response) (z : Option Exchange) → doomed_by_head t e response z ≡ doomed_by_head t f response z
-  doomed_row response None = refl
-  doomed_row response (Some w) = ap (λ g. doomed_by_case g w response) case_same
-
   doomed_by : (z : Event) → doomed_in t e z ≡ doomed_in t f z
-  doomed_by (event.Head x response) = doomed_row response (t.exchange x)
-  doomed_by (event.Doom key) = refl
-  doomed_by _ = refl
+  doomed_by z = grind (arith, nat_tests)
 
   pub doomed_same : doomed_key_of t e ≡ doomed_key_of t f
   unfolding doomed_key_of
@@ -80,8 +73,7 @@ module _ (t : Tables) (now : ℕ) (ev : Event) (a b : List Act) (k : AreAlike a 
   -- EXCHANGES
 
   made_same : (x : ℕ) (z : Option Opening) → exchange_made t e x z ≡ exchange_made t f x z
-  made_same x None = refl
-  made_same x (Some o) = refl
+  made_same x z = grind (arith, nat_tests)
 
   heard_exchange : (x : ℕ) (w : Exchange) (z : Event) → exchange_heard t e x z w ≡ exchange_heard t f x z w
   heard_exchange x w (event.Head y response) = rw k.loss refl
@@ -104,34 +96,13 @@ module _ (t : Tables) (now : ℕ) (ev : Event) (a b : List Act) (k : AreAlike a 
   founded_same r (event.Head x response) = rw k.loss refl
   founded_same r _ = refl
 
-  headed_same : (r x : ℕ) (response : Response) (v : Representation) (z : Option Exchange) → representation_after_head t e r x response z v ≡ representation_after_head t f r x response z v
-  headed_same r x response v None = refl
-  headed_same r x response v (Some w) = rw (k.loss, k.loses r) refl
-
-  pieced_same : (r x : ℕ) (bytes : List ℕ) (v : Representation) (z : Option Exchange) → representation_after_piece e r x bytes z v ≡ representation_after_piece f r x bytes z v
-  pieced_same r x bytes v None = refl
-  pieced_same r x bytes v (Some w) = rw (k.loses r) refl
-
   pub heard_same : (r : ℕ) (v : Representation) (z : Event) → representation_heard t e r z v ≡ representation_heard t f r z v
-  heard_same r v (event.Head x response) = headed_same r x response v (t.exchange x)
-  heard_same r v (event.Piece x bytes) = pieced_same r x bytes v (t.exchange x)
-  heard_same r v _ = refl
+  heard_same r v z = grind (arith, nat_tests)
 
   -- CONSUMERS
 
-  resumed_same : (response : Response) (w : Exchange) (z : Option Representation) → is_resumed t e response w z ≡ is_resumed t f response w z
-  resumed_same response w None = refl
-  resumed_same response w (Some v) = rw k.loss refl
-
-  shared_same : (response : Response) (w : Exchange) (g : Option HeadCase) → becomes_shared t e response w g ≡ becomes_shared t f response w g
-  shared_same response w (Some case.FirstJoins) = resumed_same response w (row_of t w.aim)
-  shared_same response w (Some case.LaterJoins) = resumed_same response w (row_of t w.aim)
-  shared_same response w _ = refl
-
   with_head_same : (x : ℕ) (response : Response) (w : Exchange) (q : Consumer) → Rattle.hc_model.specs.ConsumerRows.with_head t e x response w q ≡ Rattle.hc_model.specs.ConsumerRows.with_head t f x response w q
-  with_head_same x response w q =
-      ap (λ g. record q { place = Rattle.hc_model.specs.ConsumerRows.place_by_case x response w q g; own = if becomes_shared t e response w g then None else q.own }) case_same
-      ∙ ap (λ s. record q { place = Rattle.hc_model.specs.ConsumerRows.place_by_case x response w q (case_at t f); own = if s then None else q.own }) (shared_same response w (case_at t f))
+  with_head_same x response w q = grind (arith, nat_tests)
 
   by_head_same : (c x : ℕ) (response : Response) (q : Consumer) (z : Option Exchange) → by_head t e c x response z q ≡ by_head t f c x response z q
   by_head_same c x response q None = refl
@@ -141,27 +112,11 @@ module _ (t : Tables) (now : ℕ) (ev : Event) (a b : List Act) (k : AreAlike a 
   heard_consumer c q (event.Head x response) = by_head_same c x response q (t.exchange x)
   heard_consumer c q _ = refl
 
-  left_same : (c r : ℕ) (own : Option ℕ) (z : Option Representation) → left_to t e c r z own ≡ left_to t f c r z own
-  left_same c r own None = refl
-  left_same c r own (Some v) = rw (k.loses r) refl
-
-  own_same : (c : ℕ) (p : Place) (own : Option ℕ) → own_after t e c p own ≡ own_after t f c p own
-  own_same c (place.Bound r lo hi how) own = left_same c r own (t.representation r)
-  own_same c _ own = refl
-
   pub acted_same : (c : ℕ) (h : Consumer) → consumer_acted t e c h ≡ consumer_acted t f c h
-  acted_same c h =
-      let q = by_opening t c (opening_in b) (waiting t f c h) in
-      rw (k.waits c, k.opens, k.leaves c, k.showing, k.shows c, k.gives c)
-      (ap (λ (own : Option ℕ). record (consumer_acted t f c h) { own = own }) (own_same c h.place q.own))
+  acted_same c h = grind (arith, nat_tests)
 
   loss_same : (c : ℕ) (p : Place) → cause_of_loss t e c p ≡ cause_of_loss t f c p
-  loss_same c (place.Bound r lo hi how) = by_row (t.representation r)
-    where
-      by_row : (z : Option Representation) → cause_by_loss t e c r z ≡ cause_by_loss t f c r z
-      by_row None = refl
-      by_row (Some v) = rw (k.loses r) refl
-  loss_same c _ = refl
+  loss_same c p = grind (arith, nat_tests)
 
   head_same : (c : ℕ) (z : Event) → cause_of_head t e c z ≡ cause_of_head t f c z
   head_same c (event.Head x response) = rw k.loss refl

@@ -1,10 +1,10 @@
 -- The exchange of a writing that is on is nobody's own.
-use Rattle.std.{proofs.{Common.{◌≡◌, inl, inr, ℕ, Bool, true, false, Option, Some, None, refl, ap, sym, ◌∙◌, subst, arith}, lemmas.Bool.Decides.{nat_tests}}, specs.Prelude.{if◌then◌else◌, is_some, ◌&&◌, ◌||◌, ◌==◌, not, nat_eq}}
-use Rattle.hc_text.proofs.Basics.{and_left, and_right, not_some as none_some, not_true, same_some as same_row, some_inj}
+use Rattle.std.{proofs.{Common.{◌≡◌, inl, inr, ℕ, Bool, true, false, Option, Some, None, refl, ap, sym, ◌∙◌, subst, arith}, lemmas.Bool.Decides.{nat_tests}}, specs.Prelude.{is_some, ◌&&◌, ◌||◌, ◌==◌, not, nat_eq}}
+use Rattle.hc_text.proofs.Basics.{both_true as both, and_left, and_right, not_some as none_some, not_true, same_some as same_row, some_inj}
 use Rattle.hc_effects.proofs.Vocabulary.{Event, Response, HeadCase, Limits, has_loss, loses_in, case_at, head_view, is_founding, is_joining, consumer_heard, by_head, becomes_shared, is_resumed, is_number, row_of, denial, Entry, family, is_open, Flaw, entry_of, Owners, is_written, is_open_writer, resumes, writer_at, Tables, Exchange, Representation, Consumer, may_stand, Sound, after_accepted}
 use Rattle.hc_event.specs.declared.event.Event.TheVariants as event
 use Rattle.hc_rules.specs.declared.heads.HeadCase.TheVariants as case
-use Rattle.hc_effects.proofs.{Basics.{false_true, or_false, number_is}, ExchangeFrom.{ExchangeFrom, exchange_from}, FirstKeeps.{case_of_head, is_new}, FoundBy.{CaseBy}, LossStands.{no_loss}, OwnFrom.{OwnFrom, own_from}, OwnersKeep.{is_opened, left_writing, new_number}, PieceKeeps.{eq_cases}, RepFrom.{RepFrom, rep_from, IsKept, IsResumed}}
+use Rattle.hc_effects.proofs.{Basics.{false_true, or_false, number_is}, ExchangeFrom.{ExchangeFrom, exchange_from}, FirstKeeps.{case_of_head, is_new}, FoundBy.{CaseBy}, LossStands.{no_loss}, OwnFrom.{OwnFrom, own_from}, OwnersKeep.{is_opened, left_writing, new_number}, RepFrom.{RepFrom, rep_from, IsKept, IsResumed}}
 use Rattle.hc_effects.proofs.ExchangeFrom as exchange
 use Rattle.hc_effects.proofs.FoundBy as cases
 use Rattle.hc_effects.proofs.OwnFrom as own
@@ -17,17 +17,11 @@ pub record IsOn (t : Tables) (v : Representation) (x : ℕ) : Type 0 where
 
 pub is_on : (t : Tables) (v : Representation) (x : ℕ) → is_written t v ≡ true → v.writer ≡ Some x → IsOn t v x
 unfolding is_written
-is_on t v x on writer = record {
-  kept = not_true v.is_lost (and_left (not v.is_lost) _ on);
-  open_now = sym (ap (is_open_writer t) writer) ∙ and_right (not v.is_lost) _ on;
-}
+is_on t v x on writer = grind (arith, nat_tests)
 
 pub written_by : (t : Tables) (v : Representation) (x : ℕ) → v.is_lost ≡ false → v.writer ≡ Some x → is_open (t.exchange x) ≡ true → is_written t v ≡ true
 unfolding is_written
 written_by t v x kept writer on = both (not v.is_lost) (is_open_writer t v.writer) (ap not kept) (ap (is_open_writer t) writer ∙ on)
-  where
-    both : (a b : Bool) → a ≡ true → b ≡ true → (a && b) ≡ true
-    both a b p q = rw (p, q) refl
 
 module _ (limits : Limits) (t : Tables) (now : ℕ) (flaw : Flaw) (s : Sound t) (o : Owners t) (ev : Event) (goes : denial t ev ≡ None) (stand : may_stand limits t (entry_of limits t now ev flaw) ≡ true) where
   abbrev e : Entry
@@ -83,14 +77,7 @@ module _ (limits : Limits) (t : Tables) (now : ℕ) (flaw : Flaw) (s : Sound t) 
 
   -- the exchange isn't its consumer's own any more
   given_up : (x c : ℕ) (response : Response) (w : Exchange) (k : Consumer) (z : Option Exchange) → z ≡ Some w → w.c ≡ c → becomes_shared t e response w (case_at t e) ≡ true → (by_head t e c x response z k).own ≡ None
-  given_up x c response w k None is mine shared = absurd (none_some w is)
-  given_up x c response w k (Some q) is mine shared = elim (eq_cases q.c c) [
-    | inr other ↦ absurd (other.1 (ap (λ (p : Exchange). p.c) (some_inj q w is) ∙ mine))
-    | inl here ↦ rw here.0 (cond_none (becomes_shared t e response q (case_at t e)) k.own (ap (λ (p : Exchange). becomes_shared t e response p (case_at t e)) (some_inj q w is) ∙ shared))
-  ]
-    where
-      cond_none : (b : Bool) (a : Option ℕ) → b ≡ true → (if b then None else a) ≡ None
-      cond_none b a on = rw on refl
+  given_up x c response w k z is mine shared = grind (arith, nat_tests)
 
   from_head : (x c : ℕ) (response : Response) (w : Exchange) (u : Consumer) → ev ≡ event.Head x response → t.exchange x ≡ Some w → becomes_shared t e response w (case_at t e) ≡ true → OwnFrom t e c x u → ⊥
   from_head x c response w u here row shared from =
@@ -142,11 +129,7 @@ module _ (limits : Limits) (t : Tables) (now : ℕ) (flaw : Flaw) (s : Sound t) 
   -- A FOUNDED ONE
 
   whole_status : (r x : ℕ) (response : Response) → writer_at r response ≡ Some x → (response.status == 206) ≡ false
-  whole_status r x response is = by_test (response.status == 206) is
-    where
-      by_test : (b : Bool) → (if b then None else Some r) ≡ Some x → b ≡ false
-      by_test true h = absurd (none_some x h)
-      by_test false h = refl
+  whole_status r x response is = grind (arith, nat_tests)
 
   range_206 : (lost : Bool) (w : Exchange) (response : Response) → CaseBy (head_view t lost w response) case.FoundsRange → response.status ≡ 206
   range_206 lost w response (cases.founds_range way status fits kept good) = status
@@ -178,11 +161,7 @@ module _ (limits : Limits) (t : Tables) (now : ℕ) (flaw : Flaw) (s : Sound t) 
   founded_shared r x response w (Some case.LaterChanged) here row is on writer = absurd (false_true on)
 
   pub writer_is : (r x : ℕ) (response : Response) → writer_at r response ≡ Some x → r ≡ x
-  writer_is r x response is = by_test (response.status == 206) is
-    where
-      by_test : (b : Bool) → (if b then None else Some r) ≡ Some x → r ≡ x
-      by_test true h = absurd (none_some x h)
-      by_test false h = some_inj r x h
+  writer_is r x response is = grind (arith, nat_tests)
 
   apart_from : (r x c : ℕ) (v : Representation) (u : Consumer) → RepFrom t e r v → IsOn now_on v x → v.writer ≡ Some x → OwnFrom t e c x u → ⊥
   apart_from r x c v u (rep.was q kept) on writer from = elim kept.writer_is [

@@ -1,9 +1,7 @@
 -- What the need of a plan says of what is current.
-use Rattle.std.proofs.Common.{◌≡◌, ℕ, Option, Some, None, refl}
-use Rattle.hc_range.specs.declared.range.Span.{Span}
-use Rattle.hc_effects.proofs.Vocabulary.{Need, Why, Wanted, Plan, Candidate, PlanView, plan_of, bare_plan, in_time, from_store, by_current, by_why, by_wanted, by_exclusive, by_hole, by_bound, why_by}
+use Rattle.std.proofs.{lemmas.Bool.Decides.{nat_tests}, Common.{arith, ◌≡◌, Option, Some, None, refl}}
+use Rattle.hc_effects.proofs.Vocabulary.{Need, Why, Wanted, Plan, Candidate, PlanView, plan_of, bare_plan, in_time, from_store, by_current, by_why, by_wanted, why_by}
 use Rattle.hc_event.specs.declared.act.Need.TheVariants as need
-use Rattle.hc_rules.specs.declared.request.Wanted.TheVariants as wanted
 use Rattle.hc_rules.specs.declared.plan.Plan.TheVariants as plan
 use Rattle.hc_effects.proofs.Joining.{mix}
 
@@ -13,14 +11,14 @@ HasCandidate v = (s : Candidate) × (v.current ≡ Some s)
 
 -- what is so where this is asked of the origin
 abbrev pub Asked : PlanView → Need → Type 0
-Asked v need.Disabled = Unit {0}
-Asked v need.TimedOut = Unit {0}
-Asked v need.Bypass = Unit {0}
 Asked v need.Miss = v.current ≡ None
 Asked v need.Vary = HasCandidate v
 Asked v need.Validate = HasCandidate v
 Asked v (need.Hole from to) = HasCandidate v
 Asked v need.Unsatisfied = HasCandidate v
+Asked v need.Disabled = Unit {0}
+Asked v need.TimedOut = Unit {0}
+Asked v need.Bypass = Unit {0}
 
 abbrev pub AskedBy : PlanView → Plan → Type 0
 AskedBy v (plan.Direct n) = Asked v n
@@ -28,22 +26,8 @@ AskedBy v (plan.Fetch n) = Asked v n
 AskedBy v _ = Unit {0}
 
 module _ (v : PlanView) (s : Candidate) (current : v.current ≡ Some s) where
-  bound_asks : (span hole : Span) (o : Option ℕ) → AskedBy v (by_bound v span hole o)
-  bound_asks span hole None = tt
-  bound_asks span hole (Some d) = tt
-
-  hole_asks : (why : Why) (span : Span) (o : Option Span) → AskedBy v (by_hole v s why span o)
-  hole_asks why span None = tt
-  hole_asks why span (Some hole) = bound_asks span hole s.least_bound
-
-  exclusive_asks : (why : Why) (span : Span) (o : Option ℕ) → AskedBy v (by_exclusive v s why span o)
-  exclusive_asks why span None = hole_asks why span s.hole
-  exclusive_asks why span (Some d) = tt
-
   wanted_asks : (why : Why) (w : Wanted) → AskedBy v (by_wanted v s why w)
-  wanted_asks why wanted.TotalUnknown = tt
-  wanted_asks why wanted.Unsatisfiable = (s, current)
-  wanted_asks why (wanted.Interval span) = mix (AskedBy v) s.writing _ _ tt (exclusive_asks why span s.exclusive)
+  wanted_asks why w = grind (arith, nat_tests)
 
   why_asks : (o : Option Why) → AskedBy v (by_why v s o)
   why_asks None = (s, current)
@@ -60,22 +44,10 @@ bare_asks v =
     (mix (AskedBy v) v.class.bypassing (plan.Fetch need.Bypass) _ tt (current_asks v v.current refl)))
 
 in_time_asks : (v : PlanView) (p : Plan) → AskedBy v p → AskedBy v (in_time v p)
-in_time_asks v (plan.Turn d) is = mix (AskedBy v) _ (plan.Direct need.TimedOut) (plan.Turn d) tt tt
-in_time_asks v (plan.Busy d kept) is = mix (AskedBy v) _ (plan.Direct need.TimedOut) (plan.Busy d kept) tt tt
-in_time_asks v plan.Miss is = is
-in_time_asks v (plan.Direct n) is = is
-in_time_asks v (plan.Fetch n) is = is
-in_time_asks v (plan.Bind why span) is = is
-in_time_asks v (plan.FirstHole span hole) is = is
+in_time_asks v p is = grind (arith, nat_tests)
 
 from_store_asks : (v : PlanView) (p : Plan) → AskedBy v (from_store p)
-from_store_asks v (plan.Turn d) = tt
-from_store_asks v (plan.Busy d kept) = tt
-from_store_asks v plan.Miss = tt
-from_store_asks v (plan.Direct n) = tt
-from_store_asks v (plan.Fetch n) = tt
-from_store_asks v (plan.Bind why span) = tt
-from_store_asks v (plan.FirstHole span hole) = tt
+from_store_asks v p = grind (arith, nat_tests)
 
 pub plan_asks : (v : PlanView) → AskedBy v (plan_of v)
 unfolding plan_of

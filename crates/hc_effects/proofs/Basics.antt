@@ -1,5 +1,5 @@
 -- Small lemmas of tests, options and numbers, which many proofs use.
-use Rattle.std.{proofs.{Common.{◌≡◌, ◌⊎◌, ℕ, ◌<◌, ◌≤◌, List, [], ◌∷◌, ◌++◌, Bool, true, false, Option, Some, None, refl, ap, arith}, lemmas.Bool.Decides.{nat_tests}}, specs.Prelude.{is_some, ◌&&◌, ◌||◌, nat_eq}}
+use Rattle.std.{proofs.{Common.{◌≡◌, ℕ, List, [], ◌∷◌, ◌++◌, Bool, true, false, Option, Some, None, refl, ap, arith}, lemmas.Bool.Decides.{nat_tests}}, specs.Prelude.{is_some, ◌||◌, nat_eq}}
 use Rattle.hc_text.proofs.Basics.{not_some as none_some}
 use Rattle.hc_effects.proofs.Vocabulary.{is_number}
 

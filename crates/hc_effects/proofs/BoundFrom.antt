@@ -1,10 +1,9 @@
 -- How a consumer that is bound after an entry became bound: it was, its head founds, its first hole is opened, or its plan shows it what is current.
-use Rattle.std.{proofs.Common.{◌≡◌, ◌⊎◌, inl, inr, ℕ, Bool, true, false, Option, Some, None, refl, ap, sym, ◌∙◌}, specs.Prelude.{if◌then◌else◌, ◌==◌, ◌&&◌, not, is_none}}
+use Rattle.std.{proofs.{lemmas.Bool.Decides.{nat_tests}, Common.{arith, ◌≡◌, ◌⊎◌, inl, inr, ℕ, Bool, true, false, Option, Some, None, refl, ap, sym, ◌∙◌}}, specs.Prelude.{if◌then◌else◌, ◌==◌}}
 use Rattle.hc_text.proofs.Basics.{bool_cases, some_inj}
-use Rattle.hc_effects.proofs.Vocabulary.{Opening, opening_in, leaves_in, Event, Response, Cause, Wait, HeadCase, Route, Wanted, route_of, range_of, wanted_of, Place, BoundBy, Showing, showing_in, wait_in, case_at, bound_to_wanted, place_by_case, passed_on, consumer_heard, by_head, by_fault, waiting_place, waiting, passed_by, kept_by, place_for_hole, opened_place, unless_bound, by_opening, shown_place, consumer_acted, consumer_settled, consumer_made, consumer_after, due_after, current, row_of, Entry, promise_in, founded_total, bound_to, reads, Tables, Exchange, Representation, Consumer, starts_over}
+use Rattle.hc_effects.proofs.Vocabulary.{Opening, opening_in, leaves_in, Event, Response, Cause, Wait, HeadCase, Route, Wanted, route_of, range_of, wanted_of, Place, BoundBy, Showing, showing_in, wait_in, case_at, bound_to_wanted, place_by_case, passed_on, consumer_heard, by_head, by_fault, waiting_place, waiting, opened_place, unless_bound, by_opening, shown_place, consumer_acted, consumer_settled, consumer_made, consumer_after, due_after, current, Entry, promise_in, founded_total, bound_to, reads, Tables, Exchange, Representation, Consumer, starts_over}
 use Rattle.hc_event.specs.declared.event.Event.TheVariants as event
 use Rattle.hc_event.specs.declared.act.Cause.TheVariants as cause
-use Rattle.hc_event.specs.declared.act.Wait.TheVariants as wait
 use Rattle.hc_range.specs.declared.range.Span.{Span}
 use Rattle.hc_rules.specs.declared.heads.HeadCase.TheVariants as case
 use Rattle.hc_rules.specs.declared.need.Route.TheVariants as route
@@ -31,11 +30,7 @@ pub record IsInterval (w : Wanted) (lo : ℕ) (hi : Option ℕ) : Type 0 where
   pub to : Some span.hi ≡ hi
 
 pub wanted_bound : (r lo : ℕ) (hi : Option ℕ) (how : BoundBy) (q : ℕ) (d : BoundBy) (other : Place) (w : Wanted) → bound_to_wanted q d other w ≡ place.Bound r lo hi how → (other ≡ place.Bound r lo hi how) ⊎ (IsInterval w lo hi × (q ≡ r) × (d ≡ how))
-wanted_bound r lo hi how q d other wanted.TotalUnknown is = inl is
-wanted_bound r lo hi how q d other wanted.Unsatisfiable is = inl is
-wanted_bound r lo hi how q d other (wanted.Interval span) is =
-    let same = place_inj q span.lo (Some span.hi) d r lo hi how is in
-    inr (record { span = span; wanted_is = refl; from = same.from; to = same.to }, same.number, same.by_is)
+wanted_bound r lo hi how q d other w is = grind (arith, nat_tests)
 
 module _ (t : Tables) (e : Entry) (c r lo : ℕ) (hi : Option ℕ) (how : BoundBy) where
   -- what its head binds a consumer to
@@ -61,16 +56,8 @@ module _ (t : Tables) (e : Entry) (c r lo : ℕ) (hi : Option ℕ) (how : BoundB
   direct_bound : (x : ℕ) → place.Direct x ≡ place.Bound r lo hi how → ⊥
   direct_bound x is = cc
 
-  turn_bound : (x : ℕ) → place.Turn x ≡ place.Bound r lo hi how → ⊥
-  turn_bound x is = cc
-
   passed_bound : (x : ℕ) (o : Option ℕ) → passed_on x o ≡ place.Bound r lo hi how → ⊥
-  passed_bound x None is = cc
-  passed_bound x (Some q) is = cc
-
-  passed_by_bound : (kept o : Option ℕ) → passed_by kept o ≡ place.Bound r lo hi how → ⊥
-  passed_by_bound kept None is = cc
-  passed_by_bound kept (Some q) is = cc
+  passed_bound x o is = grind (arith, nat_tests)
 
   placed : (x : ℕ) (response : Response) (w : Exchange) (k : Consumer) (o : Option HeadCase) → place_by_case x response w k o ≡ place.Bound r lo hi how → IsPlaced x response w k o
   placed x response w k None is = same is
@@ -118,33 +105,21 @@ module _ (t : Tables) (e : Entry) (c r lo : ℕ) (hi : Option ℕ) (how : BoundB
   ]
 
   heard_fault : (x : ℕ) (o : Option Exchange) (k : Consumer) → (by_fault c x o k).place ≡ place.Bound r lo hi how → k.place ≡ place.Bound r lo hi how
-  heard_fault x None k is = is
-  heard_fault x (Some w) k is = elim (bool_cases (w.c == c && is_none w.head && not k.shown)) [
-    | inl here ↦ absurd (down_bound (cause.Net x) (rw here at is))
-    | inr other ↦ rw other at is
-  ]
+  heard_fault x o k is = grind (arith, nat_tests)
 
   heard : (ev : Event) (k : Consumer) → e.event ≡ ev → (consumer_heard t e c ev k).place ≡ place.Bound r lo hi how → IsHeard k
-  heard (event.Start d request) k ev is = same is
-  heard (event.Poll d want) k ev is = same is
   heard (event.Head x response) k ev is = heard_head x response (t.exchange x) k ev refl is
-  heard (event.Piece x bytes) k ev is = same is
-  heard (event.End x) k ev is = same is
   heard (event.Fault x) k ev is = same (heard_fault x (t.exchange x) k is)
   heard (event.Cancel d) k ev is = elim (bool_cases (d == c)) [
     | inl here ↦ absurd (over_bound (rw here at is))
     | inr other ↦ same (rw other at is)
   ]
-  heard (event.Doom key) k ev is = same is
+  heard _ k ev is = same is
 
   -- THE ACTS
 
   waited : (k : Consumer) (o : Option Wait) → waiting_place t k o ≡ place.Bound r lo hi how → k.place ≡ place.Bound r lo hi how
-  waited k None is = is
-  waited k (Some (wait.Turn d)) is = absurd (line_bound is)
-  waited k (Some (wait.Busy d)) is = absurd (passed_by_bound (kept_by k.place) (current t k.request.key) is)
-  waited k (Some (wait.Head x)) is = is
-  waited k (Some (wait.Body x)) is = is
+  waited k o is = grind (arith, nat_tests)
 
   -- a first hole
   pub record IsFirstHole (o : Opening) (k : Consumer) : Type 0 where
@@ -154,18 +129,8 @@ module _ (t : Tables) (e : Entry) (c r lo : ℕ) (hi : Option ℕ) (how : BoundB
     pub interval : IsInterval (wanted_of (range_of k.request) v.head.total) lo hi
     pub by_is : how ≡ by.FirstHole o.x
 
-  by_current : (o : Opening) (k : Consumer) (q : Option ℕ) (v : Option Representation) → current t k.request.key ≡ q → row_of t q ≡ v → place_for_hole o.x k.request q v ≡ place.Bound r lo hi how → IsFirstHole o k
-  by_current o k None v at row is = absurd (line_bound is)
-  by_current o k (Some q) None at row is = absurd (line_bound is)
-  by_current o k (Some q) (Some v) at row is = elim (wanted_bound r lo hi how q (by.FirstHole o.x) place.Line (wanted_of (range_of k.request) v.head.total) is) [
-    | inl never ↦ absurd (line_bound never)
-    | inr all ↦ record { v = v; current_is = at ∙ ap Some all.1; row = sym (ap t.representation all.1) ∙ row; interval = all.0; by_is = sym all.2 }
-  ]
-
   by_route : (o : Opening) (k : Consumer) (way : Route) → route_of o.need ≡ way → opened_place t o.x k way ≡ place.Bound r lo hi how → (route_of o.need ≡ route.Hole) × IsFirstHole o k
-  by_route o k route.Direct at is = absurd (direct_bound o.x is)
-  by_route o k route.Turn at is = absurd (turn_bound o.x is)
-  by_route o k route.Hole at is = (at, by_current o k (current t k.request.key) (row_of t (current t k.request.key)) refl refl is)
+  by_route o k way at is = grind (arith, nat_tests)
 
   -- what is opened for it leaves it bound, or is for its first hole
   data IsOpened (k : Consumer) : Type 0 where
@@ -251,8 +216,7 @@ module _ (t : Tables) (e : Entry) (c r lo : ℕ) (hi : Option ℕ) (how : BoundB
   settled k q u false over is stands = let same : due_after t e c k q ≡ u = rw over at is in (refl, same, ap (λ (z : Consumer). z.place) same ∙ stands)
 
   stays_in : (p : Place) (b : Bool) → leaves_in c e.acts ≡ b → (if b then place.Over else p) ≡ place.Bound r lo hi how → b ≡ false
-  stays_in p true leaves is = absurd (over_bound is)
-  stays_in p false leaves is = refl
+  stays_in p b leaves is = grind (arith, nat_tests)
 
   by_row : (k u : Consumer) → t.consumer c ≡ Some k → consumer_settled t e c k (consumer_acted t e c (consumer_heard t e c e.event k)) ≡ u → u.place ≡ place.Bound r lo hi how → BoundFrom u
   by_row k u row is stands =
@@ -260,20 +224,7 @@ module _ (t : Tables) (e : Entry) (c r lo : ℕ) (hi : Option ℕ) (how : BoundB
       from_row k u (record { row = row; stays = all.0; leaves = stays_in _ (leaves_in c e.acts) refl all.2; is = all.1 }) all.2
 
   made : (o : Option Consumer) (u : Consumer) → o ≡ Some u → (o ≡ consumer_made c e.now e.event) → u.place ≡ place.Bound r lo hi how → ⊥
-  made o u is at stands = by_event e.event (sym at ∙ is)
-    where
-      by_event : (ev : Event) → consumer_made c e.now ev ≡ Some u → ⊥
-      by_event (event.Start d request) h = elim (eq_cases d c) [
-        | inl here ↦ let never : place.Line ≡ place.Bound r lo hi how = ap (λ (z : Consumer). z.place) (some_inj _ u (rw here.0 at h)) ∙ stands in line_bound never
-        | inr other ↦ let never : None ≡ Some u = rw other.0 at h in cc
-      ]
-      by_event (event.Poll d want) h = let never : None ≡ Some u = h in cc
-      by_event (event.Head x response) h = let never : None ≡ Some u = h in cc
-      by_event (event.Piece x bytes) h = let never : None ≡ Some u = h in cc
-      by_event (event.End x) h = let never : None ≡ Some u = h in cc
-      by_event (event.Fault x) h = let never : None ≡ Some u = h in cc
-      by_event (event.Cancel d) h = let never : None ≡ Some u = h in cc
-      by_event (event.Doom key) h = let never : None ≡ Some u = h in cc
+  made o u is at stands = grind (arith, nat_tests)
 
   -- Who is bound after an entry was bound, founds, has a first hole opened, or is shown what is current.
   pub bound_from : (o : Option Consumer) (u : Consumer) → t.consumer c ≡ o → consumer_after t e c o ≡ Some u → u.place ≡ place.Bound r lo hi how → BoundFrom u

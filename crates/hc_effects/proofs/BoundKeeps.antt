@@ -1,5 +1,5 @@
 -- Whoever is bound is bound to what is there, one at most became bound as the only one, and that one knows its end.
-use Rattle.std.{proofs.Common.{◌≡◌, ℕ, true, false, Option, Some, None, refl, ap, sym, ◌∙◌, subst}, specs.Prelude.{is_some}}
+use Rattle.std.{proofs.{lemmas.Bool.Decides.{nat_tests}, Common.{arith, ◌≡◌, ℕ, true, false, Option, Some, None, refl, ap, sym, ◌∙◌, subst}}, specs.Prelude.{is_some}}
 use Rattle.hc_text.proofs.Basics.{same_some as same_row}
 use Rattle.hc_effects.proofs.Vocabulary.{Opening, opening_in, Event, Response, HeadCase, Limits, BoundBy, Showing, showing_in, wait_in, case_at, is_founding, consumer_heard, by_opening, waiting, waiting_place, denial, Entry, Flaw, entry_of, reads, Tables, Exchange, Consumer, Sound, IsBound, after_accepted, Wait, Move, move_of}
 use Rattle.hc_event.specs.declared.event.Event.TheVariants as event
@@ -11,9 +11,7 @@ use Rattle.hc_effects.proofs.ShownFrom as shown
 
 -- a founding head is one
 pub founding_is : (t : Tables) (e : Entry) (c r lo : ℕ) (hi : Option ℕ) (how : BoundBy) (x : ℕ) (response : Response) (w : Exchange) (k : Consumer) (o : Option HeadCase) → IsFounded t e c r lo hi how x response w k o → is_founding o ≡ true
-founding_is t e c r lo hi how x response w k _ (from.whole a b) = refl
-founding_is t e c r lo hi how x response w k _ (from.replaced a b) = refl
-founding_is t e c r lo hi how x response w k _ (from.part a) = refl
+founding_is t e c r lo hi how x response w k o it12 = grind (arith, nat_tests)
 
 module _ (limits : Limits) (t : Tables) (now : ℕ) (flaw : Flaw) (s : Sound t) (ev : Event) (goes : denial t ev ≡ None) where
   abbrev pub e : Entry
@@ -28,15 +26,11 @@ module _ (limits : Limits) (t : Tables) (now : ℕ) (flaw : Flaw) (s : Sound t) 
 
   shows_waits : (w : Wait) (z : Showing) (m : Move) → WaitsAs w m → IsShowing z m → ⊥
   shows_waits w z _ said.waits show = elim show [ ]
-  shows_waits w z _ (said.asks x is) show = elim show [ ]
-  shows_waits w z _ (said.opens x n request is) show = elim show [ ]
+  shows_waits w z _ _ show = elim show [ ]
 
   -- two polls of one event are one
   same_poll : (c d want more : ℕ) (k u : Consumer) → IsPoll t ev c want k → IsPoll t ev d more u → (c ≡ d) × (want ≡ more) × (k ≡ u)
-  same_poll c d want more k u a b =
-      let one : event.Poll c want ≡ event.Poll d more = sym a.at ∙ b.at in
-      let here : c ≡ d = cc in
-      (here, cc, same_row (t.consumer d) k u (sym (ap t.consumer here) ∙ a.row) b.row)
+  same_poll c d want more k u a b = grind (arith, nat_tests)
 
   pub opens_none : (z : Showing) → ShowsBy t now ev z → (o : Option Opening) → opening_in e.acts ≡ o → o ≡ None
   opens_none z shows None is = refl

@@ -1,17 +1,14 @@
 -- Whoever is bound and waits for no head goes on reading until it leaves.
-use Rattle.std.{proofs.{Common.{◌≡◌, inl, inr, ℕ, Bool, true, false, cond, Option, Some, None, refl, ap, sym, ◌∙◌, arith}, lemmas.Bool.Decides.{nat_tests}}, specs.Prelude.{if◌then◌else◌, is_none, ◌&&◌, ◌==◌, not, nat_eq}}
-use Rattle.hc_text.proofs.Basics.{and_left, and_right, bool_cases, not_some as none_some, never_true as not_so, or_cases, same_some as same_row}
-use Rattle.hc_effects.proofs.Vocabulary.{Opening, opening_in, leaves_in, Event, Response, Wait, Limits, Place, BoundBy, Showing, showing_in, wait_in, case_at, case_of, consumer_heard, consumer_acted, by_head, by_fault, by_opening, shown_place, waiting, waiting_place, due_after, back_in_line, denial, doomed_key_of, is_key, Entry, exchange_at, is_for, is_headless, Flaw, entry_of, Owners, bound_to, Tables, Exchange, Consumer, Sound, starts_over, waits_at, sends_back, loses_what_it_waits_for, after_accepted}
+use Rattle.std.{proofs.{Common.{◌≡◌, inl, inr, ℕ, Bool, true, false, Option, Some, None, refl, ap, sym, ◌∙◌, arith}, lemmas.Bool.Decides.{nat_tests}}, specs.Prelude.{if◌then◌else◌, is_none, ◌&&◌, ◌==◌, not, nat_eq}}
+use Rattle.hc_text.proofs.Basics.{and_left, and_right, bool_cases, not_some as none_some, same_some as same_row}
+use Rattle.hc_effects.proofs.Vocabulary.{Opening, opening_in, leaves_in, Event, Response, Wait, Limits, Place, BoundBy, Showing, showing_in, wait_in, case_of, consumer_heard, consumer_acted, by_head, by_fault, by_opening, shown_place, waiting, due_after, denial, Entry, exchange_at, is_for, is_headless, Flaw, entry_of, Owners, bound_to, Tables, Exchange, Consumer, Sound, starts_over, waits_at, sends_back, loses_what_it_waits_for, after_accepted}
 use Rattle.hc_event.specs.declared.event.Event.TheVariants as event
-use Rattle.hc_event.specs.declared.act.Wait.TheVariants as wait
 use Rattle.hc_event.specs.declared.place.Place.TheVariants as place
 use Rattle.hc_event.specs.declared.place.BoundBy.TheVariants as by
-use Rattle.hc_effects.proofs.{Basics.{false_true}, FirstKeeps.{is_new}, Forward.{is_kept}, PieceKeeps.{eq_cases}, Said.{waiting_by}, WaitedAs.{IsForOthers, waited_as}, Waiters.{fault_open_of}}
-use Rattle.hc_effects.proofs.WaitedAs as waited
+use Rattle.hc_effects.proofs.{Basics.{false_true}, FirstKeeps.{is_new}, Forward.{is_kept}, PieceKeeps.{eq_cases}, Said.{waiting_by}, WaitedAs.{IsForOthers, waited_as}, Waiters.{fault_open_of}, StaysOn.{settled, stays_by, waits_where}}
 
 pub none_of : (q : Option Response) → is_none q ≡ true → q ≡ None
-none_of None g = refl
-none_of (Some response) g = absurd (false_true g)
+none_of q g = grind (arith, nat_tests)
 
 pub headless_parts : (z : Option Exchange) → is_headless z ≡ true → (w : Exchange) × (z ≡ Some w) × (w.is_open ≡ true) × (w.head ≡ None)
 headless_parts None h = absurd (false_true h)
@@ -29,8 +26,6 @@ module _ (limits : Limits) (t : Tables) (now : ℕ) (flaw : Flaw) (s : Sound t) 
     head_not x response w here exchange_row mine = let new = is_new limits t now flaw s ev goes x response w here exchange_row in no_waiter x w exchange_row new.is_open new.bare mine
 
     heard_same : (u : Event) → ev ≡ u → (u ≡ event.Cancel c → ⊥) → consumer_heard t e c u k ≡ k
-    heard_same (event.Start d request) here stays = refl
-    heard_same (event.Poll d want) here stays = refl
     heard_same (event.Head x response) here stays = by_row (t.exchange x) refl
       where
         by_row : (z : Option Exchange) → t.exchange x ≡ z → by_head t e c x response z k ≡ k
@@ -39,8 +34,6 @@ module _ (limits : Limits) (t : Tables) (now : ℕ) (flaw : Flaw) (s : Sound t) 
           | inl mine ↦ absurd (head_not x response w here exchange_row mine.1)
           | inr off ↦ rw off.0 refl
         ]
-    heard_same (event.Piece x bytes) here stays = refl
-    heard_same (event.End x) here stays = refl
     heard_same (event.Fault x) here stays = by_row (t.exchange x) refl
       where
         of_it : (w : Exchange) → t.exchange x ≡ Some w → (w.c == c) ≡ true → is_none w.head ≡ true → ⊥
@@ -59,17 +52,16 @@ module _ (limits : Limits) (t : Tables) (now : ℕ) (flaw : Flaw) (s : Sound t) 
       | inl mine ↦ absurd (stays (ap event.Cancel mine.1))
       | inr off ↦ rw off.0 refl
     ]
-    heard_same (event.Doom key) here stays = refl
+    heard_same _ here stays = refl
 
     -- IT DOESN'T START OVER
 
     waits_not : (g : BoundBy) → how ≡ g → waits_at t (place.Bound r lo hi g) ≡ true → ⊥
-    waits_not by.Founding is h = false_true h
     waits_not (by.FirstHole y) is h =
         let all = headless_parts (t.exchange y) h in
         let f = o.first_own c r lo y hi k row (at ∙ ap (place.Bound r lo hi) is) in
         no_waiter y all.0 all.1 all.2 all.3 (ap (λ (z : Exchange). z.c) (same_row (t.exchange y) all.0 f.w all.1 f.row) ∙ f.for_it)
-    waits_not by.Plan is h = false_true h
+    waits_not _ is h = false_true h
 
     back_by : (x : ℕ) (response : Response) (z : Option Exchange) → ev ≡ event.Head x response → t.exchange x ≡ z → is_for z c ≡ true → ⊥
     back_by x response None here exchange_row mine = false_true mine
@@ -83,27 +75,11 @@ module _ (limits : Limits) (t : Tables) (now : ℕ) (flaw : Flaw) (s : Sound t) 
 
     unheaded : (u : Event) (lost : Bool) → ev ≡ u → sends_back (case_of t lost u) ≡ true → is_for (exchange_at t u) c ≡ true → ⊥
     unfolding case_of
-    unheaded (event.Start d request) lost here sends mine = none_sends sends
-    unheaded (event.Poll d want) lost here sends mine = none_sends sends
     unheaded (event.Head x response) lost here sends mine = back_by x response (t.exchange x) here refl mine
-    unheaded (event.Piece x bytes) lost here sends mine = none_sends sends
-    unheaded (event.End x) lost here sends mine = none_sends sends
-    unheaded (event.Fault x) lost here sends mine = none_sends sends
-    unheaded (event.Cancel d) lost here sends mine = none_sends sends
-    unheaded (event.Doom key) lost here sends mine = none_sends sends
-
-    unpassed : loses_what_it_waits_for t e c k.place ≡ true → ⊥
-    unpassed h = false_true (sym (ap (loses_what_it_waits_for t e c) at) ∙ h)
+    unheaded _ lost here sends mine = none_sends sends
 
     stays_on : starts_over t e c k ≡ false
-    unfolding starts_over
-    stays_on = not_so _ (λ over. elim (or_cases _ (loses_what_it_waits_for t e c k.place) over) [
-      | inr lost ↦ unpassed lost
-      | inl more ↦ elim (or_cases (is_key (doomed_key_of t e) k.request.key && waits_at t k.place) (sends_back (case_at t e) && is_for (exchange_at t ev) c) more) [
-        | inl doom ↦ waits_not how refl (sym (ap (waits_at t) at) ∙ and_right _ _ doom)
-        | inr back ↦ unheaded ev _ refl (and_left _ _ back) (and_right _ _ back)
-      ]
-    ])
+    stays_on = stays_by t e c k (λ lost. false_true (sym (ap (loses_what_it_waits_for t e c) at) ∙ lost)) (λ doom waits. waits_not how refl (sym (ap (waits_at t) at) ∙ waits)) (unheaded ev _ refl)
 
     -- THE ACTS
 
@@ -114,33 +90,15 @@ module _ (limits : Limits) (t : Tables) (now : ℕ) (flaw : Flaw) (s : Sound t) 
         let free = (waited_as t now c by_poll.k z others by_poll.want s by_poll.poll.row by_poll.move).free in
         none_some r (sym free ∙ (ap (λ (q : Consumer). bound_to q.place) one ∙ ap bound_to at))
 
-    waits_on : (z : Option Wait) → wait_in c e.acts ≡ z → waiting_place t k z ≡ k.place
-    waits_on None told = refl
-    waits_on (Some (wait.Turn d)) told = absurd (told_not (wait.Turn d) (waited.turn d) told)
-    waits_on (Some (wait.Busy d)) told = absurd (told_not (wait.Busy d) (waited.busy d) told)
-    waits_on (Some (wait.Head x)) told = refl
-    waits_on (Some (wait.Body x)) told = refl
-
     -- an opening and a showing leave it where it is bound
     opens_on : (q : Consumer) (z : Option Opening) → q.place ≡ place.Bound r lo hi how → (by_opening t c z q).place ≡ place.Bound r lo hi how
-    opens_on q None stands = stands
-    opens_on q (Some p) stands = elim (eq_cases p.c c) [
-      | inl mine ↦ rw (mine.0, stands) refl
-      | inr off ↦ rw off.0 stands
-    ]
+    opens_on q z stands = grind (arith, nat_tests)
 
     shows_on : (p : Place) (z : Option Showing) → p ≡ place.Bound r lo hi how → shown_place c z p ≡ place.Bound r lo hi how
-    shows_on p None stands = stands
-    shows_on p (Some z) stands = elim (eq_cases z.c c) [
-      | inl mine ↦ rw (mine.0, stands) refl
-      | inr off ↦ rw off.0 stands
-    ]
+    shows_on p z stands = grind (arith, nat_tests)
 
     stays_put : (p : Place) (leaves : Bool) → leaves ≡ false → (if leaves then place.Over else p) ≡ p
     stays_put p leaves off = rw off refl
-
-    settled : (q : Consumer) (over : Bool) → over ≡ false → (cond over (back_in_line e.now q) (due_after t e c k q)) ≡ due_after t e c k q
-    settled q over off = rw off refl
 
     -- it stands where it stood
     pub record Stays : Type 0 where
@@ -154,8 +112,8 @@ module _ (limits : Limits) (t : Tables) (now : ℕ) (flaw : Flaw) (s : Sound t) 
     bound_stays uncancelled stays =
         let on_row = is_kept t e c k row in
         let same : consumer_heard t e c ev k ≡ k = heard_same ev refl uncancelled in
-        let made : due_after t e c k (consumer_acted t e c (consumer_heard t e c ev k)) ≡ on_row.u = sym (settled (consumer_acted t e c (consumer_heard t e c ev k)) (starts_over t e c k) stays_on) ∙ on_row.is in
-        let waits : (waiting t e c k).place ≡ place.Bound r lo hi how = waits_on (wait_in c e.acts) refl ∙ at in
+        let made : due_after t e c k (consumer_acted t e c (consumer_heard t e c ev k)) ≡ on_row.u = sym (settled t e c k (consumer_acted t e c (consumer_heard t e c ev k)) stays_on) ∙ on_row.is in
+        let waits : (waiting t e c k).place ≡ place.Bound r lo hi how = waits_where t k (wait_in c e.acts) told_not ∙ at in
         let shown : shown_place c (showing_in e.acts) (by_opening t c (opening_in e.acts) (waiting t e c k)).place ≡ place.Bound r lo hi how = shows_on _ (showing_in e.acts) (opens_on (waiting t e c k) (opening_in e.acts) waits) in
         let acted : (consumer_acted t e c k).place ≡ place.Bound r lo hi how = stays_put _ (leaves_in c e.acts) stays ∙ shown in
         record {

@@ -1,13 +1,13 @@
 -- Where a reader stands is within where it stops reading, and no exchange brings more than it promised.
-use Rattle.std.{proofs.{Common.{◌≡◌, ◌⊎◌, inl, inr, ℕ, ◌+◌, ◌-◌, ◌<◌, ◌≤◌, List, [], ◌∷◌, length, Bool, true, false, Option, Some, None, refl, ap, sym, ◌∙◌, subst, arith, length-append}, lemmas.Bool.Decides.{nat_tests}}, specs.{Str.{str_to_ascii_lowercase}, Prelude.{bytes_eq, codes, take, drop, IfSome, nat_lt, nat_le, min, unwrap_or, ◌||◌, ◌&&◌, if◌then◌else◌}, Option.{option_map}}}
-use Rattle.hc_text.proofs.Basics.{not_some as none_some, or_off_right as or_false, same_some as same_row, some_inj, bool_cases}
-use Rattle.hc_range.specs.{Spans.{resolved_span, IsInOrder}, declared.range.{Asked.{Asked, TheVariants.{From, FromTo, Last}}, Span.{Span}}}
-use Rattle.hc_effects.proofs.Vocabulary.{opening_in, given_in, shows_in, Event, Request, Response, HeadCase, Limits, asked_in, spec_in, positions_from, positions_by, from_to, number_of, split_at, hyphen, overlong, piece_refusal, range_of, ranges_read, ranges_in, wanted_of, wanted_part, is_disabled, BoundBy, Showing, showing_in, case_at, consumer_heard, consumer_acted, consumer_made, consumer_after, by_opening, waiting, denial, as_open, Entry, Contents, promised_bytes, promise_of, Flaw, entry_of, Gives, Owners, move_of, reads, lo_of, hi_of, Tables, Exchange, Consumer, Sound, starts_over, first_tables, after_accepted, after_denied}
+use Rattle.std.{proofs.{Common.{◌≡◌, ◌⊎◌, inl, inr, ℕ, ◌+◌, ◌≤◌, List, [], ◌∷◌, length, Bool, true, false, Option, Some, None, refl, ap, sym, ◌∙◌, subst, arith, length-append}, lemmas.Bool.Decides.{nat_tests}}, specs.{Str.{str_to_ascii_lowercase}, Prelude.{bytes_eq, codes, take, drop, IfSome, unwrap_or, if◌then◌else◌}, Option.{option_map}}}
+use Rattle.hc_text.proofs.Basics.{not_some as none_some, or_off_right as or_false, same_some as same_row, some_inj}
+use Rattle.hc_range.specs.{Spans.{resolved_span, IsInOrder}, declared.range.{Asked.{Asked, TheVariants.{From, Last}}, Span.{Span}}}
+use Rattle.hc_effects.proofs.Vocabulary.{opening_in, given_in, shows_in, Event, Request, Response, HeadCase, Limits, asked_in, spec_in, positions_from, positions_by, from_to, number_of, split_at, hyphen, range_of, ranges_read, ranges_in, wanted_of, wanted_part, is_disabled, BoundBy, Showing, showing_in, case_at, consumer_heard, consumer_acted, consumer_made, consumer_after, by_opening, waiting, denial, Entry, Contents, promised_bytes, promise_of, Flaw, entry_of, Gives, Owners, move_of, reads, lo_of, hi_of, Tables, Exchange, Consumer, Sound, starts_over, first_tables, after_accepted, after_denied}
 use Rattle.hc_event.specs.declared.event.Event.TheVariants as event
 use Rattle.hc_rules.specs.declared.request.Wanted.TheVariants as wanted
 use Rattle.hc_rules.specs.Refusals as refusals
 use Rattle.hc_event.specs.declared.place.Place.TheVariants as place
-use Rattle.hc_effects.proofs.{BoundFrom.{BoundFrom, IsRow, IsFounded, IsInterval, IsShown, bound_from}, BoundKeeps.{shown_place_is}, ConsumerFilters.{acted, given_by}, ExchangeFrom.{ExchangeFrom, IsHeaded, exchange_from}, Fills.{Brings, brings, length_same}, FirstKeeps.{is_new}, Forward.{is_kept}, GivenNext.{given_next}, Givers.{gives_of, some_want}, MoveBy.{move_by}, Once.{taken}, PieceKeeps.{eq_cases}, PollActs.{ToOne, to_one}, Said.{IsShowing, showing_by}, ShownFrom.{ShownAs, shown_from}, ShownStays.{IsFallback, StaysOrIdle, shown_stays}, TurnPlaces.{is_after}}
+use Rattle.hc_effects.proofs.{BoundFrom.{BoundFrom, IsRow, IsFounded, IsInterval, IsShown, bound_from}, BoundKeeps.{shown_place_is}, ConsumerFilters.{acted, given_by}, ExchangeFrom.{ExchangeFrom, IsHeaded, exchange_from}, Fills.{Brings, brings, length_same}, FirstKeeps.{is_new}, Forward.{is_kept}, GivenNext.{given_next}, Givers.{gives_of, some_want}, MoveBy.{move_by}, PollActs.{ToOne, to_one}, Said.{IsShowing, showing_by}, ShownFrom.{ShownAs, shown_from}, ShownStays.{IsFallback, StaysOrIdle, shown_stays}, TurnPlaces.{is_after}}
 use Rattle.hc_effects.proofs.BoundFrom as from
 use Rattle.hc_effects.proofs.ExchangeFrom as exchange
 use Rattle.hc_effects.proofs.Fills as fills_by
@@ -19,12 +19,7 @@ use Rattle.hc_effects.proofs.ShownStays as stands
 -- INTERVALS
 
 from_order : (a b : Option ℕ) (asked : Asked) → from_to a b ≡ Some asked → IsInOrder asked
-from_order None b asked is = absurd (none_some asked is)
-from_order (Some first) None asked is = absurd (none_some asked is)
-from_order (Some first) (Some last) asked is = elim (bool_cases (nat_le first last)) [
-  | inl on ↦ let le : first ≤ last = grind (arith, nat_tests) in subst IsInOrder (some_inj (FromTo first last) asked (rw on at is)) le
-  | inr off ↦ absurd (none_some asked (rw off at is))
-]
+from_order a b asked is = grind (arith, nat_tests)
 
 map_order : (o : Option ℕ) (f : ℕ → Asked) (asked : Asked) → ((n : ℕ) → IsInOrder (f n)) → option_map f o ≡ Some asked → IsInOrder asked
 map_order None f asked all is = absurd (none_some asked is)
@@ -66,17 +61,8 @@ range_order request asked is = by_test (is_disabled request) is
     by_test true h = absurd (none_some asked h)
     by_test false h = values_order (ranges_in request.fields) asked h
 
-span_if : (b : Bool) (x span : Span) → (b ≡ true → x.lo ≤ x.hi) → (if b then Some x else None) ≡ Some span → span.lo ≤ span.hi
-span_if false x span proper is = absurd (none_some span is)
-span_if true x span proper is = subst (λ (z : Span). z.lo ≤ z.hi) (some_inj x span is) (proper refl)
-
 resolved_proper : (asked : Asked) (total : ℕ) (span : Span) → IsInOrder asked → resolved_span asked total ≡ Some span → span.lo ≤ span.hi
-resolved_proper (From first) total span order is = span_if (nat_lt first total) (record { lo = first; hi = total }) span (λ h. let lt : first < total = grind (arith, nat_tests) in omega arith) is
-resolved_proper (FromTo first last) total span order is = span_if (nat_lt first total) (record { lo = first; hi = min (last + 1) total }) span (λ h. let lt : first < total = grind (arith, nat_tests) in by_numbers first last total order lt) is
-  where
-    by_numbers : (a b n : ℕ) → a ≤ b → a < n → a ≤ min (b + 1) n
-    by_numbers a b n p q = omega arith
-resolved_proper (Last n) total span order is = span_if (nat_lt 0 n && nat_lt 0 total) (record { lo = total - n; hi = total }) span (λ h. omega arith) is
+resolved_proper asked total span order is = grind (arith, nat_tests)
 
 part_proper : (o : Option Span) (span : Span) → ((z : Span) → o ≡ Some z → z.lo ≤ z.hi) → wanted_part o ≡ wanted.Interval span → span.lo ≤ span.hi
 part_proper None span proper is = absurd (let no : wanted.Unsatisfiable ≡ wanted.Interval span = is in cc)
@@ -107,17 +93,7 @@ pub record IsBounded (t : Tables) : Type 0 where
   pub promise : (x p : ℕ) (w : Exchange) → t.exchange x ≡ Some w → promised_bytes w ≡ Some p → length w.body ≤ p
 
 made_given : (c now : ℕ) (ev : Event) (u : Consumer) → consumer_made c now ev ≡ Some u → u.given ≡ 0
-made_given c now (event.Start d request) u h = elim (eq_cases d c) [
-  | inl here ↦ sym (ap (λ (z : Consumer). z.given) (some_inj _ u (rw here.0 at h)))
-  | inr off ↦ absurd (none_some u (rw off.0 at h))
-]
-made_given c now (event.Poll d want) u h = absurd (none_some u h)
-made_given c now (event.Head x response) u h = absurd (none_some u h)
-made_given c now (event.Piece x bytes) u h = absurd (none_some u h)
-made_given c now (event.End x) u h = absurd (none_some u h)
-made_given c now (event.Fault x) u h = absurd (none_some u h)
-made_given c now (event.Cancel d) u h = absurd (none_some u h)
-made_given c now (event.Doom key) u h = absurd (none_some u h)
+made_given c now ev u h = grind (arith, nat_tests)
 
 new_given : (t : Tables) (e : Entry) (c : ℕ) (q : Option Consumer) (u : Consumer) → q ≡ None → consumer_after t e c q ≡ Some u → u.given ≡ 0
 unfolding consumer_after
@@ -168,9 +144,7 @@ module _ (limits : Limits) (t : Tables) (now : ℕ) (flaw : Flaw) (s : Sound t) 
     proper_by c r lo hi how u (from.shows k z row is all) = shown_proper c r lo hi k z all.from all.to (shown_plan c r lo (Some hi) how u k z row is all)
 
     founded_first : (c r lo : ℕ) (how : BoundBy) (x : ℕ) (response : Response) (w : Exchange) (k : Consumer) (g : Option HeadCase) → IsFounded t e c r lo None how x response w k g → lo ≡ 0
-    founded_first c r lo how x response w k _ (from.whole lo_is hi_is) = lo_is
-    founded_first c r lo how x response w k _ (from.replaced lo_is hi_is) = lo_is
-    founded_first c r lo how x response w k _ (from.part i) = absurd (let no : Some i.span.hi ≡ None = i.to in cc)
+    founded_first c r lo how x response w k g it9 = grind (arith, nat_tests)
 
     shown_first : (lo : ℕ) (k : Consumer) (z : Showing) → z.lo ≡ lo → z.hi ≡ None → ShownAs t now z.c k z.r z.lo z.hi → lo ≡ 0
     shown_first lo k z from_is to_is (shown_as.joins v current_is there on lo_is hi_is) = sym from_is ∙ lo_is
@@ -242,18 +216,9 @@ module _ (limits : Limits) (t : Tables) (now : ℕ) (flaw : Flaw) (s : Sound t) 
 
       -- WHAT AN EXCHANGE BRINGS
 
-      fits : (p n : ℕ) (z : Option ℕ) → z ≡ Some p → overlong z n ≡ None → n ≤ p
-      fits p n None is h = absurd (none_some p is)
-      fits p n (Some m) is h = elim (bool_cases (nat_lt m n)) [
-        | inl over ↦ absurd (Rattle.hc_effects.proofs.Once.never _ (rw over at h))
-        | inr in_time ↦ let same : m ≡ p = some_inj m p is in let le : n ≤ m = grind (arith, nat_tests) in omega arith
-      ]
-
       piece_fits : (y p : ℕ) (bytes : List ℕ) (w : Exchange) → t.exchange y ≡ Some w → promised_bytes w ≡ Some p → denial t (event.Piece y bytes) ≡ None → length w.body + length bytes ≤ p
       unfolding refusals.refusal_of
-      piece_fits y p bytes w row is h =
-          let got = taken (length bytes) w (sym (ap (λ z. piece_refusal (as_open z) (length bytes)) row) ∙ h) in
-          fits p (length w.body + length bytes) (promised_bytes w) is got.fits
+      piece_fits y p bytes w row is h = grind (arith, nat_tests)
 
       brought : (y p : ℕ) (w z : Exchange) → t.exchange y ≡ Some w → promised_bytes w ≡ Some p → Brings t e y w z → length z.body ≤ p
       brought y p w z row is (fills_by.still none same) =
@@ -289,13 +254,7 @@ module _ (limits : Limits) (t : Tables) (now : ℕ) (flaw : Flaw) (s : Sound t) 
       }
 
 pub bounded_begun : (contents : Contents) → IsBounded (first_tables contents)
-bounded_begun contents = record {
-  proper = λ c r lo hi how k row at. absurd (none_some k row);
-  first = λ c r lo how k row at. absurd (none_some k row);
-  fresh = λ c k row off. absurd (none_some k row);
-  within = λ c r lo hi how k row at. absurd (none_some k row);
-  promise = λ x p w row is. absurd (none_some w row);
-}
+bounded_begun contents = grind (arith, nat_tests)
 
 pub bounded_denied : (t : Tables) (e : Entry) → IsBounded t → IsBounded (after_denied t e)
 bounded_denied t e b = record { proper = b.proper; first = b.first; fresh = b.fresh; within = b.within; promise = b.promise }

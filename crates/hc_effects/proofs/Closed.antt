@@ -1,7 +1,7 @@
 -- What must be closed is closed: what is the own exchange of who leaves, or that of a writing whose last reader leaves.
-use Rattle.std.{proofs.Common.{◌≡◌, inl, inr, ℕ, List, [], ◌∷◌, ◌++◌, Bool, true, Some, refl, ap, sym, ◌∙◌, subst}, specs.Prelude.{map, filter, reverse, nat_eq, is_some}}
+use Rattle.std.{proofs.{lemmas.Bool.Decides.{nat_tests}, Common.{arith, ◌≡◌, inl, inr, ℕ, List, [], ◌∷◌, ◌++◌, Bool, true, Some, refl, ap, sym, ◌∙◌, subst}}, specs.Prelude.{map, filter, reverse, nat_eq, is_some}}
 use Rattle.hc_text.proofs.Basics.{both_true as and_both, bool_cases, eq_itself as eq_refl, or_right, reverse_is as reversed_is}
-use Rattle.hc_effects.proofs.Vocabulary.{closes_in, Event, Act, Limits, accepted_acts, poll_acts, answer_acts, loss_acts, closing, closes_row, must_close, Entry, exchange_heard, Flaw, NoFlaw, Loses, Misreads, Tables, Exchange, Sound, Among, evicted}
+use Rattle.hc_effects.proofs.Vocabulary.{closes_in, Event, Act, Limits, accepted_acts, poll_acts, answer_acts, loss_acts, closing, closes_row, must_close, Entry, exchange_heard, Flaw, Tables, Exchange, Sound, Among, evicted}
 use Rattle.hc_event.specs.declared.event.Event.TheVariants as event
 use Rattle.hc_event.specs.declared.act.Act.TheVariants as act
 
@@ -36,9 +36,7 @@ closes_evicted x [] rest closes = closes
 closes_evicted x (r ∷ rs) rest closes = closes_evicted x rs rest closes
 
 closes_lost : (x : ℕ) (flaw : Flaw) (rest : List Act) → closes_in x rest ≡ true → closes_in x (loss_acts flaw ++ rest) ≡ true
-closes_lost x NoFlaw rest closes = closes
-closes_lost x (Loses r kind) rest closes = closes
-closes_lost x (Misreads r) rest closes = closes
+closes_lost x flaw rest closes = grind (arith, nat_tests)
 
 closes_list : (x : ℕ) (xs : List ℕ) (rest : List Act) → Among x xs → closes_in x (map act.Close xs ++ rest) ≡ true
 closes_list x [] rest there = absurd there
@@ -72,14 +70,9 @@ module _ (limits : Limits) (t : Tables) (now : ℕ) (flaw : Flaw) (s : Sound t) 
   before ev = record { now = now; event = ev; acts = answer_acts t now ev flaw ++ loss_acts flaw }
 
   closes_by : (ev : Event) (x : ℕ) → Among x (closing t (before ev)) → closes_in x (accepted_acts limits t now ev flaw) ≡ true
-  closes_by (event.Start c request) x there = closes_evicted x (evicted limits t now (event.Start c request)) _ (closes_lost x flaw _ (closes_all x (closing t (before (event.Start c request))) there))
   closes_by (event.Poll c want) x there = closes_after x (poll_acts t now want c flaw) _ (closes_list x (closing t (before (event.Poll c want))) (loss_acts flaw) there)
-  closes_by (event.Head y response) x there = closes_evicted x (evicted limits t now (event.Head y response)) _ (closes_lost x flaw _ (closes_all x (closing t (before (event.Head y response))) there))
-  closes_by (event.Piece y bytes) x there = closes_evicted x (evicted limits t now (event.Piece y bytes)) _ (closes_lost x flaw _ (closes_all x (closing t (before (event.Piece y bytes))) there))
-  closes_by (event.End y) x there = closes_evicted x (evicted limits t now (event.End y)) _ (closes_lost x flaw _ (closes_all x (closing t (before (event.End y))) there))
-  closes_by (event.Fault y) x there = closes_evicted x (evicted limits t now (event.Fault y)) _ (closes_lost x flaw _ (closes_all x (closing t (before (event.Fault y))) there))
   closes_by (event.Cancel c) x there = closes_list x (closing t (before (event.Cancel c))) (loss_acts flaw) there
-  closes_by (event.Doom key) x there = closes_evicted x (evicted limits t now (event.Doom key)) _ (closes_lost x flaw _ (closes_all x (closing t (before (event.Doom key))) there))
+  closes_by ev x there = closes_evicted x (evicted limits t now ev) _ (closes_lost x flaw _ (closes_all x (closing t (before ev)) there))
 
   -- an exchange that must be closed, and that the event leaves open, is closed
   pub closes : (ev : Event) (x : ℕ) (w : Exchange) → t.exchange x ≡ Some w → must_close t (before ev) x w ≡ true → (exchange_heard t (before ev) x ev w).is_open ≡ true → closes_in x (accepted_acts limits t now ev flaw) ≡ true

@@ -1,8 +1,8 @@
 -- What an event of a consumer comes to: itself, what is let go, and what it makes of exchanges and lists.
-use Rattle.std.{proofs.Common.{◌≡◌, inl, inr, ℕ, ◌+◌, List, [], ◌∷◌, Bool, true, false, Option, Some, None, refl, ap, sym, ◌∙◌, subst}, specs.Prelude.{◌==◌, nat_eq, if◌then◌else◌, option_map}}
+use Rattle.std.{proofs.{lemmas.Bool.Decides.{nat_tests}, Common.{arith, ◌≡◌, ℕ, ◌+◌, List, [], ◌∷◌, Bool, true, false, Option, Some, None, refl, ap, sym, ◌∙◌}}, specs.Prelude.{◌==◌, nat_eq, if◌then◌else◌, option_map}}
 use Rattle.hc_effects.proofs.Vocabulary.{opening_in, Place, loses_in, consumer_after, back_in_line, with_consumer, with_event, as_gone, let_go, let_all_go, let_some_go, Entry, exchange_after, becomes_gone, goes_in, Lawful, representation_after, Tables, Representation, Consumer, after_accepted, last_start_after, starts_after, opened_after, openings_after, received_in, with_item_first, to_front, binds}
 use Rattle.hc_event.specs.declared.place.Place.TheVariants as place
-use Rattle.hc_effects.proofs.{ActParts.{IsFarFrom}, OfConsumers.{BringsNothing, consumer_alone, founds_nobody}, PieceKeeps.{eq_cases}, SameTables.{same_tables, is_in, waits_for_any, back_from_any, without, all_go_is}, Untouched.{goes_from, representation_frame, representation_absent, consumer_absent}}
+use Rattle.hc_effects.proofs.{ActParts.{IsFarFrom}, OfConsumers.{BringsNothing, consumer_alone, founds_nobody}, SameTables.{same_tables, is_in, waits_for_any, back_from_any, without, all_go_is}, Untouched.{goes_from, representation_frame, representation_absent, consumer_absent}}
 
 -- u has what the entry makes of all but c, once these are let go
 pub record ComesTo (t : Tables) (e : Entry) (c : ℕ) (rs : List ℕ) (u : Tables) : Type 0 where
@@ -22,12 +22,7 @@ pub record ComesTo (t : Tables) (e : Entry) (c : ℕ) (rs : List ℕ) (u : Table
 module _ (t : Tables) (e : Entry) (law : Lawful t) (rs : List ℕ) (goes : (r : ℕ) (v : Representation) → t.representation r ≡ Some v → becomes_gone t e r v ≡ is_in rs r) where
   pub waits_as : (d : ℕ) (k : Consumer) → t.consumer d ≡ Some k → (p : Place) → k.place ≡ p → goes_from t e p ≡ waits_for_any rs p
   waits_as d k row (place.Passed r kept) at = let w = law.passed.waits d r kept k row at in ap (goes_in t e r) w.row ∙ goes r w.v w.row
-  waits_as d k row place.Line at = refl
-  waits_as d k row (place.Turn x) at = refl
-  waits_as d k row (place.Bound r lo hi how) at = refl
-  waits_as d k row (place.Direct x) at = refl
-  waits_as d k row (place.Down why) at = refl
-  waits_as d k row place.Over at = refl
+  waits_as d k row _ at = refl
 
 module _ (t : Tables) (e : Entry) (c : ℕ) (n : BringsNothing t e c) where
   -- the tables after it: c is q, and waits for nothing that is let go
@@ -51,10 +46,7 @@ module _ (t : Tables) (e : Entry) (c : ℕ) (n : BringsNothing t e c) where
       ∙ ap (with_event e.now e.event) (sym (all_go_is e.now rs (with_consumer c (Some q) u)))
     where
       by_number : (d : ℕ) → consumer_after t e d (t.consumer d) ≡ option_map (back_from_any e.now rs) (if c == d then Some q else u.consumer d)
-      by_number d = elim (eq_cases c d) [
-        | inl here ↦ rw here.0 (subst (λ m. consumer_after t e m (t.consumer m) ≡ Some q) here.1 row ∙ rw waits refl)
-        | inr other ↦ rw other.0 (comes.consumer d other.0)
-      ]
+      by_number d = grind (arith, nat_tests)
 
   module _ (law : Lawful t) (far : (d : ℕ) → nat_eq c d ≡ false → IsFarFrom d e.acts) (rs : List ℕ) (goes : (r : ℕ) (v : Representation) → t.representation r ≡ Some v → becomes_gone t e r v ≡ is_in rs r) where
     pub others : (d : ℕ) → nat_eq c d ≡ false → consumer_after t e d (t.consumer d) ≡ option_map (back_from_any e.now rs) (t.consumer d)
@@ -84,9 +76,7 @@ module _ (t : Tables) (e : Entry) (c : ℕ) (n : BringsNothing t e c) where
 -- ONE OR TWO ARE LET GO
 
 pub some_all : (now : ℕ) (o : Option ℕ) (t : Tables) → let_all_go now (with_item_first o []) t ≡ let_some_go now o t
-some_all now None t = refl
-some_all now (Some r) t = refl
+some_all now o t = grind (arith, nat_tests)
 
 pub two_all : (now r : ℕ) (o : Option ℕ) (t : Tables) → let_all_go now (with_item_first o (r ∷ [])) t ≡ let_go now r (let_some_go now o t)
-two_all now r None t = refl
-two_all now r (Some q) t = refl
+two_all now r o t = grind (arith, nat_tests)

@@ -1,6 +1,6 @@
 -- The columns of consumers are filters of the list of entries.
-use Rattle.std.{proofs.Common.{◌≡◌, inl, inr, ℕ, ◌+◌, List, [], ◌∷◌, ◌++◌, length, Bool, true, false, cond, Option, Some, None, refl, ap, sym, ◌∙◌}, specs.{Prelude.{if◌then◌else◌, ◌==◌, ◌||◌, option_map}, Option.{option_or}}}
-use Rattle.hc_text.proofs.Basics.{bool_cases, or_none}
+use Rattle.std.{proofs.{lemmas.Bool.Decides.{nat_tests}, Common.{arith, ◌≡◌, ℕ, ◌+◌, List, [], ◌∷◌, ◌++◌, length, Bool, true, false, cond, Option, Some, None, refl, ap, sym, ◌∙◌}}, specs.{Prelude.{if◌then◌else◌, ◌==◌, ◌||◌, option_map}, Option.{option_or}}}
+use Rattle.hc_text.proofs.Basics.{or_none}
 use Rattle.hc_effects.proofs.Vocabulary.{Opening, opening_in, is_denied, given_in, shows_in, Event, Entry, History, Contents, Tables, Exchange, Consumer, starts_over, consumer_after, consumer_made, consumer_heard, consumer_acted, consumer_settled, by_head, by_fault, by_opening, waiting, back_in_line, due_after, tables, after, each, each_after, first, if_accepted, request_in, request_of}
 use Rattle.hc_event.specs.declared.event.Event.TheVariants as event
 use Rattle.hc_model.specs.{ConsumerRows.{with_head, with_opening}, Histories.{last, since_of, start_in, start_at, starts_over_at}}
@@ -9,8 +9,7 @@ use Rattle.hc_event.specs.declared.place.Place.TheVariants as place
 -- LISTS
 
 pub first_append : {A : Type 0} (xs ys : List A) → first (xs ++ ys) ≡ option_or (first xs) (first ys)
-first_append [] ys = refl
-first_append (x ∷ xs) ys = refl
+first_append xs ys = grind (arith, nat_tests)
 
 -- with one more entry
 pub first_more : {A : Type 0} (xs ys : List A) (o p : Option A) → o ≡ first xs → p ≡ option_or o (first ys) → p ≡ first (xs ++ ys)
@@ -40,22 +39,18 @@ same_if true k u is = is
 same_if false k u is = same k
 
 pub heard_same : (t : Tables) (e : Entry) (c : ℕ) (ev : Event) (k : Consumer) → IsSame k (consumer_heard t e c ev k)
-heard_same t e c (event.Start d request) k = same k
-heard_same t e c (event.Poll d want) k = same k
 heard_same t e c (event.Head x response) k = by_row (t.exchange x)
   where
     by_row : (o : Option Exchange) → IsSame k (by_head t e c x response o k)
     by_row None = same k
     by_row (Some w) = same_if (w.c == c) k (with_head t e x response w k) (record { request_is = refl; since_is = refl; given_is = refl; shown_is = refl })
-heard_same t e c (event.Piece x bytes) k = same k
-heard_same t e c (event.End x) k = same k
 heard_same t e c (event.Fault x) k = by_row (t.exchange x)
   where
     by_row : (o : Option Exchange) → IsSame k (by_fault c x o k)
     by_row None = same k
     by_row (Some w) = same_if _ k _ (record { request_is = refl; since_is = refl; given_is = refl; shown_is = refl })
 heard_same t e c (event.Cancel d) k = same_if (d == c) k (record k { place = place.Over }) (record { request_is = refl; since_is = refl; given_is = refl; shown_is = refl })
-heard_same t e c (event.Doom key) k = same k
+heard_same t e c _ k = same k
 
 opening_same : (t : Tables) (c : ℕ) (o : Option Opening) (k : Consumer) → IsSame k (by_opening t c o k)
 opening_same t c None k = same k
@@ -80,20 +75,16 @@ acted t e c k =
     }
 
 pub request_by : (b : Bool) (t : Tables) (e : Entry) (c : ℕ) (k q : Consumer) → (cond b (back_in_line e.now q) (due_after t e c k q)).request ≡ q.request
-request_by true t e c k q = refl
-request_by false t e c k q = refl
+request_by b t e c k q = grind (arith, nat_tests)
 
 pub given_by : (b : Bool) (t : Tables) (e : Entry) (c : ℕ) (k q : Consumer) → (cond b (back_in_line e.now q) (due_after t e c k q)).given ≡ q.given
-given_by true t e c k q = refl
-given_by false t e c k q = refl
+given_by b t e c k q = grind (arith, nat_tests)
 
 pub shown_by : (b : Bool) (t : Tables) (e : Entry) (c : ℕ) (k q : Consumer) → (cond b (back_in_line e.now q) (due_after t e c k q)).shown ≡ q.shown
-shown_by true t e c k q = refl
-shown_by false t e c k q = refl
+shown_by b t e c k q = grind (arith, nat_tests)
 
 pub since_by : (b : Bool) (t : Tables) (e : Entry) (c : ℕ) (k q : Consumer) → Some ((cond b (back_in_line e.now q) (due_after t e c k q)).since) ≡ option_or (last (cond b (e.now ∷ []) [])) (Some q.since)
-since_by true t e c k q = refl
-since_by false t e c k q = refl
+since_by b t e c k q = grind (arith, nat_tests)
 
 after_request : (t : Tables) (e : Entry) (c : ℕ) (k : Consumer) → (consumer_settled t e c k (consumer_acted t e c (consumer_heard t e c e.event k))).request ≡ k.request
 after_request t e c k = request_by (starts_over t e c k) t e c k (consumer_acted t e c (consumer_heard t e c e.event k)) ∙ (acted t e c k).request_is
@@ -101,17 +92,7 @@ after_request t e c k = request_by (starts_over t e c k) t e c k (consumer_acted
 -- REQUESTS
 
 made_request : (c now : ℕ) (ev : Event) → option_map (λ (k : Consumer). k.request) (consumer_made c now ev) ≡ first (request_in c ev)
-made_request c now (event.Start d request) = elim (bool_cases (d == c)) [
-  | inl here ↦ rw here refl
-  | inr other ↦ rw other refl
-]
-made_request c now (event.Poll d want) = refl
-made_request c now (event.Head x response) = refl
-made_request c now (event.Piece x bytes) = refl
-made_request c now (event.End x) = refl
-made_request c now (event.Fault x) = refl
-made_request c now (event.Cancel d) = refl
-made_request c now (event.Doom key) = refl
+made_request c now ev = grind (arith, nat_tests)
 
 -- the request after an accepted entry
 request_after : (t : Tables) (e : Entry) (c : ℕ) (o : Option Consumer) → option_map (λ (k : Consumer). k.request) (consumer_after t e c o) ≡ option_or (option_map (λ (k : Consumer). k.request) o) (first (request_in c e.event))
@@ -133,17 +114,7 @@ requests_are contents (e ∷ h) c =
 -- STARTS
 
 made_since : (t : Tables) (e : Entry) (c : ℕ) (ev : Event) → option_map (λ (k : Consumer). k.since) (consumer_made c e.now ev) ≡ last (if start_in c ev then e.now ∷ [] else [])
-made_since t e c (event.Start d request) = elim (bool_cases (d == c)) [
-  | inl here ↦ rw here refl
-  | inr other ↦ rw other refl
-]
-made_since t e c (event.Poll d want) = refl
-made_since t e c (event.Head x response) = refl
-made_since t e c (event.Piece x bytes) = refl
-made_since t e c (event.End x) = refl
-made_since t e c (event.Fault x) = refl
-made_since t e c (event.Cancel d) = refl
-made_since t e c (event.Doom key) = refl
+made_since t e c ev = grind (arith, nat_tests)
 
 since_after : (t : Tables) (e : Entry) (c : ℕ) (o : Option Consumer) → option_map (λ (k : Consumer). k.since) (consumer_after t e c o) ≡ option_or (last (if starts_over_at t e c o then e.now ∷ [] else [])) (option_map (λ (k : Consumer). k.since) o)
 unfolding consumer_after

@@ -136,14 +136,8 @@ module _ (limits : Limits) (t : Tables) (now : ℕ) (flaw : Flaw) (s : Sound t) 
     -- A LATER HOLE IS OPENED FOR IT
 
     start_or : (n : Need) → (hole_start n ≡ 0) ⊎ IsHole n
-    start_or need.Disabled = inl refl
-    start_or need.TimedOut = inl refl
-    start_or need.Bypass = inl refl
-    start_or need.Miss = inl refl
-    start_or need.Vary = inl refl
-    start_or need.Validate = inl refl
     start_or (need.Hole from to) = inr (record { from = from; to = to; is = refl })
-    start_or need.Unsatisfied = inl refl
+    start_or _ = inl refl
 
     pub later_from : (from to : ℕ) → OpensHole t c k from to → from ≡ offset t k
     later_from from to (tree.first q v span hole is aims there nobody found lo_is hi_is) =

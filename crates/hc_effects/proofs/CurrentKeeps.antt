@@ -3,7 +3,6 @@ use Rattle.std.{proofs.{Common.{◌≡◌, inl, inr, ℕ, List, [], ◌∷◌, B
 use Rattle.hc_text.proofs.Basics.{and_both, bool_cases, eq_itself as eq-refl, not_true as not_gone, or_left, or_right, some_inj}
 use Rattle.hc_effects.proofs.Vocabulary.{Event, Response, HeadCase, accepted_acts, case_at, is_founding, current, is_usable, is_number, Entry, becomes_gone, goes_by_head, goes_by_exchange, goes_by_case, is_current_of, representation_after, representation_heard, representation_acted, founded_at, new_representation, representation_after_head, with_renewed_head, updates, representation_after_piece, with_total_if_none, length_in, family, exchange_at, Tables, Exchange, Representation, Sound, Among, OneCurrent, after_accepted}
 use Rattle.hc_event.specs.declared.event.Event.TheVariants as event
-use Rattle.hc_rules.specs.declared.heads.HeadCase.TheVariants as case
 use Rattle.hc_rules.proofs.RangeReads.{bytes_eq-same, same_bytes}
 use Rattle.hc_model.specs.Laws.{OneCurrentIsKept}
 use Rattle.hc_effects.proofs.Basics.{or_false}
@@ -22,8 +21,6 @@ same_if true v u is = is
 same_if false v u is = same v
 
 pub heard_same : (t : Tables) (e : Entry) (r : ℕ) (ev : Event) (v : Representation) → IsSame v (representation_heard t e r ev v)
-heard_same t e r (event.Start c request) v = same v
-heard_same t e r (event.Poll c want) v = same v
 heard_same t e r (event.Head x response) v = by_row (t.exchange x)
   where
     by_row : (o : Option Exchange) → IsSame v (representation_after_head t e r x response o v)
@@ -35,9 +32,7 @@ heard_same t e r (event.Piece x bytes) v = by_row (t.exchange x)
     by_row None = same v
     by_row (Some w) = same_if (family x w == r) v _ (record { key_is = refl; gone_is = refl })
 heard_same t e r (event.End x) v = same_if (x == r) v (with_total_if_none (length_in (t.exchange x)) v) (record { key_is = refl; gone_is = refl })
-heard_same t e r (event.Fault x) v = same v
-heard_same t e r (event.Cancel c) v = same v
-heard_same t e r (event.Doom key) v = same v
+heard_same t e r _ v = same v
 
 -- a row after an entry was there, and doesn't become gone where it isn't gone; or it is founded
 pub data WasOrFounded (t : Tables) (e : Entry) (r : ℕ) (u : Representation) : Type 0 where
@@ -52,18 +47,12 @@ made t e r x response u true (Some w) at none is row h =
     founded x response w at parts.1 parts.0 row (sym (ap (λ (z : Representation). z.key) (some_inj (new_representation r e response w) u h))) none
 
 of_none : (t : Tables) (e : Entry) (r : ℕ) (ev : Event) (u : Representation) → e.event ≡ ev → t.representation r ≡ None → founded_at t e r ev ≡ Some u → WasOrFounded t e r u
-of_none t e r (event.Start c request) u at none h = absurd (let never : None ≡ Some u = h in cc)
-of_none t e r (event.Poll c want) u at none h = absurd (let never : None ≡ Some u = h in cc)
 of_none t e r (event.Head x response) u at none h =
     made t e r x response u (is_founding (case_at t e) && (x == r)) (t.exchange x) at none (λ b.
     let parts = and_both (is_founding (case_at t e)) (x == r) b in
     let test : nat_eq x r ≡ true = parts.1 in
     (parts.0, grind (arith, nat_tests))) refl h
-of_none t e r (event.Piece x bytes) u at none h = absurd (let never : None ≡ Some u = h in cc)
-of_none t e r (event.End x) u at none h = absurd (let never : None ≡ Some u = h in cc)
-of_none t e r (event.Fault x) u at none h = absurd (let never : None ≡ Some u = h in cc)
-of_none t e r (event.Cancel c) u at none h = absurd (let never : None ≡ Some u = h in cc)
-of_none t e r (event.Doom key) u at none h = absurd (let never : None ≡ Some u = h in cc)
+of_none t e r _ u at none h = absurd (let never : None ≡ Some u = h in cc)
 
 pub was_or_founded : (t : Tables) (e : Entry) (r : ℕ) (o : Option Representation) (u : Representation) → t.representation r ≡ o → representation_after t e r o ≡ Some u → WasOrFounded t e r u
 unfolding representation_after
@@ -76,24 +65,7 @@ was_or_founded t e r (Some v) u row h =
 -- WHAT FOUNDS REPLACES WHAT IS CURRENT
 
 replaces : (t : Tables) (e : Entry) (q : ℕ) (w : Exchange) (c : HeadCase) → is_founding (Some c) ≡ true → is_current_of t w q ≡ true → goes_by_case t e q (Some c) w ≡ true
-replaces t e q w case.FoundsWhole is now = now
-replaces t e q w case.FoundsRange is now = now
-replaces t e q w case.FirstReplaced is now = or_right (is_number w.aim q) (is_current_of t w q) now
-replaces t e q w case.DirectBad is now = absurd (let never : false ≡ true = is in cc)
-replaces t e q w case.DirectTaken is now = absurd (let never : false ≡ true = is in cc)
-replaces t e q w case.TurnBad is now = absurd (let never : false ≡ true = is in cc)
-replaces t e q w case.Validated is now = absurd (let never : false ≡ true = is in cc)
-replaces t e q w case.NotValidated is now = absurd (let never : false ≡ true = is in cc)
-replaces t e q w case.TurnServerError is now = absurd (let never : false ≡ true = is in cc)
-replaces t e q w case.PassesBy is now = absurd (let never : false ≡ true = is in cc)
-replaces t e q w case.FirstBad is now = absurd (let never : false ≡ true = is in cc)
-replaces t e q w case.FirstJoins is now = absurd (let never : false ≡ true = is in cc)
-replaces t e q w case.FirstServerError is now = absurd (let never : false ≡ true = is in cc)
-replaces t e q w case.FirstChanged is now = absurd (let never : false ≡ true = is in cc)
-replaces t e q w case.FirstPassesBy is now = absurd (let never : false ≡ true = is in cc)
-replaces t e q w case.LaterBad is now = absurd (let never : false ≡ true = is in cc)
-replaces t e q w case.LaterJoins is now = absurd (let never : false ≡ true = is in cc)
-replaces t e q w case.LaterChanged is now = absurd (let never : false ≡ true = is in cc)
+replaces t e q w c is now = grind (arith, nat_tests)
 
 replaces_some : (t : Tables) (e : Entry) (q : ℕ) (w : Exchange) (o : Option HeadCase) → is_founding o ≡ true → is_current_of t w q ≡ true → goes_by_case t e q o w ≡ true
 replaces_some t e q w None is now = absurd (let never : false ≡ true = is in cc)

@@ -1,5 +1,5 @@
 -- What a doom of a key comes to: who waits for it starts over, what they await is closed, and what is current is let go.
-use Rattle.std.{proofs.Common.{◌≡◌, inl, inr, ℕ, List, [], ◌∷◌, Bool, true, false, Option, Some, None, refl, ap, sym, ◌∙◌}, specs.Prelude.{bytes_eq, ◌&&◌, ◌||◌, if◌then◌else◌, option_map, filter, reverse}}
+use Rattle.std.{proofs.{lemmas.Bool.Decides.{nat_tests}, Common.{arith, ◌≡◌, inl, inr, ℕ, List, [], ◌∷◌, Bool, true, false, Option, Some, None, refl, ap, sym, ◌∙◌}}, specs.Prelude.{bytes_eq, ◌&&◌, ◌||◌, if◌then◌else◌, option_map, filter, reverse}}
 use Rattle.hc_text.proofs.Basics.{and_left, and_right, bool_cases, not_some as none_some, never_true as not_so, or_cases}
 use Rattle.hc_effects.proofs.Vocabulary.{back_in_line, is_number, sent_back, is_awaited, awaited_and, Tables, Exchange, Representation, Consumer, Sound, waits_at, awaits}
 use Rattle.hc_effects.proofs.{Basics.{false_true, number_is}, SameTables.{is_in, waits_for_any, back_from_any}, PieceKeeps.{eq_cases}, BoundStays.{none_of}}
@@ -8,11 +8,7 @@ use Rattle.hc_effects.proofs.{Basics.{false_true, number_is}, SameTables.{is_in,
 
 -- whoever waits for the key starts over, and else who waits for what goes
 pub sent_as : (t : Tables) (now : ℕ) (key : List ℕ) (rs : List ℕ) (k : Consumer) → Some (if (bytes_eq key k.request.key && waits_at t k.place) || waits_for_any rs k.place then back_in_line now k else k) ≡ option_map (back_from_any now rs) (Some (sent_back t now key k))
-sent_as t now key rs k = by_test (bytes_eq key k.request.key && waits_at t k.place)
-  where
-    by_test : (b : Bool) → Some (if b || waits_for_any rs k.place then back_in_line now k else k) ≡ Some (back_from_any now rs (if b then back_in_line now k else k))
-    by_test true = refl
-    by_test false = refl
+sent_as t now key rs k = grind (arith, nat_tests)
 
 -- EXCHANGES
 

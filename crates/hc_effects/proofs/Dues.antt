@@ -1,8 +1,7 @@
 -- What becomes due for whom: nothing where a writing goes on, and nothing for who isn't told so.
-use Rattle.std.{proofs.Common.{◌≡◌, ℕ, Bool, true, false, Option, Some, None, refl, ap, sym, ◌∙◌}, specs.{Prelude.{if◌then◌else◌}, Option.{option_or}}}
+use Rattle.std.{proofs.{lemmas.Bool.Decides.{nat_tests}, Common.{arith, ◌≡◌, ℕ, true, false, Option, Some, None, refl, ap, ◌∙◌}}, specs.{Option.{option_or}}}
 use Rattle.hc_effects.proofs.Vocabulary.{Cause, is_same_number, Place, BoundBy, due_after, Entry, exchange_in, becomes_due, cause_of_stop, cause_of_loss, cause_by_loss, cause_of_head, stop_cause, source, reads, Tables, Representation, Consumer, loses_writing}
 use Rattle.hc_event.specs.declared.place.Place.TheVariants as place
-use Rattle.hc_effects.proofs.Basics.{some_none}
 
 -- the parts of what becomes due
 pub record IsUndue (t : Tables) (e : Entry) (c : ℕ) (k : Consumer) : Type 0 where
@@ -11,10 +10,7 @@ pub record IsUndue (t : Tables) (e : Entry) (c : ℕ) (k : Consumer) : Type 0 wh
   pub head : cause_of_head t e c e.event ≡ None
 
 parts : (a b c : Option Cause) → option_or a (option_or b c) ≡ None → (a ≡ None) × (b ≡ None) × (c ≡ None)
-parts None None None h = (refl, refl, refl)
-parts None None (Some z) h = absurd (some_none z h)
-parts None (Some z) c h = absurd (some_none z h)
-parts (Some z) b c h = absurd (some_none z h)
+parts a b c h = grind (arith, nat_tests)
 
 pub undue_parts : (t : Tables) (e : Entry) (c : ℕ) (k : Consumer) → becomes_due t e c k ≡ None → IsUndue t e c k
 unfolding becomes_due
@@ -26,11 +22,7 @@ undue_of t e c k u = rw (u.stop, u.loss, u.head) refl
 
 -- what stops for nobody
 pub stop_none : (t : Tables) (e : Entry) (k : Consumer) → stop_cause t e.event ≡ None → cause_of_stop t e k ≡ None
-stop_none t e k none = by_test (is_same_number (source t k) (exchange_in e.event)) (stop_cause t e.event) none
-  where
-    by_test : (b : Bool) (z : Option Cause) → z ≡ None → (if b then z else None) ≡ None
-    by_test true z none = none
-    by_test false z none = refl
+stop_none t e k none = grind (arith, nat_tests)
 
 pub other_stop : (t : Tables) (e : Entry) (k : Consumer) → is_same_number (source t k) (exchange_in e.event) ≡ false → cause_of_stop t e k ≡ None
 other_stop t e k off = rw off refl
@@ -39,27 +31,15 @@ pub loss_at : (t : Tables) (e : Entry) (c r lo : ℕ) (hi : Option ℕ) (how : B
 loss_at t e c r lo hi how k v at row kept = ap (cause_of_loss t e c) at ∙ (ap (cause_by_loss t e c r) row ∙ rw kept refl)
 
 pub loss_free : (t : Tables) (e : Entry) (c : ℕ) (p : Place) → ((r lo : ℕ) (hi : Option ℕ) (how : BoundBy) → p ≡ place.Bound r lo hi how → ⊥) → cause_of_loss t e c p ≡ None
-loss_free t e c place.Line free = refl
-loss_free t e c (place.Passed r kept) free = refl
-loss_free t e c (place.Turn x) free = refl
-loss_free t e c (place.Bound r lo hi how) free = absurd (free r lo hi how refl)
-loss_free t e c (place.Direct x) free = refl
-loss_free t e c (place.Down cause) free = refl
-loss_free t e c place.Over free = refl
+loss_free t e c p free = grind (arith, nat_tests)
 
 -- a row's due failure after an entry
 pub due_is : (t : Tables) (e : Entry) (c : ℕ) (k q u : Consumer) → due_after t e c k q ≡ u → reads u.place ≡ true → u.due ≡ option_or k.due (becomes_due t e c k)
-due_is t e c k q u is reading =
-    let placed : reads q.place ≡ true = ap (λ (z : Consumer). reads z.place) is ∙ reading in
-    sym (ap (λ (z : Consumer). z.due) is) ∙ rw placed refl
+due_is t e c k q u is reading = grind (arith, nat_tests)
 
 pub due_none : (t : Tables) (e : Entry) (c : ℕ) (k q u : Consumer) → due_after t e c k q ≡ u → reads u.place ≡ true → k.due ≡ None → becomes_due t e c k ≡ None → u.due ≡ None
 due_none t e c k q u is reading before none = due_is t e c k q u is reading ∙ (ap (λ (z : Option Cause). option_or z (becomes_due t e c k)) before ∙ none)
 
 -- and what wasn't due after it wasn't before, nor became so
 pub due_before : (t : Tables) (e : Entry) (c : ℕ) (k q u : Consumer) → due_after t e c k q ≡ u → reads u.place ≡ true → u.due ≡ None → (k.due ≡ None) × (becomes_due t e c k ≡ None)
-due_before t e c k q u is reading none = by_parts k.due (becomes_due t e c k) (sym (due_is t e c k q u is reading) ∙ none)
-  where
-    by_parts : (a b : Option Cause) → option_or a b ≡ None → (a ≡ None) × (b ≡ None)
-    by_parts None b h = (refl, h)
-    by_parts (Some z) b h = absurd (some_none z h)
+due_before t e c k q u is reading none = grind (arith, nat_tests)

@@ -1,8 +1,8 @@
 -- What a consumer reads ends within the length of its body, where the end is known; and so all measures stay.
-use Rattle.std.{proofs.Common.{◌≡◌, ◌⊎◌, inl, inr, ℕ, ◌+◌, ◌-◌, ◌≤◌, Bool, true, false, Option, Some, None, refl, ap, sym, ◌∙◌, subst, arith, min}, specs.{Prelude.{if◌then◌else◌, is_some, ◌&&◌, nat_eq, nat_lt}, Option.{option_or}}}
+use Rattle.std.{proofs.{lemmas.Bool.Decides.{nat_tests}, Common.{◌≡◌, ℕ, ◌≤◌, false, Option, Some, None, refl, ap, sym, ◌∙◌, subst, arith}}, specs.{Prelude.{is_some, nat_eq}}}
 use Rattle.hc_text.proofs.Basics.{not_some as none_some, number_not, same_some as same_row, some_inj}
-use Rattle.hc_range.specs.{declared.range.{Asked.{Asked, TheVariants.{FromTo, From, Last}}, Span.{Span}}, Spans.{resolved_span}}
-use Rattle.hc_effects.proofs.Vocabulary.{opening_in, Event, Response, HeadCase, Limits, range_of, wanted_of, wanted_part, BoundBy, Showing, showing_in, case_at, consumer_heard, by_opening, waiting, denial, Entry, promise_in, Flaw, founded_total, entry_of, Measures, Owners, move_of, reads, length_in, Tables, Exchange, Representation, Consumer, Sound, after_accepted}
+use Rattle.hc_range.specs.{declared.range.{Asked.{Asked}, Span.{Span}}}
+use Rattle.hc_effects.proofs.Vocabulary.{opening_in, Event, Response, HeadCase, Limits, range_of, wanted_of, BoundBy, Showing, showing_in, case_at, consumer_heard, by_opening, waiting, denial, Entry, promise_in, Flaw, founded_total, entry_of, Measures, Owners, move_of, reads, Tables, Exchange, Representation, Consumer, Sound, after_accepted}
 use Rattle.hc_event.specs.declared.event.Event.TheVariants as event
 use Rattle.hc_rules.specs.declared.heads.HeadCase.TheVariants as case
 use Rattle.hc_rules.specs.declared.request.Wanted.TheVariants as wanted
@@ -22,37 +22,14 @@ pub record IsSpanOf (o : Option ℕ) (hi : ℕ) : Type 0 where
   pub known : o ≡ Some total
   pub ends : hi ≤ total
 
-span_if : (b : Bool) (x span : Span) (total : ℕ) → (b ≡ true → x.hi ≤ total) → (if b then Some x else None) ≡ Some span → span.hi ≤ total
-span_if false x span total most is = absurd (none_some span is)
-span_if true x span total most is = let same : x ≡ span = some_inj x span is in let hi : x.hi ≡ span.hi = ap (λ (z : Span). z.hi) same in let le : x.hi ≤ total = most refl in omega arith
-
-resolved_within : (asked : Asked) (total : ℕ) (span : Span) → resolved_span asked total ≡ Some span → span.hi ≤ total
-resolved_within (From first) total span is = span_if (nat_lt first total) (record { lo = first; hi = total }) span total (λ h. omega arith) is
-resolved_within (FromTo first last) total span is = span_if (nat_lt first total) (record { lo = first; hi = min (last + 1) total }) span total (λ h. omega arith) is
-resolved_within (Last n) total span is = span_if (nat_lt 0 n && nat_lt 0 total) (record { lo = total - n; hi = total }) span total (λ h. omega arith) is
-
 pub interval_inj : (a b : Span) → wanted.Interval a ≡ wanted.Interval b → a ≡ b
 interval_inj a b is = cc
 
-part_within : (o : Option Span) (span : Span) (total : ℕ) → ((z : Span) → o ≡ Some z → z.hi ≤ total) → wanted_part o ≡ wanted.Interval span → span.hi ≤ total
-part_within None span total most is = absurd (let no : wanted.Unsatisfiable ≡ wanted.Interval span = is in cc)
-part_within (Some z) span total most is = let same : z ≡ span = interval_inj z span is in let hi : z.hi ≡ span.hi = ap (λ (q : Span). q.hi) same in let le : z.hi ≤ total = most z refl in omega arith
-
 pub wanted_within : (range : Option Asked) (o : Option ℕ) (span : Span) → wanted_of range o ≡ wanted.Interval span → IsSpanOf o span.hi
-wanted_within range None span is = absurd (let no : wanted.TotalUnknown ≡ wanted.Interval span = is in cc)
-wanted_within None (Some total) span is =
-    let same : (record { lo = 0; hi = total }) ≡ span = interval_inj (record { lo = 0; hi = total }) span is in
-    let hi : total ≡ span.hi = ap (λ (q : Span). q.hi) same in
-    record { total = total; known = refl; ends = omega arith }
-wanted_within (Some asked) (Some total) span is =
-    record { total = total; known = refl; ends = part_within (resolved_span asked total) span total (λ z found. resolved_within asked total z found) is }
+wanted_within range o span is = grind (arith, nat_tests)
 
 interval_within : (range : Option Asked) (o : Option ℕ) (lo hi : ℕ) → IsInterval (wanted_of range o) lo (Some hi) → IsSpanOf o hi
-interval_within range o lo hi i =
-    let w = wanted_within range o i.span i.wanted_is in
-    let same : i.span.hi ≡ hi = some_inj i.span.hi hi i.to in
-    let le : i.span.hi ≤ w.total = w.ends in
-    record { total = w.total; known = w.known; ends = omega arith }
+interval_within range o lo hi i = grind (arith, nat_tests)
 
 module _ (limits : Limits) (t : Tables) (now : ℕ) (flaw : Flaw) (s : Sound t) (o : Owners t) (m : Measures t) (ev : Event) (goes : denial t ev ≡ None) where
   abbrev e : Entry
@@ -63,11 +40,7 @@ module _ (limits : Limits) (t : Tables) (now : ℕ) (flaw : Flaw) (s : Sound t) 
 
   -- a length that is known stays
   pub known_kept : (r total : ℕ) (v u : Representation) → IsKept t e r v u → v.head.total ≡ Some total → u.head.total ≡ Some total
-  known_kept r total v u kept known = by_total kept.total_is
-    where
-      by_total : (u.head.total ≡ v.head.total) ⊎ IsEnded t e r v u.head.total → u.head.total ≡ Some total
-      by_total (inl same) = same ∙ known
-      by_total (inr ends) = ends.total_is ∙ ap (λ z. option_or z (Some (length_in (t.exchange r)))) known
+  known_kept r total v u kept known = grind (arith, nat_tests)
 
   within_as : (u : Representation) (hi : ℕ) (z : Option ℕ) → IsSpanOf z hi → z ≡ u.head.total → EndsWithin u hi
   within_as u hi z w same = record { total = w.total; known = sym same ∙ w.known; ends = w.ends }

@@ -1,5 +1,5 @@
 -- Every owed entry keeps what open exchanges are still to bring absent, and one of them at most about each representation.
-use Rattle.std.{proofs.Common.{◌≡◌, ℕ, List, [], ◌∷◌, ◌++◌, length, Bool, true, false, Option, Some, None, refl}, specs.Prelude.{is_some, map, nat_lt, ◌==◌, if◌then◌else◌}}
+use Rattle.std.{proofs.{lemmas.Bool.Decides.{nat_tests}, Common.{arith, ◌≡◌, ℕ, List, [], ◌∷◌, ◌++◌, length, Bool, true, false, Option, Some, None, refl}}, specs.Prelude.{is_some, map, nat_lt, ◌==◌, if◌then◌else◌}}
 use Rattle.hc_effects.proofs.Vocabulary.{opening_in, Event, Response, Act, accepted_acts, loss_acts, closing, is_live, denial, as_open, gate, Entry, promised_bytes, Flaw, NoFlaw, Loses, Misreads, Tables, Exchange, Consumer, Sound, after_accepted, evicted, head_refusal, piece_refusal, poll_refusal, Limits}
 use Rattle.hc_event.specs.declared.event.Event.TheVariants as event
 use Rattle.hc_event.specs.declared.act.Act.TheVariants as act
@@ -15,10 +15,9 @@ evicts_open_none (r ∷ rs) rest none = evicts_open_none rs rest none
 losses_then : (flaw : Flaw) (xs : List ℕ) → opening_in (loss_acts flaw ++ map act.Close xs) ≡ None
 losses_then NoFlaw [] = refl
 losses_then NoFlaw (x ∷ xs) = losses_then NoFlaw xs
-losses_then (Loses r kind) [] = refl
 losses_then (Loses r kind) (x ∷ xs) = losses_then (Loses r kind) xs
-losses_then (Misreads r) [] = refl
 losses_then (Misreads r) (x ∷ xs) = losses_then (Misreads r) xs
+losses_then _ [] = refl
 
 abbrev pub owed_entry : Limits → Tables → ℕ → Event → Flaw → Entry
 owed_entry limits t now event flaw = record { now = now; event = event; acts = accepted_acts limits t now event flaw }
@@ -34,13 +33,10 @@ quiet_keeps t e s quiet none =
 
 -- what the refusals of a head and of a poll test
 head_by : (is_open headed asked : Bool) (n : ℕ) (o : Option ℕ) → head_refusal (if is_open then Some (record { headed = headed; asked = asked; delivered = n; promised = o }) else None) ≡ None → (is_open ≡ true) × (headed ≡ false)
-head_by false headed asked n o h = absurd (never _ h)
-head_by true true asked n o h = absurd (never _ h)
-head_by true false asked n o h = (refl, refl)
+head_by is_open headed asked n o h = grind (arith, nat_tests)
 
 pub no_head : (o : Option Response) → is_some o ≡ false → o ≡ None
-no_head None h = refl
-no_head (Some response) h = absurd (let no : true ≡ false = h in cc)
+no_head o h = grind (arith, nat_tests)
 
 module _ (limits : Limits) (t : Tables) (now : ℕ) (flaw : Flaw) (s : Sound t) where
   pub told : (event : Event) → opening_in (map act.Evicted (evicted limits t now event) ++ (loss_acts flaw ++ map act.Close (closing t (record { now = now; event = event; acts = loss_acts flaw })))) ≡ None
@@ -78,14 +74,11 @@ module _ (limits : Limits) (t : Tables) (now : ℕ) (flaw : Flaw) (s : Sound t) 
   -- Every accepted event keeps both, where the tables before it are sound.
   pub events_keep : (event : Event) → denial t event ≡ None → KeepsDeliveries (after_accepted t (owed_entry limits t now event flaw))
   unfolding refusals.refusal_of
-  events_keep (event.Start c request) goes = quiet_keeps t _ s refl (told (event.Start c request))
   events_keep (event.Poll c want) goes = poll_is c want (t.consumer c) refl (poll_live c want goes)
   events_keep (event.Head x response) goes = head_is x response (t.exchange x) refl goes
   events_keep (event.Piece x bytes) goes = piece_is x bytes (t.exchange x) refl goes
-  events_keep (event.End x) goes = quiet_keeps t _ s refl (told (event.End x))
-  events_keep (event.Fault x) goes = quiet_keeps t _ s refl (told (event.Fault x))
   events_keep (event.Cancel c) goes = quiet_keeps t _ s refl (cancels c)
-  events_keep (event.Doom key) goes = quiet_keeps t _ s refl (told (event.Doom key))
+  events_keep ev goes = quiet_keeps t _ s refl (told ev)
 
 pub deliveries_are_kept : DeliveriesAreKept
 deliveries_are_kept limits t now flaw s event goes = events_keep limits t now flaw s event goes

@@ -1,9 +1,8 @@
 -- The rows after an entry that makes room are those after it without that, once what makes room is evicted.
-use Rattle.std.{proofs.Common.{◌≡◌, inl, inr, ℕ, List, [], ◌∷◌, ◌++◌, Bool, true, false, Option, Some, None, refl, ap, sym, ◌∙◌}, specs.Prelude.{map, ◌==◌, ◌||◌, ◌&&◌, not, is_some, if◌then◌else◌, option_map}}
-use Rattle.hc_text.proofs.Basics.{bool_cases, or_false as or_off}
-use Rattle.hc_effects.proofs.Vocabulary.{evicts_in, Act, Event, Place, fails_in, case_at, consumer_heard, consumer_acted, consumer_settled, consumer_made, consumer_after, new_consumer, doomed_key_of, is_key, as_gone, Entry, evict_all, exchange_at, is_for, goes_itself, becomes_gone, goes_in, representation_after, representation_heard, representation_acted, Tables, Representation, Consumer, starts_over, waits_at, sends_back, loses_what_it_waits_for, after_accepted, with_item_first, to_front, opened_after, openings_after}
+use Rattle.std.{proofs.{lemmas.Bool.Decides.{nat_tests}, Common.{arith, ◌≡◌, inl, inr, ℕ, List, [], ◌∷◌, ◌++◌, Bool, true, false, Option, Some, None, refl, ap, sym, ◌∙◌}}, specs.Prelude.{map, ◌==◌, ◌||◌, ◌&&◌, not, is_some, if◌then◌else◌, option_map}}
+use Rattle.hc_text.proofs.Basics.{never_true, bool_cases, or_false as or_off}
+use Rattle.hc_effects.proofs.Vocabulary.{evicts_in, Act, Event, Place, fails_in, case_at, consumer_heard, consumer_acted, consumer_settled, consumer_made, consumer_after, doomed_key_of, is_key, as_gone, Entry, evict_all, exchange_at, is_for, goes_itself, becomes_gone, goes_in, representation_after, representation_heard, representation_acted, Tables, Representation, Consumer, starts_over, waits_at, sends_back, loses_what_it_waits_for, after_accepted, with_item_first, to_front, opened_after, openings_after}
 use Rattle.hc_event.specs.declared.act.Act.TheVariants as act
-use Rattle.hc_event.specs.declared.event.Event.TheVariants as event
 use Rattle.hc_event.specs.declared.place.Place.TheVariants as place
 use Rattle.hc_effects.proofs.{Alike.{AreAlike, alike_evicted, case_same, doomed_same, itself_same, exchange_same, founds_same, binds_same, founded_same, heard_same, heard_consumer, acted_same, due_same}, Basics.{false_true}, SameTables.{same_tables, is_in, waits_for_any, back_from_any, without, all_go_is}}
 
@@ -16,14 +15,10 @@ evicts_are r (q ∷ rs) b none = ap (λ z. (q == r) || z) (evicts_are r rs b non
 -- THE ROWS
 
 waiting_shift : (i h : Bool) → ((i || h) && true) ≡ ((i && true) || h)
-waiting_shift true h = refl
-waiting_shift false true = refl
-waiting_shift false false = refl
+waiting_shift i h = grind (arith, nat_tests)
 
 starting_shift : (a b c h : Bool) → ((a || b) || (c || h)) ≡ (((a || b) || c) || h)
-starting_shift true b c h = refl
-starting_shift false true c h = refl
-starting_shift false false c h = refl
+starting_shift a b c h = grind (arith, nat_tests)
 
 module _ (t : Tables) (now : ℕ) (ev : Event) (rs : List ℕ) (b : List Act) (none : (r : ℕ) → evicts_in r b ≡ false) (fails : (c : ℕ) → fails_in c b ≡ false) (there : (r : ℕ) → is_in rs r ≡ true → is_some (t.representation r) ≡ true) where
   abbrev a : List Act
@@ -58,11 +53,7 @@ module _ (t : Tables) (now : ℕ) (ev : Event) (rs : List ℕ) (b : List Act) (n
       by_test false false = refl
 
   stays_none : (r : ℕ) → t.representation r ≡ None → is_in rs r ≡ false
-  stays_none r row = by_test (is_in rs r) refl
-    where
-      by_test : (b : Bool) → is_in rs r ≡ b → b ≡ false
-      by_test false is = refl
-      by_test true is = absurd (false_true (sym (ap is_some row) ∙ there r is))
+  stays_none r row = never_true (is_in rs r) (λ is. false_true (sym (ap is_some row) ∙ there r is))
 
   pub representation_row : (r : ℕ) (z : Option Representation) → t.representation r ≡ z → representation_after t e r z ≡ (if is_in rs r then option_map as_gone (representation_after t f r z) else representation_after t f r z)
   unfolding representation_after
@@ -83,12 +74,7 @@ module _ (t : Tables) (now : ℕ) (ev : Event) (rs : List ℕ) (b : List Act) (n
       by_row : (z : Option Representation) → t.representation r ≡ z → (goes_in t e r z && not (fails_in c a)) ≡ ((goes_in t f r z && not (fails_in c b)) || is_in rs r)
       by_row None row = rw (stays_none r row) refl
       by_row (Some v) row = rw (gone_before r v, gone_after r v, like.fails c, fails c) (waiting_shift (goes_itself t f r v) (is_in rs r))
-  losing c place.Line = refl
-  losing c (place.Turn x) = refl
-  losing c (place.Bound r lo hi how) = refl
-  losing c (place.Direct x) = refl
-  losing c (place.Down why) = refl
-  losing c place.Over = refl
+  losing c _ = refl
 
   starts_before : (c : ℕ) (k : Consumer) → starts_over t e c k ≡ (starts_over t f c k || waits_for_any rs k.place)
   unfolding starts_over
@@ -106,12 +92,7 @@ module _ (t : Tables) (now : ℕ) (ev : Event) (rs : List ℕ) (b : List Act) (n
   ]
 
   made_row : (c : ℕ) (z : Event) → consumer_made c now z ≡ option_map (back_from_any now rs) (consumer_made c now z)
-  made_row c (event.Start d request) = by_test (d == c)
-    where
-      by_test : (b : Bool) → (if b then Some (new_consumer now request) else None) ≡ option_map (back_from_any now rs) (if b then Some (new_consumer now request) else None)
-      by_test true = refl
-      by_test false = refl
-  made_row c _ = refl
+  made_row c z = grind (arith, nat_tests)
 
   module _ (moves : (c : ℕ) (k : Consumer) → t.consumer c ≡ Some k → starts_over t f c k ≡ false → waits_for_any rs (consumer_acted t f c (consumer_heard t f c ev k)).place ≡ waits_for_any rs k.place) where
     pub consumer_row : (c : ℕ) (z : Option Consumer) → t.consumer c ≡ z → consumer_after t e c z ≡ option_map (back_from_any now rs) (consumer_after t f c z)

@@ -1,6 +1,6 @@
 -- What one eviction leaves: who is bound and who is live, and all that is current but what is evicted.
-use Rattle.std.{proofs.{Common.{◌≡◌, inl, inr, ℕ, List, [], ◌∷◌, length, Bool, true, false, Option, Some, None, refl, ap, sym, ◌∙◌, arith}, lemmas.Bool.Decides.{nat_tests}}, specs.Prelude.{find, filter, bytes_eq, nat_eq, ◌==◌, ◌&&◌, not, if◌then◌else◌, option_map}}
-use Rattle.hc_text.proofs.Basics.{bool_cases, not_some as none_some, eq_itself as self_is, some_inj}
+use Rattle.std.{proofs.{Common.{◌≡◌, inl, inr, ℕ, List, [], ◌∷◌, length, Bool, true, false, Option, Some, None, refl, ap, sym, ◌∙◌, arith}, lemmas.Bool.Decides.{nat_tests}}, specs.Prelude.{find, filter, nat_eq, ◌==◌, if◌then◌else◌, option_map}}
+use Rattle.hc_text.proofs.Basics.{bool_cases, not_some as none_some, eq_itself as self_is}
 use Rattle.hc_effects.proofs.Vocabulary.{Place, back_in_line, current, is_usable, live, is_live, is_live_place, back_from, as_gone, evict, evict_all, unless_it, bound, is_bound, is_bound_place, Tables, Representation, Consumer, OneCurrent}
 use Rattle.hc_event.specs.declared.place.Place.TheVariants as place
 use Rattle.hc_model.specs.{Effects.{waits_for}, Evictions.{EvictsOne, AnyLeavesOneCurrent}}
@@ -11,21 +11,11 @@ use Rattle.hc_effects.proofs.{Basics.{same_functions, false_true}, CurrentKeeps.
 -- who is sent back waited, and waits in line
 back_bound : (now r q : ℕ) (k : Consumer) (p : Place) → k.place ≡ p → is_bound_place q (if waits_for r p then back_in_line now k else k).place ≡ is_bound_place q p
 back_bound now r q k (place.Passed n kept) at = elim (bool_cases (r == n)) [ inl here ↦ rw here refl | inr other ↦ rw other (ap (is_bound_place q) at) ]
-back_bound now r q k place.Line at = ap (is_bound_place q) at
-back_bound now r q k (place.Turn x) at = ap (is_bound_place q) at
-back_bound now r q k (place.Bound n lo hi how) at = ap (is_bound_place q) at
-back_bound now r q k (place.Direct x) at = ap (is_bound_place q) at
-back_bound now r q k (place.Down why) at = ap (is_bound_place q) at
-back_bound now r q k place.Over at = ap (is_bound_place q) at
+back_bound now r q k _ at = ap (is_bound_place q) at
 
 back_live : (now r : ℕ) (k : Consumer) (p : Place) → k.place ≡ p → is_live_place (if waits_for r p then back_in_line now k else k).place ≡ is_live_place p
 back_live now r k (place.Passed n kept) at = elim (bool_cases (r == n)) [ inl here ↦ rw here refl | inr other ↦ rw other (ap is_live_place at) ]
-back_live now r k place.Line at = ap is_live_place at
-back_live now r k (place.Turn x) at = ap is_live_place at
-back_live now r k (place.Bound n lo hi how) at = ap is_live_place at
-back_live now r k (place.Direct x) at = ap is_live_place at
-back_live now r k (place.Down why) at = ap is_live_place at
-back_live now r k place.Over at = ap is_live_place at
+back_live now r k _ at = ap is_live_place at
 
 row_bound : (now r q : ℕ) (z : Option Consumer) → is_bound q (option_map (back_from now r) z) ≡ is_bound q z
 row_bound now r q None = refl
@@ -48,12 +38,7 @@ usable_other : (key : List ℕ) (r q : ℕ) (z : Option Representation) → nat_
 usable_other key r q z other = rw other refl
 
 no_more : (key : List ℕ) (r q : ℕ) (z : Option Representation) → nat_eq r q ≡ true → is_usable key (if r == q then option_map as_gone z else z) ≡ false
-no_more key r q None here = rw here refl
-no_more key r q (Some v) here = rw here (by_key (bytes_eq v.key key))
-  where
-    by_key : (b : Bool) → (b && not true) ≡ false
-    by_key true = refl
-    by_key false = refl
+no_more key r q z here = grind (arith, nat_tests)
 
 module _ (t : Tables) (r : ℕ) (one : OneCurrent t) (key : List ℕ) where
   abbrev before : ℕ → Bool
@@ -122,9 +107,7 @@ module _ (t : Tables) (r : ℕ) (one : OneCurrent t) (key : List ℕ) where
 
 -- what is not gone after wasn't before
 was_fresh : (b : Bool) (z : Option Representation) (v : Representation) → (if b then option_map as_gone z else z) ≡ Some v → v.is_gone ≡ false → z ≡ Some v
-was_fresh false z v is fresh = is
-was_fresh true None v is fresh = is
-was_fresh true (Some u) v is fresh = absurd (false_true (sym fresh ∙ sym (ap (λ (w : Representation). w.is_gone) (some_inj (as_gone u) v is))))
+was_fresh b z v is fresh = grind (arith, nat_tests)
 
 one_after : (t : Tables) (r : ℕ) → OneCurrent t → OneCurrent (evict r t)
 one_after t r one n q v u row row' fresh fresh' same_key =

@@ -1,24 +1,19 @@
 -- What makes room comes last: an accepted event does what it does without it, and then each of those goes.
-use Rattle.std.{proofs.Common.{◌≡◌, inl, inr, ℕ, zero, suc, List, [], ◌∷◌, ◌++◌, Bool, true, false, Option, Some, None, refl, ap, sym, ◌∙◌}, specs.Prelude.{map, filter, take, reverse, is_some, ◌==◌}}
+use Rattle.std.{proofs.{lemmas.Bool.Decides.{nat_tests}, Common.{arith, ◌≡◌, inl, inr, ℕ, zero, suc, List, [], ◌∷◌, ◌++◌, Bool, true, false, Option, Some, None, refl, ap, sym, ◌∙◌}}, specs.Prelude.{map, filter, take, reverse, is_some, ◌==◌}}
 use Rattle.hc_text.proofs.Basics.{bool_cases, same_some as same_row}
-use Rattle.hc_effects.proofs.Vocabulary.{evicts_in, Act, Event, Response, HeadCase, Wanted, Limits, Room, range_of, wanted_of, Place, has_loss, fails_in, without_losses, accepted_acts, answer_acts, loss_acts, close_acts, case_at, case_of, head_view, consumer_heard, consumer_acted, by_head, place_by_case, bound_to_wanted, closing, denial, Entry, entry_without_acts, evict_all, unevicting, Flaw, NoFlaw, Loses, Misreads, flaw_in, founded_total, entry_of, Owners, IsAwaiting, Tables, Exchange, Representation, Consumer, may_be, Sound, starts_over, after_accepted, is_idle, idle, evicted, first_idle, room_for, write_in, written_representation, written_in}
+use Rattle.hc_effects.proofs.Vocabulary.{evicts_in, Act, Event, Response, HeadCase, Limits, Room, Place, has_loss, fails_in, without_losses, accepted_acts, answer_acts, loss_acts, close_acts, case_at, case_of, head_view, consumer_heard, consumer_acted, by_head, place_by_case, closing, denial, Entry, entry_without_acts, evict_all, unevicting, Flaw, Loses, flaw_in, entry_of, Owners, IsAwaiting, Tables, Exchange, Representation, Consumer, may_be, Sound, starts_over, after_accepted, is_idle, idle, evicted, first_idle, room_for, write_in, written_representation, written_in}
 use Rattle.hc_event.specs.declared.act.Act.TheVariants as act
 use Rattle.hc_event.specs.declared.event.Event.TheVariants as event
 use Rattle.hc_rules.specs.declared.heads.HeadCase.TheVariants as case
-use Rattle.hc_rules.specs.declared.request.Wanted.TheVariants as wanted
 use Rattle.hc_rules.specs.declared.room.Room.TheVariants as room
-use Rattle.hc_event.specs.declared.place.BoundBy.TheVariants as by
-use Rattle.hc_event.specs.declared.place.Place.TheVariants as place
 use Rattle.hc_model.specs.Evictions.{unevicting_entry, EvictsLast, EvictionsComeLast}
-use Rattle.hc_model.specs.Owners as owners
 use Rattle.hc_effects.proofs.{ActParts.{evicts_closes, evicts_lost, far_loss, far_closed}, Alike.{alike_evicted, written_same}, Basics.{false_true}, EvictedRows.{tables_last}, FirstKeeps.{is_new, case_of_head}, FoundBy.{CaseBy}, GivingWay.{writes_nothing}, PieceKeeps.{eq_cases}, PieceServes.{IsQuietActs, quiet_acts}, PollEffects.{none_waits}, SameTables.{is_in, waits_for_any}}
 use Rattle.hc_effects.proofs.FoundBy as cases
 
 -- WHAT MAKES ROOM IS THERE
 
 there_row : (t : Tables) (e : Entry) (r : ℕ) (z : Option Representation) → is_idle t e r z ≡ true → is_some z ≡ true
-there_row t e r None is = absurd (false_true is)
-there_row t e r (Some v) is = refl
+there_row t e r z is = grind (arith, nat_tests)
 
 there_idle : (t : Tables) (e : Entry) (r : ℕ) (rs : List ℕ) → is_in (filter (λ q. is_idle t e q (t.representation q)) rs) r ≡ true → is_some (t.representation r) ≡ true
 there_idle t e r [] h = absurd (false_true h)
@@ -41,8 +36,7 @@ gone_taken (suc n) r (q ∷ rs) h = elim (bool_cases (q == r)) [
 there_first : (t : Tables) (e : Entry) (r : ℕ) (z : Room) → is_in (first_idle t e z) r ≡ true → is_some (t.representation r) ≡ true
 unfolding idle
 there_first t e r (room.After count) h = there_idle t e r (reverse t.used) (gone_taken count r (filter (λ q. is_idle t e q (t.representation q)) (reverse t.used)) h)
-there_first t e r room.TooLarge h = absurd (false_true h)
-there_first t e r room.Full h = absurd (false_true h)
+there_first t e r _ h = absurd (false_true h)
 
 -- IT SHOWS NO FLAW
 
@@ -58,29 +52,10 @@ without_same (r ∷ rs) b = ap (λ acts. act.Evicted r ∷ acts) (without_same r
 
 -- who waits for a head waits for no representation
 awaiting_waits : (rs : List ℕ) (x : ℕ) (w : Exchange) (p : Place) → IsAwaiting x w p → waits_for_any rs p ≡ false
-awaiting_waits rs x w p (owners.direct way at) = rw at refl
-awaiting_waits rs x w p (owners.turn way at) = rw at refl
-awaiting_waits rs x w p (owners.hole r lo hi how way aim at) = rw at refl
-
--- what it becomes bound to isn't waited for
-wanted_waits : (rs : List ℕ) (x : ℕ) (z : Wanted) → waits_for_any rs (bound_to_wanted x by.Founding (place.Direct x) z) ≡ false
-wanted_waits rs x wanted.TotalUnknown = refl
-wanted_waits rs x wanted.Unsatisfiable = refl
-wanted_waits rs x (wanted.Interval span) = refl
+awaiting_waits rs x w p it4 = grind (arith, nat_tests)
 
 placed_waits : (rs : List ℕ) (x : ℕ) (response : Response) (w : Exchange) (k : Consumer) (g : Option HeadCase) → (g ≡ Some case.Validated → rs ≡ []) → waits_for_any rs k.place ≡ false → waits_for_any rs (place_by_case x response w k g) ≡ false
-placed_waits rs x response w k (Some case.DirectBad) empty off = refl
-placed_waits rs x response w k (Some case.TurnBad) empty off = refl
-placed_waits rs x response w k (Some case.FirstBad) empty off = refl
-placed_waits rs x response w k (Some case.Validated) empty off = ap (λ ys. waits_for_any ys (place_by_case x response w k (Some case.Validated))) (empty refl) ∙ none_waits (place_by_case x response w k (Some case.Validated))
-placed_waits rs x response w k (Some case.FoundsWhole) empty off = refl
-placed_waits rs x response w k (Some case.FirstReplaced) empty off = refl
-placed_waits rs x response w k (Some case.FoundsRange) empty off = wanted_waits rs x (wanted_of (range_of k.request) (founded_total w response))
-placed_waits rs x response w k (Some case.TurnServerError) empty off = refl
-placed_waits rs x response w k (Some case.PassesBy) empty off = refl
-placed_waits rs x response w k (Some case.FirstServerError) empty off = refl
-placed_waits rs x response w k (Some case.FirstPassesBy) empty off = refl
-placed_waits rs x response w k _ empty off = off
+placed_waits rs x response w k g empty off = grind (arith, nat_tests)
 
 not_lost : (t : Tables) (loss_acts : Bool) (w : Exchange) (response : Response) → CaseBy (head_view t loss_acts w response) case.Validated → loss_acts ≡ false
 not_lost t loss_acts w response (cases.validated way status conditional kept) = kept
@@ -143,15 +118,11 @@ module _ (limits : Limits) (t : Tables) (now : ℕ) (ev : Event) (flaw : Flaw) w
     heard_moves (event.Head x response) here c k row = head_moves c x response k (t.exchange x) here row refl
     heard_moves (event.Piece x bytes) here c k row = refl
     heard_moves (event.End x) here c k row = refl
-    heard_moves (event.Fault x) here c k row =
-        let none : rs ≡ [] = none_evicted (ap (write_in t (entry_without_acts now ev)) here) in
-        let off : (p : Place) → waits_for_any rs p ≡ false = λ p. ap (λ ys. waits_for_any ys p) none ∙ none_waits p in
-        off (consumer_heard t f c (event.Fault x) k).place ∙ sym (off k.place)
-    heard_moves (event.Cancel d) here c k row =
-        let none : rs ≡ [] = none_evicted (ap (write_in t (entry_without_acts now ev)) here) in
-        let off : (p : Place) → waits_for_any rs p ≡ false = λ p. ap (λ ys. waits_for_any ys p) none ∙ none_waits p in
-        off (consumer_heard t f c (event.Cancel d) k).place ∙ sym (off k.place)
     heard_moves (event.Doom key) here c k row = refl
+    heard_moves some_ev here c k row =
+        let none : rs ≡ [] = none_evicted (ap (write_in t (entry_without_acts now ev)) here) in
+        let off : (p : Place) → waits_for_any rs p ≡ false = λ p. ap (λ ys. waits_for_any ys p) none ∙ none_waits p in
+        off (consumer_heard t f c some_ev k).place ∙ sym (off k.place)
 
     moves : (c : ℕ) (k : Consumer) → t.consumer c ≡ Some k → starts_over t f c k ≡ false → waits_for_any rs (consumer_acted t f c (consumer_heard t f c ev k)).place ≡ waits_for_any rs k.place
     moves c k row on = ap (waits_for_any rs) (acted_place c (consumer_heard t f c ev k)) ∙ heard_moves ev refl c k row
@@ -168,9 +139,8 @@ module _ (limits : Limits) (t : Tables) (now : ℕ) (ev : Event) (flaw : Flaw) w
       ∙ written_same t now ev (map act.Evicted rs ++ without_losses b) (without_losses b) (alike_evicted rs (without_losses b)) ev
 
   may_last : (other : Flaw) → may_be limits t (record { now = now; event = ev; acts = a }) other ≡ may_be limits t f other
-  may_last NoFlaw = refl
   may_last (Loses r kind) = rw written_last refl
-  may_last (Misreads r) = refl
+  may_last _ = refl
 
   flaw_last : flaw_in a ≡ flaw_in b
   flaw_last = flaw_same rs b
@@ -188,11 +158,6 @@ module _ (limits : Limits) (t : Tables) (now : ℕ) (ev : Event) (flaw : Flaw) w
       }
 
 pub evictions_come_last : EvictionsComeLast
-evictions_come_last limits t now (event.Start c request) flaw s o goes = record { acts = refl; shown = flaw_last limits t now (event.Start c request) flaw; may = may_last limits t now (event.Start c request) flaw; tables = told_last limits t now (event.Start c request) flaw s o goes }
 evictions_come_last limits t now (event.Poll c want) flaw s o goes = asked_last limits t now (event.Poll c want) flaw refl refl
-evictions_come_last limits t now (event.Head x response) flaw s o goes = record { acts = refl; shown = flaw_last limits t now (event.Head x response) flaw; may = may_last limits t now (event.Head x response) flaw; tables = told_last limits t now (event.Head x response) flaw s o goes }
-evictions_come_last limits t now (event.Piece x bytes) flaw s o goes = record { acts = refl; shown = flaw_last limits t now (event.Piece x bytes) flaw; may = may_last limits t now (event.Piece x bytes) flaw; tables = told_last limits t now (event.Piece x bytes) flaw s o goes }
-evictions_come_last limits t now (event.End x) flaw s o goes = record { acts = refl; shown = flaw_last limits t now (event.End x) flaw; may = may_last limits t now (event.End x) flaw; tables = told_last limits t now (event.End x) flaw s o goes }
-evictions_come_last limits t now (event.Fault x) flaw s o goes = record { acts = refl; shown = flaw_last limits t now (event.Fault x) flaw; may = may_last limits t now (event.Fault x) flaw; tables = told_last limits t now (event.Fault x) flaw s o goes }
 evictions_come_last limits t now (event.Cancel c) flaw s o goes = asked_last limits t now (event.Cancel c) flaw refl refl
-evictions_come_last limits t now (event.Doom key) flaw s o goes = record { acts = refl; shown = flaw_last limits t now (event.Doom key) flaw; may = may_last limits t now (event.Doom key) flaw; tables = told_last limits t now (event.Doom key) flaw s o goes }
+evictions_come_last limits t now ev flaw s o goes = record { acts = refl; shown = flaw_last limits t now ev flaw; may = may_last limits t now ev flaw; tables = told_last limits t now ev flaw s o goes }

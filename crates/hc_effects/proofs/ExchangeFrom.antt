@@ -1,5 +1,5 @@
 -- Where the row of an exchange after an entry is from: it was there, or it is opened.
-use Rattle.std.{proofs.Common.{◌≡◌, ◌⊎◌, inl, inr, ℕ, Bool, true, false, Option, Some, None, refl, ap, sym, ◌∙◌, subst}, specs.Prelude.{◌&&◌, not, is_some}}
+use Rattle.std.{proofs.{lemmas.Bool.Decides.{nat_tests}, Common.{arith, ◌≡◌, ◌⊎◌, inl, inr, ℕ, Bool, true, false, Option, Some, None, refl, ap, sym, ◌∙◌, subst}}, specs.Prelude.{◌&&◌, not, is_some}}
 use Rattle.hc_text.proofs.Basics.{and_right, not_some as none_some, some_inj}
 use Rattle.hc_effects.proofs.Vocabulary.{Opening, opening_in, closes_in, Event, Response, Entry, exchange_after, exchange_heard, exchange_acted, exchange_made, exchange_opened, joined_at, Tables, Exchange}
 use Rattle.hc_event.specs.declared.event.Event.TheVariants as event
@@ -32,8 +32,7 @@ pub data ExchangeFrom (t : Tables) (e : Entry) (x : ℕ) (u : Exchange) : Type 0
   new : (o : Opening) → t.exchange x ≡ None → opening_in e.acts ≡ Some o → o.x ≡ x → exchange_opened t e o ≡ u → ExchangeFrom t e x u
 
 pub not_left : (a b : Bool) → (not a && b) ≡ true → a ≡ false
-not_left true b h = absurd (false_true h)
-not_left false b h = refl
+not_left a b h = grind (arith, nat_tests)
 
 abbrev number_in : Event → ℕ
 number_in (event.Head y response) = y
@@ -75,8 +74,6 @@ over t e x w z c need request aim head joined unheard off = record {
 
 module _ (t : Tables) (e : Entry) (x : ℕ) where
   same : (ev : Event) (w : Exchange) → e.event ≡ ev → IsSame t e x w (exchange_acted x e.acts (exchange_heard t e x ev w))
-  same (event.Start c request) w at = plain t e x (event.Start c request) w at (λ response is. cc) (λ is. cc) (λ is. cc)
-  same (event.Poll c want) w at = plain t e x (event.Poll c want) w at (λ response is. cc) (λ is. cc) (λ is. cc)
   same (event.Head y response) w at = elim (eq_cases y x) [
     | inl here ↦ rw here.0 (record {
       c_is = refl;
@@ -117,8 +114,7 @@ module _ (t : Tables) (e : Entry) (x : ℕ) where
     | inl here ↦ rw here.0 (over t e x w (record w { is_open = false }) refl refl refl refl refl refl (λ response is. let never : event.Fault y ≡ event.Head x response = sym at ∙ is in cc) refl)
     | inr other ↦ rw other.0 (plain t e x (event.Fault y) w at (λ response is. cc) (λ is. cc) (λ is. other.1 (ap number_in is)))
   ]
-  same (event.Cancel c) w at = plain t e x (event.Cancel c) w at (λ response is. cc) (λ is. cc) (λ is. cc)
-  same (event.Doom key) w at = plain t e x (event.Doom key) w at (λ response is. cc) (λ is. cc) (λ is. cc)
+  same ev w at = plain t e x ev w at (λ response is. cc) (λ is. cc) (λ is. cc)
 
   made : (o : Option Opening) (u : Exchange) → t.exchange x ≡ None → opening_in e.acts ≡ o → exchange_made t e x o ≡ Some u → ExchangeFrom t e x u
   made None u none is at = absurd (none_some u at)
@@ -135,5 +131,4 @@ module _ (t : Tables) (e : Entry) (x : ℕ) where
   -- what was there stays
   pub stays : (o : Option Exchange) → is_some o ≡ true → is_some (exchange_after t e x o) ≡ true
   unfolding exchange_after
-  stays None there = absurd (false_true there)
-  stays (Some w) there = refl
+  stays o there = grind (arith, nat_tests)

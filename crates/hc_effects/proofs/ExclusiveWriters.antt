@@ -45,8 +45,7 @@ or_some None x = λ e. cc
 or_some (Some y) x = λ e. cc
 
 and_false : (b : Bool) → (b && false) ≡ true → ⊥
-and_false true h = let never : false ≡ true = h in cc
-and_false false h = let never : false ≡ true = h in cc
+and_false b h = grind (arith, nat_tests)
 
 -- a shared writing has an exchange
 pub writer_some : (t : Tables) (v : Representation) → is_written t v ≡ true → v.writer ≢ None

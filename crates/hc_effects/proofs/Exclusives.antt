@@ -1,11 +1,11 @@
 -- Who writes alone is bound, came alone, has nothing due and more to come.
-use Rattle.std.{proofs.Common.{◌≡◌, ◌⊎◌, inl, inr, ℕ, List, [], ◌∷◌, Bool, true, false, Some, None, refl, ap, sym, ◌∙◌}, specs.Prelude.{if◌then◌else◌, is_none, ◌&&◌, map, filter}}
+use Rattle.std.{proofs.{lemmas.Bool.Decides.{nat_tests}, Common.{arith, ◌≡◌, ◌⊎◌, inl, inr, ℕ, List, [], ◌∷◌, Bool, true, false, Some, None, ap, sym, ◌∙◌}}, specs.Prelude.{if◌then◌else◌, is_none, ◌&&◌, map, filter}}
 use Rattle.hc_text.proofs.Basics.{and_left, and_right, bool_cases, none_by as none_of}
 use Rattle.hc_effects.proofs.Vocabulary.{is_of, is_same_kind, is_written, bound, Tables, Representation, Consumer, Among, IsBound, IsFirst, may_write, has_more, came_alone, bound_kind, bound_as, exclusive}
 use Rattle.hc_rules.specs.Admissions.{numbers}
 use Rattle.hc_rules.specs.declared.admission.BoundKind.TheVariants as kind
 use Rattle.hc_model.specs.Sound as sound
-use Rattle.hc_effects.proofs.{Basics.{false_true}, HadKeeps.{among_least}, HasBound.{reader_of}}
+use Rattle.hc_effects.proofs.{HadKeeps.{among_least}, HasBound.{reader_of}}
 
 among_writers : (t : Tables) (v : Representation) (c : ℕ) (ds : List ℕ) → Among c (numbers (filter (is_of kind.Exclusive) (map (bound_as t v) ds))) → Among c ds × (is_same_kind (bound_kind t v c) kind.Exclusive ≡ true)
 among_writers t v c [] there = absurd there
@@ -29,9 +29,7 @@ pub record IsExclusive (t : Tables) (r c : ℕ) (v : Representation) : Type 0 wh
 
 module _ (t : Tables) (r c : ℕ) (v : Representation) where
   alone_by : (b d : Bool) → is_same_kind (if b then kind.Shared else if d then kind.Exclusive else kind.Reader) kind.Exclusive ≡ true → (b ≡ false) × (d ≡ true)
-  alone_by true d h = absurd (false_true h)
-  alone_by false true h = (refl, refl)
-  alone_by false false h = absurd (false_true h)
+  alone_by b d h = grind (arith, nat_tests)
 
   by_reader : (k : Consumer) → IsBound t r c k → is_written t v ≡ false → may_write t v (t.consumer c) ≡ true → IsExclusive t r c v
   by_reader k (sound.is_bound lo hi how row at) off may =

@@ -1,9 +1,8 @@
 -- Where no head is refused, nothing doomed and no writing lost, just what somebody leaves is closed; and nothing makes room where
 -- nothing is written.
-use Rattle.std.{proofs.Common.{◌≡◌, ℕ, List, [], ◌∷◌, Bool, false, Option, Some, None, refl, ap, ◌∙◌}, specs.Prelude.{◌&&◌, ◌||◌, filter, reverse}}
+use Rattle.std.{proofs.{lemmas.Bool.Decides.{nat_tests}, Common.{arith, ◌≡◌, ℕ, List, [], ◌∷◌, Bool, false, Option, Some, None, refl, ap, ◌∙◌}}, specs.Prelude.{◌&&◌, ◌||◌, filter, reverse}}
 use mathlib.Core.Path.{fun_ext}
-use Rattle.hc_text.proofs.Basics.{and_off as then_false}
-use Rattle.hc_effects.proofs.Vocabulary.{Event, Limits, Write, case_at, closing, closes_row, must_close, is_refused, is_doomed, has_no_survivor, is_left, leaver, brings_head, is_number, doomed_key_of, Entry, entry_without_acts, exchange_heard, family, Tables, Exchange, Representation, evicted, first_idle, room_by, room_for, write_in, brings_body, loses_writing}
+use Rattle.hc_effects.proofs.Vocabulary.{Event, Limits, Write, case_at, closing, closes_row, must_close, is_refused, is_doomed, has_no_survivor, is_left, leaver, brings_head, doomed_key_of, Entry, entry_without_acts, exchange_heard, family, Tables, Exchange, Representation, evicted, first_idle, room_by, room_for, write_in, brings_body, loses_writing}
 use Rattle.hc_effects.proofs.Tests.{and_false}
 
 pub record ClosesLittle (t : Tables) (e : Entry) : Type 0 where
@@ -13,19 +12,11 @@ pub record ClosesLittle (t : Tables) (e : Entry) : Type 0 where
 
 -- so where no writing is lost
 pub nothing_lost : (t : Tables) (e : Entry) → ((r : ℕ) (v : Representation) → t.representation r ≡ Some v → loses_writing t e r v ≡ false) → (x r : ℕ) → has_no_survivor t e x r (t.representation r) ≡ false
-nothing_lost t e unlost x r = by_row (t.representation r) refl
-  where
-    by_row : (o : Option Representation) → t.representation r ≡ o → has_no_survivor t e x r o ≡ false
-    by_row None row = refl
-    by_row (Some v) row = and_false (is_number v.writer x && loses_writing t e r v) _ (then_false (is_number v.writer x) (loses_writing t e r v) (unlost r v row))
+nothing_lost t e unlost x r = grind (arith, nat_tests)
 
 -- so at an event that brings neither a head nor a piece, and dooms nothing
 pub quiet_closes : (t : Tables) (e : Entry) → case_at t e ≡ None → doomed_key_of t e ≡ None → brings_body e.event ≡ false → ClosesLittle t e
-quiet_closes t e caseless doomless bodiless = record {
-  unrefused = λ x. rw caseless refl;
-  undoomed = λ x w. rw doomless refl;
-  survives = nothing_lost t e (λ r v row. rw bodiless refl);
-}
+quiet_closes t e caseless doomless bodiless = grind (arith, nat_tests)
 
 pub filter_none : (xs : List ℕ) → filter (λ x. false) xs ≡ []
 filter_none [] = refl

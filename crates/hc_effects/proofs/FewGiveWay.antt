@@ -1,14 +1,11 @@
 -- Few give way: a piece has at most twice what a slot weighs.
-use Rattle.std.{proofs.{Common.{◌≡◌, inl, inr, ℕ, zero, suc, ◌+◌, ◌-◌, ◌≤◌, List, [], ◌∷◌, ◌++◌, length, Bool, true, false, Option, Some, None, refl, sym, ◌∙◌, subst, arith}, lemmas.Bool.Decides.{nat_tests}}, specs.{Prelude.{nat_le, map, filter, reverse, take, if◌then◌else◌}, Option.{option_and_then, option_map}}}
+use Rattle.std.{proofs.{Common.{◌≡◌, inl, inr, ℕ, zero, suc, ◌+◌, ◌-◌, ◌≤◌, List, [], ◌∷◌, ◌++◌, length, Bool, true, false, Option, Some, None, refl, sym, ◌∙◌, subst, arith}, lemmas.Bool.Decides.{nat_tests}}, specs.{Prelude.{nat_le, map, filter, reverse, take, if◌then◌else◌}, Option.{option_map}}}
 use Rattle.hc_text.proofs.Basics.{and_left, bool_cases, not_some as none_some, some_inj}
-use Rattle.hc_effects.proofs.Vocabulary.{Act, Event, gives_way, room_of, grown_by, is_too_large, Limits, Room, Write, answer_acts, loss_acts, case_at, is_founding, closing, Entry, entry_without_acts, family, Flaw, NoFlaw, Loses, Misreads, count_evicted, IsSmallPiece, Move, acts_of, Tables, Exchange, Representation, weight, weight_in, weights, idle, is_idle, stays_current, evicted, first_idle, room_for, room_by, write_in, write_of_piece, piece_write}
+use Rattle.hc_effects.proofs.Vocabulary.{Act, Event, gives_way, room_of, grown_by, is_too_large, Limits, Room, Write, answer_acts, loss_acts, closing, Entry, entry_without_acts, Flaw, NoFlaw, count_evicted, IsSmallPiece, Move, acts_of, Tables, Representation, weight, weight_in, weights, idle, is_idle, stays_current, evicted, first_idle, room_for, room_by, write_in}
 use Rattle.hc_event.specs.declared.act.Act.TheVariants as act
-use Rattle.hc_event.specs.declared.event.Event.TheVariants as event
 use Rattle.hc_rules.specs.Rooms as rooms
 use Rattle.hc_rules.specs.declared.room.Room.TheVariants as room
-use Rattle.hc_rules.specs.declared.room.Write.TheVariants as write
 use Rattle.hc_model.specs.Laws.{FewGiveWay}
-use Rattle.hc_model.specs.Moves as moves
 use Rattle.hc_effects.proofs.ActParts.{IsAnswer, IsSaid, answer_is, said_is}
 use Rattle.hc_effects.proofs.ActParts as parts
 
@@ -97,26 +94,8 @@ abbrev IsSmall : Option Write → Type 0
 IsSmall None = Unit {0}
 IsSmall (Some w) = grown_by w ≤ 65536
 
-small_piece : (n : ℕ) (o : Option Representation) → n ≤ 65536 → IsSmall (option_and_then (piece_write n) o)
-small_piece n None le = tt
-small_piece n (Some v) le = by_loss v.is_lost
-  where
-    by_loss : (b : Bool) → IsSmall (if b then None else Some (write.Piece v.size n))
-    by_loss true = tt
-    by_loss false = le
-
-small_row : (t : Tables) (x n : ℕ) (o : Option Exchange) → n ≤ 65536 → IsSmall (option_and_then (write_of_piece t x n) o)
-small_row t x n None le = tt
-small_row t x n (Some w) le = small_piece n (t.representation (family x w)) le
-
 small_write : (t : Tables) (e : Entry) (ev : Event) → IsSmallPiece ev → IsSmall (write_in t e ev)
-small_write t e (event.Head x response) small = by_case (is_founding (case_at t e))
-  where
-    by_case : (b : Bool) → IsSmall (if b then Some write.Slot else None)
-    by_case true = omega arith
-    by_case false = tt
-small_write t e (event.Piece x bytes) small = small_row t x (length bytes) (t.exchange x) small
-small_write t e _ small = tt
+small_write t e ev small = grind (arith, nat_tests)
 
 few_room : (limits : Limits) (t : Tables) (e : Entry) (o : Option Write) → weights t e ≤ limits.max_total → IsSmall o → Few (room_by limits t e o)
 few_room limits t e None fits small = omega arith
@@ -133,8 +112,7 @@ length_take (suc n) (r ∷ rs) = let rest : length (take n rs) ≤ n = length_ta
 
 first_few : (t : Tables) (e : Entry) (place : Room) → Few place → length (first_idle t e place) ≤ 2
 first_few t e (room.After count) few = let taken : length (take count (idle t e)) ≤ count = length_take count (idle t e) in omega arith
-first_few t e room.TooLarge few = omega arith
-first_few t e room.Full few = omega arith
+first_few t e _ few = omega arith
 
 -- COUNTED IN THE ACTS
 
@@ -144,33 +122,22 @@ count_closes (y ∷ ys) = count_closes ys
 
 count_closed : (ys : List ℕ) (flaw : Flaw) → count_evicted (map act.Close ys ++ loss_acts flaw) ≡ 0
 count_closed [] NoFlaw = refl
-count_closed [] (Loses r kind) = refl
-count_closed [] (Misreads r) = refl
+count_closed [] _ = refl
 count_closed (y ∷ ys) flaw = count_closed ys flaw
 
 count_lost : (flaw : Flaw) (rest : List Act) → count_evicted (loss_acts flaw ++ rest) ≡ count_evicted rest
-count_lost NoFlaw rest = refl
-count_lost (Loses r kind) rest = refl
-count_lost (Misreads r) rest = refl
+count_lost flaw rest = grind (arith, nat_tests)
 
 count_all : (rs : List ℕ) (rest : List Act) → count_evicted rest ≡ 0 → count_evicted (map act.Evicted rs ++ rest) ≡ length rs
 count_all [] rest none = none
 count_all (r ∷ rs) rest none = let rec : count_evicted (map act.Evicted rs ++ rest) ≡ length rs = count_all rs rest none in omega arith
 
 count_move : (c : ℕ) (m : Move) (rest : List Act) → count_evicted (acts_of c m ++ rest) ≡ count_evicted rest
-count_move c moves.Nothing rest = refl
-count_move c (moves.Waits wait) rest = refl
-count_move c (moves.Asks x) rest = refl
-count_move c (moves.Opens x n request) rest = refl
-count_move c (moves.Shows r why head lo hi) rest = refl
-count_move c (moves.Gives run) rest = refl
-count_move c moves.Ends rest = refl
-count_move c (moves.Fails cause) rest = refl
+count_move c m rest = grind (arith, nat_tests)
 
 count_said : (t : Tables) (now : ℕ) (ev : Event) (flaw : Flaw) (acts rest : List Act) → IsSaid t now ev flaw acts → count_evicted (acts ++ rest) ≡ count_evicted rest
-count_said t now ev flaw _ rest parts.silent = refl
 count_said t now ev flaw _ rest (parts.does c want k m at row is near) = count_move c m rest
-count_said t now ev flaw _ rest (parts.misreads c want r at is) = refl
+count_said t now ev flaw _ rest _ = refl
 
 few_acts : (limits : Limits) (t : Tables) (now : ℕ) (ev : Event) (flaw : Flaw) (acts : List Act) → IsAnswer limits t now ev flaw acts → length (evicted limits t now ev) ≤ 2 → count_evicted acts ≤ 2
 few_acts limits t now ev flaw _ (parts.told silent) few =

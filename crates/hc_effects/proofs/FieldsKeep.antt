@@ -1,6 +1,6 @@
 -- No length stands among the fields of a stored head, and they stay within limits.
-use Rattle.std.{proofs.{Common.{◌≡◌, ◌≢◌, inl, inr, ℕ, ◌≤◌, List, [], ◌∷◌, length, Bool, true, false, refl, ap, sym, ◌∙◌, arith}, lemmas.Bool.Decides.{nat_tests}}, specs.{Prelude.{bytes_eq, nat_le, nat_lt, if◌then◌else◌, codes}, List.{list_any}}}
-use Rattle.hc_text.proofs.Basics.{and_left, and_right, bool_cases, never_true as not_true}
+use Rattle.std.{proofs.{Common.{◌≡◌, ◌≢◌, inl, inr, ℕ, ◌≤◌, List, [], ◌∷◌, length, Bool, true, false, refl, ap, sym, ◌∙◌, arith}, lemmas.Bool.Decides.{nat_tests}}, specs.{Prelude.{bytes_eq, nat_lt, if◌then◌else◌, codes}, List.{list_any}}}
+use Rattle.hc_text.proofs.Basics.{bool_cases, never_true as not_true}
 use Rattle.hc_fields.specs.{FieldList.{values_of, has_name, field_list_with, without, size_of}, FirstValues.{has_field}}
 use Rattle.hc_fields.proofs.Edits.{values_of-put_other, values_of-without_same, values_of-without_other}
 use Rattle.hc_rules.proofs.RangeReads.{same_bytes, bytes_eq-same}
@@ -95,20 +95,10 @@ etag_kept fields =
 -- MODEST FIELDS
 
 pub within_limits_kept : (fields new : FieldPairs) → is_within_limits fields ≡ true → is_within_limits (updated_fields fields new) ≡ true
-within_limits_kept fields new old = elim (bool_cases (is_within_limits (fields_with fields (changeable_fields new)))) [
-  | inl fits ↦ rw fits fits
-  | inr large ↦ rw large old
-]
+within_limits_kept fields new old = grind (arith, nat_tests)
 
 within_limits_by : (a b : FieldPairs) → length b ≤ length a → size_of b ≤ size_of a → is_within_limits a ≡ true → is_within_limits b ≡ true
-within_limits_by a b fewer smaller is =
-    let count : nat_le (length a) 64 ≡ true = and_left _ _ is in
-    let size : nat_le (size_of a) 32768 ≡ true = and_right _ _ is in
-    let few : length a ≤ 64 = grind (arith, nat_tests) in
-    let small : size_of a ≤ 32768 = grind (arith, nat_tests) in
-    let first : nat_le (length b) 64 ≡ true = (let le : length b ≤ 64 = omega arith in grind (arith, nat_tests)) in
-    let second : nat_le (size_of b) 32768 ≡ true = (let le : size_of b ≤ 32768 = omega arith in grind (arith, nat_tests)) in
-    rw (first, second) refl
+within_limits_by a b fewer smaller is = grind (arith, nat_tests)
 
 without_within_limits : (name : List ℕ) (fields : FieldPairs) → is_within_limits fields ≡ true → is_within_limits (without name fields) ≡ true
 without_within_limits name fields is = within_limits_by fields (without name fields) (length-without name fields) (size_of-without name fields) is

@@ -1,8 +1,8 @@
 -- What an entry brings: bytes of a body and of an exchange, at a piece alone.
-use Rattle.std.{proofs.Common.{◌≡◌, inl, inr, ℕ, ◌+◌, List, length, ◌++◌, Bool, true, false, Option, Some, None, refl, ap, sym, ◌∙◌, subst, max}, specs.Prelude.{if◌then◌else◌, ◌==◌, ◌||◌, not}}
+use Rattle.std.{proofs.{lemmas.Bool.Decides.{nat_tests}, Common.{arith, ◌≡◌, inl, inr, ℕ, ◌+◌, List, length, ◌++◌, Bool, true, false, Option, Some, None, refl, ap, sym, ◌∙◌, subst, max}}, specs.Prelude.{if◌then◌else◌, ◌==◌, ◌||◌, not}}
 use Rattle.hc_text.proofs.Basics.{same_some as same_row, some_inj}
 use Rattle.hc_sparse.specs.Cells.{cells_with}
-use Rattle.hc_effects.proofs.Vocabulary.{Event, Request, Response, Need, length_of, loses_in, Entry, exchange_after, exchange_heard, exchange_acted, front, family, length_by, representation_heard, representation_acted, representation_after_head, with_renewed_head, updates, representation_after_piece, with_stored_bytes, with_total_if_none, length_in, Tables, Exchange, Representation}
+use Rattle.hc_effects.proofs.Vocabulary.{Event, Response, loses_in, Entry, exchange_after, exchange_heard, exchange_acted, front, family, length_by, representation_heard, representation_acted, representation_after_head, with_renewed_head, updates, representation_after_piece, with_stored_bytes, with_total_if_none, length_in, Tables, Exchange, Representation}
 use Rattle.hc_event.specs.declared.event.Event.TheVariants as event
 use Rattle.hc_effects.proofs.{Forward.{after_is}, PieceKeeps.{eq_cases}, RepFrom.{IsKept}}
 
@@ -54,14 +54,11 @@ module _ (t : Tables) (e : Entry) where
     ended_by none n false = still none refl refl refl
 
     heard : (ev : Event) → e.event ≡ ev → Fills r v (representation_heard t e r ev v)
-    heard (event.Start c request) here = still (unpieced _ here (λ x bytes is. cc)) refl refl refl
-    heard (event.Poll c want) here = still (unpieced _ here (λ x bytes is. cc)) refl refl refl
     heard (event.Head x response) here = headed_still (unpieced _ here (λ x bytes is. cc)) x response (t.exchange x)
     heard (event.Piece x bytes) here = pieced_by x bytes (t.exchange x) here refl
     heard (event.End x) here = ended_by (unpieced _ here (λ x bytes is. cc)) (length_in (t.exchange x)) (x == r)
     heard (event.Fault x) here = still (unpieced _ here (λ x bytes is. cc)) refl refl refl
-    heard (event.Cancel c) here = still (unpieced _ here (λ x bytes is. cc)) refl refl refl
-    heard (event.Doom key) here = still (unpieced _ here (λ x bytes is. cc)) refl refl refl
+    heard _ here = still (unpieced _ here (λ x bytes is. cc)) refl refl refl
 
     acted : (z : Representation) → Fills r v z → Fills r v (representation_acted t e r v z)
     acted z (still none body stored reach) = still none body stored reach
@@ -83,8 +80,6 @@ module _ (t : Tables) (e : Entry) where
 
   heard_body : (x : ℕ) (w : Exchange) (ev : Event) → e.event ≡ ev → Brings x w (exchange_acted x e.acts (exchange_heard t e x ev w))
   unfolding number_in
-  heard_body x w (event.Start c request) here = still (λ bytes is. let no : event.Start c request ≡ event.Piece x bytes = sym here ∙ is in cc) refl
-  heard_body x w (event.Poll c want) here = still (λ bytes is. let no : event.Poll c want ≡ event.Piece x bytes = sym here ∙ is in cc) refl
   heard_body x w (event.Head y response) here = elim (eq_cases y x) [
     | inl hit ↦ rw hit.0 (still (λ bytes is. let no : event.Head y response ≡ event.Piece x bytes = sym here ∙ is in cc) refl)
     | inr off ↦ rw off.0 (still (λ bytes is. let no : event.Head y response ≡ event.Piece x bytes = sym here ∙ is in cc) refl)
@@ -101,16 +96,11 @@ module _ (t : Tables) (e : Entry) where
     | inl hit ↦ rw hit.0 (still (λ bytes is. let no : event.Fault y ≡ event.Piece x bytes = sym here ∙ is in cc) refl)
     | inr off ↦ rw off.0 (still (λ bytes is. let no : event.Fault y ≡ event.Piece x bytes = sym here ∙ is in cc) refl)
   ]
-  heard_body x w (event.Cancel c) here = still (λ bytes is. let no : event.Cancel c ≡ event.Piece x bytes = sym here ∙ is in cc) refl
-  heard_body x w (event.Doom key) here = still (λ bytes is. let no : event.Doom key ≡ event.Piece x bytes = sym here ∙ is in cc) refl
+  heard_body x w ev here = still (λ bytes is. let no : ev ≡ event.Piece x bytes = sym here ∙ is in cc) refl
 
   pub brings : (x : ℕ) (w z : Exchange) → t.exchange x ≡ Some w → exchange_after t e x (t.exchange x) ≡ Some z → Brings x w z
   brings x w z row after = subst (Brings x w) (some_inj _ z (sym (after_is t e x w (t.exchange x) row) ∙ after)) (heard_body x w e.event refl)
 
 -- what a head said stays said
 pub length_same : (w z : Exchange) → z.need ≡ w.need → z.request ≡ w.request → z.head ≡ w.head → length_by z z.head ≡ length_by w w.head
-length_same w z need_is request_is head_is = ap (length_by z) head_is ∙ by_head w.head
-  where
-    by_head : (o : Option Response) → length_by z o ≡ length_by w o
-    by_head None = refl
-    by_head (Some response) = ap (λ (n : Need). length_of n z.request response) need_is ∙ ap (λ (q : Request). length_of w.need q response) request_is
+length_same w z need_is request_is head_is = grind (arith, nat_tests)

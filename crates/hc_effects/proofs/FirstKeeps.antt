@@ -8,7 +8,7 @@ use Rattle.hc_event.specs.declared.place.Place.TheVariants as place
 use Rattle.hc_event.specs.declared.place.BoundBy.TheVariants as by
 use Rattle.hc_model.specs.Sound.{OneFirst}
 use Rattle.hc_model.specs.Sound as sound
-use Rattle.hc_effects.proofs.{BoundFrom.{BoundFrom, IsFounded, bound_from}, FoundBy.{CaseBy, case_by}, OpensFrom.{nobody_bound}, ExclusiveWriters.{bound_some}, RepFrom.{RepFrom, rep_from, stays}, Said.{IsPoll, IsOpening, WaitsAs, opening_by, waiting_by}, EventsKeep.{head_taken}}
+use Rattle.hc_effects.proofs.{BoundFrom.{BoundFrom, IsFounded, bound_from}, FoundBy.{CaseBy, case_by}, OpensFrom.{nobody_bound}, ExclusiveWriters.{bound_some}, RepFrom.{RepFrom, rep_from, stays}, Said.{IsPoll, IsOpening, WaitsAs, opening_by, waiting_by}}
 use Rattle.hc_effects.proofs.BoundFrom as from
 use Rattle.hc_effects.proofs.FoundBy as cases
 use Rattle.hc_effects.proofs.RepFrom as rep
@@ -73,15 +73,11 @@ module _ (limits : Limits) (t : Tables) (now : ℕ) (flaw : Flaw) (s : Sound t) 
 
   pub came_kept : (r lo : ℕ) (hi : Option ℕ) (how : BoundBy) → is_some (t.representation r) ≡ true → came_alone now_on (place.Bound r lo hi how) ≡ came_alone t (place.Bound r lo hi how)
   came_kept r lo hi by.Founding there = ap (λ n. n == 206) (status_kept r there)
-  came_kept r lo hi (by.FirstHole y) there = refl
-  came_kept r lo hi by.Plan there = refl
+  came_kept r lo hi _ there = refl
 
   -- the status of what a head founds is the head's
   founded_status : (x : ℕ) (response : Response) (u : Representation) → ev ≡ event.Head x response → t.representation x ≡ None → RepFrom t e x u → u.head.status ≡ response.status
-  founded_status x response u at none (rep.was q kept) = absurd (let never : None ≡ Some q = sym none ∙ kept.row in cc)
-  founded_status x response u at none (rep.founded answer w also here exchange on is) =
-      let one : answer ≡ response = ap (λ v. response_in v answer) (sym here ∙ at) in
-      sym (ap (λ (z : Representation). z.head.status) is) ∙ ap (λ (z : Response). z.status) one
+  founded_status x response u at none it5 = grind (arith, nat_tests)
 
   pub founded_came : (x lo : ℕ) (hi : Option ℕ) (response : Response) (o : Option Representation) → ev ≡ event.Head x response → t.representation x ≡ None → now_on.representation x ≡ o → (status_in o == 206) ≡ true → response.status ≡ 206
   founded_came x lo hi response None at none is alone = absurd (let never : false ≡ true = alone in cc)
@@ -98,9 +94,7 @@ module _ (limits : Limits) (t : Tables) (now : ℕ) (flaw : Flaw) (s : Sound t) 
     pub unfounded : t.representation x ≡ None
 
   new_by : (x : ℕ) (response : Response) (w : Exchange) → t.exchange x ≡ Some w → head_refusal (as_open (t.exchange x)) ≡ None → IsNew x w
-  new_by x response w row h =
-      let parts = head_taken limits t now flaw s w (sym (ap (λ (o : Option Exchange). head_refusal (as_open o)) row) ∙ h) in
-      record { is_open = parts.0; bare = parts.1; unfounded = s.numbered.names.unfounded x w row parts.1 }
+  new_by x response w row h = grind (arith, nat_tests)
 
   refused_by : (x : ℕ) (response : Response) → denial t (event.Head x response) ≡ None → head_refusal (as_open (t.exchange x)) ≡ None
   unfolding refusals.refusal_of

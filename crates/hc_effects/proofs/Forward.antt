@@ -1,9 +1,8 @@
 -- What stays of a row: of an exchange whose it is and what it asks for, of a consumer its request.
-use Rattle.std.{proofs.Common.{◌≡◌, inl, inr, ℕ, Bool, true, false, Option, Some, None, refl, ap, sym, ◌∙◌}, specs.Prelude.{is_some}}
+use Rattle.std.{proofs.{lemmas.Bool.Decides.{nat_tests}, Common.{arith, ◌≡◌, ℕ, Bool, true, false, Option, Some, None, refl, ap, sym, ◌∙◌}}, specs.Prelude.{is_some}}
 use Rattle.hc_text.proofs.Basics.{same_some as same_row, some_inj}
-use Rattle.hc_effects.proofs.Vocabulary.{Opening, opening_in, closes_in, Event, exchange_in, consumer_after, consumer_settled, consumer_acted, consumer_heard, Entry, exchange_after, exchange_heard, exchange_acted, exchange_made, exchange_opened, Tables, Exchange, Consumer, starts_over}
-use Rattle.hc_event.specs.declared.event.Event.TheVariants as event
-use Rattle.hc_effects.proofs.{ConsumerFilters.{acted}, ExchangeFrom.{IsSame, ExchangeFrom, exchange_from, stays}, PieceKeeps.{eq_cases}}
+use Rattle.hc_effects.proofs.Vocabulary.{Opening, opening_in, closes_in, Event, exchange_in, consumer_after, consumer_settled, consumer_acted, consumer_heard, Entry, exchange_after, exchange_heard, exchange_acted, exchange_opened, Tables, Exchange, Consumer, starts_over}
+use Rattle.hc_effects.proofs.{ConsumerFilters.{acted}, ExchangeFrom.{IsSame, ExchangeFrom, exchange_from, stays}}
 use Rattle.hc_effects.proofs.ExchangeFrom as exchange
 
 module _ (t : Tables) (e : Entry) where
@@ -27,11 +26,7 @@ module _ (t : Tables) (e : Entry) where
   -- an exchange that is opened is there
   pub opened_on : (x : ℕ) (o : Opening) (z : Option Exchange) → z ≡ None → opening_in e.acts ≡ Some o → o.x ≡ x → exchange_after t e x z ≡ Some (exchange_opened t e o)
   unfolding exchange_after
-  opened_on x o None none is here = ap (exchange_made t e x) is ∙ elim (eq_cases o.x x) [
-    | inl same ↦ rw same.0 refl
-    | inr other ↦ absurd (other.1 here)
-  ]
-  opened_on x o (Some w) none is here = absurd (let never : Some w ≡ None = none in cc)
+  opened_on x o z none is here = grind (arith, nat_tests)
 
   -- a consumer keeps its request
   pub record IsKept (c : ℕ) (k : Consumer) : Type 0 where
@@ -62,14 +57,7 @@ module _ (t : Tables) (e : Entry) where
   -- AN OPEN EXCHANGE
 
   pub heard_other : (x : ℕ) (ev : Event) (w : Exchange) → (exchange_in ev ≡ Some x → ⊥) → exchange_heard t e x ev w ≡ w
-  heard_other x (event.Start c request) w other = refl
-  heard_other x (event.Poll c want) w other = refl
-  heard_other x (event.Head y response) w other = elim (eq_cases y x) [ inl here ↦ absurd (other (ap Some here.1)) | inr off ↦ rw off.0 refl ]
-  heard_other x (event.Piece y bytes) w other = elim (eq_cases y x) [ inl here ↦ absurd (other (ap Some here.1)) | inr off ↦ rw off.0 refl ]
-  heard_other x (event.End y) w other = elim (eq_cases y x) [ inl here ↦ absurd (other (ap Some here.1)) | inr off ↦ rw off.0 refl ]
-  heard_other x (event.Fault y) w other = elim (eq_cases y x) [ inl here ↦ absurd (other (ap Some here.1)) | inr off ↦ rw off.0 refl ]
-  heard_other x (event.Cancel c) w other = refl
-  heard_other x (event.Doom key) w other = refl
+  heard_other x ev w other = grind (arith, nat_tests)
 
   pub after_is : (x : ℕ) (w : Exchange) (z : Option Exchange) → z ≡ Some w → exchange_after t e x z ≡ Some (exchange_acted x e.acts (exchange_heard t e x e.event w))
   unfolding exchange_after

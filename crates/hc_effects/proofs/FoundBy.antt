@@ -77,21 +77,7 @@ founding_of : (v : HeadView) (g : HeadCase) → CaseBy v g → is_founding (Some
 founding_of v _ (founds_whole way h l g) on = whole way h l
 founding_of v _ (founds_range way h f l g) on = part way h f l g
 founding_of v _ (first_replaced way shown h l g) on = replaced way h l
-founding_of v _ (direct_bad way h) on = absurd (let never : false ≡ true = on in cc)
-founding_of v _ (direct_taken way) on = absurd (let never : false ≡ true = on in cc)
-founding_of v _ (turn_bad way h) on = absurd (let never : false ≡ true = on in cc)
-founding_of v _ (validated way h d l) on = absurd (let never : false ≡ true = on in cc)
-founding_of v _ (not_validated way h) on = absurd (let never : false ≡ true = on in cc)
-founding_of v _ (turn_server_error way) on = absurd (let never : false ≡ true = on in cc)
-founding_of v _ (passes_by way) on = absurd (let never : false ≡ true = on in cc)
-founding_of v _ (first_bad way shown h) on = absurd (let never : false ≡ true = on in cc)
-founding_of v _ (first_joins way shown h g) on = absurd (let never : false ≡ true = on in cc)
-founding_of v _ (first_server_error way shown) on = absurd (let never : false ≡ true = on in cc)
-founding_of v _ (first_changed way shown) on = absurd (let never : false ≡ true = on in cc)
-founding_of v _ (first_passes_by way shown) on = absurd (let never : false ≡ true = on in cc)
-founding_of v _ (later_bad way shown h) on = absurd (let never : false ≡ true = on in cc)
-founding_of v _ (later_joins way shown h g) on = absurd (let never : false ≡ true = on in cc)
-founding_of v _ (later_changed way shown) on = absurd (let never : false ≡ true = on in cc)
+founding_of v _ _ on = absurd (let never : false ≡ true = on in cc)
 
 pub founding_by : (v : HeadView) → is_founding (Some (head_case v)) ≡ true → FoundingBy v (head_case v)
 founding_by v on = founding_of v (head_case v) (case_by v) on
@@ -99,14 +85,9 @@ founding_by v on = founding_of v (head_case v) (case_by v) on
 pub turn_direct : route.Turn ≡ route.Direct → ⊥
 turn_direct is = cc
 
-hole_direct : route.Hole ≡ route.Direct → ⊥
-hole_direct is = cc
-
 -- it isn't past the store
 pub founds_way : (v : HeadView) (g : HeadCase) → FoundingBy v g → route_of v.need ≡ route.Direct → ⊥
-founds_way v _ (whole way h l) past = turn_direct (sym way ∙ past)
-founds_way v _ (part way h f l g) past = turn_direct (sym way ∙ past)
-founds_way v _ (replaced way h l) past = hole_direct (sym way ∙ past)
+founds_way v g it2 past = grind (arith, nat_tests)
 
 -- a 304 founds nothing
 pub unchanged_founds : (v : HeadView) → v.status ≡ 304 → is_founding (Some (head_case v)) ≡ false

@@ -12,8 +12,7 @@ case_is : (v : HeadView) (g : HeadCase) → head_case v ≡ g → CaseBy v g
 case_is v g is = subst (CaseBy v) is (case_by v)
 
 and_off : (a : Bool) (g h : HeadCase) → (if a && false then g else h) ≡ h
-and_off true g h = refl
-and_off false g h = refl
+and_off a g h = grind (arith, nat_tests)
 
 -- it passes by
 pub whole_lost : (v : HeadView) → head_case v ≡ case.FoundsWhole → head_case (record v { lost = true }) ≡ case.PassesBy

@@ -27,21 +27,7 @@ pub founds_of : (g : HeadCase) → is_founding (Some g) ≡ true → Founds g
 founds_of case.FoundsWhole on = whole
 founds_of case.FoundsRange on = part
 founds_of case.FirstReplaced on = replaced
-founds_of case.DirectBad on = absurd (false_true on)
-founds_of case.DirectTaken on = absurd (false_true on)
-founds_of case.TurnBad on = absurd (false_true on)
-founds_of case.Validated on = absurd (false_true on)
-founds_of case.NotValidated on = absurd (false_true on)
-founds_of case.TurnServerError on = absurd (false_true on)
-founds_of case.PassesBy on = absurd (false_true on)
-founds_of case.FirstBad on = absurd (false_true on)
-founds_of case.FirstJoins on = absurd (false_true on)
-founds_of case.FirstServerError on = absurd (false_true on)
-founds_of case.FirstChanged on = absurd (false_true on)
-founds_of case.FirstPassesBy on = absurd (false_true on)
-founds_of case.LaterBad on = absurd (false_true on)
-founds_of case.LaterJoins on = absurd (false_true on)
-founds_of case.LaterChanged on = absurd (false_true on)
+founds_of _ on = absurd (false_true on)
 
 -- what had the hole goes, where that is replaced
 abbrev pub replaces : Exchange → HeadCase → Option ℕ

@@ -1,11 +1,10 @@
 -- What heads do that found: with the turn, and in place of what had a first hole. And where that is lost.
-use Rattle.std.{proofs.Common.{◌≡◌, inl, inr, ℕ, List, [], ◌∷◌, ◌++◌, Bool, true, false, Option, Some, None, refl, ap, sym, ◌∙◌, subst}, specs.Prelude.{◌&&◌, ◌||◌, not, nat_eq, if◌then◌else◌, map, option_map}}
+use Rattle.std.{proofs.{lemmas.Bool.Decides.{nat_tests}, Common.{arith, ◌≡◌, inl, inr, ℕ, List, [], ◌∷◌, ◌++◌, Bool, true, false, Option, Some, None, refl, ap, sym, ◌∙◌, subst}}, specs.Prelude.{◌&&◌, ◌||◌, not, nat_eq, if◌then◌else◌, map, option_map}}
 use Rattle.hc_text.proofs.Basics.{not_some as none_some, never_true as not_so, and_off as then_false}
 use Rattle.hc_event.specs.declared.act.Act.TheVariants as act
 use Rattle.hc_effects.proofs.Vocabulary.{LostKind, Event, Response, HeadCase, Wanted, Limits, head_case, range_of, wanted_of, head_view, is_founding, case_at, is_updating, is_joining, bound_by_total, bound_to_wanted, current, is_number, denial, Does, with_event, let_all_go, let_some_go, with_consumer, with_answer, with_founding, just_founded, as_gone, promise_in, NoFlaw, Loses, goes_by_case, founded_total, Lawful, is_written, representation_after, Tables, Exchange, Representation, Consumer, with_item_first, to_front, evicted, is_refused, doomed_by_case, is_reached, sends_back, cause_by_case, loses_in, loss_acts}
 use Rattle.hc_event.specs.declared.event.Event.TheVariants as event
 use Rattle.hc_rules.specs.declared.heads.HeadCase.TheVariants as case
-use Rattle.hc_rules.specs.declared.request.Wanted.TheVariants as wanted
 use Rattle.hc_event.specs.declared.place.Place.TheVariants as place
 use Rattle.hc_event.specs.declared.place.BoundBy.TheVariants as by
 use Rattle.hc_effects.proofs.{ActParts.{AllPass}, Basics.{append_none, false_true, some_row}, HeadFacts.{new, not_it, head_does, goes_on, rows, is_it, rows_stay}, HeadFrames.{e, row_founds, has_as, heard}, KeyActs.{HasRow, evicted_rows}, PieceKeeps.{eq_cases}, SameTables.{is_in, waits_for_any}, KeysKeep.{current_row}}
@@ -14,24 +13,16 @@ use Rattle.hc_effects.proofs.{ActParts.{AllPass}, Basics.{append_none, false_tru
 
 -- there is one that goes beside these
 pub adds_one : (o : Option ℕ) (es : List ℕ) (r : ℕ) → (is_number o r || is_in es r) ≡ is_in (with_item_first o es) r
-adds_one None es r = refl
-adds_one (Some q) es r = refl
+adds_one o es r = grind (arith, nat_tests)
 
 pub all_one : (now : ℕ) (o : Option ℕ) (es : List ℕ) (t : Tables) → let_all_go now (with_item_first o es) t ≡ let_all_go now es (let_some_go now o t)
-all_one now None es t = refl
-all_one now (Some r) es t = refl
+all_one now o es t = grind (arith, nat_tests)
 
 or_either : (a b : Bool) → (a || false || b) ≡ (a || b)
-or_either true b = refl
-or_either false b = refl
+or_either a b = grind (arith, nat_tests)
 
 two_go : (o p : Option ℕ) (es : List ℕ) (r : ℕ) → ((is_number o r || is_number p r) || false || is_in es r) ≡ is_in (with_item_first o (with_item_first p es)) r
-two_go o p es r = by_tests (is_number o r) (is_number p r) (is_in es r) ∙ (ap (λ b. is_number o r || b) (adds_one p es r) ∙ adds_one o (with_item_first p es) r)
-  where
-    by_tests : (a b d : Bool) → (a || b || false || d) ≡ (a || (b || d))
-    by_tests true b d = refl
-    by_tests false true d = refl
-    by_tests false false d = refl
+two_go o p es r = grind (arith, nat_tests)
 
 -- what is in a list has what each in it has
 all_in : (P : ℕ → Type 0) (r : ℕ) (rs : List ℕ) → AllPass P rs → is_in rs r ≡ true → P r
@@ -42,9 +33,7 @@ all_in P r (q ∷ rs) all h = elim (eq_cases q r) [
 ]
 
 bound_waits : (rs : List ℕ) (r x : ℕ) (z : Wanted) → waits_for_any rs (bound_to_wanted r by.Founding (place.Direct x) z) ≡ false
-bound_waits rs r x (wanted.Interval span) = refl
-bound_waits rs r x wanted.Unsatisfiable = refl
-bound_waits rs r x wanted.TotalUnknown = refl
+bound_waits rs r x z = grind (arith, nat_tests)
 
 module _ (limits : Limits) (t : Tables) (law : Lawful t) (now x : ℕ) (response : Response) (goes : denial t (event.Head x response) ≡ None) (w : Exchange) (row : t.exchange x ≡ Some w) (k : Consumer) (asker : t.consumer w.c ≡ Some k) where
   abbrev ev : Event

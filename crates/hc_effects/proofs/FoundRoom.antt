@@ -1,7 +1,7 @@
 -- What makes room for what a head founds: what is idle once its consumer reads past the store, and what the head replaces was let go.
 use Rattle.std.{proofs.{Common.{◌≡◌, inl, inr, ℕ, List, [], ◌∷◌, length, take, Bool, true, false, Option, Some, None, refl, ap, sym, ◌∙◌, subst, arith}, lemmas.Bool.Decides.{nat_tests}}, specs.{Prelude.{◌&&◌, ◌||◌, ◌==◌, not, nat_eq, if◌then◌else◌, option_map, map, filter, reverse}, List.{list_any, sum_by}}}
+use Rattle.hc_text.proofs.Basics.{and_true as and_on, and_none as and_off, or_false as or_off}
 use mathlib.Core.Path.{fun_ext}
-use Rattle.hc_text.proofs.Basics.{or_false as or_off}
 use Rattle.hc_effects.proofs.Vocabulary.{Event, Response, HeadCase, Limits, Room, head_case, route_of, room_of, weight_of, case_at, head_view, is_founding, idle_now, current, is_current, denial, doomed_by_case, as_gone, let_all_go, with_consumer, Entry, entry_without_acts, NoFlaw, goes_itself, goes_by_case, becomes_gone, Lawful, MayLetGo, weight_now, room_now, giving_way, IsAwaiting, bound, is_bound, is_bound_place, Tables, Exchange, Representation, Consumer, weight, idle, evicted, room_for, room_by, write_in, moves_on, stays_bound, stays_current, is_idle}
 use Rattle.hc_event.specs.declared.event.Event.TheVariants as event
 use Rattle.hc_rules.specs.declared.need.Route.TheVariants as route
@@ -68,14 +68,6 @@ module _ (limits : Limits) (t : Tables) (law : Lawful t) (now x : ℕ) (response
       by_await (owners.turn other stands) = ap (is_bound_place r) stands
       by_await (owners.hole q lo hi how other aim stands) = absurd (let never : route.Turn ≡ route.Hole = sym way ∙ other in cc)
 
-  and_off : (a : Bool) → (a && false) ≡ false
-  and_off true = refl
-  and_off false = refl
-
-  and_on : (a : Bool) → (a && true) ≡ a
-  and_on true = refl
-  and_on false = refl
-
   moves_is : (d : ℕ) → moves_on t e d ≡ (weights.is_replacing (Some g) && nat_eq w.c d)
   moves_is d = rw (case_now, row) refl
 
@@ -131,8 +123,7 @@ module _ (limits : Limits) (t : Tables) (law : Lawful t) (now x : ℕ) (response
         by_row (Some v) there = weighs r (is_in rs r) v there
 
     twice : (b : Bool) → not (not b) ≡ b
-    twice true = refl
-    twice false = refl
+    twice b = grind (arith, nat_tests)
 
     idles : (r : ℕ) (b : Bool) (v : Representation) → t.representation r ≡ Some v → contents.is_idle left r (if b then option_map as_gone (Some v) else Some v) ≡ is_idle t e r (Some v)
     idles r b v there = by_test b ∙ (ap (λ z. z && (length (bound left r) == 0)) (current_then r v there) ∙ ap (λ z. stays_current t e r v && z) (sym (ap not (bound_then r) ∙ twice (length (bound left r) == 0))))
@@ -171,8 +162,7 @@ module _ (limits : Limits) (t : Tables) (law : Lawful t) (now x : ℕ) (response
 
     firsts_same : (a : Room) → weights.first_idle t e a ≡ going.first_idle left a
     firsts_same (room.After count) = ap (take count) idle_same
-    firsts_same room.TooLarge = refl
-    firsts_same room.Full = refl
+    firsts_same _ = refl
 
     pub gives_same : evicted limits t now ev ≡ giving_way limits left write.Slot
     gives_same = ap (weights.first_idle t e) room_same ∙ firsts_same (room_now limits left write.Slot)

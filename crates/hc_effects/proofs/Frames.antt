@@ -1,12 +1,16 @@
 -- What an entry doesn't speak of stays.
-use Rattle.std.{proofs.{Common.{◌≡◌, inl, inr, ℕ, List, Bool, true, false, Option, Some, None, refl, ap, sym, ◌∙◌, arith}, lemmas.Bool.Decides.{nat_tests}}, specs.Prelude.{nat_eq, ◌==◌, ◌||◌, ◌&&◌, not, if◌then◌else◌, option_map}}
-use Rattle.hc_text.proofs.Basics.{and_left, and_right, bool_cases, not_some as none_some, not_true as not_keepable, never_true as not_so, or_cases, some_inj}
-use Rattle.hc_effects.proofs.Vocabulary.{Opening, opening_in, asks_in, closes_in, evicts_in, Event, Response, HeadCase, loses_in, misreads_in, has_loss, case_at, case_of, is_founding, is_updating, current, is_current, is_number, doomed_key_of, doomed_in, bypass_key, is_key, Entry, entry_without_acts, exchange_after, exchange_heard, exchange_acted, exchange_made, family, exchange_at, exchange_in, becomes_gone, goes_itself, goes_by_case, goes_by_exchange, goes_by_head, is_current_of, ends_early, ends_founding, stops_early, is_keepable, representation_after, representation_heard, representation_acted, representation_after_head, updates, representation_after_piece, with_total_if_none, length_in, founded_at, new_representation, Tables, Exchange, Representation}
+-- First what the event says of each part of a representation: a head, a piece or an end of its own exchange, and else nothing.
+-- With the acts that gives `parts_are_kept`. Why a representation goes is read off the tests of `becomes_gone`, one by one.
+-- Where neither event nor acts speak of a representation, none of those reasons holds, so its row stays as it was.
+-- The same for exchanges: an event and acts that do not speak of one leave its row.
+use Rattle.std.{proofs.{Common.{◌≡◌, inl, inr, ℕ, List, Bool, true, false, Option, Some, None, refl, ap, sym, ◌∙◌, arith}, lemmas.Bool.Decides.{nat_tests}}, specs.Prelude.{nat_eq, ◌==◌, ◌||◌, ◌&&◌, not, if◌then◌else◌}}
+use Rattle.hc_text.proofs.Basics.{and_left, and_right, bool_cases, not_true as not_keepable, never_true as not_so, or_cases, some_inj}
+use Rattle.hc_effects.proofs.Vocabulary.{Opening, opening_in, asks_in, closes_in, evicts_in, Event, Response, HeadCase, loses_in, misreads_in, has_loss, case_at, case_of, is_updating, current, is_current, is_number, doomed_key_of, bypass_key, is_key, Entry, entry_without_acts, exchange_after, exchange_heard, exchange_acted, exchange_made, family, exchange_at, exchange_in, becomes_gone, goes_itself, goes_by_case, goes_by_exchange, goes_by_head, is_current_of, ends_early, ends_founding, stops_early, is_keepable, representation_after, representation_heard, representation_acted, representation_after_head, updates, representation_after_piece, with_total_if_none, length_in, founded_at, Tables, Exchange, Representation}
 use Rattle.hc_event.specs.declared.event.Event.TheVariants as event
 use Rattle.hc_rules.specs.declared.heads.HeadCase.TheVariants as case
 use Rattle.hc_model.specs.Frames.{updates_row, is_headed, is_of_family, is_filled, is_ended, KeepsParts, PartsAreKept, answers_about, head_about, is_event_of, is_current_for, are_acts_of, speaks_of, OthersStay, OthersDontGo, GoesBy, GoneIsCaused, is_opened, speaks_of_exchange, ExchangesStay}
 use Rattle.hc_model.specs.Frames as frames
-use Rattle.hc_effects.proofs.{Basics.{false_true, true_false, or_false, number_is, number_yes}, KeyNames.{key_is}}
+use Rattle.hc_effects.proofs.{Basics.{false_true, or_false, number_is, number_yes}, KeyNames.{key_is}}
 
 -- THE PARTS OF A REPRESENTATION
 
@@ -85,28 +89,13 @@ module _ (t : Tables) (e : Entry) (r : ℕ) (v : Representation) where
   ]
 
   hears : (ev : Event) → HearsParts t e r v (representation_heard t e r ev v) ev
-  hears (event.Start c request) = hears_none t e r v (event.Start c request)
-  hears (event.Poll c want) = hears_none t e r v (event.Poll c want)
   hears (event.Head x response) = hears_head x response (t.exchange x) refl
   hears (event.Piece x bytes) = hears_piece x bytes (t.exchange x) refl
   hears (event.End x) = hears_end x
-  hears (event.Fault x) = hears_none t e r v (event.Fault x)
-  hears (event.Cancel c) = hears_none t e r v (event.Cancel c)
-  hears (event.Doom key) = hears_none t e r v (event.Doom key)
+  hears ev = hears_none t e r v ev
 
   acts_part : (u : Representation) → HearsParts t e r v u e.event → KeepsParts t e r v (representation_acted t e r v u)
-  acts_part u h = record {
-    key = h.key;
-    head = h.head;
-    writer = h.writer;
-    body = h.body;
-    stored = h.stored;
-    reach = h.reach;
-    size = h.size;
-    lost = ap (λ b. loses_in r e.acts || b) h.lost;
-    alone = λ quiet. rw quiet h.alone;
-    gone = ap (λ b. becomes_gone t e r v || b) h.gone;
-  }
+  acts_part u h = grind (arith, nat_tests)
 
   row_after : (z : Option Representation) → z ≡ Some v → representation_after t e r z ≡ Some (representation_acted t e r v (representation_heard t e r e.event v))
   unfolding representation_after
@@ -146,10 +135,7 @@ module _ (t : Tables) (e : Entry) (r : ℕ) (v : Representation) where
   caused_head (event.Piece x bytes) at h = absurd (no_head (event.Piece x bytes) (t.exchange x) at refl h)
   caused_head (event.End x) at h = absurd (no_head (event.End x) (t.exchange x) at refl h)
   caused_head (event.Fault x) at h = absurd (no_head (event.Fault x) (t.exchange x) at refl h)
-  caused_head (event.Start c request) at h = absurd (false_true h)
-  caused_head (event.Poll c want) at h = absurd (false_true h)
-  caused_head (event.Cancel c) at h = absurd (false_true h)
-  caused_head (event.Doom key) at h = absurd (false_true h)
+  caused_head _ at h = absurd (false_true h)
 
   caused_stop : (z : Option Exchange) → t.exchange r ≡ z → v.head.status ≡ 200 → is_keepable v ≡ false → ends_founding e r z ≡ true → GoesBy t e r v
   caused_stop None row status off h = absurd (false_true h)
@@ -190,16 +176,6 @@ module _ (t : Tables) (now x : ℕ) (bytes : List ℕ) (r : ℕ) (v : Representa
   abbrev brings : Entry
   brings = entry_without_acts now (event.Piece x bytes)
 
-  spared : GoesBy t brings r v → ⊥
-  unfolding doomed_key_of
-  spared (frames.by_doom now_is is) = none_some v.key is
-  spared (frames.by_bypass now_is is) = none_some v.key is
-  spared (frames.by_head y response w at row h) = let no : event.Piece x bytes ≡ event.Head y response = at in cc
-  spared (frames.by_loss h) = false_true h
-  spared (frames.by_misread h) = false_true h
-  spared (frames.by_stop w row on status off h) = false_true h
-  spared (frames.by_eviction h) = false_true h
-
 -- A WHOLE ROW
 
 number_of : (o : Option ℕ) (n : ℕ) → is_number o n ≡ false → o ≡ Some n → ⊥
@@ -222,10 +198,7 @@ module _ (t : Tables) (e : Entry) (r : ℕ) (silent : speaks_of t e r ≡ false)
 
   -- a head updates what it is about
   about_updated : (g : Option HeadCase) (w : Exchange) → is_updating g ≡ true → is_number w.aim r ≡ true → answers_about t r g w ≡ true
-  about_updated (Some case.Validated) w up aims = aims
-  about_updated (Some case.FirstJoins) w up aims = aims
-  about_updated (Some case.LaterJoins) w up aims = aims
-  about_updated _ w up aims = absurd (false_true up)
+  about_updated g w up aims = grind (arith, nat_tests)
 
   -- and what goes by it
   about_gone : (g : Option HeadCase) (w : Exchange) → goes_by_case t e r g w ≡ true → answers_about t r g w ≡ true
@@ -254,33 +227,20 @@ module _ (t : Tables) (e : Entry) (r : ℕ) (silent : speaks_of t e r ≡ false)
   piece_stays v x bytes (Some w) off = rw off refl
 
   heard_stays : (v : Representation) (ev : Event) → is_event_of t e r ev ≡ false → representation_heard t e r ev v ≡ v
-  heard_stays v (event.Start c request) off = refl
-  heard_stays v (event.Poll c want) off = refl
   heard_stays v (event.Head x response) off = head_stays v x response (t.exchange x) ((or_false (x == r) (head_about t e r (t.exchange x)) off).1)
   heard_stays v (event.Piece x bytes) off = piece_stays v x bytes (t.exchange x) off
   heard_stays v (event.End x) off = rw off refl
-  heard_stays v (event.Fault x) off = refl
-  heard_stays v (event.Cancel c) off = refl
-  heard_stays v (event.Doom key) off = refl
+  heard_stays v _ off = refl
 
   about_row : (x : ℕ) (response : Response) (w : Exchange) → e.event ≡ event.Head x response → t.exchange x ≡ Some w → answers_about t r (case_at t e) w ≡ false
-  about_row x response w at row =
-      let off : is_event_of t e r (event.Head x response) ≡ false = sym (ap (is_event_of t e r) at) ∙ parts_of.0 in
-      sym (ap (head_about t e r) row) ∙ (or_false (x == r) (head_about t e r (t.exchange x)) off).1
+  about_row x response w at row = grind (arith, nat_tests)
 
   current_off : (o : Option (List ℕ)) (key : List ℕ) → is_current_for t o r ≡ false → o ≡ Some key → current t key ≡ Some r → ⊥
   current_off o key off is now = number_of (current t key) r (sym (ap (λ z. is_current_for t z r) is) ∙ off) now
 
   -- what founded it stops early only by its own event
   stop_of : (w : Exchange) (ev : Event) → is_event_of t e r ev ≡ false → stops_early w r ev ≡ false
-  stop_of w (event.Start c request) off = refl
-  stop_of w (event.Poll c want) off = refl
-  stop_of w (event.Head x response) off = refl
-  stop_of w (event.Piece x bytes) off = refl
-  stop_of w (event.End x) off = rw off refl
-  stop_of w (event.Fault x) off = off
-  stop_of w (event.Cancel c) off = refl
-  stop_of w (event.Doom key) off = refl
+  stop_of w ev off = grind (arith, nat_tests)
 
   not_gone : (v : Representation) → GoesBy t e r v → ⊥
   not_gone v (frames.by_doom now is) = current_off (doomed_key_of t e) v.key parts_of.1 is now
@@ -302,12 +262,7 @@ module _ (t : Tables) (e : Entry) (r : ℕ) (silent : speaks_of t e r ≡ false)
 
   -- nor is it founded
   unfounded : (ev : Event) → is_event_of t e r ev ≡ false → founded_at t e r ev ≡ None
-  unfounded (event.Head x response) off = rw ((or_false (x == r) (head_about t e r (t.exchange x)) off).0) (by_test (is_founding (case_at t e)))
-    where
-      by_test : (b : Bool) → (if b && false then option_map (new_representation r e response) (t.exchange x) else None) ≡ None
-      by_test true = refl
-      by_test false = refl
-  unfounded _ off = refl
+  unfounded ev off = grind (arith, nat_tests)
 
   row_stays : (z : Option Representation) → representation_after t e r z ≡ z
   unfolding representation_after
@@ -323,12 +278,7 @@ may_doom _ = false
 
 pub undoomed : (t : Tables) (e : Entry) → may_doom e.event ≡ false → doomed_key_of t e ≡ None
 unfolding doomed_key_of
-undoomed t e off = by_event e.event off
-  where
-    by_event : (z : Event) → may_doom z ≡ false → doomed_in t e z ≡ None
-    by_event (event.Head x response) h = absurd (true_false h)
-    by_event (event.Doom key) h = absurd (true_false h)
-    by_event _ h = refl
+undoomed t e off = grind (arith, nat_tests)
 
 pub others_stay : OthersStay
 others_stay t e r silent = row_stays t e r silent (t.representation r)
@@ -340,21 +290,10 @@ others_dont_go t e r v silent = stays_on t e r silent v
 
 module _ (t : Tables) (e : Entry) (x : ℕ) (silent : speaks_of_exchange e x ≡ false) where
   exchange_parts : (is_number (exchange_in e.event) x ≡ false) × (asks_in x e.acts ≡ false) × (closes_in x e.acts ≡ false) × (is_opened x (opening_in e.acts) ≡ false)
-  exchange_parts =
-      let a = or_false _ (is_opened x (opening_in e.acts)) silent in
-      let b = or_false _ (closes_in x e.acts) a.0 in
-      let c = or_false (is_number (exchange_in e.event) x) (asks_in x e.acts) b.0 in
-      (c.0, c.1, b.1, a.1)
+  exchange_parts = grind (arith, nat_tests)
 
   heard_same : (w : Exchange) (ev : Event) → is_number (exchange_in ev) x ≡ false → exchange_heard t e x ev w ≡ w
-  heard_same w (event.Start c request) off = refl
-  heard_same w (event.Poll c want) off = refl
-  heard_same w (event.Head y response) off = rw off refl
-  heard_same w (event.Piece y bytes) off = rw off refl
-  heard_same w (event.End y) off = rw off refl
-  heard_same w (event.Fault y) off = rw off refl
-  heard_same w (event.Cancel c) off = refl
-  heard_same w (event.Doom key) off = refl
+  heard_same w ev off = grind (arith, nat_tests)
 
   unmade : (z : Option Opening) → is_opened x z ≡ false → exchange_made t e x z ≡ None
   unmade None off = refl

@@ -1,5 +1,5 @@
 -- What a poll gives: the next bytes of the body that its consumer reads, and none past its end.
-use Rattle.std.{proofs.{Common.{◌≡◌, inl, inr, ℕ, ◌+◌, ◌-◌, ◌<◌, ◌≤◌, List, [], ◌∷◌, length, Bool, true, false, cond, Option, Some, None, refl, ap, sym, ◌∙◌, subst, arith}, Math.Nat.{min-le_left}, lemmas.{List.{get_or-drop, get_or-take, length-take, length-drop}, Bool.Decides.{nat_tests}}}, specs.{Prelude.{IfSome, slice_index, is_some, min, take, drop, ◌&&◌, nat_le, nat_lt, if◌then◌else◌}, Option.{option_and_then, option_map}}}
+use Rattle.std.{proofs.{Common.{◌≡◌, inl, inr, ℕ, ◌+◌, ◌-◌, ◌<◌, ◌≤◌, List, [], ◌∷◌, length, Bool, true, false, cond, Option, Some, None, refl, ap, sym, ◌∙◌, subst, arith}, Math.Nat.{min-le_left}, lemmas.{List.{get_or-drop, get_or-take, length-take, length-drop}, Bool.Decides.{nat_tests}}}, specs.{Prelude.{IfSome, slice_index, is_some, min, take, drop, ◌&&◌, if◌then◌else◌}, Option.{option_and_then, option_map}}}
 use Rattle.hc_text.proofs.Basics.{bool_cases, min_few, not_some as none_some, some_inj}
 use Rattle.hc_range.specs.declared.range.Span.{Span}
 use Rattle.hc_sparse.proofs.StretchLemmas.{front, stretch-longest}
@@ -32,11 +32,7 @@ module _ (f : Cells) (reach p n : ℕ) (run : Run) where
   stretched is = by_cell (f p) refl is
 
   there_at : (o : Option Cell) → f p ≡ o → stretch_of f p (min n (reach - p)) o ≡ Some run → EndsBy reach f → p < reach
-  there_at None here is ends = absurd (none_some run is)
-  there_at (Some cell) here is ends = elim (bool_cases (nat_le reach p)) [
-    | inl past ↦ absurd (none_some cell (sym (ends p (grind (arith, nat_tests))) ∙ here))
-    | inr below ↦ grind (arith, nat_tests)
-  ]
+  there_at o here is ends = grind (arith, nat_tests)
 
   below_reach : stretch_to f reach p n ≡ Some run → EndsBy reach f → p < reach
   unfolding stretch
@@ -57,11 +53,7 @@ module _ (f : Cells) (reach p n : ℕ) (run : Run) where
 
 -- what is stored ends where what came does
 pub stored_ends : (v : Representation) → IsStored v → EndsBy v.reach v.stored
-stored_ends v s p le = by_test (v.stored p) refl
-  where
-    by_test : (o : Option Cell) → v.stored p ≡ o → v.stored p ≡ None
-    by_test None is = is
-    by_test (Some cell) is = s.some_stored p (ap (λ (z : Option Cell). is_some z) is) ∙ s.ends p le
+stored_ends v s p le = grind (arith, nat_tests)
 
 -- what a consumer reads: a representation, or an answer past the store
 abbrev pub read_of : Place → Option ℕ
@@ -71,11 +63,7 @@ read_of _ = None
 
 -- before the end there is more ahead
 pub some_ahead : (o : Option ℕ) (m p : ℕ) → is_at_end o p ≡ false → p < m → 0 < cut_at o m - p
-some_ahead None m p before lt = omega arith
-some_ahead (Some hi) m p before lt = let ahead : p < hi = grind (arith, nat_tests) in by_numbers hi m p ahead lt
-  where
-    by_numbers : (hi m p : ℕ) → p < hi → p < m → 0 < min hi m - p
-    by_numbers hi m p a b = omega arith
+some_ahead o m p before lt = grind (arith, nat_tests)
 
 -- FROM WHERE A POLL GIVES
 
@@ -92,16 +80,14 @@ module _ (t : Tables) (want c : ℕ) (k : Consumer) (run : Run) where
   gives_is (Some z) is = let same : z ≡ run = cc in ap Some same
 
   hole_gives : (request : Request) (o : Option Representation) (hole : Span) → opens_hole t request o hole ≡ Gives run → ⊥
-  hole_gives request None hole is = cc
-  hole_gives request (Some v) hole is = cc
+  hole_gives request o hole is = grind (arith, nat_tests)
 
   later_gives : (hole : Span) (hi : Option ℕ) → later_hole t k hole hi ≡ Gives run → ⊥
   later_gives hole None is = cc
   later_gives hole (Some hi) is = hole_gives k.request _ hole is
 
   asks_gives : (x : ℕ) (b : Bool) → (if b then moves.Waits (wait.Body x) else moves.Asks x) ≡ Gives run → ⊥
-  asks_gives x true is = cc
-  asks_gives x false is = cc
+  asks_gives x b is = grind (arith, nat_tests)
 
   waits_gives : (x : ℕ) (o : Option Exchange) → waits_for x o ≡ Gives run → ⊥
   waits_gives x None is = cc
@@ -143,32 +129,15 @@ module _ (t : Tables) (want c : ℕ) (k : Consumer) (run : Run) where
     pub within : IfSome until (λ hi. run.at + length run.bytes ≤ hi)
 
   bound_reads : (p : Place) (r : ℕ) → bound_to p ≡ Some r → read_of p ≡ Some r
-  bound_reads (place.Bound q lo hi by) r is = is
-  bound_reads (place.Direct x) r is = absurd (none_some r is)
-  bound_reads place.Line r is = absurd (none_some r is)
-  bound_reads (place.Passed q kept) r is = absurd (none_some r is)
-  bound_reads (place.Turn x) r is = absurd (none_some r is)
-  bound_reads (place.Down why) r is = absurd (none_some r is)
-  bound_reads place.Over r is = absurd (none_some r is)
+  bound_reads p r is = grind (arith, nat_tests)
 
   -- a stretch of a body
   delivers_of : (r p n : ℕ) (v : Representation) (f : Cells) → t.representation r ≡ Some v → IsStretch f p n run → ((q : ℕ) → is_some (f q) ≡ true → f q ≡ v.body q) → Delivers t r run.at run.x run.bytes
-  delivers_of r p n v f row s same i lt =
-      let cell : f (p + i) ≡ Some (record { byte = slice_index run.bytes i; x = run.x }) = s.each i lt in
-      let here : f (p + i) ≡ v.body (p + i) = same (p + i) (ap (λ (z : Option Cell). is_some z) cell) in
-      let there : body_of t r (run.at + i) ≡ v.body (p + i) = ap (cell_by t r (run.at + i)) row ∙ ap (λ m. v.body (m + i)) s.at_is in
-      there ∙ (sym here ∙ cell)
+  delivers_of r p n v f row s same i lt = grind (arith, nat_tests)
 
   -- up to the end, where that isn't there yet
   within_by : (o : Option ℕ) (m p : ℕ) → run.at ≡ p → is_at_end o p ≡ false → length run.bytes ≤ cut_at o m - p → IfSome o (λ hi. run.at + length run.bytes ≤ hi)
-  within_by None m p at before few = tt
-  within_by (Some hi) m p at before few =
-      let most : cut_at (Some hi) m ≤ hi = min-le_left hi m in
-      let ahead : p < hi = grind (arith, nat_tests) in
-      by_numbers hi (cut_at (Some hi) m) p run.at (length run.bytes) at most ahead few
-    where
-      by_numbers : (hi cut p a n : ℕ) → a ≡ p → cut ≤ hi → p < hi → n ≤ cut - p → a + n ≤ hi
-      by_numbers hi cut p a n same le lt few = omega arith
+  within_by o m p at before few = grind (arith, nat_tests)
 
   -- STORED
 
@@ -226,10 +195,7 @@ module _ (t : Tables) (want c : ℕ) (k : Consumer) (run : Run) where
   is_run x o (b ∷ bytes) is = (omega arith, some_inj _ run is)
 
   answer_there : (x p : ℕ) (w : Exchange) → base w ≤ p → p < exchanges.front w → answer_cell x p w ≡ Some (record { byte = slice_index w.body (p - base w); x = x })
-  answer_there x p w from below =
-      let a : nat_le (base w) p ≡ true = grind (arith, nat_tests) in
-      let b : nat_lt p (exchanges.front w) ≡ true = grind (arith, nat_tests) in
-      rw (a, b) refl
+  answer_there x p w from below = grind (arith, nat_tests)
 
   min_right : (a b : ℕ) → min a b ≤ b
   min_right a b = omega arith
@@ -270,8 +236,7 @@ module _ (t : Tables) (want c : ℕ) (k : Consumer) (run : Run) where
       )
 
   lost_is : (b : Bool) (o : Option Run) → cond b o None ≡ Some run → o ≡ Some run
-  lost_is true o is = is
-  lost_is false o is = absurd (none_some run is)
+  lost_is b o is = grind (arith, nat_tests)
 
   held_lost : Sound t → 0 < want → (r : ℕ) (q : Option Representation) → bound_to k.place ≡ Some r → t.representation r ≡ q → is_at_end until (offset t k) ≡ false → held_of_lost c (offset t k) (most t want k) q ≡ Some run → (r : ℕ) × IsGiven r
   held_lost s many r None at row before is = absurd (none_some run is)
@@ -294,11 +259,7 @@ module _ (t : Tables) (want c : ℕ) (k : Consumer) (run : Run) where
     held_by : (p : Place) → k.place ≡ p → is_at_end until (offset t k) ≡ false → held_at t c (offset t k) (most t want k) p ≡ Some run → (r : ℕ) × IsGiven r
     held_by (place.Direct x) at before is = held_direct x (t.exchange x) at refl (apart x at) before is
     held_by (place.Bound r lo hi by) at before is = held_lost s many r (t.representation r) (ap bound_to at) refl before is
-    held_by place.Line at before is = absurd (none_some run is)
-    held_by (place.Passed q kept) at before is = absurd (none_some run is)
-    held_by (place.Turn x) at before is = absurd (none_some run is)
-    held_by (place.Down why) at before is = absurd (none_some run is)
-    held_by place.Over at before is = absurd (none_some run is)
+    held_by _ at before is = absurd (none_some run is)
 
     by_comes : Comes → (r : ℕ) × IsGiven r
     by_comes (stored end before ends is) = stored_given s many end before ends is

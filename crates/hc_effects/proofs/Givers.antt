@@ -1,25 +1,18 @@
 -- A poll that gives is one of a reader, and wants something.
-use Rattle.std.{proofs.Common.{◌≡◌, inl, inr, ℕ, zero, suc, ◌<◌, true, None, ap, sym, ◌∙◌, arith}, specs.Prelude.{nat_lt}}
-use Rattle.hc_text.proofs.Basics.{bool_cases}
+use Rattle.std.{proofs.{lemmas.Bool.Decides.{nat_tests}, Common.{◌≡◌, ℕ, zero, suc, ◌<◌, true, None, ap, sym, ◌∙◌, arith}}}
 use Rattle.hc_sparse.specs.declared.run.Run.{Run}
 use Rattle.hc_event.specs.declared.act.Wait.TheVariants as wait
-use Rattle.hc_effects.proofs.Vocabulary.{Event, denial, is_live, Move, Nothing, Gives, Fails, Tables, Consumer, reading}
+use Rattle.hc_effects.proofs.Vocabulary.{Event, denial, Move, Nothing, Gives, Fails, Tables, Consumer, reading}
 use Rattle.hc_event.specs.declared.event.Event.TheVariants as event
 use Rattle.hc_rules.specs.Refusals as refusals
 use Rattle.hc_model.specs.Moves as moves
-use Rattle.hc_effects.proofs.{Basics.{false_true}, MoveBy.{MoveBy}, Once.{never}}
+use Rattle.hc_effects.proofs.{Basics.{false_true}, MoveBy.{MoveBy}}
 use Rattle.hc_effects.proofs.MoveBy as by_move
 
 module _ (t : Tables) (c : ℕ) where
   zero_refused : denial t (event.Poll c 0) ≡ None → ⊥
   unfolding refusals.refusal_of
-  zero_refused h = elim (bool_cases (nat_lt t.last_start c)) [
-    | inl early ↦ never _ (rw early at h)
-    | inr on ↦ elim (bool_cases (is_live (t.consumer c))) [
-      | inl live ↦ never _ (rw (on, live) at h)
-      | inr over ↦ never _ (rw (on, over) at h)
-    ]
-  ]
+  zero_refused h = grind (arith, nat_tests)
 
   pub some_want : (want : ℕ) (ev : Event) → denial t ev ≡ None → ev ≡ event.Poll c want → 0 < want
   some_want zero ev goes at = absurd (zero_refused (sym (ap (denial t) at) ∙ goes))

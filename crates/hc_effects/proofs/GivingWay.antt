@@ -91,8 +91,7 @@ module _ (limits : Limits) (t : Tables) (now : ℕ) (event : Event) where
   nothing_room none = ap (room_by limits t e) none
 
   none_taken : (xs : List ℕ) → take 0 xs ≡ []
-  none_taken [] = refl
-  none_taken (x ∷ xs) = refl
+  none_taken xs = grind (arith, nat_tests)
 
 pub makes_room : MakesRoom
 makes_room limits t now event w gone is small gives =

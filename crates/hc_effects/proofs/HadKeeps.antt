@@ -1,13 +1,13 @@
 -- Whose an open exchange is that is about a representation: the writing's, or the exclusive writer's.
-use Rattle.std.{proofs.{Common.{◌≡◌, ◌⊎◌, inl, inr, ℕ, ◌<◌, ◌≤◌, List, [], ◌∷◌, Bool, true, false, cond, Option, Some, None, refl, ap, sym, ◌∙◌, subst, arith, min}, lemmas.Bool.Decides.{nat_tests}}, specs.{Prelude.{if◌then◌else◌, is_some, is_none, nat_le, map, filter}, Option.{option_or}}}
+use Rattle.std.{proofs.{Common.{◌≡◌, ◌⊎◌, inl, inr, ℕ, List, [], ◌∷◌, Bool, true, false, cond, Option, Some, None, refl, ap, sym, ◌∙◌, subst, arith}, lemmas.Bool.Decides.{nat_tests}}, specs.{Prelude.{is_some, is_none, map, filter}, Option.{option_or}}}
 use Rattle.hc_text.proofs.Basics.{both_true as and_both, and_left, and_right, bool_cases, not_some as none_some, never_true as not_so, or_left, or_right, same_some as same_row, some_inj}
-use Rattle.hc_effects.proofs.Vocabulary.{Opening, opening_in, leaves_in, Event, Response, Limits, Member, least, lesser, is_same_number, route_of, stands_at, BoundBy, loses_in, has_loss, case_at, is_joining, is_left, is_left_by, has_no_survivor, leaver, leaver_by, consumer_heard, consumer_acted, by_opening, own_after, left_to, waiting, due_after, back_in_line, is_number, denial, Entry, aim_from, exchange_in, is_for, is_open, family, becomes_due, cause_of_stop, cause_of_loss, cause_by_loss, cause_of_head, cause_by_case, stop_cause, Flaw, entry_of, Measures, Owners, IsAwaiting, move_of, is_written, bound, bound_to, own_open, reads, source, shared_exchange, Tables, Exchange, Representation, Consumer, Sound, Among, IsBound, IsAbout, IsHad, IsExclusiveWriter, IsFirst, starts_over, after_accepted, brings_body, came_alone, loses_writing, survivor, member, may_write}
+use Rattle.hc_effects.proofs.Vocabulary.{Opening, opening_in, leaves_in, Event, Response, Limits, Member, least, lesser, route_of, stands_at, BoundBy, loses_in, has_loss, is_joining, is_left, is_left_by, has_no_survivor, leaver, leaver_by, consumer_heard, consumer_acted, by_opening, own_after, left_to, waiting, due_after, back_in_line, is_number, denial, Entry, aim_from, exchange_in, is_open, family, becomes_due, cause_of_stop, cause_of_loss, cause_by_loss, cause_of_head, stop_cause, Flaw, entry_of, Measures, Owners, IsAwaiting, move_of, is_written, bound, bound_to, own_open, reads, source, shared_exchange, Tables, Exchange, Representation, Consumer, Sound, Among, IsBound, IsAbout, IsHad, IsExclusiveWriter, IsFirst, starts_over, after_accepted, brings_body, came_alone, loses_writing, survivor, member, may_write}
 use Rattle.hc_event.specs.declared.event.Event.TheVariants as event
 use Rattle.hc_rules.specs.declared.need.Route.TheVariants as route
 use Rattle.hc_event.specs.declared.place.Place.TheVariants as place
 use Rattle.hc_model.specs.Owners as owners
 use Rattle.hc_model.specs.Sound as sound
-use Rattle.hc_effects.proofs.{AboutKeeps.{own_open_of, own_open_is}, ApartKeeps.{written_by, is_on}, Basics.{false_true, some_none, number_is, number_yes}, BoundStays.{Stays, bound_stays}, Closed.{before}, Dues.{undue_of, stop_none, other_stop, loss_at, due_none}, ExchangeFrom.{IsSame}, FirstKeeps.{came_kept, case_is, is_new}, HasBound.{not_must, reader_of}, HeadKeeps.{is_join}, Losses.{exclusive_is}, LossBy.{IsReal, sealed_loss, seals_one, fresh}, OpensFrom.{opens_hole, hole_is}, OwnersKeep.{is_opened}, PieceKeeps.{eq_cases}, ExclusiveWriters.{writer_some, bound_some}, RepFrom.{RepFrom, rep_from, IsKept, IsResumed}, Said.{IsOpening, opening_by, leaving_by}, SaidActs.{leaves_leaver}, ServedKeeps.{lost_alone, kept_alone, over}, Stops.{writer_about}, WaitingKeeps.{stands, stays_on, unmet}, Waiters.{IsWaiter, waiter_of, unwritten, head_is_own, waits_undue}, WriterEnds.{loses_same}}
+use Rattle.hc_effects.proofs.{AboutKeeps.{own_open_of, own_open_is}, ApartKeeps.{written_by, is_on}, Basics.{false_true, some_none, number_is, number_yes}, BoundStays.{Stays, bound_stays}, Closed.{before}, Dues.{undue_of, stop_none, loss_at, due_none}, ExchangeFrom.{IsSame}, FirstKeeps.{came_kept, case_is, is_new}, HasBound.{not_must, reader_of}, HeadKeeps.{is_join}, Losses.{exclusive_is}, LossBy.{IsReal, sealed_loss, seals_one, fresh}, OpensFrom.{opens_hole, hole_is}, OwnersKeep.{is_opened}, ExclusiveWriters.{writer_some, bound_some}, RepFrom.{RepFrom, rep_from, IsKept, IsResumed}, Said.{IsOpening, opening_by, leaving_by}, SaidActs.{leaves_leaver}, ServedKeeps.{lost_alone, kept_alone, over}, Stops.{writer_about}, WaitingKeeps.{stands, stays_on, unmet}, Waiters.{IsWaiter, waiter_of, unwritten, head_is_own, waits_undue}, WriterEnds.{loses_same}, StaysOn.{unopened}}
 use Rattle.hc_effects.proofs.Forward as forward
 use Rattle.hc_effects.proofs.MemberStays as member
 use Rattle.hc_effects.proofs.OpenedAs as opened
@@ -17,13 +17,7 @@ use Rattle.hc_effects.proofs.RepFrom as rep
 -- WHO SURVIVES
 
 least_by : (n : ℕ) (ns : List ℕ) (c : ℕ) (o : Option ℕ) → least ns ≡ o → lesser o n ≡ Some c → ((a : ℕ) → least ns ≡ Some a → Among a ns) → Among c (n ∷ ns)
-least_by n ns c None is h rest = inl (some_inj n c h)
-least_by n ns c (Some a) is h rest =
-    let m : min a n ≡ c = some_inj (min a n) c h in
-    elim (bool_cases (nat_le a n)) [
-      | inl less ↦ let le : a ≤ n = grind (arith, nat_tests) in let same : a ≡ c = omega arith in inr (rest c (is ∙ ap Some same))
-      | inr more ↦ let lt : n < a = grind (arith, nat_tests) in let same : n ≡ c = omega arith in inl same
-    ]
+least_by n ns c o is h rest = grind (arith, nat_tests)
 
 pub among_least : (ns : List ℕ) (c : ℕ) → least ns ≡ Some c → Among c ns
 among_least [] c h = absurd (none_some c h)
@@ -57,37 +51,10 @@ module _ (limits : Limits) (t : Tables) (now : ℕ) (flaw : Flaw) (s : Sound t) 
   own_source k x own = ap (λ z. option_or z (shared_exchange t k.place)) own
 
   stop_by : (k : Consumer) (x : ℕ) (w z : Exchange) → source t k ≡ Some x → IsSame t e x w z → z.is_open ≡ true → (v : Event) → ev ≡ v → cause_of_stop t e k ≡ None
-  stop_by k x w z from_x same on (event.Start d request) here = stop_none t e k (ap (stop_cause t) here)
-  stop_by k x w z from_x same on (event.Poll d want) here = stop_none t e k (ap (stop_cause t) here)
-  stop_by k x w z from_x same on (event.Head y response) here = stop_none t e k (ap (stop_cause t) here)
-  stop_by k x w z from_x same on (event.Piece y bytes) here = stop_none t e k (ap (stop_cause t) here)
-  stop_by k x w z from_x same on (event.End y) here = elim (eq_cases x y) [
-    | inl hit ↦ absurd (same.unended on (here ∙ ap event.End (sym hit.1)))
-    | inr off ↦ other_stop t e k (ap (λ q. is_same_number q (exchange_in ev)) from_x ∙ (ap (λ v. is_same_number (Some x) (exchange_in v)) here ∙ off.0))
-  ]
-  stop_by k x w z from_x same on (event.Fault y) here = elim (eq_cases x y) [
-    | inl hit ↦ absurd (same.unfaulted on (here ∙ ap event.Fault (sym hit.1)))
-    | inr off ↦ other_stop t e k (ap (λ q. is_same_number q (exchange_in ev)) from_x ∙ (ap (λ v. is_same_number (Some x) (exchange_in v)) here ∙ off.0))
-  ]
-  stop_by k x w z from_x same on (event.Cancel d) here = stop_none t e k (ap (stop_cause t) here)
-  stop_by k x w z from_x same on (event.Doom key) here = stop_none t e k (ap (stop_cause t) here)
+  stop_by k x w z from_x same on v here = grind (arith, nat_tests)
 
   head_by : (c : ℕ) → ((y : ℕ) (response : Response) (q : Exchange) → ev ≡ event.Head y response → t.exchange y ≡ Some q → q.c ≡ c → ⊥) → (v : Event) → ev ≡ v → cause_of_head t e c v ≡ None
-  head_by c not_for (event.Start d request) here = refl
-  head_by c not_for (event.Poll d want) here = refl
-  head_by c not_for (event.Head y response) here = by_row (t.exchange y) refl
-    where
-      by_row : (q : Option Exchange) → t.exchange y ≡ q → (if is_for q c then cause_by_case (case_at t e) y else None) ≡ None
-      by_row None row = refl
-      by_row (Some q) row = elim (eq_cases q.c c) [
-        | inl hit ↦ absurd (not_for y response q here row hit.1)
-        | inr off ↦ rw off.0 refl
-      ]
-  head_by c not_for (event.Piece y bytes) here = refl
-  head_by c not_for (event.End y) here = refl
-  head_by c not_for (event.Fault y) here = refl
-  head_by c not_for (event.Cancel d) here = refl
-  head_by c not_for (event.Doom key) here = refl
+  head_by c not_for v here = grind (arith, nat_tests)
 
   -- THE PEN GOES WITH AN OPEN EXCHANGE
 
@@ -99,9 +66,7 @@ module _ (limits : Limits) (t : Tables) (now : ℕ) (flaw : Flaw) (s : Sound t) 
     reader = sound.is_bound lo hi how row at
 
     first_same : IsFirst t r c → came_alone t (place.Bound r lo hi how) ≡ true
-    first_same (sound.first q a d g q_row q_at alone) =
-        let one : q ≡ k = same_row (t.consumer c) q k q_row row in
-        subst (λ z. came_alone t z ≡ true) (sym q_at ∙ (ap (λ (z : Consumer). z.place) one ∙ at)) alone
+    first_same it0 = grind (arith, nat_tests)
 
     may : IsFirst t r c → may_write t v (Some k) ≡ true
     may is = rw (ap (came_alone t) at ∙ first_same is, none_due, own) refl
@@ -189,11 +154,7 @@ module _ (limits : Limits) (t : Tables) (now : ℕ) (flaw : Flaw) (s : Sound t) 
             hole_not_at h.from h.to (opens_hole t c k q now poll.want s row opening h.from h.to h.is)
 
     opening_same : (q : Consumer) (a : Option Opening) → opening_in e.acts ≡ a → by_opening t c a q ≡ q
-    opening_same q None opens = refl
-    opening_same q (Some a) opens = elim (eq_cases a.c c) [
-      | inl hit ↦ absurd (no_opening a opens hit.1)
-      | inr off ↦ rw off.0 refl
-    ]
+    opening_same q z opens = unopened t e c q z (λ a is. no_opening a (opens ∙ is))
 
     own_stays : stays.u.own ≡ Some x
     own_stays =
@@ -269,9 +230,7 @@ module _ (limits : Limits) (t : Tables) (now : ℕ) (flaw : Flaw) (s : Sound t) 
         writes = by_writer kept.writer_is
 
     family_is : family x w ≡ r
-    family_is =
-        let grows = (s.rows r v there).growing x on writer in
-        ap (family x) (same_row (t.exchange x) w grows.0 is_row (grows.1).row) ∙ (grows.1).family_is
+    family_is = grind (arith, nat_tests)
 
     losing_b : loses_in r e.acts ≡ true → brings_body ev ≡ true → loses_writing t b r v ≡ true
     losing_b loses brings = and_both _ _ (and_both _ _ brings (loses_same limits t now flaw s o m ev goes real r ∙ loses)) on
@@ -286,14 +245,7 @@ module _ (limits : Limits) (t : Tables) (now : ℕ) (flaw : Flaw) (s : Sound t) 
     unpolled brings d want polls = false_true (sym (ap brings_body polls) ∙ brings)
 
     stop_quiet : brings_body ev ≡ true → (q : Event) → ev ≡ q → stop_cause t q ≡ None
-    stop_quiet brings (event.Head y response) here = refl
-    stop_quiet brings (event.Piece y bytes) here = refl
-    stop_quiet brings (event.Start d request) here = refl
-    stop_quiet brings (event.Poll d want) here = refl
-    stop_quiet brings (event.End y) here = absurd (false_true (sym (ap brings_body here) ∙ brings))
-    stop_quiet brings (event.Fault y) here = absurd (false_true (sym (ap brings_body here) ∙ brings))
-    stop_quiet brings (event.Cancel d) here = refl
-    stop_quiet brings (event.Doom key) here = refl
+    stop_quiet brings q here = grind (arith, nat_tests)
 
     -- it is left to who survives
     survived : (c lo : ℕ) (hi : Option ℕ) (how : BoundBy) (k : Consumer) → t.consumer c ≡ Some k → k.place ≡ place.Bound r lo hi how → survivor t r v ≡ Some c → loses_in r e.acts ≡ true → brings_body ev ≡ true → IsHad now_on r p x

@@ -1,14 +1,13 @@
 -- What is being written for several has a reader.
-use Rattle.std.{proofs.{Common.{◌≡◌, ◌≢◌, ◌⊎◌, inl, inr, ℕ, List, [], ◌∷◌, Bool, true, false, cond, Option, Some, None, refl, ap, sym, ◌∙◌, subst, arith}, lemmas.Bool.Decides.{nat_tests}}, specs.{Prelude.{◌&&◌, ◌||◌, ◌==◌, not, nat_eq, filter}, List.{list_all}}}
-use Rattle.hc_text.proofs.Basics.{both_true as and_both, and_left, and_right, bool_cases, not_some as none_some, never_true as not_so, or_cases, or_right, some_inj}
-use Rattle.hc_effects.proofs.Vocabulary.{leaves_in, closes_in, Event, Response, HeadCase, Limits, Place, BoundBy, case_at, head_view, is_founding, is_joining, must_close, is_left, is_left_by, is_last_reader, leaver, leaver_by, consumer_heard, consumer_acted, becomes_shared, by_head, place_by_case, due_after, back_in_line, is_number, denial, doomed_key_of, doomed_in, doomed_by_head, doomed_by_case, is_key, Entry, exchange_heard, exchange_acted, promise_in, exchange_at, is_for, is_open, Flaw, entry_of, Owners, IsAwaiting, is_written, is_bound, is_bound_place, bound, shared_exchange, Tables, Exchange, Representation, Consumer, may_stand, Sound, Numbered, Among, IsBound, starts_over, waits_at, sends_back, loses_what_it_waits_for, after_accepted, route_of, head_case, has_loss, writer_at}
+use Rattle.std.{proofs.{Common.{◌≡◌, ◌≢◌, ◌⊎◌, inl, inr, ℕ, List, [], ◌∷◌, Bool, true, false, Option, Some, None, refl, ap, sym, ◌∙◌, subst, arith}, lemmas.Bool.Decides.{nat_tests}}, specs.{Prelude.{◌&&◌, ◌||◌, ◌==◌, not, nat_eq, filter}, List.{list_all}}}
+use Rattle.hc_text.proofs.Basics.{or_left, some_same as number_of, and_left, and_right, bool_cases, not_some as none_some, never_true as not_so, or_right}
+use Rattle.hc_effects.proofs.Vocabulary.{leaves_in, closes_in, Event, Response, HeadCase, Limits, Place, BoundBy, case_at, head_view, is_founding, is_joining, must_close, is_left, is_left_by, leaver, leaver_by, consumer_heard, consumer_acted, becomes_shared, by_head, place_by_case, due_after, is_number, denial, doomed_key_of, doomed_in, doomed_by_head, doomed_by_case, is_key, Entry, exchange_heard, exchange_acted, promise_in, is_open, Flaw, entry_of, Owners, IsAwaiting, is_written, is_bound, is_bound_place, bound, shared_exchange, Tables, Exchange, Representation, Consumer, may_stand, Sound, Numbered, Among, IsBound, starts_over, sends_back, after_accepted, route_of, head_case, has_loss, writer_at}
 use Rattle.hc_event.specs.declared.event.Event.TheVariants as event
 use Rattle.hc_rules.specs.declared.heads.HeadCase.TheVariants as case
 use Rattle.hc_event.specs.declared.place.Place.TheVariants as place
 use Rattle.hc_event.specs.declared.place.BoundBy.TheVariants as by
-use Rattle.hc_model.specs.Owners as owners
 use Rattle.hc_model.specs.Sound as sound
-use Rattle.hc_effects.proofs.{ApartKeeps.{is_on, was_written, founded_shared}, Basics.{false_true, number_is}, BoundKeeps.{binds_kept}, Closed.{before, closes}, FirstKeeps.{case_is, is_new}, Forward.{is_kept, after_is}, MemberStays.{member_stays}, NamesKeep.{names_are_kept}, NumbersKeep.{numbers_are_kept}, PieceKeeps.{eq_cases}, ExclusiveWriters.{writer_some, bound_some}, RepFrom.{RepFrom, rep_from, IsResumed}, Said.{leaving_by}, SaidActs.{leaves_leaver}, ToBeShown.{heard_place}, FoundBy.{CaseBy, case_by}, Waiters.{IsWaiter, waiter_of}, WriterEnds.{all_same}}
+use Rattle.hc_effects.proofs.{ApartKeeps.{is_on, was_written, founded_shared}, Basics.{false_true, number_is}, BoundKeeps.{binds_kept}, Closed.{before, closes}, FirstKeeps.{case_is, is_new}, Forward.{is_kept, after_is}, MemberStays.{member_stays}, NamesKeep.{names_are_kept}, NumbersKeep.{numbers_are_kept}, PieceKeeps.{eq_cases}, ExclusiveWriters.{writer_some, bound_some}, RepFrom.{RepFrom, rep_from, IsResumed}, Said.{leaving_by}, SaidActs.{leaves_leaver}, ToBeShown.{heard_place}, FoundBy.{CaseBy, case_by}, Waiters.{IsWaiter, waiter_of}, WriterEnds.{all_same}, StaysOn.{awaiting_keeps, settled, stays_by as stays_unless}}
 use Rattle.hc_effects.proofs.RepFrom as rep
 use Rattle.hc_effects.proofs.FoundBy as cases
 use Rattle.hc_rules.specs.declared.need.Route.TheVariants as route
@@ -42,16 +41,11 @@ other_among l (d ∷ ds) h = elim (eq_cases d l) [
 -- A READER OF r
 
 pub bound_at : (t : Tables) (r d : ℕ) (k : Consumer) (p : Place) → t.consumer d ≡ Some k → k.place ≡ p → is_bound_place r p ≡ true → IsBound t r d k
-bound_at t r d k place.Line row at h = absurd (false_true h)
-bound_at t r d k (place.Passed q kept) row at h = absurd (false_true h)
-bound_at t r d k (place.Turn x) row at h = absurd (false_true h)
 bound_at t r d k (place.Bound q lo hi how) row at h =
     let test : nat_eq q r ≡ true = h in
     let same : q ≡ r = grind (arith, nat_tests) in
     sound.is_bound lo hi how row (at ∙ ap (λ z. place.Bound z lo hi how) same)
-bound_at t r d k (place.Direct x) row at h = absurd (false_true h)
-bound_at t r d k (place.Down cause) row at h = absurd (false_true h)
-bound_at t r d k place.Over row at h = absurd (false_true h)
+bound_at t r d k _ row at h = absurd (false_true h)
 
 pub bound_row : (t : Tables) (r d : ℕ) (z : Option Consumer) → t.consumer d ≡ z → is_bound r z ≡ true → (k : Consumer) × IsBound t r d k
 bound_row t r d None row h = absurd (false_true h)
@@ -90,14 +84,7 @@ module _ (limits : Limits) (t : Tables) (now : ℕ) (flaw : Flaw) (s : Sound t) 
   -- THE LAST READER CLOSES IT
 
   heard_open : (x : ℕ) (v : Event) (w : Exchange) → (exchange_heard t e x v w).is_open ≡ (exchange_heard t b x v w).is_open
-  heard_open x (event.Start d request) w = refl
-  heard_open x (event.Poll d want) w = refl
-  heard_open x (event.Head y response) w = elim (eq_cases y x) [ inl here ↦ rw here.0 refl | inr off ↦ rw off.0 refl ]
-  heard_open x (event.Piece y bytes) w = elim (eq_cases y x) [ inl here ↦ rw here.0 refl | inr off ↦ rw off.0 refl ]
-  heard_open x (event.End y) w = elim (eq_cases y x) [ inl here ↦ rw here.0 refl | inr off ↦ rw off.0 refl ]
-  heard_open x (event.Fault y) w = elim (eq_cases y x) [ inl here ↦ rw here.0 refl | inr off ↦ rw off.0 refl ]
-  heard_open x (event.Cancel d) w = refl
-  heard_open x (event.Doom key) w = refl
+  heard_open x v w = grind (arith, nat_tests)
 
   -- what stays open had not to be closed
   pub not_must : (x : ℕ) (w : Exchange) → t.exchange x ≡ Some w → is_open (now_on.exchange x) ≡ true → must_close t b x w ≡ true → ⊥
@@ -110,11 +97,7 @@ module _ (limits : Limits) (t : Tables) (now : ℕ) (flaw : Flaw) (s : Sound t) 
       false_true (sym (ap not shut) ∙ off)
 
   shared_is : (r l x : ℕ) (k : Consumer) (v : Representation) → IsBound t r l k → t.representation r ≡ Some v → is_written t v ≡ true → v.writer ≡ Some x → list_all (λ d. d == l) (bound t r) ≡ true → is_left_by t x l (Some k) ≡ true
-  shared_is r l x k v (sound.is_bound lo hi how row at) there on writer all =
-      let from : shared_exchange t k.place ≡ Some x = rw (at, there, on) writer in
-      let number : is_number (shared_exchange t k.place) x ≡ true = ap (λ z. is_number z x) from ∙ (let test : nat_eq x x ≡ true = grind (arith, nat_tests) in test) in
-      let last : is_last_reader t l k.place ≡ true = ap (is_last_reader t l) at ∙ all in
-      or_right _ _ (and_both _ _ number last)
+  shared_is r l x k v it5 there on writer all = grind (arith, nat_tests)
 
   last_closes : (r l x : ℕ) (k : Consumer) (v : Representation) → leaver b ≡ Some l → IsBound t r l k → t.representation r ≡ Some v → is_written t v ≡ true → v.writer ≡ Some x → list_all (λ d. d == l) (bound t r) ≡ true → is_open (now_on.exchange x) ≡ true → ⊥
   last_closes r l x k v leaves reader there on writer all open_now =
@@ -124,9 +107,6 @@ module _ (limits : Limits) (t : Tables) (now : ℕ) (flaw : Flaw) (s : Sound t) 
     where
       row_of : IsBound t r l k → t.consumer l ≡ Some k
       row_of (sound.is_bound lo hi how row at) = row
-
-  number_of : (d l : ℕ) → Some d ≡ Some l → d ≡ l
-  number_of d l is = cc
 
   by_leaver : (r x : ℕ) (v : Representation) (z : Option ℕ) → leaver b ≡ z → t.representation r ≡ Some v → is_written t v ≡ true → v.writer ≡ Some x → is_open (now_on.exchange x) ≡ true → bound now_on r ≢ []
   by_leaver r x v None leaves there on writer open_now =
@@ -152,11 +132,7 @@ module _ (limits : Limits) (t : Tables) (now : ℕ) (flaw : Flaw) (s : Sound t) 
   head_leaves c x response here = not_so (leaves_in c e.acts) (λ leaves. let by_poll = leaving_by limits t now flaw s ev goes c leaves in let no : event.Head x response ≡ event.Poll c by_poll.want = sym here ∙ by_poll.poll.at in cc)
 
   head_place : (c x : ℕ) (response : Response) (w : Exchange) (k : Consumer) (z : Option Exchange) → z ≡ Some w → w.c ≡ c → (by_head t e c x response z k).place ≡ place_by_case x response w k (case_at t e)
-  head_place c x response w k None is mine = absurd (none_some w is)
-  head_place c x response w k (Some q) is mine = elim (eq_cases q.c c) [
-    | inl here ↦ rw here.0 (ap (λ (p : Exchange). place_by_case x response p k (case_at t e)) (some_inj q w is))
-    | inr other ↦ absurd (other.1 (ap (λ (p : Exchange). p.c) (some_inj q w is) ∙ mine))
-  ]
+  head_place c x response w k z is mine = grind (arith, nat_tests)
 
   -- a head that binds its consumer, or leaves it bound: it dooms nothing, and sends nobody back
   binding : (g : Option HeadCase) → ((is_founding g || is_joining g) ≡ true) → (w : Exchange) (response : Response) → (doomed_by_case g w response ≡ None) × (sends_back g ≡ false)
@@ -185,66 +161,21 @@ module _ (limits : Limits) (t : Tables) (now : ℕ) (flaw : Flaw) (s : Sound t) 
     unfolding doomed_key_of
     doomed_none = ap (doomed_in t e) here ∙ (ap (doomed_by_head t e response) is.exchange_row ∙ (binding (case_at t e) binds w response).0)
 
-    passed_not : (r : ℕ) (kept : Option ℕ) → k.place ≡ place.Passed r kept → IsAwaiting x w k.place → ⊥
-    passed_not r kept at (owners.direct way stands) = let no : place.Direct x ≡ place.Passed r kept = sym stands ∙ at in cc
-    passed_not r kept at (owners.turn way stands) = let no : place.Turn x ≡ place.Passed r kept = sym stands ∙ at in cc
-    passed_not r kept at (owners.hole q lo hi how way aim stands) = let no : place.Bound q lo hi how ≡ place.Passed r kept = sym stands ∙ at in cc
-
-    unpassed : (p : Place) → k.place ≡ p → loses_what_it_waits_for t e c p ≡ true → ⊥
-    unpassed place.Line at h = false_true h
-    unpassed (place.Passed r kept) at h = passed_not r kept at is.at
-    unpassed (place.Turn y) at h = false_true h
-    unpassed (place.Bound r lo hi how) at h = false_true h
-    unpassed (place.Direct y) at h = false_true h
-    unpassed (place.Down cause) at h = false_true h
-    unpassed place.Over at h = false_true h
-
     pub stays_on : starts_over t e c k ≡ false
-    unfolding starts_over
-    stays_on = not_so _ (λ over. elim (or_cases _ (loses_what_it_waits_for t e c k.place) over) [
-      | inr lost ↦ unpassed k.place refl lost
-      | inl more ↦ elim (or_cases (is_key (doomed_key_of t e) k.request.key && waits_at t k.place) (sends_back (case_at t e) && is_for (exchange_at t ev) c) more) [
-        | inl doom ↦ false_true (sym (ap (λ z. is_key z k.request.key) doomed_none) ∙ and_left _ _ doom)
-        | inr back ↦ false_true (sym (binding (case_at t e) binds w response).1 ∙ and_left _ _ back)
-      ]
-    ])
-
-    settled : (q : Consumer) (over : Bool) → over ≡ false → (cond over (back_in_line e.now q) (due_after t e c k q)) ≡ due_after t e c k q
-    settled q over off = rw off refl
+    stays_on = stays_unless t e c k (awaiting_keeps t e c x w k.place is.at) (λ doom waits. false_true (sym (ap (λ z. is_key z k.request.key) doomed_none) ∙ doom)) (λ back mine. false_true (sym (binding (case_at t e) binds w response).1 ∙ back))
 
     -- its consumer stands where the head puts it
     pub head_stands : (u : Consumer) × (now_on.consumer c ≡ Some u) × (u.place ≡ place_by_case x response w k (case_at t e))
     head_stands =
         let on = is_kept t e c k is.row in
-        let made : due_after t e c k (consumer_acted t e c (consumer_heard t e c ev k)) ≡ on.u = sym (settled (consumer_acted t e c (consumer_heard t e c ev k)) (starts_over t e c k) stays_on) ∙ on.is in
+        let made : due_after t e c k (consumer_acted t e c (consumer_heard t e c ev k)) ≡ on.u = sym (settled t e c k (consumer_acted t e c (consumer_heard t e c ev k)) stays_on) ∙ on.is in
         let placed = heard_place limits t now flaw s o ev goes c 0 0 None by.Plan k on.u (λ d want polls. let no : event.Head x response ≡ event.Poll d want = sym here ∙ polls in cc) (record { row = is.row; stays = stays_on; leaves = head_leaves c x response here; is = made }) in
         (on.u, on.row, placed ∙ (ap (λ v. (consumer_heard t e c v k).place) here ∙ head_place c x response w k (t.exchange x) is.exchange_row is.for_it))
-
-  turn_hole : route.Turn ≡ route.Hole → ⊥
-  turn_hole h = cc
-
-  direct_hole : route.Direct ≡ route.Hole → ⊥
-  direct_hole h = cc
 
   pub joins_way : (t : Tables) (lost : Bool) (w : Exchange) (response : Response) (g : HeadCase) → CaseBy (head_view t lost w response) g → is_joining (Some g) ≡ true → route_of w.need ≡ route.Hole
   joins_way t lost w response _ (cases.first_joins way shown joins good) on = way
   joins_way t lost w response _ (cases.later_joins way shown joins good) on = way
-  joins_way t lost w response _ (cases.direct_bad way h) on = absurd (false_true on)
-  joins_way t lost w response _ (cases.direct_taken way) on = absurd (false_true on)
-  joins_way t lost w response _ (cases.turn_bad way h) on = absurd (false_true on)
-  joins_way t lost w response _ (cases.validated way h d l) on = absurd (false_true on)
-  joins_way t lost w response _ (cases.not_validated way h) on = absurd (false_true on)
-  joins_way t lost w response _ (cases.turn_server_error way) on = absurd (false_true on)
-  joins_way t lost w response _ (cases.founds_whole way h l g) on = absurd (false_true on)
-  joins_way t lost w response _ (cases.founds_range way h f l g) on = absurd (false_true on)
-  joins_way t lost w response _ (cases.passes_by way) on = absurd (false_true on)
-  joins_way t lost w response _ (cases.first_bad way shown h) on = absurd (false_true on)
-  joins_way t lost w response _ (cases.first_server_error way shown) on = absurd (false_true on)
-  joins_way t lost w response _ (cases.first_changed way shown) on = absurd (false_true on)
-  joins_way t lost w response _ (cases.first_replaced way shown h l g) on = absurd (false_true on)
-  joins_way t lost w response _ (cases.first_passes_by way shown) on = absurd (false_true on)
-  joins_way t lost w response _ (cases.later_bad way shown h) on = absurd (false_true on)
-  joins_way t lost w response _ (cases.later_changed way shown) on = absurd (false_true on)
+  joins_way t lost w response _ _ on = absurd (false_true on)
 
   pub joins_place : (x : ℕ) (response : Response) (w : Exchange) (k : Consumer) (g : Option HeadCase) → is_joining g ≡ true → place_by_case x response w k g ≡ k.place
   joins_place x response w k None h = absurd (false_true h)
@@ -267,15 +198,9 @@ module _ (limits : Limits) (t : Tables) (now : ℕ) (flaw : Flaw) (s : Sound t) 
   joins_place x response w k (Some case.LaterBad) h = absurd (false_true h)
   joins_place x response w k (Some case.LaterChanged) h = absurd (false_true h)
 
-  or_left : (a c : Bool) → a ≡ true → (a || c) ≡ true
-  or_left true c h = refl
-  or_left false c h = absurd (false_true h)
-
   -- the consumer of a head that joins reads what it joins
   pub awaiting_bound : (x r : ℕ) (w : Exchange) (p : Place) → route_of w.need ≡ route.Hole → w.aim ≡ Some r → IsAwaiting x w p → (lo : ℕ) × (hi : Option ℕ) × (how : BoundBy) × (p ≡ place.Bound r lo hi how)
-  awaiting_bound x r w p hole aim (owners.direct way stands) = absurd (direct_hole (sym way ∙ hole))
-  awaiting_bound x r w p hole aim (owners.turn way stands) = absurd (turn_hole (sym way ∙ hole))
-  awaiting_bound x r w p hole aim (owners.hole q lo hi how way aimed stands) = (lo, hi, how, stands ∙ ap (λ z. place.Bound z lo hi how) (some_inj q r (sym aimed ∙ aim)))
+  awaiting_bound x r w p hole aim it6 = grind (arith, nat_tests)
 
   by_resumed : (r : ℕ) (v : Representation) (z : Option ℕ) → (R : IsResumed t e r v z) → bound now_on r ≢ []
   by_resumed r v z R =

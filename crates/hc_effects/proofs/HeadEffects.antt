@@ -1,5 +1,5 @@
 -- What heads do that write nothing: past the store, and with the turn where nothing is validated or founded.
-use Rattle.std.{proofs.Common.{◌≡◌, ℕ, List, [], ◌∷◌, Bool, true, false, Option, Some, None, refl, ap, sym, ◌∙◌, subst}, specs.Prelude.{◌&&◌, ◌||◌, not, nat_lt, if◌then◌else◌, map}}
+use Rattle.std.{proofs.{lemmas.Bool.Decides.{nat_tests}, Common.{arith, ◌≡◌, ℕ, List, [], ◌∷◌, Bool, true, false, Option, Some, None, refl, ap, sym, ◌∙◌, subst}}, specs.Prelude.{◌&&◌, ◌||◌, not, nat_lt, if◌then◌else◌, map}}
 use Rattle.hc_text.proofs.Basics.{and_true, or_false as or_off, and_off as then_false}
 use Rattle.hc_event.specs.declared.act.Act.TheVariants as act
 use Rattle.hc_effects.proofs.Vocabulary.{Cause, Event, Response, HeadCase, HeadView, Limits, head_case, length_of, is_bad, route_of, head_view, is_founding, is_updating, is_joining, is_refused, consumer_after, back_in_line, current, is_number, denial, doomed_by_case, changes, Does, with_event, let_all_go, let_some_go, tables_after_close, all_closed, with_consumer, with_answer, unless_ended, promise_in, is_reached, cause_by_case, NoFlaw, goes_by_case, Lawful, IsAwaiting, is_written, reads, Tables, Exchange, Representation, Consumer, sends_back, with_item_first, evicted}
@@ -45,11 +45,7 @@ module _ (limits : Limits) (t : Tables) (law : Lawful t) (now x : ℕ) (response
   spares r v there = refl
 
   shut : with_item_first (if true && not (is_reached (promise_in w response) 0) then Some x else None) [] ≡ unless_ended x response w
-  shut = by_test (is_reached (promise_in w response) 0)
-    where
-      by_test : (b : Bool) → with_item_first (if true && not b then Some x else None) [] ≡ (if b then [] else x ∷ [])
-      by_test true = refl
-      by_test false = refl
+  shut = grind (arith, nat_tests)
 
   case_as : {g : HeadCase} → head_case (head_view t false w response) ≡ g → CaseBy (head_view t false w response) g
   case_as is = subst (CaseBy (head_view t false w response)) is (case_by (head_view t false w response))

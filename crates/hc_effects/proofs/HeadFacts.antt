@@ -1,24 +1,17 @@
 -- What is known of an accepted head: its exchange is new, and its consumer waits for it; and what is answered to it.
-use Rattle.std.{proofs.Common.{◌≡◌, inl, inr, ℕ, ◌+◌, List, [], ◌++◌, Bool, true, false, Option, Some, None, refl, ap, sym, ◌∙◌, subst}, specs.Prelude.{◌&&◌, ◌||◌, ◌==◌, not, nat_eq, if◌then◌else◌, option_map, map, filter, reverse, is_none, is_some}}
+use Rattle.std.{proofs.{lemmas.Bool.Decides.{nat_tests}, Common.{arith, ◌≡◌, inl, inr, ℕ, ◌+◌, List, [], ◌++◌, Bool, true, false, Option, Some, None, refl, ap, sym, ◌∙◌, subst}}, specs.Prelude.{◌&&◌, ◌||◌, ◌==◌, not, nat_eq, if◌then◌else◌, option_map, map, filter, reverse, is_some}}
 use mathlib.Core.Path.{fun_ext}
 use Rattle.hc_text.proofs.Basics.{eqb-same, not_some as none_some, or_false as or_off, same_some as same_row, some_inj}
 use Rattle.hc_event.specs.declared.act.Act.TheVariants as act
-use Rattle.hc_effects.proofs.Vocabulary.{Cause, Event, Response, HeadCase, Length, Limits, head_case, length_of, is_bad, promise_of, has_loss, loses_in, accepted_acts, loss_acts, case_at, head_view, is_founding, is_updating, is_joining, closing, closes_row, is_refused, has_no_survivor, is_number, denial, doomed_key_of, doomed_by_case, Does, with_event, let_all_go, all_closed, with_consumer, with_answer, as_gone, Entry, entry_without_acts, promise_in, is_reached, family, Flaw, NoFlaw, Lawful, IsAwaiting, Tables, Exchange, Representation, Consumer, with_item_first, after_accepted, to_front, evicted, survivor, is_written, reads, goes_by_case, becomes_gone, sends_back, cause_by_case, consumer_after, back_in_line, representation_after, updates, Place}
+use Rattle.hc_effects.proofs.Vocabulary.{Cause, Event, Response, HeadCase, Limits, head_case, length_of, is_bad, has_loss, loses_in, accepted_acts, loss_acts, case_at, head_view, is_founding, is_updating, is_joining, closing, closes_row, is_refused, has_no_survivor, is_number, denial, doomed_key_of, doomed_by_case, Does, with_event, let_all_go, all_closed, with_consumer, with_answer, as_gone, Entry, entry_without_acts, promise_in, is_reached, family, Flaw, NoFlaw, Lawful, IsAwaiting, Tables, Exchange, Representation, Consumer, with_item_first, after_accepted, to_front, evicted, is_written, reads, goes_by_case, becomes_gone, sends_back, cause_by_case, consumer_after, back_in_line, representation_after, updates, Place}
 use Rattle.hc_event.specs.declared.event.Event.TheVariants as event
-use Rattle.hc_rules.specs.declared.length.Length.TheVariants as told
 use Rattle.hc_rules.specs.declared.room.Write.TheVariants as write
 use Rattle.hc_model.specs.Owners as owners
-use Rattle.hc_effects.proofs.{ActParts.{leaver_lost}, Basics.{some_row, false_true}, Closed.{reversed}, FewClosings.{evicts_nothing}, FirstKeeps.{IsNew, is_new, case_is}, HeadFrames.{e, has_as, heard, asker_goes_on, asker_goes_back, asker_fails, after_head, others, goes_by, rows_but, row_by, doomed_is, spared_as}, OfConsumers.{one_of, descends_once}, PieceKeeps.{eq_cases}, SameTables.{is_in, waits_for_any}, Sums.{reverse_once}, Waiters.{IsWaiter, waiter_as, waits_undue}, Untouched.{IsSpared}}
+use Rattle.hc_effects.proofs.{ActParts.{leaver_lost}, Basics.{some_row}, Closed.{reversed}, FewClosings.{evicts_nothing}, FirstKeeps.{IsNew, is_new, case_is}, HeadFrames.{e, has_as, heard, asker_goes_on, asker_goes_back, asker_fails, after_head, others, goes_by, rows_but, row_by, doomed_is, spared_as}, OfConsumers.{one_of, descends_once}, PieceKeeps.{eq_cases}, SameTables.{is_in, waits_for_any}, Sums.{reverse_once}, Waiters.{IsWaiter, waiter_as, waits_undue}, Untouched.{IsSpared}}
 
 -- a bad head promises nothing
 pub stays_open : (w : Exchange) (response : Response) → is_bad (length_of w.need w.request response) ≡ true → is_reached (promise_in w response) 0 ≡ false
-stays_open w response bad = by_length (length_of w.need w.request response) bad
-  where
-    by_length : (l : Length) → is_bad l ≡ true → is_reached (promise_of l) 0 ≡ false
-    by_length told.Bad h = refl
-    by_length told.Unknown h = absurd (false_true h)
-    by_length (told.Promised n) h = absurd (false_true h)
-    by_length (told.Part base n) h = absurd (false_true h)
+stays_open w response bad = grind (arith, nat_tests)
 
 module _ (limits : Limits) (t : Tables) (law : Lawful t) (now x : ℕ) (response : Response) (goes : denial t (event.Head x response) ≡ None) (w : Exchange) (row : t.exchange x ≡ Some w) where
   abbrev ev : Event
@@ -79,12 +72,7 @@ module _ (limits : Limits) (t : Tables) (law : Lawful t) (now x : ℕ) (response
 
     module _ (spared : (r : ℕ) (v : Representation) → t.representation r ≡ Some v → (loses_in r (loss_acts flaw) && is_written t v) ≡ false) where
       pub no_survivor : (y r : ℕ) (o : Option Representation) → t.representation r ≡ o → has_no_survivor t b y r o ≡ false
-      no_survivor y r None there = refl
-      no_survivor y r (Some v) there = rw (spared r v there) (drop (is_number v.writer y))
-        where
-          drop : (a : Bool) → ((a && false) && is_none (survivor t r v)) ≡ false
-          drop true = refl
-          drop false = refl
+      no_survivor y r o there = grind (arith, nat_tests)
 
       module _ (doomless : doomed_key_of t b ≡ None) where
         closes_as : (y : ℕ) → closes_row t b y (t.exchange y) ≡ is_number (if refuses then Some x else None) y
@@ -96,17 +84,14 @@ module _ (limits : Limits) (t : Tables) (law : Lawful t) (now x : ℕ) (response
         ]
           where
             here_by : (a c : Bool) → (((a && true) || false || false || false) && (c && true)) ≡ is_number (if a && c then Some x else None) x
-            here_by true true = sym (eqb-same x)
-            here_by true false = refl
-            here_by false c = refl
+            here_by a c = grind (arith, nat_tests)
 
             apart_by : (a : Bool) → nat_eq x y ≡ false → false ≡ is_number (if a then Some x else None) y
             apart_by true apart = sym apart
             apart_by false apart = refl
 
             drop : (a : Bool) → (a && false || false || false || false) ≡ false
-            drop true = refl
-            drop false = refl
+            drop a = grind (arith, nat_tests)
 
             by_row : (o : Option Exchange) → nat_eq x y ≡ false → closes_row t b y o ≡ is_number (if refuses then Some x else None) y
             by_row None apart = apart_by refuses apart

@@ -1,15 +1,13 @@
 -- What the head of an exchange comes to: the exchange itself, its consumer, and who and what stays or is let go.
-use Rattle.std.{proofs.Common.{◌≡◌, inl, inr, ℕ, List, [], ◌∷◌, ◌++◌, Bool, true, false, Option, Some, None, refl, ap, sym, ◌∙◌, subst}, specs.{Prelude.{◌&&◌, ◌||◌, ◌==◌, not, nat_eq, if◌then◌else◌, map, option_map}, Option.{option_or}}}
+use Rattle.std.{proofs.{lemmas.Bool.Decides.{nat_tests}, Common.{arith, ◌≡◌, inl, inr, ℕ, List, ◌++◌, Bool, true, false, Option, Some, None, refl, ap, sym, ◌∙◌, subst}}, specs.{Prelude.{◌&&◌, ◌||◌, ◌==◌, not, nat_eq, if◌then◌else◌, map, option_map}, Option.{option_or}}}
 use Rattle.hc_text.proofs.Basics.{eqb-same, not_some as none_some, or_left, or_false as or_off, or_right, and_off as then_false}
-use Rattle.hc_effects.proofs.Vocabulary.{opening_in, asks_in, closes_in, evicts_in, Act, Cause, Response, HeadCase, Place, loses_in, has_loss, misreads_in, loss_acts, case_at, is_founding, is_joining, is_updating, consumer_after, consumer_heard, consumer_settled, consumer_acted, place_by_case, becomes_shared, back_in_line, is_current, is_number, doomed_key_of, doomed_by_case, is_key, with_event, as_gone, let_all_go, over, all_closed, with_consumer, with_answer, exchange_with_head, with_refreshed_head, just_founded, lost_to, Entry, exchange_after, joined_at, becomes_due, cause_by_case, Flaw, becomes_gone, goes_by_case, ends_early, ends_founding, Lawful, IsAwaiting, reads, is_written, representation_after, updates, representation_heard, representation_acted, with_renewed_head, resumes, Tables, Exchange, Representation, Consumer, starts_over, sends_back, waits_at, loses_what_it_waits_for, after_accepted, with_item_first, founds, binds, to_front, opened_after, openings_after, loses_writing, goes_on_with}
+use Rattle.hc_effects.proofs.Vocabulary.{opening_in, asks_in, closes_in, evicts_in, Act, Cause, Response, HeadCase, Place, loses_in, has_loss, misreads_in, loss_acts, case_at, is_founding, is_joining, is_updating, consumer_after, consumer_heard, consumer_settled, consumer_acted, place_by_case, becomes_shared, back_in_line, is_current, is_number, doomed_key_of, doomed_by_case, is_key, with_event, as_gone, let_all_go, over, all_closed, with_consumer, with_answer, exchange_with_head, with_refreshed_head, just_founded, lost_to, Entry, exchange_after, joined_at, becomes_due, cause_by_case, Flaw, becomes_gone, goes_by_case, ends_early, ends_founding, Lawful, IsAwaiting, reads, is_written, representation_after, updates, representation_heard, representation_acted, with_renewed_head, resumes, Tables, Exchange, Representation, Consumer, starts_over, sends_back, waits_at, after_accepted, with_item_first, founds, binds, to_front, opened_after, openings_after, loses_writing, goes_on_with}
 use Rattle.hc_event.specs.declared.act.Act.TheVariants as act
 use Rattle.hc_event.specs.declared.event.Event.TheVariants as event
-use Rattle.hc_model.specs.Owners as owners
 use Rattle.hc_effects.proofs.{ActParts.{IsFarFrom, closes_evicted, closes_lost, asks_evicted, asks_lost, asks_closes, loses_evicted, loses_before, evicts_lost, evicts_closes, far_evicted, far_loss, far_closed}, ConsumerEffects.{waits_as}, Dues.{stop_none}, LeaveFrames.{closes_are}, PieceKeeps.{eq_cases}, PieceServes.{quiet_acts, acted_quiet}, SaidActs.{told_loss}, SameTables.{same_tables, is_in, waits_for_any, back_from_any, without, all_go_is, shut, all_closed_is}, Untouched.{IsSpared, own_stays, loss_spared, exchange_absent, representation_frame, representation_absent, consumer_apart, consumer_absent, IsApart, apart_from, goes_from}, EvictedRows.{evicts_are}}
 
 two_off : (a b : Bool) → (a || false || false || b) ≡ (a || b)
-two_off true b = refl
-two_off false b = refl
+two_off a b = grind (arith, nat_tests)
 
 module _ (t : Tables) (now x : ℕ) (response : Response) (es : List ℕ) (flaw : Flaw) (xs : List ℕ) where
   -- THE ENTRY
@@ -60,12 +58,10 @@ module _ (t : Tables) (now x : ℕ) (response : Response) (es : List ℕ) (flaw 
     -- EXCHANGES
 
     by_test : (b : Bool) (u : Exchange) → Some (record u { is_open = not b && u.is_open }) ≡ (if b then option_map over (Some u) else Some u)
-    by_test true u = refl
-    by_test false u = refl
+    by_test b u = grind (arith, nat_tests)
 
     none_left : (b : Bool) → None ≡ (if b then option_map over None else None)
-    none_left true = refl
-    none_left false = refl
+    none_left b = grind (arith, nat_tests)
 
     exchange_here : (joined : Option ℕ) → joined_at t e w ≡ joined → exchange_after t e x (t.exchange x) ≡ (if is_in xs x then option_map over (Some (exchange_with_head now response joined w)) else Some (exchange_with_head now response joined w))
     unfolding exchange_after
@@ -121,12 +117,10 @@ module _ (t : Tables) (now x : ℕ) (response : Response) (es : List ℕ) (flaw 
 
     module _ (rs : List ℕ) (goes : (r : ℕ) (v : Representation) → t.representation r ≡ Some v → becomes_gone t e r v ≡ is_in rs r) where
       gone_by : (b : Bool) (v : Representation) → Some (if b then as_gone v else v) ≡ (if b then option_map as_gone (Some v) else Some v)
-      gone_by true v = refl
-      gone_by false v = refl
+      gone_by b v = grind (arith, nat_tests)
 
       absent_by : (b : Bool) → None ≡ (if b then option_map as_gone None else None)
-      absent_by true = refl
-      absent_by false = refl
+      absent_by b = grind (arith, nat_tests)
 
       -- what the head neither founds, updates nor loses stays, or is let go
       pub row_by : (r : ℕ) → (is_founding (Some g) && nat_eq x r) ≡ false → ((v : Representation) → t.representation r ≡ Some v → (updates t e r w v ≡ false) × (loses_in r (loss_acts flaw) ≡ false))
@@ -206,18 +200,9 @@ module _ (t : Tables) (now x : ℕ) (response : Response) (es : List ℕ) (flaw 
       acted_is : consumer_acted t e w.c (heard w g k) ≡ (heard w g k)
       acted_is = acted_quiet t e w.c (heard w g k) (quiet_acts es xs flaw) ∙ ap (λ (o : Option ℕ). record (heard w g k) { own = o }) (own_stays t e w.c (heard w g k).place (heard w g k).own spared_then)
 
-      waits_for_head : IsAwaiting x w k.place → loses_what_it_waits_for t e w.c k.place ≡ false
-      waits_for_head (owners.direct way stands) = rw stands refl
-      waits_for_head (owners.turn way stands) = rw stands refl
-      waits_for_head (owners.hole r lo hi how way aim stands) = rw stands refl
-
       over_is : starts_over t e w.c k ≡ sends_back (Some g)
       unfolding starts_over
-      over_is = rw (undoomed, is, row, eqb-same w.c, waits_for_head at) (plain (sends_back (Some g)))
-        where
-          plain : (b : Bool) → (false || (b && true) || false) ≡ b
-          plain true = refl
-          plain false = refl
+      over_is = grind (arith, nat_tests)
 
       due_is : becomes_due t e w.c k ≡ cause_by_case (Some g) x
       unfolding becomes_due
@@ -292,7 +277,4 @@ module _ (t : Tables) (now x : ℕ) (response : Response) (es : List ℕ) (flaw 
           ∙ ap (with_event now e.event) (sym (all_go_is now rs (with_consumer w.c (Some q) (all_closed xs (with_answer now x response joined w rest))))))
         where
           by_number : (d : ℕ) → consumer_after t e d (t.consumer d) ≡ option_map (back_from_any now rs) (if w.c == d then Some q else cs d)
-          by_number d = elim (eq_cases w.c d) [
-            | inl here ↦ rw here.0 (subst (λ m. consumer_after t e m (t.consumer m) ≡ Some q) here.1 h.asker ∙ rw h.unwaiting refl)
-            | inr other ↦ rw other.0 (h.others d other.0)
-          ]
+          by_number d = grind (arith, nat_tests)

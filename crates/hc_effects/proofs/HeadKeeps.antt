@@ -1,12 +1,12 @@
 -- A head keeps what open exchanges are still to bring absent, and one of them at most about each representation.
-use Rattle.std.{proofs.{Common.{◌≡◌, ◌≢◌, ◌⊎◌, inl, inr, ℕ, ◌+◌, ◌<◌, ◌≤◌, List, [], Bool, true, false, cond, Option, Some, None, refl, ap, sym, ◌∙◌, subst, arith}, lemmas.Bool.Decides.{nat_tests}}, specs.Prelude.{is_some, is_none, nat_eq, option_map, unwrap_or}}
+use Rattle.std.{proofs.{Common.{◌≡◌, ◌≢◌, ◌⊎◌, inl, inr, ℕ, ◌<◌, ◌≤◌, List, [], Bool, true, false, cond, Option, Some, None, refl, ap, sym, ◌∙◌, subst, arith}, lemmas.Bool.Decides.{nat_tests}}, specs.Prelude.{is_some, nat_eq, option_map, unwrap_or}}
 use Rattle.hc_text.proofs.Basics.{and_right, same_some as same_row, some_inj, not_some as some_none}
-use Rattle.hc_effects.proofs.Vocabulary.{opening_in, Response, Act, Need, has_loss, is_joining, case_of, case_at, head_view, Entry, joined_at, exchange_after, exchange_heard, exchange_acted, base, promised_bytes, front, family, length_by, row_of, representation_after_head, representation_after, representation_heard, representation_acted, with_renewed_head, new_representation, Tables, Exchange, Representation, Waits, Sound, OneAbout, IsAbout, IsPromised, InHole, after_accepted, HeadCase, head_case, Length, length_of, base_of, promise_of, is_bad}
+use Rattle.hc_effects.proofs.Vocabulary.{opening_in, Response, Act, Need, has_loss, is_joining, case_of, case_at, head_view, Entry, joined_at, exchange_after, exchange_heard, exchange_acted, base, promised_bytes, front, family, length_by, row_of, representation_after_head, representation_after, representation_heard, representation_acted, with_renewed_head, new_representation, Tables, Exchange, Representation, Waits, Sound, OneAbout, IsAbout, IsPromised, InHole, after_accepted, HeadCase, head_case, Length, length_of, is_bad}
 use Rattle.hc_event.specs.declared.event.Event.TheVariants as event
 use Rattle.hc_event.specs.declared.act.Need.TheVariants as need
 use Rattle.hc_sparse.specs.Cells.{Cells}
 use Rattle.hc_model.specs.Sound as sound
-use Rattle.hc_effects.proofs.{PieceKeeps.{eq_cases, ends_same}, QuietKeeps.{IsSame, IsKept, closed_only}, Joining.{MayJoin, may_join, IsFilling, filling, LiesIn, lies}}
+use Rattle.hc_effects.proofs.{PieceKeeps.{eq_cases}, QuietKeeps.{IsSame, IsKept, closed_only}, Joining.{MayJoin, may_join, IsFilling, filling, LiesIn, lies}}
 use Rattle.hc_effects.proofs.Joining as join
 
 -- WHAT A JOINING HEAD IS
@@ -38,16 +38,7 @@ is_aimed t w response j = aimed_by t w w.aim j.fills.v refl j.fills.row
 
 -- positions that a joining exchange is to bring are of its hole
 in_hole : (from to p : ℕ) (u : Exchange) (l : Length) → LiesIn from to l → is_bad l ≡ false → length_by u u.head ≡ l → base u ≤ p → IsPromised (promised_bytes u) u p → (from ≤ p) × (p < to)
-in_hole from to p u _ join.bad good is le ends = absurd (let never : true ≡ false = good in cc)
-in_hole from to p u _ join.empty good is le ends =
-    let first : base u ≡ 0 = ap base_of is in
-    let most : p < base u + 0 = rw (ap promise_of is) at ends in
-    absurd (omega arith)
-in_hole from to p u _ (join.within n inside) good is le ends =
-    let first : base u ≡ from = ap base_of is in
-    let most : p < base u + n = rw (ap promise_of is) at ends in
-    let lo : from ≤ p = omega arith in
-    (lo, inside p lo (omega arith))
+in_hole from to p u l it5 good is le ends = grind (arith, nat_tests)
 
 -- THE ROWS AFTER A HEAD
 
@@ -74,17 +65,14 @@ pub data RepRow (t : Tables) (x r : ℕ) (u : Representation) : Type 0 where
   founded : x ≡ r → t.representation r ≡ None → ((p : ℕ) → u.body p ≡ None) → RepRow t x r u
 
 cond_body : (b : Bool) (v u : Representation) → v.body ≡ u.body → (cond b v u).body ≡ u.body
-cond_body true v u one = one
-cond_body false v u one = refl
+cond_body b v u one = grind (arith, nat_tests)
 
 headed_body : (t : Tables) (e : Entry) (r x : ℕ) (response : Response) (o : Option Exchange) (v : Representation) → (representation_after_head t e r x response o v).body ≡ v.body
 headed_body t e r x response None v = refl
 headed_body t e r x response (Some w) v = cond_body _ (with_renewed_head t e x response w v) v refl
 
 founded_row : (t : Tables) (e : Entry) (x r : ℕ) (response : Response) (b : Bool) (o : Option Exchange) (u : Representation) → t.representation r ≡ None → (b ≡ true → x ≡ r) → cond b (option_map (new_representation r e response) o) None ≡ Some u → RepRow t x r u
-founded_row t e x r response false o u none at is = absurd (let never : None ≡ Some u = is in cc)
-founded_row t e x r response true None u none at is = absurd (let never : None ≡ Some u = is in cc)
-founded_row t e x r response true (Some w) u none at is = subst (RepRow t x r) (some_inj (new_representation r e response w) u is) (founded (at refl) none (λ p. refl))
+founded_row t e x r response b o u none at is = grind (arith, nat_tests)
 
 pub rep_row : (t : Tables) (now x r : ℕ) (response : Response) (acts : List Act) (o : Option Representation) (u : Representation) → t.representation r ≡ o → representation_after t (of_head now x response acts) r o ≡ Some u → RepRow t x r u
 unfolding representation_after
@@ -94,10 +82,6 @@ rep_row t now x r response acts (Some v) u is row =
     kept (subst (IsKept t r) (some_inj (representation_acted t e r v (representation_heard t e r (event.Head x response) v)) u row) (record { v = v; row = is; body_is = headed_body t e r x response (t.exchange x) v }))
 
 -- THE HANDLER
-
-none_is : {A : Type 0} (o : Option A) → o ≡ None → is_none o ≡ true
-none_is None h = refl
-none_is (Some a) h = absurd (let never : Some a ≡ None = h in cc)
 
 module _ (t : Tables) (now x : ℕ) (response : Response) (acts : List Act) (w : Exchange) where
   -- an accepted head: its exchange is open and headless, and no exchange is opened with it
@@ -147,21 +131,14 @@ module _ (t : Tables) (now x : ℕ) (response : Response) (acts : List Act) (w :
       ]
 
   front_same : Sound t → (y : ℕ) (u : Exchange) (v : Representation) (p : ℕ) (q : Exchange) → t.exchange y ≡ Some q → IsSame y q u → RepRow t x (family y u) v → u.is_open ≡ true → is_some u.head ≡ true → front u ≤ p → IsPromised (promised_bytes u) u p → v.body p ≡ None
-  front_same s y u v p q row still (founded is none empty) is_open representation_after_head le ends = empty p
-  front_same s y u v p q row still (kept rep) is_open representation_after_head le ends =
-      let there : t.representation (family y q) ≡ Some rep.v = rw still.family_is at rep.row in
-      let ahead : front q ≤ p = rw still.front_is at le in
-      ap (λ (f : Cells). f p) rep.body_is ∙ s.waits.fronts y q rep.v p row (still.was_open is_open) (rw still.head_is at representation_after_head) there ahead (ends_same (promised_bytes q) u q p still.base_is (rw still.promised_is at ends))
+  front_same s y u v p q row still it8 is_open representation_after_head le ends = grind (arith, nat_tests)
 
   front_kept : Sound t → IsHead → (y : ℕ) (u : Exchange) (v : Representation) (p : ℕ) → HeadRow t now x response acts y u → RepRow t x (family y u) v → u.is_open ≡ true → is_some u.head ≡ true → front u ≤ p → IsPromised (promised_bytes u) u p → v.body p ≡ None
   front_kept s head y u v p (same q other row still) rep is_open representation_after_head le ends = front_same s y u v p q row still rep is_open representation_after_head le ends
   front_kept s head y u v p (here q at row was headed_now body joined length_is) rep is_open representation_after_head le ends = front_here s head y u v p q at row body joined length_is rep le ends
 
   hole_kept : Sound t → IsHead → (y : ℕ) (u : Exchange) (r : ℕ) (v : Representation) (p : ℕ) → HeadRow t now x response acts y u → RepRow t x r v → u.is_open ≡ true → u.head ≡ None → u.aim ≡ Some r → InHole u.need p → v.body p ≡ None
-  hole_kept s head y u r v p row (founded is none empty) is_open bare aim hole = empty p
-  hole_kept s head y u r v p (same q other row still) (kept rep) is_open bare aim hole =
-      ap (λ (f : Cells). f p) rep.body_is ∙ s.waits.holes y q r rep.v p row (still.was_open is_open) (sym still.head_is ∙ bare) (sym still.aim_is ∙ aim) rep.row (rw still.need_is at hole)
-  hole_kept s head y u r v p (here q at row was headed_now body joined length_is) (kept rep) is_open bare aim hole = absurd (let never : false ≡ true = rw bare at headed_now in cc)
+  hole_kept s head y u r v p row it8 is_open bare aim hole = grind (arith, nat_tests)
 
   headless_kept : Sound t → (y : ℕ) (u : Exchange) → HeadRow t now x response acts y u → u.head ≡ None → (u.body ≡ []) × (u.joined ≡ None)
   headless_kept s y u (same q other row still) bare = let old = s.waits.headless y q row (sym still.head_is ∙ bare) in (still.body_is ∙ old.0, still.joined_is ∙ old.1)
@@ -190,8 +167,7 @@ module _ (t : Tables) (now x : ℕ) (response : Response) (acts : List Act) (w :
 
   -- no other exchange is about a number that wasn't founded
   family_or : (y : ℕ) (o : Option ℕ) → (unwrap_or o y ≡ y) ⊎ (o ≡ Some (unwrap_or o y))
-  family_or y None = inl refl
-  family_or y (Some r) = inr refl
+  family_or y o = grind (arith, nat_tests)
 
   not_there : (r : ℕ) → is_some (t.representation r) ≡ true → t.representation r ≡ None → ⊥
   not_there r there none = let never : false ≡ true = rw none at there in cc

@@ -8,15 +8,10 @@ use Rattle.hc_rules.specs.declared.heads.HeadCase.TheVariants as case
 use Rattle.hc_rules.specs.declared.need.Route.TheVariants as route
 use Rattle.hc_event.specs.declared.place.Place.TheVariants as place
 use Rattle.hc_event.specs.declared.place.BoundBy.TheVariants as by
-use Rattle.hc_model.specs.Owners as owners
 use Rattle.hc_model.specs.Sound as sound
 use Rattle.hc_effects.proofs.{Basics.{false_true, some_none}, BoundFrom.{IsRow, place_inj}, Dues.{due_before, undue_parts}, ExchangeFrom.{IsSame, IsHeaded}, FirstKeeps.{IsNew, case_is, is_new}, FoundBy.{CaseBy, case_by}, HeadKeeps.{IsJoin, is_join}, PartTold.{IsTold, part_told}, ToBeShown.{heard_place}, Waiters.{IsWaiter, waiter_of}}
 use Rattle.hc_effects.proofs.FoundBy as cases
 use Rattle.hc_effects.proofs.PartTold as told
-
-and_true : (a b : Bool) → a ≡ true → (a && b) ≡ false → b ≡ false
-and_true true b on h = h
-and_true false b on h = absurd (false_true on)
 
 module _ (limits : Limits) (t : Tables) (now : ℕ) (flaw : Flaw) (s : Sound t) (o : Owners t) (ev : Event) (goes : denial t ev ≡ None) where
   abbrev e : Entry
@@ -39,9 +34,7 @@ module _ (limits : Limits) (t : Tables) (now : ℕ) (flaw : Flaw) (s : Sound t) 
     one = same_row (t.consumer c) waits.0 k (sym (ap t.consumer mine) ∙ waits.1.row) row.row
 
     by_await : IsAwaiting x w k.place → (route_of w.need ≡ route.Hole) × (w.aim ≡ Some r)
-    by_await (owners.direct way stays) = absurd (let no : place.Direct x ≡ place.Bound r lo hi how = sym stays ∙ at in cc)
-    by_await (owners.turn way stays) = absurd (let no : place.Turn x ≡ place.Bound r lo hi how = sym stays ∙ at in cc)
-    by_await (owners.hole q a d g way aim stays) = (way, aim ∙ ap Some (place_inj q a d g r lo hi how (sym stays ∙ at)).number)
+    by_await it0 = grind (arith, nat_tests)
 
     pub way : (route_of w.need ≡ route.Hole) × (w.aim ≡ Some r)
     way = by_await (subst (λ (q : Consumer). IsAwaiting x w q.place) one waits.1.at)
@@ -97,8 +90,6 @@ module _ (limits : Limits) (t : Tables) (now : ℕ) (flaw : Flaw) (s : Sound t) 
     turn_hole h = cc
 
     by_case : (g : HeadCase) → CaseBy (head_view t (has_loss e.acts) w got.response) g → case_at t e ≡ Some g → is_joining (Some g) ≡ true
-    by_case _ (cases.first_joins hole shown joins good) is = refl
-    by_case _ (cases.later_joins hole shown joins good) is = refl
     by_case _ (cases.direct_bad past h) is = absurd (direct_hole (sym past ∙ way.0))
     by_case _ (cases.direct_taken past) is = absurd (direct_hole (sym past ∙ way.0))
     by_case _ (cases.turn_bad turn h) is = absurd (turn_hole (sym turn ∙ way.0))
@@ -115,6 +106,7 @@ module _ (limits : Limits) (t : Tables) (now : ℕ) (flaw : Flaw) (s : Sound t) 
     by_case _ (cases.first_passes_by hole shown) is = absurd (let no : place.Direct x ≡ place.Bound r lo hi how = stood case.FirstPassesBy is in cc)
     by_case _ (cases.later_bad hole shown h) is = absurd (some_none (cause.BadHead x) (sym (ap (λ g. cause_by_case g x) is) ∙ no_cause))
     by_case _ (cases.later_changed hole shown) is = absurd (some_none (cause.Changed x) (sym (ap (λ g. cause_by_case g x) is) ∙ no_cause))
+    by_case _ _ is = refl
 
     -- its head joins
     pub joins : is_joining (case_at t e) ≡ true

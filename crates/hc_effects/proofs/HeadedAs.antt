@@ -1,7 +1,7 @@
 -- Where the head of its own exchange leaves a consumer, if that stays open: past the store, bound to what it founds, or bound to what it joins.
-use Rattle.std.{proofs.{Common.{◌≡◌, ◌⊎◌, inl, inr, ℕ, true, false, Option, Some, None, refl, ap, sym, ◌∙◌, subst, arith}, lemmas.Bool.Decides.{nat_tests}}, specs.Prelude.{◌&&◌, ◌||◌, ◌==◌, not, nat_eq}}
-use Rattle.hc_text.proofs.Basics.{both_true as and_both, and_right, not_some as none_some, never_true as not_so, or_left, or_right, same_some as same_row, some_inj}
-use Rattle.hc_effects.proofs.Vocabulary.{leaves_in, closes_in, Event, Request, Response, Need, HeadCase, Wanted, Limits, head_case, length_of, promise_of, is_head, route_of, range_of, wanted_of, Place, BoundBy, has_loss, case_at, head_view, is_founding, is_joining, must_close, is_refused, brings_head, consumer_heard, by_head, place_by_case, bound_to_wanted, denial, Entry, exchange_heard, exchange_acted, promise_in, exchange_at, is_for, is_reached, Flaw, founded_total, entry_of, Owners, IsAwaiting, Tables, Exchange, Consumer, Sound, starts_over, sends_back, after_accepted}
+use Rattle.std.{proofs.{Common.{◌≡◌, ◌⊎◌, inl, inr, ℕ, true, false, Option, Some, None, refl, ap, sym, ◌∙◌, subst, arith}, lemmas.Bool.Decides.{nat_tests}}, specs.Prelude.{◌&&◌, not, nat_eq}}
+use Rattle.hc_text.proofs.Basics.{both_true as and_both, and_right, not_some as none_some, never_true as not_so, or_left, same_some as same_row, some_inj}
+use Rattle.hc_effects.proofs.Vocabulary.{leaves_in, closes_in, Event, Request, Response, Need, HeadCase, Wanted, Limits, head_case, length_of, promise_of, route_of, range_of, wanted_of, Place, BoundBy, has_loss, case_at, head_view, is_founding, is_joining, must_close, is_refused, brings_head, consumer_heard, by_head, place_by_case, bound_to_wanted, denial, Entry, exchange_heard, exchange_acted, promise_in, exchange_at, is_for, is_reached, Flaw, founded_total, entry_of, Owners, IsAwaiting, Tables, Exchange, Consumer, Sound, starts_over, sends_back, after_accepted}
 use Rattle.hc_event.specs.declared.event.Event.TheVariants as event
 use Rattle.hc_rules.specs.declared.need.Route.TheVariants as route
 use Rattle.hc_rules.specs.declared.request.Wanted.TheVariants as wanted
@@ -14,10 +14,7 @@ use Rattle.hc_effects.proofs.FoundBy as cases
 -- a 304 has no body
 promises_none : (n : Need) (request : Request) (response : Response) → response.status ≡ 304 → promise_of (length_of n request response) ≡ Some 0
 unfolding length_of
-promises_none n request response is =
-    let test : nat_eq response.status 304 ≡ true = grind (arith, nat_tests) in
-    let none : (is_head request || response.status == 204 || response.status == 304) ≡ true = or_right (is_head request || response.status == 204) _ test in
-    rw none refl
+promises_none n request response is = grind (arith, nat_tests)
 
 module _ (limits : Limits) (t : Tables) (now : ℕ) (flaw : Flaw) (s : Sound t) (o : Owners t) (ev : Event) (goes : denial t ev ≡ None) where
   abbrev e : Entry
@@ -128,9 +125,7 @@ module _ (limits : Limits) (t : Tables) (now : ℕ) (flaw : Flaw) (s : Sound t) 
     As = HeadedAs x response w k.place u.place z
 
     past : route_of w.need ≡ route.Direct → IsAwaiting x w k.place → k.place ≡ place.Direct x
-    past way (owners.direct it stands) = stands
-    past way (owners.turn it stands) = absurd (let no : route.Turn ≡ route.Direct = sym it ∙ way in cc)
-    past way (owners.hole r lo hi how it aim stands) = absurd (let no : route.Hole ≡ route.Direct = sym it ∙ way in cc)
+    past way it1 = grind (arith, nat_tests)
 
     joined_as : is_joining (case_at t e) ≡ true → z.joined ≡ w.aim
     joined_as on = headed.joined_is ∙ rw on refl
@@ -147,29 +142,24 @@ module _ (limits : Limits) (t : Tables) (now : ℕ) (flaw : Flaw) (s : Sound t) 
     found lo hi is on off = founds lo hi by.Founding is on (unjoined_as off)
 
     part_as : (v : Wanted) → u.place ≡ bound_to_wanted x by.Founding (place.Direct x) v → is_founding (case_at t e) ≡ true → is_joining (case_at t e) ≡ false → As
-    part_as wanted.TotalUnknown is on off = direct is
-    part_as wanted.Unsatisfiable is on off = direct is
     part_as (wanted.Interval span) is on off = found span.lo (Some span.hi) is on off
+    part_as _ is on off = direct is
 
     by_case : (g : HeadCase) → CaseBy (head_view t (has_loss e.acts) w response) g → case_at t e ≡ Some g → As
-    by_case _ (cases.direct_bad way h) is = absurd (unrefused (ap is_refused is))
     by_case _ (cases.direct_taken way) is = direct (placed ∙ (ap (place_by_case x response w k) is ∙ past way at))
-    by_case _ (cases.turn_bad way h) is = absurd (unrefused (ap is_refused is))
     by_case _ (cases.validated way h d l) is = absurd (promising h)
     by_case _ (cases.not_validated way h) is = absurd (unsent (ap sends_back is))
     by_case _ (cases.turn_server_error way) is = direct (placed ∙ ap (place_by_case x response w k) is)
     by_case _ (cases.founds_whole way h l g) is = found 0 (promise_in w response) (placed ∙ ap (place_by_case x response w k) is) (ap is_founding is) (ap is_joining is)
     by_case _ (cases.founds_range way h f l g) is = part_as (wanted_of (range_of k.request) (founded_total w response)) (placed ∙ ap (place_by_case x response w k) is) (ap is_founding is) (ap is_joining is)
     by_case _ (cases.passes_by way) is = direct (placed ∙ ap (place_by_case x response w k) is)
-    by_case _ (cases.first_bad way shown h) is = absurd (unrefused (ap is_refused is))
     by_case _ (cases.first_joins way shown h g) is = join (placed ∙ ap (place_by_case x response w k) is) (ap is_joining is) way at
     by_case _ (cases.first_server_error way shown) is = direct (placed ∙ ap (place_by_case x response w k) is)
     by_case _ (cases.first_changed way shown) is = absurd (unsent (ap sends_back is))
     by_case _ (cases.first_replaced way shown h l g) is = found 0 (promise_in w response) (placed ∙ ap (place_by_case x response w k) is) (ap is_founding is) (ap is_joining is)
     by_case _ (cases.first_passes_by way shown) is = direct (placed ∙ ap (place_by_case x response w k) is)
-    by_case _ (cases.later_bad way shown h) is = absurd (unrefused (ap is_refused is))
     by_case _ (cases.later_joins way shown h g) is = join (placed ∙ ap (place_by_case x response w k) is) (ap is_joining is) way at
-    by_case _ (cases.later_changed way shown) is = absurd (unrefused (ap is_refused is))
+    by_case _ _ is = absurd (unrefused (ap is_refused is))
 
     pub headed_as : As
     headed_as = by_case (head_case (head_view t (has_loss e.acts) w response)) (case_by (head_view t (has_loss e.acts) w response)) (case_is t e x response w here is_row)

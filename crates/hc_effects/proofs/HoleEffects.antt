@@ -1,7 +1,7 @@
 -- What a poll does that opens an exchange for a hole: a first one binds its consumer, and a later one is that of a reader.
-use Rattle.std.proofs.Common.{◌≡◌, ℕ, [], true, Option, Some, None, refl, ap, sym, ◌∙◌, subst}
+use Rattle.std.proofs.{lemmas.Bool.Decides.{nat_tests}, Common.{arith, ◌≡◌, ℕ, [], true, Option, Some, None, refl, ap, sym, ◌∙◌, subst}}
 use Rattle.hc_range.specs.declared.range.Span.{Span}
-use Rattle.hc_effects.proofs.Vocabulary.{Need, Request, Limits, range_of, wanted_of, BoundBy, opened_place, place_for_hole, bound_to_wanted, unless_bound, current, row_of, Does, with_event, used_last, with_consumer, with_opening, just_opened, Entry, aim_from, NoFlaw, Lawful, Opens, acts_of, move_of, bound_to, Tables, Representation, Consumer, to_front, binds}
+use Rattle.hc_effects.proofs.Vocabulary.{Need, Request, Limits, range_of, wanted_of, BoundBy, opened_place, unless_bound, current, Does, with_event, used_last, with_consumer, with_opening, just_opened, Entry, aim_from, NoFlaw, Lawful, Opens, acts_of, move_of, bound_to, Tables, Representation, Consumer, to_front, binds}
 use Rattle.hc_event.specs.declared.act.Need.TheVariants as need
 use Rattle.hc_event.specs.declared.event.Event.TheVariants as event
 use Rattle.hc_rules.specs.declared.request.Wanted.TheVariants as wanted
@@ -24,11 +24,7 @@ module _ (limits : Limits) (t : Tables) (law : Lawful t) (now c want : ℕ) (k :
 
   module _ (free : bound_to k.place ≡ None) (r : ℕ) (v : Representation) (span : Span) (now_is : current t k.request.key ≡ Some r) (there : t.representation r ≡ Some v) (wants : wanted_of (range_of k.request) v.head.total ≡ wanted.Interval span) where
     place_is : unless_bound (bound_to k.place) k.place (opened_place t x k route.Hole) ≡ place.Bound r span.lo (Some span.hi) (by.FirstHole x)
-    place_is =
-        ap (λ (o : Option ℕ). unless_bound o k.place (opened_place t x k route.Hole)) free
-        ∙ (ap (λ (o : Option ℕ). place_for_hole x k.request o (row_of t o)) now_is
-        ∙ (ap (place_for_hole x k.request (Some r)) there
-        ∙ ap (bound_to_wanted r (by.FirstHole x) place.Line) wants))
+    place_is = grind (arith, nat_tests)
 
     binds_it : to_front (binds t it) t.used ≡ to_front (Some r) t.used
     binds_it =
@@ -49,9 +45,7 @@ module _ (limits : Limits) (t : Tables) (law : Lawful t) (now c want : ℕ) (k :
 
   module _ (r lo : ℕ) (hi : Option ℕ) (how : BoundBy) (at : k.place ≡ place.Bound r lo hi how) (shown : k.shown ≡ true) where
     binds_none : to_front (binds t it) t.used ≡ t.used
-    binds_none =
-        let nobody : binds t it ≡ None = binds_as t it c said_nothing ∙ rw (row, shown) refl in
-        ap (λ (o : Option ℕ). to_front o t.used) nobody
+    binds_none = grind (arith, nat_tests)
 
     -- its consumer stays where it reads
     pub fills_later : Does limits t now (event.Poll c want) NoFlaw (acts_of c (Opens x n request))

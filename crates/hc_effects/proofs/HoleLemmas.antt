@@ -1,20 +1,17 @@
 -- Holes are absent, and what has none is covered.
-use Rattle.std.{proofs.{Common.{◌≡◌, ◌⊎◌, inl, inr, ℕ, zero, suc, ◌+◌, ◌-◌, ◌<◌, ◌≤◌, Bool, true, false, Option, Some, None, refl, sym, arith, min}, lemmas.Bool.Decides.{nat_tests}}, specs.Prelude.{is_some, is_none}}
+use Rattle.std.{proofs.{Common.{◌≡◌, ◌⊎◌, inl, inr, ℕ, zero, suc, ◌+◌, ◌-◌, ◌<◌, ◌≤◌, Bool, true, false, Option, None, sym, arith, min}, lemmas.Bool.Decides.{nat_tests}}, specs.Prelude.{is_some, is_none}}
 use Rattle.hc_text.proofs.Basics.{bool_cases, lt_cases}
 use Rattle.hc_sparse.specs.Cells.{Cells, Cell, EndsBy, Covers}
 use Rattle.hc_effects.proofs.Vocabulary.{first_place, absent_from, covers, hole_at}
 
 pub none_of : (o : Option Cell) → is_some o ≡ false → o ≡ None
-none_of None h = refl
-none_of (Some cell) h = absurd (let never : true ≡ false = h in cc)
+none_of o h = grind (arith, nat_tests)
 
 pub some_of : (o : Option Cell) → is_none o ≡ false → is_some o ≡ true
-some_of None h = absurd (let never : true ≡ false = h in cc)
-some_of (Some cell) h = refl
+some_of o h = grind (arith, nat_tests)
 
 pub not_none : (o : Option Cell) → is_none o ≡ true → o ≡ None
-not_none None h = refl
-not_none (Some cell) h = absurd (let never : false ≡ true = h in cc)
+not_none o h = grind (arith, nat_tests)
 
 next_or : (p q : ℕ) → p ≤ q → (p ≡ q) ⊎ (p + 1 ≤ q)
 next_or p q le = grind (arith, nat_tests)
@@ -91,11 +88,7 @@ covers_yes f reach lo hi ends all = grind (arith, nat_tests, far)
 end_cases : (f : Cells) (reach p hi : ℕ) →
     let next = first_place is_some f p (reach - p) in
     (((hole_at f reach p hi).hi ≡ min hi next) × (next < reach)) ⊎ (((hole_at f reach p hi).hi ≡ hi) × (reach ≤ next))
-end_cases f reach p hi =
-    elim (lt_cases (first_place is_some f p (reach - p)) reach) [
-      | inl less ↦ inl (rw less.0 refl, less.1)
-      | inr more ↦ inr (rw more.0 refl, more.1)
-    ]
+end_cases f reach p hi = grind (arith, nat_tests)
 
 -- each position of a hole is absent
 pub hole_absent : (f : Cells) (reach p hi q : ℕ) → EndsBy reach f → p ≤ q → q < (hole_at f reach p hi).hi → f q ≡ None

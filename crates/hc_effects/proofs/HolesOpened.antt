@@ -1,18 +1,15 @@
 -- The holes for which exchanges are opened are absent.
-use Rattle.std.{proofs.Common.{◌≡◌, inl, inr, ℕ, ◌<◌, ◌≤◌, true, false, Some, None, sym, ◌∙◌, arith}, specs.Prelude.{is_some}}
+use Rattle.std.{proofs.{lemmas.Bool.Decides.{nat_tests}, Common.{◌≡◌, inl, inr, ℕ, ◌<◌, ◌≤◌, true, false, Some, None, sym, ◌∙◌, arith}}}
 use Rattle.hc_text.proofs.Basics.{bool_cases, lt_or as split}
 use Rattle.hc_range.specs.declared.range.Span.{Span}
 use Rattle.hc_sparse.specs.Cells.{Cells, EndsBy}
-use Rattle.hc_effects.proofs.Vocabulary.{front, first_hole, hole_at, absent_from, covers, offset, Tables, Representation, Consumer, Sound, IsSoundRepresentation, IsExclusiveWriter}
+use Rattle.hc_effects.proofs.Vocabulary.{front, first_hole, hole_at, absent_from, offset, Tables, Representation, Consumer, Sound, IsSoundRepresentation, IsExclusiveWriter}
 use Rattle.hc_model.specs.Sound as sound
-use Rattle.hc_effects.proofs.{HoleLemmas.{none_of, hole_absent}, ExclusiveWriters.{IsAtHole, has_exclusive_writer}}
+use Rattle.hc_effects.proofs.{HoleLemmas.{hole_absent}, ExclusiveWriters.{IsAtHole, has_exclusive_writer}}
 
 -- what is stored ends where the body ends
 pub stored_ends : (t : Tables) (r : ℕ) (v : Representation) → IsSoundRepresentation t r v → EndsBy v.reach v.stored
-stored_ends t r v row p le = elim (bool_cases (is_some (v.stored p))) [
-  | inr none ↦ none_of (v.stored p) none
-  | inl some ↦ row.store.some_stored p some ∙ row.store.ends p le
-]
+stored_ends t r v row p le = grind (arith, nat_tests)
 
 -- a later hole: what isn't stored of it hasn't come either
 pub later_absent : (t : Tables) (r c hi : ℕ) (v : Representation) (k : Consumer) → Sound t → IsAtHole t r c hi v k → v.body (offset t k) ≡ None → (p : ℕ) → offset t k ≤ p → p < (hole_at v.stored v.reach (offset t k) hi).hi → v.body p ≡ None
@@ -32,10 +29,7 @@ later_absent t r c hi v k s at none p le lt =
 
 -- the first hole of a span
 pub first_hole_is : (f : Cells) (reach : ℕ) (span hole : Span) → first_hole f reach span ≡ Some hole → hole ≡ hole_at f reach (absent_from f reach span.lo span.hi) span.hi
-first_hole_is f reach span hole is = elim (bool_cases (covers f reach span.lo span.hi)) [
-  | inl covered ↦ absurd (let never : None ≡ Some hole = rw covered at is in cc)
-  | inr not_covered ↦ let some : Some (hole_at f reach (absent_from f reach span.lo span.hi) span.hi) ≡ Some hole = rw not_covered at is in cc
-]
+first_hole_is f reach span hole is = grind (arith, nat_tests)
 
 -- a first hole: what is current isn't lost, so what isn't stored hasn't come
 pub first_absent : (t : Tables) (r : ℕ) (v : Representation) (span hole : Span) → Sound t → t.representation r ≡ Some v → v.is_gone ≡ false → first_hole v.stored v.reach span ≡ Some hole → (p : ℕ) → hole.lo ≤ p → p < hole.hi → v.body p ≡ None

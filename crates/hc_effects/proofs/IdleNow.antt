@@ -1,15 +1,14 @@
 -- What is idle at an event: those that are idle before it, but for what the event itself makes gone.
 use Rattle.std.{proofs.{Common.{◌≡◌, inl, inr, ℕ, List, [], ◌∷◌, length, Bool, true, false, Option, Some, None, refl, ap, sym, ◌∙◌, arith}, lemmas.Bool.Decides.{nat_tests}}, specs.{Prelude.{filter, reverse, nat_eq, ◌==◌, ◌&&◌, not}, List.{list_any}}}
-use Rattle.hc_text.proofs.Basics.{and_left, and_right, bool_cases, not_some as none_some, or_left, or_right, same_some as same_row}
-use Rattle.hc_effects.proofs.Vocabulary.{Event, Response, HeadCase, route_of, Limits, Place, case_at, head_view, is_current, denial, Entry, entry_without_acts, outlasts, outlasts_row, exchange_at, is_for, NoFlaw, goes_itself, goes_by_case, goes_by_head, goes_by_exchange, Owners, IsAwaiting, bound, is_bound_place, Tables, Exchange, Representation, Consumer, Sound, Among, IsBound, idle, is_idle, stays_bound, moves_on, is_replacing}
+use Rattle.hc_text.proofs.Basics.{and_left, and_right, bool_cases, not_some as none_some, same_some as same_row}
+use Rattle.hc_effects.proofs.Vocabulary.{Event, Response, HeadCase, route_of, Limits, Place, case_at, head_view, is_current, denial, Entry, entry_without_acts, outlasts, outlasts_row, exchange_at, is_for, NoFlaw, goes_itself, Owners, IsAwaiting, bound, is_bound_place, Tables, Exchange, Representation, Consumer, Sound, Among, IsBound, idle, is_idle, stays_bound, moves_on, is_replacing}
 use Rattle.hc_event.specs.declared.event.Event.TheVariants as event
 use Rattle.hc_rules.specs.declared.heads.HeadCase.TheVariants as case
 use Rattle.hc_rules.specs.declared.need.Route.TheVariants as route
 use Rattle.hc_model.specs.Contents as contents
 use Rattle.hc_model.specs.Evictions.{IdleButGone}
-use Rattle.hc_model.specs.Owners as owners
 use Rattle.hc_model.specs.Sound as sound
-use Rattle.hc_effects.proofs.{Basics.{false_true, true_false, number_yes}, FirstKeeps.{is_new, case_of_head}, FoundBy.{CaseBy}, HasBound.{reader_of}}
+use Rattle.hc_effects.proofs.{Basics.{false_true, true_false}, FirstKeeps.{is_new, case_of_head}, FoundBy.{CaseBy}, HasBound.{reader_of}}
 use Rattle.hc_effects.proofs.FoundBy as cases
 
 -- LISTS
@@ -37,8 +36,7 @@ hole_of : (t : Tables) (lost : Bool) (w : Exchange) (response : Response) → Ca
 hole_of t lost w response (cases.first_replaced way shown status kept good) = way
 
 replacing_is : (g : Option HeadCase) → is_replacing g ≡ true → g ≡ Some case.FirstReplaced
-replacing_is (Some case.FirstReplaced) h = refl
-replacing_is _ h = absurd (false_true h)
+replacing_is g h = grind (arith, nat_tests)
 
 module _ (t : Tables) (now : ℕ) (ev : Event) (s : Sound t) (o : Owners t) (goes : denial t ev ≡ None) where
   abbrev e : Entry
@@ -49,12 +47,7 @@ module _ (t : Tables) (now : ℕ) (ev : Event) (s : Sound t) (o : Owners t) (goe
 
   -- who moves on was bound to what goes
   awaits_at : (r x : ℕ) (w : Exchange) (p : Place) → IsAwaiting x w p → route_of w.need ≡ route.Hole → is_bound_place r p ≡ true → w.aim ≡ Some r
-  awaits_at r x w p (owners.direct way at) hole here = absurd (let no : route.Direct ≡ route.Hole = sym way ∙ hole in cc)
-  awaits_at r x w p (owners.turn way at) hole here = absurd (let no : route.Turn ≡ route.Hole = sym way ∙ hole in cc)
-  awaits_at r x w p (owners.hole q lo hi how way aim at) hole here =
-      let test : nat_eq q r ≡ true = sym (ap (is_bound_place r) at) ∙ here in
-      let same : q ≡ r = grind (arith, nat_tests) in
-      aim ∙ ap Some same
+  awaits_at r x w p it4 hole here = grind (arith, nat_tests)
 
   bound_here : (r c : ℕ) (k : Consumer) → IsBound t r c k → is_bound_place r k.place ≡ true
   bound_here r c k (sound.is_bound lo hi how row at) = let self : nat_eq r r ≡ true = grind (arith, nat_tests) in ap (is_bound_place r) at ∙ self
@@ -63,10 +56,7 @@ module _ (t : Tables) (now : ℕ) (ev : Event) (s : Sound t) (o : Owners t) (goe
   row_here r c k (sound.is_bound lo hi how row at) = row
 
   goes_with : (r : ℕ) (v : Representation) (w : Exchange) → w.aim ≡ Some r → case_at t e ≡ Some case.FirstReplaced → exchange_at t ev ≡ Some w → goes_itself t e r v ≡ true
-  goes_with r v w aim is at =
-      let by_case : goes_by_case t e r (case_at t e) w ≡ true = ap (λ g. goes_by_case t e r g w) is ∙ or_left _ _ (number_yes w.aim r aim) in
-      let by_head : goes_by_head t e r ≡ true = ap (goes_by_exchange t e r) at ∙ by_case in
-      or_left _ _ (or_left _ _ (or_left _ _ (or_right _ _ by_head)))
+  goes_with r v w aim is at = grind (arith, nat_tests)
 
   mine_is : (x c : ℕ) (response : Response) (r : ℕ) (v : Representation) (k : Consumer) (w : Exchange) → ev ≡ event.Head x response → t.exchange x ≡ Some w → IsBound t r c k → nat_eq w.c c ≡ true → case_at t e ≡ Some case.FirstReplaced → goes_itself t e r v ≡ true
   mine_is x c response r v k w here row reader mine is =
@@ -88,13 +78,7 @@ module _ (t : Tables) (now : ℕ) (ev : Event) (s : Sound t) (o : Owners t) (goe
   moved_by : (z : Event) (r c : ℕ) (v : Representation) (k : Consumer) → ev ≡ z → IsBound t r c k → is_for (exchange_at t z) c ≡ true → case_at t e ≡ Some case.FirstReplaced → goes_itself t e r v ≡ true
   unfolding Rattle.hc_model.specs.Cases.case_of
   moved_by (event.Head x response) r c v k here reader mine is = moved_head x c response r v k (t.exchange x) here refl reader mine is
-  moved_by (event.Start d request) r c v k here reader mine is = absurd (no_case _ here refl is)
-  moved_by (event.Poll d want) r c v k here reader mine is = absurd (no_case _ here refl is)
-  moved_by (event.Piece x bytes) r c v k here reader mine is = absurd (no_case _ here refl is)
-  moved_by (event.End x) r c v k here reader mine is = absurd (no_case _ here refl is)
-  moved_by (event.Fault x) r c v k here reader mine is = absurd (no_case _ here refl is)
-  moved_by (event.Cancel d) r c v k here reader mine is = absurd (no_case _ here refl is)
-  moved_by (event.Doom key) r c v k here reader mine is = absurd (no_case _ here refl is)
+  moved_by _ r c v k here reader mine is = absurd (no_case _ here refl is)
 
   -- so who is bound to what doesn't go stays bound
   stays_there : (r c : ℕ) (v : Representation) → goes_itself t e r v ≡ false → Among c (bound t r) → not (moves_on t e c) ≡ true
@@ -112,8 +96,7 @@ module _ (t : Tables) (now : ℕ) (ev : Event) (s : Sound t) (o : Owners t) (goe
   bound_is r v stays = any_first (λ c. not (moves_on t e c)) (bound t r) (λ c among. stays_there r c v stays among)
 
   twice : (b : Bool) → not (not b) ≡ b
-  twice true = refl
-  twice false = refl
+  twice b = grind (arith, nat_tests)
 
   idle_row : (r : ℕ) (z : Option Representation) → is_idle t e r z ≡ (contents.is_idle t r z && outlasts_row t e r z)
   idle_row r None = refl
@@ -123,14 +106,10 @@ module _ (t : Tables) (now : ℕ) (ev : Event) (s : Sound t) (o : Owners t) (goe
   ]
     where
       by_test : (a b c : Bool) → ((a && not true) && not b) ≡ ((a && c) && not true)
-      by_test true b true = refl
-      by_test true b false = refl
-      by_test false b c = refl
+      by_test a b c = grind (arith, nat_tests)
 
       by_both : (a b : Bool) → ((a && not false) && b) ≡ ((a && b) && not false)
-      by_both true true = refl
-      by_both true false = refl
-      by_both false b = refl
+      by_both a b = grind (arith, nat_tests)
 
 pub idle_but_gone : IdleButGone
 unfolding idle

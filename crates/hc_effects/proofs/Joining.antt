@@ -17,8 +17,7 @@ pub data MayJoin (v : HeadView) : HeadCase → Type 0 where
 
 -- what holds of each side holds of the choice
 pub mix : {A : Type 0} (P : A → Type 0) (b : Bool) (x y : A) → P x → P y → P (cond b x y)
-mix P true x y p q = p
-mix P false x y p q = q
+mix P b x y p q = grind (arith, nat_tests)
 
 module _ (v : HeadView) where
   by_direct : MayJoin v (direct_case v)
@@ -78,15 +77,9 @@ filling_by from to v response (Some opaque) (Some total) tag known h =
     record { from = from; to = to; need_is = refl; v = v; row = refl; last = last; tagged = λ none. (let never : Some opaque ≡ None = sym tag ∙ none in cc); total = total; known = known; part = j.told; within = j.within; status = j.status }
 
 pub filling : (n : Need) (o : Option Representation) (response : Response) → joins_row n o response ≡ true → IsFilling n o response
-filling need.Disabled o response h = absurd (let never : false ≡ true = h in cc)
-filling need.TimedOut o response h = absurd (let never : false ≡ true = h in cc)
-filling need.Bypass o response h = absurd (let never : false ≡ true = h in cc)
-filling need.Miss o response h = absurd (let never : false ≡ true = h in cc)
-filling need.Vary o response h = absurd (let never : false ≡ true = h in cc)
-filling need.Validate o response h = absurd (let never : false ≡ true = h in cc)
 filling (need.Hole from to) None response h = absurd (let never : false ≡ true = h in cc)
 filling (need.Hole from to) (Some v) response h = filling_by from to v response v.head.joining v.head.total refl refl h
-filling need.Unsatisfied o response h = absurd (let never : false ≡ true = h in cc)
+filling _ o response h = absurd (let never : false ≡ true = h in cc)
 
 -- where the length of a joining head lies: within the hole, or nowhere
 pub data LiesIn (from to : ℕ) : Length → Type 0 where
@@ -99,8 +92,7 @@ lies_part from to last total said below =
     mix (LiesIn from to) _ _ _ (within (last + 1 - from) (λ p le lt. omega arith)) bad
 
 first_side : (from to : ℕ) (b : Bool) (x y : Length) → b ≡ true → LiesIn from to x → LiesIn from to (cond b x y)
-first_side from to true x y is lies = lies
-first_side from to false x y is lies = absurd (let never : false ≡ true = is in cc)
+first_side from to b x y is lies = grind (arith, nat_tests)
 
 lies_hole : (from to last total : ℕ) (request : Request) (response : Response) → response.status ≡ 206 → content_range_of response.fields ≡ Some (range.Part from last (Some total)) → last < to → LiesIn from to (length_of (need.Hole from to) request response)
 unfolding length_of

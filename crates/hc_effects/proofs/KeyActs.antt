@@ -1,13 +1,16 @@
 -- The acts of an entry say nothing of exchanges, representations and consumers of another key, but for what makes room.
-use Rattle.std.{proofs.Common.{◌≡◌, ◌⊎◌, inl, inr, ℕ, List, [], ◌∷◌, ◌++◌, Bool, true, false, Option, Some, None, refl, ap, sym, ◌∙◌, subst}, specs.{Prelude.{◌||◌, ◌==◌, nat_eq, if◌then◌else◌, map, filter, reverse, take, zero, suc}, Option.{option_or, option_map}}}
+-- Acts come from the move of a poll, from closings, from a loss and from what makes room; each part is looked at by itself.
+-- A move is near: it asks for what its consumer reads from, and opens for its key. So an exchange of another key is not asked.
+-- It is not closed: it was not refused, doomed, or left, and its writing was not lost, each of which is of the key of the event.
+-- A representation of another key is not written, so not lost, and is not read by the poll, so not misread.
+use Rattle.std.{proofs.{lemmas.Bool.Decides.{nat_tests}, Common.{arith, ◌≡◌, ◌⊎◌, inl, inr, ℕ, List, [], ◌∷◌, ◌++◌, Bool, true, false, Option, Some, None, refl, ap, sym, ◌∙◌, subst}}, specs.{Prelude.{◌||◌, ◌==◌, nat_eq, if◌then◌else◌, map, filter, reverse, take, zero, suc}, Option.{option_or, option_map}}}
 use Rattle.hc_text.proofs.Basics.{and_left, and_right as and_then, bool_cases, eq_tells as eq_is, not_some as none_some, never_true as not_true, or_cases, some_inj}
-use Rattle.hc_effects.proofs.Vocabulary.{Opening, opening_in, asks_in, closes_in, evicts_in, Act, Cause, Need, Event, Response, Limits, Room, loses_in, misreads_in, leaver_in, without_losses, accepted_acts, answer_acts, loss_acts, case_at, is_founding, is_joining, must_close, closes_row, closing, brings_head, is_doomed, has_no_survivor, is_left, is_left_by, leaver_by, is_number, bypass_key, bypassed_by, bypassed_for, Entry, entry_without_acts, family, Flaw, NoFlaw, Loses, Misreads, flaw_in, key_of, key_of_exchange, is_of_key, ExchangeKeys, ConsumerKeys, Move, Nothing, Asks, Opens, Shows, Gives, Ends, Fails, acts_of, source, Tables, Exchange, Representation, Consumer, may_be, may_misread, evicted, first_idle, idle, is_idle, room_for, brings_body, loses_writing, written_representation, written_in, head_writes, may_validate, piece_writes, unless_lost, sealed_representation, seals_at, sealed_by, stops, first_found, lossless}
+use Rattle.hc_effects.proofs.Vocabulary.{Opening, opening_in, asks_in, closes_in, evicts_in, Act, Cause, Need, Event, Response, Limits, Room, loses_in, misreads_in, leaver_in, without_losses, accepted_acts, answer_acts, loss_acts, case_at, is_founding, is_joining, must_close, closes_row, closing, brings_head, is_doomed, has_no_survivor, is_left, is_left_by, leaver_by, is_number, bypass_key, bypassed_by, bypassed_for, Entry, entry_without_acts, family, Flaw, Misreads, flaw_in, key_of, key_of_exchange, is_of_key, ExchangeKeys, ConsumerKeys, Move, Fails, acts_of, source, Tables, Exchange, Representation, Consumer, may_be, may_misread, evicted, first_idle, idle, is_idle, room_for, brings_body, loses_writing, written_representation, written_in, head_writes, may_validate, piece_writes, unless_lost, sealed_representation, seals_at, sealed_by, stops, first_found, lossless}
 use Rattle.hc_event.specs.declared.act.Act.TheVariants as act
 use Rattle.hc_event.specs.declared.act.Cause.TheVariants as cause
 use Rattle.hc_event.specs.declared.act.Need.TheVariants as need
 use Rattle.hc_event.specs.declared.event.Event.TheVariants as event
 use Rattle.hc_rules.specs.declared.room.Room.TheVariants as room
-use Rattle.hc_model.specs.Moves as moves
 use Rattle.hc_model.specs.Runs.{is_near}
 use Rattle.hc_effects.proofs.{ActParts.{IsAnswer, IsSaid, IsFarFrom, AllPass, answer_is, said_is, asks_evicted, asks_closed, asks_closes, asks_lost, asks_loss, closes_evicted, closes_lost, closes_before, closes_filter, loses_evicted, loses_closed, loses_before, evicts_closes, evicts_lost, evicts_closed, evicts_all, said_closes, far_loss, far_lost_only, far_closing, far_closed, far_evicted, far_said, leaver_lost}, Basics.{number_is}, KeyNames.{aims_key, writer_key, key_is, IsOther, not_other, doomed_key, family_key, own_key, shared_key, source_key, near_key}, PieceKeeps.{eq_cases}, PollKeys.{IsNear}}
 use Rattle.hc_effects.proofs.ActParts as parts
@@ -23,54 +26,25 @@ key_cases t ev key = elim (bool_cases (is_of_key (key_of t ev) (Some key))) [
 -- MOVES
 
 asks_move : (x : ℕ) (t : Tables) (c : ℕ) (k : Consumer) (m : Move) (rest : List Act) → IsNear t k m → ((y : ℕ) → source t k ≡ Some y → nat_eq y x ≡ false) → asks_in x (acts_of c m ++ rest) ≡ asks_in x rest
-asks_move x t c k _ rest polls.nothing other = refl
-asks_move x t c k _ rest (polls.waits wait) other = refl
 asks_move x t c k _ rest (polls.asks y from) other = rw (other y from) refl
-asks_move x t c k _ rest (polls.opens y n request same) other = refl
-asks_move x t c k _ rest (polls.shows r why head lo hi now) other = refl
-asks_move x t c k _ rest (polls.given run) other = refl
-asks_move x t c k _ rest polls.ends other = refl
-asks_move x t c k _ rest (polls.fails cause) other = refl
+asks_move x t c k _ rest _ other = refl
 
 -- what a move opens is of its consumer's key
 opens_move : (t : Tables) (c : ℕ) (k : Consumer) (m : Move) (rest : List Act) (o : Opening) → IsNear t k m → opening_in rest ≡ None → opening_in (acts_of c m ++ rest) ≡ Some o → o.request.key ≡ k.request.key
 opens_move t c k _ rest o (polls.opens y n request same) none h = ap (λ (q : Opening). q.request.key) (sym (some_inj _ o h)) ∙ same
-opens_move t c k _ rest o polls.nothing none h = absurd (none_some o (sym none ∙ h))
-opens_move t c k _ rest o (polls.waits wait) none h = absurd (none_some o (sym none ∙ h))
-opens_move t c k _ rest o (polls.asks y from) none h = absurd (none_some o (sym none ∙ h))
-opens_move t c k _ rest o (polls.shows r why head lo hi now) none h = absurd (none_some o (sym none ∙ h))
-opens_move t c k _ rest o (polls.given run) none h = absurd (none_some o (sym none ∙ h))
-opens_move t c k _ rest o polls.ends none h = absurd (none_some o (sym none ∙ h))
-opens_move t c k _ rest o (polls.fails cause) none h = absurd (none_some o (sym none ∙ h))
+opens_move t c k _ rest o _ none h = absurd (none_some o (sym none ∙ h))
 
 -- a read that fails is the flaw that the acts show
 misread_cause : (r c : ℕ) (cause : Cause) (rest : List Act) → misreads_in r rest ≡ false → misreads_in r (act.Failed c cause ∷ rest) ≡ true → flaw_in (act.Failed c cause ∷ rest) ≡ Misreads r
-misread_cause r c (cause.StoreRead q) rest none h = elim (or_cases (q == r) (misreads_in r rest) h) [
-  | inl here ↦ ap Misreads (eq_is q r here)
-  | inr there ↦ absurd (let never : false ≡ true = sym none ∙ there in cc)
-]
-misread_cause r c _ rest none h = absurd (let never : false ≡ true = sym none ∙ h in cc)
+misread_cause r c cause rest none h = grind (arith, nat_tests)
 
 misread_move : (r c : ℕ) (m : Move) (rest : List Act) → misreads_in r rest ≡ false → misreads_in r (acts_of c m ++ rest) ≡ true → flaw_in (acts_of c m ++ rest) ≡ Misreads r
 misread_move r c (Fails cause) rest none h = misread_cause r c cause rest none h
-misread_move r c Nothing rest none h = absurd (let never : false ≡ true = sym none ∙ h in cc)
-misread_move r c (moves.Waits wait) rest none h = absurd (let never : false ≡ true = sym none ∙ h in cc)
-misread_move r c (Asks x) rest none h = absurd (let never : false ≡ true = sym none ∙ h in cc)
-misread_move r c (Opens x n request) rest none h = absurd (let never : false ≡ true = sym none ∙ h in cc)
-misread_move r c (Shows q why head lo hi) rest none h = absurd (let never : false ≡ true = sym none ∙ h in cc)
-misread_move r c (Gives run) rest none h = absurd (let never : false ≡ true = sym none ∙ h in cc)
-misread_move r c Ends rest none h = absurd (let never : false ≡ true = sym none ∙ h in cc)
+misread_move r c _ rest none h = absurd (let never : false ≡ true = sym none ∙ h in cc)
 
 -- who leaves by a poll is the polled one
 leaver_move : (c d : ℕ) (m : Move) (flaw : Flaw) → leaver_in (acts_of c m ++ loss_acts flaw) ≡ Some d → c ≡ d
-leaver_move c d Ends flaw h = some_inj c d h
-leaver_move c d (Fails cause) flaw h = some_inj c d h
-leaver_move c d Nothing flaw h = absurd (none_some d (sym (leaver_lost flaw) ∙ h))
-leaver_move c d (moves.Waits wait) flaw h = absurd (none_some d (sym (leaver_lost flaw) ∙ h))
-leaver_move c d (Asks x) flaw h = absurd (none_some d (sym (leaver_lost flaw) ∙ h))
-leaver_move c d (Opens x n request) flaw h = absurd (none_some d (sym (leaver_lost flaw) ∙ h))
-leaver_move c d (Shows q why head lo hi) flaw h = absurd (none_some d (sym (leaver_lost flaw) ∙ h))
-leaver_move c d (Gives run) flaw h = absurd (none_some d (sym (leaver_lost flaw) ∙ h))
+leaver_move c d m flaw h = grind (arith, nat_tests)
 
 -- WHAT IS WRITTEN
 
@@ -117,8 +91,7 @@ idle_rows t e' (r ∷ rs) = elim (bool_cases (is_idle t e' r (t.representation r
 first_rows : (t : Tables) (e' : Entry) (place : Room) → AllPass (HasRow t) (first_idle t e' place)
 unfolding idle
 first_rows t e' (room.After count) = taken_rows t count _ (idle_rows t e' (reverse t.used))
-first_rows t e' room.TooLarge = tt
-first_rows t e' room.Full = tt
+first_rows t e' _ = tt
 
 -- what makes room has a row
 pub evicted_rows : (limits : Limits) (t : Tables) (now : ℕ) (ev : Event) → AllPass (HasRow t) (evicted limits t now ev)
@@ -167,9 +140,8 @@ module _ (limits : Limits) (t : Tables) (e : Entry) (flaw : Flaw) (exchanges : E
     ]
 
     asks_said : (acts rest : List Act) → IsSaidHere acts → asks_in x (acts ++ rest) ≡ asks_in x rest
-    asks_said _ rest parts.silent = refl
     asks_said _ rest (parts.does c want k m at is_row is near) = asks_move x t c k m rest near (no_source c want k at is_row)
-    asks_said _ rest (parts.misreads c want r at is) = refl
+    asks_said _ rest _ = refl
 
     asks_by : (acts : List Act) → answered acts → asks_in x acts ≡ false
     asks_by _ (parts.told silent) = (asks_evicted x 0 (evicted limits t e.now e.event) _).asks ∙ ((asks_lost x 0 flaw _).asks ∙ (asks_closes x 0 closings).asks)
@@ -182,12 +154,7 @@ module _ (limits : Limits) (t : Tables) (e : Entry) (flaw : Flaw) (exchanges : E
   -- WRITTEN BY A HEAD OR A PIECE
 
   lost_written : (r : ℕ) (f : Flaw) → may_be limits t e f ≡ true → loses_in r (loss_acts f) ≡ true → written_representation t e ≡ Some r
-  lost_written r NoFlaw may_so h = absurd (let never : false ≡ true = h in cc)
-  lost_written r (Misreads q) may_so h = absurd (let never : false ≡ true = h in cc)
-  lost_written r (Loses q kind) may_so h = elim (or_cases (q == r) false h) [
-    | inl here ↦ number_is (written_representation t e) q (and_left _ _ (and_left _ _ may_so)) ∙ ap Some (eq_is q r here)
-    | inr never ↦ absurd (let no : false ≡ true = never in cc)
-  ]
+  lost_written r f may_so h = grind (arith, nat_tests)
 
   module _ (r : ℕ) (v : Representation) (there : t.representation r ≡ Some v) where
     by_exchange : (x : ℕ) (w : Exchange) → t.exchange x ≡ Some w → v.key ≡ w.request.key → key_of_exchange t x ≡ Some v.key
@@ -204,12 +171,7 @@ module _ (limits : Limits) (t : Tables) (e : Entry) (flaw : Flaw) (exchanges : E
         by_exchange x w row (head_cases x w (is_founding (case_at t (lossless e))) (may_validate t w response || is_joining (case_at t (lossless e))) row h)
 
     lost_some : (q : ℕ) (o : Option Representation) → unless_lost q o ≡ Some r → q ≡ r
-    lost_some q None h = absurd (none_some r h)
-    lost_some q (Some u) h = by_test u.is_lost h
-      where
-        by_test : (b : Bool) → (if b then None else Some q) ≡ Some r → q ≡ r
-        by_test true h = absurd (none_some r h)
-        by_test false h = some_inj q r h
+    lost_some q o h = grind (arith, nat_tests)
 
     piece_row : (x : ℕ) (o : Option Exchange) → t.exchange x ≡ o → piece_writes t x o ≡ Some r → key_of_exchange t x ≡ Some v.key
     piece_row x None row h = absurd (none_some r h)
@@ -266,13 +228,7 @@ module _ (limits : Limits) (t : Tables) (e : Entry) (flaw : Flaw) (exchanges : E
 
     not_left : (ev : Event) → e.event ≡ ev → is_left t x (leaver_by ev (asked_of ++ loss_acts flaw)) ≡ true → ⊥
     not_left (event.Cancel c) at h = left_by c (t.consumer c) refl (λ k there. ap (key_of t) at ∙ ap (option_map (λ (k : Consumer). k.request.key)) there) h
-    not_left (event.Start c request) at h = left_said asked_of (leaver_in (asked_of ++ loss_acts flaw)) said_here refl h
-    not_left (event.Poll c want) at h = left_said asked_of (leaver_in (asked_of ++ loss_acts flaw)) said_here refl h
-    not_left (event.Head y response) at h = left_said asked_of (leaver_in (asked_of ++ loss_acts flaw)) said_here refl h
-    not_left (event.Piece y bytes) at h = left_said asked_of (leaver_in (asked_of ++ loss_acts flaw)) said_here refl h
-    not_left (event.End y) at h = left_said asked_of (leaver_in (asked_of ++ loss_acts flaw)) said_here refl h
-    not_left (event.Fault y) at h = left_said asked_of (leaver_in (asked_of ++ loss_acts flaw)) said_here refl h
-    not_left (event.Doom key) at h = left_said asked_of (leaver_in (asked_of ++ loss_acts flaw)) said_here refl h
+    not_left _ at h = left_said asked_of (leaver_in (asked_of ++ loss_acts flaw)) said_here refl h
 
     stays_open : must_close t seen x w ≡ true → ⊥
     stays_open h = elim (or_cases _ _ h) [
@@ -305,9 +261,7 @@ module _ (limits : Limits) (t : Tables) (e : Entry) (flaw : Flaw) (exchanges : E
 
   module _ (r : ℕ) (v : Representation) (there : t.representation r ≡ Some v) where
     stop_key : (x : ℕ) (w : Exchange) (ev : Event) → t.exchange x ≡ Some w → stops x ev ≡ true → key_of t ev ≡ Some w.request.key
-    stop_key x w (event.End y) row h = ap (option_map (λ (w : Exchange). w.request.key)) (ap t.exchange (eq_is y x h) ∙ row)
-    stop_key x w (event.Fault y) row h = ap (option_map (λ (w : Exchange). w.request.key)) (ap t.exchange (eq_is y x h) ∙ row)
-    stop_key x w _ row h = absurd (let never : false ≡ true = h in cc)
+    stop_key x w ev row h = grind (arith, nat_tests)
 
     ends_key : (x : ℕ) (w : Exchange) → t.exchange x ≡ Some w → (stops x e.event || closes_in x (without_losses e.acts)) ≡ true → key_of t e.event ≡ Some w.request.key
     ends_key x w row h = elim (key_cases t e.event w.request.key) [
@@ -379,9 +333,8 @@ module _ (limits : Limits) (t : Tables) (e : Entry) (flaw : Flaw) (exchanges : E
   -- OPENED
 
   opens_said : (acts rest : List Act) (o : Opening) → IsSaidHere acts → opening_in rest ≡ None → opening_in (acts ++ rest) ≡ Some o → key_of t e.event ≡ Some o.request.key
-  opens_said _ rest o parts.silent none h = absurd (none_some o (sym none ∙ h))
   opens_said _ rest o (parts.does c want k m at row does near) none h = poll_key c want k at row ∙ ap Some (sym (opens_move t c k m rest o near none h))
-  opens_said _ rest o (parts.misreads c want q at reads) none h = absurd (none_some o (sym none ∙ h))
+  opens_said _ rest o _ none h = absurd (none_some o (sym none ∙ h))
 
   opens_by : (acts : List Act) (o : Opening) → answered acts → opening_in acts ≡ Some o → key_of t e.event ≡ Some o.request.key
   opens_by _ o (parts.told silent) h =

@@ -1,12 +1,9 @@
 -- What an event names is of its key: the representation of an exchange, and what a consumer reads from.
-use Rattle.std.{proofs.Common.{◌≡◌, inl, inr, ℕ, List, Bool, true, false, Option, Some, None, refl, ap, sym, ◌∙◌}, specs.{Prelude.{bytes_eq, ◌&&◌, ◌||◌, if◌then◌else◌, unwrap_or}, Option.{option_and_then, option_or}}}
-use Rattle.hc_text.proofs.Basics.{and_left, bool_cases, eq_tells as eq_is, never_true as not_so, or_cases, same_some as same_row, some_inj}
-use Rattle.hc_effects.proofs.Vocabulary.{Event, Response, HeadCase, Place, BoundBy, case_at, current, is_usable, is_current, is_number, doomed_key_of, doomed_in, doomed_by_head, doomed_by_case, changes, is_key, Entry, family, is_open, HasRow, key_of, is_of_key, key_of_exchange, ExchangeKeys, ConsumerKeys, own_open, if_open, shared_exchange, writing_in, is_written, source, is_bound, is_bound_place, Tables, Exchange, Representation, Consumer}
-use Rattle.hc_event.specs.declared.event.Event.TheVariants as event
-use Rattle.hc_rules.specs.declared.heads.HeadCase.TheVariants as case
+use Rattle.std.{proofs.{lemmas.Bool.Decides.{nat_tests}, Common.{arith, ◌≡◌, inl, inr, ℕ, List, Bool, true, false, Option, Some, None, refl, ap, sym, ◌∙◌}}, specs.{Prelude.{bytes_eq, ◌&&◌, ◌||◌, if◌then◌else◌, unwrap_or}, Option.{option_or}}}
+use Rattle.hc_text.proofs.Basics.{and_none as with_false, and_true as with_true, and_left, bool_cases, eq_tells as eq_is, never_true as not_so, or_cases, same_some as same_row}
+use Rattle.hc_effects.proofs.Vocabulary.{Event, Place, BoundBy, current, is_usable, is_current, is_number, doomed_key_of, is_key, Entry, family, HasRow, key_of, is_of_key, ExchangeKeys, ConsumerKeys, own_open, shared_exchange, writing_in, is_written, source, is_bound, is_bound_place, Tables, Exchange, Representation, Consumer}
 use Rattle.hc_rules.proofs.RangeReads.{bytes_eq-same, same_bytes}
 use Rattle.hc_event.specs.declared.place.Place.TheVariants as place
-use Rattle.hc_model.specs.Dooms.{doomed_if}
 use Rattle.hc_model.specs.Sound as sound
 use Rattle.hc_effects.proofs.{Basics.{number_is, true_false}, PollKeeps.{find_passes}}
 
@@ -30,32 +27,10 @@ not_other t ev key is other =
 
 -- DOOMS
 
-doomed_case : (c : Option HeadCase) (w : Exchange) (response : Response) (key : List ℕ) → doomed_by_case c w response ≡ Some key → w.request.key ≡ key
-doomed_case (Some case.DirectBad) w response key is = by_test (changes w response) is
-  where
-    by_test : (b : Bool) → doomed_if b w ≡ Some key → w.request.key ≡ key
-    by_test true h = some_inj _ key h
-    by_test false h = absurd (let never : None ≡ Some key = h in cc)
-doomed_case (Some case.DirectTaken) w response key is = by_test (changes w response) is
-  where
-    by_test : (b : Bool) → doomed_if b w ≡ Some key → w.request.key ≡ key
-    by_test true h = some_inj _ key h
-    by_test false h = absurd (let never : None ≡ Some key = h in cc)
-doomed_case _ w response key is = absurd (let never : None ≡ Some key = is in cc)
-
 -- what is doomed is the key of the event
 pub doomed_key : (t : Tables) (e : Entry) (key : List ℕ) → doomed_key_of t e ≡ Some key → key_of t e.event ≡ Some key
 unfolding doomed_key_of
-doomed_key t e key is = by_event e.event is
-  where
-    by_row : (x : ℕ) (response : Response) (o : Option Exchange) → t.exchange x ≡ o → doomed_by_head t e response o ≡ Some key → key_of_exchange t x ≡ Some key
-    by_row x response None row h = absurd (let never : None ≡ Some key = h in cc)
-    by_row x response (Some w) row h = rw row (ap Some (doomed_case (case_at t e) w response key h))
-
-    by_event : (ev : Event) → doomed_in t e ev ≡ Some key → key_of t ev ≡ Some key
-    by_event (event.Doom other) h = h
-    by_event (event.Head x response) h = by_row x response (t.exchange x) refl h
-    by_event _ h = absurd (let never : None ≡ Some key = h in cc)
+doomed_key t e key is = grind (arith, nat_tests)
 
 -- EXCHANGES AND THEIR REPRESENTATIONS
 
@@ -72,9 +47,7 @@ writer_key t r x w v keys there is row =
     h.2 ∙ ap (λ (u : Exchange). u.request.key) (same_row (t.exchange x) h.0 w h.1 row)
 
 pub opener_key : (t : Tables) (x : ℕ) (w : Exchange) (k : Consumer) → ExchangeKeys t → t.exchange x ≡ Some w → t.consumer w.c ≡ Some k → w.request.key ≡ k.request.key
-opener_key t x w k keys row is =
-    let h = keys.opener x w row in
-    h.2 ∙ ap (λ (u : Consumer). u.request.key) (same_row (t.consumer w.c) h.0 k h.1 is)
+opener_key t x w k keys row is = grind (arith, nat_tests)
 
 -- the representation of an exchange is of its key
 pub family_key : (t : Tables) (x r : ℕ) (w : Exchange) (v : Representation) → ExchangeKeys t → t.exchange x ≡ Some w → family x w ≡ r → t.representation r ≡ Some v → v.key ≡ w.request.key
@@ -98,27 +71,11 @@ current_test t key r v there = elim (bool_cases (bytes_eq key v.key)) [
   | inr other ↦ rw other (with_false (is_current t v.key r) ∙ sym (not_so (is_number (current t key) r) (λ on.
       true_false (sym (bytes_eq-same key v.key (sym (current_key t key r v (number_is (current t key) r on) there))) ∙ other))))
 ]
-  where
-    with_true : (b : Bool) → (b && true) ≡ b
-    with_true true = refl
-    with_true false = refl
-
-    with_false : (b : Bool) → (b && false) ≡ false
-    with_false true = refl
-    with_false false = refl
 
 -- CONSUMERS AND WHAT THEY READ FROM
 
 own_is : (t : Tables) (k : Consumer) (x : ℕ) → own_open t k ≡ Some x → k.own ≡ Some x
-own_is t k x is = by_own k.own is
-  where
-    by_test : (y : ℕ) (b : Bool) → (if b then Some y else None) ≡ Some x → Some y ≡ Some x
-    by_test y true h = h
-    by_test y false h = absurd (let never : None ≡ Some x = h in cc)
-
-    by_own : (o : Option ℕ) → option_and_then (if_open t) o ≡ Some x → o ≡ Some x
-    by_own None h = absurd (let never : None ≡ Some x = h in cc)
-    by_own (Some y) h = by_test y (is_open (t.exchange y)) h
+own_is t k x is = grind (arith, nat_tests)
 
 module _ (t : Tables) (c : ℕ) (k : Consumer) (exchanges : ExchangeKeys t) (consumers : ConsumerKeys t) (is_row : t.consumer c ≡ Some k) where
   pub own_key : (x : ℕ) (w : Exchange) → own_open t k ≡ Some x → t.exchange x ≡ Some w → w.request.key ≡ k.request.key

@@ -1,12 +1,15 @@
 -- The law of one key: rows of other keys stay, but for what makes room and who waits for that.
-use Rattle.std.{proofs.Common.{◌≡◌, inl, inr, ℕ, ◌+◌, List, length, Bool, true, false, Option, Some, None, refl, ap, sym, ◌∙◌, subst, ◌⊎◌}, specs.{Prelude.{◌&&◌, ◌||◌, ◌==◌, nat_eq, not, if◌then◌else◌, is_none}, Option.{option_or, option_map}}}
-use Rattle.hc_text.proofs.Basics.{and_left, and_right as and_then, bool_cases, eq_tells as eq_is, not_some as none_some, never_true as not_true, or_cases, both_false as or_none, or_none as or_nothing, plus_none, some_inj}
-use Rattle.hc_effects.proofs.Vocabulary.{Opening, opening_in, asks_in, closes_in, evicts_in, leaves_in, shows_in, given_in, Event, Response, HeadCase, is_same_number, Place, BoundBy, loses_in, misreads_in, Showing, showing_in, case_at, consumer_after, consumer_settled, consumer_acted, consumer_heard, by_head, by_fault, by_opening, waiting, waiting_place, shown_place, own_after, left_to, due_after, back_in_line, is_current, doomed_key_of, bypass_key, is_key, Entry, exchange_after, exchange_heard, exchange_acted, family, exchange_in, exchange_at, is_for, becomes_due, cause_of_stop, cause_of_loss, cause_by_loss, cause_of_head, becomes_gone, goes_itself, goes_by_head, goes_by_exchange, goes_by_case, is_current_of, ends_early, ends_founding, stops_early, is_keepable, goes_in, key_of, key_of_exchange, ExchangeKeys, ConsumerKeys, reads, source, representation_after, representation_heard, representation_acted, representation_after_head, updates, representation_after_piece, Tables, Exchange, Representation, Consumer, starts_over, sends_back, loses_what_it_waits_for, waits_at, loses_writing}
+-- An event of another key is not of the exchange, the representation or the consumer in question, by the keys that rows have.
+-- So each row hears nothing, and the acts, which are of the key of the event, say nothing of it.
+-- Nothing becomes due to the consumer: its source is of its own key, and what it reads is not lost.
+-- What is left is that room is made: a representation goes by that alone, and who waits for it starts over.
+use Rattle.std.{proofs.{lemmas.Bool.Decides.{nat_tests}, Common.{arith, ◌≡◌, inl, inr, ℕ, List, Bool, true, false, Option, Some, None, refl, ap, sym, ◌∙◌, subst, ◌⊎◌}}, specs.{Prelude.{◌&&◌, ◌||◌, ◌==◌, nat_eq, not, if◌then◌else◌, is_none}, Option.{option_map}}}
+use Rattle.hc_text.proofs.Basics.{and_left, and_right as and_then, bool_cases, eq_tells as eq_is, not_some as none_some, never_true as not_true, or_cases, both_false as or_none}
+use Rattle.hc_effects.proofs.Vocabulary.{asks_in, closes_in, evicts_in, Event, Response, HeadCase, is_same_number, Place, BoundBy, loses_in, misreads_in, case_at, consumer_after, consumer_settled, consumer_acted, consumer_heard, by_head, by_fault, due_after, back_in_line, is_current, doomed_key_of, bypass_key, is_key, Entry, exchange_after, exchange_heard, exchange_acted, family, exchange_in, exchange_at, is_for, becomes_due, cause_of_stop, cause_of_head, becomes_gone, goes_itself, goes_by_head, goes_by_exchange, goes_by_case, is_current_of, ends_early, ends_founding, stops_early, is_keepable, goes_in, key_of, key_of_exchange, ExchangeKeys, ConsumerKeys, source, representation_after, representation_heard, representation_acted, representation_after_head, updates, representation_after_piece, Tables, Exchange, Representation, Consumer, starts_over, sends_back, loses_what_it_waits_for, waits_at, loses_writing}
 use Rattle.hc_event.specs.declared.event.Event.TheVariants as event
-use Rattle.hc_rules.specs.declared.heads.HeadCase.TheVariants as case
 use Rattle.hc_event.specs.declared.place.Place.TheVariants as place
 use Rattle.hc_model.specs.Keys.{loses}
-use Rattle.hc_effects.proofs.{ActParts.{IsFarFrom}, Basics.{number_is}, KeyNames.{aims_key, opener_key, of_row, key_is, IsOther, not_other, doomed_key, family_key, current_key, source_key, bound_key}, PieceKeeps.{eq_cases}}
+use Rattle.hc_effects.proofs.{ActParts.{IsFarFrom}, Basics.{number_is}, KeyNames.{aims_key, opener_key, of_row, key_is, IsOther, not_other, doomed_key, family_key, current_key, source_key, bound_key}, PieceKeeps.{eq_cases}, Untouched.{acted_stays, due_stays, loss_spared}}
 
 -- WORDS
 
@@ -14,26 +17,13 @@ all_none : (a b c d f : Bool) → a ≡ false → b ≡ false → c ≡ false �
 all_none a b c d f p q x y z = rw (p, q, x, y, z) refl
 
 pub same_number : (o p : Option ℕ) (x : ℕ) → p ≡ Some x → is_same_number o p ≡ true → o ≡ Some x
-same_number None p x is h = absurd (let never : false ≡ true = h in cc)
-same_number (Some m) None x is h = absurd (let never : false ≡ true = h in cc)
-same_number (Some m) (Some n) x is h = ap Some (eq_is m n h) ∙ is
+same_number o p x is h = grind (arith, nat_tests)
 
 and_yes : (b : Bool) → (b && not false) ≡ b
-and_yes true = refl
-and_yes false = refl
+and_yes b = grind (arith, nat_tests)
 
 no_none : (o : Option ℕ) → is_same_number o None ≡ true → ⊥
-no_none None h = let never : false ≡ true = h in cc
-no_none (Some n) h = let never : false ≡ true = h in cc
-
--- what the acts make of a consumer that its opening left as q
-abbrev acted_by : Tables → Entry → ℕ → Consumer → Consumer → Consumer
-acted_by t e c k q = record q {
-  place = if leaves_in c e.acts then place.Over else shown_place c (showing_in e.acts) q.place;
-  own = own_after t e c k.place q.own;
-  shown = shows_in c e.acts || q.shown;
-  given = q.given + length (given_in c e.acts);
-}
+no_none o h = grind (arith, nat_tests)
 
 -- what an entry does to rows of another key: it is asked, closed, lost or misread nowhere, and nothing is said to it
 pub record IsFarEntry (t : Tables) (e : Entry) : Type 0 where
@@ -109,15 +99,7 @@ module _ (t : Tables) (e : Entry) (exchanges : ExchangeKeys t) (consumers : Cons
     ]
 
     by_case : (o : Option HeadCase) (w : Exchange) → goes_by_case t e r o w ≡ true → (w.aim ≡ Some r) ⊎ (is_current_of t w r ≡ true)
-    by_case (Some case.NotValidated) w h = inl (number_is w.aim r h)
-    by_case (Some case.FoundsWhole) w h = inr h
-    by_case (Some case.FoundsRange) w h = inr h
-    by_case (Some case.PassesBy) w h = inr h
-    by_case (Some case.FirstChanged) w h = inl (number_is w.aim r h)
-    by_case (Some case.FirstReplaced) w h = elim (or_cases _ _ h) [ inl aims ↦ inl (number_is w.aim r aims) | inr now ↦ inr now ]
-    by_case (Some case.FirstPassesBy) w h = elim (or_cases _ _ h) [ inl aims ↦ inl (number_is w.aim r aims) | inr now ↦ inr (and_then _ _ now) ]
-    by_case (Some case.LaterChanged) w h = inl (number_is w.aim r (and_left _ _ h))
-    by_case _ w h = absurd (let never : false ≡ true = h in cc)
+    by_case o w h = grind (arith, nat_tests)
 
     by_exchange : (x : ℕ) (o : Option Exchange) → key_of t e.event ≡ key_of_exchange t x → t.exchange x ≡ o → goes_by_exchange t e r o ≡ true → ⊥
     by_exchange x None of_key row h = let never : false ≡ true = h in cc
@@ -201,33 +183,8 @@ module _ (t : Tables) (e : Entry) (exchanges : ExchangeKeys t) (consumers : Cons
         let now : loses_in r e.acts ≡ true = and_then _ _ (and_left _ _ h) in
         let never : true ≡ false = sym now ∙ none in cc)
 
-    left_row : (r lo : ℕ) (hi : Option ℕ) (how : BoundBy) (own : Option ℕ) (o : Option Representation) → k.place ≡ place.Bound r lo hi how → t.representation r ≡ o → left_to t e c r o own ≡ own
-    left_row r lo hi how own None at there = refl
-    left_row r lo hi how own (Some v) at there = rw (not_losing r lo hi how v at there) refl
-
-    own_stays : (place : Place) (own : Option ℕ) → k.place ≡ place → own_after t e c place own ≡ own
-    own_stays (place.Bound r lo hi how) own at = left_row r lo hi how own (t.representation r) at refl
-    own_stays _ own at = refl
-
-    opening_stays : (o : Option Opening) → opening_in e.acts ≡ o → by_opening t c o k ≡ k
-    opening_stays None is = refl
-    opening_stays (Some o) is = rw (said.opens o is) refl
-
-    showing_stays : (o : Option Showing) → showing_in e.acts ≡ o → shown_place c o k.place ≡ k.place
-    showing_stays None is = refl
-    showing_stays (Some s) is = rw (said.showing s is) refl
-
-    waiting_stays : waiting t e c k ≡ k
-    waiting_stays = ap (λ o. record k { place = waiting_place t k o }) said.waits
-
-    same_row : (p : Place) (own : Option ℕ) (shown : Bool) (given : ℕ) → p ≡ k.place → own ≡ k.own → shown ≡ k.shown → given ≡ k.given → record k { place = p; own = own; shown = shown; given = given } ≡ k
-    same_row p own shown given a b c d = rw (a, b, c, d) refl
-
-    acted_stays : consumer_acted t e c k ≡ k
-    acted_stays =
-        let q_is : by_opening t c (opening_in e.acts) (waiting t e c k) ≡ k = ap (by_opening t c (opening_in e.acts)) waiting_stays ∙ opening_stays (opening_in e.acts) refl in
-        ap (acted_by t e c k) q_is
-        ∙ same_row _ _ _ _ (rw said.leaves (showing_stays (showing_in e.acts) refl)) (own_stays k.place k.own refl) (rw said.shows refl) (ap (λ bytes. k.given + length bytes) said.given ∙ plus_none k.given)
+    acted_is : consumer_acted t e c k ≡ k
+    acted_is = acted_stays t e c k said not_losing (heard_consumer e.event refl)
 
     -- DUE
 
@@ -243,11 +200,7 @@ module _ (t : Tables) (e : Entry) (exchanges : ExchangeKeys t) (consumers : Cons
     not_for _ at h = let never : false ≡ true = h in cc
 
     about : (x : ℕ) (ev : Event) → exchange_in ev ≡ Some x → key_of t ev ≡ key_of_exchange t x
-    about x (event.Head y response) h = ap (key_of_exchange t) (some_inj y x h)
-    about x (event.Piece y bytes) h = ap (key_of_exchange t) (some_inj y x h)
-    about x (event.End y) h = ap (key_of_exchange t) (some_inj y x h)
-    about x (event.Fault y) h = ap (key_of_exchange t) (some_inj y x h)
-    about x _ h = absurd (none_some x h)
+    about x ev h = grind (arith, nat_tests)
 
     not_source : (x : ℕ) → exchange_in e.event ≡ Some x → source t k ≡ Some x → ⊥
     not_source x is from =
@@ -262,28 +215,16 @@ module _ (t : Tables) (e : Entry) (exchanges : ExchangeKeys t) (consumers : Cons
     no_stop : cause_of_stop t e k ≡ None
     no_stop = let fails = not_true _ (not_same (exchange_in e.event) refl) in rw fails refl
 
-    loss_row : (r lo : ℕ) (hi : Option ℕ) (how : BoundBy) (o : Option Representation) → k.place ≡ place.Bound r lo hi how → t.representation r ≡ o → cause_by_loss t e c r o ≡ None
-    loss_row r lo hi how None at there = refl
-    loss_row r lo hi how (Some v) at there = rw (not_losing r lo hi how v at there) refl
-
-    no_loss : (place : Place) → k.place ≡ place → cause_of_loss t e c place ≡ None
-    no_loss (place.Bound r lo hi how) at = loss_row r lo hi how (t.representation r) at refl
-    no_loss _ at = refl
-
     no_cause : (ev : Event) → e.event ≡ ev → cause_of_head t e c ev ≡ None
     no_cause (event.Head x response) at = let fails = not_true _ (for_it x (t.exchange x) (ap (key_of t) at) refl) in rw fails refl
     no_cause _ at = refl
 
     not_due : becomes_due t e c k ≡ None
     unfolding becomes_due
-    not_due = rw (no_stop, no_loss k.place refl) (no_cause e.event refl)
-
-    due_stays : (b : Bool) → reads k.place ≡ b → (if b then option_or k.due (becomes_due t e c k) else None) ≡ k.due
-    due_stays true is = ap (option_or k.due) not_due ∙ or_nothing k.due
-    due_stays false is = sym (consumers.undue c k is_row is)
+    not_due = rw (no_stop, loss_spared t e c k.place not_losing) (no_cause e.event refl)
 
     due_row : due_after t e c k k ≡ k
-    due_row = ap (λ o. record k { due = o }) (due_stays (reads k.place) refl)
+    due_row = due_stays t e c k not_due (consumers.undue c k is_row)
 
     -- STARTING OVER
 
@@ -315,7 +256,7 @@ module _ (t : Tables) (e : Entry) (exchanges : ExchangeKeys t) (consumers : Cons
     unfolding consumer_after
     consumer_row over is =
         ap (consumer_after t e c) is_row
-        ∙ ap Some (ap (consumer_settled t e c k) (ap (consumer_acted t e c) (heard_consumer e.event refl) ∙ acted_stays) ∙ settled over (over_as ∙ is))
+        ∙ ap Some (ap (consumer_settled t e c k) (ap (consumer_acted t e c) (heard_consumer e.event refl) ∙ acted_is) ∙ settled over (over_as ∙ is))
       where
         settled : (b : Bool) → starts_over t e c k ≡ b → consumer_settled t e c k k ≡ (if b then back_in_line e.now k else k)
         settled true h = rw h refl

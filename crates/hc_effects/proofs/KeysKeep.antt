@@ -1,5 +1,5 @@
 -- What is of one key stays so: rows of exchanges and representations.
-use Rattle.std.{proofs.Common.{◌≡◌, ◌⊎◌, inl, inr, ℕ, List, ◌++◌, Bool, true, false, Option, Some, None, refl, ap, sym, ◌∙◌, subst}, specs.{Prelude.{◌&&◌, ◌==◌, if◌then◌else◌}, Option.{option_map}}}
+use Rattle.std.{proofs.{lemmas.Bool.Decides.{nat_tests}, Common.{arith, ◌≡◌, ◌⊎◌, inl, inr, ℕ, List, ◌++◌, Bool, true, false, Option, Some, None, refl, ap, sym, ◌∙◌, subst}}, specs.{Prelude.{◌&&◌, ◌==◌, if◌then◌else◌}, Option.{option_map}}}
 use Rattle.hc_text.proofs.Basics.{and_left, and_right as and_then, bool_cases, eq_itself as eq-refl, eq_tells as eq_is, not_some as none_some, some_inj}
 use Rattle.hc_effects.proofs.Vocabulary.{family, Opening, opening_in, Act, Event, Request, Response, Limits, accepted_acts, answer_acts, loss_acts, case_at, is_founding, is_joining, closing, current, is_usable, Entry, exchange_after, exchange_heard, exchange_acted, exchange_made, exchange_opened, Flaw, HasRow, Move, acts_of, representation_after, representation_heard, representation_acted, founded_at, new_representation, representation_after_head, with_renewed_head, updates, resumes, representation_after_piece, with_total_if_none, length_in, writer_at, Tables, Exchange, Representation, Consumer, after_accepted, evicted}
 use Rattle.hc_event.specs.declared.event.Event.TheVariants as event
@@ -30,20 +30,13 @@ pub data IsOpening (t : Tables) (ev : Event) (o : Opening) : Type 0 where
 
 opened_move : (t : Tables) (c : ℕ) (k : Consumer) (m : Move) (rest : List Act) (o : Opening) → IsNear t k m → opening_in rest ≡ None → opening_in (acts_of c m ++ rest) ≡ Some o → (c ≡ o.c) × (o.request.key ≡ k.request.key)
 opened_move t c k _ rest o (polls.opens y n request same) none h = (ap (λ (q : Opening). q.c) (some_inj _ o h), ap (λ (q : Opening). q.request.key) (sym (some_inj _ o h)) ∙ same)
-opened_move t c k _ rest o polls.nothing none h = absurd (none_some o (sym none ∙ h))
-opened_move t c k _ rest o (polls.waits wait) none h = absurd (none_some o (sym none ∙ h))
-opened_move t c k _ rest o (polls.asks y from) none h = absurd (none_some o (sym none ∙ h))
-opened_move t c k _ rest o (polls.shows r why head lo hi now) none h = absurd (none_some o (sym none ∙ h))
-opened_move t c k _ rest o (polls.given run) none h = absurd (none_some o (sym none ∙ h))
-opened_move t c k _ rest o polls.ends none h = absurd (none_some o (sym none ∙ h))
-opened_move t c k _ rest o (polls.fails cause) none h = absurd (none_some o (sym none ∙ h))
+opened_move t c k _ rest o _ none h = absurd (none_some o (sym none ∙ h))
 
 opened_said : (t : Tables) (now : ℕ) (ev : Event) (flaw : Flaw) (acts rest : List Act) (o : Opening) → IsSaid t now ev flaw acts → opening_in rest ≡ None → opening_in (acts ++ rest) ≡ Some o → IsOpening t ev o
-opened_said t now ev flaw _ rest o parts.silent none h = absurd (none_some o (sym none ∙ h))
 opened_said t now ev flaw _ rest o (parts.does c want k m at row does near) none h =
     let both = opened_move t c k m rest o near none h in
     opening want k (at ∙ ap (λ d. event.Poll d want) both.0) (ap t.consumer (sym both.0) ∙ row) both.1
-opened_said t now ev flaw _ rest o (parts.misreads c want r at is) none h = absurd (none_some o (sym none ∙ h))
+opened_said t now ev flaw _ rest o _ none h = absurd (none_some o (sym none ∙ h))
 
 opened_by : (limits : Limits) (t : Tables) (now : ℕ) (ev : Event) (flaw : Flaw) (acts : List Act) (o : Opening) → IsAnswer limits t now ev flaw acts → opening_in acts ≡ Some o → IsOpening t ev o
 opened_by limits t now ev flaw _ o (parts.told silent) h =
@@ -67,8 +60,7 @@ pub record IsSameExchange (w z : Exchange) : Type 0 where
   pub joined_is : (z.joined ≡ w.joined) ⊎ (z.joined ≡ w.aim)
 
 joined_by : (b : Bool) (w : Exchange) → ((if b then w.aim else w.joined) ≡ w.joined) ⊎ ((if b then w.aim else w.joined) ≡ w.aim)
-joined_by true w = inr refl
-joined_by false w = inl refl
+joined_by b w = grind (arith, nat_tests)
 
 abbrev renews : Bool → ℕ → Option ℕ → Option ℕ
 renews b x old = if b then Some x else old

@@ -11,12 +11,7 @@ module _ (t : Tables) (law : Lawful t) (c : ℕ) (k : Consumer) (row : t.consume
   -- nothing goes with what it leaves that it waits for
   unwaiting : (p : Place) → k.place ≡ p → waits_for_any (with_item_first (going_with t (left_by t c k)) []) p ≡ false
   unwaiting (place.Passed r kept) at = ap (λ (z : Option ℕ). waits_for_any (with_item_first (going_with t z) []) (place.Passed r kept)) (left_passed t law c k row r kept at)
-  unwaiting place.Line at = refl
-  unwaiting (place.Turn x) at = refl
-  unwaiting (place.Bound r lo hi how) at = refl
-  unwaiting (place.Direct x) at = refl
-  unwaiting (place.Down why) at = refl
-  unwaiting place.Over at = refl
+  unwaiting _ at = refl
 
 module _ (limits : Limits) (t : Tables) (law : Lawful t) (now c : ℕ) (k : Consumer) (row : t.consumer c ≡ Some k) where
   module _ (ev : Event) (front : List Act) (is : IsFront c ev None front) (says : answer_acts t now ev NoFlaw ≡ front) where

@@ -1,7 +1,7 @@
 -- What each leave closes, and what goes with it: that of who ends, fails or is cancelled.
-use Rattle.std.{proofs.Common.{◌≡◌, inl, inr, ℕ, List, [], ◌∷◌, ◌++◌, Bool, true, false, Option, Some, None, refl, ap, sym, ◌∙◌}, specs.Prelude.{◌&&◌, ◌||◌, ◌==◌, not, nat_eq, if◌then◌else◌, map, option_map}}
+use Rattle.std.{proofs.{lemmas.Bool.Decides.{nat_tests}, Common.{arith, ◌≡◌, inl, inr, ℕ, List, [], ◌∷◌, ◌++◌, Bool, true, false, Option, Some, None, refl, ap, sym, ◌∙◌}}, specs.Prelude.{◌&&◌, ◌||◌, ◌==◌, not, nat_eq, if◌then◌else◌, map, option_map}}
 use Rattle.hc_text.proofs.Basics.{bool_cases, eqb-same, not_some as none_some, or_false as or_off, or_rest, plus_none, and_off as then_false}
-use Rattle.hc_effects.proofs.Vocabulary.{Opening, opening_in, asks_in, closes_in, evicts_in, leaves_in, shows_in, given_in, Act, Cause, Event, Limits, loses_in, misreads_in, showing_in, wait_in, accepted_acts, answer_acts, loss_acts, is_asked, closing, leaver_by, consumer_after, consumer_acted, consumer_heard, is_current, is_number, with_event, with_consumer, let_all_go, over, as_gone, as_over, left_by, is_unkeepable, going_with, Entry, exchange_after, is_open, Flaw, NoFlaw, Loses, Misreads, becomes_gone, ends_early, ends_founding, is_keepable, Lawful, is_failed_read, representation_after, Tables, Exchange, Representation, Consumer, loses_what_it_waits_for, after_accepted, with_item_first, starts_after, last_start_after, opened_after, openings_after}
+use Rattle.hc_effects.proofs.Vocabulary.{Opening, opening_in, asks_in, closes_in, evicts_in, leaves_in, shows_in, given_in, Act, Cause, Event, Limits, loses_in, misreads_in, showing_in, wait_in, accepted_acts, answer_acts, loss_acts, is_asked, closing, leaver_by, consumer_after, consumer_acted, consumer_heard, is_current, is_number, with_event, with_consumer, let_all_go, over, as_gone, as_over, left_by, is_unkeepable, going_with, Entry, exchange_after, is_open, Flaw, NoFlaw, becomes_gone, ends_early, ends_founding, is_keepable, Lawful, is_failed_read, representation_after, Tables, Exchange, Representation, Consumer, loses_what_it_waits_for, after_accepted, with_item_first, starts_after, last_start_after, opened_after, openings_after}
 use Rattle.hc_event.specs.declared.act.Act.TheVariants as act
 use Rattle.hc_event.specs.declared.act.Cause.TheVariants as cause
 use Rattle.hc_event.specs.declared.event.Event.TheVariants as event
@@ -37,13 +37,7 @@ record Fronts (c : ℕ) (ev : Event) (o : Option ℕ) (front rest : List Act) : 
   shows : showing_in (front ++ rest) ≡ showing_in rest
 
 not_misread : (why : Cause) (r : ℕ) (rest : List Act) → is_failed_read (Some why) ≡ false → misreads_in r rest ≡ false → misreads_in r (act.Failed 0 why ∷ rest) ≡ false
-not_misread (cause.StoreRead q) r rest told none = absurd (false_true (sym told))
-not_misread (cause.Net x) r rest told none = none
-not_misread (cause.Short x got promised) r rest told none = none
-not_misread (cause.Changed x) r rest told none = none
-not_misread (cause.StoreWrite q) r rest told none = none
-not_misread cause.Miss r rest told none = none
-not_misread (cause.BadHead x) r rest told none = none
+not_misread why r rest told none = grind (arith, nat_tests)
 
 fronts : (c : ℕ) (ev : Event) (o : Option ℕ) (front rest : List Act) → IsFront c ev o front → Fronts c ev o front rest
 fronts c _ _ _ rest (ends want) = record { asked = refl; far = λ d other far. record { waits = far.waits; leaves = rw other far.leaves; fails = far.fails; shows = far.shows; given = far.given; opens = far.opens; showing = far.showing }; closes = λ x. refl; asks = λ x. refl; loses = λ r. refl; evicts = λ r. refl; misreads = λ r none. none; opens = refl; shows = refl }
@@ -74,8 +68,7 @@ record IsSilent (c : ℕ) (acts : List Act) : Type 0 where
 
 silent : (c : ℕ) (xs : List ℕ) (flaw : Flaw) → IsSilent c (map act.Close xs ++ loss_acts flaw)
 silent c [] NoFlaw = record { opens = refl; showing = refl; waits = refl; leaves = refl; shows = refl; gives = refl }
-silent c [] (Loses q kind) = record { opens = refl; showing = refl; waits = refl; leaves = refl; shows = refl; gives = refl }
-silent c [] (Misreads q) = record { opens = refl; showing = refl; waits = refl; leaves = refl; shows = refl; gives = refl }
+silent c [] _ = record { opens = refl; showing = refl; waits = refl; leaves = refl; shows = refl; gives = refl }
 silent c (x ∷ xs) flaw = let s = silent c xs flaw in record { opens = s.opens; showing = s.showing; waits = s.waits; leaves = s.leaves; shows = s.shows; gives = s.gives }
 
 -- who leaves is over
@@ -165,20 +158,17 @@ module _ (limits : Limits) (t : Tables) (law : Lawful t) (now c : ℕ) (k : Cons
       founding (Some w) false closes on = rw ((nothing (front ++ rest)).goes_on r w, closes) (then_false w.is_open false refl)
 
       drop_true : (a b : Bool) → (a && true && b) ≡ (a && b)
-      drop_true true b = refl
-      drop_true false b = refl
+      drop_true a b = grind (arith, nat_tests)
 
       drop_false : (a b : Bool) → (a && false && b) ≡ false
-      drop_false true b = refl
-      drop_false false b = refl
+      drop_false a b = grind (arith, nat_tests)
 
       by_test : (b : Bool) → b ≡ is_number (if b then Some r else None) r
       by_test true = sym (eqb-same r)
       by_test false = refl
 
       other : (x : ℕ) (b : Bool) → nat_eq x r ≡ false → is_number (if b then Some x else None) r ≡ false
-      other x true apart = apart
-      other x false apart = refl
+      other x b apart = grind (arith, nat_tests)
 
       by_left : (z : Option ℕ) → left_by t c k ≡ z → (ends_early t e r v && not (is_keepable v)) ≡ is_number (going_with t z) r
       by_left None left =

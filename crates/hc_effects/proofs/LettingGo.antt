@@ -1,7 +1,7 @@
 -- What letting a representation go leaves: who is bound and who is live, and all that is current but what goes.
 use Rattle.std.{proofs.{Common.{◌≡◌, inl, inr, ℕ, List, [], ◌∷◌, ◌++◌, length, Bool, true, false, Option, Some, None, refl, ap, sym, ◌∙◌, subst, arith}, lemmas.Bool.Decides.{nat_tests}}, specs.Prelude.{nat_eq, option_map, is_some, filter, reverse, ◌&&◌, ◌||◌, not, ◌==◌, if◌then◌else◌}}
-use Rattle.hc_text.proofs.Basics.{not_some as none_some, some_inj}
-use Rattle.hc_effects.proofs.Vocabulary.{Place, back_in_line, idle_now, current, is_usable, is_number, live, back_from, as_gone, let_go, let_all_go, evict, unless_it, Lawful, WaitsOn, MayLetGo, AreOnce, Passed, bound, Tables, Representation, Consumer, Among, OneCurrent}
+use Rattle.hc_text.proofs.Basics.{mapped, not_some as none_some, some_inj}
+use Rattle.hc_effects.proofs.Vocabulary.{Place, back_in_line, idle_now, current, is_usable, is_number, live, back_from, as_gone, let_go, let_all_go, evict, unless_it, Lawful, WaitsOn, MayLetGo, AreOnce, bound, Tables, Representation, Consumer, Among, OneCurrent}
 use Rattle.hc_event.specs.declared.place.Place.TheVariants as place
 use Rattle.hc_model.specs.{Contents.{is_idle}, Effects.{waits_for}}
 use Rattle.hc_effects.proofs.{Basics.{same_functions, false_true}, CurrentKeeps.{find_only, usable, usable_row}, Evicting.{evicts_one}, IdleNow.{filter_both}, PieceKeeps.{eq_cases}, SameTables.{is_in}, Sums.{filter_once, reverse_once}}
@@ -41,11 +41,7 @@ module _ (now r : ℕ) (t : Tables) where
     pub off : nat_eq r q ≡ false
 
   still_by : (c q : ℕ) (kept : Option ℕ) (k w : Consumer) (b : Bool) → t.consumer c ≡ Some w → waits_for r w.place ≡ b → (if b then back_in_line now w else w) ≡ k → k.place ≡ place.Passed q kept → StillWaits c q k
-  still_by c q kept k w true row is same at = absurd (let never : place.Line ≡ place.Passed q kept = ap (λ (z : Consumer). z.place) same ∙ at in cc)
-  still_by c q kept k w false row is same at = record {
-    row = row ∙ ap Some same;
-    off = sym (ap (waits_for r) (ap (λ (z : Consumer). z.place) same ∙ at)) ∙ is;
-  }
+  still_by c q kept k w b row is same at = grind (arith, nat_tests)
 
   still_row : (c q : ℕ) (kept : Option ℕ) (k : Consumer) (z : Option Consumer) → t.consumer c ≡ z → option_map (back_from now r) z ≡ Some k → k.place ≡ place.Passed q kept → StillWaits c q k
   still_row c q kept k None row same at = absurd (none_some k same)
@@ -57,16 +53,8 @@ module _ (now r : ℕ) (t : Tables) where
   waits_on : (q : ℕ) (k : Consumer) → nat_eq r q ≡ false → WaitsOn t q k → WaitsOn (let_go now r t) q k
   waits_on q k off w = record { v = w.v; row = other_row q off ∙ w.row; key_is = w.key_is; not_gone = w.not_gone; queues = w.queues }
 
-  mapped : {A : Type 0} (f : A → A) (o : Option A) → is_some (option_map f o) ≡ is_some o
-  mapped f None = refl
-  mapped f (Some a) = refl
-
   there : (q : ℕ) → is_some ((let_go now r t).representation q) ≡ is_some (t.representation q)
-  there q = by_test (r == q)
-    where
-      by_test : (b : Bool) → is_some (if b then option_map as_gone (t.representation q) else t.representation q) ≡ is_some (t.representation q)
-      by_test true = mapped as_gone (t.representation q)
-      by_test false = refl
+  there q = grind (arith, nat_tests)
 
   -- and so others may be let go then
   pub keeps_may : MayLetGo t → MayLetGo (let_go now r t)
@@ -102,12 +90,7 @@ module _ (t : Tables) (may : MayLetGo t) where
               let same : r ≡ q = grind (arith, nat_tests) in
               let w = may.waits d q kept k row at in
               absurd (false_true (sym w.not_gone ∙ is_gone w.v (ap t.representation same ∙ w.row)))
-      by_place d k place.Line row at = rw at refl
-      by_place d k (place.Turn x) row at = rw at refl
-      by_place d k (place.Bound q lo hi how) row at = rw at refl
-      by_place d k (place.Direct x) row at = rw at refl
-      by_place d k (place.Down why) row at = rw at refl
-      by_place d k place.Over row at = rw at refl
+      by_place d k _ row at = rw at refl
 
       by_consumer : (d : ℕ) (z : Option Consumer) → t.consumer d ≡ z → option_map (back_from now r) z ≡ z
       by_consumer d None row = refl
@@ -140,30 +123,10 @@ none_out r (x ∷ xs) out = elim (eq_cases r x) [
 
 module _ (now r : ℕ) (t : Tables) (may : MayLetGo t) where
   pub number_same : (o : Option ℕ) (q : ℕ) → is_number (unless_it r o) q ≡ (is_number o q && not (r == q))
-  number_same None q = refl
-  number_same (Some m) q = elim (eq_cases m r) [
-    | inl here ↦ rw here.0 (elim (eq_cases m q) [
-      | inl same ↦ let on : nat_eq r q ≡ true = (let e = here.1 in let f = same.1 in grind (arith, nat_tests)) in rw (same.0, on) refl
-      | inr other ↦ rw other.0 refl
-    ])
-    | inr off ↦ rw off.0 (elim (eq_cases m q) [
-      | inl same ↦ let no : nat_eq r q ≡ false = (let e = off.0 in let f = same.1 in grind (arith, nat_tests)) in rw (same.0, no) refl
-      | inr other ↦ rw other.0 refl
-    ])
-  ]
+  number_same o q = grind (arith, nat_tests)
 
   by_number : (a b c : Bool) → ((a && not c) && b) ≡ ((a && b) && not c)
-  by_number true true c = one (not c)
-    where
-      one : (b : Bool) → (b && true) ≡ b
-      one true = refl
-      one false = refl
-  by_number true false c = one (not c)
-    where
-      one : (b : Bool) → (b && false) ≡ false
-      one true = refl
-      one false = refl
-  by_number false b c = refl
+  by_number a b c = grind (arith, nat_tests)
 
   idle_row : (q : ℕ) (z : Option Representation) → is_idle (let_go now r t) q (if r == q then option_map as_gone z else z) ≡ (is_idle t q z && not (r == q))
   idle_row q None = by_test (r == q)
@@ -207,17 +170,14 @@ pub current_all : (now : ℕ) (rs : List ℕ) (t : Tables) → MayLetGo t → (k
 current_all now [] t may key q = by_test (is_number (current t key) q)
   where
     by_test : (b : Bool) → b ≡ (b && true)
-    by_test true = refl
-    by_test false = refl
+    by_test b = grind (arith, nat_tests)
 current_all now (r ∷ rs) t may key q =
     current_all now rs (let_go now r t) (keeps_may now r t may) key q
     ∙ (ap (λ o. is_number o q && not (is_in rs q)) (current_let_go now r t may.one_current key)
     ∙ (ap (λ b. b && not (is_in rs q)) (number_same now r t may (current t key) q) ∙ by_tests (is_number (current t key) q) (r == q) (is_in rs q)))
   where
     by_tests : (a b d : Bool) → ((a && not b) && not d) ≡ (a && not (b || d))
-    by_tests false b d = refl
-    by_tests true true d = refl
-    by_tests true false d = refl
+    by_tests a b d = grind (arith, nat_tests)
 
 -- it is so in every run
 pub may_let_go : (t : Tables) → Lawful t → MayLetGo t

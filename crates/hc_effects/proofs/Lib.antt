@@ -33,6 +33,7 @@ pub mod KeyRows
 pub mod KeysKeep
 pub mod BoundFrom
 pub mod PlanBy
+pub mod MoveWords
 pub mod MoveBy
 pub mod Said
 pub mod ShownFrom
@@ -102,6 +103,7 @@ pub mod WritingStops
 pub mod WriterEnds
 pub mod ServedKeeps
 pub mod OfEntries
+pub mod StaysOn
 pub mod BoundStays
 pub mod HadKeeps
 pub mod Survives

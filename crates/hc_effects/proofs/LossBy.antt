@@ -1,10 +1,10 @@
 -- What is lost by an entry of a run: what its head or piece writes, or what is sealed since an exchange of its family ends without a piece.
-use Rattle.std.{proofs.{Common.{◌≡◌, ◌⊎◌, inl, inr, ℕ, true, false, Option, Some, None, refl, ap, sym, ◌∙◌, arith}, lemmas.Bool.Decides.{nat_tests}}, specs.Prelude.{is_some, ◌==◌, ◌||◌, nat_eq, unwrap_or}}
-use Rattle.hc_text.proofs.Basics.{and_left, and_right, not_some as none_some, not_true, or_cases, same_some as same_row, some_inj}
-use Rattle.hc_effects.proofs.Vocabulary.{closes_in, is_denied, LostKind, Event, Limits, loses_in, without_losses, loss_acts, answer_acts, accepted_acts, closing, is_number, denial, Entry, exchange_heard, family, Flaw, NoFlaw, Loses, Misreads, flaw_in, entry_of, Measures, Owners, Tables, Exchange, Representation, may_stand, may_be, is_kept, Sound, IsAbout, evicted, brings_body, written_representation, written_in, lossless, seals_at, sealed_by, is_sealed, stops}
+use Rattle.std.{proofs.{Common.{◌≡◌, ◌⊎◌, inl, inr, ℕ, true, false, Option, Some, None, refl, ap, sym, ◌∙◌, arith}, lemmas.Bool.Decides.{nat_tests}}, specs.Prelude.{is_some, ◌||◌}}
+use Rattle.hc_text.proofs.Basics.{eq_is, and_left, and_right, not_some as none_some, not_true, or_cases, same_some as same_row, some_inj}
+use Rattle.hc_effects.proofs.Vocabulary.{closes_in, is_denied, LostKind, Event, Limits, loses_in, without_losses, loss_acts, answer_acts, accepted_acts, closing, is_number, denial, Entry, exchange_heard, family, Flaw, Loses, flaw_in, entry_of, Measures, Owners, Tables, Exchange, Representation, may_stand, may_be, is_kept, Sound, IsAbout, evicted, brings_body, written_representation, written_in, lossless, seals_at, sealed_by, is_sealed, stops}
 use Rattle.hc_event.specs.declared.event.Event.TheVariants as event
 use Rattle.hc_model.specs.Sound as sound
-use Rattle.hc_effects.proofs.{ActParts.{said_is, said_closes, loses_evicted, loses_closed, loses_before}, Basics.{false_true, number_is}, Closed.{before}, KeyActs.{found_some, closes_lossless, test_some}, MeasuresKeep.{ender}, PieceKeeps.{eq_cases}, Unclosed.{had_open}, Waiters.{fault_open_of}}
+use Rattle.hc_effects.proofs.{ActParts.{said_is, said_closes, loses_evicted, loses_closed, loses_before}, Basics.{false_true, number_is}, Closed.{before}, KeyActs.{found_some, closes_lossless, test_some}, MeasuresKeep.{ender}, Unclosed.{had_open}, Waiters.{fault_open_of}}
 
 -- the flaw of what is lost
 pub record IsLoss (r : ℕ) (flaw : Flaw) : Type 0 where
@@ -12,12 +12,7 @@ pub record IsLoss (r : ℕ) (flaw : Flaw) : Type 0 where
   pub is : flaw ≡ Loses r kind
 
 loss_of : (r : ℕ) (flaw : Flaw) → loses_in r (loss_acts flaw) ≡ true → IsLoss r flaw
-loss_of r NoFlaw h = absurd (false_true h)
-loss_of r (Misreads q) h = absurd (false_true h)
-loss_of r (Loses q kind) h = elim (or_cases (q == r) false h) [
-  | inl here ↦ let test : nat_eq q r ≡ true = here in let same : q ≡ r = grind (arith, nat_tests) in record { kind = kind; is = ap (λ n. Loses n kind) same }
-  | inr other ↦ absurd (false_true other)
-]
+loss_of r flaw h = grind (arith, nat_tests)
 
 -- what holds of an entry of a run
 pub record IsReal (limits : Limits) (t : Tables) (now : ℕ) (ev : Event) (flaw : Flaw) : Type 0 where
@@ -33,14 +28,9 @@ module _ (limits : Limits) (t : Tables) (now : ℕ) (flaw : Flaw) (s : Sound t) 
   b = before limits t now flaw s ev
 
   pub loses_flaw : (r : ℕ) (v : Event) → loses_in r (accepted_acts limits t now v flaw) ≡ loses_in r (loss_acts flaw)
-  loses_flaw r (event.Start c request) = loses_evicted r (evicted limits t now (event.Start c request)) _ ∙ loses_before r flaw _
   loses_flaw r (event.Poll c want) = (said_closes 0 r t now (event.Poll c want) flaw (answer_acts t now (event.Poll c want) flaw) _ (said_is t now (event.Poll c want) flaw)).loses ∙ loses_closed r (closing t (before limits t now flaw s (event.Poll c want))) (loss_acts flaw)
-  loses_flaw r (event.Head x response) = loses_evicted r (evicted limits t now (event.Head x response)) _ ∙ loses_before r flaw _
-  loses_flaw r (event.Piece x bytes) = loses_evicted r (evicted limits t now (event.Piece x bytes)) _ ∙ loses_before r flaw _
-  loses_flaw r (event.End x) = loses_evicted r (evicted limits t now (event.End x)) _ ∙ loses_before r flaw _
-  loses_flaw r (event.Fault x) = loses_evicted r (evicted limits t now (event.Fault x)) _ ∙ loses_before r flaw _
   loses_flaw r (event.Cancel c) = loses_closed r (closing t (before limits t now flaw s (event.Cancel c))) (loss_acts flaw)
-  loses_flaw r (event.Doom key) = loses_evicted r (evicted limits t now (event.Doom key)) _ ∙ loses_before r flaw _
+  loses_flaw r ev = loses_evicted r (evicted limits t now ev) _ ∙ loses_before r flaw _
 
   -- what is lost is what is written, and wasn't lost
   pub record IsWritten (r : ℕ) : Type 0 where
@@ -74,17 +64,7 @@ module _ (limits : Limits) (t : Tables) (now : ℕ) (flaw : Flaw) (s : Sound t) 
     pub ends : (stops y ev ≡ true) ⊎ (closes_in y e.acts ≡ true)
 
   heard_was : (y : ℕ) (v : Event) (w : Exchange) → (exchange_heard t b y v w).is_open ≡ true → w.is_open ≡ true
-  heard_was y (event.Start c request) w on = on
-  heard_was y (event.Poll c want) w on = on
-  heard_was y (event.Head x response) w on = elim (eq_cases x y) [ inl here ↦ and_right _ _ (rw here.0 at on) | inr off ↦ rw off.0 at on ]
-  heard_was y (event.Piece x bytes) w on = elim (eq_cases x y) [ inl here ↦ and_right _ _ (rw here.0 at on) | inr off ↦ rw off.0 at on ]
-  heard_was y (event.End x) w on = elim (eq_cases x y) [ inl here ↦ absurd (false_true (rw here.0 at on)) | inr off ↦ rw off.0 at on ]
-  heard_was y (event.Fault x) w on = elim (eq_cases x y) [ inl here ↦ absurd (false_true (rw here.0 at on)) | inr off ↦ rw off.0 at on ]
-  heard_was y (event.Cancel c) w on = on
-  heard_was y (event.Doom key) w on = on
-
-  eq_is : (a c : ℕ) → (a == c) ≡ true → a ≡ c
-  eq_is a c h = let test : nat_eq a c ≡ true = h in grind (arith, nat_tests)
+  heard_was y v w on = grind (arith, nat_tests)
 
   stop_open : (y : ℕ) (v : Event) (w : Exchange) → ev ≡ v → stops y v ≡ true → t.exchange y ≡ Some w → w.is_open ≡ true
   stop_open y (event.End x) w here h row =
@@ -94,23 +74,11 @@ module _ (limits : Limits) (t : Tables) (now : ℕ) (flaw : Flaw) (s : Sound t) 
   stop_open y (event.Fault x) w here h row =
       let same : x ≡ y = eq_is x y h in
       fault_open_of limits t now flaw s o ev goes y w (sym (ap (denial t) (here ∙ ap event.Fault same)) ∙ goes) row
-  stop_open y (event.Start c request) w here h row = absurd (false_true h)
-  stop_open y (event.Poll c want) w here h row = absurd (false_true h)
-  stop_open y (event.Head x response) w here h row = absurd (false_true h)
-  stop_open y (event.Piece x bytes) w here h row = absurd (false_true h)
-  stop_open y (event.Cancel c) w here h row = absurd (false_true h)
-  stop_open y (event.Doom key) w here h row = absurd (false_true h)
-
-  none_not : {A : Type 0} (q : Option A) → (q ≡ None → ⊥) → is_some q ≡ true
-  none_not None off = absurd (off refl)
-  none_not (Some a) off = refl
+  stop_open y _ w here h row = absurd (false_true h)
 
   -- it has its head, since what has none founded nothing
   head_there : (r y : ℕ) (w : Exchange) (v : Representation) → t.exchange y ≡ Some w → t.representation r ≡ Some v → family y w ≡ r → is_some w.head ≡ true
-  head_there r y w v row there of_r = none_not w.head (λ bare.
-      let own : family y w ≡ y = ap (λ (n : Option ℕ). unwrap_or n y) (s.waits.headless y w row bare).1 in
-      let none : t.representation r ≡ None = ap t.representation (sym of_r ∙ own) ∙ s.numbered.names.unfounded y w row bare in
-      none_some v (sym none ∙ there))
+  head_there r y w v row there of_r = grind (arith, nat_tests)
 
   sealing_row : (r y : ℕ) (v : Representation) (z : Option Exchange) → t.representation r ≡ Some v → t.exchange y ≡ z → sealed_by t (lossless e) y z ≡ Some r → (stops y ev ≡ true) ⊎ (closes_in y e.acts ≡ true) → IsSealing r
   sealing_row r y v None there row h ends = absurd (none_some r h)
@@ -135,12 +103,7 @@ module _ (limits : Limits) (t : Tables) (now : ℕ) (flaw : Flaw) (s : Sound t) 
   written_by : (r : ℕ) (v : Representation) (z : Event) → t.representation r ≡ Some v → brings_body z ≡ false → written_in t (lossless e) z ≡ Some r → IsSealing r
   written_by r v (event.Head x response) there off h = absurd (let no : true ≡ false = off in cc)
   written_by r v (event.Piece x bytes) there off h = absurd (let no : true ≡ false = off in cc)
-  written_by r v (event.Start c request) there off h = let got = found_some (seals_at t (lossless e)) t.openings r h in sealing r got.0 v there got.1
-  written_by r v (event.Poll c want) there off h = let got = found_some (seals_at t (lossless e)) t.openings r h in sealing r got.0 v there got.1
-  written_by r v (event.End x) there off h = let got = found_some (seals_at t (lossless e)) t.openings r h in sealing r got.0 v there got.1
-  written_by r v (event.Fault x) there off h = let got = found_some (seals_at t (lossless e)) t.openings r h in sealing r got.0 v there got.1
-  written_by r v (event.Cancel c) there off h = let got = found_some (seals_at t (lossless e)) t.openings r h in sealing r got.0 v there got.1
-  written_by r v (event.Doom key) there off h = let got = found_some (seals_at t (lossless e)) t.openings r h in sealing r got.0 v there got.1
+  written_by r v _ there off h = let got = found_some (seals_at t (lossless e)) t.openings r h in sealing r got.0 v there got.1
 
   -- What is lost by another event than a head or a piece is sealed by it.
   pub sealed_loss : (r : ℕ) (v : Representation) → t.representation r ≡ Some v → loses_in r e.acts ≡ true → brings_body ev ≡ false → IsSealing r

@@ -1,7 +1,7 @@
 -- At a head that joins, only what it joins can be lost.
 use Rattle.std.{proofs.{Common.{◌≡◌, inl, inr, ℕ, List, [], ◌∷◌, ◌++◌, Bool, true, false, Option, Some, None, refl, ap, sym, ◌∙◌, arith}, lemmas.Bool.Decides.{nat_tests}}, specs.Prelude.{if◌then◌else◌, map, nat_eq, ◌||◌}}
 use Rattle.hc_text.proofs.Basics.{and_left, or_cases}
-use Rattle.hc_effects.proofs.Vocabulary.{is_denied, Event, Response, LostKind, HeadCase, HeadView, Limits, head_case, route_of, has_loss, loses_in, loss_acts, case_at, head_view, is_founding, is_joining, closing, is_number, Entry, Flaw, NoFlaw, Loses, Misreads, flaw_in, entry_of, Tables, Exchange, may_stand, may_be, Sound, evicted, written_representation, head_writes, may_validate, lossless}
+use Rattle.hc_effects.proofs.Vocabulary.{is_denied, Event, Response, LostKind, HeadCase, HeadView, Limits, head_case, route_of, has_loss, loses_in, loss_acts, case_at, head_view, is_founding, is_joining, closing, is_number, Entry, Flaw, Loses, flaw_in, entry_of, Tables, Exchange, may_stand, may_be, Sound, evicted, written_representation, head_writes, may_validate, lossless}
 use Rattle.hc_event.specs.declared.event.Event.TheVariants as event
 use Rattle.hc_event.specs.declared.act.Act.TheVariants as act
 use Rattle.hc_rules.specs.declared.heads.HeadCase.TheVariants as case
@@ -23,22 +23,7 @@ later_again v way shown joins good = rw (way, shown, good, joins) refl
 pub joins_again : (t : Tables) (a b : Bool) (w : Exchange) (response : Response) (c : HeadCase) → CaseBy (head_view t a w response) c → is_joining (Some c) ≡ true → is_joining (Some (head_case (head_view t b w response))) ≡ true
 joins_again t a b w response _ (cases.first_joins way shown joins good) on = ap (λ g. is_joining (Some g)) (first_again (head_view t b w response) way shown joins good)
 joins_again t a b w response _ (cases.later_joins way shown joins good) on = ap (λ g. is_joining (Some g)) (later_again (head_view t b w response) way shown joins good)
-joins_again t a b w response _ (cases.direct_bad way h) on = absurd (false_true on)
-joins_again t a b w response _ (cases.direct_taken way) on = absurd (false_true on)
-joins_again t a b w response _ (cases.turn_bad way h) on = absurd (false_true on)
-joins_again t a b w response _ (cases.validated way h d l) on = absurd (false_true on)
-joins_again t a b w response _ (cases.not_validated way h) on = absurd (false_true on)
-joins_again t a b w response _ (cases.turn_server_error way) on = absurd (false_true on)
-joins_again t a b w response _ (cases.founds_whole way h l g) on = absurd (false_true on)
-joins_again t a b w response _ (cases.founds_range way h f l g) on = absurd (false_true on)
-joins_again t a b w response _ (cases.passes_by way) on = absurd (false_true on)
-joins_again t a b w response _ (cases.first_bad way shown h) on = absurd (false_true on)
-joins_again t a b w response _ (cases.first_server_error way shown) on = absurd (false_true on)
-joins_again t a b w response _ (cases.first_changed way shown) on = absurd (false_true on)
-joins_again t a b w response _ (cases.first_replaced way shown h l g) on = absurd (false_true on)
-joins_again t a b w response _ (cases.first_passes_by way shown) on = absurd (false_true on)
-joins_again t a b w response _ (cases.later_bad way shown h) on = absurd (false_true on)
-joins_again t a b w response _ (cases.later_changed way shown) on = absurd (false_true on)
+joins_again t a b w response _ _ on = absurd (false_true on)
 
 -- THE ACTS
 
@@ -59,24 +44,7 @@ is_joined f j true x aim off on = rw off refl
 is_joined f j false x aim off on = rw (off, on) refl
 
 pub not_founding : (c : HeadCase) → is_joining (Some c) ≡ true → is_founding (Some c) ≡ false
-not_founding case.FirstJoins on = refl
-not_founding case.LaterJoins on = refl
-not_founding case.DirectBad on = refl
-not_founding case.DirectTaken on = refl
-not_founding case.TurnBad on = refl
-not_founding case.Validated on = refl
-not_founding case.NotValidated on = refl
-not_founding case.TurnServerError on = refl
-not_founding case.FoundsWhole on = absurd (false_true on)
-not_founding case.FoundsRange on = absurd (false_true on)
-not_founding case.PassesBy on = refl
-not_founding case.FirstBad on = refl
-not_founding case.FirstServerError on = refl
-not_founding case.FirstChanged on = refl
-not_founding case.FirstReplaced on = absurd (false_true on)
-not_founding case.FirstPassesBy on = refl
-not_founding case.LaterBad on = refl
-not_founding case.LaterChanged on = refl
+not_founding c on = grind (arith, nat_tests)
 
 module _ (limits : Limits) (t : Tables) (now : ℕ) (flaw : Flaw) (s : Sound t) (x : ℕ) (response : Response) where
   abbrev ev : Event
@@ -105,8 +73,6 @@ module _ (limits : Limits) (t : Tables) (now : ℕ) (flaw : Flaw) (s : Sound t) 
 
     by_flaw : (f : Flaw) → flaw ≡ f → has_loss (loss_acts f) ≡ false
     unfolding may_stand
-    by_flaw NoFlaw is = refl
-    by_flaw (Misreads q) is = refl
     by_flaw (Loses q kind) is =
         let xs = closing t (before limits t now flaw s ev) in
         let rs = evicted limits t now ev in
@@ -122,6 +88,7 @@ module _ (limits : Limits) (t : Tables) (now : ℕ) (flaw : Flaw) (s : Sound t) 
               let loses : loses_in r e.acts ≡ true = sym (ap (λ n. loses_in n e.acts) same) ∙ (ap (loses_in q) acts_are ∙ loses_it q kind xs rs) in
               absurd (false_true (sym kept ∙ loses))
         ]
+    by_flaw _ is = refl
 
     -- nothing is lost, where what it joins isn't
     pub no_loss : has_loss e.acts ≡ false

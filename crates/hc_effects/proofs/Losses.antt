@@ -1,6 +1,6 @@
 -- Who goes on when a representation is lost: whoever may go on writing does, and the others have all they need.
-use Rattle.std.{proofs.{Common.{◌≡◌, ◌≢◌, ◌⊎◌, inl, inr, ℕ, List, [], ◌∷◌, Bool, true, false, Option, Some, None, refl, ap, sym, ◌∙◌, subst, arith, min}, lemmas.Bool.Decides.{nat_tests}}, specs.{Prelude.{is_some, is_none, not, ◌&&◌, ◌||◌, filter, map}, Option.{option_or}}}
-use Rattle.hc_text.proofs.Basics.{bool_cases, or_off_right as or_right, same_some as same_row}
+use Rattle.std.{proofs.{Common.{◌≡◌, ◌≢◌, ◌⊎◌, inl, inr, ℕ, List, [], ◌∷◌, Bool, true, false, Option, Some, None, refl, ap, sym, ◌∙◌, subst, arith}, lemmas.Bool.Decides.{nat_tests}}, specs.{Prelude.{is_some, is_none, ◌&&◌, filter, map}, Option.{option_or}}}
+use Rattle.hc_text.proofs.Basics.{all_three, not_false, bool_cases, or_off_right as or_right, same_some as same_row}
 use Rattle.hc_sparse.specs.Cells.{Covers}
 use Rattle.hc_effects.proofs.Vocabulary.{covers, is_written, bound, is_bound_place, is_bound, offset, hi_of, Tables, Representation, Consumer, Sound, Among, IsBound, IsFirst, IsExclusiveWriter, may_write, bound_kind, bound_as, exclusive, came_alone, has_more, lacks_some, Place, least, lesser, is_of, is_same_kind}
 use Rattle.hc_rules.specs.Admissions.{numbers}
@@ -17,9 +17,7 @@ AllAre c [] = Unit {0}
 AllAre c (d ∷ ds) = (d ≡ c) × AllAre c ds
 
 lesser_same : (c d : ℕ) (o : Option ℕ) → d ≡ c → (o ≡ None) ⊎ (o ≡ Some c) → lesser o d ≡ Some c
-lesser_same c d None same h = ap Some same
-lesser_same c d (Some a) same (inl h) = absurd (let never : Some a ≡ None = h in cc)
-lesser_same c d (Some a) same (inr h) = let one : a ≡ c = cc in let m : min a d ≡ c = omega arith in ap Some m
+lesser_same c d o same h = grind (arith, nat_tests)
 
 least_all : (c : ℕ) (cs : List ℕ) → AllAre c cs → (least cs ≡ None) ⊎ (least cs ≡ Some c)
 least_all c [] all = inl refl
@@ -70,26 +68,17 @@ may_alone : (t : Tables) (v : Representation) (c : ℕ) → is_written t v ≡ f
 may_alone t v c off may = rw (off, may) refl
 
 alone_may : (t : Tables) (v : Representation) (c : ℕ) → is_written t v ≡ false → writes_alone t v c ≡ true → may_write t v (t.consumer c) ≡ true
-alone_may t v c off alone = elim (bool_cases (may_write t v (t.consumer c))) [
-  | inl may ↦ may
-  | inr may_not ↦ absurd (let never : false ≡ true = rw (off, may_not) at alone in cc)
-]
+alone_may t v c off alone = grind (arith, nat_tests)
 
 -- EXCLUSIVE WRITERS
 
 -- an exclusive writer is a first one
 first_by : (t : Tables) (r d : ℕ) (v : Representation) (k : Consumer) (place : Place) → t.consumer d ≡ Some k → k.place ≡ place → is_bound_place r place ≡ true → came_alone t place ≡ true → IsFirst t r d
-first_by t r d v k place.Line row at bound alone = absurd (let never : false ≡ true = bound in cc)
-first_by t r d v k (place.Passed q kept) row at bound alone = absurd (let never : false ≡ true = bound in cc)
-first_by t r d v k (place.Turn x) row at bound alone = absurd (let never : false ≡ true = bound in cc)
 first_by t r d v k (place.Bound q lo hi how) row at bound alone = let same : q ≡ r = grind (arith, nat_tests) in sound.first k lo hi how row (at ∙ ap (λ (z : ℕ). place.Bound z lo hi how) same) (subst (λ (z : ℕ). came_alone t (place.Bound z lo hi how) ≡ true) same alone)
-first_by t r d v k (place.Direct x) row at bound alone = absurd (let never : false ≡ true = bound in cc)
-first_by t r d v k (place.Down cause) row at bound alone = absurd (let never : false ≡ true = bound in cc)
-first_by t r d v k place.Over row at bound alone = absurd (let never : false ≡ true = bound in cc)
+first_by t r d v k _ row at bound alone = absurd (let never : false ≡ true = bound in cc)
 
 and3 : (a b c : Bool) → (a && b && c) ≡ true → a ≡ true
-and3 true b c h = refl
-and3 false b c h = absurd (let never : false ≡ true = h in cc)
+and3 a b c h = grind (arith, nat_tests)
 
 first_of : (t : Tables) (r d : ℕ) (v : Representation) (o : Option Consumer) → t.consumer d ≡ o → is_bound r o ≡ true → may_write t v o ≡ true → IsFirst t r d
 first_of t r d v None row bound alone = absurd (let never : false ≡ true = bound in cc)
@@ -121,14 +110,9 @@ pub record HasRest (t : Tables) (v : Representation) (k : Consumer) : Type 0 whe
 pub no_more : (t : Tables) (v : Representation) (k : Consumer) (o : Option ℕ) → hi_of t k.place ≡ o → is_some o ≡ true → lacks_some v (offset t k) o ≡ false → HasRest t v k
 no_more t v k None is some none = absurd (let never : false ≡ true = some in cc)
 no_more t v k (Some hi) is some none = record { hi = hi; end = is; covered = covers_all v.stored v.reach (offset t k) hi (not_false (covers v.stored v.reach (offset t k) hi) none) }
-  where
-    not_false : (b : Bool) → not b ≡ false → b ≡ true
-    not_false true h = refl
-    not_false false h = absurd (let never : true ≡ false = h in cc)
 
 pub or_end : (hi o : Option ℕ) → is_some hi ≡ true → is_some (option_or hi o) ≡ true
-or_end None o some = absurd (let never : false ≡ true = some in cc)
-or_end (Some n) o some = refl
+or_end hi o some = grind (arith, nat_tests)
 
 by_first : (t : Tables) (r c : ℕ) (v : Representation) (k : Consumer) → Sound t → IsBound t r c k → k.due ≡ None → is_written t v ≡ false → IsFirst t r c → (exclusive t r v ≡ Some c) ⊎ HasRest t v k
 by_first t r c v k s reader none_due unwritten (sound.first u lo hi how row at alone) =
@@ -141,12 +125,6 @@ by_first t r c v k s reader none_due unwritten (sound.first u lo hi how row at a
           let known : is_some (hi_of t k.place) ≡ true = ap (λ p. is_some (hi_of t p)) place ∙ or_end hi _ (s.writes.known_end r c lo hi how k (row_of t r c k reader) place alone) in
           inr (no_more t v k (hi_of t k.place) refl known (or_right _ (lacks_some v (offset t k) (hi_of t k.place)) none))
     ]
-  where
-    all_three : (a b c : Bool) → a ≡ true → b ≡ true → c ≡ true → (a && b && c) ≡ true
-    all_three true true true p q r = refl
-    all_three true true false p q r = absurd (let never : false ≡ true = r in cc)
-    all_three true false c p q r = absurd (let never : false ≡ true = q in cc)
-    all_three false b c p q r = absurd (let never : false ≡ true = p in cc)
 
 -- Where no writing is shared, a bound consumer without a due failure is the one that goes on, or needs nothing more.
 pub goes_on_or_rests : (t : Tables) (r c : ℕ) (v : Representation) (k : Consumer) → Sound t → t.representation r ≡ Some v → IsBound t r c k → k.due ≡ None → is_written t v ≡ false → v.is_lost ≡ false → (exclusive t r v ≡ Some c) ⊎ HasRest t v k

@@ -1,7 +1,7 @@
 -- What it comes to that a shared writing is lost: one of those who read it goes on, to the others a failure is due, and where nobody
 -- goes on its exchange is closed.
-use Rattle.std.{proofs.Common.{◌≡◌, inl, inr, ℕ, Bool, true, false, Option, Some, None, refl, ap, sym, ◌∙◌}, specs.{Prelude.{◌&&◌, not, nat_eq, if◌then◌else◌, is_none, is_some, unwrap_or}, Option.{option_or}}}
-use Rattle.hc_text.proofs.Basics.{and_right, eqb-same, not_some as none_some, or_none as or_nothing, same_some as same_row, some_inj}
+use Rattle.std.{proofs.{lemmas.Bool.Decides.{nat_tests}, Common.{arith, ◌≡◌, inl, inr, ℕ, Bool, true, false, Option, Some, None, refl, ap, sym, ◌∙◌}}, specs.{Prelude.{nat_eq, if◌then◌else◌, is_none, is_some}, Option.{option_or}}}
+use Rattle.hc_text.proofs.Basics.{and_right, eqb-same, or_none as or_nothing, same_some as same_row, some_inj}
 use Rattle.hc_effects.proofs.Vocabulary.{Cause, BoundBy, fails_in, has_no_survivor, consumer_after, consumer_acted, consumer_settled, own_after, is_number, doomed_key_of, left_with, Entry, family, is_open, becomes_due, Lawful, is_written, reads, Tables, Exchange, Representation, Consumer, starts_over, loses_writing, survivor, goes_on_with}
 use Rattle.hc_event.specs.declared.act.Cause.TheVariants as cause
 use Rattle.hc_event.specs.declared.place.Place.TheVariants as place
@@ -44,11 +44,7 @@ module _ (t : Tables) (e : Entry) (law : Lawful t) (r : ℕ) (v : Representation
 
     due_as : becomes_due t e d k ≡ (if is_number (survivor t r v) d then None else Some (cause.StoreWrite r))
     unfolding becomes_due
-    due_as = rw (apart.stops, at, there, losing, apart.heads) (by_test (is_number (survivor t r v) d))
-      where
-        by_test : (b : Bool) → option_or None (option_or (if true && not b then Some (cause.StoreWrite r) else None) None) ≡ (if b then None else Some (cause.StoreWrite r))
-        by_test true = refl
-        by_test false = refl
+    due_as = grind (arith, nat_tests)
 
     stays : starts_over t e d k ≡ false
     stays = starts_as t e d k fails apart.sends ∙ rw (doomless, at) refl
@@ -75,8 +71,7 @@ module _ (t : Tables) (e : Entry) (law : Lawful t) (r : ℕ) (v : Representation
   writer_now = writer_of t law r v there written_now
 
   named : (b : Bool) (y : ℕ) → (if b then v.writer else None) ≡ Some y → v.writer ≡ Some y
-  named true y at = at
-  named false y at = absurd (none_some y at)
+  named b y at = grind (arith, nat_tests)
 
   -- is that of the writing
   pub closed_is : (y : ℕ) → closed_with ≡ Some y → writer_now.y ≡ y
@@ -87,9 +82,7 @@ module _ (t : Tables) (e : Entry) (law : Lawful t) (r : ℕ) (v : Representation
 
   -- and no other representation has its number
   pub closed_apart : (y : ℕ) (u : Representation) → closed_with ≡ Some y → t.representation y ≡ Some u → r ≡ y
-  closed_apart y u at here =
-      let alone : writer_now.w.joined ≡ None = law.owned.founders y writer_now.w u (closed_row y at) here in
-      sym writer_now.of_r ∙ (ap (λ (o : Option ℕ). unwrap_or o writer_now.y) alone ∙ closed_is y at)
+  closed_apart y u at here = grind (arith, nat_tests)
 
   module _ (only : (q : ℕ) (u : Representation) → nat_eq r q ≡ false → t.representation q ≡ Some u → loses_writing t e q u ≡ false) where
     -- just the exchange of the writing closes by that, where nobody goes on
@@ -111,16 +104,5 @@ module _ (t : Tables) (e : Entry) (law : Lawful t) (r : ℕ) (v : Representation
         apart_by true other = ap (λ o. is_number o y) writer_now.writer ∙ other
         apart_by false other = refl
 
-        off_second : (a b : Bool) → (a && false && b) ≡ false
-        off_second true b = refl
-        off_second false b = refl
-
         by_row : nat_eq writer_now.y y ≡ false → (o : Option Representation) → t.representation (family y u) ≡ o → has_no_survivor t e y (family y u) o ≡ false
-        by_row other None is = refl
-        by_row other (Some z) is = elim (eq_cases r (family y u)) [
-          | inl same ↦
-              let one : z ≡ v = same_row (t.representation r) z v (ap t.representation same.1 ∙ is) there in
-              let theirs : is_number z.writer y ≡ false = ap (λ (q : Representation). is_number q.writer y) one ∙ (ap (λ o. is_number o y) writer_now.writer ∙ other) in
-              rw theirs refl
-          | inr apart ↦ rw (only (family y u) z apart.0 is) (off_second (is_number z.writer y) (is_none (survivor t (family y u) z)))
-        ]
+        by_row other o is = grind (arith, nat_tests)

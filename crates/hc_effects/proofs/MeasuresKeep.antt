@@ -1,17 +1,16 @@
 -- An open exchange brings no more of a body than there is to come, and what came ends at its reach, within its length.
-use Rattle.std.{proofs.{Common.{◌≡◌, ◌⊎◌, inl, inr, ℕ, ◌+◌, ◌<◌, ◌≤◌, List, [], length, Bool, true, false, Option, Some, None, refl, ap, sym, ◌∙◌, subst, arith, max, length-append}, lemmas.Bool.Decides.{nat_tests}}, specs.{Prelude.{if◌then◌else◌, is_some, nat_eq, nat_lt, unwrap_or}, Option.{option_or}}}
-use Rattle.hc_text.proofs.Basics.{and_right, bool_cases, not_some as none_some, number_not, same_some as same_row, some_inj}
+use Rattle.std.{proofs.{Common.{◌≡◌, ◌⊎◌, inl, inr, ℕ, ◌+◌, ◌<◌, ◌≤◌, List, [], length, true, false, Option, Some, None, refl, ap, sym, ◌∙◌, subst, arith, max, length-append}, lemmas.Bool.Decides.{nat_tests}}, specs.{Prelude.{if◌then◌else◌, is_some, nat_eq, unwrap_or}, Option.{option_or}}}
+use Rattle.hc_text.proofs.Basics.{and_right, bool_cases, not_some as none_some, number_not, same_some as same_row}
 use Rattle.hc_sparse.specs.Cells.{cells_with}
-use Rattle.hc_sparse.proofs.CellLemmas.{inside-cases}
 use Rattle.hc_range.specs.declared.range.{Asked.{Asked}, ContentRange.{ContentRange}}
 use Rattle.hc_range.specs.declared.range.ContentRange.TheVariants as range
-use Rattle.hc_effects.proofs.Vocabulary.{Event, Response, HeadCase, Length, Limits, head_case, fits_to_found, fits_part, length_of, base_of, promise_of, is_bad, route_of, content_range_of, piece_refusal, end_refusal, overlong, range_of, has_loss, case_at, head_view, is_founding, is_joining, fits_asker, denial, as_open, Entry, base, promised_bytes, front, family, length_by, Flaw, founded_total, entry_of, Measures, IsMeasured, Owners, new_representation, length_in, Tables, Exchange, Representation, Consumer, Sound, IsAbout, after_accepted}
+use Rattle.hc_effects.proofs.Vocabulary.{Event, Response, HeadCase, Length, Limits, head_case, fits_to_found, fits_part, length_of, base_of, promise_of, is_bad, route_of, content_range_of, piece_refusal, end_refusal, range_of, has_loss, case_at, head_view, is_founding, is_joining, fits_asker, denial, as_open, Entry, base, promised_bytes, front, family, length_by, Flaw, founded_total, entry_of, Measures, IsMeasured, Owners, new_representation, length_in, Tables, Exchange, Representation, Consumer, Sound, IsAbout, after_accepted}
 use Rattle.hc_event.specs.declared.event.Event.TheVariants as event
 use Rattle.hc_rules.specs.declared.need.Route.TheVariants as route
 use Rattle.hc_rules.specs.Refusals as refusals
 use Rattle.hc_model.specs.Measures as measures
 use Rattle.hc_model.specs.Sound as sound
-use Rattle.hc_effects.proofs.{Basics.{false_true}, ExchangeFrom.{ExchangeFrom, IsSame, IsHeaded, exchange_from}, Fills.{Fills, fills, Brings, brings, length_same}, FirstKeeps.{case_is, is_new}, FoundBy.{FoundingBy, founding_by}, HeadKeeps.{is_join}, Once.{taken, IsTaken, never}, PartTold.{part_within, whole_base, IsWithin}, RepFrom.{RepFrom, rep_from, IsKept, IsEnded}}
+use Rattle.hc_effects.proofs.{Basics.{false_true}, ExchangeFrom.{ExchangeFrom, IsSame, IsHeaded, exchange_from}, Fills.{Fills, fills, Brings, brings, length_same}, FirstKeeps.{case_is, is_new}, FoundBy.{FoundingBy, founding_by}, HeadKeeps.{is_join}, Once.{taken, IsTaken}, PartTold.{part_within, whole_base, IsWithin}, RepFrom.{RepFrom, rep_from, IsKept, IsEnded}}
 use Rattle.hc_effects.proofs.ExchangeFrom as exchange
 use Rattle.hc_effects.proofs.Fills as fills_by
 use Rattle.hc_effects.proofs.FoundBy as cases
@@ -25,10 +24,7 @@ pub record IsPart (response : Response) : Type 0 where
   pub told : content_range_of response.fields ≡ Some (range.Part first last (Some total))
 
 part_by : (asked : Asked) (response : Response) (o : Option ContentRange) → content_range_of response.fields ≡ o → fits_part asked o ≡ true → IsPart response
-part_by asked response None is h = absurd (false_true h)
-part_by asked response (Some (range.Unsatisfied total)) is h = absurd (false_true h)
-part_by asked response (Some (range.Part first last None)) is h = absurd (false_true h)
-part_by asked response (Some (range.Part first last (Some total))) is h = record { first = first; last = last; total = total; told = is }
+part_by asked response o is h = grind (arith, nat_tests)
 
 fits_by : (o : Option Asked) (response : Response) → fits_to_found o response ≡ true → IsPart response
 fits_by None response h = absurd (false_true h)
@@ -37,13 +33,6 @@ fits_by (Some asked) response h = part_by asked response (content_range_of respo
 pub asker_by : (o : Option Consumer) (response : Response) → fits_asker o response ≡ true → IsPart response
 asker_by None response h = absurd (false_true h)
 asker_by (Some k) response h = fits_by (range_of k.request) response h
-
--- a piece that isn't too long ends by the promise
-fits_promise : (n m : ℕ) → overlong (Some n) m ≡ None → m ≤ n
-fits_promise n m h = elim (bool_cases (nat_lt n m)) [
-  | inl long ↦ absurd (never _ (rw long at h))
-  | inr short ↦ grind (arith, nat_tests)
-]
 
 module _ (limits : Limits) (t : Tables) (now : ℕ) (flaw : Flaw) (s : Sound t) (o : Owners t) (m : Measures t) (ev : Event) (goes : denial t ev ≡ None) where
   abbrev e : Entry
@@ -68,13 +57,7 @@ module _ (limits : Limits) (t : Tables) (now : ℕ) (flaw : Flaw) (s : Sound t) 
     pub ending : IsEnding x w
 
   ender_by : (x : ℕ) (z : Option Exchange) → t.exchange x ≡ z → end_refusal (as_open z) ≡ None → IsEnder x
-  ender_by x None row h = absurd (never _ h)
-  ender_by x (Some w) row h = by_tests w.is_open (is_some w.head) refl refl h
-    where
-      by_tests : (a b : Bool) → w.is_open ≡ a → is_some w.head ≡ b → end_refusal (as_open (Some w)) ≡ None → IsEnder x
-      by_tests false b on head h = absurd (never _ (rw on at h))
-      by_tests true false on head h = absurd (never _ (rw (on, head) at h))
-      by_tests true true on head h = record { w = w; row = row; ending = record { is_open = on; headed = head } }
+  ender_by x z row h = grind (arith, nat_tests)
 
   pub ender : (x : ℕ) → ev ≡ event.End x → IsEnder x
   unfolding refusals.refusal_of
@@ -107,9 +90,7 @@ module _ (limits : Limits) (t : Tables) (now : ℕ) (flaw : Flaw) (s : Sound t) 
     pub promise_is : promised_bytes z ≡ promised_bytes w
 
   pub held : (x : ℕ) (w z : Exchange) → IsSame t e x w z → z.head ≡ w.head → z.joined ≡ w.joined → IsHeld x w z
-  held x w z same head_is joined_is =
-      let l : length_by z z.head ≡ length_by w w.head = length_same w z same.need_is same.request_is head_is in
-      record { head_is = head_is; joined_is = joined_is; base_is = ap base_of l; promise_is = ap promise_of l }
+  held x w z same head_is joined_is = grind (arith, nat_tests)
 
   pub founder_not : (x q : ℕ) (w : Exchange) (response : Response) (y : Exchange) → t.exchange x ≡ Some w → is_some w.head ≡ true → family x w ≡ q → t.representation q ≡ None → ev ≡ event.Head q response → t.exchange q ≡ Some y → ⊥
   founder_not x q w response y row headed of_q none here also = by_joined w.joined refl
@@ -203,8 +184,7 @@ module _ (limits : Limits) (t : Tables) (now : ℕ) (flaw : Flaw) (s : Sound t) 
         option_row n = Rattle.hc_model.specs.Currents.row_of t n
 
         total_kept : (u.head.total ≡ v.head.total) ⊎ IsEnded t e q v u.head.total → u.head.total ≡ v.head.total
-        total_kept (inl is) = is
-        total_kept (inr ends) = absurd (let no : event.Head x got.response ≡ event.End q = sym got.at ∙ ends.at in cc)
+        total_kept it0 = grind (arith, nat_tests)
 
     -- FOUNDED
 
@@ -298,10 +278,7 @@ module _ (limits : Limits) (t : Tables) (now : ℕ) (flaw : Flaw) (s : Sound t) 
       by_heard (inr got) = new_measured x w z row same got u there
 
   written_some : (at x p : ℕ) (bytes : List ℕ) (f : Rattle.hc_sparse.specs.Cells.Cells) → ((p < at) ⊎ (at + length bytes ≤ p) → is_some (f p) ≡ true) → is_some (cells_with at x bytes f p) ≡ true
-  written_some at x p bytes f old = elim (inside-cases at (length bytes) p) [
-    | inl here ↦ rw here.0 refl
-    | inr off ↦ rw off.0 (old off.1)
-  ]
+  written_some at x p bytes f old = grind (arith, nat_tests)
 
   tight_by : (r n : ℕ) (u : Representation) → u.reach ≡ n + 1 → RepFrom t e r u → is_some (u.body n) ≡ true
   tight_by r n u ends (rep.founded response w none here also on made) = absurd (let zero_is : 0 ≡ u.reach = ap (λ (a : Representation). a.reach) made in let at_n : u.reach ≡ n + 1 = ends in omega arith)
@@ -325,11 +302,7 @@ module _ (limits : Limits) (t : Tables) (now : ℕ) (flaw : Flaw) (s : Sound t) 
   within_by r total u known (rep.was v kept) = by_total kept.total_is
     where
       piece_within : (x : ℕ) (bytes : List ℕ) (w : Exchange) → v.head.total ≡ Some total → IsTaken w (length bytes) → IsMeasured w v → front w + length bytes ≤ total
-      piece_within x bytes w before got (measures.told n most promise is ends) =
-          let same : most ≡ total = some_inj most total (sym is ∙ before) in
-          let fits : length w.body + length bytes ≤ n = fits_promise n (length w.body + length bytes) (sym (ap (λ z. overlong z (length w.body + length bytes)) promise) ∙ got.fits) in
-          omega arith
-      piece_within x bytes w before got (measures.untold none unknown first alone was) = absurd (none_some total (sym unknown ∙ before))
+      piece_within x bytes w before got it5 = grind (arith, nat_tests)
 
       by_fills : v.head.total ≡ Some total → Fills t e r v u → u.reach ≤ total
       by_fills before (fills_by.still none body_is stored reach_is) = let was : v.reach ≤ total = m.within r total v kept.row before in let same : u.reach ≡ v.reach = reach_is in omega arith
@@ -342,14 +315,7 @@ module _ (limits : Limits) (t : Tables) (now : ℕ) (flaw : Flaw) (s : Sound t) 
 
       -- an end tells the length
       ended_by : (is : IsEnded t e r v u.head.total) → (z : IsEnder r) → v.head.total ≡ None → IsMeasured z.w v → Fills t e r v u → u.reach ≤ total
-      ended_by is z before (measures.told n most promise told_is ends) filled = absurd (none_some most (sym before ∙ told_is))
-      ended_by is z before (measures.untold none unknown first alone was) (fills_by.more x bytes w piece body_is stored reach_is) = absurd (let no : event.Piece x bytes ≡ event.End r = sym piece.at ∙ is.at in cc)
-      ended_by is z before (measures.untold none unknown first alone was) (fills_by.still none_of body_is stored reach_is) =
-          let tells : Some (length z.w.body) ≡ Some total = ap (λ q. Some (length_in q)) (sym z.row) ∙ (ap (λ q. option_or q (Some (length_in (t.exchange r)))) (sym before) ∙ (sym is.total_is ∙ known)) in
-          let count : length z.w.body ≡ total = some_inj _ total tells in
-          let same : u.reach ≡ v.reach = reach_is in
-          let was_it : length z.w.body ≡ v.reach = was in
-          omega arith
+      ended_by is z before it3 filled = grind (arith, nat_tests)
 
       by_ended : IsEnded t e r v u.head.total → (q : Option ℕ) → v.head.total ≡ q → u.reach ≤ total
       by_ended is (Some before) told_is = by_fills (told_is ∙ (sym (ap (λ q. option_or q (Some (length_in (t.exchange r)))) told_is) ∙ (sym is.total_is ∙ known))) (fills t e r v u kept)

@@ -1,21 +1,15 @@
--- Whoever reads what is being written for several goes on reading it until it leaves.
-use Rattle.std.{proofs.{Common.{◌≡◌, inl, inr, ℕ, Bool, true, false, cond, Option, Some, None, refl, ap, sym, ◌∙◌, arith}, lemmas.Bool.Decides.{nat_tests}}, specs.Prelude.{if◌then◌else◌, is_none, ◌&&◌, ◌==◌, not, nat_eq}}
-use Rattle.hc_text.proofs.Basics.{and_left, and_right, bool_cases, not_some as none_some, never_true as not_so, or_cases, same_some as same_row}
-use Rattle.hc_effects.proofs.Vocabulary.{Opening, opening_in, leaves_in, Event, Response, Wait, Limits, Place, BoundBy, Showing, showing_in, wait_in, case_at, case_of, consumer_heard, consumer_acted, by_head, by_fault, by_opening, shown_place, waiting, waiting_place, due_after, back_in_line, denial, doomed_key_of, is_key, Entry, exchange_at, is_for, Flaw, entry_of, Owners, is_written, bound_to, Tables, Exchange, Representation, Consumer, Sound, IsBound, starts_over, waits_at, sends_back, loses_what_it_waits_for, after_accepted}
+-- Whoever reads what is being written for several goes on reading it until it leaves: it waits for no head, and so stays where it is bound.
+use Rattle.std.proofs.Common.{◌≡◌, ℕ, true, false, Option, Some, None, ap, sym, ◌∙◌, refl}
+use Rattle.hc_text.proofs.Basics.{same_some as same_row}
+use Rattle.hc_effects.proofs.Vocabulary.{leaves_in, Event, Response, Limits, BoundBy, denial, Entry, Flaw, entry_of, Owners, is_written, Tables, Exchange, Representation, Consumer, Sound, IsBound, after_accepted}
 use Rattle.hc_event.specs.declared.event.Event.TheVariants as event
-use Rattle.hc_event.specs.declared.act.Wait.TheVariants as wait
 use Rattle.hc_event.specs.declared.place.Place.TheVariants as place
-use Rattle.hc_event.specs.declared.place.BoundBy.TheVariants as by
 use Rattle.hc_model.specs.Sound as sound
-use Rattle.hc_effects.proofs.{Basics.{false_true}, FirstKeeps.{is_new}, Forward.{is_kept}, PieceKeeps.{eq_cases}, Said.{waiting_by}, WaitedAs.{IsForOthers, waited_as}, Waiters.{waiter_of, unwritten, fault_open_of}, BoundStays.{headless_parts, none_of}}
-use Rattle.hc_effects.proofs.WaitedAs as waited
+use Rattle.hc_effects.proofs.{BoundStays.{bound_stays}, FirstKeeps.{is_new}, Waiters.{waiter_of, unwritten}}
 
 module _ (limits : Limits) (t : Tables) (now : ℕ) (flaw : Flaw) (s : Sound t) (o : Owners t) (ev : Event) (goes : denial t ev ≡ None) where
   abbrev e : Entry
   e = entry_of limits t now ev flaw
-
-  abbrev now_on : Tables
-  now_on = after_accepted t e
 
   module _ (c r lo : ℕ) (hi : Option ℕ) (how : BoundBy) (k : Consumer) (v : Representation) (row : t.consumer c ≡ Some k) (at : k.place ≡ place.Bound r lo hi how) (there : t.representation r ≡ Some v) (on : is_written t v ≡ true) where
     -- it waits for no head
@@ -28,127 +22,8 @@ module _ (limits : Limits) (t : Tables) (now : ℕ) (flaw : Flaw) (s : Sound t) 
     pub head_not : (x : ℕ) (response : Response) (w : Exchange) → ev ≡ event.Head x response → t.exchange x ≡ Some w → w.c ≡ c → ⊥
     head_not x response w here exchange_row mine = let new = is_new limits t now flaw s ev goes x response w here exchange_row in no_waiter x w exchange_row new.is_open new.bare mine
 
-    heard_same : (u : Event) → ev ≡ u → (u ≡ event.Cancel c → ⊥) → consumer_heard t e c u k ≡ k
-    heard_same (event.Start d request) here stays = refl
-    heard_same (event.Poll d want) here stays = refl
-    heard_same (event.Head x response) here stays = by_row (t.exchange x) refl
-      where
-        by_row : (z : Option Exchange) → t.exchange x ≡ z → by_head t e c x response z k ≡ k
-        by_row None exchange_row = refl
-        by_row (Some w) exchange_row = elim (eq_cases w.c c) [
-          | inl mine ↦ absurd (head_not x response w here exchange_row mine.1)
-          | inr off ↦ rw off.0 refl
-        ]
-    heard_same (event.Piece x bytes) here stays = refl
-    heard_same (event.End x) here stays = refl
-    heard_same (event.Fault x) here stays = by_row (t.exchange x) refl
-      where
-        of_it : (w : Exchange) → t.exchange x ≡ Some w → (w.c == c) ≡ true → is_none w.head ≡ true → ⊥
-        of_it w exchange_row mine none =
-            let test : nat_eq w.c c ≡ true = mine in
-            let same : w.c ≡ c = grind (arith, nat_tests) in
-            no_waiter x w exchange_row (fault_open_of limits t now flaw s o ev goes x w (sym (ap (denial t) here) ∙ goes) exchange_row) (none_of w.head none) same
-
-        by_row : (z : Option Exchange) → t.exchange x ≡ z → by_fault c x z k ≡ k
-        by_row None exchange_row = refl
-        by_row (Some w) exchange_row = elim (bool_cases (w.c == c && is_none w.head && not k.shown)) [
-          | inl hit ↦ absurd (of_it w exchange_row (and_left _ _ (and_left _ _ hit)) (and_right _ _ (and_left _ _ hit)))
-          | inr off ↦ rw off refl
-        ]
-    heard_same (event.Cancel d) here stays = elim (eq_cases d c) [
-      | inl mine ↦ absurd (stays (ap event.Cancel mine.1))
-      | inr off ↦ rw off.0 refl
-    ]
-    heard_same (event.Doom key) here stays = refl
-
-    -- IT DOESN'T START OVER
-
-    waits_not : (g : BoundBy) → how ≡ g → waits_at t (place.Bound r lo hi g) ≡ true → ⊥
-    waits_not by.Founding is h = false_true h
-    waits_not (by.FirstHole y) is h =
-        let all = headless_parts (t.exchange y) h in
-        let f = o.first_own c r lo y hi k row (at ∙ ap (place.Bound r lo hi) is) in
-        no_waiter y all.0 all.1 all.2 all.3 (ap (λ (z : Exchange). z.c) (same_row (t.exchange y) all.0 f.w all.1 f.row) ∙ f.for_it)
-    waits_not by.Plan is h = false_true h
-
-    back_by : (x : ℕ) (response : Response) (z : Option Exchange) → ev ≡ event.Head x response → t.exchange x ≡ z → is_for z c ≡ true → ⊥
-    back_by x response None here exchange_row mine = false_true mine
-    back_by x response (Some w) here exchange_row mine =
-        let test : nat_eq w.c c ≡ true = mine in
-        let same : w.c ≡ c = grind (arith, nat_tests) in
-        head_not x response w here exchange_row same
-
-    none_sends : sends_back None ≡ true → ⊥
-    none_sends h = false_true h
-
-    unheaded : (u : Event) (lost : Bool) → ev ≡ u → sends_back (case_of t lost u) ≡ true → is_for (exchange_at t u) c ≡ true → ⊥
-    unfolding case_of
-    unheaded (event.Start d request) lost here sends mine = none_sends sends
-    unheaded (event.Poll d want) lost here sends mine = none_sends sends
-    unheaded (event.Head x response) lost here sends mine = back_by x response (t.exchange x) here refl mine
-    unheaded (event.Piece x bytes) lost here sends mine = none_sends sends
-    unheaded (event.End x) lost here sends mine = none_sends sends
-    unheaded (event.Fault x) lost here sends mine = none_sends sends
-    unheaded (event.Cancel d) lost here sends mine = none_sends sends
-    unheaded (event.Doom key) lost here sends mine = none_sends sends
-
-    unpassed : loses_what_it_waits_for t e c k.place ≡ true → ⊥
-    unpassed h = false_true (sym (ap (loses_what_it_waits_for t e c) at) ∙ h)
-
-    stays_on : starts_over t e c k ≡ false
-    unfolding starts_over
-    stays_on = not_so _ (λ over. elim (or_cases _ (loses_what_it_waits_for t e c k.place) over) [
-      | inr lost ↦ unpassed lost
-      | inl more ↦ elim (or_cases (is_key (doomed_key_of t e) k.request.key && waits_at t k.place) (sends_back (case_at t e) && is_for (exchange_at t ev) c) more) [
-        | inl doom ↦ waits_not how refl (sym (ap (waits_at t) at) ∙ and_right _ _ doom)
-        | inr back ↦ unheaded ev _ refl (and_left _ _ back) (and_right _ _ back)
-      ]
-    ])
-
-    -- THE ACTS
-
-    told_not : (z : Wait) → IsForOthers z → wait_in c e.acts ≡ Some z → ⊥
-    told_not z others told =
-        let by_poll = waiting_by limits t now flaw s ev goes c z told in
-        let one : by_poll.k ≡ k = same_row (t.consumer c) by_poll.k k by_poll.poll.row row in
-        let free = (waited_as t now c by_poll.k z others by_poll.want s by_poll.poll.row by_poll.move).free in
-        none_some r (sym free ∙ (ap (λ (q : Consumer). bound_to q.place) one ∙ ap bound_to at))
-
-    waits_on : (z : Option Wait) → wait_in c e.acts ≡ z → waiting_place t k z ≡ k.place
-    waits_on None told = refl
-    waits_on (Some (wait.Turn d)) told = absurd (told_not (wait.Turn d) (waited.turn d) told)
-    waits_on (Some (wait.Busy d)) told = absurd (told_not (wait.Busy d) (waited.busy d) told)
-    waits_on (Some (wait.Head x)) told = refl
-    waits_on (Some (wait.Body x)) told = refl
-
-    -- an opening and a showing leave it where it is bound
-    opens_on : (q : Consumer) (z : Option Opening) → q.place ≡ place.Bound r lo hi how → (by_opening t c z q).place ≡ place.Bound r lo hi how
-    opens_on q None stands = stands
-    opens_on q (Some p) stands = elim (eq_cases p.c c) [
-      | inl mine ↦ rw (mine.0, stands) refl
-      | inr off ↦ rw off.0 stands
-    ]
-
-    shows_on : (p : Place) (z : Option Showing) → p ≡ place.Bound r lo hi how → shown_place c z p ≡ place.Bound r lo hi how
-    shows_on p None stands = stands
-    shows_on p (Some z) stands = elim (eq_cases z.c c) [
-      | inl mine ↦ rw (mine.0, stands) refl
-      | inr off ↦ rw off.0 stands
-    ]
-
-    stays_put : (p : Place) (leaves : Bool) → leaves ≡ false → (if leaves then place.Over else p) ≡ p
-    stays_put p leaves off = rw off refl
-
-    settled : (q : Consumer) (over : Bool) → over ≡ false → (cond over (back_in_line e.now q) (due_after t e c k q)) ≡ due_after t e c k q
-    settled q over off = rw off refl
-
     -- it is bound as it was
-    pub member_stays : (ev ≡ event.Cancel c → ⊥) → leaves_in c e.acts ≡ false → (u : Consumer) × IsBound now_on r c u
+    pub member_stays : (ev ≡ event.Cancel c → ⊥) → leaves_in c e.acts ≡ false → (u : Consumer) × IsBound (after_accepted t e) r c u
     member_stays uncancelled stays =
-        let on_row = is_kept t e c k row in
-        let same : consumer_heard t e c ev k ≡ k = heard_same ev refl uncancelled in
-        let made : due_after t e c k (consumer_acted t e c (consumer_heard t e c ev k)) ≡ on_row.u = sym (settled (consumer_acted t e c (consumer_heard t e c ev k)) (starts_over t e c k) stays_on) ∙ on_row.is in
-        let waits : (waiting t e c k).place ≡ place.Bound r lo hi how = waits_on (wait_in c e.acts) refl ∙ at in
-        let shown : shown_place c (showing_in e.acts) (by_opening t c (opening_in e.acts) (waiting t e c k)).place ≡ place.Bound r lo hi how = shows_on _ (showing_in e.acts) (opens_on (waiting t e c k) (opening_in e.acts) waits) in
-        let acted : (consumer_acted t e c k).place ≡ place.Bound r lo hi how = stays_put _ (leaves_in c e.acts) stays ∙ shown in
-        (on_row.u, sound.is_bound lo hi how on_row.row (sym (ap (λ (z : Consumer). z.place) made) ∙ (ap (λ (h : Consumer). (consumer_acted t e c h).place) same ∙ acted)))
+        let st = bound_stays limits t now flaw s o ev goes c r lo hi how k row at no_waiter uncancelled stays in
+        (st.u, sound.is_bound lo hi how st.after st.stands)

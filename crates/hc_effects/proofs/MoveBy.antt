@@ -1,12 +1,11 @@
 -- Why a poll does what it does: it shows a head that is there, waits for one, reads, or carries out the plan of a consumer that is bound to nothing.
-use Rattle.std.{proofs.Common.{◌≡◌, inl, inr, ℕ, Bool, true, false, Option, Some, None, refl, ap, sym, ◌∙◌}, specs.{Prelude.{if◌then◌else◌}, Option.{option_and_then}}}
-use Rattle.hc_text.proofs.Basics.{bool_cases, cond_false}
-use Rattle.hc_effects.proofs.Vocabulary.{Cause, Place, BoundBy, is_headless, Move, Nothing, Fails, planned_move, shows_at, shows_head, if_headless, waits_for_head, or_else, by_place, move_of, bound_to, own_open, Tables, Consumer, Sound, IsToBeShown, reading}
+use Rattle.std.{proofs.{lemmas.Bool.Decides.{nat_tests}, Common.{arith, ◌≡◌, ℕ, Bool, true, false, Option, Some, None, refl, ap, sym, ◌∙◌}}, specs.{Prelude.{if◌then◌else◌}, Option.{option_and_then}}}
+use Rattle.hc_text.proofs.Basics.{cond_false}
+use Rattle.hc_effects.proofs.Vocabulary.{Cause, Place, is_headless, Move, Nothing, Fails, planned_move, shows_at, shows_head, if_headless, waits_for_head, or_else, by_place, move_of, bound_to, own_open, Tables, Consumer, Sound, reading}
 use Rattle.hc_event.specs.declared.act.Wait.TheVariants as wait
 use Rattle.hc_event.specs.declared.place.Place.TheVariants as place
-use Rattle.hc_event.specs.declared.place.BoundBy.TheVariants as by
 use Rattle.hc_model.specs.Moves as moves
-use Rattle.hc_model.specs.Sound as sound
+use Rattle.hc_effects.proofs.MoveWords.{never_plans}
 
 -- it has no open exchange that waits for its head
 abbrev pub IsHeard : Tables → Consumer → Type 0
@@ -24,40 +23,21 @@ module _ (t : Tables) (now want c : ℕ) (k : Consumer) where
   shows_of : (p : Place) → k.place ≡ p → k.shown ≡ false → shows_head t k ≡ None → shows_at t k p ≡ None
   shows_of p at shown none = sym (cond_false k.shown None (shows_at t k k.place) shown ∙ ap (shows_at t k) at) ∙ none
 
-  -- who is bound and wasn't shown a head is shown it now, or waits for it
-  never_plans : (r lo : ℕ) (hi : Option ℕ) (how : BoundBy) → k.place ≡ place.Bound r lo hi how → k.shown ≡ false → IsToBeShown t k how → shows_head t k ≡ None → IsHeard t k → ⊥
-  never_plans r lo hi _ at shown sound.founded none heard = let never : shows_at t k (place.Bound r lo hi by.Founding) ≡ None = shows_of _ at shown none in cc
-  never_plans r lo hi _ at shown (sound.joined y joined) none heard = let never : shows_at t k (place.Bound r lo hi (by.FirstHole y)) ≡ None = shows_of _ at shown none in let also = rw joined at never in cc
-  never_plans r lo hi _ at shown (sound.waits y own headless) none heard = let never : Some y ≡ None = rw (own, headless) at heard in cc
-
   free : (p : Place) → Sound t → t.consumer c ≡ Some k → k.place ≡ p → k.shown ≡ false → shows_head t k ≡ None → IsHeard t k → bound_to p ≡ None
-  free place.Line s row at shown none heard = refl
-  free (place.Passed r kept) s row at shown none heard = refl
-  free (place.Turn x) s row at shown none heard = refl
-  free (place.Bound r lo hi how) s row at shown none heard = absurd (never_plans r lo hi how at shown (s.unshown c r lo hi how k row at shown) none heard)
-  free (place.Direct x) s row at shown none heard = refl
-  free (place.Down cause) s row at shown none heard = refl
-  free place.Over s row at shown none heard = refl
+  free (place.Bound r lo hi how) s row at shown none heard = absurd (never_plans t k r lo hi how at shown (s.unshown c r lo hi how k row at shown) none heard)
+  free _ s row at shown none heard = refl
 
   other_by : (b : Bool) → Sound t → t.consumer c ≡ Some k → k.shown ≡ b → shows_head t k ≡ None → IsHeard t k → MoveBy t now want c k (if b then reading t want c k else planned_move t now c k)
   other_by true s row shown none heard = reads shown heard
   other_by false s row shown none heard = plans shown (free k.place s row refl shown none heard) (shows_of k.place refl shown none) heard
 
   place_by : (p : Place) → Sound t → t.consumer c ≡ Some k → k.place ≡ p → shows_head t k ≡ None → IsHeard t k → MoveBy t now want c k (by_place t now want c k p)
-  place_by place.Line s row at none heard = other_by k.shown s row refl none heard
-  place_by (place.Passed r kept) s row at none heard = other_by k.shown s row refl none heard
-  place_by (place.Turn x) s row at none heard = other_by k.shown s row refl none heard
-  place_by (place.Bound r lo hi how) s row at none heard = other_by k.shown s row refl none heard
-  place_by (place.Direct x) s row at none heard = other_by k.shown s row refl none heard
   place_by (place.Down cause) s row at none heard = down cause at
   place_by place.Over s row at none heard = over at
+  place_by _ s row at none heard = other_by k.shown s row refl none heard
 
   if_waits : (o : Option ℕ) (x : ℕ) → option_and_then (if_headless t) o ≡ Some x → (o ≡ Some x) × (is_headless (t.exchange x) ≡ true)
-  if_waits None x is = absurd (let never : None ≡ Some x = is in cc)
-  if_waits (Some y) x is = elim (bool_cases (is_headless (t.exchange y))) [
-    | inl bare ↦ let same : y ≡ x = (let eq : Some y ≡ Some x = rw bare at is in cc) in (ap Some same, ap (λ z. is_headless (t.exchange z)) (sym same) ∙ bare)
-    | inr headed ↦ absurd (let never : None ≡ Some x = rw headed at is in cc)
-  ]
+  if_waits o x is = grind (arith, nat_tests)
 
   waits_by : (o : Option ℕ) → Sound t → t.consumer c ≡ Some k → option_and_then (if_headless t) (own_open t k) ≡ o → shows_head t k ≡ None → MoveBy t now want c k (or_else (waits_for_head o) (by_place t now want c k k.place))
   waits_by None s row is none = place_by k.place s row refl none is

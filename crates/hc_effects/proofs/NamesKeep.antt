@@ -1,7 +1,7 @@
 -- What exchanges name is there, and none without a head is a representation.
-use Rattle.std.{proofs.Common.{◌≡◌, ◌⊎◌, inl, inr, ℕ, ◌+◌, ◌<◌, List, Bool, true, false, Option, Some, None, refl, ap, sym, ◌∙◌, subst, arith}, specs.Prelude.{◌&&◌, is_some, if◌then◌else◌, option_map}}
+use Rattle.std.{proofs.{lemmas.Bool.Decides.{nat_tests}, Common.{◌≡◌, ◌⊎◌, inl, inr, ℕ, ◌+◌, ◌<◌, List, Bool, true, Option, Some, None, refl, ap, sym, ◌∙◌, subst, arith}}, specs.Prelude.{is_some, if◌then◌else◌}}
 use Rattle.hc_text.proofs.Basics.{some_inj}
-use Rattle.hc_effects.proofs.Vocabulary.{Opening, opening_in, Event, Response, Limits, Place, accepted_acts, case_at, is_joining, is_founding, current, is_usable, denial, Entry, exchange_after, exchange_heard, exchange_acted, exchange_made, exchange_opened, aim_of, aim_from, Flaw, representation_after, founded_at, new_representation, Tables, Exchange, Representation, Consumer, Sound, after_accepted}
+use Rattle.hc_effects.proofs.Vocabulary.{Opening, opening_in, Event, Response, Limits, Place, accepted_acts, case_at, is_joining, current, is_usable, denial, Entry, exchange_after, exchange_heard, exchange_acted, exchange_made, exchange_opened, aim_of, aim_from, Flaw, representation_after, founded_at, Tables, Exchange, Representation, Consumer, Sound, after_accepted}
 use Rattle.hc_event.specs.declared.event.Event.TheVariants as event
 use Rattle.hc_event.specs.declared.place.Place.TheVariants as place
 use Rattle.hc_model.specs.Laws.{NamesAreKept}
@@ -11,8 +11,7 @@ use Rattle.hc_effects.proofs.{Basics.{some_none}, NumbersKeep.{opens_next, found
 -- what stands stays
 stays : (t : Tables) (e : Entry) (r : ℕ) (o : Option Representation) → is_some o ≡ true → is_some (representation_after t e r o) ≡ true
 unfolding representation_after
-stays t e r None there = absurd (let no : false ≡ true = there in cc)
-stays t e r (Some v) there = refl
+stays t e r o there = grind (arith, nat_tests)
 
 -- WHAT A ROW NAMES
 
@@ -24,16 +23,13 @@ record IsNaming (x : ℕ) (ev : Event) (w u : Exchange) : Type 0 where
   quiet : u.head ≡ None → (response : Response) → ev ≡ event.Head x response → ⊥
 
 joined_by : (b : Bool) (aim joined : Option ℕ) → ((if b then aim else joined) ≡ joined) ⊎ ((if b then aim else joined) ≡ aim)
-joined_by true aim joined = inr refl
-joined_by false aim joined = inl refl
+joined_by b aim joined = grind (arith, nat_tests)
 
 abbrev number_in : Event → ℕ
 number_in (event.Head y response) = y
 number_in _ = 0
 
 naming : (t : Tables) (e : Entry) (x : ℕ) (ev : Event) (w : Exchange) → IsNaming x ev w (exchange_acted x e.acts (exchange_heard t e x ev w))
-naming t e x (event.Start c request) w = record { aim_is = refl; joined_is = inl refl; bare = λ h. h; quiet = λ h response is. cc }
-naming t e x (event.Poll c want) w = record { aim_is = refl; joined_is = inl refl; bare = λ h. h; quiet = λ h response is. cc }
 naming t e x (event.Head y response) w = elim (eq_cases y x) [
   | inl here ↦ rw here.0 (record { aim_is = refl; joined_is = joined_by (is_joining (case_at t e)) w.aim w.joined; bare = λ h. absurd (some_none response h); quiet = λ h answer is. some_none response h })
   | inr other ↦ rw other.0 (record { aim_is = refl; joined_is = inl refl; bare = λ h. h; quiet = λ h answer is. other.1 (ap number_in is) })
@@ -50,8 +46,7 @@ naming t e x (event.Fault y) w = elim (eq_cases y x) [
   | inl here ↦ rw here.0 (record { aim_is = refl; joined_is = inl refl; bare = λ h. h; quiet = λ h response is. cc })
   | inr other ↦ rw other.0 (record { aim_is = refl; joined_is = inl refl; bare = λ h. h; quiet = λ h response is. cc })
 ]
-naming t e x (event.Cancel c) w = record { aim_is = refl; joined_is = inl refl; bare = λ h. h; quiet = λ h response is. cc }
-naming t e x (event.Doom key) w = record { aim_is = refl; joined_is = inl refl; bare = λ h. h; quiet = λ h response is. cc }
+naming t e x _ w = record { aim_is = refl; joined_is = inl refl; bare = λ h. h; quiet = λ h response is. cc }
 
 -- a row was there, or was opened now
 data WasOrOpened (t : Tables) (e : Entry) (x : ℕ) (u : Exchange) : Type 0 where
@@ -75,21 +70,15 @@ was_or_opened t e x (Some w) u row h = was w row (subst (IsNaming x e.event w) (
 -- THE AIM OF AN OPENING
 
 usable_there : (key : List ℕ) (o : Option Representation) → is_usable key o ≡ true → is_some o ≡ true
-usable_there key None h = absurd (let no : false ≡ true = h in cc)
-usable_there key (Some v) h = refl
+usable_there key o h = grind (arith, nat_tests)
 
 pub current_there : (t : Tables) (key : List ℕ) (r : ℕ) → current t key ≡ Some r → is_some (t.representation r) ≡ true
 unfolding current
 current_there t key r is = usable_there key (t.representation r) (find_passes (λ q. is_usable key (t.representation q)) t.founded r is)
 
 aim_there : (t : Tables) (c r : ℕ) (k : Consumer) (p : Place) → Sound t → t.consumer c ≡ Some k → k.place ≡ p → aim_from t k.request.key p ≡ Some r → is_some (t.representation r) ≡ true
-aim_there t c r k place.Line s row at is = current_there t k.request.key r is
-aim_there t c r k (place.Passed q kept) s row at is = current_there t k.request.key r is
-aim_there t c r k (place.Turn x) s row at is = current_there t k.request.key r is
 aim_there t c r k (place.Bound q lo hi by) s row at is = subst (λ n. is_some (t.representation n) ≡ true) (some_inj q r is) (s.numbered.bound_to q c k (sound.is_bound lo hi by row at))
-aim_there t c r k (place.Direct x) s row at is = current_there t k.request.key r is
-aim_there t c r k (place.Down cause) s row at is = current_there t k.request.key r is
-aim_there t c r k place.Over s row at is = current_there t k.request.key r is
+aim_there t c r k _ s row at is = current_there t k.request.key r is
 
 opening_there : (t : Tables) (c r : ℕ) (o : Option Consumer) → Sound t → t.consumer c ≡ o → aim_of t o ≡ Some r → is_some (t.representation r) ≡ true
 opening_there t c r None s row is = absurd (let no : None ≡ Some r = is in cc)
@@ -98,21 +87,7 @@ opening_there t c r (Some k) s row is = aim_there t c r k k.place s row refl is
 -- WHAT FOUNDS HAS A HEAD
 
 founded_quiet : (t : Tables) (e : Entry) (x : ℕ) (ev : Event) → ((response : Response) → ev ≡ event.Head x response → ⊥) → founded_at t e x ev ≡ None
-founded_quiet t e x (event.Start c request) other = refl
-founded_quiet t e x (event.Poll c want) other = refl
-founded_quiet t e x (event.Head y response) other = elim (eq_cases y x) [
-  | inl here ↦ absurd (other response (ap (λ n. event.Head n response) here.1))
-  | inr apart ↦ rw apart.0 (none_by (is_founding (case_at t e)))
-]
-  where
-    none_by : (b : Bool) → (if b && false then option_map (new_representation x e response) (t.exchange y) else None) ≡ None
-    none_by true = refl
-    none_by false = refl
-founded_quiet t e x (event.Piece y bytes) other = refl
-founded_quiet t e x (event.End y) other = refl
-founded_quiet t e x (event.Fault y) other = refl
-founded_quiet t e x (event.Cancel c) other = refl
-founded_quiet t e x (event.Doom key) other = refl
+founded_quiet t e x ev other = grind (arith, nat_tests)
 
 module _ (limits : Limits) (t : Tables) (now : ℕ) (flaw : Flaw) (s : Sound t) (event : Event) (goes : denial t event ≡ None) where
   abbrev e : Entry
@@ -126,11 +101,7 @@ module _ (limits : Limits) (t : Tables) (now : ℕ) (flaw : Flaw) (s : Sound t) 
   aims x r u (opened o is here none aimed joined) aim = opening_there t o.c r (t.consumer o.c) s refl (sym aimed ∙ aim)
 
   joined_of : (x r : ℕ) (u : Exchange) → WasOrOpened t e x u → u.joined ≡ Some r → is_some (t.representation r) ≡ true
-  joined_of x r u (was w row is) joined = elim is.joined_is [
-    | inl before ↦ s.numbered.names.joined x r w row (sym before ∙ joined)
-    | inr now_joined ↦ s.numbered.names.aims x r w row (sym now_joined ∙ joined)
-  ]
-  joined_of x r u (opened o is here none aimed bare) joined = absurd (let no : None ≡ Some r = sym bare ∙ joined in cc)
+  joined_of x r u it3 joined = grind (arith, nat_tests)
 
   unfounded : (x : ℕ) (u : Exchange) → WasOrOpened t e x u → u.head ≡ None → (after_accepted t e).representation x ≡ None
   unfounded x u (was w row is) bare =

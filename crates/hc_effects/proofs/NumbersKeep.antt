@@ -1,11 +1,10 @@
 -- Each row has a number that was given out, and stands in its list.
-use Rattle.std.{proofs.{Common.{◌≡◌, inl, inr, ℕ, ◌+◌, ◌<◌, List, Bool, true, false, Option, Some, None, refl, ap, sym, ◌∙◌, arith}, lemmas.Bool.Decides.{nat_tests}}, specs.Prelude.{◌&&◌, nat_eq, nat_le, is_some, if◌then◌else◌, option_map}}
+use Rattle.std.{proofs.{Common.{◌≡◌, inl, inr, ℕ, ◌+◌, ◌<◌, List, Bool, true, false, Option, Some, None, refl, ap, sym, ◌∙◌, arith}, lemmas.Bool.Decides.{nat_tests}}, specs.Prelude.{◌&&◌, nat_eq, is_some, if◌then◌else◌, option_map}}
 use Rattle.hc_effects.proofs.Vocabulary.{Opening, opening_in, Event, Request, Limits, accepted_acts, case_at, is_founding, consumer_after, consumer_made, denial, is_live, Entry, exchange_after, exchange_made, exchange_in, Flaw, representation_after, founded_at, new_representation, Tables, Exchange, Representation, Consumer, Sound, Among, IsListed, last_start_after, starts_after, opened_after, openings_after, founds, with_item_first}
 use Rattle.hc_event.specs.declared.event.Event.TheVariants as event
-use Rattle.hc_event.specs.declared.act.Refusal.TheVariants as refusal
 use Rattle.hc_rules.specs.Refusals as refusals
 use Rattle.hc_model.specs.Laws.{NumbersAreKept}
-use Rattle.hc_effects.proofs.{EventsKeep.{told, cancels, poll_live}, Once.{never}, PieceKeeps.{eq_cases}, PollKeeps.{poll_opens_next}}
+use Rattle.hc_effects.proofs.{EventsKeep.{told, cancels, poll_live}, PieceKeeps.{eq_cases}, PollKeeps.{poll_opens_next}}
 
 -- WHAT IS OPENED HAS THE NEXT NUMBER
 
@@ -19,26 +18,15 @@ module _ (limits : Limits) (t : Tables) (now : ℕ) (flaw : Flaw) (s : Sound t) 
 
   pub opens_next : (event : Event) (o : Opening) → denial t event ≡ None → opening_in (accepted_acts limits t now event flaw) ≡ Some o → o.x ≡ t.opened + 1
   unfolding refusals.refusal_of
-  opens_next (event.Start c request) o h is = absurd (never_opens _ o (told limits t now flaw s (event.Start c request)) is)
   opens_next (event.Poll c want) o h is = by_poll c want (t.consumer c) o refl (poll_live limits t now flaw s c want h) is
-  opens_next (event.Head x response) o h is = absurd (never_opens _ o (told limits t now flaw s (event.Head x response)) is)
-  opens_next (event.Piece x bytes) o h is = absurd (never_opens _ o (told limits t now flaw s (event.Piece x bytes)) is)
-  opens_next (event.End x) o h is = absurd (never_opens _ o (told limits t now flaw s (event.End x)) is)
-  opens_next (event.Fault x) o h is = absurd (never_opens _ o (told limits t now flaw s (event.Fault x)) is)
   opens_next (event.Cancel c) o h is = absurd (never_opens _ o (cancels limits t now flaw s c) is)
-  opens_next (event.Doom key) o h is = absurd (never_opens _ o (told limits t now flaw s (event.Doom key)) is)
+  opens_next ev o h is = absurd (never_opens _ o (told limits t now flaw s ev) is)
 
 -- CONSUMERS
 
-ascending : (late full : Bool) (n m : ℕ) → (if late then Some (refusal.NotRising n) else if full then Some refusal.TooManyConsumers else None) ≡ None → late ≡ false
-ascending true full n m h = absurd (never _ h)
-ascending false full n m h = refl
-
 pub starts_later : (t : Tables) (c : ℕ) (request : Request) → denial t (event.Start c request) ≡ None → t.last_start < c
 unfolding refusals.refusal_of
-starts_later t c request h =
-    let test : nat_le c t.last_start ≡ false = ascending (nat_le c t.last_start) _ t.last_start 0 h in
-    grind (arith, nat_tests)
+starts_later t c request h = grind (arith, nat_tests)
 
 -- a number above the last start was above it before, and isn't the one that starts
 record IsAbove (t : Tables) (event : Event) (now c : ℕ) : Type 0 where
@@ -51,41 +39,18 @@ above t now c (event.Start d request) h lt =
     let under : d < c = lt in
     let other : nat_eq d c ≡ false = grind (arith, nat_tests) in
     record { before = omega arith; none = rw other refl }
-above t now c (event.Poll d want) h lt = record { before = lt; none = refl }
-above t now c (event.Head x response) h lt = record { before = lt; none = refl }
-above t now c (event.Piece x bytes) h lt = record { before = lt; none = refl }
-above t now c (event.End x) h lt = record { before = lt; none = refl }
-above t now c (event.Fault x) h lt = record { before = lt; none = refl }
-above t now c (event.Cancel d) h lt = record { before = lt; none = refl }
-above t now c (event.Doom key) h lt = record { before = lt; none = refl }
+above t now c _ h lt = record { before = lt; none = refl }
 
 consumer_none : (t : Tables) (e : Entry) (c : ℕ) (o : Option Consumer) → o ≡ None → consumer_made c e.now e.event ≡ None → consumer_after t e c o ≡ None
 unfolding consumer_after
-consumer_none t e c None is none = none
-consumer_none t e c (Some k) is none = absurd (let no : Some k ≡ None = is in cc)
+consumer_none t e c o is none = grind (arith, nat_tests)
 
 made_among : (c now : ℕ) (event : Event) (cs : List ℕ) → is_some (consumer_made c now event) ≡ true → Among c (starts_after event cs)
-made_among c now (event.Start d request) cs some = elim (eq_cases d c) [
-  | inl here ↦ inl here.1
-  | inr other ↦ absurd (let no : false ≡ true = rw other.0 at some in cc)
-]
-made_among c now (event.Poll d want) cs some = absurd (let no : false ≡ true = some in cc)
-made_among c now (event.Head x response) cs some = absurd (let no : false ≡ true = some in cc)
-made_among c now (event.Piece x bytes) cs some = absurd (let no : false ≡ true = some in cc)
-made_among c now (event.End x) cs some = absurd (let no : false ≡ true = some in cc)
-made_among c now (event.Fault x) cs some = absurd (let no : false ≡ true = some in cc)
-made_among c now (event.Cancel d) cs some = absurd (let no : false ≡ true = some in cc)
-made_among c now (event.Doom key) cs some = absurd (let no : false ≡ true = some in cc)
+made_among c now event cs some = grind (arith, nat_tests)
 
 still_among : (c : ℕ) (event : Event) (cs : List ℕ) → Among c cs → Among c (starts_after event cs)
 still_among c (event.Start d request) cs there = inr there
-still_among c (event.Poll d want) cs there = there
-still_among c (event.Head x response) cs there = there
-still_among c (event.Piece x bytes) cs there = there
-still_among c (event.End x) cs there = there
-still_among c (event.Fault x) cs there = there
-still_among c (event.Cancel d) cs there = there
-still_among c (event.Doom key) cs there = there
+still_among c _ cs there = there
 
 consumer_among : (t : Tables) (e : Entry) (c : ℕ) (o : Option Consumer) → t.consumer c ≡ o → IsListed t → is_some (consumer_after t e c o) ≡ true → Among c (starts_after e.event t.starts)
 unfolding consumer_after
@@ -95,11 +60,7 @@ consumer_among t e c (Some k) row l some = still_among c e.event t.starts (l.sta
 -- EXCHANGES
 
 made_other : (t : Tables) (e : Entry) (x : ℕ) (o : Option Opening) → opening_in e.acts ≡ o → ((p : Opening) → opening_in e.acts ≡ Some p → p.x ≡ t.opened + 1) → opened_after o t.opened < x → exchange_made t e x o ≡ None
-made_other t e x None is next lt = refl
-made_other t e x (Some o) is next lt =
-    let under : o.x < x = lt in
-    let other : nat_eq o.x x ≡ false = grind (arith, nat_tests) in
-    rw other refl
+made_other t e x o is next lt = grind (arith, nat_tests)
 
 opened_before : (t : Tables) (n x : ℕ) (o : Option Opening) → ((p : Opening) → o ≡ Some p → p.x ≡ t.opened + 1) → opened_after o t.opened < x → t.opened < x
 opened_before t n x None next lt = lt
@@ -107,15 +68,10 @@ opened_before t n x (Some o) next lt = let number : o.x ≡ t.opened + 1 = next 
 
 exchange_none : (t : Tables) (e : Entry) (x : ℕ) (o : Option Exchange) → o ≡ None → exchange_made t e x (opening_in e.acts) ≡ None → exchange_after t e x o ≡ None
 unfolding exchange_after
-exchange_none t e x None is none = none
-exchange_none t e x (Some w) is none = absurd (let no : Some w ≡ None = is in cc)
+exchange_none t e x o is none = grind (arith, nat_tests)
 
 opening_among : (t : Tables) (e : Entry) (x : ℕ) (xs : List ℕ) (o : Option Opening) → is_some (exchange_made t e x o) ≡ true → Among x (openings_after o xs)
-opening_among t e x xs None some = absurd (let no : false ≡ true = some in cc)
-opening_among t e x xs (Some o) some = elim (eq_cases o.x x) [
-  | inl here ↦ inl here.1
-  | inr other ↦ absurd (let no : false ≡ true = rw other.0 at some in cc)
-]
+opening_among t e x xs o some = grind (arith, nat_tests)
 
 still_opened : (x : ℕ) (xs : List ℕ) (o : Option Opening) → Among x xs → Among x (openings_after o xs)
 still_opened x xs None there = there
@@ -129,39 +85,27 @@ exchange_among t e x (Some w) row l some = still_opened x t.openings (opening_in
 -- REPRESENTATIONS
 
 pub founded_none : (t : Tables) (e : Entry) (r : ℕ) (event : Event) → IsListed t → t.opened < r → founded_at t e r event ≡ None
-founded_none t e r (event.Start c request) l lt = refl
-founded_none t e r (event.Poll c want) l lt = refl
 founded_none t e r (event.Head x response) l lt = elim (eq_cases x r) [
   | inl here ↦ by_row _ (t.exchange x) (ap t.exchange here.1 ∙ l.new_exchanges r lt)
   | inr other ↦ rw other.0 (by_test (is_founding (case_at t e)))
 ]
   where
     by_row : (b : Bool) (o : Option Exchange) → o ≡ None → (if b then option_map (new_representation r e response) o else None) ≡ None
-    by_row true None is = refl
-    by_row false None is = refl
-    by_row b (Some w) is = absurd (let no : Some w ≡ None = is in cc)
+    by_row b o is = grind (arith, nat_tests)
 
     by_test : (b : Bool) → (if b && false then option_map (new_representation r e response) (t.exchange x) else None) ≡ None
-    by_test true = refl
-    by_test false = refl
-founded_none t e r (event.Piece x bytes) l lt = refl
-founded_none t e r (event.End x) l lt = refl
-founded_none t e r (event.Fault x) l lt = refl
-founded_none t e r (event.Cancel c) l lt = refl
-founded_none t e r (event.Doom key) l lt = refl
+    by_test b = grind (arith, nat_tests)
+founded_none t e r _ l lt = refl
 
 pub representation_none : (t : Tables) (e : Entry) (r : ℕ) (o : Option Representation) → o ≡ None → founded_at t e r e.event ≡ None → representation_after t e r o ≡ None
 unfolding representation_after
-representation_none t e r None is none = none
-representation_none t e r (Some v) is none = absurd (let no : Some v ≡ None = is in cc)
+representation_none t e r o is none = grind (arith, nat_tests)
 
 still_founded : (r : ℕ) (rs : List ℕ) (o : Option ℕ) → Among r rs → Among r (with_item_first o rs)
 still_founded r rs None there = there
 still_founded r rs (Some q) there = inr there
 
 founded_among : (t : Tables) (e : Entry) (r : ℕ) (rs : List ℕ) (event : Event) → is_some (founded_at t e r event) ≡ true → Among r (with_item_first (if is_founding (case_at t e) then exchange_in event else None) rs)
-founded_among t e r rs (event.Start c request) some = absurd (let no : false ≡ true = some in cc)
-founded_among t e r rs (event.Poll c want) some = absurd (let no : false ≡ true = some in cc)
 founded_among t e r rs (event.Head x response) some = elim (eq_cases x r) [
   | inr other ↦ absurd (none_by (is_founding (case_at t e)) (rw other.0 at some))
   | inl here ↦ by_case (is_founding (case_at t e)) refl
@@ -172,16 +116,8 @@ founded_among t e r rs (event.Head x response) some = elim (eq_cases x r) [
     none_by false h = let no : false ≡ true = h in cc
 
     by_case : (b : Bool) → is_founding (case_at t e) ≡ b → Among r (with_item_first (if is_founding (case_at t e) then Some x else None) rs)
-    by_case true is = elim (eq_cases x r) [
-      | inl same ↦ rw is (inl same.1)
-      | inr other ↦ absurd (none_by (is_founding (case_at t e)) (rw other.0 at some))
-    ]
-    by_case false is = absurd (let no : false ≡ true = rw is at some in cc)
-founded_among t e r rs (event.Piece x bytes) some = absurd (let no : false ≡ true = some in cc)
-founded_among t e r rs (event.End x) some = absurd (let no : false ≡ true = some in cc)
-founded_among t e r rs (event.Fault x) some = absurd (let no : false ≡ true = some in cc)
-founded_among t e r rs (event.Cancel c) some = absurd (let no : false ≡ true = some in cc)
-founded_among t e r rs (event.Doom key) some = absurd (let no : false ≡ true = some in cc)
+    by_case b is = grind (arith, nat_tests)
+founded_among t e r rs _ some = absurd (let no : false ≡ true = some in cc)
 
 representation_among : (t : Tables) (e : Entry) (r : ℕ) (o : Option Representation) → t.representation r ≡ o → IsListed t → is_some (representation_after t e r o) ≡ true → Among r (with_item_first (founds t e) t.founded)
 unfolding representation_after

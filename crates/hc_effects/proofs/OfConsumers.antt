@@ -1,8 +1,8 @@
 -- A start, a poll and a cancel bring nothing of an exchange and doom nothing: what they leave as it was, and what they close.
-use Rattle.std.{proofs.Common.{◌≡◌, ◌≢◌, inl, inr, ℕ, ◌+◌, ◌<◌, List, [], ◌∷◌, Bool, true, false, Option, Some, None, refl, ap, ap₂, sym, ◌∙◌, subst, arith}, specs.{Prelude.{◌&&◌, ◌||◌, ◌==◌, not, nat_eq, if◌then◌else◌, filter, reverse, is_some}, Option.{option_or}}}
+use Rattle.std.{proofs.{lemmas.Bool.Decides.{nat_tests}, Common.{◌≡◌, ◌≢◌, inl, inr, ℕ, ◌+◌, ◌<◌, List, [], ◌∷◌, Bool, true, false, Option, Some, None, refl, ap, ap₂, sym, ◌∙◌, subst, arith}}, specs.{Prelude.{◌&&◌, ◌||◌, not, nat_eq, if◌then◌else◌, filter, reverse, is_some}, Option.{option_or}}}
 use mathlib.Core.Path.{fun_ext}
 use Rattle.hc_text.proofs.Basics.{and_true, not_some as none_some, or_none as or_nothing, or_false as or_off, some_inj, and_off as then_false}
-use Rattle.hc_effects.proofs.Vocabulary.{opening_in, asks_in, closes_in, evicts_in, Act, Cause, Event, Request, is_same_number, Place, loses_in, misreads_in, fails_in, showing_in, case_at, case_of, is_founding, closing, closes_row, is_left, is_left_by, leaver, is_last_reader, consumer_after, consumer_heard, consumer_made, consumer_acted, consumer_settled, back_in_line, is_current, is_number, doomed_key_of, bypass_key, is_key, left_by, Entry, exchange_after, exchange_heard, exchange_acted, exchange_in, exchange_at, is_open, becomes_due, cause_of_head, becomes_gone, ends_early, ends_founding, stops_early, is_keepable, Descends, AreOnce, InOrder, Owners, reads, own_open, shared_exchange, writing_in, is_written, source, representation_heard, founded_at, Tables, Exchange, Representation, Consumer, Sound, Among, IsBound, starts_over, loses_what_it_waits_for, with_item_first, founds, binds, binds_by_opening, binds_by_showing, to_front, brings_body}
+use Rattle.hc_effects.proofs.Vocabulary.{opening_in, asks_in, closes_in, evicts_in, Act, Cause, Event, Request, is_same_number, Place, loses_in, misreads_in, fails_in, showing_in, case_at, case_of, is_founding, closing, closes_row, is_left, is_left_by, leaver, is_last_reader, consumer_after, consumer_heard, consumer_made, consumer_acted, consumer_settled, back_in_line, is_current, is_number, doomed_key_of, bypass_key, is_key, left_by, Entry, exchange_after, exchange_heard, exchange_acted, exchange_in, exchange_at, is_open, becomes_due, cause_of_head, becomes_gone, ends_early, stops_early, is_keepable, Descends, AreOnce, InOrder, Owners, reads, own_open, shared_exchange, writing_in, is_written, source, representation_heard, founded_at, Tables, Exchange, Representation, Consumer, Sound, Among, IsBound, starts_over, loses_what_it_waits_for, with_item_first, founds, binds, binds_by_opening, binds_by_showing, to_front, brings_body}
 use Rattle.hc_event.specs.declared.event.Event.TheVariants as event
 use Rattle.hc_event.specs.declared.place.Place.TheVariants as place
 use Rattle.hc_model.specs.Sound.{is_bound}
@@ -35,8 +35,7 @@ brings_nothing t now c _ acts (polls want) = record { names = refl; bodiless = r
 brings_nothing t now c _ acts cancels = record { names = refl; bodiless = refl; caseless = refl; doomless = refl; nowhere = refl; exchange = λ x w. refl; representation = λ r v. refl; founds_none = λ r. refl; goes_on = λ r w. refl; headless = λ d. refl; heard = λ d k other. rw other refl; made = λ d other. refl }
 
 no_number : (o : Option ℕ) → is_same_number o None ≡ false
-no_number None = refl
-no_number (Some n) = refl
+no_number o = grind (arith, nat_tests)
 
 -- LISTS
 
@@ -78,8 +77,7 @@ and_so true b so = so refl
 and_so false b so = refl
 
 pub open_there : (o : Option Exchange) → is_open o ≡ true → is_some o ≡ true
-open_there None on = on
-open_there (Some w) on = refl
+open_there o on = grind (arith, nat_tests)
 
 -- WHAT SOMEBODY LEAVES
 
@@ -101,12 +99,7 @@ module _ (t : Tables) (s : Sound t) (o : Owners t) (c : ℕ) (k : Consumer) (row
             let one : x ≡ y = s.one_about r x y (writer_about t r x all.0 s all.1 all.2 all.3) (s.writes.own_about r c y k reader own) in
             o.apart r x c all.0 k all.1 all.2 all.3 row (subst (λ z. k.own ≡ Some z) (sym one) (own_open_of t k y own).own),
       )
-  shared_by x place.Line at is = absurd (none_some x is)
-  shared_by x (place.Passed r kept) at is = absurd (none_some x is)
-  shared_by x (place.Turn y) at is = absurd (none_some x is)
-  shared_by x (place.Direct y) at is = absurd (none_some x is)
-  shared_by x (place.Down why) at is = absurd (none_some x is)
-  shared_by x place.Over at is = absurd (none_some x is)
+  shared_by x _ at is = absurd (none_some x is)
 
   -- what it leaves is open
   pub left_open : (x : ℕ) → left_by t c k ≡ Some x → is_open (t.exchange x) ≡ true
@@ -182,19 +175,11 @@ module _ (t : Tables) (e : Entry) (a : ℕ) (n : BringsNothing t e a) where
   -- by a bypass, a loss, a failed read, an early end or an eviction
   pub goes_as : (r : ℕ) (v : Representation) → becomes_gone t e r v ≡ ((is_current t v.key r && is_key (bypass_key e) v.key) || loses_in r e.acts || misreads_in r e.acts || (ends_early t e r v && not (is_keepable v)) || evicts_in r e.acts)
   unfolding becomes_gone
-  goes_as r v = rw (n.doomless, n.nowhere) (drop_false (is_current t v.key r && is_key (bypass_key e) v.key) (loses_in r e.acts) (misreads_in r e.acts) (ends_early t e r v && not (is_keepable v)) (evicts_in r e.acts))
-    where
-      drop_false : (a b c d f : Bool) → (a || false || b || c || d || f) ≡ (a || b || c || d || f)
-      drop_false true b c d f = refl
-      drop_false false b c d f = refl
+  goes_as r v = grind (arith, nat_tests)
 
   -- an exchange that isn't closed doesn't end early
   pub ends_none : (r : ℕ) (v : Representation) → closes_in r e.acts ≡ false → ends_early t e r v ≡ false
-  ends_none r v closes = then_false (v.head.status == 200) (ends_founding e r (t.exchange r)) (by_row (t.exchange r))
-    where
-      by_row : (o : Option Exchange) → ends_founding e r o ≡ false
-      by_row None = refl
-      by_row (Some w) = then_false w.is_open (stops_early w r e.event || closes_in r e.acts) (rw (n.goes_on r w, closes) refl)
+  ends_none r v closes = grind (arith, nat_tests)
 
   pub goes_nothing : (r : ℕ) (v : Representation) → bypass_key e ≡ None → loses_in r e.acts ≡ false → misreads_in r e.acts ≡ false → closes_in r e.acts ≡ false → evicts_in r e.acts ≡ false → becomes_gone t e r v ≡ false
   goes_nothing r v bypass loses misreads closes evicts = goes_as r v ∙ rw (bypass, loses, misreads, ends_none r v closes, evicts) (drop_and (is_current t v.key r))

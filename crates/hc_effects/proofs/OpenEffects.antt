@@ -3,7 +3,6 @@ use Rattle.std.{proofs.Common.{◌≡◌, inl, inr, ℕ, ◌+◌, List, [], ◌�
 use Rattle.hc_text.proofs.Basics.{eqb-same, plus_none, some_inj}
 use Rattle.hc_effects.proofs.Vocabulary.{Opening, opening_in, Need, Request, route_of, Limits, Place, consumer_acted, opened_place, unless_bound, current, bypassed_for, Does, with_event, with_consumer, with_opening, just_opened, let_all_go, Entry, exchange_after, exchange_made, aim_from, aim_of, NoFlaw, becomes_gone, Lawful, Opens, acts_of, move_of, bound_to, reads, Tables, Exchange, Representation, Consumer, to_front, binds, is_hole}
 use Rattle.hc_event.specs.declared.event.Event.TheVariants as event
-use Rattle.hc_event.specs.declared.place.Place.TheVariants as place
 use Rattle.hc_effects.proofs.{OfConsumers.{BringsNothing, brings_nothing, row_unsaid, binds_as}, OpenedAs.{OpenedAs, opened_as}, PieceKeeps.{eq_cases}, PollEffects.{acts_are, nothing_goes, poll_does}, PollKeeps.{poll_opens_next}, Said.{IsOpening}, SameTables.{is_in, waits_for_any}, Untouched.{own_stays, spared_bodiless, exchange_absent}, WaitingNew.{aim_free}}
 use Rattle.hc_effects.proofs.OfConsumers as event_of
 use Rattle.hc_effects.proofs.PollEffects as polls

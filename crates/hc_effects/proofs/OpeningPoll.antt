@@ -1,5 +1,5 @@
 -- A poll that opens an exchange closes, loses and evicts nothing, and nobody leaves by it.
-use Rattle.std.{proofs.Common.{◌≡◌, inl, inr, ℕ, List, [], ◌∷◌, ◌++◌, Bool, true, false, cond, Option, Some, None, refl, ap, sym, ◌∙◌, subst}, specs.{Prelude.{map, ◌&&◌, ◌||◌}, Option.{option_or}}}
+use Rattle.std.{proofs.Common.{◌≡◌, inl, inr, ℕ, List, [], ◌∷◌, ◌++◌, Bool, true, false, cond, Option, Some, None, refl, ap, sym, ◌∙◌, subst}, specs.{Prelude.{map, ◌&&◌}, Option.{option_or}}}
 use Rattle.hc_text.proofs.Basics.{and_left, and_right, not_some as none_some, never_true as not_so, or_cases}
 use Rattle.hc_effects.proofs.Vocabulary.{Opening, opening_in, leaves_in, closes_in, evicts_in, is_denied, Event, Act, LostKind, Limits, showing_in, loses_in, misreads_in, leaver_in, without_losses, poll_acts, loss_acts, case_at, case_of, closing, must_close, is_refused, is_doomed, brings_head, has_no_survivor, is_left, leaver, is_number, doomed_key_of, is_key, Entry, family, Flaw, NoFlaw, Loses, Misreads, flaw_in, entry_of, Opens, acts_of, poll_move, Tables, Exchange, Representation, may_stand, may_be, Sound, loses_writing, written_representation, seals_at, first_found, lossless, sealed_by}
 use Rattle.hc_event.specs.declared.event.Event.TheVariants as event
@@ -10,14 +10,12 @@ use Rattle.hc_effects.proofs.{Basics.{false_true}, Closed.{before}, PollKeeps.{c
 
 pub no_misread : (r : ℕ) (xs : List ℕ) (f : Flaw) → misreads_in r (map act.Close xs ++ loss_acts f) ≡ false
 no_misread r [] NoFlaw = refl
-no_misread r [] (Loses q kind) = refl
-no_misread r [] (Misreads q) = refl
+no_misread r [] _ = refl
 no_misread r (x ∷ xs) f = no_misread r xs f
 
 no_showing : (xs : List ℕ) (f : Flaw) → showing_in (map act.Close xs ++ loss_acts f) ≡ None
 no_showing [] NoFlaw = refl
-no_showing [] (Loses q kind) = refl
-no_showing [] (Misreads q) = refl
+no_showing [] _ = refl
 no_showing (x ∷ xs) f = no_showing xs f
 
 losses_of : (r : ℕ) (xs : List ℕ) (f : Flaw) → loses_in r (map act.Close xs ++ loss_acts f) ≡ loses_in r (loss_acts f)
@@ -52,9 +50,8 @@ module _ (limits : Limits) (t : Tables) (now : ℕ) (flaw : Flaw) (s : Sound t) 
         none_some p (sym none ∙ (sym (ap (λ f. opening_in (poll_acts t now want c f ++ behind)) at) ∙ opens))
 
     said_is : (f : Flaw) → flaw ≡ f → poll_acts t now want c f ≡ acts_of c (Opens p.x p.need p.request)
-    said_is NoFlaw at = ap (acts_of c) move_is
-    said_is (Loses r kind) at = ap (acts_of c) move_is
     said_is (Misreads r) at = absurd (not_misread r at)
+    said_is _ at = ap (acts_of c) move_is
 
     pub acts_are : e.acts ≡ acts_of c (Opens p.x p.need p.request) ++ behind
     acts_are = ap (λ acts. acts ++ behind) (said_is flaw refl)
@@ -144,9 +141,8 @@ module _ (limits : Limits) (t : Tables) (now : ℕ) (flaw : Flaw) (s : Sound t) 
         ]
 
     lost_not : (r : ℕ) (f : Flaw) → may_stand limits t e ≡ true → flaw ≡ f → loses_in r (loss_acts f) ≡ false
-    lost_not r NoFlaw stand at = refl
     lost_not r (Loses q kind) stand at = absurd (loses_not q kind stand at)
-    lost_not r (Misreads q) stand at = refl
+    lost_not r _ stand at = refl
 
     pub loses_none : (r : ℕ) → may_stand limits t e ≡ true → loses_in r e.acts ≡ false
     loses_none r stand = ap (loses_in r) acts_are ∙ (losses_of r xs flaw ∙ lost_not r flaw stand refl)

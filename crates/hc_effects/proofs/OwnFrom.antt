@@ -1,46 +1,26 @@
 -- Where the own exchange of a consumer after an entry is from: it was its own, it is opened for it, or a lost writing is left to it.
-use Rattle.std.{proofs.{Common.{◌≡◌, ◌⊎◌, inl, inr, ℕ, Bool, true, false, Option, Some, None, refl, ap, ◌∙◌, arith}, lemmas.Bool.Decides.{nat_tests}}, specs.Prelude.{if◌then◌else◌, ◌==◌, ◌&&◌, not, is_none}}
-use Rattle.hc_text.proofs.Basics.{bool_cases, some_inj}
-use Rattle.hc_effects.proofs.Vocabulary.{Opening, opening_in, Event, Place, BoundBy, case_at, consumer_heard, by_head, by_fault, becomes_shared, by_opening, own_after, left_to, waiting, consumer_acted, consumer_settled, consumer_made, consumer_after, due_after, is_number, Entry, Tables, Exchange, Representation, Consumer, starts_over, loses_writing, survivor}
+use Rattle.std.{proofs.{Common.{◌≡◌, ◌⊎◌, inl, inr, ℕ, Bool, true, false, Option, Some, None, refl, ap, ◌∙◌, arith}, lemmas.Bool.Decides.{nat_tests}}, specs.Prelude.{◌==◌, ◌&&◌}}
+use Rattle.hc_text.proofs.Basics.{and_right as right, and_left, not_some as none_some, bool_cases, some_inj}
+use Rattle.hc_effects.proofs.{Basics.{number_is}, PieceKeeps.{eq_cases}}
+use Rattle.hc_effects.proofs.Vocabulary.{Opening, opening_in, Event, Place, BoundBy, consumer_heard, by_head, by_fault, by_opening, own_after, left_to, waiting, consumer_acted, consumer_settled, consumer_made, consumer_after, due_after, is_number, Entry, Tables, Exchange, Representation, Consumer, starts_over, loses_writing, survivor}
 use Rattle.hc_event.specs.declared.event.Event.TheVariants as event
 use Rattle.hc_event.specs.declared.place.Place.TheVariants as place
-use Rattle.hc_effects.proofs.PieceKeeps.{eq_cases}
 
 module _ (t : Tables) (e : Entry) (c x : ℕ) where
-  none_some : {A : Type 0} (a : A) → None ≡ Some a → ⊥
-  none_some a is = cc
-
-  -- by an event an own exchange is only given up: it becomes that of a shared writing
-  shared_or : (b : Bool) (o : Option ℕ) → (if b then None else o) ≡ Some x → (b ≡ false) × (o ≡ Some x)
-  shared_or true o is = absurd (none_some x is)
-  shared_or false o is = (refl, is)
-
   pub heard_own : (ev : Event) (k : Consumer) → (consumer_heard t e c ev k).own ≡ Some x → k.own ≡ Some x
-  heard_own (event.Start d request) k is = is
-  heard_own (event.Poll d want) k is = is
   heard_own (event.Head y response) k is = by_row (t.exchange y) is
     where
       by_row : (o : Option Exchange) → (by_head t e c y response o k).own ≡ Some x → k.own ≡ Some x
-      by_row None is = is
-      by_row (Some w) is = elim (eq_cases w.c c) [
-        | inl here ↦ (shared_or (becomes_shared t e response w (case_at t e)) k.own (rw here.0 at is)).1
-        | inr other ↦ rw other.0 at is
-      ]
-  heard_own (event.Piece y bytes) k is = is
-  heard_own (event.End y) k is = is
+      by_row o is = grind (arith, nat_tests)
   heard_own (event.Fault y) k is = by_row (t.exchange y) is
     where
       by_row : (o : Option Exchange) → (by_fault c y o k).own ≡ Some x → k.own ≡ Some x
-      by_row None is = is
-      by_row (Some w) is = elim (bool_cases (w.c == c && is_none w.head && not k.shown)) [
-        | inl here ↦ rw here at is
-        | inr other ↦ rw other at is
-      ]
+      by_row o is = grind (arith, nat_tests)
   heard_own (event.Cancel d) k is = elim (bool_cases (d == c)) [
     | inl here ↦ rw here at is
     | inr other ↦ rw other at is
   ]
-  heard_own (event.Doom key) k is = is
+  heard_own _ k is = is
 
   -- the writing of r is lost, and left to c
   pub record IsLeft (p : Place) : Type 0 where
@@ -54,18 +34,6 @@ module _ (t : Tables) (e : Entry) (c x : ℕ) where
     pub loses : loses_writing t e r v ≡ true
     pub survives : survivor t r v ≡ Some c
     pub writer_is : v.writer ≡ Some x
-
-  number_is : (o : Option ℕ) (n : ℕ) → is_number o n ≡ true → o ≡ Some n
-  number_is None n h = absurd (let never : false ≡ true = h in cc)
-  number_is (Some m) n h = let same : m ≡ n = grind (arith, nat_tests) in ap Some same
-
-  and_left : (a b : Bool) → (a && b) ≡ true → a ≡ true
-  and_left true b h = refl
-  and_left false b h = absurd (let never : false ≡ true = h in cc)
-
-  right : (a b : Bool) → (a && b) ≡ true → b ≡ true
-  right true b h = h
-  right false b h = absurd (let never : false ≡ true = h in cc)
 
   left_by : (r lo : ℕ) (hi : Option ℕ) (how : BoundBy) (o : Option Representation) (own : Option ℕ) (p : Place) → p ≡ place.Bound r lo hi how → t.representation r ≡ o → left_to t e c r o own ≡ Some x → (own ≡ Some x) ⊎ IsLeft p
   left_by r lo hi how None own p at row is = inl is
@@ -86,13 +54,8 @@ module _ (t : Tables) (e : Entry) (c x : ℕ) where
   ]
 
   pub after_by : (p : Place) (own : Option ℕ) → own_after t e c p own ≡ Some x → (own ≡ Some x) ⊎ IsLeft p
-  after_by place.Line own is = inl is
-  after_by (place.Passed r kept) own is = inl is
-  after_by (place.Turn y) own is = inl is
   after_by (place.Bound r lo hi how) own is = left_by r lo hi how (t.representation r) own (place.Bound r lo hi how) refl refl is
-  after_by (place.Direct y) own is = inl is
-  after_by (place.Down cause) own is = inl is
-  after_by place.Over own is = inl is
+  after_by _ own is = inl is
 
   pub data IsOpened (k : Consumer) : Type 0 where
     same : k.own ≡ Some x → IsOpened k
@@ -141,17 +104,7 @@ module _ (t : Tables) (e : Entry) (c x : ℕ) where
       from_row k u (record { row = row; stays = all.0; is = all.1 }) all.2
 
   made : (ev : Event) (u : Consumer) → consumer_made c e.now ev ≡ Some u → u.own ≡ Some x → ⊥
-  made (event.Start d request) u h own = elim (eq_cases d c) [
-    | inl here ↦ none_some x (ap (λ (z : Consumer). z.own) (some_inj _ u (rw here.0 at h)) ∙ own)
-    | inr other ↦ none_some u (rw other.0 at h)
-  ]
-  made (event.Poll d want) u h own = none_some u h
-  made (event.Head y response) u h own = none_some u h
-  made (event.Piece y bytes) u h own = none_some u h
-  made (event.End y) u h own = none_some u h
-  made (event.Fault y) u h own = none_some u h
-  made (event.Cancel d) u h own = none_some u h
-  made (event.Doom key) u h own = none_some u h
+  made ev u h own = grind (arith, nat_tests)
 
   pub own_from : (o : Option Consumer) (u : Consumer) → t.consumer c ≡ o → consumer_after t e c o ≡ Some u → u.own ≡ Some x → OwnFrom u
   unfolding consumer_after

@@ -1,7 +1,7 @@
 -- Whose an exchange is stays told: what is opened is of its consumer's key, and an own exchange is of one consumer alone.
-use Rattle.std.{proofs.Common.{◌≡◌, inl, inr, ℕ, ◌+◌, Bool, true, false, cond, Option, Some, None, refl, ap, sym, ◌∙◌, subst, arith}, specs.Prelude.{is_some}}
-use Rattle.hc_text.proofs.Basics.{and_left, and_right, same_some as same_row}
-use Rattle.hc_effects.proofs.Vocabulary.{Opening, opening_in, Event, Request, Response, writer_at, Limits, is_bypassing, Place, loses_in, denial, Entry, exchange_opened, family, Flaw, entry_of, Owners, IsFor, is_written, Tables, Exchange, Representation, Consumer, Sound, after_accepted, loses_writing, survivor}
+use Rattle.std.{proofs.{lemmas.Bool.Decides.{nat_tests}, Common.{◌≡◌, ℕ, ◌+◌, true, false, Option, Some, None, refl, ap, sym, ◌∙◌, subst, arith}}, specs.Prelude.{is_some}}
+use Rattle.hc_text.proofs.Basics.{not_some as none_some, and_left, and_right, same_some as same_row}
+use Rattle.hc_effects.proofs.Vocabulary.{Opening, opening_in, Event, Request, Limits, is_bypassing, Place, loses_in, denial, Entry, exchange_opened, family, Flaw, entry_of, Owners, IsFor, is_written, Tables, Exchange, Representation, Consumer, Sound, after_accepted, loses_writing, survivor}
 use Rattle.hc_event.specs.declared.event.Event.TheVariants as event
 use Rattle.hc_event.specs.declared.place.Place.TheVariants as place
 use Rattle.hc_event.specs.declared.place.BoundBy.TheVariants as by
@@ -10,7 +10,6 @@ use Rattle.hc_effects.proofs.{BoundFrom.{BoundFrom, bound_from}, ExchangeFrom.{E
 use Rattle.hc_effects.proofs.BoundFrom as bound
 use Rattle.hc_effects.proofs.ExchangeFrom as exchange
 use Rattle.hc_effects.proofs.OwnFrom as own
-use Rattle.hc_effects.proofs.RepFrom as rep
 
 module _ (limits : Limits) (t : Tables) (now : ℕ) (flaw : Flaw) (s : Sound t) (o : Owners t) (ev : Event) (goes : denial t ev ≡ None) where
   abbrev e : Entry
@@ -18,9 +17,6 @@ module _ (limits : Limits) (t : Tables) (now : ℕ) (flaw : Flaw) (s : Sound t) 
 
   abbrev now_on : Tables
   now_on = after_accepted t e
-
-  none_some : {A : Type 0} (a : A) → None ≡ Some a → ⊥
-  none_some a is = cc
 
   -- OPENERS
 
@@ -157,21 +153,8 @@ module _ (limits : Limits) (t : Tables) (now : ℕ) (flaw : Flaw) (s : Sound t) 
 
   -- WRITERS
 
-  writer_founded : (r x : ℕ) (response : Response) → writer_at r response ≡ Some x → r ≡ x
-  writer_founded r x response is = by_status _ is
-    where
-      by_status : (b : Bool) → (cond b None (Some r)) ≡ Some x → r ≡ x
-      by_status true is = absurd (none_some x is)
-      by_status false is = cc
-
   writer_from : (r x : ℕ) (u : Representation) → RepFrom t e r u → u.writer ≡ Some x → is_some (t.exchange x) ≡ true
-  writer_from r x u (rep.was v kept) is = elim kept.writer_is [
-    | inl same ↦ o.writers r x v kept.row (sym same ∙ is)
-    | inr resumed ↦ let same : resumed.x ≡ x = (let eq : Some resumed.x ≡ Some x = sym resumed.writer_is ∙ is in cc) in ap is_some (sym (ap t.exchange same) ∙ resumed.row)
-  ]
-  writer_from r x u (rep.founded response w none at row on made) is =
-      let same : r ≡ x = writer_founded r x response (ap (λ (z : Representation). z.writer) made ∙ is) in
-      ap is_some (sym (ap t.exchange same) ∙ row)
+  writer_from r x u it3 is = grind (arith, nat_tests)
 
   pub writers_kept : (r x : ℕ) (u : Representation) → now_on.representation r ≡ Some u → u.writer ≡ Some x → is_some (now_on.exchange x) ≡ true
   writers_kept r x u row is = there_by x (writer_from r x u (rep_from t e r (t.representation r) u refl row) is)

@@ -1,13 +1,12 @@
 -- What a part tells: its last position is before the length of the whole, and it promises no more.
-use Rattle.std.{proofs.{Common.{◌≡◌, inl, inr, ℕ, ◌+◌, ◌-◌, ◌<◌, ◌≤◌, List, [], ◌∷◌, Bool, true, false, cond, Option, Some, None, refl, arith}, lemmas.Bool.Decides.{nat_tests}}, specs.{Prelude.{nat_eq, nat_lt, nat_le, codes, bytes_eq, if◌then◌else◌, option_map, take, drop}, Option.{option_and_then}, Str.{str_to_ascii_lowercase}}}
+use Rattle.std.{proofs.{Common.{◌≡◌, inl, inr, ℕ, ◌+◌, ◌-◌, ◌<◌, ◌≤◌, List, [], ◌∷◌, Bool, true, false, cond, Option, Some, None, refl, arith}, lemmas.Bool.Decides.{nat_tests}}, specs.{Prelude.{nat_eq, nat_lt, codes, bytes_eq, if◌then◌else◌, option_map, take, drop}, Option.{option_and_then}, Str.{str_to_ascii_lowercase}}}
 use Rattle.hc_text.proofs.Basics.{bool_cases, not_some as none_some, some_inj}
 use Rattle.hc_fields.specs.{FieldElements.{elements_in}, FieldList.{values_of}, FirstValues.{only_of}}
 use Rattle.hc_range.specs.declared.range.Asked.{Asked, TheVariants.{FromTo, From, Last}}
 use Rattle.hc_range.specs.declared.range.ContentRange.TheVariants as range
-use Rattle.hc_effects.proofs.Vocabulary.{Request, Response, Need, Length, Route, length_of, base_of, promise_of, is_bad, part_length, agrees, content_length_of, has_no_body, tells_part, all_tell, route_of, content_range_of, content_range_in, spec_in, positions_from, positions_by, from_to, number_of, split_at, hyphen}
+use Rattle.hc_effects.proofs.Vocabulary.{Request, Response, Need, Length, Route, length_of, base_of, promise_of, is_bad, part_length, agrees, content_length_of, has_no_body, tells_part, route_of, content_range_of, content_range_in, spec_in, positions_from, positions_by, from_to, number_of, split_at, hyphen}
 use Rattle.hc_rules.specs.declared.length.Length.TheVariants as told
 use Rattle.hc_rules.specs.declared.need.Route.TheVariants as route
-use Rattle.hc_rules.specs.Lengths as lengths
 use Rattle.hc_rules.specs.RangeTexts.{response_in, response_from, content_range_from, with_total, without_part, slash}
 
 -- POSITIONS IN ORDER
@@ -20,25 +19,9 @@ pub record IsInOrder (first last total : ℕ) : Type 0 where
 part_inj : (a b first last total : ℕ) (o : Option ℕ) → range.Part a b o ≡ range.Part first last (Some total) → (a ≡ first) × (b ≡ last) × (o ≡ Some total)
 part_inj a b first last total o is = (cc, cc, cc)
 
-unsatisfied_part : (n first last total : ℕ) → range.Unsatisfied n ≡ range.Part first last (Some total) → ⊥
-unsatisfied_part n first last total is = cc
-
-asked_inj : (a b c d : ℕ) → FromTo a b ≡ FromTo c d → (a ≡ c) × (b ≡ d)
-asked_inj a b c d is = (cc, cc)
-
 -- a range from one position to another is in order
 in_order : (a b : Option ℕ) (first last : ℕ) → from_to a b ≡ Some (FromTo first last) → first ≤ last
-in_order None b first last is = absurd (none_some _ is)
-in_order (Some a) None first last is = absurd (none_some _ is)
-in_order (Some a) (Some b) first last is = elim (bool_cases (nat_le a b)) [
-  | inr off ↦ absurd (none_some _ (rw off at is))
-  | inl on ↦
-      let same = asked_inj a b first last (some_inj _ _ (rw on at is)) in
-      let le : a ≤ b = grind (arith, nat_tests) in
-      let p : a ≡ first = same.0 in
-      let q : b ≡ last = same.1 in
-      omega arith
-]
+in_order a b first last is = grind (arith, nat_tests)
 
 by_map : (o : Option ℕ) (f : ℕ → Asked) (a : Asked) → ((n : ℕ) → f n ≡ a → ⊥) → option_map f o ≡ Some a → ⊥
 by_map None f a other is = none_some _ is
@@ -69,14 +52,7 @@ with_order a b None text first last total is = elim (bool_cases (bytes_eq text (
 ]
 
 without_not : (positions text : List ℕ) (first last total : ℕ) → without_part positions text ≡ Some (range.Part first last (Some total)) → ⊥
-without_not positions text first last total is = elim (bool_cases (bytes_eq positions (codes "*"))) [
-  | inr off ↦ none_some _ (rw off at is)
-  | inl on ↦ by_number (number_of text) (rw on at is)
-]
-  where
-    by_number : (o : Option ℕ) → option_map range.Unsatisfied o ≡ Some (range.Part first last (Some total)) → ⊥
-    by_number None h = none_some _ h
-    by_number (Some n) h = unsatisfied_part n first last total (some_inj _ _ h)
+without_not positions text first last total is = grind (arith, nat_tests)
 
 told_order : (positions text : List ℕ) (o : Option Asked) (first last total : ℕ) → spec_in positions ≡ o → content_range_from positions text o ≡ Some (range.Part first last (Some total)) → IsInOrder first last total
 told_order positions text None first last total at is = absurd (without_not positions text first last total is)
@@ -118,8 +94,7 @@ pub record IsWithin (total : ℕ) (l : Length) : Type 0 where
   pub ends : base_of l + n ≤ total
 
 within_if : (total : ℕ) (b : Bool) (x y : Length) → (is_bad x ≡ false → IsWithin total x) → (is_bad y ≡ false → IsWithin total y) → is_bad (cond b x y) ≡ false → IsWithin total (cond b x y)
-within_if total true x y p q = p
-within_if total false x y p q = q
+within_if total b x y p q = grind (arith, nat_tests)
 
 within_part : (first last total : ℕ) (said : Length) → IsInOrder first last total → is_bad (part_length said (Some (range.Part first last (Some total)))) ≡ false → IsWithin total (part_length said (Some (range.Part first last (Some total))))
 within_part first last total said i =
@@ -129,8 +104,7 @@ within_part first last total said i =
 
 by_way : (way : Route) (status : ℕ) → (way ≡ route.Direct → ⊥) → status ≡ 206 → tells_part way status ≡ true
 by_way route.Direct status past is = absurd (past refl)
-by_way route.Turn status past is = let test : nat_eq status 206 ≡ true = grind (arith, nat_tests) in test
-by_way route.Hole status past is = let test : nat_eq status 206 ≡ true = grind (arith, nat_tests) in test
+by_way _ status past is = let test : nat_eq status 206 ≡ true = grind (arith, nat_tests) in test
 
 -- a part that isn't bad promises bytes within the whole
 pub part_within : (n : Need) (request : Request) (response : Response) (first last total : ℕ) → (route_of n ≡ route.Direct → ⊥) → response.status ≡ 206 → content_range_of response.fields ≡ Some (range.Part first last (Some total)) → is_bad (length_of n request response) ≡ false → IsWithin total (length_of n request response)
@@ -144,25 +118,13 @@ part_within n request response first last total past status part =
 -- WITHOUT A PART
 
 plain_told : (elements : List (List ℕ)) → base_of (content_length_of elements) ≡ 0
-plain_told [] = refl
-plain_told (element ∷ elements) = by_test (all_tell (number_of element) (element ∷ elements)) (number_of element)
-  where
-    by_number : (o : Option ℕ) → base_of (lengths.promised_or_bad o) ≡ 0
-    by_number None = refl
-    by_number (Some n) = refl
-
-    by_test : (b : Bool) (o : Option ℕ) → base_of (if b then lengths.promised_or_bad o else told.Bad) ≡ 0
-    by_test true o = by_number o
-    by_test false o = refl
+plain_told elements = grind (arith, nat_tests)
 
 base_if : (b : Bool) (x y : Length) → base_of x ≡ 0 → base_of y ≡ 0 → base_of (cond b x y) ≡ 0
-base_if true x y p q = p
-base_if false x y p q = q
+base_if b x y p q = grind (arith, nat_tests)
 
 off_way : (way : Route) (status : ℕ) → nat_eq status 206 ≡ false → tells_part way status ≡ false
-off_way route.Direct status off = refl
-off_way route.Turn status off = off
-off_way route.Hole status off = off
+off_way way status off = grind (arith, nat_tests)
 
 -- a whole answer begins at the first position
 pub whole_base : (n : Need) (request : Request) (response : Response) → nat_eq response.status 206 ≡ false → base_of (length_of n request response) ≡ 0
@@ -179,8 +141,7 @@ pub data IsTold (first last : ℕ) (l : Length) : Type 0 where
   part : l ≡ told.Part first (last + 1 - first) → IsTold first last l
 
 told_if : (first last : ℕ) (b : Bool) (x y : Length) → (is_bad x ≡ false → IsTold first last x) → (is_bad y ≡ false → IsTold first last y) → is_bad (cond b x y) ≡ false → IsTold first last (cond b x y)
-told_if first last true x y p q = p
-told_if first last false x y p q = q
+told_if first last b x y p q = grind (arith, nat_tests)
 
 pub part_told : (n : Need) (request : Request) (response : Response) (first last total : ℕ) → (route_of n ≡ route.Direct → ⊥) → response.status ≡ 206 → content_range_of response.fields ≡ Some (range.Part first last (Some total)) → is_bad (length_of n request response) ≡ false → IsTold first last (length_of n request response)
 unfolding length_of

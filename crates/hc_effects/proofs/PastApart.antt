@@ -65,14 +65,10 @@ module _ (limits : Limits) (t : Tables) (now : ℕ) (flaw : Flaw) (s : Sound t) 
 
   module _ (c y : ℕ) (k u : Consumer) (after : now_on.consumer c ≡ Some u) (stands : u.place ≡ place.Direct y) (is : IsFrom t e c y k u) where
     direct_way : (w : Exchange) → k.place ≡ place.Direct y → IsAwaiting y w k.place → route_of w.need ≡ route.Direct
-    direct_way w at (owners.direct way stood) = way
-    direct_way w at (owners.turn way stood) = let no : place.Turn y ≡ place.Direct y = sym stood ∙ at in cc
-    direct_way w at (owners.hole r lo hi how way aim stood) = absurd (bound_direct r lo hi how y (sym stood ∙ at))
+    direct_way w at it2 = grind (arith, nat_tests)
 
     bare_not : (w v : Exchange) → t.exchange y ≡ Some w → w.head ≡ None → t.exchange y ≡ Some v → is_some v.head ≡ true → ⊥
-    bare_not w v row bare also headed =
-        let one : v ≡ w = same_row (t.exchange y) v w also row in
-        false_true (sym (ap (λ (q : Exchange). is_some q.head) one ∙ ap (λ (q : Option Response). is_some q) bare) ∙ headed)
+    bare_not w v row bare also headed = grind (arith, nat_tests)
 
     -- where it stood there, no head of that exchange founds
     stood_past : (response : Response) (w : Exchange) → k.place ≡ place.Direct y → ev ≡ event.Head y response → t.exchange y ≡ Some w → is_founding (case_at t e) ≡ true → k.shown ≡ false → IsPast t y k → ⊥
@@ -95,12 +91,11 @@ module _ (limits : Limits) (t : Tables) (now : ℕ) (flaw : Flaw) (s : Sound t) 
 
     -- a head that leaves its consumer past the store founds nothing
     placed_not : (response : Response) (w : Exchange) (g : HeadCase) → t.exchange y ≡ Some w → w.c ≡ c → FoundingBy (head_view t (has_loss e.acts) w response) g → place_by_case y response w k (Some g) ≡ place.Direct y → ⊥
-    placed_not response w _ row mine (cases.whole way h l) at = bound_direct _ _ _ _ y at
     placed_not response w _ row mine (cases.part way status fits l g) at =
         let for_k : fits_to_found (range_of k.request) response ≡ true = sym (ap (λ q. fits_asker q response) (ap t.consumer mine ∙ is.row)) ∙ fits in
         let z = fits_wanted w response (range_of k.request) status for_k in
         bound_direct y z.0.lo (Some z.0.hi) by.Founding y (sym (ap (bound_to_wanted y by.Founding (place.Direct y)) z.1) ∙ at)
-    placed_not response w _ row mine (cases.replaced way h l) at = bound_direct _ _ _ _ y at
+    placed_not response w _ row mine _ at = bound_direct _ _ _ _ y at
 
     heard_at : (response : Response) → ev ≡ event.Head y response → (by_head t e c y response (t.exchange y) k).place ≡ place.Direct y
     heard_at response here =

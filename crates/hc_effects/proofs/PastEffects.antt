@@ -1,33 +1,18 @@
 -- What a poll does that opens an exchange past the store.
-use Rattle.std.proofs.Common.{◌≡◌, ℕ, [], Some, None, refl, ap, sym, ◌∙◌}
+use Rattle.std.proofs.{lemmas.Bool.Decides.{nat_tests}, Common.{arith, ◌≡◌, ℕ, [], Some, None, refl, ap, sym, ◌∙◌}}
 use Rattle.hc_effects.proofs.Vocabulary.{Need, Request, route_of, Limits, opened_place, unless_bound, current, bypassed_for, Does, with_event, with_consumer, with_opening, just_opened, NoFlaw, Lawful, Opens, acts_of, move_of, bound_to, Tables, Consumer, is_hole}
-use Rattle.hc_event.specs.declared.act.Need.TheVariants as need
 use Rattle.hc_event.specs.declared.event.Event.TheVariants as event
 use Rattle.hc_rules.specs.declared.need.Route.TheVariants as route
 use Rattle.hc_event.specs.declared.place.Place.TheVariants as place
-use Rattle.hc_effects.proofs.{Basics.{false_true}, OpenEffects.{why, keeps_all, binds_none, about_current}, OpenedAs.{Way}, PollEffects.{none_waits}}
-use Rattle.hc_effects.proofs.OpenedAs as opened
+use Rattle.hc_effects.proofs.{Basics.{false_true}, OpenEffects.{why, keeps_all, binds_none, about_current}, OpenedAs.{free_by}, PollEffects.{none_waits}}
 
 -- it bypasses nothing
 plain_past : (n : Need) (request : Request) → route_of n ≡ route.Direct → bypassed_for n request.key ≡ None
-plain_past need.Disabled request way = refl
-plain_past need.TimedOut request way = refl
-plain_past need.Bypass request way = absurd (let never : route.Turn ≡ route.Direct = way in cc)
-plain_past need.Miss request way = refl
-plain_past need.Vary request way = refl
-plain_past need.Validate request way = refl
-plain_past (need.Hole from to) request way = refl
-plain_past need.Unsatisfied request way = refl
+plain_past n request way = grind (arith, nat_tests)
 
 module _ (limits : Limits) (t : Tables) (law : Lawful t) (now c want : ℕ) (k : Consumer) (row : t.consumer c ≡ Some k) (x : ℕ) (n : Need) (request : Request) (is : move_of t now want c k ≡ Opens x n request) (past : route_of n ≡ route.Direct) where
   free : bound_to k.place ≡ None
-  free = by_way (why limits t law now c want k row x n request is).way
-    where
-      by_way : Way t now c k n → bound_to k.place ≡ None
-      by_way (opened.passes_by free way) = free
-      by_way (opened.fetches free way cached) = free
-      by_way (opened.fills r v span hole free way now_is there wants found need_is cached) = free
-      by_way (opened.goes_on r lo hi how at way) = absurd (let never : route.Hole ≡ route.Direct = sym way ∙ past in cc)
+  free = free_by t now c k n (why limits t law now c want k row x n request is).way (λ way. let never : route.Hole ≡ route.Direct = sym way ∙ past in cc)
 
   place_is : unless_bound (bound_to k.place) k.place (opened_place t x k (route_of n)) ≡ place.Direct x
   place_is = rw (free, past) refl

@@ -1,18 +1,16 @@
 -- Who reads past the store and wasn't shown a head may be shown it, or waits for it.
 use Rattle.std.{proofs.{Common.{◌≡◌, ◌⊎◌, inl, inr, ℕ, Bool, true, false, Option, Some, None, refl, ap, sym, ◌∙◌, subst, arith}, lemmas.Bool.Decides.{nat_tests}}, specs.Prelude.{if◌then◌else◌, is_some, is_none, ◌==◌, ◌&&◌, ◌||◌, not, nat_eq}}
 use Rattle.hc_text.proofs.Basics.{bool_cases, not_some as none_some, same_some as same_row, some_inj}
-use Rattle.hc_effects.proofs.Vocabulary.{Opening, opening_in, leaves_in, shows_in, Event, Request, Response, Wait, HeadCase, Route, Wanted, Limits, route_of, piece_refusal, range_of, wanted_of, Place, BoundBy, Showing, showing_in, wait_in, case_at, consumer_heard, consumer_acted, consumer_settled, consumer_made, consumer_after, by_head, by_fault, by_opening, shown_place, waiting, waiting_place, due_after, place_by_case, passed_on, passed_by, kept_by, bound_to_wanted, opened_place, place_for_hole, unless_bound, current, row_of, denial, as_open, Entry, exchange_opened, exchange_in, Flaw, founded_total, entry_of, Owners, IsPast, reads, bound_to, Tables, Exchange, Representation, Consumer, may_stand, Sound, starts_over, after_accepted}
+use Rattle.hc_effects.proofs.Vocabulary.{Opening, opening_in, leaves_in, shows_in, Event, Response, Wait, HeadCase, Route, Wanted, Limits, route_of, range_of, wanted_of, Place, BoundBy, Showing, showing_in, wait_in, case_at, consumer_heard, consumer_acted, consumer_settled, consumer_made, consumer_after, by_head, by_fault, by_opening, shown_place, waiting, waiting_place, due_after, place_by_case, passed_on, bound_to_wanted, opened_place, unless_bound, denial, Entry, exchange_opened, exchange_in, Flaw, founded_total, entry_of, Owners, IsPast, bound_to, Tables, Exchange, Consumer, may_stand, Sound, starts_over, after_accepted}
 use Rattle.hc_event.specs.declared.event.Event.TheVariants as event
 use Rattle.hc_event.specs.declared.act.Cause.TheVariants as cause
-use Rattle.hc_event.specs.declared.act.Wait.TheVariants as wait
 use Rattle.hc_rules.specs.declared.heads.HeadCase.TheVariants as case
-use Rattle.hc_rules.specs.declared.need.Route.TheVariants as route
 use Rattle.hc_rules.specs.declared.request.Wanted.TheVariants as wanted
 use Rattle.hc_rules.specs.Refusals as refusals
 use Rattle.hc_event.specs.declared.place.Place.TheVariants as place
 use Rattle.hc_event.specs.declared.place.BoundBy.TheVariants as by
 use Rattle.hc_model.specs.Owners as owners
-use Rattle.hc_effects.proofs.{Basics.{false_true, or_false}, ConsumerFilters.{acted}, ExchangeFrom.{IsSame, IsHeaded}, Forward.{is_on, opened_on, is_untouched}, Once.{taken, never}, OwnersKeep.{new_number}, PieceKeeps.{eq_cases}, ToBeShown.{heard_place}, Waiters.{IsWaiter, waiter_of, unclosed}, WaitingKeeps.{waiting_kept}}
+use Rattle.hc_effects.proofs.{Basics.{or_false}, ConsumerFilters.{acted}, ExchangeFrom.{IsSame}, Forward.{is_on, opened_on, is_untouched}, Once.{never}, OwnersKeep.{new_number}, PieceKeeps.{eq_cases}, ToBeShown.{heard_place}, Waiters.{IsWaiter, waiter_of, unclosed}, WaitingKeeps.{waiting_kept}}
 
 -- WHERE A DIRECT PLACE IS FROM
 
@@ -26,9 +24,6 @@ module _ (t : Tables) (e : Entry) (c y : ℕ) where
   over_not : place.Over ≡ there → ⊥
   over_not is = cc
 
-  turn_not : (x : ℕ) → place.Turn x ≡ there → ⊥
-  turn_not x is = cc
-
   down_not : (why : Rattle.hc_event.specs.declared.act.Cause.Cause) → place.Down why ≡ there → ⊥
   down_not why is = cc
 
@@ -39,12 +34,7 @@ module _ (t : Tables) (e : Entry) (c y : ℕ) where
   direct_inj x is = cc
 
   passed_on_not : (x : ℕ) (o : Option ℕ) → passed_on x o ≡ there → ⊥
-  passed_on_not x None is = cc
-  passed_on_not x (Some r) is = cc
-
-  passed_by_not : (kept o : Option ℕ) → passed_by kept o ≡ there → ⊥
-  passed_by_not kept None is = cc
-  passed_by_not kept (Some r) is = cc
+  passed_on_not x o is = grind (arith, nat_tests)
 
   -- it stood there, a head came, or it is opened
   pub data PlaceFrom (p : Place) : Type 0 where
@@ -53,9 +43,8 @@ module _ (t : Tables) (e : Entry) (c y : ℕ) where
     opens : (o : Opening) → opening_in e.acts ≡ Some o → o.c ≡ c → o.x ≡ y → PlaceFrom p
 
   wanted_by : (x : ℕ) (v : Wanted) → bound_to_wanted x by.Founding (place.Direct x) v ≡ there → x ≡ y
-  wanted_by x wanted.TotalUnknown is = direct_inj x is
-  wanted_by x wanted.Unsatisfiable is = direct_inj x is
   wanted_by x (wanted.Interval span) is = absurd (bound_not x span.lo (Some span.hi) by.Founding is)
+  wanted_by x _ is = direct_inj x is
 
   case_place : (x : ℕ) (response : Response) (w : Exchange) (k : Consumer) (g : Option HeadCase) → place_by_case x response w k g ≡ there → (k.place ≡ there) ⊎ (x ≡ y)
   case_place x response w k None is = inl is
@@ -89,46 +78,22 @@ module _ (t : Tables) (e : Entry) (c y : ℕ) where
   ]
 
   fault_place : (x : ℕ) (o : Option Exchange) (k : Consumer) → (by_fault c x o k).place ≡ there → k.place ≡ there
-  fault_place x None k is = is
-  fault_place x (Some w) k is = elim (bool_cases (w.c == c && is_none w.head && not k.shown)) [
-    | inl here ↦ absurd (down_not (cause.Net x) (rw here at is))
-    | inr off ↦ rw off at is
-  ]
+  fault_place x o k is = grind (arith, nat_tests)
 
   heard_place_from : (v : Event) (k : Consumer) → e.event ≡ v → (consumer_heard t e c v k).place ≡ there → PlaceFrom k.place
-  heard_place_from (event.Start d request) k at is = stood is
-  heard_place_from (event.Poll d want) k at is = stood is
   heard_place_from (event.Head x response) k at is = head_place x response (t.exchange x) k at is
-  heard_place_from (event.Piece x bytes) k at is = stood is
-  heard_place_from (event.End x) k at is = stood is
   heard_place_from (event.Fault x) k at is = stood (fault_place x (t.exchange x) k is)
   heard_place_from (event.Cancel d) k at is = elim (bool_cases (d == c)) [
     | inl here ↦ absurd (over_not (rw here at is))
     | inr off ↦ stood (rw off at is)
   ]
-  heard_place_from (event.Doom key) k at is = stood is
+  heard_place_from _ k at is = stood is
 
   waited : (k : Consumer) (o : Option Wait) → waiting_place t k o ≡ there → k.place ≡ there
-  waited k None is = is
-  waited k (Some (wait.Turn d)) is = absurd (line_not is)
-  waited k (Some (wait.Busy d)) is = absurd (passed_by_not (kept_by k.place) (current t k.request.key) is)
-  waited k (Some (wait.Head x)) is = is
-  waited k (Some (wait.Body x)) is = is
-
-  hole_wanted : (x r : ℕ) (v : Wanted) → bound_to_wanted r (by.FirstHole x) place.Line v ≡ there → ⊥
-  hole_wanted x r wanted.TotalUnknown is = line_not is
-  hole_wanted x r wanted.Unsatisfiable is = line_not is
-  hole_wanted x r (wanted.Interval span) is = bound_not r span.lo (Some span.hi) (by.FirstHole x) is
-
-  hole_not : (x : ℕ) (request : Request) (q : Option ℕ) (v : Option Representation) → place_for_hole x request q v ≡ there → ⊥
-  hole_not x request None v is = line_not is
-  hole_not x request (Some r) None is = line_not is
-  hole_not x request (Some r) (Some v) is = hole_wanted x r (wanted_of (range_of request) v.head.total) is
+  waited k o is = grind (arith, nat_tests)
 
   route_place : (x : ℕ) (k : Consumer) (way : Route) → opened_place t x k way ≡ there → x ≡ y
-  route_place x k route.Direct is = direct_inj x is
-  route_place x k route.Turn is = absurd (turn_not x is)
-  route_place x k route.Hole is = absurd (hole_not x k.request (current t k.request.key) (row_of t (current t k.request.key)) is)
+  route_place x k way is = grind (arith, nat_tests)
 
   unless : (o : Opening) (k : Consumer) (q : Option ℕ) → opening_in e.acts ≡ Some o → o.c ≡ c → unless_bound q k.place (opened_place t o.x k (route_of o.need)) ≡ there → PlaceFrom k.place
   unless o k None row here is = opens o row here (route_place o.x k (route_of o.need) is)
@@ -142,14 +107,7 @@ module _ (t : Tables) (e : Entry) (c y : ℕ) where
   ]
 
   shown : (o : Option Showing) (p : Place) → shown_place c o p ≡ there → p ≡ there
-  shown None p is = is
-  shown (Some z) p is = elim (eq_cases z.c c) [
-    | inr off ↦ rw off.0 at is
-    | inl here ↦ elim (bool_cases (reads p)) [
-      | inl old ↦ rw (here.0, old) at is
-      | inr free ↦ absurd (bound_not z.r z.lo z.hi by.Plan (rw (here.0, free) at is))
-    ]
-  ]
+  shown o p is = grind (arith, nat_tests)
 
   -- the row before, and where it stood
   pub record IsFrom (k u : Consumer) : Type 0 where
@@ -186,17 +144,7 @@ module _ (t : Tables) (e : Entry) (c y : ℕ) where
       }
 
   made : (v : Event) (u : Consumer) → consumer_made c e.now v ≡ Some u → u.place ≡ there → ⊥
-  made (event.Start d request) u h stands = elim (eq_cases d c) [
-    | inl here ↦ line_not (ap (λ (z : Consumer). z.place) (some_inj _ u (rw here.0 at h)) ∙ stands)
-    | inr off ↦ none_some u (rw off.0 at h)
-  ]
-  made (event.Poll d want) u h stands = none_some u h
-  made (event.Head x response) u h stands = none_some u h
-  made (event.Piece x bytes) u h stands = none_some u h
-  made (event.End x) u h stands = none_some u h
-  made (event.Fault x) u h stands = none_some u h
-  made (event.Cancel d) u h stands = none_some u h
-  made (event.Doom key) u h stands = none_some u h
+  made v u h stands = grind (arith, nat_tests)
 
   pub direct_from : (o : Option Consumer) (u : Consumer) → t.consumer c ≡ o → consumer_after t e c o ≡ Some u → u.place ≡ there → (k : Consumer) × IsFrom k u
   unfolding consumer_after
@@ -225,17 +173,11 @@ module _ (limits : Limits) (t : Tables) (now : ℕ) (flaw : Flaw) (s : Sound t) 
     head_by z row (Some response) some rest = owners.answered z row (ap (λ (q : Option Response). is_some q) some)
 
     some_kept : (w z : Exchange) → IsSame t e y w z → is_some w.head ≡ true → is_some z.head ≡ true
-    some_kept w z same headed = by_heard same.heard_or
-      where
-        by_heard : ((z.head ≡ w.head) × (z.joined ≡ w.joined)) ⊎ IsHeaded t e y w z → is_some z.head ≡ true
-        by_heard (inl still) = ap (λ (q : Option Response). is_some q) still.0 ∙ headed
-        by_heard (inr got) = ap (λ (q : Option Response). is_some q) got.head_is
+    some_kept w z same headed = grind (arith, nat_tests)
 
     piece_refused : (bytes : Rattle.std.specs.Prelude.List ℕ) (w : Exchange) → t.exchange y ≡ Some w → w.head ≡ None → denial t (event.Piece y bytes) ≡ None → ⊥
     unfolding refusals.refusal_of
-    piece_refused bytes w row bare h =
-        let got = taken (Rattle.std.specs.Prelude.length bytes) w (sym (ap (λ z. piece_refusal (as_open z) (Rattle.std.specs.Prelude.length bytes)) row) ∙ h) in
-        false_true (sym (ap (λ (z : Option Response). is_some z) bare) ∙ got.headed)
+    piece_refused bytes w row bare h = grind (arith, nat_tests)
 
     head_refused : (response : Response) → t.exchange y ≡ None → denial t (event.Head y response) ≡ None → ⊥
     unfolding refusals.refusal_of
@@ -262,14 +204,11 @@ module _ (limits : Limits) (t : Tables) (now : ℕ) (flaw : Flaw) (s : Sound t) 
           over_not t e c y (sym over ∙ (sym (ap (λ v. (consumer_heard t e c v k).place) here) ∙ (sym heard ∙ stands)))
 
       unmet : (z : Exchange) → IsSame t e y w z → z.head ≡ None → (v : Event) → ev ≡ v → exchange_in v ≡ Some y → ⊥
-      unmet z same bare (event.Start d request) here h = none_some y h
-      unmet z same bare (event.Poll d want) here h = none_some y h
       unmet z same bare (event.Head x response) here h = same.unheard bare response (here ∙ ap (λ n. event.Head n response) (some_inj x y h))
       unmet z same bare (event.Piece x bytes) here h = piece_refused bytes w waiter.exchange_row waiter.bare (sym (ap (denial t) (here ∙ ap (λ n. event.Piece n bytes) (some_inj x y h))) ∙ goes)
       unmet z same bare (event.End x) here h = end_refused w waiter.exchange_row waiter.was_open waiter.bare (sym (ap (denial t) (here ∙ ap event.End (some_inj x y h))) ∙ goes)
       unmet z same bare (event.Fault x) here h = fault_not (here ∙ ap event.Fault (some_inj x y h))
-      unmet z same bare (event.Cancel d) here h = none_some y h
-      unmet z same bare (event.Doom key) here h = none_some y h
+      unmet z same bare _ here h = none_some y h
 
       still_waits : IsPast now_on y u
       still_waits =

@@ -1,6 +1,6 @@
 -- What a piece does that is brought past the store, that is stored, or whose write is refused where it isn't written for several.
-use Rattle.std.{proofs.Common.{◌≡◌, inl, inr, ℕ, List, [], ◌∷◌, ◌++◌, Bool, true, false, Option, Some, None, refl, ap, sym, ◌∙◌, subst}, specs.Prelude.{◌&&◌, ◌||◌, ◌==◌, not, nat_eq, if◌then◌else◌, map, option_map}}
-use Rattle.hc_text.proofs.Basics.{eqb-same, not_some as none_some, same_some as same_row, and_off as then_false}
+use Rattle.std.{proofs.{lemmas.Bool.Decides.{nat_tests}, Common.{arith, ◌≡◌, inl, inr, ℕ, List, [], ◌∷◌, ◌++◌, Bool, true, false, Option, Some, None, refl, ap, sym, ◌∙◌, subst}}, specs.Prelude.{◌&&◌, ◌||◌, ◌==◌, not, nat_eq, if◌then◌else◌, map, option_map}}
+use Rattle.hc_text.proofs.Basics.{eqb-same, not_some as none_some, and_off as then_false}
 use Rattle.hc_event.specs.declared.act.Act.TheVariants as act
 use Rattle.hc_effects.proofs.Vocabulary.{LostKind, Event, Limits, Place, loses_in, loss_acts, closing, is_current, denial, Does, with_event, with_exchange, with_representation, let_go, let_all_go, as_gone, over, lost_to, Entry, entry_without_acts, exchange_after, with_piece, family, front, Flaw, NoFlaw, Loses, beside, becomes_gone, ends_early, ends_founding, is_keepable, Lawful, is_written, representation_after, representation_heard, representation_after_piece, with_stored_bytes, Tables, Exchange, Representation, Consumer, after_accepted, evicted, write_in, exclusive, goes_on_with}
 use Rattle.hc_event.specs.declared.event.Event.TheVariants as event
@@ -27,12 +27,10 @@ module _ (limits : Limits) (t : Tables) (law : Lawful t) (now x : ℕ) (bytes : 
           by_row (Some u) = then_false u.is_open _ (closes_as t now ev (pieces x bytes) flaw xs r ∙ off)
 
       drop : (a b c d : Bool) → ((a && false) || b || (c && d)) ≡ (b || (c && d))
-      drop true b c d = refl
-      drop false b c d = refl
+      drop a b c d = grind (arith, nat_tests)
 
       both : (a b c : Bool) → a ≡ true → (a || (b && c)) ≡ a
-      both true b c on = refl
-      both false b c on = absurd (false_true on)
+      both a b c on = grind (arith, nat_tests)
 
       either : (a b c : Bool) → b ≡ false → (a || (b && c)) ≡ a
       either true b c off = refl
@@ -181,10 +179,7 @@ module _ (limits : Limits) (t : Tables) (law : Lawful t) (now x : ℕ) (bytes : 
 
         module _ (alone : is_written t v ≡ false) where
           unlost : (q : ℕ) (u : Representation) → t.representation q ≡ Some u → (loses_in q (loss_acts flaw) && is_written t u) ≡ false
-          unlost q u at = elim (eq_cases r q) [
-            | inl same ↦ then_false (loses_in q (loss_acts flaw)) (is_written t u) (ap (is_written t) (same_row (t.representation q) u v at (sym (ap t.representation same.1) ∙ there)) ∙ alone)
-            | inr apart ↦ rw apart.0 refl
-          ]
+          unlost q u at = grind (arith, nat_tests)
 
           -- who writes it alone goes on with it
           pub loses_alone : Does limits t now ev flaw (map act.Evicted es ++ (act.Lost r kind ∷ []))

@@ -1,7 +1,7 @@
 -- A piece keeps what open exchanges are still to bring absent.
 use Rattle.std.{proofs.{Common.{◌≡◌, ◌≢◌, ◌⊎◌, inl, inr, ℕ, ◌+◌, ◌≤◌, List, [], ◌++◌, length, Bool, true, false, cond, Option, Some, None, refl, ap, sym, ◌∙◌, arith, subst, length-append}, lemmas.Bool.Decides.{nat_tests}}, specs.Prelude.{is_some, nat_eq}}
 use Rattle.hc_text.proofs.Basics.{and_right, same_some as same_row, some_inj}
-use Rattle.hc_effects.proofs.Vocabulary.{opening_in, Act, Need, Entry, exchange_after, exchange_heard, exchange_acted, base, promised_bytes, front, family, representation_after, representation_heard, representation_acted, representation_after_piece, Tables, Exchange, Representation, Waits, Sound, OneAbout, IsAbout, IsPromised, InHole, after_accepted}
+use Rattle.hc_effects.proofs.Vocabulary.{opening_in, Act, Need, Entry, exchange_after, exchange_heard, exchange_acted, base, promised_bytes, front, family, representation_after, Tables, Exchange, Representation, Waits, Sound, OneAbout, IsAbout, IsPromised, InHole, after_accepted}
 use Rattle.hc_event.specs.declared.event.Event.TheVariants as event
 use Rattle.hc_event.specs.declared.act.Need.TheVariants as need
 use Rattle.hc_sparse.specs.Cells.{Cells, cells_with}
@@ -72,22 +72,9 @@ pub record WasRepresentation (t : Tables) (x r : ℕ) (bytes : List ℕ) (u : Re
   pub row : t.representation r ≡ Some v
   pub body_is : (w : Exchange) → t.exchange x ≡ Some w → u.body ≡ (cond (nat_eq (family x w) r) (cells_with (front w) x bytes v.body) v.body)
 
-body_after : (r x : ℕ) (bytes : List ℕ) (e : Entry) (w : Exchange) (v : Representation) → (representation_after_piece e r x bytes (Some w) v).body ≡ cond (nat_eq (family x w) r) (cells_with (front w) x bytes v.body) v.body
-body_after r x bytes e w v = elim (eq_cases (family x w) r) [
-  | inl here ↦ rw here.0 refl
-  | inr other ↦ rw other.0 refl
-]
-
 pub was_representation : (t : Tables) (now x r : ℕ) (bytes : List ℕ) (acts : List Act) (o : Option Representation) (u : Representation) → t.representation r ≡ o → representation_after t (of_piece now x bytes acts) r o ≡ Some u → WasRepresentation t x r bytes u
 unfolding representation_after
-was_representation t now x r bytes acts None u is row = absurd (let never : None ≡ Some u = row in cc)
-was_representation t now x r bytes acts (Some v) u is row =
-    let e = of_piece now x bytes acts in
-    subst (WasRepresentation t x r bytes) (some_inj (representation_acted t e r v (representation_heard t e r (event.Piece x bytes) v)) u row) (record {
-      v = v;
-      row = is;
-      body_is = λ w there. rw there (body_after r x bytes e w v);
-    })
+was_representation t now x r bytes acts o u is row = grind (arith, nat_tests)
 
 pub ends_same : (o : Option ℕ) (u w : Exchange) (p : ℕ) → base u ≡ base w → IsPromised o u p → IsPromised o w p
 ends_same None u w p same ends = tt
@@ -106,14 +93,8 @@ was_ahead t x y p bytes u was le =
 
 -- who is in a hole asks for one
 asks_by : (t : Tables) (r y : ℕ) (z : Exchange) (p : ℕ) → z.is_open ≡ true → t.exchange y ≡ Some z → z.head ≡ None → z.aim ≡ Some r → (n : Need) → z.need ≡ n → InHole n p → IsAbout t r y
-asks_by t r y z p is_open row bare aim need.Disabled is hole = absurd hole
-asks_by t r y z p is_open row bare aim need.TimedOut is hole = absurd hole
-asks_by t r y z p is_open row bare aim need.Bypass is hole = absurd hole
-asks_by t r y z p is_open row bare aim need.Miss is hole = absurd hole
-asks_by t r y z p is_open row bare aim need.Vary is hole = absurd hole
-asks_by t r y z p is_open row bare aim need.Validate is hole = absurd hole
 asks_by t r y z p is_open row bare aim (need.Hole from to) is hole = sound.asks z from to row is_open bare is aim
-asks_by t r y z p is_open row bare aim need.Unsatisfied is hole = absurd hole
+asks_by t r y z p is_open row bare aim _ is hole = absurd hole
 
 -- the piece stays before what is still to come of its own exchange, and is apart from what others are to bring
 module _ (t : Tables) (now x : ℕ) (bytes : List ℕ) (acts : List Act) (w : Exchange) where
@@ -168,11 +149,7 @@ module _ (t : Tables) (now x : ℕ) (bytes : List ℕ) (acts : List Act) (w : Ex
       front_absent s piece y u v p was rep is_open headed le ends
 
   headed_not : (z : Exchange) (y : ℕ) → IsPiece → t.exchange y ≡ Some z → z.head ≡ None → x ≢ y
-  headed_not z y piece row none same =
-      let also : t.exchange y ≡ Some w = rw (sym same) piece.row in
-      let one : z ≡ w = same_row (t.exchange y) z w row also in
-      let bare : w.head ≡ None = ap (λ (q : Exchange). q.head) (sym one) ∙ none in
-      let never : false ≡ true = rw bare at piece.headed in cc
+  headed_not z y piece row none same = grind (arith, nat_tests)
 
   pub holes_kept : Sound t → IsPiece → (y : ℕ) (u : Exchange) (r : ℕ) (v : Representation) (p : ℕ) → (after_accepted t (of_piece now x bytes acts)).exchange y ≡ Some u → u.is_open ≡ true → u.head ≡ None → u.aim ≡ Some r → (after_accepted t (of_piece now x bytes acts)).representation r ≡ Some v → InHole u.need p → v.body p ≡ None
   holes_kept s piece y u r v p row is_open headless aim at hole =

@@ -1,7 +1,7 @@
 -- A piece, whether the store takes it or loses it, leaves each bound consumer served.
-use Rattle.std.{proofs.Common.{◌≡◌, ℕ, ◌+◌, List, [], ◌∷◌, ◌++◌, Bool, true, false, cond, Option, Some, None, refl, ap, sym, ◌∙◌, subst}, specs.{Prelude.{map}, Option.{option_or}}}
-use Rattle.hc_text.proofs.Basics.{plus_none, some_inj}
-use Rattle.hc_effects.proofs.Vocabulary.{opening_in, shows_in, given_in, leaves_in, Act, wait_in, showing_in, loss_acts, consumer_after, consumer_acted, consumer_settled, own_after, Entry, becomes_due, Flaw, NoFlaw, Loses, Misreads, reads, Tables, Consumer, starts_over, BoundBy}
+use Rattle.std.{proofs.{lemmas.Bool.Decides.{nat_tests}, Common.{arith, ◌≡◌, ℕ, List, [], ◌∷◌, ◌++◌, Bool, true, false, cond, Option, Some, None, refl, ap, sym, ◌∙◌, subst}}, specs.{Prelude.{map}, Option.{option_or}}}
+use Rattle.hc_text.proofs.Basics.{some_inj}
+use Rattle.hc_effects.proofs.Vocabulary.{opening_in, shows_in, given_in, leaves_in, Act, wait_in, showing_in, loss_acts, consumer_after, consumer_acted, consumer_settled, own_after, Entry, becomes_due, Flaw, Loses, reads, Tables, Consumer, starts_over, BoundBy}
 use Rattle.hc_event.specs.declared.act.Act.TheVariants as act
 use Rattle.hc_event.specs.declared.place.Place.TheVariants as place
 use Rattle.hc_effects.proofs.PieceKeeps.{of_piece}
@@ -20,9 +20,8 @@ quiet_closes [] = record { opens = refl; waits = λ c. refl; shows = λ c. refl;
 quiet_closes (x ∷ xs) = let q = quiet_closes xs in record { opens = q.opens; waits = q.waits; shows = q.shows; showing = q.showing; gives = q.gives; leaves = q.leaves }
 
 pub quiet_losses : (flaw : Flaw) (rest : List Act) → IsQuietActs rest → IsQuietActs (loss_acts flaw ++ rest)
-quiet_losses NoFlaw rest q = q
 quiet_losses (Loses r kind) rest q = record { opens = q.opens; waits = q.waits; shows = q.shows; showing = q.showing; gives = q.gives; leaves = q.leaves }
-quiet_losses (Misreads r) rest q = q
+quiet_losses _ rest q = q
 
 quiet_evictions : (rs : List ℕ) (rest : List Act) → IsQuietActs rest → IsQuietActs (map act.Evicted rs ++ rest)
 quiet_evictions [] rest q = q
@@ -46,9 +45,7 @@ given_is k n = record k { given = n }
 
 -- of who hears this, they change but what is its own
 pub acted_quiet : (t : Tables) (e : Entry) (c : ℕ) (k : Consumer) → IsQuietActs e.acts → consumer_acted t e c k ≡ record k { own = own_after t e c k.place k.own }
-acted_quiet t e c k q =
-    let own = own_after t e c k.place k.own in
-    rw (q.opens, q.waits c, q.shows c, q.showing, q.gives c, q.leaves c) (ap (λ n. given_is (record k { own = own }) n) (plus_none k.given))
+acted_quiet t e c k q = grind (arith, nat_tests)
 
 -- a row that started over, and one that didn't
 started_over : (t : Tables) (e : Entry) (c : ℕ) (k q : Consumer) → starts_over t e c k ≡ true → (consumer_settled t e c k q).place ≡ place.Line

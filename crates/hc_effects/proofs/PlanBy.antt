@@ -85,20 +85,11 @@ bare_by v =
 in_time_by : (v : PlanView) (p : Plan) → PlanBy v p → PlanBy v (in_time v p)
 in_time_by v (plan.Turn d) is = mix (PlanBy v) _ _ _ (passes_by need.TimedOut refl) (turn d)
 in_time_by v (plan.Busy d kept) is = mix (PlanBy v) _ _ _ (passes_by need.TimedOut refl) is
-in_time_by v plan.Miss is = is
-in_time_by v (plan.Direct n) is = is
-in_time_by v (plan.Fetch n) is = is
-in_time_by v (plan.Bind why span) is = is
-in_time_by v (plan.FirstHole span hole) is = is
+in_time_by v _ is = is
 
 from_store_by : (v : PlanView) (p : Plan) → PlanBy v p → PlanBy v (from_store p)
-from_store_by v (plan.Turn d) is = misses
-from_store_by v (plan.Busy d kept) is = misses
-from_store_by v plan.Miss is = misses
-from_store_by v (plan.Direct n) is = misses
-from_store_by v (plan.Fetch n) is = misses
 from_store_by v (plan.Bind why span) is = is
-from_store_by v (plan.FirstHole span hole) is = misses
+from_store_by v _ is = misses
 
 pub plan_by : (v : PlanView) → PlanBy v (plan_of v)
 unfolding plan_of

@@ -64,20 +64,11 @@ fine_bare v =
 fine_in_time : (v : PlanView) (p : Plan) → Fine v p → Fine v (in_time v p)
 fine_in_time v (plan.Turn d) fine = mix (Fine v) _ _ _ (passes_by need.TimedOut (λ from to e. cc)) (waits_turn d)
 fine_in_time v (plan.Busy d kept) fine = mix (Fine v) _ _ _ (passes_by need.TimedOut (λ from to e. cc)) (waits_busy d kept)
-fine_in_time v plan.Miss fine = fine
-fine_in_time v (plan.Direct n) fine = fine
-fine_in_time v (plan.Fetch n) fine = fine
-fine_in_time v (plan.Bind why span) fine = fine
-fine_in_time v (plan.FirstHole span hole) fine = fine
+fine_in_time v _ fine = fine
 
 fine_from_store : (v : PlanView) (p : Plan) → Fine v (from_store p)
-fine_from_store v (plan.Turn d) = fails
-fine_from_store v (plan.Busy d kept) = fails
-fine_from_store v plan.Miss = fails
-fine_from_store v (plan.Direct n) = fails
-fine_from_store v (plan.Fetch n) = fails
 fine_from_store v (plan.Bind why span) = binds why span
-fine_from_store v (plan.FirstHole span hole) = fails
+fine_from_store v _ = fails
 
 pub fine_plan : (v : PlanView) → Fine v (plan_of v)
 unfolding plan_of

@@ -1,13 +1,12 @@
 -- What a poll does after which its consumer stays: its acts, what it leaves as it was, and its consumer.
-use Rattle.std.{proofs.Common.{◌≡◌, inl, inr, ℕ, List, [], ◌++◌, Bool, true, false, Option, Some, None, refl, ap, sym, ◌∙◌, subst}, specs.Prelude.{◌==◌, nat_eq, if◌then◌else◌, map}}
-use mathlib.Core.Path.{fun_ext}
+use Rattle.std.{proofs.{lemmas.Bool.Decides.{nat_tests}, Common.{arith, ◌≡◌, ℕ, List, [], ◌++◌, false, Option, Some, None, refl, ap, ◌∙◌, subst}}, specs.Prelude.{nat_eq, if◌then◌else◌, map}}
 use Rattle.hc_sparse.specs.declared.run.Run.{Run}
 use Rattle.hc_effects.proofs.Vocabulary.{opening_in, closes_in, evicts_in, Act, Need, Wait, Why, Event, Request, Response, Limits, Place, loses_in, misreads_in, leaver_in, accepted_acts, answer_acts, closing, consumer_after, consumer_acted, bypass_key, Does, with_event, with_consumer, let_all_go, Entry, exchange_after, NoFlaw, becomes_gone, goes_in, Lawful, Move, Asks, Opens, Shows, Gives, acts_of, move_of, poll_move, reads, Tables, Exchange, Representation, Consumer, loses_what_it_waits_for, after_accepted, opened_after, openings_after, to_front, binds}
 use Rattle.hc_event.specs.declared.act.Act.TheVariants as act
 use Rattle.hc_event.specs.declared.event.Event.TheVariants as event
 use Rattle.hc_event.specs.declared.place.Place.TheVariants as place
 use Rattle.hc_model.specs.Moves as moves
-use Rattle.hc_effects.proofs.{ActParts.{IsFarFrom, far_closed, far_other}, Basics.{append_none}, ConsumerEffects.{after_by, waits_as, others, representations}, FewClosings.{closes_nothing}, OfConsumers.{BringsNothing, brings_nothing, little, goes_nothing, consumer_itself}, PieceKeeps.{eq_cases}, SameTables.{is_in, waits_for_any}, Tests.{and_false}, Untouched.{goes_from}}
+use Rattle.hc_effects.proofs.{ActParts.{IsFarFrom, far_closed, far_other}, Basics.{append_none}, ConsumerEffects.{after_by, waits_as, others, representations}, FewClosings.{closes_nothing}, OfConsumers.{BringsNothing, brings_nothing, little, goes_nothing, consumer_itself}, SameTables.{is_in, waits_for_any}, Tests.{and_false}, Untouched.{goes_from}}
 use Rattle.hc_effects.proofs.OfConsumers as event_of
 
 -- a move after which its consumer stays
@@ -27,48 +26,23 @@ record IsMild (acts : List Act) : Type 0 where
   evicts : (r : ℕ) → evicts_in r acts ≡ false
 
 mild : (c : ℕ) (m : Move) → Stays m → IsMild (acts_of c m)
-mild c _ (waits w) = record { leaves = refl; closes = λ x. refl; loses = λ r. refl; misreads = λ r. refl; evicts = λ r. refl }
-mild c _ (asks x) = record { leaves = refl; closes = λ x. refl; loses = λ r. refl; misreads = λ r. refl; evicts = λ r. refl }
-mild c _ (opens x n request) = record { leaves = refl; closes = λ x. refl; loses = λ r. refl; misreads = λ r. refl; evicts = λ r. refl }
-mild c _ (shows r why head lo hi) = record { leaves = refl; closes = λ x. refl; loses = λ r. refl; misreads = λ r. refl; evicts = λ r. refl }
-mild c _ (gives run) = record { leaves = refl; closes = λ x. refl; loses = λ r. refl; misreads = λ r. refl; evicts = λ r. refl }
+mild c m it2 = grind (arith, nat_tests)
 
 pub none_waits : (p : Place) → waits_for_any [] p ≡ false
-none_waits (place.Passed r kept) = refl
-none_waits place.Line = refl
-none_waits (place.Turn x) = refl
-none_waits (place.Bound r lo hi how) = refl
-none_waits (place.Direct x) = refl
-none_waits (place.Down why) = refl
-none_waits place.Over = refl
+none_waits p = grind (arith, nat_tests)
 
 -- who waits for nothing that goes starts over by nothing
 pub loses_none : (t : Tables) (e : Entry) (c : ℕ) (p : Place) → goes_from t e p ≡ false → loses_what_it_waits_for t e c p ≡ false
 loses_none t e c (place.Passed r kept) off = and_false (goes_in t e r (t.representation r)) _ off
-loses_none t e c place.Line off = refl
-loses_none t e c (place.Turn x) off = refl
-loses_none t e c (place.Bound r lo hi how) off = refl
-loses_none t e c (place.Direct x) off = refl
-loses_none t e c (place.Down why) off = refl
-loses_none t e c place.Over off = refl
+loses_none t e c _ off = refl
 
 -- what was due stays due
 pub due_kept : (q : Consumer) (due : _) → q.due ≡ due → (reads q.place ≡ false → due ≡ None) → record q { due = if reads q.place then due else None } ≡ q
-due_kept q due same idle = by_test (reads q.place) refl
-  where
-    by_test : (b : Bool) → reads q.place ≡ b → record q { due = if b then due else None } ≡ q
-    by_test true is = ap (λ z. record q { due = z }) (sym same)
-    by_test false is = ap (λ z. record q { due = z }) (sym (same ∙ idle is))
+due_kept q due same idle = grind (arith, nat_tests)
 
 -- a consumer that is as it was
 pub same_consumer : (t u : Tables) (c : ℕ) (k : Consumer) → u.consumer c ≡ Some k → with_consumer c (Some k) u ≡ u
-same_consumer t u c k row = ap (λ (f : ℕ → Option Consumer). record u { consumer = f }) (fun_ext by_number)
-  where
-    by_number : (d : ℕ) → (if c == d then Some k else u.consumer d) ≡ u.consumer d
-    by_number d = elim (eq_cases c d) [
-      | inl here ↦ rw here.0 (sym row ∙ ap u.consumer here.1)
-      | inr other ↦ rw other.0 refl
-    ]
+same_consumer t u c k row = grind (arith, nat_tests)
 
 module _ (limits : Limits) (t : Tables) (law : Lawful t) (now c want : ℕ) (k : Consumer) (row : t.consumer c ≡ Some k) (m : Move) (stays : Stays m) (is : move_of t now want c k ≡ m) where
   abbrev ev : Event

@@ -1,12 +1,11 @@
 -- A poll opens a hole only where it is absent and no other exchange is about it.
-use Rattle.std.{proofs.Common.{◌≡◌, inl, inr, ℕ, ◌+◌, ◌<◌, ◌≤◌, List, [], ◌∷◌, ◌++◌, Bool, true, false, cond, Option, Some, None, refl, ap, sym, ◌∙◌, subst, arith}, specs.Prelude.{find, map, ◌&&◌}}
+use Rattle.std.{proofs.{lemmas.Bool.Decides.{nat_tests}, Common.{◌≡◌, inl, inr, ℕ, ◌+◌, ◌<◌, ◌≤◌, List, [], ◌∷◌, ◌++◌, Bool, true, false, cond, Option, Some, None, refl, ap, sym, ◌∙◌, subst, arith}}, specs.Prelude.{find, map, ◌&&◌}}
 use Rattle.hc_text.proofs.Basics.{and_right, both_true as and_true, bool_cases, not_true, same_some as same_row, some_inj}
-use Rattle.hc_sparse.specs.{Cells.{Cells, Cell}, Stretch.{stretch, stretch_of}}
-use Rattle.hc_effects.proofs.Vocabulary.{Opening, opening_in, Request, Act, Need, poll_acts, loss_acts, accepted_acts, closing, current, is_usable, is_number, Entry, aim_of, aim_from, Flaw, NoFlaw, Loses, Misreads, stretch_to, Move, Nothing, Asks, Opens, Shows, Gives, Ends, Fails, acts_of, poll_move, offset, Tables, Representation, Consumer, Sound, OneAbout, IsAbout, InHole, IsExclusiveWriter, held_of_lost, after_accepted, Place, Limits}
+use Rattle.hc_sparse.specs.{Cells.{Cells, Cell}, Stretch.{stretch}}
+use Rattle.hc_effects.proofs.Vocabulary.{Opening, opening_in, Request, Act, Need, poll_acts, loss_acts, accepted_acts, closing, current, is_usable, is_number, Entry, aim_of, aim_from, Flaw, NoFlaw, Loses, Misreads, stretch_to, Move, Opens, acts_of, poll_move, offset, Tables, Representation, Consumer, Sound, OneAbout, IsAbout, InHole, IsExclusiveWriter, held_of_lost, after_accepted, Place, Limits}
 use Rattle.hc_event.specs.declared.event.Event.TheVariants as event
 use Rattle.hc_event.specs.declared.act.Act.TheVariants as act
 use Rattle.hc_event.specs.declared.act.Need.TheVariants as need
-use Rattle.hc_model.specs.Moves as moves
 use Rattle.hc_model.specs.Sound.{Waits as StillWaits}
 use Rattle.hc_model.specs.Sound as sound
 use Rattle.hc_effects.proofs.{ExclusiveWriters.{IsAtHole, has_exclusive_writer, none_about, none_about_hole}, QuietKeeps.{OpensWell, waits_kept, one_about_kept}, HolesOpened.{first_absent, later_absent}, PollTree.{OpensHole, FineMove, fine_polled}, Basics.{number_yes as is_same}}
@@ -32,32 +31,22 @@ closes_open_none [] rest none = none
 closes_open_none (x ∷ xs) rest none = closes_open_none xs rest none
 
 pub losses_open_none : (flaw : Flaw) → opening_in (loss_acts flaw) ≡ None
-losses_open_none NoFlaw = refl
-losses_open_none (Loses r kind) = refl
-losses_open_none (Misreads r) = refl
+losses_open_none flaw = grind (arith, nat_tests)
 
 -- what a move opens is told by its acts
 data IsOpenedBy (c : ℕ) (o : Opening) : Move → Type 0 where
   opens : (x : ℕ) (n : Need) (request : Request) → o.c ≡ c → o.need ≡ n → o.x ≡ x → IsOpenedBy c o (Opens x n request)
 
 opened_by : (c : ℕ) (m : Move) (rest : List Act) (o : Opening) → opening_in rest ≡ None → opening_in (acts_of c m ++ rest) ≡ Some o → IsOpenedBy c o m
-opened_by c Nothing rest o none is = absurd (let never : None ≡ Some o = rw none at is in cc)
-opened_by c (moves.Waits wait) rest o none is = absurd (let never : None ≡ Some o = rw none at is in cc)
-opened_by c (Asks x) rest o none is = absurd (let never : None ≡ Some o = rw none at is in cc)
 opened_by c (Opens x n request) rest o none is = let same = some_inj _ o is in opens x n request (sym (ap (λ (q : Opening). q.c) same)) (sym (ap (λ (q : Opening). q.need) same)) (sym (ap (λ (q : Opening). q.x) same))
-opened_by c (Shows r why head lo hi) rest o none is = absurd (let never : None ≡ Some o = rw none at is in cc)
-opened_by c (Gives run) rest o none is = absurd (let never : None ≡ Some o = rw none at is in cc)
-opened_by c Ends rest o none is = absurd (let never : None ≡ Some o = rw none at is in cc)
-opened_by c (Fails cause) rest o none is = absurd (let never : None ≡ Some o = rw none at is in cc)
+opened_by c _ rest o none is = absurd (let never : None ≡ Some o = rw none at is in cc)
 
 cond_none : {A : Type 0} (b : Bool) (o : Option A) → b ≡ true → cond b o None ≡ None → o ≡ None
-cond_none true o b h = h
-cond_none false o b h = absurd (let never : false ≡ true = b in cc)
+cond_none b o b1 h = grind (arith, nat_tests)
 
 no_cell : (f : Cells) (p n : ℕ) (o : Option Cell) → f p ≡ o → stretch f p n ≡ None → f p ≡ None
 unfolding stretch
-no_cell f p n None is none = is
-no_cell f p n (Some cell) is none = absurd (let never : stretch_of f p n (Some cell) ≡ None = rw is at none in cc)
+no_cell f p n o is none = grind (arith, nat_tests)
 
 -- what isn't held of a lost one, for the one that goes on with it, hasn't come
 not_held : (c n p : ℕ) (v : Representation) → v.is_lost ≡ true → v.alone ≡ Some c → held_of_lost c p n (Some v) ≡ None → v.body p ≡ None
@@ -109,14 +98,8 @@ record Opened (t : Tables) (c : ℕ) (k : Consumer) (o : Opening) : Type 0 where
   next : o.x ≡ t.opened + 1
 
 opened_why : (t : Tables) (c : ℕ) (k : Consumer) (o : Opening) (m : Move) → FineMove t c k m → IsOpenedBy c o m → Opened t c k o
-opened_why t c k o _ tree.nothing by = elim by [ ]
-opened_why t c k o _ (tree.waits wait) by = elim by [ ]
-opened_why t c k o _ (tree.asks x) by = elim by [ ]
-opened_why t c k o _ (tree.shows r why head lo hi) by = elim by [ ]
-opened_why t c k o _ (tree.given run) by = elim by [ ]
-opened_why t c k o _ tree.ends by = elim by [ ]
-opened_why t c k o _ (tree.fails cause) by = elim by [ ]
 opened_why t c k o _ (tree.opens x n request is_next why) (opens _ _ _ at needs number) = record { at = at; why = λ from to is. why from to (sym needs ∙ is); next = number ∙ is_next }
+opened_why t c k o _ _ by = elim by [ ]
 
 abbrev poll_entry : Limits → Tables → ℕ → ℕ → ℕ → Flaw → Entry
 poll_entry limits t now c want flaw = record { now = now; event = event.Poll c want; acts = accepted_acts limits t now (event.Poll c want) flaw }
@@ -131,14 +114,8 @@ module _ (limits : Limits) (t : Tables) (now c want : ℕ) (k : Consumer) (s : S
   by_poll (Misreads r) xs o is = absurd (let never : None ≡ Some o = rw (closes_open_none xs [] refl) at is in cc)
 
   in_hole : (o : Opening) (r p : ℕ) (v : Representation) → Opened t c k o → aim_of t (t.consumer c) ≡ Some r → t.representation r ≡ Some v → (n : Need) → o.need ≡ n → InHole n p → v.body p ≡ None
-  in_hole o r p v opened aim at need.Disabled is hole = absurd hole
-  in_hole o r p v opened aim at need.TimedOut is hole = absurd hole
-  in_hole o r p v opened aim at need.Bypass is hole = absurd hole
-  in_hole o r p v opened aim at need.Miss is hole = absurd hole
-  in_hole o r p v opened aim at need.Vary is hole = absurd hole
-  in_hole o r p v opened aim at need.Validate is hole = absurd hole
   in_hole o r p v opened aim at (need.Hole from to) is hole = hole_absent_at t c k s is_row from to r p v (opened.why from to is) aim at hole.0 hole.1
-  in_hole o r p v opened aim at need.Unsatisfied is hole = absurd hole
+  in_hole o r p v opened aim at _ is hole = absurd hole
 
   aim_at : (o : Opening) (r : ℕ) → Opened t c k o → aim_of t (t.consumer o.c) ≡ Some r → aim_of t (t.consumer c) ≡ Some r
   aim_at o r opened aim = ap (λ d. aim_of t (t.consumer d)) (sym opened.at) ∙ aim

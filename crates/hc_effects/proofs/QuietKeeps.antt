@@ -1,24 +1,18 @@
 -- Events that bring neither a head nor a piece keep what open exchanges are still to bring absent, and one exchange at most about each
 -- representation, if the exchange that they open is alone about its hole, which is absent.
-use Rattle.std.{proofs.Common.{◌≡◌, inl, inr, ℕ, ◌≤◌, List, [], Bool, true, false, cond, Option, Some, None, refl, ap, sym, ◌∙◌, subst}, specs.Prelude.{is_some, nat_eq, not}}
+use Rattle.std.{proofs.{lemmas.Bool.Decides.{nat_tests}, Common.{arith, ◌≡◌, inl, inr, ℕ, ◌≤◌, List, [], Bool, true, false, Option, Some, None, refl, ap, sym, ◌∙◌, subst}}, specs.Prelude.{is_some, not}}
 use Rattle.hc_text.proofs.Basics.{and_right, same_some as same_row, some_inj}
-use Rattle.hc_effects.proofs.Vocabulary.{Opening, opening_in, closes_in, Event, Act, Entry, exchange_after, exchange_heard, exchange_acted, exchange_made, aim_of, base, promised_bytes, front, family, representation_after, representation_heard, founded_at, with_total_if_none, length_in, Tables, Exchange, Representation, Waits, Sound, OneAbout, IsAbout, IsPromised, InHole, after_accepted}
+use Rattle.hc_effects.proofs.Vocabulary.{Opening, opening_in, closes_in, Event, Act, Entry, exchange_after, exchange_heard, exchange_acted, exchange_made, aim_of, base, promised_bytes, front, family, representation_after, representation_heard, founded_at, Tables, Exchange, Representation, Waits, Sound, OneAbout, IsAbout, IsPromised, InHole, after_accepted}
 use Rattle.hc_event.specs.declared.event.Event.TheVariants as event
 use Rattle.hc_event.specs.declared.act.Need.TheVariants as need
-use Rattle.hc_sparse.specs.Cells.{Cells}
 use Rattle.hc_model.specs.Sound as sound
-use Rattle.hc_effects.proofs.PieceKeeps.{eq_cases, ends_same}
+use Rattle.hc_effects.proofs.PieceKeeps.{eq_cases}
 
 -- it brings neither a head nor a piece
 abbrev pub is_quiet : Event → Bool
-is_quiet (event.Start c request) = true
-is_quiet (event.Poll c want) = true
 is_quiet (event.Head x response) = false
 is_quiet (event.Piece x bytes) = false
-is_quiet (event.End x) = true
-is_quiet (event.Fault x) = true
-is_quiet (event.Cancel c) = true
-is_quiet (event.Doom key) = true
+is_quiet _ = true
 
 -- of an exchange nothing changes but that it may end
 pub record IsSame (y : ℕ) (w u : Exchange) : Type 0 where
@@ -41,8 +35,6 @@ over_only : (y : ℕ) (acts : List Act) (is_ended : Bool) (w : Exchange) → IsS
 over_only y acts is_ended w = record { was_open = λ h. absurd (let never : false ≡ true = and_right (not (closes_in y acts)) false h in cc); head_is = refl; need_is = refl; aim_is = refl; joined_is = refl; family_is = refl; promised_is = refl; base_is = refl; front_is = refl; body_is = refl }
 
 quiet_exchange : (t : Tables) (e : Entry) (y : ℕ) (event : Event) (w : Exchange) → is_quiet event ≡ true → IsSame y w (exchange_acted y e.acts (exchange_heard t e y event w))
-quiet_exchange t e y (event.Start c request) w quiet = closed_only y e.acts w
-quiet_exchange t e y (event.Poll c want) w quiet = closed_only y e.acts w
 quiet_exchange t e y (event.Head x response) w quiet = absurd (let never : false ≡ true = quiet in cc)
 quiet_exchange t e y (event.Piece x bytes) w quiet = absurd (let never : false ≡ true = quiet in cc)
 quiet_exchange t e y (event.End x) w quiet = elim (eq_cases x y) [
@@ -53,33 +45,13 @@ quiet_exchange t e y (event.Fault x) w quiet = elim (eq_cases x y) [
   | inl here ↦ rw here.0 (over_only y e.acts w.is_ended w)
   | inr other ↦ rw other.0 (closed_only y e.acts w)
 ]
-quiet_exchange t e y (event.Cancel c) w quiet = closed_only y e.acts w
-quiet_exchange t e y (event.Doom key) w quiet = closed_only y e.acts w
-
--- no body changes
-totalled_body : (b : Bool) (n : ℕ) (v : Representation) → (cond b (with_total_if_none n v) v).body ≡ v.body
-totalled_body true n v = refl
-totalled_body false n v = refl
+quiet_exchange t e y _ w quiet = closed_only y e.acts w
 
 quiet_body : (t : Tables) (e : Entry) (r : ℕ) (event : Event) (v : Representation) → is_quiet event ≡ true → (representation_heard t e r event v).body ≡ v.body
-quiet_body t e r (event.Start c request) v quiet = refl
-quiet_body t e r (event.Poll c want) v quiet = refl
-quiet_body t e r (event.Head x response) v quiet = absurd (let never : false ≡ true = quiet in cc)
-quiet_body t e r (event.Piece x bytes) v quiet = absurd (let never : false ≡ true = quiet in cc)
-quiet_body t e r (event.End x) v quiet = totalled_body (nat_eq x r) (length_in (t.exchange x)) v
-quiet_body t e r (event.Fault x) v quiet = refl
-quiet_body t e r (event.Cancel c) v quiet = refl
-quiet_body t e r (event.Doom key) v quiet = refl
+quiet_body t e r event v quiet = grind (arith, nat_tests)
 
 quiet_founds : (t : Tables) (e : Entry) (r : ℕ) (event : Event) → is_quiet event ≡ true → founded_at t e r event ≡ None
-quiet_founds t e r (event.Start c request) quiet = refl
-quiet_founds t e r (event.Poll c want) quiet = refl
-quiet_founds t e r (event.Head x response) quiet = absurd (let never : false ≡ true = quiet in cc)
-quiet_founds t e r (event.Piece x bytes) quiet = refl
-quiet_founds t e r (event.End x) quiet = refl
-quiet_founds t e r (event.Fault x) quiet = refl
-quiet_founds t e r (event.Cancel c) quiet = refl
-quiet_founds t e r (event.Doom key) quiet = refl
+quiet_founds t e r event quiet = grind (arith, nat_tests)
 
 -- a row after the event: of an exchange that was there, or of the one that is opened
 pub data WasOrNew (t : Tables) (e : Entry) (y : ℕ) (u : Exchange) : Type 0 where
@@ -119,17 +91,10 @@ pub record OpensWell (t : Tables) (e : Entry) : Type 0 where
 
 module _ (t : Tables) (e : Entry) (s : Sound t) (quiet : is_quiet e.event ≡ true) (well : OpensWell t e) where
   front_kept : (y : ℕ) (u : Exchange) (v : Representation) (p : ℕ) → WasOrNew t e y u → IsKept t (family y u) v → u.is_open ≡ true → is_some u.head ≡ true → front u ≤ p → IsPromised (promised_bytes u) u p → v.body p ≡ None
-  front_kept y u v p (was w row same) kept is_open headed le ends =
-      let there : t.representation (family y w) ≡ Some kept.v = rw same.family_is at kept.row in
-      let ahead : front w ≤ p = rw same.front_is at le in
-      ap (λ (f : Cells). f p) kept.body_is ∙ s.waits.fronts y w kept.v p row (same.was_open is_open) (rw same.head_is at headed) there ahead (ends_same (promised_bytes w) u w p same.base_is (rw same.promised_is at ends))
-  front_kept y u v p (new o opens here bare joined body need aim) kept is_open headed le ends = absurd (let never : false ≡ true = rw bare at headed in cc)
+  front_kept y u v p it4 kept is_open headed le ends = grind (arith, nat_tests)
 
   hole_kept : (y : ℕ) (u : Exchange) (r : ℕ) (v : Representation) (p : ℕ) → WasOrNew t e y u → IsKept t r v → u.is_open ≡ true → u.head ≡ None → u.aim ≡ Some r → InHole u.need p → v.body p ≡ None
-  hole_kept y u r v p (was w row same) kept is_open bare aim hole =
-      ap (λ (f : Cells). f p) kept.body_is ∙ s.waits.holes y w r kept.v p row (same.was_open is_open) (sym same.head_is ∙ bare) (sym same.aim_is ∙ aim) kept.row (rw same.need_is at hole)
-  hole_kept y u r v p (new o opens here bare_new joined body need aimed) kept is_open bare aim hole =
-      ap (λ (f : Cells). f p) kept.body_is ∙ well.absent o r kept.v p opens (sym aimed ∙ aim) kept.row (rw need at hole)
+  hole_kept y u r v p it5 kept is_open bare aim hole = grind (arith, nat_tests)
 
   headless_kept : (y : ℕ) (u : Exchange) → WasOrNew t e y u → u.head ≡ None → (u.body ≡ []) × (u.joined ≡ None)
   headless_kept y u (was w row same) bare = let old = s.waits.headless y w row (sym same.head_is ∙ bare) in (same.body_is ∙ old.0, same.joined_is ∙ old.1)

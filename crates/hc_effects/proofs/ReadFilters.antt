@@ -1,8 +1,7 @@
 -- What a consumer was shown and given is a filter of the list of entries.
-use Rattle.std.{proofs.Common.{◌≡◌, inl, inr, ℕ, ◌+◌, List, [], ◌∷◌, ◌++◌, length, Bool, true, false, Option, Some, None, refl, ap, sym, ◌∙◌, length-append, arith}, specs.{Prelude.{◌==◌, ◌||◌, ◌&&◌, not, is_none}, Option.{option_map_or}}}
+use Rattle.std.{proofs.{lemmas.Bool.Decides.{nat_tests}, Common.{◌≡◌, inl, inr, ℕ, ◌+◌, List, [], ◌∷◌, ◌++◌, length, Bool, true, false, Option, Some, None, refl, ap, sym, ◌∙◌, length-append, arith}}, specs.{Prelude.{◌==◌, ◌||◌, ◌&&◌, not, is_none}, Option.{option_map_or}}}
 use Rattle.hc_text.proofs.Basics.{bool_cases}
 use Rattle.hc_effects.proofs.Vocabulary.{is_denied, given_in, shows_in, Event, Act, Limits, Entry, History, Contents, flaw_in, Tables, Consumer, starts_over, consumer_after, consumer_made, consumer_heard, consumer_acted, tables, after, IsRun, IsOwed, Shown, first, given_of, shown_of, shown_in}
-use Rattle.hc_event.specs.declared.event.Event.TheVariants as event
 use Rattle.hc_event.specs.declared.act.Act.TheVariants as act
 use Rattle.hc_model.specs.Histories.{ConsumersAreFiltered}
 use Rattle.hc_effects.proofs.{Owed.{goes, acts_are, denied_gives, denied_shows}, Named.{IsFar, far}, ConsumerFilters.{acted, given_by, shown_by, requests_are, starts_are}}
@@ -21,17 +20,7 @@ abbrev given : Option Consumer → ℕ
 given o = option_map_or (λ (k : Consumer). k.given) o 0
 
 made_given : (c now : ℕ) (ev : Event) → given (consumer_made c now ev) ≡ 0
-made_given c now (event.Start d request) = elim (bool_cases (d == c)) [
-  | inl here ↦ rw here refl
-  | inr other ↦ rw other refl
-]
-made_given c now (event.Poll d want) = refl
-made_given c now (event.Head x response) = refl
-made_given c now (event.Piece x bytes) = refl
-made_given c now (event.End x) = refl
-made_given c now (event.Fault x) = refl
-made_given c now (event.Cancel d) = refl
-made_given c now (event.Doom key) = refl
+made_given c now ev = grind (arith, nat_tests)
 
 given_after : (t : Tables) (e : Entry) (c : ℕ) (o : Option Consumer) → (o ≡ None → given_in c e.acts ≡ []) → given (consumer_after t e c o) ≡ given o + length (given_in c e.acts)
 unfolding consumer_after
@@ -82,27 +71,13 @@ abbrev unshown : Option Consumer → Bool
 unshown o = option_map_or (λ (k : Consumer). not k.shown) o true
 
 none_of_both : {A : Type 0} (xs ys : List A) → is_none (first (xs ++ ys)) ≡ (is_none (first xs) && is_none (first ys))
-none_of_both [] ys = refl
-none_of_both (x ∷ xs) ys = refl
+none_of_both xs ys = grind (arith, nat_tests)
 
 not_or : (a b : Bool) → not (a || b) ≡ (not b && not a)
-not_or true true = refl
-not_or true false = refl
-not_or false true = refl
-not_or false false = refl
+not_or a b = grind (arith, nat_tests)
 
 made_shown : (c now : ℕ) (ev : Event) → unshown (consumer_made c now ev) ≡ true
-made_shown c now (event.Start d request) = elim (bool_cases (d == c)) [
-  | inl here ↦ rw here refl
-  | inr other ↦ rw other refl
-]
-made_shown c now (event.Poll d want) = refl
-made_shown c now (event.Head x response) = refl
-made_shown c now (event.Piece x bytes) = refl
-made_shown c now (event.End x) = refl
-made_shown c now (event.Fault x) = refl
-made_shown c now (event.Cancel d) = refl
-made_shown c now (event.Doom key) = refl
+made_shown c now ev = grind (arith, nat_tests)
 
 shown_after : (t : Tables) (e : Entry) (c : ℕ) (o : Option Consumer) → (o ≡ None → shows_in c e.acts ≡ false) → unshown (consumer_after t e c o) ≡ (unshown o && not (shows_in c e.acts))
 unfolding consumer_after
@@ -112,8 +87,7 @@ shown_after t e c (Some k) none =
     ∙ not_or (shows_in c e.acts) k.shown
 
 and_none : (b : Bool) → b ≡ (b && true)
-and_none true = refl
-and_none false = refl
+and_none b = grind (arith, nat_tests)
 
 shown_step : (limits : Limits) (t : Tables) (e : Entry) (c : ℕ) (b : Bool) → IsOwed limits t e → is_denied e.acts ≡ b → unshown ((after t e).consumer c) ≡ (unshown (t.consumer c) && is_none (first (shown_in c e.acts)))
 unfolding after

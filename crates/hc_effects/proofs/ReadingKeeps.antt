@@ -1,16 +1,13 @@
 -- Whose open exchange has a head reads it, or what it is bound to, and stands there until it leaves.
 use Rattle.std.{proofs.{Common.{◌≡◌, ◌⊎◌, inl, inr, ℕ, Bool, true, false, Option, Some, None, refl, ap, sym, ◌∙◌, subst, arith}, lemmas.Bool.Decides.{nat_tests}}, specs.{Prelude.{if◌then◌else◌, is_some, is_none, ◌&&◌, ◌==◌, not, nat_eq}, Option.{option_and_then}}}
 use Rattle.hc_text.proofs.Basics.{and_left, and_right, bool_cases, not_some as none_some, never_true as not_so, or_left, or_right, same_some as same_row, some_inj}
-use Rattle.hc_effects.proofs.Vocabulary.{Opening, opening_in, leaves_in, Event, Response, Wait, Limits, Place, Showing, showing_in, wait_in, must_close, is_left, is_left_by, leaver, leaver_by, consumer_heard, consumer_acted, by_head, by_fault, by_opening, own_after, shown_place, waiting, waiting_place, denial, Entry, exchange_heard, is_open, Flaw, entry_of, Owners, IsReading, shows_at, shows_direct, move_of, own_open, if_open, reads, bound_to, Tables, Exchange, Consumer, Sound, after_accepted, brings_body}
+use Rattle.hc_effects.proofs.Vocabulary.{Opening, opening_in, leaves_in, Event, Response, Wait, Limits, Place, Showing, showing_in, wait_in, must_close, is_left, is_left_by, leaver, leaver_by, consumer_heard, consumer_acted, by_head, by_fault, by_opening, own_after, shown_place, waiting, denial, Entry, exchange_heard, is_open, Flaw, entry_of, Owners, IsReading, shows_at, move_of, own_open, if_open, bound_to, Tables, Exchange, Consumer, Sound, after_accepted, brings_body}
 use Rattle.hc_event.specs.declared.event.Event.TheVariants as event
-use Rattle.hc_event.specs.declared.act.Wait.TheVariants as wait
-use Rattle.hc_event.specs.declared.place.Place.TheVariants as place
 use Rattle.hc_model.specs.Owners as owners
-use Rattle.hc_effects.proofs.{Basics.{false_true, some_none, number_yes}, Closed.{before, closes}, ExchangeFrom.{ExchangeFrom, IsSame, IsHeaded, exchange_from}, FirstKeeps.{is_new}, Forward.{after_is}, HeadedAs.{HeadedAs, headed_as, heard_at}, OwnFrom.{OwnFrom, IsRow, IsLeft, own_from, after_by}, OwnersKeep.{is_opened, new_number}, PieceKeeps.{eq_cases}, Said.{WaitsAs, waiting_by}, SaidActs.{leaves_leaver}, WaitedAs.{IsForOthers, waited_as}, Waiters.{waiter_of, fault_open_of}, BoundStays.{none_of}}
+use Rattle.hc_effects.proofs.{Basics.{false_true, number_yes}, Closed.{before, closes}, ExchangeFrom.{ExchangeFrom, IsSame, IsHeaded, exchange_from}, FirstKeeps.{is_new}, Forward.{after_is}, HeadedAs.{HeadedAs, headed_as, heard_at}, OwnFrom.{OwnFrom, IsRow, IsLeft, own_from, after_by}, OwnersKeep.{is_opened, new_number}, PieceKeeps.{eq_cases}, Said.{WaitsAs, waiting_by}, SaidActs.{leaves_leaver}, WaitedAs.{IsForOthers, waited_as}, Waiters.{waiter_of, fault_open_of}, BoundStays.{none_of}, StaysOn.{plain_place, unopened, waits_where}}
 use Rattle.hc_effects.proofs.ExchangeFrom as exchange
 use Rattle.hc_effects.proofs.HeadedAs as head
 use Rattle.hc_effects.proofs.OwnFrom as own
-use Rattle.hc_effects.proofs.WaitedAs as waited
 
 pub some_of : (q : Option Response) → is_some q ≡ true → (response : Response) × (q ≡ Some response)
 some_of None g = absurd (false_true g)
@@ -49,14 +46,8 @@ module _ (limits : Limits) (t : Tables) (now : ℕ) (flaw : Flaw) (s : Sound t) 
     own_is = ap (option_and_then (if_open t)) mine ∙ ap (λ (v : Bool). if v then Some x else None) (ap is_open is_row ∙ same.was_open opened)
 
     heard_on : (v : Event) → ev ≡ v → (exchange_heard t e x v w).is_open ≡ (exchange_heard t b x v w).is_open
-    heard_on (event.Start d request) here = refl
-    heard_on (event.Poll d want) here = refl
     heard_on (event.Head y response) here = elim (eq_cases y x) [ inl hit ↦ rw hit.0 refl | inr off ↦ rw off.0 refl ]
-    heard_on (event.Piece y bytes) here = refl
-    heard_on (event.End y) here = refl
-    heard_on (event.Fault y) here = refl
-    heard_on (event.Cancel d) here = refl
-    heard_on (event.Doom key) here = refl
+    heard_on _ here = refl
 
     not_must : must_close t b x w ≡ true → ⊥
     not_must must =
@@ -77,8 +68,6 @@ module _ (limits : Limits) (t : Tables) (now : ℕ) (flaw : Flaw) (s : Sound t) 
     not_cancelled at = left_by (ap (λ v. leaver_by v b.acts) at)
 
     heard_same : (v : Event) → ev ≡ v → consumer_heard t e c v k ≡ k
-    heard_same (event.Start d request) here = refl
-    heard_same (event.Poll d want) here = refl
     heard_same (event.Head y response) here = by_row (t.exchange y) refl
       where
         by_row : (q : Option Exchange) → t.exchange y ≡ q → by_head t e c y response q k ≡ k
@@ -87,8 +76,6 @@ module _ (limits : Limits) (t : Tables) (now : ℕ) (flaw : Flaw) (s : Sound t) 
           | inl hit ↦ absurd (let new = is_new limits t now flaw s ev goes y response q here exchange_row in no_waiter y q exchange_row new.is_open new.bare hit.1)
           | inr off ↦ rw off.0 refl
         ]
-    heard_same (event.Piece y bytes) here = refl
-    heard_same (event.End y) here = refl
     heard_same (event.Fault y) here = by_row (t.exchange y) refl
       where
         of_it : (q : Exchange) → t.exchange y ≡ Some q → (q.c == c) ≡ true → is_none q.head ≡ true → ⊥
@@ -107,7 +94,7 @@ module _ (limits : Limits) (t : Tables) (now : ℕ) (flaw : Flaw) (s : Sound t) 
       | inl hit ↦ absurd (not_cancelled (here ∙ ap event.Cancel hit.1))
       | inr off ↦ rw off.0 refl
     ]
-    heard_same (event.Doom key) here = refl
+    heard_same _ here = refl
 
     -- nothing is opened for it
     no_opening : (p : Opening) → opening_in e.acts ≡ Some p → p.c ≡ c → ⊥
@@ -123,12 +110,7 @@ module _ (limits : Limits) (t : Tables) (now : ℕ) (flaw : Flaw) (s : Sound t) 
         ]
 
     shown_here : (p : Place) → k.place ≡ p → IsReading x p → bound_to p ≡ None → shows_at t k p ≡ None → ⊥
-    shown_here p at (owners.bound r lo hi how stands) free none = let no : Some r ≡ None = sym (ap bound_to stands) ∙ free in some_none r no
-    shown_here p at (owners.direct stands) free none =
-        let got = some_of w.head headed in
-        let no : shows_direct t x (t.exchange x) ≡ None = sym (ap (shows_at t k) stands) ∙ none in
-        let also : shows_direct t x (Some w) ≡ None = sym (ap (shows_direct t x) is_row) ∙ no in
-        let never = rw got.1 at also in some_none _ never
+    shown_here p at it2 free none = grind (arith, nat_tests)
 
     module _ (reading : IsReading x k.place) where
       told_not : (q : Wait) → IsForOthers q → wait_in c e.acts ≡ Some q → ⊥
@@ -139,39 +121,12 @@ module _ (limits : Limits) (t : Tables) (now : ℕ) (flaw : Flaw) (s : Sound t) 
           let why = waited_as t now c k q others by_poll.want s row.row waits in
           shown_here k.place refl reading why.free why.none
 
-      waits_on : (q : Option Wait) → wait_in c e.acts ≡ q → waiting_place t k q ≡ k.place
-      waits_on None told = refl
-      waits_on (Some (wait.Turn d)) told = absurd (told_not (wait.Turn d) (waited.turn d) told)
-      waits_on (Some (wait.Busy d)) told = absurd (told_not (wait.Busy d) (waited.busy d) told)
-      waits_on (Some (wait.Head y)) told = refl
-      waits_on (Some (wait.Body y)) told = refl
-
-      is_read : (p : Place) → IsReading x p → reads p ≡ true
-      is_read p (owners.direct stands) = ap reads stands
-      is_read p (owners.bound r lo hi how stands) = ap reads stands
-
       shows_on : (q : Option Showing) → shown_place c q k.place ≡ k.place
-      shows_on None = refl
-      shows_on (Some q) = elim (eq_cases q.c c) [
-        | inl hit ↦ rw (hit.0, is_read k.place reading) refl
-        | inr off ↦ rw off.0 refl
-      ]
-
-      opens_on : (q : Consumer) (p : Option Opening) → opening_in e.acts ≡ p → by_opening t c p q ≡ q
-      opens_on q None opens = refl
-      opens_on q (Some p) opens = elim (eq_cases p.c c) [
-        | inl hit ↦ absurd (no_opening p opens hit.1)
-        | inr off ↦ rw off.0 refl
-      ]
-
-      plain_place : (h : Consumer) (leaves : Bool) (shows : Option Showing) (opens : Option Opening) (waits : Option Wait) → leaves ≡ false → by_opening t c opens (record h { place = waiting_place t h waits }) ≡ record h { place = waiting_place t h waits } → waiting_place t h waits ≡ h.place → shown_place c shows h.place ≡ h.place → (if leaves then place.Over else shown_place c shows (by_opening t c opens (record h { place = waiting_place t h waits })).place) ≡ h.place
-      plain_place h leaves shows opens waits stay unopened unmoved unshown =
-          let placed : (by_opening t c opens (record h { place = waiting_place t h waits })).place ≡ h.place = ap (λ (q : Consumer). q.place) unopened ∙ unmoved in
-          rw stay (ap (shown_place c shows) placed ∙ unshown)
+      shows_on q = grind (arith, nat_tests)
 
       pub reader_stays : u.place ≡ k.place
       reader_stays =
-          let placed : (consumer_acted t e c k).place ≡ k.place = plain_place k (leaves_in c e.acts) (showing_in e.acts) (opening_in e.acts) (wait_in c e.acts) stays_in (opens_on (waiting t e c k) (opening_in e.acts) refl) (waits_on (wait_in c e.acts) refl) (shows_on (showing_in e.acts)) in
+          let placed : (consumer_acted t e c k).place ≡ k.place = plain_place t e c k (leaves_in c e.acts) (showing_in e.acts) (opening_in e.acts) (wait_in c e.acts) stays_in (unopened t e c (waiting t e c k) (opening_in e.acts) no_opening) (waits_where t k (wait_in c e.acts) told_not) (shows_on (showing_in e.acts)) in
           sym (ap (λ (q : Consumer). q.place) row.is) ∙ (ap (λ (h : Consumer). (consumer_acted t e c h).place) (heard_same ev refl) ∙ placed)
 
   -- AFTER AN ENTRY

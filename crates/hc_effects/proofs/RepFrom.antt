@@ -1,7 +1,7 @@
 -- Where the row of a representation after an entry is from: it was there, or it is founded.
-use Rattle.std.{proofs.{Common.{◌≡◌, ◌⊎◌, inl, inr, ℕ, List, Bool, true, false, Option, Some, None, refl, ap, sym, ◌∙◌, subst, arith}, lemmas.Bool.Decides.{nat_tests}}, specs.{Prelude.{if◌then◌else◌, ◌==◌, ◌||◌, ◌&&◌, not, option_map, nat_eq, is_some}, Option.{option_or}}}
-use Rattle.hc_text.proofs.Basics.{bool_cases, some_inj}
-use Rattle.hc_effects.proofs.Vocabulary.{Event, Response, loses_in, case_at, is_founding, is_joining, Entry, representation_after, representation_heard, representation_acted, founded_at, new_representation, representation_after_head, with_renewed_head, updates, resumes, representation_after_piece, with_stored_bytes, with_total_if_none, length_in, family, front, Tables, Exchange, Representation}
+use Rattle.std.{proofs.{Common.{◌≡◌, ◌⊎◌, inl, inr, ℕ, List, Bool, true, false, Option, Some, None, refl, ap, sym, ◌∙◌, subst, arith}, lemmas.Bool.Decides.{nat_tests}}, specs.{Prelude.{if◌then◌else◌, ◌==◌, ◌||◌, ◌&&◌, option_map, is_some}, Option.{option_or}}}
+use Rattle.hc_text.proofs.Basics.{not_some as none_some, and_right as right, and_left as left, bool_cases, some_inj}
+use Rattle.hc_effects.proofs.Vocabulary.{Event, Response, loses_in, case_at, is_founding, is_joining, Entry, representation_after, representation_heard, representation_acted, founded_at, new_representation, representation_after_head, with_renewed_head, updates, resumes, representation_after_piece, with_total_if_none, length_in, Tables, Exchange, Representation}
 use Rattle.hc_event.specs.declared.event.Event.TheVariants as event
 use Rattle.hc_effects.proofs.PieceKeeps.{eq_cases}
 
@@ -46,14 +46,6 @@ module _ (t : Tables) (e : Entry) (r : ℕ) (v : Representation) where
     writer_is = inr (record { x = x; response = response; w = w; at = at; row = row; renews = up; joins = left _ _ is; resumed = right _ _ is; writer_is = rw is refl });
     total_is = inl refl;
   }
-    where
-      left : (a b : Bool) → (a && b) ≡ true → a ≡ true
-      left true b h = refl
-      left false b h = absurd (let never : false ≡ true = h in cc)
-
-      right : (a b : Bool) → (a && b) ≡ true → b ≡ true
-      right true b h = h
-      right false b h = absurd (let never : false ≡ true = h in cc)
   renewed_by x response w false at row up is = record { key_is = refl; status_is = refl; lost_is = refl; alone_is = refl; gone_is = refl; writer_is = inl (rw is refl); total_is = inl refl }
 
   headed_by : (x : ℕ) (response : Response) (o : Option Exchange) → e.event ≡ event.Head x response → t.exchange x ≡ o → IsHeard t e r v (representation_after_head t e r x response o v)
@@ -63,32 +55,17 @@ module _ (t : Tables) (e : Entry) (r : ℕ) (v : Representation) where
     | inr off ↦ subst (λ (b : Bool). IsHeard t e r v (if b then with_renewed_head t e x response w v else v)) (sym off) (heard_same t e r v)
   ]
 
-  filled_by : (b : Bool) (at x : ℕ) (bytes : List ℕ) → IsHeard t e r v (with_stored_bytes b at x bytes v)
-  filled_by b at x bytes = record { key_is = refl; status_is = refl; lost_is = refl; alone_is = refl; gone_is = refl; writer_is = inl refl; total_is = inl refl }
-
   pieced_by : (x : ℕ) (bytes : List ℕ) (o : Option Exchange) → IsHeard t e r v (representation_after_piece e r x bytes o v)
-  pieced_by x bytes None = heard_same t e r v
-  pieced_by x bytes (Some w) = cond_by (family x w == r)
-    where
-      cond_by : (b : Bool) → IsHeard t e r v (if b then with_stored_bytes (not (v.is_lost || loses_in r e.acts)) (front w) x bytes v else v)
-      cond_by true = filled_by _ (front w) x bytes
-      cond_by false = heard_same t e r v
+  pieced_by x bytes o = grind (arith, nat_tests)
 
   ended_by : (x : ℕ) → e.event ≡ event.End x → IsHeard t e r v (if x == r then with_total_if_none (length_in (t.exchange x)) v else v)
-  ended_by x at = elim (eq_cases x r) [
-    | inl here ↦ rw here.0 (record { key_is = refl; status_is = refl; lost_is = refl; alone_is = refl; gone_is = refl; writer_is = inl refl; total_is = inr (record { at = at ∙ ap event.End here.1; total_is = ap (λ n. option_or v.head.total (Some (length_in (t.exchange n)))) here.1 }) })
-    | inr other ↦ rw other.0 (heard_same t e r v)
-  ]
+  ended_by x at = grind (arith, nat_tests)
 
   pub heard : (ev : Event) → e.event ≡ ev → IsHeard t e r v (representation_heard t e r ev v)
-  heard (event.Start c request) at = heard_same t e r v
-  heard (event.Poll c want) at = heard_same t e r v
   heard (event.Head x response) at = headed_by x response (t.exchange x) at refl
   heard (event.Piece x bytes) at = pieced_by x bytes (t.exchange x)
   heard (event.End x) at = ended_by x at
-  heard (event.Fault x) at = heard_same t e r v
-  heard (event.Cancel c) at = heard_same t e r v
-  heard (event.Doom key) at = heard_same t e r v
+  heard _ at = heard_same t e r v
 
 -- a row that was there
 pub record IsKept (t : Tables) (e : Entry) (r : ℕ) (v u : Representation) : Type 0 where
@@ -105,9 +82,6 @@ pub data RepFrom (t : Tables) (e : Entry) (r : ℕ) (u : Representation) : Type 
   founded : (response : Response) (w : Exchange) → t.representation r ≡ None → e.event ≡ event.Head r response → t.exchange r ≡ Some w → is_founding (case_at t e) ≡ true → new_representation r e response w ≡ u → RepFrom t e r u
 
 module _ (t : Tables) (e : Entry) (r : ℕ) where
-  none_some : {A : Type 0} (a : A) → None ≡ Some a → ⊥
-  none_some a is = cc
-
   acted : (v z : Representation) → t.representation r ≡ Some v → IsHeard t e r v z → representation_acted t e r v (representation_heard t e r e.event v) ≡ representation_acted t e r v z → IsKept t e r v (representation_acted t e r v z)
   acted v z row h is = record {
     row = row;
@@ -133,14 +107,8 @@ module _ (t : Tables) (e : Entry) (r : ℕ) where
       by_row (Some w) row is here on = founded response w none (at ∙ ap (λ n. event.Head n response) here) (sym (ap t.exchange here) ∙ row) on (some_inj (new_representation r e response w) u is)
 
   new_from : (ev : Event) (u : Representation) → t.representation r ≡ None → e.event ≡ ev → founded_at t e r ev ≡ Some u → RepFrom t e r u
-  new_from (event.Start c request) u none at is = absurd (none_some u is)
-  new_from (event.Poll c want) u none at is = absurd (none_some u is)
   new_from (event.Head x response) u none at is = founded_by x response (t.exchange x) u none at refl is
-  new_from (event.Piece x bytes) u none at is = absurd (none_some u is)
-  new_from (event.End x) u none at is = absurd (none_some u is)
-  new_from (event.Fault x) u none at is = absurd (none_some u is)
-  new_from (event.Cancel c) u none at is = absurd (none_some u is)
-  new_from (event.Doom key) u none at is = absurd (none_some u is)
+  new_from _ u none at is = absurd (none_some u is)
 
   pub rep_from : (o : Option Representation) (u : Representation) → t.representation r ≡ o → representation_after t e r o ≡ Some u → RepFrom t e r u
   unfolding representation_after
@@ -153,16 +121,9 @@ module _ (t : Tables) (e : Entry) (r : ℕ) where
   -- what stands stays
   pub stays : (o : Option Representation) → is_some o ≡ true → is_some (representation_after t e r o) ≡ true
   unfolding representation_after
-  stays None there = absurd (let never : false ≡ true = there in cc)
-  stays (Some v) there = refl
-
-  some_by : (b c : Bool) (response : Response) (w : Exchange) (o : Option Exchange) → b ≡ true → c ≡ true → o ≡ Some w → is_some (if b && c then option_map (new_representation r e response) o else None) ≡ true
-  some_by b c response w o on here row = rw (on, here, row) refl
+  stays o there = grind (arith, nat_tests)
 
   -- what founds is there
   pub founds : (response : Response) (w : Exchange) (o : Option Representation) → e.event ≡ event.Head r response → t.exchange r ≡ Some w → is_founding (case_at t e) ≡ true → is_some (representation_after t e r o) ≡ true
   unfolding representation_after
-  founds response w None at row on =
-      let test : nat_eq r r ≡ true = grind (arith, nat_tests) in
-      subst (λ ev. is_some (founded_at t e r ev) ≡ true) (sym at) (some_by (is_founding (case_at t e)) (r == r) response w (t.exchange r) on test row)
-  founds response w (Some v) at row on = refl
+  founds response w o at row on = grind (arith, nat_tests)

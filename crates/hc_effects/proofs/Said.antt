@@ -1,7 +1,7 @@
 -- Whatever the acts of an accepted event say of a consumer, its poll says, by its move.
-use Rattle.std.{proofs.Common.{◌≡◌, inl, inr, ℕ, List, [], ◌∷◌, ◌++◌, true, Option, Some, None, refl, ap, sym, ◌∙◌, subst}, specs.Prelude.{map, ◌||◌, nat_eq}}
+use Rattle.std.{proofs.{lemmas.Bool.Decides.{nat_tests}, Common.{arith, ◌≡◌, inl, inr, ℕ, List, [], ◌∷◌, ◌++◌, true, Option, Some, None, refl, ap, sym, ◌∙◌, subst}}, specs.Prelude.{map, ◌||◌, nat_eq}}
 use Rattle.hc_text.proofs.Basics.{not_some as none_some, some_inj}
-use Rattle.hc_effects.proofs.Vocabulary.{Opening, opening_in, leaves_in, shows_in, Event, Request, Response, Act, Cause, Need, Wait, Why, Limits, Showing, showing_in, wait_in, accepted_acts, poll_acts, loss_acts, closing, denial, is_live, Flaw, NoFlaw, Loses, Misreads, Move, Nothing, Asks, Opens, Shows, Gives, Ends, Fails, acts_of, move_of, Tables, Consumer, Sound, evicted}
+use Rattle.hc_effects.proofs.Vocabulary.{Opening, opening_in, leaves_in, shows_in, Event, Request, Response, Act, Cause, Need, Wait, Why, Limits, Showing, showing_in, wait_in, accepted_acts, poll_acts, loss_acts, closing, denial, is_live, Flaw, Loses, Misreads, Move, Asks, Opens, Shows, Ends, Fails, acts_of, move_of, Tables, Consumer, Sound, evicted}
 use Rattle.hc_event.specs.declared.event.Event.TheVariants as event
 use Rattle.hc_event.specs.declared.act.Act.TheVariants as act
 use Rattle.hc_event.specs.declared.act.Cause.TheVariants as cause
@@ -16,9 +16,8 @@ nothing_said : IsQuietActs []
 nothing_said = record { opens = refl; waits = λ c. refl; shows = λ c. refl; showing = refl; gives = λ c. refl; leaves = λ c. refl }
 
 lost_quiet : (flaw : Flaw) → IsQuietActs (loss_acts flaw)
-lost_quiet NoFlaw = nothing_said
 lost_quiet (Loses r kind) = record { opens = refl; waits = λ c. refl; shows = λ c. refl; showing = refl; gives = λ c. refl; leaves = λ c. refl }
-lost_quiet (Misreads r) = nothing_said
+lost_quiet _ = nothing_said
 
 closes_quiet : (xs : List ℕ) (rest : List Act) → IsQuietActs rest → IsQuietActs (map act.Close xs ++ rest)
 closes_quiet [] rest q = q
@@ -45,63 +44,36 @@ pub data IsShowing (s : Showing) : Move → Type 0 where
 
 module _ (c : ℕ) (rest : List Act) (q : IsQuietActs rest) where
   opening_said : (m : Move) (o : Opening) → opening_in (acts_of c m ++ rest) ≡ Some o → (o.c ≡ c) × IsOpening o m
-  opening_said Nothing o is = absurd (none_some o (rw q.opens at is))
-  opening_said (moves.Waits wait) o is = absurd (none_some o (rw q.opens at is))
-  opening_said (Asks x) o is = absurd (none_some o (rw q.opens at is))
   opening_said (Opens x n request) o is = by_same (record { x = x; c = c; need = n; request = request }) o (some_inj _ o is) refl
     where
       by_same : (p o : Opening) → p ≡ o → p ≡ record { x = x; c = c; need = n; request = request } → (o.c ≡ c) × IsOpening o (Opens x n request)
       by_same p o same is =
           let one : o ≡ record { x = x; c = c; need = n; request = request } = sym same ∙ is in
           (ap (λ (z : Opening). z.c) one, rw one opens)
-  opening_said (Shows r why head lo hi) o is = absurd (none_some o (rw q.opens at is))
-  opening_said (Gives run) o is = absurd (none_some o (rw q.opens at is))
-  opening_said Ends o is = absurd (none_some o (rw q.opens at is))
-  opening_said (Fails why) o is = absurd (none_some o (rw q.opens at is))
+  opening_said _ o is = absurd (none_some o (rw q.opens at is))
 
   showing_said : (m : Move) (s : Showing) → showing_in (acts_of c m ++ rest) ≡ Some s → (s.c ≡ c) × IsShowing s m
-  showing_said Nothing s is = absurd (none_some s (rw q.showing at is))
-  showing_said (moves.Waits wait) s is = absurd (none_some s (rw q.showing at is))
-  showing_said (Asks x) s is = absurd (none_some s (rw q.showing at is))
-  showing_said (Opens x n request) s is = absurd (none_some s (rw q.showing at is))
   showing_said (Shows r why head lo hi) s is =
       let one : s ≡ record { c = c; r = r; lo = lo; hi = hi } = sym (some_inj _ s is) in
       (ap (λ (z : Showing). z.c) one, rw one (shows why head))
-  showing_said (Gives run) s is = absurd (none_some s (rw q.showing at is))
-  showing_said Ends s is = absurd (none_some s (rw q.showing at is))
-  showing_said (Fails why) s is = absurd (none_some s (rw q.showing at is))
+  showing_said _ s is = absurd (none_some s (rw q.showing at is))
 
   wait_pending : (d : ℕ) (w z : Wait) (m : Move) → ((w ≡ z) → WaitsAs z m) → wait_in d (act.Pending c w ∷ rest) ≡ Some z → (c ≡ d) × WaitsAs z m
-  wait_pending d w z m then is = elim (eq_cases c d) [
-    | inl here ↦ (here.1, then (some_inj w z (rw here.0 at is)))
-    | inr other ↦ absurd (none_some z (rw (other.0, q.waits d) at is))
-  ]
+  wait_pending d w z m then is = grind (arith, nat_tests)
 
   wait_said : (d : ℕ) (m : Move) (z : Wait) → wait_in d (acts_of c m ++ rest) ≡ Some z → (c ≡ d) × WaitsAs z m
-  wait_said d Nothing z is = absurd (none_some z (rw (q.waits d) at is))
   wait_said d (moves.Waits w) z is = wait_pending d w z (moves.Waits w) (λ same. rw same waits) is
   wait_said d (Asks x) z is = wait_pending d (wait.Body x) z (Asks x) (λ same. asks x (sym same)) is
   wait_said d (Opens x n request) z is = wait_pending d (wait.Head x) z (Opens x n request) (λ same. opens x n request (sym same)) is
-  wait_said d (Shows r why head lo hi) z is = absurd (none_some z (rw (q.waits d) at is))
-  wait_said d (Gives run) z is = absurd (none_some z (rw (q.waits d) at is))
-  wait_said d Ends z is = absurd (none_some z (rw (q.waits d) at is))
-  wait_said d (Fails why) z is = absurd (none_some z (rw (q.waits d) at is))
+  wait_said d _ z is = absurd (none_some z (rw (q.waits d) at is))
 
   leaves_named : (d : ℕ) → (nat_eq c d || leaves_in d rest) ≡ true → c ≡ d
-  leaves_named d is = elim (eq_cases c d) [
-    | inl here ↦ here.1
-    | inr other ↦ absurd (false_true (rw (other.0, q.leaves d) at is))
-  ]
+  leaves_named d is = grind (arith, nat_tests)
 
   leaves_said : (d : ℕ) (m : Move) → leaves_in d (acts_of c m ++ rest) ≡ true → (c ≡ d) × IsLeaving m
-  leaves_said d Nothing is = absurd (false_true (rw (q.leaves d) at is))
-  leaves_said d (moves.Waits w) is = absurd (false_true (rw (q.leaves d) at is))
-  leaves_said d (Asks x) is = absurd (false_true (rw (q.leaves d) at is))
-  leaves_said d (Opens x n request) is = absurd (false_true (rw (q.leaves d) at is))
-  leaves_said d (Shows r why head lo hi) is = absurd (false_true (rw (q.leaves d) at is))
-  leaves_said d (Gives run) is = absurd (false_true (rw (q.leaves d) at is))
   leaves_said d Ends is = (leaves_named d is, ends)
   leaves_said d (Fails why) is = (leaves_named d is, fails why)
+  leaves_said d _ is = absurd (false_true (rw (q.leaves d) at is))
 
 -- who is shown a head is shown one
 pub shows_it : (acts : List Act) (s : Showing) → showing_in acts ≡ Some s → shows_in s.c acts ≡ true
@@ -165,9 +137,8 @@ module _ (limits : Limits) (t : Tables) (now : ℕ) (flaw : Flaw) (s : Sound t) 
   poll_rest c want = closes_quiet (closing t (record { now = now; event = event.Poll c want; acts = poll_acts t now want c flaw ++ loss_acts flaw })) (loss_acts flaw) (lost_quiet flaw)
 
   by_flaw : (c want : ℕ) (k : Consumer) (rest : List Act) (f : Flaw) → t.consumer c ≡ Some k → IsQuietActs rest → IsSaid (event.Poll c want) (poll_acts t now want c f ++ rest)
-  by_flaw c want k rest NoFlaw row q = polled c want k rest (record { at = refl; row = row }) q (rw row refl)
-  by_flaw c want k rest (Loses r kind) row q = polled c want k rest (record { at = refl; row = row }) q (rw row refl)
   by_flaw c want k rest (Misreads r) row q = misread c want r k rest (record { at = refl; row = row }) q refl
+  by_flaw c want k rest _ row q = polled c want k rest (record { at = refl; row = row }) q (rw row refl)
 
   by_row : (c want : ℕ) (o : Option Consumer) → t.consumer c ≡ o → is_live o ≡ true → IsSaid (event.Poll c want) (accepted_acts limits t now (event.Poll c want) flaw)
   by_row c want None row live = absurd (false_true live)
@@ -176,14 +147,9 @@ module _ (limits : Limits) (t : Tables) (now : ℕ) (flaw : Flaw) (s : Sound t) 
   -- what the acts of an accepted event say
   pub is_said : (ev : Event) → denial t ev ≡ None → IsSaid ev (accepted_acts limits t now ev flaw)
   unfolding refusals.refusal_of
-  is_said (event.Start c request) goes = quiet (told_quiet (event.Start c request))
   is_said (event.Poll c want) goes = by_row c want (t.consumer c) refl (poll_live limits t now flaw s c want goes)
-  is_said (event.Head x response) goes = quiet (told_quiet (event.Head x response))
-  is_said (event.Piece x bytes) goes = quiet (told_quiet (event.Piece x bytes))
-  is_said (event.End x) goes = quiet (told_quiet (event.End x))
-  is_said (event.Fault x) goes = quiet (told_quiet (event.Fault x))
   is_said (event.Cancel c) goes = quiet (closes_quiet (closing t (record { now = now; event = event.Cancel c; acts = loss_acts flaw })) (loss_acts flaw) (lost_quiet flaw))
-  is_said (event.Doom key) goes = quiet (told_quiet (event.Doom key))
+  is_said ev goes = quiet (told_quiet ev)
 
   opens_by : (ev : Event) (acts : List Act) (o : Opening) → IsSaid ev acts → opening_in acts ≡ Some o → OpensBy t now ev o
   opens_by ev acts o (quiet q) is = absurd (none_some o (rw q.opens at is))

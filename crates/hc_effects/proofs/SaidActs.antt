@@ -1,11 +1,10 @@
 -- The acts that the closings see, beside all the acts of an entry: who leaves, and whether something is lost.
 use Rattle.std.{proofs.{Common.{◌≡◌, ℕ, List, [], ◌∷◌, ◌++◌, Bool, true, false, Some, None, refl, ap, sym, ◌∙◌, arith}, lemmas.Bool.Decides.{nat_tests}}, specs.Prelude.{map, ◌||◌, nat_eq}}
+use Rattle.hc_effects.proofs.{Basics.{false_true}, Closed.{before}, PieceServes.{quiet_acts}}
 use Rattle.hc_text.proofs.Basics.{or_false}
-use Rattle.hc_effects.proofs.Vocabulary.{leaves_in, Event, Act, Limits, has_loss, leaver_in, accepted_acts, poll_acts, loss_acts, closing, leaver_by, Flaw, NoFlaw, Loses, Misreads, Move, Nothing, Asks, Opens, Shows, Gives, Ends, Fails, acts_of, poll_move, Tables, Sound, evicted}
+use Rattle.hc_effects.proofs.Vocabulary.{leaves_in, Event, Act, Limits, has_loss, leaver_in, accepted_acts, poll_acts, loss_acts, closing, leaver_by, Flaw, NoFlaw, Misreads, Move, Ends, Fails, acts_of, poll_move, Tables, Sound, evicted}
 use Rattle.hc_event.specs.declared.event.Event.TheVariants as event
 use Rattle.hc_event.specs.declared.act.Act.TheVariants as act
-use Rattle.hc_model.specs.Moves as moves
-use Rattle.hc_effects.proofs.{Closed.{before}, PieceServes.{quiet_acts}}
 
 -- LOSSES
 
@@ -48,18 +47,13 @@ module _ (limits : Limits) (t : Tables) (now : ℕ) (flaw : Flaw) (s : Sound t) 
 
   -- the closings see what is lost
   pub loss_is : (ev : Event) → has_loss (accepted_acts limits t now ev flaw) ≡ has_loss (before limits t now flaw s ev).acts
-  loss_is (event.Start c request) = told_loses (event.Start c request)
   loss_is (event.Poll c want) =
       let xs = closing t (before limits t now flaw s (event.Poll c want)) in
       loss_append (poll_acts t now want c flaw) (map act.Close xs ++ loss_acts flaw)
       ∙ (ap (λ b. has_loss (poll_acts t now want c flaw) || b) (closes_lose xs (loss_acts flaw))
       ∙ sym (loss_append (poll_acts t now want c flaw) (loss_acts flaw)))
-  loss_is (event.Head x response) = told_loses (event.Head x response)
-  loss_is (event.Piece x bytes) = told_loses (event.Piece x bytes)
-  loss_is (event.End x) = told_loses (event.End x)
-  loss_is (event.Fault x) = told_loses (event.Fault x)
   loss_is (event.Cancel c) = closes_lose (closing t (before limits t now flaw s (event.Cancel c))) (loss_acts flaw)
-  loss_is (event.Doom key) = told_loses (event.Doom key)
+  loss_is ev = told_loses ev
 
   -- WHO LEAVES
 
@@ -68,47 +62,28 @@ module _ (limits : Limits) (t : Tables) (now : ℕ) (flaw : Flaw) (s : Sound t) 
 
   lost_leaves : (d : ℕ) (f : Flaw) → leaver_in (loss_acts f) ≡ Some d → ⊥
   lost_leaves d NoFlaw is = none_some d is
-  lost_leaves d (Loses r kind) is = none_some d is
-  lost_leaves d (Misreads r) is = none_some d is
+  lost_leaves d _ is = none_some d is
 
   named : (c d : ℕ) (b : Bool) → Some c ≡ Some d → (nat_eq c d || b) ≡ true
   named c d b is = let same : c ≡ d = cc in let test : nat_eq c d ≡ true = grind (arith, nat_tests) in rw test refl
 
   move_leaves : (c d : ℕ) (m : Move) (f : Flaw) (rest : List Act) → leaver_in (acts_of c m ++ loss_acts f) ≡ Some d → leaves_in d (acts_of c m ++ rest) ≡ true
-  move_leaves c d Nothing f rest is = absurd (lost_leaves d f is)
-  move_leaves c d (moves.Waits wait) f rest is = absurd (lost_leaves d f is)
-  move_leaves c d (Asks x) f rest is = absurd (lost_leaves d f is)
-  move_leaves c d (Opens x need request) f rest is = absurd (lost_leaves d f is)
-  move_leaves c d (Shows r why head lo hi) f rest is = absurd (lost_leaves d f is)
-  move_leaves c d (Gives run) f rest is = absurd (lost_leaves d f is)
-  move_leaves c d Ends f rest is = named c d (leaves_in d rest) is
-  move_leaves c d (Fails cause) f rest is = named c d (leaves_in d rest) is
+  move_leaves c d m f rest is = grind (arith, nat_tests)
 
   poll_leaves : (c d want : ℕ) (f g : Flaw) (rest : List Act) → leaver_in (poll_acts t now want c f ++ loss_acts g) ≡ Some d → leaves_in d (poll_acts t now want c f ++ rest) ≡ true
-  poll_leaves c d want NoFlaw g rest is = move_leaves c d (poll_move t now want c (t.consumer c)) g rest is
-  poll_leaves c d want (Loses r kind) g rest is = move_leaves c d (poll_move t now want c (t.consumer c)) g rest is
   poll_leaves c d want (Misreads r) g rest is = named c d (leaves_in d rest) is
+  poll_leaves c d want _ g rest is = move_leaves c d (poll_move t now want c (t.consumer c)) g rest is
 
   -- who leaves, as the closings see it, leaves
   pub leaver_leaves : (ev : Event) (d : ℕ) → leaver_in (before limits t now flaw s ev).acts ≡ Some d → leaves_in d (accepted_acts limits t now ev flaw) ≡ true
-  leaver_leaves (event.Start c request) d is = absurd (lost_leaves d flaw is)
   leaver_leaves (event.Poll c want) d is = poll_leaves c d want flaw flaw _ is
-  leaver_leaves (event.Head x response) d is = absurd (lost_leaves d flaw is)
-  leaver_leaves (event.Piece x bytes) d is = absurd (lost_leaves d flaw is)
-  leaver_leaves (event.End x) d is = absurd (lost_leaves d flaw is)
-  leaver_leaves (event.Fault x) d is = absurd (lost_leaves d flaw is)
-  leaver_leaves (event.Cancel c) d is = absurd (lost_leaves d flaw is)
-  leaver_leaves (event.Doom key) d is = absurd (lost_leaves d flaw is)
+  leaver_leaves _ d is = absurd (lost_leaves d flaw is)
 
   -- and who leaves is seen by them
   pub closes_leave : (d : ℕ) (xs : List ℕ) (f : Flaw) → leaves_in d (map act.Close xs ++ loss_acts f) ≡ false
   closes_leave d [] NoFlaw = refl
-  closes_leave d [] (Loses r kind) = refl
-  closes_leave d [] (Misreads r) = refl
+  closes_leave d [] _ = refl
   closes_leave d (x ∷ xs) f = closes_leave d xs f
-
-  false_true : false ≡ true → ⊥
-  false_true h = cc
 
   one_leaves : (c d : ℕ) (xs : List ℕ) (f : Flaw) → (nat_eq c d || leaves_in d (map act.Close xs ++ loss_acts f)) ≡ true → Some c ≡ Some d
   one_leaves c d xs f h = by_test (nat_eq c d) refl
@@ -118,29 +93,18 @@ module _ (limits : Limits) (t : Tables) (now : ℕ) (flaw : Flaw) (s : Sound t) 
       by_test false is = absurd (false_true (rw (is, closes_leave d xs f) at h))
 
   move_leaver : (c d : ℕ) (m : Move) (f g : Flaw) (xs : List ℕ) → leaves_in d (acts_of c m ++ (map act.Close xs ++ loss_acts f)) ≡ true → leaver_in (acts_of c m ++ loss_acts g) ≡ Some d
-  move_leaver c d Nothing f g xs h = absurd (false_true (sym (closes_leave d xs f) ∙ h))
-  move_leaver c d (moves.Waits wait) f g xs h = absurd (false_true (sym (closes_leave d xs f) ∙ h))
-  move_leaver c d (Asks x) f g xs h = absurd (false_true (sym (closes_leave d xs f) ∙ h))
-  move_leaver c d (Opens x need request) f g xs h = absurd (false_true (sym (closes_leave d xs f) ∙ h))
-  move_leaver c d (Shows r why head lo hi) f g xs h = absurd (false_true (sym (closes_leave d xs f) ∙ h))
-  move_leaver c d (Gives run) f g xs h = absurd (false_true (sym (closes_leave d xs f) ∙ h))
   move_leaver c d Ends f g xs h = one_leaves c d xs f h
   move_leaver c d (Fails cause) f g xs h = one_leaves c d xs f h
+  move_leaver c d _ f g xs h = absurd (false_true (sym (closes_leave d xs f) ∙ h))
 
   poll_leaver : (c d want : ℕ) (z f g : Flaw) (xs : List ℕ) → leaves_in d (poll_acts t now want c z ++ (map act.Close xs ++ loss_acts f)) ≡ true → leaver_in (poll_acts t now want c z ++ loss_acts g) ≡ Some d
-  poll_leaver c d want NoFlaw f g xs h = move_leaver c d (poll_move t now want c (t.consumer c)) f g xs h
-  poll_leaver c d want (Loses r kind) f g xs h = move_leaver c d (poll_move t now want c (t.consumer c)) f g xs h
   poll_leaver c d want (Misreads r) f g xs h = one_leaves c d xs f h
+  poll_leaver c d want _ f g xs h = move_leaver c d (poll_move t now want c (t.consumer c)) f g xs h
 
   told_leaves : (ev : Event) (d : ℕ) → leaves_in d (map act.Evicted (evicted limits t now ev) ++ (loss_acts flaw ++ map act.Close (closing t (record { now = now; event = ev; acts = loss_acts flaw })))) ≡ false
   told_leaves ev d = (quiet_acts (evicted limits t now ev) (closing t (record { now = now; event = ev; acts = loss_acts flaw })) flaw).leaves d
 
   pub leaves_leaver : (ev : Event) (d : ℕ) → leaves_in d (accepted_acts limits t now ev flaw) ≡ true → leaver_by ev (before limits t now flaw s ev).acts ≡ Some d
-  leaves_leaver (event.Start c request) d h = absurd (false_true (sym (told_leaves (event.Start c request) d) ∙ h))
   leaves_leaver (event.Poll c want) d h = poll_leaver c d want flaw flaw flaw (closing t (before limits t now flaw s (event.Poll c want))) h
-  leaves_leaver (event.Head x response) d h = absurd (false_true (sym (told_leaves (event.Head x response) d) ∙ h))
-  leaves_leaver (event.Piece x bytes) d h = absurd (false_true (sym (told_leaves (event.Piece x bytes) d) ∙ h))
-  leaves_leaver (event.End x) d h = absurd (false_true (sym (told_leaves (event.End x) d) ∙ h))
-  leaves_leaver (event.Fault x) d h = absurd (false_true (sym (told_leaves (event.Fault x) d) ∙ h))
   leaves_leaver (event.Cancel c) d h = absurd (false_true (sym (closes_leave d (closing t (before limits t now flaw s (event.Cancel c))) flaw) ∙ h))
-  leaves_leaver (event.Doom key) d h = absurd (false_true (sym (told_leaves (event.Doom key) d) ∙ h))
+  leaves_leaver ev d h = absurd (false_true (sym (told_leaves ev d) ∙ h))

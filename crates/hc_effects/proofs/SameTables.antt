@@ -1,10 +1,10 @@
 -- Tables whose parts are the same are the same, and what lists of effects come to.
-use Rattle.std.{proofs.Common.{◌≡◌, inl, inr, ℕ, List, [], ◌∷◌, Bool, true, false, Option, Some, None, refl, ap, ap₂, sym, ◌∙◌}, specs.{Prelude.{◌==◌, ◌||◌, if◌then◌else◌, option_map}, Option.{option_or}}}
+use Rattle.std.{proofs.{lemmas.Bool.Decides.{nat_tests}, Common.{arith, ◌≡◌, ℕ, List, [], ◌∷◌, Bool, true, false, Option, Some, None, refl, ap, ap₂, ◌∙◌}}, specs.{Prelude.{◌==◌, ◌||◌, if◌then◌else◌, option_map}}}
+use Rattle.hc_text.proofs.Basics.{or_false as or_off}
 use mathlib.Core.Path.{fun_ext}
-use Rattle.hc_effects.proofs.Vocabulary.{Cause, Place, back_in_line, is_number, back_from, as_gone, let_go, let_all_go, let_some_go, over, tables_after_close, all_closed, failing, with_length, with_total_if_none, Tables, Exchange, Representation, Consumer, with_item_first}
+use Rattle.hc_effects.proofs.Vocabulary.{Place, back_in_line, is_number, back_from, as_gone, let_go, let_all_go, let_some_go, over, tables_after_close, all_closed, with_length, Tables, Exchange, Representation, Consumer, with_item_first}
 use Rattle.hc_event.specs.declared.place.Place.TheVariants as place
 use Rattle.hc_model.specs.Effects.{waits_for}
-use Rattle.hc_effects.proofs.PieceKeeps.{eq_cases}
 
 -- PARTS
 
@@ -47,48 +47,24 @@ waits_one now q rs k true p at is = refl
 waits_one now q rs k false p at is = rw at refl
 
 any_first : (q : ℕ) (rs : List ℕ) (p : Place) → (waits_for q p || waits_for_any rs p) ≡ waits_for_any (q ∷ rs) p
-any_first q rs (place.Passed r kept) = refl
-any_first q rs place.Line = refl
-any_first q rs (place.Turn x) = refl
-any_first q rs (place.Bound r lo hi by) = refl
-any_first q rs (place.Direct x) = refl
-any_first q rs (place.Down cause) = refl
-any_first q rs place.Over = refl
+any_first q rs p = grind (arith, nat_tests)
 
 back_first : (now q : ℕ) (rs : List ℕ) (o : Option Consumer) → option_map (back_from_any now rs) (option_map (back_from now q) o) ≡ option_map (back_from_any now (q ∷ rs)) o
 back_first now q rs None = refl
 back_first now q rs (Some k) = ap Some (waits_one now q rs k (waits_for q k.place) k.place refl refl ∙ ap (λ (b : Bool). if b then back_in_line now k else k) (any_first q rs k.place))
 
 gone_first : (a b : Bool) (o : Option Representation) → (if b then option_map as_gone (if a then option_map as_gone o else o) else (if a then option_map as_gone o else o)) ≡ (if a || b then option_map as_gone o else o)
-gone_first true true None = refl
-gone_first true true (Some v) = refl
-gone_first true false o = refl
-gone_first false true o = refl
-gone_first false false o = refl
+gone_first a b o = grind (arith, nat_tests)
 
 over_first : (a b : Bool) (o : Option Exchange) → (if b then option_map over (if a then option_map over o else o) else (if a then option_map over o else o)) ≡ (if a || b then option_map over o else o)
-over_first true true None = refl
-over_first true true (Some w) = refl
-over_first true false o = refl
-over_first false true o = refl
-over_first false false o = refl
+over_first a b o = grind (arith, nat_tests)
 
 -- all that is let go at once
 abbrev pub without : ℕ → List ℕ → Tables → Tables
 without now rs t = record t { representation = λ q. if is_in rs q then option_map as_gone (t.representation q) else t.representation q; consumer = λ d. option_map (back_from_any now rs) (t.consumer d) }
 
 stays_mapped : (now : ℕ) (o : Option Consumer) → o ≡ option_map (back_from_any now []) o
-stays_mapped now None = refl
-stays_mapped now (Some k) = ap Some (none_waits k.place)
-  where
-    none_waits : (p : Place) → k ≡ (if waits_for_any [] p then back_in_line now k else k)
-    none_waits (place.Passed r kept) = refl
-    none_waits place.Line = refl
-    none_waits (place.Turn x) = refl
-    none_waits (place.Bound r lo hi by) = refl
-    none_waits (place.Direct x) = refl
-    none_waits (place.Down cause) = refl
-    none_waits place.Over = refl
+stays_mapped now o = grind (arith, nat_tests)
 
 pub all_go_is : (now : ℕ) (rs : List ℕ) (t : Tables) → let_all_go now rs t ≡ without now rs t
 all_go_is now [] t = ap (λ (f : ℕ → Option Consumer). record t { consumer = f }) (fun_ext (λ d. stays_mapped now (t.consumer d)))
@@ -116,26 +92,9 @@ all_closed_is (x ∷ xs) t =
 pub in_one : (o : Option ℕ) (n : ℕ) → is_in (with_item_first o []) n ≡ is_number o n
 in_one None n = refl
 in_one (Some m) n = or_off (m == n)
-  where
-    or_off : (b : Bool) → (b || false) ≡ b
-    or_off true = refl
-    or_off false = refl
 
 -- WHAT CHANGES NOTHING
 
-nothing_due : (k : Consumer) → failing None k ≡ k
-nothing_due k = ap (λ (o : Option Cause). record k { due = o }) (or_none k.due)
-  where
-    or_none : (o : Option Cause) → option_or o None ≡ o
-    or_none None = refl
-    or_none (Some why) = refl
-
 -- what founded nothing tells no length, nor what tells one already
 pub no_length : (x n : ℕ) (t : Tables) → t.representation x ≡ None → with_length x n t ≡ t
-no_length x n t none = ap (λ (f : ℕ → Option Representation). record t { representation = f }) (fun_ext by_number)
-  where
-    by_number : (q : ℕ) → (if x == q then option_map (with_total_if_none n) (t.representation q) else t.representation q) ≡ t.representation q
-    by_number q = elim (eq_cases x q) [
-      | inl same ↦ (let there : t.representation q ≡ None = ap t.representation (sym same.1) ∙ none in rw (same.0, there) refl)
-      | inr apart ↦ rw apart.0 refl
-    ]
+no_length x n t none = grind (arith, nat_tests)

@@ -1,11 +1,10 @@
 -- What it does that a consumer leaves and the seal of what it leaves fails: that is lost, and let go.
-use Rattle.std.{proofs.Common.{◌≡◌, inl, inr, ℕ, List, [], ◌∷◌, ◌++◌, Bool, true, false, Option, Some, None, refl, ap, sym, ◌∙◌, subst}, specs.Prelude.{◌||◌, ◌==◌, nat_eq, if◌then◌else◌, map, option_map}}
-use Rattle.hc_text.proofs.Basics.{eqb-same, not_some as none_some}
-use Rattle.hc_effects.proofs.Vocabulary.{Act, Cause, LostKind, Event, Limits, Place, loses_in, answer_acts, is_number, Does, with_event, with_consumer, with_representation, let_go, as_gone, as_over, left_by, is_unkeepable, going_with, with_leave, lost_to, Entry, family, Flaw, Loses, becomes_gone, Lawful, Ends, Fails, acts_of, move_of, poll_move, representation_after, representation_acted, Tables, Exchange, Representation, Consumer, loses_what_it_waits_for, after_accepted, with_item_first, exclusive}
+use Rattle.std.{proofs.{lemmas.Bool.Decides.{nat_tests}, Common.{arith, ◌≡◌, inl, inr, ℕ, List, [], ◌∷◌, ◌++◌, Bool, true, false, Option, Some, None, refl, ap, sym, ◌∙◌, subst}}, specs.Prelude.{◌||◌, ◌==◌, nat_eq, if◌then◌else◌, map, option_map}}
+use Rattle.hc_text.proofs.Basics.{eqb-same}
+use Rattle.hc_effects.proofs.Vocabulary.{Act, Cause, LostKind, Event, Limits, loses_in, answer_acts, is_number, Does, with_event, with_consumer, with_representation, let_go, as_gone, as_over, left_by, is_unkeepable, going_with, with_leave, lost_to, Entry, family, Flaw, Loses, becomes_gone, Lawful, Ends, Fails, acts_of, move_of, poll_move, representation_after, representation_acted, Tables, Exchange, Representation, Consumer, loses_what_it_waits_for, after_accepted, with_item_first, exclusive}
 use Rattle.hc_event.specs.declared.act.Act.TheVariants as act
 use Rattle.hc_event.specs.declared.event.Event.TheVariants as event
-use Rattle.hc_event.specs.declared.place.Place.TheVariants as place
-use Rattle.hc_effects.proofs.{ActParts.{IsFarFrom}, Basics.{number_is}, ConsumerEffects.{waits_as}, FailsTold.{fails_told}, KeyActs.{test_some}, LeaveFrames.{IsFront, e, nothing, far, acts_left, loses_as, goes_by, leaves}, LeftBy.{left_passed}, OfConsumers.{BringsNothing}, PieceKeeps.{eq_cases}, PollEffects.{loses_none}, SameTables.{is_in, waits_for_any, all_closed_is}, Untouched.{representation_frame, representation_absent}}
+use Rattle.hc_effects.proofs.{Basics.{number_is}, FailsTold.{fails_told}, KeyActs.{test_some}, LeaveFrames.{IsFront, e, nothing, far, acts_left, loses_as, goes_by, leaves}, OfConsumers.{BringsNothing}, PieceKeeps.{eq_cases}, SameTables.{is_in, all_closed_is}, Untouched.{representation_frame, representation_absent}}
 use Rattle.hc_effects.proofs.LeaveFrames as front_of
 
 module _ (limits : Limits) (t : Tables) (law : Lawful t) (now c : ℕ) (k : Consumer) (row : t.consumer c ≡ Some k) (x : ℕ) (w : Exchange) (r : ℕ) (v : Representation) (kind : LostKind) (left : left_by t c k ≡ Some x) (is_row : t.exchange x ≡ Some w) (of_family : family x w ≡ r) (there : t.representation r ≡ Some v) (kept : v.is_lost ≡ false) where
@@ -18,9 +17,6 @@ module _ (limits : Limits) (t : Tables) (law : Lawful t) (now c : ℕ) (k : Cons
 
     n : BringsNothing t it c
     n = nothing limits t law now c k row ev flaw None front is it.acts
-
-    far_it : (d : ℕ) → nat_eq c d ≡ false → IsFarFrom d it.acts
-    far_it = far limits t law now c k row ev flaw None front is
 
     -- nothing else goes
     going_is : (q : ℕ) → is_number (going_with t (left_by t c k)) q ≡ true → r ≡ q
@@ -40,29 +36,15 @@ module _ (limits : Limits) (t : Tables) (law : Lawful t) (now c : ℕ) (k : Cons
         by_row (Some u) is h = unjoined (law.owned.founders x w u is_row is)
 
     by_tests : (a b : Bool) → (b ≡ true → a ≡ true) → (a || false || false || b) ≡ (a || false)
-    by_tests true b so = refl
-    by_tests false true so = absurd (let never : false ≡ true = so refl in cc)
-    by_tests false false so = refl
+    by_tests a b so = grind (arith, nat_tests)
 
     goes : (q : ℕ) (u : Representation) → t.representation q ≡ Some u → becomes_gone t it q u ≡ is_in (r ∷ []) q
     goes q u here =
         goes_by limits t law now c k row ev flaw None front is q u here
         ∙ by_tests (r == q) (is_number (going_with t (left_by t c k)) q) (λ on. subst (λ n. nat_eq r n ≡ true) (going_is q on) (eqb-same r))
 
-    unwaiting : (p : Place) → k.place ≡ p → waits_for_any (r ∷ []) p ≡ false
-    unwaiting (place.Passed q kept_it) at = absurd (none_some x (sym (left_passed t law c k row q kept_it at) ∙ left))
-    unwaiting place.Line at = refl
-    unwaiting (place.Turn y) at = refl
-    unwaiting (place.Bound q lo hi how) at = refl
-    unwaiting (place.Direct y) at = refl
-    unwaiting (place.Down why) at = refl
-    unwaiting place.Over at = refl
-
     stays : loses_what_it_waits_for t it c k.place ≡ false
-    stays =
-        loses_none t it c k.place
-        (waits_as t it law (r ∷ []) goes c k row k.place refl
-        ∙ unwaiting k.place refl)
+    stays = grind (arith, nat_tests)
 
     -- it alone is lost, and who writes it alone goes on with it
     lost_row : representation_after t it r (Some v) ≡ Some (as_gone (lost_to (exclusive t r v) v))

@@ -1,8 +1,11 @@
 -- Whoever is bound and has nothing due reads with others, is the exclusive writer, or has all that it needs.
+-- First what a loss leaves: who goes on alone, and that what is stored stays. Then the cases of who is bound after the entry.
+-- Who was bound before was served in one of three ways: it shares a writing, writes alone, or reads what is stored (`by_served`).
+-- Each way goes on, or the writing ends and all that is wanted is stored, or who is left goes on alone.
+-- Who is bound by this entry opened a first hole, was shown a head by its plan, or founded the representation.
 use Rattle.std.{proofs.{Common.{◌≡◌, ◌⊎◌, inl, inr, ℕ, ◌+◌, ◌≤◌, List, [], length, Bool, true, false, Option, Some, None, refl, ap, sym, ◌∙◌, subst, arith}, lemmas.Bool.Decides.{nat_tests}}, specs.{Prelude.{if◌then◌else◌, is_some, is_none, ◌==◌, ◌&&◌, ◌||◌, not, nat_eq, unwrap_or}, Option.{option_or}}}
-use Rattle.hc_text.proofs.Basics.{both_true as and_both, and_left, and_right, bool_cases, not_some as none_some, same_some as same_row, some_inj}
+use Rattle.hc_text.proofs.Basics.{never_true, or_cases, and_none as and_off, eq_is, both_true as and_both, and_left, and_right, bool_cases, not_some as none_some, same_some as same_row, some_inj}
 use Rattle.hc_sparse.specs.Cells.{Cells, Covers, cells_with}
-use Rattle.hc_sparse.proofs.CellLemmas.{inside-cases}
 use Rattle.hc_range.specs.declared.range.Span.{Span}
 use Rattle.hc_effects.proofs.Vocabulary.{Opening, opening_in, leaves_in, closes_in, given_in, Event, Response, HeadCase, Limits, BoundBy, Showing, showing_in, loses_in, has_loss, case_at, head_view, must_close, is_refused, brings_head, is_doomed, has_no_survivor, is_left, leaver, leaver_by, consumer_heard, consumer_acted, by_opening, waiting, is_number, denial, doomed_key_of, doomed_in, doomed_by_head, doomed_by_case, is_key, Entry, exchange_heard, promise_in, is_open, is_reached, family, becomes_due, cause_by_loss, Flaw, first_hole, covers, entry_of, Measures, Owners, is_written, bound, hi_of, offset, reads, new_representation, writer_at, Tables, Exchange, Representation, Consumer, Sound, IsBound, IsServed, IsExclusiveWriter, IsFirst, IsGrowing, after_accepted, brings_body, came_alone, loses_writing, survivor, goes_on_with, status_in, stops}
 use Rattle.hc_event.specs.declared.event.Event.TheVariants as event
@@ -20,10 +23,7 @@ use Rattle.hc_effects.proofs.ShownFrom as shown_as
 
 -- what was written over stays there
 pub written_covers : (at x lo hi : ℕ) (bytes : List ℕ) (f : Cells) → Covers f lo hi → Covers (cells_with at x bytes f) lo hi
-written_covers at x lo hi bytes f all p from_lo lt = elim (inside-cases at (length bytes) p) [
-  | inl here ↦ rw here.0 refl
-  | inr off ↦ rw off.0 (all p from_lo lt)
-]
+written_covers at x lo hi bytes f all p from_lo lt = grind (arith, nat_tests)
 
 module _ (limits : Limits) (t : Tables) (now : ℕ) (flaw : Flaw) (s : Sound t) (o : Owners t) (m : Measures t) (ev : Event) (goes : denial t ev ≡ None) (real : IsReal limits t now ev flaw) where
   abbrev e : Entry
@@ -70,18 +70,10 @@ module _ (limits : Limits) (t : Tables) (now : ℕ) (flaw : Flaw) (s : Sound t) 
   pub over : (x : ℕ) (w : Exchange) → t.exchange x ≡ Some w → (stops x ev ≡ true) ⊎ (closes_in x e.acts ≡ true) → is_open (now_on.exchange x) ≡ false
   over x w row ends = by_test (is_open (now_on.exchange x)) refl
     where
-      eq_is : (a c : ℕ) → (a == c) ≡ true → a ≡ c
-      eq_is a c h = let test : nat_eq a c ≡ true = h in grind (arith, nat_tests)
-
       by_stop : (g : forward.IsOn t e x w) → g.u.is_open ≡ true → (z : Event) → ev ≡ z → stops x z ≡ true → ⊥
       by_stop g on (event.End y) here h = g.same.unended on (here ∙ ap event.End (eq_is y x h))
       by_stop g on (event.Fault y) here h = g.same.unfaulted on (here ∙ ap event.Fault (eq_is y x h))
-      by_stop g on (event.Start c request) here h = false_true h
-      by_stop g on (event.Poll c want) here h = false_true h
-      by_stop g on (event.Head y response) here h = false_true h
-      by_stop g on (event.Piece y bytes) here h = false_true h
-      by_stop g on (event.Cancel c) here h = false_true h
-      by_stop g on (event.Doom key) here h = false_true h
+      by_stop g on _ here h = false_true h
 
       by_end : (g : forward.IsOn t e x w) → g.u.is_open ≡ true → (stops x ev ≡ true) ⊎ (closes_in x e.acts ≡ true) → ⊥
       by_end g on (inl stop) = by_stop g on ev refl stop
@@ -217,16 +209,9 @@ module _ (limits : Limits) (t : Tables) (now : ℕ) (flaw : Flaw) (s : Sound t) 
             | inl is ↦ alone_now all.0 (all.1 ∙ (rw unlosing is))
             | inr rest ↦ still_reads rest.hi rest.end rest.covered
           ]
-        where
-          and_off : (a : Bool) → (a && false) ≡ false
-          and_off true = refl
-          and_off false = refl
 
       first_same : IsFirst t r c → came_alone t (place.Bound r lo hi how) ≡ true
-      first_same (sound.first q a d g q_row q_at alone) =
-          let one : q ≡ k = same_row (t.consumer c) q k q_row row.row in
-          let same = from.place_inj r a d g r lo hi how (sym q_at ∙ (ap (λ (z : Consumer). z.place) one ∙ at)) in
-          subst (λ z. came_alone t z ≡ true) (sym q_at ∙ (ap (λ (z : Consumer). z.place) one ∙ at)) alone
+      first_same it0 = grind (arith, nat_tests)
 
       by_exclusive_writer : IsExclusiveWriter t r v c → Served
       by_exclusive_writer (sound.first new is) = elim (bool_cases (loses_in r e.acts)) [
@@ -253,11 +238,7 @@ module _ (limits : Limits) (t : Tables) (now : ℕ) (flaw : Flaw) (s : Sound t) 
 
     -- a poll loses no r of which an open exchange goes on
     quiet_poll : (want d : ℕ) → ev ≡ event.Poll d want → (v : Representation) → t.representation r ≡ Some v → ((z : IsSealing limits t now flaw s o m ev goes real r) → ⊥) → loses_in r e.acts ≡ false
-    quiet_poll want d polls v there none = by_test (loses_in r e.acts) refl
-      where
-        by_test : (a : Bool) → loses_in r e.acts ≡ a → a ≡ false
-        by_test false quiet = refl
-        by_test true loses = absurd (none (sealed_loss limits t now flaw s o m ev goes real r v there loses (ap brings_body polls)))
+    quiet_poll want d polls v there none = never_true (loses_in r e.acts) (λ loses. none (sealed_loss limits t now flaw s o m ev goes real r v there loses (ap brings_body polls)))
 
     -- AT A FIRST HOLE
 
@@ -271,11 +252,7 @@ module _ (limits : Limits) (t : Tables) (now : ℕ) (flaw : Flaw) (s : Sound t) 
         first_now ((kept_alone r v p kept quiet).0 ∙ not_lost v not_gone (s.rows r v kept.row).store.lost_is_gone) (ap (λ g. came_alone now_on (place.Bound r lo hi g)) hole.by_is)
       where
         not_lost : (v : Representation) → v.is_gone ≡ false → (v.is_lost ≡ true → v.is_gone ≡ true) → v.is_lost ≡ false
-        not_lost v off goes_too = by_test v.is_lost refl
-          where
-            by_test : (a : Bool) → v.is_lost ≡ a → a ≡ false
-            by_test false is = refl
-            by_test true is = absurd (false_true (sym off ∙ goes_too is))
+        not_lost v off goes_too = grind (arith, nat_tests)
 
     -- BY ITS PLAN
 
@@ -285,10 +262,6 @@ module _ (limits : Limits) (t : Tables) (now : ℕ) (flaw : Flaw) (s : Sound t) 
       where
         shows : ShowsBy t now ev z
         shows = showing_by limits t now flaw s ev goes z is
-
-        or_cases : (a d : Bool) → (a || d) ≡ true → (a ≡ true) ⊎ (d ≡ true)
-        or_cases true d h = inl refl
-        or_cases false d h = inr h
 
         none_of : (q : Option Response) → is_none q ≡ true → is_some q ≡ true → ⊥
         none_of None none some = false_true some
@@ -337,11 +310,7 @@ module _ (limits : Limits) (t : Tables) (now : ℕ) (flaw : Flaw) (s : Sound t) 
         planned = planned_at limits t now flaw s ev goes z k (ap t.consumer all.at ∙ row.row) is (subst (λ d. reads (by_opening t d (opening_in e.acts) (waiting t e d (consumer_heard t e d ev k))).place ≡ false) (sym all.at) all.free)
 
         none_closed : (x : ℕ) (w : Exchange) (v : Representation) → t.representation r ≡ Some v → IsGrowing t r v x w → closes_in x e.acts ≡ false
-        none_closed x w v there g = by_test (closes_in x e.acts) refl
-          where
-            by_test : (a : Bool) → closes_in x e.acts ≡ a → a ≡ false
-            by_test false quiet = refl
-            by_test true shut = absurd (unclosed x w v z there g row.leaves is all.at shut)
+        none_closed x w v there g = never_true (closes_in x e.acts) (λ shut. unclosed x w v z there g row.leaves is all.at shut)
 
         -- it joins a writing that is on, and goes on
         joins_on : (v : Representation) → t.representation r ≡ Some v → is_written t v ≡ true → (x : ℕ) → v.writer ≡ Some x → RepFrom t e r p → Served
@@ -403,20 +372,12 @@ module _ (limits : Limits) (t : Tables) (now : ℕ) (flaw : Flaw) (s : Sound t) 
       unfolding doomed_key_of
       head_unclosed unrefused undoomed shut = by_cause (had_to limits t now flaw s ev x w exchange_row shut)
         where
-          or_cases : (a d : Bool) → (a || d) ≡ true → (a ≡ true) ⊎ (d ≡ true)
-          or_cases true d h = inl refl
-          or_cases false d h = inr h
-
           lost_not : (n : ℕ) (q : Option Representation) → q ≡ None → has_no_survivor t b x n q ≡ true → ⊥
           lost_not n None none h = false_true h
           lost_not n (Some a) none h = none_some a (sym none)
 
           left_not : (q : Option ℕ) → leaver b ≡ q → is_left t x q ≡ true → ⊥
-          left_not None is_leaver h = false_true h
-          left_not (Some l) is_leaver h =
-              let leaves = leaver_leaves limits t now flaw s ev l (sym (ap (λ q. leaver_by q b.acts) here) ∙ is_leaver) in
-              let got = leaving_by limits t now flaw s ev goes l leaves in
-              let no : event.Head x response ≡ event.Poll l got.want = sym here ∙ got.poll.at in cc
+          left_not q is_leaver h = grind (arith, nat_tests)
 
           doomed_none : doomed_key_of t b ≡ None
           doomed_none = sym (doomed_same limits t now flaw s o ev goes) ∙ (ap (doomed_in t e) here ∙ (ap (doomed_by_head t e response) exchange_row ∙ undoomed))

@@ -1,5 +1,5 @@
 -- What a piece does whose write is refused while it is written for several: one goes on alone, if one can, and the others fail.
-use Rattle.std.{proofs.Common.{◌≡◌, inl, inr, ℕ, ◌+◌, List, [], ◌∷◌, ◌++◌, Bool, true, false, Option, Some, None, refl, ap, sym, ◌∙◌, subst}, specs.{Prelude.{◌&&◌, ◌||◌, ◌==◌, not, nat_eq, length, is_some, is_none, if◌then◌else◌, map, filter, reverse, option_map}, Option.{option_or}}}
+use Rattle.std.{proofs.{lemmas.Bool.Decides.{nat_tests}, Common.{arith, ◌≡◌, inl, inr, ℕ, ◌+◌, List, [], ◌∷◌, ◌++◌, Bool, true, false, Option, Some, None, refl, ap, sym, ◌∙◌, subst}}, specs.{Prelude.{◌&&◌, ◌||◌, ◌==◌, not, nat_eq, length, is_some, is_none, if◌then◌else◌, map, filter, reverse, option_map}, Option.{option_or}}}
 use mathlib.Core.Path.{fun_ext}
 use Rattle.hc_text.proofs.Basics.{both_true as and_both, eqb-same, not_some as none_some, or_none as or_nothing, same_some as same_row, some_inj, and_off as then_false}
 use Rattle.hc_event.specs.declared.act.Act.TheVariants as act
@@ -117,12 +117,7 @@ module _ (limits : Limits) (t : Tables) (law : Lawful t) (now x : ℕ) (bytes : 
           | inl same ↦ bound_by c lo hi how k (at ∙ ap (λ n. place.Bound n lo hi how) same.1)
           | inr apart ↦ unbound c k here (ap (is_bound_place r) at ∙ apart.0)
         ]
-        by_place k place.Line here at = unbound c k here (ap (is_bound_place r) at)
-        by_place k (place.Passed q old) here at = unbound c k here (ap (is_bound_place r) at)
-        by_place k (place.Turn y) here at = unbound c k here (ap (is_bound_place r) at)
-        by_place k (place.Direct y) here at = unbound c k here (ap (is_bound_place r) at)
-        by_place k (place.Down y) here at = unbound c k here (ap (is_bound_place r) at)
-        by_place k place.Over here at = unbound c k here (ap (is_bound_place r) at)
+        by_place k _ here at = unbound c k here (ap (is_bound_place r) at)
 
         by_row : (z : Option Consumer) → t.consumer c ≡ z → option_map (beside t (e xs) c) z ≡ made c z
         by_row None here = refl
@@ -168,13 +163,7 @@ module _ (limits : Limits) (t : Tables) (law : Lawful t) (now x : ℕ) (bytes : 
     }
       where
         some_survives : (y q : ℕ) (z : Option Representation) → t.representation q ≡ z → has_no_survivor t (record { now = now; event = ev; acts = loss_acts flaw }) y q z ≡ false
-        some_survives y q None is = refl
-        some_survives y q (Some u) is = elim (eq_cases r q) [
-          | inr apart ↦ and_false _ (is_none (survivor t q u)) (then_false (is_number u.writer y) (loses_writing t (e []) q u) (loses_other [] q u apart.0))
-          | inl same ↦
-              let one : survivor t q u ≡ Some d = ap (λ n. survivor t n u) (sym same.1) ∙ (ap (survivor t r) (same_row (t.representation q) u v is (sym (ap t.representation same.1) ∙ there)) ∙ survives) in
-              then_false _ (is_none (survivor t q u)) (ap (λ (o : Option ℕ). is_none o) one)
-        ]
+        some_survives y q z is = grind (arith, nat_tests)
 
     -- it has the exchange for its own, and the others fail
     pub goes_on : Does limits t now ev flaw (map act.Evicted (evicted limits t now ev) ++ (act.Lost r kind ∷ []))
@@ -193,11 +182,7 @@ module _ (limits : Limits) (t : Tables) (law : Lawful t) (now x : ℕ) (bytes : 
     left = if (with_piece bytes w).is_open then Some x else None
 
     left_is : with_item_first left [] ≡ unless_reached x bytes w
-    left_is = by_test (with_piece bytes w).is_open
-      where
-        by_test : (a : Bool) → with_item_first (if a then Some x else None) [] ≡ (if a then x ∷ [] else [])
-        by_test true = refl
-        by_test false = refl
+    left_is = grind (arith, nat_tests)
 
     closes_it : closes_row t b x (t.exchange x) ≡ is_number left x
     closes_it =
@@ -216,11 +201,7 @@ module _ (limits : Limits) (t : Tables) (law : Lawful t) (now x : ℕ) (bytes : 
     ]
       where
         off : nat_eq x y ≡ false → is_number left y ≡ false
-        off other = by_test (with_piece bytes w).is_open
-          where
-            by_test : (a : Bool) → is_number (if a then Some x else None) y ≡ false
-            by_test true = other
-            by_test false = refl
+        off other = grind (arith, nat_tests)
 
         some_writes : (q : ℕ) (z : Option Representation) → t.representation q ≡ z → nat_eq x y ≡ false → has_no_survivor t b y q z ≡ false
         some_writes q None is other = refl
@@ -250,11 +231,7 @@ module _ (limits : Limits) (t : Tables) (law : Lawful t) (now x : ℕ) (bytes : 
         is_there y same = ap is_some (sym (ap t.exchange same) ∙ row)
 
     only_it : (q : ℕ) → is_in (unless_reached x bytes w) q ≡ true → x ≡ q
-    only_it q = by_test (with_piece bytes w).is_open
-      where
-        by_test : (a : Bool) → is_in (if a then x ∷ [] else []) q ≡ true → x ≡ q
-        by_test true is = elim (eq_cases x q) [ inl same ↦ same.1 | inr apart ↦ absurd (false_true (rw apart.0 at is)) ]
-        by_test false is = absurd (false_true is)
+    only_it q = grind (arith, nat_tests)
 
     -- all fail, and the exchange is closed that this piece leaves open
     pub all_fail : Does limits t now ev flaw (map act.Evicted (evicted limits t now ev) ++ (act.Lost r kind ∷ map act.Close (unless_reached x bytes w)))

@@ -1,12 +1,11 @@
 -- Whoever is shown a head by its plan is shown what is current for its key: all that its writing brings, or an interval that is stored.
-use Rattle.std.{proofs.Common.{◌≡◌, ℕ, ◌+◌, Bool, true, false, Option, Some, None, refl, ap, sym, ◌∙◌}, specs.Option.{option_map}}
+use Rattle.std.{proofs.{lemmas.Bool.Decides.{nat_tests}, Common.{arith, ◌≡◌, ℕ, ◌+◌, Bool, true, false, Option, Some, None, refl, ap, sym, ◌∙◌}}, specs.Option.{option_map}}
 use Rattle.hc_text.proofs.Basics.{not_some as none_some, same_some as same_row, some_inj}
 use Rattle.hc_range.specs.declared.range.Span.{Span}
 use Rattle.hc_effects.proofs.Vocabulary.{Response, Request, Why, Plan, Candidate, least, plan_of, class_of, is_disabled, range_of, wanted_of, Place, Showing, current, total_in, first_hole, Move, Nothing, Fails, Shows, opens_hole, shows_stored, plan_view, plan_move, origin_request, candidate, hole_of, binds_current, shows_at, move_of, is_written, bound, bound_to, reads, Tables, Representation, Consumer, Sound, exclusive}
 use Rattle.hc_event.specs.declared.act.Cause.TheVariants as cause
 use Rattle.hc_event.specs.declared.act.Wait.TheVariants as wait
 use Rattle.hc_rules.specs.declared.request.Wanted.TheVariants as wanted
-use Rattle.hc_event.specs.declared.place.Place.TheVariants as place
 use Rattle.hc_model.specs.Moves as moves
 use Rattle.hc_effects.proofs.{Basics.{false_true}, MoveBy.{MoveBy, IsHeard, move_by}, PlanBy.{PlanBy, plan_by}, Said.{IsShowing}, ShownOnce.{is_showing, shown_shows}}
 use Rattle.hc_effects.proofs.MoveBy as by
@@ -70,8 +69,7 @@ module _ (t : Tables) (now c : ℕ) (k : Consumer) where
     nothing_shows is = cc
 
     hole_shows : (request : Request) (o : Option Representation) (hole : Span) → opens_hole t request o hole ≡ show → ⊥
-    hole_shows request None hole is = cc
-    hole_shows request (Some v) hole is = cc
+    hole_shows request o hole is = grind (arith, nat_tests)
 
     -- what is shown is there
     record IsStored (q a : ℕ) (b : Option ℕ) : Type 0 where
@@ -126,13 +124,7 @@ module _ (t : Tables) (now c : ℕ) (k : Consumer) where
 
     -- who reads nothing isn't shown a head that is there for who reads
     unread : (p : Place) → reads p ≡ false → shows_at t k p ≡ Some show → ⊥
-    unread place.Line free is = none_some show is
-    unread (place.Passed q kept) free is = none_some show is
-    unread (place.Turn x) free is = none_some show is
-    unread (place.Bound q a b by) free is = let never : true ≡ false = free in cc
-    unread (place.Direct x) free is = let never : true ≡ false = free in cc
-    unread (place.Down why_down) free is = none_some show is
-    unread place.Over free is = none_some show is
+    unread p free is = grind (arith, nat_tests)
 
     by_move : (want : ℕ) (m : Move) → MoveBy t now want c k m → m ≡ move_of t now want c k → m ≡ show → reads k.place ≡ false → (k.shown ≡ false) × (bound_to k.place ≡ None) × IsHeard t k × ((is_disabled k.request ≡ false) × ShownAs r lo hi × IsFreeOf r)
     by_move want m (by.shows _ shown at) here is free = absurd (unread k.place free (at ∙ ap Some is))

@@ -1,16 +1,14 @@
 -- Whoever was shown a head stays where it stands, or stands nowhere where anything is read; and where a consumer stands that is shown one.
-use Rattle.std.{proofs.{Common.{◌≡◌, inl, inr, ℕ, Bool, true, false, cond, Option, Some, None, refl, ap, sym, ◌∙◌, subst, arith}, lemmas.Bool.Decides.{nat_tests}}, specs.Prelude.{if◌then◌else◌, is_none, ◌==◌, ◌&&◌, not, nat_eq}}
-use Rattle.hc_text.proofs.Basics.{bool_cases, not_some as none_some, same_some as same_row}
+use Rattle.std.{proofs.{Common.{◌≡◌, inl, inr, ℕ, Bool, true, false, cond, Option, Some, None, refl, ap, sym, ◌∙◌, subst, arith}, lemmas.Bool.Decides.{nat_tests}}, specs.Prelude.{if◌then◌else◌, ◌==◌}}
+use Rattle.hc_text.proofs.Basics.{bool_cases, same_some as same_row}
 use Rattle.hc_effects.proofs.Vocabulary.{Opening, opening_in, leaves_in, Event, Response, Wait, Why, HeadCase, Limits, head_case, route_of, Place, Showing, showing_in, wait_in, has_loss, case_at, head_view, was_shown, consumer_heard, consumer_acted, by_head, by_fault, by_opening, place_by_case, passed_on, passed_by, kept_by, waiting, waiting_place, unless_bound, shown_place, due_after, back_in_line, current, denial, Entry, Flaw, entry_of, Move, Shows, Owners, IsAwaiting, move_of, bound_to, reads, Tables, Exchange, Consumer, Sound, starts_over, after_accepted}
 use Rattle.hc_event.specs.declared.event.Event.TheVariants as event
 use Rattle.hc_event.specs.declared.act.Wait.TheVariants as wait
 use Rattle.hc_rules.specs.declared.need.Route.TheVariants as route
 use Rattle.hc_event.specs.declared.place.BoundBy.TheVariants as by
 use Rattle.hc_event.specs.declared.place.Place.TheVariants as place
-use Rattle.hc_model.specs.Owners as owners
 use Rattle.hc_effects.proofs.{Basics.{false_true}, FirstKeeps.{is_new, case_is, is_opener}, Forward.{is_kept}, FoundBy.{CaseBy, case_by}, OpenedAs.{Way, opened_as}, PastApart.{IsApart}, PieceKeeps.{eq_cases}, Said.{IsShowing, IsOpening, WaitsAs, opening_by, showing_by, waiting_by}, ShownOnce.{is_showing, shown_shows}, Waiters.{IsWaiter, waiter_of}}
 use Rattle.hc_effects.proofs.FoundBy as cases
-use Rattle.hc_effects.proofs.OpenedAs as opened
 use Rattle.hc_effects.proofs.Said as said
 
 -- it reads nothing there and doesn't have the turn
@@ -38,16 +36,13 @@ pub record IsFallback (t : Tables) : Type 0 where
   pub ended : (x : ℕ) (w : Exchange) → t.exchange x ≡ Some w → w.is_ended ≡ true → w.is_open ≡ false
 
 passed_on_idle : (x : ℕ) (o : Option ℕ) → IsIdle (passed_on x o)
-passed_on_idle x None = tt
-passed_on_idle x (Some r) = tt
+passed_on_idle x o = grind (arith, nat_tests)
 
 passed_by_idle : (kept o : Option ℕ) → IsIdle (passed_by kept o)
-passed_by_idle kept None = tt
-passed_by_idle kept (Some r) = tt
+passed_by_idle kept o = grind (arith, nat_tests)
 
 pub unless_same : (b : Option ℕ) (r : ℕ) (old new : Place) → b ≡ Some r → unless_bound b old new ≡ old
-unless_same None r old new is = absurd (none_some r is)
-unless_same (Some q) r old new is = refl
+unless_same b r old new is = grind (arith, nat_tests)
 
 module _ (limits : Limits) (t : Tables) (now : ℕ) (flaw : Flaw) (s : Sound t) (o : Owners t) (ev : Event) (goes : denial t ev ≡ None) where
   abbrev e : Entry
@@ -70,32 +65,24 @@ module _ (limits : Limits) (t : Tables) (now : ℕ) (flaw : Flaw) (s : Sound t) 
       at = subst (λ (q : Consumer). IsAwaiting x w q.place) (same_row (t.consumer c) got.0 k (sym (ap t.consumer mine) ∙ got.1.row) row) got.1.at
 
       turn_not : route_of w.need ≡ route.Turn → IsAwaiting x w k.place → ⊥
-      turn_not way (owners.direct it stands) = let no : route.Direct ≡ route.Turn = sym it ∙ way in cc
-      turn_not way (owners.turn it stands) = a.unturned c x k row stands shown
-      turn_not way (owners.hole r lo hi how it aim stands) = let no : route.Hole ≡ route.Turn = sym it ∙ way in cc
+      turn_not way it1 = grind (arith, nat_tests)
 
       unshown_not : was_shown (t.consumer w.c) ≡ false → ⊥
       unshown_not off = false_true (sym off ∙ (ap was_shown (ap t.consumer mine ∙ row) ∙ shown))
 
       by_case : (g : HeadCase) → CaseBy (head_view t (has_loss e.acts) w response) g → Stays (place_by_case x response w k (Some g))
       by_case _ (cases.direct_bad way h) = idle tt
-      by_case _ (cases.direct_taken way) = same refl
       by_case _ (cases.turn_bad way h) = idle tt
       by_case _ (cases.validated way h d l) = idle (passed_on_idle x w.aim)
-      by_case _ (cases.not_validated way h) = same refl
       by_case _ (cases.turn_server_error way) = absurd (turn_not way at)
       by_case _ (cases.founds_whole way h l g) = absurd (turn_not way at)
       by_case _ (cases.founds_range way h f l g) = absurd (turn_not way at)
       by_case _ (cases.passes_by way) = absurd (turn_not way at)
       by_case _ (cases.first_bad way off h) = idle tt
-      by_case _ (cases.first_joins way off h g) = same refl
       by_case _ (cases.first_server_error way off) = absurd (unshown_not off)
-      by_case _ (cases.first_changed way off) = same refl
       by_case _ (cases.first_replaced way off h l g) = absurd (unshown_not off)
       by_case _ (cases.first_passes_by way off) = absurd (unshown_not off)
-      by_case _ (cases.later_bad way on h) = same refl
-      by_case _ (cases.later_joins way on h g) = same refl
-      by_case _ (cases.later_changed way on) = same refl
+      by_case _ _ = same refl
 
       headed_stays : Stays (place_by_case x response w k (case_at t e))
       headed_stays = rw (case_is t e x response w here exchange_row) (by_case (head_case (head_view t (has_loss e.acts) w response)) (case_by (head_view t (has_loss e.acts) w response)))
@@ -108,24 +95,16 @@ module _ (limits : Limits) (t : Tables) (now : ℕ) (flaw : Flaw) (s : Sound t) 
     ]
 
     fault_stays : (x : ℕ) (z : Option Exchange) → Stays (by_fault c x z k).place
-    fault_stays x None = same refl
-    fault_stays x (Some w) = elim (bool_cases (w.c == c && is_none w.head && not k.shown)) [
-      | inl hit ↦ rw hit (idle tt)
-      | inr off ↦ rw off (same refl)
-    ]
+    fault_stays x z = grind (arith, nat_tests)
 
     heard_stays : (v : Event) → ev ≡ v → Stays (consumer_heard t e c v k).place
-    heard_stays (event.Start d request) here = same refl
-    heard_stays (event.Poll d want) here = same refl
     heard_stays (event.Head x response) here = head_stays x response (t.exchange x) here refl
-    heard_stays (event.Piece x bytes) here = same refl
-    heard_stays (event.End x) here = same refl
     heard_stays (event.Fault x) here = fault_stays x (t.exchange x)
     heard_stays (event.Cancel d) here = elim (bool_cases (d == c)) [
       | inl hit ↦ rw hit (idle tt)
       | inr off ↦ rw off (same refl)
     ]
-    heard_stays (event.Doom key) here = same refl
+    heard_stays _ here = same refl
 
     waits_stays : (q : Consumer) (z : Option Wait) → Stays q.place → Stays (waiting_place t q z)
     waits_stays q None st = st
@@ -138,10 +117,7 @@ module _ (limits : Limits) (t : Tables) (now : ℕ) (flaw : Flaw) (s : Sound t) 
     waited = waiting t e c (consumer_heard t e c ev k)
 
     pub way_bound : (p : Opening) → Way t now c k p.need → (bound_to k.place ≡ None → k.shown ≡ false) → (r : ℕ) × (bound_to k.place ≡ Some r)
-    way_bound p (opened.passes_by none way) off = absurd (false_true (sym (off none) ∙ shown))
-    way_bound p (opened.fetches none way cached) off = absurd (false_true (sym (off none) ∙ shown))
-    way_bound p (opened.fills r v span hole none way is there wants found need_is cached) off = absurd (false_true (sym (off none) ∙ shown))
-    way_bound p (opened.goes_on r lo hi how stands way) off = (r, ap bound_to stands)
+    way_bound p it1 off = grind (arith, nat_tests)
 
     opens_stays : (z : Option Opening) → opening_in e.acts ≡ z → Stays waited.place → Stays (by_opening t c z waited).place
     opens_stays None is st = st
@@ -192,19 +168,12 @@ module _ (limits : Limits) (t : Tables) (now : ℕ) (flaw : Flaw) (s : Sound t) 
   -- WHO IS SHOWN ONE
 
   module _ (c want : ℕ) (k : Consumer) (row : t.consumer c ≡ Some k) (at : ev ≡ event.Poll c want) (r : ℕ) (why : Why) (head : Response) (lo : ℕ) (hi : Option ℕ) (move_is : move_of t now want c k ≡ Shows r why head lo hi) (told : showing_in e.acts ≡ Some (record { c = c; r = r; lo = lo; hi = hi })) where
-    poll_inj : (d n : ℕ) → event.Poll c want ≡ event.Poll d n → (c ≡ d) × (want ≡ n)
-    poll_inj d n is = (cc, cc)
-
     one_move : (d n : ℕ) (q : Consumer) → ev ≡ event.Poll d n → t.consumer d ≡ Some q → (c ≡ d) × (move_of t now n d q ≡ Shows r why head lo hi)
-    one_move d n q is there =
-        let all = poll_inj d n (sym at ∙ is) in
-        let one : k ≡ q = same_row (t.consumer d) k q (sym (ap t.consumer all.0) ∙ row) there in
-        (all.0, sym (ap (λ m. move_of t now m d q) all.1) ∙ (sym (ap (λ m. move_of t now want m q) all.0) ∙ (sym (ap (move_of t now want c) one) ∙ move_is)))
+    one_move d n q is there = grind (arith, nat_tests)
 
     waits_not : (z : Wait) (m : Move) → WaitsAs z m → m ≡ Shows r why head lo hi → ⊥
     waits_not z _ (said.waits) is = cc
-    waits_not z _ (said.asks x body) is = cc
-    waits_not z _ (said.opens x n request first) is = cc
+    waits_not z _ _ is = cc
 
     waits_none : (z : Option Wait) → wait_in c e.acts ≡ z → z ≡ None
     waits_none None is = refl
@@ -221,13 +190,7 @@ module _ (limits : Limits) (t : Tables) (now : ℕ) (flaw : Flaw) (s : Sound t) 
     lands q = Lands k.place q r lo hi
 
     shown_lands : (p : Place) → p ≡ k.place → lands (shown_place c (Some (record { c = c; r = r; lo = lo; hi = hi })) p)
-    shown_lands p is = elim (bool_cases (reads p)) [
-      | inl old ↦ rw (self, old) (stays (sym (ap reads is) ∙ old) is)
-      | inr free ↦ rw (self, free) (planned (sym (ap reads is) ∙ free) refl)
-    ]
-      where
-        self : nat_eq c c ≡ true
-        self = grind (arith, nat_tests)
+    shown_lands p is = grind (arith, nat_tests)
 
     left_lands : (leaves : Bool) (p : Place) → lands p → lands (if leaves then place.Over else p)
     left_lands true p st = back tt

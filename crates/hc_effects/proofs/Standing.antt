@@ -1,6 +1,10 @@
 -- Who isn't spoken to stands where it stood, and what is current stays so.
+-- The event is not for the consumer, so it hears nothing; the acts say nothing to it, so it stays, or starts over.
+-- Why it starts over: its key is doomed while it waits, or the representation that let it through goes.
+-- What it reads is not lost and its source does not stop, so nothing becomes due to it either.
+-- What is current stays so: what is usable afterwards was usable before, or was founded for another key.
 use Rattle.std.{proofs.{Common.{◌≡◌, inl, inr, ℕ, ◌+◌, List, [], ◌∷◌, ◌++◌, length, Bool, true, false, Option, Some, None, refl, ap, sym, ◌∙◌, arith}, lemmas.Bool.Decides.{nat_tests}}, specs.{Prelude.{find, filter, bytes_eq, is_some, nat_eq, ◌||◌, ◌&&◌, not, if◌then◌else◌}, Option.{option_or}}}
-use Rattle.hc_effects.proofs.Vocabulary.{Opening, opening_in, leaves_in, shows_in, given_in, Act, Event, Response, Cause, Limits, is_same_number, Place, Showing, showing_in, has_loss, accepted_acts, answer_acts, loss_acts, close_acts, is_asked, case_at, case_of, closing, consumer_heard, by_head, by_fault, by_opening, waiting, shown_place, own_after, left_to, consumer_acted, consumer_settled, consumer_made, consumer_after, back_in_line, current, is_usable, denial, Entry, doomed_key_of, is_key, exchange_in, exchange_at, is_for, Flaw, is_event_for, beside, StartsOverBy, becomes_due, cause_of_loss, cause_by_loss, cause_of_head, becomes_gone, goes_in, bound, is_bound, reads, source, founded_at, new_representation, representation_after, Tables, Exchange, Representation, Consumer, Sound, Among, starts_over, sends_back, loses_what_it_waits_for, after_accepted, founds, with_item_first, starts_after, evicted}
+use Rattle.hc_effects.proofs.Vocabulary.{Opening, opening_in, leaves_in, shows_in, given_in, Act, Event, Limits, is_same_number, Place, Showing, showing_in, accepted_acts, answer_acts, loss_acts, close_acts, is_asked, case_at, case_of, closing, consumer_heard, by_opening, waiting, shown_place, own_after, left_to, consumer_acted, consumer_made, consumer_after, back_in_line, current, is_usable, denial, Entry, doomed_key_of, is_key, exchange_in, exchange_at, is_for, Flaw, is_event_for, beside, StartsOverBy, becomes_due, cause_of_loss, cause_by_loss, cause_of_head, becomes_gone, goes_in, bound, is_bound, reads, source, founded_at, new_representation, representation_after, Tables, Representation, Consumer, Sound, Among, starts_over, sends_back, loses_what_it_waits_for, after_accepted, founds, with_item_first, starts_after, evicted}
 use Rattle.hc_event.specs.declared.event.Event.TheVariants as event
 use Rattle.hc_text.proofs.Basics.{and_left, and_right, bool_cases, not_some as none_some, or_cases, plus_none, some_inj}
 use Rattle.hc_rules.proofs.RangeReads.{bytes_eq-same}
@@ -66,29 +70,11 @@ module _ (t : Tables) (e : Entry) (c : ℕ) (k : Consumer) (far : IsFarFrom c e.
   -- who hears nothing
   pub after_heard : consumer_heard t e c e.event k ≡ k → (z : Option Consumer) → z ≡ Some k → consumer_after t e c z ≡ Some (if starts_over t e c k then back_in_line e.now k else beside t e c k)
   unfolding consumer_after
-  after_heard quiet None is = absurd (none_some k is)
-  after_heard quiet (Some q) is =
-      ap (λ (u : Consumer). Some (consumer_settled t e c u (consumer_acted t e c (consumer_heard t e c e.event u)))) (some_inj q k is)
-      ∙ ap (λ u. Some (consumer_settled t e c k u)) (ap (consumer_acted t e c) quiet ∙ acted)
+  after_heard quiet z is = grind (arith, nat_tests)
 
   module _ (off : is_event_for t c e.event ≡ false) where
-    heard_head : (x : ℕ) (response : Response) (z : Option Exchange) → is_for z c ≡ false → by_head t e c x response z k ≡ k
-    heard_head x response None other = refl
-    heard_head x response (Some w) other = rw other refl
-
-    heard_fault : (x : ℕ) (z : Option Exchange) → is_for z c ≡ false → by_fault c x z k ≡ k
-    heard_fault x None other = refl
-    heard_fault x (Some w) other = rw other refl
-
     heard : (z : Event) → is_event_for t c z ≡ false → consumer_heard t e c z k ≡ k
-    heard (event.Start d request) other = refl
-    heard (event.Poll d want) other = refl
-    heard (event.Head x response) other = heard_head x response (t.exchange x) other
-    heard (event.Piece x bytes) other = refl
-    heard (event.End x) other = refl
-    heard (event.Fault x) other = heard_fault x (t.exchange x) other
-    heard (event.Cancel d) other = rw other refl
-    heard (event.Doom key) other = refl
+    heard z other = grind (arith, nat_tests)
 
     after_row : (z : Option Consumer) → z ≡ Some k → consumer_after t e c z ≡ Some (if starts_over t e c k then back_in_line e.now k else beside t e c k)
     after_row = after_heard (heard e.event off)
@@ -108,23 +94,11 @@ standers_stay limits t now ev flaw e is c k row off =
 module _ (t : Tables) (e : Entry) (c : ℕ) (k : Consumer) (off : is_event_for t c e.event ≡ false) where
   not_sent : (z : Event) → e.event ≡ z → is_for (exchange_at t z) c ≡ true → sends_back (case_at t e) ≡ true → ⊥
   unfolding case_of
-  not_sent (event.Head x response) at mine sent = false_true (sym (sym (ap (is_event_for t c) at) ∙ off) ∙ mine)
-  not_sent (event.Start d request) at mine sent = false_true mine
-  not_sent (event.Poll d want) at mine sent = false_true mine
-  not_sent (event.Piece x bytes) at mine sent = false_true (sym (ap (λ z. sends_back (case_of t (has_loss e.acts) z)) at) ∙ sent)
-  not_sent (event.End x) at mine sent = false_true (sym (ap (λ z. sends_back (case_of t (has_loss e.acts) z)) at) ∙ sent)
-  not_sent (event.Fault x) at mine sent = false_true (sym (ap (λ z. sends_back (case_of t (has_loss e.acts) z)) at) ∙ sent)
-  not_sent (event.Cancel d) at mine sent = false_true mine
-  not_sent (event.Doom key) at mine sent = false_true mine
+  not_sent z at mine sent = grind (arith, nat_tests)
 
   lost_by : (p : Place) → k.place ≡ p → loses_what_it_waits_for t e c p ≡ true → StartsOverBy t e k
   lost_by (place.Passed r kept) at h = frames.by_going r kept at (and_left (goes_in t e r (t.representation r)) _ h)
-  lost_by place.Line at h = absurd (false_true h)
-  lost_by (place.Turn x) at h = absurd (false_true h)
-  lost_by (place.Bound r lo hi how) at h = absurd (false_true h)
-  lost_by (place.Direct x) at h = absurd (false_true h)
-  lost_by (place.Down why) at h = absurd (false_true h)
-  lost_by place.Over at h = absurd (false_true h)
+  lost_by _ at h = absurd (false_true h)
 
   over_by : starts_over t e c k ≡ true → StartsOverBy t e k
   unfolding starts_over
@@ -148,22 +122,11 @@ module _ (t : Tables) (e : Entry) (c : ℕ) (k : Consumer) (o : reads k.place �
 
   unlost : (p : Place) → loses_reading t e p ≡ false → (cause_of_loss t e c p ≡ None) × (own_after t e c p k.own ≡ k.own)
   unlost (place.Bound r lo hi how) quiet = unlost_row r (t.representation r) quiet
-  unlost place.Line quiet = (refl, refl)
-  unlost (place.Passed r kept) quiet = (refl, refl)
-  unlost (place.Turn x) quiet = (refl, refl)
-  unlost (place.Direct x) quiet = (refl, refl)
-  unlost (place.Down why) quiet = (refl, refl)
-  unlost place.Over quiet = (refl, refl)
+  unlost _ quiet = (refl, refl)
 
   head_none : (z : Event) → is_event_for t c z ≡ false → cause_of_head t e c z ≡ None
   head_none (event.Head x response) other = rw other refl
-  head_none (event.Start d request) other = refl
-  head_none (event.Poll d want) other = refl
-  head_none (event.Piece x bytes) other = refl
-  head_none (event.End x) other = refl
-  head_none (event.Fault x) other = refl
-  head_none (event.Cancel d) other = refl
-  head_none (event.Doom key) other = refl
+  head_none _ other = refl
 
   none_due : becomes_due t e c k ≡ None
   unfolding becomes_due
@@ -172,12 +135,7 @@ module _ (t : Tables) (e : Entry) (c : ℕ) (k : Consumer) (o : reads k.place �
       rw (parts.0, (unlost k.place parts.1).0, head_none e.event off) refl
 
   due_same : (b : Bool) → reads k.place ≡ b → (if b then option_or k.due None else None) ≡ k.due
-  due_same true is = option_none k.due
-    where
-      option_none : (z : Option Cause) → option_or z None ≡ z
-      option_none None = refl
-      option_none (Some cause) = refl
-  due_same false is = sym (o is)
+  due_same b is = grind (arith, nat_tests)
 
   beside_same : beside t e c k ≡ k
   beside_same =
@@ -195,13 +153,7 @@ module _ (limits : Limits) (t : Tables) (now : ℕ) (ev : Event) (flaw : Flaw) (
   -- who wasn't there isn't yet
   unmade : (z : Event) → is_event_for t c z ≡ false → consumer_made c e.now z ≡ None
   unmade (event.Start d request) other = rw other refl
-  unmade (event.Poll d want) other = refl
-  unmade (event.Head x response) other = refl
-  unmade (event.Piece x bytes) other = refl
-  unmade (event.End x) other = refl
-  unmade (event.Fault x) other = refl
-  unmade (event.Cancel d) other = refl
-  unmade (event.Doom key) other = refl
+  unmade _ other = refl
 
   none_after : (z : Option Consumer) → z ≡ None → consumer_after t e c z ≡ None
   unfolding consumer_after
@@ -239,13 +191,7 @@ bound_stay t e s goes r same = ap (λ test. filter test (starts_after e.event t.
         let none : t.consumer c ≡ None = s.numbered.lists.new_consumers c (starts_later t c request taken) in
         let off : is_bound r (t.consumer c) ≡ false = ap (is_bound r) none in
         rw off refl
-    by_event (event.Poll c want) taken = refl
-    by_event (event.Head x response) taken = refl
-    by_event (event.Piece x bytes) taken = refl
-    by_event (event.End x) taken = refl
-    by_event (event.Fault x) taken = refl
-    by_event (event.Cancel c) taken = refl
-    by_event (event.Doom key) taken = refl
+    by_event _ taken = refl
 
 -- WHAT IS CURRENT
 

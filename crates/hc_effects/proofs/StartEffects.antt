@@ -1,11 +1,10 @@
 -- What a start does.
-use Rattle.std.{proofs.{Common.{◌≡◌, ℕ, [], ◌∷◌, ◌++◌, Bool, true, false, Some, None, refl, ap, ◌∙◌, arith}, lemmas.Bool.Decides.{nat_tests}}, specs.Prelude.{nat_eq, nat_le, if◌then◌else◌, map}}
+use Rattle.std.{proofs.{Common.{◌≡◌, ℕ, [], ◌∷◌, ◌++◌, true, Some, None, refl, ap, ◌∙◌, arith}, lemmas.Bool.Decides.{nat_tests}}, specs.Prelude.{nat_eq, map}}
 use Rattle.hc_event.specs.declared.act.Act.TheVariants as act
-use Rattle.hc_event.specs.declared.act.Refusal.TheVariants as refusal
-use Rattle.hc_effects.proofs.Vocabulary.{Event, Request, Limits, accepted_acts, closing, new_consumer, consumer_after, denial, live, Does, with_event, with_start, Entry, entry_without_acts, NoFlaw, Lawful, Tables, after_accepted}
+use Rattle.hc_effects.proofs.Vocabulary.{Event, Request, Limits, accepted_acts, closing, new_consumer, consumer_after, denial, Does, with_event, with_start, Entry, entry_without_acts, NoFlaw, Lawful, Tables, after_accepted}
 use Rattle.hc_event.specs.declared.event.Event.TheVariants as event
 use Rattle.hc_rules.specs.Refusals as refusals
-use Rattle.hc_effects.proofs.{ActParts.{far_closed}, Basics.{some_none}, ConsumerEffects.{after_by, others, representations}, FewClosings.{closes_nothing, evicts_nothing}, OfConsumers.{BringsNothing, brings_nothing, little, goes_nothing, exchanges_stay, binds_none}}
+use Rattle.hc_effects.proofs.{ActParts.{far_closed}, ConsumerEffects.{after_by, others, representations}, FewClosings.{closes_nothing, evicts_nothing}, OfConsumers.{BringsNothing, brings_nothing, little, goes_nothing, exchanges_stay, binds_none}}
 use Rattle.hc_effects.proofs.OfConsumers as event_of
 
 module _ (limits : Limits) (t : Tables) (law : Lawful t) (now c : ℕ) (request : Request) where
@@ -23,16 +22,10 @@ module _ (limits : Limits) (t : Tables) (law : Lawful t) (now c : ℕ) (request 
       ap (λ rs. map act.Evicted rs ++ map act.Close (closing t e)) (evicts_nothing limits t now ev refl)
       ∙ ap (λ xs. map act.Close xs) (closes_nothing t e (little t e c nothing) refl)
 
-  by_refusal : (late many : Bool) (n : ℕ) → (if late then Some (refusal.NotRising n) else if many then Some refusal.TooManyConsumers else None) ≡ None → late ≡ false
-  by_refusal true many n h = absurd (some_none _ h)
-  by_refusal false many n h = refl
-
   -- it is new
   is_sorted : denial t ev ≡ None → t.consumer c ≡ None
   unfolding refusals.refusal_of
-  is_sorted goes =
-      let off : nat_le c t.last_start ≡ false = by_refusal (nat_le c t.last_start) (nat_le 1024 (live t)) t.last_start goes in
-      law.sound.numbered.lists.new_consumers c (grind (arith, nat_tests, off))
+  is_sorted goes = grind (arith, nat_tests)
 
   row : denial t ev ≡ None → consumer_after t e c (t.consumer c) ≡ Some (new_consumer now request)
   unfolding consumer_after

@@ -1,10 +1,9 @@
 -- What has come of a body stays.
-use Rattle.std.{proofs.{Common.{◌≡◌, inl, inr, ℕ, ◌+◌, List, length, Bool, true, false, cond, Option, Some, None, refl, ap, sym, ◌∙◌, arith}, lemmas.Bool.Decides.{nat_tests}}, specs.Prelude.{nat_eq}}
+use Rattle.std.{proofs.{Common.{◌≡◌, ℕ, ◌+◌, List, length, Bool, true, false, cond, Option, Some, None, refl, ap, sym, ◌∙◌, arith}, lemmas.Bool.Decides.{nat_tests}}, specs.Prelude.{nat_eq}}
 use Rattle.hc_text.proofs.Basics.{same_some as same_row}
 use Rattle.hc_event.specs.declared.event.Event.TheVariants as event
 use Rattle.hc_effects.proofs.Vocabulary.{Response, Act, denial, Event, Limits, Flaw, accepted_acts, Entry, front, family, Tables, Exchange, Representation, Sound, after_accepted}
 use Rattle.hc_sparse.specs.Cells.{Cells, Cell, cells_with, AreAbsent}
-use Rattle.hc_sparse.proofs.CellLemmas.{inside-cases}
 use Rattle.hc_rules.specs.Refusals as refusals
 use Rattle.hc_model.specs.Laws.{BodiesAreKept}
 use Rattle.hc_effects.proofs.{Once.{delivers_once, never}, PieceKeeps.{was_representation, of_piece}, QuietKeeps.{is_quiet, is_kept}, HeadKeeps.{RepRow, rep_row, of_head}}
@@ -12,10 +11,7 @@ use Rattle.hc_effects.proofs.HeadKeeps as head
 
 -- a cell that was there stays, where what is written was absent
 pub stays_written : (at x p : ℕ) (bytes : List ℕ) (f : Cells) (cell : Cell) → AreAbsent f at (at + length bytes) → f p ≡ Some cell → cells_with at x bytes f p ≡ Some cell
-stays_written at x p bytes f cell absent there = elim (inside-cases at (length bytes) p) [
-  | inl here ↦ absurd (let gone = absent p here.1 here.2 in let never : None ≡ Some cell = sym gone ∙ there in cc)
-  | inr off ↦ rw off.0 there
-]
+stays_written at x p bytes f cell absent there = grind (arith, nat_tests)
 
 stays_cond : (b : Bool) (at x p : ℕ) (bytes : List ℕ) (f : Cells) (cell : Cell) → (b ≡ true → AreAbsent f at (at + length bytes)) → f p ≡ Some cell → (cond b (cells_with at x bytes f) f) p ≡ Some cell
 stays_cond true at x p bytes f cell absent there = stays_written at x p bytes f cell (absent refl) there
@@ -56,11 +52,6 @@ piece_by t now x bytes acts None s is goes = absurd (never _ (rw is at goes))
 piece_by t now x bytes acts (Some w) s is goes = piece_stays t now x bytes acts w s is goes
 
 pub bodies_are_kept : BodiesAreKept
-bodies_are_kept limits t now flaw s (event.Start c request) goes = quiet_stays t (entry limits t now (event.Start c request) flaw) refl
-bodies_are_kept limits t now flaw s (event.Poll c want) goes = quiet_stays t (entry limits t now (event.Poll c want) flaw) refl
 bodies_are_kept limits t now flaw s (event.Head x response) goes = head_stays t now x response (accepted_acts limits t now (event.Head x response) flaw)
 bodies_are_kept limits t now flaw s (event.Piece x bytes) goes = piece_by t now x bytes (accepted_acts limits t now (event.Piece x bytes) flaw) (t.exchange x) s refl goes
-bodies_are_kept limits t now flaw s (event.End x) goes = quiet_stays t (entry limits t now (event.End x) flaw) refl
-bodies_are_kept limits t now flaw s (event.Fault x) goes = quiet_stays t (entry limits t now (event.Fault x) flaw) refl
-bodies_are_kept limits t now flaw s (event.Cancel c) goes = quiet_stays t (entry limits t now (event.Cancel c) flaw) refl
-bodies_are_kept limits t now flaw s (event.Doom key) goes = quiet_stays t (entry limits t now (event.Doom key) flaw) refl
+bodies_are_kept limits t now flaw s ev goes = quiet_stays t (entry limits t now ev flaw) refl

@@ -1,6 +1,6 @@
 -- What an end or a fault does of an exchange that is read past the store, and a fault before the head of one.
-use Rattle.std.{proofs.Common.{◌≡◌, inl, inr, ℕ, [], Bool, true, false, Option, Some, None, refl, ap, sym, ◌∙◌, subst}, specs.Prelude.{◌&&◌, ◌==◌, not, nat_eq, is_some, is_none, if◌then◌else◌, option_map}}
-use Rattle.hc_text.proofs.Basics.{eqb-same, not_some as none_some, same_some as same_row}
+use Rattle.std.{proofs.{lemmas.Bool.Decides.{nat_tests}, Common.{arith, ◌≡◌, inl, inr, ℕ, [], Bool, true, false, Option, Some, None, refl, ap, sym, ◌∙◌, subst}}, specs.Prelude.{◌&&◌, ◌==◌, not, nat_eq, is_some, is_none, if◌then◌else◌, option_map}}
+use Rattle.hc_text.proofs.Basics.{eqb-same, same_some as same_row}
 use Rattle.hc_event.specs.declared.act.Cause.TheVariants as cause
 use Rattle.hc_effects.proofs.Vocabulary.{Event, Response, Limits, consumer_after, consumer_heard, consumer_acted, consumer_settled, by_fault, is_number, denial, Does, with_event, with_consumer, with_exchange, with_due, put_down, over, at_end, going_with, Entry, family, promised_bytes, short_of, NoFlaw, beside, becomes_gone, Lawful, Awaits, IsAwaiting, reads, representation_after, Tables, Exchange, Representation, Consumer, starts_over}
 use Rattle.hc_event.specs.declared.event.Event.TheVariants as event
@@ -64,14 +64,7 @@ module _ (limits : Limits) (t : Tables) (law : Lawful t) (now x : ℕ) (w : Exch
 
   module _ (past : t.representation (family x w) ≡ None) where
     unfounded : t.representation x ≡ None
-    unfounded = by_row (t.representation x) refl
-      where
-        unjoined : w.joined ≡ None → family x w ≡ x
-        unjoined none = rw none refl
-
-        by_row : (z : Option Representation) → t.representation x ≡ z → z ≡ None
-        by_row None is = refl
-        by_row (Some v) is = absurd (none_some v (sym past ∙ (ap t.representation (unjoined (law.owned.founders x w v row is)) ∙ is)))
+    unfounded = grind (arith, nat_tests)
 
     module _ (headed : is_some w.head ≡ true) (on : w.is_open ≡ true) (ev : Event) (s : Stops t now x w ev) (accepts : denial t ev ≡ None) (quiet : (d : ℕ) (z : Consumer) → t.consumer d ≡ Some z → consumer_heard t (it limits t law now x w row on ev s NoFlaw) d ev z ≡ z) where
       past_fails : Does limits t now ev NoFlaw [] (with_event now ev (with_due w.c s.why (with_exchange x (Some s.u) t)))
@@ -126,14 +119,7 @@ module _ (limits : Limits) (t : Tables) (law : Lawful t) (now x : ℕ) (w : Exch
         reading (owners.turn way at) = absurd (true_false (sym shown ∙ (law.places.turn w.c x k here (ap (λ (z : Consumer). z.place) (sym same) ∙ at)).idle.unshown))
 
         off : (d : ℕ) (z : Consumer) → t.consumer d ≡ Some z → (w.c == d && is_none w.head && not z.shown) ≡ false
-        off d z is = elim (eq_cases w.c d) [
-          | inl one ↦ (let was : z.shown ≡ true = ap (λ (p : Consumer). p.shown) (same_row (t.consumer d) z k is (sym (ap t.consumer one.1) ∙ here)) ∙ shown in rw (bare, was) (drop (nat_eq w.c d)))
-          | inr apart ↦ rw apart.0 refl
-        ]
-          where
-            drop : (a : Bool) → (a && true && false) ≡ false
-            drop true = refl
-            drop false = refl
+        off d z is = grind (arith, nat_tests)
 
     module _ (unshown : k.shown ≡ false) where
       abbrev entry : Entry

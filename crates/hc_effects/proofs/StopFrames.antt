@@ -1,13 +1,13 @@
 -- What an end or a fault comes to: who reads from the exchange, what is sealed, lost or let go with it.
-use Rattle.std.{proofs.Common.{◌≡◌, inl, inr, ℕ, List, [], ◌++◌, Bool, true, false, Option, Some, None, refl, ap, sym, ◌∙◌, subst}, specs.{Prelude.{◌&&◌, ◌||◌, ◌==◌, not, nat_eq, length, is_some, if◌then◌else◌, option_map}, Option.{option_or}}}
-use Rattle.hc_text.proofs.Basics.{bool_cases, eqb-same, not_some as none_some, or_none as or_nothing, or_false as or_off, same_some as same_row, and_off as then_false}
-use Rattle.hc_effects.proofs.Vocabulary.{closes_in, Act, Cause, Event, is_same_number, Limits, Place, loses_in, loss_acts, closing, leaver, leaver_by, consumer_after, consumer_heard, own_after, is_current, is_number, denial, doomed_key_of, Does, with_event, with_exchange, failing, let_all_go, as_gone, over, at_end, is_unkeepable, going_with, Entry, entry_without_acts, exchange_heard, family, exchange_in, becomes_due, cause_of_stop, cause_of_head, stop_cause, short_cause, Flaw, beside, becomes_gone, ends_early, ends_founding, stops_early, is_short, is_keepable, Lawful, is_bound_place, is_written, own_open, shared_exchange, source, writing_in, reads, representation_after, representation_heard, with_total_if_none, length_in, Tables, Exchange, Representation, Consumer, write_in, brings_body}
+use Rattle.std.{proofs.{lemmas.Bool.Decides.{nat_tests}, Common.{arith, ◌≡◌, inl, inr, ℕ, List, [], ◌++◌, Bool, true, false, Option, Some, None, refl, ap, sym, ◌∙◌}}, specs.{Prelude.{◌&&◌, ◌||◌, ◌==◌, not, nat_eq, length, is_some, if◌then◌else◌, option_map}, Option.{option_or}}}
+use Rattle.hc_text.proofs.Basics.{bool_cases, eqb-same, not_some as none_some, or_none as or_nothing, same_some as same_row, and_off as then_false}
+use Rattle.hc_effects.proofs.Vocabulary.{Act, Cause, Event, is_same_number, Limits, Place, loses_in, loss_acts, closing, leaver, consumer_after, consumer_heard, own_after, is_current, is_number, denial, doomed_key_of, Does, with_event, with_exchange, failing, let_all_go, as_gone, over, at_end, going_with, Entry, entry_without_acts, exchange_heard, family, exchange_in, becomes_due, cause_of_stop, cause_of_head, stop_cause, short_cause, Flaw, beside, becomes_gone, ends_early, ends_founding, stops_early, is_short, is_keepable, Lawful, is_bound_place, is_written, own_open, shared_exchange, source, writing_in, reads, representation_after, representation_heard, with_total_if_none, length_in, Tables, Exchange, Representation, Consumer, write_in, brings_body}
 use Rattle.hc_event.specs.declared.act.Cause.TheVariants as cause
 use Rattle.hc_event.specs.declared.event.Event.TheVariants as event
 use Rattle.hc_rules.specs.Refusals as refusals
 use Rattle.hc_event.specs.declared.place.Place.TheVariants as place
 use Rattle.hc_model.specs.Sound as sound
-use Rattle.hc_effects.proofs.{AboutKeeps.{own_open_of, own_open_is}, Basics.{some_none, false_true, number_is}, FewClosings.{closes_nothing, quiet_closes}, Frames.{undoomed, may_doom}, KeyActs.{test_some}, PieceKeeps.{eq_cases}, SameTables.{is_in, back_from_any}, Stops.{source_is}, Tests.{and_false}, ToldFrames.{IsTold, says_little, exchange_one, goes_as, closes_as, representation_by, representation_none, beside_same, consumer_by, told_by, told_plainly}, Untouched.{IsSpared, own_stays, loss_spared, spared_bodiless}, ActParts.{leaver_lost}}
+use Rattle.hc_effects.proofs.{AboutKeeps.{own_open_of, own_open_is}, Basics.{false_true, number_is}, FewClosings.{closes_nothing, quiet_closes}, Frames.{undoomed, may_doom}, KeyActs.{test_some}, PieceKeeps.{eq_cases}, SameTables.{is_in, back_from_any}, Stops.{source_is}, Tests.{and_false}, ToldFrames.{IsTold, says_little, exchange_one, goes_as, closes_as, representation_by, representation_none, beside_same, consumer_by, told_by, told_plainly}, Untouched.{IsSpared, own_stays, loss_spared, spared_bodiless}}
 use Rattle.hc_effects.proofs.ToldFrames as told
 
 -- WHAT STOPS
@@ -77,8 +77,7 @@ fault_stops t now x w = record {
 }
   where
     by_test : (b : Bool) → b ≡ (b && true)
-    by_test true = refl
-    by_test false = refl
+    by_test b = grind (arith, nat_tests)
 
 -- an accepted end is one of an open exchange with a head, and a fault one of an open exchange
 pub record IsEnding (w : Exchange) : Type 0 where
@@ -87,20 +86,11 @@ pub record IsEnding (w : Exchange) : Type 0 where
 
 pub end_of : (t : Tables) (x : ℕ) (w : Exchange) → t.exchange x ≡ Some w → denial t (event.End x) ≡ None → IsEnding w
 unfolding refusals.refusal_of
-end_of t x w row accepts = by_tests w.is_open (is_some w.head) refl refl
-  where
-    by_tests : (a h : Bool) → w.is_open ≡ a → is_some w.head ≡ h → IsEnding w
-    by_tests false h on head = absurd (some_none _ (rw (row, on) at accepts))
-    by_tests true false on head = absurd (some_none _ (rw (row, on, head) at accepts))
-    by_tests true true on head = record { was_open = on; headed = head }
+end_of t x w row accepts = grind (arith, nat_tests)
 
 pub fault_of : (t : Tables) (x : ℕ) (w : Exchange) → t.exchange x ≡ Some w → denial t (event.Fault x) ≡ None → w.is_open ≡ true
 unfolding refusals.refusal_of
-fault_of t x w row accepts = by_test w.is_open refl
-  where
-    by_test : (a : Bool) → w.is_open ≡ a → a ≡ true
-    by_test false on = absurd (some_none _ (rw (row, on) at accepts))
-    by_test true on = refl
+fault_of t x w row accepts = grind (arith, nat_tests)
 
 -- WHO READS FROM IT
 
@@ -130,12 +120,7 @@ module _ (t : Tables) (law : Lawful t) (x : ℕ) (w : Exchange) (row : t.exchang
 
   shared_of : (k : Consumer) (p : Place) → k.place ≡ p → shared_exchange t p ≡ Some x → IsShared k
   shared_of k (place.Bound q lo hi how) at is = shared_row k q (t.representation q) refl (ap (is_bound_place q) at ∙ eqb-same q) is
-  shared_of k place.Line at is = absurd (none_some x is)
-  shared_of k (place.Passed q old) at is = absurd (none_some x is)
-  shared_of k (place.Turn y) at is = absurd (none_some x is)
-  shared_of k (place.Direct y) at is = absurd (none_some x is)
-  shared_of k (place.Down y) at is = absurd (none_some x is)
-  shared_of k place.Over at is = absurd (none_some x is)
+  shared_of k _ at is = absurd (none_some x is)
 
   -- it reads its own, or what is written together
   pub data IsSource (k : Consumer) : Type 0 where
@@ -189,12 +174,7 @@ module _ (t : Tables) (law : Lawful t) (x : ℕ) (w : Exchange) (row : t.exchang
             ap (λ o. is_same_number o (Some x)) (source_is t r d x v z law.sound there (sound.is_bound lo hi how is_row (at ∙ ap (λ n. place.Bound n lo hi how) same.1)) written writer) ∙ (same_refl ∙ sym same.0)
         | inr apart ↦ other (place.Bound q lo hi how) at apart.0
       ]
-      by_place place.Line at = other place.Line at refl
-      by_place (place.Passed q old) at = other (place.Passed q old) at refl
-      by_place (place.Turn y) at = other (place.Turn y) at refl
-      by_place (place.Direct y) at = other (place.Direct y) at refl
-      by_place (place.Down y) at = other (place.Down y) at refl
-      by_place place.Over at = other place.Over at refl
+      by_place p at = other p at refl
 
 -- THE TABLES
 
@@ -209,13 +189,7 @@ module _ (limits : Limits) (t : Tables) (law : Lawful t) (now x : ℕ) (w : Exch
   doomless acts = undoomed t (record { now = now; event = ev; acts = acts }) s.calm
 
   leaves_none : leaver b ≡ None
-  leaves_none = by_event s.is_told
-    where
-      by_event : {z : Event} → IsTold z → leaver_by z (loss_acts flaw) ≡ None
-      by_event (told.pieces y bytes) = leaver_lost flaw
-      by_event (told.ends y) = leaver_lost flaw
-      by_event (told.faults y) = leaver_lost flaw
-      by_event (told.dooms key) = leaver_lost flaw
+  leaves_none = grind (arith, nat_tests)
 
   closes_none : closing t b ≡ []
   closes_none = closes_nothing t b (quiet_closes t b ((says_little t now ev s.is_told).caseless (loss_acts flaw)) (doomless (loss_acts flaw)) s.bodiless) leaves_none
@@ -230,48 +204,25 @@ module _ (limits : Limits) (t : Tables) (law : Lawful t) (now x : ℕ) (w : Exch
       ∙ rw (doomless it.acts) (drop (is_current t v.key q) (loses_in q (loss_acts flaw)) (ends_early t it q v && not (is_keepable v)) ∙ ap (λ a. loses_in q (loss_acts flaw) || a) (early_by (t.exchange q) refl))
     where
       drop : (a c d : Bool) → ((a && false) || c || d) ≡ (c || d)
-      drop true c d = refl
-      drop false c d = refl
+      drop a c d = grind (arith, nat_tests)
 
       going_is : nat_eq x q ≡ true → x ≡ q → (v.head.status == 200 && not (is_keepable v)) ≡ is_number (going_with t (Some x)) q
-      going_is test same =
-          by_test (v.head.status == 200 && not (is_keepable v)) ∙ sym (ap (λ z. is_number (if is_unkeepable z then Some x else None) q) (ap t.representation same ∙ there))
-        where
-          by_test : (a : Bool) → a ≡ is_number (if a then Some x else None) q
-          by_test true = sym test
-          by_test false = refl
+      going_is test same = grind (arith, nat_tests)
 
       not_going : nat_eq x q ≡ false → false ≡ is_number going q
-      not_going apart = by_test s.early
-        where
-          by_unkept : (a : Bool) → false ≡ is_number (if a then Some x else None) q
-          by_unkept true = sym apart
-          by_unkept false = refl
-
-          by_test : (a : Bool) → false ≡ is_number (if a then going_with t (Some x) else None) q
-          by_test true = by_unkept (is_unkeepable (t.representation x))
-          by_test false = refl
+      not_going apart = grind (arith, nat_tests)
 
       founding : (z : Exchange) → t.exchange q ≡ Some z → ends_founding it q (Some z) ≡ (z.is_open && (x == q && s.early))
-      founding z is =
-          ap (λ a. z.is_open && (a || closes_in q it.acts)) (s.early_is q z is)
-          ∙ (ap (λ a. z.is_open && ((x == q && s.early) || a)) (closes_as t now ev s.is_told flaw [] q)
-          ∙ ap (λ a. z.is_open && a) (or_off (x == q && s.early)))
+      founding z is = grind (arith, nat_tests)
 
       three : (a c d : Bool) → ((a && (true && (true && c))) && d) ≡ (if c then (a && d) else false)
-      three true true d = refl
-      three false true d = refl
-      three true false d = refl
-      three false false d = refl
+      three a c d = grind (arith, nat_tests)
 
       none_off : (a c d f : Bool) → ((a && (c && (false && d))) && f) ≡ false
-      none_off true true d f = refl
-      none_off true false d f = refl
-      none_off false c d f = refl
+      none_off a c d f = grind (arith, nat_tests)
 
       going_if : (e : Bool) → (if e then is_number (going_with t (Some x)) q else false) ≡ is_number (if e then going_with t (Some x) else None) q
-      going_if true = refl
-      going_if false = refl
+      going_if e = grind (arith, nat_tests)
 
       early_by : (z : Option Exchange) → t.exchange q ≡ z → (ends_early t it q v && not (is_keepable v)) ≡ is_number going q
       early_by None is =
@@ -294,10 +245,7 @@ module _ (limits : Limits) (t : Tables) (law : Lawful t) (now x : ℕ) (w : Exch
   longer_row q z = if x == q then option_map s.longer z else z
 
   pub heard_is : (q : ℕ) (v : Representation) → Some (representation_heard t it q ev v) ≡ longer_row q (Some v)
-  heard_is q v = elim (eq_cases x q) [
-    | inl same ↦ rw same.0 (subst (λ n. Some (representation_heard t it n ev v) ≡ Some (s.longer v)) same.1 (ap Some (s.itself v it.acts)))
-    | inr apart ↦ rw apart.0 (ap Some (s.other q v it.acts apart.0))
-  ]
+  heard_is q v = grind (arith, nat_tests)
 
   -- what isn't lost
   pub row_by : (q : ℕ) (g : Bool) (z : Option Representation) → t.representation q ≡ z → loses_in q (loss_acts flaw) ≡ false → ((v : Representation) → z ≡ Some v → becomes_gone t it q v ≡ g) → representation_after t it q z ≡ (if g then option_map as_gone (longer_row q z) else longer_row q z)
@@ -327,8 +275,7 @@ module _ (limits : Limits) (t : Tables) (law : Lawful t) (now x : ℕ) (w : Exch
     fails c = by_row (t.consumer c) refl
       where
         none_left : (a : Bool) → None ≡ (if a then option_map (failing s.why) None else None)
-        none_left true = refl
-        none_left false = refl
+        none_left a = grind (arith, nat_tests)
 
         parts : (k : Consumer) (own_now : Option ℕ) (due : Option Cause) (reads_it : Bool) → own_now ≡ k.own → due ≡ s.why → reads_it ≡ true → record k { own = own_now; due = if reads_it then option_or k.due due else None } ≡ failing s.why k
         parts k own_now due reads_it p q h = rw (p, q, h) refl

@@ -1,14 +1,11 @@
 -- What an end or a fault does of what brings a representation: who reads from it fails or knows its end, and it is sealed, let go or lost.
-use Rattle.std.{proofs.Common.{◌≡◌, inl, inr, ℕ, [], ◌∷◌, Bool, true, false, Option, Some, None, refl, ap, sym, ◌∙◌, subst}, specs.Prelude.{◌&&◌, ◌||◌, ◌==◌, not, nat_eq, length, is_some, is_none, if◌then◌else◌, option_map}}
-use mathlib.Core.Path.{fun_ext}
-use Rattle.hc_text.proofs.Basics.{eqb-same, not_some as none_some, same_some as same_row, some_inj}
+use Rattle.std.{proofs.{lemmas.Bool.Decides.{nat_tests}, Common.{arith, ◌≡◌, inl, inr, ℕ, [], ◌∷◌, Bool, true, false, Option, Some, None, refl, ap, sym, ◌∙◌, subst}}, specs.Prelude.{◌||◌, ◌==◌, nat_eq, length, is_some, if◌then◌else◌, option_map}}
+use Rattle.hc_text.proofs.Basics.{eqb-same}
 use Rattle.hc_event.specs.declared.act.Act.TheVariants as act
-use Rattle.hc_effects.proofs.Vocabulary.{Cause, LostKind, Event, Response, is_same_number, Limits, Place, consumer_heard, by_fault, is_number, denial, Does, with_event, with_exchange, with_due, with_dues, with_length, with_loss, if_bound, failing, let_go, let_some_go, as_gone, over, at_end, lost_to, is_unkeepable, going_with, family, promised_bytes, short_of, Flaw, NoFlaw, Loses, becomes_gone, is_short, Lawful, IsReading, is_bound, is_bound_place, is_written, reads, source, representation_after, representation_heard, Tables, Exchange, Representation, Consumer, with_item_first, exclusive}
+use Rattle.hc_effects.proofs.Vocabulary.{Cause, LostKind, Event, is_same_number, Limits, consumer_heard, by_fault, is_number, denial, Does, with_event, with_exchange, with_due, with_dues, with_length, with_loss, if_bound, failing, let_go, let_some_go, as_gone, over, at_end, lost_to, going_with, family, promised_bytes, short_of, Flaw, NoFlaw, Loses, becomes_gone, is_short, Lawful, is_bound, is_written, reads, source, representation_after, representation_heard, Tables, Exchange, Representation, Consumer, with_item_first, exclusive}
 use Rattle.hc_event.specs.declared.act.Cause.TheVariants as cause
 use Rattle.hc_event.specs.declared.event.Event.TheVariants as event
-use Rattle.hc_event.specs.declared.place.Place.TheVariants as place
-use Rattle.hc_model.specs.Owners as owners
-use Rattle.hc_effects.proofs.{Basics.{false_true, number_is}, ConsumerEffects.{some_all}, KeyActs.{test_some}, PieceKeeps.{eq_cases}, SameTables.{is_in, in_one}, StopEffects.{fault_unheard}, StopFrames.{Stops, IsEnding, end_stops, fault_stops, end_of, fault_of, reads_own, reads_shared, it, going, goes_with, longer_row, heard_is, row_by, fails, stop_does, others_by}, ToldFrames.{lost_by}}
+use Rattle.hc_effects.proofs.{ConsumerEffects.{some_all}, PieceKeeps.{eq_cases}, SameTables.{is_in, in_one}, StopFrames.{Stops, IsEnding, end_stops, fault_stops, end_of, fault_of, reads_own, reads_shared, it, going, goes_with, longer_row, heard_is, row_by, fails, stop_does, others_by}, ToldFrames.{lost_by}}
 
 module _ (limits : Limits) (t : Tables) (law : Lawful t) (now x : ℕ) (w : Exchange) (row : t.exchange x ≡ Some w) (r : ℕ) (v : Representation) (of_r : family x w ≡ r) (there : t.representation r ≡ Some v) where
   -- WHO READS FROM IT
@@ -41,21 +38,10 @@ module _ (limits : Limits) (t : Tables) (law : Lawful t) (now x : ℕ) (w : Exch
 
       -- nothing else goes
       going_r : (q : ℕ) (u : Representation) → t.representation q ≡ Some u → is_number gone_is q ≡ true → r ≡ q
-      going_r q u is on_it =
-          let same : x ≡ q = by_early s.early (number_is gone_is q on_it) in
-          sym of_r ∙ (unjoined (law.owned.founders x w u row (ap t.representation same ∙ is)) ∙ same)
-        where
-          unjoined : w.joined ≡ None → family x w ≡ x
-          unjoined none = rw none refl
-
-          by_early : (a : Bool) → (if a then going_with t (Some x) else None) ≡ Some q → x ≡ q
-          by_early true h = some_inj x q (test_some (is_unkeepable (t.representation x)) (Some x) q h).1
-          by_early false h = absurd (none_some q h)
+      going_r q u is on_it = grind (arith, nat_tests)
 
       by_tests : (a c : Bool) → (c ≡ true → a ≡ true) → ((a || false) || c) ≡ (a || false)
-      by_tests true c so = refl
-      by_tests false true so = absurd (false_true (so refl))
-      by_tests false false so = refl
+      by_tests a c so = grind (arith, nat_tests)
 
       goes_lost : (q : ℕ) (u : Representation) → t.representation q ≡ Some u → becomes_gone t (it limits t law now x w row on ev s flaw) q u ≡ is_in (r ∷ []) q
       goes_lost q u is =
@@ -85,21 +71,11 @@ module _ (limits : Limits) (t : Tables) (law : Lawful t) (now x : ℕ) (w : Exch
 
   -- a fault behind a head says nothing to anyone
   fault_quiet : (headed : is_some w.head ≡ true) (c : ℕ) (k : Consumer) → by_fault c x (t.exchange x) k ≡ k
-  fault_quiet headed c k = fault_unheard c x w k (t.exchange x) row (off (nat_eq w.c c) w.head headed k.shown)
-    where
-      off : (a : Bool) (o : Option Response) → is_some o ≡ true → (b : Bool) → (a && is_none o && not b) ≡ false
-      off true (Some response) is b = refl
-      off true None is b = absurd (false_true is)
-      off false o is b = refl
+  fault_quiet headed c k = grind (arith, nat_tests)
 
   -- what a fault leaves as long as it was
   same_rows : (λ (q : ℕ). if x == q then option_map (λ (u : Representation). u) (t.representation q) else t.representation q) ≡ t.representation
-  same_rows = fun_ext (λ q. by_test (x == q) (t.representation q))
-    where
-      by_test : (a : Bool) (z : Option Representation) → (if a then option_map (λ (u : Representation). u) z else z) ≡ z
-      by_test true None = refl
-      by_test true (Some u) = refl
-      by_test false z = refl
+  same_rows = grind (arith, nat_tests)
 
   -- the members of what is written for several
   module _ (on : is_written t v ≡ true) (writer : v.writer ≡ Some x) where
@@ -108,28 +84,11 @@ module _ (limits : Limits) (t : Tables) (law : Lawful t) (now x : ℕ) (w : Exch
       members c k is = reads_shared t law x w row was_open r v there on writer c k is ∙ ap (is_bound r) (sym is)
 
       members_read : (c : ℕ) (k : Consumer) → t.consumer c ≡ Some k → is_bound r (t.consumer c) ≡ true → reads k.place ≡ true
-      members_read c k is bound_it = by_place k.place (sym (ap (is_bound r) is) ∙ bound_it)
-        where
-          by_place : (p : Place) → is_bound_place r p ≡ true → reads p ≡ true
-          by_place (place.Bound q lo hi how) h = refl
-          by_place (place.Direct y) h = refl
-          by_place place.Line h = absurd (false_true h)
-          by_place (place.Passed q old) h = absurd (false_true h)
-          by_place (place.Turn y) h = absurd (false_true h)
-          by_place (place.Down y) h = absurd (false_true h)
-          by_place place.Over h = absurd (false_true h)
+      members_read c k is bound_it = grind (arith, nat_tests)
 
     -- each of them fails
     all_fail : (why : Option Cause) (c : ℕ) → (if is_bound r (t.consumer c) then option_map (failing why) (t.consumer c) else t.consumer c) ≡ option_map (if_bound r (failing why)) (t.consumer c)
-    all_fail why c = by_row (t.consumer c)
-      where
-        by_test : (a : Bool) (k : Consumer) → (if a then Some (failing why k) else Some k) ≡ Some (if a then failing why k else k)
-        by_test true k = refl
-        by_test false k = refl
-
-        by_row : (z : Option Consumer) → (if is_bound r z then option_map (failing why) z else z) ≡ option_map (if_bound r (failing why)) z
-        by_row None = refl
-        by_row (Some k) = by_test (is_bound_place r k.place) k
+    all_fail why c = grind (arith, nat_tests)
 
     module _ (accepts : denial t (event.End x) ≡ None) where
       abbrev taken : IsEnding w
@@ -167,14 +126,7 @@ module _ (limits : Limits) (t : Tables) (law : Lawful t) (now x : ℕ) (w : Exch
       reader d z is = reads_own t law x w row was_open c d k z here owns is
 
       reader_reads : (d : ℕ) (z : Consumer) → t.consumer d ≡ Some z → nat_eq c d ≡ true → reads z.place ≡ true
-      reader_reads d z is same = elim (eq_cases c d) [
-        | inl one ↦ ap (λ (p : Consumer). reads p.place) (same_row (t.consumer d) z k is (sym (ap t.consumer one.1) ∙ here)) ∙ by_place (law.owned.reading c x k w here owns row was_open headed)
-        | inr apart ↦ absurd (false_true (sym apart.0 ∙ same))
-      ]
-        where
-          by_place : IsReading x k.place → reads k.place ≡ true
-          by_place (owners.direct at) = ap reads at
-          by_place (owners.bound q lo hi how at) = ap reads at
+      reader_reads d z is same = grind (arith, nat_tests)
 
     module _ (accepts : denial t (event.End x) ≡ None) where
       abbrev taken_it : IsEnding w

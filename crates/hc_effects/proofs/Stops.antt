@@ -1,8 +1,7 @@
 -- Where a shared writing stops: its members get a failure, or all that is left for them is stored.
-use Rattle.std.{proofs.{Common.{◌≡◌, inl, inr, ℕ, ◌+◌, ◌<◌, List, ◌++◌, length, true, false, Option, Some, None, refl, ap, sym, ◌∙◌, arith, length-append}, lemmas.Bool.Decides.{nat_tests}}, specs.{Prelude.{is_some}, Option.{option_or}}}
+use Rattle.std.{proofs.{Common.{◌≡◌, inl, inr, ℕ, ◌+◌, ◌<◌, List, ◌++◌, length, true, false, Option, Some, None, refl, ap, sym, ◌∙◌, arith, length-append}}, specs.{Prelude.{is_some}, Option.{option_or}}}
 use Rattle.hc_text.proofs.Basics.{and_right, eq_tells as eq_of, some_inj, lt_or as split}
-use Rattle.hc_event.specs.declared.event.Event.TheVariants as event
-use Rattle.hc_effects.proofs.Vocabulary.{Cause, Entry, base, promised_bytes, front, is_open, is_reached, exchange_in, cause_of_stop, stop_cause, is_written, is_open_writer, own_open, source, shared_exchange, Tables, Exchange, Representation, Consumer, Sound, IsAbout, IsBound, IsGrowing, end_from, is_same_number}
+use Rattle.hc_effects.proofs.Vocabulary.{base, promised_bytes, front, is_open, is_reached, is_written, is_open_writer, own_open, source, shared_exchange, Tables, Exchange, Representation, Consumer, Sound, IsAbout, IsBound, IsGrowing, end_from}
 use Rattle.hc_sparse.specs.Cells.{Covers, cells_with}
 use Rattle.hc_sparse.proofs.CellLemmas.{inside-yes, inside-before}
 use Rattle.hc_model.specs.Sound as sound
@@ -35,16 +34,6 @@ source_is t r c x v k s row reader on writer = by_own (own_open t k) refl
     by_own (Some z) own = rw own (ap Some (s.one_about r z x (s.writes.own_about r c z k reader own) (writer_about t r x v s row on writer)))
 
 -- A FAULT AND A SHORT END ARE DUE
-
-same_refl : (x : ℕ) → is_same_number (Some x) (Some x) ≡ true
-same_refl x = grind (arith, nat_tests)
-
-or_first : (o p : Option Cause) → is_some o ≡ true → is_some (option_or o p) ≡ true
-or_first None p h = absurd (let never : false ≡ true = h in cc)
-or_first (Some a) p h = refl
-
-stops : (t : Tables) (e : Entry) (k : Consumer) (x : ℕ) → source t k ≡ Some x → exchange_in e.event ≡ Some x → is_some (stop_cause t e.event) ≡ true → is_some (cause_of_stop t e k) ≡ true
-stops t e k x from brings some = rw (from, brings, same_refl x) some
 
 -- THE LAST PIECE
 

@@ -1,6 +1,6 @@
 -- Who survives the loss of a shared writing goes on alone: it stands where its exchange goes on, and nothing past that came.
-use Rattle.std.{proofs.{Common.{◌≡◌, ◌⊎◌, inl, inr, ℕ, ◌+◌, ◌<◌, ◌≤◌, List, [], ◌∷◌, length, true, Option, Some, None, refl, ap, sym, ◌∙◌, subst, arith, min, length-append}, lemmas.Bool.Decides.{nat_tests}}, specs.Prelude.{if◌then◌else◌, is_some, ◌||◌, not, nat_eq, nat_le, map, filter}}
-use Rattle.hc_text.proofs.Basics.{both_true as and_both, and_left, and_right, bool_cases, not_some as none_some, never_true as not_so, same_some as same_row, some_inj}
+use Rattle.std.{proofs.{Common.{◌≡◌, ◌⊎◌, inl, inr, ℕ, ◌+◌, ◌<◌, ◌≤◌, List, [], ◌∷◌, length, true, Option, Some, None, refl, ap, sym, ◌∙◌, subst, arith, length-append}, lemmas.Bool.Decides.{nat_tests}}, specs.Prelude.{if◌then◌else◌, is_some, ◌||◌, not, nat_eq, map, filter}}
+use Rattle.hc_text.proofs.Basics.{both_true as and_both, and_left, and_right, bool_cases, not_some as none_some, never_true as not_so, same_some as same_row}
 use Rattle.hc_sparse.specs.Cells.{Cells, Covers, cells_with}
 use Rattle.hc_sparse.proofs.CellLemmas.{inside-past, inside-yes}
 use Rattle.hc_effects.proofs.Vocabulary.{leaves_in, given_in, opening_in, Event, Response, Limits, Member, least, lesser, stands_at, BoundBy, loses_in, by_opening, own_after, left_to, waiting, is_number, denial, Entry, base, front, is_open, Flaw, flaw_in, entry_of, Measures, Owners, is_written, bound, offset, lo_of, Tables, Exchange, Representation, Consumer, Sound, IsBound, IsAlone, IsGrowing, after_accepted, brings_body, loses_writing, survivor, member, offset_in}
@@ -30,13 +30,7 @@ least_there t end c (d ∷ ds) h = elim (bool_cases (stands_at end (member t d))
 ]
   where
     by_least : (z : Option ℕ) → least (map (λ (m : Member). m.c) (filter (stands_at end) (map (member t) ds))) ≡ z → stands_at end (member t d) ≡ true → lesser (least (map (λ (m : Member). m.c) (filter (stands_at end) (map (member t) ds)))) d ≡ Some c → ((a : ℕ) → least (map (λ (m : Member). m.c) (filter (stands_at end) (map (member t) ds))) ≡ Some a → stands_at end (member t a) ≡ true) → stands_at end (member t c) ≡ true
-    by_least None is on h again = let same : d ≡ c = some_inj d c (sym (ap (λ q. lesser q d) is) ∙ h) in ap (λ n. stands_at end (member t n)) (sym same) ∙ on
-    by_least (Some a) is on h again =
-        let m : min a d ≡ c = some_inj (min a d) c (sym (ap (λ q. lesser q d) is) ∙ h) in
-        elim (bool_cases (nat_le a d)) [
-          | inl less ↦ let le : a ≤ d = grind (arith, nat_tests) in let same : a ≡ c = omega arith in again c (is ∙ ap Some same)
-          | inr more ↦ let lt : d < a = grind (arith, nat_tests) in let same : d ≡ c = omega arith in ap (λ n. stands_at end (member t n)) (sym same) ∙ on
-        ]
+    by_least z is on h again = grind (arith, nat_tests)
 
 pub survivor_offset : (t : Tables) (r c : ℕ) (v : Representation) (k : Consumer) → t.consumer c ≡ Some k → survivor t r v ≡ Some c → offset t k ≡ v.reach
 survivor_offset t r c v k row is =

@@ -1,5 +1,5 @@
 -- Small facts on tests and options.
-use Rattle.std.{proofs.Common.{◌≡◌, ◌≢◌, ◌⊎◌, Bool, true, false, Some, None, sym, ◌∙◌, refl}, specs.Prelude.{◌||◌, ◌&&◌}}
+use Rattle.std.{proofs.Common.{◌≡◌, Bool, true, false, Some, None, sym, refl}, specs.Prelude.{◌&&◌}}
 use Rattle.hc_text.proofs.Basics.{false_true}
 
 pub none_some : {A P : Type 0} (a : A) → None ≡ Some a → P

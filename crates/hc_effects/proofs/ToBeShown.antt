@@ -1,6 +1,6 @@
 -- Whoever is bound and wasn't shown a head is to be shown one: it founded, its first hole joined, or it waits for that.
 use Rattle.std.{proofs.{Common.{◌≡◌, ◌⊎◌, inl, inr, ℕ, List, length, Bool, true, false, Option, Some, None, refl, ap, sym, ◌∙◌, subst, arith}, lemmas.Bool.Decides.{nat_tests}}, specs.{Prelude.{if◌then◌else◌, is_some, is_none, ◌&&◌, ◌==◌, not, nat_eq}, Option.{option_and_then}}}
-use Rattle.hc_text.proofs.Basics.{and_left, and_right, not_some as none_some, same_some as same_row, some_inj}
+use Rattle.hc_text.proofs.Basics.{not_some as none_some, same_some as same_row, some_inj}
 use Rattle.hc_effects.proofs.Vocabulary.{Opening, opening_in, leaves_in, shows_in, Event, Response, Wait, HeadCase, Limits, head_case, route_of, Place, BoundBy, Showing, has_loss, showing_in, wait_in, case_at, head_view, was_shown, is_joining, consumer_heard, by_head, by_fault, place_by_case, by_opening, shown_place, waiting, waiting_place, own_after, denial, as_open, Entry, exchange_opened, exchange_in, exchange_at, is_for, is_headless, is_open, Flaw, entry_of, Owners, IsAwaiting, has_joined, own_open, if_open, bound_to, Tables, Exchange, Consumer, Sound, IsToBeShown, starts_over, sends_back, after_accepted, piece_refusal}
 use Rattle.hc_event.specs.declared.event.Event.TheVariants as event
 use Rattle.hc_event.specs.declared.act.Cause.TheVariants as cause
@@ -9,9 +9,8 @@ use Rattle.hc_rules.specs.declared.need.Route.TheVariants as route
 use Rattle.hc_rules.specs.Refusals as refusals
 use Rattle.hc_event.specs.declared.place.Place.TheVariants as place
 use Rattle.hc_event.specs.declared.place.BoundBy.TheVariants as by
-use Rattle.hc_model.specs.Owners as owners
 use Rattle.hc_model.specs.Sound as sound
-use Rattle.hc_effects.proofs.{Basics.{false_true, or_false}, BoundFrom.{BoundFrom, IsRow, bound_from}, ConsumerFilters.{acted}, FirstKeeps.{case_is, is_new, is_opener}, Forward.{is_on, opened_on, is_untouched}, FoundBy.{CaseBy, case_by}, Once.{never, taken}, OwnersKeep.{is_opened, new_number}, PieceKeeps.{eq_cases}, Said.{shows_it, showing_by, waiting_by}, Waiters.{IsWaiter, waiter_of, heard_same, unclosed, own_acted}}
+use Rattle.hc_effects.proofs.{Basics.{false_true, or_false}, BoundFrom.{BoundFrom, IsRow, bound_from}, ConsumerFilters.{acted}, FirstKeeps.{case_is, is_new, is_opener}, Forward.{is_on, opened_on, is_untouched}, FoundBy.{CaseBy, case_by}, Once.{taken}, OwnersKeep.{is_opened, new_number}, PieceKeeps.{eq_cases}, Said.{shows_it, showing_by, waiting_by}, Waiters.{IsWaiter, waiter_of, heard_same, unclosed, own_acted}}
 use Rattle.hc_effects.proofs.BoundFrom as bound
 use Rattle.hc_effects.proofs.ExchangeFrom as exchange
 use Rattle.hc_effects.proofs.FoundBy as cases
@@ -88,9 +87,7 @@ module _ (limits : Limits) (t : Tables) (now : ℕ) (flaw : Flaw) (s : Sound t) 
   module _ (c r lo y : ℕ) (hi : Option ℕ) (k u : Consumer) (row : IsRow t e c r lo hi (by.FirstHole y) k u) (stands : u.place ≡ place.Bound r lo hi (by.FirstHole y)) (at : k.place ≡ place.Bound r lo hi (by.FirstHole y)) (unshown : k.shown ≡ false) (after_row : now_on.consumer c ≡ Some u) (w : Exchange) (is : IsWaiter t c y k w) where
     -- its exchange is for a hole of r
     hole_of : IsAwaiting y w k.place → (route_of w.need ≡ route.Hole) × (w.aim ≡ Some r)
-    hole_of (owners.direct way stays) = absurd (let no : place.Direct y ≡ place.Bound r lo hi (by.FirstHole y) = sym stays ∙ at in cc)
-    hole_of (owners.turn way stays) = absurd (let no : place.Turn y ≡ place.Bound r lo hi (by.FirstHole y) = sym stays ∙ at in cc)
-    hole_of (owners.hole q a z d way aim stays) = (way, aim ∙ ap Some (bound.place_inj q a z d r lo hi (by.FirstHole y) (sym stays ∙ at)).number)
+    hole_of it0 = grind (arith, nat_tests)
 
     -- ITS HEAD
 
@@ -121,11 +118,7 @@ module _ (limits : Limits) (t : Tables) (now : ℕ) (flaw : Flaw) (s : Sound t) 
     by_case response _ here is_case passes_by placed = absurd (let no : place.Direct y ≡ place.Bound r lo hi (by.FirstHole y) = sym placed ∙ stands in cc)
 
     head_place : (response : Response) (z : Option Exchange) → z ≡ Some w → (by_head t e c y response z k).place ≡ place_by_case y response w k (case_at t e)
-    head_place response None is_none = absurd (none_some w is_none)
-    head_place response (Some q) same = elim (eq_cases q.c c) [
-      | inl here ↦ rw here.0 (ap (λ (p : Exchange). place_by_case y response p k (case_at t e)) (some_inj q w same))
-      | inr other ↦ absurd (other.1 (ap (λ (p : Exchange). p.c) (some_inj q w same) ∙ is.for_it))
-    ]
+    head_place response z is_none = grind (arith, nat_tests)
 
     by_head_of : (response : Response) → ev ≡ event.Head y response → IsToBeShown now_on u (by.FirstHole y)
     by_head_of response here =
@@ -171,12 +164,7 @@ module _ (limits : Limits) (t : Tables) (now : ℕ) (flaw : Flaw) (s : Sound t) 
 
     end_refused : denial t (event.End y) ≡ None → ⊥
     unfolding refusals.refusal_of
-    end_refused h = by_test w.is_open (is_some w.head) refl refl
-      where
-        by_test : (a g : Bool) → w.is_open ≡ a → is_some w.head ≡ g → ⊥
-        by_test a true on headed = not_headed headed
-        by_test true false on headed = never _ (rw (is.exchange_row, on, headed) at h)
-        by_test false false on headed = false_true (sym on ∙ is.was_open)
+    end_refused h = grind (arith, nat_tests)
 
     fault_place : ev ≡ event.Fault y → ⊥
     fault_place here =
@@ -188,8 +176,6 @@ module _ (limits : Limits) (t : Tables) (now : ℕ) (flaw : Flaw) (s : Sound t) 
         put z shown number none off = rw (number, none, off) refl
 
     by_event : (v : Event) → ev ≡ v → IsToBeShown now_on u (by.FirstHole y)
-    by_event (event.Start d request) here = others (λ h. none_some y (sym (ap exchange_in here) ∙ h))
-    by_event (event.Poll d want) here = others (λ h. none_some y (sym (ap exchange_in here) ∙ h))
     by_event (event.Head x response) here = elim (eq_cases x y) [
       | inl same ↦ by_head_of response (here ∙ ap (λ n. event.Head n response) same.1)
       | inr apart ↦ others (λ h. apart.1 (some_inj x y (sym (ap exchange_in here) ∙ h)))
@@ -206,8 +192,7 @@ module _ (limits : Limits) (t : Tables) (now : ℕ) (flaw : Flaw) (s : Sound t) 
       | inl same ↦ absurd (fault_place (here ∙ ap event.Fault same.1))
       | inr apart ↦ others (λ h. apart.1 (some_inj x y (sym (ap exchange_in here) ∙ h)))
     ]
-    by_event (event.Cancel d) here = others (λ h. none_some y (sym (ap exchange_in here) ∙ h))
-    by_event (event.Doom key) here = others (λ h. none_some y (sym (ap exchange_in here) ∙ h))
+    by_event _ here = others (λ h. none_some y (sym (ap exchange_in here) ∙ h))
 
     pub still_waits : IsToBeShown now_on u (by.FirstHole y)
     still_waits = by_event ev refl
@@ -215,12 +200,7 @@ module _ (limits : Limits) (t : Tables) (now : ℕ) (flaw : Flaw) (s : Sound t) 
   -- EACH WAY TO BE BOUND
 
   headless_parts : (z : Option Exchange) → is_headless z ≡ true → (w : Exchange) × (z ≡ Some w) × (w.is_open ≡ true) × (w.head ≡ None)
-  headless_parts None h = absurd (false_true h)
-  headless_parts (Some w) h = (w, refl, and_left _ _ h, none_of w.head (and_right w.is_open _ h))
-    where
-      none_of : (q : Option Response) → is_none q ≡ true → q ≡ None
-      none_of None g = refl
-      none_of (Some response) g = absurd (false_true g)
+  headless_parts z h = grind (arith, nat_tests)
 
   joined_parts : (z : Option Exchange) → has_joined z ≡ true → (w : Exchange) × (z ≡ Some w) × (is_some w.joined ≡ true)
   joined_parts None h = absurd (false_true h)
@@ -271,13 +251,7 @@ module _ (limits : Limits) (t : Tables) (now : ℕ) (flaw : Flaw) (s : Sound t) 
       sound.waits y open_now (ap is_headless made)
     where
       unbound_own : (q : Place) (z : Option ℕ) → bound_to q ≡ None → own_after t e c q z ≡ z
-      unbound_own place.Line z none = refl
-      unbound_own (place.Passed a kept) z none = refl
-      unbound_own (place.Turn x) z none = refl
-      unbound_own (place.Bound a b d f) z none = absurd (let no : Some a ≡ None = none in cc)
-      unbound_own (place.Direct x) z none = refl
-      unbound_own (place.Down why) z none = refl
-      unbound_own place.Over z none = refl
+      unbound_own q z none = grind (arith, nat_tests)
 
   shown_from : (c r lo : ℕ) (hi : Option ℕ) (how : BoundBy) (u : Consumer) → now_on.consumer c ≡ Some u → u.place ≡ place.Bound r lo hi how → u.shown ≡ false → BoundFrom t e c r lo hi how u → IsToBeShown now_on u how
   shown_from c r lo hi how u after_row stands off (bound.stays k row at) =

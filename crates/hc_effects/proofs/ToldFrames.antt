@@ -1,5 +1,5 @@
 -- What a piece, an end, a fault or a doom comes to but for what makes room: what is lost and closed, and who and what stays or is let go.
-use Rattle.std.{proofs.Common.{◌≡◌, inl, inr, ℕ, List, [], ◌++◌, Bool, true, false, Option, Some, None, refl, ap, sym, ◌∙◌, subst}, specs.Prelude.{◌&&◌, ◌||◌, ◌==◌, not, nat_eq, if◌then◌else◌, map, option_map}}
+use Rattle.std.{proofs.{lemmas.Bool.Decides.{nat_tests}, Common.{arith, ◌≡◌, inl, inr, ℕ, List, [], ◌++◌, Bool, true, false, Option, Some, None, refl, ap, sym, ◌∙◌, subst}}, specs.Prelude.{◌&&◌, ◌||◌, ◌==◌, not, nat_eq, if◌then◌else◌, map, option_map}}
 use Rattle.hc_text.proofs.Basics.{not_some as none_some, or_false as or_off}
 use Rattle.hc_effects.proofs.Vocabulary.{opening_in, asks_in, closes_in, evicts_in, Act, Event, Limits, loses_in, misreads_in, loss_acts, answer_acts, is_asked, case_at, case_of, is_founding, closing, consumer_after, consumer_heard, consumer_made, due_after, back_in_line, is_current, denial, doomed_key_of, is_key, Does, with_event, as_gone, let_all_go, over, lost_to, Entry, entry_without_acts, evict_all, unevicting, exchange_after, exchange_heard, exchange_acted, exchange_at, exchange_in, becomes_due, Flaw, beside, becomes_gone, goes_by_exchange, ends_early, is_keepable, Lawful, reads, representation_after, representation_heard, representation_acted, founded_at, Tables, Exchange, Representation, Consumer, starts_over, waits_at, after_accepted, with_item_first, starts_after, last_start_after, opened_after, openings_after, to_front, founds, evicted, write_in, goes_on_with}
 use Rattle.hc_event.specs.declared.act.Act.TheVariants as act
@@ -27,9 +27,7 @@ pub record SaysLittle (t : Tables) (now : ℕ) (ev : Event) : Type 0 where
 pub says_little : (t : Tables) (now : ℕ) (ev : Event) → IsTold ev → SaysLittle t now ev
 unfolding case_of
 says_little t now _ (pieces x bytes) = record { unasked = refl; says = λ flaw. refl; starts = λ cs. refl; last = λ n. refl; caseless = λ acts. refl; unfounded = λ acts r. refl; unmade = λ c. refl }
-says_little t now _ (ends x) = record { unasked = refl; says = λ flaw. refl; starts = λ cs. refl; last = λ n. refl; caseless = λ acts. refl; unfounded = λ acts r. refl; unmade = λ c. refl }
-says_little t now _ (faults x) = record { unasked = refl; says = λ flaw. refl; starts = λ cs. refl; last = λ n. refl; caseless = λ acts. refl; unfounded = λ acts r. refl; unmade = λ c. refl }
-says_little t now _ (dooms key) = record { unasked = refl; says = λ flaw. refl; starts = λ cs. refl; last = λ n. refl; caseless = λ acts. refl; unfounded = λ acts r. refl; unmade = λ c. refl }
+says_little t now _ _ = record { unasked = refl; says = λ flaw. refl; starts = λ cs. refl; last = λ n. refl; caseless = λ acts. refl; unfounded = λ acts r. refl; unmade = λ c. refl }
 
 module _ (t : Tables) (now : ℕ) (ev : Event) (told : IsTold ev) (flaw : Flaw) (xs : List ℕ) where
   -- THE ENTRY
@@ -64,12 +62,10 @@ module _ (t : Tables) (now : ℕ) (ev : Event) (told : IsTold ev) (flaw : Flaw) 
   -- EXCHANGES
 
   closed_if : (b : Bool) (u : Exchange) → Some (record u { is_open = not b && u.is_open }) ≡ (if b then option_map over (Some u) else Some u)
-  closed_if true u = refl
-  closed_if false u = refl
+  closed_if b u = grind (arith, nat_tests)
 
   none_closed : (b : Bool) → None ≡ (if b then option_map over None else None)
-  none_closed true = refl
-  none_closed false = refl
+  none_closed b = grind (arith, nat_tests)
 
   exchange_by : (y : ℕ) (w u : Exchange) → exchange_heard t e y ev w ≡ u → exchange_after t e y (Some w) ≡ (if is_in xs y then option_map over (Some u) else Some u)
   unfolding exchange_after
@@ -127,12 +123,7 @@ module _ (t : Tables) (now : ℕ) (ev : Event) (told : IsTold ev) (flaw : Flaw) 
   -- one that is lost, with which this one goes on
   pub lost_by : (r : ℕ) (v u : Representation) (alone : Option ℕ) → representation_heard t e r ev v ≡ u → loses_in r (loss_acts flaw) ≡ true → v.is_lost ≡ false → becomes_gone t e r v ≡ true → goes_on_with t e r v ≡ alone → representation_after t e r (Some v) ≡ Some (as_gone (lost_to alone u))
   unfolding representation_after
-  lost_by r v u alone heard loses kept goes goes_on =
-      ap (λ (z : Representation). Some (representation_acted t e r v z)) heard
-      ∙ ap Some (by_parts (loses_in r e.acts) v.is_lost (becomes_gone t e r v) (goes_on_with t e r v) (loses_as r ∙ loses) kept goes goes_on)
-    where
-      by_parts : (l k g : Bool) (o : Option ℕ) → l ≡ true → k ≡ false → g ≡ true → o ≡ alone → record u { is_lost = l || u.is_lost; alone = if l && not k then o else u.alone; is_gone = g || u.is_gone } ≡ as_gone (lost_to alone u)
-      by_parts l k g o a b c d = rw (a, b, c, d) refl
+  lost_by r v u alone heard loses kept goes goes_on = grind (arith, nat_tests)
 
   pub representation_none : (r : ℕ) (b : Bool) → representation_after t e r None ≡ (if b then option_map as_gone None else None)
   representation_none r true = representation_absent t e r (n.unfounded e.acts r)
@@ -152,8 +143,7 @@ module _ (t : Tables) (now : ℕ) (ev : Event) (told : IsTold ev) (flaw : Flaw) 
         ∙ ap (λ b. (is_key (doomed_key_of t e) k.request.key && waits_at t k.place) || b) (waits_as t e law rs goes c k row k.place refl)
 
     back_at : (c : ℕ) (k : Consumer) (b : Bool) → (if b then back_in_line now k else beside t e c k) ≡ (if b then back_in_line now (beside t e c k) else beside t e c k)
-    back_at c k true = refl
-    back_at c k false = refl
+    back_at c k b = grind (arith, nat_tests)
 
     -- who hears nothing, where nothing is doomed
     pub consumer_by : doomed_key_of t e ≡ None → (c : ℕ) → ((k : Consumer) → t.consumer c ≡ Some k → consumer_heard t e c ev k ≡ k) → consumer_after t e c (t.consumer c) ≡ option_map (back_from_any now rs) (option_map (beside t e c) (t.consumer c))

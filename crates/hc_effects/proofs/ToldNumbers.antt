@@ -1,11 +1,10 @@
 -- What heads tell is below 2^62: positions and lengths. So what is promised ends by 2^62.
-use Rattle.std.{proofs.Common.{◌≡◌, ◌≤◌, ◌<◌, inl, inr, ℕ, ◌+◌, ◌-◌, ◌^◌, List, [], ◌∷◌, codes, Bool, true, false, Option, Some, None, refl, arith}, specs.Prelude.{if◌then◌else◌, ◌==◌, option_and_then}}
+use Rattle.std.{proofs.{lemmas.Bool.Decides.{nat_tests}, Common.{◌≡◌, ◌≤◌, ◌<◌, inl, inr, ℕ, ◌+◌, ◌-◌, ◌^◌, List, [], ◌∷◌, codes, Bool, false, Option, Some, None, refl, arith}}, specs.Prelude.{if◌then◌else◌, ◌==◌, option_and_then}}
 use Rattle.hc_text.proofs.Basics.{bool_cases, not_some as none_some, some_inj}
 use Rattle.hc_fields.specs.{FieldElements.{elements_in}, FieldList.{values_of}, FirstValues.{only_of}}
 use Rattle.hc_range.specs.declared.range.ContentRange.{ContentRange}
 use Rattle.hc_range.specs.declared.range.ContentRange.TheVariants as range
 use Rattle.hc_effects.proofs.Vocabulary.{Request, Response, Need, Length, Route, length_of, content_length_of, part_length, all_tell, agrees, has_no_body, tells_part, base_of, promise_of, route_of, number_of, content_range_of, content_range_in, base, promised_bytes, length_by, total_of_part, founded_total, Exchange}
-use Rattle.hc_rules.specs.declared.need.Route.TheVariants as route
 use Rattle.hc_rules.specs.declared.length.Length.TheVariants as says
 use Rattle.hc_rules.specs.Lengths.{promised_or_bad}
 use Rattle.hc_rules.proofs.{Numbers.{IsNumber-told}, RangeReads.{content_range_in-some}}
@@ -17,8 +16,7 @@ EndsEarly (says.Part first n) = first + n ≤ 2 ^ 62
 EndsEarly _ = Unit {0}
 
 if_early : (b : Bool) (l m : Length) → EndsEarly l → EndsEarly m → EndsEarly (if b then l else m)
-if_early true l m a b = a
-if_early false l m a b = b
+if_early b l m a b1 = grind (arith, nat_tests)
 
 number_early : (text : List ℕ) (o : Option ℕ) → number_of text ≡ o → EndsEarly (promised_or_bad o)
 number_early text None is = tt
@@ -68,10 +66,7 @@ length_early need request response =
     (told_early es))
 
 by_early : (l : Length) (n : ℕ) → EndsEarly l → promise_of l ≡ Some n → base_of l + n ≤ 2 ^ 62
-by_early says.Unknown n early is = absurd (none_some n is)
-by_early says.Bad n early is = absurd (none_some n is)
-by_early (says.Promised p) n early is = let same : p ≡ n = some_inj p n is in omega arith
-by_early (says.Part first p) n early is = let same : p ≡ n = some_inj p n is in omega arith
+by_early l n early is = grind (arith, nat_tests)
 
 -- where what an exchange promised ends
 pub promise_early : (w : Exchange) (n : ℕ) → promised_bytes w ≡ Some n → base w + n ≤ 2 ^ 62
@@ -94,21 +89,13 @@ TellsNoPart (says.Part first n) = ⊥
 TellsNoPart _ = Unit {0}
 
 no_part_if : (b : Bool) (l m : Length) → TellsNoPart l → TellsNoPart m → TellsNoPart (if b then l else m)
-no_part_if true l m a b = a
-no_part_if false l m a b = b
+no_part_if b l m a b1 = grind (arith, nat_tests)
 
 told_no_part : (elements : List (List ℕ)) → TellsNoPart (content_length_of elements)
-told_no_part [] = tt
-told_no_part (element ∷ elements) = no_part_if (all_tell (number_of element) (element ∷ elements)) (promised_or_bad (number_of element)) says.Bad (by_number (number_of element)) tt
-  where
-    by_number : (o : Option ℕ) → TellsNoPart (promised_or_bad o)
-    by_number None = tt
-    by_number (Some n) = tt
+told_no_part elements = grind (arith, nat_tests)
 
 tells_off : (r : Route) (status : ℕ) → (status == 206) ≡ false → tells_part r status ≡ false
-tells_off route.Direct status whole = refl
-tells_off route.Turn status whole = whole
-tells_off route.Hole status whole = whole
+tells_off r status whole = grind (arith, nat_tests)
 
 whole_no_part : (need : Need) (request : Request) (response : Response) → (response.status == 206) ≡ false → TellsNoPart (length_of need request response)
 unfolding length_of
@@ -116,10 +103,7 @@ whole_no_part need request response whole =
     no_part_if (has_no_body request response.status) (says.Promised 0) _ tt (rw (tells_off (route_of need) response.status whole) (told_no_part (elements_in (codes "content-length") response.fields)))
 
 by_whole : (l : Length) (n : ℕ) → EndsEarly l → TellsNoPart l → promise_of l ≡ Some n → n < 2 ^ 62
-by_whole says.Unknown n early whole is = absurd (none_some n is)
-by_whole says.Bad n early whole is = absurd (none_some n is)
-by_whole (says.Promised p) n early whole is = let same : p ≡ n = some_inj p n is in omega arith
-by_whole (says.Part first p) n early whole is = absurd whole
+by_whole l n early whole is = grind (arith, nat_tests)
 
 -- the length of what a head founds
 pub founded_early : (w : Exchange) (response : Response) (n : ℕ) → founded_total w response ≡ Some n → n < 2 ^ 62

@@ -1,32 +1,18 @@
 -- What a poll does that opens an exchange with the turn: past what is stored, what is current is let go.
-use Rattle.std.{proofs.Common.{◌≡◌, ◌≢◌, ℕ, [], Bool, true, false, Some, None, refl, ap, sym, ◌∙◌}, specs.Prelude.{◌&&◌, ◌||◌, bytes_eq}}
+use Rattle.std.{proofs.{lemmas.Bool.Decides.{nat_tests}, Common.{arith, ◌≡◌, ◌≢◌, ℕ, [], Bool, true, false, Some, None, refl, ap, sym, ◌∙◌}}, specs.Prelude.{◌&&◌, ◌||◌, bytes_eq}}
 use Rattle.hc_effects.proofs.Vocabulary.{Need, Request, route_of, Limits, Place, opened_place, unless_bound, current, is_current, bypassed_for, Does, with_event, with_consumer, with_opening, just_opened, let_some_go, Entry, NoFlaw, becomes_gone, Lawful, Opens, acts_of, move_of, bound_to, Tables, Representation, Consumer, with_item_first, is_hole}
 use Rattle.hc_event.specs.declared.act.Need.TheVariants as need
 use Rattle.hc_event.specs.declared.event.Event.TheVariants as event
 use Rattle.hc_rules.specs.declared.need.Route.TheVariants as route
 use Rattle.hc_event.specs.declared.place.Place.TheVariants as place
-use Rattle.hc_effects.proofs.{Basics.{false_true}, ConsumerEffects.{some_all}, KeyNames.{current_test}, OfConsumers.{BringsNothing, goes_as, ends_none}, OpenEffects.{e, nothing, why, keeps_all, binds_none, about_current}, OpenedAs.{OpenedAs, Way}, PollEffects.{none_waits}, SameTables.{is_in, in_one, waits_for_any}, WaitEffects.{unread_undue}}
-use Rattle.hc_effects.proofs.OpenedAs as opened
+use Rattle.hc_effects.proofs.{Basics.{false_true}, ConsumerEffects.{some_all}, KeyNames.{current_test}, OfConsumers.{BringsNothing, goes_as, ends_none}, OpenEffects.{e, nothing, why, keeps_all, binds_none, about_current}, OpenedAs.{OpenedAs, free_by}, PollEffects.{none_waits}, SameTables.{is_in, in_one, waits_for_any}, WaitEffects.{unread_undue}}
 
 plain_turn : (n : Need) (request : Request) → n ≢ need.Bypass → bypassed_for n request.key ≡ None
-plain_turn need.Disabled request other = refl
-plain_turn need.TimedOut request other = refl
-plain_turn need.Bypass request other = absurd (other refl)
-plain_turn need.Miss request other = refl
-plain_turn need.Vary request other = refl
-plain_turn need.Validate request other = refl
-plain_turn (need.Hole from to) request other = refl
-plain_turn need.Unsatisfied request other = refl
+plain_turn n request other = grind (arith, nat_tests)
 
 module _ (limits : Limits) (t : Tables) (law : Lawful t) (now c want : ℕ) (k : Consumer) (row : t.consumer c ≡ Some k) (x : ℕ) (n : Need) (request : Request) (is : move_of t now want c k ≡ Opens x n request) (turns : route_of n ≡ route.Turn) where
   free : bound_to k.place ≡ None
-  free = by_way (why limits t law now c want k row x n request is).way
-    where
-      by_way : Way t now c k n → bound_to k.place ≡ None
-      by_way (opened.passes_by free way) = free
-      by_way (opened.fetches free way cached) = free
-      by_way (opened.fills r v span hole free way now_is there wants found need_is cached) = free
-      by_way (opened.goes_on r lo hi how at way) = absurd (let never : route.Hole ≡ route.Turn = sym way ∙ turns in cc)
+  free = free_by t now c k n (why limits t law now c want k row x n request is).way (λ way. let never : route.Hole ≡ route.Turn = sym way ∙ turns in cc)
 
   place_is : unless_bound (bound_to k.place) k.place (opened_place t x k (route_of n)) ≡ place.Turn x
   place_is = rw (free, turns) refl
@@ -67,12 +53,7 @@ module _ (limits : Limits) (t : Tables) (law : Lawful t) (now c want : ℕ) (k :
   -- it waits for no body
   unwaiting : (p : Place) → k.place ≡ p → waits_for_any (with_item_first (current t k.request.key) []) p ≡ false
   unwaiting (place.Passed r kept) at = absurd (false_true (sym (law.owned.passed c r kept k row at) ∙ reason.bypasses refl))
-  unwaiting place.Line at = refl
-  unwaiting (place.Turn y) at = refl
-  unwaiting (place.Bound r lo hi how) at = refl
-  unwaiting (place.Direct y) at = refl
-  unwaiting (place.Down cause) at = refl
-  unwaiting place.Over at = refl
+  unwaiting _ at = refl
 
   -- and what is current is let go
   pub bypasses : Does limits t now (event.Poll c want) NoFlaw (acts_of c (Opens x need.Bypass request))

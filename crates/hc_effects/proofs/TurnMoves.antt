@@ -1,20 +1,22 @@
 -- What a poll does, and why: who opens for the turn has it, who waits for a body may read what is current.
-use Rattle.std.{proofs.Common.{◌≡◌, inl, inr, ℕ, ◌+◌, Bool, true, false, cond, Option, Some, None, refl, ap, sym, ◌∙◌, subst}, specs.{Prelude.{◌==◌, if◌then◌else◌}, Option.{option_and_then, option_map}}}
-use Rattle.hc_text.proofs.Basics.{bool_cases, not_some as none_some, some_inj}
+-- A poll shows a head, waits for one, reads or plans (`move_as`). Who reads was shown a head and is bound where it opens a hole.
+-- Who plans is bound to nothing and was shown nothing; the plan says what it found, and each plan is one case of `Does`.
+-- What is current, as the plan sees it, has its row, and answers the request where the plan says so.
+-- Who was let through may read what is current, by `Turns`.
+use Rattle.std.{proofs.{lemmas.Bool.Decides.{nat_tests}, Common.{arith, ◌≡◌, ℕ, ◌+◌, Bool, true, false, Option, Some, None, refl, ap, sym, ◌∙◌, subst}}, specs.{Prelude.{◌==◌, if◌then◌else◌}, Option.{option_and_then, option_map}}}
+use Rattle.hc_text.proofs.Basics.{not_some as none_some, some_inj}
 use Rattle.hc_range.specs.declared.range.Span.{Span}
 use Rattle.hc_sparse.specs.declared.run.Run.{Run}
-use Rattle.hc_effects.proofs.Vocabulary.{Request, Response, Need, Why, Cause, Candidate, Plan, PlanView, ReadStep, ReadView, route_of, plan_of, read_step, is_at_end, stored_or, held_or, fails_or, waits_or, class_of, is_bypassing, is_disabled, is_only, wanted_of, range_of, Place, BoundBy, opened_place, place_for_hole, bound_to_wanted, kept_by, current, row_of, HasPassed, Turns, turn_with, Move, Nothing, Asks, Opens, Shows, Gives, Ends, Fails, opens_hole, shows_stored, gives, waits_for, plan_view, plan_move, planned_move, has_passed, candidate, candidate_at, current_row, binds_current, shows_answer, shows_direct, shows_bound, shows_at, shows_head, has_joined, if_headless, waits_for_head, or_else, by_place, poll_move, bound_to, hi_of, own_open, source, Tables, Exchange, Representation, Consumer, Sound, bound_row, most, run_held_for, read_view, later_hole, step_move, reading}
+use Rattle.hc_effects.proofs.Vocabulary.{Request, Response, Need, Why, Cause, Candidate, Plan, PlanView, route_of, plan_of, class_of, is_bypassing, is_disabled, is_only, wanted_of, range_of, Place, BoundBy, opened_place, place_for_hole, bound_to_wanted, kept_by, current, row_of, HasPassed, Turns, turn_with, Move, Nothing, Asks, Opens, Shows, Gives, Ends, Fails, opens_hole, plan_view, plan_move, planned_move, has_passed, candidate, candidate_at, current_row, shows_head, has_joined, if_headless, by_place, poll_move, bound_to, hi_of, own_open, Tables, Representation, Consumer, Sound, bound_row, later_hole, reading}
 use Rattle.hc_event.specs.declared.act.Need.TheVariants as need
 use Rattle.hc_event.specs.declared.act.Wait.TheVariants as wait
 use Rattle.hc_fresh.specs.Vary.{matches_vary}
 use Rattle.hc_rules.specs.declared.need.Route.TheVariants as route
-use Rattle.hc_rules.specs.declared.reading.ReadStep.TheVariants as step
 use Rattle.hc_rules.specs.declared.request.Wanted.TheVariants as wanted
-use Rattle.hc_rules.specs.Readings as readings
 use Rattle.hc_event.specs.declared.place.Place.TheVariants as place
 use Rattle.hc_event.specs.declared.place.BoundBy.TheVariants as by
 use Rattle.hc_model.specs.Moves as moves
-use Rattle.hc_effects.proofs.{Joining.{mix}, PollTree.{never_plans}, TurnPlans.{Planned, IsVaried, IsQueueing, plan_is}}
+use Rattle.hc_effects.proofs.{MoveWords.{at_as, binds_as, move_as, never_plans, reading_as, waits_as}, TurnPlans.{Planned, IsVaried, IsQueueing, plan_is}}
 use Rattle.hc_effects.proofs.TurnPlans as plans
 
 -- what is current answers the consumer's request too
@@ -57,14 +59,7 @@ KeptNone (place.Passed r (Some x)) = ⊥
 KeptNone _ = Unit {0}
 
 pub kept_none : (p : Place) → (has_passed p ≡ true → kept_by p ≡ None) → KeptNone p
-kept_none (place.Passed r (Some x)) none = let no_one : Some x ≡ None = none refl in cc
-kept_none (place.Passed r None) none = tt
-kept_none place.Line none = tt
-kept_none (place.Turn x) none = tt
-kept_none (place.Bound r lo hi how) none = tt
-kept_none (place.Direct x) none = tt
-kept_none (place.Down why) none = tt
-kept_none place.Over none = tt
+kept_none p none = grind (arith, nat_tests)
 
 pub data Does (t : Tables) (c : ℕ) (k : Consumer) : Move → Type 0 where
   nothing : Does t c k Nothing
@@ -85,116 +80,18 @@ pub data Does (t : Tables) (c : ℕ) (k : Consumer) : Move → Type 0 where
 module _ (t : Tables) (c : ℕ) (k : Consumer) where
   -- READING
 
-  does_gives : (o : Option Run) → Does t c k (gives o)
-  does_gives None = nothing
-  does_gives (Some run) = given run
-
-  does_asks : (x : ℕ) (o : Option Exchange) → Does t c k (waits_for x o)
-  does_asks x None = nothing
-  does_asks x (Some w) = mix (Does t c k) w.asked _ _ (waits_body _) (asks x)
-
   module _ (want : ℕ) (shown : k.shown ≡ true) where
     later_row : (p : Place) (hole : Span) (o : Option Representation) → k.place ≡ p → row_of t (bound_to p) ≡ o → Does t c k (opens_hole t k.request o hole)
     later_row p hole None at row = nothing
     later_row (place.Bound r lo hi how) hole (Some v) at row = later _ _ r lo hi how refl shown at
-    later_row place.Line hole (Some v) at row = absurd (none_some v row)
-    later_row (place.Passed r kept) hole (Some v) at row = absurd (none_some v row)
-    later_row (place.Turn x) hole (Some v) at row = absurd (none_some v row)
-    later_row (place.Direct x) hole (Some v) at row = absurd (none_some v row)
-    later_row (place.Down cause) hole (Some v) at row = absurd (none_some v row)
-    later_row place.Over hole (Some v) at row = absurd (none_some v row)
+    later_row _ hole (Some v) at row = absurd (none_some v row)
 
     does_later : (hole : Span) (o : Option ℕ) → Does t c k (later_hole t k hole o)
     does_later hole None = nothing
     does_later hole (Some hi) = later_row k.place hole (bound_row t k) refl refl
 
-    abbrev DoesStep : ReadStep → Type 0
-    DoesStep step = Does t c k (step_move t want c k step)
-
-    step_waits : (o : Option ℕ) → DoesStep (waits_or o (readings.opens (read_view t want c k)))
-    step_waits None = does_later _ (hi_of t k.place)
-    step_waits (Some x) = does_asks x (t.exchange x)
-
-    step_fails : (o : Option Cause) (other : ReadStep) → DoesStep other → DoesStep (fails_or o other)
-    step_fails None other does = does
-    step_fails (Some cause) other does = fails cause
-
-    step_stored : (hi o : Option ℕ) (other : ReadStep) → DoesStep other → DoesStep (stored_or hi o other)
-    step_stored hi None other does = does
-    step_stored hi (Some end) other does = does_gives _
-
-    abbrev v : ReadView
-    v = read_view t want c k
-
-    abbrev by_waits : ReadStep
-    by_waits = waits_or (source t k) (readings.opens v)
-
-    abbrev by_held : ReadStep
-    by_held = held_or v.held (fails_or v.due by_waits)
-
     does_reading : Does t c k (reading t want c k)
-    unfolding read_step
-    does_reading =
-        mix DoesStep (is_at_end v.hi v.offset) step.Ended (stored_or v.hi v.stored by_held) ends
-        (step_stored v.hi v.stored by_held
-        (mix DoesStep v.held step.Held (fails_or v.due by_waits) (does_gives (run_held_for t c k (most t want k)))
-        (step_fails v.due by_waits (step_waits (source t k)))))
-
-  -- SHOWING
-
-  abbrev Joined : Type 0
-  Joined = (q low y : ℕ) (high : Option ℕ) → k.place ≡ place.Bound q low high (by.FirstHole y) → has_joined (t.exchange y) ≡ true
-
-  does_stored : (r : ℕ) (why : Why) (ranged : Bool) (lo : ℕ) (hi : Option ℕ) (o : Option Representation) → Joined → Does t c k (shows_stored r why ranged lo hi o)
-  does_stored r why ranged lo hi None joined = nothing
-  does_stored r why ranged lo hi (Some v) joined = shows r why _ lo hi joined
-
-  does_answer : (x : ℕ) (w : Exchange) (o : Option Response) (n : Move) → Joined → shows_answer t x w o ≡ Some n → Does t c k n
-  does_answer x w None n joined is = absurd (none_some n is)
-  does_answer x w (Some response) n joined is = subst (Does t c k) (some_inj _ n is) (shows _ _ _ _ _ joined)
-
-  does_direct : (x : ℕ) (o : Option Exchange) (n : Move) → Joined → shows_direct t x o ≡ Some n → Does t c k n
-  does_direct x None n joined is = absurd (none_some n is)
-  does_direct x (Some w) n joined is = does_answer x w w.head n joined is
-
-  abbrev first_of : BoundBy → ℕ
-  first_of (by.FirstHole y) = y
-  first_of _ = 0
-
-  abbrev bound_as : Place → BoundBy
-  bound_as (place.Bound r lo hi how) = how
-  bound_as _ = by.Plan
-
-  does_bound : (r lo : ℕ) (hi : Option ℕ) (how : BoundBy) (n : Move) → bound_as k.place ≡ how → shows_bound t k r lo (hi_of t k.place) how ≡ Some n → Does t c k n
-  does_bound r lo hi by.Founding n at is =
-      subst (Does t c k) (some_inj _ n is) (does_stored r _ _ lo (hi_of t k.place) (t.representation r) (λ q low y high bound.
-      absurd (let other : by.Founding ≡ by.FirstHole y = sym at ∙ ap bound_as bound in cc)))
-  does_bound r lo hi (by.FirstHole y) n at is = elim (bool_cases (has_joined (t.exchange y))) [
-    | inl joined ↦ subst (Does t c k) (some_inj _ n (rw joined at is)) (does_stored r _ _ lo (hi_of t k.place) (t.representation r) (λ q low z high bound.
-        let same : y ≡ z = ap first_of (sym at ∙ ap bound_as bound) in ap (λ n. has_joined (t.exchange n)) (sym same) ∙ joined))
-    | inr not_joined ↦ absurd (let no_one : None ≡ Some n = rw not_joined at is in cc)
-  ]
-  does_bound r lo hi by.Plan n at is = absurd (none_some n is)
-
-  not_first : (p : Place) → bound_as p ≡ by.Plan → k.place ≡ p → Joined
-  not_first p plain at q low y high bound = absurd (let other : by.Plan ≡ by.FirstHole y = sym plain ∙ (ap bound_as (sym at ∙ bound)) in cc)
-
-  does_at : (p : Place) (n : Move) → k.place ≡ p → shows_at t k p ≡ Some n → Does t c k n
-  does_at (place.Bound r lo hi how) n at is = does_bound r lo hi how n (ap bound_as at) is
-  does_at (place.Direct x) n at is = does_direct x (t.exchange x) n (not_first (place.Direct x) refl at) is
-  does_at _ n at is = absurd (none_some n is)
-
-  does_head : (b : Bool) (n : Move) → cond b None (shows_at t k k.place) ≡ Some n → Does t c k n
-  does_head true n is = absurd (none_some n is)
-  does_head false n is = does_at k.place n refl is
-
-  does_waits : (o : Option ℕ) (n : Move) → waits_for_head o ≡ Some n → Does t c k n
-  does_waits None n is = absurd (none_some n is)
-  does_waits (Some x) n is = subst (Does t c k) (some_inj _ n is) (waits_head x)
-
-  does_some : (o : Option Move) (m : Move) → ((n : Move) → o ≡ Some n → Does t c k n) → (o ≡ None → Does t c k m) → Does t c k (or_else o m)
-  does_some None m some none = none refl
-  does_some (Some n) m some none = some n refl
+    does_reading = reading_as (Does t c k) nothing t want c k ends given (λ cause due. fails cause) (λ x from. waits_as (Does t c k) nothing x (waits_body _) (asks x) (t.exchange x)) (λ hole. does_later hole (hi_of t k.place))
 
   -- PLANS
 
@@ -218,9 +115,7 @@ module _ (t : Tables) (c : ℕ) (k : Consumer) where
     candidate_is (Some r) z at h = candidate_row r (t.representation r) z at refl h
 
     may_read : IsVaried view → is_bypassing k.request ≡ false → (r : ℕ) × MayRead t k r
-    may_read varied plain =
-        let z = candidate_is (current t k.request.key) varied.s refl varied.current in
-        (z.r, record { current = z.current_is; v = z.v; row = z.there; agrees = ap (λ (y : Candidate). y.vary) (sym z.is) ∙ varied.vary; plain = plain })
+    may_read varied plain = grind (arith, nat_tests)
 
     passed_by_place : (p : Place) → k.place ≡ p → has_passed p ≡ true → (r : ℕ) × HasPassed t r k
     passed_by_place (place.Passed r kept) at h = (r, turns.passed c r kept k row at)
@@ -259,17 +154,6 @@ module _ (t : Tables) (c : ℕ) (k : Consumer) where
     unfolding class_of
     bypass_is h = h
 
-    does_binds : (why : Why) (span : Option Span) (o : Option ℕ) → bound_to k.place ≡ None → Does t c k (binds_current t k why span o)
-    does_binds why span None free = nothing
-    does_binds why None (Some r) free = does_stored r why _ _ _ (t.representation r) (unbound free)
-      where
-        unbound : bound_to k.place ≡ None → Joined
-        unbound free q low y high at = absurd (none_some q (sym free ∙ ap bound_to at))
-    does_binds why (Some span) (Some r) free = does_stored r why _ span.lo (Some span.hi) (t.representation r) (unbound free)
-      where
-        unbound : bound_to k.place ≡ None → Joined
-        unbound free q low y high at = absurd (none_some q (sym free ∙ ap bound_to at))
-
     -- a first hole binds to what is current
     binds_first : (hole span : Span) (z : Candidate) → IsNew k → z.span ≡ wanted.Interval span → IsCandidate z → Does t c k (opens_hole t k.request (current_row t k) hole)
     binds_first hole span z is_new at found =
@@ -286,7 +170,7 @@ module _ (t : Tables) (c : ℕ) (k : Consumer) where
     does_plan u _ (plans.waits_turn d other only back) = waits_turn d (asking u only) other (kept_none k.place back)
     does_plan u _ (plans.fetches n way queue turn_is varied bypass) =
         fetches n _ way (asking u queue.asks) (queueing queue) turn_is (λ is. may_read (varied is).1 (plain_is (varied is).0)) (λ is. bypass_is (bypass is))
-    does_plan u _ (plans.binds why span) = does_binds why span (current t k.request.key) u.bound
+    does_plan u _ (plans.binds why span) = binds_as (Does t c k) nothing t k why span (current t k.request.key) (λ r head lo hi now. shows r why head lo hi (λ q low y high at. absurd (none_some q (sym u.bound ∙ ap bound_to at))))
     does_plan u _ (plans.first span hole z only current_is at) = binds_first hole span z (asking u only) at (candidate_is (current t k.request.key) z refl current_is)
     does_plan u _ (plans.busy d kept queue plain varied) =
         let m = may_read varied (plain_is plain) in passes d m.0 (asking u queue.asks) (queueing queue) m.1
@@ -302,21 +186,13 @@ module _ (t : Tables) (c : ℕ) (k : Consumer) where
     does_place : (want : ℕ) (p : Place) → k.place ≡ p → shows_head t k ≡ None → option_and_then (if_headless t) (own_open t k) ≡ None → Does t c k (by_place t now want c k p)
     does_place want (place.Down cause) at none not_waiting = fails cause
     does_place want place.Over at none not_waiting = nothing
-    does_place want place.Line at none not_waiting = by_shown want k.shown refl (λ _. (ap bound_to at, subst Plans (sym at) tt))
-    does_place want (place.Passed r kept) at none not_waiting = by_shown want k.shown refl (λ _. (ap bound_to at, subst Plans (sym at) tt))
-    does_place want (place.Turn x) at none not_waiting = by_shown want k.shown refl (λ _. (ap bound_to at, subst Plans (sym at) tt))
-    does_place want (place.Direct x) at none not_waiting = by_shown want k.shown refl (λ _. (ap bound_to at, subst Plans (sym at) tt))
     does_place want (place.Bound r lo hi how) at none not_waiting =
-        by_shown want k.shown refl (λ shown. absurd (never_plans t c k r lo hi how at shown (s.unshown c r lo hi how k row at shown) none not_waiting))
+        by_shown want k.shown refl (λ shown. absurd (never_plans t k r lo hi how at shown (s.unshown c r lo hi how k row at shown) none not_waiting))
+    does_place want _ at none not_waiting = by_shown want k.shown refl (λ _. (ap bound_to at, subst Plans (sym at) tt))
 
     -- every move of a poll is such
     pub does_polled : (want : ℕ) → Does t c k (poll_move t now want c (Some k))
     does_polled want =
-        does_some (shows_head t k) _ (λ n is. does_head k.shown n is) (λ none.
-        does_some (waits_for_head (option_and_then (if_headless t) (own_open t k))) _
-        (λ n is. does_waits (option_and_then (if_headless t) (own_open t k)) n is) (λ quiet.
-        does_place want k.place refl none (no_wait (option_and_then (if_headless t) (own_open t k)) quiet)))
-      where
-        no_wait : (o : Option ℕ) → waits_for_head o ≡ None → o ≡ None
-        no_wait None h = refl
-        no_wait (Some x) h = absurd (let no_one : Some (moves.Waits (wait.Head x)) ≡ None = h in cc)
+        move_as (Does t c k) nothing t now want c k
+        (λ m shown is. at_as (Does t c k) nothing t k k.place m is (λ r why head lo hi at. shows r why head lo hi at.joined))
+        waits_head (does_place want k.place refl)

@@ -1,5 +1,5 @@
 -- Where a consumer's place comes from, as far as it waits.
-use Rattle.std.{proofs.Common.{◌≡◌, ℕ, Bool, true, false, Option, Some, None, refl, ap, sym, ◌∙◌, subst}, specs.Prelude.{◌&&◌, ◌||◌, ◌==◌, not, is_none, if◌then◌else◌}}
+use Rattle.std.{proofs.{lemmas.Bool.Decides.{nat_tests}, Common.{arith, ◌≡◌, ℕ, Bool, true, false, Option, Some, None, refl, ap, sym, ◌∙◌, subst}}, specs.Prelude.{◌&&◌, ◌||◌, ◌==◌, not, is_none, if◌then◌else◌}}
 use Rattle.hc_text.proofs.Basics.{eq_tells as eq_is, some_inj}
 use Rattle.hc_effects.proofs.Vocabulary.{Opening, opening_in, leaves_in, shows_in, Wait, Event, Response, Request, HeadCase, Route, Wanted, route_of, wanted_of, range_of, Place, wait_in, Showing, showing_in, case_at, bound_to_wanted, place_by_case, passed_on, by_head, by_fault, by_opening, consumer_after, consumer_acted, consumer_heard, waiting, waiting_place, passed_by, kept_by, opened_place, place_for_hole, unless_bound, shown_place, due_after, back_in_line, current, row_of, Entry, founded_total, reads, bound_to, Tables, Exchange, Representation, Consumer, starts_over}
 use Rattle.hc_event.specs.declared.act.Wait.TheVariants as wait
@@ -36,8 +36,7 @@ module _ (t : Tables) (e : Entry) (c : ℕ) (k : Consumer) where
 
   founding : (x : ℕ) (other : Place) (wants : Wanted) → IsPlain other → ComesFrom (bound_to_wanted x by.Founding other wants)
   founding x other (wanted.Interval span) p = plain _ tt
-  founding x other wanted.TotalUnknown p = plain other p
-  founding x other wanted.Unsatisfiable p = plain other p
+  founding x other _ p = plain other p
 
   passes : (x : ℕ) (response : Response) (w : Exchange) (o : Option ℕ) → e.event ≡ event.Head x response → t.exchange x ≡ Some w → w.c ≡ c → case_at t e ≡ Some case.Validated → w.aim ≡ o → ComesFrom (passed_on x o)
   passes x response w None at row mine found is = plain place.Line tt
@@ -82,8 +81,7 @@ module _ (t : Tables) (e : Entry) (c : ℕ) (k : Consumer) where
   heard_request (event.Head x response) = by_row (t.exchange x)
     where
       by_if : (b : Bool) (w : Exchange) → (if b then rows.with_head t e x response w k else k).request ≡ k.request
-      by_if true w = refl
-      by_if false w = refl
+      by_if b w = grind (arith, nat_tests)
 
       by_row : (o : Option Exchange) → (by_head t e c x response o k).request ≡ k.request
       by_row None = refl
@@ -91,8 +89,7 @@ module _ (t : Tables) (e : Entry) (c : ℕ) (k : Consumer) where
   heard_request (event.Fault x) = by_row (t.exchange x)
     where
       by_if : (b : Bool) (p : Place) → (if b then record k { place = p } else k).request ≡ k.request
-      by_if true p = refl
-      by_if false p = refl
+      by_if b p = grind (arith, nat_tests)
 
       by_row : (o : Option Exchange) → (by_fault c x o k).request ≡ k.request
       by_row None = refl
@@ -100,8 +97,7 @@ module _ (t : Tables) (e : Entry) (c : ℕ) (k : Consumer) where
   heard_request (event.Cancel d) = by_if (d == c)
     where
       by_if : (b : Bool) → (if b then record k { place = place.Over } else k).request ≡ k.request
-      by_if true = refl
-      by_if false = refl
+      by_if b = grind (arith, nat_tests)
   heard_request _ = refl
 
   module _ (q : Consumer) (from : ComesFrom q.place) (same : q.request ≡ k.request) where
@@ -118,8 +114,7 @@ module _ (t : Tables) (e : Entry) (c : ℕ) (k : Consumer) where
 
     hole_from : (o : Opening) (r : ℕ) (wants : Wanted) → opening_in e.acts ≡ Some o → o.c ≡ c → route_of o.need ≡ route.Hole → ComesFrom (bound_to_wanted r (by.FirstHole o.x) place.Line wants)
     hole_from o r (wanted.Interval span) is mine way = first_of o r span.lo (Some span.hi) is mine way
-    hole_from o r wanted.TotalUnknown is mine way = plain place.Line tt
-    hole_from o r wanted.Unsatisfiable is mine way = plain place.Line tt
+    hole_from o r _ is mine way = plain place.Line tt
 
     holes_from : (o : Opening) (r : Option ℕ) (v : Option Representation) → opening_in e.acts ≡ Some o → o.c ≡ c → route_of o.need ≡ route.Hole → ComesFrom (place_for_hole o.x q.request r v)
     holes_from o None v is mine way = plain place.Line tt
@@ -132,8 +127,7 @@ module _ (t : Tables) (e : Entry) (c : ℕ) (k : Consumer) where
     opened_from o route.Hole is mine way = holes_from o (current t q.request.key) (row_of t (current t q.request.key)) is mine way
 
     unless_from : (o : Option ℕ) (new : Place) → ComesFrom new → ComesFrom (unless_bound o q.place new)
-    unless_from None new p = p
-    unless_from (Some r) new p = from
+    unless_from o new p = grind (arith, nat_tests)
 
     opening_from : (o : Option Opening) → opening_in e.acts ≡ o → ComesFrom (by_opening t c o q).place
     opening_from None is = from

@@ -1,9 +1,8 @@
 -- What a plan comes to, and why: who fetches has the turn, and who waits for a body may read what is current.
-use Rattle.std.{proofs.Common.{◌≡◌, ℕ, Bool, true, false, Option, Some, None, refl, ap, sym, ◌∙◌}, specs.Prelude.{◌&&◌, ◌||◌, ◌==◌, not, is_none, if◌then◌else◌}}
+use Rattle.std.{proofs.{lemmas.Bool.Decides.{nat_tests}, Common.{arith, ◌≡◌, ℕ, Bool, true, false, Option, Some, None, refl, ap, sym, ◌∙◌}}, specs.Prelude.{◌&&◌, ◌||◌, ◌==◌, not, is_none, if◌then◌else◌}}
 use Rattle.hc_text.proofs.Basics.{and_left, and_right as and_then, eq_tells as eq_is, not_true as not_same}
 use Rattle.hc_effects.proofs.Vocabulary.{Need, Why, Candidate, Plan, PlanView, Wanted, route_of, plan_of, bare_plan, queues, is_back, by_current, by_why, why_by, by_wanted, by_exclusive, by_hole, by_bound, in_time, from_store}
 use Rattle.hc_event.specs.declared.act.Need.TheVariants as need
-use Rattle.hc_event.specs.declared.act.Why.TheVariants as whys
 use Rattle.hc_range.specs.declared.range.Span.{Span}
 use Rattle.hc_rules.specs.declared.need.Route.TheVariants as route
 use Rattle.hc_rules.specs.declared.plan.Plan.TheVariants as plan
@@ -39,20 +38,11 @@ never_none o a p q = absurd (let no_one : Some a ≡ None = sym p ∙ q in cc)
 
 -- who isn't let through has the turn
 turn_by : (through same only : Bool) → through ≡ true → only ≡ false → (through && not same && not only) ≡ false → same ≡ true
-turn_by true true only a b h = refl
-turn_by true false false a b h = absurd (let no_one : true ≡ false = h in cc)
-turn_by true false true a b h = absurd (let no_one : true ≡ false = b in cc)
-turn_by false same only a b h = absurd (let no_one : false ≡ true = a in cc)
-
-back_by : (passed back : Bool) → back ≡ true → (not passed || back) ≡ true
-back_by true back is = is
-back_by false back is = refl
+turn_by through same only a b h = grind (arith, nat_tests)
 
 -- who was let through and goes back in line kept no 304
 kept_none : (passed : Bool) (kept : Option ℕ) (none : Bool) → passed ≡ true → (not passed || (is_none kept && none)) ≡ true → kept ≡ None
-kept_none passed None none is h = refl
-kept_none false (Some x) none is h = absurd (let no_one : false ≡ true = is in cc)
-kept_none true (Some x) none is h = absurd (let no_one : false ≡ true = h in cc)
+kept_none passed kept none is h = grind (arith, nat_tests)
 
 -- v is let through with what it has passed for
 module _ (v : PlanView) (through : v.passed ≡ true → (v.class.bypassing ≡ false) × IsVaried v) where
@@ -83,15 +73,8 @@ module _ (v : PlanView) (through : v.passed ≡ true → (v.class.bypassing ≡ 
       by_wanted_is why wanted.Unsatisfiable at = past need.Unsatisfied refl queueing.asks
       by_wanted_is why (wanted.Interval span) at = mix (Planned v) s.writing _ _ (busy _ _ queueing plain varied) (by_exclusive_is why span s.exclusive at)
 
-      no_why : (kept : Option ℕ) (allowed : Option Why) → why_by kept allowed ≡ None → (kept ≡ None) × (allowed ≡ None)
-      no_why None allowed h = (refl, h)
-      no_why (Some x) allowed h = absurd (let no_one : Some (whys.Validated x) ≡ None = h in cc)
-
       validates : why_by v.kept s.allowed ≡ None → v.turn ≡ v.c
-      validates none =
-          let both = no_why v.kept s.allowed none in
-          let back : is_back v ≡ true = rw (both.0, current, both.1) refl in
-          eq_is v.turn v.c (turn_by (not v.passed || is_back v) (v.turn == v.c) v.class.only (back_by v.passed (is_back v) back) queueing.asks goes)
+      validates none = grind (arith, nat_tests)
 
       by_why_is : (o : Option Why) → why_by v.kept s.allowed ≡ o → Planned v (by_why v s o)
       by_why_is None none = fetches need.Validate refl queueing (validates none) (λ is. (plain, varied)) (λ is. absurd (let no_one : need.Validate ≡ need.Bypass = is in cc))
@@ -128,20 +111,11 @@ module _ (v : PlanView) (through : v.passed ≡ true → (v.class.bypassing ≡ 
   in_time_is : (p : Plan) → v.class.only ≡ false → Planned v p → Planned v (in_time v p)
   in_time_is (plan.Turn d) asks is = mix (Planned v) _ _ _ (past need.TimedOut refl asks) is
   in_time_is (plan.Busy d kept) asks is = mix (Planned v) _ _ _ (past need.TimedOut refl asks) is
-  in_time_is plan.Miss asks is = is
-  in_time_is (plan.Direct n) asks is = is
-  in_time_is (plan.Fetch n) asks is = is
-  in_time_is (plan.Bind why span) asks is = is
-  in_time_is (plan.FirstHole span hole) asks is = is
+  in_time_is _ asks is = is
 
   stored_is : (p : Plan) → Planned v (from_store p)
   stored_is (plan.Bind why span) = binds why span
-  stored_is (plan.Turn d) = misses
-  stored_is (plan.Busy d kept) = misses
-  stored_is plan.Miss = misses
-  stored_is (plan.Direct n) = misses
-  stored_is (plan.Fetch n) = misses
-  stored_is (plan.FirstHole span hole) = misses
+  stored_is _ = misses
 
   by_only : (b : Bool) → v.class.only ≡ b → Planned v (if b then from_store (bare_plan v) else in_time v (bare_plan v))
   by_only true is = stored_is (bare_plan v)

@@ -1,10 +1,9 @@
 -- What is closed had to be.
 use Rattle.std.{proofs.{Common.{◌≡◌, ◌⊎◌, inl, inr, ℕ, List, [], ◌∷◌, ◌++◌, Bool, true, Option, Some, None, ap, sym, ◌∙◌, arith}, lemmas.Bool.Decides.{nat_tests}}, specs.Prelude.{map, filter, reverse, nat_eq}}
 use Rattle.hc_text.proofs.Basics.{and_left, and_right, bool_cases, or_cases}
-use Rattle.hc_effects.proofs.Vocabulary.{closes_in, Event, Act, Limits, accepted_acts, poll_acts, loss_acts, closing, closes_row, must_close, exchange_heard, Flaw, NoFlaw, Loses, Misreads, Move, Nothing, Asks, Opens, Shows, Gives, Ends, Fails, acts_of, poll_move, Tables, Exchange, Sound, Among, evicted}
+use Rattle.hc_effects.proofs.Vocabulary.{closes_in, Event, Act, Limits, accepted_acts, poll_acts, loss_acts, closing, closes_row, must_close, exchange_heard, Flaw, NoFlaw, Misreads, Move, acts_of, poll_move, Tables, Exchange, Sound, Among, evicted}
 use Rattle.hc_event.specs.declared.event.Event.TheVariants as event
 use Rattle.hc_event.specs.declared.act.Act.TheVariants as act
-use Rattle.hc_model.specs.Moves as moves
 use Rattle.hc_effects.proofs.{Basics.{false_true}, Closed.{before}}
 
 among_test : (x : ℕ) (test : ℕ → Bool) (xs : List ℕ) → Among x (filter test xs) → test x ≡ true
@@ -23,8 +22,7 @@ among_test x test (z ∷ xs) there = elim (bool_cases (test z)) [
 
 lost_closes : (x : ℕ) (flaw : Flaw) → closes_in x (loss_acts flaw) ≡ true → ⊥
 lost_closes x NoFlaw h = false_true h
-lost_closes x (Loses r kind) h = false_true h
-lost_closes x (Misreads r) h = false_true h
+lost_closes x _ h = false_true h
 
 in_closes : (x : ℕ) (xs : List ℕ) (rest : List Act) → closes_in x (map act.Close xs ++ rest) ≡ true → (closes_in x rest ≡ true → ⊥) → Among x xs
 in_closes x [] rest h off = absurd (off h)
@@ -45,38 +43,23 @@ in_evicted x [] rest h = h
 in_evicted x (r ∷ rs) rest h = in_evicted x rs rest h
 
 in_lost : (x : ℕ) (flaw : Flaw) (rest : List Act) → closes_in x (loss_acts flaw ++ rest) ≡ true → closes_in x rest ≡ true
-in_lost x NoFlaw rest h = h
-in_lost x (Loses r kind) rest h = h
-in_lost x (Misreads r) rest h = h
+in_lost x flaw rest h = grind (arith, nat_tests)
 
 in_move : (x c : ℕ) (m : Move) (rest : List Act) → closes_in x (acts_of c m ++ rest) ≡ true → closes_in x rest ≡ true
-in_move x c Nothing rest h = h
-in_move x c (moves.Waits wait) rest h = h
-in_move x c (Asks y) rest h = h
-in_move x c (Opens y need request) rest h = h
-in_move x c (Shows r why head lo hi) rest h = h
-in_move x c (Gives run) rest h = h
-in_move x c Ends rest h = h
-in_move x c (Fails cause) rest h = h
+in_move x c m rest h = grind (arith, nat_tests)
 
 in_poll : (t : Tables) (now want c x : ℕ) (flaw : Flaw) (rest : List Act) → closes_in x (poll_acts t now want c flaw ++ rest) ≡ true → closes_in x rest ≡ true
-in_poll t now want c x NoFlaw rest h = in_move x c (poll_move t now want c (t.consumer c)) rest h
-in_poll t now want c x (Loses r kind) rest h = in_move x c (poll_move t now want c (t.consumer c)) rest h
 in_poll t now want c x (Misreads r) rest h = h
+in_poll t now want c x _ rest h = in_move x c (poll_move t now want c (t.consumer c)) rest h
 
 module _ (limits : Limits) (t : Tables) (now : ℕ) (flaw : Flaw) (s : Sound t) where
   told : (ev : Event) (x : ℕ) → closes_in x (map act.Evicted (evicted limits t now ev) ++ (loss_acts flaw ++ map act.Close (closing t (record { now = now; event = ev; acts = loss_acts flaw })))) ≡ true → Among x (closing t (record { now = now; event = ev; acts = loss_acts flaw }))
   told ev x h = in_all x (closing t (record { now = now; event = ev; acts = loss_acts flaw })) (in_lost x flaw _ (in_evicted x (evicted limits t now ev) _ h))
 
   closed_by : (ev : Event) (x : ℕ) → closes_in x (accepted_acts limits t now ev flaw) ≡ true → Among x (closing t (before limits t now flaw s ev))
-  closed_by (event.Start c request) x h = told (event.Start c request) x h
   closed_by (event.Poll c want) x h = in_closes x (closing t (before limits t now flaw s (event.Poll c want))) (loss_acts flaw) (in_poll t now want c x flaw _ h) (lost_closes x flaw)
-  closed_by (event.Head y response) x h = told (event.Head y response) x h
-  closed_by (event.Piece y bytes) x h = told (event.Piece y bytes) x h
-  closed_by (event.End y) x h = told (event.End y) x h
-  closed_by (event.Fault y) x h = told (event.Fault y) x h
   closed_by (event.Cancel c) x h = in_closes x (closing t (before limits t now flaw s (event.Cancel c))) (loss_acts flaw) h (lost_closes x flaw)
-  closed_by (event.Doom key) x h = told (event.Doom key) x h
+  closed_by ev x h = told ev x h
 
   -- what is closed had to be
   pub had_to : (ev : Event) (x : ℕ) (w : Exchange) → t.exchange x ≡ Some w → closes_in x (accepted_acts limits t now ev flaw) ≡ true → must_close t (before limits t now flaw s ev) x w ≡ true

@@ -1,7 +1,7 @@
 -- What the head of an unsafe request does that may have changed something: what is current for its key is doomed.
-use Rattle.std.{proofs.Common.{◌≡◌, inl, inr, ℕ, List, [], ◌++◌, Bool, true, false, Option, Some, None, refl, ap, sym, ◌∙◌, subst}, specs.Prelude.{bytes_eq, ◌&&◌, ◌||◌, not, nat_eq, if◌then◌else◌, is_none, option_map, map, filter, reverse}}
-use mathlib.Core.Path.{fun_ext}
+use Rattle.std.{proofs.{lemmas.Bool.Decides.{nat_tests}, Common.{arith, ◌≡◌, inl, inr, ℕ, List, [], ◌++◌, Bool, true, false, Option, Some, None, refl, ap, sym, ◌∙◌, subst}}, specs.Prelude.{bytes_eq, ◌&&◌, ◌||◌, not, nat_eq, if◌then◌else◌, is_none, option_map, map, filter, reverse}}
 use Rattle.hc_text.proofs.Basics.{eqb-same, not_some as none_some, some_inj, and_off as then_false}
+use mathlib.Core.Path.{fun_ext}
 use Rattle.hc_event.specs.declared.act.Act.TheVariants as act
 use Rattle.hc_event.specs.declared.act.Cause.TheVariants as cause
 use Rattle.hc_effects.proofs.Vocabulary.{Event, Response, HeadCase, HeadView, Limits, head_case, route_of, Place, accepted_acts, case_at, head_view, is_founding, is_updating, is_joining, closing, closes_row, is_refused, awaits, has_no_survivor, consumer_after, back_in_line, current, is_number, is_current, denial, doomed_key_of, doomed_by_case, changes, is_key, Does, with_event, let_some_go, all_closed, with_consumer, with_answer, sent_back, woken, is_awaited, awaited_and, Entry, promise_in, is_reached, family, cause_by_case, NoFlaw, becomes_gone, goes_by_case, Lawful, IsAwaiting, is_written, Tables, Exchange, Representation, Consumer, sends_back, waits_at, after_accepted, with_item_first}
@@ -14,17 +14,10 @@ use Rattle.hc_effects.proofs.{ConsumerEffects.{waits_as, some_all}, DoomFrames.{
 use Rattle.hc_effects.proofs.FoundBy as cases
 
 two_off : (a : Bool) → (a || false || false) ≡ a
-two_off true = refl
-two_off false = refl
+two_off a = grind (arith, nat_tests)
 
 and_open : (d o h f : Bool) → (((d && (o && h)) && f) && o) ≡ ((d && (o && h)) && f)
-and_open true true h f = with_true (h && f)
-  where
-    with_true : (b : Bool) → (b && true) ≡ b
-    with_true true = refl
-    with_true false = refl
-and_open true false h f = refl
-and_open false o h f = refl
+and_open d o h f = grind (arith, nat_tests)
 
 module _ (limits : Limits) (t : Tables) (law : Lawful t) (now x : ℕ) (response : Response) (goes : denial t (event.Head x response) ≡ None) (w : Exchange) (row : t.exchange x ≡ Some w) (k : Consumer) (asker : t.consumer w.c ≡ Some k) (unsafe : changes w response ≡ true) where
   abbrev ev : Event
@@ -84,11 +77,7 @@ module _ (limits : Limits) (t : Tables) (law : Lawful t) (now x : ℕ) (response
         unawaited = rw (asker, past) refl
 
         here_by : (a c d : Bool) → (((a && true) || (d && false) || false || false) && (c && true)) ≡ ((a && c) || (d && false))
-        here_by true true d = refl
-        here_by true false true = refl
-        here_by true false false = refl
-        here_by false c true = refl
-        here_by false c false = refl
+        here_by a c d = grind (arith, nat_tests)
 
         at_x : closes_row t b x (t.exchange x) ≡ (is_number also x || is_awaited t key x (t.exchange x))
         at_x = rw (row, is_b, eqb-same x, doomed_b, unawaited, no_member x (family x w), (new limits t law now x response goes w row).is_open, refuses_here (is_refused (Some g) && not (is_reached (promise_in w response) 0)) refuses)

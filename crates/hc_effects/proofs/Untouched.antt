@@ -1,7 +1,7 @@
 -- Whoever and whatever an entry does not speak of stays as it was, but for what becomes gone, and who waits for that.
-use Rattle.std.{proofs.Common.{◌≡◌, ℕ, ◌+◌, List, length, Bool, true, false, Option, Some, None, refl, ap, sym, ◌∙◌}, specs.{Prelude.{◌&&◌, ◌||◌, not, nat_eq, if◌then◌else◌}, Option.{option_or, option_and_then}}}
-use Rattle.hc_text.proofs.Basics.{not_some as none_some, or_none as or_nothing, plus_none, some_inj, and_off as then_false}
-use Rattle.hc_effects.proofs.Vocabulary.{Opening, opening_in, asks_in, closes_in, leaves_in, shows_in, given_in, Act, Event, Response, Place, BoundBy, loses_in, fails_in, Showing, showing_in, case_at, case_of, is_founding, consumer_after, consumer_settled, consumer_acted, consumer_heard, consumer_made, by_head, by_fault, by_opening, waiting, waiting_place, shown_place, own_after, left_to, due_after, back_in_line, doomed_key_of, is_key, as_gone, Entry, exchange_after, exchange_heard, exchange_acted, exchange_made, family, exchange_in, exchange_at, is_for, becomes_due, cause_of_stop, cause_of_loss, cause_by_loss, cause_of_head, becomes_gone, goes_in, reads, is_written, representation_after, representation_heard, representation_acted, founded_at, updates, Tables, Exchange, Representation, Consumer, starts_over, sends_back, waits_at, loses_what_it_waits_for, binds, loses_writing, brings_body}
+use Rattle.std.{proofs.{lemmas.Bool.Decides.{nat_tests}, Common.{arith, ◌≡◌, ℕ, ◌+◌, List, length, Bool, true, false, Option, Some, None, refl, ap, ◌∙◌}}, specs.{Prelude.{◌&&◌, ◌||◌, not, nat_eq, if◌then◌else◌}}}
+use Rattle.hc_text.proofs.Basics.{plus_none}
+use Rattle.hc_effects.proofs.Vocabulary.{Opening, opening_in, asks_in, closes_in, leaves_in, shows_in, given_in, Act, Event, Place, BoundBy, loses_in, fails_in, Showing, showing_in, case_at, case_of, is_founding, consumer_after, consumer_settled, consumer_acted, consumer_heard, consumer_made, by_opening, waiting, waiting_place, shown_place, own_after, due_after, back_in_line, doomed_key_of, is_key, as_gone, Entry, exchange_after, exchange_heard, exchange_acted, family, exchange_in, exchange_at, is_for, becomes_due, cause_of_stop, cause_of_loss, cause_of_head, becomes_gone, goes_in, reads, is_written, representation_after, representation_heard, founded_at, updates, Tables, Exchange, Representation, Consumer, starts_over, sends_back, waits_at, loses_what_it_waits_for, binds, loses_writing, brings_body}
 use Rattle.hc_event.specs.declared.event.Event.TheVariants as event
 use Rattle.hc_event.specs.declared.place.Place.TheVariants as place
 use Rattle.hc_effects.proofs.{ActParts.{IsFarFrom}, Dues.{undue_of, stop_none}, Tests.{and_false}}
@@ -19,11 +19,7 @@ acted_by t e c k q = record q {
 
 -- the event brings nothing of it
 pub unheard : (t : Tables) (e : Entry) (y : ℕ) (w : Exchange) (ev : Event) → ((x : ℕ) → exchange_in ev ≡ Some x → nat_eq x y ≡ false) → exchange_heard t e y ev w ≡ w
-unheard t e y w (event.Head x response) other = rw (other x refl) refl
-unheard t e y w (event.Piece x bytes) other = rw (other x refl) refl
-unheard t e y w (event.End x) other = rw (other x refl) refl
-unheard t e y w (event.Fault x) other = rw (other x refl) refl
-unheard t e y w _ other = refl
+unheard t e y w ev other = grind (arith, nat_tests)
 
 pub exchange_stays : (t : Tables) (e : Entry) (y : ℕ) (w : Exchange) → exchange_heard t e y e.event w ≡ w → asks_in y e.acts ≡ false → closes_in y e.acts ≡ false
     → exchange_after t e y (Some w) ≡ Some w
@@ -32,11 +28,7 @@ exchange_stays t e y w heard asks closes = ap (λ (u : Exchange). Some (exchange
 
 pub exchange_absent : (t : Tables) (e : Entry) (y : ℕ) → ((o : Opening) → opening_in e.acts ≡ Some o → nat_eq o.x y ≡ false) → exchange_after t e y None ≡ None
 unfolding exchange_after
-exchange_absent t e y other = by_opening (opening_in e.acts) refl
-  where
-    by_opening : (o : Option Opening) → opening_in e.acts ≡ o → exchange_made t e y o ≡ None
-    by_opening None is = refl
-    by_opening (Some o) is = rw (other o is) refl
+exchange_absent t e y other = grind (arith, nat_tests)
 
 -- REPRESENTATIONS
 
@@ -50,11 +42,7 @@ pub record IsOutside (t : Tables) (e : Entry) (r : ℕ) (v : Representation) (x 
 pub representation_frame : (t : Tables) (e : Entry) (r : ℕ) (v : Representation) → representation_heard t e r e.event v ≡ v → loses_in r e.acts ≡ false
     → representation_after t e r (Some v) ≡ Some (if becomes_gone t e r v then as_gone v else v)
 unfolding representation_after
-representation_frame t e r v heard lossless = ap (λ (u : Representation). Some (representation_acted t e r v u)) heard ∙ ap Some (rw lossless (by_test (becomes_gone t e r v)))
-  where
-    by_test : (b : Bool) → record v { is_gone = b || v.is_gone } ≡ (if b then as_gone v else v)
-    by_test true = refl
-    by_test false = refl
+representation_frame t e r v heard lossless = grind (arith, nat_tests)
 
 pub representation_stays : (t : Tables) (e : Entry) (r : ℕ) (v : Representation) → representation_heard t e r e.event v ≡ v → loses_in r e.acts ≡ false → becomes_gone t e r v ≡ false
     → representation_after t e r (Some v) ≡ Some v
@@ -75,25 +63,11 @@ spared_bodiless t e p bodiless = λ r lo hi how v at row. and_false (brings_body
 
 -- its own exchange stays its own
 pub own_stays : (t : Tables) (e : Entry) (c : ℕ) (p : Place) (own : Option ℕ) → IsSpared t e p → own_after t e c p own ≡ own
-own_stays t e c (place.Bound r lo hi how) own spared = by_row (t.representation r) refl
-  where
-    by_row : (o : Option Representation) → t.representation r ≡ o → left_to t e c r o own ≡ own
-    by_row None row = refl
-    by_row (Some v) row = rw (spared r lo hi how v refl row) refl
-own_stays t e c place.Line own spared = refl
-own_stays t e c (place.Passed r kept) own spared = refl
-own_stays t e c (place.Turn x) own spared = refl
-own_stays t e c (place.Direct x) own spared = refl
-own_stays t e c (place.Down why) own spared = refl
-own_stays t e c place.Over own spared = refl
+own_stays t e c p own spared = grind (arith, nat_tests)
 
 -- what is due stays due
 pub due_stays : (t : Tables) (e : Entry) (c : ℕ) (k : Consumer) → becomes_due t e c k ≡ None → (reads k.place ≡ false → k.due ≡ None) → due_after t e c k k ≡ k
-due_stays t e c k undue idle = ap (λ o. record k { due = o }) (by_test (reads k.place) refl)
-  where
-    by_test : (b : Bool) → reads k.place ≡ b → (if b then option_or k.due (becomes_due t e c k) else None) ≡ k.due
-    by_test true is = ap (option_or k.due) undue ∙ or_nothing k.due
-    by_test false is = sym (idle is)
+due_stays t e c k undue idle = grind (arith, nat_tests)
 
 -- it waits for what becomes gone
 abbrev pub goes_from : Tables → Entry → Place → Bool
@@ -116,12 +90,7 @@ starts_as t e c k fails sends = three (is_key (doomed_key_of t e) k.request.key 
 
     by_place : (p : Place) → loses_what_it_waits_for t e c p ≡ goes_from t e p
     by_place (place.Passed r kept) = rw fails (and_yes (goes_in t e r (t.representation r)))
-    by_place place.Line = refl
-    by_place (place.Turn x) = refl
-    by_place (place.Bound r lo hi how) = refl
-    by_place (place.Direct x) = refl
-    by_place (place.Down why) = refl
-    by_place place.Over = refl
+    by_place _ = refl
 
 -- the event isn't about it: it hears nothing, no head sends it back, and nothing becomes due for it by a stop or a head
 pub record IsApart (t : Tables) (e : Entry) (c : ℕ) (k : Consumer) : Type 0 where
@@ -132,38 +101,9 @@ pub record IsApart (t : Tables) (e : Entry) (c : ℕ) (k : Consumer) : Type 0 wh
 
 -- an event of an exchange that was opened for another
 module _ (t : Tables) (e : Entry) (c : ℕ) (k : Consumer) (x : ℕ) (w : Exchange) (row : t.exchange x ≡ Some w) (other : nat_eq w.c c ≡ false) where
-  row_is : (y : ℕ) → Some y ≡ Some x → t.exchange y ≡ Some w
-  row_is y is = ap t.exchange (some_inj y x is) ∙ row
-
-  head_apart : (y : ℕ) (response : Response) (o : Option Exchange) → o ≡ Some w → by_head t e c y response o k ≡ k
-  head_apart y response None is = refl
-  head_apart y response (Some u) is = let apart : nat_eq u.c c ≡ false = ap (λ (z : Exchange). nat_eq z.c c) (some_inj u w is) ∙ other in rw apart refl
-
-  fault_apart : (y : ℕ) (o : Option Exchange) → o ≡ Some w → by_fault c y o k ≡ k
-  fault_apart y None is = refl
-  fault_apart y (Some u) is = let apart : nat_eq u.c c ≡ false = ap (λ (z : Exchange). nat_eq z.c c) (some_inj u w is) ∙ other in rw apart refl
-
-  heard_apart : (ev : Event) → exchange_in ev ≡ Some x → consumer_heard t e c ev k ≡ k
-  heard_apart (event.Head y response) is = head_apart y response (t.exchange y) (row_is y is)
-  heard_apart (event.Fault y) is = fault_apart y (t.exchange y) (row_is y is)
-  heard_apart (event.Cancel d) is = absurd (none_some x is)
-  heard_apart _ is = refl
-
-  not_for : (o : Option Exchange) → o ≡ Some w → is_for o c ≡ false
-  not_for o is = ap (λ z. is_for z c) is ∙ other
-
-  heads_apart : (ev : Event) → exchange_in ev ≡ Some x → cause_of_head t e c ev ≡ None
-  heads_apart (event.Head y response) is = let off = not_for (t.exchange y) (row_is y is) in rw off refl
-  heads_apart _ is = refl
-
   -- where nothing is due by its stop
   pub apart_from : exchange_in e.event ≡ Some x → cause_of_stop t e k ≡ None → IsApart t e c k
-  apart_from is unstopped = record {
-    heard = heard_apart e.event is;
-    stops = unstopped;
-    heads = heads_apart e.event is;
-    sends = then_false (sends_back (case_at t e)) _ (not_for (exchange_at t e.event) (ap (option_and_then t.exchange) is ∙ row));
-  }
+  apart_from is unstopped = grind (arith, nat_tests)
 
 -- a piece and a doom say nothing of any consumer, and an end but that what it reads stops
 pub apart_piece : (t : Tables) (now x : ℕ) (bytes : List ℕ) (acts : List Act) (c : ℕ) (k : Consumer) → IsApart t (record { now = now; event = event.Piece x bytes; acts = acts }) c k
@@ -172,17 +112,7 @@ apart_piece t now x bytes acts c k = record { heard = refl; stops = stop_none t 
 
 -- no failure becomes due by the loss of a writing that it doesn't read
 pub loss_spared : (t : Tables) (e : Entry) (c : ℕ) (p : Place) → IsSpared t e p → cause_of_loss t e c p ≡ None
-loss_spared t e c (place.Bound r lo hi how) spared = by_row (t.representation r) refl
-  where
-    by_row : (o : Option Representation) → t.representation r ≡ o → cause_by_loss t e c r o ≡ None
-    by_row None row = refl
-    by_row (Some v) row = rw (spared r lo hi how v refl row) refl
-loss_spared t e c place.Line spared = refl
-loss_spared t e c (place.Passed r kept) spared = refl
-loss_spared t e c (place.Turn x) spared = refl
-loss_spared t e c (place.Direct x) spared = refl
-loss_spared t e c (place.Down why) spared = refl
-loss_spared t e c place.Over spared = refl
+loss_spared t e c p spared = grind (arith, nat_tests)
 
 pub undue_apart : (t : Tables) (e : Entry) (c : ℕ) (k : Consumer) → IsApart t e c k → IsSpared t e k.place → becomes_due t e c k ≡ None
 undue_apart t e c k apart spared = undue_of t e c k (record { stop = apart.stops; loss = loss_spared t e c k.place spared; head = apart.heads })

@@ -1,5 +1,5 @@
 -- What heads do that update what is stored: a 304 that validates it, and a 206 that joins it. And where that is lost.
-use Rattle.std.{proofs.Common.{◌≡◌, inl, inr, ℕ, List, [], ◌∷◌, Bool, true, false, Option, Some, None, refl, ap, sym, ◌∙◌, subst}, specs.Prelude.{◌&&◌, ◌||◌, ◌==◌, not, nat_eq, if◌then◌else◌, option_map}}
+use Rattle.std.{proofs.{lemmas.Bool.Decides.{nat_tests}, Common.{arith, ◌≡◌, inl, inr, ℕ, List, [], ◌∷◌, Bool, true, false, Option, Some, None, refl, ap, sym, ◌∙◌, subst}}, specs.Prelude.{◌&&◌, ◌||◌, ◌==◌, not, nat_eq, if◌then◌else◌, option_map}}
 use Rattle.hc_text.proofs.Basics.{and_left, and_true, eqb-same, never_true as not_so, same_some as same_row, some_inj, and_off as then_false}
 use Rattle.hc_event.specs.declared.act.Act.TheVariants as act
 use Rattle.hc_effects.proofs.Vocabulary.{LostKind, Event, Response, HeadCase, HeadView, Limits, head_case, route_of, loses_in, has_loss, loss_acts, case_at, head_view, is_founding, is_updating, is_joining, is_refused, becomes_shared, back_in_line, consumer_after, current, is_number, denial, doomed_by_case, Does, with_event, let_go, with_consumer, with_representation, with_answer, with_refreshed_head, lost_to, as_gone, promise_in, is_reached, cause_by_case, Flaw, NoFlaw, Loses, goes_by_case, Lawful, IsAwaiting, is_written, representation_after, updates, resumes, Tables, Exchange, Representation, Consumer, sends_back, with_item_first, evicted, exclusive, goes_on_with, BoundBy, IsFirst, IsExclusiveWriter}
@@ -25,11 +25,7 @@ module _ (limits : Limits) (t : Tables) (law : Lawful t) (now x : ℕ) (response
 
   -- another one isn't updated
   other_row : (flaw : Flaw) (xs : List ℕ) (q : ℕ) (u : Representation) → nat_eq r q ≡ false → updates t (e t now x response [] flaw xs) q w u ≡ false
-  other_row flaw xs q u other = rw (aim, other) (drop (is_updating (case_at t (e t now x response [] flaw xs))) (not (u.is_lost || loses_in q (e t now x response [] flaw xs).acts)))
-    where
-      drop : (a b : Bool) → (a && false && b) ≡ false
-      drop true b = refl
-      drop false b = refl
+  other_row flaw xs q u other = grind (arith, nat_tests)
 
   -- UPDATED
 
@@ -136,23 +132,14 @@ module _ (limits : Limits) (t : Tables) (law : Lawful t) (now x : ℕ) (response
     flaw = Loses r kind
 
     spares_it : (q : ℕ) (u : Representation) → t.representation q ≡ Some u → (loses_in q (loss_acts flaw) && is_written t u) ≡ false
-    spares_it q u here = elim (eq_cases r q) [
-      | inl same ↦ then_false (loses_in q (loss_acts flaw)) (is_written t u) (ap (is_written t) (same_row (t.representation q) u v here (sym (ap t.representation same.1) ∙ there)) ∙ alone)
-      | inr other ↦ rw other.0 refl
-    ]
+    spares_it q u here = grind (arith, nat_tests)
 
     module _ (g : HeadCase) (is : head_case (head_view t true w response) ≡ g) (doomless : doomed_by_case (Some g) w response ≡ None) (unfounding : is_founding (Some g) ≡ false) (unrefused : is_refused (Some g) ≡ false) (makes_none : evicted limits t now ev ≡ []) (about : (q : ℕ) → goes_by_case t (e t now x response [] flaw []) q (Some g) w ≡ true → nat_eq r q ≡ true) where
       shuts_none : with_item_first (if is_refused (Some g) && not (is_reached (promise_in w response) 0) then Some x else None) [] ≡ []
       shuts_none = rw unrefused refl
 
       tests_one : (q : ℕ) (u : Representation) → t.representation q ≡ Some u → (goes_by_case t (e t now x response [] flaw []) q (Some g) w || loses_in q (loss_acts flaw) || false) ≡ is_in (r ∷ []) q
-      tests_one q u here = by_tests (goes_by_case t (e t now x response [] flaw []) q (Some g) w) (nat_eq r q) (about q)
-        where
-          by_tests : (a b : Bool) → (a ≡ true → b ≡ true) → (a || (b || false) || false) ≡ (b || false)
-          by_tests true true so = refl
-          by_tests true false so = absurd (false_true (so refl))
-          by_tests false true so = refl
-          by_tests false false so = refl
+      tests_one q u here = grind (arith, nat_tests)
 
       -- it is lost and let go, and who writes it alone goes on with it
       loses : (joined : Option ℕ) (q : Consumer) → (if is_joining (Some g) then w.aim else w.joined) ≡ joined → consumer_after t (e t now x response [] flaw []) w.c (t.consumer w.c) ≡ Some q → waits_for_any (r ∷ []) q.place ≡ false
@@ -230,8 +217,7 @@ module _ (limits : Limits) (t : Tables) (law : Lawful t) (now x : ℕ) (response
       (by_joins g how is (heard_as g how (Loses r kind) false (then_true v.is_lost) ∙ ap (λ (b : Bool). record k { own = if b then None else k.own }) (then_false (resumes t response w v) false refl)))
     where
       then_true : (b : Bool) → not (b || true) ≡ false
-      then_true true = refl
-      then_true false = refl
+      then_true b = grind (arith, nat_tests)
 
       unwaiting : waits_for_any (r ∷ []) k.place ≡ false
       unwaiting = rw (reader g how true is).stands refl

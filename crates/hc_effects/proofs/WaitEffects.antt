@@ -23,11 +23,7 @@ unread_undue t law c k row free none = by_place k.place refl
     by_place : (p : Place) → k.place ≡ p → k.due ≡ None
     by_place (place.Direct x) at = let p = law.places.direct c x k row at in by_head x p.w p.w.head p.row refl at (λ bare. (p.unheard bare).undue)
     by_place (place.Bound r lo hi how) at = absurd (some_none r (sym (ap bound_to at) ∙ free))
-    by_place place.Line at = law.owned.idle_due c k row (ap reads at)
-    by_place (place.Passed r kept) at = law.owned.idle_due c k row (ap reads at)
-    by_place (place.Turn x) at = law.owned.idle_due c k row (ap reads at)
-    by_place (place.Down why) at = law.owned.idle_due c k row (ap reads at)
-    by_place place.Over at = law.owned.idle_due c k row (ap reads at)
+    by_place _ at = law.owned.idle_due c k row (ap reads at)
 
 module _ (limits : Limits) (t : Tables) (law : Lawful t) (now c want : ℕ) (k : Consumer) (row : t.consumer c ≡ Some k) where
   abbrev e : Wait → Entry
@@ -39,8 +35,7 @@ module _ (limits : Limits) (t : Tables) (law : Lawful t) (now c want : ℕ) (k :
   idle : (w : Wait) → move_of t now want c k ≡ moves.Waits w → reads (waiting_place t k (Some w)) ≡ false → k.due ≡ None
   idle (wait.Turn d) is off = undue (wait.Turn d) (waited.turn d) is
   idle (wait.Busy d) is off = undue (wait.Busy d) (waited.busy d) is
-  idle (wait.Head x) is off = law.owned.idle_due c k row off
-  idle (wait.Body x) is off = law.owned.idle_due c k row off
+  idle _ is off = law.owned.idle_due c k row off
 
   acted : (w : Wait) → consumer_acted t (e w) c k ≡ record k { place = waiting_place t k (Some w) }
   acted w = rw (eqb-same c, plus_none k.given, own_stays t (e w) c k.place k.own (spared_bodiless t (e w) k.place refl)) refl

@@ -4,10 +4,9 @@ use Rattle.hc_text.proofs.Basics.{both_true as and_both, and_left, and_right, bo
 use Rattle.hc_effects.proofs.Vocabulary.{Opening, opening_in, leaves_in, closes_in, Event, Response, Limits, Place, BoundBy, case_at, case_of, must_close, is_refused, brings_head, is_doomed, awaits, has_no_survivor, is_left, is_left_by, is_last_reader, leaver, leaver_by, consumer_heard, by_head, by_fault, by_opening, own_after, left_to, waiting, is_number, denial, doomed_key_of, doomed_in, doomed_by_head, doomed_by_case, is_key, Entry, family, exchange_in, is_headless, is_open, Flaw, entry_of, Owners, IsAwaiting, own_open, if_open, is_written, shared_exchange, writing_in, Tables, Exchange, Representation, Consumer, Sound, IsAbout, IsExclusiveWriter, starts_over, waits_at, awaited_exchange, loses_writing, survivor}
 use Rattle.hc_event.specs.declared.event.Event.TheVariants as event
 use Rattle.hc_event.specs.declared.place.Place.TheVariants as place
-use Rattle.hc_event.specs.declared.place.BoundBy.TheVariants as by
 use Rattle.hc_model.specs.Owners as owners
 use Rattle.hc_model.specs.Sound as sound
-use Rattle.hc_effects.proofs.{Basics.{false_true, number_is}, BoundFrom.{place_inj}, Closed.{before}, FirstKeeps.{is_new}, MoveBy.{IsHeard}, OpensFrom.{hole_is}, OwnersKeep.{is_opened}, PieceKeeps.{eq_cases}, ExclusiveWriters.{row_of, writer_some}, SaidActs.{loss_is, leaver_leaves}, Stops.{writer_about}, Unclosed.{had_to}, Once.{never}}
+use Rattle.hc_effects.proofs.{Basics.{false_true, number_is}, BoundFrom.{place_inj}, Closed.{before}, FirstKeeps.{is_new}, MoveBy.{IsHeard}, OpensFrom.{hole_is}, OwnersKeep.{is_opened}, PieceKeeps.{eq_cases}, ExclusiveWriters.{row_of, writer_some}, SaidActs.{loss_is, leaver_leaves}, Stops.{writer_about}, Unclosed.{had_to}, StaysOn.{unopened}}
 use Rattle.hc_rules.specs.Refusals as refusals
 
 -- c waits for the head of its own exchange y
@@ -50,14 +49,8 @@ module _ (limits : Limits) (t : Tables) (now : ℕ) (flaw : Flaw) (s : Sound t) 
   doomed_row response (Some w) = ap (λ z. doomed_by_case z w response) case_same
 
   doomed_by : (v : Event) → doomed_in t e v ≡ doomed_in t b v
-  doomed_by (event.Start c request) = refl
-  doomed_by (event.Poll c want) = refl
   doomed_by (event.Head x response) = doomed_row response (t.exchange x)
-  doomed_by (event.Piece x bytes) = refl
-  doomed_by (event.End x) = refl
-  doomed_by (event.Fault x) = refl
-  doomed_by (event.Cancel c) = refl
-  doomed_by (event.Doom key) = refl
+  doomed_by _ = refl
 
   pub doomed_same : doomed_key_of t e ≡ doomed_key_of t b
   unfolding doomed_key_of
@@ -66,41 +59,21 @@ module _ (limits : Limits) (t : Tables) (now : ℕ) (flaw : Flaw) (s : Sound t) 
   -- an accepted fault is one of an open exchange
   pub fault_open_of : (x : ℕ) (u : Exchange) → denial t (event.Fault x) ≡ None → t.exchange x ≡ Some u → u.is_open ≡ true
   unfolding refusals.refusal_of
-  fault_open_of x u h row = by_test u.is_open refl
-    where
-      by_test : (a : Bool) → u.is_open ≡ a → a ≡ true
-      by_test true on = refl
-      by_test false off = absurd (never _ (rw (row, off) at h))
+  fault_open_of x u h row = grind (arith, nat_tests)
 
   -- WHO LEAVES
 
   module _ (c y : ℕ) (k : Consumer) (row : t.consumer c ≡ Some k) (own : k.own ≡ Some y) where
     pub left_number : (d : ℕ) (q : Consumer) → t.consumer d ≡ Some q → own_open t q ≡ Some y → d ≡ c
-    left_number d q its theirs = o.one d c y q k its row (own_of q.own theirs) own
-      where
-        own_of : (z : Option ℕ) → option_and_then (if_open t) z ≡ Some y → z ≡ Some y
-        own_of None h = absurd (none_some y h)
-        own_of (Some x) h = elim (bool_cases (is_open (t.exchange x))) [
-          | inl on ↦ rw on at h
-          | inr off ↦ absurd (none_some y (rw off at h))
-        ]
+    left_number d q its theirs = grind (arith, nat_tests)
 
     -- it is the exchange of no writing
     not_writer : (r : ℕ) (z : Option Representation) → t.representation r ≡ z → writing_in t z ≡ Some y → ⊥
-    not_writer r None there h = none_some y h
-    not_writer r (Some v) there h = elim (bool_cases (is_written t v)) [
-      | inr off ↦ none_some y (rw off at h)
-      | inl on ↦ o.apart r y c v k there on (rw on at h) row own
-    ]
+    not_writer r z there h = grind (arith, nat_tests)
 
     not_shared : (p : Place) → shared_exchange t p ≡ Some y → ⊥
-    not_shared place.Line h = none_some y h
-    not_shared (place.Passed r kept) h = none_some y h
-    not_shared (place.Turn x) h = none_some y h
     not_shared (place.Bound r lo hi how) h = not_writer r (t.representation r) refl h
-    not_shared (place.Direct x) h = none_some y h
-    not_shared (place.Down cause) h = none_some y h
-    not_shared place.Over h = none_some y h
+    not_shared _ h = none_some y h
 
     left_row : (d : ℕ) (z : Option Consumer) → t.consumer d ≡ z → is_left_by t y d z ≡ true → d ≡ c
     left_row d None its h = absurd (false_true h)
@@ -114,14 +87,8 @@ module _ (limits : Limits) (t : Tables) (now : ℕ) (flaw : Flaw) (s : Sound t) 
     left_is (Some d) h = ap Some (left_row d (t.consumer d) refl h)
 
     leaves_by : (v : Event) → ev ≡ v → leaver_by v b.acts ≡ Some c → (leaves_in c e.acts ≡ true) ⊎ (v ≡ event.Cancel c)
-    leaves_by (event.Start d request) at h = inl (leaver_leaves limits t now flaw s ev c h)
-    leaves_by (event.Poll d want) at h = inl (leaver_leaves limits t now flaw s ev c h)
-    leaves_by (event.Head x response) at h = inl (leaver_leaves limits t now flaw s ev c h)
-    leaves_by (event.Piece x bytes) at h = inl (leaver_leaves limits t now flaw s ev c h)
-    leaves_by (event.End x) at h = inl (leaver_leaves limits t now flaw s ev c h)
-    leaves_by (event.Fault x) at h = inl (leaver_leaves limits t now flaw s ev c h)
     leaves_by (event.Cancel d) at h = inr (let same : d ≡ c = some_inj d c h in ap event.Cancel same)
-    leaves_by (event.Doom key) at h = inl (leaver_leaves limits t now flaw s ev c h)
+    leaves_by _ at h = inl (leaver_leaves limits t now flaw s ev c h)
 
     -- as long as it doesn't leave, its own exchange isn't left
     pub unleft : (ev ≡ event.Cancel c → ⊥) → leaves_in c e.acts ≡ false → is_left t y (leaver b) ≡ true → ⊥
@@ -132,10 +99,7 @@ module _ (limits : Limits) (t : Tables) (now : ℕ) (flaw : Flaw) (s : Sound t) 
 
   module _ (c y : ℕ) (k : Consumer) (w : Exchange) (is : IsWaiter t c y k w) where
     pub headless_is : is_headless (t.exchange y) ≡ true
-    headless_is = ap is_headless is.exchange_row ∙ both w.is_open w.head is.was_open is.bare
-      where
-        both : (a : Bool) (z : Option Response) → a ≡ true → z ≡ None → (a && is_none z) ≡ true
-        both a z on bare = rw (on, bare) refl
+    headless_is = grind (arith, nat_tests)
 
     pub own_open_is : own_open t k ≡ Some y
     own_open_is = ap (option_and_then (if_open t)) is.own ∙ ap (λ (v : Bool). if v then Some y else None) (ap is_open is.exchange_row ∙ is.was_open)
@@ -184,20 +148,11 @@ module _ (limits : Limits) (t : Tables) (now : ℕ) (flaw : Flaw) (s : Sound t) 
     ]
 
     pub own_stays : (p : Place) → k.place ≡ p → own_after t e c p (Some y) ≡ Some y
-    own_stays place.Line at = refl
-    own_stays (place.Passed r kept) at = refl
-    own_stays (place.Turn x) at = refl
     own_stays (place.Bound r lo hi how) at = left_by r lo hi how (t.representation r) at refl
-    own_stays (place.Direct x) at = refl
-    own_stays (place.Down cause) at = refl
-    own_stays place.Over at = refl
+    own_stays _ at = refl
 
     pub opening_stays : (q : Consumer) (z : Option Opening) → opening_in e.acts ≡ z → by_opening t c z q ≡ q
-    opening_stays q None opens = refl
-    opening_stays q (Some p) opens = elim (eq_cases p.c c) [
-      | inl here ↦ absurd (no_opening p opens here.1)
-      | inr other ↦ rw other.0 refl
-    ]
+    opening_stays q z opens = unopened t e c q z (λ p is. no_opening p (opens ∙ is))
 
     -- what the acts leave it
     pub own_acted : own_after t e c k.place (by_opening t c (opening_in e.acts) (waiting t e c k)).own ≡ Some y
@@ -221,8 +176,6 @@ module _ (limits : Limits) (t : Tables) (now : ℕ) (flaw : Flaw) (s : Sound t) 
 
     -- an event of another exchange, by which it doesn't leave, says nothing to it
     pub heard_same : (v : Event) → ev ≡ v → (exchange_in v ≡ Some y → ⊥) → (v ≡ event.Cancel c → ⊥) → consumer_heard t e c v k ≡ k
-    heard_same (event.Start d request) at other stays = refl
-    heard_same (event.Poll d want) at other stays = refl
     heard_same (event.Head x response) at other stays = by_row (t.exchange x) refl
       where
         by_row : (z : Option Exchange) → t.exchange x ≡ z → by_head t e c x response z k ≡ k
@@ -231,8 +184,6 @@ module _ (limits : Limits) (t : Tables) (now : ℕ) (flaw : Flaw) (s : Sound t) 
           | inl here ↦ absurd (other (ap Some (head_is_own x response u at row here.1)))
           | inr off ↦ rw off.0 refl
         ]
-    heard_same (event.Piece x bytes) at other stays = refl
-    heard_same (event.End x) at other stays = refl
     heard_same (event.Fault x) at other stays = by_row (t.exchange x) refl
       where
         by_row : (z : Option Exchange) → t.exchange x ≡ z → by_fault c x z k ≡ k
@@ -245,20 +196,12 @@ module _ (limits : Limits) (t : Tables) (now : ℕ) (flaw : Flaw) (s : Sound t) 
       | inl here ↦ absurd (stays (ap event.Cancel here.1))
       | inr off ↦ rw off.0 refl
     ]
-    heard_same (event.Doom key) at other stays = refl
+    heard_same _ at other stays = refl
 
     -- NOT CLOSED
 
     waits_place : (p : Place) → awaited_exchange p ≡ Some y → waits_at t p ≡ true
-    waits_place place.Line waits = refl
-    waits_place (place.Passed r kept) waits = refl
-    waits_place (place.Turn x) waits = refl
-    waits_place (place.Bound r lo hi by.Founding) waits = absurd (none_some y waits)
-    waits_place (place.Bound r lo hi (by.FirstHole z)) waits = let same : z ≡ y = some_inj z y waits in ap (λ q. is_headless (t.exchange q)) same ∙ headless_is
-    waits_place (place.Bound r lo hi by.Plan) waits = absurd (none_some y waits)
-    waits_place (place.Direct x) waits = absurd (none_some y waits)
-    waits_place (place.Down cause) waits = absurd (none_some y waits)
-    waits_place place.Over waits = absurd (none_some y waits)
+    waits_place p waits = grind (arith, nat_tests)
 
     doomed_over : is_doomed t b y w ≡ true → starts_over t e c k ≡ true
     unfolding starts_over
@@ -278,14 +221,8 @@ module _ (limits : Limits) (t : Tables) (now : ℕ) (flaw : Flaw) (s : Sound t) 
         lost_by (family y w) (t.representation (family y w)) (ap t.representation own ∙ s.numbered.names.unfounded y w is.exchange_row is.bare) h
 
     refused_by : (v : Event) → brings_head y v ≡ true → (exchange_in v ≡ Some y → ⊥) → ⊥
-    refused_by (event.Start d request) h other = false_true h
-    refused_by (event.Poll d want) h other = false_true h
     refused_by (event.Head x response) h other = let test : nat_eq x y ≡ true = h in let same : x ≡ y = grind (arith, nat_tests) in other (ap Some same)
-    refused_by (event.Piece x bytes) h other = false_true h
-    refused_by (event.End x) h other = false_true h
-    refused_by (event.Fault x) h other = false_true h
-    refused_by (event.Cancel d) h other = false_true h
-    refused_by (event.Doom key) h other = false_true h
+    refused_by _ h other = false_true h
 
     -- as long as it neither leaves nor starts over, nor is its head refused, its own exchange isn't closed
     pub unclosed_unless : ((is_refused (case_at t b) && brings_head y ev) ≡ true → ⊥) → (ev ≡ event.Cancel c → ⊥) → leaves_in c e.acts ≡ false → starts_over t e c k ≡ false → closes_in y e.acts ≡ false

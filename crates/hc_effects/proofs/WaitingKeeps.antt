@@ -1,16 +1,14 @@
 -- Whoever waits for the head of its own exchange goes on waiting as long as that is open.
-use Rattle.std.{proofs.{Common.{◌≡◌, inl, inr, ℕ, List, length, Bool, true, false, cond, Option, Some, None, refl, ap, sym, ◌∙◌, subst, arith}, lemmas.Bool.Decides.{nat_tests}}, specs.Prelude.{if◌then◌else◌, is_some, ◌&&◌, ◌==◌, nat_eq}}
-use Rattle.hc_text.proofs.Basics.{both_true as and_both, and_left, and_right, bool_cases, not_some as none_some, never_true as not_so, or_cases, or_left, or_right, same_some as same_row, some_inj}
-use Rattle.hc_effects.proofs.Vocabulary.{Opening, opening_in, leaves_in, closes_in, Event, Response, Wait, Limits, route_of, piece_refusal, Place, BoundBy, Showing, showing_in, wait_in, case_at, case_of, must_close, is_doomed, awaits, is_left, is_left_by, leaver, leaver_by, consumer_heard, consumer_acted, by_opening, shown_place, waiting, waiting_place, due_after, back_in_line, denial, as_open, doomed_key_of, is_key, Entry, exchange_heard, exchange_opened, exchange_in, exchange_at, is_for, is_headless, Flaw, entry_of, Owners, IsAwaiting, Awaits, poll_move, move_of, own_open, reads, Tables, Exchange, Consumer, Sound, starts_over, waits_at, awaited_exchange, sends_back, loses_what_it_waits_for, after_accepted, Opens, may_stand}
+use Rattle.std.{proofs.{Common.{◌≡◌, inl, inr, ℕ, List, Bool, true, false, Option, Some, None, refl, ap, sym, ◌∙◌, subst, arith}, lemmas.Bool.Decides.{nat_tests}}, specs.Prelude.{nat_eq}}
+use Rattle.hc_text.proofs.Basics.{both_true as and_both, bool_cases, not_some as none_some, never_true as not_so, or_left, or_right, same_some as same_row, some_inj}
+use Rattle.hc_effects.proofs.Vocabulary.{Opening, opening_in, leaves_in, closes_in, Event, Response, Wait, Limits, route_of, Place, BoundBy, Showing, showing_in, wait_in, case_of, must_close, is_doomed, awaits, is_left, is_left_by, leaver, leaver_by, consumer_heard, consumer_acted, shown_place, waiting, due_after, denial, doomed_key_of, is_key, Entry, exchange_heard, exchange_opened, exchange_in, exchange_at, is_for, is_headless, Flaw, entry_of, Owners, IsAwaiting, Awaits, poll_move, move_of, own_open, reads, Tables, Exchange, Consumer, Sound, starts_over, waits_at, awaited_exchange, sends_back, after_accepted, Opens, may_stand}
 use Rattle.hc_event.specs.declared.event.Event.TheVariants as event
-use Rattle.hc_event.specs.declared.act.Wait.TheVariants as wait
 use Rattle.hc_rules.specs.Refusals as refusals
 use Rattle.hc_event.specs.declared.place.Place.TheVariants as place
 use Rattle.hc_event.specs.declared.place.BoundBy.TheVariants as by
 use Rattle.hc_model.specs.Owners as owners
-use Rattle.hc_effects.proofs.{Basics.{false_true, number_yes}, Closed.{before, closes}, ExchangeFrom.{ExchangeFrom, IsSame, exchange_from}, Forward.{heard_other, is_kept}, Once.{taken}, PieceKeeps.{eq_cases}, Said.{IsShowing, WaitsAs, showing_by, waiting_by, opening_by}, SaidActs.{leaves_leaver}, ShownFrom.{shown_from}, WaitedAs.{IsForOthers, waited_as}, WaitingNew.{awaits as new_awaits}, OpenedAs.{opened_as, opening_is}, Waiters.{IsWaiter, waiter_of, heard_same, own_acted, own_open_is, not_heard, head_is_own, opening_stays, doomed_same, headless_is}, BoundStays.{headless_parts}}
+use Rattle.hc_effects.proofs.{Basics.{false_true, number_yes}, Closed.{before, closes}, ExchangeFrom.{ExchangeFrom, IsSame, exchange_from}, Forward.{heard_other, is_kept}, PieceKeeps.{eq_cases}, Said.{IsShowing, WaitsAs, showing_by, waiting_by, opening_by}, SaidActs.{leaves_leaver}, ShownFrom.{shown_from}, WaitedAs.{IsForOthers, waited_as}, WaitingNew.{awaits as new_awaits}, OpenedAs.{opened_as, opening_is}, Waiters.{IsWaiter, waiter_of, heard_same, own_acted, own_open_is, not_heard, head_is_own, opening_stays, doomed_same, headless_is}, BoundStays.{headless_parts}, StaysOn.{awaiting_keeps, plain_place, settled, stays_by, waits_where}}
 use Rattle.hc_effects.proofs.ExchangeFrom as exchange
-use Rattle.hc_effects.proofs.WaitedAs as waited
 
 module _ (limits : Limits) (t : Tables) (now : ℕ) (flaw : Flaw) (s : Sound t) (o : Owners t) (ev : Event) (goes : denial t ev ≡ None) where
   abbrev e : Entry
@@ -49,7 +47,6 @@ module _ (limits : Limits) (t : Tables) (now : ℕ) (flaw : Flaw) (s : Sound t) 
     awaited_at p at (owners.hole r lo hi how way aim stands) waits = ap awaited_exchange stands ∙ by_how how (at ∙ stands) (sym (ap (waits_at t) stands) ∙ waits)
       where
         by_how : (g : BoundBy) → k.place ≡ place.Bound r lo hi g → waits_at t (place.Bound r lo hi g) ≡ true → awaited_exchange (place.Bound r lo hi g) ≡ Some y
-        by_how by.Founding at h = absurd (false_true h)
         by_how (by.FirstHole z) at h =
             let all = headless_parts (t.exchange z) h in
             let f = o.first_own c r lo z hi k is.row at in
@@ -57,7 +54,7 @@ module _ (limits : Limits) (t : Tables) (now : ℕ) (flaw : Flaw) (s : Sound t) 
             let a = o.waiting z all.0 all.1 all.2 all.3 in
             let one : a.k ≡ k = same_row (t.consumer c) a.k k (sym (ap t.consumer for_it) ∙ a.row) is.row in
             sym a.own ∙ (ap (λ (q : Consumer). q.own) one ∙ is.own)
-        by_how by.Plan at h = absurd (false_true h)
+        by_how _ at h = absurd (false_true h)
 
     doomed_must : is_key (doomed_key_of t e) k.request.key ≡ true → waits_at t k.place ≡ true → ⊥
     doomed_must key waits =
@@ -81,38 +78,11 @@ module _ (limits : Limits) (t : Tables) (now : ℕ) (flaw : Flaw) (s : Sound t) 
 
     unheaded : (v : Event) (lost : Bool) → ev ≡ v → sends_back (case_of t lost v) ≡ true → is_for (exchange_at t v) c ≡ true → ⊥
     unfolding case_of
-    unheaded (event.Start d request) lost at sends mine = none_sends sends
-    unheaded (event.Poll d want) lost at sends mine = none_sends sends
     unheaded (event.Head x response) lost at sends mine = headed_back x response (t.exchange x) at refl mine
-    unheaded (event.Piece x bytes) lost at sends mine = none_sends sends
-    unheaded (event.End x) lost at sends mine = none_sends sends
-    unheaded (event.Fault x) lost at sends mine = none_sends sends
-    unheaded (event.Cancel d) lost at sends mine = none_sends sends
-    unheaded (event.Doom key) lost at sends mine = none_sends sends
-
-    passed_not : (r : ℕ) (kept : Option ℕ) → k.place ≡ place.Passed r kept → IsAwaiting y w k.place → ⊥
-    passed_not r kept at (owners.direct way stands) = let no : place.Direct y ≡ place.Passed r kept = sym stands ∙ at in cc
-    passed_not r kept at (owners.turn way stands) = let no : place.Turn y ≡ place.Passed r kept = sym stands ∙ at in cc
-    passed_not r kept at (owners.hole q lo hi how way aim stands) = let no : place.Bound q lo hi how ≡ place.Passed r kept = sym stands ∙ at in cc
-
-    unpassed : (p : Place) → k.place ≡ p → loses_what_it_waits_for t e c p ≡ true → ⊥
-    unpassed place.Line at h = false_true h
-    unpassed (place.Passed r kept) at h = passed_not r kept at is.at
-    unpassed (place.Turn x) at h = false_true h
-    unpassed (place.Bound r lo hi how) at h = false_true h
-    unpassed (place.Direct x) at h = false_true h
-    unpassed (place.Down cause) at h = false_true h
-    unpassed place.Over at h = false_true h
+    unheaded _ lost at sends mine = none_sends sends
 
     pub stays_on : starts_over t e c k ≡ false
-    unfolding starts_over
-    stays_on = not_so _ (λ over. elim (or_cases _ (loses_what_it_waits_for t e c k.place) over) [
-      | inr lost ↦ unpassed k.place refl lost
-      | inl more ↦ elim (or_cases (is_key (doomed_key_of t e) k.request.key && waits_at t k.place) (sends_back (case_at t e) && is_for (exchange_at t ev) c) more) [
-        | inl doomed_key_of ↦ doomed_must (and_left _ _ doomed_key_of) (and_right _ _ doomed_key_of)
-        | inr back ↦ unheaded ev _ refl (and_left _ _ back) (and_right _ _ back)
-      ]
-    ])
+    stays_on = stays_by t e c k (awaiting_keeps t e c y w k.place is.at) doomed_must (unheaded ev _ refl)
 
     -- WHAT THE ACTS SAY TO IT
 
@@ -122,13 +92,6 @@ module _ (limits : Limits) (t : Tables) (now : ℕ) (flaw : Flaw) (s : Sound t) 
         let one : by_poll.k ≡ k = same_row (t.consumer c) by_poll.k k by_poll.poll.row is.row in
         let waits : WaitsAs z (move_of t now by_poll.want c k) = subst (λ (q : Consumer). WaitsAs z (move_of t now by_poll.want c q)) one by_poll.move in
         not_heard limits t now flaw s o ev goes c y k w is (waited_as t now c k z others by_poll.want s is.row waits).heard
-
-    waits_on : (z : Option Wait) → wait_in c e.acts ≡ z → waiting_place t k z ≡ k.place
-    waits_on None at = refl
-    waits_on (Some (wait.Turn d)) at = absurd (told_not (wait.Turn d) (waited.turn d) at)
-    waits_on (Some (wait.Busy d)) at = absurd (told_not (wait.Busy d) (waited.busy d) at)
-    waits_on (Some (wait.Head x)) at = refl
-    waits_on (Some (wait.Body x)) at = refl
 
     shown_not : (z : Showing) → showing_in e.acts ≡ Some z → z.c ≡ c → reads k.place ≡ false → ⊥
     shown_not z at here free =
@@ -150,11 +113,6 @@ module _ (limits : Limits) (t : Tables) (now : ℕ) (flaw : Flaw) (s : Sound t) 
 
     -- THE ROW AFTER THE ENTRY
 
-    plain_place : (h : Consumer) (leaves : Bool) (shows : Option Showing) (opens : Option Opening) (waits : Option Wait) → leaves ≡ false → by_opening t c opens (record h { place = waiting_place t h waits }) ≡ record h { place = waiting_place t h waits } → waiting_place t h waits ≡ h.place → shown_place c shows h.place ≡ h.place → (if leaves then place.Over else shown_place c shows (by_opening t c opens (record h { place = waiting_place t h waits })).place) ≡ h.place
-    plain_place h leaves shows opens waits stay unopened still unshown =
-        let placed : (by_opening t c opens (record h { place = waiting_place t h waits })).place ≡ h.place = ap (λ (q : Consumer). q.place) unopened ∙ still in
-        rw stay (ap (shown_place c shows) placed ∙ unshown)
-
     -- it stands where it stood, and keeps its exchange
     pub record Stands : Type 0 where
       pub u : Consumer
@@ -167,36 +125,28 @@ module _ (limits : Limits) (t : Tables) (now : ℕ) (flaw : Flaw) (s : Sound t) 
         let on = is_kept t e c k is.row in
         let same : consumer_heard t e c ev k ≡ k = heard_same limits t now flaw s o ev goes c y k w is ev refl other not_cancelled in
         let q = consumer_acted t e c (consumer_heard t e c ev k) in
-        let made : due_after t e c k q ≡ on.u = sym (settled q (starts_over t e c k) stays_on) ∙ on.is in
-        let placed : (consumer_acted t e c k).place ≡ k.place = plain_place k (leaves_in c e.acts) (showing_in e.acts) (opening_in e.acts) (wait_in c e.acts) stays_in (opening_stays limits t now flaw s o ev goes c y k w is (waiting t e c k) (opening_in e.acts) refl) (waits_on (wait_in c e.acts) refl) (shows_on (showing_in e.acts) refl) in
+        let made : due_after t e c k q ≡ on.u = sym (settled t e c k q stays_on) ∙ on.is in
+        let placed : (consumer_acted t e c k).place ≡ k.place = plain_place t e c k (leaves_in c e.acts) (showing_in e.acts) (opening_in e.acts) (wait_in c e.acts) stays_in (opening_stays limits t now flaw s o ev goes c y k w is (waiting t e c k) (opening_in e.acts) refl) (waits_where t k (wait_in c e.acts) told_not) (shows_on (showing_in e.acts) refl) in
         record {
           u = on.u;
           row = on.row;
           place_is = sym (ap (λ (z : Consumer). z.place) made) ∙ (ap (λ (h : Consumer). (consumer_acted t e c h).place) same ∙ placed);
           own_is = sym (ap (λ (z : Consumer). z.own) made) ∙ (ap (λ (h : Consumer). (consumer_acted t e c h).own) same ∙ own_acted limits t now flaw s o ev goes c y k w is);
         }
-      where
-        settled : (q : Consumer) (over : Bool) → over ≡ false → (cond over (back_in_line e.now q) (due_after t e c k q)) ≡ due_after t e c k q
-        settled q over off = rw off refl
 
   -- HEADLESS EXCHANGES AFTER AN ENTRY
 
   piece_refused : (x : ℕ) (bytes : List ℕ) (w : Exchange) → t.exchange x ≡ Some w → w.head ≡ None → denial t (event.Piece x bytes) ≡ None → ⊥
   unfolding refusals.refusal_of
-  piece_refused x bytes w row bare h =
-      let got = taken (length bytes) w (sym (ap (λ z. piece_refusal (as_open z) (length bytes)) row) ∙ h) in
-      false_true (sym (ap (λ (z : Option Response). is_some z) bare) ∙ got.headed)
+  piece_refused x bytes w row bare h = grind (arith, nat_tests)
 
   -- no event is of an exchange that waits for its head and goes on waiting
   pub unmet : (v : Event) (x : ℕ) (w u : Exchange) → ev ≡ v → t.exchange x ≡ Some w → IsSame t e x w u → u.is_open ≡ true → u.head ≡ None → exchange_in v ≡ Some x → ⊥
-  unmet (event.Start d request) x w u at row same on bare h = none_some x h
-  unmet (event.Poll d want) x w u at row same on bare h = none_some x h
   unmet (event.Head z response) x w u at row same on bare h = same.unheard bare response (at ∙ ap (λ n. event.Head n response) (some_inj z x h))
   unmet (event.Piece z bytes) x w u at row same on bare h = piece_refused x bytes w row (same.bare bare) (sym (ap (denial t) (at ∙ ap (λ n. event.Piece n bytes) (some_inj z x h))) ∙ goes)
   unmet (event.End z) x w u at row same on bare h = same.unended on (at ∙ ap event.End (some_inj z x h))
   unmet (event.Fault z) x w u at row same on bare h = same.unfaulted on (at ∙ ap event.Fault (some_inj z x h))
-  unmet (event.Cancel d) x w u at row same on bare h = none_some x h
-  unmet (event.Doom key) x w u at row same on bare h = none_some x h
+  unmet _ x w u at row same on bare h = none_some x h
 
   awaiting_same : (x : ℕ) (w u : Exchange) (p q : Place) → u.need ≡ w.need → u.aim ≡ w.aim → q ≡ p → IsAwaiting x w p → IsAwaiting x u q
   awaiting_same x w u p q need_is aim_is same (owners.direct way stands) = owners.direct (ap route_of need_is ∙ way) (same ∙ stands)

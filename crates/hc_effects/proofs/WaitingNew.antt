@@ -1,8 +1,8 @@
 -- For whom an exchange is opened waits for its head: past the store, with the turn, or bound to what it asks a hole of.
-use Rattle.std.{proofs.{Common.{◌≡◌, inl, inr, ℕ, List, Bool, true, false, cond, Option, Some, None, refl, ap, sym, ◌∙◌, subst, arith}, lemmas.Bool.Decides.{nat_tests}}, specs.Prelude.{if◌then◌else◌, ◌&&◌, ◌||◌, ◌==◌, not, nat_eq}}
-use Rattle.hc_text.proofs.Basics.{and_left, and_right, never_true as not_so, or_cases}
+use Rattle.std.{proofs.{Common.{◌≡◌, inl, inr, ℕ, List, Bool, true, false, Option, Some, None, refl, ap, sym, ◌∙◌, subst, arith}, lemmas.Bool.Decides.{nat_tests}}, specs.Prelude.{if◌then◌else◌, ◌&&◌, ◌||◌, ◌==◌, not, nat_eq}}
+use Rattle.hc_text.proofs.Basics.{and_left, and_right, or_cases}
 use Rattle.hc_range.specs.declared.range.Span.{Span}
-use Rattle.hc_effects.proofs.Vocabulary.{Opening, opening_in, leaves_in, closes_in, Event, Need, Route, Limits, route_of, is_bypassing, range_of, wanted_of, Place, BoundBy, Showing, showing_in, loses_in, misreads_in, case_at, opened_place, unless_bound, by_opening, shown_place, own_after, left_to, waiting, consumer_acted, due_after, back_in_line, current, is_current, denial, doomed_key_of, bypass_key, bypassed_by, bypassed_for, is_key, Entry, exchange_opened, aim_from, aim_of, exchange_at, is_for, Flaw, becomes_gone, goes_itself, goes_in, goes_by_head, ends_early, ends_founding, is_keepable, entry_of, Opens, Owners, IsAwaiting, Awaits, poll_move, bound_to, Tables, Exchange, Representation, Consumer, may_stand, Sound, starts_over, waits_at, sends_back, loses_what_it_waits_for, after_accepted}
+use Rattle.hc_effects.proofs.Vocabulary.{Opening, opening_in, leaves_in, closes_in, Event, Need, Route, Limits, route_of, is_bypassing, range_of, wanted_of, Place, BoundBy, Showing, showing_in, loses_in, misreads_in, opened_place, unless_bound, by_opening, shown_place, own_after, waiting, consumer_acted, due_after, current, is_current, denial, doomed_key_of, bypass_key, bypassed_by, bypassed_for, is_key, Entry, exchange_opened, aim_from, aim_of, Flaw, becomes_gone, goes_itself, goes_in, goes_by_head, ends_early, ends_founding, is_keepable, entry_of, Opens, Owners, IsAwaiting, Awaits, poll_move, bound_to, Tables, Exchange, Representation, Consumer, may_stand, Sound, starts_over, sends_back, loses_what_it_waits_for, after_accepted}
 use Rattle.hc_event.specs.declared.event.Event.TheVariants as event
 use Rattle.hc_event.specs.declared.act.Need.TheVariants as need
 use Rattle.hc_rules.specs.declared.need.Route.TheVariants as route
@@ -10,28 +10,15 @@ use Rattle.hc_rules.specs.declared.request.Wanted.TheVariants as wanted
 use Rattle.hc_event.specs.declared.place.Place.TheVariants as place
 use Rattle.hc_event.specs.declared.place.BoundBy.TheVariants as by
 use Rattle.hc_model.specs.Owners as owners
-use Rattle.hc_effects.proofs.{Basics.{false_true}, FirstKeeps.{is_opener}, Forward.{is_kept}, OpenedAs.{OpenedAs, Way}, OpeningPoll.{leaves_none, misreads_none, evicts_none, shows_none, doomed_not, case_not, closes_none, loses_none}}
+use Rattle.hc_effects.proofs.{Basics.{false_true}, FirstKeeps.{is_opener}, Forward.{is_kept}, OpenedAs.{OpenedAs, Way}, OpeningPoll.{leaves_none, misreads_none, evicts_none, shows_none, doomed_not, case_not, closes_none, loses_none}, StaysOn.{settled, stays_by}}
 use Rattle.hc_effects.proofs.OpenedAs as opened
 
 bypassed_not : (n : Need) (key : List ℕ) → (n ≡ need.Bypass → ⊥) → bypassed_for n key ≡ None
-bypassed_not need.Disabled key off = refl
-bypassed_not need.TimedOut key off = refl
-bypassed_not need.Bypass key off = absurd (off refl)
-bypassed_not need.Miss key off = refl
-bypassed_not need.Vary key off = refl
-bypassed_not need.Validate key off = refl
-bypassed_not (need.Hole from to) key off = refl
-bypassed_not need.Unsatisfied key off = refl
+bypassed_not n key off = grind (arith, nat_tests)
 
 -- who is bound to nothing asks about what is current
 pub aim_free : (t : Tables) (key : List ℕ) (p : Place) → bound_to p ≡ None → aim_from t key p ≡ current t key
-aim_free t key place.Line free = refl
-aim_free t key (place.Passed r kept) free = refl
-aim_free t key (place.Turn x) free = refl
-aim_free t key (place.Bound r lo hi how) free = absurd (let no : Some r ≡ None = free in cc)
-aim_free t key (place.Direct x) free = refl
-aim_free t key (place.Down why) free = refl
-aim_free t key place.Over free = refl
+aim_free t key p free = grind (arith, nat_tests)
 
 module _ (limits : Limits) (t : Tables) (now : ℕ) (flaw : Flaw) (s : Sound t) (o : Owners t) (c want : ℕ) (goes : denial t (event.Poll c want) ≡ None) where
   abbrev ev : Event
@@ -86,23 +73,14 @@ module _ (limits : Limits) (t : Tables) (now : ℕ) (flaw : Flaw) (s : Sound t) 
     goes_not r (Some v) kept at h = gone_not r v kept at h
 
     lost_not : (q : Place) → k.place ≡ q → loses_what_it_waits_for t e c q ≡ true → ⊥
-    lost_not place.Line at h = false_true h
     lost_not (place.Passed r kept) at h = goes_not r (t.representation r) kept at (and_left _ _ h)
-    lost_not (place.Turn x) at h = false_true h
-    lost_not (place.Bound r lo hi how) at h = false_true h
-    lost_not (place.Direct x) at h = false_true h
-    lost_not (place.Down cause) at h = false_true h
-    lost_not place.Over at h = false_true h
+    lost_not _ at h = false_true h
 
     stays_on : starts_over t e c k ≡ false
-    unfolding starts_over
-    stays_on = not_so _ (λ over. elim (or_cases _ (loses_what_it_waits_for t e c k.place) over) [
-      | inr lost ↦ lost_not k.place refl lost
-      | inl more ↦ elim (or_cases (is_key (doomed_key_of t e) k.request.key && waits_at t k.place) (sends_back (case_at t e) && is_for (exchange_at t ev) c) more) [
-        | inl doom ↦ false_true (sym (ap (λ z. is_key z k.request.key) (doomed_not limits t now flaw s c want p here opens move_is)) ∙ and_left _ _ doom)
-        | inr back ↦ false_true (sym (ap sends_back (case_not limits t now flaw s c want p here opens move_is)) ∙ and_left _ _ back)
-      ]
-    ])
+    stays_on =
+        stays_by t e c k (lost_not k.place refl)
+        (λ doom waits. false_true (sym (ap (λ z. is_key z k.request.key) (doomed_not limits t now flaw s c want p here opens move_is)) ∙ doom))
+        (λ back mine. false_true (sym (ap sends_back (case_not limits t now flaw s c want p here opens move_is)) ∙ back))
 
     -- THE ROW AFTER THE POLL
 
@@ -110,17 +88,7 @@ module _ (limits : Limits) (t : Tables) (now : ℕ) (flaw : Flaw) (s : Sound t) 
     same_c = let test : nat_eq p.c c ≡ true = grind (arith, nat_tests) in test
 
     own_stays : (q : Place) (z : Option ℕ) → own_after t e c q z ≡ z
-    own_stays place.Line z = refl
-    own_stays (place.Passed r kept) z = refl
-    own_stays (place.Turn x) z = refl
-    own_stays (place.Bound r lo hi how) z = by_row (t.representation r)
-      where
-        by_row : (v : Option Representation) → left_to t e c r v z ≡ z
-        by_row None = refl
-        by_row (Some v) = refl
-    own_stays (place.Direct x) z = refl
-    own_stays (place.Down cause) z = refl
-    own_stays place.Over z = refl
+    own_stays q z = grind (arith, nat_tests)
 
     opened_is : (q : Consumer) → by_opening t c (opening_in e.acts) q ≡ record q { own = Some p.x; place = unless_bound (bound_to q.place) q.place (opened_place t p.x q (route_of p.need)) }
     opened_is q = ap (λ z. by_opening t c z q) opens ∙ rw same_c refl
@@ -164,13 +132,10 @@ module _ (limits : Limits) (t : Tables) (now : ℕ) (flaw : Flaw) (s : Sound t) 
     awaits_by (opened.goes_on r lo hi how at way) =
         owners.hole r lo hi how way (aim_is ∙ ap (aim_from t k.request.key) at) (bound_place r lo hi how at)
 
-    settled : (q : Consumer) (over : Bool) → over ≡ false → (cond over (back_in_line e.now q) (due_after t e c k q)) ≡ due_after t e c k q
-    settled q over off = rw off refl
-
     pub awaits : Awaits now_on p.x (exchange_opened t e p)
     awaits =
         let on = is_kept t e c k row in
-        let made : due_after t e c k (consumer_acted t e c k) ≡ on.u = sym (settled (consumer_acted t e c k) (starts_over t e c k) stays_on) ∙ on.is in
+        let made : due_after t e c k (consumer_acted t e c k) ≡ on.u = sym (settled t e c k (consumer_acted t e c k) stays_on) ∙ on.is in
         record {
           k = on.u;
           row = ap now_on.consumer here ∙ on.row;

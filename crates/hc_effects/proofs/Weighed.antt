@@ -1,7 +1,7 @@
 -- What weighs in the store: what isn't gone, and what somebody reads.
-use Rattle.std.{proofs.Common.{◌≡◌, ◌⊎◌, inl, inr, ℕ, ◌+◌, ◌≤◌, List, [], ◌∷◌, length, Bool, true, false, Option, Some, None, refl, ap, sym, ◌∙◌, subst, arith}, specs.{Prelude.{if◌then◌else◌, ◌&&◌, ◌||◌, ◌==◌, not}, List.{list_any, sum_by}}}
+use Rattle.std.{proofs.{lemmas.Bool.Decides.{nat_tests}, Common.{◌≡◌, ◌⊎◌, inl, inr, ℕ, ◌+◌, ◌≤◌, List, [], ◌∷◌, length, Bool, true, false, Option, Some, None, refl, ap, sym, ◌∙◌, subst, arith}}, specs.{Prelude.{if◌then◌else◌, ◌&&◌, ◌||◌, ◌==◌, not}, List.{list_any, sum_by}}}
 use Rattle.hc_text.proofs.Basics.{and_left, bool_cases, or_cases, or_left, or_right}
-use Rattle.hc_effects.proofs.Vocabulary.{Event, Response, HeadCase, weight_of, loses_in, has_loss, case_at, current, is_current, is_number, doomed_key_of, doomed_in, doomed_by_head, is_key, Entry, entry_without_acts, front, family, exchange_at, goes_by_case, goes_by_exchange, goes_by_head, goes_itself, ends_early, ends_founding, stops_early, is_keepable, bound, representation_heard, representation_acted, representation_after_head, with_renewed_head, updates, representation_after_piece, with_stored_bytes, with_total_if_none, length_in, Tables, Exchange, Representation, Consumer, Sound, Among, IsBound, weight, weight_in, weights, moves_on, stays_current, stays_bound}
+use Rattle.hc_effects.proofs.Vocabulary.{Event, Response, HeadCase, weight_of, loses_in, has_loss, case_at, current, is_current, is_number, doomed_key_of, doomed_in, is_key, Entry, entry_without_acts, front, family, exchange_at, goes_by_case, goes_by_exchange, goes_by_head, goes_itself, ends_early, is_keepable, bound, representation_heard, representation_acted, representation_after_head, with_renewed_head, updates, representation_after_piece, with_stored_bytes, with_total_if_none, length_in, Tables, Exchange, Representation, Consumer, Sound, Among, IsBound, weight, weight_in, weights, moves_on, stays_current, stays_bound}
 use Rattle.hc_event.specs.declared.event.Event.TheVariants as event
 use Rattle.hc_rules.specs.declared.heads.HeadCase.TheVariants as case
 use Rattle.hc_effects.proofs.{Basics.{false_true, number_is, number_yes}, CurrentKeeps.{current_is}, HasBound.{reader_of}, PieceKeeps.{eq_cases}, ExclusiveWriters.{bound_some}, PollKeeps.{current_stays}, RepFrom.{IsKept}, Sums.{sum_le}}
@@ -65,8 +65,7 @@ held_none t r none = ap (held_in t r) none
 -- WHAT AN ENTRY LEAVES WEIGHS NO MORE
 
 some_any : (test : ℕ → Bool) (cs : List ℕ) → list_any test cs ≡ true → has_some cs ≡ true
-some_any test [] h = absurd (false_true h)
-some_any test (c ∷ cs) h = refl
+some_any test cs h = grind (arith, nat_tests)
 
 weight_held : (t : Tables) (e : Entry) (r : ℕ) (o : Option Representation) → t.representation r ≡ o → weight_in t e r o ≤ held_in t r o
 weight_held t e r None row = omega arith
@@ -101,9 +100,7 @@ pub record IsFilled (t : Tables) (e : Entry) (r : ℕ) (v p : Representation) : 
 
 module _ (t : Tables) (e : Entry) (r : ℕ) (v : Representation) where
   or_false : (a b : Bool) → not (a || b) ≡ true → (a ≡ false) × (b ≡ false)
-  or_false false false h = (refl, refl)
-  or_false false true h = absurd (false_true h)
-  or_false true b h = absurd (false_true h)
+  or_false a b h = grind (arith, nat_tests)
 
   abbrev Sized : Representation → Type 0
   Sized p = (p.size ≡ v.size) ⊎ IsFilled t e r v p
@@ -128,18 +125,13 @@ module _ (t : Tables) (e : Entry) (r : ℕ) (v : Representation) where
       by_kept false is of_r = inl refl
 
   ended_size : (n : ℕ) (b : Bool) → (if b then with_total_if_none n v else v).size ≡ v.size
-  ended_size n true = refl
-  ended_size n false = refl
+  ended_size n b = grind (arith, nat_tests)
 
   heard_size : (ev : Event) → e.event ≡ ev → Sized (representation_heard t e r ev v)
-  heard_size (event.Start c request) at = inl refl
-  heard_size (event.Poll c want) at = inl refl
   heard_size (event.Head x response) at = inl (headed_size x response (t.exchange x))
   heard_size (event.Piece x bytes) at = pieced_size x bytes (t.exchange x) at refl
   heard_size (event.End x) at = inl (ended_size (length_in (t.exchange x)) (x == r))
-  heard_size (event.Fault x) at = inl refl
-  heard_size (event.Cancel c) at = inl refl
-  heard_size (event.Doom key) at = inl refl
+  heard_size _ at = inl refl
 
   acted_size : (z : Representation) → Sized z → Sized (representation_acted t e r v z)
   acted_size z (inl same) = inl same
@@ -186,42 +178,14 @@ module _ (t : Tables) (e : Entry) (r : ℕ) (lossless : has_loss e.acts ≡ fals
   by_head_same = by_exchange_same (exchange_at t e.event)
 
   doomed_by_same : (ev : Event) → doomed_in t e0 ev ≡ doomed_in t e ev
-  doomed_by_same (event.Head x response) = by_row (t.exchange x)
-    where
-      by_row : (z : Option Exchange) → doomed_by_head t e0 response z ≡ doomed_by_head t e response z
-      by_row None = refl
-      by_row (Some w) = ap (λ g. Rattle.hc_model.specs.Dooms.doomed_by_case g w response) case_same
-  doomed_by_same (event.Start c request) = refl
-  doomed_by_same (event.Poll c want) = refl
-  doomed_by_same (event.Piece x bytes) = refl
-  doomed_by_same (event.End x) = refl
-  doomed_by_same (event.Fault x) = refl
-  doomed_by_same (event.Cancel c) = refl
-  doomed_by_same (event.Doom key) = refl
+  doomed_by_same ev = grind (arith, nat_tests)
 
   doomed_same : doomed_key_of t e0 ≡ doomed_key_of t e
   unfolding doomed_key_of
   doomed_same = doomed_by_same e.event
 
-  ends_more : (w : Exchange) → ends_founding e0 r (Some w) ≡ true → ends_founding e r (Some w) ≡ true
-  ends_more w h = by_parts w.is_open (stops_early w r e.event) h
-    where
-      by_parts : (a b : Bool) → (a && (b || false)) ≡ true → (a && (b || Rattle.hc_event.specs.Filters.closes_in r e.acts)) ≡ true
-      by_parts true true h = refl
-      by_parts true false h = absurd (false_true h)
-      by_parts false b h = absurd (false_true h)
-
   early_more : (v : Representation) (z : Option Exchange) → t.exchange r ≡ z → ends_early t e0 r v ≡ true → ends_early t e r v ≡ true
-  early_more v None row h = absurd (none_ends (v.head.status == 200) (sym (ap (λ q. (v.head.status == 200) && ends_founding e0 r q) row) ∙ h))
-    where
-      none_ends : (a : Bool) → (a && false) ≡ true → ⊥
-      none_ends true h = false_true h
-      none_ends false h = false_true h
-  early_more v (Some w) row h = ap (λ q. (v.head.status == 200) && ends_founding e r q) row ∙ by_parts (v.head.status == 200) (sym (ap (λ q. (v.head.status == 200) && ends_founding e0 r q) row) ∙ h)
-    where
-      by_parts : (a : Bool) → (a && ends_founding e0 r (Some w)) ≡ true → (a && ends_founding e r (Some w)) ≡ true
-      by_parts true h = ends_more w h
-      by_parts false h = absurd (false_true h)
+  early_more v z row h = grind (arith, nat_tests)
 
   pub goes_more : (v : Representation) → goes_itself t e0 r v ≡ true → goes_itself t e r v ≡ true
   goes_more v h = elim (or_cases _ (ends_early t e0 r v && not (is_keepable v)) h) [
@@ -243,6 +207,4 @@ module _ (t : Tables) (e : Entry) (r : ℕ) (lossless : has_loss e.acts ≡ fals
       both false k f h = absurd (false_true h)
 
       by_doom : (a b : Bool) → is_key (doomed_key_of t e) v.key ≡ b → (a && (b || false)) ≡ true → (a && (is_key (doomed_key_of t e) v.key || is_key (Rattle.hc_model.specs.Dooms.bypass_key e) v.key)) ≡ true
-      by_doom true true is h = rw is refl
-      by_doom true false is h = absurd (false_true h)
-      by_doom false b is h = absurd (false_true h)
+      by_doom a b is h = grind (arith, nat_tests)

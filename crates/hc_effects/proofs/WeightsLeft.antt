@@ -1,11 +1,10 @@
 -- What all weighs once some were let go, or a consumer isn't bound any more, and how few give way to a write.
 use Rattle.std.{proofs.{Common.{◌≡◌, inl, inr, ℕ, ◌+◌, ◌≤◌, List, [], ◌∷◌, length, take, Bool, true, false, Option, Some, None, refl, ap, sym, ◌∙◌, subst, arith}, lemmas.Bool.Decides.{nat_tests}}, specs.{Prelude.{is_some, ◌&&◌, ◌||◌, ◌==◌, not, nat_eq, if◌then◌else◌, option_map, map, filter, reverse}, List.{sum_by}}}
-use Rattle.hc_text.proofs.Basics.{and_left, and_right, bool_cases}
-use Rattle.hc_effects.proofs.Vocabulary.{Limits, Write, room_of, gives_way, grown_by, is_too_large, weight_of, idle_now, current, is_current, as_gone, let_all_go, with_consumer, MayLetGo, MayMakeRoom, weight_now, weights_now, room_now, giving_way, AreOnce, bound, is_bound, is_bound_place, Tables, Representation, Consumer, Among}
+use Rattle.hc_text.proofs.Basics.{and_right, bool_cases}
+use Rattle.hc_effects.proofs.Vocabulary.{Limits, Write, room_of, gives_way, grown_by, weight_of, idle_now, current, is_current, as_gone, let_all_go, with_consumer, MayLetGo, MayMakeRoom, weight_now, weights_now, room_now, giving_way, AreOnce, bound, is_bound, is_bound_place, Tables, Representation, Consumer, Among}
 use Rattle.hc_rules.specs.declared.room.Room.TheVariants as room
-use Rattle.hc_rules.specs.Rooms as rooms
 use Rattle.hc_model.specs.{Contents.{is_idle}, LettingGo.{weight_in, first_idle}}
-use Rattle.hc_effects.proofs.{Basics.{same_functions, false_true}, FewGiveWay.{AreHeavy, one_gives, two_give}, LettingGo.{bound_all, current_all}, PieceKeeps.{eq_cases}, SameTables.{all_go_is}, Sums.{is_in, in_among, among_of, sum_le, sum_two, sum_some, gives_enough, filter_among, filter_once, take_among, take_once, reverse_once}, Weighed.{held, held_in, has_some, total}}
+use Rattle.hc_effects.proofs.{Basics.{same_functions, false_true}, FewGiveWay.{AreHeavy, one_gives, two_give}, LettingGo.{bound_all, current_all}, SameTables.{all_go_is}, Sums.{is_in, in_among, among_of, sum_le, sum_two, sum_some, gives_enough, filter_among, filter_once, take_among, take_once, reverse_once}, Weighed.{held, has_some, total}}
 use Rattle.hc_effects.proofs.SameTables as tables
 
 -- both lists of tests say the same
@@ -20,20 +19,12 @@ some_length [] = refl
 some_length (c ∷ cs) = let some : nat_eq (length (c ∷ cs)) 0 ≡ false = grind (arith, nat_tests) in rw some refl
 
 weight_held : (t : Tables) (r : ℕ) → weight_now t r ≡ held t r
-weight_held t r = by_row (t.representation r)
-  where
-    by_row : (o : Option Representation) → weight_in t r o ≡ held_in t r o
-    by_row None = refl
-    by_row (Some v) = ap (λ b. if is_current t v.key r || b then weight_of v.size else 0) (some_length (bound t r))
+weight_held t r = grind (arith, nat_tests)
 
 pub weights_total : (t : Tables) → weights_now t ≡ total t
 weights_total t = ap (λ f. sum_by f t.founded) (same_functions (weight_now t) (held t) (weight_held t))
 
 -- WHERE SOME WERE LET GO
-
-weighs_by : (b : Bool) (n : ℕ) → (if b then n else 0) ≤ n
-weighs_by true n = omega arith
-weighs_by false n = omega arith
 
 module _ (now : ℕ) (rs : List ℕ) (t : Tables) (may : MayLetGo t) where
   abbrev left : Tables
@@ -46,12 +37,10 @@ module _ (now : ℕ) (rs : List ℕ) (t : Tables) (may : MayLetGo t) where
   founded_left = ap (λ (s : Tables). s.founded) (all_go_is now rs t)
 
   none_in : (r : ℕ) (b : Bool) → weight_in left r (if b then option_map as_gone None else None) ≡ 0
-  none_in r true = refl
-  none_in r false = refl
+  none_in r b = grind (arith, nat_tests)
 
   some_in : (r : ℕ) (b : Bool) (v : Representation) → weight_in left r (if b then option_map as_gone (Some v) else Some v) ≡ (if is_current left v.key r || not (length (bound left r) == 0) then weight_of v.size else 0)
-  some_in r true v = refl
-  some_in r false v = refl
+  some_in r b v = grind (arith, nat_tests)
 
   -- what it weighs still
   weight_left : (r : ℕ) (v : Representation) → t.representation r ≡ Some v → weight_now left r ≡ (if (is_current t v.key r && not (is_in rs r)) || not (length (bound t r) == 0) then weight_of v.size else 0)
@@ -66,9 +55,7 @@ module _ (now : ℕ) (rs : List ℕ) (t : Tables) (may : MayLetGo t) where
   weight_none r none = ap (weight_in left r) (row_left r ∙ ap (λ o. if tables.is_in rs r then option_map as_gone o else o) none) ∙ none_in r (tables.is_in rs r)
 
   less : (a b d : Bool) (n : ℕ) → (if (a && b) || d then n else 0) ≤ (if a || d then n else 0)
-  less true true d n = omega arith
-  less true false d n = weighs_by d n
-  less false b d n = omega arith
+  less a b d n = grind (arith, nat_tests)
 
   -- no more than before
   weighs_less : (r : ℕ) → weight_now left r ≤ weight_now t r
@@ -121,12 +108,7 @@ module _ (now : ℕ) (rs : List ℕ) (t : Tables) (may : MayLetGo t) where
 
 gives_from : (limits : Limits) (used : ℕ) (write : Write) (ws : List ℕ) (count : ℕ) → room_of limits used write ws ≡ room.After count → gives_way limits.max_total (used + grown_by write) ws ≡ Some count
 unfolding room_of
-gives_from limits used write ws count is = by_tests (is_too_large limits write) (gives_way limits.max_total (used + grown_by write) ws) is
-  where
-    by_tests : (b : Bool) (o : Option ℕ) → (if b then room.TooLarge else rooms.room_by o) ≡ room.After count → o ≡ Some count
-    by_tests true o same = absurd (let never : room.TooLarge ≡ room.After count = same in cc)
-    by_tests false None same = absurd (let never : room.Full ≡ room.After count = same in cc)
-    by_tests false (Some n) same = let one : room.After n ≡ room.After count = same in ap Some (cc)
+gives_from limits used write ws count is = grind (arith, nat_tests)
 
 -- the write fits then
 pub fits_after : (limits : Limits) (now : ℕ) (t : Tables) (write : Write) (count : ℕ) → MayMakeRoom t → room_now limits t write ≡ room.After count → weights_now (let_all_go now (giving_way limits t write) t) + grown_by write ≤ limits.max_total
@@ -143,11 +125,7 @@ fits_after limits now t write count may is =
 -- HOW MANY GIVE WAY
 
 idle_heavy : (t : Tables) (r : ℕ) (o : Option Representation) → is_idle t r o ≡ true → 32768 ≤ weight_in t r o
-idle_heavy t r None on = absurd (false_true on)
-idle_heavy t r (Some v) on =
-    let here : is_current t v.key r ≡ true = and_left (is_current t v.key r) _ on in
-    let is : weight_in t r (Some v) ≡ 32768 + v.size = rw here refl in
-    omega arith
+idle_heavy t r o on = grind (arith, nat_tests)
 
 all_heavy : (t : Tables) (rs : List ℕ) → AreHeavy (map (weight_now t) (filter (λ r. is_idle t r (t.representation r)) rs))
 all_heavy t [] = tt
@@ -178,19 +156,14 @@ filters_less f h (c ∷ cs) into some = by_tests (f c) (h c) refl refl (λ rest.
 
 module _ (c : ℕ) (z : Consumer) (t : Tables) (unbound : (r : ℕ) → is_bound_place r z.place ≡ false) where
   bound_was : (r d : ℕ) → is_bound r ((with_consumer c (Some z) t).consumer d) ≡ true → is_bound r (t.consumer d) ≡ true
-  bound_was r d on = elim (eq_cases c d) [
-    | inl here ↦ absurd (false_true (sym (unbound r) ∙ (rw here.0 at on)))
-    | inr other ↦ rw other.0 at on
-  ]
+  bound_was r d on = grind (arith, nat_tests)
 
   some_was : (r : ℕ) → has_some (bound (with_consumer c (Some z) t) r) ≡ true → has_some (bound t r) ≡ true
   unfolding bound
   some_was r some = filters_less (λ d. is_bound r (t.consumer d)) (λ d. is_bound r ((with_consumer c (Some z) t).consumer d)) t.starts (λ d on. bound_was r d on) some
 
   fewer : (a b d : Bool) (n : ℕ) → (b ≡ true → d ≡ true) → (if a || b then n else 0) ≤ (if a || d then n else 0)
-  fewer true b d n into = omega arith
-  fewer false true d n into = let on = into refl in rw on (omega arith)
-  fewer false false d n into = omega arith
+  fewer a b d n into = grind (arith, nat_tests)
 
   apart_less : (r : ℕ) → weight_now (with_consumer c (Some z) t) r ≤ weight_now t r
   unfolding current

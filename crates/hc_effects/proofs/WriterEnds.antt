@@ -47,14 +47,8 @@ module _ (limits : Limits) (t : Tables) (now : ℕ) (flaw : Flaw) (s : Sound t) 
     leaves_not leaves = false_true (sym row.leaves ∙ leaves)
 
     pub leaver_not : (z : Event) → ev ≡ z → leaver_by z b.acts ≡ Some c → ⊥
-    leaver_not (event.Start d request) here h = leaves_not (leaver_leaves limits t now flaw s ev c h)
-    leaver_not (event.Poll d want) here h = leaves_not (leaver_leaves limits t now flaw s ev c h)
-    leaver_not (event.Head y response) here h = leaves_not (leaver_leaves limits t now flaw s ev c h)
-    leaver_not (event.Piece y bytes) here h = leaves_not (leaver_leaves limits t now flaw s ev c h)
-    leaver_not (event.End y) here h = leaves_not (leaver_leaves limits t now flaw s ev c h)
-    leaver_not (event.Fault y) here h = leaves_not (leaver_leaves limits t now flaw s ev c h)
     leaver_not (event.Cancel d) here h = cancels_not (here ∙ ap event.Cancel (some_inj d c h))
-    leaver_not (event.Doom key) here h = leaves_not (leaver_leaves limits t now flaw s ev c h)
+    leaver_not _ here h = leaves_not (leaver_leaves limits t now flaw s ev c h)
 
     -- THE WRITING'S EXCHANGE
 
@@ -75,11 +69,7 @@ module _ (limits : Limits) (t : Tables) (now : ℕ) (flaw : Flaw) (s : Sound t) 
           losing_not (and_right (is_number v.writer x) _ (and_left _ _ here))
 
       own_is : (l : ℕ) (q : Consumer) (z : Option ℕ) → t.consumer l ≡ Some q → q.own ≡ z → option_and_then (if_open t) z ≡ Some x → q.own ≡ Some x
-      own_is l q None row mine h = absurd (none_some x h)
-      own_is l q (Some y) row mine h = elim (bool_cases (is_open (t.exchange y))) [
-        | inl on ↦ mine ∙ (let same : Some y ≡ Some x = rw on at h in same)
-        | inr off ↦ absurd (none_some x (rw off at h))
-      ]
+      own_is l q z row mine h = grind (arith, nat_tests)
 
       -- a writing of this exchange is of r
       writes_r : (q : ℕ) (z : Option Representation) → t.representation q ≡ z → writing_in t z ≡ Some x → q ≡ r
@@ -98,12 +88,7 @@ module _ (limits : Limits) (t : Tables) (now : ℕ) (flaw : Flaw) (s : Sound t) 
 
       last_is : (l : ℕ) (z : Place) → shared_exchange t z ≡ Some x → is_last_reader t l z ≡ true → c ≡ l
       last_is l (place.Bound q a d g_by) h all = all_same l c (bound t r) (ap (λ n. list_all (λ z. z == l) (bound t n)) (sym (writes_r q (t.representation q) refl h)) ∙ all) among_bound
-      last_is l place.Line h all = absurd (none_some x h)
-      last_is l (place.Passed q kept) h all = absurd (none_some x h)
-      last_is l (place.Turn y) h all = absurd (none_some x h)
-      last_is l (place.Direct y) h all = absurd (none_some x h)
-      last_is l (place.Down why) h all = absurd (none_some x h)
-      last_is l place.Over h all = absurd (none_some x h)
+      last_is l _ h all = absurd (none_some x h)
 
       left_row : (l : ℕ) (z : Option Consumer) → t.consumer l ≡ z → is_left_by t x l z ≡ true → c ≡ l
       left_row l None row h = absurd (false_true h)

@@ -1,5 +1,5 @@
 -- What a 304 does whose update is refused while what it validates is written for several: that writing is lost.
-use Rattle.std.{proofs.Common.{◌≡◌, inl, inr, ℕ, ◌+◌, List, [], ◌∷◌, ◌++◌, Bool, true, false, Option, Some, None, refl, ap, sym, ◌∙◌, subst}, specs.{Prelude.{◌&&◌, ◌==◌, not, nat_eq, if◌then◌else◌, is_some, option_map, map, filter, reverse}, Option.{option_or}}}
+use Rattle.std.{proofs.{lemmas.Bool.Decides.{nat_tests}, Common.{arith, ◌≡◌, inl, inr, ℕ, ◌+◌, List, [], ◌∷◌, ◌++◌, Bool, true, false, Option, Some, None, refl, ap, sym, ◌∙◌, subst}}, specs.{Prelude.{◌&&◌, ◌==◌, not, nat_eq, if◌then◌else◌, is_some, option_map, map, filter, reverse}, Option.{option_or}}}
 use mathlib.Core.Path.{fun_ext}
 use Rattle.hc_text.proofs.Basics.{and_left, bool_cases, eqb-same, not_some as none_some, never_true as not_so, not_true, or_false as or_off, same_some as same_row}
 use Rattle.hc_event.specs.declared.act.Act.TheVariants as act
@@ -11,7 +11,7 @@ use Rattle.hc_rules.specs.declared.need.Route.TheVariants as route
 use Rattle.hc_event.specs.declared.place.Place.TheVariants as place
 use Rattle.hc_model.specs.Owners as owners
 use Rattle.hc_model.specs.Sound as sound
-use Rattle.hc_effects.proofs.{Basics.{false_true, number_is}, Closed.{reversed}, FoundBy.{CaseBy, case_by, unchanged_founds}, HasBound.{bound_at}, HeadFacts.{new, waiter, undue, case_on, case_before, evicts_none}, HeadFrames.{e, far, loses_as, spared_as, apart, doomed_is, goes_by, goes_lost, rows_but, row_loses, other_row, asker_goes_back, after_head}, LostFrames.{goes_on_as, member_as, closed_with, writer_now, closed_row, closed_apart, no_survivor_as}, OfConsumers.{one_of, descends_once, and_so}, PieceKeeps.{eq_cases}, PieceServes.{quiet_acts}, SameTables.{is_in, in_one, waits_for_any, back_from_any}, Sums.{reverse_once}, Untouched.{IsSpared, consumer_absent}}
+use Rattle.hc_effects.proofs.{Basics.{false_true, number_is}, Closed.{reversed}, FoundBy.{CaseBy, case_by, unchanged_founds}, HasBound.{bound_at}, HeadFacts.{new, waiter, undue, case_on, case_before, evicts_none}, HeadFrames.{e, far, loses_as, apart, doomed_is, goes_by, goes_lost, rows_but, row_loses, other_row, asker_goes_back, after_head}, LostFrames.{goes_on_as, member_as, closed_with, writer_now, closed_row, closed_apart, no_survivor_as}, OfConsumers.{one_of, descends_once, and_so}, PieceKeeps.{eq_cases}, PieceServes.{quiet_acts}, SameTables.{is_in, in_one, waits_for_any, back_from_any}, Sums.{reverse_once}, Untouched.{IsSpared, consumer_absent}}
 use Rattle.hc_effects.proofs.FoundBy as cases
 
 pub by_turn : {z : HeadView} → CaseBy z case.NotValidated → (route_of z.need ≡ route.Turn) × (z.status ≡ 304)
@@ -58,9 +58,6 @@ module _ (limits : Limits) (t : Tables) (law : Lawful t) (now x : ℕ) (response
 
   losing_b : loses_writing t b r v ≡ true
   losing_b = rw (eqb-same r, on) refl
-
-  only_it : (q : ℕ) (u : Representation) → nat_eq r q ≡ false → t.representation q ≡ Some u → loses_writing t it q u ≡ false
-  only_it q u other here = spared_as t now x response [] flaw xs q u (rw other refl)
 
   only_b : (q : ℕ) (u : Representation) → nat_eq r q ≡ false → t.representation q ≡ Some u → loses_writing t b q u ≡ false
   only_b q u other here = rw other refl
@@ -132,22 +129,7 @@ module _ (limits : Limits) (t : Tables) (law : Lawful t) (now x : ℕ) (response
   -- WHO READS IT
 
   spared_at : (p : Place) → is_bound_place r p ≡ false → IsSpared t it p
-  spared_at (place.Bound q lo hi how) off = λ z lo_z hi_z how_z u at here. only_it z u (let same : q ≡ z = bound_number q lo hi how z lo_z hi_z how_z at in subst (λ n. nat_eq r n ≡ false) same (turned q off)) here
-    where
-      bound_number : (q lo : ℕ) (hi : Option ℕ) (how : BoundBy) (z lo_z : ℕ) (hi_z : Option ℕ) (how_z : BoundBy) → place.Bound q lo hi how ≡ place.Bound z lo_z hi_z how_z → q ≡ z
-      bound_number q lo hi how z lo_z hi_z how_z at = cc
-
-      turned : (q : ℕ) → (q == r) ≡ false → nat_eq r q ≡ false
-      turned q off = elim (eq_cases r q) [
-        | inl same ↦ absurd (let yes : nat_eq q r ≡ true = subst (λ n. nat_eq q n ≡ true) (sym same.1) (eqb-same q) in false_true (sym off ∙ yes))
-        | inr other ↦ other.0
-      ]
-  spared_at place.Line off = λ z lo hi how u at here. absurd (let no : place.Line ≡ place.Bound z lo hi how = at in cc)
-  spared_at (place.Passed q kept_it) off = λ z lo hi how u at here. absurd (let no : place.Passed q kept_it ≡ place.Bound z lo hi how = at in cc)
-  spared_at (place.Turn y) off = λ z lo hi how u at here. absurd (let no : place.Turn y ≡ place.Bound z lo hi how = at in cc)
-  spared_at (place.Direct y) off = λ z lo hi how u at here. absurd (let no : place.Direct y ≡ place.Bound z lo hi how = at in cc)
-  spared_at (place.Down why) off = λ z lo hi how u at here. absurd (let no : place.Down why ≡ place.Bound z lo hi how = at in cc)
-  spared_at place.Over off = λ z lo hi how u at here. absurd (let no : place.Over ≡ place.Bound z lo hi how = at in cc)
+  spared_at p off = grind (arith, nat_tests)
 
   others : (d : ℕ) → nat_eq w.c d ≡ false → consumer_after t it d (t.consumer d) ≡ option_map (back_from_any now rs) (option_map (if_bound r (left_with r (survivor t r v) v.writer d)) (t.consumer d))
   others d other = by_row (t.consumer d) refl

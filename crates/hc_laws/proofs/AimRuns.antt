@@ -6,10 +6,9 @@ use Rattle.hc_event.specs.declared.act.Need.TheVariants as need
 use Rattle.hc_rules.specs.declared.need.Route.TheVariants as route
 use Rattle.hc_event.specs.declared.place.Place.TheVariants as place
 use Rattle.hc_model.specs.Aims.{HasAim, CaseWithoutAim, is_about_some, needs_aim}
-use Rattle.hc_effects.proofs.{Asked.{Asked, HasCandidate}, Basics.{some_none, some_row, false_true}, ExchangeFrom.{ExchangeFrom, exchange_from}, NamesKeep.{current_there}, OpenedAs.{Way, opened_as}, Said.{opening_by}, ShownFrom.{candidate_is}, WaitingNew.{aim_free}}
+use Rattle.hc_effects.proofs.{Asked.{Asked, HasCandidate}, Basics.{some_none, some_row, false_true}, ExchangeFrom.{ExchangeFrom, exchange_from}, NamesKeep.{current_there}, OpenedAs.{passes_by, goes_on, fills, fetches, Way, opened_as}, Said.{opening_by}, ShownFrom.{candidate_is}, WaitingNew.{aim_free}}
 use Rattle.hc_effects.proofs.ExchangeFrom as exchange
 use Rattle.hc_laws.proofs.{InRuns.{one_key_in_runs}, Reasons.{aimed}, RunFacts.{in_runs}}
-use Rattle.hc_effects.proofs.OpenedAs as opened
 
 -- what is carried along a run
 record Names (limits : Limits) (t : Tables) : Type 0 where
@@ -23,33 +22,25 @@ module _ (t : Tables) (now c : ℕ) (k : Consumer) where
   current_some is = ap is_some (candidate_is t now c k is.0 is.1).current_is
 
   some_asked : (n : Need) → is_about_some n ≡ true → Asked (plan_view t now c k) n → is_some (current t k.request.key) ≡ true
-  some_asked need.Disabled about is = absurd (false_true about)
-  some_asked need.TimedOut about is = absurd (false_true about)
-  some_asked need.Bypass about is = absurd (false_true about)
-  some_asked need.Miss about is = absurd (false_true about)
   some_asked need.Vary about is = current_some is
   some_asked need.Validate about is = current_some is
   some_asked (need.Hole from to) about is = current_some is
   some_asked need.Unsatisfied about is = current_some is
+  some_asked _ about is = absurd (false_true about)
 
   about_from : (n : Need) (p : Place) → k.place ≡ p → is_about_some n ≡ true → (bound_to k.place ≡ None → Asked (plan_view t now c k) n) → is_some (aim_from t k.request.key p) ≡ true
-  about_from n place.Line at about asked = some_asked n about (asked (ap bound_to at))
-  about_from n (place.Passed r kept) at about asked = some_asked n about (asked (ap bound_to at))
-  about_from n (place.Turn x) at about asked = some_asked n about (asked (ap bound_to at))
   about_from n (place.Bound r lo hi how) at about asked = refl
-  about_from n (place.Direct x) at about asked = some_asked n about (asked (ap bound_to at))
-  about_from n (place.Down why) at about asked = some_asked n about (asked (ap bound_to at))
-  about_from n place.Over at about asked = some_asked n about (asked (ap bound_to at))
+  about_from n _ at about asked = some_asked n about (asked (ap bound_to at))
 
   -- what is asked since nothing was current is about nothing
   miss_hole : (n : Need) → n ≡ need.Miss → route_of n ≡ route.Hole → ⊥
   miss_hole n is way = let never : route.Turn ≡ route.Hole = sym (ap route_of is) ∙ way in cc
 
   unbound : (n : Need) → n ≡ need.Miss → Way t now c k n → bound_to k.place ≡ None
-  unbound n is (opened.passes_by free way) = free
-  unbound n is (opened.fetches free way cached) = free
-  unbound n is (opened.fills r v span hole free way now_is row wants found hole_is cached) = free
-  unbound n is (opened.goes_on r lo hi how at way) = absurd (miss_hole n is way)
+  unbound n is (passes_by free way) = free
+  unbound n is (fetches free way cached) = free
+  unbound n is (fills r v span hole free way now_is row wants found hole_is cached) = free
+  unbound n is (goes_on r lo hi how at way) = absurd (miss_hole n is way)
 
   none_current : (o : Option ℕ) → current t k.request.key ≡ o → option_and_then (candidate_at t now k.request) o ≡ None → o ≡ None
   none_current None is none = refl
@@ -60,8 +51,7 @@ module _ (t : Tables) (now c : ℕ) (k : Consumer) where
   missed_from : (n : Need) → n ≡ need.Miss → Way t now c k n → (bound_to k.place ≡ None → Asked (plan_view t now c k) n) → aim_from t k.request.key k.place ≡ None
   missed_from n is way asked =
       let free = unbound n is way in
-      let none : (plan_view t now c k).current ≡ None = subst (Asked (plan_view t now c k)) is (asked free) in
-      aim_free t k.request.key k.place free ∙ none_current (current t k.request.key) refl none
+      aim_free t k.request.key k.place free ∙ none_current (current t k.request.key) refl (subst (Asked (plan_view t now c k)) is (asked free))
 
 -- EACH ENTRY
 
@@ -82,8 +72,7 @@ module _ (limits : Limits) (t : Tables) (now : ℕ) (flaw : Flaw) (s : Sound t) 
   missed_by x z is (exchange.new o none opens here made) =
       let by = opening_by limits t now flaw s ev goes o opens in
       let op = opened_as t now o.c by.k by.want o s by.poll.row by.move in
-      let miss : o.need ≡ need.Miss = ap (λ (q : Exchange). q.need) made ∙ is in
-      sym (ap (λ (q : Exchange). q.aim) made) ∙ (ap (aim_of t) by.poll.row ∙ missed_from t now o.c by.k o.need miss op.way op.asked)
+      sym (ap (λ (q : Exchange). q.aim) made) ∙ (ap (aim_of t) by.poll.row ∙ missed_from t now o.c by.k o.need (ap (λ (q : Exchange). q.need) made ∙ is) op.way op.asked)
 
   names_kept : Names limits (after_accepted t e)
   names_kept = record {
@@ -106,9 +95,8 @@ pub aims_in_runs : OfRuns Aims
 aims_in_runs limits contents h may run =
     let n = names limits contents h may run in
     let a = aimed limits contents h may run in
-    let one = one_key_in_runs limits contents h may run in
     record {
-      about = λ x w row about. has_aim (tables contents h) one x w row (n.about x w row about);
+      about = λ x w row about. has_aim (tables contents h) (one_key_in_runs limits contents h may run) x w row (n.about x w row about);
       missed = n.missed;
       joined = λ x r w row is. a.joins x r w row is;
       first = a.first;
@@ -131,14 +119,12 @@ module _ (t : Tables) (lost : Bool) (w : Exchange) (response : Response) (aim : 
 
   by_need : (n : Need) → w.need ≡ n → needs_aim n ≡ false → head_case (head_view t lost other response) ≡ head_case (head_view t lost w response)
   unfolding head_case
-  by_need need.Disabled is free = rw is refl
-  by_need need.TimedOut is free = rw is refl
   by_need need.Bypass is free = by_turn need.Bypass refl is refl (λ v. refl)
   by_need need.Miss is free = by_turn need.Miss refl is refl (λ v. refl)
   by_need need.Vary is free = by_turn need.Vary refl is refl (λ v. refl)
   by_need need.Validate is free = absurd (false_true (sym free))
   by_need (need.Hole from to) is free = absurd (false_true (sym free))
-  by_need need.Unsatisfied is free = rw is refl
+  by_need _ is free = rw is refl
 
 pub case_without_aim : CaseWithoutAim
 case_without_aim t lost w response aim free = by_need t lost w response aim w.need refl free

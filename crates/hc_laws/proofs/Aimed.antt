@@ -12,9 +12,6 @@ pub record IsAimed (t : Tables) : Type 0 where
   pub first : (c r lo y : ℕ) (hi : Option ℕ) (k : Consumer) (w : Exchange) → t.consumer c ≡ Some k → k.place ≡ place.Bound r lo hi (by.FirstHole y) → t.exchange y ≡ Some w → w.aim ≡ Some r
   pub joins : (x q : ℕ) (w : Exchange) → t.exchange x ≡ Some w → w.joined ≡ Some q → w.aim ≡ Some q
 
-first_inj : (y x : ℕ) → by.FirstHole y ≡ by.FirstHole x → y ≡ x
-first_inj y x is = cc
-
 joined_if : (b : Bool) (aim : Option ℕ) (q : ℕ) → cond b aim None ≡ Some q → aim ≡ Some q
 joined_if true aim q is = is
 joined_if false aim q is = absurd (none_some q is)
@@ -32,16 +29,14 @@ module _ (limits : Limits) (t : Tables) (now : ℕ) (flaw : Flaw) (s : Sound t) 
       by_heard : ((z.head ≡ w.head) × (z.joined ≡ w.joined)) ⊎ IsHeaded t e x w z → z.aim ≡ Some q
       by_heard (inl still) = same.aim_is ∙ a.joins x q w row (sym still.1 ∙ is)
       by_heard (inr got) =
-          let bare = (is_new limits t now flaw s ev goes x got.response w got.at row).bare in
-          let none : w.joined ≡ None = (s.waits.headless x w row bare).1 in
+          let none : w.joined ≡ None = (s.waits.headless x w row ((is_new limits t now flaw s ev goes x got.response w got.at row).bare)).1 in
           same.aim_is ∙ joined_if (is_joining (case_at t e)) w.aim q (sym (got.joined_is ∙ ap (λ z1. cond (is_joining (case_at t e)) w.aim z1) none) ∙ is)
   joins_by x q z is (exchange.new p none opens here made) = absurd (none_some q (ap (λ (w : Exchange). w.joined) made ∙ is))
 
   aim_on : (y r : ℕ) (w z : Exchange) → t.exchange y ≡ Some w → now_on.exchange y ≡ Some z → w.aim ≡ Some r → z.aim ≡ Some r
   aim_on y r w z row after is =
       let on = is_on t e y w row in
-      let one : on.u ≡ z = same_row (now_on.exchange y) on.u z on.row after in
-      sym (ap (λ (q : Exchange). q.aim) one) ∙ (on.same.aim_is ∙ is)
+      sym (ap (λ (q : Exchange). q.aim) (same_row (now_on.exchange y) on.u z on.row after)) ∙ (on.same.aim_is ∙ is)
 
   first_by : (c r lo y : ℕ) (hi : Option ℕ) (u : Consumer) (z : Exchange) → now_on.exchange y ≡ Some z → BoundFrom t e c r lo hi (by.FirstHole y) u → z.aim ≡ Some r
   first_by c r lo y hi u z after (from.stays k row at) =
@@ -50,13 +45,12 @@ module _ (limits : Limits) (t : Tables) (now : ℕ) (flaw : Flaw) (s : Sound t) 
   first_by c r lo y hi u z after (from.founds k x response w row here exchange_row mine of_r by_is all) = absurd (let no : by.FirstHole y ≡ by.Founding = by_is in cc)
   first_by c r lo y hi u z after (from.opens k p row opens mine free way hole) =
       let op = is_opener limits t now flaw s ev goes c k p row.row opens mine in
-      let same : p.x ≡ y = sym (first_inj y p.x hole.by_is) in
+      let same : p.x ≡ y = cc in
       let made : now_on.exchange y ≡ Some (exchange_opened t e p) = opened_on t e y p (t.exchange y) (new_number limits t now flaw s o ev goes p y opens same) opens same in
-      let one : exchange_opened t e p ≡ z = same_row (now_on.exchange y) (exchange_opened t e p) z made after in
       let unbound : bound_to k.place ≡ None = sym (ap bound_to op.place_is) ∙ free in
       let asked : (waiting t e c (consumer_heard t e c ev k)).request ≡ k.request = ap (λ (q : Consumer). q.request) op.heard_is in
       let aims : aim_of t (t.consumer p.c) ≡ Some r = ap (aim_of t) (ap t.consumer mine ∙ row.row) ∙ (aim_free t k.request.key k.place unbound ∙ (sym (ap (λ (q : Request). current t q.key) asked) ∙ hole.current_is)) in
-      sym (ap (λ (q : Exchange). q.aim) one) ∙ aims
+      sym (ap (λ (q : Exchange). q.aim) (same_row (now_on.exchange y) (exchange_opened t e p) z made after)) ∙ aims
   first_by c r lo y hi u z after (from.shows k p row is all) = absurd (let no : by.FirstHole y ≡ by.Plan = all.by_is in cc)
 
   pub aimed_kept : IsAimed now_on

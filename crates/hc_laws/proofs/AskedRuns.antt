@@ -5,7 +5,7 @@
 -- asked, at the beginning and after each entry. A piece takes the asking away, and the acts of a head or a piece ask nothing.
 use Rattle.std.{proofs.Common.{◌≡◌, inl, inr, ℕ, [], ◌∷◌, ◌++◌, Bool, true, false, Option, Some, None, refl, ap, sym, ◌∙◌, subst}, specs.{Prelude.{is_some, if◌then◌else◌, ◌==◌, ◌||◌}, Option.{option_or}}}
 use Rattle.hc_text.proofs.Basics.{bool_cases, not_some as none_some, same_some as same_row, some_inj}
-use Rattle.hc_effects.proofs.Vocabulary.{Opening, opening_in, asks_in, is_denied, Event, Response, head_refusal, Limits, Place, accepted_acts, answer_acts, loss_acts, may_begin, closing, denial, as_open, is_live, Entry, History, Contents, exchange_after, exchange_acted, exchange_heard, exchange_made, exchange_opened, with_head, with_piece, exchange_in, is_headless, flaw_in, OfRuns, OfHistories, Turns, Move, Nothing, Asks, Opens, Shows, Gives, Ends, Fails, acts_of, Owners, poll_move, is_written, own_open, shared_exchange, writing_in, source, Tables, Exchange, Representation, Consumer, IsRun, IsOwed, Sound, tables, after_accepted, after_denied, brings_body}
+use Rattle.hc_effects.proofs.Vocabulary.{Opening, opening_in, asks_in, Event, Response, head_refusal, Limits, Place, accepted_acts, answer_acts, loss_acts, closing, denial, as_open, is_live, Entry, exchange_after, exchange_acted, exchange_heard, exchange_made, exchange_opened, with_head, with_piece, exchange_in, is_headless, flaw_in, entry_of, OfRuns, OfHistories, Turns, Move, Asks, acts_of, Owners, poll_move, is_written, own_open, shared_exchange, writing_in, source, Tables, Exchange, Representation, Consumer, Sound, tables, after_accepted, brings_body}
 use Rattle.hc_event.specs.declared.act.Wait.TheVariants as wait
 use Rattle.hc_event.specs.declared.event.Event.TheVariants as event
 use Rattle.hc_rules.specs.Refusals as refusals
@@ -13,16 +13,12 @@ use Rattle.hc_event.specs.declared.place.Place.TheVariants as place
 use Rattle.hc_model.specs.Asking.{AsksAnew}
 use Rattle.hc_model.specs.Moves as moves
 use Rattle.hc_effects.proofs.{AboutKeeps.{own_open_of}, ActParts.{asks_closed, asks_loss}, Basics.{false_true, some_none}, EventsKeep.{poll_live}, Owed.{goes}, PieceKeeps.{eq_cases}, PollKeys.{IsNear, near_polled}}
-use Rattle.hc_laws.proofs.{Barred.{next_tables, denied_tables}, InRuns.{turned_in_runs}, SoundRuns.{carried}, TurnFacts.{IsTaken, AtPoll, at_poll, told_quiet, is_asking, behind, seen}, TurnStays.{head_opens, head_none, polls_head}}
+use Rattle.hc_laws.proofs.{Barred.{next_tables}, InRuns.{IsTurned, turned_in_runs}, RunFacts.{in_runs_with}, SoundRuns.{carried}, TurnFacts.{moves_on, misreads, acts_is, IsTaken, AtPoll, at_poll, told_quiet, is_asking, behind, seen}, TurnStays.{head_opens, head_none, polls_head}}
 use Rattle.hc_effects.proofs.PollKeys as near
-use Rattle.hc_laws.proofs.TurnFacts as facts
 
 -- what has no head wasn't asked
 pub record AreUnasked (t : Tables) : Type 0 where
   pub bare : (x : ℕ) (w : Exchange) → t.exchange x ≡ Some w → w.head ≡ None → w.asked ≡ false
-
-no_head : {A : Type 0} (response : Response) → Some response ≡ None → A
-no_head response is = absurd (some_none response is)
 
 -- what an event says of an exchange that stays without a head
 module _ (t : Tables) (e : Entry) (x : ℕ) (w : Exchange) where
@@ -30,12 +26,10 @@ module _ (t : Tables) (e : Entry) (x : ℕ) (w : Exchange) where
   IsBare z = z.head ≡ None → (w.head ≡ None) × (z.asked ≡ false)
 
   heard_bare : (ev : Event) → (w.head ≡ None → w.asked ≡ false) → IsBare (exchange_heard t e x ev w)
-  heard_bare (event.Start c request) was bare = (bare, was bare)
-  heard_bare (event.Poll c want) was bare = (bare, was bare)
   heard_bare (event.Head y response) was bare = by_test (y == x) bare
     where
       by_test : (b : Bool) → IsBare (if b then with_head t e response w else w)
-      by_test true bare = no_head response bare
+      by_test true bare = absurd (some_none response bare)
       by_test false bare = (bare, was bare)
   heard_bare (event.Piece y bytes) was bare = by_test (y == x) bare
     where
@@ -52,20 +46,13 @@ module _ (t : Tables) (e : Entry) (x : ℕ) (w : Exchange) where
       by_test : (b : Bool) → IsBare (if b then record w { is_open = false } else w)
       by_test true bare = (bare, was bare)
       by_test false bare = (bare, was bare)
-  heard_bare (event.Cancel c) was bare = (bare, was bare)
-  heard_bare (event.Doom key) was bare = (bare, was bare)
+  heard_bare _ was bare = (bare, was bare)
 
 -- WHO ASKS
 
 asks_from : (t : Tables) (k : Consumer) (x : ℕ) (m : Move) → IsNear t k m → m ≡ Asks x → source t k ≡ Some x
 asks_from t k x _ (near.asks y from) is = from ∙ ap Some (let same : y ≡ x = cc in same)
-asks_from t k x _ near.nothing is = absurd (let no : Nothing ≡ Asks x = is in cc)
-asks_from t k x _ (near.waits w) is = absurd (let no : moves.Waits w ≡ Asks x = is in cc)
-asks_from t k x _ (near.opens y n request same) is = absurd (let no : Opens y n request ≡ Asks x = is in cc)
-asks_from t k x _ (near.shows r why head lo hi now) is = absurd (let no : Shows r why head lo hi ≡ Asks x = is in cc)
-asks_from t k x _ (near.given run) is = absurd (let no : Gives run ≡ Asks x = is in cc)
-asks_from t k x _ near.ends is = absurd (let no : Ends ≡ Asks x = is in cc)
-asks_from t k x _ (near.fails why) is = absurd (let no : Fails why ≡ Asks x = is in cc)
+asks_from t k x _ _ is = cc
 
 module _ (t : Tables) (s : Sound t) (o : Owners t) (turns : Turns t) (now c want x : ℕ) (k : Consumer) (w : Exchange) (row : t.consumer c ≡ Some k) (w_row : t.exchange x ≡ Some w) (bare : w.head ≡ None) where
   -- a writing for several has its head
@@ -83,12 +70,7 @@ module _ (t : Tables) (s : Sound t) (o : Owners t) (turns : Turns t) (now c want
 
   member_not : (p : Place) → shared_exchange t p ≡ Some x → ⊥
   member_not (place.Bound r lo hi how) is = writing_not r (t.representation r) refl is
-  member_not place.Line is = none_some x is
-  member_not (place.Passed r kept) is = none_some x is
-  member_not (place.Turn y) is = none_some x is
-  member_not (place.Direct y) is = none_some x is
-  member_not (place.Down why) is = none_some x is
-  member_not place.Over is = none_some x is
+  member_not _ is = none_some x is
 
   -- its own consumer is told to wait for the head
   own_not : own_open t k ≡ Some x → poll_move t now want c (Some k) ≡ Asks x → ⊥
@@ -124,39 +106,25 @@ module _ (limits : Limits) (t : Tables) (e : Entry) (taken : IsTaken limits t e)
     | inl here ↦ absurd (other (ap Asks here.1))
     | inr off ↦ rw off.0 (behind_asks x)
   ]
-  move_asks x c Nothing other = behind_asks x
-  move_asks x c (moves.Waits w) other = behind_asks x
-  move_asks x c (Opens y n request) other = behind_asks x
-  move_asks x c (Shows r why head lo hi) other = behind_asks x
-  move_asks x c (Gives run) other = behind_asks x
-  move_asks x c Ends other = behind_asks x
-  move_asks x c (Fails why) other = behind_asks x
+  move_asks x c _ other = behind_asks x
 
   module _ (x : ℕ) (w : Exchange) (row : t.exchange x ≡ Some w) (bare : w.head ≡ None) where
     by_poll : (c : ℕ) (k : Consumer) → t.consumer c ≡ Some k → AtPoll limits t e taken c k → asks_in x e.acts ≡ false
-    by_poll c k its (facts.moves_on want m at m_is does all saw) =
+    by_poll c k its (moves_on want m at m_is does all saw) =
         ap (asks_in x) all ∙ move_asks x c m (λ asks. asks_not t s o turns e.now c want x k w its row bare (sym m_is ∙ asks))
-    by_poll c k its (facts.misreads want r at all saw) = ap (asks_in x) all ∙ behind_asks x
+    by_poll c k its (misreads want r at all saw) = ap (asks_in x) all ∙ behind_asks x
 
     polled : (c want : ℕ) (q : Option Consumer) → e.event ≡ event.Poll c want → t.consumer c ≡ q → is_live q ≡ true → asks_in x e.acts ≡ false
     polled c want None at its live = absurd (false_true live)
     polled c want (Some k) at its live = by_poll c k its (at_poll limits t e taken c want k s turns its at)
 
-    quiet : (ev : Event) → e.event ≡ ev → answer_acts t e.now ev (flaw_in e.acts) ≡ [] → is_asking ev ≡ false → asks_in x e.acts ≡ false
-    quiet ev at none off = (told_quiet limits t e taken x 0 (ap (λ z. answer_acts t e.now z (flaw_in e.acts)) at ∙ none) (ap is_asking at ∙ off)).asks
-
     unasked : (ev : Event) → e.event ≡ ev → asks_in x e.acts ≡ false
     unfolding refusals.refusal_of
     unasked (event.Poll c want) at = polled c want (t.consumer c) at refl (poll_live limits t e.now (flaw_in e.acts) s c want (sym (ap (denial t) at) ∙ goes limits t e taken.owed taken.not_denied))
-    unasked (event.Start c request) at = quiet (event.Start c request) at refl refl
-    unasked (event.Head y response) at = quiet (event.Head y response) at refl refl
-    unasked (event.Piece y bytes) at = quiet (event.Piece y bytes) at refl refl
-    unasked (event.End y) at = quiet (event.End y) at refl refl
-    unasked (event.Fault y) at = quiet (event.Fault y) at refl refl
     unasked (event.Cancel c) at =
-        ap (asks_in x) (facts.acts_is limits t e taken ∙ ap (λ z. accepted_acts limits t e.now z (flaw_in e.acts)) at)
+        ap (asks_in x) (acts_is limits t e taken ∙ ap (λ z. accepted_acts limits t e.now z (flaw_in e.acts)) at)
         ∙ ((asks_closed x 0 (closing t (record { now = e.now; event = event.Cancel c; acts = loss_acts (flaw_in e.acts) })) _).asks ∙ (asks_loss x 0 (flaw_in e.acts)).asks)
-    unasked (event.Doom key) at = quiet (event.Doom key) at refl refl
+    unasked v at = (told_quiet limits t e taken x 0 (ap (λ z. answer_acts t e.now z (flaw_in e.acts)) at) (ap is_asking at)).asks
 
   made_unasked : (x : ℕ) (q : Option Opening) (z : Exchange) → exchange_made t e x q ≡ Some z → z.asked ≡ false
   made_unasked x None z is = absurd (none_some z is)
@@ -181,8 +149,7 @@ module _ (limits : Limits) (t : Tables) (e : Entry) (taken : IsTaken limits t e)
   head_bare : (x : ℕ) (response : Response) (w : Exchange) → e.event ≡ event.Head x response → t.exchange x ≡ Some w → is_headless (Some w) ≡ true
   unfolding refusals.refusal_of
   head_bare x response w at row =
-      let here : denial t (event.Head x response) ≡ None = sym (ap (denial t) at) ∙ goes limits t e taken.owed taken.not_denied in
-      head_opens w (sym (ap (λ z. head_refusal (as_open z)) row) ∙ here)
+      head_opens w (sym (ap (λ z. head_refusal (as_open z)) row) ∙ (sym (ap (denial t) at) ∙ goes limits t e taken.owed taken.not_denied))
 
   heard_anew : (x : ℕ) (w : Exchange) (ev : Event) → e.event ≡ ev → t.exchange x ≡ Some w → brings_body ev ≡ true → exchange_in ev ≡ Some x → (exchange_heard t e x ev w).asked ≡ false
   heard_anew x w (event.Head y response) at row brings is = elim (eq_cases y x) [
@@ -193,22 +160,12 @@ module _ (limits : Limits) (t : Tables) (e : Entry) (taken : IsTaken limits t e)
     | inr off ↦ absurd (off.1 (some_inj y x is))
     | inl here ↦ rw here.0 refl
   ]
-  heard_anew x w (event.Start c request) at row brings is = absurd (false_true brings)
-  heard_anew x w (event.Poll c want) at row brings is = absurd (false_true brings)
-  heard_anew x w (event.End y) at row brings is = absurd (false_true brings)
-  heard_anew x w (event.Fault y) at row brings is = absurd (false_true brings)
-  heard_anew x w (event.Cancel c) at row brings is = absurd (false_true brings)
-  heard_anew x w (event.Doom key) at row brings is = absurd (false_true brings)
+  heard_anew x w _ at row brings is = absurd (false_true brings)
 
   quiet_at : (x : ℕ) (ev : Event) → e.event ≡ ev → brings_body ev ≡ true → asks_in x e.acts ≡ false
   quiet_at x (event.Head y response) at brings = (told_quiet limits t e taken x 0 (ap (λ z. answer_acts t e.now z (flaw_in e.acts)) at) (ap is_asking at)).asks
   quiet_at x (event.Piece y bytes) at brings = (told_quiet limits t e taken x 0 (ap (λ z. answer_acts t e.now z (flaw_in e.acts)) at) (ap is_asking at)).asks
-  quiet_at x (event.Start c request) at brings = absurd (false_true brings)
-  quiet_at x (event.Poll c want) at brings = absurd (false_true brings)
-  quiet_at x (event.End y) at brings = absurd (false_true brings)
-  quiet_at x (event.Fault y) at brings = absurd (false_true brings)
-  quiet_at x (event.Cancel c) at brings = absurd (false_true brings)
-  quiet_at x (event.Doom key) at brings = absurd (false_true brings)
+  quiet_at x _ at brings = absurd (false_true brings)
 
   anew_by : (x : ℕ) (q : Option Exchange) (z : Exchange) → brings_body e.event ≡ true → exchange_in e.event ≡ Some x → t.exchange x ≡ q → exchange_after t e x q ≡ Some z → z.asked ≡ false
   unfolding exchange_after
@@ -222,20 +179,11 @@ module _ (limits : Limits) (t : Tables) (e : Entry) (taken : IsTaken limits t e)
 
 -- IN RUNS
 
-unasked_denied : (t : Tables) (e : Entry) → AreUnasked t → AreUnasked (after_denied t e)
-unasked_denied t e are = record { bare = are.bare }
-
-by_denial : (limits : Limits) (contents : Contents) (h : History) (e : Entry) (b : Bool) → is_denied e.acts ≡ b → may_begin limits contents ≡ true → IsRun limits contents h → IsOwed limits (tables contents h) e → AreUnasked (tables contents h) → AreUnasked (tables contents (e ∷ h))
-by_denial limits contents h e true denied may run owed are = subst AreUnasked (denied_tables contents h e denied) (unasked_denied (tables contents h) e are)
-by_denial limits contents h e false accepted may run owed are =
-    let c = carried limits contents h may run in
-    subst AreUnasked (next_tables contents h e accepted)
-    (unasked_kept limits (tables contents h) e (record { owed = owed; not_denied = accepted }) c.is_sound c.is_owned (turned_in_runs limits contents h may run).turns are)
-
 pub unasked_in_runs : OfRuns AreUnasked
-unfolding tables
-unasked_in_runs limits contents [] may run = record { bare = λ x w row bare. absurd (none_some w row) }
-unasked_in_runs limits contents (e ∷ h) may run = by_denial limits contents h e (is_denied e.acts) refl may run.0 run.1 (unasked_in_runs limits contents h may run.0)
+unasked_in_runs = in_runs_with (λ limits t. AreUnasked t) (λ limits t. IsTurned t) turned_in_runs
+    (λ limits contents may. record { bare = λ x w row bare. absurd (none_some w row) })
+    (λ limits t e later are. record { bare = are.bare })
+    (λ limits t now flaw ev s turned are. unasked_kept limits t (entry_of limits t now ev flaw) (record { owed = s.owed; not_denied = s.real.taken }) s.before.is_sound s.before.is_owned turned.turns are)
 
 pub asks_anew_in_runs : OfHistories AsksAnew
 asks_anew_in_runs limits contents [] may run = tt

@@ -2,14 +2,14 @@
 --
 -- Such an exchange was opened where its consumer stood, which is where the hole begins, and isn't empty. Until its head comes
 -- the consumer is given nothing, and the exchange asks for the same hole.
-use Rattle.std.proofs.Common.{◌≡◌, ℕ, ◌+◌, ◌<◌, ◌≤◌, [], ◌∷◌, Bool, true, false, Option, Some, None, refl, ap, sym, ◌∙◌, subst, arith}
+use Rattle.std.proofs.Common.{◌≡◌, ℕ, ◌+◌, ◌<◌, ◌≤◌, true, Option, Some, refl, ap, sym, ◌∙◌, subst, arith}
 use Rattle.hc_text.proofs.Basics.{not_some as none_some, same_some as same_row, some_inj}
-use Rattle.hc_effects.proofs.Vocabulary.{Opening, opening_in, is_denied, Need, Limits, route_of, BoundBy, may_begin, opened_place, unless_bound, denial, Entry, History, Contents, aim_from, exchange_opened, exchange_acted, exchange_heard, is_headless, flaw_in, hole_at, IsOfOneKey, OfRuns, Turns, bound, bound_to, lo_of, offset, Tables, Exchange, Consumer, IsRun, IsOwed, Sound, InHole, tables, after_accepted, after_denied}
+use Rattle.hc_effects.proofs.Vocabulary.{Opening, opening_in, Need, Limits, route_of, BoundBy, opened_place, unless_bound, Entry, aim_from, exchange_opened, exchange_acted, exchange_heard, is_headless, entry_of, flaw_in, hole_at, IsOfOneKey, OfRuns, Turns, bound, bound_to, lo_of, offset, Tables, Exchange, Consumer, Sound, InHole, after_accepted, after_denied}
 use Rattle.hc_event.specs.declared.act.Need.TheVariants as need
 use Rattle.hc_rules.specs.declared.need.Route.TheVariants as route
 use Rattle.hc_event.specs.declared.place.Place.TheVariants as place
 use Rattle.hc_model.specs.Sound as sound
-use Rattle.hc_laws.proofs.{Barred.{next_tables, denied_tables}, InRuns.{turned_in_runs}, SoundRuns.{runs_are_sound}, TurnFacts.{IsTaken}, TurnOpens.{OpensFor, opened_at, opener_after}, TurnStays.{after_same}, TurnsKeep.{WasHeadless, was_headless, same_entry}}
+use Rattle.hc_laws.proofs.{InRuns.{IsTurned, turned_in_runs}, RunFacts.{in_runs_with}, TurnFacts.{IsTaken}, TurnOpens.{OpensFor, opened_at, opener_after}, TurnStays.{after_same}, TurnsKeep.{WasHeadless, was_headless, same_entry}}
 use Rattle.hc_effects.proofs.{Basics.{true_false}, ExclusiveWriters.{bound_some}, HoleLemmas.{hole_some}, KeysKeep.{same_exchange}, OpensFrom.{IsHole, hole_is, opens_hole}, Owed.{goes}, PollTree.{OpensHole}, Said.{OpensBy, opening_by}}
 use Rattle.hc_effects.proofs.PollTree as tree
 use Rattle.hc_laws.proofs.TurnOpens as opens
@@ -32,19 +32,15 @@ module _ (limits : Limits) (t : Tables) (e : Entry) (taken : IsTaken limits t e)
   abbrev u : Tables
   u = after_accepted t e
 
-  goes_on : denial t e.event ≡ None
-  goes_on = goes limits t e taken.owed taken.not_denied
-
   -- IT WAITED
 
   waited : (x r lo : ℕ) (z w : Exchange) (q : Consumer) → WaitsShown u x r lo z q → (row : t.exchange x ≡ Some w) (bare : is_headless (Some w) ≡ true) → z ≡ exchange_acted x e.acts (exchange_heard t e x e.event w) → keeps.Stays t e x w (exchange_heard t e x e.event w) → InHole z.need (lo + q.given)
   waited x r lo z w q waits row bare is stays =
       let same = same_exchange t e x e.event w in
-      let c_is : z.c ≡ w.c = ap (λ (a : Exchange). a.c) is ∙ same.c_is in
       let need_is : z.need ≡ w.need = ap (λ (a : Exchange). a.need) is ∙ same.need_is in
       let it = turns.awaited x w row bare in
       let a = after_same limits t e taken s one turns x w row bare stays in
-      let mine : a.0 ≡ q = same_row (u.consumer w.c) a.0 q a.1 (sym (ap u.consumer c_is) ∙ waits.its) in
+      let mine : a.0 ≡ q = same_row (u.consumer w.c) a.0 q a.1 (sym (ap u.consumer (ap (λ (a : Exchange). a.c) is ∙ same.c_is)) ∙ waits.its) in
       let before : InHole w.need (lo + it.k.given) = are.stand x r lo w it.k (record {
         row = row;
         headless = bare;
@@ -54,15 +50,14 @@ module _ (limits : Limits) (t : Tables) (e : Entry) (taken : IsTaken limits t e)
         how = waits.how;
         at = sym a.2.place ∙ (ap (λ (k : Consumer). k.place) mine ∙ waits.at);
       }) in
-      let given : it.k.given ≡ q.given = sym a.2.given ∙ ap (λ (k : Consumer). k.given) mine in
-      subst (λ n. InHole z.need (lo + n)) given (subst (λ n. InHole n (lo + it.k.given)) (sym need_is) before)
+      subst (λ n. InHole z.need (lo + n)) (sym a.2.given ∙ ap (λ (k : Consumer). k.given) mine) (subst (λ n. InHole n (lo + it.k.given)) (sym need_is) before)
 
   -- IT IS OPENED
 
   opens_here : (o : Opening) → opening_in e.acts ≡ Some o → OpensBy t e.now e.event o
   opens_here o is =
       subst (λ (z : Entry). opening_in z.acts ≡ Some o → OpensBy t z.now z.event o) (same_entry limits t e taken s one turns)
-      (λ also. opening_by limits t e.now (flaw_in e.acts) s e.event goes_on o also) is
+      (λ also. opening_by limits t e.now (flaw_in e.acts) s e.event (goes limits t e taken.owed taken.not_denied) o also) is
 
   in_hole : (n : Need) (from to p : ℕ) → n ≡ need.Hole from to → from ≤ p → p < to → InHole n p
   in_hole n from to p is le lt = subst (λ (z : Need). InHole z p) (sym is) (le, lt)
@@ -70,8 +65,7 @@ module _ (limits : Limits) (t : Tables) (e : Entry) (taken : IsTaken limits t e)
   -- it begins where its consumer stands, and isn't empty
   ahead : (c r lo : ℕ) (hi : Option ℕ) (how : BoundBy) (k : Consumer) (n : Need) (hole : IsHole n) → t.consumer c ≡ Some k → k.place ≡ place.Bound r lo hi how → OpensHole t c k hole.from hole.to → InHole n (offset t k)
   ahead c r lo hi how k n hole row at (tree.first q v span gap is aims there nobody found from_is to_is) =
-      let number : r ≡ q = some_inj r q (sym (ap (aim_from t k.request.key) at) ∙ aims) in
-      absurd (bound_some t r c k s.numbered (sound.is_bound lo hi how row at) (ap (bound t) number ∙ nobody))
+      absurd (bound_some t r c k s.numbered (sound.is_bound lo hi how row at) (ap (bound t) (some_inj r q (sym (ap (aim_from t k.request.key) at) ∙ aims)) ∙ nobody))
   ahead c r lo hi how k n hole row at (tree.later q end most v stands none from_is to_is) =
       let some : offset t k < (hole_at v.stored v.reach (offset t k) end).hi = hole_some v.stored v.reach (offset t k) end stands.missing stands.before in
       in_hole n hole.from hole.to (offset t k) hole.is (omega arith) (omega arith)
@@ -87,8 +81,7 @@ module _ (limits : Limits) (t : Tables) (e : Entry) (taken : IsTaken limits t e)
   opened x r lo z q o waits is made =
       let it = opened_at limits t e taken s turns o is in
       let a = opener_after limits t e taken s turns o is in
-      let c_is : z.c ≡ o.c = ap (λ (w : Exchange). w.c) made in
-      let mine : a.0 ≡ q = same_row (u.consumer o.c) a.0 q a.1 (sym (ap u.consumer c_is) ∙ waits.its) in
+      let mine : a.0 ≡ q = same_row (u.consumer o.c) a.0 q a.1 (sym (ap u.consumer (ap (λ (w : Exchange). w.c) made)) ∙ waits.its) in
       let shown : it.k.shown ≡ true = sym a.2.shown ∙ (ap (λ (k : Consumer). k.shown) mine ∙ waits.shown) in
       let both = later_bound o.c r lo o.x waits.hi waits.how it.k o.need shown (sym a.2.place ∙ (ap (λ (k : Consumer). k.place) mine ∙ waits.at)) it.why in
       let by = opens_here o is in
@@ -110,14 +103,8 @@ module _ (limits : Limits) (t : Tables) (e : Entry) (taken : IsTaken limits t e)
 at_holes_denied : (t : Tables) (e : Entry) → AreAtHoles t → AreAtHoles (after_denied t e)
 at_holes_denied t e are = record { stand = λ x r lo w k waits. are.stand x r lo w k (record { row = waits.row; headless = waits.headless; its = waits.its; shown = waits.shown; hi = waits.hi; how = waits.how; at = waits.at }) }
 
-by_denial : (limits : Limits) (contents : Contents) (h : History) (e : Entry) (b : Bool) → is_denied e.acts ≡ b → may_begin limits contents ≡ true → IsRun limits contents h → IsOwed limits (tables contents h) e → AreAtHoles (tables contents h) → AreAtHoles (tables contents (e ∷ h))
-by_denial limits contents h e true denied may run owed are = subst AreAtHoles (denied_tables contents h e denied) (at_holes_denied (tables contents h) e are)
-by_denial limits contents h e false accepted may run owed are =
-    let turned = turned_in_runs limits contents h may run in
-    subst AreAtHoles (next_tables contents h e accepted)
-    (at_holes_kept limits (tables contents h) e (record { owed = owed; not_denied = accepted }) (runs_are_sound limits contents h may run) turned.one turned.turns are)
-
 pub at_holes_in_runs : OfRuns AreAtHoles
-unfolding tables
-at_holes_in_runs limits contents [] may run = record { stand = λ x r lo w k waits. absurd (none_some w waits.row) }
-at_holes_in_runs limits contents (e ∷ h) may run = by_denial limits contents h e (is_denied e.acts) refl may run.0 run.1 (at_holes_in_runs limits contents h may run.0)
+at_holes_in_runs = in_runs_with (λ limits t. AreAtHoles t) (λ limits t. IsTurned t) turned_in_runs
+    (λ limits contents may. record { stand = λ x r lo w k waits. absurd (none_some w waits.row) })
+    (λ limits t e later are. at_holes_denied t e are)
+    (λ limits t now flaw ev s turned are. at_holes_kept limits t (entry_of limits t now ev flaw) (record { owed = s.owed; not_denied = s.real.taken }) s.before.is_sound turned.one turned.turns are)

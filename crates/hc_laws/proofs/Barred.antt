@@ -1,15 +1,14 @@
 -- What isn't gone, and what may still found, was opened after the last doom of its key.
-use Rattle.std.{proofs.Common.{◌≡◌, ◌≢◌, ◌⊎◌, inl, inr, ℕ, ◌+◌, ◌<◌, ◌≤◌, List, ◌∷◌, Bool, true, false, Option, Some, None, refl, ap, sym, ◌∙◌, subst, arith}, specs.{Prelude.{◌||◌, nat_eq, if◌then◌else◌}, Option.{option_map}}}
-use Rattle.hc_text.proofs.Basics.{bool_cases, not_some as none_some, never_true as not_true, same_some as same_row}
-use Rattle.hc_effects.proofs.Vocabulary.{Opening, opening_in, is_denied, Request, Response, route_of, head_refusal, head_case, case_on, direct_case, first_case, later_case, HeadCase, HeadView, Route, Limits, BoundBy, has_loss, Showing, showing_in, case_at, case_of, head_view, is_founding, was_shown, consumer_heard, by_opening, waiting, is_current, is_number, denial, as_open, doomed_key_of, doomed_in, doomed_by_head, doomed_by_case, is_key, Entry, History, Content, Contents, exchange_heard, is_headless, Flaw, flaw_in, becomes_gone, IsOfOneKey, Turns, StandsFor, IsBarred, AreNumbered, IsBoundBehindDooms, item_of, reads, Tables, Exchange, Representation, Consumer, IsOwed, Sound, IsBound, tables, after, after_accepted, after_denied, representation_of_content, opened_after, awaited_exchange}
+use Rattle.std.{proofs.Common.{◌≡◌, ◌≢◌, ◌⊎◌, inl, inr, ℕ, ◌+◌, ◌<◌, ◌≤◌, List, ◌∷◌, Bool, true, false, Option, Some, None, refl, ap, sym, ◌∙◌, subst, arith}, specs.{Prelude.{◌||◌, if◌then◌else◌}, Option.{option_map}}}
+use Rattle.hc_text.proofs.Basics.{eq_itself, bool_cases, not_some as none_some, never_true as not_true, same_some as same_row}
+use Rattle.hc_effects.proofs.Vocabulary.{Opening, opening_in, is_denied, Request, Response, route_of, head_refusal, head_case, case_on, first_case, later_case, HeadCase, HeadView, Route, Limits, BoundBy, has_loss, Showing, showing_in, case_at, case_of, head_view, is_founding, was_shown, consumer_heard, by_opening, waiting, is_current, is_number, denial, as_open, doomed_key_of, doomed_in, doomed_by_head, doomed_by_case, is_key, Entry, History, Content, Contents, exchange_heard, is_headless, Flaw, flaw_in, becomes_gone, IsOfOneKey, Turns, StandsFor, IsBarred, AreNumbered, IsBoundBehindDooms, item_of, reads, Tables, Exchange, Representation, Consumer, IsOwed, Sound, IsBound, tables, after, after_accepted, after_denied, representation_of_content, opened_after, awaited_exchange}
 use Rattle.hc_event.specs.declared.event.Event.TheVariants as event
 use Rattle.hc_rules.specs.Refusals as refusals
 use Rattle.hc_rules.specs.declared.heads.HeadCase.TheVariants as case
 use Rattle.hc_rules.specs.declared.need.Route.TheVariants as route
-use Rattle.hc_model.specs.{Currents.{current as current_of}, Laws.{BarrierIsKept, BarrierBegins, IsNewlyBound, barrier, barrier_at}}
+use Rattle.hc_model.specs.{Sound.{is_bound}, Currents.{current as current_of}, Laws.{BarrierIsKept, BarrierBegins, IsNewlyBound, barrier, barrier_at}}
 use Rattle.hc_model.specs.Laws as laws
-use Rattle.hc_model.specs.Sound as sound
-use Rattle.hc_effects.proofs.{BoundFrom.{BoundFrom, bound_from}, BoundKeeps.{founding_is, planned_at}, CurrentKeeps.{current_is, WasOrFounded, was_or_founded}, KeysKeep.{same_exchange}, Joining.{mix}, KeyNames.{key_is, opener_key}, Owed.{goes}, PieceKeeps.{eq_cases}, PollKeeps.{current_stays}, Said.{ShowsBy, showing_by}, ShownFrom.{IsPlanned, ShownAs}}
+use Rattle.hc_effects.proofs.{Basics.{or_false}, BoundFrom.{BoundFrom, bound_from}, BoundKeeps.{founding_is, planned_at}, CurrentKeeps.{current_is, WasOrFounded, was_or_founded}, KeysKeep.{same_exchange}, Joining.{mix}, KeyNames.{key_is, opener_key}, Owed.{goes}, PollKeeps.{current_stays}, Said.{ShowsBy, showing_by}, ShownFrom.{IsPlanned, ShownAs}}
 use Rattle.hc_effects.proofs.BoundFrom as from
 use Rattle.hc_effects.proofs.CurrentKeeps as current
 use Rattle.hc_effects.proofs.ShownFrom as shown
@@ -22,19 +21,13 @@ abbrev Quiet : HeadCase → Type 0
 Quiet c = is_founding (Some c) ≡ false
 
 module _ (v : HeadView) where
-  direct_quiet : Quiet (direct_case v)
-  direct_quiet = mix Quiet v.bad case.DirectBad case.DirectTaken refl refl
-
-  later_quiet : Quiet (later_case v)
-  later_quiet = mix Quiet v.bad case.LaterBad _ refl (mix Quiet v.joins case.LaterJoins case.LaterChanged refl refl)
-
   by_shown : (b : Bool) → is_founding (Some (if b then later_case v else first_case v)) ≡ true → b ≡ false
-  by_shown true h = absurd (let no_one : false ≡ true = sym later_quiet ∙ h in cc)
+  by_shown true h = absurd (let no_one : false ≡ true = sym (mix Quiet v.bad case.LaterBad _ refl (mix Quiet v.joins case.LaterJoins case.LaterChanged refl refl)) ∙ h in cc)
   by_shown false h = refl
 
   -- what founds has the turn, or a first hole
   founds_by : (way : Route) → is_founding (Some (case_on way v)) ≡ true → (way ≡ route.Turn) ⊎ ((way ≡ route.Hole) × (v.shown ≡ false))
-  founds_by route.Direct h = absurd (let no_one : false ≡ true = sym direct_quiet ∙ h in cc)
+  founds_by route.Direct h = absurd (let no_one : false ≡ true = sym (mix Quiet v.bad case.DirectBad case.DirectTaken refl refl) ∙ h in cc)
   founds_by route.Turn h = inl refl
   founds_by route.Hole h = inr (refl, by_shown v.shown h)
 
@@ -47,9 +40,8 @@ no_doom _ w response h = absurd (let no_one : false ≡ true = h in cc)
 
 stands_turn : (x : ℕ) (k : Consumer) (way : Route) → StandsFor x k way → way ≡ route.Turn → k.shown ≡ false
 stands_turn x k _ (laws.has_turn at unshown) is = unshown
-stands_turn x k _ (laws.direct at) is = absurd (let no_one : route.Direct ≡ route.Turn = is in cc)
 stands_turn x k _ (laws.first r lo hi at unshown) is = unshown
-stands_turn x k _ (laws.later r lo hi how at shown) is = absurd (let no_one : route.Hole ≡ route.Turn = is in cc)
+stands_turn x k _ _ is = cc
 
 -- BARRIERS
 
@@ -69,15 +61,12 @@ module _ (limits : Limits) (t : Tables) (e : Entry) (taken : IsTaken limits t e)
   abbrev bar : List ℕ → ℕ
   bar key = barrier_at t e (old key) key
 
-  bar_doomed : (key : List ℕ) → is_key (doomed_key_of t e) key ≡ true → bar key ≡ t.opened
-  bar_doomed key doom = rw (taken.not_denied, doom) refl
-
   bar_same : (key : List ℕ) → is_key (doomed_key_of t e) key ≡ false → bar key ≡ old key
   bar_same key free = rw (taken.not_denied, free) refl
 
   bar_within : (key : List ℕ) → bar key ≤ t.opened
   bar_within key = elim (bool_cases (is_key (doomed_key_of t e) key)) [
-    | inl doom ↦ let is : bar key ≡ t.opened = bar_doomed key doom in omega arith
+    | inl doom ↦ let is : bar key ≡ t.opened = rw (taken.not_denied, doom) refl in omega arith
     | inr free ↦ let is : bar key ≡ old key = bar_same key free in let less : old key ≤ t.opened = bars.within key in omega arith
   ]
 
@@ -97,20 +86,11 @@ module _ (limits : Limits) (t : Tables) (e : Entry) (taken : IsTaken limits t e)
   unfolding becomes_gone
   goes_by_doom r v now doom = rw (now, doom) refl
 
-  eq-refl : (r : ℕ) → nat_eq r r ≡ true
-  eq-refl r = elim (eq_cases r r) [ inl same ↦ same.0 | inr other ↦ absurd (other.1 refl) ]
-
-  or_both : (a b : Bool) → (a || b) ≡ false → (a ≡ false) × (b ≡ false)
-  or_both false false h = (refl, refl)
-  or_both false true h = absurd (let no_one : true ≡ false = h in cc)
-  or_both true b h = absurd (let no_one : true ≡ false = h in cc)
-
   was_there : (r : ℕ) (v z : Representation) → t.representation r ≡ Some v → z.key ≡ v.key → z.is_gone ≡ (becomes_gone t e r v || v.is_gone) → z.is_gone ≡ false → bar z.key < r
   was_there r v z row key_is gone_is fresh =
-      let both = or_both (becomes_gone t e r v) v.is_gone (sym gone_is ∙ fresh) in
-      let now : is_current t v.key r ≡ true = ap (λ o. is_number o r) (current_is t v.key r v s row refl both.1) ∙ eq-refl r in
-      let free : is_key (doomed_key_of t e) v.key ≡ false = not_true _ (λ doom. let no_one : true ≡ false = sym (goes_by_doom r v now doom) ∙ both.0 in cc) in
-      let is : bar z.key ≡ old v.key = ap bar key_is ∙ bar_same v.key free in
+      let both = or_false (becomes_gone t e r v) v.is_gone (sym gone_is ∙ fresh) in
+      let now : is_current t v.key r ≡ true = ap (λ o. is_number o r) (current_is t v.key r v s row refl both.1) ∙ eq_itself r in
+      let is : bar z.key ≡ old v.key = ap bar key_is ∙ bar_same v.key (not_true _ (λ doom. let no_one : true ≡ false = sym (goes_by_doom r v now doom) ∙ both.0 in cc)) in
       let less : old v.key < r = bars.founded r v row both.1 in
       omega arith
 
@@ -119,9 +99,7 @@ module _ (limits : Limits) (t : Tables) (e : Entry) (taken : IsTaken limits t e)
 
   head_bare : (x : ℕ) (response : Response) (w : Exchange) → e.event ≡ event.Head x response → t.exchange x ≡ Some w → is_headless (Some w) ≡ true
   unfolding refusals.refusal_of
-  head_bare x response w at row =
-      let here : denial t (event.Head x response) ≡ None = sym (ap (denial t) at) ∙ goes_on in
-      head_opens w (sym (ap (λ o. head_refusal (as_open o)) row) ∙ here)
+  head_bare x response w at row = head_opens w (sym (ap (λ o. head_refusal (as_open o)) row) ∙ (sym (ap (denial t) at) ∙ goes_on))
 
   case_here : (x : ℕ) (response : Response) (w : Exchange) (b : Bool) → t.exchange x ≡ Some w → is_founding (case_of t b (event.Head x response)) ≡ true → is_founding (Some (case_on (route_of w.need) (head_view t b w response))) ≡ true
   unfolding case_of head_case
@@ -130,8 +108,7 @@ module _ (limits : Limits) (t : Tables) (e : Entry) (taken : IsTaken limits t e)
   new_behind : (x : ℕ) (response : Response) (w : Exchange) → e.event ≡ event.Head x response → t.exchange x ≡ Some w → is_founding (case_at t e) ≡ true → old w.request.key < x
   new_behind x response w at row founding =
       let lost = has_loss e.acts in
-      let here = case_here x response w lost row (sym (ap (λ ev. is_founding (case_of t lost ev)) at) ∙ founding) in
-      by_route (founds_by (head_view t lost w response) (route_of w.need) here)
+      by_route (founds_by (head_view t lost w response) (route_of w.need) (case_here x response w lost row (sym (ap (λ ev. is_founding (case_of t lost ev)) at) ∙ founding)))
     where
       by_route : (route_of w.need ≡ route.Turn) ⊎ ((route_of w.need ≡ route.Hole) × (was_shown (t.consumer w.c) ≡ false)) → old w.request.key < x
       by_route (inl way) =
@@ -149,8 +126,7 @@ module _ (limits : Limits) (t : Tables) (e : Entry) (taken : IsTaken limits t e)
   behind : (r : ℕ) (z : Representation) → WasOrFounded t e r z → z.is_gone ≡ false → bar z.key < r
   behind r z (current.was v row key_is gone_is) fresh = was_there r v z row key_is gone_is fresh
   behind r z (current.founded x response w at here founding row key none) fresh =
-      let free : is_key (doomed_key_of t e) z.key ≡ false = ap (λ o. is_key o z.key) (doom_free x response w at row founding) in
-      let is : bar z.key ≡ old w.request.key = bar_same z.key free ∙ ap old key in
+      let is : bar z.key ≡ old w.request.key = bar_same z.key (ap (λ o. is_key o z.key) (doom_free x response w at row founding)) ∙ ap old key in
       let less : old w.request.key < x = new_behind x response w at row founding in
       omega arith
 
@@ -159,8 +135,7 @@ module _ (limits : Limits) (t : Tables) (e : Entry) (taken : IsTaken limits t e)
   -- a founding head dooms nothing of the key of what it founds
   founded_behind : (x r : ℕ) (response : Response) (w : Exchange) (z : Representation) → e.event ≡ event.Head x response → t.exchange x ≡ Some w → is_founding (case_at t e) ≡ true → x ≡ r → z.key ≡ w.request.key → bar z.key < r
   founded_behind x r response w z at row founding here key =
-      let free : is_key (doomed_key_of t e) z.key ≡ false = ap (λ o. is_key o z.key) (doom_free x response w at row founding) in
-      let is : bar z.key ≡ old w.request.key = bar_same z.key free ∙ ap old key in
+      let is : bar z.key ≡ old w.request.key = bar_same z.key (ap (λ o. is_key o z.key) (doom_free x response w at row founding)) ∙ ap old key in
       let less : old w.request.key < x = new_behind x response w at row founding in
       omega arith
 
@@ -175,8 +150,7 @@ module _ (limits : Limits) (t : Tables) (e : Entry) (taken : IsTaken limits t e)
   unfolding doomed_key_of
   polled_behind c want r key v z at now there (current.was y row key_is gone_is) =
       let free : is_key (doomed_key_of t e) z.key ≡ false = ap (λ o. is_key o z.key) (ap (doomed_in t e) at) in
-      let same : y ≡ v = same_row (t.representation r) y v row there in
-      let is : bar z.key ≡ old v.key = bar_same z.key free ∙ ap old (key_is ∙ ap (λ (q : Representation). q.key) same) in
+      let is : bar z.key ≡ old v.key = bar_same z.key free ∙ ap old (key_is ∙ ap (λ (q : Representation). q.key) (same_row (t.representation r) y v row there)) in
       let less : old v.key < r = bars.founded r v there (current_stays t key r v now there) in
       omega arith
   polled_behind c want r key v z at now there (current.founded x response w at_x here founding row key_is none) = absurd (none_some v (sym none ∙ there))
@@ -195,7 +169,7 @@ module _ (limits : Limits) (t : Tables) (e : Entry) (taken : IsTaken limits t e)
   planned_behind c want r lo hi k z at (shown.stored v span now row off wants hole from to) was = polled_behind c want r k.request.key v z at now row was
 
   bound_behind : (r c lo : ℕ) (hi : Option ℕ) (how : BoundBy) (q : Consumer) (z : Representation) → ((k : Consumer) → IsBound t r c k → ⊥) → WasOrFounded t e r z → BoundFrom t e c r lo hi how q → bar z.key < r
-  bound_behind r c lo hi how q z unbound was (from.stays k row at) = absurd (unbound k (sound.is_bound lo hi how row.row at))
+  bound_behind r c lo hi how q z unbound was (from.stays k row at) = absurd (unbound k (is_bound lo hi how row.row at))
   bound_behind r c lo hi how q z unbound was (from.founds k x response w row at its_row mine here by_is all) =
       founded_behind x r response w z at its_row (founding_is t e c r lo hi how x response w k (case_at t e) all) here (founded_key x r response w z at its_row here was)
   bound_behind r c lo hi how q z unbound was (from.opens k o row is mine free way hole) =
@@ -209,7 +183,7 @@ module _ (limits : Limits) (t : Tables) (e : Entry) (taken : IsTaken limits t e)
   becomes_behind r c z becomes after = by_bound becomes.k becomes.bound
     where
       by_bound : (k : Consumer) → IsBound u r c k → bar z.key < r
-      by_bound k (sound.is_bound lo hi how row at) =
+      by_bound k (is_bound lo hi how row at) =
           bound_behind r c lo hi how k z becomes.unbound (was_or_founded t e r (t.representation r) z refl after) (bound_from t e c r lo hi how (t.consumer c) k refl row at)
 
   -- WHAT MAY STILL FOUND
@@ -225,35 +199,27 @@ module _ (limits : Limits) (t : Tables) (e : Entry) (taken : IsTaken limits t e)
       it : laws.IsAwaited t x w
       it = turns.awaited x w row bare
 
-      doom_k : is_key (doomed_key_of t e) it.k.request.key ≡ true
-      doom_k = ap (is_key (doomed_key_of t e)) (sym (opener_key t x w it.k one.exchanges row it.row)) ∙ doom
-
       waits : is_number (awaited_exchange it.k.place) x ≡ true → ⊥
-      waits h = dooms limits t e taken s one turns x w row bare stays doom_k h
+      waits h = dooms limits t e taken s one turns x w row bare stays (ap (is_key (doomed_key_of t e)) (sym (opener_key t x w it.k one.exchanges row it.row)) ∙ doom) h
 
       by_stand : (r : Route) → StandsFor x it.k r → r ≢ route.Direct → ⊥
       by_stand _ (laws.direct at) other = other refl
-      by_stand _ (laws.has_turn at shown) other = waits (ap (λ p. is_number (awaited_exchange p) x) at ∙ eq-refl x)
-      by_stand _ (laws.first r lo hi at shown) other = waits (ap (λ p. is_number (awaited_exchange p) x) at ∙ eq-refl x)
+      by_stand _ (laws.has_turn at shown) other = waits (ap (λ p. is_number (awaited_exchange p) x) at ∙ eq_itself x)
+      by_stand _ (laws.first r lo hi at shown) other = waits (ap (λ p. is_number (awaited_exchange p) x) at ∙ eq_itself x)
       by_stand _ (laws.later r lo hi how at shown) other = let no_one : false ≡ true = sym unshown ∙ shown in cc
 
   awaits_behind : (x : ℕ) (z : Exchange) → WasHeadless limits t e taken s one turns x z → route_of z.need ≢ route.Direct → was_shown (u.consumer z.c) ≡ false → bar z.request.key < x
   awaits_behind x z (keeps.was w row bare is stays) way unshown =
       let same = same_exchange t e x e.event w in
-      let c_is : z.c ≡ w.c = ap (λ (y : Exchange). y.c) is ∙ same.c_is in
-      let need_is : z.need ≡ w.need = ap (λ (y : Exchange). y.need) is ∙ same.need_is in
-      let request_is : z.request ≡ w.request = ap (λ (y : Exchange). y.request) is ∙ same.request_is in
-      let hidden = unshown_stand x w row bare stays (ap (λ d. was_shown (u.consumer d)) (sym c_is) ∙ unshown) in
-      let apart : route_of w.need ≢ route.Direct = λ h. way (ap route_of need_is ∙ h) in
+      let hidden = unshown_stand x w row bare stays (ap (λ d. was_shown (u.consumer d)) (sym (ap (λ (y : Exchange). y.c) is ∙ same.c_is)) ∙ unshown) in
+      let apart : route_of w.need ≢ route.Direct = λ h. way (ap route_of (ap (λ (y : Exchange). y.need) is ∙ same.need_is) ∙ h) in
       let free : is_key (doomed_key_of t e) w.request.key ≡ false = not_true _ (not_closed x w row bare stays apart hidden) in
-      let it = turns.awaited x w row bare in
-      let less : old w.request.key < x = bars.awaited x w row bare apart (ap was_shown it.row ∙ hidden) in
-      let here : bar z.request.key ≡ old w.request.key = ap (λ (q : Request). bar q.key) request_is ∙ bar_same w.request.key free in
+      let less : old w.request.key < x = bars.awaited x w row bare apart (ap was_shown (turns.awaited x w row bare).row ∙ hidden) in
+      let here : bar z.request.key ≡ old w.request.key = ap (λ (q : Request). bar q.key) (ap (λ (y : Exchange). y.request) is ∙ same.request_is) ∙ bar_same w.request.key free in
       omega arith
   awaits_behind x z (keeps.new o is here made) way unshown =
       let next : o.x ≡ t.opened + 1 = (opened_at limits t e taken s turns o is).next in
       let less : bar z.request.key ≤ t.opened = bar_within z.request.key in
-      let at : o.x ≡ x = here in
       omega arith
 
   bars_kept : Bars u bar
@@ -305,7 +271,7 @@ binds_by limits contents h e true denied s one turns barred owed =
     was_bound t r c becomes = by_bound becomes.k becomes.bound
       where
         by_bound : (k : Consumer) → IsBound (after_denied t e) r c k → ⊥
-        by_bound k (sound.is_bound lo hi how row at) = becomes.unbound k (sound.is_bound lo hi how row at)
+        by_bound k (is_bound lo hi how row at) = becomes.unbound k (is_bound lo hi how row at)
 
 pub binds_behind : (limits : Limits) (contents : Contents) (h : History) (e : Entry) → Sound (tables contents h) → IsOfOneKey (tables contents h) → Turns (tables contents h) → IsBarred contents h → IsOwed limits (tables contents h) e → IsBoundBehindDooms contents (e ∷ h)
 binds_behind limits contents h e s one turns barred owed = binds_by limits contents h e (is_denied e.acts) refl s one turns barred owed

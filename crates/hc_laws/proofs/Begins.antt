@@ -1,6 +1,6 @@
 -- The tables of a store that begins with contents are sound.
-use Rattle.std.{proofs.{Common.{◌≡◌, inl, inr, ℕ, ◌-◌, ◌<◌, ◌≤◌, List, [], ◌∷◌, ◌++◌, length, true, Option, Some, None, refl, ap, sym, ◌∙◌, subst, arith}, lemmas.Bool.Decides.{nat_tests}}, specs.Prelude.{is_some, find, map, option_map, nat_eq}}
-use Rattle.hc_text.proofs.Basics.{bool_cases, not_some as none_some, some_inj}
+use Rattle.std.{proofs.{Common.{◌≡◌, inl, inr, ℕ, ◌-◌, ◌<◌, ◌≤◌, List, [], ◌∷◌, length, true, Option, Some, None, refl, ap, sym, ◌∙◌, subst, arith}}, specs.Prelude.{is_some, find, map, option_map, nat_eq}}
+use Rattle.hc_text.proofs.Basics.{eq_tells, bool_cases, not_some as none_some, some_inj}
 use Rattle.hc_sparse.specs.{Cells.{EndsBy}, Runs.{cells_of, end_of}, declared.run.Run.{Run}}
 use Rattle.hc_sparse.proofs.CellLemmas.{inside-past}
 use Rattle.hc_effects.proofs.Vocabulary.{Content, Contents, IsStart, item_of, is_written, Representation, Among, IsAbout, IsFirst, IsSoundRepresentation, first_tables, representation_of_content, last_end, numbers}
@@ -30,12 +30,9 @@ ends_all (run ∷ runs) p le =
 found_among : (items : List Content) (r : ℕ) (item : Content) → find (λ (i : Content). nat_eq i.r r) items ≡ Some item → Among r (map (λ (i : Content). i.r) items)
 found_among [] r item is = absurd (let never : None ≡ Some item = is in cc)
 found_among (i ∷ items) r item is = elim (bool_cases (nat_eq i.r r)) [
-  | inl here ↦ inl (eq_of i.r r here)
+  | inl here ↦ inl (eq_tells i.r r here)
   | inr other ↦ inr (found_among items r item (rw other at is))
 ]
-  where
-    eq_of : (a b : ℕ) → nat_eq a b ≡ true → a ≡ b
-    eq_of a b h = grind (arith, nat_tests)
 
 some_among : (contents : Contents) (r : ℕ) (o : Option Content) → item_of contents r ≡ o → is_some (option_map representation_of_content o) ≡ true → Among r (map (λ (i : Content). i.r) contents.items)
 some_among contents r None found some = absurd (false_true some)

@@ -43,9 +43,8 @@ module _ (v : PlanView) where
     exclusive_fine span (Some d) = other_fine _ refl
 
     wanted_fine : (w : Wanted) → Fine (by_wanted v s why w)
-    wanted_fine wanted.TotalUnknown = other_fine _ refl
-    wanted_fine wanted.Unsatisfiable = other_fine _ refl
     wanted_fine (wanted.Interval span) = mix Fine s.writing _ _ (other_fine _ refl) (exclusive_fine span s.exclusive)
+    wanted_fine _ = other_fine _ refl
 
   why_fine : (s : Candidate) (o : Option Why) → Fine (by_why v s o)
   why_fine s None = other_fine _ refl
@@ -55,14 +54,11 @@ module _ (v : PlanView) where
   current_fine None = other_fine _ refl
   current_fine (Some s) = mix Fine s.vary _ _ (why_fine s (why_by v.kept s.allowed)) (other_fine _ refl)
 
-  turn_inj : (a b : ℕ) → plan.Turn a ≡ plan.Turn b → a ≡ b
-  turn_inj a b is = cc
-
   bare_fine : Fine (bare_plan v)
   bare_fine =
       mix Fine v.class.disabled _ _ (other_fine _ refl)
       (either Fine (queues v) _ _
-      (λ waits d is. record { turn_is = turn_inj v.turn d is; other = not_true (nat_eq v.turn v.c) (and_right _ (not (nat_eq v.turn v.c)) (and_left _ _ waits)) })
+      (λ waits d is. record { turn_is = cc; other = not_true (nat_eq v.turn v.c) (and_right _ (not (nat_eq v.turn v.c)) (and_left _ _ waits)) })
       (λ goes. mix Fine v.class.bypassing _ _ (other_fine _ refl) (current_fine v.current)))
 
   abbrev past : Plan
@@ -71,20 +67,11 @@ module _ (v : PlanView) where
   in_time_fine : (p : Plan) → Fine p → Fine (in_time v p)
   in_time_fine (plan.Turn d) fine = mix Fine (nat_le (v.since + 20) v.moment) past (plan.Turn d) (other_fine past refl) fine
   in_time_fine (plan.Busy d kept) fine = mix Fine (nat_le (v.since + 20) v.moment) past (plan.Busy d kept) (other_fine past refl) fine
-  in_time_fine plan.Miss fine = fine
-  in_time_fine (plan.Direct n) fine = fine
-  in_time_fine (plan.Fetch n) fine = fine
-  in_time_fine (plan.Bind why span) fine = fine
-  in_time_fine (plan.FirstHole span hole) fine = fine
+  in_time_fine _ fine = fine
 
   from_store_fine : (p : Plan) → Fine (from_store p)
   from_store_fine (plan.Turn d) = other_fine _ refl
-  from_store_fine (plan.Busy d kept) = other_fine _ refl
-  from_store_fine plan.Miss = other_fine _ refl
-  from_store_fine (plan.Direct n) = other_fine _ refl
-  from_store_fine (plan.Fetch n) = other_fine _ refl
-  from_store_fine (plan.Bind why span) = other_fine _ refl
-  from_store_fine (plan.FirstHole span hole) = other_fine _ refl
+  from_store_fine _ = other_fine _ refl
 
   pub behind_turn : (d : ℕ) → plan_of v ≡ plan.Turn d → IsBehind v d
   unfolding plan_of
@@ -102,11 +89,7 @@ pub record StandsInLine (t : Tables) (key : List ℕ) (d : ℕ) : Type 0 where
 live_there : (p : Place) → stands_in_line p ≡ true → is_live_place p ≡ true
 live_there place.Line stands = refl
 live_there (place.Turn x) stands = refl
-live_there (place.Passed r kept) stands = absurd (false_true stands)
-live_there (place.Bound r lo hi how) stands = absurd (false_true stands)
-live_there (place.Direct x) stands = absurd (false_true stands)
-live_there (place.Down why) stands = absurd (false_true stands)
-live_there place.Over stands = absurd (false_true stands)
+live_there _ stands = absurd (false_true stands)
 
 stands_at : (t : Tables) (key : List ℕ) (d : ℕ) (o : Option Consumer) → t.consumer d ≡ o → is_in_line key o ≡ true → StandsInLine t key d
 stands_at t key d None row stands = absurd (false_true stands)

@@ -1,23 +1,20 @@
 -- What an exchange brought stands in its body, and nothing else there is from it, in every run.
-use Rattle.std.{proofs.{Common.{◌≡◌, ◌≤◌, ◌<◌, ◌⊎◌, inl, inr, ℕ, ◌+◌, ◌-◌, List, [], ◌∷◌, ◌++◌, length, length-append, Bool, true, false, Option, Some, None, refl, ap, sym, ◌∙◌, subst, arith}, Math.{ListN.{get_or-append}, Seq.{get_or-append_right}}}, specs.Prelude.{is_some, slice_index, unwrap_or}}
+use Rattle.std.{proofs.{Common.{◌≡◌, ◌≤◌, ◌<◌, ◌⊎◌, inl, inr, ℕ, ◌+◌, ◌-◌, List, ◌++◌, length, length-append, true, Option, Some, None, refl, ap, sym, ◌∙◌, subst, arith}, Math.{ListN.{get_or-append}, Seq.{get_or-append_right}}}, specs.Prelude.{is_some, slice_index, unwrap_or}}
 use Rattle.hc_text.proofs.Basics.{not_some as none_some, same_some as same_row, some_inj}
 use Rattle.hc_sparse.specs.Cells.{Cell, inside, cells_with}
 use Rattle.hc_sparse.proofs.CellLemmas.{inside-cases}
-use Rattle.hc_effects.proofs.Vocabulary.{is_denied, Event, Response, base_of, Limits, denial, Entry, base, front, family, Flaw, flaw_in, entry_of, OfRuns, Brings, cell_from, Measures, Origins, MayDeliver, Owners, Tables, Exchange, Representation, Sound, tables, after_accepted}
+use Rattle.hc_effects.proofs.Vocabulary.{Event, Response, base_of, Limits, denial, Entry, base, front, family, Flaw, entry_of, OfRuns, Brings, cell_from, Measures, Origins, MayDeliver, Owners, Tables, Exchange, Representation, Sound, after_accepted}
 use Rattle.hc_event.specs.declared.event.Event.TheVariants as event
 use Rattle.hc_model.specs.Origins as origins
-use Rattle.hc_effects.proofs.{Basics.{false_true}, ExchangeFrom.{ExchangeFrom, exchange_from, IsSame}, Fills.{Fills, fills, IsPiece, brings, length_same}, FirstKeeps.{is_new}, NumbersKeep.{opens_next}, OfEntries.{of_real}, Once.{delivers_once}, RepFrom.{RepFrom, rep_from, IsKept}}
+use Rattle.hc_effects.proofs.{Basics.{false_true}, ExchangeFrom.{ExchangeFrom, exchange_from, IsSame}, Fills.{Fills, fills, IsPiece, brings, length_same}, FirstKeeps.{is_new}, NumbersKeep.{opens_next}, Once.{delivers_once}, RepFrom.{RepFrom, rep_from, IsKept}}
 use Rattle.hc_effects.proofs.ExchangeFrom as exchange
 use Rattle.hc_effects.proofs.Fills as fills_by
-use Rattle.hc_laws.proofs.{OriginRuns.{origins_in_runs}, SoundRuns.{IsCarried, carried}}
+use Rattle.hc_laws.proofs.{OriginRuns.{origins_in_runs}, RunFacts.{in_runs_with}}
 use Rattle.hc_effects.proofs.RepFrom as rep
 
 -- what comes behind the bytes of w
 pub more_bytes : (w : Exchange) (bytes : List ℕ) (p : ℕ) → base w ≤ p → front w ≤ p → slice_index (w.body ++ bytes) (p - base w) ≡ slice_index bytes (p - front w)
-more_bytes w bytes p low past =
-    let over : length w.body ≤ p - base w = omega arith in
-    let same : p - base w - length w.body ≡ p - front w = omega arith in
-    get_or-append_right w.body bytes (p - base w) 0 over ∙ ap (slice_index bytes) same
+more_bytes w bytes p low past = get_or-append_right w.body bytes (p - base w) 0 (omega arith) ∙ ap (slice_index bytes) (omega arith)
 
 pub old_bytes : (w : Exchange) (bytes : List ℕ) (p : ℕ) → base w ≤ p → p < front w → slice_index (w.body ++ bytes) (p - base w) ≡ slice_index w.body (p - base w)
 old_bytes w bytes p low under = let lt : p - base w < length w.body = omega arith in get_or-append w.body bytes 0 (p - base w) lt
@@ -32,9 +29,6 @@ module _ (limits : Limits) (t : Tables) (now : ℕ) (flaw : Flaw) (s : Sound t) 
 
   abbrev now_on : Tables
   now_on = after_accepted t e
-
-  piece_inj : (x y : ℕ) (a b : List ℕ) → event.Piece x a ≡ event.Piece y b → (x ≡ y) × (a ≡ b)
-  piece_inj x y a b is = (cc, cc)
 
   -- a head that came stays, and so does where the body begins
   pub base_same : (x : ℕ) (w z : Exchange) → t.exchange x ≡ Some w → is_some w.head ≡ true → IsSame t e x w z → base z ≡ base w
@@ -52,16 +46,13 @@ module _ (limits : Limits) (t : Tables) (now : ℕ) (flaw : Flaw) (s : Sound t) 
   module _ (r x p : ℕ) (cell : Cell) (u : Representation) (z : Exchange) (after : now_on.representation r ≡ Some u) (there : u.body p ≡ Some cell) (from : cell.x ≡ x) (after_x : now_on.exchange x ≡ Some z) where
     old_cell : (v : Representation) → t.representation r ≡ Some v → v.body p ≡ Some cell → ExchangeFrom t e x z → (base z ≤ p) × (p < front z)
     old_cell v row here (exchange.new q none opens number made) =
-        let range = g.given_out r x (origins.has_byte p cell v row here from) in
-        let most : x ≤ t.opened = range.1 in
+        let most : x ≤ t.opened = (g.given_out r x (origins.has_byte p cell v row here from)).1 in
         let next : q.x ≡ t.opened + 1 = opens_next limits t now flaw s ev q goes opens in
-        let same : q.x ≡ x = number in
         absurd (omega arith)
     old_cell v row here (exchange.was w w_row same) =
         let headed = came_headed r x w w_row (g.delivered r x (origins.has_byte p cell v row here from)) in
-        let first : base z ≡ base w = base_same x w z w_row headed same in
         let within = was.only r x p cell w v row here from w_row in
-        by_brings within.0 within.1 first (brings t e x w z w_row after_x)
+        by_brings within.0 within.1 (base_same x w z w_row headed same) (brings t e x w z w_row after_x)
       where
         by_brings : base w ≤ p → p < front w → base z ≡ base w → fills_by.Brings t e x w z → (base z ≤ p) × (p < front z)
         by_brings low under first (fills_by.still none body_is) = let count : length z.body ≡ length w.body = ap (λ (b : List ℕ). length b) body_is in (omega arith, omega arith)
@@ -71,13 +62,12 @@ module _ (limits : Limits) (t : Tables) (now : ℕ) (flaw : Flaw) (s : Sound t) 
     new_cell : (bytes : List ℕ) (w : Exchange) → IsPiece t e r x bytes w → front w ≤ p → p < front w + length bytes → ExchangeFrom t e x z → (base z ≤ p) × (p < front z)
     new_cell bytes w is low under (exchange.new q none opens number made) = absurd (none_some w (sym none ∙ is.row))
     new_cell bytes w is low under (exchange.was a a_row same) =
-        let one : a ≡ w = same_row (t.exchange x) a w a_row is.row in
-        by_brings (subst (λ (q : Exchange). IsSame t e x q z) one same) (brings t e x w z is.row after_x)
+        by_brings (subst (λ (q : Exchange). IsSame t e x q z) (same_row (t.exchange x) a w a_row is.row) same) (brings t e x w z is.row after_x)
       where
         by_brings : IsSame t e x w z → fills_by.Brings t e x w z → (base z ≤ p) × (p < front z)
         by_brings same_w (fills_by.still none body_is) = absurd (none bytes is.at)
         by_brings same_w (fills_by.more other also body_is) =
-            let count : length bytes ≡ length other = ap (λ (b : List ℕ). length b) (piece_inj x x bytes other (sym is.at ∙ also)).1 in
+            let count : length bytes ≡ length other = cc in
             let first : base z ≡ base w = by_heard same_w.heard_or in
             let longer : length z.body ≡ length w.body + length other = ap (λ (b : List ℕ). length b) body_is ∙ length-append w.body other in
             (omega arith, omega arith)
@@ -154,11 +144,10 @@ module _ (limits : Limits) (t : Tables) (now : ℕ) (flaw : Flaw) (s : Sound t) 
         by_fills : inside (front w) (length bytes) p ≡ true → front w ≤ p → Fills t e r v u → u.body p ≡ Some (cell_from x z p)
         by_fills in_it from (fills_by.still none body stored reach) = absurd (none x bytes w (record { at = here; row = row; of_r = refl }))
         by_fills in_it from (fills_by.more y other a is body stored reach) =
-            let both = piece_inj y x other bytes (sym is.at ∙ here) in
+            let both : (y ≡ x) × (other ≡ bytes) = (cc, cc) in
             let one : a ≡ w = same_row (t.exchange x) a w (sym (ap t.exchange both.0) ∙ is.row) row in
-            let at : cells_with (front w) x bytes v.body p ≡ Some (record { byte = slice_index bytes (p - front w); x = x }) = rw in_it refl in
             let body_at : u.body p ≡ cells_with (front w) x bytes v.body p = ap (λ f. f p) body ∙ (ap (λ n. cells_with (front a) n other v.body p) both.0 ∙ (ap (λ b. cells_with (front a) x b v.body p) both.1 ∙ ap (λ (q : Exchange). cells_with (front q) x bytes v.body p) one)) in
-            body_at ∙ (at ∙ cell_is x _ _ (sym (more_bytes w bytes p (let same_base : base z ≡ base w = first in omega arith) from) ∙ sym byte_is))
+            body_at ∙ (rw in_it refl ∙ cell_is x _ _ (sym (more_bytes w bytes p (let same_base : base z ≡ base w = first in omega arith) from) ∙ sym byte_is))
 
     -- what it is of was there
     by_rep : RepFrom t e r u → u.body p ≡ Some (cell_from x z p)
@@ -170,8 +159,7 @@ module _ (limits : Limits) (t : Tables) (now : ℕ) (flaw : Flaw) (s : Sound t) 
             let of_n : r ≡ n = ap (λ (a : Option ℕ). unwrap_or a x) joined in
             absurd (false_true (sym (ap (λ (a : Option Representation). is_some a) none) ∙ (ap (λ a. is_some (t.representation a)) of_n ∙ s.numbered.names.joined x n w row joined)))
         by_joined None alone =
-            let own : r ≡ x = ap (λ (a : Option ℕ). unwrap_or a x) alone in
-            let bare = (is_new limits t now flaw s ev goes x response w (here ∙ ap (λ n. event.Head n response) own) row).bare in
+            let bare = (is_new limits t now flaw s ev goes x response w (here ∙ ap (λ n. event.Head n response) (ap (λ (a : Option ℕ). unwrap_or a x) alone)) row).bare in
             absurd (false_true (sym (ap (λ (a : Option Response). is_some a) bare) ∙ headed))
 
   stands_by : (x p : ℕ) (z : Exchange) (u : Representation) → now_on.exchange x ≡ Some z → is_some z.head ≡ true → now_on.representation (family x z) ≡ Some u → base z ≤ p → p < front z → ExchangeFrom t e x z → u.body p ≡ Some (cell_from x z p)
@@ -196,13 +184,8 @@ module _ (limits : Limits) (t : Tables) (now : ℕ) (flaw : Flaw) (s : Sound t) 
 
 -- IN RUNS
 
-by_denial : (limits : Limits) (t : Tables) (e : Entry) (b : Bool) → is_denied e.acts ≡ b → IsCarried t → Origins t → Rattle.hc_model.specs.Runs.IsOwed limits t e → Brings t → Brings (Rattle.hc_model.specs.Tables.after t e)
-unfolding Rattle.hc_model.specs.Tables.after
-by_denial limits t e true denied c g owed was = rw denied (record { stands = was.stands; only = was.only })
-by_denial limits t e false accepted c g owed was =
-    rw accepted (of_real limits t e (λ z. Brings (after_accepted t z)) owed accepted (λ going real. brings_kept limits t e.now (flaw_in e.acts) c.is_sound c.is_owned c.is_measured g was e.event going))
-
 pub brings_in_runs : OfRuns Brings
-unfolding tables
-brings_in_runs limits contents [] may run = record { stands = λ x p w v row. absurd (none_some w row); only = λ r x p cell w v there here from row. absurd (none_some w row) }
-brings_in_runs limits contents (e ∷ h) may run = by_denial limits (tables contents h) e (is_denied e.acts) refl (carried limits contents h may run.0) (origins_in_runs limits contents h may run.0) run.1 (brings_in_runs limits contents h may run.0)
+brings_in_runs = in_runs_with (λ limits t. Brings t) (λ limits t. Origins t) origins_in_runs
+    (λ limits contents may. record { stands = λ x p w v row. absurd (none_some w row); only = λ r x p cell w v there here from row. absurd (none_some w row) })
+    (λ limits t e later was. record { stands = was.stands; only = was.only })
+    (λ limits t now flaw ev s g was. let c = s.before in brings_kept limits t now flaw c.is_sound c.is_owned c.is_measured g was ev s.going)

@@ -62,20 +62,11 @@ module _ (v : PlanView) where
   in_time_fine : (p : Plan) → Fine p → Fine (in_time v p)
   in_time_fine (plan.Turn a) f = mix Fine _ _ _ (λ d kept is. absurd (let never : plan.Direct _ ≡ plan.Busy d kept = is in cc)) f
   in_time_fine (plan.Busy a b) f = mix Fine _ _ _ (λ d kept is. absurd (let never : plan.Direct _ ≡ plan.Busy d kept = is in cc)) f
-  in_time_fine plan.Miss f = f
-  in_time_fine (plan.Direct n) f = f
-  in_time_fine (plan.Fetch n) f = f
-  in_time_fine (plan.Bind why span) f = f
-  in_time_fine (plan.FirstHole span hole) f = f
+  in_time_fine _ f = f
 
   from_store_fine : (p : Plan) → Fine (from_store p)
   from_store_fine (plan.Bind why span) d kept is = absurd (let never : plan.Bind why span ≡ plan.Busy d kept = is in cc)
-  from_store_fine (plan.Turn a) d kept is = absurd (let never : plan.Miss ≡ plan.Busy d kept = is in cc)
-  from_store_fine (plan.Busy a b) d kept is = absurd (let never : plan.Miss ≡ plan.Busy d kept = is in cc)
-  from_store_fine plan.Miss d kept is = absurd (let never : plan.Miss ≡ plan.Busy d kept = is in cc)
-  from_store_fine (plan.Direct n) d kept is = absurd (let never : plan.Miss ≡ plan.Busy d kept = is in cc)
-  from_store_fine (plan.Fetch n) d kept is = absurd (let never : plan.Miss ≡ plan.Busy d kept = is in cc)
-  from_store_fine (plan.FirstHole span hole) d kept is = absurd (let never : plan.Miss ≡ plan.Busy d kept = is in cc)
+  from_store_fine _ d kept is = absurd (let never : plan.Miss ≡ plan.Busy d kept = is in cc)
 
   pub busy_by : (d : ℕ) (kept : Option ℕ) → plan_of v ≡ plan.Busy d kept → BusyBy v d
   unfolding plan_of

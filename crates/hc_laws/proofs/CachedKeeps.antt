@@ -6,9 +6,8 @@ use Rattle.hc_event.specs.declared.event.Event.TheVariants as event
 use Rattle.hc_rules.specs.declared.need.Route.TheVariants as route
 use Rattle.hc_event.specs.declared.place.Place.TheVariants as place
 use Rattle.hc_model.specs.Owners as owners
-use Rattle.hc_effects.proofs.{Basics.{false_true}, Beside.{IsBeside, is_cached_place}, BoundFrom.{BoundFrom, bound_from}, BoundKeeps.{planned_at, founding_is}, FirstKeeps.{case_is, is_new}, FoundBy.{founding_by, founds_way}, OwnersKeep.{is_opened}, PieceKeeps.{eq_cases}, TurnPlaces.{ComesFrom, IsPlain, is_after}, Waiters.{waiter_of}}
+use Rattle.hc_effects.proofs.{Forward.{is_kept}, Basics.{false_true}, Beside.{IsBeside, is_cached_place}, BoundFrom.{BoundFrom, bound_from}, BoundKeeps.{planned_at, founding_is}, FirstKeeps.{case_is, is_new}, FoundBy.{founding_by, founds_way}, OwnersKeep.{is_opened}, PieceKeeps.{eq_cases}, TurnPlaces.{ComesFrom, IsPlain, is_after}, Waiters.{waiter_of}}
 use Rattle.hc_effects.proofs.BoundFrom as from
-use Rattle.hc_effects.proofs.Forward as forward
 use Rattle.hc_effects.proofs.OpenedAs as opened
 use Rattle.hc_effects.proofs.TurnPlaces as turn
 
@@ -18,13 +17,7 @@ starts_line c now (event.Start d request) u is = elim (eq_cases d c) [
   | inl here ↦ sym (ap (λ (z : Consumer). z.place) (some_inj _ u (rw here.0 at is)))
   | inr other ↦ absurd (none_some u (rw other.0 at is))
 ]
-starts_line c now (event.Poll d want) u is = absurd (none_some u is)
-starts_line c now (event.Head x response) u is = absurd (none_some u is)
-starts_line c now (event.Piece x bytes) u is = absurd (none_some u is)
-starts_line c now (event.End x) u is = absurd (none_some u is)
-starts_line c now (event.Fault x) u is = absurd (none_some u is)
-starts_line c now (event.Cancel d) u is = absurd (none_some u is)
-starts_line c now (event.Doom key) u is = absurd (none_some u is)
+starts_line c now _ u is = absurd (none_some u is)
 
 module _ (limits : Limits) (t : Tables) (now : ℕ) (flaw : Flaw) (s : Sound t) (o : Owners t) (i : IsBeside t) (ev : Event) (goes : denial t ev ≡ None) where
   abbrev e : Entry
@@ -56,9 +49,7 @@ module _ (limits : Limits) (t : Tables) (now : ℕ) (flaw : Flaw) (s : Sound t) 
   turn_from c k _ row turn.kept x at = at_place c k (place.Turn x) row at refl
   turn_from c k p row (turn.plain _ is) x at = absurd (subst IsPlain at is)
   turn_from c k _ row (turn.turned p is mine way) x at = opens_cached p c k is mine row (λ past. let no : route.Turn ≡ route.Direct = sym way ∙ past in cc)
-  turn_from c k _ row (turn.first_of p r lo hi is mine way) x at = absurd (let no : place.Bound r lo hi _ ≡ place.Turn x = at in cc)
-  turn_from c k _ row (turn.busy d r keeps waits is) x at = absurd (let no : place.Passed r keeps ≡ place.Turn x = at in cc)
-  turn_from c k _ row (turn.validated y r response w here exchange_row mine is aim) x at = absurd (let no : place.Passed r (Some y) ≡ place.Turn x = at in cc)
+  turn_from c k _ row _ x at = cc
 
   -- BOUND
 
@@ -93,24 +84,17 @@ module _ (limits : Limits) (t : Tables) (now : ℕ) (flaw : Flaw) (s : Sound t) 
   was_cached : (c : ℕ) (k u : Consumer) (p : Place) → t.consumer c ≡ Some k → now_on.consumer c ≡ Some u → u.place ≡ p → is_cached_place p ≡ true → is_disabled k.request ≡ false
   was_cached c k u (place.Turn x) row after at on = turn_from c k u.place row (is_after t e c k u row after).from x at
   was_cached c k u (place.Bound r lo hi how) row after at on = bound_cached c r lo hi how u k row (bound_from t e c r lo hi how (t.consumer c) u refl after at)
-  was_cached c k u place.Line row after at on = absurd (false_true on)
-  was_cached c k u (place.Passed r kept) row after at on = absurd (false_true on)
-  was_cached c k u (place.Direct x) row after at on = absurd (false_true on)
-  was_cached c k u (place.Down why) row after at on = absurd (false_true on)
-  was_cached c k u place.Over row after at on = absurd (false_true on)
+  was_cached c k u _ row after at on = absurd (false_true on)
 
   made_not : (c : ℕ) (u : Consumer) → t.consumer c ≡ None → now_on.consumer c ≡ Some u → is_cached_place u.place ≡ true → ⊥
   unfolding consumer_after
-  made_not c u none after on =
-      let made : consumer_made c now ev ≡ Some u = ap (consumer_after t e c) (sym none) ∙ after in
-      false_true (sym (ap is_cached_place (starts_line c now ev u made)) ∙ on)
+  made_not c u none after on = false_true (sym (ap is_cached_place (starts_line c now ev u (ap (consumer_after t e c) (sym none) ∙ after))) ∙ on)
 
   by_row : (c : ℕ) (u : Consumer) (z : Option Consumer) → t.consumer c ≡ z → now_on.consumer c ≡ Some u → is_cached_place u.place ≡ true → is_disabled u.request ≡ false
   by_row c u None row after on = absurd (made_not c u row after on)
   by_row c u (Some k) row after on =
-      let kept = forward.is_kept t e c k row in
-      let one : kept.u ≡ u = same_row (now_on.consumer c) kept.u u kept.row after in
-      ap is_disabled (sym (ap (λ (q : Consumer). q.request) one) ∙ kept.request_is) ∙ was_cached c k u u.place row after refl on
+      let kept = is_kept t e c k row in
+      ap is_disabled (sym (ap (λ (q : Consumer). q.request) (same_row (now_on.consumer c) kept.u u kept.row after)) ∙ kept.request_is) ∙ was_cached c k u u.place row after refl on
 
   pub cached_kept : (c : ℕ) (u : Consumer) → now_on.consumer c ≡ Some u → is_cached_place u.place ≡ true → is_disabled u.request ≡ false
   cached_kept c u after on = by_row c u (t.consumer c) refl after on

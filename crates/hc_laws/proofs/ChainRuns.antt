@@ -16,14 +16,8 @@ module _ (t : Tables) (s : Sound t) (places : Places t) (endings : Endings t) (u
   goes_on GoesOn moves.Nothing goes turn busy = goes
   goes_on GoesOn (moves.Waits (wait.Turn d)) goes turn busy = turn d refl
   goes_on GoesOn (moves.Waits (wait.Busy d)) goes turn busy = busy d refl
-  goes_on GoesOn (moves.Waits (wait.Head x)) goes turn busy = goes
-  goes_on GoesOn (moves.Waits (wait.Body x)) goes turn busy = goes
-  goes_on GoesOn (moves.Asks x) goes turn busy = tt
-  goes_on GoesOn (moves.Opens x need request) goes turn busy = tt
-  goes_on GoesOn (moves.Shows r why head lo hi) goes turn busy = tt
-  goes_on GoesOn (moves.Gives run) goes turn busy = tt
-  goes_on GoesOn moves.Ends goes turn busy = tt
-  goes_on GoesOn (moves.Fails why) goes turn busy = tt
+  goes_on GoesOn (moves.Waits _) goes turn busy = goes
+  goes_on GoesOn _ goes turn busy = tt
 
   module _ (now : ℕ) where
     -- whatever its polls are, by its row

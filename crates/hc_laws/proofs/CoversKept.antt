@@ -1,5 +1,5 @@
 -- After an entry the exclusive writer has all up to where its exchange goes on.
-use Rattle.std.{proofs.Common.{◌≡◌, ◌⊎◌, inl, inr, ℕ, ◌+◌, ◌<◌, ◌≤◌, true, false, Option, Some, None, refl, ap, sym, ◌∙◌, subst, arith}, specs.Prelude.{is_some, nat_eq}}
+use Rattle.std.{proofs.Common.{◌≡◌, ◌⊎◌, inl, inr, ℕ, ◌+◌, ◌≤◌, true, false, Option, Some, None, refl, ap, sym, ◌∙◌, subst, arith}, specs.Prelude.{is_some, nat_eq}}
 use Rattle.hc_text.proofs.Basics.{and_left, not_some as none_some, same_some as same_row, some_inj}
 use Rattle.hc_sparse.specs.Cells.{Covers}
 use Rattle.hc_effects.proofs.Vocabulary.{Opening, opening_in, Event, Response, Limits, route_of, BoundBy, Showing, showing_in, case_at, consumer_heard, consumer_acted, by_opening, waiting, due_after, denial, Entry, exchange_opened, front, Flaw, entry_of, Measures, Owners, bound_to, offset, lo_of, reads, hole_start, Tables, Exchange, Representation, Consumer, Sound, IsBound, IsExclusiveWriter, after_accepted, brings_body, came_alone, loses_writing, survivor}
@@ -8,14 +8,11 @@ use Rattle.hc_rules.specs.declared.need.Route.TheVariants as route
 use Rattle.hc_event.specs.declared.place.Place.TheVariants as place
 use Rattle.hc_event.specs.declared.place.BoundBy.TheVariants as by
 use Rattle.hc_model.specs.Sound as sound
-use Rattle.hc_effects.proofs.{Basics.{false_true, some_row}, Beside.{IsBeside, goes_on_at}, BoundFrom.{BoundFrom, IsRow, IsFounded, IsFirstHole, IsShown, bound_from, place_inj}, BoundKeeps.{planned_at}, Covers.{own_covers, grown, offset_more, later_start, headed_at}, ExchangeFrom.{IsSame, IsHeaded}, FirstKeeps.{is_new}, LossBy.{IsReal}, OwnFrom.{OwnFrom, IsLeft, own_from, after_by}, OwnersKeep.{is_opened, new_number}, PieceKeeps.{eq_cases}, PollKeeps.{current_stays}, RepFrom.{RepFrom, rep_from, IsKept}, Said.{ShowsBy, showing_by}, ShownFrom.{ShownAs, IsPlanned}, Survives.{goes_on}, ToBeShown.{heard_place}, Waiters.{IsWaiter, waiter_of}}
+use Rattle.hc_effects.proofs.{Forward.{opened_on, is_on}, Basics.{false_true, some_row}, Beside.{IsBeside, goes_on_at}, BoundFrom.{BoundFrom, IsRow, IsFounded, IsFirstHole, IsShown, bound_from, place_inj}, BoundKeeps.{planned_at}, Covers.{own_covers, grown, offset_more, later_start, headed_at}, ExchangeFrom.{IsSame, IsHeaded}, FirstKeeps.{is_new}, LossBy.{IsReal}, OwnFrom.{OwnFrom, IsLeft, own_from, after_by}, OwnersKeep.{is_opened, new_number}, PieceKeeps.{eq_cases}, PollKeeps.{current_stays}, RepFrom.{RepFrom, rep_from, IsKept}, Said.{ShowsBy, showing_by}, ShownFrom.{stored, joins, ShownAs, IsPlanned}, Survives.{goes_on}, ToBeShown.{heard_place}, Waiters.{IsWaiter, waiter_of}}
 use Rattle.hc_effects.proofs.BoundFrom as from
-use Rattle.hc_laws.proofs.{CoversNew.{founds_within, hole_covers}, ExclusiveWriterFrom.{ExclusiveWriterFrom, alone_from, exclusive_writer_from, had_exclusive_writer}}
-use Rattle.hc_effects.proofs.Forward as forward
+use Rattle.hc_laws.proofs.{CoversNew.{founds_within, hole_covers}, ExclusiveWriterFrom.{wrote, survives, first, alone, ExclusiveWriterFrom, alone_from, exclusive_writer_from, had_exclusive_writer}}
 use Rattle.hc_effects.proofs.OwnFrom as own
-use Rattle.hc_laws.proofs.ExclusiveWriterFrom as exclusive_writers
 use Rattle.hc_effects.proofs.RepFrom as rep
-use Rattle.hc_effects.proofs.ShownFrom as shown_as
 
 module _ (limits : Limits) (t : Tables) (now : ℕ) (flaw : Flaw) (s : Sound t) (o : Owners t) (m : Measures t) (i : IsBeside t) (ev : Event) (goes : denial t ev ≡ None) (real : IsReal limits t now ev flaw) where
   abbrev e : Entry
@@ -35,10 +32,10 @@ module _ (limits : Limits) (t : Tables) (now : ℕ) (flaw : Flaw) (s : Sound t) 
       bound_not q (sound.is_bound lo hi how q_row at) = none_some r (sym free ∙ ap bound_to (ap (λ (z : Consumer). z.place) (same_row (t.consumer c) k q row q_row) ∙ at))
 
       by_exclusive_writer : ExclusiveWriterFrom limits t now flaw s o m ev goes real r c v → ⊥
-      by_exclusive_writer (exclusive_writers.first fresh quiet is) = false_true (sym (kept.lost_is ∙ rw (quiet, fresh) refl) ∙ lost)
-      by_exclusive_writer (exclusive_writers.alone was quiet is) = false_true (sym not_gone ∙ (s.rows r v there).store.lost_is_gone was)
-      by_exclusive_writer (exclusive_writers.wrote fresh loses x) = bound_not x.k x.reader
-      by_exclusive_writer (exclusive_writers.survives losing is) = false_true (sym quiet_event ∙ brings_writing r v losing)
+      by_exclusive_writer (first fresh quiet is) = false_true (sym (kept.lost_is ∙ rw (quiet, fresh) refl) ∙ lost)
+      by_exclusive_writer (alone was quiet is) = false_true (sym not_gone ∙ (s.rows r v there).store.lost_is_gone was)
+      by_exclusive_writer (wrote fresh loses x) = bound_not x.k x.reader
+      by_exclusive_writer (survives losing is) = false_true (sym quiet_event ∙ brings_writing r v losing)
 
   -- what is opened for it is its own
   pub own_opened : (c x : ℕ) (k u : Consumer) (q : Opening) → due_after t e c k (consumer_acted t e c (consumer_heard t e c ev k)) ≡ u → opening_in e.acts ≡ Some q → q.c ≡ c → u.own ≡ Some x → q.x ≡ x
@@ -58,7 +55,7 @@ module _ (limits : Limits) (t : Tables) (now : ℕ) (flaw : Flaw) (s : Sound t) 
 
   -- an exchange that was opened
   pub opened_row : (x : ℕ) (q : Opening) (z : Exchange) → opening_in e.acts ≡ Some q → q.x ≡ x → now_on.exchange x ≡ Some z → exchange_opened t e q ≡ z
-  opened_row x q z opens this after_x = same_row (now_on.exchange x) (exchange_opened t e q) z (forward.opened_on t e x q (t.exchange x) (new_number limits t now flaw s o ev goes q x opens this) opens this) after_x
+  opened_row x q z opens this after_x = same_row (now_on.exchange x) (exchange_opened t e q) z (opened_on t e x q (t.exchange x) (new_number limits t now flaw s o ev goes q x opens this) opens this) after_x
 
   module _ (r c x lo : ℕ) (hi : Option ℕ) (how : BoundBy) (u : Consumer) (p : Representation) (z : Exchange) (after : now_on.representation r ≡ Some p) (after_row : now_on.consumer c ≡ Some u) (stands : u.place ≡ place.Bound r lo hi how) (none : u.due ≡ None) (owned : u.own ≡ Some x) (after_x : now_on.exchange x ≡ Some z) (exclusive_writer : IsExclusiveWriter now_on r p c) where
     abbrev IsCovered : Type 0
@@ -75,11 +72,9 @@ module _ (limits : Limits) (t : Tables) (now : ℕ) (flaw : Flaw) (s : Sound t) 
     survived : (v : Representation) → t.representation r ≡ Some v → loses_writing t e r v ≡ true → survivor t r v ≡ Some c → IsCovered
     survived v there losing is =
         let g = goes_on limits t now flaw s o m ev goes real r c v p u there losing is after after_row in
-        let number : g.is.x ≡ x = some_inj g.is.x x (sym g.is.own ∙ owned) in
-        let one : g.is.w ≡ z = same_row (now_on.exchange x) g.is.w z (sym (ap now_on.exchange number) ∙ g.is.row) after_x in
-        let headed : is_some z.head ≡ true = ap (λ (a : Exchange). is_some a.head) (sym one) ∙ g.headed in
+        let one : g.is.w ≡ z = same_row (now_on.exchange x) g.is.w z (sym (ap now_on.exchange (some_inj g.is.x x (sym g.is.own ∙ owned))) ∙ g.is.row) after_x in
         let front_is : front g.is.w ≡ front z = ap (λ (a : Exchange). front a) one in
-        let at : goes_on_at z z.head ≡ front z = headed_at z z.head refl headed in
+        let at : goes_on_at z z.head ≡ front z = headed_at z z.head refl (ap (λ (a : Exchange). is_some a.head) (sym one) ∙ g.headed) in
         (λ d from_u lt. g.is.covered d from_u (omega arith))
 
     module _ (k : Consumer) (v : Representation) (row : IsRow t e c r lo hi how k u) (at : k.place ≡ place.Bound r lo hi how) (there : t.representation r ≡ Some v) (kept : IsKept t e r v p) where
@@ -91,15 +86,14 @@ module _ (limits : Limits) (t : Tables) (now : ℕ) (flaw : Flaw) (s : Sound t) 
         | inr both ↦ survived v there both.0 both.1
         | inl was ↦
             let w = some_row (t.exchange x) (o.there c x k row.row mine) in
-            let g = forward.is_on t e x w.0 w.1 in
+            let g = is_on t e x w.0 w.1 in
             let one : g.u ≡ z = same_row (now_on.exchange x) g.u z g.row after_x in
             own_covers limits t now flaw s o m i ev goes real r c lo hi how k u row at stands x w.0 z v p there kept after none mine w.1 (subst (IsSame t e x w.0) one g.same) after_x was
       ]
 
       opened_own : (q : Opening) → opening_in e.acts ≡ Some q → q.c ≡ c → q.x ≡ x → IsCovered
       opened_own q opens mine this =
-          let made = opened_row x q z opens this after_x in
-          let start : goes_on_at z z.head ≡ hole_start q.need = ap (λ (a : Exchange). goes_on_at a a.head) (sym made) in
+          let start : goes_on_at z z.head ≡ hole_start q.need = ap (λ (a : Exchange). goes_on_at a a.head) (sym (opened_row x q z opens this after_x)) in
           let le : hole_start q.need ≤ offset t k = later_start limits t now flaw s o m i ev goes real r c lo hi how k u row at stands q opens mine in
           let more : offset t k ≤ offset now_on u = offset_more limits t now flaw s o m i ev goes real r c lo hi how k u row at stands in
           nothing_before (omega arith)
@@ -132,9 +126,8 @@ module _ (limits : Limits) (t : Tables) (now : ℕ) (flaw : Flaw) (s : Sound t) 
 
         by_number : x ≡ y → IsCovered
         by_number number =
-            let g = forward.is_on t e y w exchange_row in
-            let one : g.u ≡ z = same_row (now_on.exchange y) g.u z g.row (sym (ap now_on.exchange number) ∙ after_x) in
-            by_heard g.u g.same one g.same.heard_or
+            let g = is_on t e y w exchange_row in
+            by_heard g.u g.same (same_row (now_on.exchange y) g.u z g.row (sym (ap now_on.exchange number) ∙ after_x)) g.same.heard_or
           where
             by_heard : (a : Exchange) (same : IsSame t e y w a) → a ≡ z → ((a.head ≡ w.head) × (a.joined ≡ w.joined)) ⊎ IsHeaded t e y w a → IsCovered
             by_heard a same one (inl still) = absurd (same.unheard (still.0 ∙ (is_new limits t now flaw s ev goes y response w here exchange_row).bare) response here)
@@ -152,21 +145,18 @@ module _ (limits : Limits) (t : Tables) (now : ℕ) (flaw : Flaw) (s : Sound t) 
             let one : q ≡ k = same_row (t.consumer c) q k q_row.row row.row in
             let placed : u.place ≡ (consumer_heard t e c ev k).place = heard_place limits t now flaw s o ev goes c r lo hi how k u (λ d want polls. let no : event.Head y response ≡ event.Poll d want = sym here ∙ polls in cc) row in
             let at_l : (consumer_heard t e c ev k).place ≡ place.Bound l.r l.lo l.hi l.how = ap (λ (a : Consumer). (consumer_heard t e c ev a).place) (sym one) ∙ l.at in
-            let number : l.r ≡ r = (place_inj l.r l.lo l.hi l.how r lo hi how (sym at_l ∙ (sym placed ∙ stands))).number in
-            absurd (none_some l.v (sym unfounded ∙ (sym (ap t.representation number) ∙ l.row)))
+            absurd (none_some l.v (sym unfounded ∙ (sym (ap t.representation ((place_inj l.r l.lo l.hi l.how r lo hi how (sym at_l ∙ (sym placed ∙ stands))).number)) ∙ l.row)))
 
     -- ITS FIRST HOLE IS OPENED
 
     opens_first : (k : Consumer) (q : Opening) → IsRow t e c r lo hi how k u → opening_in e.acts ≡ Some q → q.c ≡ c → bound_to (waiting t e c (consumer_heard t e c ev k)).place ≡ None → route_of q.need ≡ route.Hole → IsFirstHole t e c r lo hi how q (waiting t e c (consumer_heard t e c ev k)) → IsCovered
     opens_first k q row opens mine free way hole d from_u lt =
-        let this = own_opened c x k u q row.is opens mine owned in
-        let made = opened_row x q z opens this after_x in
+        let made = opened_row x q z opens (own_opened c x k u q row.is opens mine owned) after_x in
         let start : goes_on_at z z.head ≡ hole_start q.need = ap (λ (a : Exchange). goes_on_at a a.head) (sym made) in
         let covers_v = hole_covers limits t now flaw s o ev goes c r lo hi how k u q row opens mine free way hole in
         let begins : offset now_on u ≡ lo + u.given = offset_is in
         let after_lo : lo ≤ d = (let at_u : offset now_on u ≤ d = from_u in omega arith) in
-        let below : d < hole_start q.need = omega arith in
-        grown limits t now flaw s o m i ev goes real r hole.v p lo (hole_start q.need) hole.row after covers_v d after_lo below
+        grown limits t now flaw s o m i ev goes real r hole.v p lo (hole_start q.need) hole.row after covers_v d after_lo (omega arith)
 
     -- IT IS SHOWN WHAT IS CURRENT
 
@@ -180,8 +170,8 @@ module _ (limits : Limits) (t : Tables) (now : ℕ) (flaw : Flaw) (s : Sound t) 
         shows = showing_by limits t now flaw s ev goes a is
 
         current_v : ShownAs t now a.c k a.r a.lo a.hi → (v : Representation) → t.representation r ≡ Some v → v.is_gone ≡ false
-        current_v (shown_as.joins q current_is q_row on from_is to) v there = current_stays t _ r v (current_is ∙ ap Some all.of_r) there
-        current_v (shown_as.stored q span current_is q_row off wanted_is none_is from_is to) v there = current_stays t _ r v (current_is ∙ ap Some all.of_r) there
+        current_v (joins q current_is q_row on from_is to) v there = current_stays t _ r v (current_is ∙ ap Some all.of_r) there
+        current_v (stored q span current_is q_row off wanted_is none_is from_is to) v there = current_stays t _ r v (current_is ∙ ap Some all.of_r) there
 
         by_rep : p.is_lost ≡ true → p.alone ≡ Some c → RepFrom t e r p → ⊥
         by_rep lost is (rep.founded response w none_there here exchange_row on made) = false_true (ap (λ (q : Representation). q.is_lost) made ∙ lost)

@@ -1,5 +1,5 @@
 -- Who becomes bound as the only one has all up to where its exchange goes on: nothing, or what is stored before its first hole.
-use Rattle.std.{proofs.{Common.{◌≡◌, ℕ, ◌-◌, ◌<◌, ◌≤◌, List, [], length, Bool, true, false, Option, Some, None, refl, ap, sym, ◌∙◌, subst, arith, min}, lemmas.Bool.Decides.{nat_tests}}, specs.Prelude.{is_some, is_none, nat_eq}}
+use Rattle.std.{proofs.{Common.{◌≡◌, ℕ, ◌-◌, ◌≤◌, List, [], length, Bool, true, false, Option, Some, None, refl, ap, sym, ◌∙◌, subst, arith, min}, lemmas.Bool.Decides.{nat_tests}}, specs.Prelude.{is_some, is_none, nat_eq}}
 use Rattle.hc_text.proofs.Basics.{and_left, and_right, not_some as none_some, number_not, same_some as same_row, some_inj}
 use Rattle.hc_sparse.specs.Cells.{Cell, Covers}
 use Rattle.hc_range.specs.{declared.range.{Asked.{Asked}, ContentRange.{ContentRange}, Span.{Span}}, Spans.{resolved_span}}
@@ -10,9 +10,8 @@ use Rattle.hc_event.specs.declared.event.Event.TheVariants as event
 use Rattle.hc_rules.specs.declared.heads.HeadCase.TheVariants as case
 use Rattle.hc_rules.specs.declared.need.Route.TheVariants as route
 use Rattle.hc_rules.specs.declared.request.Wanted.TheVariants as wanted
-use Rattle.hc_effects.proofs.{Basics.{false_true}, BoundFrom.{IsRow, IsInterval, IsFounded, IsFirstHole}, ExchangeFrom.{IsSame, IsHeaded}, FirstKeeps.{case_of_head, whole_200, replaced_200, is_new, is_opener}, FoundBy.{CaseBy}, HoleLemmas.{first_before, first_from, some_of}, HolesOpened.{first_hole_is}, OwnersKeep.{is_opened}, PartTold.{IsTold, part_told, whole_base}, PollKeeps.{current_stays}, EndsKeep.{interval_inj}}
+use Rattle.hc_effects.proofs.{Basics.{false_true}, BoundFrom.{IsRow, IsInterval, IsFounded, IsFirstHole}, ExchangeFrom.{IsSame, IsHeaded}, FirstKeeps.{case_of_head, whole_200, replaced_200, is_new, is_opener}, FoundBy.{founds_range, CaseBy}, HoleLemmas.{first_before, first_from, some_of}, HolesOpened.{first_hole_is}, OwnersKeep.{is_opened}, PartTold.{IsTold, part_told, whole_base}, PollKeeps.{current_stays}, EndsKeep.{interval_inj}}
 use Rattle.hc_effects.proofs.BoundFrom as from
-use Rattle.hc_effects.proofs.FoundBy as cases
 use Rattle.hc_effects.proofs.OpenedAs as opened
 use Rattle.hc_effects.proofs.PartTold as told
 
@@ -38,14 +37,12 @@ begins_by first last span (Some z) h is =
 
 module _ (k : Consumer) (w : Exchange) (response : Response) (lo : ℕ) (hi : Option ℕ) (status : response.status ≡ 206) (i : IsInterval (wanted_of (range_of k.request) (founded_total w response)) lo hi) where
   part_by : (asked : Asked) (z : Option ContentRange) → range_of k.request ≡ Some asked → content_range_of response.fields ≡ z → fits_part asked z ≡ true → IsPartFrom response lo
-  part_by asked None is at h = absurd (false_true h)
-  part_by asked (Some (range.Unsatisfied total)) is at h = absurd (false_true h)
-  part_by asked (Some (range.Part first last None)) is at h = absurd (false_true h)
   part_by asked (Some (range.Part first last (Some total))) is at h =
       let on : nat_eq response.status 206 ≡ true = (let st : response.status ≡ 206 = status in grind (arith, nat_tests)) in
       let told : founded_total w response ≡ Some total = rw (on, at) refl in
       let wants : wanted_part (resolved_span asked total) ≡ wanted.Interval i.span = sym (ap (λ q. wanted_of q (founded_total w response)) is ∙ ap (wanted_of (Some asked)) told) ∙ i.wanted_is in
       record { first = first; last = last; total = total; told = at; starts = begins_by first last i.span (resolved_span asked total) h wants ∙ i.from }
+  part_by asked _ is at h = absurd (false_true h)
 
   fits_by : (z : Option Asked) → range_of k.request ≡ z → fits_to_found z response ≡ true → IsPartFrom response lo
   fits_by None is h = absurd (false_true h)
@@ -84,11 +81,9 @@ module _ (limits : Limits) (t : Tables) (now : ℕ) (flaw : Flaw) (s : Sound t) 
         from_base (omega arith)
 
     part : CaseBy view case.FoundsRange → IsInterval (wanted_of (range_of k.request) (founded_total w response)) lo hi → front z ≤ lo
-    part (cases.founds_range way status fits kept good) i =
-        let for_k : fits_to_found (range_of k.request) response ≡ true = sym (ap (λ q. fits_asker q response) (ap t.consumer mine ∙ row)) ∙ fits in
-        let p = fits_by k w response lo hi status i (range_of k.request) refl for_k in
+    part (founds_range way status fits kept good) i =
+        let p = fits_by k w response lo hi status i (range_of k.request) refl (sym (ap (λ q. fits_asker q response) (ap t.consumer mine ∙ row)) ∙ fits) in
         let le : base_of (length_of w.need w.request response) ≤ p.first = base_by p.first p.last _ (part_told w.need w.request response p.first p.last p.total (λ past. let no : route.Turn ≡ route.Direct = sym way ∙ past in cc) status p.told good) in
-        let start : p.first ≡ lo = p.starts in
         from_base (omega arith)
 
     by_founded : (g : Option HeadCase) → case_at t e ≡ g → IsFounded t e c r lo hi how x response w k g → front z ≤ lo
@@ -107,9 +102,8 @@ module _ (limits : Limits) (t : Tables) (now : ℕ) (flaw : Flaw) (s : Sound t) 
         ap base_of (ap (length_by z) got.head_is ∙ (ap (λ (n : Need). length_of n z.request got.response) same.need_is ∙ (ap (λ (q : Request). length_of w.need q got.response) same.request_is ∙ ap (length_of w.need w.request) answer)))
 
     part_from : (promise_of (length_of w.need w.request response) ≡ Some 0 → ⊥) → CaseBy view case.FoundsRange → IsInterval (wanted_of (range_of k.request) (founded_total w response)) lo hi → lo ≤ front z
-    part_from unmet (cases.founds_range way status fits kept good) i =
-        let for_k : fits_to_found (range_of k.request) response ≡ true = sym (ap (λ q. fits_asker q response) (ap t.consumer mine ∙ row)) ∙ fits in
-        let p = fits_by k w response lo hi status i (range_of k.request) refl for_k in
+    part_from unmet (founds_range way status fits kept good) i =
+        let p = fits_by k w response lo hi status i (range_of k.request) refl (sym (ap (λ q. fits_asker q response) (ap t.consumer mine ∙ row)) ∙ fits) in
         let le : lo ≤ base_of (length_of w.need w.request response) = from_part p.first p.last _ p.starts unmet (part_told w.need w.request response p.first p.last p.total (λ past. let no : route.Turn ≡ route.Direct = sym way ∙ past in cc) status p.told good) in
         let first : base z ≡ base_of (length_of w.need w.request response) = base_then in
         omega arith
@@ -130,10 +124,8 @@ module _ (limits : Limits) (t : Tables) (now : ℕ) (flaw : Flaw) (s : Sound t) 
   -- what stands before the first hole of a span is stored
   before_hole : (v : Representation) (span hole : Span) → first_hole v.stored v.reach span ≡ Some hole → Covers v.stored span.lo hole.lo
   before_hole v span hole found d from_lo lt =
-      let same = first_hole_is v.stored v.reach span hole found in
-      let at : hole.lo ≡ absent_from v.stored v.reach span.lo span.hi = ap (λ (a : Span). a.lo) same in
-      let before : d < absent_from v.stored v.reach span.lo span.hi = omega arith in
-      some_of (v.stored d) (first_before is_none v.stored span.lo (min span.hi v.reach - span.lo) d from_lo before)
+      let at : hole.lo ≡ absent_from v.stored v.reach span.lo span.hi = ap (λ (a : Span). a.lo) (first_hole_is v.stored v.reach span hole found) in
+      some_of (v.stored d) (first_before is_none v.stored span.lo (min span.hi v.reach - span.lo) d from_lo (omega arith))
 
   module _ (c r lo : ℕ) (hi : Option ℕ) (how : BoundBy) (k u : Consumer) (q : Opening) (row : IsRow t e c r lo hi how k u) (opens : opening_in e.acts ≡ Some q) (mine : q.c ≡ c) (free : bound_to (waiting t e c (consumer_heard t e c ev k)).place ≡ None) (way : route_of q.need ≡ route.Hole) (hole : IsFirstHole t e c r lo hi how q (waiting t e c (consumer_heard t e c ev k))) where
     stored_body : (v : Representation) (a b : ℕ) → t.representation r ≡ Some v → v.is_gone ≡ false → Covers v.stored a b → Covers v.body a b
@@ -154,7 +146,6 @@ module _ (limits : Limits) (t : Tables) (now : ℕ) (flaw : Flaw) (s : Sound t) 
     filled v span gap there not_gone wants found need_is also =
         let start : hole_start q.need ≡ gap.lo = ap hole_start need_is in
         let same : span.lo ≡ hole.interval.span.lo = ap (λ (a : Span). a.lo) (interval_inj span hole.interval.span (sym wants ∙ also)) in
-        let first : hole.interval.span.lo ≡ lo = hole.interval.from in
         let at : gap.lo ≡ absent_from v.stored v.reach span.lo span.hi = ap (λ (a : Span). a.lo) (first_hole_is v.stored v.reach span gap found) in
         let later : span.lo ≤ absent_from v.stored v.reach span.lo span.hi = first_from is_none v.stored span.lo (min span.hi v.reach - span.lo) in
         (omega arith, λ d from_lo lt. stored_body v span.lo gap.lo there not_gone (before_hole v span gap found) d (omega arith) (omega arith))

@@ -67,14 +67,7 @@ module _ (t : Tables) (e : Entry) where
   pub denied_sound : Sound t → Sound u
   denied_sound s = record {
     numbered = record {
-      lists = record {
-        new_consumers = s.numbered.lists.new_consumers;
-        new_exchanges = s.numbered.lists.new_exchanges;
-        new_representations = s.numbered.lists.new_representations;
-        started = s.numbered.lists.started;
-        opened = s.numbered.lists.opened;
-        founded = s.numbered.lists.founded;
-      };
+      lists = assumption;
       names = record { unfounded = s.numbered.names.unfounded; aims = s.numbered.names.aims; joined = s.numbered.names.joined };
       bound_to = λ r c k reader. s.numbered.bound_to r c k (was_bound r c k reader);
     };

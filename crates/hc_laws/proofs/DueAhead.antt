@@ -1,20 +1,17 @@
 -- The detached reader has all that its own exchange goes on behind, or that brought nothing: also where a failure is due.
-use Rattle.std.{proofs.Common.{◌≡◌, ◌⊎◌, inl, inr, ℕ, ◌≤◌, List, [], length, Bool, true, false, Option, Some, None, refl, ap, sym, ◌∙◌, subst, arith}, specs.Prelude.{◌&&◌, if◌then◌else◌}}
-use Rattle.hc_text.proofs.Basics.{not_some as none_some, same_some as same_row, some_inj}
+use Rattle.std.{proofs.Common.{◌≡◌, ◌⊎◌, inl, inr, ℕ, ◌≤◌, List, [], length, Bool, true, false, Option, Some, None, refl, ap, sym, ◌∙◌, subst, arith}, specs.Prelude.{if◌then◌else◌}}
+use Rattle.hc_text.proofs.Basics.{and_off, not_some as none_some, same_some as same_row, some_inj}
 use Rattle.hc_sparse.specs.Cells.{Covers}
 use Rattle.hc_effects.proofs.Vocabulary.{Cause, Event, Response, base_of, HeadCase, Limits, BoundBy, case_at, consumer_heard, consumer_acted, becomes_shared, denial, Entry, base, front, is_for, becomes_due, stop_cause, cause_of_head, cause_by_case, Flaw, entry_of, Measures, Owners, is_written, offset, own_open, reads, Tables, Exchange, Representation, Consumer, Sound, IsBound, IsExclusiveWriter, IsHad, after_accepted, has_more}
 use Rattle.hc_event.specs.declared.event.Event.TheVariants as event
 use Rattle.hc_rules.specs.declared.heads.HeadCase.TheVariants as case
 use Rattle.hc_event.specs.declared.place.Place.TheVariants as place
 use Rattle.hc_model.specs.Sound as sound
-use Rattle.hc_effects.proofs.{AboutKeeps.{own_open_is}, Basics.{false_true, some_row}, Beside.{IsBeside}, BoundFrom.{BoundFrom, IsRow, bound_from}, Covers.{grown, offset_more, headed_at}, Dues.{due_none, undue_of, stop_none, loss_at}, Exclusives.{IsExclusive}, ExchangeFrom.{IsSame, IsHeaded}, Fills.{Brings, brings, length_same}, FirstKeeps.{IsNew, is_new}, LossBy.{IsReal}, MeasuresKeep.{piece_taken}, OwnFrom.{OwnFrom, own_from}, ExclusiveWriters.{one_exclusive_writer}, RepFrom.{RepFrom, rep_from, IsKept}, Survives.{goes_on}, Waiters.{waiter_as}}
-use Rattle.hc_effects.proofs.BoundFrom as from
+use Rattle.hc_effects.proofs.{Forward.{is_on}, AboutKeeps.{own_open_is}, Basics.{false_true, some_row}, Beside.{IsBeside}, BoundFrom.{IsRow}, Covers.{grown, offset_more, headed_at}, Dues.{due_none, undue_of, stop_none, loss_at}, Exclusives.{IsExclusive}, ExchangeFrom.{IsSame, IsHeaded}, Fills.{Brings, brings, length_same}, FirstKeeps.{IsNew, is_new}, LossBy.{IsReal}, MeasuresKeep.{piece_taken}, OwnFrom.{OwnFrom, own_from}, ExclusiveWriters.{one_exclusive_writer}, RepFrom.{IsKept}, Survives.{goes_on}, Waiters.{waiter_as}}
 use Rattle.hc_effects.proofs.Fills as fills_by
-use Rattle.hc_effects.proofs.Forward as forward
-use Rattle.hc_laws.proofs.{GoAlone.{lost_of, opens_not, shown_not, founds_not, opens_undue, left_loses, unwritten_lost, rest_more}, OwnNone.{IsShared, own_none}, ExclusiveWriterFrom.{ExclusiveWriterFrom, alone_from}}
+use Rattle.hc_laws.proofs.{GoAlone.{lost_of, was_there, opens_undue, left_loses, unwritten_lost, rest_more}, OwnNone.{IsShared, own_none}, ExclusiveWriterFrom.{ExclusiveWriterFrom, alone_from}}
 use Rattle.hc_effects.proofs.OwnFrom as own
 use Rattle.hc_laws.proofs.ExclusiveWriterFrom as exclusive_writers
-use Rattle.hc_effects.proofs.RepFrom as rep
 
 -- its own exchange brought nothing, or all is there up to where that goes on
 pub record IsAhead (t : Tables) (v : Representation) (k : Consumer) : Type 0 where
@@ -59,8 +56,7 @@ module _ (limits : Limits) (t : Tables) (now : ℕ) (flaw : Flaw) (s : Sound t) 
           where
             by_row : (b : ℕ) (q : Consumer) → IsBound t r b q → b ≡ c → q.due ≡ None → ⊥
             by_row b q (sound.is_bound l h g q_row q_at) same none_due =
-                let one : q ≡ k = same_row (t.consumer c) q k (sym (ap t.consumer same) ∙ q_row) row.row in
-                none_some d (sym none_due ∙ (ap (λ (z : Consumer). z.due) one ∙ was_due))
+                none_some d (sym none_due ∙ (ap (λ (z : Consumer). z.due) (same_row (t.consumer c) q k (sym (ap t.consumer same) ∙ q_row) row.row) ∙ was_due))
 
             by_had : IsHad t r v x → ⊥
             by_had (sound.shared on writer) = false_true (sym off ∙ on)
@@ -71,11 +67,7 @@ module _ (limits : Limits) (t : Tables) (now : ℕ) (flaw : Flaw) (s : Sound t) 
         due_now none quiet = none_some cause (sym (due_none t e c k (consumer_acted t e c (consumer_heard t e c ev k)) u row.is (ap reads stands) none quiet) ∙ due)
 
         quiet_by : stop_cause t ev ≡ None → cause_of_head t e c ev ≡ None → becomes_due t e c k ≡ None
-        quiet_by stop head = undue_of t e c k (record { stop = stop_none t e k stop; loss = loss_at t e c r lo hi how k v at there (right_off _ (is_written t v) off); head = head })
-          where
-            right_off : (a b : Bool) → b ≡ false → (a && b) ≡ false
-            right_off true b h = h
-            right_off false b h = refl
+        quiet_by stop head = undue_of t e c k (record { stop = stop_none t e k stop; loss = loss_at t e c r lo hi how k v at there (and_off _ (is_written t v) off); head = head })
 
         -- an open one of its own stays as it is, or nothing becomes due
         unpieced : (x : ℕ) (bytes : List ℕ) → own_open t k ≡ Some x → ev ≡ event.Piece x bytes → ⊥
@@ -126,14 +118,12 @@ module _ (limits : Limits) (t : Tables) (now : ℕ) (flaw : Flaw) (s : Sound t) 
         by_heard : (z : Exchange) → IsSame t e was.x was.w z → now_on.exchange was.x ≡ Some z → ((z.head ≡ was.w.head) × (z.joined ≡ was.w.joined)) ⊎ IsHeaded t e was.x was.w z → (z.body ≡ []) ⊎ Covers p.body (offset now_on u) (front z)
         by_heard z same after_x (inl heard) = by_brings z same heard (brings t e was.x was.w z was.row after_x)
         by_heard z same after_x (inr got) =
-            let bare = (is_new limits t now flaw s ev goes was.x got.response was.w got.at was.row).bare in
-            inl (got.body_is ∙ (s.waits.headless was.x was.w was.row bare).0)
+            inl (got.body_is ∙ (s.waits.headless was.x was.w was.row ((is_new limits t now flaw s ev goes was.x got.response was.w got.at was.row).bare)).0)
 
         kept_ahead : (x : ℕ) → u.own ≡ Some x → k.own ≡ Some x → IsAhead now_on p u
         kept_ahead x owned mine =
-            let g = forward.is_on t e was.x was.w was.row in
-            let number : was.x ≡ x = some_inj was.x x (sym was.own ∙ mine) in
-            record { x = was.x; w = g.u; own = owned ∙ ap Some (sym number); row = g.row; covered = by_heard g.u g.same g.row g.same.heard_or }
+            let g = is_on t e was.x was.w was.row in
+            record { x = was.x; w = g.u; own = owned ∙ ap Some (sym (some_inj was.x x (sym was.own ∙ mine))); row = g.row; covered = by_heard g.u g.same g.row g.same.heard_or }
 
         by_from : (x : ℕ) → u.own ≡ Some x → OwnFrom t e c x u → IsAhead now_on p u
         by_from x owned (own.kept q its mine heard_mine) = kept_ahead x owned (ap (λ (b : Consumer). b.own) (same_row (t.consumer c) k q row.row its.row) ∙ mine)
@@ -183,12 +173,10 @@ module _ (limits : Limits) (t : Tables) (now : ℕ) (flaw : Flaw) (s : Sound t) 
           let g = goes_on limits t now flaw s o m ev goes real r c v p u there losing is after after_row in
           record { x = g.is.x; w = g.is.w; own = g.is.own; row = g.is.row; covered = inr g.is.covered }
 
-    due_ahead : AreAhead t → BoundFrom t e c r lo hi how u → RepFrom t e r p → IsAhead now_on p u
-    due_ahead was (from.stays k row at) (rep.was v kept) = by_exclusive_writer k v row at kept.row kept was (alone_from limits t now flaw s o m ev goes real r c v p kept.row kept lost_now is_alone)
-    due_ahead was (from.stays k row at) (rep.founded response w none_there here w_row on is_made) = absurd (false_true (ap (λ (b : Representation). b.is_lost) is_made ∙ lost_now))
-    due_ahead was (from.founds k y response w row here w_row mine of_it by_is all) from_rep = absurd (founds_not limits t now flaw s o m i ev goes real r c lo hi how u p after after_row stands lost_now is_alone y response w here w_row of_it from_rep)
-    due_ahead was (from.opens k q row opens mine free way hole) from_rep = absurd (opens_not limits t now flaw s o m i ev goes real r c lo hi how u p after after_row stands lost_now is_alone k q row opens mine free hole from_rep)
-    due_ahead was (from.shows k q row is all) from_rep = absurd (shown_not limits t now flaw s o m i ev goes real r c lo hi how u p after after_row stands lost_now is_alone k q row is all from_rep)
+    due_ahead : AreAhead t → IsAhead now_on p u
+    due_ahead was =
+        let b = was_there limits t now flaw s o m i ev goes real r c lo hi how u p after after_row stands lost_now is_alone in
+        by_exclusive_writer b.k b.v b.row b.at b.kept.row b.kept was (alone_from limits t now flaw s o m ev goes real r c b.v p b.kept.row b.kept lost_now is_alone)
 
   pub ahead_kept : AreAhead t → Sound now_on → AreAhead now_on
   ahead_kept was later = record { ahead = λ r c p u after is_alone reader. by_reader r c p u after is_alone reader u.due refl }
@@ -196,4 +184,4 @@ module _ (limits : Limits) (t : Tables) (now : ℕ) (flaw : Flaw) (s : Sound t) 
       by_reader : (r c : ℕ) (p : Representation) (u : Consumer) → now_on.representation r ≡ Some p → p.alone ≡ Some c → IsBound now_on r c u → (z : Option Cause) → u.due ≡ z → IsAhead now_on p u
       by_reader r c p u after is_alone reader None none = undue_ahead now_on r c p u later after is_alone reader none
       by_reader r c p u after is_alone (sound.is_bound lo hi how after_row stands) (Some cause) due =
-          due_ahead r c lo hi how u p after after_row stands (lost_of limits t now flaw s o m i ev goes real r c p after is_alone) is_alone cause due was (bound_from t e c r lo hi how (t.consumer c) u refl after_row stands) (rep_from t e r (t.representation r) p refl after)
+          due_ahead r c lo hi how u p after after_row stands (lost_of limits t now flaw s o m i ev goes real r c p after is_alone) is_alone cause due was

@@ -23,14 +23,11 @@ opened_if true w u is = is
 opened_if false w u is = opened_same w
 
 heard_opened : (t : Tables) (e : Entry) (x : ℕ) (ev : Event) (w : Exchange) → IsOpened w (exchange_heard t e x ev w)
-heard_opened t e x (event.Start c request) w = opened_same w
-heard_opened t e x (event.Poll c want) w = opened_same w
 heard_opened t e x (event.Head y response) w = opened_if (y == x) w (with_head t e response w) (record { c_is = refl; need_is = refl; request_is = refl; opened_is = refl })
 heard_opened t e x (event.Piece y bytes) w = opened_if (y == x) w (with_piece bytes w) (record { c_is = refl; need_is = refl; request_is = refl; opened_is = refl })
 heard_opened t e x (event.End y) w = opened_if (y == x) w _ (record { c_is = refl; need_is = refl; request_is = refl; opened_is = refl })
 heard_opened t e x (event.Fault y) w = opened_if (y == x) w _ (record { c_is = refl; need_is = refl; request_is = refl; opened_is = refl })
-heard_opened t e x (event.Cancel c) w = opened_same w
-heard_opened t e x (event.Doom key) w = opened_same w
+heard_opened t e x _ w = opened_same w
 
 -- OPENINGS
 
@@ -83,13 +80,10 @@ made_answered t e x (Some o) = elim (bool_cases (o.x == x)) [
 -- a row that isn't there has no head, and one that has a head gets no other
 heard_answered : (t : Tables) (e : Entry) (x : ℕ) (w : Exchange) (ev : Event) → t.exchange x ≡ Some w → denial t ev ≡ None → answered_in (exchange_heard t e x ev w) ≡ option_or (answered_in w) (first (head_in x e.now ev))
 unfolding refusals.refusal_of
-heard_answered t e x w (event.Start c request) row h = sym (or_none _)
-heard_answered t e x w (event.Poll c want) row h = sym (or_none _)
 heard_answered t e x w (event.Head y response) row h = elim (bool_cases (y == x)) [
   | inr other ↦ rw other (sym (or_none _))
   | inl here ↦
-      let same : y ≡ x = grind (arith, nat_tests) in
-      let bare : w.head ≡ None = headless w (sym (ap (λ n. head_refusal (as_open (t.exchange n))) same ∙ ap (λ o. head_refusal (as_open o)) row) ∙ h) in
+      let bare : w.head ≡ None = headless w (sym (ap (λ n. head_refusal (as_open (t.exchange n))) (grind (arith, nat_tests)) ∙ ap (λ o. head_refusal (as_open o)) row) ∙ h) in
       rw (here, bare) refl
 ]
 heard_answered t e x w (event.Piece y bytes) row h = elim (bool_cases (y == x)) [
@@ -104,25 +98,17 @@ heard_answered t e x w (event.Fault y) row h = elim (bool_cases (y == x)) [
   | inl here ↦ rw here (sym (or_none _))
   | inr other ↦ rw other (sym (or_none _))
 ]
-heard_answered t e x w (event.Cancel c) row h = sym (or_none _)
-heard_answered t e x w (event.Doom key) row h = sym (or_none _)
+heard_answered t e x w _ row h = sym (or_none _)
 
 -- an event of an exchange that isn't there is denied
 no_head_in : (t : Tables) (x now : ℕ) (ev : Event) → t.exchange x ≡ None → denial t ev ≡ None → first (head_in x now ev) ≡ None
 unfolding refusals.refusal_of
-no_head_in t x now (event.Start c request) row h = refl
-no_head_in t x now (event.Poll c want) row h = refl
 no_head_in t x now (event.Head y response) row h = elim (bool_cases (y == x)) [
   | inr other ↦ rw other refl
   | inl here ↦
-      let same : y ≡ x = grind (arith, nat_tests) in
-      absurd (never _ (sym (ap (λ n. head_refusal (as_open (t.exchange n))) same ∙ ap (λ o. head_refusal (as_open o)) row) ∙ h))
+      absurd (never _ (sym (ap (λ n. head_refusal (as_open (t.exchange n))) (grind (arith, nat_tests)) ∙ ap (λ o. head_refusal (as_open o)) row) ∙ h))
 ]
-no_head_in t x now (event.Piece y bytes) row h = refl
-no_head_in t x now (event.End y) row h = refl
-no_head_in t x now (event.Fault y) row h = refl
-no_head_in t x now (event.Cancel c) row h = refl
-no_head_in t x now (event.Doom key) row h = refl
+no_head_in t x now _ row h = refl
 
 head_after : (t : Tables) (e : Entry) (x : ℕ) (o : Option Exchange) → t.exchange x ≡ o → denial t e.event ≡ None → answered (exchange_after t e x o) ≡ option_or (answered o) (first (head_in x e.now e.event))
 unfolding exchange_after
@@ -153,8 +139,6 @@ made_body t e x (Some o) = elim (bool_cases (o.x == x)) [
 ]
 
 heard_body : (t : Tables) (e : Entry) (x : ℕ) (w : Exchange) (ev : Event) → (exchange_heard t e x ev w).body ≡ w.body ++ bytes_in x ev
-heard_body t e x w (event.Start c request) = sym (append-nil w.body)
-heard_body t e x w (event.Poll c want) = sym (append-nil w.body)
 heard_body t e x w (event.Head y response) = elim (bool_cases (y == x)) [
   | inl here ↦ rw here (sym (append-nil w.body))
   | inr other ↦ rw other (sym (append-nil w.body))
@@ -171,24 +155,17 @@ heard_body t e x w (event.Fault y) = elim (bool_cases (y == x)) [
   | inl here ↦ rw here (sym (append-nil w.body))
   | inr other ↦ rw other (sym (append-nil w.body))
 ]
-heard_body t e x w (event.Cancel c) = sym (append-nil w.body)
-heard_body t e x w (event.Doom key) = sym (append-nil w.body)
+heard_body t e x w _ = sym (append-nil w.body)
 
 no_bytes_in : (t : Tables) (x : ℕ) (ev : Event) → t.exchange x ≡ None → denial t ev ≡ None → bytes_in x ev ≡ []
 unfolding refusals.refusal_of
-no_bytes_in t x (event.Start c request) row h = refl
-no_bytes_in t x (event.Poll c want) row h = refl
-no_bytes_in t x (event.Head y response) row h = refl
 no_bytes_in t x (event.Piece y bytes) row h = elim (bool_cases (y == x)) [
   | inr other ↦ rw other refl
   | inl here ↦
       let same : y ≡ x = grind (arith, nat_tests) in
       absurd (never _ (sym (ap (λ n. piece_refusal (as_open (t.exchange n)) (length bytes)) same ∙ ap (λ o. piece_refusal (as_open o) (length bytes)) row) ∙ h))
 ]
-no_bytes_in t x (event.End y) row h = refl
-no_bytes_in t x (event.Fault y) row h = refl
-no_bytes_in t x (event.Cancel c) row h = refl
-no_bytes_in t x (event.Doom key) row h = refl
+no_bytes_in t x _ row h = refl
 
 body_after : (t : Tables) (e : Entry) (x : ℕ) (o : Option Exchange) → t.exchange x ≡ o → denial t e.event ≡ None → body (exchange_after t e x o) ≡ body o ++ bytes_in x e.event
 unfolding exchange_after
@@ -220,8 +197,6 @@ made_ended t e x (Some o) = elim (bool_cases (o.x == x)) [
 ]
 
 heard_ended : (t : Tables) (e : Entry) (x : ℕ) (w : Exchange) (ev : Event) → (exchange_heard t e x ev w).is_ended ≡ (ends_in x ev || w.is_ended)
-heard_ended t e x w (event.Start c request) = refl
-heard_ended t e x w (event.Poll c want) = refl
 heard_ended t e x w (event.Head y response) = elim (bool_cases (y == x)) [
   | inl here ↦ rw here refl
   | inr other ↦ rw other refl
@@ -238,24 +213,16 @@ heard_ended t e x w (event.Fault y) = elim (bool_cases (y == x)) [
   | inl here ↦ rw here refl
   | inr other ↦ rw other refl
 ]
-heard_ended t e x w (event.Cancel c) = refl
-heard_ended t e x w (event.Doom key) = refl
+heard_ended t e x w _ = refl
 
 no_end_in : (t : Tables) (x : ℕ) (ev : Event) → t.exchange x ≡ None → denial t ev ≡ None → ends_in x ev ≡ false
 unfolding refusals.refusal_of
-no_end_in t x (event.Start c request) row h = refl
-no_end_in t x (event.Poll c want) row h = refl
-no_end_in t x (event.Head y response) row h = refl
-no_end_in t x (event.Piece y bytes) row h = refl
 no_end_in t x (event.End y) row h = elim (bool_cases (y == x)) [
   | inr other ↦ other
   | inl here ↦
-      let same : y ≡ x = grind (arith, nat_tests) in
-      absurd (never _ (sym (ap (λ n. end_refusal (as_open (t.exchange n))) same ∙ ap (λ o. end_refusal (as_open o)) row) ∙ h))
+      absurd (never _ (sym (ap (λ n. end_refusal (as_open (t.exchange n))) (grind (arith, nat_tests)) ∙ ap (λ o. end_refusal (as_open o)) row) ∙ h))
 ]
-no_end_in t x (event.Fault y) row h = refl
-no_end_in t x (event.Cancel c) row h = refl
-no_end_in t x (event.Doom key) row h = refl
+no_end_in t x _ row h = refl
 
 end_after : (t : Tables) (e : Entry) (x : ℕ) (o : Option Exchange) → t.exchange x ≡ o → denial t e.event ≡ None → ended (exchange_after t e x o) ≡ (ends_in x e.event || ended o)
 unfolding exchange_after

@@ -22,8 +22,7 @@ module _ (limits : Limits) (t : Tables) (now : ℕ) (flaw : Flaw) (s : Sound t) 
   -- who goes on with what is lost now
   pub loss_from : (r c : ℕ) (v p : Representation) → t.representation r ≡ Some v → IsKept t e r v p → loses_in r e.acts ≡ true → p.alone ≡ Some c → ExclusiveWriterFrom r c v
   loss_from r c v p there kept loses is =
-      let all = lost_alone limits t now flaw s o m ev goes real r v p there kept loses in
-      let goes_on : goes_on_with t e r v ≡ Some c = sym all.1 ∙ is in
+      let goes_on : goes_on_with t e r v ≡ Some c = sym (lost_alone limits t now flaw s o m ev goes real r v p there kept loses).1 ∙ is in
       elim (bool_cases (loses_writing t e r v)) [
         | inl losing ↦ survives losing (rw losing at goes_on)
         | inr off ↦ wrote (fresh limits t now flaw s o m ev goes real r v there loses) loses (exclusive_parts t r c v (rw off at goes_on))

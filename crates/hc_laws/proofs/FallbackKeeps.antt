@@ -1,12 +1,10 @@
 -- An answer past the store stays apart, who was shown a head doesn't have the turn, and what ended isn't open: in every run.
-use Rattle.std.{proofs.Common.{◌≡◌, ◌⊎◌, inl, inr, ℕ, [], ◌∷◌, Bool, true, false, cond, Option, Some, None, refl, ap, sym, ◌∙◌, subst}, specs.{Prelude.{is_some, ◌&&◌, ◌||◌, not}, Option.{option_and_then}}}
+use Rattle.std.{proofs.Common.{◌≡◌, ◌⊎◌, inl, inr, ℕ, [], ◌∷◌, Bool, true, false, cond, Option, Some, None, refl, ap, sym, ◌∙◌, subst}, specs.{Prelude.{is_some, not}, Option.{option_and_then}}}
 use Rattle.hc_text.proofs.Basics.{and_off as and_none, not_some as none_some, or_rest as or_right, same_some as same_row, some_inj}
-use Rattle.hc_effects.proofs.Vocabulary.{opening_in, shows_in, closes_in, Event, Response, Why, Limits, Place, consumer_made, consumer_after, denial, Entry, exchange_after, exchange_heard, exchange_acted, exchange_made, is_headless, Flaw, shown_in, entry_of, Move, Nothing, Shows, Fails, Owners, IsPast, move_of, if_headless, shows_at, shows_direct, shows_answer, reads, own_open, Tables, Exchange, Consumer, may_stand, Sound, after_accepted, after_denied, first_tables, Contents}
+use Rattle.hc_effects.proofs.Vocabulary.{opening_in, shows_in, closes_in, Event, Response, Why, Limits, Place, consumer_made, consumer_after, denial, Entry, exchange_after, exchange_heard, exchange_acted, exchange_made, is_headless, Flaw, shown_in, entry_of, Move, Shows, Owners, IsPast, move_of, if_headless, shows_at, shows_direct, shows_answer, reads, own_open, Tables, Exchange, Consumer, may_stand, Sound, after_accepted, after_denied, first_tables, Contents}
 use Rattle.hc_event.specs.declared.event.Event.TheVariants as event
-use Rattle.hc_event.specs.declared.act.Wait.TheVariants as wait
 use Rattle.hc_event.specs.declared.place.BoundBy.TheVariants as by
 use Rattle.hc_event.specs.declared.place.Place.TheVariants as place
-use Rattle.hc_model.specs.Moves as moves
 use Rattle.hc_model.specs.Owners as owners
 use Rattle.hc_effects.proofs.{Basics.{false_true}, ExchangeFrom.{IsHeaded}, Forward.{is_on}, MoveBy.{MoveBy, IsHeard, move_by}, PastApart.{IsHeadedRow, unfounded_kept}, PieceKeeps.{eq_cases}, PollActs.{ToOne, to_one}, ShownStays.{IsIdle, StaysOrIdle, IsFallback, Lands, shown_stays, shown_at}, TurnPlaces.{is_after}}
 use Rattle.hc_effects.proofs.MoveBy as by_move
@@ -20,13 +18,7 @@ made_unshown c now (event.Start d request) u h = elim (eq_cases d c) [
   | inl here ↦ sym (ap (λ (z : Consumer). z.shown) (some_inj _ u (rw here.0 at h)))
   | inr off ↦ absurd (none_some u (rw off.0 at h))
 ]
-made_unshown c now (event.Poll d want) u h = absurd (none_some u h)
-made_unshown c now (event.Head x response) u h = absurd (none_some u h)
-made_unshown c now (event.Piece x bytes) u h = absurd (none_some u h)
-made_unshown c now (event.End x) u h = absurd (none_some u h)
-made_unshown c now (event.Fault x) u h = absurd (none_some u h)
-made_unshown c now (event.Cancel d) u h = absurd (none_some u h)
-made_unshown c now (event.Doom key) u h = absurd (none_some u h)
+made_unshown c now _ u h = absurd (none_some u h)
 
 pub new_unshown : (t : Tables) (e : Entry) (c : ℕ) (q : Option Consumer) (u : Consumer) → q ≡ None → consumer_after t e c q ≡ Some u → u.shown ≡ false
 unfolding consumer_after
@@ -39,8 +31,6 @@ abbrev IsShut : Exchange → Type 0
 IsShut w = w.is_ended ≡ true → w.is_open ≡ false
 
 heard_shut : (t : Tables) (e : Entry) (x : ℕ) (ev : Event) (w : Exchange) → IsShut w → IsShut (exchange_heard t e x ev w)
-heard_shut t e x (event.Start c request) w shut = shut
-heard_shut t e x (event.Poll c want) w shut = shut
 heard_shut t e x (event.Head y response) w shut = elim (eq_cases y x) [
   | inl hit ↦ rw hit.0 (λ over. and_none _ w.is_open (shut over))
   | inr off ↦ rw off.0 shut
@@ -57,8 +47,7 @@ heard_shut t e x (event.Fault y) w shut = elim (eq_cases y x) [
   | inl hit ↦ rw hit.0 (λ over. refl)
   | inr off ↦ rw off.0 shut
 ]
-heard_shut t e x (event.Cancel c) w shut = shut
-heard_shut t e x (event.Doom key) w shut = shut
+heard_shut t e x _ w shut = shut
 
 module _ (t : Tables) (e : Entry) (x : ℕ) where
   opened_shut : (z : Option Rattle.hc_event.specs.Filters.Opening) (u : Exchange) → exchange_made t e x z ≡ Some u → u.is_ended ≡ true → u.is_open ≡ false
@@ -102,8 +91,7 @@ module _ (limits : Limits) (t : Tables) (now : ℕ) (flaw : Flaw) (s : Sound t) 
   landing_by c k u row after on (acts_to.quiet gives shows off) = absurd (false_true (sym off ∙ on))
   landing_by c k u row after on (acts_to.gives want q run at there is gives shows off) = absurd (false_true (sym off ∙ on))
   landing_by c k u row after on (acts_to.shows want q r why head lo hi at there is gives shows showing) =
-      let one : q ≡ k = same_row (t.consumer c) q k there row in
-      let move_is : move_of t now want c k ≡ Shows r why head lo hi = sym (ap (move_of t now want c) one) ∙ is in
+      let move_is : move_of t now want c k ≡ Shows r why head lo hi = sym (ap (move_of t now want c) (same_row (t.consumer c) q k there row)) ∙ is in
       record {
         want = want;
         r = r;
@@ -119,9 +107,7 @@ module _ (limits : Limits) (t : Tables) (now : ℕ) (flaw : Flaw) (s : Sound t) 
 
   pub landing : (c : ℕ) (k u : Consumer) → t.consumer c ≡ Some k → now_on.consumer c ≡ Some u → k.shown ≡ false → u.shown ≡ true → IsLanding c k u
   landing c k u row after off on =
-      let its = is_after t e c k u row after in
-      let shows : shows_in c e.acts ≡ true = sym (or_right (shows_in c e.acts) k.shown off) ∙ (sym its.shown ∙ on) in
-      landing_by c k u row after shows (to_one t now c limits flaw ev)
+      landing_by c k u row after (sym (or_right (shows_in c e.acts) k.shown off) ∙ (sym (is_after t e c k u row after).shown ∙ on)) (to_one t now c limits flaw ev)
 
   -- an exchange that has its head keeps it
   pub head_stays : (y : ℕ) → IsHeadedRow t y → IsHeadedRow now_on y
@@ -140,21 +126,16 @@ module _ (limits : Limits) (t : Tables) (now : ℕ) (flaw : Flaw) (s : Sound t) 
     unheard w mine there opened bare heard =
         let own : own_open t k ≡ Some y = rw (mine, there, opened) refl in
         let headless : is_headless (t.exchange y) ≡ true = rw (there, opened, bare) refl in
-        let waits : option_and_then (if_headless t) (own_open t k) ≡ Some y = ap (option_and_then (if_headless t)) own ∙ ap (λ b. cond b (Some y) None) headless in
-        let no : Some y ≡ None = sym waits ∙ heard in cc
+        let no : Some y ≡ None = sym (ap (option_and_then (if_headless t)) own ∙ ap (λ b. cond b (Some y) None) headless) ∙ heard in cc
 
     bare_shows : (w : Exchange) (m : Move) → t.exchange y ≡ Some w → w.head ≡ None → shows_at t k k.place ≡ Some m → ⊥
-    bare_shows w m there bare shows =
-        let none : shows_at t k k.place ≡ None = ap (shows_at t k) at ∙ (ap (shows_direct t y) there ∙ ap (shows_answer t y w) bare) in
-        none_some m (sym none ∙ shows)
+    bare_shows w m there bare shows = none_some m (sym (ap (shows_at t k) at ∙ (ap (shows_direct t y) there ∙ ap (shows_answer t y w) bare)) ∙ shows)
 
     by_waits : (w : Exchange) → k.own ≡ Some y → t.exchange y ≡ Some w → w.is_open ≡ true → w.head ≡ None → (m : Move) → MoveBy t now want c k m → m ≡ Shows r why head lo hi → ⊥
     by_waits w mine there opened bare m (by_move.shows _ unshown shows) same = bare_shows w m there bare shows
-    by_waits w mine there opened bare _ (by_move.waits x own headless) same = let no : moves.Waits (wait.Head x) ≡ Shows r why head lo hi = same in cc
-    by_waits w mine there opened bare _ (by_move.down cause stood) same = let no : Fails cause ≡ Shows r why head lo hi = same in cc
-    by_waits w mine there opened bare _ (by_move.over stood) same = let no : Nothing ≡ Shows r why head lo hi = same in cc
     by_waits w mine there opened bare _ (by_move.reads shown heard) same = false_true (sym off ∙ shown)
     by_waits w mine there opened bare _ (by_move.plans unshown free none heard) same = unheard w mine there opened bare heard
+    by_waits w mine there opened bare _ _ same = cc
 
     past_headed : IsPast t y k → IsHeadedRow t y
     past_headed (owners.answered w there headed) = record { w = w; row = there; headed = headed }

@@ -5,7 +5,7 @@
 -- same whatever else the acts say. So the flaw is the one of the sizes, and the acts are those that are owed with it.
 use Rattle.std.{proofs.Common.{◌≡◌, inl, inr, ℕ, List, Bool, true, false, Option, Some, None, refl, ap, sym, ◌∙◌}, specs.Prelude.{if◌then◌else◌, ◌||◌}}
 use Rattle.hc_text.proofs.Basics.{and_left, and_right, or_cases}
-use Rattle.hc_effects.proofs.Vocabulary.{is_denied, Act, LostKind, Refusal, Event, Response, Limits, Room, has_loss, without_losses, answer, accepted_acts, denied_or, case_of, is_founding, is_joining, denial, Entry, entry_without_acts, Flaw, NoFlaw, Loses, Misreads, flaw_in, is_fault, failures_in, Tables, Exchange, IsOwed, may_stand, may_be, may_lose, has_room, flaw_by_room, size_flaw, owed, room_for, written_representation, written_in, head_writes, may_validate, lossless}
+use Rattle.hc_effects.proofs.Vocabulary.{is_denied, Act, LostKind, Refusal, Event, Response, Limits, Room, answer, accepted_acts, denied_or, case_of, is_founding, is_joining, denial, Entry, entry_without_acts, Flaw, NoFlaw, Loses, Misreads, flaw_in, is_fault, failures_in, Tables, Exchange, IsOwed, may_stand, may_be, may_lose, has_room, flaw_by_room, size_flaw, owed, room_for, written_representation, written_in, head_writes, may_validate, lossless}
 use Rattle.hc_event.specs.declared.act.LostKind.TheVariants as kind
 use Rattle.hc_event.specs.declared.event.Event.TheVariants as event
 use Rattle.hc_rules.specs.declared.room.Room.TheVariants as room
@@ -24,20 +24,14 @@ module _ (limits : Limits) (t : Tables) (e : Entry) where
   by_row : (x : ℕ) (response : Response) (q : Option Exchange) → head_writes t (lossless e) x response q ≡ head_writes t (entry_without_acts e.now e.event) x response q
   by_row x response None = refl
   by_row x response (Some w) =
-      let same : case_of t (has_loss (without_losses e.acts)) e.event ≡ case_of t false e.event = ap (λ b. case_of t b e.event) (no_loss e.acts) in
-      ap (λ z. if is_founding z then Some x else if may_validate t w response || is_joining z then w.aim else None) same
+      ap (λ z. if is_founding z then Some x else if may_validate t w response || is_joining z then w.aim else None) (ap (λ b. case_of t b e.event) (no_loss e.acts))
 
   -- a head or a piece writes the same whatever is lost, and nothing else needs room
   written_by : (ev : Event) → e.event ≡ ev → lacks (room_for limits t e.now ev) ≡ true → written_in t (lossless e) ev ≡ written_in t (entry_without_acts e.now e.event) ev
   unfolding room_for
   written_by (event.Head x response) at none = by_row x response (t.exchange x)
   written_by (event.Piece x bytes) at none = refl
-  written_by (event.Start c request) at none = absurd (false_true none)
-  written_by (event.Poll c want) at none = absurd (false_true none)
-  written_by (event.End x) at none = absurd (false_true none)
-  written_by (event.Fault x) at none = absurd (false_true none)
-  written_by (event.Cancel c) at none = absurd (false_true none)
-  written_by (event.Doom key) at none = absurd (false_true none)
+  written_by _ at none = absurd (false_true none)
 
   same_written : lacks (room_for limits t e.now e.event) ≡ true → written_representation t e ≡ written_representation t (entry_without_acts e.now e.event)
   unfolding written_representation
@@ -50,28 +44,23 @@ module _ (limits : Limits) (t : Tables) (e : Entry) where
 
   large_is : (q : Room) (o : Option ℕ) (r : ℕ) → may_lose q kind.TooLarge ≡ true → o ≡ Some r → Loses r kind.TooLarge ≡ flaw_by_room q o
   large_is room.TooLarge o r may is = ap (flaw_by_room room.TooLarge) (sym is)
-  large_is room.Full o r may is = absurd (false_true may)
-  large_is (room.After count) o r may is = absurd (false_true may)
+  large_is _ o r may is = absurd (false_true may)
 
   full_is : (q : Room) (o : Option ℕ) (r : ℕ) → may_lose q kind.Full ≡ true → o ≡ Some r → Loses r kind.Full ≡ flaw_by_room q o
   full_is room.Full o r may is = ap (flaw_by_room room.Full) (sym is)
-  full_is room.TooLarge o r may is = absurd (false_true may)
-  full_is (room.After count) o r may is = absurd (false_true may)
+  full_is _ o r may is = absurd (false_true may)
 
   large_lacks : (q : Room) → may_lose q kind.TooLarge ≡ true → lacks q ≡ true
   large_lacks room.TooLarge may = refl
-  large_lacks room.Full may = absurd (false_true may)
-  large_lacks (room.After count) may = absurd (false_true may)
+  large_lacks _ may = absurd (false_true may)
 
   full_lacks : (q : Room) → may_lose q kind.Full ≡ true → lacks q ≡ true
   full_lacks room.Full may = refl
-  full_lacks room.TooLarge may = absurd (false_true may)
-  full_lacks (room.After count) may = absurd (false_true may)
+  full_lacks _ may = absurd (false_true may)
 
   room_is : (q : Room) (o : Option ℕ) → has_room q ≡ true → NoFlaw ≡ flaw_by_room q o
   room_is (room.After count) o has = refl
-  room_is room.TooLarge o has = absurd (false_true has)
-  room_is room.Full o has = absurd (false_true has)
+  room_is _ o has = absurd (false_true has)
 
   by_kind : (r : ℕ) (k : LostKind) → is_fault (Loses r k) ≡ false → may_be limits t e (Loses r k) ≡ true → Loses r k ≡ sizes
   by_kind r kind.Fault sane may = absurd (true_false sane)

@@ -37,27 +37,22 @@ module _ (limits : Limits) (t : Tables) (now : ℕ) (flaw : Flaw) (s : Sound t) 
 
     unfounded : (x c : ℕ) (response : Response) (w : Exchange) (k : Consumer) → ev ≡ event.Head x response → t.exchange x ≡ Some w → x ≡ r → IsBound t r c k → ⊥
     unfounded x c response w k here row of_r reader =
-        let there = s.numbered.bound_to r c k reader in
         let none = sym (ap t.representation of_r) ∙ (is_new limits t now flaw s ev goes x response w here row).unfounded in
-        false_true (sym (ap (λ (z : Option Representation). is_some z) none) ∙ there)
+        false_true (sym (ap (λ (z : Option Representation). is_some z) none) ∙ s.numbered.bound_to r c k reader)
 
     pub head_opens : (x : ℕ) (response : Response) (p : Opening) → ev ≡ event.Head x response → opening_in e.acts ≡ Some p → ⊥
     head_opens x response p here opens = let opened = is_opened limits t now flaw s o ev goes p opens in let no : event.Head x response ≡ event.Poll p.c opened.want = sym here ∙ opened.at in cc
-
-    some_none : {A : Type 0} (a : A) → Some a ≡ None → ⊥
-    some_none a h = cc
 
     module _ (c d : ℕ) (k u : Consumer) (apart : d ≡ c → ⊥) (lo : ℕ) (hi : Option ℕ) (how : BoundBy) (at_c : k.place ≡ place.Bound r lo hi how) (none_c : k.due ≡ None) (alone : came_alone now_on (place.Bound r lo hi how) ≡ true) (lo_d : ℕ) (hi_d : Option ℕ) (how_d : BoundBy) (at_d : u.place ≡ place.Bound r lo_d hi_d how_d) where
       both_stay : (a b : Consumer) → IsRow t e c r lo hi how a k → a.place ≡ place.Bound r lo hi how → IsRow t e d r lo_d hi_d how_d b u → b.place ≡ place.Bound r lo_d hi_d how_d → u.due ≡ None
       both_stay a b row at also at_too =
           let reader_c : IsBound t r c a = sound.is_bound lo hi how row.row at in
-          let reader_d : IsBound t r d b = sound.is_bound lo_d hi_d how_d also.row at_too in
           let there = s.numbered.bound_to r c a reader_c in
           let v = row_by (t.representation r) refl there in
           let fresh = unlost limits t now flaw s o ev goes r v.0 new v.1 after kept in
           let first : IsFirst t r c = sound.first a lo hi how row.row at (sym (came_kept limits t now flaw s ev goes r lo hi how there) ∙ alone) in
           let was = due_before t e c a (consumer_acted t e c (consumer_heard t e c ev a)) k row.is (reading r lo hi how k at_c) none_c in
-          let got = beside limits t now flaw s o ev goes r c d v.0 a b v.1 fresh.0 fresh.1 first reader_c was.0 was.1 reader_d apart in
+          let got = beside limits t now flaw s o ev goes r c d v.0 a b v.1 fresh.0 fresh.1 first reader_c was.0 was.1 (sound.is_bound lo_d hi_d how_d also.row at_too) apart in
           due_none t e d b (consumer_acted t e d (consumer_heard t e d ev b)) u also.is (reading r lo_d hi_d how_d u at_d) got.0 got.1
 
       nobody : (a : Consumer) (p : Opening) (g : ℕ) (b : Consumer) → t.consumer g ≡ Some a → opening_in e.acts ≡ Some p → p.c ≡ g → bound_to (waiting t e g (consumer_heard t e g ev a)).place ≡ None → route_of p.need ≡ route.Hole → current t (consumer_heard t e g ev a).request.key ≡ Some r → (f : ℕ) → IsBound t r f b → ⊥
@@ -71,9 +66,7 @@ module _ (limits : Limits) (t : Tables) (now : ℕ) (flaw : Flaw) (s : Sound t) 
       by_ways (from.stays a row at) (from.opens b p also opens mine free way hole) = absurd (nobody b p d a also.row opens mine free way hole.current_is c (sound.is_bound lo hi how row.row at))
       by_ways (from.founds a x response w row here exchange mine of_r by_is all) (from.stays b also at_too) = absurd (unfounded x d response w b here exchange of_r (sound.is_bound lo_d hi_d how_d also.row at_too))
       by_ways (from.founds a x response w row here exchange mine of_r by_is all) (from.founds b y answer z also here_too exchange_too mine_too of_too by_too all_too) =
-          let same : y ≡ x = of_too ∙ sym of_r in
-          let one : z ≡ w = same_row (t.exchange x) z w (sym (ap t.exchange same) ∙ exchange_too) exchange in
-          absurd (apart (sym mine_too ∙ (ap (λ (q : Exchange). q.c) one ∙ mine)))
+          absurd (apart (sym mine_too ∙ (ap (λ (q : Exchange). q.c) (same_row (t.exchange x) z w (sym (ap t.exchange (of_too ∙ sym of_r)) ∙ exchange_too) exchange) ∙ mine)))
       by_ways (from.founds a x response w row here exchange mine of_r by_is all) (from.opens b p also opens mine_too free way hole) = absurd (head_opens x response p here opens)
       by_ways (from.opens a p row opens mine free way hole) (from.stays b also at_too) = absurd (nobody a p c b row.row opens mine free way hole.current_is d (sound.is_bound lo_d hi_d how_d also.row at_too))
       by_ways (from.opens a p row opens mine free way hole) (from.founds b x response w also here exchange mine_too of_r by_is all) = absurd (head_opens x response p here opens)
@@ -82,11 +75,10 @@ module _ (limits : Limits) (t : Tables) (now : ℕ) (flaw : Flaw) (s : Sound t) 
 
     by_number : (c d : ℕ) (k u : Consumer) → IsFirst now_on r c → now_on.consumer c ≡ Some k → k.due ≡ None → IsBound now_on r d u → u.due ≡ None
     by_number c d k u (sound.first q lo hi how row at alone) row_k none_c (sound.is_bound lo_d hi_d how_d row_d at_d) =
-        let one : q ≡ k = same_row (now_on.consumer c) q k row row_k in
         elim (eq_cases d c) [
           | inl same ↦ let mine : u ≡ k = same_row (now_on.consumer c) u k (sym (ap now_on.consumer same.1) ∙ row_d) row_k in ap (λ (z : Consumer). z.due) mine ∙ none_c
           | inr off ↦
-              let at_k : k.place ≡ place.Bound r lo hi how = sym (ap (λ (z : Consumer). z.place) one) ∙ at in
+              let at_k : k.place ≡ place.Bound r lo hi how = sym (ap (λ (z : Consumer). z.place) (same_row (now_on.consumer c) q k row row_k)) ∙ at in
               by_ways c d k u off.1 lo hi how at_k none_c alone lo_d hi_d how_d at_d (bound_from t e c r lo hi how (t.consumer c) k refl row_k at_k) (bound_from t e d r lo_d hi_d how_d (t.consumer d) u refl row_d at_d)
         ]
 

@@ -5,8 +5,7 @@ use Rattle.hc_effects.proofs.Vocabulary.{Event, Response, Cause, Limits, is_same
 use Rattle.hc_event.specs.declared.event.Event.TheVariants as event
 use Rattle.hc_event.specs.declared.place.Place.TheVariants as place
 use Rattle.hc_model.specs.Sound as sound
-use Rattle.hc_effects.proofs.{Basics.{false_true, or_false}, Dues.{IsUndue, undue_parts, undue_of, stop_none, loss_at}, FirstKeeps.{is_new}, PieceKeeps.{eq_cases}, ExclusiveWriters.{writer_some}, RepFrom.{RepFrom, rep_from}, Stops.{source_is}, Waiters.{waiter_of, own_open_is}}
-use Rattle.hc_effects.proofs.RepFrom as rep
+use Rattle.hc_effects.proofs.{Basics.{false_true, or_false}, Dues.{IsUndue, undue_parts, undue_of, stop_none, loss_at}, FirstKeeps.{is_new}, PieceKeeps.{eq_cases}, ExclusiveWriters.{writer_some}, RepFrom.{was, founded, RepFrom, rep_from}, Stops.{source_is}, Waiters.{waiter_of, own_open_is}}
 
 module _ (limits : Limits) (t : Tables) (now : ℕ) (flaw : Flaw) (s : Sound t) (o : Owners t) (ev : Event) (goes : denial t ev ≡ None) where
   abbrev e : Entry
@@ -27,13 +26,7 @@ module _ (limits : Limits) (t : Tables) (now : ℕ) (flaw : Flaw) (s : Sound t) 
     | inl here ↦ sym (ap (λ (z : Consumer). z.due) (some_inj _ u (rw here.0 at is)))
     | inr off ↦ absurd (none_some u (rw off.0 at is))
   ]
-  started c (event.Poll d want) u is = absurd (none_some u is)
-  started c (event.Head x response) u is = absurd (none_some u is)
-  started c (event.Piece x bytes) u is = absurd (none_some u is)
-  started c (event.End x) u is = absurd (none_some u is)
-  started c (event.Fault x) u is = absurd (none_some u is)
-  started c (event.Cancel d) u is = absurd (none_some u is)
-  started c (event.Doom key) u is = absurd (none_some u is)
+  started c _ u is = absurd (none_some u is)
 
   idle_row : (c : ℕ) (z : Option Consumer) (u : Consumer) → consumer_after t e c z ≡ Some u → reads u.place ≡ false → u.due ≡ None
   unfolding consumer_after
@@ -60,13 +53,8 @@ module _ (limits : Limits) (t : Tables) (now : ℕ) (flaw : Flaw) (s : Sound t) 
       by_row r (Some v) = rw (off r v) refl
 
       loss_poll : (p : Place) → cause_of_loss t e c p ≡ None
-      loss_poll place.Line = refl
-      loss_poll (place.Passed r kept) = refl
-      loss_poll (place.Turn x) = refl
       loss_poll (place.Bound r lo hi how) = by_row r (t.representation r)
-      loss_poll (place.Direct x) = refl
-      loss_poll (place.Down cause) = refl
-      loss_poll place.Over = refl
+      loss_poll _ = refl
 
   -- A READER BESIDE THE FIRST ONE
 
@@ -75,10 +63,10 @@ module _ (limits : Limits) (t : Tables) (now : ℕ) (flaw : Flaw) (s : Sound t) 
   unlost r v u row after kept = by_from (rep_from t e r (t.representation r) u refl after)
     where
       by_from : RepFrom t e r u → (v.is_lost ≡ false) × (loses_in r e.acts ≡ false)
-      by_from (rep.was q is) =
+      by_from (was q is) =
           let all = or_false (loses_in r e.acts) q.is_lost (sym is.lost_is ∙ kept) in
           (ap (λ (z : Representation). z.is_lost) (same_row (t.representation r) v q row is.row) ∙ all.1, all.0)
-      by_from (rep.founded response w none at exchange on is) = absurd (let never : None ≡ Some v = sym none ∙ row in cc)
+      by_from (founded response w none at exchange on is) = absurd (let never : None ≡ Some v = sym none ∙ row in cc)
 
   row_of : (r c : ℕ) (k : Consumer) → IsBound t r c k → t.consumer c ≡ Some k
   row_of r c k (sound.is_bound lo hi how row at) = row
@@ -102,8 +90,7 @@ module _ (limits : Limits) (t : Tables) (now : ℕ) (flaw : Flaw) (s : Sound t) 
         by_exclusive_writer : (g : ℕ) (z : Consumer) → IsBound t r g z → own_open t z ≡ Some x → IsExclusiveWriter t r v g → ⊥
         by_exclusive_writer g z reader theirs (sound.alone lost is) = false_true (sym fresh ∙ lost)
         by_exclusive_writer g z reader theirs (sound.first kept_too is) =
-            let same : g ≡ c = s.writes.one_first r g c is first in
-            apart (o.one d g x u z (row_of r d u reader_d) (row_of r g z reader) (own_of u x u.own refl own) (own_of z x z.own refl theirs) ∙ same)
+            apart (o.one d g x u z (row_of r d u reader_d) (row_of r g z reader) (own_of u x u.own refl own) (own_of z x z.own refl theirs) ∙ s.writes.one_first r g c is first)
 
     no_waiter : (x : ℕ) (w : Exchange) → t.exchange x ≡ Some w → w.is_open ≡ true → w.head ≡ None → w.c ≡ d → ⊥
     no_waiter x w row opened bare mine =
@@ -119,20 +106,11 @@ module _ (limits : Limits) (t : Tables) (now : ℕ) (flaw : Flaw) (s : Sound t) 
     ]
 
     head_none : (z : Event) → ev ≡ z → cause_of_head t e d z ≡ None
-    head_none (event.Start b request) here = refl
-    head_none (event.Poll b want) here = refl
     head_none (event.Head x response) here = head_by x response (t.exchange x) here refl
-    head_none (event.Piece x bytes) here = refl
-    head_none (event.End x) here = refl
-    head_none (event.Fault x) here = refl
-    head_none (event.Cancel b) here = refl
-    head_none (event.Doom key) here = refl
-
-    loses_none : loses_writing t e r v ≡ false
-    loses_none = not_so _ (λ h. false_true (sym kept ∙ and_right _ _ (and_left _ _ h)))
+    head_none _ here = refl
 
     loss_none : IsBound t r d u → cause_of_loss t e d u.place ≡ None
-    loss_none (sound.is_bound lo hi how row at) = loss_at t e d r lo hi how u v at there loses_none
+    loss_none (sound.is_bound lo hi how row at) = loss_at t e d r lo hi how u v at there (not_so _ (λ h. false_true (sym kept ∙ and_right _ _ (and_left _ _ h))))
 
     -- what stops for it stops for the first one
     source_same : (z y : Option ℕ) → own_open t u ≡ z → is_written t v ≡ true → v.writer ≡ y → (source t u ≡ source t k)

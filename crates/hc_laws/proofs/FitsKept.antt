@@ -1,7 +1,7 @@
 -- What is stored fits the limit, after each entry of a run.
-use Rattle.std.{proofs.{Common.{◌≡◌, ◌⊎◌, inl, inr, ℕ, ◌+◌, ◌≤◌, List, [], ◌∷◌, ◌++◌, length, Bool, true, false, Option, Some, None, refl, ap, sym, ◌∙◌, subst, arith}, lemmas.{Bool.Decides.{nat_tests}, List.Sums.{sum_by-cons}}}, specs.{Prelude.{if◌then◌else◌, is_some, ◌&&◌, ◌||◌, ◌==◌, not, nat_eq, nat_lt, map, take, reverse}, List.{list_any, sum_by}, Option.{option_and_then}}}
-use Rattle.hc_text.proofs.Basics.{and_left, and_right, bool_cases, not_some as none_some, not_true as not_false, same_some as same_row, some_inj}
-use Rattle.hc_effects.proofs.Vocabulary.{opening_in, evicts_in, is_denied, Act, Event, Response, HeadCase, Limits, Room, Write, head_case, weight_of, gives_way, grown_by, is_too_large, room_of, AreOnce, BoundBy, loses_in, has_loss, answer_acts, loss_acts, close_acts, case_at, case_of, head_view, is_founding, consumer_heard, by_head, place_by_case, by_opening, waiting, is_current, denial, Entry, entry_without_acts, promise_in, family, exchange_at, is_for, Flaw, NoFlaw, Loses, Misreads, flaw_in, becomes_gone, goes_itself, entry_of, Measures, Owners, bound, reads, representation_heard, Tables, Exchange, Representation, Consumer, may_stand, may_be, may_misread, has_room, Sound, Among, IsBound, founds, with_item_first, after_accepted, weight, weight_in, weights, idle, is_idle, is_replacing, moves_on, stays_bound, stays_current, room_by, room_for, write_in, write_of_piece, piece_write, first_idle, evicted}
+use Rattle.std.{proofs.{Common.{◌≡◌, ◌⊎◌, inl, inr, ℕ, ◌+◌, ◌≤◌, List, [], ◌∷◌, ◌++◌, length, Bool, true, false, Option, Some, None, refl, ap, sym, ◌∙◌, subst, arith}, lemmas.{Bool.Decides.{nat_tests}, List.Sums.{sum_by-cons}}}, specs.{Prelude.{if◌then◌else◌, is_some, ◌||◌, ◌==◌, not, nat_eq, nat_lt, map, take, reverse}, List.{list_any, sum_by}, Option.{option_and_then}}}
+use Rattle.hc_text.proofs.Basics.{and_left, and_right, bool_cases, not_some as none_some, never_true, not_true, not_false, or_cases, or_right, same_some as same_row, some_inj}
+use Rattle.hc_effects.proofs.Vocabulary.{opening_in, evicts_in, is_denied, Act, Event, Response, HeadCase, Limits, Room, Write, head_case, weight_of, gives_way, grown_by, is_too_large, room_of, AreOnce, BoundBy, loses_in, has_loss, answer_acts, loss_acts, close_acts, case_at, case_of, head_view, is_founding, consumer_heard, by_head, place_by_case, by_opening, waiting, is_current, denial, Entry, entry_without_acts, promise_in, family, exchange_at, is_for, Flaw, NoFlaw, Loses, Misreads, flaw_in, becomes_gone, goes_itself, entry_of, Measures, Owners, bound, reads, Tables, Exchange, Representation, Consumer, may_stand, may_be, may_misread, has_room, Sound, Among, IsBound, founds, with_item_first, after_accepted, weight, weight_in, weights, idle, is_idle, is_replacing, moves_on, stays_bound, stays_current, room_by, room_for, write_in, write_of_piece, piece_write, first_idle, evicted}
 use Rattle.hc_event.specs.declared.act.Act.TheVariants as act
 use Rattle.hc_event.specs.declared.event.Event.TheVariants as event
 use Rattle.hc_rules.specs.declared.heads.HeadCase.TheVariants as case
@@ -26,34 +26,20 @@ any_none test c (d ∷ cs) (inr there) h = any_none test c cs there (or_false (t
 pub any_some : (test : ℕ → Bool) (c : ℕ) (cs : List ℕ) → Among c cs → test c ≡ true → list_any test cs ≡ true
 any_some test c [] among h = absurd among
 any_some test c (d ∷ cs) (inl here) h = rw (ap test here ∙ h) refl
-any_some test c (d ∷ cs) (inr there) h = by_test (test d) (any_some test c cs there h)
-  where
-    by_test : (b : Bool) → list_any test cs ≡ true → (b || list_any test cs) ≡ true
-    by_test true rest = refl
-    by_test false rest = rest
+any_some test c (d ∷ cs) (inr there) h = or_right (test d) _ (any_some test c cs there h)
 
 evicts_all : (r : ℕ) (rs : List ℕ) (rest : List Act) → is_in rs r ≡ true → evicts_in r (map act.Evicted rs ++ rest) ≡ true
 evicts_all r [] rest h = absurd (false_true h)
-evicts_all r (q ∷ rs) rest h = by_test (q == r) refl (λ off. evicts_all r rs rest (rw off at h))
-  where
-    by_test : (b : Bool) → (q == r) ≡ b → ((q == r) ≡ false → evicts_in r (map act.Evicted rs ++ rest) ≡ true) → (b || evicts_in r (map act.Evicted rs ++ rest)) ≡ true
-    by_test true is more = refl
-    by_test false is more = more is
+evicts_all r (q ∷ rs) rest h = elim (bool_cases (q == r)) [
+  | inl hit ↦ rw hit refl
+  | inr off ↦ rw off (evicts_all r rs rest (rw off at h))
+]
 
 -- what is lost has a number
 some_loss : (acts : List Act) → has_loss acts ≡ true → (r : ℕ) × (loses_in r acts ≡ true)
 some_loss [] h = absurd (false_true h)
 some_loss (act.Lost r kind ∷ acts) h = (r, (let self : nat_eq r r ≡ true = grind (arith, nat_tests) in rw self refl))
-some_loss (act.Opened y c n request ∷ acts) h = some_loss acts h
-some_loss (act.Ask y ∷ acts) h = some_loss acts h
-some_loss (act.Close y ∷ acts) h = some_loss acts h
-some_loss (act.Shown c r why status fields lo hi ∷ acts) h = some_loss acts h
-some_loss (act.Given c y at data_bytes ∷ acts) h = some_loss acts h
-some_loss (act.Ended c ∷ acts) h = some_loss acts h
-some_loss (act.Failed c why ∷ acts) h = some_loss acts h
-some_loss (act.Pending c wait ∷ acts) h = some_loss acts h
-some_loss (act.Evicted r ∷ acts) h = some_loss acts h
-some_loss (act.Denied refusal ∷ acts) h = some_loss acts h
+some_loss (_ ∷ acts) h = some_loss acts h
 
 among_bound : (t : Tables) (r c : ℕ) (k : Consumer) → Sound t → IsBound t r c k → Among c (bound t r)
 unfolding bound
@@ -117,8 +103,7 @@ module _ (limits : Limits) (t : Tables) (now : ℕ) (flaw : Flaw) (s : Sound t) 
 
   was_held : (r : ℕ) (n : IsOn r) → IsHeld now_on r n.p → WasHeld r n.v
   was_held r n (weighed.fresh not_gone) =
-      let is : (becomes_gone t e r n.v || (representation_heard t e r ev n.v).is_gone) ≡ false = ap (λ (q : Representation). q.is_gone) n.kept.is ∙ not_gone in
-      let both = or_false (becomes_gone t e r n.v) _ is in
+      let both = or_false (becomes_gone t e r n.v) _ (ap (λ (q : Representation). q.is_gone) n.kept.is ∙ not_gone) in
       current both.0 (sym (rep.heard t e r n.v ev refl).gone_is ∙ both.1)
   was_held r n (weighed.read c u (sound.is_bound lo hi how after_row stands)) = by_reader r c lo hi how u n.v n.there stands (bound_from t e c r lo hi how (t.consumer c) u refl after_row stands)
 
@@ -143,10 +128,8 @@ module _ (limits : Limits) (t : Tables) (now : ℕ) (flaw : Flaw) (s : Sound t) 
 
   unwritten : founds t e ≡ None → ((r : ℕ) (n : IsOn r) → IsFilled t e r n.v n.p → ⊥) → total now_on ≤ limits.max_total
   unwritten none unfilled =
-      let same : now_on.founded ≡ t.founded = ap (λ q. with_item_first q t.founded) none in
-      let sum : total now_on ≡ sum_by (held now_on) t.founded = ap (sum_by (held now_on)) same in
+      let sum : total now_on ≡ sum_by (held now_on) t.founded = ap (sum_by (held now_on)) (ap (λ q. with_item_first q t.founded) none) in
       let less : sum_by (held now_on) t.founded ≤ total t = sum_le (held now_on) (held t) t.founded (λ r among. still_held r among (unfilled r)) in
-      let fits : total t ≤ limits.max_total = f.within in
       omega arith
 
   -- WHERE THERE IS ROOM FOR WHAT IS WRITTEN
@@ -169,74 +152,33 @@ module _ (limits : Limits) (t : Tables) (now : ℕ) (flaw : Flaw) (s : Sound t) 
           let placed : u.place ≡ place_by_case x response w k (case_at t e) =
           heard_place limits t now flaw s o ev goes c r lo hi how k u unpolled row
           ∙ (ap (λ q. (consumer_heard t e c q k).place) here ∙ (ap (λ q. (by_head t e c x response q k).place) exchange_row ∙ rw test refl)) in
-          let at : place.Bound x 0 (promise_in w response) by.Founding ≡ place.Bound r lo hi how = sym (ap (place_by_case x response w k) is) ∙ (sym placed ∙ stands) in
-          let number : x ≡ r = (place_inj x 0 (promise_in w response) by.Founding r lo hi how at).number in
+          let number : x ≡ r = (place_inj x 0 (promise_in w response) by.Founding r lo hi how (sym (ap (place_by_case x response w k) is) ∙ (sym placed ∙ stands))).number in
           none_some v (sym (is_new limits t now flaw s ev goes x response w here exchange_row).unfounded ∙ (ap t.representation number ∙ there))
 
       replaced : (g : Option HeadCase) → is_replacing g ≡ true → g ≡ Some case.FirstReplaced
       replaced (Some case.FirstReplaced) h = refl
-      replaced None h = absurd (false_true h)
-      replaced (Some case.DirectBad) h = absurd (false_true h)
-      replaced (Some case.DirectTaken) h = absurd (false_true h)
-      replaced (Some case.TurnBad) h = absurd (false_true h)
-      replaced (Some case.Validated) h = absurd (false_true h)
-      replaced (Some case.NotValidated) h = absurd (false_true h)
-      replaced (Some case.TurnServerError) h = absurd (false_true h)
-      replaced (Some case.FoundsWhole) h = absurd (false_true h)
-      replaced (Some case.FoundsRange) h = absurd (false_true h)
-      replaced (Some case.PassesBy) h = absurd (false_true h)
-      replaced (Some case.FirstBad) h = absurd (false_true h)
-      replaced (Some case.FirstJoins) h = absurd (false_true h)
-      replaced (Some case.FirstServerError) h = absurd (false_true h)
-      replaced (Some case.FirstChanged) h = absurd (false_true h)
-      replaced (Some case.FirstPassesBy) h = absurd (false_true h)
-      replaced (Some case.LaterBad) h = absurd (false_true h)
-      replaced (Some case.LaterJoins) h = absurd (false_true h)
-      replaced (Some case.LaterChanged) h = absurd (false_true h)
+      replaced _ h = absurd (false_true h)
 
       none_for : is_for None c ≡ true → ⊥
       none_for h = false_true h
 
-      unheaded : (z : Event) → ev ≡ z → case_of t false z ≡ None → is_replacing (case_at t e0) ≡ true → ⊥
-      unheaded z here none h = false_true (sym (ap is_replacing (ap (case_of t false) here ∙ none)) ∙ h)
-
       by_event : (z : Event) → ev ≡ z → is_replacing (case_at t e0) ≡ true → is_for (exchange_at t ev) c ≡ true → ⊥
       by_event (event.Head x response) here is mine = head_moves x response (t.exchange x) here refl (sym (case_same t e r lossless) ∙ replaced (case_at t e0) is) (sym (ap (λ q. is_for (exchange_at t q) c) here) ∙ mine)
-      by_event (event.Start d request) here is mine = unheaded (event.Start d request) here refl is
-      by_event (event.Poll d want) here is mine = unheaded (event.Poll d want) here refl is
-      by_event (event.Piece x bytes) here is mine = unheaded (event.Piece x bytes) here refl is
-      by_event (event.End x) here is mine = unheaded (event.End x) here refl is
-      by_event (event.Fault x) here is mine = unheaded (event.Fault x) here refl is
-      by_event (event.Cancel d) here is mine = unheaded (event.Cancel d) here refl is
-      by_event (event.Doom key) here is mine = unheaded (event.Doom key) here refl is
+      by_event v here is mine = false_true (sym (ap is_replacing (ap (case_of t false) here)) ∙ is)
 
   module _ (lossless : has_loss e.acts ≡ false) (unpolled : (d want : ℕ) → ev ≡ event.Poll d want → ⊥) (gone : List ℕ) (rest : List Act) (acts_are : e.acts ≡ map act.Evicted gone ++ rest) (count : ℕ) (gone_is : gone ≡ take count (idle t e0)) where
     -- what weighs after it weighed before its answer
     still_stays : (r : ℕ) (v : Representation) → t.representation r ≡ Some v → WasHeld r v → (stays_current t e0 r v || stays_bound t e0 r) ≡ true
     unfolding becomes_gone
     still_stays r v there (current quiet not_gone) =
-        let itself : goes_itself t e r v ≡ false = (or_false (goes_itself t e r v) _ quiet).0 in
-        let before : goes_itself t e0 r v ≡ false = by_test (goes_itself t e0 r v) (goes_more t e r lossless v) itself in
+        let before : goes_itself t e0 r v ≡ false = never_true _ (λ on. true_false (sym (goes_more t e r lossless v on) ∙ (or_false (goes_itself t e r v) _ quiet).0)) in
         rw (before, now_current) refl
       where
-        by_test : (b : Bool) → (b ≡ true → goes_itself t e r v ≡ true) → goes_itself t e r v ≡ false → b ≡ false
-        by_test true more off = absurd (true_false (sym (more refl) ∙ off))
-        by_test false more off = refl
-
         now_current : is_current t v.key r ≡ true
         now_current = number_yes (Rattle.hc_model.specs.Currents.current t v.key) r (Rattle.hc_effects.proofs.CurrentKeeps.current_is t v.key r v s there refl not_gone)
     still_stays r v there (stays c lo hi how k u row at stands) =
-        let among = among_bound t r c k s (sound.is_bound lo hi how row.row at) in
-        let unmoved : moves_on t e0 c ≡ false = by_test (moves_on t e0 c) (moves_on_not c r lo hi how k u v lossless there row stands unpolled) in
-        or_right (stays_current t e0 r v) (any_some (λ d. not (moves_on t e0 d)) c (bound t r) among (ap not unmoved))
-      where
-        by_test : (b : Bool) → (b ≡ true → ⊥) → b ≡ false
-        by_test true off = absurd (off refl)
-        by_test false off = refl
-
-        or_right : (a : Bool) {b : Bool} → b ≡ true → (a || b) ≡ true
-        or_right true h = refl
-        or_right false h = h
+        let unmoved : moves_on t e0 c ≡ false = never_true (moves_on t e0 c) (moves_on_not c r lo hi how k u v lossless there row stands unpolled) in
+        or_right (stays_current t e0 r v) _ (any_some (λ d. not (moves_on t e0 d)) c (bound t r) (among_bound t r c k s (sound.is_bound lo hi how row.row at)) (ap not unmoved))
     still_stays r v there (polls c want at not_gone) = absurd (unpolled c want at)
 
     weighs : (r : ℕ) (v : Representation) → t.representation r ≡ Some v → WasHeld r v → w0 r ≡ weight_of v.size
@@ -250,11 +192,8 @@ module _ (limits : Limits) (t : Tables) (now : ℕ) (flaw : Flaw) (s : Sound t) 
         passes : is_idle t e0 r (t.representation r) ≡ true
         passes = (filter_among (λ q. is_idle t e0 q (t.representation q)) r (reverse t.used) (take_among count r (idle t e0) (subst (Among r) gone_is (in_among gone r inside)))).1
 
-        idle_v : (stays_current t e0 r n.v && not (stays_bound t e0 r)) ≡ true
-        idle_v = sym (ap (is_idle t e0 r) n.there) ∙ passes
-
         unbound : stays_bound t e0 r ≡ false
-        unbound = not_false (stays_bound t e0 r) (and_right (stays_current t e0 r n.v) _ idle_v)
+        unbound = not_true (stays_bound t e0 r) (and_right (stays_current t e0 r n.v) _ (sym (ap (is_idle t e0 r) n.there) ∙ passes))
 
         evicted_now : evicts_in r e.acts ≡ true
         evicted_now = ap (evicts_in r) acts_are ∙ evicts_all r gone rest inside
@@ -263,12 +202,8 @@ module _ (limits : Limits) (t : Tables) (now : ℕ) (flaw : Flaw) (s : Sound t) 
         by_why (current quiet not_gone) = true_false (sym evicted_now ∙ (or_false (goes_itself t e r n.v) (evicts_in r e.acts) quiet).1)
         by_why (stays c lo hi how k u row at stands) =
             let among = among_bound t r c k s (sound.is_bound lo hi how row.row at) in
-            let moved : moves_on t e0 c ≡ true = by_test (moves_on t e0 c) (any_none (λ d. not (moves_on t e0 d)) c (bound t r) among unbound) in
+            let moved : moves_on t e0 c ≡ true = not_false (moves_on t e0 c) (any_none (λ d. not (moves_on t e0 d)) c (bound t r) among unbound) in
             moves_on_not c r lo hi how k u n.v lossless n.there row stands unpolled moved
-          where
-            by_test : (b : Bool) → not b ≡ false → b ≡ true
-            by_test true h = refl
-            by_test false h = absurd (true_false h)
         by_why (polls c want at not_gone) = unpolled c want at
 
     module _ (q count_of : ℕ) (filled : (r : ℕ) (n : IsOn r) → IsFilled t e r n.v n.p → (r ≡ q) × (n.p.size ≡ n.v.size + count_of)) where
@@ -283,8 +218,7 @@ module _ (limits : Limits) (t : Tables) (now : ℕ) (flaw : Flaw) (s : Sound t) 
             let n = on_of r among in
             let weigh : among_of w0 gone r ≡ 0 = rw outside refl in
             let most : held now_on r ≤ w0 r + only q count_of r = held_most now_on r (w0 r + only q count_of r) n.p n.after (λ why.
-            let w : w0 r ≡ weight_of n.v.size = weighs r n.v n.there (was_held r n why) in
-            by_size n w (sized t e r n.v n.p n.kept)) in
+            by_size n (weighs r n.v n.there (was_held r n why)) (sized t e r n.v n.p n.kept)) in
             omega arith
       ]
         where
@@ -292,7 +226,6 @@ module _ (limits : Limits) (t : Tables) (now : ℕ) (flaw : Flaw) (s : Sound t) 
           by_size n w (inl same) = let size_is : n.p.size ≡ n.v.size = same in omega arith
           by_size n w (inr fill) =
               let both = filled r n fill in
-              let size_is : n.p.size ≡ n.v.size + count_of = both.1 in
               let yes : only q count_of r ≡ count_of = only_yes q count_of r both.0 in
               omega arith
 
@@ -317,29 +250,13 @@ module _ (limits : Limits) (t : Tables) (now : ℕ) (flaw : Flaw) (s : Sound t) 
   unfolding may_stand
   roomed lossless unpolled = by_flaw flaw refl
     where
-      or_cases : (a b : Bool) → (a || b) ≡ true → (a ≡ true) ⊎ (b ≡ true)
-      or_cases true b h = inl refl
-      or_cases false b h = inr h
-
       misread_not : (r : ℕ) (z : Event) → ev ≡ z → may_misread t r z ≡ true → ⊥
       misread_not r (event.Poll c want) here h = unpolled c want here
-      misread_not r (event.Start c request) here h = false_true h
-      misread_not r (event.Head x response) here h = false_true h
-      misread_not r (event.Piece x bytes) here h = false_true h
-      misread_not r (event.End x) here h = false_true h
-      misread_not r (event.Fault x) here h = false_true h
-      misread_not r (event.Cancel c) here h = false_true h
-      misread_not r (event.Doom key) here h = false_true h
+      misread_not r _ here h = false_true h
 
       silent : (z : Event) → ev ≡ z → answer_acts t now ev flaw ≡ []
       silent (event.Poll c want) here = absurd (unpolled c want here)
-      silent (event.Start c request) here = ap (λ q. answer_acts t now q flaw) here
-      silent (event.Head x response) here = ap (λ q. answer_acts t now q flaw) here
-      silent (event.Piece x bytes) here = ap (λ q. answer_acts t now q flaw) here
-      silent (event.End x) here = ap (λ q. answer_acts t now q flaw) here
-      silent (event.Fault x) here = ap (λ q. answer_acts t now q flaw) here
-      silent (event.Cancel c) here = ap (λ q. answer_acts t now q flaw) here
-      silent (event.Doom key) here = ap (λ q. answer_acts t now q flaw) here
+      silent _ here = ap (λ q. answer_acts t now q flaw) here
 
       may : may_be limits t e flaw ≡ true
       may = elim (or_cases (is_denied e.acts) (may_be limits t e (flaw_in e.acts)) real.stand) [
@@ -358,8 +275,7 @@ module _ (limits : Limits) (t : Tables) (now : ℕ) (flaw : Flaw) (s : Sound t) 
 
   room_of_it : (z : Room) → room_for limits t now ev ≡ z → has_room z ≡ true → IsRoom
   room_of_it (room.After count) is h = record { count = count; is = is }
-  room_of_it room.TooLarge is h = absurd (false_true h)
-  room_of_it room.Full is h = absurd (false_true h)
+  room_of_it _ is h = absurd (false_true h)
 
   gives_of : (used : ℕ) (w : Write) (ws : List ℕ) (count : ℕ) → room_of limits used w ws ≡ room.After count → gives_way limits.max_total (used + grown_by w) ws ≡ Some count
   unfolding room_of
@@ -405,8 +321,7 @@ module _ (limits : Limits) (t : Tables) (now : ℕ) (flaw : Flaw) (s : Sound t) 
       let r = room_of_it (room_for limits t now ev) refl (roomed lossless unpolled) in
       let founds_it : is_founding (case_at t e0) ≡ true = ap is_founding (case_same t e x lossless) ∙ on in
       let write_is : write_in t e0 ev ≡ Some write.Slot = ap (write_in t e0) here ∙ rw founds_it refl in
-      let placed : room_of limits (weights t e0) write.Slot (map w0 (idle t e0)) ≡ room.After r.count = sym (ap (room_by limits t e0) write_is) ∙ r.is in
-      let gives = gives_of (weights t e0) write.Slot (map w0 (idle t e0)) r.count placed in
+      let gives = gives_of (weights t e0) write.Slot (map w0 (idle t e0)) r.count (sym (ap (room_by limits t e0) write_is) ∙ r.is) in
       let gone_is : evicted limits t now ev ≡ take r.count (idle t e0) = ap (first_idle t e0) r.is in
       let acts_are : e.acts ≡ map act.Evicted (evicted limits t now ev) ++ (loss_acts flaw ++ close_acts t now ev flaw) = ap (λ z. Rattle.hc_model.specs.Answers.accepted_acts limits t now z flaw) here ∙ ap (λ z. map act.Evicted (evicted limits t now z) ++ (loss_acts flaw ++ close_acts t now z flaw)) (sym here) in
       let most : sum_by (held now_on) t.founded + 32768 ≤ limits.max_total + 0 = roomy lossless unpolled (evicted limits t now ev) (loss_acts flaw ++ close_acts t now ev flaw) acts_are r.count gone_is x 0 (λ q n filled. absurd (let no : event.Head x response ≡ event.Piece filled.x filled.bytes = sym here ∙ filled.at in cc)) 32768 gives in
@@ -421,7 +336,12 @@ module _ (limits : Limits) (t : Tables) (now : ℕ) (flaw : Flaw) (s : Sound t) 
   -- a stored piece is of no lost write
   stored_lossless : (x : ℕ) (bytes : List ℕ) (w : Exchange) (q : ℕ) → ev ≡ event.Piece x bytes → t.exchange x ≡ Some w → family x w ≡ q → loses_in q e.acts ≡ false → has_loss e.acts ≡ false
   unfolding Rattle.hc_model.specs.Writes.written_representation
-  stored_lossless x bytes w q here row of_q quiet = by_test (has_loss e.acts) refl
+  stored_lossless x bytes w q here row of_q quiet = never_true (has_loss e.acts) (λ is.
+      let some = some_loss e.acts is in
+      let l = lost_is limits t now flaw s o m ev goes real some.0 some.1 in
+      let writes : Rattle.hc_model.specs.Writes.piece_writes t x (t.exchange x) ≡ Some some.0 = sym (ap (Rattle.hc_model.specs.Writes.written_in t (Rattle.hc_model.specs.Writes.lossless e)) here) ∙ l.is in
+      let number : family x w ≡ some.0 = unless_is (family x w) some.0 (t.representation (family x w)) (sym (ap (Rattle.hc_model.specs.Writes.piece_writes t x) row) ∙ writes) in
+      true_false (sym (sym (ap (λ r. loses_in r e.acts) (sym number ∙ of_q)) ∙ some.1) ∙ quiet))
     where
       unless_is : (n r : ℕ) (z : Option Representation) → Rattle.hc_model.specs.Writes.unless_lost n z ≡ Some r → n ≡ r
       unless_is n r None h = absurd (none_some r h)
@@ -431,18 +351,6 @@ module _ (limits : Limits) (t : Tables) (now : ℕ) (flaw : Flaw) (s : Sound t) 
           by_lost true h = absurd (none_some r h)
           by_lost false h = some_inj n r h
 
-      by_test : (b : Bool) → has_loss e.acts ≡ b → b ≡ false
-      by_test false is = refl
-      by_test true is =
-          let some = some_loss e.acts is in
-          let l = lost_is limits t now flaw s o m ev goes real some.0 some.1 in
-          let writes : Rattle.hc_model.specs.Writes.piece_writes t x (t.exchange x) ≡ Some some.0 = sym (ap (Rattle.hc_model.specs.Writes.written_in t (Rattle.hc_model.specs.Writes.lossless e)) here) ∙ l.is in
-          let number : family x w ≡ some.0 = unless_is (family x w) some.0 (t.representation (family x w)) (sym (ap (Rattle.hc_model.specs.Writes.piece_writes t x) row) ∙ writes) in
-          absurd (true_false (sym (sym (ap (λ r. loses_in r e.acts) (sym number ∙ of_q)) ∙ some.1) ∙ quiet))
-
-  piece_inj : (x y : ℕ) (a b : List ℕ) → event.Piece x a ≡ event.Piece y b → (x ≡ y) × (a ≡ b)
-  piece_inj x y a b is = (cc, cc)
-
   by_stored : (x : ℕ) (bytes : List ℕ) (w : Exchange) (v : Representation) → ev ≡ event.Piece x bytes → t.exchange x ≡ Some w → t.representation (family x w) ≡ Some v → v.is_lost ≡ false → loses_in (family x w) e.acts ≡ false → total now_on ≤ limits.max_total
   unfolding room_for case_of
   by_stored x bytes w v here row there kept quiet =
@@ -451,19 +359,16 @@ module _ (limits : Limits) (t : Tables) (now : ℕ) (flaw : Flaw) (s : Sound t) 
       let r = room_of_it (room_for limits t now ev) refl (roomed lossless unpolled) in
       let write_is : write_in t e0 ev ≡ Some (write.Piece v.size (length bytes)) =
       ap (write_in t e0) here ∙ (ap (option_and_then (write_of_piece t x (length bytes))) row ∙ (ap (option_and_then (piece_write (length bytes))) there ∙ rw kept refl)) in
-      let placed : room_of limits (weights t e0) (write.Piece v.size (length bytes)) (map w0 (idle t e0)) ≡ room.After r.count = sym (ap (room_by limits t e0) write_is) ∙ r.is in
-      let gives = gives_of (weights t e0) (write.Piece v.size (length bytes)) (map w0 (idle t e0)) r.count placed in
+      let gives = gives_of (weights t e0) (write.Piece v.size (length bytes)) (map w0 (idle t e0)) r.count (sym (ap (room_by limits t e0) write_is) ∙ r.is) in
       let gone_is : evicted limits t now ev ≡ take r.count (idle t e0) = ap (first_idle t e0) r.is in
       let acts_are : e.acts ≡ map act.Evicted (evicted limits t now ev) ++ (loss_acts flaw ++ close_acts t now ev flaw) = ap (λ z. Rattle.hc_model.specs.Answers.accepted_acts limits t now z flaw) here ∙ ap (λ z. map act.Evicted (evicted limits t now z) ++ (loss_acts flaw ++ close_acts t now z flaw)) (sym here) in
       let most : sum_by (held now_on) t.founded + length bytes ≤ limits.max_total + length bytes = roomy lossless unpolled (evicted limits t now ev) (loss_acts flaw ++ close_acts t now ev flaw) acts_are r.count gone_is (family x w) (length bytes) (λ q n filled.
-      let same = piece_inj x filled.x bytes filled.bytes (sym here ∙ filled.at) in
+      let same : (x ≡ filled.x) × (bytes ≡ filled.bytes) = (cc, cc) in
       let one : filled.w ≡ w = same_row (t.exchange x) filled.w w (ap t.exchange same.0 ∙ filled.row) row in
       let count : length filled.bytes ≡ length bytes = ap (λ (b : List ℕ). length b) (sym same.1) in
-      let size_is : n.p.size ≡ n.v.size + length filled.bytes = filled.size_is in
-      (sym filled.of_r ∙ (ap (λ b. family b filled.w) (sym same.0) ∙ ap (family x) one), size_is ∙ ap (λ b. n.v.size + b) count)) (length bytes) gives in
+      (sym filled.of_r ∙ (ap (λ b. family b filled.w) (sym same.0) ∙ ap (family x) one), filled.size_is ∙ ap (λ b. n.v.size + b) count)) (length bytes) gives in
       let none : founds t e ≡ None = ap (λ z. if is_founding (case_of t (has_loss e.acts) z) then Rattle.hc_model.specs.Exchanges.exchange_in z else None) here in
-      let same : now_on.founded ≡ t.founded = ap (λ q. with_item_first q t.founded) none in
-      let sum : total now_on ≡ sum_by (held now_on) t.founded = ap (sum_by (held now_on)) same in
+      let sum : total now_on ≡ sum_by (held now_on) t.founded = ap (sum_by (held now_on)) (ap (λ q. with_item_first q t.founded) none) in
       omega arith
 
   small_of : (used count : ℕ) (w : Write) (ws : List ℕ) → room_of limits used w ws ≡ room.After count → is_too_large limits w ≡ false
@@ -478,9 +383,8 @@ module _ (limits : Limits) (t : Tables) (now : ℕ) (flaw : Flaw) (s : Sound t) 
   unfolding room_for
   stored_small r v p there filled =
       let n = length filled.bytes in
-      let lossless = stored_lossless filled.x filled.bytes filled.w r filled.at filled.row filled.of_r filled.quiet in
       let unpolled : (d want : ℕ) → ev ≡ event.Poll d want → ⊥ = (λ d want polls. let no : event.Piece filled.x filled.bytes ≡ event.Poll d want = sym filled.at ∙ polls in cc) in
-      let room = room_of_it (room_for limits t now ev) refl (roomed lossless unpolled) in
+      let room = room_of_it (room_for limits t now ev) refl (roomed (stored_lossless filled.x filled.bytes filled.w r filled.at filled.row filled.of_r filled.quiet) unpolled) in
       let kept : v.is_lost ≡ false = filled.kept in
       let write_is : write_in t e0 ev ≡ Some (write.Piece v.size n) =
       ap (write_in t e0) filled.at ∙ (ap (option_and_then (write_of_piece t filled.x n)) filled.row ∙ (ap (option_and_then (piece_write n)) (ap t.representation filled.of_r ∙ there) ∙ rw kept refl)) in
@@ -504,9 +408,8 @@ module _ (limits : Limits) (t : Tables) (now : ℕ) (flaw : Flaw) (s : Sound t) 
 
       fill_same : (w : Exchange) → t.exchange x ≡ Some w → (r : ℕ) (n : IsOn r) (filled : IsFilled t e r n.v n.p) → (family x w ≡ r) × (filled.x ≡ x)
       fill_same w row r n filled =
-          let same = piece_inj x filled.x bytes filled.bytes (sym here ∙ filled.at) in
-          let one : filled.w ≡ w = same_row (t.exchange x) filled.w w (ap t.exchange same.0 ∙ filled.row) row in
-          (ap (family x) (sym one) ∙ (ap (λ b. family b filled.w) same.0 ∙ filled.of_r), sym same.0)
+          let same : (x ≡ filled.x) × (bytes ≡ filled.bytes) = (cc, cc) in
+          (ap (family x) (sym (same_row (t.exchange x) filled.w w (ap t.exchange same.0 ∙ filled.row) row)) ∙ (ap (λ b. family b filled.w) same.0 ∙ filled.of_r), sym same.0)
 
       by_rep : (w : Exchange) → t.exchange x ≡ Some w → (z : Option Representation) → t.representation (family x w) ≡ z → total now_on ≤ limits.max_total
       by_rep w row None there = unwritten none (λ r n filled. none_some n.v (sym there ∙ (ap t.representation (fill_same w row r n filled).0 ∙ n.there)))
@@ -519,7 +422,7 @@ module _ (limits : Limits) (t : Tables) (now : ℕ) (flaw : Flaw) (s : Sound t) 
       ]
 
       by_row : (z : Option Exchange) → t.exchange x ≡ z → total now_on ≤ limits.max_total
-      by_row None row = unwritten none (λ r n filled. let same = piece_inj x filled.x bytes filled.bytes (sym here ∙ filled.at) in none_some filled.w (sym row ∙ (ap t.exchange same.0 ∙ filled.row)))
+      by_row None row = unwritten none (λ r n filled. let same : (x ≡ filled.x) × (bytes ≡ filled.bytes) = (cc, cc) in none_some filled.w (sym row ∙ (ap t.exchange same.0 ∙ filled.row)))
       by_row (Some w) row = by_rep w row (t.representation (family x w)) refl
 
   by_its_head : (x : ℕ) (response : Response) → ev ≡ event.Head x response → total now_on ≤ limits.max_total

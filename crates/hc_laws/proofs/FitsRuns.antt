@@ -1,6 +1,6 @@
 -- What is stored fits the limit in every run, and few give way.
 use Rattle.std.{proofs.{Common.{◌≡◌, ◌⊎◌, inl, inr, ℕ, ◌+◌, ◌≤◌, List, [], ◌∷◌, Bool, true, false, Option, Some, None, refl, ap, sym, ◌∙◌, subst, arith}, lemmas.{Bool.Decides.{nat_tests}, List.Sums.{sum_by-cons}}}, specs.{Prelude.{if◌then◌else◌, is_some, ◌&&◌, ◌||◌, ◌==◌, not, nat_eq, nat_le, filter, find, option_map}, List.{list_any, sum_by}, Option.{option_or}}}
-use Rattle.hc_text.proofs.Basics.{and_left, and_right, bool_cases, not_some as none_some, some_inj}
+use Rattle.hc_text.proofs.Basics.{not_true, or_right, and_left, and_right, bool_cases, not_some as none_some, some_inj}
 use Rattle.hc_effects.proofs.Vocabulary.{Opening, opening_in, is_denied, Event, Response, Act, Limits, head_case, route_of, weight_of, Showing, showing_in, has_loss, accepted_acts, may_begin, are_good, is_good, says, weights_of, case_at, case_of, head_view, is_founding, was_shown, current, is_usable, denial, Entry, Content, Contents, entry_without_acts, exchange_in, Flaw, flaw_in, entry_of, OfRunsIn, IsSmallPiece, count_evicted, Measures, AreOnce, Owners, bound, reads, Tables, Exchange, Representation, Consumer, IsOwed, Sound, Among, tables, first_tables, representation_of_content, numbers, bytes_in, founds, with_item_first, is_hole, binds, binds_by_opening, binds_by_showing, to_front, after_accepted, after_denied, weights}
 use Rattle.hc_event.specs.declared.event.Event.TheVariants as event
 use Rattle.hc_model.specs.{Laws.{FitsInRuns, FewInRuns}, Tables.{is_reading}}
@@ -55,13 +55,7 @@ module _ (limits : Limits) (t : Tables) (now : ℕ) (flaw : Flaw) (s : Sound t) 
       by_row : (q : Option Exchange) → t.exchange y ≡ q → IsFounded x
       by_row None row = absurd (false_true (sym (ap is_founding (ap (case_of t (has_loss e.acts)) here ∙ ap (λ z. option_map (λ w. head_case (head_view t (has_loss e.acts) w response)) z) row)) ∙ both.0))
       by_row (Some w) row = subst IsFounded number (founded_row y response w here row both.0)
-  founded_by (event.Start c request) here x is = absurd (false_true (sym (ap (λ z. is_founding (case_of t (has_loss e.acts) z)) here) ∙ (if_some (is_founding (case_at t e)) (exchange_in ev) x is).0))
-  founded_by (event.Poll c want) here x is = absurd (false_true (sym (ap (λ z. is_founding (case_of t (has_loss e.acts) z)) here) ∙ (if_some (is_founding (case_at t e)) (exchange_in ev) x is).0))
-  founded_by (event.Piece y bytes) here x is = absurd (false_true (sym (ap (λ z. is_founding (case_of t (has_loss e.acts) z)) here) ∙ (if_some (is_founding (case_at t e)) (exchange_in ev) x is).0))
-  founded_by (event.End y) here x is = absurd (false_true (sym (ap (λ z. is_founding (case_of t (has_loss e.acts) z)) here) ∙ (if_some (is_founding (case_at t e)) (exchange_in ev) x is).0))
-  founded_by (event.Fault y) here x is = absurd (false_true (sym (ap (λ z. is_founding (case_of t (has_loss e.acts) z)) here) ∙ (if_some (is_founding (case_at t e)) (exchange_in ev) x is).0))
-  founded_by (event.Cancel c) here x is = absurd (false_true (sym (ap (λ z. is_founding (case_of t (has_loss e.acts) z)) here) ∙ (if_some (is_founding (case_at t e)) (exchange_in ev) x is).0))
-  founded_by (event.Doom key) here x is = absurd (false_true (sym (ap (λ z. is_founding (case_of t (has_loss e.acts) z)) here) ∙ (if_some (is_founding (case_at t e)) (exchange_in ev) x is).0))
+  founded_by _ here x is = absurd (false_true (sym (ap (λ z. is_founding (case_of t (has_loss e.acts) z)) here) ∙ (if_some (is_founding (case_at t e)) (exchange_in ev) x is).0))
 
   once_by : (z : Option ℕ) → founds t e ≡ z → AreOnce (with_item_first z t.founded)
   once_by None is = f.once
@@ -184,10 +178,6 @@ module _ (limits : Limits) (contents : Contents) where
   -- the number of an item is said by no earlier one
   own_number : (earlier : List Content) (item : Content) (later : List Content) → is_good limits contents earlier item later ≡ true → list_any (says item.r) earlier ≡ false
   own_number earlier item later good = not_true (list_any (says item.r) earlier) (and_right _ _ (and_left _ _ (and_right _ _ (and_left _ _ (and_left _ _ (and_left _ _ (and_left _ _ good)))))))
-    where
-      not_true : (b : Bool) → not b ≡ true → b ≡ false
-      not_true true h = absurd (false_true h)
-      not_true false h = refl
 
   any_says : (n : ℕ) (es : List Content) → list_any (of_number n) es ≡ true → list_any (says n) es ≡ true
   any_says n [] h = absurd (false_true h)
@@ -200,16 +190,10 @@ module _ (limits : Limits) (contents : Contents) where
       by_test true rest = refl
       by_test false rest = rest
 
-  or_right : (a b : Bool) → b ≡ true → (a || b) ≡ true
-  or_right true b h = refl
-  or_right false b h = h
-
   not_later : (n : ℕ) (earlier later : List Content) → are_good limits contents earlier later ≡ true → list_any (of_number n) earlier ≡ true → Among n (numbers later) → ⊥
   not_later n earlier [] good has among = absurd among
   not_later n earlier (b ∷ rest) good has (inl here) =
-      let none : list_any (says b.r) earlier ≡ false = own_number earlier b rest (and_left _ _ good) in
-      let some : list_any (says b.r) earlier ≡ true = any_says b.r earlier (ap (λ k. list_any (of_number k) earlier) here ∙ has) in
-      false_true (sym none ∙ some)
+      false_true (sym (own_number earlier b rest (and_left _ _ good)) ∙ any_says b.r earlier (ap (λ k. list_any (of_number k) earlier) here ∙ has))
   not_later n earlier (b ∷ rest) good has (inr there) = not_later n (b ∷ earlier) rest (and_right _ _ good) (or_right (of_number n b) (list_any (of_number n) earlier) has) there
 
   self_number : (item : Content) (earlier : List Content) → list_any (of_number item.r) (item ∷ earlier) ≡ true
@@ -253,10 +237,9 @@ module _ (limits : Limits) (contents : Contents) where
   unfolding may_begin
   fits_begin may =
       let good : are_good limits contents [] contents.items ≡ true = and_left _ _ (and_left _ _ (and_left _ _ (and_left _ _ (and_left _ _ may)))) in
-      let test : nat_le (weights_of contents.items) limits.max_total ≡ true = and_right _ _ may in
       let once = reverse_once (numbers contents.items) (once_items [] contents.items good) in
       record {
-        within = weigh good test;
+        within = weigh good (and_right _ _ may);
         once = once;
         rows = λ r among. row_there r contents.items (reverse_among r (numbers contents.items) among);
         used_once = once;
@@ -268,7 +251,6 @@ module _ (limits : Limits) (contents : Contents) where
       weigh good test =
           let turned : total (first_tables contents) ≡ sum_by (held (first_tables contents)) (numbers contents.items) = reverse_sum (held (first_tables contents)) (numbers contents.items) in
           let most : sum_by (held (first_tables contents)) (numbers contents.items) ≤ sum_by weight_at contents.items = sum_items (λ n. find (of_number n) contents.items) [] contents.items good (λ n among. refl) in
-          let same : sum_by weight_at contents.items ≡ weights_of contents.items = refl in
           let fits : weights_of contents.items ≤ limits.max_total = grind (arith, nat_tests) in
           omega arith
 
@@ -280,8 +262,7 @@ fits = in_runs Fits (λ limits contents may. fits_begin limits contents may) (λ
 -- All that is stored fits the limit.
 pub fits_in_runs : FitsInRuns
 fits_in_runs limits contents may h e run =
-    let all = fits limits contents h may run.0 in
-    let within : total (tables contents h) ≤ limits.max_total = all.within in
+    let within : total (tables contents h) ≤ limits.max_total = (fits limits contents h may run.0).within in
     let most : weights (tables contents h) e ≤ total (tables contents h) = weights_most (tables contents h) e in
     omega arith
 

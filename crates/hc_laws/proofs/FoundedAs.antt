@@ -34,8 +34,7 @@ module _ (limits : Limits) (t : Tables) (now : ℕ) (flaw : Flaw) (s : Sound t) 
           let got = waiter_of limits t now flaw s o ev goes r w row new.is_open new.bare in
           let st = head_stands limits t now flaw s o ev goes real.stand w.c r response w got.0 got.1 here (or_left _ _ founding) in
           let promise : promise_in w response ≡ Some 0 = none_promised limits t now flaw s o m ev goes real r w.c 0 placed.0 by.Founding st.0 p after st.1 (st.2 ∙ (ap (place_by_case r response w got.0) is ∙ placed.1)) r response w here row (ap is_refused is ∙ plain.0) (ap (λ q. doomed_by_case q w response) is ∙ plain.1) off in
-          let total : founded_total w response ≡ promise_in w response = rw other refl in
-          empty status (total_is ∙ (total ∙ promise))
+          empty status (total_is ∙ (rw other refl ∙ promise))
     ]
       where
         other : nat_eq response.status 206 ≡ false
@@ -50,8 +49,7 @@ module _ (limits : Limits) (t : Tables) (now : ℕ) (flaw : Flaw) (s : Sound t) 
     by_case _ (cases.part way h fits l g) is =
         let asked = asker_by (t.consumer w.c) response fits in
         let test : nat_eq response.status 206 ≡ true = (let st : response.status ≡ 206 = h in grind (arith, nat_tests)) in
-        let known : founded_total w response ≡ Some asked.total = rw (test, asked.told) refl in
-        part asked.total h (total_is ∙ known) fits
+        part asked.total h (total_is ∙ rw (test, asked.told) refl) fits
 
     pub founded_as : FoundedAs
     founded_as =

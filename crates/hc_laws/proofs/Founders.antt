@@ -21,8 +21,7 @@ module _ (limits : Limits) (t : Tables) (now : ℕ) (flaw : Flaw) (s : Sound t) 
     | inl joins ↦
         let g = head_case (head_view t (has_loss e.acts) w response) in
         let is : case_at t e ≡ Some g = case_is t e r response w here row in
-        let off : is_founding (Some g) ≡ false = not_founding g (sym (ap is_joining is) ∙ joins) in
-        absurd (false_true (sym off ∙ (sym (ap is_founding is) ∙ on)))
+        absurd (false_true (sym (not_founding g (sym (ap is_joining is) ∙ joins)) ∙ (sym (ap is_founding is) ∙ on)))
   ]
 
   -- an exchange without a head joined nothing
@@ -35,8 +34,7 @@ module _ (limits : Limits) (t : Tables) (now : ℕ) (flaw : Flaw) (s : Sound t) 
   was_founder r w u v row (inr got) (rep.was q kept) =
       absurd (none_some q (sym (is_new limits t now flaw s ev goes r got.response w got.at row).unfounded ∙ kept.row))
   was_founder r w u v row (inr got) (rep.founded response z none here also on made) =
-      let off = founds_alone r response w here row on in
-      got.joined_is ∙ (ap (λ (b : Bool). if b then w.aim else w.joined) off ∙ bare_joined r response w here row)
+      got.joined_is ∙ (ap (λ (b : Bool). if b then w.aim else w.joined) (founds_alone r response w here row on) ∙ bare_joined r response w here row)
 
   founder_from : (r : ℕ) (u : Exchange) (v : Representation) → ExchangeFrom t e r u → RepFrom t e r v → u.joined ≡ None
   founder_from r u v (exchange.was w row same) from = was_founder r w u v row same.heard_or from

@@ -1,5 +1,5 @@
 -- A reader's own open exchange goes on no earlier than where it began to read, in every run.
-use Rattle.std.{proofs.Common.{◌≡◌, ◌⊎◌, inl, inr, ℕ, ◌+◌, ◌≤◌, List, length, ◌++◌, true, false, Option, Some, None, refl, ap, sym, ◌∙◌, subst, arith, length-append}, specs.{Prelude.{is_some}, Option.{option_and_then}}}
+use Rattle.std.{proofs.Common.{◌≡◌, ◌⊎◌, inl, inr, ℕ, ◌+◌, ◌≤◌, List, length, true, false, Option, Some, None, refl, ap, sym, ◌∙◌, subst, arith, length-append}, specs.{Prelude.{is_some}, Option.{option_and_then}}}
 use Rattle.hc_text.proofs.Basics.{and_left, and_right, not_some as none_some, same_some as same_row, some_inj}
 use Rattle.hc_effects.proofs.Vocabulary.{Opening, opening_in, Event, Response, Limits, base_of, route_of, BoundBy, Showing, showing_in, case_at, consumer_heard, waiting, by_opening, denial, Entry, base, front, is_headless, Flaw, goes_on_at, if_headless, entry_of, OfRuns, OfRunsIn, Measures, Owners, IsReading, reads, offset, lo_of, bound_to, hole_start, Tables, Exchange, Representation, Consumer, Sound, after_accepted, brings_body}
 use Rattle.hc_event.specs.declared.event.Event.TheVariants as event
@@ -8,12 +8,10 @@ use Rattle.hc_event.specs.declared.place.Place.TheVariants as place
 use Rattle.hc_model.specs.Fronts.{Fronts}
 use Rattle.hc_model.specs.Owners as owners
 use Rattle.hc_model.specs.Sound as sound
-use Rattle.hc_effects.proofs.{AboutKeeps.{own_open_is}, Basics.{false_true, some_row}, Beside.{IsBeside}, BoundFrom.{BoundFrom, IsRow, IsFounded, IsFirstHole, IsShown, bound_from, place_inj}, BoundKeeps.{planned_at, opens_none}, Covers.{headed_at, bare_at, later_from, none_before}, ExchangeFrom.{IsSame, IsHeaded}, Fills.{Brings, brings, length_same}, FirstKeeps.{is_new, is_opener}, HeadTo.{told_is, joined, length_is}, HeadedAs.{unmet}, LossBy.{IsReal}, OpensFrom.{opens_hole, hole_is}, OwnFrom.{OwnFrom, IsLeft, own_from}, OwnersKeep.{is_opened, new_number}, Said.{ShowsBy, showing_by}, ShownFrom.{IsPlanned}, Survives.{survivor_offset}, ToBeShown.{heard_place}, Waiters.{IsWaiter, waiter_of}}
+use Rattle.hc_effects.proofs.{Forward.{is_on, IsOn}, AboutKeeps.{own_open_is}, Basics.{false_true, some_row}, Beside.{IsBeside}, BoundFrom.{BoundFrom, IsRow, IsFounded, IsFirstHole, IsShown, bound_from, place_inj}, BoundKeeps.{planned_at, opens_none}, Covers.{headed_at, bare_at, none_before}, ExchangeFrom.{IsSame, IsHeaded}, Fills.{Brings, brings, length_same}, FirstKeeps.{is_new, is_opener}, HeadTo.{told_is, joined, length_is}, HeadedAs.{unmet}, LossBy.{IsReal}, OwnFrom.{OwnFrom, IsLeft, own_from}, OwnersKeep.{is_opened, new_number}, Said.{ShowsBy, showing_by}, ShownFrom.{IsPlanned}, Survives.{survivor_offset}, ToBeShown.{heard_place}, Waiters.{IsWaiter, waiter_of}}
 use Rattle.hc_effects.proofs.BoundFrom as from
-use Rattle.hc_laws.proofs.{CoversKept.{own_opened, opened_row}, CoversNew.{founds_from, hole_begins}, RunFacts.{in_runs}}
+use Rattle.hc_laws.proofs.{CoversKept.{own_opened, opened_row}, CoversNew.{founds_from, hole_begins}, OpensLater.{opens_later}, RunFacts.{in_runs}}
 use Rattle.hc_effects.proofs.Fills as fills_by
-use Rattle.hc_effects.proofs.Forward as forward
-use Rattle.hc_effects.proofs.OpenedAs as opened_as
 use Rattle.hc_effects.proofs.OwnFrom as own
 use Rattle.hc_effects.proofs.PartTold as told
 
@@ -67,8 +65,7 @@ module _ (limits : Limits) (t : Tables) (now : ℕ) (flaw : Flaw) (s : Sound t) 
 
       comes : IsHeaded t e x w z → Begins
       comes got =
-          let bare = (is_new limits t now flaw s ev goes x got.response w got.at w_row).bare in
-          let was_at : goes_on_at w w.head ≡ hole_start w.need = bare_at w bare in
+          let was_at : goes_on_at w w.head ≡ hole_start w.need = bare_at w ((is_new limits t now flaw s ev goes x got.response w got.at w_row).bare) in
           let now_at : goes_on_at z z.head ≡ front z = headed_at z (Some got.response) got.head_is refl in
           let join = joined limits t now flaw s o ev goes r c x lo hi how k u w z row at stands none mine w_row same got in
           let start : hole_start w.need ≡ join.fills.from = ap hole_start join.fills.need_is in
@@ -100,55 +97,30 @@ module _ (limits : Limits) (t : Tables) (now : ℕ) (flaw : Flaw) (s : Sound t) 
       mine_kept : k.own ≡ Some x → Begins
       mine_kept mine =
           let w = some_row (t.exchange x) (o.there c x k row.row mine) in
-          let g = forward.is_on t e x w.0 w.1 in
-          let one : g.u ≡ z = same_row (now_on.exchange x) g.u z g.row after_x in
-          kept_own k row at mine w.0 w.1 (subst (IsSame t e x w.0) one g.same)
+          let g = is_on t e x w.0 w.1 in
+          kept_own k row at mine w.0 w.1 (subst (IsSame t e x w.0) (same_row (now_on.exchange x) g.u z g.row after_x) g.same)
 
       -- who is bound opens a hole ahead
       later_opened : (q : Opening) → opening_in e.acts ≡ Some q → q.c ≡ c → q.x ≡ x → Begins
-      later_opened q opens mine this = by_way (subst (λ (a : Consumer). opened_as.Way t now c a q.need) one (subst (λ d. opened_as.Way t now d by_poll.k q.need) mine by_poll.way.way))
-        where
-          by_poll : Rattle.hc_effects.proofs.OwnersKeep.IsOpened limits t now flaw s o ev goes q
-          by_poll = is_opened limits t now flaw s o ev goes q opens
-
-          one : by_poll.k ≡ k
-          one = same_row (t.consumer c) by_poll.k k (sym (ap t.consumer mine) ∙ by_poll.row) row.row
-
-          hole_opened : route_of q.need ≡ route.Hole → Begins
-          hole_opened way =
-              let made = opened_row limits t now flaw s o m i ev goes real x q z opens this after_x in
-              let opener = is_opener limits t now flaw s ev goes c k q row.row opens mine in
-              let hole = hole_is q.need way in
-              let reason = opens_hole t c k q now opener.want s row.row opener.opening hole.from hole.to hole.is in
-              let from_is : hole.from ≡ offset t k = later_from limits t now flaw s o m i ev goes real r c lo hi how k u row at stands hole.from hole.to reason in
-              let start : goes_on_at z z.head ≡ hole_start q.need = ap (λ (a : Exchange). goes_on_at a a.head) (sym made) in
-              let first : hole_start q.need ≡ hole.from = ap hole_start hole.is in
-              let begins = offset_is in
-              omega (arith, from_is, start, first, begins)
-
-          bound_not : {P : Type 0} → bound_to k.place ≡ None → P
-          bound_not none_to = absurd (none_some r (sym none_to ∙ ap bound_to at))
-
-          by_way : opened_as.Way t now c k q.need → Begins
-          by_way (opened_as.passes_by unbound past) = bound_not unbound
-          by_way (opened_as.fetches unbound turn cached) = bound_not unbound
-          by_way (opened_as.goes_on a b d g at_a way) = hole_opened way
-          by_way (opened_as.fills a v span gap unbound way is_current v_row wants found need_is cached) = bound_not unbound
+      later_opened q opens mine this =
+          let made = opened_row limits t now flaw s o m i ev goes real x q z opens this after_x in
+          let later = opens_later limits t now flaw s o ev goes c r lo hi how k q row.row at opens mine in
+          let from_is : later.hole.from ≡ offset t k = later.from_is in
+          let start : goes_on_at z z.head ≡ hole_start q.need = ap (λ (a : Exchange). goes_on_at a a.head) (sym made) in
+          let first : hole_start q.need ≡ later.hole.from = ap hole_start later.hole.is in
+          let begins = offset_is in
+          omega (arith, from_is, start, first, begins)
 
       -- the writing is left to it, at whose front it stands
       survived : IsLeft t e c x (consumer_heard t e c ev k).place → Begins
       survived l =
-          let placed : u.place ≡ (consumer_heard t e c ev k).place = heard_place limits t now flaw s o ev goes c r lo hi how k u (λ d want polls. false_true (sym (ap brings_body polls) ∙ and_left _ _ (and_left _ _ l.loses))) row in
-          let number : l.r ≡ r = (place_inj l.r l.lo l.hi l.how r lo hi how (sym l.at ∙ (sym placed ∙ stands))).number in
-          let stood : offset t k ≡ l.v.reach = survivor_offset t l.r c l.v k row.row l.survives in
           let grown = (s.rows l.r l.v l.row).growing x (and_right _ _ l.loses) l.writer_is in
-          by_growing grown.0 grown.1 stood
+          by_growing grown.0 grown.1 (survivor_offset t l.r c l.v k row.row l.survives)
         where
           by_growing : {q : ℕ} {v : Representation} (w : Exchange) → sound.IsGrowing t q v x w → offset t k ≡ v.reach → Begins
           by_growing w g stood =
-              let on = forward.is_on t e x w g.row in
-              let one : on.u ≡ z = same_row (now_on.exchange x) on.u z on.row after_x in
-              let same : IsSame t e x w z = subst (IsSame t e x w) one on.same in
+              let on = is_on t e x w g.row in
+              let same : IsSame t e x w z = subst (IsSame t e x w) (same_row (now_on.exchange x) on.u z on.row after_x) on.same in
               by_heard w g stood same same.heard_or
             where
               by_heard : {q : ℕ} {v : Representation} (w : Exchange) → sound.IsGrowing t q v x w → offset t k ≡ v.reach → (same : IsSame t e x w z) → ((z.head ≡ w.head) × (z.joined ≡ w.joined)) ⊎ IsHeaded t e x w z → Begins
@@ -180,7 +152,7 @@ module _ (limits : Limits) (t : Tables) (now : ℕ) (flaw : Flaw) (s : Sound t) 
         own_k = ap (λ (q : Consumer). q.own) (sym (same_row (t.consumer c) waits.0 k (sym (ap t.consumer mine) ∙ waits.1.row) row.row)) ∙ waits.1.own
 
         by_number : x ≡ y → Begins
-        by_number number = by_on (forward.is_on t e y w w_row)
+        by_number number = by_on (is_on t e y w w_row)
           where
             after_y : now_on.exchange y ≡ Some z
             after_y = sym (ap now_on.exchange number) ∙ after_x
@@ -193,10 +165,9 @@ module _ (limits : Limits) (t : Tables) (now : ℕ) (flaw : Flaw) (s : Sound t) 
                 let at : goes_on_at z z.head ≡ front z = headed_at z (Some got.response) got.head_is refl in
                 omega (arith, le, at)
 
-            by_on : forward.IsOn t e y w → Begins
+            by_on : IsOn t e y w → Begins
             by_on g =
-                let one : g.u ≡ z = same_row (now_on.exchange y) g.u z g.row after_y in
-                let same : IsSame t e y w z = subst (IsSame t e y w) one g.same in
+                let same : IsSame t e y w z = subst (IsSame t e y w) (same_row (now_on.exchange y) g.u z g.row after_y) g.same in
                 by_heard same same.heard_or
 
         by_own : OwnFrom t e c x u → Begins
@@ -213,8 +184,7 @@ module _ (limits : Limits) (t : Tables) (now : ℕ) (flaw : Flaw) (s : Sound t) 
 
     opens_first : (k : Consumer) (q : Opening) → IsRow t e c r lo hi how k u → opening_in e.acts ≡ Some q → q.c ≡ c → bound_to (waiting t e c (consumer_heard t e c ev k)).place ≡ None → route_of q.need ≡ route.Hole → IsFirstHole t e c r lo hi how q (waiting t e c (consumer_heard t e c ev k)) → Begins
     opens_first k q row opens mine free way hole =
-        let this = own_opened limits t now flaw s o m i ev goes real c x k u q row.is opens mine owned in
-        let made = opened_row limits t now flaw s o m i ev goes real x q z opens this after_x in
+        let made = opened_row limits t now flaw s o m i ev goes real x q z opens (own_opened limits t now flaw s o m i ev goes real c x k u q row.is opens mine owned) after_x in
         let start : goes_on_at z z.head ≡ hole_start q.need = ap (λ (a : Exchange). goes_on_at a a.head) (sym made) in
         let begins = hole_begins limits t now flaw s o ev goes c r lo hi how k u q row opens mine free way hole in
         omega (arith, start, begins)
@@ -238,10 +208,8 @@ module _ (limits : Limits) (t : Tables) (now : ℕ) (flaw : Flaw) (s : Sound t) 
         not_mine : {P : Type 0} → k.own ≡ Some x → P
         not_mine mine =
             let w = some_row (t.exchange x) (o.there c x k row.row mine) in
-            let g = forward.is_on t e x w.0 w.1 in
-            let one : g.u ≡ z = same_row (now_on.exchange x) g.u z g.row after_x in
-            let was_open : w.0.is_open ≡ true = g.same.was_open (ap (λ (q : Exchange). q.is_open) one ∙ opened) in
-            by_head w.0 w.1 was_open w.0.head refl
+            let g = is_on t e x w.0 w.1 in
+            by_head w.0 w.1 (g.same.was_open (ap (λ (q : Exchange). q.is_open) (same_row (now_on.exchange x) g.u z g.row after_x) ∙ opened)) w.0.head refl
           where
             headless_not : {Q : Type 0} (w : Exchange) → t.exchange x ≡ Some w → w.is_open ≡ true → w.head ≡ None → Q
             headless_not w w_row was_open bare = absurd (none_some x (sym planned.heard ∙ (ap (option_and_then (if_headless t)) (own_open_is t k x (record { own = mine; w = w; row = w_row; opened = was_open })) ∙ (let headless : is_headless (t.exchange x) ≡ true = rw (w_row, was_open, bare) refl in rw headless refl))))

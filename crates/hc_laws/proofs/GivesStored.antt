@@ -5,7 +5,7 @@
 use Rattle.std.{proofs.{Common.{◌≡◌, inl, inr, ℕ, ◌+◌, ◌-◌, ◌<◌, List, [], ◌∷◌, ◌++◌, length, true, false, Option, Some, None, refl, ap, sym, ◌∙◌, subst, arith, length-append}, lemmas.Bool.Decides.{nat_tests}}, specs.{Prelude.{is_some, if◌then◌else◌, IfSome, nat_eq}, Option.{option_and_then, option_map}}}
 use Rattle.hc_text.proofs.Basics.{bool_cases, not_some as none_some, same_some as same_row}
 use Rattle.hc_sparse.specs.{Cells.{Cells, Cell}, Runs.{end_of}, Stretch.{stretch, stretch_of}, declared.run.Run.{Run}}
-use Rattle.hc_effects.proofs.Vocabulary.{given_in, Response, read_step, is_at_end, cut_at, stored_or, held_or, fails_or, waits_or, ReadStep, Limits, Place, BoundBy, row_of, Entry, is_headless, failures_in, OfHistories, Turns, Gives, gives, acts_of, Owners, planned_move, move_of, shows_at, if_headless, waits_for_head, or_else, by_place, bound_to, lo_of, offset, hi_of, own_open, source, Tables, Exchange, Representation, Consumer, Sound, IsBound, IsAbout, InHole, bound_row, stored_from, stored_ahead, read_view, step_move, reading, tables}
+use Rattle.hc_effects.proofs.Vocabulary.{given_in, Response, read_step, is_at_end, cut_at, stored_or, held_or, fails_or, waits_or, ReadStep, Limits, Place, BoundBy, row_of, Entry, is_headless, failures_in, OfHistories, Turns, Gives, gives, acts_of, Owners, planned_move, move_of, shows_at, if_headless, waits_for_head, or_else, by_place, bound_to, lo_of, offset, hi_of, own_open, source, Tables, Exchange, Representation, Consumer, Sound, IsAbout, InHole, bound_row, stored_from, stored_ahead, read_view, step_move, reading, tables}
 use Rattle.hc_event.specs.declared.event.Event.TheVariants as event
 use Rattle.hc_rules.specs.Readings as readings
 use Rattle.hc_rules.specs.declared.reading.ReadStep.TheVariants as step
@@ -13,13 +13,9 @@ use Rattle.hc_event.specs.declared.place.Place.TheVariants as place
 use Rattle.hc_model.specs.Reads.{GivesStored}
 use Rattle.hc_model.specs.Sound as sound
 use Rattle.hc_effects.proofs.{AboutKeeps.{own_open_of}, Basics.{false_true, some_row}, GivenNext.{given_next}, Givers.{some_want}, Owed.{goes}}
-use Rattle.hc_laws.proofs.{AtHoles.{AreAtHoles, at_holes_in_runs}, InRuns.{turned_in_runs}, SoundRuns.{carried}, TurnFacts.{IsTaken, AtPoll, at_poll, behind}, TurnStays.{head_none}}
-use Rattle.hc_laws.proofs.TurnFacts as facts
+use Rattle.hc_laws.proofs.{AtHoles.{AreAtHoles, at_holes_in_runs}, InRuns.{turned_in_runs}, SoundRuns.{carried}, TurnFacts.{moves_on, misreads, IsTaken, AtPoll, at_poll, behind}, TurnStays.{head_none}}
 
 module _ (t : Tables) (s : Sound t) (o : Owners t) (turns : Turns t) (are : AreAtHoles t) (c r lo : ℕ) (hi : Option ℕ) (how : BoundBy) (k : Consumer) (v : Representation) (row : t.consumer c ≡ Some k) (shown : k.shown ≡ true) (at : k.place ≡ place.Bound r lo hi how) (there : t.representation r ≡ Some v) (stored : is_some (v.stored (offset t k)) ≡ true) where
-  reader : IsBound t r c k
-  reader = sound.is_bound lo hi how row at
-
   came : is_some (v.body (offset t k)) ≡ true
   came = ap (λ (z : Option Cell). is_some z) (sym ((s.rows r v there).store.some_stored (offset t k) stored)) ∙ stored
 
@@ -41,7 +37,7 @@ module _ (t : Tables) (s : Sound t) (o : Owners t) (turns : Turns t) (are : AreA
   unwaited : (x : ℕ) → own_open t k ≡ Some x → is_headless (t.exchange x) ≡ true → ⊥
   unwaited x own bare =
       let is = own_open_of t k x own in
-      asks_not x is.w is.row (sym (ap (λ (z : Option Exchange). is_headless z) is.row) ∙ bare) is.own (s.writes.own_about r c x k reader own)
+      asks_not x is.w is.row (sym (ap (λ (z : Option Exchange). is_headless z) is.row) ∙ bare) is.own (s.writes.own_about r c x k (sound.is_bound lo hi how row at) own)
 
   no_head : (q : Option ℕ) → own_open t k ≡ q → option_and_then (if_headless t) q ≡ None
   no_head None own = refl
@@ -113,21 +109,16 @@ module _ (limits : Limits) (t : Tables) (e : Entry) (taken : IsTaken limits t e)
       omega arith
 
   by_poll : (v : Representation) (r lo : ℕ) (hi : Option ℕ) (how : BoundBy) → k.shown ≡ true → k.place ≡ place.Bound r lo hi how → t.representation r ≡ Some v → is_some (v.stored (offset t k)) ≡ true → IfSome (hi_of t k.place) (λ end. offset t k < end) → AtPoll limits t e taken c k → 0 < length (given_in c e.acts)
-  by_poll v r lo hi how shown at there stored before (facts.moves_on more m also m_is does all saw) =
+  by_poll v r lo hi how shown at there stored before (moves_on more m also m_is does all saw) =
       let many : 0 < more = some_want t c more e.event (goes limits t e taken.owed taken.not_denied) also in
       let given = is_given t s o turns are c r lo hi how k v row shown at there stored e.now more many before in
       given_one given.run given.some (all ∙ ap (λ z. acts_of c z ++ behind limits t e taken) (m_is ∙ given.move))
-  by_poll v r lo hi how shown at there stored before (facts.misreads more q also all saw) =
+  by_poll v r lo hi how shown at there stored before (misreads more q also all saw) =
       absurd (let no_one : ◌≡◌ {A = ℕ} 1 0 = sym (ap failures_in all) ∙ faultless in cc)
 
   by_place_of : (v : Representation) (p : Place) → k.place ≡ p → k.shown ≡ true → row_of t (bound_to p) ≡ Some v → is_some (v.stored (offset t k)) ≡ true → IfSome (hi_of t k.place) (λ end. offset t k < end) → 0 < length (given_in c e.acts)
   by_place_of v (place.Bound r lo hi how) at shown there stored before = by_poll v r lo hi how shown at there stored before (at_poll limits t e taken c want k s turns row polls)
-  by_place_of v place.Line at shown there stored before = absurd (none_some v there)
-  by_place_of v (place.Passed r kept) at shown there stored before = absurd (none_some v there)
-  by_place_of v (place.Turn x) at shown there stored before = absurd (none_some v there)
-  by_place_of v (place.Direct x) at shown there stored before = absurd (none_some v there)
-  by_place_of v (place.Down why) at shown there stored before = absurd (none_some v there)
-  by_place_of v place.Over at shown there stored before = absurd (none_some v there)
+  by_place_of v _ at shown there stored before = absurd (none_some v there)
 
 -- Who has its next byte stored is given some by a poll, in every run.
 pub gives_stored_in_runs : OfHistories GivesStored

@@ -1,6 +1,6 @@
 -- After an entry the detached reader reads on soundly.
-use Rattle.std.{proofs.Common.{◌≡◌, ◌⊎◌, inl, inr, ℕ, ◌+◌, ◌≤◌, List, [], ◌∷◌, length, Bool, true, false, Option, Some, None, refl, ap, sym, ◌∙◌, subst, arith, length-append}, specs.{Prelude.{if◌then◌else◌, is_some, ◌||◌, not}, Option.{option_and_then}}}
-use Rattle.hc_text.proofs.Basics.{and_left, and_right, not_some as none_some, same_some as same_row, some_inj, lt_or as split}
+use Rattle.std.{proofs.Common.{◌≡◌, ◌⊎◌, inl, inr, ℕ, ◌+◌, ◌≤◌, List, [], ◌∷◌, length, true, false, Option, Some, None, refl, ap, sym, ◌∙◌, subst, arith, length-append}, specs.{Prelude.{if◌then◌else◌, is_some, ◌||◌, not}, Option.{option_and_then}}}
+use Rattle.hc_text.proofs.Basics.{bool_cases, not_true, or_cases, and_left, and_right, not_some as none_some, same_some as same_row, some_inj, lt_or as split}
 use Rattle.hc_sparse.specs.Cells.{Cells, Covers, cells_with}
 use Rattle.hc_sparse.proofs.CellLemmas.{inside-past}
 use Rattle.hc_effects.proofs.Vocabulary.{Opening, opening_in, Act, Event, Response, HeadCase, Limits, BoundBy, Showing, showing_in, loses_in, has_loss, case_at, is_joining, consumer_heard, consumer_acted, by_opening, waiting, becomes_shared, is_resumed, row_of, denial, Entry, base, front, length_by, stop_cause, cause_of_head, Flaw, covers, entry_of, Measures, Owners, is_written, own_open, if_open, bound_to, offset, hi_of, reads, resumes, Tables, Exchange, Representation, Consumer, Sound, IsBound, IsAlone, IsExclusiveWriter, IsHad, after_accepted, brings_body, has_more, lacks_some}
@@ -9,15 +9,12 @@ use Rattle.hc_event.specs.declared.event.Event.TheVariants as event
 use Rattle.hc_rules.specs.declared.heads.HeadCase.TheVariants as case
 use Rattle.hc_event.specs.declared.place.Place.TheVariants as place
 use Rattle.hc_model.specs.Sound as sound
-use Rattle.hc_effects.proofs.{AboutKeeps.{own_open_of}, Basics.{false_true, true_false, some_row}, Beside.{IsBeside, goes_on_at}, BoundFrom.{BoundFrom, IsRow, IsShown, bound_from}, BoundKeeps.{planned_at}, Covers.{headed_at, offset_more}, Dues.{due_before, due_none, undue_of, stop_none, loss_at}, EventsKeep.{deliveries_are_kept}, ExchangeFrom.{IsSame, IsHeaded}, Exclusives.{IsExclusive}, Fills.{Fills, fills, Brings, brings}, FirstKeeps.{is_new, is_opener}, HoleLemmas.{covers_yes}, HolesOpened.{stored_ends}, LossBy.{IsReal}, Losses.{HasRest}, MeasuresKeep.{IsHeld, held, piece_taken}, OpensFrom.{opens_hole, hole_is}, OwnFrom.{OwnFrom, own_from}, OwnersKeep.{is_opened, there_kept}, ExclusiveWriters.{one_exclusive_writer, has_exclusive_writer, bound_some}, PollKeeps.{current_stays, not_come}, PollTree.{OpensHole}, RepFrom.{RepFrom, rep_from, IsKept}, Said.{ShowsBy, showing_by}, ShownFrom.{ShownAs, IsPlanned}, Survives.{goes_on}, ToBeShown.{heard_place}}
+use Rattle.hc_effects.proofs.{Forward.{is_on}, AboutKeeps.{own_open_of}, Basics.{or_false, false_true, true_false, some_row}, Beside.{IsBeside, goes_on_at}, BoundFrom.{BoundFrom, IsRow, IsShown, bound_from}, BoundKeeps.{planned_at}, Covers.{headed_at, offset_more}, Dues.{due_before, due_none, undue_of, stop_none, loss_at}, EventsKeep.{deliveries_are_kept}, ExchangeFrom.{IsSame, IsHeaded}, Exclusives.{IsExclusive}, Fills.{Fills, fills, Brings, brings}, FirstKeeps.{is_new, is_opener}, HoleLemmas.{covers_yes}, HolesOpened.{stored_ends}, LossBy.{IsReal}, Losses.{HasRest}, MeasuresKeep.{IsHeld, held, piece_taken}, OwnFrom.{OwnFrom, own_from}, OwnersKeep.{is_opened, there_kept}, ExclusiveWriters.{one_exclusive_writer, has_exclusive_writer}, PollKeeps.{current_stays, not_come}, RepFrom.{RepFrom, rep_from, IsKept}, Said.{ShowsBy, showing_by}, ShownFrom.{ShownAs, IsPlanned}, Survives.{goes_on}, ToBeShown.{heard_place}}
 use Rattle.hc_effects.proofs.BoundFrom as from
-use Rattle.hc_laws.proofs.{CoversKept.{covered_kept, not_alone}, OwnNone.{IsShared, own_none}, ExclusiveWriterFrom.{ExclusiveWriterFrom, alone_from}, SoundKept.{GoAlone}, StoreKeeps.{stores_are_kept}}
+use Rattle.hc_laws.proofs.{CoversKept.{covered_kept, not_alone}, OpensLater.{OpensLater, opens_later}, OwnNone.{IsShared, own_none}, ExclusiveWriterFrom.{ExclusiveWriterFrom, alone_from}, SoundKept.{GoAlone}, StoreKeeps.{stores_are_kept}}
 use Rattle.hc_effects.proofs.Fills as fills_by
-use Rattle.hc_effects.proofs.Forward as forward
-use Rattle.hc_effects.proofs.OpenedAs as opened
 use Rattle.hc_effects.proofs.OwnFrom as own
 use Rattle.hc_laws.proofs.ExclusiveWriterFrom as exclusive_writers
-use Rattle.hc_effects.proofs.PollTree as tree
 use Rattle.hc_effects.proofs.RepFrom as rep
 use Rattle.hc_effects.proofs.ShownFrom as shown_as
 use Rattle.hc_laws.proofs.TogetherHeads as together
@@ -26,38 +23,13 @@ use Rattle.hc_laws.proofs.TogetherHeads as together
 loses_some : (r : ℕ) (acts : List Act) → loses_in r acts ≡ true → has_loss acts ≡ true
 loses_some r [] h = absurd (false_true h)
 loses_some r (act.Lost q kind ∷ acts) h = refl
-loses_some r (act.Opened x c n request ∷ acts) h = loses_some r acts h
-loses_some r (act.Ask x ∷ acts) h = loses_some r acts h
-loses_some r (act.Close x ∷ acts) h = loses_some r acts h
-loses_some r (act.Shown c q why status fields lo hi ∷ acts) h = loses_some r acts h
-loses_some r (act.Given c x at bytes ∷ acts) h = loses_some r acts h
-loses_some r (act.Ended c ∷ acts) h = loses_some r acts h
-loses_some r (act.Failed c why ∷ acts) h = loses_some r acts h
-loses_some r (act.Pending c wait ∷ acts) h = loses_some r acts h
-loses_some r (act.Evicted q ∷ acts) h = loses_some r acts h
-loses_some r (act.Denied refusal ∷ acts) h = loses_some r acts h
+loses_some r (_ ∷ acts) h = loses_some r acts h
 
 -- a joining head that is written together is lost nowhere
 resumed_of : (t : Tables) (e : Entry) (response : Response) (w : Exchange) (g : Option HeadCase) → is_joining g ≡ true → becomes_shared t e response w g ≡ true → is_resumed t e response w (row_of t w.aim) ≡ true
 resumed_of t e response w (Some case.FirstJoins) j h = h
 resumed_of t e response w (Some case.LaterJoins) j h = h
-resumed_of t e response w None j h = absurd (false_true j)
-resumed_of t e response w (Some case.DirectBad) j h = absurd (false_true j)
-resumed_of t e response w (Some case.DirectTaken) j h = absurd (false_true j)
-resumed_of t e response w (Some case.TurnBad) j h = absurd (false_true j)
-resumed_of t e response w (Some case.Validated) j h = absurd (false_true j)
-resumed_of t e response w (Some case.NotValidated) j h = absurd (false_true j)
-resumed_of t e response w (Some case.TurnServerError) j h = absurd (false_true j)
-resumed_of t e response w (Some case.FoundsWhole) j h = absurd (false_true j)
-resumed_of t e response w (Some case.FoundsRange) j h = absurd (false_true j)
-resumed_of t e response w (Some case.PassesBy) j h = absurd (false_true j)
-resumed_of t e response w (Some case.FirstBad) j h = absurd (false_true j)
-resumed_of t e response w (Some case.FirstServerError) j h = absurd (false_true j)
-resumed_of t e response w (Some case.FirstChanged) j h = absurd (false_true j)
-resumed_of t e response w (Some case.FirstReplaced) j h = absurd (false_true j)
-resumed_of t e response w (Some case.FirstPassesBy) j h = absurd (false_true j)
-resumed_of t e response w (Some case.LaterBad) j h = absurd (false_true j)
-resumed_of t e response w (Some case.LaterChanged) j h = absurd (false_true j)
+resumed_of t e response w _ j h = absurd (false_true j)
 
 -- an exchange without a head has no front
 pub bare_front : (z : Exchange) → z.head ≡ None → z.body ≡ [] → front z ≡ 0
@@ -98,8 +70,7 @@ module _ (limits : Limits) (t : Tables) (now : ℕ) (flaw : Flaw) (s : Sound t) 
           let brings_one : brings_body ev ≡ true = and_left _ _ (and_left _ _ l.loses) in
           let placed : u.place ≡ (consumer_heard t e c ev k).place = heard_place limits t now flaw s o ev goes c r lo hi how k u (λ d want polls. false_true (sym (ap brings_body polls) ∙ brings_one)) row in
           let one : q ≡ k = same_row (t.consumer c) q k q_row row.row in
-          let at_l : (consumer_heard t e c ev k).place ≡ place.Bound l.r l.lo l.hi l.how = ap (λ (b : Consumer). (consumer_heard t e c ev b).place) (sym one) ∙ l.at in
-          (from.place_inj l.r l.lo l.hi l.how r lo hi how (sym at_l ∙ (sym placed ∙ stands))).number
+          (from.place_inj l.r l.lo l.hi l.how r lo hi how (sym (ap (λ (b : Consumer). (consumer_heard t e c ev b).place) (sym one) ∙ l.at) ∙ (sym placed ∙ stands))).number
 
       pub left_loses : (x : ℕ) (q : Consumer) → t.consumer c ≡ Some q → own.IsLeft t e c x (consumer_heard t e c ev q).place → (is_written t v ≡ true) × (loses_in r e.acts ≡ true)
       left_loses x q q_row l =
@@ -112,43 +83,27 @@ module _ (limits : Limits) (t : Tables) (now : ℕ) (flaw : Flaw) (s : Sound t) 
       unwritten_lost lost = rw lost refl
 
       -- who opens an exchange has no failure due
-      hole_undue : (from_at to_at : ℕ) → OpensHole t c k from_at to_at → k.due ≡ None
-      hole_undue from_at to_at (tree.first q y span hole is aims q_row nobody found lo_is hi_is) =
-          let number : r ≡ q = some_inj r q (sym (ap (Rattle.hc_model.specs.ExchangeRows.aim_from t k.request.key) at) ∙ aims) in
-          absurd (bound_some t r c k s.numbered (sound.is_bound lo hi how row.row at) (ap (Rattle.hc_model.specs.Reading.bound t) number ∙ nobody))
-      hole_undue from_at to_at (tree.later q end n y stands_at none_held lo_is up) = stands_at.none_due
-
       pub opens_undue : (q : Opening) → opening_in e.acts ≡ Some q → q.c ≡ c → u.due ≡ None
       opens_undue q opens mine =
           let by_poll = is_opened limits t now flaw s o ev goes q opens in
-          let one : by_poll.k ≡ k = same_row (t.consumer c) by_poll.k k (sym (ap t.consumer mine) ∙ by_poll.row) row.row in
-          let before : k.due ≡ None = by_way (subst (λ (b : Consumer). opened.Way t now c b q.need) one (subst (λ d. opened.Way t now d by_poll.k q.need) mine by_poll.way.way)) in
+          let before : k.due ≡ None = (opens_later limits t now flaw s o ev goes c r lo hi how k q row.row at opens mine).at_hole.none_due in
           let off : brings_body ev ≡ false = ap brings_body by_poll.at in
           due_none t e c k (consumer_acted t e c (consumer_heard t e c ev k)) u row.is (ap reads stands) before (undue_of t e c k (record {
             stop = stop_none t e k (ap (stop_cause t) by_poll.at);
             loss = loss_at t e c r lo hi how k v at there (rw off refl);
             head = ap (cause_of_head t e c) by_poll.at;
           }))
-        where
-          by_way : opened.Way t now c k q.need → k.due ≡ None
-          by_way (opened.passes_by unbound way) = absurd (none_some r (sym unbound ∙ ap bound_to at))
-          by_way (opened.fetches unbound way cached) = absurd (none_some r (sym unbound ∙ ap bound_to at))
-          by_way (opened.fills y b span gap unbound way is_current b_row wants found need_is cached) = absurd (none_some r (sym unbound ∙ ap bound_to at))
-          by_way (opened.goes_on y b d g there_at way) =
-              let h = hole_is q.need way in
-              let opener = is_opener limits t now flaw s ev goes c k q row.row opens mine in
-              hole_undue h.from h.to (opens_hole t c k q now opener.want s row.row opener.opening h.from h.to h.is)
 
     -- IT BECAME BOUND
 
-    pub opens_not : (k : Consumer) (q : Opening) → IsRow t e c r lo hi how k u → opening_in e.acts ≡ Some q → q.c ≡ c → bound_to (waiting t e c (consumer_heard t e c ev k)).place ≡ None → from.IsFirstHole t e c r lo hi how q (waiting t e c (consumer_heard t e c ev k)) → RepFrom t e r p → ⊥
+    opens_not : (k : Consumer) (q : Opening) → IsRow t e c r lo hi how k u → opening_in e.acts ≡ Some q → q.c ≡ c → bound_to (waiting t e c (consumer_heard t e c ev k)).place ≡ None → from.IsFirstHole t e c r lo hi how q (waiting t e c (consumer_heard t e c ev k)) → RepFrom t e r p → ⊥
     opens_not k q row opens mine free hole (rep.founded response w none_there here exchange_row on is_made) = false_true (ap (λ (b : Representation). b.is_lost) is_made ∙ lost_now)
     opens_not k q row opens mine free hole (rep.was v kept) =
         let by_poll = is_opened limits t now flaw s o ev goes q opens in
         let opener = is_opener limits t now flaw s ev goes c k q row.row opens mine in
         not_alone limits t now flaw s o m i ev goes real r c v p k row.row (sym (ap bound_to opener.place_is) ∙ free) kept.row (current_stays t _ r v hole.current_is kept.row) (ap brings_body by_poll.at) kept lost_now is_alone
 
-    pub shown_not : (k : Consumer) (a : Showing) → IsRow t e c r lo hi how k u → showing_in e.acts ≡ Some a → IsShown t e c r lo hi how a (by_opening t c (opening_in e.acts) (waiting t e c (consumer_heard t e c ev k))).place → RepFrom t e r p → ⊥
+    shown_not : (k : Consumer) (a : Showing) → IsRow t e c r lo hi how k u → showing_in e.acts ≡ Some a → IsShown t e c r lo hi how a (by_opening t c (opening_in e.acts) (waiting t e c (consumer_heard t e c ev k))).place → RepFrom t e r p → ⊥
     shown_not k a row is all (rep.founded response w none_there here exchange_row on is_made) = false_true (ap (λ (b : Representation). b.is_lost) is_made ∙ lost_now)
     shown_not k a row is all (rep.was v kept) =
         not_alone limits t now flaw s o m i ev goes real r c v p k row.row planned.free kept.row (current_v planned.shown_as) (ap brings_body shows.poll.at) kept lost_now is_alone
@@ -163,9 +118,28 @@ module _ (limits : Limits) (t : Tables) (now : ℕ) (flaw : Flaw) (s : Sound t) 
         current_v (shown_as.joins q current_is q_row on from_is to) = current_stays t _ r v (current_is ∙ ap Some all.of_r) kept.row
         current_v (shown_as.stored q span current_is q_row off wanted_is none_is from_is to) = current_stays t _ r v (current_is ∙ ap Some all.of_r) kept.row
 
-    pub founds_not : (x : ℕ) (response : Response) (w : Exchange) → ev ≡ event.Head x response → t.exchange x ≡ Some w → x ≡ r → RepFrom t e r p → ⊥
+    founds_not : (x : ℕ) (response : Response) (w : Exchange) → ev ≡ event.Head x response → t.exchange x ≡ Some w → x ≡ r → RepFrom t e r p → ⊥
     founds_not x response w here exchange_row of_it (rep.founded answer z none_there also row_too on is_made) = false_true (ap (λ (b : Representation). b.is_lost) is_made ∙ lost_now)
     founds_not x response w here exchange_row of_it (rep.was v kept) = none_some v (sym (is_new limits t now flaw s ev goes x response w here exchange_row).unfounded ∙ (ap t.representation of_it ∙ kept.row))
+
+    -- SO IT WAS BOUND BEFORE
+
+    pub record WasThere : Type 0 where
+      pub k : Consumer
+      pub v : Representation
+      pub row : IsRow t e c r lo hi how k u
+      pub at : k.place ≡ place.Bound r lo hi how
+      pub kept : IsKept t e r v p
+
+    pub was_there : WasThere
+    was_there = by_way (bound_from t e c r lo hi how (t.consumer c) u refl after_row stands) (rep_from t e r (t.representation r) p refl after)
+      where
+        by_way : BoundFrom t e c r lo hi how u → RepFrom t e r p → WasThere
+        by_way (from.stays k row at) (rep.was v kept) = record { k = k; v = v; row = row; at = at; kept = kept }
+        by_way (from.stays k row at) (rep.founded response w none_there here exchange_row on is_made) = absurd (false_true (ap (λ (b : Representation). b.is_lost) is_made ∙ lost_now))
+        by_way (from.founds k x response w row here exchange_row mine of_it by_is all) from_rep = absurd (founds_not x response w here exchange_row of_it from_rep)
+        by_way (from.opens k q row opens mine free way hole) from_rep = absurd (opens_not k q row opens mine free hole from_rep)
+        by_way (from.shows k a row is all) from_rep = absurd (shown_not k a row is all from_rep)
 
   module _ (r c lo : ℕ) (hi : Option ℕ) (how : BoundBy) (u : Consumer) (p : Representation) (after : now_on.representation r ≡ Some p) (after_row : now_on.consumer c ≡ Some u) (stands : u.place ≡ place.Bound r lo hi how) (none : u.due ≡ None) (lost_now : p.is_lost ≡ true) (is_alone : p.alone ≡ Some c) where
     reader_now : IsBound now_on r c u
@@ -179,8 +153,7 @@ module _ (limits : Limits) (t : Tables) (now : ℕ) (flaw : Flaw) (s : Sound t) 
 
         by_head : (a : Option Response) → z.head ≡ a → Covers p.body (offset now_on u) (front z)
         by_head None bare d from_u lt =
-            let empty : z.body ≡ [] = ((deliveries_are_kept limits t now flaw s ev goes).waits.headless x z row_z bare).0 in
-            let zero_is : front z ≡ 0 = bare_front z bare empty in
+            let zero_is : front z ≡ 0 = bare_front z bare (((deliveries_are_kept limits t now flaw s ev goes).waits.headless x z row_z bare).0) in
             absurd (omega arith)
         by_head (Some response) is d from_u lt = subst (Covers p.body (offset now_on u)) (headed_at z (Some response) is refl) all d from_u lt
 
@@ -203,18 +176,6 @@ module _ (limits : Limits) (t : Tables) (now : ℕ) (flaw : Flaw) (s : Sound t) 
           aim : sh.w.aim ≡ Some r
           aim = (together.way limits t now flaw s o ev goes r c lo hi how k u row at stands none sh).1
 
-          not_true : (b : Bool) → not b ≡ true → b ≡ false
-          not_true true h = absurd (false_true h)
-          not_true false h = refl
-
-          or_false : (a b : Bool) → (a || b) ≡ false → (a ≡ false) × (b ≡ false)
-          or_false false b h = (refl, h)
-          or_false true b h = absurd (true_false h)
-
-          or_cases : (a b : Bool) → (a || b) ≡ true → (a ≡ true) ⊎ (b ≡ true)
-          or_cases true b h = inl refl
-          or_cases false b h = inr h
-
           by_parts : is_resumed t e sh.response sh.w (row_of t sh.w.aim) ≡ true → ⊥
           by_parts resumed =
               let at_v : is_resumed t e sh.response sh.w (Some v) ≡ true = sym (ap (is_resumed t e sh.response sh.w) (ap (row_of t) aim ∙ there)) ∙ resumed in
@@ -225,8 +186,6 @@ module _ (limits : Limits) (t : Tables) (now : ℕ) (flaw : Flaw) (s : Sound t) 
               ]
 
       -- past the front of its own exchange nothing comes
-      piece_inj : (x y : ℕ) (a b : List ℕ) → event.Piece x a ≡ event.Piece y b → (x ≡ y) × (a ≡ b)
-      piece_inj x y a b is = (cc, cc)
 
       own_piece : (y : ℕ) (bytes : List ℕ) (a : Exchange) → is_written t v ≡ false → IsExclusiveWriter t r v c → fills_by.IsPiece t e r y bytes a → k.own ≡ Some y
       own_piece y bytes a off exclusive_writer is = by_had (s.writes.had r y v there (sound.headed a is.row taken.is_open taken.headed is.of_r (ap is_some there)))
@@ -236,8 +195,7 @@ module _ (limits : Limits) (t : Tables) (now : ℕ) (flaw : Flaw) (s : Sound t) 
 
           by_row : (d : ℕ) (q : Consumer) → IsBound t r d q → d ≡ c → own_open t q ≡ Some y → k.own ≡ Some y
           by_row d q (sound.is_bound l h g q_row q_at) same owned =
-              let one : q ≡ k = same_row (t.consumer c) q k (sym (ap t.consumer same) ∙ q_row) row.row in
-              ap (λ (w : Consumer). w.own) (sym one) ∙ (own_open_of t q y owned).own
+              ap (λ (w : Consumer). w.own) (sym (same_row (t.consumer c) q k (sym (ap t.consumer same) ∙ q_row) row.row)) ∙ (own_open_of t q y owned).own
 
           by_had : IsHad t r v y → k.own ≡ Some y
           by_had (sound.shared on writer) = absurd (false_true (sym off ∙ on))
@@ -253,8 +211,7 @@ module _ (limits : Limits) (t : Tables) (now : ℕ) (flaw : Flaw) (s : Sound t) 
           by_brings : (bytes : List ℕ) → ev ≡ event.Piece x bytes → Brings t e x w z → front w + length bytes ≤ d
           by_brings bytes here (fills_by.still none_of body_is) = absurd (none_of bytes here)
           by_brings bytes here (fills_by.more other also body_is) =
-              let more : bytes ≡ other = (piece_inj x x bytes other (sym here ∙ also)).1 in
-              let count : length bytes ≡ length other = ap (λ (b : List ℕ). length b) more in
+              let count : length bytes ≡ length other = ap (λ (b : List ℕ). length b) cc in
               let first : base z ≡ base w = (no_head bytes here same.heard_or).base_is in
               let longer : length z.body ≡ length w.body + length other = ap (λ (b : List ℕ). length b) body_is ∙ length-append w.body other in
               omega arith
@@ -263,10 +220,8 @@ module _ (limits : Limits) (t : Tables) (now : ℕ) (flaw : Flaw) (s : Sound t) 
           by_fills (fills_by.still none_of body_is stored_is reach_is) = ap (λ (f : Cells). f d) body_is
           by_fills (fills_by.more y bytes a is body_is stored_is reach_is) =
               let number : y ≡ x = some_inj y x (sym (own_piece y bytes a off exclusive_writer is) ∙ owned) in
-              let here : ev ≡ event.Piece x bytes = is.at ∙ ap (λ n. event.Piece n bytes) number in
-              let one : a ≡ w = same_row (t.exchange x) a w (sym (ap t.exchange number) ∙ is.row) exchange_row in
-              let far : front w + length bytes ≤ d = by_brings bytes here (brings t e x w z exchange_row after_x) in
-              let front_is : front a ≡ front w = ap (λ (b : Exchange). front b) one in
+              let far : front w + length bytes ≤ d = by_brings bytes (is.at ∙ ap (λ n. event.Piece n bytes) number) (brings t e x w z exchange_row after_x) in
+              let front_is : front a ≡ front w = ap (λ (b : Exchange). front b) (same_row (t.exchange x) a w (sym (ap t.exchange number) ∙ is.row) exchange_row) in
               ap (λ (f : Cells). f d) body_is ∙ (let past = inside-past (front a) (length bytes) d (omega arith) in rw past refl)
 
       -- at a poll nothing comes
@@ -290,9 +245,8 @@ module _ (limits : Limits) (t : Tables) (now : ℕ) (flaw : Flaw) (s : Sound t) 
 
           kept_ahead : (x : ℕ) → k.own ≡ Some x → u.own ≡ Some x → IsAlone now_on p u
           kept_ahead x owned owned_now =
-              let number : a.x ≡ x = some_inj a.x x (sym a.own ∙ owned) in
-              let w_row : t.exchange x ≡ Some a.w = sym (ap t.exchange number) ∙ a.row in
-              let g = forward.is_on t e x a.w w_row in
+              let w_row : t.exchange x ≡ Some a.w = sym (ap t.exchange (some_inj a.x x (sym a.own ∙ owned))) ∙ a.row in
+              let g = is_on t e x a.w w_row in
               made x g.u owned_now g.row (λ d le from_u.
               let begins : offset now_on u ≤ d = from_u in
               let before : offset t k ≤ offset now_on u = more_offset in
@@ -313,14 +267,10 @@ module _ (limits : Limits) (t : Tables) (now : ℕ) (flaw : Flaw) (s : Sound t) 
               fronts : (x : ℕ) (w z : Exchange) → IsSame t e x w z → now_on.exchange x ≡ Some z → t.exchange x ≡ Some w → (d : ℕ) → front z ≤ d → front w ≤ d
               fronts x w z same after_x w_row d le = by_heard x w z same after_x w_row d le same.heard_or
 
-          past_hole : (from_at to_at : ℕ) → OpensHole t c k from_at to_at → front a.w ≤ offset t k
-          past_hole from_at to_at (tree.first q y span hole is aims q_row nobody found lo_is hi_is) =
-              let number : r ≡ q = some_inj r q (sym (ap (Rattle.hc_model.specs.ExchangeRows.aim_from t k.request.key) at) ∙ aims) in
-              absurd (bound_some t r c k s.numbered reader (ap (Rattle.hc_model.specs.Reading.bound t) number ∙ nobody))
-          past_hole from_at to_at (tree.later q end n y stands_at none_held lo_is up) =
-              let number : q ≡ r = bound_number q stands_at.is_reader in
-              let one : y ≡ v = same_row (t.representation r) y v (sym (ap t.representation number) ∙ stands_at.row) there in
-              let gone : v.body (offset t k) ≡ None = ap (λ (b : Representation). b.body (offset t k)) (sym one) ∙ not_come t q c end n y k s stands_at none_held (has_exclusive_writer t q c end y k s stands_at) in
+          past_hole : (q : Opening) → OpensLater t c k q.need → front a.w ≤ offset t k
+          past_hole q l =
+              let one : l.v ≡ v = same_row (t.representation r) l.v v (sym (ap t.representation (bound_number l.r l.at_hole.is_reader)) ∙ l.at_hole.row) there in
+              let gone : v.body (offset t k) ≡ None = ap (λ (b : Representation). b.body (offset t k)) (sym one) ∙ not_come t l.r c l.end l.most l.v k s l.at_hole l.unheld (has_exclusive_writer t l.r c l.end l.v k s l.at_hole) in
               elim (split (offset t k) (front a.w)) [
                 | inl before ↦ absurd (let has = a.covered (offset t k) (omega arith) before in let never : false ≡ true = rw gone at has in false_true never)
                 | inr past ↦ past
@@ -333,21 +283,11 @@ module _ (limits : Limits) (t : Tables) (now : ℕ) (flaw : Flaw) (s : Sound t) 
           opened_ahead x q opens mine owned_now =
               let by_poll = is_opened limits t now flaw s o ev goes q opens in
               let z = some_row (now_on.exchange x) (there_kept limits t now flaw s o ev goes c x u after_row owned_now) in
-              let one : by_poll.k ≡ k = same_row (t.consumer c) by_poll.k k (sym (ap t.consumer mine) ∙ by_poll.row) row.row in
-              let far : front a.w ≤ offset t k = by_way (subst (λ (b : Consumer). opened.Way t now c b q.need) one (subst (λ d. opened.Way t now d by_poll.k q.need) mine by_poll.way.way)) in
+              let far : front a.w ≤ offset t k = past_hole q (opens_later limits t now flaw s o ev goes c r lo hi how k q row.row at opens mine) in
               made x z.0 owned_now z.1 (λ d le from_u.
               let begins : offset now_on u ≤ d = from_u in
               let before : offset t k ≤ offset now_on u = more_offset in
               ap (λ (f : Cells). f d) still ∙ (a.ahead d (omega arith) (omega arith) ∙ sym (ap (λ (f : Cells). f d) (body_same q.c by_poll.want by_poll.at))))
-            where
-              by_way : opened.Way t now c k q.need → front a.w ≤ offset t k
-              by_way (opened.passes_by unbound way) = absurd (none_some r (sym unbound ∙ ap bound_to at))
-              by_way (opened.fetches unbound way cached) = absurd (none_some r (sym unbound ∙ ap bound_to at))
-              by_way (opened.fills y b span gap unbound way is_current b_row wants found need_is cached) = absurd (none_some r (sym unbound ∙ ap bound_to at))
-              by_way (opened.goes_on y b d g there_at way) =
-                  let h = hole_is q.need way in
-                  let opener = is_opener limits t now flaw s ev goes c k q row.row opens mine in
-                  past_hole h.from h.to (opens_hole t c k q now opener.want s row.row opener.opening h.from h.to h.is)
 
           by_from : (x : ℕ) → u.own ≡ Some x → OwnFrom t e c x u → IsAlone now_on p u
           by_from x owned_now (own.kept q q_row mine heard_mine) = kept_ahead x (ap (λ (b : Consumer). b.own) (same_row (t.consumer c) k q row.row q_row.row) ∙ mine) owned_now
@@ -376,7 +316,7 @@ module _ (limits : Limits) (t : Tables) (now : ℕ) (flaw : Flaw) (s : Sound t) 
           kept_ahead : (x : ℕ) → k.own ≡ Some x → u.own ≡ Some x → IsAlone now_on p u
           kept_ahead x owned owned_now =
               let w = some_row (t.exchange x) (o.there c x k row.row owned) in
-              let g = forward.is_on t e x w.0 w.1 in
+              let g = is_on t e x w.0 w.1 in
               made x g.u owned_now g.row (λ d le from_u. still d ∙ sym (past_front x w.0 g.u x_alone.unwritten (sound.first fresh x_alone.first) owned w.1 g.same g.row d le))
 
           opened_ahead : (x : ℕ) (q : Opening) → opening_in e.acts ≡ Some q → u.own ≡ Some x → IsAlone now_on p u
@@ -412,21 +352,15 @@ module _ (limits : Limits) (t : Tables) (now : ℕ) (flaw : Flaw) (s : Sound t) 
       was_bound : IsAlone now_on p u
       was_bound = by_exclusive_writer (alone_from limits t now flaw s o m ev goes real r c v p there kept lost_now is_alone)
 
-    by_way : BoundFrom t e c r lo hi how u → RepFrom t e r p → IsAlone now_on p u
-    by_way (from.stays k row at) (rep.was v kept) = was_bound k v row at kept.row kept
-    by_way (from.stays k row at) (rep.founded response w none_there here exchange_row on is_made) = absurd (false_true (ap (λ (b : Representation). b.is_lost) is_made ∙ lost_now))
-    by_way (from.founds k x response w row here exchange_row mine of_it by_is all) from_rep = absurd (founds_not r c lo hi how u p after after_row stands lost_now is_alone x response w here exchange_row of_it from_rep)
-    by_way (from.opens k q row opens mine free way hole) from_rep = absurd (opens_not r c lo hi how u p after after_row stands lost_now is_alone k q row opens mine free hole from_rep)
-    by_way (from.shows k a row is all) from_rep = absurd (shown_not r c lo hi how u p after after_row stands lost_now is_alone k a row is all from_rep)
-
   pub lost_of : (r c : ℕ) (p : Representation) → now_on.representation r ≡ Some p → p.alone ≡ Some c → p.is_lost ≡ true
-  lost_of r c p after is_alone = by_test p.is_lost refl
-    where
-      by_test : (b : Bool) → p.is_lost ≡ b → b ≡ true
-      by_test true lost = refl
-      by_test false fresh = absurd (none_some c (sym ((stores_are_kept limits t now flaw s ev goes r p after).nobody_alone fresh) ∙ is_alone))
+  lost_of r c p after is_alone = elim (bool_cases p.is_lost) [
+    | inl lost ↦ lost
+    | inr fresh ↦ absurd (none_some c (sym ((stores_are_kept limits t now flaw s ev goes r p after).nobody_alone fresh) ∙ is_alone))
+  ]
 
   -- The detached reader reads on soundly.
   pub go_alone : GoAlone now_on
   go_alone r c p u after is_alone (sound.is_bound lo hi how after_row stands) none =
-      by_way r c lo hi how u p after after_row stands none (lost_of r c p after is_alone) is_alone (bound_from t e c r lo hi how (t.consumer c) u refl after_row stands) (rep_from t e r (t.representation r) p refl after)
+      let lost = lost_of r c p after is_alone in
+      let b = was_there r c lo hi how u p after after_row stands lost is_alone in
+      was_bound r c lo hi how u p after after_row stands none lost is_alone b.k b.v b.row b.at b.kept.row b.kept

@@ -36,19 +36,7 @@ has_it t key c is = with_it (holder t key) (least (line t key)) c is
 turn_goes : (t : Tables) (c d : ℕ) (k : Consumer) (m : Move) → Does t c k m → turn_with t k.request.key c ≡ c → m ≡ moves.Waits (wait.Turn d) → ⊥
 turn_goes t c d k _ (does.waits_turn d' is_new other back) has is =
     let no_one : false ≡ true = sym other ∙ (ap (λ n. nat_eq n c) has ∙ eq-refl c) in cc
-turn_goes t c d k _ does.nothing has is = not_it is_turn _ _ refl refl is
-turn_goes t c d k _ (does.passes d' r is_new queues may) has is = not_it is_turn _ _ refl refl is
-turn_goes t c d k _ (does.waits_head x) has is = not_it is_turn _ _ refl refl is
-turn_goes t c d k _ (does.waits_body x) has is = not_it is_turn _ _ refl refl is
-turn_goes t c d k _ (does.asks x) has is = not_it is_turn _ _ refl refl is
-turn_goes t c d k _ (does.past n request way is_new) has is = not_it is_turn _ _ refl refl is
-turn_goes t c d k _ (does.fetches n request way is_new queues turn_is varied bypass) has is = not_it is_turn _ _ refl refl is
-turn_goes t c d k _ (does.first n request r lo hi way is_new bound) has is = not_it is_turn _ _ refl refl is
-turn_goes t c d k _ (does.later n request r lo hi how way shown bound) has is = not_it is_turn _ _ refl refl is
-turn_goes t c d k _ (does.shows r why head lo hi joined) has is = not_it is_turn _ _ refl refl is
-turn_goes t c d k _ (does.given run) has is = not_it is_turn _ _ refl refl is
-turn_goes t c d k _ does.ends has is = not_it is_turn _ _ refl refl is
-turn_goes t c d k _ (does.fails cause) has is = not_it is_turn _ _ refl refl is
+turn_goes t c d k _ _ has is = not_it is_turn _ _ refl refl is
 
 pub turns_go : TurnsGo
 turns_go t s turns now c want d k row has is = turn_goes t c d k _ (does_polled t c k s turns row now want) (has_it t k.request.key c has) is
@@ -58,18 +46,7 @@ turns_go t s turns now c want d k row has is = turn_goes t c d k _ (does_polled 
 bound_goes : (t : Tables) (c r : ℕ) (k : Consumer) (m : Move) → Does t c k m → bound_to k.place ≡ Some r → waits_for m ≡ false
 bound_goes t c r k _ (does.waits_turn d is_new other back) bound = absurd (let no_one : None ≡ Some r = sym is_new.bound ∙ bound in cc)
 bound_goes t c r k _ (does.passes d q is_new queues may) bound = absurd (let no_one : None ≡ Some r = sym is_new.bound ∙ bound in cc)
-bound_goes t c r k _ does.nothing bound = refl
-bound_goes t c r k _ (does.waits_head x) bound = refl
-bound_goes t c r k _ (does.waits_body x) bound = refl
-bound_goes t c r k _ (does.asks x) bound = refl
-bound_goes t c r k _ (does.past n request way is_new) bound = refl
-bound_goes t c r k _ (does.fetches n request way is_new queues turn_is varied bypass) bound = refl
-bound_goes t c r k _ (does.first n request q lo hi way is_new here) bound = refl
-bound_goes t c r k _ (does.later n request q lo hi how way shown here) bound = refl
-bound_goes t c r k _ (does.shows q why head lo hi joined) bound = refl
-bound_goes t c r k _ (does.given run) bound = refl
-bound_goes t c r k _ does.ends bound = refl
-bound_goes t c r k _ (does.fails cause) bound = refl
+bound_goes t c r k _ _ bound = refl
 
 readers_by : (t : Tables) (s : Sound t) (turns : Turns t) (now c want r : ℕ) (k : Consumer) → t.consumer c ≡ Some k → bound_to k.place ≡ Some r → WaitsForNobody t now want c k
 readers_by t s turns now c want r k row bound =

@@ -1,24 +1,22 @@
 -- While a writing is on, just what its exchange has brought is stored, and it promises all that is missing.
-use Rattle.std.{proofs.{Common.{◌≡◌, ◌⊎◌, inl, inr, ℕ, zero, suc, ◌+◌, ◌-◌, ◌<◌, ◌≤◌, List, length, Bool, true, false, Option, Some, None, refl, ap, sym, ◌∙◌, subst, arith, max, min, length-append}, lemmas.Bool.Decides.{nat_tests}}, specs.Prelude.{if◌then◌else◌, is_some, is_none, ◌==◌, ◌&&◌, ◌||◌, not, nat_eq, nat_le, unwrap_or}}
-use Rattle.hc_text.proofs.Basics.{and_left, and_right, bool_cases, not_some as none_some, same_some as same_row, some_inj}
+use Rattle.std.{proofs.{Common.{◌≡◌, ◌⊎◌, inl, inr, ℕ, zero, suc, ◌+◌, ◌-◌, ◌<◌, ◌≤◌, List, length, Bool, true, false, Option, Some, None, refl, ap, sym, ◌∙◌, subst, arith, min, length-append}, lemmas.Bool.Decides.{nat_tests}}, specs.Prelude.{if◌then◌else◌, is_some, is_none, ◌==◌, ◌&&◌, ◌||◌, not, nat_eq, nat_le, unwrap_or}}
+use Rattle.hc_text.proofs.Basics.{both_false, and_left, and_right, bool_cases, not_some as none_some, same_some as same_row, some_inj}
 use Rattle.hc_sparse.specs.Cells.{cells_with, Cells, Covers}
 use Rattle.hc_sparse.proofs.CellLemmas.{inside-cases}
 use Rattle.hc_range.specs.declared.range.ContentRange.TheVariants as range
-use Rattle.hc_effects.proofs.Vocabulary.{Event, Response, Need, Length, Limits, head_case, length_of, base_of, promise_of, route_of, has_loss, loses_in, case_at, head_view, is_joining, row_of, denial, Entry, exchange_heard, exchange_acted, promise_in, base, promised_bytes, front, length_by, is_open, is_reached, Flaw, founded_total, covers, absent_from, entry_of, Measures, Owners, is_written, new_representation, resumes, hole_start, is_last_part, writer_at, Tables, Exchange, Representation, may_stand, Sound, IsGrowing, InHole, end_from, after_accepted}
+use Rattle.hc_effects.proofs.Vocabulary.{Event, Response, Need, Length, Limits, length_of, base_of, promise_of, route_of, has_loss, loses_in, case_at, is_joining, row_of, denial, Entry, exchange_heard, exchange_acted, promise_in, base, promised_bytes, front, length_by, is_open, is_reached, Flaw, covers, absent_from, entry_of, Measures, Owners, is_written, new_representation, resumes, hole_start, is_last_part, writer_at, Tables, Exchange, Representation, may_stand, Sound, IsGrowing, InHole, end_from, after_accepted}
 use Rattle.hc_event.specs.declared.event.Event.TheVariants as event
 use Rattle.hc_rules.specs.declared.length.Length.TheVariants as told
 use Rattle.hc_rules.specs.declared.need.Route.TheVariants as route
-use Rattle.hc_effects.proofs.{ApartKeeps.{IsOn, is_on, was_written}, Basics.{false_true, number_is}, ExchangeFrom.{IsSame, IsHeaded}, Fills.{Fills, fills, Brings, brings}, FirstKeeps.{case_is, is_new}, Forward.{after_is}, HeadKeeps.{IsJoin, is_join}, HoleLemmas.{covers_all, first_to}, MeasuresKeep.{held, IsHeld, total_same, one_piece}, PartTold.{part_told, whole_base, IsTold, part_order}, RepFrom.{RepFrom, rep_from, IsKept, IsResumed}}
+use Rattle.hc_effects.proofs.{ApartKeeps.{IsOn, is_on, was_written}, Basics.{false_true, number_is}, ExchangeFrom.{IsSame, IsHeaded}, Fills.{Fills, fills, Brings, brings}, FirstKeeps.{case_is, is_new}, Forward.{after_is}, HeadKeeps.{IsJoin, is_join}, HoleLemmas.{covers_all, first_to}, MeasuresKeep.{held, IsHeld, total_same, one_piece}, PartTold.{part_told, whole_base, IsTold, part_order}, RepFrom.{was, founded, IsEnded, RepFrom, rep_from, IsKept, IsResumed}}
 use Rattle.hc_effects.proofs.Fills as fills_by
 use Rattle.hc_effects.proofs.Forward as forward
 use Rattle.hc_laws.proofs.Founders.{founders_kept}
 use Rattle.hc_effects.proofs.PartTold as tells
-use Rattle.hc_effects.proofs.RepFrom as rep
 
 -- what covers from the first position on isn't past the reach
 covers_reach : (f : Cells) (reach hi : ℕ) → covers f reach 0 hi ≡ true → hi ≤ reach
 covers_reach f reach hi h =
-    let test : nat_le hi (absent_from f reach 0 hi) ≡ true = h in
     let below : hi ≤ absent_from f reach 0 hi = grind (arith, nat_tests) in
     let most : absent_from f reach 0 hi ≤ 0 + (min hi reach - 0) = first_to is_none f 0 (min hi reach - 0) in
     omega arith
@@ -26,10 +24,7 @@ covers_reach f reach hi h =
 -- a last part ends by the total
 last_is : (o : Option ℕ) (first last total n : ℕ) → o ≡ Some n → is_last_part o (Some (range.Part first last (Some total))) ≡ true → last + 1 ≡ n
 last_is None first last total n is h = absurd (none_some n is)
-last_is (Some k) first last total n is h =
-    let same : k ≡ n = some_inj k n is in
-    let test : nat_eq (last + 1) k ≡ true = h in
-    grind (arith, nat_tests)
+last_is (Some k) first last total n is h = grind (arith, nat_tests)
 
 covers_more : (at x : ℕ) (bytes : List ℕ) (f : Cells) → Covers f 0 at → Covers (cells_with at x bytes f) 0 (at + length bytes)
 covers_more at x bytes f all p lo lt = elim (inside-cases at (length bytes) p) [
@@ -62,10 +57,7 @@ module _ (limits : Limits) (t : Tables) (now : ℕ) (flaw : Flaw) (s : Sound t) 
 
     grown : Brings t e x w z → Fills t e r v u → IsGrown
     grown (fills_by.still none body_is) (fills_by.still none_of same_body stored_is reach_is) =
-        let first : base z ≡ base w = keeps.base_is in
         let count : length z.body ≡ length w.body = ap (λ (b : List ℕ). length b) body_is in
-        let was : front w ≡ v.reach = g.front_is in
-        let reach_now : u.reach ≡ v.reach = reach_is in
         record {
           front_is = omega arith;
           whole = λ p lo lt. ap (λ (f : Cells). is_some (f p)) stored_is ∙ g.whole p lo (let most : p < u.reach = lt in omega arith);
@@ -76,22 +68,15 @@ module _ (limits : Limits) (t : Tables) (now : ℕ) (flaw : Flaw) (s : Sound t) 
     grown (fills_by.more bytes here body_is) (fills_by.still none_of same_body stored_is reach_is) = absurd (none_of x bytes w (record { at = here; row = g.row; of_r = g.family_is }))
     grown (fills_by.more bytes here body_is) (fills_by.more y more q is body stored_is reach_is) =
         let it = one_piece limits t now flaw s o m ev goes x r y more w q v g.row (same.was_open on) g.headed g.family_is kept.row is in
-        let bytes_same : bytes ≡ more = piece_bytes x y bytes more (sym here ∙ is.at) in
         let longer : length z.body ≡ length w.body + length bytes = ap (λ (b : List ℕ). length b) body_is ∙ length-append w.body bytes in
         let front_is : front q ≡ front w = ap (λ (a : Exchange). front a) it.1 in
-        let count : length more ≡ length bytes = ap (λ (b : List ℕ). length b) (sym bytes_same) in
-        let reach_now : u.reach ≡ max v.reach (front q + length more) = reach_is in
-        let first : base z ≡ base w = keeps.base_is in
-        let was : front w ≡ v.reach = g.front_is in
+        let count : length more ≡ length bytes = ap (λ (b : List ℕ). length b) (sym cc) in
         let stored_now : u.stored ≡ cells_with (front q) y more v.stored = stored_is ∙ ap (λ b. if not b then cells_with (front q) y more v.stored else v.stored) stored_on in
         let all : Covers v.stored 0 (front q) = (λ p lo lt. g.whole p lo (let lt_it : p < front q = lt in omega arith)) in
         record {
           front_is = omega arith;
           whole = λ p lo lt. ap (λ (f : Cells). is_some (f p)) stored_now ∙ covers_more (front q) y more v.stored all p lo (let lt_it : p < u.reach = lt in omega arith);
         }
-      where
-        piece_bytes : (a b : ℕ) (c d : List ℕ) → event.Piece a c ≡ event.Piece b d → c ≡ d
-        piece_bytes a b c d is = cc
 
     still_growing : IsGrowing now_on r u x z
     still_growing =
@@ -136,26 +121,17 @@ module _ (limits : Limits) (t : Tables) (now : ℕ) (flaw : Flaw) (s : Sound t) 
     -- RESUMED
 
     module _ (r : ℕ) (v u : Representation) (kept : IsKept t e r v u) (joins : is_joining (case_at t e) ≡ true) (aim : w.aim ≡ Some r) (resumed : resumes t got.response w v ≡ true) where
-      first_case : is_joining (Some (head_case (head_view t (has_loss e.acts) w got.response))) ≡ true
-      first_case = sym (ap is_joining (case_is t e x got.response w got.at row)) ∙ joins
-
       j : IsJoin t w got.response
-      j = is_join t (has_loss e.acts) w got.response first_case
-
-      same_v : j.fills.v ≡ v
-      same_v = same_row (t.representation r) j.fills.v v (sym (ap (row_of t) aim) ∙ j.fills.row) kept.row
+      j = is_join t (has_loss e.acts) w got.response (sym (ap is_joining (case_is t e x got.response w got.at row)) ∙ joins)
 
       known : v.head.total ≡ Some j.fills.total
-      known = ap (λ (a : Representation). a.head.total) (sym same_v) ∙ j.fills.known
-
-      start_is : hole_start w.need ≡ j.fills.from
-      start_is = ap hole_start j.fills.need_is
+      known = ap (λ (a : Representation). a.head.total) (sym (same_row (t.representation r) j.fills.v v (sym (ap (row_of t) aim) ∙ j.fills.row) kept.row)) ∙ j.fills.known
 
       last : j.fills.last + 1 ≡ j.fills.total
       last = last_is v.head.total j.fills.from j.fills.last j.fills.total j.fills.total known (ap (is_last_part v.head.total) (sym j.fills.part) ∙ and_right _ _ (and_left _ _ (and_left _ _ resumed)))
 
       covered : covers v.stored v.reach 0 j.fills.from ≡ true
-      covered = ap (covers v.stored v.reach 0) (sym start_is) ∙ and_right _ _ (and_left _ _ resumed)
+      covered = ap (covers v.stored v.reach 0) (sym (ap hole_start j.fills.need_is)) ∙ and_right _ _ (and_left _ _ resumed)
 
       in_hole : (p : ℕ) → j.fills.from ≤ p → p < j.fills.to → InHole w.need p
       in_hole p lo hi = subst (λ (n : Need). InHole n p) (sym j.fills.need_is) (lo, hi)
@@ -165,8 +141,7 @@ module _ (limits : Limits) (t : Tables) (now : ℕ) (flaw : Flaw) (s : Sound t) 
           let most : v.reach ≤ j.fills.total = m.within r j.fills.total v kept.row known in
           let all : j.fills.last + 1 ≡ j.fills.total = last in
           let within : j.fills.last < j.fills.to = j.fills.within in
-          let none = s.waits.holes x w r v n row (same.was_open on) bare aim kept.row (in_hole n le (omega arith)) in
-          false_true (sym (ap is_some none) ∙ m.tight r n v kept.row ends)
+          false_true (sym (ap is_some (s.waits.holes x w r v n row (same.was_open on) bare aim kept.row (in_hole n le (omega arith)))) ∙ m.tight r n v kept.row ends)
 
       reach_by : (n : ℕ) → v.reach ≡ n → v.reach ≤ j.fills.from
       reach_by zero is = omega arith
@@ -185,7 +160,7 @@ module _ (limits : Limits) (t : Tables) (now : ℕ) (flaw : Flaw) (s : Sound t) 
       unpieced (fills_by.still none body_is stored_is same_reach) = (stored_is, same_reach)
       unpieced (fills_by.more y bytes q is body_is stored_is more_reach) = absurd (let no : event.Head x got.response ≡ event.Piece y bytes = sym got.at ∙ is.at in cc)
 
-      total_kept : (u.head.total ≡ v.head.total) ⊎ rep.IsEnded t e r v u.head.total → u.head.total ≡ v.head.total
+      total_kept : (u.head.total ≡ v.head.total) ⊎ IsEnded t e r v u.head.total → u.head.total ≡ v.head.total
       total_kept (inl is) = is
       total_kept (inr ends) = absurd (let no : event.Head x got.response ≡ event.End r = sym got.at ∙ ends.at in cc)
 
@@ -228,16 +203,14 @@ module _ (limits : Limits) (t : Tables) (now : ℕ) (flaw : Flaw) (s : Sound t) 
     now_founded u made there off =
         let first : base z ≡ 0 = ap base_of length_is ∙ whole_base w.need w.request got.response off in
         let none : length z.body ≡ 0 = body_none in
-        let alone : z.joined ≡ None = founders_kept limits t now flaw s o ev goes x z u after_row there in
         let reach_now : 0 ≡ u.reach = ap (λ (a : Representation). a.reach) made in
-        let total_now : founded_total w got.response ≡ promise_of told_length = rw off refl in
         record {
           row = after_row;
-          family_is = ap (λ (n : Option ℕ). unwrap_or n x) alone;
+          family_is = ap (λ (n : Option ℕ). unwrap_or n x) (founders_kept limits t now flaw s o ev goes x z u after_row there);
           headed = ap (λ (a : Option Response). is_some a) got.head_is;
           front_is = omega arith;
           whole = λ p lo lt. absurd (let lt_it : p < u.reach = lt in omega arith);
-          promise = sym (ap (λ (a : Representation). a.head.total) made) ∙ (total_now ∙ (sym (ap promise_of length_is) ∙ zero_end (promised_bytes z) (base z) first));
+          promise = sym (ap (λ (a : Representation). a.head.total) made) ∙ (rw off refl ∙ (sym (ap promise_of length_is) ∙ zero_end (promised_bytes z) (base z) first));
         }
 
   -- ALL OF IT
@@ -252,10 +225,6 @@ module _ (limits : Limits) (t : Tables) (now : ℕ) (flaw : Flaw) (s : Sound t) 
   open_of : (x : ℕ) (z : Exchange) → now_on.exchange x ≡ Some z → is_open (now_on.exchange x) ≡ true → z.is_open ≡ true
   open_of x z row on = sym (ap is_open row) ∙ on
 
-  or_off : (a b : Bool) → a ≡ false → b ≡ false → (a || b) ≡ false
-  or_off true b p q = absurd (false_true (sym p))
-  or_off false b p q = q
-
   was_growing : (stand : may_stand limits t e ≡ true) (r x : ℕ) (v u : Representation) → IsKept t e r v u → IsOn now_on u x → u.writer ≡ Some x → u.writer ≡ v.writer → (z : Exchange) × IsGrowing now_on r u x z
   was_growing stand r x v u kept on writer same_writer =
       let all = was_written limits t now flaw s o ev goes stand r x v u kept on same_writer writer in
@@ -263,28 +232,22 @@ module _ (limits : Limits) (t : Tables) (now : ℕ) (flaw : Flaw) (s : Sound t) 
       let g = grows.1 in
       let goes_on = forward.is_on t e x grows.0 g.row in
       let opened = open_of x goes_on.u goes_on.row on.open_now in
-      (goes_on.u, by_heard grows.0 goes_on.u g goes_on.row goes_on.same opened (or_off v.is_lost (loses_in r e.acts) (is_on t v x all.0 all.1).kept all.2) goes_on.same.heard_or)
+      (goes_on.u, by_heard grows.0 goes_on.u g goes_on.row goes_on.same opened (both_false v.is_lost (loses_in r e.acts) (is_on t v x all.0 all.1).kept all.2) goes_on.same.heard_or)
     where
       by_heard : (w z : Exchange) → IsGrowing t r v x w → now_on.exchange x ≡ Some z → IsSame t e x w z → z.is_open ≡ true → (v.is_lost || loses_in r e.acts) ≡ false → ((z.head ≡ w.head) × (z.joined ≡ w.joined)) ⊎ IsHeaded t e x w z → IsGrowing now_on r u x z
       by_heard w z g after same opened stored_on (inl still) = still_growing r x w z v u g same (held limits t now flaw s o m ev goes x w z same still.0 still.1) opened after kept stored_on
       by_heard w z g after same opened stored_on (inr got) =
-          let none = (is_new limits t now flaw s ev goes x got.response w got.at g.row).bare in
-          absurd (false_true (sym (ap (λ (a : Option Response). is_some a) none) ∙ g.headed))
+          absurd (false_true (sym (ap (λ (a : Option Response). is_some a) ((is_new limits t now flaw s ev goes x got.response w got.at g.row).bare)) ∙ g.headed))
 
   is_resumed : (r x : ℕ) (v u : Representation) → IsKept t e r v u → IsOn now_on u x → u.writer ≡ Some x → IsResumed t e r v u.writer → (z : Exchange) × IsGrowing now_on r u x z
   is_resumed r x v u kept on writer R =
       let same_x : R.x ≡ x = some_inj R.x x (sym R.writer_is ∙ writer) in
       let row : t.exchange x ≡ Some R.w = sym (ap t.exchange same_x) ∙ R.row in
-      let at : ev ≡ event.Head x R.response = R.at ∙ ap (λ n. event.Head n R.response) same_x in
       let goes_on = forward.is_on t e x R.w row in
-      let got = headed_of x R.w goes_on.u R.response at goes_on.same row in
+      let got = headed_of x R.w goes_on.u R.response (R.at ∙ ap (λ n. event.Head n R.response) same_x) goes_on.same row in
       let aim : R.w.aim ≡ Some r = number_is R.w.aim r (and_right _ _ (and_left _ _ R.renews)) in
-      let answers : event.Head x R.response ≡ event.Head x got.response = sym at ∙ got.at in
-      let answer : R.response ≡ got.response = head_inj x R.response got.response answers in
+      let answer : R.response ≡ got.response = cc in
       (goes_on.u, now_resumed x R.w goes_on.u row goes_on.same (open_of x goes_on.u goes_on.row on.open_now) goes_on.row got r v u kept R.joins aim (ap (λ a. resumes t a R.w v) (sym answer) ∙ R.resumed))
-    where
-      head_inj : (n : ℕ) (a c : Response) → event.Head n a ≡ event.Head n c → a ≡ c
-      head_inj n a c is = cc
 
   is_founded : (r x : ℕ) (response : Response) (w : Exchange) (u : Representation) → ev ≡ event.Head r response → t.exchange r ≡ Some w → new_representation r e response w ≡ u → now_on.representation r ≡ Some u → IsOn now_on u x → u.writer ≡ Some x → (z : Exchange) × IsGrowing now_on r u x z
   is_founded r x response w u here row made there on writer =
@@ -293,21 +256,18 @@ module _ (limits : Limits) (t : Tables) (now : ℕ) (flaw : Flaw) (s : Sound t) 
       let number : r ≡ x = some_inj r x (sym (ap (λ b. if b then None else Some r) off) ∙ writes) in
       let goes_on = forward.is_on t e r w row in
       let got = headed_of r w goes_on.u response here goes_on.same row in
-      let answer : response ≡ got.response = head_inj r response got.response (sym here ∙ got.at) in
+      let answer : response ≡ got.response = cc in
       let opened = open_of r goes_on.u goes_on.row (ap (λ n. is_open (now_on.exchange n)) number ∙ on.open_now) in
       let grows : IsGrowing now_on r u r goes_on.u = now_founded r w goes_on.u row goes_on.same opened goes_on.row got u (ap (λ (a : Response). new_representation r e a w) (sym answer) ∙ made) there (ap (λ (a : Response). a.status == 206) (sym answer) ∙ off) in
       (goes_on.u, subst (λ n. IsGrowing now_on r u n goes_on.u) number grows)
-    where
-      head_inj : (n : ℕ) (a c : Response) → event.Head n a ≡ event.Head n c → a ≡ c
-      head_inj n a c is = cc
 
   growing_by : may_stand limits t e ≡ true → (r x : ℕ) (u : Representation) → now_on.representation r ≡ Some u → IsOn now_on u x → u.writer ≡ Some x → RepFrom t e r u → (z : Exchange) × IsGrowing now_on r u x z
-  growing_by stand r x u there on writer (rep.was v kept) = by_writer kept.writer_is
+  growing_by stand r x u there on writer (was v kept) = by_writer kept.writer_is
     where
       by_writer : (u.writer ≡ v.writer) ⊎ IsResumed t e r v u.writer → (z : Exchange) × IsGrowing now_on r u x z
       by_writer (inl same) = was_growing stand r x v u kept on writer same
       by_writer (inr R) = is_resumed r x v u kept on writer R
-  growing_by stand r x u there on writer (rep.founded response w none here row founding made) = is_founded r x response w u here row made there on writer
+  growing_by stand r x u there on writer (founded response w none here row founding made) = is_founded r x response w u here row made there on writer
 
   -- Writings grow by what their exchanges bring.
   pub growing_kept : may_stand limits t e ≡ true → (r x : ℕ) (u : Representation) → now_on.representation r ≡ Some u → is_written now_on u ≡ true → u.writer ≡ Some x → (z : Exchange) × IsGrowing now_on r u x z

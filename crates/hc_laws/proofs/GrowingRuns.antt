@@ -1,14 +1,13 @@
 -- One exchange at most brings a representation, and where it stops nothing brings it any more, in every run.
 use Rattle.std.{proofs.{Common.{◌≡◌, inl, inr, ℕ, List, [], ◌∷◌, Bool, true, false, Option, Some, None, refl, ap, sym, ◌∙◌, subst, arith}, lemmas.Bool.Decides.{nat_tests}}, specs.{Prelude.{if◌then◌else◌, is_some, ◌==◌, unwrap_or, nat_eq}, List.{list_any}}}
-use Rattle.hc_text.proofs.Basics.{and_left, and_right, bool_cases, not_some as none_some}
+use Rattle.hc_text.proofs.Basics.{none_of, and_left, bool_cases, not_some as none_some}
 use Rattle.hc_effects.proofs.Vocabulary.{is_denied, Event, Response, Limits, has_loss, case_at, is_joining, denial, Entry, family, is_open, Flaw, flaw_in, Grows, IsComing, entry_of, is_growing, brings_to, OfRuns, Measures, IsMeasured, is_written, Tables, Exchange, Representation, Sound, IsAbout, tables, after_accepted, after_denied}
 use Rattle.hc_model.specs.Growing.{Growing, StopsGrowing, StopsInRuns}
 use Rattle.hc_model.specs.Measures as measures
 use Rattle.hc_model.specs.Sound as sound
-use Rattle.hc_effects.proofs.{ApartKeeps.{is_on}, Basics.{false_true, some_row}, ExchangeFrom.{ExchangeFrom, exchange_from, IsHeaded}, FirstKeeps.{is_new, case_is}, HeadKeeps.{is_join, is_aimed}, OfEntries.{of_real}, ExclusiveWriters.{writer_some}}
+use Rattle.hc_effects.proofs.{RepFrom.{stays}, ApartKeeps.{is_on}, Basics.{false_true, some_row}, ExchangeFrom.{ExchangeFrom, exchange_from, IsHeaded}, FirstKeeps.{is_new, case_is}, HeadKeeps.{is_join, is_aimed}, OfEntries.{of_real}, ExclusiveWriters.{writer_some}}
 use Rattle.hc_laws.proofs.{Barred.{next_tables, denied_tables}, FitsKept.{any_some}, SoundRuns.{carried}, Unknowns.{Unknown}, WaitsInRuns.{unknown_in_runs}}
 use Rattle.hc_effects.proofs.ExchangeFrom as exchange
-use Rattle.hc_effects.proofs.RepFrom as rep
 
 any_of : (test : ℕ → Bool) (ns : List ℕ) → list_any test ns ≡ true → (n : ℕ) × (test n ≡ true)
 any_of test [] h = absurd (false_true h)
@@ -18,19 +17,18 @@ any_of test (n ∷ ns) h = elim (bool_cases (test n)) [ inl on ↦ (n, on) | inr
 
 module _ (t : Tables) (s : Sound t) where
   -- one without a head brings nothing of what is there
-  brings_headed : (x r : ℕ) (w : Exchange) (v : Representation) → t.exchange x ≡ Some w → t.representation r ≡ Some v → family x w ≡ r → is_some w.head ≡ true
-  brings_headed x r w v row there of_r = by_head w.head refl
-    where
-      by_head : (q : Option Response) → w.head ≡ q → is_some q ≡ true
-      by_head (Some response) is = refl
-      by_head None bare =
-          let own : x ≡ r = sym (ap (λ (q : Option ℕ). unwrap_or q x) (s.waits.headless x w row bare).1) ∙ of_r in
-          absurd (none_some v (sym (s.numbered.names.unfounded x w row bare) ∙ (ap t.representation own ∙ there)))
+  pub brings_headed : (x r : ℕ) (w : Exchange) (v : Representation) → t.exchange x ≡ Some w → t.representation r ≡ Some v → family x w ≡ r → is_some w.head ≡ true
+  brings_headed x r w v row there of_r = elim (bool_cases (is_some w.head)) [
+    | inl headed ↦ headed
+    | inr off ↦
+        let bare = none_of w.head off in
+        let own : x ≡ r = sym (ap (λ (q : Option ℕ). unwrap_or q x) (s.waits.headless x w row bare).1) ∙ of_r in
+        absurd (none_some v (sym (s.numbered.names.unfounded x w row bare) ∙ (ap t.representation own ∙ there)))
+  ]
 
   grows_of : (x r : ℕ) (v : Representation) (q : Option Exchange) → t.representation r ≡ Some v → t.exchange x ≡ q → brings_to r x q ≡ true → Grows t x r
   grows_of x r v None there row h = absurd (false_true h)
   grows_of x r v (Some w) there row h =
-      let test : nat_eq (family x w) r ≡ true = and_right w.is_open _ h in
       let of_r : family x w ≡ r = grind (arith, nat_tests) in
       record { w = w; row = row; is_open = and_left _ (family x w == r) h; headed = brings_headed x r w v row there of_r; of_r = of_r }
 
@@ -39,7 +37,6 @@ module _ (t : Tables) (s : Sound t) where
 
   pub grows_by : (r x : ℕ) → Grows t x r → is_growing t r ≡ true
   grows_by r x g =
-      let same : family x g.w ≡ r = g.of_r in
       let test : nat_eq (family x g.w) r ≡ true = grind (arith, nat_tests) in
       any_some (λ y. brings_to r y (t.exchange y)) x t.openings (s.numbered.lists.opened x (ap (λ (q : Option Exchange). is_some q) g.row)) (ap (brings_to r x) g.row ∙ rw (g.is_open, test) refl)
 
@@ -70,11 +67,10 @@ module _ (t : Tables) (s : Sound t) where
             by_growing x u.written u.whole writer ((s.rows r v there).growing x u.written writer)
 
     known_by : (r : ℕ) (v : Representation) → t.representation r ≡ Some v → v.is_gone ≡ false → is_growing t r ≡ false → is_some v.head.total ≡ true
-    known_by r v there not_gone still = by_total v.head.total refl
-      where
-        by_total : (q : Option ℕ) → v.head.total ≡ q → is_some q ≡ true
-        by_total (Some n) is = refl
-        by_total None none = absurd (false_true (sym still ∙ grows_by r r (coming_by r v there not_gone none).grows))
+    known_by r v there not_gone still = elim (bool_cases (is_some v.head.total)) [
+      | inl known ↦ known
+      | inr off ↦ absurd (false_true (sym still ∙ grows_by r r (coming_by r v there not_gone (none_of v.head.total off)).grows))
+    ]
 
     growing_by : Growing t
     growing_by = record {
@@ -107,12 +103,10 @@ module _ (limits : Limits) (t : Tables) (now : ℕ) (flaw : Flaw) (s : Sound t) 
           let hole = is_join t (has_loss e.acts) w got.response (sym (ap is_joining (case_is t e y got.response w got.at row)) ∙ joins) in
           let aimed = is_aimed t w got.response hole in
           let joined : g.w.joined ≡ Some aimed.r = got.joined_is ∙ (ap (λ (b : Bool). if b then w.aim else w.joined) joins ∙ aimed.aim) in
-          let one : aimed.r ≡ r = sym (ap (λ (q : Option ℕ). unwrap_or q y) joined) ∙ g.of_r in
-          sound.asks w hole.fills.from hole.fills.to row new.is_open new.bare hole.fills.need_is (aimed.aim ∙ ap Some one)
+          sound.asks w hole.fills.from hole.fills.to row new.is_open new.bare hole.fills.need_is (aimed.aim ∙ ap Some (sym (ap (λ (q : Option ℕ). unwrap_or q y) joined) ∙ g.of_r))
       | inr other ↦
           let alone : g.w.joined ≡ None = got.joined_is ∙ (ap (λ (b : Bool). if b then w.aim else w.joined) other ∙ (s.waits.headless y w row new.bare).1) in
-          let own : y ≡ r = sym (ap (λ (q : Option ℕ). unwrap_or q y) alone) ∙ g.of_r in
-          absurd (none_some v (sym new.unfounded ∙ (ap t.representation own ∙ there)))
+          absurd (none_some v (sym new.unfounded ∙ (ap t.representation (sym (ap (λ (q : Option ℕ). unwrap_or q y) alone) ∙ g.of_r) ∙ there)))
     ]
       where
         new : Rattle.hc_effects.proofs.FirstKeeps.IsNew limits t now flaw s ev goes y w
@@ -129,7 +123,7 @@ module _ (limits : Limits) (t : Tables) (now : ℕ) (flaw : Flaw) (s : Sound t) 
   stops_by later r x v there g off = elim (bool_cases (is_growing now_on r)) [
     | inr still ↦ still
     | inl on ↦
-        let row = some_row (now_on.representation r) (rep.stays t e r (t.representation r) (ap (λ (q : Option Representation). is_some q) there)) in
+        let row = some_row (now_on.representation r) (stays t e r (t.representation r) (ap (λ (q : Option Representation). is_some q) there)) in
         let other = grower_by now_on later r row.0 row.1 on in
         let one : other.0 ≡ x = s.one_about r other.0 x (was_about r other.0 v there other.1 (exchange_from t e other.0 (t.exchange other.0) other.1.w refl other.1.row)) (about_of t s r x v there g) in
         absurd (false_true (sym off ∙ (ap (λ n. is_open (now_on.exchange n)) (sym one) ∙ (ap is_open other.1.row ∙ other.1.is_open))))

@@ -1,13 +1,12 @@
 -- What a body has stays, at each entry of a run: that of a representation, and that of an answer past the store.
 use Rattle.std.{proofs.{Common.{◌≡◌, ◌⊎◌, inl, inr, ℕ, ◌+◌, ◌-◌, ◌<◌, ◌≤◌, List, ◌∷◌, ◌++◌, length, Bool, true, false, Option, Some, None, refl, ap, sym, ◌∙◌, subst, arith, length-append}, Math.ListN.{get_or-append}, lemmas.Bool.Decides.{nat_tests}}, specs.Prelude.{is_some, slice_index, ◌&&◌, nat_le, nat_lt}}
-use Rattle.hc_text.proofs.Basics.{and_left, and_right, bool_cases, not_some as none_some, same_some as same_row, some_inj}
+use Rattle.hc_text.proofs.Basics.{bool_cases, not_some as none_some, same_some as same_row, some_inj}
 use Rattle.hc_sparse.specs.Cells.{Cell}
 use Rattle.hc_effects.proofs.Vocabulary.{is_denied, Event, Limits, base_of, denial, Entry, History, Contents, base, front, Flaw, entry_of, answer_cell, direct_cell, cell_by, body_of, Tables, Exchange, Representation, IsOwed, Sound, tables, after_accepted, after_denied}
 use Rattle.hc_model.specs.Laws.{Grows, BodiesGrowInRuns}
 use Rattle.hc_laws.proofs.{Barred.{next_tables, denied_tables}, SoundRuns.{runs_are_sound}}
-use Rattle.hc_effects.proofs.{Basics.{false_true}, ExchangeFrom.{IsSame, IsHeaded}, Fills.{Brings, brings, length_same}, FirstKeeps.{is_new}, OfEntries.{of_real}, RepFrom.{RepFrom, rep_from}, Stays.{bodies_are_kept}}
+use Rattle.hc_effects.proofs.{Forward.{is_on}, Basics.{false_true}, ExchangeFrom.{IsSame, IsHeaded}, Fills.{Brings, brings, length_same}, FirstKeeps.{is_new}, OfEntries.{of_real}, RepFrom.{RepFrom, rep_from}, Stays.{bodies_are_kept}}
 use Rattle.hc_effects.proofs.Fills as fills_by
-use Rattle.hc_effects.proofs.Forward as forward
 use Rattle.hc_effects.proofs.RepFrom as rep
 
 -- AN ANSWER PAST THE STORE
@@ -21,10 +20,7 @@ record IsByte (x p : ℕ) (w : Exchange) (cell : Cell) : Type 0 where
 byte_of : (x p : ℕ) (w : Exchange) (cell : Cell) → answer_cell x p w ≡ Some cell → IsByte x p w cell
 byte_of x p w cell h = elim (bool_cases (nat_le (base w) p && nat_lt p (front w))) [
   | inr off ↦ absurd (none_some cell (rw off at h))
-  | inl on ↦
-      let a : nat_le (base w) p ≡ true = and_left _ _ on in
-      let b : nat_lt p (front w) ≡ true = and_right (nat_le (base w) p) _ on in
-      record { from = grind (arith, nat_tests); below = grind (arith, nat_tests); is = sym (some_inj _ cell (rw on at h)) }
+  | inl on ↦ record { from = grind (arith, nat_tests); below = grind (arith, nat_tests); is = sym (some_inj _ cell (rw on at h)) }
 ]
 
 cell_of : (x p : ℕ) (w : Exchange) → base w ≤ p → p < front w → answer_cell x p w ≡ Some (record { byte = slice_index w.body (p - base w); x = x })
@@ -46,7 +42,6 @@ module _ (limits : Limits) (t : Tables) (now : ℕ) (flaw : Flaw) (s : Sound t) 
     headed bare =
         let first : base w ≡ 0 = ap (λ l. base_of l) (ap (Rattle.hc_model.specs.Exchanges.length_by w) bare) in
         let none_yet : length w.body ≡ 0 = ap (λ (a : List ℕ). length a) (s.waits.headless x w row bare).0 in
-        let under : p < front w = b.below in
         absurd (omega arith)
 
     base_same : ((z.head ≡ w.head) × (z.joined ≡ w.joined)) ⊎ IsHeaded t e x w z → base z ≡ base w
@@ -56,20 +51,13 @@ module _ (limits : Limits) (t : Tables) (now : ℕ) (flaw : Flaw) (s : Sound t) 
     by_brings : base z ≡ base w → Brings t e x w z → answer_cell x p z ≡ Some cell
     by_brings first (fills_by.still none_of body_is) =
         let count : length z.body ≡ length w.body = ap (λ (a : List ℕ). length a) body_is in
-        let low : base w ≤ p = b.from in
-        let high : p < front w = b.below in
         let byte : slice_index z.body (p - base z) ≡ slice_index w.body (p - base w) = ap (λ (a : List ℕ). slice_index a (p - base z)) body_is ∙ ap (λ n. slice_index w.body (p - n)) first in
         cell_of x p z (omega arith) (omega arith) ∙ (ap (λ n. Some (record { byte = n; x = x })) byte ∙ ap Some (sym b.is))
     by_brings first (fills_by.more bytes here body_is) =
         let longer : length z.body ≡ length w.body + length bytes = ap (λ (a : List ℕ). length a) body_is ∙ length-append w.body bytes in
-        let low : base w ≤ p = b.from in
-        let high : p < front w = b.below in
         let inside : p - base w < length w.body = omega arith in
         let byte : slice_index z.body (p - base z) ≡ slice_index w.body (p - base w) = ap (λ (a : List ℕ). slice_index a (p - base z)) body_is ∙ (ap (λ n. slice_index (w.body ++ bytes) (p - n)) first ∙ get_or-append w.body bytes 0 (p - base w) inside) in
         cell_of x p z (omega arith) (omega arith) ∙ (ap (λ n. Some (record { byte = n; x = x })) byte ∙ ap Some (sym b.is))
-
-    still_cell : answer_cell x p z ≡ Some cell
-    still_cell = by_brings (base_same same.heard_or) (brings t e x w z row after_x)
 
     -- and isn't founded
     none_founded : (q : Representation) → t.representation x ≡ None → RepFrom t e x q → ⊥
@@ -78,13 +66,13 @@ module _ (limits : Limits) (t : Tables) (now : ℕ) (flaw : Flaw) (s : Sound t) 
         headed (ap (λ (a : Exchange). a.head) (same_row (t.exchange x) w y row also) ∙ (is_new limits t now flaw s ev goes x response y here also).bare)
 
     still_past : (q : Option Representation) → now_on.representation x ≡ q → t.representation x ≡ None → cell_by now_on x p q ≡ Some cell
-    still_past None after none = ap (direct_cell x p) after_x ∙ still_cell
+    still_past None after none = ap (direct_cell x p) after_x ∙ (by_brings (base_same same.heard_or) (brings t e x w z row after_x))
     still_past (Some q) after none = absurd (none_founded q none (rep_from t e x (t.representation x) q refl after))
 
   direct_grows : (r p : ℕ) (q : Option Exchange) (cell : Cell) → t.representation r ≡ None → t.exchange r ≡ q → direct_cell r p q ≡ Some cell → cell_by now_on r p (now_on.representation r) ≡ Some cell
   direct_grows r p None cell none row h = absurd (none_some cell h)
   direct_grows r p (Some w) cell none row h =
-      let g = forward.is_on t e r w row in
+      let g = is_on t e r w row in
       still_past r p w g.u cell row g.same g.row (byte_of r p w cell h) (now_on.representation r) refl none
 
   kept_grows : (r p : ℕ) (v : Representation) (q : Option Representation) (cell : Cell) → t.representation r ≡ Some v → now_on.representation r ≡ q → v.body p ≡ Some cell → cell_by now_on r p q ≡ Some cell

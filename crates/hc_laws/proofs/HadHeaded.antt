@@ -1,9 +1,9 @@
 -- Whose an exchange is when its head comes, and so after each entry.
 use Rattle.std.{proofs.{Common.{◌≡◌, ◌⊎◌, inl, inr, ℕ, List, [], ◌∷◌, Bool, true, false, Option, Some, None, refl, ap, sym, ◌∙◌, subst, arith}, lemmas.Bool.Decides.{nat_tests}}, specs.Prelude.{if◌then◌else◌, is_some, ◌==◌, ◌&&◌, ◌||◌, not, nat_eq, unwrap_or}}
-use Rattle.hc_text.proofs.Basics.{both_true as and_both, and_left, and_right, bool_cases, not_some as none_some, never_true as not_so, not_true, number_not, or_left, or_right, same_some as same_row}
+use Rattle.hc_text.proofs.Basics.{both_false, both_true as and_both, and_left, and_right, bool_cases, not_some as none_some, never_true as not_so, not_true, number_not, or_left, or_right, same_some as same_row}
 use Rattle.hc_range.specs.{declared.range.{Asked.{Asked}, ContentRange.{ContentRange}, Span.{Span}}, Spans.{resolved_span}}
 use Rattle.hc_range.specs.declared.range.ContentRange.TheVariants as range
-use Rattle.hc_effects.proofs.Vocabulary.{Opening, opening_in, Act, Event, Response, HeadCase, Limits, head_case, fits_to_found, fits_part, begins_at, route_of, content_range_of, range_of, wanted_of, wanted_part, BoundBy, loses_in, has_loss, case_at, head_view, is_founding, is_joining, is_updating, fits_asker, consumer_heard, consumer_acted, by_head, by_opening, own_after, left_to, waiting, due_after, place_by_case, becomes_shared, is_resumed, bound_to_wanted, is_number, row_of, denial, Entry, is_for, is_open, family, cause_of_head, cause_by_case, Flaw, founded_total, entry_of, Measures, Owners, is_written, reads, representation_heard, new_representation, resumes, updates, writer_at, with_renewed_head, representation_after_head, Tables, Exchange, Representation, Consumer, Sound, IsAbout, IsHad, starts_over, after_accepted, came_alone, status_in, loses_writing}
+use Rattle.hc_effects.proofs.Vocabulary.{Opening, opening_in, Act, Event, Response, HeadCase, Limits, head_case, fits_to_found, fits_part, begins_at, route_of, content_range_of, range_of, wanted_of, wanted_part, BoundBy, loses_in, has_loss, case_at, head_view, is_founding, is_joining, is_updating, fits_asker, consumer_heard, consumer_acted, by_head, by_opening, own_after, left_to, waiting, due_after, place_by_case, becomes_shared, is_resumed, bound_to_wanted, is_number, row_of, denial, Entry, is_for, is_open, family, cause_of_head, cause_by_case, Flaw, founded_total, entry_of, Measures, Owners, is_written, reads, representation_heard, new_representation, resumes, updates, with_renewed_head, representation_after_head, Tables, Exchange, Representation, Consumer, Sound, IsAbout, IsHad, starts_over, after_accepted, came_alone, status_in, loses_writing}
 use Rattle.hc_event.specs.declared.act.Act.TheVariants as act
 use Rattle.hc_event.specs.declared.event.Event.TheVariants as event
 use Rattle.hc_rules.specs.declared.heads.HeadCase.TheVariants as case
@@ -13,27 +13,16 @@ use Rattle.hc_event.specs.declared.place.Place.TheVariants as place
 use Rattle.hc_event.specs.declared.place.BoundBy.TheVariants as by
 use Rattle.hc_model.specs.ConsumerRows.{with_head}
 use Rattle.hc_model.specs.Sound as sound
-use Rattle.hc_effects.proofs.{AboutKeeps.{own_open_is}, ApartKeeps.{written_by}, Basics.{false_true, or_false}, Dues.{due_none}, ExchangeFrom.{ExchangeFrom, IsSame, IsHeaded, exchange_from}, FirstKeeps.{case_is, is_new}, FoundBy.{FoundingBy, founding_by}, HadKeeps.{own_had, settled, bare_had, was_headed}, HasBound.{head_stands, stays_on, joins_place, awaiting_bound}, HeadKeeps.{is_join}, LossBy.{IsReal}, MeasuresKeep.{founder_not}, OwnersKeep.{is_opened}, RepFrom.{RepFrom, rep_from, IsKept}, Waiters.{IsWaiter, waiter_of, unwritten, waits_undue}}
+use Rattle.hc_effects.proofs.{Forward.{is_kept}, AboutKeeps.{own_open_is}, ApartKeeps.{written_by}, Basics.{false_true, or_false}, Dues.{due_none}, ExchangeFrom.{ExchangeFrom, IsSame, IsHeaded, exchange_from}, FirstKeeps.{case_is, is_new}, FoundBy.{FoundingBy, founding_by}, HadKeeps.{own_had, settled, bare_had, was_headed}, HasBound.{head_stands, stays_on, joins_place, awaiting_bound}, HeadKeeps.{is_join}, LossBy.{IsReal}, MeasuresKeep.{founder_not}, OwnersKeep.{is_opened}, RepFrom.{was, founded, RepFrom, rep_from, IsKept}, Waiters.{IsWaiter, waiter_of, unwritten, waits_undue}}
 use Rattle.hc_effects.proofs.ExchangeFrom as exchange
 use Rattle.hc_effects.proofs.FoundBy as cases
-use Rattle.hc_effects.proofs.Forward as forward
 use Rattle.hc_laws.proofs.{HadNew.{new_had}, UndueKeeps.{founder_undue, no_cause}}
-use Rattle.hc_effects.proofs.RepFrom as rep
 
 -- where nothing is lost, r isn't
 pub lossless_none : (r : ℕ) (acts : List Act) → has_loss acts ≡ false → loses_in r acts ≡ false
 lossless_none r [] h = refl
 lossless_none r (act.Lost q kind ∷ acts) h = absurd (let no : true ≡ false = h in cc)
-lossless_none r (act.Opened x c n request ∷ acts) h = lossless_none r acts h
-lossless_none r (act.Ask x ∷ acts) h = lossless_none r acts h
-lossless_none r (act.Close x ∷ acts) h = lossless_none r acts h
-lossless_none r (act.Shown c q why status fields lo hi ∷ acts) h = lossless_none r acts h
-lossless_none r (act.Given c x at bytes ∷ acts) h = lossless_none r acts h
-lossless_none r (act.Ended c ∷ acts) h = lossless_none r acts h
-lossless_none r (act.Failed c why ∷ acts) h = lossless_none r acts h
-lossless_none r (act.Pending c wait ∷ acts) h = lossless_none r acts h
-lossless_none r (act.Evicted q ∷ acts) h = lossless_none r acts h
-lossless_none r (act.Denied refusal ∷ acts) h = lossless_none r acts h
+lossless_none r (_ ∷ acts) h = lossless_none r acts h
 
 -- WHAT A PART BINDS TO
 
@@ -47,14 +36,12 @@ some_span None first last h = absurd (false_true h)
 some_span (Some span) first last h = (span, refl)
 
 part_by : (k : Consumer) (w : Exchange) (response : Response) (asked : Asked) (z : Option ContentRange) → range_of k.request ≡ Some asked → response.status ≡ 206 → content_range_of response.fields ≡ z → fits_part asked z ≡ true → IsWantedPart k w response
-part_by k w response asked None is status at h = absurd (false_true h)
-part_by k w response asked (Some (range.Unsatisfied total)) is status at h = absurd (false_true h)
-part_by k w response asked (Some (range.Part first last None)) is status at h = absurd (false_true h)
 part_by k w response asked (Some (range.Part first last (Some total))) is status at h =
     let span = some_span (resolved_span asked total) first last h in
     let on : nat_eq response.status 206 ≡ true = (let st : response.status ≡ 206 = status in grind (arith, nat_tests)) in
     let told : founded_total w response ≡ Some total = rw (on, at) refl in
     record { span = span.0; wanted_is = ap (λ q. wanted_of q (founded_total w response)) is ∙ (ap (wanted_of (Some asked)) told ∙ ap wanted_part span.1) }
+part_by k w response asked _ is status at h = absurd (false_true h)
 
 fits_by : (k : Consumer) (w : Exchange) (response : Response) (z : Option Asked) → range_of k.request ≡ z → response.status ≡ 206 → fits_to_found z response ≡ true → IsWantedPart k w response
 fits_by k w response None is status h = absurd (false_true h)
@@ -107,7 +94,7 @@ module _ (limits : Limits) (t : Tables) (now : ℕ) (flaw : Flaw) (s : Sound t) 
 
       u_is : due_after t e w.c k (consumer_acted t e w.c (consumer_heard t e w.c ev k)) ≡ u
       u_is =
-          let going = forward.is_kept t e w.c k waiter.row in
+          let going = is_kept t e w.c k waiter.row in
           let one : going.u ≡ u = same_row (now_on.consumer w.c) going.u u going.row u_row in
           settled limits t now flaw s o m ev goes real w.c k (consumer_acted t e w.c (consumer_heard t e w.c ev k)) u (starts_over t e w.c k) refl (stays_on limits t now flaw s o ev goes real.stand w.c x got.response w k waiter got.at binds) (going.is ∙ one)
 
@@ -148,23 +135,7 @@ module _ (limits : Limits) (t : Tables) (now : ℕ) (flaw : Flaw) (s : Sound t) 
       updating : (g : Option HeadCase) → is_joining g ≡ true → is_updating g ≡ true
       updating (Some case.FirstJoins) h = refl
       updating (Some case.LaterJoins) h = refl
-      updating None h = absurd (false_true h)
-      updating (Some case.DirectBad) h = absurd (false_true h)
-      updating (Some case.DirectTaken) h = absurd (false_true h)
-      updating (Some case.TurnBad) h = absurd (false_true h)
-      updating (Some case.Validated) h = absurd (false_true h)
-      updating (Some case.NotValidated) h = absurd (false_true h)
-      updating (Some case.TurnServerError) h = absurd (false_true h)
-      updating (Some case.FoundsWhole) h = absurd (false_true h)
-      updating (Some case.FoundsRange) h = absurd (false_true h)
-      updating (Some case.PassesBy) h = absurd (false_true h)
-      updating (Some case.FirstBad) h = absurd (false_true h)
-      updating (Some case.FirstServerError) h = absurd (false_true h)
-      updating (Some case.FirstChanged) h = absurd (false_true h)
-      updating (Some case.FirstReplaced) h = absurd (false_true h)
-      updating (Some case.FirstPassesBy) h = absurd (false_true h)
-      updating (Some case.LaterBad) h = absurd (false_true h)
-      updating (Some case.LaterChanged) h = absurd (false_true h)
+      updating _ h = absurd (false_true h)
 
       resumed_had : resumes t got.response w v ≡ true → (v.is_lost || loses_in r e.acts) ≡ false → IsHad now_on r p x
       resumed_had resumed quiet =
@@ -174,29 +145,12 @@ module _ (limits : Limits) (t : Tables) (now : ℕ) (flaw : Flaw) (s : Sound t) 
           let heard_row : (representation_heard t e r ev v).writer ≡ Some x = ap (λ a. (representation_heard t e r a v).writer) got.at ∙ (ap (λ a. (representation_after_head t e r x got.response a v).writer) is_row ∙ (rw updates_it writes)) in
           let writer : p.writer ≡ Some x = sym (ap (λ (q : Representation). q.writer) kept.is) ∙ heard_row in
           let parts = or_false v.is_lost (loses_in r e.acts) quiet in
-          let not_lost : p.is_lost ≡ false = kept.lost_is ∙ rw (parts.0, parts.1) refl in
-          sound.shared (written_by now_on p x not_lost writer (ap is_open after_x ∙ on)) writer
+          sound.shared (written_by now_on p x (kept.lost_is ∙ rw (parts.0, parts.1) refl) writer (ap is_open after_x ∙ on)) writer
 
       unshared_by : (g : Option HeadCase) → is_joining g ≡ true → is_resumed t e got.response w (row_of t w.aim) ≡ false → becomes_shared t e got.response w g ≡ false
       unshared_by (Some case.FirstJoins) h off = off
       unshared_by (Some case.LaterJoins) h off = off
-      unshared_by None h off = absurd (false_true h)
-      unshared_by (Some case.DirectBad) h off = absurd (false_true h)
-      unshared_by (Some case.DirectTaken) h off = absurd (false_true h)
-      unshared_by (Some case.TurnBad) h off = absurd (false_true h)
-      unshared_by (Some case.Validated) h off = absurd (false_true h)
-      unshared_by (Some case.NotValidated) h off = absurd (false_true h)
-      unshared_by (Some case.TurnServerError) h off = absurd (false_true h)
-      unshared_by (Some case.FoundsWhole) h off = absurd (false_true h)
-      unshared_by (Some case.FoundsRange) h off = absurd (false_true h)
-      unshared_by (Some case.PassesBy) h off = absurd (false_true h)
-      unshared_by (Some case.FirstBad) h off = absurd (false_true h)
-      unshared_by (Some case.FirstServerError) h off = absurd (false_true h)
-      unshared_by (Some case.FirstChanged) h off = absurd (false_true h)
-      unshared_by (Some case.FirstReplaced) h off = absurd (false_true h)
-      unshared_by (Some case.FirstPassesBy) h off = absurd (false_true h)
-      unshared_by (Some case.LaterBad) h off = absurd (false_true h)
-      unshared_by (Some case.LaterChanged) h off = absurd (false_true h)
+      unshared_by _ h off = absurd (false_true h)
 
       kept_had : becomes_shared t e got.response w (case_at t e) ≡ false → IsHad now_on r p x
       kept_had unshared =
@@ -214,11 +168,8 @@ module _ (limits : Limits) (t : Tables) (now : ℕ) (flaw : Flaw) (s : Sound t) 
         | inl resumed ↦
             let at_v : (resumes t got.response w v && not (v.is_lost || has_loss e.acts)) ≡ true = sym (ap (is_resumed t e got.response w) (ap (row_of t) aim ∙ kept.row)) ∙ resumed in
             let quiet = or_false v.is_lost (has_loss e.acts) (not_true (v.is_lost || has_loss e.acts) (and_right _ _ at_v)) in
-            resumed_had (and_left _ _ at_v) (by_parts v.is_lost (loses_in r e.acts) quiet.0 (lossless_none r e.acts quiet.1))
+            resumed_had (and_left _ _ at_v) (both_false v.is_lost (loses_in r e.acts) quiet.0 (lossless_none r e.acts quiet.1))
       ]
-        where
-          by_parts : (a b : Bool) → a ≡ false → b ≡ false → (a || b) ≡ false
-          by_parts a b f g = rw (f, g) refl
 
     -- FOUNDED
 
@@ -229,8 +180,7 @@ module _ (limits : Limits) (t : Tables) (now : ℕ) (flaw : Flaw) (s : Sound t) 
       whole_had : got.response.status ≡ 200 → IsHad now_on x p x
       whole_had status =
           let off : nat_eq got.response.status 206 ≡ false = number_not got.response.status 206 (λ is. let no : 200 ≡ 206 = sym status ∙ is in absurd (omega arith)) in
-          let writes : writer_at x got.response ≡ Some x = rw off refl in
-          let writer : p.writer ≡ Some x = sym (ap (λ (q : Representation). q.writer) made) ∙ writes in
+          let writer : p.writer ≡ Some x = sym (ap (λ (q : Representation). q.writer) made) ∙ rw off refl in
           sound.shared (written_by now_on p x (sym (ap (λ (q : Representation). q.is_lost) made)) writer (ap is_open after_x ∙ on)) writer
 
       part_had : case_at t e ≡ Some case.FoundsRange → got.response.status ≡ 206 → fits_asker (t.consumer w.c) got.response ≡ true → IsHad now_on x p x
@@ -242,9 +192,7 @@ module _ (limits : Limits) (t : Tables) (now : ℕ) (flaw : Flaw) (s : Sound t) 
           let undue = founder_undue limits t now flaw s o ev goes real.stand x w.c got.response w k got.at is_row founding waiter waiter.at in
           let stands : (u found_binds unshared).place ≡ place.Bound x part.span.lo (Some part.span.hi) by.Founding = u_place found_binds unshared ∙ placed in
           let none = due_none t e w.c k (consumer_acted t e w.c (consumer_heard t e w.c ev k)) (u found_binds unshared) (u_is found_binds unshared) (ap reads stands) undue.0 undue.1 in
-          let is_206 : p.head.status ≡ 206 = sym (ap (λ (q : Representation). q.head.status) made) ∙ status in
-          let test : nat_eq p.head.status 206 ≡ true = grind (arith, nat_tests) in
-          let alone : came_alone now_on (place.Bound x part.span.lo (Some part.span.hi) by.Founding) ≡ true = ap (λ q. status_in q == 206) after ∙ test in
+          let alone : came_alone now_on (place.Bound x part.span.lo (Some part.span.hi) by.Founding) ≡ true = ap (λ q. status_in q == 206) after ∙ grind (arith, nat_tests) in
           sound.own w.c (u found_binds unshared) (sound.is_bound part.span.lo (Some part.span.hi) by.Founding (u_row found_binds unshared) stands) (own_open_is now_on (u found_binds unshared) x (record { own = own_if found_binds unshared stays; w = z; row = after_x; opened = on })) none
           (sound.first (sym (ap (λ (q : Representation). q.is_lost) made)) (sound.first (u found_binds unshared) part.span.lo (Some part.span.hi) by.Founding (u_row found_binds unshared) stands alone))
 
@@ -258,20 +206,17 @@ module _ (limits : Limits) (t : Tables) (now : ℕ) (flaw : Flaw) (s : Sound t) 
 
     -- EITHER
 
-    head_inj : (a d : ℕ) (f g : Response) → event.Head a f ≡ event.Head d g → f ≡ g
-    head_inj a d f g is = cc
-
     own_by : (r : ℕ) (p : Representation) → r ≡ x → now_on.representation r ≡ Some p → RepFrom t e r p → IsHad now_on r p x
-    own_by r p here after (rep.was v kept) = absurd (none_some v (sym unfounded ∙ (sym (ap t.representation here) ∙ kept.row)))
-    own_by r p here after (rep.founded response y none also row_too founding made) =
-        let answer : response ≡ got.response = head_inj r x response got.response (sym also ∙ got.at) in
+    own_by r p here after (was v kept) = absurd (none_some v (sym unfounded ∙ (sym (ap t.representation here) ∙ kept.row)))
+    own_by r p here after (founded response y none also row_too founding made) =
+        let answer : response ≡ got.response = cc in
         let one : y ≡ w = same_row (t.exchange x) y w (sym (ap t.exchange here) ∙ row_too) is_row in
         let made_x : new_representation x e got.response w ≡ p = ap (λ (a : Exchange). new_representation x e got.response a) (sym one) ∙ (ap (λ (a : Response). new_representation x e a y) (sym answer) ∙ (ap (λ (n : ℕ). new_representation n e response y) (sym here) ∙ made)) in
         subst (λ n. IsHad now_on n p x) (sym here) (founded_had p founding made_x (sym (ap now_on.representation here) ∙ after))
 
     join_by : (r : ℕ) (p : Representation) → is_joining (case_at t e) ≡ true → w.aim ≡ Some r → now_on.representation r ≡ Some p → RepFrom t e r p → IsHad now_on r p x
-    join_by r p joins aim after (rep.was v kept) = joined_had r v p joins aim kept after
-    join_by r p joins aim after (rep.founded response y none also row_too founding made) = absurd (false_true (sym (ap is_some none) ∙ s.numbered.names.aims x r w is_row aim))
+    join_by r p joins aim after (was v kept) = joined_had r v p joins aim kept after
+    join_by r p joins aim after (founded response y none also row_too founding made) = absurd (false_true (sym (ap is_some none) ∙ s.numbered.names.aims x r w is_row aim))
 
     aim_some : (a : Option ℕ) → w.aim ≡ a → is_joining (case_at t e) ≡ true → (q : ℕ) × (w.aim ≡ Some q)
     aim_some None aim joins =
@@ -284,12 +229,10 @@ module _ (limits : Limits) (t : Tables) (now : ℕ) (flaw : Flaw) (s : Sound t) 
       | inl joins ↦
           let aim = aim_some w.aim refl joins in
           let joined : (if is_joining (case_at t e) then w.aim else w.joined) ≡ Some aim.0 = rw joins aim.1 in
-          let number : aim.0 ≡ r = sym (ap (λ (n : Option ℕ). unwrap_or n x) (got.joined_is ∙ joined)) ∙ of_r in
-          join_by r p joins (aim.1 ∙ ap Some number) after (rep_from t e r (t.representation r) p refl after)
+          join_by r p joins (aim.1 ∙ ap Some (sym (ap (λ (n : Option ℕ). unwrap_or n x) (got.joined_is ∙ joined)) ∙ of_r)) after (rep_from t e r (t.representation r) p refl after)
       | inr off ↦
           let joined : (if is_joining (case_at t e) then w.aim else w.joined) ≡ None = rw off ((s.waits.headless x w is_row new_parts.1).1) in
-          let number : x ≡ r = sym (ap (λ (n : Option ℕ). unwrap_or n x) (got.joined_is ∙ joined)) ∙ of_r in
-          own_by r p (sym number) after (rep_from t e r (t.representation r) p refl after)
+          own_by r p (sym (sym (ap (λ (n : Option ℕ). unwrap_or n x) (got.joined_is ∙ joined)) ∙ of_r)) after (rep_from t e r (t.representation r) p refl after)
     ]
 
   -- AFTER AN ENTRY
@@ -299,8 +242,8 @@ module _ (limits : Limits) (t : Tables) (now : ℕ) (flaw : Flaw) (s : Sound t) 
   headed_by r x z p after_x on some of_r after (exchange.was w row same) = by_heard same.heard_or
     where
       still : (z.head ≡ w.head) → family x w ≡ r → RepFrom t e r p → IsHad now_on r p x
-      still head_is fam (rep.was v kept) = was_headed limits t now flaw s o m ev goes real r x w z v p kept.row kept row (sym (ap (λ (a : Option Response). is_some a) head_is) ∙ some) fam same after_x on
-      still head_is fam (rep.founded response y none here also founding made) = absurd (founder_not limits t now flaw s o m ev goes x r w response y row (sym (ap (λ (a : Option Response). is_some a) head_is) ∙ some) fam none here also)
+      still head_is fam (was v kept) = was_headed limits t now flaw s o m ev goes real r x w z v p kept.row kept row (sym (ap (λ (a : Option Response). is_some a) head_is) ∙ some) fam same after_x on
+      still head_is fam (founded response y none here also founding made) = absurd (founder_not limits t now flaw s o m ev goes x r w response y row (sym (ap (λ (a : Option Response). is_some a) head_is) ∙ some) fam none here also)
 
       by_heard : ((z.head ≡ w.head) × (z.joined ≡ w.joined)) ⊎ IsHeaded t e x w z → IsHad now_on r p x
       by_heard (inl all) = still all.0 (sym (ap (λ (n : Option ℕ). unwrap_or n x) all.1) ∙ of_r) (rep_from t e r (t.representation r) p refl after)

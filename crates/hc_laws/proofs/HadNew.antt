@@ -1,17 +1,16 @@
 -- Whose an exchange is that is opened for a hole, or whose head comes.
 use Rattle.std.{proofs.Common.{◌≡◌, ℕ, Bool, true, false, Option, Some, None, refl, ap, sym, ◌∙◌, subst}, specs.Prelude.{is_some}}
-use Rattle.hc_text.proofs.Basics.{not_some as none_some, same_some as same_row, some_inj}
+use Rattle.hc_text.proofs.Basics.{never_true, not_some as none_some, same_some as same_row, some_inj}
 use Rattle.hc_effects.proofs.Vocabulary.{Opening, opening_in, Event, Limits, route_of, Place, BoundBy, loses_in, consumer_heard, consumer_acted, waiting, due_after, denial, Entry, exchange_opened, aim_from, is_headless, becomes_due, Flaw, entry_of, Measures, Owners, IsAwaiting, Awaits, IsPast, shows_at, shows_direct, move_of, if_headless, bound, bound_to, own_open, reads, Tables, Exchange, Representation, Consumer, Sound, IsBound, IsAbout, IsHad, IsExclusiveWriter, IsFirst, after_accepted, brings_body, came_alone}
 use Rattle.hc_event.specs.declared.event.Event.TheVariants as event
 use Rattle.hc_rules.specs.declared.need.Route.TheVariants as route
 use Rattle.hc_event.specs.declared.place.Place.TheVariants as place
 use Rattle.hc_model.specs.Owners as owners
 use Rattle.hc_model.specs.Sound as sound
-use Rattle.hc_effects.proofs.{AboutKeeps.{own_open_is}, Basics.{false_true, some_none}, BoundFrom.{BoundFrom, IsRow, bound_from}, BoundKeeps.{opens_none}, Dues.{undue_of, due_none}, FirstKeeps.{came_kept, is_opener, open_free}, LossBy.{IsReal, IsSealing, sealed_loss}, OpensFrom.{opens_hole, hole_is}, OwnersKeep.{is_opened}, ExclusiveWriters.{bound_some, none_about, has_exclusive_writer, none_about_hole}, PollKeeps.{current_stays}, RepFrom.{RepFrom, rep_from, IsKept}, Said.{IsOpening, opening_by, showing_by}, ServedKeeps.{kept_alone}, WaitingKeeps.{waiting_kept}, ReadingKeeps.{some_of}}
+use Rattle.hc_effects.proofs.{AboutKeeps.{own_open_is}, Basics.{false_true, some_none}, BoundFrom.{BoundFrom, IsRow, bound_from}, BoundKeeps.{opens_none}, Dues.{undue_of, due_none}, FirstKeeps.{came_kept, is_opener, open_free}, LossBy.{IsReal, IsSealing, sealed_loss}, OpensFrom.{opens_hole, hole_is}, OwnersKeep.{is_opened}, ExclusiveWriters.{bound_some, none_about, has_exclusive_writer, none_about_hole}, PollKeeps.{current_stays}, RepFrom.{was, founded, RepFrom, rep_from, IsKept}, Said.{IsOpening, opening_by, showing_by}, ServedKeeps.{kept_alone}, WaitingKeeps.{waiting_kept}, ReadingKeeps.{some_of}}
 use Rattle.hc_effects.proofs.BoundFrom as from
 use Rattle.hc_laws.proofs.FirstDues.{poll_undue}
 use Rattle.hc_effects.proofs.PollTree as tree
-use Rattle.hc_effects.proofs.RepFrom as rep
 
 module _ (limits : Limits) (t : Tables) (now : ℕ) (flaw : Flaw) (s : Sound t) (o : Owners t) (m : Measures t) (ev : Event) (goes : denial t ev ≡ None) (real : IsReal limits t now ev flaw) where
   abbrev e : Entry
@@ -30,11 +29,7 @@ module _ (limits : Limits) (t : Tables) (now : ℕ) (flaw : Flaw) (s : Sound t) 
     none_after k is none = due_none t e c k (consumer_acted t e c (consumer_heard t e c ev k)) u is (ap reads stands) none (undue_poll k)
 
     quiet : (v : Representation) → t.representation r ≡ Some v → (IsSealing limits t now flaw s o m ev goes real r → ⊥) → loses_in r e.acts ≡ false
-    quiet v there none = by_test (loses_in r e.acts) refl
-      where
-        by_test : (a : Bool) → loses_in r e.acts ≡ a → a ≡ false
-        by_test false is = refl
-        by_test true loses = absurd (none (sealed_loss limits t now flaw s o m ev goes real r v there loses (ap brings_body polls)))
+    quiet v there none = never_true (loses_in r e.acts) (λ loses. none (sealed_loss limits t now flaw s o m ev goes real r v there loses (ap brings_body polls)))
 
     had : u.due ≡ None → IsExclusiveWriter now_on r p c → IsHad now_on r p x
     had none exclusive_writer = sound.own c u (sound.is_bound lo hi how after_row stands) own_u none exclusive_writer
@@ -46,14 +41,12 @@ module _ (limits : Limits) (t : Tables) (now : ℕ) (flaw : Flaw) (s : Sound t) 
       where
         first_same : IsFirst t r c → came_alone t (place.Bound r lo hi how) ≡ true
         first_same (sound.first a l h g a_row a_at alone) =
-            let one : a ≡ k = same_row (t.consumer c) a k a_row row in
-            subst (λ y. came_alone t y ≡ true) (sym a_at ∙ (ap (λ (y : Consumer). y.place) one ∙ at)) alone
+            subst (λ y. came_alone t y ≡ true) (sym a_at ∙ (ap (λ (y : Consumer). y.place) (same_row (t.consumer c) a k a_row row) ∙ at)) alone
     exclusive_writer_quiet k v row at there kept still (sound.alone lost is) = let all = kept_alone limits t now flaw s o m ev goes real r v p kept still in sound.alone (all.0 ∙ lost) (all.1 ∙ is)
 
     same_place : (n : ℕ) (k a : Consumer) → k.place ≡ place.Bound r lo hi how → t.consumer c ≡ Some k → IsBound t n c a → n ≡ r
     same_place n k a at row (sound.is_bound l h g a_row a_at) =
-        let one : a ≡ k = same_row (t.consumer c) a k a_row row in
-        (from.place_inj n l h g r lo hi how (sym a_at ∙ (ap (λ (y : Consumer). y.place) one ∙ at))).number
+        (from.place_inj n l h g r lo hi how (sym a_at ∙ (ap (λ (y : Consumer). y.place) (same_row (t.consumer c) a k a_row row) ∙ at))).number
 
     opening_of : (k : Consumer) → t.consumer c ≡ Some k → (n : ℕ) × IsOpening q (move_of t now n c k)
     opening_of k row =
@@ -62,17 +55,16 @@ module _ (limits : Limits) (t : Tables) (now : ℕ) (flaw : Flaw) (s : Sound t) 
         (poll.want, subst (λ (a : Consumer). IsOpening q (move_of t now poll.want c a)) same_k (subst (λ d. IsOpening q (move_of t now poll.want d poll.k)) mine poll.move))
 
     later : (k : Consumer) → IsRow t e c r lo hi how k u → k.place ≡ place.Bound r lo hi how → RepFrom t e r p → IsHad now_on r p x
-    later k row at (rep.founded response w none here exchange_row on made) =
+    later k row at (founded response w none here exchange_row on made) =
         absurd (let is_there = s.numbered.bound_to r c k (sound.is_bound lo hi how row.row at) in false_true (sym (ap is_some none) ∙ is_there))
-    later k row at (rep.was v kept) =
+    later k row at (was v kept) =
         let opening = opening_of k row.row in
         let h = hole_is q.need hole in
         by_hole h.from h.to (opens_hole t c k q now opening.0 s row.row opening.1 h.from h.to h.is)
       where
         by_hole : (from_at to_at : ℕ) → tree.OpensHole t c k from_at to_at → IsHad now_on r p x
         by_hole from_at to_at (tree.first n v2 span gap is aims there2 nobody found from_is to) =
-            let number : r ≡ n = some_inj r n (sym (ap (aim_from t k.request.key) at) ∙ aims) in
-            absurd (bound_some t r c k s.numbered (sound.is_bound lo hi how row.row at) (ap (bound t) number ∙ nobody))
+            absurd (bound_some t r c k s.numbered (sound.is_bound lo hi how row.row at) (ap (bound t) (some_inj r n (sym (ap (aim_from t k.request.key) at) ∙ aims)) ∙ nobody))
         by_hole from_at to_at (tree.later n top count v2 at_hole none from_is to) =
             let number : n ≡ r = same_place n k k at row.row at_hole.is_reader in
             let one : v2 ≡ v = same_row (t.representation r) v2 v (sym (ap t.representation number) ∙ at_hole.row) kept.row in
@@ -97,9 +89,6 @@ module _ (limits : Limits) (t : Tables) (now : ℕ) (flaw : Flaw) (s : Sound t) 
         unread : shows_at t k k.place ≡ None
         unread = sym (ap (λ (a : Consumer). shows_at t a a.place) one) ∙ got.way.unread free_got
 
-        unshown : k.shown ≡ false
-        unshown = sym (ap (λ (a : Consumer). a.shown) one) ∙ got.way.unshown free_got
-
         by_past : (y : ℕ) → k.place ≡ place.Direct y → IsPast t y k → ⊥
         by_past y at (owners.answered w is_row headed_w) =
             let response = some_of w.head headed_w in
@@ -112,21 +101,17 @@ module _ (limits : Limits) (t : Tables) (now : ℕ) (flaw : Flaw) (s : Sound t) 
             some_none y (rw (open_own, headless) at heard)
 
         by_place : (a : Place) → k.place ≡ a → bound_to a ≡ None → k.due ≡ None
-        by_place place.Line at free_a = o.idle_due c k row (ap reads at)
-        by_place (place.Passed n n_kept) at free_a = o.idle_due c k row (ap reads at)
-        by_place (place.Turn y) at free_a = o.idle_due c k row (ap reads at)
         by_place (place.Bound n l h g) at free_a = absurd (some_none n free_a)
-        by_place (place.Direct y) at free_a = absurd (by_past y at (o.past c y k row at unshown))
-        by_place (place.Down why) at free_a = o.idle_due c k row (ap reads at)
-        by_place place.Over at free_a = o.idle_due c k row (ap reads at)
+        by_place (place.Direct y) at free_a = absurd (by_past y at (o.past c y k row at (sym (ap (λ (a : Consumer). a.shown) one) ∙ got.way.unshown free_got)))
+        by_place _ at free_a = o.idle_due c k row (ap reads at)
 
     not_lost : (v : Representation) → v.is_gone ≡ false → (v.is_lost ≡ true → v.is_gone ≡ true) → (a : Bool) → v.is_lost ≡ a → a ≡ false
     not_lost v off goes_too false is = refl
     not_lost v off goes_too true is = absurd (false_true (sym off ∙ goes_too is))
 
     first : (k : Consumer) (a : Opening) → IsRow t e c r lo hi how k u → opening_in e.acts ≡ Some a → a.c ≡ c → bound_to (waiting t e c (consumer_heard t e c ev k)).place ≡ None → route_of a.need ≡ route.Hole → from.IsFirstHole t e c r lo hi how a (waiting t e c (consumer_heard t e c ev k)) → RepFrom t e r p → IsHad now_on r p x
-    first k a row a_opens a_mine free way gap (rep.founded response w none here exchange_row on made) = absurd (none_some gap.v (sym none ∙ gap.row))
-    first k a row a_opens a_mine free way gap (rep.was v kept) =
+    first k a row a_opens a_mine free way gap (founded response w none here exchange_row on made) = absurd (none_some gap.v (sym none ∙ gap.row))
+    first k a row a_opens a_mine free way gap (was v kept) =
         let nobody = open_free limits t now flaw s ev goes c r k a row.row a_opens a_mine free way gap.current_is in
         let placed = (is_opener limits t now flaw s ev goes c k a row.row a_opens a_mine).place_is in
         let one : gap.v ≡ v = same_row (t.representation r) gap.v v gap.row kept.row in

@@ -31,14 +31,10 @@ module _ (t : Tables) (e : Entry) (r : ℕ) (v : Representation) where
   ended_from n false = still refl
 
   heard_from : (ev : Event) → e.event ≡ ev → HeadFrom (representation_heard t e r ev v)
-  heard_from (event.Start c request) here = still refl
-  heard_from (event.Poll c want) here = still refl
   heard_from (event.Head x response) here = headed_from x response (t.exchange x) here refl
   heard_from (event.Piece x bytes) here = pieced_from x bytes (t.exchange x)
   heard_from (event.End x) here = ended_from (length_in (t.exchange x)) (x == r)
-  heard_from (event.Fault x) here = still refl
-  heard_from (event.Cancel c) here = still refl
-  heard_from (event.Doom key) here = still refl
+  heard_from _ here = still refl
 
   acted_from : (z : Representation) → HeadFrom z → HeadFrom (representation_acted t e r v z)
   acted_from z (still same) = still same

@@ -1,30 +1,18 @@
 -- One key, one turn and the barrier of dooms in each run from contents by which a store may begin.
-use Rattle.std.proofs.Common.{◌≡◌, ℕ, [], ◌∷◌, Bool, true, false, refl, subst}
-use Rattle.hc_effects.proofs.Vocabulary.{is_denied, Limits, current, Entry, History, Contents, flaw_in, IsOfOneKey, may_begin, OfRuns, DeliversOnce, HasOneTurn, Turns, HasPassed, IsBarred, OfHistories, IsBoundBehindDooms, Tables, Consumer, IsRun, IsOwed, Sound, IsBound, tables, after_accepted, after_denied}
-use Rattle.hc_model.specs.{Keys.{KeepsOthers}, Laws.{DoomsInRuns, KeysInRuns}}
-use Rattle.hc_model.specs.Sound as sound
-use Rattle.hc_laws.proofs.{Barred.{next_tables, denied_tables, barrier_is_kept, barrier_begins, binds_behind}, KeysPlaces.{keys_are_kept, keys_begin}, OneKey.{law_of_one_key}, SoundRuns.{runs_are_sound}, Starts.{numbers_begin}, TurnFacts.{IsTaken}, TurnsKeep.{turns_are_kept, turns_begin, turns_are_one, same_entry}}
-use Rattle.hc_effects.proofs.{Once.{delivers_once}, Owed.{goes}}
-
--- what is of one key and who has the turn, of a run so far
-record Holds (contents : Contents) (h : History) : Type 0 where
-  one : IsOfOneKey (tables contents h)
-  turns : Turns (tables contents h)
+use Rattle.std.proofs.Common.{◌≡◌, ℕ, [], ◌∷◌, true, false, subst}
+use Rattle.hc_effects.proofs.Vocabulary.{is_denied, Limits, current, Entry, History, Contents, entry_of, IsOfOneKey, may_begin, OfRuns, DeliversOnce, HasOneTurn, Turns, HasPassed, IsBarred, OfHistories, IsBoundBehindDooms, Tables, Consumer, IsRun, Sound, IsBound, tables, after_denied}
+use Rattle.hc_model.specs.{Sound.{is_bound}, Keys.{KeepsOthers}, Laws.{DoomsInRuns, KeysInRuns}}
+use Rattle.hc_laws.proofs.{Barred.{next_tables, barrier_is_kept, barrier_begins, binds_behind}, KeysPlaces.{keys_are_kept, keys_begin}, OneKey.{law_of_one_key}, RunFacts.{in_runs_with}, SoundRuns.{runs_are_sound}, Starts.{numbers_begin}, TurnsKeep.{turns_are_kept, turns_begin, turns_are_one}}
+use Rattle.hc_effects.proofs.{Once.{delivers_once}}
 
 -- A DENIED ENTRY
 
 bound_before : (t : Tables) (e : Entry) (r c : ℕ) (k : Consumer) → IsBound (after_denied t e) r c k → IsBound t r c k
-bound_before t e r c k (sound.is_bound lo hi how row at) = sound.is_bound lo hi how row at
+bound_before t e r c k (is_bound lo hi how row at) = is_bound lo hi how row at
 
 denied_one : (t : Tables) (e : Entry) → IsOfOneKey t → IsOfOneKey (after_denied t e)
 denied_one t e one = record {
-  exchanges = record {
-    opener = one.exchanges.opener;
-    aims = one.exchanges.aims;
-    joined = one.exchanges.joined;
-    founded = one.exchanges.founded;
-    writers = one.exchanges.writers;
-  };
+  exchanges = assumption;
   consumers = record {
     own = one.consumers.own;
     bound = λ r c k is. one.consumers.bound r c k (bound_before t e r c k is);
@@ -49,55 +37,42 @@ denied_turns t e turns = record {
 
 -- A RUN
 
-by_denial : (limits : Limits) (contents : Contents) (h : History) (e : Entry) (b : Bool) → is_denied e.acts ≡ b → Sound (tables contents h) → IsOwed limits (tables contents h) e → Holds contents h → Holds contents (e ∷ h)
-by_denial limits contents h e true denied s owed held = record {
-  one = subst IsOfOneKey (denied_tables contents h e denied) (denied_one (tables contents h) e held.one);
-  turns = subst Turns (denied_tables contents h e denied) (denied_turns (tables contents h) e held.turns);
-}
-by_denial limits contents h e false accepted s owed held =
-    let t = tables contents h in
-    let taken : IsTaken limits t e = record { owed = owed; not_denied = accepted } in
-    let kept = keys_are_kept limits t e.now (flaw_in e.acts) s held.one e.event (goes limits t e owed accepted) in
-    record {
-      one = subst IsOfOneKey (next_tables contents h e accepted) (subst (λ z. IsOfOneKey (after_accepted t z)) (same_entry limits t e taken s held.one held.turns) kept);
-      turns = subst Turns (next_tables contents h e accepted) (turns_are_kept limits t e s held.one held.turns owed accepted);
-    }
-
 -- what is of one key and who has the turn, of every run
 pub record IsTurned (t : Tables) : Type 0 where
   pub one : IsOfOneKey t
   pub turns : Turns t
 
+-- Turns and keys hold of every run.
+pub turned_in_runs : OfRuns IsTurned
+turned_in_runs = in_runs_with (λ limits t. IsTurned t) (λ limits t. Unit {0}) (λ limits contents h may run. tt)
+    (λ limits contents may. record { one = keys_begin contents; turns = turns_begin contents })
+    (λ limits t e later held. record { one = denied_one t e held.one; turns = denied_turns t e held.turns })
+    (λ limits t now flaw ev s all held. record {
+      one = keys_are_kept limits t now flaw s.before.is_sound held.one ev s.going;
+      turns = turns_are_kept limits t (entry_of limits t now ev flaw) s.before.is_sound held.one held.turns s.owed s.real.taken;
+    })
+
 module _ (limits : Limits) (contents : Contents) (may : may_begin limits contents ≡ true) where
   sound_run : (h : History) → IsRun limits contents h → Sound (tables contents h)
   sound_run h run = runs_are_sound limits contents h may run
 
-  holds : (h : History) → IsRun limits contents h → Holds contents h
-  unfolding tables
-  holds [] run = record { one = keys_begin contents; turns = turns_begin contents }
-  holds (e ∷ h) run = by_denial limits contents h e (is_denied e.acts) refl (sound_run h run.0) run.1 (holds h run.0)
-
   barred : (h : History) → IsRun limits contents h → IsBarred contents h
   barred [] run = barrier_begins contents (numbers_begin limits contents may)
   barred (e ∷ h) run =
-      let held = holds h run.0 in
+      let held = turned_in_runs limits contents h may run.0 in
       barrier_is_kept limits contents h e (sound_run h run.0) held.one held.turns (barred h run.0) run.1
 
   others_stay : (h : History) (e : Entry) → IsRun limits contents (e ∷ h) → is_denied e.acts ≡ false → KeepsOthers (tables contents h) (tables contents (e ∷ h)) e
   others_stay h e run accepted =
-      let held = holds h run.0 in
+      let held = turned_in_runs limits contents h may run.0 in
       subst (λ u. KeepsOthers (tables contents h) u e) (next_tables contents h e accepted)
       (law_of_one_key limits (tables contents h) e held.one.exchanges held.one.consumers run.1 accepted)
-
--- Turns and keys hold of every run.
-pub turned_in_runs : OfRuns IsTurned
-turned_in_runs limits contents h may run = let held = holds limits contents may h run in record { one = held.one; turns = held.turns }
 
 pub one_key_in_runs : OfRuns IsOfOneKey
 one_key_in_runs limits contents h may run = (turned_in_runs limits contents h may run).one
 
 pub turns_in_runs : OfRuns HasOneTurn
-turns_in_runs limits contents h may run = let held = holds limits contents may h run in turns_are_one (tables contents h) (runs_are_sound limits contents h may run) held.one held.turns
+turns_in_runs limits contents h may run = let held = turned_in_runs limits contents h may run in turns_are_one (tables contents h) (runs_are_sound limits contents h may run) held.one held.turns
 
 pub dooms_in_runs : DoomsInRuns
 dooms_in_runs limits contents h may run = (barred limits contents may h run).founded
@@ -105,7 +80,7 @@ dooms_in_runs limits contents h may run = (barred limits contents may h run).fou
 pub binds_in_runs : OfHistories IsBoundBehindDooms
 binds_in_runs limits contents [] may run = tt
 binds_in_runs limits contents (e ∷ h) may run =
-    let held = holds limits contents may h run.0 in
+    let held = turned_in_runs limits contents h may run.0 in
     binds_behind limits contents h e (sound_run limits contents may h run.0) held.one held.turns (barred limits contents may h run.0) run.1
 
 pub keys_in_runs : KeysInRuns

@@ -19,14 +19,11 @@ late_if true w u late old = late
 late_if false w u late old = old
 
 heard_late : (t : Tables) (e : Entry) (x : ℕ) (w : Exchange) (ev : Event) → (w.head ≡ None → w.joined ≡ None) → (exchange_heard t e x ev w).head ≡ None → (exchange_heard t e x ev w).joined ≡ None
-heard_late t e x w (event.Start c request) late = late
-heard_late t e x w (event.Poll c want) late = late
 heard_late t e x w (event.Head y response) late = late_if (y == x) w _ (λ h. absurd (some_none response h)) late
 heard_late t e x w (event.Piece y bytes) late = late_if (y == x) w _ late late
 heard_late t e x w (event.End y) late = late_if (y == x) w _ late late
 heard_late t e x w (event.Fault y) late = late_if (y == x) w _ late late
-heard_late t e x w (event.Cancel c) late = late
-heard_late t e x w (event.Doom key) late = late
+heard_late t e x w _ late = late
 
 made_late : (t : Tables) (e : Entry) (x : ℕ) (o : Option Opening) → JoinsLate (exchange_made t e x o)
 made_late t e x None = tt
@@ -80,13 +77,10 @@ no_more o b xs none = sym (ap (option_or o) (none_if b xs none) ∙ or_none o)
 
 heard_joined : (t : Tables) (e : Entry) (x : ℕ) (w : Exchange) (ev : Event) → t.exchange x ≡ Some w → denial t ev ≡ None → (w.head ≡ None → w.joined ≡ None) → (exchange_heard t e x ev w).joined ≡ option_or w.joined (first (if is_joining (case_at t e) then joining_in t x ev (Some w) else []))
 unfolding refusals.refusal_of
-heard_joined t e x w (event.Start c request) row h late = no_more w.joined _ _ refl
-heard_joined t e x w (event.Poll c want) row h late = no_more w.joined _ _ refl
 heard_joined t e x w (event.Head y response) row h late = elim (bool_cases (y == x)) [
   | inr other ↦ rw other (no_more w.joined _ [] refl)
   | inl here ↦
-      let same : y ≡ x = grind (arith, nat_tests) in
-      let bare : w.head ≡ None = headless w (sym (ap (λ n. head_refusal (as_open (t.exchange n))) same ∙ ap (λ o. head_refusal (as_open o)) row) ∙ h) in
+      let bare : w.head ≡ None = headless w (sym (ap (λ n. head_refusal (as_open (t.exchange n))) (grind (arith, nat_tests)) ∙ ap (λ o. head_refusal (as_open o)) row) ∙ h) in
       rw here (own_head w (is_joining (case_at t e)) (late bare))
 ]
 heard_joined t e x w (event.Piece y bytes) row h late = elim (bool_cases (y == x)) [
@@ -101,19 +95,12 @@ heard_joined t e x w (event.Fault y) row h late = elim (bool_cases (y == x)) [
   | inl here ↦ rw here (no_more w.joined _ [] refl)
   | inr other ↦ rw other (no_more w.joined _ [] refl)
 ]
-heard_joined t e x w (event.Cancel c) row h late = no_more w.joined _ _ refl
-heard_joined t e x w (event.Doom key) row h late = no_more w.joined _ _ refl
+heard_joined t e x w _ row h late = no_more w.joined _ _ refl
 
 -- an exchange that isn't there joins nothing
 no_joining : (t : Tables) (x : ℕ) (ev : Event) → joining_in t x ev None ≡ []
 no_joining t x (event.Start c request) = refl
-no_joining t x (event.Poll c want) = refl
-no_joining t x (event.Head y response) = refl
-no_joining t x (event.Piece y bytes) = refl
-no_joining t x (event.End y) = refl
-no_joining t x (event.Fault y) = refl
-no_joining t x (event.Cancel c) = refl
-no_joining t x (event.Doom key) = refl
+no_joining t x _ = refl
 
 joined_after : (t : Tables) (e : Entry) (x : ℕ) (o : Option Exchange) → t.exchange x ≡ o → denial t e.event ≡ None → JoinsLate o → joined (exchange_after t e x o) ≡ option_or (joined o) (first (if is_joining (case_at t e) then joining_in t x e.event o else []))
 unfolding exchange_after

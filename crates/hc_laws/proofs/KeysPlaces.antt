@@ -1,7 +1,7 @@
 -- What is of one key stays so: what consumers read, wait for and have of their own.
 use Rattle.std.{proofs.Common.{◌≡◌, ◌⊎◌, inl, inr, ℕ, List, [], ◌∷◌, ◌++◌, Bool, true, false, Option, Some, None, refl, ap, sym, ◌∙◌, subst, arith}, specs.{Prelude.{◌&&◌, ◌==◌, not, if◌then◌else◌, map, find, is_none}, Option.{option_or, option_map}}}
 use Rattle.hc_text.proofs.Basics.{eq_itself as eq-refl, eq_tells as eq_is, not_some as none_some, same_some as same_row, some_inj}
-use Rattle.hc_effects.proofs.Vocabulary.{Opening, opening_in, leaves_in, Act, Cause, Wait, Event, Request, Response, HeadCase, Route, Wanted, Limits, route_of, wanted_of, range_of, BoundBy, Place, wait_in, Showing, showing_in, accepted_acts, answer_acts, loss_acts, case_at, is_founding, closing, bound_to_wanted, place_by_case, passed_on, by_head, by_fault, by_opening, becomes_shared, consumer_after, consumer_settled, consumer_acted, consumer_heard, consumer_made, waiting, waiting_place, passed_by, kept_by, opened_place, place_for_hole, unless_bound, shown_place, own_after, left_to, due_after, back_in_line, new_consumer, current, row_of, is_number, denial, Entry, Content, aim_of, aim_from, becomes_due, Flaw, NoFlaw, Loses, Misreads, founded_total, HasRow, IsOfOneKey, ExchangeKeys, ConsumerKeys, entry_of, Move, acts_of, reads, bound_to, representation_after, founded_at, new_representation, Tables, Exchange, Representation, Consumer, Sound, IsBound, starts_over, after_accepted, representation_of_content, evicted, loses_writing, survivor}
+use Rattle.hc_effects.proofs.Vocabulary.{Opening, opening_in, leaves_in, Act, Cause, Wait, Event, Request, Response, HeadCase, Route, Wanted, Limits, route_of, wanted_of, range_of, BoundBy, Place, wait_in, Showing, showing_in, accepted_acts, answer_acts, loss_acts, case_at, is_founding, closing, bound_to_wanted, place_by_case, passed_on, by_head, by_fault, by_opening, becomes_shared, consumer_after, consumer_settled, consumer_acted, consumer_heard, consumer_made, waiting, waiting_place, passed_by, kept_by, opened_place, place_for_hole, unless_bound, shown_place, own_after, left_to, due_after, back_in_line, new_consumer, current, row_of, is_number, denial, Entry, Content, aim_of, aim_from, becomes_due, Flaw, NoFlaw, Loses, founded_total, HasRow, IsOfOneKey, ExchangeKeys, ConsumerKeys, entry_of, Move, acts_of, reads, bound_to, representation_after, founded_at, new_representation, Tables, Exchange, Representation, Consumer, Sound, IsBound, starts_over, after_accepted, representation_of_content, evicted, loses_writing, survivor}
 use Rattle.hc_event.specs.declared.act.Act.TheVariants as act
 use Rattle.hc_event.specs.declared.act.Wait.TheVariants as wait
 use Rattle.hc_event.specs.declared.event.Event.TheVariants as event
@@ -10,8 +10,7 @@ use Rattle.hc_rules.specs.declared.need.Route.TheVariants as route
 use Rattle.hc_rules.specs.declared.request.Wanted.TheVariants as wanted
 use Rattle.hc_event.specs.declared.place.BoundBy.TheVariants as by
 use Rattle.hc_event.specs.declared.place.Place.TheVariants as place
-use Rattle.hc_model.specs.{ConsumerRows.{with_opening}, Keys.{KeysAreKept, KeysBegin}}
-use Rattle.hc_model.specs.Sound as sound
+use Rattle.hc_model.specs.{Sound.{is_bound}, ConsumerRows.{with_opening}, Keys.{KeysAreKept, KeysBegin}}
 use Rattle.hc_effects.proofs.{ActParts.{IsAnswer, IsSaid, answer_is, said_is}, KeyNames.{opener_key, aims_key}, KeysKeep.{HasExchange, IsOpening, current_row, opened_is, exchange_stays, exchange_new, representation_stays}, NumbersKeep.{opens_next}, PollKeys.{IsNear}}
 use Rattle.hc_effects.proofs.ActParts as parts
 use Rattle.hc_effects.proofs.KeysKeep as keeps
@@ -28,8 +27,7 @@ pub record IsMute (acts : List Act) : Type 0 where
 
 mute_lost : (flaw : Flaw) → IsMute (loss_acts flaw)
 mute_lost NoFlaw = record { opens = refl; shows = refl; waits = λ d. refl }
-mute_lost (Loses r kind) = record { opens = refl; shows = refl; waits = λ d. refl }
-mute_lost (Misreads r) = record { opens = refl; shows = refl; waits = λ d. refl }
+mute_lost _ = record { opens = refl; shows = refl; waits = λ d. refl }
 
 mute_closed : (ys : List ℕ) (rest : List Act) → IsMute rest → IsMute (map act.Close ys ++ rest)
 mute_closed [] rest mute = mute
@@ -40,9 +38,8 @@ mute_closes [] = record { opens = refl; shows = refl; waits = λ d. refl }
 mute_closes (y ∷ ys) = let m = mute_closes ys in record { opens = m.opens; shows = m.shows; waits = m.waits }
 
 mute_loss : (flaw : Flaw) (rest : List Act) → IsMute rest → IsMute (loss_acts flaw ++ rest)
-mute_loss NoFlaw rest mute = mute
 mute_loss (Loses r kind) rest mute = record { opens = mute.opens; shows = mute.shows; waits = mute.waits }
-mute_loss (Misreads r) rest mute = mute
+mute_loss _ rest mute = mute
 
 mute_evicted : (rs : List ℕ) (rest : List Act) → IsMute rest → IsMute (map act.Evicted rs ++ rest)
 mute_evicted [] rest mute = mute
@@ -57,18 +54,11 @@ shown_move t ev c want k _ rest s at row (polls.shows r why head lo hi now) mute
     let is = some_inj _ s h in
     let c_is : c ≡ s.c = ap (λ (q : Showing). q.c) is in
     showing want k (at ∙ ap (λ d. event.Poll d want) c_is) (ap t.consumer (sym c_is) ∙ row) (λ none. now none ∙ ap (λ (q : Showing). Some q.r) is) mute.opens mute.waits
-shown_move t ev c want k _ rest s at row polls.nothing mute h = absurd (none_some s (sym mute.shows ∙ h))
-shown_move t ev c want k _ rest s at row (polls.waits wait) mute h = absurd (none_some s (sym mute.shows ∙ h))
-shown_move t ev c want k _ rest s at row (polls.asks y from) mute h = absurd (none_some s (sym mute.shows ∙ h))
-shown_move t ev c want k _ rest s at row (polls.opens y n request same) mute h = absurd (none_some s (sym mute.shows ∙ h))
-shown_move t ev c want k _ rest s at row (polls.given run) mute h = absurd (none_some s (sym mute.shows ∙ h))
-shown_move t ev c want k _ rest s at row polls.ends mute h = absurd (none_some s (sym mute.shows ∙ h))
-shown_move t ev c want k _ rest s at row (polls.fails cause) mute h = absurd (none_some s (sym mute.shows ∙ h))
+shown_move t ev c want k _ rest s at row _ mute h = absurd (none_some s (sym mute.shows ∙ h))
 
 shown_said : (t : Tables) (now : ℕ) (ev : Event) (flaw : Flaw) (acts rest : List Act) (s : Showing) → IsSaid t now ev flaw acts → IsMute rest → showing_in (acts ++ rest) ≡ Some s → IsShowing t ev s (acts ++ rest)
-shown_said t now ev flaw _ rest s parts.silent mute h = absurd (none_some s (sym mute.shows ∙ h))
 shown_said t now ev flaw _ rest s (parts.does c want k m at row does near) mute h = shown_move t ev c want k m rest s at row near mute h
-shown_said t now ev flaw _ rest s (parts.misreads c want r at is) mute h = absurd (none_some s (sym mute.shows ∙ h))
+shown_said t now ev flaw _ rest s _ mute h = absurd (none_some s (sym mute.shows ∙ h))
 
 shown_by : (limits : Limits) (t : Tables) (now : ℕ) (ev : Event) (flaw : Flaw) (acts : List Act) (s : Showing) → IsAnswer limits t now ev flaw acts → showing_in acts ≡ Some s → IsShowing t ev s acts
 shown_by limits t now ev flaw _ s (parts.told silent) h =
@@ -113,13 +103,9 @@ module _ (limits : Limits) (t : Tables) (now : ℕ) (flaw : Flaw) (s : Sound t) 
 
     -- what it names before
     named : (place : Place) → k.place ≡ place → PlaceIs P place
-    named (place.Bound r lo hi how) at = representation_stays t e r k.request.key (one.consumers.bound r c k (sound.is_bound lo hi how row at))
+    named (place.Bound r lo hi how) at = representation_stays t e r k.request.key (one.consumers.bound r c k (is_bound lo hi how row at))
     named (place.Passed r kept) at = representation_stays t e r k.request.key (one.consumers.passed r c kept k row at)
-    named place.Line at = tt
-    named (place.Turn x) at = tt
-    named (place.Direct x) at = tt
-    named (place.Down cause) at = tt
-    named place.Over at = tt
+    named _ at = tt
 
     owned : (o : Option ℕ) → k.own ≡ o → OwnIs Q o
     owned None is = tt
@@ -148,11 +134,9 @@ module _ (limits : Limits) (t : Tables) (now : ℕ) (flaw : Flaw) (s : Sound t) 
 
     to_wanted : (r : ℕ) (how : BoundBy) (other : Place) (wants : Wanted) → P r → PlaceIs P other → PlaceIs P (bound_to_wanted r how other wants)
     to_wanted r how other (wanted.Interval span) has p = has
-    to_wanted r how other wanted.TotalUnknown has p = p
-    to_wanted r how other wanted.Unsatisfiable has p = p
+    to_wanted r how other _ has p = p
 
     by_case : (x : ℕ) (w : Exchange) (response : Response) (o : Option HeadCase) → ev ≡ event.Head x response → t.exchange x ≡ Some w → w.request.key ≡ k.request.key → case_at t e ≡ o → PlaceIs P (place_by_case x response w k o)
-    by_case x w response None at is same found = named k.place refl
     by_case x w response (Some case.Validated) at is same found = of_aim x w w.aim is same refl
     by_case x w response (Some case.FoundsWhole) at is same found = founded x w response at is same (ap is_founding found)
     by_case x w response (Some case.FirstReplaced) at is same found = founded x w response at is same (ap is_founding found)
@@ -165,13 +149,7 @@ module _ (limits : Limits) (t : Tables) (now : ℕ) (flaw : Flaw) (s : Sound t) 
     by_case x w response (Some case.PassesBy) at is same found = tt
     by_case x w response (Some case.FirstServerError) at is same found = tt
     by_case x w response (Some case.FirstPassesBy) at is same found = tt
-    by_case x w response (Some case.DirectTaken) at is same found = named k.place refl
-    by_case x w response (Some case.NotValidated) at is same found = named k.place refl
-    by_case x w response (Some case.FirstJoins) at is same found = named k.place refl
-    by_case x w response (Some case.FirstChanged) at is same found = named k.place refl
-    by_case x w response (Some case.LaterBad) at is same found = named k.place refl
-    by_case x w response (Some case.LaterJoins) at is same found = named k.place refl
-    by_case x w response (Some case.LaterChanged) at is same found = named k.place refl
+    by_case x w response _ at is same found = named k.place refl
 
     -- what event and acts make of it names what is of its key
     record IsKeyed (q : Consumer) : Type 0 where
@@ -189,9 +167,8 @@ module _ (limits : Limits) (t : Tables) (now : ℕ) (flaw : Flaw) (s : Sound t) 
     head_keyed : (x : ℕ) (response : Response) (o : Option Exchange) → ev ≡ event.Head x response → t.exchange x ≡ o → IsKeyed (by_head t e c x response o k)
     head_keyed x response None at is = itself
     head_keyed x response (Some w) at is = keyed_if (w.c == c) _ k (λ mine.
-        let same = opener_key t x w k one.exchanges is (ap t.consumer (eq_is w.c c mine) ∙ row) in
         record {
-          place = by_case x w response (case_at t e) at is same refl;
+          place = by_case x w response (case_at t e) at is (opener_key t x w k one.exchanges is (ap t.consumer (eq_is w.c c mine) ∙ row)) refl;
           own = own_if Q (becomes_shared t e response w (case_at t e)) None k.own tt (owned k.own refl);
           request = refl;
         }) itself
@@ -217,11 +194,9 @@ module _ (limits : Limits) (t : Tables) (now : ℕ) (flaw : Flaw) (s : Sound t) 
       passed_now kept (Some r) is = for_current r is
 
       waits_keyed : (o : Option Wait) → PlaceIs P (waiting_place t q o)
-      waits_keyed None = keyed.place
       waits_keyed (Some (wait.Turn d)) = tt
       waits_keyed (Some (wait.Busy d)) = passed_now (kept_by q.place) (current t q.request.key) refl
-      waits_keyed (Some (wait.Head x)) = keyed.place
-      waits_keyed (Some (wait.Body x)) = keyed.place
+      waits_keyed _ = keyed.place
 
       waiting_keyed : IsKeyed (waiting t e c q)
       waiting_keyed = record { place = waits_keyed (wait_in c e.acts); own = keyed.own; request = keyed.request }
@@ -232,9 +207,8 @@ module _ (limits : Limits) (t : Tables) (now : ℕ) (flaw : Flaw) (s : Sound t) 
       hole_keyed x (Some r) (Some v) is = to_wanted r (by.FirstHole x) place.Line (wanted_of (range_of q.request) v.head.total) (for_current r is) tt
 
       opened_keyed : (x : ℕ) (way : Route) → PlaceIs P (opened_place t x q way)
-      opened_keyed x route.Direct = tt
-      opened_keyed x route.Turn = tt
       opened_keyed x route.Hole = hole_keyed x (current t q.request.key) (row_of t (current t q.request.key)) refl
+      opened_keyed x _ = tt
 
       unless_keyed : (o : Option ℕ) (new : Place) → PlaceIs P new → PlaceIs P (unless_bound o q.place new)
       unless_keyed None new p = p
@@ -251,10 +225,8 @@ module _ (limits : Limits) (t : Tables) (now : ℕ) (flaw : Flaw) (s : Sound t) 
           opened_own : (o : Opening) → opening_in e.acts ≡ Some o → o.c ≡ c → IsOpening t ev o → Q o.x
           opened_own o is mine (keeps.opening want z at there same) =
               let next = opens_next limits t now flaw s ev o goes is in
-              let absent : t.exchange o.x ≡ None = s.numbered.lists.new_exchanges o.x (omega arith) in
-              let has = exchange_new t e o.x o is refl absent in
-              let it : z ≡ k = same_row (t.consumer c) z k (ap t.consumer (sym mine) ∙ there) row in
-              (has.0, has.1, has.2 ∙ (same ∙ ap (λ (y : Consumer). y.request.key) it))
+              let has = exchange_new t e o.x o is refl (s.numbered.lists.new_exchanges o.x (omega arith)) in
+              (has.0, has.1, has.2 ∙ (same ∙ ap (λ (y : Consumer). y.request.key) (same_row (t.consumer c) z k (ap t.consumer (sym mine) ∙ there) row)))
 
     key_back : (r : ℕ) (v : Representation) → P r → t.representation r ≡ Some v → v.key ≡ k.request.key
     key_back r v has there =
@@ -273,12 +245,7 @@ module _ (limits : Limits) (t : Tables) (now : ℕ) (flaw : Flaw) (s : Sound t) 
 
     own_keyed : (place : Place) (own : Option ℕ) → PlaceIs P place → OwnIs Q own → OwnIs Q (own_after t e c place own)
     own_keyed (place.Bound r lo hi how) own has is = left_keyed r own (t.representation r) has refl is
-    own_keyed place.Line own has is = is
-    own_keyed (place.Passed r kept) own has is = is
-    own_keyed (place.Turn x) own has is = is
-    own_keyed (place.Direct x) own has is = is
-    own_keyed (place.Down cause) own has is = is
-    own_keyed place.Over own has is = is
+    own_keyed _ own has is = is
 
     -- what it is shown, where it read nothing
     shown_keyed : (p : Place) (o : Option Showing) → showing_in e.acts ≡ o → PlaceIs P p → (reads p ≡ false → (z : Showing) → showing_in e.acts ≡ Some z → z.c ≡ c → P z.r) → PlaceIs P (shown_place c o p)
@@ -302,18 +269,15 @@ module _ (limits : Limits) (t : Tables) (now : ℕ) (flaw : Flaw) (s : Sound t) 
     shown_now : (z : Showing) → z.c ≡ c → reads opened.place ≡ false → IsShowing t ev z e.acts → P z.r
     shown_now z mine none (showing want y at there now opens waits) =
         let same : y ≡ k = same_row (t.consumer c) y k (ap t.consumer (sym mine) ∙ there) row in
-        let quiet : heard ≡ k = poll_quiet ev z.c want at in
         let stays : opened ≡ k =
         ap (λ o. by_opening t c o (waiting t e c heard)) opens
-        ∙ (ap (λ (q : Consumer). waiting t e c q) quiet ∙ ap (λ o. record k { place = waiting_place t k o }) (waits c)) in
-        let reads_none : reads y.place ≡ false = ap (λ (q : Consumer). reads q.place) (same ∙ sym stays) ∙ none in
-        now_current z.r (ap (λ (q : Consumer). current t q.request.key) (sym same) ∙ now reads_none)
+        ∙ (ap (λ (q : Consumer). waiting t e c q) (poll_quiet ev z.c want at) ∙ ap (λ o. record k { place = waiting_place t k o }) (waits c)) in
+        now_current z.r (ap (λ (q : Consumer). current t q.request.key) (sym same) ∙ now (ap (λ (q : Consumer). reads q.place) (same ∙ sym stays) ∙ none))
 
     acted_keyed : IsKeyed (consumer_acted t e c heard)
     acted_keyed =
         let h = heard_keyed ev refl in
-        let w = waiting_keyed heard h in
-        let o = opening_keyed (waiting t e c heard) w (opening_in e.acts) refl in
+        let o = opening_keyed (waiting t e c heard) (waiting_keyed heard h) (opening_in e.acts) refl in
         record {
           place = left_or (leaves_in c e.acts) (shown_place c (showing_in e.acts) opened.place) (shown_keyed opened.place (showing_in e.acts) refl o.place (λ none z is mine. shown_now z mine none (shown_is limits t now ev flaw z is)));
           own = own_keyed heard.place opened.own h.place o.own;
@@ -380,7 +344,7 @@ module _ (limits : Limits) (t : Tables) (now : ℕ) (flaw : Flaw) (s : Sound t) 
   place_row r key p q same is = subst (λ z. PlaceIs (λ r. HasRow u r key) z) same is
 
   bound_names : (r c : ℕ) (z : Consumer) → IsBound u r c z → HasRow u r z.request.key
-  bound_names r c z (sound.is_bound lo hi how row at) = place_row r z.request.key z.place (place.Bound r lo hi how) at (names_its_key c (t.consumer c) z refl row).place
+  bound_names r c z (is_bound lo hi how row at) = place_row r z.request.key z.place (place.Bound r lo hi how) at (names_its_key c (t.consumer c) z refl row).place
 
   own_names : (x : ℕ) (key : List ℕ) (o p : Option ℕ) → o ≡ p → OwnIs (λ x. HasExchange u x key) o → OwnIs (λ x. HasExchange u x key) p
   own_names x key o p same is = subst (λ z. OwnIs (λ x. HasExchange u x key) z) same is
@@ -416,14 +380,8 @@ module _ (limits : Limits) (t : Tables) (now : ℕ) (flaw : Flaw) (s : Sound t) 
 
   aim_row : (r : ℕ) (k : Consumer) (place : Place) (c : ℕ) → t.consumer c ≡ Some k → k.place ≡ place → aim_from t k.request.key place ≡ Some r → HasRow u r k.request.key
   aim_row r k (place.Bound q lo hi how) c row at is =
-      let has = one.consumers.bound q c k (sound.is_bound lo hi how row at) in
-      subst (λ n. HasRow u n k.request.key) (some_inj q r is) (representation_stays t e q k.request.key has)
-  aim_row r k place.Line c row at is = now_current c k row r is
-  aim_row r k (place.Passed q kept) c row at is = now_current c k row r is
-  aim_row r k (place.Turn x) c row at is = now_current c k row r is
-  aim_row r k (place.Direct x) c row at is = now_current c k row r is
-  aim_row r k (place.Down cause) c row at is = now_current c k row r is
-  aim_row r k place.Over c row at is = now_current c k row r is
+      subst (λ n. HasRow u n k.request.key) (some_inj q r is) (representation_stays t e q k.request.key (one.consumers.bound q c k (is_bound lo hi how row at)))
+  aim_row r k _ c row at is = now_current c k row r is
 
   aim_of_new : (r : ℕ) (o : Opening) → IsOpening t ev o → aim_of t (t.consumer o.c) ≡ Some r → HasRow u r o.request.key
   aim_of_new r o (keeps.opening want k at row same) is =
@@ -459,8 +417,7 @@ module _ (limits : Limits) (t : Tables) (now : ℕ) (flaw : Flaw) (s : Sound t) 
   writer_was : (r x : ℕ) (old v : Representation) → t.representation r ≡ Some old → v.key ≡ old.key → keeps.WasWriter t e r old v → v.writer ≡ Some x → (w : Exchange) × (t.exchange x ≡ Some w) × (w.request.key ≡ v.key)
   writer_was r x old v there key (keeps.kept same) is = let w = one.exchanges.writers r x old there (sym same ∙ is) in (w.0, w.1, sym (key ∙ w.2))
   writer_was r x old v there key (keeps.resumed y w row aim same) is =
-      let here : y ≡ x = some_inj y x (sym same ∙ is) in
-      (w, ap t.exchange (sym here) ∙ row, sym (key ∙ aims_key t y r w old one.exchanges row aim there))
+      (w, ap t.exchange (sym (some_inj y x (sym same ∙ is))) ∙ row, sym (key ∙ aims_key t y r w old one.exchanges row aim there))
 
   writer_new : (r x status : ℕ) (w : Exchange) → t.exchange r ≡ Some w → (b : Bool) → (if b then None else Some r) ≡ Some x → t.exchange x ≡ Some w
   writer_new r x status w row true is = absurd (none_some x is)

@@ -10,9 +10,7 @@ use Rattle.hc_laws.proofs.{Positions.{below_full, below_most, full_below, no_oth
 
 same_self : (k : Kind) → same_kind k k ≡ true
 same_self kind.Growing = refl
-same_self kind.Whole = refl
-same_self kind.Truncated = refl
-same_self kind.Ranges = refl
+same_self _ = refl
 
 -- the kind of so much
 abbrev pub kind_by : Bool → Bool → Kind
@@ -27,9 +25,7 @@ module _ (f : Cells) (reach total : ℕ) (ends : EndsBy reach f) (tight : (m : �
 
   pub count_is : bytes ≡ size_below f reach
   unfolding size_below
-  count_is =
-      let same : 0 + reach ≡ reach = omega arith in
-      by_sum (size_below f reach) (size_below f 0) bytes (ap (size_below f) (sym same) ∙ bytes_from f 0 reach) refl
+  count_is = by_sum (size_below f reach) (size_below f 0) bytes (ap (size_below f) (sym (omega arith)) ∙ bytes_from f 0 reach) refl
     where
       by_sum : (a b c : ℕ) → a ≡ b + c → b ≡ 0 → c ≡ a
       by_sum a b c sum none = omega arith
@@ -43,9 +39,7 @@ module _ (f : Cells) (reach total : ℕ) (ends : EndsBy reach f) (tight : (m : �
   -- what is covered ends where bytes do
   covered_end : Covers f 0 total → total ≡ reach
   covered_end all = elim (bool_cases (nat_lt reach total)) [
-    | inl past ↦
-        let over : reach < total = grind (arith, nat_tests) in
-        absurd (false_true (sym (ap is_some (ends reach (omega arith))) ∙ all reach (omega arith) over))
+    | inl past ↦ absurd (false_true (sym (ap is_some (ends reach (omega arith))) ∙ all reach (omega arith) (grind (arith, nat_tests))))
     | inr near ↦ let under : total ≤ reach = grind (arith, nat_tests) in omega arith
   ]
 
@@ -74,21 +68,18 @@ module _ (f : Cells) (reach total : ℕ) (ends : EndsBy reach f) (tight : (m : �
       to : (nat_lt 0 size && covers f reach 0 size) ≡ true → (nat_lt 0 bytes && last == bytes) ≡ true
       to h =
           let some : nat_lt 0 size ≡ true = and_left (nat_lt 0 size) (covers f reach 0 size) h in
-          let all : Covers f 0 size = covers_all f reach 0 size (and_right (nat_lt 0 size) (covers f reach 0 size) h) in
           let a : last ≡ reach = last_is in
           let b : bytes ≡ size_below f reach = count_is in
           let most : size_below f reach ≤ reach = below_most f reach in
-          let up : reach ≤ size = by_reach all in
-          let first : nat_lt 0 bytes ≡ true = (let over : 0 < size = grind (arith, nat_tests) in let less : 0 < bytes = omega arith in grind (arith, nat_tests)) in
-          and_both _ _ first (eq_yes last bytes (omega arith))
+          let up : reach ≤ size = by_reach (covers_all f reach 0 size (and_right (nat_lt 0 size) (covers f reach 0 size) h)) in
+          and_both _ _ (let over : 0 < size = grind (arith, nat_tests) in let less : 0 < bytes = omega arith in grind (arith, nat_tests)) (eq_yes last bytes (omega arith))
         where
           by_reach : Covers f 0 size → reach ≤ size
           by_reach all = elim (bool_cases (nat_lt size reach)) [
             | inr near ↦ grind (arith, nat_tests)
             | inl past ↦
                 let over : size < reach = grind (arith, nat_tests) in
-                let before : reach ≡ (reach - 1) + 1 = omega arith in
-                absurd (no_other_below f size (reach - 1) reach all (sym is) (omega arith) (omega arith) (tight (reach - 1) before))
+                absurd (no_other_below f size (reach - 1) reach all (sym is) (omega arith) (omega arith) (tight (reach - 1) (omega arith)))
           ]
 
       back : (nat_lt 0 bytes && last == bytes) ≡ true → (nat_lt 0 size && covers f reach 0 size) ≡ true

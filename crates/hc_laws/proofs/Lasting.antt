@@ -1,10 +1,9 @@
 -- What is written for several and can't be completed later goes on being written, or is all there, as long as it isn't gone.
-use Rattle.std.{proofs.{Common.{◌≡◌, ◌⊎◌, inl, inr, ℕ, ◌≤◌, length, Bool, true, false, Some, None, refl, ap, sym, ◌∙◌, arith}, lemmas.Bool.Decides.{nat_tests}}, specs.Prelude.{◌&&◌, ◌||◌, ◌==◌, not, nat_eq, nat_lt}}
+use Rattle.std.{proofs.{Common.{◌≡◌, ◌⊎◌, inl, inr, ℕ, ◌≤◌, length, Bool, true, false, Some, None, refl, ap, sym, ◌∙◌, arith}, lemmas.Bool.Decides.{nat_tests}}, specs.Prelude.{◌&&◌, ◌==◌, not, nat_eq, nat_lt}}
 use Rattle.hc_text.proofs.Basics.{bool_cases}
-use Rattle.hc_effects.proofs.Vocabulary.{closes_in, Event, Limits, loses_in, denial, Entry, promised_bytes, is_open, Flaw, becomes_gone, goes_itself, ends_early, ends_founding, stops_early, is_keepable, is_below, entry_of, Measures, Owners, is_written, representation_heard, Tables, Exchange, Representation, Sound, IsGrowing, after_accepted}
+use Rattle.hc_effects.proofs.Vocabulary.{closes_in, Event, Limits, loses_in, denial, Entry, promised_bytes, is_open, Flaw, becomes_gone, goes_itself, ends_early, ends_founding, stops_early, is_keepable, is_below, entry_of, Measures, Owners, is_written, Tables, Exchange, Representation, Sound, IsGrowing, after_accepted}
 use Rattle.hc_event.specs.declared.event.Event.TheVariants as event
-use Rattle.hc_effects.proofs.{ApartKeeps.{is_on}, Basics.{false_true, true_false, or_false}, RepFrom.{IsKept}, WritingStops.{IsAll, ends_all}}
-use Rattle.hc_effects.proofs.RepFrom as rep
+use Rattle.hc_effects.proofs.{ApartKeeps.{is_on}, Basics.{false_true, or_false}, RepFrom.{heard, IsKept}, WritingStops.{IsAll, ends_all}}
 
 module _ (limits : Limits) (t : Tables) (now : ℕ) (flaw : Flaw) (s : Sound t) (o : Owners t) (m : Measures t) (ev : Event) (goes : denial t ev ≡ None) where
   abbrev e : Entry
@@ -16,9 +15,8 @@ module _ (limits : Limits) (t : Tables) (now : ℕ) (flaw : Flaw) (s : Sound t) 
   module _ (r : ℕ) (v p : Representation) (there : t.representation r ≡ Some v) (kept : IsKept t e r v p) (not_gone : p.is_gone ≡ false) where
     goes_parts : (becomes_gone t e r v ≡ false) × (v.is_gone ≡ false)
     goes_parts =
-        let is : (becomes_gone t e r v || (representation_heard t e r ev v).is_gone) ≡ false = ap (λ (q : Representation). q.is_gone) kept.is ∙ not_gone in
-        let both = or_false (becomes_gone t e r v) _ is in
-        (both.0, sym (rep.heard t e r v ev refl).gone_is ∙ both.1)
+        let both = or_false (becomes_gone t e r v) _ (ap (λ (q : Representation). q.is_gone) kept.is ∙ not_gone) in
+        (both.0, sym (heard t e r v ev refl).gone_is ∙ both.1)
 
     pub was_not_gone : v.is_gone ≡ false
     was_not_gone = goes_parts.1
@@ -27,10 +25,8 @@ module _ (limits : Limits) (t : Tables) (now : ℕ) (flaw : Flaw) (s : Sound t) 
     pub not_lost : loses_in r e.acts ≡ false
     unfolding becomes_gone
     not_lost =
-        let itself = (or_false (goes_itself t e r v) _ goes_parts.0).0 in
-        let a = (or_false _ (ends_early t e r v && not (is_keepable v)) itself).0 in
-        let b = (or_false _ (Rattle.hc_model.specs.ActFilters.misreads_in r e.acts) a).0 in
-        (or_false _ (loses_in r e.acts) b).1
+        let a = (or_false _ (ends_early t e r v && not (is_keepable v)) ((or_false (goes_itself t e r v) _ goes_parts.0).0)).0 in
+        (or_false _ (loses_in r e.acts) ((or_false _ (Rattle.hc_model.specs.ActFilters.misreads_in r e.acts) a).0)).1
 
     not_early : (ends_early t e r v && not (is_keepable v)) ≡ false
     unfolding becomes_gone
@@ -42,8 +38,7 @@ module _ (limits : Limits) (t : Tables) (now : ℕ) (flaw : Flaw) (s : Sound t) 
         where
           by_test : (a b : Bool) → (a && not b) ≡ false → b ≡ false → a ≡ false
           by_test false b h off = refl
-          by_test true true h off = absurd (true_false off)
-          by_test true false h off = absurd (true_false h)
+          by_test _ _ h off = cc
 
       not_founding_end : ends_founding e r (t.exchange r) ≡ false
       not_founding_end = by_test (v.head.status == 200) (ends_founding e r (t.exchange r)) lasts (let st : v.head.status ≡ 200 = whole in let test : nat_eq v.head.status 200 ≡ true = grind (arith, nat_tests) in test)

@@ -1,5 +1,5 @@
 -- A live consumer that is cancelled leaves, and nobody else does.
-use Rattle.std.{proofs.{Common.{◌≡◌, inl, inr, ℕ, Bool, true, false, refl, ap, sym, ◌∙◌, subst, arith}, lemmas.Bool.Decides.{nat_tests}}, specs.Prelude.{nat_eq}}
+use Rattle.std.{proofs.{Common.{◌≡◌, inl, inr, ℕ, Bool, true, false, refl, sym, ◌∙◌, subst, arith}, lemmas.Bool.Decides.{nat_tests}}, specs.Prelude.{nat_eq}}
 use Rattle.hc_effects.proofs.Vocabulary.{leaves_in, Event, Limits, is_live, Entry, Lawful, Tables, IsOwed, after}
 use Rattle.hc_event.specs.declared.event.Event.TheVariants as event
 use Rattle.hc_model.specs.Live.{WhoLeavesGoes}
@@ -25,9 +25,7 @@ module _ (limits : Limits) (t : Tables) (law : Lawful t) (e : Entry) (c : ℕ) (
   others d far = by_test (is_live (t.consumer d)) refl
     where
       other : e.event ≡ event.Cancel d → ⊥
-      other is_d =
-          let same : c ≡ d = ap who (sym at ∙ is_d) in
-          let never : true ≡ false = grind (arith, nat_tests) in cc
+      other is_d = let never : true ≡ false = grind (arith, nat_tests) in cc
 
       by_test : (b : Bool) → is_live (t.consumer d) ≡ b → is_live ((after t e).consumer d) ≡ is_live (t.consumer d)
       by_test true on = stays_live t e d other (quiet d) on ∙ sym on

@@ -1,17 +1,15 @@
 -- A store may begin with what a run leaves.
 use Rattle.std.{proofs.{Common.{◌≡◌, ◌≢◌, inl, inr, ℕ, ◌+◌, ◌<◌, ◌≤◌, ◌^◌, List, [], ◌∷◌, length, Bool, true, false, Option, Some, None, refl, ap, sym, ◌∙◌, subst, arith}, lemmas.{Bool.Decides.{nat_tests}, List.Sums.{sum_by-cons}}}, specs.{Prelude.{is_some, nat_eq, nat_le, nat_lt, bytes_eq, ◌==◌, ◌&&◌, ◌||◌, not, filter, filter_map, reverse, option_map, if◌then◌else◌}, List.{list_any, sum_by}}}
-use Rattle.hc_text.proofs.Basics.{both_true as and_both, and_left, and_right, bool_cases, not_some as none_some, some_inj}
+use Rattle.hc_text.proofs.Basics.{or_right, both_true as and_both, and_left, and_right, bool_cases, not_some as none_some, some_inj}
 use Rattle.hc_record.specs.declared.kind.Kind.TheVariants as kind
 use Rattle.hc_rules.proofs.RangeReads.{same_bytes}
 use Rattle.hc_effects.proofs.Vocabulary.{weight_of, Limits, may_begin, are_good, is_good, is_given_out, has_own_numbers, is_own_run, says, is_kind_right, same_kind, kind_of_runs, ascend_from, needs_tag, is_whole, has_right_head, weights_of, runs_from, content_of, content_at, idle_now, contents_of, is_current, Content, Contents, family, covers, kind_of, brings_to, is_complete, covers_all, is_front, IsInLimits, AreOnce, HasByte, Origins, bound, is_written, Tables, Exchange, Representation, Sizes, Sound, Among, IsStored, StoredHeads, AreWithinLimits, IsOfOne, Tags, tables, bytes_in, last_end, KeysAreTargets}
 use Rattle.hc_sparse.specs.{Cells.{Covers}, declared.run.Run.{Run}}
-use Rattle.hc_model.specs.{Contents.{is_idle}, Laws.{LeavesInRuns}}
+use Rattle.hc_model.specs.{Sound.{headed}, Contents.{is_idle}, Laws.{LeavesInRuns}}
 use Rattle.hc_model.specs.Origins as origins
-use Rattle.hc_model.specs.Sound as sound
 use Rattle.hc_model.specs.StoredHeads as heads
-use Rattle.hc_effects.proofs.{Basics.{false_true}, HoleLemmas.{covers_yes}, ExclusiveWriters.{none_about}, PieceKeeps.{eq_cases}, PollKeeps.{current_stays}, Sums.{sum_le, sum_some, is_in, among_of, filter_among, filter_once, reverse_among, reverse_once}, Weighed.{held, total, held_is}}
+use Rattle.hc_effects.proofs.{Basics.{false_true}, HoleLemmas.{covers_yes}, ExclusiveWriters.{none_about}, PieceKeeps.{eq_cases}, PollKeeps.{current_stays}, Sums.{sum_le, sum_some, is_in, among_of, filter_among, filter_once, reverse_among, reverse_once}, Weighed.{fresh, held, total, held_is}}
 use Rattle.hc_laws.proofs.{FitsKept.{Fits}, KindsLeft.{kind_by, kind_right, count_is, last_is}, OriginRuns.{origins_in_runs}, RunsFrom.{HasCell, is_of, of_cell, all_of, ascends}, SizesKeep.{sized_runs}, SoundRuns.{IsCarried, carried}, StoredHeadsKeep.{heads_in_runs, within_limits_in_runs}, TargetRuns.{keys_stay_targets}, TagRuns.{tags_in_runs}, Unknowns.{Unknown}, WaitsInRuns.{unknown_in_runs}}
-use Rattle.hc_effects.proofs.Weighed as weighed
 
 not_by : (b : Bool) → b ≡ false → not b ≡ true
 not_by b off = rw off refl
@@ -23,7 +21,6 @@ number_is (Some m) n h = let same : m ≡ n = grind (arith, nat_tests) in ap Som
 is_empty : (xs : List ℕ) → (length xs == 0) ≡ true → xs ≡ []
 is_empty [] h = refl
 is_empty (x ∷ xs) h =
-    let test : nat_eq (length (x ∷ xs)) 0 ≡ true = h in
     let none : length (x ∷ xs) ≡ 0 = grind (arith, nat_tests) in
     absurd (omega arith)
 
@@ -92,10 +89,9 @@ module _ (limits : Limits) (t : Tables) (g : IsSettled limits t) where
     headed_not x w row on of_r = by_head w.head refl
       where
         by_head : (z : Option Rattle.hc_event.specs.declared.event.Response.Response) → w.head ≡ z → ⊥
-        by_head (Some response) is = none_about t r x v s i.row i.nobody (sound.headed w row on (ap is_some is) of_r (ap is_some i.row))
+        by_head (Some response) is = none_about t r x v s i.row i.nobody (headed w row on (ap is_some is) of_r (ap is_some i.row))
         by_head None is =
-            let alone : w.joined ≡ None = (s.waits.headless x w row is).1 in
-            let mine : x ≡ r = sym (ap (λ (z : Option ℕ). Rattle.std.specs.Prelude.unwrap_or z x) alone) ∙ of_r in
+            let mine : x ≡ r = sym (ap (λ (z : Option ℕ). Rattle.std.specs.Prelude.unwrap_or z x) ((s.waits.headless x w row is).1)) ∙ of_r in
             none_some v (sym (s.numbered.names.unfounded x w row is) ∙ (ap t.representation mine ∙ i.row))
 
     not_growing : (xs : List ℕ) → list_any (λ x. brings_to r x (t.exchange x)) xs ≡ false
@@ -106,9 +102,7 @@ module _ (limits : Limits) (t : Tables) (g : IsSettled limits t) where
         by_row None row = refl
         by_row (Some w) row = elim (bool_cases (w.is_open && family x w == r)) [
           | inr off ↦ off
-          | inl on ↦
-              let test : nat_eq (family x w) r ≡ true = and_right w.is_open (family x w == r) on in
-              absurd (headed_not x w row (and_left w.is_open (family x w == r) on) (grind (arith, nat_tests)))
+          | inl on ↦ absurd (headed_not x w row (and_left w.is_open (family x w == r) on) (grind (arith, nat_tests)))
         ]
 
     -- its length is known
@@ -134,14 +128,11 @@ module _ (limits : Limits) (t : Tables) (g : IsSettled limits t) where
     count : bytes_in item.runs ≡ v.size
     count = count_is v.stored v.reach length_is ends tight within ∙ sym (g.sizes.counted r v i.row)
 
-    complete_is : is_complete v ≡ covers v.stored v.reach 0 length_is
-    complete_is = ap (covers_all v) known.1
-
     kind_is : kind_of t r v ≡ kind_by (covers v.stored v.reach 0 length_is) (nat_lt 0 v.size && covers v.stored v.reach 0 v.size)
     unfolding kind_of
     kind_is =
         ap (λ b. if b then kind.Growing else kind_by (is_complete v) (is_front v)) (not_growing t.openings)
-        ∙ ap (λ b. kind_by b (is_front v)) complete_is
+        ∙ ap (λ b. kind_by b (is_front v)) (ap (covers_all v) known.1)
 
     kind_ok : is_kind_right item item.head.total ≡ true
     kind_ok = by_total item.head.total known.1
@@ -152,9 +143,8 @@ module _ (limits : Limits) (t : Tables) (g : IsSettled limits t) where
             let same : n ≡ length_is = some_inj n length_is is in
             let last : last_end item.runs ≡ v.reach = last_is v.stored v.reach length_is ends tight within in
             let most : v.reach ≤ length_is = within in
-            let first : nat_le (last_end item.runs) n ≡ true = (let le : last_end item.runs ≤ n = omega arith in grind (arith, nat_tests)) in
             let kinds : same_kind (kind_of t r v) (kind_of_runs item.runs length_is) ≡ true = ap (λ k. same_kind k (kind_of_runs item.runs length_is)) kind_is ∙ kind_right v.stored v.reach length_is ends tight within v.size (g.sizes.counted r v i.row) in
-            and_both _ _ first (ap (λ k. same_kind (kind_of t r v) (kind_of_runs item.runs k)) same ∙ kinds)
+            and_both _ _ (let le : last_end item.runs ≤ n = omega arith in grind (arith, nat_tests)) (ap (λ k. same_kind (kind_of t r v) (kind_of_runs item.runs k)) same ∙ kinds)
 
     -- ITS NUMBERS
 
@@ -165,8 +155,6 @@ module _ (limits : Limits) (t : Tables) (g : IsSettled limits t) where
 
     given : (x : ℕ) → (0 < x) × (x ≤ t.opened) → is_given_out left x ≡ true
     given x range =
-        let low : 0 < x = range.0 in
-        let high : x ≤ t.opened = range.1 in
         let a : nat_lt 0 x ≡ true = grind (arith, nat_tests) in
         let b : nat_lt x (t.opened + 1) ≡ true = (let under : x < t.opened + 1 = omega arith in grind (arith, nat_tests)) in
         and_both _ _ a b
@@ -195,10 +183,6 @@ module _ (limits : Limits) (t : Tables) (g : IsSettled limits t) where
             let mine : run.x ≡ r = own run.x (rw self refl) in
             let test : nat_eq run.x r ≡ true = grind (arith, nat_tests) in
             rw test (runs_own runs (λ x any. own x (or_right (is_of x run) (list_any (is_of x) runs) any)))
-          where
-            or_right : (a b : Bool) → b ≡ true → (a || b) ≡ true
-            or_right true b h = refl
-            or_right false b h = h
 
         whole_kind : (n : ℕ) → v.head.total ≡ Some n → Covers v.stored 0 n → is_whole (kind_of t r v) ≡ true
         whole_kind n is covered =
@@ -223,9 +207,6 @@ module _ (limits : Limits) (t : Tables) (g : IsSettled limits t) where
 
     head_ok : has_right_head left item ≡ true
     head_ok =
-        let m = g.heads.moments r v i.row in
-        let asked : v.head.requested ≤ v.head.answered = m.0 in
-        let came : v.head.answered ≤ t.moment = m.1 in
         let a : nat_le v.head.requested v.head.answered ≡ true = grind (arith, nat_tests) in
         let b : nat_le v.head.answered t.moment ≡ true = grind (arith, nat_tests) in
         rw (a, b, g.heads.lengths r v i.row, g.heads.ranges r v i.row, g.within_limits r v i.row) (by_need (needs_tag item) (is_some v.head.joining) tag_needed)
@@ -242,7 +223,7 @@ module _ (limits : Limits) (t : Tables) (g : IsSettled limits t) where
         grind (arith, nat_tests)
 
     weighs : weight_of (bytes_in item.runs) ≡ held t r
-    weighs = ap weight_of count ∙ sym (held_is t r v s i.row (weighed.fresh i.not_gone))
+    weighs = ap weight_of count ∙ sym (held_is t r v s i.row (fresh i.not_gone))
 
   -- OTHERS
 
@@ -266,8 +247,7 @@ module _ (limits : Limits) (t : Tables) (g : IsSettled limits t) where
     other_key a o = elim (bool_cases (bytes_eq a.key i.v.key)) [
       | inr off ↦ off
       | inl same ↦
-          let key_is : o.idle.v.key ≡ i.v.key = ap (λ (z : Content). z.key) o.is ∙ same_bytes a.key i.v.key same in
-          absurd (o.other (s.one_current o.q r o.idle.v i.v o.idle.row i.row o.idle.not_gone i.not_gone key_is))
+          absurd (o.other (s.one_current o.q r o.idle.v i.v o.idle.row i.row o.idle.not_gone i.not_gone (ap (λ (z : Content). z.key) o.is ∙ same_bytes a.key i.v.key same)))
     ]
 
     -- says no number of r
@@ -293,8 +273,7 @@ module _ (limits : Limits) (t : Tables) (g : IsSettled limits t) where
       | inr off ↦ off.0
       | inl here ↦
           let number : o.q ≡ x = ap (λ (z : Content). z.r) o.is ∙ here.1 in
-          let own : x ≡ r = g.origins.own r x mine (ap (λ n. is_some (t.representation n)) (sym number) ∙ ap is_some o.idle.row) in
-          absurd (o.other (number ∙ own))
+          absurd (o.other (number ∙ g.origins.own r x mine (ap (λ n. is_some (t.representation n)) (sym number) ∙ ap is_some o.idle.row)))
     ]
 
     own_numbers : (earlier later : List Content) → AllOther r earlier → AllOther r later → has_own_numbers left earlier (item r i) later ≡ true
@@ -378,7 +357,6 @@ module _ (limits : Limits) (t : Tables) (g : IsSettled limits t) where
       let is : weights_of left.items ≡ sum_by (held t) (idle_now t) = weights_is (idle_now t) (all_idle (reverse t.used)) in
       let some : sum_by (held t) (idle_now t) ≤ sum_by (among_of (held t) (idle_now t)) t.founded = sum_some (held t) (idle_now t) t.founded once_idle idle_founded in
       let most : sum_by (among_of (held t) (idle_now t)) t.founded ≤ sum_by (held t) t.founded = sum_le (among_of (held t) (idle_now t)) (held t) t.founded (λ r among. by_test r (is_in (idle_now t) r)) in
-      let fits : total t ≤ limits.max_total = g.fits.within in
       omega arith
     where
       by_test : (r : ℕ) (b : Bool) → (if b then held t r else 0) ≤ held t r

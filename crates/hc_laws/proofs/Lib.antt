@@ -109,6 +109,7 @@ pub mod LossRuns
 pub mod LawfulRuns
 pub mod LiveRuns
 pub mod OpenRuns
+pub mod OpensLater
 pub mod PartRuns
 pub mod AimRuns
 pub mod FrontRuns

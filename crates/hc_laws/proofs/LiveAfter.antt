@@ -28,29 +28,16 @@ made_live c now (event.Start d request) h = by_test (nat_eq d c) refl h
     by_test : (b : Bool) → nat_eq d c ≡ b → is_live (if b then Some (new_consumer now request) else None) ≡ true → d ≡ c
     by_test true is g = grind (arith, nat_tests)
     by_test false is g = absurd (let never : false ≡ true = g in cc)
-made_live c now (event.Poll d want) h = absurd (let never : false ≡ true = h in cc)
-made_live c now (event.Head x response) h = absurd (let never : false ≡ true = h in cc)
-made_live c now (event.Piece x bytes) h = absurd (let never : false ≡ true = h in cc)
-made_live c now (event.End x) h = absurd (let never : false ≡ true = h in cc)
-made_live c now (event.Fault x) h = absurd (let never : false ≡ true = h in cc)
-made_live c now (event.Cancel d) h = absurd (let never : false ≡ true = h in cc)
-made_live c now (event.Doom key) h = absurd (let never : false ≡ true = h in cc)
+made_live c now _ h = absurd (let never : false ≡ true = h in cc)
 
 over_or_live : (p : Place) → (p ≡ place.Over) ⊎ (is_live_place p ≡ true)
 over_or_live place.Over = inl refl
-over_or_live place.Line = inr refl
-over_or_live (place.Passed r kept) = inr refl
-over_or_live (place.Turn x) = inr refl
-over_or_live (place.Bound r lo hi how) = inr refl
-over_or_live (place.Direct x) = inr refl
-over_or_live (place.Down why) = inr refl
+over_or_live _ = inr refl
 
 module _ (limits : Limits) (t : Tables) (e : Entry) (law : Lawful t) (is : IsOwed limits t e) where
   -- an accepted entry is that of its event
   entry_is : is_denied e.acts ≡ false → e ≡ record { now = e.now; event = e.event; acts = accepted_acts limits t e.now e.event (flaw_in e.acts) }
-  entry_is goes_on =
-      let F : _ = λ acts. record { now = e.now; event = e.event; acts = acts } in
-      ap F (acts_are limits t e is goes_on)
+  entry_is goes_on = ap (λ acts. record { now = e.now; event = e.event; acts = acts }) (acts_are limits t e is goes_on)
 
   pub dead_stays : (c : ℕ) (k : Consumer) → is_denied e.acts ≡ false → t.consumer c ≡ Some k → k.place ≡ place.Over → is_live (consumer_after t e c (t.consumer c)) ≡ false
   dead_stays c k on row over =

@@ -70,11 +70,7 @@ module _ (t : Tables) (s : Sound t) (places : Places t) (endings : Endings t) (u
   shown_goes : (p : Place) (m : Move) → k.place ≡ p → shows_at t k p ≡ Some m → Fine m
   shown_goes (place.Bound r lo hi z) m at is = bound_goes r lo (hi_of t k.place) z m (s.numbered.bound_to r c k (sound.is_bound lo hi z row at)) is
   shown_goes (place.Direct x) m at is = direct_goes x (t.exchange x) m is
-  shown_goes place.Line m at is = absurd (none_some m is)
-  shown_goes (place.Passed r kept) m at is = absurd (none_some m is)
-  shown_goes (place.Turn x) m at is = absurd (none_some m is)
-  shown_goes (place.Down why) m at is = absurd (none_some m is)
-  shown_goes place.Over m at is = absurd (none_some m is)
+  shown_goes _ m at is = absurd (none_some m is)
 
   -- WAITING FOR AN EXCHANGE
 
@@ -106,12 +102,7 @@ module _ (t : Tables) (s : Sound t) (places : Places t) (endings : Endings t) (u
 
   shared_by : (x : ℕ) (p : Place) → shared_exchange t p ≡ Some x → is_open (t.exchange x) ≡ true
   shared_by x (place.Bound r lo hi z) is = shared_opened x (t.representation r) is
-  shared_by x place.Line is = absurd (none_some x is)
-  shared_by x (place.Passed r kept) is = absurd (none_some x is)
-  shared_by x (place.Turn y) is = absurd (none_some x is)
-  shared_by x (place.Direct y) is = absurd (none_some x is)
-  shared_by x (place.Down why) is = absurd (none_some x is)
-  shared_by x place.Over is = absurd (none_some x is)
+  shared_by x _ is = absurd (none_some x is)
 
   source_by : (x : ℕ) (o : Option ℕ) → own_open t k ≡ o → option_or o (shared_exchange t k.place) ≡ Some x → is_open (t.exchange x) ≡ true
   source_by x None none is = shared_by x k.place is
@@ -140,14 +131,10 @@ module _ (t : Tables) (s : Sound t) (places : Places t) (endings : Endings t) (u
     fills_goes z is hole = let a = current_there z is in opens_goes k.request (current_row t k) hole (ap (λ (o : Option ℕ). is_some (row_of t o)) a.1 ∙ a.2)
 
     plan_goes : (p : Plan) → PlanBy (plan_view t now c k) p → Fine (plan_move t k p)
-    plan_goes _ (plans.turn d) = tt
-    plan_goes _ (plans.busy d kept plain) = tt
-    plan_goes _ plans.misses = tt
-    plan_goes _ (plans.passes_by n way) = tt
-    plan_goes _ (plans.fetches n way plain bypass cached) = tt
     plan_goes _ (plans.joins why cached j) = binds_goes j.s j.current why None
     plan_goes _ (plans.reads why span cached j) = binds_goes j.s j.current why (Some span)
     plan_goes _ (plans.fills span hole cached j nobody) = fills_goes j.s j.current hole
+    plan_goes _ _ = tt
 
   -- READING
 
@@ -175,11 +162,7 @@ module _ (t : Tables) (s : Sound t) (places : Places t) (endings : Endings t) (u
   held_same : (n m : ℕ) (p : Place) → 0 < m → is_some (held_at t c (offset t k) n p) ≡ true → is_some (held_at t c (offset t k) m p) ≡ true
   held_same n m (place.Direct x) many some = held_past x n m (t.exchange x) many some
   held_same n m (place.Bound r lo hi z) many some = sym (held_lost n m (t.representation r)) ∙ some
-  held_same n m place.Line many some = some
-  held_same n m (place.Passed r kept) many some = some
-  held_same n m (place.Turn x) many some = some
-  held_same n m (place.Down why) many some = some
-  held_same n m place.Over many some = some
+  held_same n m _ many some = some
 
   module _ (want : ℕ) (many : 0 < want) (shown : k.shown ≡ true) (live : is_live_place k.place ≡ true) where
     abbrev v : ReadView
@@ -235,16 +218,11 @@ module _ (t : Tables) (s : Sound t) (places : Places t) (endings : Endings t) (u
         unknown_not u has unknown (sound.writes (sound.first kept (sound.first q a b g q_row q_at alone))) =
             let one : q ≡ k = same_row (t.consumer c) q k q_row row in
             let same : came_alone t (place.Bound r lo hi z) ≡ true = subst (λ (p : Place). came_alone t p ≡ true) (sym q_at ∙ (ap (λ (y : Consumer). y.place) one ∙ at)) alone in
-            let known = s.writes.known_end r c lo hi z k row at same in
-            let no_hi = (no_end u has unknown).0 in
-            false_true (sym (ap (λ (o : Option ℕ). is_some o) no_hi) ∙ known)
-
-        bound_there : is_some (bound_row t k) ≡ true
-        bound_there = ap (λ (p : Place). is_some (row_of t (bound_to p))) at ∙ s.numbered.bound_to r c k reader
+            false_true (sym (ap (λ (o : Option ℕ). is_some o) ((no_end u has unknown).0)) ∙ s.writes.known_end r c lo hi z k row at same)
 
         later_goes : (hole : Span) (o : Option ℕ) → hi_of t k.place ≡ o → Fine (later_hole t k hole o)
         later_goes hole None unknown = absurd (let u = there in unknown_not u.0 u.1 unknown (s.writes.served r c u.0 k u.1 reader undue))
-        later_goes hole (Some hi) is = opens_goes k.request (bound_row t k) hole bound_there
+        later_goes hole (Some hi) is = opens_goes k.request (bound_row t k) hole (ap (λ (p : Place). is_some (row_of t (bound_to p))) at ∙ s.numbered.bound_to r c k reader)
 
       -- and of who reads past the store there is more, up to its end
       module _ (x : ℕ) (at : k.place ≡ place.Direct x) (before : is_at_end (hi_of t k.place) (offset t k) ≡ false) (nothing : is_some (run_held_for t c k want) ≡ false) where
@@ -254,9 +232,6 @@ module _ (t : Tables) (s : Sound t) (places : Places t) (endings : Endings t) (u
         over : past.w.is_open ≡ false
         over = not_so past.w.is_open (λ on. unowned x (own_open_is t k x (record { own = past.own; w = past.w; row = past.row; opened = on })))
 
-        end_is : hi_of t k.place ≡ Some (front past.w)
-        end_is = endings.past c x k past.w row at past.row over undue
-
         lo_is : lo_of t k.place ≡ base past.w
         lo_is = ap (λ (p : Place). lo_of t p) at ∙ ap base_in past.row
 
@@ -265,7 +240,7 @@ module _ (t : Tables) (s : Sound t) (places : Places t) (endings : Endings t) (u
         below (Some m) p n is off = let same : m ≡ n = some_inj m n is in let less : p < m = grind (arith, nat_tests) in omega arith
 
         ahead : offset t k < front past.w
-        ahead = below (hi_of t k.place) (offset t k) (front past.w) end_is before
+        ahead = below (hi_of t k.place) (offset t k) (front past.w) (endings.past c x k past.w row at past.row over undue) before
 
         holds : is_some (run_held_for t c k want) ≡ true
         holds =

@@ -1,5 +1,5 @@
 -- Who is over stays so. So no more are live than may start, in every run.
-use Rattle.std.{proofs.{Common.{◌≡◌, inl, inr, ℕ, ◌+◌, ◌<◌, ◌≤◌, List, [], ◌∷◌, length, Bool, true, false, Option, Some, None, refl, ap, sym, ◌∙◌, arith}, lemmas.Bool.Decides.{nat_tests}}, specs.Prelude.{filter, nat_eq, nat_lt, nat_le, is_none, ◌||◌, ◌&&◌, not, if◌then◌else◌}}
+use Rattle.std.{proofs.{Common.{◌≡◌, inl, inr, ℕ, ◌+◌, ◌<◌, ◌≤◌, List, [], ◌∷◌, length, Bool, true, false, Option, Some, None, refl, ap, sym, ◌∙◌, arith}, lemmas.Bool.Decides.{nat_tests}}, specs.Prelude.{filter, nat_eq, nat_lt, is_none, ◌||◌, not, if◌then◌else◌}}
 use Rattle.hc_text.proofs.Basics.{bool_cases, not_some as none_some, never_true as not_so, and_off as right_off}
 use Rattle.hc_event.specs.declared.act.Refusal.TheVariants as refusal
 use Rattle.hc_effects.proofs.Vocabulary.{Event, Request, Response, Limits, Place, has_loss, case_at, case_of, consumer_heard, consumer_made, consumer_after, by_fault, back_in_line, denial, is_live, is_live_place, live, doomed_key_of, is_key, Entry, is_for, Flaw, is_event_for, beside, StartsOverBy, entry_of, OfRuns, OfRunsIn, Descends, Owners, IsAwaiting, Tables, Exchange, Consumer, Sound, starts_over, waits_at, sends_back, loses_what_it_waits_for, after_accepted, starts_after}
@@ -9,7 +9,7 @@ use Rattle.hc_event.specs.declared.place.Place.TheVariants as place
 use Rattle.hc_model.specs.Frames as frames
 use Rattle.hc_model.specs.Live.{FewLive}
 use Rattle.hc_model.specs.Owners as owners
-use Rattle.hc_effects.proofs.{Basics.{false_true, true_false, some_none}, EventsKeep.{poll_live}, FirstKeeps.{is_new}, NumbersKeep.{starts_later}, Standing.{far_by, after_heard, standers_stay, starting_over_is_caused}, Waiters.{waiter_as, fault_open_of}}
+use Rattle.hc_effects.proofs.{Basics.{false_true}, EventsKeep.{poll_live}, FirstKeeps.{is_new}, NumbersKeep.{starts_later}, Standing.{far_by, after_heard, standers_stay, starting_over_is_caused}, Waiters.{waiter_as, fault_open_of}}
 use Rattle.hc_laws.proofs.{OrderRuns.{starts_on}, RunFacts.{in_runs}}
 
 -- NO MORE OF A LIST
@@ -36,21 +36,17 @@ one_more f x xs = elim (bool_cases (f x)) [
 -- REFUSED
 
 few_by : (late many : Bool) (n : ℕ) → (if late then Some (refusal.NotRising n) else if many then Some refusal.TooManyConsumers else None) ≡ None → many ≡ false
-few_by true many n h = absurd (some_none _ h)
-few_by false true n h = absurd (some_none _ h)
 few_by false false n h = refl
+few_by _ _ n h = cc
 
 -- a consumer starts only where fewer are live
 pub starts_few : (t : Tables) (c : ℕ) (request : Request) → denial t (event.Start c request) ≡ None → live t < 1024
 unfolding refusals.refusal_of
-starts_few t c request h =
-    let test : nat_le 1024 (live t) ≡ false = few_by (nat_le c t.last_start) (nat_le 1024 (live t)) t.last_start h in
-    grind (arith, nat_tests)
+starts_few t c request h = grind (arith, nat_tests)
 
 live_by : (late on : Bool) → (if late then Some refusal.NoConsumer else if not on then Some refusal.Finished else None) ≡ None → on ≡ true
-live_by true on h = absurd (some_none _ h)
 live_by false true h = refl
-live_by false false h = absurd (some_none _ h)
+live_by _ _ h = cc
 
 cancels_live : (t : Tables) (c : ℕ) → denial t (event.Cancel c) ≡ None → is_live (t.consumer c) ≡ true
 unfolding refusals.refusal_of
@@ -60,8 +56,7 @@ cancels_live t c h = live_by (nat_lt t.last_start c) (is_live (t.consumer c)) h
 
 three_off : (a b c : Bool) → a ≡ false → b ≡ false → c ≡ false → (a || b || c) ≡ false
 three_off false false c p q r = r
-three_off false true c p q r = absurd (true_false q)
-three_off true b c p q r = absurd (true_false p)
+three_off _ _ c p q r = cc
 
 module _ (limits : Limits) (t : Tables) (now : ℕ) (flaw : Flaw) (s : Sound t) (o : Owners t) (ev : Event) (goes : denial t ev ≡ None) where
   abbrev e : Entry
@@ -105,21 +100,17 @@ module _ (limits : Limits) (t : Tables) (now : ℕ) (flaw : Flaw) (s : Sound t) 
     quiet x None w_row here mine = refl
     quiet x (Some w) w_row here mine = by_head w.head refl
       where
-        number : w.c ≡ c
-        number = let test : nat_eq w.c c ≡ true = mine in grind (arith, nat_tests)
-
         opened : w.is_open ≡ true
         opened = fault_open_of limits t now flaw s o ev goes x w (sym (ap (denial t) here) ∙ goes) w_row
 
         by_head : (h : Option Response) → w.head ≡ h → by_fault c x (Some w) k ≡ k
-        by_head None bare = absurd (unheard x w w_row number opened bare)
+        by_head None bare = absurd (unheard x w w_row (let test : nat_eq w.c c ≡ true = mine in grind (arith, nat_tests)) opened bare)
         by_head (Some response) is = let some : is_none w.head ≡ false = ap (λ (q : Option Response). is_none q) is in rw (mine, some) refl
 
     faulted : (x : ℕ) → ev ≡ event.Fault x → is_for (t.exchange x) c ≡ true → is_live (now_on.consumer c) ≡ false
     faulted x here mine =
-        let heard : consumer_heard t e c ev k ≡ k = ap (λ (z : Event). consumer_heard t e c z k) here ∙ quiet x (t.exchange x) refl here mine in
         let far = far_by limits t now ev flaw c (λ d want at. let no : event.Fault x ≡ event.Poll d want = sym here ∙ at in cc) e frames.whole in
-        put (unsent x here) (after_heard t e c k far heard (t.consumer c) row)
+        put (unsent x here) (after_heard t e c k far (ap (λ (z : Event). consumer_heard t e c z k) here ∙ quiet x (t.exchange x) refl here mine) (t.consumer c) row)
 
     polled : (d want : ℕ) → denial t (event.Poll d want) ≡ None → is_live (t.consumer d) ≡ true
     unfolding refusals.refusal_of
@@ -142,13 +133,10 @@ module _ (limits : Limits) (t : Tables) (now : ℕ) (flaw : Flaw) (s : Sound t) 
         by_row : (z : Option Exchange) → t.exchange x ≡ z → is_for z c ≡ true → is_live (now_on.consumer c) ≡ false
         by_row None w_row its = absurd (false_true its)
         by_row (Some w) w_row its =
-            let number : w.c ≡ c = (let test : nat_eq w.c c ≡ true = its in grind (arith, nat_tests)) in
             let new = is_new limits t now flaw s ev goes x response w here w_row in
-            absurd (unheard x w w_row number new.is_open new.bare)
+            absurd (unheard x w w_row (let test : nat_eq w.c c ≡ true = its in grind (arith, nat_tests)) new.is_open new.bare)
     own (event.Fault x) here mine = faulted x here mine
-    own (event.Piece x bytes) here mine = absurd (false_true mine)
-    own (event.End x) here mine = absurd (false_true mine)
-    own (event.Doom key) here mine = absurd (false_true mine)
+    own _ here mine = absurd (false_true mine)
 
     pub stays_over : is_live (now_on.consumer c) ≡ false
     stays_over = elim (bool_cases (is_event_for t c ev)) [ inl mine ↦ own ev refl mine | inr off ↦ apart off ]
@@ -158,13 +146,7 @@ module _ (limits : Limits) (t : Tables) (now : ℕ) (flaw : Flaw) (s : Sound t) 
       let lt : t.last_start < d = starts_later t d request h in
       let off : nat_eq d c ≡ false = grind (arith, nat_tests) in
       rw off refl
-  unmade c le (event.Poll d want) h = refl
-  unmade c le (event.Head x response) h = refl
-  unmade c le (event.Piece x bytes) h = refl
-  unmade c le (event.End x) h = refl
-  unmade c le (event.Fault x) h = refl
-  unmade c le (event.Cancel d) h = refl
-  unmade c le (event.Doom key) h = refl
+  unmade c le _ h = refl
 
   still_none : (c : ℕ) → t.consumer c ≡ None → c ≤ t.last_start → now_on.consumer c ≡ None
   unfolding consumer_after
@@ -177,12 +159,7 @@ module _ (limits : Limits) (t : Tables) (now : ℕ) (flaw : Flaw) (s : Sound t) 
     where
       by_place : (p : Place) → k.place ≡ p → is_live (t.consumer c) ≡ true
       by_place place.Over at = absurd (false_true (sym (stays_over c k row at) ∙ now_live))
-      by_place place.Line at = ap is_live row ∙ ap is_live_place at
-      by_place (place.Passed r kept) at = ap is_live row ∙ ap is_live_place at
-      by_place (place.Turn x) at = ap is_live row ∙ ap is_live_place at
-      by_place (place.Bound r lo hi how) at = ap is_live row ∙ ap is_live_place at
-      by_place (place.Direct x) at = ap is_live row ∙ ap is_live_place at
-      by_place (place.Down why) at = ap is_live row ∙ ap is_live_place at
+      by_place _ at = ap is_live row ∙ ap is_live_place at
 
   -- HOW MANY
 
@@ -195,22 +172,13 @@ module _ (limits : Limits) (t : Tables) (now : ℕ) (flaw : Flaw) (s : Sound t) 
   few_kept : Descends (t.last_start + 1) t.starts → live t ≤ 1024 → live now_on ≤ 1024
   few_kept d few = by_event ev goes
     where
-      least : length (filter passes t.starts) ≤ 1024
-      least = let le : length (filter passes t.starts) ≤ live t = no_more d in omega arith
-
       by_event : (z : Event) → denial t z ≡ None → length (filter passes (starts_after z t.starts)) ≤ 1024
       by_event (event.Start c request) h =
           let lt : live t < 1024 = starts_few t c request h in
           let le : length (filter passes t.starts) ≤ live t = no_more d in
           let one : length (filter passes (c ∷ t.starts)) ≤ length (filter passes t.starts) + 1 = one_more passes c t.starts in
           omega arith
-      by_event (event.Poll c want) h = least
-      by_event (event.Head x response) h = least
-      by_event (event.Piece x bytes) h = least
-      by_event (event.End x) h = least
-      by_event (event.Fault x) h = least
-      by_event (event.Cancel c) h = least
-      by_event (event.Doom key) h = least
+      by_event _ h = let le : length (filter passes t.starts) ≤ live t = no_more d in omega arith
 
 -- IN RUNS
 

@@ -1,17 +1,16 @@
 -- Beside who came alone others are bound only where that has neither an open exchange of its own nor a hole ahead: at each entry.
-use Rattle.std.{proofs.Common.{◌≡◌, ◌⊎◌, inl, inr, ℕ, ◌<◌, Bool, true, false, Option, Some, None, refl, ap, sym, ◌∙◌, subst, arith}, specs.Prelude.{is_some, is_none, ◌&&◌, ◌||◌}}
-use Rattle.hc_text.proofs.Basics.{all_three, and_left, and_right, bool_cases, not_some as none_some, or_off_right as or_right, same_some as same_row, some_inj}
-use Rattle.hc_effects.proofs.Vocabulary.{Opening, opening_in, Event, Response, route_of, Limits, BoundBy, loses_in, Showing, showing_in, consumer_heard, consumer_acted, by_opening, waiting, current, denial, Entry, is_open, aim_from, becomes_due, Flaw, entry_of, Measures, Owners, move_of, is_written, own_open, offset, hi_of, bound_to, reads, Tables, Exchange, Representation, Consumer, Sound, IsBound, IsFirst, after_accepted, came_alone, may_write, has_more, lacks_some, exclusive, brings_body}
+use Rattle.std.{proofs.Common.{◌≡◌, ◌⊎◌, inl, inr, ℕ, Bool, true, false, Option, Some, None, refl, ap, sym, ◌∙◌, subst, arith}, specs.Prelude.{is_some, is_none}}
+use Rattle.hc_text.proofs.Basics.{or_off_left, all_three, and_left, and_right, bool_cases, not_some as none_some, or_off_right as or_right, same_some as same_row}
+use Rattle.hc_effects.proofs.Vocabulary.{Opening, opening_in, Event, Response, route_of, Limits, BoundBy, loses_in, Showing, showing_in, consumer_heard, consumer_acted, by_opening, waiting, current, denial, Entry, is_open, becomes_due, Flaw, entry_of, Measures, Owners, move_of, is_written, own_open, offset, hi_of, bound_to, reads, Tables, Exchange, Representation, Consumer, Sound, IsBound, IsFirst, after_accepted, came_alone, may_write, has_more, lacks_some, exclusive, brings_body}
 use Rattle.hc_event.specs.declared.event.Event.TheVariants as event
 use Rattle.hc_rules.specs.declared.need.Route.TheVariants as route
 use Rattle.hc_event.specs.declared.place.Place.TheVariants as place
 use Rattle.hc_model.specs.Sound as sound
-use Rattle.hc_effects.proofs.{AboutKeeps.{own_open_of, own_open_is}, ApartKeeps.{written_by}, Basics.{false_true, or_false}, BoundFrom.{BoundFrom, IsRow, IsShown, bound_from, place_inj}, BoundKeeps.{shown_place_is}, Dues.{due_before}, ExchangeFrom.{ExchangeFrom, exchange_from}, FirstKeeps.{is_new, is_opener, came_kept, open_free}, LossBy.{IsReal}, Losses.{HasRest, exclusive_is, no_more, or_end}, OpensFrom.{hole_is, opens_hole}, OwnFrom.{OwnFrom, own_from}, OwnersKeep.{is_opened}, ExclusiveWriters.{IsAtHole, bound_some, shares_source, writer_some}, PollTree.{OpensHole}, RepFrom.{RepFrom, rep_from, IsKept, IsResumed}, Said.{IsShowing, showing_by}, ServedKeeps.{rest_by, still_rests, resumed_not}, ShownFrom.{shown_from}, Stops.{writer_about}, ToBeShown.{heard_place}, WriterEnds.{all_stored}}
+use Rattle.hc_effects.proofs.{AboutKeeps.{own_open_of, own_open_is}, ApartKeeps.{written_by}, Basics.{false_true, or_false}, BoundFrom.{BoundFrom, IsRow, IsShown, bound_from, place_inj}, BoundKeeps.{shown_place_is}, Dues.{due_before}, ExchangeFrom.{ExchangeFrom, exchange_from}, FirstKeeps.{is_new, came_kept, open_free}, LossBy.{IsReal}, Losses.{HasRest, exclusive_is, no_more, or_end}, OwnFrom.{OwnFrom, own_from}, OwnersKeep.{is_opened}, ExclusiveWriters.{IsAtHole, bound_some, shares_source, writer_some}, RepFrom.{RepFrom, rep_from, IsKept, IsResumed}, Said.{IsShowing, showing_by}, ServedKeeps.{rest_by, still_rests, resumed_not}, ShownFrom.{shown_from}, Stops.{writer_about}, ToBeShown.{heard_place}, WriterEnds.{all_stored}}
+use Rattle.hc_laws.proofs.OpensLater.{opens_later}
 use Rattle.hc_effects.proofs.BoundFrom as from
 use Rattle.hc_effects.proofs.ExchangeFrom as exchange
-use Rattle.hc_effects.proofs.OpenedAs as opened
 use Rattle.hc_effects.proofs.OwnFrom as own
-use Rattle.hc_effects.proofs.PollTree as tree
 use Rattle.hc_effects.proofs.RepFrom as rep
 
 -- it reads what is stored, and nothing comes for it
@@ -31,15 +30,11 @@ resting_is t r c lo hi how v k s row at alone none off free = elim (bool_cases (
   | inr enough ↦
       let known : is_some (hi_of t k.place) ≡ true = ap (λ p. is_some (hi_of t p)) at ∙ or_end hi _ (s.writes.known_end r c lo hi how k row at alone) in
       record {
-        unowned = none_left (own_open t k) (or_left (is_some (own_open t k)) (lacks_some v (offset t k) (hi_of t k.place)) enough);
+        unowned = none_left (own_open t k) (or_off_left (is_some (own_open t k)) (lacks_some v (offset t k) (hi_of t k.place)) enough);
         rest = no_more t v k (hi_of t k.place) refl known (or_right (is_some (own_open t k)) (lacks_some v (offset t k) (hi_of t k.place)) enough);
       }
 ]
   where
-    or_left : (a b : Bool) → (a || b) ≡ false → a ≡ false
-    or_left false b h = refl
-    or_left true b h = h
-
     none_left : (q : Option ℕ) → is_some q ≡ false → q ≡ None
     none_left None h = refl
     none_left (Some x) h = absurd (false_true (sym h))
@@ -85,25 +80,7 @@ module _ (limits : Limits) (t : Tables) (now : ℕ) (flaw : Flaw) (s : Sound t) 
 
       -- nothing was opened for it, since it stands at no hole
       opened_not : ((q n : ℕ) (w : Representation) → IsAtHole t q c n w a → ⊥) → (g : Opening) → opening_in e.acts ≡ Some g → g.c ≡ c → ⊥
-      opened_not no_hole g opens mine =
-          let by_poll = is_opened limits t now flaw s o ev goes g opens in
-          let one : by_poll.k ≡ a = same_row (t.consumer c) by_poll.k a (sym (ap t.consumer mine) ∙ by_poll.row) row.row in
-          by_way (subst (λ (b : Consumer). opened.Way t now c b g.need) one (subst (λ d. opened.Way t now d by_poll.k g.need) mine by_poll.way.way))
-        where
-          by_hole : (b d : ℕ) → OpensHole t c a b d → ⊥
-          by_hole b d (tree.first q w span hole is aims w_row nobody found lo_is hi_is) =
-              let same : r ≡ q = some_inj r q (sym (ap (aim_from t a.request.key) at) ∙ aims) in
-              bound_some t q c a s.numbered (subst (λ n. IsBound t n c a) same reader) nobody
-          by_hole b d (tree.later q n z w at_hole unheld lo_is hi_is) = no_hole q n w at_hole
-
-          by_way : opened.Way t now c a g.need → ⊥
-          by_way (opened.passes_by unbound way) = none_some r (sym unbound ∙ ap bound_to at)
-          by_way (opened.fetches unbound way cached) = none_some r (sym unbound ∙ ap bound_to at)
-          by_way (opened.fills y b span gap unbound way is_current b_row wants found need_is cached) = none_some r (sym unbound ∙ ap bound_to at)
-          by_way (opened.goes_on y b d f there_at way) =
-              let h = hole_is g.need way in
-              let opener = is_opener limits t now flaw s ev goes c a g row.row opens mine in
-              by_hole h.from h.to (opens_hole t c a g now opener.want s row.row opener.opening h.from h.to h.is)
+      opened_not no_hole g opens mine = let l = opens_later limits t now flaw s o ev goes c r lo hi how a g row.row at opens mine in no_hole l.r l.end l.v l.at_hole
 
       -- so it has no open exchange, if it had none
       unowned_now : ((y : ℕ) → own_open t a ≡ Some y → ⊥) → ((q n : ℕ) (w : Representation) → IsAtHole t q c n w a → ⊥) → own_open now_on k ≡ None
@@ -155,10 +132,8 @@ module _ (limits : Limits) (t : Tables) (now : ℕ) (flaw : Flaw) (s : Sound t) 
           no_hole : (q n : ℕ) (w : Representation) → IsAtHole t q c n w a → ⊥
           no_hole q n w hole =
               let one : w ≡ v = same_row (t.representation r) w v (sym (ap t.representation (same_r q n w hole)) ∙ hole.row) there in
-              let missing : v.stored (offset t a) ≡ None = ap (λ (z : Representation). z.stored (offset t a)) (sym one) ∙ hole.missing in
               let same : i.rest.hi ≡ n = same_row (hi_of t a.place) i.rest.hi n i.rest.end hole.end in
-              let under : offset t a < n = hole.before in
-              false_true (sym (ap is_some missing) ∙ i.rest.covered (offset t a) (omega arith) (omega arith))
+              false_true (sym (ap is_some (ap (λ (z : Representation). z.stored (offset t a)) (sym one) ∙ hole.missing)) ∙ i.rest.covered (offset t a) (omega arith) (omega arith))
 
       stays_lone : (is_written t v ≡ false → IsResting t v a) → IsResting now_on p k
       stays_lone rests = elim (bool_cases (is_written t v)) [ inl on ↦ by_writing on v.writer refl | inr off ↦ by_rest (rests off) ]
@@ -172,11 +147,10 @@ module _ (limits : Limits) (t : Tables) (now : ℕ) (flaw : Flaw) (s : Sound t) 
       shown_lone d lo_d hi_d how_d b z d_row is all =
           let shows = showing_by limits t now flaw s ev goes z is in
           let placed : (by_opening t d (opening_in e.acts) (waiting t e d (consumer_heard t e d ev b))).place ≡ b.place = subst (λ f. (by_opening t f (opening_in e.acts) (waiting t e f (consumer_heard t e f ev b))).place ≡ b.place) all.at (shown_place_is limits t now flaw s ev goes z b is) in
-          let free : reads b.place ≡ false = sym (ap reads placed) ∙ all.free in
           let row_z : t.consumer z.c ≡ Some b = ap t.consumer all.at ∙ d_row in
           let one : shows.k ≡ b = same_row (t.consumer z.c) shows.k b shows.poll.row row_z in
           let show : IsShowing z (move_of t now shows.want z.c b) = subst (λ (q : Consumer). IsShowing z (move_of t now shows.want z.c q)) one shows.move in
-          let plan = shown_from t now z.c b shows.want z s row_z show free in
+          let plan = shown_from t now z.c b shows.want z s row_z show (sym (ap reads placed) ∙ all.free) in
           stays_lone (λ off. resting_is t r c lo hi how v a s row.row at came_was before.0 off (subst (λ n. exclusive t n v ≡ None) all.of_r (plan.lone v (ap t.representation all.of_r ∙ there) off)))
 
     -- a head founds what wasn't there
@@ -213,9 +187,7 @@ module _ (limits : Limits) (t : Tables) (now : ℕ) (flaw : Flaw) (s : Sound t) 
       by_ways (from.shows a z row is all) other = absurd (false_true (subst (λ (g : BoundBy). came_alone now_on (place.Bound r lo hi g) ≡ true) all.by_is came))
       by_ways (from.founds a x response w row here x_row mine of_r by_is all) (from.stays b also at_too) = absurd (unfounded x d response w b here x_row of_r (sound.is_bound lo_d hi_d how_d also.row at_too))
       by_ways (from.founds a x response w row here x_row mine of_r by_is all) (from.founds b y answer z also here_too y_row mine_too of_too by_too all_too) =
-          let same : y ≡ x = of_too ∙ sym of_r in
-          let one : z ≡ w = same_row (t.exchange x) z w (sym (ap t.exchange same) ∙ y_row) x_row in
-          absurd (apart (sym mine_too ∙ (ap (λ (q : Exchange). q.c) one ∙ mine)))
+          absurd (apart (sym mine_too ∙ (ap (λ (q : Exchange). q.c) (same_row (t.exchange x) z w (sym (ap t.exchange (of_too ∙ sym of_r)) ∙ y_row) x_row) ∙ mine)))
       by_ways (from.founds a x response w row here x_row mine of_r by_is all) (from.opens b g also opens mine_too free way hole) = absurd (head_opens x response g here opens)
       by_ways (from.founds a x response w row here x_row mine of_r by_is all) (from.shows b z also is all_too) = let polls = shown_poll z is in absurd (let no : event.Head x response ≡ event.Poll z.c polls.0 = sym here ∙ polls.1 in cc)
       by_ways (from.opens a g row opens mine free way hole) (from.stays b also at_too) = absurd (nobody a g c row.row opens mine free way hole.current_is d b (sound.is_bound lo_d hi_d how_d also.row at_too))

@@ -1,13 +1,13 @@
 -- What is held for the detached reader came of its own exchange, in every run.
-use Rattle.std.{proofs.{Common.{◌≡◌, ◌⊎◌, inl, inr, ℕ, zero, suc, ◌+◌, ◌-◌, ◌≤◌, ◌<◌, List, [], ◌∷◌, length, take, drop, Bool, true, false, Option, Some, None, refl, ap, sym, ◌∙◌, subst, arith}, Math.{ListN.{drop_of_length-le}, Seq.{drop-cons}}, lemmas.{List.{length-drop, length-take, take_all}, Bool.Decides.{nat_tests}}}, specs.Prelude.{◌==◌, is_some, slice_index, min, nat_eq, nat_lt}}
+use Rattle.std.{proofs.{Common.{◌≡◌, ◌⊎◌, inl, inr, ℕ, zero, suc, ◌+◌, ◌-◌, ◌≤◌, ◌<◌, List, [], ◌∷◌, length, take, drop, true, Option, Some, None, refl, ap, sym, ◌∙◌, subst, arith}, Math.{ListN.{drop_of_length-le}, Seq.{drop-cons}}, lemmas.{List.{length-drop, length-take, take_all}, Bool.Decides.{nat_tests}}}, specs.Prelude.{◌==◌, is_some, slice_index, min, nat_eq, nat_lt}}
 use Rattle.hc_text.proofs.Basics.{bool_cases, not_some as none_some, same_some as same_row, some_inj}
 use Rattle.hc_sparse.specs.{Cells.{Cell, Cells, Covers}, Stretch.{bytes_from, goes_on, stretch, stretch_of}}
-use Rattle.hc_effects.proofs.Vocabulary.{is_denied, Response, Limits, BoundBy, is_number, Entry, Contents, base, front, flaw_in, OfRuns, Brings, HoldsOwn, cell_from, offset, Tables, Exchange, Representation, Consumer, IsOwed, Sound, IsBound, run_held_for, held_at, held_of_lost, run_of, tables, first_tables, after, after_accepted, after_denied}
+use Rattle.hc_effects.proofs.Vocabulary.{Response, BoundBy, is_number, Entry, Contents, base, front, OfRuns, Brings, HoldsOwn, cell_from, offset, Tables, Exchange, Representation, Consumer, Sound, IsBound, run_held_for, held_at, held_of_lost, run_of, tables, first_tables, after_denied}
 use Rattle.hc_event.specs.declared.place.Place.TheVariants as place
 use Rattle.hc_model.specs.Losses.{Losses, IsHeldFrom}
 use Rattle.hc_model.specs.Sound as sound
-use Rattle.hc_effects.proofs.{Basics.{false_true}, OfEntries.{of_real}, ExclusiveWriters.{eq-refl}}
-use Rattle.hc_laws.proofs.{BringsRuns.{brings_in_runs}, DueAhead.{IsAhead, AreAhead, ahead_kept}, SoundRuns.{IsCarried, carried}, Tails.{AreTails, IsTail, tails_kept}}
+use Rattle.hc_effects.proofs.{Basics.{false_true}, ExclusiveWriters.{eq-refl}}
+use Rattle.hc_laws.proofs.{BringsRuns.{brings_in_runs}, DueAhead.{IsAhead, AreAhead, ahead_kept}, RunFacts.{in_runs_with}, SoundRuns.{carried}, Tails.{AreTails, IsTail, tails_kept}}
 
 -- OVER A RUN
 
@@ -19,17 +19,11 @@ tails_denied t e was = record { tail = by_reader }
         let a = was.tail r c x v k w there alone (sound.is_bound lo hi how row at) own w_row in
         record { from = a.from; after_base = a.after_base; within = a.within; stored = a.stored; unstored = a.unstored; of_r = a.of_r }
 
-by_denial : (limits : Limits) (t : Tables) (e : Entry) (b : Bool) → is_denied e.acts ≡ b → IsCarried t → Sound (after t e) → IsOwed limits t e → AreTails t → AreTails (after t e)
-unfolding after
-by_denial limits t e true denied c later owed was = rw denied (tails_denied t e was)
-by_denial limits t e false accepted c later owed was =
-    let sound_then : Sound (after_accepted t e) = rw accepted at later in
-    rw accepted (of_real limits t e (λ z. Sound (after_accepted t z) → AreTails (after_accepted t z)) owed accepted (λ going real sound_now. tails_kept limits t e.now (flaw_in e.acts) c.is_sound c.is_owned c.is_measured c.beside e.event going real was sound_now) sound_then)
-
 tails_in_runs : OfRuns AreTails
-unfolding tables
-tails_in_runs limits contents [] may run = record { tail = λ r c x v k w there alone reader own row. absurd (none_some w row) }
-tails_in_runs limits contents (e ∷ h) may run = by_denial limits (tables contents h) e (is_denied e.acts) refl (carried limits contents h may run.0) (carried limits contents (e ∷ h) may run).is_sound run.1 (tails_in_runs limits contents h may run.0)
+tails_in_runs = in_runs_with (λ limits t. AreTails t) (λ limits t. Unit {0}) (λ limits contents h may run. tt)
+    (λ limits contents may. record { tail = λ r c x v k w there alone reader own row. absurd (none_some w row) })
+    (λ limits t e later was. tails_denied t e was)
+    (λ limits t now flaw ev s all was. let c = s.before in tails_kept limits t now flaw c.is_sound c.is_owned c.is_measured c.beside ev s.going s.real was s.sound_then)
 
 ahead_denied : (t : Tables) (e : Entry) → AreAhead t → AreAhead (after_denied t e)
 ahead_denied t e was = record { ahead = by_reader }
@@ -39,20 +33,14 @@ ahead_denied t e was = record { ahead = by_reader }
         let a = was.ahead r c v k there alone (sound.is_bound lo hi how row at) in
         record { x = a.x; w = a.w; own = a.own; row = a.row; covered = a.covered }
 
-ahead_by_denial : (limits : Limits) (t : Tables) (e : Entry) (b : Bool) → is_denied e.acts ≡ b → IsCarried t → Sound (after t e) → IsOwed limits t e → AreAhead t → AreAhead (after t e)
-unfolding after
-ahead_by_denial limits t e true denied c later owed was = rw denied (ahead_denied t e was)
-ahead_by_denial limits t e false accepted c later owed was =
-    let sound_then : Sound (after_accepted t e) = rw accepted at later in
-    rw accepted (of_real limits t e (λ z. Sound (after_accepted t z) → AreAhead (after_accepted t z)) owed accepted (λ going real sound_now. ahead_kept limits t e.now (flaw_in e.acts) c.is_sound c.is_owned c.is_measured c.beside e.event going real was sound_now) sound_then)
-
 ahead_in_runs : OfRuns AreAhead
-unfolding tables
-ahead_in_runs limits contents [] may run = record { ahead = λ r c v k there alone reader. unbound contents r c k reader }
+ahead_in_runs = in_runs_with (λ limits t. AreAhead t) (λ limits t. Unit {0}) (λ limits contents h may run. tt)
+    (λ limits contents may. record { ahead = λ r c v k there alone reader. unbound contents r c k reader })
+    (λ limits t e later was. ahead_denied t e was)
+    (λ limits t now flaw ev s all was. let c = s.before in ahead_kept limits t now flaw c.is_sound c.is_owned c.is_measured c.beside ev s.going s.real was s.sound_then)
   where
     unbound : {A : Type 0} (contents : Contents) (r c : ℕ) (k : Consumer) → IsBound (first_tables contents) r c k → A
     unbound contents r c k (sound.is_bound lo hi how row at) = absurd (none_some k row)
-ahead_in_runs limits contents (e ∷ h) may run = ahead_by_denial limits (tables contents h) e (is_denied e.acts) refl (carried limits contents h may run.0) (carried limits contents (e ∷ h) may run).is_sound run.1 (ahead_in_runs limits contents h may run.0)
 
 -- ONE STRETCH
 
@@ -91,8 +79,7 @@ take_most n m xs le = elim (bool_cases (nat_lt m n)) [
   | inr few ↦ let under : n ≤ m = grind (arith, nat_tests) in let same : min n m ≡ n = omega arith in ap (λ i. take i xs) same
   | inl many ↦
       let over : m < n = grind (arith, nat_tests) in
-      let same : min n m ≡ m = omega arith in
-      ap (λ i. take i xs) same ∙ (take_all m xs le ∙ sym (take_all n xs (omega arith)))
+      ap (λ i. take i xs) (omega arith) ∙ (take_all m xs le ∙ sym (take_all n xs (omega arith)))
 ]
 
 drop_none : (n : ℕ) → drop {A = ℕ} n [] ≡ []
@@ -118,11 +105,10 @@ module _ (t : Tables) (s : Sound t) (brings : Brings t) (tails : AreTails t) (ah
     tail = tails.tail r c x v k w there is_alone reader own w_row
 
     lost : v.is_lost ≡ true
-    lost = by_test v.is_lost refl
-      where
-        by_test : (b : Bool) → v.is_lost ≡ b → b ≡ true
-        by_test true is = refl
-        by_test false fresh = absurd (none_some c (sym ((s.rows r v there).store.nobody_alone fresh) ∙ is_alone))
+    lost = elim (bool_cases v.is_lost) [
+      | inl is ↦ is
+      | inr fresh ↦ absurd (none_some c (sym ((s.rows r v there).store.nobody_alone fresh) ∙ is_alone))
+    ]
 
     came : (p : ℕ) → tail.from ≤ p → p < front w → v.body p ≡ Some (cell_from x w p)
     came p low under = by_head w.head refl
@@ -134,8 +120,7 @@ module _ (t : Tables) (s : Sound t) (brings : Brings t) (tails : AreTails t) (ah
             absurd (omega arith)
         by_head (Some response) is =
             let after_base : base w ≤ tail.from = tail.after_base in
-            let of_r = tail.of_r (omega arith) in
-            brings.stands x p w v w_row (ap (λ (q : Option Response). is_some q) is) (ap t.representation of_r ∙ there) (omega arith) under
+            brings.stands x p w v w_row (ap (λ (q : Option Response). is_some q) is) (ap t.representation (tail.of_r (omega arith)) ∙ there) (omega arith) under
 
     ahead : IsHeldFrom t v k x w tail.from
     ahead = record { within = tail.within; stored = tail.stored; unstored = tail.unstored; came = λ p le low under. came p low under }
@@ -147,10 +132,7 @@ module _ (t : Tables) (s : Sound t) (brings : Brings t) (tails : AreTails t) (ah
     o = offset t k
 
     held_is : (n : ℕ) → run_held_for t c k n ≡ stretch v.body o (min n (v.reach - o))
-    held_is n = ap (held_at t c o n) at ∙ (ap (held_of_lost c o n) there ∙ rw (lost, number) refl)
-      where
-        number : is_number v.alone c ≡ true
-        number = ap (λ a. is_number a c) is_alone ∙ eq-refl c
+    held_is n = ap (held_at t c o n) at ∙ (ap (held_of_lost c o n) there ∙ rw (lost, (ap (λ a. is_number a c) is_alone ∙ eq-refl c)) refl)
 
     -- nothing came there
     unheld : v.body o ≡ None → drop (o - base w) w.body ≡ [] → (n : ℕ) → run_held_for t c k n ≡ run_of x o (take n (drop (o - base w) w.body))
@@ -192,8 +174,7 @@ module _ (t : Tables) (s : Sound t) (brings : Brings t) (tails : AreTails t) (ah
         begins lt missing_o = elim (bool_cases (nat_lt o tail.from)) [
           | inr off ↦ grind (arith, nat_tests)
           | inl early ↦
-              let before : o < tail.from = grind (arith, nat_tests) in
-              let absent : v.body o ≡ None = sym (tail.stored o (omega arith) (inl before)) ∙ missing_o in
+              let absent : v.body o ≡ None = sym (tail.stored o (omega arith) (inl (grind (arith, nat_tests)))) ∙ missing_o in
               absurd (false_true (sym (ap (λ (q : Option Cell). is_some q) absent) ∙ all o (omega arith) (omega arith)))
         ]
 
@@ -208,8 +189,7 @@ module _ (t : Tables) (s : Sound t) (brings : Brings t) (tails : AreTails t) (ah
     -- all is there up to its front, or it brought nothing
     covered : (w.body ≡ []) ⊎ Covers v.body o (front w)
     covered =
-        let number : goes.x ≡ x = some_inj goes.x x (sym goes.own ∙ own) in
-        let one : goes.w ≡ w = same_row (t.exchange x) goes.w w (sym (ap t.exchange number) ∙ goes.row) w_row in
+        let one : goes.w ≡ w = same_row (t.exchange x) goes.w w (sym (ap t.exchange (some_inj goes.x x (sym goes.own ∙ own))) ∙ goes.row) w_row in
         subst (λ (q : Exchange). (q.body ≡ []) ⊎ Covers v.body o (front q)) one goes.covered
 
     next : v.stored o ≡ None → (n : ℕ) → 0 < n → run_held_for t c k n ≡ run_of x o (take n (drop (o - base w) w.body))

@@ -1,5 +1,5 @@
 -- What a store may begin with is measured: what came of a body ends at its reach, within its length.
-use Rattle.std.{proofs.{Common.{◌≡◌, ◌⊎◌, inl, inr, ℕ, ◌+◌, ◌<◌, ◌≤◌, List, [], ◌∷◌, length, Bool, true, Option, Some, None, refl, ap, sym, ◌∙◌, arith, max}, lemmas.Bool.Decides.{nat_tests}}, specs.Prelude.{is_some, find, nat_lt, nat_le, option_map, ◌==◌}}
+use Rattle.std.{proofs.{Common.{◌≡◌, ◌⊎◌, inl, inr, ℕ, ◌+◌, ◌<◌, ◌≤◌, List, [], ◌∷◌, length, Bool, true, Option, Some, None, refl, ap, sym, ◌∙◌, arith, max}, lemmas.Bool.Decides.{nat_tests}}, specs.Prelude.{is_some, find, nat_le, option_map, ◌==◌}}
 use Rattle.hc_text.proofs.Basics.{and_left, and_right, bool_cases, not_some as none_some, some_inj}
 use Rattle.hc_sparse.proofs.CellLemmas.{inside-cases}
 use Rattle.hc_sparse.specs.{Cells.{cells_with, Cells}, Runs.{cells_of, end_of}, declared.run.Run.{Run}}
@@ -23,7 +23,6 @@ ends_tight : (n a x : ℕ) (runs : List Run) → ascend_from a x runs ≡ true �
 ends_tight n a x [] good ends = absurd (omega arith)
 ends_tight n a x (run ∷ runs) good ends =
     let rest : ascend_from (end_of run) run.x runs ≡ true = and_right _ _ good in
-    let some : nat_lt 0 (length run.bytes) ≡ true = and_right _ _ (and_left _ _ (and_left _ _ good)) in
     let bytes : 0 < length run.bytes = grind (arith, nat_tests) in
     written_some run.at run.x n run.bytes (cells_of runs) (λ off. by_side run off bytes (which (end_of run) (last_end runs) n ends) (ends_tight n (end_of run) run.x runs rest))
   where
@@ -43,10 +42,8 @@ record IsLaid (item : Content) : Type 0 where
 module _ (limits : Limits) (contents : Contents) where
   laid_parts : (earlier : List Content) (item : Content) (later : List Content) → is_good limits contents earlier item later ≡ true → IsLaid item
   laid_parts earlier item later good =
-      let five = and_left _ _ good in
-      let four = and_left _ _ five in
-      let three = and_left _ _ four in
-      record { rise = and_right _ _ three; right = and_right _ _ four }
+      let four = and_left _ _ (and_left _ _ good) in
+      record { rise = and_right _ _ (and_left _ _ four); right = and_right _ _ four }
 
   laid : (r : ℕ) (a : Content) (earlier items : List Content) → are_good limits contents earlier items ≡ true → find (of_number r) items ≡ Some a → IsLaid a
   laid r a earlier [] good is = absurd (none_some a is)

@@ -1,5 +1,5 @@
 -- How large numbers become, in every run from contents whose lengths heads can tell.
-use Rattle.std.{proofs.Common.{◌≡◌, ◌<◌, ◌≤◌, ◌⊎◌, inl, inr, ℕ, ◌+◌, ◌^◌, List, [], ◌∷◌, length, length-append, Bool, true, false, Option, Some, None, refl, ap, sym, ◌∙◌, subst, arith}, specs.{Prelude.{max, option_map}, Option.{option_or}}}
+use Rattle.std.{proofs.Common.{◌≡◌, ◌<◌, ◌≤◌, ◌⊎◌, inl, inr, ℕ, ◌+◌, ◌^◌, List, [], ◌∷◌, length, length-append, Bool, true, false, Option, Some, None, refl, ap, sym, ◌∙◌, subst, arith}, specs.{Prelude.{option_map}, Option.{option_or}}}
 use Rattle.hc_text.proofs.Basics.{not_some as none_some, some_inj}
 use Rattle.hc_effects.proofs.Vocabulary.{is_denied, Event, base_of, Limits, BoundBy, may_begin, is_kind_right, Entry, History, Content, Contents, base, promised_bytes, front, item_of, Measures, Numbers, AreShort, Places, length_in, Tables, Exchange, Representation, Consumer, IsRun, Sound, tables, after_accepted, first_tables, representation_of_content}
 use Rattle.hc_event.specs.declared.event.Event.TheVariants as event
@@ -120,7 +120,6 @@ module _ (t : Tables) (e : Entry) (was : AreShortRows t) (p : Places t) (q : Pla
       by_fills (fills_by.more x bytes w is body stored reach) =
           let le : v.reach ≤ most t = was.reaches r v kept.row in
           let ends : front w + length bytes ≤ most now_on = piece_ends x bytes w is.row is.at in
-          let same : u.reach ≡ max v.reach (front w + length bytes) = reach in
           omega (arith, grows)
 
   short_kept : AreShortRows now_on
@@ -152,7 +151,6 @@ module _ (t : Tables) (s : Sound t) (m : Measures t) (b : IsBounded t) (p : Plac
       let there = some_row (t.representation r) (s.numbered.bound_to r c k (sound.is_bound lo (Some hi) how row at)) in
       let within = m.ends r c lo hi how k there.0 row at there.1 in
       let le : within.total < too_long t = short.totals r within.total there.0 there.1 within.known in
-      let under = within.ends in
       omega arith
 
   starts_by : (c r lo : ℕ) (hi : Option ℕ) (how : BoundBy) (k : Consumer) → t.consumer c ≡ Some k → k.place ≡ place.Bound r lo hi how → lo ≤ most t

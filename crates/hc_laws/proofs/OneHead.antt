@@ -50,9 +50,7 @@ module _ (limits : Limits) (contents : Contents) (h : History) (e : Entry) (c : 
   by_shown : (k : Consumer) (b : Bool) → t.consumer c ≡ Some k → k.shown ≡ b → is_denied e.acts ≡ false → IsWell (shown_of c h) (given_of c h) → IsWell (shown_of c h ++ shown_in c e.acts) (given_of c h ++ given_in c e.acts)
   by_shown k true row shown accepted w =
       well_quiet (shown_of c h) (shown_in c e.acts) (given_of c h) (given_in c e.acts) w ((acts_well accepted).again k row shown) (λ none.
-      let was : not k.shown ≡ is_none (first (shown_of c h)) = filtered (Some k) row in
-      let never : false ≡ true = sym (ap not shown) ∙ (was ∙ ap (λ (xs : List Shown). is_none (first xs)) none) in
-      absurd (let no : false ≡ true = never in cc))
+      absurd (let no : false ≡ true = (sym (ap not shown) ∙ (filtered (Some k) row ∙ ap (λ (xs : List Shown). is_none (first xs)) none)) in cc))
   by_shown k false row shown accepted w =
       let none : shown_of c h ≡ [] = no_first (shown_of c h) (sym (filtered (Some k) row) ∙ ap not shown) in
       well_first (shown_of c h) (shown_in c e.acts) (given_of c h) (given_in c e.acts) w none (acts_well accepted).one ((acts_well accepted).before k row shown)

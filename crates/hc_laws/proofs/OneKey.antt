@@ -36,11 +36,9 @@ other_consumer : (t : Tables) (ev : Event) (c : ℕ) (k : Consumer) → t.consum
 other_consumer t ev c k row h = sym (ap (is_of_key (key_of t ev)) (ap (option_map (λ (k : Consumer). k.request.key)) row)) ∙ h
 
 evicted_is : (o p : Option Representation) (v : Representation) → o ≡ Some v → p ≡ Some (record v { is_gone = true }) → IsEvicted o p
-evicted_is None p v is gone = absurd (let no_one : None ≡ Some v = is in cc)
-evicted_is (Some u) None v is gone = absurd (let no_one : None ≡ Some (record v { is_gone = true }) = gone in cc)
 evicted_is (Some u) (Some z) v is gone =
-    let same : u ≡ v = some_inj u v is in
-    some_inj z (record v { is_gone = true }) gone ∙ ap (λ (y : Representation). record y { is_gone = true }) (sym same)
+    some_inj z (record v { is_gone = true }) gone ∙ ap (λ (y : Representation). record y { is_gone = true }) (sym (some_inj u v is))
+evicted_is _ _ v is gone = cc
 
 module _ (limits : Limits) (t : Tables) (e : Entry) (exchanges : ExchangeKeys t) (consumers : ConsumerKeys t) (owed : IsOwed limits t e) (accepted : is_denied e.acts ≡ false) where
   far_entry : IsFarEntry t e
@@ -83,10 +81,9 @@ module _ (limits : Limits) (t : Tables) (e : Entry) (exchanges : ExchangeKeys t)
   exchange_new x w (Some u) is made = absurd (never u is)
 
   founded_row : (x r : ℕ) (response : Response) (v : Representation) (b : Bool) (o : Option Exchange) → e.event ≡ event.Head x response → t.exchange x ≡ o → (if b then option_map (new_representation r e response) o else None) ≡ Some v → key_of t e.event ≡ Some v.key
-  founded_row x r response v false o at row made = absurd (none_some v made)
-  founded_row x r response v true None at row made = absurd (none_some v made)
   founded_row x r response v true (Some w) at row made =
       ap (key_of t) at ∙ (ap (option_map (λ (w : Exchange). w.request.key)) row ∙ ap (λ (u : Representation). Some u.key) (some_inj (new_representation r e response w) v made))
+  founded_row x r response v _ _ at row made = cc
 
   founded_key : (r : ℕ) (v : Representation) (ev : Event) → e.event ≡ ev → founded_at t e r ev ≡ Some v → key_of t e.event ≡ Some v.key
   founded_key r v (event.Head x response) at made = founded_row x r response v (is_founding (case_at t e) && x == r) (t.exchange x) at refl made

@@ -12,7 +12,7 @@ use Rattle.hc_model.specs.Live.{IsReader, FewOpen}
 use Rattle.hc_model.specs.Sound as sound
 use Rattle.hc_model.specs.Whose as whose
 use Rattle.hc_effects.proofs.{AboutKeeps.{own_open_is}, Basics.{false_true}, Closed.{among_filter}, HasBound.{among_passes, some_among, reader_of}, PieceKeeps.{eq_cases}, OfConsumers.{all_below}}
-use Rattle.hc_laws.proofs.{OrderRuns.{order_in_runs}, SoundRuns.{runs_are_sound}, WhoseRuns.{whose_in_runs}}
+use Rattle.hc_laws.proofs.{OrderRuns.{descends_more, order_in_runs}, SoundRuns.{runs_are_sound}, WhoseRuns.{whose_in_runs}}
 
 -- WHO READS FROM IT
 
@@ -21,10 +21,7 @@ module _ (t : Tables) (s : Sound t) (w : Whose t) where
   owner_live (place.Turn x) own = refl
   owner_live (place.Bound r lo hi how) own = refl
   owner_live (place.Direct x) own = refl
-  owner_live place.Line own = absurd (false_true own)
-  owner_live (place.Passed r kept) own = absurd (false_true own)
-  owner_live (place.Down why) own = absurd (false_true own)
-  owner_live place.Over own = absurd (false_true own)
+  owner_live _ own = absurd (false_true own)
 
   bound_live : (r c : ℕ) (k : Consumer) → IsBound t r c k → is_live_place k.place ≡ true
   bound_live r c k (sound.is_bound lo hi how row at) = ap is_live_place at
@@ -49,8 +46,7 @@ module _ (t : Tables) (s : Sound t) (w : Whose t) where
         by_own : (q : Option ℕ) → own_open t k ≡ q → source t k ≡ Some x
         by_own None none = ap (λ q. option_or q (shared_exchange t k.place)) none ∙ shared reader
         by_own (Some y) own =
-            let same : y ≡ x = s.one_about r y x (s.writes.own_about r c y k reader own) about in
-            ap (λ q. option_or q (shared_exchange t k.place)) own ∙ ap Some same
+            ap (λ q. option_or q (shared_exchange t k.place)) own ∙ ap Some (s.one_about r y x (s.writes.own_about r c y k reader own) about)
 
     reader_by : IsSomebodys t x z → (c : ℕ) × IsReader t x c
     reader_by (whose.own k none its own may) = (z.c, record { k = k; row = its; live = owner_live k.place may; from = own_from k own })
@@ -116,12 +112,8 @@ pub filter_falls : (test : ℕ → Bool) (n : ℕ) (xs : List ℕ) → Descends 
 filter_falls test n [] d = tt
 filter_falls test n (x ∷ xs) d = elim (bool_cases (test x)) [
   | inl on ↦ rw on (d.0, filter_falls test x xs d.1)
-  | inr off ↦ rw off (filter_falls test n xs (less_falls x n xs (let lt : x < n = d.0 in omega arith) d.1))
+  | inr off ↦ rw off (filter_falls test n xs (descends_more x n xs (let lt : x < n = d.0 in omega arith) d.1))
 ]
-  where
-    less_falls : (a b : ℕ) (zs : List ℕ) → a ≤ b → Descends a zs → Descends b zs
-    less_falls a b [] le falls = tt
-    less_falls a b (z ∷ zs) le falls = (let lt : z < a = falls.0 in omega arith, falls.1)
 
 pub among_mapped : (f : ℕ → ℕ) (c x : ℕ) (cs : List ℕ) → f c ≡ x → Among c cs → Among x (map f cs)
 among_mapped f c x [] is there = there

@@ -16,13 +16,7 @@ descends_more n m (x ∷ xs) le d = (let lt : x < n = d.0 in omega arith, d.1)
 
 pub starts_on : (t : Tables) (ev : Event) → denial t ev ≡ None → Descends (t.last_start + 1) t.starts → Descends (last_start_after ev t.last_start + 1) (starts_after ev t.starts)
 starts_on t (event.Start c request) goes d = let lt : t.last_start < c = starts_later t c request goes in (omega arith, descends_more (t.last_start + 1) c t.starts (omega arith) d)
-starts_on t (event.Poll c want) goes d = d
-starts_on t (event.Head x response) goes d = d
-starts_on t (event.Piece x bytes) goes d = d
-starts_on t (event.End x) goes d = d
-starts_on t (event.Fault x) goes d = d
-starts_on t (event.Cancel c) goes d = d
-starts_on t (event.Doom key) goes d = d
+starts_on t _ goes d = d
 
 openings_on : (t : Tables) (z : Option Opening) → ((o : Opening) → z ≡ Some o → o.x ≡ t.opened + 1) → Descends (t.opened + 1) t.openings → Descends (opened_after z t.opened + 1) (openings_after z t.openings)
 openings_on t None next d = d

@@ -1,5 +1,5 @@
 -- With what a store may begin, a number names the bytes of one body alone.
-use Rattle.std.{proofs.{Common.{◌≡◌, inl, inr, ℕ, ◌-◌, ◌<◌, ◌≤◌, List, [], ◌∷◌, length, Bool, true, false, Option, Some, None, refl, ap, sym, ◌∙◌, arith}, lemmas.Bool.Decides.{nat_tests}}, specs.{Prelude.{is_some, find, nat_eq, nat_lt, option_map, ◌==◌, ◌&&◌}, List.{list_any, list_all}}}
+use Rattle.std.{proofs.{Common.{◌≡◌, inl, inr, ℕ, ◌-◌, ◌<◌, ◌≤◌, List, [], ◌∷◌, length, Bool, true, false, Option, Some, None, refl, ap, sym, ◌∙◌, arith}, lemmas.Bool.Decides.{nat_tests}}, specs.{Prelude.{is_some, find, nat_eq, nat_lt, option_map, ◌==◌}, List.{list_any, list_all}}}
 use Rattle.hc_text.proofs.Basics.{and_left, and_right, bool_cases, not_some as none_some, not_true, or_right, some_inj}
 use Rattle.hc_effects.proofs.Vocabulary.{Limits, may_begin, are_good, is_good, is_given_out, is_own_run, says, Content, Contents, HasByte, Origins, Representation, first_tables, representation_of_content}
 use Rattle.hc_sparse.proofs.CellLemmas.{inside-cases}
@@ -23,7 +23,6 @@ of_run : (runs : List Run) (p : ℕ) (cell : Cell) → cells_of runs p ≡ Some 
 of_run [] p cell is = absurd (none_some cell is)
 of_run (run ∷ runs) p cell is = elim (inside-cases run.at (length run.bytes) p) [
   | inl here ↦
-      let same : run.x ≡ cell.x = ap (λ (z : Cell). z.x) (some_inj _ cell (rw here.0 at is)) in
       let test : nat_eq run.x cell.x ≡ true = grind (arith, nat_tests) in
       rw test refl
   | inr off ↦ or_right (is_of cell.x run) (list_any (is_of cell.x) runs) (of_run runs p cell (rw off.0 at is))
@@ -51,9 +50,7 @@ module _ (limits : Limits) (contents : Contents) where
 
   run_alone : (x : ℕ) (earlier : List Content) (item : Content) (later : List Content) → is_good limits contents earlier item later ≡ true → has_run x item ≡ true → SaysAlone x earlier later
   run_alone x earlier item later good has =
-      let two = and_left _ _ (and_left _ _ (and_left _ _ (and_left _ _ good))) in
-      let runs : list_all (is_own_run contents earlier later) item.runs ≡ true = and_right _ _ (and_right _ _ two) in
-      by_run (one_of (is_own_run contents earlier later) x item.runs runs has)
+      by_run (one_of (is_own_run contents earlier later) x item.runs (and_right _ _ (and_right _ _ (and_left _ _ (and_left _ _ (and_left _ _ (and_left _ _ good)))))) has)
     where
       by_run : OneOf (is_own_run contents earlier later) x → SaysAlone x earlier later
       by_run a = rw (← a.from) (record {
@@ -72,9 +69,7 @@ module _ (limits : Limits) (contents : Contents) where
   given : (r x : ℕ) (a : Content) (earlier items : List Content) → are_good limits contents earlier items ≡ true → find (of_number r) items ≡ Some a → has_run x a ≡ true → is_given_out contents x ≡ true
   given r x a earlier [] good is has = absurd (none_some a is)
   given r x a earlier (item ∷ later) good is has = elim (eq_cases item.r r) [
-    | inl here ↦
-        let same : item ≡ a = some_inj item a (rw here.0 at is) in
-        (run_alone x earlier item later (and_left _ _ good) (ap (has_run x) same ∙ has)).given
+    | inl here ↦ (run_alone x earlier item later (and_left _ _ good) (ap (has_run x) (some_inj item a (rw here.0 at is)) ∙ has)).given
     | inr off ↦ given r x a (item ∷ earlier) later (and_right _ _ good) (rw off.0 at is) has
   ]
 
@@ -82,17 +77,14 @@ module _ (limits : Limits) (contents : Contents) where
   not_before : (q x : ℕ) (b : Content) (earlier items : List Content) → are_good limits contents earlier items ≡ true → find (of_number q) items ≡ Some b → has_run x b ≡ true → list_any (says x) earlier ≡ false
   not_before q x b earlier [] good is has = absurd (none_some b is)
   not_before q x b earlier (item ∷ later) good is has = elim (eq_cases item.r q) [
-    | inl here ↦
-        let same : item ≡ b = some_inj item b (rw here.0 at is) in
-        (run_alone x earlier item later (and_left _ _ good) (ap (has_run x) same ∙ has)).fresh
+    | inl here ↦ (run_alone x earlier item later (and_left _ _ good) (ap (has_run x) (some_inj item b (rw here.0 at is)) ∙ has)).fresh
     | inr off ↦ (or_false (says x item) (list_any (says x) earlier) (not_before q x b (item ∷ earlier) later (and_right _ _ good) (rw off.0 at is) has)).1
   ]
 
   -- and so it is by no item that stands before
   said_before : (q x : ℕ) (a b : Content) (earlier later : List Content) → are_good limits contents (a ∷ earlier) later ≡ true → find (of_number q) later ≡ Some b → has_run x b ≡ true → says x a ≡ true → ⊥
   said_before q x a b earlier later good is has said =
-      let off : says x a ≡ false = (or_false (says x a) (list_any (says x) earlier) (not_before q x b (a ∷ earlier) later good is has)).0 in
-      false_true (sym off ∙ said)
+      false_true (sym ((or_false (says x a) (list_any (says x) earlier) (not_before q x b (a ∷ earlier) later good is has)).0) ∙ said)
 
   one_item : (r q x : ℕ) (a b : Content) (earlier items : List Content) → are_good limits contents earlier items ≡ true → find (of_number r) items ≡ Some a → find (of_number q) items ≡ Some b → has_run x a ≡ true → has_run x b ≡ true → r ≡ q
   one_item r q x a b earlier [] good is also has too = absurd (none_some a is)
@@ -100,13 +92,11 @@ module _ (limits : Limits) (contents : Contents) where
     | inl here ↦ elim (eq_cases item.r q) [
       | inl there ↦ sym here.1 ∙ there.1
       | inr off ↦
-          let one : item ≡ a = some_inj item a (rw here.0 at is) in
-          absurd (said_before q x item b earlier later (and_right _ _ good) (rw off.0 at also) too (says_run x item (ap (has_run x) one ∙ has)))
+          absurd (said_before q x item b earlier later (and_right _ _ good) (rw off.0 at also) too (says_run x item (ap (has_run x) (some_inj item a (rw here.0 at is)) ∙ has)))
     ]
     | inr off ↦ elim (eq_cases item.r q) [
       | inl there ↦
-          let one : item ≡ b = some_inj item b (rw there.0 at also) in
-          absurd (said_before r x item a earlier later (and_right _ _ good) (rw off.0 at is) has (says_run x item (ap (has_run x) one ∙ too)))
+          absurd (said_before r x item a earlier later (and_right _ _ good) (rw off.0 at is) has (says_run x item (ap (has_run x) (some_inj item b (rw there.0 at also)) ∙ too)))
       | inr other ↦ one_item r q x a b (item ∷ earlier) later (and_right _ _ good) (rw off.0 at is) (rw other.0 at also) has too
     ]
   ]
@@ -125,8 +115,7 @@ module _ (limits : Limits) (contents : Contents) where
       | inl there ↦ sym there.1 ∙ here.1
       | inr off ↦
           let one : item ≡ a = some_inj item a (rw here.0 at is) in
-          let none : list_any (of_number x) later ≡ false = (run_alone x earlier item later (and_left _ _ good) (ap (has_run x) one ∙ has)).alone in
-          absurd (false_true (sym none ∙ found_any x b later (rw off.0 at also)))
+          absurd (false_true (sym ((run_alone x earlier item later (and_left _ _ good) (ap (has_run x) one ∙ has)).alone) ∙ found_any x b later (rw off.0 at also)))
     ]
     | inr off ↦ elim (eq_cases item.r x) [
       | inl there ↦ absurd (said_before r x item a earlier later (and_right _ _ good) (rw off.0 at is) has (says_row x item there.1))
@@ -170,9 +159,8 @@ module _ (limits : Limits) (contents : Contents) where
     range x is =
         let low : nat_lt 0 x ≡ true = and_left (nat_lt 0 x) (nat_lt x contents.next_exchange) is in
         let high : nat_lt x contents.next_exchange ≡ true = and_right (nat_lt 0 x) (nat_lt x contents.next_exchange) is in
-        let some : 0 < x = grind (arith, nat_tests) in
         let under : x < contents.next_exchange = grind (arith, nat_tests) in
-        (some, omega arith)
+        ((grind (arith, nat_tests)), omega arith)
 
     pub origins_begin : Origins (first_tables contents)
     origins_begin = record {

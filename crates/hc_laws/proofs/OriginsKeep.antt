@@ -26,8 +26,7 @@ module _ (t : Tables) (e : Entry) where
   by_fill r x p cell v u row there from (fill.more y bytes w is body stored reach) = elim (inside-cases (front w) (length bytes) p) [
     | inl here ↦
         let at : cells_with (front w) y bytes v.body p ≡ Some cell = sym (ap (λ f. f p) body) ∙ there in
-        let same : y ≡ cell.x = ap (λ (z : Cell). z.x) (some_inj _ cell (rw here.0 at at)) in
-        inr (record { bytes = bytes; w = w; is = subst_piece (same ∙ from) is })
+        inr (record { bytes = bytes; w = w; is = subst_piece (ap (λ (z : Cell). z.x) (some_inj _ cell (rw here.0 at at)) ∙ from) is })
     | inr off ↦
         let at : cells_with (front w) y bytes v.body p ≡ Some cell = sym (ap (λ f. f p) body) ∙ there in
         inl (origins.has_byte p cell v row (rw off.0 at at) from)

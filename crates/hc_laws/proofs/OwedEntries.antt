@@ -6,7 +6,7 @@
 -- there before, and what a piece is written to isn't lost.
 use Rattle.std.{proofs.Common.{◌≡◌, ◌≤◌, ℕ, List, [], ◌∷◌, ◌++◌, length, Bool, true, false, Option, Some, None, refl, ap, sym, ◌∙◌, subst}, specs.{Prelude.{if◌then◌else◌, ◌||◌, not, map}, Option.{option_and_then}}}
 use Rattle.hc_text.proofs.Basics.{both_true as and_both, or_left, or_right}
-use Rattle.hc_effects.proofs.Vocabulary.{is_denied, Act, Cause, LostKind, Refusal, Event, Response, head_refusal, Limits, Room, has_loss, without_losses, answer, accepted_acts, answer_acts, loss_acts, close_acts, denied_or, case_of, is_founding, is_joining, closing, denial, as_open, Entry, entry_without_acts, family, Flaw, NoFlaw, Loses, Misreads, flaw_in, Move, Nothing, Asks, Opens, Shows, Gives, Ends, Fails, acts_of, Places, poll_move, Tables, Exchange, Representation, Consumer, IsOwed, may_stand, may_be, may_lose, is_kept, flaw_by_room, size_flaw, owed, has_room, Sound, room_for, room_by, write_of_piece, piece_write, evicted, written_representation, head_writes, may_validate, piece_writes, unless_lost, lossless}
+use Rattle.hc_effects.proofs.Vocabulary.{is_denied, Act, Cause, LostKind, Refusal, Event, Response, head_refusal, Limits, Room, has_loss, without_losses, answer, accepted_acts, answer_acts, loss_acts, close_acts, denied_or, case_of, is_founding, is_joining, closing, denial, as_open, Entry, entry_without_acts, family, Flaw, NoFlaw, Loses, Misreads, flaw_in, Move, Nothing, Fails, acts_of, Places, poll_move, Tables, Exchange, Representation, Consumer, IsOwed, may_stand, may_be, may_lose, is_kept, flaw_by_room, size_flaw, owed, has_room, Sound, room_for, room_by, write_of_piece, piece_write, evicted, written_representation, head_writes, may_validate, piece_writes, unless_lost, lossless}
 use Rattle.hc_event.specs.declared.act.Act.TheVariants as act
 use Rattle.hc_event.specs.declared.act.Cause.TheVariants as cause
 use Rattle.hc_event.specs.declared.act.LostKind.TheVariants as kind
@@ -15,7 +15,6 @@ use Rattle.hc_event.specs.declared.event.Event.TheVariants as event
 use Rattle.hc_rules.specs.Refusals as refusals
 use Rattle.hc_rules.specs.declared.room.Room.TheVariants as room
 use Rattle.hc_rules.specs.declared.room.Write.TheVariants as write
-use Rattle.hc_model.specs.Moves as moves
 use Rattle.hc_effects.proofs.{Basics.{false_true, number_yes}, FailsTold.{fails_told}, FoundCases.{no_loss}, EvictsLast.{flaw_same}}
 use Rattle.hc_laws.proofs.ExchangeFilters.{headless}
 
@@ -31,16 +30,14 @@ then_flaw (x ∷ xs) = then_flaw xs
 
 -- one of the sizes
 abbrev IsOfSize : Flaw → Type 0
-IsOfSize NoFlaw = Unit {0}
-IsOfSize (Loses r kind) = Unit {0}
 IsOfSize (Misreads r) = ⊥
+IsOfSize _ = Unit {0}
 
 room_flaw : (z : Room) (o : Option ℕ) → IsOfSize (flaw_by_room z o)
 room_flaw (room.After count) o = tt
-room_flaw room.TooLarge None = tt
 room_flaw room.TooLarge (Some r) = tt
-room_flaw room.Full None = tt
 room_flaw room.Full (Some r) = tt
+room_flaw _ None = tt
 
 lost_flaw : (flaw : Flaw) (xs : List ℕ) → IsOfSize flaw → flaw_in (loss_acts flaw ++ map act.Close xs) ≡ flaw
 lost_flaw NoFlaw xs of_size = closes_flaw xs
@@ -49,22 +46,11 @@ lost_flaw (Misreads r) xs of_size = absurd of_size
 
 cause_flaw : (c : ℕ) (why : Cause) (rest : List Act) → ((r : ℕ) → why ≡ cause.StoreRead r → ⊥) → flaw_in rest ≡ NoFlaw → flaw_in (act.Failed c why ∷ rest) ≡ NoFlaw
 cause_flaw c (cause.StoreRead r) rest other none = absurd (other r refl)
-cause_flaw c (cause.Net x) rest other none = none
-cause_flaw c (cause.Short x got promised) rest other none = none
-cause_flaw c (cause.Changed x) rest other none = none
-cause_flaw c (cause.StoreWrite r) rest other none = none
-cause_flaw c cause.Miss rest other none = none
-cause_flaw c (cause.BadHead x) rest other none = none
+cause_flaw c _ rest other none = none
 
 move_flaw : (c : ℕ) (m : Move) (rest : List Act) → ((r : ℕ) → m ≡ Fails (cause.StoreRead r) → ⊥) → flaw_in rest ≡ NoFlaw → flaw_in (acts_of c m ++ rest) ≡ NoFlaw
-move_flaw c Nothing rest other none = none
-move_flaw c (moves.Waits wait) rest other none = none
-move_flaw c (Asks x) rest other none = none
-move_flaw c (Opens x need request) rest other none = none
-move_flaw c (Shows r why head lo hi) rest other none = none
-move_flaw c (Gives run) rest other none = none
-move_flaw c Ends rest other none = none
 move_flaw c (Fails why) rest other none = cause_flaw c why rest (λ r is. other r (ap Fails is)) none
+move_flaw c _ rest other none = none
 
 module _ (limits : Limits) (t : Tables) (now : ℕ) (s : Sound t) (places : Places t) where
   abbrev sizes : Event → Flaw
@@ -83,16 +69,11 @@ module _ (limits : Limits) (t : Tables) (now : ℕ) (s : Sound t) (places : Plac
   -- the acts of an accepted event show the flaw of the sizes
   shows_flaw : (ev : Event) → flaw_in (accepted_acts limits t now ev (sizes ev)) ≡ sizes ev
   unfolding room_for
-  shows_flaw (event.Start c request) = outside_flaw (event.Start c request)
   shows_flaw (event.Poll c want) =
       move_flaw c (poll_move t now want c (t.consumer c)) _ (reads_well want c (t.consumer c) refl)
       (then_flaw (closing t (record { now = now; event = event.Poll c want; acts = acts_of c (poll_move t now want c (t.consumer c)) ++ [] })))
-  shows_flaw (event.Head x response) = outside_flaw (event.Head x response)
-  shows_flaw (event.Piece x bytes) = outside_flaw (event.Piece x bytes)
-  shows_flaw (event.End x) = outside_flaw (event.End x)
-  shows_flaw (event.Fault x) = outside_flaw (event.Fault x)
   shows_flaw (event.Cancel c) = then_flaw (closing t (record { now = now; event = event.Cancel c; acts = [] }))
-  shows_flaw (event.Doom key) = outside_flaw (event.Doom key)
+  shows_flaw v = outside_flaw v
 
 -- THE FLAW MAY BE
 
@@ -170,14 +151,9 @@ module _ (limits : Limits) (t : Tables) (now : ℕ) (acts : List Act) (s : Sound
 
   losable : (ev : Event) → denial t ev ≡ None → lacks (room_for limits t now ev) ≡ true → IsLosable limits t now acts ev
   unfolding room_for refusals.refusal_of
-  losable (event.Start c request) goes lacking = absurd (false_true lacking)
-  losable (event.Poll c want) goes lacking = absurd (false_true lacking)
   losable (event.Head x response) goes lacking = by_head x response (t.exchange x) refl goes lacking
   losable (event.Piece x bytes) goes lacking = by_piece x bytes (t.exchange x) refl lacking
-  losable (event.End x) goes lacking = absurd (false_true lacking)
-  losable (event.Fault x) goes lacking = absurd (false_true lacking)
-  losable (event.Cancel c) goes lacking = absurd (false_true lacking)
-  losable (event.Doom key) goes lacking = absurd (false_true lacking)
+  losable _ goes lacking = absurd (false_true lacking)
 
   may_be_so : (ev : Event) → denial t ev ≡ None → may_be limits t (entry limits t now acts ev) (size_flaw limits t now ev) ≡ true
   may_be_so ev goes = may_by limits t now acts ev (room_for limits t now ev) refl (losable ev goes)

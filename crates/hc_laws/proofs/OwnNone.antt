@@ -22,8 +22,6 @@ module _ (t : Tables) (e : Entry) (c : ℕ) where
   shared_or false o is = inr is
 
   heard_none : (ev : Event) (k : Consumer) → e.event ≡ ev → (consumer_heard t e c ev k).own ≡ None → (k.own ≡ None) ⊎ IsShared
-  heard_none (event.Start d request) k at is = inl is
-  heard_none (event.Poll d want) k at is = inl is
   heard_none (event.Head y response) k at is = by_row (t.exchange y) refl is
     where
       by_row : (o : Option Exchange) → t.exchange y ≡ o → (by_head t e c y response o k).own ≡ None → (k.own ≡ None) ⊎ IsShared
@@ -35,8 +33,6 @@ module _ (t : Tables) (e : Entry) (c : ℕ) where
           | inl shared ↦ inr (record { x = y; response = response; w = w; at = at; row = row; mine = here.1; shared = shared })
         ]
       ]
-  heard_none (event.Piece y bytes) k at is = inl is
-  heard_none (event.End y) k at is = inl is
   heard_none (event.Fault y) k at is = by_row (t.exchange y) is
     where
       by_row : (o : Option Exchange) → (by_fault c y o k).own ≡ None → (k.own ≡ None) ⊎ IsShared
@@ -49,7 +45,7 @@ module _ (t : Tables) (e : Entry) (c : ℕ) where
     | inl here ↦ inl (rw here at is)
     | inr other ↦ inl (rw other at is)
   ]
-  heard_none (event.Doom key) k at is = inl is
+  heard_none _ k at is = inl is
 
   opened_none : (o : Option Opening) (k : Consumer) → (by_opening t c o k).own ≡ None → k.own ≡ None
   opened_none None k is = is
@@ -66,13 +62,8 @@ module _ (t : Tables) (e : Entry) (c : ℕ) where
   ]
 
   pub after_none : (p : Place) (own : Option ℕ) → own_after t e c p own ≡ None → own ≡ None
-  after_none place.Line own is = is
-  after_none (place.Passed r kept) own is = is
-  after_none (place.Turn y) own is = is
   after_none (place.Bound r lo hi how) own is = left_none r (t.representation r) own is
-  after_none (place.Direct y) own is = is
-  after_none (place.Down cause) own is = is
-  after_none place.Over own is = is
+  after_none _ own is = is
 
   pub own_none : (k u : Consumer) → due_after t e c k (consumer_acted t e c (consumer_heard t e c e.event k)) ≡ u → u.own ≡ None → (k.own ≡ None) ⊎ IsShared
   own_none k u made none =

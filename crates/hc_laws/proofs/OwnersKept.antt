@@ -1,5 +1,5 @@
 -- Whose each exchange is stays told, from the beginning on.
-use Rattle.std.proofs.Common.{◌≡◌, ℕ, true, None, ◌∙◌}
+use Rattle.std.proofs.Common.{◌≡◌, ℕ, true, None}
 use Rattle.hc_text.proofs.Basics.{not_some as none_some}
 use Rattle.hc_effects.proofs.Vocabulary.{Event, Limits, denial, Contents, Flaw, entry_of, Owners, Tables, may_stand, Sound, after_accepted, first_tables}
 use Rattle.hc_effects.proofs.{ApartKeeps.{apart_kept}, OwnersKeep.{openers_kept, there_kept, one_kept, first_kept, writers_kept}, PastKeeps.{past_kept}, ReadingKeeps.{reading_kept}, WaitingKeeps.{waiting_kept}}

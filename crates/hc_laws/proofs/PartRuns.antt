@@ -1,5 +1,5 @@
 -- A part that is read isn't empty, and who founded with the whole reads all of it, in every run.
-use Rattle.std.{proofs.{Common.{◌≡◌, ◌≢◌, inl, inr, ℕ, ◌+◌, ◌-◌, ◌<◌, ◌≤◌, Bool, true, false, Option, Some, None, refl, ap, sym, ◌∙◌, arith}, lemmas.Bool.Decides.{nat_tests}}, specs.{Prelude.{is_some, nat_eq, ◌&&◌, if◌then◌else◌}, Option.{option_or}}}
+use Rattle.std.{proofs.{Common.{◌≡◌, ◌≢◌, inl, inr, ℕ, ◌<◌, Bool, true, false, Option, Some, None, refl, ap, sym, ◌∙◌, arith}, lemmas.Bool.Decides.{nat_tests}}, specs.{Prelude.{is_some, nat_eq}, Option.{option_or}}}
 use Rattle.hc_text.proofs.Basics.{not_some as none_some, same_some as same_row, some_inj}
 use Rattle.hc_effects.proofs.Vocabulary.{Event, Request, Response, HeadCase, Limits, range_of, wanted_of, BoundBy, has_loss, case_at, head_view, consumer_heard, waiting, denial, Entry, promise_in, Flaw, founded_total, entry_of, OfRuns, OfRunsIn, Parts, is_ranged, length_in, Tables, Exchange, Representation, Consumer, Sound, after_accepted}
 use Rattle.hc_event.specs.declared.event.Event.TheVariants as event
@@ -7,9 +7,8 @@ use Rattle.hc_rules.specs.declared.heads.HeadCase.TheVariants as case
 use Rattle.hc_event.specs.declared.place.BoundBy.TheVariants as by
 use Rattle.hc_event.specs.declared.place.Place.TheVariants as place
 use Rattle.hc_model.specs.Sound as sound
-use Rattle.hc_effects.proofs.{Basics.{some_row}, BoundFrom.{BoundFrom, IsRow, IsFounded, IsInterval, bound_from}, Bounded.{range_order}, ConsumerFilters.{acted, heard_same}, FirstKeeps.{case_of_head, whole_200, replaced_200, is_new}, FoundBy.{CaseBy}, RepFrom.{RepFrom, rep_from}, WantedSpans.{wanted_some}}
+use Rattle.hc_effects.proofs.{Basics.{some_row}, BoundFrom.{BoundFrom, IsRow, IsFounded, IsInterval, bound_from}, Bounded.{range_order}, ConsumerFilters.{acted, heard_same}, FirstKeeps.{case_of_head, whole_200, replaced_200, is_new}, FoundBy.{founds_range, CaseBy}, RepFrom.{RepFrom, rep_from}, WantedSpans.{wanted_some}}
 use Rattle.hc_effects.proofs.BoundFrom as from
-use Rattle.hc_effects.proofs.FoundBy as cases
 use Rattle.hc_effects.proofs.RepFrom as rep
 use Rattle.hc_laws.proofs.{RunFacts.{in_runs}, CoversNew.{head_inj}}
 
@@ -18,23 +17,19 @@ use Rattle.hc_laws.proofs.{RunFacts.{in_runs}, CoversNew.{head_inj}}
 interval_some : (request : Request) (o : Option ℕ) (lo hi : ℕ) → is_some (range_of request) ≡ true → IsInterval (wanted_of (range_of request) o) lo (Some hi) → lo < hi
 interval_some request o lo hi on i =
     let lt : i.span.lo < i.span.hi = wanted_some (range_of request) o i.span on (range_order request) i.wanted_is in
-    let first : i.span.lo ≡ lo = i.from in
     let last : i.span.hi ≡ hi = some_inj i.span.hi hi i.to in
     omega arith
 
 -- AN ENTRY
 
 range_206 : (t : Tables) (lost : Bool) (w : Exchange) (response : Response) → CaseBy (head_view t lost w response) case.FoundsRange → response.status ≡ 206
-range_206 t lost w response (cases.founds_range way status fits kept good) = status
+range_206 t lost w response (founds_range way status fits kept good) = status
 
 whole_total : (w : Exchange) (response : Response) → response.status ≡ 200 → founded_total w response ≡ promise_in w response
 whole_total w response status = let off : nat_eq response.status 206 ≡ false = grind (arith, nat_tests, status) in rw off refl
 
 hole_founding : (y : ℕ) → by.FirstHole y ≡ by.Founding → ⊥
 hole_founding y is = cc
-
-hole_plan : (y : ℕ) → by.FirstHole y ≡ by.Plan → ⊥
-hole_plan y is = cc
 
 founding_plan : by.Founding ≡ by.Plan → ⊥
 founding_plan is = cc
@@ -59,9 +54,8 @@ module _ (limits : Limits) (t : Tables) (now : ℕ) (flaw : Flaw) (s : Sound t) 
   first_by c r lo hi y u on (from.founds k x response w row here exchange_row mine of_r by_is all) = absurd (hole_founding y by_is)
   first_by c r lo hi y u on (from.opens k o row is mine free way hole) =
       let h = waiting t e c (consumer_heard t e c ev k) in
-      let same : u.request ≡ h.request = request_is c r lo (Some hi) (by.FirstHole y) k u row ∙ sym (heard_same t e c ev k).request_is in
-      interval_some h.request hole.v.head.total lo hi (ranged h u same on) hole.interval
-  first_by c r lo hi y u on (from.shows k z row is all) = absurd (hole_plan y all.by_is)
+      interval_some h.request hole.v.head.total lo hi (ranged h u (request_is c r lo (Some hi) (by.FirstHole y) k u row ∙ sym (heard_same t e c ev k).request_is) on) hole.interval
+  first_by c r lo hi y u on (from.shows k z row is all) = absurd cc
 
   -- WHO FOUNDED
 
@@ -85,16 +79,13 @@ module _ (limits : Limits) (t : Tables) (now : ℕ) (flaw : Flaw) (s : Sound t) 
   kept_row : (r : ℕ) (v u : Representation) → t.representation r ≡ Some v → now_on.representation r ≡ Some u → (u.head.status ≡ v.head.status) × ((n : ℕ) → v.head.total ≡ Some n → u.head.total ≡ Some n)
   kept_row r v u row there = by_from (rep_from t e r (t.representation r) u refl there)
     where
-      by_total : (q : Representation) (n : ℕ) → q ≡ v → v.head.total ≡ Some n → rep.IsEnded t e r q u.head.total → u.head.total ≡ Some n
-      by_total q n same known ended = ended.total_is ∙ (ap (λ (z : Representation). option_or z.head.total (Some (length_in (t.exchange r)))) same ∙ rw known refl)
-
       by_from : RepFrom t e r u → (u.head.status ≡ v.head.status) × ((n : ℕ) → v.head.total ≡ Some n → u.head.total ≡ Some n)
       by_from (rep.was q kept) =
           let one : q ≡ v = same_row (t.representation r) q v kept.row row in (
             kept.status_is ∙ ap (λ (z : Representation). z.head.status) one,
             λ n known. elim kept.total_is [
               | inl same ↦ same ∙ (ap (λ (z : Representation). z.head.total) one ∙ known)
-              | inr ended ↦ by_total q n one known ended
+              | inr ended ↦ ended.total_is ∙ (ap (λ (z : Representation). option_or z.head.total (Some (length_in (t.exchange r)))) one ∙ rw known refl)
             ],
           )
       by_from (rep.founded answer z absent at exchange on is) = absurd (none_some v (sym absent ∙ row))
@@ -108,11 +99,8 @@ module _ (limits : Limits) (t : Tables) (now : ℕ) (flaw : Flaw) (s : Sound t) 
       p.founded c r lo hi k was.0 row.row at was.1 (sym (kept_row r was.0 v was.1 there).0 ∙ status) (ranged k u (request_is c r lo (Some hi) by.Founding k u row) on)
   part_by c r lo hi u v there status on (from.founds k x response w row here exchange_row mine of_r by_is all) = by_case (case_at t e) refl all
     where
-      told : v.head.status ≡ response.status
-      told = (founded_row r x response w v here exchange_row of_r there).0
-
       never : response.status ≡ 200 → lo < hi
-      never is = absurd (let no : 206 ≡ 200 = sym status ∙ (told ∙ is) in omega arith)
+      never is = absurd (let no : 206 ≡ 200 = sym status ∙ ((founded_row r x response w v here exchange_row of_r there).0 ∙ is) in omega arith)
 
       by_case : (g : Option HeadCase) → case_at t e ≡ g → IsFounded t e c r lo (Some hi) by.Founding x response w k g → lo < hi
       by_case _ is (from.whole a b) = never (whole_200 t (has_loss e.acts) w response (case_of_head t e x response w case.FoundsWhole here exchange_row is))

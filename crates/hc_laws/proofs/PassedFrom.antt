@@ -1,7 +1,7 @@
 -- Where it comes from that a consumer waits for a body, and keeps a 304: it did, its 304 came, or it was told to wait.
 use Rattle.std.{proofs.Common.{◌≡◌, inl, inr, ℕ, Bool, true, false, cond, Option, Some, None, refl, ap, sym, ◌∙◌}, specs.Prelude.{if◌then◌else◌, ◌==◌, ◌&&◌, not, is_none}}
 use Rattle.hc_text.proofs.Basics.{bool_cases, some_inj}
-use Rattle.hc_effects.proofs.Vocabulary.{Opening, opening_in, leaves_in, Event, Request, Response, Cause, Wait, HeadCase, Route, Wanted, Limits, route_of, range_of, wanted_of, Place, BoundBy, Showing, showing_in, wait_in, case_at, bound_to_wanted, place_by_case, passed_on, passed_by, kept_by, consumer_heard, by_head, by_fault, waiting_place, waiting, place_for_hole, opened_place, unless_bound, by_opening, shown_place, consumer_acted, consumer_settled, consumer_made, consumer_after, due_after, back_in_line, current, row_of, denial, Entry, promise_in, Flaw, founded_total, entry_of, Owners, bound_to, reads, Tables, Exchange, Representation, Consumer, Sound, starts_over, after_accepted}
+use Rattle.hc_effects.proofs.Vocabulary.{Opening, opening_in, leaves_in, Event, Request, Response, Cause, Wait, HeadCase, Route, Wanted, Limits, route_of, range_of, wanted_of, Place, BoundBy, Showing, showing_in, wait_in, case_at, bound_to_wanted, place_by_case, passed_on, passed_by, kept_by, consumer_heard, by_head, by_fault, waiting_place, waiting, place_for_hole, opened_place, unless_bound, by_opening, shown_place, consumer_acted, consumer_settled, consumer_made, consumer_after, due_after, back_in_line, current, row_of, denial, Entry, Flaw, founded_total, entry_of, Owners, bound_to, reads, Tables, Exchange, Representation, Consumer, Sound, starts_over, after_accepted}
 use Rattle.hc_event.specs.declared.event.Event.TheVariants as event
 use Rattle.hc_event.specs.declared.act.Cause.TheVariants as cause
 use Rattle.hc_event.specs.declared.act.Wait.TheVariants as wait
@@ -40,9 +40,6 @@ module _ (limits : Limits) (t : Tables) (now : ℕ) (flaw : Flaw) (s : Sound t) 
   direct_passed : (x : ℕ) → place.Direct x ≡ at → ⊥
   direct_passed x is = cc
 
-  turn_passed : (x : ℕ) → place.Turn x ≡ at → ⊥
-  turn_passed x is = cc
-
   down_passed : (why : Cause) → place.Down why ≡ at → ⊥
   down_passed why is = cc
 
@@ -53,9 +50,8 @@ module _ (limits : Limits) (t : Tables) (now : ℕ) (flaw : Flaw) (s : Sound t) 
   bound_passed r lo hi how is = cc
 
   wanted_passed : (r : ℕ) (how : BoundBy) (other : Place) (w : Wanted) → bound_to_wanted r how other w ≡ at → other ≡ at
-  wanted_passed r how other wanted.TotalUnknown is = is
-  wanted_passed r how other wanted.Unsatisfiable is = is
   wanted_passed r how other (wanted.Interval span) is = absurd (bound_passed r span.lo (Some span.hi) how is)
+  wanted_passed r how other _ is = is
 
   before : k.place ≡ at → PassedFrom
   before is = stood is
@@ -68,24 +64,16 @@ module _ (limits : Limits) (t : Tables) (now : ℕ) (flaw : Flaw) (s : Sound t) 
 
   placed : (x : ℕ) (response : Response) (w : Exchange) (g : Option HeadCase) → ev ≡ event.Head x response → t.exchange x ≡ Some w → w.c ≡ c → case_at t e ≡ g → place_by_case x response w k g ≡ at → PassedFrom
   placed x response w None here there mine is p = before p
-  placed x response w (Some case.DirectBad) here there mine is p = absurd (down_passed (cause.BadHead x) p)
   placed x response w (Some case.DirectTaken) here there mine is p = before p
-  placed x response w (Some case.TurnBad) here there mine is p = absurd (down_passed (cause.BadHead x) p)
   placed x response w (Some case.Validated) here there mine is p = validated x response w w.aim here there mine is refl p
   placed x response w (Some case.NotValidated) here there mine is p = before p
-  placed x response w (Some case.TurnServerError) here there mine is p = absurd (direct_passed x p)
-  placed x response w (Some case.FoundsWhole) here there mine is p = absurd (bound_passed x 0 (promise_in w response) by.Founding p)
   placed x response w (Some case.FoundsRange) here there mine is p = absurd (direct_passed x (wanted_passed x by.Founding (place.Direct x) (wanted_of (range_of k.request) (founded_total w response)) p))
-  placed x response w (Some case.PassesBy) here there mine is p = absurd (direct_passed x p)
-  placed x response w (Some case.FirstBad) here there mine is p = absurd (down_passed (cause.BadHead x) p)
   placed x response w (Some case.FirstJoins) here there mine is p = before p
-  placed x response w (Some case.FirstServerError) here there mine is p = absurd (direct_passed x p)
   placed x response w (Some case.FirstChanged) here there mine is p = before p
-  placed x response w (Some case.FirstReplaced) here there mine is p = absurd (bound_passed x 0 (promise_in w response) by.Founding p)
-  placed x response w (Some case.FirstPassesBy) here there mine is p = absurd (direct_passed x p)
   placed x response w (Some case.LaterBad) here there mine is p = before p
   placed x response w (Some case.LaterJoins) here there mine is p = before p
   placed x response w (Some case.LaterChanged) here there mine is p = before p
+  placed x response w _ here there mine is p = cc
 
   headed : (x : ℕ) (response : Response) (z : Option Exchange) → ev ≡ event.Head x response → t.exchange x ≡ z → (by_head t e c x response z k).place ≡ at → PassedFrom
   headed x response None here there is = before is
@@ -102,17 +90,13 @@ module _ (limits : Limits) (t : Tables) (now : ℕ) (flaw : Flaw) (s : Sound t) 
   ]
 
   heard : (v : Event) → ev ≡ v → (consumer_heard t e c v k).place ≡ at → PassedFrom
-  heard (event.Start d request) here is = before is
-  heard (event.Poll d want) here is = before is
   heard (event.Head x response) here is = headed x response (t.exchange x) here refl is
-  heard (event.Piece x bytes) here is = before is
-  heard (event.End x) here is = before is
   heard (event.Fault x) here is = faulted x (t.exchange x) is
   heard (event.Cancel d) here is = elim (bool_cases (d == c)) [
     | inl mine ↦ absurd (over_passed (rw mine at is))
     | inr other ↦ before (rw other at is)
   ]
-  heard (event.Doom key) here is = before is
+  heard _ here is = before is
 
   -- THE ACTS
 
@@ -121,21 +105,17 @@ module _ (limits : Limits) (t : Tables) (now : ℕ) (flaw : Flaw) (s : Sound t) 
   busy d (Some r) here is p = let same = passed_inj r (kept_by h.place) p in busies d here (sym same.1) (is ∙ ap Some same.0)
 
   waits : (z : Option Wait) → wait_in c e.acts ≡ z → waiting_place t h z ≡ at → PassedFrom
-  waits None here is = heard ev refl is
   waits (Some (wait.Turn d)) here is = absurd (line_passed is)
   waits (Some (wait.Busy d)) here is = busy d (current t h.request.key) here refl is
-  waits (Some (wait.Head x)) here is = heard ev refl is
-  waits (Some (wait.Body x)) here is = heard ev refl is
+  waits _ here is = heard ev refl is
 
   hole_passed : (x : ℕ) (request : Request) (r : Option ℕ) (v : Option Representation) → place_for_hole x request r v ≡ at → ⊥
-  hole_passed x request None v is = line_passed is
-  hole_passed x request (Some r) None is = line_passed is
   hole_passed x request (Some r) (Some v) is = line_passed (wanted_passed r (by.FirstHole x) place.Line (wanted_of (range_of request) v.head.total) is)
+  hole_passed x request _ _ is = cc
 
   opened_passed : (x : ℕ) (z : Consumer) (way : Route) → opened_place t x z way ≡ at → ⊥
-  opened_passed x z route.Direct is = direct_passed x is
-  opened_passed x z route.Turn is = turn_passed x is
   opened_passed x z route.Hole is = hole_passed x z.request (current t z.request.key) (row_of t (current t z.request.key)) is
+  opened_passed x z _ is = cc
 
   unless : (p : Opening) (z : Consumer) (r : Option ℕ) → unless_bound r z.place (opened_place t p.x z (route_of p.need)) ≡ at → z.place ≡ at
   unless p z None is = absurd (opened_passed p.x z (route_of p.need) is)
@@ -167,8 +147,7 @@ module _ (limits : Limits) (t : Tables) (now : ℕ) (flaw : Flaw) (s : Sound t) 
   passed_before u is stands =
       let acted = settled (consumer_acted t e c h) u (starts_over t e c k) is stands in
       let unshown = stays (shown_place c (showing_in e.acts) (by_opening t c (opening_in e.acts) (waiting t e c h)).place) (leaves_in c e.acts) acted in
-      let unopened = shown (by_opening t c (opening_in e.acts) (waiting t e c h)).place (showing_in e.acts) unshown in
-      waits (wait_in c e.acts) refl (opened (waiting t e c h) (opening_in e.acts) unopened)
+      waits (wait_in c e.acts) refl (opened (waiting t e c h) (opening_in e.acts) (shown (by_opening t c (opening_in e.acts) (waiting t e c h)).place (showing_in e.acts) unshown))
 
 module _ (limits : Limits) (t : Tables) (now : ℕ) (flaw : Flaw) (s : Sound t) (o : Owners t) (ev : Event) (goes : denial t ev ≡ None) where
   abbrev made_e : Entry
@@ -179,13 +158,7 @@ module _ (limits : Limits) (t : Tables) (now : ℕ) (flaw : Flaw) (s : Sound t) 
     | inl here ↦ let no : place.Line ≡ place.Passed q kept = ap (λ (z : Consumer). z.place) (some_inj _ u (rw here.0 at is)) ∙ stands in cc
     | inr other ↦ let no : None ≡ Some u = rw other.0 at is in cc
   ]
-  started c q kept (event.Poll d want) u is stands = let no : None ≡ Some u = is in cc
-  started c q kept (event.Head x response) u is stands = let no : None ≡ Some u = is in cc
-  started c q kept (event.Piece x bytes) u is stands = let no : None ≡ Some u = is in cc
-  started c q kept (event.End x) u is stands = let no : None ≡ Some u = is in cc
-  started c q kept (event.Fault x) u is stands = let no : None ≡ Some u = is in cc
-  started c q kept (event.Cancel d) u is stands = let no : None ≡ Some u = is in cc
-  started c q kept (event.Doom key) u is stands = let no : None ≡ Some u = is in cc
+  started c q kept _ u is stands = let no : None ≡ Some u = is in cc
 
   pub record IsPassedRow (c q : ℕ) (kept : Option ℕ) : Type 0 where
     pub k : Consumer

@@ -15,14 +15,8 @@ use Rattle.hc_effects.proofs.WaitedAs as waited
 
 -- only what validates is conditional
 pub conditional_need : (n : Need) (request : Request) → is_conditional n request ≡ true → n ≡ need.Validate
-conditional_need need.Disabled request h = absurd (false_true h)
-conditional_need need.TimedOut request h = absurd (false_true h)
-conditional_need need.Bypass request h = absurd (false_true h)
-conditional_need need.Miss request h = absurd (false_true h)
-conditional_need need.Vary request h = absurd (false_true h)
 conditional_need need.Validate request h = refl
-conditional_need (need.Hole from to) request h = absurd (false_true h)
-conditional_need need.Unsatisfied request h = absurd (false_true h)
+conditional_need _ request h = absurd (false_true h)
 
 validated_need : (t : Tables) (lost : Bool) (w : Exchange) (response : Response) → CaseBy (head_view t lost w response) case.Validated → w.need ≡ need.Validate
 validated_need t lost w response (cases.validated way status conditional kept) = conditional_need w.need w.request conditional

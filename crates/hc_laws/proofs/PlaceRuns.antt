@@ -1,14 +1,14 @@
 -- What holds of a consumer by its place holds in every run.
-use Rattle.std.{proofs.Common.{◌≡◌, ℕ, [], ◌∷◌, Bool, true, false, Option, Some, None, refl, ap, sym, ◌∙◌, subst}, specs.Prelude.{is_some}}
-use Rattle.hc_text.proofs.Basics.{not_some as none_some, same_some as same_row}
-use Rattle.hc_effects.proofs.Vocabulary.{is_denied, Response, Limits, route_of, Place, Endings, Entry, History, Contents, is_open, flaw_in, entry_of, OfRuns, Turns, Owners, IsAwaiting, IsPast, IsReading, Places, IsAway, ReadsPast, own_open, reads, hi_of, end_in, Tables, Exchange, Consumer, IsOwed, Sound, tables, first_tables, after_accepted, after_denied}
+use Rattle.std.{proofs.Common.{◌≡◌, ℕ, Bool, true, false, Option, Some, None, refl, ap, sym, ◌∙◌, subst}, specs.Prelude.{is_some}}
+use Rattle.hc_text.proofs.Basics.{never_true, not_some as none_some, same_some as same_row}
+use Rattle.hc_effects.proofs.Vocabulary.{Response, route_of, Place, Endings, Entry, Contents, is_open, entry_of, OfRuns, Turns, Owners, IsAwaiting, IsPast, IsReading, Places, IsAway, ReadsPast, own_open, reads, hi_of, end_in, Tables, Exchange, Consumer, Sound, tables, first_tables, after_denied}
 use Rattle.hc_rules.specs.declared.need.Route.TheVariants as route
 use Rattle.hc_event.specs.declared.place.Place.TheVariants as place
 use Rattle.hc_event.specs.declared.place.BoundBy.TheVariants as by
 use Rattle.hc_model.specs.Owners as owners
 use Rattle.hc_model.specs.Places.{IsIdle, AwaitsTurn, IsUnheard}
-use Rattle.hc_laws.proofs.{Barred.{next_tables, denied_tables}, InRuns.{turned_in_runs}, PlacesKept.{AreOwn, IsOwnTurn, own_kept, turn_direct, bound_turn}, PlacesRead.{AreRead, read_kept}, PlacesEnded.{AreEnded, ended_kept}, PlacesGiven.{ArePast, past_kept}, PlacesShown.{AreReaders, IsReader, readers_kept}, PlacesStand.{Stands, AreStanding, standing_kept}, PlacesTold.{AreTold, told_kept, told_denied, down_told}, ReadEnds.{bounded}, ReadJoined.{fallback}, SoundRuns.{IsCarried, carried}, TurnFacts.{IsTaken}, Unreached.{unreached}}
-use Rattle.hc_effects.proofs.{Basics.{false_true}, Beside.{IsBeside, is_cached_place}, Bounded.{IsBounded}, OfEntries.{of_real}, ShownStays.{IsFallback}, PastApart.{bound_direct}}
+use Rattle.hc_laws.proofs.{InRuns.{turned_in_runs}, PlacesKept.{AreOwn, IsOwnTurn, own_kept, turn_direct, bound_turn}, PlacesRead.{AreRead, read_kept}, PlacesEnded.{AreEnded, ended_kept}, PlacesGiven.{ArePast, past_kept}, PlacesShown.{AreReaders, IsReader, readers_kept}, PlacesStand.{Stands, AreStanding, standing_kept}, PlacesTold.{AreTold, told_kept, told_denied, down_told}, ReadEnds.{bounded}, ReadJoined.{fallback}, RunFacts.{in_runs_with}, SoundRuns.{carried}, TurnFacts.{IsTaken}, Unreached.{unreached}}
+use Rattle.hc_effects.proofs.{Basics.{false_true}, Beside.{IsBeside, is_cached_place}, Bounded.{IsBounded}, ShownStays.{IsFallback}, PastApart.{bound_direct}}
 
 -- OVER A RUN
 
@@ -46,26 +46,32 @@ known_denied t e known = record {
   standing = record { stands = known.standing.stands };
 }
 
-by_denial : (limits : Limits) (contents : Contents) (h : History) (e : Entry) (b : Bool) → is_denied e.acts ≡ b → IsCarried (tables contents h) → IsFallback (tables contents h) → Turns (tables contents h) → IsBounded (tables contents h) → Sound (tables contents (e ∷ h)) → IsOwed limits (tables contents h) e → IsKnown (tables contents h) → IsKnown (tables contents (e ∷ h))
-by_denial limits contents h e true denied c a turns b later owed known = subst IsKnown (denied_tables contents h e denied) (known_denied (tables contents h) e known)
-by_denial limits contents h e false accepted c a turns b later owed known =
-    let t = tables contents h in
-    let sound_then : Sound (after_accepted t e) = subst Sound (sym (next_tables contents h e accepted)) later in
-    subst IsKnown (next_tables contents h e accepted)
-    (of_real limits t e (λ z. Sound (after_accepted t z) → IsTaken limits t z → IsKnown (after_accepted t z)) owed accepted (λ going real then taken. let owned = own_kept limits t e.now (flaw_in e.acts) c.is_sound c.is_owned a known.owned e.event going in record {
-      owned = owned;
-      reads = read_kept limits t e.now (flaw_in e.acts) c.is_sound c.is_owned a known.owned e.event going then known.reads;
-      readers = readers_kept limits t e.now (flaw_in e.acts) c.is_sound c.is_owned a known.owned turns known.readers e.event going taken;
-      past = past_kept limits t e.now (flaw_in e.acts) c.is_sound c.is_owned a b known.owned known.past e.event going real.stand owned;
-      told = told_kept t (entry_of limits t e.now e.event (flaw_in e.acts)) known.told;
-      ended = ended_kept limits t e.now (flaw_in e.acts) c.is_sound c.is_owned c.is_measured a b known.owned known.ended e.event going owned;
-      standing = standing_kept limits t e.now (flaw_in e.acts) c.is_sound c.is_owned a known.owned turns known.readers known.standing e.event going taken;
-    }) sound_then (record { owed = owed; not_denied = accepted }))
+-- what each run gives the tables before
+record IsBefore (t : Tables) : Type 0 where
+  fallback : IsFallback t
+  turns : Turns t
+  bounded : IsBounded t
+
+before : OfRuns IsBefore
+before limits contents h may run = record { fallback = fallback limits contents h may run; turns = (turned_in_runs limits contents h may run).turns; bounded = bounded limits contents h may run }
 
 pub known_in_runs : OfRuns IsKnown
-unfolding tables
-known_in_runs limits contents [] may run = known_begun contents
-known_in_runs limits contents (e ∷ h) may run = by_denial limits contents h e (is_denied e.acts) refl (carried limits contents h may run.0) (fallback limits contents h may run.0) (turned_in_runs limits contents h may run.0).turns (bounded limits contents h may run.0) (carried limits contents (e ∷ h) may run).is_sound run.1 (known_in_runs limits contents h may run.0)
+known_in_runs = in_runs_with (λ limits t. IsKnown t) (λ limits t. IsBefore t) before
+    (λ limits contents may. known_begun contents)
+    (λ limits t e later known. known_denied t e known)
+    (λ limits t now flaw ev s b known.
+    let c = s.before in
+    let owned = own_kept limits t now flaw c.is_sound c.is_owned b.fallback known.owned ev s.going in
+    let taken : IsTaken limits t (entry_of limits t now ev flaw) = record { owed = s.owed; not_denied = s.real.taken } in
+    record {
+      owned = owned;
+      reads = read_kept limits t now flaw c.is_sound c.is_owned b.fallback known.owned ev s.going s.sound_then known.reads;
+      readers = readers_kept limits t now flaw c.is_sound c.is_owned b.fallback known.owned b.turns known.readers ev s.going taken;
+      past = past_kept limits t now flaw c.is_sound c.is_owned b.fallback b.bounded known.owned known.past ev s.going s.real.stand owned;
+      told = told_kept t (entry_of limits t now ev flaw) known.told;
+      ended = ended_kept limits t now flaw c.is_sound c.is_owned c.is_measured b.fallback b.bounded known.owned known.ended ev s.going owned;
+      standing = standing_kept limits t now flaw c.is_sound c.is_owned b.fallback known.owned b.turns known.readers known.standing ev s.going taken;
+    })
 
 -- BY PLACE
 
@@ -118,14 +124,7 @@ module _ (t : Tables) (s : Sound t) (o : Owners t) (a : IsFallback t) (b : IsBou
     idle_by off unread = record { unshown = off; ungiven = b.fresh c k row off; undue = o.idle_due c k row unread }
 
     unshown_by : (IsReader k.place → ⊥) → k.shown ≡ false
-    unshown_by never = by_shown k.shown refl
-      where
-        by_shown : (q : Bool) → k.shown ≡ q → q ≡ false
-        by_shown true on = absurd (never (known.readers.shown c k row on))
-        by_shown false off = refl
-
-    unshown_turn : (x : ℕ) → k.place ≡ place.Turn x → k.shown ≡ false
-    unshown_turn x at = unshown_by (λ r. subst IsReader at r)
+    unshown_by never = never_true k.shown (λ on. never (known.readers.shown c k row on))
 
     away_by : Elsewhere k.place → (IsReader k.place → ⊥) → reads k.place ≡ false → IsAway t k
     away_by away never unread = record { idle = idle_by (unshown_by never) unread; unowned = away_own away }
@@ -159,7 +158,7 @@ module _ (t : Tables) (s : Sound t) (o : Owners t) (a : IsFallback t) (b : IsBou
           by_turn = turn_route x i.its.w k.place at (awaiting x i.its.w i.its.own i.its.row i.is_open bare);
           is_open = i.is_open;
           headless = bare;
-          idle = idle_by (unshown_turn x at) (ap reads at);
+          idle = idle_by (unshown_by (λ r. subst IsReader at r)) (ap reads at);
         }
         by_head (Some response) is = absurd (turn_reading x k.place at (o.reading c x k i.its.w row i.its.own i.its.row i.is_open (ap (λ (q : Option Response). is_some q) is)))
 
@@ -171,11 +170,7 @@ module _ (t : Tables) (s : Sound t) (o : Owners t) (a : IsFallback t) (b : IsBou
         bare_not q there headed = false_true (sym (ap (λ (z : Option Response). is_some z) (ap (λ (z : Exchange). z.head) (same_row (t.exchange x) q w there exchange_row) ∙ bare)) ∙ headed)
 
         off : k.shown ≡ false
-        off = by_shown k.shown refl
-          where
-            by_shown : (q : Bool) → k.shown ≡ q → q ≡ false
-            by_shown true on = absurd (let h = a.apart.headed c x k row at on in bare_not h.w h.row h.headed)
-            by_shown false unshown = refl
+        off = never_true k.shown (λ on. let h = a.apart.headed c x k row at on in bare_not h.w h.row h.headed)
 
         by_past : IsPast t x k → IsUnheard w k
         by_past (owners.answered q there headed) = absurd (bare_not q there headed)

@@ -1,5 +1,5 @@
 -- Of an answer past the store that is over without a failure all came, at each entry.
-use Rattle.std.{proofs.{Common.{◌≡◌, inl, inr, ℕ, ◌+◌, ◌≤◌, List, [], ◌++◌, length, Bool, true, false, Option, Some, None, refl, ap, sym, ◌∙◌, subst, arith}, lemmas.Bool.Decides.{nat_tests}}, specs.{Prelude.{if◌then◌else◌, ◌==◌, ◌&&◌, not, nat_eq, nat_lt, unwrap_or}, Option.{option_or}}}
+use Rattle.std.{proofs.{Common.{◌≡◌, inl, inr, ℕ, ◌+◌, ◌≤◌, List, ◌++◌, length, Bool, true, false, Option, Some, None, refl, ap, sym, ◌∙◌, subst, arith}, lemmas.Bool.Decides.{nat_tests}}, specs.{Prelude.{if◌then◌else◌, ◌==◌, ◌&&◌, not, nat_eq, nat_lt, unwrap_or}, Option.{option_or}}}
 use Rattle.hc_text.proofs.Basics.{and_left, and_right, bool_cases, not_some as none_some, never_true as not_so, or_cases, same_some as same_row, some_inj}
 use Rattle.hc_effects.proofs.Vocabulary.{closes_in, Act, Event, Response, Limits, case_at, must_close, is_refused, brings_head, is_doomed, awaits, has_no_survivor, is_left, leaver, consumer_heard, consumer_acted, by_head, is_number, denial, Entry, exchange_in, base, front, promised_bytes, family, is_reached, exchange_heard, exchange_acted, with_head, with_piece, promise_in, stop_cause, short_of, short_cause, Flaw, entry_of, Measures, Owners, end_of_direct, own_open, source, shared_exchange, reads, Tables, Exchange, Consumer, Sound, awaited_exchange, after_accepted}
 use Rattle.hc_event.specs.declared.event.Event.TheVariants as event
@@ -26,9 +26,7 @@ reached_come w reached = by_promise (promised_bytes w) refl
   where
     by_promise : (q : Option ℕ) → promised_bytes w ≡ q → IsAllCome w
     by_promise None is = absurd (false_true (sym (ap (λ q. is_reached q (length w.body)) is) ∙ reached))
-    by_promise (Some n) is =
-        let test : nat_eq n (length w.body) ≡ true = sym (ap (λ q. is_reached q (length w.body)) is) ∙ reached in
-        told_come w n is (grind (arith, nat_tests))
+    by_promise (Some n) is = told_come w n is (grind (arith, nat_tests))
 
 -- or up to a clean end, where none were
 ended_come : (w : Exchange) → w.is_ended ≡ true → ((n : ℕ) → promised_bytes w ≡ Some n → n ≡ length w.body) → IsAllCome w
@@ -38,8 +36,7 @@ ended_come w ended enough = by_promise (promised_bytes w) refl
     by_promise (Some n) is = told_come w n is (enough n is)
     by_promise None is =
         let first : base w ≡ 0 = no_base _ is in
-        let same : length w.body ≡ base w + length w.body = omega arith in
-        ap (λ q. end_of_direct q w) is ∙ (ap (λ b. if b then Some (length w.body) else None) ended ∙ ap Some same)
+        ap (λ q. end_of_direct q w) is ∙ (ap (λ b. if b then Some (length w.body) else None) ended ∙ ap Some (omega arith))
 
 -- what the acts say of it changes nothing of that
 acted_come : (x : ℕ) (acts : List Act) (w : Exchange) → IsAllCome w → IsAllCome (exchange_acted x acts w)
@@ -89,16 +86,9 @@ module _ (limits : Limits) (t : Tables) (now : ℕ) (flaw : Flaw) (s : Sound t) 
       where
         by_event : (v : Event) → ev ≡ v → brings_head y v ≡ true → ⊥
         by_event (event.Head x response) here test =
-            let is : nat_eq x y ≡ true = test in
             let same : x ≡ y = grind (arith, nat_tests) in
             false_true (sym (head_left response (here ∙ ap (λ n. event.Head n response) same)) ∙ (ap is_refused (case_same limits t now flaw s o ev goes) ∙ and_left _ (brings_head y ev) h))
-        by_event (event.Start d request) here test = false_true test
-        by_event (event.Poll d want) here test = false_true test
-        by_event (event.Piece x bytes) here test = false_true test
-        by_event (event.End x) here test = false_true test
-        by_event (event.Fault x) here test = false_true test
-        by_event (event.Cancel d) here test = false_true test
-        by_event (event.Doom key) here test = false_true test
+        by_event _ here test = false_true test
 
     module _ (at : k.place ≡ place.Direct y) where
       own : k.own ≡ Some y
@@ -110,20 +100,14 @@ module _ (limits : Limits) (t : Tables) (now : ℕ) (flaw : Flaw) (s : Sound t) 
       awaits_not : awaits (t.consumer w.c) y ≡ false
       awaits_not = ap (λ z. awaits z y) (ap t.consumer mine ∙ f.row) ∙ ap (λ p. is_number (awaited_exchange p) y) at
 
-      undoomed : is_doomed t b y w ≡ true → ⊥
-      undoomed h = false_true (sym awaits_not ∙ and_right _ (awaits (t.consumer w.c) y) h)
-
-      unlost : has_no_survivor t b y (family y w) (t.representation (family y w)) ≡ true → ⊥
-      unlost h = false_true (sym (ap (has_no_survivor t b y (family y w)) (ap t.representation family_is ∙ a.apart.unfounded c y k f.row at)) ∙ h)
-
       past_unclosed : must_close t b y w ≡ true → ⊥
       past_unclosed must = elim (or_cases _ (is_left t y (leaver b)) must) [
         | inr left ↦ unleft limits t now flaw s o ev goes c y k f.row own cancelled f.leaves left
         | inl more ↦ elim (or_cases _ (has_no_survivor t b y (family y w) (t.representation (family y w))) more) [
-          | inr lost ↦ unlost lost
+          | inr lost ↦ false_true (sym (ap (has_no_survivor t b y (family y w)) (ap t.representation family_is ∙ a.apart.unfounded c y k f.row at)) ∙ lost)
           | inl less ↦ elim (or_cases (is_refused (case_at t b) && brings_head y ev) (is_doomed t b y w) less) [
             | inl refused ↦ unrefused refused
-            | inr doomed ↦ undoomed doomed
+            | inr doomed ↦ false_true (sym awaits_not ∙ and_right _ (awaits (t.consumer w.c) y) doomed)
           ]
         ]
       ]
@@ -170,10 +154,8 @@ module _ (limits : Limits) (t : Tables) (now : ℕ) (flaw : Flaw) (s : Sound t) 
       head_come : (response : Response) → ev ≡ event.Head y response → (with_head t e response w).is_open ≡ false → IsAllCome (with_head t e response w)
       head_come response here off =
           let new = is_new limits t now flaw s ev goes y response w here row in
-          let empty : w.body ≡ [] = (s.waits.headless y w row new.bare).0 in
-          let on : w.is_open ≡ true = new.is_open in
-          let reached : is_reached (promise_in w response) 0 ≡ true = by_test _ (sym (ap (λ q. not (is_reached (promise_in w response) 0) && q) on) ∙ off) in
-          reached_come (with_head t e response w) (ap (λ (xs : List ℕ). is_reached (promise_in w response) (length xs)) empty ∙ reached)
+          let reached : is_reached (promise_in w response) 0 ≡ true = by_test _ (sym (ap (λ q. not (is_reached (promise_in w response) 0) && q) new.is_open) ∙ off) in
+          reached_come (with_head t e response w) (ap (λ (xs : List ℕ). is_reached (promise_in w response) (length xs)) ((s.waits.headless y w row new.bare).0) ∙ reached)
         where
           by_test : (q : Bool) → (not q && true) ≡ false → q ≡ true
           by_test true h = refl

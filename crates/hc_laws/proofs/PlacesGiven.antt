@@ -8,15 +8,13 @@ use Rattle.hc_event.specs.declared.place.Place.TheVariants as place
 use Rattle.hc_event.specs.declared.place.BoundBy.TheVariants as by
 use Rattle.hc_model.specs.Owners as owners
 use Rattle.hc_model.specs.Sound as sound
-use Rattle.hc_effects.proofs.{Basics.{false_true}, Bounded.{IsBounded}, ConsumerFilters.{acted, given_by}, Dues.{undue_of, loss_at, due_none}, ExchangeFrom.{ExchangeFrom, exchange_from, IsSame}, Fills.{Brings, brings}, FirstKeeps.{is_new, is_opener}, Forward.{is_kept}, GivenNext.{read_of, given_next}, Givers.{some_want, gives_of}, MoveBy.{move_by}, OwnersKeep.{is_opened, new_number}, PastKeeps.{IsFrom, PlaceFrom, direct_from}, PieceKeeps.{eq_cases}, PollActs.{ToOne, to_one}, ShownStays.{IsFallback, StaysOrIdle, shown_stays, unless_same}, ToBeShown.{heard_place}, Waiters.{IsWaiter, waiter_as, waits_undue}, PastApart.{bound_direct}}
+use Rattle.hc_effects.proofs.{ShownOnce.{by_event}, Basics.{false_true}, Bounded.{IsBounded}, ConsumerFilters.{acted, given_by}, Dues.{undue_of, loss_at, due_none}, ExchangeFrom.{ExchangeFrom, exchange_from, IsSame}, Fills.{Brings, brings}, FirstKeeps.{is_new, is_opener}, Forward.{is_kept}, GivenNext.{read_of, given_next}, Givers.{some_want, gives_of}, MoveBy.{move_by}, OwnersKeep.{is_opened, new_number}, PastKeeps.{IsFrom, PlaceFrom, direct_from}, PieceKeeps.{eq_cases}, PollActs.{ToOne, to_one}, ShownStays.{IsFallback, StaysOrIdle, shown_stays, unless_same}, ToBeShown.{heard_place}, Waiters.{unwritten, IsWaiter, waiter_as, waits_undue}, PastApart.{bound_direct}}
 use Rattle.hc_effects.proofs.ExchangeFrom as exchange
 use Rattle.hc_effects.proofs.Fills as fills_by
 use Rattle.hc_laws.proofs.{FirstDues.{poll_undue}, PlacesKept.{AreOwn, IsOwnPast, past_unopened, left_past, head_poll, over_direct}}
 use Rattle.hc_effects.proofs.PastKeeps as past
 use Rattle.hc_effects.proofs.PollActs as acts_to
-use Rattle.hc_effects.proofs.ShownOnce as shown_once
 use Rattle.hc_effects.proofs.ShownStays as stands
-use Rattle.hc_effects.proofs.Waiters as waiters
 
 -- of who reads the answer of an exchange past the store
 pub record ArePast (t : Tables) : Type 0 where
@@ -72,15 +70,12 @@ module _ (limits : Limits) (t : Tables) (now : ℕ) (flaw : Flaw) (s : Sound t) 
         let got = given_next t want c k run s (some_want t c want ev goes is_at) (λ x stood. a.apart.unfounded c x k row stood) (gives_of t now c want k run (move_of t now want c k) (move_by t now want c k s row) move on) in
         let i = got.1 in
         let number : y ≡ got.0 = some_inj y got.0 (sym (ap read_of at) ∙ i.number) in
-        let some : 0 < length run.bytes = i.some in
         let cell : cell_by t y (run.at + (length run.bytes - 1)) (t.representation y) ≡ Some _ = ap (λ n. body_of t n (run.at + (length run.bytes - 1))) number ∙ i.delivered (length run.bytes - 1) (omega arith) in
         let apart : t.representation y ≡ None = a.apart.unfounded c y k row at in
         let direct : direct_cell y (run.at + (length run.bytes - 1)) (t.exchange y) ≡ Some _ = sym (ap (cell_by t y (run.at + (length run.bytes - 1))) apart) ∙ cell in
         let answer : answer_cell y (run.at + (length run.bytes - 1)) w ≡ Some _ = sym (ap (direct_cell y (run.at + (length run.bytes - 1))) exchange_row) ∙ direct in
-        let below : run.at + (length run.bytes - 1) < front w = answer_below y _ w _ answer in
         let lo : lo_of t k.place ≡ base w = ap (lo_of t) at ∙ ap base_in exchange_row in
-        let start : run.at ≡ lo_of t k.place + k.given = i.at_is in
-        by_numbers (base w) (length w.body) run.at (length run.bytes) (lo_of t k.place) k.given below lo start some
+        by_numbers (base w) (length w.body) run.at (length run.bytes) (lo_of t k.place) k.given (answer_below y _ w _ answer) lo i.at_is i.some
       where
         by_numbers : (base body at n lo given : ℕ) → at + (n - 1) < base + body → lo ≡ base → at ≡ lo + given → 0 < n → given + n ≤ body
         by_numbers base body at n lo given below same start some = omega arith
@@ -89,8 +84,7 @@ module _ (limits : Limits) (t : Tables) (now : ℕ) (flaw : Flaw) (s : Sound t) 
     given_on (acts_to.quiet none quiet off) = let zero : length (given_in c e.acts) ≡ 0 = ap (λ (xs : List ℕ). length xs) none in let le : k.given ≤ length w.body = had in omega arith
     given_on (acts_to.shows want q r why head lo hi is_at there move none some showing) = let zero : length (given_in c e.acts) ≡ 0 = ap (λ (xs : List ℕ). length xs) none in let le : k.given ≤ length w.body = had in omega arith
     given_on (acts_to.gives want q run is_at there move bytes quiet off) =
-        let one : q ≡ k = same_row (t.consumer c) q k there row in
-        let most : k.given + length run.bytes ≤ length w.body = given_most want run is_at (sym (ap (move_of t now want c) one) ∙ move) in
+        let most : k.given + length run.bytes ≤ length w.body = given_most want run is_at (sym (ap (move_of t now want c) (same_row (t.consumer c) q k there row)) ∙ move) in
         let count : length (given_in c e.acts) ≡ length run.bytes = ap (λ (xs : List ℕ). length xs) bytes in
         omega arith
 
@@ -103,7 +97,7 @@ module _ (limits : Limits) (t : Tables) (now : ℕ) (flaw : Flaw) (s : Sound t) 
 
   given_by_shown : (c y : ℕ) (k u : Consumer) (z : Exchange) (q : Bool) → t.consumer c ≡ Some k → k.shown ≡ q → now_on.consumer c ≡ Some u → u.place ≡ place.Direct y → now_on.exchange y ≡ Some z → u.given ≤ length z.body
   given_by_shown c y k u z false row off after stands after_row =
-      let none : length (given_in c e.acts) ≡ 0 = ap (λ (xs : List ℕ). length xs) ((shown_once.by_event limits t now c flaw ev).before k row off) in
+      let none : length (given_in c e.acts) ≡ 0 = ap (λ (xs : List ℕ). length xs) ((by_event limits t now c flaw ev).before k row off) in
       let had : k.given ≡ 0 = b.fresh c k row off in
       let sum : u.given ≡ k.given + length (given_in c e.acts) = given_is c k u row after in
       omega arith
@@ -141,13 +135,9 @@ module _ (limits : Limits) (t : Tables) (now : ℕ) (flaw : Flaw) (s : Sound t) 
       left false x gone here = bound_direct r lo hi how y (sym here ∙ gone)
 
   idle_before : (c y : ℕ) (k u : Consumer) (q : Opening) → t.consumer c ≡ Some k → opening_in e.acts ≡ Some q → q.c ≡ c → due_after t e c k (consumer_acted t e c (consumer_heard t e c ev k)) ≡ u → u.place ≡ place.Direct y → (x : Place) → k.place ≡ x → k.due ≡ None
-  idle_before c y k u q row opens mine is stands place.Line at = o.idle_due c k row (ap reads at)
-  idle_before c y k u q row opens mine is stands (place.Passed r kept) at = o.idle_due c k row (ap reads at)
-  idle_before c y k u q row opens mine is stands (place.Turn x) at = o.idle_due c k row (ap reads at)
   idle_before c y k u q row opens mine is stands (place.Bound r lo hi how) at = absurd (bound_not c y r lo hi how k u q row at opens mine is stands)
   idle_before c y k u q row opens mine is stands (place.Direct x) at = absurd (past_unopened limits t now flaw s o a g ev goes c x k row at q opens mine)
-  idle_before c y k u q row opens mine is stands (place.Down why) at = o.idle_due c k row (ap reads at)
-  idle_before c y k u q row opens mine is stands place.Over at = o.idle_due c k row (ap reads at)
+  idle_before c y k u q row opens mine is stands _ at = o.idle_due c k row (ap reads at)
 
   module _ (c y : ℕ) (k u : Consumer) (f : IsFrom t e c y k u) (stands : u.place ≡ place.Direct y) (i : IsOwnPast now_on c y u) where
     reading : reads u.place ≡ true
@@ -189,7 +179,7 @@ module _ (limits : Limits) (t : Tables) (now : ℕ) (flaw : Flaw) (s : Sound t) 
       hole_before r lo hi how v at (Some x) there = record {
         own = v.own;
         due = (waits_undue limits t now flaw s o ev goes r c y lo hi how x k w v at there).0;
-        loss = loss_at t e c r lo hi how k x at there (not_so (loses_writing t e r x) (λ losing. waiters.unwritten limits t now flaw s o ev goes c y k w v r lo hi how x x.writer at there (and_right _ _ losing) refl));
+        loss = loss_at t e c r lo hi how k x at there (not_so (loses_writing t e r x) (λ losing. unwritten limits t now flaw s o ev goes c y k w v r lo hi how x x.writer at there (and_right _ _ losing) refl));
       }
 
       head_before : (v : IsWaiter t c y k w) → IsAwaiting y w k.place → IsBefore
@@ -219,14 +209,9 @@ module _ (limits : Limits) (t : Tables) (now : ℕ) (flaw : Flaw) (s : Sound t) 
       ]
 
       stop_by : (v : Event) → ev ≡ v → (if is_same_number (source t k) (exchange_in v) then stop_cause t v else None) ≡ None
-      stop_by (event.Start d request) here = none_if _
-      stop_by (event.Poll d want) here = none_if _
-      stop_by (event.Head x response) here = none_if _
-      stop_by (event.Piece x bytes) here = none_if _
       stop_by (event.End x) here = other x (stop_cause t (event.End x)) (λ is. same.unended opened (here ∙ ap event.End is))
       stop_by (event.Fault x) here = other x (stop_cause t (event.Fault x)) (λ is. same.unfaulted opened (here ∙ ap event.Fault is))
-      stop_by (event.Cancel d) here = none_if _
-      stop_by (event.Doom key) here = none_if _
+      stop_by _ here = none_if _
 
       heard_at : (x : ℕ) (response : Response) → ev ≡ event.Head x response → (by_head t e c x response (t.exchange x) k).place ≡ place.Direct y
       heard_at x response here = sym (ap (λ v. (consumer_heard t e c v k).place) here) ∙ (sym (heard_place limits t now flaw s o ev goes c 0 0 None by.Plan k u (λ d want polls. head_poll limits t now flaw s o a g ev goes x d want response (sym here ∙ polls)) (record { row = f.row; stays = f.stays; leaves = f.leaves; is = f.is })) ∙ stands)
@@ -239,14 +224,8 @@ module _ (limits : Limits) (t : Tables) (now : ℕ) (flaw : Flaw) (s : Sound t) 
       ]
 
       head_by : (v : Event) → ev ≡ v → cause_of_head t e c v ≡ None
-      head_by (event.Start d request) here = refl
-      head_by (event.Poll d want) here = refl
       head_by (event.Head x response) here = head_row x response (t.exchange x) here refl (heard_at x response here)
-      head_by (event.Piece x bytes) here = refl
-      head_by (event.End x) here = refl
-      head_by (event.Fault x) here = refl
-      head_by (event.Cancel d) here = refl
-      head_by (event.Doom key) here = refl
+      head_by _ here = refl
 
       was_undue : u.due ≡ None
       was_undue = due_none t e c k (consumer_acted t e c (consumer_heard t e c ev k)) u f.is reading before.due (undue_of t e c k (record { stop = stop_by ev refl; loss = before.loss; head = head_by ev refl }))

@@ -1,6 +1,6 @@
 -- Who has the turn or reads past the store has the exchange for that as its own, at each entry.
 use Rattle.std.{proofs.Common.{◌≡◌, ◌⊎◌, inl, inr, ℕ, List, length, Bool, true, false, cond, Option, Some, None, refl, ap, sym, ◌∙◌, subst}, specs.{Prelude.{if◌then◌else◌, is_some, is_none, ◌==◌, ◌&&◌, not}, Option.{option_and_then}}}
-use Rattle.hc_text.proofs.Basics.{both_true as and_both, bool_cases, not_some as none_some, same_some as same_row, some_inj}
+use Rattle.hc_text.proofs.Basics.{never_true, both_true as and_both, bool_cases, not_some as none_some, same_some as same_row, some_inj}
 use Rattle.hc_effects.proofs.Vocabulary.{Opening, opening_in, Cause, Event, Request, Response, HeadCase, head_case, Wanted, Limits, route_of, piece_refusal, range_of, wanted_of, Place, BoundBy, has_loss, loses_in, case_at, head_view, is_joining, is_refused, consumer_after, consumer_made, new_consumer, consumer_heard, consumer_acted, consumer_settled, by_head, by_fault, by_opening, becomes_shared, own_after, left_to, waiting, due_after, place_by_case, passed_on, bound_to_wanted, denial, as_open, Entry, exchange_at, exchange_in, is_for, is_headless, exchange_opened, cause_by_case, Flaw, founded_total, entry_of, Owners, IsAwaiting, IsPast, IsReading, if_headless, shows_at, shows_direct, bound_to, is_written, own_open, Tables, Exchange, Representation, Consumer, Sound, starts_over, sends_back, after_accepted, brings_body, loses_writing}
 use Rattle.hc_event.specs.declared.event.Event.TheVariants as event
 use Rattle.hc_rules.specs.declared.need.Route.TheVariants as route
@@ -9,11 +9,10 @@ use Rattle.hc_rules.specs.Refusals as refusals
 use Rattle.hc_event.specs.declared.place.Place.TheVariants as place
 use Rattle.hc_event.specs.declared.place.BoundBy.TheVariants as by
 use Rattle.hc_model.specs.Owners as owners
-use Rattle.hc_effects.proofs.{Basics.{false_true, or_false, some_none, some_row}, BoundFrom.{IsRow}, ExchangeFrom.{IsHeaded}, FirstKeeps.{is_new, case_is}, Forward.{is_on, is_kept, opened_on, is_untouched}, FoundBy.{CaseBy, case_by}, MoveBy.{IsHeard}, Once.{taken, never}, OwnersKeep.{is_opened, new_number}, PastKeeps.{PlaceFrom, direct_from}, PieceKeeps.{eq_cases}, ShownStays.{IsFallback}, ToBeShown.{heard_place}, TurnPlaces.{ComesFrom, StaysOrPlain, is_after}, Waiters.{IsWaiter, waiter_of, waiter_as, unclosed}, PastApart.{bound_direct}}
+use Rattle.hc_effects.proofs.{Basics.{false_true, or_false, some_none, some_row}, BoundFrom.{IsRow}, ExchangeFrom.{IsHeaded}, FirstKeeps.{is_new, case_is}, Forward.{is_on, is_kept, opened_on, is_untouched}, FoundBy.{CaseBy, case_by}, MoveBy.{IsHeard}, Once.{taken, never}, OwnersKeep.{is_opened, new_number}, PastKeeps.{PlaceFrom, direct_from}, PieceKeeps.{eq_cases}, ShownStays.{IsFallback}, ToBeShown.{heard_place}, TurnPlaces.{ComesFrom, StaysOrPlain, is_after}, Waiters.{no_opening, IsWaiter, waiter_of, waiter_as, unclosed}, PastApart.{bound_direct}}
 use Rattle.hc_effects.proofs.FoundBy as cases
 use Rattle.hc_effects.proofs.PastKeeps as past
 use Rattle.hc_effects.proofs.TurnPlaces as places
-use Rattle.hc_effects.proofs.Waiters as waiters
 
 -- WHAT IS CARRIED
 
@@ -69,22 +68,17 @@ down_turn why y is = cc
 pub bound_turn : (r lo : ℕ) (hi : Option ℕ) (how : BoundBy) (y : ℕ) → place.Bound r lo hi how ≡ place.Turn y → ⊥
 bound_turn r lo hi how y is = cc
 
-turn_inj : (x y : ℕ) → place.Turn x ≡ place.Turn y → x ≡ y
-turn_inj x y is = cc
-
 passed_on_turn : (x : ℕ) (q : Option ℕ) (y : ℕ) → passed_on x q ≡ place.Turn y → ⊥
 passed_on_turn x None y is = cc
 passed_on_turn x (Some r) y is = cc
 
 wanted_direct : (x y : ℕ) (v : Wanted) → bound_to_wanted x by.Founding (place.Direct x) v ≡ place.Direct y → x ≡ y
-wanted_direct x y wanted.TotalUnknown is = direct_inj x y is
-wanted_direct x y wanted.Unsatisfiable is = direct_inj x y is
 wanted_direct x y (wanted.Interval span) is = absurd (bound_direct x span.lo (Some span.hi) by.Founding y is)
+wanted_direct x y _ is = direct_inj x y is
 
 wanted_turn : (x y : ℕ) (v : Wanted) → bound_to_wanted x by.Founding (place.Direct x) v ≡ place.Turn y → ⊥
-wanted_turn x y wanted.TotalUnknown is = turn_direct y x (sym is)
-wanted_turn x y wanted.Unsatisfiable is = turn_direct y x (sym is)
 wanted_turn x y (wanted.Interval span) is = bound_turn x span.lo (Some span.hi) by.Founding y is
+wanted_turn x y _ is = turn_direct y x (sym is)
 
 abbrev is_poll : Event → Bool
 is_poll (event.Poll c want) = true
@@ -92,13 +86,7 @@ is_poll _ = false
 
 pub poll_of : (v : Event) → ((d : ℕ) × (want : ℕ) × (v ≡ event.Poll d want)) ⊎ ((d want : ℕ) → v ≡ event.Poll d want → ⊥)
 poll_of (event.Poll d want) = inl (d, want, refl)
-poll_of (event.Start d request) = inr (λ c want is. false_true (ap is_poll is))
-poll_of (event.Head x response) = inr (λ c want is. false_true (ap is_poll is))
-poll_of (event.Piece x bytes) = inr (λ c want is. false_true (ap is_poll is))
-poll_of (event.End x) = inr (λ c want is. false_true (ap is_poll is))
-poll_of (event.Fault x) = inr (λ c want is. false_true (ap is_poll is))
-poll_of (event.Cancel d) = inr (λ c want is. false_true (ap is_poll is))
-poll_of (event.Doom key) = inr (λ c want is. false_true (ap is_poll is))
+poll_of _ = inr (λ c want is. false_true (ap is_poll is))
 
 module _ (limits : Limits) (t : Tables) (now : ℕ) (flaw : Flaw) (s : Sound t) (o : Owners t) (a : IsFallback t) (g : AreOwn t) (ev : Event) (goes : denial t ev ≡ None) where
   abbrev e : Entry
@@ -123,12 +111,6 @@ module _ (limits : Limits) (t : Tables) (now : ℕ) (flaw : Flaw) (s : Sound t) 
   ]
 
   pub own_poll : (d want : ℕ) → ev ≡ event.Poll d want → (c : ℕ) (p : Place) (own : Option ℕ) → own_after t e c p own ≡ own
-  own_poll d want here c place.Line own = refl
-  own_poll d want here c (place.Passed r kept) own = refl
-  own_poll d want here c (place.Turn x) own = refl
-  own_poll d want here c (place.Direct x) own = refl
-  own_poll d want here c (place.Down why) own = refl
-  own_poll d want here c place.Over own = refl
   own_poll d want here c (place.Bound r lo hi how) own = by_row (t.representation r)
     where
       off : (v : Representation) → loses_writing t e r v ≡ false
@@ -137,15 +119,11 @@ module _ (limits : Limits) (t : Tables) (now : ℕ) (flaw : Flaw) (s : Sound t) 
       by_row : (z : Option Representation) → left_to t e c r z own ≡ own
       by_row None = refl
       by_row (Some v) = rw (off v) refl
+  own_poll d want here c _ own = refl
 
   pub own_free : (c : ℕ) (p : Place) (own : Option ℕ) → bound_to p ≡ None → own_after t e c p own ≡ own
-  own_free c place.Line own free = refl
-  own_free c (place.Passed r kept) own free = refl
-  own_free c (place.Turn x) own free = refl
-  own_free c (place.Direct x) own free = refl
-  own_free c (place.Down why) own free = refl
-  own_free c place.Over own free = refl
   own_free c (place.Bound r lo hi how) own free = absurd (some_none r free)
+  own_free c _ own free = refl
 
   pub own_is : (c : ℕ) (k u : Consumer) → Step c k u → Unopened c → u.own ≡ own_after t e c (consumer_heard t e c ev k).place (consumer_heard t e c ev k).own
   own_is c k u row none =
@@ -167,8 +145,7 @@ module _ (limits : Limits) (t : Tables) (now : ℕ) (flaw : Flaw) (s : Sound t) 
   pub past_not : (y : ℕ) (k : Consumer) → k.place ≡ place.Direct y → shows_at t k k.place ≡ None → IsHeard t k → IsPast t y k → ⊥
   past_not y k at none heard (owners.answered w row headed) =
       let got = some_row w.head headed in
-      let no : shows_direct t y (t.exchange y) ≡ None = sym (ap (shows_at t k) at) ∙ none in
-      let also : shows_direct t y (Some w) ≡ None = sym (ap (shows_direct t y) row) ∙ no in
+      let also : shows_direct t y (Some w) ≡ None = sym (ap (shows_direct t y) row) ∙ (sym (ap (shows_at t k) at) ∙ none) in
       let gone = rw got.1 at also in some_none _ gone
   past_not y k at none heard (owners.waits w mine row on bare) = waits_not y k w mine row on bare heard
 
@@ -231,19 +208,16 @@ module _ (limits : Limits) (t : Tables) (now : ℕ) (flaw : Flaw) (s : Sound t) 
     left_by y _ (cases.turn_bad way h) is = absurd (down_direct _ y is)
     left_by y _ (cases.validated way h d l) is = absurd (passed_on_direct x w.aim y is)
     left_by y _ (cases.not_validated way h) is = absurd (turn_not way y is)
-    left_by y _ (cases.turn_server_error way) is = (direct_inj x y is, refl, refl, refl, refl)
     left_by y _ (cases.founds_whole way h l f) is = absurd (bound_direct _ _ _ _ y is)
     left_by y _ (cases.founds_range way h f l d) is = (wanted_direct x y (wanted_of (range_of k.request) (founded_total w response)) is, refl, refl, refl, refl)
-    left_by y _ (cases.passes_by way) is = (direct_inj x y is, refl, refl, refl, refl)
     left_by y _ (cases.first_bad way off h) is = absurd (down_direct _ y is)
     left_by y _ (cases.first_joins way off h f) is = absurd (hole_not way y is)
-    left_by y _ (cases.first_server_error way off) is = (direct_inj x y is, refl, refl, refl, refl)
     left_by y _ (cases.first_changed way off) is = absurd (hole_not way y is)
     left_by y _ (cases.first_replaced way off h l f) is = absurd (bound_direct _ _ _ _ y is)
-    left_by y _ (cases.first_passes_by way off) is = (direct_inj x y is, refl, refl, refl, refl)
     left_by y _ (cases.later_bad way on h) is = absurd (hole_not way y is)
     left_by y _ (cases.later_joins way on h f) is = absurd (hole_not way y is)
     left_by y _ (cases.later_changed way on) is = absurd (hole_not way y is)
+    left_by y _ _ is = (direct_inj x y is, refl, refl, refl, refl)
 
     case_here : case_at t e ≡ Some (head_case view)
     case_here = case_is t e x response w here exchange_row
@@ -253,24 +227,16 @@ module _ (limits : Limits) (t : Tables) (now : ℕ) (flaw : Flaw) (s : Sound t) 
 
     -- and with the turn it doesn't leave it, unless it sends it back
     turn_by : (y : ℕ) (q : HeadCase) → CaseBy view q → place_by_case x response w k (Some q) ≡ place.Turn y → sends_back (Some q) ≡ true
-    turn_by y _ (cases.direct_bad way h) is = absurd (down_turn _ y is)
     turn_by y _ (cases.direct_taken way) is = absurd (direct_turn_not way y is)
-    turn_by y _ (cases.turn_bad way h) is = absurd (down_turn _ y is)
     turn_by y _ (cases.validated way h d l) is = absurd (passed_on_turn x w.aim y is)
     turn_by y _ (cases.not_validated way h) is = refl
-    turn_by y _ (cases.turn_server_error way) is = absurd (turn_direct y x (sym is))
-    turn_by y _ (cases.founds_whole way h l f) is = absurd (bound_turn _ _ _ _ y is)
     turn_by y _ (cases.founds_range way h f l d) is = absurd (wanted_turn x y (wanted_of (range_of k.request) (founded_total w response)) is)
-    turn_by y _ (cases.passes_by way) is = absurd (turn_direct y x (sym is))
-    turn_by y _ (cases.first_bad way off h) is = absurd (down_turn _ y is)
     turn_by y _ (cases.first_joins way off h f) is = absurd (hole_turn_not way y is)
-    turn_by y _ (cases.first_server_error way off) is = absurd (turn_direct y x (sym is))
     turn_by y _ (cases.first_changed way off) is = refl
-    turn_by y _ (cases.first_replaced way off h l f) is = absurd (bound_turn _ _ _ _ y is)
-    turn_by y _ (cases.first_passes_by way off) is = absurd (turn_direct y x (sym is))
     turn_by y _ (cases.later_bad way on h) is = absurd (hole_turn_not way y is)
     turn_by y _ (cases.later_joins way on h f) is = absurd (hole_turn_not way y is)
     turn_by y _ (cases.later_changed way on) is = absurd (hole_turn_not way y is)
+    turn_by y _ _ is = cc
 
     pub turn_left : (y : ℕ) → place_by_case x response w k (case_at t e) ≡ place.Turn y → starts_over t e c k ≡ false → ⊥
     unfolding starts_over
@@ -301,12 +267,10 @@ module _ (limits : Limits) (t : Tables) (now : ℕ) (flaw : Flaw) (s : Sound t) 
     | inr off ↦ stood c y k (event.Head x response) row (rw off.0 at at) (sym same ∙ rw off.0 refl)
     | inl hit ↦
         let left = left_past c x response k w here exchange_row hit.1 row y (rw hit.0 at at) in
-        let bare = (is_new limits t now flaw s ev goes x response w here exchange_row).bare in
-        let kept : (by_head t e c x response (Some w) k).own ≡ k.own = rw (hit.0, left.1) refl in
         record {
           its = record { w = w; row = ap t.exchange (sym left.0) ∙ exchange_row; for_it = hit.1; own = head_own c x response k w here exchange_row hit.1 row ∙ ap Some left.0 };
-          unjoined = (s.waits.headless x w exchange_row bare).1;
-          stays = sym same ∙ kept;
+          unjoined = (s.waits.headless x w exchange_row ((is_new limits t now flaw s ev goes x response w here exchange_row).bare)).1;
+          stays = sym same ∙ rw (hit.0, left.1) refl;
         }
   ]
 
@@ -318,17 +282,13 @@ module _ (limits : Limits) (t : Tables) (now : ℕ) (flaw : Flaw) (s : Sound t) 
   ]
 
   heard_past : (c y : ℕ) (k : Consumer) (v : Event) → t.consumer c ≡ Some k → ev ≡ v → (consumer_heard t e c v k).place ≡ place.Direct y → HeardPast c y k v
-  heard_past c y k (event.Start d request) row here at = stood c y k (event.Start d request) row at refl
-  heard_past c y k (event.Poll d want) row here at = stood c y k (event.Poll d want) row at refl
   heard_past c y k (event.Head x response) row here at = head_past c x y response k (t.exchange x) row here refl at refl
-  heard_past c y k (event.Piece x bytes) row here at = stood c y k (event.Piece x bytes) row at refl
-  heard_past c y k (event.End x) row here at = stood c y k (event.End x) row at refl
   heard_past c y k (event.Fault x) row here at = let all = fault_past c x y (t.exchange x) k at in stood c y k (event.Fault x) row all.0 all.1
   heard_past c y k (event.Cancel d) row here at = elim (bool_cases (d == c)) [
     | inl hit ↦ absurd (over_direct y (rw hit at at))
     | inr off ↦ stood c y k (event.Cancel d) row (rw off at at) (rw off refl)
   ]
-  heard_past c y k (event.Doom key) row here at = stood c y k (event.Doom key) row at refl
+  heard_past c y k v row here at = stood c y k v row at refl
 
   -- IT STAYS JOINED TO NOTHING
 
@@ -387,9 +347,8 @@ module _ (limits : Limits) (t : Tables) (now : ℕ) (flaw : Flaw) (s : Sound t) 
   }
   by_poll c y k u d want here row (past.stood at) =
       let i = g.direct c y k row.row at in
-      let heard : consumer_heard t e c ev k ≡ k = ap (λ v. consumer_heard t e c v k) here in
       kept_past c y k u i.its i.unjoined (λ response is. absurd (head_poll y d want response (sym is ∙ here)))
-      (own_is c k u row (past_unopened c y k row.row at) ∙ (own_poll d want here c _ _ ∙ (ap (λ (q : Consumer). q.own) heard ∙ i.its.own)))
+      (own_is c k u row (past_unopened c y k row.row at) ∙ (own_poll d want here c _ _ ∙ (ap (λ (q : Consumer). q.own) (ap (λ v. consumer_heard t e c v k) here) ∙ i.its.own)))
 
   by_other : (c y : ℕ) (k u : Consumer) → ((d want : ℕ) → ev ≡ event.Poll d want → ⊥) → Step c k u → u.place ≡ place.Direct y → IsOwnPast now_on c y u
   by_other c y k u unpolled row stands =
@@ -415,22 +374,13 @@ module _ (limits : Limits) (t : Tables) (now : ℕ) (flaw : Flaw) (s : Sound t) 
     | inl here ↦ (request, some_inj _ u (rw here.0 at h))
     | inr off ↦ absurd (none_some u (rw off.0 at h))
   ]
-  made c (event.Poll d want) u h = absurd (none_some u h)
-  made c (event.Head x response) u h = absurd (none_some u h)
-  made c (event.Piece x bytes) u h = absurd (none_some u h)
-  made c (event.End x) u h = absurd (none_some u h)
-  made c (event.Fault x) u h = absurd (none_some u h)
-  made c (event.Cancel d) u h = absurd (none_some u h)
-  made c (event.Doom key) u h = absurd (none_some u h)
+  made c _ u h = absurd (none_some u h)
 
   -- who wasn't there has just started
   pub new_is : (c : ℕ) (q : Option Consumer) (u : Consumer) → q ≡ None → consumer_after t e c q ≡ Some u → (request : Request) × (new_consumer e.now request ≡ u)
   unfolding consumer_after
   new_is c None u none h = made c ev u h
   new_is c (Some k) u none h = absurd (some_none k none)
-
-  new_line : (c : ℕ) (q : Option Consumer) (u : Consumer) → q ≡ None → consumer_after t e c q ≡ Some u → u.place ≡ place.Line
-  new_line c q u none h = sym (ap (λ (z : Consumer). z.place) (new_is c q u none h).1)
 
   pub settled : (c : ℕ) (k u : Consumer) → t.consumer c ≡ Some k → now_on.consumer c ≡ Some u → starts_over t e c k ≡ false → due_after t e c k (consumer_acted t e c (consumer_heard t e c ev k)) ≡ u
   settled c k u row after stays =
@@ -440,8 +390,6 @@ module _ (limits : Limits) (t : Tables) (now : ℕ) (flaw : Flaw) (s : Sound t) 
 
   -- the event leaves it the turn
   heard_turn : (c y : ℕ) (k : Consumer) (v : Event) → t.consumer c ≡ Some k → ev ≡ v → starts_over t e c k ≡ false → (consumer_heard t e c v k).place ≡ place.Turn y → consumer_heard t e c v k ≡ k
-  heard_turn c y k (event.Start d request) row here stays at = refl
-  heard_turn c y k (event.Poll d want) row here stays at = refl
   heard_turn c y k (event.Head x response) row here stays at = by_row (t.exchange x) refl at
     where
       by_row : (z : Option Exchange) → t.exchange x ≡ z → (by_head t e c x response z k).place ≡ place.Turn y → by_head t e c x response z k ≡ k
@@ -450,8 +398,6 @@ module _ (limits : Limits) (t : Tables) (now : ℕ) (flaw : Flaw) (s : Sound t) 
         | inl hit ↦ absurd (turn_left c x response k w here exchange_row hit.1 row y (rw hit.0 at at) stays)
         | inr off ↦ rw off.0 refl
       ]
-  heard_turn c y k (event.Piece x bytes) row here stays at = refl
-  heard_turn c y k (event.End x) row here stays at = refl
   heard_turn c y k (event.Fault x) row here stays at = by_row (t.exchange x) at
     where
       by_row : (z : Option Exchange) → (by_fault c x z k).place ≡ place.Turn y → by_fault c x z k ≡ k
@@ -464,7 +410,7 @@ module _ (limits : Limits) (t : Tables) (now : ℕ) (flaw : Flaw) (s : Sound t) 
     | inl hit ↦ absurd (over_turn y (rw hit at at))
     | inr off ↦ rw off refl
   ]
-  heard_turn c y k (event.Doom key) row here stays at = refl
+  heard_turn c y k _ row here stays at = refl
 
   -- an open exchange of who has the turn has no head
   pub turn_bare : (c y : ℕ) (k : Consumer) (w : Exchange) → t.consumer c ≡ Some k → k.place ≡ place.Turn y → k.own ≡ Some y → t.exchange y ≡ Some w → w.is_open ≡ true → w.head ≡ None
@@ -489,7 +435,7 @@ module _ (limits : Limits) (t : Tables) (now : ℕ) (flaw : Flaw) (s : Sound t) 
     waits = waiter_as limits t now flaw s o ev goes c y k i.its.w row.row i.its.row i.its.for_it i.is_open bare
 
     unopened_turn : Unopened c
-    unopened_turn p opens mine = waiters.no_opening limits t now flaw s o ev goes c y k i.its.w waits p opens mine
+    unopened_turn p opens mine = no_opening limits t now flaw s o ev goes c y k i.its.w waits p opens mine
 
     heard_at : ((d want : ℕ) → ev ≡ event.Poll d want → ⊥) → (consumer_heard t e c ev k).place ≡ place.Turn y
     heard_at unpolled = sym (heard_place limits t now flaw s o ev goes c 0 0 None by.Plan k u unpolled row) ∙ stands
@@ -518,8 +464,7 @@ module _ (limits : Limits) (t : Tables) (now : ℕ) (flaw : Flaw) (s : Sound t) 
 
     headed_not : (response : Response) → ev ≡ event.Head y response → ⊥
     headed_not response here =
-        let none : (d want : ℕ) → ev ≡ event.Poll d want → ⊥ = λ d want is. false_true (ap is_poll (sym here ∙ is)) in
-        by_row (t.exchange y) i.its.row (sym (ap (λ v. (consumer_heard t e c v k).place) here) ∙ heard_at none)
+        by_row (t.exchange y) i.its.row (sym (ap (λ v. (consumer_heard t e c v k).place) here) ∙ heard_at (λ d want is. false_true (ap is_poll (sym here ∙ is))))
       where
         by_row : (z : Option Exchange) → z ≡ Some i.its.w → (by_head t e c y response z k).place ≡ place.Turn y → ⊥
         by_row None none is = none_some i.its.w none
@@ -529,16 +474,11 @@ module _ (limits : Limits) (t : Tables) (now : ℕ) (flaw : Flaw) (s : Sound t) 
         ]
 
     unshown : k.shown ≡ false
-    unshown = by_shown k.shown refl
-      where
-        by_shown : (b : Bool) → k.shown ≡ b → b ≡ false
-        by_shown true on = absurd (a.unturned c y k row.row at on)
-        by_shown false off = refl
+    unshown = never_true k.shown (λ on. a.unturned c y k row.row at on)
 
     faulted_not : ev ≡ event.Fault y → ⊥
     faulted_not here =
-        let none : (d want : ℕ) → ev ≡ event.Poll d want → ⊥ = λ d want is. false_true (ap is_poll (sym here ∙ is)) in
-        by_row (t.exchange y) i.its.row (sym (ap (λ v. (consumer_heard t e c v k).place) here) ∙ heard_at none)
+        by_row (t.exchange y) i.its.row (sym (ap (λ v. (consumer_heard t e c v k).place) here) ∙ heard_at (λ d want is. false_true (ap is_poll (sym here ∙ is))))
       where
         by_row : (z : Option Exchange) → z ≡ Some i.its.w → (by_fault c y z k).place ≡ place.Turn y → ⊥
         by_row None none is = none_some i.its.w none
@@ -558,14 +498,11 @@ module _ (limits : Limits) (t : Tables) (now : ℕ) (flaw : Flaw) (s : Sound t) 
     end_refused h = let b : i.its.w.head ≡ None = bare in let on : i.its.w.is_open ≡ true = i.is_open in let there : t.exchange y ≡ Some i.its.w = i.its.row in never _ (rw (there, on, b) at h)
 
     not_its : (v : Event) → ev ≡ v → exchange_in v ≡ Some y → ⊥
-    not_its (event.Start d request) here is = none_some y is
-    not_its (event.Poll d want) here is = none_some y is
     not_its (event.Head x response) here is = headed_not response (here ∙ ap (λ n. event.Head n response) (some_inj x y is))
     not_its (event.Piece x bytes) here is = piece_refused bytes (sym (ap (denial t) (here ∙ ap (λ n. event.Piece n bytes) (some_inj x y is))) ∙ goes)
     not_its (event.End x) here is = end_refused (sym (ap (denial t) (here ∙ ap event.End (some_inj x y is))) ∙ goes)
     not_its (event.Fault x) here is = faulted_not (here ∙ ap event.Fault (some_inj x y is))
-    not_its (event.Cancel d) here is = none_some y is
-    not_its (event.Doom key) here is = none_some y is
+    not_its _ here is = none_some y is
 
     turn_on : IsOwnTurn now_on c y u
     turn_on =
@@ -588,14 +525,12 @@ module _ (limits : Limits) (t : Tables) (now : ℕ) (flaw : Flaw) (s : Sound t) 
   turn_from c y k u row stands _ (places.plain p plain) is = absurd (subst places.IsPlain is plain)
   turn_from c y k u row stands _ (places.turned p opens mine way) is =
       let op = is_opened limits t now flaw s o ev goes p opens in
-      let number = turn_inj p.x y is in
+      let number : p.x ≡ y = cc in
       record { its = opened_row c y u p opens mine number (opened_own c y k u p p.c op.want op.at row opens mine number); is_open = refl }
-  turn_from c y k u row stands _ (places.first_of p r lo hi opens mine way) is = absurd (bound_turn r lo hi (by.FirstHole p.x) y is)
-  turn_from c y k u row stands _ (places.busy d r keeps told current_is) is = absurd (let no : place.Passed r keeps ≡ place.Turn y = is in cc)
-  turn_from c y k u row stands _ (places.validated x r response w here exchange_row mine found aim) is = absurd (let no : place.Passed r (Some x) ≡ place.Turn y = is in cc)
+  turn_from c y k u row stands _ _ is = cc
 
   turn_row : (c y : ℕ) (u : Consumer) (q : Option Consumer) → t.consumer c ≡ q → now_on.consumer c ≡ Some u → u.place ≡ place.Turn y → IsOwnTurn now_on c y u
-  turn_row c y u None row after stands = absurd (line_turn y (sym (new_line c (t.consumer c) u row after) ∙ stands))
+  turn_row c y u None row after stands = absurd (line_turn y (sym (sym (ap (λ (z : Consumer). z.place) (new_is c (t.consumer c) u row after).1)) ∙ stands))
   turn_row c y u (Some k) row after stands =
       let its = is_after t e c k u row after in
       turn_from c y k u (turn_step c k u row after u.place its.stays y stands) stands u.place its.from stands

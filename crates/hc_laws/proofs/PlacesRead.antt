@@ -1,6 +1,6 @@
 -- What an open exchange brings that is of no representation is read past the store, at each entry.
-use Rattle.std.{proofs.Common.{◌≡◌, ◌⊎◌, inl, inr, ℕ, true, false, Option, Some, None, refl, ap, sym, ◌∙◌}, specs.Prelude.{is_some, is_none, ◌==◌, ◌&&◌, ◌||◌, not, unwrap_or}}
-use Rattle.hc_text.proofs.Basics.{all_false, and_left, and_off, and_right, bool_cases, never_true as not_so, same_some as same_row, some_inj}
+use Rattle.std.{proofs.Common.{◌≡◌, ◌⊎◌, inl, inr, ℕ, true, false, Option, Some, None, refl, ap, sym, ◌∙◌}, specs.Prelude.{is_some, is_none, ◌==◌, ◌&&◌, not, unwrap_or}}
+use Rattle.hc_text.proofs.Basics.{none_or, all_false, and_left, and_off, and_right, bool_cases, never_true as not_so, same_some as same_row, some_inj}
 use Rattle.hc_effects.proofs.Vocabulary.{opening_in, Event, Response, HeadCase, head_case, Limits, route_of, has_loss, case_at, case_of, head_view, consumer_heard, by_head, by_fault, waiting, own_after, denial, doomed_key_of, doomed_in, doomed_by_head, doomed_by_case, is_key, Entry, exchange_at, is_for, family, Flaw, entry_of, Owners, IsAwaiting, bound_to, Tables, Exchange, Representation, Consumer, Sound, starts_over, sends_back, waits_at, loses_what_it_waits_for, after_accepted}
 use Rattle.hc_event.specs.declared.event.Event.TheVariants as event
 use Rattle.hc_rules.specs.declared.need.Route.TheVariants as route
@@ -8,9 +8,8 @@ use Rattle.hc_event.specs.declared.place.Place.TheVariants as place
 use Rattle.hc_model.specs.Owners as owners
 use Rattle.hc_model.specs.Places.{IsReadPast}
 use Rattle.hc_model.specs.Sound as sound
-use Rattle.hc_effects.proofs.{Basics.{false_true}, ExchangeFrom.{ExchangeFrom, exchange_from, IsSame, IsHeaded}, FirstKeeps.{is_new, case_is}, Forward.{is_kept}, FoundBy.{CaseBy, case_by}, HeadedAs.{HeadedAs, headed_as, not_refused, not_unmodified}, OwnFrom.{IsRow}, PieceKeeps.{eq_cases}, ReadingKeeps.{reader_stays}, ShownStays.{IsFallback}, Waiters.{IsWaiter, waiter_of}}
+use Rattle.hc_effects.proofs.{Basics.{false_true}, ExchangeFrom.{ExchangeFrom, exchange_from, IsSame, IsHeaded}, FirstKeeps.{is_new, case_is}, Forward.{is_kept}, FoundBy.{not_validated, first_changed, direct_taken, direct_bad, CaseBy, case_by}, HeadedAs.{HeadedAs, headed_as, not_refused, not_unmodified}, OwnFrom.{IsRow}, PieceKeeps.{eq_cases}, ReadingKeeps.{reader_stays}, ShownStays.{IsFallback}, Waiters.{IsWaiter, waiter_of}}
 use Rattle.hc_effects.proofs.ExchangeFrom as exchange
-use Rattle.hc_effects.proofs.FoundBy as cases
 use Rattle.hc_effects.proofs.HeadedAs as head
 use Rattle.hc_laws.proofs.PlacesKept.{AreOwn, past_unopened, opening_stays, own_free, settled}
 use Rattle.hc_effects.proofs.RepFrom as rep
@@ -36,8 +35,7 @@ module _ (limits : Limits) (t : Tables) (now : ℕ) (flaw : Flaw) (s : Sound t) 
     no_waiter x q exchange_row on bare theirs =
         let got = waiter_of limits t now flaw s o ev goes x q exchange_row on bare in
         let one : got.0 ≡ k = same_row (t.consumer c) got.0 k (sym (ap t.consumer theirs) ∙ got.1.row) row in
-        let number : x ≡ y = some_inj x y (sym got.1.own ∙ (ap (λ (p : Consumer). p.own) one ∙ mine)) in
-        let it : q ≡ w = same_row (t.exchange y) q w (sym (ap t.exchange number) ∙ exchange_row) is_row in
+        let it : q ≡ w = same_row (t.exchange y) q w (sym (ap t.exchange (some_inj x y (sym got.1.own ∙ (ap (λ (p : Consumer). p.own) one ∙ mine)))) ∙ exchange_row) is_row in
         false_true (sym (ap (λ (p : Option Response). is_some p) bare) ∙ (ap (λ (p : Exchange). is_some p.head) it ∙ headed))
 
     head_not : (x : ℕ) (response : Response) (q : Exchange) → ev ≡ event.Head x response → t.exchange x ≡ Some q → q.c ≡ c → ⊥
@@ -45,8 +43,6 @@ module _ (limits : Limits) (t : Tables) (now : ℕ) (flaw : Flaw) (s : Sound t) 
 
     sent_by : (v : Event) → ev ≡ v → sends_back (case_of t (has_loss e.acts) v) ≡ true → is_for (exchange_at t v) c ≡ true → ⊥
     unfolding case_of
-    sent_by (event.Start d request) here sends it = false_true sends
-    sent_by (event.Poll d want) here sends it = false_true sends
     sent_by (event.Head x response) here sends it = by_row (t.exchange x) refl it
       where
         by_row : (z : Option Exchange) → t.exchange x ≡ z → is_for z c ≡ true → ⊥
@@ -55,11 +51,7 @@ module _ (limits : Limits) (t : Tables) (now : ℕ) (flaw : Flaw) (s : Sound t) 
           | inl hit ↦ head_not x response q here exchange_row hit.1
           | inr off ↦ false_true (sym off.0 ∙ h)
         ]
-    sent_by (event.Piece x bytes) here sends it = false_true sends
-    sent_by (event.End x) here sends it = false_true sends
-    sent_by (event.Fault x) here sends it = false_true sends
-    sent_by (event.Cancel d) here sends it = false_true sends
-    sent_by (event.Doom key) here sends it = false_true sends
+    sent_by _ here sends it = false_true sends
 
     -- it doesn't start over
     stays : starts_over t e c k ≡ false
@@ -73,8 +65,6 @@ module _ (limits : Limits) (t : Tables) (now : ℕ) (flaw : Flaw) (s : Sound t) 
     free = ap bound_to at
 
     heard_own : (v : Event) → ev ≡ v → ((consumer_heard t e c v k).own ≡ k.own) × (bound_to (consumer_heard t e c v k).place ≡ None)
-    heard_own (event.Start d request) here = (refl, free)
-    heard_own (event.Poll d want) here = (refl, free)
     heard_own (event.Head x response) here = by_row (t.exchange x) refl
       where
         by_row : (z : Option Exchange) → t.exchange x ≡ z → ((by_head t e c x response z k).own ≡ k.own) × (bound_to (by_head t e c x response z k).place ≡ None)
@@ -83,8 +73,6 @@ module _ (limits : Limits) (t : Tables) (now : ℕ) (flaw : Flaw) (s : Sound t) 
           | inl hit ↦ absurd (head_not x response q here exchange_row hit.1)
           | inr off ↦ rw off.0 (refl, free)
         ]
-    heard_own (event.Piece x bytes) here = (refl, free)
-    heard_own (event.End x) here = (refl, free)
     heard_own (event.Fault x) here = by_row (t.exchange x)
       where
         by_row : (z : Option Exchange) → ((by_fault c x z k).own ≡ k.own) × (bound_to (by_fault c x z k).place ≡ None)
@@ -97,7 +85,7 @@ module _ (limits : Limits) (t : Tables) (now : ℕ) (flaw : Flaw) (s : Sound t) 
       | inl hit ↦ rw hit (refl, refl)
       | inr off ↦ rw off (refl, free)
     ]
-    heard_own (event.Doom key) here = (refl, free)
+    heard_own _ here = (refl, free)
 
     module _ (u : Consumer) (after : now_on.consumer c ≡ Some u) where
       its : IsRow t e c y k u
@@ -131,24 +119,9 @@ module _ (limits : Limits) (t : Tables) (now : ℕ) (flaw : Flaw) (s : Sound t) 
 
     -- it dooms only where it is read past the store
     dooms_by : (q : HeadCase) → CaseBy view q → (route_of w.need ≡ route.Direct) ⊎ (doomed_by_case (Some q) w response ≡ None)
-    dooms_by _ (cases.direct_bad way h) = inl way
-    dooms_by _ (cases.direct_taken way) = inl way
-    dooms_by _ (cases.turn_bad way h) = inr refl
-    dooms_by _ (cases.validated way h d l) = inr refl
-    dooms_by _ (cases.not_validated way h) = inr refl
-    dooms_by _ (cases.turn_server_error way) = inr refl
-    dooms_by _ (cases.founds_whole way h l f) = inr refl
-    dooms_by _ (cases.founds_range way h f l d) = inr refl
-    dooms_by _ (cases.passes_by way) = inr refl
-    dooms_by _ (cases.first_bad way off h) = inr refl
-    dooms_by _ (cases.first_joins way off h f) = inr refl
-    dooms_by _ (cases.first_server_error way off) = inr refl
-    dooms_by _ (cases.first_changed way off) = inr refl
-    dooms_by _ (cases.first_replaced way off h l f) = inr refl
-    dooms_by _ (cases.first_passes_by way off) = inr refl
-    dooms_by _ (cases.later_bad way on h) = inr refl
-    dooms_by _ (cases.later_joins way on h f) = inr refl
-    dooms_by _ (cases.later_changed way on) = inr refl
+    dooms_by _ (direct_bad way h) = inl way
+    dooms_by _ (direct_taken way) = inl way
+    dooms_by _ _ = inr refl
 
     doomed_none : doomed_by_case (Some (head_case view)) w response ≡ None → doomed_key_of t e ≡ None
     unfolding doomed_key_of
@@ -166,24 +139,9 @@ module _ (limits : Limits) (t : Tables) (now : ℕ) (flaw : Flaw) (s : Sound t) 
     ]
 
     sends_by : (q : HeadCase) → CaseBy view q → case_at t e ≡ Some q → sends_back (Some q) ≡ false
-    sends_by _ (cases.direct_bad way h) is = refl
-    sends_by _ (cases.direct_taken way) is = refl
-    sends_by _ (cases.turn_bad way h) is = refl
-    sends_by _ (cases.validated way h d l) is = refl
-    sends_by _ (cases.not_validated way h) is = absurd (not_unmodified limits t now flaw s o ev goes x w z response here is_row after_row same opened h)
-    sends_by _ (cases.turn_server_error way) is = refl
-    sends_by _ (cases.founds_whole way h l f) is = refl
-    sends_by _ (cases.founds_range way h f l d) is = refl
-    sends_by _ (cases.passes_by way) is = refl
-    sends_by _ (cases.first_bad way off h) is = refl
-    sends_by _ (cases.first_joins way off h f) is = refl
-    sends_by _ (cases.first_server_error way off) is = refl
-    sends_by _ (cases.first_changed way off) is = absurd (not_refused limits t now flaw s o ev goes x w z response here is_row after_row same opened (ap Rattle.hc_model.specs.Closings.is_refused is))
-    sends_by _ (cases.first_replaced way off h l f) is = refl
-    sends_by _ (cases.first_passes_by way off) is = refl
-    sends_by _ (cases.later_bad way on h) is = refl
-    sends_by _ (cases.later_joins way on h f) is = refl
-    sends_by _ (cases.later_changed way on) is = refl
+    sends_by _ (not_validated way h) is = absurd (not_unmodified limits t now flaw s o ev goes x w z response here is_row after_row same opened h)
+    sends_by _ (first_changed way off) is = absurd (not_refused limits t now flaw s o ev goes x w z response here is_row after_row same opened (ap Rattle.hc_model.specs.Closings.is_refused is))
+    sends_by _ _ is = refl
 
     unsent : sends_back (case_at t e) ≡ false
     unsent = ap sends_back case_here ∙ sends_by (head_case view) (case_by view) case_here
@@ -206,12 +164,10 @@ module _ (limits : Limits) (t : Tables) (now : ℕ) (flaw : Flaw) (s : Sound t) 
       reads_it (head.direct is) = is
       reads_it (head.founds lo hi how is on unjoined) =
           let there : is_some (now_on.representation x) ≡ true = later.numbered.bound_to x w.c u (sound.is_bound lo hi how after is) in
-          let own : family x z ≡ x = ap (λ (q : Option ℕ). unwrap_or q x) unjoined in
-          absurd (false_true (sym (ap (λ (q : Option Representation). is_some q) (sym (ap now_on.representation own) ∙ none)) ∙ there))
+          absurd (false_true (sym (ap (λ (q : Option Representation). is_some q) (sym (ap now_on.representation (ap (λ (q : Option ℕ). unwrap_or q x) unjoined)) ∙ none)) ∙ there))
       reads_it (head.joins r lo hi how was is aim on joined) =
           let there : is_some (now_on.representation r) ≡ true = later.numbered.bound_to r w.c u (sound.is_bound lo hi how after is) in
-          let own : family x z ≡ r = ap (λ (q : Option ℕ). unwrap_or q x) joined in
-          absurd (false_true (sym (ap (λ (q : Option Representation). is_some q) (sym (ap now_on.representation own) ∙ none)) ∙ there))
+          absurd (false_true (sym (ap (λ (q : Option Representation). is_some q) (sym (ap now_on.representation (ap (λ (q : Option ℕ). unwrap_or q x) joined)) ∙ none)) ∙ there))
 
       pub read_now : u.place ≡ place.Direct x
       read_now = reads_it (headed_as limits t now flaw s o ev goes w.c x k u w z response here its_row got.1.own is_row after_row same opened)
@@ -220,11 +176,7 @@ module _ (limits : Limits) (t : Tables) (now : ℕ) (flaw : Flaw) (s : Sound t) 
 
   module _ (later : Sound now_on) (reads : AreRead t) where
     none_before : (r : ℕ) → now_on.representation r ≡ None → t.representation r ≡ None
-    none_before r none = by_row (t.representation r) refl
-      where
-        by_row : (q : Option Representation) → t.representation r ≡ q → q ≡ None
-        by_row None row = refl
-        by_row (Some v) row = absurd (false_true (sym (ap (λ (q : Option Representation). is_some q) none) ∙ rep.stays t e r (t.representation r) (ap (λ (q : Option Representation). is_some q) row)))
+    none_before r none = none_or (t.representation r) (λ v row. false_true (sym (ap (λ (q : Option Representation). is_some q) none) ∙ rep.stays t e r (t.representation r) (ap (λ (q : Option Representation). is_some q) row)))
 
     on_as : (x c : ℕ) (z : Exchange) (k u : Consumer) → z.c ≡ c → now_on.consumer c ≡ Some u → u.place ≡ place.Direct x → IsReadPast now_on x z
     on_as x c z k u c_is after at = record { k = u; row = ap now_on.consumer c_is ∙ after; place_is = at }
@@ -235,9 +187,7 @@ module _ (limits : Limits) (t : Tables) (now : ℕ) (flaw : Flaw) (s : Sound t) 
         by_heard : ((z.head ≡ w.head) × (z.joined ≡ w.joined)) ⊎ IsHeaded t e x w z → IsReadPast now_on x z
         by_heard (inl all) =
             let had : is_some w.head ≡ true = sym (ap (λ (q : Option Response). is_some q) all.0) ∙ headed in
-            let of_one : family x z ≡ family x w = ap (λ (q : Option ℕ). unwrap_or q x) all.1 in
-            let before : t.representation (family x w) ≡ None = none_before (family x w) (sym (ap now_on.representation of_one) ∙ none) in
-            let r = reads.read x w row (same.was_open opened) had before in
+            let r = reads.read x w row (same.was_open opened) had (none_before (family x w) (sym (ap now_on.representation (ap (λ (q : Option ℕ). unwrap_or q x) all.1)) ∙ none)) in
             let on = is_kept t e w.c r.k r.row in
             on_as x w.c z r.k on.u same.c_is on.row (goes_on w.c x r.k w r.row r.place_is row had on.u on.row z after_row same opened)
         by_heard (inr came) =

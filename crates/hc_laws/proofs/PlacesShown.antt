@@ -1,20 +1,15 @@
 -- Who was shown a head reads, or is over, at each entry.
-use Rattle.std.{proofs.Common.{◌≡◌, inl, inr, ℕ, ◌++◌, Bool, true, false, Option, Some, None, refl, ap, sym, ◌∙◌, subst}, specs.Prelude.{if◌then◌else◌, is_none, is_some, ◌==◌, ◌&&◌, ◌||◌, not}}
+use Rattle.std.{proofs.Common.{◌≡◌, inl, inr, ℕ, ◌++◌, Bool, true, false, Option, Some, None, refl, ap, sym, ◌∙◌, subst}, specs.Prelude.{if◌then◌else◌, is_none, is_some, ◌==◌, ◌&&◌, not}}
 use Rattle.hc_text.proofs.Basics.{all_false, and_left, and_off, and_right, bool_cases, never_true as not_so, or_cases, same_some as same_row}
-use Rattle.hc_effects.proofs.Vocabulary.{Opening, opening_in, leaves_in, shows_in, Event, Response, Wait, Why, HeadCase, head_case, Limits, route_of, Place, has_loss, fails_in, misreads_in, leaver_in, Showing, showing_in, wait_in, loss_acts, case_at, case_of, head_view, was_shown, consumer_heard, by_head, by_fault, by_opening, shown_place, waiting, waiting_place, place_by_case, denial, doomed_key_of, bypassed_by, is_key, Entry, exchange_at, is_for, is_headless, Flaw, flaw_in, becomes_gone, goes_in, entry_of, Turns, Shows, acts_of, Owners, IsAwaiting, move_of, bound_to, reads, Tables, Exchange, Representation, Consumer, Sound, starts_over, sends_back, waits_at, loses_what_it_waits_for, after_accepted}
+use Rattle.hc_effects.proofs.Vocabulary.{Opening, opening_in, leaves_in, shows_in, Event, Response, Wait, Why, HeadCase, head_case, Limits, route_of, Route, case_on, first_case, later_case, Place, has_loss, fails_in, misreads_in, leaver_in, Showing, showing_in, wait_in, loss_acts, case_at, case_of, head_view, was_shown, consumer_heard, by_head, by_fault, by_opening, shown_place, waiting, waiting_place, place_by_case, denial, doomed_key_of, bypassed_by, is_key, Entry, exchange_at, is_for, is_headless, Flaw, flaw_in, becomes_gone, goes_in, entry_of, Turns, Shows, acts_of, Owners, IsAwaiting, move_of, bound_to, reads, Tables, Exchange, Representation, Consumer, Sound, starts_over, sends_back, waits_at, loses_what_it_waits_for, after_accepted}
 use Rattle.hc_event.specs.declared.event.Event.TheVariants as event
 use Rattle.hc_event.specs.declared.act.Wait.TheVariants as wait
 use Rattle.hc_rules.specs.declared.need.Route.TheVariants as route
 use Rattle.hc_event.specs.declared.place.Place.TheVariants as place
 use Rattle.hc_event.specs.declared.place.BoundBy.TheVariants as by
 use Rattle.hc_model.specs.Owners as owners
-use Rattle.hc_effects.proofs.ActParts as parts
-use Rattle.hc_laws.proofs.{FallbackKeeps.{landing, new_unshown}, PlacesKept.{AreOwn, settled}, TurnFacts.{IsTaken, AtPoll, seen, behind, far_behind, opens_behind, misreads_behind, at_poll, eq-refl}}
-use Rattle.hc_effects.proofs.{Basics.{false_true}, FirstKeeps.{is_new, case_is, is_opener}, FoundBy.{CaseBy, case_by}, OpenedAs.{opened_as}, PieceKeeps.{eq_cases}, Said.{WaitsAs, waiting_by}, ShownStays.{IsFallback, way_bound, shows_not, unless_same}, TurnPlaces.{is_after}, WaitedAs.{IsForOthers, waited_as}, Waiters.{IsWaiter, waiter_of}}
-use Rattle.hc_effects.proofs.FoundBy as cases
-use Rattle.hc_laws.proofs.TurnFacts as facts
-use Rattle.hc_laws.proofs.TurnOpens as opens
-use Rattle.hc_effects.proofs.WaitedAs as waited
+use Rattle.hc_laws.proofs.{TurnOpens.{goes_none, doom_none}, FallbackKeeps.{landing, new_unshown}, PlacesKept.{AreOwn, settled}, TurnFacts.{moves_on, misreads, IsTaken, AtPoll, seen, behind, far_behind, opens_behind, misreads_behind, at_poll, eq-refl}}
+use Rattle.hc_effects.proofs.{ActParts.{leaver_lost}, Basics.{false_true}, Joining.{mix}, FirstKeeps.{is_new, case_is, is_opener}, OpenedAs.{opened_as}, PieceKeeps.{eq_cases}, Said.{WaitsAs, waiting_by}, ShownStays.{IsFallback, way_bound, shows_not, unless_same}, TurnPlaces.{is_after}, WaitedAs.{turn, busy, IsForOthers, waited_as}, Waiters.{IsWaiter, waiter_of}}
 
 -- it reads there, or is over
 abbrev pub IsReader : Place → Type 0
@@ -27,13 +22,10 @@ pub record AreReaders (t : Tables) : Type 0 where
   pub shown : (c : ℕ) (k : Consumer) → t.consumer c ≡ Some k → k.shown ≡ true → IsReader k.place
 
 reads_reader : (p : Place) → reads p ≡ true → IsReader p
-reads_reader place.Line h = false_true h
-reads_reader (place.Passed r kept) h = false_true h
-reads_reader (place.Turn x) h = false_true h
 reads_reader (place.Bound r lo hi how) h = tt
 reads_reader (place.Direct x) h = tt
-reads_reader (place.Down why) h = false_true h
 reads_reader place.Over h = tt
+reads_reader _ h = false_true h
 
 module _ (limits : Limits) (t : Tables) (now : ℕ) (flaw : Flaw) (s : Sound t) (o : Owners t) (a : IsFallback t) (g : AreOwn t) (turns : Turns t) (readers : AreReaders t) (ev : Event) (goes : denial t ev ≡ None) where
   abbrev e : Entry
@@ -60,46 +52,36 @@ module _ (limits : Limits) (t : Tables) (now : ℕ) (flaw : Flaw) (s : Sound t) 
       direct_not : route_of w.need ≡ route.Direct → IsAwaiting x w k.place → ⊥
       direct_not way (owners.direct it stands) =
           let h = a.apart.headed c x k row stands shown in
-          let one : h.w ≡ w = same_row (t.exchange x) h.w w h.row exchange_row in
-          false_true (sym (ap (λ (q : Option Response). is_some q) (ap (λ (q : Exchange). q.head) one ∙ got.1.bare)) ∙ h.headed)
+          false_true (sym (ap (λ (q : Option Response). is_some q) (ap (λ (q : Exchange). q.head) (same_row (t.exchange x) h.w w h.row exchange_row) ∙ got.1.bare)) ∙ h.headed)
       direct_not way (owners.turn it stands) = let no : route.Turn ≡ route.Direct = sym it ∙ way in cc
       direct_not way (owners.hole r lo hi how it aim stands) = let no : route.Hole ≡ route.Direct = sym it ∙ way in cc
-
-      unshown_not : was_shown (t.consumer w.c) ≡ false → ⊥
-      unshown_not off = false_true (sym off ∙ (ap was_shown (ap t.consumer mine ∙ row) ∙ shown))
 
       abbrev view : Rattle.hc_rules.specs.declared.heads.HeadView.HeadView
       view = head_view t (has_loss e.acts) w response
 
       -- its head leaves it where it is, and doesn't send it back
-      by_case : (q : HeadCase) → CaseBy view q → (place_by_case x response w k (Some q) ≡ k.place) × (sends_back (Some q) ≡ false)
-      by_case _ (cases.direct_bad way h) = absurd (direct_not way at)
-      by_case _ (cases.direct_taken way) = absurd (direct_not way at)
-      by_case _ (cases.turn_bad way h) = absurd (turn_not way at)
-      by_case _ (cases.validated way h d l) = absurd (turn_not way at)
-      by_case _ (cases.not_validated way h) = absurd (turn_not way at)
-      by_case _ (cases.turn_server_error way) = absurd (turn_not way at)
-      by_case _ (cases.founds_whole way h l f) = absurd (turn_not way at)
-      by_case _ (cases.founds_range way h f l d) = absurd (turn_not way at)
-      by_case _ (cases.passes_by way) = absurd (turn_not way at)
-      by_case _ (cases.first_bad way off h) = absurd (unshown_not off)
-      by_case _ (cases.first_joins way off h f) = absurd (unshown_not off)
-      by_case _ (cases.first_server_error way off) = absurd (unshown_not off)
-      by_case _ (cases.first_changed way off) = absurd (unshown_not off)
-      by_case _ (cases.first_replaced way off h l f) = absurd (unshown_not off)
-      by_case _ (cases.first_passes_by way off) = absurd (unshown_not off)
-      by_case _ (cases.later_bad way on h) = (refl, refl)
-      by_case _ (cases.later_joins way on h f) = (refl, refl)
-      by_case _ (cases.later_changed way on) = (refl, refl)
+      abbrev Leaves : HeadCase → Type 0
+      Leaves q = (place_by_case x response w k (Some q) ≡ k.place) × (sends_back (Some q) ≡ false)
+
+      by_way : (way : Route) → route_of w.need ≡ way → Leaves (case_on way view)
+      by_way route.Direct is = absurd (direct_not is at)
+      by_way route.Turn is = absurd (turn_not is at)
+      by_way route.Hole is =
+          let was : was_shown (t.consumer w.c) ≡ true = ap was_shown (ap t.consumer mine ∙ row) ∙ shown in
+          subst (λ b. Leaves (if b then later_case view else first_case view)) (sym was) (mix Leaves view.bad _ _ (refl, refl) (mix Leaves view.joins _ _ (refl, refl) (refl, refl)))
+
+      leaves : Leaves (head_case view)
+      unfolding head_case
+      leaves = by_way (route_of w.need) refl
 
       case_here : case_at t e ≡ Some (head_case view)
       case_here = case_is t e x response w here exchange_row
 
       pub head_same : place_by_case x response w k (case_at t e) ≡ k.place
-      head_same = ap (place_by_case x response w k) case_here ∙ (by_case (head_case view) (case_by view)).0
+      head_same = ap (place_by_case x response w k) case_here ∙ leaves.0
 
       unsent : sends_back (case_at t e) ≡ false
-      unsent = ap sends_back case_here ∙ (by_case (head_case view) (case_by view)).1
+      unsent = ap sends_back case_here ∙ leaves.1
 
     reader : IsReader k.place
     reader = readers.shown c k row shown
@@ -107,29 +89,20 @@ module _ (limits : Limits) (t : Tables) (now : ℕ) (flaw : Flaw) (s : Sound t) 
     -- IT DOESN'T START OVER
 
     waits_not : (p : Place) → k.place ≡ p → IsReader p → waits_at t p ≡ false
-    waits_not place.Line is on = absurd on
-    waits_not (place.Passed r kept) is on = absurd on
-    waits_not (place.Turn x) is on = absurd on
-    waits_not (place.Bound r lo hi by.Founding) is on = refl
     waits_not (place.Bound r lo hi (by.FirstHole y)) is on = let f = turns.first_hole c r lo y hi k row is shown in ap is_headless f.1 ∙ f.2
-    waits_not (place.Bound r lo hi by.Plan) is on = refl
+    waits_not (place.Bound r lo hi _) is on = refl
     waits_not (place.Direct x) is on = refl
-    waits_not (place.Down why) is on = absurd on
     waits_not place.Over is on = refl
+    waits_not _ is on = absurd on
 
     loses_not : (p : Place) → IsReader p → loses_what_it_waits_for t e c p ≡ false
-    loses_not place.Line on = absurd on
-    loses_not (place.Passed r kept) on = absurd on
-    loses_not (place.Turn x) on = absurd on
     loses_not (place.Bound r lo hi how) on = refl
     loses_not (place.Direct x) on = refl
-    loses_not (place.Down why) on = absurd on
     loses_not place.Over on = refl
+    loses_not _ on = absurd on
 
     sent_by : (v : Event) → ev ≡ v → sends_back (case_of t (has_loss e.acts) v) ≡ true → is_for (exchange_at t v) c ≡ true → sends_back (case_at t e) ≡ true → ⊥
     unfolding case_of
-    sent_by (event.Start d request) here sends it also = false_true sends
-    sent_by (event.Poll d want) here sends it also = false_true sends
     sent_by (event.Head x response) here sends it also = by_row (t.exchange x) refl it
       where
         by_row : (z : Option Exchange) → t.exchange x ≡ z → is_for z c ≡ true → ⊥
@@ -138,11 +111,7 @@ module _ (limits : Limits) (t : Tables) (now : ℕ) (flaw : Flaw) (s : Sound t) 
           | inl hit ↦ false_true (sym (unsent x response q here exchange_row hit.1) ∙ also)
           | inr off ↦ false_true (sym off.0 ∙ h)
         ]
-    sent_by (event.Piece x bytes) here sends it also = false_true sends
-    sent_by (event.End x) here sends it also = false_true sends
-    sent_by (event.Fault x) here sends it also = false_true sends
-    sent_by (event.Cancel d) here sends it also = false_true sends
-    sent_by (event.Doom key) here sends it also = false_true sends
+    sent_by _ here sends it also = false_true sends
 
     not_over : starts_over t e c k ≡ false
     unfolding starts_over
@@ -168,31 +137,24 @@ module _ (limits : Limits) (t : Tables) (now : ℕ) (flaw : Flaw) (s : Sound t) 
     ]
 
     heard_reader : (v : Event) → ev ≡ v → IsReader (consumer_heard t e c v k).place
-    heard_reader (event.Start d request) here = reader
-    heard_reader (event.Poll d want) here = reader
     heard_reader (event.Head x response) here = head_reader x response (t.exchange x) here refl
-    heard_reader (event.Piece x bytes) here = reader
-    heard_reader (event.End x) here = reader
     heard_reader (event.Fault x) here = fault_reader x (t.exchange x)
     heard_reader (event.Cancel d) here = elim (bool_cases (d == c)) [
       | inl hit ↦ rw hit tt
       | inr off ↦ rw off reader
     ]
-    heard_reader (event.Doom key) here = reader
+    heard_reader _ here = reader
 
     told_not : (q : Wait) → IsForOthers q → wait_in c e.acts ≡ Some q → ⊥
     told_not q others told =
         let by_poll = waiting_by limits t now flaw s ev goes c q told in
         let one : by_poll.k ≡ k = same_row (t.consumer c) by_poll.k k by_poll.poll.row row in
-        let waits : WaitsAs q (move_of t now by_poll.want c k) = subst (λ (p : Consumer). WaitsAs q (move_of t now by_poll.want c p)) one by_poll.move in
-        false_true (sym (waited_as t now c k q others by_poll.want s row waits).unshown ∙ shown)
+        false_true (sym (waited_as t now c k q others by_poll.want s row (subst (λ (p : Consumer). WaitsAs q (move_of t now by_poll.want c p)) one by_poll.move)).unshown ∙ shown)
 
     waits_reader : (h : Consumer) (q : Option Wait) → wait_in c e.acts ≡ q → IsReader h.place → IsReader (waiting_place t h q)
-    waits_reader h None told on = on
-    waits_reader h (Some (wait.Turn d)) told on = absurd (told_not (wait.Turn d) (waited.turn d) told)
-    waits_reader h (Some (wait.Busy d)) told on = absurd (told_not (wait.Busy d) (waited.busy d) told)
-    waits_reader h (Some (wait.Head x)) told on = on
-    waits_reader h (Some (wait.Body x)) told on = on
+    waits_reader h (Some (wait.Turn d)) told on = absurd (told_not (wait.Turn d) (turn d) told)
+    waits_reader h (Some (wait.Busy d)) told on = absurd (told_not (wait.Busy d) (busy d) told)
+    waits_reader h _ told on = on
 
     abbrev stood : Consumer
     stood = waiting t e c (consumer_heard t e c ev k)
@@ -221,8 +183,7 @@ module _ (limits : Limits) (t : Tables) (now : ℕ) (flaw : Flaw) (s : Sound t) 
 
     shown_reader : (u : Consumer) → now_on.consumer c ≡ Some u → IsReader u.place
     shown_reader u after =
-        let is = settled limits t now flaw s o a g ev goes c k u row after not_over in
-        subst (λ (q : Consumer). IsReader q.place) is
+        subst (λ (q : Consumer). IsReader q.place) (settled limits t now flaw s o a g ev goes c k u row after not_over)
         (left_reader (leaves_in c e.acts) _ (shows_reader _ (showing_in e.acts) refl (opens_reader (opening_in e.acts) refl (waits_reader (consumer_heard t e c ev k) (wait_in c e.acts) refl (heard_reader ev refl)))))
 
   -- WHO IS SHOWN ONE
@@ -230,23 +191,18 @@ module _ (limits : Limits) (t : Tables) (now : ℕ) (flaw : Flaw) (s : Sound t) 
   module _ (taken : IsTaken limits t e) (c : ℕ) (k : Consumer) (row : t.consumer c ≡ Some k) where
     module _ (want r lo : ℕ) (hi : Option ℕ) (why : Why) (head : Response) (at : ev ≡ event.Poll c want) (all : e.acts ≡ acts_of c (Shows r why head lo hi) ++ behind limits t e taken) (saw : (seen limits t e taken).acts ≡ acts_of c (Shows r why head lo hi) ++ loss_acts (flaw_in e.acts)) where
       nobody : leaver_in (seen limits t e taken).acts ≡ None
-      nobody = ap leaver_in saw ∙ parts.leaver_lost (flaw_in e.acts)
+      nobody = ap leaver_in saw ∙ leaver_lost (flaw_in e.acts)
 
       stays_there : (q : ℕ) (v : Representation) → becomes_gone t e q v ≡ false
-      stays_there q v = opens.goes_none limits t e taken c want at nobody q v (ap bypassed_by (ap opening_in all ∙ opens_behind limits t e taken)) (ap (misreads_in q) all ∙ misreads_behind limits t e taken q)
+      stays_there q v = goes_none limits t e taken c want at nobody q v (ap bypassed_by (ap opening_in all ∙ opens_behind limits t e taken)) (ap (misreads_in q) all ∙ misreads_behind limits t e taken q)
 
       goes_not : (q : ℕ) (z : Option Representation) → goes_in t e q z ≡ false
       goes_not q None = refl
       goes_not q (Some v) = stays_there q v
 
       loses_none : (p : Place) → loses_what_it_waits_for t e c p ≡ false
-      loses_none place.Line = refl
       loses_none (place.Passed q kept) = ap (λ b. b && not (fails_in c e.acts)) (goes_not q (t.representation q))
-      loses_none (place.Turn x) = refl
-      loses_none (place.Bound q l h how) = refl
-      loses_none (place.Direct x) = refl
-      loses_none (place.Down cause) = refl
-      loses_none place.Over = refl
+      loses_none _ = refl
 
       sends_none : sends_back (case_at t e) ≡ false
       unfolding case_of
@@ -255,7 +211,7 @@ module _ (limits : Limits) (t : Tables) (now : ℕ) (flaw : Flaw) (s : Sound t) 
       stays : starts_over t e c k ≡ false
       unfolding starts_over
       stays = all_false _ _ _
-          (ap (λ z. is_key z k.request.key && waits_at t k.place) (opens.doom_none limits t e taken c want at nobody))
+          (ap (λ z. is_key z k.request.key && waits_at t k.place) (doom_none limits t e taken c want at nobody))
           (ap (λ b. b && is_for (exchange_at t ev) c) sends_none)
           (loses_none k.place)
 
@@ -270,16 +226,12 @@ module _ (limits : Limits) (t : Tables) (now : ℕ) (flaw : Flaw) (s : Sound t) 
 
       lands : (u : Consumer) → now_on.consumer c ≡ Some u → IsReader u.place
       lands u after =
-          let is = settled limits t now flaw s o a g ev goes c k u row after stays in
-          subst (λ (q : Consumer). IsReader q.place) is
+          subst (λ (q : Consumer). IsReader q.place) (settled limits t now flaw s o a g ev goes c k u row after stays)
           (left_or (leaves_in c e.acts) _ (subst (λ z. IsReader (shown_place c z (by_opening t c (opening_in e.acts) (waiting t e c (consumer_heard t e c ev k))).place)) (sym showing) (shown_by _)))
         where
           left_or : (leaves : Bool) (p : Place) → IsReader p → IsReader (if leaves then place.Over else p)
           left_or true p on = tt
           left_or false p on = on
-
-    poll_inj : (c want d n : ℕ) → event.Poll c want ≡ event.Poll d n → want ≡ n
-    poll_inj c want d n is = cc
 
     landed : (u : Consumer) → now_on.consumer c ≡ Some u → k.shown ≡ false → u.shown ≡ true → IsReader u.place
     landed u after off on =
@@ -293,11 +245,10 @@ module _ (limits : Limits) (t : Tables) (now : ℕ) (flaw : Flaw) (s : Sound t) 
         ]
 
         by_poll : (want r lo : ℕ) (hi : Option ℕ) (why : Why) (head : Response) → ev ≡ event.Poll c want → move_of t now want c k ≡ Shows r why head lo hi → AtPoll limits t e taken c k → IsReader u.place
-        by_poll want r lo hi why head at move_is (facts.moves_on n m here m_is does all saw) =
-            let same : want ≡ n = poll_inj c want c n (sym at ∙ here) in
-            let is : m ≡ Shows r why head lo hi = m_is ∙ (sym (ap (λ z. move_of t now z c k) same) ∙ move_is) in
+        by_poll want r lo hi why head at move_is (moves_on n m here m_is does all saw) =
+            let is : m ≡ Shows r why head lo hi = m_is ∙ (sym (ap (λ z. move_of t now z c k) cc) ∙ move_is) in
             lands want r lo hi why head at (all ∙ ap (λ z. acts_of c z ++ behind limits t e taken) is) (saw ∙ ap (λ z. acts_of c z ++ loss_acts (flaw_in e.acts)) is) u after
-        by_poll want r lo hi why head at move_is (facts.misreads n q here all saw) =
+        by_poll want r lo hi why head at move_is (misreads n q here all saw) =
             absurd (false_true (sym (ap (shows_in c) all ∙ (far_behind limits t e taken c).shows) ∙ shows))
 
   module _ (taken : IsTaken limits t e) where

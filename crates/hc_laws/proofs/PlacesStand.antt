@@ -1,7 +1,7 @@
 -- Who stands in the line owns nothing, and who asks, or fails for what it asked, may ask the origin: at each entry.
-use Rattle.std.{proofs.{Common.{◌≡◌, ◌⊎◌, inl, inr, ℕ, Bool, true, false, Option, Some, None, refl, ap, sym, ◌∙◌, subst, arith}, lemmas.Bool.Decides.{nat_tests}}, specs.Prelude.{if◌then◌else◌, is_some, is_none, ◌==◌, ◌&&◌, not, nat_eq}}
-use Rattle.hc_text.proofs.Basics.{and_left, and_right, bool_cases, not_some as none_some, same_some as same_row}
-use Rattle.hc_effects.proofs.Vocabulary.{Opening, opening_in, leaves_in, Wait, Event, Request, Response, HeadCase, Route, Wanted, Limits, head_case, route_of, is_only, range_of, wanted_of, Place, BoundBy, has_loss, wait_in, Showing, showing_in, case_at, head_view, consumer_heard, consumer_acted, consumer_settled, by_head, by_fault, by_opening, becomes_shared, own_after, waiting, waiting_place, passed_by, kept_by, opened_place, unless_bound, shown_place, back_in_line, due_after, place_by_case, passed_on, bound_to_wanted, current, denial, Entry, is_headless, Flaw, founded_total, entry_of, Turns, StandsFor, Move, Owners, move_of, bound_to, reads, Tables, Exchange, Consumer, Sound, starts_over, after_accepted}
+use Rattle.std.{proofs.{Common.{◌≡◌, ◌⊎◌, inl, inr, ℕ, Bool, true, false, Option, Some, None, refl, ap, sym, ◌∙◌, subst, arith}, lemmas.Bool.Decides.{nat_tests}}, specs.Prelude.{if◌then◌else◌, is_some, is_none, ◌==◌, ◌&&◌, not}}
+use Rattle.hc_text.proofs.Basics.{none_by, and_left, and_right, bool_cases, not_some as none_some, same_some as same_row}
+use Rattle.hc_effects.proofs.Vocabulary.{Opening, opening_in, leaves_in, Wait, Event, Request, Response, HeadCase, Route, Wanted, Limits, head_case, route_of, is_only, range_of, wanted_of, Place, BoundBy, has_loss, wait_in, Showing, showing_in, case_at, head_view, consumer_heard, consumer_acted, consumer_settled, by_head, by_fault, by_opening, becomes_shared, own_after, waiting, waiting_place, passed_by, kept_by, opened_place, unless_bound, shown_place, due_after, place_by_case, passed_on, bound_to_wanted, current, denial, Entry, is_headless, Flaw, founded_total, entry_of, Turns, StandsFor, Move, Owners, move_of, bound_to, reads, Tables, Exchange, Consumer, Sound, starts_over, after_accepted}
 use Rattle.hc_event.specs.declared.act.Wait.TheVariants as wait
 use Rattle.hc_event.specs.declared.event.Event.TheVariants as event
 use Rattle.hc_rules.specs.declared.heads.HeadCase.TheVariants as case
@@ -11,35 +11,28 @@ use Rattle.hc_event.specs.declared.place.Place.TheVariants as place
 use Rattle.hc_event.specs.declared.place.BoundBy.TheVariants as by
 use Rattle.hc_model.specs.Laws as laws
 use Rattle.hc_model.specs.Moves as moves
-use Rattle.hc_effects.proofs.{Basics.{false_true}, BoundFrom.{IsRow}, FirstKeeps.{is_new, case_is, is_opener}, Forward.{is_kept}, FoundBy.{CaseBy, case_by}, MoveBy.{IsHeard}, PieceKeeps.{eq_cases}, Said.{WaitsAs, waiting_by}, ShownStays.{IsFallback, unless_same}, ToBeShown.{heard_place}, TurnMoves.{Does, IsNew, Plans, KeptNone, kept_none, does_polled}, WaitedAs.{WaitedAs, waited_as}, Waiters.{fault_open_of}}
+use Rattle.hc_effects.proofs.{Basics.{false_true}, BoundFrom.{IsRow}, FirstKeeps.{is_new, case_is, is_opener}, Forward.{is_kept}, FoundBy.{CaseBy, case_by}, MoveBy.{IsHeard}, PieceKeeps.{eq_cases}, Said.{WaitsAs, waiting_by}, ShownStays.{IsFallback, unless_same}, ToBeShown.{heard_place}, TurnMoves.{waits_turn, passes, Does, IsNew, Plans, KeptNone, kept_none, does_polled}, WaitedAs.{turn, busy, WaitedAs, waited_as}, Waiters.{fault_open_of}}
 use Rattle.hc_effects.proofs.FoundBy as cases
-use Rattle.hc_laws.proofs.{PlacesKept.{AreOwn, waits_not, past_not, own_poll, own_is, unopened, poll_of, new_is, turn_bare}, PlacesShown.{AreReaders, head_same}, TurnFacts.{IsTaken}, TurnHeads.{valid_aim}, TurnOpens.{OpensFor, opened_at}}
+use Rattle.hc_laws.proofs.{PlacesKept.{AreOwn, waits_not, past_not, own_poll, own_is, unopened, poll_of, new_is, turn_bare}, PlacesShown.{AreReaders, head_same}, TurnFacts.{IsTaken}, TurnHeads.{valid_aim}, TurnOpens.{past, later, first, fetches, OpensFor, opened_at}}
 use Rattle.hc_effects.proofs.Said as said
-use Rattle.hc_effects.proofs.TurnMoves as does
-use Rattle.hc_laws.proofs.TurnOpens as opens
-use Rattle.hc_effects.proofs.WaitedAs as waited
 
 -- what holds of a consumer's own exchange and request by its place
 abbrev pub Stands : Place → Option ℕ → Request → Type 0
 Stands place.Line own request = own ≡ None
 Stands (place.Passed r None) own request = own ≡ None
 Stands (place.Passed r (Some x)) own request = own ≡ Some x
-Stands (place.Turn x) own request = is_only request ≡ false
 Stands (place.Bound r lo hi by.Founding) own request = Unit {0}
-Stands (place.Bound r lo hi (by.FirstHole y)) own request = is_only request ≡ false
 Stands (place.Bound r lo hi by.Plan) own request = Unit {0}
-Stands (place.Direct x) own request = is_only request ≡ false
-Stands (place.Down why) own request = is_only request ≡ false
 Stands place.Over own request = Unit {0}
+Stands _ own request = is_only request ≡ false
 
 pub record AreStanding (t : Tables) : Type 0 where
   pub stands : (c : ℕ) (k : Consumer) → t.consumer c ≡ Some k → Stands k.place k.own k.request
 
 -- who is bound may own anything
 any_bound : (r lo : ℕ) (hi : Option ℕ) (how : BoundBy) (own other : Option ℕ) (request : Request) → Stands (place.Bound r lo hi how) own request → Stands (place.Bound r lo hi how) other request
-any_bound r lo hi by.Founding own other request st = tt
 any_bound r lo hi (by.FirstHole y) own other request st = st
-any_bound r lo hi by.Plan own other request st = tt
+any_bound r lo hi _ own other request st = tt
 
 -- and whoever owns something, but keeps no 304 of it, may own nothing
 less : (b : Bool) (p : Place) (own : Option ℕ) (request : Request) → KeptNone p → Stands p own request → Stands p (if b then None else own) request
@@ -71,11 +64,11 @@ is_busy (moves.Waits (wait.Busy d)) = true
 is_busy _ = false
 
 turn_told : (t : Tables) (c d : ℕ) (k : Consumer) (m : Move) → Does t c k m → m ≡ moves.Waits (wait.Turn d) → IsNew k × KeptNone k.place
-turn_told t c d k _ (does.waits_turn z is_new other back) is = (is_new, back)
+turn_told t c d k _ (waits_turn z is_new other back) is = (is_new, back)
 turn_told t c d k _ _ is = absurd (false_true (ap is_turn is))
 
 busy_told : (t : Tables) (c d : ℕ) (k : Consumer) (m : Move) → Does t c k m → m ≡ moves.Waits (wait.Busy d) → IsNew k × ((r : ℕ) × (current t k.request.key ≡ Some r))
-busy_told t c d k _ (does.passes z r is_new queues may) is = (is_new, (r, may.current))
+busy_told t c d k _ (passes z r is_new queues may) is = (is_new, (r, may.current))
 busy_told t c d k _ _ is = absurd (false_true (ap is_busy is))
 
 turn_waits : (d : ℕ) (m : Move) → WaitsAs (wait.Turn d) m → m ≡ moves.Waits (wait.Turn d)
@@ -145,28 +138,21 @@ module _ (limits : Limits) (t : Tables) (now : ℕ) (flaw : Flaw) (s : Sound t) 
 
       wanted_there : (q : Wanted) → is_only k.request ≡ false → On (bound_to_wanted x by.Founding (place.Direct x) q) own_then
       wanted_there (wanted.Interval span) asks = tt
-      wanted_there wanted.TotalUnknown asks = asks
-      wanted_there wanted.Unsatisfiable asks = asks
+      wanted_there _ asks = asks
 
       by_case : is_only k.request ≡ false → (q : HeadCase) → CaseBy view q → case_at t e ≡ Some q → On (place_by_case x response w k (Some q)) own_then
-      by_case asks _ (cases.direct_bad way h) is = asks
       by_case asks _ (cases.direct_taken way) is = kept_there
-      by_case asks _ (cases.turn_bad way h) is = asks
       by_case asks _ (cases.validated way h d l) is = passed_there w.aim (valid_aim t e x response w here exchange_row is) is
       by_case asks _ (cases.not_validated way h) is = kept_there
-      by_case asks _ (cases.turn_server_error way) is = asks
       by_case asks _ (cases.founds_whole way h l f) is = tt
       by_case asks _ (cases.founds_range way h f l d) is = wanted_there (wanted_of (range_of k.request) (founded_total w response)) asks
-      by_case asks _ (cases.passes_by way) is = asks
-      by_case asks _ (cases.first_bad way off h) is = asks
       by_case asks _ (cases.first_joins way off h f) is = kept_there
-      by_case asks _ (cases.first_server_error way off) is = asks
       by_case asks _ (cases.first_changed way off) is = kept_there
       by_case asks _ (cases.first_replaced way off h l f) is = tt
-      by_case asks _ (cases.first_passes_by way off) is = asks
       by_case asks _ (cases.later_bad way on h) is = kept_there
       by_case asks _ (cases.later_joins way on h f) is = kept_there
       by_case asks _ (cases.later_changed way on) is = kept_there
+      by_case asks _ _ is = asks
 
       case_here : case_at t e ≡ Some (head_case view)
       case_here = case_is t e x response w here exchange_row
@@ -186,46 +172,30 @@ module _ (limits : Limits) (t : Tables) (now : ℕ) (flaw : Flaw) (s : Sound t) 
       | inl mine ↦ rw mine.0 (head_stands x response w here exchange_row mine.1)
     ]
 
-    none_of : (z : Option Response) → is_none z ≡ true → z ≡ None
-    none_of None h = refl
-    none_of (Some response) h = absurd (false_true h)
-
     fault_stands : (x : ℕ) (z : Option Exchange) → ev ≡ event.Fault x → t.exchange x ≡ z → On (by_fault c x z k).place (by_fault c x z k).own
     fault_stands x None here exchange_row = st
     fault_stands x (Some w) here exchange_row = elim (bool_cases (w.c == c && is_none w.head && not k.shown)) [
       | inr off ↦ rw off st
       | inl hit ↦
-          let test : nat_eq w.c c ≡ true = and_left _ (is_none w.head) (and_left _ (not k.shown) hit) in
-          let mine : w.c ≡ c = grind (arith, nat_tests) in
-          let bare = none_of w.head (and_right (w.c == c) _ (and_left _ (not k.shown) hit)) in
           let on = fault_open_of limits t now flaw s o ev goes x w (sym (ap (denial t) here) ∙ goes) exchange_row in
-          elim (asks_or_shown x w exchange_row (bare_is w on bare) mine) [
+          elim (asks_or_shown x w exchange_row (bare_is w on (none_by w.head (and_right (w.c == c) _ (and_left _ (not k.shown) hit)))) (grind (arith, nat_tests))) [
             | inl asks ↦ rw hit asks
             | inr shown ↦ absurd (false_true (sym (ap not shown) ∙ and_right _ (not k.shown) hit))
           ]
     ]
 
     heard_stands : (v : Event) → ev ≡ v → On (consumer_heard t e c v k).place (consumer_heard t e c v k).own
-    heard_stands (event.Start d request) here = st
-    heard_stands (event.Poll d want) here = st
     heard_stands (event.Head x response) here = row_stands x response (t.exchange x) here refl
-    heard_stands (event.Piece x bytes) here = st
-    heard_stands (event.End x) here = st
     heard_stands (event.Fault x) here = fault_stands x (t.exchange x) here refl
     heard_stands (event.Cancel d) here = elim (bool_cases (d == c)) [
       | inl hit ↦ rw hit tt
       | inr off ↦ rw off st
     ]
-    heard_stands (event.Doom key) here = st
+    heard_stands _ here = st
 
     own_stands : (p : Place) (own : Option ℕ) → On p own → On p (own_after t e c p own)
-    own_stands place.Line own on = on
-    own_stands (place.Passed r kept) own on = on
-    own_stands (place.Turn x) own on = on
     own_stands (place.Bound r lo hi how) own on = any_bound r lo hi how own _ k.request on
-    own_stands (place.Direct x) own on = on
-    own_stands (place.Down why) own on = on
-    own_stands place.Over own on = on
+    own_stands _ own on = on
 
     quiet_stands : (u : Consumer) → IsRow t e c 0 0 None by.Plan k u → ((d want : ℕ) → ev ≡ event.Poll d want → ⊥) → On u.place u.own
     quiet_stands u r unpolled =
@@ -249,10 +219,8 @@ module _ (limits : Limits) (t : Tables) (now : ℕ) (flaw : Flaw) (s : Sound t) 
         by_place (place.Passed r None) at none plans = subst (λ p. On p k.own) at st
         by_place (place.Passed r (Some x)) at none plans = absurd none
         by_place (place.Turn x) at none plans = absurd (turn_not x at w.heard)
-        by_place (place.Bound r lo hi how) at none plans = absurd plans
         by_place (place.Direct x) at none plans = absurd (past_not limits t now flaw s o a g ev goes x k at w.none w.heard (o.past c x k row at w.unshown))
-        by_place (place.Down why) at none plans = absurd plans
-        by_place place.Over at none plans = absurd plans
+        by_place _ at none plans = absurd plans
 
     module _ (z : Wait) (told : wait_in c e.acts ≡ Some z) where
       abbrev at_it : Rattle.hc_effects.proofs.Said.WaitsBy t now ev c z
@@ -268,7 +236,6 @@ module _ (limits : Limits) (t : Tables) (now : ℕ) (flaw : Flaw) (s : Sound t) 
     passed_stands q r is kept none = subst (λ z. On (passed_by q z) k.own) (sym is) (by_kept q kept)
       where
         kept_own : (x : ℕ) (p : Place) → Some x ≡ kept_by p → On p k.own → k.own ≡ Some x
-        kept_own x (place.Passed q None) h on = absurd (none_some x (sym h))
         kept_own x (place.Passed q (Some y)) h on = on ∙ sym h
         kept_own x _ h on = absurd (none_some x (sym h))
 
@@ -277,15 +244,13 @@ module _ (limits : Limits) (t : Tables) (now : ℕ) (flaw : Flaw) (s : Sound t) 
         by_kept (Some x) h = kept_own x k.place h st
 
     waits_stands : (z : Option Wait) → wait_in c e.acts ≡ z → On (waiting_place t k z) k.own
-    waits_stands None told = st
     waits_stands (Some (wait.Turn d)) told =
         let both = turn_told t c d k _ (does_so (wait.Turn d) told) (turn_waits d _ (waits_as (wait.Turn d) told)) in
-        unowned both.0 (wait.Turn d) (waited_as t now c k (wait.Turn d) (waited.turn d) _ s row (waits_as (wait.Turn d) told)) both.1
+        unowned both.0 (wait.Turn d) (waited_as t now c k (wait.Turn d) (turn d) _ s row (waits_as (wait.Turn d) told)) both.1
     waits_stands (Some (wait.Busy d)) told =
         let both = busy_told t c d k _ (does_so (wait.Busy d) told) (busy_waits d _ (waits_as (wait.Busy d) told)) in
-        passed_stands (kept_by k.place) both.1.0 both.1.1 refl (unowned both.0 (wait.Busy d) (waited_as t now c k (wait.Busy d) (waited.busy d) _ s row (waits_as (wait.Busy d) told)))
-    waits_stands (Some (wait.Head x)) told = st
-    waits_stands (Some (wait.Body x)) told = st
+        passed_stands (kept_by k.place) both.1.0 both.1.1 refl (unowned both.0 (wait.Busy d) (waited_as t now c k (wait.Busy d) (busy d) _ s row (waits_as (wait.Busy d) told)))
+    waits_stands _ told = st
 
     module _ (d want : ℕ) (here : ev ≡ event.Poll d want) where
       heard_is : consumer_heard t e c ev k ≡ k
@@ -298,13 +263,13 @@ module _ (limits : Limits) (t : Tables) (now : ℕ) (flaw : Flaw) (s : Sound t) 
       stood_stands = subst (λ (q : Consumer). On (waiting_place t q (wait_in c e.acts)) q.own) (sym heard_is) (waits_stands (wait_in c e.acts) refl)
 
       by_why : (p : Opening) → stood.place ≡ k.place → OpensFor t c k p.x p.need → On (unless_bound (bound_to stood.place) stood.place (opened_place t p.x stood (route_of p.need))) (Some p.x)
-      by_why p same (opens.past way new) = let free : bound_to stood.place ≡ None = ap bound_to same ∙ new.bound in rw (free, way) new.asks
-      by_why p same (opens.fetches way new queues turn_is varied bypass) = let free : bound_to stood.place ≡ None = ap bound_to same ∙ new.bound in rw (free, way) new.asks
-      by_why p same (opens.first r lo hi way new bound) =
+      by_why p same (past way new) = let free : bound_to stood.place ≡ None = ap bound_to same ∙ new.bound in rw (free, way) new.asks
+      by_why p same (fetches way new queues turn_is varied bypass) = let free : bound_to stood.place ≡ None = ap bound_to same ∙ new.bound in rw (free, way) new.asks
+      by_why p same (first r lo hi way new bound) =
           let free : bound_to stood.place ≡ None = ap bound_to same ∙ new.bound in
           let there : opened_place t p.x stood route.Hole ≡ place.Bound r lo hi (by.FirstHole p.x) = ap (λ (q : Consumer). opened_place t p.x q route.Hole) heard_is ∙ bound in
           subst (λ z. On z (Some p.x)) (sym (ap (λ z. unless_bound z stood.place (opened_place t p.x stood (route_of p.need))) free ∙ (ap (opened_place t p.x stood) way ∙ there))) new.asks
-      by_why p same (opens.later r lo hi how way shown at) =
+      by_why p same (later r lo hi how way shown at) =
           let there : stood.place ≡ place.Bound r lo hi how = same ∙ at in
           subst (λ z. On z (Some p.x)) (sym (unless_same (bound_to stood.place) r stood.place _ (ap bound_to there) ∙ there)) (any_bound r lo hi how k.own (Some p.x) k.request (subst (λ z. On z k.own) at st))
 
@@ -352,17 +317,14 @@ module _ (limits : Limits) (t : Tables) (now : ℕ) (flaw : Flaw) (s : Sound t) 
             subst (λ p. On p u.own) (sym over) tt
 
     settled_stands : (u : Consumer) (b : Bool) → starts_over t e c k ≡ b → consumer_settled t e c k (consumer_acted t e c (consumer_heard t e c ev k)) ≡ u → On u.place u.own
-    settled_stands u true over is =
-        let back : back_in_line e.now (consumer_acted t e c (consumer_heard t e c ev k)) ≡ u = rw over at is in
-        subst (λ (q : Consumer). On q.place q.own) back refl
+    settled_stands u true over is = subst (λ (q : Consumer). On q.place q.own) (rw over at is) refl
     settled_stands u false stays is = went_on u stays (rw stays at is) (leaves_in c e.acts) refl
 
     kept_stands : (u : Consumer) → now_on.consumer c ≡ Some u → Stands u.place u.own u.request
     kept_stands u after =
         let on = is_kept t e c k row in
         let one : on.u ≡ u = same_row (now_on.consumer c) on.u u on.row after in
-        let request_is : u.request ≡ k.request = ap (λ (q : Consumer). q.request) (sym one) ∙ on.request_is in
-        subst (λ r. Stands u.place u.own r) (sym request_is) (settled_stands u (starts_over t e c k) refl (on.is ∙ one))
+        subst (λ r. Stands u.place u.own r) (sym (ap (λ (q : Consumer). q.request) (sym one) ∙ on.request_is)) (settled_stands u (starts_over t e c k) refl (on.is ∙ one))
 
   module _ (taken : IsTaken limits t e) where
     by_row : (c : ℕ) (u : Consumer) (q : Option Consumer) → t.consumer c ≡ q → now_on.consumer c ≡ Some u → Stands u.place u.own u.request

@@ -54,7 +54,6 @@ module _ (t : Tables) (e : Entry) (c : ℕ) where
   short_row x (Some w) = short_told x w (promised_bytes w)
 
   stop_told : (v : Event) → is_failed_read (stop_cause t v) ≡ false
-  stop_told (event.Fault x) = refl
   stop_told (event.End x) = short_row x (t.exchange x)
   stop_told _ = refl
 
@@ -68,7 +67,6 @@ module _ (t : Tables) (e : Entry) (c : ℕ) where
 
   case_told : (q : Option HeadCase) (x : ℕ) → is_failed_read (cause_by_case q x) ≡ false
   case_told (Some case.LaterBad) x = refl
-  case_told (Some case.LaterChanged) x = refl
   case_told _ x = refl
 
   head_told : (v : Event) → is_failed_read (cause_of_head t e c v) ≡ false
@@ -97,8 +95,7 @@ module _ (t : Tables) (e : Entry) (c : ℕ) where
 
   wanted_told : (r : ℕ) (how : BoundBy) (other : Place) (v : Wanted) → Told other → Told (bound_to_wanted r how other v)
   wanted_told r how other (wanted.Interval span) told = refl
-  wanted_told r how other wanted.TotalUnknown told = told
-  wanted_told r how other wanted.Unsatisfiable told = told
+  wanted_told r how other _ told = told
 
   case_place : (x : ℕ) (response : Response) (w : Exchange) (k : Consumer) (q : Option HeadCase) → Told k.place → Told (place_by_case x response w k q)
   case_place x response w k (Some case.DirectBad) told = refl
@@ -129,11 +126,9 @@ module _ (t : Tables) (e : Entry) (c : ℕ) where
   heard_told _ k told = told
 
   waits_told : (h : Consumer) (q : Option Wait) → Told h.place → Told (waiting_place t h q)
-  waits_told h None told = told
   waits_told h (Some (wait.Turn d)) told = refl
   waits_told h (Some (wait.Busy d)) told = passed_by_told (kept_by h.place) (current t h.request.key)
-  waits_told h (Some (wait.Head x)) told = told
-  waits_told h (Some (wait.Body x)) told = told
+  waits_told h _ told = told
 
   hole_told : (x : ℕ) (request : Request) (q : Option ℕ) (v : Option Representation) → Told (place_for_hole x request q v)
   hole_told x request (Some r) (Some v) = wanted_told r (by.FirstHole x) place.Line (wanted_of (range_of request) v.head.total) refl
@@ -141,9 +136,8 @@ module _ (t : Tables) (e : Entry) (c : ℕ) where
   hole_told x request (Some r) None = refl
 
   route_told : (x : ℕ) (k : Consumer) (way : Route) → Told (opened_place t x k way)
-  route_told x k route.Direct = refl
-  route_told x k route.Turn = refl
   route_told x k route.Hole = hole_told x k.request (current t k.request.key) (row_of t (current t k.request.key))
+  route_told x k _ = refl
 
   unless_told : (q : Option ℕ) (old new : Place) → Told old → Told new → Told (unless_bound q old new)
   unless_told None old new a b = b
@@ -176,13 +170,7 @@ module _ (t : Tables) (e : Entry) (c : ℕ) where
     | inl here ↦ subst IsTold (some_inj _ u (rw here.0 at h)) (record { due = refl; down = refl })
     | inr off ↦ absurd (none_some u (rw off.0 at h))
   ]
-  made (event.Poll d want) u h = absurd (none_some u h)
-  made (event.Head x response) u h = absurd (none_some u h)
-  made (event.Piece x bytes) u h = absurd (none_some u h)
-  made (event.End x) u h = absurd (none_some u h)
-  made (event.Fault x) u h = absurd (none_some u h)
-  made (event.Cancel d) u h = absurd (none_some u h)
-  made (event.Doom key) u h = absurd (none_some u h)
+  made _ u h = absurd (none_some u h)
 
   told_after : (q : Option Consumer) (u : Consumer) → ((k : Consumer) → q ≡ Some k → IsTold k) → consumer_after t e c q ≡ Some u → IsTold u
   unfolding consumer_after

@@ -55,8 +55,7 @@ bytes_below n x (run ∷ runs) good =
     let rest : bytes_in runs ≡ size_below (cells_of runs) (last_end runs) = bytes_below (end_of run) run.x runs later in
     let sum : bytes_in (run ∷ runs) ≡ length run.bytes + bytes_in runs = sum_by-cons (λ (r : Run). length r.bytes) run runs in
     let put = below_put (cells_of runs) run.at run.x (last_end runs) run.bytes (ends_all runs) (λ p lo hi. before_run (end_of run) run.x p runs later hi) in
-    let swap : max (last_end runs) (end_of run) ≡ max (end_of run) (last_end runs) = omega arith in
-    sum ∙ (turned (length run.bytes) (bytes_in runs) ∙ (ap (λ k. k + length run.bytes) rest ∙ (sym put ∙ ap (size_below (cells_of (run ∷ runs))) swap)))
+    sum ∙ (turned (length run.bytes) (bytes_in runs) ∙ (ap (λ k. k + length run.bytes) rest ∙ (sym put ∙ ap (size_below (cells_of (run ∷ runs))) (omega arith))))
   where
     turned : (a b : ℕ) → a + b ≡ b + a
     turned a b = omega arith
@@ -83,9 +82,8 @@ unfolding size_below
 below_full f zero all p lo hi = absurd (omega arith)
 below_full f (suc n) all p lo hi = elim (bool_cases (is_some (f n))) [
   | inl here ↦
-      let rest : size_below f n ≡ n = (let is : 1 + size_below f n ≡ suc n = rw here at all in omega arith) in
       elim (bool_cases (nat_lt p n)) [
-        | inl before ↦ below_full f n rest p lo (grind (arith, nat_tests))
+        | inl before ↦ below_full f n (let is : 1 + size_below f n ≡ suc n = rw here at all in omega arith) p lo (grind (arith, nat_tests))
         | inr past ↦ let same : p ≡ n = (let over : n ≤ p = grind (arith, nat_tests) in omega arith) in rw same here
       ]
   | inr off ↦

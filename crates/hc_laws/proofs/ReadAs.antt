@@ -1,13 +1,11 @@
 -- Whoever was shown a head reads what it was shown, from where and to where it was shown: where it is shown it, and as long as it reads.
 use Rattle.std.{proofs.Common.{◌≡◌, ◌⊎◌, inl, inr, ℕ, ◌+◌, List, length, Bool, true, false, Option, Some, None, refl, ap, sym, ◌∙◌}, specs.{Prelude.{is_some}, Option.{option_or}}}
 use Rattle.hc_text.proofs.Basics.{bool_cases, not_some as none_some, same_some as same_row, some_inj}
-use Rattle.hc_effects.proofs.Vocabulary.{Event, Response, Why, Limits, base_of, promise_of, piece_refusal, BoundBy, Place, total_in, denial, as_open, Entry, exchange_heard, exchange_acted, base, promised_bytes, length_by, Flaw, Shown, entry_of, Move, Nothing, Shows, Fails, shows_stored, Owners, move_of, shows_at, shows_bound, shows_direct, shows_answer, has_joined, bound_to, reads, lo_of, hi_of, base_in, end_in, end_of_direct, Tables, Exchange, Representation, Consumer, Sound, after_accepted}
+use Rattle.hc_effects.proofs.Vocabulary.{Event, Response, Why, Limits, base_of, promise_of, piece_refusal, BoundBy, Place, total_in, denial, as_open, Entry, exchange_heard, base, promised_bytes, length_by, Flaw, Shown, entry_of, Move, Nothing, Shows, shows_stored, Owners, move_of, shows_at, shows_bound, shows_direct, shows_answer, has_joined, bound_to, reads, lo_of, hi_of, base_in, end_in, end_of_direct, Tables, Exchange, Representation, Consumer, Sound, after_accepted}
 use Rattle.hc_event.specs.declared.event.Event.TheVariants as event
-use Rattle.hc_event.specs.declared.act.Wait.TheVariants as wait
 use Rattle.hc_rules.specs.Refusals as refusals
 use Rattle.hc_event.specs.declared.place.BoundBy.TheVariants as by
 use Rattle.hc_event.specs.declared.place.Place.TheVariants as place
-use Rattle.hc_model.specs.Moves as moves
 use Rattle.hc_laws.proofs.FallbackKeeps.{IsLanding, shown_headed}
 use Rattle.hc_effects.proofs.{Basics.{false_true}, ExchangeFrom.{IsSame, IsHeaded}, Fills.{Brings, brings, length_same}, FirstKeeps.{is_new}, Forward.{is_on, after_is}, GivenNext.{read_of}, MoveBy.{MoveBy, move_by}, Once.{taken}, PastApart.{IsHeadedRow}, PieceKeeps.{eq_cases}, RepFrom.{RepFrom, rep_from}, ShownStays.{IsFallback, Lands}}
 use Rattle.hc_effects.proofs.Fills as fills_by
@@ -27,8 +25,6 @@ abbrev pub HasHead : Tables → Place → Type 0
 HasHead t p = (y : ℕ) → p ≡ place.Direct y → IsHeadedRow t y
 
 heard_ended : (t : Tables) (e : Entry) (x : ℕ) (ev : Event) (w : Exchange) → w.is_ended ≡ true → (exchange_heard t e x ev w).is_ended ≡ true
-heard_ended t e x (event.Start c request) w over = over
-heard_ended t e x (event.Poll c want) w over = over
 heard_ended t e x (event.Head y response) w over = elim (eq_cases y x) [
   | inl hit ↦ rw hit.0 over
   | inr off ↦ rw off.0 over
@@ -45,8 +41,7 @@ heard_ended t e x (event.Fault y) w over = elim (eq_cases y x) [
   | inl hit ↦ rw hit.0 over
   | inr off ↦ rw off.0 over
 ]
-heard_ended t e x (event.Cancel c) w over = over
-heard_ended t e x (event.Doom key) w over = over
+heard_ended t e x _ w over = over
 
 -- AS LONG AS IT READS
 
@@ -99,8 +94,7 @@ module _ (limits : Limits) (t : Tables) (now : ℕ) (flaw : Flaw) (s : Sound t) 
     piece_refused : (bytes : List ℕ) → h.w.is_open ≡ false → denial t (event.Piece y bytes) ≡ None → ⊥
     unfolding refusals.refusal_of
     piece_refused bytes off going =
-        let got = taken (length bytes) h.w (sym (ap (λ z. piece_refusal (as_open z) (length bytes)) h.row) ∙ going) in
-        false_true (sym off ∙ got.is_open)
+        false_true (sym off ∙ (taken (length bytes) h.w (sym (ap (λ z. piece_refusal (as_open z) (length bytes)) h.row) ∙ going)).is_open)
 
     body_same : (z : Exchange) → h.w.is_open ≡ false → Brings t e y h.w z → z.body ≡ h.w.body
     body_same z off (fills_by.still none is) = is
@@ -108,16 +102,14 @@ module _ (limits : Limits) (t : Tables) (now : ℕ) (flaw : Flaw) (s : Sound t) 
 
     ended_stays : (z : Exchange) → now_on.exchange y ≡ Some z → h.w.is_ended ≡ true → z.is_ended ≡ true
     ended_stays z after over =
-        let made : exchange_acted y e.acts (exchange_heard t e y ev h.w) ≡ z = some_inj _ z (sym (after_is t e y h.w (t.exchange y) h.row) ∙ after) in
-        sym (ap (λ (q : Exchange). q.is_ended) made) ∙ heard_ended t e y ev h.w over
+        sym (ap (λ (q : Exchange). q.is_ended) (some_inj _ z (sym (after_is t e y h.w (t.exchange y) h.row) ∙ after))) ∙ heard_ended t e y ev h.w over
 
     end_by : (q : Option ℕ) (z : Exchange) (n : ℕ) → now_on.exchange y ≡ Some z → base z ≡ base h.w → end_of_direct q h.w ≡ Some n → end_of_direct q z ≡ Some n
     end_by (Some p) z n after first is = ap (λ b. Some (b + p)) first ∙ is
     end_by None z n after first is = elim (bool_cases h.w.is_ended) [
       | inr off ↦ absurd (none_some n (rw off at is))
       | inl over ↦
-          let shut : h.w.is_open ≡ false = a.ended y h.w h.row over in
-          let same : z.body ≡ h.w.body = body_same z shut (brings t e y h.w z h.row after) in
+          let same : z.body ≡ h.w.body = body_same z (a.ended y h.w h.row over) (brings t e y h.w z h.row after) in
           let still : z.is_ended ≡ true = ended_stays z after over in
           let now_end : Some (length h.w.body) ≡ Some n = rw over at is in
           rw still (ap (λ (b : List ℕ). Some (length b)) same ∙ now_end)
@@ -127,31 +119,20 @@ module _ (limits : Limits) (t : Tables) (now : ℕ) (flaw : Flaw) (s : Sound t) 
     hi_direct n is =
         let on = is_on t e y h.w h.row in
         let told = told_same on.u on.same in
-        let before : end_of_direct (promised_bytes h.w) h.w ≡ Some n = sym (ap end_in h.row) ∙ is in
-        let promise : promised_bytes on.u ≡ promised_bytes h.w = ap promise_of told in
-        ap end_in on.row ∙ (ap (λ q. end_of_direct q on.u) promise ∙ end_by (promised_bytes h.w) on.u n on.row (ap base_of told) before)
+        ap end_in on.row ∙ (ap (λ q. end_of_direct q on.u) (ap promise_of told) ∙ end_by (promised_bytes h.w) on.u n on.row (ap base_of told) (sym (ap end_in h.row) ∙ is))
 
   pub lo_stays : (p : Place) → HasHead t p → lo_of now_on p ≡ lo_of t p
-  lo_stays place.Line has = refl
-  lo_stays (place.Passed r kept) has = refl
-  lo_stays (place.Turn x) has = refl
-  lo_stays (place.Bound r lo hi how) has = refl
   lo_stays (place.Direct y) has = lo_direct y (has y refl)
-  lo_stays (place.Down why) has = refl
-  lo_stays place.Over has = refl
+  lo_stays _ has = refl
 
   hi_bound : (r n : ℕ) (hi : Option ℕ) → option_or hi (total_in (t.representation r)) ≡ Some n → option_or hi (total_in (now_on.representation r)) ≡ Some n
   hi_bound r n None is = total_stays r n (t.representation r) refl is
   hi_bound r n (Some m) is = is
 
   pub hi_stays : (p : Place) (n : ℕ) → HasHead t p → hi_of t p ≡ Some n → hi_of now_on p ≡ Some n
-  hi_stays place.Line n has is = is
-  hi_stays (place.Passed r kept) n has is = is
-  hi_stays (place.Turn x) n has is = is
   hi_stays (place.Bound r lo hi how) n has is = hi_bound r n hi is
   hi_stays (place.Direct y) n has is = hi_direct y (has y refl) n is
-  hi_stays (place.Down why) n has is = is
-  hi_stays place.Over n has is = is
+  hi_stays _ n has is = is
 
   -- it goes on reading what it was shown
   pub read_kept : (k u : Consumer) (z : Shown) → u.place ≡ k.place → HasHead t k.place → IsRead t k z → IsRead now_on u z
@@ -201,17 +182,13 @@ module _ (t : Tables) (now c want r lo : ℕ) (why : Why) (head : Response) (hi 
   or_none (Some n) z is = absurd (none_some n (sym is))
 
   read_by : (p : Place) → k.place ≡ p → shows_at t k p ≡ Some show → IsRead t k as_shown
-  read_by place.Line at is = absurd (none_some show is)
-  read_by (place.Passed q kept) at is = absurd (none_some show is)
-  read_by (place.Turn x) at is = absurd (none_some show is)
   read_by (place.Bound q a b how) at is =
       let p = bound_part q a (hi_of t k.place) how is in
       record { number = ap read_of at ∙ ap Some p.number; from = ap (lo_of t) at ∙ p.from; to = λ n known. p.to ∙ known; open_end = λ none q1 a1 b1 how1 at1. or_none b1 _ (sym (ap (hi_of t) at1) ∙ (p.to ∙ none)) }
   read_by (place.Direct y) at is =
       let p = direct_part y (t.exchange y) refl is in
       record { number = ap read_of at ∙ ap Some p.number; from = ap (lo_of t) at ∙ p.from; to = λ n known. ap (hi_of t) at ∙ (p.to ∙ known); open_end = λ none q1 a1 b1 how1 at1. absurd (let no : place.Direct y ≡ place.Bound q1 a1 b1 how1 = sym at ∙ at1 in cc) }
-  read_by (place.Down cause) at is = absurd (none_some show is)
-  read_by place.Over at is = absurd (none_some show is)
+  read_by _ at is = absurd (none_some show is)
 
   shows_some : (y : ℕ) → k.place ≡ place.Direct y → IsHeadedRow t y → shows_at t k k.place ≡ None → ⊥
   shows_some y at h none = by_head h.w.head h.headed (sym (ap (shows_at t k) at ∙ ap (shows_direct t y) h.row) ∙ none)
@@ -223,19 +200,13 @@ module _ (t : Tables) (now c want r lo : ℕ) (why : Why) (head : Response) (hi 
   unplanned : (p : Place) → k.place ≡ p → reads p ≡ true → bound_to k.place ≡ None → ((y : ℕ) → k.place ≡ place.Direct y → IsHeadedRow t y) → shows_at t k k.place ≡ None → ⊥
   unplanned (place.Bound q a b how) at old free headed none = none_some q (sym free ∙ ap bound_to at)
   unplanned (place.Direct y) at old free headed none = shows_some y at (headed y at) none
-  unplanned place.Line at old free headed none = false_true old
-  unplanned (place.Passed q kept) at old free headed none = false_true old
-  unplanned (place.Turn x) at old free headed none = false_true old
-  unplanned (place.Down cause) at old free headed none = false_true old
-  unplanned place.Over at old free headed none = false_true old
+  unplanned _ at old free headed none = false_true old
 
   by_moves : (m : Move) → MoveBy t now want c k m → m ≡ show → k.shown ≡ false → reads k.place ≡ true → ((y : ℕ) → k.place ≡ place.Direct y → IsHeadedRow t y) → IsRead t k as_shown
   by_moves m (by_move.shows _ unshown at) is off old headed = read_by k.place refl (at ∙ ap Some is)
-  by_moves _ (by_move.waits x own bare) is off old headed = absurd (let no : moves.Waits (wait.Head x) ≡ show = is in cc)
-  by_moves _ (by_move.down why_down at) is off old headed = absurd (let no : Fails why_down ≡ show = is in cc)
-  by_moves _ (by_move.over at) is off old headed = absurd (let no : Nothing ≡ show = is in cc)
   by_moves _ (by_move.reads shown heard) is off old headed = absurd (false_true (sym off ∙ shown))
   by_moves _ (by_move.plans unshown free none heard) is off old headed = absurd (unplanned k.place refl old free headed none)
+  by_moves _ _ is off old headed = cc
 
   -- who is shown a head where it reads is shown what it reads
   pub shown_read : Sound t → t.consumer c ≡ Some k → move_of t now want c k ≡ show → k.shown ≡ false → reads k.place ≡ true → ((y : ℕ) → k.place ≡ place.Direct y → IsHeadedRow t y) → IsRead t k as_shown
@@ -253,13 +224,10 @@ module _ (limits : Limits) (t : Tables) (now : ℕ) (flaw : Flaw) (s : Sound t) 
       head_at y at = shown_headed limits t now flaw s o ev goes c y l.want l.r l.lo l.why l.head l.hi k row at off l.move_is
 
       idle_not : (p : Place) → stands.IsIdle p → reads p ≡ true → ⊥
-      idle_not place.Line i on = false_true on
-      idle_not (place.Passed r kept) i on = false_true on
       idle_not (place.Turn x) i on = i
       idle_not (place.Bound r lo hi how) i on = i
       idle_not (place.Direct y) i on = i
-      idle_not (place.Down why) i on = false_true on
-      idle_not place.Over i on = false_true on
+      idle_not _ i on = false_true on
 
       by_lands : Lands k.place u.place l.r l.lo l.hi → IsRead (after_accepted t (entry_of limits t now ev flaw)) u (record { r = l.r; why = l.why; lo = l.lo; hi = l.hi })
       by_lands (stands.back i) = absurd (idle_not u.place i old)

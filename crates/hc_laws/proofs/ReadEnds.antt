@@ -3,7 +3,7 @@ use Rattle.std.{proofs.{Common.{◌≡◌, inl, inr, ℕ, ◌+◌, ◌-◌, ◌<
 use Rattle.hc_text.proofs.Basics.{and_right, bool_cases, not_some as none_some, some_inj}
 use Rattle.hc_range.specs.declared.range.Span.{Span}
 use Rattle.hc_sparse.specs.{Cells.{Cell}, declared.run.Run.{Run}}
-use Rattle.hc_effects.proofs.Vocabulary.{is_denied, Event, Request, Response, Act, Cause, Why, Length, Plan, ReadView, Limits, base_of, promise_of, plan_of, read_step, is_at_end, stored_or, held_or, fails_or, waits_or, opens, BoundBy, Place, accepted_acts, answer_acts, may_begin, total_in, Entry, History, Contents, base, promised_bytes, length_by, Flaw, flaw_in, Shown, shown_of, given_of, OfRuns, Measures, Move, Nothing, Asks, Opens, Shows, Gives, Ends, Fails, acts_of, gives, waits_for, opens_hole, shows_stored, plan_move, plan_view, binds_current, move_of, shows_at, shows_bound, shows_direct, shows_answer, has_joined, reads, lo_of, hi_of, offset, base_in, end_in, end_of_direct, ReadsAct, Says, Holds, IsEnd, body_of, cell_by, direct_cell, answer_cell, end_by, Tables, Exchange, Representation, Consumer, IsRun, IsOwed, Sound, step_move, reading, read_view, later_hole, tables, after_accepted}
+use Rattle.hc_effects.proofs.Vocabulary.{is_denied, Event, Request, Response, Act, Cause, Why, Length, Plan, ReadView, Limits, base_of, promise_of, plan_of, read_step, is_at_end, stored_or, held_or, fails_or, waits_or, opens, BoundBy, Place, accepted_acts, answer_acts, may_begin, total_in, Entry, History, Contents, base, promised_bytes, length_by, Flaw, flaw_in, Shown, shown_of, given_of, OfRuns, Measures, Move, Nothing, Asks, Opens, Ends, Fails, acts_of, gives, waits_for, opens_hole, shows_stored, plan_move, plan_view, binds_current, move_of, shows_at, shows_bound, shows_direct, shows_answer, has_joined, reads, lo_of, hi_of, offset, base_in, end_in, end_of_direct, ReadsAct, Says, Holds, IsEnd, body_of, cell_by, direct_cell, answer_cell, end_by, Tables, Exchange, Representation, Consumer, IsRun, Sound, step_move, reading, read_view, later_hole, tables}
 use Rattle.hc_event.specs.declared.act.Act.TheVariants as act
 use Rattle.hc_event.specs.declared.act.Cause.TheVariants as cause
 use Rattle.hc_event.specs.declared.act.Wait.TheVariants as wait
@@ -15,36 +15,26 @@ use Rattle.hc_model.specs.Exchanges as exchanges
 use Rattle.hc_model.specs.Moves as moves
 use Rattle.hc_model.specs.Reads.{EndsWell}
 use Rattle.hc_model.specs.Reads as spec
-use Rattle.hc_effects.proofs.{ActParts.{IsSaid, said_is}, Basics.{false_true, append_none}, Bounded.{IsBounded, bounded_begun, bounded_denied, bounded_kept}, GivenNext.{read_of}, MoveBy.{MoveBy, move_by}, OfEntries.{of_real}, Owed.{IsDenied, is_denial, acts_are}}
-use Rattle.hc_effects.proofs.ActParts as parts
-use Rattle.hc_laws.proofs.{Barred.{next_tables, denied_tables}, ReadAs.{IsRead}, ReadJoined.{joined_in_runs, is_told, fallback}, ReadNext.{by_said, shown_one}, SoundRuns.{carried}}
+use Rattle.hc_effects.proofs.{ActParts.{silent, misreads, does, IsSaid, said_is}, Basics.{false_true, append_none}, Bounded.{IsBounded, bounded_begun, bounded_denied, bounded_kept}, GivenNext.{read_of}, MoveBy.{MoveBy, move_by}, Owed.{IsDenied, is_denial, acts_are}, ShownStays.{IsFallback}}
+use Rattle.hc_laws.proofs.{ReadAs.{IsRead}, ReadJoined.{joined_in_runs, is_told, fallback}, ReadNext.{by_said, shown_one}, RunFacts.{in_runs_with}, SoundRuns.{carried}}
 use Rattle.hc_effects.proofs.MoveBy as by_move
 use Rattle.hc_effects.proofs.Owed as owed_acts
 use Rattle.hc_laws.proofs.ReadNext as next
 
 -- BOUNDED IN RUNS
 
-by_denial : (limits : Limits) (contents : Contents) (h : History) (e : Entry) (b : Bool) → is_denied e.acts ≡ b → may_begin limits contents ≡ true → IsRun limits contents h → IsOwed limits (tables contents h) e → IsBounded (tables contents h) → IsBounded (tables contents (e ∷ h))
-by_denial limits contents h e true denied may run owed b = subst IsBounded (denied_tables contents h e denied) (bounded_denied (tables contents h) e b)
-by_denial limits contents h e false taken may run owed b =
-    let t = tables contents h in
-    let k = carried limits contents h may run in
-    subst IsBounded (next_tables contents h e taken)
-    (of_real limits t e (λ z. IsBounded (after_accepted t z)) owed taken (λ going real. bounded_kept limits t e.now (flaw_in e.acts) k.is_sound k.is_owned e.event going b (fallback limits contents h may run)))
-
 pub bounded : OfRuns IsBounded
-unfolding tables
-bounded limits contents [] may run = bounded_begun contents
-bounded limits contents (e ∷ h) may run = by_denial limits contents h e (is_denied e.acts) refl may run.0 run.1 (bounded limits contents h may run.0)
+bounded = in_runs_with (λ limits t. IsBounded t) (λ limits t. IsFallback t) fallback
+    (λ limits contents may. bounded_begun contents)
+    (λ limits t e later b. bounded_denied t e b)
+    (λ limits t now flaw ev s a b. bounded_kept limits t now flaw s.before.is_sound s.before.is_owned ev s.going b a)
 
 -- A POLL THAT ENDS
 
 -- what promises nothing begins at the first position
 pub no_base : (l : Length) → promise_of l ≡ None → base_of l ≡ 0
-no_base told.Unknown is = refl
-no_base (told.Promised n) is = refl
 no_base (told.Part first n) is = absurd (none_some n (sym is))
-no_base told.Bad is = refl
+no_base _ is = refl
 
 module _ (t : Tables) (now c want : ℕ) (k : Consumer) where
   nothing_ends : Nothing ≡ Ends → ⊥
@@ -71,13 +61,9 @@ module _ (t : Tables) (now c want : ℕ) (k : Consumer) where
   bound_ends r lo hi by.Plan is = none_some Ends is
 
   at_ends : (p : Place) → shows_at t k p ≡ Some Ends → ⊥
-  at_ends place.Line is = none_some Ends is
-  at_ends (place.Passed r kept) is = none_some Ends is
-  at_ends (place.Turn x) is = none_some Ends is
   at_ends (place.Bound r lo hi how) is = bound_ends r lo _ how is
   at_ends (place.Direct x) is = direct_ends x (t.exchange x) is
-  at_ends (place.Down why) is = none_some Ends is
-  at_ends place.Over is = none_some Ends is
+  at_ends _ is = none_some Ends is
 
   hole_ends : (request : Request) (o : Option Representation) (hole : Span) → opens_hole t request o hole ≡ Ends → ⊥
   hole_ends request None hole is = nothing_ends is
@@ -89,13 +75,9 @@ module _ (t : Tables) (now c want : ℕ) (k : Consumer) where
   binds_ends why (Some span) (Some r) is = stored_ends r why _ span.lo (Some span.hi) (t.representation r) is
 
   plan_ends : (p : Plan) → plan_move t k p ≡ Ends → ⊥
-  plan_ends (plan.Direct need) is = cc
-  plan_ends (plan.Turn d) is = cc
-  plan_ends (plan.Fetch need) is = cc
   plan_ends (plan.Bind why span) is = binds_ends why span _ is
   plan_ends (plan.FirstHole span hole) is = hole_ends k.request _ hole is
-  plan_ends (plan.Busy d kept) is = cc
-  plan_ends plan.Miss is = cc
+  plan_ends _ is = cc
 
   record IsEnding : Type 0 where
     shown : k.shown ≡ true
@@ -103,11 +85,9 @@ module _ (t : Tables) (now c want : ℕ) (k : Consumer) where
 
   ending_by : (m : Move) → MoveBy t now want c k m → m ≡ Ends → IsEnding
   ending_by m (by_move.shows _ unshown at) is = absurd (at_ends k.place (at ∙ ap Some is))
-  ending_by _ (by_move.waits x own bare) is = absurd (let no : moves.Waits (wait.Head x) ≡ Ends = is in cc)
-  ending_by _ (by_move.down why_down at) is = absurd (let no : Fails why_down ≡ Ends = is in cc)
-  ending_by _ (by_move.over at) is = absurd (nothing_ends is)
   ending_by _ (by_move.reads on heard) is = record { shown = on; ends = is }
   ending_by _ (by_move.plans unshown free none heard) is = absurd (plan_ends (plan_of (plan_view t now c k)) is)
+  ending_by _ _ is = cc
 
   -- THE STEP
 
@@ -162,11 +142,7 @@ module _ (t : Tables) (now c want : ℕ) (k : Consumer) where
 module _ (t : Tables) (c : ℕ) (k : Consumer) (s : Sound t) (m : Measures t) (b : IsBounded t) (row : t.consumer c ≡ Some k) (apart : (y : ℕ) → k.place ≡ place.Direct y → t.representation y ≡ None) (z : Shown) (given : List ℕ) (count : k.given ≡ length given) (holds : Holds t z.r z.lo given) (read : IsRead t k z) where
   -- the last byte that it was given is there
   last_there : 0 < k.given → is_some (body_of t z.r (z.lo + (k.given - 1))) ≡ true
-  last_there some =
-      let lt : k.given - 1 < length given = omega arith in
-      let got = holds (k.given - 1) lt in
-      let at : z.lo + (k.given - 1) + 0 ≡ z.lo + (k.given - 1) = omega arith in
-      ap (λ p. is_some (body_of t z.r p)) (sym at) ∙ ap (λ (q : Option Cell). is_some q) (got.1 0 (omega arith))
+  last_there some = ap (λ p. is_some (body_of t z.r p)) (sym (omega arith)) ∙ ap (λ (q : Option Cell). is_some q) ((holds (k.given - 1) (omega arith)).1 0 (omega arith))
 
   below_reach : (r n p : ℕ) (v : Representation) → t.representation r ≡ Some v → v.head.total ≡ Some n → is_some (body_of t r p) ≡ true → p < n
   below_reach r n p v there known some =
@@ -222,8 +198,7 @@ module _ (t : Tables) (c : ℕ) (k : Consumer) (s : Sound t) (m : Measures t) (b
   direct_by y n None at there is = absurd (none_some n is)
   direct_by y n (Some w) at there is =
       let first : lo_of t k.place ≡ base w = ap (lo_of t) at ∙ ap base_in there in
-      let same : z.r ≡ y = some_inj z.r y (sym read.number ∙ ap read_of at) in
-      let few : k.given ≤ length w.body = came_of y w same (sym read.from ∙ first) (apart y at) there in
+      let few : k.given ≤ length w.body = came_of y w (some_inj z.r y (sym read.number ∙ ap read_of at)) (sym read.from ∙ first) (apart y at) there in
       let le : base w + k.given ≤ n = direct_end y n w (promised_bytes w) there refl few is in
       omega arith
 
@@ -234,18 +209,11 @@ module _ (t : Tables) (c : ℕ) (k : Consumer) (s : Sound t) (m : Measures t) (b
       let first : lo_of t k.place ≡ lo = ap (lo_of t) at in
       omega arith
   offset_by (place.Bound r lo None how) n at is =
-      let zero : lo ≡ 0 = b.first c r lo how k row at in
-      let first : lo_of t k.place ≡ lo = ap (lo_of t) at in
-      let start : z.lo ≡ 0 = sym read.from ∙ (first ∙ zero) in
-      let same : z.r ≡ r = some_inj z.r r (sym read.number ∙ ap read_of at) in
-      let le : k.given ≤ n = bound_by r n (t.representation r) same start refl is in
+      let start : z.lo ≡ 0 = sym read.from ∙ (ap (lo_of t) at ∙ b.first c r lo how k row at) in
+      let le : k.given ≤ n = bound_by r n (t.representation r) (some_inj z.r r (sym read.number ∙ ap read_of at)) start refl is in
       omega arith
   offset_by (place.Direct y) n at is = direct_by y n (t.exchange y) at refl is
-  offset_by place.Line n at is = absurd (none_some n is)
-  offset_by (place.Passed r kept) n at is = absurd (none_some n is)
-  offset_by (place.Turn x) n at is = absurd (none_some n is)
-  offset_by (place.Down why) n at is = absurd (none_some n is)
-  offset_by place.Over n at is = absurd (none_some n is)
+  offset_by _ n at is = absurd (none_some n is)
 
   -- THE END
 
@@ -255,18 +223,10 @@ module _ (t : Tables) (c : ℕ) (k : Consumer) (s : Sound t) (m : Measures t) (b
 
   body_end : (p : Place) (n : ℕ) → k.place ≡ p → z.hi ≡ None → hi_of t p ≡ Some n → spec.end_of t z.r ≡ Some n
   body_end (place.Bound r lo hi how) n at none is =
-      let unknown : hi ≡ None = read.open_end none r lo hi how at in
       let same : z.r ≡ r = some_inj z.r r (sym read.number ∙ ap read_of at) in
-      let total : total_in (t.representation r) ≡ Some n = sym (ap (λ q. option_or q (total_in (t.representation r))) unknown) ∙ is in
-      ap (spec.end_of t) same ∙ total_end r n (t.representation r) total
-  body_end (place.Direct y) n at none is =
-      let same : z.r ≡ y = some_inj z.r y (sym read.number ∙ ap read_of at) in
-      ap (spec.end_of t) same ∙ (ap (end_by t y) (apart y at) ∙ is)
-  body_end place.Line n at none is = absurd (none_some n is)
-  body_end (place.Passed r kept) n at none is = absurd (none_some n is)
-  body_end (place.Turn x) n at none is = absurd (none_some n is)
-  body_end (place.Down why) n at none is = absurd (none_some n is)
-  body_end place.Over n at none is = absurd (none_some n is)
+      ap (spec.end_of t) same ∙ total_end r n (t.representation r) (sym (ap (λ q. option_or q (total_in (t.representation r))) (read.open_end none r lo hi how at)) ∙ is)
+  body_end (place.Direct y) n at none is = ap (spec.end_of t) (some_inj z.r y (sym read.number ∙ ap read_of at)) ∙ (ap (end_by t y) (apart y at) ∙ is)
+  body_end _ n at none is = absurd (none_some n is)
 
   end_from : (q : Option ℕ) (n : ℕ) → z.hi ≡ q → hi_of t k.place ≡ Some n → IsEnd t z.r q n
   end_from None n none is = body_end k.place n refl none is
@@ -275,20 +235,13 @@ module _ (t : Tables) (c : ℕ) (k : Consumer) (s : Sound t) (m : Measures t) (b
   is_end : is_at_end (hi_of t k.place) (offset t k) ≡ true → IsEnd t z.r z.hi (z.lo + length given)
   is_end past =
       let known = known_end t 0 c 0 k (hi_of t k.place) (offset t k) past in
-      let least : known.0 ≤ offset t k = known.2 in
       let most : offset t k ≤ known.0 = offset_by k.place known.0 refl known.1 in
-      let first : lo_of t k.place ≡ z.lo = read.from in
-      let here : known.0 ≡ z.lo + length given = omega arith in
-      subst (IsEnd t z.r z.hi) here (end_from z.hi known.0 refl known.1)
+      subst (IsEnd t z.r z.hi) (omega arith) (end_from z.hi known.0 refl known.1)
 
 hi_reads : (t : Tables) (p : Place) (n : ℕ) → hi_of t p ≡ Some n → reads p ≡ true
 hi_reads t (place.Bound r lo hi how) n is = refl
 hi_reads t (place.Direct y) n is = refl
-hi_reads t place.Line n is = absurd (none_some n is)
-hi_reads t (place.Passed r kept) n is = absurd (none_some n is)
-hi_reads t (place.Turn x) n is = absurd (none_some n is)
-hi_reads t (place.Down why) n is = absurd (none_some n is)
-hi_reads t place.Over n is = absurd (none_some n is)
+hi_reads t _ n is = absurd (none_some n is)
 
 -- WHO IS TOLD
 
@@ -305,27 +258,15 @@ module _ (t : Tables) (now c : ℕ) where
   data EndsAs (d : ℕ) : Move → Type 0 where
     ends_it : d ≡ c → EndsAs d Ends
 
-  ended_inj : (d : ℕ) → act.Ended d ≡ it → d ≡ c
-  ended_inj d is = cc
-
   of_move : (d : ℕ) (m : Move) → Says it (acts_of d m) → EndsAs d m
   of_move d Nothing h = absurd h
-  of_move d (moves.Waits w) (inl is) = absurd (let no : act.Pending d w ≡ it = is in cc)
-  of_move d (moves.Waits w) (inr h) = absurd h
-  of_move d (Asks y) (inl is) = absurd (let no : act.Ask y ≡ it = is in cc)
   of_move d (Asks y) (inr (inl is)) = absurd (let no : act.Pending d (wait.Body y) ≡ it = is in cc)
   of_move d (Asks y) (inr (inr h)) = absurd h
-  of_move d (Opens y n request) (inl is) = absurd (let no : act.Opened y d n request ≡ it = is in cc)
   of_move d (Opens y n request) (inr (inl is)) = absurd (let no : act.Pending d (wait.Head y) ≡ it = is in cc)
   of_move d (Opens y n request) (inr (inr h)) = absurd h
-  of_move d (Shows r why head lo hi) (inl is) = absurd (let no : act.Shown d r why head.status head.fields lo hi ≡ it = is in cc)
-  of_move d (Shows r why head lo hi) (inr h) = absurd h
-  of_move d (Gives run) (inl is) = absurd (let no : act.Given d run.x run.at run.bytes ≡ it = is in cc)
-  of_move d (Gives run) (inr h) = absurd h
-  of_move d Ends (inl is) = ends_it (ended_inj d is)
-  of_move d Ends (inr h) = absurd h
-  of_move d (Fails why) (inl is) = absurd (let no : act.Failed d why ≡ it = is in cc)
-  of_move d (Fails why) (inr h) = absurd h
+  of_move d Ends (inl is) = ends_it cc
+  of_move d _ (inl is) = cc
+  of_move d _ (inr h) = absurd h
 
   ender_by : (ev : Event) (d want : ℕ) (k : Consumer) (m : Move) → t.consumer d ≡ Some k → m ≡ move_of t now want d k → EndsAs d m → IsEnder ev
   ender_by ev d want k _ row is (ends_it same) = record {
@@ -336,10 +277,10 @@ module _ (t : Tables) (now c : ℕ) where
   }
 
   ender_of : (ev : Event) (flaw : Flaw) (acts : List Act) → IsSaid t now ev flaw acts → Says it acts → IsEnder ev
-  ender_of ev flaw _ (parts.silent) h = absurd h
-  ender_of ev flaw _ (parts.does d want k m here row is near) h = ender_by ev d want k m row is (of_move d m h)
-  ender_of ev flaw _ (parts.misreads d want q here is) (inl same) = absurd (let no : act.Failed d (cause.StoreRead q) ≡ it = same in cc)
-  ender_of ev flaw _ (parts.misreads d want q here is) (inr h) = absurd h
+  ender_of ev flaw _ (silent) h = absurd h
+  ender_of ev flaw _ (does d want k m here row is near) h = ender_by ev d want k m row is (of_move d m h)
+  ender_of ev flaw _ (misreads d want q here is) (inl same) = absurd (let no : act.Failed d (cause.StoreRead q) ≡ it = same in cc)
+  ender_of ev flaw _ (misreads d want q here is) (inr h) = absurd h
 
   ender : (limits : Limits) (ev : Event) (flaw : Flaw) → Says it (accepted_acts limits t now ev flaw) → IsEnder ev
   ender limits ev flaw h = ender_of ev flaw (answer_acts t now ev flaw) (said_is t now ev flaw) (by_said limits t now ev flaw it (next.ends c) h)

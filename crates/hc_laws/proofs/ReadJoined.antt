@@ -2,11 +2,11 @@
 use Rattle.std.{proofs.{Common.{◌≡◌, inl, inr, ℕ, zero, suc, ◌+◌, ◌-◌, ◌<◌, ◌≤◌, List, [], ◌∷◌, ◌++◌, length, Bool, true, false, Option, Some, None, refl, ap, sym, ◌∙◌, subst, arith, length-append}, Math.{ListN.{get_or-append}, Seq.{get_or-append_right}}, lemmas.Bool.Decides.{nat_tests}}, specs.{Prelude.{IfSome, slice_index, nat_lt, not}, Option.{option_map_or}}}
 use Rattle.hc_text.proofs.Basics.{nil_cons, not_some as none_some, bool_cases, some_inj}
 use Rattle.hc_sparse.specs.declared.run.Run.{Run}
-use Rattle.hc_effects.proofs.Vocabulary.{is_denied, given_in, Event, Limits, Place, may_begin, denial, Entry, History, Contents, Flaw, flaw_in, Shown, shown_in, shown_of, given_of, entry_of, OfRuns, Gives, Owners, move_of, reads, hi_of, lo_of, Delivers, Holds, body_of, Tables, Consumer, IsRun, IsOwed, Sound, tables, after_accepted, after_denied}
+use Rattle.hc_effects.proofs.Vocabulary.{is_denied, given_in, Event, Limits, Place, may_begin, denial, Entry, History, Contents, Flaw, flaw_in, Shown, shown_in, shown_of, given_of, entry_of, OfRuns, Gives, Owners, move_of, reads, hi_of, Delivers, Holds, body_of, Tables, Consumer, IsRun, IsOwed, Sound, tables, after_accepted, after_denied}
 use Rattle.hc_event.specs.declared.event.Event.TheVariants as event
 use Rattle.hc_event.specs.declared.place.Place.TheVariants as place
 use Rattle.hc_model.specs.{Laws.{Grows}, Reads.{BodiesAreRead}}
-use Rattle.hc_laws.proofs.{FallbackKeeps.{landing_by, fallback_begun, fallback_denied, fallback_kept}, Barred.{next_tables, denied_tables}, GrowsInRuns.{grows}, OneHead.{one_head_is_shown}, ReadAs.{IsRead, read_kept, landed_read}, SoundRuns.{IsCarried, carried}}
+use Rattle.hc_laws.proofs.{FallbackKeeps.{landing_by, fallback_begun, fallback_denied, fallback_kept}, Barred.{next_tables, denied_tables}, GrowsInRuns.{grows}, OneHead.{one_head_is_shown}, ReadAs.{IsRead, read_kept, landed_read}, RunFacts.{in_runs}, SoundRuns.{carried}}
 use Rattle.hc_effects.proofs.{Basics.{false_true, append_none}, GivenNext.{read_of, given_next}, Givers.{some_want, gives_of}, MoveBy.{move_by}, OfEntries.{of_real}, Owed.{denied_gives, denied_shows}, PollActs.{ToOne, to_one}, ReadFilters.{consumers_are_filtered}, ShownOnce.{no_first}, ShownStays.{IsFallback, StaysOrIdle, shown_stays}}
 use Rattle.hc_effects.proofs.PollActs as acts_to
 use Rattle.hc_effects.proofs.ShownStays as stands
@@ -16,17 +16,11 @@ one_inj x y is = cc
 
 -- AN ANSWER PAST THE STORE, IN RUNS
 
-fallback_by : (limits : Limits) (contents : Contents) (h : History) (e : Entry) (b : Bool) → is_denied e.acts ≡ b → IsCarried (tables contents h) → IsOwed limits (tables contents h) e → IsFallback (tables contents h) → IsFallback (tables contents (e ∷ h))
-fallback_by limits contents h e true denied c owed a = subst IsFallback (denied_tables contents h e denied) (fallback_denied (tables contents h) e a)
-fallback_by limits contents h e false accepted c owed a =
-    let t = tables contents h in
-    subst IsFallback (next_tables contents h e accepted)
-    (of_real limits t e (λ z. IsFallback (after_accepted t z)) owed accepted (λ going real. fallback_kept limits t e.now (flaw_in e.acts) c.is_sound c.is_owned e.event going real.stand a))
-
 pub fallback : OfRuns IsFallback
-unfolding tables
-fallback limits contents [] may run = fallback_begun contents
-fallback limits contents (e ∷ h) may run = fallback_by limits contents h e (is_denied e.acts) refl (carried limits contents h may run.0) run.1 (fallback limits contents h may run.0)
+fallback = in_runs (λ limits t. IsFallback t)
+    (λ limits contents may. fallback_begun contents)
+    (λ limits t e later a. fallback_denied t e a)
+    (λ limits t now flaw later c a ev going real. fallback_kept limits t now flaw c.is_sound c.is_owned ev going real.stand a)
 
 -- WHAT IS HELD
 
@@ -97,13 +91,10 @@ module _ (limits : Limits) (t : Tables) (now : ℕ) (flaw : Flaw) (s : Sound t) 
     shown_on k u z row after was on reading_on = by_place (shown_stays limits t now flaw s o ev goes a c k row on u after)
       where
         idle_not : (p : Place) → stands.IsIdle p → reads p ≡ true → ⊥
-        idle_not place.Line i old = false_true old
-        idle_not (place.Passed r kept) i old = false_true old
         idle_not (place.Turn x) i old = i
         idle_not (place.Bound r lo hi how) i old = i
         idle_not (place.Direct y) i old = i
-        idle_not (place.Down why) i old = false_true old
-        idle_not place.Over i old = false_true old
+        idle_not _ i old = false_true old
 
         by_place : StaysOrIdle k.place u.place → IsRead now_on u z
         by_place (stands.idle i) = absurd (idle_not u.place i reading_on)
@@ -123,8 +114,7 @@ module _ (limits : Limits) (t : Tables) (now : ℕ) (flaw : Flaw) (s : Sound t) 
         by_shown : shown c ≡ [] → record { r = r; why = why; lo = lo; hi = hi } ≡ z → IsRead now_on u z
         by_shown before same = elim (bool_cases k.shown) [
           | inl already ↦
-              let again : shown_in c e.acts ≡ [] = (Rattle.hc_effects.proofs.ShownOnce.by_event limits t now c flaw ev).again k row already in
-              absurd (nil_cons _ [] (sym again ∙ some))
+              absurd (nil_cons _ [] (sym ((Rattle.hc_effects.proofs.ShownOnce.by_event limits t now c flaw ev).again k row already) ∙ some))
           | inr off ↦
               let l = landing_by limits t now flaw s o ev goes c k u row after (Rattle.hc_effects.proofs.Said.shows_it e.acts (record { c = c; r = r; lo = lo; hi = hi }) showing) (acts_to.shows want q r why head lo hi at there move none some showing) in
               subst (IsRead now_on u) (one_inj _ _ (sym l.told ∙ some) ∙ same) (landed_read limits t now flaw s o ev goes a c k u row off on l)
@@ -141,11 +131,7 @@ module _ (limits : Limits) (t : Tables) (now : ℕ) (flaw : Flaw) (s : Sound t) 
     read_reads : (p : Place) (r : ℕ) → read_of p ≡ Some r → reads p ≡ true
     read_reads (place.Bound q lo hi how) r is = refl
     read_reads (place.Direct y) r is = refl
-    read_reads place.Line r is = absurd (none_some r is)
-    read_reads (place.Passed q kept) r is = absurd (none_some r is)
-    read_reads (place.Turn x) r is = absurd (none_some r is)
-    read_reads (place.Down why) r is = absurd (none_some r is)
-    read_reads place.Over r is = absurd (none_some r is)
+    read_reads _ r is = absurd (none_some r is)
 
     -- what it is given is next in the body that it was shown
     pub record IsNextOf (z : Shown) (run : Run) : Type 0 where
@@ -167,14 +153,11 @@ module _ (limits : Limits) (t : Tables) (now : ℕ) (flaw : Flaw) (s : Sound t) 
         let on = was_shown k z k.shown refl row was in
         let g = given_next t want c k run s (some_want t c want ev goes at) (λ x stood. a.apart.unfounded c x k row stood) (gives_of t now c want k run (move_of t now want c k) (move_by t now want c k s row) move on) in
         let read = joined.read c k z row was (read_reads k.place g.0 g.1.number) in
-        let number : g.0 ≡ z.r = some_inj g.0 z.r (sym g.1.number ∙ read.number) in
-        let first : lo_of t k.place ≡ z.lo = read.from in
         let count : k.given ≡ length (given c) = told.count c k row in
-        let start : run.at ≡ lo_of t k.place + k.given = g.1.at_is in
         record {
           at_is = omega arith;
           some = g.1.some;
-          delivered = subst (λ r. Delivers t r run.at run.x run.bytes) number g.1.delivered;
+          delivered = subst (λ r. Delivers t r run.at run.x run.bytes) (some_inj g.0 z.r (sym g.1.number ∙ read.number)) g.1.delivered;
           within = until z.hi (hi_of t k.place) (run.at + length run.bytes) read.to g.1.within;
         }
 
@@ -183,13 +166,11 @@ module _ (limits : Limits) (t : Tables) (now : ℕ) (flaw : Flaw) (s : Sound t) 
 
     held_by : (z : Shown) → (shown c ++ shown_in c e.acts) ≡ z ∷ [] → ToOne t now c ev e.acts → Holds now_on z.r z.lo (given c ++ given_in c e.acts)
     held_by z is (acts_to.quiet none quiet off) =
-        let was = quiet_shown z quiet is in
         let all : (given c ++ given_in c e.acts) ≡ given c = ap (λ xs. given c ++ xs) none ∙ append_none (given c) in
-        subst (Holds now_on z.r z.lo) (sym all) (holds_grow t now_on z.r z.lo (given c) grown (joined.held c z was))
+        subst (Holds now_on z.r z.lo) (sym all) (holds_grow t now_on z.r z.lo (given c) grown (joined.held c z (quiet_shown z quiet is)))
     held_by z is (acts_to.shows want q r why head lo hi at there move none some showing) =
         let parts = front_none (shown c) (record { r = r; why = why; lo = lo; hi = hi }) z (sym (ap (λ xs. shown c ++ xs) some) ∙ is) in
-        let all : (given c ++ given_in c e.acts) ≡ [] = ap (λ xs. given c ++ xs) none ∙ (append_none (given c) ∙ told.ungiven c parts.0) in
-        subst (Holds now_on z.r z.lo) (sym all) (λ i lt. absurd (let no : i < 0 = lt in omega arith))
+        subst (Holds now_on z.r z.lo) (sym (ap (λ xs. given c ++ xs) none ∙ (append_none (given c) ∙ told.ungiven c parts.0))) (λ i lt. absurd (let no : i < 0 = lt in omega arith))
     held_by z is (acts_to.gives want k run at there move bytes quiet off) =
         let was = quiet_shown z quiet is in
         let next = next_of want k run z at there move was in

@@ -1,11 +1,10 @@
 -- What a consumer is given is next in the body that it was shown, and within its end.
 use Rattle.std.{proofs.Common.{◌≡◌, ◌≢◌, ◌⊎◌, inl, inr, ℕ, ◌+◌, ◌<◌, ◌≤◌, List, [], ◌∷◌, ◌++◌, length, Bool, true, false, Option, Some, refl, ap, sym, ◌∙◌, subst, arith}, specs.{Prelude.{map, not, is_none}, Option.{option_map_or}}}
 use Rattle.hc_sparse.specs.declared.run.Run.{Run}
-use Rattle.hc_effects.proofs.Vocabulary.{is_denied, Event, Act, Why, Limits, accepted_acts, answer_acts, loss_acts, close_acts, may_begin, Entry, History, Contents, Flaw, NoFlaw, Loses, Misreads, flaw_in, Shown, first, shown_of, given_of, Move, Nothing, Asks, Opens, Shows, Gives, Ends, Fails, acts_of, move_of, ReadsAct, Says, Tables, Consumer, IsRun, tables, evicted}
+use Rattle.hc_effects.proofs.Vocabulary.{is_denied, Event, Act, Why, Limits, accepted_acts, answer_acts, loss_acts, close_acts, may_begin, Entry, History, Contents, Flaw, Loses, flaw_in, Shown, first, shown_of, given_of, Move, Nothing, Asks, Opens, Gives, acts_of, move_of, ReadsAct, Says, Tables, Consumer, IsRun, tables, evicted}
 use Rattle.hc_event.specs.declared.event.Event.TheVariants as event
 use Rattle.hc_event.specs.declared.act.Act.TheVariants as act
 use Rattle.hc_event.specs.declared.act.Cause.TheVariants as cause
-use Rattle.hc_model.specs.Moves as moves
 use Rattle.hc_model.specs.Reads.{GivesNext}
 use Rattle.hc_effects.proofs.{ActParts.{IsAnswer, IsSaid, answer_is, said_is}, Basics.{append_none}, Owed.{IsDenied, is_denial, acts_are, goes}, ReadFilters.{consumers_are_filtered}, ShownOnce.{is_giving, unshown_gives}}
 use Rattle.hc_effects.proofs.ActParts as parts
@@ -30,23 +29,19 @@ pub data IsTold : Act → Type 0 where
 
 close_not : (a : Act) (x : ℕ) → IsTold a → act.Close x ≡ a → ⊥
 close_not _ x (gives c y at bytes) is = cc
-close_not _ x (ends c) is = cc
-close_not _ x (shows c r why status fields lo hi) is = cc
+close_not _ x _ is = cc
 
 evict_not : (a : Act) (r : ℕ) → IsTold a → act.Evicted r ≡ a → ⊥
 evict_not _ r (gives c y at bytes) is = cc
-evict_not _ r (ends c) is = cc
-evict_not _ r (shows c q why status fields lo hi) is = cc
+evict_not _ r _ is = cc
 
 lost_not : (a : Act) (flaw : Flaw) → IsTold a → Says a (loss_acts flaw) → ⊥
-lost_not a NoFlaw told h = h
 lost_not _ (Loses r kind) (gives c y at bytes) (inl is) = cc
-lost_not _ (Loses r kind) (ends c) (inl is) = cc
-lost_not _ (Loses r kind) (shows c q why status fields lo hi) (inl is) = cc
+lost_not _ (Loses r kind) _ (inl is) = cc
 lost_not _ (Loses r kind) (shows c q why status fields lo hi) (inr h) = h
 lost_not _ (Loses r kind) (gives c y at bytes) (inr h) = h
 lost_not _ (Loses r kind) (ends c) (inr h) = h
-lost_not a (Misreads r) told h = h
+lost_not a _ told h = h
 
 closes_not : (a : Act) (xs : List ℕ) → IsTold a → Says a (map act.Close xs) → ⊥
 closes_not a [] told h = h
@@ -103,22 +98,13 @@ module _ (t : Tables) (now c x at : ℕ) (bytes : List ℕ) where
 
   of_move : (d : ℕ) (m : Move) → Says it (acts_of d m) → GivesAs d m
   of_move d Nothing h = absurd h
-  of_move d (moves.Waits wait) (inl is) = absurd (let no : act.Pending d wait ≡ it = is in cc)
-  of_move d (moves.Waits wait) (inr h) = absurd h
-  of_move d (Asks y) (inl is) = absurd (let no : act.Ask y ≡ it = is in cc)
   of_move d (Asks y) (inr (inl is)) = absurd (let no : act.Pending d (Rattle.hc_event.specs.declared.act.Wait.TheVariants.Body y) ≡ it = is in cc)
   of_move d (Asks y) (inr (inr h)) = absurd h
-  of_move d (Opens y n request) (inl is) = absurd (let no : act.Opened y d n request ≡ it = is in cc)
   of_move d (Opens y n request) (inr (inl is)) = absurd (let no : act.Pending d (Rattle.hc_event.specs.declared.act.Wait.TheVariants.Head y) ≡ it = is in cc)
   of_move d (Opens y n request) (inr (inr h)) = absurd h
-  of_move d (Shows r why head lo hi) (inl is) = absurd (let no : act.Shown d r why head.status head.fields lo hi ≡ it = is in cc)
-  of_move d (Shows r why head lo hi) (inr h) = absurd h
   of_move d (Gives run) (inl is) = let same = given_inj d run is in subst (λ (z : Run). GivesAs d (Gives z)) (sym same.1) (gives_it same.0)
-  of_move d (Gives run) (inr h) = absurd h
-  of_move d Ends (inl is) = absurd (let no : act.Ended d ≡ it = is in cc)
-  of_move d Ends (inr h) = absurd h
-  of_move d (Fails why) (inl is) = absurd (let no : act.Failed d why ≡ it = is in cc)
-  of_move d (Fails why) (inr h) = absurd h
+  of_move d _ (inl is) = cc
+  of_move d _ (inr h) = absurd h
 
   giver_by : (ev : Event) (d want : ℕ) (k : Consumer) (m : Move) → ev ≡ event.Poll d want → t.consumer d ≡ Some k → m ≡ move_of t now want d k → GivesAs d m → IsGiver ev
   giver_by ev d want k _ here row is (gives_it same) = record {
@@ -166,8 +152,7 @@ module _ (limits : Limits) (contents : Contents) (h : History) (e : Entry) (may 
   by_giver : is_denied e.acts ≡ false → IsGiver t e.now c x at bytes e.event → ReadsAct contents h e.now [] (act.Given c x at bytes)
   by_giver accepted_it g =
       let k = carried limits contents h may run.0 in
-      let on = shown_giver g g.k.shown refl in
-      let one = shown_one limits contents h run.0 c g.k g.row on in
+      let one = shown_one limits contents h run.0 c g.k g.row (shown_giver g g.k.shown refl) in
       let next = next_of limits t e.now (flaw_in e.acts) k.is_sound k.is_owned e.event (goes limits t e run.1 accepted_it) (fallback limits contents h may run.0) (λ d. shown_of d h) (λ d. given_of d h) (is_told limits contents h run.0) (joined_in_runs limits contents h may run.0) c g.want g.k (record { x = x; at = at; bytes = bytes }) one.0 g.is_poll g.row g.move_is one.1 in (
         one.0,
         append_none (shown_of c h) ∙ one.1,

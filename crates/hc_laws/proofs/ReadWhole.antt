@@ -1,6 +1,6 @@
 -- Every run reads whole: each consumer is shown one head at most, for a reason that holds, and reads one interval of the body of that.
 use Rattle.std.{proofs.Common.{◌≡◌, inl, ℕ, List, [], ◌∷◌, ◌++◌, Bool, true, false, Some, refl, ap, sym, ◌∙◌, subst}, specs.Prelude.{map}}
-use Rattle.hc_effects.proofs.Vocabulary.{is_denied, Act, Limits, accepted_acts, answer_acts, loss_acts, close_acts, may_begin, Entry, History, Contents, Flaw, NoFlaw, Loses, Misreads, flaw_in, shown_of, given_of, Move, Nothing, Asks, Opens, Shows, Gives, Ends, Fails, acts_of, move_of, ReadsAct, ReadsActs, Says, Tables, Consumer, IsRun, tables, evicted}
+use Rattle.hc_effects.proofs.Vocabulary.{is_denied, Act, Limits, accepted_acts, answer_acts, loss_acts, close_acts, may_begin, Entry, History, Contents, Flaw, Loses, flaw_in, shown_of, given_of, Move, Nothing, Asks, Opens, Shows, Gives, Ends, Fails, acts_of, move_of, ReadsAct, ReadsActs, Says, Tables, Consumer, IsRun, tables, evicted}
 use Rattle.hc_event.specs.declared.act.Act.TheVariants as act
 use Rattle.hc_event.specs.declared.act.Cause.TheVariants as cause
 use Rattle.hc_event.specs.declared.act.Wait.TheVariants as wait
@@ -32,9 +32,8 @@ evicts_unread [] = tt
 evicts_unread (r ∷ rs) = (tt, evicts_unread rs)
 
 lost_unread : (flaw : Flaw) → AreUnread (loss_acts flaw)
-lost_unread NoFlaw = tt
 lost_unread (Loses r kind) = (tt, tt)
-lost_unread (Misreads r) = tt
+lost_unread _ = tt
 
 both_unread : (xs ys : List Act) → AreUnread xs → AreUnread ys → AreUnread (xs ++ ys)
 both_unread [] ys a b = b
@@ -42,17 +41,10 @@ both_unread (x ∷ xs) ys a b = (a.0, both_unread xs ys a.1 b)
 
 module _ (contents : Contents) (h : History) (now : ℕ) where
   act_unread : (before : List Act) (a : Act) → IsUnread a → ReadsAct contents h now before a
-  act_unread before (act.Opened x c need request) is = tt
-  act_unread before (act.Ask x) is = tt
-  act_unread before (act.Close x) is = tt
   act_unread before (act.Shown c r why status fields lo hi) is = absurd is
   act_unread before (act.Given c x at bytes) is = absurd is
   act_unread before (act.Ended c) is = absurd is
-  act_unread before (act.Failed c why) is = tt
-  act_unread before (act.Pending c wait) is = tt
-  act_unread before (act.Lost r kind) is = tt
-  act_unread before (act.Evicted r) is = tt
-  act_unread before (act.Denied refusal) is = tt
+  act_unread before _ is = tt
 
   acts_unread : (before acts : List Act) → AreUnread acts → ReadsActs contents h now before acts
   acts_unread before [] is = tt
@@ -79,11 +71,9 @@ module _ (limits : Limits) (contents : Contents) (h : History) (e : Entry) (may 
     by_move (Opens x n request) is says = acts_unread contents h e.now [] (act.Opened x c n request ∷ act.Pending c (wait.Head x) ∷ rest) (tt, (tt, quiet))
     by_move (Shows r why head lo hi) is says =
         let told = is_told limits contents h run.0 in
-        let off = unshown_of c want k (Shows r why head lo hi) k.shown refl is refl in
-        let none = told.unshown c k row off in
-        let empty = told.ungiven c none in
+        let none = told.unshown c k row (unshown_of c want k (Shows r why head lo hi) k.shown refl is refl) in
         let reason = reason_holds limits contents h may run.0 e.now c r lo hi why head k row (shown_why t e.now c k r lo hi why head want (runs_are_sound limits contents h may run.0) row is) in
-        ((append_none (shown_of c h) ∙ none, append_none (given_of c h) ∙ empty, reason), acts_unread contents h e.now _ rest quiet)
+        ((append_none (shown_of c h) ∙ none, append_none (given_of c h) ∙ (told.ungiven c none), reason), acts_unread contents h e.now _ rest quiet)
     by_move (Gives given) is says = (gives_next limits contents h e may run c given.x given.at given.bytes (says _ (inl refl)), acts_unread contents h e.now _ rest quiet)
     by_move Ends is says = (ends_well limits contents h e may run c (says _ (inl refl)), acts_unread contents h e.now _ rest quiet)
     by_move (Fails why) is says = acts_unread contents h e.now [] (act.Failed c why ∷ rest) (tt, quiet)

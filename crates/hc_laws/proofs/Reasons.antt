@@ -10,9 +10,8 @@ use Rattle.hc_fresh.specs.{Allowed.{allowed_by, is_validate, is_zero, is_older, 
 use Rattle.hc_record.specs.Head.{Head}
 use Rattle.hc_event.specs.declared.place.Place.TheVariants as place
 use Rattle.hc_model.specs.{Histories.{Opened}, Reads.{IsReason, has_selected, selects_at, aims_at, allowed_on}}
-use Rattle.hc_laws.proofs.{Aimed.{IsAimed, aimed_begun, aimed_denied, aimed_kept}, Barred.{next_tables, denied_tables}, InRuns.{turned_in_runs}, JoinFilters.{exchanges_are_filtered}, PassedFrom.{PassedFrom, passed_from}, SoundRuns.{carried}, WhyShown.{ShownWhy}}
+use Rattle.hc_laws.proofs.{Aimed.{IsAimed, aimed_begun, aimed_denied, aimed_kept}, Barred.{next_tables, denied_tables}, InRuns.{turned_in_runs}, JoinFilters.{exchanges_are_filtered}, PassedFrom.{validates, stood, busies, PassedFrom, passed_from}, RunFacts.{in_runs}, SoundRuns.{carried}, WhyShown.{ShownWhy}}
 use Rattle.hc_effects.proofs.{Basics.{false_true}, Forward.{is_on}, Joining.{mix}, OfEntries.{of_real}, ReadFilters.{consumers_are_filtered}, Said.{waiting_by}}
-use Rattle.hc_laws.proofs.PassedFrom as passed
 use Rattle.hc_laws.proofs.WhyShown as shown_for
 
 -- WHAT FRESHNESS ALLOWS
@@ -44,18 +43,11 @@ by_age head request now why is =
 
 -- AIMS IN RUNS
 
-aimed_by : (limits : Limits) (contents : Contents) (h : History) (e : Entry) (b : Bool) → is_denied e.acts ≡ b → may_begin limits contents ≡ true → IsRun limits contents h → IsOwed limits (tables contents h) e → IsAimed (tables contents h) → IsAimed (tables contents (e ∷ h))
-aimed_by limits contents h e true denied may run owed a = subst IsAimed (denied_tables contents h e denied) (aimed_denied (tables contents h) e a)
-aimed_by limits contents h e false taken may run owed a =
-    let t = tables contents h in
-    let k = carried limits contents h may run in
-    subst IsAimed (next_tables contents h e taken)
-    (of_real limits t e (λ z. IsAimed (after_accepted t z)) owed taken (λ going real. aimed_kept limits t e.now (flaw_in e.acts) k.is_sound k.is_owned e.event going a))
-
 pub aimed : OfRuns IsAimed
-unfolding tables
-aimed limits contents [] may run = aimed_begun contents
-aimed limits contents (e ∷ h) may run = aimed_by limits contents h e (is_denied e.acts) refl may run.0 run.1 (aimed limits contents h may run.0)
+aimed = in_runs (λ limits t. IsAimed t)
+    (λ limits contents may. aimed_begun contents)
+    (λ limits t e later a. aimed_denied t e a)
+    (λ limits t now flaw later c a ev going real. aimed_kept limits t now flaw c.is_sound c.is_owned ev going a)
 
 -- WHO KEEPS A 304
 
@@ -76,38 +68,30 @@ module _ (limits : Limits) (t : Tables) (now : ℕ) (flaw : Flaw) (s : Sound t) 
 
   kept_place : (p : Place) (x : ℕ) → kept_by p ≡ Some x → (r : ℕ) × (p ≡ place.Passed r (Some x))
   kept_place (place.Passed r kept) x is = (r, ap (place.Passed r) is)
-  kept_place place.Line x is = absurd (none_some x is)
-  kept_place (place.Turn y) x is = absurd (none_some x is)
-  kept_place (place.Bound r lo hi how) x is = absurd (none_some x is)
-  kept_place (place.Direct y) x is = absurd (none_some x is)
-  kept_place (place.Down why) x is = absurd (none_some x is)
-  kept_place place.Over x is = absurd (none_some x is)
+  kept_place _ x is = absurd (none_some x is)
 
   -- it kept it where it stands, as what it waits for is current
   stood_busy : (c r x d : ℕ) (k : Consumer) → t.consumer c ≡ Some k → Rattle.hc_model.specs.ActFilters.wait_in c e.acts ≡ Some (wait.Busy d) → Some x ≡ kept_by (consumer_heard t e c ev k).place → current t (consumer_heard t e c ev k).request.key ≡ Some r → k.place ≡ place.Passed r (Some x)
   stood_busy c r x d k row told kept is =
-      let w = waiting_by limits t now flaw s ev goes c (wait.Busy d) told in
-      let heard : consumer_heard t e c ev k ≡ k = ap (λ v. consumer_heard t e c v k) w.poll.at in
+      let heard : consumer_heard t e c ev k ≡ k = ap (λ v. consumer_heard t e c v k) (waiting_by limits t now flaw s ev goes c (wait.Busy d) told).poll.at in
       let had = kept_place k.place x (ap (λ (q : Consumer). kept_by q.place) (sym heard) ∙ sym kept) in
       let waits = turns.passed c had.0 (Some x) k row had.1 in
-      let same : had.0 ≡ r = some_inj had.0 r (sym waits.current_is ∙ (sym (ap (λ (q : Consumer). current t q.request.key) heard) ∙ is)) in
-      had.1 ∙ ap (λ n. place.Passed n (Some x)) same
+      had.1 ∙ ap (λ n. place.Passed n (Some x)) (some_inj had.0 r (sym waits.current_is ∙ (sym (ap (λ (q : Consumer). current t q.request.key) heard) ∙ is)))
 
   chosen_by : (c r x : ℕ) (k : Consumer) (row : t.consumer c ≡ Some k) → is_denied e.acts ≡ false → PassedFrom limits t now flaw s o ev goes c r (Some x) k row → (selects_at t e x r || selected x r) ≡ true
-  chosen_by c r x k row taken (passed.stood at) = or_right (selects_at t e x r) (selected x r) (g.chosen c r x k row at)
-  chosen_by c r x k row taken (passed.validates y response w here there mine is aim kept) =
+  chosen_by c r x k row taken (stood at) = or_right (selects_at t e x r) (selected x r) (g.chosen c r x k row at)
+  chosen_by c r x k row taken (validates y response w here there mine is aim kept) =
       let same : y ≡ x = sym (some_inj x y kept) in
       let number : is_number (exchange_in ev) x ≡ true = ap (λ v. is_number (exchange_in v) x) here ∙ (ap (λ n. nat_eq n x) same ∙ same_number x) in
       let its : aims_at (t.exchange x) r ≡ true = ap (λ n. aims_at (t.exchange n) r) (sym same) ∙ (ap (λ (q : Option Exchange). aims_at q r) there ∙ (ap (λ (q : Option ℕ). is_number q r) aim ∙ same_number r)) in
       or_left (selects_at t e x r) (selected x r) (rw (taken, is, number, its) refl)
-  chosen_by c r x k row taken (passed.busies d told kept is) = or_right (selects_at t e x r) (selected x r) (g.chosen c r x k row (stood_busy c r x d k row told kept is))
+  chosen_by c r x k row taken (busies d told kept is) = or_right (selects_at t e x r) (selected x r) (g.chosen c r x k row (stood_busy c r x d k row told kept is))
 
   asker_by : (c r x : ℕ) (k : Consumer) (row : t.consumer c ≡ Some k) → PassedFrom limits t now flaw s o ev goes c r (Some x) k row → IsFor now_on x c
-  asker_by c r x k row (passed.stood at) = for_on x c (g.asker c r x k row at)
-  asker_by c r x k row (passed.validates y response w here there mine is aim kept) =
-      let same : y ≡ x = sym (some_inj x y kept) in
-      for_on x c (record { w = w; row = sym (ap t.exchange same) ∙ there; for_it = mine })
-  asker_by c r x k row (passed.busies d told kept is) = for_on x c (g.asker c r x k row (stood_busy c r x d k row told kept is))
+  asker_by c r x k row (stood at) = for_on x c (g.asker c r x k row at)
+  asker_by c r x k row (validates y response w here there mine is aim kept) =
+      for_on x c (record { w = w; row = sym (ap t.exchange (sym (some_inj x y kept))) ∙ there; for_it = mine })
+  asker_by c r x k row (busies d told kept is) = for_on x c (g.asker c r x k row (stood_busy c r x d k row told kept is))
 
   keeping_on : is_denied e.acts ≡ false → IsKeeping now_on (λ x r. selects_at t e x r || selected x r)
   keeping_on taken = record {
@@ -152,8 +136,7 @@ module _ (limits : Limits) (contents : Contents) (h : History) (may : may_begin 
 
   joined_is : (x q : ℕ) (w : Exchange) → t.exchange x ≡ Some w → w.joined ≡ Some q → joined_of contents x h ≡ Some q
   joined_is x q w there is =
-      let all = (exchanges_are_filtered limits contents h run).joins x in
-      sym all ∙ (ap (option_and_then (λ (z : Exchange). z.joined)) there ∙ is)
+      sym ((exchanges_are_filtered limits contents h run).joins x) ∙ (ap (option_and_then (λ (z : Exchange). z.joined)) there ∙ is)
 
   request_is : request_of c h ≡ Some k.request
   request_is = sym ((consumers_are_filtered limits contents h run).requests c) ∙ ap (option_map (λ (q : Consumer). q.request)) row
@@ -165,32 +148,24 @@ module _ (limits : Limits) (contents : Contents) (h : History) (may : may_begin 
       ap (λ (z : Option ℕ). is_number z r) (joined_is y n w there is) ∙ (ap (λ m. nat_eq m r) same ∙ same_number r)
 
   allows_by : (v : Representation) (y : Why) → t.representation r ≡ Some v → allowed v.head k.request now ≡ Some y → IsByAge y → IsReason contents h now c r y
-  allows_by v (why_is.Fresh age life) there is by = ap (λ (q : Option Representation). allowed_on q (request_of c h) now) there ∙ (ap (λ (q : Option Request). allowed_on (Some v) q now) request_is ∙ is)
-  allows_by v (why_is.StaleAllowed age life) there is by = ap (λ (q : Option Representation). allowed_on q (request_of c h) now) there ∙ (ap (λ (q : Option Request). allowed_on (Some v) q now) request_is ∙ is)
   allows_by v (why_is.Fetched x) there is by = absurd by
   allows_by v (why_is.Validated x) there is by = absurd by
+  allows_by v _ there is by = ap (λ (q : Option Representation). allowed_on q (request_of c h) now) there ∙ (ap (λ (q : Option Request). allowed_on (Some v) q now) request_is ∙ is)
 
   kept_place_of : (p : Place) (x : ℕ) → kept_by p ≡ Some x → (q : ℕ) × (p ≡ place.Passed q (Some x))
   kept_place_of (place.Passed q kept) x is = (q, ap (place.Passed q) is)
-  kept_place_of place.Line x is = absurd (none_some x is)
-  kept_place_of (place.Turn y) x is = absurd (none_some x is)
-  kept_place_of (place.Bound q a b how) x is = absurd (none_some x is)
-  kept_place_of (place.Direct y) x is = absurd (none_some x is)
-  kept_place_of (place.Down cause) x is = absurd (none_some x is)
-  kept_place_of place.Over x is = absurd (none_some x is)
+  kept_place_of _ x is = absurd (none_some x is)
 
   pub reason_holds : ShownWhy t now c k r lo hi why head → IsReason contents h now c r why
   reason_holds (shown_for.fetched is) = subst (IsReason contents h now c r) (sym is) refl
   reason_holds (shown_for.first a y b at joined is) =
       let f = (carried limits contents h may run).is_owned.first_own c r a y b k row at in
       let aim = (aimed limits contents h may run).first c r a y b k f.w row at f.row in
-      let some : is_some f.w.joined ≡ true = sym (ap has_joined f.row) ∙ joined in
-      subst (IsReason contents h now c r) (sym is) (opening_is y f, or_left _ _ (first_joins y r f.w f.w.joined f.row refl some aim))
+      subst (IsReason contents h now c r) (sym is) (opening_is y f, or_left _ _ (first_joins y r f.w f.w.joined f.row refl (sym (ap has_joined f.row) ∙ joined) aim))
   reason_holds (shown_for.allows v there is) = allows_by v why there is (by_age v.head k.request now why is)
   reason_holds (shown_for.keeps x kept is why_it) =
       let had = kept_place_of k.place x kept in
       let g = keeps limits contents h may run in
       let waits = (turned_in_runs limits contents h may run).turns.passed c had.0 (Some x) k row had.1 in
-      let same : had.0 ≡ r = some_inj had.0 r (sym waits.current_is ∙ is) in
-      let at : k.place ≡ place.Passed r (Some x) = had.1 ∙ ap (λ n. place.Passed n (Some x)) same in
+      let at : k.place ≡ place.Passed r (Some x) = had.1 ∙ ap (λ n. place.Passed n (Some x)) (some_inj had.0 r (sym waits.current_is ∙ is)) in
       subst (IsReason contents h now c r) (sym why_it) (opening_is x (g.asker c r x k row at), or_right _ _ (g.chosen c r x k row at))

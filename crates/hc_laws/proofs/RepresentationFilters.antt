@@ -55,14 +55,10 @@ pieced_row e r x bytes (Some w) v = elim (bool_cases (family x w == r)) [
 ]
 
 heard_row : (t : Tables) (e : Entry) (r : ℕ) (v : Representation) (ev : Event) → t.representation r ≡ Some v → IsHeard (not (v.is_lost || loses_in r e.acts)) (piece_in t r ev) v (representation_heard t e r ev v)
-heard_row t e r v (event.Start c request) row = still _ v v refl refl refl
-heard_row t e r v (event.Poll c want) row = still _ v v refl refl refl
 heard_row t e r v (event.Head x response) row = headed_row t e r x response _ (t.exchange x) v
 heard_row t e r v (event.Piece x bytes) row = rw row (pieced_row e r x bytes (t.exchange x) v)
 heard_row t e r v (event.End x) row = still_if (x == r) _ v (with_total_if_none (length_in (t.exchange x)) v) (still _ v (with_total_if_none (length_in (t.exchange x)) v) refl refl refl)
-heard_row t e r v (event.Fault x) row = still _ v v refl refl refl
-heard_row t e r v (event.Cancel c) row = still _ v v refl refl refl
-heard_row t e r v (event.Doom key) row = still _ v v refl refl refl
+heard_row t e r v _ row = still _ v v refl refl refl
 
 -- WHAT A ROW HAS
 
@@ -89,20 +85,11 @@ module _ (contents : Contents) (r : ℕ) (h : History) (e : Entry) where
   either_same true xs = refl
   either_same false xs = refl
 
-  pieces_denied : is_denied e.acts ≡ true → pieces_of contents r (e ∷ h) ≡ pieces_of contents r h
-  pieces_denied denied = rw denied (append-nil (pieces_of contents r h))
-
-  pieces_accepted : is_denied e.acts ≡ false → pieces_of contents r (e ∷ h) ≡ pieces_of contents r h ++ piece_in t r e.event
-  pieces_accepted accepted = rw accepted refl
-
   stored_denied : is_denied e.acts ≡ true → stored_of contents r (e ∷ h) ≡ stored_of contents r h
   stored_denied denied = rw denied (ap (λ (runs : List Run). stored_of contents r h ++ runs) (either_same (was_lost contents r (e ∷ h)) []) ∙ append-nil (stored_of contents r h))
 
   stored_lost : was_lost contents r (e ∷ h) ≡ true → stored_of contents r (e ∷ h) ≡ stored_of contents r h
   stored_lost lost = rw lost (append-nil (stored_of contents r h))
-
-  stored_kept : was_lost contents r (e ∷ h) ≡ false → is_denied e.acts ≡ false → stored_of contents r (e ∷ h) ≡ stored_of contents r h ++ piece_in t r e.event
-  stored_kept kept accepted = rw (kept, accepted) refl
 
   over_same : (xs ys : List Run) (p : ℕ) → xs ≡ ys → over xs (begun_with contents r) p ≡ over ys (begun_with contents r) p
   over_same xs ys p same = ap (λ (runs : List Run). over runs (begun_with contents r) p) same
@@ -111,11 +98,10 @@ module _ (contents : Contents) (r : ℕ) (h : History) (e : Entry) where
   denied_filtered : (v : Representation) → is_denied e.acts ≡ true → IsFilteredRow contents r h v → IsFilteredRow contents r (e ∷ h) v
   denied_filtered v denied row =
       let quiet = denied_loses r e.acts denied in
-      let same : was_lost contents r (e ∷ h) ≡ was_lost contents r h = rw quiet (none_lost (is_some (t.representation r)) (was_lost contents r h)) in
       record {
-        body = λ p. row.body p ∙ sym (over_same (pieces_of contents r (e ∷ h)) (pieces_of contents r h) p (pieces_denied denied));
+        body = λ p. row.body p ∙ sym (over_same (pieces_of contents r (e ∷ h)) (pieces_of contents r h) p (rw denied (append-nil (pieces_of contents r h))));
         stored = λ p. row.stored p ∙ sym (over_same (stored_of contents r (e ∷ h)) (stored_of contents r h) p (stored_denied denied));
-        lost = row.lost ∙ sym same;
+        lost = row.lost ∙ sym (rw quiet (none_lost (is_some (t.representation r)) (was_lost contents r h)));
       }
 
   -- what is stored after an accepted one, where something is lost at it or before
@@ -126,19 +112,18 @@ module _ (contents : Contents) (r : ℕ) (h : History) (e : Entry) where
   stored_by v false false accepted row is p =
       let added : over (piece_in t r e.event) v.stored p ≡ over (piece_in t r e.event) (over (stored_of contents r h) (begun_with contents r)) p = over_at (piece_in t r e.event) v.stored (over (stored_of contents r h) (begun_with contents r)) p row.stored in
       let joined : over (stored_of contents r h ++ piece_in t r e.event) (begun_with contents r) p ≡ over (piece_in t r e.event) (over (stored_of contents r h) (begun_with contents r)) p = ap (λ (f : Cells). f p) (over_append (stored_of contents r h) (piece_in t r e.event) (begun_with contents r)) in
-      added ∙ (sym joined ∙ sym (over_same (stored_of contents r (e ∷ h)) (stored_of contents r h ++ piece_in t r e.event) p (stored_kept is accepted)))
+      added ∙ (sym joined ∙ sym (over_same (stored_of contents r (e ∷ h)) (stored_of contents r h ++ piece_in t r e.event) p (rw (is, accepted) refl)))
 
   -- an accepted one adds its piece, which is stored where nothing of it was lost
   accepted_filtered : (v u : Representation) → is_denied e.acts ≡ false → t.representation r ≡ Some v → IsFilteredRow contents r h v → IsHeard (not (v.is_lost || loses_in r e.acts)) (piece_in t r e.event) v u → IsFilteredRow contents r (e ∷ h) (representation_acted t e r v u)
   accepted_filtered v u accepted at row heard =
-      let runs = piece_in t r e.event in
       let lost_now : was_lost contents r (e ∷ h) ≡ (loses_in r e.acts || v.is_lost) = rw (at, sym row.lost) refl in
       record {
         body = λ p.
             let here : u.body p ≡ over (piece_in t r e.event) v.body p = ap (λ (f : Cells). f p) heard.body_is in
             let added : over (piece_in t r e.event) v.body p ≡ over (piece_in t r e.event) (over (pieces_of contents r h) (begun_with contents r)) p = over_at (piece_in t r e.event) v.body (over (pieces_of contents r h) (begun_with contents r)) p row.body in
             let joined : over (pieces_of contents r h ++ piece_in t r e.event) (begun_with contents r) p ≡ over (piece_in t r e.event) (over (pieces_of contents r h) (begun_with contents r)) p = ap (λ (f : Cells). f p) (over_append (pieces_of contents r h) (piece_in t r e.event) (begun_with contents r)) in
-            here ∙ (added ∙ (sym joined ∙ sym (over_same (pieces_of contents r (e ∷ h)) (pieces_of contents r h ++ piece_in t r e.event) p (pieces_accepted accepted))));
+            here ∙ (added ∙ (sym joined ∙ sym (over_same (pieces_of contents r (e ∷ h)) (pieces_of contents r h ++ piece_in t r e.event) p (rw accepted refl))));
         stored = λ p. ap (λ (f : Cells). f p) heard.stored_is ∙ stored_by v (loses_in r e.acts) v.is_lost accepted row lost_now p;
         lost = ap (λ b. loses_in r e.acts || b) heard.lost_is ∙ sym lost_now;
       }
@@ -153,14 +138,8 @@ module _ (contents : Contents) (r : ℕ) (h : History) (e : Entry) where
       no_row x bytes (Some w) = refl
 
       by_event : (ev : Event) → piece_in t r ev ≡ []
-      by_event (event.Start c request) = refl
-      by_event (event.Poll c want) = refl
-      by_event (event.Head x response) = refl
       by_event (event.Piece x bytes) = rw none (no_row x bytes (t.exchange x))
-      by_event (event.End x) = refl
-      by_event (event.Fault x) = refl
-      by_event (event.Cancel c) = refl
-      by_event (event.Doom key) = refl
+      by_event _ = refl
 
   if_same : (b : Bool) (xs : List Run) → xs ≡ [] → (if b then [] else xs) ≡ []
   if_same true xs none = refl
@@ -192,19 +171,13 @@ IsEmpty None = Unit {0}
 IsEmpty (Some v) = (v.body ≡ nothing) × (v.stored ≡ nothing) × (v.is_lost ≡ false)
 
 founded_empty : (t : Tables) (e : Entry) (r : ℕ) (ev : Event) → IsEmpty (founded_at t e r ev)
-founded_empty t e r (event.Start c request) = tt
-founded_empty t e r (event.Poll c want) = tt
 founded_empty t e r (event.Head x response) = by_test _ (t.exchange x)
   where
     by_test : (b : Bool) (o : Option Exchange) → IsEmpty (if b then option_map (new_representation r e response) o else None)
     by_test false o = tt
     by_test true None = tt
     by_test true (Some w) = (refl, refl, refl)
-founded_empty t e r (event.Piece x bytes) = tt
-founded_empty t e r (event.End x) = tt
-founded_empty t e r (event.Fault x) = tt
-founded_empty t e r (event.Cancel c) = tt
-founded_empty t e r (event.Doom key) = tt
+founded_empty t e r _ = tt
 
 -- AFTER AN ENTRY
 

@@ -3,7 +3,7 @@ use Rattle.std.{proofs.{Common.{◌≡◌, ◌⊎◌, inl, inr, ℕ, ◌+◌, �
 use Rattle.hc_text.proofs.Basics.{bool_cases, not_some as none_some, same_some as same_row, some_inj}
 use Rattle.hc_range.specs.declared.range.ContentRange.TheVariants as range
 use Rattle.hc_text.specs.declared.names.MethodName.{MethodName}
-use Rattle.hc_effects.proofs.Vocabulary.{Opening, opening_in, Need, Event, Request, Response, HeadCase, Limits, length_of, promise_of, is_bad, is_head, part_length, agrees, content_length_of, route_of, content_range_of, is_disabled, is_get, BoundBy, loses_in, case_at, is_joining, is_refused, consumer_heard, consumer_acted, by_opening, waiting, becomes_shared, denial, doomed_by_case, Entry, promise_in, is_open, family, becomes_due, Flaw, entry_of, Measures, Owners, is_written, own_open, reads, Tables, Exchange, Representation, Consumer, Sound, IsBound, IsFirst, IsExclusiveWriter, IsHad, after_accepted, came_alone, status_in}
+use Rattle.hc_effects.proofs.Vocabulary.{Opening, opening_in, Need, Event, Request, Response, HeadCase, Limits, length_of, promise_of, is_bad, is_head, agrees, content_length_of, route_of, content_range_of, is_disabled, is_get, BoundBy, loses_in, case_at, is_joining, is_refused, consumer_heard, consumer_acted, by_opening, waiting, becomes_shared, denial, doomed_by_case, Entry, promise_in, is_open, family, becomes_due, Flaw, entry_of, Measures, Owners, is_written, own_open, reads, Tables, Exchange, Representation, Consumer, Sound, IsBound, IsFirst, IsExclusiveWriter, IsHad, after_accepted, came_alone, status_in}
 use Rattle.hc_event.specs.declared.event.Event.TheVariants as event
 use Rattle.hc_fields.specs.FieldElements.{elements_in}
 use Rattle.hc_rules.specs.declared.heads.HeadCase.TheVariants as case
@@ -12,11 +12,9 @@ use Rattle.hc_rules.specs.declared.need.Route.TheVariants as route
 use Rattle.hc_event.specs.declared.place.Place.TheVariants as place
 use Rattle.hc_event.specs.declared.place.BoundBy.TheVariants as by
 use Rattle.hc_model.specs.Sound as sound
-use Rattle.hc_effects.proofs.{AboutKeeps.{own_open_of}, ApartKeeps.{written_by}, Basics.{false_true, true_false, or_false, some_none}, Beside.{IsBeside}, BoundFrom.{BoundFrom, IsRow, IsFounded, bound_from}, Dues.{due_before}, ExchangeFrom.{IsHeaded}, FirstKeeps.{case_of_head, whole_200, replaced_200, is_new, came_kept, one_first_kept, founded_came}, HeadKeeps.{IsJoin}, LossBy.{IsReal}, Losses.{HasRest}, PartTold.{part_order}, ExclusiveWriters.{writer_some}, PieceKeeps.{eq_cases}, RepFrom.{RepFrom, rep_from, IsKept, IsResumed}, ServedKeeps.{rest_by, still_rests, resumed_not, none_promised}, Waiters.{waiter_of}, WriterEnds.{all_stored}}
+use Rattle.hc_effects.proofs.{Forward.{IsOn}, AboutKeeps.{own_open_of}, ApartKeeps.{written_by}, Basics.{false_true, true_false, or_false, some_none}, Beside.{IsBeside}, BoundFrom.{BoundFrom, IsRow, IsFounded, bound_from}, Dues.{due_before}, ExchangeFrom.{IsHeaded}, FirstKeeps.{case_of_head, whole_200, replaced_200, is_new, came_kept, one_first_kept, founded_came}, HeadKeeps.{IsJoin}, LossBy.{IsReal}, Losses.{HasRest}, PartTold.{part_order}, ExclusiveWriters.{writer_some}, PieceKeeps.{eq_cases}, RepFrom.{was, founded, RepFrom, rep_from, IsKept, IsResumed}, ServedKeeps.{rest_by, still_rests, resumed_not, none_promised}, Waiters.{waiter_of}, WriterEnds.{all_stored}}
 use Rattle.hc_effects.proofs.BoundFrom as from
-use Rattle.hc_effects.proofs.Forward as forward
 use Rattle.hc_laws.proofs.{HadHeaded.{had_kept}, OwnNone.{IsShared, own_none, after_none}}
-use Rattle.hc_effects.proofs.RepFrom as rep
 use Rattle.hc_laws.proofs.TogetherHeads as together
 
 -- WHO READS GETS A BODY
@@ -37,9 +35,7 @@ promises_some n request response first last total way plain status part good non
     let b : nat_eq response.status 304 ≡ false = (let st : response.status ≡ 206 = status in grind (arith, nat_tests)) in
     let d : nat_eq response.status 206 ≡ true = (let st : response.status ≡ 206 = status in grind (arith, nat_tests)) in
     let said = content_length_of (elements_in (codes "content-length") response.fields) in
-    let g : is_bad (part_length said (Some (range.Part first last (Some total)))) ≡ false = rw (plain, a, b, way, d, part) at good in
-    let p : promise_of (part_length said (Some (range.Part first last (Some total)))) ≡ Some 0 = rw (plain, a, b, way, d, part) at none in
-    by_test (agrees said (last + 1 - first)) g p
+    by_test (agrees said (last + 1 - first)) (rw (plain, a, b, way, d, part) at good) (rw (plain, a, b, way, d, part) at none)
   where
     by_test : (b : Bool) → is_bad (if b then lengths.Part first (last + 1 - first) else lengths.Bad) ≡ false → promise_of (if b then lengths.Part first (last + 1 - first) else lengths.Bad) ≡ Some 0 → ⊥
     by_test true g p = let order = part_order response.fields first last total part in let is_sorted : first ≤ last = order.is_sorted in let zero_is : last + 1 - first ≡ 0 = some_inj (last + 1 - first) 0 p in absurd (omega arith)
@@ -48,23 +44,7 @@ promises_some n request response first last total way plain status part good non
 joining_plain : (g : Option HeadCase) (w : Exchange) (response : Response) → is_joining g ≡ true → (is_refused g ≡ false) × (doomed_by_case g w response ≡ None)
 joining_plain (Some case.FirstJoins) w response h = (refl, refl)
 joining_plain (Some case.LaterJoins) w response h = (refl, refl)
-joining_plain None w response h = absurd (false_true h)
-joining_plain (Some case.DirectBad) w response h = absurd (false_true h)
-joining_plain (Some case.DirectTaken) w response h = absurd (false_true h)
-joining_plain (Some case.TurnBad) w response h = absurd (false_true h)
-joining_plain (Some case.Validated) w response h = absurd (false_true h)
-joining_plain (Some case.NotValidated) w response h = absurd (false_true h)
-joining_plain (Some case.TurnServerError) w response h = absurd (false_true h)
-joining_plain (Some case.FoundsWhole) w response h = absurd (false_true h)
-joining_plain (Some case.FoundsRange) w response h = absurd (false_true h)
-joining_plain (Some case.PassesBy) w response h = absurd (false_true h)
-joining_plain (Some case.FirstBad) w response h = absurd (false_true h)
-joining_plain (Some case.FirstServerError) w response h = absurd (false_true h)
-joining_plain (Some case.FirstChanged) w response h = absurd (false_true h)
-joining_plain (Some case.FirstReplaced) w response h = absurd (false_true h)
-joining_plain (Some case.FirstPassesBy) w response h = absurd (false_true h)
-joining_plain (Some case.LaterBad) w response h = absurd (false_true h)
-joining_plain (Some case.LaterChanged) w response h = absurd (false_true h)
+joining_plain _ w response h = absurd (false_true h)
 
 module _ (limits : Limits) (t : Tables) (now : ℕ) (flaw : Flaw) (s : Sound t) (o : Owners t) (m : Measures t) (i : IsBeside t) (ev : Event) (goes : denial t ev ≡ None) (real : IsReal limits t now ev flaw) where
   abbrev e : Entry
@@ -138,7 +118,7 @@ module _ (limits : Limits) (t : Tables) (now : ℕ) (flaw : Flaw) (s : Sound t) 
             promises_some sh.w.need sh.w.request got.response joined.fills.from joined.fills.last joined.fills.total way.0 unheaded joined.fills.status joined.fills.part joined.good (ap (λ a. promise_of (length_of sh.w.need sh.w.request a)) answer ∙ none_is)
       ]
         where
-          g : forward.IsOn t e sh.x sh.w
+          g : IsOn t e sh.x sh.w
           g = together.on limits t now flaw s o ev goes r c lo hi how k u row at stands none sh
 
           got : IsHeaded t e sh.x sh.w g.u
@@ -153,11 +133,11 @@ module _ (limits : Limits) (t : Tables) (now : ℕ) (flaw : Flaw) (s : Sound t) 
           way : (route_of sh.w.need ≡ route.Hole) × (sh.w.aim ≡ Some r)
           way = together.way limits t now flaw s o ev goes r c lo hi how k u row at stands none sh
 
-          head_inj : (a d : ℕ) (f h : Response) → event.Head a f ≡ event.Head d h → f ≡ h
-          head_inj a d f h is = cc
-
           answer : got.response ≡ sh.response
-          answer = head_inj sh.x sh.x got.response sh.response (sym got.at ∙ sh.at)
+          answer = same_head sh.x sh.x got.response sh.response (sym got.at ∙ sh.at)
+            where
+              same_head : (a d : ℕ) (f h : Response) → event.Head a f ≡ event.Head d h → f ≡ h
+              same_head a d f h is = cc
 
           fam : family sh.x g.u ≡ r
           fam =
@@ -169,8 +149,7 @@ module _ (limits : Limits) (t : Tables) (now : ℕ) (flaw : Flaw) (s : Sound t) 
               let opener = o.opener sh.x sh.w sh.row in
               let one : opener.k ≡ k = same_row (t.consumer c) opener.k k (sym (ap t.consumer sh.mine) ∙ opener.row) row.row in
               let cached : is_disabled k.request ≡ false = i.cached c k row.row (ap Rattle.hc_effects.proofs.Beside.is_cached_place at) in
-              let method_is : sh.w.request.method ≡ k.request.method = opener.method_is ∙ ap (λ (q : Consumer). q.request.method) one in
-              ap (λ (a : MethodName). bytes_eq a (codes "HEAD")) method_is ∙ not_head k.request (get_of k.request cached)
+              ap (λ (a : MethodName). bytes_eq a (codes "HEAD")) (opener.method_is ∙ ap (λ (q : Consumer). q.request.method) one) ∙ not_head k.request (get_of k.request cached)
 
       was_bound : Rested
       was_bound = by_own (own_none t e c k u row.is unowned)
@@ -206,8 +185,7 @@ module _ (limits : Limits) (t : Tables) (now : ℕ) (flaw : Flaw) (s : Sound t) 
         by_own : (k.own ≡ None) ⊎ IsShared t e c → ⊥
         by_own (inl none_own) =
             let all = waiter_of limits t now flaw s o ev goes x w exchange_row new.is_open new.bare in
-            let one : all.0 ≡ k = same_row (t.consumer c) all.0 k (sym (ap t.consumer mine) ∙ all.1.row) row.row in
-            none_some x (sym none_own ∙ (ap (λ (q : Consumer). q.own) (sym one) ∙ all.1.own))
+            none_some x (sym none_own ∙ (ap (λ (q : Consumer). q.own) (sym (same_row (t.consumer c) all.0 k (sym (ap t.consumer mine) ∙ all.1.row) row.row)) ∙ all.1.own))
         by_own (inr sh) =
             let same = head_same sh.x x sh.response response (sym sh.at ∙ here) in
             let one : sh.w ≡ w = same_row (t.exchange x) sh.w w (sym (ap t.exchange same.0) ∙ sh.row) exchange_row in
@@ -228,8 +206,8 @@ module _ (limits : Limits) (t : Tables) (now : ℕ) (flaw : Flaw) (s : Sound t) 
         eq_true a b is = elim (eq_cases a b) [ inl here ↦ here.0 | inr other ↦ absurd (other.1 is) ]
 
     by_way : BoundFrom t e c r lo hi how u → RepFrom t e r p → Rested
-    by_way (from.stays k row at) (rep.was v kept) = was_bound k v row at kept.row kept
-    by_way (from.stays k row at) (rep.founded response w none_there here exchange_row on made) = absurd (let there = s.numbered.bound_to r c k (sound.is_bound lo hi how row.row at) in false_true (sym (ap is_some none_there) ∙ there))
+    by_way (from.stays k row at) (was v kept) = was_bound k v row at kept.row kept
+    by_way (from.stays k row at) (founded response w none_there here exchange_row on made) = absurd (let there = s.numbered.bound_to r c k (sound.is_bound lo hi how row.row at) in false_true (sym (ap is_some none_there) ∙ there))
     by_way (from.founds k x response w row here exchange_row mine of_r by_is all) from_rep = absurd (founded_not k x response w row here exchange_row mine of_r by_is all)
     by_way (from.opens k q row opens mine free way hole) from_rep = absurd (opens_not k q row opens mine)
     by_way (from.shows k z row is all) from_rep = absurd (false_true (subst (λ w. came_alone now_on (place.Bound r lo hi w) ≡ true) all.by_is came))

@@ -1,6 +1,6 @@
 -- What is stored as runs: as many bytes as positions, up to the last one, ascending, each of a number that delivered.
 use Rattle.std.{proofs.{Common.{◌≡◌, inl, inr, ℕ, zero, suc, ◌+◌, ◌<◌, ◌≤◌, List, [], ◌∷◌, length, Bool, true, false, cond, Option, Some, None, refl, ap, sym, ◌∙◌, arith, max}, lemmas.{Bool.Decides.{nat_tests}, List.Sums.{sum_by-cons}}}, specs.{Prelude.{is_some, nat_eq, nat_le, nat_lt, ◌==◌, ◌&&◌, ◌||◌, not, if◌then◌else◌}, List.{list_any, list_all}}}
-use Rattle.hc_text.proofs.Basics.{and_left, and_right, bool_cases, or_right}
+use Rattle.hc_text.proofs.Basics.{bool_cases, or_right}
 use Rattle.hc_sparse.specs.{Cells.{Cells, Cell, size_below}, Runs.{end_of}, declared.run.Run.{Run}}
 use Rattle.hc_effects.proofs.Vocabulary.{ascend_from, run_from, with_cell, with_place, runs_from, last_end, bytes_in}
 use Rattle.hc_effects.proofs.Basics.{false_true}
@@ -15,10 +15,7 @@ record GoesOn (p : ℕ) (cell : Cell) (run : Run) : Type 0 where
   from : run.x ≡ cell.x
 
 on_is : (p : ℕ) (cell : Cell) (run : Run) → goes_on p cell run ≡ true → GoesOn p cell run
-on_is p cell run h =
-    let a : nat_eq run.at (p + 1) ≡ true = and_left (run.at == p + 1) (run.x == cell.x) h in
-    let b : nat_eq run.x cell.x ≡ true = and_right (run.at == p + 1) (run.x == cell.x) h in
-    record { at = grind (arith, nat_tests); from = grind (arith, nat_tests) }
+on_is p cell run h = record { at = grind (arith, nat_tests); from = grind (arith, nat_tests) }
 
 -- HOW MANY BYTES
 
@@ -39,11 +36,7 @@ next_below f p = let same : p + 1 ≡ suc p = omega arith in rw same refl
 
 pub bytes_from : (f : Cells) (p n : ℕ) → size_below f (p + n) ≡ size_below f p + bytes_in (runs_from f p n)
 bytes_from f p zero = let same : p + zero ≡ p = omega arith in rw same (omega arith)
-bytes_from f p (suc n) =
-    let same : p + suc n ≡ (p + 1) + n = omega arith in
-    let rest : size_below f ((p + 1) + n) ≡ size_below f (p + 1) + bytes_in (runs_from f (p + 1) n) = bytes_from f (p + 1) n in
-    let next = next_below f p in
-    ap (size_below f) same ∙ (rest ∙ by_cell (f p) next)
+bytes_from f p (suc n) = ap (size_below f) (omega arith) ∙ (bytes_from f (p + 1) n ∙ by_cell (f p) (next_below f p))
   where
     by_cell : (z : Option Cell) → size_below f (p + 1) ≡ cond (is_some z) 1 0 + size_below f p → size_below f (p + 1) + bytes_in (runs_from f (p + 1) n) ≡ size_below f p + bytes_in (with_place p z (runs_from f (p + 1) n))
     by_cell None next = omega (arith, next)
@@ -82,9 +75,7 @@ end_past f p (suc n) q low high there = by_cell (f p) refl (λ later. end_past f
     by_cell : (z : Option Cell) → f p ≡ z → (p + 1 ≤ q → q < last_end (runs_from f (p + 1) n)) → q < last_end (with_place p z (runs_from f (p + 1) n))
     by_cell None is again = elim (bool_cases (nat_le (p + 1) q)) [
       | inl later ↦ again (grind (arith, nat_tests))
-      | inr first ↦
-          let same : q ≡ p = (let near : q < p + 1 = grind (arith, nat_tests) in omega arith) in
-          absurd (false_true (sym (ap is_some (ap f same ∙ is)) ∙ there))
+      | inr first ↦ absurd (false_true (sym (ap is_some (ap f (let near : q < p + 1 = grind (arith, nat_tests) in omega arith) ∙ is)) ∙ there))
     ]
     by_cell (Some cell) is again = elim (bool_cases (nat_le (p + 1) q)) [
       | inl later ↦
@@ -151,9 +142,7 @@ with_of : (x p : ℕ) (cell : Cell) (runs : List Run) → list_any (is_of x) (wi
 with_of x p cell [] h = h
 with_of x p cell (run ∷ runs) h = elim (bool_cases (goes_on p cell run)) [
   | inr off ↦ rw off at h
-  | inl on ↦
-      let from : run.x ≡ cell.x = (on_is p cell run on).from in
-      by_or (cell.x == x) (run.x == x) (list_any (is_of x) runs) (rw on at h)
+  | inl on ↦ by_or (cell.x == x) (run.x == x) (list_any (is_of x) runs) (rw on at h)
 ]
   where
     by_or : (a b c : Bool) → (a || c) ≡ true → (a || (b || c)) ≡ true
@@ -187,8 +176,6 @@ ascends f n positive = by_laid (runs_from f 0 n) (laid_from f 0 n) (λ x any. po
     by_laid : (runs : List Run) → Laid 0 runs → ((x : ℕ) → list_any (is_of x) runs ≡ true → 0 < x) → ascend_from 0 0 runs ≡ true
     by_laid _ none h = refl
     by_laid _ (some run runs low bytes rest) h =
-        let self : nat_eq run.x run.x ≡ true = grind (arith, nat_tests) in
-        let over : 0 < run.x = h run.x (rw self refl) in
         let low_test : nat_le 0 run.at ≡ true = grind (arith, nat_tests) in
         let bytes_test : nat_lt 0 (length run.bytes) ≡ true = grind (arith, nat_tests) in
         let other : nat_eq run.x 0 ≡ false = grind (arith, nat_tests) in

@@ -27,13 +27,7 @@ module _ (P : Request → Type 0) (Q : Event → Type 0) (R : History → Type 0
 
   of_heard : (c : ℕ) (ev : Event) → Q ev → Each (request_in c ev)
   of_heard c (event.Start d request) holds = of_one (d == c) request (of_start d request holds)
-  of_heard c (event.Poll d want) holds = tt
-  of_heard c (event.Head x response) holds = tt
-  of_heard c (event.Piece x bytes) holds = tt
-  of_heard c (event.End x) holds = tt
-  of_heard c (event.Fault x) holds = tt
-  of_heard c (event.Cancel d) holds = tt
-  of_heard c (event.Doom key) holds = tt
+  of_heard c _ holds = tt
 
   of_accepted : (b : Bool) (xs : List Request) → Each xs → Each (if b then [] else xs)
   of_accepted true xs holds = tt
@@ -66,14 +60,8 @@ requests_are_for_targets contents h starts =
 -- HEADS
 
 head_within_limits : (ev : Event) → HasFieldsWithinLimits ev → IsHeadWithinLimits ev
-head_within_limits (event.Start c request) within_limits = tt
-head_within_limits (event.Poll c want) within_limits = tt
 head_within_limits (event.Head x response) within_limits = grind (arith, nat_tests, within_limits.few, within_limits.small)
-head_within_limits (event.Piece x bytes) within_limits = tt
-head_within_limits (event.End x) within_limits = tt
-head_within_limits (event.Fault x) within_limits = tt
-head_within_limits (event.Cancel c) within_limits = tt
-head_within_limits (event.Doom key) within_limits = tt
+head_within_limits _ within_limits = tt
 
 pub heads_come_within_limits : HeadsComeWithinLimits
 heads_come_within_limits [] within_limits = tt

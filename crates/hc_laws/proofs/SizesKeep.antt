@@ -1,12 +1,11 @@
 -- How much is stored stays the count of positions, and no more than an entry may have.
 use Rattle.std.{proofs.{Common.{◌≡◌, inl, inr, ℕ, ◌+◌, ◌≤◌, List, [], ◌∷◌, length, Bool, true, false, Option, Some, None, refl, ap, sym, ◌∙◌, subst, arith, max}, lemmas.Bool.Decides.{nat_tests}}, specs.Prelude.{◌||◌, ◌==◌, not, nat_le, find, if◌then◌else◌, option_map}}
 use Rattle.hc_text.proofs.Basics.{and_left, and_right, eq_tells as eq_is, not_some as none_some, some_inj}
-use Rattle.hc_effects.proofs.Vocabulary.{Event, Response, Limits, loses_in, may_begin, are_good, is_good, denial, Entry, Content, Contents, front, family, Flaw, entry_of, OfRunsIn, representation_heard, representation_after_head, with_renewed_head, updates, representation_after_piece, with_stored_bytes, with_total_if_none, length_in, Tables, Exchange, Representation, Sizes, Sound, IsStored, first_tables, representation_of_content, bytes_in, after_accepted, after_denied}
+use Rattle.hc_effects.proofs.Vocabulary.{Event, Response, Limits, loses_in, may_begin, are_good, denial, Entry, Content, Contents, front, family, Flaw, entry_of, OfRunsIn, representation_heard, representation_after_head, with_renewed_head, updates, representation_after_piece, with_stored_bytes, with_total_if_none, length_in, Tables, Exchange, Representation, Sizes, Sound, IsStored, first_tables, representation_of_content, bytes_in, after_accepted, after_denied}
 use Rattle.hc_event.specs.declared.event.Event.TheVariants as event
 use Rattle.hc_sparse.specs.Cells.{AreAbsent, nothing, size_below}
-use Rattle.hc_effects.proofs.{Basics.{false_true}, LossBy.{IsReal}, Once.{delivers_once}, PieceKeeps.{eq_cases}, RepFrom.{RepFrom, rep_from}, Weighed.{sized}, GivenNext.{stored_ends}}
+use Rattle.hc_effects.proofs.{Basics.{false_true}, LossBy.{IsReal}, Once.{delivers_once}, PieceKeeps.{eq_cases}, RepFrom.{was, founded, RepFrom, rep_from}, Weighed.{sized}, GivenNext.{stored_ends}}
 use Rattle.hc_laws.proofs.{FitsKept.{Fits, stored_small}, FitsRuns.{fits_begin, fits_denied, fits_kept}, MeasuresBegin.{ascending_item}, Positions.{below_none, below_past, below_put, bytes_below}, RunFacts.{in_runs}, SoundRuns.{IsCarried}}
-use Rattle.hc_effects.proofs.RepFrom as rep
 
 -- THE COUNT
 
@@ -48,8 +47,8 @@ module _ (t : Tables) (e : Entry) (s : Sound t) (goes : denial t e.event ≡ Non
   heard_counts r _ v at there old = old
 
   after_counts : (r : ℕ) (u : Representation) → ((v : Representation) → t.representation r ≡ Some v → Counts v) → RepFrom t e r u → Counts u
-  after_counts r u old (rep.was v kept) = subst Counts kept.is (heard_counts r e.event v refl kept.row (old v kept.row))
-  after_counts r u old (rep.founded response w none at row on is) = subst Counts is (sym (below_none nothing 0 (λ p le. refl)))
+  after_counts r u old (was v kept) = subst Counts kept.is (heard_counts r e.event v refl kept.row (old v kept.row))
+  after_counts r u old (founded response w none at row on is) = subst Counts is (sym (below_none nothing 0 (λ p le. refl)))
 
 -- SIZES
 
@@ -62,14 +61,13 @@ module _ (limits : Limits) (t : Tables) (now : ℕ) (flaw : Flaw) (c : IsCarried
   e = entry_of limits t now ev flaw
 
   small_by : (r : ℕ) (u : Representation) → RepFrom t e r u → u.size ≤ limits.max_entry
-  small_by r u (rep.was v kept) = elim (sized t e r v u kept) [
+  small_by r u (was v kept) = elim (sized t e r v u kept) [
     | inl same ↦ let old : v.size ≤ limits.max_entry = g.sizes.small r v kept.row in let is : u.size ≡ v.size = same in omega arith
     | inr with_stored_bytes ↦
-        let is : u.size ≡ v.size + length with_stored_bytes.bytes = with_stored_bytes.size_is in
         let most : v.size + length with_stored_bytes.bytes ≤ limits.max_entry = stored_small limits t now flaw c.is_sound c.is_owned c.is_measured g.fits ev goes real r v u kept.row with_stored_bytes in
         omega arith
   ]
-  small_by r u (rep.founded response w none at row on is) = let zero_is : 0 ≡ u.size = ap (λ (z : Representation). z.size) is in omega arith
+  small_by r u (founded response w none at row on is) = let zero_is : 0 ≡ u.size = ap (λ (z : Representation). z.size) is in omega arith
 
   pub sized_kept : IsSized limits (after_accepted t e)
   sized_kept = record {
@@ -93,11 +91,9 @@ module _ (limits : Limits) (contents : Contents) where
   small_item r a earlier [] good is = absurd (none_some a is)
   small_item r a earlier (item ∷ later) good is = elim (eq_cases item.r r) [
     | inl here ↦
-        let same : item ≡ a = some_inj item a (rw here.0 at is) in
-        let parts : is_good limits contents earlier item later ≡ true = and_left _ _ good in
-        let test : nat_le (bytes_in item.runs) limits.max_entry ≡ true = and_right _ _ (and_left _ _ parts) in
+        let test : nat_le (bytes_in item.runs) limits.max_entry ≡ true = and_right _ _ (and_left _ _ (and_left _ _ good)) in
         let fits : bytes_in item.runs ≤ limits.max_entry = grind (arith, nat_tests) in
-        let one : bytes_in item.runs ≡ bytes_in a.runs = ap (λ (z : Content). bytes_in z.runs) same in
+        let one : bytes_in item.runs ≡ bytes_in a.runs = ap (λ (z : Content). bytes_in z.runs) (some_inj item a (rw here.0 at is)) in
         omega arith
     | inr off ↦ small_item r a (item ∷ earlier) later (and_right _ _ good) (rw off.0 at is)
   ]

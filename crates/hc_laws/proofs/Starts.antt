@@ -1,7 +1,7 @@
 -- Contents by which a store may begin have numbers that were given out, and each has a key of its own.
 use Rattle.std.{proofs.{Common.{◌≡◌, inl, inr, ℕ, ◌-◌, ◌<◌, ◌≤◌, List, [], ◌∷◌, Bool, true, false, Some, ap, sym, ◌∙◌, arith}, lemmas.Bool.Decides.{nat_tests}}, specs.{Prelude.{◌==◌, bytes_eq, find, nat_lt}, List.{list_any}}}
 use Rattle.hc_text.proofs.Basics.{and_left, and_right, not_some as none_some, not_true, some_inj}
-use Rattle.hc_effects.proofs.Vocabulary.{Limits, may_begin, are_good, is_good, is_given_out, has_own_numbers, Content, Contents, AreNumbered, IsStart}
+use Rattle.hc_effects.proofs.Vocabulary.{Limits, may_begin, are_good, is_good, is_given_out, Content, Contents, AreNumbered, IsStart}
 use Rattle.hc_rules.proofs.RangeReads.{bytes_eq-same}
 use Rattle.hc_effects.proofs.{Basics.{false_true, or_false}, PieceKeeps.{eq_cases}}
 
@@ -15,12 +15,8 @@ module _ (limits : Limits) (contents : Contents) where
   -- a good item has a number that was given out, and its key is that of no earlier one
   good_parts : (earlier : List Content) (item : Content) (later : List Content) → is_good limits contents earlier item later ≡ true → (is_given_out contents item.r ≡ true) × (list_any (has_key item.key) earlier ≡ false)
   good_parts earlier item later good =
-      let five = and_left _ _ good in
-      let four = and_left _ _ five in
-      let three = and_left _ _ four in
-      let two = and_left _ _ three in
-      let numbers : has_own_numbers contents earlier item later ≡ true = and_right _ _ two in
-      (and_left _ _ (and_left _ _ numbers), not_true (list_any (has_key item.key) earlier) (and_right _ _ (and_left _ _ two)))
+      let two = and_left _ _ (and_left _ _ (and_left _ _ (and_left _ _ good))) in
+      (and_left _ _ (and_left _ _ (and_right _ _ two)), not_true (list_any (has_key item.key) earlier) (and_right _ _ (and_left _ _ two)))
 
   numbered : (r : ℕ) (a : Content) (earlier items : List Content) → are_good limits contents earlier items ≡ true → find (of_number r) items ≡ Some a → (is_given_out contents a.r ≡ true) × (a.r ≡ r)
   numbered r a earlier [] good is = absurd (none_some a is)
@@ -35,17 +31,14 @@ module _ (limits : Limits) (contents : Contents) where
   fresh : (q : ℕ) (b : Content) (earlier items : List Content) → are_good limits contents earlier items ≡ true → find (of_number q) items ≡ Some b → list_any (has_key b.key) earlier ≡ false
   fresh q b earlier [] good is = absurd (none_some b is)
   fresh q b earlier (item ∷ later) good is = elim (eq_cases item.r q) [
-    | inl here ↦
-        let same : item ≡ b = some_inj item b (rw here.0 at is) in
-        ap (λ (z : Content). list_any (has_key z.key) earlier) (sym same) ∙ (good_parts earlier item later (and_left _ _ good)).1
+    | inl here ↦ ap (λ (z : Content). list_any (has_key z.key) earlier) (sym (some_inj item b (rw here.0 at is))) ∙ (good_parts earlier item later (and_left _ _ good)).1
     | inr off ↦ (or_false (has_key b.key item) (list_any (has_key b.key) earlier) (fresh q b (item ∷ earlier) later (and_right _ _ good) (rw off.0 at is))).1
   ]
 
   -- of two items the later one has another key
   later_key : (q : ℕ) (a b : Content) (earlier later : List Content) → are_good limits contents (a ∷ earlier) later ≡ true → find (of_number q) later ≡ Some b → a.key ≡ b.key → ⊥
   later_key q a b earlier later good is same =
-      let off : has_key b.key a ≡ false = (or_false (has_key b.key a) (list_any (has_key b.key) earlier) (fresh q b (a ∷ earlier) later good is)).0 in
-      false_true (sym off ∙ bytes_eq-same a.key b.key same)
+      false_true (sym ((or_false (has_key b.key a) (list_any (has_key b.key) earlier) (fresh q b (a ∷ earlier) later good is)).0) ∙ bytes_eq-same a.key b.key same)
 
   apart : (r q : ℕ) (a b : Content) (earlier items : List Content) → are_good limits contents earlier items ≡ true → find (of_number r) items ≡ Some a → find (of_number q) items ≡ Some b → a.key ≡ b.key → r ≡ q
   apart r q a b earlier [] good is also same = absurd (none_some a is)
@@ -53,13 +46,11 @@ module _ (limits : Limits) (contents : Contents) where
     | inl here ↦ elim (eq_cases item.r q) [
       | inl there ↦ sym here.1 ∙ there.1
       | inr off ↦
-          let one : item ≡ a = some_inj item a (rw here.0 at is) in
-          absurd (later_key q item b earlier later (and_right _ _ good) (rw off.0 at also) (ap (λ (z : Content). z.key) one ∙ same))
+          absurd (later_key q item b earlier later (and_right _ _ good) (rw off.0 at also) (ap (λ (z : Content). z.key) (some_inj item a (rw here.0 at is)) ∙ same))
     ]
     | inr off ↦ elim (eq_cases item.r q) [
       | inl there ↦
-          let one : item ≡ b = some_inj item b (rw there.0 at also) in
-          absurd (later_key r item a earlier later (and_right _ _ good) (rw off.0 at is) (ap (λ (z : Content). z.key) one ∙ sym same))
+          absurd (later_key r item a earlier later (and_right _ _ good) (rw off.0 at is) (ap (λ (z : Content). z.key) (some_inj item b (rw there.0 at also)) ∙ sym same))
       | inr other ↦ apart r q a b (item ∷ earlier) later (and_right _ _ good) (rw off.0 at is) (rw other.0 at also) same
     ]
   ]
@@ -74,10 +65,8 @@ module _ (limits : Limits) (contents : Contents) where
   pub numbers_begin : may_begin limits contents ≡ true → AreNumbered contents
   unfolding may_begin
   numbers_begin may r item is =
-      let good : are_good limits contents [] contents.items ≡ true = and_left _ _ (and_left _ _ (and_left _ _ (and_left _ _ (and_left _ _ may)))) in
-      let all = numbered r item [] contents.items good is in
+      let all = numbered r item [] contents.items (and_left _ _ (and_left _ _ (and_left _ _ (and_left _ _ (and_left _ _ may))))) is in
       let test : nat_lt 0 item.r ≡ true = and_left (nat_lt 0 item.r) (nat_lt item.r contents.next_exchange) all.0 in
-      let same : item.r ≡ r = all.1 in
       let some : 0 < item.r = grind (arith, nat_tests) in
       omega arith
 

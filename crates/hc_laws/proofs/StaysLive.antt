@@ -57,18 +57,14 @@ fault_live c x None k live = live
 fault_live c x (Some w) k live = either (nat_eq w.c c && is_none w.head && not k.shown) (record k { place = place.Down (cause.Net x) }) k refl live
 
 heard_live : (t : Tables) (e : Entry) (c : ℕ) (ev : Event) (k : Consumer) → (ev ≡ event.Cancel c → ⊥) → IsLiveAt k.place → IsLiveAt (consumer_heard t e c ev k).place
-heard_live t e c (event.Start d request) k other live = live
-heard_live t e c (event.Poll d want) k other live = live
 heard_live t e c (event.Head x response) k other live = head_live t e c x response (t.exchange x) k live
-heard_live t e c (event.Piece x bytes) k other live = live
-heard_live t e c (event.End x) k other live = live
 heard_live t e c (event.Fault x) k other live = fault_live c x (t.exchange x) k live
-heard_live t e c (event.Doom key) k other live = live
 heard_live t e c (event.Cancel d) k other live = by_test (nat_eq d c) refl
   where
     by_test : (b : Bool) → nat_eq d c ≡ b → IsLiveAt (if b then record k { place = place.Over } else k).place
     by_test true its = absurd (other (ap event.Cancel (let same : d ≡ c = grind (arith, nat_tests) in same)))
     by_test false off = live
+heard_live t e c _ k other live = live
 
 -- WHAT ACTS SAY
 
@@ -77,11 +73,9 @@ kept_live kept None = refl
 kept_live kept (Some r) = refl
 
 waiting_live : (t : Tables) (k : Consumer) (o : Option Wait) → IsLiveAt k.place → IsLiveAt (waiting_place t k o)
-waiting_live t k None live = live
 waiting_live t k (Some (wait.Turn d)) live = refl
 waiting_live t k (Some (wait.Busy d)) live = kept_live (kept_by k.place) (current t k.request.key)
-waiting_live t k (Some (wait.Head x)) live = live
-waiting_live t k (Some (wait.Body x)) live = live
+waiting_live t k _ live = live
 
 hole_live : (x : ℕ) (request : Request) (o : Option ℕ) (z : Option Representation) → IsLiveAt (place_for_hole x request o z)
 hole_live x request None z = refl
@@ -89,9 +83,8 @@ hole_live x request (Some r) None = refl
 hole_live x request (Some r) (Some v) = wanted_live r (by.FirstHole x) place.Line _ refl
 
 opened_live : (t : Tables) (x : ℕ) (k : Consumer) (r : Route) → IsLiveAt (opened_place t x k r)
-opened_live t x k route.Direct = refl
-opened_live t x k route.Turn = refl
 opened_live t x k route.Hole = hole_live x k.request (current t k.request.key) (row_of t (current t k.request.key))
+opened_live t x k _ = refl
 
 unbound_live : (o : Option ℕ) (old new : Place) → IsLiveAt old → IsLiveAt new → IsLiveAt (unless_bound o old new)
 unbound_live None old new a b = b

@@ -1,5 +1,5 @@
 -- All that came of a representation is stored until it is lost, and what is stored came.
-use Rattle.std.{proofs.{Common.{◌≡◌, ◌⊎◌, inl, inr, ℕ, ◌+◌, ◌≤◌, List, length, Bool, true, false, cond, Option, Some, None, refl, ap, sym, ◌∙◌, subst, arith, max}, lemmas.Bool.Decides.{nat_tests}}, specs.Prelude.{◌&&◌, ◌||◌, not, ◌==◌, nat_eq, is_some, if◌then◌else◌, option_map}}
+use Rattle.std.{proofs.{Common.{◌≡◌, inl, inr, ℕ, ◌+◌, ◌≤◌, List, length, Bool, true, false, cond, Option, Some, None, refl, ap, sym, ◌∙◌, subst, arith, max}, lemmas.Bool.Decides.{nat_tests}}, specs.Prelude.{◌&&◌, ◌||◌, not, ◌==◌, nat_eq, is_some, if◌then◌else◌, option_map}}
 use Rattle.hc_text.proofs.Basics.{bool_cases, or_cases as lost_or, or_left, or_right, some_inj}
 use Rattle.hc_effects.proofs.Vocabulary.{Event, loses_in, accepted_acts, denial, Entry, family, front, becomes_gone, representation_after, representation_heard, representation_acted, founded_at, new_representation, representation_after_head, with_renewed_head, updates, representation_after_piece, with_stored_bytes, with_total_if_none, length_in, Tables, Exchange, Representation, Sound, IsStored}
 use Rattle.hc_event.specs.declared.event.Event.TheVariants as event
@@ -41,8 +41,6 @@ heard_piece t e r x bytes (Some w) v at row = elim (bool_cases (family x w == r)
 ]
 
 heard : (t : Tables) (e : Entry) (r : ℕ) (ev : Event) (v : Representation) → e.event ≡ ev → IsHeard t e r v (representation_heard t e r ev v)
-heard t e r (event.Start c request) v at = quiet (still v)
-heard t e r (event.Poll c want) v at = quiet (still v)
 heard t e r (event.Head x response) v at = quiet (by_row (t.exchange x))
   where
     by_row : (o : Option Exchange) → IsStill v (representation_after_head t e r x response o v)
@@ -50,9 +48,7 @@ heard t e r (event.Head x response) v at = quiet (by_row (t.exchange x))
     by_row (Some w) = still_if (updates t e r w v) v (with_renewed_head t e x response w v) (record { body_is = refl; stored_is = refl; reach_is = refl; lost_is = refl; alone_is = refl })
 heard t e r (event.Piece x bytes) v at = heard_piece t e r x bytes (t.exchange x) v at refl
 heard t e r (event.End x) v at = quiet (still_if (x == r) v (with_total_if_none (length_in (t.exchange x)) v) (record { body_is = refl; stored_is = refl; reach_is = refl; lost_is = refl; alone_is = refl }))
-heard t e r (event.Fault x) v at = quiet (still v)
-heard t e r (event.Cancel c) v at = quiet (still v)
-heard t e r (event.Doom key) v at = quiet (still v)
+heard t e r _ v at = quiet (still v)
 
 -- WHAT IS STORED
 
@@ -94,8 +90,7 @@ piece_kept v loses at x bytes s absent = by_loss (v.is_lost || loses) refl
 
     parts : (a b : Bool) → (a || b) ≡ false → (b || a) ≡ false
     parts false false h = refl
-    parts false true h = absurd (let never : true ≡ false = h in cc)
-    parts true b h = absurd (let never : true ≡ false = h in cc)
+    parts _ _ h = cc
 
     by_loss : (b : Bool) → (v.is_lost || loses) ≡ b → IsKept v (with_stored_bytes (not b) at x bytes v) (loses || v.is_lost)
     by_loss false is = record {
@@ -152,13 +147,9 @@ kept_of t e r v u s goes row store (piece x bytes w at row_x of_r is) =
 
 -- what is founded has nothing yet
 founded_stored : (t : Tables) (e : Entry) (r : ℕ) (ev : Event) (u : Representation) → founded_at t e r ev ≡ Some u → IsStored u
-founded_stored t e r (event.Start c request) u h = absurd (let never : None ≡ Some u = h in cc)
-founded_stored t e r (event.Poll c want) u h = absurd (let never : None ≡ Some u = h in cc)
 founded_stored t e r (event.Head x response) u h = by_test _ (t.exchange x) h
   where
     by_test : (b : Bool) (o : Option Exchange) → (if b then option_map (new_representation r e response) o else None) ≡ Some u → IsStored u
-    by_test false o h = absurd (let never : None ≡ Some u = h in cc)
-    by_test true None h = absurd (let never : None ≡ Some u = h in cc)
     by_test true (Some w) h = subst IsStored (some_inj (new_representation r e response w) u h) (record {
       ends = λ p le. refl;
       lost_is_gone = λ h. absurd (let never : false ≡ true = h in cc);
@@ -166,11 +157,8 @@ founded_stored t e r (event.Head x response) u h = by_test _ (t.exchange x) h
       some_stored = λ p h. refl;
       nobody_alone = λ h. refl;
     })
-founded_stored t e r (event.Piece x bytes) u h = absurd (let never : None ≡ Some u = h in cc)
-founded_stored t e r (event.End x) u h = absurd (let never : None ≡ Some u = h in cc)
-founded_stored t e r (event.Fault x) u h = absurd (let never : None ≡ Some u = h in cc)
-founded_stored t e r (event.Cancel c) u h = absurd (let never : None ≡ Some u = h in cc)
-founded_stored t e r (event.Doom key) u h = absurd (let never : None ≡ Some u = h in cc)
+    by_test _ _ h = cc
+founded_stored t e r _ u h = absurd (let never : None ≡ Some u = h in cc)
 
 after_stored : (t : Tables) (e : Entry) (r : ℕ) (o : Option Representation) (u : Representation) → Sound t → denial t e.event ≡ None → t.representation r ≡ o → representation_after t e r o ≡ Some u → IsStored u
 unfolding representation_after

@@ -1,28 +1,23 @@
 -- The moments of stored heads stay in order, and no length stands among their fields.
 use Rattle.std.{proofs.{Common.{◌≡◌, inl, inr, ℕ, ◌≤◌, List, [], ◌∷◌, Bool, true, false, None, Option, Some, refl, ap, sym, ◌∙◌, subst, arith}, lemmas.Bool.Decides.{nat_tests}}, specs.Prelude.{◌==◌, nat_le, find, option_map, codes}}
 use Rattle.hc_text.proofs.Basics.{and_left, and_right, not_some as none_some, not_true as not_yes, some_inj}
-use Rattle.hc_effects.proofs.Vocabulary.{is_denied, Event, Response, Limits, may_begin, are_good, has_right_head, Entry, History, Content, Contents, exchange_heard, exchange_acted, OfRuns, Tables, Exchange, Representation, StoredHeads, IsHeadWithinLimits, AreWithinLimits, tables, first_tables, representation_of_content, after, after_accepted, after_denied}
+use Rattle.hc_effects.proofs.Vocabulary.{is_denied, Event, Response, Limits, may_begin, are_good, has_right_head, Entry, History, Content, Contents, exchange_heard, OfRuns, Tables, Exchange, Representation, StoredHeads, IsHeadWithinLimits, AreWithinLimits, tables, first_tables, representation_of_content, after, after_accepted, after_denied}
 use Rattle.hc_event.specs.declared.event.Event.TheVariants as event
 use Rattle.hc_fields.specs.FirstValues.{has_field}
 use Rattle.hc_record.specs.Head.{Head}
 use Rattle.hc_validate.specs.Updates.{is_within_limits}
 use Rattle.hc_model.specs.StoredHeads.{HeadsAreWithinLimits}
-use Rattle.hc_effects.proofs.{ExchangeFrom.{ExchangeFrom, exchange_from}, FieldsKeep.{length_kept, range_kept, length_none, range_none, within_limits_kept, within_limits_founded}, Forward.{after_is}, PieceKeeps.{eq_cases}, RepFrom.{RepFrom, rep_from}}
-use Rattle.hc_effects.proofs.ExchangeFrom as exchange
-use Rattle.hc_laws.proofs.{HeadFrom.{HeadFrom, head_from}, RunFacts.{in_runs}}
-use Rattle.hc_laws.proofs.HeadFrom as from
+use Rattle.hc_effects.proofs.{ExchangeFrom.{was, new, ExchangeFrom, exchange_from}, FieldsKeep.{length_kept, range_kept, length_none, range_none, within_limits_kept, within_limits_founded}, Forward.{after_is}, PieceKeeps.{eq_cases}, RepFrom.{RepFrom, rep_from}}
+use Rattle.hc_laws.proofs.{HeadFrom.{updated, told, still, HeadFrom, head_from}, RunFacts.{in_runs}}
 use Rattle.hc_effects.proofs.RepFrom as rep
 
 -- the moment of its opening stays
 opened_heard : (t : Tables) (e : Entry) (x : ℕ) (ev : Event) (w : Exchange) → (exchange_heard t e x ev w).opened ≡ w.opened
-opened_heard t e x (event.Start c request) w = refl
-opened_heard t e x (event.Poll c want) w = refl
 opened_heard t e x (event.Head y response) w = elim (eq_cases y x) [ inl here ↦ rw here.0 refl | inr off ↦ rw off.0 refl ]
 opened_heard t e x (event.Piece y bytes) w = elim (eq_cases y x) [ inl here ↦ rw here.0 refl | inr off ↦ rw off.0 refl ]
 opened_heard t e x (event.End y) w = elim (eq_cases y x) [ inl here ↦ rw here.0 refl | inr off ↦ rw off.0 refl ]
 opened_heard t e x (event.Fault y) w = elim (eq_cases y x) [ inl here ↦ rw here.0 refl | inr off ↦ rw off.0 refl ]
-opened_heard t e x (event.Cancel c) w = refl
-opened_heard t e x (event.Doom key) w = refl
+opened_heard t e x _ w = refl
 
 -- of a head
 pub record IsDated (moment : ℕ) (head : Head) : Type 0 where
@@ -36,12 +31,11 @@ module _ (t : Tables) (e : Entry) (later : t.moment ≤ e.now) (g : StoredHeads 
   now_on = after_accepted t e
 
   opened_by : (x : ℕ) (u : Exchange) → now_on.exchange x ≡ Some u → ExchangeFrom t e x u → u.opened ≤ e.now
-  opened_by x u row (exchange.was w at same) =
-      let made : exchange_acted x e.acts (exchange_heard t e x e.event w) ≡ u = some_inj _ u (sym (after_is t e x w (t.exchange x) at) ∙ row) in
-      let is : w.opened ≡ u.opened = sym (opened_heard t e x e.event w) ∙ ap (λ (z : Exchange). z.opened) made in
+  opened_by x u row (was w at same) =
+      let is : w.opened ≡ u.opened = sym (opened_heard t e x e.event w) ∙ ap (λ (z : Exchange). z.opened) (some_inj _ u (sym (after_is t e x w (t.exchange x) at) ∙ row)) in
       let old : w.opened ≤ t.moment = g.opened x w at in
       omega arith
-  opened_by x u row (exchange.new o none opening here is) = let now_is : e.now ≡ u.opened = ap (λ (z : Exchange). z.opened) is in omega arith
+  opened_by x u row (new o none opening here is) = let now_is : e.now ≡ u.opened = ap (λ (z : Exchange). z.opened) is in omega arith
 
   dated : (r : ℕ) (v : Representation) → t.representation r ≡ Some v → IsDated e.now v.head
   dated r v row =
@@ -50,9 +44,9 @@ module _ (t : Tables) (e : Entry) (later : t.moment ≤ e.now) (g : StoredHeads 
       record { asked = old.0; came = omega arith; no_length = g.lengths r v row; no_range = g.ranges r v row }
 
   dated_from : (r : ℕ) (v u : Representation) → t.representation r ≡ Some v → HeadFrom t e r v u → IsDated e.now u.head
-  dated_from r v u row (from.still same) = subst (IsDated e.now) (sym same) (dated r v row)
-  dated_from r v u row (from.told n is) = subst (IsDated e.now) (sym is) (let old = dated r v row in record { asked = old.asked; came = old.came; no_length = old.no_length; no_range = old.no_range })
-  dated_from r v u row (from.updated x response w here at is) =
+  dated_from r v u row (still same) = subst (IsDated e.now) (sym same) (dated r v row)
+  dated_from r v u row (told n is) = subst (IsDated e.now) (sym is) (let old = dated r v row in record { asked = old.asked; came = old.came; no_length = old.no_length; no_range = old.no_range })
+  dated_from r v u row (updated x response w here at is) =
       let old = dated r v row in
       let opened : w.opened ≤ t.moment = g.opened x w at in
       subst (IsDated e.now) (sym is) (record {
@@ -98,9 +92,9 @@ within_limits_head : (e : Entry) (x : ℕ) (response : Response) → e.event ≡
 within_limits_head e x response here within_limits = subst IsHeadWithinLimits here within_limits
 
 within_limits_from : (t : Tables) (e : Entry) (r : ℕ) (v u : Representation) → is_within_limits v.head.fields ≡ true → HeadFrom t e r v u → is_within_limits u.head.fields ≡ true
-within_limits_from t e r v u old (from.still same) = ap (λ (h : Head). is_within_limits h.fields) same ∙ old
-within_limits_from t e r v u old (from.told n is) = ap (λ (h : Head). is_within_limits h.fields) is ∙ old
-within_limits_from t e r v u old (from.updated x response w here at is) = ap (λ (h : Head). is_within_limits h.fields) is ∙ within_limits_kept v.head.fields response.fields old
+within_limits_from t e r v u old (still same) = ap (λ (h : Head). is_within_limits h.fields) same ∙ old
+within_limits_from t e r v u old (told n is) = ap (λ (h : Head). is_within_limits h.fields) is ∙ old
+within_limits_from t e r v u old (updated x response w here at is) = ap (λ (h : Head). is_within_limits h.fields) is ∙ within_limits_kept v.head.fields response.fields old
 
 within_limits_by : (t : Tables) (e : Entry) (r : ℕ) (u : Representation) → IsHeadWithinLimits e.event → AreWithinLimits t → RepFrom t e r u → is_within_limits u.head.fields ≡ true
 within_limits_by t e r u within_limits old (rep.was v kept) = within_limits_from t e r v u (old r v kept.row) (head_from t e r v u kept)

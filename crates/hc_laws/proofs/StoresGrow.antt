@@ -5,8 +5,7 @@ use Rattle.hc_sparse.specs.Cells.{Cells, Cell, AreAbsent, cells_with}
 use Rattle.hc_effects.proofs.Vocabulary.{is_denied, Event, Limits, loses_in, denial, Entry, History, Contents, front, Flaw, flaw_in, entry_of, OfHistories, Tables, Exchange, Representation, IsOwed, Sound, IsStored, tables, after_accepted, after_denied}
 use Rattle.hc_model.specs.Laws.{HasStored, GrowsStored, StoresGrow}
 use Rattle.hc_laws.proofs.{Barred.{next_tables, denied_tables}, SoundRuns.{runs_are_sound}}
-use Rattle.hc_effects.proofs.{Basics.{false_true, some_row}, Fills.{Fills, IsPiece, fills}, HoleLemmas.{none_of}, OfEntries.{of_real}, Once.{delivers_once}, RepFrom.{RepFrom, IsKept, rep_from}, Stays.{stays_written}}
-use Rattle.hc_effects.proofs.Fills as fills_by
+use Rattle.hc_effects.proofs.{Basics.{false_true, some_row}, Fills.{still, more, Fills, IsPiece, fills}, HoleLemmas.{none_of}, OfEntries.{of_real}, Once.{delivers_once}, RepFrom.{RepFrom, IsKept, rep_from}, Stays.{stays_written}}
 use Rattle.hc_effects.proofs.RepFrom as rep
 
 module _ (limits : Limits) (t : Tables) (now : ℕ) (flaw : Flaw) (s : Sound t) (ev : Event) (goes : denial t ev ≡ None) where
@@ -27,8 +26,8 @@ module _ (limits : Limits) (t : Tables) (now : ℕ) (flaw : Flaw) (s : Sound t) 
         none_of (v.stored q) (not_so (is_some (v.stored q)) (λ some. false_true (sym (ap (λ (z : Option Cell). is_some z) (store.some_stored q some ∙ none)) ∙ some)))
 
     still_stored : Fills t e r v u → u.stored p ≡ Some cell
-    still_stored (fills_by.still none_of body_is stored_is reach_is) = ap (λ (f : Cells). f p) stored_is ∙ there
-    still_stored (fills_by.more x bytes w is body_is stored_is reach_is) = ap (λ (f : Cells). f p) stored_is ∙ by_kept (not (v.is_lost || loses_in r e.acts))
+    still_stored (still none_of body_is stored_is reach_is) = ap (λ (f : Cells). f p) stored_is ∙ there
+    still_stored (more x bytes w is body_is stored_is reach_is) = ap (λ (f : Cells). f p) stored_is ∙ by_kept (not (v.is_lost || loses_in r e.acts))
       where
         by_kept : (b : Bool) → (if b then cells_with (front w) x bytes v.stored else v.stored) p ≡ Some cell
         by_kept true = stays_written (front w) x p bytes v.stored cell (absent x bytes w is) there

@@ -25,24 +25,17 @@ untagged item none =
 own_runs : (r x : ℕ) (runs : List Run) → list_any (λ (run : Run). not (run.x == r)) runs ≡ false → list_any (λ (run : Run). run.x == x) runs ≡ true → x ≡ r
 own_runs r x [] none any = absurd (false_true any)
 own_runs r x (run ∷ runs) none any = elim (eq_cases run.x x) [
-  | inl here ↦
-      let test : nat_eq run.x r ≡ true = not_no (run.x == r) (or_false _ _ none).0 in
-      let is : run.x ≡ r = grind (arith, nat_tests) in
-      sym here.1 ∙ is
+  | inl here ↦ sym here.1 ∙ grind (arith, nat_tests)
   | inr off ↦ own_runs r x runs (or_false _ _ none).1 (rw off.0 at any)
 ]
 
 whole_is : (k : Kind) → is_whole k ≡ true → k ≡ kind.Whole
-whole_is kind.Growing h = absurd (false_true h)
 whole_is kind.Whole h = refl
-whole_is kind.Truncated h = absurd (false_true h)
-whole_is kind.Ranges h = absurd (false_true h)
+whole_is _ h = absurd (false_true h)
 
 same_whole : (k : Kind) → same_kind kind.Whole k ≡ true → k ≡ kind.Whole
-same_whole kind.Growing h = absurd (false_true h)
 same_whole kind.Whole h = refl
-same_whole kind.Truncated h = absurd (false_true h)
-same_whole kind.Ranges h = absurd (false_true h)
+same_whole _ h = absurd (false_true h)
 
 -- whole runs have every position below the length
 whole_by : (a b : Bool) → (if a then kind.Whole else if b then kind.Truncated else kind.Ranges) ≡ kind.Whole → a ≡ true
@@ -58,9 +51,7 @@ module _ (limits : Limits) (contents : Contents) (may : may_begin limits content
     no_tag : IsUntagged item
     no_tag =
         let five = and_left _ _ (and_left _ _ (and_left _ _ (right_head limits contents may r item found))) in
-        let wants : (not (needs_tag item) || is_some item.head.joining) ≡ true = and_left _ _ (and_left _ _ five) in
-        let without : is_some item.head.joining ≡ false = ap is_some (ap (λ (z : Representation). z.head.joining) row ∙ none) in
-        untagged item (by_or (needs_tag item) (is_some item.head.joining) wants without)
+        untagged item (by_or (needs_tag item) (is_some item.head.joining) (and_left _ _ (and_left _ _ five)) (ap is_some (ap (λ (z : Representation). z.head.joining) row ∙ none)))
       where
         by_or : (a b : Bool) → (not a || b) ≡ true → b ≡ false → a ≡ false
         by_or false b h off = refl
@@ -69,9 +60,7 @@ module _ (limits : Limits) (contents : Contents) (may : may_begin limits content
     all_there : (z : Option ℕ) → item.head.total ≡ z → is_kind_right item z ≡ true → IsOfOne (first_tables contents) v
     all_there None is right = absurd (false_true right)
     all_there (Some total) is right =
-        let kinds : same_kind item.head.kind (kind_of_runs item.runs total) ≡ true = and_right _ _ right in
-        let whole : kind_of_runs item.runs total ≡ kind.Whole = same_whole _ (sym (ap (λ k. same_kind k (kind_of_runs item.runs total)) (whole_is item.head.kind no_tag.whole)) ∙ kinds) in
-        let both = whole_by _ _ whole in
+        let both = whole_by _ _ (same_whole _ (sym (ap (λ k. same_kind k (kind_of_runs item.runs total)) (whole_is item.head.kind no_tag.whole)) ∙ and_right _ _ right)) in
         let ends : nat_eq (last_end item.runs) (bytes_in item.runs) ≡ true = and_left _ _ both in
         let sums : nat_eq (bytes_in item.runs) total ≡ true = and_right _ _ both in
         let same : last_end item.runs ≡ bytes_in item.runs = grind (arith, nat_tests) in
@@ -84,11 +73,7 @@ module _ (limits : Limits) (contents : Contents) (may : may_begin limits content
     one = all_there item.head.total refl (known_item limits contents may r item found)
 
     parts : v.head.status ≢ 206
-    parts is =
-        let same : item.head.status ≡ v.head.status = ap (λ (z : Representation). z.head.status) row in
-        let here : item.head.status ≡ 206 = same ∙ is in
-        let test : nat_eq item.head.status 206 ≡ true = grind (arith, nat_tests) in
-        false_true (sym no_tag.full ∙ test)
+    parts is = false_true (sym no_tag.full ∙ grind (arith, nat_tests))
 
     number : item.r ≡ r
     number = by_find contents.items found
@@ -111,8 +96,7 @@ module _ (limits : Limits) (contents : Contents) (may : may_begin limits content
   own_byte : (r x : ℕ) (v : Representation) (item : Content) → item_at r ≡ Some item → representation_of_content item ≡ v → v.head.joining ≡ None → HasByte (first_tables contents) r x → x ≡ r
   own_byte r x v item found row none has =
       let b = byte_of limits contents r x has in
-      let same : b.item ≡ item = some_inj b.item item (sym b.found ∙ found) in
-      own r item v found row none x (ap (has_run x) (sym same) ∙ b.has)
+      own r item v found row none x (ap (has_run x) (sym (some_inj b.item item (sym b.found ∙ found))) ∙ b.has)
 
   tags_begin : Tags (first_tables contents)
   tags_begin = record {

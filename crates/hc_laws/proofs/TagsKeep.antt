@@ -24,7 +24,6 @@ use Rattle.hc_effects.proofs.RepFrom as rep
 
 -- a strong tag is one by which parts join
 strong_joins : (values : List (List ℕ)) → is_some (option_and_then strong_in (only_of values)) ≡ true → one_strong_opaque values ≢ None
-strong_joins [] h none = false_true h
 strong_joins (value ∷ []) h none = by_tag (strong_in value) refl h
   where
     by_tag : (z : Option (List ℕ)) → strong_in value ≡ z → is_some z ≡ true → ⊥
@@ -32,7 +31,7 @@ strong_joins (value ∷ []) h none = by_tag (strong_in value) refl h
     by_tag (Some opaque) is there =
         let spelled = strong_in-some value opaque is in
         some_none opaque (sym (ap strong_opaque spelled.1 ∙ strong_opaque-tag opaque spelled.0) ∙ none)
-strong_joins (value ∷ other ∷ values) h none = false_true h
+strong_joins _ h none = false_true h
 
 fits_tag : (z : Option Asked) (response : Response) → fits_to_found z response ≡ true → is_some (strong_of response.fields) ≡ true
 fits_tag None response h = absurd (false_true h)
@@ -69,10 +68,8 @@ module _ (limits : Limits) (t : Tables) (now : ℕ) (flaw : Flaw) (c : IsCarried
   -- what is joined has a tag
   joins_tagged : (x r : ℕ) (response : Response) (w : Exchange) (v : Representation) → ev ≡ event.Head x response → t.exchange x ≡ Some w → is_joining (case_at t e) ≡ true → w.aim ≡ Some r → t.representation r ≡ Some v → v.head.joining ≢ None
   joins_tagged x r response w v here row on aim there none =
-      let join = is_join t (has_loss e.acts) w response (sym (ap is_joining (case_is t e x response w here row)) ∙ on) in
-      let fills_row = join.fills in
-      let same : fills_row.v ≡ v = some_inj fills_row.v v (sym fills_row.row ∙ (ap (row_of t) aim ∙ there)) in
-      fills_row.tagged (ap (λ (z : Representation). z.head.joining) same ∙ none)
+      let fills_row = (is_join t (has_loss e.acts) w response (sym (ap is_joining (case_is t e x response w here row)) ∙ on)).fills in
+      fills_row.tagged (ap (λ (z : Representation). z.head.joining) (some_inj fills_row.v v (sym fills_row.row ∙ (ap (row_of t) aim ∙ there))) ∙ none)
 
   untagged_before : (r : ℕ) (v p : Representation) → IsKept t e r v p → p.head.joining ≡ None → v.head.joining ≡ None
   untagged_before r v p kept none = sym (joining_kept t e r v p kept) ∙ none

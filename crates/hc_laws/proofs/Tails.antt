@@ -7,14 +7,12 @@ use Rattle.hc_effects.proofs.Vocabulary.{Opening, opening_in, Event, Response, b
 use Rattle.hc_event.specs.declared.event.Event.TheVariants as event
 use Rattle.hc_event.specs.declared.place.Place.TheVariants as place
 use Rattle.hc_model.specs.Sound as sound
-use Rattle.hc_effects.proofs.{AboutKeeps.{own_open_of, own_open_is}, ApartKeeps.{is_on}, Basics.{false_true}, Beside.{IsBeside}, BoundFrom.{BoundFrom, IsRow, bound_from}, Covers.{offset_more}, ExchangeFrom.{ExchangeFrom, exchange_from, IsSame}, Fills.{Fills, fills, IsPiece, brings, length_same}, FirstKeeps.{is_new}, LossBy.{IsReal}, MeasuresKeep.{piece_taken}, Once.{delivers_once}, OwnFrom.{OwnFrom, own_from}, OwnersKeep.{new_number}, ExclusiveWriters.{one_exclusive_writer}, RepFrom.{RepFrom, rep_from, IsKept}, Stops.{writer_about}, Survives.{goes_on}}
-use Rattle.hc_effects.proofs.BoundFrom as from
+use Rattle.hc_effects.proofs.{AboutKeeps.{own_open_of, own_open_is}, ApartKeeps.{is_on}, Basics.{false_true}, Beside.{IsBeside}, BoundFrom.{IsRow}, Covers.{offset_more}, ExchangeFrom.{ExchangeFrom, exchange_from, IsSame}, Fills.{Fills, fills, IsPiece, brings, length_same}, FirstKeeps.{is_new}, LossBy.{IsReal}, MeasuresKeep.{piece_taken}, Once.{delivers_once}, OwnFrom.{OwnFrom, own_from}, OwnersKeep.{new_number}, ExclusiveWriters.{one_exclusive_writer}, RepFrom.{IsKept}, Stops.{writer_about}, Survives.{goes_on}}
 use Rattle.hc_effects.proofs.ExchangeFrom as exchange
 use Rattle.hc_effects.proofs.Fills as fills_by
-use Rattle.hc_laws.proofs.{GoAlone.{bare_front, stored_same, opens_not, shown_not, founds_not, left_loses, lost_of, opens_undue}, ExclusiveWriterFrom.{ExclusiveWriterFrom, alone_from}}
+use Rattle.hc_laws.proofs.{GoAlone.{bare_front, stored_same, was_there, left_loses, lost_of, opens_undue}, ExclusiveWriterFrom.{ExclusiveWriterFrom, alone_from}}
 use Rattle.hc_effects.proofs.OwnFrom as own
 use Rattle.hc_laws.proofs.ExclusiveWriterFrom as exclusive_writers
-use Rattle.hc_effects.proofs.RepFrom as rep
 
 -- from this position on nothing is stored of what its exchange brought
 pub record IsTail (t : Tables) (r : ℕ) (v : Representation) (k : Consumer) (x : ℕ) (w : Exchange) : Type 0 where
@@ -45,9 +43,6 @@ module _ (limits : Limits) (t : Tables) (now : ℕ) (flaw : Flaw) (s : Sound t) 
 
   abbrev now_on : Tables
   now_on = after_accepted t e
-
-  piece_inj : (x y : ℕ) (a b : List ℕ) → event.Piece x a ≡ event.Piece y b → (x ≡ y) × (a ≡ b)
-  piece_inj x y a b is = (cc, cc)
 
   -- ITS EXCHANGE STAYS
 
@@ -134,7 +129,7 @@ module _ (limits : Limits) (t : Tables) (now : ℕ) (flaw : Flaw) (s : Sound t) 
         by_fills : family x w ≡ r → Fills t e r v p → p.body ≡ cells_with (front w) x bytes v.body
         by_fills of_it (fills_by.still none body stored reach) = absurd (none x bytes w (record { at = here; row = row; of_r = of_it }))
         by_fills of_it (fills_by.more y other a is body stored reach) =
-            let both = piece_inj y x other bytes (sym is.at ∙ here) in
+            let both : (y ≡ x) × (other ≡ bytes) = (cc, cc) in
             let one : a ≡ w = same_row (t.exchange x) a w (sym (ap t.exchange both.0) ∙ is.row) row in
             body ∙ (ap (λ n. cells_with (front a) n other v.body) both.0 ∙ (ap (λ b. cells_with (front a) x b v.body) both.1 ∙ ap (λ (q : Exchange). cells_with (front q) x bytes v.body) one))
 
@@ -166,8 +161,7 @@ module _ (limits : Limits) (t : Tables) (now : ℕ) (flaw : Flaw) (s : Sound t) 
     bare_tail none bare empty =
         let a = later.alone r c p u after is_alone (sound.is_bound lo hi how after_row stands) none in
         let low : front z ≡ 0 = bare_front z bare empty in
-        let number : a.x ≡ x = some_inj a.x x (sym a.own ∙ owned) in
-        let one : a.w ≡ z = same_row (now_on.exchange x) a.w z (sym (ap now_on.exchange number) ∙ a.row) after_x in
+        let one : a.w ≡ z = same_row (now_on.exchange x) a.w z (sym (ap now_on.exchange (some_inj a.x x (sym a.own ∙ owned))) ∙ a.row) after_x in
         let ends : front a.w ≡ front z = ap (λ (q : Exchange). front q) one in
         record {
           from = front z;
@@ -222,8 +216,7 @@ module _ (limits : Limits) (t : Tables) (now : ℕ) (flaw : Flaw) (s : Sound t) 
           step r x k u v p w z there kept lost_then more w_row after_x same (exclusive_writer_only writes.unwritten (sound.first fresh writes.first) mine) (of_own w mine w_row) (fresh_tail t r x v k w s there fresh)
       by_exclusive_writer w mine w_row same (exclusive_writers.survives losing is) =
           let g = goes_on limits t now flaw s o m ev goes real r c v p u there losing is after after_row in
-          let number : g.is.x ≡ x = some_inj g.is.x x (sym g.is.own ∙ owned) in
-          absurd (o.apart r x c v k there (and_right _ _ losing) (g.own_is ∙ ap Some number) row.row mine)
+          absurd (o.apart r x c v k there (and_right _ _ losing) (g.own_is ∙ ap Some (some_inj g.is.x x (sym g.is.own ∙ owned))) row.row mine)
 
       kept_tail : k.own ≡ Some x → ExchangeFrom t e x z → IsTail now_on r p u x z
       kept_tail mine (exchange.was w w_row same) = by_exclusive_writer w mine w_row same (alone_from limits t now flaw s o m ev goes real r c v p there kept lost_now is_alone)
@@ -254,16 +247,14 @@ module _ (limits : Limits) (t : Tables) (now : ℕ) (flaw : Flaw) (s : Sound t) 
               let number = Rattle.hc_laws.proofs.GoAlone.left_number limits t now flaw s o m i ev goes real r c lo hi how u p after after_row stands lost_now is_alone k v row at there kept x q q_row l in
               written_tail both.0 (ap (λ (y : Representation). y.writer) (sym (same_row (t.representation r) l.v v (sym (ap t.representation number) ∙ l.row) there)) ∙ l.writer_is) (exchange_from t e x (t.exchange x) z refl after_x)
 
-    by_way : BoundFrom t e c r lo hi how u → RepFrom t e r p → IsTail now_on r p u x z
-    by_way (from.stays k row at) (rep.was v kept) = by_own k v row at kept.row kept (own_from t e c x (t.consumer c) u refl after_row owned)
-    by_way (from.stays k row at) (rep.founded response w none_there here w_row on is_made) = absurd (false_true (ap (λ (b : Representation). b.is_lost) is_made ∙ lost_now))
-    by_way (from.founds k y response w row here w_row mine of_it by_is all) from_rep = absurd (founds_not limits t now flaw s o m i ev goes real r c lo hi how u p after after_row stands lost_now is_alone y response w here w_row of_it from_rep)
-    by_way (from.opens k q row opens mine free way hole) from_rep = absurd (opens_not limits t now flaw s o m i ev goes real r c lo hi how u p after after_row stands lost_now is_alone k q row opens mine free hole from_rep)
-    by_way (from.shows k q row is all) from_rep = absurd (shown_not limits t now flaw s o m i ev goes real r c lo hi how u p after after_row stands lost_now is_alone k q row is all from_rep)
+    tail_now : IsTail now_on r p u x z
+    tail_now =
+        let b = was_there limits t now flaw s o m i ev goes real r c lo hi how u p after after_row stands lost_now is_alone in
+        by_own b.k b.v b.row b.at b.kept.row b.kept (own_from t e c x (t.consumer c) u refl after_row owned)
 
   pub tails_kept : AreTails t → Sound now_on → AreTails now_on
   tails_kept was later = record { tail = by_reader }
     where
       by_reader : (r c x : ℕ) (p : Representation) (u : Consumer) (z : Exchange) → now_on.representation r ≡ Some p → p.alone ≡ Some c → IsBound now_on r c u → u.own ≡ Some x → now_on.exchange x ≡ Some z → IsTail now_on r p u x z
       by_reader r c x p u z after is_alone (sound.is_bound lo hi how after_row stands) owned after_x =
-          by_way was later r c x lo hi how u p z after after_row stands (lost_of limits t now flaw s o m i ev goes real r c p after is_alone) is_alone owned after_x (bound_from t e c r lo hi how (t.consumer c) u refl after_row stands) (rep_from t e r (t.representation r) p refl after)
+          tail_now was later r c x lo hi how u p z after after_row stands (lost_of limits t now flaw s o m i ev goes real r c p after is_alone) is_alone owned after_x

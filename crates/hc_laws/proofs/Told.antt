@@ -2,8 +2,8 @@
 --
 -- The acts of an accepted poll are those of its move, then what is closed and what is lost, which tell nobody. Where the move
 -- is to wait, nobody leaves: so nothing is closed, nothing is written, and nothing is lost.
-use Rattle.std.{proofs.{Common.{◌≡◌, ℕ, List, [], ◌∷◌, ◌++◌, Bool, true, false, Option, Some, None, refl, ap, sym, ◌∙◌, subst, arith}, lemmas.Bool.Decides.{nat_tests}}, specs.Prelude.{map, nat_eq, ◌||◌}}
-use Rattle.hc_effects.proofs.Vocabulary.{is_denied, closes_in, Act, Event, Limits, leaver_in, loses_in, answer_acts, loss_acts, close_acts, closing, denial, is_live, Entry, Flaw, NoFlaw, Loses, Misreads, flaw_in, OfHistories, Turns, Move, Nothing, Asks, Opens, Shows, Gives, Ends, Fails, acts_of, Tables, Consumer, IsOwed, Sound, tables, tellings, IsOneTo, TellsOne, TellsBy, evicted}
+use Rattle.std.{proofs.{Common.{◌≡◌, ℕ, List, [], ◌∷◌, ◌++◌, Bool, true, false, Option, Some, None, refl, ap, sym, ◌∙◌, subst}}, specs.Prelude.{map, ◌||◌}}
+use Rattle.hc_effects.proofs.Vocabulary.{is_denied, closes_in, Act, Event, Limits, leaver_in, loses_in, answer_acts, loss_acts, close_acts, closing, denial, is_live, Entry, Flaw, NoFlaw, Loses, flaw_in, OfHistories, Turns, Move, Nothing, Asks, Opens, Shows, Gives, Ends, Fails, acts_of, Tables, Consumer, IsOwed, Sound, tables, tellings, IsOneTo, TellsOne, TellsBy, evicted}
 use Rattle.hc_event.specs.declared.act.Act.TheVariants as act
 use Rattle.hc_event.specs.declared.act.Cause.TheVariants as cause
 use Rattle.hc_event.specs.declared.act.Wait.TheVariants as wait
@@ -14,16 +14,15 @@ use Rattle.hc_model.specs.Tellings.{WaitsLast, TellsWhoPolls}
 use Rattle.hc_model.specs.Tellings as tells
 use Rattle.hc_effects.proofs.{ActParts.{leaver_lost, IsAnswer, answer_is}, Basics.{false_true, true_false}, EventsKeep.{poll_live}, Owed.{IsDenied, is_denial, goes}}
 use Rattle.hc_effects.proofs.ActParts as parts
-use Rattle.hc_laws.proofs.{InRuns.{turned_in_runs}, SoundRuns.{runs_are_sound}, TurnFacts.{IsTaken, AtPoll, at_poll, acts_is, behind, seen}, TurnOpens.{closes_none, loses_none}}
+use Rattle.hc_laws.proofs.{InRuns.{turned_in_runs}, SoundRuns.{runs_are_sound}, TurnFacts.{moves_on, misreads, IsTaken, AtPoll, at_poll, acts_is, behind, seen}, TurnOpens.{closes_none, loses_none}}
 use Rattle.hc_effects.proofs.Owed as owed_by
-use Rattle.hc_laws.proofs.TurnFacts as facts
+use Rattle.hc_text.proofs.Basics.{eq_itself}
 
 -- WHAT TELLS NOBODY
 
 loss_tells : (f : Flaw) → tellings (loss_acts f) ≡ []
 loss_tells NoFlaw = refl
-loss_tells (Loses r kind) = refl
-loss_tells (Misreads r) = refl
+loss_tells _ = refl
 
 closes_tell : (ys : List ℕ) (rest : List Act) → tellings rest ≡ [] → tellings (map act.Close ys ++ rest) ≡ []
 closes_tell [] rest none = none
@@ -35,8 +34,7 @@ closed_tell (y ∷ ys) = closed_tell ys
 
 lost_tell : (f : Flaw) (ys : List ℕ) → tellings (loss_acts f ++ map act.Close ys) ≡ []
 lost_tell NoFlaw ys = closed_tell ys
-lost_tell (Loses r kind) ys = closed_tell ys
-lost_tell (Misreads r) ys = closed_tell ys
+lost_tell _ ys = closed_tell ys
 
 evicted_tell : (rs : List ℕ) (rest : List Act) → tellings rest ≡ [] → tellings (map act.Evicted rs ++ rest) ≡ []
 evicted_tell [] rest none = none
@@ -45,8 +43,7 @@ evicted_tell (r ∷ rs) rest none = evicted_tell rs rest none
 -- nothing is waited for there
 lost_waits : (f : Flaw) → WaitsLast (loss_acts f)
 lost_waits NoFlaw = tt
-lost_waits (Loses r kind) = tt
-lost_waits (Misreads r) = tt
+lost_waits _ = tt
 
 closed_waits : (ys : List ℕ) (rest : List Act) → WaitsLast rest → WaitsLast (map act.Close ys ++ rest)
 closed_waits [] rest last = last
@@ -66,14 +63,10 @@ one_by c (Fails why) rest none = subst (λ z. IsOneTo c (act.Failed c why ∷ z)
 
 -- a move is to wait, or isn't
 last_by : (c : ℕ) (m : Move) (f : Flaw) (rest : List Act) → WaitsLast rest → (leaver_in (acts_of c m ++ loss_acts f) ≡ None → rest ≡ []) → WaitsLast (acts_of c m ++ rest)
-last_by c Nothing f rest last calm = last
 last_by c (moves.Waits w) f rest last calm = calm (leaver_lost f)
 last_by c (Asks x) f rest last calm = calm (leaver_lost f)
 last_by c (Opens x need request) f rest last calm = calm (leaver_lost f)
-last_by c (Shows r why head lo hi) f rest last calm = last
-last_by c (Gives run) f rest last calm = last
-last_by c Ends f rest last calm = last
-last_by c (Fails why) f rest last calm = last
+last_by c _ f rest last calm = last
 
 module _ (limits : Limits) (t : Tables) (e : Entry) (taken : IsTaken limits t e) where
   abbrev flaw : Flaw
@@ -99,13 +92,9 @@ module _ (limits : Limits) (t : Tables) (e : Entry) (taken : IsTaken limits t e)
   behind_waits : WaitsLast (behind limits t e taken)
   behind_waits = closed_waits (closing t (seen limits t e taken)) (loss_acts flaw) (lost_waits flaw)
 
-  eq-refl : (n : ℕ) → nat_eq n n ≡ true
-  eq-refl n = grind (arith, nat_tests)
-
   none_lost : (acts : List Act) (f : Flaw) → ((r : ℕ) → loses_in r (acts ++ loss_acts f) ≡ loses_in r (loss_acts f)) → ((r : ℕ) → loses_in r (acts ++ loss_acts f) ≡ false) → loss_acts f ≡ []
-  none_lost acts NoFlaw same none = refl
-  none_lost acts (Misreads r) same none = refl
-  none_lost acts (Loses r kind) same none = absurd (true_false (sym (ap (λ b. b || false) (eq-refl r)) ∙ (sym (same r) ∙ none r)))
+  none_lost acts (Loses r kind) same none = absurd (true_false (sym (ap (λ b. b || false) (eq_itself r)) ∙ (sym (same r) ∙ none r)))
+  none_lost acts _ same none = refl
 
   -- after which nobody leaves
   module _ (c want : ℕ) (m : Move) (at : e.event ≡ event.Poll c want) (all : e.acts ≡ acts_of c m ++ behind limits t e taken) (saw : (seen limits t e taken).acts ≡ acts_of c m ++ loss_acts (flaw_in e.acts)) where
@@ -116,15 +105,12 @@ module _ (limits : Limits) (t : Tables) (e : Entry) (taken : IsTaken limits t e)
       unclosed : (x : ℕ) → closes_in x (acts_of c m ++ behind limits t e taken) ≡ false
       unclosed x = sym (ap (closes_in x) all) ∙ closes_none limits t e taken c want at stay x
 
-      closed_past : (x : ℕ) (n : Move) (rest : List Act) → closes_in x (acts_of c n ++ rest) ≡ closes_in x rest
-      closed_past x n rest = (parts.move_closes x 0 c n rest).closes
-
       no_closing : (ys : List ℕ) → ((x : ℕ) → closes_in x (map act.Close ys ++ loss_acts flaw) ≡ false) → ys ≡ []
       no_closing [] none = refl
-      no_closing (y ∷ ys) none = absurd (true_false (sym (ap (λ b. b || closes_in y (map act.Close ys ++ loss_acts flaw)) (eq-refl y)) ∙ none y))
+      no_closing (y ∷ ys) none = absurd (true_false (sym (ap (λ b. b || closes_in y (map act.Close ys ++ loss_acts flaw)) (eq_itself y)) ∙ none y))
 
       none_closed : closing t (seen limits t e taken) ≡ []
-      none_closed = no_closing (closing t (seen limits t e taken)) (λ x. sym (closed_past x m (behind limits t e taken)) ∙ unclosed x)
+      none_closed = no_closing (closing t (seen limits t e taken)) (λ x. sym ((parts.move_closes x 0 c m (behind limits t e taken)).closes) ∙ unclosed x)
 
       behind_is : behind limits t e taken ≡ loss_acts flaw
       behind_is = ap (λ ys. map act.Close ys ++ loss_acts flaw) none_closed
@@ -142,8 +128,8 @@ module _ (limits : Limits) (t : Tables) (e : Entry) (taken : IsTaken limits t e)
     }
 
   by_poll : (c want : ℕ) (k : Consumer) → e.event ≡ event.Poll c want → AtPoll limits t e taken c k → TellsOne c e.acts
-  by_poll c want k at (facts.moves_on more m also m_is does all saw) = tells_one c more m also all saw
-  by_poll c want k at (facts.misreads more r also all saw) = record {
+  by_poll c want k at (moves_on more m also m_is does all saw) = tells_one c more m also all saw
+  by_poll c want k at (misreads more r also all saw) = record {
     one = subst (λ z. IsOneTo c (tellings z)) (sym all) (one_by c (Fails (cause.StoreRead r)) (behind limits t e taken) behind_tells);
     last = subst WaitsLast (sym all) behind_waits;
   }
@@ -156,25 +142,13 @@ module _ (limits : Limits) (t : Tables) (e : Entry) (taken : IsTaken limits t e)
     by_event : (ev : Event) → e.event ≡ ev → TellsBy ev e.acts
     unfolding refusals.refusal_of
     by_event (event.Poll c want) at = polled c want (t.consumer c) at refl (poll_live limits t e.now flaw s c want (sym (ap (denial t) at) ∙ goes limits t e taken.owed taken.not_denied))
-    by_event (event.Start c request) at = quiet (ap (λ z. answer_acts t e.now z flaw) at)
-    by_event (event.Head x response) at = quiet (ap (λ z. answer_acts t e.now z flaw) at)
-    by_event (event.Piece x bytes) at = quiet (ap (λ z. answer_acts t e.now z flaw) at)
-    by_event (event.End x) at = quiet (ap (λ z. answer_acts t e.now z flaw) at)
-    by_event (event.Fault x) at = quiet (ap (λ z. answer_acts t e.now z flaw) at)
-    by_event (event.Cancel c) at = quiet (ap (λ z. answer_acts t e.now z flaw) at)
-    by_event (event.Doom key) at = quiet (ap (λ z. answer_acts t e.now z flaw) at)
+    by_event _ at = quiet (ap (λ z. answer_acts t e.now z flaw) at)
 
 -- IN RUNS
 
 denied_by : (ev : Event) (acts : List Act) → IsDenied acts → TellsBy ev acts
 denied_by (event.Poll c want) _ (owed_by.denied refusal) = record { one = tells.nothing; last = tt }
-denied_by (event.Start c request) _ (owed_by.denied refusal) = refl
-denied_by (event.Head x response) _ (owed_by.denied refusal) = refl
-denied_by (event.Piece x bytes) _ (owed_by.denied refusal) = refl
-denied_by (event.End x) _ (owed_by.denied refusal) = refl
-denied_by (event.Fault x) _ (owed_by.denied refusal) = refl
-denied_by (event.Cancel c) _ (owed_by.denied refusal) = refl
-denied_by (event.Doom key) _ (owed_by.denied refusal) = refl
+denied_by _ _ (owed_by.denied refusal) = refl
 
 by_denial : (limits : Limits) (t : Tables) (e : Entry) (b : Bool) → is_denied e.acts ≡ b → Sound t → Turns t → IsOwed limits t e → TellsBy e.event e.acts
 by_denial limits t e true denied s turns owed = denied_by e.event e.acts (is_denial e.acts denied)

@@ -1,9 +1,9 @@
 -- What is called truncated is some first bytes, since as many bytes are stored as positions: records are truthful in every run.
-use Rattle.std.{proofs.{Common.{◌≡◌, inl, inr, ℕ, ◌<◌, ◌≤◌, true, false, Bool, cond, Option, Some, None, refl, ap, sym, ◌∙◌, arith}, lemmas.Bool.Decides.{nat_tests}}, specs.{Prelude.{is_some, nat_lt, option_map}, Option.{option_and_then}}}
+use Rattle.std.{proofs.{Common.{◌≡◌, inl, inr, ℕ, ◌≤◌, true, false, Bool, cond, Option, Some, None, refl, ap, sym, ◌∙◌, arith}, lemmas.Bool.Decides.{nat_tests}}, specs.{Prelude.{is_some, nat_lt}}}
 use Rattle.hc_text.proofs.Basics.{and_left, and_right as and_then, bool_cases}
 use Rattle.hc_record.specs.declared.kind.Kind.TheVariants as kind
 use Rattle.hc_sparse.specs.Cells.{Cell, Covers, size_below}
-use Rattle.hc_effects.proofs.Vocabulary.{kind_of, kind_at, is_growing, is_complete, is_front, OfRuns, Representation, IsStored, tables}
+use Rattle.hc_effects.proofs.Vocabulary.{kind_of, is_growing, is_complete, is_front, OfRuns, Representation, IsStored, tables}
 use Rattle.hc_model.specs.Laws.{IsFront, IsTruthful, TruncatedIsFront}
 use Rattle.hc_effects.proofs.HoleLemmas.{covers_all}
 use Rattle.hc_laws.proofs.{Positions.{no_other_below}, SizesKeep.{sizes_in_runs}, SoundRuns.{runs_are_sound}, Truthful.{whole_is}}
@@ -21,16 +21,14 @@ none_by (Some cell) h = absurd (h refl)
 -- behind the reach nothing is stored
 behind_reach : (v : Representation) (p : ℕ) → IsStored v → v.reach ≤ p → is_some (v.stored p) ≡ true → ⊥
 behind_reach v p store le there =
-    let none : v.stored p ≡ None = store.some_stored p there ∙ store.ends p le in
-    let never : false ≡ true = ap is_some (sym none) ∙ there in
+    let never : false ≡ true = ap is_some (sym (store.some_stored p there ∙ store.ends p le)) ∙ there in
     cc
 
 front_of : (v : Representation) → IsStored v → v.size ≡ size_below v.stored v.reach → is_front v ≡ true → IsFront v
 front_of v store count h =
-    let some : 0 < v.size = (let test : nat_lt 0 v.size ≡ true = and_left _ _ h in grind (arith, nat_tests)) in
     let all : Covers v.stored 0 v.size = covers_all v.stored v.reach 0 v.size (and_then (nat_lt 0 v.size) _ h) in (
       v.size,
-      some,
+      (let test : nat_lt 0 v.size ≡ true = and_left _ _ h in grind (arith, nat_tests)),
       all,
       λ p le. none_by (v.stored p) (λ there. elim (bool_cases (nat_lt p v.reach)) [
         | inl within ↦ no_other_below v.stored v.size p v.reach all (sym count) le (grind (arith, nat_tests)) there
@@ -40,10 +38,7 @@ front_of v store count h =
 
 pub truncated_is : TruncatedIsFront
 unfolding kind_of
-truncated_is t s key r v is row count found =
-    let at : option_map (kind_of t r) (Some v) ≡ Some kind.Truncated = sym (ap (option_and_then (kind_at t)) is ∙ ap (option_map (kind_of t r)) row) ∙ found in
-    let same : kind_of t r v ≡ kind.Truncated = cc in
-    front_of v (s.rows r v row).store count (front_by (is_growing t r) (is_complete v) (is_front v) same)
+truncated_is t s key r v is row count found = front_of v (s.rows r v row).store count (front_by (is_growing t r) (is_complete v) (is_front v) cc)
 
 -- Records are truthful in every run.
 pub truth_in_runs : OfRuns IsTruthful

@@ -1,9 +1,9 @@
 -- What an entry of a run says: which exchanges it closes, what it says to the consumer of a poll, and that a poll
 -- after which nobody leaves closes and loses nothing.
-use Rattle.std.{proofs.Common.{◌≡◌, ◌⊎◌, inl, inr, ℕ, List, [], ◌∷◌, ◌++◌, Bool, true, false, Option, Some, None, refl, ap, sym, ◌∙◌, subst}, specs.Prelude.{◌||◌, ◌==◌, nat_eq, map, filter, reverse}}
+use Rattle.std.{proofs.Common.{◌≡◌, ◌⊎◌, inl, inr, ℕ, List, [], ◌∷◌, ◌++◌, Bool, true, false, Option, Some, None, refl, ap, sym, ◌∙◌, subst}, specs.Prelude.{◌&&◌, not, ◌||◌, ◌==◌, nat_eq, map, filter, reverse}}
 use Rattle.hc_text.proofs.Basics.{bool_cases, or_cases, or_right as or_yes}
 use mathlib.Core.List.{reverse_aux}
-use Rattle.hc_effects.proofs.Vocabulary.{is_denied, closes_in, evicts_in, opening_in, leaves_in, Act, Event, Response, Limits, loses_in, has_loss, misreads_in, fails_in, accepted_acts, answer_acts, loss_acts, close_acts, case_at, case_of, closing, closes_row, must_close, doomed_key_of, doomed_in, doomed_by_head, doomed_by_case, Entry, exchange_heard, Flaw, NoFlaw, Loses, Misreads, flaw_in, Turns, Move, acts_of, poll_move, Tables, Exchange, Consumer, IsOwed, may_stand, may_be, Sound, Among, evicted}
+use Rattle.hc_effects.proofs.Vocabulary.{is_denied, closes_in, evicts_in, opening_in, leaves_in, Act, Event, Response, Limits, loses_in, has_loss, misreads_in, fails_in, accepted_acts, answer_acts, loss_acts, close_acts, case_at, case_of, closing, closes_row, must_close, doomed_key_of, doomed_in, doomed_by_head, doomed_by_case, Entry, exchange_heard, Flaw, NoFlaw, Loses, Misreads, flaw_in, Turns, Move, acts_of, poll_move, Tables, Exchange, Representation, is_keepable, Consumer, IsOwed, may_stand, may_be, Sound, Among, evicted}
 use Rattle.hc_event.specs.declared.act.Act.TheVariants as act
 use Rattle.hc_event.specs.declared.act.Cause.TheVariants as cause
 use Rattle.hc_event.specs.declared.event.Event.TheVariants as event
@@ -37,24 +37,16 @@ closes_passing x test (y ∷ ys) (inr there) passes = elim (bool_cases (test y))
 -- LOSSES
 
 loss_before : (flaw : Flaw) (ys : List ℕ) → has_loss (loss_acts flaw ++ map act.Close ys) ≡ has_loss (loss_acts flaw)
-loss_before NoFlaw ys = all_lose ys
 loss_before (Loses r kind) ys = refl
-loss_before (Misreads r) ys = all_lose ys
+loss_before _ ys = all_lose ys
 
 loss_move : (c : ℕ) (m : Move) (rest : List Act) → has_loss (acts_of c m ++ rest) ≡ has_loss rest
 loss_move c moves.Nothing rest = refl
-loss_move c (moves.Waits wait) rest = refl
-loss_move c (moves.Asks x) rest = refl
-loss_move c (moves.Opens x n request) rest = refl
-loss_move c (moves.Shows r why head lo hi) rest = refl
-loss_move c (moves.Gives run) rest = refl
-loss_move c moves.Ends rest = refl
-loss_move c (moves.Fails cause) rest = refl
+loss_move c _ rest = refl
 
 loss_said : (t : Tables) (now : ℕ) (ev : Event) (flaw : Flaw) (acts rest : List Act) → IsSaid t now ev flaw acts → has_loss (acts ++ rest) ≡ has_loss rest
-loss_said t now ev flaw _ rest parts.silent = refl
 loss_said t now ev flaw _ rest (parts.does c want k m at row is near) = loss_move c m rest
-loss_said t now ev flaw _ rest (parts.misreads c want r at is) = refl
+loss_said t now ev flaw _ rest _ = refl
 
 -- who fails leaves
 pub fails_leaves : (c : ℕ) (acts : List Act) → fails_in c acts ≡ true → leaves_in c acts ≡ true
@@ -75,6 +67,11 @@ abbrev pub is_asking : Event → Bool
 is_asking (event.Poll c want) = true
 is_asking (event.Cancel c) = true
 is_asking _ = false
+
+-- where there is no cause to go, nothing goes
+pub none_goes : (v : Representation) (b : Bool) → (b && (false || false) || false || false || false || (false && not (is_keepable v)) || false) ≡ false
+none_goes v true = refl
+none_goes v false = refl
 
 -- an owed entry that isn't denied
 pub record IsTaken (limits : Limits) (t : Tables) (e : Entry) : Type 0 where
@@ -157,7 +154,6 @@ module _ (limits : Limits) (t : Tables) (e : Entry) (taken : IsTaken limits t e)
 
       by_event : (ev : Event) → doomed_in t e ev ≡ doomed_in t seen ev
       by_event (event.Head x response) = by_row response (t.exchange x)
-      by_event (event.Doom key) = refl
       by_event _ = refl
 
   -- LOST, EVICTED, MISREAD

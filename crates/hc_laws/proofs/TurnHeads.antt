@@ -1,16 +1,14 @@
 -- A 304 that validates lets its consumer through: what is current stays so.
-use Rattle.std.{proofs.Common.{◌≡◌, ℕ, [], ◌∷◌, ◌++◌, Bool, true, false, Option, Some, None, refl, ap, sym, ◌∙◌}, specs.{Prelude.{◌&&◌, ◌||◌, ◌==◌, not, is_none, is_some, if◌then◌else◌, nat_le}, Option.{option_map}}}
+use Rattle.std.{proofs.Common.{◌≡◌, ℕ, [], ◌++◌, Bool, true, false, Option, Some, None, refl, ap, sym, ◌∙◌}, specs.{Prelude.{◌&&◌, ◌||◌, ◌==◌, not, is_none, is_some, if◌then◌else◌, nat_le}, Option.{option_map}}}
 use Rattle.hc_text.proofs.Basics.{and_left, and_none, and_right as and_then, not_true as not_yes, some_inj}
-use Rattle.hc_effects.proofs.Vocabulary.{opening_in, Response, HeadCase, HeadView, Route, Limits, Write, head_case, case_on, direct_case, first_case, later_case, is_conditional, is_same_number, route_of, has_loss, misreads_in, leaver_in, answer_acts, loss_acts, case_at, case_of, head_view, validates, is_founding, must_close, is_doomed, is_left, leaver, leaver_by, is_refused, brings_head, has_no_survivor, awaits, current, is_current, is_number, doomed_key_of, doomed_in, doomed_by_head, doomed_by_case, bypass_key, bypassed_by, is_key, Entry, entry_without_acts, exchange_at, is_headless, family, flaw_in, becomes_gone, goes_by_head, goes_by_exchange, goes_by_case, ends_early, ends_founding, stops_early, is_keepable, is_written, Tables, Exchange, Representation, evicted, first_idle, room_for, room_by, write_in, brings_body, loses_writing, survivor}
+use Rattle.hc_effects.proofs.Vocabulary.{opening_in, Response, HeadCase, HeadView, Route, Limits, Write, head_case, case_on, direct_case, first_case, later_case, is_conditional, is_same_number, route_of, has_loss, misreads_in, leaver_in, answer_acts, loss_acts, case_at, case_of, head_view, validates, is_founding, must_close, is_doomed, is_left, leaver, leaver_by, is_refused, brings_head, has_no_survivor, awaits, current, is_current, is_number, doomed_key_of, doomed_in, doomed_by_head, doomed_by_case, bypass_key, bypassed_by, is_key, Entry, entry_without_acts, exchange_at, is_headless, family, flaw_in, becomes_gone, goes_by_head, goes_by_exchange, goes_by_case, ends_early, ends_founding, stops_early, is_written, Tables, Exchange, Representation, evicted, first_idle, room_for, room_by, write_in, brings_body, loses_writing, survivor}
 use Rattle.hc_event.specs.declared.act.Need.TheVariants as need
 use Rattle.hc_event.specs.declared.event.Event.TheVariants as event
 use Rattle.hc_rules.specs.declared.heads.HeadCase.TheVariants as case
 use Rattle.hc_rules.specs.declared.need.Route.TheVariants as route
 use Rattle.hc_rules.specs.declared.room.Write.TheVariants as write
-use Rattle.hc_effects.proofs.ActParts as parts
-use Rattle.hc_effects.proofs.{Joining.{mix}, KeyRows.{same_number}}
-use Rattle.hc_laws.proofs.TurnFacts as facts
-use Rattle.hc_laws.proofs.{TurnFacts.{IsTaken, seen, stays_open, told_quiet, evicts_none, same_case, same_doom}, PassedKeeps.{conditional_need}, HadHeaded.{lossless_none as no_loss}}
+use Rattle.hc_effects.proofs.{ActParts.{leaver_lost}, Joining.{mix}, KeyRows.{same_number}}
+use Rattle.hc_laws.proofs.{TurnFacts.{none_goes, loss_seen, is_asking, IsTaken, seen, stays_open, told_quiet, evicts_none, same_case, same_doom}, PassedKeeps.{conditional_need}, HadHeaded.{lossless_none as no_loss}}
 
 -- THE CASE
 
@@ -105,15 +103,12 @@ module _ (limits : Limits) (t : Tables) (e : Entry) (taken : IsTaken limits t e)
   abbrev saw : Entry
   saw = seen limits t e taken
 
-  saw_case : case_at t saw ≡ Some case.Validated
-  saw_case = sym (same_case limits t e taken) ∙ found
-
   doom_at : doomed_key_of t e ≡ None
   unfolding doomed_key_of
   doom_at = ap (doomed_in t e) at ∙ (ap (doomed_by_head t e response) row ∙ ap (λ c. doomed_by_case c w response) found)
 
   saw_lossless : has_loss saw.acts ≡ false
-  saw_lossless = facts.loss_seen limits t e taken ∙ lossless
+  saw_lossless = loss_seen limits t e taken ∙ lossless
 
   silent : answer_acts t e.now e.event (flaw_in e.acts) ≡ []
   silent = ap (λ ev. answer_acts t e.now ev (flaw_in e.acts)) at
@@ -126,10 +121,10 @@ module _ (limits : Limits) (t : Tables) (e : Entry) (taken : IsTaken limits t e)
 
   free : (y : ℕ) (u : Exchange) → must_close t saw y u ≡ false
   free y u = all_false (is_refused (case_at t saw) && brings_head y e.event) (is_doomed t saw y u) (has_no_survivor t saw y (family y u) (t.representation (family y u))) (is_left t y (leaver saw))
-      (ap (λ c. is_refused c && brings_head y e.event) saw_case)
+      (ap (λ c. is_refused c && brings_head y e.event) (sym (same_case limits t e taken) ∙ found))
       (ap (λ o. is_key o u.request.key && is_headless (Some u) && awaits (t.consumer u.c) y) (sym (same_doom limits t e taken) ∙ doom_at))
       (keeps_writing y (family y u) (t.representation (family y u)))
-      (ap (is_left t y) (ap (λ ev. leaver_by ev saw.acts) at ∙ (ap (λ acts. leaver_in (acts ++ loss_acts (flaw_in e.acts))) silent ∙ parts.leaver_lost (flaw_in e.acts))))
+      (ap (is_left t y) (ap (λ ev. leaver_by ev saw.acts) at ∙ (ap (λ acts. leaver_in (acts ++ loss_acts (flaw_in e.acts))) silent ∙ leaver_lost (flaw_in e.acts))))
     where
       all_false : (a b d f : Bool) → a ≡ false → b ≡ false → d ≡ false → f ≡ false → (a || b || d || f) ≡ false
       all_false a b d f p q y z = rw (p, q, y, z) refl
@@ -139,13 +134,10 @@ module _ (limits : Limits) (t : Tables) (e : Entry) (taken : IsTaken limits t e)
   ends_none r (Some u) = ap (λ b. u.is_open && b) (rw (ap (stops_early u r) at) (stays_open limits t e taken r (λ z there. free r z))) ∙ and_none u.is_open
 
   opens_none : opening_in e.acts ≡ None
-  opens_none = (told_quiet limits t e taken 0 0 silent (ap facts.is_asking at)).opens
-
-  case_before : case_at t (entry_without_acts e.now e.event) ≡ Some case.Validated
-  case_before = ap (λ b. case_of t b e.event) (sym lossless) ∙ found
+  opens_none = (told_quiet limits t e taken 0 0 silent (ap is_asking at)).opens
 
   write_none : write_in t (entry_without_acts e.now e.event) e.event ≡ None
-  write_none = ap (write_in t (entry_without_acts e.now e.event)) at ∙ ap (λ c. write_by c) case_before
+  write_none = ap (write_in t (entry_without_acts e.now e.event)) at ∙ ap (λ c. write_by c) (ap (λ b. case_of t b e.event) (sym lossless) ∙ found)
     where
       write_by : Option HeadCase → Option Write
       write_by c = if is_founding c then Some write.Slot else None
@@ -160,10 +152,6 @@ module _ (limits : Limits) (t : Tables) (e : Entry) (taken : IsTaken limits t e)
   goes_none r v =
       let head : goes_by_head t e r ≡ false = ap (λ ev. goes_by_exchange t e r (exchange_at t ev)) at ∙ (ap (goes_by_exchange t e r) row ∙ ap (λ c. goes_by_case t e r c w) found) in
       let past : bypass_key e ≡ None = ap bypassed_by opens_none in
-      let reads : misreads_in r e.acts ≡ false = (told_quiet limits t e taken 0 r silent (ap facts.is_asking at)).misreads in
+      let reads : misreads_in r e.acts ≡ false = (told_quiet limits t e taken 0 r silent (ap is_asking at)).misreads in
       let early : ends_early t e r v ≡ false = ap (λ b. v.head.status == 200 && b) (ends_none r (t.exchange r)) ∙ and_none (v.head.status == 200) in
-      rw (doom_at, past, head, no_loss r e.acts lossless, reads, early, evicts_none limits t e taken r evicted_none) (by_current (is_current t v.key r))
-    where
-      by_current : (b : Bool) → (b && (false || false) || false || false || false || (false && not (is_keepable v)) || false) ≡ false
-      by_current true = refl
-      by_current false = refl
+      rw (doom_at, past, head, no_loss r e.acts lossless, reads, early, evicts_none limits t e taken r evicted_none) (none_goes v (is_current t v.key r))

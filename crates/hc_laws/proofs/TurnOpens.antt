@@ -1,7 +1,7 @@
 -- Who opens an exchange waits for its head; and a poll after which nobody leaves closes and loses nothing.
 use Rattle.std.{proofs.Common.{◌≡◌, ◌⊎◌, inl, inr, ℕ, ◌+◌, List, [], ◌∷◌, ◌++◌, length, Bool, true, false, Option, Some, None, refl, ap, sym, ◌∙◌, subst}, specs.Prelude.{◌&&◌, ◌||◌, ◌==◌, nat_eq, not, is_none, if◌then◌else◌}}
 use Rattle.hc_text.proofs.Basics.{and_left, and_none, eq_itself as eq-refl, not_some as none_some, plus_none, some_inj}
-use Rattle.hc_effects.proofs.Vocabulary.{Opening, opening_in, closes_in, leaves_in, shows_in, given_in, Act, Need, Event, Request, Limits, route_of, is_bypassing, BoundBy, Place, wait_in, fails_in, leaver_in, loses_in, misreads_in, has_loss, without_losses, Showing, showing_in, loss_acts, case_at, case_of, must_close, is_doomed, is_left, leaver, leaver_by, is_refused, brings_head, has_no_survivor, awaits, consumer_after, consumer_settled, consumer_acted, consumer_heard, by_opening, waiting, waiting_place, shown_place, own_after, left_to, due_after, back_in_line, unless_bound, opened_place, is_number, is_current, doomed_key_of, doomed_in, bypass_key, bypassed_by, bypassed_for, is_key, Entry, exchange_at, is_headless, family, Flaw, NoFlaw, Loses, Misreads, flaw_in, becomes_gone, goes_by_head, goes_by_exchange, ends_early, ends_founding, stops_early, is_keepable, goes_in, Turns, StandsFor, turn_with, Move, acts_of, bound_to, is_written, Tables, Exchange, Representation, Consumer, may_be, Sound, starts_over, sends_back, loses_what_it_waits_for, brings_body, loses_writing, survivor, written_representation, written_in, seals_at, stops, first_found, lossless}
+use Rattle.hc_effects.proofs.Vocabulary.{Opening, opening_in, closes_in, leaves_in, shows_in, given_in, Act, Need, Event, Request, Limits, route_of, is_bypassing, BoundBy, Place, wait_in, fails_in, leaver_in, loses_in, misreads_in, has_loss, without_losses, Showing, showing_in, loss_acts, case_at, case_of, must_close, is_doomed, is_left, leaver, leaver_by, is_refused, brings_head, has_no_survivor, awaits, consumer_after, consumer_settled, consumer_acted, consumer_heard, by_opening, waiting, waiting_place, shown_place, own_after, left_to, due_after, back_in_line, unless_bound, opened_place, is_number, is_current, doomed_key_of, doomed_in, bypass_key, bypassed_by, bypassed_for, is_key, Entry, exchange_at, is_headless, family, Flaw, Loses, flaw_in, becomes_gone, goes_by_head, goes_by_exchange, ends_early, ends_founding, stops_early, goes_in, Turns, StandsFor, turn_with, Move, acts_of, bound_to, is_written, Tables, Exchange, Representation, Consumer, may_be, Sound, starts_over, sends_back, loses_what_it_waits_for, brings_body, loses_writing, survivor, written_representation, written_in, seals_at, stops, first_found, lossless}
 use Rattle.hc_event.specs.declared.act.Need.TheVariants as need
 use Rattle.hc_event.specs.declared.act.Wait.TheVariants as wait
 use Rattle.hc_event.specs.declared.event.Event.TheVariants as event
@@ -11,9 +11,7 @@ use Rattle.hc_event.specs.declared.place.Place.TheVariants as place
 use Rattle.hc_model.specs.ConsumerRows.{with_opening}
 use Rattle.hc_model.specs.Laws as laws
 use Rattle.hc_model.specs.Moves as moves
-use Rattle.hc_effects.proofs.ActParts as parts
-use Rattle.hc_effects.proofs.{Basics.{number_is}, KeysKeep.{IsOpening, opened_is}, TurnMoves.{Does}, KeyActs.{closes_lossless}}
-use Rattle.hc_effects.proofs.KeysKeep as keeps
+use Rattle.hc_effects.proofs.{ActParts.{leaver_lost}, Basics.{number_is}, KeysKeep.{opening, IsOpening, opened_is}, TurnMoves.{Does}, KeyActs.{closes_lossless}}
 use Rattle.hc_laws.proofs.TurnFacts.{IsTaken, AtPoll, acts_is, seen, behind, far_behind, opens_behind, at_poll, stays_open, loses_as, misreads_behind, evicts_asked, may_be_so}
 use Rattle.hc_laws.proofs.TurnFacts as facts
 use Rattle.hc_effects.proofs.TurnMoves as does
@@ -23,6 +21,10 @@ is_poll (event.Poll c want) = true
 is_poll _ = false
 
 -- A CALM POLL
+
+pub found_none : (f : ℕ → Option ℕ) (xs : List ℕ) → ((x : ℕ) → f x ≡ None) → first_found f xs ≡ None
+found_none f [] all = refl
+found_none f (x ∷ xs) all = rw (all x) (found_none f xs all)
 
 -- after which nobody leaves
 module _ (limits : Limits) (t : Tables) (e : Entry) (taken : IsTaken limits t e) (c want : ℕ) (at : e.event ≡ event.Poll c want) (nobody : leaver_in (seen limits t e taken).acts ≡ None) where
@@ -64,19 +66,14 @@ module _ (limits : Limits) (t : Tables) (e : Entry) (taken : IsTaken limits t e)
       let b : closes_in x (without_losses e.acts) ≡ false = closes_lossless x e.acts ∙ closes_none x in
       rw (a, b) refl
 
-  found_none : (f : ℕ → Option ℕ) (xs : List ℕ) → ((x : ℕ) → f x ≡ None) → first_found f xs ≡ None
-  found_none f [] all = refl
-  found_none f (x ∷ xs) all = rw (all x) (found_none f xs all)
-
   writes_none : written_representation t e ≡ None
   unfolding written_representation
   writes_none = ap (written_in t (lossless e)) at ∙ found_none (seals_at t (lossless e)) t.openings seals_none
 
   lost_none : (r : ℕ) (f : Flaw) → may_be limits t e f ≡ true → loses_in r (loss_acts f) ≡ false
-  lost_none r NoFlaw may = refl
-  lost_none r (Misreads q) may = refl
   lost_none r (Loses q kind) may =
       absurd (none_some q (sym writes_none ∙ number_is (written_representation t e) q (and_left _ _ (and_left _ _ may))))
+  lost_none r _ may = refl
 
   -- nothing is lost
   pub loses_none : (r : ℕ) → loses_in r e.acts ≡ false
@@ -99,11 +96,7 @@ module _ (limits : Limits) (t : Tables) (e : Entry) (taken : IsTaken limits t e)
   goes_none r v past reads =
       let none : doomed_key_of t e ≡ None = doom_none in
       let early : ends_early t e r v ≡ false = ap (λ b. v.head.status == 200 && b) (ends_none r (t.exchange r)) ∙ and_none (v.head.status == 200) in
-      rw (none, past, head_none r, loses_none r, reads, early, evicts_asked limits t e taken r (ap facts.is_asking at)) (by_current (is_current t v.key r))
-    where
-      by_current : (b : Bool) → (b && (false || false) || false || false || false || (false && not (is_keepable v)) || false) ≡ false
-      by_current true = refl
-      by_current false = refl
+      rw (none, past, head_none r, loses_none r, reads, early, evicts_asked limits t e taken r (ap facts.is_asking at)) (facts.none_goes v (is_current t v.key r))
 
 -- WHO OPENS
 
@@ -122,16 +115,7 @@ need_of _ = need.Miss
 -- a move that opens
 opened_does : (c : ℕ) (m : Move) (rest : List Act) (o : Opening) → opening_in rest ≡ None → opening_in (acts_of c m ++ rest) ≡ Some o → m ≡ moves.Opens o.x o.need o.request
 opened_does c (moves.Opens x n request) rest o none h = ap (λ (q : Opening). moves.Opens q.x q.need q.request) (some_inj _ o h)
-opened_does c moves.Nothing rest o none h = absurd (none_some o (sym none ∙ h))
-opened_does c (moves.Waits wait) rest o none h = absurd (none_some o (sym none ∙ h))
-opened_does c (moves.Asks x) rest o none h = absurd (none_some o (sym none ∙ h))
-opened_does c (moves.Shows r why head lo hi) rest o none h = absurd (none_some o (sym none ∙ h))
-opened_does c (moves.Gives run) rest o none h = absurd (none_some o (sym none ∙ h))
-opened_does c moves.Ends rest o none h = absurd (none_some o (sym none ∙ h))
-opened_does c (moves.Fails cause) rest o none h = absurd (none_some o (sym none ∙ h))
-
-no_opening : {A : Type 0} (m : Move) (x : ℕ) (n : Need) (request : Request) → is_opening m ≡ false → m ≡ moves.Opens x n request → A
-no_opening m x n request other is = absurd (let no_one : true ≡ false = sym (ap is_opening is) ∙ other in cc)
+opened_does c _ rest o none h = absurd (none_some o (sym none ∙ h))
 
 -- why a poll opened, told of what it opened
 pub data OpensFor (t : Tables) (c : ℕ) (k : Consumer) (x : ℕ) (n : Need) : Type 0 where
@@ -151,16 +135,7 @@ opens_for t c k x n request _ (does.first n' request' r lo hi way is_new bound) 
     (sym number, first r lo hi (ap route_of (sym (ap need_of is)) ∙ way) is_new (subst (λ y. opened_place t y k route.Hole ≡ place.Bound r lo hi (by.FirstHole y)) number bound))
 opens_for t c k x n request _ (does.later n' request' r lo hi how way shown at) is =
     (sym (ap number_of is), later r lo hi how (ap route_of (sym (ap need_of is)) ∙ way) shown at)
-opens_for t c k x n request _ does.nothing is = no_opening _ x n request refl is
-opens_for t c k x n request _ (does.waits_turn d is_new other back) is = no_opening _ x n request refl is
-opens_for t c k x n request _ (does.passes d r is_new queues may) is = no_opening _ x n request refl is
-opens_for t c k x n request _ (does.waits_head y) is = no_opening _ x n request refl is
-opens_for t c k x n request _ (does.waits_body y) is = no_opening _ x n request refl is
-opens_for t c k x n request _ (does.asks y) is = no_opening _ x n request refl is
-opens_for t c k x n request _ (does.shows r why head lo hi joined) is = no_opening _ x n request refl is
-opens_for t c k x n request _ (does.given run) is = no_opening _ x n request refl is
-opens_for t c k x n request _ does.ends is = no_opening _ x n request refl is
-opens_for t c k x n request _ (does.fails cause) is = no_opening _ x n request refl is
+opens_for t c k x n request _ _ is = absurd (let no_one : true ≡ false = sym (ap is_opening is) in cc)
 
 -- the poll that opens an exchange
 pub record IsOpenedAt (limits : Limits) (t : Tables) (e : Entry) (taken : IsTaken limits t e) (o : Opening) : Type 0 where
@@ -196,7 +171,7 @@ opened_at limits t e taken s turns o is = by_opening_of (opened_is limits t e.no
         }
 
     by_opening_of : IsOpening t e.event o → IsOpenedAt limits t e taken o
-    by_opening_of (keeps.opening want k at row same) = by_poll_of want k at row same (at_poll limits t e taken o.c want k s turns row at)
+    by_opening_of (opening want k at row same) = by_poll_of want k at row same (at_poll limits t e taken o.c want k s turns row at)
 
 module _ (limits : Limits) (t : Tables) (e : Entry) (taken : IsTaken limits t e) (s : Sound t) (turns : Turns t) (o : Opening) (is : opening_in e.acts ≡ Some o) where
   abbrev pub opened : IsOpenedAt limits t e taken o
@@ -209,7 +184,7 @@ module _ (limits : Limits) (t : Tables) (e : Entry) (taken : IsTaken limits t e)
   k = opened.k
 
   nobody : leaver_in (seen limits t e taken).acts ≡ None
-  nobody = ap leaver_in opened.saw ∙ parts.leaver_lost (flaw_in e.acts)
+  nobody = ap leaver_in opened.saw ∙ leaver_lost (flaw_in e.acts)
 
   -- IT DOESN'T START OVER
 
@@ -225,13 +200,7 @@ module _ (limits : Limits) (t : Tables) (e : Entry) (taken : IsTaken limits t e)
 
   past_none : (n : Need) (key : List ℕ) → (n ≡ need.Bypass → ⊥) → bypassed_for n key ≡ None
   past_none need.Bypass key other = absurd (other refl)
-  past_none need.Disabled key other = refl
-  past_none need.TimedOut key other = refl
-  past_none need.Miss key other = refl
-  past_none need.Vary key other = refl
-  past_none need.Validate key other = refl
-  past_none (need.Hole from to) key other = refl
-  past_none need.Unsatisfied key other = refl
+  past_none _ key other = refl
 
   bypassed_none : is_bypassing k.request ≡ false → bypass_key e ≡ None
   bypassed_none plain = ap bypassed_by is ∙ past_none o.need o.request.key (not_bypass opened.why plain)
@@ -263,9 +232,7 @@ module _ (limits : Limits) (t : Tables) (e : Entry) (taken : IsTaken limits t e)
   pending_head = rw (eq-refl c) refl
 
   waits_same : waiting t e c k ≡ k
-  waits_same =
-      let head : wait_in c e.acts ≡ Some (wait.Head o.x) = ap (wait_in c) opened.acts ∙ pending_head in
-      ap (λ w. record k { place = waiting_place t k w }) head
+  waits_same = ap (λ w. record k { place = waiting_place t k w }) (ap (wait_in c) opened.acts ∙ pending_head)
 
   pub record IsOpener (z : Consumer) : Type 0 where
     pub place : z.place ≡ place_after
@@ -291,12 +258,11 @@ module _ (limits : Limits) (t : Tables) (e : Entry) (taken : IsTaken limits t e)
   acted_is =
       let far = far_behind limits t e taken c in
       let leaves : leaves_in c e.acts ≡ false = ap (leaves_in c) opened.acts ∙ far.leaves in
-      let shows : shows_in c e.acts ≡ false = ap (shows_in c) opened.acts ∙ far.shows in
       let q = by_opening t c (opening_in e.acts) (waiting t e c k) in
       record {
         place = rw leaves (showing_none (showing_in e.acts) q.place (λ z h. far.showing z (sym (ap showing_in opened.acts) ∙ h)) ∙ ap (λ (z : Consumer). z.place) opening_same);
         own = own_same k.place q.own ∙ ap (λ (z : Consumer). z.own) opening_same;
-        shown = ap (λ b. b || q.shown) shows ∙ ap (λ (z : Consumer). z.shown) opening_same;
+        shown = ap (λ b. b || q.shown) (ap (shows_in c) opened.acts ∙ far.shows) ∙ ap (λ (z : Consumer). z.shown) opening_same;
         given = ap (λ (bytes : List ℕ). q.given + length bytes) (ap (given_in c) opened.acts ∙ far.given) ∙ (plus_none q.given ∙ ap (λ (z : Consumer). z.given) opening_same);
         request = ap (λ (z : Consumer). z.request) opening_same;
       }

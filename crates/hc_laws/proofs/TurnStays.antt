@@ -1,6 +1,6 @@
 -- Who waits for a head goes on waiting, as long as no head comes.
 use Rattle.std.{proofs.Common.{◌≡◌, inl, inr, ℕ, ◌+◌, List, [], ◌∷◌, ◌++◌, Bool, true, false, cond, Option, Some, None, refl, ap, sym, ◌∙◌, subst}, specs.{Prelude.{length, ◌&&◌, ◌||◌, ◌==◌, nat_eq, not, is_none, is_some, if◌then◌else◌}, Option.{option_and_then}}}
-use Rattle.hc_text.proofs.Basics.{and_left, and_right as and_then, bool_cases, eq_itself as eq-refl, eq_tells as eq_is, never_true as not_true, plus_none, same_some as same_row, some_inj}
+use Rattle.hc_text.proofs.Basics.{or_right, or_left, and_left, and_right as and_then, bool_cases, eq_itself as eq-refl, eq_tells as eq_is, never_true as not_true, plus_none, same_some as same_row, some_inj}
 use Rattle.hc_effects.proofs.Vocabulary.{Opening, opening_in, closes_in, leaves_in, shows_in, given_in, Act, Event, Response, head_refusal, fault_refusal, Route, Limits, route_of, BoundBy, Place, has_loss, wait_in, leaver_in, Showing, showing_in, case_at, case_of, must_close, is_doomed, is_left, is_left_by, awaits, leaver, leaver_by, is_refused, brings_head, consumer_after, consumer_settled, consumer_acted, consumer_heard, by_head, by_fault, by_opening, waiting, waiting_place, shown_place, own_after, left_to, due_after, back_in_line, is_number, denial, as_open, doomed_key_of, is_key, Entry, exchange_heard, exchange_acted, promised_bytes, exchange_at, is_for, is_headless, is_open, IsOfOneKey, Turns, StandsFor, IsAwaited, Move, acts_of, poll_move, shows_head, shows_at, shows_direct, shows_answer, if_headless, waits_for_head, or_else, by_place, has_joined, own_open, if_open, is_written, is_open_writer, Tables, Exchange, Representation, Consumer, Sound, IsAbout, starts_over, sends_back, waits_at, awaited_exchange, loses_what_it_waits_for, loses_writing}
 use Rattle.hc_event.specs.declared.act.Act.TheVariants as act
 use Rattle.hc_event.specs.declared.act.Wait.TheVariants as wait
@@ -113,9 +113,6 @@ module _ (limits : Limits) (t : Tables) (e : Entry) (taken : IsTaken limits t e)
   abbrev k : Consumer
   k = it.k
 
-  goes_on : denial t e.event ≡ None
-  goes_on = goes limits t e taken.owed taken.not_denied
-
   -- WHAT DOESN'T HAPPEN TO IT
 
   at_event : (ev : Event) → e.event ≡ ev → is_headless (Some (exchange_acted x e.acts (exchange_heard t e x ev w))) ≡ true
@@ -130,15 +127,11 @@ module _ (limits : Limits) (t : Tables) (e : Entry) (taken : IsTaken limits t e)
   pub not_faulted : (y : ℕ) → e.event ≡ event.Fault y → nat_eq y x ≡ true → ⊥
   not_faulted y at here =
       let h = at_event (event.Fault y) at in
-      let open_yet = and_left _ (is_none w.head) (rw here at h) in
-      let no_one : false ≡ true = and_then (not (closes_in x e.acts)) false open_yet in
+      let no_one : false ≡ true = and_then (not (closes_in x e.acts)) false (and_left _ (is_none w.head) (rw here at h)) in
       cc
 
   not_closed : closes_in x e.acts ≡ true → ⊥
-  not_closed closed =
-      let open_yet = and_left (not (closes_in x e.acts) && (exchange_heard t e x e.event w).is_open) _ stays in
-      let no_one : false ≡ true = sym (ap not closed) ∙ and_left (not (closes_in x e.acts)) _ open_yet in
-      cc
+  not_closed closed = cc
 
   stays_open_at : (ev : Event) → e.event ≡ ev → (exchange_heard t (seen limits t e taken) x ev w).is_open ≡ true
   stays_open_at (event.Head y response) at = elim (bool_cases (y == x)) [
@@ -150,14 +143,6 @@ module _ (limits : Limits) (t : Tables) (e : Entry) (taken : IsTaken limits t e)
   stays_open_at (event.Fault y) at = and_then (not (closes_in x e.acts)) _ (and_left _ _ (at_event (event.Fault y) at))
   stays_open_at _ at = is_open_headless w headless
 
-  or_yes : (a b : Bool) → b ≡ true → (a || b) ≡ true
-  or_yes true b h = refl
-  or_yes false b h = h
-
-  or_first : (a b : Bool) → a ≡ true → (a || b) ≡ true
-  or_first true b h = refl
-  or_first false b h = absurd (let no_one : false ≡ true = h in cc)
-
   -- it needn't be closed
   pub not_must : must_close t (seen limits t e taken) x w ≡ true → ⊥
   not_must must = not_closed (is_closed limits t e taken x w (s.numbered.lists.opened x (ap is_some row)) row must (stays_open_at e.event refl))
@@ -168,8 +153,7 @@ module _ (limits : Limits) (t : Tables) (e : Entry) (taken : IsTaken limits t e)
   pub not_leaving : leaver (seen limits t e taken) ≡ Some c → ⊥
   not_leaving leaves =
       let mine : is_number (own_open t k) x ≡ true = ap (λ o. is_number o x) own_is_open ∙ eq-refl x in
-      let left : is_left t x (leaver (seen limits t e taken)) ≡ true = ap (is_left t x) leaves ∙ (ap (is_left_by t x c) it.row ∙ or_first (is_number (own_open t k) x) _ mine) in
-      not_must (or_yes _ (is_left t x (leaver (seen limits t e taken))) left)
+      not_must (or_right _ (is_left t x (leaver (seen limits t e taken))) (ap (is_left t x) leaves ∙ (ap (is_left_by t x c) it.row ∙ or_left (is_number (own_open t k) x) _ mine)))
 
   -- ITS CONSUMER
 
@@ -177,9 +161,7 @@ module _ (limits : Limits) (t : Tables) (e : Entry) (taken : IsTaken limits t e)
   mine y w' row' bare here =
       let a = turns.awaited y w' row' bare in
       let same : a.k ≡ k = same_row (t.consumer c) a.k k (ap t.consumer (sym (eq_is w'.c c here)) ∙ a.row) it.row in
-      let one_own : Some y ≡ Some x = sym a.own ∙ (ap (λ (z : Consumer). z.own) same ∙ it.own) in
-      let is : y ≡ x = some_inj y x one_own in
-      ap (λ n. nat_eq n x) is ∙ eq-refl x
+      ap (λ n. nat_eq n x) (some_inj y x (sym a.own ∙ (ap (λ (z : Consumer). z.own) same ∙ it.own))) ∙ eq-refl x
 
   keeps_if : (b : Bool) (u : Consumer) → (b ≡ true → ⊥) → (if b then u else k) ≡ k
   keeps_if b u never_so = let fails = not_true b never_so in rw fails refl
@@ -194,7 +176,7 @@ module _ (limits : Limits) (t : Tables) (e : Entry) (taken : IsTaken limits t e)
       not_faulted y at (mine y w' row' (fault_opens w' h (and_then (w'.c == c) _ (and_left _ _ both))) (and_left (w'.c == c) _ (and_left _ _ both))))
 
   denied_at : (ev : Event) → e.event ≡ ev → denial t ev ≡ None
-  denied_at ev at = sym (ap (denial t) at) ∙ goes_on
+  denied_at ev at = sym (ap (denial t) at) ∙ (goes limits t e taken.owed taken.not_denied)
 
   leaver_at : (ev : Event) → e.event ≡ ev → leaver (seen limits t e taken) ≡ leaver_by ev (seen limits t e taken).acts
   leaver_at ev at = ap (λ z. leaver_by z (seen limits t e taken).acts) at
@@ -240,26 +222,16 @@ module _ (limits : Limits) (t : Tables) (e : Entry) (taken : IsTaken limits t e)
   is_put (event.Poll d want) at = elim (bool_cases (d == c)) [
     | inl here ↦ put_poll (at_poll limits t e taken c want k s turns it.row (at ∙ ap (λ n. event.Poll n want) (eq_is d c here)))
     | inr other ↦ put_far (far_from limits t e taken c (λ want' also.
-        let same : d ≡ c = ap poller (sym at ∙ also) in
-        let no_one : false ≡ true = sym other ∙ (ap (λ n. nat_eq n c) same ∙ eq-refl c) in
+        let no_one : false ≡ true = sym other ∙ (ap (λ n. nat_eq n c) (ap poller (sym at ∙ also)) ∙ eq-refl c) in
         cc))
   ]
-  is_put (event.Start d request) at = put_far (far_from limits t e taken c (λ want also. no_poll (event.Start d request) want refl (sym at ∙ also)))
-  is_put (event.Head y response) at = put_far (far_from limits t e taken c (λ want also. no_poll (event.Head y response) want refl (sym at ∙ also)))
-  is_put (event.Piece y bytes) at = put_far (far_from limits t e taken c (λ want also. no_poll (event.Piece y bytes) want refl (sym at ∙ also)))
-  is_put (event.End y) at = put_far (far_from limits t e taken c (λ want also. no_poll (event.End y) want refl (sym at ∙ also)))
-  is_put (event.Fault y) at = put_far (far_from limits t e taken c (λ want also. no_poll (event.Fault y) want refl (sym at ∙ also)))
-  is_put (event.Cancel d) at = put_far (far_from limits t e taken c (λ want also. no_poll (event.Cancel d) want refl (sym at ∙ also)))
-  is_put (event.Doom key) at = put_far (far_from limits t e taken c (λ want also. no_poll (event.Doom key) want refl (sym at ∙ also)))
+  is_put v at = put_far (far_from limits t e taken c (λ want also. no_poll v want refl (sym at ∙ also)))
 
   -- ITS OWN
 
   writer_some : (o : Option ℕ) → is_open_writer t o ≡ true → (y : ℕ) × (o ≡ Some y) × (is_open (t.exchange y) ≡ true)
   writer_some None h = absurd (let no_one : false ≡ true = h in cc)
   writer_some (Some y) h = (y, refl, h)
-
-  open_row : (y : ℕ) (w' : Exchange) → t.exchange y ≡ Some w' → is_open (t.exchange y) ≡ true → w'.is_open ≡ true
-  open_row y w' row' h = sym (ap is_open row') ∙ h
 
   written_is : (v : Representation) → is_written t v ≡ true → (not v.is_lost && is_open_writer t v.writer) ≡ true
   unfolding is_written
@@ -272,9 +244,8 @@ module _ (limits : Limits) (t : Tables) (e : Entry) (taken : IsTaken limits t e)
       let grows = (s.rows r v there).growing parts.0 on parts.1 in
       let w' = grows.0 in
       let g = grows.1 in
-      let writing : IsAbout t r parts.0 = sound.headed w' g.row (open_row parts.0 w' g.row parts.2) g.headed g.family_is (ap is_some there) in
-      let mine_is : IsAbout t r x = s.writes.own_about r c x k (sound.is_bound lo hi how it.row at) own_is_open in
-      let same : parts.0 ≡ x = s.one_about r parts.0 x writing mine_is in
+      let writing : IsAbout t r parts.0 = sound.headed w' g.row (sym (ap is_open g.row) ∙ parts.2) g.headed g.family_is (ap is_some there) in
+      let same : parts.0 ≡ x = s.one_about r parts.0 x writing (s.writes.own_about r c x k (sound.is_bound lo hi how it.row at) own_is_open) in
       headed_not w headless (ap (λ (z : Exchange). is_some z.head) (same_row (t.exchange x) w w' row (ap t.exchange (sym same) ∙ g.row)) ∙ g.headed)
 
   left_same : (r lo : ℕ) (hi : Option ℕ) (how : BoundBy) (own : Option ℕ) (o : Option Representation) → k.place ≡ place.Bound r lo hi how → t.representation r ≡ o → left_to t e c r o own ≡ own
@@ -295,7 +266,7 @@ module _ (limits : Limits) (t : Tables) (e : Entry) (taken : IsTaken limits t e)
       let for_it : is_key (doomed_key_of t (seen limits t e taken)) w.request.key ≡ true = ap (λ o. is_key o w.request.key) (sym (same_doom limits t e taken)) ∙ (ap (is_key (doomed_key_of t e)) key_of ∙ doom) in
       let waiting_it : awaits (t.consumer w.c) x ≡ true = ap (λ o. awaits o x) it.row ∙ waits in
       let closes : is_doomed t (seen limits t e taken) x w ≡ true = rw (for_it, headless, waiting_it) refl in
-      not_must (or_first _ _ (or_first _ _ (or_yes (is_refused (case_at t (seen limits t e taken)) && brings_head x e.event) (is_doomed t (seen limits t e taken) x w) closes)))
+      not_must (or_left _ _ (or_left _ _ (or_right (is_refused (case_at t (seen limits t e taken)) && brings_head x e.event) (is_doomed t (seen limits t e taken) x w) closes)))
 
   first_not : (r lo y : ℕ) (hi : Option ℕ) → k.place ≡ place.Bound r lo hi (by.FirstHole y) → k.shown ≡ true → is_headless (t.exchange y) ≡ true → ⊥
   first_not r lo y hi at shown waits =
@@ -305,8 +276,7 @@ module _ (limits : Limits) (t : Tables) (e : Entry) (taken : IsTaken limits t e)
 
   not_waiting : (r lo : ℕ) (hi : Option ℕ) (how : BoundBy) → k.place ≡ place.Bound r lo hi how → k.shown ≡ true → waits_at t (place.Bound r lo hi how) ≡ true → ⊥
   not_waiting r lo hi (by.FirstHole y) at shown waits = first_not r lo y hi at shown waits
-  not_waiting r lo hi by.Founding at shown waits = let no_one : false ≡ true = waits in cc
-  not_waiting r lo hi by.Plan at shown waits = let no_one : false ≡ true = waits in cc
+  not_waiting r lo hi _ at shown waits = let no_one : false ≡ true = waits in cc
 
   not_doomed : (way : Route) → StandsFor x k way → is_key (doomed_key_of t e) k.request.key ≡ true → waits_at t k.place ≡ true → ⊥
   not_doomed _ (laws.direct at) doom waits = let no_one : false ≡ true = sym (ap (waits_at t) at) ∙ waits in cc
@@ -321,21 +291,11 @@ module _ (limits : Limits) (t : Tables) (e : Entry) (taken : IsTaken limits t e)
   no_case : (b : Bool) (ev : Event) → ((y : ℕ) (response : Response) → ev ≡ event.Head y response → ⊥) → sends_back (case_of t b ev) ≡ false
   unfolding case_of
   no_case b (event.Head y response) other = absurd (other y response refl)
-  no_case b (event.Start d request) other = refl
-  no_case b (event.Poll d want) other = refl
-  no_case b (event.Piece y bytes) other = refl
-  no_case b (event.End y) other = refl
-  no_case b (event.Fault y) other = refl
-  no_case b (event.Cancel d) other = refl
-  no_case b (event.Doom key) other = refl
+  no_case b _ other = refl
 
   not_sent : (ev : Event) → e.event ≡ ev → (sends_back (case_of t (has_loss e.acts) ev) && is_for (exchange_at t ev) c) ≡ true → ⊥
   unfolding refusals.refusal_of
   not_sent (event.Head y response) at h = sent_row y response (t.exchange y) at (denied_at (event.Head y response) at) refl (and_then _ (is_for (t.exchange y) c) h)
-  not_sent (event.Start d request) at h = let no_one : false ≡ true = and_then _ false h in cc
-  not_sent (event.Poll d want) at h = let no_one : false ≡ true = and_then _ false h in cc
-  not_sent (event.Cancel d) at h = let no_one : false ≡ true = and_then _ false h in cc
-  not_sent (event.Doom key) at h = let no_one : false ≡ true = and_then _ false h in cc
   not_sent (event.Piece y bytes) at h =
       let no_one : false ≡ true = sym (no_case (has_loss e.acts) (event.Piece y bytes) (λ z response is. heads (event.Piece y bytes) z response refl is)) ∙ and_left (sends_back (case_of t (has_loss e.acts) (event.Piece y bytes))) _ h in
       cc
@@ -345,6 +305,7 @@ module _ (limits : Limits) (t : Tables) (e : Entry) (taken : IsTaken limits t e)
   not_sent (event.Fault y) at h =
       let no_one : false ≡ true = sym (no_case (has_loss e.acts) (event.Fault y) (λ z response is. heads (event.Fault y) z response refl is)) ∙ and_left (sends_back (case_of t (has_loss e.acts) (event.Fault y))) _ h in
       cc
+  not_sent _ at h = let no_one : false ≡ true = and_then _ false h in cc
 
   loses_none : (way : Route) → StandsFor x k way → loses_what_it_waits_for t e c k.place ≡ false
   loses_none _ (laws.direct at) = ap (loses_what_it_waits_for t e c) at

@@ -16,12 +16,9 @@ use Rattle.hc_model.specs.ExchangeRows as exchanges
 use Rattle.hc_model.specs.Laws.{IsInTurn, TurnsAreKept, TurnsBegin, TurnsAreOne}
 use Rattle.hc_model.specs.Laws as laws
 use Rattle.hc_model.specs.Moves as moves
-use Rattle.hc_effects.proofs.ActParts as parts
-use Rattle.hc_effects.proofs.{CurrentKeeps.{heard_same, find_only, usable, usable_row, one_current_is_kept}, KeyNames.{opener_key, current_key}, KeysKeep.{same_exchange, exchange_was}, NumbersKeep.{numbers_are_kept}, Owed.{goes}, PieceKeeps.{eq_cases}, PollKeeps.{current_stays}, TurnMoves.{Does, MayRead, Queues}, TurnPlaces.{ComesFrom, IsPlain, IsAfter, StaysOrPlain, is_after}}
+use Rattle.hc_effects.proofs.{ActParts.{leaver_lost}, CurrentKeeps.{heard_same, find_only, usable, usable_row, one_current_is_kept}, KeyNames.{opener_key, current_key}, KeysKeep.{same_exchange, exchange_was}, NumbersKeep.{numbers_are_kept}, Owed.{goes}, PieceKeeps.{eq_cases}, PollKeeps.{current_stays}, TurnMoves.{Does, MayRead, Queues}, TurnPlaces.{ComesFrom, IsPlain, IsAfter, StaysOrPlain, is_after}}
 use Rattle.hc_effects.proofs.KeysKeep as keeps
-use Rattle.hc_laws.proofs.{TurnFacts.{IsTaken, AtPoll, acts_is, seen, behind, far_behind, opens_behind, misreads_behind, at_poll, far_from, fails_leaves}, TurnHeads.{valid_is}, TurnOpens.{OpensFor, IsOpenedAt, IsOpener, opened_at, opener_after, opener_stands}, TurnStays.{head_opens, head_none, stands_on}, VaryKeeps.{same_agreement}}
-use Rattle.hc_laws.proofs.TurnFacts as facts
-use Rattle.hc_laws.proofs.TurnHeads as heads
+use Rattle.hc_laws.proofs.{TurnFacts.{moves_on, misreads, IsTaken, AtPoll, acts_is, seen, behind, far_behind, opens_behind, misreads_behind, at_poll, far_from, fails_leaves}, TurnHeads.{goes_none, valid_is}, TurnOpens.{OpensFor, IsOpenedAt, IsOpener, opened_at, opener_after, opener_stands}, TurnStays.{head_opens, head_none, stands_on}, VaryKeeps.{same_agreement}}
 use Rattle.hc_effects.proofs.TurnMoves as does
 use Rattle.hc_laws.proofs.TurnOpens as opens
 use Rattle.hc_effects.proofs.TurnPlaces as places
@@ -92,9 +89,7 @@ module _ (t : Tables) (s : Sound t) (turns : Turns t) where
     where
       turn_place : (x : ℕ) (k : Consumer) (way : Route) → StandsFor x k way → way ≡ route.Turn → k.place ≡ place.Turn x
       turn_place x k _ (laws.has_turn at unshown) is = at
-      turn_place x k _ (laws.direct at) is = absurd (let no_one : route.Direct ≡ route.Turn = is in cc)
-      turn_place x k _ (laws.first r lo hi at unshown) is = absurd (let no_one : route.Hole ≡ route.Turn = is in cc)
-      turn_place x k _ (laws.later r lo hi how at shown) is = absurd (let no_one : route.Hole ≡ route.Turn = is in cc)
+      turn_place x k _ _ is = cc
 
   abbrev turn_in : Place → ℕ
   turn_in (place.Turn x) = x
@@ -104,8 +99,7 @@ module _ (t : Tables) (s : Sound t) (turns : Turns t) where
   one_held : (x y : ℕ) (w z : Exchange) → IsHeld x w → IsHeld y z → w.request.key ≡ z.request.key → x ≡ y
   one_held x y w z a b same =
       let c_is : w.c ≡ z.c = turns.one_holder w.c z.c x y a.k b.k a.row b.row a.at b.at (a.of_key ∙ (same ∙ sym b.of_key)) in
-      let one : a.k ≡ b.k = same_row (t.consumer z.c) a.k b.k (sym (ap t.consumer c_is) ∙ a.row) b.row in
-      ap turn_in (sym a.at ∙ (ap (λ (k : Consumer). k.place) one ∙ b.at))
+      ap turn_in (sym a.at ∙ (ap (λ (k : Consumer). k.place) (same_row (t.consumer z.c) a.k b.k (sym (ap t.consumer c_is) ∙ a.row) b.row) ∙ b.at))
 
   pub has_one : IsOfOneKey t → HasOneTurn t
   unfolding turn
@@ -171,10 +165,7 @@ module _ (t : Tables) (e : Entry) (x : ℕ) (w : Exchange) where
   headless_before (event.Piece y bytes) h = if_pieced (y == x) bytes h
   headless_before (event.End y) h = still (if_closed (y == x) (record w { is_ended = true; is_open = false }) refl h)
   headless_before (event.Fault y) h = still (if_closed (y == x) (record w { is_open = false }) refl h)
-  headless_before (event.Start d request) h = still h
-  headless_before (event.Poll d want) h = still h
-  headless_before (event.Cancel d) h = still h
-  headless_before (event.Doom key) h = still h
+  headless_before _ h = still h
 
 -- WHO OPENED FOR THE TURN
 
@@ -199,18 +190,11 @@ move_waits : (c : ℕ) (m : Move) (rest : List Act) → wait_in c rest ≡ None 
 move_waits c (moves.Waits w) rest none = rw (eq-refl c) refl
 move_waits c (moves.Asks x) rest none = rw (eq-refl c) refl
 move_waits c (moves.Opens x n request) rest none = rw (eq-refl c) refl
-move_waits c moves.Nothing rest none = none
-move_waits c (moves.Shows r why head lo hi) rest none = none
-move_waits c (moves.Gives run) rest none = none
-move_waits c moves.Ends rest none = none
-move_waits c (moves.Fails cause) rest none = none
+move_waits c _ rest none = none
 
 abbrev is_busy : Option Wait → Bool
 is_busy (Some (wait.Busy d)) = true
 is_busy _ = false
-
-not_busy : {A : Type 0} (o : Option Wait) (d : ℕ) → is_busy o ≡ false → o ≡ Some (wait.Busy d) → A
-not_busy o d other is = absurd (let no_one : true ≡ false = sym (ap is_busy is) ∙ other in cc)
 
 abbrev poller : Event → ℕ
 poller (event.Poll c want) = c
@@ -225,13 +209,7 @@ poll_of (event.Poll d want) c = elim (eq_cases d c) [
   | inl here ↦ inl (want, ap (λ n. event.Poll n want) here.1)
   | inr other ↦ inr (λ want' is. other.1 (ap poller is))
 ]
-poll_of (event.Start d request) c = inr (λ want is. let no_one : false ≡ true = ap is_poll is in cc)
-poll_of (event.Head x response) c = inr (λ want is. let no_one : false ≡ true = ap is_poll is in cc)
-poll_of (event.Piece x bytes) c = inr (λ want is. let no_one : false ≡ true = ap is_poll is in cc)
-poll_of (event.End x) c = inr (λ want is. let no_one : false ≡ true = ap is_poll is in cc)
-poll_of (event.Fault x) c = inr (λ want is. let no_one : false ≡ true = ap is_poll is in cc)
-poll_of (event.Cancel d) c = inr (λ want is. let no_one : false ≡ true = ap is_poll is in cc)
-poll_of (event.Doom key) c = inr (λ want is. let no_one : false ≡ true = ap is_poll is in cc)
+poll_of _ c = inr (λ want is. let no_one : false ≡ true = ap is_poll is in cc)
 
 module _ (limits : Limits) (t : Tables) (e : Entry) (taken : IsTaken limits t e) (s : Sound t) (one : IsOfOneKey t) (turns : Turns t) where
   abbrev u : Tables
@@ -259,13 +237,11 @@ module _ (limits : Limits) (t : Tables) (e : Entry) (taken : IsTaken limits t e)
   awaited_of x z (was w row bare is stays) =
       let a = stands_on limits t e taken s one turns x w row bare stays in
       let same = same_exchange t e x e.event w in
-      let c_is : z.c ≡ w.c = ap (λ (q : Exchange). q.c) is ∙ same.c_is in
-      let need_is : z.need ≡ w.need = ap (λ (q : Exchange). q.need) is ∙ same.need_is in
       record {
         k = a.0;
-        row = ap (λ d. consumer_after t e d (t.consumer d)) c_is ∙ a.1;
+        row = ap (λ d. consumer_after t e d (t.consumer d)) (ap (λ (q : Exchange). q.c) is ∙ same.c_is) ∙ a.1;
         own = a.2;
-        stands = subst (StandsFor x a.0) (ap route_of (sym need_is)) a.3;
+        stands = subst (StandsFor x a.0) (ap route_of (sym (ap (λ (q : Exchange). q.need) is ∙ same.need_is))) a.3;
       }
   awaited_of x z (new o is here made) =
       let a = opener_stands limits t e taken s turns o is in
@@ -309,9 +285,7 @@ module _ (limits : Limits) (t : Tables) (e : Entry) (taken : IsTaken limits t e)
   turn_place c x k z _ row same places.kept is = stayed k row is same
   turn_place c x k z _ row same (places.plain p plain) is = absurd (subst IsPlain is plain)
   turn_place c x k z _ row same (places.turned o opens_it mine way) is = opened o k opens_it mine way row same
-  turn_place c x k z _ row same (places.first_of o r lo hi opens_it mine way) is = apart is_turn (place.Turn x) _ refl refl (sym is)
-  turn_place c x k z _ row same (places.busy d r keep waits now) is = apart is_turn (place.Turn x) _ refl refl (sym is)
-  turn_place c x k z _ row same (places.validated y r response w at its_row mine found aim) is = apart is_turn (place.Turn x) _ refl refl (sym is)
+  turn_place c x k z _ row same _ is = apart is_turn (place.Turn x) _ refl refl (sym is)
 
   turn_from : (c x : ℕ) (z : Consumer) → WasConsumer c z → z.place ≡ place.Turn x → TurnFrom c x z
   turn_from c x z (there k row after) at = turn_place c x k z z.place row after.request after.from at
@@ -323,12 +297,8 @@ module _ (limits : Limits) (t : Tables) (e : Entry) (taken : IsTaken limits t e)
   opened_stayed : (o : Opening) (c d y : ℕ) (k v : Consumer) → opening_in e.acts ≡ Some o → o.c ≡ c → route_of o.need ≡ route.Turn → t.consumer c ≡ Some k → t.consumer d ≡ Some v → v.place ≡ place.Turn y → k.request.key ≡ v.request.key → c ≡ d
   opened_stayed o c d y k v is mine way row row' at same =
       let w = opened_at limits t e taken s turns o is in
-      let it : w.k ≡ k = opener_is o c k is mine row in
-      let key_is : v.request.key ≡ w.k.request.key = sym same ∙ ap (λ (q : Consumer). q.request.key) (sym it) in
-      let has = (opens_turn t o.c w.k o.x o.need w.why way).1 in
-      let held = holder_is t s turns w.k.request.key d y v row' at key_is in
-      let turn_is : turn_with t w.k.request.key o.c ≡ d = ap (λ h. unwrap_or (option_or h (least (o.c ∷ line t w.k.request.key))) o.c) held in
-      sym mine ∙ (sym has ∙ turn_is)
+      let held = holder_is t s turns w.k.request.key d y v row' at (sym same ∙ ap (λ (q : Consumer). q.request.key) (sym (opener_is o c k is mine row))) in
+      sym mine ∙ (sym ((opens_turn t o.c w.k o.x o.need w.why way).1) ∙ ap (λ h. unwrap_or (option_or h (least (o.c ∷ line t w.k.request.key))) o.c) held)
 
   one_of : (c d x y : ℕ) (z v : Consumer) → TurnFrom c x z → TurnFrom d y v → z.request.key ≡ v.request.key → c ≡ d
   one_of c d x y z v (stayed k row at same) (stayed k' row' at' same') key =
@@ -344,9 +314,8 @@ module _ (limits : Limits) (t : Tables) (e : Entry) (taken : IsTaken limits t e)
   queued_of c x z (stayed k row at same) = let q = turns.queued c x k row at in (ap is_disabled same ∙ q.0, ap is_only same ∙ q.1)
   queued_of c x z (opened o k is mine way row same) =
       let w = opened_at limits t e taken s turns o is in
-      let it : w.k ≡ k = opener_is o c k is mine row in
       let q = (opens_turn t o.c w.k o.x o.need w.why way).0 in
-      let request_is : z.request ≡ w.k.request = same ∙ ap (λ (q : Consumer). q.request) (sym it) in
+      let request_is : z.request ≡ w.k.request = same ∙ ap (λ (q : Consumer). q.request) (sym (opener_is o c k is mine row)) in
       (ap is_disabled request_is ∙ q.cached, ap is_only request_is ∙ q.asks)
 
   -- WHAT IS CURRENT STAYS SO
@@ -392,9 +361,8 @@ module _ (limits : Limits) (t : Tables) (e : Entry) (taken : IsTaken limits t e)
       let row : u.representation r ≡ Some w = ap (representation_after t e r) may.row in
       let heard = heard_same t e r e.event v in
       let fresh : w.is_gone ≡ false = ap (λ b. b || h.is_gone) may.stays ∙ (heard.gone_is ∙ current_stays t k.request.key r v may.now may.row) in
-      let of_key : w.key ≡ z.request.key = heard.key_is ∙ (current_key t k.request.key r v may.now may.row ∙ ap (λ (q : Request). q.key) (sym same)) in
       record {
-        current_is = current_of z.request.key r w row of_key fresh;
+        current_is = current_of z.request.key r w row (heard.key_is ∙ (current_key t k.request.key r v may.now may.row ∙ ap (λ (q : Request). q.key) (sym same))) fresh;
         plain = ap is_bypassing same ∙ may.plain;
         cached = ap is_disabled same ∙ may.cached;
         asks = ap is_only same ∙ may.asks;
@@ -429,37 +397,23 @@ module _ (limits : Limits) (t : Tables) (e : Entry) (taken : IsTaken limits t e)
   -- who is to wait for a busy one
   busy_move : (c d r want : ℕ) (k : Consumer) (m : Move) → e.event ≡ event.Poll c want → current t k.request.key ≡ Some r → e.acts ≡ acts_of c m ++ behind limits t e taken → (seen limits t e taken).acts ≡ acts_of c m ++ loss_acts (flaw_in e.acts) → Does t c k m → waits_of m ≡ Some (wait.Busy d) → MayPass r k
   busy_move c d r want k _ at now all saw (does.passes d' r' is_new queues may) is =
-      let same : r' ≡ r = some_inj r' r (sym may.current ∙ now) in
-      let there : t.representation r ≡ Some may.v = ap t.representation (sym same) ∙ may.row in
       record {
         v = may.v;
-        row = there;
+        row = ap t.representation (sym (some_inj r' r (sym may.current ∙ now))) ∙ may.row;
         now = now;
         agrees = may.agrees;
         plain = may.plain;
         cached = queues.cached;
         asks = queues.asks;
-        stays = opens.goes_none limits t e taken c want at (ap leaver_in saw ∙ parts.leaver_lost (flaw_in e.acts)) r may.v
+        stays = opens.goes_none limits t e taken c want at (ap leaver_in saw ∙ leaver_lost (flaw_in e.acts)) r may.v
             (ap bypassed_by (ap opening_in all ∙ opens_behind limits t e taken)) (ap (misreads_in r) all ∙ misreads_behind limits t e taken r);
       }
-  busy_move c d r want k _ at now all saw does.nothing is = not_busy _ d refl is
-  busy_move c d r want k _ at now all saw (does.waits_turn d' is_new other back) is = not_busy _ d refl is
-  busy_move c d r want k _ at now all saw (does.waits_head y) is = not_busy _ d refl is
-  busy_move c d r want k _ at now all saw (does.waits_body y) is = not_busy _ d refl is
-  busy_move c d r want k _ at now all saw (does.asks y) is = not_busy _ d refl is
-  busy_move c d r want k _ at now all saw (does.past n request way is_new) is = not_busy _ d refl is
-  busy_move c d r want k _ at now all saw (does.fetches n request way is_new queues turn_is varied bypass) is = not_busy _ d refl is
-  busy_move c d r want k _ at now all saw (does.first n request q lo hi way is_new bound) is = not_busy _ d refl is
-  busy_move c d r want k _ at now all saw (does.later n request q lo hi how way shown bound) is = not_busy _ d refl is
-  busy_move c d r want k _ at now all saw (does.shows q why head lo hi joined) is = not_busy _ d refl is
-  busy_move c d r want k _ at now all saw (does.given run) is = not_busy _ d refl is
-  busy_move c d r want k _ at now all saw does.ends is = not_busy _ d refl is
-  busy_move c d r want k _ at now all saw (does.fails cause) is = not_busy _ d refl is
+  busy_move c d r want k _ at now all saw _ is = absurd (let no_one : true ≡ false = sym (ap is_busy is) in cc)
 
   busy_poll : (c d r : ℕ) (k : Consumer) → current t k.request.key ≡ Some r → wait_in c e.acts ≡ Some (wait.Busy d) → AtPoll limits t e taken c k → MayPass r k
-  busy_poll c d r k now waits (facts.moves_on want m at is does_so all saw) =
+  busy_poll c d r k now waits (moves_on want m at is does_so all saw) =
       busy_move c d r want k m at now all saw does_so (sym (ap (wait_in c) all ∙ move_waits c m (behind limits t e taken) (far_behind limits t e taken c).waits) ∙ waits)
-  busy_poll c d r k now waits (facts.misreads want q at all saw) =
+  busy_poll c d r k now waits (misreads want q at all saw) =
       absurd (none_some (wait.Busy d) (sym (ap (wait_in c) all ∙ (far_behind limits t e taken c).waits) ∙ waits))
 
   waits_busy : (c d r : ℕ) (k : Consumer) → t.consumer c ≡ Some k → current t k.request.key ≡ Some r → wait_in c e.acts ≡ Some (wait.Busy d) → MayPass r k
@@ -471,15 +425,11 @@ module _ (limits : Limits) (t : Tables) (e : Entry) (taken : IsTaken limits t e)
   -- who is let through by a 304
   head_goes : (x : ℕ) (response : Response) (w : Exchange) → e.event ≡ event.Head x response → t.exchange x ≡ Some w → is_headless (Some w) ≡ true
   unfolding refusals.refusal_of
-  head_goes x response w at row =
-      let here : denial t (event.Head x response) ≡ None = sym (ap (denial t) at) ∙ goes_on in
-      head_opens w (sym (ap (λ o. head_refusal (as_open o)) row) ∙ here)
+  head_goes x response w at row = head_opens w (sym (ap (λ o. head_refusal (as_open o)) row) ∙ (sym (ap (denial t) at) ∙ goes_on))
 
   has_turn_by : (x : ℕ) (k : Consumer) (way : Route) → StandsFor x k way → way ≡ route.Turn → k.place ≡ place.Turn x
   has_turn_by x k _ (laws.has_turn at unshown) is = at
-  has_turn_by x k _ (laws.direct at) is = absurd (let no_one : route.Direct ≡ route.Turn = is in cc)
-  has_turn_by x k _ (laws.first r lo hi at unshown) is = absurd (let no_one : route.Hole ≡ route.Turn = is in cc)
-  has_turn_by x k _ (laws.later r lo hi how at shown) is = absurd (let no_one : route.Hole ≡ route.Turn = is in cc)
+  has_turn_by x k _ _ is = cc
 
   let_through : (c x r : ℕ) (response : Response) (w : Exchange) (k : Consumer) → t.consumer c ≡ Some k → e.event ≡ event.Head x response → t.exchange x ≡ Some w → w.c ≡ c → case_at t e ≡ Some case.Validated → w.aim ≡ Some r → MayPass r k
   let_through c x r response w k is_row at row mine found aim =
@@ -488,8 +438,7 @@ module _ (limits : Limits) (t : Tables) (e : Entry) (taken : IsTaken limits t e)
       let it = turns.awaited x w row bare in
       let mine_row : t.consumer w.c ≡ Some k = ap t.consumer mine ∙ is_row in
       let me : it.k ≡ k = same_row (t.consumer w.c) it.k k it.row mine_row in
-      let place_is : k.place ≡ place.Turn x = ap (λ (q : Consumer). q.place) (sym me) ∙ has_turn_by x it.k (route_of w.need) it.stands valid.turn in
-      let queued = turns.queued c x k is_row place_is in
+      let queued = turns.queued c x k is_row (ap (λ (q : Consumer). q.place) (sym me) ∙ has_turn_by x it.k (route_of w.need) it.stands valid.turn) in
       let has = one.exchanges.aims x r w row aim in
       let may = turns.validates x r w k has.0 row bare valid.need_is aim mine_row has.1 in
       record {
@@ -500,16 +449,15 @@ module _ (limits : Limits) (t : Tables) (e : Entry) (taken : IsTaken limits t e)
         plain = may.0;
         cached = queued.0;
         asks = queued.1;
-        stays = heads.goes_none limits t e taken x response w at row found valid.lossless r has.0;
+        stays = goes_none limits t e taken x response w at row found valid.lossless r has.0;
       }
 
   passed_place : (c r : ℕ) (keep : Option ℕ) (k : Consumer) (p : Place) → t.consumer c ≡ Some k → ComesFrom t e c k p → StaysOrPlain t e c k p → p ≡ place.Passed r keep → MayPass r k
   passed_place c r keep k _ row places.kept stays is = stays_passed c r keep k row is stays
   passed_place c r keep k _ row (places.plain p plain) stays is = absurd (subst IsPlain is plain)
-  passed_place c r keep k _ row (places.turned o opens_it mine way) stays is = apart is_passed (place.Passed r keep) _ refl refl (sym is)
-  passed_place c r keep k _ row (places.first_of o q lo hi opens_it mine way) stays is = apart is_passed (place.Passed r keep) _ refl refl (sym is)
   passed_place c r keep k _ row (places.busy d q keep' waits now) stays is = waits_busy c d r k row (now ∙ ap Some (ap row_in is)) waits
   passed_place c r keep k _ row (places.validated y q response w at its_row mine found aim) stays is = let_through c y r response w k row at its_row mine found (aim ∙ ap Some (ap row_in is))
+  passed_place c r keep k _ row _ stays is = apart is_passed (place.Passed r keep) _ refl refl (sym is)
 
   passed_of : (c r : ℕ) (keep : Option ℕ) (z : Consumer) → WasConsumer c z → z.place ≡ place.Passed r keep → HasPassed u r z
   passed_of c r keep z (there k row after) at = has_passed r k z after.request (passed_place c r keep k z.place row after.from after.stays at)
@@ -534,29 +482,16 @@ module _ (limits : Limits) (t : Tables) (e : Entry) (taken : IsTaken limits t e)
   joined_row y None row h = absurd (let no_one : false ≡ true = h in cc)
   joined_row y (Some w) row h =
       stays_headed y w row (not_true (is_headless (Some w)) (λ bare.
-      let none = (s.waits.headless y w row (head_none w bare)).1 in
-      let no_one : false ≡ true = sym (ap is_some none) ∙ h in
+      let no_one : false ≡ true = sym (ap is_some ((s.waits.headless y w row (head_none w bare)).1)) ∙ h in
       cc))
 
   shown_move : (c r lo y want : ℕ) (hi : Option ℕ) (k : Consumer) (m : Move) → k.place ≡ place.Bound r lo hi (by.FirstHole y) → Does t c k m → shows_in c (acts_of c m ++ behind limits t e taken) ≡ true → Headed y
   shown_move c r lo y want hi k _ at (does.shows q why head low high joined) h = joined_row y (t.exchange y) refl (joined r lo y hi at)
-  shown_move c r lo y want hi k _ at does.nothing h = absurd (let no_one : false ≡ true = sym (far_behind limits t e taken c).shows ∙ h in cc)
-  shown_move c r lo y want hi k _ at (does.waits_turn d is_new other back) h = absurd (let no_one : false ≡ true = sym (far_behind limits t e taken c).shows ∙ h in cc)
-  shown_move c r lo y want hi k _ at (does.passes d q is_new queues may) h = absurd (let no_one : false ≡ true = sym (far_behind limits t e taken c).shows ∙ h in cc)
-  shown_move c r lo y want hi k _ at (does.waits_head x) h = absurd (let no_one : false ≡ true = sym (far_behind limits t e taken c).shows ∙ h in cc)
-  shown_move c r lo y want hi k _ at (does.waits_body x) h = absurd (let no_one : false ≡ true = sym (far_behind limits t e taken c).shows ∙ h in cc)
-  shown_move c r lo y want hi k _ at (does.asks x) h = absurd (let no_one : false ≡ true = sym (far_behind limits t e taken c).shows ∙ h in cc)
-  shown_move c r lo y want hi k _ at (does.past n request way is_new) h = absurd (let no_one : false ≡ true = sym (far_behind limits t e taken c).shows ∙ h in cc)
-  shown_move c r lo y want hi k _ at (does.fetches n request way is_new queues turn_is varied bypass) h = absurd (let no_one : false ≡ true = sym (far_behind limits t e taken c).shows ∙ h in cc)
-  shown_move c r lo y want hi k _ at (does.first n request q low high way is_new bound) h = absurd (let no_one : false ≡ true = sym (far_behind limits t e taken c).shows ∙ h in cc)
-  shown_move c r lo y want hi k _ at (does.later n request q low high how way shown bound) h = absurd (let no_one : false ≡ true = sym (far_behind limits t e taken c).shows ∙ h in cc)
-  shown_move c r lo y want hi k _ at (does.given run) h = absurd (let no_one : false ≡ true = sym (far_behind limits t e taken c).shows ∙ h in cc)
-  shown_move c r lo y want hi k _ at does.ends h = absurd (let no_one : false ≡ true = sym (far_behind limits t e taken c).shows ∙ h in cc)
-  shown_move c r lo y want hi k _ at (does.fails cause) h = absurd (let no_one : false ≡ true = sym (far_behind limits t e taken c).shows ∙ h in cc)
+  shown_move c r lo y want hi k _ at _ h = absurd (let no_one : false ≡ true = sym (far_behind limits t e taken c).shows ∙ h in cc)
 
   shown_poll : (c r lo y : ℕ) (hi : Option ℕ) (k : Consumer) → k.place ≡ place.Bound r lo hi (by.FirstHole y) → shows_in c e.acts ≡ true → AtPoll limits t e taken c k → Headed y
-  shown_poll c r lo y hi k at h (facts.moves_on want m here is does_so all saw) = shown_move c r lo y want hi k m at does_so (sym (ap (shows_in c) all) ∙ h)
-  shown_poll c r lo y hi k at h (facts.misreads want q here all saw) =
+  shown_poll c r lo y hi k at h (moves_on want m here is does_so all saw) = shown_move c r lo y want hi k m at does_so (sym (ap (shows_in c) all) ∙ h)
+  shown_poll c r lo y hi k at h (misreads want q here all saw) =
       absurd (let no_one : false ≡ true = sym (ap (shows_in c) all ∙ (far_behind limits t e taken c).shows) ∙ h in cc)
 
   shown_now : (c r lo y : ℕ) (hi : Option ℕ) (k : Consumer) → t.consumer c ≡ Some k → k.place ≡ place.Bound r lo hi (by.FirstHole y) → shows_in c e.acts ≡ true → Headed y
@@ -593,17 +528,14 @@ module _ (limits : Limits) (t : Tables) (e : Entry) (taken : IsTaken limits t e)
       by_why (opens.first q low high way' is_new bound) = absurd (let no_one : false ≡ true = sym is_new.shown ∙ was_shown in cc)
       by_why (opens.later q low high how way' had bound) =
           let stays : a.0.place ≡ w.k.place = a.2.place ∙ (ap (λ b. unless_bound b w.k.place (opened_place t o.x w.k (route_of o.need))) (ap bound_to bound)) in
-          let here : w.k.place ≡ place.Bound r lo hi (by.FirstHole y) = sym stays ∙ (ap (λ (p : Consumer). p.place) me ∙ at) in
-          let h = turns.first_hole o.c r lo y hi w.k w.row here had in
+          let h = turns.first_hole o.c r lo y hi w.k w.row (sym stays ∙ (ap (λ (p : Consumer). p.place) me ∙ at)) had in
           stays_headed y h.0 h.1 h.2
 
   first_place : (c r lo y : ℕ) (hi : Option ℕ) (k z : Consumer) (p : Place) → t.consumer c ≡ Some k → u.consumer c ≡ Some z → z.place ≡ place.Bound r lo hi (by.FirstHole y) → z.shown ≡ true → (shows_in c e.acts || k.shown) ≡ true → ComesFrom t e c k p → p ≡ place.Bound r lo hi (by.FirstHole y) → Headed y
   first_place c r lo y hi k z _ row after at shown told places.kept is = first_stays c r lo y hi k row is told
   first_place c r lo y hi k z _ row after at shown told (places.plain p plain) is = absurd (subst IsPlain is plain)
-  first_place c r lo y hi k z _ row after at shown told (places.turned o opens_it mine way) is = apart is_first (place.Bound r lo hi (by.FirstHole y)) _ refl refl (sym is)
   first_place c r lo y hi k z _ row after at shown told (places.first_of o q low high opens_it mine way) is = opened_first o r lo y hi z opens_it (ap u.consumer mine ∙ after) at shown way
-  first_place c r lo y hi k z _ row after at shown told (places.busy d q keep waits now) is = apart is_first (place.Bound r lo hi (by.FirstHole y)) _ refl refl (sym is)
-  first_place c r lo y hi k z _ row after at shown told (places.validated x q response w here its_row mine found aim) is = apart is_first (place.Bound r lo hi (by.FirstHole y)) _ refl refl (sym is)
+  first_place c r lo y hi k z _ row after at shown told _ is = apart is_first (place.Bound r lo hi (by.FirstHole y)) _ refl refl (sym is)
 
   first_of : (c r lo y : ℕ) (hi : Option ℕ) (z : Consumer) → u.consumer c ≡ Some z → WasConsumer c z → z.place ≡ place.Bound r lo hi (by.FirstHole y) → z.shown ≡ true → Headed y
   first_of c r lo y hi z row (there k row' after) at shown = first_place c r lo y hi k z z.place row' row at shown (sym after.shown ∙ shown) after.from at
@@ -619,12 +551,7 @@ module _ (limits : Limits) (t : Tables) (e : Entry) (taken : IsTaken limits t e)
 
   aim_unbound : (key : List ℕ) (p : Place) → bound_to p ≡ None → aim_from t key p ≡ current t key
   aim_unbound key (place.Bound r lo hi how) free = absurd (let no_one : Some r ≡ None = free in cc)
-  aim_unbound key place.Line free = refl
-  aim_unbound key (place.Passed r keep) free = refl
-  aim_unbound key (place.Turn x) free = refl
-  aim_unbound key (place.Direct x) free = refl
-  aim_unbound key (place.Down cause) free = refl
-  aim_unbound key place.Over free = refl
+  aim_unbound key _ free = refl
 
   abbrev Validates : Consumer → Representation → Type 0
   Validates k v = (is_bypassing k.request ≡ false) × (matches_vary v.head k.request ≡ true)
@@ -632,13 +559,11 @@ module _ (limits : Limits) (t : Tables) (e : Entry) (taken : IsTaken limits t e)
   validates_of : (x r : ℕ) (z : Exchange) (q : Consumer) (v : Representation) → WasHeadless x z → z.need ≡ need.Validate → z.aim ≡ Some r → u.consumer z.c ≡ Some q → u.representation r ≡ Some v → Validates q v
   validates_of x r z q v (was w row bare is stays) need_is aim after there_now =
       let same = same_exchange t e x e.event w in
-      let c_is : z.c ≡ w.c = ap (λ (y : Exchange). y.c) is ∙ same.c_is in
       let aim_was : w.aim ≡ Some r = sym (ap (λ (y : Exchange). y.aim) is ∙ same.aim_is) ∙ aim in
-      let need_was : w.need ≡ need.Validate = sym (ap (λ (y : Exchange). y.need) is ∙ same.need_is) ∙ need_is in
       let it = turns.awaited x w row bare in
       let has = one.exchanges.aims x r w row aim_was in
-      let may = turns.validates x r w it.k has.0 row bare need_was aim_was it.row has.1 in
-      let request_is = (is_after t e w.c it.k q it.row (ap u.consumer (sym c_is) ∙ after)).request in
+      let may = turns.validates x r w it.k has.0 row bare (sym (ap (λ (y : Exchange). y.need) is ∙ same.need_is) ∙ need_is) aim_was it.row has.1 in
+      let request_is = (is_after t e w.c it.k q it.row (ap u.consumer (sym (ap (λ (y : Exchange). y.c) is ∙ same.c_is)) ∙ after)).request in
       (ap is_bypassing request_is ∙ may.0, agrees_after r q.request has.0 v has.1 there_now ∙ (ap (matches_vary has.0.head) request_is ∙ may.1))
   validates_of x r z q v (new o is here made) need_is aim after there_now =
       by_why w.why
@@ -658,8 +583,7 @@ module _ (limits : Limits) (t : Tables) (e : Entry) (taken : IsTaken limits t e)
       by_current : (q' : ℕ) → MayRead t w.k q' → bound_to w.k.place ≡ None → Validates q v
       by_current q' may free =
           let aim_is : aim_of t (t.consumer o.c) ≡ Some r = ap (λ (y : Exchange). y.aim) (sym made) ∙ aim in
-          let now : current t w.k.request.key ≡ Some r = sym (aim_unbound w.k.request.key w.k.place free) ∙ (sym (ap (aim_of t) w.row) ∙ aim_is) in
-          let same : q' ≡ r = some_inj q' r (sym may.current ∙ now) in
+          let same : q' ≡ r = some_inj q' r (sym may.current ∙ (sym (aim_unbound w.k.request.key w.k.place free) ∙ (sym (ap (aim_of t) w.row) ∙ aim_is))) in
           (ap is_bypassing request_is ∙ may.plain, agrees_after r q.request may.v v (ap t.representation (sym same) ∙ may.row) there_now ∙ (ap (matches_vary may.v.head) request_is ∙ may.agrees))
 
       by_why : OpensFor t o.c w.k o.x o.need → Validates q v

@@ -1,6 +1,6 @@
 -- Nothing is due for whoever reads what is being written for several.
-use Rattle.std.{proofs.{Common.{◌≡◌, inl, inr, ℕ, Bool, true, false, Option, Some, None, refl, ap, sym, ◌∙◌, subst, arith}, lemmas.Bool.Decides.{nat_tests}}, specs.Prelude.{if◌then◌else◌, is_some, ◌||◌}}
-use Rattle.hc_text.proofs.Basics.{and_left, and_right, not_some as none_some, never_true as not_so, not_true, same_some as same_row, some_inj}
+use Rattle.std.{proofs.{Common.{◌≡◌, inl, inr, ℕ, Bool, true, false, Option, Some, None, refl, ap, sym, ◌∙◌, subst}}, specs.Prelude.{if◌then◌else◌, is_some, ◌||◌}}
+use Rattle.hc_text.proofs.Basics.{or_right, or_left, and_left, and_right, not_some as none_some, never_true as not_so, not_true, same_some as same_row, some_inj}
 use Rattle.hc_effects.proofs.Vocabulary.{Opening, opening_in, Event, Response, HeadCase, Limits, head_case, is_same_number, route_of, BoundBy, has_loss, loses_in, case_at, head_view, is_founding, is_joining, consumer_heard, consumer_acted, is_number, denial, Entry, exchange_in, is_for, is_open, becomes_due, cause_of_stop, cause_of_loss, cause_of_head, cause_by_case, stop_cause, Flaw, entry_of, Owners, IsAwaiting, is_written, source, reads, Tables, Exchange, Representation, Consumer, may_stand, Sound, IsBound, IsFirst, IsExclusiveWriter, after_accepted, loses_writing}
 use Rattle.hc_event.specs.declared.event.Event.TheVariants as event
 use Rattle.hc_rules.specs.declared.heads.HeadCase.TheVariants as case
@@ -8,7 +8,7 @@ use Rattle.hc_rules.specs.declared.need.Route.TheVariants as route
 use Rattle.hc_event.specs.declared.place.Place.TheVariants as place
 use Rattle.hc_model.specs.Owners as owners
 use Rattle.hc_model.specs.Sound as sound
-use Rattle.hc_effects.proofs.{ApartKeeps.{IsOn, is_on, was_written}, Basics.{false_true, or_false}, BoundFrom.{BoundFrom, bound_from}, BoundKeeps.{founding_is}, Dues.{undue_of, stop_none, loss_at, loss_free, due_none}, ExchangeFrom.{ExchangeFrom, exchange_from}, FirstKeeps.{case_is, is_new, open_free}, FoundBy.{case_by, founding_by, founds_way}, MemberStays.{head_not}, OwnersKeep.{is_opened}, PieceKeeps.{eq_cases}, ExclusiveWriters.{writer_some}, RepFrom.{RepFrom, rep_from, IsKept, IsResumed}, Stops.{source_is}, HasBound.{joins_way}, Waiters.{IsWaiter, waiter_of, unwritten, waits_undue}}
+use Rattle.hc_effects.proofs.{ApartKeeps.{IsOn, is_on, was_written}, Basics.{number_is, false_true, or_false}, BoundFrom.{BoundFrom, bound_from}, BoundKeeps.{founding_is}, Dues.{undue_of, stop_none, loss_at, loss_free, due_none}, ExchangeFrom.{ExchangeFrom, exchange_from}, FirstKeeps.{case_is, is_new, open_free}, FoundBy.{case_by, founding_by, founds_way}, MemberStays.{head_not}, OwnersKeep.{is_opened}, PieceKeeps.{eq_cases}, ExclusiveWriters.{writer_some}, RepFrom.{RepFrom, rep_from, IsKept, IsResumed}, Stops.{source_is}, HasBound.{joins_way}, Waiters.{IsWaiter, waiter_of, unwritten, waits_undue}}
 use Rattle.hc_effects.proofs.BoundFrom as from
 use Rattle.hc_effects.proofs.ExchangeFrom as exchange
 use Rattle.hc_laws.proofs.FirstDueKeeps.{shown_due}
@@ -16,25 +16,12 @@ use Rattle.hc_effects.proofs.RepFrom as rep
 
 -- by a head that founds or joins nothing becomes due
 pub no_cause : (g : Option HeadCase) (x : ℕ) → (is_founding g || is_joining g) ≡ true → cause_by_case g x ≡ None
-no_cause None x h = absurd (false_true h)
 no_cause (Some case.FoundsWhole) x h = refl
 no_cause (Some case.FoundsRange) x h = refl
 no_cause (Some case.FirstReplaced) x h = refl
 no_cause (Some case.FirstJoins) x h = refl
 no_cause (Some case.LaterJoins) x h = refl
-no_cause (Some case.DirectBad) x h = absurd (false_true h)
-no_cause (Some case.DirectTaken) x h = absurd (false_true h)
-no_cause (Some case.TurnBad) x h = absurd (false_true h)
-no_cause (Some case.Validated) x h = absurd (false_true h)
-no_cause (Some case.NotValidated) x h = absurd (false_true h)
-no_cause (Some case.TurnServerError) x h = absurd (false_true h)
-no_cause (Some case.PassesBy) x h = absurd (false_true h)
-no_cause (Some case.FirstBad) x h = absurd (false_true h)
-no_cause (Some case.FirstServerError) x h = absurd (false_true h)
-no_cause (Some case.FirstChanged) x h = absurd (false_true h)
-no_cause (Some case.FirstPassesBy) x h = absurd (false_true h)
-no_cause (Some case.LaterBad) x h = absurd (false_true h)
-no_cause (Some case.LaterChanged) x h = absurd (false_true h)
+no_cause _ x h = absurd (false_true h)
 
 module _ (limits : Limits) (t : Tables) (now : ℕ) (flaw : Flaw) (s : Sound t) (o : Owners t) (ev : Event) (goes : denial t ev ≡ None) (stand : may_stand limits t (entry_of limits t now ev flaw) ≡ true) where
   abbrev e : Entry
@@ -70,18 +57,12 @@ module _ (limits : Limits) (t : Tables) (now : ℕ) (flaw : Flaw) (s : Sound t) 
     by_source : (y : ℕ) → exchange_in ev ≡ Some y → (y ≡ x → ⊥) → cause_of_stop t e a ≡ None
     by_source y brings other =
         let from_x : source t a ≡ Some x = source_is t r c x v a s there (sound.is_bound lo hi how row at) on writer in
-        let off : is_same_number (source t a) (exchange_in ev) ≡ false = ap (λ z. is_same_number z (exchange_in ev)) from_x ∙ (ap (is_same_number (Some x)) brings ∙ apart_by y other) in
-        ap (λ (b : Bool). if b then stop_cause t ev else None) off
+        ap (λ (b : Bool). if b then stop_cause t ev else None) (ap (λ z. is_same_number z (exchange_in ev)) from_x ∙ (ap (is_same_number (Some x)) brings ∙ apart_by y other))
 
     stop_by : (z : Event) → ev ≡ z → cause_of_stop t e a ≡ None
-    stop_by (event.Start d request) here = stop_none t e a (ap (stop_cause t) here)
-    stop_by (event.Poll d want) here = stop_none t e a (ap (stop_cause t) here)
-    stop_by (event.Head y response) here = stop_none t e a (ap (stop_cause t) here)
-    stop_by (event.Piece y bytes) here = stop_none t e a (ap (stop_cause t) here)
     stop_by (event.End y) here = by_source y (ap exchange_in here) (λ same. (goes_on (now_on.exchange x) refl open_now).0 (here ∙ ap event.End same))
     stop_by (event.Fault y) here = by_source y (ap exchange_in here) (λ same. (goes_on (now_on.exchange x) refl open_now).1 (here ∙ ap event.Fault same))
-    stop_by (event.Cancel d) here = stop_none t e a (ap (stop_cause t) here)
-    stop_by (event.Doom key) here = stop_none t e a (ap (stop_cause t) here)
+    stop_by _ here = stop_none t e a (ap (stop_cause t) here)
 
     head_by : (y : ℕ) (response : Response) (z : Option Exchange) → ev ≡ event.Head y response → t.exchange y ≡ z → (if is_for z c then cause_by_case (case_at t e) y else None) ≡ None
     head_by y response None here exchange_row = refl
@@ -91,14 +72,8 @@ module _ (limits : Limits) (t : Tables) (now : ℕ) (flaw : Flaw) (s : Sound t) 
     ]
 
     head_none : (z : Event) → ev ≡ z → cause_of_head t e c z ≡ None
-    head_none (event.Start d request) here = refl
-    head_none (event.Poll d want) here = refl
     head_none (event.Head y response) here = head_by y response (t.exchange y) here refl
-    head_none (event.Piece y bytes) here = refl
-    head_none (event.End y) here = refl
-    head_none (event.Fault y) here = refl
-    head_none (event.Cancel d) here = refl
-    head_none (event.Doom key) here = refl
+    head_none _ here = refl
 
     pub member_undue : (a.due ≡ None) × (becomes_due t e c a ≡ None)
     member_undue = (
@@ -116,18 +91,6 @@ module _ (limits : Limits) (t : Tables) (now : ℕ) (flaw : Flaw) (s : Sound t) 
       by_test true = no_cause (case_at t e) x binds
       by_test false = refl
 
-  or_right : (p q : Bool) → q ≡ true → (p || q) ≡ true
-  or_right true q h = refl
-  or_right false q h = h
-
-  or_left : (p q : Bool) → p ≡ true → (p || q) ≡ true
-  or_left true q h = refl
-  or_left false q h = absurd (false_true h)
-
-  number_is : (z : Option ℕ) (n : ℕ) → is_number z n ≡ true → z ≡ Some n
-  number_is None n h = absurd (false_true h)
-  number_is (Some m) n h = let same : m ≡ n = grind (arith, nat_tests) in ap Some same
-
   -- RESUMED
 
   none_lost : (r c : ℕ) (v : Representation) → v.is_lost ≡ false → IsExclusiveWriter t r v c → IsFirst t r c
@@ -144,11 +107,10 @@ module _ (limits : Limits) (t : Tables) (now : ℕ) (flaw : Flaw) (s : Sound t) 
       let new = is_new limits t now flaw s ev goes R.x R.response R.w R.at R.row in
       let got = waiter_of limits t now flaw s o ev goes R.x R.w R.row new.is_open new.bare in
       let kept = or_false v.is_lost (loses_in r e.acts) (not_true (v.is_lost || loses_in r e.acts) (and_right _ _ R.renews)) in
-      let aim : R.w.aim ≡ Some r = number_is R.w.aim r (and_right _ (is_number R.w.aim r) (and_left _ _ R.renews)) in
       let g = head_case (head_view t (has_loss e.acts) R.w R.response) in
       let is_case = case_is t e R.x R.response R.w R.at R.row in
       let hole : route_of R.w.need ≡ route.Hole = joins_way limits t now flaw s o ev goes stand t (has_loss e.acts) R.w R.response g (case_by (head_view t (has_loss e.acts) R.w R.response)) (sym (ap is_joining is_case) ∙ R.joins) in
-      let stands = resumed_place r R.x R.w got.0 got.1.at hole aim in
+      let stands = resumed_place r R.x R.w got.0 got.1.at hole (number_is R.w.aim r (and_right _ (is_number R.w.aim r) (and_left _ _ R.renews))) in
       let waits = waits_undue limits t now flaw s o ev goes r R.w.c R.x stands.0 stands.1 stands.2 v got.0 R.w got.1 stands.3 there in (
         o.first_due r R.w.c c v got.0 a there kept.0 (none_lost r R.w.c v kept.0 waits.1) got.1.row waits.0 (sound.is_bound lo hi how row at),
         head_undue c R.x R.response a R.at (or_right _ _ R.joins) (loss_at t e c r lo hi how a v at there (unlosing r v kept.1)),

@@ -1,20 +1,16 @@
 -- The detached reader of what has no known end reads from the exchange that founded it, which is still open: in every run.
 use Rattle.std.{proofs.{Common.{◌≡◌, ◌⊎◌, inl, inr, ℕ, List, length, Bool, true, false, Option, Some, None, refl, ap, sym, ◌∙◌, subst, arith}, lemmas.Bool.Decides.{nat_tests}}, specs.{Prelude.{◌&&◌, ◌++◌, is_some, is_none, nat_eq, unwrap_or, if◌then◌else◌}, Option.{option_or}}}
 use Rattle.hc_text.proofs.Basics.{and_left, and_right, not_some as none_some, never_true as not_so, or_cases, same_some as same_row, some_inj}
-use Rattle.hc_effects.proofs.Vocabulary.{Opening, leaves_in, closes_in, opening_in, Event, Response, is_same_number, Limits, BoundBy, case_at, must_close, is_refused, brings_head, is_doomed, has_no_survivor, is_left, leaver, leaver_by, consumer_heard, consumer_acted, is_number, denial, Unended, Entry, aim_from, exchange_acted, exchange_heard, with_piece, exchange_in, family, is_open, is_reached, promised_bytes, becomes_due, stop_cause, Flaw, entry_of, OfRuns, Measures, IsMeasured, Owners, bound, bound_to, is_written, own_open, shared_exchange, source, reads, Tables, Exchange, Representation, Consumer, Sound, IsBound, IsFirst, IsGrowing, after_accepted, brings_body, came_alone, loses_writing, survivor}
+use Rattle.hc_effects.proofs.Vocabulary.{Opening, closes_in, opening_in, Event, Response, is_same_number, Limits, BoundBy, case_at, must_close, is_refused, brings_head, is_doomed, has_no_survivor, is_left, leaver, leaver_by, consumer_heard, consumer_acted, is_number, denial, Unended, Entry, exchange_acted, exchange_heard, with_piece, exchange_in, family, is_open, is_reached, promised_bytes, becomes_due, stop_cause, Flaw, entry_of, OfRuns, Measures, IsMeasured, Owners, is_written, own_open, shared_exchange, source, reads, Tables, Exchange, Representation, Consumer, Sound, IsBound, IsFirst, IsGrowing, after_accepted, brings_body, came_alone, loses_writing, survivor}
 use Rattle.hc_event.specs.declared.act.Cause.TheVariants as cause
 use Rattle.hc_event.specs.declared.event.Event.TheVariants as event
 use Rattle.hc_event.specs.declared.place.Place.TheVariants as place
 use Rattle.hc_model.specs.Measures as measures
 use Rattle.hc_model.specs.Sound as sound
-use Rattle.hc_effects.proofs.{AboutKeeps.{IsOwn, own_open_of, own_open_is}, ApartKeeps.{is_on}, Basics.{false_true}, Beside.{IsBeside}, BoundFrom.{BoundFrom, IsRow, bound_from}, Closed.{before}, Dues.{due_before, undue_parts}, FirstKeeps.{is_new, is_opener}, Forward.{after_is}, LossBy.{IsReal}, OpensFrom.{opens_hole, hole_is}, OwnFrom.{OwnFrom, own_from}, OwnersKeep.{is_opened}, ExclusiveWriters.{bound_some, writer_some}, PieceKeeps.{eq_cases}, PollTree.{OpensHole}, RepFrom.{RepFrom, rep_from, IsKept, IsEnded}, Said.{leaving_by}, SaidActs.{leaver_leaves}, Stops.{source_is}, Survives.{goes_on}, ToBeShown.{heard_place}, Unclosed.{had_to}, Waiters.{unleft, waiter_as}, WritingStops.{ended_total}, WriterEnds.{none_of}}
-use Rattle.hc_effects.proofs.BoundFrom as from
-use Rattle.hc_laws.proofs.{GoAlone.{lost_of, opens_not, shown_not, founds_not, left_loses, unwritten_lost}, OwnNone.{IsShared, own_none}, ExclusiveWriterFrom.{ExclusiveWriterFrom, alone_from}, RunFacts.{in_runs}}
-use Rattle.hc_effects.proofs.OpenedAs as opened
+use Rattle.hc_effects.proofs.{AboutKeeps.{IsOwn, own_open_of, own_open_is}, ApartKeeps.{is_on}, Basics.{false_true}, Beside.{IsBeside}, BoundFrom.{IsRow}, Closed.{before}, Dues.{due_before, undue_parts}, FirstKeeps.{is_new}, Forward.{after_is}, LossBy.{IsReal}, OwnFrom.{OwnFrom, own_from}, ExclusiveWriters.{writer_some}, PieceKeeps.{eq_cases}, RepFrom.{IsKept, IsEnded}, Said.{leaving_by}, SaidActs.{leaver_leaves}, Stops.{source_is}, Survives.{goes_on}, ToBeShown.{heard_place}, Unclosed.{had_to}, Waiters.{unleft, waiter_as}, WritingStops.{ended_total}, WriterEnds.{none_of}}
+use Rattle.hc_laws.proofs.{GoAlone.{lost_of, was_there, left_loses, unwritten_lost}, OpensLater.{opens_later}, OwnNone.{IsShared, own_none}, ExclusiveWriterFrom.{ExclusiveWriterFrom, alone_from}, RunFacts.{in_runs}}
 use Rattle.hc_effects.proofs.OwnFrom as own
 use Rattle.hc_laws.proofs.ExclusiveWriterFrom as exclusive_writers
-use Rattle.hc_effects.proofs.PollTree as tree
-use Rattle.hc_effects.proofs.RepFrom as rep
 
 pub or_none : (a : Option ℕ) (n : ℕ) → option_or a (Some n) ≡ None → ⊥
 or_none None n h = none_some n (sym h)
@@ -82,29 +78,15 @@ module _ (limits : Limits) (t : Tables) (now : ℕ) (flaw : Flaw) (s : Sound t) 
       stop_is_none : exchange_in ev ≡ Some r → stop_cause t ev ≡ None
       stop_is_none brings =
           let test : is_same_number (source t k) (exchange_in ev) ≡ true = ap (λ z. is_same_number z (exchange_in ev)) reads_it ∙ (ap (is_same_number (Some r)) brings ∙ (let self : nat_eq r r ≡ true = grind (arith, nat_tests) in self)) in
-          let quiet : (if is_same_number (source t k) (exchange_in ev) then stop_cause t ev else None) ≡ None = (undue_parts t e c k dues.1).stop in
-          sym (ap (λ (a : Bool). if a then stop_cause t ev else None) test) ∙ quiet
+          sym (ap (λ (a : Bool). if a then stop_cause t ev else None) test) ∙ (undue_parts t e c k dues.1).stop
 
       headed_not : (response : Response) → ev ≡ event.Head r response → ⊥
       headed_not response here =
-          let bare = (is_new limits t now flaw s ev goes r response w here is.row).bare in
-          false_true (sym (ap (λ (q : Option Response). is_some q) bare) ∙ is.headed)
+          false_true (sym (ap (λ (q : Option Response). is_some q) ((is_new limits t now flaw s ev goes r response w here is.row).bare)) ∙ is.headed)
 
       refused_not : (z : Event) → ev ≡ z → brings_head r z ≡ true → ⊥
-      refused_not (event.Head y response) here h =
-          let test : nat_eq y r ≡ true = h in
-          let same : y ≡ r = grind (arith, nat_tests) in
-          headed_not response (here ∙ ap (λ n. event.Head n response) same)
-      refused_not (event.Start d request) here h = false_true h
-      refused_not (event.Poll d want) here h = false_true h
-      refused_not (event.Piece y bytes) here h = false_true h
-      refused_not (event.End y) here h = false_true h
-      refused_not (event.Fault y) here h = false_true h
-      refused_not (event.Cancel d) here h = false_true h
-      refused_not (event.Doom key) here h = false_true h
-
-      doomed_not : is_doomed t b r w ≡ true → ⊥
-      doomed_not h = none_of w.head (and_right w.is_open _ (and_right _ _ (and_left _ _ h))) is.headed
+      refused_not (event.Head y response) here h = headed_not response (here ∙ ap (λ n. event.Head n response) (grind (arith, nat_tests)))
+      refused_not _ here h = false_true h
 
       not_must : must_close t b r w ≡ true → ⊥
       not_must must = elim (or_cases _ (is_left t r (leaver b)) must) [
@@ -113,19 +95,10 @@ module _ (limits : Limits) (t : Tables) (now : ℕ) (flaw : Flaw) (s : Sound t) 
           | inr lost ↦ spared lost
           | inl less ↦ elim (or_cases (is_refused (case_at t b) && brings_head r ev) (is_doomed t b r w) less) [
             | inl refused ↦ refused_not ev refl (and_right (is_refused (case_at t b)) (brings_head r ev) refused)
-            | inr doomed ↦ doomed_not doomed
+            | inr doomed ↦ none_of w.head (and_right w.is_open _ (and_right _ _ (and_left _ _ doomed))) is.headed
           ]
         ]
       ]
-
-      unclosed : closes_in r e.acts ≡ false
-      unclosed = not_so (closes_in r e.acts) (λ closed. not_must (had_to limits t now flaw s ev r w is.row closed))
-
-      unended : ev ≡ event.End r → ⊥
-      unended here = or_none v.head.total _ (sym (ended_total limits t now flaw s o m ev goes r v p kept here) ∙ none)
-
-      unfaulted : ev ≡ event.Fault r → ⊥
-      unfaulted here = none_some (cause.Net r) (sym (stop_is_none (ap exchange_in here)) ∙ ap (stop_cause t) here)
 
       piece_on : (bytes : List ℕ) → (with_piece bytes w).is_open ≡ true
       piece_on bytes =
@@ -134,8 +107,6 @@ module _ (limits : Limits) (t : Tables) (now : ℕ) (flaw : Flaw) (s : Sound t) 
           rw (promise, on) refl
 
       heard_on : (z : Event) → ev ≡ z → (exchange_heard t e r z w).is_open ≡ true
-      heard_on (event.Start d request) here = is.is_open
-      heard_on (event.Poll d want) here = is.is_open
       heard_on (event.Head y response) here = elim (eq_cases y r) [
         | inl same ↦ absurd (headed_not response (here ∙ ap (λ n. event.Head n response) same.1))
         | inr other ↦ rw other.0 is.is_open
@@ -145,22 +116,21 @@ module _ (limits : Limits) (t : Tables) (now : ℕ) (flaw : Flaw) (s : Sound t) 
         | inr other ↦ rw other.0 is.is_open
       ]
       heard_on (event.End y) here = elim (eq_cases y r) [
-        | inl same ↦ absurd (unended (here ∙ ap event.End same.1))
+        | inl same ↦ absurd (or_none v.head.total _ (sym (ended_total limits t now flaw s o m ev goes r v p kept (here ∙ ap event.End same.1)) ∙ none))
         | inr other ↦ rw other.0 is.is_open
       ]
       heard_on (event.Fault y) here = elim (eq_cases y r) [
-        | inl same ↦ absurd (unfaulted (here ∙ ap event.Fault same.1))
+        | inl same ↦ absurd (none_some (cause.Net r) (sym (stop_is_none (ap exchange_in (here ∙ ap event.Fault same.1))) ∙ ap (stop_cause t) (here ∙ ap event.Fault same.1)))
         | inr other ↦ rw other.0 is.is_open
       ]
-      heard_on (event.Cancel d) here = is.is_open
-      heard_on (event.Doom key) here = is.is_open
+      heard_on _ here = is.is_open
 
       -- then it is still open, and its own where it is
       still_own : u.own ≡ Some r → own_open now_on u ≡ Some r
       still_own owned =
           let after_row = after_is t e r w (t.exchange r) is.row in
           let heard = heard_on ev refl in
-          let shut = unclosed in
+          let shut = not_so (closes_in r e.acts) (λ closed. not_must (had_to limits t now flaw s ev r w is.row closed)) in
           own_open_is now_on u r (record { own = owned; w = exchange_acted r e.acts (exchange_heard t e r ev w); row = after_row; opened = rw shut heard })
 
     -- IT WENT ON ALONE
@@ -195,48 +165,26 @@ module _ (limits : Limits) (t : Tables) (now : ℕ) (flaw : Flaw) (s : Sound t) 
         spares : has_no_survivor t b r (family r w) (t.representation (family r w)) ≡ true → ⊥
         spares h =
             let here : has_no_survivor t b r r (Some v) ≡ true = sym (ap (λ n. has_no_survivor t b r n (t.representation n)) family_is ∙ ap (has_no_survivor t b r r) there) ∙ h in
-            let loses : loses_writing t b r v ≡ true = and_right (is_number v.writer r) _ (and_left _ _ here) in
-            false_true (sym off ∙ and_right _ _ loses)
+            false_true (sym off ∙ and_right _ _ (and_right (is_number v.writer r) _ (and_left _ _ here)))
 
         goes_on_so : u.own ≡ Some r → own_open now_on u ≡ Some r
         goes_on_so = still_own w feeds reads_own spares (unleft limits t now flaw s o ev goes c r k row.row own_of.own cancels_not row.leaves)
 
         -- it opens nothing else
         opens_none : (g : Opening) → opening_in e.acts ≡ Some g → g.c ≡ c → ⊥
-        opens_none g opens mine =
-            let by_poll = is_opened limits t now flaw s o ev goes g opens in
-            let one : by_poll.k ≡ k = same_row (t.consumer c) by_poll.k k (sym (ap t.consumer mine) ∙ by_poll.row) row.row in
-            by_way (subst (λ (q : Consumer). opened.Way t now c q g.need) one (subst (λ d. opened.Way t now d by_poll.k g.need) mine by_poll.way.way))
-          where
-            by_hole : (from_at to_at : ℕ) → OpensHole t c k from_at to_at → ⊥
-            by_hole from_at to_at (tree.first q y span hole current_is aims q_row nobody found lo_is hi_is) =
-                let number : r ≡ q = some_inj r q (sym (ap (aim_from t k.request.key) at) ∙ aims) in
-                bound_some t r c k s.numbered reader (ap (bound t) number ∙ nobody)
-            by_hole from_at to_at (tree.later q end n y stands_at none_held lo_is up) = none_some r (sym stands_at.no_source ∙ reads_own)
-
-            by_way : opened.Way t now c k g.need → ⊥
-            by_way (opened.passes_by unbound way) = none_some r (sym unbound ∙ ap bound_to at)
-            by_way (opened.fetches unbound way cached) = none_some r (sym unbound ∙ ap bound_to at)
-            by_way (opened.fills y q span gap unbound way is_current q_row wants found need_is cached) = none_some r (sym unbound ∙ ap bound_to at)
-            by_way (opened.goes_on y q d g_by there_at way) =
-                let h = hole_is g.need way in
-                let opener = is_opener limits t now flaw s ev goes c k g row.row opens mine in
-                by_hole h.from h.to (opens_hole t c k g now opener.want s row.row opener.opening h.from h.to h.is)
+        opens_none g opens mine = none_some r (sym (opens_later limits t now flaw s o ev goes c r lo None how k g row.row at opens mine).at_hole.no_source ∙ reads_own)
 
         by_none : (k.own ≡ None) ⊎ IsShared t e c → ⊥
         by_none (inl none_own) = none_some r (sym none_own ∙ own_of.own)
         by_none (inr sh) =
             let new = is_new limits t now flaw s ev goes sh.x sh.response sh.w sh.at sh.row in
             let mine = (waiter_as limits t now flaw s o ev goes c sh.x k sh.w row.row sh.row sh.mine new.is_open new.bare).own in
-            let number : sh.x ≡ r = some_inj sh.x r (sym mine ∙ own_of.own) in
-            let one : sh.w ≡ w = same_row (t.exchange r) sh.w w (sym (ap t.exchange number) ∙ sh.row) own_of.row in
+            let one : sh.w ≡ w = same_row (t.exchange r) sh.w w (sym (ap t.exchange (some_inj sh.x r (sym mine ∙ own_of.own))) ∙ sh.row) own_of.row in
             false_true (sym (ap (λ (q : Option Response). is_some q) (sym (ap (λ (q : Exchange). q.head) one) ∙ new.bare)) ∙ head_there)
 
         by_from : (x : ℕ) → u.own ≡ Some x → OwnFrom t e c x u → own_open now_on u ≡ Some r
         by_from x owned (own.kept q its mine heard_mine) =
-            let one : q ≡ k = same_row (t.consumer c) q k its.row row.row in
-            let number : x ≡ r = some_inj x r (sym (sym (ap (λ (a : Consumer). a.own) one) ∙ mine) ∙ own_of.own) in
-            goes_on_so (owned ∙ ap Some number)
+            goes_on_so (owned ∙ ap Some (some_inj x r (sym (sym (ap (λ (a : Consumer). a.own) (same_row (t.consumer c) q k its.row row.row)) ∙ mine) ∙ own_of.own)))
         by_from x owned (own.opened q g its opens mine number) = absurd (opens_none g opens mine)
         by_from x owned (own.left q its l) = absurd (false_true (sym off ∙ (left_loses limits t now flaw s o m i ev goes real r c lo None how u p after after_row stands lost_now is_alone k v row at there kept x q its.row l).0))
 
@@ -256,11 +204,8 @@ module _ (limits : Limits) (t : Tables) (now : ℕ) (flaw : Flaw) (s : Sound t) 
         grows : (w : Exchange) × IsGrowing t r v x w
         grows = (s.rows r v there).growing x on writer
 
-        opened_now : grows.0.is_open ≡ true
-        opened_now = sym (ap is_open grows.1.row) ∙ (is_on t v x on writer).open_now
-
         feeds_all : IsEndless t r x grows.0
-        feeds_all = endless t m r x v grows.0 there none_before grows.1.row opened_now grows.1.headed grows.1.family_is
+        feeds_all = endless t m r x v grows.0 there none_before grows.1.row (sym (ap is_open grows.1.row) ∙ (is_on t v x on writer).open_now) grows.1.headed grows.1.family_is
 
         feeds_r : IsEndless t r r grows.0
         feeds_r = subst (λ n. IsEndless t r n grows.0) feeds_all.mine feeds_all
@@ -280,20 +225,9 @@ module _ (limits : Limits) (t : Tables) (now : ℕ) (flaw : Flaw) (s : Sound t) 
             brings : brings_body ev ≡ true
             brings = and_left _ _ (and_left _ _ losing)
 
-            leaves_not : leaves_in d e.acts ≡ true → ⊥
-            leaves_not leaves =
-                let got = leaving_by limits t now flaw s ev goes d leaves in
-                false_true (sym (ap brings_body got.poll.at) ∙ brings)
-
             by_event : (z : Event) → ev ≡ z → leaver_by z b.acts ≡ Some d → ⊥
             by_event (event.Cancel a) here h = false_true (sym (ap brings_body here) ∙ brings)
-            by_event (event.Start a request) here h = leaves_not (leaver_leaves limits t now flaw s ev d h)
-            by_event (event.Poll a want) here h = leaves_not (leaver_leaves limits t now flaw s ev d h)
-            by_event (event.Head y response) here h = leaves_not (leaver_leaves limits t now flaw s ev d h)
-            by_event (event.Piece y bytes) here h = leaves_not (leaver_leaves limits t now flaw s ev d h)
-            by_event (event.End y) here h = leaves_not (leaver_leaves limits t now flaw s ev d h)
-            by_event (event.Fault y) here h = leaves_not (leaver_leaves limits t now flaw s ev d h)
-            by_event (event.Doom key) here h = leaves_not (leaver_leaves limits t now flaw s ev d h)
+            by_event _ here h = false_true (sym (ap brings_body (leaving_by limits t now flaw s ev goes d (leaver_leaves limits t now flaw s ev d h)).poll.at) ∙ brings)
 
         unleft_now : (z : Option ℕ) → leaver b ≡ z → is_left t r z ≡ true → ⊥
         unleft_now None is_none h = false_true h
@@ -303,16 +237,14 @@ module _ (limits : Limits) (t : Tables) (now : ℕ) (flaw : Flaw) (s : Sound t) 
         survives =
             let g = goes_on limits t now flaw s o m ev goes real r c v p u there losing is after after_row in
             let owned : u.own ≡ Some r = g.is.own ∙ (sym g.own_is ∙ (writer ∙ ap Some feeds_all.mine)) in
-            let from_writer : source t k ≡ Some r = source_is t r c x v k s there reader on writer ∙ ap Some feeds_all.mine in
-            still_own grows.0 feeds_r from_writer unlost (λ left. unleft_now (leaver b) refl left) owned
+            still_own grows.0 feeds_r (source_is t r c x v k s there reader on writer ∙ ap Some feeds_all.mine) unlost (λ left. unleft_now (leaver b) refl left) owned
 
       -- ALL CASES
 
       first_ends : IsFirst t r c → ⊥
       first_ends (sound.first q a d g q_row q_at alone) =
           let one : q ≡ k = same_row (t.consumer c) q k q_row row.row in
-          let same : came_alone t (place.Bound r lo None how) ≡ true = subst (λ z. came_alone t z ≡ true) (sym q_at ∙ (ap (λ (z : Consumer). z.place) one ∙ at)) alone in
-          false_true (s.writes.known_end r c lo None how k row.row at same)
+          false_true (s.writes.known_end r c lo None how k row.row at (subst (λ z. came_alone t z ≡ true) (sym q_at ∙ (ap (λ (z : Consumer). z.place) one ∙ at)) alone))
 
       by_writer : loses_writing t e r v ≡ true → survivor t r v ≡ Some c → (z : Option ℕ) → v.writer ≡ z → own_open now_on u ≡ Some r
       by_writer losing is None writer = absurd (writer_some t v (and_right _ _ losing) writer)
@@ -328,18 +260,12 @@ module _ (limits : Limits) (t : Tables) (now : ℕ) (flaw : Flaw) (s : Sound t) 
     lost_now : p.is_lost ≡ true
     lost_now = lost_of limits t now flaw s o m i ev goes real r c p after is_alone
 
-    by_reader : BoundFrom t e c r lo None how u → RepFrom t e r p → own_open now_on u ≡ Some r
-    by_reader (from.stays k row at) (rep.was v kept) =
-        by_exclusive_writer r c lo how k u v p row at stands kept.row kept none undue lost_now is_alone after after_row
-        (λ lost alone_was. was.alone r c lo how v k kept.row alone_was row.row at (none_before r c lo how k u v p row at stands kept.row kept none undue) (dues r c lo how k u v p row at stands kept.row kept none undue).0)
-        (alone_from limits t now flaw s o m ev goes real r c v p kept.row kept lost_now is_alone)
-    by_reader (from.stays k row at) (rep.founded response w none_there here w_row on is_made) = absurd (false_true (ap (λ (q : Representation). q.is_lost) is_made ∙ lost_now))
-    by_reader (from.founds k y response w row here w_row mine of_it by_is all) from_rep = absurd (founds_not limits t now flaw s o m i ev goes real r c lo None how u p after after_row stands lost_now is_alone y response w here w_row of_it from_rep)
-    by_reader (from.opens k q row opens mine free way hole) from_rep = absurd (opens_not limits t now flaw s o m i ev goes real r c lo None how u p after after_row stands lost_now is_alone k q row opens mine free hole from_rep)
-    by_reader (from.shows k q row is all) from_rep = absurd (shown_not limits t now flaw s o m i ev goes real r c lo None how u p after after_row stands lost_now is_alone k q row is all from_rep)
-
     kept_one : own_open now_on u ≡ Some r
-    kept_one = by_reader (bound_from t e c r lo None how (t.consumer c) u refl after_row stands) (rep_from t e r (t.representation r) p refl after)
+    kept_one =
+        let a = was_there limits t now flaw s o m i ev goes real r c lo None how u p after after_row stands lost_now is_alone in
+        by_exclusive_writer r c lo how a.k u a.v p a.row a.at stands a.kept.row a.kept none undue lost_now is_alone after after_row
+        (λ lost alone_was. was.alone r c lo how a.v a.k a.kept.row alone_was a.row.row a.at (none_before r c lo how a.k u a.v p a.row a.at stands a.kept.row a.kept none undue) (dues r c lo how a.k u a.v p a.row a.at stands a.kept.row a.kept none undue).0)
+        (alone_from limits t now flaw s o m ev goes real r c a.v p a.kept.row a.kept lost_now is_alone)
 
   pub unended_kept : Unended t → Unended now_on
   unended_kept was = record { alone = λ r c lo how p u after is_alone after_row stands none undue. kept_one was r c lo how u p after is_alone after_row stands none undue }

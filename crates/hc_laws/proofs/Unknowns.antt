@@ -6,9 +6,8 @@ use Rattle.hc_event.specs.declared.event.Event.TheVariants as event
 use Rattle.hc_model.specs.Gone.{refuses_ranges}
 use Rattle.hc_model.specs.Measures as measures
 use Rattle.hc_effects.proofs.{ApartKeeps.{written_by, is_on}, Basics.{false_true, some_none}, LossBy.{IsReal}, ExclusiveWriters.{writer_some}, RepFrom.{RepFrom, rep_from, IsKept, IsResumed, IsEnded}, WritingStops.{IsAll}}
-use Rattle.hc_laws.proofs.{DeniedKeeps.{written_same}, MeasuresBegin.{known_item}, Lasting.{was_not_gone, not_lost, lasting}, FoundedAs.{FoundedAs, founded_as}, UnendedRuns.{or_none}}
+use Rattle.hc_laws.proofs.{DeniedKeeps.{written_same}, MeasuresBegin.{known_item}, Lasting.{was_not_gone, not_lost, lasting}, FoundedAs.{part, empty, comes, FoundedAs, founded_as}, UnendedRuns.{or_none}}
 use Rattle.hc_effects.proofs.RepFrom as rep
-use Rattle.hc_laws.proofs.FoundedAs as founded
 
 ends_none : (n : ℕ) (q : Option ℕ) → end_from n q ≡ None → q ≡ None
 ends_none n None h = refl
@@ -76,11 +75,8 @@ module _ (limits : Limits) (t : Tables) (now : ℕ) (flaw : Flaw) (s : Sound t) 
       g : IsGrowing t r v x w
       g = grows.1
 
-      was_open : w.is_open ≡ true
-      was_open = sym (ap is_open g.row) ∙ (is_on t v x was.written writer).open_now
-
       mine : x ≡ r
-      mine = by_measure (m.brings x w v g.row was_open g.headed (ap t.representation g.family_is ∙ there))
+      mine = by_measure (m.brings x w v g.row (sym (ap is_open g.row) ∙ (is_on t v x was.written writer).open_now) g.headed (ap t.representation g.family_is ∙ there))
         where
           by_measure : IsMeasured w v → x ≡ r
           by_measure (measures.told n total promise known ends) = absurd (none_some total (sym none_before ∙ known))
@@ -114,9 +110,9 @@ module _ (limits : Limits) (t : Tables) (now : ℕ) (flaw : Flaw) (s : Sound t) 
   -- WHAT IS FOUNDED
 
   founded_by : (r : ℕ) (response : Response) (w : Exchange) (p : Representation) (here : ev ≡ event.Head r response) (row : t.exchange r ≡ Some w) (founding : is_founding (case_at t e) ≡ true) (made : new_representation r e response w ≡ p) (after : now_on.representation r ≡ Some p) → p.head.total ≡ None → FoundedAs limits t now flaw s o m ev goes real r response w p here row founding made after → IsOnlyWritten now_on p
-  founded_by r response w p here row founding made after none (founded.comes on writer status) = record { written = on; whole = sym (ap (λ (q : Representation). q.head.status) made) ∙ status }
-  founded_by r response w p here row founding made after none (founded.empty status known) = absurd (none_some 0 (sym none ∙ known))
-  founded_by r response w p here row founding made after none (founded.part total status known fits) = absurd (none_some total (sym none ∙ known))
+  founded_by r response w p here row founding made after none (comes on writer status) = record { written = on; whole = sym (ap (λ (q : Representation). q.head.status) made) ∙ status }
+  founded_by r response w p here row founding made after none (empty status known) = absurd (none_some 0 (sym none ∙ known))
+  founded_by r response w p here row founding made after none (part total status known fits) = absurd (none_some total (sym none ∙ known))
 
   pub unknown_kept : Unknown now_on
   unknown_kept r p after not_gone none = by_rep (rep_from t e r (t.representation r) p refl after)

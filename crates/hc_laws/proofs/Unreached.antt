@@ -15,8 +15,6 @@ module _ (limits : Limits) (t : Tables) (now : ℕ) (flaw : Flaw) (s : Sound t) 
 
   -- what the event leaves open lacks something
   heard : (x : ℕ) (w : Exchange) → t.exchange x ≡ Some w → (z : Event) → ev ≡ z → (exchange_heard t e x z w).is_open ≡ true → is_reached (promised_bytes (exchange_heard t e x z w)) (length (exchange_heard t e x z w).body) ≡ false
-  heard x w row (event.Start c request) at on = was.lacks x w row on
-  heard x w row (event.Poll c want) at on = was.lacks x w row on
   heard x w row (event.Head y response) at on = elim (eq_cases y x) [
     | inl same ↦ rw same.0 (headed (ev_at same.1) (rw same.0 at on))
     | inr apart ↦ rw apart.0 (was.lacks x w row (rw apart.0 at on))
@@ -27,8 +25,7 @@ module _ (limits : Limits) (t : Tables) (now : ℕ) (flaw : Flaw) (s : Sound t) 
 
       headed : ev ≡ event.Head x response → (not (is_reached (promise_in w response) 0) && w.is_open) ≡ true → is_reached (promise_in w response) (length w.body) ≡ false
       headed its opened =
-          let new = is_new limits t now flaw s ev goes x response w its row in
-          let empty : length w.body ≡ 0 = ap (λ (xs : List ℕ). length xs) (s.waits.headless x w row new.bare).0 in
+          let empty : length w.body ≡ 0 = ap (λ (xs : List ℕ). length xs) (s.waits.headless x w row (is_new limits t now flaw s ev goes x response w its row).bare).0 in
           ap (is_reached (promise_in w response)) empty ∙ not_left (is_reached (promise_in w response) 0) w.is_open opened
   heard x w row (event.Piece y bytes) at on = elim (eq_cases y x) [
     | inl same ↦ rw same.0 (not_left (is_reached (promised_bytes w) (length (w.body ++ bytes))) w.is_open (rw same.0 at on))
@@ -42,8 +39,7 @@ module _ (limits : Limits) (t : Tables) (now : ℕ) (flaw : Flaw) (s : Sound t) 
     | inl same ↦ absurd (false_true (rw same.0 at on))
     | inr apart ↦ rw apart.0 (was.lacks x w row (rw apart.0 at on))
   ]
-  heard x w row (event.Cancel c) at on = was.lacks x w row on
-  heard x w row (event.Doom key) at on = was.lacks x w row on
+  heard x w row _ at on = was.lacks x w row on
 
   made : (x : ℕ) (o : Option Opening) (w : Exchange) → exchange_made t e x o ≡ Some w → is_reached (promised_bytes w) (length w.body) ≡ false
   made x None w h = absurd (none_some w h)

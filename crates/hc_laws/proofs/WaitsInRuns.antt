@@ -83,8 +83,7 @@ module _ (t : Tables) (s : Sound t) (unknown : Unknown t) where
 
     busy_reads : (want : ℕ) → t.consumer c ≡ Some k → move_of t now want c k ≡ moves.Waits (wait.Busy d) → Reads
     busy_reads want row is =
-        let w = waited_as t now c k (wait.Busy d) (waited.busy d) want s row (subst (WaitsAs (wait.Busy d)) (sym is) said.waits) in
-        let plan = w.plan_is d refl in
+        let plan = (waited_as t now c k (wait.Busy d) (waited.busy d) want s row (subst (WaitsAs (wait.Busy d)) (sym is) said.waits)).plan_is d refl in
         by_busy (busy_by (plan_view t now c k) d plan.kept plan.is)
 
 -- IN RUNS

@@ -3,8 +3,8 @@
 -- The acts of a leave are what is said to the leaver, what is closed, and what is lost: a seal of what is closed may fail. Its row
 -- behind them is over, unless it starts over: at a leave only who waits for what goes could. Who waits so owns nothing, so nothing
 -- is closed, and nothing is lost. By any other entry the place of a live consumer becomes none but one at which it is live.
-use Rattle.std.{proofs.{Common.{◌≡◌, ◌⊎◌, inl, inr, ℕ, List, [], ◌∷◌, ◌++◌, Bool, true, false, Option, Some, None, refl, ap, sym, ◌∙◌, subst, arith}, lemmas.Bool.Decides.{nat_tests}}, specs.Prelude.{◌&&◌, map, nat_eq, nat_lt}}
-use Rattle.hc_text.proofs.Basics.{and_left, bool_cases, false_true, not_some as none_some, eq_itself as same_number}
+use Rattle.std.{proofs.{Common.{◌≡◌, ◌⊎◌, inl, inr, ℕ, List, [], ◌∷◌, ◌++◌, Bool, true, false, Option, Some, None, refl, ap, sym, ◌∙◌, subst, arith}, lemmas.Bool.Decides.{nat_tests}}, specs.Prelude.{map, nat_eq, nat_lt}}
+use Rattle.hc_text.proofs.Basics.{and_none, and_left, bool_cases, false_true, not_some as none_some, eq_itself as same_number}
 use Rattle.hc_effects.proofs.Vocabulary.{closes_in, is_denied, leaves_in, Act, Event, Place, Limits, fails_in, loses_in, without_losses, accepted_acts, answer_acts, loss_acts, closing, consumer_after, denial, is_live, left_by, Entry, Flaw, NoFlaw, Loses, Misreads, flaw_in, becomes_gone, goes_in, Lawful, Move, acts_of, move_of, poll_move, Tables, Representation, Consumer, IsOwed, may_be, loses_what_it_waits_for, after, with_item_first, written_representation, written_in, seals_at, stops, first_found, lossless}
 use Rattle.hc_event.specs.declared.act.Act.TheVariants as act
 use Rattle.hc_event.specs.declared.act.Cause.TheVariants as cause
@@ -14,40 +14,31 @@ use Rattle.hc_rules.specs.Refusals as refusals
 use Rattle.hc_model.specs.Moves as moves
 use Rattle.hc_effects.proofs.{ActParts.{far_closing, far_lost_only}, Basics.{number_is}, EventsKeep.{poll_live}, FailsTold.{fails_told}, LeftBy.{left_passed}, Owed.{goes, acts_are, is_denial, IsDenied}, LeaveFrames.{IsFront, acts_left, goes_by, itself}, KeyActs.{closes_lossless}}
 use Rattle.hc_effects.proofs.Owed as owed_by
-use Rattle.hc_laws.proofs.{TurnFacts.{far_from, may_be_so}, Accepted.{is_accepted}, LiveAfter.{Starts, was_live}}
+use Rattle.hc_laws.proofs.{TurnOpens.{found_none}, TurnFacts.{far_from, may_be_so}, Accepted.{is_accepted}, LiveAfter.{Starts, was_live}}
 use Rattle.hc_effects.proofs.LeaveFrames as frames
 
 -- WHAT IS SAID TO WHO LEAVES
 
 -- it is told a failure, or no read failed
 fails_or : (c : ℕ) (ev : Event) (o : Option ℕ) (front rest : List Act) → IsFront c ev o front → (fails_in c (front ++ rest) ≡ true) ⊎ (o ≡ None)
-fails_or c _ _ _ rest (frames.ends want) = inr refl
-fails_or c _ _ _ rest (frames.fails want why told) = inr refl
 fails_or c _ _ _ rest (frames.misreads want r) = inl (rw (same_number c) refl)
-fails_or c _ _ _ rest frames.cancels = inr refl
+fails_or c _ _ _ rest _ = inr refl
 
 lost_closes : (x : ℕ) (flaw : Flaw) → closes_in x (loss_acts flaw) ≡ false
 lost_closes x NoFlaw = refl
-lost_closes x (Loses r kind) = refl
-lost_closes x (Misreads r) = refl
+lost_closes x _ = refl
 
 front_closes : (x c : ℕ) (ev : Event) (o : Option ℕ) (front : List Act) (flaw : Flaw) → IsFront c ev o front → closes_in x (front ++ loss_acts flaw) ≡ false
 front_closes x c _ _ _ flaw (frames.ends want) = lost_closes x flaw
-front_closes x c _ _ _ flaw (frames.fails want why told) = lost_closes x flaw
-front_closes x c _ _ _ flaw (frames.misreads want r) = lost_closes x flaw
-front_closes x c _ _ _ flaw frames.cancels = lost_closes x flaw
+front_closes x c _ _ _ flaw _ = lost_closes x flaw
 
 front_stops : (x c : ℕ) (ev : Event) (o : Option ℕ) (front : List Act) → IsFront c ev o front → stops x ev ≡ false
 front_stops x c _ _ _ (frames.ends want) = refl
-front_stops x c _ _ _ (frames.fails want why told) = refl
-front_stops x c _ _ _ (frames.misreads want r) = refl
-front_stops x c _ _ _ frames.cancels = refl
+front_stops x c _ _ _ _ = refl
 
 front_writes : (t : Tables) (it : Entry) (c : ℕ) (ev : Event) (o : Option ℕ) (front : List Act) → IsFront c ev o front → written_in t it ev ≡ first_found (seals_at t it) t.openings
 front_writes t it c _ _ _ (frames.ends want) = refl
-front_writes t it c _ _ _ (frames.fails want why told) = refl
-front_writes t it c _ _ _ (frames.misreads want r) = refl
-front_writes t it c _ _ _ frames.cancels = refl
+front_writes t it c _ _ _ _ = refl
 
 -- A LEAVE
 
@@ -64,10 +55,7 @@ module _ (limits : Limits) (t : Tables) (e : Entry) (law : Lawful t) (is : IsOwe
     acts_same = acts_are limits t e is on ∙ (ap (λ z. accepted_acts limits t e.now z flaw) at ∙ acts_left limits t law e.now c k row ev flaw o front f says)
 
     same : e ≡ it
-    same =
-        let F : Event → Entry = λ z. record { now = e.now; event = z; acts = e.acts } in
-        let G : List Act → Entry = λ z. record { now = e.now; event = ev; acts = z } in
-        ap F at ∙ ap G acts_same
+    same = ap (λ z. record { now = e.now; event = z; acts = e.acts }) at ∙ ap (λ z. record { now = e.now; event = ev; acts = z }) acts_same
 
     -- where nothing is left
     module _ (left : left_by t c k ≡ None) where
@@ -82,18 +70,13 @@ module _ (limits : Limits) (t : Tables) (e : Entry) (law : Lawful t) (is : IsOwe
           let b : closes_in x (without_losses e.acts) ≡ false = closes_lossless x e.acts ∙ closes_none x in
           rw (a, b) refl
 
-      found_none : (g : ℕ → Option ℕ) (xs : List ℕ) → ((x : ℕ) → g x ≡ None) → first_found g xs ≡ None
-      found_none g [] all = refl
-      found_none g (x ∷ xs) all = rw (all x) (found_none g xs all)
-
       writes_none : written_representation t e ≡ None
       unfolding written_representation
       writes_none = ap (written_in t (lossless e)) at ∙ (front_writes t (lossless e) c ev o front f ∙ found_none (seals_at t (lossless e)) t.openings seals_none)
 
       lost_none : (r : ℕ) (z : Flaw) → may_be limits t e z ≡ true → loses_in r (loss_acts z) ≡ false
-      lost_none r NoFlaw may = refl
-      lost_none r (Misreads q) may = refl
       lost_none r (Loses q kind) may = absurd (none_some q (sym writes_none ∙ number_is (written_representation t e) q (and_left _ _ (and_left _ _ may))))
+      lost_none r _ may = refl
 
       nothing_goes : o ≡ None → (r : ℕ) (v : Representation) → t.representation r ≡ Some v → becomes_gone t it r v ≡ false
       nothing_goes none r v there =
@@ -109,19 +92,10 @@ module _ (limits : Limits) (t : Tables) (e : Entry) (law : Lawful t) (is : IsOwe
     stays : (p : Place) → k.place ≡ p → loses_what_it_waits_for t it c p ≡ false
     stays (place.Passed r kept) stands =
         elim (fails_or c ev o front (frames.rest limits t law e.now c k row ev flaw o front f) f) [
-          | inl fails ↦ rw fails (off (goes_in t it r (t.representation r)))
+          | inl fails ↦ rw fails (and_none (goes_in t it r (t.representation r)))
           | inr none ↦ let quiet : goes_in t it r (t.representation r) ≡ false = nothing_in (left_passed t law c k row r kept stands) none r (t.representation r) refl in rw quiet refl
         ]
-      where
-        off : (b : Bool) → (b && false) ≡ false
-        off true = refl
-        off false = refl
-    stays place.Line stands = refl
-    stays (place.Turn x) stands = refl
-    stays (place.Bound r lo hi how) stands = refl
-    stays (place.Direct x) stands = refl
-    stays (place.Down why) stands = refl
-    stays place.Over stands = refl
+    stays _ stands = refl
 
     row_behind : (after t e).consumer c ≡ consumer_after t e c (t.consumer c)
     unfolding after
@@ -139,7 +113,7 @@ module _ (limits : Limits) (t : Tables) (e : Entry) (law : Lawful t) (is : IsOwe
   has_started c live = by_test (nat_lt t.last_start c) refl
     where
       by_test : (b : Bool) → nat_lt t.last_start c ≡ b → nat_lt t.last_start c ≡ false
-      by_test false off = off
+      by_test false and_none = and_none
       by_test true past = false_true (sym (ap is_live (law.sound.numbered.lists.new_consumers c (grind (arith, nat_tests)))) ∙ live)
 
   pub cancel_goes : (c : ℕ) → e.event ≡ event.Cancel c → is_live (t.consumer c) ≡ true → denial t e.event ≡ None
@@ -156,7 +130,7 @@ module _ (limits : Limits) (t : Tables) (e : Entry) (law : Lawful t) (is : IsOwe
       elim (bool_cases (is_live (t.consumer c))) [
         | inl live ↦ cancels_row c (t.consumer c) refl at live
         | inr dead ↦ elim (bool_cases (is_live ((after t e).consumer c))) [
-          | inr off ↦ off
+          | inr and_none ↦ and_none
           | inl on ↦ elim (was_live limits t e law is c on) [
             | inl was ↦ false_true (sym dead ∙ was)
             | inr starts ↦ absurd (subst (Starts c) at starts)
@@ -165,9 +139,6 @@ module _ (limits : Limits) (t : Tables) (e : Entry) (law : Lawful t) (is : IsOwe
       ]
 
   -- WHO IS TOLD THE END OR A FAILURE
-
-  quiet_behind : (c : ℕ) (ys : List ℕ) (flaw : Flaw) → leaves_in c (map act.Close ys ++ loss_acts flaw) ≡ false
-  quiet_behind c ys flaw = (far_closing c ys (loss_acts flaw) (far_lost_only c flaw)).leaves
 
   module _ (on : is_denied e.acts ≡ false) (c want : ℕ) (k : Consumer) (row : t.consumer c ≡ Some k) (at : e.event ≡ event.Poll c want) (leaves : leaves_in c e.acts ≡ true) where
     abbrev saw : Entry
@@ -180,24 +151,17 @@ module _ (limits : Limits) (t : Tables) (e : Entry) (law : Lawful t) (is : IsOwe
     rest = map act.Close (closing t saw) ++ loss_acts (flaw_in e.acts)
 
     quiet : leaves_in c rest ≡ false
-    quiet = quiet_behind c (closing t saw) (flaw_in e.acts)
+    quiet = (far_closing c (closing t saw) (loss_acts (flaw_in e.acts)) (far_lost_only c (flaw_in e.acts))).leaves
 
     -- with these acts it wouldn't leave
     not_said : (m : Move) → answer_acts t e.now (event.Poll c want) (flaw_in e.acts) ≡ acts_of c m → leaves_in c (acts_of c m ++ rest) ≡ false → is_live ((after t e).consumer c) ≡ false
-    not_said m says stays =
-        let none : leaves_in c e.acts ≡ false = ap (leaves_in c) (poll_acts_are ∙ ap (λ z. z ++ rest) says) ∙ stays in
-        false_true (sym none ∙ leaves)
+    not_said m says stays = false_true (sym (ap (leaves_in c) (poll_acts_are ∙ ap (λ z. z ++ rest) says) ∙ stays) ∙ leaves)
 
     -- what is said makes it leave
     by_move : (m : Move) → move_of t e.now want c k ≡ m → answer_acts t e.now (event.Poll c want) (flaw_in e.acts) ≡ acts_of c m → is_live ((after t e).consumer c) ≡ false
     by_move moves.Ends is_move says = leaver_over on c k row (event.Poll c want) at None (acts_of c moves.Ends) (frames.ends want) says
     by_move (moves.Fails why) is_move says = leaver_over on c k row (event.Poll c want) at None (acts_of c (moves.Fails why)) (frames.fails want why (fails_told t e.now want c k why law.sound law.places row is_move)) says
-    by_move moves.Nothing is_move says = not_said moves.Nothing says quiet
-    by_move (moves.Waits w) is_move says = not_said (moves.Waits w) says quiet
-    by_move (moves.Asks x) is_move says = not_said (moves.Asks x) says quiet
-    by_move (moves.Opens x need request) is_move says = not_said (moves.Opens x need request) says quiet
-    by_move (moves.Shows r why head lo hi) is_move says = not_said (moves.Shows r why head lo hi) says quiet
-    by_move (moves.Gives run) is_move says = not_said (moves.Gives run) says quiet
+    by_move v is_move says = not_said v says quiet
 
     moves_on : (z : Flaw) → flaw_in e.acts ≡ z → answer_acts t e.now (event.Poll c want) z ≡ acts_of c (poll_move t e.now want c (t.consumer c)) → is_live ((after t e).consumer c) ≡ false
     moves_on z is_flaw says =
@@ -230,15 +194,11 @@ module _ (limits : Limits) (t : Tables) (e : Entry) (law : Lawful t) (is : IsOwe
   poll_of c (event.Poll d want) at on leaves = by_test (nat_eq d c) refl
     where
       by_test : (b : Bool) → nat_eq d c ≡ b → IsPolled c
-      by_test true its =
-          let same_one : d ≡ c = grind (arith, nat_tests) in
-          record { want = want; at = at ∙ ap (λ n. event.Poll n want) same_one; on = on }
-      by_test false off = absurd (far_off c on leaves (λ n poll. other n (sym at ∙ poll)))
+      by_test true its = record { want = want; at = at ∙ ap (λ n. event.Poll n want) (grind (arith, nat_tests)); on = on }
+      by_test false and_none = absurd (far_off c on leaves (λ n poll. other n (sym at ∙ poll)))
         where
           other : (n : ℕ) → event.Poll d want ≡ event.Poll c n → ⊥
-          other n eq =
-              let same_one : d ≡ c = ap (λ (z : Event). who z) eq in
-              let never : true ≡ false = sym (same_number d) ∙ (ap (nat_eq d) same_one ∙ off) in cc
+          other n eq = let never : true ≡ false = sym (same_number d) ∙ (ap (nat_eq d) (ap (λ (z : Event). who z) eq) ∙ and_none) in cc
             where
               who : Event → ℕ
               who (event.Poll a b) = a

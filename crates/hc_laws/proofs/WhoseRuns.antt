@@ -1,5 +1,5 @@
 -- Each open exchange is somebody's, in every run.
-use Rattle.std.{proofs.Common.{◌≡◌, ℕ, true, Option, Some, None, refl, ap, sym, ◌∙◌}, specs.Prelude.{is_some, unwrap_or}}
+use Rattle.std.{proofs.Common.{◌≡◌, ℕ, true, Option, Some, None, refl, ap, sym, ◌∙◌}, specs.Prelude.{is_some}}
 use Rattle.hc_text.proofs.Basics.{not_some as none_some}
 use Rattle.hc_effects.proofs.Vocabulary.{Response, Place, family, IsOfOneKey, OfRuns, Owners, IsAwaiting, Places, own_open, Tables, Exchange, Representation, Consumer, Sound, IsHad, tables, Whose, IsSomebodys, IsOwner, may_own}
 use Rattle.hc_event.specs.declared.place.Place.TheVariants as place
@@ -8,7 +8,7 @@ use Rattle.hc_model.specs.Sound as sound
 use Rattle.hc_model.specs.Whose.{IsOfKey}
 use Rattle.hc_model.specs.Whose as whose
 use Rattle.hc_effects.proofs.{AboutKeeps.{own_open_of}, ExclusiveWriters.{none_about}}
-use Rattle.hc_laws.proofs.{InRuns.{turned_in_runs}, OwnersFor.{owners_for}, PlaceRuns.{places_in_runs}, SoundRuns.{carried}}
+use Rattle.hc_laws.proofs.{GrowingRuns.{brings_headed}, InRuns.{turned_in_runs}, OwnersFor.{owners_for}, PlaceRuns.{places_in_runs}, SoundRuns.{carried}}
 
 module _ (t : Tables) (s : Sound t) (o : Owners t) (one : IsOfOneKey t) (places : Places t) (owner : (c x : ℕ) (k : Consumer) (w : Exchange) → t.consumer c ≡ Some k → k.own ≡ Some x → t.exchange x ≡ Some w → IsOwner t x w c) where
   awaiting_owns : (x : ℕ) (w : Exchange) (p : Place) → IsAwaiting x w p → may_own p ≡ true
@@ -35,13 +35,7 @@ module _ (t : Tables) (s : Sound t) (o : Owners t) (one : IsOfOneKey t) (places 
 
     -- what is founded has its head
     headed : (v : Representation) → t.representation (family x w) ≡ Some v → is_some w.head ≡ true
-    headed v there = by_head w.head refl
-      where
-        by_head : (q : Option Response) → w.head ≡ q → is_some q ≡ true
-        by_head (Some response) is = refl
-        by_head None bare =
-            let own : family x w ≡ x = ap (λ (q : Option ℕ). unwrap_or q x) (s.waits.headless x w row bare).1 in
-            absurd (none_some v (sym (s.numbered.names.unfounded x w row bare) ∙ (sym (ap t.representation own) ∙ there)))
+    headed v there = brings_headed t s x (family x w) w v row there refl
 
     by_row : (q : Option Representation) → t.representation (family x w) ≡ q → IsSomebodys t x w
     by_row None none = own_by w.head refl none
@@ -51,11 +45,9 @@ module _ (t : Tables) (s : Sound t) (o : Owners t) (one : IsOfOneKey t) (places 
   stands_by : (c x : ℕ) (k : Consumer) → t.consumer c ≡ Some k → own_open t k ≡ Some x → (p : Place) → k.place ≡ p → may_own p ≡ true
   stands_by c x k row own place.Line at = absurd (none_some x (sym (places.line c k row at).unowned ∙ own))
   stands_by c x k row own (place.Passed r kept) at = absurd (none_some x (sym (places.passed c r kept k row at).unowned ∙ own))
-  stands_by c x k row own (place.Turn y) at = refl
-  stands_by c x k row own (place.Bound r lo hi how) at = refl
-  stands_by c x k row own (place.Direct y) at = refl
   stands_by c x k row own (place.Down why) at = absurd (none_some x (sym (places.down c why k row at).unowned ∙ own))
   stands_by c x k row own place.Over at = absurd (none_some x (sym (places.over c k row at) ∙ own))
+  stands_by c x k row own _ at = refl
 
   writer_of_key : (r x : ℕ) (v : Representation) → t.representation r ≡ Some v → v.writer ≡ Some x → IsOfKey t x v.key
   writer_of_key r x v there writer =

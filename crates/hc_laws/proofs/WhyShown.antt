@@ -2,18 +2,15 @@
 use Rattle.std.{proofs.Common.{◌≡◌, inl, inr, ℕ, ◌+◌, Bool, true, false, Option, Some, None, refl, ap, sym, ◌∙◌}, specs.{Prelude.{is_none, ◌&&◌, nat_le}, Option.{option_map}}}
 use Rattle.hc_text.proofs.Basics.{bool_cases, not_some as none_some, some_inj}
 use Rattle.hc_range.specs.declared.range.Span.{Span}
-use Rattle.hc_effects.proofs.Vocabulary.{Request, Response, Why, Candidate, Plan, PlanView, Wanted, plan_of, bare_plan, in_time, from_store, by_current, by_why, by_wanted, by_exclusive, by_hole, by_bound, plan_on, why_by, queues, BoundBy, Place, kept_by, current, total_in, base, Move, Nothing, Shows, Fails, shows_stored, opens_hole, plan_view, plan_move, candidate, binds_current, move_of, shows_at, shows_bound, shows_direct, shows_answer, has_joined, hi_of, Tables, Exchange, Representation, Consumer, Sound}
+use Rattle.hc_effects.proofs.Vocabulary.{Request, Response, Why, Candidate, Plan, PlanView, Wanted, plan_of, bare_plan, in_time, from_store, by_current, by_why, by_wanted, by_exclusive, by_hole, by_bound, plan_on, why_by, queues, BoundBy, Place, kept_by, current, total_in, Move, Nothing, Shows, shows_stored, opens_hole, plan_view, plan_move, candidate, binds_current, move_of, shows_at, shows_bound, shows_direct, shows_answer, has_joined, hi_of, Tables, Exchange, Representation, Consumer, Sound}
 use Rattle.hc_event.specs.declared.act.Need.TheVariants as need
-use Rattle.hc_event.specs.declared.act.Wait.TheVariants as wait
 use Rattle.hc_event.specs.declared.act.Why.TheVariants as why_is
 use Rattle.hc_rules.specs.declared.plan.Plan.TheVariants as plan
 use Rattle.hc_rules.specs.declared.request.Wanted.TheVariants as wanted
 use Rattle.hc_fresh.specs.Facts.{allowed}
 use Rattle.hc_event.specs.declared.place.BoundBy.TheVariants as by
 use Rattle.hc_event.specs.declared.place.Place.TheVariants as place
-use Rattle.hc_model.specs.Moves as moves
-use Rattle.hc_effects.proofs.{Joining.{mix}, MoveBy.{MoveBy, move_by}, ShownOnce.{is_showing, shown_shows}}
-use Rattle.hc_effects.proofs.MoveBy as by_move
+use Rattle.hc_effects.proofs.{Joining.{mix}, MoveBy.{shows, reads, plans, MoveBy, move_by}, ShownOnce.{is_showing, shown_shows}}
 
 -- A PLAN
 
@@ -38,9 +35,8 @@ module _ (v : PlanView) where
       exclusive_why span (Some d) = tt
 
       wanted_why : (w : Wanted) → IsWhy v (by_wanted v s why w)
-      wanted_why wanted.TotalUnknown = tt
-      wanted_why wanted.Unsatisfiable = tt
       wanted_why (wanted.Interval span) = mix (IsWhy v) s.writing _ _ tt (exclusive_why span s.exclusive)
+      wanted_why _ = tt
 
       on_why : IsWhy v (plan_on v s why)
       on_why = mix (IsWhy v) (is_none v.class.range && s.writing) (plan.Bind why None) (by_wanted v s why s.span) (s, at, is) (wanted_why s.span)
@@ -62,20 +58,11 @@ module _ (v : PlanView) where
   in_time_why : (p : Plan) → IsWhy v p → IsWhy v (in_time v p)
   in_time_why (plan.Turn d) is = mix (IsWhy v) (nat_le (v.since + 20) v.moment) (plan.Direct need.TimedOut) (plan.Turn d) tt tt
   in_time_why (plan.Busy d kept) is = mix (IsWhy v) (nat_le (v.since + 20) v.moment) (plan.Direct need.TimedOut) (plan.Busy d kept) tt tt
-  in_time_why plan.Miss is = is
-  in_time_why (plan.Direct n) is = is
-  in_time_why (plan.Fetch n) is = is
-  in_time_why (plan.Bind why span) is = is
-  in_time_why (plan.FirstHole span hole) is = is
+  in_time_why _ is = is
 
   from_store_why : (p : Plan) → IsWhy v p → IsWhy v (from_store p)
-  from_store_why (plan.Turn d) is = tt
-  from_store_why (plan.Busy d kept) is = tt
-  from_store_why plan.Miss is = tt
-  from_store_why (plan.Direct n) is = tt
-  from_store_why (plan.Fetch n) is = tt
   from_store_why (plan.Bind why span) is = is
-  from_store_why (plan.FirstHole span hole) is = tt
+  from_store_why _ is = tt
 
   plan_why : IsWhy v (plan_of v)
   unfolding plan_of
@@ -112,7 +99,6 @@ module _ (t : Tables) (now c : ℕ) (k : Consumer) (r lo : ℕ) (hi : Option ℕ
   answer_shown : (x : ℕ) (w : Exchange) (z : Option Response) → shows_answer t x w z ≡ Some show → ShownWhy
   answer_shown x w None is = absurd (none_some show is)
   answer_shown x w (Some response) is =
-      let same : Shows x (why_is.Fetched x) response (base w) (hi_of t (place.Direct x)) ≡ show = some_inj _ show is in
       let number : x ≡ r = cc in
       let its : why_is.Fetched x ≡ why = cc in
       fetched (sym its ∙ ap why_is.Fetched number)
@@ -122,13 +108,9 @@ module _ (t : Tables) (now c : ℕ) (k : Consumer) (r lo : ℕ) (hi : Option ℕ
   direct_shown x (Some w) is = answer_shown x w w.head is
 
   at_shown : (p : Place) → k.place ≡ p → shows_at t k p ≡ Some show → ShownWhy
-  at_shown place.Line at is = absurd (none_some show is)
-  at_shown (place.Passed q kept) at is = absurd (none_some show is)
-  at_shown (place.Turn x) at is = absurd (none_some show is)
   at_shown (place.Bound q a b how) at is = bound_shown q a b (hi_of t k.place) how at is
   at_shown (place.Direct x) at is = direct_shown x (t.exchange x) is
-  at_shown (place.Down cause) at is = absurd (none_some show is)
-  at_shown place.Over at is = absurd (none_some show is)
+  at_shown _ at is = absurd (none_some show is)
 
   -- BY ITS PLAN
 
@@ -136,13 +118,10 @@ module _ (t : Tables) (now c : ℕ) (k : Consumer) (r lo : ℕ) (hi : Option ℕ
   candidate_allows q None s row is = absurd (none_some s is)
   candidate_allows q (Some v) s row is = (v, row, sym (ap (λ (z : Candidate). z.allowed) (some_inj (candidate t now q k.request v) s is)))
 
-  current_allows : (q : ℕ) (s : Candidate) → current t k.request.key ≡ Some q → (plan_view t now c k).current ≡ Some s → (v : Representation) × (t.representation q ≡ Some v) × (s.allowed ≡ allowed v.head k.request now)
-  current_allows q s is at = candidate_allows q (t.representation q) s refl (rw is at at)
-
   by_kept : (s : Candidate) (y : Why) (o : Option ℕ) → kept_by k.place ≡ o → (plan_view t now c k).current ≡ Some s → why_by o s.allowed ≡ Some y → y ≡ why → current t k.request.key ≡ Some r → ShownWhy
   by_kept s y (Some x) kept at is same number = keeps x kept number (sym same ∙ sym (some_inj (why_is.Validated x) y is))
   by_kept s y None kept at is same number =
-      let got = current_allows r s number at in
+      let got = candidate_allows r (t.representation r) s refl (rw number at at) in
       allows got.0 got.1 (sym got.2 ∙ (is ∙ ap Some same))
 
   bind_by : (y : Why) (span : Option Span) (o : Option ℕ) → current t k.request.key ≡ o → IsWhy (plan_view t now c k) (plan.Bind y span) → binds_current t k y span o ≡ show → ShownWhy
@@ -159,22 +138,16 @@ module _ (t : Tables) (now c : ℕ) (k : Consumer) (r lo : ℕ) (hi : Option ℕ
   hole_shows request (Some v) hole is = cc
 
   by_plan : (p : Plan) → IsWhy (plan_view t now c k) p → plan_move t k p ≡ show → ShownWhy
-  by_plan (plan.Direct n) reason is = absurd (let no : moves.opens t n k.request ≡ show = is in cc)
-  by_plan (plan.Turn d) reason is = absurd (let no : moves.Waits (wait.Turn d) ≡ show = is in cc)
-  by_plan (plan.Fetch n) reason is = absurd (let no : moves.opens t n (Rattle.hc_model.specs.Planning.origin_request t k n) ≡ show = is in cc)
   by_plan (plan.Bind y span) reason is = bind_by y span (current t k.request.key) refl reason is
   by_plan (plan.FirstHole span hole) reason is = absurd (hole_shows k.request _ hole is)
-  by_plan (plan.Busy d kept) reason is = absurd (let no : moves.Waits (wait.Busy d) ≡ show = is in cc)
-  by_plan plan.Miss reason is = absurd (let no : Fails Rattle.hc_event.specs.declared.act.Cause.TheVariants.Miss ≡ show = is in cc)
+  by_plan _ reason is = cc
 
   by_moves : (want : ℕ) (m : Move) → MoveBy t now want c k m → m ≡ move_of t now want c k → m ≡ show → ShownWhy
-  by_moves want m (by_move.shows _ unshown at) here is = at_shown k.place refl (at ∙ ap Some is)
-  by_moves want _ (by_move.waits x own bare) here is = absurd (let no : moves.Waits (wait.Head x) ≡ show = is in cc)
-  by_moves want _ (by_move.down cause at) here is = absurd (let no : Fails cause ≡ show = is in cc)
-  by_moves want _ (by_move.over at) here is = absurd (let no : Nothing ≡ show = is in cc)
-  by_moves want _ (by_move.reads on heard) here is =
+  by_moves want m (shows _ unshown at) here is = at_shown k.place refl (at ∙ ap Some is)
+  by_moves want _ (reads on heard) here is =
       absurd (let none : is_showing (move_of t now want c k) ≡ false = shown_shows t now want c k on in let no : true ≡ false = sym (ap is_showing (sym here ∙ is)) ∙ none in cc)
-  by_moves want _ (by_move.plans unshown free none heard) here is = by_plan (plan_of (plan_view t now c k)) (plan_why (plan_view t now c k)) is
+  by_moves want _ (plans unshown free none heard) here is = by_plan (plan_of (plan_view t now c k)) (plan_why (plan_view t now c k)) is
+  by_moves want _ _ here is = cc
 
   pub shown_why : (want : ℕ) → Sound t → t.consumer c ≡ Some k → move_of t now want c k ≡ show → ShownWhy
   shown_why want s row is = by_moves want (move_of t now want c k) (move_by t now want c k s row) refl is

@@ -17,7 +17,7 @@ use Rattle.hc_fetch.specs.{declared.{ended.FetchEnded.{FetchEnded}, plan.FetchPl
 use Rattle.hc_fetch.specs.declared.ended.FetchEnded.TheVariants as fetched
 use Rattle.hc_fetch.specs.Endings as endings
 use Rattle.hc_event.specs.declared.act.Act.{Act}
-use Rattle.hc_event.specs.declared.act.Act.TheVariants as act
+use Rattle.hc_effects.proofs.Vocabulary.{act}
 use Rattle.hc_app.specs.{declared.status.Status.{Status}, Concluding.{Concludes}, Failing.{IsStreamStatus}, Fetching.{IsPlanOf, NoPlan, IsFetch, NoFetch, IsWritten, OwesFetch, BeginsFetch, IsStopped, IsEndedAs, ConcludesFetch}, Owing.{Streams, Saying, Does}, Replaying.{store_limits}, Statuses.{stopped_as}, Texts.{fetch_text}}
 use Rattle.hc_app.specs.declared.status.Status.TheVariants as status
 use Rattle.hc_app.specs.Concluding as concluding

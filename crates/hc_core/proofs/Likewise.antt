@@ -10,12 +10,11 @@ use Rattle.hc_store.specs.declared.backend.Backend.{Ghosts}
 use Rattle.hc_sparse.specs.{Cells.{EndsBy}, Runs.{cells_of}}
 use Rattle.hc_record.specs.Head.{sealed_head}
 use Rattle.hc_record.specs.declared.kind.Kind.TheVariants as kinds
-use Rattle.hc_effects.proofs.Vocabulary.{Limits, is_disabled, is_only, may_begin, are_good, is_good, ascend_from, is_kind_right, content_of, content_at, contents_of, idle_now, current, is_current, is_number, live, Content, Contents, is_open, is_in_line, holds_turn, bound, Lawful, Measures, Tables, Exchange, Representation, Among, Sound, first_tables, representation_of_content, numbers, last_end, tables}
+use Rattle.hc_effects.proofs.Vocabulary.{Limits, is_disabled, is_only, may_begin, are_good, is_good, ascend_from, is_kind_right, content_of, content_at, contents_of, idle_now, current, is_current, is_number, live, Content, Contents, is_open, is_in_line, holds_turn, bound, Lawful, Measures, Tables, Exchange, Representation, Among, Sound, first_tables, representation_of_content, numbers, last_end, tables, place}
 use Rattle.hc_stored.specs.{Entries.{shelf_of}, Kept.{Kept}}
 use Rattle.hc_entry.specs.Kept as keyed
 use Rattle.hc_entry.specs.Keys.{kept_of}
 use Rattle.hc_exch.specs.{Exchanges.{table_of, next_of}, Known.{Known}, declared.row.Open.{Open}}
-use Rattle.hc_event.specs.declared.place.Place.TheVariants as place
 use Rattle.hc_model.specs.Contents.{is_idle}
 use Rattle.hc_model.specs.Rows as rows
 use Rattle.hc_effects.proofs.{Basics.{number_is}, Closed.{among_filter, among_append_left, reversed as among_reverse, among_append_right}, CurrentKeeps.{current_is}, KeysKeep.{current_row}, PollKeeps.{current_stays}, Sums.{filter_among}, Tests.{none_some}}

@@ -1,8 +1,7 @@
 -- Where nobody is live nobody is bound, waits or has a turn, no exchange is open, and nothing is held.
 use Rattle.std.{proofs.Common.{◌≡◌, ℕ, [], ◌∷◌, Bool, true, false, Option, Some, None, refl, ap, sym, ◌∙◌}, specs.Prelude.{is_some, filter}}
 use Rattle.hc_text.proofs.Basics.{false_true, none_long, never_true as not_true}
-use Rattle.hc_effects.proofs.Vocabulary.{Place, live, is_live, is_live_place, is_open, family, Lawful, bound, is_bound, Tables, Exchange, Representation, Consumer, IsSomebodys, may_own}
-use Rattle.hc_event.specs.declared.place.Place.TheVariants as place
+use Rattle.hc_effects.proofs.Vocabulary.{Place, live, is_live, is_live_place, is_open, family, Lawful, bound, is_bound, Tables, Exchange, Representation, Consumer, IsSomebodys, may_own, place}
 use Rattle.hc_model.specs.Sound as sound
 use Rattle.hc_model.specs.Whose as whose
 use Rattle.hc_effects.proofs.ExclusiveWriters.{filter_some}

@@ -1,8 +1,7 @@
 -- An event that is answered opens one exchange at most.
 use Rattle.std.proofs.Common.{◌≡◌, ℕ, ◌+◌, ◌<◌, ◌≤◌, ◌^◌, List, [], ◌∷◌, ◌++◌, Option, Some, None, refl, ap, sym, ◌∙◌, arith}
 use Rattle.hc_store.specs.declared.backend.Backend.{Ghosts}
-use Rattle.hc_effects.proofs.Vocabulary.{Act, Refusal, Event, Limits, refusal_of, accepted_acts, denial, Opening, opening_in, Flaw, entry_of, Tables, Sound, after_accepted, opened_after}
-use Rattle.hc_event.specs.declared.act.Act.TheVariants as act
+use Rattle.hc_effects.proofs.Vocabulary.{Act, Refusal, Event, Limits, refusal_of, accepted_acts, denial, Opening, opening_in, Flaw, entry_of, Tables, Sound, after_accepted, opened_after, act}
 use Rattle.hc_exch.specs.Exchanges.{next_of}
 use Rattle.hc_effects.proofs.NumbersKeep.{opens_next}
 use Rattle.hc_state.specs.{declared.rows.Rows.{Rows}, Good.{StandsUntil}, Stands.{Stands, Answers, gate_of}}

@@ -7,10 +7,9 @@
 use Rattle.std.{proofs.{Common.{◌≡◌, ℕ, ◌+◌, ◌≤◌, ◌<◌, ◌^◌, List, [], ◌∷◌, ◌++◌, length, Bool, true, false, Option, Some, None, refl, ap, sym, ◌∙◌, subst, arith}, Props.{props}, Math.{Bridge.{le_prop}, Logic.{∥∥₁_elim, ∥∥₁_map}, Seq.{drop-append_seam}}}, specs.{Prelude.{nat_eq, ◌||◌, drop, if◌then◌else◌}, HashMap.{get, hash_map_len}}}
 use Rattle.hc_text.proofs.Basics.{or_right as or_second}
 use Rattle.hc_store.specs.declared.backend.Backend.{Ghosts}
-use Rattle.hc_effects.proofs.Vocabulary.{is_denied, Event, Act, Refusal, Limits, refusal_of, answer, accepted_acts, denied_or, may_begin, denial, Entry, History, Contents, no_contents, Flaw, NoFlaw, flaw_in, AreSized, HasFieldsWithinLimits, HasTarget, AreShort, Tables, IsRun, IsOwed, may_stand, may_be, tables, last_start_after, received_in, after, after_accepted, after_denied, IsEventWithinLimits, is_fault, failures_in}
+use Rattle.hc_effects.proofs.Vocabulary.{is_denied, Event, Act, Refusal, Limits, refusal_of, answer, accepted_acts, denied_or, may_begin, denial, Entry, History, Contents, no_contents, Flaw, NoFlaw, flaw_in, AreSized, HasFieldsWithinLimits, HasTarget, AreShort, Tables, IsRun, IsOwed, may_stand, may_be, tables, last_start_after, received_in, after, after_accepted, after_denied, IsEventWithinLimits, is_fault, failures_in, act}
 use Rattle.hc_effects.proofs.Tests.{none_some}
 use Rattle.hc_event.specs.declared.event.Event.TheVariants as event
-use Rattle.hc_event.specs.declared.act.Act.TheVariants as act
 use Rattle.hc_exch.specs.{Exchanges.{table_of, next_of}, Known.{unknown}}
 use Rattle.hc_stored.specs.Entries.{shelf_of}
 use Rattle.hc_entry.specs.{Keys.{kept_of}, Kept.{nothing}}

@@ -1,10 +1,8 @@
 -- What the parts of an answer say: what makes room, what is lost, what is closed, and what is said to the consumer of a poll.
 use Rattle.std.{proofs.{lemmas.Bool.Decides.{nat_tests}, Common.{arith, ◌≡◌, inl, inr, ℕ, List, [], ◌∷◌, ◌++◌, Bool, true, false, Option, Some, None, refl, ap, sym, ◌∙◌}}, specs.Prelude.{map, filter, ◌==◌, ◌||◌, nat_eq}}
 use Rattle.hc_text.proofs.Basics.{bool_cases, some_inj as some_is}
-use Rattle.hc_effects.proofs.Vocabulary.{Opening, opening_in, asks_in, closes_in, shows_in, given_in, leaves_in, evicts_in, Act, Event, Limits, loses_in, misreads_in, fails_in, leaver_in, wait_in, Showing, showing_in, accepted_acts, answer_acts, poll_acts, loss_acts, close_acts, Flaw, NoFlaw, Loses, Misreads, Move, Nothing, Opens, Shows, Gives, Ends, Fails, acts_of, poll_move, Tables, Consumer, evicted}
-use Rattle.hc_event.specs.declared.act.Act.TheVariants as act
+use Rattle.hc_effects.proofs.Vocabulary.{Opening, opening_in, asks_in, closes_in, shows_in, given_in, leaves_in, evicts_in, Act, Event, Limits, loses_in, misreads_in, fails_in, leaver_in, wait_in, Showing, showing_in, accepted_acts, answer_acts, poll_acts, loss_acts, close_acts, Flaw, NoFlaw, Loses, Misreads, Move, Nothing, Opens, Shows, Gives, Ends, Fails, acts_of, poll_move, Tables, Consumer, evicted, act, event}
 use Rattle.hc_event.specs.declared.act.Cause.TheVariants as cause
-use Rattle.hc_event.specs.declared.event.Event.TheVariants as event
 use Rattle.hc_effects.proofs.{PieceKeeps.{eq_cases}, PollKeys.{IsNear, near_polled}}
 
 -- THE PARTS

@@ -1,8 +1,6 @@
 -- What the need of a plan says of what is current.
 use Rattle.std.proofs.{lemmas.Bool.Decides.{nat_tests}, Common.{arith, ◌≡◌, Option, Some, None, refl}}
-use Rattle.hc_effects.proofs.Vocabulary.{Need, Why, Wanted, Plan, Candidate, PlanView, plan_of, bare_plan, in_time, from_store, by_current, by_why, by_wanted, why_by}
-use Rattle.hc_event.specs.declared.act.Need.TheVariants as need
-use Rattle.hc_rules.specs.declared.plan.Plan.TheVariants as plan
+use Rattle.hc_effects.proofs.Vocabulary.{Need, Why, Wanted, Plan, Candidate, PlanView, plan_of, bare_plan, in_time, from_store, by_current, by_why, by_wanted, why_by, need, plan}
 use Rattle.hc_effects.proofs.Joining.{mix}
 
 -- something is current

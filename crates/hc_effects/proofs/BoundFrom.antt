@@ -1,15 +1,9 @@
 -- How a consumer that is bound after an entry became bound: it was, its head founds, its first hole is opened, or its plan shows it what is current.
 use Rattle.std.{proofs.{lemmas.Bool.Decides.{nat_tests}, Common.{arith, ◌≡◌, ◌⊎◌, inl, inr, ℕ, Bool, true, false, Option, Some, None, refl, ap, sym, ◌∙◌}}, specs.Prelude.{if◌then◌else◌, ◌==◌}}
 use Rattle.hc_text.proofs.Basics.{bool_cases, some_inj}
-use Rattle.hc_effects.proofs.Vocabulary.{Opening, opening_in, leaves_in, Event, Response, Cause, Wait, HeadCase, Route, Wanted, route_of, range_of, wanted_of, Place, BoundBy, Showing, showing_in, wait_in, case_at, bound_to_wanted, place_by_case, passed_on, consumer_heard, by_head, by_fault, waiting_place, waiting, opened_place, unless_bound, by_opening, shown_place, consumer_acted, consumer_settled, consumer_made, consumer_after, due_after, current, Entry, promise_in, founded_total, bound_to, reads, Tables, Exchange, Representation, Consumer, starts_over}
-use Rattle.hc_event.specs.declared.event.Event.TheVariants as event
+use Rattle.hc_effects.proofs.Vocabulary.{Opening, opening_in, leaves_in, Event, Response, Cause, Wait, HeadCase, Route, Wanted, route_of, range_of, wanted_of, Place, BoundBy, Showing, showing_in, wait_in, case_at, bound_to_wanted, place_by_case, passed_on, consumer_heard, by_head, by_fault, waiting_place, waiting, opened_place, unless_bound, by_opening, shown_place, consumer_acted, consumer_settled, consumer_made, consumer_after, due_after, current, Entry, promise_in, founded_total, bound_to, reads, Tables, Exchange, Representation, Consumer, starts_over, event, case, route, wanted, place, by}
 use Rattle.hc_event.specs.declared.act.Cause.TheVariants as cause
 use Rattle.hc_range.specs.declared.range.Span.{Span}
-use Rattle.hc_rules.specs.declared.heads.HeadCase.TheVariants as case
-use Rattle.hc_rules.specs.declared.need.Route.TheVariants as route
-use Rattle.hc_rules.specs.declared.request.Wanted.TheVariants as wanted
-use Rattle.hc_event.specs.declared.place.Place.TheVariants as place
-use Rattle.hc_event.specs.declared.place.BoundBy.TheVariants as by
 use Rattle.hc_effects.proofs.PieceKeeps.{eq_cases}
 
 -- the parts of a bound place

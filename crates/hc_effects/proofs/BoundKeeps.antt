@@ -1,8 +1,7 @@
 -- Whoever is bound is bound to what is there, one at most became bound as the only one, and that one knows its end.
 use Rattle.std.{proofs.{lemmas.Bool.Decides.{nat_tests}, Common.{arith, ◌≡◌, ℕ, true, false, Option, Some, None, refl, ap, sym, ◌∙◌, subst}}, specs.Prelude.{is_some}}
 use Rattle.hc_text.proofs.Basics.{same_some as same_row}
-use Rattle.hc_effects.proofs.Vocabulary.{Opening, opening_in, Event, Response, HeadCase, Limits, BoundBy, Showing, showing_in, wait_in, case_at, is_founding, consumer_heard, by_opening, waiting, waiting_place, denial, Entry, Flaw, entry_of, reads, Tables, Exchange, Consumer, Sound, IsBound, after_accepted, Wait, Move, move_of}
-use Rattle.hc_event.specs.declared.event.Event.TheVariants as event
+use Rattle.hc_effects.proofs.Vocabulary.{Opening, opening_in, Event, Response, HeadCase, Limits, BoundBy, Showing, showing_in, wait_in, case_at, is_founding, consumer_heard, by_opening, waiting, waiting_place, denial, Entry, Flaw, entry_of, reads, Tables, Exchange, Consumer, Sound, IsBound, after_accepted, Wait, Move, move_of, event}
 use Rattle.hc_model.specs.Sound as sound
 use Rattle.hc_effects.proofs.{BoundFrom.{BoundFrom, IsFounded, bound_from}, RepFrom.{stays, founds}, Said.{ShowsBy, IsPoll, IsOpening, IsShowing, WaitsAs, opening_by, showing_by, waiting_by}, ShownFrom.{IsPlanned, ShownAs, shown_from}}
 use Rattle.hc_effects.proofs.BoundFrom as from

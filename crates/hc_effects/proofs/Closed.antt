@@ -1,9 +1,8 @@
 -- What must be closed is closed: what is the own exchange of who leaves, or that of a writing whose last reader leaves.
 use Rattle.std.{proofs.{lemmas.Bool.Decides.{nat_tests}, Common.{arith, ◌≡◌, inl, inr, ℕ, List, [], ◌∷◌, ◌++◌, Bool, true, Some, refl, ap, sym, ◌∙◌, subst}}, specs.Prelude.{map, filter, reverse, nat_eq, is_some}}
 use Rattle.hc_text.proofs.Basics.{both_true as and_both, bool_cases, eq_itself as eq_refl, or_right, reverse_is as reversed_is}
-use Rattle.hc_effects.proofs.Vocabulary.{closes_in, Event, Act, Limits, accepted_acts, poll_acts, answer_acts, loss_acts, closing, closes_row, must_close, Entry, exchange_heard, Flaw, Tables, Exchange, Sound, Among, evicted}
+use Rattle.hc_effects.proofs.Vocabulary.{closes_in, Event, Act, Limits, accepted_acts, poll_acts, answer_acts, loss_acts, closing, closes_row, must_close, Entry, exchange_heard, Flaw, Tables, Exchange, Sound, Among, evicted, act}
 use Rattle.hc_event.specs.declared.event.Event.TheVariants as event
-use Rattle.hc_event.specs.declared.act.Act.TheVariants as act
 
 -- LISTS
 

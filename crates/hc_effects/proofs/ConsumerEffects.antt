@@ -1,7 +1,6 @@
 -- What an event of a consumer comes to: itself, what is let go, and what it makes of exchanges and lists.
 use Rattle.std.{proofs.{lemmas.Bool.Decides.{nat_tests}, Common.{arith, ◌≡◌, ℕ, ◌+◌, List, [], ◌∷◌, Bool, true, false, Option, Some, None, refl, ap, sym, ◌∙◌}}, specs.Prelude.{◌==◌, nat_eq, if◌then◌else◌, option_map}}
-use Rattle.hc_effects.proofs.Vocabulary.{opening_in, Place, loses_in, consumer_after, back_in_line, with_consumer, with_event, as_gone, let_go, let_all_go, let_some_go, Entry, exchange_after, becomes_gone, goes_in, Lawful, representation_after, Tables, Representation, Consumer, after_accepted, last_start_after, starts_after, opened_after, openings_after, received_in, with_item_first, to_front, binds}
-use Rattle.hc_event.specs.declared.place.Place.TheVariants as place
+use Rattle.hc_effects.proofs.Vocabulary.{opening_in, Place, loses_in, consumer_after, back_in_line, with_consumer, with_event, as_gone, let_go, let_all_go, let_some_go, Entry, exchange_after, becomes_gone, goes_in, Lawful, representation_after, Tables, Representation, Consumer, after_accepted, last_start_after, starts_after, opened_after, openings_after, received_in, with_item_first, to_front, binds, place}
 use Rattle.hc_effects.proofs.{ActParts.{IsFarFrom}, OfConsumers.{BringsNothing, consumer_alone, founds_nobody}, SameTables.{same_tables, is_in, waits_for_any, back_from_any, without, all_go_is}, Untouched.{goes_from, representation_frame, representation_absent, consumer_absent}}
 
 -- u has what the entry makes of all but c, once these are let go

@@ -1,8 +1,7 @@
 -- The columns of consumers are filters of the list of entries.
 use Rattle.std.{proofs.{lemmas.Bool.Decides.{nat_tests}, Common.{arith, ◌≡◌, ℕ, ◌+◌, List, [], ◌∷◌, ◌++◌, length, Bool, true, false, cond, Option, Some, None, refl, ap, sym, ◌∙◌}}, specs.{Prelude.{if◌then◌else◌, ◌==◌, ◌||◌, option_map}, Option.{option_or}}}
 use Rattle.hc_text.proofs.Basics.{or_none}
-use Rattle.hc_effects.proofs.Vocabulary.{Opening, opening_in, is_denied, given_in, shows_in, Event, Entry, History, Contents, Tables, Exchange, Consumer, starts_over, consumer_after, consumer_made, consumer_heard, consumer_acted, consumer_settled, by_head, by_fault, by_opening, waiting, back_in_line, due_after, tables, after, each, each_after, first, if_accepted, request_in, request_of}
-use Rattle.hc_event.specs.declared.event.Event.TheVariants as event
+use Rattle.hc_effects.proofs.Vocabulary.{Opening, opening_in, is_denied, given_in, shows_in, Event, Entry, History, Contents, Tables, Exchange, Consumer, starts_over, consumer_after, consumer_made, consumer_heard, consumer_acted, consumer_settled, by_head, by_fault, by_opening, waiting, back_in_line, due_after, tables, after, each, each_after, first, if_accepted, request_in, request_of, event}
 use Rattle.hc_model.specs.{ConsumerRows.{with_head, with_opening}, Histories.{last, since_of, start_in, start_at, starts_over_at}}
 use Rattle.hc_event.specs.declared.place.Place.TheVariants as place
 

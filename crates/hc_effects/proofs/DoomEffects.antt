@@ -3,8 +3,7 @@ use Rattle.std.{proofs.Common.{◌≡◌, inl, inr, ℕ, List, [], Bool, true, f
 use mathlib.Core.Path.{fun_ext}
 use Rattle.hc_text.proofs.Basics.{and_left, and_right, bool_cases, not_some as none_some, never_true as not_so, and_off as then_false}
 use Rattle.hc_text.specs.declared.names.Key.{Key}
-use Rattle.hc_event.specs.declared.act.Act.TheVariants as act
-use Rattle.hc_effects.proofs.Vocabulary.{Event, Limits, closing, closes_row, awaits, consumer_after, back_in_line, current, is_current, is_number, denial, doomed_key_of, Does, with_event, let_some_go, let_all_go, as_gone, over, all_closed, sent_back, woken, is_awaited, awaited_and, Entry, family, NoFlaw, beside, becomes_gone, ends_early, ends_founding, Lawful, representation_after, Tables, Exchange, Representation, Consumer, after_accepted, with_item_first}
+use Rattle.hc_effects.proofs.Vocabulary.{act, Event, Limits, closing, closes_row, awaits, consumer_after, back_in_line, current, is_current, is_number, denial, doomed_key_of, Does, with_event, let_some_go, let_all_go, as_gone, over, all_closed, sent_back, woken, is_awaited, awaited_and, Entry, family, NoFlaw, beside, becomes_gone, ends_early, ends_founding, Lawful, representation_after, Tables, Exchange, Representation, Consumer, after_accepted, with_item_first}
 use Rattle.hc_event.specs.declared.event.Event.TheVariants as event
 use Rattle.hc_rules.specs.Refusals as refusals
 use Rattle.hc_rules.proofs.RangeReads.{bytes_eq-same, same_bytes}

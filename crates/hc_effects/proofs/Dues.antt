@@ -1,7 +1,6 @@
 -- What becomes due for whom: nothing where a writing goes on, and nothing for who isn't told so.
-use Rattle.std.{proofs.{lemmas.Bool.Decides.{nat_tests}, Common.{arith, ◌≡◌, ℕ, true, false, Option, Some, None, refl, ap, ◌∙◌}}, specs.{Option.{option_or}}}
-use Rattle.hc_effects.proofs.Vocabulary.{Cause, is_same_number, Place, BoundBy, due_after, Entry, exchange_in, becomes_due, cause_of_stop, cause_of_loss, cause_by_loss, cause_of_head, stop_cause, source, reads, Tables, Representation, Consumer, loses_writing}
-use Rattle.hc_event.specs.declared.place.Place.TheVariants as place
+use Rattle.std.{proofs.{lemmas.Bool.Decides.{nat_tests}, Common.{arith, ◌≡◌, ℕ, true, false, Option, Some, None, refl, ap, ◌∙◌}}, specs.Option.{option_or}}
+use Rattle.hc_effects.proofs.Vocabulary.{Cause, is_same_number, Place, BoundBy, due_after, Entry, exchange_in, becomes_due, cause_of_stop, cause_of_loss, cause_by_loss, cause_of_head, stop_cause, source, reads, Tables, Representation, Consumer, loses_writing, place}
 
 -- the parts of what becomes due
 pub record IsUndue (t : Tables) (e : Entry) (c : ℕ) (k : Consumer) : Type 0 where

@@ -1,8 +1,7 @@
 -- Every owed entry keeps what open exchanges are still to bring absent, and one of them at most about each representation.
 use Rattle.std.{proofs.{lemmas.Bool.Decides.{nat_tests}, Common.{arith, ◌≡◌, ℕ, List, [], ◌∷◌, ◌++◌, length, Bool, true, false, Option, Some, None, refl}}, specs.Prelude.{is_some, map, nat_lt, ◌==◌, if◌then◌else◌}}
-use Rattle.hc_effects.proofs.Vocabulary.{opening_in, Event, Response, Act, accepted_acts, loss_acts, closing, is_live, denial, as_open, gate, Entry, promised_bytes, Flaw, NoFlaw, Loses, Misreads, Tables, Exchange, Consumer, Sound, after_accepted, evicted, head_refusal, piece_refusal, poll_refusal, Limits}
+use Rattle.hc_effects.proofs.Vocabulary.{opening_in, Event, Response, Act, accepted_acts, loss_acts, closing, is_live, denial, as_open, gate, Entry, promised_bytes, Flaw, NoFlaw, Loses, Misreads, Tables, Exchange, Consumer, Sound, after_accepted, evicted, head_refusal, piece_refusal, poll_refusal, Limits, act}
 use Rattle.hc_event.specs.declared.event.Event.TheVariants as event
-use Rattle.hc_event.specs.declared.act.Act.TheVariants as act
 use Rattle.hc_model.specs.Laws.{KeepsDeliveries, DeliveriesAreKept}
 use Rattle.hc_rules.specs.Refusals as refusals
 use Rattle.hc_effects.proofs.{QuietKeeps.{OpensWell, is_quiet, waits_kept, one_about_kept}, PieceKeeps.{IsPiece, piece_waits, piece_one_about}, HeadKeeps.{IsHead, head_waits, head_one_about}, PollKeeps.{poll_waits, poll_one_about, closes_open_none, losses_open_none}, Once.{taken, IsTaken, never}, Named.{live_by}}

@@ -1,9 +1,7 @@
 -- The rows after an entry that makes room are those after it without that, once what makes room is evicted.
 use Rattle.std.{proofs.{lemmas.Bool.Decides.{nat_tests}, Common.{arith, ◌≡◌, inl, inr, ℕ, List, [], ◌∷◌, ◌++◌, Bool, true, false, Option, Some, None, refl, ap, sym, ◌∙◌}}, specs.Prelude.{map, ◌==◌, ◌||◌, ◌&&◌, not, is_some, if◌then◌else◌, option_map}}
 use Rattle.hc_text.proofs.Basics.{never_true, bool_cases, or_false as or_off}
-use Rattle.hc_effects.proofs.Vocabulary.{evicts_in, Act, Event, Place, fails_in, case_at, consumer_heard, consumer_acted, consumer_settled, consumer_made, consumer_after, doomed_key_of, is_key, as_gone, Entry, evict_all, exchange_at, is_for, goes_itself, becomes_gone, goes_in, representation_after, representation_heard, representation_acted, Tables, Representation, Consumer, starts_over, waits_at, sends_back, loses_what_it_waits_for, after_accepted, with_item_first, to_front, opened_after, openings_after}
-use Rattle.hc_event.specs.declared.act.Act.TheVariants as act
-use Rattle.hc_event.specs.declared.place.Place.TheVariants as place
+use Rattle.hc_effects.proofs.Vocabulary.{evicts_in, Act, Event, Place, fails_in, case_at, consumer_heard, consumer_acted, consumer_settled, consumer_made, consumer_after, doomed_key_of, is_key, as_gone, Entry, evict_all, exchange_at, is_for, goes_itself, becomes_gone, goes_in, representation_after, representation_heard, representation_acted, Tables, Representation, Consumer, starts_over, waits_at, sends_back, loses_what_it_waits_for, after_accepted, with_item_first, to_front, opened_after, openings_after, act, place}
 use Rattle.hc_effects.proofs.{Alike.{AreAlike, alike_evicted, case_same, doomed_same, itself_same, exchange_same, founds_same, binds_same, founded_same, heard_same, heard_consumer, acted_same, due_same}, Basics.{false_true}, SameTables.{same_tables, is_in, waits_for_any, back_from_any, without, all_go_is}}
 
 -- AMONG WHAT MAKES ROOM

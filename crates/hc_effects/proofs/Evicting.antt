@@ -1,8 +1,7 @@
 -- What one eviction leaves: who is bound and who is live, and all that is current but what is evicted.
 use Rattle.std.{proofs.{Common.{◌≡◌, inl, inr, ℕ, List, [], ◌∷◌, length, Bool, true, false, Option, Some, None, refl, ap, sym, ◌∙◌, arith}, lemmas.Bool.Decides.{nat_tests}}, specs.Prelude.{find, filter, nat_eq, ◌==◌, if◌then◌else◌, option_map}}
 use Rattle.hc_text.proofs.Basics.{bool_cases, not_some as none_some, eq_itself as self_is}
-use Rattle.hc_effects.proofs.Vocabulary.{Place, back_in_line, current, is_usable, live, is_live, is_live_place, back_from, as_gone, evict, evict_all, unless_it, bound, is_bound, is_bound_place, Tables, Representation, Consumer, OneCurrent}
-use Rattle.hc_event.specs.declared.place.Place.TheVariants as place
+use Rattle.hc_effects.proofs.Vocabulary.{Place, back_in_line, current, is_usable, live, is_live, is_live_place, back_from, as_gone, evict, evict_all, unless_it, bound, is_bound, is_bound_place, Tables, Representation, Consumer, OneCurrent, place}
 use Rattle.hc_model.specs.{Effects.{waits_for}, Evictions.{EvictsOne, AnyLeavesOneCurrent}}
 use Rattle.hc_effects.proofs.{Basics.{same_functions, false_true}, CurrentKeeps.{one_current_after, usable_row}, PieceKeeps.{eq_cases}, PollKeeps.{find_passes}}
 

@@ -1,11 +1,8 @@
 -- What makes room comes last: an accepted event does what it does without it, and then each of those goes.
 use Rattle.std.{proofs.{lemmas.Bool.Decides.{nat_tests}, Common.{arith, ◌≡◌, inl, inr, ℕ, zero, suc, List, [], ◌∷◌, ◌++◌, Bool, true, false, Option, Some, None, refl, ap, sym, ◌∙◌}}, specs.Prelude.{map, filter, take, reverse, is_some, ◌==◌}}
 use Rattle.hc_text.proofs.Basics.{bool_cases, same_some as same_row}
-use Rattle.hc_effects.proofs.Vocabulary.{evicts_in, Act, Event, Response, HeadCase, Limits, Room, Place, has_loss, fails_in, without_losses, accepted_acts, answer_acts, loss_acts, close_acts, case_at, case_of, head_view, consumer_heard, consumer_acted, by_head, place_by_case, closing, denial, Entry, entry_without_acts, evict_all, unevicting, Flaw, Loses, flaw_in, entry_of, Owners, IsAwaiting, Tables, Exchange, Representation, Consumer, may_be, Sound, starts_over, after_accepted, is_idle, idle, evicted, first_idle, room_for, write_in, written_representation, written_in}
-use Rattle.hc_event.specs.declared.act.Act.TheVariants as act
+use Rattle.hc_effects.proofs.Vocabulary.{evicts_in, Act, Event, Response, HeadCase, Limits, Room, Place, has_loss, fails_in, without_losses, accepted_acts, answer_acts, loss_acts, close_acts, case_at, case_of, head_view, consumer_heard, consumer_acted, by_head, place_by_case, closing, denial, Entry, entry_without_acts, evict_all, unevicting, Flaw, Loses, flaw_in, entry_of, Owners, IsAwaiting, Tables, Exchange, Representation, Consumer, may_be, Sound, starts_over, after_accepted, is_idle, idle, evicted, first_idle, room_for, write_in, written_representation, written_in, act, case, room}
 use Rattle.hc_event.specs.declared.event.Event.TheVariants as event
-use Rattle.hc_rules.specs.declared.heads.HeadCase.TheVariants as case
-use Rattle.hc_rules.specs.declared.room.Room.TheVariants as room
 use Rattle.hc_model.specs.Evictions.{unevicting_entry, EvictsLast, EvictionsComeLast}
 use Rattle.hc_effects.proofs.{ActParts.{evicts_closes, evicts_lost, far_loss, far_closed}, Alike.{alike_evicted, written_same}, Basics.{false_true}, EvictedRows.{tables_last}, FirstKeeps.{is_new, case_of_head}, FoundBy.{CaseBy}, GivingWay.{writes_nothing}, PieceKeeps.{eq_cases}, PieceServes.{IsQuietActs, quiet_acts}, PollEffects.{none_waits}, SameTables.{is_in, waits_for_any}}
 use Rattle.hc_effects.proofs.FoundBy as cases

@@ -1,8 +1,7 @@
 -- Where the row of an exchange after an entry is from: it was there, or it is opened.
 use Rattle.std.{proofs.{lemmas.Bool.Decides.{nat_tests}, Common.{arith, ◌≡◌, ◌⊎◌, inl, inr, ℕ, Bool, true, false, Option, Some, None, refl, ap, sym, ◌∙◌, subst}}, specs.Prelude.{◌&&◌, not, is_some}}
 use Rattle.hc_text.proofs.Basics.{and_right, not_some as none_some, some_inj}
-use Rattle.hc_effects.proofs.Vocabulary.{Opening, opening_in, closes_in, Event, Response, Entry, exchange_after, exchange_heard, exchange_acted, exchange_made, exchange_opened, joined_at, Tables, Exchange}
-use Rattle.hc_event.specs.declared.event.Event.TheVariants as event
+use Rattle.hc_effects.proofs.Vocabulary.{Opening, opening_in, closes_in, Event, Response, Entry, exchange_after, exchange_heard, exchange_acted, exchange_made, exchange_opened, joined_at, Tables, Exchange, event}
 use Rattle.hc_effects.proofs.{Basics.{false_true, some_none}, PieceKeeps.{eq_cases}}
 
 -- its head comes, by which it may join what it is about

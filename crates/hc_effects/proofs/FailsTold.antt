@@ -1,10 +1,7 @@
 -- Where its poll doesn't misread, nobody fails for a failed read of the store.
 use Rattle.std.proofs.Common.{◌≡◌, ℕ, false, Option, Some, None, ap, sym, ◌∙◌}
 use Rattle.hc_range.specs.declared.range.Span.{Span}
-use Rattle.hc_effects.proofs.Vocabulary.{Request, Cause, Plan, plan_of, current, Move, Nothing, Ends, Fails, Gives, opens_hole, Places, is_failed_read, plan_view, plan_move, current_row, move_of, hi_of, Tables, Representation, Consumer, Sound, later_hole, bound_row, reading}
-use Rattle.hc_event.specs.declared.act.Cause.TheVariants as cause
-use Rattle.hc_event.specs.declared.act.Wait.TheVariants as wait
-use Rattle.hc_rules.specs.declared.plan.Plan.TheVariants as plan
+use Rattle.hc_effects.proofs.Vocabulary.{Request, Cause, Plan, plan_of, current, Move, Nothing, Ends, Fails, Gives, opens_hole, Places, is_failed_read, plan_view, plan_move, current_row, move_of, hi_of, Tables, Representation, Consumer, Sound, later_hole, bound_row, reading, cause, wait, plan}
 use Rattle.hc_model.specs.Moves as moves
 use Rattle.hc_effects.proofs.{MoveBy.{MoveBy, move_by}, MoveWords.{at_as, binds_as, hole_as, reading_as, waits_as}}
 use Rattle.hc_effects.proofs.MoveBy as by

@@ -1,10 +1,8 @@
 -- Few give way: a piece has at most twice what a slot weighs.
 use Rattle.std.{proofs.{Common.{◌≡◌, inl, inr, ℕ, zero, suc, ◌+◌, ◌-◌, ◌≤◌, List, [], ◌∷◌, ◌++◌, length, Bool, true, false, Option, Some, None, refl, sym, ◌∙◌, subst, arith}, lemmas.Bool.Decides.{nat_tests}}, specs.{Prelude.{nat_le, map, filter, reverse, take, if◌then◌else◌}, Option.{option_map}}}
 use Rattle.hc_text.proofs.Basics.{and_left, bool_cases, not_some as none_some, some_inj}
-use Rattle.hc_effects.proofs.Vocabulary.{Act, Event, gives_way, room_of, grown_by, is_too_large, Limits, Room, Write, answer_acts, loss_acts, closing, Entry, entry_without_acts, Flaw, NoFlaw, count_evicted, IsSmallPiece, Move, acts_of, Tables, Representation, weight, weight_in, weights, idle, is_idle, stays_current, evicted, first_idle, room_for, room_by, write_in}
-use Rattle.hc_event.specs.declared.act.Act.TheVariants as act
+use Rattle.hc_effects.proofs.Vocabulary.{Act, Event, gives_way, room_of, grown_by, is_too_large, Limits, Room, Write, answer_acts, loss_acts, closing, Entry, entry_without_acts, Flaw, NoFlaw, count_evicted, IsSmallPiece, Move, acts_of, Tables, Representation, weight, weight_in, weights, idle, is_idle, stays_current, evicted, first_idle, room_for, room_by, write_in, act, room}
 use Rattle.hc_rules.specs.Rooms as rooms
-use Rattle.hc_rules.specs.declared.room.Room.TheVariants as room
 use Rattle.hc_model.specs.Laws.{FewGiveWay}
 use Rattle.hc_effects.proofs.ActParts.{IsAnswer, IsSaid, answer_is, said_is}
 use Rattle.hc_effects.proofs.ActParts as parts

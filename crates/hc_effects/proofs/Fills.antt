@@ -2,8 +2,7 @@
 use Rattle.std.{proofs.{lemmas.Bool.Decides.{nat_tests}, Common.{arith, ◌≡◌, inl, inr, ℕ, ◌+◌, List, length, ◌++◌, Bool, true, false, Option, Some, None, refl, ap, sym, ◌∙◌, subst, max}}, specs.Prelude.{if◌then◌else◌, ◌==◌, ◌||◌, not}}
 use Rattle.hc_text.proofs.Basics.{same_some as same_row, some_inj}
 use Rattle.hc_sparse.specs.Cells.{cells_with}
-use Rattle.hc_effects.proofs.Vocabulary.{Event, Response, loses_in, Entry, exchange_after, exchange_heard, exchange_acted, front, family, length_by, representation_heard, representation_acted, representation_after_head, with_renewed_head, updates, representation_after_piece, with_stored_bytes, with_total_if_none, length_in, Tables, Exchange, Representation}
-use Rattle.hc_event.specs.declared.event.Event.TheVariants as event
+use Rattle.hc_effects.proofs.Vocabulary.{Event, Response, loses_in, Entry, exchange_after, exchange_heard, exchange_acted, front, family, length_by, representation_heard, representation_acted, representation_after_head, with_renewed_head, updates, representation_after_piece, with_stored_bytes, with_total_if_none, length_in, Tables, Exchange, Representation, event}
 use Rattle.hc_effects.proofs.{Forward.{after_is}, PieceKeeps.{eq_cases}, RepFrom.{IsKept}}
 
 module _ (t : Tables) (e : Entry) where

@@ -1,11 +1,7 @@
 -- One consumer at most became bound to a representation as the only one, and it knows its end.
 use Rattle.std.{proofs.{Common.{◌≡◌, ℕ, [], Bool, true, false, Option, Some, None, refl, ap, sym, ◌∙◌, subst, arith}, lemmas.Bool.Decides.{nat_tests}}, specs.Prelude.{is_some, ◌==◌, nat_eq}}
 use Rattle.hc_text.proofs.Basics.{same_some as same_row, some_inj}
-use Rattle.hc_effects.proofs.Vocabulary.{Opening, opening_in, Event, Response, HeadCase, Limits, head_case, BoundBy, has_loss, wait_in, case_at, case_of, head_view, denial, as_open, Entry, Flaw, entry_of, bound, bound_to, Tables, Exchange, Representation, Consumer, Sound, IsFirst, after_accepted, came_alone, status_in, Wait, Move, move_of, head_refusal, route_of, consumer_heard, waiting, waiting_place, current}
-use Rattle.hc_event.specs.declared.event.Event.TheVariants as event
-use Rattle.hc_rules.specs.declared.heads.HeadCase.TheVariants as case
-use Rattle.hc_event.specs.declared.place.Place.TheVariants as place
-use Rattle.hc_event.specs.declared.place.BoundBy.TheVariants as by
+use Rattle.hc_effects.proofs.Vocabulary.{Opening, opening_in, Event, Response, HeadCase, Limits, head_case, BoundBy, has_loss, wait_in, case_at, case_of, head_view, denial, as_open, Entry, Flaw, entry_of, bound, bound_to, Tables, Exchange, Representation, Consumer, Sound, IsFirst, after_accepted, came_alone, status_in, Wait, Move, move_of, head_refusal, route_of, consumer_heard, waiting, waiting_place, current, event, case, place, by, wait, route}
 use Rattle.hc_model.specs.Sound.{OneFirst}
 use Rattle.hc_model.specs.Sound as sound
 use Rattle.hc_effects.proofs.{BoundFrom.{BoundFrom, IsFounded, bound_from}, FoundBy.{CaseBy, case_by}, OpensFrom.{nobody_bound}, ExclusiveWriters.{bound_some}, RepFrom.{RepFrom, rep_from, stays}, Said.{IsPoll, IsOpening, WaitsAs, opening_by, waiting_by}}
@@ -13,9 +9,7 @@ use Rattle.hc_effects.proofs.BoundFrom as from
 use Rattle.hc_effects.proofs.FoundBy as cases
 use Rattle.hc_effects.proofs.RepFrom as rep
 use Rattle.hc_effects.proofs.Said as said
-use Rattle.hc_event.specs.declared.act.Wait.TheVariants as wait
 use Rattle.hc_rules.specs.Refusals as refusals
-use Rattle.hc_rules.specs.declared.need.Route.TheVariants as route
 
 -- THE CASE OF A HEAD
 

@@ -1,9 +1,7 @@
 -- What a head that founds is.
 use Rattle.std.{proofs.{Common.{◌≡◌, Bool, true, false, Some, refl, sym, ◌∙◌, subst, arith}, lemmas.Bool.Decides.{nat_tests}}, specs.Prelude.{◌&&◌, ◌||◌, ◌==◌, not, nat_eq, nat_le, if◌then◌else◌}}
 use Rattle.hc_text.proofs.Basics.{either, eq_is as is_number, and_left as left, never_true as not_so, not_true, and_right as right}
-use Rattle.hc_effects.proofs.Vocabulary.{Route, HeadCase, HeadView, head_case, case_on, direct_case, turn_case, first_case, later_case, route_of, is_founding}
-use Rattle.hc_rules.specs.declared.need.Route.TheVariants as route
-use Rattle.hc_rules.specs.declared.heads.HeadCase.TheVariants as case
+use Rattle.hc_effects.proofs.Vocabulary.{Route, HeadCase, HeadView, head_case, case_on, direct_case, turn_case, first_case, later_case, route_of, is_founding, route, case}
 
 -- the route that a case is of, and whether its consumer was shown a head
 pub record IsWay (v : HeadView) (way : Route) (shown : Bool) : Type 0 where

@@ -1,9 +1,6 @@
 -- The case of a head that founds, where that is lost; and what it is an answer to.
 use Rattle.std.{proofs.{Common.{◌≡◌, ℕ, List, [], ◌∷◌, Bool, true, false, Some, refl, ap, sym, ◌∙◌, subst, arith}, lemmas.Bool.Decides.{nat_tests}}, specs.Prelude.{◌&&◌, nat_eq, nat_le, if◌then◌else◌}}
-use Rattle.hc_effects.proofs.Vocabulary.{HeadCase, HeadView, Limits, head_case, Act, Response, has_loss, without_losses, head_view, is_founding, Flaw, entry_of, Tables, Exchange, written_representation, lossless}
-use Rattle.hc_rules.specs.declared.heads.HeadCase.TheVariants as case
-use Rattle.hc_event.specs.declared.act.Act.TheVariants as act
-use Rattle.hc_event.specs.declared.event.Event.TheVariants as event
+use Rattle.hc_effects.proofs.Vocabulary.{HeadCase, HeadView, Limits, head_case, Act, Response, has_loss, without_losses, head_view, is_founding, Flaw, entry_of, Tables, Exchange, written_representation, lossless, case, act, event}
 use Rattle.hc_effects.proofs.FirstKeeps as FirstKeeps
 use Rattle.hc_effects.proofs.FoundBy.{CaseBy, case_by}
 use Rattle.hc_effects.proofs.FoundBy as cases

@@ -1,12 +1,8 @@
 -- What heads do that found: with the turn, and in place of what had a first hole. And where that is lost.
 use Rattle.std.{proofs.{lemmas.Bool.Decides.{nat_tests}, Common.{arith, ◌≡◌, inl, inr, ℕ, List, [], ◌∷◌, ◌++◌, Bool, true, false, Option, Some, None, refl, ap, sym, ◌∙◌, subst}}, specs.Prelude.{◌&&◌, ◌||◌, not, nat_eq, if◌then◌else◌, map, option_map}}
 use Rattle.hc_text.proofs.Basics.{not_some as none_some, never_true as not_so, and_off as then_false}
-use Rattle.hc_event.specs.declared.act.Act.TheVariants as act
-use Rattle.hc_effects.proofs.Vocabulary.{LostKind, Event, Response, HeadCase, Wanted, Limits, head_case, range_of, wanted_of, head_view, is_founding, case_at, is_updating, is_joining, bound_by_total, bound_to_wanted, current, is_number, denial, Does, with_event, let_all_go, let_some_go, with_consumer, with_answer, with_founding, just_founded, as_gone, promise_in, NoFlaw, Loses, goes_by_case, founded_total, Lawful, is_written, representation_after, Tables, Exchange, Representation, Consumer, with_item_first, to_front, evicted, is_refused, doomed_by_case, is_reached, sends_back, cause_by_case, loses_in, loss_acts}
-use Rattle.hc_event.specs.declared.event.Event.TheVariants as event
-use Rattle.hc_rules.specs.declared.heads.HeadCase.TheVariants as case
+use Rattle.hc_effects.proofs.Vocabulary.{act, event, case, by, LostKind, Event, Response, HeadCase, Wanted, Limits, head_case, range_of, wanted_of, head_view, is_founding, case_at, is_updating, is_joining, bound_by_total, bound_to_wanted, current, is_number, denial, Does, with_event, let_all_go, let_some_go, with_consumer, with_answer, with_founding, just_founded, as_gone, promise_in, NoFlaw, Loses, goes_by_case, founded_total, Lawful, is_written, representation_after, Tables, Exchange, Representation, Consumer, with_item_first, to_front, evicted, is_refused, doomed_by_case, is_reached, sends_back, cause_by_case, loses_in, loss_acts}
 use Rattle.hc_event.specs.declared.place.Place.TheVariants as place
-use Rattle.hc_event.specs.declared.place.BoundBy.TheVariants as by
 use Rattle.hc_effects.proofs.{ActParts.{AllPass}, Basics.{append_none, false_true, some_row}, HeadFacts.{new, not_it, head_does, goes_on, rows, is_it, rows_stay}, HeadFrames.{e, row_founds, has_as, heard}, KeyActs.{HasRow, evicted_rows}, PieceKeeps.{eq_cases}, SameTables.{is_in, waits_for_any}, KeysKeep.{current_row}}
 
 -- WHAT GOES

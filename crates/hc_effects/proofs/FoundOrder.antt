@@ -2,7 +2,7 @@
 use Rattle.std.{proofs.{lemmas.Bool.Decides.{nat_tests}, Common.{arith, ◌≡◌, ℕ, List, false, Option, Some, ap, ap₂, sym, ◌∙◌}}, specs.Prelude.{◌==◌, if◌then◌else◌, option_map}}
 use mathlib.Core.Path.{fun_ext}
 use Rattle.hc_effects.proofs.Vocabulary.{Response, as_gone, let_all_go, with_consumer, with_answer, with_founding, Tables, Exchange, Representation, Consumer}
-use Rattle.hc_effects.proofs.{SameTables.{is_in, waits_for_any, back_from_any, all_go_is}}
+use Rattle.hc_effects.proofs.SameTables.{is_in, waits_for_any, back_from_any, all_go_is}
 
 module _ (now x c : ℕ) (response : Response) (joined : Option ℕ) (w : Exchange) (q : Consumer) (rs : List ℕ) (t : Tables) where
   -- the answer goes past the store

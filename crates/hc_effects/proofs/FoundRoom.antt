@@ -2,11 +2,7 @@
 use Rattle.std.{proofs.{Common.{◌≡◌, inl, inr, ℕ, List, [], ◌∷◌, length, take, Bool, true, false, Option, Some, None, refl, ap, sym, ◌∙◌, subst, arith}, lemmas.Bool.Decides.{nat_tests}}, specs.{Prelude.{◌&&◌, ◌||◌, ◌==◌, not, nat_eq, if◌then◌else◌, option_map, map, filter, reverse}, List.{list_any, sum_by}}}
 use Rattle.hc_text.proofs.Basics.{and_true as and_on, and_none as and_off, or_false as or_off}
 use mathlib.Core.Path.{fun_ext}
-use Rattle.hc_effects.proofs.Vocabulary.{Event, Response, HeadCase, Limits, Room, head_case, route_of, room_of, weight_of, case_at, head_view, is_founding, idle_now, current, is_current, denial, doomed_by_case, as_gone, let_all_go, with_consumer, Entry, entry_without_acts, NoFlaw, goes_itself, goes_by_case, becomes_gone, Lawful, MayLetGo, weight_now, room_now, giving_way, IsAwaiting, bound, is_bound, is_bound_place, Tables, Exchange, Representation, Consumer, weight, idle, evicted, room_for, room_by, write_in, moves_on, stays_bound, stays_current, is_idle}
-use Rattle.hc_event.specs.declared.event.Event.TheVariants as event
-use Rattle.hc_rules.specs.declared.need.Route.TheVariants as route
-use Rattle.hc_rules.specs.declared.room.Room.TheVariants as room
-use Rattle.hc_rules.specs.declared.room.Write.TheVariants as write
+use Rattle.hc_effects.proofs.Vocabulary.{Event, Response, HeadCase, Limits, Room, head_case, route_of, room_of, weight_of, case_at, head_view, is_founding, idle_now, current, is_current, denial, doomed_by_case, as_gone, let_all_go, with_consumer, Entry, entry_without_acts, NoFlaw, goes_itself, goes_by_case, becomes_gone, Lawful, MayLetGo, weight_now, room_now, giving_way, IsAwaiting, bound, is_bound, is_bound_place, Tables, Exchange, Representation, Consumer, weight, idle, evicted, room_for, room_by, write_in, moves_on, stays_bound, stays_current, is_idle, event, route, room, write}
 use Rattle.hc_event.specs.declared.place.Place.TheVariants as place
 use Rattle.hc_model.specs.Contents as contents
 use Rattle.hc_model.specs.LettingGo as going

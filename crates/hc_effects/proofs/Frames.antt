@@ -5,9 +5,7 @@
 -- The same for exchanges: an event and acts that do not speak of one leave its row.
 use Rattle.std.{proofs.{Common.{◌≡◌, inl, inr, ℕ, List, Bool, true, false, Option, Some, None, refl, ap, sym, ◌∙◌, arith}, lemmas.Bool.Decides.{nat_tests}}, specs.Prelude.{nat_eq, ◌==◌, ◌||◌, ◌&&◌, not, if◌then◌else◌}}
 use Rattle.hc_text.proofs.Basics.{and_left, and_right, bool_cases, not_true as not_keepable, never_true as not_so, or_cases, some_inj}
-use Rattle.hc_effects.proofs.Vocabulary.{Opening, opening_in, asks_in, closes_in, evicts_in, Event, Response, HeadCase, loses_in, misreads_in, has_loss, case_at, case_of, is_updating, current, is_current, is_number, doomed_key_of, bypass_key, is_key, Entry, entry_without_acts, exchange_after, exchange_heard, exchange_acted, exchange_made, family, exchange_at, exchange_in, becomes_gone, goes_itself, goes_by_case, goes_by_exchange, goes_by_head, is_current_of, ends_early, ends_founding, stops_early, is_keepable, representation_after, representation_heard, representation_acted, representation_after_head, updates, representation_after_piece, with_total_if_none, length_in, founded_at, Tables, Exchange, Representation}
-use Rattle.hc_event.specs.declared.event.Event.TheVariants as event
-use Rattle.hc_rules.specs.declared.heads.HeadCase.TheVariants as case
+use Rattle.hc_effects.proofs.Vocabulary.{Opening, opening_in, asks_in, closes_in, evicts_in, Event, Response, HeadCase, loses_in, misreads_in, has_loss, case_at, case_of, is_updating, current, is_current, is_number, doomed_key_of, bypass_key, is_key, Entry, entry_without_acts, exchange_after, exchange_heard, exchange_acted, exchange_made, family, exchange_at, exchange_in, becomes_gone, goes_itself, goes_by_case, goes_by_exchange, goes_by_head, is_current_of, ends_early, ends_founding, stops_early, is_keepable, representation_after, representation_heard, representation_acted, representation_after_head, updates, representation_after_piece, with_total_if_none, length_in, founded_at, Tables, Exchange, Representation, event, case}
 use Rattle.hc_model.specs.Frames.{updates_row, is_headed, is_of_family, is_filled, is_ended, KeepsParts, PartsAreKept, answers_about, head_about, is_event_of, is_current_for, are_acts_of, speaks_of, OthersStay, OthersDontGo, GoesBy, GoneIsCaused, is_opened, speaks_of_exchange, ExchangesStay}
 use Rattle.hc_model.specs.Frames as frames
 use Rattle.hc_effects.proofs.{Basics.{false_true, or_false, number_is, number_yes}, KeyNames.{key_is}}

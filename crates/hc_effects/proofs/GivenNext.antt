@@ -4,8 +4,7 @@ use Rattle.hc_text.proofs.Basics.{bool_cases, min_few, not_some as none_some, so
 use Rattle.hc_range.specs.declared.range.Span.{Span}
 use Rattle.hc_sparse.proofs.StretchLemmas.{front, stretch-longest}
 use Rattle.hc_sparse.specs.{Cells.{Cells, Cell, EndsBy}, Runs.{end_of}, Stretch.{stretch, stretch_of, bytes_from, IsLongest}, declared.run.Run.{Run}}
-use Rattle.hc_effects.proofs.Vocabulary.{Cause, Request, read_step, is_at_end, cut_at, stored_or, held_or, fails_or, waits_or, opens, ReadView, Place, row_of, is_number, base, stretch_to, Nothing, Gives, Ends, Fails, gives, waits_for, opens_hole, bound_to, offset, hi_of, lo_of, Delivers, answer_cell, cell_by, body_of, direct_cell, Tables, Exchange, Representation, Consumer, Sound, IsStored, stored_from, stored_ahead, run_of, held_of_exchange, held_of_lost, held_at, run_held_for, read_view, most, later_hole, step_move, reading}
-use Rattle.hc_event.specs.declared.act.Wait.TheVariants as wait
+use Rattle.hc_effects.proofs.Vocabulary.{Cause, Request, read_step, is_at_end, cut_at, stored_or, held_or, fails_or, waits_or, opens, ReadView, Place, row_of, is_number, base, stretch_to, Nothing, Gives, Ends, Fails, gives, waits_for, opens_hole, bound_to, offset, hi_of, lo_of, Delivers, answer_cell, cell_by, body_of, direct_cell, Tables, Exchange, Representation, Consumer, Sound, IsStored, stored_from, stored_ahead, run_of, held_of_exchange, held_of_lost, held_at, run_held_for, read_view, most, later_hole, step_move, reading, wait}
 use Rattle.hc_event.specs.declared.place.Place.TheVariants as place
 use Rattle.hc_model.specs.Exchanges as exchanges
 use Rattle.hc_model.specs.Moves as moves

@@ -1,9 +1,7 @@
 -- A poll that gives is one of a reader, and wants something.
-use Rattle.std.{proofs.{lemmas.Bool.Decides.{nat_tests}, Common.{◌≡◌, ℕ, zero, suc, ◌<◌, true, None, ap, sym, ◌∙◌, arith}}}
+use Rattle.std.proofs.{lemmas.Bool.Decides.{nat_tests}, Common.{◌≡◌, ℕ, zero, suc, ◌<◌, true, None, ap, sym, ◌∙◌, arith}}
 use Rattle.hc_sparse.specs.declared.run.Run.{Run}
-use Rattle.hc_event.specs.declared.act.Wait.TheVariants as wait
-use Rattle.hc_effects.proofs.Vocabulary.{Event, denial, Move, Nothing, Gives, Fails, Tables, Consumer, reading}
-use Rattle.hc_event.specs.declared.event.Event.TheVariants as event
+use Rattle.hc_effects.proofs.Vocabulary.{wait, event, Event, denial, Move, Nothing, Gives, Fails, Tables, Consumer, reading}
 use Rattle.hc_rules.specs.Refusals as refusals
 use Rattle.hc_model.specs.Moves as moves
 use Rattle.hc_effects.proofs.{Basics.{false_true}, MoveBy.{MoveBy}}

@@ -1,9 +1,8 @@
 -- What gives way, told by a loop: while there is no room, the first idle one goes.
 use Rattle.std.{proofs.{Common.{◌≡◌, inl, inr, ℕ, suc, ◌+◌, ◌-◌, ◌<◌, ◌≤◌, List, [], ◌∷◌, ◌++◌, length, true, false, Option, Some, None, refl, ap, sym, ◌∙◌, subst, arith}, lemmas.{Bool.Decides.{nat_tests}, List.Sums.{sum_by-cons}}}, specs.{Prelude.{nat_le, map, take}, List.{sum_by}, Option.{option_map}}}
 use Rattle.hc_text.proofs.Basics.{bool_cases}
-use Rattle.hc_effects.proofs.Vocabulary.{Event, gives_way, room_of, grown_by, is_too_large, Limits, Write, Entry, entry_without_acts, Tables, weight, weights, idle, write_in, room_by, room_for, first_idle}
+use Rattle.hc_effects.proofs.Vocabulary.{Event, gives_way, room_of, grown_by, is_too_large, Limits, Write, Entry, entry_without_acts, Tables, weight, weights, idle, write_in, room_by, room_for, first_idle, room}
 use Rattle.hc_rules.specs.Rooms as rooms
-use Rattle.hc_rules.specs.declared.room.Room.TheVariants as room
 use Rattle.hc_model.specs.Evictions.{GivesWay, MakesRoom, SomeGiveWay, HasNoRoom, HasTooLarge, WritesNothing}
 use Rattle.hc_model.specs.Evictions as evictions
 

@@ -1,12 +1,7 @@
 -- What heads do that write nothing: past the store, and with the turn where nothing is validated or founded.
 use Rattle.std.{proofs.{lemmas.Bool.Decides.{nat_tests}, Common.{arith, ◌≡◌, ℕ, List, [], ◌∷◌, Bool, true, false, Option, Some, None, refl, ap, sym, ◌∙◌, subst}}, specs.Prelude.{◌&&◌, ◌||◌, not, nat_lt, if◌then◌else◌, map}}
 use Rattle.hc_text.proofs.Basics.{and_true, or_false as or_off, and_off as then_false}
-use Rattle.hc_event.specs.declared.act.Act.TheVariants as act
-use Rattle.hc_effects.proofs.Vocabulary.{Cause, Event, Response, HeadCase, HeadView, Limits, head_case, length_of, is_bad, route_of, head_view, is_founding, is_updating, is_joining, is_refused, consumer_after, back_in_line, current, is_number, denial, doomed_by_case, changes, Does, with_event, let_all_go, let_some_go, tables_after_close, all_closed, with_consumer, with_answer, unless_ended, promise_in, is_reached, cause_by_case, NoFlaw, goes_by_case, Lawful, IsAwaiting, is_written, reads, Tables, Exchange, Representation, Consumer, sends_back, with_item_first, evicted}
-use Rattle.hc_event.specs.declared.act.Cause.TheVariants as cause
-use Rattle.hc_event.specs.declared.event.Event.TheVariants as event
-use Rattle.hc_rules.specs.declared.heads.HeadCase.TheVariants as case
-use Rattle.hc_rules.specs.declared.need.Route.TheVariants as route
+use Rattle.hc_effects.proofs.Vocabulary.{act, cause, event, case, route, Cause, Event, Response, HeadCase, HeadView, Limits, head_case, length_of, is_bad, route_of, head_view, is_founding, is_updating, is_joining, is_refused, consumer_after, back_in_line, current, is_number, denial, doomed_by_case, changes, Does, with_event, let_all_go, let_some_go, tables_after_close, all_closed, with_consumer, with_answer, unless_ended, promise_in, is_reached, cause_by_case, NoFlaw, goes_by_case, Lawful, IsAwaiting, is_written, reads, Tables, Exchange, Representation, Consumer, sends_back, with_item_first, evicted}
 use Rattle.hc_event.specs.declared.place.Place.TheVariants as place
 use Rattle.hc_model.specs.Owners as owners
 use Rattle.hc_effects.proofs.{FoundBy.{CaseBy, case_by}, HeadFrames.{e, heard}, HeadFacts.{stays_open, waiter, evicts_none, goes_on, goes_back, fails, rows_stay, head_does}, ConsumerEffects.{some_all}, PollEffects.{none_waits, same_consumer}, SameTables.{is_in, in_one, waits_for_any}}

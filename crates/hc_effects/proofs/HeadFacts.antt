@@ -2,10 +2,8 @@
 use Rattle.std.{proofs.{lemmas.Bool.Decides.{nat_tests}, Common.{arith, ◌≡◌, inl, inr, ℕ, ◌+◌, List, [], ◌++◌, Bool, true, false, Option, Some, None, refl, ap, sym, ◌∙◌, subst}}, specs.Prelude.{◌&&◌, ◌||◌, ◌==◌, not, nat_eq, if◌then◌else◌, option_map, map, filter, reverse, is_some}}
 use mathlib.Core.Path.{fun_ext}
 use Rattle.hc_text.proofs.Basics.{eqb-same, not_some as none_some, or_false as or_off, same_some as same_row, some_inj}
-use Rattle.hc_event.specs.declared.act.Act.TheVariants as act
-use Rattle.hc_effects.proofs.Vocabulary.{Cause, Event, Response, HeadCase, Limits, head_case, length_of, is_bad, has_loss, loses_in, accepted_acts, loss_acts, case_at, head_view, is_founding, is_updating, is_joining, closing, closes_row, is_refused, has_no_survivor, is_number, denial, doomed_key_of, doomed_by_case, Does, with_event, let_all_go, all_closed, with_consumer, with_answer, as_gone, Entry, entry_without_acts, promise_in, is_reached, family, Flaw, NoFlaw, Lawful, IsAwaiting, Tables, Exchange, Representation, Consumer, with_item_first, after_accepted, to_front, evicted, is_written, reads, goes_by_case, becomes_gone, sends_back, cause_by_case, consumer_after, back_in_line, representation_after, updates, Place}
+use Rattle.hc_effects.proofs.Vocabulary.{act, write, Cause, Event, Response, HeadCase, Limits, head_case, length_of, is_bad, has_loss, loses_in, accepted_acts, loss_acts, case_at, head_view, is_founding, is_updating, is_joining, closing, closes_row, is_refused, has_no_survivor, is_number, denial, doomed_key_of, doomed_by_case, Does, with_event, let_all_go, all_closed, with_consumer, with_answer, as_gone, Entry, entry_without_acts, promise_in, is_reached, family, Flaw, NoFlaw, Lawful, IsAwaiting, Tables, Exchange, Representation, Consumer, with_item_first, after_accepted, to_front, evicted, is_written, reads, goes_by_case, becomes_gone, sends_back, cause_by_case, consumer_after, back_in_line, representation_after, updates, Place}
 use Rattle.hc_event.specs.declared.event.Event.TheVariants as event
-use Rattle.hc_rules.specs.declared.room.Write.TheVariants as write
 use Rattle.hc_model.specs.Owners as owners
 use Rattle.hc_effects.proofs.{ActParts.{leaver_lost}, Basics.{some_row}, Closed.{reversed}, FewClosings.{evicts_nothing}, FirstKeeps.{IsNew, is_new, case_is}, HeadFrames.{e, has_as, heard, asker_goes_on, asker_goes_back, asker_fails, after_head, others, goes_by, rows_but, row_by, doomed_is, spared_as}, OfConsumers.{one_of, descends_once}, PieceKeeps.{eq_cases}, SameTables.{is_in, waits_for_any}, Sums.{reverse_once}, Waiters.{IsWaiter, waiter_as, waits_undue}, Untouched.{IsSpared}}
 

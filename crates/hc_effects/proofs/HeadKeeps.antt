@@ -1,9 +1,8 @@
 -- A head keeps what open exchanges are still to bring absent, and one of them at most about each representation.
 use Rattle.std.{proofs.{Common.{◌≡◌, ◌≢◌, ◌⊎◌, inl, inr, ℕ, ◌<◌, ◌≤◌, List, [], Bool, true, false, cond, Option, Some, None, refl, ap, sym, ◌∙◌, subst, arith}, lemmas.Bool.Decides.{nat_tests}}, specs.Prelude.{is_some, nat_eq, option_map, unwrap_or}}
 use Rattle.hc_text.proofs.Basics.{and_right, same_some as same_row, some_inj, not_some as some_none}
-use Rattle.hc_effects.proofs.Vocabulary.{opening_in, Response, Act, Need, has_loss, is_joining, case_of, case_at, head_view, Entry, joined_at, exchange_after, exchange_heard, exchange_acted, base, promised_bytes, front, family, length_by, row_of, representation_after_head, representation_after, representation_heard, representation_acted, with_renewed_head, new_representation, Tables, Exchange, Representation, Waits, Sound, OneAbout, IsAbout, IsPromised, InHole, after_accepted, HeadCase, head_case, Length, length_of, is_bad}
+use Rattle.hc_effects.proofs.Vocabulary.{opening_in, Response, Act, Need, has_loss, is_joining, case_of, case_at, head_view, Entry, joined_at, exchange_after, exchange_heard, exchange_acted, base, promised_bytes, front, family, length_by, row_of, representation_after_head, representation_after, representation_heard, representation_acted, with_renewed_head, new_representation, Tables, Exchange, Representation, Waits, Sound, OneAbout, IsAbout, IsPromised, InHole, after_accepted, HeadCase, head_case, Length, length_of, is_bad, need}
 use Rattle.hc_event.specs.declared.event.Event.TheVariants as event
-use Rattle.hc_event.specs.declared.act.Need.TheVariants as need
 use Rattle.hc_sparse.specs.Cells.{Cells}
 use Rattle.hc_model.specs.Sound as sound
 use Rattle.hc_effects.proofs.{PieceKeeps.{eq_cases}, QuietKeeps.{IsSame, IsKept, closed_only}, Joining.{MayJoin, may_join, IsFilling, filling, LiesIn, lies}}

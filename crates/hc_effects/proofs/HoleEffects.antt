@@ -1,13 +1,8 @@
 -- What a poll does that opens an exchange for a hole: a first one binds its consumer, and a later one is that of a reader.
 use Rattle.std.proofs.{lemmas.Bool.Decides.{nat_tests}, Common.{arith, ◌≡◌, ℕ, [], true, Option, Some, None, refl, ap, sym, ◌∙◌, subst}}
 use Rattle.hc_range.specs.declared.range.Span.{Span}
-use Rattle.hc_effects.proofs.Vocabulary.{Need, Request, Limits, range_of, wanted_of, BoundBy, opened_place, unless_bound, current, Does, with_event, used_last, with_consumer, with_opening, just_opened, Entry, aim_from, NoFlaw, Lawful, Opens, acts_of, move_of, bound_to, Tables, Representation, Consumer, to_front, binds}
-use Rattle.hc_event.specs.declared.act.Need.TheVariants as need
-use Rattle.hc_event.specs.declared.event.Event.TheVariants as event
-use Rattle.hc_rules.specs.declared.request.Wanted.TheVariants as wanted
+use Rattle.hc_effects.proofs.Vocabulary.{Need, Request, Limits, range_of, wanted_of, BoundBy, opened_place, unless_bound, current, Does, with_event, used_last, with_consumer, with_opening, just_opened, Entry, aim_from, NoFlaw, Lawful, Opens, acts_of, move_of, bound_to, Tables, Representation, Consumer, to_front, binds, need, event, wanted, by, route}
 use Rattle.hc_event.specs.declared.place.Place.TheVariants as place
-use Rattle.hc_event.specs.declared.place.BoundBy.TheVariants as by
-use Rattle.hc_rules.specs.declared.need.Route.TheVariants as route
 use Rattle.hc_effects.proofs.{Basics.{false_true}, OfConsumers.{BringsNothing, binds_as}, OpenEffects.{e, nothing, why, opens, keeps_all, about_current}, PollEffects.{none_waits}}
 
 module _ (limits : Limits) (t : Tables) (law : Lawful t) (now c want : ℕ) (k : Consumer) (row : t.consumer c ≡ Some k) (x from to : ℕ) (request : Request) (is : move_of t now want c k ≡ Opens x (need.Hole from to) request) where

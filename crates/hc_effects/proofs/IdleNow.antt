@@ -1,10 +1,7 @@
 -- What is idle at an event: those that are idle before it, but for what the event itself makes gone.
 use Rattle.std.{proofs.{Common.{◌≡◌, inl, inr, ℕ, List, [], ◌∷◌, length, Bool, true, false, Option, Some, None, refl, ap, sym, ◌∙◌, arith}, lemmas.Bool.Decides.{nat_tests}}, specs.{Prelude.{filter, reverse, nat_eq, ◌==◌, ◌&&◌, not}, List.{list_any}}}
 use Rattle.hc_text.proofs.Basics.{and_left, and_right, bool_cases, not_some as none_some, same_some as same_row}
-use Rattle.hc_effects.proofs.Vocabulary.{Event, Response, HeadCase, route_of, Limits, Place, case_at, head_view, is_current, denial, Entry, entry_without_acts, outlasts, outlasts_row, exchange_at, is_for, NoFlaw, goes_itself, Owners, IsAwaiting, bound, is_bound_place, Tables, Exchange, Representation, Consumer, Sound, Among, IsBound, idle, is_idle, stays_bound, moves_on, is_replacing}
-use Rattle.hc_event.specs.declared.event.Event.TheVariants as event
-use Rattle.hc_rules.specs.declared.heads.HeadCase.TheVariants as case
-use Rattle.hc_rules.specs.declared.need.Route.TheVariants as route
+use Rattle.hc_effects.proofs.Vocabulary.{Event, Response, HeadCase, route_of, Limits, Place, case_at, head_view, is_current, denial, Entry, entry_without_acts, outlasts, outlasts_row, exchange_at, is_for, NoFlaw, goes_itself, Owners, IsAwaiting, bound, is_bound_place, Tables, Exchange, Representation, Consumer, Sound, Among, IsBound, idle, is_idle, stays_bound, moves_on, is_replacing, event, case, route}
 use Rattle.hc_model.specs.Contents as contents
 use Rattle.hc_model.specs.Evictions.{IdleButGone}
 use Rattle.hc_model.specs.Sound as sound

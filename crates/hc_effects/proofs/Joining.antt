@@ -1,11 +1,7 @@
 -- A head that joins brings positions of its hole.
 use Rattle.std.{proofs.{Common.{◌≡◌, ◌≢◌, ℕ, ◌+◌, ◌-◌, ◌<◌, ◌≤◌, Bool, true, false, cond, List, Option, Some, None, refl, sym, ◌∙◌, subst, arith}, lemmas.Bool.Decides.{nat_tests}}, specs.Prelude.{codes, ◌==◌}}
 use Rattle.hc_text.proofs.Basics.{either}
-use Rattle.hc_range.specs.declared.range.ContentRange.TheVariants as range
-use Rattle.hc_effects.proofs.Vocabulary.{Response, Request, Need, Route, HeadCase, HeadView, Length, head_case, case_on, direct_case, turn_case, first_case, later_case, length_of, content_length_of, part_length, has_no_body, route_of, content_range_of, Representation, is_joining, joins_row, joins_by}
-use Rattle.hc_event.specs.declared.act.Need.TheVariants as need
-use Rattle.hc_rules.specs.declared.need.Route.TheVariants as route
-use Rattle.hc_rules.specs.declared.heads.HeadCase.TheVariants as case
+use Rattle.hc_effects.proofs.Vocabulary.{range, need, route, case, Response, Request, Need, Route, HeadCase, HeadView, Length, head_case, case_on, direct_case, turn_case, first_case, later_case, length_of, content_length_of, part_length, has_no_body, route_of, content_range_of, Representation, is_joining, joins_row, joins_by}
 use Rattle.hc_rules.specs.declared.length.Length.TheVariants as told
 use Rattle.hc_rules.proofs.JoinLaws.{joins-right}
 use Rattle.hc_fields.specs.FieldElements.{elements_in}

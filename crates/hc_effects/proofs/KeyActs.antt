@@ -5,12 +5,9 @@
 -- A representation of another key is not written, so not lost, and is not read by the poll, so not misread.
 use Rattle.std.{proofs.{lemmas.Bool.Decides.{nat_tests}, Common.{arith, ◌≡◌, ◌⊎◌, inl, inr, ℕ, List, [], ◌∷◌, ◌++◌, Bool, true, false, Option, Some, None, refl, ap, sym, ◌∙◌, subst}}, specs.{Prelude.{◌||◌, ◌==◌, nat_eq, if◌then◌else◌, map, filter, reverse, take, zero, suc}, Option.{option_or, option_map}}}
 use Rattle.hc_text.proofs.Basics.{and_left, and_right as and_then, bool_cases, eq_tells as eq_is, not_some as none_some, never_true as not_true, or_cases, some_inj}
-use Rattle.hc_effects.proofs.Vocabulary.{Opening, opening_in, asks_in, closes_in, evicts_in, Act, Cause, Need, Event, Response, Limits, Room, loses_in, misreads_in, leaver_in, without_losses, accepted_acts, answer_acts, loss_acts, case_at, is_founding, is_joining, must_close, closes_row, closing, brings_head, is_doomed, has_no_survivor, is_left, is_left_by, leaver_by, is_number, bypass_key, bypassed_by, bypassed_for, Entry, entry_without_acts, family, Flaw, Misreads, flaw_in, key_of, key_of_exchange, is_of_key, ExchangeKeys, ConsumerKeys, Move, Fails, acts_of, source, Tables, Exchange, Representation, Consumer, may_be, may_misread, evicted, first_idle, idle, is_idle, room_for, brings_body, loses_writing, written_representation, written_in, head_writes, may_validate, piece_writes, unless_lost, sealed_representation, seals_at, sealed_by, stops, first_found, lossless}
-use Rattle.hc_event.specs.declared.act.Act.TheVariants as act
+use Rattle.hc_effects.proofs.Vocabulary.{Opening, opening_in, asks_in, closes_in, evicts_in, Act, Cause, Need, Event, Response, Limits, Room, loses_in, misreads_in, leaver_in, without_losses, accepted_acts, answer_acts, loss_acts, case_at, is_founding, is_joining, must_close, closes_row, closing, brings_head, is_doomed, has_no_survivor, is_left, is_left_by, leaver_by, is_number, bypass_key, bypassed_by, bypassed_for, Entry, entry_without_acts, family, Flaw, Misreads, flaw_in, key_of, key_of_exchange, is_of_key, ExchangeKeys, ConsumerKeys, Move, Fails, acts_of, source, Tables, Exchange, Representation, Consumer, may_be, may_misread, evicted, first_idle, idle, is_idle, room_for, brings_body, loses_writing, written_representation, written_in, head_writes, may_validate, piece_writes, unless_lost, sealed_representation, seals_at, sealed_by, stops, first_found, lossless, act, need, room}
 use Rattle.hc_event.specs.declared.act.Cause.TheVariants as cause
-use Rattle.hc_event.specs.declared.act.Need.TheVariants as need
 use Rattle.hc_event.specs.declared.event.Event.TheVariants as event
-use Rattle.hc_rules.specs.declared.room.Room.TheVariants as room
 use Rattle.hc_model.specs.Runs.{is_near}
 use Rattle.hc_effects.proofs.{ActParts.{IsAnswer, IsSaid, IsFarFrom, AllPass, answer_is, said_is, asks_evicted, asks_closed, asks_closes, asks_lost, asks_loss, closes_evicted, closes_lost, closes_before, closes_filter, loses_evicted, loses_closed, loses_before, evicts_closes, evicts_lost, evicts_closed, evicts_all, said_closes, far_loss, far_lost_only, far_closing, far_closed, far_evicted, far_said, leaver_lost}, Basics.{number_is}, KeyNames.{aims_key, writer_key, key_is, IsOther, not_other, doomed_key, family_key, own_key, shared_key, source_key, near_key}, PieceKeeps.{eq_cases}, PollKeys.{IsNear}}
 use Rattle.hc_effects.proofs.ActParts as parts

@@ -1,9 +1,7 @@
 -- What it does that a consumer ends, fails or is cancelled: it is over, and what nobody reads any more is closed.
 use Rattle.std.{proofs.Common.{◌≡◌, ℕ, List, [], ◌++◌, false, Option, Some, None, refl, ap, sym, ◌∙◌}, specs.Prelude.{map, nat_eq}}
-use Rattle.hc_effects.proofs.Vocabulary.{Act, Cause, Event, Limits, Place, answer_acts, Does, with_event, with_consumer, let_some_go, let_all_go, as_over, left_by, going_with, with_leave, Entry, NoFlaw, becomes_gone, Lawful, Ends, Fails, acts_of, move_of, poll_move, Tables, Representation, Consumer, loses_what_it_waits_for, after_accepted, with_item_first}
-use Rattle.hc_event.specs.declared.act.Act.TheVariants as act
+use Rattle.hc_effects.proofs.Vocabulary.{Act, Cause, Event, Limits, Place, answer_acts, Does, with_event, with_consumer, let_some_go, let_all_go, as_over, left_by, going_with, with_leave, Entry, NoFlaw, becomes_gone, Lawful, Ends, Fails, acts_of, move_of, poll_move, Tables, Representation, Consumer, loses_what_it_waits_for, after_accepted, with_item_first, act, place}
 use Rattle.hc_event.specs.declared.event.Event.TheVariants as event
-use Rattle.hc_event.specs.declared.place.Place.TheVariants as place
 use Rattle.hc_effects.proofs.{ActParts.{IsFarFrom}, Basics.{append_none}, ConsumerEffects.{waits_as, representations, some_all}, FailsTold.{fails_told}, LeaveFrames.{IsFront, e, nothing, far, acts_left, loses_as, goes_by, leaves}, LeftBy.{left_passed}, OfConsumers.{BringsNothing}, PollEffects.{loses_none}, SameTables.{is_in, in_one, waits_for_any, all_closed_is}}
 use Rattle.hc_effects.proofs.LeaveFrames as front_of
 

@@ -1,7 +1,6 @@
 -- What each consumer leaves by its place, and what goes with that: only what a 200 founded.
-use Rattle.std.{proofs.Common.{◌≡◌, ℕ, Option, Some, None, refl}}
-use Rattle.hc_event.specs.declared.place.Place.TheVariants as place
-use Rattle.hc_effects.proofs.Vocabulary.{left_by, Lawful, own_open, Tables, Consumer}
+use Rattle.std.proofs.Common.{◌≡◌, ℕ, Option, Some, None, refl}
+use Rattle.hc_effects.proofs.Vocabulary.{place, left_by, Lawful, own_open, Tables, Consumer}
 
 -- WHAT IS LEFT
 

@@ -1,8 +1,7 @@
 -- What letting a representation go leaves: who is bound and who is live, and all that is current but what goes.
 use Rattle.std.{proofs.{Common.{◌≡◌, inl, inr, ℕ, List, [], ◌∷◌, ◌++◌, length, Bool, true, false, Option, Some, None, refl, ap, sym, ◌∙◌, subst, arith}, lemmas.Bool.Decides.{nat_tests}}, specs.Prelude.{nat_eq, option_map, is_some, filter, reverse, ◌&&◌, ◌||◌, not, ◌==◌, if◌then◌else◌}}
 use Rattle.hc_text.proofs.Basics.{mapped, not_some as none_some, some_inj}
-use Rattle.hc_effects.proofs.Vocabulary.{Place, back_in_line, idle_now, current, is_usable, is_number, live, back_from, as_gone, let_go, let_all_go, evict, unless_it, Lawful, WaitsOn, MayLetGo, AreOnce, bound, Tables, Representation, Consumer, Among, OneCurrent}
-use Rattle.hc_event.specs.declared.place.Place.TheVariants as place
+use Rattle.hc_effects.proofs.Vocabulary.{Place, back_in_line, idle_now, current, is_usable, is_number, live, back_from, as_gone, let_go, let_all_go, evict, unless_it, Lawful, WaitsOn, MayLetGo, AreOnce, bound, Tables, Representation, Consumer, Among, OneCurrent, place}
 use Rattle.hc_model.specs.{Contents.{is_idle}, Effects.{waits_for}}
 use Rattle.hc_effects.proofs.{Basics.{same_functions, false_true}, CurrentKeeps.{find_only, usable, usable_row}, Evicting.{evicts_one}, IdleNow.{filter_both}, PieceKeeps.{eq_cases}, SameTables.{is_in}, Sums.{filter_once, reverse_once}}
 

@@ -1,5 +1,5 @@
 -- At a piece that is lost, each bound consumer goes on alone, has all that it needs, or gets a failure.
-use Rattle.std.{proofs.{lemmas.Bool.Decides.{nat_tests}, Common.{arith, ◌≡◌, ℕ, Bool, true, cond, Some, None}}, specs.{Prelude.{not, ◌&&◌}}}
+use Rattle.std.{proofs.{lemmas.Bool.Decides.{nat_tests}, Common.{arith, ◌≡◌, ℕ, Bool, true, cond, Some, None}}, specs.Prelude.{not, ◌&&◌}}
 use Rattle.hc_effects.proofs.Vocabulary.{Cause, Entry, Tables, Representation, goes_on_with}
 
 -- WHAT THE LOSS LEAVES OF THE ROW

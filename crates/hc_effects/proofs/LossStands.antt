@@ -1,11 +1,7 @@
 -- At a head that joins, only what it joins can be lost.
 use Rattle.std.{proofs.{Common.{◌≡◌, inl, inr, ℕ, List, [], ◌∷◌, ◌++◌, Bool, true, false, Option, Some, None, refl, ap, sym, ◌∙◌, arith}, lemmas.Bool.Decides.{nat_tests}}, specs.Prelude.{if◌then◌else◌, map, nat_eq, ◌||◌}}
 use Rattle.hc_text.proofs.Basics.{and_left, or_cases}
-use Rattle.hc_effects.proofs.Vocabulary.{is_denied, Event, Response, LostKind, HeadCase, HeadView, Limits, head_case, route_of, has_loss, loses_in, loss_acts, case_at, head_view, is_founding, is_joining, closing, is_number, Entry, Flaw, Loses, flaw_in, entry_of, Tables, Exchange, may_stand, may_be, Sound, evicted, written_representation, head_writes, may_validate, lossless}
-use Rattle.hc_event.specs.declared.event.Event.TheVariants as event
-use Rattle.hc_event.specs.declared.act.Act.TheVariants as act
-use Rattle.hc_rules.specs.declared.heads.HeadCase.TheVariants as case
-use Rattle.hc_rules.specs.declared.need.Route.TheVariants as route
+use Rattle.hc_effects.proofs.Vocabulary.{is_denied, Event, Response, LostKind, HeadCase, HeadView, Limits, head_case, route_of, has_loss, loses_in, loss_acts, case_at, head_view, is_founding, is_joining, closing, is_number, Entry, Flaw, Loses, flaw_in, entry_of, Tables, Exchange, may_stand, may_be, Sound, evicted, written_representation, head_writes, may_validate, lossless, event, act, case, route}
 use Rattle.hc_effects.proofs.{Basics.{false_true}, Closed.{before}, FirstKeeps.{case_is}, FoundBy.{CaseBy, case_by}, SaidActs.{loss_is}}
 use Rattle.hc_effects.proofs.FoundBy as cases
 

@@ -2,9 +2,7 @@
 -- goes on its exchange is closed.
 use Rattle.std.{proofs.{lemmas.Bool.Decides.{nat_tests}, Common.{arith, ◌≡◌, inl, inr, ℕ, Bool, true, false, Option, Some, None, refl, ap, sym, ◌∙◌}}, specs.{Prelude.{nat_eq, if◌then◌else◌, is_none, is_some}, Option.{option_or}}}
 use Rattle.hc_text.proofs.Basics.{and_right, eqb-same, or_none as or_nothing, same_some as same_row, some_inj}
-use Rattle.hc_effects.proofs.Vocabulary.{Cause, BoundBy, fails_in, has_no_survivor, consumer_after, consumer_acted, consumer_settled, own_after, is_number, doomed_key_of, left_with, Entry, family, is_open, becomes_due, Lawful, is_written, reads, Tables, Exchange, Representation, Consumer, starts_over, loses_writing, survivor, goes_on_with}
-use Rattle.hc_event.specs.declared.act.Cause.TheVariants as cause
-use Rattle.hc_event.specs.declared.place.Place.TheVariants as place
+use Rattle.hc_effects.proofs.Vocabulary.{Cause, BoundBy, fails_in, has_no_survivor, consumer_after, consumer_acted, consumer_settled, own_after, is_number, doomed_key_of, left_with, Entry, family, is_open, becomes_due, Lawful, is_written, reads, Tables, Exchange, Representation, Consumer, starts_over, loses_writing, survivor, goes_on_with, cause, place}
 use Rattle.hc_effects.proofs.{ExclusiveWriters.{writer_some}, PieceKeeps.{eq_cases}, PieceServes.{IsQuietActs, acted_quiet}, Stops.{writer_open}, Untouched.{IsApart, starts_as}}
 
 -- the exchange of a writing

@@ -1,8 +1,6 @@
 -- What a poll does at which a read of the store fails: its consumer fails, and what it was to read is let go.
 use Rattle.std.{proofs.{lemmas.Bool.Decides.{nat_tests}, Common.{arith, ◌≡◌, ℕ, List, [], ◌∷◌, ◌++◌, false, Option, Some, refl, ap, sym, ◌∙◌}}, specs.Prelude.{◌||◌, ◌==◌, nat_eq, map}}
-use Rattle.hc_effects.proofs.Vocabulary.{Act, Event, Limits, Place, is_number, Does, with_event, with_consumer, let_go, let_some_go, let_all_go, as_over, left_by, going_with, with_leave, Entry, Flaw, Misreads, becomes_gone, Lawful, Tables, Representation, Consumer, loses_what_it_waits_for, after_accepted, with_item_first}
-use Rattle.hc_event.specs.declared.act.Act.TheVariants as act
-use Rattle.hc_event.specs.declared.act.Cause.TheVariants as cause
+use Rattle.hc_effects.proofs.Vocabulary.{Act, Event, Limits, Place, is_number, Does, with_event, with_consumer, let_go, let_some_go, let_all_go, as_over, left_by, going_with, with_leave, Entry, Flaw, Misreads, becomes_gone, Lawful, Tables, Representation, Consumer, loses_what_it_waits_for, after_accepted, with_item_first, act, cause}
 use Rattle.hc_event.specs.declared.event.Event.TheVariants as event
 use Rattle.hc_effects.proofs.{ActParts.{IsFarFrom}, Basics.{append_none}, ConsumerEffects.{representations, two_all}, LeaveFrames.{IsFront, e, nothing, far, acts_left, loses_as, goes_by, leaves}, OfConsumers.{BringsNothing}, SameTables.{is_in, all_closed_is}}
 use Rattle.hc_effects.proofs.LeaveFrames as front_of

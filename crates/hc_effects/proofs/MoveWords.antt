@@ -1,14 +1,11 @@
 -- What the words of a move come to: a property of the moves that a word may give, and of nothing, is one of the word.
 -- A head is shown where it is there (`at_as`); a read comes to bytes, an end, a failure that is due, a wait for its source
 -- or a later hole (`reading_as`); and a poll to a head, a wait for one, or what its place says (`move_as`).
-use Rattle.std.{proofs.{lemmas.Bool.Decides.{nat_tests}, Common.{arith, ◌≡◌, ℕ, true, false, Option, Some, None, refl, ap, sym, ◌∙◌}}, specs.{Option.{option_and_then}}}
+use Rattle.std.{proofs.{lemmas.Bool.Decides.{nat_tests}, Common.{arith, ◌≡◌, ℕ, true, false, Option, Some, None, refl, ap, sym, ◌∙◌}}, specs.Option.{option_and_then}}
 use Rattle.hc_text.proofs.Basics.{cond_false, none_some}
 use Rattle.hc_range.specs.declared.range.Span.{Span}
 use Rattle.hc_sparse.specs.declared.run.Run.{Run}
-use Rattle.hc_effects.proofs.Vocabulary.{Cause, Request, Response, Why, ReadStep, ReadView, read_step, is_at_end, stored_or, held_or, fails_or, waits_or, Place, BoundBy, Move, Nothing, Asks, Shows, Gives, Ends, Fails, gives, waits_for, opens_hole, binds_current, shows_at, shows_head, has_joined, if_headless, by_place, move_of, reads, own_open, source, hi_of, Tables, Exchange, Representation, Consumer, IsToBeShown, read_view, run_held_for, most, step_move, later_hole, reading}
-use Rattle.hc_event.specs.declared.act.Wait.TheVariants as wait
-use Rattle.hc_event.specs.declared.place.Place.TheVariants as place
-use Rattle.hc_event.specs.declared.place.BoundBy.TheVariants as by
+use Rattle.hc_effects.proofs.Vocabulary.{Cause, Request, Response, Why, ReadStep, ReadView, read_step, is_at_end, stored_or, held_or, fails_or, waits_or, Place, BoundBy, Move, Nothing, Asks, Shows, Gives, Ends, Fails, gives, waits_for, opens_hole, binds_current, shows_at, shows_head, has_joined, if_headless, by_place, move_of, reads, own_open, source, hi_of, Tables, Exchange, Representation, Consumer, IsToBeShown, read_view, run_held_for, most, step_move, later_hole, reading, wait, place, by}
 use Rattle.hc_rules.specs.declared.reading.ReadStep.TheVariants as step
 use Rattle.hc_rules.specs.Readings as readings
 use Rattle.hc_model.specs.Moves as moves

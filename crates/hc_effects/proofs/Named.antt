@@ -1,11 +1,10 @@
 -- What the acts of an accepted event say of a consumer that hasn't started: nothing.
 use Rattle.std.{proofs.{lemmas.Bool.Decides.{nat_tests}, Common.{arith, ◌≡◌, ℕ, List, [], ◌∷◌, ◌++◌, Bool, true, false, Some, None, refl}}, specs.Prelude.{map, nat_eq, not, if◌then◌else◌}}
-use Rattle.hc_effects.proofs.Vocabulary.{given_in, shows_in, Event, Act, Limits, poll_refusal, accepted_acts, poll_acts, loss_acts, closing, denial, gate, Flaw, NoFlaw, Misreads, Move, acts_of, poll_move, Tables, evicted}
+use Rattle.hc_effects.proofs.Vocabulary.{given_in, shows_in, Event, Act, Limits, poll_refusal, accepted_acts, poll_acts, loss_acts, closing, denial, gate, Flaw, NoFlaw, Misreads, Move, acts_of, poll_move, Tables, evicted, act}
 use Rattle.hc_event.specs.declared.event.Event.TheVariants as event
-use Rattle.hc_event.specs.declared.act.Act.TheVariants as act
 use Rattle.hc_event.specs.declared.act.Refusal.TheVariants as refusal
 use Rattle.hc_rules.specs.Refusals as refusals
-use Rattle.hc_effects.proofs.{PieceServes.{IsQuietActs, quiet_acts}}
+use Rattle.hc_effects.proofs.PieceServes.{IsQuietActs, quiet_acts}
 
 -- acts that neither give nor show anything to c
 pub record IsFar (c : ℕ) (acts : List Act) : Type 0 where

@@ -1,9 +1,8 @@
 -- What exchanges name is there, and none without a head is a representation.
 use Rattle.std.{proofs.{lemmas.Bool.Decides.{nat_tests}, Common.{◌≡◌, ◌⊎◌, inl, inr, ℕ, ◌+◌, ◌<◌, List, Bool, true, Option, Some, None, refl, ap, sym, ◌∙◌, subst, arith}}, specs.Prelude.{is_some, if◌then◌else◌}}
 use Rattle.hc_text.proofs.Basics.{some_inj}
-use Rattle.hc_effects.proofs.Vocabulary.{Opening, opening_in, Event, Response, Limits, Place, accepted_acts, case_at, is_joining, current, is_usable, denial, Entry, exchange_after, exchange_heard, exchange_acted, exchange_made, exchange_opened, aim_of, aim_from, Flaw, representation_after, founded_at, Tables, Exchange, Representation, Consumer, Sound, after_accepted}
+use Rattle.hc_effects.proofs.Vocabulary.{Opening, opening_in, Event, Response, Limits, Place, accepted_acts, case_at, is_joining, current, is_usable, denial, Entry, exchange_after, exchange_heard, exchange_acted, exchange_made, exchange_opened, aim_of, aim_from, Flaw, representation_after, founded_at, Tables, Exchange, Representation, Consumer, Sound, after_accepted, place}
 use Rattle.hc_event.specs.declared.event.Event.TheVariants as event
-use Rattle.hc_event.specs.declared.place.Place.TheVariants as place
 use Rattle.hc_model.specs.Laws.{NamesAreKept}
 use Rattle.hc_model.specs.Sound as sound
 use Rattle.hc_effects.proofs.{Basics.{some_none}, NumbersKeep.{opens_next, founded_none, representation_none}, PieceKeeps.{eq_cases}, PollKeeps.{find_passes}}

@@ -1,14 +1,8 @@
 -- What an exchange is opened as: past the store, with the turn, for a first hole, or for a later one of who is bound.
 use Rattle.std.proofs.{lemmas.Bool.Decides.{nat_tests}, Common.{arith, ◌≡◌, ℕ, ◌+◌, true, false, Option, Some, None, refl, ap, sym, ◌∙◌, subst}}
 use Rattle.hc_range.specs.declared.range.Span.{Span}
-use Rattle.hc_effects.proofs.Vocabulary.{Opening, Request, Need, Why, Plan, ReadStep, route_of, plan_of, read_step, class_of, is_bypassing, is_disabled, range_of, wanted_of, Place, BoundBy, current, row_of, first_hole, Move, Nothing, Fails, Opens, opens_hole, plan_view, plan_move, origin_request, current_row, binds_current, hole_of, shows_at, move_of, bound_to, Tables, Representation, Consumer, Sound, read_view, step_move, later_hole, bound_row}
-use Rattle.hc_event.specs.declared.act.Cause.TheVariants as cause
-use Rattle.hc_event.specs.declared.act.Need.TheVariants as need
-use Rattle.hc_event.specs.declared.act.Wait.TheVariants as wait
-use Rattle.hc_rules.specs.declared.need.Route.TheVariants as route
+use Rattle.hc_effects.proofs.Vocabulary.{Opening, Request, Need, Why, Plan, ReadStep, route_of, plan_of, read_step, class_of, is_bypassing, is_disabled, range_of, wanted_of, Place, BoundBy, current, row_of, first_hole, Move, Nothing, Fails, Opens, opens_hole, plan_view, plan_move, origin_request, current_row, binds_current, hole_of, shows_at, move_of, bound_to, Tables, Representation, Consumer, Sound, read_view, step_move, later_hole, bound_row, cause, need, wait, route, wanted, place}
 use Rattle.hc_rules.specs.declared.reading.ReadStep.TheVariants as step
-use Rattle.hc_rules.specs.declared.request.Wanted.TheVariants as wanted
-use Rattle.hc_event.specs.declared.place.Place.TheVariants as place
 use Rattle.hc_model.specs.Moves as moves
 use Rattle.hc_effects.proofs.{Asked.{Asked, AskedBy, plan_asks}, MoveBy.{MoveBy, IsHeard, move_by}, PlanBy.{PlanBy, plan_by}, Said.{IsOpening}, ShownFrom.{candidate_is}, MoveWords.{at_as, binds_as, gives_as, waits_as}}
 use Rattle.hc_effects.proofs.MoveBy as by

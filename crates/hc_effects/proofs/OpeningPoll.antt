@@ -1,9 +1,7 @@
 -- A poll that opens an exchange closes, loses and evicts nothing, and nobody leaves by it.
 use Rattle.std.{proofs.Common.{◌≡◌, inl, inr, ℕ, List, [], ◌∷◌, ◌++◌, Bool, true, false, cond, Option, Some, None, refl, ap, sym, ◌∙◌, subst}, specs.{Prelude.{map, ◌&&◌}, Option.{option_or}}}
 use Rattle.hc_text.proofs.Basics.{and_left, and_right, not_some as none_some, never_true as not_so, or_cases}
-use Rattle.hc_effects.proofs.Vocabulary.{Opening, opening_in, leaves_in, closes_in, evicts_in, is_denied, Event, Act, LostKind, Limits, showing_in, loses_in, misreads_in, leaver_in, without_losses, poll_acts, loss_acts, case_at, case_of, closing, must_close, is_refused, is_doomed, brings_head, has_no_survivor, is_left, leaver, is_number, doomed_key_of, is_key, Entry, family, Flaw, NoFlaw, Loses, Misreads, flaw_in, entry_of, Opens, acts_of, poll_move, Tables, Exchange, Representation, may_stand, may_be, Sound, loses_writing, written_representation, seals_at, first_found, lossless, sealed_by}
-use Rattle.hc_event.specs.declared.event.Event.TheVariants as event
-use Rattle.hc_event.specs.declared.act.Act.TheVariants as act
+use Rattle.hc_effects.proofs.Vocabulary.{Opening, opening_in, leaves_in, closes_in, evicts_in, is_denied, Event, Act, LostKind, Limits, showing_in, loses_in, misreads_in, leaver_in, without_losses, poll_acts, loss_acts, case_at, case_of, closing, must_close, is_refused, is_doomed, brings_head, has_no_survivor, is_left, leaver, is_number, doomed_key_of, is_key, Entry, family, Flaw, NoFlaw, Loses, Misreads, flaw_in, entry_of, Opens, acts_of, poll_move, Tables, Exchange, Representation, may_stand, may_be, Sound, loses_writing, written_representation, seals_at, first_found, lossless, sealed_by, event, act}
 use Rattle.hc_effects.proofs.{Basics.{false_true}, Closed.{before}, PollKeeps.{closes_open_none}, SaidActs.{closes_leave}, Unclosed.{had_to, had_row}, KeyActs.{closes_lossless}, ActParts.{evicts_closed, leaver_lost}}
 
 -- ACTS BEHIND AN OPENING

@@ -1,8 +1,6 @@
 -- An exchange for a hole is opened for a consumer that is bound to nothing only where nobody is bound to what is current.
 use Rattle.std.proofs.{lemmas.Bool.Decides.{nat_tests}, Common.{arith, ◌≡◌, ℕ, [], Some, None}}
-use Rattle.hc_effects.proofs.Vocabulary.{Opening, Need, route_of, current, Move, move_of, bound, bound_to, Tables, Consumer, Sound}
-use Rattle.hc_event.specs.declared.act.Need.TheVariants as need
-use Rattle.hc_rules.specs.declared.need.Route.TheVariants as route
+use Rattle.hc_effects.proofs.Vocabulary.{Opening, Need, route_of, current, Move, move_of, bound, bound_to, Tables, Consumer, Sound, need, route}
 use Rattle.hc_effects.proofs.{PollTree.{OpensHole, FineMove, fine_polled}, Said.{IsOpening}}
 use Rattle.hc_effects.proofs.PollTree as tree
 use Rattle.hc_effects.proofs.Said as said

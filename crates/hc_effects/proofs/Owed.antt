@@ -1,7 +1,6 @@
 -- What an entry of a run is: denied by the first refusal, or accepted, with the acts that are owed.
 use Rattle.std.proofs.{lemmas.Bool.Decides.{nat_tests}, Common.{arith, ◌≡◌, ℕ, List, [], ◌∷◌, true, false, Option, None, refl, ap, sym, ◌∙◌}}
-use Rattle.hc_effects.proofs.Vocabulary.{opening_in, is_denied, given_in, Act, Refusal, Limits, loses_in, answer, accepted_acts, denied_or, denial, Entry, flaw_in, shown_in, Tables, IsOwed}
-use Rattle.hc_event.specs.declared.act.Act.TheVariants as act
+use Rattle.hc_effects.proofs.Vocabulary.{opening_in, is_denied, given_in, Act, Refusal, Limits, loses_in, answer, accepted_acts, denied_or, denial, Entry, flaw_in, shown_in, Tables, IsOwed, act}
 
 goes_by : (o : Option Refusal) (acts : List Act) → is_denied (denied_or o acts) ≡ false → o ≡ None
 goes_by o acts h = grind (arith, nat_tests)

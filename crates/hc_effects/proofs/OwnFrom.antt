@@ -2,9 +2,7 @@
 use Rattle.std.{proofs.{Common.{◌≡◌, ◌⊎◌, inl, inr, ℕ, Bool, true, false, Option, Some, None, refl, ap, ◌∙◌, arith}, lemmas.Bool.Decides.{nat_tests}}, specs.Prelude.{◌==◌, ◌&&◌}}
 use Rattle.hc_text.proofs.Basics.{and_right as right, and_left, not_some as none_some, bool_cases, some_inj}
 use Rattle.hc_effects.proofs.{Basics.{number_is}, PieceKeeps.{eq_cases}}
-use Rattle.hc_effects.proofs.Vocabulary.{Opening, opening_in, Event, Place, BoundBy, consumer_heard, by_head, by_fault, by_opening, own_after, left_to, waiting, consumer_acted, consumer_settled, consumer_made, consumer_after, due_after, is_number, Entry, Tables, Exchange, Representation, Consumer, starts_over, loses_writing, survivor}
-use Rattle.hc_event.specs.declared.event.Event.TheVariants as event
-use Rattle.hc_event.specs.declared.place.Place.TheVariants as place
+use Rattle.hc_effects.proofs.Vocabulary.{Opening, opening_in, Event, Place, BoundBy, consumer_heard, by_head, by_fault, by_opening, own_after, left_to, waiting, consumer_acted, consumer_settled, consumer_made, consumer_after, due_after, is_number, Entry, Tables, Exchange, Representation, Consumer, starts_over, loses_writing, survivor, event, place}
 
 module _ (t : Tables) (e : Entry) (c x : ℕ) where
   pub heard_own : (ev : Event) (k : Consumer) → (consumer_heard t e c ev k).own ≡ Some x → k.own ≡ Some x

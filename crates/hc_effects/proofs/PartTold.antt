@@ -3,10 +3,8 @@ use Rattle.std.{proofs.{Common.{◌≡◌, inl, inr, ℕ, ◌+◌, ◌-◌, ◌<
 use Rattle.hc_text.proofs.Basics.{bool_cases, not_some as none_some, some_inj}
 use Rattle.hc_fields.specs.{FieldElements.{elements_in}, FieldList.{values_of}, FirstValues.{only_of}}
 use Rattle.hc_range.specs.declared.range.Asked.{Asked, TheVariants.{FromTo, From, Last}}
-use Rattle.hc_range.specs.declared.range.ContentRange.TheVariants as range
-use Rattle.hc_effects.proofs.Vocabulary.{Request, Response, Need, Length, Route, length_of, base_of, promise_of, is_bad, part_length, agrees, content_length_of, has_no_body, tells_part, route_of, content_range_of, content_range_in, spec_in, positions_from, positions_by, from_to, number_of, split_at, hyphen}
+use Rattle.hc_effects.proofs.Vocabulary.{range, route, Request, Response, Need, Length, Route, length_of, base_of, promise_of, is_bad, part_length, agrees, content_length_of, has_no_body, tells_part, route_of, content_range_of, content_range_in, spec_in, positions_from, positions_by, from_to, number_of, split_at, hyphen}
 use Rattle.hc_rules.specs.declared.length.Length.TheVariants as told
-use Rattle.hc_rules.specs.declared.need.Route.TheVariants as route
 use Rattle.hc_rules.specs.RangeTexts.{response_in, response_from, content_range_from, with_total, without_part, slash}
 
 -- POSITIONS IN ORDER

@@ -1,8 +1,6 @@
 -- What a poll does that opens an exchange past the store.
 use Rattle.std.proofs.{lemmas.Bool.Decides.{nat_tests}, Common.{arith, ◌≡◌, ℕ, [], Some, None, refl, ap, sym, ◌∙◌}}
-use Rattle.hc_effects.proofs.Vocabulary.{Need, Request, route_of, Limits, opened_place, unless_bound, current, bypassed_for, Does, with_event, with_consumer, with_opening, just_opened, NoFlaw, Lawful, Opens, acts_of, move_of, bound_to, Tables, Consumer, is_hole}
-use Rattle.hc_event.specs.declared.event.Event.TheVariants as event
-use Rattle.hc_rules.specs.declared.need.Route.TheVariants as route
+use Rattle.hc_effects.proofs.Vocabulary.{Need, Request, route_of, Limits, opened_place, unless_bound, current, bypassed_for, Does, with_event, with_consumer, with_opening, just_opened, NoFlaw, Lawful, Opens, acts_of, move_of, bound_to, Tables, Consumer, is_hole, event, route}
 use Rattle.hc_event.specs.declared.place.Place.TheVariants as place
 use Rattle.hc_effects.proofs.{Basics.{false_true}, OpenEffects.{why, keeps_all, binds_none, about_current}, OpenedAs.{free_by}, PollEffects.{none_waits}}
 

@@ -1,9 +1,8 @@
 -- A piece keeps what open exchanges are still to bring absent.
 use Rattle.std.{proofs.{Common.{◌≡◌, ◌≢◌, ◌⊎◌, inl, inr, ℕ, ◌+◌, ◌≤◌, List, [], ◌++◌, length, Bool, true, false, cond, Option, Some, None, refl, ap, sym, ◌∙◌, arith, subst, length-append}, lemmas.Bool.Decides.{nat_tests}}, specs.Prelude.{is_some, nat_eq}}
 use Rattle.hc_text.proofs.Basics.{and_right, same_some as same_row, some_inj}
-use Rattle.hc_effects.proofs.Vocabulary.{opening_in, Act, Need, Entry, exchange_after, exchange_heard, exchange_acted, base, promised_bytes, front, family, representation_after, Tables, Exchange, Representation, Waits, Sound, OneAbout, IsAbout, IsPromised, InHole, after_accepted}
+use Rattle.hc_effects.proofs.Vocabulary.{opening_in, Act, Need, Entry, exchange_after, exchange_heard, exchange_acted, base, promised_bytes, front, family, representation_after, Tables, Exchange, Representation, Waits, Sound, OneAbout, IsAbout, IsPromised, InHole, after_accepted, need}
 use Rattle.hc_event.specs.declared.event.Event.TheVariants as event
-use Rattle.hc_event.specs.declared.act.Need.TheVariants as need
 use Rattle.hc_sparse.specs.Cells.{Cells, cells_with}
 use Rattle.hc_sparse.proofs.CellLemmas.{inside-past}
 use Rattle.hc_model.specs.Sound as sound

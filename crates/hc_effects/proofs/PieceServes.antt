@@ -1,8 +1,7 @@
 -- A piece, whether the store takes it or loses it, leaves each bound consumer served.
 use Rattle.std.{proofs.{lemmas.Bool.Decides.{nat_tests}, Common.{arith, ◌≡◌, ℕ, List, [], ◌∷◌, ◌++◌, Bool, true, false, cond, Option, Some, None, refl, ap, sym, ◌∙◌, subst}}, specs.{Prelude.{map}, Option.{option_or}}}
 use Rattle.hc_text.proofs.Basics.{some_inj}
-use Rattle.hc_effects.proofs.Vocabulary.{opening_in, shows_in, given_in, leaves_in, Act, wait_in, showing_in, loss_acts, consumer_after, consumer_acted, consumer_settled, own_after, Entry, becomes_due, Flaw, Loses, reads, Tables, Consumer, starts_over, BoundBy}
-use Rattle.hc_event.specs.declared.act.Act.TheVariants as act
+use Rattle.hc_effects.proofs.Vocabulary.{opening_in, shows_in, given_in, leaves_in, Act, wait_in, showing_in, loss_acts, consumer_after, consumer_acted, consumer_settled, own_after, Entry, becomes_due, Flaw, Loses, reads, Tables, Consumer, starts_over, BoundBy, act}
 use Rattle.hc_event.specs.declared.place.Place.TheVariants as place
 use Rattle.hc_effects.proofs.PieceKeeps.{of_piece}
 

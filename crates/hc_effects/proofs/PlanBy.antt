@@ -2,11 +2,7 @@
 use Rattle.std.{proofs.Common.{◌≡◌, ℕ, true, false, Option, Some, None, refl}, specs.Prelude.{is_none, ◌&&◌}}
 use Rattle.hc_text.proofs.Basics.{and_left, and_right, either}
 use Rattle.hc_range.specs.declared.range.Span.{Span}
-use Rattle.hc_effects.proofs.Vocabulary.{Need, Why, Wanted, Plan, Candidate, PlanView, route_of, plan_of, bare_plan, in_time, from_store, by_current, by_why, by_wanted, by_exclusive, by_hole, by_bound, plan_on, why_by}
-use Rattle.hc_event.specs.declared.act.Need.TheVariants as need
-use Rattle.hc_rules.specs.declared.need.Route.TheVariants as route
-use Rattle.hc_rules.specs.declared.request.Wanted.TheVariants as wanted
-use Rattle.hc_rules.specs.declared.plan.Plan.TheVariants as plan
+use Rattle.hc_effects.proofs.Vocabulary.{Need, Why, Wanted, Plan, Candidate, PlanView, route_of, plan_of, bare_plan, in_time, from_store, by_current, by_why, by_wanted, by_exclusive, by_hole, by_bound, plan_on, why_by, need, route, wanted, plan}
 use Rattle.hc_effects.proofs.Joining.{mix}
 
 -- what is current is read whole, as it is written

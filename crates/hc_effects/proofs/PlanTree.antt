@@ -1,10 +1,8 @@
 -- What a plan may open: a first hole alone of what is current, with nobody bound to it.
 use Rattle.std.proofs.Common.{◌≡◌, ◌≢◌, ℕ, Option, Some, None, refl}
 use Rattle.hc_range.specs.declared.range.Span.{Span}
-use Rattle.hc_effects.proofs.Vocabulary.{Need, Why, Wanted, Plan, Candidate, PlanView, plan_of, bare_plan, in_time, from_store, by_current, by_why, by_wanted, by_exclusive, by_hole, by_bound, why_by}
-use Rattle.hc_event.specs.declared.act.Need.TheVariants as need
+use Rattle.hc_effects.proofs.Vocabulary.{Need, Why, Wanted, Plan, Candidate, PlanView, plan_of, bare_plan, in_time, from_store, by_current, by_why, by_wanted, by_exclusive, by_hole, by_bound, why_by, need, plan}
 use Rattle.hc_rules.specs.declared.request.Wanted.TheVariants as wanted
-use Rattle.hc_rules.specs.declared.plan.Plan.TheVariants as plan
 use Rattle.hc_effects.proofs.Joining.{mix}
 
 -- the hole is the first of the span that is wanted of what is current, and nobody is bound to that

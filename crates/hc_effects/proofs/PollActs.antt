@@ -1,9 +1,8 @@
 -- What an entry shows and gives to one consumer: nothing, but for the move of its own poll.
 use Rattle.std.{proofs.{Common.{◌≡◌, inl, inr, ℕ, List, [], ◌∷◌, ◌++◌, true, false, Option, Some, None, refl, ap, sym, subst, arith}, lemmas.Bool.Decides.{nat_tests}}, specs.Prelude.{map, nat_eq}}
 use Rattle.hc_sparse.specs.declared.run.Run.{Run}
-use Rattle.hc_effects.proofs.Vocabulary.{given_in, shows_in, Event, Response, Act, Why, Limits, showing_in, accepted_acts, poll_acts, loss_acts, closing, Flaw, Misreads, shown_in, Move, Shows, Gives, acts_of, poll_move, move_of, Tables, Consumer}
+use Rattle.hc_effects.proofs.Vocabulary.{given_in, shows_in, Event, Response, Act, Why, Limits, showing_in, accepted_acts, poll_acts, loss_acts, closing, Flaw, Misreads, shown_in, Move, Shows, Gives, acts_of, poll_move, move_of, Tables, Consumer, act}
 use Rattle.hc_event.specs.declared.event.Event.TheVariants as event
-use Rattle.hc_event.specs.declared.act.Act.TheVariants as act
 use Rattle.hc_effects.proofs.{Basics.{append_none}, Named.{IsFar, far_told, far_poll, far_closes, far_lost}, PieceKeeps.{eq_cases}, ShownOnce.{unshown_of}}
 
 module _ (t : Tables) (now c : ℕ) where

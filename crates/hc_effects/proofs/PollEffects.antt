@@ -1,10 +1,8 @@
 -- What a poll does after which its consumer stays: its acts, what it leaves as it was, and its consumer.
 use Rattle.std.{proofs.{lemmas.Bool.Decides.{nat_tests}, Common.{arith, ◌≡◌, ℕ, List, [], ◌++◌, false, Option, Some, None, refl, ap, ◌∙◌, subst}}, specs.Prelude.{nat_eq, if◌then◌else◌, map}}
 use Rattle.hc_sparse.specs.declared.run.Run.{Run}
-use Rattle.hc_effects.proofs.Vocabulary.{opening_in, closes_in, evicts_in, Act, Need, Wait, Why, Event, Request, Response, Limits, Place, loses_in, misreads_in, leaver_in, accepted_acts, answer_acts, closing, consumer_after, consumer_acted, bypass_key, Does, with_event, with_consumer, let_all_go, Entry, exchange_after, NoFlaw, becomes_gone, goes_in, Lawful, Move, Asks, Opens, Shows, Gives, acts_of, move_of, poll_move, reads, Tables, Exchange, Representation, Consumer, loses_what_it_waits_for, after_accepted, opened_after, openings_after, to_front, binds}
-use Rattle.hc_event.specs.declared.act.Act.TheVariants as act
+use Rattle.hc_effects.proofs.Vocabulary.{opening_in, closes_in, evicts_in, Act, Need, Wait, Why, Event, Request, Response, Limits, Place, loses_in, misreads_in, leaver_in, accepted_acts, answer_acts, closing, consumer_after, consumer_acted, bypass_key, Does, with_event, with_consumer, let_all_go, Entry, exchange_after, NoFlaw, becomes_gone, goes_in, Lawful, Move, Asks, Opens, Shows, Gives, acts_of, move_of, poll_move, reads, Tables, Exchange, Representation, Consumer, loses_what_it_waits_for, after_accepted, opened_after, openings_after, to_front, binds, act, place}
 use Rattle.hc_event.specs.declared.event.Event.TheVariants as event
-use Rattle.hc_event.specs.declared.place.Place.TheVariants as place
 use Rattle.hc_model.specs.Moves as moves
 use Rattle.hc_effects.proofs.{ActParts.{IsFarFrom, far_closed, far_other}, Basics.{append_none}, ConsumerEffects.{after_by, waits_as, others, representations}, FewClosings.{closes_nothing}, OfConsumers.{BringsNothing, brings_nothing, little, goes_nothing, consumer_itself}, SameTables.{is_in, waits_for_any}, Tests.{and_false}, Untouched.{goes_from}}
 use Rattle.hc_effects.proofs.OfConsumers as event_of

@@ -2,10 +2,8 @@
 use Rattle.std.{proofs.{lemmas.Bool.Decides.{nat_tests}, Common.{◌≡◌, inl, inr, ℕ, ◌+◌, ◌<◌, ◌≤◌, List, [], ◌∷◌, ◌++◌, Bool, true, false, cond, Option, Some, None, refl, ap, sym, ◌∙◌, subst, arith}}, specs.Prelude.{find, map, ◌&&◌}}
 use Rattle.hc_text.proofs.Basics.{and_right, both_true as and_true, bool_cases, not_true, same_some as same_row, some_inj}
 use Rattle.hc_sparse.specs.{Cells.{Cells, Cell}, Stretch.{stretch}}
-use Rattle.hc_effects.proofs.Vocabulary.{Opening, opening_in, Request, Act, Need, poll_acts, loss_acts, accepted_acts, closing, current, is_usable, is_number, Entry, aim_of, aim_from, Flaw, NoFlaw, Loses, Misreads, stretch_to, Move, Opens, acts_of, poll_move, offset, Tables, Representation, Consumer, Sound, OneAbout, IsAbout, InHole, IsExclusiveWriter, held_of_lost, after_accepted, Place, Limits}
+use Rattle.hc_effects.proofs.Vocabulary.{Opening, opening_in, Request, Act, Need, poll_acts, loss_acts, accepted_acts, closing, current, is_usable, is_number, Entry, aim_of, aim_from, Flaw, NoFlaw, Loses, Misreads, stretch_to, Move, Opens, acts_of, poll_move, offset, Tables, Representation, Consumer, Sound, OneAbout, IsAbout, InHole, IsExclusiveWriter, held_of_lost, after_accepted, Place, Limits, act, need}
 use Rattle.hc_event.specs.declared.event.Event.TheVariants as event
-use Rattle.hc_event.specs.declared.act.Act.TheVariants as act
-use Rattle.hc_event.specs.declared.act.Need.TheVariants as need
 use Rattle.hc_model.specs.Sound.{Waits as StillWaits}
 use Rattle.hc_model.specs.Sound as sound
 use Rattle.hc_effects.proofs.{ExclusiveWriters.{IsAtHole, has_exclusive_writer, none_about, none_about_hole}, QuietKeeps.{OpensWell, waits_kept, one_about_kept}, HolesOpened.{first_absent, later_absent}, PollTree.{OpensHole, FineMove, fine_polled}, Basics.{number_yes as is_same}}

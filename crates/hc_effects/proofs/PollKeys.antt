@@ -1,10 +1,8 @@
 -- What a poll asks for and opens is of its consumer's key.
-use Rattle.std.{proofs.{lemmas.Bool.Decides.{nat_tests}, Common.{arith, ◌≡◌, ℕ, true, false, Option, Some, None, refl, ap, sym, ◌∙◌}}, specs.{Prelude.{if◌then◌else◌}}}
+use Rattle.std.{proofs.{lemmas.Bool.Decides.{nat_tests}, Common.{arith, ◌≡◌, ℕ, true, false, Option, Some, None, refl, ap, sym, ◌∙◌}}, specs.Prelude.{if◌then◌else◌}}
 use Rattle.hc_range.specs.declared.range.Span.{Span}
 use Rattle.hc_sparse.specs.declared.run.Run.{Run}
-use Rattle.hc_effects.proofs.Vocabulary.{Request, Response, Need, Wait, Why, Cause, Plan, plan_of, Place, Tables, Representation, Consumer, current, reads, hi_of, source, Move, Nothing, Asks, Opens, Shows, Gives, Ends, Fails, opens_hole, plan_view, plan_move, planned_move, origin_request, conditional_on, current_row, bound_row, later_hole, reading, by_place, poll_move}
-use Rattle.hc_event.specs.declared.act.Need.TheVariants as need
-use Rattle.hc_rules.specs.declared.plan.Plan.TheVariants as plan
+use Rattle.hc_effects.proofs.Vocabulary.{Request, Response, Need, Wait, Why, Cause, Plan, plan_of, Place, Tables, Representation, Consumer, current, reads, hi_of, source, Move, Nothing, Asks, Opens, Shows, Gives, Ends, Fails, opens_hole, plan_view, plan_move, planned_move, origin_request, conditional_on, current_row, bound_row, later_hole, reading, by_place, poll_move, need, plan}
 use Rattle.hc_event.specs.declared.place.Place.TheVariants as place
 use Rattle.hc_model.specs.Moves as moves
 use Rattle.hc_effects.proofs.{Joining.{mix}, MoveWords.{at_as, binds_as, move_as, reading_as, waits_as}}

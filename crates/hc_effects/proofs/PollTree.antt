@@ -7,8 +7,7 @@ use Rattle.std.{proofs.{Common.{◌≡◌, ◌≢◌, ℕ, ◌+◌, ◌<◌, Lis
 use Rattle.hc_text.proofs.Basics.{none_of as not_some, some_inj}
 use Rattle.hc_range.specs.declared.range.Span.{Span}
 use Rattle.hc_sparse.specs.{Cells.{Cells, Cell}, Runs.{end_of}, Stretch.{stretch}, declared.run.Run.{Run}}
-use Rattle.hc_effects.proofs.Vocabulary.{Request, Response, Need, Wait, Why, Cause, Plan, Candidate, ReadStep, ReadView, least, lesser, read_step, is_at_end, hole_end, stored_or, held_or, fails_or, waits_or, Place, BoundBy, Tables, Representation, Consumer, current, row_of, first_hole, hole_at, next_from, bound, bound_to, offset, hi_of, own_open, source, aim_from, Move, Nothing, Asks, Opens, Shows, Gives, Ends, Fails, opens_hole, gives, plan_view, plan_move, planned_move, candidate, candidate_at, hole_of, bound_row, stored_ahead, stored_from, run_held_for, held_at, held_of_lost, read_view, later_hole, step_move, reading, most, shows_head, if_headless, by_place, poll_move, Sound}
-use Rattle.hc_event.specs.declared.act.Need.TheVariants as need
+use Rattle.hc_effects.proofs.Vocabulary.{Request, Response, Need, Wait, Why, Cause, Plan, Candidate, ReadStep, ReadView, least, lesser, read_step, is_at_end, hole_end, stored_or, held_or, fails_or, waits_or, Place, BoundBy, Tables, Representation, Consumer, current, row_of, first_hole, hole_at, next_from, bound, bound_to, offset, hi_of, own_open, source, aim_from, Move, Nothing, Asks, Opens, Shows, Gives, Ends, Fails, opens_hole, gives, plan_view, plan_move, planned_move, candidate, candidate_at, hole_of, bound_row, stored_ahead, stored_from, run_held_for, held_at, held_of_lost, read_view, later_hole, step_move, reading, most, shows_head, if_headless, by_place, poll_move, Sound, need}
 use Rattle.hc_rules.specs.declared.reading.ReadStep.TheVariants as step
 use Rattle.hc_rules.specs.Readings as readings
 use Rattle.hc_event.specs.declared.place.Place.TheVariants as place

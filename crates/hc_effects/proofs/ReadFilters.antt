@@ -1,8 +1,7 @@
 -- What a consumer was shown and given is a filter of the list of entries.
 use Rattle.std.{proofs.{lemmas.Bool.Decides.{nat_tests}, Common.{◌≡◌, inl, inr, ℕ, ◌+◌, List, [], ◌∷◌, ◌++◌, length, Bool, true, false, Option, Some, None, refl, ap, sym, ◌∙◌, length-append, arith}}, specs.{Prelude.{◌==◌, ◌||◌, ◌&&◌, not, is_none}, Option.{option_map_or}}}
 use Rattle.hc_text.proofs.Basics.{bool_cases}
-use Rattle.hc_effects.proofs.Vocabulary.{is_denied, given_in, shows_in, Event, Act, Limits, Entry, History, Contents, flaw_in, Tables, Consumer, starts_over, consumer_after, consumer_made, consumer_heard, consumer_acted, tables, after, IsRun, IsOwed, Shown, first, given_of, shown_of, shown_in}
-use Rattle.hc_event.specs.declared.act.Act.TheVariants as act
+use Rattle.hc_effects.proofs.Vocabulary.{is_denied, given_in, shows_in, Event, Act, Limits, Entry, History, Contents, flaw_in, Tables, Consumer, starts_over, consumer_after, consumer_made, consumer_heard, consumer_acted, tables, after, IsRun, IsOwed, Shown, first, given_of, shown_of, shown_in, act}
 use Rattle.hc_model.specs.Histories.{ConsumersAreFiltered}
 use Rattle.hc_effects.proofs.{Owed.{goes, acts_are, denied_gives, denied_shows}, Named.{IsFar, far}, ConsumerFilters.{acted, given_by, shown_by, requests_are, starts_are}}
 

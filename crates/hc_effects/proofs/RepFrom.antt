@@ -1,8 +1,7 @@
 -- Where the row of a representation after an entry is from: it was there, or it is founded.
 use Rattle.std.{proofs.{Common.{◌≡◌, ◌⊎◌, inl, inr, ℕ, List, Bool, true, false, Option, Some, None, refl, ap, sym, ◌∙◌, subst, arith}, lemmas.Bool.Decides.{nat_tests}}, specs.{Prelude.{if◌then◌else◌, ◌==◌, ◌||◌, ◌&&◌, option_map, is_some}, Option.{option_or}}}
 use Rattle.hc_text.proofs.Basics.{not_some as none_some, and_right as right, and_left as left, bool_cases, some_inj}
-use Rattle.hc_effects.proofs.Vocabulary.{Event, Response, loses_in, case_at, is_founding, is_joining, Entry, representation_after, representation_heard, representation_acted, founded_at, new_representation, representation_after_head, with_renewed_head, updates, resumes, representation_after_piece, with_total_if_none, length_in, Tables, Exchange, Representation}
-use Rattle.hc_event.specs.declared.event.Event.TheVariants as event
+use Rattle.hc_effects.proofs.Vocabulary.{Event, Response, loses_in, case_at, is_founding, is_joining, Entry, representation_after, representation_heard, representation_acted, founded_at, new_representation, representation_after_head, with_renewed_head, updates, resumes, representation_after_piece, with_total_if_none, length_in, Tables, Exchange, Representation, event}
 use Rattle.hc_effects.proofs.PieceKeeps.{eq_cases}
 
 -- the writing of r begins again: this joining head resumes it

@@ -1,9 +1,8 @@
 -- Whatever the acts of an accepted event say of a consumer, its poll says, by its move.
 use Rattle.std.{proofs.{lemmas.Bool.Decides.{nat_tests}, Common.{arith, ◌≡◌, inl, inr, ℕ, List, [], ◌∷◌, ◌++◌, true, Option, Some, None, refl, ap, sym, ◌∙◌, subst}}, specs.Prelude.{map, ◌||◌, nat_eq}}
 use Rattle.hc_text.proofs.Basics.{not_some as none_some, some_inj}
-use Rattle.hc_effects.proofs.Vocabulary.{Opening, opening_in, leaves_in, shows_in, Event, Request, Response, Act, Cause, Need, Wait, Why, Limits, Showing, showing_in, wait_in, accepted_acts, poll_acts, loss_acts, closing, denial, is_live, Flaw, Loses, Misreads, Move, Asks, Opens, Shows, Ends, Fails, acts_of, move_of, Tables, Consumer, Sound, evicted}
+use Rattle.hc_effects.proofs.Vocabulary.{Opening, opening_in, leaves_in, shows_in, Event, Request, Response, Act, Cause, Need, Wait, Why, Limits, Showing, showing_in, wait_in, accepted_acts, poll_acts, loss_acts, closing, denial, is_live, Flaw, Loses, Misreads, Move, Asks, Opens, Shows, Ends, Fails, acts_of, move_of, Tables, Consumer, Sound, evicted, act}
 use Rattle.hc_event.specs.declared.event.Event.TheVariants as event
-use Rattle.hc_event.specs.declared.act.Act.TheVariants as act
 use Rattle.hc_event.specs.declared.act.Cause.TheVariants as cause
 use Rattle.hc_event.specs.declared.act.Wait.TheVariants as wait
 use Rattle.hc_rules.specs.Refusals as refusals

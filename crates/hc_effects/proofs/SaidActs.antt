@@ -2,9 +2,8 @@
 use Rattle.std.{proofs.{Common.{◌≡◌, ℕ, List, [], ◌∷◌, ◌++◌, Bool, true, false, Some, None, refl, ap, sym, ◌∙◌, arith}, lemmas.Bool.Decides.{nat_tests}}, specs.Prelude.{map, ◌||◌, nat_eq}}
 use Rattle.hc_effects.proofs.{Basics.{false_true}, Closed.{before}, PieceServes.{quiet_acts}}
 use Rattle.hc_text.proofs.Basics.{or_false}
-use Rattle.hc_effects.proofs.Vocabulary.{leaves_in, Event, Act, Limits, has_loss, leaver_in, accepted_acts, poll_acts, loss_acts, closing, leaver_by, Flaw, NoFlaw, Misreads, Move, Ends, Fails, acts_of, poll_move, Tables, Sound, evicted}
+use Rattle.hc_effects.proofs.Vocabulary.{leaves_in, Event, Act, Limits, has_loss, leaver_in, accepted_acts, poll_acts, loss_acts, closing, leaver_by, Flaw, NoFlaw, Misreads, Move, Ends, Fails, acts_of, poll_move, Tables, Sound, evicted, act}
 use Rattle.hc_event.specs.declared.event.Event.TheVariants as event
-use Rattle.hc_event.specs.declared.act.Act.TheVariants as act
 
 -- LOSSES
 

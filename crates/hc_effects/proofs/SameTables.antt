@@ -1,9 +1,8 @@
 -- Tables whose parts are the same are the same, and what lists of effects come to.
-use Rattle.std.{proofs.{lemmas.Bool.Decides.{nat_tests}, Common.{arith, ◌≡◌, ℕ, List, [], ◌∷◌, Bool, true, false, Option, Some, None, refl, ap, ap₂, ◌∙◌}}, specs.{Prelude.{◌==◌, ◌||◌, if◌then◌else◌, option_map}}}
+use Rattle.std.{proofs.{lemmas.Bool.Decides.{nat_tests}, Common.{arith, ◌≡◌, ℕ, List, [], ◌∷◌, Bool, true, false, Option, Some, None, refl, ap, ap₂, ◌∙◌}}, specs.Prelude.{◌==◌, ◌||◌, if◌then◌else◌, option_map}}
 use Rattle.hc_text.proofs.Basics.{or_false as or_off}
 use mathlib.Core.Path.{fun_ext}
-use Rattle.hc_effects.proofs.Vocabulary.{Place, back_in_line, is_number, back_from, as_gone, let_go, let_all_go, let_some_go, over, tables_after_close, all_closed, with_length, Tables, Exchange, Representation, Consumer, with_item_first}
-use Rattle.hc_event.specs.declared.place.Place.TheVariants as place
+use Rattle.hc_effects.proofs.Vocabulary.{Place, back_in_line, is_number, back_from, as_gone, let_go, let_all_go, let_some_go, over, tables_after_close, all_closed, with_length, Tables, Exchange, Representation, Consumer, with_item_first, place}
 use Rattle.hc_model.specs.Effects.{waits_for}
 
 -- PARTS

@@ -1,8 +1,7 @@
 -- What it does that a consumer leaves and the seal of what it leaves fails: that is lost, and let go.
 use Rattle.std.{proofs.{lemmas.Bool.Decides.{nat_tests}, Common.{arith, ◌≡◌, inl, inr, ℕ, List, [], ◌∷◌, ◌++◌, Bool, true, false, Option, Some, None, refl, ap, sym, ◌∙◌, subst}}, specs.Prelude.{◌||◌, ◌==◌, nat_eq, if◌then◌else◌, map, option_map}}
 use Rattle.hc_text.proofs.Basics.{eqb-same}
-use Rattle.hc_effects.proofs.Vocabulary.{Act, Cause, LostKind, Event, Limits, loses_in, answer_acts, is_number, Does, with_event, with_consumer, with_representation, let_go, as_gone, as_over, left_by, is_unkeepable, going_with, with_leave, lost_to, Entry, family, Flaw, Loses, becomes_gone, Lawful, Ends, Fails, acts_of, move_of, poll_move, representation_after, representation_acted, Tables, Exchange, Representation, Consumer, loses_what_it_waits_for, after_accepted, with_item_first, exclusive}
-use Rattle.hc_event.specs.declared.act.Act.TheVariants as act
+use Rattle.hc_effects.proofs.Vocabulary.{Act, Cause, LostKind, Event, Limits, loses_in, answer_acts, is_number, Does, with_event, with_consumer, with_representation, let_go, as_gone, as_over, left_by, is_unkeepable, going_with, with_leave, lost_to, Entry, family, Flaw, Loses, becomes_gone, Lawful, Ends, Fails, acts_of, move_of, poll_move, representation_after, representation_acted, Tables, Exchange, Representation, Consumer, loses_what_it_waits_for, after_accepted, with_item_first, exclusive, act}
 use Rattle.hc_event.specs.declared.event.Event.TheVariants as event
 use Rattle.hc_effects.proofs.{Basics.{number_is}, FailsTold.{fails_told}, KeyActs.{test_some}, LeaveFrames.{IsFront, e, nothing, far, acts_left, loses_as, goes_by, leaves}, OfConsumers.{BringsNothing}, PieceKeeps.{eq_cases}, SameTables.{is_in, all_closed_is}, Untouched.{representation_frame, representation_absent}}
 use Rattle.hc_effects.proofs.LeaveFrames as front_of

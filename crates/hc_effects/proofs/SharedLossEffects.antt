@@ -2,12 +2,9 @@
 use Rattle.std.{proofs.{lemmas.Bool.Decides.{nat_tests}, Common.{arith, ◌≡◌, inl, inr, ℕ, ◌+◌, List, [], ◌∷◌, ◌++◌, Bool, true, false, Option, Some, None, refl, ap, sym, ◌∙◌, subst}}, specs.{Prelude.{◌&&◌, ◌||◌, ◌==◌, not, nat_eq, length, is_some, is_none, if◌then◌else◌, map, filter, reverse, option_map}, Option.{option_or}}}
 use mathlib.Core.Path.{fun_ext}
 use Rattle.hc_text.proofs.Basics.{both_true as and_both, eqb-same, not_some as none_some, or_none as or_nothing, same_some as same_row, some_inj, and_off as then_false}
-use Rattle.hc_event.specs.declared.act.Act.TheVariants as act
-use Rattle.hc_effects.proofs.Vocabulary.{Cause, LostKind, piece_refusal, Limits, Place, BoundBy, loses_in, loss_acts, closing, closes_row, has_no_survivor, own_after, left_to, is_number, denial, as_open, Does, with_event, with_exchange, with_representation, left_with, if_bound, writing_lost, let_go, let_all_go, over, all_closed, lost_to, unless_reached, Entry, with_piece, family, front, becomes_due, cause_of_loss, cause_by_loss, Flaw, Loses, beside, becomes_gone, Lawful, is_bound_place, is_written, reads, with_stored_bytes, Tables, Exchange, Representation, Consumer, with_item_first, evicted, survivor, loses_writing}
-use Rattle.hc_event.specs.declared.act.Cause.TheVariants as cause
+use Rattle.hc_effects.proofs.Vocabulary.{act, cause, place, Cause, LostKind, piece_refusal, Limits, Place, BoundBy, loses_in, loss_acts, closing, closes_row, has_no_survivor, own_after, left_to, is_number, denial, as_open, Does, with_event, with_exchange, with_representation, left_with, if_bound, writing_lost, let_go, let_all_go, over, all_closed, lost_to, unless_reached, Entry, with_piece, family, front, becomes_due, cause_of_loss, cause_by_loss, Flaw, Loses, beside, becomes_gone, Lawful, is_bound_place, is_written, reads, with_stored_bytes, Tables, Exchange, Representation, Consumer, with_item_first, evicted, survivor, loses_writing}
 use Rattle.hc_event.specs.declared.event.Event.TheVariants as event
 use Rattle.hc_rules.specs.Refusals as refusals
-use Rattle.hc_event.specs.declared.place.Place.TheVariants as place
 use Rattle.hc_model.specs.Sound as sound
 use Rattle.hc_effects.proofs.{ApartKeeps.{is_on}, Basics.{false_true, number_yes}, Closed.{reversed}, Dues.{stop_none}, FewClosings.{ClosesLittle, closes_nothing}, Frames.{undoomed}, OfConsumers.{one_of, descends_once}, Once.{IsTaken, taken}, ExclusiveWriters.{writer_some}, PieceEffects.{it, piece_goes, piece_brings, rows_by, lost_row}, PieceKeeps.{eq_cases}, SameTables.{is_in, back_from_any, all_closed_is}, Stops.{writer_about}, Sums.{reverse_once}, Tests.{and_false}, ToldFrames.{pieces, says_little, beside_same, consumer_by, told_by, told_does}, Untouched.{IsSpared, loss_spared}, ActParts.{leaver_lost}}
 

@@ -1,10 +1,9 @@
 -- What a poll does that shows a head: to who reads already, or by its plan, which binds.
 use Rattle.std.proofs.Common.{◌≡◌, ℕ, [], true, false, Option, Some, None, refl, ap, sym, ◌∙◌}
 use Rattle.hc_text.proofs.Basics.{eqb-same, plus_none}
-use Rattle.hc_effects.proofs.Vocabulary.{Why, Response, Limits, consumer_acted, Does, with_event, used_last, with_consumer, Entry, NoFlaw, Lawful, Shows, acts_of, move_of, reads, Tables, Consumer, to_front, binds}
+use Rattle.hc_effects.proofs.Vocabulary.{Why, Response, Limits, consumer_acted, Does, with_event, used_last, with_consumer, Entry, NoFlaw, Lawful, Shows, acts_of, move_of, reads, Tables, Consumer, to_front, binds, by}
 use Rattle.hc_event.specs.declared.event.Event.TheVariants as event
 use Rattle.hc_event.specs.declared.place.Place.TheVariants as place
-use Rattle.hc_event.specs.declared.place.BoundBy.TheVariants as by
 use Rattle.hc_effects.proofs.{Basics.{false_true}, OfConsumers.{BringsNothing, brings_nothing, binds_as, exchanges_stay}, PollEffects.{none_waits, nothing_goes, poll_does}, Untouched.{own_stays, spared_bodiless}}
 use Rattle.hc_effects.proofs.OfConsumers as event_of
 use Rattle.hc_effects.proofs.PollEffects as polls

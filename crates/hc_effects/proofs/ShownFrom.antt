@@ -2,10 +2,7 @@
 use Rattle.std.{proofs.{lemmas.Bool.Decides.{nat_tests}, Common.{arith, ◌≡◌, ℕ, ◌+◌, Bool, true, false, Option, Some, None, refl, ap, sym, ◌∙◌}}, specs.Option.{option_map}}
 use Rattle.hc_text.proofs.Basics.{not_some as none_some, same_some as same_row, some_inj}
 use Rattle.hc_range.specs.declared.range.Span.{Span}
-use Rattle.hc_effects.proofs.Vocabulary.{Response, Request, Why, Plan, Candidate, least, plan_of, class_of, is_disabled, range_of, wanted_of, Place, Showing, current, total_in, first_hole, Move, Nothing, Fails, Shows, opens_hole, shows_stored, plan_view, plan_move, origin_request, candidate, hole_of, binds_current, shows_at, move_of, is_written, bound, bound_to, reads, Tables, Representation, Consumer, Sound, exclusive}
-use Rattle.hc_event.specs.declared.act.Cause.TheVariants as cause
-use Rattle.hc_event.specs.declared.act.Wait.TheVariants as wait
-use Rattle.hc_rules.specs.declared.request.Wanted.TheVariants as wanted
+use Rattle.hc_effects.proofs.Vocabulary.{Response, Request, Why, Plan, Candidate, least, plan_of, class_of, is_disabled, range_of, wanted_of, Place, Showing, current, total_in, first_hole, Move, Nothing, Fails, Shows, opens_hole, shows_stored, plan_view, plan_move, origin_request, candidate, hole_of, binds_current, shows_at, move_of, is_written, bound, bound_to, reads, Tables, Representation, Consumer, Sound, exclusive, cause, wait, wanted}
 use Rattle.hc_model.specs.Moves as moves
 use Rattle.hc_effects.proofs.{Basics.{false_true}, MoveBy.{MoveBy, IsHeard, move_by}, PlanBy.{PlanBy, plan_by}, Said.{IsShowing}, ShownOnce.{is_showing, shown_shows}}
 use Rattle.hc_effects.proofs.MoveBy as by

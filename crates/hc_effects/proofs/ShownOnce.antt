@@ -2,10 +2,8 @@
 use Rattle.std.{proofs.{lemmas.Bool.Decides.{nat_tests}, Common.{◌≡◌, inl, inr, ℕ, ◌≤◌, List, [], ◌++◌, length, Bool, true, false, Option, Some, None, refl, ap, sym, ◌∙◌, subst, arith}}, specs.{Prelude.{map, not, is_none}, Option.{option_and_then}}}
 use Rattle.hc_text.proofs.Basics.{cond_true, same_some as same_row}
 use Rattle.hc_range.specs.declared.range.Span.{Span}
-use Rattle.hc_effects.proofs.Vocabulary.{given_in, Event, Act, Plan, ReadStep, read_step, Place, Move, Shows, Gives, acts_of, gives, plan_move, poll_move, move_of, by_place, shows_head, shows_at, waits_for_head, or_else, Tables, Consumer, step_move, later_hole, read_view, Limits, accepted_acts, poll_acts, loss_acts, closing, Flaw, Misreads, Shown, first, shown_in, own_open, if_headless}
+use Rattle.hc_effects.proofs.Vocabulary.{given_in, Event, Act, Plan, ReadStep, read_step, Place, Move, Shows, Gives, acts_of, gives, plan_move, poll_move, move_of, by_place, shows_head, shows_at, waits_for_head, or_else, Tables, Consumer, step_move, later_hole, read_view, Limits, accepted_acts, poll_acts, loss_acts, closing, Flaw, Misreads, Shown, first, shown_in, own_open, if_headless, act, place}
 use Rattle.hc_event.specs.declared.event.Event.TheVariants as event
-use Rattle.hc_event.specs.declared.act.Act.TheVariants as act
-use Rattle.hc_event.specs.declared.place.Place.TheVariants as place
 use Rattle.hc_effects.proofs.{Named.{IsFar, far_told, far_poll, far_closes, far_lost}, PieceKeeps.{eq_cases}, ReadFilters.{shows_are}, MoveWords.{at_as, hole_as, move_as, step_as, waits_as}}
 
 -- A MOVE THAT SHOWS, AND ONE THAT GIVES

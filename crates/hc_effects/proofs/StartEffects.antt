@@ -1,7 +1,6 @@
 -- What a start does.
 use Rattle.std.{proofs.{Common.{◌≡◌, ℕ, [], ◌∷◌, ◌++◌, true, Some, None, refl, ap, ◌∙◌, arith}, lemmas.Bool.Decides.{nat_tests}}, specs.Prelude.{nat_eq, map}}
-use Rattle.hc_event.specs.declared.act.Act.TheVariants as act
-use Rattle.hc_effects.proofs.Vocabulary.{Event, Request, Limits, accepted_acts, closing, new_consumer, consumer_after, denial, Does, with_event, with_start, Entry, entry_without_acts, NoFlaw, Lawful, Tables, after_accepted}
+use Rattle.hc_effects.proofs.Vocabulary.{act, Event, Request, Limits, accepted_acts, closing, new_consumer, consumer_after, denial, Does, with_event, with_start, Entry, entry_without_acts, NoFlaw, Lawful, Tables, after_accepted}
 use Rattle.hc_event.specs.declared.event.Event.TheVariants as event
 use Rattle.hc_rules.specs.Refusals as refusals
 use Rattle.hc_effects.proofs.{ActParts.{far_closed}, ConsumerEffects.{after_by, others, representations}, FewClosings.{closes_nothing, evicts_nothing}, OfConsumers.{BringsNothing, brings_nothing, little, goes_nothing, exchanges_stay, binds_none}}

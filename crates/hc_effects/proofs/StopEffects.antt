@@ -1,9 +1,7 @@
 -- What an end or a fault does of an exchange that is read past the store, and a fault before the head of one.
 use Rattle.std.{proofs.{lemmas.Bool.Decides.{nat_tests}, Common.{arith, ◌≡◌, inl, inr, ℕ, [], Bool, true, false, Option, Some, None, refl, ap, sym, ◌∙◌, subst}}, specs.Prelude.{◌&&◌, ◌==◌, not, nat_eq, is_some, is_none, if◌then◌else◌, option_map}}
 use Rattle.hc_text.proofs.Basics.{eqb-same, same_some as same_row}
-use Rattle.hc_event.specs.declared.act.Cause.TheVariants as cause
-use Rattle.hc_effects.proofs.Vocabulary.{Event, Response, Limits, consumer_after, consumer_heard, consumer_acted, consumer_settled, by_fault, is_number, denial, Does, with_event, with_consumer, with_exchange, with_due, put_down, over, at_end, going_with, Entry, family, promised_bytes, short_of, NoFlaw, beside, becomes_gone, Lawful, Awaits, IsAwaiting, reads, representation_after, Tables, Exchange, Representation, Consumer, starts_over}
-use Rattle.hc_event.specs.declared.event.Event.TheVariants as event
+use Rattle.hc_effects.proofs.Vocabulary.{cause, event, Event, Response, Limits, consumer_after, consumer_heard, consumer_acted, consumer_settled, by_fault, is_number, denial, Does, with_event, with_consumer, with_exchange, with_due, put_down, over, at_end, going_with, Entry, family, promised_bytes, short_of, NoFlaw, beside, becomes_gone, Lawful, Awaits, IsAwaiting, reads, representation_after, Tables, Exchange, Representation, Consumer, starts_over}
 use Rattle.hc_event.specs.declared.place.Place.TheVariants as place
 use Rattle.hc_model.specs.Owners as owners
 use Rattle.hc_effects.proofs.{Basics.{true_false, false_true}, Frames.{undoomed}, PieceKeeps.{eq_cases}, PollEffects.{none_waits}, SameTables.{is_in, waits_for_any, back_from_any}, Standing.{acted}, StopFrames.{Stops, end_stops, fault_stops, end_of, fault_of, reads_own, it, goes_with, row_by, unhit, fails, stop_does, others_by}, ToldFrames.{far, starts_is}}

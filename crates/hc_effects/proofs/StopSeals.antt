@@ -1,10 +1,7 @@
 -- What an end or a fault does of what brings a representation: who reads from it fails or knows its end, and it is sealed, let go or lost.
 use Rattle.std.{proofs.{lemmas.Bool.Decides.{nat_tests}, Common.{arith, ◌≡◌, inl, inr, ℕ, [], ◌∷◌, Bool, true, false, Option, Some, None, refl, ap, sym, ◌∙◌, subst}}, specs.Prelude.{◌||◌, ◌==◌, nat_eq, length, is_some, if◌then◌else◌, option_map}}
 use Rattle.hc_text.proofs.Basics.{eqb-same}
-use Rattle.hc_event.specs.declared.act.Act.TheVariants as act
-use Rattle.hc_effects.proofs.Vocabulary.{Cause, LostKind, Event, is_same_number, Limits, consumer_heard, by_fault, is_number, denial, Does, with_event, with_exchange, with_due, with_dues, with_length, with_loss, if_bound, failing, let_go, let_some_go, as_gone, over, at_end, lost_to, going_with, family, promised_bytes, short_of, Flaw, NoFlaw, Loses, becomes_gone, is_short, Lawful, is_bound, is_written, reads, source, representation_after, representation_heard, Tables, Exchange, Representation, Consumer, with_item_first, exclusive}
-use Rattle.hc_event.specs.declared.act.Cause.TheVariants as cause
-use Rattle.hc_event.specs.declared.event.Event.TheVariants as event
+use Rattle.hc_effects.proofs.Vocabulary.{act, cause, event, Cause, LostKind, Event, is_same_number, Limits, consumer_heard, by_fault, is_number, denial, Does, with_event, with_exchange, with_due, with_dues, with_length, with_loss, if_bound, failing, let_go, let_some_go, as_gone, over, at_end, lost_to, going_with, family, promised_bytes, short_of, Flaw, NoFlaw, Loses, becomes_gone, is_short, Lawful, is_bound, is_written, reads, source, representation_after, representation_heard, Tables, Exchange, Representation, Consumer, with_item_first, exclusive}
 use Rattle.hc_effects.proofs.{ConsumerEffects.{some_all}, PieceKeeps.{eq_cases}, SameTables.{is_in, in_one}, StopFrames.{Stops, IsEnding, end_stops, fault_stops, end_of, fault_of, reads_own, reads_shared, it, going, goes_with, longer_row, heard_is, row_by, fails, stop_does, others_by}, ToldFrames.{lost_by}}
 
 module _ (limits : Limits) (t : Tables) (law : Lawful t) (now x : ℕ) (w : Exchange) (row : t.exchange x ≡ Some w) (r : ℕ) (v : Representation) (of_r : family x w ≡ r) (there : t.representation r ≡ Some v) where

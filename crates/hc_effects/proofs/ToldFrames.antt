@@ -1,8 +1,7 @@
 -- What a piece, an end, a fault or a doom comes to but for what makes room: what is lost and closed, and who and what stays or is let go.
 use Rattle.std.{proofs.{lemmas.Bool.Decides.{nat_tests}, Common.{arith, ◌≡◌, inl, inr, ℕ, List, [], ◌++◌, Bool, true, false, Option, Some, None, refl, ap, sym, ◌∙◌, subst}}, specs.Prelude.{◌&&◌, ◌||◌, ◌==◌, not, nat_eq, if◌then◌else◌, map, option_map}}
 use Rattle.hc_text.proofs.Basics.{not_some as none_some, or_false as or_off}
-use Rattle.hc_effects.proofs.Vocabulary.{opening_in, asks_in, closes_in, evicts_in, Act, Event, Limits, loses_in, misreads_in, loss_acts, answer_acts, is_asked, case_at, case_of, is_founding, closing, consumer_after, consumer_heard, consumer_made, due_after, back_in_line, is_current, denial, doomed_key_of, is_key, Does, with_event, as_gone, let_all_go, over, lost_to, Entry, entry_without_acts, evict_all, unevicting, exchange_after, exchange_heard, exchange_acted, exchange_at, exchange_in, becomes_due, Flaw, beside, becomes_gone, goes_by_exchange, ends_early, is_keepable, Lawful, reads, representation_after, representation_heard, representation_acted, founded_at, Tables, Exchange, Representation, Consumer, starts_over, waits_at, after_accepted, with_item_first, starts_after, last_start_after, opened_after, openings_after, to_front, founds, evicted, write_in, goes_on_with}
-use Rattle.hc_event.specs.declared.act.Act.TheVariants as act
+use Rattle.hc_effects.proofs.Vocabulary.{opening_in, asks_in, closes_in, evicts_in, Act, Event, Limits, loses_in, misreads_in, loss_acts, answer_acts, is_asked, case_at, case_of, is_founding, closing, consumer_after, consumer_heard, consumer_made, due_after, back_in_line, is_current, denial, doomed_key_of, is_key, Does, with_event, as_gone, let_all_go, over, lost_to, Entry, entry_without_acts, evict_all, unevicting, exchange_after, exchange_heard, exchange_acted, exchange_at, exchange_in, becomes_due, Flaw, beside, becomes_gone, goes_by_exchange, ends_early, is_keepable, Lawful, reads, representation_after, representation_heard, representation_acted, founded_at, Tables, Exchange, Representation, Consumer, starts_over, waits_at, after_accepted, with_item_first, starts_after, last_start_after, opened_after, openings_after, to_front, founds, evicted, write_in, goes_on_with, act}
 use Rattle.hc_event.specs.declared.event.Event.TheVariants as event
 use Rattle.hc_text.specs.declared.names.Key.{Key}
 use Rattle.hc_effects.proofs.{ActParts.{IsFarFrom, asks_lost, asks_closes, closes_lost, loses_before, evicts_lost, evicts_closes, far_loss, far_closed}, ConsumerEffects.{waits_as}, EvictsLast.{evictions_come_last}, FewClosings.{evicts_nothing}, LeaveFrames.{closes_are}, PieceKeeps.{eq_cases}, PieceServes.{quiet_acts}, SameTables.{same_tables, is_in, waits_for_any, back_from_any, without, all_go_is}, Standing.{after_heard}, Untouched.{IsSpared, own_stays, due_stays, exchange_absent, representation_absent, consumer_absent, starts_as, binds_nobody, unheard}}

@@ -1,9 +1,6 @@
 -- What a poll does that opens an exchange with the turn: past what is stored, what is current is let go.
 use Rattle.std.{proofs.{lemmas.Bool.Decides.{nat_tests}, Common.{arith, ◌≡◌, ◌≢◌, ℕ, [], Bool, true, false, Some, None, refl, ap, sym, ◌∙◌}}, specs.Prelude.{◌&&◌, ◌||◌, bytes_eq}}
-use Rattle.hc_effects.proofs.Vocabulary.{Need, Request, route_of, Limits, Place, opened_place, unless_bound, current, is_current, bypassed_for, Does, with_event, with_consumer, with_opening, just_opened, let_some_go, Entry, NoFlaw, becomes_gone, Lawful, Opens, acts_of, move_of, bound_to, Tables, Representation, Consumer, with_item_first, is_hole}
-use Rattle.hc_event.specs.declared.act.Need.TheVariants as need
-use Rattle.hc_event.specs.declared.event.Event.TheVariants as event
-use Rattle.hc_rules.specs.declared.need.Route.TheVariants as route
+use Rattle.hc_effects.proofs.Vocabulary.{Need, Request, route_of, Limits, Place, opened_place, unless_bound, current, is_current, bypassed_for, Does, with_event, with_consumer, with_opening, just_opened, let_some_go, Entry, NoFlaw, becomes_gone, Lawful, Opens, acts_of, move_of, bound_to, Tables, Representation, Consumer, with_item_first, is_hole, need, event, route}
 use Rattle.hc_event.specs.declared.place.Place.TheVariants as place
 use Rattle.hc_effects.proofs.{Basics.{false_true}, ConsumerEffects.{some_all}, KeyNames.{current_test}, OfConsumers.{BringsNothing, goes_as, ends_none}, OpenEffects.{e, nothing, why, keeps_all, binds_none, about_current}, OpenedAs.{OpenedAs, free_by}, PollEffects.{none_waits}, SameTables.{is_in, in_one, waits_for_any}, WaitEffects.{unread_undue}}
 

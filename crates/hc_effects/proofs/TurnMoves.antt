@@ -7,14 +7,8 @@ use Rattle.std.{proofs.{lemmas.Bool.Decides.{nat_tests}, Common.{arith, ◌≡�
 use Rattle.hc_text.proofs.Basics.{not_some as none_some, some_inj}
 use Rattle.hc_range.specs.declared.range.Span.{Span}
 use Rattle.hc_sparse.specs.declared.run.Run.{Run}
-use Rattle.hc_effects.proofs.Vocabulary.{Request, Response, Need, Why, Cause, Candidate, Plan, PlanView, route_of, plan_of, class_of, is_bypassing, is_disabled, is_only, wanted_of, range_of, Place, BoundBy, opened_place, place_for_hole, bound_to_wanted, kept_by, current, row_of, HasPassed, Turns, turn_with, Move, Nothing, Asks, Opens, Shows, Gives, Ends, Fails, opens_hole, plan_view, plan_move, planned_move, has_passed, candidate, candidate_at, current_row, shows_head, has_joined, if_headless, by_place, poll_move, bound_to, hi_of, own_open, Tables, Representation, Consumer, Sound, bound_row, later_hole, reading}
-use Rattle.hc_event.specs.declared.act.Need.TheVariants as need
-use Rattle.hc_event.specs.declared.act.Wait.TheVariants as wait
+use Rattle.hc_effects.proofs.Vocabulary.{Request, Response, Need, Why, Cause, Candidate, Plan, PlanView, route_of, plan_of, class_of, is_bypassing, is_disabled, is_only, wanted_of, range_of, Place, BoundBy, opened_place, place_for_hole, bound_to_wanted, kept_by, current, row_of, HasPassed, Turns, turn_with, Move, Nothing, Asks, Opens, Shows, Gives, Ends, Fails, opens_hole, plan_view, plan_move, planned_move, has_passed, candidate, candidate_at, current_row, shows_head, has_joined, if_headless, by_place, poll_move, bound_to, hi_of, own_open, Tables, Representation, Consumer, Sound, bound_row, later_hole, reading, need, wait, route, wanted, place, by}
 use Rattle.hc_fresh.specs.Vary.{matches_vary}
-use Rattle.hc_rules.specs.declared.need.Route.TheVariants as route
-use Rattle.hc_rules.specs.declared.request.Wanted.TheVariants as wanted
-use Rattle.hc_event.specs.declared.place.Place.TheVariants as place
-use Rattle.hc_event.specs.declared.place.BoundBy.TheVariants as by
 use Rattle.hc_model.specs.Moves as moves
 use Rattle.hc_effects.proofs.{MoveWords.{at_as, binds_as, move_as, never_plans, reading_as, waits_as}, TurnPlans.{Planned, IsVaried, IsQueueing, plan_is}}
 use Rattle.hc_effects.proofs.TurnPlans as plans

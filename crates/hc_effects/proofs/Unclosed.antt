@@ -1,9 +1,8 @@
 -- What is closed had to be.
 use Rattle.std.{proofs.{Common.{◌≡◌, ◌⊎◌, inl, inr, ℕ, List, [], ◌∷◌, ◌++◌, Bool, true, Option, Some, None, ap, sym, ◌∙◌, arith}, lemmas.Bool.Decides.{nat_tests}}, specs.Prelude.{map, filter, reverse, nat_eq}}
 use Rattle.hc_text.proofs.Basics.{and_left, and_right, bool_cases, or_cases}
-use Rattle.hc_effects.proofs.Vocabulary.{closes_in, Event, Act, Limits, accepted_acts, poll_acts, loss_acts, closing, closes_row, must_close, exchange_heard, Flaw, NoFlaw, Misreads, Move, acts_of, poll_move, Tables, Exchange, Sound, Among, evicted}
+use Rattle.hc_effects.proofs.Vocabulary.{closes_in, Event, Act, Limits, accepted_acts, poll_acts, loss_acts, closing, closes_row, must_close, exchange_heard, Flaw, NoFlaw, Misreads, Move, acts_of, poll_move, Tables, Exchange, Sound, Among, evicted, act}
 use Rattle.hc_event.specs.declared.event.Event.TheVariants as event
-use Rattle.hc_event.specs.declared.act.Act.TheVariants as act
 use Rattle.hc_effects.proofs.{Basics.{false_true}, Closed.{before}}
 
 among_test : (x : ℕ) (test : ℕ → Bool) (xs : List ℕ) → Among x (filter test xs) → test x ≡ true

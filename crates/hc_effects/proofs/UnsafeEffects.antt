@@ -2,12 +2,8 @@
 use Rattle.std.{proofs.{lemmas.Bool.Decides.{nat_tests}, Common.{arith, ◌≡◌, inl, inr, ℕ, List, [], ◌++◌, Bool, true, false, Option, Some, None, refl, ap, sym, ◌∙◌, subst}}, specs.Prelude.{bytes_eq, ◌&&◌, ◌||◌, not, nat_eq, if◌then◌else◌, is_none, option_map, map, filter, reverse}}
 use Rattle.hc_text.proofs.Basics.{eqb-same, not_some as none_some, some_inj, and_off as then_false}
 use mathlib.Core.Path.{fun_ext}
-use Rattle.hc_event.specs.declared.act.Act.TheVariants as act
-use Rattle.hc_event.specs.declared.act.Cause.TheVariants as cause
-use Rattle.hc_effects.proofs.Vocabulary.{Event, Response, HeadCase, HeadView, Limits, head_case, route_of, Place, accepted_acts, case_at, head_view, is_founding, is_updating, is_joining, closing, closes_row, is_refused, awaits, has_no_survivor, consumer_after, back_in_line, current, is_number, is_current, denial, doomed_key_of, doomed_by_case, changes, is_key, Does, with_event, let_some_go, all_closed, with_consumer, with_answer, sent_back, woken, is_awaited, awaited_and, Entry, promise_in, is_reached, family, cause_by_case, NoFlaw, becomes_gone, goes_by_case, Lawful, IsAwaiting, is_written, Tables, Exchange, Representation, Consumer, sends_back, waits_at, after_accepted, with_item_first}
+use Rattle.hc_effects.proofs.Vocabulary.{act, cause, case, route, Event, Response, HeadCase, HeadView, Limits, head_case, route_of, Place, accepted_acts, case_at, head_view, is_founding, is_updating, is_joining, closing, closes_row, is_refused, awaits, has_no_survivor, consumer_after, back_in_line, current, is_number, is_current, denial, doomed_key_of, doomed_by_case, changes, is_key, Does, with_event, let_some_go, all_closed, with_consumer, with_answer, sent_back, woken, is_awaited, awaited_and, Entry, promise_in, is_reached, family, cause_by_case, NoFlaw, becomes_gone, goes_by_case, Lawful, IsAwaiting, is_written, Tables, Exchange, Representation, Consumer, sends_back, waits_at, after_accepted, with_item_first}
 use Rattle.hc_event.specs.declared.event.Event.TheVariants as event
-use Rattle.hc_rules.specs.declared.heads.HeadCase.TheVariants as case
-use Rattle.hc_rules.specs.declared.need.Route.TheVariants as route
 use Rattle.hc_event.specs.declared.place.Place.TheVariants as place
 use Rattle.hc_model.specs.Owners as owners
 use Rattle.hc_effects.proofs.{ConsumerEffects.{waits_as, some_all}, DoomFrames.{sent_as, awaited_apart}, FoundBy.{CaseBy, case_by}, HeadFacts.{stays_open, new, waiter, undue, case_on, case_before, evicts_none, no_survivor}, HeadFrames.{e, spared_as, heard, doomed_is, goes_as, row_by, other_by, asker_goes_on, after_head}, KeyNames.{current_test}, PieceKeeps.{eq_cases}, PollEffects.{same_consumer}, SameTables.{is_in, in_one, waits_for_any, back_from_any, all_closed_is}, Untouched.{consumer_absent, IsSpared}}

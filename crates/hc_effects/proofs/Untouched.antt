@@ -1,5 +1,5 @@
 -- Whoever and whatever an entry does not speak of stays as it was, but for what becomes gone, and who waits for that.
-use Rattle.std.{proofs.{lemmas.Bool.Decides.{nat_tests}, Common.{arith, ◌≡◌, ℕ, ◌+◌, List, length, Bool, true, false, Option, Some, None, refl, ap, ◌∙◌}}, specs.{Prelude.{◌&&◌, ◌||◌, not, nat_eq, if◌then◌else◌}}}
+use Rattle.std.{proofs.{lemmas.Bool.Decides.{nat_tests}, Common.{arith, ◌≡◌, ℕ, ◌+◌, List, length, Bool, true, false, Option, Some, None, refl, ap, ◌∙◌}}, specs.Prelude.{◌&&◌, ◌||◌, not, nat_eq, if◌then◌else◌}}
 use Rattle.hc_text.proofs.Basics.{plus_none}
 use Rattle.hc_effects.proofs.Vocabulary.{Opening, opening_in, asks_in, closes_in, leaves_in, shows_in, given_in, Act, Event, Place, BoundBy, loses_in, fails_in, Showing, showing_in, case_at, case_of, is_founding, consumer_after, consumer_settled, consumer_acted, consumer_heard, consumer_made, by_opening, waiting, waiting_place, shown_place, own_after, due_after, back_in_line, doomed_key_of, is_key, as_gone, Entry, exchange_after, exchange_heard, exchange_acted, family, exchange_in, exchange_at, is_for, becomes_due, cause_of_stop, cause_of_loss, cause_of_head, becomes_gone, goes_in, reads, is_written, representation_after, representation_heard, founded_at, updates, Tables, Exchange, Representation, Consumer, starts_over, sends_back, waits_at, loses_what_it_waits_for, binds, loses_writing, brings_body}
 use Rattle.hc_event.specs.declared.event.Event.TheVariants as event

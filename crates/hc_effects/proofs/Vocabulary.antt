@@ -136,3 +136,18 @@ pub use Rattle.hc_rules.specs.declared.room.Limits.{Limits}
 pub use Rattle.hc_rules.specs.declared.room.Room.{Room}
 pub use Rattle.hc_rules.specs.declared.room.Write.{Write}
 pub use Rattle.hc_rules.specs.declared.survivor.Member.{Member}
+pub use Rattle.hc_event.specs.declared.act.Act.TheVariants.{the_data as act}
+pub use Rattle.hc_event.specs.declared.act.Cause.TheVariants.{the_data as cause}
+pub use Rattle.hc_event.specs.declared.act.LostKind.TheVariants.{the_data as kind}
+pub use Rattle.hc_event.specs.declared.act.Need.TheVariants.{the_data as need}
+pub use Rattle.hc_event.specs.declared.act.Wait.TheVariants.{the_data as wait}
+pub use Rattle.hc_event.specs.declared.event.Event.TheVariants.{the_data as event}
+pub use Rattle.hc_event.specs.declared.place.BoundBy.TheVariants.{the_data as by}
+pub use Rattle.hc_event.specs.declared.place.Place.TheVariants.{the_data as place}
+pub use Rattle.hc_range.specs.declared.range.ContentRange.TheVariants.{the_data as range}
+pub use Rattle.hc_rules.specs.declared.heads.HeadCase.TheVariants.{the_data as case}
+pub use Rattle.hc_rules.specs.declared.need.Route.TheVariants.{the_data as route}
+pub use Rattle.hc_rules.specs.declared.plan.Plan.TheVariants.{the_data as plan}
+pub use Rattle.hc_rules.specs.declared.request.Wanted.TheVariants.{the_data as wanted}
+pub use Rattle.hc_rules.specs.declared.room.Room.TheVariants.{the_data as room}
+pub use Rattle.hc_rules.specs.declared.room.Write.TheVariants.{the_data as write}

@@ -1,8 +1,7 @@
 -- What a poll does that waits.
 use Rattle.std.proofs.Common.{◌≡◌, ℕ, [], false, Option, Some, None, refl, ap, sym, ◌∙◌, subst}
 use Rattle.hc_text.proofs.Basics.{eqb-same, plus_none}
-use Rattle.hc_effects.proofs.Vocabulary.{Wait, Response, Limits, Place, waiting_place, consumer_acted, Does, with_event, with_consumer, Entry, NoFlaw, Lawful, acts_of, move_of, shows_at, shows_direct, shows_answer, reads, bound_to, Tables, Exchange, Consumer}
-use Rattle.hc_event.specs.declared.act.Wait.TheVariants as wait
+use Rattle.hc_effects.proofs.Vocabulary.{Wait, Response, Limits, Place, waiting_place, consumer_acted, Does, with_event, with_consumer, Entry, NoFlaw, Lawful, acts_of, move_of, shows_at, shows_direct, shows_answer, reads, bound_to, Tables, Exchange, Consumer, wait}
 use Rattle.hc_event.specs.declared.event.Event.TheVariants as event
 use Rattle.hc_event.specs.declared.place.Place.TheVariants as place
 use Rattle.hc_model.specs.Moves as moves

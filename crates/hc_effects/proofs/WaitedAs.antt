@@ -1,10 +1,8 @@
 -- Whoever waits for its turn, or for one who reads, is bound to nothing, and has no open exchange that waits for its head.
 use Rattle.std.proofs.{lemmas.Bool.Decides.{nat_tests}, Common.{arith, ◌≡◌, ℕ, false, Option, Some, None, sym, ◌∙◌}}
 use Rattle.hc_range.specs.declared.range.Span.{Span}
-use Rattle.hc_effects.proofs.Vocabulary.{Request, Wait, Why, Plan, ReadStep, plan_of, read_step, is_bypassing, current, Move, Nothing, Fails, opens_hole, plan_view, plan_move, origin_request, binds_current, current_row, shows_at, move_of, bound_to, Tables, Representation, Consumer, Sound, read_view, step_move, later_hole, bound_row}
+use Rattle.hc_effects.proofs.Vocabulary.{Request, Wait, Why, Plan, ReadStep, plan_of, read_step, is_bypassing, current, Move, Nothing, Fails, opens_hole, plan_view, plan_move, origin_request, binds_current, current_row, shows_at, move_of, bound_to, Tables, Representation, Consumer, Sound, read_view, step_move, later_hole, bound_row, wait, plan}
 use Rattle.hc_event.specs.declared.act.Cause.TheVariants as cause
-use Rattle.hc_event.specs.declared.act.Wait.TheVariants as wait
-use Rattle.hc_rules.specs.declared.plan.Plan.TheVariants as plan
 use Rattle.hc_model.specs.Moves as moves
 use Rattle.hc_effects.proofs.{MoveBy.{MoveBy, IsHeard, move_by}, PlanBy.{PlanBy, plan_by}, Said.{WaitsAs}, OpenedAs.{bypassing_is}, MoveWords.{at_as, binds_as, hole_as, step_as, waits_as}}
 use Rattle.hc_effects.proofs.MoveBy as by

@@ -1,8 +1,7 @@
 -- What is wanted of a range in order is not empty.
 use Rattle.std.{proofs.{Common.{◌≡◌, ℕ, ◌<◌, true, Option, Some, None, refl, subst, arith}, lemmas.Bool.Decides.{nat_tests}}, specs.Prelude.{is_some}}
 use Rattle.hc_range.specs.{Spans.{resolved_span, IsInOrder}, declared.range.{Asked.{Asked}, Span.{Span}}}
-use Rattle.hc_rules.specs.declared.request.Wanted.TheVariants as wanted
-use Rattle.hc_effects.proofs.Vocabulary.{wanted_of, wanted_part}
+use Rattle.hc_effects.proofs.Vocabulary.{wanted, wanted_of, wanted_part}
 use Rattle.hc_effects.proofs.Basics.{false_true}
 
 resolved_some : (asked : Asked) (total : ℕ) (span : Span) → IsInOrder asked → resolved_span asked total ≡ Some span → span.lo < span.hi

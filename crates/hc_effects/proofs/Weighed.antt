@@ -1,9 +1,7 @@
 -- What weighs in the store: what isn't gone, and what somebody reads.
 use Rattle.std.{proofs.{lemmas.Bool.Decides.{nat_tests}, Common.{◌≡◌, ◌⊎◌, inl, inr, ℕ, ◌+◌, ◌≤◌, List, [], ◌∷◌, length, Bool, true, false, Option, Some, None, refl, ap, sym, ◌∙◌, subst, arith}}, specs.{Prelude.{if◌then◌else◌, ◌&&◌, ◌||◌, ◌==◌, not}, List.{list_any, sum_by}}}
 use Rattle.hc_text.proofs.Basics.{and_left, bool_cases, or_cases, or_left, or_right}
-use Rattle.hc_effects.proofs.Vocabulary.{Event, Response, HeadCase, weight_of, loses_in, has_loss, case_at, current, is_current, is_number, doomed_key_of, doomed_in, is_key, Entry, entry_without_acts, front, family, exchange_at, goes_by_case, goes_by_exchange, goes_by_head, goes_itself, ends_early, is_keepable, bound, representation_heard, representation_acted, representation_after_head, with_renewed_head, updates, representation_after_piece, with_stored_bytes, with_total_if_none, length_in, Tables, Exchange, Representation, Consumer, Sound, Among, IsBound, weight, weight_in, weights, moves_on, stays_current, stays_bound}
-use Rattle.hc_event.specs.declared.event.Event.TheVariants as event
-use Rattle.hc_rules.specs.declared.heads.HeadCase.TheVariants as case
+use Rattle.hc_effects.proofs.Vocabulary.{Event, Response, HeadCase, weight_of, loses_in, has_loss, case_at, current, is_current, is_number, doomed_key_of, doomed_in, is_key, Entry, entry_without_acts, front, family, exchange_at, goes_by_case, goes_by_exchange, goes_by_head, goes_itself, ends_early, is_keepable, bound, representation_heard, representation_acted, representation_after_head, with_renewed_head, updates, representation_after_piece, with_stored_bytes, with_total_if_none, length_in, Tables, Exchange, Representation, Consumer, Sound, Among, IsBound, weight, weight_in, weights, moves_on, stays_current, stays_bound, event, case}
 use Rattle.hc_effects.proofs.{Basics.{false_true, number_is, number_yes}, CurrentKeeps.{current_is}, HasBound.{reader_of}, PieceKeeps.{eq_cases}, ExclusiveWriters.{bound_some}, PollKeeps.{current_stays}, RepFrom.{IsKept}, Sums.{sum_le}}
 
 -- WHAT WEIGHS

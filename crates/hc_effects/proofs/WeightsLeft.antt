@@ -1,8 +1,7 @@
 -- What all weighs once some were let go, or a consumer isn't bound any more, and how few give way to a write.
 use Rattle.std.{proofs.{Common.{◌≡◌, inl, inr, ℕ, ◌+◌, ◌≤◌, List, [], ◌∷◌, length, take, Bool, true, false, Option, Some, None, refl, ap, sym, ◌∙◌, subst, arith}, lemmas.Bool.Decides.{nat_tests}}, specs.{Prelude.{is_some, ◌&&◌, ◌||◌, ◌==◌, not, nat_eq, if◌then◌else◌, option_map, map, filter, reverse}, List.{sum_by}}}
 use Rattle.hc_text.proofs.Basics.{and_right, bool_cases}
-use Rattle.hc_effects.proofs.Vocabulary.{Limits, Write, room_of, gives_way, grown_by, weight_of, idle_now, current, is_current, as_gone, let_all_go, with_consumer, MayLetGo, MayMakeRoom, weight_now, weights_now, room_now, giving_way, AreOnce, bound, is_bound, is_bound_place, Tables, Representation, Consumer, Among}
-use Rattle.hc_rules.specs.declared.room.Room.TheVariants as room
+use Rattle.hc_effects.proofs.Vocabulary.{Limits, Write, room_of, gives_way, grown_by, weight_of, idle_now, current, is_current, as_gone, let_all_go, with_consumer, MayLetGo, MayMakeRoom, weight_now, weights_now, room_now, giving_way, AreOnce, bound, is_bound, is_bound_place, Tables, Representation, Consumer, Among, room}
 use Rattle.hc_model.specs.{Contents.{is_idle}, LettingGo.{weight_in, first_idle}}
 use Rattle.hc_effects.proofs.{Basics.{same_functions, false_true}, FewGiveWay.{AreHeavy, one_gives, two_give}, LettingGo.{bound_all, current_all}, SameTables.{all_go_is}, Sums.{is_in, in_among, among_of, sum_le, sum_two, sum_some, gives_enough, filter_among, filter_once, take_among, take_once, reverse_once}, Weighed.{held, has_some, total}}
 use Rattle.hc_effects.proofs.SameTables as tables

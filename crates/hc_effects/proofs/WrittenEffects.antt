@@ -2,13 +2,8 @@
 use Rattle.std.{proofs.{lemmas.Bool.Decides.{nat_tests}, Common.{arith, ◌≡◌, inl, inr, ℕ, ◌+◌, List, [], ◌∷◌, ◌++◌, Bool, true, false, Option, Some, None, refl, ap, sym, ◌∙◌, subst}}, specs.{Prelude.{◌&&◌, ◌==◌, not, nat_eq, if◌then◌else◌, is_some, option_map, map, filter, reverse}, Option.{option_or}}}
 use mathlib.Core.Path.{fun_ext}
 use Rattle.hc_text.proofs.Basics.{and_left, bool_cases, eqb-same, not_some as none_some, never_true as not_so, not_true, or_false as or_off, same_some as same_row}
-use Rattle.hc_event.specs.declared.act.Act.TheVariants as act
-use Rattle.hc_event.specs.declared.act.Cause.TheVariants as cause
-use Rattle.hc_effects.proofs.Vocabulary.{LostKind, Event, Response, HeadView, Limits, head_case, route_of, Place, BoundBy, accepted_acts, loss_acts, case_at, head_view, is_joining, closing, closes_row, must_close, consumer_after, back_in_line, is_number, denial, doomed_key_of, Does, with_event, as_gone, let_go, all_closed, with_consumer, with_representation, with_answer, lost_to, left_with, if_bound, writing_lost, unless_survived, Entry, exchange_heard, Flaw, Loses, becomes_gone, Lawful, IsAwaiting, is_written, is_bound_place, representation_after, Tables, Exchange, Representation, Consumer, IsBound, after_accepted, loses_writing, survivor}
+use Rattle.hc_effects.proofs.Vocabulary.{act, cause, case, route, place, LostKind, Event, Response, HeadView, Limits, head_case, route_of, Place, BoundBy, accepted_acts, loss_acts, case_at, head_view, is_joining, closing, closes_row, must_close, consumer_after, back_in_line, is_number, denial, doomed_key_of, Does, with_event, as_gone, let_go, all_closed, with_consumer, with_representation, with_answer, lost_to, left_with, if_bound, writing_lost, unless_survived, Entry, exchange_heard, Flaw, Loses, becomes_gone, Lawful, IsAwaiting, is_written, is_bound_place, representation_after, Tables, Exchange, Representation, Consumer, IsBound, after_accepted, loses_writing, survivor}
 use Rattle.hc_event.specs.declared.event.Event.TheVariants as event
-use Rattle.hc_rules.specs.declared.heads.HeadCase.TheVariants as case
-use Rattle.hc_rules.specs.declared.need.Route.TheVariants as route
-use Rattle.hc_event.specs.declared.place.Place.TheVariants as place
 use Rattle.hc_model.specs.Owners as owners
 use Rattle.hc_model.specs.Sound as sound
 use Rattle.hc_effects.proofs.{Basics.{false_true, number_is}, Closed.{reversed}, FoundBy.{CaseBy, case_by, unchanged_founds}, HasBound.{bound_at}, HeadFacts.{new, waiter, undue, case_on, case_before, evicts_none}, HeadFrames.{e, far, loses_as, apart, doomed_is, goes_by, goes_lost, rows_but, row_loses, other_row, asker_goes_back, after_head}, LostFrames.{goes_on_as, member_as, closed_with, writer_now, closed_row, closed_apart, no_survivor_as}, OfConsumers.{one_of, descends_once, and_so}, PieceKeeps.{eq_cases}, PieceServes.{quiet_acts}, SameTables.{is_in, in_one, waits_for_any, back_from_any}, Sums.{reverse_once}, Untouched.{IsSpared, consumer_absent}}

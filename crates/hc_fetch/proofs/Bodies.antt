@@ -6,8 +6,7 @@
 use Rattle.std.{proofs.Common.{◌≡◌, ℕ, zero, suc, ◌+◌, ◌<◌, List, [], ◌∷◌, ◌++◌, length, true, Option, Some, None, refl, ap, sym, ◌∙◌, subst, arith}, specs.{Prelude.{slice_index}, Option.{option_or}}}
 use Rattle.hc_text.proofs.Basics.{not_some as none_some, some_inj}
 use Rattle.hc_sparse.specs.Cells.{Cells, Cell}
-use Rattle.hc_event.specs.declared.act.Act.TheVariants as act
-use Rattle.hc_effects.proofs.Vocabulary.{Limits, may_begin, Entry, History, no_contents, shown_of, Delivers, Says, body_of, Tables, IsRun, tables}
+use Rattle.hc_effects.proofs.Vocabulary.{act, Limits, may_begin, Entry, History, no_contents, shown_of, Delivers, Says, body_of, Tables, IsRun, tables}
 use Rattle.hc_model.specs.Laws.{Grows}
 use Rattle.hc_effects.proofs.Basics.{append_none}
 use Rattle.hc_laws.proofs.{GrowsInRuns.{bodies_grow_in_runs}, ReadNext.{gives_next}}

@@ -6,9 +6,7 @@
 use Rattle.std.{proofs.{Common.{◌≡◌, inl, inr, ℕ, ◌+◌, ◌<◌, ◌≤◌, ◌∷◌, length, Bool, true, false, Option, Some, None, refl, ap, sym, ◌∙◌, subst, arith}, lemmas.Bool.Decides.{nat_tests}}, specs.Prelude.{◌&&◌, nat_le, nat_lt, is_some}}
 use Rattle.hc_text.proofs.Basics.{and_right, bool_cases, not_some as none_some, some_inj}
 use Rattle.hc_sparse.specs.Cells.{Cell}
-use Rattle.hc_effects.proofs.Vocabulary.{is_denied, Event, Response, Limits, may_begin, total_in, denial, Entry, History, Contents, base, front, promised_bytes, length_by, Flaw, flaw_in, entry_of, Measures, Places, end_of_direct, end_in, body_of, cell_by, direct_cell, answer_cell, end_of, end_by, Tables, Exchange, Representation, IsRun, Sound, tables, after_accepted, after_denied}
-use Rattle.hc_event.specs.declared.place.BoundBy.TheVariants as by
-use Rattle.hc_event.specs.declared.place.Place.TheVariants as place
+use Rattle.hc_effects.proofs.Vocabulary.{is_denied, Event, Response, Limits, may_begin, total_in, denial, Entry, History, Contents, base, front, promised_bytes, length_by, Flaw, flaw_in, entry_of, Measures, Places, end_of_direct, end_in, body_of, cell_by, direct_cell, answer_cell, end_of, end_by, Tables, Exchange, Representation, IsRun, Sound, tables, after_accepted, after_denied, by, place}
 use Rattle.hc_effects.proofs.{Basics.{false_true}, FirstKeeps.{is_new}, Forward.{is_on}, RepFrom.{RepFrom, rep_from}, OfEntries.{of_real}, PastApart.{IsHeadedRow}, ShownStays.{IsFallback}}
 use Rattle.hc_effects.proofs.RepFrom as rep
 use Rattle.hc_laws.proofs.{Barred.{next_tables, denied_tables}, PlaceRuns.{places_in_runs}, ReadAs.{hi_stays}, ReadEnds.{no_base}, ReadJoined.{fallback}, SoundRuns.{carried}, PlacesKept.{direct_inj}}

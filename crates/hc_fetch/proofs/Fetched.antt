@@ -6,8 +6,7 @@
 -- brought (`some_written`). What decides is no failure of the input or the output (`own_decided`), so their causes are the course's.
 use Rattle.std.{proofs.{Common.{◌≡◌, ◌≢◌, ℕ, ◌+◌, List, [], ◌∷◌, ◌++◌, length, Bool, true, false, Option, Some, None, refl, ap, sym, ◌∙◌, subst}, lemmas.List.{append-nil}}, specs.{Prelude.{is_some, if◌then◌else◌}, Option.{option_or}}}
 use Rattle.hc_text.proofs.Basics.{nothing_first as nothing_more}
-use Rattle.hc_effects.proofs.Vocabulary.{Act, Limits, History}
-use Rattle.hc_event.specs.declared.act.Act.TheVariants as act
+use Rattle.hc_effects.proofs.Vocabulary.{Act, Limits, History, act}
 use Rattle.hc_io.specs.{Sink.{Takes}, Source.{Gives}}
 use Rattle.hc_sched.specs.{declared.schedule.{Ended.{Ended}, Timed.{Timed}}, Schedule.{events_of}}
 use Rattle.hc_sched.specs.declared.schedule.Ended.TheVariants as course

@@ -4,12 +4,7 @@
 -- that of a poll (`shower`), so what is known of what is shown first holds of it (`first_told`).
 use Rattle.std.{proofs.Common.{◌≡◌, inl, inr, ℕ, List, [], ◌∷◌, ◌++◌, Bool, true, false, Option, Some, None, refl, ap, sym, ◌∙◌, subst}, specs.{Prelude.{◌==◌, ◌&&◌, is_none, if◌then◌else◌}, Option.{option_or}}}
 use Rattle.hc_text.proofs.Basics.{bool_cases, not_some as none_some, some_inj}
-use Rattle.hc_effects.proofs.Vocabulary.{is_denied, shows_in, Act, Why, Event, Response, Limits, answer_acts, may_begin, case_of, consumer_after, new_consumer, current, Entry, History, no_contents, entry_without_acts, exchange_after, Flaw, flaw_in, Shown, shown_in, Move, Nothing, Asks, Opens, Shows, Gives, Ends, Fails, acts_of, move_of, Says, representation_after, Tables, Consumer, IsRun, tables, after_accepted}
-use Rattle.hc_event.specs.declared.act.Act.TheVariants as act
-use Rattle.hc_event.specs.declared.act.Cause.TheVariants as cause
-use Rattle.hc_event.specs.declared.act.Wait.TheVariants as wait
-use Rattle.hc_event.specs.declared.event.Event.TheVariants as event
-use Rattle.hc_event.specs.declared.place.Place.TheVariants as place
+use Rattle.hc_effects.proofs.Vocabulary.{is_denied, shows_in, Act, Why, Event, Response, Limits, answer_acts, may_begin, case_of, consumer_after, new_consumer, current, Entry, History, no_contents, entry_without_acts, exchange_after, Flaw, flaw_in, Shown, shown_in, Move, Nothing, Asks, Opens, Shows, Gives, Ends, Fails, acts_of, move_of, Says, representation_after, Tables, Consumer, IsRun, tables, after_accepted, act, cause, wait, event, place}
 use Rattle.hc_model.specs.Moves as moves
 use Rattle.hc_effects.proofs.{ActParts.{IsSaid, said_is}, Basics.{some_none, or_false}, Owed.{acts_are, denied_shows}, PieceKeeps.{eq_cases}}
 use Rattle.hc_effects.proofs.ActParts as parts

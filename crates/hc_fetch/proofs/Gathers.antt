@@ -6,8 +6,7 @@
 use Rattle.std.{proofs.Common.{◌≡◌, inl, inr, ℕ, zero, suc, ◌+◌, ◌-◌, ◌<◌, ◌≤◌, List, [], ◌∷◌, ◌++◌, length, Bool, Option, Some, None, refl, ap, sym, ◌∙◌, subst, arith}, specs.Prelude.{if◌then◌else◌, slice_index}}
 use Rattle.hc_sparse.specs.Cells.{Cells, Cell, cells_with}
 use Rattle.hc_sparse.proofs.CellLemmas.{inside-cases}
-use Rattle.hc_effects.proofs.Vocabulary.{Act, Delivers, Holds, Says, body_of, Tables}
-use Rattle.hc_event.specs.declared.act.Act.TheVariants as act
+use Rattle.hc_effects.proofs.Vocabulary.{Act, Delivers, Holds, Says, body_of, Tables, act}
 use Rattle.hc_fetch.specs.Gathering.{gathered_in, byte_before, bytes_on}
 
 -- all of this is in the body of r

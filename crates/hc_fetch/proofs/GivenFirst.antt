@@ -7,8 +7,7 @@ use Rattle.std.{proofs.{Common.{◌≡◌, inl, inr, ℕ, ◌+◌, ◌<◌, ◌�
 use Rattle.hc_text.proofs.Basics.{bool_cases, eqb-same}
 use Rattle.hc_sparse.specs.Cells.{Cells, cells_with}
 use Rattle.hc_sparse.proofs.CellLemmas.{inside-cases}
-use Rattle.hc_effects.proofs.Vocabulary.{given_in, Act, Limits, Entry, History, no_contents, Shown, shown_in, shown_of, given_of, ReadsAct, ReadsActs}
-use Rattle.hc_event.specs.declared.act.Act.TheVariants as act
+use Rattle.hc_effects.proofs.Vocabulary.{given_in, Act, Limits, Entry, History, no_contents, Shown, shown_in, shown_of, given_of, ReadsAct, ReadsActs, act}
 use Rattle.hc_model.specs.Reads.{shown_before, given_before}
 use Rattle.hc_effects.proofs.Basics.{append_none}
 use Rattle.hc_laws.proofs.ReadWhole.{runs_read_whole}

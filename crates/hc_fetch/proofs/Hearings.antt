@@ -7,8 +7,7 @@
 use Rattle.std.{proofs.{Common.{◌≡◌, ℕ, suc, ◌+◌, ◌<◌, ◌≤◌, ◌==◌, get_or, drop, length, List, [], ◌∷◌, Bool, true, false, Option, Some, None, refl, ap, sym, ◌∙◌, subst, arith}, Math.Seq.{drop-cons}, lemmas.{Bool.Decides.{nat_tests}, List.{drop_all}}}, specs.{Prelude.{◌||◌, if◌then◌else◌, is_some}, Option.{option_or}}}
 use Rattle.hc_text.proofs.Basics.{not_some as none_some, or_false, or_none}
 use Rattle.hc_sparse.specs.Cells.{Cells, cells_with}
-use Rattle.hc_effects.proofs.Vocabulary.{Act, Why}
-use Rattle.hc_event.specs.declared.act.Act.TheVariants as act
+use Rattle.hc_effects.proofs.Vocabulary.{Act, Why, act}
 use Rattle.hc_effects.proofs.Basics.{false_true}
 use Rattle.hc_fetch.specs.{declared.{ended.FetchEnded.{FetchEnded}, fetching.Fetching.{Fetching}, gathering.Gathered.{Gathered}, plan.FetchPlan.{FetchPlan}}, Ahead.{Fit, KeepsAll, Appends}, Deciding.{by_head, by_heads}, Fetches.{ends_in}, Firsts.{first_as}, Gathering.{gathered_in}, Heads.{Head, heads_in, first_in, total_of}, Hearing.{KeepsOthers, Sees, AllFit, Takes}}
 use Rattle.hc_fetch.proofs.{Aheads.{appends_none, appends_more}, Overs.{appends_over}, Shows.{or_assoc}}

@@ -6,11 +6,8 @@
 -- which that goes: so where it is free again, nothing is current (`free_before`). It goes past the store by a head that isn't bad.
 use Rattle.std.{proofs.Common.{◌≡◌, inl, inr, ℕ, ◌-◌, ◌<◌, ◌^◌, List, [], ◌∷◌, ◌++◌, Bool, true, false, Option, Some, None, refl, ap, sym, ◌∙◌, arith}, specs.{Prelude.{◌==◌, ◌&&◌, ◌||◌, not, codes, nat_lt, filter, find, unwrap_or, if◌then◌else◌}, Option.{option_or}, Fmt.{decimal}}}
 use Rattle.hc_text.proofs.{Basics.{bool_cases}, NumberLemmas.{IsNumber-decimal}}
-use Rattle.hc_event.specs.declared.act.Need.TheVariants as need
+use Rattle.hc_effects.proofs.Vocabulary.{need, wanted, plan as plans, Wanted, Plan, PlanView, least, lesser, plan_of, bare_plan, in_time, from_store, queues, is_back, asked_in, class_of, is_disabled, is_only, is_bypassing, range_of, wanted_of, current, line, holder, turn_with, is_in_line, holds_turn, plan_view, planned_move, Tables, Consumer}
 use Rattle.hc_range.specs.declared.range.{Asked.{Asked, TheVariants.{FromTo}}, Span.{Span}}
-use Rattle.hc_effects.proofs.Vocabulary.{Wanted, Plan, PlanView, least, lesser, plan_of, bare_plan, in_time, from_store, queues, is_back, asked_in, class_of, is_disabled, is_only, is_bypassing, range_of, wanted_of, current, line, holder, turn_with, is_in_line, holds_turn, plan_view, planned_move, Tables, Consumer}
-use Rattle.hc_rules.specs.declared.request.Wanted.TheVariants as wanted
-use Rattle.hc_rules.specs.declared.plan.Plan.TheVariants as plans
 use Rattle.hc_rules.proofs.RangeReads.{asked_in-spelled}
 use Rattle.hc_model.specs.Moves.{opens}
 use Rattle.hc_fetch.specs.{declared.plan.FetchPlan.{FetchPlan}, Bounds.{IsPlan}, Plans.{first_fields, fields_for, request_of}}

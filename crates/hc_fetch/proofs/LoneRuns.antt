@@ -5,17 +5,9 @@
 -- So where it is free after an entry it was before, and nothing was founded (`free_before`): what is current stays or goes.
 use Rattle.std.{proofs.Common.{◌≡◌, ◌⊎◌, inl, inr, ℕ, ◌+◌, ◌<◌, ◌^◌, List, Bool, true, false, Option, Some, None, refl, ap, sym, ◌∙◌, subst, arith}, specs.{Prelude.{◌==◌, ◌&&◌, ◌||◌, not, nat_eq, nat_le, is_none, is_some, if◌then◌else◌}, Option.{option_and_then, option_or}}}
 use Rattle.hc_text.proofs.Basics.{and_left, and_right, bool_cases, either, not_some as none_some, or_cases, some_inj, eq_is as status_is}
-use Rattle.hc_effects.proofs.Vocabulary.{Opening, opening_in, leaves_in, shows_in, Cause, Need, Wait, Why, Event, Request, Response, BoundBy, Place, content_range_of, HeadCase, HeadView, Wanted, Limits, head_case, turn_case, case_on, fits_to_found, fits_part, length_of, is_bad, route_of, is_disabled, is_only, is_bypassing, range_of, wanted_of, Showing, showing_in, wait_in, has_loss, Aims, case_at, case_of, head_view, is_founding, fits_asker, bound_to_wanted, place_by_case, consumer_heard, by_head, by_fault, waiting_place, waiting, opened_place, unless_bound, by_opening, shown_place, consumer_acted, consumer_settled, consumer_made, consumer_after, current, denial, doomed_key_of, doomed_in, is_key, Entry, is_headless, exchange_at, is_for, flaw_in, founded_total, total_of_part, Move, Nothing, Opens, Shows, Fails, shows_stored, IsPast, IsAwaiting, Passed, move_of, shows_head, shows_at, shows_bound, shows_direct, shows_answer, has_joined, or_else, waits_for_head, if_headless, by_place, own_open, bound_to, Tables, Exchange, Representation, Consumer, new_representation, length_in, starts_over, waits_at, sends_back, loses_what_it_waits_for, after_accepted, after_denied}
-use Rattle.hc_event.specs.declared.act.Cause.TheVariants as cause
-use Rattle.hc_event.specs.declared.act.Need.TheVariants as need
-use Rattle.hc_event.specs.declared.act.Wait.TheVariants as wait
-use Rattle.hc_event.specs.declared.event.Event.TheVariants as event
+use Rattle.hc_effects.proofs.Vocabulary.{Opening, opening_in, leaves_in, shows_in, Cause, Need, Wait, Why, Event, Request, Response, BoundBy, Place, content_range_of, HeadCase, HeadView, Wanted, Limits, head_case, turn_case, case_on, fits_to_found, fits_part, length_of, is_bad, route_of, is_disabled, is_only, is_bypassing, range_of, wanted_of, Showing, showing_in, wait_in, has_loss, Aims, case_at, case_of, head_view, is_founding, fits_asker, bound_to_wanted, place_by_case, consumer_heard, by_head, by_fault, waiting_place, waiting, opened_place, unless_bound, by_opening, shown_place, consumer_acted, consumer_settled, consumer_made, consumer_after, current, denial, doomed_key_of, doomed_in, is_key, Entry, is_headless, exchange_at, is_for, flaw_in, founded_total, total_of_part, Move, Nothing, Opens, Shows, Fails, shows_stored, IsPast, IsAwaiting, Passed, move_of, shows_head, shows_at, shows_bound, shows_direct, shows_answer, has_joined, or_else, waits_for_head, if_headless, by_place, own_open, bound_to, Tables, Exchange, Representation, Consumer, new_representation, length_in, starts_over, waits_at, sends_back, loses_what_it_waits_for, after_accepted, after_denied, cause, need, wait, event, place, range, case, wanted}
 use Rattle.hc_event.specs.declared.place.BoundBy.TheVariants as by
-use Rattle.hc_event.specs.declared.place.Place.TheVariants as place
 use Rattle.hc_range.specs.declared.range.{Asked.{Asked}, ContentRange.{ContentRange}}
-use Rattle.hc_range.specs.declared.range.ContentRange.TheVariants as range
-use Rattle.hc_rules.specs.declared.heads.HeadCase.TheVariants as case
-use Rattle.hc_rules.specs.declared.request.Wanted.TheVariants as wanted
 use Rattle.hc_model.specs.Moves as moves
 use Rattle.hc_model.specs.Owners as owners
 use Rattle.hc_effects.proofs.{BoundFrom.{place_inj}, Basics.{some_none, false_true, true_false, some_row}, ExchangeFrom.{IsHeaded, ExchangeFrom, exchange_from}, FirstKeeps.{case_is, is_new}, MoveBy.{MoveBy, IsHeard, move_by}, Owed.{acts_are, goes}, RepFrom.{RepFrom, rep_from}, Said.{shows_it, IsOpening, WaitsAs, opening_by, waiting_by}, ShownOnce.{is_showing}, Standing.{current_stays}, ToldNumbers.{founded_early}, TurnPlaces.{is_after}}

@@ -7,9 +7,8 @@ use Rattle.std.{proofs.{Common.{◌≡◌, inl, inr, ℕ, zero, suc, ◌+◌, �
 use Rattle.hc_text.proofs.Basics.{not_some as none_some}
 use Rattle.hc_sparse.specs.Cells.{Cells, Cell, Covers, cells_with}
 use Rattle.hc_sparse.proofs.CellLemmas.{inside-cases}
-use Rattle.hc_effects.proofs.Vocabulary.{Act, Entry, History}
+use Rattle.hc_effects.proofs.Vocabulary.{Act, Entry, History, act}
 use Rattle.hc_effects.proofs.Basics.{some_row}
-use Rattle.hc_event.specs.declared.act.Act.TheVariants as act
 use Rattle.hc_fetch.specs.{Ahead.{KeepsAll, Appends, Ahead}, Gathering.{byte_before, bytes_on, gathered, gathered_in, given_end, given_end_in, written_of}, Hearing.{AllFit}}
 use Rattle.hc_fetch.proofs.Aheads.{byte_over, bytes_join}
 

@@ -5,8 +5,7 @@
 use Rattle.std.{proofs.{Common.{◌≡◌, ◌≢◌, inl, inr, ℕ, ◌+◌, ◌-◌, ◌<◌, ◌≤◌, ◌^◌, List, [], ◌∷◌, length, true, Option, Some, None, refl, ap, sym, ◌∙◌, arith}, lemmas.Bool.{cases_lt}}, specs.Prelude.{if◌then◌else◌, ◌&&◌}}
 use Rattle.hc_text.proofs.Basics.{not_some as none_some, some_inj}
 use Rattle.hc_sparse.specs.Cells.{Cells, Cell, EndsBy, cells_with}
-use Rattle.hc_effects.proofs.Vocabulary.{Act, Limits, may_begin, Entry, History, no_contents, Numbers, AreShort, Delivers, Says, body_of, direct_cell, cell_by, Tables, Exchange, Representation, IsRun, tables}
-use Rattle.hc_event.specs.declared.act.Act.TheVariants as act
+use Rattle.hc_effects.proofs.Vocabulary.{Act, Limits, may_begin, Entry, History, no_contents, Numbers, AreShort, Delivers, Says, body_of, direct_cell, cell_by, Tables, Exchange, Representation, IsRun, tables, act}
 use Rattle.hc_model.specs.Numbers.{most}
 use Rattle.hc_laws.proofs.{LawfulRuns.{lawful_in_runs}, NumberRuns.{numbers_in_runs}, ReadNext.{gives_next}, PlacesGiven.{answer_below}}
 use Rattle.hc_fetch.specs.{declared.plan.FetchPlan.{FetchPlan}, Ahead.{Fit}, Gathering.{gathered}, Heads.{Head, first_head}, Hearing.{AllFit}, Laws.{IsFetchRun}}

@@ -7,13 +7,9 @@ use Rattle.std.{proofs.{Common.{◌≡◌, ℕ, ◌+◌, ◌-◌, ◌<◌, ◌�
 use Rattle.hc_text.proofs.Basics.{bool_cases, not_some as none_some, same_bytes as same_name, some_inj, and_right, and_left}
 use Rattle.hc_fields.specs.{FieldList.{comes_before, field_list_with, has_name, values_of, without}, FirstValues.{only_of}}
 use Rattle.hc_range.specs.{declared.range.{ContentRange.{ContentRange}, Span.{Span}}, Spans.{IsWithin, content_range_text}}
-use Rattle.hc_range.specs.declared.range.ContentRange.TheVariants as range
+use Rattle.hc_effects.proofs.Vocabulary.{range, by, place, route, Why, Response, Place, length_of, base_of, promise_of, route_of, content_range_of, content_range_in, total_in, base, Move, Shows, shows_stored, span_to, Parts, Places, is_ranged, shows_at, shows_direct, shows_answer, hi_of, end_in, end_of_direct, end_by, Tables, Exchange, Representation, Consumer}
 use Rattle.hc_range.proofs.RangeLemmas.{content_range_text_spells}
-use Rattle.hc_effects.proofs.Vocabulary.{Why, Response, Place, length_of, base_of, promise_of, route_of, content_range_of, content_range_in, total_in, base, Move, Shows, shows_stored, span_to, Parts, Places, is_ranged, shows_at, shows_direct, shows_answer, hi_of, end_in, end_of_direct, end_by, Tables, Exchange, Representation, Consumer}
 use Rattle.hc_event.specs.declared.act.Why.TheVariants as why_is
-use Rattle.hc_event.specs.declared.place.BoundBy.TheVariants as by
-use Rattle.hc_event.specs.declared.place.Place.TheVariants as place
-use Rattle.hc_rules.specs.declared.need.Route.TheVariants as route
 use Rattle.hc_rules.proofs.RangeReads.{content_range_in-spelled}
 use Rattle.hc_validate.specs.{Heads.{FieldPairs, with_one}, Showing.{with_age, with_range, part_of, shown_as, shown_response}}
 use Rattle.hc_model.specs.Sound as sound

@@ -5,8 +5,7 @@
 -- by the events of the input (`shown_first`, by induction over these).
 use Rattle.std.{proofs.Common.{◌≡◌, ℕ, zero, suc, ◌+◌, ◌==◌, List, [], ◌∷◌, ◌++◌, Bool, true, false, Option, Some, None, refl, ap, sym, ◌∙◌, subst, arith}, specs.{Prelude.{if◌then◌else◌, is_none, ◌&&◌}, Option.{option_or}}}
 use Rattle.hc_text.proofs.Basics.{and_left, and_right, not_some as none_some}
-use Rattle.hc_effects.proofs.Vocabulary.{Act, Entry, History, entry_without_acts, Shown, shown_in, shown_of}
-use Rattle.hc_event.specs.declared.act.Act.TheVariants as act
+use Rattle.hc_effects.proofs.Vocabulary.{Act, Entry, History, entry_without_acts, Shown, shown_in, shown_of, act}
 use Rattle.hc_effects.proofs.Basics.{append_none, false_true, some_none}
 use Rattle.hc_fetch.specs.{declared.{ended.FetchEnded.{FetchEnded}, plan.FetchPlan.{FetchPlan}}, Deciding.{by_failure, by_other, by_head, by_heads, fits, fits_first, decided_by, is_undecided, is_undecided_before}, Fetches.{started, starts_behind, start_by_head, start_by_total, parts_start, cache_history}, Heads.{Head, heads_in, first_in, first_head, total_of}, Plans.{part_count}}
 

@@ -1,7 +1,6 @@
 -- The fetch's own starts are answered by nothing.
 use Rattle.std.{proofs.{Common.{◌≡◌, ℕ, ◌<◌, [], false, None, refl, ap, ◌∙◌, arith}, lemmas.Bool.Decides.{nat_tests}}, specs.Prelude.{nat_le}}
-use Rattle.hc_effects.proofs.Vocabulary.{Event, Request, Limits, answer, accepted_acts, denied_or, denial, live, Entry, NoFlaw, failures_in, Lawful, Tables, IsOwed, size_flaw, owed, room_for}
-use Rattle.hc_event.specs.declared.event.Event.TheVariants as event
+use Rattle.hc_effects.proofs.Vocabulary.{Event, Request, Limits, answer, accepted_acts, denied_or, denial, live, Entry, NoFlaw, failures_in, Lawful, Tables, IsOwed, size_flaw, owed, room_for, event}
 use Rattle.hc_rules.specs.Refusals as refusals
 use Rattle.hc_laws.proofs.Faultless.{faultless_are_owed}
 use Rattle.hc_effects.proofs.StartEffects.{starts}

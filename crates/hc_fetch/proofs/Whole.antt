@@ -7,8 +7,7 @@
 use Rattle.std.{proofs.Common.{◌≡◌, ◌⊎◌, inl, inr, ℕ, zero, suc, ◌+◌, ◌<◌, ◌≤◌, List, [], ◌∷◌, ◌++◌, length, true, false, Option, Some, None, refl, ap, sym, ◌∙◌, subst, arith, length-append}, specs.{Prelude.{◌==◌, ◌||◌, is_some, if◌then◌else◌}, Option.{option_or}}}
 use Rattle.hc_text.proofs.Basics.{bool_cases, nil_cons, not_some as none_some, some_inj}
 use Rattle.hc_sparse.specs.Cells.{Cells, Cell, cells_with}
-use Rattle.hc_effects.proofs.Vocabulary.{Act, Limits, may_begin, Entry, History, no_contents, Shown, shown_in, shown_of, given_of, Says, IsEnd, end_of, IsRun, tables}
-use Rattle.hc_event.specs.declared.act.Act.TheVariants as act
+use Rattle.hc_effects.proofs.Vocabulary.{Act, Limits, may_begin, Entry, History, no_contents, Shown, shown_in, shown_of, given_of, Says, IsEnd, end_of, IsRun, tables, act}
 use Rattle.hc_effects.proofs.Basics.{append_none, false_true, or_false}
 use Rattle.hc_laws.proofs.{OneHead.{one_head_is_shown}, ReadEnds.{ends_well}, ReadJoined.{one_inj}}
 use Rattle.hc_fetch.specs.declared.ended.FetchEnded.TheVariants as ended

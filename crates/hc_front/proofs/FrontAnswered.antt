@@ -6,8 +6,7 @@
 -- `cancels`), without its condition (`starts_denied`, `starts_on`), by an end (`polls_end`), or by a 304 (`polls_on`).
 use Rattle.std.{proofs.Common.{◌≡◌, ℕ, Bool, true, false, List, [], ◌∷◌, ◌++◌, map, Option, Some, None, refl, sym, ap, ◌∙◌, subst, arith}, specs.{Prelude.{nat_eq, if◌then◌else◌}, List.{list_any}}}
 use Rattle.hc_store.specs.declared.backend.Backend.{Ghosts}
-use Rattle.hc_effects.proofs.Vocabulary.{is_denied, leaves_in, Act, Event, Request, Contents, Flaw, flaw_in, failures_in, is_fault, Lawful, Tables, IsOwed}
-use Rattle.hc_event.specs.declared.act.Act.TheVariants as act
+use Rattle.hc_effects.proofs.Vocabulary.{is_denied, leaves_in, Act, Event, Request, Contents, Flaw, flaw_in, failures_in, is_fault, Lawful, Tables, IsOwed, act}
 use Rattle.hc_event.specs.declared.event.Event.TheVariants as event
 use Rattle.hc_model.specs.Flaws.{flaw_by}
 use Rattle.hc_laws.proofs.LawfulRuns.{lawful_in_runs}

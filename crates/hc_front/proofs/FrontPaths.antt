@@ -5,11 +5,9 @@
 use Rattle.std.{proofs.{Common.{◌≡◌, ℕ, ◌+◌, ◌-◌, ◌≤◌, Bool, true, false, List, [], ◌∷◌, ◌++◌, length, take, drop, map, Option, Some, None, refl, sym, ap, ◌∙◌, subst, arith}, lemmas.List.{append_assoc, length-append}, Math.Seq.{take-append_seam, drop-append_seam, take-length}}, specs.{Prelude.{◌&&◌, not, codes, is_some, is_none, option_map, Result, Ok, Err, OnOk, OnErr, IfOk}, List.{list_any}}}
 use Rattle.hc_fields.specs.FieldList.{without}
 use Rattle.hc_validate.proofs.Settings.{length-without, size_of-without}
-use Rattle.hc_effects.proofs.Vocabulary.{IsEventWithinLimits, is_denied, leaves_in, Act, Event, Request, current, is_usable, Contents, History, kind_of, kind_at, kind_for, Tables, Representation, tables}
+use Rattle.hc_effects.proofs.Vocabulary.{IsEventWithinLimits, is_denied, leaves_in, Act, Event, Request, current, is_usable, Contents, History, kind_of, kind_at, kind_for, Tables, Representation, tables, act, event}
 use Rattle.hc_store.specs.declared.backend.Backend.{Ghosts}
 use Rattle.hc_event.specs.Counting.{received_in}
-use Rattle.hc_event.specs.declared.act.Act.TheVariants as act
-use Rattle.hc_event.specs.declared.event.Event.TheVariants as event
 use Rattle.hc_record.specs.declared.kind.Kind.{Kind}
 use Rattle.hc_effects.proofs.PollKeeps.{find_passes}
 use Rattle.hc_core.specs.Steps as core

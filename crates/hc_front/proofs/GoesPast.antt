@@ -6,11 +6,8 @@
 use Rattle.std.{proofs.Common.{◌≡◌, ℕ, ◌+◌, Bool, true, false, List, [], ◌∷◌, Option, Some, None, refl, ap, sym, ◌∙◌, subst}, specs.Prelude.{◌&&◌, ◌||◌, not, codes, is_none, if◌then◌else◌}}
 use Rattle.hc_fields.specs.FirstValues.{has_field}
 use Rattle.hc_cachectl.specs.Directives.{of_request}
-use Rattle.hc_effects.proofs.Vocabulary.{is_denied, Act, Refusal, Event, Request, plan_of, is_get, ranges_read, ranges_in, is_disabled, is_only, class_of, Limits, answer, accepted_acts, denied_or, new_consumer, Entry, NoFlaw, failures_in, Lawful, Opens, acts_of, plan_view, plan_move, move_of, Tables, Consumer, IsOwed, size_flaw, owed, room_for}
-use Rattle.hc_event.specs.declared.act.Need.TheVariants as need
-use Rattle.hc_event.specs.declared.event.Event.TheVariants as event
+use Rattle.hc_effects.proofs.Vocabulary.{is_denied, Act, Refusal, Event, Request, plan_of, is_get, ranges_read, ranges_in, is_disabled, is_only, class_of, Limits, answer, accepted_acts, denied_or, new_consumer, Entry, NoFlaw, failures_in, Lawful, Opens, acts_of, plan_view, plan_move, move_of, Tables, Consumer, IsOwed, size_flaw, owed, room_for, need, event, plan}
 use Rattle.hc_rules.specs.Requests.{disables, has_condition}
-use Rattle.hc_rules.specs.declared.plan.Plan.TheVariants as plan
 use Rattle.hc_effects.proofs.Owed.{goes}
 use Rattle.hc_laws.proofs.{Faultless.{faultless_are_owed}, LawfulRuns.{lawful_in_runs}}
 use Rattle.hc_effects.proofs.PollEffects as polls

@@ -6,10 +6,8 @@
 -- over, and is over then (`stays`).
 use Rattle.std.{proofs.{Common.{◌≡◌, ◌⊎◌, inl, inr, ℕ, ◌+◌, ◌≤◌, Bool, true, false, List, [], ◌∷◌, ◌++◌, length, map, Option, Some, None, refl, sym, ap, ◌∙◌, subst, arith, length-append}, lemmas.Bool.Decides.{nat_tests}}, specs.{Prelude.{◌&&◌, ◌||◌, not, nat_eq, nat_lt, if◌then◌else◌}, List.{list_any}}}
 use Rattle.hc_text.proofs.Basics.{bool_cases}
-use Rattle.hc_effects.proofs.Vocabulary.{is_denied, given_in, Act, Event, Request, Limits, accepted_acts, poll_acts, loss_acts, may_begin, closing, consumer_after, denial, is_live, is_live_place, Entry, History, Contents, Flaw, NoFlaw, Loses, Misreads, flaw_in, Shown, shown_in, shown_of, given_of, Lawful, Move, acts_of, poll_move, Tables, Consumer, IsRun, IsOwed, after}
-use Rattle.hc_event.specs.declared.act.Act.TheVariants as act
+use Rattle.hc_effects.proofs.Vocabulary.{is_denied, given_in, Act, Event, Request, Limits, accepted_acts, poll_acts, loss_acts, may_begin, closing, consumer_after, denial, is_live, is_live_place, Entry, History, Contents, Flaw, NoFlaw, Loses, Misreads, flaw_in, Shown, shown_in, shown_of, given_of, Lawful, Move, acts_of, poll_move, Tables, Consumer, IsRun, IsOwed, after, act, place}
 use Rattle.hc_event.specs.declared.event.Event.TheVariants as event
-use Rattle.hc_event.specs.declared.place.Place.TheVariants as place
 use Rattle.hc_rules.specs.Refusals as refusals
 use Rattle.hc_model.specs.Moves as moves
 use Rattle.hc_effects.proofs.{ActParts.{far_closing, far_lost_only}, Basics.{some_none}, EventsKeep.{poll_live}, Givers.{some_want}, Owed.{IsDenied, is_denial, goes, acts_are, denied_gives}}

@@ -1,8 +1,7 @@
 -- Events that are accepted: a fault of an open exchange, the end of one that has its head, a start; and what becomes of whom they name.
 use Rattle.std.{proofs.{Common.{◌≡◌, ◌<◌, ℕ, Bool, true, false, Option, Some, None, refl, ap, sym, ◌∙◌, arith}, lemmas.Bool.Decides.{nat_tests}}, specs.Prelude.{not, is_some, nat_eq, nat_le, if◌then◌else◌}}
 use Rattle.hc_text.proofs.Basics.{eq_itself as itself, and_off as shut_by}
-use Rattle.hc_effects.proofs.Vocabulary.{closes_in, is_denied, Refusal, Event, Request, Response, Limits, answer, accepted_acts, denied_or, consumer_after, consumer_made, denial, is_live, live, as_open, Entry, exchange_after, exchange_heard, exchange_acted, with_head, is_open, flaw_in, Tables, Exchange, Consumer, IsOwed, after, after_accepted, after_denied}
-use Rattle.hc_event.specs.declared.event.Event.TheVariants as event
+use Rattle.hc_effects.proofs.Vocabulary.{closes_in, is_denied, Refusal, Event, Request, Response, Limits, answer, accepted_acts, denied_or, consumer_after, consumer_made, denial, is_live, live, as_open, Entry, exchange_after, exchange_heard, exchange_acted, with_head, is_open, flaw_in, Tables, Exchange, Consumer, IsOwed, after, after_accepted, after_denied, event}
 use Rattle.hc_rules.specs.Refusals as refusals
 use Rattle.hc_model.specs.Denials.{open_exchange}
 use Rattle.hc_laws.proofs.Undenied.{undenied}

@@ -1,10 +1,7 @@
 -- What is asked about what is stored names it, and what joined it joined that, in every run.
 use Rattle.std.{proofs.Common.{◌≡◌, ℕ, Bool, true, false, Option, Some, None, refl, ap, sym, ◌∙◌, subst}, specs.{Prelude.{is_some, ◌==◌, ◌&&◌, not}, Option.{option_map, option_and_then}}}
 use Rattle.hc_text.proofs.Basics.{not_some as none_some}
-use Rattle.hc_effects.proofs.Vocabulary.{Event, Need, Response, head_case, is_conditional, Limits, route_of, Place, Aims, head_view, validates, joins_row, current, denial, Entry, aim_of, aim_from, Flaw, IsOfOneKey, entry_of, OfRuns, OfRunsIn, plan_view, candidate, candidate_at, bound_to, Tables, Exchange, Representation, Consumer, Sound, tables, after_accepted}
-use Rattle.hc_event.specs.declared.act.Need.TheVariants as need
-use Rattle.hc_rules.specs.declared.need.Route.TheVariants as route
-use Rattle.hc_event.specs.declared.place.Place.TheVariants as place
+use Rattle.hc_effects.proofs.Vocabulary.{Event, Need, Response, head_case, is_conditional, Limits, route_of, Place, Aims, head_view, validates, joins_row, current, denial, Entry, aim_of, aim_from, Flaw, IsOfOneKey, entry_of, OfRuns, OfRunsIn, plan_view, candidate, candidate_at, bound_to, Tables, Exchange, Representation, Consumer, Sound, tables, after_accepted, need, route, place}
 use Rattle.hc_model.specs.Aims.{HasAim, CaseWithoutAim, is_about_some, needs_aim}
 use Rattle.hc_effects.proofs.{Asked.{Asked, HasCandidate}, Basics.{some_none, some_row, false_true}, ExchangeFrom.{ExchangeFrom, exchange_from}, NamesKeep.{current_there}, OpenedAs.{passes_by, goes_on, fills, fetches, Way, opened_as}, Said.{opening_by}, ShownFrom.{candidate_is}, WaitingNew.{aim_free}}
 use Rattle.hc_effects.proofs.ExchangeFrom as exchange

@@ -1,9 +1,8 @@
 -- Who writes alone is the only one that is bound, in every run.
 use Rattle.std.{proofs.Common.{◌≡◌, ◌<◌, inl, inr, ℕ, ◌+◌, List, [], ◌∷◌, Bool, true, false, Option, Some, None, refl, ap, sym, ◌∙◌, arith}, specs.Prelude.{◌↔◌, filter, is_some, is_none}}
 use Rattle.hc_text.proofs.Basics.{all_three, bool_cases, not_some as none_some, same_some as same_row}
-use Rattle.hc_effects.proofs.Vocabulary.{Cause, Entry, covers, OfRuns, Descends, InOrder, is_written, is_bound, is_bound_place, bound, offset, Tables, Representation, Consumer, Sound, Among, IsBound, IsFirst, tables, after_denied, came_alone, exclusive, has_more}
+use Rattle.hc_effects.proofs.Vocabulary.{Cause, Entry, covers, OfRuns, Descends, InOrder, is_written, is_bound, is_bound_place, bound, offset, Tables, Representation, Consumer, Sound, Among, IsBound, IsFirst, tables, after_denied, came_alone, exclusive, has_more, place}
 use Rattle.hc_sparse.specs.Cells.{EndsBy}
-use Rattle.hc_event.specs.declared.place.Place.TheVariants as place
 use Rattle.hc_model.specs.Alone.{Alone, IsOnly}
 use Rattle.hc_model.specs.Sound as sound
 use Rattle.hc_effects.proofs.{Basics.{false_true}, Exclusives.{IsExclusive, exclusive_parts}, HasBound.{bound_row}, HoleLemmas.{covers_yes}, HolesOpened.{stored_ends}, Losses.{exclusive_is}, ExclusiveWriters.{eq-refl}, PieceKeeps.{eq_cases}, OfConsumers.{all_below}}

@@ -5,11 +5,9 @@
 -- asked, at the beginning and after each entry. A piece takes the asking away, and the acts of a head or a piece ask nothing.
 use Rattle.std.{proofs.Common.{◌≡◌, inl, inr, ℕ, [], ◌∷◌, ◌++◌, Bool, true, false, Option, Some, None, refl, ap, sym, ◌∙◌, subst}, specs.{Prelude.{is_some, if◌then◌else◌, ◌==◌, ◌||◌}, Option.{option_or}}}
 use Rattle.hc_text.proofs.Basics.{bool_cases, not_some as none_some, same_some as same_row, some_inj}
-use Rattle.hc_effects.proofs.Vocabulary.{Opening, opening_in, asks_in, Event, Response, head_refusal, Limits, Place, accepted_acts, answer_acts, loss_acts, closing, denial, as_open, is_live, Entry, exchange_after, exchange_acted, exchange_heard, exchange_made, exchange_opened, with_head, with_piece, exchange_in, is_headless, flaw_in, entry_of, OfRuns, OfHistories, Turns, Move, Asks, acts_of, Owners, poll_move, is_written, own_open, shared_exchange, writing_in, source, Tables, Exchange, Representation, Consumer, Sound, tables, after_accepted, brings_body}
-use Rattle.hc_event.specs.declared.act.Wait.TheVariants as wait
+use Rattle.hc_effects.proofs.Vocabulary.{Opening, opening_in, asks_in, Event, Response, head_refusal, Limits, Place, accepted_acts, answer_acts, loss_acts, closing, denial, as_open, is_live, Entry, exchange_after, exchange_acted, exchange_heard, exchange_made, exchange_opened, with_head, with_piece, exchange_in, is_headless, flaw_in, entry_of, OfRuns, OfHistories, Turns, Move, Asks, acts_of, Owners, poll_move, is_written, own_open, shared_exchange, writing_in, source, Tables, Exchange, Representation, Consumer, Sound, tables, after_accepted, brings_body, wait, place}
 use Rattle.hc_event.specs.declared.event.Event.TheVariants as event
 use Rattle.hc_rules.specs.Refusals as refusals
-use Rattle.hc_event.specs.declared.place.Place.TheVariants as place
 use Rattle.hc_model.specs.Asking.{AsksAnew}
 use Rattle.hc_model.specs.Moves as moves
 use Rattle.hc_effects.proofs.{AboutKeeps.{own_open_of}, ActParts.{asks_closed, asks_loss}, Basics.{false_true, some_none}, EventsKeep.{poll_live}, Owed.{goes}, PieceKeeps.{eq_cases}, PollKeys.{IsNear, near_polled}}

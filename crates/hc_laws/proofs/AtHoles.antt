@@ -4,10 +4,7 @@
 -- the consumer is given nothing, and the exchange asks for the same hole.
 use Rattle.std.proofs.Common.{◌≡◌, ℕ, ◌+◌, ◌<◌, ◌≤◌, true, Option, Some, refl, ap, sym, ◌∙◌, subst, arith}
 use Rattle.hc_text.proofs.Basics.{not_some as none_some, same_some as same_row, some_inj}
-use Rattle.hc_effects.proofs.Vocabulary.{Opening, opening_in, Need, Limits, route_of, BoundBy, opened_place, unless_bound, Entry, aim_from, exchange_opened, exchange_acted, exchange_heard, is_headless, entry_of, flaw_in, hole_at, IsOfOneKey, OfRuns, Turns, bound, bound_to, lo_of, offset, Tables, Exchange, Consumer, Sound, InHole, after_accepted, after_denied}
-use Rattle.hc_event.specs.declared.act.Need.TheVariants as need
-use Rattle.hc_rules.specs.declared.need.Route.TheVariants as route
-use Rattle.hc_event.specs.declared.place.Place.TheVariants as place
+use Rattle.hc_effects.proofs.Vocabulary.{Opening, opening_in, Need, Limits, route_of, BoundBy, opened_place, unless_bound, Entry, aim_from, exchange_opened, exchange_acted, exchange_heard, is_headless, entry_of, flaw_in, hole_at, IsOfOneKey, OfRuns, Turns, bound, bound_to, lo_of, offset, Tables, Exchange, Consumer, Sound, InHole, after_accepted, after_denied, need, route, place}
 use Rattle.hc_model.specs.Sound as sound
 use Rattle.hc_laws.proofs.{InRuns.{IsTurned, turned_in_runs}, RunFacts.{in_runs_with}, TurnFacts.{IsTaken}, TurnOpens.{OpensFor, opened_at, opener_after}, TurnStays.{after_same}, TurnsKeep.{WasHeadless, was_headless, same_entry}}
 use Rattle.hc_effects.proofs.{Basics.{true_false}, ExclusiveWriters.{bound_some}, HoleLemmas.{hole_some}, KeysKeep.{same_exchange}, OpensFrom.{IsHole, hole_is, opens_hole}, Owed.{goes}, PollTree.{OpensHole}, Said.{OpensBy, opening_by}}

@@ -1,11 +1,8 @@
 -- What isn't gone, and what may still found, was opened after the last doom of its key.
 use Rattle.std.{proofs.Common.{◌≡◌, ◌≢◌, ◌⊎◌, inl, inr, ℕ, ◌+◌, ◌<◌, ◌≤◌, List, ◌∷◌, Bool, true, false, Option, Some, None, refl, ap, sym, ◌∙◌, subst, arith}, specs.{Prelude.{◌||◌, if◌then◌else◌}, Option.{option_map}}}
 use Rattle.hc_text.proofs.Basics.{eq_itself, bool_cases, not_some as none_some, never_true as not_true, same_some as same_row}
-use Rattle.hc_effects.proofs.Vocabulary.{Opening, opening_in, is_denied, Request, Response, route_of, head_refusal, head_case, case_on, first_case, later_case, HeadCase, HeadView, Route, Limits, BoundBy, has_loss, Showing, showing_in, case_at, case_of, head_view, is_founding, was_shown, consumer_heard, by_opening, waiting, is_current, is_number, denial, as_open, doomed_key_of, doomed_in, doomed_by_head, doomed_by_case, is_key, Entry, History, Content, Contents, exchange_heard, is_headless, Flaw, flaw_in, becomes_gone, IsOfOneKey, Turns, StandsFor, IsBarred, AreNumbered, IsBoundBehindDooms, item_of, reads, Tables, Exchange, Representation, Consumer, IsOwed, Sound, IsBound, tables, after, after_accepted, after_denied, representation_of_content, opened_after, awaited_exchange}
-use Rattle.hc_event.specs.declared.event.Event.TheVariants as event
+use Rattle.hc_effects.proofs.Vocabulary.{Opening, opening_in, is_denied, Request, Response, route_of, head_refusal, head_case, case_on, first_case, later_case, HeadCase, HeadView, Route, Limits, BoundBy, has_loss, Showing, showing_in, case_at, case_of, head_view, is_founding, was_shown, consumer_heard, by_opening, waiting, is_current, is_number, denial, as_open, doomed_key_of, doomed_in, doomed_by_head, doomed_by_case, is_key, Entry, History, Content, Contents, exchange_heard, is_headless, Flaw, flaw_in, becomes_gone, IsOfOneKey, Turns, StandsFor, IsBarred, AreNumbered, IsBoundBehindDooms, item_of, reads, Tables, Exchange, Representation, Consumer, IsOwed, Sound, IsBound, tables, after, after_accepted, after_denied, representation_of_content, opened_after, awaited_exchange, event, case, route}
 use Rattle.hc_rules.specs.Refusals as refusals
-use Rattle.hc_rules.specs.declared.heads.HeadCase.TheVariants as case
-use Rattle.hc_rules.specs.declared.need.Route.TheVariants as route
 use Rattle.hc_model.specs.{Sound.{is_bound}, Currents.{current as current_of}, Laws.{BarrierIsKept, BarrierBegins, IsNewlyBound, barrier, barrier_at}}
 use Rattle.hc_model.specs.Laws as laws
 use Rattle.hc_effects.proofs.{Basics.{or_false}, BoundFrom.{BoundFrom, bound_from}, BoundKeeps.{founding_is, planned_at}, CurrentKeeps.{current_is, WasOrFounded, was_or_founded}, KeysKeep.{same_exchange}, Joining.{mix}, KeyNames.{key_is, opener_key}, Owed.{goes}, PollKeeps.{current_stays}, Said.{ShowsBy, showing_by}, ShownFrom.{IsPlanned, ShownAs}}

@@ -1,5 +1,5 @@
 -- The tables of a store that begins with contents are sound.
-use Rattle.std.{proofs.{Common.{◌≡◌, inl, inr, ℕ, ◌-◌, ◌<◌, ◌≤◌, List, [], ◌∷◌, length, true, Option, Some, None, refl, ap, sym, ◌∙◌, subst, arith}}, specs.Prelude.{is_some, find, map, option_map, nat_eq}}
+use Rattle.std.{proofs.Common.{◌≡◌, inl, inr, ℕ, ◌-◌, ◌<◌, ◌≤◌, List, [], ◌∷◌, length, true, Option, Some, None, refl, ap, sym, ◌∙◌, subst, arith}, specs.Prelude.{is_some, find, map, option_map, nat_eq}}
 use Rattle.hc_text.proofs.Basics.{eq_tells, bool_cases, not_some as none_some, some_inj}
 use Rattle.hc_sparse.specs.{Cells.{EndsBy}, Runs.{cells_of, end_of}, declared.run.Run.{Run}}
 use Rattle.hc_sparse.proofs.CellLemmas.{inside-past}

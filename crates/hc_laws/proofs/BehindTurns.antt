@@ -1,13 +1,9 @@
 -- Behind whom a plan waits for its turn: behind another who has it.
 use Rattle.std.{proofs.Common.{◌≡◌, inl, inr, ℕ, List, Bool, true, false, Option, Some, None, refl, ap, sym, ◌∙◌, arith}, specs.{Prelude.{◌+◌, is_none, min, nat_le, nat_eq, not, unwrap_or, ◌&&◌}, Option.{option_or}}}
 use Rattle.hc_text.proofs.Basics.{and_left, and_right, either, not_true}
-use Rattle.hc_event.specs.declared.act.Need.TheVariants as need
-use Rattle.hc_effects.proofs.Vocabulary.{Why, Candidate, Plan, PlanView, Wanted, least, lesser, plan_of, bare_plan, in_time, from_store, queues, by_current, by_why, by_wanted, by_exclusive, by_hole, by_bound, why_by, is_disabled, is_only, Place, is_live_place, turn, turn_with, holder, holds_turn, line, is_in_line, stands_in_line, Tables, Consumer, Among}
+use Rattle.hc_effects.proofs.Vocabulary.{need, plan, wanted, place, Why, Candidate, Plan, PlanView, Wanted, least, lesser, plan_of, bare_plan, in_time, from_store, queues, by_current, by_why, by_wanted, by_exclusive, by_hole, by_bound, why_by, is_disabled, is_only, Place, is_live_place, turn, turn_with, holder, holds_turn, line, is_in_line, stands_in_line, Tables, Consumer, Among}
 use Rattle.hc_range.specs.declared.range.Span.{Span}
-use Rattle.hc_rules.specs.declared.plan.Plan.TheVariants as plan
-use Rattle.hc_rules.specs.declared.request.Wanted.TheVariants as wanted
 use Rattle.hc_rules.proofs.RangeReads.{same_bytes}
-use Rattle.hc_event.specs.declared.place.Place.TheVariants as place
 use Rattle.hc_effects.proofs.{Basics.{false_true}, HadKeeps.{among_least}, Joining.{mix}, PieceKeeps.{eq_cases}, Sums.{filter_among}}
 use Rattle.hc_laws.proofs.FitsRuns.{find_among}
 

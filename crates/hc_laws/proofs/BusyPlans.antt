@@ -1,10 +1,8 @@
 -- Behind whom a plan waits: behind who is bound to what is current, or behind the one who writes it.
 use Rattle.std.{proofs.Common.{◌≡◌, ◌⊎◌, inl, inr, ℕ, true, Option, Some, None, refl, ap, ◌∙◌}, specs.Prelude.{is_none, ◌&&◌, unwrap_or}}
 use Rattle.hc_text.proofs.Basics.{either}
-use Rattle.hc_effects.proofs.Vocabulary.{Why, Candidate, Plan, PlanView, Wanted, plan_of, bare_plan, in_time, from_store, by_current, by_why, by_wanted, by_exclusive, by_hole, by_bound, plan_on, why_by}
+use Rattle.hc_effects.proofs.Vocabulary.{Why, Candidate, Plan, PlanView, Wanted, plan_of, bare_plan, in_time, from_store, by_current, by_why, by_wanted, by_exclusive, by_hole, by_bound, plan_on, why_by, plan, wanted}
 use Rattle.hc_range.specs.declared.range.Span.{Span}
-use Rattle.hc_rules.specs.declared.plan.Plan.TheVariants as plan
-use Rattle.hc_rules.specs.declared.request.Wanted.TheVariants as wanted
 use Rattle.hc_effects.proofs.Joining.{mix}
 
 -- of what is current: d is the least one bound, or the one who writes alone; or nobody is bound while its length isn't known, or it is written together

@@ -1,7 +1,6 @@
 -- Waits end, in every run: a chain of them goes on over two more consumers at most.
 use Rattle.std.{proofs.Common.{◌≡◌, ℕ, ◌<◌, true, false, Option, Some, None, refl, ap, sym, ◌∙◌, subst}, specs.Prelude.{nat_eq}}
-use Rattle.hc_event.specs.declared.act.Wait.TheVariants as wait
-use Rattle.hc_effects.proofs.Vocabulary.{MoveEnds, is_live, is_live_place, Endings, Unended, OfRuns, WaitsEnd, WaitsForNobody, turn, Move, Places, plan_view, move_of, poll_move, Tables, Consumer, Sound, IsBound, tables}
+use Rattle.hc_effects.proofs.Vocabulary.{wait, MoveEnds, is_live, is_live_place, Endings, Unended, OfRuns, WaitsEnd, WaitsForNobody, turn, Move, Places, plan_view, move_of, poll_move, Tables, Consumer, Sound, IsBound, tables}
 use Rattle.hc_model.specs.Chains.{PollsEnd, ChainEnds, ChainsEnd}
 use Rattle.hc_model.specs.Moves as moves
 use Rattle.hc_model.specs.Sound as sound

@@ -1,8 +1,7 @@
 -- The columns of exchanges are filters of the list of entries.
 use Rattle.std.{proofs.{Common.{◌≡◌, inl, inr, ℕ, List, [], ◌∷◌, ◌++◌, length, Bool, true, false, cond, Option, Some, None, refl, ap, sym, ◌∙◌, arith}, lemmas.{List.{append-nil}, Bool.Decides.{nat_tests}}}, specs.{Prelude.{if◌then◌else◌, ◌==◌, ◌||◌, ◌&&◌, not, option_map, option_and_then, is_some}, Option.{option_map_or, option_or}}}
 use Rattle.hc_text.proofs.Basics.{bool_cases, or_false, or_none}
-use Rattle.hc_effects.proofs.Vocabulary.{Opening, opening_in, is_denied, Event, Response, Limits, head_refusal, piece_refusal, end_refusal, denial, as_open, Entry, History, Contents, promised_bytes, exchange_after, exchange_heard, exchange_made, with_head, with_piece, Tables, Exchange, IsRun, IsOwed, tables, after, each, first, if_accepted, opening_of, opened_in}
-use Rattle.hc_event.specs.declared.event.Event.TheVariants as event
+use Rattle.hc_effects.proofs.Vocabulary.{Opening, opening_in, is_denied, Event, Response, Limits, head_refusal, piece_refusal, end_refusal, denial, as_open, Entry, History, Contents, promised_bytes, exchange_after, exchange_heard, exchange_made, with_head, with_piece, Tables, Exchange, IsRun, IsOwed, tables, after, each, first, if_accepted, opening_of, opened_in, event}
 use Rattle.hc_rules.specs.Refusals as refusals
 use Rattle.hc_model.specs.Histories.{Answered, opening_at, head_in, head_of, bytes_in, delivered_of, ends_in, has_ended, answered_in}
 use Rattle.hc_effects.proofs.{Once.{never}, Owed.{goes, denied_opens}, ConsumerFilters.{first_more}}

@@ -5,10 +5,7 @@
 -- same whatever else the acts say. So the flaw is the one of the sizes, and the acts are those that are owed with it.
 use Rattle.std.{proofs.Common.{◌≡◌, inl, inr, ℕ, List, Bool, true, false, Option, Some, None, refl, ap, sym, ◌∙◌}, specs.Prelude.{if◌then◌else◌, ◌||◌}}
 use Rattle.hc_text.proofs.Basics.{and_left, and_right, or_cases}
-use Rattle.hc_effects.proofs.Vocabulary.{is_denied, Act, LostKind, Refusal, Event, Response, Limits, Room, answer, accepted_acts, denied_or, case_of, is_founding, is_joining, denial, Entry, entry_without_acts, Flaw, NoFlaw, Loses, Misreads, flaw_in, is_fault, failures_in, Tables, Exchange, IsOwed, may_stand, may_be, may_lose, has_room, flaw_by_room, size_flaw, owed, room_for, written_representation, written_in, head_writes, may_validate, lossless}
-use Rattle.hc_event.specs.declared.act.LostKind.TheVariants as kind
-use Rattle.hc_event.specs.declared.event.Event.TheVariants as event
-use Rattle.hc_rules.specs.declared.room.Room.TheVariants as room
+use Rattle.hc_effects.proofs.Vocabulary.{is_denied, Act, LostKind, Refusal, Event, Response, Limits, Room, answer, accepted_acts, denied_or, case_of, is_founding, is_joining, denial, Entry, entry_without_acts, Flaw, NoFlaw, Loses, Misreads, flaw_in, is_fault, failures_in, Tables, Exchange, IsOwed, may_stand, may_be, may_lose, has_room, flaw_by_room, size_flaw, owed, room_for, written_representation, written_in, head_writes, may_validate, lossless, kind, event, room}
 use Rattle.hc_model.specs.Runs.{FaultlessAreOwed}
 use Rattle.hc_effects.proofs.{Basics.{false_true, true_false, number_is}, FoundCases.{no_loss}}
 use Rattle.hc_laws.proofs.Undenied.{undenied}

@@ -1,15 +1,9 @@
 -- What is stored fits the limit, after each entry of a run.
 use Rattle.std.{proofs.{Common.{◌≡◌, ◌⊎◌, inl, inr, ℕ, ◌+◌, ◌≤◌, List, [], ◌∷◌, ◌++◌, length, Bool, true, false, Option, Some, None, refl, ap, sym, ◌∙◌, subst, arith}, lemmas.{Bool.Decides.{nat_tests}, List.Sums.{sum_by-cons}}}, specs.{Prelude.{if◌then◌else◌, is_some, ◌||◌, ◌==◌, not, nat_eq, nat_lt, map, take, reverse}, List.{list_any, sum_by}, Option.{option_and_then}}}
 use Rattle.hc_text.proofs.Basics.{and_left, and_right, bool_cases, not_some as none_some, never_true, not_true, not_false, or_cases, or_right, same_some as same_row, some_inj}
-use Rattle.hc_effects.proofs.Vocabulary.{opening_in, evicts_in, is_denied, Act, Event, Response, HeadCase, Limits, Room, Write, head_case, weight_of, gives_way, grown_by, is_too_large, room_of, AreOnce, BoundBy, loses_in, has_loss, answer_acts, loss_acts, close_acts, case_at, case_of, head_view, is_founding, consumer_heard, by_head, place_by_case, by_opening, waiting, is_current, denial, Entry, entry_without_acts, promise_in, family, exchange_at, is_for, Flaw, NoFlaw, Loses, Misreads, flaw_in, becomes_gone, goes_itself, entry_of, Measures, Owners, bound, reads, Tables, Exchange, Representation, Consumer, may_stand, may_be, may_misread, has_room, Sound, Among, IsBound, founds, with_item_first, after_accepted, weight, weight_in, weights, idle, is_idle, is_replacing, moves_on, stays_bound, stays_current, room_by, room_for, write_in, write_of_piece, piece_write, first_idle, evicted}
-use Rattle.hc_event.specs.declared.act.Act.TheVariants as act
-use Rattle.hc_event.specs.declared.event.Event.TheVariants as event
-use Rattle.hc_rules.specs.declared.heads.HeadCase.TheVariants as case
+use Rattle.hc_effects.proofs.Vocabulary.{opening_in, evicts_in, is_denied, Act, Event, Response, HeadCase, Limits, Room, Write, head_case, weight_of, gives_way, grown_by, is_too_large, room_of, AreOnce, BoundBy, loses_in, has_loss, answer_acts, loss_acts, close_acts, case_at, case_of, head_view, is_founding, consumer_heard, by_head, place_by_case, by_opening, waiting, is_current, denial, Entry, entry_without_acts, promise_in, family, exchange_at, is_for, Flaw, NoFlaw, Loses, Misreads, flaw_in, becomes_gone, goes_itself, entry_of, Measures, Owners, bound, reads, Tables, Exchange, Representation, Consumer, may_stand, may_be, may_misread, has_room, Sound, Among, IsBound, founds, with_item_first, after_accepted, weight, weight_in, weights, idle, is_idle, is_replacing, moves_on, stays_bound, stays_current, room_by, room_for, write_in, write_of_piece, piece_write, first_idle, evicted, act, event, case, write, place, by}
 use Rattle.hc_rules.specs.declared.room.Room.TheVariants as room
-use Rattle.hc_rules.specs.declared.room.Write.TheVariants as write
 use Rattle.hc_rules.specs.Rooms as rooms
-use Rattle.hc_event.specs.declared.place.Place.TheVariants as place
-use Rattle.hc_event.specs.declared.place.BoundBy.TheVariants as by
 use Rattle.hc_model.specs.Sound as sound
 use Rattle.hc_effects.proofs.{Basics.{false_true, true_false, or_false, some_row, number_yes}, BoundFrom.{BoundFrom, IsRow, bound_from, place_inj}, BoundKeeps.{planned_at}, FirstKeeps.{case_is, is_new}, FoundBy.{FoundingBy, founding_by}, LossBy.{IsReal, lost_is}, OwnersKeep.{is_opened}, PollKeeps.{current_stays}, RepFrom.{RepFrom, rep_from, IsKept}, Said.{showing_by}, SaidActs.{loss_is}, ShownFrom.{ShownAs}, Sums.{only_yes, sum_le, sum_two, sum_plus, sum_some, only, only_once, is_in, among_of, in_among, filter_among, filter_once, take_among, take_once, reverse_among, reverse_once, gives_enough}, ToBeShown.{heard_place}, Weighed.{IsHeld, held, total, held_is, held_most, held_none, IsFilled, sized, goes_more, case_same}}
 use Rattle.hc_effects.proofs.BoundFrom as from

@@ -2,8 +2,7 @@
 use Rattle.std.{proofs.{Common.{◌≡◌, ◌≤◌, ◌<◌, ◌⊎◌, inl, inr, ℕ, ◌+◌, ◌-◌, List, length, Bool, true, false, Option, Some, None, refl, ap, sym, ◌∙◌, subst, arith}, lemmas.Bool.Decides.{nat_tests}}, specs.{Prelude.{is_some, nat_lt}, Option.{option_or}}}
 use Rattle.hc_text.proofs.Basics.{bool_cases, some_inj}
 use Rattle.hc_sparse.specs.Cells.{Cell, Covers}
-use Rattle.hc_event.specs.declared.place.Place.TheVariants as place
-use Rattle.hc_effects.proofs.Vocabulary.{BoundBy, total_in, given_of, OfRuns, IsRun, may_begin, History, Contents, Limits, Measures, hi_of, lo_of, reads, Holds, cell_by, Tables, Representation, Consumer, Sound, tables}
+use Rattle.hc_effects.proofs.Vocabulary.{place, BoundBy, total_in, given_of, OfRuns, IsRun, may_begin, History, Contents, Limits, Measures, hi_of, lo_of, reads, Holds, cell_by, Tables, Representation, Consumer, Sound, tables}
 use Rattle.hc_model.specs.Given.{Given, IsWithin}
 use Rattle.hc_model.specs.Sound as sound
 use Rattle.hc_effects.proofs.{Basics.{false_true, some_row}, Bounded.{IsBounded}, GivenNext.{read_of}}

@@ -5,11 +5,9 @@
 use Rattle.std.{proofs.{Common.{◌≡◌, inl, inr, ℕ, ◌+◌, ◌-◌, ◌<◌, List, [], ◌∷◌, ◌++◌, length, true, false, Option, Some, None, refl, ap, sym, ◌∙◌, subst, arith, length-append}, lemmas.Bool.Decides.{nat_tests}}, specs.{Prelude.{is_some, if◌then◌else◌, IfSome, nat_eq}, Option.{option_and_then, option_map}}}
 use Rattle.hc_text.proofs.Basics.{bool_cases, not_some as none_some, same_some as same_row}
 use Rattle.hc_sparse.specs.{Cells.{Cells, Cell}, Runs.{end_of}, Stretch.{stretch, stretch_of}, declared.run.Run.{Run}}
-use Rattle.hc_effects.proofs.Vocabulary.{given_in, Response, read_step, is_at_end, cut_at, stored_or, held_or, fails_or, waits_or, ReadStep, Limits, Place, BoundBy, row_of, Entry, is_headless, failures_in, OfHistories, Turns, Gives, gives, acts_of, Owners, planned_move, move_of, shows_at, if_headless, waits_for_head, or_else, by_place, bound_to, lo_of, offset, hi_of, own_open, source, Tables, Exchange, Representation, Consumer, Sound, IsAbout, InHole, bound_row, stored_from, stored_ahead, read_view, step_move, reading, tables}
-use Rattle.hc_event.specs.declared.event.Event.TheVariants as event
+use Rattle.hc_effects.proofs.Vocabulary.{given_in, Response, read_step, is_at_end, cut_at, stored_or, held_or, fails_or, waits_or, ReadStep, Limits, Place, BoundBy, row_of, Entry, is_headless, failures_in, OfHistories, Turns, Gives, gives, acts_of, Owners, planned_move, move_of, shows_at, if_headless, waits_for_head, or_else, by_place, bound_to, lo_of, offset, hi_of, own_open, source, Tables, Exchange, Representation, Consumer, Sound, IsAbout, InHole, bound_row, stored_from, stored_ahead, read_view, step_move, reading, tables, event, place}
 use Rattle.hc_rules.specs.Readings as readings
 use Rattle.hc_rules.specs.declared.reading.ReadStep.TheVariants as step
-use Rattle.hc_event.specs.declared.place.Place.TheVariants as place
 use Rattle.hc_model.specs.Reads.{GivesStored}
 use Rattle.hc_model.specs.Sound as sound
 use Rattle.hc_effects.proofs.{AboutKeeps.{own_open_of}, Basics.{false_true, some_row}, GivenNext.{given_next}, Givers.{some_want}, Owed.{goes}}

@@ -1,8 +1,7 @@
 -- Who has the turn doesn't wait for it, and who is bound waits for nobody.
 use Rattle.std.{proofs.Common.{◌≡◌, ℕ, List, Bool, true, false, Option, Some, None, refl, ap, sym, ◌∙◌, arith}, specs.{Prelude.{nat_eq, unwrap_or}, Option.{option_or}}}
 use Rattle.hc_text.proofs.Basics.{eq_itself as eq-refl, some_inj}
-use Rattle.hc_event.specs.declared.act.Wait.TheVariants as wait
-use Rattle.hc_effects.proofs.Vocabulary.{least, lesser, Turns, WaitsForNobody, turn, turn_with, holder, line, Move, bound_to, Tables, Consumer, Sound}
+use Rattle.hc_effects.proofs.Vocabulary.{wait, least, lesser, Turns, WaitsForNobody, turn, turn_with, holder, line, Move, bound_to, Tables, Consumer, Sound}
 use Rattle.hc_model.specs.Laws.{TurnsGo, ReadersGo}
 use Rattle.hc_model.specs.Moves as moves
 use Rattle.hc_model.specs.Sound as sound

@@ -3,7 +3,7 @@ use Rattle.std.proofs.Common.{◌≡◌, ℕ, [], ◌∷◌, true, false, subst}
 use Rattle.hc_effects.proofs.Vocabulary.{is_denied, Limits, current, Entry, History, Contents, entry_of, IsOfOneKey, may_begin, OfRuns, DeliversOnce, HasOneTurn, Turns, HasPassed, IsBarred, OfHistories, IsBoundBehindDooms, Tables, Consumer, IsRun, Sound, IsBound, tables, after_denied}
 use Rattle.hc_model.specs.{Sound.{is_bound}, Keys.{KeepsOthers}, Laws.{DoomsInRuns, KeysInRuns}}
 use Rattle.hc_laws.proofs.{Barred.{next_tables, barrier_is_kept, barrier_begins, binds_behind}, KeysPlaces.{keys_are_kept, keys_begin}, OneKey.{law_of_one_key}, RunFacts.{in_runs_with}, SoundRuns.{runs_are_sound}, Starts.{numbers_begin}, TurnsKeep.{turns_are_kept, turns_begin, turns_are_one}}
-use Rattle.hc_effects.proofs.{Once.{delivers_once}}
+use Rattle.hc_effects.proofs.Once.{delivers_once}
 
 -- A DENIED ENTRY
 

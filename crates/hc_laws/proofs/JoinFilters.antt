@@ -1,8 +1,7 @@
 -- What an exchange joined is a filter of the list of entries.
 use Rattle.std.{proofs.{Common.{◌≡◌, inl, inr, ℕ, List, [], ◌∷◌, Bool, true, false, cond, Option, Some, None, refl, ap, sym, ◌∙◌, arith}, lemmas.Bool.Decides.{nat_tests}}, specs.{Prelude.{if◌then◌else◌, ◌==◌, option_and_then}, Option.{option_map_or, option_or}}}
 use Rattle.hc_text.proofs.Basics.{bool_cases, or_none}
-use Rattle.hc_effects.proofs.Vocabulary.{Opening, opening_in, is_denied, Event, Limits, head_refusal, case_at, is_joining, denial, as_open, Entry, History, Contents, exchange_after, exchange_heard, exchange_made, Tables, Exchange, IsRun, IsOwed, tables, after, each_after, first, if_accepted, joined_of}
-use Rattle.hc_event.specs.declared.event.Event.TheVariants as event
+use Rattle.hc_effects.proofs.Vocabulary.{Opening, opening_in, is_denied, Event, Limits, head_refusal, case_at, is_joining, denial, as_open, Entry, History, Contents, exchange_after, exchange_heard, exchange_made, Tables, Exchange, IsRun, IsOwed, tables, after, each_after, first, if_accepted, joined_of, event}
 use Rattle.hc_rules.specs.Refusals as refusals
 use Rattle.hc_model.specs.Histories.{joining_in, joining_at, ExchangesAreFiltered}
 use Rattle.hc_effects.proofs.{Basics.{some_none}, Owed.{goes}, ConsumerFilters.{first_more}}

@@ -1,7 +1,6 @@
 -- A live consumer that is cancelled leaves, and nobody else does.
 use Rattle.std.{proofs.{Common.{◌≡◌, inl, inr, ℕ, Bool, true, false, refl, sym, ◌∙◌, subst, arith}, lemmas.Bool.Decides.{nat_tests}}, specs.Prelude.{nat_eq}}
-use Rattle.hc_effects.proofs.Vocabulary.{leaves_in, Event, Limits, is_live, Entry, Lawful, Tables, IsOwed, after}
-use Rattle.hc_event.specs.declared.event.Event.TheVariants as event
+use Rattle.hc_effects.proofs.Vocabulary.{leaves_in, Event, Limits, is_live, Entry, Lawful, Tables, IsOwed, after, event}
 use Rattle.hc_model.specs.Live.{WhoLeavesGoes}
 use Rattle.hc_laws.proofs.{Accepted.{is_accepted}, LiveAfter.{Starts, was_live}, StaysLive.{stays_live}, WhoLeaves.{cancel_goes, cancelled_over, leaver_polls}}
 

@@ -2,8 +2,7 @@
 use Rattle.std.{proofs.{Common.{◌≡◌, ◌⊎◌, inl, inr, ℕ, zero, suc, ◌+◌, ◌-◌, ◌≤◌, ◌<◌, List, [], ◌∷◌, length, take, drop, true, Option, Some, None, refl, ap, sym, ◌∙◌, subst, arith}, Math.{ListN.{drop_of_length-le}, Seq.{drop-cons}}, lemmas.{List.{length-drop, length-take, take_all}, Bool.Decides.{nat_tests}}}, specs.Prelude.{◌==◌, is_some, slice_index, min, nat_eq, nat_lt}}
 use Rattle.hc_text.proofs.Basics.{bool_cases, not_some as none_some, same_some as same_row, some_inj}
 use Rattle.hc_sparse.specs.{Cells.{Cell, Cells, Covers}, Stretch.{bytes_from, goes_on, stretch, stretch_of}}
-use Rattle.hc_effects.proofs.Vocabulary.{Response, BoundBy, is_number, Entry, Contents, base, front, OfRuns, Brings, HoldsOwn, cell_from, offset, Tables, Exchange, Representation, Consumer, Sound, IsBound, run_held_for, held_at, held_of_lost, run_of, tables, first_tables, after_denied}
-use Rattle.hc_event.specs.declared.place.Place.TheVariants as place
+use Rattle.hc_effects.proofs.Vocabulary.{Response, BoundBy, is_number, Entry, Contents, base, front, OfRuns, Brings, HoldsOwn, cell_from, offset, Tables, Exchange, Representation, Consumer, Sound, IsBound, run_held_for, held_at, held_of_lost, run_of, tables, first_tables, after_denied, place}
 use Rattle.hc_model.specs.Losses.{Losses, IsHeldFrom}
 use Rattle.hc_model.specs.Sound as sound
 use Rattle.hc_effects.proofs.{Basics.{false_true}, ExclusiveWriters.{eq-refl}}

@@ -6,8 +6,7 @@
 -- falls is no longer than a list that has each of it.
 use Rattle.std.{proofs.Common.{◌≡◌, ◌⊎◌, inl, inr, ℕ, suc, ◌+◌, ◌<◌, ◌≤◌, List, [], ◌∷◌, length, map, Bool, true, Option, Some, None, refl, ap, sym, ◌∙◌, arith}, specs.{Prelude.{filter, is_some, if◌then◌else◌, ◌==◌, unwrap_or}, Option.{option_or}}}
 use Rattle.hc_text.proofs.Basics.{bool_cases, map_long, same_some as same_row}
-use Rattle.hc_effects.proofs.Vocabulary.{Place, live, is_live, is_live_place, family, is_open, OfRuns, open_now, Descends, InOrder, is_written, bound, own_open, shared_exchange, source, Tables, Exchange, Representation, Consumer, Sound, Among, IsBound, IsAbout, tables, Whose, IsSomebodys, may_own}
-use Rattle.hc_event.specs.declared.place.Place.TheVariants as place
+use Rattle.hc_effects.proofs.Vocabulary.{Place, live, is_live, is_live_place, family, is_open, OfRuns, open_now, Descends, InOrder, is_written, bound, own_open, shared_exchange, source, Tables, Exchange, Representation, Consumer, Sound, Among, IsBound, IsAbout, tables, Whose, IsSomebodys, may_own, place}
 use Rattle.hc_model.specs.Live.{IsReader, FewOpen}
 use Rattle.hc_model.specs.Sound as sound
 use Rattle.hc_model.specs.Whose as whose

@@ -1,7 +1,6 @@
 -- The lists stand in order in every run.
 use Rattle.std.proofs.Common.{◌≡◌, ℕ, ◌+◌, ◌<◌, ◌≤◌, List, [], ◌∷◌, Option, Some, None, refl, arith}
-use Rattle.hc_effects.proofs.Vocabulary.{Opening, opening_in, Event, Limits, denial, Flaw, entry_of, OfRuns, OfRunsIn, Descends, InOrder, Tables, Sound, after_accepted, last_start_after, starts_after, opened_after, openings_after}
-use Rattle.hc_event.specs.declared.event.Event.TheVariants as event
+use Rattle.hc_effects.proofs.Vocabulary.{Opening, opening_in, Event, Limits, denial, Flaw, entry_of, OfRuns, OfRunsIn, Descends, InOrder, Tables, Sound, after_accepted, last_start_after, starts_after, opened_after, openings_after, event}
 use Rattle.hc_laws.proofs.{FitsRuns.{fits}, RunFacts.{in_runs}}
 use Rattle.hc_effects.proofs.NumbersKeep.{opens_next, starts_later}
 

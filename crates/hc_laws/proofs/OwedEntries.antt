@@ -6,15 +6,11 @@
 -- there before, and what a piece is written to isn't lost.
 use Rattle.std.{proofs.Common.{◌≡◌, ◌≤◌, ℕ, List, [], ◌∷◌, ◌++◌, length, Bool, true, false, Option, Some, None, refl, ap, sym, ◌∙◌, subst}, specs.{Prelude.{if◌then◌else◌, ◌||◌, not, map}, Option.{option_and_then}}}
 use Rattle.hc_text.proofs.Basics.{both_true as and_both, or_left, or_right}
-use Rattle.hc_effects.proofs.Vocabulary.{is_denied, Act, Cause, LostKind, Refusal, Event, Response, head_refusal, Limits, Room, has_loss, without_losses, answer, accepted_acts, answer_acts, loss_acts, close_acts, denied_or, case_of, is_founding, is_joining, closing, denial, as_open, Entry, entry_without_acts, family, Flaw, NoFlaw, Loses, Misreads, flaw_in, Move, Nothing, Fails, acts_of, Places, poll_move, Tables, Exchange, Representation, Consumer, IsOwed, may_stand, may_be, may_lose, is_kept, flaw_by_room, size_flaw, owed, has_room, Sound, room_for, room_by, write_of_piece, piece_write, evicted, written_representation, head_writes, may_validate, piece_writes, unless_lost, lossless}
-use Rattle.hc_event.specs.declared.act.Act.TheVariants as act
-use Rattle.hc_event.specs.declared.act.Cause.TheVariants as cause
+use Rattle.hc_effects.proofs.Vocabulary.{is_denied, Act, Cause, LostKind, Refusal, Event, Response, head_refusal, Limits, Room, has_loss, without_losses, answer, accepted_acts, answer_acts, loss_acts, close_acts, denied_or, case_of, is_founding, is_joining, closing, denial, as_open, Entry, entry_without_acts, family, Flaw, NoFlaw, Loses, Misreads, flaw_in, Move, Nothing, Fails, acts_of, Places, poll_move, Tables, Exchange, Representation, Consumer, IsOwed, may_stand, may_be, may_lose, is_kept, flaw_by_room, size_flaw, owed, has_room, Sound, room_for, room_by, write_of_piece, piece_write, evicted, written_representation, head_writes, may_validate, piece_writes, unless_lost, lossless, act, cause, room, write}
 use Rattle.hc_event.specs.declared.act.LostKind.TheVariants as kind
 use Rattle.hc_event.specs.declared.act.Refusal.TheVariants as refusal
 use Rattle.hc_event.specs.declared.event.Event.TheVariants as event
 use Rattle.hc_rules.specs.Refusals as refusals
-use Rattle.hc_rules.specs.declared.room.Room.TheVariants as room
-use Rattle.hc_rules.specs.declared.room.Write.TheVariants as write
 use Rattle.hc_effects.proofs.{Basics.{false_true, number_yes}, FailsTold.{fails_told}, FoundCases.{no_loss}, EvictsLast.{flaw_same}}
 use Rattle.hc_laws.proofs.ExchangeFilters.{headless}
 

@@ -1,9 +1,7 @@
 -- Who has no own exchange after an entry had none before, or its own one becomes that of a shared writing.
 use Rattle.std.{proofs.Common.{◌≡◌, ◌⊎◌, inl, inr, ℕ, Bool, true, false, Option, Some, None, refl, ap, ◌∙◌}, specs.Prelude.{if◌then◌else◌, is_none, ◌==◌, ◌&&◌, not}}
 use Rattle.hc_text.proofs.Basics.{and_left, and_right, bool_cases}
-use Rattle.hc_effects.proofs.Vocabulary.{Opening, opening_in, Event, Response, Place, case_at, consumer_heard, by_head, by_fault, becomes_shared, by_opening, own_after, left_to, waiting, consumer_acted, due_after, is_number, Entry, Tables, Exchange, Representation, Consumer, loses_writing, survivor}
-use Rattle.hc_event.specs.declared.event.Event.TheVariants as event
-use Rattle.hc_event.specs.declared.place.Place.TheVariants as place
+use Rattle.hc_effects.proofs.Vocabulary.{Opening, opening_in, Event, Response, Place, case_at, consumer_heard, by_head, by_fault, becomes_shared, by_opening, own_after, left_to, waiting, consumer_acted, due_after, is_number, Entry, Tables, Exchange, Representation, Consumer, loses_writing, survivor, event, place}
 use Rattle.hc_effects.proofs.{Basics.{some_none}, PieceKeeps.{eq_cases}, ExclusiveWriters.{writer_some}}
 
 module _ (t : Tables) (e : Entry) (c : ℕ) where

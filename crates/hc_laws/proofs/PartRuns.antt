@@ -1,11 +1,7 @@
 -- A part that is read isn't empty, and who founded with the whole reads all of it, in every run.
 use Rattle.std.{proofs.{Common.{◌≡◌, ◌≢◌, inl, inr, ℕ, ◌<◌, Bool, true, false, Option, Some, None, refl, ap, sym, ◌∙◌, arith}, lemmas.Bool.Decides.{nat_tests}}, specs.{Prelude.{is_some, nat_eq}, Option.{option_or}}}
 use Rattle.hc_text.proofs.Basics.{not_some as none_some, same_some as same_row, some_inj}
-use Rattle.hc_effects.proofs.Vocabulary.{Event, Request, Response, HeadCase, Limits, range_of, wanted_of, BoundBy, has_loss, case_at, head_view, consumer_heard, waiting, denial, Entry, promise_in, Flaw, founded_total, entry_of, OfRuns, OfRunsIn, Parts, is_ranged, length_in, Tables, Exchange, Representation, Consumer, Sound, after_accepted}
-use Rattle.hc_event.specs.declared.event.Event.TheVariants as event
-use Rattle.hc_rules.specs.declared.heads.HeadCase.TheVariants as case
-use Rattle.hc_event.specs.declared.place.BoundBy.TheVariants as by
-use Rattle.hc_event.specs.declared.place.Place.TheVariants as place
+use Rattle.hc_effects.proofs.Vocabulary.{Event, Request, Response, HeadCase, Limits, range_of, wanted_of, BoundBy, has_loss, case_at, head_view, consumer_heard, waiting, denial, Entry, promise_in, Flaw, founded_total, entry_of, OfRuns, OfRunsIn, Parts, is_ranged, length_in, Tables, Exchange, Representation, Consumer, Sound, after_accepted, event, case, by, place}
 use Rattle.hc_model.specs.Sound as sound
 use Rattle.hc_effects.proofs.{Basics.{some_row}, BoundFrom.{BoundFrom, IsRow, IsFounded, IsInterval, bound_from}, Bounded.{range_order}, ConsumerFilters.{acted, heard_same}, FirstKeeps.{case_of_head, whole_200, replaced_200, is_new}, FoundBy.{founds_range, CaseBy}, RepFrom.{RepFrom, rep_from}, WantedSpans.{wanted_some}}
 use Rattle.hc_effects.proofs.BoundFrom as from

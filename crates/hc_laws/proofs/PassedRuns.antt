@@ -1,7 +1,6 @@
 -- Who was let through waits for what is current, and its 304 came from its own exchange, in every run.
 use Rattle.std.proofs.Common.{◌≡◌, ℕ, Bool, true, false, Option, Some, None, refl, subst}
-use Rattle.hc_event.specs.declared.place.Place.TheVariants as place
-use Rattle.hc_effects.proofs.Vocabulary.{OfRuns, Turns, Owners, Passed, Places, own_open, Tables, Exchange, Consumer, tables}
+use Rattle.hc_effects.proofs.Vocabulary.{place, OfRuns, Turns, Owners, Passed, Places, own_open, Tables, Exchange, Consumer, tables}
 use Rattle.hc_model.specs.Passed.{WaitsForCurrent, OwnsOver}
 use Rattle.hc_effects.proofs.{Basics.{some_none, some_row}, KeyNames.{current_key}, PollKeeps.{current_stays}}
 use Rattle.hc_laws.proofs.{InRuns.{turned_in_runs}, PlacesStand.{Stands, AreStanding}, PlaceRuns.{known_in_runs, places_in_runs}, SoundRuns.{owners_in_runs}}

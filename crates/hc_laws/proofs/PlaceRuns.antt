@@ -1,10 +1,7 @@
 -- What holds of a consumer by its place holds in every run.
 use Rattle.std.{proofs.Common.{◌≡◌, ℕ, Bool, true, false, Option, Some, None, refl, ap, sym, ◌∙◌, subst}, specs.Prelude.{is_some}}
 use Rattle.hc_text.proofs.Basics.{never_true, not_some as none_some, same_some as same_row}
-use Rattle.hc_effects.proofs.Vocabulary.{Response, route_of, Place, Endings, Entry, Contents, is_open, entry_of, OfRuns, Turns, Owners, IsAwaiting, IsPast, IsReading, Places, IsAway, ReadsPast, own_open, reads, hi_of, end_in, Tables, Exchange, Consumer, Sound, tables, first_tables, after_denied}
-use Rattle.hc_rules.specs.declared.need.Route.TheVariants as route
-use Rattle.hc_event.specs.declared.place.Place.TheVariants as place
-use Rattle.hc_event.specs.declared.place.BoundBy.TheVariants as by
+use Rattle.hc_effects.proofs.Vocabulary.{Response, route_of, Place, Endings, Entry, Contents, is_open, entry_of, OfRuns, Turns, Owners, IsAwaiting, IsPast, IsReading, Places, IsAway, ReadsPast, own_open, reads, hi_of, end_in, Tables, Exchange, Consumer, Sound, tables, first_tables, after_denied, route, place, by}
 use Rattle.hc_model.specs.Owners as owners
 use Rattle.hc_model.specs.Places.{IsIdle, AwaitsTurn, IsUnheard}
 use Rattle.hc_laws.proofs.{InRuns.{turned_in_runs}, PlacesKept.{AreOwn, IsOwnTurn, own_kept, turn_direct, bound_turn}, PlacesRead.{AreRead, read_kept}, PlacesEnded.{AreEnded, ended_kept}, PlacesGiven.{ArePast, past_kept}, PlacesShown.{AreReaders, IsReader, readers_kept}, PlacesStand.{Stands, AreStanding, standing_kept}, PlacesTold.{AreTold, told_kept, told_denied, down_told}, ReadEnds.{bounded}, ReadJoined.{fallback}, RunFacts.{in_runs_with}, SoundRuns.{carried}, TurnFacts.{IsTaken}, Unreached.{unreached}}

@@ -3,14 +3,8 @@ use Rattle.std.{proofs.{Common.{◌≡◌, inl, inr, ℕ, ◌+◌, ◌-◌, ◌<
 use Rattle.hc_text.proofs.Basics.{and_right, bool_cases, not_some as none_some, some_inj}
 use Rattle.hc_range.specs.declared.range.Span.{Span}
 use Rattle.hc_sparse.specs.{Cells.{Cell}, declared.run.Run.{Run}}
-use Rattle.hc_effects.proofs.Vocabulary.{is_denied, Event, Request, Response, Act, Cause, Why, Length, Plan, ReadView, Limits, base_of, promise_of, plan_of, read_step, is_at_end, stored_or, held_or, fails_or, waits_or, opens, BoundBy, Place, accepted_acts, answer_acts, may_begin, total_in, Entry, History, Contents, base, promised_bytes, length_by, Flaw, flaw_in, Shown, shown_of, given_of, OfRuns, Measures, Move, Nothing, Asks, Opens, Ends, Fails, acts_of, gives, waits_for, opens_hole, shows_stored, plan_move, plan_view, binds_current, move_of, shows_at, shows_bound, shows_direct, shows_answer, has_joined, reads, lo_of, hi_of, offset, base_in, end_in, end_of_direct, ReadsAct, Says, Holds, IsEnd, body_of, cell_by, direct_cell, answer_cell, end_by, Tables, Exchange, Representation, Consumer, IsRun, Sound, step_move, reading, read_view, later_hole, tables}
-use Rattle.hc_event.specs.declared.act.Act.TheVariants as act
-use Rattle.hc_event.specs.declared.act.Cause.TheVariants as cause
-use Rattle.hc_event.specs.declared.act.Wait.TheVariants as wait
+use Rattle.hc_effects.proofs.Vocabulary.{is_denied, Event, Request, Response, Act, Cause, Why, Length, Plan, ReadView, Limits, base_of, promise_of, plan_of, read_step, is_at_end, stored_or, held_or, fails_or, waits_or, opens, BoundBy, Place, accepted_acts, answer_acts, may_begin, total_in, Entry, History, Contents, base, promised_bytes, length_by, Flaw, flaw_in, Shown, shown_of, given_of, OfRuns, Measures, Move, Nothing, Asks, Opens, Ends, Fails, acts_of, gives, waits_for, opens_hole, shows_stored, plan_move, plan_view, binds_current, move_of, shows_at, shows_bound, shows_direct, shows_answer, has_joined, reads, lo_of, hi_of, offset, base_in, end_in, end_of_direct, ReadsAct, Says, Holds, IsEnd, body_of, cell_by, direct_cell, answer_cell, end_by, Tables, Exchange, Representation, Consumer, IsRun, Sound, step_move, reading, read_view, later_hole, tables, act, cause, wait, plan, by, place}
 use Rattle.hc_rules.specs.declared.length.Length.TheVariants as told
-use Rattle.hc_rules.specs.declared.plan.Plan.TheVariants as plan
-use Rattle.hc_event.specs.declared.place.BoundBy.TheVariants as by
-use Rattle.hc_event.specs.declared.place.Place.TheVariants as place
 use Rattle.hc_model.specs.Exchanges as exchanges
 use Rattle.hc_model.specs.Moves as moves
 use Rattle.hc_model.specs.Reads.{EndsWell}

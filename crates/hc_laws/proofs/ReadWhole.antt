@@ -1,9 +1,6 @@
 -- Every run reads whole: each consumer is shown one head at most, for a reason that holds, and reads one interval of the body of that.
 use Rattle.std.{proofs.Common.{◌≡◌, inl, ℕ, List, [], ◌∷◌, ◌++◌, Bool, true, false, Some, refl, ap, sym, ◌∙◌, subst}, specs.Prelude.{map}}
-use Rattle.hc_effects.proofs.Vocabulary.{is_denied, Act, Limits, accepted_acts, answer_acts, loss_acts, close_acts, may_begin, Entry, History, Contents, Flaw, Loses, flaw_in, shown_of, given_of, Move, Nothing, Asks, Opens, Shows, Gives, Ends, Fails, acts_of, move_of, ReadsAct, ReadsActs, Says, Tables, Consumer, IsRun, tables, evicted}
-use Rattle.hc_event.specs.declared.act.Act.TheVariants as act
-use Rattle.hc_event.specs.declared.act.Cause.TheVariants as cause
-use Rattle.hc_event.specs.declared.act.Wait.TheVariants as wait
+use Rattle.hc_effects.proofs.Vocabulary.{is_denied, Act, Limits, accepted_acts, answer_acts, loss_acts, close_acts, may_begin, Entry, History, Contents, Flaw, Loses, flaw_in, shown_of, given_of, Move, Nothing, Asks, Opens, Shows, Gives, Ends, Fails, acts_of, move_of, ReadsAct, ReadsActs, Says, Tables, Consumer, IsRun, tables, evicted, act, cause, wait}
 use Rattle.hc_model.specs.Moves as moves
 use Rattle.hc_model.specs.Reads.{ReadsEach, RunsReadWhole}
 use Rattle.hc_effects.proofs.{ActParts.{IsAnswer, IsSaid, answer_is, said_is}, Basics.{false_true, append_none}, Owed.{IsDenied, is_denial, acts_are}, ShownOnce.{is_showing, shown_shows}}

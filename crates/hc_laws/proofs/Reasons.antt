@@ -1,14 +1,12 @@
 -- The reason for which a consumer is shown a head holds, in every run.
 use Rattle.std.{proofs.Common.{◌≡◌, ℕ, ◌-◌, [], ◌∷◌, Bool, true, false, Option, Some, None, refl, ap, sym, ◌∙◌, subst}, specs.{Prelude.{is_some, nat_eq, nat_lt, ◌||◌}, Option.{option_map, option_and_then}}}
 use Rattle.hc_text.proofs.Basics.{not_some as none_some, or_left, or_right, eq_itself as same_number, some_inj}
-use Rattle.hc_effects.proofs.Vocabulary.{is_denied, Why, Event, Request, Limits, Place, may_begin, consumer_heard, kept_by, current, is_number, denial, Entry, History, Contents, exchange_in, Flaw, flaw_in, opening_of, joined_of, request_of, opened_in, entry_of, OfRuns, Turns, Owners, IsFor, has_joined, Tables, Exchange, Representation, Consumer, IsRun, IsOwed, Sound, tables, after_accepted, after_denied}
-use Rattle.hc_event.specs.declared.act.Wait.TheVariants as wait
+use Rattle.hc_effects.proofs.Vocabulary.{is_denied, Why, Event, Request, Limits, Place, may_begin, consumer_heard, kept_by, current, is_number, denial, Entry, History, Contents, exchange_in, Flaw, flaw_in, opening_of, joined_of, request_of, opened_in, entry_of, OfRuns, Turns, Owners, IsFor, has_joined, Tables, Exchange, Representation, Consumer, IsRun, IsOwed, Sound, tables, after_accepted, after_denied, wait, place}
 use Rattle.hc_event.specs.declared.act.Why.TheVariants as why_is
 use Rattle.hc_cachectl.specs.{declared.directives.Directives.{Directives}, Directives.{of_request, of_response}}
 use Rattle.hc_event.specs.declared.event.Load.{Load}
 use Rattle.hc_fresh.specs.{Allowed.{allowed_by, is_validate, is_zero, is_older, lacks, is_skip, accepts}, Ages.{age}, Facts.{allowed}, Lifetimes.{lifetime}}
 use Rattle.hc_record.specs.Head.{Head}
-use Rattle.hc_event.specs.declared.place.Place.TheVariants as place
 use Rattle.hc_model.specs.{Histories.{Opened}, Reads.{IsReason, has_selected, selects_at, aims_at, allowed_on}}
 use Rattle.hc_laws.proofs.{Aimed.{IsAimed, aimed_begun, aimed_denied, aimed_kept}, Barred.{next_tables, denied_tables}, InRuns.{turned_in_runs}, JoinFilters.{exchanges_are_filtered}, PassedFrom.{validates, stood, busies, PassedFrom, passed_from}, RunFacts.{in_runs}, SoundRuns.{carried}, WhyShown.{ShownWhy}}
 use Rattle.hc_effects.proofs.{Basics.{false_true}, Forward.{is_on}, Joining.{mix}, OfEntries.{of_real}, ReadFilters.{consumers_are_filtered}, Said.{waiting_by}}

@@ -1,8 +1,7 @@
 -- What a representation has is a filter of the list of entries.
 use Rattle.std.{proofs.{Common.{◌≡◌, inl, inr, ℕ, List, [], ◌∷◌, ◌++◌, length, Bool, true, false, cond, Option, Some, None, refl, ap, sym, ◌∙◌, subst}, lemmas.List.{append-nil}}, specs.Prelude.{if◌then◌else◌, ◌==◌, ◌||◌, ◌&&◌, not, is_some, option_map, find}}
 use Rattle.hc_text.proofs.Basics.{bool_cases, some_inj}
-use Rattle.hc_effects.proofs.Vocabulary.{is_denied, Event, Response, loses_in, Entry, History, Content, Contents, family, Tables, Exchange, Representation, representation_after, representation_heard, representation_acted, founded_at, new_representation, representation_after_head, with_renewed_head, updates, representation_after_piece, with_total_if_none, length_in, tables, after, first_tables, representation_of_content, if_accepted}
-use Rattle.hc_event.specs.declared.event.Event.TheVariants as event
+use Rattle.hc_effects.proofs.Vocabulary.{is_denied, Event, Response, loses_in, Entry, History, Content, Contents, family, Tables, Exchange, Representation, representation_after, representation_heard, representation_acted, founded_at, new_representation, representation_after_head, with_renewed_head, updates, representation_after_piece, with_total_if_none, length_in, tables, after, first_tables, representation_of_content, if_accepted, event}
 use Rattle.hc_sparse.specs.{Cells.{Cells, nothing, cells_with, inside}, declared.run.Run.{Run}}
 use Rattle.hc_model.specs.Histories.{piece_by, piece_in, pieces_of, was_lost, stored_of, over, begun_with, cells_in, IsFilteredRow, RunsAreFiltered}
 use Rattle.hc_effects.proofs.{Owed.{denied_loses}, ReadFilters.{consumers_are_filtered}}

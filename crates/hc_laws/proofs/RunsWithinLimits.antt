@@ -1,8 +1,7 @@
 -- What each start brings, each request that is kept has: few and short fields, and a target as its key.
 use Rattle.std.{proofs.{Common.{◌≡◌, ℕ, List, [], ◌∷◌, ◌++◌, Bool, true, false, Some, ap, sym, ◌∙◌, subst, arith}, lemmas.Bool.Decides.{nat_tests}}, specs.Prelude.{option_map, ◌==◌, if◌then◌else◌}}
 use Rattle.hc_text.proofs.Basics.{not_some as none_some, some_inj}
-use Rattle.hc_effects.proofs.Vocabulary.{is_denied, Event, Request, Entry, Contents, History, each, first, if_accepted, request_in, HasFieldsWithinLimits, HasTarget, Consumer, IsHeadWithinLimits, tables}
-use Rattle.hc_event.specs.declared.event.Event.TheVariants as event
+use Rattle.hc_effects.proofs.Vocabulary.{is_denied, Event, Request, Entry, Contents, History, each, first, if_accepted, request_in, HasFieldsWithinLimits, HasTarget, Consumer, IsHeadWithinLimits, tables, event}
 use Rattle.hc_fields.specs.FieldList.{IsWithinLimits}
 use Rattle.hc_target.specs.Targets.{is_target}
 use Rattle.hc_model.specs.WithinLimits.{FieldsAreWithinLimits, RequestsStayWithinLimits, HeadsComeWithinLimits, StartsHaveTargets, RequestsStayForTargets}

@@ -4,15 +4,8 @@
 -- Each of these puts it at some place: where it waits, is bound, is shown what comes, or is down. It is over at none but by a cancel
 -- of it, or by acts that tell it the end or a failure. Who starts over stands in the line, where it is live.
 use Rattle.std.{proofs.{Common.{◌≡◌, inl, inr, ℕ, Bool, true, false, Option, Some, None, refl, ap, ◌∙◌, arith}, lemmas.Bool.Decides.{nat_tests}}, specs.Prelude.{◌&&◌, not, is_none, nat_eq, if◌then◌else◌}}
-use Rattle.hc_effects.proofs.Vocabulary.{Opening, opening_in, leaves_in, Wait, Event, Request, Response, BoundBy, Place, route_of, HeadCase, Route, Wanted, wait_in, Showing, showing_in, case_at, bound_to_wanted, passed_on, place_by_case, by_head, by_fault, consumer_heard, kept_by, passed_by, waiting_place, place_for_hole, opened_place, unless_bound, by_opening, shown_place, waiting, consumer_acted, consumer_after, consumer_settled, due_after, back_in_line, current, row_of, is_live, is_live_place, Entry, bound_to, reads, Tables, Exchange, Representation, Consumer, starts_over, after}
-use Rattle.hc_event.specs.declared.act.Cause.TheVariants as cause
-use Rattle.hc_event.specs.declared.act.Wait.TheVariants as wait
-use Rattle.hc_event.specs.declared.event.Event.TheVariants as event
-use Rattle.hc_event.specs.declared.place.BoundBy.TheVariants as by
+use Rattle.hc_effects.proofs.Vocabulary.{Opening, opening_in, leaves_in, Wait, Event, Request, Response, BoundBy, Place, route_of, HeadCase, Route, Wanted, wait_in, Showing, showing_in, case_at, bound_to_wanted, passed_on, place_by_case, by_head, by_fault, consumer_heard, kept_by, passed_by, waiting_place, place_for_hole, opened_place, unless_bound, by_opening, shown_place, waiting, consumer_acted, consumer_after, consumer_settled, due_after, back_in_line, current, row_of, is_live, is_live_place, Entry, bound_to, reads, Tables, Exchange, Representation, Consumer, starts_over, after, cause, wait, event, by, case, route, wanted}
 use Rattle.hc_event.specs.declared.place.Place.TheVariants as place
-use Rattle.hc_rules.specs.declared.heads.HeadCase.TheVariants as case
-use Rattle.hc_rules.specs.declared.need.Route.TheVariants as route
-use Rattle.hc_rules.specs.declared.request.Wanted.TheVariants as wanted
 use Rattle.hc_model.specs.ConsumerRows.{with_head, with_opening}
 use Rattle.hc_laws.proofs.LiveAfter.{consumer_behind}
 

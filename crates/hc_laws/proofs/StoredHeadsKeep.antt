@@ -1,8 +1,7 @@
 -- The moments of stored heads stay in order, and no length stands among their fields.
 use Rattle.std.{proofs.{Common.{◌≡◌, inl, inr, ℕ, ◌≤◌, List, [], ◌∷◌, Bool, true, false, None, Option, Some, refl, ap, sym, ◌∙◌, subst, arith}, lemmas.Bool.Decides.{nat_tests}}, specs.Prelude.{◌==◌, nat_le, find, option_map, codes}}
 use Rattle.hc_text.proofs.Basics.{and_left, and_right, not_some as none_some, not_true as not_yes, some_inj}
-use Rattle.hc_effects.proofs.Vocabulary.{is_denied, Event, Response, Limits, may_begin, are_good, has_right_head, Entry, History, Content, Contents, exchange_heard, OfRuns, Tables, Exchange, Representation, StoredHeads, IsHeadWithinLimits, AreWithinLimits, tables, first_tables, representation_of_content, after, after_accepted, after_denied}
-use Rattle.hc_event.specs.declared.event.Event.TheVariants as event
+use Rattle.hc_effects.proofs.Vocabulary.{is_denied, Event, Response, Limits, may_begin, are_good, has_right_head, Entry, History, Content, Contents, exchange_heard, OfRuns, Tables, Exchange, Representation, StoredHeads, IsHeadWithinLimits, AreWithinLimits, tables, first_tables, representation_of_content, after, after_accepted, after_denied, event}
 use Rattle.hc_fields.specs.FirstValues.{has_field}
 use Rattle.hc_record.specs.Head.{Head}
 use Rattle.hc_validate.specs.Updates.{is_within_limits}

@@ -2,8 +2,7 @@
 use Rattle.std.{proofs.Common.{◌≡◌, ◌≢◌, ◌⊎◌, inl, inr, ℕ, List, [], ◌∷◌, length, Bool, true, false, Option, Some, None, refl, ap, sym, ◌∙◌, arith}, specs.{Prelude.{is_some, ◌||◌, not, unwrap_or, if◌then◌else◌, codes}, Option.{option_and_then}}}
 use Rattle.hc_text.proofs.Basics.{and_left, and_right, not_some as none_some, some_inj}
 use Rattle.hc_etag.specs.TagTexts.{strong_in}
-use Rattle.hc_effects.proofs.Vocabulary.{Event, Response, fits_to_found, range_of, strong_of, Limits, loses_in, has_loss, case_at, is_joining, fits_asker, row_of, denial, Entry, is_open, front, Flaw, is_keepable, entry_of, HasByte, is_written, new_representation, Tables, Exchange, Representation, Consumer, IsGrowing, IsOfOne, Tags, after_accepted, after_denied}
-use Rattle.hc_event.specs.declared.event.Event.TheVariants as event
+use Rattle.hc_effects.proofs.Vocabulary.{Event, Response, fits_to_found, range_of, strong_of, Limits, loses_in, has_loss, case_at, is_joining, fits_asker, row_of, denial, Entry, is_open, front, Flaw, is_keepable, entry_of, HasByte, is_written, new_representation, Tables, Exchange, Representation, Consumer, IsGrowing, IsOfOne, Tags, after_accepted, after_denied, event}
 use Rattle.hc_fields.specs.{FieldList.{values_of}, FirstValues.{only_of}}
 use Rattle.hc_range.specs.declared.range.Asked.{Asked}
 use Rattle.hc_record.specs.Head.{joining_of, one_strong_opaque, strong_opaque}

@@ -1,5 +1,5 @@
 -- What is called whole is whole.
-use Rattle.std.{proofs.Common.{◌≡◌, ℕ, List, Bool, true, false, cond, Option, Some, None, refl}}
+use Rattle.std.proofs.Common.{◌≡◌, ℕ, List, Bool, true, false, cond, Option, Some, None, refl}
 use Rattle.hc_record.specs.declared.kind.Kind.TheVariants as kind
 use Rattle.hc_effects.proofs.Vocabulary.{current, kind_of, kind_for, is_growing, is_complete, is_front, covers_all, Tables, Representation}
 use Rattle.hc_model.specs.Laws.{IsWhole}

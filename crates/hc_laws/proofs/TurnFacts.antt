@@ -3,8 +3,7 @@
 use Rattle.std.{proofs.Common.{◌≡◌, ◌⊎◌, inl, inr, ℕ, List, [], ◌∷◌, ◌++◌, Bool, true, false, Option, Some, None, refl, ap, sym, ◌∙◌, subst}, specs.Prelude.{◌&&◌, not, ◌||◌, ◌==◌, nat_eq, map, filter, reverse}}
 use Rattle.hc_text.proofs.Basics.{bool_cases, or_cases, or_right as or_yes}
 use mathlib.Core.List.{reverse_aux}
-use Rattle.hc_effects.proofs.Vocabulary.{is_denied, closes_in, evicts_in, opening_in, leaves_in, Act, Event, Response, Limits, loses_in, has_loss, misreads_in, fails_in, accepted_acts, answer_acts, loss_acts, close_acts, case_at, case_of, closing, closes_row, must_close, doomed_key_of, doomed_in, doomed_by_head, doomed_by_case, Entry, exchange_heard, Flaw, NoFlaw, Loses, Misreads, flaw_in, Turns, Move, acts_of, poll_move, Tables, Exchange, Representation, is_keepable, Consumer, IsOwed, may_stand, may_be, Sound, Among, evicted}
-use Rattle.hc_event.specs.declared.act.Act.TheVariants as act
+use Rattle.hc_effects.proofs.Vocabulary.{is_denied, closes_in, evicts_in, opening_in, leaves_in, Act, Event, Response, Limits, loses_in, has_loss, misreads_in, fails_in, accepted_acts, answer_acts, loss_acts, close_acts, case_at, case_of, closing, closes_row, must_close, doomed_key_of, doomed_in, doomed_by_head, doomed_by_case, Entry, exchange_heard, Flaw, NoFlaw, Loses, Misreads, flaw_in, Turns, Move, acts_of, poll_move, Tables, Exchange, Representation, is_keepable, Consumer, IsOwed, may_stand, may_be, Sound, Among, evicted, act}
 use Rattle.hc_event.specs.declared.act.Cause.TheVariants as cause
 use Rattle.hc_event.specs.declared.event.Event.TheVariants as event
 use Rattle.hc_model.specs.Moves as moves

@@ -1,8 +1,7 @@
 -- Acts that are owed to an accepted event aren't those of a denied one.
 use Rattle.std.{proofs.Common.{◌≡◌, ℕ, List, [], ◌∷◌, ◌++◌, false, refl}, specs.Prelude.{map}}
-use Rattle.hc_effects.proofs.Vocabulary.{is_denied, Event, Act, Limits, accepted_acts, answer_acts, poll_acts, loss_acts, close_acts, Flaw, NoFlaw, Loses, Misreads, Move, Nothing, acts_of, poll_move, closing, Tables, evicted}
+use Rattle.hc_effects.proofs.Vocabulary.{is_denied, Event, Act, Limits, accepted_acts, answer_acts, poll_acts, loss_acts, close_acts, Flaw, NoFlaw, Loses, Misreads, Move, Nothing, acts_of, poll_move, closing, Tables, evicted, act}
 use Rattle.hc_event.specs.declared.event.Event.TheVariants as event
-use Rattle.hc_event.specs.declared.act.Act.TheVariants as act
 
 then_closes : (ys : List ℕ) (flaw : Flaw) → is_denied (map act.Close ys ++ loss_acts flaw) ≡ false
 then_closes [] NoFlaw = refl

@@ -1,8 +1,7 @@
 -- An open exchange has yet to bring some of what it promised, in every run.
 use Rattle.std.{proofs.Common.{◌≡◌, inl, inr, ℕ, List, length, Bool, true, false, Option, Some, None, refl, ap, sym, ◌∙◌}, specs.Prelude.{◌&&◌, ◌++◌, not, nat_eq, if◌then◌else◌}}
 use Rattle.hc_text.proofs.Basics.{and_right, not_some as none_some, some_inj}
-use Rattle.hc_effects.proofs.Vocabulary.{Opening, opening_in, closes_in, Event, Limits, denial, Entry, exchange_after, exchange_heard, exchange_acted, exchange_made, promise_in, promised_bytes, is_reached, Flaw, entry_of, OfRunsIn, Tables, Exchange, Sound, after_accepted}
-use Rattle.hc_event.specs.declared.event.Event.TheVariants as event
+use Rattle.hc_effects.proofs.Vocabulary.{Opening, opening_in, closes_in, Event, Limits, denial, Entry, exchange_after, exchange_heard, exchange_acted, exchange_made, promise_in, promised_bytes, is_reached, Flaw, entry_of, OfRunsIn, Tables, Exchange, Sound, after_accepted, event}
 use Rattle.hc_effects.proofs.{Basics.{false_true}, FirstKeeps.{is_new}, PieceKeeps.{eq_cases}, ExchangeFrom.{not_left}}
 use Rattle.hc_laws.proofs.RunFacts.{in_runs}
 

@@ -1,9 +1,6 @@
 -- No wait goes in a circle, in any run: who reads past the store waits for nobody, whom a busy one waits for reads, and what has no known length, or is written for several, is read.
 use Rattle.std.{proofs.Common.{◌≡◌, ◌≢◌, ◌⊎◌, inl, inr, ℕ, List, [], ◌∷◌, true, Option, Some, None, refl, ap, sym, ◌∙◌, subst}, specs.{Prelude.{is_some}, Option.{option_and_then}}}
-use Rattle.hc_effects.proofs.Vocabulary.{Wait, Response, Candidate, least, range_of, wanted_of, current, is_headless, OfRuns, WaitsEnd, WaitsForNobody, Owners, IsPast, plan_view, move_of, shows_at, shows_answer, shows_direct, if_headless, is_written, bound, own_open, Tables, Exchange, Representation, Consumer, Sound, IsBound, tables}
-use Rattle.hc_event.specs.declared.act.Wait.TheVariants as wait
-use Rattle.hc_rules.specs.declared.request.Wanted.TheVariants as wanted
-use Rattle.hc_event.specs.declared.place.Place.TheVariants as place
+use Rattle.hc_effects.proofs.Vocabulary.{Wait, Response, Candidate, least, range_of, wanted_of, current, is_headless, OfRuns, WaitsEnd, WaitsForNobody, Owners, IsPast, plan_view, move_of, shows_at, shows_answer, shows_direct, if_headless, is_written, bound, own_open, Tables, Exchange, Representation, Consumer, Sound, IsBound, tables, wait, wanted, place}
 use Rattle.hc_model.specs.Moves as moves
 use Rattle.hc_model.specs.Owners as owners
 use Rattle.hc_effects.proofs.{AboutKeeps.{own_open_is}, Basics.{false_true, some_none}, Exclusives.{exclusive_parts}, HadKeeps.{among_least}, HasBound.{reader_of}, PollKeeps.{current_stays}, Said.{WaitsAs}, ShownFrom.{IsCandidate, candidate_is}, WaitedAs.{IsForOthers, waited_as}}

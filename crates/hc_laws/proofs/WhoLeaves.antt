@@ -5,11 +5,8 @@
 -- is closed, and nothing is lost. By any other entry the place of a live consumer becomes none but one at which it is live.
 use Rattle.std.{proofs.{Common.{◌≡◌, ◌⊎◌, inl, inr, ℕ, List, [], ◌∷◌, ◌++◌, Bool, true, false, Option, Some, None, refl, ap, sym, ◌∙◌, subst, arith}, lemmas.Bool.Decides.{nat_tests}}, specs.Prelude.{map, nat_eq, nat_lt}}
 use Rattle.hc_text.proofs.Basics.{and_none, and_left, bool_cases, false_true, not_some as none_some, eq_itself as same_number}
-use Rattle.hc_effects.proofs.Vocabulary.{closes_in, is_denied, leaves_in, Act, Event, Place, Limits, fails_in, loses_in, without_losses, accepted_acts, answer_acts, loss_acts, closing, consumer_after, denial, is_live, left_by, Entry, Flaw, NoFlaw, Loses, Misreads, flaw_in, becomes_gone, goes_in, Lawful, Move, acts_of, move_of, poll_move, Tables, Representation, Consumer, IsOwed, may_be, loses_what_it_waits_for, after, with_item_first, written_representation, written_in, seals_at, stops, first_found, lossless}
-use Rattle.hc_event.specs.declared.act.Act.TheVariants as act
-use Rattle.hc_event.specs.declared.act.Cause.TheVariants as cause
+use Rattle.hc_effects.proofs.Vocabulary.{closes_in, is_denied, leaves_in, Act, Event, Place, Limits, fails_in, loses_in, without_losses, accepted_acts, answer_acts, loss_acts, closing, consumer_after, denial, is_live, left_by, Entry, Flaw, NoFlaw, Loses, Misreads, flaw_in, becomes_gone, goes_in, Lawful, Move, acts_of, move_of, poll_move, Tables, Representation, Consumer, IsOwed, may_be, loses_what_it_waits_for, after, with_item_first, written_representation, written_in, seals_at, stops, first_found, lossless, act, cause, place}
 use Rattle.hc_event.specs.declared.event.Event.TheVariants as event
-use Rattle.hc_event.specs.declared.place.Place.TheVariants as place
 use Rattle.hc_rules.specs.Refusals as refusals
 use Rattle.hc_model.specs.Moves as moves
 use Rattle.hc_effects.proofs.{ActParts.{far_closing, far_lost_only}, Basics.{number_is}, EventsKeep.{poll_live}, FailsTold.{fails_told}, LeftBy.{left_passed}, Owed.{goes, acts_are, is_denial, IsDenied}, LeaveFrames.{IsFront, acts_left, goes_by, itself}, KeyActs.{closes_lossless}}

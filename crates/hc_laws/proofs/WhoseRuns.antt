@@ -1,8 +1,7 @@
 -- Each open exchange is somebody's, in every run.
 use Rattle.std.{proofs.Common.{◌≡◌, ℕ, true, Option, Some, None, refl, ap, sym, ◌∙◌}, specs.Prelude.{is_some}}
 use Rattle.hc_text.proofs.Basics.{not_some as none_some}
-use Rattle.hc_effects.proofs.Vocabulary.{Response, Place, family, IsOfOneKey, OfRuns, Owners, IsAwaiting, Places, own_open, Tables, Exchange, Representation, Consumer, Sound, IsHad, tables, Whose, IsSomebodys, IsOwner, may_own}
-use Rattle.hc_event.specs.declared.place.Place.TheVariants as place
+use Rattle.hc_effects.proofs.Vocabulary.{Response, Place, family, IsOfOneKey, OfRuns, Owners, IsAwaiting, Places, own_open, Tables, Exchange, Representation, Consumer, Sound, IsHad, tables, Whose, IsSomebodys, IsOwner, may_own, place}
 use Rattle.hc_model.specs.Owners as owners
 use Rattle.hc_model.specs.Sound as sound
 use Rattle.hc_model.specs.Whose.{IsOfKey}

@@ -1,8 +1,7 @@
 -- Nobody came alone to what has no known length: who came alone knows where its part ends.
 use Rattle.std.{proofs.Common.{◌≡◌, ℕ, Bool, true, false, Option, Some, None, refl, ap, sym, ◌∙◌}, specs.Prelude.{option_map, ◌&&◌, ◌==◌, if◌then◌else◌}}
 use Rattle.hc_text.proofs.Basics.{false_true, and_both as parts_on}
-use Rattle.hc_event.specs.declared.place.Place.TheVariants as place
-use Rattle.hc_effects.proofs.Vocabulary.{BoundBy, back_in_line, let_go, back_from, as_gone, Measures, is_bound_place, Tables, Representation, Sound, IsBound, came_alone, status_in}
+use Rattle.hc_effects.proofs.Vocabulary.{place, BoundBy, back_in_line, let_go, back_from, as_gone, Measures, is_bound_place, Tables, Representation, Sound, IsBound, came_alone, status_in}
 use Rattle.hc_model.specs.Effects.{waits_for}
 use Rattle.hc_model.specs.Rows as rows
 use Rattle.hc_model.specs.Sound as sound

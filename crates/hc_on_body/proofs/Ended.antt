@@ -6,13 +6,11 @@
 -- `stands_ended` joins these for `ShortAnswers`; `WholeEnds` uses its parts.
 use Rattle.std.{proofs.Common.{◌≡◌, ℕ, ◌+◌, ◌-◌, List, [], length, Bool, true, false, Option, Some, None, refl, ap, sym, ◌∙◌}, specs.{Prelude.{nat_eq, bytes_eq, drop, ◌==◌, ◌&&◌, if◌then◌else◌}, HashMap.{get}}}
 use Rattle.hc_text.proofs.Basics.{false_true}
-use Rattle.hc_effects.proofs.Vocabulary.{Limits, Response, base_of, promise_of, Place, current, is_number, over, at_end, base, family, promised_bytes, is_headless, length_by, absent_from, brings_to, offset, is_bound_place, base_in, end_in, end_of_direct, Tables, Exchange, Representation}
+use Rattle.hc_effects.proofs.Vocabulary.{Limits, Response, base_of, promise_of, Place, current, is_number, over, at_end, base, family, promised_bytes, is_headless, length_by, absent_from, brings_to, offset, is_bound_place, base_in, end_in, end_of_direct, Tables, Exchange, Representation, place, by}
 use Rattle.hc_store.specs.declared.backend.Backend.{Ghosts}
 use Rattle.hc_stored.specs.Entries.{shelf_of}
 use Rattle.hc_entry.specs.Keys.{kept_of}
 use Rattle.hc_exch.specs.{declared.row.Open.{Open}, Exchanges.{table_of}}
-use Rattle.hc_event.specs.declared.place.Place.TheVariants as place
-use Rattle.hc_event.specs.declared.place.BoundBy.TheVariants as by
 use Rattle.hc_model.specs.Rows as rows
 use Rattle.hc_state.specs.{Stored.{is_over}, declared.rows.Rows.{Rows}, Kept.{KeepsRunning, head_in, held_for, held_of, held_alone, unstored_bytes}, Lines.{is_away, is_away_at}, Stands.{RowsStand}}
 use Rattle.hc_state.proofs.{Fallbacks.{same, held_alike}, Closing.{base_over, promise_over}, OneOfEach.{entries_same, growing_same}, PastRows.{consumer_alike}, Ties.{key_same, runs_same}}

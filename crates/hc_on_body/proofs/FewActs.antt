@@ -1,8 +1,7 @@
 -- The acts of what gives way to a piece fit: two at most give way to a small one.
 use Rattle.std.proofs.{Common.{◌≡◌, ℕ, ◌<◌, ◌≤◌, ◌^◌, refl, sym, ◌∙◌, arith}, Math.{Bridge.{le_prop}, Logic.{∥∥₁_elim}}}
 use Rattle.hc_store.specs.declared.backend.Backend.{Ghosts}
-use Rattle.hc_effects.proofs.Vocabulary.{grown_by, Room, Write}
-use Rattle.hc_rules.specs.declared.room.Room.TheVariants as room
+use Rattle.hc_effects.proofs.Vocabulary.{grown_by, Room, Write, room}
 use Rattle.hc_effects.proofs.WeightsLeft.{two_give_way}
 use Rattle.hc_state.specs.{declared.rows.Rows.{Rows}, Room.{HasActs, LeavesActs, room_for_write}, Stands.{Stands}}
 use Rattle.hc_on_leave.proofs.PieceRoom.{may_make_room}

@@ -6,13 +6,9 @@
 -- the exchange is closed (`shared_answered`). That who goes on has all that is stored has the work. `grow` uses both.
 use Rattle.std.{proofs.{Common.{◌≡◌, ℕ, ◌+◌, ◌≤◌, List, [], ◌∷◌, ◌++◌, length, Bool, true, false, Option, Some, None, refl, ap, sym, ◌∙◌, subst, arith}, lemmas.List.{append_assoc}}, specs.Prelude.{is_some, map, option_map, ◌&&◌, ◌==◌}}
 use Rattle.hc_text.proofs.Basics.{eqb-same, false_true, some_inj as some_is, and_off as then_false}
-use Rattle.hc_effects.proofs.Vocabulary.{Limits, Act, LostKind, Event, Place, BoundBy, denial, Does, all_closed, back_from, as_gone, if_bound, left_with, let_all_go, lost_to, unless_reached, with_piece, family, front, Loses, flaw_in, entry_of, MayLetGo, is_bound, is_bound_place, is_written, offset, Tables, Exchange, Representation, IsExclusiveWriter, IsBound, evicted, exclusive, has_more, offset_in, survivor, written_representation, is_fault}
+use Rattle.hc_effects.proofs.Vocabulary.{Limits, Act, LostKind, Event, Place, BoundBy, denial, Does, all_closed, back_from, as_gone, if_bound, left_with, let_all_go, lost_to, unless_reached, with_piece, family, front, Loses, flaw_in, entry_of, MayLetGo, is_bound, is_bound_place, is_written, offset, Tables, Exchange, Representation, IsExclusiveWriter, IsBound, evicted, exclusive, has_more, offset_in, survivor, written_representation, is_fault, act, kind as kinds, event, place}
 use Rattle.hc_store.specs.declared.backend.Backend.{Ghosts}
-use Rattle.hc_event.specs.declared.act.Act.TheVariants as act
-use Rattle.hc_event.specs.declared.act.LostKind.TheVariants as kinds
-use Rattle.hc_event.specs.declared.event.Event.TheVariants as event
 use Rattle.hc_stored.specs.Entries.{shelf_of}
-use Rattle.hc_event.specs.declared.place.Place.TheVariants as place
 use Rattle.hc_model.specs.Rows as rows
 use Rattle.hc_model.specs.Sound as sound
 use Rattle.hc_effects.proofs.{Exclusives.{exclusive_parts}, HadKeeps.{survivor_bound}, HasBound.{reader_of}, LettingGo.{may_let_go}, SameTables.{all_go_is, back_from_any, is_in, without}, Survives.{survivor_offset}}

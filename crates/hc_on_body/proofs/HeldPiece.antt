@@ -6,14 +6,13 @@
 -- `PieceRows`; `LosePiece` and `LostPiece` use `held_stands` and `dropped_stands`.
 use Rattle.std.{proofs.{Common.{◌≡◌, ◌≢◌, inl, inr, ℕ, ◌+◌, ◌-◌, ◌<◌, ◌≤◌, ◌⊎◌, List, [], ◌∷◌, ◌++◌, length, drop, max, min, Bool, true, false, Option, Some, None, refl, ap, sym, ◌∙◌, subst, arith}, lemmas.List.{drop-append-le, length-append}}, specs.Prelude.{is_some, is_none, ◌==◌, ◌&&◌, if◌then◌else◌}}
 use Rattle.hc_text.proofs.Basics.{eqb-other, eqb-same, false_true, order, same_or}
-use Rattle.hc_effects.proofs.Vocabulary.{Limits, is_number, with_piece, family, base, front, first_place, absent_from, bound, is_bound_place, with_stored_bytes, Tables, Exchange, Representation}
+use Rattle.hc_effects.proofs.Vocabulary.{Limits, is_number, with_piece, family, base, front, first_place, absent_from, bound, is_bound_place, with_stored_bytes, Tables, Exchange, Representation, place}
 use Rattle.hc_store.specs.declared.backend.Backend.{Ghosts}
 use Rattle.hc_sparse.specs.Cells.{Cell, Cells, inside}
 use Rattle.hc_stored.specs.{Entries.{shelf_of}, Kept.{Kept}, declared.entries.Entries.{Entries}}
 use Rattle.hc_exch.specs.Exchanges as exch
 use Rattle.hc_exch.specs.Exchanges.{table_of}
 use Rattle.hc_exch.specs.Known as known
-use Rattle.hc_event.specs.declared.place.Place.TheVariants as place
 use Rattle.hc_effects.proofs.HoleLemmas.{first_from, first_to, first_before, first_passes}
 use Rattle.hc_state.proofs.{Ties.{overs_open, writer_then}, Fallbacks.{unstored_moved}, OneOfEach.{first_by}}
 use Rattle.hc_state.specs.{declared.rows.Rows.{Rows}, Kept.{first_lacking, unstored_bytes, held_alone, held_of, held_for}, Refused.{GoesOn, MayHold}, Stands.{RowsStand}, Stored.{IsEntry, TellsLength, told, untold, KeepsEntry}}

@@ -6,9 +6,8 @@
 -- piece was its last (`closes_it`). `lose_own_piece` and `lose_shared_piece` use these.
 use Rattle.std.{proofs.Common.{◌≡◌, ◌⊎◌, inl, inr, ℕ, ◌+◌, ◌<◌, List, [], ◌∷◌, ◌++◌, length, Bool, true, false, Option, Some, None, refl, ap, sym, ◌∙◌, subst}, specs.Prelude.{is_some, is_none, nat_eq, not, map, ◌==◌, ◌&&◌, if◌then◌else◌}}
 use Rattle.hc_text.proofs.Basics.{eqb-other, eqb-same, false_true, same_or, same_some as same_row, and_off as then_false}
-use Rattle.hc_effects.proofs.Vocabulary.{Limits, Act, LostKind, Response, all_closed, as_gone, lost_to, with_piece, family, front, promised_bytes, is_reached, is_headless, brings_to, with_stored_bytes, Tables, Exchange, Representation, survivor}
+use Rattle.hc_effects.proofs.Vocabulary.{Limits, Act, LostKind, Response, all_closed, as_gone, lost_to, with_piece, family, front, promised_bytes, is_reached, is_headless, brings_to, with_stored_bytes, Tables, Exchange, Representation, survivor, act}
 use Rattle.hc_store.specs.declared.backend.Backend.{Ghosts}
-use Rattle.hc_event.specs.declared.act.Act.TheVariants as act
 use Rattle.hc_exch.specs.{declared.row.Open.{Open}, Exchanges.{table_of}, Known.{is_last_of}}
 use Rattle.hc_exch.specs.Exchanges as exch
 use Rattle.hc_exch.specs.Known as known

@@ -6,15 +6,13 @@
 -- past the store, for `hold_piece`. `GrowHandler` takes the owner and its facts.
 use Rattle.std.{proofs.{Common.{◌≡◌, ◌≢◌, inl, inr, ℕ, ◌+◌, ◌-◌, ◌<◌, ◌≤◌, ◌⊎◌, List, [], ◌∷◌, ◌++◌, length, Bool, true, false, Option, Some, None, refl, ap, sym, ◌∙◌, subst, arith}, lemmas.List.{append-nil}}, specs.Prelude.{is_some, ◌==◌, ◌&&◌, if◌then◌else◌}}
 use Rattle.hc_text.proofs.Basics.{false_true, order}
-use Rattle.hc_effects.proofs.Vocabulary.{Limits, Act, BoundBy, denial, entry_without_acts, with_piece, family, base, front, is_written, own_open, with_stored_bytes, Tables, Exchange, Representation, Sound, IsExclusiveWriter, IsHad, write_in, goes_on_at}
+use Rattle.hc_effects.proofs.Vocabulary.{Limits, Act, BoundBy, denial, entry_without_acts, with_piece, family, base, front, is_written, own_open, with_stored_bytes, Tables, Exchange, Representation, Sound, IsExclusiveWriter, IsHad, write_in, goes_on_at, event, place}
 use Rattle.hc_store.specs.declared.backend.Backend.{Ghosts}
 use Rattle.hc_sparse.specs.Cells.{Cell}
-use Rattle.hc_event.specs.declared.event.Event.TheVariants as event
 use Rattle.hc_stored.specs.{Entries.{shelf_of}, Kept.{Kept}}
 use Rattle.hc_exch.specs.Exchanges as exch
 use Rattle.hc_exch.specs.Exchanges.{table_of}
 use Rattle.hc_exch.specs.Known as known
-use Rattle.hc_event.specs.declared.place.Place.TheVariants as place
 use Rattle.hc_model.specs.Rows as rows
 use Rattle.hc_model.specs.Sound as sound
 use Rattle.hc_effects.proofs.{AboutKeeps.{own_open_of}, Covers.{headed_at}, Once.{delivers_once}, Tests.{none_some}}

@@ -7,9 +7,7 @@
 use Rattle.std.{proofs.Common.{◌≡◌, inl, inr, ℕ, List, [], ◌∷◌, Bool, true, false, Option, Some, None, refl, ap, ap₂, sym, ◌∙◌}, specs.Prelude.{◌==◌, option_map, if◌then◌else◌}}
 use mathlib.Core.Path.{fun_ext}
 use Rattle.hc_text.proofs.Basics.{eqb-other, eqb-same, same_or}
-use Rattle.hc_event.specs.declared.event.Event.TheVariants as event
-use Rattle.hc_effects.proofs.Vocabulary.{Place, is_number, all_closed, back_from, with_event, as_gone, if_bound, left_with, let_all_go, let_go, lost_to, with_exchange, with_representation, writing_lost, with_piece, front, with_stored_bytes, Tables, Exchange, Representation}
-use Rattle.hc_event.specs.declared.place.Place.TheVariants as place
+use Rattle.hc_effects.proofs.Vocabulary.{event, place, Place, is_number, all_closed, back_from, with_event, as_gone, if_bound, left_with, let_all_go, let_go, lost_to, with_exchange, with_representation, writing_lost, with_piece, front, with_stored_bytes, Tables, Exchange, Representation}
 use Rattle.hc_model.specs.Rows as rows
 use Rattle.hc_effects.proofs.SameTables.{all_go_is, back_from_any, is_in}
 use Rattle.hc_state.specs.{DetachedReaders.{shared_loss}, Refused.{brought_lost, own_loss}}

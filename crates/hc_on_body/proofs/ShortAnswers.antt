@@ -8,11 +8,7 @@ use Rattle.std.{proofs.{Common.{◌≡◌, ◌≢◌, inl, inr, ℕ, ◌<◌, �
 use mathlib.Core.Path.{fun_ext}
 use Rattle.hc_text.proofs.Basics.{eqb-other, eqb-same, false_true, same_or, same_some as same_row}
 use Rattle.hc_store.specs.declared.backend.Backend.{Ghosts}
-use Rattle.hc_effects.proofs.Vocabulary.{Act, Cause, Limits, denial, Does, with_event, tables_after_close, at_end, with_due, with_dues, with_exchange, with_length, with_loss, with_representation, let_go, let_some_go, lost_to, going_with, family, promised_bytes, is_reached, short_of, NoFlaw, Loses, is_short, is_below, stops_early, IsMeasured, told, untold, is_bound, with_total_if_none, Tables, Exchange, Representation, written_representation, exclusive}
-use Rattle.hc_event.specs.declared.act.Act.TheVariants as act
-use Rattle.hc_event.specs.declared.act.Cause.TheVariants as cause
-use Rattle.hc_event.specs.declared.act.LostKind.TheVariants as kind
-use Rattle.hc_event.specs.declared.event.Event.TheVariants as event
+use Rattle.hc_effects.proofs.Vocabulary.{Act, Cause, Limits, denial, Does, with_event, tables_after_close, at_end, with_due, with_dues, with_exchange, with_length, with_loss, with_representation, let_go, let_some_go, lost_to, going_with, family, promised_bytes, is_reached, short_of, NoFlaw, Loses, is_short, is_below, stops_early, IsMeasured, told, untold, is_bound, with_total_if_none, Tables, Exchange, Representation, written_representation, exclusive, act, cause, kind, event}
 use Rattle.hc_model.specs.Rows as rows
 use Rattle.hc_effects.proofs.StopEffects as past_effects
 use Rattle.hc_effects.proofs.{StopFrames.{end_of}, Tests.{none_some}}

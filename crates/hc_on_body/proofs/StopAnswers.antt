@@ -8,10 +8,7 @@ use Rattle.std.{proofs.{Common.{◌≡◌, inl, inr, ℕ, ◌<◌, List, [], ◌
 use mathlib.Core.Path.{fun_ext}
 use Rattle.hc_text.proofs.Basics.{eqb-other, eqb-same, false_true, or_false as or_none, same_or, same_some as same_row}
 use Rattle.hc_store.specs.declared.backend.Backend.{Ghosts}
-use Rattle.hc_effects.proofs.Vocabulary.{Act, Cause, Event, Response, Limits, denial, Does, with_event, tables_after_close, over, put_down, failing, if_bound, with_consumer, with_due, with_dues, with_exchange, with_loss, with_representation, let_go, let_some_go, lost_to, going_with, Entry, entry_without_acts, family, NoFlaw, Loses, stops_early, Lawful, is_bound, is_bound_place, Tables, Exchange, Representation, received_in, write_in, written_representation, sealed_representation, lossless, stops, exclusive}
-use Rattle.hc_event.specs.declared.act.Act.TheVariants as act
-use Rattle.hc_event.specs.declared.act.Cause.TheVariants as cause
-use Rattle.hc_event.specs.declared.act.LostKind.TheVariants as kind
+use Rattle.hc_effects.proofs.Vocabulary.{Act, Cause, Event, Response, Limits, denial, Does, with_event, tables_after_close, over, put_down, failing, if_bound, with_consumer, with_due, with_dues, with_exchange, with_loss, with_representation, let_go, let_some_go, lost_to, going_with, Entry, entry_without_acts, family, NoFlaw, Loses, stops_early, Lawful, is_bound, is_bound_place, Tables, Exchange, Representation, received_in, write_in, written_representation, sealed_representation, lossless, stops, exclusive, act, cause, kind}
 use Rattle.hc_event.specs.declared.event.Event.TheVariants as event
 use Rattle.hc_model.specs.Rows as rows
 use Rattle.hc_effects.proofs.StopEffects as past_effects

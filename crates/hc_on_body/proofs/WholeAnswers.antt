@@ -8,9 +8,7 @@ use Rattle.std.{proofs.{Common.{◌≡◌, ◌≢◌, inl, inr, ℕ, ◌<◌, �
 use mathlib.Core.Path.{fun_ext}
 use Rattle.hc_text.proofs.Basics.{any_none, eqb-other, eqb-same, false_true, same_or, same_some as same_row, some_inj as some_is, and_off as then_false}
 use Rattle.hc_store.specs.declared.backend.Backend.{Ghosts}
-use Rattle.hc_effects.proofs.Vocabulary.{Act, Cause, Response, Limits, denial, Does, with_event, at_end, failing, if_bound, with_due, with_dues, with_exchange, with_length, with_loss, with_representation, let_go, let_some_go, as_gone, lost_to, going_with, Entry, base, front, family, promised_bytes, is_headless, short_of, NoFlaw, Loses, is_short, stops_early, Grows, IsComing, is_growing, brings_to, Lawful, IsMeasured, told, untold, bound, is_bound, is_bound_place, with_total_if_none, Tables, Exchange, Representation, IsAbout, written_representation, exclusive, status_in}
-use Rattle.hc_event.specs.declared.act.Act.TheVariants as act
-use Rattle.hc_event.specs.declared.act.LostKind.TheVariants as kind
+use Rattle.hc_effects.proofs.Vocabulary.{Act, Cause, Response, Limits, denial, Does, with_event, at_end, failing, if_bound, with_due, with_dues, with_exchange, with_length, with_loss, with_representation, let_go, let_some_go, as_gone, lost_to, going_with, Entry, base, front, family, promised_bytes, is_headless, short_of, NoFlaw, Loses, is_short, stops_early, Grows, IsComing, is_growing, brings_to, Lawful, IsMeasured, told, untold, bound, is_bound, is_bound_place, with_total_if_none, Tables, Exchange, Representation, IsAbout, written_representation, exclusive, status_in, act, kind, place}
 use Rattle.hc_event.specs.declared.event.Event.TheVariants as event
 use Rattle.hc_record.specs.declared.kind.Kind.TheVariants as kinds
 use Rattle.hc_sorted.specs.Sorted.{has}
@@ -20,7 +18,6 @@ use Rattle.hc_stored.specs.Kept as entry
 use Rattle.hc_exch.specs.Exchanges as exch
 use Rattle.hc_exch.specs.Exchanges.{table_of}
 use Rattle.hc_exch.specs.Known as known
-use Rattle.hc_event.specs.declared.place.Place.TheVariants as place
 use Rattle.hc_model.specs.Rows as rows
 use Rattle.hc_model.specs.Sound as sound
 use Rattle.hc_model.specs.Whose as whose

@@ -7,9 +7,8 @@
 use Rattle.std.{proofs.{Common.{◌≡◌, ◌≢◌, ◌⊎◌, inl, inr, ℕ, ◌+◌, ◌<◌, ◌≤◌, List, [], ◌∷◌, ◌++◌, length, min, Bool, true, false, cond, eqb, leb, Option, Some, None, refl, ap, sym, ◌∙◌, subst, arith, length-append}, lemmas.{Bool.Decides.{nat_tests}, List.{append_assoc, append-nil}}}, specs.{Prelude.{map, nat_eq, nat_le, option_and_then, ◌||◌}, HashMap.{get}}}
 use Rattle.hc_text.proofs.Basics.{eqb-other, eqb-same, false_true, same_or, some_inj as some_is}
 use Rattle.hc_store.specs.declared.backend.Backend.{Ghosts}
-use Rattle.hc_effects.proofs.Vocabulary.{Act, lesser, awaited_exchange}
+use Rattle.hc_effects.proofs.Vocabulary.{Act, lesser, awaited_exchange, act}
 use Rattle.hc_effects.proofs.Tests.{none_some}
-use Rattle.hc_event.specs.declared.act.Act.TheVariants as act
 use Rattle.hc_entry.specs.{declared.keys.KeyTable.{KeyTable}, Keys.{line_of, seated_at, AllAreSeatedBelow}, Lines.{is_among, is_in}, Users.{itself}}
 use Rattle.hc_entry.proofs.SeatLemmas.{first_in}
 use Rattle.hc_exch.specs.{declared.exchanges.Exchanges.{Exchanges}, Exchanges.{table_of, next_of}}

@@ -6,19 +6,14 @@
 -- uses both.
 use Rattle.std.{proofs.Common.{◌≡◌, ◌≢◌, ◌⊎◌, inl, inr, ℕ, List, [], Bool, true, false, Option, Some, None, refl, ap, sym, ◌∙◌, subst}, specs.{Prelude.{is_some, is_none, nat_eq, bytes_eq, map, option_map, not, ◌&&◌, ◌||◌, if◌then◌else◌}, HashMap.{get}}}
 use Rattle.hc_text.proofs.Basics.{eqb-other, eqb-same, false_true, same_or, same_some as same_row, some_inj as some_is, and_off as then_false}
-use Rattle.hc_effects.proofs.Vocabulary.{Limits, Act, Cause, Event, Response, head_case, Request, length_of, is_bad, route_of, head_refusal, head_view, awaits, back_in_line, current, denial, is_live, changes, with_event, as_gone, over, exchange_with_head, all_closed, let_some_go, with_answer, with_consumer, with_exchange, sent_back, woken, is_awaited, awaited_and, is_headless, brings_to, Lawful, is_in_line, IsAwaiting, Tables, Exchange, Representation, Among, waits_at, with_item_first}
+use Rattle.hc_effects.proofs.Vocabulary.{Limits, Act, Cause, Event, Response, head_case, Request, length_of, is_bad, route_of, head_refusal, head_view, awaits, back_in_line, current, denial, is_live, changes, with_event, as_gone, over, exchange_with_head, all_closed, let_some_go, with_answer, with_consumer, with_exchange, sent_back, woken, is_awaited, awaited_and, is_headless, brings_to, Lawful, is_in_line, IsAwaiting, Tables, Exchange, Representation, Among, waits_at, with_item_first, act, event, case, route, by}
 use Rattle.hc_store.specs.declared.backend.Backend.{Ghosts}
-use Rattle.hc_event.specs.declared.act.Act.TheVariants as act
 use Rattle.hc_event.specs.declared.act.Cause.TheVariants as cause
-use Rattle.hc_event.specs.declared.event.Event.TheVariants as event
-use Rattle.hc_rules.specs.declared.heads.HeadCase.TheVariants as case
 use Rattle.hc_stored.specs.Entries.{shelf_of}
 use Rattle.hc_event.specs.declared.act.Refusal.TheVariants as refusal
-use Rattle.hc_rules.specs.declared.need.Route.TheVariants as route
 use Rattle.hc_exch.specs.{declared.row.{Open.{Open}, Opening.{Opening}}, Exchanges.{table_of}, Known.{Table, open_view, begins_with, length_by}, Openings.{opened_with}}
 use Rattle.hc_entry.specs.Keys.{kept_of}
 use Rattle.hc_event.specs.declared.place.Place.TheVariants as place
-use Rattle.hc_event.specs.declared.place.BoundBy.TheVariants as by
 use Rattle.hc_model.specs.Owners as owners
 use Rattle.hc_model.specs.Rows as rows
 use Rattle.hc_effects.proofs.{Basics.{same_functions}, SameTables.{without, shut, back_from_any, waits_for_any, some_go_is, all_closed_is}, UnsafeEffects.{dooms_taken, dooms_bad}, Tests.{and_false, none_some}}

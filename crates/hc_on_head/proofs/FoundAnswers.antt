@@ -8,12 +8,7 @@ use Rattle.std.{proofs.Common.{◌≡◌, ℕ, ◌+◌, ◌<◌, ◌≤◌, List
 use Rattle.hc_text.proofs.Basics.{none_of, some_inj as some_is}
 use Rattle.hc_store.specs.{Causes.{HasCause, IsWithin}, declared.{backend.Backend.{Ghosts}, error.StoreError.{StoreError}}}
 use Rattle.hc_store.specs.declared.error.StoreError.TheVariants as errors
-use Rattle.hc_effects.proofs.Vocabulary.{Act, LostKind, Request, Response, HeadCase, RequestClass, Limits, Room, head_case, head_refusal, class_of, range_of, head_view, is_founding, current, denial, let_some_go, with_consumer, with_answer, Loses, MayMakeRoom, MayLetGo, giving_way, Tables, Exchange, may_lose, room_for, is_fault}
-use Rattle.hc_event.specs.declared.act.Act.TheVariants as act
-use Rattle.hc_event.specs.declared.act.LostKind.TheVariants as kinds
-use Rattle.hc_event.specs.declared.event.Event.TheVariants as event
-use Rattle.hc_rules.specs.declared.room.Room.TheVariants as room
-use Rattle.hc_rules.specs.declared.room.Write.TheVariants as write
+use Rattle.hc_effects.proofs.Vocabulary.{Act, LostKind, Request, Response, HeadCase, RequestClass, Limits, Room, head_case, head_refusal, class_of, range_of, head_view, is_founding, current, denial, let_some_go, with_consumer, with_answer, Loses, MayMakeRoom, MayLetGo, giving_way, Tables, Exchange, may_lose, room_for, is_fault, act, kind as kinds, event, room, write}
 use Rattle.hc_stored.specs.{Entries.{shelf_of}, Kept.{Kept}}
 use Rattle.hc_entry.specs.Keys.{kept_of}
 use Rattle.hc_exch.specs.{declared.{exchanges.Exchanges.{Exchanges}, row.Open.{Open}}, Exchanges.{table_of}, Known.{open_view}}

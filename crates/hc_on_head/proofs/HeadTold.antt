@@ -6,17 +6,13 @@
 -- (`goes_by`). `told_as`, `told_unselected` and `told_dooming` join these for `take_head`.
 use Rattle.std.{proofs.Common.{◌≡◌, ◌⊎◌, inl, inr, ℕ, List, Bool, true, false, Option, Some, None, refl, ap, ap₂, sym, ◌∙◌, subst}, specs.{Prelude.{IsTrue, ◌==◌, is_some, nat_eq, nat_lt, option_map, IsSomeAnd, ◌&&◌, ◌||◌, if◌then◌else◌}, HashMap.{get}}}
 use Rattle.hc_text.proofs.Basics.{and_both as both_of, false_true, same_some as same_row, some_inj as some_is}
-use Rattle.hc_effects.proofs.Vocabulary.{Limits, Request, Response, HeadCase, HeadView, Route, head_case, case_on, is_bad, route_of, head_refusal, Place, head_view, is_founding, current, doomed_by_case, changes, is_headless, is_in_line, Tables, Exchange, awaited_exchange}
+use Rattle.hc_effects.proofs.Vocabulary.{Limits, Request, Response, HeadCase, HeadView, Route, head_case, case_on, is_bad, route_of, head_refusal, Place, head_view, is_founding, current, doomed_by_case, changes, is_headless, is_in_line, Tables, Exchange, awaited_exchange, case, route, place, by}
 use Rattle.hc_store.specs.declared.backend.Backend.{Ghosts}
 use Rattle.hc_fields.specs.FieldList.{IsWithinLimits}
-use Rattle.hc_rules.specs.declared.heads.HeadCase.TheVariants as case
-use Rattle.hc_rules.specs.declared.need.Route.TheVariants as route
 use Rattle.hc_rules.proofs.RangeReads.{bytes_eq-same}
 use Rattle.hc_stored.specs.Entries.{shelf_of}
 use Rattle.hc_entry.specs.{Keys.{kept_of, line_of}, Lines.{is_among, is_in}}
 use Rattle.hc_exch.specs.{declared.row.{ExchangeView.{ExchangeView}, Open.{Open}}, Exchanges.{table_of}, Known.{open_view, view_of, length_by}}
-use Rattle.hc_event.specs.declared.place.Place.TheVariants as place
-use Rattle.hc_event.specs.declared.place.BoundBy.TheVariants as by
 use Rattle.hc_effects.proofs.{FoundBy.{CaseBy, case_by, turn_direct}, Basics.{some_row}, Tests.{none_some}}
 use Rattle.hc_effects.proofs.FoundBy as cases
 use Rattle.hc_state.specs.{declared.{consumer.Consumer.{Consumer}, rows.Rows.{Rows}}, Handlers.{IsInKey}, Facts.{Facts}, Founding.{MayFound}, Heads.{aim_in, kept_at, heard_view, changes_by, is_past_case, is_bad_case, IsPastStore, puts_down, goes_past, starts_anew, let_go_by, goes_with}, Kept.{IsRunning}, Lines.{is_away, is_away_at}, Stands.{RowsStand, Stands}}

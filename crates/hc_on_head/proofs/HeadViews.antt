@@ -6,23 +6,19 @@
 -- cases but a 304 that selects.
 use Rattle.std.{proofs.{Common.{◌≡◌, ◌≤◌, ◌<◌, ℕ, List, [], Bool, true, false, Option, Some, None, refl, ap, ap₂, sym, ◌∙◌, subst, arith}, lemmas.Bool.Decides.{nat_tests}}, specs.{Prelude.{codes, is_some, nat_eq, nat_le, option_and_then, option_map, ◌==◌, if◌then◌else◌}, Option.{IfSome}, HashMap.{get}}}
 use Rattle.hc_text.proofs.Basics.{eqb-same, false_true, some_inj as some_is}
-use Rattle.hc_effects.proofs.Vocabulary.{Limits, Need, Request, Response, RequestClass, HeadCase, HeadView, head_case, is_conditional, is_storable, fits_to_found, length_of, is_bad, content_range_in, content_range_of, class_of, range_of, Route, route_of, BoundBy, joins_by, joins_row, fits_asker, was_shown, head_view, row_of, IsAwaiting, bound, is_bound, InHole, Tables, Exchange, Representation}
+use Rattle.hc_effects.proofs.Vocabulary.{Limits, Need, Request, Response, RequestClass, HeadCase, HeadView, head_case, is_conditional, is_storable, fits_to_found, length_of, is_bad, content_range_in, content_range_of, class_of, range_of, Route, route_of, BoundBy, joins_by, joins_row, fits_asker, was_shown, head_view, row_of, IsAwaiting, bound, is_bound, InHole, Tables, Exchange, Representation, range, case, route, place}
 use Rattle.hc_store.specs.declared.backend.Backend.{Ghosts}
 use Rattle.hc_range.specs.{declared.range.{Asked.{Asked, TheVariants.{From, FromTo, Last}}, Span.{Span}}, Spans.{IsInOrder}}
-use Rattle.hc_range.specs.declared.range.ContentRange.TheVariants as range
 use Rattle.hc_sparse.specs.Cells.{Covers}
 use Rattle.hc_fields.specs.{FieldList.{values_of}, FirstValues.{only_of}}
 use Rattle.hc_etag.specs.{declared.tag.Tag.{Tag}, Tags.{value_of}}
 use Rattle.hc_record.specs.Head.{Head}
 use Rattle.hc_event.specs.declared.act.Need.TheVariants as need
 use Rattle.hc_rules.specs.declared.joins.HoleAnswer.TheVariants as answer
-use Rattle.hc_rules.specs.declared.heads.HeadCase.TheVariants as case
 use Rattle.hc_rules.specs.Joins.{joins, hole_answer}
 use Rattle.hc_rules.proofs.RangeReads.{content_range_in-some}
-use Rattle.hc_rules.specs.declared.need.Route.TheVariants as route
 use Rattle.hc_exch.specs.{declared.row.Open.{Open}, Exchanges.{table_of}}
 use Rattle.hc_stored.specs.{declared.view.EntryView.{EntryView}, Entries.{shelf_of}, Kept.{Kept}, Shelf.{Shelf}, Views.{view_of, tag_in}}
-use Rattle.hc_event.specs.declared.place.Place.TheVariants as place
 use Rattle.hc_model.specs.Owners as owners
 use Rattle.hc_model.specs.Rows as rows
 use Rattle.hc_effects.proofs.{Bounded.{range_order}, Joining.{filling}, ExclusiveWriters.{filter_some}, Tests.{none_some}}

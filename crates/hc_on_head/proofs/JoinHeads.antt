@@ -8,9 +8,7 @@ use Rattle.std.{proofs.Common.{◌≡◌, ◌⊎◌, inl, inr, ℕ, true, false,
 use Rattle.hc_text.proofs.Basics.{false_true}
 use Rattle.hc_store.specs.declared.backend.Backend.{Ghosts}
 use Rattle.hc_fields.specs.FieldList.{IsWithinLimits}
-use Rattle.hc_effects.proofs.Vocabulary.{Need, Response, HeadCase, HeadView, head_case, head_refusal}
-use Rattle.hc_event.specs.declared.act.Need.TheVariants as need
-use Rattle.hc_rules.specs.declared.heads.HeadCase.TheVariants as case
+use Rattle.hc_effects.proofs.Vocabulary.{Need, Response, HeadCase, HeadView, head_case, head_refusal, need, case}
 use Rattle.hc_stored.specs.{Entries.{shelf_of}, Kept.{Kept}, Shelf.{Shelf, is_kept}}
 use Rattle.hc_exch.specs.{declared.row.{ExchangeView.{ExchangeView}, Open.{Open}}, Exchanges.{table_of}, Known.{open_view, view_of}}
 use Rattle.hc_effects.proofs.{FoundBy.{CaseBy, case_by}, Basics.{some_row}}

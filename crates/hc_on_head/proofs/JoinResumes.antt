@@ -6,11 +6,10 @@
 -- exchange doesn't resume (`resumes_not`); else it does just where they hold (`resumes_as`). `resumes` uses these.
 use Rattle.std.{proofs.{Common.{◌≡◌, ℕ, Bool, true, false, Option, Some, None, refl, ap, sym, ◌∙◌, subst, arith}, lemmas.Bool.Decides.{nat_tests}}, specs.{Prelude.{is_some, is_none, nat_eq, option_map, ◌&&◌, ◌==◌, ◌↔◌, IsTrue}, HashMap.{get}}}
 use Rattle.hc_text.proofs.Basics.{eqb-same, false_true, some_inj as some_is}
-use Rattle.hc_effects.proofs.Vocabulary.{Limits, Response, RequestClass, content_range_of, class_of, covers, asks_whole, hole_start, is_last_part, resumes, Tables, Exchange, Representation}
+use Rattle.hc_effects.proofs.Vocabulary.{Limits, Response, RequestClass, content_range_of, class_of, covers, asks_whole, hole_start, is_last_part, resumes, Tables, Exchange, Representation, need}
 use Rattle.hc_store.specs.declared.backend.Backend.{Ghosts}
 use Rattle.hc_sparse.specs.Cells.{Covers, size}
 use Rattle.hc_range.specs.declared.range.Asked.{Asked}
-use Rattle.hc_event.specs.declared.act.Need.TheVariants as need
 use Rattle.hc_stored.specs.{Entries.{shelf_of}, Kept.{Kept}, declared.view.EntryView.{EntryView}, Shelf.{cells_in}, Views.{view_of}}
 use Rattle.hc_exch.specs.{declared.row.{Open.{Open}, Opening.{Opening}}, Exchanges.{table_of}, Known.{begins_with}, Openings.{opened_with}}
 use Rattle.hc_model.specs.Rows as rows

@@ -6,7 +6,7 @@
 -- in its key no more, which has the work (`key_then`). `stands_joined` takes the entries from `JoinEntries`.
 use Rattle.std.{proofs.Common.{◌≡◌, ◌≢◌, ◌⊎◌, inl, inr, ℕ, ◌-◌, List, [], Bool, true, false, Option, Some, None, refl, ap, sym, ◌∙◌, subst}, specs.{Prelude.{is_some, nat_eq, drop, bytes_eq, option_map, ◌&&◌, if◌then◌else◌}, HashMap.{get}}}
 use Rattle.hc_text.proofs.Basics.{eqb-other, eqb-same, finds_same, same_or, and_off as then_false}
-use Rattle.hc_effects.proofs.Vocabulary.{Limits, Response, Length, length_of, base_of, promise_of, Place, BoundBy, current, is_usable, is_number, total_in, is_live, is_live_place, exchange_with_head, with_answer, with_consumer, with_representation, promise_in, base, family, is_headless, is_reached, is_in_line, stands_in_line, has_passed, is_bound_place, Tables, Exchange, Representation, Among}
+use Rattle.hc_effects.proofs.Vocabulary.{Limits, Response, Length, length_of, base_of, promise_of, Place, BoundBy, current, is_usable, is_number, total_in, is_live, is_live_place, exchange_with_head, with_answer, with_consumer, with_representation, promise_in, base, family, is_headless, is_reached, is_in_line, stands_in_line, has_passed, is_bound_place, Tables, Exchange, Representation, Among, by}
 use Rattle.hc_effects.proofs.Tests.{and_false}
 use Rattle.hc_store.specs.declared.backend.Backend.{Ghosts}
 use Rattle.hc_record.specs.Head.{Head}
@@ -17,7 +17,6 @@ use Rattle.hc_exch.specs.declared.role.Role.TheVariants as role
 use Rattle.hc_exch.specs.{declared.row.Open.{Open}, Exchanges.{table_of}, Known.{Known, is_all, length_by}}
 use Rattle.hc_exch.specs.Exchanges as exch
 use Rattle.hc_event.specs.declared.place.Place.TheVariants as place
-use Rattle.hc_event.specs.declared.place.BoundBy.TheVariants as by
 use Rattle.hc_model.specs.Rows as rows
 use Rattle.hc_state.specs.{declared.{consumer.Consumer.{Consumer}, rows.Rows.{Rows}}, Changes.{BecomesAt}, Joining.{bringing}, Kept.{IsKept, IsRunning, KeepsConsumer, KeepsExchange, KeepsRunning, first_lacking, held_for, held_of, held_alone, unread, unstored_bytes}, Leaving.{LeavesKey}, Lines.{KeepsKey, has_turn, is_passed, is_away, is_away_at}, Stands.{RowsStand}, Stored.{KeepsEntries}}
 use Rattle.hc_on_leave.proofs.{AnswerHandler.{all_reached, known_here, known_other}, HeardExchange.{drop_none, held_empty}, HeardRows.{kept_as, runs_as}}

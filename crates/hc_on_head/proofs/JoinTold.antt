@@ -6,19 +6,13 @@
 -- (`joinable_as`), also where that is lost first (`joinable_lost`). `JoinHandler` uses these.
 use Rattle.std.{proofs.Common.{◌≡◌, ◌⊎◌, inl, inr, ℕ, ◌+◌, ◌-◌, ◌<◌, ◌≤◌, List, Bool, true, false, Option, Some, None, refl, ap, ap₂, sym, ◌∙◌, subst, arith}, specs.Prelude.{codes, is_some, bytes_eq, not, ◌||◌, ◌==◌, if◌then◌else◌, option_map}}
 use Rattle.hc_text.proofs.Basics.{eqb-other, eqb-same, false_true, same_or, same_some as same_row, some_inj as some_is}
-use Rattle.hc_effects.proofs.Vocabulary.{Limits, Need, Request, Response, HeadCase, HeadView, Length, head_case, length_of, content_length_of, is_bad, is_head, has_no_body, promise_of, agrees, route_of, content_range_of, is_get, is_disabled, BoundBy, head_view, joins_row, row_of, as_gone, lost_to, let_go, with_representation, back_from, promise_in, is_headless, is_reached, StandsFor, IsAwaiting, Tables, Exchange, Representation, InHole}
+use Rattle.hc_effects.proofs.Vocabulary.{Limits, Need, Request, Response, HeadCase, HeadView, Length, head_case, length_of, content_length_of, is_bad, is_head, has_no_body, promise_of, agrees, route_of, content_range_of, is_get, is_disabled, BoundBy, head_view, joins_row, row_of, as_gone, lost_to, let_go, with_representation, back_from, promise_in, is_headless, is_reached, StandsFor, IsAwaiting, Tables, Exchange, Representation, InHole, range, need, case, route, place, by}
 use Rattle.hc_store.specs.declared.backend.Backend.{Ghosts}
 use Rattle.hc_stored.specs.Kept.{Kept}
 use Rattle.hc_exch.specs.declared.row.Open.{Open}
 use Rattle.hc_fields.specs.FieldElements.{elements_in}
-use Rattle.hc_range.specs.declared.range.ContentRange.TheVariants as range
-use Rattle.hc_event.specs.declared.act.Need.TheVariants as need
-use Rattle.hc_rules.specs.declared.heads.HeadCase.TheVariants as case
 use Rattle.hc_rules.specs.declared.length.Length.TheVariants as says
-use Rattle.hc_rules.specs.declared.need.Route.TheVariants as route
 use Rattle.hc_rules.proofs.RangeReads.{same_bytes}
-use Rattle.hc_event.specs.declared.place.Place.TheVariants as place
-use Rattle.hc_event.specs.declared.place.BoundBy.TheVariants as by
 use Rattle.hc_model.specs.Effects.{waits_for}
 use Rattle.hc_model.specs.Laws as laws
 use Rattle.hc_model.specs.Owners as owners

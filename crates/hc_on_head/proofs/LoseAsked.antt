@@ -6,15 +6,13 @@
 -- it loses what is current.
 use Rattle.std.{proofs.Common.{◌≡◌, ◌≢◌, ℕ, List, Bool, true, false, Option, Some, None, refl, ap, sym, ◌∙◌, subst}, specs.{Prelude.{is_some, nat_eq, bytes_eq, not, IsSomeAnd, ◌||◌, if◌then◌else◌}, HashMap.{get}}}
 use Rattle.hc_text.proofs.Basics.{false_true, same_some as same_row, and_off as then_false}
-use Rattle.hc_effects.proofs.Vocabulary.{Limits, Request, route_of, head_refusal, BoundBy, back_in_line, with_consumer, is_headless, StandsFor, is_in_line, stands_in_line, has_passed, Tables, Exchange, Representation, awaited_exchange}
+use Rattle.hc_effects.proofs.Vocabulary.{Limits, Request, route_of, head_refusal, BoundBy, back_in_line, with_consumer, is_headless, StandsFor, is_in_line, stands_in_line, has_passed, Tables, Exchange, Representation, awaited_exchange, place, by}
 use Rattle.hc_effects.proofs.{Tests.{none_some}, EventsKeep.{no_head}}
 use Rattle.hc_store.specs.declared.backend.Backend.{Ghosts}
 use Rattle.hc_stored.specs.{Entries.{shelf_of}, Kept.{Kept}, Shelf.{is_kept}}
 use Rattle.hc_exch.specs.Exchanges as exch
 use Rattle.hc_exch.specs.{Exchanges.{table_of}, Known.{Table, is_open}}
 use Rattle.hc_exch.specs.Known as known
-use Rattle.hc_event.specs.declared.place.Place.TheVariants as place
-use Rattle.hc_event.specs.declared.place.BoundBy.TheVariants as by
 use Rattle.hc_model.specs.Laws as laws
 use Rattle.hc_model.specs.Rows as rows
 use Rattle.hc_state.specs.{declared.rows.Rows.{Rows}, Handlers.{IsInKey}, Facts.{Facts}, Heads.{AwaitsHead, IsAskedBy}, Leaving.{if_running, writing_of}, Lines.{is_passed, is_away, is_away_at}, Stands.{RowsStand, Stands, open_at}, Stored.{KeepsEntry, is_usable_kept}}

@@ -7,12 +7,8 @@
 use Rattle.std.{proofs.{Common.{◌≡◌, inl, inr, ℕ, ◌≤◌, List, [], ◌∷◌, ◌++◌, Bool, true, false, Option, Some, None, Result, Ok, refl, ap, ap₂, sym, ◌∙◌, subst, arith}, Math.Logic.{∥∥₁_map}, lemmas.Bool.Decides.{nat_tests}}, specs.{Prelude.{is_some, IfOk, IsSomeAnd, nat_eq, map, option_map, not, ◌||◌, if◌then◌else◌}, HashMap.{get}}}
 use Rattle.hc_text.proofs.Basics.{eqb-other, eqb-same, false_true, same_or}
 use Rattle.hc_store.specs.declared.{backend.Backend.{Ghosts}, error.StoreError.{StoreError}}
-use Rattle.hc_effects.proofs.Vocabulary.{Act, Event, Request, Response, Limits, head_case, length_of, is_head, is_same_number, head_refusal, head_view, validates, current, row_of, denial, with_event, all_closed, with_answer, with_consumer, with_representation, with_refreshed_head, unless_ended, promise_in, is_reached, IsAwaiting, Tables, Exchange, Representation}
-use Rattle.hc_event.specs.declared.act.Act.TheVariants as act
-use Rattle.hc_event.specs.declared.event.Event.TheVariants as event
+use Rattle.hc_effects.proofs.Vocabulary.{Act, Event, Request, Response, Limits, head_case, length_of, is_head, is_same_number, head_refusal, head_view, validates, current, row_of, denial, with_event, all_closed, with_answer, with_consumer, with_representation, with_refreshed_head, unless_ended, promise_in, is_reached, IsAwaiting, Tables, Exchange, Representation, act, event, case, route, by}
 use Rattle.hc_record.specs.Head.{Head}
-use Rattle.hc_rules.specs.declared.heads.HeadCase.TheVariants as case
-use Rattle.hc_rules.specs.declared.need.Route.TheVariants as route
 use Rattle.hc_validate.specs.Selection.{selects}
 use Rattle.hc_stored.specs.{Entries.{shelf_of}, Kept.{Kept, with_head}}
 use Rattle.hc_stored.specs.Shelf as shelf
@@ -21,7 +17,6 @@ use Rattle.hc_exch.specs.{declared.row.Open.{Open}, Exchanges.{table_of}, Known.
 use Rattle.hc_exch.specs.Exchanges as exch
 use Rattle.hc_exch.specs.Known as known
 use Rattle.hc_event.specs.declared.place.Place.TheVariants as place
-use Rattle.hc_event.specs.declared.place.BoundBy.TheVariants as by
 use Rattle.hc_model.specs.Cases.{selects_row}
 use Rattle.hc_model.specs.Owners as owners
 use Rattle.hc_model.specs.Rows as rows

@@ -10,8 +10,7 @@ use Rattle.hc_store.specs.declared.backend.Backend.{Ghosts}
 use Rattle.hc_stored.specs.{Entries.{shelf_of}, Shelf.{Shelf}}
 use Rattle.hc_entry.specs.{declared.keys.KeyTable.{KeyTable}, Keys.{kept_of, line_of, seated_at, AllAreSeatedBelow, IsItsSeat}, Kept.{on_line}, Lines.{is_in, all_back}}
 use Rattle.hc_entry.specs.Keys as keys
-use Rattle.hc_event.specs.declared.place.Place.TheVariants as place
-use Rattle.hc_effects.proofs.Vocabulary.{back_in_line, is_live, with_consumer, woken, Lawful, is_bound, Tables, Among}
+use Rattle.hc_effects.proofs.Vocabulary.{place, back_in_line, is_live, with_consumer, woken, Lawful, is_bound, Tables, Among}
 use Rattle.hc_effects.proofs.Tests.{none_some}
 use Rattle.hc_model.specs.Rows as rows
 use Rattle.hc_model.specs.Sound as sound

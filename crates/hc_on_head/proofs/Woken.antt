@@ -6,10 +6,8 @@
 -- over (`starts_over`). The other files on dooms use these.
 use Rattle.std.{proofs.Common.{◌≡◌, ℕ, List, Bool, true, false, Option, Some, None, refl, ap, sym, ◌∙◌}, specs.Prelude.{bytes_eq, not, option_map, ◌&&◌, ◌||◌}}
 use Rattle.hc_text.proofs.Basics.{false_true, and_off as then_false}
-use Rattle.hc_effects.proofs.Vocabulary.{is_disabled, is_only, Place, back_in_line, is_live_place, sent_back, is_headless, Lawful, is_in_line, Queues, Tables, waits_at}
+use Rattle.hc_effects.proofs.Vocabulary.{is_disabled, is_only, Place, back_in_line, is_live_place, sent_back, is_headless, Lawful, is_in_line, Queues, Tables, waits_at, place, by}
 use Rattle.hc_rules.proofs.RangeReads.{same_bytes, bytes_eq-same}
-use Rattle.hc_event.specs.declared.place.Place.TheVariants as place
-use Rattle.hc_event.specs.declared.place.BoundBy.TheVariants as by
 use Rattle.hc_model.specs.Rows as rows
 use Rattle.hc_state.specs.Lines.{is_passed, is_away}
 

@@ -8,18 +8,10 @@ use Rattle.std.{proofs.{Common.{◌≡◌, ◌≢◌, ◌⊎◌, inl, inr, ℕ, 
 use Rattle.hc_text.proofs.Basics.{eqb-other, eqb-same, false_true, same_or, some_inj as some_is}
 use Rattle.hc_store.specs.declared.backend.Backend.{Ghosts}
 use Rattle.hc_range.specs.declared.range.Span.{Span}
-use Rattle.hc_effects.proofs.Vocabulary.{Act, LostKind, Event, Need, Request, Response, HeadCase, Wanted, Limits, Room, head_case, length_of, promise_of, content_range_of, range_of, wanted_of, room_of, gives_way, Place, head_view, is_founding, back_in_line, bound_to_wanted, idle_now, current, denial, doomed_by_case, with_event, as_gone, let_all_go, let_some_go, with_consumer, with_answer, with_founding, just_founded, entry_without_acts, promise_in, family, NoFlaw, Loses, flaw_in, goes_by_case, founded_total, total_of_part, IsInUse, MayMakeRoom, MayLetGo, weight_now, weights_now, room_now, giving_way, AreOnce, bound, is_bound, Tables, Exchange, Representation, has_room, may_lose, Among, with_item_first, evicted, room_for, is_fault}
-use Rattle.hc_event.specs.declared.act.Act.TheVariants as act
-use Rattle.hc_event.specs.declared.act.LostKind.TheVariants as kinds
-use Rattle.hc_event.specs.declared.event.Event.TheVariants as event
-use Rattle.hc_rules.specs.declared.heads.HeadCase.TheVariants as case
-use Rattle.hc_rules.specs.declared.request.Wanted.TheVariants as wanted
-use Rattle.hc_rules.specs.declared.room.Room.TheVariants as room
-use Rattle.hc_rules.specs.declared.room.Write.TheVariants as write
+use Rattle.hc_effects.proofs.Vocabulary.{Act, LostKind, Event, Need, Request, Response, HeadCase, Wanted, Limits, Room, head_case, length_of, promise_of, content_range_of, range_of, wanted_of, room_of, gives_way, Place, head_view, is_founding, back_in_line, bound_to_wanted, idle_now, current, denial, doomed_by_case, with_event, as_gone, let_all_go, let_some_go, with_consumer, with_answer, with_founding, just_founded, entry_without_acts, promise_in, family, NoFlaw, Loses, flaw_in, goes_by_case, founded_total, total_of_part, IsInUse, MayMakeRoom, MayLetGo, weight_now, weights_now, room_now, giving_way, AreOnce, bound, is_bound, Tables, Exchange, Representation, has_room, may_lose, Among, with_item_first, evicted, room_for, is_fault, act, kind as kinds, event, case, wanted, room, write, by}
 use Rattle.hc_stored.specs.Entries.{shelf_of}
 use Rattle.hc_exch.specs.{Exchanges.{table_of}, Known.{length_by}, declared.row.Open.{Open}}
 use Rattle.hc_event.specs.declared.place.Place.TheVariants as place
-use Rattle.hc_event.specs.declared.place.BoundBy.TheVariants as by
 use Rattle.hc_model.specs.LettingGo.{first_idle}
 use Rattle.hc_model.specs.Rows as rows
 use Rattle.hc_model.specs.Sound as sound

@@ -6,7 +6,7 @@
 -- (`began_kept`). `founded_stands` joins them for `FoundHandler`.
 use Rattle.std.{proofs.{Common.{◌≡◌, ◌≢◌, ◌⊎◌, inl, inr, ℕ, List, [], ◌∷◌, Bool, true, false, Option, Some, None, refl, ap, ap₂, sym, ◌∙◌, subst, arith}, lemmas.Bool.Decides.{nat_tests}}, specs.{Prelude.{◌==◌, ◌&&◌, ◌||◌, not, nat_eq, bytes_eq, filter, find, is_some, if◌then◌else◌}, HashMap.{get}, List.{list_any}, Option.{option_or}}}
 use Rattle.hc_text.proofs.Basics.{any_none, eqb-other, eqb-same, false_true, never_true as not_true, same_or, some_inj as some_is}
-use Rattle.hc_effects.proofs.Vocabulary.{Limits, Need, Request, Response, Length, length_of, base_of, promise_of, content_range_of, Place, BoundBy, current, is_number, is_usable, total_in, is_live, exchange_with_head, just_founded, with_consumer, with_founding, promise_in, family, is_reached, founded_total, total_of_part, varied_by, kind_of, is_growing, brings_to, is_bound, is_bound_place, Tables, Exchange, Representation, Among, came_alone, is_in_line}
+use Rattle.hc_effects.proofs.Vocabulary.{Limits, Need, Request, Response, Length, length_of, base_of, promise_of, content_range_of, Place, BoundBy, current, is_number, is_usable, total_in, is_live, exchange_with_head, just_founded, with_consumer, with_founding, promise_in, family, is_reached, founded_total, total_of_part, varied_by, kind_of, is_growing, brings_to, is_bound, is_bound_place, Tables, Exchange, Representation, Among, came_alone, is_in_line, by}
 use Rattle.hc_effects.proofs.Tests.{and_false}
 use Rattle.hc_store.specs.declared.backend.Backend.{Ghosts}
 use Rattle.hc_sparse.specs.Cells.{Covers, nothing}
@@ -21,7 +21,6 @@ use Rattle.hc_entry.specs.Kept as keyed
 use Rattle.hc_exch.specs.declared.role.Role.TheVariants as role
 use Rattle.hc_exch.specs.{declared.row.Open.{Open}, Exchanges.{table_of}, Known.{Known, is_all, length_by}}
 use Rattle.hc_event.specs.declared.place.Place.TheVariants as place
-use Rattle.hc_event.specs.declared.place.BoundBy.TheVariants as by
 use Rattle.hc_model.specs.Effects as effects
 use Rattle.hc_model.specs.Heads.{founded_head}
 use Rattle.hc_model.specs.Rows as rows

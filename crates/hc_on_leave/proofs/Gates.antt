@@ -1,8 +1,7 @@
 -- What is denied is what the tables say, and a denial changes the moment alone.
 use Rattle.std.{proofs.Common.{◌≡◌, ℕ, false, Option, Some, None, refl, ap}, specs.{Prelude.{option_map, nat_eq}, Option.{option_and_then}, HashMap.{get}}}
-use Rattle.hc_effects.proofs.Vocabulary.{Limits, Event, Gate, refusal_of, denial, gate, as_open, exchange_in, Tables, Exchange}
+use Rattle.hc_effects.proofs.Vocabulary.{Limits, Event, Gate, refusal_of, denial, gate, as_open, exchange_in, Tables, Exchange, event}
 use Rattle.hc_store.specs.declared.backend.Backend.{Ghosts}
-use Rattle.hc_event.specs.declared.event.Event.TheVariants as event
 use Rattle.hc_exch.specs.{Exchanges.{table_of}, Known.{open_view}, declared.row.Open.{Open}}
 use Rattle.hc_model.specs.Denials.{names_live}
 use Rattle.hc_state.specs.{declared.rows.Rows.{Rows}, Kept.{KeepsRunning, IsRunning}, Stands.{RowsStand, gate_of, open_at, names_kept}}

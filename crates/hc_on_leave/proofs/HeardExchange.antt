@@ -8,9 +8,8 @@ use Rattle.std.{proofs.Common.{◌≡◌, ◌≢◌, inl, inr, ℕ, zero, suc, L
 use Rattle.hc_text.proofs.Basics.{eqb-other, eqb-same, same_or, and_off as then_false}
 use Rattle.hc_stored.specs.Shelf.{Shelf}
 use Rattle.hc_entry.specs.Kept as keyed
-use Rattle.hc_effects.proofs.Vocabulary.{Place, current, with_exchange, family, is_growing, brings_to, Tables, Exchange, Representation}
+use Rattle.hc_effects.proofs.Vocabulary.{Place, current, with_exchange, family, is_growing, brings_to, Tables, Exchange, Representation, place}
 use Rattle.hc_effects.proofs.Tests.{none_some}
-use Rattle.hc_event.specs.declared.place.Place.TheVariants as place
 use Rattle.hc_event.specs.declared.place.BoundBy.TheVariants as by
 use Rattle.hc_model.specs.Rows as rows
 use Rattle.hc_state.specs.{Heads.{IsBare}, Kept.{unread, held_for}, Lines.{KeepsKey, is_away, is_away_at}, Stored.{KeepsEntries}}

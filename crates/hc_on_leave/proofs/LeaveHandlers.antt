@@ -7,12 +7,8 @@
 use Rattle.std.{proofs.{Common.{◌≡◌, ℕ, List, [], ◌∷◌, ◌++◌, Bool, true, false, Some, None, refl, ap, sym, ◌∙◌}, lemmas.List.{append_assoc}}, specs.Prelude.{nat_eq, map, ◌||◌}}
 use Rattle.hc_text.proofs.Basics.{false_true}
 use Rattle.hc_store.specs.declared.backend.Backend.{Ghosts}
-use Rattle.hc_effects.proofs.Vocabulary.{Act, Cause, Limits, Does, with_event, let_some_go, let_go, left_by, going_with, with_leave, with_representation, lost_to, family, NoFlaw, Loses, flaw_in, Lawful, Ends, Fails, is_failed_read, move_of, Tables, Representation, is_kept, with_item_first, written_representation, exclusive}
-use Rattle.hc_event.specs.declared.act.Act.TheVariants as act
-use Rattle.hc_event.specs.declared.act.Cause.TheVariants as cause
-use Rattle.hc_event.specs.declared.act.LostKind.TheVariants as kind
+use Rattle.hc_effects.proofs.Vocabulary.{Act, Cause, Limits, Does, with_event, let_some_go, let_go, left_by, going_with, with_leave, with_representation, lost_to, family, NoFlaw, Loses, flaw_in, Lawful, Ends, Fails, is_failed_read, move_of, Tables, Representation, is_kept, with_item_first, written_representation, exclusive, act, cause, kind, place}
 use Rattle.hc_event.specs.declared.event.Event.TheVariants as event
-use Rattle.hc_event.specs.declared.place.Place.TheVariants as place
 use Rattle.hc_model.specs.Rows as rows
 use Rattle.hc_effects.proofs.FailsTold.{fails_told}
 use Rattle.hc_effects.proofs.LeaveEffects as effects

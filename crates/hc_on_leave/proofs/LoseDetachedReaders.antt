@@ -6,15 +6,13 @@
 -- these with `stands_parted` of `LoseParts` and the loss of the entry, for `lose_shared`.
 use Rattle.std.{proofs.{Common.{◌≡◌, inl, inr, ℕ, ◌+◌, ◌-◌, ◌<◌, ◌≤◌, List, [], ◌∷◌, ◌++◌, length, drop, take, get_or, min, Bool, true, false, cond, Option, Some, None, refl, ap, ap₂, sym, ◌∙◌, subst, arith}, lemmas.{Bool.{cases_Bool, Decides.{nat_tests}}, List.{append-nil, drop_all, take_more, Elements.{filter-append}}}}, specs.{Prelude.{is_some, is_none, nat_eq, filter, map, option_map, ◌&&◌, ◌||◌, ◌==◌, if◌then◌else◌}, HashMap.{get}}}
 use Rattle.hc_text.proofs.Basics.{eqb-same, false_true, same_some as same_row, and_off as then_false}
-use Rattle.hc_effects.proofs.Vocabulary.{Limits, Member, least, lesser, Place, is_number, is_live_place, if_bound, left_with, let_go, lost_to, with_representation, writing_lost, base, front, family, MayLetGo, bound, is_bound, is_bound_place, offset, lo_of, Tables, Exchange, Representation, survivor, member, offset_in}
+use Rattle.hc_effects.proofs.Vocabulary.{Limits, Member, least, lesser, Place, is_number, is_live_place, if_bound, left_with, let_go, lost_to, with_representation, writing_lost, base, front, family, MayLetGo, bound, is_bound, is_bound_place, offset, lo_of, Tables, Exchange, Representation, survivor, member, offset_in, cause, place}
 use Rattle.hc_store.specs.declared.backend.Backend.{Ghosts}
-use Rattle.hc_event.specs.declared.act.Cause.TheVariants as cause
 use Rattle.hc_stored.specs.{Entries.{shelf_of}, Kept.{Kept, itself}, Shelf.{is_kept}, Views.{bound_in}}
 use Rattle.hc_entry.specs.Lines.{is_among}
 use Rattle.hc_sorted.specs.Sorted.{has}
 use Rattle.hc_rules.proofs.LeastFolds.{least-append}
 use Rattle.hc_rules.specs.Survivors as members
-use Rattle.hc_event.specs.declared.place.Place.TheVariants as place
 use Rattle.hc_model.specs.Rows as rows
 use Rattle.hc_effects.proofs.HoleLemmas.{first_from}
 use Rattle.hc_state.specs.{declared.{consumer.Consumer.{Consumer}, rows.Rows.{Rows}}, DetachedReaders.{ChangesEach, MayLoseShared, LosesShared, detached_reader_of, after_parting, stands_at}, Kept.{KeepsConsumer, unstored_bytes, held_alone, first_lacking}, Stands.{RowsStand}, Stopped.{HoldsNothing}, Stored.{IsEntry, KeepsEntry}}

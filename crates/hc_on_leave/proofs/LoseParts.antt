@@ -6,10 +6,9 @@
 -- (`held_part`). `stands_parted` joins them, and `LoseDetachedReaders` uses it.
 use Rattle.std.{proofs.Common.{◌≡◌, ◌≢◌, inl, inr, ℕ, List, [], Bool, true, false, Option, Some, None, refl, ap, sym, ◌∙◌, subst}, specs.{Prelude.{is_some, nat_eq, bytes_eq, option_map, ◌&&◌, if◌then◌else◌}, Option.{option_or}, HashMap.{get}}}
 use Rattle.hc_text.proofs.Basics.{eqb-other, false_true, same_or, some_inj as some_is}
-use Rattle.hc_effects.proofs.Vocabulary.{Limits, Cause, Request, Place, current, is_number, is_live, if_bound, left_with, writing_lost, family, MayLetGo, is_in_line, Queues, is_bound, is_bound_place, Tables, Exchange, Representation}
+use Rattle.hc_effects.proofs.Vocabulary.{Limits, Cause, Request, Place, current, is_number, is_live, if_bound, left_with, writing_lost, family, MayLetGo, is_in_line, Queues, is_bound, is_bound_place, Tables, Exchange, Representation, cause}
 use Rattle.hc_effects.proofs.Tests.{none_some}
 use Rattle.hc_store.specs.declared.backend.Backend.{Ghosts}
-use Rattle.hc_event.specs.declared.act.Cause.TheVariants as cause
 use Rattle.hc_stored.specs.Entries.{shelf_of}
 use Rattle.hc_entry.specs.Keys.{kept_of}
 use Rattle.hc_exch.specs.Exchanges.{table_of, next_of}

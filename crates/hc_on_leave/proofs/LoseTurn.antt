@@ -7,19 +7,12 @@
 use Rattle.std.{proofs.{Common.{◌≡◌, ◌≢◌, inl, inr, ℕ, ◌<◌, List, [], ◌∷◌, ◌++◌, Bool, true, false, Option, Some, None, refl, ap, ap₂, sym, ◌∙◌, subst}, lemmas.List.{append-nil}}, specs.Prelude.{is_some, is_none, nat_eq, map, option_map, not, ◌&&◌, ◌||◌, ◌==◌, if◌then◌else◌}}
 use mathlib.Core.Path.{fun_ext}
 use Rattle.hc_text.proofs.Basics.{eqb-other, eqb-same, false_true, same_or, same_some as same_row, and_off as then_false}
-use Rattle.hc_effects.proofs.Vocabulary.{Limits, Act, LostKind, Event, Response, head_case, length_of, is_head, is_same_number, Place, has_loss, head_view, is_founding, is_joining, case_at, back_in_line, current, denial, with_event, all_closed, with_answer, with_consumer, with_representation, writing_lost, let_go, lost_to, unless_ended, unless_survived, back_from, promise_in, family, is_reached, is_headless, Loses, entry_of, brings_to, MayLetGo, IsAwaiting, bound, is_bound, is_bound_place, is_written, writing_in, Tables, Exchange, Representation, is_kept, IsGrowing, exclusive, survivor, offset_in, written_representation, head_writes, may_validate, lossless}
+use Rattle.hc_effects.proofs.Vocabulary.{Limits, Act, LostKind, Event, Response, head_case, length_of, is_head, is_same_number, Place, has_loss, head_view, is_founding, is_joining, case_at, back_in_line, current, denial, with_event, all_closed, with_answer, with_consumer, with_representation, writing_lost, let_go, lost_to, unless_ended, unless_survived, back_from, promise_in, family, is_reached, is_headless, Loses, entry_of, brings_to, MayLetGo, IsAwaiting, bound, is_bound, is_bound_place, is_written, writing_in, Tables, Exchange, Representation, is_kept, IsGrowing, exclusive, survivor, offset_in, written_representation, head_writes, may_validate, lossless, act, kind, event, case, route, place, by}
 use Rattle.hc_store.specs.declared.backend.Backend.{Ghosts}
-use Rattle.hc_event.specs.declared.act.Act.TheVariants as act
-use Rattle.hc_event.specs.declared.act.LostKind.TheVariants as kind
-use Rattle.hc_event.specs.declared.event.Event.TheVariants as event
-use Rattle.hc_rules.specs.declared.heads.HeadCase.TheVariants as case
-use Rattle.hc_rules.specs.declared.need.Route.TheVariants as route
 use Rattle.hc_stored.specs.Entries.{shelf_of}
 use Rattle.hc_exch.specs.{Exchanges.{table_of}, Known.{length_by, is_open}}
 use Rattle.hc_exch.specs.Exchanges as exch
 use Rattle.hc_exch.specs.Known as known
-use Rattle.hc_event.specs.declared.place.Place.TheVariants as place
-use Rattle.hc_event.specs.declared.place.BoundBy.TheVariants as by
 use Rattle.hc_model.specs.Owners as owners
 use Rattle.hc_model.specs.Rows as rows
 use Rattle.hc_effects.proofs.{FirstKeeps.{case_is}, FoundBy.{unchanged_founds}, KeysKeep.{current_row}, LettingGo.{may_let_go}, ExclusiveWriters.{writer_some}, PollKeeps.{current_stays}, UpdateEffects.{validated_lost}, WrittenEffects.{validated_lost_written}, Tests.{none_some}}

@@ -1,8 +1,7 @@
 -- What is current may be let go, also once an exchange is opened, or a consumer stands where it waits for no body.
 use Rattle.std.{proofs.Common.{◌≡◌, inl, inr, ℕ, true, false, Option, Some, refl, ap, sym, ◌∙◌}, specs.Prelude.{is_some}}
 use Rattle.hc_text.proofs.Basics.{eqb-other, eqb-same, false_true, same_or, some_inj as some_is}
-use Rattle.hc_event.specs.declared.place.Place.TheVariants as place
-use Rattle.hc_effects.proofs.Vocabulary.{with_consumer, with_opening, MayLetGo, WaitsOn, has_passed, Tables, Exchange, Consumer}
+use Rattle.hc_effects.proofs.Vocabulary.{place, with_consumer, with_opening, MayLetGo, WaitsOn, has_passed, Tables, Exchange, Consumer}
 
 pub may_opened : (t : Tables) (x : ℕ) (z : Exchange) → MayLetGo t → MayLetGo (with_opening x z t)
 may_opened t x z may = record {

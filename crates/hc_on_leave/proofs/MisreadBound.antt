@@ -8,13 +8,9 @@ use Rattle.std.{proofs.{Common.{◌≡◌, ◌≢◌, ℕ, ◌<◌, List, [], �
 use Rattle.hc_text.proofs.Basics.{eqb-other, eqb-same, false_true, or_left as or_first, same_some as same_row, some_inj as some_is, and_off as then_false}
 use Rattle.hc_store.specs.declared.backend.Backend.{Ghosts}
 use Rattle.hc_stored.specs.Entries.{shelf_of}
-use Rattle.hc_effects.proofs.Vocabulary.{Act, Event, Limits, Place, BoundBy, is_current, Does, with_event, with_consumer, let_go, let_some_go, as_gone, tables_after_close, all_closed, as_over, left_by, going_with, is_unkeepable, family, Misreads, flaw_in, brings_to, Lawful, MayLetGo, is_bound_place, Tables, Exchange, Representation, Consumer, IsAbout, with_item_first}
-use Rattle.hc_event.specs.declared.act.Act.TheVariants as act
-use Rattle.hc_event.specs.declared.act.Cause.TheVariants as cause
-use Rattle.hc_event.specs.declared.event.Event.TheVariants as event
+use Rattle.hc_effects.proofs.Vocabulary.{Act, Event, Limits, Place, BoundBy, is_current, Does, with_event, with_consumer, let_go, let_some_go, as_gone, tables_after_close, all_closed, as_over, left_by, going_with, is_unkeepable, family, Misreads, flaw_in, brings_to, Lawful, MayLetGo, is_bound_place, Tables, Exchange, Representation, Consumer, IsAbout, with_item_first, act, cause, event, place}
 use Rattle.hc_exch.specs.Exchanges as exch
 use Rattle.hc_exch.specs.Known as known
-use Rattle.hc_event.specs.declared.place.Place.TheVariants as place
 use Rattle.hc_model.specs.Sound as sound
 use Rattle.hc_effects.proofs.{LettingGo.{may_let_go, keeps_may, let_go_nothing}, MisreadEffects.{misreads}, Stops.{writer_about}, Tests.{none_some}}
 use Rattle.hc_state.specs.{declared.rows.Rows.{Rows}, Stands.{Answered, RowsStand, KeepsRest}}

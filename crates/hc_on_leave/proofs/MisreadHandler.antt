@@ -3,11 +3,7 @@ use Rattle.std.{proofs.Common.{◌≡◌, ℕ, ◌<◌, List, [], ◌∷◌, ◌
 use Rattle.hc_text.proofs.Basics.{eqb-same, false_true, or_right as or_last}
 use Rattle.hc_store.specs.declared.backend.Backend.{Ghosts}
 use Rattle.hc_stored.specs.Entries.{shelf_of}
-use Rattle.hc_effects.proofs.Vocabulary.{Act, Limits, Place, is_last_reader, current, is_number, Does, with_event, with_consumer, let_go, let_some_go, all_closed, as_over, left_by, going_with, Misreads, flaw_in, Lawful, IsAway, is_bound, Tables, Consumer, with_item_first}
-use Rattle.hc_event.specs.declared.act.Act.TheVariants as act
-use Rattle.hc_event.specs.declared.act.Cause.TheVariants as cause
-use Rattle.hc_event.specs.declared.event.Event.TheVariants as event
-use Rattle.hc_event.specs.declared.place.Place.TheVariants as place
+use Rattle.hc_effects.proofs.Vocabulary.{Act, Limits, Place, is_last_reader, current, is_number, Does, with_event, with_consumer, let_go, let_some_go, all_closed, as_over, left_by, going_with, Misreads, flaw_in, Lawful, IsAway, is_bound, Tables, Consumer, with_item_first, act, cause, event, place}
 use Rattle.hc_effects.proofs.MisreadEffects.{misreads}
 use Rattle.hc_state.specs.{declared.rows.Rows.{Rows}, Plans.{is_idle_at}, Stands.{Answered, RowsStand}}
 use Rattle.hc_state.proofs.Counting.{stands_counted}

@@ -6,9 +6,8 @@
 -- held for it grows by just the piece (`held_then`). By `PieceRows` that is answered.
 use Rattle.std.{proofs.{Common.{◌≡◌, ℕ, ◌+◌, ◌<◌, ◌≤◌, ◌^◌, List, [], ◌++◌, length, drop, Bool, true, false, cond, Option, Some, None, refl, ap, sym, ◌∙◌, subst, arith}, lemmas.{Bool.Decides.{nat_tests}, List.{append-nil, drop-append-le}}}, specs.Prelude.{is_some, is_none, nat_lt, not, option_map, ◌==◌}}
 use Rattle.hc_text.proofs.Basics.{eqb-same, false_true, never_true as not_true, not_false as on_by, same_some as same_row, some_inj as some_is}
-use Rattle.hc_effects.proofs.Vocabulary.{Limits, Act, Refusal, piece_refusal, overlong, denial, as_open, entry_without_acts, with_piece, family, promised_bytes, base, Lawful, Numbers, Tables, Exchange, Representation, write_in}
+use Rattle.hc_effects.proofs.Vocabulary.{Limits, Act, Refusal, piece_refusal, overlong, denial, as_open, entry_without_acts, with_piece, family, promised_bytes, base, Lawful, Numbers, Tables, Exchange, Representation, write_in, event}
 use Rattle.hc_store.specs.declared.backend.Backend.{Ghosts}
-use Rattle.hc_event.specs.declared.event.Event.TheVariants as event
 use Rattle.hc_rules.specs.Refusals as refusals
 use Rattle.hc_stored.specs.{Entries.{shelf_of}, Kept.{Kept}, declared.entries.Entries.{Entries}}
 use Rattle.hc_exch.specs.Exchanges as exch

@@ -7,10 +7,7 @@
 use Rattle.std.{proofs.{Common.{◌≡◌, ◌≢◌, inl, inr, ℕ, zero, suc, ◌+◌, ◌≤◌, List, [], ◌∷◌, length, take, Bool, true, false, Option, Some, None, refl, ap, sym, ◌∙◌, arith}, lemmas.Bool.Decides.{nat_tests}}, specs.{Prelude.{is_some, nat_eq, nat_le, nat_lt, filter, map, reverse, not, ◌==◌, ◌&&◌, ◌||◌, if◌then◌else◌}, List.{sum_by}}}
 use mathlib.Core.Path.{fun_ext}
 use Rattle.hc_text.proofs.Basics.{and_true, eqb-other, false_true, or_off_left as or_first, same_or, and_off as then_false}
-use Rattle.hc_event.specs.declared.event.Event.TheVariants as event
-use Rattle.hc_effects.proofs.Vocabulary.{Limits, Room, Write, room_of, gives_way, weight_of, idle_now, is_current, denial, Entry, entry_without_acts, outlasts, outlasts_row, family, NoFlaw, goes_itself, becomes_gone, Lawful, MayMakeRoom, weight_now, room_now, giving_way, bound, Tables, Exchange, Representation, has_room, weight, idle, evicted, room_for, room_by, write_in, stays_bound}
-use Rattle.hc_rules.specs.declared.room.Room.TheVariants as room
-use Rattle.hc_rules.specs.declared.room.Write.TheVariants as write
+use Rattle.hc_effects.proofs.Vocabulary.{event, room, write, Limits, Room, Write, room_of, gives_way, weight_of, idle_now, is_current, denial, Entry, entry_without_acts, outlasts, outlasts_row, family, NoFlaw, goes_itself, becomes_gone, Lawful, MayMakeRoom, weight_now, room_now, giving_way, bound, Tables, Exchange, Representation, has_room, weight, idle, evicted, room_for, room_by, write_in, stays_bound}
 use Rattle.hc_model.specs.Contents as contents
 use Rattle.hc_model.specs.LettingGo as going
 use Rattle.hc_model.specs.Sound as sound

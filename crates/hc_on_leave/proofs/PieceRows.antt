@@ -6,9 +6,8 @@
 -- the entry of what it brings, which its users prove: pieces that are stored, held or dropped.
 use Rattle.std.{proofs.{Common.{◌≡◌, ◌≢◌, inl, inr, ℕ, ◌+◌, List, ◌++◌, length, Bool, true, false, cond, Option, Some, None, refl, ap, ap₂, sym, ◌∙◌, subst}, lemmas.List.{length-append}}, specs.{Prelude.{is_some, is_none, nat_eq, bytes_eq, ◌&&◌, if◌then◌else◌}, HashMap.{get}}}
 use Rattle.hc_text.proofs.Basics.{eqb-other, eqb-same, false_true, filters_same, finds_same, same_or, and_off as then_false}
-use Rattle.hc_effects.proofs.Vocabulary.{Limits, route_of, Place, current, is_usable, total_in, with_event, with_exchange, with_piece, family, promised_bytes, is_reached, is_headless, is_growing, brings_to, base_in, end_in, end_of_direct, Tables, Exchange, Representation, status_in}
+use Rattle.hc_effects.proofs.Vocabulary.{Limits, route_of, Place, current, is_usable, total_in, with_event, with_exchange, with_piece, family, promised_bytes, is_reached, is_headless, is_growing, brings_to, base_in, end_in, end_of_direct, Tables, Exchange, Representation, status_in, event, place, by}
 use Rattle.hc_store.specs.declared.backend.Backend.{Ghosts}
-use Rattle.hc_event.specs.declared.event.Event.TheVariants as event
 use Rattle.hc_stored.specs.{Entries.{shelf_of}, Shelf.{Shelf}}
 use Rattle.hc_entry.specs.Kept as keyed
 use Rattle.hc_entry.specs.Keys.{kept_of}
@@ -16,8 +15,6 @@ use Rattle.hc_exch.specs.Exchanges as exch
 use Rattle.hc_exch.specs.{Exchanges.{table_of}, Known.{Known, is_all, is_last_of}, declared.{role.Role.{Role}, row.Open.{Open}}}
 use Rattle.hc_exch.specs.Known as known
 use Rattle.hc_exch.specs.declared.role.Role.TheVariants as role
-use Rattle.hc_event.specs.declared.place.Place.TheVariants as place
-use Rattle.hc_event.specs.declared.place.BoundBy.TheVariants as by
 use Rattle.hc_model.specs.Rows as rows
 use Rattle.hc_state.specs.{declared.rows.Rows.{Rows}, Kept.{IsRunning, KeepsRunning, KeepsExchange, head_in, held_for, role_awaited}, Lines.{KeepsKey, is_away, is_away_at}, Stands.{RowsStand}, Stored.{KeepsEntry, KeepsEntries, is_usable_row}}
 use Rattle.hc_on_leave.proofs.AnswerHandler.{all_reached, known_here, known_other}

@@ -6,13 +6,12 @@
 -- of the tables (`length_as`, `closes_as`). The files on heads of which nothing is stored use these.
 use Rattle.std.{proofs.Common.{◌≡◌, ◌≢◌, inl, inr, ℕ, [], ◌∷◌, Bool, true, false, Option, Some, None, refl, ap, sym, ◌∙◌, subst}, specs.{Prelude.{nat_eq, if◌then◌else◌}, HashMap.{get}}}
 use Rattle.hc_text.proofs.Basics.{eqb-other, eqb-same, same_or}
-use Rattle.hc_effects.proofs.Vocabulary.{Limits, Response, Length, length_of, promise_of, with_answer, with_exchange, exchange_with_head, over, tables_after_close, all_closed, unless_ended, promise_in, is_reached, Tables, Exchange}
+use Rattle.hc_effects.proofs.Vocabulary.{Limits, Response, Length, length_of, promise_of, with_answer, with_exchange, exchange_with_head, over, tables_after_close, all_closed, unless_ended, promise_in, is_reached, Tables, Exchange, place}
 use Rattle.hc_store.specs.declared.backend.Backend.{Ghosts}
 use Rattle.hc_stored.specs.Entries.{shelf_of}
 use Rattle.hc_exch.specs.{declared.row.Open.{Open}, Exchanges.{table_of}, Known.{Known, length_by}}
 use Rattle.hc_exch.specs.Exchanges as exch
 use Rattle.hc_exch.specs.Known as known
-use Rattle.hc_event.specs.declared.place.Place.TheVariants as place
 use Rattle.hc_model.specs.Rows as rows
 use Rattle.hc_effects.proofs.Basics.{same_functions}
 use Rattle.hc_state.specs.{declared.rows.Rows.{Rows}, Changes.{BecomesAt}, Heads.{IsBare, IsUnread, unless_over}, Kept.{KeepsExchange, KeepsRunning, held_for}, Stands.{RowsStand, KeepsRest}}

@@ -3,11 +3,8 @@ use Rattle.std.{proofs.{Common.{◌≡◌, ℕ, ◌+◌, ◌<◌, ◌≤◌, Lis
 use Rattle.hc_text.proofs.Basics.{some_inj as some_is}
 use Rattle.hc_store.specs.{Causes.{HasCause, IsWithin}, declared.error.StoreError.{StoreError}}
 use Rattle.hc_store.specs.declared.error.StoreError.TheVariants as errors
-use Rattle.hc_effects.proofs.Vocabulary.{LostKind, room_of, gives_way, Limits}
-use Rattle.hc_event.specs.declared.act.LostKind.TheVariants as kinds
+use Rattle.hc_effects.proofs.Vocabulary.{LostKind, room_of, gives_way, Limits, kind as kinds, room, write}
 use Rattle.hc_rules.specs.Rooms as rooms
-use Rattle.hc_rules.specs.declared.room.Room.TheVariants as room
-use Rattle.hc_rules.specs.declared.room.Write.TheVariants as write
 use Rattle.hc_state.specs.Room.{loss_by}
 
 -- WHY

@@ -9,11 +9,8 @@ use Rattle.hc_store.specs.declared.backend.Backend.{Ghosts}
 use Rattle.hc_sparse.specs.Cells.{Cell, Cells, AreAbsent, EndsBy, cells_with, size}
 use Rattle.hc_sparse.proofs.SizeLemmas.{size-same}
 use Rattle.hc_record.specs.declared.kind.Kind.{Kind}
-use Rattle.hc_effects.proofs.Vocabulary.{Act, piece_refusal, room_of, Limits, Room, denial, let_all_go, with_piece, family, front, promised_bytes, is_reached, IsInUse, MayMakeRoom, giving_way, room_now, weight_now, weights_now, idle_now, bound, with_stored_bytes, Tables, Exchange, Representation, has_room, room_for, LostKind, Write, may_lose}
-use Rattle.hc_event.specs.declared.event.Event.TheVariants as event
+use Rattle.hc_effects.proofs.Vocabulary.{Act, piece_refusal, room_of, Limits, Room, denial, let_all_go, with_piece, family, front, promised_bytes, is_reached, IsInUse, MayMakeRoom, giving_way, room_now, weight_now, weights_now, idle_now, bound, with_stored_bytes, Tables, Exchange, Representation, has_room, room_for, LostKind, Write, may_lose, event, room, write, act, kind as kinds}
 use Rattle.hc_rules.specs.Refusals as refusals
-use Rattle.hc_rules.specs.declared.room.Room.TheVariants as room
-use Rattle.hc_rules.specs.declared.room.Write.TheVariants as write
 use Rattle.hc_stored.specs.{declared.view.EntryView.{EntryView}, Entries.{shelf_of}, Kept.{Kept}, Shelf.{is_kept, size_at, cells_in, cells_at, same_order}, Views.{view_of}}
 use Rattle.hc_stored.specs.Kept as entry
 use Rattle.hc_stored.specs.Shelf as shelf
@@ -27,8 +24,6 @@ use Rattle.hc_state.specs.{declared.rows.Rows.{Rows}, Facts.{Facts}, Pieces.{unl
 use Rattle.hc_on_leave.proofs.{PieceHandler.{Brought, brought_of, Runs, runs_of, brings_it, not_too_long}, PieceRoom.{may_make_room, room_same, gives_same, spared, room_there}, Gates.{denies_as}, PieceKinds.{outside_behind}, PieceRows.{IsLike, like_same, last_is}, StoredPiece.{written_alike, tells, stored_stands, stored_answered}, FoundHandler.{bound_without, make_gone}, RefusedPiece.{Refused, too_large, not_large}, Sets.{acts_set}}
 use Rattle.hc_state.proofs.{Maps.{merely_true, merely_false}, Rooms.{used_is}, ReaderSteps.{stands_read}}
 use Rattle.hc_text.proofs.Basics.{some_inj as some_is}
-use Rattle.hc_event.specs.declared.act.Act.TheVariants as act
-use Rattle.hc_event.specs.declared.act.LostKind.TheVariants as kinds
 use Rattle.hc_on_leave.proofs.RefusedPiece as refusals_of
 
 -- WHAT IS STORED OF IT

@@ -11,9 +11,7 @@ use Rattle.hc_store.specs.{declared.backend.Backend.{Ghosts}, Heads.{with_kind}}
 use Rattle.hc_sparse.specs.Cells.{Cell, Cells, Covers, inside, cells_with}
 use Rattle.hc_record.specs.{Head.{Head, sealed_head}, declared.kind.Kind.{Kind}}
 use Rattle.hc_record.specs.declared.kind.Kind.TheVariants as kinds
-use Rattle.hc_effects.proofs.Vocabulary.{Act, Response, overlong, Limits, denial, with_event, let_all_go, with_exchange, with_representation, as_gone, with_piece, family, front, promised_bytes, NoFlaw, flaw_in, Grows, IsMeasured, kind_of, is_growing, brings_to, is_complete, is_front, bound, with_stored_bytes, Tables, Exchange, Representation, has_room, room_for, evicted}
-use Rattle.hc_event.specs.declared.act.Act.TheVariants as act
-use Rattle.hc_event.specs.declared.event.Event.TheVariants as event
+use Rattle.hc_effects.proofs.Vocabulary.{Act, Response, overlong, Limits, denial, with_event, let_all_go, with_exchange, with_representation, as_gone, with_piece, family, front, promised_bytes, NoFlaw, flaw_in, Grows, IsMeasured, kind_of, is_growing, brings_to, is_complete, is_front, bound, with_stored_bytes, Tables, Exchange, Representation, has_room, room_for, evicted, act, event}
 use Rattle.hc_stored.specs.{Entries.{shelf_of}, Kept.{Kept}, Shelf.{same_order}}
 use Rattle.hc_stored.specs.Kept as entry
 use Rattle.hc_stored.specs.Shelf as shelf

@@ -7,19 +7,12 @@
 use Rattle.std.{proofs.{Common.{◌≡◌, ◌≢◌, ◌⊎◌, inl, inr, ℕ, List, [], ◌∷◌, ◌++◌, Bool, true, false, Option, Some, None, refl, ap, sym, ◌∙◌, subst}, lemmas.List.{append-nil}}, specs.Prelude.{is_some, map, ◌||◌, if◌then◌else◌}}
 use Rattle.hc_text.proofs.Basics.{eqb-other, eqb-same, false_true, same_or, same_some as same_row, some_inj as some_is}
 use Rattle.hc_store.specs.declared.backend.Backend.{Ghosts}
-use Rattle.hc_effects.proofs.Vocabulary.{Act, Cause, Event, Response, HeadCase, HeadView, Route, Limits, route_of, head_case, length_of, is_bad, is_head, BoundBy, head_view, was_shown, is_founding, back_in_line, denial, doomed_by_case, changes, Does, with_event, let_some_go, tables_after_close, all_closed, with_consumer, with_exchange, with_answer, unless_ended, entry_without_acts, is_reached, is_headless, promise_in, NoFlaw, flaw_in, Lawful, StandsFor, MayLetGo, Tables, Exchange, awaited_exchange, write_in}
-use Rattle.hc_event.specs.declared.act.Act.TheVariants as act
-use Rattle.hc_event.specs.declared.act.Cause.TheVariants as cause
-use Rattle.hc_event.specs.declared.event.Event.TheVariants as event
-use Rattle.hc_rules.specs.declared.heads.HeadCase.TheVariants as case
-use Rattle.hc_rules.specs.declared.need.Route.TheVariants as route
-use Rattle.hc_rules.specs.declared.room.Write.TheVariants as write
+use Rattle.hc_effects.proofs.Vocabulary.{Act, Cause, Event, Response, HeadCase, HeadView, Route, Limits, route_of, head_case, length_of, is_bad, is_head, BoundBy, head_view, was_shown, is_founding, back_in_line, denial, doomed_by_case, changes, Does, with_event, let_some_go, tables_after_close, all_closed, with_consumer, with_exchange, with_answer, unless_ended, entry_without_acts, is_reached, is_headless, promise_in, NoFlaw, flaw_in, Lawful, StandsFor, MayLetGo, Tables, Exchange, awaited_exchange, write_in, act, cause, event, case, route, write, by}
 use Rattle.hc_stored.specs.Entries.{shelf_of}
 use Rattle.hc_exch.specs.{Exchanges.{table_of}, Known.{length_by}}
 use Rattle.hc_exch.specs.Exchanges as exch
 use Rattle.hc_exch.specs.Known as known
 use Rattle.hc_event.specs.declared.place.Place.TheVariants as place
-use Rattle.hc_event.specs.declared.place.BoundBy.TheVariants as by
 use Rattle.hc_model.specs.Laws as laws
 use Rattle.hc_model.specs.Rows as rows
 use Rattle.hc_effects.proofs.{FirstKeeps.{case_is}, FoundBy.{CaseBy, case_by}, HeadFacts.{stays_open, undue}, LettingGo.{may_let_go}, Tests.{none_some}, UpdateEffects.{unchanged}}

@@ -6,12 +6,11 @@
 -- (`exclusive_written`). `exclusive` and `has_more` use these, case by case.
 use Rattle.std.{proofs.{Common.{◌≡◌, ◌⊎◌, inl, inr, ℕ, ◌+◌, ◌<◌, ◌≤◌, ◌^◌, Bool, true, false, max, Option, Some, None, refl, ap, sym, ◌∙◌, subst, arith}, lemmas.Bool.Decides.{nat_tests}}, specs.{Prelude.{is_some, nat_eq, not, ◌&&◌, ◌↔◌, IsTrue}, Option.{option_and_then}, HashMap.{get}}}
 use Rattle.hc_text.proofs.Basics.{eqb-same, false_true, some_inj as some_is}
-use Rattle.hc_effects.proofs.Vocabulary.{Limits, Place, BoundBy, is_number, own_open, if_open, is_written, is_bound_place, offset, lo_of, Numbers, Tables, Representation, IsFirst, IsBound, exclusive, has_more, lacks_some, came_alone}
+use Rattle.hc_effects.proofs.Vocabulary.{Limits, Place, BoundBy, is_number, own_open, if_open, is_written, is_bound_place, offset, lo_of, Numbers, Tables, Representation, IsFirst, IsBound, exclusive, has_more, lacks_some, came_alone, place}
 use Rattle.hc_store.specs.declared.backend.Backend.{Ghosts}
 use Rattle.hc_sparse.specs.Cells.{Covers}
 use Rattle.hc_stored.specs.{Entries.{shelf_of}, Kept.{Kept}, Shelf.{cells_at, cells_in, is_kept}}
 use Rattle.hc_exch.specs.Exchanges.{table_of}
-use Rattle.hc_event.specs.declared.place.Place.TheVariants as place
 use Rattle.hc_model.specs.Rows as rows
 use Rattle.hc_model.specs.Sound as sound
 use Rattle.hc_effects.proofs.Exclusives.{exclusive_parts}

@@ -1,8 +1,7 @@
 -- What an event says that isn't denied.
 use Rattle.std.{proofs.{Common.{◌≡◌, ℕ, ◌<◌, List, length, Bool, true, false, Option, Some, None, refl, sym, arith}, lemmas.Bool.Decides.{nat_tests}}, specs.Prelude.{nat_le, nat_lt, ◌==◌, if◌then◌else◌, not}}
 use Rattle.hc_text.proofs.Basics.{not_false as not_off}
-use Rattle.hc_event.specs.declared.event.Event.TheVariants as event
-use Rattle.hc_effects.proofs.Vocabulary.{Request, Response, Refusal, Gate, refusal_of, head_refusal, piece_refusal, end_refusal, fault_refusal}
+use Rattle.hc_effects.proofs.Vocabulary.{event, Request, Response, Refusal, Gate, refusal_of, head_refusal, piece_refusal, end_refusal, fault_refusal}
 use Rattle.hc_effects.proofs.Tests.{none_some}
 
 first_off : (b : Bool) (r : Refusal) (rest : Option Refusal) → (if b then Some r else rest) ≡ None → b ≡ false

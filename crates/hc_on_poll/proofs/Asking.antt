@@ -6,7 +6,7 @@
 -- (`stands_asked_already`). `BoundGives` and `ReadPast` use both, for who asks or waits.
 use Rattle.std.{proofs.Common.{◌≡◌, ◌≢◌, inl, inr, ℕ, ◌+◌, ◌-◌, [], length, Bool, true, false, Option, Some, None, refl, ap, sym, ◌∙◌, subst}, specs.{Prelude.{nat_eq, bytes_eq, drop, option_map, ◌&&◌, if◌then◌else◌}, HashMap.{get, hash_map_len}}}
 use Rattle.hc_text.proofs.Basics.{eqb-other, eqb-same, same_or}
-use Rattle.hc_effects.proofs.Vocabulary.{Limits, Response, base_of, promise_of, Place, current, is_number, with_ask, to_bring, base, promised_bytes, family, is_headless, length_by, brings_to, absent_from, end_in, end_of_direct, base_in, lo_of, hi_of, offset, is_bound_place, Tables, Exchange, Representation}
+use Rattle.hc_effects.proofs.Vocabulary.{Limits, Response, base_of, promise_of, Place, current, is_number, with_ask, to_bring, base, promised_bytes, family, is_headless, length_by, brings_to, absent_from, end_in, end_of_direct, base_in, lo_of, hi_of, offset, is_bound_place, Tables, Exchange, Representation, by}
 use Rattle.hc_store.specs.declared.backend.Backend.{Ghosts}
 use Rattle.hc_stored.specs.Entries.{shelf_of}
 use Rattle.hc_stored.specs.Shelf as shelf
@@ -15,7 +15,6 @@ use Rattle.hc_exch.specs.{Exchanges.{table_of}, Known.{Known}, declared.row.Open
 use Rattle.hc_exch.specs.Exchanges as exch
 use Rattle.hc_exch.specs.Known as known
 use Rattle.hc_event.specs.declared.place.Place.TheVariants as place
-use Rattle.hc_event.specs.declared.place.BoundBy.TheVariants as by
 use Rattle.hc_model.specs.Rows as rows
 use Rattle.hc_state.specs.{Stored.{is_over}, declared.{consumer.Consumer.{Consumer}, rows.Rows.{Rows}}, Handlers.{asked_in}, Kept.{IsKept, KeepsConsumer, KeepsExchange, KeepsRunning, head_in, answer_at, held_for, held_of, held_alone, unstored_bytes}, Lines.{KeepsKey, is_away, is_away_at}, Stands.{RowsStand}}
 use Rattle.hc_state.proofs.{Fallbacks.{same, held_alike}, OneOfEach.{entries_same, growing_same}, ReaderSteps.{entries_read}, Ties.{exchange_same, key_same}}

@@ -6,10 +6,8 @@
 -- asked for by `Asking`. `ReadOn` uses the three lemmas `.._answered`.
 use Rattle.std.{proofs.{Common.{◌≡◌, ◌≢◌, inl, inr, ℕ, zero, suc, ◌+◌, ◌-◌, ◌<◌, ◌≤◌, List, [], ◌++◌, length, drop, take, min, Bool, true, false, Option, Some, None, refl, ap, ap₂, sym, ◌∙◌, subst, arith}, Math.ListN.{drop_of_length-le}, lemmas.{Bool.Decides.{nat_tests}, Grind.{common_steps}}}, specs.{Prelude.{is_some, is_none, nat_eq, ◌&&◌, if◌then◌else◌}, HashMap.{get}}}
 use Rattle.hc_text.proofs.Basics.{and_both as both_true, eqb-other, eqb-same, false_true, lt_cases as lt_or, same_or, same_some as same_row}
-use Rattle.hc_effects.proofs.Vocabulary.{Limits, Act, Event, BoundBy, is_number, Does, with_consumer, with_ask, with_event, base, front, family, NoFlaw, first_place, absent_from, Gives, Asks, acts_of, move_of, is_bound_place, lo_of, offset, Tables, Exchange, Representation}
+use Rattle.hc_effects.proofs.Vocabulary.{Limits, Act, Event, BoundBy, is_number, Does, with_consumer, with_ask, with_event, base, front, family, NoFlaw, first_place, absent_from, Gives, Asks, acts_of, move_of, is_bound_place, lo_of, offset, Tables, Exchange, Representation, wait, event}
 use Rattle.hc_store.specs.declared.backend.Backend.{Ghosts}
-use Rattle.hc_event.specs.declared.act.Wait.TheVariants as wait
-use Rattle.hc_event.specs.declared.event.Event.TheVariants as event
 use Rattle.hc_sparse.specs.{Cells.{Cells}, Runs.{end_of}, declared.run.Run.{Run}}
 use Rattle.hc_stored.specs.Entries.{shelf_of}
 use Rattle.hc_stored.specs.Shelf as shelf

@@ -9,10 +9,8 @@ use Rattle.hc_text.proofs.Basics.{eqb-other, eqb-same, false_true, same_or, same
 use Rattle.hc_sorted.specs.Sorted.{has, with_item, without}
 use Rattle.hc_sorted.proofs.SortedLemmas.{has-with}
 use Rattle.hc_stored.specs.{Kept.{Kept, itself, with_user, with_first}, Shelf.{Shelf, Becomes, moved_first}}
-use Rattle.hc_effects.proofs.Vocabulary.{Place, BoundBy, is_number, family, kind_of, Lawful, reads, is_bound, is_bound_place, Tables, Exchange, Representation, came_alone}
+use Rattle.hc_effects.proofs.Vocabulary.{Place, BoundBy, is_number, family, kind_of, Lawful, reads, is_bound, is_bound_place, Tables, Exchange, Representation, came_alone, place, by}
 use Rattle.hc_effects.proofs.Tests.{and_false, none_some}
-use Rattle.hc_event.specs.declared.place.Place.TheVariants as place
-use Rattle.hc_event.specs.declared.place.BoundBy.TheVariants as by
 use Rattle.hc_model.specs.Rows as rows
 use Rattle.hc_state.specs.{Kept.{held_for, held_of, held_alone, unread, unstored_bytes}, Stored.{IsEntry, KeepsEntry, KeepsEntries, is_first, is_usable_row}}
 use Rattle.hc_state.specs.Stored as stored

@@ -6,13 +6,12 @@
 -- alike whether something is held (`held_same`, `holds_something`). `BoundReads` joins these.
 use Rattle.std.{proofs.{Common.{◌≡◌, inl, inr, ℕ, zero, suc, ◌+◌, ◌-◌, ◌<◌, ◌≤◌, List, [], ◌∷◌, length, drop, take, min, Bool, true, false, Option, Some, None, refl, ap, ap₂, sym, ◌∙◌, arith}, lemmas.Bool.Decides.{nat_tests}}, specs.{Prelude.{is_some, is_none, nat_eq, nat_lt, option_and_then, ◌&&◌, if◌then◌else◌}, Option.{option_or}}}
 use Rattle.hc_text.proofs.Basics.{and_both as both_true, eqb-same, false_true, lt_cases as lt_or, same_or, same_some as same_row, some_inj as some_is}
-use Rattle.hc_effects.proofs.Vocabulary.{Limits, BoundBy, Place, is_number, row_of, base, front, family, stretch_to, next_from, first_place, absent_from, HoldsOwn, MayDeliver, offset, if_open, source, shared_exchange, bound_to, is_bound_place, Tables, Exchange, Representation, IsBound, run_held_for, held_at, stored_ahead, stored_from, next_stored, bound_row, run_of, held_of_lost}
+use Rattle.hc_effects.proofs.Vocabulary.{Limits, BoundBy, Place, is_number, row_of, base, front, family, stretch_to, next_from, first_place, absent_from, HoldsOwn, MayDeliver, offset, if_open, source, shared_exchange, bound_to, is_bound_place, Tables, Exchange, Representation, IsBound, run_held_for, held_at, stored_ahead, stored_from, next_stored, bound_row, run_of, held_of_lost, place}
 use Rattle.hc_store.specs.declared.backend.Backend.{Ghosts}
 use Rattle.hc_sparse.specs.{Cells.{Cells, Cell, EndsBy, IsNext, AreAbsent}, Stretch.{stretch, stretch_of}, declared.run.Run.{Run}}
 use Rattle.hc_stored.specs.{Entries.{shelf_of}, Shelf.{cells_at, cells_in}}
 use Rattle.hc_stored.specs.Kept as entry
 use Rattle.hc_exch.specs.Exchanges.{table_of}
-use Rattle.hc_event.specs.declared.place.Place.TheVariants as place
 use Rattle.hc_model.specs.Origins as origins
 use Rattle.hc_model.specs.Rows as rows
 use Rattle.hc_model.specs.Sound as sound

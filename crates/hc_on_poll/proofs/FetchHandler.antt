@@ -11,10 +11,7 @@ use Rattle.hc_stored.specs.Entries.{shelf_of}
 use Rattle.hc_entry.specs.{declared.keys.KeyTable.{KeyTable}, Keys.{kept_of, line_of}, Kept.{on_line, line_in}, Lines.{is_among, is_in, held_by, turn_of, turn_with}}
 use Rattle.hc_entry.specs.Keys as keys
 use Rattle.hc_entry.specs.Kept as keyed
-use Rattle.hc_effects.proofs.Vocabulary.{Act, Need, Request, Limits, route_of, is_disabled, is_only, Place, current, with_event, with_consumer, with_opening, just_opened, let_some_go, Lawful, MayLetGo, is_in_line, holds_place, Opens, acts_of, move_of, Tables, Exchange}
-use Rattle.hc_event.specs.declared.act.Need.TheVariants as need
-use Rattle.hc_event.specs.declared.event.Event.TheVariants as event
-use Rattle.hc_rules.specs.declared.need.Route.TheVariants as route
+use Rattle.hc_effects.proofs.Vocabulary.{Act, Need, Request, Limits, route_of, is_disabled, is_only, Place, current, with_event, with_consumer, with_opening, just_opened, let_some_go, Lawful, MayLetGo, is_in_line, holds_place, Opens, acts_of, move_of, Tables, Exchange, need, event, route}
 use Rattle.hc_exch.specs.declared.role.Role.TheVariants as role
 use Rattle.hc_exch.specs.{declared.exchanges.Exchanges.{Exchanges}, Exchanges.{table_of, next_of}, Known.{with_new_exchange, Changes}}
 use Rattle.hc_event.specs.declared.place.Place.TheVariants as place

@@ -7,13 +7,10 @@
 use Rattle.std.{proofs.Common.{◌≡◌, ◌≢◌, inl, inr, ℕ, ◌+◌, List, [], ◌++◌, Bool, true, false, Option, Some, None, refl, ap, sym, ◌∙◌, subst, arith}, specs.{Prelude.{bytes_eq, nat_eq, is_none, not, option_map, ◌&&◌}, HashMap.{get}}}
 use Rattle.hc_text.proofs.Basics.{eqb-other, eqb-same, false_true, same_or, and_off as then_false}
 use Rattle.hc_store.specs.declared.backend.Backend.{Ghosts}
-use Rattle.hc_effects.proofs.Vocabulary.{Act, Need, Request, RequestClass, Limits, route_of, range_of, wanted_of, Place, current, total_in, is_live, with_event, used_last, with_consumer, with_opening, just_opened, kind_of, Lawful, is_in_line, Opens, acts_of, move_of, bound_to, Tables, Exchange, Representation}
+use Rattle.hc_effects.proofs.Vocabulary.{Act, Need, Request, RequestClass, Limits, route_of, range_of, wanted_of, Place, current, total_in, is_live, with_event, used_last, with_consumer, with_opening, just_opened, kind_of, Lawful, is_in_line, Opens, acts_of, move_of, bound_to, Tables, Exchange, Representation, event, route, wanted}
 use Rattle.hc_event.specs.declared.act.Need.TheVariants as need
-use Rattle.hc_event.specs.declared.event.Event.TheVariants as event
 use Rattle.hc_range.specs.declared.range.{Asked.{Asked}, Span.{Span}}
 use Rattle.hc_sorted.specs.Sorted.{has}
-use Rattle.hc_rules.specs.declared.need.Route.TheVariants as route
-use Rattle.hc_rules.specs.declared.request.Wanted.TheVariants as wanted
 use Rattle.hc_rules.proofs.RangeReads.{bytes_eq-same}
 use Rattle.hc_entry.specs.{declared.keys.KeyTable.{KeyTable}, Keys.{kept_of}, Kept.{on_line}, Lines.{gone_away}}
 use Rattle.hc_entry.specs.Keys as keys

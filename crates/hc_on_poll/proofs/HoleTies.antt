@@ -8,8 +8,7 @@ use Rattle.std.{proofs.{Common.{◌≡◌, inl, inr, ℕ, ◌+◌, ◌-◌, ◌<
 use Rattle.hc_text.proofs.Basics.{le_or, lt_cases as lt_or}
 use Rattle.hc_range.specs.declared.range.Span.{Span}
 use Rattle.hc_sparse.specs.Cells.{Cells, Cell, EndsBy, Covers}
-use Rattle.hc_effects.proofs.Vocabulary.{Wanted, first_place, absent_from, covers, hole_at, first_hole, hole_of, Representation}
-use Rattle.hc_rules.specs.declared.request.Wanted.TheVariants as wanted
+use Rattle.hc_effects.proofs.Vocabulary.{Wanted, first_place, absent_from, covers, hole_at, first_hole, hole_of, Representation, wanted}
 use Rattle.hc_partial.specs.Holes as partial
 use Rattle.hc_partial.proofs.HoleLemmas.{absent_from_is, present_from_is, first_hole-none, first_hole-some, first_hole-empty}
 use Rattle.hc_effects.proofs.{Basics.{same_functions}, HoleLemmas.{first_from, first_to, first_before, first_passes, some_of, not_none, hole_absent, hole_some}, HolesOpened.{first_hole_is}, Tests.{none_some}}

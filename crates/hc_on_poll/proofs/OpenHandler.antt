@@ -7,9 +7,8 @@
 use Rattle.std.{proofs.Common.{◌≡◌, ◌≢◌, inl, inr, ℕ, zero, suc, List, [], ◌∷◌, false, Option, Some, None, refl, ap, sym, ◌∙◌, subst}, specs.Prelude.{drop, filter, not}}
 use Rattle.hc_text.proofs.Basics.{eqb-other, eqb-same, false_true, same_or}
 use Rattle.hc_stored.specs.Shelf.{Shelf}
-use Rattle.hc_effects.proofs.Vocabulary.{Place, family, Lawful, reads, is_bound, Tables, Exchange, Representation}
+use Rattle.hc_effects.proofs.Vocabulary.{Place, family, Lawful, reads, is_bound, Tables, Exchange, Representation, place}
 use Rattle.hc_effects.proofs.Tests.{none_some}
-use Rattle.hc_event.specs.declared.place.Place.TheVariants as place
 use Rattle.hc_model.specs.Rows as rows
 use Rattle.hc_state.specs.{Kept.{held_for, held_of, held_alone, unread, unstored_bytes}, Stored.{KeepsEntry, KeepsEntries, is_first, is_usable_row}}
 use Rattle.hc_state.proofs.{Fallbacks.{unread_fallback, unstored_fallback}, FallbackSteps.{first_fallback}, OneOfEach.{bound_same, first_row}, Ties.{entry_same, overs_opened}}

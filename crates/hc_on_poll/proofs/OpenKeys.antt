@@ -2,10 +2,8 @@
 use Rattle.std.{proofs.Common.{◌≡◌, ◌≢◌, inl, inr, ℕ, List, Bool, Option, Some, None, refl, ap, sym, ◌∙◌}, specs.Prelude.{bytes_eq, ◌&&◌}}
 use Rattle.hc_text.proofs.Basics.{eqb-other, eqb-same, same_or}
 use Rattle.hc_entry.specs.Kept as keyed
-use Rattle.hc_effects.proofs.Vocabulary.{Place, current, with_consumer, with_opening, Lawful, Tables, Exchange}
+use Rattle.hc_effects.proofs.Vocabulary.{Place, current, with_consumer, with_opening, Lawful, Tables, Exchange, place, by}
 use Rattle.hc_effects.proofs.Tests.{none_some}
-use Rattle.hc_event.specs.declared.place.Place.TheVariants as place
-use Rattle.hc_event.specs.declared.place.BoundBy.TheVariants as by
 use Rattle.hc_model.specs.Rows as rows
 use Rattle.hc_state.specs.Lines.{KeepsKey, is_away, is_away_at}
 use Rattle.hc_on_poll.proofs.OpenHandler.{WaitsFor, past, turned}

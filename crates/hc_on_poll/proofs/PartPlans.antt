@@ -6,14 +6,11 @@
 -- (`part_within`). `carry_out_plan` uses the last module, which needs just that some tables are represented.
 use Rattle.std.{proofs.Common.{◌≡◌, ℕ, ◌+◌, ◌<◌, ◌≤◌, ◌^◌, List, Bool, true, false, max, Option, Some, None, refl, ap, sym, ◌∙◌, subst, arith}, specs.{Prelude.{nat_eq, is_some, is_none, not, option_map, unwrap_or, IsSomeAnd, ◌&&◌, if◌then◌else◌}, Option.{option_and_then}, HashMap.{get}}}
 use Rattle.hc_text.proofs.Basics.{eqb-same, false_true, some_inj as some_is}
-use Rattle.hc_effects.proofs.Vocabulary.{Limits, Act, Why, Request, Candidate, Plan, PlanView, RequestClass, least, plan_of, bare_plan, from_store, in_time, class_of, range_of, wanted_of, current, is_number, row_of, first_hole, Opens, opens_hole, span_to, hole_request, candidate, candidate_at, hole_of, bound, is_bound, is_bound_place, Numbers, Tables, Representation, came_alone}
+use Rattle.hc_effects.proofs.Vocabulary.{Limits, Act, Why, Request, Candidate, Plan, PlanView, RequestClass, least, plan_of, bare_plan, from_store, in_time, class_of, range_of, wanted_of, current, is_number, row_of, first_hole, Opens, opens_hole, span_to, hole_request, candidate, candidate_at, hole_of, bound, is_bound, is_bound_place, Numbers, Tables, Representation, came_alone, need, plan, wanted}
 use Rattle.hc_store.specs.declared.backend.Backend.{Ghosts}
-use Rattle.hc_event.specs.declared.act.Need.TheVariants as need
 use Rattle.hc_range.specs.{declared.range.{Asked.{Asked}, Span.{Span}}, Spans.{IsWithin}}
 use Rattle.hc_record.specs.{declared.head.StoredHead.{StoredHead}, Head.{Head}, Plain.{plain}}
 use Rattle.hc_sorted.specs.Sorted.{has}
-use Rattle.hc_rules.specs.declared.plan.Plan.TheVariants as plan
-use Rattle.hc_rules.specs.declared.request.Wanted.TheVariants as wanted
 use Rattle.hc_entry.specs.Lines.{is_among}
 use Rattle.hc_stored.specs.{Entries.{shelf_of}, Kept.{itself}, Shelf.{head_at}, Views.{admits, admits_first}}
 use Rattle.hc_model.specs.Planning as planning

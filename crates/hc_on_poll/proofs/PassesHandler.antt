@@ -9,10 +9,7 @@ use Rattle.hc_text.proofs.Basics.{false_true, some_inj as some_is, and_off as th
 use Rattle.hc_store.specs.declared.backend.Backend.{Ghosts}
 use Rattle.hc_entry.specs.Keys as keys
 use Rattle.hc_entry.specs.{Keys.{kept_of}, Kept.{on_line}, Lines.{line_after_pass}}
-use Rattle.hc_effects.proofs.Vocabulary.{Act, Request, Limits, Place, kept_by, passed_by, current, is_live_place, with_event, with_consumer, Lawful, is_in_line, acts_of, move_of, reads, Tables}
-use Rattle.hc_event.specs.declared.act.Act.TheVariants as act
-use Rattle.hc_event.specs.declared.act.Wait.TheVariants as wait
-use Rattle.hc_event.specs.declared.event.Event.TheVariants as event
+use Rattle.hc_effects.proofs.Vocabulary.{Act, Request, Limits, Place, kept_by, passed_by, current, is_live_place, with_event, with_consumer, Lawful, is_in_line, acts_of, move_of, reads, Tables, act, wait, event}
 use Rattle.hc_rules.proofs.RangeReads.{bytes_eq-same}
 use Rattle.hc_event.specs.declared.place.Place.TheVariants as place
 use Rattle.hc_model.specs.Moves as moves

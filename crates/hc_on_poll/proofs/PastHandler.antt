@@ -9,9 +9,7 @@ use Rattle.hc_text.proofs.Basics.{false_true}
 use Rattle.hc_store.specs.declared.backend.Backend.{Ghosts}
 use Rattle.hc_entry.specs.{declared.keys.KeyTable.{KeyTable}, Keys.{kept_of}, Kept.{on_line}, Lines.{left_by}}
 use Rattle.hc_entry.specs.Keys as keys
-use Rattle.hc_effects.proofs.Vocabulary.{Act, Need, Request, RequestClass, Limits, route_of, class_of, is_disabled, is_only, Place, current, is_live_place, with_event, with_consumer, with_opening, just_opened, Lawful, Opens, acts_of, move_of, reads, Tables, Exchange}
-use Rattle.hc_event.specs.declared.event.Event.TheVariants as event
-use Rattle.hc_rules.specs.declared.need.Route.TheVariants as route
+use Rattle.hc_effects.proofs.Vocabulary.{Act, Need, Request, RequestClass, Limits, route_of, class_of, is_disabled, is_only, Place, current, is_live_place, with_event, with_consumer, with_opening, just_opened, Lawful, Opens, acts_of, move_of, reads, Tables, Exchange, event, route}
 use Rattle.hc_exch.specs.declared.role.Role.TheVariants as role
 use Rattle.hc_exch.specs.{declared.exchanges.Exchanges.{Exchanges}, Exchanges.{table_of, next_of}, Known.{with_new_exchange, Changes}}
 use Rattle.hc_event.specs.declared.place.Place.TheVariants as place

@@ -6,25 +6,18 @@
 -- answer. A head that is read changes no rows, or only counts a fault.
 use Rattle.std.{proofs.{Math.Logic.{∥∥₁_map}, Common.{◌≡◌, ◌≢◌, ℕ, ◌+◌, ◌<◌, ◌≤◌, arith, List, Bool, true, false, Option, Some, None, Result, Err, refl, ap, sym, ◌∙◌, subst}}, specs.{Prelude.{nat_eq, is_some, not, unwrap_or, IsSomeAnd, ◌&&◌, ◌||◌, if◌then◌else◌}, Option.{option_and_then, option_map}, HashMap.{get}}}
 use Rattle.hc_text.proofs.Basics.{false_true}
-use Rattle.hc_effects.proofs.Vocabulary.{Limits, Act, Need, Why, Response, Request, Route, Candidate, Plan, PlanView, least, lesser, route_of, plan_of, bare_plan, from_store, in_time, by_current, RequestClass, class_of, is_bypassing, is_disabled, is_only, Place, current, row_of, denial, gate, is_live, is_in_line, Move, Opens, Fails, Shows, span_to, plan_move, has_passed, candidate, candidate_at, move_of, is_bound, is_bound_place, Tables, Representation}
+use Rattle.hc_effects.proofs.Vocabulary.{Limits, Act, Need, Why, Response, Request, Route, Candidate, Plan, PlanView, least, lesser, route_of, plan_of, bare_plan, from_store, in_time, by_current, RequestClass, class_of, is_bypassing, is_disabled, is_only, Place, current, row_of, denial, gate, is_live, is_in_line, Move, Opens, Fails, Shows, span_to, plan_move, has_passed, candidate, candidate_at, move_of, is_bound, is_bound_place, Tables, Representation, need, event, route, plan, place, cause, wait}
 use Rattle.hc_store.specs.{declared.{backend.Backend.{Ghosts}, error.StoreError.{StoreError}}, Causes.{HasNoLimit}}
 use Rattle.hc_store.specs.declared.error.StoreError.TheVariants as errors
 use Rattle.hc_sorted.specs.Sorted.{has}
 use Rattle.hc_stored.specs.{declared.entries.Entries.{Entries}, Entries.{shelf_of}, Kept.{Kept, itself}, Shelf.{is_kept, head_at, Stays}, Views.{admits}}
 use Rattle.hc_entry.specs.{declared.keys.KeyTable.{KeyTable}, Keys.{kept_of, line_of}, Kept.{line_in}, Lines.{Line, is_among, is_in, turn_with}}
-use Rattle.hc_event.specs.declared.act.Need.TheVariants as need
 use Rattle.hc_range.specs.declared.range.Span.{Span}
 use Rattle.hc_validate.specs.{Showing.{shown_response}, Conditions.{conditional}}
-use Rattle.hc_event.specs.declared.event.Event.TheVariants as event
-use Rattle.hc_rules.specs.declared.need.Route.TheVariants as route
-use Rattle.hc_rules.specs.declared.plan.Plan.TheVariants as plan
 use Rattle.hc_rules.specs.Plans as rules
 use Rattle.hc_exch.specs.Exchanges.{next_of}
-use Rattle.hc_event.specs.declared.place.Place.TheVariants as place
 use Rattle.hc_record.specs.{declared.head.StoredHead.{StoredHead}, Head.{Head}, Plain.{plain}}
 use Rattle.hc_model.specs.Lines as lines
-use Rattle.hc_event.specs.declared.act.Cause.TheVariants as cause
-use Rattle.hc_event.specs.declared.act.Wait.TheVariants as wait
 use Rattle.hc_model.specs.Moves.{Waits, opens}
 use Rattle.hc_model.specs.Planning as planning
 use Rattle.hc_model.specs.Rows as rows

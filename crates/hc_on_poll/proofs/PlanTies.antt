@@ -6,11 +6,10 @@
 -- what is current, by `looks_at_stored`, the plan is the same without it (`unlooked`). `PlanHandlers` uses these.
 use Rattle.std.{proofs.Common.{◌≡◌, ℕ, List, Bool, true, false, cond, eqb, Option, Some, None, refl, ap, sym, ◌∙◌}, specs.Prelude.{is_none, unwrap_or, ◌&&◌}}
 use Rattle.hc_text.proofs.Basics.{false_true}
-use Rattle.hc_effects.proofs.Vocabulary.{Limits, Why, Request, Candidate, Plan, PlanView, RequestClass, Wanted, plan_of, bare_plan, in_time, from_store, queues, by_current, by_why, plan_on, by_wanted, by_exclusive, by_hole, by_bound, why_by, class_of, Place, kept_by, has_passed, Tables, IsListed}
+use Rattle.hc_effects.proofs.Vocabulary.{Limits, Why, Request, Candidate, Plan, PlanView, RequestClass, Wanted, plan_of, bare_plan, in_time, from_store, queues, by_current, by_why, plan_on, by_wanted, by_exclusive, by_hole, by_bound, why_by, class_of, Place, kept_by, has_passed, Tables, IsListed, wanted as wants}
 use Rattle.hc_store.specs.declared.backend.Backend.{Ghosts}
 use Rattle.hc_range.specs.declared.range.Span.{Span}
 use Rattle.hc_entry.specs.{Keys.{kept_of, line_of}, Lines.{turn_with}}
-use Rattle.hc_rules.specs.declared.request.Wanted.TheVariants as wants
 use Rattle.hc_model.specs.Lines as lines
 use Rattle.hc_model.specs.Planning as planning
 use Rattle.hc_model.specs.Rows as rows

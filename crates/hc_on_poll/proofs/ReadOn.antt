@@ -6,10 +6,9 @@
 -- (`gives_stored`, `gives_held`, `asks_for`). `read_on` and `read_bound` use these.
 use Rattle.std.{proofs.{Common.{◌≡◌, ℕ, ◌+◌, ◌<◌, ◌≤◌, ◌^◌, List, ◌++◌, length, take, true, Option, Some, None, refl, ap, ap₂, sym, ◌∙◌, subst, arith}, lemmas.Grind.{not_there}}, specs.{Prelude.{is_some, nat_eq, option_map, IsSomeAnd, IfSome}, HashMap.{get}}}
 use Rattle.hc_text.proofs.Basics.{some_inj as some_is}
-use Rattle.hc_effects.proofs.Vocabulary.{Limits, Act, ReadView, read_step, acts_of, Tables}
+use Rattle.hc_effects.proofs.Vocabulary.{Limits, Act, ReadView, read_step, acts_of, Tables, event}
 use Rattle.hc_effects.proofs.Tests.{none_some}
 use Rattle.hc_store.specs.declared.backend.Backend.{Ghosts}
-use Rattle.hc_event.specs.declared.event.Event.TheVariants as event
 use Rattle.hc_range.specs.{Spans.{IsWithin}, declared.range.Span.{Span}}
 use Rattle.hc_record.specs.Head.{Head}
 use Rattle.hc_sparse.specs.{Runs.{end_of}, declared.run.Run.{Run}}

@@ -6,12 +6,9 @@
 -- answer is at the end (`no_hole`). `await_answer` and `read_past` use these.
 use Rattle.std.{proofs.{Common.{◌≡◌, ◌≢◌, inl, inr, ℕ, ◌+◌, ◌-◌, ◌≤◌, ◌<◌, ◌^◌, List, [], ◌∷◌, ◌++◌, length, drop, take, Bool, true, false, min, Option, Some, None, refl, ap, ap₂, sym, ◌∙◌, subst, arith}, lemmas.{Bool.Decides.{nat_tests}, Grind.{common_steps}, List.{length-drop, length-take}}}, specs.{Prelude.{is_some, is_none, nat_lt, nat_eq, option_and_then, if◌then◌else◌, ◌&&◌}, HashMap.{get}}}
 use Rattle.hc_text.proofs.Basics.{eqb-other, eqb-same, false_true, same_or, some_inj as some_is}
-use Rattle.hc_effects.proofs.Vocabulary.{Limits, Act, Cause, Event, Response, ReadStep, ReadView, read_step, is_at_end, cut_at, held_or, fails_or, waits_or, with_consumer, with_ask, with_event, base, front, Lawful, Move, Gives, Ends, Fails, Asks, Shows, acts_of, gives, waits_for, ReadsPast, planned_move, move_of, shows_head, shows_answer, shows_direct, if_headless, waits_for_head, by_place, or_else, own_open, source, offset, hi_of, lo_of, base_in, end_in, reads, Numbers, Tables, Exchange, Representation, reading, step_move, run_held_for, run_of}
+use Rattle.hc_effects.proofs.Vocabulary.{Limits, Act, Cause, Event, Response, ReadStep, ReadView, read_step, is_at_end, cut_at, held_or, fails_or, waits_or, with_consumer, with_ask, with_event, base, front, Lawful, Move, Gives, Ends, Fails, Asks, Shows, acts_of, gives, waits_for, ReadsPast, planned_move, move_of, shows_head, shows_answer, shows_direct, if_headless, waits_for_head, by_place, or_else, own_open, source, offset, hi_of, lo_of, base_in, end_in, reads, Numbers, Tables, Exchange, Representation, reading, step_move, run_held_for, run_of, act, wait, event}
 use Rattle.hc_store.specs.declared.backend.Backend.{Ghosts}
-use Rattle.hc_event.specs.declared.act.Act.TheVariants as act
-use Rattle.hc_event.specs.declared.act.Wait.TheVariants as wait
 use Rattle.hc_event.specs.declared.act.Why.TheVariants as why
-use Rattle.hc_event.specs.declared.event.Event.TheVariants as event
 use Rattle.hc_range.specs.declared.range.Span.{Span}
 use Rattle.hc_sparse.specs.declared.run.Run.{Run}
 use Rattle.hc_rules.specs.declared.reading.ReadStep.TheVariants as step

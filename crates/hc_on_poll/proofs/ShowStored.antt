@@ -6,12 +6,9 @@
 -- (`first_waits_answered`); all others are shown the head (`stored_answered`).
 use Rattle.std.{proofs.{Common.{◌≡◌, ◌≢◌, ℕ, ◌<◌, ◌≤◌, ◌^◌, List, [], ◌∷◌, ◌++◌, Bool, true, false, Option, Some, None, refl, ap, ap₂, sym, ◌∙◌, subst, arith}, lemmas.Bool.Decides.{nat_tests}}, specs.{Prelude.{is_some, is_none, nat_eq, option_and_then, option_map, not, ◌&&◌, if◌then◌else◌}, Option.{option_or}, HashMap.{get}}}
 use Rattle.hc_text.proofs.Basics.{eqb-same, false_true, some_inj as some_is}
-use Rattle.hc_effects.proofs.Vocabulary.{Limits, Act, Why, Response, class_of, RequestClass, BoundBy, is_number, total_in, with_consumer, with_event, is_headless, Lawful, Move, Shows, acts_of, span_to, shows_stored, is_ranged, move_of, shows_head, shows_at, shows_bound, has_joined, if_headless, waits_for_head, by_place, or_else, own_open, hi_of, lo_of, reads, Numbers, Tables, Exchange, Representation, IsToBeShown, status_in, came_alone}
+use Rattle.hc_effects.proofs.Vocabulary.{Limits, Act, Why, Response, class_of, RequestClass, BoundBy, is_number, total_in, with_consumer, with_event, is_headless, Lawful, Move, Shows, acts_of, span_to, shows_stored, is_ranged, move_of, shows_head, shows_at, shows_bound, has_joined, if_headless, waits_for_head, by_place, or_else, own_open, hi_of, lo_of, reads, Numbers, Tables, Exchange, Representation, IsToBeShown, status_in, came_alone, act, wait, event, by}
 use Rattle.hc_store.specs.declared.backend.Backend.{Ghosts}
-use Rattle.hc_event.specs.declared.act.Act.TheVariants as act
-use Rattle.hc_event.specs.declared.act.Wait.TheVariants as wait
 use Rattle.hc_event.specs.declared.act.Why.TheVariants as why
-use Rattle.hc_event.specs.declared.event.Event.TheVariants as event
 use Rattle.hc_range.specs.{Spans.{IsWithin}, declared.range.Span.{Span}}
 use Rattle.hc_record.specs.Head.{Head, sealed_head}
 use Rattle.hc_record.specs.declared.kind.Kind.TheVariants as kinds
@@ -20,7 +17,6 @@ use Rattle.hc_stored.specs.{Entries.{shelf_of}, Shelf.{head_at, is_kept}, Views.
 use Rattle.hc_stored.specs.Kept as entry
 use Rattle.hc_stored.specs.Shelf as shelf
 use Rattle.hc_exch.specs.{Exchanges.{table_of, next_of}, declared.row.Open.{Open}}
-use Rattle.hc_event.specs.declared.place.BoundBy.TheVariants as by
 use Rattle.hc_event.specs.declared.place.Place.TheVariants as place
 use Rattle.hc_model.specs.Moves as moves
 use Rattle.hc_model.specs.Rows as rows

@@ -6,9 +6,8 @@
 -- `not_in_yet` is what the code needs to enter it in the line. `start` uses both.
 use Rattle.std.{proofs.Common.{◌≡◌, ◌≢◌, inl, inr, ℕ, ◌+◌, ◌<◌, List, [], ◌∷◌, Bool, true, false, cond, eqb, Option, Some, None, refl, ap, sym, ◌∙◌, subst, arith}, specs.{Prelude.{nat_eq, bytes_eq, filter, not, ◌&&◌, ◌||◌}, HashMap.{get, hash_map_len}}}
 use Rattle.hc_text.proofs.Basics.{eqb-other, eqb-same, same_or, and_off as then_false}
-use Rattle.hc_effects.proofs.Vocabulary.{Limits, Request, class_of, is_disabled, is_only, Place, is_in_line, new_consumer, current, is_live, live, with_consumer, with_start, with_event, kind_of, Lawful, bound, is_bound, Tables, Exchange}
+use Rattle.hc_effects.proofs.Vocabulary.{Limits, Request, class_of, is_disabled, is_only, Place, is_in_line, new_consumer, current, is_live, live, with_consumer, with_start, with_event, kind_of, Lawful, bound, is_bound, Tables, Exchange, event}
 use Rattle.hc_store.specs.declared.backend.Backend.{Ghosts}
-use Rattle.hc_event.specs.declared.event.Event.TheVariants as event
 use Rattle.hc_entry.specs.{Keys.{kept_of, line_of}, Kept.{on_line}, Lines.{is_among, is_held_by, is_in, line_with}, Users.{itself}}
 use Rattle.hc_entry.specs.Kept as keyed
 use Rattle.hc_sorted.proofs.SortedLemmas.{has-with}

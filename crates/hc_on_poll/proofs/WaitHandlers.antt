@@ -2,11 +2,7 @@
 use Rattle.std.proofs.Common.{◌≡◌, ℕ, List, [], ◌∷◌, ◌++◌, true, Some, refl, ap, sym, ◌∙◌}
 use Rattle.hc_text.proofs.Basics.{false_true}
 use Rattle.hc_store.specs.declared.backend.Backend.{Ghosts}
-use Rattle.hc_event.specs.declared.event.Event.TheVariants as event
-use Rattle.hc_effects.proofs.Vocabulary.{Act, Limits, Place, with_consumer, with_event, Lawful, acts_of, IsAway, planned_move, move_of, Tables, Consumer}
-use Rattle.hc_event.specs.declared.act.Act.TheVariants as act
-use Rattle.hc_event.specs.declared.act.Wait.TheVariants as wait
-use Rattle.hc_event.specs.declared.place.Place.TheVariants as place
+use Rattle.hc_effects.proofs.Vocabulary.{event, act, wait, place, Act, Limits, Place, with_consumer, with_event, Lawful, acts_of, IsAway, planned_move, move_of, Tables, Consumer}
 use Rattle.hc_model.specs.Moves as moves
 use Rattle.hc_effects.proofs.WaitEffects.{waits, waits_on}
 use Rattle.hc_state.specs.{declared.rows.Rows.{Rows}, Plans.{is_idle_at, in_line}, Stands.{Answered, RowsStand}}

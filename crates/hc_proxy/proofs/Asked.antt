@@ -5,8 +5,7 @@
 -- to those that wait. What stands next is read as its bytes lead, so a request that is told is the next of what the first bytes ask for.
 -- A start has the next number, so who held the consumers before it holds them behind it.
 use Rattle.std.{proofs.{Common.{◌≡◌, ◌≤◌, ◌<◌, inl, inr, ℕ, zero, suc, ◌+◌, List, [], ◌∷◌, ◌++◌, Bool, true, false, Option, Some, None, refl, ap, sym, ◌∙◌, subst, arith, append_assoc, append-nil}, lemmas.{Bool.Decides.{nat_tests}, List.{map-append}}}, specs.Prelude.{nat_eq, map, take, if◌then◌else◌, IsSome}}
-use Rattle.hc_effects.proofs.Vocabulary.{Event, Request, History}
-use Rattle.hc_event.specs.declared.event.Event.TheVariants as event
+use Rattle.hc_effects.proofs.Vocabulary.{Event, Request, History, event}
 use Rattle.hc_head.specs.declared.message.WireRequest.{WireRequest}
 use Rattle.hc_msg.specs.{NextParts.{IsReadOn}, Reading.{Reading, Requests, Token, Asks, Leads, heading}}
 use Rattle.hc_msg.proofs.Leading.{leads_on}

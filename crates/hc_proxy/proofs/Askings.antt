@@ -1,7 +1,6 @@
 -- An act asks for more of an exchange: it is looked at again, and all else stays.
 use Rattle.std.{proofs.{Common.{◌≡◌, ◌⊎◌, inl, inr, ℕ, ◌≤◌, ◌<◌, List, ◌∷◌, Bool, true, false, Option, Some, None, refl, ap, sym, ◌∙◌, subst, arith, length}, lemmas.Bool.Decides.{nat_tests}}, specs.{Prelude.{nat_eq, nat_lt, IsSome}, Option.{is_some}}}
-use Rattle.hc_effects.proofs.Vocabulary.{asks_in, Act, is_open, is_wanted}
-use Rattle.hc_event.specs.declared.act.Act.TheVariants as act
+use Rattle.hc_effects.proofs.Vocabulary.{asks_in, Act, is_open, is_wanted, act}
 use Rattle.hc_store.specs.declared.backend.Backend.{Ghosts}
 use Rattle.hc_peers.specs.{Upstreams.{upstream_of, is_news, is_touched, Stays, Marks}, declared.upstreams.Upstreams.{Upstreams}}
 use Rattle.hc_peers.specs.declared.upstream.Upstream as origin

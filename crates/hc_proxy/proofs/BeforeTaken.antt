@@ -3,9 +3,7 @@
 -- In a turn a client is owed something more in three ways: a request of it is refused, which asks that it was sent all; or an act is
 -- sent to it, by a poll that asked that too. All other changes leave what stands before as it is.
 use Rattle.std.{proofs.{Common.{◌≡◌, ◌≤◌, ◌⊎◌, inl, inr, ℕ, ◌+◌, List, [], ◌∷◌, ◌++◌, Bool, true, false, Option, Some, None, refl, ap, sym, ◌∙◌, subst, arith}, lemmas.Bool.Decides.{nat_tests}}, specs.Prelude.{◌&&◌, ◌||◌, not, nat_eq, nat_lt, length, is_none, if◌then◌else◌, option_map}}
-use Rattle.hc_effects.proofs.Vocabulary.{Act, Event, is_open, Limits}
-use Rattle.hc_event.specs.declared.act.Act.TheVariants as act
-use Rattle.hc_event.specs.declared.event.Event.TheVariants as event
+use Rattle.hc_effects.proofs.Vocabulary.{Act, Event, is_open, Limits, act, event}
 use Rattle.hc_head.specs.declared.message.WireRequest.{WireRequest}
 use Rattle.hc_msg.specs.{Inputs.{Next, Waits, Tells, Brings, Ends, Fails, next_in}, Reading.{Failed, Token, Asks, Answers, Byte}}
 use Rattle.hc_peers.specs.Renderings.{rendering, form_behind, is_last, closes}

@@ -5,8 +5,7 @@
 -- all acts each consumer that a client waits for is live: who was told that it is over isn't waited for any more.
 use Rattle.std.{proofs.{Common.{◌≡◌, ◌⊎◌, inl, inr, ℕ, List, [], ◌∷◌, ◌++◌, Bool, true, false, Option, Some, None, refl, ap, sym, ◌∙◌, subst, arith}, lemmas.Bool.Decides.{nat_tests}}, specs.Prelude.{◌||◌, nat_eq, length, if◌then◌else◌}}
 use Rattle.hc_text.proofs.Basics.{or_cases, eq_itself as same_number, some_inj}
-use Rattle.hc_effects.proofs.Vocabulary.{leaves_in, Act, is_live, Tables}
-use Rattle.hc_event.specs.declared.act.Act.TheVariants as act
+use Rattle.hc_effects.proofs.Vocabulary.{leaves_in, Act, is_live, Tables, act}
 use Rattle.hc_peers.specs.{Renderings.{rendering, form_behind, is_last, closes}, declared.reply.Reply.{Reply}}
 use Rattle.hc_proxy.specs.{Carrying.{answered, answers, carried_out, all_carried_out}, Invariants.{AreOver, IsHolder, HasConsumers}, Rows.{Client, Proxy, with_client}}
 use Rattle.hc_proxy.proofs.Holders.{IsAlive, HeldBy, one_holder, one_held, IsChanged, changed_row, changed_here, changed_off}

@@ -4,8 +4,7 @@
 -- One that asks for more puts the exchange into the lists. All that isn't carried out changes nothing.
 use Rattle.std.{proofs.{Common.{◌≡◌, inl, inr, ℕ, ◌+◌, List, [], ◌∷◌, Bool, true, false, Option, Some, None, refl, ap, sym, ◌∙◌, subst, arith, length, length-append}, lemmas.List.{append-nil}}, specs.{Prelude.{IsSome, Result, Ok, Err, OnErr}, Option.{is_some}}}
 use mathlib.Core.Path.{fun_ext}
-use Rattle.hc_effects.proofs.Vocabulary.{Act, Need, Request}
-use Rattle.hc_event.specs.declared.act.Act.TheVariants as act
+use Rattle.hc_effects.proofs.Vocabulary.{Act, Need, Request, act}
 use Rattle.hc_store.specs.declared.backend.Backend.{Ghosts}
 use Rattle.hc_wire.specs.{Events.{Stage}, Logs.{Log, with_dialled}}
 use Rattle.hc_peers.specs.{Clients.{client_of, answered_in}, Upstreams.{upstream_of, is_news, is_touched, Stays, Marks}, declared.{clients.Clients.{Clients}, upstreams.Upstreams.{Upstreams}}}

@@ -6,8 +6,7 @@
 -- events of exchanges, which start nobody (`other_on`). So the client is followed by all of these up to the starts (`starts_on`), and what
 -- was carried out before the turn is the measure of what it is owed until then.
 use Rattle.std.{proofs.{Common.{◌≡◌, ℕ, List, [], ◌++◌, Bool, true, false, Option, Some, None, refl, ap, sym, ◌∙◌, subst, arith}, lemmas.Bool.Decides.{nat_tests}}, specs.Prelude.{◌&&◌, ◌||◌, nat_eq, nat_lt, length, is_none, option_map, if◌then◌else◌}}
-use Rattle.hc_effects.proofs.Vocabulary.{Event, Request, History, is_open, Limits}
-use Rattle.hc_event.specs.declared.event.Event.TheVariants as event
+use Rattle.hc_effects.proofs.Vocabulary.{Event, Request, History, is_open, Limits, event}
 use Rattle.hc_wire.specs.{Logs.{Called}, declared.event.WireEvent.{WireEvent}}
 use Rattle.hc_wire.specs.declared.event.WireEvent.TheVariants as wire
 use Rattle.hc_proxy.specs.{Asked.{got_by, starts_of}, Connections.{exchange_of, stands}, Handling.{seen_at, clients_here, inserted, client_comes, left, cancelled, leaves, client_sends, sends, ends, broke, handled_by, handled}, Network.{heard}, Rendered.{consumers_of}, Rows.{Client, Upstream, Proxy, new_client, with, with_client}, Starts.{started_all}, Steps.{stepped}, Waiting.{is_poll}}

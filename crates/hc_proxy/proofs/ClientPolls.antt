@@ -6,8 +6,7 @@
 -- polls and isn't told that it is over: so it is still waited for.
 use Rattle.std.{proofs.{Common.{◌≡◌, ◌⊎◌, inl, inr, ◌≤◌, ◌<◌, ℕ, List, [], ◌∷◌, ◌++◌, Bool, true, false, Option, Some, None, refl, ap, sym, ◌∙◌, subst, arith, append_assoc, append-nil}, lemmas.{Bool.Decides.{nat_tests}, List.Elements.{filter-append}}}, specs.Prelude.{◌&&◌, ◌||◌, not, nat_eq, filter, option_map, if◌then◌else◌}}
 use Rattle.hc_text.proofs.Basics.{some_inj as some_is}
-use Rattle.hc_effects.proofs.Vocabulary.{leaves_in, Act, Request, is_live, Entry, History, Tables, IsOwed, owed, Limits}
-use Rattle.hc_event.specs.declared.event.Event.TheVariants as event
+use Rattle.hc_effects.proofs.Vocabulary.{leaves_in, Act, Request, is_live, Entry, History, Tables, IsOwed, owed, Limits, event}
 use Rattle.hc_head.specs.declared.message.WireRequest.{WireRequest}
 use Rattle.hc_peers.specs.Renderings.{reply_to}
 use Rattle.hc_wire.specs.Logs.{Called}

@@ -6,8 +6,7 @@
 -- closed: so its new consumer is the only live one, and no error answer is behind.
 use Rattle.std.{proofs.{Common.{◌≡◌, ◌⊎◌, inl, inr, ◌≤◌, ◌<◌, ℕ, ◌+◌, List, [], ◌∷◌, ◌++◌, Bool, true, false, Option, Some, None, refl, ap, sym, ◌∙◌, subst, arith, append-nil}, lemmas.Bool.Decides.{nat_tests}}, specs.Prelude.{nat_eq, IsSome, option_map, if◌then◌else◌}}
 use Rattle.hc_text.proofs.Basics.{some_inj as some_is}
-use Rattle.hc_effects.proofs.Vocabulary.{Event, Request, is_live, Entry, History, owed, Limits}
-use Rattle.hc_event.specs.declared.event.Event.TheVariants as event
+use Rattle.hc_effects.proofs.Vocabulary.{Event, Request, is_live, Entry, History, owed, Limits, event}
 use Rattle.hc_head.specs.declared.message.WireRequest.{WireRequest}
 use Rattle.hc_laws.proofs.LiveAfter.{Starts, was_live}
 use Rattle.hc_msg.specs.{Inputs.{Next, Waits, Tells, Brings, Ends, Fails, next_in}, NextParts.{StandsNext}, Reading.{Reading, Heading, Requests, Failed, Token, Asks, Answers, Byte}}

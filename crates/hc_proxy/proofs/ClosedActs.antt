@@ -4,8 +4,7 @@
 -- exchange, whose number wasn't given out.
 use Rattle.std.{proofs.{Common.{◌≡◌, inl, inr, ◌≤◌, ℕ, ◌+◌, List, [], ◌∷◌, ◌++◌, Bool, true, false, Option, Some, None, refl, ap, sym, ◌∙◌, arith}, lemmas.Bool.Decides.{nat_tests}}, specs.Prelude.{◌||◌, nat_eq, nat_lt}}
 use Rattle.hc_text.proofs.Basics.{or_cases, true_false}
-use Rattle.hc_effects.proofs.Vocabulary.{closes_in, is_denied, Act, Limits, Entry, exchange_after, is_open, flaw_in, Exchange, IsOwed, after}
-use Rattle.hc_event.specs.declared.act.Act.TheVariants as act
+use Rattle.hc_effects.proofs.Vocabulary.{closes_in, is_denied, Act, Limits, Entry, exchange_after, is_open, flaw_in, Exchange, IsOwed, after, act}
 use Rattle.hc_effects.proofs.{Owed.{acts_are, is_denial, IsDenied, denied}, Unclosed.{had_row}}
 use Rattle.hc_proxy.specs.{Invariants.{AreClosed}, Rows.{Proxy}}
 use Rattle.hc_proxy.proofs.{OpenAfter.{was_open}, Stands.{Stands, is_sound}, StepOn.{opens_behind, opened_grows}}

@@ -6,10 +6,9 @@
 use Rattle.std.{proofs.{Common.{◌≡◌, inl, inr, ℕ, ◌+◌, ◌≤◌, Bool, true, false, Option, Some, None, refl, ap, sym, ◌∙◌, subst, arith}, Math.Logic.{∥∥₁_map}}, specs.{Prelude.{◌^◌, Result, Ok, Err}, Result.{is_ok, is_err}}}
 use Rattle.hc_text.proofs.Basics.{eq_itself as same_number}
 use Rattle.hc_core.specs.Steps.{steps, faults_in, bytes_received}
-use Rattle.hc_event.specs.declared.event.Event.TheVariants as event
+use Rattle.hc_effects.proofs.Vocabulary.{event, is_open}
 use Rattle.hc_head.specs.declared.message.MsgError.{MsgError}
 use Rattle.hc_head.specs.declared.message.MsgError.TheVariants as error
-use Rattle.hc_effects.proofs.Vocabulary.{is_open}
 use Rattle.hc_msg.specs.declared.message.Look.TheVariants as look
 use Rattle.hc_msg.specs.{declared.message.WirePart.{WirePart}, Inputs.{Next, look_of}, Taking.{ending}}
 use Rattle.hc_peers.specs.Origins as origins

@@ -1,7 +1,6 @@
 -- The consumers of a client, by the history: they are its own, each started behind those before it.
 use Rattle.std.{proofs.Common.{◌≡◌, ◌<◌, ℕ, ◌+◌, List, [], ◌∷◌, ◌++◌, Bool, true, false, Option, refl, ap, arith}, specs.Prelude.{if◌then◌else◌}}
-use Rattle.hc_effects.proofs.Vocabulary.{Event, History}
-use Rattle.hc_event.specs.declared.event.Event.TheVariants as event
+use Rattle.hc_effects.proofs.Vocabulary.{Event, History, event}
 use Rattle.hc_proxy.specs.{Asked.{is_at, count_by, starts_in, IsNextStart, AreClients}, Rendered.{consumer_by, consumers_of}, Rows.{with}}
 use Rattle.hc_proxy.proofs.{Asked.{IsOther, kept_at}, OwedActs.{AreIts}, Owings.{AreBelow}}
 

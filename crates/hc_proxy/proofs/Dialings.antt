@@ -3,8 +3,7 @@
 -- The connection stands at the next place of those that were dialled, and its number names no other. It has taken nothing, and is
 -- owed the request on both sides. All other connections stay as they are, and so do the clients and the tables.
 use Rattle.std.{proofs.{Common.{◌≡◌, ◌⊎◌, inl, inr, ℕ, zero, suc, ◌+◌, ◌-◌, ◌≤◌, List, [], ◌∷◌, ◌++◌, Bool, true, false, Option, Some, None, refl, ap, sym, ◌∙◌, subst, arith, length, drop, eqb, length-append}, Math.Logic.{∥∥₁_elim}, lemmas.{List.Sums.{sum_by-cons}, Bool.{cases_Bool, Decides.{nat_tests}}}}, specs.{Prelude.{nat_eq, find, ◌&&◌, Ok, Err, IsSome, Contains, if◌then◌else◌}, List.{sum_by}, Str.{is_utf8}}}
-use Rattle.hc_effects.proofs.Vocabulary.{asks_in, closes_in, Act, Need, Request, is_open, is_wanted}
-use Rattle.hc_event.specs.declared.act.Act.TheVariants as act
+use Rattle.hc_effects.proofs.Vocabulary.{asks_in, closes_in, Act, Need, Request, is_open, is_wanted, act}
 use Rattle.hc_target.specs.Targets.{is_short_word, is_target}
 use Rattle.hc_text.proofs.Basics.{eq_itself as same_number, some_inj as some_is}
 use Rattle.url.specs.{Parts.{Parts}, Parser.{Parsed, parse_url}}

@@ -3,8 +3,7 @@
 -- A connection has the place at which its number stands first. So it has that among fewer dials that reach so far, and among more. The
 -- bytes of a call stand behind those of the calls before it, and what had ended before a call has ended behind it.
 use Rattle.std.{proofs.{Common.{◌≡◌, ◌≤◌, ◌<◌, ℕ, zero, suc, ◌+◌, ◌-◌, List, [], ◌∷◌, ◌++◌, Bool, true, false, Option, Some, None, refl, ap, ◌∙◌, arith}, lemmas.Bool.Decides.{nat_tests}}, specs.Prelude.{◌||◌, nat_eq, length, take, drop, Ok, Err, Contains, if◌then◌else◌, option_map}}
-use Rattle.hc_effects.proofs.Vocabulary.{Act, Event, Limits}
-use Rattle.hc_event.specs.declared.event.Event.TheVariants as event
+use Rattle.hc_effects.proofs.Vocabulary.{Act, Event, Limits, event}
 use Rattle.hc_head.specs.declared.message.MsgError.TheVariants as error
 use Rattle.hc_msg.specs.{Reading.{Reading, Heading, Counts, Runs, Sizing, Chunk, ChunkEnd, ChunkReturn, Trailing, Whole, Done, Failed}, Taking.{ending}, declared.message.WirePart.{WirePart}}
 use Rattle.hc_msg.specs.declared.message.WirePart.TheVariants as part

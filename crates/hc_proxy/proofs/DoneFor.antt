@@ -5,8 +5,7 @@
 use Rattle.std.{proofs.Common.{◌≡◌, ◌⊎◌, inl, inr, ◌≤◌, ℕ, ◌+◌, List, [], ◌++◌, length, Bool, true, false, Some, None, refl, ap, sym, ◌∙◌, subst, arith}, specs.{Prelude.{◌||◌, ◌&&◌, if◌then◌else◌, nat_eq, not, IsSome, Contains}, List.{list_all}}}
 use Rattle.hc_text.proofs.Basics.{or_right, true_false}
 use Rattle.hc_core.specs.Steps.{steps}
-use Rattle.hc_effects.proofs.Vocabulary.{opening_in, asks_in, closes_in, is_denied, Act, Event, is_open, is_wanted, Lawful, after, after_accepted, after_denied, opened_after}
-use Rattle.hc_event.specs.declared.event.Event.TheVariants as event
+use Rattle.hc_effects.proofs.Vocabulary.{opening_in, asks_in, closes_in, is_denied, Act, Event, is_open, is_wanted, Lawful, after, after_accepted, after_denied, opened_after, event}
 use Rattle.hc_effects.proofs.PieceKeeps.{eq_cases}
 use Rattle.hc_peers.specs.{Peers.{is_same}, Upstreams.{upstream_of, is_news, is_touched}}
 use Rattle.hc_peers.specs.declared.upstream.Upstream as origin

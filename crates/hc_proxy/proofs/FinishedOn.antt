@@ -6,8 +6,7 @@
 use Rattle.std.{proofs.Common.{◌≡◌, inl, inr, ◌≤◌, ◌<◌, ℕ, ◌+◌, [], Bool, true, false, Option, Some, None, refl, ap, sym, ◌∙◌, subst, arith}, specs.{Prelude.{◌&&◌, nat_eq, option_map, if◌then◌else◌, Result, Ok, Err}, Result.{is_ok}}}
 use Rattle.hc_text.proofs.Basics.{some_inj, true_false}
 use Rattle.hc_core.specs.Steps.{faults_in, steps, bytes_received}
-use Rattle.hc_effects.proofs.Vocabulary.{Event, Entry, is_open, is_wanted, Exchange, owed, after}
-use Rattle.hc_event.specs.declared.event.Event.TheVariants as event
+use Rattle.hc_effects.proofs.Vocabulary.{Event, Entry, is_open, is_wanted, Exchange, owed, after, event}
 use Rattle.hc_head.specs.declared.message.MsgError.{MsgError}
 use Rattle.hc_effects.proofs.PieceKeeps.{eq_cases}
 use Rattle.hc_msg.specs.{declared.message.{Look.{Look}, WirePart.{WirePart}}, Inputs.{Next, Waits, Tells, Brings, Ends, Fails, look_of}, Reading.{Reading, Heading, Counts, Runs, Sizing, Chunk, ChunkEnd, ChunkReturn, Trailing, Whole, Done, Failed}, Taking.{ending, reading_at_end}}

@@ -3,8 +3,7 @@
 -- Before the polls nothing is sent. A poll tells one thing at most, and its consumer alone. The acts of the polls before are sent to
 -- others, whose clients are others: so its client still waits for it when its own act is carried out.
 use Rattle.std.{proofs.Common.{◌≡◌, ℕ, List, [], ◌∷◌, ◌++◌, true, false, Option, Some, None, refl, ap, sym, ◌∙◌, subst}, specs.Prelude.{is_some, if◌then◌else◌}}
-use Rattle.hc_effects.proofs.Vocabulary.{Act, told_to, tellings, IsOneTo}
-use Rattle.hc_event.specs.declared.act.Act.TheVariants as act
+use Rattle.hc_effects.proofs.Vocabulary.{Act, told_to, tellings, IsOneTo, act}
 use Rattle.hc_proxy.specs.{Carrying.{answered, answers, carried_out, all_carried_out}, Invariants.{IsHolder}, Rows.{Client, Proxy, changed}}
 use Rattle.hc_proxy.proofs.{CarriedOut.{sent_to, AreFound, back, on}, Holders.{one_held}, PolledAlone.{AreTo, one_first}, QuietActs.{AreQuiet}}
 

@@ -5,8 +5,7 @@
 use Rattle.std.{proofs.{Common.{◌≡◌, inl, inr, ◌≤◌, ◌<◌, ℕ, ◌+◌, List, [], ◌++◌, length, Bool, true, false, Option, Some, None, refl, ap, sym, ◌∙◌, subst, arith}, Math.{Bridge.{le_prop}, Logic.{∥∥₁_map, ∥∥₁_elim}}, lemmas.{Bool.Decides.{nat_tests}, List.{length-append}}}, specs.{Prelude.{◌^◌, nat_lt, not, option_map, if◌then◌else◌, IsSome, Contains}, Option.{is_some}}}
 use Rattle.hc_text.proofs.Basics.{none_some, eq_itself as same_number, some_inj, true_false}
 use Rattle.hc_core.specs.Steps.{faults_in, steps, bytes_received}
-use Rattle.hc_effects.proofs.Vocabulary.{asks_in, closes_in, is_open, is_wanted, Exchange, after, Lawful}
-use Rattle.hc_event.specs.declared.event.Event.TheVariants as event
+use Rattle.hc_effects.proofs.Vocabulary.{asks_in, closes_in, is_open, is_wanted, Exchange, after, Lawful, event}
 use Rattle.hc_peers.specs.{Agreement.{is_at}, Clients.{client_of}, Peers.{is_same}, Upstreams.{upstream_of, is_news, is_touched, Becomes, Marks}, declared.{clients.Clients.{Clients}, upstreams.Upstreams.{Upstreams}}}
 use Rattle.hc_peers.specs.Clients as clients
 use Rattle.hc_peers.specs.Origins as origins

@@ -5,10 +5,9 @@
 -- bytes, so in those before, and a piece in those behind the read. By what was taken the call goes as the definitions go.
 use Rattle.std.{proofs.{Common.{◌≡◌, ◌≤◌, ◌<◌, ℕ, ◌+◌, true, Option, Some, None, refl, sym, ◌∙◌, arith}, Math.Logic.{∥∥₁_map}}, specs.Prelude.{◌&&◌, ◌^◌, Result, Ok, Err}}
 use Rattle.hc_core.specs.Steps.{steps, faults_in, bytes_received}
-use Rattle.hc_event.specs.declared.event.Event.TheVariants as event
+use Rattle.hc_effects.proofs.Vocabulary.{event, is_open, is_wanted}
 use Rattle.hc_head.specs.declared.message.MsgError.{MsgError}
 use Rattle.hc_head.specs.declared.message.MsgError.TheVariants as error
-use Rattle.hc_effects.proofs.Vocabulary.{is_open, is_wanted}
 use Rattle.hc_msg.specs.{declared.message.WirePart.{WirePart}, Inputs.{Next}}
 use Rattle.hc_msg.specs.declared.message.WirePart.TheVariants as part
 use Rattle.hc_peers.specs.Origins as origins

@@ -7,10 +7,8 @@
 use Rattle.std.{proofs.{Common.{◌≡◌, ◌⊎◌, inl, inr, ◌≤◌, ℕ, ◌+◌, List, [], ◌∷◌, length, Bool, true, false, Option, Some, None, refl, ap, sym, ◌∙◌, subst, arith}, lemmas.Bool.Decides.{nat_tests}}, specs.Prelude.{◌&&◌, ◌||◌, nat_eq, nat_lt, option_map}}
 use Rattle.hc_text.proofs.Basics.{some_inj, true_false}
 use Rattle.hc_core.specs.Steps.{faults_in, steps, bytes_received}
-use Rattle.hc_effects.proofs.Vocabulary.{is_denied, Act, Event, Response, Entry, is_open, is_wanted, Lawful, Tables, Exchange, Among, after}
+use Rattle.hc_effects.proofs.Vocabulary.{is_denied, Act, Event, Response, Entry, is_open, is_wanted, Lawful, Tables, Exchange, Among, after, act, event}
 use Rattle.hc_effects.proofs.OfConsumers.{open_there}
-use Rattle.hc_event.specs.declared.act.Act.TheVariants as act
-use Rattle.hc_event.specs.declared.event.Event.TheVariants as event
 use Rattle.hc_msg.specs.declared.message.WirePart.TheVariants as part
 use Rattle.hc_msg.specs.{Inputs.{Next, Waits, Tells, Brings, Ends, Fails}, Reading.{Reading, Done, Failed, Answers}}
 use Rattle.hc_peers.specs.Origins as origins

@@ -6,8 +6,7 @@
 -- behind that piece.
 use Rattle.std.{proofs.{Common.{◌≡◌, inl, inr, ◌≤◌, ◌<◌, ℕ, ◌+◌, List, length, length-append, drop, Bool, true, false, refl, ap, sym, ◌∙◌, subst, arith}, Math.{Bridge.{le_prop}, Logic.{∥∥₁_elim, ∥∥₁_map}}}, specs.Prelude.{◌^◌, nat_lt}}
 use Rattle.hc_core.specs.Steps.{StandsFor, steps, bytes_received}
-use Rattle.hc_effects.proofs.Vocabulary.{act_list, is_denied, History, Contents, no_contents, is_open, Tables, tables}
-use Rattle.hc_event.specs.declared.event.Event.TheVariants as event
+use Rattle.hc_effects.proofs.Vocabulary.{act_list, is_denied, History, Contents, no_contents, is_open, Tables, tables, event}
 use Rattle.hc_msg.specs.declared.message.WirePart.{WirePart}
 use Rattle.hc_msg.specs.declared.message.WirePart.TheVariants as part
 use Rattle.hc_peers.specs.{Upstreams.{is_news}, declared.upstreams.Upstreams.{Upstreams}}

@@ -6,9 +6,7 @@
 -- its consumer is over, and nobody else holds that.
 use Rattle.std.{proofs.{Common.{◌≡◌, ◌⊎◌, inl, inr, ◌≤◌, ◌<◌, ℕ, ◌+◌, List, [], ◌∷◌, ◌++◌, Bool, true, false, Option, Some, None, refl, ap, sym, ◌∙◌, subst, arith}, lemmas.Bool.Decides.{nat_tests}}, specs.Prelude.{◌||◌, nat_eq, option_map, if◌then◌else◌}}
 use Rattle.hc_text.proofs.Basics.{number_not as apart, or_left, or_right, eq_itself as same_number, some_inj}
-use Rattle.hc_effects.proofs.Vocabulary.{leaves_in, Act, Event, Limits, is_live, live, Entry, Lawful, IsOwed, after}
-use Rattle.hc_event.specs.declared.act.Act.TheVariants as act
-use Rattle.hc_event.specs.declared.event.Event.TheVariants as event
+use Rattle.hc_effects.proofs.Vocabulary.{leaves_in, Act, Event, Limits, is_live, live, Entry, Lawful, IsOwed, after, act, event}
 use Rattle.hc_head.specs.declared.message.{MsgError.{MsgError}, WireRequest.{WireRequest}}
 use Rattle.hc_msg.specs.Reading.{Reading}
 use Rattle.hc_effects.proofs.PieceKeeps.{eq_cases}

@@ -4,8 +4,7 @@
 -- An unready client is passed over, and stays unready while others are read: so the ready ones are gone through alone. A poll changes
 -- no row of a client and no holder, so who may be polled is the same before and behind it.
 use Rattle.std.{proofs.Common.{◌≡◌, ℕ, List, [], ◌∷◌, Bool, true, false, Option, Some, None, refl, ap, ◌∙◌}, specs.Prelude.{nat_eq, ◌+◌, if◌then◌else◌}}
-use Rattle.hc_effects.proofs.Vocabulary.{Event, Limits}
-use Rattle.hc_event.specs.declared.event.Event.TheVariants as event
+use Rattle.hc_effects.proofs.Vocabulary.{Event, Limits, event}
 use Rattle.hc_head.specs.declared.message.WireRequest.{WireRequest}
 use Rattle.hc_msg.specs.{Inputs.{Next, Waits, Tells, Brings, Ends, Fails, next_in}, Reading.{Failed, Token, Asks, Answers, Byte}}
 use Rattle.hc_wire.specs.Logs.{Called}

@@ -4,8 +4,7 @@
 -- in no way, and steps events that are no polls: these open nothing and ask for nothing. So who is idle stays idle.
 use Rattle.std.{proofs.{Common.{◌≡◌, ◌⊎◌, inl, inr, ℕ, ◌+◌, List, [], ◌∷◌, Bool, true, false, Option, Some, None, refl, ap, sym, ◌∙◌, subst, arith}, lemmas.Bool.Decides.{nat_tests}}, specs.Prelude.{◌&&◌, ◌||◌, not, nat_eq, if◌then◌else◌, Result, Ok, Err}}
 use Rattle.hc_text.proofs.Basics.{bool_cases, true_false}
-use Rattle.hc_effects.proofs.Vocabulary.{opening_in, Event, Entry, is_open, is_wanted, Exchange, owed, Limits}
-use Rattle.hc_event.specs.declared.event.Event.TheVariants as event
+use Rattle.hc_effects.proofs.Vocabulary.{opening_in, Event, Entry, is_open, is_wanted, Exchange, owed, Limits, event}
 use Rattle.hc_head.specs.declared.message.MsgError.{MsgError}
 use Rattle.hc_msg.specs.{Inputs.{Next, Waits, Tells, Brings, Ends, Fails}, Reading.{Done, Failed, Token, Asks, Answers, Byte}, Taking.{ending}, declared.message.WirePart.{WirePart}}
 use Rattle.hc_proxy.specs.{Invariants.{is_part, is_due, is_due_by}, Network.{has_news, next_of, read_to, is_last_denied, unless_denied, hands_head, hands, hands_if, handed, closes, closes_if, closed, event_at_close}, Rows.{Upstream, Proxy, with_upstream}, Steps.{with_entry, stepped}, Waiting.{is_poll}}

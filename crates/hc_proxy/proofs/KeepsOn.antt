@@ -6,8 +6,7 @@
 use Rattle.std.{proofs.Common.{◌≡◌, ◌⊎◌, inl, inr, ◌≤◌, ◌<◌, ℕ, zero, suc, ◌+◌, ◌-◌, Bool, true, false, List, [], ◌∷◌, ◌++◌, Option, Some, None, refl, ap, sym, ◌∙◌, subst, arith}, specs.Prelude.{◌||◌, nat_eq, length, drop, Contains, if◌then◌else◌}}
 use Rattle.hc_text.proofs.Basics.{or_off_left as or_first, or_left, or_right, or_off_right as or_second}
 use Rattle.hc_core.specs.Steps.{steps}
-use Rattle.hc_effects.proofs.Vocabulary.{opening_in, asks_in, closes_in, Act, Event, Entry, is_open, is_wanted, IsOwed, after}
-use Rattle.hc_event.specs.declared.act.Act.TheVariants as act
+use Rattle.hc_effects.proofs.Vocabulary.{opening_in, asks_in, closes_in, Act, Event, Entry, is_open, is_wanted, IsOwed, after, act}
 use Rattle.hc_peers.specs.{Peers.{is_same}, Upstreams.{upstream_of, is_news, is_touched}}
 use Rattle.hc_peers.specs.declared.upstream.Upstream as origin
 use Rattle.hc_store.specs.declared.backend.Backend.{Ghosts}

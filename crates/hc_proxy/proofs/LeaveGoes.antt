@@ -4,8 +4,7 @@
 use Rattle.std.{proofs.{Common.{◌≡◌, ◌≢◌, ◌⊎◌, inl, inr, ◌≤◌, ℕ, zero, suc, ◌+◌, List, [], ◌∷◌, ◌++◌, Bool, true, false, Option, Some, None, refl, ap, sym, ◌∙◌, subst, arith}, lemmas.{Bool.Decides.{nat_tests}, List.Elements.{Contains-append_left, Contains-append_right, Contains-append_cases}}}, specs.{Prelude.{◌&&◌, nat_eq, not, option_map, if◌then◌else◌, IsSome, Contains}, List.{list_all}}}
 use Rattle.hc_text.proofs.Basics.{none_some, some_inj, true_false}
 use Rattle.hc_core.specs.Steps.{faults_in, steps, bytes_received}
-use Rattle.hc_effects.proofs.Vocabulary.{act_list, closes_in, Act, is_open, is_wanted, Lawful, after}
-use Rattle.hc_event.specs.declared.event.Event.TheVariants as event
+use Rattle.hc_effects.proofs.Vocabulary.{act_list, closes_in, Act, is_open, is_wanted, Lawful, after, event}
 use Rattle.hc_effects.proofs.PieceKeeps.{eq_cases}
 use Rattle.hc_peers.specs.{Agreement.{is_at}, Clients.{client_of}, Peers.{is_same}, Upstreams.{upstream_of}, declared.clients.Clients.{Clients}}
 use Rattle.hc_peers.specs.Clients as clients

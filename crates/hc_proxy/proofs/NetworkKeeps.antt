@@ -1,8 +1,7 @@
 -- What each change keeps of which the step *network* is made, that step keeps: the rows of connections to the origin, and events that
 -- are of an exchange.
 use Rattle.std.{proofs.Common.{◌≡◌, ℕ, List, [], ◌∷◌, Bool, true, false, Option, Some, None, refl, ◌∙◌}, specs.Prelude.{◌&&◌, if◌then◌else◌, Result, Ok, Err}}
-use Rattle.hc_effects.proofs.Vocabulary.{Event, is_open, is_wanted, Limits}
-use Rattle.hc_event.specs.declared.event.Event.TheVariants as event
+use Rattle.hc_effects.proofs.Vocabulary.{Event, is_open, is_wanted, Limits, event}
 use Rattle.hc_head.specs.declared.message.MsgError.{MsgError}
 use Rattle.hc_msg.specs.{Inputs.{Next, Waits, Tells, Brings, Ends, Fails}, Reading.{Done, Failed, Token, Asks, Answers, Byte}, Taking.{ending}, declared.message.WirePart.{WirePart}}
 use Rattle.hc_proxy.specs.{Network.{has_news, next_of, read_to, is_last_denied, unless_denied, hands_head, hands, hands_if, handed, closes, closes_if, closed, event_at_close, open_exchanges, each_heard, heard}, Rows.{Upstream, Proxy, with_upstream}, Steps.{with_entry, stepped}}

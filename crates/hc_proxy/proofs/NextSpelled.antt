@@ -1,7 +1,6 @@
 -- What is told of bytes that came has a spelling: a request and a head are events of a schedule.
 use Rattle.std.{proofs.{Common.{◌≡◌, ◌≤◌, ◌<◌, ◌^◌, ℕ, true, List, [], ◌∷◌, refl, subst, arith}, lemmas.{Bool.Decides.{nat_tests}, List.Elements.{All-head}}}, specs.Prelude.{nat_le, length}}
-use Rattle.hc_event.specs.declared.event.Event.TheVariants as event
-use Rattle.hc_effects.proofs.Vocabulary.{Request, Response}
+use Rattle.hc_effects.proofs.Vocabulary.{event, Request, Response}
 use Rattle.hc_head.specs.Spellings.{IsMethod, IsSpelledRequest, IsSpelledResponse}
 use Rattle.hc_msg.specs.{Inputs.{Tells, next_in}, NextParts.{IsToldFirst, StandsNext}, Reading.{Reading, Token}, Spelled.{IsSpelled}}
 use Rattle.hc_msg.proofs.{Leading.{tells_leads}, NextParts.{stands_next}, Spelled.{tokens_spelled}}

@@ -4,8 +4,7 @@
 -- opens one that is new in this turn, and counted behind it. A row of a connection to the origin is one of an
 -- exchange that was opened. So no such row is replaced, and what it is owed stays as it was.
 use Rattle.std.{proofs.{Common.{◌≡◌, ◌≤◌, ◌<◌, ℕ, ◌+◌, Bool, true, false, List, [], ◌∷◌, ◌++◌, Option, Some, None, refl, ap, sym, ◌∙◌, subst, arith}, lemmas.Bool.Decides.{nat_tests}}, specs.Prelude.{nat_eq, if◌then◌else◌, map, option_map}}
-use Rattle.hc_effects.proofs.Vocabulary.{Opening, opening_in, is_denied, Act, Need, Event, Request, Limits, accepted_acts, answer_acts, poll_acts, loss_acts, close_acts, closing, Entry, Flaw, NoFlaw, Loses, Misreads, flaw_in, Move, Nothing, Asks, Opens, Shows, Gives, Ends, Fails, acts_of, poll_move, Tables, IsOwed, owed, Sound, after, opened_after, evicted}
-use Rattle.hc_event.specs.declared.act.Act.TheVariants as act
+use Rattle.hc_effects.proofs.Vocabulary.{Opening, opening_in, is_denied, Act, Need, Event, Request, Limits, accepted_acts, answer_acts, poll_acts, loss_acts, close_acts, closing, Entry, Flaw, NoFlaw, Loses, Misreads, flaw_in, Move, Nothing, Asks, Opens, Shows, Gives, Ends, Fails, acts_of, poll_move, Tables, IsOwed, owed, Sound, after, opened_after, evicted, act}
 use Rattle.hc_event.specs.declared.event.Event.TheVariants as event
 use Rattle.hc_model.specs.Moves as moves
 use Rattle.hc_effects.proofs.{NumbersKeep.{opens_next}, Owed.{goes, acts_are, is_denial, IsDenied, denied}}

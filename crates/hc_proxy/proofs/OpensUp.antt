@@ -2,8 +2,7 @@
 --
 -- An entry that is owed opens one exchange at most, the next, and counts it. So acts that open one after another are followed by such.
 use Rattle.std.{proofs.Common.{◌≡◌, ◌≤◌, ℕ, ◌+◌, Bool, true, false, List, [], ◌∷◌, ◌++◌, Some, refl, sym, subst, arith}, specs.Prelude.{map}}
-use Rattle.hc_effects.proofs.Vocabulary.{Opening, opening_in, is_denied, Act, Event, Limits, accepted_acts, answer_acts, poll_acts, loss_acts, close_acts, closing, Entry, Flaw, NoFlaw, Loses, Misreads, flaw_in, Move, Nothing, Asks, Opens, Shows, Gives, Ends, Fails, acts_of, poll_move, Tables, IsOwed, after, opened_after, evicted}
-use Rattle.hc_event.specs.declared.act.Act.TheVariants as act
+use Rattle.hc_effects.proofs.Vocabulary.{Opening, opening_in, is_denied, Act, Event, Limits, accepted_acts, answer_acts, poll_acts, loss_acts, close_acts, closing, Entry, Flaw, NoFlaw, Loses, Misreads, flaw_in, Move, Nothing, Asks, Opens, Shows, Gives, Ends, Fails, acts_of, poll_move, Tables, IsOwed, after, opened_after, evicted, act}
 use Rattle.hc_event.specs.declared.event.Event.TheVariants as event
 use Rattle.hc_model.specs.Moves as moves
 use Rattle.hc_effects.proofs.Owed.{acts_are, is_denial, IsDenied, denied}

@@ -5,8 +5,7 @@
 -- isn't there yet. The row says how far that answer is, so it renders the act as the whole answer does. Only a last act ends the wait,
 -- and who is told that is over: so a consumer that is live behind all of them is still waited for.
 use Rattle.std.{proofs.{Common.{◌≡◌, ◌⊎◌, inl, inr, ℕ, List, [], ◌∷◌, ◌++◌, Bool, true, false, Option, Some, None, refl, ap, sym, ◌∙◌, subst, arith, length, append_assoc, append-nil}, lemmas.Bool.Decides.{nat_tests}}, specs.Prelude.{◌||◌, nat_eq, option_map, if◌then◌else◌}}
-use Rattle.hc_effects.proofs.Vocabulary.{leaves_in, Act, History}
-use Rattle.hc_event.specs.declared.act.Act.TheVariants as act
+use Rattle.hc_effects.proofs.Vocabulary.{leaves_in, Act, History, act}
 use Rattle.hc_head.specs.declared.message.WireRequest.{WireRequest}
 use Rattle.hc_peers.specs.{declared.reply.Reply.{Reply}, Renderings.{rendering, form_behind, is_last, closes, reply_to}}
 use Rattle.hc_proxy.specs.{Asked.{is_at}, Carrying.{answered, carried_out, all_carried_out}, Invariants.{addressee}, Rendered.{is_answer_to, answer_to, rendered, answers_to, error_answer}, Rows.{Client, Proxy}}

@@ -6,8 +6,7 @@
 -- that has not started. Each act is taken as an entry of its own, behind the history before the turn.
 use Rattle.std.{proofs.{Common.{◌≡◌, ◌⊎◌, inl, inr, ◌<◌, ℕ, suc, List, [], ◌∷◌, ◌++◌, Bool, true, false, Option, Some, None, refl, ap, sym, ◌∙◌, subst, arith, length, append_assoc, append-nil}, lemmas.Bool.Decides.{nat_tests}}, specs.Prelude.{nat_eq, filter, if◌then◌else◌}}
 use Rattle.hc_text.proofs.Basics.{eq_itself as itself}
-use Rattle.hc_effects.proofs.Vocabulary.{Act, Entry, History}
-use Rattle.hc_event.specs.declared.act.Act.TheVariants as act
+use Rattle.hc_effects.proofs.Vocabulary.{Act, Entry, History, act}
 use Rattle.hc_event.specs.declared.event.Event.TheVariants as event
 use Rattle.hc_head.specs.declared.message.{MsgError.{MsgError}, WireRequest.{WireRequest}}
 use Rattle.hc_msg.specs.Reading.{Reading, Failed}

@@ -5,8 +5,7 @@
 -- event says anything of it.
 use Rattle.std.proofs.Common.{◌≡◌, ◌⊎◌, inl, inr, ℕ, ◌+◌, List, [], ◌∷◌, ◌++◌, Bool, true, false, Option, Some, None, refl, ap, sym, ◌∙◌, subst, arith}
 use Rattle.hc_text.proofs.Basics.{false_true, eq_itself as itself, or_left, or_right}
-use Rattle.hc_effects.proofs.Vocabulary.{Opening, opening_in, closes_in, is_denied, Act, Limits, Entry, exchange_after, exchange_opened, is_open, flaw_in, Lawful, Tables, IsOwed, after, RequestsAreForTargets}
-use Rattle.hc_event.specs.declared.act.Act.TheVariants as act
+use Rattle.hc_effects.proofs.Vocabulary.{Opening, opening_in, closes_in, is_denied, Act, Limits, Entry, exchange_after, exchange_opened, is_open, flaw_in, Lawful, Tables, IsOwed, after, RequestsAreForTargets, act}
 use Rattle.hc_target.specs.Targets.{is_target}
 use Rattle.hc_effects.proofs.Owed.{acts_are, is_denial, IsDenied, denied, denied_opens}
 use Rattle.hc_proxy.specs.{Invariants.{ArePlain}, Rows.{Proxy}}

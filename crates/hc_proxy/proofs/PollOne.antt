@@ -1,7 +1,6 @@
 -- One poll, as the loop notes it.
 use Rattle.std.{proofs.Common.{◌≡◌, ℕ, Bool, true, false, List, [], ◌∷◌, ◌++◌, length, drop, refl, ap, sym, ◌∙◌}, specs.Prelude.{◌||◌, not}}
-use Rattle.hc_effects.proofs.Vocabulary.{Act}
-use Rattle.hc_event.specs.declared.event.Event.TheVariants as event
+use Rattle.hc_effects.proofs.Vocabulary.{Act, event}
 use Rattle.hc_store.specs.declared.backend.Backend.{Ghosts}
 use Rattle.hc_proxy.specs.declared.proxy.Proxy as loop
 use Rattle.hc_proxy.specs.{Keeping.{Frame, Stepped, PolledBy}, Rows.{Proxy}, Waiting.{pends}}

@@ -3,9 +3,7 @@
 -- Polls are made in ascending order, over a store that may fail. Each adds its acts behind those before, and tells one consumer at
 -- most, its own (a law of the cache). So the acts that are sent to consumers stand in ascending order.
 use Rattle.std.{proofs.{Common.{◌≡◌, ◌⊎◌, inl, inr, ◌≤◌, ℕ, ◌+◌, List, [], ◌∷◌, ◌++◌, Bool, true, false, Option, Some, None, refl, ap, sym, ◌∙◌, subst, arith, append_assoc, append-nil}, lemmas.Bool.Decides.{nat_tests}}, specs.Prelude.{is_some, nat_eq, ◌||◌, if◌then◌else◌}}
-use Rattle.hc_effects.proofs.Vocabulary.{is_denied, Act, Limits, Entry, no_contents, IsRun, IsOwed, tables, after, told_to, tellings, IsOneTo, TellsBy}
-use Rattle.hc_event.specs.declared.act.Act.TheVariants as act
-use Rattle.hc_event.specs.declared.event.Event.TheVariants as event
+use Rattle.hc_effects.proofs.Vocabulary.{is_denied, Act, Limits, Entry, no_contents, IsRun, IsOwed, tables, after, told_to, tellings, IsOneTo, TellsBy, act, event}
 use Rattle.hc_model.specs.Tellings as tells
 use Rattle.hc_wire.specs.Logs.{Called}
 use Rattle.hc_laws.proofs.{Told.{told_in_runs}, FromNothing.{begins_well}}

@@ -1,7 +1,6 @@
 -- A poll of a live consumer is accepted, and tells nobody anything but that consumer.
 use Rattle.std.{proofs.Common.{◌≡◌, ℕ, List, [], ◌∷◌, Option, Some, None, refl, sym, ◌∙◌, subst}, specs.Prelude.{is_some, if◌then◌else◌}}
-use Rattle.hc_effects.proofs.Vocabulary.{Act, Event, Limits, Entry, History, no_contents, IsOwed, IsRun, tables, told_to, tellings, IsOneTo, TellsOne, TellsBy}
-use Rattle.hc_event.specs.declared.event.Event.TheVariants as event
+use Rattle.hc_effects.proofs.Vocabulary.{Act, Event, Limits, Entry, History, no_contents, IsOwed, IsRun, tables, told_to, tellings, IsOneTo, TellsOne, TellsBy, event}
 use Rattle.hc_model.specs.Tellings as tells
 use Rattle.hc_laws.proofs.{Told.{told_in_runs}, FromNothing.{begins_well}}
 

@@ -7,8 +7,7 @@ use Rattle.std.{proofs.{Common.{◌≡◌, inl, inr, ◌≤◌, ℕ, ◌+◌, Bo
 use Rattle.std.specs.BTreeMap as tree
 use Rattle.hc_text.proofs.Basics.{filter_short}
 use Rattle.hc_core.specs.Steps.{faults_in, steps}
-use Rattle.hc_effects.proofs.Vocabulary.{Event, Limits, is_live, Entry, no_contents, owed, RequestsAreForTargets}
-use Rattle.hc_event.specs.declared.event.Event.TheVariants as event
+use Rattle.hc_effects.proofs.Vocabulary.{Event, Limits, is_live, Entry, no_contents, owed, RequestsAreForTargets, event}
 use Rattle.hc_laws.proofs.{RunsWithinLimits.{requests_are_for_targets}, LiveAfter.{Starts}}
 use Rattle.hc_peers.specs.Clients.{client_of, consumers_of}
 use Rattle.hc_peers.specs.Clients as peers

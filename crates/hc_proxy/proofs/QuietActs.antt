@@ -3,8 +3,7 @@
 -- By the cases of the event: what comes from outside evicts, loses and closes, a cancel closes and loses, and a denied event is told by
 -- one act alone. None of these acts opens, asks for, or tells anything.
 use Rattle.std.{proofs.{Common.{◌≡◌, ℕ, List, [], ◌∷◌, ◌++◌, Bool, true, false, Option, Some, None, refl, ap, sym, ◌∙◌, subst}, lemmas.List.Folds.{list_all-append}}, specs.{Prelude.{map, ◌&&◌}, List.{list_all}}}
-use Rattle.hc_effects.proofs.Vocabulary.{opening_in, asks_in, leaves_in, Act, Refusal, Event, Limits, answer, accepted_acts, answer_acts, loss_acts, close_acts, denied_or, closing, denial, Entry, Flaw, NoFlaw, Loses, Misreads, flaw_in, Tables, IsOwed, evicted}
-use Rattle.hc_event.specs.declared.act.Act.TheVariants as act
+use Rattle.hc_effects.proofs.Vocabulary.{opening_in, asks_in, leaves_in, Act, Refusal, Event, Limits, answer, accepted_acts, answer_acts, loss_acts, close_acts, denied_or, closing, denial, Entry, Flaw, NoFlaw, Loses, Misreads, flaw_in, Tables, IsOwed, evicted, act}
 use Rattle.hc_event.specs.declared.event.Event.TheVariants as event
 use Rattle.hc_proxy.specs.{Invariants.{is_quiet}, Waiting.{is_poll}}
 

@@ -3,9 +3,7 @@
 -- Before the polls the acts are quiet, and tell nobody anything. Who is polled is live, and its client was sent all. A poll tells its own
 -- consumer alone, and each is polled once. So no act of a turn goes to a client that was told something by an act before it.
 use Rattle.std.{proofs.Common.{◌≡◌, ◌⊎◌, inl, inr, ℕ, List, [], ◌∷◌, Bool, true, false, Option, Some, None, refl, ap, sym, ◌∙◌, subst, arith}, specs.Prelude.{◌&&◌, not, nat_lt, length, if◌then◌else◌}}
-use Rattle.hc_effects.proofs.Vocabulary.{Act, Limits, is_live, owed}
-use Rattle.hc_event.specs.declared.act.Act.TheVariants as act
-use Rattle.hc_event.specs.declared.event.Event.TheVariants as event
+use Rattle.hc_effects.proofs.Vocabulary.{Act, Limits, is_live, owed, act, event}
 use Rattle.hc_wire.specs.Logs.{Called}
 use Rattle.hc_proxy.specs.{Carrying.{acts_in}, Connections.{taken_at}, Invariants.{IsServed, AreServed, HasConsumers}, Polls.{takes_more, may_be_polled, each_polled}, Rows.{Client, Proxy}, Steps.{with_entry, stepped}}
 use Rattle.hc_proxy.proofs.{Polled.{PollsBy, Adds, entry_stands, told_either, tells_both}, QuietActs.{AreQuiet}, ServedActs.{IsTold, TellsUp, are_served}, SkippedSteps.{among}, Stands.{Stands, owed_here}}

@@ -6,8 +6,7 @@
 -- here at first is here when its request is read.
 use Rattle.std.{proofs.{Common.{◌≡◌, inl, inr, ◌≤◌, ◌<◌, ℕ, ◌+◌, List, [], ◌∷◌, ◌++◌, Bool, true, false, Option, Some, None, refl, ap, sym, ◌∙◌, subst, arith}, lemmas.Bool.Decides.{nat_tests}}, specs.Prelude.{◌&&◌, not, nat_eq, nat_lt, is_none, length, filter, option_map, Contains, IsSome, if◌then◌else◌}}
 use Rattle.hc_text.proofs.Basics.{some_inj as some_is}
-use Rattle.hc_effects.proofs.Vocabulary.{is_denied, Event, live, Entry, is_open, IsOwed, owed, Limits}
-use Rattle.hc_event.specs.declared.event.Event.TheVariants as event
+use Rattle.hc_effects.proofs.Vocabulary.{is_denied, Event, live, Entry, is_open, IsOwed, owed, Limits, event}
 use Rattle.hc_head.specs.declared.message.WireRequest.{WireRequest}
 use Rattle.hc_effects.proofs.PieceKeeps.{eq_cases}
 use Rattle.hc_msg.specs.{Inputs.{Next, Waits, Tells, Brings, Ends, Fails, next_in}, Reading.{Reading, Failed, Token, Asks, Answers, Byte}}

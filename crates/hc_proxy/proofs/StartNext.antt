@@ -5,8 +5,7 @@
 -- a call asks for is shown of some of them, since it is a bound.
 use Rattle.std.proofs.{Common.{◌≡◌, ◌≢◌, ◌≤◌, ◌<◌, ◌^◌, ℕ, ◌+◌, List, [], ◌∷◌, true, Some, refl, ap, sym, ◌∙◌, subst, arith}, Math.{Bridge.{le_prop}, Logic.{∥∥₁_map, ∥∥₁_elim}}}
 use Rattle.hc_core.specs.Steps.{faults_in, steps, bytes_received}
-use Rattle.hc_event.specs.declared.event.Event.TheVariants as event
-use Rattle.hc_effects.proofs.Vocabulary.{Request}
+use Rattle.hc_effects.proofs.Vocabulary.{event, Request}
 use Rattle.hc_msg.specs.{Inputs.{Next, Waits, Tells, Brings, Ends, Fails, next_in}, Reading.{Asks, Answers, Byte}}
 use Rattle.hc_peers.specs.{Agreement.{consumer_at}, Clients.{client_of, ready_of, hearing, told_by, HearsNext}, declared.clients.{Clients.{Clients}, Heard.{Heard}}}
 use Rattle.hc_peers.specs.Clients as clients

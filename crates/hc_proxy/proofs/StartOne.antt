@@ -7,8 +7,7 @@
 use Rattle.std.{proofs.{Common.{◌≡◌, ◌⊎◌, inl, inr, ◌≤◌, ◌<◌, ℕ, ◌+◌, List, [], ◌∷◌, ◌++◌, length, Bool, true, false, Option, Some, None, refl, ap, sym, ◌∙◌, subst, arith}, Math.Path.{fun_ext}, lemmas.List.{length-append, drop-append-le}}, specs.{Prelude.{◌&&◌, nat_eq, nat_lt, not, is_none, option_map, if◌then◌else◌, IsSome, Contains}, List.{list_all}}}
 use Rattle.hc_text.proofs.Basics.{none_some, not_true as not_so, eq_itself as same_number}
 use Rattle.hc_core.specs.Steps.{faults_in, steps}
-use Rattle.hc_event.specs.declared.event.Event.TheVariants as event
-use Rattle.hc_effects.proofs.Vocabulary.{Request, live, Entry, owed}
+use Rattle.hc_effects.proofs.Vocabulary.{event, Request, live, Entry, owed}
 use Rattle.hc_head.specs.declared.message.{MsgError.{MsgError}, WireRequest.{WireRequest}}
 use Rattle.hc_msg.specs.{Inputs.{Next, next_in}, Reading.{Reading, Failed}}
 use Rattle.hc_peers.specs.{Agreement.{ready_at}, Clients.{client_of, ready_of}, Renderings.{empty_answer, error_status}, Upstreams.{upstream_of}, declared.clients.Clients.{Clients}}

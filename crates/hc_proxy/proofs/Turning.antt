@@ -5,9 +5,7 @@
 -- between the tables before and behind that holds of each, of none and of two in a row holds of a turn, where it
 -- holds of its beginning. So the definitions are walked through once, here, and each law names what it is of each kind.
 use Rattle.std.{proofs.Common.{◌≡◌, ℕ, ◌+◌, Bool, true, false, List, [], ◌∷◌, Option, Some, None, refl}, specs.Prelude.{◌&&◌, is_none, nat_lt, length, if◌then◌else◌}}
-use Rattle.hc_effects.proofs.Vocabulary.{Act, Event, Request, is_open, Limits}
-use Rattle.hc_event.specs.declared.act.Act.TheVariants as act
-use Rattle.hc_event.specs.declared.event.Event.TheVariants as event
+use Rattle.hc_effects.proofs.Vocabulary.{Act, Event, Request, is_open, Limits, act, event}
 use Rattle.hc_head.specs.declared.message.{MsgError.{MsgError}, WireRequest.{WireRequest}}
 use Rattle.hc_msg.specs.{Inputs.{Next, Waits, Tells, Brings, Ends, Fails, next_in}, Reading.{Reading, Done, Failed, Token, Asks, Answers, Byte}, Taking.{ending}}
 use Rattle.hc_wire.specs.{Logs.{Called}, declared.event.WireEvent.{WireEvent}}

@@ -6,8 +6,7 @@
 -- on there is an event. Whoever is open and isn't among the news brings nothing.
 use Rattle.std.{proofs.{Common.{◌≡◌, inl, inr, ◌≤◌, ℕ, ◌+◌, List, [], ◌∷◌, length, Bool, true, false, Option, Some, None, refl, ap, sym, ◌∙◌, subst, arith}, lemmas.Bool.Decides.{nat_tests}}, specs.{Prelude.{◌&&◌, ◌||◌, ◌==◌, nat_eq, not, if◌then◌else◌}, List.{list_any}}}
 use Rattle.hc_text.proofs.Basics.{true_false}
-use Rattle.hc_event.specs.declared.event.Event.TheVariants as event
-use Rattle.hc_effects.proofs.Vocabulary.{is_open, is_wanted, Limits}
+use Rattle.hc_effects.proofs.Vocabulary.{event, is_open, is_wanted, Limits}
 use Rattle.hc_msg.specs.{Inputs.{Next, Waits, Tells, Brings, Ends, Fails, look_of}, Reading.{Reading, Asks, Answers, Byte}}
 use Rattle.hc_proxy.specs.{Headed.{AreHeaded, IsReadAs}, Hearing.{has_next, IsHeardAt}, Invariants.{is_part, is_due_by, IsHeardOut}, Network.{has_news, next_of, read_to, hands, hands_if, handed, closes_if, closed, is_last_denied, open_exchanges, each_heard, heard}, Rows.{Upstream, Proxy, with_upstream}, Steps.{with_entry, stepped}, Waiting.{hears_nothing}}
 use Rattle.hc_proxy.proofs.{AnswerNext.{IsAnswerNext, answer_next}, IdleExchanges.{Idle, heard_one, idle_skips}, NetworkKeeps.{IsKeptByNetwork, closed_by, each_keeps}, SkippedSteps.{among, Ascends, not_below}, HandedOn.{wanted_open}}

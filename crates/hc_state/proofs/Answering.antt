@@ -2,8 +2,7 @@
 use Rattle.std.{proofs.Common.{◌≡◌, ℕ, ◌+◌, ◌<◌, List, ◌++◌, Bool, true, false, Some, None, refl, ap, sym, ◌∙◌, subst}, specs.Prelude.{nat_eq, ◌&&◌}}
 use Rattle.hc_text.proofs.Basics.{eqb-same, false_true}
 use Rattle.hc_store.specs.declared.backend.Backend.{Ghosts}
-use Rattle.hc_effects.proofs.Vocabulary.{Event, Act, Limits, Does, NoFlaw, Loses, flaw_in, entry_of, Tables, is_kept, has_room, written_representation, room_for, write_in, entry_without_acts}
-use Rattle.hc_event.specs.declared.act.LostKind.TheVariants as kind
+use Rattle.hc_effects.proofs.Vocabulary.{Event, Act, Limits, Does, NoFlaw, Loses, flaw_in, entry_of, Tables, is_kept, has_room, written_representation, room_for, write_in, entry_without_acts, kind}
 use Rattle.hc_stored.specs.Entries.{shelf_of}
 use Rattle.hc_state.specs.{declared.rows.Rows.{Rows}, Stands.{Answered, RowsStand}}
 

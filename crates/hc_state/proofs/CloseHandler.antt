@@ -7,13 +7,9 @@
 use Rattle.std.{proofs.{Common.{◌≡◌, ◌≢◌, inl, inr, ℕ, List, [], ◌∷◌, ◌++◌, Bool, true, false, Option, Some, None, refl, ap, sym, ◌∙◌, subst, arith}, lemmas.{Bool.Decides.{nat_tests}, List.{append-nil}}}, specs.Prelude.{nat_eq, map, option_map, ◌&&◌, if◌then◌else◌}}
 use Rattle.hc_text.proofs.Basics.{eqb-other, eqb-same, false_true, same_or, same_some as same_row, some_inj as some_is, and_off as then_false}
 use Rattle.hc_store.specs.declared.backend.Backend.{Ghosts}
-use Rattle.hc_effects.proofs.Vocabulary.{Act, Limits, Place, BoundBy, back_in_line, with_consumer, as_over, with_representation, tables_after_close, all_closed, let_go, let_some_go, as_gone, lost_to, back_from, left_by, going_with, is_unkeepable, family, brings_to, Tables, Representation, with_item_first, exclusive}
-use Rattle.hc_event.specs.declared.act.Act.TheVariants as act
-use Rattle.hc_event.specs.declared.act.LostKind.TheVariants as kind
+use Rattle.hc_effects.proofs.Vocabulary.{Act, Limits, Place, BoundBy, back_in_line, with_consumer, as_over, with_representation, tables_after_close, all_closed, let_go, let_some_go, as_gone, lost_to, back_from, left_by, going_with, is_unkeepable, family, brings_to, Tables, Representation, with_item_first, exclusive, act, kind, place, by}
 use Rattle.hc_exch.specs.Exchanges as exch
 use Rattle.hc_exch.specs.Known as known
-use Rattle.hc_event.specs.declared.place.Place.TheVariants as place
-use Rattle.hc_event.specs.declared.place.BoundBy.TheVariants as by
 use Rattle.hc_model.specs.Effects.{waits_for}
 use Rattle.hc_model.specs.Rows as rows
 use Rattle.hc_effects.proofs.{SameTables.{same_tables}, Tests.{none_some}}

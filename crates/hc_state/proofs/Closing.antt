@@ -6,7 +6,7 @@
 -- an exchange that brings only what is gone.
 use Rattle.std.{proofs.Common.{◌≡◌, ◌≢◌, inl, inr, ℕ, ◌+◌, ◌-◌, List, [], length, Bool, true, false, Option, Some, None, refl, ap, sym, ◌∙◌, subst}, specs.{Prelude.{nat_eq, bytes_eq, drop, option_map, ◌&&◌, if◌then◌else◌}, HashMap.{get, hash_map_len}}}
 use Rattle.hc_text.proofs.Basics.{eqb-other, eqb-same, same_or}
-use Rattle.hc_effects.proofs.Vocabulary.{Limits, Response, base_of, promise_of, Place, current, is_number, tables_after_close, over, base, promised_bytes, family, is_open, is_headless, length_by, absent_from, is_growing, brings_to, bound, offset, is_bound_place, base_in, end_in, end_of_direct, Tables, Exchange, Representation}
+use Rattle.hc_effects.proofs.Vocabulary.{Limits, Response, base_of, promise_of, Place, current, is_number, tables_after_close, over, base, promised_bytes, family, is_open, is_headless, length_by, absent_from, is_growing, brings_to, bound, offset, is_bound_place, base_in, end_in, end_of_direct, Tables, Exchange, Representation, place, by}
 use Rattle.hc_store.specs.declared.backend.Backend.{Ghosts}
 use Rattle.hc_stored.specs.{Entries.{shelf_of}, Kept.{Kept}, Shelf.{Shelf}}
 use Rattle.hc_entry.specs.Keys.{kept_of}
@@ -14,8 +14,6 @@ use Rattle.hc_entry.specs.Kept as keyed
 use Rattle.hc_exch.specs.{Exchanges.{table_of}, Known.{Known}}
 use Rattle.hc_exch.specs.Exchanges as exch
 use Rattle.hc_exch.specs.Known as known
-use Rattle.hc_event.specs.declared.place.Place.TheVariants as place
-use Rattle.hc_event.specs.declared.place.BoundBy.TheVariants as by
 use Rattle.hc_model.specs.Rows as rows
 use Rattle.hc_state.specs.{declared.{consumer.Consumer.{Consumer}, rows.Rows.{Rows}}, Kept.{KeepsConsumer, head_in, KeepsExchange, KeepsRunning, held_for, held_of, held_alone, unstored_bytes}, Lines.{KeepsKey, is_away, is_away_at}, Stands.{RowsStand}, Stopped.{NobodyAwaits}, Stored.{KeepsEntry, KeepsEntries}}
 use Rattle.hc_state.proofs.{Fallbacks.{same, held_alike}, OneOfEach.{first_row, growing_same, kind_same}, PastRows.{consumer_alike}, Ties.{exchange_same, key_same, overs_closed, writer_then}}

@@ -1,12 +1,11 @@
 -- A consumer that reads nothing, before and after, stands elsewhere: what is kept represents the tables then.
 use Rattle.std.{proofs.Common.{◌≡◌, ◌≢◌, inl, inr, ℕ, List, [], ◌∷◌, length, true, false, Option, Some, None, refl, ap, sym, ◌∙◌, subst, arith}, specs.{Prelude.{is_some, nat_eq, filter, not}, HashMap.{get, hash_map_len}}}
 use Rattle.hc_text.proofs.Basics.{eqb-other, eqb-same, false_true, filters_same, same_or}
-use Rattle.hc_effects.proofs.Vocabulary.{Limits, Place, is_live, is_live_place, live, with_consumer, reads, Tables, Exchange}
+use Rattle.hc_effects.proofs.Vocabulary.{Limits, Place, is_live, is_live_place, live, with_consumer, reads, Tables, Exchange, place}
 use Rattle.hc_store.specs.declared.backend.Backend.{Ghosts}
 use Rattle.hc_stored.specs.Entries.{shelf_of}
 use Rattle.hc_entry.specs.Keys.{kept_of}
 use Rattle.hc_exch.specs.Exchanges.{table_of}
-use Rattle.hc_event.specs.declared.place.Place.TheVariants as place
 use Rattle.hc_model.specs.Rows as rows
 use Rattle.hc_state.specs.{declared.{consumer.Consumer.{Consumer}, rows.Rows.{Rows}}, Changes.{BecomesAt, one}, Kept.{KeepsConsumer, held_for}, Lines.{KeepsKey}, Stands.{RowsStand}, Stored.{is_first}}
 use Rattle.hc_state.proofs.{Fallbacks.{IsAlike, same, fallback, is_fallback, held_alike, users_alike}, ConsumerSteps.{all_kept_with}, OneOfEach.{entries_same}, Ties.{exchange_same}}

@@ -11,10 +11,9 @@ use Rattle.hc_entry.specs.{Kept.{on_line}, Lines.{is_among, is_held_by, holder_w
 use Rattle.hc_entry.specs.Lines as lines
 use Rattle.hc_sorted.specs.Sorted.{with_item, without}
 use Rattle.hc_sorted.proofs.SortedLemmas.{has-with, has-without}
-use Rattle.hc_effects.proofs.Vocabulary.{is_disabled, is_only, is_in_line, stands_in_line, holds_place, has_passed, Tables}
+use Rattle.hc_effects.proofs.Vocabulary.{is_disabled, is_only, is_in_line, stands_in_line, holds_place, has_passed, Tables, place}
 use Rattle.hc_effects.proofs.Tests.{and_false}
 use Rattle.hc_rules.proofs.RangeReads.{bytes_eq-same}
-use Rattle.hc_event.specs.declared.place.Place.TheVariants as place
 use Rattle.hc_model.specs.Rows as rows
 use Rattle.hc_state.specs.Lines.{KeepsKey, has_turn, is_passed, is_away, is_away_at}
 use Rattle.hc_state.proofs.ConsumerSteps.{KeyAfter, SaysOfIt, at_it}

@@ -6,8 +6,7 @@
 -- `leave_stops` joins these: what a leaver left may be closed.
 use Rattle.std.{proofs.Common.{◌≡◌, ◌≢◌, ◌⊎◌, inl, inr, ℕ, [], Bool, true, false, Option, Some, None, refl, ap, sym, ◌∙◌, subst}, specs.{Prelude.{is_some, is_none, not, ◌==◌, ◌&&◌, ◌||◌, if◌then◌else◌}, Option.{option_or}}}
 use Rattle.hc_text.proofs.Basics.{eqb-other, eqb-same, false_true, same_or, same_some as same_row, some_inj as some_is, and_off as then_false}
-use Rattle.hc_effects.proofs.Vocabulary.{Place, BoundBy, is_last_reader, is_number, with_consumer, as_over, left_by, family, is_open, is_headless, Lawful, MayLetGo, own_open, shared_exchange, writing_in, is_written, Tables, Exchange, Representation, Consumer, IsBound, IsAbout, IsHad, IsExclusiveWriter, exclusive, has_more, Response}
-use Rattle.hc_event.specs.declared.place.Place.TheVariants as place
+use Rattle.hc_effects.proofs.Vocabulary.{Place, BoundBy, is_last_reader, is_number, with_consumer, as_over, left_by, family, is_open, is_headless, Lawful, MayLetGo, own_open, shared_exchange, writing_in, is_written, Tables, Exchange, Representation, Consumer, IsBound, IsAbout, IsHad, IsExclusiveWriter, exclusive, has_more, Response, place}
 use Rattle.hc_event.specs.declared.place.BoundBy.TheVariants as by
 use Rattle.hc_model.specs.Sound as sound
 use Rattle.hc_effects.proofs.{AboutKeeps.{own_open_of}, Basics.{number_is}, Exclusives.{exclusive_parts}, KeyActs.{test_some}, LettingGo.{may_let_go}, Stops.{writer_about}, Tests.{none_some}}

@@ -6,15 +6,13 @@
 -- `lose_to`; by `may_lost` it may be let go then.
 use Rattle.std.{proofs.Common.{◌≡◌, ◌≢◌, inl, inr, ℕ, List, [], ◌∷◌, true, Option, Some, None, refl, ap, sym, ◌∙◌, subst}, specs.{Prelude.{is_some, nat_eq, option_map}, HashMap.{get, hash_map_len}}}
 use Rattle.hc_text.proofs.Basics.{eqb-other, eqb-same, false_true, filters_same, finds_same, same_or, same_some as same_row}
-use Rattle.hc_effects.proofs.Vocabulary.{Limits, Place, current, is_usable, total_in, with_representation, lost_to, family, kind_of, MayLetGo, bound, Tables, Exchange, Representation, status_in}
+use Rattle.hc_effects.proofs.Vocabulary.{Limits, Place, current, is_usable, total_in, with_representation, lost_to, family, kind_of, MayLetGo, bound, Tables, Exchange, Representation, status_in, place, by}
 use Rattle.hc_store.specs.declared.backend.Backend.{Ghosts}
 use Rattle.hc_stored.specs.{Entries.{shelf_of}, Kept.{Kept}, Shelf.{Shelf, same_order}}
 use Rattle.hc_stored.specs.Kept as entry
 use Rattle.hc_stored.specs.Shelf as shelf
 use Rattle.hc_entry.specs.Keys.{kept_of}
 use Rattle.hc_exch.specs.Exchanges.{table_of, next_of}
-use Rattle.hc_event.specs.declared.place.Place.TheVariants as place
-use Rattle.hc_event.specs.declared.place.BoundBy.TheVariants as by
 use Rattle.hc_model.specs.Rows as rows
 use Rattle.hc_state.specs.{declared.rows.Rows.{Rows}, Kept.{held_for, held_of, held_alone, unstored_bytes}, Stands.{RowsStand}, Stopped.{HoldsNothing}, Stored.{IsEntry, TellsLength, told, untold, KeepsEntry, KeepsEntries, is_first, is_usable_row}}
 use Rattle.hc_state.proofs.{Fallbacks.{unstored_moved}, Ties.{consumer_same, exchange_same, key_same, entry_same}}

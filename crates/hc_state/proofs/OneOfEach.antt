@@ -6,12 +6,11 @@
 -- assumed. `stands_then` joins this with the consumer, the exchange and the keys of its user.
 use Rattle.std.{proofs.Common.{◌≡◌, ◌≢◌, inl, inr, ℕ, ◌+◌, List, [], ◌∷◌, Bool, Option, Some, None, refl, ap, sym, ◌∙◌, subst}, specs.{Prelude.{is_some, nat_eq, filter}, List.{list_any}, HashMap.{get, hash_map_len}}}
 use Rattle.hc_text.proofs.Basics.{eqb-other, eqb-same, filters_same, same_or}
-use Rattle.hc_effects.proofs.Vocabulary.{Limits, Place, total_in, live, family, kind_of, is_growing, brings_to, bound, is_bound, Tables, Exchange, Representation, status_in}
+use Rattle.hc_effects.proofs.Vocabulary.{Limits, Place, total_in, live, family, kind_of, is_growing, brings_to, bound, is_bound, Tables, Exchange, Representation, status_in, place}
 use Rattle.hc_store.specs.declared.backend.Backend.{Ghosts}
 use Rattle.hc_stored.specs.{Entries.{shelf_of}, Shelf.{Shelf}}
 use Rattle.hc_entry.specs.Keys.{kept_of}
 use Rattle.hc_exch.specs.Exchanges.{table_of, next_of}
-use Rattle.hc_event.specs.declared.place.Place.TheVariants as place
 use Rattle.hc_event.specs.declared.place.BoundBy.TheVariants as by
 use Rattle.hc_model.specs.Rows as rows
 use Rattle.hc_state.specs.{declared.{consumer.Consumer.{Consumer}, rows.Rows.{Rows}}, Changes.{BecomesAt}, Kept.{KeepsConsumer, KeepsExchange, held_for}, Lines.{KeepsKey}, Stands.{RowsStand}, Stored.{KeepsEntry, KeepsEntries, is_first, is_usable_row}}

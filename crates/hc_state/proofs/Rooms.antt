@@ -6,13 +6,11 @@
 -- `all_gone` and `no_more` end it. `make_room` of `hc_on_leave` uses these.
 use Rattle.std.{proofs.{Common.{◌≡◌, ◌≢◌, inl, inr, ℕ, suc, ◌+◌, ◌≤◌, List, [], ◌∷◌, ◌++◌, length, take, drop, Bool, true, false, eqb, Option, Some, None, refl, ap, sym, ◌∙◌, subst, arith, rules, zero, add-one}, lemmas.{List.{append_assoc, append-nil}, Bool.Decides.{nat_tests}}}, specs.{Prelude.{is_some, nat_eq, filter, map, reverse, not, ◌&&◌, ◌||◌, ◌==◌}, List.{sum_by, IsDistinct}}}
 use Rattle.hc_text.proofs.Basics.{eqb-other, eqb-same, false_true, same_or, some_inj as some_is}
-use Rattle.hc_effects.proofs.Vocabulary.{Limits, Act, Room, Write, weight_of, room_of, idle_now, current, is_current, is_number, let_go, let_all_go, MayMakeRoom, MayLetGo, weight_now, weights_now, room_now, giving_way, AreOnce, bound, Tables, Representation, Among}
+use Rattle.hc_effects.proofs.Vocabulary.{Limits, Act, Room, Write, weight_of, room_of, idle_now, current, is_current, is_number, let_go, let_all_go, MayMakeRoom, MayLetGo, weight_now, weights_now, room_now, giving_way, AreOnce, bound, Tables, Representation, Among, act, room}
 use Rattle.hc_store.specs.declared.backend.Backend.{Ghosts}
 use Rattle.hc_stored.specs.{Entries.{shelf_of}, Kept.{Kept, itself, is_nobody}, Shelf.{Shelf, idle, is_unused, weigh_kept, weight_at, first_of}}
 use Rattle.hc_stored.proofs.{OrderLemmas.{distinct-first}, WeightLemmas.{weight-kept}}
 use Rattle.hc_sorted.specs.Sorted.{has}
-use Rattle.hc_event.specs.declared.act.Act.TheVariants as act
-use Rattle.hc_rules.specs.declared.room.Room.TheVariants as room
 use Rattle.hc_sparse.proofs.SizeLemmas.{size-same}
 use Rattle.hc_model.specs.{Contents.{is_idle}, LettingGo.{weight_in, first_idle}}
 use Rattle.hc_effects.proofs.{Basics.{same_functions, number_is}, IdleNow.{filter_both}, LettingGo.{current_may, keeps_may_all, all_more, idle_after}, PollKeeps.{current_stays}, Tests.{none_some}}

@@ -6,8 +6,7 @@
 -- `stands_unstored` applies (`stopped_lost`). `seal_stopped` uses both.
 use Rattle.std.{proofs.Common.{◌≡◌, ◌≢◌, inl, inr, ℕ, ◌<◌, List, [], ◌∷◌, ◌++◌, Bool, true, false, Option, Some, None, refl, ap, sym, ◌∙◌, subst}, specs.Prelude.{is_some, nat_eq, option_map, ◌&&◌, if◌then◌else◌}}
 use Rattle.hc_store.specs.declared.backend.Backend.{Ghosts}
-use Rattle.hc_effects.proofs.Vocabulary.{Act, Limits, with_representation, tables_after_close, over, let_go, as_gone, lost_to, family, Grows, Lawful, kind_of, is_growing, is_complete, is_front, covers_all, brings_to, Tables, Exchange, Representation, bound, exclusive, Response}
-use Rattle.hc_event.specs.declared.act.Act.TheVariants as act
+use Rattle.hc_effects.proofs.Vocabulary.{Act, Limits, with_representation, tables_after_close, over, let_go, as_gone, lost_to, family, Grows, Lawful, kind_of, is_growing, is_complete, is_front, covers_all, brings_to, Tables, Exchange, Representation, bound, exclusive, Response, act}
 use Rattle.hc_event.specs.declared.act.LostKind.TheVariants as kind
 use Rattle.hc_record.specs.declared.kind.Kind.{Kind}
 use Rattle.hc_record.specs.declared.kind.Kind.TheVariants as kinds

@@ -6,13 +6,12 @@
 -- is what `CloseHandler`, `SealHandler` and the stops of `hc_on_body` use.
 use Rattle.std.{proofs.{Common.{◌≡◌, ◌≢◌, ℕ, ◌<◌, ◌^◌, Bool, true, false, Option, Some, None, refl, ap, sym, ◌∙◌, subst, arith}, lemmas.Bool.Decides.{nat_tests}}, specs.Prelude.{is_some, is_none, nat_eq, not, ◌&&◌, if◌then◌else◌}}
 use Rattle.hc_text.proofs.Basics.{eqb-other, eqb-same, false_true, same_some as same_row, and_off as then_false}
-use Rattle.hc_effects.proofs.Vocabulary.{Limits, Response, Route, route_of, is_unkeepable, going_with, family, is_keepable, brings_to, Tables, Exchange, Representation}
+use Rattle.hc_effects.proofs.Vocabulary.{Limits, Response, Route, route_of, is_unkeepable, going_with, family, is_keepable, brings_to, Tables, Exchange, Representation, route}
 use Rattle.hc_effects.proofs.Tests.{none_some}
 use Rattle.hc_store.specs.declared.backend.Backend.{Ghosts}
 use Rattle.hc_record.specs.Head.{Head}
 use Rattle.hc_sparse.specs.Cells.{EndsBy}
 use Rattle.hc_sparse.proofs.SizeLemmas.{size-same}
-use Rattle.hc_rules.specs.declared.need.Route.TheVariants as route
 use Rattle.hc_stored.specs.{Entries.{shelf_of}, Kept.{Kept}, Shelf.{Shelf}, Views.{view_of}}
 use Rattle.hc_exch.specs.{Exchanges.{table_of}, declared.row.Open.{Open}}
 use Rattle.hc_exch.specs.declared.role.Role.TheVariants as role

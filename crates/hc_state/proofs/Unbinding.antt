@@ -12,8 +12,7 @@ use Rattle.hc_stored.specs.Kept as entry
 use Rattle.hc_stored.specs.{Kept.{Kept, itself, is_nobody, unless_it, without_user}, Shelf.{Shelf, same_order}, Views.{bound_in}}
 use Rattle.hc_stored.specs.Shelf as shelf
 use Rattle.hc_entry.specs.Lines.{is_among}
-use Rattle.hc_effects.proofs.Vocabulary.{Place, BoundBy, is_number, with_consumer, kind_of, bound, is_bound, is_bound_place, Tables, Representation, Among, came_alone}
-use Rattle.hc_event.specs.declared.place.Place.TheVariants as place
+use Rattle.hc_effects.proofs.Vocabulary.{Place, BoundBy, is_number, with_consumer, kind_of, bound, is_bound, is_bound_place, Tables, Representation, Among, came_alone, place}
 use Rattle.hc_model.specs.Rows as rows
 use Rattle.hc_effects.proofs.{ExclusiveWriters.{filter_some}, Tests.{and_false}}
 use Rattle.hc_state.specs.{Leaving.{IsUserAt, UnbindsAt}, Stored.{IsEntry, TellsLength, told, untold, KeepsEntry, KeepsEntries, is_first}}

@@ -1,6 +1,5 @@
 use Rattle.std.{proofs.Common.{◌≡◌, ℕ, arith, true, false, Option, Some, None, refl, ap, sym, ◌∙◌}, specs.Prelude.{◌≤◌, Result, Ok, is_some}}
-use Rattle.hc_effects.proofs.Vocabulary.{act_list, let_all_go, evicted, LostKind}
-use Rattle.hc_event.specs.declared.event.Event.TheVariants as event
+use Rattle.hc_effects.proofs.Vocabulary.{act_list, let_all_go, evicted, LostKind, event}
 use Rattle.hc_on_body.proofs.{GrowHandler.{own_answered, shared_answered}, Bringing.{may_bring}}
 use Rattle.hc_text.specs.declared.memory.NoMemory.{NoMemory}
 use Rattle.hc_on_leave.proofs.{LoseTurn.{writes_it, unwritten}, StoreHandler.{stores_of}}

@@ -1,7 +1,6 @@
 use Rattle.std.{proofs.Common.{◌≡◌, ◌+◌, length, false, Option, Some, refl, ap, sym, ◌∙◌, subst, arith}, specs.Prelude.{Result, Ok, Err, is_some}}
 use Rattle.hc_sparse.specs.Cells.{size}
-use Rattle.hc_effects.proofs.Vocabulary.{act_list, spare, LostKind}
-use Rattle.hc_rules.specs.declared.room.Write.TheVariants as write
+use Rattle.hc_effects.proofs.Vocabulary.{act_list, spare, LostKind, write}
 use Rattle.hc_stored.specs.{Entries.{shelf_of}, Kept.{Kept}, Shelf.{size_at}}
 use Rattle.hc_exch.specs.{declared.exchanges.Exchanges.{Exchanges}, Exchanges.{table_of, Becomes}, Known.{with_piece, EndsBelow}}
 use Rattle.hc_text.specs.declared.memory.NoMemory.{NoMemory}

@@ -1,5 +1,5 @@
 use Rattle.std.{proofs.Common.{nat_eq, refl, ◌∙◌}, specs.HashMap.{get}}
-use Rattle.hc_event.specs.declared.act.Cause.TheVariants as cause
+use Rattle.hc_effects.proofs.Vocabulary.{cause}
 use Rattle.hc_state.specs.Leaving.{LeavesPlace}
 use Rattle.hc_on_body.proofs.BreakHandler.{stands_broken}
 use Rattle.hc_state.proofs.Words.{there}

@@ -1,6 +1,5 @@
 use Rattle.std.proofs.Common.{◌≡◌, ◌⊎◌, inl, Some, sym, ◌∙◌, subst}
-use Rattle.hc_effects.proofs.Vocabulary.{act_list, promised_bytes}
-use Rattle.hc_event.specs.declared.act.Cause.TheVariants as cause
+use Rattle.hc_effects.proofs.Vocabulary.{act_list, promised_bytes, cause}
 use Rattle.hc_stored.specs.Entries.{shelf_of}
 use Rattle.hc_effects.proofs.StopFrames.{end_of}
 use Rattle.hc_state.specs.Stopped.{BrokeOff}

@@ -1,7 +1,5 @@
 use Rattle.std.{proofs.Common.{◌<◌, ℕ, [], ◌∷◌, ◌++◌, Some, nat_eq, ap, sym, ◌∙◌, subst}, specs.{Prelude.{IsSomeAnd}, HashMap.{get}}}
-use Rattle.hc_effects.proofs.Vocabulary.{act_list, back_in_line, with_consumer}
-use Rattle.hc_event.specs.declared.act.Act.TheVariants as act
-use Rattle.hc_event.specs.declared.act.LostKind.TheVariants as kind
+use Rattle.hc_effects.proofs.Vocabulary.{act_list, back_in_line, with_consumer, act, kind}
 use Rattle.hc_stored.specs.Entries.{shelf_of}
 use Rattle.hc_state.specs.{Handlers.{IsInKey}, Stands.{RowsStand}}
 use Rattle.hc_on_leave.proofs.{HeardRows.{asker_of, asked_by}, LoseTurn.{v, there, kept, heard, heard_stands, quiet, may_lose, unwritten, alone_answered, written_answered}}

@@ -1,6 +1,5 @@
 use Rattle.std.proofs.Common.{None, refl}
-use Rattle.hc_effects.proofs.Vocabulary.{act_list, awaited_and}
-use Rattle.hc_event.specs.declared.event.Event.TheVariants as event
+use Rattle.hc_effects.proofs.Vocabulary.{act_list, awaited_and, event}
 use Rattle.hc_stored.specs.Entries.{shelf_of}
 use Rattle.hc_effects.proofs.DoomEffects.{doom_does}
 use Rattle.hc_state.proofs.{Answering.{does_answered}, Counting.{stands_counted}}

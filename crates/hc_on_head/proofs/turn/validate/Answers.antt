@@ -6,9 +6,7 @@
 -- from rows that stay. At a fault the rows stay too, and `lose_asked` answers.
 use Rattle.std.{proofs.Common.{◌≡◌, ℕ, true, false, Some, Ok, Err, refl, ap, sym, ◌∙◌, subst}, specs.Prelude.{is_some}}
 use Rattle.hc_text.proofs.Basics.{none_or as none_is}
-use Rattle.hc_effects.proofs.Vocabulary.{act_list, head_view, with_consumer, with_representation, with_refreshed_head}
-use Rattle.hc_event.specs.declared.event.Event.TheVariants as event
-use Rattle.hc_rules.specs.declared.heads.HeadCase.TheVariants as case
+use Rattle.hc_effects.proofs.Vocabulary.{act_list, head_view, with_consumer, with_representation, with_refreshed_head, event, case}
 use Rattle.hc_stored.specs.Entries.{shelf_of}
 use Rattle.hc_entry.specs.Keys.{kept_of}
 use Rattle.hc_event.specs.declared.place.Place.TheVariants as place

@@ -1,6 +1,5 @@
 use Rattle.std.proofs.Common.{ℕ, Some, sym, subst}
-use Rattle.hc_effects.proofs.Vocabulary.{act_list, with_consumer}
-use Rattle.hc_event.specs.declared.act.Cause.TheVariants as cause
+use Rattle.hc_effects.proofs.Vocabulary.{act_list, with_consumer, cause}
 use Rattle.hc_event.specs.declared.place.Place.TheVariants as place
 use Rattle.hc_state.specs.Stands.{RowsStand}
 use Rattle.hc_on_leave.proofs.{HeardRows.{asker_of, asked_by}, UnstoredHandlers.{put_down_answered}}

@@ -1,5 +1,5 @@
 use Rattle.std.proofs.Common.{ℕ, List, refl, subst}
-use Rattle.hc_event.specs.declared.act.Cause.TheVariants as cause
+use Rattle.hc_effects.proofs.Vocabulary.{cause}
 use Rattle.hc_stored.specs.Kept.{itself}
 use Rattle.hc_sorted.specs.Sorted.{has}
 use Rattle.hc_state.specs.DetachedReaders.{ChangesEach, after_parting}

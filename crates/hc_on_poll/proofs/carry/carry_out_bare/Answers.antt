@@ -1,8 +1,6 @@
 use Rattle.std.proofs.Common.{inl, inr, ap, sym, ◌∙◌}
 use Rattle.hc_text.proofs.Basics.{false_true}
-use Rattle.hc_effects.proofs.Vocabulary.{act_list}
-use Rattle.hc_event.specs.declared.act.Need.TheVariants as needs
-use Rattle.hc_rules.specs.declared.plan.Plan.TheVariants as plan
+use Rattle.hc_effects.proofs.Vocabulary.{act_list, need as needs, plan}
 use Rattle.hc_on_poll.proofs.PlanHandlers.{past_route, fetch_route, planned_asks, may_leave_line, may_queue, plan_same, direct_answers, turn_answers, fetch_answers, miss_answers, bare_validates, is_bare, bare_uses}
 use Rattle.hc_on_poll.proofs.carry.carry_out_bare.Goals as goal
 use Rattle.hc_state.proofs.Words.{ok_then}

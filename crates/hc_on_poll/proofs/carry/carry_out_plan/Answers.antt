@@ -5,9 +5,7 @@
 -- called function answers is what the move of that plan owes. Each answer is one lemma `.._answers`, with the contract
 -- of the call; calls that may lack memory are read only where they succeed.
 use Rattle.std.proofs.Common.{◌≡◌, ap, ◌∙◌}
-use Rattle.hc_effects.proofs.Vocabulary.{act_list}
-use Rattle.hc_event.specs.declared.act.Need.TheVariants as needs
-use Rattle.hc_rules.specs.declared.plan.Plan.TheVariants as plan
+use Rattle.hc_effects.proofs.Vocabulary.{act_list, need as needs, plan}
 use Rattle.hc_state.specs.Plans.{IsIdle}
 use Rattle.hc_on_poll.proofs.{PlanHandlers.{planned_asks, planned_past, planned_route, may_leave_line, may_queue, may_pass, current_admits, plan_same, direct_answers, turn_answers, fetch_answers, validate_answers, busy_answers, bind_answers, miss_answers}, PartPlans.{filling_passes, filling_hole, filling_alone, filling_answers, part_there}, Polled.{limits_there}}
 use Rattle.hc_on_poll.proofs.carry.carry_out_plan.Goals as goal

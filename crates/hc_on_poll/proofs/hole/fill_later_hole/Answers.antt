@@ -1,7 +1,6 @@
 use Rattle.std.{proofs.Common.{◌≡◌, refl, subst, nat_eq}, specs.{Prelude.{unwrap_or}, HashMap.{get}}}
 use Rattle.hc_text.proofs.Basics.{same_some as same_row}
-use Rattle.hc_effects.proofs.Vocabulary.{act_list, Opens, hole_request, move_of}
-use Rattle.hc_event.specs.declared.act.Need.TheVariants as need
+use Rattle.hc_effects.proofs.Vocabulary.{act_list, Opens, hole_request, move_of, need}
 use Rattle.hc_record.specs.Plain.{plain}
 use Rattle.hc_exch.specs.Exchanges.{next_of}
 use Rattle.hc_model.specs.Rows as rows

@@ -1,6 +1,5 @@
 use Rattle.std.{proofs.Common.{ℕ, List, Some, refl, nat_eq, ap, sym, ◌∙◌, subst}, specs.{Prelude.{unwrap_or}, HashMap.{get}}}
-use Rattle.hc_effects.proofs.Vocabulary.{act_list, Request, Opens, hole_request}
-use Rattle.hc_event.specs.declared.act.Need.TheVariants as need
+use Rattle.hc_effects.proofs.Vocabulary.{act_list, Request, Opens, hole_request, need}
 use Rattle.hc_record.specs.Plain.{plain}
 use Rattle.hc_entry.specs.Keys as keys
 use Rattle.hc_entry.specs.{Kept.{on_line}, Lines.{gone_away}}

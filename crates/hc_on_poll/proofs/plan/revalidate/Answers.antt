@@ -1,6 +1,5 @@
 use Rattle.std.{proofs.Common.{◌≡◌, nat_eq, refl}, specs.HashMap.{get}}
-use Rattle.hc_effects.proofs.Vocabulary.{act_list}
-use Rattle.hc_event.specs.declared.act.Need.TheVariants as needs
+use Rattle.hc_effects.proofs.Vocabulary.{act_list, need as needs}
 use Rattle.hc_record.specs.Plain.{plain}
 use Rattle.hc_validate.specs.Conditions.{conditional}
 use Rattle.hc_state.proofs.Maps.{lent, some_that}

@@ -1,6 +1,5 @@
 use Rattle.std.{proofs.{Common.{sym, ◌∙◌, arith, nat_eq}, Math.Logic.{∥∥₁_map}}, specs.HashMap.{get}}
-use Rattle.hc_effects.proofs.Vocabulary.{act_list}
-use Rattle.hc_event.specs.declared.event.Event.TheVariants as event
+use Rattle.hc_effects.proofs.Vocabulary.{act_list, event}
 use Rattle.hc_stored.specs.Entries.{shelf_of}
 use Rattle.hc_state.specs.Reads.{IsShownAt}
 use Rattle.hc_on_poll.proofs.{BoundMisread.{misread_after, answers_after, reads_after}, BoundReads.{head_move}, PlanHandlers.{fault_only}, ReadOn.{row_of, kept, offset_fits}, WaitHandlers.{head_waits}}

@@ -1,6 +1,5 @@
 use Rattle.std.{proofs.{Common.{◌≡◌, ◌+◌, ◌<◌, ◌≤◌, ◌^◌, ◌++◌, [], ◌∷◌, ℕ, Option, Some, None, refl, ap, sym, ◌∙◌, arith, nat_eq}, lemmas.Grind.{not_there}}, specs.{Prelude.{IsSomeAnd}, Option.{option_or}, HashMap.{get}}}
-use Rattle.hc_effects.proofs.Vocabulary.{act_list, Why}
-use Rattle.hc_event.specs.declared.act.Act.TheVariants as act
+use Rattle.hc_effects.proofs.Vocabulary.{act_list, Why, act}
 use Rattle.hc_range.specs.{declared.range.Span.{Span}, Spans.{IsWithin}}
 use Rattle.hc_record.specs.Plain.{plain}
 use Rattle.hc_state.specs.Reads.{IsUnshownBy}

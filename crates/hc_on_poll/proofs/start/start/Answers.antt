@@ -1,6 +1,5 @@
 use Rattle.std.{proofs.{Common.{Bool, false, None, refl, ap, sym, ◌∙◌, subst}, lemmas.List.{append-nil}}, specs.Prelude.{◌&&◌, not}}
-use Rattle.hc_event.specs.declared.event.Event.TheVariants as event
-use Rattle.hc_effects.proofs.Vocabulary.{RequestClass}
+use Rattle.hc_effects.proofs.Vocabulary.{event, RequestClass}
 use Rattle.hc_stored.specs.Entries.{shelf_of}
 use Rattle.hc_event.specs.declared.place.Place.TheVariants as place
 use Rattle.hc_effects.proofs.StartEffects.{starts}

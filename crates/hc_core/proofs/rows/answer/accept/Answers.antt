@@ -1,6 +1,5 @@
 use Rattle.std.proofs.{Common.{◌≡◌, ◌<◌, ◌≤◌, ◌-◌, ◌^◌, ap, ◌∙◌, length, arith}, Math.Logic.{∥∥₁_map}}
-use Rattle.hc_event.specs.declared.event.Event.TheVariants as event
-use Rattle.hc_effects.proofs.Vocabulary.{piece_refusal}
+use Rattle.hc_effects.proofs.Vocabulary.{event, piece_refusal}
 use Rattle.hc_state.specs.Stands.{gate_of, open_at}
 use Rattle.hc_on_poll.proofs.Accepted.{start_ascends, poll_lives, poll_wants, cancel_lives, head_free, piece_free, end_free, fault_free}
 use Rattle.hc_state.proofs.Kept.{few_kept}

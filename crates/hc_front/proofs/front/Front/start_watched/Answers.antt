@@ -1,6 +1,5 @@
 use Rattle.std.{proofs.Common.{refl, sym, ap, ◌∙◌, subst}, specs.Prelude.{Some}}
-use Rattle.hc_effects.proofs.Vocabulary.{act_list, is_denied, IsEventWithinLimits, Request}
-use Rattle.hc_event.specs.declared.event.Event.TheVariants as event
+use Rattle.hc_effects.proofs.Vocabulary.{act_list, is_denied, IsEventWithinLimits, Request, event}
 use Rattle.hc_core.specs.Steps as core
 use Rattle.hc_front.specs.Watching.{ChangesAt, newly}
 use Rattle.hc_front.proofs.FrontPaths.{on_err_by, truncated, none_more, behind_all, without_within, has_denied, has_watched}

@@ -1,5 +1,5 @@
 use Rattle.std.proofs.Common.{rules, refl}
-use Rattle.hc_event.specs.declared.act.Act.TheVariants as act
+use Rattle.hc_effects.proofs.Vocabulary.{act}
 use Rattle.hc_proxy.proofs.{Dialings.{any_not_there, any_fresh, any_target, opens_goes}, Carryings.{stays_on, fails_before, fails_opening, answer_goes, ask_goes, told_of, cause_none}, Hangings.{close_goes}}
 use Rattle.hc_proxy.proofs.proxy.Proxy.carry_out_one.Goals as goal
 use Rattle.hc_peers.proofs.Outcomes.{err-map, ok-map}

@@ -1,6 +1,5 @@
 use Rattle.std.{proofs.{Common.{◌≡◌, List, [], ◌∷◌, refl, ap, ◌∙◌, drop}, lemmas.List.{take_rest}}, specs.List.{list_any}}
-use Rattle.hc_effects.proofs.Vocabulary.{act_list, Act}
-use Rattle.hc_event.specs.declared.act.Act.TheVariants as act
+use Rattle.hc_effects.proofs.Vocabulary.{act_list, Act, act}
 use Rattle.hc_proxy.specs.Waiting.{pends, pends_alone}
 use Rattle.hc_proxy.proofs.proxy.Proxy.pends.Goals as goal
 

@@ -4,7 +4,7 @@ use Rattle.hc_text.proofs.Basics.{not_some as none_some, same_some as same_row}
 use Rattle.hc_effects.proofs.Vocabulary.{Event, Response, Limits, BoundBy, consumer_heard, denial, Entry, is_open, family, Flaw, entry_of, Owners, IsAwaiting, Awaits, own_open, if_open, Tables, Exchange, Consumer, may_stand, Sound, IsBound, IsAbout, after_accepted, event, place}
 use Rattle.hc_model.specs.Owners as owners
 use Rattle.hc_model.specs.Sound as sound
-use Rattle.hc_effects.proofs.{Basics.{false_true}, ExchangeFrom.{ExchangeFrom, IsSame, IsHeaded, exchange_from}, FirstKeeps.{is_new}, HeadedAs.{HeadedAs, headed_as, heard_at}, OpensFrom.{hole_is}, OwnFrom.{OwnFrom, IsRow, IsLeft, own_from}, OwnersKeep.{new_number, one_kept, left_writing}, ReadingKeeps.{reader_stays, head_some, unpolled, left_body}, WaitingKeeps.{waiting_kept}}
+use Rattle.hc_effects.proofs.{Basics.{false_true}, ExchangeFrom.{ExchangeFrom, IsSame, IsHeaded, exchange_from}, FirstKeeps.{is_new}, HeadedAs.{HeadedAs, headed_as, heard_at}, OpensFrom.{hole_is}, OwnFrom.{OwnFrom, IsRow, IsLeft, own_from}, OwnersKeep.{new_number, one_kept, left_writing}, ReadingKeeps.{reader_stays, head_some, unpolled, left_body}, WaitingKeeps.{waiting_kept}, Step.{Step}}
 use Rattle.hc_effects.proofs.BoundFrom as from
 use Rattle.hc_effects.proofs.ExchangeFrom as exchange
 use Rattle.hc_effects.proofs.HeadedAs as head
@@ -27,7 +27,9 @@ own_open_of t k x h = own_by t k x k.own refl h
 pub own_open_is : (t : Tables) (k : Consumer) (x : ℕ) → IsOwn t k x → own_open t k ≡ Some x
 own_open_is t k x is = ap (option_and_then (if_open t)) is.own ∙ ap (λ (v : Bool). if v then Some x else None) (ap is_open is.row ∙ is.opened)
 
-module _ (limits : Limits) (t : Tables) (now : ℕ) (flaw : Flaw) (s : Sound t) (o : Owners t) (ev : Event) (goes : denial t ev ≡ None) where
+module _ (step : Step) where
+  open step use {limits, tables as t, now, flaw, sound as s, owners as o, event as ev, accepted as goes}
+
   abbrev e : Entry
   e = entry_of limits t now ev flaw
 
@@ -46,7 +48,7 @@ module _ (limits : Limits) (t : Tables) (now : ℕ) (flaw : Flaw) (s : Sound t) 
 
     by_waiting : is.w.head ≡ None → Awaits now_on x is.w → IsAbout now_on r x
     by_waiting bare a =
-        let mine : is.w.c ≡ c = one_kept limits t now flaw s o ev goes is.w.c c x a.k u a.row row a.own is.own in
+        let mine : is.w.c ≡ c = one_kept step is.w.c c x a.k u a.row row a.own is.own in
         asking a.k (same_row (now_on.consumer c) a.k u (sym (ap now_on.consumer mine) ∙ a.row) row) bare a.at
 
     -- WHERE IT HAS COME
@@ -65,7 +67,7 @@ module _ (limits : Limits) (t : Tables) (now : ℕ) (flaw : Flaw) (s : Sound t) 
       was_about w is_row had joined (sound.headed q row on some fam is_there) = still w joined (ap (family x) (same_row (t.exchange x) w q is_row row) ∙ fam) is_there
       was_about w is_row had joined (sound.asks q a z row on bare needs aim) = absurd (false_true (sym (ap (λ (p : Option Response). is_some p) bare) ∙ (ap (λ (p : Exchange). is_some p.head) (same_row (t.exchange x) q w row is_row) ∙ had)))
 
-      by_head : (k : Consumer) (w : Exchange) (response : Response) → ev ≡ event.Head x response → t.exchange x ≡ Some w → HeadedAs limits t now flaw s o ev goes x response w k.place u.place is.w → IsAbout now_on r x
+      by_head : (k : Consumer) (w : Exchange) (response : Response) → ev ≡ event.Head x response → t.exchange x ≡ Some w → HeadedAs step x response w k.place u.place is.w → IsAbout now_on r x
       by_head k w response here is_row (head.direct at) = absurd (let no : place.Direct x ≡ place.Bound r lo hi how = sym at ∙ stands in cc)
       by_head k w response here is_row (head.founds l h g at on joined) =
           let p = from.place_inj x l h g r lo hi how (sym at ∙ stands) in
@@ -80,18 +82,18 @@ module _ (limits : Limits) (t : Tables) (now : ℕ) (flaw : Flaw) (s : Sound t) 
         where
           by_heard : ((is.w.head ≡ w.head) × (is.w.joined ≡ w.joined)) ⊎ IsHeaded t e x w is.w → IsAbout now_on r x
           by_heard (inl all) =
-              let had = head_some limits t now flaw s o ev goes w is.w all.0 headed in
+              let had = head_some step w is.w all.0 headed in
               let reading = o.reading c x k w rows.row mine is_row (same.was_open is.opened) had in
-              let stays : u.place ≡ k.place = reader_stays limits t now flaw s o ev goes c x k u w is.w rows mine is.own is_row had is.row same is.opened reading in
+              let stays : u.place ≡ k.place = reader_stays step c x k u w is.w rows mine is.own is_row had is.row same is.opened reading in
               let was : IsBound t r c k = sound.is_bound lo hi how rows.row (sym stays ∙ stands) in
               was_about w is_row had all.1 (s.writes.own_about r c x k was (own_open_is t k x (record { own = mine; w = w; row = is_row; opened = same.was_open is.opened })))
-          by_heard (inr got) = by_head k w got.response got.at is_row (headed_as limits t now flaw s o ev goes c x k u w is.w got.response got.at rows mine is_row is.row same is.opened)
+          by_heard (inr got) = by_head k w got.response got.at is_row (headed_as step c x k u w is.w got.response got.at rows mine is_row is.row same is.opened)
 
       left_about : (k : Consumer) → IsRow t e c x k u → (l : IsLeft t e c x (consumer_heard t e c ev k).place) → ExchangeFrom t e x is.w → IsAbout now_on r x
-      left_about k rows l (exchange.new p none opens here made) = absurd (none_some _ (sym none ∙ (left_writing limits t now flaw s o ev goes c x _ l).exchange_row))
+      left_about k rows l (exchange.new p none opens here made) = absurd (none_some _ (sym none ∙ (left_writing step c x _ l).exchange_row))
       left_about k rows l (exchange.was w is_row same) =
-          let writing = left_writing limits t now flaw s o ev goes c x _ l in
-          let at : u.place ≡ place.Bound l.r l.lo l.hi l.how = heard_at limits t now flaw s o ev goes c x k u (λ d want polls. unpolled limits t now flaw s o ev goes d want polls (left_body limits t now flaw s o ev goes c x _ l)) rows ∙ l.at in
+          let writing = left_writing step c x _ l in
+          let at : u.place ≡ place.Bound l.r l.lo l.hi l.how = heard_at step c x k u (λ d want polls. unpolled step d want polls (left_body step c x _ l)) rows ∙ l.at in
           let p = from.place_inj l.r l.lo l.hi l.how r lo hi how (sym at ∙ stands) in
           let one : writing.w ≡ w = same_row (t.exchange x) writing.w w writing.exchange_row is_row in
           by_heard writing.headed one (ap (family x) (sym one) ∙ (writing.family_is ∙ p.number)) (ap (λ n. is_some (t.representation n)) (sym p.number) ∙ ap is_some writing.row) same.heard_or
@@ -105,12 +107,12 @@ module _ (limits : Limits) (t : Tables) (now : ℕ) (flaw : Flaw) (s : Sound t) 
       by_from : ExchangeFrom t e x is.w → OwnFrom t e c x u → IsAbout now_on r x
       by_from (exchange.was w is_row same) (own.kept k rows mine heard) = kept_about k w rows mine is_row same
       by_from (exchange.new p none opens here made) (own.kept k rows mine heard) = absurd (false_true (ap is_some (sym none) ∙ o.there c x k rows.row mine))
-      by_from (exchange.was w is_row same) (own.opened k p rows opens here this) = absurd (none_some w (sym (new_number limits t now flaw s o ev goes p x opens this) ∙ is_row))
+      by_from (exchange.was w is_row same) (own.opened k p rows opens here this) = absurd (none_some w (sym (new_number step p x opens this) ∙ is_row))
       by_from (exchange.new q none opens here made) (own.opened k p rows also mine this) = absurd (false_true (ap (λ (a : Exchange). is_some a.head) made ∙ headed))
       by_from exchange_is (own.left k rows l) = left_about k rows l exchange_is
 
     by_test : may_stand limits t e ≡ true → (z : Option Response) → is.w.head ≡ z → IsAbout now_on r x
-    by_test stand None bare = by_waiting bare (waiting_kept limits t now flaw s o ev goes stand x is.w is.row is.opened bare)
+    by_test stand None bare = by_waiting bare (waiting_kept step stand x is.w is.row is.opened bare)
     by_test stand (Some response) some = by_from (ap (λ (z : Option Response). is_some z) some) (exchange_from t e x (t.exchange x) is.w refl is.row) (own_from t e c x (t.consumer c) u refl row is.own)
 
   -- Whose open exchange it is, and who is bound, is bound to what that is about.

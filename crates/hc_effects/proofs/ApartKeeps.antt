@@ -2,7 +2,7 @@
 use Rattle.std.{proofs.{Common.{◌≡◌, inl, inr, ℕ, Bool, true, false, Option, Some, None, refl, ap, sym, ◌∙◌, subst, arith}, lemmas.Bool.Decides.{nat_tests}}, specs.Prelude.{is_some, ◌&&◌, ◌||◌, ◌==◌, not, nat_eq}}
 use Rattle.hc_text.proofs.Basics.{both_true as both, and_left, and_right, not_some as none_some, not_true, same_some as same_row, some_inj}
 use Rattle.hc_effects.proofs.Vocabulary.{Event, Response, HeadCase, Limits, has_loss, loses_in, case_at, head_view, is_founding, is_joining, consumer_heard, by_head, becomes_shared, is_resumed, is_number, row_of, denial, Entry, family, is_open, Flaw, entry_of, Owners, is_written, is_open_writer, resumes, writer_at, Tables, Exchange, Representation, Consumer, may_stand, Sound, after_accepted, event, case}
-use Rattle.hc_effects.proofs.{Basics.{false_true, or_false, number_is}, ExchangeFrom.{ExchangeFrom, exchange_from}, FirstKeeps.{case_of_head, is_new}, FoundBy.{CaseBy}, LossStands.{no_loss}, OwnFrom.{OwnFrom, own_from}, OwnersKeep.{is_opened, left_writing, new_number}, RepFrom.{RepFrom, rep_from, IsKept, IsResumed}}
+use Rattle.hc_effects.proofs.{Basics.{false_true, or_false, number_is}, ExchangeFrom.{ExchangeFrom, exchange_from}, FirstKeeps.{case_of_head, is_new}, FoundBy.{CaseBy}, LossStands.{no_loss}, OwnFrom.{OwnFrom, own_from}, OwnersKeep.{is_opened, left_writing, new_number}, RepFrom.{RepFrom, rep_from, IsKept, IsResumed}, Step.{Step}}
 use Rattle.hc_effects.proofs.ExchangeFrom as exchange
 use Rattle.hc_effects.proofs.FoundBy as cases
 use Rattle.hc_effects.proofs.OwnFrom as own
@@ -21,7 +21,9 @@ pub written_by : (t : Tables) (v : Representation) (x : ℕ) → v.is_lost ≡ f
 unfolding is_written
 written_by t v x kept writer on = both (not v.is_lost) (is_open_writer t v.writer) (ap not kept) (ap (is_open_writer t) writer ∙ on)
 
-module _ (limits : Limits) (t : Tables) (now : ℕ) (flaw : Flaw) (s : Sound t) (o : Owners t) (ev : Event) (goes : denial t ev ≡ None) (stand : may_stand limits t (entry_of limits t now ev flaw) ≡ true) where
+module _ (step : Step) (stand : may_stand step.limits step.tables (entry_of step.limits step.tables step.now step.event step.flaw) ≡ true) where
+  open step use {limits, tables as t, now, flaw, sound as s, owners as o, event as ev, accepted as goes}
+
   abbrev e : Entry
   e = entry_of limits t now ev flaw
 
@@ -48,12 +50,12 @@ module _ (limits : Limits) (t : Tables) (now : ℕ) (flaw : Flaw) (s : Sound t) 
   from_was : (r c x : ℕ) (v : Representation) (u : Consumer) → t.representation r ≡ Some v → is_written t v ≡ true → v.writer ≡ Some x → loses_in r e.acts ≡ false → OwnFrom t e c x u → ⊥
   from_was r c x v u row on writer kept (own.kept k is before heard) = o.apart r x c v k row on writer is.row before
   from_was r c x v u row on writer kept (own.opened k p is opens here this) =
-      none_some_exchange (new_number limits t now flaw s o ev goes p x opens this) (o.writers r x v row writer)
+      none_some_exchange (new_number step p x opens this) (o.writers r x v row writer)
     where
       none_some_exchange : t.exchange x ≡ None → is_some (t.exchange x) ≡ true → ⊥
       none_some_exchange none there = false_true (sym (ap (λ (q : Option Exchange). is_some q) none) ∙ there)
   from_was r c x v u row on writer kept (own.left k is l) =
-      let a = left_writing limits t now flaw s o ev goes c x _ l in
+      let a = left_writing step c x _ l in
       let grows = (s.rows r v row).growing x on writer in
       let g = grows.1 in
       let one : a.w ≡ grows.0 = same_row (t.exchange x) a.w grows.0 a.exchange_row g.row in
@@ -66,10 +68,10 @@ module _ (limits : Limits) (t : Tables) (now : ℕ) (flaw : Flaw) (s : Sound t) 
   own_before : (x c : ℕ) (response : Response) (w : Exchange) (u : Consumer) → ev ≡ event.Head x response → t.exchange x ≡ Some w → w.head ≡ None → OwnFrom t e c x u → (k : Consumer) × (t.consumer c ≡ Some k) × (k.own ≡ Some x) × ((consumer_heard t e c ev k).own ≡ Some x)
   own_before x c response w u here row bare (own.kept k is before heard) = (k, is.row, before, heard)
   own_before x c response w u here row bare (own.opened k p is opens mine this) =
-      absurd (let polls = (is_opened limits t now flaw s o ev goes p opens) in let no : event.Head x response ≡ event.Poll p.c polls.want = sym here ∙ polls.at in cc)
+      absurd (let polls = (is_opened step p opens) in let no : event.Head x response ≡ event.Poll p.c polls.want = sym here ∙ polls.at in cc)
   own_before x c response w u here row bare (own.left k is l) =
       absurd (
-      let a = left_writing limits t now flaw s o ev goes c x _ l in
+      let a = left_writing step c x _ l in
       let one : a.w ≡ w = same_row (t.exchange x) a.w w a.exchange_row row in
       false_true (sym (ap (λ (q : Option Response). is_some q) (ap (λ (z : Exchange). z.head) one ∙ bare)) ∙ a.headed))
 

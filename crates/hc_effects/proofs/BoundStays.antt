@@ -2,7 +2,7 @@
 use Rattle.std.{proofs.{Common.{◌≡◌, inl, inr, ℕ, Bool, true, false, Option, Some, None, refl, ap, sym, ◌∙◌, arith}, lemmas.Bool.Decides.{nat_tests}}, specs.Prelude.{if◌then◌else◌, is_none, ◌&&◌, ◌==◌, not, nat_eq}}
 use Rattle.hc_text.proofs.Basics.{and_left, and_right, bool_cases, not_some as none_some, same_some as same_row}
 use Rattle.hc_effects.proofs.Vocabulary.{Opening, opening_in, leaves_in, Event, Response, Wait, Limits, Place, BoundBy, Showing, showing_in, wait_in, case_of, consumer_heard, consumer_acted, by_head, by_fault, by_opening, shown_place, waiting, due_after, denial, Entry, exchange_at, is_for, is_headless, Flaw, entry_of, Owners, bound_to, Tables, Exchange, Consumer, Sound, starts_over, waits_at, sends_back, loses_what_it_waits_for, after_accepted, event, place, by}
-use Rattle.hc_effects.proofs.{Basics.{false_true}, FirstKeeps.{is_new}, Forward.{is_kept}, PieceKeeps.{eq_cases}, Said.{waiting_by}, WaitedAs.{IsForOthers, waited_as}, Waiters.{fault_open_of}, StaysOn.{settled, stays_by, waits_where}}
+use Rattle.hc_effects.proofs.{Basics.{false_true}, FirstKeeps.{is_new}, Forward.{is_kept}, PieceKeeps.{eq_cases}, Said.{waiting_by}, WaitedAs.{IsForOthers, waited_as}, Waiters.{fault_open_of}, StaysOn.{settled, stays_by, waits_where}, Step.{Step}}
 
 pub none_of : (q : Option Response) → is_none q ≡ true → q ≡ None
 none_of q g = grind (arith, nat_tests)
@@ -11,7 +11,9 @@ pub headless_parts : (z : Option Exchange) → is_headless z ≡ true → (w : E
 headless_parts None h = absurd (false_true h)
 headless_parts (Some w) h = (w, refl, and_left _ _ h, none_of w.head (and_right w.is_open _ h))
 
-module _ (limits : Limits) (t : Tables) (now : ℕ) (flaw : Flaw) (s : Sound t) (o : Owners t) (ev : Event) (goes : denial t ev ≡ None) where
+module _ (step : Step) where
+  open step use {limits, tables as t, now, flaw, sound as s, owners as o, event as ev, accepted as goes}
+
   abbrev e : Entry
   e = entry_of limits t now ev flaw
 
@@ -37,7 +39,7 @@ module _ (limits : Limits) (t : Tables) (now : ℕ) (flaw : Flaw) (s : Sound t) 
         of_it w exchange_row mine none =
             let test : nat_eq w.c c ≡ true = mine in
             let same : w.c ≡ c = grind (arith, nat_tests) in
-            no_waiter x w exchange_row (fault_open_of limits t now flaw s o ev goes x w (sym (ap (denial t) here) ∙ goes) exchange_row) (none_of w.head none) same
+            no_waiter x w exchange_row (fault_open_of step x w (sym (ap (denial t) here) ∙ goes) exchange_row) (none_of w.head none) same
 
         by_row : (z : Option Exchange) → t.exchange x ≡ z → by_fault c x z k ≡ k
         by_row None exchange_row = refl

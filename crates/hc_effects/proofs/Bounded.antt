@@ -4,7 +4,7 @@ use Rattle.hc_text.proofs.Basics.{not_some as none_some, or_off_right as or_fals
 use Rattle.hc_range.specs.{Spans.{resolved_span, IsInOrder}, declared.range.{Asked.{Asked, TheVariants.{From, Last}}, Span.{Span}}}
 use Rattle.hc_effects.proofs.Vocabulary.{opening_in, given_in, shows_in, Event, Request, Response, HeadCase, Limits, asked_in, spec_in, positions_from, positions_by, from_to, number_of, split_at, hyphen, range_of, ranges_read, ranges_in, wanted_of, wanted_part, is_disabled, BoundBy, Showing, showing_in, case_at, consumer_heard, consumer_acted, consumer_made, consumer_after, by_opening, waiting, denial, Entry, Contents, promised_bytes, promise_of, Flaw, entry_of, Gives, Owners, move_of, reads, lo_of, hi_of, Tables, Exchange, Consumer, Sound, starts_over, first_tables, after_accepted, after_denied, event, wanted, place}
 use Rattle.hc_rules.specs.Refusals as refusals
-use Rattle.hc_effects.proofs.{BoundFrom.{BoundFrom, IsRow, IsFounded, IsInterval, IsShown, bound_from}, BoundKeeps.{shown_place_is}, ConsumerFilters.{acted, given_by}, ExchangeFrom.{ExchangeFrom, IsHeaded, exchange_from}, Fills.{Brings, brings, length_same}, FirstKeeps.{is_new}, Forward.{is_kept}, GivenNext.{given_next}, Givers.{gives_of, some_want}, MoveBy.{move_by}, PollActs.{ToOne, to_one}, Said.{IsShowing, showing_by}, ShownFrom.{ShownAs, shown_from}, ShownStays.{IsFallback, StaysOrIdle, shown_stays}, TurnPlaces.{is_after}}
+use Rattle.hc_effects.proofs.{BoundFrom.{BoundFrom, IsRow, IsFounded, IsInterval, IsShown, bound_from}, BoundKeeps.{shown_place_is}, ConsumerFilters.{acted, given_by}, ExchangeFrom.{ExchangeFrom, IsHeaded, exchange_from}, Fills.{Brings, brings, length_same}, FirstKeeps.{is_new}, Forward.{is_kept}, GivenNext.{given_next}, Givers.{gives_of, some_want}, MoveBy.{move_by}, PollActs.{ToOne, to_one}, Said.{IsShowing, showing_by}, ShownFrom.{ShownAs, shown_from}, ShownStays.{IsFallback, StaysOrIdle, shown_stays}, TurnPlaces.{is_after}, Step.{Step}}
 use Rattle.hc_effects.proofs.BoundFrom as from
 use Rattle.hc_effects.proofs.ExchangeFrom as exchange
 use Rattle.hc_effects.proofs.Fills as fills_by
@@ -97,7 +97,9 @@ unfolding consumer_after
 new_given t e c None u none h = made_given c e.now e.event u h
 new_given t e c (Some k) u none h = absurd (let no : Some k ≡ None = none in cc)
 
-module _ (limits : Limits) (t : Tables) (now : ℕ) (flaw : Flaw) (s : Sound t) (o : Owners t) (ev : Event) (goes : denial t ev ≡ None) where
+module _ (step : Step) where
+  open step use {limits, tables as t, now, flaw, sound as s, event as ev, accepted as goes}
+
   abbrev e : Entry
   e = entry_of limits t now ev flaw
 
@@ -198,7 +200,7 @@ module _ (limits : Limits) (t : Tables) (now : ℕ) (flaw : Flaw) (s : Sound t) 
           let had : k.given ≡ 0 = b.fresh c k row off in
           let sum : u.given ≡ k.given + length (given_in c e.acts) = given_is c k u row after in
           omega arith
-      within_by c r lo hi how u true k row on after at proper = by_place (shown_stays limits t now flaw s o ev goes a c k row on u after)
+      within_by c r lo hi how u true k row on after at proper = by_place (shown_stays step a c k row on u after)
         where
           by_place : StaysOrIdle k.place u.place → lo + u.given ≤ hi
           by_place (stands.idle i) = absurd (subst stands.IsIdle at i)

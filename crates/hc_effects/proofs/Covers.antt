@@ -5,7 +5,7 @@ use Rattle.hc_sparse.specs.Cells.{Cells, Cell, Covers, cells_with}
 use Rattle.hc_sparse.proofs.CellLemmas.{inside-yes}
 use Rattle.hc_effects.proofs.Vocabulary.{Opening, opening_in, given_in, Need, Event, Response, Limits, BoundBy, consumer_heard, consumer_acted, denial, Entry, aim_from, base, front, family, Flaw, entry_of, Measures, Owners, bound, offset, lo_of, reads, hole_start, Tables, Exchange, Representation, Consumer, Sound, IsBound, IsAbout, IsExclusiveWriter, after_accepted, need, event, place}
 use Rattle.hc_model.specs.Sound as sound
-use Rattle.hc_effects.proofs.{AboutKeeps.{own_open_is}, Basics.{false_true}, Beside.{IsBeside, goes_on_at}, BoundFrom.{IsRow}, ConsumerFilters.{acted}, Dues.{due_before}, ExchangeFrom.{IsSame, IsHeaded}, Fills.{Fills, fills, Brings, brings}, FirstKeeps.{is_new, is_opener}, HeadTo.{front_within}, LossBy.{IsReal}, MeasuresKeep.{IsHeld, held, piece_taken}, OpensFrom.{IsHole, opens_hole}, ExclusiveWriters.{bound_some}, PollTree.{OpensHole}, RepFrom.{IsKept}, Stays.{bodies_are_kept}}
+use Rattle.hc_effects.proofs.{AboutKeeps.{own_open_is}, Basics.{false_true}, Beside.{IsBeside, goes_on_at}, BoundFrom.{IsRow}, ConsumerFilters.{acted}, Dues.{due_before}, ExchangeFrom.{IsSame, IsHeaded}, Fills.{Fills, fills, Brings, brings}, FirstKeeps.{is_new, is_opener}, HeadTo.{front_within}, LossBy.{IsReal}, MeasuresKeep.{IsHeld, held, piece_taken}, OpensFrom.{IsHole, opens_hole}, ExclusiveWriters.{bound_some}, PollTree.{OpensHole}, RepFrom.{IsKept}, Stays.{bodies_are_kept}, Step.{Step}}
 use Rattle.hc_effects.proofs.Fills as fills_by
 use Rattle.hc_effects.proofs.PollTree as tree
 
@@ -24,7 +24,9 @@ pub headed_at : (z : Exchange) (a : Option Response) → z.head ≡ a → is_som
 headed_at z None is there = absurd (false_true there)
 headed_at z (Some response) is there = ap (goes_on_at z) is
 
-module _ (limits : Limits) (t : Tables) (now : ℕ) (flaw : Flaw) (s : Sound t) (o : Owners t) (m : Measures t) (i : IsBeside t) (ev : Event) (goes : denial t ev ≡ None) (real : IsReal limits t now ev flaw) where
+module _ (step : Step) (m : Measures step.tables) (i : IsBeside step.tables) (real : IsReal step.limits step.tables step.now step.event step.flaw) where
+  open step use {limits, tables as t, now, flaw, sound as s, event as ev, accepted as goes}
+
   abbrev e : Entry
   e = entry_of limits t now ev flaw
 
@@ -65,7 +67,7 @@ module _ (limits : Limits) (t : Tables) (now : ℕ) (flaw : Flaw) (s : Sound t) 
       piece_body bytes here = by_fills (fills t e r v p kept)
         where
           taken : Rattle.hc_effects.proofs.Once.IsTaken w (length bytes)
-          taken = piece_taken limits t now flaw s o m ev goes x bytes w here exchange_row
+          taken = piece_taken step m x bytes w here exchange_row
 
           by_fills : Fills t e r v p → p.body ≡ cells_with (front w) x bytes v.body
           by_fills (fills_by.still none_of body_is stored_is reach_is) = absurd (none_of x bytes w (record { at = here; row = exchange_row; of_r = of_r taken.is_open taken.headed }))
@@ -90,7 +92,7 @@ module _ (limits : Limits) (t : Tables) (now : ℕ) (flaw : Flaw) (s : Sound t) 
           let was_at : goes_on_at w w.head ≡ hole_start w.need = bare_at w bare in
           further (goes_on_at z z.head) (omega arith)
 
-      by_brings : IsHeld limits t now flaw s o m ev goes x w z → is_some w.head ≡ true → Brings t e x w z → Covers p.body (offset now_on u) (front z)
+      by_brings : IsHeld step m x w z → is_some w.head ≡ true → Brings t e x w z → Covers p.body (offset now_on u) (front z)
       by_brings keeps headed (fills_by.still none_of body_is) d from_u lt =
           let first : base z ≡ base w = keeps.base_is in
           let count : length z.body ≡ length w.body = ap (λ (b : List ℕ). length b) body_is in
@@ -109,7 +111,7 @@ module _ (limits : Limits) (t : Tables) (now : ℕ) (flaw : Flaw) (s : Sound t) 
       still_headed : z.head ≡ w.head → z.joined ≡ w.joined → is_some w.head ≡ true → Covers p.body (offset now_on u) (goes_on_at z z.head)
       still_headed head_is joined_is headed =
           let there_now : is_some z.head ≡ true = ap (λ (a : Option Response). is_some a) head_is ∙ headed in
-          subst (Covers p.body (offset now_on u)) (sym (headed_at z z.head refl there_now)) (by_brings (held limits t now flaw s o m ev goes x w z same head_is joined_is) headed (brings t e x w z exchange_row after_x))
+          subst (Covers p.body (offset now_on u)) (sym (headed_at z z.head refl there_now)) (by_brings (held step m x w z same head_is joined_is) headed (brings t e x w z exchange_row after_x))
 
       still_by : z.head ≡ w.head → z.joined ≡ w.joined → (a : Option Response) → w.head ≡ a → Covers p.body (offset now_on u) (goes_on_at z z.head)
       still_by head_is joined_is None is = still_bare head_is is
@@ -119,7 +121,7 @@ module _ (limits : Limits) (t : Tables) (now : ℕ) (flaw : Flaw) (s : Sound t) 
       comes got =
           let bare = (is_new limits t now flaw s ev goes x got.response w got.at exchange_row).bare in
           let was_at : goes_on_at w w.head ≡ hole_start w.need = bare_at w bare in
-          let le : front z ≤ hole_start w.need = front_within limits t now flaw s o ev goes r c x lo hi how k u w z row at stands none own exchange_row same got in
+          let le : front z ≤ hole_start w.need = front_within step r c x lo hi how k u w z row at stands none own exchange_row same got in
           let now_at : goes_on_at z z.head ≡ front z = headed_at z (Some got.response) got.head_is refl in
           further (goes_on_at z z.head) (omega arith)
 

@@ -5,7 +5,7 @@ use Rattle.hc_range.specs.declared.range.{Asked.{Asked}, Span.{Span}}
 use Rattle.hc_effects.proofs.Vocabulary.{opening_in, Event, Response, HeadCase, Limits, range_of, wanted_of, BoundBy, Showing, showing_in, case_at, consumer_heard, by_opening, waiting, denial, Entry, promise_in, Flaw, founded_total, entry_of, Measures, Owners, move_of, reads, Tables, Exchange, Representation, Consumer, Sound, after_accepted, event, case, wanted, place}
 use Rattle.hc_model.specs.Measures.{EndsWithin}
 use Rattle.hc_model.specs.Sound as sound
-use Rattle.hc_effects.proofs.{Basics.{false_true}, BoundFrom.{BoundFrom, IsRow, IsInterval, IsShown, IsFounded, bound_from}, BoundKeeps.{shown_place_is}, FirstKeeps.{case_of_head, whole_200, replaced_200, is_new}, MeasuresKeep.{brings_kept, tight_kept, within_kept}, RepFrom.{RepFrom, rep_from, IsKept, IsEnded}, Said.{IsShowing, showing_by}, ShownFrom.{ShownAs, shown_from}}
+use Rattle.hc_effects.proofs.{Basics.{false_true}, BoundFrom.{BoundFrom, IsRow, IsInterval, IsShown, IsFounded, bound_from}, BoundKeeps.{shown_place_is}, FirstKeeps.{case_of_head, whole_200, replaced_200, is_new}, MeasuresKeep.{brings_kept, tight_kept, within_kept}, RepFrom.{RepFrom, rep_from, IsKept, IsEnded}, Said.{IsShowing, showing_by}, ShownFrom.{ShownAs, shown_from}, Step.{Step}}
 use Rattle.hc_effects.proofs.BoundFrom as from
 use Rattle.hc_effects.proofs.RepFrom as rep
 use Rattle.hc_effects.proofs.ShownFrom as shown_as
@@ -27,7 +27,9 @@ wanted_within range o span is = grind (arith, nat_tests)
 interval_within : (range : Option Asked) (o : Option ℕ) (lo hi : ℕ) → IsInterval (wanted_of range o) lo (Some hi) → IsSpanOf o hi
 interval_within range o lo hi i = grind (arith, nat_tests)
 
-module _ (limits : Limits) (t : Tables) (now : ℕ) (flaw : Flaw) (s : Sound t) (o : Owners t) (m : Measures t) (ev : Event) (goes : denial t ev ≡ None) where
+module _ (step : Step) (m : Measures step.tables) where
+  open step use {limits, tables as t, now, flaw, sound as s, event as ev, accepted as goes}
+
   abbrev e : Entry
   e = entry_of limits t now ev flaw
 
@@ -108,8 +110,8 @@ module _ (limits : Limits) (t : Tables) (now : ℕ) (flaw : Flaw) (s : Sound t) 
   -- Measures stay.
   pub measures_kept : Measures now_on
   measures_kept = record {
-    brings = λ x z u after on headed there. brings_kept limits t now flaw s o m ev goes x z u after on headed there;
-    tight = λ r n u row ends. tight_kept limits t now flaw s o m ev goes r n u row ends;
-    within = λ r total u row known. within_kept limits t now flaw s o m ev goes r total u row known;
+    brings = λ x z u after on headed there. brings_kept step m x z u after on headed there;
+    tight = λ r n u row ends. tight_kept step m r n u row ends;
+    within = λ r total u row known. within_kept step m r total u row known;
     ends = λ r c lo hi how u v row at there. ends_by r c lo hi how u v there (bound_from t e c r lo (Some hi) how (t.consumer c) u refl row at) (rep_from t e r (t.representation r) v refl there);
   }

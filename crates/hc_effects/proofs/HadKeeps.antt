@@ -4,7 +4,7 @@ use Rattle.hc_text.proofs.Basics.{both_true as and_both, and_left, and_right, bo
 use Rattle.hc_effects.proofs.Vocabulary.{Opening, opening_in, leaves_in, Event, Response, Limits, Member, least, lesser, route_of, stands_at, BoundBy, loses_in, has_loss, is_joining, is_left, is_left_by, has_no_survivor, leaver, leaver_by, consumer_heard, consumer_acted, by_opening, own_after, left_to, waiting, due_after, back_in_line, is_number, denial, Entry, aim_from, exchange_in, is_open, family, becomes_due, cause_of_stop, cause_of_loss, cause_by_loss, cause_of_head, stop_cause, Flaw, entry_of, Measures, Owners, IsAwaiting, move_of, is_written, bound, bound_to, own_open, reads, source, shared_exchange, Tables, Exchange, Representation, Consumer, Sound, Among, IsBound, IsAbout, IsHad, IsExclusiveWriter, IsFirst, starts_over, after_accepted, brings_body, came_alone, loses_writing, survivor, member, may_write, event, route, place}
 use Rattle.hc_model.specs.Owners as owners
 use Rattle.hc_model.specs.Sound as sound
-use Rattle.hc_effects.proofs.{AboutKeeps.{own_open_of, own_open_is}, ApartKeeps.{written_by, is_on}, Basics.{false_true, some_none, number_is, number_yes}, BoundStays.{Stays, bound_stays}, Closed.{before}, Dues.{undue_of, stop_none, loss_at, due_none}, ExchangeFrom.{IsSame}, FirstKeeps.{came_kept, case_is, is_new}, HasBound.{not_must, reader_of}, HeadKeeps.{is_join}, Losses.{exclusive_is}, LossBy.{IsReal, sealed_loss, seals_one, fresh}, OpensFrom.{opens_hole, hole_is}, OwnersKeep.{is_opened}, ExclusiveWriters.{writer_some, bound_some}, RepFrom.{RepFrom, rep_from, IsKept, IsResumed}, Said.{IsOpening, opening_by, leaving_by}, SaidActs.{leaves_leaver}, ServedKeeps.{lost_alone, kept_alone, over}, Stops.{writer_about}, WaitingKeeps.{stands, stays_on, unmet}, Waiters.{IsWaiter, waiter_of, unwritten, head_is_own, waits_undue}, WriterEnds.{loses_same}, StaysOn.{unopened}}
+use Rattle.hc_effects.proofs.{AboutKeeps.{own_open_of, own_open_is}, ApartKeeps.{written_by, is_on}, Basics.{false_true, some_none, number_is, number_yes}, BoundStays.{Stays, bound_stays}, Closed.{before}, Dues.{undue_of, stop_none, loss_at, due_none}, ExchangeFrom.{IsSame}, FirstKeeps.{came_kept, case_is, is_new}, HasBound.{not_must, reader_of}, HeadKeeps.{is_join}, Losses.{exclusive_is}, LossBy.{IsReal, sealed_loss, seals_one, fresh}, OpensFrom.{opens_hole, hole_is}, OwnersKeep.{is_opened}, ExclusiveWriters.{writer_some, bound_some}, RepFrom.{RepFrom, rep_from, IsKept, IsResumed}, Said.{IsOpening, opening_by, leaving_by}, SaidActs.{leaves_leaver}, ServedKeeps.{lost_alone, kept_alone, over}, Stops.{writer_about}, WaitingKeeps.{stands, stays_on, unmet}, Waiters.{IsWaiter, waiter_of, unwritten, head_is_own, waits_undue}, WriterEnds.{loses_same}, StaysOn.{unopened}, Step.{Step}}
 use Rattle.hc_effects.proofs.Forward as forward
 use Rattle.hc_effects.proofs.MemberStays as member
 use Rattle.hc_effects.proofs.OpenedAs as opened
@@ -32,7 +32,9 @@ among_members t end c (d ∷ ds) there = elim (bool_cases (stands_at end (member
 pub survivor_bound : (t : Tables) (r c : ℕ) (v : Representation) → survivor t r v ≡ Some c → Among c (bound t r)
 survivor_bound t r c v is = among_members t v.reach c (bound t r) (among_least _ c is)
 
-module _ (limits : Limits) (t : Tables) (now : ℕ) (flaw : Flaw) (s : Sound t) (o : Owners t) (m : Measures t) (ev : Event) (goes : denial t ev ≡ None) (real : IsReal limits t now ev flaw) where
+module _ (step : Step) (m : Measures step.tables) (real : IsReal step.limits step.tables step.now step.event step.flaw) where
+  open step use {limits, tables as t, now, flaw, sound as s, owners as o, event as ev, accepted as goes}
+
   abbrev e : Entry
   e = entry_of limits t now ev flaw
 
@@ -73,14 +75,14 @@ module _ (limits : Limits) (t : Tables) (now : ℕ) (flaw : Flaw) (s : Sound t) 
       where
         by_exclusive_writer : IsExclusiveWriter t r v c → IsExclusiveWriter now_on r p c
         by_exclusive_writer (sound.first new is) = elim (bool_cases (loses_in r e.acts)) [
-          | inr quiet ↦ sound.first ((kept_alone limits t now flaw s o m ev goes real r v p kept quiet).0 ∙ new) (sound.first u lo hi how after_row stands (came_kept limits t now flaw s ev goes r lo hi how (ap is_some there) ∙ first_same is))
+          | inr quiet ↦ sound.first ((kept_alone step m real r v p kept quiet).0 ∙ new) (sound.first u lo hi how after_row stands (came_kept limits t now flaw s ev goes r lo hi how (ap is_some there) ∙ first_same is))
           | inl loses ↦
-              let all = lost_alone limits t now flaw s o m ev goes real r v p there kept loses in
+              let all = lost_alone step m real r v p there kept loses in
               sound.alone all.0 (all.1 ∙ (rw (unlosing r v off) (exclusive_is t r c v k s reader off (may is))))
         ]
         by_exclusive_writer (sound.alone lost is) = elim (bool_cases (loses_in r e.acts)) [
-          | inl loses ↦ absurd (false_true (sym (fresh limits t now flaw s o m ev goes real r v there loses) ∙ lost))
-          | inr quiet ↦ let all = kept_alone limits t now flaw s o m ev goes real r v p kept quiet in sound.alone (all.0 ∙ lost) (all.1 ∙ is)
+          | inl loses ↦ absurd (false_true (sym (fresh step m real r v there loses) ∙ lost))
+          | inr quiet ↦ let all = kept_alone step m real r v p kept quiet in sound.alone (all.0 ∙ lost) (all.1 ∙ is)
         ]
 
     pub own_had : (w z : Exchange) → IsSame t e x w z → now_on.exchange x ≡ Some z → z.is_open ≡ true → due_after t e c k (consumer_acted t e c (consumer_heard t e c ev k)) ≡ u → u.own ≡ Some x → cause_of_head t e c ev ≡ None → IsHad now_on r p x
@@ -106,7 +108,7 @@ module _ (limits : Limits) (t : Tables) (now : ℕ) (flaw : Flaw) (s : Sound t) 
 
     no_waiter : (y : ℕ) (q : Exchange) → t.exchange y ≡ Some q → q.is_open ≡ true → q.head ≡ None → q.c ≡ c → ⊥
     no_waiter y q exchange_row on bare theirs =
-        let got = waiter_of limits t now flaw s o ev goes y q exchange_row on bare in
+        let got = waiter_of step y q exchange_row on bare in
         let one : got.0 ≡ k = same_row (t.consumer c) got.0 k (sym (ap t.consumer theirs) ∙ got.1.row) row in
         let number : y ≡ x = some_inj y x (sym got.1.own ∙ (ap (λ (a : Consumer). a.own) one ∙ (own_open_of t k x own).own)) in
         let it : q ≡ w = same_row (t.exchange x) q w (sym (ap t.exchange number) ∙ exchange_row) is_row in
@@ -116,10 +118,10 @@ module _ (limits : Limits) (t : Tables) (now : ℕ) (flaw : Flaw) (s : Sound t) 
     leaver_not is =
         let left : is_left_by t x c (Some k) ≡ true = or_left _ _ (number_yes (own_open t k) x own) in
         let leaves : is_left t x (leaver b) ≡ true = ap (is_left t x) is ∙ (ap (is_left_by t x c) row ∙ left) in
-        not_must limits t now flaw s o ev goes real.stand x w is_row (ap is_open after_x ∙ opened_now) (or_right _ _ leaves)
+        not_must step real.stand x w is_row (ap is_open after_x ∙ opened_now) (or_right _ _ leaves)
 
-    stays : Stays limits t now flaw s o ev goes c r lo hi how k row at no_waiter
-    stays = bound_stays limits t now flaw s o ev goes c r lo hi how k row at no_waiter (λ here. leaver_not (ap (λ v. leaver_by v b.acts) here)) (not_so (leaves_in c e.acts) (λ leaves. leaver_not (leaves_leaver limits t now flaw s ev c leaves)))
+    stays : Stays step c r lo hi how k row at no_waiter
+    stays = bound_stays step c r lo hi how k row at no_waiter (λ here. leaver_not (ap (λ v. leaver_by v b.acts) here)) (not_so (leaves_in c e.acts) (λ leaves. leaver_not (leaves_leaver limits t now flaw s ev c leaves)))
 
     hole_not_at : (from_at to_at : ℕ) → tree.OpensHole t c k from_at to_at → ⊥
     hole_not_at from_at to_at (tree.first n v2 span hole is aims there2 nobody found from_is to) =
@@ -130,8 +132,8 @@ module _ (limits : Limits) (t : Tables) (now : ℕ) (flaw : Flaw) (s : Sound t) 
     no_opening : (q : Opening) → opening_in e.acts ≡ Some q → q.c ≡ c → ⊥
     no_opening q opens mine = by_way got.way.way
       where
-        got : Rattle.hc_effects.proofs.OwnersKeep.IsOpened limits t now flaw s o ev goes q
-        got = is_opened limits t now flaw s o ev goes q opens
+        got : Rattle.hc_effects.proofs.OwnersKeep.IsOpened step q
+        got = is_opened step q opens
 
         one : got.k ≡ k
         one = same_row (t.consumer c) got.k k (sym (ap t.consumer mine) ∙ got.row) row
@@ -172,26 +174,26 @@ module _ (limits : Limits) (t : Tables) (now : ℕ) (flaw : Flaw) (s : Sound t) 
 
   pub bare_had : (r x : ℕ) (w z : Exchange) (p : Representation) → t.exchange x ≡ Some w → IsSame t e x w z → now_on.exchange x ≡ Some z → z.is_open ≡ true → z.head ≡ None → z.aim ≡ Some r → route_of z.need ≡ route.Hole → now_on.representation r ≡ Some p → IsHad now_on r p x
   bare_had r x w z p is_row same after_x on bare aim hole after =
-      let got = waiter_of limits t now flaw s o ev goes x w is_row (same.was_open on) (same.bare bare) in
+      let got = waiter_of step x w is_row (same.was_open on) (same.bare bare) in
       by_place got.0 got.1 got.1.at
     where
       other : exchange_in ev ≡ Some x → ⊥
-      other = unmet limits t now flaw s o ev goes ev x w z refl is_row same on bare
+      other = unmet step ev x w z refl is_row same on bare
 
       by_row : (k : Consumer) (waiter : IsWaiter t w.c x k w) (lo : ℕ) (hi : Option ℕ) (how : BoundBy) → k.place ≡ place.Bound r lo hi how → RepFrom t e r p → IsHad now_on r p x
       by_row k waiter lo hi how at (rep.founded response y none here exchange_row founding made) =
           absurd (let is_there = s.numbered.bound_to r w.c k (sound.is_bound lo hi how waiter.row at) in false_true (sym (ap is_some none) ∙ is_there))
       by_row k waiter lo hi how at (rep.was v kept) =
-          let st = stands limits t now flaw s o ev goes w.c x k w waiter other (same.unclosed on) in
-          let never_over = stays_on limits t now flaw s o ev goes w.c x k w waiter other (same.unclosed on) in
+          let st = stands step w.c x k w waiter other (same.unclosed on) in
+          let never_over = stays_on step w.c x k w waiter other (same.unclosed on) in
           let going = forward.is_kept t e w.c k waiter.row in
           let one : going.u ≡ st.u = same_row (now_on.consumer w.c) going.u st.u going.row st.row in
           let is : due_after t e w.c k (consumer_acted t e w.c (consumer_heard t e w.c ev k)) ≡ st.u = settled w.c k (consumer_acted t e w.c (consumer_heard t e w.c ev k)) st.u (starts_over t e w.c k) refl never_over (going.is ∙ one) in
-          let exclusive_writers = waits_undue limits t now flaw s o ev goes r w.c x lo hi how v k w waiter at kept.row in
-          let off : is_written t v ≡ false = not_so _ (λ written. unwritten limits t now flaw s o ev goes w.c x k w waiter r lo hi how v v.writer at kept.row written refl) in
+          let exclusive_writers = waits_undue step r w.c x lo hi how v k w waiter at kept.row in
+          let off : is_written t v ≡ false = not_so _ (λ written. unwritten step w.c x k w waiter r lo hi how v v.writer at kept.row written refl) in
           let own : own_open t k ≡ Some x = own_open_is t k x (record { own = waiter.own; w = w; row = is_row; opened = waiter.was_open }) in
           own_had r w.c x lo hi how k st.u v p waiter.row at kept.row kept own exclusive_writers.0 off exclusive_writers.1 st.row (st.place_is ∙ at) w z same after_x on is st.own_is
-          (head_by w.c (λ y response q here exchange_row mine. other (ap exchange_in here ∙ ap Some (head_is_own limits t now flaw s o ev goes w.c x k w waiter y response q here exchange_row mine))) ev refl)
+          (head_by w.c (λ y response q here exchange_row mine. other (ap exchange_in here ∙ ap Some (head_is_own step w.c x k w waiter y response q here exchange_row mine))) ev refl)
 
       by_place : (k : Consumer) (waiter : IsWaiter t w.c x k w) → IsAwaiting x w k.place → IsHad now_on r p x
       by_place k waiter (owners.direct way at) = absurd (let no : route.Direct ≡ route.Hole = sym way ∙ (sym (ap route_of same.need_is) ∙ hole) in cc)
@@ -217,7 +219,7 @@ module _ (limits : Limits) (t : Tables) (now : ℕ) (flaw : Flaw) (s : Sound t) 
     about = writer_about t r x v s there on writer
 
     still_shared : loses_in r e.acts ≡ false → IsHad now_on r p x
-    still_shared quiet = sound.shared (written_by now_on p x ((kept_alone limits t now flaw s o m ev goes real r v p kept quiet).0 ∙ (is_on t v x on writer).kept) writes (ap is_open after_x ∙ opened_now)) writes
+    still_shared quiet = sound.shared (written_by now_on p x ((kept_alone step m real r v p kept quiet).0 ∙ (is_on t v x on writer).kept) writes (ap is_open after_x ∙ opened_now)) writes
       where
         by_writer : (p.writer ≡ v.writer) ⊎ IsResumed t e r v p.writer → p.writer ≡ Some x
         by_writer (inl unchanged) = unchanged ∙ writer
@@ -230,13 +232,13 @@ module _ (limits : Limits) (t : Tables) (now : ℕ) (flaw : Flaw) (s : Sound t) 
     family_is = grind (arith, nat_tests)
 
     losing_b : loses_in r e.acts ≡ true → brings_body ev ≡ true → loses_writing t b r v ≡ true
-    losing_b loses brings = and_both _ _ (and_both _ _ brings (loses_same limits t now flaw s o m ev goes real r ∙ loses)) on
+    losing_b loses brings = and_both _ _ (and_both _ _ brings (loses_same step m real r ∙ loses)) on
 
     none_left : loses_in r e.acts ≡ true → brings_body ev ≡ true → survivor t r v ≡ None → ⊥
     none_left loses brings nobody =
         let here : has_no_survivor t b x r (Some v) ≡ true = and_both _ _ (and_both _ _ (number_yes v.writer x writer) (losing_b loses brings)) (ap (λ (q : Option ℕ). is_none q) nobody) in
         let lost : has_no_survivor t b x (family x w) (t.representation (family x w)) ≡ true = ap (λ n. has_no_survivor t b x n (t.representation n)) family_is ∙ (ap (has_no_survivor t b x r) there ∙ here) in
-        not_must limits t now flaw s o ev goes real.stand x w is_row (ap is_open after_x ∙ opened_now) (or_left _ _ (or_right _ _ lost))
+        not_must step real.stand x w is_row (ap is_open after_x ∙ opened_now) (or_left _ _ (or_right _ _ lost))
 
     unpolled : brings_body ev ≡ true → (d want : ℕ) → ev ≡ event.Poll d want → ⊥
     unpolled brings d want polls = false_true (sym (ap brings_body polls) ∙ brings)
@@ -247,16 +249,16 @@ module _ (limits : Limits) (t : Tables) (now : ℕ) (flaw : Flaw) (s : Sound t) 
     -- it is left to who survives
     survived : (c lo : ℕ) (hi : Option ℕ) (how : BoundBy) (k : Consumer) → t.consumer c ≡ Some k → k.place ≡ place.Bound r lo hi how → survivor t r v ≡ Some c → loses_in r e.acts ≡ true → brings_body ev ≡ true → IsHad now_on r p x
     survived c lo hi how k row at is loses brings =
-        let waiterless = member.no_waiter limits t now flaw s o ev goes c r lo hi how k v row at there on in
-        let st = bound_stays limits t now flaw s o ev goes c r lo hi how k row at waiterless (λ here. false_true (sym (ap brings_body here) ∙ brings)) (not_so (leaves_in c e.acts) (λ leaves. let got = leaving_by limits t now flaw s ev goes c leaves in unpolled brings c got.want got.poll.at)) in
+        let waiterless = member.no_waiter step c r lo hi how k v row at there on in
+        let st = bound_stays step c r lo hi how k row at waiterless (λ here. false_true (sym (ap brings_body here) ∙ brings)) (not_so (leaves_in c e.acts) (λ leaves. let got = leaving_by limits t now flaw s ev goes c leaves in unpolled brings c got.want got.poll.at)) in
         let losing : loses_writing t e r v ≡ true = and_both _ _ (and_both _ _ brings loses) on in
         let mine : is_number (survivor t r v) c ≡ true = number_yes (survivor t r v) c is in
         let left : (n : Option ℕ) → own_after t e c k.place n ≡ Some x = (λ n. ap (λ a. own_after t e c a n) at ∙ (ap (λ a. left_to t e c r a n) there ∙ (rw (losing, mine) writer))) in
         let own : st.u.own ≡ Some x = sym (ap (λ (q : Consumer). q.own) st.is) ∙ (ap (λ (h : Consumer). own_after t e c h.place (by_opening t c (opening_in e.acts) (waiting t e c h)).own) st.heard_is ∙ left (by_opening t c (opening_in e.acts) (waiting t e c k)).own) in
-        let all = lost_alone limits t now flaw s o m ev goes real r v p there kept loses in
+        let all = lost_alone step m real r v p there kept loses in
         let reader : IsBound t r c k = sound.is_bound lo hi how row at in
         let loss : cause_of_loss t e c k.place ≡ None = ap (cause_of_loss t e c) at ∙ (ap (cause_by_loss t e c r) there ∙ rw (losing, mine) refl) in
-        let undue : becomes_due t e c k ≡ None = undue_of t e c k (record { stop = stop_none t e k (stop_quiet brings ev refl); loss = loss; head = head_by c (λ y response q here exchange_row theirs. member.head_not limits t now flaw s o ev goes c r lo hi how k v row at there on y response q here exchange_row theirs) ev refl }) in
+        let undue : becomes_due t e c k ≡ None = undue_of t e c k (record { stop = stop_none t e k (stop_quiet brings ev refl); loss = loss; head = head_by c (λ y response q here exchange_row theirs. member.head_not step c r lo hi how k v row at there on y response q here exchange_row theirs) ev refl }) in
         let none : st.u.due ≡ None = due_none t e c k (consumer_acted t e c (consumer_heard t e c ev k)) st.u st.is (ap reads st.stands) (s.writes.undue r c v k there reader on) undue in
         sound.own c st.u (sound.is_bound lo hi how st.after st.stands) (own_open_is now_on st.u x (record { own = own; w = z; row = after_x; opened = opened_now })) none
         (sound.alone all.0 (all.1 ∙ (rw losing is)))
@@ -276,9 +278,9 @@ module _ (limits : Limits) (t : Tables) (now : ℕ) (flaw : Flaw) (s : Sound t) 
       | inl loses ↦ elim (bool_cases (brings_body ev)) [
         | inl brings ↦ by_survivor (survivor t r v) refl loses brings
         | inr other ↦
-            absurd (let seal = sealed_loss limits t now flaw s o m ev goes real r v there loses other in
-            let one : seal.y ≡ x = seals_one limits t now flaw s o m ev goes real r x v there about seal in
-            let off : is_open (now_on.exchange x) ≡ false = subst (λ n. is_open (now_on.exchange n) ≡ false) one (over limits t now flaw s o m ev goes real seal.y seal.w seal.row seal.ends) in
+            absurd (let seal = sealed_loss step m real r v there loses other in
+            let one : seal.y ≡ x = seals_one step m real r x v there about seal in
+            let off : is_open (now_on.exchange x) ≡ false = subst (λ n. is_open (now_on.exchange n) ≡ false) one (over step m real seal.y seal.w seal.row seal.ends) in
             false_true (sym off ∙ (ap is_open after_x ∙ opened_now)))
       ]
     ]

@@ -3,7 +3,7 @@ use Rattle.std.{proofs.{Common.{◌≡◌, ◌≢◌, ◌⊎◌, inl, inr, ℕ, 
 use Rattle.hc_text.proofs.Basics.{or_left, some_same as number_of, and_left, and_right, bool_cases, not_some as none_some, never_true as not_so, or_right}
 use Rattle.hc_effects.proofs.Vocabulary.{leaves_in, closes_in, Event, Response, HeadCase, Limits, Place, BoundBy, case_at, head_view, is_founding, is_joining, must_close, is_left, is_left_by, leaver, leaver_by, consumer_heard, consumer_acted, becomes_shared, by_head, place_by_case, due_after, is_number, denial, doomed_key_of, doomed_in, doomed_by_head, doomed_by_case, is_key, Entry, exchange_heard, exchange_acted, promise_in, is_open, Flaw, entry_of, Owners, IsAwaiting, is_written, is_bound, is_bound_place, bound, shared_exchange, Tables, Exchange, Representation, Consumer, may_stand, Sound, Numbered, Among, IsBound, starts_over, sends_back, after_accepted, route_of, head_case, has_loss, writer_at, event, case, place, by, route}
 use Rattle.hc_model.specs.Sound as sound
-use Rattle.hc_effects.proofs.{ApartKeeps.{is_on, was_written, founded_shared}, Basics.{false_true, number_is}, BoundKeeps.{binds_kept}, Closed.{before, closes}, FirstKeeps.{case_is, is_new}, Forward.{is_kept, after_is}, MemberStays.{member_stays}, NamesKeep.{names_are_kept}, NumbersKeep.{numbers_are_kept}, PieceKeeps.{eq_cases}, ExclusiveWriters.{writer_some, bound_some}, RepFrom.{RepFrom, rep_from, IsResumed}, Said.{leaving_by}, SaidActs.{leaves_leaver}, ToBeShown.{heard_place}, FoundBy.{CaseBy, case_by}, Waiters.{IsWaiter, waiter_of}, WriterEnds.{all_same}, StaysOn.{awaiting_keeps, settled, stays_by as stays_unless}}
+use Rattle.hc_effects.proofs.{ApartKeeps.{is_on, was_written, founded_shared}, Basics.{false_true, number_is}, BoundKeeps.{binds_kept}, Closed.{before, closes}, FirstKeeps.{case_is, is_new}, Forward.{is_kept, after_is}, MemberStays.{member_stays}, NamesKeep.{names_are_kept}, NumbersKeep.{numbers_are_kept}, PieceKeeps.{eq_cases}, ExclusiveWriters.{writer_some, bound_some}, RepFrom.{RepFrom, rep_from, IsResumed}, Said.{leaving_by}, SaidActs.{leaves_leaver}, ToBeShown.{heard_place}, FoundBy.{CaseBy, case_by}, Waiters.{IsWaiter, waiter_of}, WriterEnds.{all_same}, StaysOn.{awaiting_keeps, settled, stays_by as stays_unless}, Step.{Step}}
 use Rattle.hc_effects.proofs.RepFrom as rep
 use Rattle.hc_effects.proofs.FoundBy as cases
 
@@ -50,7 +50,9 @@ pub reader_of : (t : Tables) (r d : ℕ) → Among d (bound t r) → (k : Consum
 unfolding bound
 reader_of t r d there = bound_row t r d (t.consumer d) refl (among_passes (λ c. is_bound r (t.consumer c)) d t.starts there)
 
-module _ (limits : Limits) (t : Tables) (now : ℕ) (flaw : Flaw) (s : Sound t) (o : Owners t) (ev : Event) (goes : denial t ev ≡ None) (stand : may_stand limits t (entry_of limits t now ev flaw) ≡ true) where
+module _ (step : Step) (stand : may_stand step.limits step.tables (entry_of step.limits step.tables step.now step.event step.flaw) ≡ true) where
+  open step use {limits, tables as t, now, flaw, sound as s, event as ev, accepted as goes}
+
   abbrev e : Entry
   e = entry_of limits t now ev flaw
 
@@ -74,7 +76,7 @@ module _ (limits : Limits) (t : Tables) (now : ℕ) (flaw : Flaw) (s : Sound t) 
 
   stays_by : (r c : ℕ) (k : Consumer) (v : Representation) → IsBound t r c k → t.representation r ≡ Some v → is_written t v ≡ true → (leaver b ≡ Some c → ⊥) → (u : Consumer) × IsBound now_on r c u
   stays_by r c k v (sound.is_bound lo hi how row at) there on stays =
-      member_stays limits t now flaw s o ev goes c r lo hi how k v row at there on (λ here. stays (ap (λ z. leaver_by z b.acts) here)) (not_so (leaves_in c e.acts) (λ leaves. stays (leaves_leaver limits t now flaw s ev c leaves)))
+      member_stays step c r lo hi how k v row at there on (λ here. stays (ap (λ z. leaver_by z b.acts) here)) (not_so (leaves_in c e.acts) (λ leaves. stays (leaves_leaver limits t now flaw s ev c leaves)))
 
   -- THE LAST READER CLOSES IT
 
@@ -164,7 +166,7 @@ module _ (limits : Limits) (t : Tables) (now : ℕ) (flaw : Flaw) (s : Sound t) 
     head_stands =
         let on = is_kept t e c k is.row in
         let made : due_after t e c k (consumer_acted t e c (consumer_heard t e c ev k)) ≡ on.u = sym (settled t e c k (consumer_acted t e c (consumer_heard t e c ev k)) stays_on) ∙ on.is in
-        let placed = heard_place limits t now flaw s o ev goes c 0 0 None by.Plan k on.u (λ d want polls. let no : event.Head x response ≡ event.Poll d want = sym here ∙ polls in cc) (record { row = is.row; stays = stays_on; leaves = head_leaves c x response here; is = made }) in
+        let placed = heard_place step c 0 0 None by.Plan k on.u (λ d want polls. let no : event.Head x response ≡ event.Poll d want = sym here ∙ polls in cc) (record { row = is.row; stays = stays_on; leaves = head_leaves c x response here; is = made }) in
         (on.u, on.row, placed ∙ (ap (λ v. (consumer_heard t e c v k).place) here ∙ head_place c x response w k (t.exchange x) is.exchange_row is.for_it))
 
   pub joins_way : (t : Tables) (lost : Bool) (w : Exchange) (response : Response) (g : HeadCase) → CaseBy (head_view t lost w response) g → is_joining (Some g) ≡ true → route_of w.need ≡ route.Hole
@@ -200,7 +202,7 @@ module _ (limits : Limits) (t : Tables) (now : ℕ) (flaw : Flaw) (s : Sound t) 
   by_resumed : (r : ℕ) (v : Representation) (z : Option ℕ) → (R : IsResumed t e r v z) → bound now_on r ≢ []
   by_resumed r v z R =
       let new = is_new limits t now flaw s ev goes R.x R.response R.w R.at R.row in
-      let got = waiter_of limits t now flaw s o ev goes R.x R.w R.row new.is_open new.bare in
+      let got = waiter_of step R.x R.w R.row new.is_open new.bare in
       let g = head_case (head_view t (has_loss e.acts) R.w R.response) in
       let is_case = case_is t e R.x R.response R.w R.at R.row in
       let hole : route_of R.w.need ≡ route.Hole = joins_way t (has_loss e.acts) R.w R.response g (case_by (head_view t (has_loss e.acts) R.w R.response)) (sym (ap is_joining is_case) ∙ R.joins) in
@@ -234,15 +236,15 @@ module _ (limits : Limits) (t : Tables) (now : ℕ) (flaw : Flaw) (s : Sound t) 
   by_founded : (r x : ℕ) (response : Response) (w : Exchange) → ev ≡ event.Head r response → t.exchange r ≡ Some w → is_founding (case_at t e) ≡ true → writer_at r response ≡ Some x → bound now_on r ≢ []
   by_founded r x response w here row on writer =
       let new = is_new limits t now flaw s ev goes r response w here row in
-      let got = waiter_of limits t now flaw s o ev goes r w row new.is_open new.bare in
-      let shared_exchange = founded_shared limits t now flaw s o ev goes stand r x response w (case_at t e) here row refl on writer in
+      let got = waiter_of step r w row new.is_open new.bare in
+      let shared_exchange = founded_shared step stand r x response w (case_at t e) here row refl on writer in
       let st = head_stands w.c r response w got.0 got.1 here (or_left _ _ on) in
       read_by r w.c (st.0, sound.is_bound 0 (promise_in w response) by.Founding st.1 (st.2 ∙ founds_place r r response w got.0 (case_at t e) shared_exchange on))
 
   reader_from : (r x : ℕ) (v : Representation) → is_written now_on v ≡ true → v.writer ≡ Some x → RepFrom t e r v → bound now_on r ≢ []
   reader_from r x v on writer (rep.was q kept) = elim kept.writer_is [
     | inl same ↦
-        let all = was_written limits t now flaw s o ev goes stand r x q v kept (is_on now_on v x on writer) same writer in
+        let all = was_written step stand r x q v kept (is_on now_on v x on writer) same writer in
         by_leaver r x q (leaver b) refl kept.row all.0 all.1 (is_on now_on v x on writer).open_now
     | inr R ↦ by_resumed r q v.writer R
   ]

@@ -5,7 +5,7 @@ use Rattle.hc_text.proofs.Basics.{eqb-same, not_some as none_some, or_false as o
 use Rattle.hc_effects.proofs.Vocabulary.{act, write, Cause, Event, Response, HeadCase, Limits, head_case, length_of, is_bad, has_loss, loses_in, accepted_acts, loss_acts, case_at, head_view, is_founding, is_updating, is_joining, closing, closes_row, is_refused, has_no_survivor, is_number, denial, doomed_key_of, doomed_by_case, Does, with_event, let_all_go, all_closed, with_consumer, with_answer, as_gone, Entry, entry_without_acts, promise_in, is_reached, family, Flaw, NoFlaw, Lawful, IsAwaiting, Tables, Exchange, Representation, Consumer, with_item_first, after_accepted, to_front, evicted, is_written, reads, goes_by_case, becomes_gone, sends_back, cause_by_case, consumer_after, back_in_line, representation_after, updates, Place}
 use Rattle.hc_event.specs.declared.event.Event.TheVariants as event
 use Rattle.hc_model.specs.Owners as owners
-use Rattle.hc_effects.proofs.{ActParts.{leaver_lost}, Basics.{some_row}, Closed.{reversed}, FewClosings.{evicts_nothing}, FirstKeeps.{IsNew, is_new, case_is}, HeadFrames.{e, has_as, heard, asker_goes_on, asker_goes_back, asker_fails, after_head, others, goes_by, rows_but, row_by, doomed_is, spared_as}, OfConsumers.{one_of, descends_once}, PieceKeeps.{eq_cases}, SameTables.{is_in, waits_for_any}, Sums.{reverse_once}, Waiters.{IsWaiter, waiter_as, waits_undue}, Untouched.{IsSpared}}
+use Rattle.hc_effects.proofs.{ActParts.{leaver_lost}, Basics.{some_row}, Closed.{reversed}, FewClosings.{evicts_nothing}, FirstKeeps.{IsNew, is_new, case_is}, HeadFrames.{e, has_as, heard, asker_goes_on, asker_goes_back, asker_fails, after_head, others, goes_by, rows_but, row_by, doomed_is, spared_as}, OfConsumers.{one_of, descends_once}, PieceKeeps.{eq_cases}, SameTables.{is_in, waits_for_any}, Sums.{reverse_once}, Waiters.{IsWaiter, waiter_as, waits_undue}, Untouched.{IsSpared}, Step.{step_of}}
 
 -- a bad head promises nothing
 pub stays_open : (w : Exchange) (response : Response) → is_bad (length_of w.need w.request response) ≡ true → is_reached (promise_in w response) 0 ≡ false
@@ -25,7 +25,7 @@ module _ (limits : Limits) (t : Tables) (law : Lawful t) (now x : ℕ) (response
 
   module _ (k : Consumer) (asker : t.consumer w.c ≡ Some k) where
     pub waiter : IsWaiter t w.c x k w
-    waiter = waiter_as limits t now NoFlaw law.sound law.owned ev goes w.c x k w asker row refl new.is_open new.bare
+    waiter = waiter_as (step_of limits t now NoFlaw law.sound law.owned ev goes) w.c x k w asker row refl new.is_open new.bare
 
     -- nothing is due for it
     pub undue : k.due ≡ None
@@ -36,7 +36,7 @@ module _ (limits : Limits) (t : Tables) (law : Lawful t) (now x : ℕ) (response
         by_place (owners.turn way stands) = (law.places.turn w.c x k asker stands).idle.undue
         by_place (owners.hole r lo hi how way aim stands) =
             let there = some_row (t.representation r) (law.sound.numbered.names.aims x r w row aim) in
-            (waits_undue limits t now NoFlaw law.sound law.owned ev goes r w.c x lo hi how there.0 k w waiter stands there.1).0
+            (waits_undue (step_of limits t now NoFlaw law.sound law.owned ev goes) r w.c x lo hi how there.0 k w waiter stands there.1).0
 
   -- no representation has its number
   pub not_it : (r : ℕ) (v : Representation) → t.representation r ≡ Some v → nat_eq x r ≡ false

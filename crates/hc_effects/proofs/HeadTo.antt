@@ -3,11 +3,13 @@ use Rattle.std.{proofs.{Common.{◌≡◌, ℕ, ◌≤◌, List, [], length, Boo
 use Rattle.hc_text.proofs.Basics.{same_some as same_row}
 use Rattle.hc_effects.proofs.Vocabulary.{cause, event, case, route, place, by, Need, Event, Request, HeadCase, Length, Limits, head_case, length_of, base_of, route_of, BoundBy, has_loss, case_at, head_view, is_joining, consumer_heard, consumer_acted, by_head, place_by_case, denial, doomed_key_of, is_key, Entry, promise_in, base, front, exchange_at, is_for, length_by, cause_of_head, cause_by_case, Flaw, entry_of, Owners, IsAwaiting, reads, hole_start, Tables, Exchange, Representation, Consumer, Sound, starts_over, waits_at, sends_back, loses_what_it_waits_for, after_accepted}
 use Rattle.hc_model.specs.Sound as sound
-use Rattle.hc_effects.proofs.{Basics.{false_true, some_none}, BoundFrom.{IsRow, place_inj}, Dues.{due_before, undue_parts}, ExchangeFrom.{IsSame, IsHeaded}, FirstKeeps.{IsNew, case_is, is_new}, FoundBy.{CaseBy, case_by}, HeadKeeps.{IsJoin, is_join}, PartTold.{IsTold, part_told}, ToBeShown.{heard_place}, Waiters.{IsWaiter, waiter_of}}
+use Rattle.hc_effects.proofs.{Basics.{false_true, some_none}, BoundFrom.{IsRow, place_inj}, Dues.{due_before, undue_parts}, ExchangeFrom.{IsSame, IsHeaded}, FirstKeeps.{IsNew, case_is, is_new}, FoundBy.{CaseBy, case_by}, HeadKeeps.{IsJoin, is_join}, PartTold.{IsTold, part_told}, ToBeShown.{heard_place}, Waiters.{IsWaiter, waiter_of}, Step.{Step}}
 use Rattle.hc_effects.proofs.FoundBy as cases
 use Rattle.hc_effects.proofs.PartTold as told
 
-module _ (limits : Limits) (t : Tables) (now : ℕ) (flaw : Flaw) (s : Sound t) (o : Owners t) (ev : Event) (goes : denial t ev ≡ None) where
+module _ (step : Step) where
+  open step use {limits, tables as t, now, flaw, sound as s, owners as o, event as ev, accepted as goes}
+
   abbrev e : Entry
   e = entry_of limits t now ev flaw
 
@@ -19,7 +21,7 @@ module _ (limits : Limits) (t : Tables) (now : ℕ) (flaw : Flaw) (s : Sound t) 
     new = is_new limits t now flaw s ev goes x got.response w got.at exchange_row
 
     abbrev pub waits : (q : Consumer) × IsWaiter t w.c x q w
-    waits = waiter_of limits t now flaw s o ev goes x w exchange_row new.is_open new.bare
+    waits = waiter_of step x w exchange_row new.is_open new.bare
 
     pub mine : w.c ≡ c
     mine = o.one w.c c x waits.0 k waits.1.row row.row waits.1.own own
@@ -38,7 +40,7 @@ module _ (limits : Limits) (t : Tables) (now : ℕ) (flaw : Flaw) (s : Sound t) 
 
     placed : u.place ≡ place_by_case x got.response w k (case_at t e)
     placed =
-        heard_place limits t now flaw s o ev goes c r lo hi how k u (λ d want polls. let no : event.Head x got.response ≡ event.Poll d want = sym got.at ∙ polls in cc) row
+        heard_place step c r lo hi how k u (λ d want polls. let no : event.Head x got.response ≡ event.Poll d want = sym got.at ∙ polls in cc) row
         ∙ (ap (λ v. (consumer_heard t e c v k).place) got.at ∙ (ap (λ q. (by_head t e c x got.response q k).place) exchange_row ∙ rw test refl))
 
     no_cause : cause_by_case (case_at t e) x ≡ None

@@ -3,7 +3,7 @@ use Rattle.std.{proofs.{Common.{◌≡◌, ◌⊎◌, inl, inr, ℕ, true, false
 use Rattle.hc_text.proofs.Basics.{both_true as and_both, and_right, not_some as none_some, never_true as not_so, or_left, same_some as same_row, some_inj}
 use Rattle.hc_effects.proofs.Vocabulary.{leaves_in, closes_in, Event, Request, Response, Need, HeadCase, Wanted, Limits, head_case, length_of, promise_of, route_of, range_of, wanted_of, Place, BoundBy, has_loss, case_at, head_view, is_founding, is_joining, must_close, is_refused, brings_head, consumer_heard, by_head, place_by_case, bound_to_wanted, denial, Entry, exchange_heard, exchange_acted, promise_in, exchange_at, is_for, is_reached, Flaw, founded_total, entry_of, Owners, IsAwaiting, Tables, Exchange, Consumer, Sound, starts_over, sends_back, after_accepted, event, route, wanted, place, by}
 use Rattle.hc_model.specs.Owners as owners
-use Rattle.hc_effects.proofs.{Basics.{false_true, or_false}, Closed.{before, closes}, ExchangeFrom.{IsSame, IsHeaded}, FirstKeeps.{case_is, is_new}, FoundBy.{CaseBy, case_by}, Forward.{after_is}, OwnFrom.{IsRow}, PieceKeeps.{eq_cases}, Said.{leaving_by}, ToBeShown.{heard_place}, Waiters.{IsWaiter, waiter_of, case_same}}
+use Rattle.hc_effects.proofs.{Basics.{false_true, or_false}, Closed.{before, closes}, ExchangeFrom.{IsSame, IsHeaded}, FirstKeeps.{case_is, is_new}, FoundBy.{CaseBy, case_by}, Forward.{after_is}, OwnFrom.{IsRow}, PieceKeeps.{eq_cases}, Said.{leaving_by}, ToBeShown.{heard_place}, Waiters.{IsWaiter, waiter_of, case_same}, Step.{Step}}
 use Rattle.hc_effects.proofs.FoundBy as cases
 
 -- a 304 has no body
@@ -11,7 +11,9 @@ promises_none : (n : Need) (request : Request) (response : Response) → respons
 unfolding length_of
 promises_none n request response is = grind (arith, nat_tests)
 
-module _ (limits : Limits) (t : Tables) (now : ℕ) (flaw : Flaw) (s : Sound t) (o : Owners t) (ev : Event) (goes : denial t ev ≡ None) where
+module _ (step : Step) where
+  open step use {limits, tables as t, now, flaw, sound as s, owners as o, event as ev, accepted as goes}
+
   abbrev e : Entry
   e = entry_of limits t now ev flaw
 
@@ -25,7 +27,7 @@ module _ (limits : Limits) (t : Tables) (now : ℕ) (flaw : Flaw) (s : Sound t) 
   pub heard_at : (c x : ℕ) (k u : Consumer) → ((d want : ℕ) → ev ≡ event.Poll d want → ⊥) → IsRow t e c x k u → u.place ≡ (consumer_heard t e c ev k).place
   heard_at c x k u unpolled row =
       let stays : leaves_in c e.acts ≡ false = not_so _ (λ leaves. let got = leaving_by limits t now flaw s ev goes c leaves in unpolled c got.want got.poll.at) in
-      heard_place limits t now flaw s o ev goes c 0 0 None by.Plan k u unpolled (record { row = row.row; stays = row.stays; leaves = stays; is = row.is })
+      heard_place step c 0 0 None by.Plan k u unpolled (record { row = row.row; stays = row.stays; leaves = stays; is = row.is })
 
   -- A HEAD THAT LEAVES ITS EXCHANGE OPEN
 
@@ -44,7 +46,7 @@ module _ (limits : Limits) (t : Tables) (now : ℕ) (flaw : Flaw) (s : Sound t) 
     -- isn't refused
     pub not_refused : is_refused (case_at t e) ≡ true → ⊥
     not_refused refused =
-        let refused_b : is_refused (case_at t b) ≡ true = sym (ap is_refused (case_same limits t now flaw s o ev goes)) ∙ refused in
+        let refused_b : is_refused (case_at t b) ≡ true = sym (ap is_refused (case_same step)) ∙ refused in
         let brings : brings_head x ev ≡ true = ap (brings_head x) here ∙ same_test in
         let must : must_close t b x w ≡ true = or_left _ _ (or_left _ _ (or_left _ _ (and_both _ _ refused_b brings))) in
         let shut : closes_in x e.acts ≡ true = closes limits t now flaw s ev x w is_row must (head_open b ∙ (sym (head_open e) ∙ heard_open)) in
@@ -68,7 +70,7 @@ module _ (limits : Limits) (t : Tables) (now : ℕ) (flaw : Flaw) (s : Sound t) 
 
   module _ (c x : ℕ) (k u : Consumer) (w z : Exchange) (response : Response) (here : ev ≡ event.Head x response) (row : IsRow t e c x k u) (own : k.own ≡ Some x) (is_row : t.exchange x ≡ Some w) (after_row : now_on.exchange x ≡ Some z) (same : IsSame t e x w z) (opened : z.is_open ≡ true) where
     got : (q : Consumer) × IsWaiter t w.c x q w
-    got = let new = is_new limits t now flaw s ev goes x response w here is_row in waiter_of limits t now flaw s o ev goes x w is_row new.is_open new.bare
+    got = let new = is_new limits t now flaw s ev goes x response w here is_row in waiter_of step x w is_row new.is_open new.bare
 
     mine : w.c ≡ c
     mine = o.one w.c c x got.0 k got.1.row row.row got.1.own own

@@ -150,3 +150,4 @@ pub mod StopFrames
 pub mod StopEffects
 pub mod StopSeals
 pub mod DoomEffects
+pub mod Step

@@ -3,7 +3,7 @@ use Rattle.std.{proofs.{Common.{◌≡◌, ◌⊎◌, inl, inr, ℕ, true, false
 use Rattle.hc_text.proofs.Basics.{eq_is, and_left, and_right, not_some as none_some, not_true, or_cases, same_some as same_row, some_inj}
 use Rattle.hc_effects.proofs.Vocabulary.{closes_in, is_denied, LostKind, Event, Limits, loses_in, without_losses, loss_acts, answer_acts, accepted_acts, closing, is_number, denial, Entry, exchange_heard, family, Flaw, Loses, flaw_in, entry_of, Measures, Owners, Tables, Exchange, Representation, may_stand, may_be, is_kept, Sound, IsAbout, evicted, brings_body, written_representation, written_in, lossless, seals_at, sealed_by, is_sealed, stops, event}
 use Rattle.hc_model.specs.Sound as sound
-use Rattle.hc_effects.proofs.{ActParts.{said_is, said_closes, loses_evicted, loses_closed, loses_before}, Basics.{false_true, number_is}, Closed.{before}, KeyActs.{found_some, closes_lossless, test_some}, MeasuresKeep.{ender}, Unclosed.{had_open}, Waiters.{fault_open_of}}
+use Rattle.hc_effects.proofs.{ActParts.{said_is, said_closes, loses_evicted, loses_closed, loses_before}, Basics.{false_true, number_is}, Closed.{before}, KeyActs.{found_some, closes_lossless, test_some}, MeasuresKeep.{ender}, Unclosed.{had_open}, Waiters.{fault_open_of}, Step.{Step}}
 
 -- the flaw of what is lost
 pub record IsLoss (r : ℕ) (flaw : Flaw) : Type 0 where
@@ -19,7 +19,9 @@ pub record IsReal (limits : Limits) (t : Tables) (now : ℕ) (ev : Event) (flaw 
   pub shown : flaw_in (accepted_acts limits t now ev flaw) ≡ flaw
   pub taken : is_denied (accepted_acts limits t now ev flaw) ≡ false
 
-module _ (limits : Limits) (t : Tables) (now : ℕ) (flaw : Flaw) (s : Sound t) (o : Owners t) (m : Measures t) (ev : Event) (goes : denial t ev ≡ None) (real : IsReal limits t now ev flaw) where
+module _ (step : Step) (m : Measures step.tables) (real : IsReal step.limits step.tables step.now step.event step.flaw) where
+  open step use {limits, tables as t, now, flaw, sound as s, event as ev, accepted as goes}
+
   abbrev e : Entry
   e = entry_of limits t now ev flaw
 
@@ -68,11 +70,11 @@ module _ (limits : Limits) (t : Tables) (now : ℕ) (flaw : Flaw) (s : Sound t) 
   stop_open : (y : ℕ) (v : Event) (w : Exchange) → ev ≡ v → stops y v ≡ true → t.exchange y ≡ Some w → w.is_open ≡ true
   stop_open y (event.End x) w here h row =
       let same : x ≡ y = eq_is x y h in
-      let z = ender limits t now flaw s o m ev goes y (here ∙ ap event.End same) in
+      let z = ender step m y (here ∙ ap event.End same) in
       ap (λ (q : Exchange). q.is_open) (same_row (t.exchange y) w z.w row z.row) ∙ z.ending.is_open
   stop_open y (event.Fault x) w here h row =
       let same : x ≡ y = eq_is x y h in
-      fault_open_of limits t now flaw s o ev goes y w (sym (ap (denial t) (here ∙ ap event.Fault same)) ∙ goes) row
+      fault_open_of step y w (sym (ap (denial t) (here ∙ ap event.Fault same)) ∙ goes) row
   stop_open y _ w here h row = absurd (false_true h)
 
   -- it has its head, since what has none founded nothing

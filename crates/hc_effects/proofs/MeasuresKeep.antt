@@ -7,7 +7,7 @@ use Rattle.hc_effects.proofs.Vocabulary.{range, event, route, Event, Response, H
 use Rattle.hc_rules.specs.Refusals as refusals
 use Rattle.hc_model.specs.Measures as measures
 use Rattle.hc_model.specs.Sound as sound
-use Rattle.hc_effects.proofs.{Basics.{false_true}, ExchangeFrom.{ExchangeFrom, IsSame, IsHeaded, exchange_from}, Fills.{Fills, fills, Brings, brings, length_same}, FirstKeeps.{case_is, is_new}, FoundBy.{FoundingBy, founding_by}, HeadKeeps.{is_join}, Once.{taken, IsTaken}, PartTold.{part_within, whole_base, IsWithin}, RepFrom.{RepFrom, rep_from, IsKept, IsEnded}}
+use Rattle.hc_effects.proofs.{Basics.{false_true}, ExchangeFrom.{ExchangeFrom, IsSame, IsHeaded, exchange_from}, Fills.{Fills, fills, Brings, brings, length_same}, FirstKeeps.{case_is, is_new}, FoundBy.{FoundingBy, founding_by}, HeadKeeps.{is_join}, Once.{taken, IsTaken}, PartTold.{part_within, whole_base, IsWithin}, RepFrom.{RepFrom, rep_from, IsKept, IsEnded}, Step.{Step}}
 use Rattle.hc_effects.proofs.ExchangeFrom as exchange
 use Rattle.hc_effects.proofs.Fills as fills_by
 use Rattle.hc_effects.proofs.FoundBy as cases
@@ -31,7 +31,9 @@ pub asker_by : (o : Option Consumer) (response : Response) → fits_asker o resp
 asker_by None response h = absurd (false_true h)
 asker_by (Some k) response h = fits_by (range_of k.request) response h
 
-module _ (limits : Limits) (t : Tables) (now : ℕ) (flaw : Flaw) (s : Sound t) (o : Owners t) (m : Measures t) (ev : Event) (goes : denial t ev ≡ None) where
+module _ (step : Step) (m : Measures step.tables) where
+  open step use {limits, tables as t, now, flaw, sound as s, owners as o, event as ev, accepted as goes}
+
   abbrev e : Entry
   e = entry_of limits t now ev flaw
 

@@ -3,9 +3,11 @@ use Rattle.std.proofs.Common.{◌≡◌, ℕ, true, false, Option, Some, None, a
 use Rattle.hc_text.proofs.Basics.{same_some as same_row}
 use Rattle.hc_effects.proofs.Vocabulary.{leaves_in, Event, Response, Limits, BoundBy, denial, Entry, Flaw, entry_of, Owners, is_written, Tables, Exchange, Representation, Consumer, Sound, IsBound, after_accepted, event, place}
 use Rattle.hc_model.specs.Sound as sound
-use Rattle.hc_effects.proofs.{BoundStays.{bound_stays}, FirstKeeps.{is_new}, Waiters.{waiter_of, unwritten}}
+use Rattle.hc_effects.proofs.{BoundStays.{bound_stays}, FirstKeeps.{is_new}, Waiters.{waiter_of, unwritten}, Step.{Step}}
 
-module _ (limits : Limits) (t : Tables) (now : ℕ) (flaw : Flaw) (s : Sound t) (o : Owners t) (ev : Event) (goes : denial t ev ≡ None) where
+module _ (step : Step) where
+  open step use {limits, tables as t, now, flaw, sound as s, event as ev, accepted as goes}
+
   abbrev e : Entry
   e = entry_of limits t now ev flaw
 
@@ -13,9 +15,9 @@ module _ (limits : Limits) (t : Tables) (now : ℕ) (flaw : Flaw) (s : Sound t) 
     -- it waits for no head
     pub no_waiter : (y : ℕ) (w : Exchange) → t.exchange y ≡ Some w → w.is_open ≡ true → w.head ≡ None → w.c ≡ c → ⊥
     no_waiter y w exchange_row opened bare mine =
-        let got = waiter_of limits t now flaw s o ev goes y w exchange_row opened bare in
+        let got = waiter_of step y w exchange_row opened bare in
         let one : got.0 ≡ k = same_row (t.consumer c) got.0 k (sym (ap t.consumer mine) ∙ got.1.row) row in
-        unwritten limits t now flaw s o ev goes w.c y got.0 w got.1 r lo hi how v v.writer (ap (λ (z : Consumer). z.place) one ∙ at) there on refl
+        unwritten step w.c y got.0 w got.1 r lo hi how v v.writer (ap (λ (z : Consumer). z.place) one ∙ at) there on refl
 
     pub head_not : (x : ℕ) (response : Response) (w : Exchange) → ev ≡ event.Head x response → t.exchange x ≡ Some w → w.c ≡ c → ⊥
     head_not x response w here exchange_row mine = let new = is_new limits t now flaw s ev goes x response w here exchange_row in no_waiter x w exchange_row new.is_open new.bare mine
@@ -23,5 +25,5 @@ module _ (limits : Limits) (t : Tables) (now : ℕ) (flaw : Flaw) (s : Sound t) 
     -- it is bound as it was
     pub member_stays : (ev ≡ event.Cancel c → ⊥) → leaves_in c e.acts ≡ false → (u : Consumer) × IsBound (after_accepted t e) r c u
     member_stays uncancelled stays =
-        let st = bound_stays limits t now flaw s o ev goes c r lo hi how k row at no_waiter uncancelled stays in
+        let st = bound_stays step c r lo hi how k row at no_waiter uncancelled stays in
         (st.u, sound.is_bound lo hi how st.after st.stands)

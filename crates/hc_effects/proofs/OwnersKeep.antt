@@ -3,12 +3,14 @@ use Rattle.std.{proofs.{lemmas.Bool.Decides.{nat_tests}, Common.{◌≡◌, ℕ,
 use Rattle.hc_text.proofs.Basics.{not_some as none_some, and_left, and_right, same_some as same_row}
 use Rattle.hc_effects.proofs.Vocabulary.{Opening, opening_in, Event, Request, Limits, is_bypassing, Place, loses_in, denial, Entry, exchange_opened, family, Flaw, entry_of, Owners, IsFor, is_written, Tables, Exchange, Representation, Consumer, Sound, after_accepted, loses_writing, survivor, event, place, by}
 use Rattle.hc_model.specs.Owners.{IsOpener}
-use Rattle.hc_effects.proofs.{BoundFrom.{BoundFrom, bound_from}, ExchangeFrom.{ExchangeFrom, exchange_from}, Forward.{is_on, is_kept, opened_on}, NumbersKeep.{opens_next}, OpenedAs.{OpenedAs, opened_as}, OwnFrom.{OwnFrom, own_from, IsLeft}, RepFrom.{RepFrom, rep_from}, Said.{opening_by}}
+use Rattle.hc_effects.proofs.{BoundFrom.{BoundFrom, bound_from}, ExchangeFrom.{ExchangeFrom, exchange_from}, Forward.{is_on, is_kept, opened_on}, NumbersKeep.{opens_next}, OpenedAs.{OpenedAs, opened_as}, OwnFrom.{OwnFrom, own_from, IsLeft}, RepFrom.{RepFrom, rep_from}, Said.{opening_by}, Step.{Step}}
 use Rattle.hc_effects.proofs.BoundFrom as bound
 use Rattle.hc_effects.proofs.ExchangeFrom as exchange
 use Rattle.hc_effects.proofs.OwnFrom as own
 
-module _ (limits : Limits) (t : Tables) (now : ℕ) (flaw : Flaw) (s : Sound t) (o : Owners t) (ev : Event) (goes : denial t ev ≡ None) where
+module _ (step : Step) where
+  open step use {limits, tables as t, now, flaw, sound as s, owners as o, event as ev, accepted as goes}
+
   abbrev e : Entry
   e = entry_of limits t now ev flaw
 

@@ -5,7 +5,7 @@ use Rattle.hc_range.specs.{declared.range.{ContentRange.{ContentRange}, Span.{Sp
 use Rattle.hc_effects.proofs.Vocabulary.{range, event, route, wanted, by, place, Event, Response, HeadCase, Limits, head_case, fits_to_found, fits_part, begins_at, route_of, content_range_of, range_of, wanted_of, wanted_part, BoundBy, has_loss, case_at, head_view, is_founding, fits_asker, consumer_heard, by_head, place_by_case, bound_to_wanted, denial, Entry, Flaw, founded_total, entry_of, Owners, IsAwaiting, IsPast, Tables, Exchange, Representation, Consumer, may_stand, Sound, after_accepted}
 use Rattle.hc_rules.specs.Refusals as refusals
 use Rattle.hc_model.specs.Owners as owners
-use Rattle.hc_effects.proofs.{Basics.{false_true}, FirstKeeps.{is_new, case_is}, FoundBy.{FoundingBy, founding_by, founds_way}, NumbersKeep.{opens_next}, Once.{never}, PastKeeps.{IsFrom, PlaceFrom, direct_from}, PieceKeeps.{eq_cases}, RepFrom.{RepFrom, rep_from}, ToBeShown.{heard_place}, Waiters.{waiter_of}}
+use Rattle.hc_effects.proofs.{Basics.{false_true}, FirstKeeps.{is_new, case_is}, FoundBy.{FoundingBy, founding_by, founds_way}, NumbersKeep.{opens_next}, Once.{never}, PastKeeps.{IsFrom, PlaceFrom, direct_from}, PieceKeeps.{eq_cases}, RepFrom.{RepFrom, rep_from}, ToBeShown.{heard_place}, Waiters.{waiter_of}, Step.{Step}}
 use Rattle.hc_effects.proofs.FoundBy as cases
 use Rattle.hc_effects.proofs.PastKeeps as past
 use Rattle.hc_effects.proofs.RepFrom as rep
@@ -45,7 +45,9 @@ pub record IsApart (t : Tables) : Type 0 where
   pub unfounded : (c x : ℕ) (k : Consumer) → t.consumer c ≡ Some k → k.place ≡ place.Direct x → t.representation x ≡ None
   pub headed : (c x : ℕ) (k : Consumer) → t.consumer c ≡ Some k → k.place ≡ place.Direct x → k.shown ≡ true → IsHeadedRow t x
 
-module _ (limits : Limits) (t : Tables) (now : ℕ) (flaw : Flaw) (s : Sound t) (o : Owners t) (ev : Event) (goes : denial t ev ≡ None) (stand : may_stand limits t (entry_of limits t now ev flaw) ≡ true) (a : IsApart t) where
+module _ (step : Step) (stand : may_stand step.limits step.tables (entry_of step.limits step.tables step.now step.event step.flaw) ≡ true) (a : IsApart step.tables) where
+  open step use {limits, tables as t, now, flaw, sound as s, owners as o, event as ev, accepted as goes}
+
   abbrev e : Entry
   e = entry_of limits t now ev flaw
 
@@ -69,7 +71,7 @@ module _ (limits : Limits) (t : Tables) (now : ℕ) (flaw : Flaw) (s : Sound t) 
     stood_past response w at here row on unshown (owners.answered v also headed) = bare_not w v row (is_new limits t now flaw s ev goes y response w here row).bare also headed
     stood_past response w at here row on unshown (owners.waits v mine also opened bare) =
         let n = is_new limits t now flaw s ev goes y response w here row in
-        let got = waiter_of limits t now flaw s o ev goes y w row n.is_open n.bare in
+        let got = waiter_of step y w row n.is_open n.bare in
         let c_is : w.c ≡ c = o.one w.c c y got.0 k got.1.row is.row got.1.own mine in
         let one : got.0 ≡ k = same_row (t.consumer c) got.0 k (sym (ap t.consumer c_is) ∙ got.1.row) is.row in
         unfounding y response w here row (direct_way w at (subst (λ (q : Consumer). IsAwaiting y w q.place) one got.1.at)) on
@@ -93,7 +95,7 @@ module _ (limits : Limits) (t : Tables) (now : ℕ) (flaw : Flaw) (s : Sound t) 
 
     heard_at : (response : Response) → ev ≡ event.Head y response → (by_head t e c y response (t.exchange y) k).place ≡ place.Direct y
     heard_at response here =
-        let heard : u.place ≡ (consumer_heard t e c ev k).place = heard_place limits t now flaw s o ev goes c 0 0 None by.Plan k u (λ d want polls. let no : event.Head y response ≡ event.Poll d want = sym here ∙ polls in cc) (record { row = is.row; stays = is.stays; leaves = is.leaves; is = is.is }) in
+        let heard : u.place ≡ (consumer_heard t e c ev k).place = heard_place step c 0 0 None by.Plan k u (λ d want polls. let no : event.Head y response ≡ event.Poll d want = sym here ∙ polls in cc) (record { row = is.row; stays = is.stays; leaves = is.leaves; is = is.is }) in
         sym (ap (λ v. (consumer_heard t e c v k).place) here) ∙ (sym heard ∙ stands)
 
     headed_not : (response : Response) (w : Exchange) → ev ≡ event.Head y response → t.exchange y ≡ Some w → is_founding (case_at t e) ≡ true → ⊥

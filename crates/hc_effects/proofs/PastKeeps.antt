@@ -4,7 +4,7 @@ use Rattle.hc_text.proofs.Basics.{bool_cases, not_some as none_some, same_some a
 use Rattle.hc_effects.proofs.Vocabulary.{Opening, opening_in, leaves_in, shows_in, Event, Response, Wait, HeadCase, Route, Wanted, Limits, route_of, range_of, wanted_of, Place, BoundBy, Showing, showing_in, wait_in, case_at, consumer_heard, consumer_acted, consumer_settled, consumer_made, consumer_after, by_head, by_fault, by_opening, shown_place, waiting, waiting_place, due_after, place_by_case, passed_on, bound_to_wanted, opened_place, unless_bound, denial, Entry, exchange_opened, exchange_in, Flaw, founded_total, entry_of, Owners, IsPast, bound_to, Tables, Exchange, Consumer, may_stand, Sound, starts_over, after_accepted, event, cause, case, wanted, place, by}
 use Rattle.hc_rules.specs.Refusals as refusals
 use Rattle.hc_model.specs.Owners as owners
-use Rattle.hc_effects.proofs.{Basics.{or_false}, ConsumerFilters.{acted}, ExchangeFrom.{IsSame}, Forward.{is_on, opened_on, is_untouched}, Once.{never}, OwnersKeep.{new_number}, PieceKeeps.{eq_cases}, ToBeShown.{heard_place}, Waiters.{IsWaiter, waiter_of, unclosed}, WaitingKeeps.{waiting_kept}}
+use Rattle.hc_effects.proofs.{Basics.{or_false}, ConsumerFilters.{acted}, ExchangeFrom.{IsSame}, Forward.{is_on, opened_on, is_untouched}, Once.{never}, OwnersKeep.{new_number}, PieceKeeps.{eq_cases}, ToBeShown.{heard_place}, Waiters.{IsWaiter, waiter_of, unclosed}, WaitingKeeps.{waiting_kept}, Step.{Step}}
 
 -- WHERE A DIRECT PLACE IS FROM
 
@@ -147,7 +147,9 @@ module _ (t : Tables) (e : Entry) (c y : ℕ) where
 
 -- IT STAYS SO
 
-module _ (limits : Limits) (t : Tables) (now : ℕ) (flaw : Flaw) (s : Sound t) (o : Owners t) (ev : Event) (goes : denial t ev ≡ None) (stand : may_stand limits t (entry_of limits t now ev flaw) ≡ true) where
+module _ (step : Step) (stand : may_stand step.limits step.tables (entry_of step.limits step.tables step.now step.event step.flaw) ≡ true) where
+  open step use {limits, tables as t, now, flaw, owners as o, event as ev, accepted as goes}
+
   abbrev e : Entry
   e = entry_of limits t now ev flaw
 
@@ -158,7 +160,7 @@ module _ (limits : Limits) (t : Tables) (now : ℕ) (flaw : Flaw) (s : Sound t) 
     -- whose an exchange without a head is
     own_by : (z : Exchange) → now_on.exchange y ≡ Some z → z.is_open ≡ true → z.head ≡ None → z.c ≡ c → IsPast now_on y u
     own_by z row on bare mine =
-        let a = waiting_kept limits t now flaw s o ev goes stand y z row on bare in
+        let a = waiting_kept step stand y z row on bare in
         let one : a.k ≡ u = same_row (now_on.consumer c) a.k u (sym (ap now_on.consumer mine) ∙ a.row) after in
         owners.waits z (sym (ap (λ (q : Consumer). q.own) one) ∙ a.own) row on bare
 
@@ -185,7 +187,7 @@ module _ (limits : Limits) (t : Tables) (now : ℕ) (flaw : Flaw) (s : Sound t) 
     module _ (w : Exchange) (waiter : IsWaiter t c y k w) (unshown : k.shown ≡ false) where
       fault_not : ev ≡ event.Fault y → ⊥
       fault_not here =
-          let heard : u.place ≡ (consumer_heard t e c ev k).place = heard_place limits t now flaw s o ev goes c 0 0 None by.Plan k u (λ d want polls. let no : event.Fault y ≡ event.Poll d want = sym here ∙ polls in cc) (record { row = is.row; stays = is.stays; leaves = is.leaves; is = is.is }) in
+          let heard : u.place ≡ (consumer_heard t e c ev k).place = heard_place step c 0 0 None by.Plan k u (λ d want polls. let no : event.Fault y ≡ event.Poll d want = sym here ∙ polls in cc) (record { row = is.row; stays = is.stays; leaves = is.leaves; is = is.is }) in
           let test : nat_eq w.c c ≡ true = (let m : w.c ≡ c = waiter.for_it in grind (arith, nat_tests)) in
           let down : (by_fault c y (Some w) k).place ≡ place.Down (cause.Net y) = rw (test, waiter.bare, unshown) refl in
           let no : place.Down (cause.Net y) ≡ place.Direct y = sym down ∙ (sym (ap (λ v. (consumer_heard t e c v k).place) here ∙ ap (λ z. (by_fault c y z k).place) waiter.exchange_row) ∙ (sym heard ∙ stands)) in
@@ -193,7 +195,7 @@ module _ (limits : Limits) (t : Tables) (now : ℕ) (flaw : Flaw) (s : Sound t) 
 
       cancel_not : ev ≡ event.Cancel c → ⊥
       cancel_not here =
-          let heard : u.place ≡ (consumer_heard t e c ev k).place = heard_place limits t now flaw s o ev goes c 0 0 None by.Plan k u (λ d want polls. let no : event.Cancel c ≡ event.Poll d want = sym here ∙ polls in cc) (record { row = is.row; stays = is.stays; leaves = is.leaves; is = is.is }) in
+          let heard : u.place ≡ (consumer_heard t e c ev k).place = heard_place step c 0 0 None by.Plan k u (λ d want polls. let no : event.Cancel c ≡ event.Poll d want = sym here ∙ polls in cc) (record { row = is.row; stays = is.stays; leaves = is.leaves; is = is.is }) in
           let over : (consumer_heard t e c (event.Cancel c) k).place ≡ place.Over = (let test : nat_eq c c ≡ true = grind (arith, nat_tests) in rw test refl) in
           over_not t e c y (sym over ∙ (sym (ap (λ v. (consumer_heard t e c v k).place) here) ∙ (sym heard ∙ stands)))
 
@@ -209,7 +211,7 @@ module _ (limits : Limits) (t : Tables) (now : ℕ) (flaw : Flaw) (s : Sound t) 
           let on = is_on t e y w waiter.exchange_row in
           head_by on.u on.row on.u.head refl (λ bare.
           let other = unmet on.u on.same bare ev refl in
-          let shut = unclosed limits t now flaw s o ev goes c y k w waiter other cancel_not is.leaves is.stays in
+          let shut = unclosed step c y k w waiter other cancel_not is.leaves is.stays in
           let un = is_untouched t e y w waiter.exchange_row other shut in
           let one : un.u ≡ on.u = same_row (now_on.exchange y) un.u on.u un.row on.row in
           own_by on.u on.row (sym (ap (λ (q : Exchange). q.is_open) one) ∙ (un.open_is ∙ waiter.was_open)) bare (on.same.c_is ∙ waiter.for_it))
@@ -217,7 +219,7 @@ module _ (limits : Limits) (t : Tables) (now : ℕ) (flaw : Flaw) (s : Sound t) 
     was_past : k.shown ≡ false → IsPast t y k → IsPast now_on y u
     was_past unshown (owners.answered w row headed) = let on = is_on t e y w row in owners.answered on.u on.row (some_kept w on.u on.same headed)
     was_past unshown (owners.waits w mine row opened bare) =
-        let got = waiter_of limits t now flaw s o ev goes y w row opened bare in
+        let got = waiter_of step y w row opened bare in
         let here : w.c ≡ c = o.one w.c c y got.0 k got.1.row is.row got.1.own mine in
         let one : got.0 ≡ k = same_row (t.consumer c) got.0 k (sym (ap t.consumer here) ∙ got.1.row) is.row in
         still_waits w (subst (λ (q : Consumer). IsWaiter t c y q w) one (subst (λ d. IsWaiter t d y got.0 w) here got.1)) unshown
@@ -235,7 +237,7 @@ module _ (limits : Limits) (t : Tables) (now : ℕ) (flaw : Flaw) (s : Sound t) 
             let on = is_on t e y w row in
             head_by on.u on.row on.u.head refl (λ bare. absurd (on.same.unheard bare response here))
     by_place off (opens p opening mine number) =
-        let none = new_number limits t now flaw s o ev goes p y opening number in
+        let none = new_number step p y opening number in
         let row : now_on.exchange y ≡ Some (exchange_opened t e p) = opened_on t e y p (t.exchange y) none opening number in
         own_by (exchange_opened t e p) row refl refl mine
 

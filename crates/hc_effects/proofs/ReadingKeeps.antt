@@ -3,7 +3,7 @@ use Rattle.std.{proofs.{Common.{◌≡◌, ◌⊎◌, inl, inr, ℕ, Bool, true,
 use Rattle.hc_text.proofs.Basics.{and_left, and_right, bool_cases, not_some as none_some, never_true as not_so, or_left, or_right, same_some as same_row, some_inj}
 use Rattle.hc_effects.proofs.Vocabulary.{Opening, opening_in, leaves_in, Event, Response, Wait, Limits, Place, Showing, showing_in, wait_in, must_close, is_left, is_left_by, leaver, leaver_by, consumer_heard, consumer_acted, by_head, by_fault, by_opening, own_after, shown_place, waiting, denial, Entry, exchange_heard, is_open, Flaw, entry_of, Owners, IsReading, shows_at, move_of, own_open, if_open, bound_to, Tables, Exchange, Consumer, Sound, after_accepted, brings_body, event}
 use Rattle.hc_model.specs.Owners as owners
-use Rattle.hc_effects.proofs.{Basics.{false_true, number_yes}, Closed.{before, closes}, ExchangeFrom.{ExchangeFrom, IsSame, IsHeaded, exchange_from}, FirstKeeps.{is_new}, Forward.{after_is}, HeadedAs.{HeadedAs, headed_as, heard_at}, OwnFrom.{OwnFrom, IsRow, IsLeft, own_from, after_by}, OwnersKeep.{is_opened, new_number}, PieceKeeps.{eq_cases}, Said.{WaitsAs, waiting_by}, SaidActs.{leaves_leaver}, WaitedAs.{IsForOthers, waited_as}, Waiters.{waiter_of, fault_open_of}, BoundStays.{none_of}, StaysOn.{plain_place, unopened, waits_where}}
+use Rattle.hc_effects.proofs.{Basics.{false_true, number_yes}, Closed.{before, closes}, ExchangeFrom.{ExchangeFrom, IsSame, IsHeaded, exchange_from}, FirstKeeps.{is_new}, Forward.{after_is}, HeadedAs.{HeadedAs, headed_as, heard_at}, OwnFrom.{OwnFrom, IsRow, IsLeft, own_from, after_by}, OwnersKeep.{is_opened, new_number}, PieceKeeps.{eq_cases}, Said.{WaitsAs, waiting_by}, SaidActs.{leaves_leaver}, WaitedAs.{IsForOthers, waited_as}, Waiters.{waiter_of, fault_open_of}, BoundStays.{none_of}, StaysOn.{plain_place, unopened, waits_where}, Step.{Step}}
 use Rattle.hc_effects.proofs.ExchangeFrom as exchange
 use Rattle.hc_effects.proofs.HeadedAs as head
 use Rattle.hc_effects.proofs.OwnFrom as own
@@ -12,7 +12,9 @@ pub some_of : (q : Option Response) → is_some q ≡ true → (response : Respo
 some_of None g = absurd (false_true g)
 some_of (Some response) g = (response, refl)
 
-module _ (limits : Limits) (t : Tables) (now : ℕ) (flaw : Flaw) (s : Sound t) (o : Owners t) (ev : Event) (goes : denial t ev ≡ None) where
+module _ (step : Step) where
+  open step use {limits, tables as t, now, flaw, sound as s, owners as o, event as ev, accepted as goes}
+
   abbrev e : Entry
   e = entry_of limits t now ev flaw
 
@@ -35,7 +37,7 @@ module _ (limits : Limits) (t : Tables) (now : ℕ) (flaw : Flaw) (s : Sound t) 
     -- it waits for no head
     no_waiter : (y : ℕ) (q : Exchange) → t.exchange y ≡ Some q → q.is_open ≡ true → q.head ≡ None → q.c ≡ c → ⊥
     no_waiter y q exchange_row on bare theirs =
-        let got = waiter_of limits t now flaw s o ev goes y q exchange_row on bare in
+        let got = waiter_of step y q exchange_row on bare in
         let one : got.0 ≡ k = same_row (t.consumer c) got.0 k (sym (ap t.consumer theirs) ∙ got.1.row) row.row in
         let number : y ≡ x = some_inj y x (sym got.1.own ∙ (ap (λ (p : Consumer). p.own) one ∙ mine)) in
         let it : q ≡ w = same_row (t.exchange x) q w (sym (ap t.exchange number) ∙ exchange_row) is_row in
@@ -81,7 +83,7 @@ module _ (limits : Limits) (t : Tables) (now : ℕ) (flaw : Flaw) (s : Sound t) 
         of_it q exchange_row theirs none =
             let test : nat_eq q.c c ≡ true = theirs in
             let it : q.c ≡ c = grind (arith, nat_tests) in
-            no_waiter y q exchange_row (fault_open_of limits t now flaw s o ev goes y q (sym (ap (denial t) here) ∙ goes) exchange_row) (none_of q.head none) it
+            no_waiter y q exchange_row (fault_open_of step y q (sym (ap (denial t) here) ∙ goes) exchange_row) (none_of q.head none) it
 
         by_row : (q : Option Exchange) → t.exchange y ≡ q → by_fault c y q k ≡ k
         by_row None exchange_row = refl
@@ -98,13 +100,13 @@ module _ (limits : Limits) (t : Tables) (now : ℕ) (flaw : Flaw) (s : Sound t) 
     -- nothing is opened for it
     no_opening : (p : Opening) → opening_in e.acts ≡ Some p → p.c ≡ c → ⊥
     no_opening p opens hit =
-        let by_poll = is_opened limits t now flaw s o ev goes p opens in
+        let by_poll = is_opened step p opens in
         let test : nat_eq p.c c ≡ true = grind (arith, nat_tests) in
         let h = consumer_heard t e c ev k in
         let owned : (by_opening t c (opening_in e.acts) (waiting t e c h)).own ≡ Some p.x = ap (λ q. (by_opening t c q (waiting t e c h)).own) opens ∙ rw test refl in
         let is : own_after t e c h.place (Some p.x) ≡ Some x = ap (own_after t e c h.place) (sym owned) ∙ (ap (λ (q : Consumer). q.own) row.is ∙ still) in
         elim (after_by t e c x h.place (Some p.x) is) [
-          | inl number ↦ none_some w (sym (new_number limits t now flaw s o ev goes p x opens (some_inj p.x x number)) ∙ is_row)
+          | inl number ↦ none_some w (sym (new_number step p x opens (some_inj p.x x number)) ∙ is_row)
           | inr left ↦ unpolled p.c by_poll.want by_poll.at (left_body c x h.place left)
         ]
 
@@ -130,7 +132,7 @@ module _ (limits : Limits) (t : Tables) (now : ℕ) (flaw : Flaw) (s : Sound t) 
 
   -- AFTER AN ENTRY
 
-  reading_as : (c x : ℕ) (k u : Consumer) (w z : Exchange) (response : Response) → HeadedAs limits t now flaw s o ev goes x response w k.place u.place z → IsReading x u.place
+  reading_as : (c x : ℕ) (k u : Consumer) (w z : Exchange) (response : Response) → HeadedAs step x response w k.place u.place z → IsReading x u.place
   reading_as c x k u w z response (head.direct is) = owners.direct is
   reading_as c x k u w z response (head.founds lo hi how is on off) = owners.bound x lo hi how is
   reading_as c x k u w z response (head.joins r lo hi how was is aim on joined) = owners.bound r lo hi how is
@@ -150,15 +152,15 @@ module _ (limits : Limits) (t : Tables) (now : ℕ) (flaw : Flaw) (s : Sound t) 
           let was : is_some w.head ≡ true = head_some w z all.0 headed in
           let reading = o.reading c x k w row.row mine is_row (same.was_open opened) was in
           moved x k.place u.place (reader_stays c x k u w z row mine still is_row was after_row same opened reading) reading
-      by_heard (inr got) = reading_as c x k u w z got.response (headed_as limits t now flaw s o ev goes c x k u w z got.response got.at row mine is_row after_row same opened)
+      by_heard (inr got) = reading_as c x k u w z got.response (headed_as step c x k u w z got.response got.at row mine is_row after_row same opened)
 
   by_from : (c x : ℕ) (u : Consumer) (z : Exchange) → u.own ≡ Some x → now_on.exchange x ≡ Some z → z.is_open ≡ true → is_some z.head ≡ true → ExchangeFrom t e x z → OwnFrom t e c x u → IsReading x u.place
   by_from c x u z still after_row opened headed (exchange.was w is_row same) (own.kept k row mine heard) = kept_reading c x k u w z row mine still is_row after_row same opened headed
   by_from c x u z still after_row opened headed (exchange.new p none opens here made) (own.kept k row mine heard) = absurd (false_true (ap is_some (sym none) ∙ o.there c x k row.row mine))
-  by_from c x u z still after_row opened headed (exchange.was w is_row same) (own.opened k p row opens here this) = absurd (none_some w (sym (new_number limits t now flaw s o ev goes p x opens this) ∙ is_row))
+  by_from c x u z still after_row opened headed (exchange.was w is_row same) (own.opened k p row opens here this) = absurd (none_some w (sym (new_number step p x opens this) ∙ is_row))
   by_from c x u z still after_row opened headed (exchange.new q none opens here made) (own.opened k p row also mine this) = absurd (false_true (ap (λ (a : Exchange). is_some a.head) made ∙ headed))
   by_from c x u z still after_row opened headed from (own.left k row l) =
-      owners.bound l.r l.lo l.hi l.how (heard_at limits t now flaw s o ev goes c x k u (λ d want polls. unpolled d want polls (left_body c x _ l)) row ∙ l.at)
+      owners.bound l.r l.lo l.hi l.how (heard_at step c x k u (λ d want polls. unpolled d want polls (left_body c x _ l)) row ∙ l.at)
 
   -- Whose open exchange has a head reads.
   pub reading_kept : (c x : ℕ) (u : Consumer) (z : Exchange) → now_on.consumer c ≡ Some u → u.own ≡ Some x → now_on.exchange x ≡ Some z → z.is_open ≡ true → is_some z.head ≡ true → IsReading x u.place

@@ -9,7 +9,7 @@ use Rattle.hc_sparse.specs.Cells.{Cells, Covers, cells_with}
 use Rattle.hc_range.specs.declared.range.Span.{Span}
 use Rattle.hc_effects.proofs.Vocabulary.{Opening, opening_in, leaves_in, closes_in, given_in, Event, Response, HeadCase, Limits, BoundBy, Showing, showing_in, loses_in, has_loss, case_at, head_view, must_close, is_refused, brings_head, is_doomed, has_no_survivor, is_left, leaver, leaver_by, consumer_heard, consumer_acted, by_opening, waiting, is_number, denial, doomed_key_of, doomed_in, doomed_by_head, doomed_by_case, is_key, Entry, exchange_heard, promise_in, is_open, is_reached, family, becomes_due, cause_by_loss, Flaw, first_hole, covers, entry_of, Measures, Owners, is_written, bound, hi_of, offset, reads, new_representation, writer_at, Tables, Exchange, Representation, Consumer, Sound, IsBound, IsServed, IsExclusiveWriter, IsFirst, IsGrowing, after_accepted, brings_body, came_alone, loses_writing, survivor, goes_on_with, status_in, stops, event, case, place, by}
 use Rattle.hc_model.specs.Sound as sound
-use Rattle.hc_effects.proofs.{ApartKeeps.{written_by, is_on}, Basics.{false_true, number_is}, BoundFrom.{BoundFrom, IsRow, IsFounded, IsFirstHole, IsShown, bound_from}, BoundKeeps.{planned_at}, Closed.{before}, ConsumerFilters.{acted}, Dues.{due_before, undue_parts}, EndsKeep.{known_kept, measures_kept}, Fills.{Fills, fills}, FirstKeeps.{IsNew, came_kept, case_of_head, case_is, is_new, open_free, whole_200, replaced_200}, FoundBy.{CaseBy}, Forward.{after_is}, HoleLemmas.{covers_all}, LossBy.{IsReal, IsSealing, sealed_loss, seals_one, fresh}, LossServes.{survives}, Losses.{HasRest, goes_on_or_rests}, OwnersKeep.{is_opened}, ExclusiveWriters.{writer_some, none_about}, PollKeeps.{current_stays}, RepFrom.{RepFrom, rep_from, IsKept, IsResumed}, Said.{ShowsBy, leaving_by, showing_by}, SaidActs.{leaver_leaves}, ShownFrom.{ShownAs, IsPlanned}, Stops.{writer_about}, Unclosed.{had_to}, Waiters.{waiter_of, doomed_same, case_same}, WriterEnds.{all_stored}, WritingStops.{IsAll}}
+use Rattle.hc_effects.proofs.{ApartKeeps.{written_by, is_on}, Basics.{false_true, number_is}, BoundFrom.{BoundFrom, IsRow, IsFounded, IsFirstHole, IsShown, bound_from}, BoundKeeps.{planned_at}, Closed.{before}, ConsumerFilters.{acted}, Dues.{due_before, undue_parts}, EndsKeep.{known_kept, measures_kept}, Fills.{Fills, fills}, FirstKeeps.{IsNew, came_kept, case_of_head, case_is, is_new, open_free, whole_200, replaced_200}, FoundBy.{CaseBy}, Forward.{after_is}, HoleLemmas.{covers_all}, LossBy.{IsReal, IsSealing, sealed_loss, seals_one, fresh}, LossServes.{survives}, Losses.{HasRest, goes_on_or_rests}, OwnersKeep.{is_opened}, ExclusiveWriters.{writer_some, none_about}, PollKeeps.{current_stays}, RepFrom.{RepFrom, rep_from, IsKept, IsResumed}, Said.{ShowsBy, leaving_by, showing_by}, SaidActs.{leaver_leaves}, ShownFrom.{ShownAs, IsPlanned}, Stops.{writer_about}, Unclosed.{had_to}, Waiters.{waiter_of, doomed_same, case_same}, WriterEnds.{all_stored}, WritingStops.{IsAll}, Step.{Step}}
 use Rattle.hc_effects.proofs.BoundFrom as from
 use Rattle.hc_effects.proofs.Fills as fills_by
 use Rattle.hc_effects.proofs.FoundBy as cases
@@ -21,7 +21,9 @@ use Rattle.hc_effects.proofs.ShownFrom as shown_as
 pub written_covers : (at x lo hi : ℕ) (bytes : List ℕ) (f : Cells) → Covers f lo hi → Covers (cells_with at x bytes f) lo hi
 written_covers at x lo hi bytes f all p from_lo lt = grind (arith, nat_tests)
 
-module _ (limits : Limits) (t : Tables) (now : ℕ) (flaw : Flaw) (s : Sound t) (o : Owners t) (m : Measures t) (ev : Event) (goes : denial t ev ≡ None) (real : IsReal limits t now ev flaw) where
+module _ (step : Step) (m : Measures step.tables) (real : IsReal step.limits step.tables step.now step.event step.flaw) where
+  open step use {limits, tables as t, now, flaw, sound as s, event as ev, accepted as goes}
+
   abbrev e : Entry
   e = entry_of limits t now ev flaw
 
@@ -43,7 +45,7 @@ module _ (limits : Limits) (t : Tables) (now : ℕ) (flaw : Flaw) (s : Sound t) 
 
   pub lost_alone : (r : ℕ) (v p : Representation) → t.representation r ≡ Some v → IsKept t e r v p → loses_in r e.acts ≡ true → (p.is_lost ≡ true) × (p.alone ≡ goes_on_with t e r v)
   lost_alone r v p there kept loses =
-      let new = fresh limits t now flaw s o m ev goes real r v there loses in
+      let new = fresh step m real r v there loses in
       let test : (loses_in r e.acts && not v.is_lost) ≡ true = and_both _ _ loses (ap not new) in
       (kept.lost_is ∙ rw loses refl, alone_is r v p kept ∙ rw test refl)
 
@@ -103,7 +105,7 @@ module _ (limits : Limits) (t : Tables) (now : ℕ) (flaw : Flaw) (s : Sound t) 
     pub rest_by : IsAll p → (z : Option ℕ) → hi ≡ z → HasRest now_on p u
     rest_by all None is = rests_to all.total 0 (end_is (Some all.total) all.known ∙ ap (λ q. option_or q (Some all.total)) is) all.covered (omega arith)
     rest_by all (Some n) is =
-        let w = (measures_kept limits t now flaw s o m ev goes).ends r c lo n how u p after_row (stands ∙ ap (λ q. place.Bound r lo q how) is) after in
+        let w = (measures_kept step m).ends r c lo n how u p after_row (stands ∙ ap (λ q. place.Bound r lo q how) is) after in
         let same : w.total ≡ all.total = some_inj w.total all.total (sym w.known ∙ all.known) in
         let le : n ≤ w.total = w.ends in
         rests_to n 0 (end_is (Some all.total) all.known ∙ ap (λ q. option_or q (Some all.total)) is) (λ d from_lo lt. all.covered d from_lo (omega arith)) (omega arith)
@@ -133,7 +135,7 @@ module _ (limits : Limits) (t : Tables) (now : ℕ) (flaw : Flaw) (s : Sound t) 
       end_before = ap (hi_of t) at ∙ ap (λ q. option_or hi (Rattle.hc_model.specs.Currents.total_in q)) there
 
       end_by : (n : ℕ) (z : Option ℕ) → hi ≡ z → option_or hi v.head.total ≡ Some n → hi_of now_on u.place ≡ Some n
-      end_by n None is h = end_is (Some n) (known_kept limits t now flaw s o m ev goes r n v p kept (sym (ap (λ q. option_or q v.head.total) is) ∙ h)) ∙ ap (λ q. option_or q (Some n)) is
+      end_by n None is h = end_is (Some n) (known_kept step m r n v p kept (sym (ap (λ q. option_or q v.head.total) is) ∙ h)) ∙ ap (λ q. option_or q (Some n)) is
       end_by n (Some a) is h = end_is p.head.total refl ∙ (ap (λ q. option_or q p.head.total) is ∙ (sym (ap (λ q. option_or q v.head.total) is) ∙ h))
 
       pub still_rests : (n : ℕ) → hi_of t k.place ≡ Some n → Covers v.stored (offset t k) n → HasRest now_on p u
@@ -159,17 +161,17 @@ module _ (limits : Limits) (t : Tables) (now : ℕ) (flaw : Flaw) (s : Sound t) 
             let all = lost_alone r v p there kept loses in
             alone_now all.0 (all.1 ∙ (rw losing is))
         | inr other ↦
-            let z = sealed_loss limits t now flaw s o m ev goes real r v there loses other in
-            let one : z.y ≡ x = seals_one limits t now flaw s o m ev goes real r x v there (writer_about t r x v s there on writer) z in
+            let z = sealed_loss step m real r v there loses other in
+            let one : z.y ≡ x = seals_one step m real r x v there (writer_about t r x v s there on writer) z in
             let off : is_open (now_on.exchange x) ≡ false = subst (λ n. is_open (now_on.exchange n) ≡ false) one (over z.y z.w z.row z.ends) in
-            by_all (all_stored limits t now flaw s o m ev goes real r c x lo hi how k u v p row at stands there on writer undue kept (inr other) off) hi refl
+            by_all (all_stored step m real r c x lo hi how k u v p row at stands there on writer undue kept (inr other) off) hi refl
       ]
 
       pub resumed_not : is_written t v ≡ true → (x : ℕ) → v.writer ≡ Some x → IsResumed t e r v p.writer → ⊥
       resumed_not on x writer R =
           let new = is_new limits t now flaw s ev goes R.x R.response R.w R.at R.row in
           let aim : R.w.aim ≡ Some r = number_is R.w.aim r (and_right _ (is_number R.w.aim r) (and_left _ _ R.renews)) in
-          let waits = waiter_of limits t now flaw s o ev goes R.x R.w R.row new.is_open new.bare in
+          let waits = waiter_of step R.x R.w R.row new.is_open new.bare in
           let grows = (s.rows r v there).growing x on writer in
           let g = grows.1 in
           let hole = Rattle.hc_effects.proofs.HeadKeeps.is_join t (has_loss e.acts) R.w R.response (sym (ap Rattle.hc_model.specs.Cases.is_joining (case_is t e R.x R.response R.w R.at R.row)) ∙ R.joins) in
@@ -181,7 +183,7 @@ module _ (limits : Limits) (t : Tables) (now : ℕ) (flaw : Flaw) (s : Sound t) 
       -- what was written for several, and isn't lost
       shared_kept : is_written t v ≡ true → (x : ℕ) → v.writer ≡ Some x → loses_in r e.acts ≡ false → Served
       shared_kept on x writer quiet = elim (bool_cases (is_open (now_on.exchange x))) [
-        | inr off ↦ by_all (all_stored limits t now flaw s o m ev goes real r c x lo hi how k u v p row at stands there on writer undue kept (inl quiet) off) hi refl
+        | inr off ↦ by_all (all_stored step m real r c x lo hi how k u v p row at stands there on writer undue kept (inl quiet) off) hi refl
         | inl still ↦ sound.shares (written_by now_on p x ((kept_alone r v p kept quiet).0 ∙ (is_on t v x on writer).kept) (by_writer kept.writer_is) still)
       ]
         where
@@ -201,7 +203,7 @@ module _ (limits : Limits) (t : Tables) (now : ℕ) (flaw : Flaw) (s : Sound t) 
       alone_or_rest off loses =
           let all = lost_alone r v p there kept loses in
           let unlosing : loses_writing t e r v ≡ false = (rw off (and_off (brings_body ev && loses_in r e.acts))) in
-          elim (goes_on_or_rests t r c v k s there reader none_due off (fresh limits t now flaw s o m ev goes real r v there loses)) [
+          elim (goes_on_or_rests t r c v k s there reader none_due off (fresh step m real r v there loses)) [
             | inl is ↦ alone_now all.0 (all.1 ∙ (rw unlosing is))
             | inr rest ↦ still_reads rest.hi rest.end rest.covered
           ]
@@ -218,7 +220,7 @@ module _ (limits : Limits) (t : Tables) (now : ℕ) (flaw : Flaw) (s : Sound t) 
         ]
       ]
       by_exclusive_writer (sound.alone lost is) = elim (bool_cases (loses_in r e.acts)) [
-        | inl loses ↦ absurd (false_true (sym (fresh limits t now flaw s o m ev goes real r v there loses) ∙ lost))
+        | inl loses ↦ absurd (false_true (sym (fresh step m real r v there loses) ∙ lost))
         | inr quiet ↦ let all = kept_alone r v p kept quiet in alone_now (all.0 ∙ lost) (all.1 ∙ is)
       ]
 
@@ -233,15 +235,15 @@ module _ (limits : Limits) (t : Tables) (now : ℕ) (flaw : Flaw) (s : Sound t) 
     -- BY A POLL
 
     -- a poll loses no r of which an open exchange goes on
-    quiet_poll : (want d : ℕ) → ev ≡ event.Poll d want → (v : Representation) → t.representation r ≡ Some v → ((z : IsSealing limits t now flaw s o m ev goes real r) → ⊥) → loses_in r e.acts ≡ false
-    quiet_poll want d polls v there none = never_true (loses_in r e.acts) (λ loses. none (sealed_loss limits t now flaw s o m ev goes real r v there loses (ap brings_body polls)))
+    quiet_poll : (want d : ℕ) → ev ≡ event.Poll d want → (v : Representation) → t.representation r ≡ Some v → ((z : IsSealing step m real r) → ⊥) → loses_in r e.acts ≡ false
+    quiet_poll want d polls v there none = never_true (loses_in r e.acts) (λ loses. none (sealed_loss step m real r v there loses (ap brings_body polls)))
 
     -- AT A FIRST HOLE
 
     opened : (k : Consumer) (q : Opening) → IsRow t e c r lo hi how k u → opening_in e.acts ≡ Some q → q.c ≡ c → bound t r ≡ [] → IsFirstHole t e c r lo hi how q (waiting t e c (consumer_heard t e c ev k)) → RepFrom t e r p → Served
     opened k q row opens mine nobody hole (rep.founded response w none here exchange_row on made) = absurd (none_some hole.v (sym none ∙ hole.row))
     opened k q row opens mine nobody hole (rep.was v kept) =
-        let by_poll = is_opened limits t now flaw s o ev goes q opens in
+        let by_poll = is_opened step q opens in
         let one : hole.v ≡ v = same_row (t.representation r) hole.v v hole.row kept.row in
         let not_gone : v.is_gone ≡ false = ap (λ (z : Representation). z.is_gone) (sym one) ∙ current_stays t _ r hole.v hole.current_is hole.row in
         let quiet = quiet_poll by_poll.want q.c by_poll.at v kept.row (λ z. none_about t r z.y v s kept.row nobody (sound.headed z.w z.row z.was_open z.headed z.of_r (ap is_some kept.row))) in
@@ -320,7 +322,7 @@ module _ (limits : Limits) (t : Tables) (now : ℕ) (flaw : Flaw) (s : Sound t) 
             let heard : (exchange_heard t e x ev grows.0).is_open ≡ true = ap (λ a. (exchange_heard t e x a grows.0).is_open) shows.poll.at ∙ (sym (ap is_open g.row) ∙ was.open_now) in
             let still : is_open (now_on.exchange x) ≡ true = ap is_open (after_is t e x grows.0 (t.exchange x) g.row) ∙ and_both _ _ (ap not shut) heard in
             let quiet = quiet_poll shows.want z.c shows.poll.at v there (λ y.
-            let number : y.y ≡ x = seals_one limits t now flaw s o m ev goes real r x v there (writer_about t r x v s there on writer) y in
+            let number : y.y ≡ x = seals_one step m real r x v there (writer_about t r x v s there on writer) y in
             false_true (sym (subst (λ n. is_open (now_on.exchange n) ≡ false) number (over y.y y.w y.row y.ends)) ∙ still)) in
             sound.shares (written_by now_on p x ((kept_alone r q p kept quiet).0 ∙ (ap (λ (a : Representation). a.is_lost) one ∙ was.kept)) (by_writer q kept one kept.writer_is) still)
           where
@@ -376,7 +378,7 @@ module _ (limits : Limits) (t : Tables) (now : ℕ) (flaw : Flaw) (s : Sound t) 
           left_not q is_leaver h = grind (arith, nat_tests)
 
           doomed_none : doomed_key_of t b ≡ None
-          doomed_none = sym (doomed_same limits t now flaw s o ev goes) ∙ (ap (doomed_in t e) here ∙ (ap (doomed_by_head t e response) exchange_row ∙ undoomed))
+          doomed_none = sym (doomed_same step) ∙ (ap (doomed_in t e) here ∙ (ap (doomed_by_head t e response) exchange_row ∙ undoomed))
 
           new : IsNew limits t now flaw s ev goes x w
           new = is_new limits t now flaw s ev goes x response w here exchange_row
@@ -390,7 +392,7 @@ module _ (limits : Limits) (t : Tables) (now : ℕ) (flaw : Flaw) (s : Sound t) 
             | inl more ↦ elim (or_cases _ (has_no_survivor t b x (family x w) (t.representation (family x w))) more) [
               | inr lost ↦ lost_not (family x w) (t.representation (family x w)) (ap t.representation own ∙ new.unfounded) lost
               | inl less ↦ elim (or_cases (is_refused (case_at t b) && brings_head x ev) (is_doomed t b x w) less) [
-                | inl refused ↦ false_true (sym (sym (ap is_refused (case_same limits t now flaw s o ev goes)) ∙ unrefused) ∙ and_left _ _ refused)
+                | inl refused ↦ false_true (sym (sym (ap is_refused (case_same step)) ∙ unrefused) ∙ and_left _ _ refused)
                 | inr doom ↦ false_true (sym (ap (λ q. is_key q w.request.key) doomed_none) ∙ and_left _ _ (and_left _ _ doom))
               ]
             ]

@@ -2,7 +2,7 @@
 use Rattle.std.{proofs.{Common.{◌≡◌, inl, inr, ℕ, Bool, true, false, cond, Option, Some, None, refl, ap, sym, ◌∙◌, subst, arith}, lemmas.Bool.Decides.{nat_tests}}, specs.Prelude.{if◌then◌else◌, ◌==◌}}
 use Rattle.hc_text.proofs.Basics.{bool_cases, same_some as same_row}
 use Rattle.hc_effects.proofs.Vocabulary.{Opening, opening_in, leaves_in, Event, Response, Wait, Why, HeadCase, Limits, head_case, route_of, Place, Showing, showing_in, wait_in, has_loss, case_at, head_view, was_shown, consumer_heard, consumer_acted, by_head, by_fault, by_opening, place_by_case, passed_on, passed_by, kept_by, waiting, waiting_place, unless_bound, shown_place, due_after, back_in_line, current, denial, Entry, Flaw, entry_of, Move, Shows, Owners, IsAwaiting, move_of, bound_to, reads, Tables, Exchange, Consumer, Sound, starts_over, after_accepted, event, wait, route, by, place}
-use Rattle.hc_effects.proofs.{Basics.{false_true}, FirstKeeps.{is_new, case_is, is_opener}, Forward.{is_kept}, FoundBy.{CaseBy, case_by}, OpenedAs.{Way, opened_as}, PastApart.{IsApart}, PieceKeeps.{eq_cases}, Said.{IsShowing, IsOpening, WaitsAs, opening_by, showing_by, waiting_by}, ShownOnce.{is_showing, shown_shows}, Waiters.{IsWaiter, waiter_of}}
+use Rattle.hc_effects.proofs.{Basics.{false_true}, FirstKeeps.{is_new, case_is, is_opener}, Forward.{is_kept}, FoundBy.{CaseBy, case_by}, OpenedAs.{Way, opened_as}, PastApart.{IsApart}, PieceKeeps.{eq_cases}, Said.{IsShowing, IsOpening, WaitsAs, opening_by, showing_by, waiting_by}, ShownOnce.{is_showing, shown_shows}, Waiters.{IsWaiter, waiter_of}, Step.{Step}}
 use Rattle.hc_effects.proofs.FoundBy as cases
 use Rattle.hc_effects.proofs.Said as said
 
@@ -39,7 +39,9 @@ passed_by_idle kept o = grind (arith, nat_tests)
 pub unless_same : (b : Option ℕ) (r : ℕ) (old new : Place) → b ≡ Some r → unless_bound b old new ≡ old
 unless_same b r old new is = grind (arith, nat_tests)
 
-module _ (limits : Limits) (t : Tables) (now : ℕ) (flaw : Flaw) (s : Sound t) (o : Owners t) (ev : Event) (goes : denial t ev ≡ None) where
+module _ (step : Step) where
+  open step use {limits, tables as t, now, flaw, sound as s, event as ev, accepted as goes}
+
   abbrev e : Entry
   e = entry_of limits t now ev flaw
 
@@ -54,7 +56,7 @@ module _ (limits : Limits) (t : Tables) (now : ℕ) (flaw : Flaw) (s : Sound t) 
 
     module _ (x : ℕ) (response : Response) (w : Exchange) (here : ev ≡ event.Head x response) (exchange_row : t.exchange x ≡ Some w) (mine : w.c ≡ c) where
       got : (q : Consumer) × IsWaiter t w.c x q w
-      got = let new = is_new limits t now flaw s ev goes x response w here exchange_row in waiter_of limits t now flaw s o ev goes x w exchange_row new.is_open new.bare
+      got = let new = is_new limits t now flaw s ev goes x response w here exchange_row in waiter_of step x w exchange_row new.is_open new.bare
 
       at : IsAwaiting x w k.place
       at = subst (λ (q : Consumer). IsAwaiting x w q.place) (same_row (t.consumer c) got.0 k (sym (ap t.consumer mine) ∙ got.1.row) row) got.1.at

@@ -6,7 +6,7 @@ use Rattle.hc_sparse.proofs.CellLemmas.{inside-past, inside-yes}
 use Rattle.hc_effects.proofs.Vocabulary.{leaves_in, given_in, opening_in, Event, Response, Limits, Member, least, lesser, stands_at, BoundBy, loses_in, by_opening, own_after, left_to, waiting, is_number, denial, Entry, base, front, is_open, Flaw, flaw_in, entry_of, Measures, Owners, is_written, bound, offset, lo_of, Tables, Exchange, Representation, Consumer, Sound, IsBound, IsAlone, IsGrowing, after_accepted, brings_body, loses_writing, survivor, member, offset_in, event, place}
 use Rattle.hc_model.specs.Laws.{SurvivorsGoOn}
 use Rattle.hc_model.specs.Sound as sound
-use Rattle.hc_effects.proofs.{Basics.{false_true, number_yes}, BoundStays.{bound_stays}, ConsumerFilters.{acted}, ExchangeFrom.{IsSame, IsHeaded}, Fills.{Fills, fills, Brings, brings}, FirstKeeps.{is_new}, ApartKeeps.{is_on}, HadKeeps.{survivor_bound}, LossBy.{IsReal, fresh}, MeasuresKeep.{IsHeld, held, one_piece}, ExclusiveWriters.{writer_some}, OfEntries.{of_real}, HasBound.{reader_of}, RepFrom.{RepFrom, rep_from, IsKept}, Said.{leaving_by}}
+use Rattle.hc_effects.proofs.{Basics.{false_true, number_yes}, BoundStays.{bound_stays}, ConsumerFilters.{acted}, ExchangeFrom.{IsSame, IsHeaded}, Fills.{Fills, fills, Brings, brings}, FirstKeeps.{is_new}, ApartKeeps.{is_on}, HadKeeps.{survivor_bound}, LossBy.{IsReal, fresh}, MeasuresKeep.{IsHeld, held, one_piece}, ExclusiveWriters.{writer_some}, OfEntries.{of_real}, HasBound.{reader_of}, RepFrom.{RepFrom, rep_from, IsKept}, Said.{leaving_by}, Step.{Step, step_of}}
 use Rattle.hc_effects.proofs.Fills as fills_by
 use Rattle.hc_effects.proofs.Forward as forward
 use Rattle.hc_effects.proofs.MemberStays as member_stays
@@ -36,7 +36,9 @@ survivor_offset t r c v k row is =
     let here : offset_in t (t.consumer c) ≡ v.reach = grind (arith, nat_tests) in
     sym (ap (offset_in t) row) ∙ here
 
-module _ (limits : Limits) (t : Tables) (now : ℕ) (flaw : Flaw) (s : Sound t) (o : Owners t) (m : Measures t) (ev : Event) (goes : denial t ev ≡ None) (real : IsReal limits t now ev flaw) where
+module _ (step : Step) (m : Measures step.tables) (real : IsReal step.limits step.tables step.now step.event step.flaw) where
+  open step use {limits, tables as t, now, flaw, sound as s, event as ev, accepted as goes}
+
   abbrev e : Entry
   e = entry_of limits t now ev flaw
 
@@ -55,27 +57,27 @@ module _ (limits : Limits) (t : Tables) (now : ℕ) (flaw : Flaw) (s : Sound t) 
       covered : (n : ℕ) → v.reach ≤ n → Covers p.body n (front z)
       ahead : (q : ℕ) → front z ≤ q → p.stored q ≡ p.body q
 
-    fronts : (w z : Exchange) → IsGrowing t r v x w → IsSame t e x w z → w.is_open ≡ true → IsHeld limits t now flaw s o m ev goes x w z → Brings t e x w z → Fills t e r v p → IsFront z
+    fronts : (w z : Exchange) → IsGrowing t r v x w → IsSame t e x w z → w.is_open ≡ true → IsHeld step m x w z → Brings t e x w z → Fills t e r v p → IsFront z
     fronts w z g same opened keeps (fills_by.still none body_is) (fills_by.still none_of same_body stored_is reach_is) =
         let first : base z ≡ base w = keeps.base_is in
         let count : length z.body ≡ length w.body = ap (λ (b : List ℕ). length b) body_is in
         let was : front w ≡ v.reach = g.front_is in
         record {
           covered = λ n le q from_n lt. absurd (let below : q < front z = lt in omega arith);
-          ahead = λ q le. ap (λ (f : Cells). f q) stored_is ∙ ((s.rows r v there).store.all_stored (fresh limits t now flaw s o m ev goes real r v there loses) q ∙ sym (ap (λ (f : Cells). f q) same_body));
+          ahead = λ q le. ap (λ (f : Cells). f q) stored_is ∙ ((s.rows r v there).store.all_stored (fresh step m real r v there loses) q ∙ sym (ap (λ (f : Cells). f q) same_body));
         }
     fronts w z g same opened keeps (fills_by.still none body_is) (fills_by.more y bytes a is same_body stored_is reach_is) =
-        absurd (let it = one_piece limits t now flaw s o m ev goes x r y bytes w a v g.row opened g.headed g.family_is kept.row is in none bytes (is.at ∙ ap (λ n. event.Piece n bytes) it.0))
+        absurd (let it = one_piece step m x r y bytes w a v g.row opened g.headed g.family_is kept.row is in none bytes (is.at ∙ ap (λ n. event.Piece n bytes) it.0))
     fronts w z g same opened keeps (fills_by.more bytes here body_is) (fills_by.still none_of same_body stored_is reach_is) = absurd (none_of x bytes w (record { at = here; row = g.row; of_r = g.family_is }))
     fronts w z g same opened keeps (fills_by.more bytes here body_is) (fills_by.more y more a is same_body stored_is reach_is) =
-        let it = one_piece limits t now flaw s o m ev goes x r y more w a v g.row opened g.headed g.family_is kept.row is in
+        let it = one_piece step m x r y more w a v g.row opened g.headed g.family_is kept.row is in
         let bytes_same : bytes ≡ more = piece_bytes x y bytes more (sym here ∙ is.at) in
         let longer : length z.body ≡ length w.body + length bytes = ap (λ (b : List ℕ). length b) body_is ∙ length-append w.body bytes in
         let first : base z ≡ base w = keeps.base_is in
         let was : front w ≡ v.reach = g.front_is in
         let front_is : front a ≡ front w = ap (λ (b : Exchange). front b) it.1 in
         let count : length more ≡ length bytes = ap (λ (b : List ℕ). length b) (sym bytes_same) in
-        let new = fresh limits t now flaw s o m ev goes real r v there loses in
+        let new = fresh step m real r v there loses in
         let quiet : (v.is_lost || loses_in r e.acts) ≡ true = rw (new, loses) refl in
         let stored_now : p.stored ≡ v.stored = stored_is ∙ ap (λ b. if not b then cells_with (front a) y more v.stored else v.stored) quiet in
         record {
@@ -88,8 +90,8 @@ module _ (limits : Limits) (t : Tables) (now : ℕ) (flaw : Flaw) (s : Sound t) 
 
     pub survivor_alone : GoesOn now_on p u (Some x)
     survivor_alone =
-        let waiterless = member_stays.no_waiter limits t now flaw s o ev goes c r lo hi how k v row at there on in
-        let st = bound_stays limits t now flaw s o ev goes c r lo hi how k row at waiterless (λ here. false_true (sym (ap brings_body here) ∙ brings_one)) (not_so (leaves_in c e.acts) (λ leaves. let got = leaving_by limits t now flaw s ev goes c leaves in unpolled c got.want got.poll.at)) in
+        let waiterless = member_stays.no_waiter step c r lo hi how k v row at there on in
+        let st = bound_stays step c r lo hi how k row at waiterless (λ here. false_true (sym (ap brings_body here) ∙ brings_one)) (not_so (leaves_in c e.acts) (λ leaves. let got = leaving_by limits t now flaw s ev goes c leaves in unpolled c got.want got.poll.at)) in
         let one : st.u ≡ u = same_row (now_on.consumer c) st.u u st.after after_row in
         let mine : is_number (survivor t r v) c ≡ true = number_yes (survivor t r v) c survives in
         let left : (n : Option ℕ) → own_after t e c k.place n ≡ Some x = (λ n. ap (λ a. own_after t e c a n) at ∙ (ap (λ a. left_to t e c r a n) there ∙ (rw (losing, mine) writer))) in
@@ -121,7 +123,7 @@ module _ (limits : Limits) (t : Tables) (now : ℕ) (flaw : Flaw) (s : Sound t) 
         still_headed w z g (inr got) = ap (λ (a : Option Response). is_some a) got.head_is
 
         by_heard : (w z : Exchange) → IsGrowing t r v x w → now_on.exchange x ≡ Some z → IsSame t e x w z → ((z.head ≡ w.head) × (z.joined ≡ w.joined)) ⊎ IsHeaded t e x w z → IsFront z
-        by_heard w z g after_x same (inl still) = fronts w z g same (sym (ap is_open g.row) ∙ (is_on t v x on writer).open_now) (held limits t now flaw s o m ev goes x w z same still.0 still.1) (brings t e x w z g.row after_x) (fills t e r v p kept)
+        by_heard w z g after_x same (inl still) = fronts w z g same (sym (ap is_open g.row) ∙ (is_on t v x on writer).open_now) (held step m x w z same still.0 still.1) (brings t e x w z g.row after_x) (fills t e r v p kept)
         by_heard w z g after_x same (inr got) =
             let none = (is_new limits t now flaw s ev goes x got.response w got.at g.row).bare in
             absurd (false_true (sym (ap (λ (a : Option Response). is_some a) none) ∙ g.headed))
@@ -149,4 +151,4 @@ module _ (limits : Limits) (t : Tables) (now : ℕ) (flaw : Flaw) (s : Sound t) 
 pub survivors_go_on : SurvivorsGoOn
 survivors_go_on limits t e s o m owed not_denied r c v p u there losing is after after_row =
     of_real limits t e (λ z. loses_writing t z r v ≡ true → (after_accepted t z).representation r ≡ Some p → (after_accepted t z).consumer c ≡ Some u → IsAlone (after_accepted t z) p u) owed not_denied
-    (λ going real losing_now after_now row_now. (goes_on limits t e.now (flaw_in e.acts) s o m e.event going real r c v p u there losing_now is after_now row_now).is) losing after after_row
+    (λ going real losing_now after_now row_now. (goes_on (step_of limits t e.now (flaw_in e.acts) s o e.event going) m real r c v p u there losing_now is after_now row_now).is) losing after after_row

@@ -5,7 +5,7 @@ use Rattle.hc_effects.proofs.Vocabulary.{Opening, opening_in, leaves_in, shows_i
 use Rattle.hc_rules.specs.Refusals as refusals
 use Rattle.hc_event.specs.declared.place.Place.TheVariants as place
 use Rattle.hc_model.specs.Sound as sound
-use Rattle.hc_effects.proofs.{Basics.{false_true, or_false}, BoundFrom.{BoundFrom, IsRow, bound_from}, ConsumerFilters.{acted}, FirstKeeps.{case_is, is_new, is_opener}, Forward.{is_on, opened_on, is_untouched}, FoundBy.{CaseBy, case_by}, Once.{taken}, OwnersKeep.{is_opened, new_number}, PieceKeeps.{eq_cases}, Said.{shows_it, showing_by, waiting_by}, Waiters.{IsWaiter, waiter_of, heard_same, unclosed, own_acted}}
+use Rattle.hc_effects.proofs.{Basics.{false_true, or_false}, BoundFrom.{BoundFrom, IsRow, bound_from}, ConsumerFilters.{acted}, FirstKeeps.{case_is, is_new, is_opener}, Forward.{is_on, opened_on, is_untouched}, FoundBy.{CaseBy, case_by}, Once.{taken}, OwnersKeep.{is_opened, new_number}, PieceKeeps.{eq_cases}, Said.{shows_it, showing_by, waiting_by}, Waiters.{IsWaiter, waiter_of, heard_same, unclosed, own_acted}, Step.{Step}}
 use Rattle.hc_effects.proofs.BoundFrom as bound
 use Rattle.hc_effects.proofs.ExchangeFrom as exchange
 use Rattle.hc_effects.proofs.FoundBy as cases
@@ -26,7 +26,9 @@ data FirstCase : HeadCase → Type 0 where
   replaced : FirstCase case.FirstReplaced
   passes_by : FirstCase case.FirstPassesBy
 
-module _ (limits : Limits) (t : Tables) (now : ℕ) (flaw : Flaw) (s : Sound t) (o : Owners t) (ev : Event) (goes : denial t ev ≡ None) where
+module _ (step : Step) where
+  open step use {limits, tables as t, now, flaw, sound as s, owners as o, event as ev, accepted as goes}
+
   abbrev e : Entry
   e = entry_of limits t now ev flaw
 
@@ -63,7 +65,7 @@ module _ (limits : Limits) (t : Tables) (now : ℕ) (flaw : Flaw) (s : Sound t) 
 
   opens_none : ((c want : ℕ) → ev ≡ event.Poll c want → ⊥) → (z : Option Opening) → opening_in e.acts ≡ z → z ≡ None
   opens_none unpolled None is = refl
-  opens_none unpolled (Some p) is = let opened = is_opened limits t now flaw s o ev goes p is in absurd (unpolled p.c opened.want opened.at)
+  opens_none unpolled (Some p) is = let opened = is_opened step p is in absurd (unpolled p.c opened.want opened.at)
 
   shows_none : ((c want : ℕ) → ev ≡ event.Poll c want → ⊥) → (z : Option Showing) → showing_in e.acts ≡ z → z ≡ None
   shows_none unpolled None is = refl
@@ -135,12 +137,12 @@ module _ (limits : Limits) (t : Tables) (now : ℕ) (flaw : Flaw) (s : Sound t) 
 
     own_of : (exchange_in ev ≡ Some y → ⊥) → u.own ≡ Some y
     own_of other =
-        let same : consumer_heard t e c ev k ≡ k = heard_same limits t now flaw s o ev goes c y k w is ev refl other cancelled in
-        sym (ap (λ (z : Consumer). z.own) row.is) ∙ (ap (λ (h : Consumer). own_after t e c h.place (by_opening t c (opening_in e.acts) (waiting t e c h)).own) same ∙ own_acted limits t now flaw s o ev goes c y k w is)
+        let same : consumer_heard t e c ev k ≡ k = heard_same step c y k w is ev refl other cancelled in
+        sym (ap (λ (z : Consumer). z.own) row.is) ∙ (ap (λ (h : Consumer). own_after t e c h.place (by_opening t c (opening_in e.acts) (waiting t e c h)).own) same ∙ own_acted step c y k w is)
 
     others : (exchange_in ev ≡ Some y → ⊥) → IsToBeShown now_on u (by.FirstHole y)
     others other =
-        let shut = unclosed limits t now flaw s o ev goes c y k w is other cancelled row.leaves row.stays in
+        let shut = unclosed step c y k w is other cancelled row.leaves row.stays in
         let un = is_untouched t e y w is.exchange_row other shut in
         let on : is_open (now_on.exchange y) ≡ true = ap is_open un.row ∙ (un.open_is ∙ is.was_open) in
         let own : own_open now_on u ≡ Some y = ap (option_and_then (if_open now_on)) (own_of other) ∙ ap (λ (v : Bool). if v then Some y else None) on in
@@ -220,7 +222,7 @@ module _ (limits : Limits) (t : Tables) (now : ℕ) (flaw : Flaw) (s : Sound t) 
       let all = headless_parts (t.exchange y) headless in
       let f = o.first_own c r lo y hi k row.row at in
       let for_it : all.0.c ≡ c = ap (λ (z : Exchange). z.c) (same_row (t.exchange y) all.0 f.w all.1 f.row) ∙ f.for_it in
-      let got = waiter_of limits t now flaw s o ev goes y all.0 all.1 all.2 all.3 in
+      let got = waiter_of step y all.0 all.1 all.2 all.3 in
       let one : got.0 ≡ k = same_row (t.consumer c) got.0 k (sym (ap t.consumer for_it) ∙ got.1.row) row.row in
       still_waits c r lo y hi k u row stands at unshown after_row all.0 (subst (λ (z : Consumer). IsWaiter t c y z all.0) one (subst (λ d. IsWaiter t d y got.0 all.0) for_it got.1))
 
@@ -237,7 +239,7 @@ module _ (limits : Limits) (t : Tables) (now : ℕ) (flaw : Flaw) (s : Sound t) 
   opened_waits : (c r lo y : ℕ) (hi : Option ℕ) (k u : Consumer) (p : Opening) → IsRow t e c r lo hi (by.FirstHole y) k u → opening_in e.acts ≡ Some p → p.c ≡ c → p.x ≡ y → bound_to (waiting t e c (consumer_heard t e c ev k)).place ≡ None → IsToBeShown now_on u (by.FirstHole y)
   opened_waits c r lo y hi k u p row opens here same free =
       let opener = is_opener limits t now flaw s ev goes c k p row.row opens here in
-      let made : now_on.exchange y ≡ Some (exchange_opened t e p) = opened_on t e y p (t.exchange y) (new_number limits t now flaw s o ev goes p y opens same) opens same in
+      let made : now_on.exchange y ≡ Some (exchange_opened t e p) = opened_on t e y p (t.exchange y) (new_number step p y opens same) opens same in
       let number : nat_eq p.c c ≡ true = (let eq : p.c ≡ c = here in grind (arith, nat_tests)) in
       let mine : (q : Consumer) → (by_opening t c (opening_in e.acts) q).own ≡ Some y = λ q. ap (λ z. (by_opening t c z q).own) opens ∙ (rw number (ap Some same)) in
       let free_place : bound_to k.place ≡ None = sym (ap bound_to opener.place_is) ∙ free in

@@ -5,7 +5,7 @@ use Rattle.hc_effects.proofs.Vocabulary.{act, event, case, route, LostKind, Even
 use Rattle.hc_event.specs.declared.place.Place.TheVariants as place
 use Rattle.hc_model.specs.Effects.{with_resumption}
 use Rattle.hc_model.specs.Owners as owners
-use Rattle.hc_effects.proofs.{Basics.{false_true, true_false}, FoundBy.{CaseBy, case_by, unchanged_founds, validated_selects}, HeadFacts.{waiter, evicts_none, head_does, goes_on, goes_back, goes_it, rows, rows_same, is_it}, HeadFrames.{e, heard, has_as, row_updates, row_loses, spared_as}, KeyRows.{same_number}, LossStands.{joins_again, not_founding}, PieceKeeps.{eq_cases}, PollEffects.{none_waits, same_consumer}, PollKeeps.{current_stays}, SameTables.{is_in, waits_for_any}, Waiters.{unwritten, waits_undue, own_open_is}}
+use Rattle.hc_effects.proofs.{Basics.{false_true, true_false}, FoundBy.{CaseBy, case_by, unchanged_founds, validated_selects}, HeadFacts.{waiter, evicts_none, head_does, goes_on, goes_back, goes_it, rows, rows_same, is_it}, HeadFrames.{e, heard, has_as, row_updates, row_loses, spared_as}, KeyRows.{same_number}, LossStands.{joins_again, not_founding}, PieceKeeps.{eq_cases}, PollEffects.{none_waits, same_consumer}, PollKeeps.{current_stays}, SameTables.{is_in, waits_for_any}, Waiters.{unwritten, waits_undue, own_open_is}, Step.{step_of}}
 use Rattle.hc_effects.proofs.FoundBy as cases
 use Rattle.hc_model.specs.Sound as sound
 
@@ -193,13 +193,13 @@ module _ (limits : Limits) (t : Tables) (law : Lawful t) (now x : ℕ) (response
         by_await (owners.hole q lo hi by hole aimed stands) = record { lo = lo; hi = hi; by = by; stands = stands ∙ ap (λ z. place.Bound z lo hi by) (some_inj q r (sym aimed ∙ aim)) }
 
     pub joins_unwritten : is_written t v ≡ false
-    joins_unwritten = not_so (is_written t v) (λ on. unwritten limits t now NoFlaw law.sound law.owned ev goes w.c x k w (waiter limits t law now x response goes w row k asker) r reader.lo reader.hi reader.by v v.writer reader.stands there on refl)
+    joins_unwritten = not_so (is_written t v) (λ on. unwritten (step_of limits t now NoFlaw law.sound law.owned ev goes) w.c x k w (waiter limits t law now x response goes w row k asker) r reader.lo reader.hi reader.by v v.writer reader.stands there on refl)
 
     -- its consumer does
     pub joins_alone : v.is_lost ≡ false → exclusive t r v ≡ Some w.c
     joins_alone kept =
-        let waits = waits_undue limits t now NoFlaw law.sound law.owned ev goes r w.c x reader.lo reader.hi reader.by v k w (waiter limits t law now x response goes w row k asker) reader.stands there in
-        (law.alone.writes r w.c v k there kept joins_unwritten (is_first waits.1) asker waits.0).1 (rw (own_open_is limits t now NoFlaw law.sound law.owned ev goes w.c x k w (waiter limits t law now x response goes w row k asker)) refl)
+        let waits = waits_undue (step_of limits t now NoFlaw law.sound law.owned ev goes) r w.c x reader.lo reader.hi reader.by v k w (waiter limits t law now x response goes w row k asker) reader.stands there in
+        (law.alone.writes r w.c v k there kept joins_unwritten (is_first waits.1) asker waits.0).1 (rw (own_open_is (step_of limits t now NoFlaw law.sound law.owned ev goes) w.c x k w (waiter limits t law now x response goes w row k asker)) refl)
       where
         is_first : IsExclusiveWriter t r v w.c → IsFirst t r w.c
         is_first (sound.first same came) = came

@@ -4,7 +4,7 @@ use Rattle.hc_text.proofs.Basics.{both_true as and_both, and_left, and_right, bo
 use Rattle.hc_effects.proofs.Vocabulary.{Opening, opening_in, leaves_in, closes_in, Event, Response, Limits, Place, BoundBy, case_at, case_of, must_close, is_refused, brings_head, is_doomed, awaits, has_no_survivor, is_left, is_left_by, is_last_reader, leaver, leaver_by, consumer_heard, by_head, by_fault, by_opening, own_after, left_to, waiting, is_number, denial, doomed_key_of, doomed_in, doomed_by_head, doomed_by_case, is_key, Entry, family, exchange_in, is_headless, is_open, Flaw, entry_of, Owners, IsAwaiting, own_open, if_open, is_written, shared_exchange, writing_in, Tables, Exchange, Representation, Consumer, Sound, IsAbout, IsExclusiveWriter, starts_over, waits_at, awaited_exchange, loses_writing, survivor, event, place}
 use Rattle.hc_model.specs.Owners as owners
 use Rattle.hc_model.specs.Sound as sound
-use Rattle.hc_effects.proofs.{Basics.{false_true, number_is}, BoundFrom.{place_inj}, Closed.{before}, FirstKeeps.{is_new}, MoveBy.{IsHeard}, OpensFrom.{hole_is}, OwnersKeep.{is_opened}, PieceKeeps.{eq_cases}, ExclusiveWriters.{row_of, writer_some}, SaidActs.{loss_is, leaver_leaves}, Stops.{writer_about}, Unclosed.{had_to}, StaysOn.{unopened}}
+use Rattle.hc_effects.proofs.{Basics.{false_true, number_is}, BoundFrom.{place_inj}, Closed.{before}, FirstKeeps.{is_new}, MoveBy.{IsHeard}, OpensFrom.{hole_is}, OwnersKeep.{is_opened}, PieceKeeps.{eq_cases}, ExclusiveWriters.{row_of, writer_some}, SaidActs.{loss_is, leaver_leaves}, Stops.{writer_about}, Unclosed.{had_to}, StaysOn.{unopened}, Step.{Step}}
 use Rattle.hc_rules.specs.Refusals as refusals
 
 -- c waits for the head of its own exchange y
@@ -18,7 +18,9 @@ pub record IsWaiter (t : Tables) (c y : ℕ) (k : Consumer) (w : Exchange) : Typ
   pub key_is : w.request.key ≡ k.request.key
   pub at : IsAwaiting y w k.place
 
-module _ (limits : Limits) (t : Tables) (now : ℕ) (flaw : Flaw) (s : Sound t) (o : Owners t) (ev : Event) (goes : denial t ev ≡ None) where
+module _ (step : Step) where
+  open step use {limits, tables as t, now, flaw, sound as s, owners as o, event as ev, accepted as goes}
+
   abbrev e : Entry
   e = entry_of limits t now ev flaw
 
@@ -116,7 +118,7 @@ module _ (limits : Limits) (t : Tables) (now : ℕ) (flaw : Flaw) (s : Sound t) 
 
     pub no_opening : (p : Opening) → opening_in e.acts ≡ Some p → p.c ≡ c → ⊥
     no_opening p opens here =
-        let opened = is_opened limits t now flaw s o ev goes p opens in
+        let opened = is_opened step p opens in
         let one : opened.k ≡ k = same_row (t.consumer c) opened.k k (sym (ap t.consumer here) ∙ opened.row) is.row in
         not_heard (subst (IsHeard t) one opened.way.heard)
 

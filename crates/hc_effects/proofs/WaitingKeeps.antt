@@ -4,10 +4,12 @@ use Rattle.hc_text.proofs.Basics.{both_true as and_both, bool_cases, not_some as
 use Rattle.hc_effects.proofs.Vocabulary.{Opening, opening_in, leaves_in, closes_in, Event, Response, Wait, Limits, route_of, Place, BoundBy, Showing, showing_in, wait_in, case_of, must_close, is_doomed, awaits, is_left, is_left_by, leaver, leaver_by, consumer_heard, consumer_acted, shown_place, waiting, due_after, denial, doomed_key_of, is_key, Entry, exchange_heard, exchange_opened, exchange_in, exchange_at, is_for, is_headless, Flaw, entry_of, Owners, IsAwaiting, Awaits, poll_move, move_of, own_open, reads, Tables, Exchange, Consumer, Sound, starts_over, waits_at, awaited_exchange, sends_back, after_accepted, Opens, may_stand, event, place, by}
 use Rattle.hc_rules.specs.Refusals as refusals
 use Rattle.hc_model.specs.Owners as owners
-use Rattle.hc_effects.proofs.{Basics.{false_true, number_yes}, Closed.{before, closes}, ExchangeFrom.{ExchangeFrom, IsSame, exchange_from}, Forward.{heard_other, is_kept}, PieceKeeps.{eq_cases}, Said.{IsShowing, WaitsAs, showing_by, waiting_by, opening_by}, SaidActs.{leaves_leaver}, ShownFrom.{shown_from}, WaitedAs.{IsForOthers, waited_as}, WaitingNew.{awaits as new_awaits}, OpenedAs.{opened_as, opening_is}, Waiters.{IsWaiter, waiter_of, heard_same, own_acted, own_open_is, not_heard, head_is_own, opening_stays, doomed_same, headless_is}, BoundStays.{headless_parts}, StaysOn.{awaiting_keeps, plain_place, settled, stays_by, waits_where}}
+use Rattle.hc_effects.proofs.{Basics.{false_true, number_yes}, Closed.{before, closes}, ExchangeFrom.{ExchangeFrom, IsSame, exchange_from}, Forward.{heard_other, is_kept}, PieceKeeps.{eq_cases}, Said.{IsShowing, WaitsAs, showing_by, waiting_by, opening_by}, SaidActs.{leaves_leaver}, ShownFrom.{shown_from}, WaitedAs.{IsForOthers, waited_as}, WaitingNew.{awaits as new_awaits}, OpenedAs.{opened_as, opening_is}, Waiters.{IsWaiter, waiter_of, heard_same, own_acted, own_open_is, not_heard, head_is_own, opening_stays, doomed_same, headless_is}, BoundStays.{headless_parts}, StaysOn.{awaiting_keeps, plain_place, settled, stays_by, waits_where}, Step.{Step}}
 use Rattle.hc_effects.proofs.ExchangeFrom as exchange
 
-module _ (limits : Limits) (t : Tables) (now : ℕ) (flaw : Flaw) (s : Sound t) (o : Owners t) (ev : Event) (goes : denial t ev ≡ None) where
+module _ (step : Step) where
+  open step use {limits, tables as t, now, flaw, sound as s, owners as o, event as ev, accepted as goes}
+
   abbrev e : Entry
   e = entry_of limits t now ev flaw
 
@@ -26,7 +28,7 @@ module _ (limits : Limits) (t : Tables) (now : ℕ) (flaw : Flaw) (s : Sound t) 
 
     left_by : (z : Option ℕ) → leaver b ≡ z → z ≡ Some c → ⊥
     left_by z at mine =
-        let left : is_left_by t y c (Some k) ≡ true = or_left _ _ (number_yes (own_open t k) y (own_open_is limits t now flaw s o ev goes c y k w is)) in
+        let left : is_left_by t y c (Some k) ≡ true = or_left _ _ (number_yes (own_open t k) y (own_open_is step c y k w is)) in
         let leaves : is_left t y (leaver b) ≡ true = ap (is_left t y) (at ∙ mine) ∙ (ap (is_left_by t y c) is.row ∙ left) in
         not_must (or_right _ _ leaves)
 
@@ -56,8 +58,8 @@ module _ (limits : Limits) (t : Tables) (now : ℕ) (flaw : Flaw) (s : Sound t) 
     doomed_must : is_key (doomed_key_of t e) k.request.key ≡ true → waits_at t k.place ≡ true → ⊥
     doomed_must key waits =
         let at_it : awaited_exchange k.place ≡ Some y = awaited_at k.place refl is.at waits in
-        let keyed : is_key (doomed_key_of t b) w.request.key ≡ true = ap (is_key (doomed_key_of t b)) is.key_is ∙ (ap (λ z. is_key z k.request.key) (sym (doomed_same limits t now flaw s o ev goes)) ∙ key) in
-        let bare : is_headless (Some w) ≡ true = sym (ap is_headless is.exchange_row) ∙ headless_is limits t now flaw s o ev goes c y k w is in
+        let keyed : is_key (doomed_key_of t b) w.request.key ≡ true = ap (is_key (doomed_key_of t b)) is.key_is ∙ (ap (λ z. is_key z k.request.key) (sym (doomed_same step)) ∙ key) in
+        let bare : is_headless (Some w) ≡ true = sym (ap is_headless is.exchange_row) ∙ headless_is step c y k w is in
         let awaiting : awaits (t.consumer w.c) y ≡ true = ap (λ z. awaits z y) (ap t.consumer is.for_it ∙ is.row) ∙ number_yes (awaited_exchange k.place) y at_it in
         let doomed_it : is_doomed t b y w ≡ true = and_both _ _ (and_both _ _ keyed bare) awaiting in
         not_must (or_left _ _ (or_left _ _ (or_right _ _ doomed_it)))
@@ -70,7 +72,7 @@ module _ (limits : Limits) (t : Tables) (now : ℕ) (flaw : Flaw) (s : Sound t) 
     headed_back x response (Some q) at row mine =
         let test : nat_eq q.c c ≡ true = mine in
         let here : q.c ≡ c = grind (arith, nat_tests) in
-        let same : x ≡ y = head_is_own limits t now flaw s o ev goes c y k w is x response q at row here in
+        let same : x ≡ y = head_is_own step c y k w is x response q at row here in
         other (ap exchange_in at ∙ ap Some same)
 
     unheaded : (v : Event) (lost : Bool) → ev ≡ v → sends_back (case_of t lost v) ≡ true → is_for (exchange_at t v) c ≡ true → ⊥
@@ -88,7 +90,7 @@ module _ (limits : Limits) (t : Tables) (now : ℕ) (flaw : Flaw) (s : Sound t) 
         let by_poll = waiting_by limits t now flaw s ev goes c z at in
         let one : by_poll.k ≡ k = same_row (t.consumer c) by_poll.k k by_poll.poll.row is.row in
         let waits : WaitsAs z (move_of t now by_poll.want c k) = subst (λ (q : Consumer). WaitsAs z (move_of t now by_poll.want c q)) one by_poll.move in
-        not_heard limits t now flaw s o ev goes c y k w is (waited_as t now c k z others by_poll.want s is.row waits).heard
+        not_heard step c y k w is (waited_as t now c k z others by_poll.want s is.row waits).heard
 
     shown_not : (z : Showing) → showing_in e.acts ≡ Some z → z.c ≡ c → reads k.place ≡ false → ⊥
     shown_not z at here free =
@@ -96,7 +98,7 @@ module _ (limits : Limits) (t : Tables) (now : ℕ) (flaw : Flaw) (s : Sound t) 
         let row : t.consumer z.c ≡ Some k = ap t.consumer here ∙ is.row in
         let one : by_poll.k ≡ k = same_row (t.consumer z.c) by_poll.k k by_poll.poll.row row in
         let show : IsShowing z (move_of t now by_poll.want z.c k) = subst (λ (q : Consumer). IsShowing z (move_of t now by_poll.want z.c q)) one by_poll.move in
-        not_heard limits t now flaw s o ev goes c y k w is (shown_from t now z.c k by_poll.want z s row show free).heard
+        not_heard step c y k w is (shown_from t now z.c k by_poll.want z s row show free).heard
 
     shows_on : (z : Option Showing) → showing_in e.acts ≡ z → shown_place c z k.place ≡ k.place
     shows_on None at = refl
@@ -120,15 +122,15 @@ module _ (limits : Limits) (t : Tables) (now : ℕ) (flaw : Flaw) (s : Sound t) 
     pub stands : Stands
     stands =
         let on = is_kept t e c k is.row in
-        let same : consumer_heard t e c ev k ≡ k = heard_same limits t now flaw s o ev goes c y k w is ev refl other not_cancelled in
+        let same : consumer_heard t e c ev k ≡ k = heard_same step c y k w is ev refl other not_cancelled in
         let q = consumer_acted t e c (consumer_heard t e c ev k) in
         let made : due_after t e c k q ≡ on.u = sym (settled t e c k q stays_on) ∙ on.is in
-        let placed : (consumer_acted t e c k).place ≡ k.place = plain_place t e c k (leaves_in c e.acts) (showing_in e.acts) (opening_in e.acts) (wait_in c e.acts) stays_in (opening_stays limits t now flaw s o ev goes c y k w is (waiting t e c k) (opening_in e.acts) refl) (waits_where t k (wait_in c e.acts) told_not) (shows_on (showing_in e.acts) refl) in
+        let placed : (consumer_acted t e c k).place ≡ k.place = plain_place t e c k (leaves_in c e.acts) (showing_in e.acts) (opening_in e.acts) (wait_in c e.acts) stays_in (opening_stays step c y k w is (waiting t e c k) (opening_in e.acts) refl) (waits_where t k (wait_in c e.acts) told_not) (shows_on (showing_in e.acts) refl) in
         record {
           u = on.u;
           row = on.row;
           place_is = sym (ap (λ (z : Consumer). z.place) made) ∙ (ap (λ (h : Consumer). (consumer_acted t e c h).place) same ∙ placed);
-          own_is = sym (ap (λ (z : Consumer). z.own) made) ∙ (ap (λ (h : Consumer). (consumer_acted t e c h).own) same ∙ own_acted limits t now flaw s o ev goes c y k w is);
+          own_is = sym (ap (λ (z : Consumer). z.own) made) ∙ (ap (λ (h : Consumer). (consumer_acted t e c h).own) same ∙ own_acted step c y k w is);
         }
 
   -- HEADLESS EXCHANGES AFTER AN ENTRY
@@ -152,7 +154,7 @@ module _ (limits : Limits) (t : Tables) (now : ℕ) (flaw : Flaw) (s : Sound t) 
 
   was_waiting : (x : ℕ) (w u : Exchange) → t.exchange x ≡ Some w → IsSame t e x w u → u.is_open ≡ true → u.head ≡ None → Awaits now_on x u
   was_waiting x w u row same on bare =
-      let got = waiter_of limits t now flaw s o ev goes x w row (same.was_open on) (same.bare bare) in
+      let got = waiter_of step x w row (same.was_open on) (same.bare bare) in
       let st = stands w.c x got.0 w got.1 (unmet ev x w u refl row same on bare) (same.unclosed on) in
       record {
         k = st.u;

@@ -3,7 +3,7 @@ use Rattle.std.{proofs.{Common.{◌≡◌, ◌⊎◌, inl, inr, ℕ, ◌≤◌, 
 use Rattle.hc_text.proofs.Basics.{and_left, and_right, bool_cases, not_some as none_some, or_cases, same_some as same_row, some_inj}
 use Rattle.hc_effects.proofs.Vocabulary.{leaves_in, closes_in, Event, Response, is_same_number, Limits, Place, BoundBy, loses_in, answer_acts, loss_acts, must_close, is_refused, brings_head, is_doomed, has_no_survivor, is_left, is_left_by, is_last_reader, leaver, leaver_by, case_at, consumer_heard, is_number, denial, Entry, exchange_in, is_open, family, promised_bytes, becomes_due, stop_cause, short_cause, short_of, Flaw, entry_of, Measures, Owners, is_written, bound, is_bound, own_open, if_open, shared_exchange, writing_in, source, Tables, Exchange, Representation, Consumer, Sound, Among, IsBound, IsGrowing, after_accepted, brings_body, loses_writing, event, cause, place}
 use Rattle.hc_model.specs.Sound as sound
-use Rattle.hc_effects.proofs.{ActParts.{said_is, said_closes}, ApartKeeps.{is_on}, Basics.{false_true, some_none, number_is}, BoundFrom.{IsRow}, Closed.{before, among_filter}, Dues.{undue_parts}, LossBy.{IsReal, loses_flaw}, RepFrom.{IsKept}, SaidActs.{leaver_leaves}, Stops.{source_is}, ToBeShown.{heard_place}, Unclosed.{had_to}, WritingStops.{IsAll, refused_not, ends_all}}
+use Rattle.hc_effects.proofs.{ActParts.{said_is, said_closes}, ApartKeeps.{is_on}, Basics.{false_true, some_none, number_is}, BoundFrom.{IsRow}, Closed.{before, among_filter}, Dues.{undue_parts}, LossBy.{IsReal, loses_flaw}, RepFrom.{IsKept}, SaidActs.{leaver_leaves}, Stops.{source_is}, ToBeShown.{heard_place}, Unclosed.{had_to}, WritingStops.{IsAll, refused_not, ends_all}, Step.{Step}}
 
 pub none_of : (q : Option Response) → is_none q ≡ true → is_some q ≡ true → ⊥
 none_of None none some = false_true some
@@ -14,7 +14,9 @@ all_same l d [] h there = absurd there
 all_same l d (z ∷ ds) h (inl same) = let test : nat_eq z l ≡ true = and_left (z == l) _ h in let here : z ≡ l = grind (arith, nat_tests) in sym same ∙ here
 all_same l d (z ∷ ds) h (inr more) = all_same l d ds (and_right (z == l) _ h) more
 
-module _ (limits : Limits) (t : Tables) (now : ℕ) (flaw : Flaw) (s : Sound t) (o : Owners t) (m : Measures t) (ev : Event) (goes : denial t ev ≡ None) (real : IsReal limits t now ev flaw) where
+module _ (step : Step) (m : Measures step.tables) (real : IsReal step.limits step.tables step.now step.event step.flaw) where
+  open step use {limits, tables as t, now, flaw, sound as s, owners as o, event as ev}
+
   abbrev e : Entry
   e = entry_of limits t now ev flaw
 
@@ -26,7 +28,7 @@ module _ (limits : Limits) (t : Tables) (now : ℕ) (flaw : Flaw) (s : Sound t) 
 
   -- closings see the same losses
   pub loses_same : (r : ℕ) → loses_in r b.acts ≡ loses_in r e.acts
-  loses_same r = (said_closes 0 r t now ev flaw (answer_acts t now ev flaw) (loss_acts flaw) (said_is t now ev flaw)).loses ∙ sym (loses_flaw limits t now flaw s o m ev goes real r ev)
+  loses_same r = (said_closes 0 r t now ev flaw (answer_acts t now ev flaw) (loss_acts flaw) (said_is t now ev flaw)).loses ∙ sym (loses_flaw step m real r ev)
 
   module _ (r c x lo : ℕ) (hi : Option ℕ) (how : BoundBy) (k u : Consumer) (v p : Representation) (row : IsRow t e c r lo hi how k u) (at : k.place ≡ place.Bound r lo hi how) (stands : u.place ≡ place.Bound r lo hi how) (there : t.representation r ≡ Some v) (on : is_written t v ≡ true) (writer : v.writer ≡ Some x) (undue : becomes_due t e c k ≡ None) (kept : IsKept t e r v p) (calm : (loses_in r e.acts ≡ false) ⊎ (brings_body ev ≡ false)) where
     reader : IsBound t r c k
@@ -36,7 +38,7 @@ module _ (limits : Limits) (t : Tables) (now : ℕ) (flaw : Flaw) (s : Sound t) 
 
     cancels_not : ev ≡ event.Cancel c → ⊥
     cancels_not here =
-        let heard : u.place ≡ (consumer_heard t e c ev k).place = heard_place limits t now flaw s o ev goes c r lo hi how k u (λ d want polls. let no : event.Cancel c ≡ event.Poll d want = sym here ∙ polls in cc) row in
+        let heard : u.place ≡ (consumer_heard t e c ev k).place = heard_place step c r lo hi how k u (λ d want polls. let no : event.Cancel c ≡ event.Poll d want = sym here ∙ polls in cc) row in
         let over : (consumer_heard t e c (event.Cancel c) k).place ≡ place.Over = (let test : nat_eq c c ≡ true = grind (arith, nat_tests) in rw test refl) in
         let no : place.Over ≡ place.Bound r lo hi how = sym over ∙ (sym (ap (λ z. (consumer_heard t e c z k).place) here) ∙ (sym heard ∙ stands)) in cc
 
@@ -104,7 +106,7 @@ module _ (limits : Limits) (t : Tables) (now : ℕ) (flaw : Flaw) (s : Sound t) 
         | inl more ↦ elim (or_cases _ (has_no_survivor t b x (family x w) (t.representation (family x w))) more) [
           | inr lost_it ↦ lost_not lost_it
           | inl less ↦ elim (or_cases (is_refused (case_at t b) && brings_head x ev) (is_doomed t b x w) less) [
-            | inl refused ↦ refused_not limits t now flaw s o m ev goes r x v p w there on writer kept g was_open ev refl (and_right _ _ refused)
+            | inl refused ↦ refused_not step m r x v p w there on writer kept g was_open ev refl (and_right _ _ refused)
             | inr doomed ↦ doomed_not doomed
           ]
         ]
@@ -137,7 +139,7 @@ module _ (limits : Limits) (t : Tables) (now : ℕ) (flaw : Flaw) (s : Sound t) 
           none_short = sym (ap (short_of x w) is) ∙ (sym (ap (short_cause x) g.row) ∙ (sym (ap (stop_cause t) here) ∙ stop_is_none (ap exchange_in here)))
 
       ends_with_all : is_open (now_on.exchange x) ≡ false → IsAll p
-      ends_with_all off = ends_all limits t now flaw s o m ev goes r x v p w there on writer kept g was_open calm not_closed unfaulted enough ev refl off
+      ends_with_all off = ends_all step m r x v p w there on writer kept g was_open calm not_closed unfaulted enough ev refl off
 
     writer_was_open : (w : Exchange) → t.exchange x ≡ Some w → w.is_open ≡ true
     writer_was_open w exchange_row = sym (ap is_open exchange_row) ∙ (is_on t v x on writer).open_now

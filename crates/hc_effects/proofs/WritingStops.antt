@@ -3,7 +3,7 @@ use Rattle.std.{proofs.{Common.{◌≡◌, ◌⊎◌, inl, inr, ℕ, ◌+◌, �
 use Rattle.hc_text.proofs.Basics.{both_false as both_off}
 use Rattle.hc_sparse.specs.Cells.{Cells, Covers, cells_with}
 use Rattle.hc_effects.proofs.Vocabulary.{closes_in, Event, Response, Limits, loses_in, brings_head, denial, Entry, exchange_heard, is_open, is_reached, front, base, promised_bytes, Flaw, entry_of, Measures, Owners, is_written, length_in, Tables, Exchange, Representation, Sound, IsGrowing, end_from, after_accepted, brings_body, event}
-use Rattle.hc_effects.proofs.{ApartKeeps.{is_on}, Basics.{false_true}, EndsKeep.{known_kept}, FirstKeeps.{is_new}, Forward.{after_is}, PieceKeeps.{eq_cases}, RepFrom.{IsKept}, Stops.{last_piece}}
+use Rattle.hc_effects.proofs.{ApartKeeps.{is_on}, Basics.{false_true}, EndsKeep.{known_kept}, FirstKeeps.{is_new}, Forward.{after_is}, PieceKeeps.{eq_cases}, RepFrom.{IsKept}, Stops.{last_piece}, Step.{Step}}
 
 -- all of it is stored, and its length is known
 pub record IsAll (p : Representation) : Type 0 where
@@ -11,7 +11,9 @@ pub record IsAll (p : Representation) : Type 0 where
   pub known : p.head.total ≡ Some total
   pub covered : Covers p.stored 0 total
 
-module _ (limits : Limits) (t : Tables) (now : ℕ) (flaw : Flaw) (s : Sound t) (o : Owners t) (m : Measures t) (ev : Event) (goes : denial t ev ≡ None) where
+module _ (step : Step) (m : Measures step.tables) where
+  open step use {limits, tables as t, now, flaw, sound as s, event as ev, accepted as goes}
+
   abbrev e : Entry
   e = entry_of limits t now ev flaw
 
@@ -57,7 +59,7 @@ module _ (limits : Limits) (t : Tables) (now : ℕ) (flaw : Flaw) (s : Sound t) 
               let stored_is = stored_on (both_off v.is_lost (loses_in r e.acts) (is_on t v x on writer).kept quiet_now) bytes here in
               record {
                 total = base w + n;
-                known = known_kept limits t now flaw s o m ev goes r (base w + n) v p kept known;
+                known = known_kept step m r (base w + n) v p kept known;
                 covered = λ d from_lo lt. ap (λ (f : Cells). is_some (f d)) stored_is ∙ last_piece t r x (base w + n) bytes v w g known reached d from_lo lt;
               }
 

@@ -2,7 +2,7 @@
 use Rattle.std.proofs.Common.{◌≡◌, ◌⊎◌, inl, inr, ℕ, Bool, true, false, cond, Option, Some, None, refl, ap, sym, ◌∙◌}
 use Rattle.hc_text.proofs.Basics.{not_some as none_some, same_some as same_row}
 use Rattle.hc_effects.proofs.Vocabulary.{Event, Request, Limits, case_at, is_joining, consumer_heard, waiting, current, denial, Entry, Contents, exchange_opened, aim_of, Flaw, entry_of, Owners, bound_to, Tables, Exchange, Consumer, Sound, first_tables, after_accepted, after_denied, by, place}
-use Rattle.hc_effects.proofs.{BoundFrom.{BoundFrom, bound_from}, ExchangeFrom.{ExchangeFrom, IsHeaded, exchange_from}, FirstKeeps.{is_new, is_opener}, Forward.{is_on, opened_on}, OwnersKeep.{new_number}, WaitingNew.{aim_free}}
+use Rattle.hc_effects.proofs.{BoundFrom.{BoundFrom, bound_from}, ExchangeFrom.{ExchangeFrom, IsHeaded, exchange_from}, FirstKeeps.{is_new, is_opener}, Forward.{is_on, opened_on}, OwnersKeep.{new_number}, WaitingNew.{aim_free}, Step.{Step}}
 use Rattle.hc_effects.proofs.BoundFrom as from
 use Rattle.hc_effects.proofs.ExchangeFrom as exchange
 
@@ -14,7 +14,9 @@ joined_if : (b : Bool) (aim : Option ℕ) (q : ℕ) → cond b aim None ≡ Some
 joined_if true aim q is = is
 joined_if false aim q is = absurd (none_some q is)
 
-module _ (limits : Limits) (t : Tables) (now : ℕ) (flaw : Flaw) (s : Sound t) (o : Owners t) (ev : Event) (goes : denial t ev ≡ None) (a : IsAimed t) where
+module _ (step : Step) (a : IsAimed step.tables) where
+  open step use {limits, tables as t, now, flaw, sound as s, owners as o, event as ev, accepted as goes}
+
   abbrev e : Entry
   e = entry_of limits t now ev flaw
 
@@ -44,7 +46,7 @@ module _ (limits : Limits) (t : Tables) (now : ℕ) (flaw : Flaw) (s : Sound t) 
   first_by c r lo y hi u z after (from.opens k p row opens mine free way hole) =
       let op = is_opener limits t now flaw s ev goes c k p row.row opens mine in
       let same : p.x ≡ y = cc in
-      let made : now_on.exchange y ≡ Some (exchange_opened t e p) = opened_on t e y p (t.exchange y) (new_number limits t now flaw s o ev goes p y opens same) opens same in
+      let made : now_on.exchange y ≡ Some (exchange_opened t e p) = opened_on t e y p (t.exchange y) (new_number step p y opens same) opens same in
       let unbound : bound_to k.place ≡ None = sym (ap bound_to op.place_is) ∙ free in
       let asked : (waiting t e c (consumer_heard t e c ev k)).request ≡ k.request = ap (λ (q : Consumer). q.request) op.heard_is in
       let aims : aim_of t (t.consumer p.c) ≡ Some r = ap (aim_of t) (ap t.consumer mine ∙ row.row) ∙ (aim_free t k.request.key k.place unbound ∙ (sym (ap (λ (q : Request). current t q.key) asked) ∙ hole.current_is)) in

@@ -5,7 +5,7 @@ use Rattle.hc_effects.proofs.Vocabulary.{Cause, Entry, covers, OfRuns, Descends,
 use Rattle.hc_sparse.specs.Cells.{EndsBy}
 use Rattle.hc_model.specs.Alone.{Alone, IsOnly}
 use Rattle.hc_model.specs.Sound as sound
-use Rattle.hc_effects.proofs.{Basics.{false_true}, Exclusives.{IsExclusive, exclusive_parts}, HasBound.{bound_row}, HoleLemmas.{covers_yes}, HolesOpened.{stored_ends}, Losses.{exclusive_is}, ExclusiveWriters.{eq-refl}, PieceKeeps.{eq_cases}, OfConsumers.{all_below}}
+use Rattle.hc_effects.proofs.{Basics.{false_true}, Exclusives.{IsExclusive, exclusive_parts}, HasBound.{bound_row}, HoleLemmas.{covers_yes}, HolesOpened.{stored_ends}, Losses.{exclusive_is}, ExclusiveWriters.{eq-refl}, PieceKeeps.{eq_cases}, OfConsumers.{all_below}, Step.{step_of}}
 use Rattle.hc_laws.proofs.{DeniedKeeps.{written_same}, Lone.{AreLone, IsResting, lone_kept}, OrderRuns.{order_in_runs}, RunFacts.{in_runs}, SoundRuns.{carried}}
 
 lone_denied : (t : Tables) (e : Entry) → AreLone t → AreLone (after_denied t e)
@@ -20,7 +20,7 @@ lone_in_runs : OfRuns AreLone
 lone_in_runs = in_runs (λ limits t. AreLone t)
     (λ limits contents may. record { lone = λ r c d v k u row fresh off first k_row. absurd (none_some k k_row) })
     (λ limits t e later was. lone_denied t e was)
-    (λ limits t now flaw later c was ev goes real. lone_kept limits t now flaw c.is_sound c.is_owned c.is_measured was ev goes real)
+    (λ limits t now flaw later c was ev goes real. lone_kept (step_of limits t now flaw c.is_sound c.is_owned ev goes) c.is_measured was real)
 
 -- ONE THAT PASSES
 

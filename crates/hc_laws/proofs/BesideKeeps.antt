@@ -3,7 +3,7 @@ use Rattle.std.proofs.Common.{◌≡◌, ℕ, None, sym, ◌∙◌}
 use Rattle.hc_text.proofs.Basics.{not_some as none_some}
 use Rattle.hc_effects.proofs.Vocabulary.{Event, Limits, denial, Entry, Contents, Flaw, entry_of, AfterDenials, Measures, Owners, Tables, Representation, Consumer, Sound, IsBound, first_tables, after_accepted, after_denied}
 use Rattle.hc_model.specs.Sound as sound
-use Rattle.hc_effects.proofs.{Beside.{IsBeside}, LossBy.{IsReal}, Losses.{HasRest}}
+use Rattle.hc_effects.proofs.{Beside.{IsBeside}, LossBy.{IsReal}, Losses.{HasRest}, Step.{step_of}}
 use Rattle.hc_laws.proofs.{CachedKeeps.{cached_kept}, CoversKept.{covered_kept}, DeniedKeeps.{written_same, was_bound, was_first, was_exclusive_writer}, Rests.{rested_kept}}
 
 -- nobody reads at the beginning
@@ -29,7 +29,7 @@ beside_denied t e i = record {
 
 pub beside_kept : (limits : Limits) (t : Tables) (now : ℕ) (flaw : Flaw) → Sound t → Owners t → Measures t → IsBeside t → (ev : Event) → denial t ev ≡ None → IsReal limits t now ev flaw → IsBeside (after_accepted t (entry_of limits t now ev flaw))
 beside_kept limits t now flaw s o m i ev goes real = record {
-  covered = λ r c x v k w there exclusive_writer reader none own row. covered_kept limits t now flaw s o m i ev goes real r c x v k w there exclusive_writer reader none own row;
-  rested = λ r c v k there fresh first reader none own off. rested_kept limits t now flaw s o m i ev goes real r c v k there fresh first reader none own off;
-  cached = λ c k row at. cached_kept limits t now flaw s o i ev goes c k row at;
+  covered = λ r c x v k w there exclusive_writer reader none own row. covered_kept (step_of limits t now flaw s o ev goes) m i real r c x v k w there exclusive_writer reader none own row;
+  rested = λ r c v k there fresh first reader none own off. rested_kept (step_of limits t now flaw s o ev goes) m i real r c v k there fresh first reader none own off;
+  cached = λ c k row at. cached_kept (step_of limits t now flaw s o ev goes) i c k row at;
 }

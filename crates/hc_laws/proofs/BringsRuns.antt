@@ -5,7 +5,7 @@ use Rattle.hc_sparse.specs.Cells.{Cell, inside, cells_with}
 use Rattle.hc_sparse.proofs.CellLemmas.{inside-cases}
 use Rattle.hc_effects.proofs.Vocabulary.{Event, Response, base_of, Limits, denial, Entry, base, front, family, Flaw, entry_of, OfRuns, Brings, cell_from, Measures, Origins, MayDeliver, Owners, Tables, Exchange, Representation, Sound, after_accepted, event}
 use Rattle.hc_model.specs.Origins as origins
-use Rattle.hc_effects.proofs.{Basics.{false_true}, ExchangeFrom.{ExchangeFrom, exchange_from, IsSame}, Fills.{Fills, fills, IsPiece, brings, length_same}, FirstKeeps.{is_new}, NumbersKeep.{opens_next}, Once.{delivers_once}, RepFrom.{RepFrom, rep_from, IsKept}}
+use Rattle.hc_effects.proofs.{Basics.{false_true}, ExchangeFrom.{ExchangeFrom, exchange_from, IsSame}, Fills.{Fills, fills, IsPiece, brings, length_same}, FirstKeeps.{is_new}, NumbersKeep.{opens_next}, Once.{delivers_once}, RepFrom.{RepFrom, rep_from, IsKept}, Step.{Step, step_of}}
 use Rattle.hc_effects.proofs.ExchangeFrom as exchange
 use Rattle.hc_effects.proofs.Fills as fills_by
 use Rattle.hc_laws.proofs.{OriginRuns.{origins_in_runs}, RunFacts.{in_runs_with}}
@@ -22,7 +22,9 @@ old_bytes w bytes p low under = let lt : p - base w < length w.body = omega arit
 cell_is : (x a b : ℕ) → a ≡ b → (let c : Cell = record { byte = a; x = x } in Some c) ≡ Some (record { byte = b; x = x })
 cell_is x a b same = ap (λ n. Some (record { byte = n; x = x })) same
 
-module _ (limits : Limits) (t : Tables) (now : ℕ) (flaw : Flaw) (s : Sound t) (o : Owners t) (m : Measures t) (g : Origins t) (was : Brings t) (ev : Event) (goes : denial t ev ≡ None) where
+module _ (step : Step) (m : Measures step.tables) (g : Origins step.tables) (was : Brings step.tables) where
+  open step use {limits, tables as t, now, flaw, sound as s, event as ev, accepted as goes}
+
   abbrev e : Entry
   e = entry_of limits t now ev flaw
 
@@ -187,4 +189,4 @@ pub brings_in_runs : OfRuns Brings
 brings_in_runs = in_runs_with (λ limits t. Brings t) (λ limits t. Origins t) origins_in_runs
     (λ limits contents may. record { stands = λ x p w v row. absurd (none_some w row); only = λ r x p cell w v there here from row. absurd (none_some w row) })
     (λ limits t e later was. record { stands = was.stands; only = was.only })
-    (λ limits t now flaw ev s g was. let c = s.before in brings_kept limits t now flaw c.is_sound c.is_owned c.is_measured g was ev s.going)
+    (λ limits t now flaw ev s g was. let c = s.before in brings_kept (step_of limits t now flaw c.is_sound c.is_owned ev s.going) c.is_measured g was)

@@ -3,7 +3,7 @@ use Rattle.std.proofs.Common.{◌≡◌, inl, inr, ℕ, true, false, Option, Som
 use Rattle.hc_text.proofs.Basics.{not_some as none_some, same_some as same_row, some_inj}
 use Rattle.hc_effects.proofs.Vocabulary.{Opening, opening_in, Event, Response, Limits, head_case, route_of, is_disabled, Place, BoundBy, has_loss, case_at, head_view, is_founding, consumer_after, consumer_made, denial, Entry, Flaw, entry_of, Owners, IsAwaiting, reads, Tables, Exchange, Consumer, Sound, after_accepted, event, route, place}
 use Rattle.hc_model.specs.Owners as owners
-use Rattle.hc_effects.proofs.{Forward.{is_kept}, Basics.{false_true}, Beside.{IsBeside, is_cached_place}, BoundFrom.{BoundFrom, bound_from}, BoundKeeps.{planned_at, founding_is}, FirstKeeps.{case_is, is_new}, FoundBy.{founding_by, founds_way}, OwnersKeep.{is_opened}, PieceKeeps.{eq_cases}, TurnPlaces.{ComesFrom, IsPlain, is_after}, Waiters.{waiter_of}}
+use Rattle.hc_effects.proofs.{Forward.{is_kept}, Basics.{false_true}, Beside.{IsBeside, is_cached_place}, BoundFrom.{BoundFrom, bound_from}, BoundKeeps.{planned_at, founding_is}, FirstKeeps.{case_is, is_new}, FoundBy.{founding_by, founds_way}, OwnersKeep.{is_opened}, PieceKeeps.{eq_cases}, TurnPlaces.{ComesFrom, IsPlain, is_after}, Waiters.{waiter_of}, Step.{Step}}
 use Rattle.hc_effects.proofs.BoundFrom as from
 use Rattle.hc_effects.proofs.OpenedAs as opened
 use Rattle.hc_effects.proofs.TurnPlaces as turn
@@ -16,7 +16,9 @@ starts_line c now (event.Start d request) u is = elim (eq_cases d c) [
 ]
 starts_line c now _ u is = absurd (none_some u is)
 
-module _ (limits : Limits) (t : Tables) (now : ℕ) (flaw : Flaw) (s : Sound t) (o : Owners t) (i : IsBeside t) (ev : Event) (goes : denial t ev ≡ None) where
+module _ (step : Step) (i : IsBeside step.tables) where
+  open step use {limits, tables as t, now, flaw, sound as s, event as ev, accepted as goes}
+
   abbrev e : Entry
   e = entry_of limits t now ev flaw
 
@@ -36,7 +38,7 @@ module _ (limits : Limits) (t : Tables) (now : ℕ) (flaw : Flaw) (s : Sound t) 
 
   opens_cached : (p : Opening) (c : ℕ) (k : Consumer) → opening_in e.acts ≡ Some p → p.c ≡ c → t.consumer c ≡ Some k → (route_of p.need ≡ route.Direct → ⊥) → is_disabled k.request ≡ false
   opens_cached p c k is mine row past =
-      let by_poll = is_opened limits t now flaw s o ev goes p is in
+      let by_poll = is_opened step p is in
       let one : by_poll.k ≡ k = same_row (t.consumer c) by_poll.k k (sym (ap t.consumer mine) ∙ by_poll.row) row in
       sym (ap (λ (z : Consumer). is_disabled z.request) one) ∙ by_way p by_poll.k by_poll.row past by_poll.way.way
 
@@ -58,7 +60,7 @@ module _ (limits : Limits) (t : Tables) (now : ℕ) (flaw : Flaw) (s : Sound t) 
   founds_cached : (c x : ℕ) (response : Response) (w : Exchange) (k : Consumer) → ev ≡ event.Head x response → t.exchange x ≡ Some w → w.c ≡ c → t.consumer c ≡ Some k → is_founding (case_at t e) ≡ true → is_disabled k.request ≡ false
   founds_cached c x response w k here exchange_row mine row founding =
       let new = is_new limits t now flaw s ev goes x response w here exchange_row in
-      let got = waiter_of limits t now flaw s o ev goes x w exchange_row new.is_open new.bare in
+      let got = waiter_of step x w exchange_row new.is_open new.bare in
       let one : got.0 ≡ k = same_row (t.consumer c) got.0 k (sym (ap t.consumer mine) ∙ got.1.row) row in
       let view = head_view t (has_loss e.acts) w response in
       awaits_cached c x k w row (founds_way view (head_case view) (founding_by view (sym (ap is_founding (case_is t e x response w here exchange_row)) ∙ founding))) (subst (λ (z : Consumer). IsAwaiting x w z.place) one got.1.at)

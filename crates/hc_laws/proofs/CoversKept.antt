@@ -4,13 +4,15 @@ use Rattle.hc_text.proofs.Basics.{and_left, not_some as none_some, same_some as 
 use Rattle.hc_sparse.specs.Cells.{Covers}
 use Rattle.hc_effects.proofs.Vocabulary.{Opening, opening_in, Event, Response, Limits, route_of, BoundBy, Showing, showing_in, case_at, consumer_heard, consumer_acted, by_opening, waiting, due_after, denial, Entry, exchange_opened, front, Flaw, entry_of, Measures, Owners, bound_to, offset, lo_of, reads, hole_start, Tables, Exchange, Representation, Consumer, Sound, IsBound, IsExclusiveWriter, after_accepted, brings_body, came_alone, loses_writing, survivor, event, route, place, by}
 use Rattle.hc_model.specs.Sound as sound
-use Rattle.hc_effects.proofs.{Forward.{opened_on, is_on}, Basics.{false_true, some_row}, Beside.{IsBeside, goes_on_at}, BoundFrom.{BoundFrom, IsRow, IsFounded, IsFirstHole, IsShown, bound_from, place_inj}, BoundKeeps.{planned_at}, Covers.{own_covers, grown, offset_more, later_start, headed_at}, ExchangeFrom.{IsSame, IsHeaded}, FirstKeeps.{is_new}, LossBy.{IsReal}, OwnFrom.{OwnFrom, IsLeft, own_from, after_by}, OwnersKeep.{is_opened, new_number}, PieceKeeps.{eq_cases}, PollKeeps.{current_stays}, RepFrom.{RepFrom, rep_from, IsKept}, Said.{ShowsBy, showing_by}, ShownFrom.{stored, joins, ShownAs, IsPlanned}, Survives.{goes_on}, ToBeShown.{heard_place}, Waiters.{IsWaiter, waiter_of}}
+use Rattle.hc_effects.proofs.{Forward.{opened_on, is_on}, Basics.{false_true, some_row}, Beside.{IsBeside, goes_on_at}, BoundFrom.{BoundFrom, IsRow, IsFounded, IsFirstHole, IsShown, bound_from, place_inj}, BoundKeeps.{planned_at}, Covers.{own_covers, grown, offset_more, later_start, headed_at}, ExchangeFrom.{IsSame, IsHeaded}, FirstKeeps.{is_new}, LossBy.{IsReal}, OwnFrom.{OwnFrom, IsLeft, own_from, after_by}, OwnersKeep.{is_opened, new_number}, PieceKeeps.{eq_cases}, PollKeeps.{current_stays}, RepFrom.{RepFrom, rep_from, IsKept}, Said.{ShowsBy, showing_by}, ShownFrom.{stored, joins, ShownAs, IsPlanned}, Survives.{goes_on}, ToBeShown.{heard_place}, Waiters.{IsWaiter, waiter_of}, Step.{Step}}
 use Rattle.hc_effects.proofs.BoundFrom as from
 use Rattle.hc_laws.proofs.{CoversNew.{founds_within, hole_covers}, ExclusiveWriterFrom.{wrote, survives, first, alone, ExclusiveWriterFrom, alone_from, exclusive_writer_from, had_exclusive_writer}}
 use Rattle.hc_effects.proofs.OwnFrom as own
 use Rattle.hc_effects.proofs.RepFrom as rep
 
-module _ (limits : Limits) (t : Tables) (now : ℕ) (flaw : Flaw) (s : Sound t) (o : Owners t) (m : Measures t) (i : IsBeside t) (ev : Event) (goes : denial t ev ≡ None) (real : IsReal limits t now ev flaw) where
+module _ (step : Step) (m : Measures step.tables) (i : IsBeside step.tables) (real : IsReal step.limits step.tables step.now step.event step.flaw) where
+  open step use {limits, tables as t, now, flaw, sound as s, owners as o, event as ev, accepted as goes}
+
   abbrev e : Entry
   e = entry_of limits t now ev flaw
 
@@ -22,12 +24,12 @@ module _ (limits : Limits) (t : Tables) (now : ℕ) (flaw : Flaw) (s : Sound t) 
 
   -- who isn't bound to what is there and isn't gone doesn't go on with it
   pub not_alone : (r c : ℕ) (v p : Representation) (k : Consumer) → t.consumer c ≡ Some k → bound_to k.place ≡ None → t.representation r ≡ Some v → v.is_gone ≡ false → brings_body ev ≡ false → IsKept t e r v p → p.is_lost ≡ true → p.alone ≡ Some c → ⊥
-  not_alone r c v p k row free there not_gone quiet_event kept lost is = by_exclusive_writer (alone_from limits t now flaw s o m ev goes real r c v p there kept lost is)
+  not_alone r c v p k row free there not_gone quiet_event kept lost is = by_exclusive_writer (alone_from step m real r c v p there kept lost is)
     where
       bound_not : (q : Consumer) → IsBound t r c q → ⊥
       bound_not q (sound.is_bound lo hi how q_row at) = none_some r (sym free ∙ ap bound_to (ap (λ (z : Consumer). z.place) (same_row (t.consumer c) k q row q_row) ∙ at))
 
-      by_exclusive_writer : ExclusiveWriterFrom limits t now flaw s o m ev goes real r c v → ⊥
+      by_exclusive_writer : ExclusiveWriterFrom step m real r c v → ⊥
       by_exclusive_writer (first fresh quiet is) = false_true (sym (kept.lost_is ∙ rw (quiet, fresh) refl) ∙ lost)
       by_exclusive_writer (alone was quiet is) = false_true (sym not_gone ∙ (s.rows r v there).store.lost_is_gone was)
       by_exclusive_writer (wrote fresh loses x) = bound_not x.k x.reader
@@ -47,11 +49,11 @@ module _ (limits : Limits) (t : Tables) (now : ℕ) (flaw : Flaw) (s : Sound t) 
 
       by_after : (a : Option ℕ) → a ≡ Some q.x → (a ≡ Some x) ⊎ IsLeft t e c x (consumer_heard t e c ev k).place → q.x ≡ x
       by_after a is (inl same) = some_inj q.x x (sym is ∙ same)
-      by_after a is (inr left) = let by_poll = is_opened limits t now flaw s o ev goes q opens in absurd (false_true (sym (ap brings_body by_poll.at) ∙ brings_writing left.r left.v left.loses))
+      by_after a is (inr left) = let by_poll = is_opened step q opens in absurd (false_true (sym (ap brings_body by_poll.at) ∙ brings_writing left.r left.v left.loses))
 
   -- an exchange that was opened
   pub opened_row : (x : ℕ) (q : Opening) (z : Exchange) → opening_in e.acts ≡ Some q → q.x ≡ x → now_on.exchange x ≡ Some z → exchange_opened t e q ≡ z
-  opened_row x q z opens this after_x = same_row (now_on.exchange x) (exchange_opened t e q) z (opened_on t e x q (t.exchange x) (new_number limits t now flaw s o ev goes q x opens this) opens this) after_x
+  opened_row x q z opens this after_x = same_row (now_on.exchange x) (exchange_opened t e q) z (opened_on t e x q (t.exchange x) (new_number step q x opens this) opens this) after_x
 
   module _ (r c x lo : ℕ) (hi : Option ℕ) (how : BoundBy) (u : Consumer) (p : Representation) (z : Exchange) (after : now_on.representation r ≡ Some p) (after_row : now_on.consumer c ≡ Some u) (stands : u.place ≡ place.Bound r lo hi how) (none : u.due ≡ None) (owned : u.own ≡ Some x) (after_x : now_on.exchange x ≡ Some z) (exclusive_writer : IsExclusiveWriter now_on r p c) where
     abbrev IsCovered : Type 0
@@ -67,7 +69,7 @@ module _ (limits : Limits) (t : Tables) (now : ℕ) (flaw : Flaw) (s : Sound t) 
 
     survived : (v : Representation) → t.representation r ≡ Some v → loses_writing t e r v ≡ true → survivor t r v ≡ Some c → IsCovered
     survived v there losing is =
-        let g = goes_on limits t now flaw s o m ev goes real r c v p u there losing is after after_row in
+        let g = goes_on step m real r c v p u there losing is after after_row in
         let one : g.is.w ≡ z = same_row (now_on.exchange x) g.is.w z (sym (ap now_on.exchange (some_inj g.is.x x (sym g.is.own ∙ owned))) ∙ g.is.row) after_x in
         let front_is : front g.is.w ≡ front z = ap (λ (a : Exchange). front a) one in
         let at : goes_on_at z z.head ≡ front z = headed_at z z.head refl (ap (λ (a : Exchange). is_some a.head) (sym one) ∙ g.headed) in
@@ -78,25 +80,25 @@ module _ (limits : Limits) (t : Tables) (now : ℕ) (flaw : Flaw) (s : Sound t) 
       one_k q q_row = same_row (t.consumer c) q k q_row row.row
 
       kept_own : k.own ≡ Some x → IsCovered
-      kept_own mine = elim (had_exclusive_writer limits t now flaw s o m ev goes real r c v (exclusive_writer_from limits t now flaw s o m ev goes real r c lo hi how k u v p row.row at there kept after_row stands exclusive_writer)) [
+      kept_own mine = elim (had_exclusive_writer step m real r c v (exclusive_writer_from step m real r c lo hi how k u v p row.row at there kept after_row stands exclusive_writer)) [
         | inr both ↦ survived v there both.0 both.1
         | inl was ↦
             let w = some_row (t.exchange x) (o.there c x k row.row mine) in
             let g = is_on t e x w.0 w.1 in
             let one : g.u ≡ z = same_row (now_on.exchange x) g.u z g.row after_x in
-            own_covers limits t now flaw s o m i ev goes real r c lo hi how k u row at stands x w.0 z v p there kept after none mine w.1 (subst (IsSame t e x w.0) one g.same) after_x was
+            own_covers step m i real r c lo hi how k u row at stands x w.0 z v p there kept after none mine w.1 (subst (IsSame t e x w.0) one g.same) after_x was
       ]
 
       opened_own : (q : Opening) → opening_in e.acts ≡ Some q → q.c ≡ c → q.x ≡ x → IsCovered
       opened_own q opens mine this =
           let start : goes_on_at z z.head ≡ hole_start q.need = ap (λ (a : Exchange). goes_on_at a a.head) (sym (opened_row x q z opens this after_x)) in
-          let le : hole_start q.need ≤ offset t k = later_start limits t now flaw s o m i ev goes real r c lo hi how k u row at stands q opens mine in
-          let more : offset t k ≤ offset now_on u = offset_more limits t now flaw s o m i ev goes real r c lo hi how k u row at stands in
+          let le : hole_start q.need ≤ offset t k = later_start step m i real r c lo hi how k u row at stands q opens mine in
+          let more : offset t k ≤ offset now_on u = offset_more step m i real r c lo hi how k u row at stands in
           nothing_before (omega arith)
 
       left_own : IsLeft t e c x (consumer_heard t e c ev k).place → IsCovered
       left_own l =
-          let placed : u.place ≡ (consumer_heard t e c ev k).place = heard_place limits t now flaw s o ev goes c r lo hi how k u (λ d want polls. false_true (sym (ap brings_body polls) ∙ brings_writing l.r l.v l.loses)) row in
+          let placed : u.place ≡ (consumer_heard t e c ev k).place = heard_place step c r lo hi how k u (λ d want polls. false_true (sym (ap brings_body polls) ∙ brings_writing l.r l.v l.loses)) row in
           let number : l.r ≡ r = (place_inj l.r l.lo l.hi l.how r lo hi how (sym l.at ∙ (sym placed ∙ stands))).number in
           let row_r : t.representation r ≡ Some l.v = sym (ap t.representation number) ∙ l.row in
           survived l.v row_r (subst (λ n. loses_writing t e n l.v ≡ true) number l.loses) (subst (λ n. survivor t n l.v ≡ Some c) number l.survives)
@@ -115,7 +117,7 @@ module _ (limits : Limits) (t : Tables) (now : ℕ) (flaw : Flaw) (s : Sound t) 
         unfounded = sym (ap t.representation of_r) ∙ (is_new limits t now flaw s ev goes y response w here exchange_row).unfounded
 
         waits : (q : Consumer) × IsWaiter t w.c y q w
-        waits = let new = is_new limits t now flaw s ev goes y response w here exchange_row in waiter_of limits t now flaw s o ev goes y w exchange_row new.is_open new.bare
+        waits = let new = is_new limits t now flaw s ev goes y response w here exchange_row in waiter_of step y w exchange_row new.is_open new.bare
 
         own_k : k.own ≡ Some y
         own_k = let got = waits in ap (λ (q : Consumer). q.own) (sym (same_row (t.consumer c) got.0 k (sym (ap t.consumer mine) ∙ got.1.row) row.row)) ∙ got.1.own
@@ -128,7 +130,7 @@ module _ (limits : Limits) (t : Tables) (now : ℕ) (flaw : Flaw) (s : Sound t) 
             by_heard : (a : Exchange) (same : IsSame t e y w a) → a ≡ z → ((a.head ≡ w.head) × (a.joined ≡ w.joined)) ⊎ IsHeaded t e y w a → IsCovered
             by_heard a same one (inl still) = absurd (same.unheard (still.0 ∙ (is_new limits t now flaw s ev goes y response w here exchange_row).bare) response here)
             by_heard a same one (inr got) =
-                let le : front a ≤ lo = founds_within limits t now flaw s o ev goes c r lo hi how y response w a k here exchange_row mine row.row same got all in
+                let le : front a ≤ lo = founds_within step c r lo hi how y response w a k here exchange_row mine row.row same got all in
                 let at_a : goes_on_at a a.head ≡ front a = headed_at a (Some got.response) got.head_is refl in
                 let at_z : goes_on_at a a.head ≡ goes_on_at z z.head = ap (λ (b : Exchange). goes_on_at b b.head) one in
                 let begins : offset now_on u ≡ lo + u.given = offset_is in
@@ -136,10 +138,10 @@ module _ (limits : Limits) (t : Tables) (now : ℕ) (flaw : Flaw) (s : Sound t) 
 
         by_own : OwnFrom t e c x u → IsCovered
         by_own (own.kept q q_row theirs heard_theirs) = by_number (some_inj x y (sym (ap (λ (a : Consumer). a.own) (same_row (t.consumer c) k q row.row q_row.row) ∙ theirs) ∙ own_k))
-        by_own (own.opened q p_open q_row opens theirs this) = let by_poll = is_opened limits t now flaw s o ev goes p_open opens in absurd (let no : event.Head y response ≡ event.Poll p_open.c by_poll.want = sym here ∙ by_poll.at in cc)
+        by_own (own.opened q p_open q_row opens theirs this) = let by_poll = is_opened step p_open opens in absurd (let no : event.Head y response ≡ event.Poll p_open.c by_poll.want = sym here ∙ by_poll.at in cc)
         by_own (own.left q q_row l) =
             let one : q ≡ k = same_row (t.consumer c) q k q_row.row row.row in
-            let placed : u.place ≡ (consumer_heard t e c ev k).place = heard_place limits t now flaw s o ev goes c r lo hi how k u (λ d want polls. let no : event.Head y response ≡ event.Poll d want = sym here ∙ polls in cc) row in
+            let placed : u.place ≡ (consumer_heard t e c ev k).place = heard_place step c r lo hi how k u (λ d want polls. let no : event.Head y response ≡ event.Poll d want = sym here ∙ polls in cc) row in
             let at_l : (consumer_heard t e c ev k).place ≡ place.Bound l.r l.lo l.hi l.how = ap (λ (a : Consumer). (consumer_heard t e c ev a).place) (sym one) ∙ l.at in
             absurd (none_some l.v (sym unfounded ∙ (sym (ap t.representation ((place_inj l.r l.lo l.hi l.how r lo hi how (sym at_l ∙ (sym placed ∙ stands))).number)) ∙ l.row)))
 
@@ -149,10 +151,10 @@ module _ (limits : Limits) (t : Tables) (now : ℕ) (flaw : Flaw) (s : Sound t) 
     opens_first k q row opens mine free way hole d from_u lt =
         let made = opened_row x q z opens (own_opened c x k u q row.is opens mine owned) after_x in
         let start : goes_on_at z z.head ≡ hole_start q.need = ap (λ (a : Exchange). goes_on_at a a.head) (sym made) in
-        let covers_v = hole_covers limits t now flaw s o ev goes c r lo hi how k u q row opens mine free way hole in
+        let covers_v = hole_covers step c r lo hi how k u q row opens mine free way hole in
         let begins : offset now_on u ≡ lo + u.given = offset_is in
         let after_lo : lo ≤ d = (let at_u : offset now_on u ≤ d = from_u in omega arith) in
-        grown limits t now flaw s o m i ev goes real r hole.v p lo (hole_start q.need) hole.row after covers_v d after_lo (omega arith)
+        grown step m i real r hole.v p lo (hole_start q.need) hole.row after covers_v d after_lo (omega arith)
 
     -- IT IS SHOWN WHAT IS CURRENT
 

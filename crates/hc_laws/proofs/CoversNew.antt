@@ -4,7 +4,7 @@ use Rattle.hc_text.proofs.Basics.{and_left, and_right, not_some as none_some, nu
 use Rattle.hc_sparse.specs.Cells.{Cell, Covers}
 use Rattle.hc_range.specs.{declared.range.{Asked.{Asked}, ContentRange.{ContentRange}, Span.{Span}}, Spans.{resolved_span}}
 use Rattle.hc_effects.proofs.Vocabulary.{range, need, event, case, route, wanted, Opening, opening_in, Need, Event, Request, Response, HeadCase, Length, Limits, fits_to_found, fits_part, begins_at, length_of, base_of, promise_of, route_of, content_range_of, range_of, wanted_of, wanted_part, BoundBy, has_loss, case_at, head_view, fits_asker, consumer_heard, waiting, current, denial, Entry, base, front, length_by, Flaw, founded_total, first_hole, absent_from, entry_of, Owners, bound_to, hole_start, Tables, Exchange, Representation, Consumer, Sound, after_accepted}
-use Rattle.hc_effects.proofs.{Basics.{false_true}, BoundFrom.{IsRow, IsInterval, IsFounded, IsFirstHole}, ExchangeFrom.{IsSame, IsHeaded}, FirstKeeps.{case_of_head, whole_200, replaced_200, is_new, is_opener}, FoundBy.{founds_range, CaseBy}, HoleLemmas.{first_before, first_from, some_of}, HolesOpened.{first_hole_is}, OwnersKeep.{is_opened}, PartTold.{IsTold, part_told, whole_base}, PollKeeps.{current_stays}, EndsKeep.{interval_inj}}
+use Rattle.hc_effects.proofs.{Basics.{false_true}, BoundFrom.{IsRow, IsInterval, IsFounded, IsFirstHole}, ExchangeFrom.{IsSame, IsHeaded}, FirstKeeps.{case_of_head, whole_200, replaced_200, is_new, is_opener}, FoundBy.{founds_range, CaseBy}, HoleLemmas.{first_before, first_from, some_of}, HolesOpened.{first_hole_is}, OwnersKeep.{is_opened}, PartTold.{IsTold, part_told, whole_base}, PollKeeps.{current_stays}, EndsKeep.{interval_inj}, Step.{Step}}
 use Rattle.hc_effects.proofs.BoundFrom as from
 use Rattle.hc_effects.proofs.OpenedAs as opened
 use Rattle.hc_effects.proofs.PartTold as told
@@ -46,7 +46,9 @@ base_by : (first last : ℕ) (l : Length) → IsTold first last l → base_of l 
 base_by first last l (told.none is) = let none_is : base_of l ≡ 0 = ap base_of is in omega arith
 base_by first last l (told.part is) = let first_is : base_of l ≡ first = ap base_of is in omega arith
 
-module _ (limits : Limits) (t : Tables) (now : ℕ) (flaw : Flaw) (s : Sound t) (o : Owners t) (ev : Event) (goes : denial t ev ≡ None) where
+module _ (step : Step) where
+  open step use {limits, tables as t, now, flaw, sound as s, event as ev, accepted as goes}
+
   abbrev e : Entry
   e = entry_of limits t now ev flaw
 
@@ -159,7 +161,7 @@ module _ (limits : Limits) (t : Tables) (now : ℕ) (flaw : Flaw) (s : Sound t) 
     fills : FillsFrom hole.v
     fills =
         let opener = is_opener limits t now flaw s ev goes c k q row.row opens mine in
-        let by_poll = is_opened limits t now flaw s o ev goes q opens in
+        let by_poll = is_opened step q opens in
         let one : by_poll.k ≡ k = same_row (t.consumer c) by_poll.k k (sym (ap t.consumer mine) ∙ by_poll.row) row.row in
         let way_k : opened.Way t now c k q.need = subst (λ (z : Consumer). opened.Way t now c z q.need) one (subst (λ d. opened.Way t now d by_poll.k q.need) mine by_poll.way.way) in
         by_way row.row way_k opener.heard_is (sym (ap bound_to opener.place_is) ∙ free)

@@ -4,7 +4,7 @@ use Rattle.hc_text.proofs.Basics.{and_off, not_some as none_some, same_some as s
 use Rattle.hc_sparse.specs.Cells.{Covers}
 use Rattle.hc_effects.proofs.Vocabulary.{Cause, Event, Response, base_of, HeadCase, Limits, BoundBy, case_at, consumer_heard, consumer_acted, becomes_shared, denial, Entry, base, front, is_for, becomes_due, stop_cause, cause_of_head, cause_by_case, Flaw, entry_of, Measures, Owners, is_written, offset, own_open, reads, Tables, Exchange, Representation, Consumer, Sound, IsBound, IsExclusiveWriter, IsHad, after_accepted, has_more, event, case, place}
 use Rattle.hc_model.specs.Sound as sound
-use Rattle.hc_effects.proofs.{Forward.{is_on}, AboutKeeps.{own_open_is}, Basics.{false_true, some_row}, Beside.{IsBeside}, BoundFrom.{IsRow}, Covers.{grown, offset_more, headed_at}, Dues.{due_none, undue_of, stop_none, loss_at}, Exclusives.{IsExclusive}, ExchangeFrom.{IsSame, IsHeaded}, Fills.{Brings, brings, length_same}, FirstKeeps.{IsNew, is_new}, LossBy.{IsReal}, MeasuresKeep.{piece_taken}, OwnFrom.{OwnFrom, own_from}, ExclusiveWriters.{one_exclusive_writer}, RepFrom.{IsKept}, Survives.{goes_on}, Waiters.{waiter_as}}
+use Rattle.hc_effects.proofs.{Forward.{is_on}, AboutKeeps.{own_open_is}, Basics.{false_true, some_row}, Beside.{IsBeside}, BoundFrom.{IsRow}, Covers.{grown, offset_more, headed_at}, Dues.{due_none, undue_of, stop_none, loss_at}, Exclusives.{IsExclusive}, ExchangeFrom.{IsSame, IsHeaded}, Fills.{Brings, brings, length_same}, FirstKeeps.{IsNew, is_new}, LossBy.{IsReal}, MeasuresKeep.{piece_taken}, OwnFrom.{OwnFrom, own_from}, ExclusiveWriters.{one_exclusive_writer}, RepFrom.{IsKept}, Survives.{goes_on}, Waiters.{waiter_as}, Step.{Step}}
 use Rattle.hc_effects.proofs.Fills as fills_by
 use Rattle.hc_laws.proofs.{GoAlone.{lost_of, was_there, opens_undue, left_loses, unwritten_lost, rest_more}, OwnNone.{IsShared, own_none}, ExclusiveWriterFrom.{ExclusiveWriterFrom, alone_from}}
 use Rattle.hc_effects.proofs.OwnFrom as own
@@ -33,7 +33,9 @@ shared_undue t e response w x (Some case.LaterBad) h = absurd (false_true h)
 shared_undue t e response w x (Some case.LaterChanged) h = absurd (false_true h)
 shared_undue t e response w x _ h = refl
 
-module _ (limits : Limits) (t : Tables) (now : ℕ) (flaw : Flaw) (s : Sound t) (o : Owners t) (m : Measures t) (i : IsBeside t) (ev : Event) (goes : denial t ev ≡ None) (real : IsReal limits t now ev flaw) where
+module _ (step : Step) (m : Measures step.tables) (i : IsBeside step.tables) (real : IsReal step.limits step.tables step.now step.event step.flaw) where
+  open step use {limits, tables as t, now, flaw, sound as s, owners as o, event as ev, accepted as goes}
+
   abbrev e : Entry
   e = entry_of limits t now ev flaw
 
@@ -81,7 +83,7 @@ module _ (limits : Limits) (t : Tables) (now : ℕ) (flaw : Flaw) (s : Sound t) 
             new = is_new limits t now flaw s ev goes sh.x sh.response sh.w sh.at sh.row
 
             mine : k.own ≡ Some sh.x
-            mine = (waiter_as limits t now flaw s o ev goes c sh.x k sh.w row.row sh.row sh.mine new.is_open new.bare).own
+            mine = (waiter_as step c sh.x k sh.w row.row sh.row sh.mine new.is_open new.bare).own
 
             head_if : (b : Bool) → (if b then cause_by_case (case_at t e) sh.x else None) ≡ None
             head_if true = shared_undue t e sh.response sh.w sh.x (case_at t e) sh.shared
@@ -94,8 +96,8 @@ module _ (limits : Limits) (t : Tables) (now : ℕ) (flaw : Flaw) (s : Sound t) 
         -- what came is still there
         covers : (a : ℕ) → Covers v.body (offset t k) a → Covers p.body (offset now_on u) a
         covers a all d from_u lt =
-            let more : offset t k ≤ offset now_on u = offset_more limits t now flaw s o m i ev goes real r c lo hi how k u row at stands in
-            grown limits t now flaw s o m i ev goes real r v p (offset t k) a there after all d (let begins : offset now_on u ≤ d = from_u in omega arith) lt
+            let more : offset t k ≤ offset now_on u = offset_more step m i real r c lo hi how k u row at stands in
+            grown step m i real r v p (offset t k) a there after all d (let begins : offset now_on u ≤ d = from_u in omega arith) lt
 
         still : (z : Exchange) → front z ≡ front was.w → z.body ≡ was.w.body → (z.body ≡ []) ⊎ Covers p.body (offset now_on u) (front z)
         still z ends body = elim was.covered [
@@ -109,7 +111,7 @@ module _ (limits : Limits) (t : Tables) (now : ℕ) (flaw : Flaw) (s : Sound t) 
             let count : length z.body ≡ length was.w.body = ap (λ (b : List ℕ). length b) body_is in
             still z (omega arith) body_is
         by_brings z same heard (fills_by.more bytes here body_is) =
-            let taken = piece_taken limits t now flaw s o m ev goes was.x bytes was.w here was.row in
+            let taken = piece_taken step m was.x bytes was.w here was.row in
             absurd (unpieced was.x bytes (own_open_is t k was.x (record { own = was.own; w = was.w; row = was.row; opened = taken.is_open })) here)
 
         by_heard : (z : Exchange) → IsSame t e was.x was.w z → now_on.exchange was.x ≡ Some z → ((z.head ≡ was.w.head) × (z.joined ≡ was.w.joined)) ⊎ IsHeaded t e was.x was.w z → (z.body ≡ []) ⊎ Covers p.body (offset now_on u) (front z)
@@ -124,15 +126,15 @@ module _ (limits : Limits) (t : Tables) (now : ℕ) (flaw : Flaw) (s : Sound t) 
 
         by_from : (x : ℕ) → u.own ≡ Some x → OwnFrom t e c x u → IsAhead now_on p u
         by_from x owned (own.kept q its mine heard_mine) = kept_ahead x owned (ap (λ (b : Consumer). b.own) (same_row (t.consumer c) k q row.row its.row) ∙ mine)
-        by_from x owned (own.opened q g its opens mine number) = absurd (none_some cause (sym (opens_undue limits t now flaw s o m i ev goes real r c lo hi how u p after after_row stands lost_now is_alone k v row at there kept g opens mine) ∙ due))
-        by_from x owned (own.left q its l) = absurd (false_true (sym off ∙ (left_loses limits t now flaw s o m i ev goes real r c lo hi how u p after after_row stands lost_now is_alone k v row at there kept x q its.row l).0))
+        by_from x owned (own.opened q g its opens mine number) = absurd (none_some cause (sym (opens_undue step m i real r c lo hi how u p after after_row stands lost_now is_alone k v row at there kept g opens mine) ∙ due))
+        by_from x owned (own.left q its l) = absurd (false_true (sym off ∙ (left_loses step m i real r c lo hi how u p after after_row stands lost_now is_alone k v row at there kept x q its.row l).0))
 
         by_none : (k.own ≡ None) ⊎ IsShared t e c → IsAhead now_on p u
         by_none (inl none) = absurd (none_some was.x (sym none ∙ was.own))
         by_none (inr sh) = absurd (unshared sh)
 
-        step : IsAhead now_on p u
-        step = by_own u.own refl
+        steps_to : IsAhead now_on p u
+        steps_to = by_own u.own refl
           where
             by_own : (z : Option ℕ) → u.own ≡ z → IsAhead now_on p u
             by_own None is = by_none (own_none t e c k u row.is is)
@@ -162,18 +164,18 @@ module _ (limits : Limits) (t : Tables) (now : ℕ) (flaw : Flaw) (s : Sound t) 
               let w = some_row (t.exchange x) (o.there c x k row.row mine) in
               record { x = x; w = w.0; own = mine; row = w.1; covered = by_head x w.0 mine w.1 w.0.head refl }
 
-      by_exclusive_writer : AreAhead t → ExclusiveWriterFrom limits t now flaw s o m ev goes real r c v → IsAhead now_on p u
+      by_exclusive_writer : AreAhead t → ExclusiveWriterFrom step m real r c v → IsAhead now_on p u
       by_exclusive_writer was (exclusive_writers.first fresh quiet is) = absurd (false_true (sym (kept.lost_is ∙ rw (quiet, fresh) refl) ∙ lost_now))
-      by_exclusive_writer was (exclusive_writers.alone lost quiet is) = step (unwritten_lost limits t now flaw s o m i ev goes real r c lo hi how u p after after_row stands lost_now is_alone k v row at there kept lost) (sound.alone lost is) (was.ahead r c v k there is reader)
-      by_exclusive_writer was (exclusive_writers.wrote fresh loses writes) = step writes.unwritten (sound.first fresh writes.first) (wrote_ahead fresh writes)
+      by_exclusive_writer was (exclusive_writers.alone lost quiet is) = steps_to (unwritten_lost step m i real r c lo hi how u p after after_row stands lost_now is_alone k v row at there kept lost) (sound.alone lost is) (was.ahead r c v k there is reader)
+      by_exclusive_writer was (exclusive_writers.wrote fresh loses writes) = steps_to writes.unwritten (sound.first fresh writes.first) (wrote_ahead fresh writes)
       by_exclusive_writer was (exclusive_writers.survives losing is) =
-          let g = goes_on limits t now flaw s o m ev goes real r c v p u there losing is after after_row in
+          let g = goes_on step m real r c v p u there losing is after after_row in
           record { x = g.is.x; w = g.is.w; own = g.is.own; row = g.is.row; covered = inr g.is.covered }
 
     due_ahead : AreAhead t → IsAhead now_on p u
     due_ahead was =
-        let b = was_there limits t now flaw s o m i ev goes real r c lo hi how u p after after_row stands lost_now is_alone in
-        by_exclusive_writer b.k b.v b.row b.at b.kept.row b.kept was (alone_from limits t now flaw s o m ev goes real r c b.v p b.kept.row b.kept lost_now is_alone)
+        let b = was_there step m i real r c lo hi how u p after after_row stands lost_now is_alone in
+        by_exclusive_writer b.k b.v b.row b.at b.kept.row b.kept was (alone_from step m real r c b.v p b.kept.row b.kept lost_now is_alone)
 
   pub ahead_kept : AreAhead t → Sound now_on → AreAhead now_on
   ahead_kept was later = record { ahead = λ r c p u after is_alone reader. by_reader r c p u after is_alone reader u.due refl }
@@ -181,4 +183,4 @@ module _ (limits : Limits) (t : Tables) (now : ℕ) (flaw : Flaw) (s : Sound t) 
       by_reader : (r c : ℕ) (p : Representation) (u : Consumer) → now_on.representation r ≡ Some p → p.alone ≡ Some c → IsBound now_on r c u → (z : Option Cause) → u.due ≡ z → IsAhead now_on p u
       by_reader r c p u after is_alone reader None none = undue_ahead now_on r c p u later after is_alone reader none
       by_reader r c p u after is_alone (sound.is_bound lo hi how after_row stands) (Some cause) due =
-          due_ahead r c lo hi how u p after after_row stands (lost_of limits t now flaw s o m i ev goes real r c p after is_alone) is_alone cause due was
+          due_ahead r c lo hi how u p after after_row stands (lost_of step m i real r c p after is_alone) is_alone cause due was

@@ -3,9 +3,11 @@ use Rattle.std.{proofs.Common.{◌≡◌, ◌⊎◌, inl, inr, ℕ, true, false,
 use Rattle.hc_text.proofs.Basics.{bool_cases, same_some as same_row}
 use Rattle.hc_effects.proofs.Vocabulary.{Event, Limits, BoundBy, loses_in, denial, Entry, Flaw, entry_of, Measures, Owners, Tables, Representation, Consumer, Sound, IsFirst, IsExclusiveWriter, after_accepted, came_alone, loses_writing, survivor, goes_on_with, place}
 use Rattle.hc_model.specs.Sound as sound
-use Rattle.hc_effects.proofs.{Basics.{or_false}, Exclusives.{IsExclusive, exclusive_parts}, FirstKeeps.{came_kept}, LossBy.{IsReal, fresh}, RepFrom.{IsKept}, ServedKeeps.{lost_alone, kept_alone}}
+use Rattle.hc_effects.proofs.{Basics.{or_false}, Exclusives.{IsExclusive, exclusive_parts}, FirstKeeps.{came_kept}, LossBy.{IsReal, fresh}, RepFrom.{IsKept}, ServedKeeps.{lost_alone, kept_alone}, Step.{Step}}
 
-module _ (limits : Limits) (t : Tables) (now : ℕ) (flaw : Flaw) (s : Sound t) (o : Owners t) (m : Measures t) (ev : Event) (goes : denial t ev ≡ None) (real : IsReal limits t now ev flaw) where
+module _ (step : Step) (m : Measures step.tables) (real : IsReal step.limits step.tables step.now step.event step.flaw) where
+  open step use {limits, tables as t, now, flaw, sound as s, event as ev, accepted as goes}
+
   abbrev e : Entry
   e = entry_of limits t now ev flaw
 
@@ -21,16 +23,16 @@ module _ (limits : Limits) (t : Tables) (now : ℕ) (flaw : Flaw) (s : Sound t) 
   -- who goes on with what is lost now
   pub loss_from : (r c : ℕ) (v p : Representation) → t.representation r ≡ Some v → IsKept t e r v p → loses_in r e.acts ≡ true → p.alone ≡ Some c → ExclusiveWriterFrom r c v
   loss_from r c v p there kept loses is =
-      let goes_on : goes_on_with t e r v ≡ Some c = sym (lost_alone limits t now flaw s o m ev goes real r v p there kept loses).1 ∙ is in
+      let goes_on : goes_on_with t e r v ≡ Some c = sym (lost_alone step m real r v p there kept loses).1 ∙ is in
       elim (bool_cases (loses_writing t e r v)) [
         | inl losing ↦ survives losing (rw losing at goes_on)
-        | inr off ↦ wrote (fresh limits t now flaw s o m ev goes real r v there loses) loses (exclusive_parts t r c v (rw off at goes_on))
+        | inr off ↦ wrote (fresh step m real r v there loses) loses (exclusive_parts t r c v (rw off at goes_on))
       ]
 
   pub alone_from : (r c : ℕ) (v p : Representation) → t.representation r ≡ Some v → IsKept t e r v p → p.is_lost ≡ true → p.alone ≡ Some c → ExclusiveWriterFrom r c v
   alone_from r c v p there kept lost is = elim (bool_cases (loses_in r e.acts)) [
     | inl loses ↦ loss_from r c v p there kept loses is
-    | inr quiet ↦ let all = kept_alone limits t now flaw s o m ev goes real r v p kept quiet in alone (sym all.0 ∙ lost) quiet (sym all.1 ∙ is)
+    | inr quiet ↦ let all = kept_alone step m real r v p kept quiet in alone (sym all.0 ∙ lost) quiet (sym all.1 ∙ is)
   ]
 
   pub exclusive_writer_from : (r c lo : ℕ) (hi : Option ℕ) (how : BoundBy) (k u : Consumer) (v p : Representation) → t.consumer c ≡ Some k → k.place ≡ place.Bound r lo hi how → t.representation r ≡ Some v → IsKept t e r v p → now_on.consumer c ≡ Some u → u.place ≡ place.Bound r lo hi how → IsExclusiveWriter now_on r p c → ExclusiveWriterFrom r c v

@@ -3,7 +3,7 @@ use Rattle.std.{proofs.Common.{◌≡◌, ◌⊎◌, inl, inr, ℕ, [], ◌∷�
 use Rattle.hc_text.proofs.Basics.{and_off as and_none, not_some as none_some, or_rest as or_right, same_some as same_row, some_inj}
 use Rattle.hc_effects.proofs.Vocabulary.{opening_in, shows_in, closes_in, Event, Response, Why, Limits, Place, consumer_made, consumer_after, denial, Entry, exchange_after, exchange_heard, exchange_acted, exchange_made, is_headless, Flaw, shown_in, entry_of, Move, Shows, Owners, IsPast, move_of, if_headless, shows_at, shows_direct, shows_answer, reads, own_open, Tables, Exchange, Consumer, may_stand, Sound, after_accepted, after_denied, first_tables, Contents, event, by, place}
 use Rattle.hc_model.specs.Owners as owners
-use Rattle.hc_effects.proofs.{Basics.{false_true}, ExchangeFrom.{IsHeaded}, Forward.{is_on}, MoveBy.{MoveBy, IsHeard, move_by}, PastApart.{IsHeadedRow, unfounded_kept}, PieceKeeps.{eq_cases}, PollActs.{ToOne, to_one}, ShownStays.{IsIdle, StaysOrIdle, IsFallback, Lands, shown_stays, shown_at}, TurnPlaces.{is_after}}
+use Rattle.hc_effects.proofs.{Basics.{false_true}, ExchangeFrom.{IsHeaded}, Forward.{is_on}, MoveBy.{MoveBy, IsHeard, move_by}, PastApart.{IsHeadedRow, unfounded_kept}, PieceKeeps.{eq_cases}, PollActs.{ToOne, to_one}, ShownStays.{IsIdle, StaysOrIdle, IsFallback, Lands, shown_stays, shown_at}, TurnPlaces.{is_after}, Step.{Step}}
 use Rattle.hc_effects.proofs.MoveBy as by_move
 use Rattle.hc_effects.proofs.PollActs as acts_to
 use Rattle.hc_effects.proofs.ShownStays as stands
@@ -64,7 +64,9 @@ module _ (t : Tables) (e : Entry) (x : ℕ) where
 
 -- AT AN ENTRY
 
-module _ (limits : Limits) (t : Tables) (now : ℕ) (flaw : Flaw) (s : Sound t) (o : Owners t) (ev : Event) (goes : denial t ev ≡ None) where
+module _ (step : Step) where
+  open step use {limits, tables as t, now, flaw, sound as s, owners as o, event as ev}
+
   abbrev e : Entry
   e = entry_of limits t now ev flaw
 
@@ -99,7 +101,7 @@ module _ (limits : Limits) (t : Tables) (now : ℕ) (flaw : Flaw) (s : Sound t) 
         at = at;
         move_is = move_is;
         told = shows;
-        lands = shown_at limits t now flaw s o ev goes c want k row at r why head lo hi move_is showing u after;
+        lands = shown_at step c want k row at r why head lo hi move_is showing u after;
       }
 
   pub landing : (c : ℕ) (k u : Consumer) → t.consumer c ≡ Some k → now_on.consumer c ≡ Some u → k.shown ≡ false → u.shown ≡ true → IsLanding c k u
@@ -143,7 +145,7 @@ module _ (limits : Limits) (t : Tables) (now : ℕ) (flaw : Flaw) (s : Sound t) 
 
   module _ (stand : may_stand limits t (entry_of limits t now ev flaw) ≡ true) (a : IsFallback t) where
     headed_by : (c y : ℕ) (u : Consumer) (b : Bool) (k : Consumer) → t.consumer c ≡ Some k → k.shown ≡ b → now_on.consumer c ≡ Some u → u.place ≡ place.Direct y → u.shown ≡ true → IsHeadedRow now_on y
-    headed_by c y u true k row shown after at on = by_place (shown_stays limits t now flaw s o ev goes a c k row shown u after)
+    headed_by c y u true k row shown after at on = by_place (shown_stays step a c k row shown u after)
       where
         by_place : StaysOrIdle k.place u.place → IsHeadedRow now_on y
         by_place (stands.same is) = head_stays y (a.apart.headed c y k row (sym is ∙ at) shown)
@@ -162,7 +164,7 @@ module _ (limits : Limits) (t : Tables) (now : ℕ) (flaw : Flaw) (s : Sound t) 
     headed_row c y u (Some k) row after at on = headed_by c y u k.shown k row refl after at on
 
     unturned_by : (c x : ℕ) (u : Consumer) (b : Bool) (k : Consumer) → t.consumer c ≡ Some k → k.shown ≡ b → now_on.consumer c ≡ Some u → u.place ≡ place.Turn x → u.shown ≡ true → ⊥
-    unturned_by c x u true k row shown after at on = by_place (shown_stays limits t now flaw s o ev goes a c k row shown u after)
+    unturned_by c x u true k row shown after at on = by_place (shown_stays step a c k row shown u after)
       where
         by_place : StaysOrIdle k.place u.place → ⊥
         by_place (stands.same is) = a.unturned c x k row (sym is ∙ at) shown
@@ -181,7 +183,7 @@ module _ (limits : Limits) (t : Tables) (now : ℕ) (flaw : Flaw) (s : Sound t) 
     pub fallback_kept : IsFallback now_on
     fallback_kept = record {
       apart = record {
-        unfounded = unfounded_kept limits t now flaw s o ev goes stand a.apart;
+        unfounded = unfounded_kept step stand a.apart;
         headed = λ c y u after at on. headed_row c y u (t.consumer c) refl after at on;
       };
       unturned = λ c x u after at on. unturned_row c x u (t.consumer c) refl after at on;

@@ -3,11 +3,13 @@ use Rattle.std.{proofs.Common.{◌≡◌, inl, inr, ℕ, true, false, Option, So
 use Rattle.hc_text.proofs.Basics.{same_some as same_row}
 use Rattle.hc_effects.proofs.Vocabulary.{Opening, opening_in, Event, Response, Limits, BoundBy, Showing, showing_in, consumer_heard, consumer_acted, by_opening, waiting, route_of, current, denial, Entry, Flaw, entry_of, Owners, bound_to, reads, Tables, Exchange, Representation, Consumer, Sound, IsBound, IsFirst, after_accepted, came_alone, event, place, route}
 use Rattle.hc_model.specs.Sound as sound
-use Rattle.hc_effects.proofs.{Basics.{false_true}, BoundFrom.{BoundFrom, IsRow, IsShown, bound_from}, BoundKeeps.{shown_place_is}, Dues.{undue_of, due_none, due_before}, FirstKeeps.{is_new, came_kept, open_free}, OwnersKeep.{is_opened}, PieceKeeps.{eq_cases}, ExclusiveWriters.{bound_some}, Said.{showing_by}}
+use Rattle.hc_effects.proofs.{Basics.{false_true}, BoundFrom.{BoundFrom, IsRow, IsShown, bound_from}, BoundKeeps.{shown_place_is}, Dues.{undue_of, due_none, due_before}, FirstKeeps.{is_new, came_kept, open_free}, OwnersKeep.{is_opened}, PieceKeeps.{eq_cases}, ExclusiveWriters.{bound_some}, Said.{showing_by}, Step.{Step}}
 use Rattle.hc_effects.proofs.BoundFrom as from
 use Rattle.hc_laws.proofs.FirstDues.{beside, poll_undue, unlost}
 
-module _ (limits : Limits) (t : Tables) (now : ℕ) (flaw : Flaw) (s : Sound t) (o : Owners t) (ev : Event) (goes : denial t ev ≡ None) where
+module _ (step : Step) where
+  open step use {limits, tables as t, now, flaw, sound as s, owners as o, event as ev, accepted as goes}
+
   abbrev e : Entry
   e = entry_of limits t now ev flaw
 
@@ -24,7 +26,7 @@ module _ (limits : Limits) (t : Tables) (now : ℕ) (flaw : Flaw) (s : Sound t) 
       let here : ev ≡ event.Poll z.c shows.want = shows.poll.at in
       let placed : (by_opening t c (opening_in e.acts) (waiting t e c (consumer_heard t e c ev k))).place ≡ k.place = subst (λ d. (by_opening t d (opening_in e.acts) (waiting t e d (consumer_heard t e d ev k))).place ≡ k.place) all.at (shown_place_is limits t now flaw s ev goes z k is) in
       let idle : k.due ≡ None = o.idle_due c k row.row (sym (ap reads placed) ∙ all.free) in
-      due_none t e c k (consumer_acted t e c (consumer_heard t e c ev k)) u row.is (reading r lo hi how u at) idle (undue_of t e c k (poll_undue limits t now flaw s o ev goes c z.c shows.want k here))
+      due_none t e c k (consumer_acted t e c (consumer_heard t e c ev k)) u row.is (reading r lo hi how u at) idle (undue_of t e c k (poll_undue step c z.c shows.want k here))
 
   module _ (r : ℕ) (new : Representation) (after : now_on.representation r ≡ Some new) (kept : new.is_lost ≡ false) where
     -- a representation that was there has its row
@@ -38,7 +40,7 @@ module _ (limits : Limits) (t : Tables) (now : ℕ) (flaw : Flaw) (s : Sound t) 
         false_true (sym (ap (λ (z : Option Representation). is_some z) none) ∙ s.numbered.bound_to r c k reader)
 
     pub head_opens : (x : ℕ) (response : Response) (p : Opening) → ev ≡ event.Head x response → opening_in e.acts ≡ Some p → ⊥
-    head_opens x response p here opens = let opened = is_opened limits t now flaw s o ev goes p opens in let no : event.Head x response ≡ event.Poll p.c opened.want = sym here ∙ opened.at in cc
+    head_opens x response p here opens = let opened = is_opened step p opens in let no : event.Head x response ≡ event.Poll p.c opened.want = sym here ∙ opened.at in cc
 
     module _ (c d : ℕ) (k u : Consumer) (apart : d ≡ c → ⊥) (lo : ℕ) (hi : Option ℕ) (how : BoundBy) (at_c : k.place ≡ place.Bound r lo hi how) (none_c : k.due ≡ None) (alone : came_alone now_on (place.Bound r lo hi how) ≡ true) (lo_d : ℕ) (hi_d : Option ℕ) (how_d : BoundBy) (at_d : u.place ≡ place.Bound r lo_d hi_d how_d) where
       both_stay : (a b : Consumer) → IsRow t e c r lo hi how a k → a.place ≡ place.Bound r lo hi how → IsRow t e d r lo_d hi_d how_d b u → b.place ≡ place.Bound r lo_d hi_d how_d → u.due ≡ None
@@ -46,10 +48,10 @@ module _ (limits : Limits) (t : Tables) (now : ℕ) (flaw : Flaw) (s : Sound t) 
           let reader_c : IsBound t r c a = sound.is_bound lo hi how row.row at in
           let there = s.numbered.bound_to r c a reader_c in
           let v = row_by (t.representation r) refl there in
-          let fresh = unlost limits t now flaw s o ev goes r v.0 new v.1 after kept in
+          let fresh = unlost step r v.0 new v.1 after kept in
           let first : IsFirst t r c = sound.first a lo hi how row.row at (sym (came_kept limits t now flaw s ev goes r lo hi how there) ∙ alone) in
           let was = due_before t e c a (consumer_acted t e c (consumer_heard t e c ev a)) k row.is (reading r lo hi how k at_c) none_c in
-          let got = beside limits t now flaw s o ev goes r c d v.0 a b v.1 fresh.0 fresh.1 first reader_c was.0 was.1 (sound.is_bound lo_d hi_d how_d also.row at_too) apart in
+          let got = beside step r c d v.0 a b v.1 fresh.0 fresh.1 first reader_c was.0 was.1 (sound.is_bound lo_d hi_d how_d also.row at_too) apart in
           due_none t e d b (consumer_acted t e d (consumer_heard t e d ev b)) u also.is (reading r lo_d hi_d how_d u at_d) got.0 got.1
 
       nobody : (a : Consumer) (p : Opening) (g : ℕ) (b : Consumer) → t.consumer g ≡ Some a → opening_in e.acts ≡ Some p → p.c ≡ g → bound_to (waiting t e g (consumer_heard t e g ev a)).place ≡ None → route_of p.need ≡ route.Hole → current t (consumer_heard t e g ev a).request.key ≡ Some r → (f : ℕ) → IsBound t r f b → ⊥

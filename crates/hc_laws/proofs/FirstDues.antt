@@ -3,9 +3,11 @@ use Rattle.std.{proofs.Common.{◌≡◌, inl, inr, ℕ, Bool, true, false, cond
 use Rattle.hc_text.proofs.Basics.{and_left, and_right, not_some as none_some, never_true as not_so, same_some as same_row, some_inj}
 use Rattle.hc_effects.proofs.Vocabulary.{Event, Response, Cause, Limits, is_same_number, Place, loses_in, case_at, consumer_heard, consumer_acted, consumer_made, consumer_after, back_in_line, denial, Entry, exchange_in, is_for, is_open, becomes_due, cause_of_stop, cause_of_loss, cause_by_loss, cause_of_head, cause_by_case, stop_cause, Flaw, entry_of, Owners, is_written, own_open, source, shared_exchange, writing_in, reads, Tables, Exchange, Representation, Consumer, Sound, IsBound, IsFirst, IsExclusiveWriter, starts_over, after_accepted, loses_writing, brings_body, event, place}
 use Rattle.hc_model.specs.Sound as sound
-use Rattle.hc_effects.proofs.{Basics.{false_true, or_false}, Dues.{IsUndue, undue_parts, undue_of, stop_none, loss_at}, FirstKeeps.{is_new}, PieceKeeps.{eq_cases}, ExclusiveWriters.{writer_some}, RepFrom.{was, founded, RepFrom, rep_from}, Stops.{source_is}, Waiters.{waiter_of, own_open_is}}
+use Rattle.hc_effects.proofs.{Basics.{false_true, or_false}, Dues.{IsUndue, undue_parts, undue_of, stop_none, loss_at}, FirstKeeps.{is_new}, PieceKeeps.{eq_cases}, ExclusiveWriters.{writer_some}, RepFrom.{was, founded, RepFrom, rep_from}, Stops.{source_is}, Waiters.{waiter_of, own_open_is}, Step.{Step}}
 
-module _ (limits : Limits) (t : Tables) (now : ℕ) (flaw : Flaw) (s : Sound t) (o : Owners t) (ev : Event) (goes : denial t ev ≡ None) where
+module _ (step : Step) where
+  open step use {limits, tables as t, now, flaw, sound as s, owners as o, event as ev, accepted as goes}
+
   abbrev e : Entry
   e = entry_of limits t now ev flaw
 
@@ -92,9 +94,9 @@ module _ (limits : Limits) (t : Tables) (now : ℕ) (flaw : Flaw) (s : Sound t) 
 
     no_waiter : (x : ℕ) (w : Exchange) → t.exchange x ≡ Some w → w.is_open ≡ true → w.head ≡ None → w.c ≡ d → ⊥
     no_waiter x w row opened bare mine =
-        let got = waiter_of limits t now flaw s o ev goes x w row opened bare in
+        let got = waiter_of step x w row opened bare in
         let one : got.0 ≡ u = same_row (t.consumer d) got.0 u (sym (ap t.consumer mine) ∙ got.1.row) (row_of r d u reader_d) in
-        no_own x (sym (ap (own_open t) one) ∙ own_open_is limits t now flaw s o ev goes w.c x got.0 w got.1)
+        no_own x (sym (ap (own_open t) one) ∙ own_open_is step w.c x got.0 w got.1)
 
     head_by : (x : ℕ) (response : Response) (z : Option Exchange) → ev ≡ event.Head x response → t.exchange x ≡ z → (if is_for z d then cause_by_case (case_at t e) x else None) ≡ None
     head_by x response None here row = refl

@@ -5,7 +5,7 @@ use Rattle.hc_effects.proofs.Vocabulary.{opening_in, evicts_in, is_denied, Act, 
 use Rattle.hc_rules.specs.declared.room.Room.TheVariants as room
 use Rattle.hc_rules.specs.Rooms as rooms
 use Rattle.hc_model.specs.Sound as sound
-use Rattle.hc_effects.proofs.{Basics.{false_true, true_false, or_false, some_row, number_yes}, BoundFrom.{BoundFrom, IsRow, bound_from, place_inj}, BoundKeeps.{planned_at}, FirstKeeps.{case_is, is_new}, FoundBy.{FoundingBy, founding_by}, LossBy.{IsReal, lost_is}, OwnersKeep.{is_opened}, PollKeeps.{current_stays}, RepFrom.{RepFrom, rep_from, IsKept}, Said.{showing_by}, SaidActs.{loss_is}, ShownFrom.{ShownAs}, Sums.{only_yes, sum_le, sum_two, sum_plus, sum_some, only, only_once, is_in, among_of, in_among, filter_among, filter_once, take_among, take_once, reverse_among, reverse_once, gives_enough}, ToBeShown.{heard_place}, Weighed.{IsHeld, held, total, held_is, held_most, held_none, IsFilled, sized, goes_more, case_same}}
+use Rattle.hc_effects.proofs.{Basics.{false_true, true_false, or_false, some_row, number_yes}, BoundFrom.{BoundFrom, IsRow, bound_from, place_inj}, BoundKeeps.{planned_at}, FirstKeeps.{case_is, is_new}, FoundBy.{FoundingBy, founding_by}, LossBy.{IsReal, lost_is}, OwnersKeep.{is_opened}, PollKeeps.{current_stays}, RepFrom.{RepFrom, rep_from, IsKept}, Said.{showing_by}, SaidActs.{loss_is}, ShownFrom.{ShownAs}, Sums.{only_yes, sum_le, sum_two, sum_plus, sum_some, only, only_once, is_in, among_of, in_among, filter_among, filter_once, take_among, take_once, reverse_among, reverse_once, gives_enough}, ToBeShown.{heard_place}, Weighed.{IsHeld, held, total, held_is, held_most, held_none, IsFilled, sized, goes_more, case_same}, Step.{Step}}
 use Rattle.hc_effects.proofs.BoundFrom as from
 use Rattle.hc_effects.proofs.FoundBy as cases
 use Rattle.hc_effects.proofs.RepFrom as rep
@@ -48,7 +48,9 @@ pub record Fits (limits : Limits) (t : Tables) : Type 0 where
   pub used_founded : (r : ℕ) → Among r t.used → Among r t.founded
   pub founded_used : (r : ℕ) → Among r t.founded → Among r t.used
 
-module _ (limits : Limits) (t : Tables) (now : ℕ) (flaw : Flaw) (s : Sound t) (o : Owners t) (m : Measures t) (f : Fits limits t) (ev : Event) (goes : denial t ev ≡ None) (real : IsReal limits t now ev flaw) where
+module _ (step : Step) (m : Measures step.tables) (f : Fits step.limits step.tables) (real : IsReal step.limits step.tables step.now step.event step.flaw) where
+  open step use {limits, tables as t, now, flaw, sound as s, event as ev, accepted as goes}
+
   abbrev e : Entry
   e = entry_of limits t now ev flaw
 
@@ -85,7 +87,7 @@ module _ (limits : Limits) (t : Tables) (now : ℕ) (flaw : Flaw) (s : Sound t) 
   by_reader r c lo hi how u v there stands (from.founds k x response w row here exchange_row mine of_r by_is all) =
       absurd (none_some v (sym (is_new limits t now flaw s ev goes x response w here exchange_row).unfounded ∙ (ap t.representation of_r ∙ there)))
   by_reader r c lo hi how u v there stands (from.opens k q row opens mine free way hole) =
-      let by_poll = is_opened limits t now flaw s o ev goes q opens in polls q.c by_poll.want by_poll.at (current_stays t _ r v hole.current_is there)
+      let by_poll = is_opened step q opens in polls q.c by_poll.want by_poll.at (current_stays t _ r v hole.current_is there)
   by_reader r c lo hi how u v there stands (from.shows k a row is all) =
       let planned = planned_at limits t now flaw s ev goes a k (ap t.consumer all.at ∙ row.row) is (subst (λ d. reads (by_opening t d (opening_in e.acts) (waiting t e d (consumer_heard t e d ev k))).place ≡ false) (sym all.at) all.free) in
       let shows = showing_by limits t now flaw s ev goes a is in
@@ -144,7 +146,7 @@ module _ (limits : Limits) (t : Tables) (now : ℕ) (flaw : Flaw) (s : Sound t) 
       head_moves x response (Some w) here exchange_row is mine =
           let test : nat_eq w.c c ≡ true = mine in
           let placed : u.place ≡ place_by_case x response w k (case_at t e) =
-          heard_place limits t now flaw s o ev goes c r lo hi how k u unpolled row
+          heard_place step c r lo hi how k u unpolled row
           ∙ (ap (λ q. (consumer_heard t e c q k).place) here ∙ (ap (λ q. (by_head t e c x response q k).place) exchange_row ∙ rw test refl)) in
           let number : x ≡ r = (place_inj x 0 (promise_in w response) by.Founding r lo hi how (sym (ap (place_by_case x response w k) is) ∙ (sym placed ∙ stands))).number in
           none_some v (sym (is_new limits t now flaw s ev goes x response w here exchange_row).unfounded ∙ (ap t.representation number ∙ there))
@@ -332,7 +334,7 @@ module _ (limits : Limits) (t : Tables) (now : ℕ) (flaw : Flaw) (s : Sound t) 
   unfolding Rattle.hc_model.specs.Writes.written_representation
   stored_lossless x bytes w q here row of_q quiet = never_true (has_loss e.acts) (λ is.
       let some = some_loss e.acts is in
-      let l = lost_is limits t now flaw s o m ev goes real some.0 some.1 in
+      let l = lost_is step m real some.0 some.1 in
       let writes : Rattle.hc_model.specs.Writes.piece_writes t x (t.exchange x) ≡ Some some.0 = sym (ap (Rattle.hc_model.specs.Writes.written_in t (Rattle.hc_model.specs.Writes.lossless e)) here) ∙ l.is in
       let number : family x w ≡ some.0 = unless_is (family x w) some.0 (t.representation (family x w)) (sym (ap (Rattle.hc_model.specs.Writes.piece_writes t x) row) ∙ writes) in
       true_false (sym (sym (ap (λ r. loses_in r e.acts) (sym number ∙ of_q)) ∙ some.1) ∙ quiet))

@@ -3,7 +3,7 @@ use Rattle.std.{proofs.{Common.{◌≡◌, ◌⊎◌, inl, inr, ℕ, ◌+◌, �
 use Rattle.hc_text.proofs.Basics.{not_true, or_right, and_left, and_right, bool_cases, not_some as none_some, some_inj}
 use Rattle.hc_effects.proofs.Vocabulary.{Opening, opening_in, is_denied, Event, Response, Act, Limits, head_case, route_of, weight_of, Showing, showing_in, has_loss, accepted_acts, may_begin, are_good, is_good, says, weights_of, case_at, case_of, head_view, is_founding, was_shown, current, is_usable, denial, Entry, Content, Contents, entry_without_acts, exchange_in, Flaw, flaw_in, entry_of, OfRunsIn, IsSmallPiece, count_evicted, Measures, AreOnce, Owners, bound, reads, Tables, Exchange, Representation, Consumer, IsOwed, Sound, Among, tables, first_tables, representation_of_content, numbers, bytes_in, founds, with_item_first, is_hole, binds, binds_by_opening, binds_by_showing, to_front, after_accepted, after_denied, weights, event}
 use Rattle.hc_model.specs.{Laws.{FitsInRuns, FewInRuns}, Tables.{is_reading}}
-use Rattle.hc_effects.proofs.{Basics.{false_true}, Closed.{among_filter}, BoundKeeps.{planned_at, shown_place_is}, FewGiveWay.{few_give_way}, FirstKeeps.{is_new}, LossBy.{IsReal}, Owed.{IsDenied, is_denial, acts_are}, PieceKeeps.{eq_cases}, Said.{showing_by}, ShownFrom.{ShownAs}, Sums.{filter_among, filter_once, reverse_among, reverse_once, reverse_sum}, Weighed.{held, held_in, is_held, total, weights_most}}
+use Rattle.hc_effects.proofs.{Basics.{false_true}, Closed.{among_filter}, BoundKeeps.{planned_at, shown_place_is}, FewGiveWay.{few_give_way}, FirstKeeps.{is_new}, LossBy.{IsReal}, Owed.{IsDenied, is_denial, acts_are}, PieceKeeps.{eq_cases}, Said.{showing_by}, ShownFrom.{ShownAs}, Sums.{filter_among, filter_once, reverse_among, reverse_once, reverse_sum}, Weighed.{held, held_in, is_held, total, weights_most}, Step.{Step, step_of}}
 use Rattle.hc_laws.proofs.{FitsKept.{Fits, within_kept}, MeasuresBegin.{of_number}, RunFacts.{in_runs}}
 use Rattle.hc_effects.proofs.Owed as owed_acts
 use Rattle.hc_effects.proofs.RepFrom as rep
@@ -22,7 +22,9 @@ current_among t key r h = find_among (λ q. is_usable key (t.representation q)) 
 
 -- AFTER AN ENTRY
 
-module _ (limits : Limits) (t : Tables) (now : ℕ) (flaw : Flaw) (s : Sound t) (o : Owners t) (m : Measures t) (f : Fits limits t) (ev : Event) (goes : denial t ev ≡ None) (real : IsReal limits t now ev flaw) where
+module _ (step : Step) (m : Measures step.tables) (f : Fits step.limits step.tables) (real : IsReal step.limits step.tables step.now step.event step.flaw) where
+  open step use {limits, tables as t, now, flaw, sound as s, event as ev, accepted as goes}
+
   abbrev e : Entry
   e = entry_of limits t now ev flaw
 
@@ -144,7 +146,7 @@ module _ (limits : Limits) (t : Tables) (now : ℕ) (flaw : Flaw) (s : Sound t) 
 
   pub fits_kept : Fits limits now_on
   fits_kept = record {
-    within = within_kept limits t now flaw s o m f ev goes real;
+    within = within_kept step m f real;
     once = once_by (founds t e) refl;
     rows = λ r among. rows_by (founds t e) refl r among;
     used_once = used_by (binds t e);
@@ -256,7 +258,7 @@ module _ (limits : Limits) (contents : Contents) where
 -- IN RUNS
 
 pub fits : OfRunsIn Fits
-fits = in_runs Fits (λ limits contents may. fits_begin limits contents may) (λ limits t e later f. fits_denied limits t e f) (λ limits t now flaw later c f ev goes real. fits_kept limits t now flaw c.is_sound c.is_owned c.is_measured f ev goes real)
+fits = in_runs Fits (λ limits contents may. fits_begin limits contents may) (λ limits t e later f. fits_denied limits t e f) (λ limits t now flaw later c f ev goes real. fits_kept (step_of limits t now flaw c.is_sound c.is_owned ev goes) c.is_measured f real)
 
 -- All that is stored fits the limit.
 pub fits_in_runs : FitsInRuns

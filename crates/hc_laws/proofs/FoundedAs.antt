@@ -2,10 +2,12 @@
 use Rattle.std.{proofs.{Common.{◌≡◌, inl, inr, ℕ, true, false, Option, Some, None, refl, ap, sym, ◌∙◌, arith}, lemmas.Bool.Decides.{nat_tests}}, specs.Prelude.{nat_eq}}
 use Rattle.hc_text.proofs.Basics.{bool_cases, number_not, or_left}
 use Rattle.hc_effects.proofs.Vocabulary.{Event, Response, HeadCase, Limits, head_case, has_loss, case_at, head_view, is_founding, fits_asker, is_refused, place_by_case, denial, doomed_by_case, Entry, promise_in, is_open, Flaw, founded_total, entry_of, Measures, Owners, is_written, new_representation, writer_at, Tables, Exchange, Representation, Sound, after_accepted, event, case, by, place}
-use Rattle.hc_effects.proofs.{ApartKeeps.{written_by}, FirstKeeps.{case_is, is_new}, FoundBy.{FoundingBy, founding_by}, HasBound.{head_stands}, LossBy.{IsReal}, MeasuresKeep.{asker_by}, ServedKeeps.{none_promised}, Waiters.{waiter_of}}
+use Rattle.hc_effects.proofs.{ApartKeeps.{written_by}, FirstKeeps.{case_is, is_new}, FoundBy.{FoundingBy, founding_by}, HasBound.{head_stands}, LossBy.{IsReal}, MeasuresKeep.{asker_by}, ServedKeeps.{none_promised}, Waiters.{waiter_of}, Step.{Step}}
 use Rattle.hc_effects.proofs.FoundBy as cases
 
-module _ (limits : Limits) (t : Tables) (now : ℕ) (flaw : Flaw) (s : Sound t) (o : Owners t) (m : Measures t) (ev : Event) (goes : denial t ev ≡ None) (real : IsReal limits t now ev flaw) where
+module _ (step : Step) (m : Measures step.tables) (real : IsReal step.limits step.tables step.now step.event step.flaw) where
+  open step use {limits, tables as t, now, flaw, sound as s, event as ev, accepted as goes}
+
   abbrev e : Entry
   e = entry_of limits t now ev flaw
 
@@ -22,14 +24,14 @@ module _ (limits : Limits) (t : Tables) (now : ℕ) (flaw : Flaw) (s : Sound t) 
     total_is : p.head.total ≡ founded_total w response
     total_is = sym (ap (λ (q : Representation). q.head.total) made)
 
-    whole : (g : HeadCase) → case_at t e ≡ Some g → response.status ≡ 200 → (is_refused (Some g) ≡ false) × (doomed_by_case (Some g) w response ≡ None) → ((q : Option ℕ) × (place_by_case r response w (waiter_of limits t now flaw s o ev goes r w row (is_new limits t now flaw s ev goes r response w here row).is_open (is_new limits t now flaw s ev goes r response w here row).bare).0 (Some g) ≡ place.Bound r 0 q by.Founding)) → FoundedAs
+    whole : (g : HeadCase) → case_at t e ≡ Some g → response.status ≡ 200 → (is_refused (Some g) ≡ false) × (doomed_by_case (Some g) w response ≡ None) → ((q : Option ℕ) × (place_by_case r response w (waiter_of step r w row (is_new limits t now flaw s ev goes r response w here row).is_open (is_new limits t now flaw s ev goes r response w here row).bare).0 (Some g) ≡ place.Bound r 0 q by.Founding)) → FoundedAs
     whole g is status plain placed = elim (bool_cases (is_open (now_on.exchange r))) [
       | inl on ↦ comes (written_by now_on p r (sym (ap (λ (q : Representation). q.is_lost) made)) writer on) writer status
       | inr off ↦
           let new = is_new limits t now flaw s ev goes r response w here row in
-          let got = waiter_of limits t now flaw s o ev goes r w row new.is_open new.bare in
-          let st = head_stands limits t now flaw s o ev goes real.stand w.c r response w got.0 got.1 here (or_left _ _ founding) in
-          let promise : promise_in w response ≡ Some 0 = none_promised limits t now flaw s o m ev goes real r w.c 0 placed.0 by.Founding st.0 p after st.1 (st.2 ∙ (ap (place_by_case r response w got.0) is ∙ placed.1)) r response w here row (ap is_refused is ∙ plain.0) (ap (λ q. doomed_by_case q w response) is ∙ plain.1) off in
+          let got = waiter_of step r w row new.is_open new.bare in
+          let st = head_stands step real.stand w.c r response w got.0 got.1 here (or_left _ _ founding) in
+          let promise : promise_in w response ≡ Some 0 = none_promised step m real r w.c 0 placed.0 by.Founding st.0 p after st.1 (st.2 ∙ (ap (place_by_case r response w got.0) is ∙ placed.1)) r response w here row (ap is_refused is ∙ plain.0) (ap (λ q. doomed_by_case q w response) is ∙ plain.1) off in
           empty status (total_is ∙ (rw other refl ∙ promise))
     ]
       where

@@ -5,7 +5,7 @@ use Rattle.hc_effects.proofs.Vocabulary.{Opening, opening_in, Event, Response, L
 use Rattle.hc_model.specs.Fronts.{Fronts}
 use Rattle.hc_model.specs.Owners as owners
 use Rattle.hc_model.specs.Sound as sound
-use Rattle.hc_effects.proofs.{Forward.{is_on, IsOn}, AboutKeeps.{own_open_is}, Basics.{false_true, some_row}, Beside.{IsBeside}, BoundFrom.{BoundFrom, IsRow, IsFounded, IsFirstHole, IsShown, bound_from, place_inj}, BoundKeeps.{planned_at, opens_none}, Covers.{headed_at, bare_at, none_before}, ExchangeFrom.{IsSame, IsHeaded}, Fills.{Brings, brings, length_same}, FirstKeeps.{is_new, is_opener}, HeadTo.{told_is, joined, length_is}, HeadedAs.{unmet}, LossBy.{IsReal}, OwnFrom.{OwnFrom, IsLeft, own_from}, OwnersKeep.{is_opened, new_number}, Said.{ShowsBy, showing_by}, ShownFrom.{IsPlanned}, Survives.{survivor_offset}, ToBeShown.{heard_place}, Waiters.{IsWaiter, waiter_of}}
+use Rattle.hc_effects.proofs.{Forward.{is_on, IsOn}, AboutKeeps.{own_open_is}, Basics.{false_true, some_row}, Beside.{IsBeside}, BoundFrom.{BoundFrom, IsRow, IsFounded, IsFirstHole, IsShown, bound_from, place_inj}, BoundKeeps.{planned_at, opens_none}, Covers.{headed_at, bare_at, none_before}, ExchangeFrom.{IsSame, IsHeaded}, Fills.{Brings, brings, length_same}, FirstKeeps.{is_new, is_opener}, HeadTo.{told_is, joined, length_is}, HeadedAs.{unmet}, LossBy.{IsReal}, OwnFrom.{OwnFrom, IsLeft, own_from}, OwnersKeep.{is_opened, new_number}, Said.{ShowsBy, showing_by}, ShownFrom.{IsPlanned}, Survives.{survivor_offset}, ToBeShown.{heard_place}, Waiters.{IsWaiter, waiter_of}, Step.{Step, step_of}}
 use Rattle.hc_effects.proofs.BoundFrom as from
 use Rattle.hc_laws.proofs.{CoversKept.{own_opened, opened_row}, CoversNew.{founds_from, hole_begins}, OpensLater.{opens_later}, RunFacts.{in_runs}}
 use Rattle.hc_effects.proofs.Fills as fills_by
@@ -15,7 +15,9 @@ use Rattle.hc_effects.proofs.PartTold as told
 poll_head : (x c want : ℕ) (response : Response) → event.Head x response ≡ event.Poll c want → ⊥
 poll_head x c want response is = cc
 
-module _ (limits : Limits) (t : Tables) (now : ℕ) (flaw : Flaw) (s : Sound t) (o : Owners t) (m : Measures t) (i : IsBeside t) (f : Fronts t) (ev : Event) (goes : denial t ev ≡ None) (real : IsReal limits t now ev flaw) where
+module _ (step : Step) (m : Measures step.tables) (i : IsBeside step.tables) (f : Fronts step.tables) (real : IsReal step.limits step.tables step.now step.event step.flaw) where
+  open step use {limits, tables as t, now, flaw, sound as s, owners as o, event as ev, accepted as goes}
+
   abbrev e : Entry
   e = entry_of limits t now ev flaw
 
@@ -24,7 +26,7 @@ module _ (limits : Limits) (t : Tables) (now : ℕ) (flaw : Flaw) (s : Sound t) 
 
   -- an exchange that is opened wasn't there
   new_one : {P : Type 0} (x : ℕ) (q : Opening) (w : Exchange) → opening_in e.acts ≡ Some q → q.x ≡ x → t.exchange x ≡ Some w → P
-  new_one x q w opens this row = absurd (none_some w (sym (new_number limits t now flaw s o ev goes q x opens this) ∙ row))
+  new_one x q w opens this row = absurd (none_some w (sym (new_number step q x opens this) ∙ row))
 
   module _ (r c x lo : ℕ) (hi : Option ℕ) (how : BoundBy) (u : Consumer) (z : Exchange) (after_row : now_on.consumer c ≡ Some u) (stands : u.place ≡ place.Bound r lo hi how) (none : u.due ≡ None) (owned : u.own ≡ Some x) (after_x : now_on.exchange x ≡ Some z) (opened : z.is_open ≡ true) where
     abbrev Begins : Type 0
@@ -43,7 +45,7 @@ module _ (limits : Limits) (t : Tables) (now : ℕ) (flaw : Flaw) (s : Sound t) 
 
     module _ (k : Consumer) (row : IsRow t e c r lo hi how k u) (at : k.place ≡ place.Bound r lo hi how) (mine : k.own ≡ Some x) (w : Exchange) (w_row : t.exchange x ≡ Some w) (same : IsSame t e x w z) where
       was : lo ≤ goes_on_at w w.head
-      was = f.begins c r lo x hi how k w row.row at (none_before limits t now flaw s o m i ev goes real r c lo hi how k u row at stands none) mine w_row (same.was_open opened)
+      was = f.begins c r lo x hi how k w row.row at (none_before step m i real r c lo hi how k u row at stands none) mine w_row (same.was_open opened)
 
       still : z.head ≡ w.head → (a : Option Response) → w.head ≡ a → Begins
       still head_is None is =
@@ -64,10 +66,10 @@ module _ (limits : Limits) (t : Tables) (now : ℕ) (flaw : Flaw) (s : Sound t) 
       comes got =
           let was_at : goes_on_at w w.head ≡ hole_start w.need = bare_at w ((is_new limits t now flaw s ev goes x got.response w got.at w_row).bare) in
           let now_at : goes_on_at z z.head ≡ front z = headed_at z (Some got.response) got.head_is refl in
-          let join = joined limits t now flaw s o ev goes r c x lo hi how k u w z row at stands none mine w_row same got in
+          let join = joined step r c x lo hi how k u w z row at stands none mine w_row same got in
           let start : hole_start w.need ≡ join.fills.from = ap hole_start join.fills.need_is in
-          let first : base z ≡ base_of (Rattle.hc_rules.specs.Lengths.length_of w.need w.request got.response) = ap base_of (length_is limits t now flaw s o ev goes r c x lo hi how k u w z row at stands none mine w_row same got) in
-          let begins = by_told join.fills.from join.fills.last (Rattle.hc_rules.specs.Lengths.length_of w.need w.request got.response) (unmet limits t now flaw s o ev goes x w z got.response got.at w_row after_x same opened) (told_is limits t now flaw s o ev goes r c x lo hi how k u w z row at stands none mine w_row same got) in
+          let first : base z ≡ base_of (Rattle.hc_rules.specs.Lengths.length_of w.need w.request got.response) = ap base_of (length_is step r c x lo hi how k u w z row at stands none mine w_row same got) in
+          let begins = by_told join.fills.from join.fills.last (Rattle.hc_rules.specs.Lengths.length_of w.need w.request got.response) (unmet step x w z got.response got.at w_row after_x same opened) (told_is step r c x lo hi how k u w z row at stands none mine w_row same got) in
           let before = was in
           omega (arith, before, was_at, now_at, start, first, begins)
         where
@@ -100,8 +102,8 @@ module _ (limits : Limits) (t : Tables) (now : ℕ) (flaw : Flaw) (s : Sound t) 
       -- who is bound opens a hole ahead
       later_opened : (q : Opening) → opening_in e.acts ≡ Some q → q.c ≡ c → q.x ≡ x → Begins
       later_opened q opens mine this =
-          let made = opened_row limits t now flaw s o m i ev goes real x q z opens this after_x in
-          let later = opens_later limits t now flaw s o ev goes c r lo hi how k q row.row at opens mine in
+          let made = opened_row step m i real x q z opens this after_x in
+          let later = opens_later step c r lo hi how k q row.row at opens mine in
           let from_is : later.hole.from ≡ offset t k = later.from_is in
           let start : goes_on_at z z.head ≡ hole_start q.need = ap (λ (a : Exchange). goes_on_at a a.head) (sym made) in
           let first : hole_start q.need ≡ later.hole.from = ap hole_start later.hole.is in
@@ -143,7 +145,7 @@ module _ (limits : Limits) (t : Tables) (now : ℕ) (flaw : Flaw) (s : Sound t) 
         new = is_new limits t now flaw s ev goes y response w here w_row
 
         waits : (q : Consumer) × IsWaiter t w.c y q w
-        waits = waiter_of limits t now flaw s o ev goes y w w_row new.is_open new.bare
+        waits = waiter_of step y w w_row new.is_open new.bare
 
         own_k : k.own ≡ Some y
         own_k = ap (λ (q : Consumer). q.own) (sym (same_row (t.consumer c) waits.0 k (sym (ap t.consumer mine) ∙ waits.1.row) row.row)) ∙ waits.1.own
@@ -157,8 +159,8 @@ module _ (limits : Limits) (t : Tables) (now : ℕ) (flaw : Flaw) (s : Sound t) 
             by_heard : (same : IsSame t e y w z) → ((z.head ≡ w.head) × (z.joined ≡ w.joined)) ⊎ IsHeaded t e y w z → Begins
             by_heard same (inl still) = absurd (same.unheard (still.0 ∙ new.bare) response here)
             by_heard same (inr got) =
-                let promises = unmet limits t now flaw s o ev goes y w z response here w_row after_y same opened in
-                let le : lo ≤ front z = founds_from limits t now flaw s o ev goes c r lo hi how y response w z k here w_row mine row.row same got promises all in
+                let promises = unmet step y w z response here w_row after_y same opened in
+                let le : lo ≤ front z = founds_from step c r lo hi how y response w z k here w_row mine row.row same got promises all in
                 let at : goes_on_at z z.head ≡ front z = headed_at z (Some got.response) got.head_is refl in
                 omega (arith, le, at)
 
@@ -169,10 +171,10 @@ module _ (limits : Limits) (t : Tables) (now : ℕ) (flaw : Flaw) (s : Sound t) 
 
         by_own : OwnFrom t e c x u → Begins
         by_own (own.kept q q_row theirs heard_theirs) = by_number (some_inj x y (sym (ap (λ (a : Consumer). a.own) (same_row (t.consumer c) k q row.row q_row.row) ∙ theirs) ∙ own_k))
-        by_own (own.opened q p q_row opens theirs this) = let by_poll = is_opened limits t now flaw s o ev goes p opens in absurd (poll_head y p.c by_poll.want response (sym here ∙ by_poll.at))
+        by_own (own.opened q p q_row opens theirs this) = let by_poll = is_opened step p opens in absurd (poll_head y p.c by_poll.want response (sym here ∙ by_poll.at))
         by_own (own.left q q_row l) =
             let one : q ≡ k = same_row (t.consumer c) q k q_row.row row.row in
-            let placed : u.place ≡ (consumer_heard t e c ev k).place = heard_place limits t now flaw s o ev goes c r lo hi how k u (λ d want polls. poll_head y d want response (sym here ∙ polls)) row in
+            let placed : u.place ≡ (consumer_heard t e c ev k).place = heard_place step c r lo hi how k u (λ d want polls. poll_head y d want response (sym here ∙ polls)) row in
             let at_l : (consumer_heard t e c ev k).place ≡ place.Bound l.r l.lo l.hi l.how = ap (λ (a : Consumer). (consumer_heard t e c ev a).place) (sym one) ∙ l.at in
             let number : l.r ≡ r = (place_inj l.r l.lo l.hi l.how r lo hi how (sym at_l ∙ (sym placed ∙ stands))).number in
             absurd (none_some l.v (sym (sym (ap t.representation of_r) ∙ new.unfounded) ∙ (sym (ap t.representation number) ∙ l.row)))
@@ -181,9 +183,9 @@ module _ (limits : Limits) (t : Tables) (now : ℕ) (flaw : Flaw) (s : Sound t) 
 
     opens_first : (k : Consumer) (q : Opening) → IsRow t e c r lo hi how k u → opening_in e.acts ≡ Some q → q.c ≡ c → bound_to (waiting t e c (consumer_heard t e c ev k)).place ≡ None → route_of q.need ≡ route.Hole → IsFirstHole t e c r lo hi how q (waiting t e c (consumer_heard t e c ev k)) → Begins
     opens_first k q row opens mine free way hole =
-        let made = opened_row limits t now flaw s o m i ev goes real x q z opens (own_opened limits t now flaw s o m i ev goes real c x k u q row.is opens mine owned) after_x in
+        let made = opened_row step m i real x q z opens (own_opened step m i real c x k u q row.is opens mine owned) after_x in
         let start : goes_on_at z z.head ≡ hole_start q.need = ap (λ (a : Exchange). goes_on_at a a.head) (sym made) in
-        let begins = hole_begins limits t now flaw s o ev goes c r lo hi how k u q row opens mine free way hole in
+        let begins = hole_begins step c r lo hi how k u q row opens mine free way hole in
         omega (arith, start, begins)
 
     -- IT IS SHOWN WHAT IS CURRENT
@@ -241,7 +243,7 @@ has_fronts : OfRunsIn HasFronts
 has_fronts = in_runs HasFronts
     (λ limits contents may. record { fronts = record { begins = λ c r lo x hi how k w row at none mine there opened. absurd (none_some k row) } })
     (λ limits t e later h. record { fronts = record { begins = h.fronts.begins } })
-    (λ limits t now flaw later c h ev goes real. record { fronts = fronts_kept limits t now flaw c.is_sound c.is_owned c.is_measured c.beside h.fronts ev goes real })
+    (λ limits t now flaw later c h ev goes real. record { fronts = fronts_kept (step_of limits t now flaw c.is_sound c.is_owned ev goes) c.is_measured c.beside h.fronts real })
 
 pub fronts_in_runs : OfRuns Fronts
 fronts_in_runs limits contents h may run = (has_fronts limits contents h may run).fronts

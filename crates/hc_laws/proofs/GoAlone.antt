@@ -5,7 +5,7 @@ use Rattle.hc_sparse.specs.Cells.{Cells, Covers, cells_with}
 use Rattle.hc_sparse.proofs.CellLemmas.{inside-past}
 use Rattle.hc_effects.proofs.Vocabulary.{Opening, opening_in, Act, Event, Response, HeadCase, Limits, BoundBy, Showing, showing_in, loses_in, has_loss, case_at, is_joining, consumer_heard, consumer_acted, by_opening, waiting, becomes_shared, is_resumed, row_of, denial, Entry, base, front, length_by, stop_cause, cause_of_head, Flaw, covers, entry_of, Measures, Owners, is_written, own_open, if_open, bound_to, offset, hi_of, reads, resumes, Tables, Exchange, Representation, Consumer, Sound, IsBound, IsAlone, IsExclusiveWriter, IsHad, after_accepted, brings_body, has_more, lacks_some, act, event, case, place}
 use Rattle.hc_model.specs.Sound as sound
-use Rattle.hc_effects.proofs.{Forward.{is_on}, AboutKeeps.{own_open_of}, Basics.{or_false, false_true, true_false, some_row}, Beside.{IsBeside, goes_on_at}, BoundFrom.{BoundFrom, IsRow, IsShown, bound_from}, BoundKeeps.{planned_at}, Covers.{headed_at, offset_more}, Dues.{due_before, due_none, undue_of, stop_none, loss_at}, EventsKeep.{deliveries_are_kept}, ExchangeFrom.{IsSame, IsHeaded}, Exclusives.{IsExclusive}, Fills.{Fills, fills, Brings, brings}, FirstKeeps.{is_new, is_opener}, HoleLemmas.{covers_yes}, HolesOpened.{stored_ends}, LossBy.{IsReal}, Losses.{HasRest}, MeasuresKeep.{IsHeld, held, piece_taken}, OwnFrom.{OwnFrom, own_from}, OwnersKeep.{is_opened, there_kept}, ExclusiveWriters.{one_exclusive_writer, has_exclusive_writer}, PollKeeps.{current_stays, not_come}, RepFrom.{RepFrom, rep_from, IsKept}, Said.{ShowsBy, showing_by}, ShownFrom.{ShownAs, IsPlanned}, Survives.{goes_on}, ToBeShown.{heard_place}}
+use Rattle.hc_effects.proofs.{Forward.{is_on}, AboutKeeps.{own_open_of}, Basics.{or_false, false_true, true_false, some_row}, Beside.{IsBeside, goes_on_at}, BoundFrom.{BoundFrom, IsRow, IsShown, bound_from}, BoundKeeps.{planned_at}, Covers.{headed_at, offset_more}, Dues.{due_before, due_none, undue_of, stop_none, loss_at}, EventsKeep.{deliveries_are_kept}, ExchangeFrom.{IsSame, IsHeaded}, Exclusives.{IsExclusive}, Fills.{Fills, fills, Brings, brings}, FirstKeeps.{is_new, is_opener}, HoleLemmas.{covers_yes}, HolesOpened.{stored_ends}, LossBy.{IsReal}, Losses.{HasRest}, MeasuresKeep.{IsHeld, held, piece_taken}, OwnFrom.{OwnFrom, own_from}, OwnersKeep.{is_opened, there_kept}, ExclusiveWriters.{one_exclusive_writer, has_exclusive_writer}, PollKeeps.{current_stays, not_come}, RepFrom.{RepFrom, rep_from, IsKept}, Said.{ShowsBy, showing_by}, ShownFrom.{ShownAs, IsPlanned}, Survives.{goes_on}, ToBeShown.{heard_place}, Step.{Step}}
 use Rattle.hc_effects.proofs.BoundFrom as from
 use Rattle.hc_laws.proofs.{CoversKept.{covered_kept, not_alone}, OpensLater.{OpensLater, opens_later}, OwnNone.{IsShared, own_none}, ExclusiveWriterFrom.{ExclusiveWriterFrom, alone_from}, SoundKept.{GoAlone}, StoreKeeps.{stores_are_kept}}
 use Rattle.hc_effects.proofs.Fills as fills_by
@@ -42,7 +42,9 @@ rest_more t r v k s there none rest more =
     let lacks : lacks_some v (offset t k) (hi_of t k.place) ≡ false = ap (lacks_some v (offset t k)) rest.end ∙ rw covered refl in
     true_false (sym more ∙ rw (unopened, lacks) refl)
 
-module _ (limits : Limits) (t : Tables) (now : ℕ) (flaw : Flaw) (s : Sound t) (o : Owners t) (m : Measures t) (i : IsBeside t) (ev : Event) (goes : denial t ev ≡ None) (real : IsReal limits t now ev flaw) where
+module _ (step : Step) (m : Measures step.tables) (i : IsBeside step.tables) (real : IsReal step.limits step.tables step.now step.event step.flaw) where
+  open step use {limits, tables as t, now, flaw, sound as s, owners as o, event as ev, accepted as goes}
+
   abbrev e : Entry
   e = entry_of limits t now ev flaw
 
@@ -64,7 +66,7 @@ module _ (limits : Limits) (t : Tables) (now : ℕ) (flaw : Flaw) (s : Sound t) 
       pub left_number : (x : ℕ) (q : Consumer) → t.consumer c ≡ Some q → (l : own.IsLeft t e c x (consumer_heard t e c ev q).place) → l.r ≡ r
       left_number x q q_row l =
           let brings_one : brings_body ev ≡ true = and_left _ _ (and_left _ _ l.loses) in
-          let placed : u.place ≡ (consumer_heard t e c ev k).place = heard_place limits t now flaw s o ev goes c r lo hi how k u (λ d want polls. false_true (sym (ap brings_body polls) ∙ brings_one)) row in
+          let placed : u.place ≡ (consumer_heard t e c ev k).place = heard_place step c r lo hi how k u (λ d want polls. false_true (sym (ap brings_body polls) ∙ brings_one)) row in
           let one : q ≡ k = same_row (t.consumer c) q k q_row row.row in
           (from.place_inj l.r l.lo l.hi l.how r lo hi how (sym (ap (λ (b : Consumer). (consumer_heard t e c ev b).place) (sym one) ∙ l.at) ∙ (sym placed ∙ stands))).number
 
@@ -81,8 +83,8 @@ module _ (limits : Limits) (t : Tables) (now : ℕ) (flaw : Flaw) (s : Sound t) 
       -- who opens an exchange has no failure due
       pub opens_undue : (q : Opening) → opening_in e.acts ≡ Some q → q.c ≡ c → u.due ≡ None
       opens_undue q opens mine =
-          let by_poll = is_opened limits t now flaw s o ev goes q opens in
-          let before : k.due ≡ None = (opens_later limits t now flaw s o ev goes c r lo hi how k q row.row at opens mine).at_hole.none_due in
+          let by_poll = is_opened step q opens in
+          let before : k.due ≡ None = (opens_later step c r lo hi how k q row.row at opens mine).at_hole.none_due in
           let off : brings_body ev ≡ false = ap brings_body by_poll.at in
           due_none t e c k (consumer_acted t e c (consumer_heard t e c ev k)) u row.is (ap reads stands) before (undue_of t e c k (record {
             stop = stop_none t e k (ap (stop_cause t) by_poll.at);
@@ -95,14 +97,14 @@ module _ (limits : Limits) (t : Tables) (now : ℕ) (flaw : Flaw) (s : Sound t) 
     opens_not : (k : Consumer) (q : Opening) → IsRow t e c r lo hi how k u → opening_in e.acts ≡ Some q → q.c ≡ c → bound_to (waiting t e c (consumer_heard t e c ev k)).place ≡ None → from.IsFirstHole t e c r lo hi how q (waiting t e c (consumer_heard t e c ev k)) → RepFrom t e r p → ⊥
     opens_not k q row opens mine free hole (rep.founded response w none_there here exchange_row on is_made) = false_true (ap (λ (b : Representation). b.is_lost) is_made ∙ lost_now)
     opens_not k q row opens mine free hole (rep.was v kept) =
-        let by_poll = is_opened limits t now flaw s o ev goes q opens in
+        let by_poll = is_opened step q opens in
         let opener = is_opener limits t now flaw s ev goes c k q row.row opens mine in
-        not_alone limits t now flaw s o m i ev goes real r c v p k row.row (sym (ap bound_to opener.place_is) ∙ free) kept.row (current_stays t _ r v hole.current_is kept.row) (ap brings_body by_poll.at) kept lost_now is_alone
+        not_alone step m i real r c v p k row.row (sym (ap bound_to opener.place_is) ∙ free) kept.row (current_stays t _ r v hole.current_is kept.row) (ap brings_body by_poll.at) kept lost_now is_alone
 
     shown_not : (k : Consumer) (a : Showing) → IsRow t e c r lo hi how k u → showing_in e.acts ≡ Some a → IsShown t e c r lo hi how a (by_opening t c (opening_in e.acts) (waiting t e c (consumer_heard t e c ev k))).place → RepFrom t e r p → ⊥
     shown_not k a row is all (rep.founded response w none_there here exchange_row on is_made) = false_true (ap (λ (b : Representation). b.is_lost) is_made ∙ lost_now)
     shown_not k a row is all (rep.was v kept) =
-        not_alone limits t now flaw s o m i ev goes real r c v p k row.row planned.free kept.row (current_v planned.shown_as) (ap brings_body shows.poll.at) kept lost_now is_alone
+        not_alone step m i real r c v p k row.row planned.free kept.row (current_v planned.shown_as) (ap brings_body shows.poll.at) kept lost_now is_alone
       where
         planned : IsPlanned t now a.c k a
         planned = planned_at limits t now flaw s ev goes a k (ap t.consumer all.at ∙ row.row) is (subst (λ d. reads (by_opening t d (opening_in e.acts) (waiting t e d (consumer_heard t e d ev k))).place ≡ false) (sym all.at) all.free)
@@ -145,7 +147,7 @@ module _ (limits : Limits) (t : Tables) (now : ℕ) (flaw : Flaw) (s : Sound t) 
     made x z owned row_z ahead = record { x = x; w = z; own = owned; row = row_z; covered = by_head z.head refl; ahead = ahead }
       where
         all : Covers p.body (offset now_on u) (goes_on_at z z.head)
-        all = covered_kept limits t now flaw s o m i ev goes real r c x p u z after (sound.alone lost_now is_alone) reader_now none owned row_z
+        all = covered_kept step m i real r c x p u z after (sound.alone lost_now is_alone) reader_now none owned row_z
 
         by_head : (a : Option Response) → z.head ≡ a → Covers p.body (offset now_on u) (front z)
         by_head None bare d from_u lt =
@@ -163,14 +165,14 @@ module _ (limits : Limits) (t : Tables) (now : ℕ) (flaw : Flaw) (s : Sound t) 
       none_before = (due_before t e c k (consumer_acted t e c (consumer_heard t e c ev k)) u row.is (ap reads stands) none).0
 
       more_offset : offset t k ≤ offset now_on u
-      more_offset = offset_more limits t now flaw s o m i ev goes real r c lo hi how k u row at stands
+      more_offset = offset_more step m i real r c lo hi how k u row at stands
 
       -- its exchange isn't written together
       shared_not : (v.is_lost || loses_in r e.acts) ≡ true → IsShared t e c → ⊥
-      shared_not lost sh = by_parts (resumed_of t e sh.response sh.w (case_at t e) (together.joins limits t now flaw s o ev goes r c lo hi how k u row at stands none sh) sh.shared)
+      shared_not lost sh = by_parts (resumed_of t e sh.response sh.w (case_at t e) (together.joins step r c lo hi how k u row at stands none sh) sh.shared)
         where
           aim : sh.w.aim ≡ Some r
-          aim = (together.way limits t now flaw s o ev goes r c lo hi how k u row at stands none sh).1
+          aim = (together.way step r c lo hi how k u row at stands none sh).1
 
           by_parts : is_resumed t e sh.response sh.w (row_of t sh.w.aim) ≡ true → ⊥
           by_parts resumed =
@@ -187,7 +189,7 @@ module _ (limits : Limits) (t : Tables) (now : ℕ) (flaw : Flaw) (s : Sound t) 
       own_piece y bytes a off exclusive_writer is = by_had (s.writes.had r y v there (sound.headed a is.row taken.is_open taken.headed is.of_r (ap is_some there)))
         where
           taken : Rattle.hc_effects.proofs.Once.IsTaken a (length bytes)
-          taken = piece_taken limits t now flaw s o m ev goes y bytes a is.at is.row
+          taken = piece_taken step m y bytes a is.at is.row
 
           by_row : (d : ℕ) (q : Consumer) → IsBound t r d q → d ≡ c → own_open t q ≡ Some y → k.own ≡ Some y
           by_row d q (sound.is_bound l h g q_row q_at) same owned =
@@ -200,8 +202,8 @@ module _ (limits : Limits) (t : Tables) (now : ℕ) (flaw : Flaw) (s : Sound t) 
       past_front : (x : ℕ) (w z : Exchange) → is_written t v ≡ false → IsExclusiveWriter t r v c → k.own ≡ Some x → t.exchange x ≡ Some w → IsSame t e x w z → now_on.exchange x ≡ Some z → (d : ℕ) → front z ≤ d → p.body d ≡ v.body d
       past_front x w z off exclusive_writer owned exchange_row same after_x d le = by_fills (fills t e r v p kept)
         where
-          no_head : (bytes : List ℕ) → ev ≡ event.Piece x bytes → ((z.head ≡ w.head) × (z.joined ≡ w.joined)) ⊎ IsHeaded t e x w z → IsHeld limits t now flaw s o m ev goes x w z
-          no_head bytes here (inl still) = held limits t now flaw s o m ev goes x w z same still.0 still.1
+          no_head : (bytes : List ℕ) → ev ≡ event.Piece x bytes → ((z.head ≡ w.head) × (z.joined ≡ w.joined)) ⊎ IsHeaded t e x w z → IsHeld step m x w z
+          no_head bytes here (inl still) = held step m x w z same still.0 still.1
           no_head bytes here (inr got) = absurd (let no : event.Piece x bytes ≡ event.Head x got.response = sym here ∙ got.at in cc)
 
           by_brings : (bytes : List ℕ) → ev ≡ event.Piece x bytes → Brings t e x w z → front w + length bytes ≤ d
@@ -249,12 +251,12 @@ module _ (limits : Limits) (t : Tables) (now : ℕ) (flaw : Flaw) (s : Sound t) 
               let was : front a.w ≤ d = fronts x a.w g.u g.same g.row w_row d le in
               ap (λ (f : Cells). f d) still ∙ (a.ahead d was (omega arith) ∙ sym (past_front x a.w g.u (unwritten_lost r c lo hi how u p after after_row stands lost_now is_alone k v row at there kept lost) (sound.alone lost v_alone) owned w_row g.same g.row d le)))
             where
-              by_brings : (x : ℕ) (w z : Exchange) → IsHeld limits t now flaw s o m ev goes x w z → Brings t e x w z → front w ≤ front z
+              by_brings : (x : ℕ) (w z : Exchange) → IsHeld step m x w z → Brings t e x w z → front w ≤ front z
               by_brings x w z keeps (fills_by.still none_of body_is) = let first : base z ≡ base w = keeps.base_is in let count : length z.body ≡ length w.body = ap (λ (b : List ℕ). length b) body_is in omega arith
               by_brings x w z keeps (fills_by.more bytes here body_is) = let first : base z ≡ base w = keeps.base_is in let longer : length z.body ≡ length w.body + length bytes = ap (λ (b : List ℕ). length b) body_is ∙ length-append w.body bytes in omega arith
 
               by_heard : (x : ℕ) (w z : Exchange) → IsSame t e x w z → now_on.exchange x ≡ Some z → t.exchange x ≡ Some w → (d : ℕ) → front z ≤ d → ((z.head ≡ w.head) × (z.joined ≡ w.joined)) ⊎ IsHeaded t e x w z → front w ≤ d
-              by_heard x w z same after_x w_row d le (inl head_same) = let more : front w ≤ front z = by_brings x w z (held limits t now flaw s o m ev goes x w z same head_same.0 head_same.1) (brings t e x w z w_row after_x) in omega arith
+              by_heard x w z same after_x w_row d le (inl head_same) = let more : front w ≤ front z = by_brings x w z (held step m x w z same head_same.0 head_same.1) (brings t e x w z w_row after_x) in omega arith
               by_heard x w z same after_x w_row d le (inr got) =
                   let bare = (is_new limits t now flaw s ev goes x got.response w got.at w_row).bare in
                   let zero_is : front w ≡ 0 = bare_front w bare (s.waits.headless x w w_row bare).0 in
@@ -277,9 +279,9 @@ module _ (limits : Limits) (t : Tables) (now : ℕ) (flaw : Flaw) (s : Sound t) 
 
           opened_ahead : (x : ℕ) (q : Opening) → opening_in e.acts ≡ Some q → q.c ≡ c → u.own ≡ Some x → IsAlone now_on p u
           opened_ahead x q opens mine owned_now =
-              let by_poll = is_opened limits t now flaw s o ev goes q opens in
-              let z = some_row (now_on.exchange x) (there_kept limits t now flaw s o ev goes c x u after_row owned_now) in
-              let far : front a.w ≤ offset t k = past_hole q (opens_later limits t now flaw s o ev goes c r lo hi how k q row.row at opens mine) in
+              let by_poll = is_opened step q opens in
+              let z = some_row (now_on.exchange x) (there_kept step c x u after_row owned_now) in
+              let far : front a.w ≤ offset t k = past_hole q (opens_later step c r lo hi how k q row.row at opens mine) in
               made x z.0 owned_now z.1 (λ d le from_u.
               let begins : offset now_on u ≤ d = from_u in
               let before : offset t k ≤ offset now_on u = more_offset in
@@ -317,8 +319,8 @@ module _ (limits : Limits) (t : Tables) (now : ℕ) (flaw : Flaw) (s : Sound t) 
 
           opened_ahead : (x : ℕ) (q : Opening) → opening_in e.acts ≡ Some q → u.own ≡ Some x → IsAlone now_on p u
           opened_ahead x q opens owned_now =
-              let by_poll = is_opened limits t now flaw s o ev goes q opens in
-              let z = some_row (now_on.exchange x) (there_kept limits t now flaw s o ev goes c x u after_row owned_now) in
+              let by_poll = is_opened step q opens in
+              let z = some_row (now_on.exchange x) (there_kept step c x u after_row owned_now) in
               made x z.0 owned_now z.1 (λ d le from_u. still d ∙ sym (ap (λ (f : Cells). f d) (body_same q.c by_poll.want by_poll.at)))
 
           by_from : (x : ℕ) → u.own ≡ Some x → OwnFrom t e c x u → IsAlone now_on p u
@@ -339,14 +341,14 @@ module _ (limits : Limits) (t : Tables) (now : ℕ) (flaw : Flaw) (s : Sound t) 
           by_own None is = by_none (own_none t e c k u row.is is)
           by_own (Some x) is = by_from x is (own_from t e c x (t.consumer c) u refl after_row is)
 
-      by_exclusive_writer : ExclusiveWriterFrom limits t now flaw s o m ev goes real r c v → IsAlone now_on p u
+      by_exclusive_writer : ExclusiveWriterFrom step m real r c v → IsAlone now_on p u
       by_exclusive_writer (exclusive_writers.first fresh quiet is) = absurd (false_true (sym (kept.lost_is ∙ rw (quiet, fresh) refl) ∙ lost_now))
       by_exclusive_writer (exclusive_writers.alone lost quiet is) = went lost quiet is
       by_exclusive_writer (exclusive_writers.wrote fresh loses x) = wrote_it fresh loses x
-      by_exclusive_writer (exclusive_writers.survives losing is) = (goes_on limits t now flaw s o m ev goes real r c v p u there losing is after after_row).is
+      by_exclusive_writer (exclusive_writers.survives losing is) = (goes_on step m real r c v p u there losing is after after_row).is
 
       was_bound : IsAlone now_on p u
-      was_bound = by_exclusive_writer (alone_from limits t now flaw s o m ev goes real r c v p there kept lost_now is_alone)
+      was_bound = by_exclusive_writer (alone_from step m real r c v p there kept lost_now is_alone)
 
   pub lost_of : (r c : ℕ) (p : Representation) → now_on.representation r ≡ Some p → p.alone ≡ Some c → p.is_lost ≡ true
   lost_of r c p after is_alone = elim (bool_cases p.is_lost) [

@@ -5,7 +5,7 @@ use Rattle.hc_sparse.specs.Cells.{cells_with, Cells, Covers}
 use Rattle.hc_sparse.proofs.CellLemmas.{inside-cases}
 use Rattle.hc_effects.proofs.Vocabulary.{range, event, route, Event, Response, Need, Length, Limits, length_of, base_of, promise_of, route_of, has_loss, loses_in, case_at, is_joining, row_of, denial, Entry, exchange_heard, exchange_acted, promise_in, base, promised_bytes, front, length_by, is_open, is_reached, Flaw, covers, absent_from, entry_of, Measures, Owners, is_written, new_representation, resumes, hole_start, is_last_part, writer_at, Tables, Exchange, Representation, may_stand, Sound, IsGrowing, InHole, end_from, after_accepted}
 use Rattle.hc_rules.specs.declared.length.Length.TheVariants as told
-use Rattle.hc_effects.proofs.{ApartKeeps.{IsOn, is_on, was_written}, Basics.{false_true, number_is}, ExchangeFrom.{IsSame, IsHeaded}, Fills.{Fills, fills, Brings, brings}, FirstKeeps.{case_is, is_new}, Forward.{after_is}, HeadKeeps.{IsJoin, is_join}, HoleLemmas.{covers_all, first_to}, MeasuresKeep.{held, IsHeld, total_same, one_piece}, PartTold.{part_told, whole_base, IsTold, part_order}, RepFrom.{was, founded, IsEnded, RepFrom, rep_from, IsKept, IsResumed}}
+use Rattle.hc_effects.proofs.{ApartKeeps.{IsOn, is_on, was_written}, Basics.{false_true, number_is}, ExchangeFrom.{IsSame, IsHeaded}, Fills.{Fills, fills, Brings, brings}, FirstKeeps.{case_is, is_new}, Forward.{after_is}, HeadKeeps.{IsJoin, is_join}, HoleLemmas.{covers_all, first_to}, MeasuresKeep.{held, IsHeld, total_same, one_piece}, PartTold.{part_told, whole_base, IsTold, part_order}, RepFrom.{was, founded, IsEnded, RepFrom, rep_from, IsKept, IsResumed}, Step.{Step}}
 use Rattle.hc_effects.proofs.Fills as fills_by
 use Rattle.hc_effects.proofs.Forward as forward
 use Rattle.hc_laws.proofs.Founders.{founders_kept}
@@ -37,7 +37,9 @@ writer_if : (b : Bool) (r x : ℕ) → (if b then None else Some r) ≡ Some x �
 writer_if true r x h = absurd (none_some x h)
 writer_if false r x h = refl
 
-module _ (limits : Limits) (t : Tables) (now : ℕ) (flaw : Flaw) (s : Sound t) (o : Owners t) (m : Measures t) (ev : Event) (goes : denial t ev ≡ None) where
+module _ (step : Step) (m : Measures step.tables) where
+  open step use {limits, tables as t, now, flaw, sound as s, event as ev, accepted as goes}
+
   abbrev e : Entry
   e = entry_of limits t now ev flaw
 
@@ -46,7 +48,7 @@ module _ (limits : Limits) (t : Tables) (now : ℕ) (flaw : Flaw) (s : Sound t) 
 
   -- A WRITING THAT WAS ON
 
-  module _ (r x : ℕ) (w z : Exchange) (v u : Representation) (g : IsGrowing t r v x w) (same : IsSame t e x w z) (keeps : IsHeld limits t now flaw s o m ev goes x w z) (on : z.is_open ≡ true) (after_row : now_on.exchange x ≡ Some z) (kept : IsKept t e r v u) (stored_on : (v.is_lost || loses_in r e.acts) ≡ false) where
+  module _ (r x : ℕ) (w z : Exchange) (v u : Representation) (g : IsGrowing t r v x w) (same : IsSame t e x w z) (keeps : IsHeld step m x w z) (on : z.is_open ≡ true) (after_row : now_on.exchange x ≡ Some z) (kept : IsKept t e r v u) (stored_on : (v.is_lost || loses_in r e.acts) ≡ false) where
     -- what is stored grows with what its exchange brings
     record IsGrown : Type 0 where
       front_is : front z ≡ u.reach
@@ -60,11 +62,11 @@ module _ (limits : Limits) (t : Tables) (now : ℕ) (flaw : Flaw) (s : Sound t) 
           whole = λ p lo lt. ap (λ (f : Cells). is_some (f p)) stored_is ∙ g.whole p lo (let most : p < u.reach = lt in omega arith);
         }
     grown (fills_by.still none body_is) (fills_by.more y bytes q is body stored_is reach_is) =
-        let it = one_piece limits t now flaw s o m ev goes x r y bytes w q v g.row (same.was_open on) g.headed g.family_is kept.row is in
+        let it = one_piece step m x r y bytes w q v g.row (same.was_open on) g.headed g.family_is kept.row is in
         absurd (none bytes (is.at ∙ ap (λ n. event.Piece n bytes) it.0))
     grown (fills_by.more bytes here body_is) (fills_by.still none_of same_body stored_is reach_is) = absurd (none_of x bytes w (record { at = here; row = g.row; of_r = g.family_is }))
     grown (fills_by.more bytes here body_is) (fills_by.more y more q is body stored_is reach_is) =
-        let it = one_piece limits t now flaw s o m ev goes x r y more w q v g.row (same.was_open on) g.headed g.family_is kept.row is in
+        let it = one_piece step m x r y more w q v g.row (same.was_open on) g.headed g.family_is kept.row is in
         let longer : length z.body ≡ length w.body + length bytes = ap (λ (b : List ℕ). length b) body_is ∙ length-append w.body bytes in
         let front_is : front q ≡ front w = ap (λ (a : Exchange). front a) it.1 in
         let count : length more ≡ length bytes = ap (λ (b : List ℕ). length b) (sym cc) in
@@ -78,7 +80,7 @@ module _ (limits : Limits) (t : Tables) (now : ℕ) (flaw : Flaw) (s : Sound t) 
     still_growing : IsGrowing now_on r u x z
     still_growing =
         let more = grown (brings t e x w z g.row after_row) (fills t e r v u kept) in
-        let total = total_same limits t now flaw s o m ev goes x r w z v u g.row same keeps on g.headed g.family_is after_row kept in
+        let total = total_same step m x r w z v u g.row same keeps on g.headed g.family_is after_row kept in
         record {
           row = after_row;
           family_is = ap (λ (n : Option ℕ). unwrap_or n x) keeps.joined_is ∙ g.family_is;
@@ -203,7 +205,7 @@ module _ (limits : Limits) (t : Tables) (now : ℕ) (flaw : Flaw) (s : Sound t) 
         let reach_now : 0 ≡ u.reach = ap (λ (a : Representation). a.reach) made in
         record {
           row = after_row;
-          family_is = ap (λ (n : Option ℕ). unwrap_or n x) (founders_kept limits t now flaw s o ev goes x z u after_row there);
+          family_is = ap (λ (n : Option ℕ). unwrap_or n x) (founders_kept step x z u after_row there);
           headed = ap (λ (a : Option Response). is_some a) got.head_is;
           front_is = omega arith;
           whole = λ p lo lt. absurd (let lt_it : p < u.reach = lt in omega arith);
@@ -224,7 +226,7 @@ module _ (limits : Limits) (t : Tables) (now : ℕ) (flaw : Flaw) (s : Sound t) 
 
   was_growing : (stand : may_stand limits t e ≡ true) (r x : ℕ) (v u : Representation) → IsKept t e r v u → IsOn now_on u x → u.writer ≡ Some x → u.writer ≡ v.writer → (z : Exchange) × IsGrowing now_on r u x z
   was_growing stand r x v u kept on writer same_writer =
-      let all = was_written limits t now flaw s o ev goes stand r x v u kept on same_writer writer in
+      let all = was_written step stand r x v u kept on same_writer writer in
       let grows = (s.rows r v kept.row).growing x all.0 all.1 in
       let g = grows.1 in
       let goes_on = forward.is_on t e x grows.0 g.row in
@@ -232,7 +234,7 @@ module _ (limits : Limits) (t : Tables) (now : ℕ) (flaw : Flaw) (s : Sound t) 
       (goes_on.u, by_heard grows.0 goes_on.u g goes_on.row goes_on.same opened (both_false v.is_lost (loses_in r e.acts) (is_on t v x all.0 all.1).kept all.2) goes_on.same.heard_or)
     where
       by_heard : (w z : Exchange) → IsGrowing t r v x w → now_on.exchange x ≡ Some z → IsSame t e x w z → z.is_open ≡ true → (v.is_lost || loses_in r e.acts) ≡ false → ((z.head ≡ w.head) × (z.joined ≡ w.joined)) ⊎ IsHeaded t e x w z → IsGrowing now_on r u x z
-      by_heard w z g after same opened stored_on (inl still) = still_growing r x w z v u g same (held limits t now flaw s o m ev goes x w z same still.0 still.1) opened after kept stored_on
+      by_heard w z g after same opened stored_on (inl still) = still_growing r x w z v u g same (held step m x w z same still.0 still.1) opened after kept stored_on
       by_heard w z g after same opened stored_on (inr got) =
           absurd (false_true (sym (ap (λ (a : Option Response). is_some a) ((is_new limits t now flaw s ev goes x got.response w got.at g.row).bare)) ∙ g.headed))
 

@@ -5,7 +5,7 @@ use Rattle.hc_range.specs.{declared.range.{Asked.{Asked}, ContentRange.{ContentR
 use Rattle.hc_effects.proofs.Vocabulary.{range, act, event, case, route, wanted, place, by, Opening, opening_in, Act, Event, Response, HeadCase, Limits, head_case, fits_to_found, fits_part, begins_at, route_of, content_range_of, range_of, wanted_of, wanted_part, BoundBy, loses_in, has_loss, case_at, head_view, is_founding, is_joining, is_updating, fits_asker, consumer_heard, consumer_acted, by_head, by_opening, own_after, left_to, waiting, due_after, place_by_case, becomes_shared, is_resumed, bound_to_wanted, is_number, row_of, denial, Entry, is_for, is_open, family, cause_of_head, cause_by_case, Flaw, founded_total, entry_of, Measures, Owners, is_written, reads, representation_heard, new_representation, resumes, updates, with_renewed_head, representation_after_head, Tables, Exchange, Representation, Consumer, Sound, IsAbout, IsHad, starts_over, after_accepted, came_alone, status_in, loses_writing}
 use Rattle.hc_model.specs.ConsumerRows.{with_head}
 use Rattle.hc_model.specs.Sound as sound
-use Rattle.hc_effects.proofs.{Forward.{is_kept}, AboutKeeps.{own_open_is}, ApartKeeps.{written_by}, Basics.{false_true, or_false}, Dues.{due_none}, ExchangeFrom.{ExchangeFrom, IsSame, IsHeaded, exchange_from}, FirstKeeps.{case_is, is_new}, FoundBy.{FoundingBy, founding_by}, HadKeeps.{own_had, settled, bare_had, was_headed}, HasBound.{head_stands, stays_on, joins_place, awaiting_bound}, HeadKeeps.{is_join}, LossBy.{IsReal}, MeasuresKeep.{founder_not}, OwnersKeep.{is_opened}, RepFrom.{was, founded, RepFrom, rep_from, IsKept}, Waiters.{IsWaiter, waiter_of, unwritten, waits_undue}}
+use Rattle.hc_effects.proofs.{Forward.{is_kept}, AboutKeeps.{own_open_is}, ApartKeeps.{written_by}, Basics.{false_true, or_false}, Dues.{due_none}, ExchangeFrom.{ExchangeFrom, IsSame, IsHeaded, exchange_from}, FirstKeeps.{case_is, is_new}, FoundBy.{FoundingBy, founding_by}, HadKeeps.{own_had, settled, bare_had, was_headed}, HasBound.{head_stands, stays_on, joins_place, awaiting_bound}, HeadKeeps.{is_join}, LossBy.{IsReal}, MeasuresKeep.{founder_not}, OwnersKeep.{is_opened}, RepFrom.{was, founded, RepFrom, rep_from, IsKept}, Waiters.{IsWaiter, waiter_of, unwritten, waits_undue}, Step.{Step}}
 use Rattle.hc_effects.proofs.ExchangeFrom as exchange
 use Rattle.hc_effects.proofs.FoundBy as cases
 use Rattle.hc_laws.proofs.{HadNew.{new_had}, UndueKeeps.{founder_undue, no_cause}}
@@ -39,7 +39,9 @@ fits_by : (k : Consumer) (w : Exchange) (response : Response) (z : Option Asked)
 fits_by k w response None is status h = absurd (false_true h)
 fits_by k w response (Some asked) is status h = part_by k w response asked (content_range_of response.fields) is status refl (and_right _ _ h)
 
-module _ (limits : Limits) (t : Tables) (now : ℕ) (flaw : Flaw) (s : Sound t) (o : Owners t) (m : Measures t) (ev : Event) (goes : denial t ev ≡ None) (real : IsReal limits t now ev flaw) where
+module _ (step : Step) (m : Measures step.tables) (real : IsReal step.limits step.tables step.now step.event step.flaw) where
+  open step use {limits, tables as t, now, flaw, sound as s, event as ev, accepted as goes}
+
   abbrev e : Entry
   e = entry_of limits t now ev flaw
 
@@ -54,10 +56,10 @@ module _ (limits : Limits) (t : Tables) (now : ℕ) (flaw : Flaw) (s : Sound t) 
     unfounded = (is_new limits t now flaw s ev goes x got.response w got.at is_row).unfounded
 
     abbrev k : Consumer
-    k = (waiter_of limits t now flaw s o ev goes x w is_row new_parts.0 new_parts.1).0
+    k = (waiter_of step x w is_row new_parts.0 new_parts.1).0
 
     waiter : IsWaiter t w.c x k w
-    waiter = (waiter_of limits t now flaw s o ev goes x w is_row new_parts.0 new_parts.1).1
+    waiter = (waiter_of step x w is_row new_parts.0 new_parts.1).1
 
     self_test : nat_eq w.c w.c ≡ true
     self_test = grind (arith, nat_tests)
@@ -70,25 +72,25 @@ module _ (limits : Limits) (t : Tables) (now : ℕ) (flaw : Flaw) (s : Sound t) 
 
     no_opening : (a : Option Opening) → opening_in e.acts ≡ a → a ≡ None
     no_opening None is = refl
-    no_opening (Some q) is = let opened = is_opened limits t now flaw s o ev goes q is in absurd (let no : event.Head x got.response ≡ event.Poll q.c opened.want = sym got.at ∙ opened.at in cc)
+    no_opening (Some q) is = let opened = is_opened step q is in absurd (let no : event.Head x got.response ≡ event.Poll q.c opened.want = sym got.at ∙ opened.at in cc)
 
     -- WHO KEEPS IT
 
     module _ (binds : (is_founding (case_at t e) || is_joining (case_at t e)) ≡ true) (unshared : becomes_shared t e got.response w (case_at t e) ≡ false) where
       abbrev u : Consumer
-      u = (head_stands limits t now flaw s o ev goes real.stand w.c x got.response w k waiter got.at binds).0
+      u = (head_stands step real.stand w.c x got.response w k waiter got.at binds).0
 
       u_row : now_on.consumer w.c ≡ Some u
-      u_row = (head_stands limits t now flaw s o ev goes real.stand w.c x got.response w k waiter got.at binds).1
+      u_row = (head_stands step real.stand w.c x got.response w k waiter got.at binds).1
 
       u_place : u.place ≡ place_by_case x got.response w k (case_at t e)
-      u_place = (head_stands limits t now flaw s o ev goes real.stand w.c x got.response w k waiter got.at binds).2
+      u_place = (head_stands step real.stand w.c x got.response w k waiter got.at binds).2
 
       u_is : due_after t e w.c k (consumer_acted t e w.c (consumer_heard t e w.c ev k)) ≡ u
       u_is =
           let going = is_kept t e w.c k waiter.row in
           let one : going.u ≡ u = same_row (now_on.consumer w.c) going.u u going.row u_row in
-          settled limits t now flaw s o m ev goes real w.c k (consumer_acted t e w.c (consumer_heard t e w.c ev k)) u (starts_over t e w.c k) refl (stays_on limits t now flaw s o ev goes real.stand w.c x got.response w k waiter got.at binds) (going.is ∙ one)
+          settled step m real w.c k (consumer_acted t e w.c (consumer_heard t e w.c ev k)) u (starts_over t e w.c k) refl (stays_on step real.stand w.c x got.response w k waiter got.at binds) (going.is ∙ one)
 
       heard_own : (consumer_heard t e w.c ev k).own ≡ Some x
       heard_own = ap (λ (q : Consumer). q.own) heard_is ∙ rw unshared waiter.own
@@ -119,7 +121,7 @@ module _ (limits : Limits) (t : Tables) (now : ℕ) (flaw : Flaw) (s : Sound t) 
       hole = let j = is_join t (has_loss e.acts) w got.response (sym (ap is_joining case_here) ∙ joins) in ap route_of j.fills.need_is
 
       stood : (lo : ℕ) × (hi : Option ℕ) × (how : BoundBy) × (k.place ≡ place.Bound r lo hi how)
-      stood = awaiting_bound limits t now flaw s o ev goes real.stand x r w k.place hole aim waiter.at
+      stood = awaiting_bound step real.stand x r w k.place hole aim waiter.at
 
       renews : Bool
       renews = resumes t got.response w v && not (v.is_lost || loses_in r e.acts)
@@ -147,12 +149,12 @@ module _ (limits : Limits) (t : Tables) (now : ℕ) (flaw : Flaw) (s : Sound t) 
       kept_had : becomes_shared t e got.response w (case_at t e) ≡ false → IsHad now_on r p x
       kept_had unshared =
           let at : k.place ≡ place.Bound r stood.0 stood.1 stood.2 = stood.3 in
-          let off : is_written t v ≡ false = not_so _ (λ written. unwritten limits t now flaw s o ev goes w.c x k w waiter r stood.0 stood.1 stood.2 v v.writer at kept.row written refl) in
-          let exclusive_writers = waits_undue limits t now flaw s o ev goes r w.c x stood.0 stood.1 stood.2 v k w waiter at kept.row in
-          let placed : place_by_case x got.response w k (case_at t e) ≡ place.Bound r stood.0 stood.1 stood.2 = joins_place limits t now flaw s o ev goes real.stand x got.response w k (case_at t e) joins ∙ at in
+          let off : is_written t v ≡ false = not_so _ (λ written. unwritten step w.c x k w waiter r stood.0 stood.1 stood.2 v v.writer at kept.row written refl) in
+          let exclusive_writers = waits_undue step r w.c x stood.0 stood.1 stood.2 v k w waiter at kept.row in
+          let placed : place_by_case x got.response w k (case_at t e) ≡ place.Bound r stood.0 stood.1 stood.2 = joins_place step real.stand x got.response w k (case_at t e) joins ∙ at in
           let unlosing : loses_writing t e r v ≡ false = not_so _ (λ h. false_true (sym off ∙ and_right _ _ h)) in
           let stays : own_after t e w.c (place_by_case x got.response w k (case_at t e)) (Some x) ≡ Some x = ap (λ a. own_after t e w.c a (Some x)) placed ∙ (ap (λ a. left_to t e w.c r a (Some x)) kept.row ∙ rw unlosing refl) in
-          own_had limits t now flaw s o m ev goes real r w.c x stood.0 stood.1 stood.2 k (u join_binds unshared) v p waiter.row at kept.row kept (own_open_is t k x (record { own = waiter.own; w = w; row = is_row; opened = waiter.was_open })) exclusive_writers.0 off exclusive_writers.1 (u_row join_binds unshared) (u_place join_binds unshared ∙ placed) w z same after_x on (u_is join_binds unshared) (own_if join_binds unshared stays) (no_head join_binds unshared)
+          own_had step m real r w.c x stood.0 stood.1 stood.2 k (u join_binds unshared) v p waiter.row at kept.row kept (own_open_is t k x (record { own = waiter.own; w = w; row = is_row; opened = waiter.was_open })) exclusive_writers.0 off exclusive_writers.1 (u_row join_binds unshared) (u_place join_binds unshared ∙ placed) w z same after_x on (u_is join_binds unshared) (own_if join_binds unshared stays) (no_head join_binds unshared)
 
       joined_had : IsHad now_on r p x
       joined_had = elim (bool_cases (is_resumed t e got.response w (row_of t w.aim))) [
@@ -181,7 +183,7 @@ module _ (limits : Limits) (t : Tables) (now : ℕ) (flaw : Flaw) (s : Sound t) 
           let placed : place_by_case x got.response w k (case_at t e) ≡ place.Bound x part.span.lo (Some part.span.hi) by.Founding = ap (place_by_case x got.response w k) is ∙ ap (bound_to_wanted x by.Founding (place.Direct x)) part.wanted_is in
           let unshared : becomes_shared t e got.response w (case_at t e) ≡ false = ap (becomes_shared t e got.response w) is in
           let stays : own_after t e w.c (place_by_case x got.response w k (case_at t e)) (Some x) ≡ Some x = ap (λ a. own_after t e w.c a (Some x)) placed ∙ ap (λ a. left_to t e w.c x a (Some x)) unfounded in
-          let undue = founder_undue limits t now flaw s o ev goes real.stand x w.c got.response w k got.at is_row founding waiter waiter.at in
+          let undue = founder_undue step real.stand x w.c got.response w k got.at is_row founding waiter waiter.at in
           let stands : (u found_binds unshared).place ≡ place.Bound x part.span.lo (Some part.span.hi) by.Founding = u_place found_binds unshared ∙ placed in
           let none = due_none t e w.c k (consumer_acted t e w.c (consumer_heard t e w.c ev k)) (u found_binds unshared) (u_is found_binds unshared) (ap reads stands) undue.0 undue.1 in
           let alone : came_alone now_on (place.Bound x part.span.lo (Some part.span.hi) by.Founding) ≡ true = ap (λ q. status_in q == 206) after ∙ grind (arith, nat_tests) in
@@ -234,16 +236,16 @@ module _ (limits : Limits) (t : Tables) (now : ℕ) (flaw : Flaw) (s : Sound t) 
   headed_by r x z p after_x on some of_r after (exchange.was w row same) = by_heard same.heard_or
     where
       still : (z.head ≡ w.head) → family x w ≡ r → RepFrom t e r p → IsHad now_on r p x
-      still head_is fam (was v kept) = was_headed limits t now flaw s o m ev goes real r x w z v p kept.row kept row (sym (ap (λ (a : Option Response). is_some a) head_is) ∙ some) fam same after_x on
-      still head_is fam (founded response y none here also founding made) = absurd (founder_not limits t now flaw s o m ev goes x r w response y row (sym (ap (λ (a : Option Response). is_some a) head_is) ∙ some) fam none here also)
+      still head_is fam (was v kept) = was_headed step m real r x w z v p kept.row kept row (sym (ap (λ (a : Option Response). is_some a) head_is) ∙ some) fam same after_x on
+      still head_is fam (founded response y none here also founding made) = absurd (founder_not step m x r w response y row (sym (ap (λ (a : Option Response). is_some a) head_is) ∙ some) fam none here also)
 
       by_heard : ((z.head ≡ w.head) × (z.joined ≡ w.joined)) ⊎ IsHeaded t e x w z → IsHad now_on r p x
       by_heard (inl all) = still all.0 (sym (ap (λ (n : Option ℕ). unwrap_or n x) all.1) ∙ of_r) (rep_from t e r (t.representation r) p refl after)
       by_heard (inr got) = now_headed x w z row same after_x on got r p of_r after
 
   bare_by : (r x : ℕ) (z : Exchange) (p : Representation) → now_on.exchange x ≡ Some z → z.is_open ≡ true → z.head ≡ None → z.aim ≡ Some r → route_of z.need ≡ route.Hole → now_on.representation r ≡ Some p → ExchangeFrom t e x z → IsHad now_on r p x
-  bare_by r x z p after_x on bare aim hole after (exchange.was w row same) = bare_had limits t now flaw s o m ev goes real r x w z p row same after_x on bare aim hole after
-  bare_by r x z p after_x on bare aim hole after (exchange.new q none opens here made) = new_had limits t now flaw s o m ev goes real r x q z p opens made after_x on bare aim hole after
+  bare_by r x z p after_x on bare aim hole after (exchange.was w row same) = bare_had step m real r x w z p row same after_x on bare aim hole after
+  bare_by r x z p after_x on bare aim hole after (exchange.new q none opens here made) = new_had step m real r x q z p opens made after_x on bare aim hole after
 
   -- An open exchange about a representation is that of its writing, or of the one the exclusive writer.
   pub had_kept : (r x : ℕ) (p : Representation) → now_on.representation r ≡ Some p → IsAbout now_on r x → IsHad now_on r p x

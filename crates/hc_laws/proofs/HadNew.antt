@@ -4,12 +4,14 @@ use Rattle.hc_text.proofs.Basics.{never_true, not_some as none_some, same_some a
 use Rattle.hc_effects.proofs.Vocabulary.{Opening, opening_in, Event, Limits, route_of, Place, BoundBy, loses_in, consumer_heard, consumer_acted, waiting, due_after, denial, Entry, exchange_opened, aim_from, is_headless, becomes_due, Flaw, entry_of, Measures, Owners, IsAwaiting, Awaits, IsPast, shows_at, shows_direct, move_of, if_headless, bound, bound_to, own_open, reads, Tables, Exchange, Representation, Consumer, Sound, IsBound, IsAbout, IsHad, IsExclusiveWriter, IsFirst, after_accepted, brings_body, came_alone, event, route, place}
 use Rattle.hc_model.specs.Owners as owners
 use Rattle.hc_model.specs.Sound as sound
-use Rattle.hc_effects.proofs.{AboutKeeps.{own_open_is}, Basics.{false_true, some_none}, BoundFrom.{BoundFrom, IsRow, bound_from}, BoundKeeps.{opens_none}, Dues.{undue_of, due_none}, FirstKeeps.{came_kept, is_opener, open_free}, LossBy.{IsReal, IsSealing, sealed_loss}, OpensFrom.{opens_hole, hole_is}, OwnersKeep.{is_opened}, ExclusiveWriters.{bound_some, none_about, has_exclusive_writer, none_about_hole}, PollKeeps.{current_stays}, RepFrom.{was, founded, RepFrom, rep_from, IsKept}, Said.{IsOpening, opening_by, showing_by}, ServedKeeps.{kept_alone}, WaitingKeeps.{waiting_kept}, ReadingKeeps.{some_of}}
+use Rattle.hc_effects.proofs.{AboutKeeps.{own_open_is}, Basics.{false_true, some_none}, BoundFrom.{BoundFrom, IsRow, bound_from}, BoundKeeps.{opens_none}, Dues.{undue_of, due_none}, FirstKeeps.{came_kept, is_opener, open_free}, LossBy.{IsReal, IsSealing, sealed_loss}, OpensFrom.{opens_hole, hole_is}, OwnersKeep.{is_opened}, ExclusiveWriters.{bound_some, none_about, has_exclusive_writer, none_about_hole}, PollKeeps.{current_stays}, RepFrom.{was, founded, RepFrom, rep_from, IsKept}, Said.{IsOpening, opening_by, showing_by}, ServedKeeps.{kept_alone}, WaitingKeeps.{waiting_kept}, ReadingKeeps.{some_of}, Step.{Step}}
 use Rattle.hc_effects.proofs.BoundFrom as from
 use Rattle.hc_laws.proofs.FirstDues.{poll_undue}
 use Rattle.hc_effects.proofs.PollTree as tree
 
-module _ (limits : Limits) (t : Tables) (now : ℕ) (flaw : Flaw) (s : Sound t) (o : Owners t) (m : Measures t) (ev : Event) (goes : denial t ev ≡ None) (real : IsReal limits t now ev flaw) where
+module _ (step : Step) (m : Measures step.tables) (real : IsReal step.limits step.tables step.now step.event step.flaw) where
+  open step use {limits, tables as t, now, flaw, sound as s, owners as o, event as ev, accepted as goes}
+
   abbrev e : Entry
   e = entry_of limits t now ev flaw
 
@@ -20,13 +22,13 @@ module _ (limits : Limits) (t : Tables) (now : ℕ) (flaw : Flaw) (s : Sound t) 
 
   module _ (r x c want lo : ℕ) (hi : Option ℕ) (how : BoundBy) (q : Opening) (u : Consumer) (z : Exchange) (p : Representation) (after : now_on.representation r ≡ Some p) (after_row : now_on.consumer c ≡ Some u) (stands : u.place ≡ place.Bound r lo hi how) (opens : opening_in e.acts ≡ Some q) (mine : q.c ≡ c) (polls : ev ≡ event.Poll c want) (own_u : own_open now_on u ≡ Some x) (hole : route_of q.need ≡ route.Hole) where
     undue_poll : (k : Consumer) → becomes_due t e c k ≡ None
-    undue_poll k = undue_of t e c k (poll_undue limits t now flaw s o ev goes c c want k polls)
+    undue_poll k = undue_of t e c k (poll_undue step c c want k polls)
 
     none_after : (k : Consumer) → due_after t e c k (consumer_acted t e c (consumer_heard t e c ev k)) ≡ u → k.due ≡ None → u.due ≡ None
     none_after k is none = due_none t e c k (consumer_acted t e c (consumer_heard t e c ev k)) u is (ap reads stands) none (undue_poll k)
 
-    quiet : (v : Representation) → t.representation r ≡ Some v → (IsSealing limits t now flaw s o m ev goes real r → ⊥) → loses_in r e.acts ≡ false
-    quiet v there none = never_true (loses_in r e.acts) (λ loses. none (sealed_loss limits t now flaw s o m ev goes real r v there loses (ap brings_body polls)))
+    quiet : (v : Representation) → t.representation r ≡ Some v → (IsSealing step m real r → ⊥) → loses_in r e.acts ≡ false
+    quiet v there none = never_true (loses_in r e.acts) (λ loses. none (sealed_loss step m real r v there loses (ap brings_body polls)))
 
     had : u.due ≡ None → IsExclusiveWriter now_on r p c → IsHad now_on r p x
     had none exclusive_writer = sound.own c u (sound.is_bound lo hi how after_row stands) own_u none exclusive_writer
@@ -34,12 +36,12 @@ module _ (limits : Limits) (t : Tables) (now : ℕ) (flaw : Flaw) (s : Sound t) 
     -- A LATER HOLE
 
     exclusive_writer_quiet : (k : Consumer) (v : Representation) → t.consumer c ≡ Some k → k.place ≡ place.Bound r lo hi how → t.representation r ≡ Some v → IsKept t e r v p → loses_in r e.acts ≡ false → IsExclusiveWriter t r v c → IsExclusiveWriter now_on r p c
-    exclusive_writer_quiet k v row at there kept still (sound.first new is) = sound.first ((kept_alone limits t now flaw s o m ev goes real r v p kept still).0 ∙ new) (sound.first u lo hi how after_row stands (came_kept limits t now flaw s ev goes r lo hi how (ap is_some there) ∙ first_same is))
+    exclusive_writer_quiet k v row at there kept still (sound.first new is) = sound.first ((kept_alone step m real r v p kept still).0 ∙ new) (sound.first u lo hi how after_row stands (came_kept limits t now flaw s ev goes r lo hi how (ap is_some there) ∙ first_same is))
       where
         first_same : IsFirst t r c → came_alone t (place.Bound r lo hi how) ≡ true
         first_same (sound.first a l h g a_row a_at alone) =
             subst (λ y. came_alone t y ≡ true) (sym a_at ∙ (ap (λ (y : Consumer). y.place) (same_row (t.consumer c) a k a_row row) ∙ at)) alone
-    exclusive_writer_quiet k v row at there kept still (sound.alone lost is) = let all = kept_alone limits t now flaw s o m ev goes real r v p kept still in sound.alone (all.0 ∙ lost) (all.1 ∙ is)
+    exclusive_writer_quiet k v row at there kept still (sound.alone lost is) = let all = kept_alone step m real r v p kept still in sound.alone (all.0 ∙ lost) (all.1 ∙ is)
 
     same_place : (n : ℕ) (k a : Consumer) → k.place ≡ place.Bound r lo hi how → t.consumer c ≡ Some k → IsBound t n c a → n ≡ r
     same_place n k a at row (sound.is_bound l h g a_row a_at) =
@@ -74,8 +76,8 @@ module _ (limits : Limits) (t : Tables) (now : ℕ) (flaw : Flaw) (s : Sound t) 
     idle : (k : Consumer) → t.consumer c ≡ Some k → bound_to k.place ≡ None → k.due ≡ None
     idle k row free = by_place k.place refl free
       where
-        got : Rattle.hc_effects.proofs.OwnersKeep.IsOpened limits t now flaw s o ev goes q
-        got = is_opened limits t now flaw s o ev goes q opens
+        got : Rattle.hc_effects.proofs.OwnersKeep.IsOpened step q
+        got = is_opened step q opens
 
         one : got.k ≡ k
         one = same_row (t.consumer c) got.k k (sym (ap t.consumer mine) ∙ got.row) row
@@ -114,7 +116,7 @@ module _ (limits : Limits) (t : Tables) (now : ℕ) (flaw : Flaw) (s : Sound t) 
         let one : gap.v ≡ v = same_row (t.representation r) gap.v v gap.row kept.row in
         let not_gone : v.is_gone ≡ false = ap (λ (y : Representation). y.is_gone) (sym one) ∙ current_stays t _ r gap.v gap.current_is gap.row in
         let still = quiet v kept.row (λ y. none_about t r y.y v s kept.row nobody (sound.headed y.w y.row y.was_open y.headed y.of_r (ap is_some kept.row))) in
-        let kept_p : p.is_lost ≡ false = (kept_alone limits t now flaw s o m ev goes real r v p kept still).0 ∙ not_lost v not_gone (s.rows r v kept.row).store.lost_is_gone v.is_lost refl in
+        let kept_p : p.is_lost ≡ false = (kept_alone step m real r v p kept still).0 ∙ not_lost v not_gone (s.rows r v kept.row).store.lost_is_gone v.is_lost refl in
         had (none_after k row.is (idle k row.row (sym (ap bound_to placed) ∙ free))) (sound.first kept_p (sound.first u lo hi how after_row stands (ap (λ g. came_alone now_on (place.Bound r lo hi g)) gap.by_is)))
 
     pub opened_had : IsHad now_on r p x
@@ -131,7 +133,7 @@ module _ (limits : Limits) (t : Tables) (now : ℕ) (flaw : Flaw) (s : Sound t) 
   new_had r x q z p opens made after_x on bare aim hole after = by_place a.at
     where
       a : Awaits now_on x z
-      a = waiting_kept limits t now flaw s o ev goes real.stand x z after_x on bare
+      a = waiting_kept step real.stand x z after_x on bare
 
       mine : q.c ≡ z.c
       mine = ap (λ (y : Exchange). y.c) made
@@ -141,5 +143,5 @@ module _ (limits : Limits) (t : Tables) (now : ℕ) (flaw : Flaw) (s : Sound t) 
       by_place (owners.turn way at) = absurd (let no : route.Turn ≡ route.Hole = sym way ∙ hole in cc)
       by_place (owners.hole n lo hi how way aimed at) =
           let number : n ≡ r = some_inj n r (sym aimed ∙ aim) in
-          let got = is_opened limits t now flaw s o ev goes q opens in
+          let got = is_opened step q opens in
           opened_had r x z.c got.want lo hi how q a.k z p after a.row (at ∙ ap (λ y. place.Bound y lo hi how) number) opens mine (got.at ∙ ap (λ y. event.Poll y got.want) mine) (own_open_is now_on a.k x (record { own = a.own; w = z; row = after_x; opened = on })) (ap (λ (y : Exchange). route_of y.need) made ∙ hole)

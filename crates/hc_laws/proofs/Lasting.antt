@@ -2,9 +2,11 @@
 use Rattle.std.{proofs.{Common.{◌≡◌, ◌⊎◌, inl, inr, ℕ, ◌≤◌, length, Bool, true, false, Some, None, refl, ap, sym, ◌∙◌, arith}, lemmas.Bool.Decides.{nat_tests}}, specs.Prelude.{◌&&◌, ◌==◌, not, nat_eq, nat_lt}}
 use Rattle.hc_text.proofs.Basics.{bool_cases}
 use Rattle.hc_effects.proofs.Vocabulary.{closes_in, Event, Limits, loses_in, denial, Entry, promised_bytes, is_open, Flaw, becomes_gone, goes_itself, ends_early, ends_founding, stops_early, is_keepable, is_below, entry_of, Measures, Owners, is_written, Tables, Exchange, Representation, Sound, IsGrowing, after_accepted, event}
-use Rattle.hc_effects.proofs.{ApartKeeps.{is_on}, Basics.{false_true, or_false}, RepFrom.{heard, IsKept}, WritingStops.{IsAll, ends_all}}
+use Rattle.hc_effects.proofs.{ApartKeeps.{is_on}, Basics.{false_true, or_false}, RepFrom.{heard, IsKept}, WritingStops.{IsAll, ends_all}, Step.{Step}}
 
-module _ (limits : Limits) (t : Tables) (now : ℕ) (flaw : Flaw) (s : Sound t) (o : Owners t) (m : Measures t) (ev : Event) (goes : denial t ev ≡ None) where
+module _ (step : Step) (m : Measures step.tables) where
+  open step use {limits, tables as t, now, flaw, sound as s, event as ev}
+
   abbrev e : Entry
   e = entry_of limits t now ev flaw
 
@@ -84,5 +86,5 @@ module _ (limits : Limits) (t : Tables) (now : ℕ) (flaw : Flaw) (s : Sound t) 
       pub lasting : (is_open (now_on.exchange r) ≡ true) ⊎ IsAll p
       lasting = elim (bool_cases (is_open (now_on.exchange r))) [
         | inl still ↦ inl still
-        | inr off ↦ inr (ends_all limits t now flaw s o m ev goes r r v p w there on writer kept g was_open (inl not_lost) unclosed unfaulted enough ev refl off)
+        | inr off ↦ inr (ends_all step m r r v p w there on writer kept g was_open (inl not_lost) unclosed unfaulted enough ev refl off)
       ]

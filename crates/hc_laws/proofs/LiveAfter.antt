@@ -4,7 +4,7 @@
 use Rattle.std.{proofs.{Common.{◌≡◌, ◌⊎◌, inl, inr, ℕ, Bool, true, false, Option, Some, None, refl, ap, sym, ◌∙◌, arith}, lemmas.Bool.Decides.{nat_tests}}, specs.Prelude.{nat_eq, if◌then◌else◌}}
 use Rattle.hc_effects.proofs.Vocabulary.{is_denied, Event, Place, Limits, accepted_acts, consumer_after, consumer_made, new_consumer, is_live, is_live_place, Entry, flaw_in, Lawful, Tables, Consumer, IsOwed, after, after_accepted, after_denied, place}
 use Rattle.hc_event.specs.declared.event.Event.TheVariants as event
-use Rattle.hc_effects.proofs.Owed.{goes, acts_are}
+use Rattle.hc_effects.proofs.{Owed.{goes, acts_are}, Step.{step_of}}
 use Rattle.hc_laws.proofs.LiveRuns.{stays_over}
 
 -- the consumer starts by the event
@@ -41,7 +41,7 @@ module _ (limits : Limits) (t : Tables) (e : Entry) (law : Lawful t) (is : IsOwe
   pub dead_stays : (c : ℕ) (k : Consumer) → is_denied e.acts ≡ false → t.consumer c ≡ Some k → k.place ≡ place.Over → is_live (consumer_after t e c (t.consumer c)) ≡ false
   dead_stays c k on row over =
       ap (λ (z : Entry). is_live (consumer_after t z c (t.consumer c))) (entry_is on)
-      ∙ stays_over limits t e.now (flaw_in e.acts) law.sound law.owned e.event (goes limits t e is on) c k row over
+      ∙ stays_over (step_of limits t e.now (flaw_in e.acts) law.sound law.owned e.event (goes limits t e is on)) c k row over
 
   by_row : (c : ℕ) (o : Option Consumer) → is_denied e.acts ≡ false → t.consumer c ≡ o → is_live (consumer_after t e c (t.consumer c)) ≡ true → (is_live (t.consumer c) ≡ true) ⊎ Starts c e.event
   unfolding consumer_after

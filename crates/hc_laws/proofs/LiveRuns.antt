@@ -7,7 +7,7 @@ use Rattle.hc_rules.specs.Refusals as refusals
 use Rattle.hc_model.specs.Frames as frames
 use Rattle.hc_model.specs.Live.{FewLive}
 use Rattle.hc_model.specs.Owners as owners
-use Rattle.hc_effects.proofs.{Basics.{false_true}, EventsKeep.{poll_live}, FirstKeeps.{is_new}, NumbersKeep.{starts_later}, Standing.{far_by, after_heard, standers_stay, starting_over_is_caused}, Waiters.{waiter_as, fault_open_of}}
+use Rattle.hc_effects.proofs.{Basics.{false_true}, EventsKeep.{poll_live}, FirstKeeps.{is_new}, NumbersKeep.{starts_later}, Standing.{far_by, after_heard, standers_stay, starting_over_is_caused}, Waiters.{waiter_as, fault_open_of}, Step.{Step, step_of}}
 use Rattle.hc_laws.proofs.{OrderRuns.{starts_on}, RunFacts.{in_runs}}
 
 -- NO MORE OF A LIST
@@ -56,7 +56,9 @@ three_off : (a b c : Bool) → a ≡ false → b ≡ false → c ≡ false → (
 three_off false false c p q r = r
 three_off _ _ c p q r = cc
 
-module _ (limits : Limits) (t : Tables) (now : ℕ) (flaw : Flaw) (s : Sound t) (o : Owners t) (ev : Event) (goes : denial t ev ≡ None) where
+module _ (step : Step) where
+  open step use {limits, tables as t, now, flaw, sound as s, event as ev, accepted as goes}
+
   abbrev e : Entry
   e = entry_of limits t now ev flaw
 
@@ -74,7 +76,7 @@ module _ (limits : Limits) (t : Tables) (now : ℕ) (flaw : Flaw) (s : Sound t) 
     unawaited x w (owners.hole r lo hi how by aim at) = let no : place.Over ≡ place.Bound r lo hi how = sym over ∙ at in cc
 
     unheard : (x : ℕ) (w : Exchange) → t.exchange x ≡ Some w → w.c ≡ c → w.is_open ≡ true → w.head ≡ None → ⊥
-    unheard x w w_row mine on bare = unawaited x w (waiter_as limits t now flaw s o ev goes c x k w row w_row mine on bare).at
+    unheard x w w_row mine on bare = unawaited x w (waiter_as step c x k w row w_row mine on bare).at
 
     put : starts_over t e c k ≡ false → now_on.consumer c ≡ Some (if starts_over t e c k then back_in_line now k else beside t e c k) → is_live (now_on.consumer c) ≡ false
     put stays is = ap is_live is ∙ (rw stays (ap is_live_place over))
@@ -99,7 +101,7 @@ module _ (limits : Limits) (t : Tables) (now : ℕ) (flaw : Flaw) (s : Sound t) 
     quiet x (Some w) w_row here mine = by_head w.head refl
       where
         opened : w.is_open ≡ true
-        opened = fault_open_of limits t now flaw s o ev goes x w (sym (ap (denial t) here) ∙ goes) w_row
+        opened = fault_open_of step x w (sym (ap (denial t) here) ∙ goes) w_row
 
         by_head : (h : Option Response) → w.head ≡ h → by_fault c x (Some w) k ≡ k
         by_head None bare = absurd (unheard x w w_row (let test : nat_eq w.c c ≡ true = mine in grind (arith, nat_tests)) opened bare)
@@ -188,7 +190,7 @@ few : OfRunsIn IsFew
 few = in_runs IsFew
     (λ limits contents may. record { starts = tt; few = omega arith })
     (λ limits t e later f. record { starts = f.starts; few = f.few })
-    (λ limits t now flaw later c f ev goes real. record { starts = starts_on t ev goes f.starts; few = few_kept limits t now flaw c.is_sound c.is_owned ev goes f.starts f.few })
+    (λ limits t now flaw later c f ev goes real. record { starts = starts_on t ev goes f.starts; few = few_kept (step_of limits t now flaw c.is_sound c.is_owned ev goes) f.starts f.few })
 
 pub few_in_runs : OfRuns FewLive
 few_in_runs limits contents h may run = record { few = (few limits contents h may run).few }

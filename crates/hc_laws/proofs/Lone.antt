@@ -3,7 +3,7 @@ use Rattle.std.{proofs.Common.{◌≡◌, ◌⊎◌, inl, inr, ℕ, Bool, true, 
 use Rattle.hc_text.proofs.Basics.{or_off_left, all_three, and_left, and_right, bool_cases, not_some as none_some, or_off_right as or_right, same_some as same_row}
 use Rattle.hc_effects.proofs.Vocabulary.{Opening, opening_in, Event, Response, route_of, Limits, BoundBy, loses_in, Showing, showing_in, consumer_heard, consumer_acted, by_opening, waiting, current, denial, Entry, is_open, becomes_due, Flaw, entry_of, Measures, Owners, move_of, is_written, own_open, offset, hi_of, bound_to, reads, Tables, Exchange, Representation, Consumer, Sound, IsBound, IsFirst, after_accepted, came_alone, may_write, has_more, lacks_some, exclusive, brings_body, event, route, place}
 use Rattle.hc_model.specs.Sound as sound
-use Rattle.hc_effects.proofs.{AboutKeeps.{own_open_of, own_open_is}, ApartKeeps.{written_by}, Basics.{false_true, or_false}, BoundFrom.{BoundFrom, IsRow, IsShown, bound_from, place_inj}, BoundKeeps.{shown_place_is}, Dues.{due_before}, ExchangeFrom.{ExchangeFrom, exchange_from}, FirstKeeps.{is_new, came_kept, open_free}, LossBy.{IsReal}, Losses.{HasRest, exclusive_is, no_more, or_end}, OwnFrom.{OwnFrom, own_from}, OwnersKeep.{is_opened}, ExclusiveWriters.{IsAtHole, bound_some, shares_source, writer_some}, RepFrom.{RepFrom, rep_from, IsKept, IsResumed}, Said.{IsShowing, showing_by}, ServedKeeps.{rest_by, still_rests, resumed_not}, ShownFrom.{shown_from}, Stops.{writer_about}, ToBeShown.{heard_place}, WriterEnds.{all_stored}}
+use Rattle.hc_effects.proofs.{AboutKeeps.{own_open_of, own_open_is}, ApartKeeps.{written_by}, Basics.{false_true, or_false}, BoundFrom.{BoundFrom, IsRow, IsShown, bound_from, place_inj}, BoundKeeps.{shown_place_is}, Dues.{due_before}, ExchangeFrom.{ExchangeFrom, exchange_from}, FirstKeeps.{is_new, came_kept, open_free}, LossBy.{IsReal}, Losses.{HasRest, exclusive_is, no_more, or_end}, OwnFrom.{OwnFrom, own_from}, OwnersKeep.{is_opened}, ExclusiveWriters.{IsAtHole, bound_some, shares_source, writer_some}, RepFrom.{RepFrom, rep_from, IsKept, IsResumed}, Said.{IsShowing, showing_by}, ServedKeeps.{rest_by, still_rests, resumed_not}, ShownFrom.{shown_from}, Stops.{writer_about}, ToBeShown.{heard_place}, WriterEnds.{all_stored}, Step.{Step}}
 use Rattle.hc_laws.proofs.OpensLater.{opens_later}
 use Rattle.hc_effects.proofs.BoundFrom as from
 use Rattle.hc_effects.proofs.ExchangeFrom as exchange
@@ -36,7 +36,9 @@ resting_is t r c lo hi how v k s row at alone none off free = elim (bool_cases (
     none_left None h = refl
     none_left (Some x) h = absurd (false_true (sym h))
 
-module _ (limits : Limits) (t : Tables) (now : ℕ) (flaw : Flaw) (s : Sound t) (o : Owners t) (m : Measures t) (was : AreLone t) (ev : Event) (goes : denial t ev ≡ None) (real : IsReal limits t now ev flaw) where
+module _ (step : Step) (m : Measures step.tables) (was : AreLone step.tables) (real : IsReal step.limits step.tables step.now step.event step.flaw) where
+  open step use {limits, tables as t, now, flaw, sound as s, owners as o, event as ev, accepted as goes}
+
   abbrev e : Entry
   e = entry_of limits t now ev flaw
 
@@ -69,7 +71,7 @@ module _ (limits : Limits) (t : Tables) (now : ℕ) (flaw : Flaw) (s : Sound t) 
       left_not : (y : ℕ) (q : Consumer) → t.consumer c ≡ Some q → own.IsLeft t e c y (consumer_heard t e c ev q).place → ⊥
       left_not y q q_row l =
           let brings_one : brings_body ev ≡ true = and_left _ _ (and_left _ _ l.loses) in
-          let placed : k.place ≡ (consumer_heard t e c ev a).place = heard_place limits t now flaw s o ev goes c r lo hi how a k (λ d want polls. false_true (sym (ap brings_body polls) ∙ brings_one)) row in
+          let placed : k.place ≡ (consumer_heard t e c ev a).place = heard_place step c r lo hi how a k (λ d want polls. false_true (sym (ap brings_body polls) ∙ brings_one)) row in
           let one : q ≡ a = same_row (t.consumer c) q a q_row row.row in
           let at_l : (consumer_heard t e c ev a).place ≡ place.Bound l.r l.lo l.hi l.how = ap (λ (b : Consumer). (consumer_heard t e c ev b).place) (sym one) ∙ l.at in
           let number : l.r ≡ r = (place_inj l.r l.lo l.hi l.how r lo hi how (sym at_l ∙ (sym placed ∙ stands))).number in
@@ -77,7 +79,7 @@ module _ (limits : Limits) (t : Tables) (now : ℕ) (flaw : Flaw) (s : Sound t) 
 
       -- nothing was opened for it, since it stands at no hole
       opened_not : ((q n : ℕ) (w : Representation) → IsAtHole t q c n w a → ⊥) → (g : Opening) → opening_in e.acts ≡ Some g → g.c ≡ c → ⊥
-      opened_not no_hole g opens mine = let l = opens_later limits t now flaw s o ev goes c r lo hi how a g row.row at opens mine in no_hole l.r l.end l.v l.at_hole
+      opened_not no_hole g opens mine = let l = opens_later step c r lo hi how a g row.row at opens mine in no_hole l.r l.end l.v l.at_hole
 
       -- so it has no open exchange, if it had none
       unowned_now : ((y : ℕ) → own_open t a ≡ Some y → ⊥) → ((q n : ℕ) (w : Representation) → IsAtHole t q c n w a → ⊥) → own_open now_on k ≡ None
@@ -113,17 +115,17 @@ module _ (limits : Limits) (t : Tables) (now : ℕ) (flaw : Flaw) (s : Sound t) 
 
           by_writer : (p.writer ≡ v.writer) ⊎ IsResumed t e r v p.writer → p.writer ≡ Some x
           by_writer (inl same) = same ∙ writer
-          by_writer (inr R) = absurd (resumed_not limits t now flaw s o m ev goes real r c lo hi how k p after after_row stands a v row at there kept before.0 before.1 on x writer R)
+          by_writer (inr R) = absurd (resumed_not step m real r c lo hi how k p after after_row stands a v row at there kept before.0 before.1 on x writer R)
 
           by_open : (b : Bool) → is_open (now_on.exchange x) ≡ b → HasRest now_on p k
-          by_open false off = rest_by limits t now flaw s o m ev goes real r c lo hi how k p after after_row stands (all_stored limits t now flaw s o m ev goes real r c x lo hi how a k v p row at stands there on writer before.1 kept (inl parts.0) off) hi refl
+          by_open false off = rest_by step m real r c lo hi how k p after after_row stands (all_stored step m real r c x lo hi how a k v p row at stands there on writer before.1 kept (inl parts.0) off) hi refl
           by_open true still = absurd (false_true (sym unwritten ∙ written_by now_on p x fresh_now (by_writer kept.writer_is) still))
 
       -- it rests already
       by_rest : IsResting t v a → IsResting now_on p k
       by_rest i = record {
         unowned = unowned_now (λ y owned. none_some y (sym i.unowned ∙ owned)) no_hole;
-        rest = still_rests limits t now flaw s o m ev goes real r c lo hi how k p after after_row stands a v row at there kept before.0 before.1 i.rest.hi i.rest.end i.rest.covered;
+        rest = still_rests step m real r c lo hi how k p after after_row stands a v row at there kept before.0 before.1 i.rest.hi i.rest.end i.rest.covered;
       }
         where
           no_hole : (q n : ℕ) (w : Representation) → IsAtHole t q c n w a → ⊥
@@ -157,7 +159,7 @@ module _ (limits : Limits) (t : Tables) (now : ℕ) (flaw : Flaw) (s : Sound t) 
         false_true (sym (ap (λ (z : Option Representation). is_some z) no_row) ∙ s.numbered.bound_to r d b reader)
 
     head_opens : (x : ℕ) (response : Response) (g : Opening) → ev ≡ event.Head x response → opening_in e.acts ≡ Some g → ⊥
-    head_opens x response g here opens = let by_poll = is_opened limits t now flaw s o ev goes g opens in let no : event.Head x response ≡ event.Poll g.c by_poll.want = sym here ∙ by_poll.at in cc
+    head_opens x response g here opens = let by_poll = is_opened step g opens in let no : event.Head x response ≡ event.Poll g.c by_poll.want = sym here ∙ by_poll.at in cc
 
     nobody : (a : Consumer) (g : Opening) (f : ℕ) → t.consumer f ≡ Some a → opening_in e.acts ≡ Some g → g.c ≡ f → bound_to (waiting t e f (consumer_heard t e f ev a)).place ≡ None → route_of g.need ≡ route.Hole → current t (consumer_heard t e f ev a).request.key ≡ Some r → (d : ℕ) (b : Consumer) → IsBound t r d b → ⊥
     nobody a g f row opens mine free way is d b reader = bound_some t r d b s.numbered reader (open_free limits t now flaw s ev goes f r a g row opens mine free way is)
@@ -193,7 +195,7 @@ module _ (limits : Limits) (t : Tables) (now : ℕ) (flaw : Flaw) (s : Sound t) 
           absurd (apart (sym mine_too ∙ (ap (λ (z : Opening). z.c) (same_row (opening_in e.acts) q g opens_too opens) ∙ mine)))
       by_ways (from.opens a g row opens mine free way hole) (from.shows b z also is all) =
           let polls = shown_poll z is in
-          let by_poll = is_opened limits t now flaw s o ev goes g opens in
+          let by_poll = is_opened step g opens in
           absurd (apart (sym all.at ∙ (poll_inj z.c g.c polls.0 by_poll.want (sym polls.1 ∙ by_poll.at) ∙ mine)))
 
   by_number : (r c d : ℕ) (p : Representation) (k u : Consumer) → now_on.representation r ≡ Some p → p.is_lost ≡ false → is_written now_on p ≡ false → IsFirst now_on r c → now_on.consumer c ≡ Some k → k.due ≡ None → IsBound now_on r d u → (d ≡ c → ⊥) → IsResting now_on p k

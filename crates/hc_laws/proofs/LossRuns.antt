@@ -5,7 +5,7 @@ use Rattle.hc_sparse.specs.{Cells.{Cell, Cells, Covers}, Stretch.{bytes_from, go
 use Rattle.hc_effects.proofs.Vocabulary.{Response, BoundBy, is_number, Entry, Contents, base, front, OfRuns, Brings, HoldsOwn, cell_from, offset, Tables, Exchange, Representation, Consumer, Sound, IsBound, run_held_for, held_at, held_of_lost, run_of, tables, first_tables, after_denied, place}
 use Rattle.hc_model.specs.Losses.{Losses, IsHeldFrom}
 use Rattle.hc_model.specs.Sound as sound
-use Rattle.hc_effects.proofs.{Basics.{false_true}, ExclusiveWriters.{eq-refl}}
+use Rattle.hc_effects.proofs.{Basics.{false_true}, ExclusiveWriters.{eq-refl}, Step.{step_of}}
 use Rattle.hc_laws.proofs.{BringsRuns.{brings_in_runs}, DueAhead.{IsAhead, AreAhead, ahead_kept}, RunFacts.{in_runs_with}, SoundRuns.{carried}, Tails.{AreTails, IsTail, tails_kept}}
 
 -- OVER A RUN
@@ -22,7 +22,7 @@ tails_in_runs : OfRuns AreTails
 tails_in_runs = in_runs_with (λ limits t. AreTails t) (λ limits t. Unit {0}) (λ limits contents h may run. tt)
     (λ limits contents may. record { tail = λ r c x v k w there alone reader own row. absurd (none_some w row) })
     (λ limits t e later was. tails_denied t e was)
-    (λ limits t now flaw ev s all was. let c = s.before in tails_kept limits t now flaw c.is_sound c.is_owned c.is_measured c.beside ev s.going s.real was s.sound_then)
+    (λ limits t now flaw ev s all was. let c = s.before in tails_kept (step_of limits t now flaw c.is_sound c.is_owned ev s.going) c.is_measured c.beside s.real was s.sound_then)
 
 ahead_denied : (t : Tables) (e : Entry) → AreAhead t → AreAhead (after_denied t e)
 ahead_denied t e was = record { ahead = by_reader }
@@ -36,7 +36,7 @@ ahead_in_runs : OfRuns AreAhead
 ahead_in_runs = in_runs_with (λ limits t. AreAhead t) (λ limits t. Unit {0}) (λ limits contents h may run. tt)
     (λ limits contents may. record { ahead = λ r c v k there alone reader. unbound contents r c k reader })
     (λ limits t e later was. ahead_denied t e was)
-    (λ limits t now flaw ev s all was. let c = s.before in ahead_kept limits t now flaw c.is_sound c.is_owned c.is_measured c.beside ev s.going s.real was s.sound_then)
+    (λ limits t now flaw ev s all was. let c = s.before in ahead_kept (step_of limits t now flaw c.is_sound c.is_owned ev s.going) c.is_measured c.beside s.real was s.sound_then)
   where
     unbound : {A : Type 0} (contents : Contents) (r c : ℕ) (k : Consumer) → IsBound (first_tables contents) r c k → A
     unbound contents r c k (sound.is_bound lo hi how row at) = absurd (none_some k row)

@@ -3,7 +3,7 @@ use Rattle.std.proofs.Common.{◌≡◌, ℕ, Option, Some, None, ap, sym, ◌�
 use Rattle.hc_text.proofs.Basics.{not_some as none_some, same_some as same_row, some_inj}
 use Rattle.hc_effects.proofs.Vocabulary.{Opening, opening_in, Need, Event, Limits, BoundBy, denial, Flaw, entry_of, aim_from, bound, bound_to, offset, held_of_lost, Owners, Tables, Representation, Consumer, Sound, place}
 use Rattle.hc_model.specs.Sound as sound
-use Rattle.hc_effects.proofs.{FirstKeeps.{is_opener}, OpensFrom.{IsHole, hole_is, opens_hole}, OwnersKeep.{is_opened}, ExclusiveWriters.{IsAtHole, bound_some}, PollTree.{later, first, OpensHole}}
+use Rattle.hc_effects.proofs.{FirstKeeps.{is_opener}, OpensFrom.{IsHole, hole_is, opens_hole}, OwnersKeep.{is_opened}, ExclusiveWriters.{IsAtHole, bound_some}, PollTree.{later, first, OpensHole}, Step.{Step}}
 use Rattle.hc_effects.proofs.OpenedAs as opened
 
 pub record OpensLater (t : Tables) (c : ℕ) (k : Consumer) (n : Need) : Type 0 where
@@ -16,10 +16,12 @@ pub record OpensLater (t : Tables) (c : ℕ) (k : Consumer) (n : Need) : Type 0 
   pub unheld : held_of_lost c (offset t k) most (Some v) ≡ None
   pub from_is : hole.from ≡ offset t k
 
-module _ (limits : Limits) (t : Tables) (now : ℕ) (flaw : Flaw) (s : Sound t) (o : Owners t) (ev : Event) (goes : denial t ev ≡ None) where
+module _ (step : Step) where
+  open step use {limits, tables as t, now, flaw, sound as s, event as ev, accepted as goes}
+
   pub opens_later : (c r lo : ℕ) (hi : Option ℕ) (how : BoundBy) (k : Consumer) (p : Opening) → t.consumer c ≡ Some k → k.place ≡ place.Bound r lo hi how → opening_in (entry_of limits t now ev flaw).acts ≡ Some p → p.c ≡ c → OpensLater t c k p.need
   opens_later c r lo hi how k p row at opens mine =
-      let poll = is_opened limits t now flaw s o ev goes p opens in
+      let poll = is_opened step p opens in
       let one : poll.k ≡ k = same_row (t.consumer c) poll.k k (sym (ap t.consumer mine) ∙ poll.row) row in
       by_way (subst (λ (b : Consumer). opened.Way t now c b p.need) one (subst (λ d. opened.Way t now d poll.k p.need) mine poll.way.way))
     where

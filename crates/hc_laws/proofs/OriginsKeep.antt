@@ -5,7 +5,7 @@ use Rattle.hc_effects.proofs.Vocabulary.{Opening, opening_in, Event, Limits, den
 use Rattle.hc_sparse.specs.Cells.{Cell, cells_with}
 use Rattle.hc_sparse.proofs.CellLemmas.{inside-cases}
 use Rattle.hc_model.specs.Origins as origins
-use Rattle.hc_effects.proofs.{Basics.{false_true}, ExchangeFrom.{ExchangeFrom, exchange_from}, Fills.{Fills, IsPiece, fills}, FirstKeeps.{is_new}, Forward.{is_on}, MeasuresKeep.{piece_taken}, NumbersKeep.{opens_next}, RepFrom.{RepFrom, rep_from}}
+use Rattle.hc_effects.proofs.{Basics.{false_true}, ExchangeFrom.{ExchangeFrom, exchange_from}, Fills.{Fills, IsPiece, fills}, FirstKeeps.{is_new}, Forward.{is_on}, MeasuresKeep.{piece_taken}, NumbersKeep.{opens_next}, RepFrom.{RepFrom, rep_from}, Step.{Step}}
 use Rattle.hc_effects.proofs.ExchangeFrom as exchange
 use Rattle.hc_effects.proofs.Fills as fill
 use Rattle.hc_effects.proofs.RepFrom as rep
@@ -42,7 +42,9 @@ module _ (t : Tables) (e : Entry) where
       by_row (rep.was v kept) = by_fill r x p cell v u kept.row there from (fills t e r v u kept)
       by_row (rep.founded response w none at here on is) = absurd (none_some cell (ap (λ (z : Representation). z.body p) is ∙ there))
 
-module _ (limits : Limits) (t : Tables) (now : ℕ) (flaw : Flaw) (s : Sound t) (o : Owners t) (m : Measures t) (g : Origins t) (ev : Event) (goes : denial t ev ≡ None) where
+module _ (step : Step) (m : Measures step.tables) (g : Origins step.tables) where
+  open step use {limits, tables as t, now, flaw, sound as s, owners as o, event as ev, accepted as goes}
+
   abbrev e : Entry
   e = entry_of limits t now ev flaw
 
@@ -61,7 +63,7 @@ module _ (limits : Limits) (t : Tables) (now : ℕ) (flaw : Flaw) (s : Sound t) 
   ]
 
   brought_by : (r x : ℕ) (b : Brought t e r x) → MayDeliver t r x
-  brought_by r x b = origins.came b.w b.is.row (piece_taken limits t now flaw s o m ev goes x b.bytes b.w b.is.at b.is.row).headed b.is.of_r
+  brought_by r x b = origins.came b.w b.is.row (piece_taken step m x b.bytes b.w b.is.at b.is.row).headed b.is.of_r
 
   -- where a byte is from, as it was known before
   record Before (r x : ℕ) : Type 0 where

@@ -3,7 +3,7 @@ use Rattle.std.{proofs.Common.{◌≡◌, inl, inr, ℕ, true, Option, Some, Non
 use Rattle.hc_text.proofs.Basics.{and_left, and_right, bool_cases, not_some as none_some, same_some as same_row}
 use Rattle.hc_effects.proofs.Vocabulary.{Opening, opening_in, Event, Response, Limits, loses_in, denial, Entry, family, Flaw, entry_of, OfRunsIn, Measures, Owners, is_written, Tables, Exchange, Representation, Consumer, Sound, after_accepted, after_denied, IsOwner, loses_writing, brings_body, event}
 use Rattle.hc_model.specs.Whose as whose
-use Rattle.hc_effects.proofs.{Basics.{false_true, some_row}, ExchangeFrom.{ExchangeFrom, exchange_from, IsSame}, FirstKeeps.{is_new}, LossBy.{IsReal, fresh}, OwnFrom.{OwnFrom, own_from, IsLeft}, OwnersKeep.{new_number}, RepFrom.{RepFrom, rep_from, IsKept}, ServedKeeps.{lost_alone, kept_alone}}
+use Rattle.hc_effects.proofs.{Basics.{false_true, some_row}, ExchangeFrom.{ExchangeFrom, exchange_from, IsSame}, FirstKeeps.{is_new}, LossBy.{IsReal, fresh}, OwnFrom.{OwnFrom, own_from, IsLeft}, OwnersKeep.{new_number}, RepFrom.{RepFrom, rep_from, IsKept}, ServedKeeps.{lost_alone, kept_alone}, Step.{Step, step_of}}
 use Rattle.hc_effects.proofs.ExchangeFrom as exchange
 use Rattle.hc_effects.proofs.OwnFrom as own_by
 use Rattle.hc_effects.proofs.RepFrom as rep
@@ -12,7 +12,9 @@ use Rattle.hc_laws.proofs.RunFacts.{in_runs}
 pub record AreFor (limits : Limits) (t : Tables) : Type 0 where
   pub owner : (c x : ℕ) (k : Consumer) (w : Exchange) → t.consumer c ≡ Some k → k.own ≡ Some x → t.exchange x ≡ Some w → IsOwner t x w c
 
-module _ (limits : Limits) (t : Tables) (now : ℕ) (flaw : Flaw) (s : Sound t) (o : Owners t) (m : Measures t) (was : AreFor limits t) (ev : Event) (goes : denial t ev ≡ None) (real : IsReal limits t now ev flaw) where
+module _ (step : Step) (m : Measures step.tables) (was : AreFor step.limits step.tables) (real : IsReal step.limits step.tables step.now step.event step.flaw) where
+  open step use {limits, tables as t, now, flaw, sound as s, owners as o, event as ev, accepted as goes}
+
   abbrev e : Entry
   e = entry_of limits t now ev flaw
 
@@ -48,8 +50,8 @@ module _ (limits : Limits) (t : Tables) (now : ℕ) (flaw : Flaw) (s : Sound t) 
 
       still_alone : (v : Representation) → t.representation (family x w) ≡ Some v → v.alone ≡ Some c → (p : Representation) → IsKept t e (family x w) v p → p.alone ≡ Some c
       still_alone v there alone p kept = elim (bool_cases (loses_in (family x w) e.acts)) [
-        | inr quiet ↦ (kept_alone limits t now flaw s o m ev goes real (family x w) v p kept quiet).1 ∙ alone
-        | inl loses ↦ absurd (none_some c (sym ((s.rows (family x w) v there).store.nobody_alone (fresh limits t now flaw s o m ev goes real (family x w) v there loses)) ∙ alone))
+        | inr quiet ↦ (kept_alone step m real (family x w) v p kept quiet).1 ∙ alone
+        | inl loses ↦ absurd (none_some c (sym ((s.rows (family x w) v there).store.nobody_alone (fresh step m real (family x w) v there loses)) ∙ alone))
       ]
 
       kept_owner : IsOwner t x w c → IsOwner now_on x z c
@@ -70,7 +72,7 @@ module _ (limits : Limits) (t : Tables) (now : ℕ) (flaw : Flaw) (s : Sound t) 
       left_alone : (q : Representation) → IsKept t e i.r i.v q → q.alone ≡ Some c
       left_alone q kept =
           let losing : loses_writing t e i.r i.v ≡ true = i.loses in
-          (lost_alone limits t now flaw s o m ev goes real i.r i.v q i.row kept loses).1 ∙ rw losing i.survives
+          (lost_alone step m real i.r i.v q i.row kept loses).1 ∙ rw losing i.survives
 
       left_owner : IsOwner now_on x z c
       left_owner =
@@ -86,7 +88,7 @@ module _ (limits : Limits) (t : Tables) (now : ℕ) (flaw : Flaw) (s : Sound t) 
   by_from : (c x : ℕ) (u : Consumer) (z : Exchange) → OwnFrom t e c x u → ExchangeFrom t e x z → IsOwner now_on x z c
   by_from c x u z (own_by.kept k its own heard) (exchange.was w row same) = kept_owner c x u w z row same k its.row own (was.owner c x k w its.row own row)
   by_from c x u z (own_by.kept k its own heard) (exchange.new q none opens here made) = absurd (false_true (sym (ap (λ (y : Option Exchange). is_some y) none) ∙ o.there c x k its.row own))
-  by_from c x u z (own_by.opened k q its opens mine number) (exchange.was w row same) = absurd (none_some w (sym (new_number limits t now flaw s o ev goes q x opens number) ∙ row))
+  by_from c x u z (own_by.opened k q its opens mine number) (exchange.was w row same) = absurd (none_some w (sym (new_number step q x opens number) ∙ row))
   by_from c x u z (own_by.opened k q its opens mine number) (exchange.new p none also here made) = whose.opener (ap (λ (y : Exchange). y.c) (sym made) ∙ (ap (λ (y : Opening). y.c) (same_row (opening_in e.acts) p q also opens) ∙ mine))
   by_from c x u z (own_by.left k its i) (exchange.was w row same) = left_owner c x u w z row same _ i
   by_from c x u z (own_by.left k its i) (exchange.new p none opens here made) =
@@ -104,4 +106,4 @@ for_denied limits t e was = record { owner = λ c x k w row own exchange_row. by
     by_owner x w c (whose.alone v there alone) = whose.alone v there alone
 
 pub owners_for : OfRunsIn AreFor
-owners_for = in_runs AreFor (λ limits contents may. record { owner = λ c x k w row. absurd (none_some k row) }) (λ limits t e later was. for_denied limits t e was) (λ limits t now flaw later c was ev goes real. for_kept limits t now flaw c.is_sound c.is_owned c.is_measured was ev goes real)
+owners_for = in_runs AreFor (λ limits contents may. record { owner = λ c x k w row. absurd (none_some k row) }) (λ limits t e later was. for_denied limits t e was) (λ limits t now flaw later c was ev goes real. for_kept (step_of limits t now flaw c.is_sound c.is_owned ev goes) c.is_measured was real)

@@ -2,10 +2,12 @@
 use Rattle.std.{proofs.Common.{◌≡◌, inl, inr, ℕ, Bool, true, false, cond, Option, Some, None, refl, ap, sym, ◌∙◌}, specs.Prelude.{if◌then◌else◌, ◌==◌, ◌&&◌, not, is_none}}
 use Rattle.hc_text.proofs.Basics.{bool_cases, some_inj}
 use Rattle.hc_effects.proofs.Vocabulary.{Opening, opening_in, leaves_in, Event, Request, Response, Cause, Wait, HeadCase, Route, Wanted, Limits, route_of, range_of, wanted_of, Place, BoundBy, Showing, showing_in, wait_in, case_at, bound_to_wanted, place_by_case, passed_on, passed_by, kept_by, consumer_heard, by_head, by_fault, waiting_place, waiting, place_for_hole, opened_place, unless_bound, by_opening, shown_place, consumer_acted, consumer_settled, consumer_made, consumer_after, due_after, back_in_line, current, row_of, denial, Entry, Flaw, founded_total, entry_of, Owners, bound_to, reads, Tables, Exchange, Representation, Consumer, Sound, starts_over, after_accepted, event, cause, wait, case, route, wanted, place, by}
-use Rattle.hc_effects.proofs.PieceKeeps.{eq_cases}
+use Rattle.hc_effects.proofs.{PieceKeeps.{eq_cases}, Step.{Step}}
 
 -- only what validates is conditional
-module _ (limits : Limits) (t : Tables) (now : ℕ) (flaw : Flaw) (s : Sound t) (o : Owners t) (ev : Event) (goes : denial t ev ≡ None) (c q : ℕ) (kept : Option ℕ) (k : Consumer) (row : t.consumer c ≡ Some k) where
+module _ (step : Step) (c q : ℕ) (kept : Option ℕ) (k : Consumer) (row : step.tables.consumer c ≡ Some k) where
+  open step use {limits, tables as t, now, flaw, owners as o, event as ev}
+
   abbrev e : Entry
   e = entry_of limits t now ev flaw
 
@@ -141,7 +143,9 @@ module _ (limits : Limits) (t : Tables) (now : ℕ) (flaw : Flaw) (s : Sound t) 
       let unshown = stays (shown_place c (showing_in e.acts) (by_opening t c (opening_in e.acts) (waiting t e c h)).place) (leaves_in c e.acts) acted in
       waits (wait_in c e.acts) refl (opened (waiting t e c h) (opening_in e.acts) (shown (by_opening t c (opening_in e.acts) (waiting t e c h)).place (showing_in e.acts) unshown))
 
-module _ (limits : Limits) (t : Tables) (now : ℕ) (flaw : Flaw) (s : Sound t) (o : Owners t) (ev : Event) (goes : denial t ev ≡ None) where
+module _ (step : Step) where
+  open step use {limits, tables as t, now, flaw, event as ev}
+
   abbrev made_e : Entry
   made_e = entry_of limits t now ev flaw
 
@@ -155,12 +159,12 @@ module _ (limits : Limits) (t : Tables) (now : ℕ) (flaw : Flaw) (s : Sound t) 
   pub record IsPassedRow (c q : ℕ) (kept : Option ℕ) : Type 0 where
     pub k : Consumer
     pub row : t.consumer c ≡ Some k
-    pub from : PassedFrom limits t now flaw s o ev goes c q kept k row
+    pub from : PassedFrom step c q kept k row
 
   by_row : (c q : ℕ) (kept : Option ℕ) (z : Option Consumer) (u : Consumer) → t.consumer c ≡ z → consumer_after t made_e c z ≡ Some u → u.place ≡ place.Passed q kept → IsPassedRow c q kept
   unfolding consumer_after
   by_row c q kept None u row is stands = absurd (started c q kept ev u is stands)
-  by_row c q kept (Some k) u row is stands = record { k = k; row = row; from = passed_before limits t now flaw s o ev goes c q kept k row u (some_inj _ u is) stands }
+  by_row c q kept (Some k) u row is stands = record { k = k; row = row; from = passed_before step c q kept k row u (some_inj _ u is) stands }
 
   pub passed_from : (c q : ℕ) (kept : Option ℕ) (u : Consumer) → (after_accepted t made_e).consumer c ≡ Some u → u.place ≡ place.Passed q kept → IsPassedRow c q kept
   passed_from c q kept u row stands = by_row c q kept (t.consumer c) u refl row stands

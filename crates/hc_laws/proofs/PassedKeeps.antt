@@ -2,7 +2,7 @@
 use Rattle.std.proofs.Common.{◌≡◌, ℕ, Bool, true, false, Option, Some, None, refl, ap, sym, ◌∙◌}
 use Rattle.hc_text.proofs.Basics.{same_some as same_row}
 use Rattle.hc_effects.proofs.Vocabulary.{Event, Request, Response, Need, Limits, is_conditional, is_bypassing, wait_in, has_loss, case_at, head_view, denial, Entry, Flaw, entry_of, Owners, Tables, Exchange, Consumer, Sound, after_accepted, event, need, wait, case, place}
-use Rattle.hc_effects.proofs.{Basics.{false_true}, FirstKeeps.{case_of_head}, FoundBy.{CaseBy}, Forward.{is_kept}, Said.{waiting_by}, WaitedAs.{waited_as}}
+use Rattle.hc_effects.proofs.{Basics.{false_true}, FirstKeeps.{case_of_head}, FoundBy.{CaseBy}, Forward.{is_kept}, Said.{waiting_by}, WaitedAs.{waited_as}, Step.{Step}}
 use Rattle.hc_effects.proofs.FoundBy as cases
 use Rattle.hc_laws.proofs.PassedFrom.{PassedFrom, passed_from}
 use Rattle.hc_laws.proofs.PassedFrom as passed
@@ -16,7 +16,9 @@ conditional_need _ request h = absurd (false_true h)
 validated_need : (t : Tables) (lost : Bool) (w : Exchange) (response : Response) → CaseBy (head_view t lost w response) case.Validated → w.need ≡ need.Validate
 validated_need t lost w response (cases.validated way status conditional kept) = conditional_need w.need w.request conditional
 
-module _ (limits : Limits) (t : Tables) (now : ℕ) (flaw : Flaw) (s : Sound t) (o : Owners t) (ev : Event) (goes : denial t ev ≡ None) where
+module _ (step : Step) where
+  open step use {limits, tables as t, now, flaw, sound as s, owners as o, event as ev, accepted as goes}
+
   abbrev e : Entry
   e = entry_of limits t now ev flaw
 
@@ -35,14 +37,14 @@ module _ (limits : Limits) (t : Tables) (now : ℕ) (flaw : Flaw) (s : Sound t) 
       let by_poll = waiting_by limits t now flaw s ev goes c (wait.Busy d) is in
       plain_as c by_poll.k k by_poll.poll.row row ((waited_as t now c by_poll.k (wait.Busy d) (waited.busy d) by_poll.want s by_poll.poll.row by_poll.move).plain d refl)
 
-  plain_before : (c q : ℕ) (kept : Option ℕ) (k : Consumer) (row : t.consumer c ≡ Some k) → PassedFrom limits t now flaw s o ev goes c q kept k row → is_bypassing k.request ≡ false
+  plain_before : (c q : ℕ) (kept : Option ℕ) (k : Consumer) (row : t.consumer c ≡ Some k) → PassedFrom step c q kept k row → is_bypassing k.request ≡ false
   plain_before c q kept k row (passed.stood is) = o.passed c q kept k row is
   plain_before c q kept k row (passed.validates x response w here there mine is aim held) = validated c x response w k row here there mine is
   plain_before c q kept k row (passed.busies d is held stands) = busy c d k row is
 
   pub passed_kept : (c q : ℕ) (kept : Option ℕ) (u : Consumer) → (after_accepted t e).consumer c ≡ Some u → u.place ≡ place.Passed q kept → is_bypassing u.request ≡ false
   passed_kept c q kept u row stands =
-      let before = passed_from limits t now flaw s o ev goes c q kept u row stands in
+      let before = passed_from step c q kept u row stands in
       let on = is_kept t e c before.k before.row in
       let same : on.u ≡ u = same_row ((after_accepted t e).consumer c) on.u u on.row row in
       ap is_bypassing (ap (λ (z : Consumer). z.request) (sym same) ∙ on.request_is) ∙ plain_before c q kept before.k before.row before.from

@@ -5,7 +5,7 @@ use Rattle.hc_effects.proofs.Vocabulary.{Response, route_of, Place, Endings, Ent
 use Rattle.hc_model.specs.Owners as owners
 use Rattle.hc_model.specs.Places.{IsIdle, AwaitsTurn, IsUnheard}
 use Rattle.hc_laws.proofs.{InRuns.{turned_in_runs}, PlacesKept.{AreOwn, IsOwnTurn, own_kept, turn_direct, bound_turn}, PlacesRead.{AreRead, read_kept}, PlacesEnded.{AreEnded, ended_kept}, PlacesGiven.{ArePast, past_kept}, PlacesShown.{AreReaders, IsReader, readers_kept}, PlacesStand.{Stands, AreStanding, standing_kept}, PlacesTold.{AreTold, told_kept, told_denied, down_told}, ReadEnds.{bounded}, ReadJoined.{fallback}, RunFacts.{in_runs_with}, SoundRuns.{carried}, TurnFacts.{IsTaken}, Unreached.{unreached}}
-use Rattle.hc_effects.proofs.{Basics.{false_true}, Beside.{IsBeside, is_cached_place}, Bounded.{IsBounded}, ShownStays.{IsFallback}, PastApart.{bound_direct}}
+use Rattle.hc_effects.proofs.{Basics.{false_true}, Beside.{IsBeside, is_cached_place}, Bounded.{IsBounded}, ShownStays.{IsFallback}, PastApart.{bound_direct}, Step.{step_of}}
 
 -- OVER A RUN
 
@@ -58,16 +58,16 @@ known_in_runs = in_runs_with (λ limits t. IsKnown t) (λ limits t. IsBefore t) 
     (λ limits t e later known. known_denied t e known)
     (λ limits t now flaw ev s b known.
     let c = s.before in
-    let owned = own_kept limits t now flaw c.is_sound c.is_owned b.fallback known.owned ev s.going in
+    let owned = own_kept (step_of limits t now flaw c.is_sound c.is_owned ev s.going) b.fallback known.owned in
     let taken : IsTaken limits t (entry_of limits t now ev flaw) = record { owed = s.owed; not_denied = s.real.taken } in
     record {
       owned = owned;
-      reads = read_kept limits t now flaw c.is_sound c.is_owned b.fallback known.owned ev s.going s.sound_then known.reads;
-      readers = readers_kept limits t now flaw c.is_sound c.is_owned b.fallback known.owned b.turns known.readers ev s.going taken;
-      past = past_kept limits t now flaw c.is_sound c.is_owned b.fallback b.bounded known.owned known.past ev s.going s.real.stand owned;
+      reads = read_kept (step_of limits t now flaw c.is_sound c.is_owned ev s.going) b.fallback known.owned s.sound_then known.reads;
+      readers = readers_kept (step_of limits t now flaw c.is_sound c.is_owned ev s.going) b.fallback known.owned b.turns known.readers taken;
+      past = past_kept (step_of limits t now flaw c.is_sound c.is_owned ev s.going) b.fallback b.bounded known.owned known.past s.real.stand owned;
       told = told_kept t (entry_of limits t now ev flaw) known.told;
-      ended = ended_kept limits t now flaw c.is_sound c.is_owned c.is_measured b.fallback b.bounded known.owned known.ended ev s.going owned;
-      standing = standing_kept limits t now flaw c.is_sound c.is_owned b.fallback known.owned b.turns known.readers known.standing ev s.going taken;
+      ended = ended_kept (step_of limits t now flaw c.is_sound c.is_owned ev s.going) c.is_measured b.fallback b.bounded known.owned known.ended owned;
+      standing = standing_kept (step_of limits t now flaw c.is_sound c.is_owned ev s.going) b.fallback known.owned b.turns known.readers known.standing taken;
     })
 
 -- BY PLACE

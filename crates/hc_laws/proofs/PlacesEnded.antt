@@ -2,7 +2,7 @@
 use Rattle.std.{proofs.{Common.{◌≡◌, inl, inr, ℕ, ◌+◌, ◌≤◌, List, ◌++◌, length, Bool, true, false, Option, Some, None, refl, ap, sym, ◌∙◌, subst, arith}, lemmas.Bool.Decides.{nat_tests}}, specs.{Prelude.{if◌then◌else◌, ◌==◌, ◌&&◌, not, nat_eq, nat_lt, unwrap_or}, Option.{option_or}}}
 use Rattle.hc_text.proofs.Basics.{and_left, and_right, bool_cases, not_some as none_some, never_true as not_so, or_cases, same_some as same_row, some_inj}
 use Rattle.hc_effects.proofs.Vocabulary.{closes_in, Act, Event, Response, Limits, case_at, must_close, is_refused, brings_head, is_doomed, awaits, has_no_survivor, is_left, leaver, consumer_heard, consumer_acted, by_head, is_number, denial, Entry, exchange_in, base, front, promised_bytes, family, is_reached, exchange_heard, exchange_acted, with_head, with_piece, promise_in, stop_cause, short_of, short_cause, Flaw, entry_of, Measures, Owners, end_of_direct, own_open, source, shared_exchange, reads, Tables, Exchange, Consumer, Sound, awaited_exchange, after_accepted, event, place, by}
-use Rattle.hc_effects.proofs.{Basics.{false_true}, Bounded.{IsBounded}, Closed.{before}, Dues.{due_before, undue_parts}, ExchangeFrom.{ExchangeFrom, exchange_from}, FirstKeeps.{is_new}, Forward.{after_is}, MeasuresKeep.{piece_taken, ender}, Once.{never}, OwnersKeep.{new_number}, PastKeeps.{IsFrom, PlaceFrom, direct_from}, PieceKeeps.{eq_cases}, ShownStays.{IsFallback}, ToBeShown.{heard_place}, Unclosed.{had_to}, Waiters.{IsWaiter, waiter_as, case_same, unclosed_unless, unleft, fault_open_of}}
+use Rattle.hc_effects.proofs.{Basics.{false_true}, Bounded.{IsBounded}, Closed.{before}, Dues.{due_before, undue_parts}, ExchangeFrom.{ExchangeFrom, exchange_from}, FirstKeeps.{is_new}, Forward.{after_is}, MeasuresKeep.{piece_taken, ender}, Once.{never}, OwnersKeep.{new_number}, PastKeeps.{IsFrom, PlaceFrom, direct_from}, PieceKeeps.{eq_cases}, ShownStays.{IsFallback}, ToBeShown.{heard_place}, Unclosed.{had_to}, Waiters.{IsWaiter, waiter_as, case_same, unclosed_unless, unleft, fault_open_of}, Step.{Step}}
 use Rattle.hc_effects.proofs.ExchangeFrom as exchange
 use Rattle.hc_effects.proofs.PastKeeps as past
 use Rattle.hc_laws.proofs.{PlacesKept.{AreOwn, left_past, head_poll, over_direct}, ReadEnds.{no_base}}
@@ -43,7 +43,9 @@ acted_come x acts w came = by_promise (promised_bytes w) came
     by_promise None h = h
     by_promise (Some n) h = h
 
-module _ (limits : Limits) (t : Tables) (now : ℕ) (flaw : Flaw) (s : Sound t) (o : Owners t) (m : Measures t) (a : IsFallback t) (bounds : IsBounded t) (g : AreOwn t) (ended : AreEnded t) (ev : Event) (goes : denial t ev ≡ None) where
+module _ (step : Step) (m : Measures step.tables) (a : IsFallback step.tables) (bounds : IsBounded step.tables) (g : AreOwn step.tables) (ended : AreEnded step.tables) where
+  open step use {limits, tables as t, now, flaw, sound as s, event as ev, accepted as goes}
+
   abbrev e : Entry
   e = entry_of limits t now ev flaw
 
@@ -62,7 +64,7 @@ module _ (limits : Limits) (t : Tables) (now : ℕ) (flaw : Flaw) (s : Sound t) 
     ]
 
     heard_at : (v : Event) → ((d want : ℕ) → ev ≡ event.Poll d want → ⊥) → ev ≡ v → (consumer_heard t e c v k).place ≡ place.Direct y
-    heard_at v unpolled here = sym (ap (λ z. (consumer_heard t e c z k).place) here) ∙ (sym (heard_place limits t now flaw s o ev goes c 0 0 None by.Plan k u unpolled (record { row = f.row; stays = f.stays; leaves = f.leaves; is = f.is })) ∙ stands)
+    heard_at v unpolled here = sym (ap (λ z. (consumer_heard t e c z k).place) here) ∙ (sym (heard_place step c 0 0 None by.Plan k u unpolled (record { row = f.row; stays = f.stays; leaves = f.leaves; is = f.is })) ∙ stands)
 
     -- IT ISN'T CLOSED
 
@@ -74,9 +76,9 @@ module _ (limits : Limits) (t : Tables) (now : ℕ) (flaw : Flaw) (s : Sound t) 
 
     head_left : (response : Response) → ev ≡ event.Head y response → is_refused (case_at t e) ≡ false
     head_left response here =
-        let at : (by_head t e c y response (t.exchange y) k).place ≡ place.Direct y = heard_at (event.Head y response) (λ d want polls. head_poll limits t now flaw s o a g ev goes y d want response (sym here ∙ polls)) here in
+        let at : (by_head t e c y response (t.exchange y) k).place ≡ place.Direct y = heard_at (event.Head y response) (λ d want polls. head_poll step a g y d want response (sym here ∙ polls)) here in
         let there : (by_head t e c y response (Some w) k).place ≡ place.Direct y = ap (λ z. (by_head t e c y response z k).place) (sym row) ∙ at in
-        (left_past limits t now flaw s o a g ev goes c y response k w here row mine f.row y (rw own_test at there)).4
+        (left_past step a g c y response k w here row mine f.row y (rw own_test at there)).4
 
     unrefused : (is_refused (case_at t b) && brings_head y ev) ≡ true → ⊥
     unrefused h = by_event ev refl (and_right _ _ h)
@@ -84,7 +86,7 @@ module _ (limits : Limits) (t : Tables) (now : ℕ) (flaw : Flaw) (s : Sound t) 
         by_event : (v : Event) → ev ≡ v → brings_head y v ≡ true → ⊥
         by_event (event.Head x response) here test =
             let same : x ≡ y = grind (arith, nat_tests) in
-            false_true (sym (head_left response (here ∙ ap (λ n. event.Head n response) same)) ∙ (ap is_refused (case_same limits t now flaw s o ev goes) ∙ and_left _ (brings_head y ev) h))
+            false_true (sym (head_left response (here ∙ ap (λ n. event.Head n response) same)) ∙ (ap is_refused (case_same step) ∙ and_left _ (brings_head y ev) h))
         by_event _ here test = false_true test
 
     module _ (at : k.place ≡ place.Direct y) where
@@ -99,7 +101,7 @@ module _ (limits : Limits) (t : Tables) (now : ℕ) (flaw : Flaw) (s : Sound t) 
 
       past_unclosed : must_close t b y w ≡ true → ⊥
       past_unclosed must = elim (or_cases _ (is_left t y (leaver b)) must) [
-        | inr left ↦ unleft limits t now flaw s o ev goes c y k f.row own cancelled f.leaves left
+        | inr left ↦ unleft step c y k f.row own cancelled f.leaves left
         | inl more ↦ elim (or_cases _ (has_no_survivor t b y (family y w) (t.representation (family y w))) more) [
           | inr lost ↦ false_true (sym (ap (has_no_survivor t b y (family y w)) (ap t.representation family_is ∙ a.apart.unfounded c y k f.row at)) ∙ lost)
           | inl less ↦ elim (or_cases (is_refused (case_at t b) && brings_head y ev) (is_doomed t b y w) less) [
@@ -111,15 +113,15 @@ module _ (limits : Limits) (t : Tables) (now : ℕ) (flaw : Flaw) (s : Sound t) 
 
     -- who waits for its head
     waits : (response : Response) → ev ≡ event.Head y response → IsWaiter t c y k w
-    waits response here = let new = is_new limits t now flaw s ev goes y response w here row in waiter_as limits t now flaw s o ev goes c y k w f.row row mine new.is_open new.bare
+    waits response here = let new = is_new limits t now flaw s ev goes y response w here row in waiter_as step c y k w f.row row mine new.is_open new.bare
 
     unclosed : closes_in y e.acts ≡ false
     unclosed = by_from f.at
       where
         by_from : PlaceFrom t e c y k.place → closes_in y e.acts ≡ false
         by_from (past.stood at) = not_so (closes_in y e.acts) (λ closed. past_unclosed at (had_to limits t now flaw s ev y w row closed))
-        by_from (past.heads response here) = unclosed_unless limits t now flaw s o ev goes c y k w (waits response here) unrefused cancelled f.leaves f.stays
-        by_from (past.opens q is own number) = absurd (none_some w (sym (new_number limits t now flaw s o ev goes q y is number) ∙ row))
+        by_from (past.heads response here) = unclosed_unless step c y k w (waits response here) unrefused cancelled f.leaves f.stays
+        by_from (past.opens q is own number) = absurd (none_some w (sym (new_number step q y is number) ∙ row))
 
     -- ALL OF IT CAME
 
@@ -129,7 +131,7 @@ module _ (limits : Limits) (t : Tables) (now : ℕ) (flaw : Flaw) (s : Sound t) 
         by_from : PlaceFrom t e c y k.place → k.place ≡ place.Direct y
         by_from (past.stood at) = at
         by_from (past.heads response here) = absurd (unheaded response here)
-        by_from (past.opens q is own number) = absurd (none_some w (sym (new_number limits t now flaw s o ev goes q y is number) ∙ row))
+        by_from (past.opens q is own number) = absurd (none_some w (sym (new_number step q y is number) ∙ row))
 
     module _ (none : u.due ≡ None) where
       before_due : k.due ≡ None
@@ -161,14 +163,14 @@ module _ (limits : Limits) (t : Tables) (now : ℕ) (flaw : Flaw) (s : Sound t) 
       piece_come : (bytes : List ℕ) → ev ≡ event.Piece y bytes → (with_piece bytes w).is_open ≡ false → IsAllCome (with_piece bytes w)
       piece_come bytes here off = elim (bool_cases (is_reached (promised_bytes w) (length (w.body ++ bytes)))) [
         | inl reached ↦ reached_come (with_piece bytes w) reached
-        | inr short ↦ absurd (false_true (sym (rw short at off) ∙ (piece_taken limits t now flaw s o m ev goes y bytes w here row).is_open))
+        | inr short ↦ absurd (false_true (sym (rw short at off) ∙ (piece_taken step m y bytes w here row).is_open))
       ]
 
       end_come : ev ≡ event.End y → IsAllCome (record w { is_ended = true; is_open = false })
       end_come here = ended_come (record w { is_ended = true; is_open = false }) refl enough
         where
           on : w.is_open ≡ true
-          on = let z = ender limits t now flaw s o m ev goes y here in ap (λ (q : Exchange). q.is_open) (same_row (t.exchange y) w z.w row z.row) ∙ z.ending.is_open
+          on = let z = ender step m y here in ap (λ (q : Exchange). q.is_open) (same_row (t.exchange y) w z.w row z.row) ∙ z.ending.is_open
 
           unstopped : short_of y w (promised_bytes w) ≡ None
           unstopped =
@@ -203,7 +205,7 @@ module _ (limits : Limits) (t : Tables) (now : ℕ) (flaw : Flaw) (s : Sound t) 
         | inr other ↦ rw other.0 (was_over (λ answer is. let no : event.End x ≡ event.Head y answer = sym here ∙ is in cc) (rw other.0 at off))
       ]
       all_come (event.Fault x) here off = elim (eq_cases x y) [
-        | inl hit ↦ absurd (fault_not (here ∙ ap event.Fault hit.1) (fault_open_of limits t now flaw s o ev goes y w (sym (ap (denial t) (here ∙ ap event.Fault hit.1)) ∙ goes) row))
+        | inl hit ↦ absurd (fault_not (here ∙ ap event.Fault hit.1) (fault_open_of step y w (sym (ap (denial t) (here ∙ ap event.Fault hit.1)) ∙ goes) row))
         | inr other ↦ rw other.0 (was_over (λ answer is. let no : event.Fault x ≡ event.Head y answer = sym here ∙ is in cc) (rw other.0 at off))
       ]
       all_come (event.Cancel d) here off = was_over (λ response is. let no : event.Cancel d ≡ event.Head y response = sym here ∙ is in cc) off

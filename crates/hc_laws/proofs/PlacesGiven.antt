@@ -5,7 +5,7 @@ use Rattle.hc_sparse.specs.{Cells.{Cell}, declared.run.Run.{Run}}
 use Rattle.hc_effects.proofs.Vocabulary.{Opening, opening_in, given_in, leaves_in, Cause, Event, Response, Limits, is_same_number, Place, BoundBy, Showing, showing_in, case_at, consumer_heard, consumer_acted, by_head, by_opening, shown_place, waiting, due_after, denial, Entry, base, front, exchange_in, is_for, cause_of_loss, cause_of_head, cause_by_case, stop_cause, Flaw, entry_of, Gives, Owners, IsAwaiting, move_of, bound_to, reads, base_in, lo_of, own_open, source, shared_exchange, answer_cell, direct_cell, cell_by, body_of, Tables, Exchange, Representation, Consumer, may_stand, Sound, starts_over, after_accepted, loses_writing, event, place, by}
 use Rattle.hc_model.specs.Owners as owners
 use Rattle.hc_model.specs.Sound as sound
-use Rattle.hc_effects.proofs.{ShownOnce.{by_event}, Basics.{false_true}, Bounded.{IsBounded}, ConsumerFilters.{acted, given_by}, Dues.{undue_of, loss_at, due_none}, ExchangeFrom.{ExchangeFrom, exchange_from, IsSame}, Fills.{Brings, brings}, FirstKeeps.{is_new, is_opener}, Forward.{is_kept}, GivenNext.{read_of, given_next}, Givers.{some_want, gives_of}, MoveBy.{move_by}, OwnersKeep.{is_opened, new_number}, PastKeeps.{IsFrom, PlaceFrom, direct_from}, PieceKeeps.{eq_cases}, PollActs.{ToOne, to_one}, ShownStays.{IsFallback, StaysOrIdle, shown_stays, unless_same}, ToBeShown.{heard_place}, Waiters.{unwritten, IsWaiter, waiter_as, waits_undue}, PastApart.{bound_direct}}
+use Rattle.hc_effects.proofs.{ShownOnce.{by_event}, Basics.{false_true}, Bounded.{IsBounded}, ConsumerFilters.{acted, given_by}, Dues.{undue_of, loss_at, due_none}, ExchangeFrom.{ExchangeFrom, exchange_from, IsSame}, Fills.{Brings, brings}, FirstKeeps.{is_new, is_opener}, Forward.{is_kept}, GivenNext.{read_of, given_next}, Givers.{some_want, gives_of}, MoveBy.{move_by}, OwnersKeep.{is_opened, new_number}, PastKeeps.{IsFrom, PlaceFrom, direct_from}, PieceKeeps.{eq_cases}, PollActs.{ToOne, to_one}, ShownStays.{IsFallback, StaysOrIdle, shown_stays, unless_same}, ToBeShown.{heard_place}, Waiters.{unwritten, IsWaiter, waiter_as, waits_undue}, PastApart.{bound_direct}, Step.{Step}}
 use Rattle.hc_effects.proofs.ExchangeFrom as exchange
 use Rattle.hc_effects.proofs.Fills as fills_by
 use Rattle.hc_laws.proofs.{FirstDues.{poll_undue}, PlacesKept.{AreOwn, IsOwnPast, past_unopened, left_past, head_poll, over_direct}}
@@ -29,7 +29,9 @@ answer_below x p w cell is = elim (bool_cases (nat_le (base w) p && nat_lt p (fr
   | inr off ↦ absurd (none_some cell (rw off at is))
 ]
 
-module _ (limits : Limits) (t : Tables) (now : ℕ) (flaw : Flaw) (s : Sound t) (o : Owners t) (a : IsFallback t) (b : IsBounded t) (g : AreOwn t) (p : ArePast t) (ev : Event) (goes : denial t ev ≡ None) (stand : may_stand limits t (entry_of limits t now ev flaw) ≡ true) where
+module _ (step : Step) (a : IsFallback step.tables) (b : IsBounded step.tables) (g : AreOwn step.tables) (p : ArePast step.tables) (stand : may_stand step.limits step.tables (entry_of step.limits step.tables step.now step.event step.flaw) ≡ true) where
+  open step use {limits, tables as t, now, flaw, sound as s, owners as o, event as ev, accepted as goes}
+
   abbrev e : Entry
   e = entry_of limits t now ev flaw
 
@@ -98,7 +100,7 @@ module _ (limits : Limits) (t : Tables) (now : ℕ) (flaw : Flaw) (s : Sound t) 
       let had : k.given ≡ 0 = b.fresh c k row off in
       let sum : u.given ≡ k.given + length (given_in c e.acts) = given_is c k u row after in
       omega arith
-  given_by_shown c y k u z true row on after there after_row = by_place (shown_stays limits t now flaw s o ev goes a c k row on u after)
+  given_by_shown c y k u z true row on after there after_row = by_place (shown_stays step a c k row on u after)
     where
       by_place : StaysOrIdle k.place u.place → u.given ≤ length z.body
       by_place (stands.idle i) = absurd (subst stands.IsIdle there i)
@@ -133,7 +135,7 @@ module _ (limits : Limits) (t : Tables) (now : ℕ) (flaw : Flaw) (s : Sound t) 
 
   idle_before : (c y : ℕ) (k u : Consumer) (q : Opening) → t.consumer c ≡ Some k → opening_in e.acts ≡ Some q → q.c ≡ c → due_after t e c k (consumer_acted t e c (consumer_heard t e c ev k)) ≡ u → u.place ≡ place.Direct y → (x : Place) → k.place ≡ x → k.due ≡ None
   idle_before c y k u q row opens mine is stands (place.Bound r lo hi how) at = absurd (bound_not c y r lo hi how k u q row at opens mine is stands)
-  idle_before c y k u q row opens mine is stands (place.Direct x) at = absurd (past_unopened limits t now flaw s o a g ev goes c x k row at q opens mine)
+  idle_before c y k u q row opens mine is stands (place.Direct x) at = absurd (past_unopened step a g c x k row at q opens mine)
   idle_before c y k u q row opens mine is stands _ at = o.idle_due c k row (ap reads at)
 
   module _ (c y : ℕ) (k u : Consumer) (f : IsFrom t e c y k u) (stands : u.place ≡ place.Direct y) (i : IsOwnPast now_on c y u) where
@@ -143,10 +145,10 @@ module _ (limits : Limits) (t : Tables) (now : ℕ) (flaw : Flaw) (s : Sound t) 
     -- a new one
     new_undue : (q : Opening) → opening_in e.acts ≡ Some q → t.exchange y ≡ None → PlaceFrom t e c y k.place → u.due ≡ None
     new_undue q opens none (past.stood at) = absurd (none_some _ (sym none ∙ (g.direct c y k f.row at).its.row))
-    new_undue q opens none (past.heads response here) = absurd (let op = is_opened limits t now flaw s o ev goes q opens in head_poll limits t now flaw s o a g ev goes y q.c op.want response (sym here ∙ op.at))
+    new_undue q opens none (past.heads response here) = absurd (let op = is_opened step q opens in head_poll step a g y q.c op.want response (sym here ∙ op.at))
     new_undue q opens none (past.opens z is mine number) =
-        let op = is_opened limits t now flaw s o ev goes z is in
-        due_none t e c k (consumer_acted t e c (consumer_heard t e c ev k)) u f.is reading (idle_before c y k u z f.row is mine f.is stands k.place refl) (undue_of t e c k (poll_undue limits t now flaw s o ev goes c z.c op.want k op.at))
+        let op = is_opened step z is in
+        due_none t e c k (consumer_acted t e c (consumer_heard t e c ev k)) u f.is reading (idle_before c y k u z f.row is mine f.is stands k.place refl) (undue_of t e c k (poll_undue step c z.c op.want k op.at))
 
     module _ (w z : Exchange) (row : t.exchange y ≡ Some w) (after_row : now_on.exchange y ≡ Some z) (same : IsSame t e y w z) (opened : z.is_open ≡ true) where
       was_open : w.is_open ≡ true
@@ -157,7 +159,7 @@ module _ (limits : Limits) (t : Tables) (now : ℕ) (flaw : Flaw) (s : Sound t) 
 
       -- before its head it waits for it
       got : (response : Response) → ev ≡ event.Head y response → IsWaiter t c y k w
-      got response here = let new = is_new limits t now flaw s ev goes y response w here row in waiter_as limits t now flaw s o ev goes c y k w f.row row mine new.is_open new.bare
+      got response here = let new = is_new limits t now flaw s ev goes y response w here row in waiter_as step c y k w f.row row mine new.is_open new.bare
 
       record IsBefore : Type 0 where
         own : k.own ≡ Some y
@@ -175,8 +177,8 @@ module _ (limits : Limits) (t : Tables) (now : ℕ) (flaw : Flaw) (s : Sound t) 
       hole_before r lo hi how v at None there = absurd (false_true (sym (ap (λ (z : Option Representation). is_some z) there) ∙ s.numbered.bound_to r c k (sound.is_bound lo hi how f.row at)))
       hole_before r lo hi how v at (Some x) there = record {
         own = v.own;
-        due = (waits_undue limits t now flaw s o ev goes r c y lo hi how x k w v at there).0;
-        loss = loss_at t e c r lo hi how k x at there (not_so (loses_writing t e r x) (λ losing. unwritten limits t now flaw s o ev goes c y k w v r lo hi how x x.writer at there (and_right _ _ losing) refl));
+        due = (waits_undue step r c y lo hi how x k w v at there).0;
+        loss = loss_at t e c r lo hi how k x at there (not_so (loses_writing t e r x) (λ losing. unwritten step c y k w v r lo hi how x x.writer at there (and_right _ _ losing) refl));
       }
 
       head_before : (v : IsWaiter t c y k w) → IsAwaiting y w k.place → IsBefore
@@ -187,7 +189,7 @@ module _ (limits : Limits) (t : Tables) (now : ℕ) (flaw : Flaw) (s : Sound t) 
       before_by : PlaceFrom t e c y k.place → IsBefore
       before_by (past.stood at) = direct_before at
       before_by (past.heads response here) = let v = got response here in head_before v v.at
-      before_by (past.opens q is own number) = absurd (none_some w (sym (new_number limits t now flaw s o ev goes q y is number) ∙ row))
+      before_by (past.opens q is own number) = absurd (none_some w (sym (new_number step q y is number) ∙ row))
 
       before : IsBefore
       before = before_by f.at
@@ -211,13 +213,13 @@ module _ (limits : Limits) (t : Tables) (now : ℕ) (flaw : Flaw) (s : Sound t) 
       stop_by _ here = none_if _
 
       heard_at : (x : ℕ) (response : Response) → ev ≡ event.Head x response → (by_head t e c x response (t.exchange x) k).place ≡ place.Direct y
-      heard_at x response here = sym (ap (λ v. (consumer_heard t e c v k).place) here) ∙ (sym (heard_place limits t now flaw s o ev goes c 0 0 None by.Plan k u (λ d want polls. head_poll limits t now flaw s o a g ev goes x d want response (sym here ∙ polls)) (record { row = f.row; stays = f.stays; leaves = f.leaves; is = f.is })) ∙ stands)
+      heard_at x response here = sym (ap (λ v. (consumer_heard t e c v k).place) here) ∙ (sym (heard_place step c 0 0 None by.Plan k u (λ d want polls. head_poll step a g x d want response (sym here ∙ polls)) (record { row = f.row; stays = f.stays; leaves = f.leaves; is = f.is })) ∙ stands)
 
       head_row : (x : ℕ) (response : Response) (q : Option Exchange) → ev ≡ event.Head x response → t.exchange x ≡ q → (by_head t e c x response q k).place ≡ place.Direct y → (if is_for q c then cause_by_case (case_at t e) x else None) ≡ None
       head_row x response None here exchange_row at = refl
       head_row x response (Some q) here exchange_row at = elim (eq_cases q.c c) [
         | inr off ↦ rw off.0 refl
-        | inl hit ↦ rw hit.0 ((left_past limits t now flaw s o a g ev goes c x response k q here exchange_row hit.1 f.row y (rw hit.0 at at)).3)
+        | inl hit ↦ rw hit.0 ((left_past step a g c x response k q here exchange_row hit.1 f.row y (rw hit.0 at at)).3)
       ]
 
       head_by : (v : Event) → ev ≡ v → cause_of_head t e c v ≡ None

@@ -4,7 +4,7 @@ use Rattle.hc_text.proofs.Basics.{never_true, both_true as and_both, bool_cases,
 use Rattle.hc_effects.proofs.Vocabulary.{Opening, opening_in, Cause, Event, Request, Response, HeadCase, head_case, Wanted, Limits, route_of, piece_refusal, range_of, wanted_of, Place, BoundBy, has_loss, loses_in, case_at, head_view, is_joining, is_refused, consumer_after, consumer_made, new_consumer, consumer_heard, consumer_acted, consumer_settled, by_head, by_fault, by_opening, becomes_shared, own_after, left_to, waiting, due_after, place_by_case, passed_on, bound_to_wanted, denial, as_open, Entry, exchange_at, exchange_in, is_for, is_headless, exchange_opened, cause_by_case, Flaw, founded_total, entry_of, Owners, IsAwaiting, IsPast, IsReading, if_headless, shows_at, shows_direct, bound_to, is_written, own_open, Tables, Exchange, Representation, Consumer, Sound, starts_over, sends_back, after_accepted, brings_body, loses_writing, event, route, wanted, place, by}
 use Rattle.hc_rules.specs.Refusals as refusals
 use Rattle.hc_model.specs.Owners as owners
-use Rattle.hc_effects.proofs.{Basics.{false_true, or_false, some_none, some_row}, BoundFrom.{IsRow}, ExchangeFrom.{IsHeaded}, FirstKeeps.{is_new, case_is}, Forward.{is_on, is_kept, opened_on, is_untouched}, FoundBy.{CaseBy, case_by}, MoveBy.{IsHeard}, Once.{taken, never}, OwnersKeep.{is_opened, new_number}, PastKeeps.{PlaceFrom, direct_from}, PieceKeeps.{eq_cases}, ShownStays.{IsFallback}, ToBeShown.{heard_place}, TurnPlaces.{ComesFrom, StaysOrPlain, is_after}, Waiters.{no_opening, IsWaiter, waiter_of, waiter_as, unclosed}, PastApart.{bound_direct}}
+use Rattle.hc_effects.proofs.{Basics.{false_true, or_false, some_none, some_row}, BoundFrom.{IsRow}, ExchangeFrom.{IsHeaded}, FirstKeeps.{is_new, case_is}, Forward.{is_on, is_kept, opened_on, is_untouched}, FoundBy.{CaseBy, case_by}, MoveBy.{IsHeard}, Once.{taken, never}, OwnersKeep.{is_opened, new_number}, PastKeeps.{PlaceFrom, direct_from}, PieceKeeps.{eq_cases}, ShownStays.{IsFallback}, ToBeShown.{heard_place}, TurnPlaces.{ComesFrom, StaysOrPlain, is_after}, Waiters.{no_opening, IsWaiter, waiter_of, waiter_as, unclosed}, PastApart.{bound_direct}, Step.{Step}}
 use Rattle.hc_effects.proofs.FoundBy as cases
 use Rattle.hc_effects.proofs.PastKeeps as past
 use Rattle.hc_effects.proofs.TurnPlaces as places
@@ -83,15 +83,17 @@ pub poll_of : (v : Event) → ((d : ℕ) × (want : ℕ) × (v ≡ event.Poll d 
 poll_of (event.Poll d want) = inl (d, want, refl)
 poll_of _ = inr (λ c want is. false_true (ap is_poll is))
 
-module _ (limits : Limits) (t : Tables) (now : ℕ) (flaw : Flaw) (s : Sound t) (o : Owners t) (a : IsFallback t) (g : AreOwn t) (ev : Event) (goes : denial t ev ≡ None) where
+module _ (step : Step) (a : IsFallback step.tables) (g : AreOwn step.tables) where
+  open step use {limits, tables as t, now, flaw, sound as s, owners as o, event as ev, accepted as goes}
+
   abbrev e : Entry
   e = entry_of limits t now ev flaw
 
   abbrev now_on : Tables
   now_on = after_accepted t e
 
-  abbrev Step : ℕ → Consumer → Consumer → Type 0
-  Step c k u = IsRow t e c 0 0 None by.Plan k u
+  abbrev FreeRow : ℕ → Consumer → Consumer → Type 0
+  FreeRow c k u = IsRow t e c 0 0 None by.Plan k u
 
   abbrev Unopened : ℕ → Type 0
   Unopened c = (p : Opening) → opening_in e.acts ≡ Some p → p.c ≡ c → ⊥
@@ -120,14 +122,14 @@ module _ (limits : Limits) (t : Tables) (now : ℕ) (flaw : Flaw) (s : Sound t) 
   own_free c (place.Bound r lo hi how) own free = absurd (some_none r free)
   own_free c _ own free = refl
 
-  pub own_is : (c : ℕ) (k u : Consumer) → Step c k u → Unopened c → u.own ≡ own_after t e c (consumer_heard t e c ev k).place (consumer_heard t e c ev k).own
+  pub own_is : (c : ℕ) (k u : Consumer) → FreeRow c k u → Unopened c → u.own ≡ own_after t e c (consumer_heard t e c ev k).place (consumer_heard t e c ev k).own
   own_is c k u row none =
       let h = consumer_heard t e c ev k in
       sym (ap (λ (z : Consumer). z.own) row.is) ∙ ap (λ (q : Consumer). own_after t e c h.place q.own) (opening_stays c (waiting t e c h) (opening_in e.acts) refl none)
 
   -- only a poll opens
   pub unopened : ((d want : ℕ) → ev ≡ event.Poll d want → ⊥) → (c : ℕ) → Unopened c
-  unopened unpolled c p opens mine = let opened = is_opened limits t now flaw s o ev goes p opens in unpolled p.c opened.want opened.at
+  unopened unpolled c p opens mine = let opened = is_opened step p opens in unpolled p.c opened.want opened.at
 
   -- who waits for a head isn't to be told anything else
   pub waits_not : (y : ℕ) (k : Consumer) (w : Exchange) → k.own ≡ Some y → t.exchange y ≡ Some w → w.is_open ≡ true → w.head ≡ None → IsHeard t k → ⊥
@@ -147,7 +149,7 @@ module _ (limits : Limits) (t : Tables) (now : ℕ) (flaw : Flaw) (s : Sound t) 
   -- and nothing for who reads past the store
   pub past_unopened : (c y : ℕ) (k : Consumer) → t.consumer c ≡ Some k → k.place ≡ place.Direct y → Unopened c
   past_unopened c y k row at p opens mine =
-      let opened = is_opened limits t now flaw s o ev goes p opens in
+      let opened = is_opened step p opens in
       let its : t.consumer c ≡ Some opened.k = sym (ap t.consumer mine) ∙ opened.row in
       let there : opened.k.place ≡ place.Direct y = ap (λ (q : Consumer). q.place) (same_row (t.consumer c) opened.k k its row) ∙ at in
       let free : bound_to opened.k.place ≡ None = ap bound_to there in
@@ -157,7 +159,7 @@ module _ (limits : Limits) (t : Tables) (now : ℕ) (flaw : Flaw) (s : Sound t) 
 
   module _ (c x : ℕ) (response : Response) (k : Consumer) (w : Exchange) (here : ev ≡ event.Head x response) (exchange_row : t.exchange x ≡ Some w) (mine : w.c ≡ c) (row : t.consumer c ≡ Some k) where
     got : (q : Consumer) × IsWaiter t w.c x q w
-    got = let new = is_new limits t now flaw s ev goes x response w here exchange_row in waiter_of limits t now flaw s o ev goes x w exchange_row new.is_open new.bare
+    got = let new = is_new limits t now flaw s ev goes x response w here exchange_row in waiter_of step x w exchange_row new.is_open new.bare
 
     one : got.0 ≡ k
     one = same_row (t.consumer c) got.0 k (sym (ap t.consumer mine) ∙ got.1.row) row
@@ -310,7 +312,7 @@ module _ (limits : Limits) (t : Tables) (now : ℕ) (flaw : Flaw) (s : Sound t) 
         | inr off ↦ absurd (off.1 (ap (λ (q : Exchange). q.c) (some_inj w i.w is) ∙ i.for_it))
       ]
 
-  opened_own : (c y : ℕ) (k u : Consumer) (p : Opening) → (d want : ℕ) → ev ≡ event.Poll d want → Step c k u → opening_in e.acts ≡ Some p → p.c ≡ c → p.x ≡ y → u.own ≡ Some y
+  opened_own : (c y : ℕ) (k u : Consumer) (p : Opening) → (d want : ℕ) → ev ≡ event.Poll d want → FreeRow c k u → opening_in e.acts ≡ Some p → p.c ≡ c → p.x ≡ y → u.own ≡ Some y
   opened_own c y k u p d want here row opens mine number =
       let h = consumer_heard t e c ev k in
       sym (ap (λ (z : Consumer). z.own) row.is)
@@ -325,7 +327,7 @@ module _ (limits : Limits) (t : Tables) (now : ℕ) (flaw : Flaw) (s : Sound t) 
   opened_row : (c y : ℕ) (u : Consumer) (p : Opening) → opening_in e.acts ≡ Some p → p.c ≡ c → p.x ≡ y → u.own ≡ Some y → IsOwn now_on c y u
   opened_row c y u p opens mine number own = record {
     w = exchange_opened t e p;
-    row = opened_on t e y p (t.exchange y) (new_number limits t now flaw s o ev goes p y opens number) opens number;
+    row = opened_on t e y p (t.exchange y) (new_number step p y opens number) opens number;
     for_it = mine;
     own = own;
   }
@@ -333,7 +335,7 @@ module _ (limits : Limits) (t : Tables) (now : ℕ) (flaw : Flaw) (s : Sound t) 
   pub head_poll : (x d want : ℕ) (response : Response) → event.Head x response ≡ event.Poll d want → ⊥
   head_poll x d want response is = false_true (ap is_poll is)
 
-  by_poll : (c y : ℕ) (k u : Consumer) (d want : ℕ) → ev ≡ event.Poll d want → Step c k u → PlaceFrom t e c y k.place → IsOwnPast now_on c y u
+  by_poll : (c y : ℕ) (k u : Consumer) (d want : ℕ) → ev ≡ event.Poll d want → FreeRow c k u → PlaceFrom t e c y k.place → IsOwnPast now_on c y u
   unfolding opened_row
   by_poll c y k u d want here row (past.heads response came) = absurd (head_poll y d want response (sym came ∙ here))
   by_poll c y k u d want here row (past.opens p opens mine number) = record {
@@ -345,9 +347,9 @@ module _ (limits : Limits) (t : Tables) (now : ℕ) (flaw : Flaw) (s : Sound t) 
       kept_past c y k u i.its i.unjoined (λ response is. absurd (head_poll y d want response (sym is ∙ here)))
       (own_is c k u row (past_unopened c y k row.row at) ∙ (own_poll d want here c _ _ ∙ (ap (λ (q : Consumer). q.own) (ap (λ v. consumer_heard t e c v k) here) ∙ i.its.own)))
 
-  by_other : (c y : ℕ) (k u : Consumer) → ((d want : ℕ) → ev ≡ event.Poll d want → ⊥) → Step c k u → u.place ≡ place.Direct y → IsOwnPast now_on c y u
+  by_other : (c y : ℕ) (k u : Consumer) → ((d want : ℕ) → ev ≡ event.Poll d want → ⊥) → FreeRow c k u → u.place ≡ place.Direct y → IsOwnPast now_on c y u
   by_other c y k u unpolled row stands =
-      let at : (consumer_heard t e c ev k).place ≡ place.Direct y = sym (heard_place limits t now flaw s o ev goes c 0 0 None by.Plan k u unpolled row) ∙ stands in
+      let at : (consumer_heard t e c ev k).place ≡ place.Direct y = sym (heard_place step c 0 0 None by.Plan k u unpolled row) ∙ stands in
       let h = heard_past c y k ev row.row refl at in
       kept_past c y k u h.its h.unjoined (λ response is. head_unjoined c y k response h.its row.row is at)
       (own_is c k u row (unopened unpolled c) ∙ (own_free c _ _ (ap bound_to at) ∙ (h.stays ∙ h.its.own)))
@@ -356,7 +358,7 @@ module _ (limits : Limits) (t : Tables) (now : ℕ) (flaw : Flaw) (s : Sound t) 
   direct_kept c y u after stands =
       let from = direct_from t e c y (t.consumer c) u refl after stands in
       let f = from.1 in
-      let row : Step c from.0 u = record { row = f.row; stays = f.stays; leaves = f.leaves; is = f.is } in
+      let row : FreeRow c from.0 u = record { row = f.row; stays = f.stays; leaves = f.leaves; is = f.is } in
       elim (poll_of ev) [
         | inl poll ↦ by_poll c y from.0 u poll.0 poll.1 poll.2 row f.at
         | inr unpolled ↦ by_other c y from.0 u unpolled row stands
@@ -419,7 +421,7 @@ module _ (limits : Limits) (t : Tables) (now : ℕ) (flaw : Flaw) (s : Sound t) 
       by_head_of None is = is
       by_head_of (Some response) is = absurd (reading_not (o.reading c y k w row own exchange_row on (ap (λ (q : Option Response). is_some q) is)))
 
-  module _ (c y : ℕ) (k u : Consumer) (row : Step c k u) (stands : u.place ≡ place.Turn y) (at : k.place ≡ place.Turn y) where
+  module _ (c y : ℕ) (k u : Consumer) (row : FreeRow c k u) (stands : u.place ≡ place.Turn y) (at : k.place ≡ place.Turn y) where
     i : IsOwnTurn t c y k
     i = g.turn c y k row.row at
 
@@ -427,13 +429,13 @@ module _ (limits : Limits) (t : Tables) (now : ℕ) (flaw : Flaw) (s : Sound t) 
     bare = turn_bare c y k i.its.w row.row at i.its.own i.its.row i.is_open
 
     waits : IsWaiter t c y k i.its.w
-    waits = waiter_as limits t now flaw s o ev goes c y k i.its.w row.row i.its.row i.its.for_it i.is_open bare
+    waits = waiter_as step c y k i.its.w row.row i.its.row i.its.for_it i.is_open bare
 
     unopened_turn : Unopened c
-    unopened_turn p opens mine = no_opening limits t now flaw s o ev goes c y k i.its.w waits p opens mine
+    unopened_turn p opens mine = no_opening step c y k i.its.w waits p opens mine
 
     heard_at : ((d want : ℕ) → ev ≡ event.Poll d want → ⊥) → (consumer_heard t e c ev k).place ≡ place.Turn y
-    heard_at unpolled = sym (heard_place limits t now flaw s o ev goes c 0 0 None by.Plan k u unpolled row) ∙ stands
+    heard_at unpolled = sym (heard_place step c 0 0 None by.Plan k u unpolled row) ∙ stands
 
     heard_is : consumer_heard t e c ev k ≡ k
     heard_is = elim (poll_of ev) [
@@ -501,7 +503,7 @@ module _ (limits : Limits) (t : Tables) (now : ℕ) (flaw : Flaw) (s : Sound t) 
 
     turn_on : IsOwnTurn now_on c y u
     turn_on =
-        let off = unclosed limits t now flaw s o ev goes c y k i.its.w waits (not_its ev refl) cancelled row.leaves row.stays in
+        let off = unclosed step c y k i.its.w waits (not_its ev refl) cancelled row.leaves row.stays in
         let un = is_untouched t e y i.its.w i.its.row (not_its ev refl) off in
         let on = is_on t e y i.its.w i.its.row in
         let one : on.u ≡ un.u = same_row (now_on.exchange y) on.u un.u on.row un.row in
@@ -510,16 +512,16 @@ module _ (limits : Limits) (t : Tables) (now : ℕ) (flaw : Flaw) (s : Sound t) 
           is_open = un.open_is ∙ i.is_open;
         }
 
-  turn_step : (c : ℕ) (k u : Consumer) → t.consumer c ≡ Some k → now_on.consumer c ≡ Some u → (p : Place) → StaysOrPlain t e c k p → (y : ℕ) → p ≡ place.Turn y → Step c k u
+  turn_step : (c : ℕ) (k u : Consumer) → t.consumer c ≡ Some k → now_on.consumer c ≡ Some u → (p : Place) → StaysOrPlain t e c k p → (y : ℕ) → p ≡ place.Turn y → FreeRow c k u
   turn_step c k u row after p (places.stayed stays leaves) y is = record { row = row; stays = stays; leaves = leaves; is = settled c k u row after stays }
   turn_step c k u row after p (places.is_plain plain) y is = absurd (subst places.IsPlain is plain)
 
-  turn_from : (c y : ℕ) (k u : Consumer) → Step c k u → u.place ≡ place.Turn y → (p : Place) → ComesFrom t e c k p → p ≡ place.Turn y → IsOwnTurn now_on c y u
+  turn_from : (c y : ℕ) (k u : Consumer) → FreeRow c k u → u.place ≡ place.Turn y → (p : Place) → ComesFrom t e c k p → p ≡ place.Turn y → IsOwnTurn now_on c y u
   unfolding opened_row
   turn_from c y k u row stands _ (places.kept) is = turn_on c y k u row stands is
   turn_from c y k u row stands _ (places.plain p plain) is = absurd (subst places.IsPlain is plain)
   turn_from c y k u row stands _ (places.turned p opens mine way) is =
-      let op = is_opened limits t now flaw s o ev goes p opens in
+      let op = is_opened step p opens in
       let number : p.x ≡ y = cc in
       record { its = opened_row c y u p opens mine number (opened_own c y k u p p.c op.want op.at row opens mine number); is_open = refl }
   turn_from c y k u row stands _ _ is = cc

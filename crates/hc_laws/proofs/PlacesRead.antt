@@ -5,7 +5,7 @@ use Rattle.hc_effects.proofs.Vocabulary.{opening_in, Event, Response, HeadCase, 
 use Rattle.hc_model.specs.Owners as owners
 use Rattle.hc_model.specs.Places.{IsReadPast}
 use Rattle.hc_model.specs.Sound as sound
-use Rattle.hc_effects.proofs.{Basics.{false_true}, ExchangeFrom.{ExchangeFrom, exchange_from, IsSame, IsHeaded}, FirstKeeps.{is_new, case_is}, Forward.{is_kept}, FoundBy.{not_validated, first_changed, direct_taken, direct_bad, CaseBy, case_by}, HeadedAs.{HeadedAs, headed_as, not_refused, not_unmodified}, OwnFrom.{IsRow}, PieceKeeps.{eq_cases}, ReadingKeeps.{reader_stays}, ShownStays.{IsFallback}, Waiters.{IsWaiter, waiter_of}}
+use Rattle.hc_effects.proofs.{Basics.{false_true}, ExchangeFrom.{ExchangeFrom, exchange_from, IsSame, IsHeaded}, FirstKeeps.{is_new, case_is}, Forward.{is_kept}, FoundBy.{not_validated, first_changed, direct_taken, direct_bad, CaseBy, case_by}, HeadedAs.{HeadedAs, headed_as, not_refused, not_unmodified}, OwnFrom.{IsRow}, PieceKeeps.{eq_cases}, ReadingKeeps.{reader_stays}, ShownStays.{IsFallback}, Waiters.{IsWaiter, waiter_of}, Step.{Step}}
 use Rattle.hc_effects.proofs.ExchangeFrom as exchange
 use Rattle.hc_effects.proofs.HeadedAs as head
 use Rattle.hc_laws.proofs.PlacesKept.{AreOwn, past_unopened, opening_stays, own_free, settled}
@@ -15,7 +15,9 @@ use Rattle.hc_effects.proofs.RepFrom as rep
 pub record AreRead (t : Tables) : Type 0 where
   pub read : (x : ℕ) (w : Exchange) → t.exchange x ≡ Some w → w.is_open ≡ true → is_some w.head ≡ true → t.representation (family x w) ≡ None → IsReadPast t x w
 
-module _ (limits : Limits) (t : Tables) (now : ℕ) (flaw : Flaw) (s : Sound t) (o : Owners t) (a : IsFallback t) (g : AreOwn t) (ev : Event) (goes : denial t ev ≡ None) where
+module _ (step : Step) (a : IsFallback step.tables) (g : AreOwn step.tables) where
+  open step use {limits, tables as t, now, flaw, sound as s, event as ev, accepted as goes}
+
   abbrev e : Entry
   e = entry_of limits t now ev flaw
 
@@ -30,7 +32,7 @@ module _ (limits : Limits) (t : Tables) (now : ℕ) (flaw : Flaw) (s : Sound t) 
 
     no_waiter : (x : ℕ) (q : Exchange) → t.exchange x ≡ Some q → q.is_open ≡ true → q.head ≡ None → q.c ≡ c → ⊥
     no_waiter x q exchange_row on bare theirs =
-        let got = waiter_of limits t now flaw s o ev goes x q exchange_row on bare in
+        let got = waiter_of step x q exchange_row on bare in
         let one : got.0 ≡ k = same_row (t.consumer c) got.0 k (sym (ap t.consumer theirs) ∙ got.1.row) row in
         let it : q ≡ w = same_row (t.exchange y) q w (sym (ap t.exchange (some_inj x y (sym got.1.own ∙ (ap (λ (p : Consumer). p.own) one ∙ mine)))) ∙ exchange_row) is_row in
         false_true (sym (ap (λ (p : Option Response). is_some p) bare) ∙ (ap (λ (p : Exchange). is_some p.head) it ∙ headed))
@@ -86,24 +88,24 @@ module _ (limits : Limits) (t : Tables) (now : ℕ) (flaw : Flaw) (s : Sound t) 
 
     module _ (u : Consumer) (after : now_on.consumer c ≡ Some u) where
       its : IsRow t e c y k u
-      its = record { row = row; stays = stays; is = settled limits t now flaw s o a g ev goes c k u row after stays }
+      its = record { row = row; stays = stays; is = settled step a g c k u row after stays }
 
       still : u.own ≡ Some y
       still =
           let h = consumer_heard t e c ev k in
           let all = heard_own ev refl in
           sym (ap (λ (z : Consumer). z.own) its.is)
-          ∙ (ap (λ (q : Consumer). own_after t e c h.place q.own) (opening_stays limits t now flaw s o a g ev goes c (waiting t e c h) (opening_in e.acts) refl (past_unopened limits t now flaw s o a g ev goes c y k row at))
-          ∙ (own_free limits t now flaw s o a g ev goes c h.place h.own all.1 ∙ (all.0 ∙ mine)))
+          ∙ (ap (λ (q : Consumer). own_after t e c h.place q.own) (opening_stays step a g c (waiting t e c h) (opening_in e.acts) refl (past_unopened step a g c y k row at))
+          ∙ (own_free step a g c h.place h.own all.1 ∙ (all.0 ∙ mine)))
 
       pub goes_on : (z : Exchange) → now_on.exchange y ≡ Some z → IsSame t e y w z → z.is_open ≡ true → u.place ≡ place.Direct y
-      goes_on z after_row same opened = reader_stays limits t now flaw s o ev goes c y k u w z its mine still is_row headed after_row same opened (owners.direct at) ∙ at
+      goes_on z after_row same opened = reader_stays step c y k u w z its mine still is_row headed after_row same opened (owners.direct at) ∙ at
 
   -- WHOSE HEAD COMES
 
   module _ (x : ℕ) (w z : Exchange) (response : Response) (here : ev ≡ event.Head x response) (is_row : t.exchange x ≡ Some w) (after_row : now_on.exchange x ≡ Some z) (same : IsSame t e x w z) (opened : z.is_open ≡ true) where
     got : (q : Consumer) × IsWaiter t w.c x q w
-    got = let new = is_new limits t now flaw s ev goes x response w here is_row in waiter_of limits t now flaw s o ev goes x w is_row new.is_open new.bare
+    got = let new = is_new limits t now flaw s ev goes x response w here is_row in waiter_of step x w is_row new.is_open new.bare
 
     abbrev k : Consumer
     k = got.0
@@ -136,8 +138,8 @@ module _ (limits : Limits) (t : Tables) (now : ℕ) (flaw : Flaw) (s : Sound t) 
     ]
 
     sends_by : (q : HeadCase) → CaseBy view q → case_at t e ≡ Some q → sends_back (Some q) ≡ false
-    sends_by _ (not_validated way h) is = absurd (not_unmodified limits t now flaw s o ev goes x w z response here is_row after_row same opened h)
-    sends_by _ (first_changed way off) is = absurd (not_refused limits t now flaw s o ev goes x w z response here is_row after_row same opened (ap Rattle.hc_model.specs.Closings.is_refused is))
+    sends_by _ (not_validated way h) is = absurd (not_unmodified step x w z response here is_row after_row same opened h)
+    sends_by _ (first_changed way off) is = absurd (not_refused step x w z response here is_row after_row same opened (ap Rattle.hc_model.specs.Closings.is_refused is))
     sends_by _ _ is = refl
 
     unsent : sends_back (case_at t e) ≡ false
@@ -154,10 +156,10 @@ module _ (limits : Limits) (t : Tables) (now : ℕ) (flaw : Flaw) (s : Sound t) 
 
     module _ (later : Sound now_on) (u : Consumer) (after : now_on.consumer w.c ≡ Some u) (none : now_on.representation (family x z) ≡ None) where
       its_row : IsRow t e w.c x k u
-      its_row = record { row = got.1.row; stays = head_stays; is = settled limits t now flaw s o a g ev goes w.c k u got.1.row after head_stays }
+      its_row = record { row = got.1.row; stays = head_stays; is = settled step a g w.c k u got.1.row after head_stays }
 
       -- what founds or joins is of a representation
-      reads_it : HeadedAs limits t now flaw s o ev goes x response w k.place u.place z → u.place ≡ place.Direct x
+      reads_it : HeadedAs step x response w k.place u.place z → u.place ≡ place.Direct x
       reads_it (head.direct is) = is
       reads_it (head.founds lo hi how is on unjoined) =
           let there : is_some (now_on.representation x) ≡ true = later.numbered.bound_to x w.c u (sound.is_bound lo hi how after is) in
@@ -167,7 +169,7 @@ module _ (limits : Limits) (t : Tables) (now : ℕ) (flaw : Flaw) (s : Sound t) 
           absurd (false_true (sym (ap (λ (q : Option Representation). is_some q) (sym (ap now_on.representation (ap (λ (q : Option ℕ). unwrap_or q x) joined)) ∙ none)) ∙ there))
 
       pub read_now : u.place ≡ place.Direct x
-      read_now = reads_it (headed_as limits t now flaw s o ev goes w.c x k u w z response here its_row got.1.own is_row after_row same opened)
+      read_now = reads_it (headed_as step w.c x k u w z response here its_row got.1.own is_row after_row same opened)
 
   -- AFTER AN ENTRY
 

@@ -4,7 +4,7 @@ use Rattle.hc_text.proofs.Basics.{all_false, and_left, and_off, and_right, bool_
 use Rattle.hc_effects.proofs.Vocabulary.{Opening, opening_in, leaves_in, shows_in, Event, Response, Wait, Why, HeadCase, head_case, Limits, route_of, Route, case_on, first_case, later_case, Place, has_loss, fails_in, misreads_in, leaver_in, Showing, showing_in, wait_in, loss_acts, case_at, case_of, head_view, was_shown, consumer_heard, by_head, by_fault, by_opening, shown_place, waiting, waiting_place, place_by_case, denial, doomed_key_of, bypassed_by, is_key, Entry, exchange_at, is_for, is_headless, Flaw, flaw_in, becomes_gone, goes_in, entry_of, Turns, Shows, acts_of, Owners, IsAwaiting, move_of, bound_to, reads, Tables, Exchange, Representation, Consumer, Sound, starts_over, sends_back, waits_at, loses_what_it_waits_for, after_accepted, event, wait, route, place, by}
 use Rattle.hc_model.specs.Owners as owners
 use Rattle.hc_laws.proofs.{TurnOpens.{goes_none, doom_none}, FallbackKeeps.{landing, new_unshown}, PlacesKept.{AreOwn, settled}, TurnFacts.{moves_on, misreads, IsTaken, AtPoll, seen, behind, far_behind, opens_behind, misreads_behind, at_poll, eq-refl}}
-use Rattle.hc_effects.proofs.{ActParts.{leaver_lost}, Basics.{false_true}, Joining.{mix}, FirstKeeps.{is_new, case_is, is_opener}, OpenedAs.{opened_as}, PieceKeeps.{eq_cases}, Said.{WaitsAs, waiting_by}, ShownStays.{IsFallback, way_bound, shows_not, unless_same}, TurnPlaces.{is_after}, WaitedAs.{turn, busy, IsForOthers, waited_as}, Waiters.{IsWaiter, waiter_of}}
+use Rattle.hc_effects.proofs.{ActParts.{leaver_lost}, Basics.{false_true}, Joining.{mix}, FirstKeeps.{is_new, case_is, is_opener}, OpenedAs.{opened_as}, PieceKeeps.{eq_cases}, Said.{WaitsAs, waiting_by}, ShownStays.{IsFallback, way_bound, shows_not, unless_same}, TurnPlaces.{is_after}, WaitedAs.{turn, busy, IsForOthers, waited_as}, Waiters.{IsWaiter, waiter_of}, Step.{Step}}
 
 -- it reads there, or is over
 abbrev pub IsReader : Place → Type 0
@@ -22,7 +22,9 @@ reads_reader (place.Direct x) h = tt
 reads_reader place.Over h = tt
 reads_reader _ h = false_true h
 
-module _ (limits : Limits) (t : Tables) (now : ℕ) (flaw : Flaw) (s : Sound t) (o : Owners t) (a : IsFallback t) (g : AreOwn t) (turns : Turns t) (readers : AreReaders t) (ev : Event) (goes : denial t ev ≡ None) where
+module _ (step : Step) (a : IsFallback step.tables) (g : AreOwn step.tables) (turns : Turns step.tables) (readers : AreReaders step.tables) where
+  open step use {limits, tables as t, now, flaw, sound as s, event as ev, accepted as goes}
+
   abbrev e : Entry
   e = entry_of limits t now ev flaw
 
@@ -34,7 +36,7 @@ module _ (limits : Limits) (t : Tables) (now : ℕ) (flaw : Flaw) (s : Sound t) 
   module _ (c : ℕ) (k : Consumer) (row : t.consumer c ≡ Some k) (shown : k.shown ≡ true) where
     module _ (x : ℕ) (response : Response) (w : Exchange) (here : ev ≡ event.Head x response) (exchange_row : t.exchange x ≡ Some w) (mine : w.c ≡ c) where
       got : (q : Consumer) × IsWaiter t w.c x q w
-      got = let new = is_new limits t now flaw s ev goes x response w here exchange_row in waiter_of limits t now flaw s o ev goes x w exchange_row new.is_open new.bare
+      got = let new = is_new limits t now flaw s ev goes x response w here exchange_row in waiter_of step x w exchange_row new.is_open new.bare
 
       at : IsAwaiting x w k.place
       at = subst (λ (q : Consumer). IsAwaiting x w q.place) (same_row (t.consumer c) got.0 k (sym (ap t.consumer mine) ∙ got.1.row) row) got.1.at
@@ -161,7 +163,7 @@ module _ (limits : Limits) (t : Tables) (now : ℕ) (flaw : Flaw) (s : Sound t) 
       | inl mine ↦
           let op = is_opener limits t now flaw s ev goes c k p row is mine.1 in
           let way = opened_as t now c k op.want p s row op.opening in
-          let b = way_bound limits t now flaw s o ev goes a c k row shown p way.way way.unshown in
+          let b = way_bound step a c k row shown p way.way way.unshown in
           rw mine.0 (subst IsReader (sym (unless_same (bound_to stood.place) b.0 stood.place _ (ap bound_to op.place_is ∙ b.1))) on)
     ]
 
@@ -169,7 +171,7 @@ module _ (limits : Limits) (t : Tables) (now : ℕ) (flaw : Flaw) (s : Sound t) 
     shows_reader p None is on = on
     shows_reader p (Some z) is on = elim (eq_cases z.c c) [
       | inr off ↦ rw off.0 on
-      | inl mine ↦ absurd (shows_not limits t now flaw s o ev goes a c k row shown z is mine.1)
+      | inl mine ↦ absurd (shows_not step a c k row shown z is mine.1)
     ]
 
     left_reader : (leaves : Bool) (p : Place) → IsReader p → IsReader (if leaves then place.Over else p)
@@ -178,7 +180,7 @@ module _ (limits : Limits) (t : Tables) (now : ℕ) (flaw : Flaw) (s : Sound t) 
 
     shown_reader : (u : Consumer) → now_on.consumer c ≡ Some u → IsReader u.place
     shown_reader u after =
-        subst (λ (q : Consumer). IsReader q.place) (settled limits t now flaw s o a g ev goes c k u row after not_over)
+        subst (λ (q : Consumer). IsReader q.place) (settled step a g c k u row after not_over)
         (left_reader (leaves_in c e.acts) _ (shows_reader _ (showing_in e.acts) refl (opens_reader (opening_in e.acts) refl (waits_reader (consumer_heard t e c ev k) (wait_in c e.acts) refl (heard_reader ev refl)))))
 
   -- WHO IS SHOWN ONE
@@ -221,7 +223,7 @@ module _ (limits : Limits) (t : Tables) (now : ℕ) (flaw : Flaw) (s : Sound t) 
 
       lands : (u : Consumer) → now_on.consumer c ≡ Some u → IsReader u.place
       lands u after =
-          subst (λ (q : Consumer). IsReader q.place) (settled limits t now flaw s o a g ev goes c k u row after stays)
+          subst (λ (q : Consumer). IsReader q.place) (settled step a g c k u row after stays)
           (left_or (leaves_in c e.acts) _ (subst (λ z. IsReader (shown_place c z (by_opening t c (opening_in e.acts) (waiting t e c (consumer_heard t e c ev k))).place)) (sym showing) (shown_by _)))
         where
           left_or : (leaves : Bool) (p : Place) → IsReader p → IsReader (if leaves then place.Over else p)
@@ -230,7 +232,7 @@ module _ (limits : Limits) (t : Tables) (now : ℕ) (flaw : Flaw) (s : Sound t) 
 
     landed : (u : Consumer) → now_on.consumer c ≡ Some u → k.shown ≡ false → u.shown ≡ true → IsReader u.place
     landed u after off on =
-        let l = landing limits t now flaw s o ev goes c k u row after off on in
+        let l = landing step c k u row after off on in
         by_poll l.want l.r l.lo l.hi l.why l.head l.at l.move_is (at_poll limits t e taken c l.want k s turns row l.at)
       where
         shows : shows_in c e.acts ≡ true

@@ -4,7 +4,7 @@ use Rattle.hc_text.proofs.Basics.{none_by, and_left, and_right, bool_cases, not_
 use Rattle.hc_effects.proofs.Vocabulary.{Opening, opening_in, leaves_in, Wait, Event, Request, Response, HeadCase, Route, Wanted, Limits, head_case, route_of, is_only, range_of, wanted_of, Place, BoundBy, has_loss, wait_in, Showing, showing_in, case_at, head_view, consumer_heard, consumer_acted, consumer_settled, by_head, by_fault, by_opening, becomes_shared, own_after, waiting, waiting_place, passed_by, kept_by, opened_place, unless_bound, shown_place, due_after, place_by_case, passed_on, bound_to_wanted, current, denial, Entry, is_headless, Flaw, founded_total, entry_of, Turns, StandsFor, Move, Owners, move_of, bound_to, reads, Tables, Exchange, Consumer, Sound, starts_over, after_accepted, wait, event, case, route, wanted, place, by}
 use Rattle.hc_model.specs.Laws as laws
 use Rattle.hc_model.specs.Moves as moves
-use Rattle.hc_effects.proofs.{Basics.{false_true}, BoundFrom.{IsRow}, FirstKeeps.{is_new, case_is, is_opener}, Forward.{is_kept}, FoundBy.{CaseBy, case_by}, MoveBy.{IsHeard}, PieceKeeps.{eq_cases}, Said.{WaitsAs, waiting_by}, ShownStays.{IsFallback, unless_same}, ToBeShown.{heard_place}, TurnMoves.{waits_turn, passes, Does, IsNew, Plans, KeptNone, kept_none, does_polled}, WaitedAs.{turn, busy, WaitedAs, waited_as}, Waiters.{fault_open_of}}
+use Rattle.hc_effects.proofs.{Basics.{false_true}, BoundFrom.{IsRow}, FirstKeeps.{is_new, case_is, is_opener}, Forward.{is_kept}, FoundBy.{CaseBy, case_by}, MoveBy.{IsHeard}, PieceKeeps.{eq_cases}, Said.{WaitsAs, waiting_by}, ShownStays.{IsFallback, unless_same}, ToBeShown.{heard_place}, TurnMoves.{waits_turn, passes, Does, IsNew, Plans, KeptNone, kept_none, does_polled}, WaitedAs.{turn, busy, WaitedAs, waited_as}, Waiters.{fault_open_of}, Step.{Step}}
 use Rattle.hc_effects.proofs.FoundBy as cases
 use Rattle.hc_laws.proofs.{PlacesKept.{AreOwn, waits_not, past_not, own_poll, own_is, unopened, poll_of, new_is, turn_bare}, PlacesShown.{AreReaders, head_same}, TurnFacts.{IsTaken}, TurnHeads.{valid_aim}, TurnOpens.{past, later, first, fetches, OpensFor, opened_at}}
 use Rattle.hc_effects.proofs.Said as said
@@ -74,7 +74,9 @@ busy_waits d _ said.waits = refl
 busy_waits d _ (said.asks x is) = absurd (let no : wait.Busy d ≡ wait.Body x = is in cc)
 busy_waits d _ (said.opens x n request is) = absurd (let no : wait.Busy d ≡ wait.Head x = is in cc)
 
-module _ (limits : Limits) (t : Tables) (now : ℕ) (flaw : Flaw) (s : Sound t) (o : Owners t) (a : IsFallback t) (g : AreOwn t) (turns : Turns t) (readers : AreReaders t) (was : AreStanding t) (ev : Event) (goes : denial t ev ≡ None) where
+module _ (step : Step) (a : IsFallback step.tables) (g : AreOwn step.tables) (turns : Turns step.tables) (readers : AreReaders step.tables) (was : AreStanding step.tables) where
+  open step use {limits, tables as t, now, flaw, sound as s, owners as o, event as ev, accepted as goes}
+
   abbrev e : Entry
   e = entry_of limits t now ev flaw
 
@@ -155,7 +157,7 @@ module _ (limits : Limits) (t : Tables) (now : ℕ) (flaw : Flaw) (s : Sound t) 
           let new = is_new limits t now flaw s ev goes x response w here exchange_row in
           elim (asks_or_shown x w exchange_row (bare_is w new.is_open new.bare) mine) [
             | inl asks ↦ subst (λ q. On (place_by_case x response w k q) own_then) (sym case_here) (by_case asks (head_case view) (case_by view) case_here)
-            | inr shown ↦ subst (λ p. On p own_then) (sym (head_same limits t now flaw s o a g turns readers ev goes c k row shown x response w here exchange_row mine)) kept_there
+            | inr shown ↦ subst (λ p. On p own_then) (sym (head_same step a g turns readers c k row shown x response w here exchange_row mine)) kept_there
           ]
 
     row_stands : (x : ℕ) (response : Response) (z : Option Exchange) → ev ≡ event.Head x response → t.exchange x ≡ z → On (by_head t e c x response z k).place (by_head t e c x response z k).own
@@ -170,7 +172,7 @@ module _ (limits : Limits) (t : Tables) (now : ℕ) (flaw : Flaw) (s : Sound t) 
     fault_stands x (Some w) here exchange_row = elim (bool_cases (w.c == c && is_none w.head && not k.shown)) [
       | inr off ↦ rw off st
       | inl hit ↦
-          let on = fault_open_of limits t now flaw s o ev goes x w (sym (ap (denial t) here) ∙ goes) exchange_row in
+          let on = fault_open_of step x w (sym (ap (denial t) here) ∙ goes) exchange_row in
           elim (asks_or_shown x w exchange_row (bare_is w on (none_by w.head (and_right (w.c == c) _ (and_left _ (not k.shown) hit)))) (grind (arith, nat_tests))) [
             | inl asks ↦ rw hit asks
             | inr shown ↦ absurd (false_true (sym (ap not shown) ∙ and_right _ (not k.shown) hit))
@@ -193,16 +195,16 @@ module _ (limits : Limits) (t : Tables) (now : ℕ) (flaw : Flaw) (s : Sound t) 
     quiet_stands : (u : Consumer) → IsRow t e c 0 0 None by.Plan k u → ((d want : ℕ) → ev ≡ event.Poll d want → ⊥) → On u.place u.own
     quiet_stands u r unpolled =
         let h = consumer_heard t e c ev k in
-        subst (λ p. On p u.own) (sym (heard_place limits t now flaw s o ev goes c 0 0 None by.Plan k u unpolled r))
-        (subst (λ z. On h.place z) (sym (own_is limits t now flaw s o a g ev goes c k u r (unopened limits t now flaw s o a g ev goes unpolled c))) (own_stands h.place h.own (heard_stands ev refl)))
+        subst (λ p. On p u.own) (sym (heard_place step c 0 0 None by.Plan k u unpolled r))
+        (subst (λ z. On h.place z) (sym (own_is step a g c k u r (unopened step a g unpolled c))) (own_stands h.place h.own (heard_stands ev refl)))
 
     -- AS A POLL LEAVES IT
 
     turn_not : (x : ℕ) → k.place ≡ place.Turn x → IsHeard t k → ⊥
     turn_not x at heard =
         let i = g.turn c x k row at in
-        let bare : i.its.w.head ≡ None = turn_bare limits t now flaw s o a g ev goes c x k i.its.w row at i.its.own i.its.row i.is_open in
-        waits_not limits t now flaw s o a g ev goes x k i.its.w i.its.own i.its.row i.is_open bare heard
+        let bare : i.its.w.head ≡ None = turn_bare step a g c x k i.its.w row at i.its.own i.its.row i.is_open in
+        waits_not step a g x k i.its.w i.its.own i.its.row i.is_open bare heard
 
     unowned : IsNew k → (z : Wait) → WaitedAs t now c k z → KeptNone k.place → k.own ≡ None
     unowned new z w kept = by_place k.place refl kept new.plans
@@ -212,7 +214,7 @@ module _ (limits : Limits) (t : Tables) (now : ℕ) (flaw : Flaw) (s : Sound t) 
         by_place (place.Passed r None) at none plans = subst (λ p. On p k.own) at st
         by_place (place.Passed r (Some x)) at none plans = absurd none
         by_place (place.Turn x) at none plans = absurd (turn_not x at w.heard)
-        by_place (place.Direct x) at none plans = absurd (past_not limits t now flaw s o a g ev goes x k at w.none w.heard (o.past c x k row at w.unshown))
+        by_place (place.Direct x) at none plans = absurd (past_not step a g x k at w.none w.heard (o.past c x k row at w.unshown))
         by_place _ at none plans = absurd plans
 
     module _ (z : Wait) (told : wait_in c e.acts ≡ Some z) where
@@ -292,7 +294,7 @@ module _ (limits : Limits) (t : Tables) (now : ℕ) (flaw : Flaw) (s : Sound t) 
       acted_stands : On (consumer_acted t e c (consumer_heard t e c ev k)).place (consumer_acted t e c (consumer_heard t e c ev k)).own
       acted_stands =
           let q = by_opening t c (opening_in e.acts) stood in
-          subst (λ z. On (consumer_acted t e c (consumer_heard t e c ev k)).place z) (sym (own_poll limits t now flaw s o a g ev goes d want here c (consumer_heard t e c ev k).place q.own))
+          subst (λ z. On (consumer_acted t e c (consumer_heard t e c ev k)).place z) (sym (own_poll step a g d want here c (consumer_heard t e c ev k).place q.own))
           (left_stands (leaves_in c e.acts) _ q.own (shows_stands q.place q.own (showing_in e.acts) (opens_stands (opening_in e.acts) refl)))
 
     -- AFTER IT
@@ -321,7 +323,7 @@ module _ (limits : Limits) (t : Tables) (now : ℕ) (flaw : Flaw) (s : Sound t) 
 
   module _ (taken : IsTaken limits t e) where
     by_row : (c : ℕ) (u : Consumer) (q : Option Consumer) → t.consumer c ≡ q → now_on.consumer c ≡ Some u → Stands u.place u.own u.request
-    by_row c u None none after = subst (λ (q : Consumer). Stands q.place q.own q.request) (new_is limits t now flaw s o a g ev goes c (t.consumer c) u none after).1 refl
+    by_row c u None none after = subst (λ (q : Consumer). Stands q.place q.own q.request) (new_is step a g c (t.consumer c) u none after).1 refl
     by_row c u (Some k) row after = kept_stands taken c k row u after
 
     pub standing_kept : AreStanding now_on

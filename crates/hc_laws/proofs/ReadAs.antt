@@ -4,7 +4,7 @@ use Rattle.hc_text.proofs.Basics.{bool_cases, not_some as none_some, same_some a
 use Rattle.hc_effects.proofs.Vocabulary.{Event, Response, Why, Limits, base_of, promise_of, piece_refusal, BoundBy, Place, total_in, denial, as_open, Entry, exchange_heard, base, promised_bytes, length_by, Flaw, Shown, entry_of, Move, Nothing, Shows, shows_stored, Owners, move_of, shows_at, shows_bound, shows_direct, shows_answer, has_joined, bound_to, reads, lo_of, hi_of, base_in, end_in, end_of_direct, Tables, Exchange, Representation, Consumer, Sound, after_accepted, event, by, place}
 use Rattle.hc_rules.specs.Refusals as refusals
 use Rattle.hc_laws.proofs.FallbackKeeps.{IsLanding, shown_headed}
-use Rattle.hc_effects.proofs.{Basics.{false_true}, ExchangeFrom.{IsSame, IsHeaded}, Fills.{Brings, brings, length_same}, FirstKeeps.{is_new}, Forward.{is_on, after_is}, GivenNext.{read_of}, MoveBy.{MoveBy, move_by}, Once.{taken}, PastApart.{IsHeadedRow}, PieceKeeps.{eq_cases}, RepFrom.{RepFrom, rep_from}, ShownStays.{IsFallback, Lands}}
+use Rattle.hc_effects.proofs.{Basics.{false_true}, ExchangeFrom.{IsSame, IsHeaded}, Fills.{Brings, brings, length_same}, FirstKeeps.{is_new}, Forward.{is_on, after_is}, GivenNext.{read_of}, MoveBy.{MoveBy, move_by}, Once.{taken}, PastApart.{IsHeadedRow}, PieceKeeps.{eq_cases}, RepFrom.{RepFrom, rep_from}, ShownStays.{IsFallback, Lands}, Step.{Step}}
 use Rattle.hc_effects.proofs.Fills as fills_by
 use Rattle.hc_effects.proofs.MoveBy as by_move
 use Rattle.hc_effects.proofs.RepFrom as rep
@@ -209,16 +209,18 @@ module _ (t : Tables) (now c want r lo : ℕ) (why : Why) (head : Response) (hi 
   pub shown_read : Sound t → t.consumer c ≡ Some k → move_of t now want c k ≡ show → k.shown ≡ false → reads k.place ≡ true → ((y : ℕ) → k.place ≡ place.Direct y → IsHeadedRow t y) → IsRead t k as_shown
   shown_read s row is off old headed = by_moves (move_of t now want c k) (move_by t now want c k s row) is off old headed
 
-module _ (limits : Limits) (t : Tables) (now : ℕ) (flaw : Flaw) (s : Sound t) (o : Owners t) (ev : Event) (goes : denial t ev ≡ None) (a : IsFallback t) where
+module _ (step : Step) (a : IsFallback step.tables) where
+  open step use {limits, tables as t, now, flaw, sound as s, event as ev, accepted as goes}
+
   -- who is shown a head reads what it is shown
-  pub landed_read : (c : ℕ) (k u : Consumer) → t.consumer c ≡ Some k → k.shown ≡ false → reads u.place ≡ true → (l : IsLanding limits t now flaw s o ev goes c k u) → IsRead (after_accepted t (entry_of limits t now ev flaw)) u (record { r = l.r; why = l.why; lo = l.lo; hi = l.hi })
+  pub landed_read : (c : ℕ) (k u : Consumer) → t.consumer c ≡ Some k → k.shown ≡ false → reads u.place ≡ true → (l : IsLanding step c k u) → IsRead (after_accepted t (entry_of limits t now ev flaw)) u (record { r = l.r; why = l.why; lo = l.lo; hi = l.hi })
   landed_read c k u row off old l = by_lands l.lands
     where
       place_hi : (r q lo a : ℕ) (hi b : Option ℕ) (how g : BoundBy) → place.Bound r lo hi how ≡ place.Bound q a b g → hi ≡ b
       place_hi r q lo a hi b how g same = cc
 
       head_at : (y : ℕ) → k.place ≡ place.Direct y → IsHeadedRow t y
-      head_at y at = shown_headed limits t now flaw s o ev goes c y l.want l.r l.lo l.why l.head l.hi k row at off l.move_is
+      head_at y at = shown_headed step c y l.want l.r l.lo l.why l.head l.hi k row at off l.move_is
 
       idle_not : (p : Place) → stands.IsIdle p → reads p ≡ true → ⊥
       idle_not (place.Turn x) i on = i

@@ -9,7 +9,7 @@ use Rattle.hc_model.specs.Exchanges as exchanges
 use Rattle.hc_model.specs.Moves as moves
 use Rattle.hc_model.specs.Reads.{EndsWell}
 use Rattle.hc_model.specs.Reads as spec
-use Rattle.hc_effects.proofs.{ActParts.{silent, misreads, does, IsSaid, said_is}, Basics.{false_true, append_none}, Bounded.{IsBounded, bounded_begun, bounded_denied, bounded_kept}, GivenNext.{read_of}, MoveBy.{MoveBy, move_by}, Owed.{IsDenied, is_denial, acts_are}, ShownStays.{IsFallback}}
+use Rattle.hc_effects.proofs.{ActParts.{silent, misreads, does, IsSaid, said_is}, Basics.{false_true, append_none}, Bounded.{IsBounded, bounded_begun, bounded_denied, bounded_kept}, GivenNext.{read_of}, MoveBy.{MoveBy, move_by}, Owed.{IsDenied, is_denial, acts_are}, ShownStays.{IsFallback}, Step.{step_of}}
 use Rattle.hc_laws.proofs.{ReadAs.{IsRead}, ReadJoined.{joined_in_runs, is_told, fallback}, ReadNext.{by_said, shown_one}, RunFacts.{in_runs_with}, SoundRuns.{carried}}
 use Rattle.hc_effects.proofs.MoveBy as by_move
 use Rattle.hc_effects.proofs.Owed as owed_acts
@@ -21,7 +21,7 @@ pub bounded : OfRuns IsBounded
 bounded = in_runs_with (λ limits t. IsBounded t) (λ limits t. IsFallback t) fallback
     (λ limits contents may. bounded_begun contents)
     (λ limits t e later b. bounded_denied t e b)
-    (λ limits t now flaw ev s a b. bounded_kept limits t now flaw s.before.is_sound s.before.is_owned ev s.going b a)
+    (λ limits t now flaw ev s a b. bounded_kept (step_of limits t now flaw s.before.is_sound s.before.is_owned ev s.going) b a)
 
 -- A POLL THAT ENDS
 

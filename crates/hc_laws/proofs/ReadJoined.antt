@@ -6,7 +6,7 @@ use Rattle.hc_effects.proofs.Vocabulary.{is_denied, given_in, Event, Limits, Pla
 use Rattle.hc_event.specs.declared.place.Place.TheVariants as place
 use Rattle.hc_model.specs.{Laws.{Grows}, Reads.{BodiesAreRead}}
 use Rattle.hc_laws.proofs.{FallbackKeeps.{landing_by, fallback_begun, fallback_denied, fallback_kept}, Barred.{next_tables, denied_tables}, GrowsInRuns.{grows}, OneHead.{one_head_is_shown}, ReadAs.{IsRead, read_kept, landed_read}, RunFacts.{in_runs}, SoundRuns.{carried}}
-use Rattle.hc_effects.proofs.{Basics.{false_true, append_none}, GivenNext.{read_of, given_next}, Givers.{some_want, gives_of}, MoveBy.{move_by}, OfEntries.{of_real}, Owed.{denied_gives, denied_shows}, PollActs.{ToOne, to_one}, ReadFilters.{consumers_are_filtered}, ShownOnce.{no_first}, ShownStays.{IsFallback, StaysOrIdle, shown_stays}}
+use Rattle.hc_effects.proofs.{Basics.{false_true, append_none}, GivenNext.{read_of, given_next}, Givers.{some_want, gives_of}, MoveBy.{move_by}, OfEntries.{of_real}, Owed.{denied_gives, denied_shows}, PollActs.{ToOne, to_one}, ReadFilters.{consumers_are_filtered}, ShownOnce.{no_first}, ShownStays.{IsFallback, StaysOrIdle, shown_stays}, Step.{Step, step_of}}
 use Rattle.hc_effects.proofs.PollActs as acts_to
 use Rattle.hc_effects.proofs.ShownStays as stands
 
@@ -19,7 +19,7 @@ pub fallback : OfRuns IsFallback
 fallback = in_runs (λ limits t. IsFallback t)
     (λ limits contents may. fallback_begun contents)
     (λ limits t e later a. fallback_denied t e a)
-    (λ limits t now flaw later c a ev going real. fallback_kept limits t now flaw c.is_sound c.is_owned ev going real.stand a)
+    (λ limits t now flaw later c a ev going real. fallback_kept (step_of limits t now flaw c.is_sound c.is_owned ev going) real.stand a)
 
 -- WHAT IS HELD
 
@@ -67,7 +67,9 @@ pub record IsTold (t : Tables) (shown : ℕ → List Shown) (given : ℕ → Lis
   pub ungiven : (c : ℕ) → shown c ≡ [] → given c ≡ []
   pub count : (c : ℕ) (k : Consumer) → t.consumer c ≡ Some k → k.given ≡ length (given c)
 
-module _ (limits : Limits) (t : Tables) (now : ℕ) (flaw : Flaw) (s : Sound t) (o : Owners t) (ev : Event) (goes : denial t ev ≡ None) (a : IsFallback t) (shown : ℕ → List Shown) (given : ℕ → List ℕ) (told : IsTold t shown given) (joined : IsJoined t shown given) where
+module _ (step : Step) (a : IsFallback step.tables) (shown : ℕ → List Shown) (given : ℕ → List ℕ) (told : IsTold step.tables shown given) (joined : IsJoined step.tables shown given) where
+  open step use {limits, tables as t, now, flaw, sound as s, owners as o, event as ev, accepted as goes}
+
   abbrev e : Entry
   e = entry_of limits t now ev flaw
 
@@ -87,7 +89,7 @@ module _ (limits : Limits) (t : Tables) (now : ℕ) (flaw : Flaw) (s : Sound t) 
     -- READING
 
     shown_on : (k u : Consumer) (z : Shown) → t.consumer c ≡ Some k → now_on.consumer c ≡ Some u → shown c ≡ z ∷ [] → k.shown ≡ true → reads u.place ≡ true → IsRead now_on u z
-    shown_on k u z row after was on reading_on = by_place (shown_stays limits t now flaw s o ev goes a c k row on u after)
+    shown_on k u z row after was on reading_on = by_place (shown_stays step a c k row on u after)
       where
         idle_not : (p : Place) → stands.IsIdle p → reads p ≡ true → ⊥
         idle_not (place.Turn x) i old = i
@@ -115,8 +117,8 @@ module _ (limits : Limits) (t : Tables) (now : ℕ) (flaw : Flaw) (s : Sound t) 
           | inl already ↦
               absurd (nil_cons _ [] (sym ((Rattle.hc_effects.proofs.ShownOnce.by_event limits t now c flaw ev).again k row already) ∙ some))
           | inr off ↦
-              let l = landing_by limits t now flaw s o ev goes c k u row after (Rattle.hc_effects.proofs.Said.shows_it e.acts (record { c = c; r = r; lo = lo; hi = hi }) showing) (acts_to.shows want q r why head lo hi at there move none some showing) in
-              subst (IsRead now_on u) (one_inj _ _ (sym l.told ∙ some) ∙ same) (landed_read limits t now flaw s o ev goes a c k u row off on l)
+              let l = landing_by step c k u row after (Rattle.hc_effects.proofs.Said.shows_it e.acts (record { c = c; r = r; lo = lo; hi = hi }) showing) (acts_to.shows want q r why head lo hi at there move none some showing) in
+              subst (IsRead now_on u) (one_inj _ _ (sym l.told ∙ some) ∙ same) (landed_read step a c k u row off on l)
         ]
 
     read_row : (q : Option Consumer) (u : Consumer) (z : Shown) → t.consumer c ≡ q → now_on.consumer c ≡ Some u → (shown c ++ shown_in c e.acts) ≡ z ∷ [] → reads u.place ≡ true → ToOne t now c ev e.acts → IsRead now_on u z
@@ -218,7 +220,7 @@ by_denial limits contents h e false accepted may run owed j =
     let t = tables contents h in
     let k = carried limits contents h may run in
     subst (λ u. IsJoined u (λ c. shown_of c (e ∷ h)) (λ c. given_of c (e ∷ h))) (next_tables contents h e accepted)
-    (of_real limits t e (λ z. IsJoined (after_accepted t z) (λ c. shown_of c h ++ shown_in c z.acts) (λ c. given_of c h ++ given_in c z.acts)) owed accepted (λ going real. joined_on limits t e.now (flaw_in e.acts) k.is_sound k.is_owned e.event going (fallback limits contents h may run) (λ c. shown_of c h) (λ c. given_of c h) (is_told limits contents h run) j))
+    (of_real limits t e (λ z. IsJoined (after_accepted t z) (λ c. shown_of c h ++ shown_in c z.acts) (λ c. given_of c h ++ given_in c z.acts)) owed accepted (λ going real. joined_on (step_of limits t e.now (flaw_in e.acts) k.is_sound k.is_owned e.event going) (fallback limits contents h may run) (λ c. shown_of c h) (λ c. given_of c h) (is_told limits contents h run) j))
 
 pub joined_in_runs : (limits : Limits) (contents : Contents) (h : History) → may_begin limits contents ≡ true → IsRun limits contents h → Joined contents h
 joined_in_runs limits contents [] may run = record { read = λ c k z row was on. absurd (nil_cons z [] was); held = λ c z was. absurd (nil_cons z [] was) }

@@ -3,7 +3,7 @@ use Rattle.std.{proofs.Common.{◌≡◌, ◌≢◌, ◌⊎◌, inl, inr, ℕ, �
 use Rattle.hc_sparse.specs.declared.run.Run.{Run}
 use Rattle.hc_effects.proofs.Vocabulary.{is_denied, Event, Act, Why, Limits, accepted_acts, answer_acts, loss_acts, close_acts, may_begin, Entry, History, Contents, Flaw, Loses, flaw_in, Shown, first, shown_of, given_of, Move, Nothing, Asks, Opens, Gives, acts_of, move_of, ReadsAct, Says, Tables, Consumer, IsRun, tables, evicted, event, act, cause}
 use Rattle.hc_model.specs.Reads.{GivesNext}
-use Rattle.hc_effects.proofs.{ActParts.{IsAnswer, IsSaid, answer_is, said_is}, Basics.{append_none}, Owed.{IsDenied, is_denial, acts_are, goes}, ReadFilters.{consumers_are_filtered}, ShownOnce.{is_giving, unshown_gives}}
+use Rattle.hc_effects.proofs.{ActParts.{IsAnswer, IsSaid, answer_is, said_is}, Basics.{append_none}, Owed.{IsDenied, is_denial, acts_are, goes}, ReadFilters.{consumers_are_filtered}, ShownOnce.{is_giving, unshown_gives}, Step.{step_of}}
 use Rattle.hc_effects.proofs.ActParts as parts
 use Rattle.hc_laws.proofs.{OneHead.{one_head_is_shown}, ReadJoined.{next_of, joined_in_runs, is_told, fallback}, SoundRuns.{carried}}
 use Rattle.hc_effects.proofs.Owed as owed_acts
@@ -150,7 +150,7 @@ module _ (limits : Limits) (contents : Contents) (h : History) (e : Entry) (may 
   by_giver accepted_it g =
       let k = carried limits contents h may run.0 in
       let one = shown_one limits contents h run.0 c g.k g.row (shown_giver g g.k.shown refl) in
-      let next = next_of limits t e.now (flaw_in e.acts) k.is_sound k.is_owned e.event (goes limits t e run.1 accepted_it) (fallback limits contents h may run.0) (λ d. shown_of d h) (λ d. given_of d h) (is_told limits contents h run.0) (joined_in_runs limits contents h may run.0) c g.want g.k (record { x = x; at = at; bytes = bytes }) one.0 g.is_poll g.row g.move_is one.1 in (
+      let next = next_of (step_of limits t e.now (flaw_in e.acts) k.is_sound k.is_owned e.event (goes limits t e run.1 accepted_it)) (fallback limits contents h may run.0) (λ d. shown_of d h) (λ d. given_of d h) (is_told limits contents h run.0) (joined_in_runs limits contents h may run.0) c g.want g.k (record { x = x; at = at; bytes = bytes }) one.0 g.is_poll g.row g.move_is one.1 in (
         one.0,
         append_none (shown_of c h) ∙ one.1,
         record {

@@ -9,7 +9,7 @@ use Rattle.hc_fresh.specs.{Allowed.{allowed_by, is_validate, is_zero, is_older, 
 use Rattle.hc_record.specs.Head.{Head}
 use Rattle.hc_model.specs.{Histories.{Opened}, Reads.{IsReason, has_selected, selects_at, aims_at, allowed_on}}
 use Rattle.hc_laws.proofs.{Aimed.{IsAimed, aimed_begun, aimed_denied, aimed_kept}, Barred.{next_tables, denied_tables}, InRuns.{turned_in_runs}, JoinFilters.{exchanges_are_filtered}, PassedFrom.{validates, stood, busies, PassedFrom, passed_from}, RunFacts.{in_runs}, SoundRuns.{carried}, WhyShown.{ShownWhy}}
-use Rattle.hc_effects.proofs.{Basics.{false_true}, Forward.{is_on}, Joining.{mix}, OfEntries.{of_real}, ReadFilters.{consumers_are_filtered}, Said.{waiting_by}}
+use Rattle.hc_effects.proofs.{Basics.{false_true}, Forward.{is_on}, Joining.{mix}, OfEntries.{of_real}, ReadFilters.{consumers_are_filtered}, Said.{waiting_by}, Step.{Step, step_of}}
 use Rattle.hc_laws.proofs.WhyShown as shown_for
 
 -- WHAT FRESHNESS ALLOWS
@@ -45,7 +45,7 @@ pub aimed : OfRuns IsAimed
 aimed = in_runs (λ limits t. IsAimed t)
     (λ limits contents may. aimed_begun contents)
     (λ limits t e later a. aimed_denied t e a)
-    (λ limits t now flaw later c a ev going real. aimed_kept limits t now flaw c.is_sound c.is_owned ev going a)
+    (λ limits t now flaw later c a ev going real. aimed_kept (step_of limits t now flaw c.is_sound c.is_owned ev going) a)
 
 -- WHO KEEPS A 304
 
@@ -54,7 +54,9 @@ record IsKeeping (t : Tables) (selected : ℕ → ℕ → Bool) : Type 0 where
   chosen : (c r x : ℕ) (k : Consumer) → t.consumer c ≡ Some k → k.place ≡ place.Passed r (Some x) → selected x r ≡ true
   asker : (c r x : ℕ) (k : Consumer) → t.consumer c ≡ Some k → k.place ≡ place.Passed r (Some x) → IsFor t x c
 
-module _ (limits : Limits) (t : Tables) (now : ℕ) (flaw : Flaw) (s : Sound t) (o : Owners t) (turns : Turns t) (ev : Event) (goes : denial t ev ≡ None) (selected : ℕ → ℕ → Bool) (g : IsKeeping t selected) where
+module _ (step : Step) (turns : Turns step.tables) (selected : ℕ → ℕ → Bool) (g : IsKeeping step.tables selected) where
+  open step use {limits, tables as t, now, flaw, sound as s, event as ev, accepted as goes}
+
   abbrev e : Entry
   e = entry_of limits t now ev flaw
 
@@ -76,7 +78,7 @@ module _ (limits : Limits) (t : Tables) (now : ℕ) (flaw : Flaw) (s : Sound t) 
       let waits = turns.passed c had.0 (Some x) k row had.1 in
       had.1 ∙ ap (λ n. place.Passed n (Some x)) (some_inj had.0 r (sym waits.current_is ∙ (sym (ap (λ (q : Consumer). current t q.request.key) heard) ∙ is)))
 
-  chosen_by : (c r x : ℕ) (k : Consumer) (row : t.consumer c ≡ Some k) → is_denied e.acts ≡ false → PassedFrom limits t now flaw s o ev goes c r (Some x) k row → (selects_at t e x r || selected x r) ≡ true
+  chosen_by : (c r x : ℕ) (k : Consumer) (row : t.consumer c ≡ Some k) → is_denied e.acts ≡ false → PassedFrom step c r (Some x) k row → (selects_at t e x r || selected x r) ≡ true
   chosen_by c r x k row taken (stood at) = or_right (selects_at t e x r) (selected x r) (g.chosen c r x k row at)
   chosen_by c r x k row taken (validates y response w here there mine is aim kept) =
       let same : y ≡ x = sym (some_inj x y kept) in
@@ -85,7 +87,7 @@ module _ (limits : Limits) (t : Tables) (now : ℕ) (flaw : Flaw) (s : Sound t) 
       or_left (selects_at t e x r) (selected x r) (rw (taken, is, number, its) refl)
   chosen_by c r x k row taken (busies d told kept is) = or_right (selects_at t e x r) (selected x r) (g.chosen c r x k row (stood_busy c r x d k row told kept is))
 
-  asker_by : (c r x : ℕ) (k : Consumer) (row : t.consumer c ≡ Some k) → PassedFrom limits t now flaw s o ev goes c r (Some x) k row → IsFor now_on x c
+  asker_by : (c r x : ℕ) (k : Consumer) (row : t.consumer c ≡ Some k) → PassedFrom step c r (Some x) k row → IsFor now_on x c
   asker_by c r x k row (stood at) = for_on x c (g.asker c r x k row at)
   asker_by c r x k row (validates y response w here there mine is aim kept) =
       for_on x c (record { w = w; row = sym (ap t.exchange (sym (some_inj x y kept))) ∙ there; for_it = mine })
@@ -93,8 +95,8 @@ module _ (limits : Limits) (t : Tables) (now : ℕ) (flaw : Flaw) (s : Sound t) 
 
   keeping_on : is_denied e.acts ≡ false → IsKeeping now_on (λ x r. selects_at t e x r || selected x r)
   keeping_on taken = record {
-    chosen = λ c r x u after at. let p = passed_from limits t now flaw s o ev goes c r (Some x) u after at in chosen_by c r x p.k p.row taken p.from;
-    asker = λ c r x u after at. let p = passed_from limits t now flaw s o ev goes c r (Some x) u after at in asker_by c r x p.k p.row p.from;
+    chosen = λ c r x u after at. let p = passed_from step c r (Some x) u after at in chosen_by c r x p.k p.row taken p.from;
+    asker = λ c r x u after at. let p = passed_from step c r (Some x) u after at in asker_by c r x p.k p.row p.from;
   }
 
 abbrev Keeps : Contents → History → Type 0
@@ -113,7 +115,7 @@ keeping_by limits contents h e false taken may run owed g =
     let k = carried limits contents h may run in
     let turned = turned_in_runs limits contents h may run in
     subst (λ u. IsKeeping u (λ x r. has_selected contents x r (e ∷ h))) (next_tables contents h e taken)
-    (of_real limits t e (λ z. IsKeeping (after_accepted t z) (λ x r. selects_at t z x r || has_selected contents x r h)) owed taken (λ going real. keeping_on limits t e.now (flaw_in e.acts) k.is_sound k.is_owned turned.turns e.event going (λ x r. has_selected contents x r h) g real.taken))
+    (of_real limits t e (λ z. IsKeeping (after_accepted t z) (λ x r. selects_at t z x r || has_selected contents x r h)) owed taken (λ going real. keeping_on (step_of limits t e.now (flaw_in e.acts) k.is_sound k.is_owned e.event going) turned.turns (λ x r. has_selected contents x r h) g real.taken))
 
 keeps : (limits : Limits) (contents : Contents) (h : History) → may_begin limits contents ≡ true → IsRun limits contents h → Keeps contents h
 unfolding tables

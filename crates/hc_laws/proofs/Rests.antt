@@ -6,7 +6,7 @@ use Rattle.hc_text.specs.declared.names.MethodName.{MethodName}
 use Rattle.hc_fields.specs.FieldElements.{elements_in}
 use Rattle.hc_rules.specs.declared.length.Length.TheVariants as lengths
 use Rattle.hc_model.specs.Sound as sound
-use Rattle.hc_effects.proofs.{Forward.{IsOn}, AboutKeeps.{own_open_of}, ApartKeeps.{written_by}, Basics.{false_true, true_false, or_false, some_none}, Beside.{IsBeside}, BoundFrom.{BoundFrom, IsRow, IsFounded, bound_from}, Dues.{due_before}, ExchangeFrom.{IsHeaded}, FirstKeeps.{case_of_head, whole_200, replaced_200, is_new, came_kept, one_first_kept, founded_came}, HeadKeeps.{IsJoin}, LossBy.{IsReal}, Losses.{HasRest}, PartTold.{part_order}, ExclusiveWriters.{writer_some}, PieceKeeps.{eq_cases}, RepFrom.{was, founded, RepFrom, rep_from, IsKept, IsResumed}, ServedKeeps.{rest_by, still_rests, resumed_not, none_promised}, Waiters.{waiter_of}, WriterEnds.{all_stored}}
+use Rattle.hc_effects.proofs.{Forward.{IsOn}, AboutKeeps.{own_open_of}, ApartKeeps.{written_by}, Basics.{false_true, true_false, or_false, some_none}, Beside.{IsBeside}, BoundFrom.{BoundFrom, IsRow, IsFounded, bound_from}, Dues.{due_before}, ExchangeFrom.{IsHeaded}, FirstKeeps.{case_of_head, whole_200, replaced_200, is_new, came_kept, one_first_kept, founded_came}, HeadKeeps.{IsJoin}, LossBy.{IsReal}, Losses.{HasRest}, PartTold.{part_order}, ExclusiveWriters.{writer_some}, PieceKeeps.{eq_cases}, RepFrom.{was, founded, RepFrom, rep_from, IsKept, IsResumed}, ServedKeeps.{rest_by, still_rests, resumed_not, none_promised}, Waiters.{waiter_of}, WriterEnds.{all_stored}, Step.{Step}}
 use Rattle.hc_effects.proofs.BoundFrom as from
 use Rattle.hc_laws.proofs.{HadHeaded.{had_kept}, OwnNone.{IsShared, own_none, after_none}}
 use Rattle.hc_laws.proofs.TogetherHeads as together
@@ -40,7 +40,9 @@ joining_plain (Some case.FirstJoins) w response h = (refl, refl)
 joining_plain (Some case.LaterJoins) w response h = (refl, refl)
 joining_plain _ w response h = absurd (false_true h)
 
-module _ (limits : Limits) (t : Tables) (now : ℕ) (flaw : Flaw) (s : Sound t) (o : Owners t) (m : Measures t) (i : IsBeside t) (ev : Event) (goes : denial t ev ≡ None) (real : IsReal limits t now ev flaw) where
+module _ (step : Step) (m : Measures step.tables) (i : IsBeside step.tables) (real : IsReal step.limits step.tables step.now step.event step.flaw) where
+  open step use {limits, tables as t, now, flaw, sound as s, owners as o, event as ev, accepted as goes}
+
   abbrev e : Entry
   e = entry_of limits t now ev flaw
 
@@ -56,7 +58,7 @@ module _ (limits : Limits) (t : Tables) (now : ℕ) (flaw : Flaw) (s : Sound t) 
 
     -- an open exchange about r would be its own
     about_not : (x : ℕ) → sound.IsAbout now_on r x → ⊥
-    about_not x about = by_had (had_kept limits t now flaw s o m ev goes real r x p after about)
+    about_not x about = by_had (had_kept step m real r x p after about)
       where
         by_exclusive_writer : (d : ℕ) → IsExclusiveWriter now_on r p d → IsFirst now_on r d
         by_exclusive_writer d (sound.first fresh is) = is
@@ -84,13 +86,13 @@ module _ (limits : Limits) (t : Tables) (now : ℕ) (flaw : Flaw) (s : Sound t) 
       by_writing : is_written t v ≡ true → (z : Option ℕ) → v.writer ≡ z → Rested
       by_writing on None writer = absurd (writer_some t v on writer)
       by_writing on (Some x) writer = elim (bool_cases (is_open (now_on.exchange x))) [
-        | inr off ↦ rest_by limits t now flaw s o m ev goes real r c lo hi how u p after after_row stands (all_stored limits t now flaw s o m ev goes real r c x lo hi how k u v p row at stands there on writer before.1 kept (inl parts.0) off) hi refl
+        | inr off ↦ rest_by step m real r c lo hi how u p after after_row stands (all_stored step m real r c x lo hi how k u v p row at stands there on writer before.1 kept (inl parts.0) off) hi refl
         | inl still ↦ absurd (false_true (sym unwritten ∙ written_by now_on p x fresh_now (by_writer kept.writer_is) still))
       ]
         where
           by_writer : (p.writer ≡ v.writer) ⊎ IsResumed t e r v p.writer → p.writer ≡ Some x
           by_writer (inl same) = same ∙ writer
-          by_writer (inr R) = absurd (resumed_not limits t now flaw s o m ev goes real r c lo hi how u p after after_row stands k v row at there kept before.0 before.1 on x writer R)
+          by_writer (inr R) = absurd (resumed_not step m real r c lo hi how u p after after_row stands k v row at there kept before.0 before.1 on x writer R)
 
       -- it had none
       unowned_was : k.own ≡ None → Rested
@@ -99,7 +101,7 @@ module _ (limits : Limits) (t : Tables) (now : ℕ) (flaw : Flaw) (s : Sound t) 
         | inr off ↦
             let came_was : came_alone t (place.Bound r lo hi how) ≡ true = sym (came_kept limits t now flaw s ev goes r lo hi how (ap is_some there)) ∙ came in
             let rest = i.rested r c v k there parts.1 (sound.first k lo hi how row.row at came_was) (sound.is_bound lo hi how row.row at) before.0 none_own off in
-            still_rests limits t now flaw s o m ev goes real r c lo hi how u p after after_row stands k v row at there kept before.0 before.1 rest.hi rest.end rest.covered
+            still_rests step m real r c lo hi how u p after after_row stands k v row at there kept before.0 before.1 rest.hi rest.end rest.covered
       ]
 
       -- its exchange is written together from now on: it goes on, since it promises bytes
@@ -108,24 +110,24 @@ module _ (limits : Limits) (t : Tables) (now : ℕ) (flaw : Flaw) (s : Sound t) 
         | inl still ↦ about_not sh.x (sound.headed g.u g.row (sym (ap is_open g.row) ∙ still) (ap (λ (a : Option Response). is_some a) got.head_is) fam (ap is_some after))
         | inr off ↦
             let plain = joining_plain (case_at t e) sh.w sh.response joins in
-            let none_is : promise_in sh.w sh.response ≡ Some 0 = none_promised limits t now flaw s o m ev goes real r c lo hi how u p after after_row stands sh.x sh.response sh.w sh.at sh.row plain.0 plain.1 off in
+            let none_is : promise_in sh.w sh.response ≡ Some 0 = none_promised step m real r c lo hi how u p after after_row stands sh.x sh.response sh.w sh.at sh.row plain.0 plain.1 off in
             promises_some sh.w.need sh.w.request got.response joined.fills.from joined.fills.last joined.fills.total way.0 unheaded joined.fills.status joined.fills.part joined.good (ap (λ a. promise_of (length_of sh.w.need sh.w.request a)) answer ∙ none_is)
       ]
         where
           g : IsOn t e sh.x sh.w
-          g = together.on limits t now flaw s o ev goes r c lo hi how k u row at stands none sh
+          g = together.on step r c lo hi how k u row at stands none sh
 
           got : IsHeaded t e sh.x sh.w g.u
-          got = together.got limits t now flaw s o ev goes r c lo hi how k u row at stands none sh
+          got = together.got step r c lo hi how k u row at stands none sh
 
           joins : is_joining (case_at t e) ≡ true
-          joins = together.joins limits t now flaw s o ev goes r c lo hi how k u row at stands none sh
+          joins = together.joins step r c lo hi how k u row at stands none sh
 
           joined : IsJoin t sh.w got.response
-          joined = together.joined limits t now flaw s o ev goes r c lo hi how k u row at stands none sh
+          joined = together.joined step r c lo hi how k u row at stands none sh
 
           way : (route_of sh.w.need ≡ route.Hole) × (sh.w.aim ≡ Some r)
-          way = together.way limits t now flaw s o ev goes r c lo hi how k u row at stands none sh
+          way = together.way step r c lo hi how k u row at stands none sh
 
           answer : got.response ≡ sh.response
           answer = same_head sh.x sh.x got.response sh.response (sym got.at ∙ sh.at)
@@ -178,7 +180,7 @@ module _ (limits : Limits) (t : Tables) (now : ℕ) (flaw : Flaw) (s : Sound t) 
 
         by_own : (k.own ≡ None) ⊎ IsShared t e c → ⊥
         by_own (inl none_own) =
-            let all = waiter_of limits t now flaw s o ev goes x w exchange_row new.is_open new.bare in
+            let all = waiter_of step x w exchange_row new.is_open new.bare in
             none_some x (sym none_own ∙ (ap (λ (q : Consumer). q.own) (sym (same_row (t.consumer c) all.0 k (sym (ap t.consumer mine) ∙ all.1.row) row.row)) ∙ all.1.own))
         by_own (inr sh) =
             let same = head_same sh.x x sh.response response (sym sh.at ∙ here) in

@@ -3,7 +3,7 @@ use Rattle.std.{proofs.{Common.{◌≡◌, inl, inr, ℕ, ◌+◌, ◌≤◌, Li
 use Rattle.hc_text.proofs.Basics.{and_left, and_right, eq_tells as eq_is, not_some as none_some, some_inj}
 use Rattle.hc_effects.proofs.Vocabulary.{Event, Response, Limits, loses_in, may_begin, are_good, denial, Entry, Content, Contents, front, family, Flaw, entry_of, OfRunsIn, representation_heard, representation_after_head, with_renewed_head, updates, representation_after_piece, with_stored_bytes, with_total_if_none, length_in, Tables, Exchange, Representation, Sizes, Sound, IsStored, first_tables, representation_of_content, bytes_in, after_accepted, after_denied, event}
 use Rattle.hc_sparse.specs.Cells.{AreAbsent, nothing, size_below}
-use Rattle.hc_effects.proofs.{Basics.{false_true}, LossBy.{IsReal}, Once.{delivers_once}, PieceKeeps.{eq_cases}, RepFrom.{was, founded, RepFrom, rep_from}, Weighed.{sized}, GivenNext.{stored_ends}}
+use Rattle.hc_effects.proofs.{Basics.{false_true}, LossBy.{IsReal}, Once.{delivers_once}, PieceKeeps.{eq_cases}, RepFrom.{was, founded, RepFrom, rep_from}, Weighed.{sized}, GivenNext.{stored_ends}, Step.{step_of}}
 use Rattle.hc_laws.proofs.{FitsKept.{Fits, stored_small}, FitsRuns.{fits_begin, fits_denied, fits_kept}, MeasuresBegin.{ascending_item}, Positions.{below_none, below_past, below_put, bytes_below}, RunFacts.{in_runs}, SoundRuns.{IsCarried}}
 
 -- THE COUNT
@@ -63,14 +63,14 @@ module _ (limits : Limits) (t : Tables) (now : ℕ) (flaw : Flaw) (c : IsCarried
   small_by r u (was v kept) = elim (sized t e r v u kept) [
     | inl same ↦ let old : v.size ≤ limits.max_entry = g.sizes.small r v kept.row in let is : u.size ≡ v.size = same in omega arith
     | inr with_stored_bytes ↦
-        let most : v.size + length with_stored_bytes.bytes ≤ limits.max_entry = stored_small limits t now flaw c.is_sound c.is_owned c.is_measured g.fits ev goes real r v u kept.row with_stored_bytes in
+        let most : v.size + length with_stored_bytes.bytes ≤ limits.max_entry = stored_small (step_of limits t now flaw c.is_sound c.is_owned ev goes) c.is_measured g.fits real r v u kept.row with_stored_bytes in
         omega arith
   ]
   small_by r u (founded response w none at row on is) = let zero_is : 0 ≡ u.size = ap (λ (z : Representation). z.size) is in omega arith
 
   pub sized_kept : IsSized limits (after_accepted t e)
   sized_kept = record {
-    fits = fits_kept limits t now flaw c.is_sound c.is_owned c.is_measured g.fits ev goes real;
+    fits = fits_kept (step_of limits t now flaw c.is_sound c.is_owned ev goes) c.is_measured g.fits real;
     sizes = record {
       counted = λ r u row. after_counts t e c.is_sound goes r u (g.sizes.counted r) (rep_from t e r (t.representation r) u refl row);
       small = λ r u row. small_by r u (rep_from t e r (t.representation r) u refl row);

@@ -3,7 +3,7 @@ use Rattle.std.proofs.Common.{◌≡◌, List, [], ◌∷◌, Bool, true, false,
 use Rattle.hc_effects.proofs.Vocabulary.{is_denied, Act, Limits, Entry, flaw_in, entry_of, OfRuns, Measures, Owners, Tables, IsOwed, may_stand, Sound, tables, after, after_accepted}
 use Rattle.hc_model.specs.Sound.{RunsAreSound}
 use Rattle.hc_laws.proofs.{Begins.{begun_sound}, BesideKeeps.{beside_begun, beside_denied, beside_kept}, DeniedKeeps.{denied_sound, denied_owners, denied_measures}, GoAlone.{go_alone}, MeasuresBegin.{measures_begin}, OwnersKept.{owners_begun, owners_kept}, SoundKept.{sound_kept}, Starts.{starts}}
-use Rattle.hc_effects.proofs.{Beside.{IsBeside}, EndsKeep.{measures_kept}, LossBy.{IsReal}, Owed.{acts_are, goes}}
+use Rattle.hc_effects.proofs.{Beside.{IsBeside}, EndsKeep.{measures_kept}, LossBy.{IsReal}, Owed.{acts_are, goes}, Step.{step_of}}
 
 -- what is carried along a run
 pub record IsCarried (t : Tables) : Type 0 where
@@ -20,9 +20,9 @@ accepted_carried limits t e c owed not_denied =
     let stand : may_stand limits t (entry_of limits t e.now e.event (flaw_in e.acts)) ≡ true = ap (may_stand limits t) same ∙ owed.flaw in
     let real : IsReal limits t e.now e.event (flaw_in e.acts) = record { stand = stand; shown = ap flaw_in (sym acts); taken = ap is_denied (sym acts) ∙ not_denied } in
     subst (λ (z : Entry). IsCarried (after_accepted t z)) same (record {
-      is_sound = sound_kept limits t e.now (flaw_in e.acts) c.is_sound c.is_owned c.is_measured e.event going real (go_alone limits t e.now (flaw_in e.acts) c.is_sound c.is_owned c.is_measured c.beside e.event going real);
+      is_sound = sound_kept limits t e.now (flaw_in e.acts) c.is_sound c.is_owned c.is_measured e.event going real (go_alone (step_of limits t e.now (flaw_in e.acts) c.is_sound c.is_owned e.event going) c.is_measured c.beside real);
       is_owned = owners_kept limits t e.now (flaw_in e.acts) c.is_sound c.is_owned e.event going stand;
-      is_measured = measures_kept limits t e.now (flaw_in e.acts) c.is_sound c.is_owned c.is_measured e.event going;
+      is_measured = measures_kept (step_of limits t e.now (flaw_in e.acts) c.is_sound c.is_owned e.event going) c.is_measured;
       beside = beside_kept limits t e.now (flaw_in e.acts) c.is_sound c.is_owned c.is_measured c.beside e.event going real;
     })
 

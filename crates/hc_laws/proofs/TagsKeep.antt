@@ -12,7 +12,7 @@ use Rattle.hc_sparse.specs.Cells.{Cells, Covers, cells_with}
 use Rattle.hc_sparse.proofs.CellLemmas.{inside-cases}
 use Rattle.hc_model.specs.Origins as origins
 use Rattle.hc_model.specs.StoredHeads as heads
-use Rattle.hc_effects.proofs.{ApartKeeps.{written_by, is_on}, Basics.{false_true, some_none, number_is}, EndsKeep.{known_kept}, ExchangeFrom.{ExchangeFrom, exchange_from, IsHeaded}, FieldsKeep.{etag_kept}, Fills.{Fills, fills}, FirstKeeps.{case_is}, HeadKeeps.{is_join}, LossBy.{IsReal}, ExclusiveWriters.{writer_some}, RepFrom.{RepFrom, rep_from, IsKept, IsResumed}, WritingStops.{IsAll}}
+use Rattle.hc_effects.proofs.{ApartKeeps.{written_by, is_on}, Basics.{false_true, some_none, number_is}, EndsKeep.{known_kept}, ExchangeFrom.{ExchangeFrom, exchange_from, IsHeaded}, FieldsKeep.{etag_kept}, Fills.{Fills, fills}, FirstKeeps.{case_is}, HeadKeeps.{is_join}, LossBy.{IsReal}, ExclusiveWriters.{writer_some}, RepFrom.{RepFrom, rep_from, IsKept, IsResumed}, WritingStops.{IsAll}, Step.{step_of}}
 use Rattle.hc_laws.proofs.{DeniedKeeps.{written_same}, FoundedAs.{FoundedAs, founded_as}, HeadFrom.{joining_kept}, Lasting.{was_not_gone, not_lost, lasting}, OriginsKeep.{Brought, from_before, was_byte}, SoundRuns.{IsCarried}}
 use Rattle.hc_effects.proofs.ExchangeFrom as exchange
 use Rattle.hc_effects.proofs.Fills as fill
@@ -133,9 +133,9 @@ module _ (limits : Limits) (t : Tables) (now : ℕ) (flaw : Flaw) (c : IsCarried
 
   parts_by : (r : ℕ) (p : Representation) → now_on.representation r ≡ Some p → p.head.joining ≡ None → RepFrom t e r p → p.head.status ≢ 206
   parts_by r p after none (rep.was v kept) is = g.parts r v kept.row (untagged_before r v p kept none) (sym kept.status_is ∙ is)
-  parts_by r p after none (rep.founded response w none_there here row on made) is = by_way (founded_as limits t now flaw c.is_sound c.is_owned c.is_measured ev goes real r response w p here row on made after)
+  parts_by r p after none (rep.founded response w none_there here row on made) is = by_way (founded_as (step_of limits t now flaw c.is_sound c.is_owned ev goes) c.is_measured real r response w p here row on made after)
     where
-      by_way : FoundedAs limits t now flaw c.is_sound c.is_owned c.is_measured ev goes real r response w p here row on made after → ⊥
+      by_way : FoundedAs (step_of limits t now flaw c.is_sound c.is_owned ev goes) c.is_measured real r response w p here row on made after → ⊥
       by_way (founded.comes cells_with writer status) = whole_status r response w p made status is
       by_way (founded.empty status known) = whole_status r response w p made status is
       by_way (founded.part total status known fits) = tag_founded r response w p made none fits
@@ -150,7 +150,7 @@ module _ (limits : Limits) (t : Tables) (now : ℕ) (flaw : Flaw) (c : IsCarried
     unkeepable = rw none_before refl
 
     stays_whole : (total : ℕ) → v.head.total ≡ Some total → Covers v.stored 0 total → IsOfOne now_on p
-    stays_whole total known covered = heads.whole total (known_kept limits t now flaw c.is_sound c.is_owned c.is_measured ev goes r total v p kept known) (λ q lo hi. stored_stays t e r q v p (fills t e r v p kept) (covered q lo hi))
+    stays_whole total known covered = heads.whole total (known_kept (step_of limits t now flaw c.is_sound c.is_owned ev goes) c.is_measured r total v p kept known) (λ q lo hi. stored_stays t e r q v p (fills t e r v p kept) (covered q lo hi))
 
     module _ (x : ℕ) (on : is_written t v ≡ true) (status : v.head.status ≡ 200) (writer : v.writer ≡ Some x) where
       grows : (w : Exchange) × IsGrowing t r v x w
@@ -169,10 +169,10 @@ module _ (limits : Limits) (t : Tables) (now : ℕ) (flaw : Flaw) (c : IsCarried
 
       goes_on : (is_open (now_on.exchange r) ≡ true) ⊎ IsAll p → IsOfOne now_on p
       goes_on (inr all) = heads.whole all.total all.known all.covered
-      goes_on (inl still) = heads.comes (written_by now_on p r (kept.lost_is ∙ rw (not_lost limits t now flaw c.is_sound c.is_owned c.is_measured ev goes r v p kept.row kept not_gone, (is_on t v x on writer).kept) refl) (writer_now kept.writer_is) still) (kept.status_is ∙ status)
+      goes_on (inl still) = heads.comes (written_by now_on p r (kept.lost_is ∙ rw (not_lost (step_of limits t now flaw c.is_sound c.is_owned ev goes) c.is_measured r v p kept.row kept not_gone, (is_on t v x on writer).kept) refl) (writer_now kept.writer_is) still) (kept.status_is ∙ status)
 
       written_on : IsOfOne now_on p
-      written_on = goes_on (lasting limits t now flaw c.is_sound c.is_owned c.is_measured ev goes r v p kept.row kept not_gone unkeepable status on (writer ∙ ap Some mine))
+      written_on = goes_on (lasting (step_of limits t now flaw c.is_sound c.is_owned ev goes) c.is_measured r v p kept.row kept not_gone unkeepable status on (writer ∙ ap Some mine))
 
     by_writer : (z : Option ℕ) → v.writer ≡ z → is_written t v ≡ true → v.head.status ≡ 200 → IsOfOne now_on p
     by_writer None is on status = absurd (writer_some t v on is)
@@ -183,13 +183,13 @@ module _ (limits : Limits) (t : Tables) (now : ℕ) (flaw : Flaw) (c : IsCarried
     one_by (heads.comes on status) = by_writer v.writer refl on status
 
     still_one : IsOfOne now_on p
-    still_one = one_by (g.one r v kept.row (was_not_gone limits t now flaw c.is_sound c.is_owned c.is_measured ev goes r v p kept.row kept not_gone) none_before)
+    still_one = one_by (g.one r v kept.row (was_not_gone (step_of limits t now flaw c.is_sound c.is_owned ev goes) c.is_measured r v p kept.row kept not_gone) none_before)
 
   one_row : (r : ℕ) (p : Representation) → now_on.representation r ≡ Some p → p.is_gone ≡ false → p.head.joining ≡ None → RepFrom t e r p → IsOfOne now_on p
   one_row r p after not_gone none (rep.was v kept) = still_one r v p kept not_gone none
-  one_row r p after not_gone none (rep.founded response w none_there here row on made) = by_way (founded_as limits t now flaw c.is_sound c.is_owned c.is_measured ev goes real r response w p here row on made after)
+  one_row r p after not_gone none (rep.founded response w none_there here row on made) = by_way (founded_as (step_of limits t now flaw c.is_sound c.is_owned ev goes) c.is_measured real r response w p here row on made after)
     where
-      by_way : FoundedAs limits t now flaw c.is_sound c.is_owned c.is_measured ev goes real r response w p here row on made after → IsOfOne now_on p
+      by_way : FoundedAs (step_of limits t now flaw c.is_sound c.is_owned ev goes) c.is_measured real r response w p here row on made after → IsOfOne now_on p
       by_way (founded.comes cells_with writer status) = heads.comes cells_with (sym (ap (λ (z : Representation). z.head.status) made) ∙ status)
       by_way (founded.empty status known) = heads.whole 0 known (λ q lo hi. absurd (omega arith))
       by_way (founded.part total status known fits) = absurd (tag_founded r response w p made none fits)

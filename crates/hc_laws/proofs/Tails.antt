@@ -5,7 +5,7 @@ use Rattle.hc_sparse.specs.Cells.{Cells, inside, cells_with}
 use Rattle.hc_sparse.proofs.CellLemmas.{inside-cases}
 use Rattle.hc_effects.proofs.Vocabulary.{Opening, opening_in, Event, Response, base_of, Limits, BoundBy, loses_in, consumer_heard, denial, Entry, base, front, family, Flaw, entry_of, Measures, Owners, is_written, offset, own_open, Tables, Exchange, Representation, Consumer, Sound, IsBound, IsAbout, IsExclusiveWriter, IsHad, after_accepted, event, place}
 use Rattle.hc_model.specs.Sound as sound
-use Rattle.hc_effects.proofs.{AboutKeeps.{own_open_of, own_open_is}, ApartKeeps.{is_on}, Basics.{false_true}, Beside.{IsBeside}, BoundFrom.{IsRow}, Covers.{offset_more}, ExchangeFrom.{ExchangeFrom, exchange_from, IsSame}, Fills.{Fills, fills, IsPiece, brings, length_same}, FirstKeeps.{is_new}, LossBy.{IsReal}, MeasuresKeep.{piece_taken}, Once.{delivers_once}, OwnFrom.{OwnFrom, own_from}, OwnersKeep.{new_number}, ExclusiveWriters.{one_exclusive_writer}, RepFrom.{IsKept}, Stops.{writer_about}, Survives.{goes_on}}
+use Rattle.hc_effects.proofs.{AboutKeeps.{own_open_of, own_open_is}, ApartKeeps.{is_on}, Basics.{false_true}, Beside.{IsBeside}, BoundFrom.{IsRow}, Covers.{offset_more}, ExchangeFrom.{ExchangeFrom, exchange_from, IsSame}, Fills.{Fills, fills, IsPiece, brings, length_same}, FirstKeeps.{is_new}, LossBy.{IsReal}, MeasuresKeep.{piece_taken}, Once.{delivers_once}, OwnFrom.{OwnFrom, own_from}, OwnersKeep.{new_number}, ExclusiveWriters.{one_exclusive_writer}, RepFrom.{IsKept}, Stops.{writer_about}, Survives.{goes_on}, Step.{Step}}
 use Rattle.hc_effects.proofs.ExchangeFrom as exchange
 use Rattle.hc_effects.proofs.Fills as fills_by
 use Rattle.hc_laws.proofs.{GoAlone.{bare_front, stored_same, was_there, left_loses, lost_of, opens_undue}, ExclusiveWriterFrom.{ExclusiveWriterFrom, alone_from}}
@@ -35,7 +35,9 @@ fresh_tail t r x v k w s there fresh = record {
   of_r = λ lt. absurd (omega arith);
 }
 
-module _ (limits : Limits) (t : Tables) (now : ℕ) (flaw : Flaw) (s : Sound t) (o : Owners t) (m : Measures t) (i : IsBeside t) (ev : Event) (goes : denial t ev ≡ None) (real : IsReal limits t now ev flaw) where
+module _ (step : Step) (m : Measures step.tables) (i : IsBeside step.tables) (real : IsReal step.limits step.tables step.now step.event step.flaw) where
+  open step use {limits, tables as t, now, flaw, sound as s, owners as o, event as ev, accepted as goes}
+
   abbrev e : Entry
   e = entry_of limits t now ev flaw
 
@@ -46,7 +48,7 @@ module _ (limits : Limits) (t : Tables) (now : ℕ) (flaw : Flaw) (s : Sound t) 
 
   module _ (r x : ℕ) (k u : Consumer) (v p : Representation) (w z : Exchange) (there : t.representation r ≡ Some v) (kept : IsKept t e r v p) (lost : (v.is_lost || loses_in r e.acts) ≡ true) (more : offset t k ≤ offset now_on u) (row : t.exchange x ≡ Some w) (after_x : now_on.exchange x ≡ Some z) (same : IsSame t e x w z) (only : (y : ℕ) → IsAbout t r y → y ≡ x) (of_x : w.is_open ≡ true → is_some w.head ≡ true → family x w ≡ r) (tail : IsTail t r v k x w) where
     stored_at : (q : ℕ) → p.stored q ≡ v.stored q
-    stored_at q = ap (λ (f : Cells). f q) (stored_same limits t now flaw s o m i ev goes real r v p kept lost)
+    stored_at q = ap (λ (f : Cells). f q) (stored_same step m i real r v p kept lost)
 
     ahead_of : (q : ℕ) → offset now_on u ≤ q → offset t k ≤ q
     ahead_of q le = let a : offset t k ≤ offset now_on u = more in let b : offset now_on u ≤ q = le in omega arith
@@ -54,7 +56,7 @@ module _ (limits : Limits) (t : Tables) (now : ℕ) (flaw : Flaw) (s : Sound t) 
     -- a piece of r is its own
     own_piece : (y : ℕ) (bytes : List ℕ) (a : Exchange) → IsPiece t e r y bytes a → y ≡ x
     own_piece y bytes a is =
-        let taken = piece_taken limits t now flaw s o m ev goes y bytes a is.at is.row in
+        let taken = piece_taken step m y bytes a is.at is.row in
         only y (sound.headed a is.row taken.is_open taken.headed is.of_r (ap (λ (q : Option Representation). is_some q) there))
 
     unfilled : ((bytes : List ℕ) → ev ≡ event.Piece x bytes → ⊥) → p.body ≡ v.body
@@ -120,7 +122,7 @@ module _ (limits : Limits) (t : Tables) (now : ℕ) (flaw : Flaw) (s : Sound t) 
     by_brings still (fills_by.more bytes here body_is) =
         let first : base z ≡ base w = ap base_of (length_same w z same.need_is same.request_is still.0) in
         let count : length z.body ≡ length w.body + length bytes = ap (λ (b : List ℕ). length b) body_is ∙ length-append w.body bytes in
-        let taken = piece_taken limits t now flaw s o m ev goes x bytes w here row in
+        let taken = piece_taken step m x bytes w here row in
         let of_it = of_x taken.is_open taken.headed in
         pieced bytes here first (omega arith) (ap (λ (q : Option ℕ). unwrap_or q x) still.1) of_it (by_fills of_it (fills t e r v p kept))
       where
@@ -148,8 +150,8 @@ module _ (limits : Limits) (t : Tables) (now : ℕ) (flaw : Flaw) (s : Sound t) 
           of_r = λ lt. absurd (omega arith);
         }
 
-    step : IsTail now_on r p u x z
-    step = elim same.heard_or [ inl still ↦ by_brings still (brings t e x w z row after_x) | inr got ↦ by_head got ]
+    steps_to : IsTail now_on r p u x z
+    steps_to = elim same.heard_or [ inl still ↦ by_brings still (brings t e x w z row after_x) | inr got ↦ by_head got ]
 
   -- IN EACH WAY
 
@@ -175,7 +177,7 @@ module _ (limits : Limits) (t : Tables) (now : ℕ) (flaw : Flaw) (s : Sound t) 
       reader = sound.is_bound lo hi how row.row at
 
       more : offset t k ≤ offset now_on u
-      more = offset_more limits t now flaw s o m i ev goes real r c lo hi how k u row at stands
+      more = offset_more step m i real r c lo hi how k u row at stands
 
       lost_then : (v.is_lost || loses_in r e.acts) ≡ true
       lost_then = or_swap (loses_in r e.acts) v.is_lost (sym kept.lost_is ∙ lost_now)
@@ -205,24 +207,24 @@ module _ (limits : Limits) (t : Tables) (now : ℕ) (flaw : Flaw) (s : Sound t) 
           by_about (sound.headed q q_row q_on q_headed fam q_there) = ap (family x) (same_row (t.exchange x) w q w_row q_row) ∙ fam
           by_about (sound.asks q b d q_row q_on bare hole aim) = absurd (false_true (sym (ap (λ (h : Option Response). is_some h) (ap (λ (y : Exchange). y.head) (same_row (t.exchange x) w q w_row q_row) ∙ bare)) ∙ headed))
 
-      by_exclusive_writer : (w : Exchange) → k.own ≡ Some x → t.exchange x ≡ Some w → IsSame t e x w z → ExclusiveWriterFrom limits t now flaw s o m ev goes real r c v → IsTail now_on r p u x z
+      by_exclusive_writer : (w : Exchange) → k.own ≡ Some x → t.exchange x ≡ Some w → IsSame t e x w z → ExclusiveWriterFrom step m real r c v → IsTail now_on r p u x z
       by_exclusive_writer w mine w_row same (exclusive_writers.first fresh quiet is) = absurd (false_true (sym (kept.lost_is ∙ rw (quiet, fresh) refl) ∙ lost_now))
       by_exclusive_writer w mine w_row same (exclusive_writers.alone lost quiet is) =
-          step r x k u v p w z there kept lost_then more w_row after_x same (exclusive_writer_only (Rattle.hc_laws.proofs.GoAlone.unwritten_lost limits t now flaw s o m i ev goes real r c lo hi how u p after after_row stands lost_now is_alone k v row at there kept lost) (sound.alone lost is) mine) (of_own w mine w_row)
+          steps_to r x k u v p w z there kept lost_then more w_row after_x same (exclusive_writer_only (Rattle.hc_laws.proofs.GoAlone.unwritten_lost step m i real r c lo hi how u p after after_row stands lost_now is_alone k v row at there kept lost) (sound.alone lost is) mine) (of_own w mine w_row)
           (was.tail r c x v k w there is reader mine w_row)
       by_exclusive_writer w mine w_row same (exclusive_writers.wrote fresh loses writes) =
-          step r x k u v p w z there kept lost_then more w_row after_x same (exclusive_writer_only writes.unwritten (sound.first fresh writes.first) mine) (of_own w mine w_row) (fresh_tail t r x v k w s there fresh)
+          steps_to r x k u v p w z there kept lost_then more w_row after_x same (exclusive_writer_only writes.unwritten (sound.first fresh writes.first) mine) (of_own w mine w_row) (fresh_tail t r x v k w s there fresh)
       by_exclusive_writer w mine w_row same (exclusive_writers.survives losing is) =
-          let g = goes_on limits t now flaw s o m ev goes real r c v p u there losing is after after_row in
+          let g = goes_on step m real r c v p u there losing is after after_row in
           absurd (o.apart r x c v k there (and_right _ _ losing) (g.own_is ∙ ap Some (some_inj g.is.x x (sym g.is.own ∙ owned))) row.row mine)
 
       kept_tail : k.own ≡ Some x → ExchangeFrom t e x z → IsTail now_on r p u x z
-      kept_tail mine (exchange.was w w_row same) = by_exclusive_writer w mine w_row same (alone_from limits t now flaw s o m ev goes real r c v p there kept lost_now is_alone)
+      kept_tail mine (exchange.was w w_row same) = by_exclusive_writer w mine w_row same (alone_from step m real r c v p there kept lost_now is_alone)
       kept_tail mine (exchange.new q no_row opens number made) = absurd (false_true (sym (ap (λ (y : Option Exchange). is_some y) no_row) ∙ o.there c x k row.row mine))
 
       opened_tail : (q : Opening) → opening_in e.acts ≡ Some q → q.c ≡ c → q.x ≡ x → ExchangeFrom t e x z → IsTail now_on r p u x z
-      opened_tail q opens to_it number (exchange.was w w_row same) = absurd (none_some w (sym (new_number limits t now flaw s o ev goes q x opens number) ∙ w_row))
-      opened_tail q opens to_it number (exchange.new g no_row also here made) = bare_tail (opens_undue limits t now flaw s o m i ev goes real r c lo hi how u p after after_row stands lost_now is_alone k v row at there kept q opens to_it) (ap (λ (y : Exchange). y.head) (sym made)) (ap (λ (y : Exchange). y.body) (sym made))
+      opened_tail q opens to_it number (exchange.was w w_row same) = absurd (none_some w (sym (new_number step q x opens number) ∙ w_row))
+      opened_tail q opens to_it number (exchange.new g no_row also here made) = bare_tail (opens_undue step m i real r c lo hi how u p after after_row stands lost_now is_alone k v row at there kept q opens to_it) (ap (λ (y : Exchange). y.head) (sym made)) (ap (λ (y : Exchange). y.body) (sym made))
 
       -- the writing was left to it
       written_tail : is_written t v ≡ true → v.writer ≡ Some x → ExchangeFrom t e x z → IsTail now_on r p u x z
@@ -232,7 +234,7 @@ module _ (limits : Limits) (t : Tables) (now : ℕ) (flaw : Flaw) (s : Sound t) 
           by_growing all (exchange.new q no_row opens number made) = absurd (none_some all.0 (sym no_row ∙ all.1.row))
           by_growing all (exchange.was w w_row same) =
               let one : all.0 ≡ w = same_row (t.exchange x) all.0 w all.1.row w_row in
-              step r x k u v p w z there kept lost_then more w_row after_x same (λ y about. s.one_about r y x about (writer_about t r x v s there on writer)) (λ opened headed. ap (family x) (sym one) ∙ all.1.family_is) (fresh_tail t r x v k w s there (is_on t v x on writer).kept)
+              steps_to r x k u v p w z there kept lost_then more w_row after_x same (λ y about. s.one_about r y x about (writer_about t r x v s there on writer)) (λ opened headed. ap (family x) (sym one) ∙ all.1.family_is) (fresh_tail t r x v k w s there (is_on t v x on writer).kept)
 
       by_own : OwnFrom t e c x u → IsTail now_on r p u x z
       by_own (own.kept q its mine heard) = kept_tail (ap (λ (b : Consumer). b.own) (same_row (t.consumer c) k q row.row its.row) ∙ mine) (exchange_from t e x (t.exchange x) z refl after_x)
@@ -241,13 +243,13 @@ module _ (limits : Limits) (t : Tables) (now : ℕ) (flaw : Flaw) (s : Sound t) 
         where
           by_left : (q : Consumer) → t.consumer c ≡ Some q → own.IsLeft t e c x (consumer_heard t e c ev q).place → IsTail now_on r p u x z
           by_left q q_row l =
-              let both = left_loses limits t now flaw s o m i ev goes real r c lo hi how u p after after_row stands lost_now is_alone k v row at there kept x q q_row l in
-              let number = Rattle.hc_laws.proofs.GoAlone.left_number limits t now flaw s o m i ev goes real r c lo hi how u p after after_row stands lost_now is_alone k v row at there kept x q q_row l in
+              let both = left_loses step m i real r c lo hi how u p after after_row stands lost_now is_alone k v row at there kept x q q_row l in
+              let number = Rattle.hc_laws.proofs.GoAlone.left_number step m i real r c lo hi how u p after after_row stands lost_now is_alone k v row at there kept x q q_row l in
               written_tail both.0 (ap (λ (y : Representation). y.writer) (sym (same_row (t.representation r) l.v v (sym (ap t.representation number) ∙ l.row) there)) ∙ l.writer_is) (exchange_from t e x (t.exchange x) z refl after_x)
 
     tail_now : IsTail now_on r p u x z
     tail_now =
-        let b = was_there limits t now flaw s o m i ev goes real r c lo hi how u p after after_row stands lost_now is_alone in
+        let b = was_there step m i real r c lo hi how u p after after_row stands lost_now is_alone in
         by_own b.k b.v b.row b.at b.kept.row b.kept (own_from t e c x (t.consumer c) u refl after_row owned)
 
   pub tails_kept : AreTails t → Sound now_on → AreTails now_on
@@ -255,4 +257,4 @@ module _ (limits : Limits) (t : Tables) (now : ℕ) (flaw : Flaw) (s : Sound t) 
     where
       by_reader : (r c x : ℕ) (p : Representation) (u : Consumer) (z : Exchange) → now_on.representation r ≡ Some p → p.alone ≡ Some c → IsBound now_on r c u → u.own ≡ Some x → now_on.exchange x ≡ Some z → IsTail now_on r p u x z
       by_reader r c x p u z after is_alone (sound.is_bound lo hi how after_row stands) owned after_x =
-          tail_now was later r c x lo hi how u p z after after_row stands (lost_of limits t now flaw s o m i ev goes real r c p after is_alone) is_alone owned after_x
+          tail_now was later r c x lo hi how u p z after after_row stands (lost_of step m i real r c p after is_alone) is_alone owned after_x

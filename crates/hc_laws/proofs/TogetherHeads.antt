@@ -2,11 +2,13 @@
 use Rattle.std.proofs.Common.{◌≡◌, ◌⊎◌, inl, inr, ℕ, true, Option, Some, None, ap, sym, ◌∙◌}
 use Rattle.hc_text.proofs.Basics.{same_some as same_row}
 use Rattle.hc_effects.proofs.Vocabulary.{Event, route_of, Limits, BoundBy, case_at, is_joining, denial, Entry, Flaw, entry_of, Owners, Tables, Exchange, Consumer, Sound, route, place}
-use Rattle.hc_effects.proofs.{BoundFrom.{IsRow}, ExchangeFrom.{IsHeaded, IsSame}, FirstKeeps.{IsNew, is_new}, Forward.{IsOn, is_on}, HeadKeeps.{IsJoin}, Waiters.{IsWaiter, waiter_of}}
+use Rattle.hc_effects.proofs.{BoundFrom.{IsRow}, ExchangeFrom.{IsHeaded, IsSame}, FirstKeeps.{IsNew, is_new}, Forward.{IsOn, is_on}, HeadKeeps.{IsJoin}, Waiters.{IsWaiter, waiter_of}, Step.{Step}}
 use Rattle.hc_effects.proofs.HeadTo as to
 use Rattle.hc_laws.proofs.OwnNone.{IsShared}
 
-module _ (limits : Limits) (t : Tables) (now : ℕ) (flaw : Flaw) (s : Sound t) (o : Owners t) (ev : Event) (goes : denial t ev ≡ None) where
+module _ (step : Step) where
+  open step use {limits, tables as t, now, flaw, sound as s, event as ev, accepted as goes}
+
   abbrev e : Entry
   e = entry_of limits t now ev flaw
 
@@ -15,7 +17,7 @@ module _ (limits : Limits) (t : Tables) (now : ℕ) (flaw : Flaw) (s : Sound t) 
     new = is_new limits t now flaw s ev goes sh.x sh.response sh.w sh.at sh.row
 
     waits : (q : Consumer) × IsWaiter t sh.w.c sh.x q sh.w
-    waits = waiter_of limits t now flaw s o ev goes sh.x sh.w sh.row new.is_open new.bare
+    waits = waiter_of step sh.x sh.w sh.row new.is_open new.bare
 
     owned_k : k.own ≡ Some sh.x
     owned_k = let all = waits in ap (λ (q : Consumer). q.own) (sym (same_row (t.consumer c) all.0 k (sym (ap t.consumer sh.mine) ∙ all.1.row) row.row)) ∙ all.1.own
@@ -31,10 +33,10 @@ module _ (limits : Limits) (t : Tables) (now : ℕ) (flaw : Flaw) (s : Sound t) 
     got = by_heard on.u on.same on.same.heard_or
 
     pub joins : is_joining (case_at t e) ≡ true
-    joins = to.joins limits t now flaw s o ev goes r c sh.x lo hi how k u sh.w on.u row at stands none owned_k sh.row on.same got
+    joins = to.joins step r c sh.x lo hi how k u sh.w on.u row at stands none owned_k sh.row on.same got
 
     pub joined : IsJoin t sh.w got.response
-    joined = to.joined limits t now flaw s o ev goes r c sh.x lo hi how k u sh.w on.u row at stands none owned_k sh.row on.same got
+    joined = to.joined step r c sh.x lo hi how k u sh.w on.u row at stands none owned_k sh.row on.same got
 
     pub way : (route_of sh.w.need ≡ route.Hole) × (sh.w.aim ≡ Some r)
-    way = to.way limits t now flaw s o ev goes r c sh.x lo hi how k u sh.w on.u row at stands none owned_k sh.row on.same got
+    way = to.way step r c sh.x lo hi how k u sh.w on.u row at stands none owned_k sh.row on.same got

@@ -4,7 +4,7 @@ use Rattle.hc_text.proofs.Basics.{or_right, or_left, and_left, and_right, not_so
 use Rattle.hc_effects.proofs.Vocabulary.{Opening, opening_in, Event, Response, HeadCase, Limits, head_case, is_same_number, route_of, BoundBy, has_loss, loses_in, case_at, head_view, is_founding, is_joining, consumer_heard, consumer_acted, is_number, denial, Entry, exchange_in, is_for, is_open, becomes_due, cause_of_stop, cause_of_loss, cause_of_head, cause_by_case, stop_cause, Flaw, entry_of, Owners, IsAwaiting, is_written, source, reads, Tables, Exchange, Representation, Consumer, may_stand, Sound, IsBound, IsFirst, IsExclusiveWriter, after_accepted, loses_writing, event, case, route, place}
 use Rattle.hc_model.specs.Owners as owners
 use Rattle.hc_model.specs.Sound as sound
-use Rattle.hc_effects.proofs.{ApartKeeps.{IsOn, is_on, was_written}, Basics.{number_is, false_true, or_false}, BoundFrom.{BoundFrom, bound_from}, BoundKeeps.{founding_is}, Dues.{undue_of, stop_none, loss_at, loss_free, due_none}, ExchangeFrom.{ExchangeFrom, exchange_from}, FirstKeeps.{case_is, is_new, open_free}, FoundBy.{case_by, founding_by, founds_way}, MemberStays.{head_not}, OwnersKeep.{is_opened}, PieceKeeps.{eq_cases}, ExclusiveWriters.{writer_some}, RepFrom.{RepFrom, rep_from, IsKept, IsResumed}, Stops.{source_is}, HasBound.{joins_way}, Waiters.{IsWaiter, waiter_of, unwritten, waits_undue}}
+use Rattle.hc_effects.proofs.{ApartKeeps.{IsOn, is_on, was_written}, Basics.{number_is, false_true, or_false}, BoundFrom.{BoundFrom, bound_from}, BoundKeeps.{founding_is}, Dues.{undue_of, stop_none, loss_at, loss_free, due_none}, ExchangeFrom.{ExchangeFrom, exchange_from}, FirstKeeps.{case_is, is_new, open_free}, FoundBy.{case_by, founding_by, founds_way}, MemberStays.{head_not}, OwnersKeep.{is_opened}, PieceKeeps.{eq_cases}, ExclusiveWriters.{writer_some}, RepFrom.{RepFrom, rep_from, IsKept, IsResumed}, Stops.{source_is}, HasBound.{joins_way}, Waiters.{IsWaiter, waiter_of, unwritten, waits_undue}, Step.{Step}}
 use Rattle.hc_effects.proofs.BoundFrom as from
 use Rattle.hc_effects.proofs.ExchangeFrom as exchange
 use Rattle.hc_laws.proofs.FirstDueKeeps.{shown_due}
@@ -19,7 +19,9 @@ no_cause (Some case.FirstJoins) x h = refl
 no_cause (Some case.LaterJoins) x h = refl
 no_cause _ x h = absurd (false_true h)
 
-module _ (limits : Limits) (t : Tables) (now : ℕ) (flaw : Flaw) (s : Sound t) (o : Owners t) (ev : Event) (goes : denial t ev ≡ None) (stand : may_stand limits t (entry_of limits t now ev flaw) ≡ true) where
+module _ (step : Step) (stand : may_stand step.limits step.tables (entry_of step.limits step.tables step.now step.event step.flaw) ≡ true) where
+  open step use {limits, tables as t, now, flaw, sound as s, owners as o, event as ev, accepted as goes}
+
   abbrev e : Entry
   e = entry_of limits t now ev flaw
 
@@ -30,7 +32,7 @@ module _ (limits : Limits) (t : Tables) (now : ℕ) (flaw : Flaw) (s : Sound t) 
   row_of r c k (sound.is_bound lo hi how row at) = row
 
   head_opens : (x : ℕ) (response : Response) (p : Opening) → ev ≡ event.Head x response → opening_in e.acts ≡ Some p → ⊥
-  head_opens x response p here opens = let opened = is_opened limits t now flaw s o ev goes p opens in let no : event.Head x response ≡ event.Poll p.c opened.want = sym here ∙ opened.at in cc
+  head_opens x response p here opens = let opened = is_opened step p opens in let no : event.Head x response ≡ event.Poll p.c opened.want = sym here ∙ opened.at in cc
 
   unlosing : (r : ℕ) (v : Representation) → loses_in r e.acts ≡ false → loses_writing t e r v ≡ false
   unlosing r v kept = not_so _ (λ h. false_true (sym kept ∙ and_right _ _ (and_left _ _ h)))
@@ -64,7 +66,7 @@ module _ (limits : Limits) (t : Tables) (now : ℕ) (flaw : Flaw) (s : Sound t) 
     head_by y response None here exchange_row = refl
     head_by y response (Some w) here exchange_row = elim (eq_cases w.c c) [
       | inr off ↦ rw off.0 refl
-      | inl mine ↦ absurd (head_not limits t now flaw s o ev goes c r lo hi how a v row at there on y response w here exchange_row mine.1)
+      | inl mine ↦ absurd (head_not step c r lo hi how a v row at there on y response w here exchange_row mine.1)
     ]
 
     head_none : (z : Event) → ev ≡ z → cause_of_head t e c z ≡ None
@@ -101,13 +103,13 @@ module _ (limits : Limits) (t : Tables) (now : ℕ) (flaw : Flaw) (s : Sound t) 
   resumed_undue : (r c lo : ℕ) (hi : Option ℕ) (how : BoundBy) (v : Representation) (z : Option ℕ) (a : Consumer) → t.representation r ≡ Some v → IsResumed t e r v z → t.consumer c ≡ Some a → a.place ≡ place.Bound r lo hi how → (a.due ≡ None) × (becomes_due t e c a ≡ None)
   resumed_undue r c lo hi how v z a there R row at =
       let new = is_new limits t now flaw s ev goes R.x R.response R.w R.at R.row in
-      let got = waiter_of limits t now flaw s o ev goes R.x R.w R.row new.is_open new.bare in
+      let got = waiter_of step R.x R.w R.row new.is_open new.bare in
       let kept = or_false v.is_lost (loses_in r e.acts) (not_true (v.is_lost || loses_in r e.acts) (and_right _ _ R.renews)) in
       let g = head_case (head_view t (has_loss e.acts) R.w R.response) in
       let is_case = case_is t e R.x R.response R.w R.at R.row in
-      let hole : route_of R.w.need ≡ route.Hole = joins_way limits t now flaw s o ev goes stand t (has_loss e.acts) R.w R.response g (case_by (head_view t (has_loss e.acts) R.w R.response)) (sym (ap is_joining is_case) ∙ R.joins) in
+      let hole : route_of R.w.need ≡ route.Hole = joins_way step stand t (has_loss e.acts) R.w R.response g (case_by (head_view t (has_loss e.acts) R.w R.response)) (sym (ap is_joining is_case) ∙ R.joins) in
       let stands = resumed_place r R.x R.w got.0 got.1.at hole (number_is R.w.aim r (and_right _ (is_number R.w.aim r) (and_left _ _ R.renews))) in
-      let waits = waits_undue limits t now flaw s o ev goes r R.w.c R.x stands.0 stands.1 stands.2 v got.0 R.w got.1 stands.3 there in (
+      let waits = waits_undue step r R.w.c R.x stands.0 stands.1 stands.2 v got.0 R.w got.1 stands.3 there in (
         o.first_due r R.w.c c v got.0 a there kept.0 (none_lost r R.w.c v kept.0 waits.1) got.1.row waits.0 (sound.is_bound lo hi how row at),
         head_undue c R.x R.response a R.at (or_right _ _ R.joins) (loss_at t e c r lo hi how a v at there (unlosing r v kept.1)),
       )
@@ -124,8 +126,8 @@ module _ (limits : Limits) (t : Tables) (now : ℕ) (flaw : Flaw) (s : Sound t) 
       by_row : (z : Option Representation) → t.representation r ≡ z → is_some z ≡ true → (k.due ≡ None) × (becomes_due t e c k ≡ None)
       by_row None there some = absurd (false_true some)
       by_row (Some v) there some =
-          let off : loses_writing t e r v ≡ false = not_so _ (λ h. unwritten limits t now flaw s o ev goes c x k w is r lo hi how v v.writer stands there (and_right _ _ h) refl) in
-          ((waits_undue limits t now flaw s o ev goes r c x lo hi how v k w is stands there).0, head_undue c x response k here (or_left _ _ on) (loss_at t e c r lo hi how k v stands there off))
+          let off : loses_writing t e r v ≡ false = not_so _ (λ h. unwritten step c x k w is r lo hi how v v.writer stands there (and_right _ _ h) refl) in
+          ((waits_undue step r c x lo hi how v k w is stands there).0, head_undue c x response k here (or_left _ _ on) (loss_at t e c r lo hi how k v stands there off))
 
   -- EACH WAY TO BE BOUND
 
@@ -139,30 +141,30 @@ module _ (limits : Limits) (t : Tables) (now : ℕ) (flaw : Flaw) (s : Sound t) 
 
     by_old : (x : ℕ) (q v : Representation) → IsKept t e r q v → IsOn now_on v x → v.writer ≡ q.writer → v.writer ≡ Some x → BoundFrom t e c r lo hi how u → u.due ≡ None
     by_old x q v kept on same writer (from.stays a row at) =
-        let all = was_written limits t now flaw s o ev goes stand r x q v kept on same writer in
+        let all = was_written step stand r x q v kept on same writer in
         settle a row (member_undue r c x lo hi how q a kept.row all.0 all.1 all.2 on.open_now row.row at)
     by_old x q v kept on same writer (from.founds a y response w row here exchange_row mine of_r by_is all) = absurd (unfounded y response w q here exchange_row of_r kept.row)
     by_old x q v kept on same writer (from.opens a p row opens mine free way hole) =
-        let all = was_written limits t now flaw s o ev goes stand r x q v kept on same writer in
+        let all = was_written step stand r x q v kept on same writer in
         absurd (s.writes.has_bound r q kept.row all.0 (open_free limits t now flaw s ev goes c r a p row.row opens mine free way hole.current_is))
-    by_old x q v kept on same writer (from.shows a z row is all) = shown_due limits t now flaw s o ev goes c r lo hi how a u z row stands is all
+    by_old x q v kept on same writer (from.shows a z row is all) = shown_due step c r lo hi how a u z row stands is all
 
     by_resumed : (q v : Representation) → IsKept t e r q v → IsResumed t e r q v.writer → BoundFrom t e c r lo hi how u → u.due ≡ None
     by_resumed q v kept R (from.stays a row at) = settle a row (resumed_undue r c lo hi how q v.writer a kept.row R row.row at)
     by_resumed q v kept R (from.founds a y response w row here exchange_row mine of_r by_is all) = absurd (unfounded y response w q here exchange_row of_r kept.row)
     by_resumed q v kept R (from.opens a p row opens mine free way hole) = absurd (head_opens R.x R.response p R.at opens)
-    by_resumed q v kept R (from.shows a z row is all) = shown_due limits t now flaw s o ev goes c r lo hi how a u z row stands is all
+    by_resumed q v kept R (from.shows a z row is all) = shown_due step c r lo hi how a u z row stands is all
 
     by_founded : (response : Response) → ev ≡ event.Head r response → t.representation r ≡ None → BoundFrom t e c r lo hi how u → u.due ≡ None
     by_founded response here none (from.stays a row at) = absurd (let there = s.numbered.bound_to r c a (sound.is_bound lo hi how row.row at) in false_true (sym (ap (λ (z : Option Representation). is_some z) none) ∙ there))
     by_founded response here none (from.founds a y answer w row also exchange_row mine of_r by_is all) =
         let new = is_new limits t now flaw s ev goes y answer w also exchange_row in
-        let got = waiter_of limits t now flaw s o ev goes y w exchange_row new.is_open new.bare in
+        let got = waiter_of step y w exchange_row new.is_open new.bare in
         let one : got.0 ≡ a = same_row (t.consumer c) got.0 a (sym (ap t.consumer mine) ∙ got.1.row) row.row in
         let waiter : IsWaiter t c y a w = subst (λ (z : Consumer). IsWaiter t c y z w) one (subst (λ d. IsWaiter t d y got.0 w) mine got.1) in
         settle a row (founder_undue y c answer w a also exchange_row (founding_is t e c r lo hi how y answer w a (case_at t e) all) waiter waiter.at)
     by_founded response here none (from.opens a p row opens mine free way hole) = absurd (head_opens r response p here opens)
-    by_founded response here none (from.shows a z row is all) = shown_due limits t now flaw s o ev goes c r lo hi how a u z row stands is all
+    by_founded response here none (from.shows a z row is all) = shown_due step c r lo hi how a u z row stands is all
 
     by_rep : (x : ℕ) (v : Representation) → is_written now_on v ≡ true → v.writer ≡ Some x → RepFrom t e r v → BoundFrom t e c r lo hi how u → u.due ≡ None
     by_rep x v on writer (rep.was q kept) way = elim kept.writer_is [

@@ -4,7 +4,7 @@ use Rattle.hc_text.proofs.Basics.{and_left, and_right, not_some as none_some, ne
 use Rattle.hc_effects.proofs.Vocabulary.{Opening, closes_in, opening_in, Event, Response, is_same_number, Limits, BoundBy, case_at, must_close, is_refused, brings_head, is_doomed, has_no_survivor, is_left, leaver, leaver_by, consumer_heard, consumer_acted, is_number, denial, Unended, Entry, exchange_acted, exchange_heard, with_piece, exchange_in, family, is_open, is_reached, promised_bytes, becomes_due, stop_cause, Flaw, entry_of, OfRuns, Measures, IsMeasured, Owners, is_written, own_open, shared_exchange, source, reads, Tables, Exchange, Representation, Consumer, Sound, IsBound, IsFirst, IsGrowing, after_accepted, brings_body, came_alone, loses_writing, survivor, cause, event, place}
 use Rattle.hc_model.specs.Measures as measures
 use Rattle.hc_model.specs.Sound as sound
-use Rattle.hc_effects.proofs.{AboutKeeps.{IsOwn, own_open_of, own_open_is}, ApartKeeps.{is_on}, Basics.{false_true}, Beside.{IsBeside}, BoundFrom.{IsRow}, Closed.{before}, Dues.{due_before, undue_parts}, FirstKeeps.{is_new}, Forward.{after_is}, LossBy.{IsReal}, OwnFrom.{OwnFrom, own_from}, ExclusiveWriters.{writer_some}, PieceKeeps.{eq_cases}, RepFrom.{IsKept, IsEnded}, Said.{leaving_by}, SaidActs.{leaver_leaves}, Stops.{source_is}, Survives.{goes_on}, ToBeShown.{heard_place}, Unclosed.{had_to}, Waiters.{unleft, waiter_as}, WritingStops.{ended_total}, WriterEnds.{none_of}}
+use Rattle.hc_effects.proofs.{AboutKeeps.{IsOwn, own_open_of, own_open_is}, ApartKeeps.{is_on}, Basics.{false_true}, Beside.{IsBeside}, BoundFrom.{IsRow}, Closed.{before}, Dues.{due_before, undue_parts}, FirstKeeps.{is_new}, Forward.{after_is}, LossBy.{IsReal}, OwnFrom.{OwnFrom, own_from}, ExclusiveWriters.{writer_some}, PieceKeeps.{eq_cases}, RepFrom.{IsKept, IsEnded}, Said.{leaving_by}, SaidActs.{leaver_leaves}, Stops.{source_is}, Survives.{goes_on}, ToBeShown.{heard_place}, Unclosed.{had_to}, Waiters.{unleft, waiter_as}, WritingStops.{ended_total}, WriterEnds.{none_of}, Step.{Step, step_of}}
 use Rattle.hc_laws.proofs.{GoAlone.{lost_of, was_there, left_loses, unwritten_lost}, OpensLater.{opens_later}, OwnNone.{IsShared, own_none}, ExclusiveWriterFrom.{ExclusiveWriterFrom, alone_from}, RunFacts.{in_runs}}
 use Rattle.hc_effects.proofs.OwnFrom as own
 use Rattle.hc_laws.proofs.ExclusiveWriterFrom as exclusive_writers
@@ -38,7 +38,9 @@ endless t m r x v w there none row on headed of_r = by_measure (m.brings x w v r
       unpromised = none_too;
     }
 
-module _ (limits : Limits) (t : Tables) (now : ℕ) (flaw : Flaw) (s : Sound t) (o : Owners t) (m : Measures t) (i : IsBeside t) (ev : Event) (goes : denial t ev ≡ None) (real : IsReal limits t now ev flaw) where
+module _ (step : Step) (m : Measures step.tables) (i : IsBeside step.tables) (real : IsReal step.limits step.tables step.now step.event step.flaw) where
+  open step use {limits, tables as t, now, flaw, sound as s, owners as o, event as ev, accepted as goes}
+
   abbrev e : Entry
   e = entry_of limits t now ev flaw
 
@@ -65,7 +67,7 @@ module _ (limits : Limits) (t : Tables) (now : ℕ) (flaw : Flaw) (s : Sound t) 
     -- it doesn't leave
     cancels_not : ev ≡ event.Cancel c → ⊥
     cancels_not here =
-        let heard : u.place ≡ (consumer_heard t e c ev k).place = heard_place limits t now flaw s o ev goes c r lo None how k u (λ d want polls. let no : event.Cancel c ≡ event.Poll d want = sym here ∙ polls in cc) row in
+        let heard : u.place ≡ (consumer_heard t e c ev k).place = heard_place step c r lo None how k u (λ d want polls. let no : event.Cancel c ≡ event.Poll d want = sym here ∙ polls in cc) row in
         let over : (consumer_heard t e c (event.Cancel c) k).place ≡ place.Over = (let test : nat_eq c c ≡ true = grind (arith, nat_tests) in rw test refl) in
         let no : place.Over ≡ place.Bound r lo None how = sym over ∙ (sym (ap (λ z. (consumer_heard t e c z k).place) here) ∙ (sym heard ∙ stands)) in cc
 
@@ -113,7 +115,7 @@ module _ (limits : Limits) (t : Tables) (now : ℕ) (flaw : Flaw) (s : Sound t) 
         | inr other ↦ rw other.0 is.is_open
       ]
       heard_on (event.End y) here = elim (eq_cases y r) [
-        | inl same ↦ absurd (or_none v.head.total _ (sym (ended_total limits t now flaw s o m ev goes r v p kept (here ∙ ap event.End same.1)) ∙ none))
+        | inl same ↦ absurd (or_none v.head.total _ (sym (ended_total step m r v p kept (here ∙ ap event.End same.1)) ∙ none))
         | inr other ↦ rw other.0 is.is_open
       ]
       heard_on (event.Fault y) here = elim (eq_cases y r) [
@@ -144,7 +146,7 @@ module _ (limits : Limits) (t : Tables) (now : ℕ) (flaw : Flaw) (s : Sound t) 
         reads_own = ap (λ (q : Option ℕ). option_or q (shared_exchange t k.place)) opened_own
 
         off : is_written t v ≡ false
-        off = unwritten_lost limits t now flaw s o m i ev goes real r c lo None how u p after after_row stands lost_now is_alone k v row at there kept lost
+        off = unwritten_lost step m i real r c lo None how u p after after_row stands lost_now is_alone k v row at there kept lost
 
         head_there : is_some w.head ≡ true
         head_there = by_head w.head refl
@@ -165,17 +167,17 @@ module _ (limits : Limits) (t : Tables) (now : ℕ) (flaw : Flaw) (s : Sound t) 
             false_true (sym off ∙ and_right _ _ (and_right (is_number v.writer r) _ (and_left _ _ here)))
 
         goes_on_so : u.own ≡ Some r → own_open now_on u ≡ Some r
-        goes_on_so = still_own w feeds reads_own spares (unleft limits t now flaw s o ev goes c r k row.row own_of.own cancels_not row.leaves)
+        goes_on_so = still_own w feeds reads_own spares (unleft step c r k row.row own_of.own cancels_not row.leaves)
 
         -- it opens nothing else
         opens_none : (g : Opening) → opening_in e.acts ≡ Some g → g.c ≡ c → ⊥
-        opens_none g opens mine = none_some r (sym (opens_later limits t now flaw s o ev goes c r lo None how k g row.row at opens mine).at_hole.no_source ∙ reads_own)
+        opens_none g opens mine = none_some r (sym (opens_later step c r lo None how k g row.row at opens mine).at_hole.no_source ∙ reads_own)
 
         by_none : (k.own ≡ None) ⊎ IsShared t e c → ⊥
         by_none (inl none_own) = none_some r (sym none_own ∙ own_of.own)
         by_none (inr sh) =
             let new = is_new limits t now flaw s ev goes sh.x sh.response sh.w sh.at sh.row in
-            let mine = (waiter_as limits t now flaw s o ev goes c sh.x k sh.w row.row sh.row sh.mine new.is_open new.bare).own in
+            let mine = (waiter_as step c sh.x k sh.w row.row sh.row sh.mine new.is_open new.bare).own in
             let one : sh.w ≡ w = same_row (t.exchange r) sh.w w (sym (ap t.exchange (some_inj sh.x r (sym mine ∙ own_of.own))) ∙ sh.row) own_of.row in
             false_true (sym (ap (λ (q : Option Response). is_some q) (sym (ap (λ (q : Exchange). q.head) one) ∙ new.bare)) ∙ head_there)
 
@@ -183,7 +185,7 @@ module _ (limits : Limits) (t : Tables) (now : ℕ) (flaw : Flaw) (s : Sound t) 
         by_from x owned (own.kept q its mine heard_mine) =
             goes_on_so (owned ∙ ap Some (some_inj x r (sym (sym (ap (λ (a : Consumer). a.own) (same_row (t.consumer c) q k its.row row.row)) ∙ mine) ∙ own_of.own)))
         by_from x owned (own.opened q g its opens mine number) = absurd (opens_none g opens mine)
-        by_from x owned (own.left q its l) = absurd (false_true (sym off ∙ (left_loses limits t now flaw s o m i ev goes real r c lo None how u p after after_row stands lost_now is_alone k v row at there kept x q its.row l).0))
+        by_from x owned (own.left q its l) = absurd (false_true (sym off ∙ (left_loses step m i real r c lo None how u p after after_row stands lost_now is_alone k v row at there kept x q its.row l).0))
 
         went_on : own_open now_on u ≡ Some r
         went_on = by_own u.own refl
@@ -232,7 +234,7 @@ module _ (limits : Limits) (t : Tables) (now : ℕ) (flaw : Flaw) (s : Sound t) 
 
         survives : own_open now_on u ≡ Some r
         survives =
-            let g = goes_on limits t now flaw s o m ev goes real r c v p u there losing is after after_row in
+            let g = goes_on step m real r c v p u there losing is after after_row in
             let owned : u.own ≡ Some r = g.is.own ∙ (sym g.own_is ∙ (writer ∙ ap Some feeds_all.mine)) in
             still_own grows.0 feeds_r (source_is t r c x v k s there reader on writer ∙ ap Some feeds_all.mine) unlost (λ left. unleft_now (leaver b) refl left) owned
 
@@ -247,7 +249,7 @@ module _ (limits : Limits) (t : Tables) (now : ℕ) (flaw : Flaw) (s : Sound t) 
       by_writer losing is None writer = absurd (writer_some t v (and_right _ _ losing) writer)
       by_writer losing is (Some x) writer = survives losing is x writer
 
-      by_exclusive_writer : (v.is_lost ≡ true → v.alone ≡ Some c → own_open t k ≡ Some r) → ExclusiveWriterFrom limits t now flaw s o m ev goes real r c v → own_open now_on u ≡ Some r
+      by_exclusive_writer : (v.is_lost ≡ true → v.alone ≡ Some c → own_open t k ≡ Some r) → ExclusiveWriterFrom step m real r c v → own_open now_on u ≡ Some r
       by_exclusive_writer was (exclusive_writers.first fresh quiet is) = absurd (first_ends is)
       by_exclusive_writer was (exclusive_writers.alone lost quiet is) = went_on lost (was lost is)
       by_exclusive_writer was (exclusive_writers.wrote fresh loses writes) = absurd (first_ends writes.first)
@@ -255,14 +257,14 @@ module _ (limits : Limits) (t : Tables) (now : ℕ) (flaw : Flaw) (s : Sound t) 
 
   module _ (was : Unended t) (r c lo : ℕ) (how : BoundBy) (u : Consumer) (p : Representation) (after : now_on.representation r ≡ Some p) (is_alone : p.alone ≡ Some c) (after_row : now_on.consumer c ≡ Some u) (stands : u.place ≡ place.Bound r lo None how) (none : p.head.total ≡ None) (undue : u.due ≡ None) where
     lost_now : p.is_lost ≡ true
-    lost_now = lost_of limits t now flaw s o m i ev goes real r c p after is_alone
+    lost_now = lost_of step m i real r c p after is_alone
 
     kept_one : own_open now_on u ≡ Some r
     kept_one =
-        let a = was_there limits t now flaw s o m i ev goes real r c lo None how u p after after_row stands lost_now is_alone in
+        let a = was_there step m i real r c lo None how u p after after_row stands lost_now is_alone in
         by_exclusive_writer r c lo how a.k u a.v p a.row a.at stands a.kept.row a.kept none undue lost_now is_alone after after_row
         (λ lost alone_was. was.alone r c lo how a.v a.k a.kept.row alone_was a.row.row a.at (none_before r c lo how a.k u a.v p a.row a.at stands a.kept.row a.kept none undue) (dues r c lo how a.k u a.v p a.row a.at stands a.kept.row a.kept none undue).0)
-        (alone_from limits t now flaw s o m ev goes real r c a.v p a.kept.row a.kept lost_now is_alone)
+        (alone_from step m real r c a.v p a.kept.row a.kept lost_now is_alone)
 
   pub unended_kept : Unended t → Unended now_on
   unended_kept was = record { alone = λ r c lo how p u after is_alone after_row stands none undue. kept_one was r c lo how u p after is_alone after_row stands none undue }
@@ -271,4 +273,4 @@ pub unended_in_runs : OfRuns Unended
 unended_in_runs = in_runs (λ limits t. Unended t)
     (λ limits contents may. record { alone = λ r c lo how v k there is_alone row at none undue. absurd (none_some k row) })
     (λ limits t e later f. record { alone = f.alone })
-    (λ limits t now flaw later c f ev goes real. unended_kept limits t now flaw c.is_sound c.is_owned c.is_measured c.beside ev goes real f)
+    (λ limits t now flaw later c f ev goes real. unended_kept (step_of limits t now flaw c.is_sound c.is_owned ev goes) c.is_measured c.beside real f)

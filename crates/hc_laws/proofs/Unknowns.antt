@@ -4,7 +4,7 @@ use Rattle.hc_text.proofs.Basics.{not_some as none_some, some_inj}
 use Rattle.hc_effects.proofs.Vocabulary.{Event, Response, Limits, may_begin, is_kind_right, case_at, is_founding, denial, Entry, Content, Contents, is_open, Flaw, is_keepable, entry_of, item_of, AfterDenials, Measures, IsMeasured, Owners, is_written, covers, new_representation, asks_whole, hole_start, resumes, Tables, Exchange, Representation, Sound, IsGrowing, end_from, representation_of_content, first_tables, after_accepted, event}
 use Rattle.hc_model.specs.Gone.{refuses_ranges}
 use Rattle.hc_model.specs.Measures as measures
-use Rattle.hc_effects.proofs.{ApartKeeps.{written_by, is_on}, Basics.{false_true, some_none}, LossBy.{IsReal}, ExclusiveWriters.{writer_some}, RepFrom.{RepFrom, rep_from, IsKept, IsResumed, IsEnded}, WritingStops.{IsAll}}
+use Rattle.hc_effects.proofs.{ApartKeeps.{written_by, is_on}, Basics.{false_true, some_none}, LossBy.{IsReal}, ExclusiveWriters.{writer_some}, RepFrom.{RepFrom, rep_from, IsKept, IsResumed, IsEnded}, WritingStops.{IsAll}, Step.{Step}}
 use Rattle.hc_laws.proofs.{DeniedKeeps.{written_same}, MeasuresBegin.{known_item}, Lasting.{was_not_gone, not_lost, lasting}, FoundedAs.{part, empty, comes, FoundedAs, founded_as}, UnendedRuns.{or_none}}
 use Rattle.hc_effects.proofs.RepFrom as rep
 
@@ -38,7 +38,9 @@ unknown_denied t e u r v there not_gone none = let w = u r v there not_gone none
 
 -- AFTER AN ENTRY
 
-module _ (limits : Limits) (t : Tables) (now : ℕ) (flaw : Flaw) (s : Sound t) (o : Owners t) (m : Measures t) (unknown : Unknown t) (ev : Event) (goes : denial t ev ≡ None) (real : IsReal limits t now ev flaw) where
+module _ (step : Step) (m : Measures step.tables) (unknown : Unknown step.tables) (real : IsReal step.limits step.tables step.now step.event step.flaw) where
+  open step use {limits, tables as t, now, flaw, sound as s, event as ev}
+
   abbrev e : Entry
   e = entry_of limits t now ev flaw
 
@@ -54,7 +56,7 @@ module _ (limits : Limits) (t : Tables) (now : ℕ) (flaw : Flaw) (s : Sound t) 
         by_total (inr ends) = absurd (or_none v.head.total _ (sym ends.total_is ∙ none))
 
     was : IsOnlyWritten t v
-    was = unknown r v there (was_not_gone limits t now flaw s o m ev goes r v p there kept not_gone) none_before
+    was = unknown r v there (was_not_gone step m r v p there kept not_gone) none_before
 
     unkeepable : is_keepable v ≡ false
     unfolding is_keepable
@@ -82,7 +84,7 @@ module _ (limits : Limits) (t : Tables) (now : ℕ) (flaw : Flaw) (s : Sound t) 
           by_measure (measures.untold none_too unknown_too first alone was_at) = sym (ap (λ (n : Option ℕ). unwrap_or n x) alone) ∙ g.family_is
 
       still : is_open (now_on.exchange x) ≡ true
-      still = by_end (lasting limits t now flaw s o m ev goes r v p there kept not_gone unkeepable was.whole was.written (writer ∙ ap Some mine))
+      still = by_end (lasting step m r v p there kept not_gone unkeepable was.whole was.written (writer ∙ ap Some mine))
         where
           by_end : (is_open (now_on.exchange r) ≡ true) ⊎ IsAll p → is_open (now_on.exchange x) ≡ true
           by_end (inl on) = ap (λ n. is_open (now_on.exchange n)) mine ∙ on
@@ -100,7 +102,7 @@ module _ (limits : Limits) (t : Tables) (now : ℕ) (flaw : Flaw) (s : Sound t) 
           by_parts h = by_test (asks_whole (t.consumer R.w.c)) (covers v.stored v.reach 0 (hole_start R.w.need)) (v.size == hole_start R.w.need) (rw none_before at h)
 
       by_writer : IsOnlyWritten now_on p
-      by_writer = record { written = written_by now_on p x (kept.lost_is ∙ rw (not_lost limits t now flaw s o m ev goes r v p there kept not_gone, (is_on t v x was.written writer).kept) refl) (writer_now kept.writer_is) still; whole = kept.status_is ∙ was.whole }
+      by_writer = record { written = written_by now_on p x (kept.lost_is ∙ rw (not_lost step m r v p there kept not_gone, (is_on t v x was.written writer).kept) refl) (writer_now kept.writer_is) still; whole = kept.status_is ∙ was.whole }
 
     writes_on : (z : Option ℕ) → v.writer ≡ z → IsOnlyWritten now_on p
     writes_on None is = absurd (writer_some t v was.written is)
@@ -108,7 +110,7 @@ module _ (limits : Limits) (t : Tables) (now : ℕ) (flaw : Flaw) (s : Sound t) 
 
   -- WHAT IS FOUNDED
 
-  founded_by : (r : ℕ) (response : Response) (w : Exchange) (p : Representation) (here : ev ≡ event.Head r response) (row : t.exchange r ≡ Some w) (founding : is_founding (case_at t e) ≡ true) (made : new_representation r e response w ≡ p) (after : now_on.representation r ≡ Some p) → p.head.total ≡ None → FoundedAs limits t now flaw s o m ev goes real r response w p here row founding made after → IsOnlyWritten now_on p
+  founded_by : (r : ℕ) (response : Response) (w : Exchange) (p : Representation) (here : ev ≡ event.Head r response) (row : t.exchange r ≡ Some w) (founding : is_founding (case_at t e) ≡ true) (made : new_representation r e response w ≡ p) (after : now_on.representation r ≡ Some p) → p.head.total ≡ None → FoundedAs step m real r response w p here row founding made after → IsOnlyWritten now_on p
   founded_by r response w p here row founding made after none (comes on writer status) = record { written = on; whole = sym (ap (λ (q : Representation). q.head.status) made) ∙ status }
   founded_by r response w p here row founding made after none (empty status known) = absurd (none_some 0 (sym none ∙ known))
   founded_by r response w p here row founding made after none (part total status known fits) = absurd (none_some total (sym none ∙ known))
@@ -118,4 +120,4 @@ module _ (limits : Limits) (t : Tables) (now : ℕ) (flaw : Flaw) (s : Sound t) 
     where
       by_rep : RepFrom t e r p → IsOnlyWritten now_on p
       by_rep (rep.was v kept) = writes_on r v p kept.row kept not_gone none v.writer refl
-      by_rep (rep.founded response w none_there here row on made) = founded_by r response w p here row on made after none (founded_as limits t now flaw s o m ev goes real r response w p here row on made after)
+      by_rep (rep.founded response w none_there here row on made) = founded_by r response w p here row on made after none (founded_as step m real r response w p here row on made after)

@@ -3,7 +3,7 @@ use Rattle.std.{proofs.Common.{◌≡◌, ◌≢◌, ◌⊎◌, inl, inr, ℕ, L
 use Rattle.hc_effects.proofs.Vocabulary.{Wait, Response, Candidate, least, range_of, wanted_of, current, is_headless, OfRuns, WaitsEnd, WaitsForNobody, Owners, IsPast, plan_view, move_of, shows_at, shows_answer, shows_direct, if_headless, is_written, bound, own_open, Tables, Exchange, Representation, Consumer, Sound, IsBound, tables, wait, wanted, place}
 use Rattle.hc_model.specs.Moves as moves
 use Rattle.hc_model.specs.Owners as owners
-use Rattle.hc_effects.proofs.{AboutKeeps.{own_open_is}, Basics.{false_true, some_none}, Exclusives.{exclusive_parts}, HadKeeps.{among_least}, HasBound.{reader_of}, PollKeeps.{current_stays}, Said.{WaitsAs}, ShownFrom.{IsCandidate, candidate_is}, WaitedAs.{IsForOthers, waited_as}}
+use Rattle.hc_effects.proofs.{AboutKeeps.{own_open_is}, Basics.{false_true, some_none}, Exclusives.{exclusive_parts}, HadKeeps.{among_least}, HasBound.{reader_of}, PollKeeps.{current_stays}, Said.{WaitsAs}, ShownFrom.{IsCandidate, candidate_is}, WaitedAs.{IsForOthers, waited_as}, Step.{step_of}}
 use Rattle.hc_laws.proofs.{BusyPlans.{BusyBy, busy_by}, Going.{turns_go, readers_go}, InRuns.{turned_in_runs}, RunFacts.{in_runs}, SoundRuns.{IsCarried, carried}, Unknowns.{Unknown, unknown_begun, unknown_denied, unknown_kept}}
 use Rattle.hc_laws.proofs.BusyPlans as busy
 use Rattle.hc_effects.proofs.Said as said
@@ -87,7 +87,7 @@ module _ (t : Tables) (s : Sound t) (unknown : Unknown t) where
 
 -- what isn't gone and has no known length is being written
 pub unknown_in_runs : OfRuns Unknown
-unknown_in_runs = in_runs (λ limits t. Unknown t) (λ limits contents may. unknown_begun limits contents may) (λ limits t e later unknown. unknown_denied t e unknown) (λ limits t now flaw later c unknown ev goes real. unknown_kept limits t now flaw c.is_sound c.is_owned c.is_measured unknown ev goes real)
+unknown_in_runs = in_runs (λ limits t. Unknown t) (λ limits contents may. unknown_begun limits contents may) (λ limits t e later unknown. unknown_denied t e unknown) (λ limits t now flaw later c unknown ev goes real. unknown_kept (step_of limits t now flaw c.is_sound c.is_owned ev goes) c.is_measured unknown real)
 
 waits_end : (t : Tables) → IsCarried t → Rattle.hc_model.specs.Laws.Turns t → Unknown t → WaitsEnd t
 waits_end t c turns unknown = record {

@@ -1,5 +1,5 @@
 -- Readers are bound to what is there.
-use Rattle.hc_effects.proofs.{AboutKeeps.{own_about_kept}, BoundKeeps.{binds_kept}, FirstKeeps.{ends_kept, one_first_kept}, HasBound.{has_bound_kept}, ToBeShown.{unshown_kept}}
+use Rattle.hc_effects.proofs.{AboutKeeps.{own_about_kept}, BoundKeeps.{binds_kept}, FirstKeeps.{ends_kept, one_first_kept}, HasBound.{has_bound_kept}, ToBeShown.{unshown_kept}, Step.{step_of}}
 use Rattle.hc_laws.proofs.UndueKeeps.{undue_kept}
 use Rattle.hc_laws.proofs.laws.readers_are_bound.Goals as goal
 
@@ -13,13 +13,13 @@ pub returns-clause-ends : goal.returns-clause-ends
 returns-clause-ends c = λ limits t now flaw s event goes. ends_kept limits t now flaw s event goes
 
 pub returns-clause-shown : goal.returns-clause-shown
-returns-clause-shown c = λ limits t now flaw s o event goes. unshown_kept limits t now flaw s o event goes
+returns-clause-shown c = λ limits t now flaw s o event goes. unshown_kept (step_of limits t now flaw s o event goes)
 
 pub returns-clause-read : goal.returns-clause-read
-returns-clause-read c = λ limits t now flaw s o event goes stand. has_bound_kept limits t now flaw s o event goes stand
+returns-clause-read c = λ limits t now flaw s o event goes stand. has_bound_kept (step_of limits t now flaw s o event goes) stand
 
 pub returns-clause-undue : goal.returns-clause-undue
-returns-clause-undue c = λ limits t now flaw s o event goes stand. undue_kept limits t now flaw s o event goes stand
+returns-clause-undue c = λ limits t now flaw s o event goes stand. undue_kept (step_of limits t now flaw s o event goes) stand
 
 pub returns-clause-about : goal.returns-clause-about
-returns-clause-about c = λ limits t now flaw s o event goes stand. own_about_kept limits t now flaw s o event goes stand
+returns-clause-about c = λ limits t now flaw s o event goes stand. own_about_kept (step_of limits t now flaw s o event goes) stand

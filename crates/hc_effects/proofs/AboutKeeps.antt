@@ -1,7 +1,7 @@
 -- The open exchange of who is bound is about what that is bound to.
 use Rattle.std.{proofs.{lemmas.Bool.Decides.{nat_tests}, Common.{arith, ◌≡◌, ◌⊎◌, inl, inr, ℕ, Bool, true, Option, Some, None, refl, ap, sym, ◌∙◌}}, specs.{Prelude.{if◌then◌else◌, is_some, unwrap_or}, Option.{option_and_then}}}
 use Rattle.hc_text.proofs.Basics.{not_some as none_some, same_some as same_row}
-use Rattle.hc_effects.proofs.Vocabulary.{Event, Response, Limits, BoundBy, consumer_heard, denial, Entry, is_open, family, Flaw, entry_of, Owners, IsAwaiting, Awaits, own_open, if_open, Tables, Exchange, Consumer, may_stand, Sound, IsBound, IsAbout, after_accepted, event, place}
+use Rattle.hc_effects.proofs.Vocabulary.{Response, BoundBy, consumer_heard, Entry, is_open, family, entry_of, IsAwaiting, Awaits, own_open, if_open, Tables, Exchange, Consumer, may_stand, IsBound, IsAbout, after_accepted, event, place}
 use Rattle.hc_model.specs.Owners as owners
 use Rattle.hc_model.specs.Sound as sound
 use Rattle.hc_effects.proofs.{Basics.{false_true}, ExchangeFrom.{ExchangeFrom, IsSame, IsHeaded, exchange_from}, FirstKeeps.{is_new}, HeadedAs.{HeadedAs, headed_as, heard_at}, OpensFrom.{hole_is}, OwnFrom.{OwnFrom, IsRow, IsLeft, own_from}, OwnersKeep.{new_number, one_kept, left_writing}, ReadingKeeps.{reader_stays, head_some, unpolled, left_body}, WaitingKeeps.{waiting_kept}, Step.{Step}}

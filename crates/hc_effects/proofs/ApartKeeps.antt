@@ -1,7 +1,7 @@
 -- The exchange of a writing that is on is nobody's own.
 use Rattle.std.{proofs.{Common.{◌≡◌, inl, inr, ℕ, Bool, true, false, Option, Some, None, refl, ap, sym, ◌∙◌, subst, arith}, lemmas.Bool.Decides.{nat_tests}}, specs.Prelude.{is_some, ◌&&◌, ◌||◌, ◌==◌, not, nat_eq}}
 use Rattle.hc_text.proofs.Basics.{both_true as both, and_left, and_right, not_some as none_some, not_true, same_some as same_row, some_inj}
-use Rattle.hc_effects.proofs.Vocabulary.{Event, Response, HeadCase, Limits, has_loss, loses_in, case_at, head_view, is_founding, is_joining, consumer_heard, by_head, becomes_shared, is_resumed, is_number, row_of, denial, Entry, family, is_open, Flaw, entry_of, Owners, is_written, is_open_writer, resumes, writer_at, Tables, Exchange, Representation, Consumer, may_stand, Sound, after_accepted, event, case}
+use Rattle.hc_effects.proofs.Vocabulary.{Response, HeadCase, has_loss, loses_in, case_at, head_view, is_founding, is_joining, consumer_heard, by_head, becomes_shared, is_resumed, is_number, row_of, Entry, family, is_open, entry_of, is_written, is_open_writer, resumes, writer_at, Tables, Exchange, Representation, Consumer, may_stand, after_accepted, event, case}
 use Rattle.hc_effects.proofs.{Basics.{false_true, or_false, number_is}, ExchangeFrom.{ExchangeFrom, exchange_from}, FirstKeeps.{case_of_head, is_new}, FoundBy.{CaseBy}, LossStands.{no_loss}, OwnFrom.{OwnFrom, own_from}, OwnersKeep.{is_opened, left_writing, new_number}, RepFrom.{RepFrom, rep_from, IsKept, IsResumed}, Step.{Step}}
 use Rattle.hc_effects.proofs.ExchangeFrom as exchange
 use Rattle.hc_effects.proofs.FoundBy as cases

@@ -1,7 +1,7 @@
 -- Whoever is bound and waits for no head goes on reading until it leaves.
 use Rattle.std.{proofs.{Common.{◌≡◌, inl, inr, ℕ, Bool, true, false, Option, Some, None, refl, ap, sym, ◌∙◌, arith}, lemmas.Bool.Decides.{nat_tests}}, specs.Prelude.{if◌then◌else◌, is_none, ◌&&◌, ◌==◌, not, nat_eq}}
 use Rattle.hc_text.proofs.Basics.{and_left, and_right, bool_cases, not_some as none_some, same_some as same_row}
-use Rattle.hc_effects.proofs.Vocabulary.{Opening, opening_in, leaves_in, Event, Response, Wait, Limits, Place, BoundBy, Showing, showing_in, wait_in, case_of, consumer_heard, consumer_acted, by_head, by_fault, by_opening, shown_place, waiting, due_after, denial, Entry, exchange_at, is_for, is_headless, Flaw, entry_of, Owners, bound_to, Tables, Exchange, Consumer, Sound, starts_over, waits_at, sends_back, loses_what_it_waits_for, after_accepted, event, place, by}
+use Rattle.hc_effects.proofs.Vocabulary.{Opening, opening_in, leaves_in, Event, Response, Wait, Place, BoundBy, Showing, showing_in, wait_in, case_of, consumer_heard, consumer_acted, by_head, by_fault, by_opening, shown_place, waiting, due_after, denial, Entry, exchange_at, is_for, is_headless, entry_of, bound_to, Tables, Exchange, Consumer, starts_over, waits_at, sends_back, loses_what_it_waits_for, after_accepted, event, place, by}
 use Rattle.hc_effects.proofs.{Basics.{false_true}, FirstKeeps.{is_new}, Forward.{is_kept}, PieceKeeps.{eq_cases}, Said.{waiting_by}, WaitedAs.{IsForOthers, waited_as}, Waiters.{fault_open_of}, StaysOn.{settled, stays_by, waits_where}, Step.{Step}}
 
 pub none_of : (q : Option Response) → is_none q ≡ true → q ≡ None

@@ -3,7 +3,7 @@ use Rattle.std.{proofs.Common.{◌≡◌, ◌⊎◌, inl, inr, ℕ, ◌+◌, ◌
 use Rattle.hc_text.proofs.Basics.{same_some as same_row, some_inj, lt_or as split}
 use Rattle.hc_sparse.specs.Cells.{Cells, Cell, Covers, cells_with}
 use Rattle.hc_sparse.proofs.CellLemmas.{inside-yes}
-use Rattle.hc_effects.proofs.Vocabulary.{Opening, opening_in, given_in, Need, Event, Response, Limits, BoundBy, consumer_heard, consumer_acted, denial, Entry, aim_from, base, front, family, Flaw, entry_of, Measures, Owners, bound, offset, lo_of, reads, hole_start, Tables, Exchange, Representation, Consumer, Sound, IsBound, IsAbout, IsExclusiveWriter, after_accepted, need, event, place}
+use Rattle.hc_effects.proofs.Vocabulary.{Opening, opening_in, given_in, Need, Response, BoundBy, consumer_heard, consumer_acted, Entry, aim_from, base, front, family, entry_of, Measures, bound, offset, lo_of, reads, hole_start, Tables, Exchange, Representation, Consumer, IsBound, IsAbout, IsExclusiveWriter, after_accepted, need, event, place}
 use Rattle.hc_model.specs.Sound as sound
 use Rattle.hc_effects.proofs.{AboutKeeps.{own_open_is}, Basics.{false_true}, Beside.{IsBeside, goes_on_at}, BoundFrom.{IsRow}, ConsumerFilters.{acted}, Dues.{due_before}, ExchangeFrom.{IsSame, IsHeaded}, Fills.{Fills, fills, Brings, brings}, FirstKeeps.{is_new, is_opener}, HeadTo.{front_within}, LossBy.{IsReal}, MeasuresKeep.{IsHeld, held, piece_taken}, OpensFrom.{IsHole, opens_hole}, ExclusiveWriters.{bound_some}, PollTree.{OpensHole}, RepFrom.{IsKept}, Stays.{bodies_are_kept}, Step.{Step}}
 use Rattle.hc_effects.proofs.Fills as fills_by

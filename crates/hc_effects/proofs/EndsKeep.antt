@@ -1,8 +1,8 @@
 -- What a consumer reads ends within the length of its body, where the end is known; and so all measures stay.
-use Rattle.std.{proofs.{lemmas.Bool.Decides.{nat_tests}, Common.{◌≡◌, ℕ, ◌≤◌, false, Option, Some, None, refl, ap, sym, ◌∙◌, subst, arith}}, specs.Prelude.{is_some, nat_eq}}
+use Rattle.std.{proofs.{lemmas.Bool.Decides.{nat_tests}, Common.{◌≡◌, ℕ, ◌≤◌, false, Option, Some, refl, ap, sym, ◌∙◌, subst, arith}}, specs.Prelude.{is_some, nat_eq}}
 use Rattle.hc_text.proofs.Basics.{not_some as none_some, number_not, same_some as same_row, some_inj}
 use Rattle.hc_range.specs.declared.range.{Asked.{Asked}, Span.{Span}}
-use Rattle.hc_effects.proofs.Vocabulary.{opening_in, Event, Response, HeadCase, Limits, range_of, wanted_of, BoundBy, Showing, showing_in, case_at, consumer_heard, by_opening, waiting, denial, Entry, promise_in, Flaw, founded_total, entry_of, Measures, Owners, move_of, reads, Tables, Exchange, Representation, Consumer, Sound, after_accepted, event, case, wanted, place}
+use Rattle.hc_effects.proofs.Vocabulary.{opening_in, Response, HeadCase, range_of, wanted_of, BoundBy, Showing, showing_in, case_at, consumer_heard, by_opening, waiting, Entry, promise_in, founded_total, entry_of, Measures, move_of, reads, Tables, Exchange, Representation, Consumer, after_accepted, event, case, wanted, place}
 use Rattle.hc_model.specs.Measures.{EndsWithin}
 use Rattle.hc_model.specs.Sound as sound
 use Rattle.hc_effects.proofs.{Basics.{false_true}, BoundFrom.{BoundFrom, IsRow, IsInterval, IsShown, IsFounded, bound_from}, BoundKeeps.{shown_place_is}, FirstKeeps.{case_of_head, whole_200, replaced_200, is_new}, MeasuresKeep.{brings_kept, tight_kept, within_kept}, RepFrom.{RepFrom, rep_from, IsKept, IsEnded}, Said.{IsShowing, showing_by}, ShownFrom.{ShownAs, shown_from}, Step.{Step}}

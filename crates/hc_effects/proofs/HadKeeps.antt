@@ -1,7 +1,7 @@
 -- Whose an open exchange is that is about a representation: the writing's, or the exclusive writer's.
 use Rattle.std.{proofs.{Common.{◌≡◌, ◌⊎◌, inl, inr, ℕ, List, [], ◌∷◌, Bool, true, false, cond, Option, Some, None, refl, ap, sym, ◌∙◌, subst, arith}, lemmas.Bool.Decides.{nat_tests}}, specs.{Prelude.{is_some, is_none, map, filter}, Option.{option_or}}}
 use Rattle.hc_text.proofs.Basics.{both_true as and_both, and_left, and_right, bool_cases, not_some as none_some, never_true as not_so, or_left, or_right, same_some as same_row, some_inj}
-use Rattle.hc_effects.proofs.Vocabulary.{Opening, opening_in, leaves_in, Event, Response, Limits, Member, least, lesser, route_of, stands_at, BoundBy, loses_in, has_loss, is_joining, is_left, is_left_by, has_no_survivor, leaver, leaver_by, consumer_heard, consumer_acted, by_opening, own_after, left_to, waiting, due_after, back_in_line, is_number, denial, Entry, aim_from, exchange_in, is_open, family, becomes_due, cause_of_stop, cause_of_loss, cause_by_loss, cause_of_head, stop_cause, Flaw, entry_of, Measures, Owners, IsAwaiting, move_of, is_written, bound, bound_to, own_open, reads, source, shared_exchange, Tables, Exchange, Representation, Consumer, Sound, Among, IsBound, IsAbout, IsHad, IsExclusiveWriter, IsFirst, starts_over, after_accepted, brings_body, came_alone, loses_writing, survivor, member, may_write, event, route, place}
+use Rattle.hc_effects.proofs.Vocabulary.{Opening, opening_in, leaves_in, Event, Response, Member, least, lesser, route_of, stands_at, BoundBy, loses_in, has_loss, is_joining, is_left, is_left_by, has_no_survivor, leaver, leaver_by, consumer_heard, consumer_acted, by_opening, own_after, left_to, waiting, due_after, back_in_line, is_number, Entry, aim_from, exchange_in, is_open, family, becomes_due, cause_of_stop, cause_of_loss, cause_by_loss, cause_of_head, stop_cause, entry_of, Measures, IsAwaiting, move_of, is_written, bound, bound_to, own_open, reads, source, shared_exchange, Tables, Exchange, Representation, Consumer, Among, IsBound, IsAbout, IsHad, IsExclusiveWriter, IsFirst, starts_over, after_accepted, brings_body, came_alone, loses_writing, survivor, member, may_write, event, route, place}
 use Rattle.hc_model.specs.Owners as owners
 use Rattle.hc_model.specs.Sound as sound
 use Rattle.hc_effects.proofs.{AboutKeeps.{own_open_of, own_open_is}, ApartKeeps.{written_by, is_on}, Basics.{false_true, some_none, number_is, number_yes}, BoundStays.{Stays, bound_stays}, Closed.{before}, Dues.{undue_of, stop_none, loss_at, due_none}, ExchangeFrom.{IsSame}, FirstKeeps.{came_kept, case_is, is_new}, HasBound.{not_must, reader_of}, HeadKeeps.{is_join}, Losses.{exclusive_is}, LossBy.{IsReal, sealed_loss, seals_one, fresh}, OpensFrom.{opens_hole, hole_is}, OwnersKeep.{is_opened}, ExclusiveWriters.{writer_some, bound_some}, RepFrom.{RepFrom, rep_from, IsKept, IsResumed}, Said.{IsOpening, opening_by, leaving_by}, SaidActs.{leaves_leaver}, ServedKeeps.{lost_alone, kept_alone, over}, Stops.{writer_about}, WaitingKeeps.{stands, stays_on, unmet}, Waiters.{IsWaiter, waiter_of, unwritten, head_is_own, waits_undue}, WriterEnds.{loses_same}, StaysOn.{unopened}, Step.{Step}}

@@ -1,7 +1,7 @@
 -- What is being written for several has a reader.
 use Rattle.std.{proofs.{Common.{◌≡◌, ◌≢◌, ◌⊎◌, inl, inr, ℕ, List, [], ◌∷◌, Bool, true, false, Option, Some, None, refl, ap, sym, ◌∙◌, subst, arith}, lemmas.Bool.Decides.{nat_tests}}, specs.{Prelude.{◌&&◌, ◌||◌, ◌==◌, not, nat_eq, filter}, List.{list_all}}}
 use Rattle.hc_text.proofs.Basics.{or_left, some_same as number_of, and_left, and_right, bool_cases, not_some as none_some, never_true as not_so, or_right}
-use Rattle.hc_effects.proofs.Vocabulary.{leaves_in, closes_in, Event, Response, HeadCase, Limits, Place, BoundBy, case_at, head_view, is_founding, is_joining, must_close, is_left, is_left_by, leaver, leaver_by, consumer_heard, consumer_acted, becomes_shared, by_head, place_by_case, due_after, is_number, denial, doomed_key_of, doomed_in, doomed_by_head, doomed_by_case, is_key, Entry, exchange_heard, exchange_acted, promise_in, is_open, Flaw, entry_of, Owners, IsAwaiting, is_written, is_bound, is_bound_place, bound, shared_exchange, Tables, Exchange, Representation, Consumer, may_stand, Sound, Numbered, Among, IsBound, starts_over, sends_back, after_accepted, route_of, head_case, has_loss, writer_at, event, case, place, by, route}
+use Rattle.hc_effects.proofs.Vocabulary.{leaves_in, closes_in, Event, Response, HeadCase, Place, BoundBy, case_at, head_view, is_founding, is_joining, must_close, is_left, is_left_by, leaver, leaver_by, consumer_heard, consumer_acted, becomes_shared, by_head, place_by_case, due_after, is_number, doomed_key_of, doomed_in, doomed_by_head, doomed_by_case, is_key, Entry, exchange_heard, exchange_acted, promise_in, is_open, entry_of, IsAwaiting, is_written, is_bound, is_bound_place, bound, shared_exchange, Tables, Exchange, Representation, Consumer, may_stand, Numbered, Among, IsBound, starts_over, sends_back, after_accepted, route_of, head_case, has_loss, writer_at, event, case, place, by, route}
 use Rattle.hc_model.specs.Sound as sound
 use Rattle.hc_effects.proofs.{ApartKeeps.{is_on, was_written, founded_shared}, Basics.{false_true, number_is}, BoundKeeps.{binds_kept}, Closed.{before, closes}, FirstKeeps.{case_is, is_new}, Forward.{is_kept, after_is}, MemberStays.{member_stays}, NamesKeep.{names_are_kept}, NumbersKeep.{numbers_are_kept}, PieceKeeps.{eq_cases}, ExclusiveWriters.{writer_some, bound_some}, RepFrom.{RepFrom, rep_from, IsResumed}, Said.{leaving_by}, SaidActs.{leaves_leaver}, ToBeShown.{heard_place}, FoundBy.{CaseBy, case_by}, Waiters.{IsWaiter, waiter_of}, WriterEnds.{all_same}, StaysOn.{awaiting_keeps, settled, stays_by as stays_unless}, Step.{Step}}
 use Rattle.hc_effects.proofs.RepFrom as rep

@@ -1,7 +1,7 @@
 -- Whoever is bound and gets the head of its own exchange, and has nothing due after it, is joined by it: it brings bytes from the start of its hole on, or none.
 use Rattle.std.{proofs.{Common.{◌≡◌, ℕ, ◌≤◌, List, [], length, Bool, true, false, Option, Some, None, refl, ap, sym, ◌∙◌, subst, arith}, lemmas.Bool.Decides.{nat_tests}}, specs.Prelude.{if◌then◌else◌, is_some, ◌&&◌, ◌||◌, nat_eq}}
 use Rattle.hc_text.proofs.Basics.{same_some as same_row}
-use Rattle.hc_effects.proofs.Vocabulary.{cause, event, case, route, place, by, Need, Event, Request, HeadCase, Length, Limits, head_case, length_of, base_of, route_of, BoundBy, has_loss, case_at, head_view, is_joining, consumer_heard, consumer_acted, by_head, place_by_case, denial, doomed_key_of, is_key, Entry, promise_in, base, front, exchange_at, is_for, length_by, cause_of_head, cause_by_case, Flaw, entry_of, Owners, IsAwaiting, reads, hole_start, Tables, Exchange, Representation, Consumer, Sound, starts_over, waits_at, sends_back, loses_what_it_waits_for, after_accepted}
+use Rattle.hc_effects.proofs.Vocabulary.{cause, event, case, route, place, by, Need, Request, HeadCase, Length, head_case, length_of, base_of, route_of, BoundBy, has_loss, case_at, head_view, is_joining, consumer_heard, consumer_acted, by_head, place_by_case, doomed_key_of, is_key, Entry, promise_in, base, front, exchange_at, is_for, length_by, cause_of_head, cause_by_case, entry_of, IsAwaiting, reads, hole_start, Tables, Exchange, Representation, Consumer, starts_over, waits_at, sends_back, loses_what_it_waits_for, after_accepted}
 use Rattle.hc_model.specs.Sound as sound
 use Rattle.hc_effects.proofs.{Basics.{false_true, some_none}, BoundFrom.{IsRow, place_inj}, Dues.{due_before, undue_parts}, ExchangeFrom.{IsSame, IsHeaded}, FirstKeeps.{IsNew, case_is, is_new}, FoundBy.{CaseBy, case_by}, HeadKeeps.{IsJoin, is_join}, PartTold.{IsTold, part_told}, ToBeShown.{heard_place}, Waiters.{IsWaiter, waiter_of}, Step.{Step}}
 use Rattle.hc_effects.proofs.FoundBy as cases

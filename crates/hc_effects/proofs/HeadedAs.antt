@@ -1,7 +1,7 @@
 -- Where the head of its own exchange leaves a consumer, if that stays open: past the store, bound to what it founds, or bound to what it joins.
 use Rattle.std.{proofs.{Common.{◌≡◌, ◌⊎◌, inl, inr, ℕ, true, false, Option, Some, None, refl, ap, sym, ◌∙◌, subst, arith}, lemmas.Bool.Decides.{nat_tests}}, specs.Prelude.{◌&&◌, not, nat_eq}}
 use Rattle.hc_text.proofs.Basics.{both_true as and_both, and_right, not_some as none_some, never_true as not_so, or_left, same_some as same_row, some_inj}
-use Rattle.hc_effects.proofs.Vocabulary.{leaves_in, closes_in, Event, Request, Response, Need, HeadCase, Wanted, Limits, head_case, length_of, promise_of, route_of, range_of, wanted_of, Place, BoundBy, has_loss, case_at, head_view, is_founding, is_joining, must_close, is_refused, brings_head, consumer_heard, by_head, place_by_case, bound_to_wanted, denial, Entry, exchange_heard, exchange_acted, promise_in, exchange_at, is_for, is_reached, Flaw, founded_total, entry_of, Owners, IsAwaiting, Tables, Exchange, Consumer, Sound, starts_over, sends_back, after_accepted, event, route, wanted, place, by}
+use Rattle.hc_effects.proofs.Vocabulary.{leaves_in, closes_in, Request, Response, Need, HeadCase, Wanted, head_case, length_of, promise_of, route_of, range_of, wanted_of, Place, BoundBy, has_loss, case_at, head_view, is_founding, is_joining, must_close, is_refused, brings_head, consumer_heard, by_head, place_by_case, bound_to_wanted, Entry, exchange_heard, exchange_acted, promise_in, exchange_at, is_for, is_reached, founded_total, entry_of, IsAwaiting, Tables, Exchange, Consumer, starts_over, sends_back, after_accepted, event, route, wanted, place, by}
 use Rattle.hc_model.specs.Owners as owners
 use Rattle.hc_effects.proofs.{Basics.{false_true, or_false}, Closed.{before, closes}, ExchangeFrom.{IsSame, IsHeaded}, FirstKeeps.{case_is, is_new}, FoundBy.{CaseBy, case_by}, Forward.{after_is}, OwnFrom.{IsRow}, PieceKeeps.{eq_cases}, Said.{leaving_by}, ToBeShown.{heard_place}, Waiters.{IsWaiter, waiter_of, case_same}, Step.{Step}}
 use Rattle.hc_effects.proofs.FoundBy as cases

@@ -1,7 +1,7 @@
 -- What is lost by an entry of a run: what its head or piece writes, or what is sealed since an exchange of its family ends without a piece.
 use Rattle.std.{proofs.{Common.{◌≡◌, ◌⊎◌, inl, inr, ℕ, true, false, Option, Some, None, refl, ap, sym, ◌∙◌, arith}, lemmas.Bool.Decides.{nat_tests}}, specs.Prelude.{is_some, ◌||◌}}
 use Rattle.hc_text.proofs.Basics.{eq_is, and_left, and_right, not_some as none_some, not_true, or_cases, same_some as same_row, some_inj}
-use Rattle.hc_effects.proofs.Vocabulary.{closes_in, is_denied, LostKind, Event, Limits, loses_in, without_losses, loss_acts, answer_acts, accepted_acts, closing, is_number, denial, Entry, exchange_heard, family, Flaw, Loses, flaw_in, entry_of, Measures, Owners, Tables, Exchange, Representation, may_stand, may_be, is_kept, Sound, IsAbout, evicted, brings_body, written_representation, written_in, lossless, seals_at, sealed_by, is_sealed, stops, event}
+use Rattle.hc_effects.proofs.Vocabulary.{closes_in, is_denied, LostKind, Event, Limits, loses_in, without_losses, loss_acts, answer_acts, accepted_acts, closing, is_number, denial, Entry, exchange_heard, family, Flaw, Loses, flaw_in, entry_of, Measures, Tables, Exchange, Representation, may_stand, may_be, is_kept, IsAbout, evicted, brings_body, written_representation, written_in, lossless, seals_at, sealed_by, is_sealed, stops, event}
 use Rattle.hc_model.specs.Sound as sound
 use Rattle.hc_effects.proofs.{ActParts.{said_is, said_closes, loses_evicted, loses_closed, loses_before}, Basics.{false_true, number_is}, Closed.{before}, KeyActs.{found_some, closes_lossless, test_some}, MeasuresKeep.{ender}, Unclosed.{had_open}, Waiters.{fault_open_of}, Step.{Step}}
 

@@ -3,7 +3,7 @@ use Rattle.std.{proofs.{Common.{◌≡◌, ◌⊎◌, inl, inr, ℕ, ◌+◌, �
 use Rattle.hc_text.proofs.Basics.{and_right, bool_cases, not_some as none_some, number_not, same_some as same_row}
 use Rattle.hc_sparse.specs.Cells.{cells_with}
 use Rattle.hc_range.specs.declared.range.{Asked.{Asked}, ContentRange.{ContentRange}}
-use Rattle.hc_effects.proofs.Vocabulary.{range, event, route, Event, Response, HeadCase, Length, Limits, head_case, fits_to_found, fits_part, length_of, base_of, promise_of, is_bad, route_of, content_range_of, piece_refusal, end_refusal, range_of, has_loss, case_at, head_view, is_founding, is_joining, fits_asker, denial, as_open, Entry, base, promised_bytes, front, family, length_by, Flaw, founded_total, entry_of, Measures, IsMeasured, Owners, new_representation, length_in, Tables, Exchange, Representation, Consumer, Sound, IsAbout, after_accepted}
+use Rattle.hc_effects.proofs.Vocabulary.{range, event, route, Response, HeadCase, Length, head_case, fits_to_found, fits_part, length_of, base_of, promise_of, is_bad, route_of, content_range_of, piece_refusal, end_refusal, range_of, has_loss, case_at, head_view, is_founding, is_joining, fits_asker, denial, as_open, Entry, base, promised_bytes, front, family, length_by, founded_total, entry_of, Measures, IsMeasured, new_representation, length_in, Tables, Exchange, Representation, Consumer, IsAbout, after_accepted}
 use Rattle.hc_rules.specs.Refusals as refusals
 use Rattle.hc_model.specs.Measures as measures
 use Rattle.hc_model.specs.Sound as sound

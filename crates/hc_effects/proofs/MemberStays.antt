@@ -1,7 +1,7 @@
 -- Whoever reads what is being written for several goes on reading it until it leaves: it waits for no head, and so stays where it is bound.
 use Rattle.std.proofs.Common.{◌≡◌, ℕ, true, false, Option, Some, None, ap, sym, ◌∙◌, refl}
 use Rattle.hc_text.proofs.Basics.{same_some as same_row}
-use Rattle.hc_effects.proofs.Vocabulary.{leaves_in, Event, Response, Limits, BoundBy, denial, Entry, Flaw, entry_of, Owners, is_written, Tables, Exchange, Representation, Consumer, Sound, IsBound, after_accepted, event, place}
+use Rattle.hc_effects.proofs.Vocabulary.{leaves_in, Response, BoundBy, Entry, entry_of, is_written, Exchange, Representation, Consumer, IsBound, after_accepted, event, place}
 use Rattle.hc_model.specs.Sound as sound
 use Rattle.hc_effects.proofs.{BoundStays.{bound_stays}, FirstKeeps.{is_new}, Waiters.{waiter_of, unwritten}, Step.{Step}}
 

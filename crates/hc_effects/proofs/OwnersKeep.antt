@@ -1,7 +1,7 @@
 -- Whose an exchange is stays told: what is opened is of its consumer's key, and an own exchange is of one consumer alone.
 use Rattle.std.{proofs.{lemmas.Bool.Decides.{nat_tests}, Common.{◌≡◌, ℕ, ◌+◌, true, false, Option, Some, None, refl, ap, sym, ◌∙◌, subst, arith}}, specs.Prelude.{is_some}}
 use Rattle.hc_text.proofs.Basics.{not_some as none_some, and_left, and_right, same_some as same_row}
-use Rattle.hc_effects.proofs.Vocabulary.{Opening, opening_in, Event, Request, Limits, is_bypassing, Place, loses_in, denial, Entry, exchange_opened, family, Flaw, entry_of, Owners, IsFor, is_written, Tables, Exchange, Representation, Consumer, Sound, after_accepted, loses_writing, survivor, event, place, by}
+use Rattle.hc_effects.proofs.Vocabulary.{Opening, opening_in, Request, is_bypassing, Place, loses_in, Entry, exchange_opened, family, entry_of, IsFor, is_written, Tables, Exchange, Representation, Consumer, after_accepted, loses_writing, survivor, event, place, by}
 use Rattle.hc_model.specs.Owners.{IsOpener}
 use Rattle.hc_effects.proofs.{BoundFrom.{BoundFrom, bound_from}, ExchangeFrom.{ExchangeFrom, exchange_from}, Forward.{is_on, is_kept, opened_on}, NumbersKeep.{opens_next}, OpenedAs.{OpenedAs, opened_as}, OwnFrom.{OwnFrom, own_from, IsLeft}, RepFrom.{RepFrom, rep_from}, Said.{opening_by}, Step.{Step}}
 use Rattle.hc_effects.proofs.BoundFrom as bound

@@ -2,7 +2,7 @@
 use Rattle.std.{proofs.{Common.{◌≡◌, inl, inr, ℕ, ◌+◌, Bool, true, false, Option, Some, None, refl, ap, sym, ◌∙◌, subst, arith}, lemmas.Bool.Decides.{nat_tests}}, specs.Prelude.{is_some, nat_eq}}
 use Rattle.hc_text.proofs.Basics.{and_right, not_some as none_some, same_some as same_row}
 use Rattle.hc_range.specs.{declared.range.{ContentRange.{ContentRange}, Span.{Span}, Asked.{Asked}}, Spans.{resolved_span}}
-use Rattle.hc_effects.proofs.Vocabulary.{range, event, route, wanted, by, place, Event, Response, HeadCase, Limits, head_case, fits_to_found, fits_part, begins_at, route_of, content_range_of, range_of, wanted_of, wanted_part, BoundBy, has_loss, case_at, head_view, is_founding, fits_asker, consumer_heard, by_head, place_by_case, bound_to_wanted, denial, Entry, Flaw, founded_total, entry_of, Owners, IsAwaiting, IsPast, Tables, Exchange, Representation, Consumer, may_stand, Sound, after_accepted}
+use Rattle.hc_effects.proofs.Vocabulary.{range, event, route, wanted, by, place, Response, HeadCase, head_case, fits_to_found, fits_part, begins_at, route_of, content_range_of, range_of, wanted_of, wanted_part, BoundBy, has_loss, case_at, head_view, is_founding, fits_asker, consumer_heard, by_head, place_by_case, bound_to_wanted, denial, Entry, founded_total, entry_of, IsAwaiting, IsPast, Tables, Exchange, Representation, Consumer, may_stand, after_accepted}
 use Rattle.hc_rules.specs.Refusals as refusals
 use Rattle.hc_model.specs.Owners as owners
 use Rattle.hc_effects.proofs.{Basics.{false_true}, FirstKeeps.{is_new, case_is}, FoundBy.{FoundingBy, founding_by, founds_way}, NumbersKeep.{opens_next}, Once.{never}, PastKeeps.{IsFrom, PlaceFrom, direct_from}, PieceKeeps.{eq_cases}, RepFrom.{RepFrom, rep_from}, ToBeShown.{heard_place}, Waiters.{waiter_of}, Step.{Step}}

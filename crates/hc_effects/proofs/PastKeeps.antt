@@ -1,7 +1,7 @@
 -- Who reads past the store and wasn't shown a head may be shown it, or waits for it.
 use Rattle.std.{proofs.{Common.{◌≡◌, ◌⊎◌, inl, inr, ℕ, Bool, true, false, Option, Some, None, refl, ap, sym, ◌∙◌, subst, arith}, lemmas.Bool.Decides.{nat_tests}}, specs.Prelude.{if◌then◌else◌, is_some, is_none, ◌==◌, ◌&&◌, ◌||◌, not, nat_eq}}
 use Rattle.hc_text.proofs.Basics.{bool_cases, not_some as none_some, same_some as same_row, some_inj}
-use Rattle.hc_effects.proofs.Vocabulary.{Opening, opening_in, leaves_in, shows_in, Event, Response, Wait, HeadCase, Route, Wanted, Limits, route_of, range_of, wanted_of, Place, BoundBy, Showing, showing_in, wait_in, case_at, consumer_heard, consumer_acted, consumer_settled, consumer_made, consumer_after, by_head, by_fault, by_opening, shown_place, waiting, waiting_place, due_after, place_by_case, passed_on, bound_to_wanted, opened_place, unless_bound, denial, Entry, exchange_opened, exchange_in, Flaw, founded_total, entry_of, Owners, IsPast, bound_to, Tables, Exchange, Consumer, may_stand, Sound, starts_over, after_accepted, event, cause, case, wanted, place, by}
+use Rattle.hc_effects.proofs.Vocabulary.{Opening, opening_in, leaves_in, shows_in, Event, Response, Wait, HeadCase, Route, Wanted, route_of, range_of, wanted_of, Place, BoundBy, Showing, showing_in, wait_in, case_at, consumer_heard, consumer_acted, consumer_settled, consumer_made, consumer_after, by_head, by_fault, by_opening, shown_place, waiting, waiting_place, due_after, place_by_case, passed_on, bound_to_wanted, opened_place, unless_bound, denial, Entry, exchange_opened, exchange_in, founded_total, entry_of, IsPast, bound_to, Tables, Exchange, Consumer, may_stand, starts_over, after_accepted, event, cause, case, wanted, place, by}
 use Rattle.hc_rules.specs.Refusals as refusals
 use Rattle.hc_model.specs.Owners as owners
 use Rattle.hc_effects.proofs.{Basics.{or_false}, ConsumerFilters.{acted}, ExchangeFrom.{IsSame}, Forward.{is_on, opened_on, is_untouched}, Once.{never}, OwnersKeep.{new_number}, PieceKeeps.{eq_cases}, ToBeShown.{heard_place}, Waiters.{IsWaiter, waiter_of, unclosed}, WaitingKeeps.{waiting_kept}, Step.{Step}}

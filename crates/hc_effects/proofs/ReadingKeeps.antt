@@ -1,7 +1,7 @@
 -- Whose open exchange has a head reads it, or what it is bound to, and stands there until it leaves.
 use Rattle.std.{proofs.{Common.{◌≡◌, ◌⊎◌, inl, inr, ℕ, Bool, true, false, Option, Some, None, refl, ap, sym, ◌∙◌, subst, arith}, lemmas.Bool.Decides.{nat_tests}}, specs.{Prelude.{if◌then◌else◌, is_some, is_none, ◌&&◌, ◌==◌, not, nat_eq}, Option.{option_and_then}}}
 use Rattle.hc_text.proofs.Basics.{and_left, and_right, bool_cases, not_some as none_some, never_true as not_so, or_left, or_right, same_some as same_row, some_inj}
-use Rattle.hc_effects.proofs.Vocabulary.{Opening, opening_in, leaves_in, Event, Response, Wait, Limits, Place, Showing, showing_in, wait_in, must_close, is_left, is_left_by, leaver, leaver_by, consumer_heard, consumer_acted, by_head, by_fault, by_opening, own_after, shown_place, waiting, denial, Entry, exchange_heard, is_open, Flaw, entry_of, Owners, IsReading, shows_at, move_of, own_open, if_open, bound_to, Tables, Exchange, Consumer, Sound, after_accepted, brings_body, event}
+use Rattle.hc_effects.proofs.Vocabulary.{Opening, opening_in, leaves_in, Event, Response, Wait, Place, Showing, showing_in, wait_in, must_close, is_left, is_left_by, leaver, leaver_by, consumer_heard, consumer_acted, by_head, by_fault, by_opening, own_after, shown_place, waiting, denial, Entry, exchange_heard, is_open, entry_of, IsReading, shows_at, move_of, own_open, if_open, bound_to, Tables, Exchange, Consumer, after_accepted, brings_body, event}
 use Rattle.hc_model.specs.Owners as owners
 use Rattle.hc_effects.proofs.{Basics.{false_true, number_yes}, Closed.{before, closes}, ExchangeFrom.{ExchangeFrom, IsSame, IsHeaded, exchange_from}, FirstKeeps.{is_new}, Forward.{after_is}, HeadedAs.{HeadedAs, headed_as, heard_at}, OwnFrom.{OwnFrom, IsRow, IsLeft, own_from, after_by}, OwnersKeep.{is_opened, new_number}, PieceKeeps.{eq_cases}, Said.{WaitsAs, waiting_by}, SaidActs.{leaves_leaver}, WaitedAs.{IsForOthers, waited_as}, Waiters.{waiter_of, fault_open_of}, BoundStays.{none_of}, StaysOn.{plain_place, unopened, waits_where}, Step.{Step}}
 use Rattle.hc_effects.proofs.ExchangeFrom as exchange

@@ -7,7 +7,7 @@ use Rattle.std.{proofs.{Common.{◌≡◌, ◌⊎◌, inl, inr, ℕ, ◌+◌, �
 use Rattle.hc_text.proofs.Basics.{never_true, or_cases, and_none as and_off, eq_is, both_true as and_both, and_left, and_right, bool_cases, not_some as none_some, same_some as same_row, some_inj}
 use Rattle.hc_sparse.specs.Cells.{Cells, Covers, cells_with}
 use Rattle.hc_range.specs.declared.range.Span.{Span}
-use Rattle.hc_effects.proofs.Vocabulary.{Opening, opening_in, leaves_in, closes_in, given_in, Event, Response, HeadCase, Limits, BoundBy, Showing, showing_in, loses_in, has_loss, case_at, head_view, must_close, is_refused, brings_head, is_doomed, has_no_survivor, is_left, leaver, leaver_by, consumer_heard, consumer_acted, by_opening, waiting, is_number, denial, doomed_key_of, doomed_in, doomed_by_head, doomed_by_case, is_key, Entry, exchange_heard, promise_in, is_open, is_reached, family, becomes_due, cause_by_loss, Flaw, first_hole, covers, entry_of, Measures, Owners, is_written, bound, hi_of, offset, reads, new_representation, writer_at, Tables, Exchange, Representation, Consumer, Sound, IsBound, IsServed, IsExclusiveWriter, IsFirst, IsGrowing, after_accepted, brings_body, came_alone, loses_writing, survivor, goes_on_with, status_in, stops, event, case, place, by}
+use Rattle.hc_effects.proofs.Vocabulary.{Opening, opening_in, leaves_in, closes_in, given_in, Event, Response, HeadCase, BoundBy, Showing, showing_in, loses_in, has_loss, case_at, head_view, must_close, is_refused, brings_head, is_doomed, has_no_survivor, is_left, leaver, leaver_by, consumer_heard, consumer_acted, by_opening, waiting, is_number, doomed_key_of, doomed_in, doomed_by_head, doomed_by_case, is_key, Entry, exchange_heard, promise_in, is_open, is_reached, family, becomes_due, cause_by_loss, first_hole, covers, entry_of, Measures, is_written, bound, hi_of, offset, reads, new_representation, writer_at, Tables, Exchange, Representation, Consumer, IsBound, IsServed, IsExclusiveWriter, IsFirst, IsGrowing, after_accepted, brings_body, came_alone, loses_writing, survivor, goes_on_with, status_in, stops, event, case, place, by}
 use Rattle.hc_model.specs.Sound as sound
 use Rattle.hc_effects.proofs.{ApartKeeps.{written_by, is_on}, Basics.{false_true, number_is}, BoundFrom.{BoundFrom, IsRow, IsFounded, IsFirstHole, IsShown, bound_from}, BoundKeeps.{planned_at}, Closed.{before}, ConsumerFilters.{acted}, Dues.{due_before, undue_parts}, EndsKeep.{known_kept, measures_kept}, Fills.{Fills, fills}, FirstKeeps.{IsNew, came_kept, case_of_head, case_is, is_new, open_free, whole_200, replaced_200}, FoundBy.{CaseBy}, Forward.{after_is}, HoleLemmas.{covers_all}, LossBy.{IsReal, IsSealing, sealed_loss, seals_one, fresh}, LossServes.{survives}, Losses.{HasRest, goes_on_or_rests}, OwnersKeep.{is_opened}, ExclusiveWriters.{writer_some, none_about}, PollKeeps.{current_stays}, RepFrom.{RepFrom, rep_from, IsKept, IsResumed}, Said.{ShowsBy, leaving_by, showing_by}, SaidActs.{leaver_leaves}, ShownFrom.{ShownAs, IsPlanned}, Stops.{writer_about}, Unclosed.{had_to}, Waiters.{waiter_of, doomed_same, case_same}, WriterEnds.{all_stored}, WritingStops.{IsAll}, Step.{Step}}
 use Rattle.hc_effects.proofs.BoundFrom as from

@@ -1,7 +1,7 @@
 -- Whoever was shown a head stays where it stands, or stands nowhere where anything is read; and where a consumer stands that is shown one.
 use Rattle.std.{proofs.{Common.{◌≡◌, inl, inr, ℕ, Bool, true, false, cond, Option, Some, None, refl, ap, sym, ◌∙◌, subst, arith}, lemmas.Bool.Decides.{nat_tests}}, specs.Prelude.{if◌then◌else◌, ◌==◌}}
 use Rattle.hc_text.proofs.Basics.{bool_cases, same_some as same_row}
-use Rattle.hc_effects.proofs.Vocabulary.{Opening, opening_in, leaves_in, Event, Response, Wait, Why, HeadCase, Limits, head_case, route_of, Place, Showing, showing_in, wait_in, has_loss, case_at, head_view, was_shown, consumer_heard, consumer_acted, by_head, by_fault, by_opening, place_by_case, passed_on, passed_by, kept_by, waiting, waiting_place, unless_bound, shown_place, due_after, back_in_line, current, denial, Entry, Flaw, entry_of, Move, Shows, Owners, IsAwaiting, move_of, bound_to, reads, Tables, Exchange, Consumer, Sound, starts_over, after_accepted, event, wait, route, by, place}
+use Rattle.hc_effects.proofs.Vocabulary.{Opening, opening_in, leaves_in, Event, Response, Wait, Why, HeadCase, head_case, route_of, Place, Showing, showing_in, wait_in, has_loss, case_at, head_view, was_shown, consumer_heard, consumer_acted, by_head, by_fault, by_opening, place_by_case, passed_on, passed_by, kept_by, waiting, waiting_place, unless_bound, shown_place, due_after, back_in_line, current, Entry, entry_of, Move, Shows, IsAwaiting, move_of, bound_to, reads, Tables, Exchange, Consumer, starts_over, after_accepted, event, wait, route, by, place}
 use Rattle.hc_effects.proofs.{Basics.{false_true}, FirstKeeps.{is_new, case_is, is_opener}, Forward.{is_kept}, FoundBy.{CaseBy, case_by}, OpenedAs.{Way, opened_as}, PastApart.{IsApart}, PieceKeeps.{eq_cases}, Said.{IsShowing, IsOpening, WaitsAs, opening_by, showing_by, waiting_by}, ShownOnce.{is_showing, shown_shows}, Waiters.{IsWaiter, waiter_of}, Step.{Step}}
 use Rattle.hc_effects.proofs.FoundBy as cases
 use Rattle.hc_effects.proofs.Said as said

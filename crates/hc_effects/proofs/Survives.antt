@@ -3,7 +3,7 @@ use Rattle.std.{proofs.{Common.{◌≡◌, ◌⊎◌, inl, inr, ℕ, ◌+◌, �
 use Rattle.hc_text.proofs.Basics.{both_true as and_both, and_left, and_right, bool_cases, not_some as none_some, never_true as not_so, same_some as same_row}
 use Rattle.hc_sparse.specs.Cells.{Cells, Covers, cells_with}
 use Rattle.hc_sparse.proofs.CellLemmas.{inside-past, inside-yes}
-use Rattle.hc_effects.proofs.Vocabulary.{leaves_in, given_in, opening_in, Event, Response, Limits, Member, least, lesser, stands_at, BoundBy, loses_in, by_opening, own_after, left_to, waiting, is_number, denial, Entry, base, front, is_open, Flaw, flaw_in, entry_of, Measures, Owners, is_written, bound, offset, lo_of, Tables, Exchange, Representation, Consumer, Sound, IsBound, IsAlone, IsGrowing, after_accepted, brings_body, loses_writing, survivor, member, offset_in, event, place}
+use Rattle.hc_effects.proofs.Vocabulary.{leaves_in, given_in, opening_in, Response, Member, least, lesser, stands_at, BoundBy, loses_in, by_opening, own_after, left_to, waiting, is_number, Entry, base, front, is_open, flaw_in, entry_of, Measures, is_written, bound, offset, lo_of, Tables, Exchange, Representation, Consumer, IsBound, IsAlone, IsGrowing, after_accepted, brings_body, loses_writing, survivor, member, offset_in, event, place}
 use Rattle.hc_model.specs.Laws.{SurvivorsGoOn}
 use Rattle.hc_model.specs.Sound as sound
 use Rattle.hc_effects.proofs.{Basics.{false_true, number_yes}, BoundStays.{bound_stays}, ConsumerFilters.{acted}, ExchangeFrom.{IsSame, IsHeaded}, Fills.{Fills, fills, Brings, brings}, FirstKeeps.{is_new}, ApartKeeps.{is_on}, HadKeeps.{survivor_bound}, LossBy.{IsReal, fresh}, MeasuresKeep.{IsHeld, held, one_piece}, ExclusiveWriters.{writer_some}, OfEntries.{of_real}, HasBound.{reader_of}, RepFrom.{RepFrom, rep_from, IsKept}, Said.{leaving_by}, Step.{Step, step_of}}

@@ -1,7 +1,7 @@
 -- Whoever waits for the head of an exchange keeps it as its own, and it isn't closed, until the consumer leaves or starts over.
 use Rattle.std.{proofs.{Common.{◌≡◌, ◌⊎◌, inl, inr, ℕ, Bool, true, false, Option, Some, None, refl, ap, sym, ◌∙◌, subst, arith}, lemmas.Bool.Decides.{nat_tests}}, specs.{Prelude.{if◌then◌else◌, is_some, is_none, ◌&&◌, ◌==◌, not, nat_eq, unwrap_or}, Option.{option_and_then}}}
 use Rattle.hc_text.proofs.Basics.{both_true as and_both, and_left, and_right, bool_cases, not_some as none_some, never_true as not_so, or_cases, or_left, same_some as same_row, some_inj}
-use Rattle.hc_effects.proofs.Vocabulary.{Opening, opening_in, leaves_in, closes_in, Event, Response, Limits, Place, BoundBy, case_at, case_of, must_close, is_refused, brings_head, is_doomed, awaits, has_no_survivor, is_left, is_left_by, is_last_reader, leaver, leaver_by, consumer_heard, by_head, by_fault, by_opening, own_after, left_to, waiting, is_number, denial, doomed_key_of, doomed_in, doomed_by_head, doomed_by_case, is_key, Entry, family, exchange_in, is_headless, is_open, Flaw, entry_of, Owners, IsAwaiting, own_open, if_open, is_written, shared_exchange, writing_in, Tables, Exchange, Representation, Consumer, Sound, IsAbout, IsExclusiveWriter, starts_over, waits_at, awaited_exchange, loses_writing, survivor, event, place}
+use Rattle.hc_effects.proofs.Vocabulary.{Opening, opening_in, leaves_in, closes_in, Event, Response, Place, BoundBy, case_at, case_of, must_close, is_refused, brings_head, is_doomed, awaits, has_no_survivor, is_left, is_left_by, is_last_reader, leaver, leaver_by, consumer_heard, by_head, by_fault, by_opening, own_after, left_to, waiting, is_number, denial, doomed_key_of, doomed_in, doomed_by_head, doomed_by_case, is_key, Entry, family, exchange_in, is_headless, is_open, entry_of, IsAwaiting, own_open, if_open, is_written, shared_exchange, writing_in, Tables, Exchange, Representation, Consumer, IsAbout, IsExclusiveWriter, starts_over, waits_at, awaited_exchange, loses_writing, survivor, event, place}
 use Rattle.hc_model.specs.Owners as owners
 use Rattle.hc_model.specs.Sound as sound
 use Rattle.hc_effects.proofs.{Basics.{false_true, number_is}, BoundFrom.{place_inj}, Closed.{before}, FirstKeeps.{is_new}, MoveBy.{IsHeard}, OpensFrom.{hole_is}, OwnersKeep.{is_opened}, PieceKeeps.{eq_cases}, ExclusiveWriters.{row_of, writer_some}, SaidActs.{loss_is, leaver_leaves}, Stops.{writer_about}, Unclosed.{had_to}, StaysOn.{unopened}, Step.{Step}}

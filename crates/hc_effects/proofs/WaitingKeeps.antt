@@ -1,7 +1,7 @@
 -- Whoever waits for the head of its own exchange goes on waiting as long as that is open.
 use Rattle.std.{proofs.{Common.{◌≡◌, inl, inr, ℕ, List, Bool, true, false, Option, Some, None, refl, ap, sym, ◌∙◌, subst, arith}, lemmas.Bool.Decides.{nat_tests}}, specs.Prelude.{nat_eq}}
 use Rattle.hc_text.proofs.Basics.{both_true as and_both, bool_cases, not_some as none_some, never_true as not_so, or_left, or_right, same_some as same_row, some_inj}
-use Rattle.hc_effects.proofs.Vocabulary.{Opening, opening_in, leaves_in, closes_in, Event, Response, Wait, Limits, route_of, Place, BoundBy, Showing, showing_in, wait_in, case_of, must_close, is_doomed, awaits, is_left, is_left_by, leaver, leaver_by, consumer_heard, consumer_acted, shown_place, waiting, due_after, denial, doomed_key_of, is_key, Entry, exchange_heard, exchange_opened, exchange_in, exchange_at, is_for, is_headless, Flaw, entry_of, Owners, IsAwaiting, Awaits, poll_move, move_of, own_open, reads, Tables, Exchange, Consumer, Sound, starts_over, waits_at, awaited_exchange, sends_back, after_accepted, Opens, may_stand, event, place, by}
+use Rattle.hc_effects.proofs.Vocabulary.{Opening, opening_in, leaves_in, closes_in, Event, Response, Wait, route_of, Place, BoundBy, Showing, showing_in, wait_in, case_of, must_close, is_doomed, awaits, is_left, is_left_by, leaver, leaver_by, consumer_heard, consumer_acted, shown_place, waiting, due_after, denial, doomed_key_of, is_key, Entry, exchange_heard, exchange_opened, exchange_in, exchange_at, is_for, is_headless, entry_of, IsAwaiting, Awaits, poll_move, move_of, own_open, reads, Tables, Exchange, Consumer, starts_over, waits_at, awaited_exchange, sends_back, after_accepted, Opens, may_stand, event, place, by}
 use Rattle.hc_rules.specs.Refusals as refusals
 use Rattle.hc_model.specs.Owners as owners
 use Rattle.hc_effects.proofs.{Basics.{false_true, number_yes}, Closed.{before, closes}, ExchangeFrom.{ExchangeFrom, IsSame, exchange_from}, Forward.{heard_other, is_kept}, PieceKeeps.{eq_cases}, Said.{IsShowing, WaitsAs, showing_by, waiting_by, opening_by}, SaidActs.{leaves_leaver}, ShownFrom.{shown_from}, WaitedAs.{IsForOthers, waited_as}, WaitingNew.{awaits as new_awaits}, OpenedAs.{opened_as, opening_is}, Waiters.{IsWaiter, waiter_of, heard_same, own_acted, own_open_is, not_heard, head_is_own, opening_stays, doomed_same, headless_is}, BoundStays.{headless_parts}, StaysOn.{awaiting_keeps, plain_place, settled, stays_by, waits_where}, Step.{Step}}

@@ -2,7 +2,7 @@
 use Rattle.std.{proofs.{Common.{◌≡◌, ◌⊎◌, inl, inr, ℕ, ◌+◌, ◌≤◌, List, length, ◌++◌, Bool, true, false, Option, Some, None, refl, ap, sym, ◌∙◌, arith}, lemmas.Bool.Decides.{nat_tests}}, specs.{Prelude.{is_some, ◌&&◌, ◌||◌, not, nat_eq}, Option.{option_or}}}
 use Rattle.hc_text.proofs.Basics.{both_false as both_off}
 use Rattle.hc_sparse.specs.Cells.{Cells, Covers, cells_with}
-use Rattle.hc_effects.proofs.Vocabulary.{closes_in, Event, Response, Limits, loses_in, brings_head, denial, Entry, exchange_heard, is_open, is_reached, front, base, promised_bytes, Flaw, entry_of, Measures, Owners, is_written, length_in, Tables, Exchange, Representation, Sound, IsGrowing, end_from, after_accepted, brings_body, event}
+use Rattle.hc_effects.proofs.Vocabulary.{closes_in, Event, Response, loses_in, brings_head, Entry, exchange_heard, is_open, is_reached, front, base, promised_bytes, entry_of, Measures, is_written, length_in, Tables, Exchange, Representation, IsGrowing, end_from, after_accepted, brings_body, event}
 use Rattle.hc_effects.proofs.{ApartKeeps.{is_on}, Basics.{false_true}, EndsKeep.{known_kept}, FirstKeeps.{is_new}, Forward.{after_is}, PieceKeeps.{eq_cases}, RepFrom.{IsKept}, Stops.{last_piece}, Step.{Step}}
 
 -- all of it is stored, and its length is known

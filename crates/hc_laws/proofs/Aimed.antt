@@ -1,7 +1,7 @@
 -- What an exchange joined is what it is about, and the exchange of a first hole is about what its consumer is bound to.
 use Rattle.std.proofs.Common.{◌≡◌, ◌⊎◌, inl, inr, ℕ, Bool, true, false, cond, Option, Some, None, refl, ap, sym, ◌∙◌}
 use Rattle.hc_text.proofs.Basics.{not_some as none_some, same_some as same_row}
-use Rattle.hc_effects.proofs.Vocabulary.{Event, Request, Limits, case_at, is_joining, consumer_heard, waiting, current, denial, Entry, Contents, exchange_opened, aim_of, Flaw, entry_of, Owners, bound_to, Tables, Exchange, Consumer, Sound, first_tables, after_accepted, after_denied, by, place}
+use Rattle.hc_effects.proofs.Vocabulary.{Request, case_at, is_joining, consumer_heard, waiting, current, Entry, Contents, exchange_opened, aim_of, entry_of, bound_to, Tables, Exchange, Consumer, first_tables, after_accepted, after_denied, by, place}
 use Rattle.hc_effects.proofs.{BoundFrom.{BoundFrom, bound_from}, ExchangeFrom.{ExchangeFrom, IsHeaded, exchange_from}, FirstKeeps.{is_new, is_opener}, Forward.{is_on, opened_on}, OwnersKeep.{new_number}, WaitingNew.{aim_free}, Step.{Step}}
 use Rattle.hc_effects.proofs.BoundFrom as from
 use Rattle.hc_effects.proofs.ExchangeFrom as exchange

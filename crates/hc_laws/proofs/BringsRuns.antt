@@ -3,7 +3,7 @@ use Rattle.std.{proofs.{Common.{◌≡◌, ◌≤◌, ◌<◌, ◌⊎◌, inl, i
 use Rattle.hc_text.proofs.Basics.{not_some as none_some, same_some as same_row, some_inj}
 use Rattle.hc_sparse.specs.Cells.{Cell, inside, cells_with}
 use Rattle.hc_sparse.proofs.CellLemmas.{inside-cases}
-use Rattle.hc_effects.proofs.Vocabulary.{Event, Response, base_of, Limits, denial, Entry, base, front, family, Flaw, entry_of, OfRuns, Brings, cell_from, Measures, Origins, MayDeliver, Owners, Tables, Exchange, Representation, Sound, after_accepted, event}
+use Rattle.hc_effects.proofs.Vocabulary.{Response, base_of, denial, Entry, base, front, family, entry_of, OfRuns, Brings, cell_from, Measures, Origins, MayDeliver, Tables, Exchange, Representation, after_accepted, event}
 use Rattle.hc_model.specs.Origins as origins
 use Rattle.hc_effects.proofs.{Basics.{false_true}, ExchangeFrom.{ExchangeFrom, exchange_from, IsSame}, Fills.{Fills, fills, IsPiece, brings, length_same}, FirstKeeps.{is_new}, NumbersKeep.{opens_next}, Once.{delivers_once}, RepFrom.{RepFrom, rep_from, IsKept}, Step.{Step, step_of}}
 use Rattle.hc_effects.proofs.ExchangeFrom as exchange

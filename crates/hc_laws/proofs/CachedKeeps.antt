@@ -1,7 +1,7 @@
 -- Who waits for its head with the turn, or is bound, isn't past the store.
 use Rattle.std.proofs.Common.{◌≡◌, inl, inr, ℕ, true, false, Option, Some, None, refl, ap, sym, ◌∙◌, subst}
 use Rattle.hc_text.proofs.Basics.{not_some as none_some, same_some as same_row, some_inj}
-use Rattle.hc_effects.proofs.Vocabulary.{Opening, opening_in, Event, Response, Limits, head_case, route_of, is_disabled, Place, BoundBy, has_loss, case_at, head_view, is_founding, consumer_after, consumer_made, denial, Entry, Flaw, entry_of, Owners, IsAwaiting, reads, Tables, Exchange, Consumer, Sound, after_accepted, event, route, place}
+use Rattle.hc_effects.proofs.Vocabulary.{Opening, opening_in, Event, Response, head_case, route_of, is_disabled, Place, BoundBy, has_loss, case_at, head_view, is_founding, consumer_after, consumer_made, Entry, entry_of, IsAwaiting, reads, Tables, Exchange, Consumer, after_accepted, event, route, place}
 use Rattle.hc_model.specs.Owners as owners
 use Rattle.hc_effects.proofs.{Forward.{is_kept}, Basics.{false_true}, Beside.{IsBeside, is_cached_place}, BoundFrom.{BoundFrom, bound_from}, BoundKeeps.{planned_at, founding_is}, FirstKeeps.{case_is, is_new}, FoundBy.{founding_by, founds_way}, OwnersKeep.{is_opened}, PieceKeeps.{eq_cases}, TurnPlaces.{ComesFrom, IsPlain, is_after}, Waiters.{waiter_of}, Step.{Step}}
 use Rattle.hc_effects.proofs.BoundFrom as from

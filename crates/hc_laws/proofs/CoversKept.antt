@@ -2,7 +2,7 @@
 use Rattle.std.{proofs.Common.{◌≡◌, ◌⊎◌, inl, inr, ℕ, ◌+◌, ◌≤◌, true, false, Option, Some, None, refl, ap, sym, ◌∙◌, subst, arith}, specs.Prelude.{is_some, nat_eq}}
 use Rattle.hc_text.proofs.Basics.{and_left, not_some as none_some, same_some as same_row, some_inj}
 use Rattle.hc_sparse.specs.Cells.{Covers}
-use Rattle.hc_effects.proofs.Vocabulary.{Opening, opening_in, Event, Response, Limits, route_of, BoundBy, Showing, showing_in, case_at, consumer_heard, consumer_acted, by_opening, waiting, due_after, denial, Entry, exchange_opened, front, Flaw, entry_of, Measures, Owners, bound_to, offset, lo_of, reads, hole_start, Tables, Exchange, Representation, Consumer, Sound, IsBound, IsExclusiveWriter, after_accepted, brings_body, came_alone, loses_writing, survivor, event, route, place, by}
+use Rattle.hc_effects.proofs.Vocabulary.{Opening, opening_in, Response, route_of, BoundBy, Showing, showing_in, case_at, consumer_heard, consumer_acted, by_opening, waiting, due_after, Entry, exchange_opened, front, entry_of, Measures, bound_to, offset, lo_of, reads, hole_start, Tables, Exchange, Representation, Consumer, IsBound, IsExclusiveWriter, after_accepted, brings_body, came_alone, loses_writing, survivor, event, route, place, by}
 use Rattle.hc_model.specs.Sound as sound
 use Rattle.hc_effects.proofs.{Forward.{opened_on, is_on}, Basics.{false_true, some_row}, Beside.{IsBeside, goes_on_at}, BoundFrom.{BoundFrom, IsRow, IsFounded, IsFirstHole, IsShown, bound_from, place_inj}, BoundKeeps.{planned_at}, Covers.{own_covers, grown, offset_more, later_start, headed_at}, ExchangeFrom.{IsSame, IsHeaded}, FirstKeeps.{is_new}, LossBy.{IsReal}, OwnFrom.{OwnFrom, IsLeft, own_from, after_by}, OwnersKeep.{is_opened, new_number}, PieceKeeps.{eq_cases}, PollKeeps.{current_stays}, RepFrom.{RepFrom, rep_from, IsKept}, Said.{ShowsBy, showing_by}, ShownFrom.{stored, joins, ShownAs, IsPlanned}, Survives.{goes_on}, ToBeShown.{heard_place}, Waiters.{IsWaiter, waiter_of}, Step.{Step}}
 use Rattle.hc_effects.proofs.BoundFrom as from

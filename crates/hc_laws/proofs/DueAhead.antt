@@ -2,7 +2,7 @@
 use Rattle.std.{proofs.Common.{◌≡◌, ◌⊎◌, inl, inr, ℕ, ◌≤◌, List, [], length, Bool, true, false, Option, Some, None, refl, ap, sym, ◌∙◌, subst, arith}, specs.Prelude.{if◌then◌else◌}}
 use Rattle.hc_text.proofs.Basics.{and_off, not_some as none_some, same_some as same_row, some_inj}
 use Rattle.hc_sparse.specs.Cells.{Covers}
-use Rattle.hc_effects.proofs.Vocabulary.{Cause, Event, Response, base_of, HeadCase, Limits, BoundBy, case_at, consumer_heard, consumer_acted, becomes_shared, denial, Entry, base, front, is_for, becomes_due, stop_cause, cause_of_head, cause_by_case, Flaw, entry_of, Measures, Owners, is_written, offset, own_open, reads, Tables, Exchange, Representation, Consumer, Sound, IsBound, IsExclusiveWriter, IsHad, after_accepted, has_more, event, case, place}
+use Rattle.hc_effects.proofs.Vocabulary.{Cause, Response, base_of, HeadCase, BoundBy, case_at, consumer_heard, consumer_acted, becomes_shared, Entry, base, front, is_for, becomes_due, stop_cause, cause_of_head, cause_by_case, entry_of, Measures, is_written, offset, own_open, reads, Tables, Exchange, Representation, Consumer, Sound, IsBound, IsExclusiveWriter, IsHad, after_accepted, has_more, event, case, place}
 use Rattle.hc_model.specs.Sound as sound
 use Rattle.hc_effects.proofs.{Forward.{is_on}, AboutKeeps.{own_open_is}, Basics.{false_true, some_row}, Beside.{IsBeside}, BoundFrom.{IsRow}, Covers.{grown, offset_more, headed_at}, Dues.{due_none, undue_of, stop_none, loss_at}, Exclusives.{IsExclusive}, ExchangeFrom.{IsSame, IsHeaded}, Fills.{Brings, brings, length_same}, FirstKeeps.{IsNew, is_new}, LossBy.{IsReal}, MeasuresKeep.{piece_taken}, OwnFrom.{OwnFrom, own_from}, ExclusiveWriters.{one_exclusive_writer}, RepFrom.{IsKept}, Survives.{goes_on}, Waiters.{waiter_as}, Step.{Step}}
 use Rattle.hc_effects.proofs.Fills as fills_by

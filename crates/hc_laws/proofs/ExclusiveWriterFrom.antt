@@ -1,7 +1,7 @@
 -- Whoever is bound before and after an entry and is the exclusive writer after it was so before, survives the loss of a shared writing, or wrote alone what is lost.
-use Rattle.std.{proofs.Common.{◌≡◌, ◌⊎◌, inl, inr, ℕ, true, false, Option, Some, None, ap, sym, ◌∙◌, subst}, specs.Prelude.{is_some}}
+use Rattle.std.{proofs.Common.{◌≡◌, ◌⊎◌, inl, inr, ℕ, true, false, Option, Some, ap, sym, ◌∙◌, subst}, specs.Prelude.{is_some}}
 use Rattle.hc_text.proofs.Basics.{bool_cases, same_some as same_row}
-use Rattle.hc_effects.proofs.Vocabulary.{Event, Limits, BoundBy, loses_in, denial, Entry, Flaw, entry_of, Measures, Owners, Tables, Representation, Consumer, Sound, IsFirst, IsExclusiveWriter, after_accepted, came_alone, loses_writing, survivor, goes_on_with, place}
+use Rattle.hc_effects.proofs.Vocabulary.{BoundBy, loses_in, Entry, entry_of, Measures, Tables, Representation, Consumer, IsFirst, IsExclusiveWriter, after_accepted, came_alone, loses_writing, survivor, goes_on_with, place}
 use Rattle.hc_model.specs.Sound as sound
 use Rattle.hc_effects.proofs.{Basics.{or_false}, Exclusives.{IsExclusive, exclusive_parts}, FirstKeeps.{came_kept}, LossBy.{IsReal, fresh}, RepFrom.{IsKept}, ServedKeeps.{lost_alone, kept_alone}, Step.{Step}}
 

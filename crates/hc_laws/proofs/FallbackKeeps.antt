@@ -1,7 +1,7 @@
 -- An answer past the store stays apart, who was shown a head doesn't have the turn, and what ended isn't open: in every run.
 use Rattle.std.{proofs.Common.{◌≡◌, ◌⊎◌, inl, inr, ℕ, [], ◌∷◌, Bool, true, false, cond, Option, Some, None, refl, ap, sym, ◌∙◌, subst}, specs.{Prelude.{is_some, not}, Option.{option_and_then}}}
 use Rattle.hc_text.proofs.Basics.{and_off as and_none, not_some as none_some, or_rest as or_right, same_some as same_row, some_inj}
-use Rattle.hc_effects.proofs.Vocabulary.{opening_in, shows_in, closes_in, Event, Response, Why, Limits, Place, consumer_made, consumer_after, denial, Entry, exchange_after, exchange_heard, exchange_acted, exchange_made, is_headless, Flaw, shown_in, entry_of, Move, Shows, Owners, IsPast, move_of, if_headless, shows_at, shows_direct, shows_answer, reads, own_open, Tables, Exchange, Consumer, may_stand, Sound, after_accepted, after_denied, first_tables, Contents, event, by, place}
+use Rattle.hc_effects.proofs.Vocabulary.{opening_in, shows_in, closes_in, Event, Response, Why, Place, consumer_made, consumer_after, Entry, exchange_after, exchange_heard, exchange_acted, exchange_made, is_headless, shown_in, entry_of, Move, Shows, IsPast, move_of, if_headless, shows_at, shows_direct, shows_answer, reads, own_open, Tables, Exchange, Consumer, may_stand, after_accepted, after_denied, first_tables, Contents, event, by, place}
 use Rattle.hc_model.specs.Owners as owners
 use Rattle.hc_effects.proofs.{Basics.{false_true}, ExchangeFrom.{IsHeaded}, Forward.{is_on}, MoveBy.{MoveBy, IsHeard, move_by}, PastApart.{IsHeadedRow, unfounded_kept}, PieceKeeps.{eq_cases}, PollActs.{ToOne, to_one}, ShownStays.{IsIdle, StaysOrIdle, IsFallback, Lands, shown_stays, shown_at}, TurnPlaces.{is_after}, Step.{Step}}
 use Rattle.hc_effects.proofs.MoveBy as by_move

@@ -1,7 +1,7 @@
 -- As long as nothing is due for the one that became bound alone, nothing is due for whoever reads beside it: after each accepted event too.
 use Rattle.std.{proofs.Common.{◌≡◌, inl, inr, ℕ, true, false, Option, Some, None, refl, ap, sym, ◌∙◌, subst}, specs.Prelude.{is_some}}
 use Rattle.hc_text.proofs.Basics.{same_some as same_row}
-use Rattle.hc_effects.proofs.Vocabulary.{Opening, opening_in, Event, Response, Limits, BoundBy, Showing, showing_in, consumer_heard, consumer_acted, by_opening, waiting, route_of, current, denial, Entry, Flaw, entry_of, Owners, bound_to, reads, Tables, Exchange, Representation, Consumer, Sound, IsBound, IsFirst, after_accepted, came_alone, event, place, route}
+use Rattle.hc_effects.proofs.Vocabulary.{Opening, opening_in, Response, BoundBy, Showing, showing_in, consumer_heard, consumer_acted, by_opening, waiting, route_of, current, Entry, entry_of, bound_to, reads, Tables, Exchange, Representation, Consumer, IsBound, IsFirst, after_accepted, came_alone, event, place, route}
 use Rattle.hc_model.specs.Sound as sound
 use Rattle.hc_effects.proofs.{Basics.{false_true}, BoundFrom.{BoundFrom, IsRow, IsShown, bound_from}, BoundKeeps.{shown_place_is}, Dues.{undue_of, due_none, due_before}, FirstKeeps.{is_new, came_kept, open_free}, OwnersKeep.{is_opened}, PieceKeeps.{eq_cases}, ExclusiveWriters.{bound_some}, Said.{showing_by}, Step.{Step}}
 use Rattle.hc_effects.proofs.BoundFrom as from

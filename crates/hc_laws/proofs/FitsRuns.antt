@@ -1,7 +1,7 @@
 -- What is stored fits the limit in every run, and few give way.
 use Rattle.std.{proofs.{Common.{◌≡◌, ◌⊎◌, inl, inr, ℕ, ◌+◌, ◌≤◌, List, [], ◌∷◌, Bool, true, false, Option, Some, None, refl, ap, sym, ◌∙◌, subst, arith}, lemmas.{Bool.Decides.{nat_tests}, List.Sums.{sum_by-cons}}}, specs.{Prelude.{if◌then◌else◌, is_some, ◌&&◌, ◌||◌, ◌==◌, not, nat_eq, nat_le, filter, find, option_map}, List.{list_any, sum_by}, Option.{option_or}}}
 use Rattle.hc_text.proofs.Basics.{not_true, or_right, and_left, and_right, bool_cases, not_some as none_some, some_inj}
-use Rattle.hc_effects.proofs.Vocabulary.{Opening, opening_in, is_denied, Event, Response, Act, Limits, head_case, route_of, weight_of, Showing, showing_in, has_loss, accepted_acts, may_begin, are_good, is_good, says, weights_of, case_at, case_of, head_view, is_founding, was_shown, current, is_usable, denial, Entry, Content, Contents, entry_without_acts, exchange_in, Flaw, flaw_in, entry_of, OfRunsIn, IsSmallPiece, count_evicted, Measures, AreOnce, Owners, bound, reads, Tables, Exchange, Representation, Consumer, IsOwed, Sound, Among, tables, first_tables, representation_of_content, numbers, bytes_in, founds, with_item_first, is_hole, binds, binds_by_opening, binds_by_showing, to_front, after_accepted, after_denied, weights, event}
+use Rattle.hc_effects.proofs.Vocabulary.{Opening, opening_in, is_denied, Event, Response, Act, Limits, head_case, route_of, weight_of, Showing, showing_in, has_loss, accepted_acts, may_begin, are_good, is_good, says, weights_of, case_at, case_of, head_view, is_founding, was_shown, current, is_usable, Entry, Content, Contents, entry_without_acts, exchange_in, flaw_in, entry_of, OfRunsIn, IsSmallPiece, count_evicted, Measures, AreOnce, bound, reads, Tables, Exchange, Representation, Consumer, IsOwed, Among, tables, first_tables, representation_of_content, numbers, bytes_in, founds, with_item_first, is_hole, binds, binds_by_opening, binds_by_showing, to_front, after_accepted, after_denied, weights, event}
 use Rattle.hc_model.specs.{Laws.{FitsInRuns, FewInRuns}, Tables.{is_reading}}
 use Rattle.hc_effects.proofs.{Basics.{false_true}, Closed.{among_filter}, BoundKeeps.{planned_at, shown_place_is}, FewGiveWay.{few_give_way}, FirstKeeps.{is_new}, LossBy.{IsReal}, Owed.{IsDenied, is_denial, acts_are}, PieceKeeps.{eq_cases}, Said.{showing_by}, ShownFrom.{ShownAs}, Sums.{filter_among, filter_once, reverse_among, reverse_once, reverse_sum}, Weighed.{held, held_in, is_held, total, weights_most}, Step.{Step, step_of}}
 use Rattle.hc_laws.proofs.{FitsKept.{Fits, within_kept}, MeasuresBegin.{of_number}, RunFacts.{in_runs}}

@@ -1,7 +1,7 @@
 -- What a head founds is written for several, has no byte, or is a part.
 use Rattle.std.{proofs.{Common.{◌≡◌, inl, inr, ℕ, true, false, Option, Some, None, refl, ap, sym, ◌∙◌, arith}, lemmas.Bool.Decides.{nat_tests}}, specs.Prelude.{nat_eq}}
 use Rattle.hc_text.proofs.Basics.{bool_cases, number_not, or_left}
-use Rattle.hc_effects.proofs.Vocabulary.{Event, Response, HeadCase, Limits, head_case, has_loss, case_at, head_view, is_founding, fits_asker, is_refused, place_by_case, denial, doomed_by_case, Entry, promise_in, is_open, Flaw, founded_total, entry_of, Measures, Owners, is_written, new_representation, writer_at, Tables, Exchange, Representation, Sound, after_accepted, event, case, by, place}
+use Rattle.hc_effects.proofs.Vocabulary.{Response, HeadCase, head_case, has_loss, case_at, head_view, is_founding, fits_asker, is_refused, place_by_case, doomed_by_case, Entry, promise_in, is_open, founded_total, entry_of, Measures, is_written, new_representation, writer_at, Tables, Exchange, Representation, after_accepted, event, case, by, place}
 use Rattle.hc_effects.proofs.{ApartKeeps.{written_by}, FirstKeeps.{case_is, is_new}, FoundBy.{FoundingBy, founding_by}, HasBound.{head_stands}, LossBy.{IsReal}, MeasuresKeep.{asker_by}, ServedKeeps.{none_promised}, Waiters.{waiter_of}, Step.{Step}}
 use Rattle.hc_effects.proofs.FoundBy as cases
 

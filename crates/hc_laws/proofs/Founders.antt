@@ -1,7 +1,7 @@
 -- The exchange that founded a representation joined no other.
 use Rattle.std.{proofs.Common.{◌≡◌, ◌⊎◌, inl, inr, ℕ, Bool, true, false, Some, None, refl, ap, sym, ◌∙◌}, specs.Prelude.{if◌then◌else◌}}
 use Rattle.hc_text.proofs.Basics.{bool_cases, not_some as none_some}
-use Rattle.hc_effects.proofs.Vocabulary.{Event, Response, Limits, head_case, has_loss, case_at, head_view, is_founding, is_joining, denial, Entry, Flaw, entry_of, Owners, Tables, Exchange, Representation, Sound, after_accepted, event}
+use Rattle.hc_effects.proofs.Vocabulary.{Response, head_case, has_loss, case_at, head_view, is_founding, is_joining, Entry, entry_of, Tables, Exchange, Representation, after_accepted, event}
 use Rattle.hc_effects.proofs.{Basics.{false_true}, ExchangeFrom.{ExchangeFrom, IsHeaded, exchange_from}, FirstKeeps.{case_is, is_new}, LossStands.{not_founding}, RepFrom.{RepFrom, rep_from}, Step.{Step}}
 use Rattle.hc_effects.proofs.ExchangeFrom as exchange
 use Rattle.hc_effects.proofs.RepFrom as rep

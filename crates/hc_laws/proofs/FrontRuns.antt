@@ -1,7 +1,7 @@
 -- A reader's own open exchange goes on no earlier than where it began to read, in every run.
 use Rattle.std.{proofs.Common.{◌≡◌, ◌⊎◌, inl, inr, ℕ, ◌+◌, ◌≤◌, List, length, true, false, Option, Some, None, refl, ap, sym, ◌∙◌, subst, arith, length-append}, specs.{Prelude.{is_some}, Option.{option_and_then}}}
 use Rattle.hc_text.proofs.Basics.{and_left, and_right, not_some as none_some, same_some as same_row, some_inj}
-use Rattle.hc_effects.proofs.Vocabulary.{Opening, opening_in, Event, Response, Limits, base_of, route_of, BoundBy, Showing, showing_in, case_at, consumer_heard, waiting, by_opening, denial, Entry, base, front, is_headless, Flaw, goes_on_at, if_headless, entry_of, OfRuns, OfRunsIn, Measures, Owners, IsReading, reads, offset, lo_of, bound_to, hole_start, Tables, Exchange, Representation, Consumer, Sound, after_accepted, brings_body, event, route, place}
+use Rattle.hc_effects.proofs.Vocabulary.{Opening, opening_in, Response, Limits, base_of, route_of, BoundBy, Showing, showing_in, case_at, consumer_heard, waiting, by_opening, Entry, base, front, is_headless, goes_on_at, if_headless, entry_of, OfRuns, OfRunsIn, Measures, IsReading, reads, offset, lo_of, bound_to, hole_start, Tables, Exchange, Representation, Consumer, after_accepted, brings_body, event, route, place}
 use Rattle.hc_model.specs.Fronts.{Fronts}
 use Rattle.hc_model.specs.Owners as owners
 use Rattle.hc_model.specs.Sound as sound

@@ -3,7 +3,7 @@ use Rattle.std.{proofs.Common.{◌≡◌, ◌⊎◌, inl, inr, ℕ, ◌+◌, ◌
 use Rattle.hc_text.proofs.Basics.{bool_cases, not_true, or_cases, and_left, and_right, not_some as none_some, same_some as same_row, some_inj, lt_or as split}
 use Rattle.hc_sparse.specs.Cells.{Cells, Covers, cells_with}
 use Rattle.hc_sparse.proofs.CellLemmas.{inside-past}
-use Rattle.hc_effects.proofs.Vocabulary.{Opening, opening_in, Act, Event, Response, HeadCase, Limits, BoundBy, Showing, showing_in, loses_in, has_loss, case_at, is_joining, consumer_heard, consumer_acted, by_opening, waiting, becomes_shared, is_resumed, row_of, denial, Entry, base, front, length_by, stop_cause, cause_of_head, Flaw, covers, entry_of, Measures, Owners, is_written, own_open, if_open, bound_to, offset, hi_of, reads, resumes, Tables, Exchange, Representation, Consumer, Sound, IsBound, IsAlone, IsExclusiveWriter, IsHad, after_accepted, brings_body, has_more, lacks_some, act, event, case, place}
+use Rattle.hc_effects.proofs.Vocabulary.{Opening, opening_in, Act, Response, HeadCase, BoundBy, Showing, showing_in, loses_in, has_loss, case_at, is_joining, consumer_heard, consumer_acted, by_opening, waiting, becomes_shared, is_resumed, row_of, Entry, base, front, length_by, stop_cause, cause_of_head, covers, entry_of, Measures, is_written, own_open, if_open, bound_to, offset, hi_of, reads, resumes, Tables, Exchange, Representation, Consumer, Sound, IsBound, IsAlone, IsExclusiveWriter, IsHad, after_accepted, brings_body, has_more, lacks_some, act, event, case, place}
 use Rattle.hc_model.specs.Sound as sound
 use Rattle.hc_effects.proofs.{Forward.{is_on}, AboutKeeps.{own_open_of}, Basics.{or_false, false_true, true_false, some_row}, Beside.{IsBeside, goes_on_at}, BoundFrom.{BoundFrom, IsRow, IsShown, bound_from}, BoundKeeps.{planned_at}, Covers.{headed_at, offset_more}, Dues.{due_before, due_none, undue_of, stop_none, loss_at}, EventsKeep.{deliveries_are_kept}, ExchangeFrom.{IsSame, IsHeaded}, Exclusives.{IsExclusive}, Fills.{Fills, fills, Brings, brings}, FirstKeeps.{is_new, is_opener}, HoleLemmas.{covers_yes}, HolesOpened.{stored_ends}, LossBy.{IsReal}, Losses.{HasRest}, MeasuresKeep.{IsHeld, held, piece_taken}, OwnFrom.{OwnFrom, own_from}, OwnersKeep.{is_opened, there_kept}, ExclusiveWriters.{one_exclusive_writer, has_exclusive_writer}, PollKeeps.{current_stays, not_come}, RepFrom.{RepFrom, rep_from, IsKept}, Said.{ShowsBy, showing_by}, ShownFrom.{ShownAs, IsPlanned}, Survives.{goes_on}, ToBeShown.{heard_place}, Step.{Step}}
 use Rattle.hc_effects.proofs.BoundFrom as from

@@ -3,7 +3,7 @@ use Rattle.std.{proofs.{Common.{◌≡◌, ◌⊎◌, inl, inr, ℕ, zero, suc, 
 use Rattle.hc_text.proofs.Basics.{both_false, and_left, and_right, bool_cases, not_some as none_some, same_some as same_row, some_inj}
 use Rattle.hc_sparse.specs.Cells.{cells_with, Cells, Covers}
 use Rattle.hc_sparse.proofs.CellLemmas.{inside-cases}
-use Rattle.hc_effects.proofs.Vocabulary.{range, event, route, Event, Response, Need, Length, Limits, length_of, base_of, promise_of, route_of, has_loss, loses_in, case_at, is_joining, row_of, denial, Entry, exchange_heard, exchange_acted, promise_in, base, promised_bytes, front, length_by, is_open, is_reached, Flaw, covers, absent_from, entry_of, Measures, Owners, is_written, new_representation, resumes, hole_start, is_last_part, writer_at, Tables, Exchange, Representation, may_stand, Sound, IsGrowing, InHole, end_from, after_accepted}
+use Rattle.hc_effects.proofs.Vocabulary.{range, event, route, Response, Need, Length, length_of, base_of, promise_of, route_of, has_loss, loses_in, case_at, is_joining, row_of, Entry, exchange_heard, exchange_acted, promise_in, base, promised_bytes, front, length_by, is_open, is_reached, covers, absent_from, entry_of, Measures, is_written, new_representation, resumes, hole_start, is_last_part, writer_at, Tables, Exchange, Representation, may_stand, IsGrowing, InHole, end_from, after_accepted}
 use Rattle.hc_rules.specs.declared.length.Length.TheVariants as told
 use Rattle.hc_effects.proofs.{ApartKeeps.{IsOn, is_on, was_written}, Basics.{false_true, number_is}, ExchangeFrom.{IsSame, IsHeaded}, Fills.{Fills, fills, Brings, brings}, FirstKeeps.{case_is, is_new}, Forward.{after_is}, HeadKeeps.{IsJoin, is_join}, HoleLemmas.{covers_all, first_to}, MeasuresKeep.{held, IsHeld, total_same, one_piece}, PartTold.{part_told, whole_base, IsTold, part_order}, RepFrom.{was, founded, IsEnded, RepFrom, rep_from, IsKept, IsResumed}, Step.{Step}}
 use Rattle.hc_effects.proofs.Fills as fills_by

@@ -2,7 +2,7 @@
 use Rattle.std.{proofs.{Common.{◌≡◌, ◌⊎◌, inl, inr, ℕ, List, [], ◌∷◌, Bool, true, false, Option, Some, None, refl, ap, sym, ◌∙◌, subst, arith}, lemmas.Bool.Decides.{nat_tests}}, specs.Prelude.{if◌then◌else◌, is_some, ◌==◌, ◌&&◌, ◌||◌, not, nat_eq, unwrap_or}}
 use Rattle.hc_text.proofs.Basics.{both_false, both_true as and_both, and_left, and_right, bool_cases, not_some as none_some, never_true as not_so, not_true, number_not, or_left, or_right, same_some as same_row}
 use Rattle.hc_range.specs.{declared.range.{Asked.{Asked}, ContentRange.{ContentRange}, Span.{Span}}, Spans.{resolved_span}}
-use Rattle.hc_effects.proofs.Vocabulary.{range, act, event, case, route, wanted, place, by, Opening, opening_in, Act, Event, Response, HeadCase, Limits, head_case, fits_to_found, fits_part, begins_at, route_of, content_range_of, range_of, wanted_of, wanted_part, BoundBy, loses_in, has_loss, case_at, head_view, is_founding, is_joining, is_updating, fits_asker, consumer_heard, consumer_acted, by_head, by_opening, own_after, left_to, waiting, due_after, place_by_case, becomes_shared, is_resumed, bound_to_wanted, is_number, row_of, denial, Entry, is_for, is_open, family, cause_of_head, cause_by_case, Flaw, founded_total, entry_of, Measures, Owners, is_written, reads, representation_heard, new_representation, resumes, updates, with_renewed_head, representation_after_head, Tables, Exchange, Representation, Consumer, Sound, IsAbout, IsHad, starts_over, after_accepted, came_alone, status_in, loses_writing}
+use Rattle.hc_effects.proofs.Vocabulary.{range, act, event, case, route, wanted, place, by, Opening, opening_in, Act, Response, HeadCase, head_case, fits_to_found, fits_part, begins_at, route_of, content_range_of, range_of, wanted_of, wanted_part, BoundBy, loses_in, has_loss, case_at, head_view, is_founding, is_joining, is_updating, fits_asker, consumer_heard, consumer_acted, by_head, by_opening, own_after, left_to, waiting, due_after, place_by_case, becomes_shared, is_resumed, bound_to_wanted, is_number, row_of, Entry, is_for, is_open, family, cause_of_head, cause_by_case, founded_total, entry_of, Measures, is_written, reads, representation_heard, new_representation, resumes, updates, with_renewed_head, representation_after_head, Tables, Exchange, Representation, Consumer, IsAbout, IsHad, starts_over, after_accepted, came_alone, status_in, loses_writing}
 use Rattle.hc_model.specs.ConsumerRows.{with_head}
 use Rattle.hc_model.specs.Sound as sound
 use Rattle.hc_effects.proofs.{Forward.{is_kept}, AboutKeeps.{own_open_is}, ApartKeeps.{written_by}, Basics.{false_true, or_false}, Dues.{due_none}, ExchangeFrom.{ExchangeFrom, IsSame, IsHeaded, exchange_from}, FirstKeeps.{case_is, is_new}, FoundBy.{FoundingBy, founding_by}, HadKeeps.{own_had, settled, bare_had, was_headed}, HasBound.{head_stands, stays_on, joins_place, awaiting_bound}, HeadKeeps.{is_join}, LossBy.{IsReal}, MeasuresKeep.{founder_not}, OwnersKeep.{is_opened}, RepFrom.{was, founded, RepFrom, rep_from, IsKept}, Waiters.{IsWaiter, waiter_of, unwritten, waits_undue}, Step.{Step}}

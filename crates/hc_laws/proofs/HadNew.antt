@@ -1,7 +1,7 @@
 -- Whose an exchange is that is opened for a hole, or whose head comes.
 use Rattle.std.{proofs.Common.{◌≡◌, ℕ, Bool, true, false, Option, Some, None, refl, ap, sym, ◌∙◌, subst}, specs.Prelude.{is_some}}
 use Rattle.hc_text.proofs.Basics.{never_true, not_some as none_some, same_some as same_row, some_inj}
-use Rattle.hc_effects.proofs.Vocabulary.{Opening, opening_in, Event, Limits, route_of, Place, BoundBy, loses_in, consumer_heard, consumer_acted, waiting, due_after, denial, Entry, exchange_opened, aim_from, is_headless, becomes_due, Flaw, entry_of, Measures, Owners, IsAwaiting, Awaits, IsPast, shows_at, shows_direct, move_of, if_headless, bound, bound_to, own_open, reads, Tables, Exchange, Representation, Consumer, Sound, IsBound, IsAbout, IsHad, IsExclusiveWriter, IsFirst, after_accepted, brings_body, came_alone, event, route, place}
+use Rattle.hc_effects.proofs.Vocabulary.{Opening, opening_in, route_of, Place, BoundBy, loses_in, consumer_heard, consumer_acted, waiting, due_after, Entry, exchange_opened, aim_from, is_headless, becomes_due, entry_of, Measures, IsAwaiting, Awaits, IsPast, shows_at, shows_direct, move_of, if_headless, bound, bound_to, own_open, reads, Tables, Exchange, Representation, Consumer, IsBound, IsAbout, IsHad, IsExclusiveWriter, IsFirst, after_accepted, brings_body, came_alone, event, route, place}
 use Rattle.hc_model.specs.Owners as owners
 use Rattle.hc_model.specs.Sound as sound
 use Rattle.hc_effects.proofs.{AboutKeeps.{own_open_is}, Basics.{false_true, some_none}, BoundFrom.{BoundFrom, IsRow, bound_from}, BoundKeeps.{opens_none}, Dues.{undue_of, due_none}, FirstKeeps.{came_kept, is_opener, open_free}, LossBy.{IsReal, IsSealing, sealed_loss}, OpensFrom.{opens_hole, hole_is}, OwnersKeep.{is_opened}, ExclusiveWriters.{bound_some, none_about, has_exclusive_writer, none_about_hole}, PollKeeps.{current_stays}, RepFrom.{was, founded, RepFrom, rep_from, IsKept}, Said.{IsOpening, opening_by, showing_by}, ServedKeeps.{kept_alone}, WaitingKeeps.{waiting_kept}, ReadingKeeps.{some_of}, Step.{Step}}

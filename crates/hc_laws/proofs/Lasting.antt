@@ -1,7 +1,7 @@
 -- What is written for several and can't be completed later goes on being written, or is all there, as long as it isn't gone.
-use Rattle.std.{proofs.{Common.{◌≡◌, ◌⊎◌, inl, inr, ℕ, ◌≤◌, length, Bool, true, false, Some, None, refl, ap, sym, ◌∙◌, arith}, lemmas.Bool.Decides.{nat_tests}}, specs.Prelude.{◌&&◌, ◌==◌, not, nat_eq, nat_lt}}
+use Rattle.std.{proofs.{Common.{◌≡◌, ◌⊎◌, inl, inr, ℕ, ◌≤◌, length, Bool, true, false, Some, refl, ap, sym, ◌∙◌, arith}, lemmas.Bool.Decides.{nat_tests}}, specs.Prelude.{◌&&◌, ◌==◌, not, nat_eq, nat_lt}}
 use Rattle.hc_text.proofs.Basics.{bool_cases}
-use Rattle.hc_effects.proofs.Vocabulary.{closes_in, Event, Limits, loses_in, denial, Entry, promised_bytes, is_open, Flaw, becomes_gone, goes_itself, ends_early, ends_founding, stops_early, is_keepable, is_below, entry_of, Measures, Owners, is_written, Tables, Exchange, Representation, Sound, IsGrowing, after_accepted, event}
+use Rattle.hc_effects.proofs.Vocabulary.{closes_in, loses_in, Entry, promised_bytes, is_open, becomes_gone, goes_itself, ends_early, ends_founding, stops_early, is_keepable, is_below, entry_of, Measures, is_written, Tables, Exchange, Representation, IsGrowing, after_accepted, event}
 use Rattle.hc_effects.proofs.{ApartKeeps.{is_on}, Basics.{false_true, or_false}, RepFrom.{heard, IsKept}, WritingStops.{IsAll, ends_all}, Step.{Step}}
 
 module _ (step : Step) (m : Measures step.tables) where

@@ -8,7 +8,7 @@ use Rattle.hc_sparse.specs.{Cells.{Covers}, declared.run.Run.{Run}}
 use Rattle.hc_model.specs.{Sound.{headed}, Contents.{is_idle}, Laws.{LeavesInRuns}}
 use Rattle.hc_model.specs.Origins as origins
 use Rattle.hc_model.specs.StoredHeads as heads
-use Rattle.hc_effects.proofs.{Basics.{false_true}, HoleLemmas.{covers_yes}, ExclusiveWriters.{none_about}, PieceKeeps.{eq_cases}, PollKeeps.{current_stays}, Sums.{sum_le, sum_some, is_in, among_of, filter_among, filter_once, reverse_among, reverse_once}, Weighed.{fresh, held, total, held_is}}
+use Rattle.hc_effects.proofs.{Basics.{false_true}, HoleLemmas.{covers_yes}, ExclusiveWriters.{none_about}, PieceKeeps.{eq_cases}, PollKeeps.{current_stays}, Sums.{sum_le, sum_some, is_in, among_of, filter_among, filter_once, reverse_among, reverse_once}, Weighed.{fresh, held, held_is}}
 use Rattle.hc_laws.proofs.{FitsKept.{Fits}, KindsLeft.{kind_by, kind_right, count_is, last_is}, OriginRuns.{origins_in_runs}, RunsFrom.{HasCell, is_of, of_cell, all_of, ascends}, SizesKeep.{sized_runs}, SoundRuns.{IsCarried, carried}, StoredHeadsKeep.{heads_in_runs, within_limits_in_runs}, TargetRuns.{keys_stay_targets}, TagRuns.{tags_in_runs}, Unknowns.{Unknown}, WaitsInRuns.{unknown_in_runs}}
 
 not_by : (b : Bool) → b ≡ false → not b ≡ true

@@ -2,7 +2,7 @@
 use Rattle.std.{proofs.{Common.{◌≡◌, inl, inr, ℕ, ◌+◌, ◌<◌, ◌≤◌, List, [], ◌∷◌, length, Bool, true, false, Option, Some, None, refl, ap, sym, ◌∙◌, arith}, lemmas.Bool.Decides.{nat_tests}}, specs.Prelude.{filter, nat_eq, nat_lt, is_none, ◌||◌, not, if◌then◌else◌}}
 use Rattle.hc_text.proofs.Basics.{bool_cases, not_some as none_some, never_true as not_so, and_off as right_off}
 use Rattle.hc_event.specs.declared.act.Refusal.TheVariants as refusal
-use Rattle.hc_effects.proofs.Vocabulary.{Event, Request, Response, Limits, Place, has_loss, case_at, case_of, consumer_heard, consumer_made, consumer_after, by_fault, back_in_line, denial, is_live, is_live_place, live, doomed_key_of, is_key, Entry, is_for, Flaw, is_event_for, beside, StartsOverBy, entry_of, OfRuns, OfRunsIn, Descends, Owners, IsAwaiting, Tables, Exchange, Consumer, Sound, starts_over, waits_at, sends_back, loses_what_it_waits_for, after_accepted, starts_after, event, place}
+use Rattle.hc_effects.proofs.Vocabulary.{Event, Request, Response, Limits, Place, has_loss, case_at, case_of, consumer_heard, consumer_made, consumer_after, by_fault, back_in_line, denial, is_live, is_live_place, live, doomed_key_of, is_key, Entry, is_for, is_event_for, beside, StartsOverBy, entry_of, OfRuns, OfRunsIn, Descends, IsAwaiting, Tables, Exchange, Consumer, starts_over, waits_at, sends_back, loses_what_it_waits_for, after_accepted, starts_after, event, place}
 use Rattle.hc_rules.specs.Refusals as refusals
 use Rattle.hc_model.specs.Frames as frames
 use Rattle.hc_model.specs.Live.{FewLive}

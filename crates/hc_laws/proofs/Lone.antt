@@ -1,7 +1,7 @@
 -- Beside who came alone others are bound only where that has neither an open exchange of its own nor a hole ahead: at each entry.
 use Rattle.std.{proofs.Common.{◌≡◌, ◌⊎◌, inl, inr, ℕ, Bool, true, false, Option, Some, None, refl, ap, sym, ◌∙◌, subst, arith}, specs.Prelude.{is_some, is_none}}
 use Rattle.hc_text.proofs.Basics.{or_off_left, all_three, and_left, and_right, bool_cases, not_some as none_some, or_off_right as or_right, same_some as same_row}
-use Rattle.hc_effects.proofs.Vocabulary.{Opening, opening_in, Event, Response, route_of, Limits, BoundBy, loses_in, Showing, showing_in, consumer_heard, consumer_acted, by_opening, waiting, current, denial, Entry, is_open, becomes_due, Flaw, entry_of, Measures, Owners, move_of, is_written, own_open, offset, hi_of, bound_to, reads, Tables, Exchange, Representation, Consumer, Sound, IsBound, IsFirst, after_accepted, came_alone, may_write, has_more, lacks_some, exclusive, brings_body, event, route, place}
+use Rattle.hc_effects.proofs.Vocabulary.{Opening, opening_in, Response, route_of, BoundBy, loses_in, Showing, showing_in, consumer_heard, consumer_acted, by_opening, waiting, current, Entry, is_open, becomes_due, entry_of, Measures, move_of, is_written, own_open, offset, hi_of, bound_to, reads, Tables, Exchange, Representation, Consumer, Sound, IsBound, IsFirst, after_accepted, came_alone, may_write, has_more, lacks_some, exclusive, brings_body, event, route, place}
 use Rattle.hc_model.specs.Sound as sound
 use Rattle.hc_effects.proofs.{AboutKeeps.{own_open_of, own_open_is}, ApartKeeps.{written_by}, Basics.{false_true, or_false}, BoundFrom.{BoundFrom, IsRow, IsShown, bound_from, place_inj}, BoundKeeps.{shown_place_is}, Dues.{due_before}, ExchangeFrom.{ExchangeFrom, exchange_from}, FirstKeeps.{is_new, came_kept, open_free}, LossBy.{IsReal}, Losses.{HasRest, exclusive_is, no_more, or_end}, OwnFrom.{OwnFrom, own_from}, OwnersKeep.{is_opened}, ExclusiveWriters.{IsAtHole, bound_some, shares_source, writer_some}, RepFrom.{RepFrom, rep_from, IsKept, IsResumed}, Said.{IsShowing, showing_by}, ServedKeeps.{rest_by, still_rests, resumed_not}, ShownFrom.{shown_from}, Stops.{writer_about}, ToBeShown.{heard_place}, WriterEnds.{all_stored}, Step.{Step}}
 use Rattle.hc_laws.proofs.OpensLater.{opens_later}

@@ -1,7 +1,7 @@
 -- Who opens an exchange where it reads opens it for a hole ahead of it, as the exclusive writer.
 use Rattle.std.proofs.Common.{◌≡◌, ℕ, Option, Some, None, ap, sym, ◌∙◌, subst}
 use Rattle.hc_text.proofs.Basics.{not_some as none_some, same_some as same_row, some_inj}
-use Rattle.hc_effects.proofs.Vocabulary.{Opening, opening_in, Need, Event, Limits, BoundBy, denial, Flaw, entry_of, aim_from, bound, bound_to, offset, held_of_lost, Owners, Tables, Representation, Consumer, Sound, place}
+use Rattle.hc_effects.proofs.Vocabulary.{Opening, opening_in, Need, BoundBy, entry_of, aim_from, bound, bound_to, offset, held_of_lost, Tables, Representation, Consumer, place}
 use Rattle.hc_model.specs.Sound as sound
 use Rattle.hc_effects.proofs.{FirstKeeps.{is_opener}, OpensFrom.{IsHole, hole_is, opens_hole}, OwnersKeep.{is_opened}, ExclusiveWriters.{IsAtHole, bound_some}, PollTree.{later, first, OpensHole}, Step.{Step}}
 use Rattle.hc_effects.proofs.OpenedAs as opened

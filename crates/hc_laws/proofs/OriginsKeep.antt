@@ -1,7 +1,7 @@
 -- A number goes on naming the bytes of one body alone.
 use Rattle.std.{proofs.{Common.{◌≡◌, ◌⊎◌, inl, inr, ℕ, ◌+◌, ◌<◌, ◌≤◌, List, length, true, Option, Some, None, refl, ap, sym, ◌∙◌, arith}, lemmas.Bool.Decides.{nat_tests}}, specs.Prelude.{is_some, nat_lt, unwrap_or}}
 use Rattle.hc_text.proofs.Basics.{bool_cases, not_some as none_some, same_some as same_row, some_inj}
-use Rattle.hc_effects.proofs.Vocabulary.{Opening, opening_in, Event, Limits, denial, Entry, family, front, Flaw, entry_of, Measures, HasByte, MayDeliver, Origins, Owners, Tables, Exchange, Representation, Sound, after_accepted, after_denied, opened_after}
+use Rattle.hc_effects.proofs.Vocabulary.{Opening, opening_in, Entry, family, front, entry_of, Measures, HasByte, MayDeliver, Origins, Tables, Exchange, Representation, after_accepted, after_denied, opened_after}
 use Rattle.hc_sparse.specs.Cells.{Cell, cells_with}
 use Rattle.hc_sparse.proofs.CellLemmas.{inside-cases}
 use Rattle.hc_model.specs.Origins as origins

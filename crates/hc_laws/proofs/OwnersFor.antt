@@ -1,7 +1,7 @@
 -- Whose own an exchange may be: that of its consumer, or of the detached reader of what it wrote for several, in every run.
-use Rattle.std.{proofs.Common.{◌≡◌, inl, inr, ℕ, true, Option, Some, None, refl, ap, sym, ◌∙◌, subst}, specs.Prelude.{is_some, unwrap_or, ◌&&◌}}
+use Rattle.std.{proofs.Common.{◌≡◌, inl, inr, ℕ, true, Option, Some, refl, ap, sym, ◌∙◌, subst}, specs.Prelude.{is_some, unwrap_or, ◌&&◌}}
 use Rattle.hc_text.proofs.Basics.{and_left, and_right, bool_cases, not_some as none_some, same_some as same_row}
-use Rattle.hc_effects.proofs.Vocabulary.{Opening, opening_in, Event, Response, Limits, loses_in, denial, Entry, family, Flaw, entry_of, OfRunsIn, Measures, Owners, is_written, Tables, Exchange, Representation, Consumer, Sound, after_accepted, after_denied, IsOwner, loses_writing, brings_body, event}
+use Rattle.hc_effects.proofs.Vocabulary.{Opening, opening_in, Response, Limits, loses_in, Entry, family, entry_of, OfRunsIn, Measures, is_written, Tables, Exchange, Representation, Consumer, after_accepted, after_denied, IsOwner, loses_writing, brings_body, event}
 use Rattle.hc_model.specs.Whose as whose
 use Rattle.hc_effects.proofs.{Basics.{false_true, some_row}, ExchangeFrom.{ExchangeFrom, exchange_from, IsSame}, FirstKeeps.{is_new}, LossBy.{IsReal, fresh}, OwnFrom.{OwnFrom, own_from, IsLeft}, OwnersKeep.{new_number}, RepFrom.{RepFrom, rep_from, IsKept}, ServedKeeps.{lost_alone, kept_alone}, Step.{Step, step_of}}
 use Rattle.hc_effects.proofs.ExchangeFrom as exchange

@@ -1,7 +1,7 @@
 -- Whoever waits for a body asks for what is stored: its request isn't a bypassing one.
-use Rattle.std.proofs.Common.{◌≡◌, ℕ, Bool, true, false, Option, Some, None, refl, ap, sym, ◌∙◌}
+use Rattle.std.proofs.Common.{◌≡◌, ℕ, Bool, true, false, Option, Some, refl, ap, sym, ◌∙◌}
 use Rattle.hc_text.proofs.Basics.{same_some as same_row}
-use Rattle.hc_effects.proofs.Vocabulary.{Event, Request, Response, Need, Limits, is_conditional, is_bypassing, wait_in, has_loss, case_at, head_view, denial, Entry, Flaw, entry_of, Owners, Tables, Exchange, Consumer, Sound, after_accepted, event, need, wait, case, place}
+use Rattle.hc_effects.proofs.Vocabulary.{Request, Response, Need, is_conditional, is_bypassing, wait_in, has_loss, case_at, head_view, Entry, entry_of, Tables, Exchange, Consumer, after_accepted, event, need, wait, case, place}
 use Rattle.hc_effects.proofs.{Basics.{false_true}, FirstKeeps.{case_of_head}, FoundBy.{CaseBy}, Forward.{is_kept}, Said.{waiting_by}, WaitedAs.{waited_as}, Step.{Step}}
 use Rattle.hc_effects.proofs.FoundBy as cases
 use Rattle.hc_laws.proofs.PassedFrom.{PassedFrom, passed_from}

@@ -1,7 +1,7 @@
 -- Of an answer past the store that is over without a failure all came, at each entry.
 use Rattle.std.{proofs.{Common.{◌≡◌, inl, inr, ℕ, ◌+◌, ◌≤◌, List, ◌++◌, length, Bool, true, false, Option, Some, None, refl, ap, sym, ◌∙◌, subst, arith}, lemmas.Bool.Decides.{nat_tests}}, specs.{Prelude.{if◌then◌else◌, ◌==◌, ◌&&◌, not, nat_eq, nat_lt, unwrap_or}, Option.{option_or}}}
 use Rattle.hc_text.proofs.Basics.{and_left, and_right, bool_cases, not_some as none_some, never_true as not_so, or_cases, same_some as same_row, some_inj}
-use Rattle.hc_effects.proofs.Vocabulary.{closes_in, Act, Event, Response, Limits, case_at, must_close, is_refused, brings_head, is_doomed, awaits, has_no_survivor, is_left, leaver, consumer_heard, consumer_acted, by_head, is_number, denial, Entry, exchange_in, base, front, promised_bytes, family, is_reached, exchange_heard, exchange_acted, with_head, with_piece, promise_in, stop_cause, short_of, short_cause, Flaw, entry_of, Measures, Owners, end_of_direct, own_open, source, shared_exchange, reads, Tables, Exchange, Consumer, Sound, awaited_exchange, after_accepted, event, place, by}
+use Rattle.hc_effects.proofs.Vocabulary.{closes_in, Act, Event, Response, case_at, must_close, is_refused, brings_head, is_doomed, awaits, has_no_survivor, is_left, leaver, consumer_heard, consumer_acted, by_head, is_number, denial, Entry, exchange_in, base, front, promised_bytes, family, is_reached, exchange_heard, exchange_acted, with_head, with_piece, promise_in, stop_cause, short_of, short_cause, entry_of, Measures, end_of_direct, own_open, source, shared_exchange, reads, Tables, Exchange, Consumer, awaited_exchange, after_accepted, event, place, by}
 use Rattle.hc_effects.proofs.{Basics.{false_true}, Bounded.{IsBounded}, Closed.{before}, Dues.{due_before, undue_parts}, ExchangeFrom.{ExchangeFrom, exchange_from}, FirstKeeps.{is_new}, Forward.{after_is}, MeasuresKeep.{piece_taken, ender}, Once.{never}, OwnersKeep.{new_number}, PastKeeps.{IsFrom, PlaceFrom, direct_from}, PieceKeeps.{eq_cases}, ShownStays.{IsFallback}, ToBeShown.{heard_place}, Unclosed.{had_to}, Waiters.{IsWaiter, waiter_as, case_same, unclosed_unless, unleft, fault_open_of}, Step.{Step}}
 use Rattle.hc_effects.proofs.ExchangeFrom as exchange
 use Rattle.hc_effects.proofs.PastKeeps as past

@@ -1,7 +1,7 @@
 -- What an open exchange brings that is of no representation is read past the store, at each entry.
 use Rattle.std.{proofs.Common.{◌≡◌, ◌⊎◌, inl, inr, ℕ, true, false, Option, Some, None, refl, ap, sym, ◌∙◌}, specs.Prelude.{is_some, is_none, ◌==◌, ◌&&◌, not, unwrap_or}}
 use Rattle.hc_text.proofs.Basics.{none_or, all_false, and_left, and_off, and_right, bool_cases, never_true as not_so, same_some as same_row, some_inj}
-use Rattle.hc_effects.proofs.Vocabulary.{opening_in, Event, Response, HeadCase, head_case, Limits, route_of, has_loss, case_at, case_of, head_view, consumer_heard, by_head, by_fault, waiting, own_after, denial, doomed_key_of, doomed_in, doomed_by_head, doomed_by_case, is_key, Entry, exchange_at, is_for, family, Flaw, entry_of, Owners, IsAwaiting, bound_to, Tables, Exchange, Representation, Consumer, Sound, starts_over, sends_back, waits_at, loses_what_it_waits_for, after_accepted, event, route, place}
+use Rattle.hc_effects.proofs.Vocabulary.{opening_in, Event, Response, HeadCase, head_case, route_of, has_loss, case_at, case_of, head_view, consumer_heard, by_head, by_fault, waiting, own_after, doomed_key_of, doomed_in, doomed_by_head, doomed_by_case, is_key, Entry, exchange_at, is_for, family, entry_of, IsAwaiting, bound_to, Tables, Exchange, Representation, Consumer, Sound, starts_over, sends_back, waits_at, loses_what_it_waits_for, after_accepted, event, route, place}
 use Rattle.hc_model.specs.Owners as owners
 use Rattle.hc_model.specs.Places.{IsReadPast}
 use Rattle.hc_model.specs.Sound as sound

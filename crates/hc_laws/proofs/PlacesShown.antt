@@ -1,7 +1,7 @@
 -- Who was shown a head reads, or is over, at each entry.
 use Rattle.std.{proofs.Common.{◌≡◌, inl, inr, ℕ, ◌++◌, Bool, true, false, Option, Some, None, refl, ap, sym, ◌∙◌, subst}, specs.Prelude.{if◌then◌else◌, is_none, is_some, ◌==◌, ◌&&◌, not}}
 use Rattle.hc_text.proofs.Basics.{all_false, and_left, and_off, and_right, bool_cases, never_true as not_so, or_cases, same_some as same_row}
-use Rattle.hc_effects.proofs.Vocabulary.{Opening, opening_in, leaves_in, shows_in, Event, Response, Wait, Why, HeadCase, head_case, Limits, route_of, Route, case_on, first_case, later_case, Place, has_loss, fails_in, misreads_in, leaver_in, Showing, showing_in, wait_in, loss_acts, case_at, case_of, head_view, was_shown, consumer_heard, by_head, by_fault, by_opening, shown_place, waiting, waiting_place, place_by_case, denial, doomed_key_of, bypassed_by, is_key, Entry, exchange_at, is_for, is_headless, Flaw, flaw_in, becomes_gone, goes_in, entry_of, Turns, Shows, acts_of, Owners, IsAwaiting, move_of, bound_to, reads, Tables, Exchange, Representation, Consumer, Sound, starts_over, sends_back, waits_at, loses_what_it_waits_for, after_accepted, event, wait, route, place, by}
+use Rattle.hc_effects.proofs.Vocabulary.{Opening, opening_in, leaves_in, shows_in, Event, Response, Wait, Why, HeadCase, head_case, route_of, Route, case_on, first_case, later_case, Place, has_loss, fails_in, misreads_in, leaver_in, Showing, showing_in, wait_in, loss_acts, case_at, case_of, head_view, was_shown, consumer_heard, by_head, by_fault, by_opening, shown_place, waiting, waiting_place, place_by_case, doomed_key_of, bypassed_by, is_key, Entry, exchange_at, is_for, is_headless, flaw_in, becomes_gone, goes_in, entry_of, Turns, Shows, acts_of, IsAwaiting, move_of, bound_to, reads, Tables, Exchange, Representation, Consumer, starts_over, sends_back, waits_at, loses_what_it_waits_for, after_accepted, event, wait, route, place, by}
 use Rattle.hc_model.specs.Owners as owners
 use Rattle.hc_laws.proofs.{TurnOpens.{goes_none, doom_none}, FallbackKeeps.{landing, new_unshown}, PlacesKept.{AreOwn, settled}, TurnFacts.{moves_on, misreads, IsTaken, AtPoll, seen, behind, far_behind, opens_behind, misreads_behind, at_poll, eq-refl}}
 use Rattle.hc_effects.proofs.{ActParts.{leaver_lost}, Basics.{false_true}, Joining.{mix}, FirstKeeps.{is_new, case_is, is_opener}, OpenedAs.{opened_as}, PieceKeeps.{eq_cases}, Said.{WaitsAs, waiting_by}, ShownStays.{IsFallback, way_bound, shows_not, unless_same}, TurnPlaces.{is_after}, WaitedAs.{turn, busy, IsForOthers, waited_as}, Waiters.{IsWaiter, waiter_of}, Step.{Step}}

@@ -1,7 +1,7 @@
 -- Whoever was shown a head reads what it was shown, from where and to where it was shown: where it is shown it, and as long as it reads.
 use Rattle.std.{proofs.Common.{◌≡◌, ◌⊎◌, inl, inr, ℕ, ◌+◌, List, length, Bool, true, false, Option, Some, None, refl, ap, sym, ◌∙◌}, specs.{Prelude.{is_some}, Option.{option_or}}}
 use Rattle.hc_text.proofs.Basics.{bool_cases, not_some as none_some, same_some as same_row, some_inj}
-use Rattle.hc_effects.proofs.Vocabulary.{Event, Response, Why, Limits, base_of, promise_of, piece_refusal, BoundBy, Place, total_in, denial, as_open, Entry, exchange_heard, base, promised_bytes, length_by, Flaw, Shown, entry_of, Move, Nothing, Shows, shows_stored, Owners, move_of, shows_at, shows_bound, shows_direct, shows_answer, has_joined, bound_to, reads, lo_of, hi_of, base_in, end_in, end_of_direct, Tables, Exchange, Representation, Consumer, Sound, after_accepted, event, by, place}
+use Rattle.hc_effects.proofs.Vocabulary.{Event, Response, Why, Limits, base_of, promise_of, piece_refusal, BoundBy, Place, total_in, denial, as_open, Entry, exchange_heard, base, promised_bytes, length_by, Flaw, Shown, entry_of, Move, Nothing, Shows, shows_stored, move_of, shows_at, shows_bound, shows_direct, shows_answer, has_joined, bound_to, reads, lo_of, hi_of, base_in, end_in, end_of_direct, Tables, Exchange, Representation, Consumer, Sound, after_accepted, event, by, place}
 use Rattle.hc_rules.specs.Refusals as refusals
 use Rattle.hc_laws.proofs.FallbackKeeps.{IsLanding, shown_headed}
 use Rattle.hc_effects.proofs.{Basics.{false_true}, ExchangeFrom.{IsSame, IsHeaded}, Fills.{Brings, brings, length_same}, FirstKeeps.{is_new}, Forward.{is_on, after_is}, GivenNext.{read_of}, MoveBy.{MoveBy, move_by}, Once.{taken}, PastApart.{IsHeadedRow}, PieceKeeps.{eq_cases}, RepFrom.{RepFrom, rep_from}, ShownStays.{IsFallback, Lands}, Step.{Step}}

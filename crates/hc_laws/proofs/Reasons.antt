@@ -1,7 +1,7 @@
 -- The reason for which a consumer is shown a head holds, in every run.
 use Rattle.std.{proofs.Common.{◌≡◌, ℕ, ◌-◌, [], ◌∷◌, Bool, true, false, Option, Some, None, refl, ap, sym, ◌∙◌, subst}, specs.{Prelude.{is_some, nat_eq, nat_lt, ◌||◌}, Option.{option_map, option_and_then}}}
 use Rattle.hc_text.proofs.Basics.{not_some as none_some, or_left, or_right, eq_itself as same_number, some_inj}
-use Rattle.hc_effects.proofs.Vocabulary.{is_denied, Why, Event, Request, Limits, Place, may_begin, consumer_heard, kept_by, current, is_number, denial, Entry, History, Contents, exchange_in, Flaw, flaw_in, opening_of, joined_of, request_of, opened_in, entry_of, OfRuns, Turns, Owners, IsFor, has_joined, Tables, Exchange, Representation, Consumer, IsRun, IsOwed, Sound, tables, after_accepted, after_denied, wait, place}
+use Rattle.hc_effects.proofs.Vocabulary.{is_denied, Why, Request, Limits, Place, may_begin, consumer_heard, kept_by, current, is_number, Entry, History, Contents, exchange_in, flaw_in, opening_of, joined_of, request_of, opened_in, entry_of, OfRuns, Turns, IsFor, has_joined, Tables, Exchange, Representation, Consumer, IsRun, IsOwed, tables, after_accepted, after_denied, wait, place}
 use Rattle.hc_event.specs.declared.act.Why.TheVariants as why_is
 use Rattle.hc_cachectl.specs.{declared.directives.Directives.{Directives}, Directives.{of_request, of_response}}
 use Rattle.hc_event.specs.declared.event.Load.{Load}

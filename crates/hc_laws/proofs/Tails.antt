@@ -3,7 +3,7 @@ use Rattle.std.{proofs.Common.{◌≡◌, ◌⊎◌, inl, inr, ℕ, ◌+◌, ◌
 use Rattle.hc_text.proofs.Basics.{and_right, not_some as none_some, same_some as same_row, some_inj}
 use Rattle.hc_sparse.specs.Cells.{Cells, inside, cells_with}
 use Rattle.hc_sparse.proofs.CellLemmas.{inside-cases}
-use Rattle.hc_effects.proofs.Vocabulary.{Opening, opening_in, Event, Response, base_of, Limits, BoundBy, loses_in, consumer_heard, denial, Entry, base, front, family, Flaw, entry_of, Measures, Owners, is_written, offset, own_open, Tables, Exchange, Representation, Consumer, Sound, IsBound, IsAbout, IsExclusiveWriter, IsHad, after_accepted, event, place}
+use Rattle.hc_effects.proofs.Vocabulary.{Opening, opening_in, Response, base_of, BoundBy, loses_in, consumer_heard, denial, Entry, base, front, family, entry_of, Measures, is_written, offset, own_open, Tables, Exchange, Representation, Consumer, Sound, IsBound, IsAbout, IsExclusiveWriter, IsHad, after_accepted, event, place}
 use Rattle.hc_model.specs.Sound as sound
 use Rattle.hc_effects.proofs.{AboutKeeps.{own_open_of, own_open_is}, ApartKeeps.{is_on}, Basics.{false_true}, Beside.{IsBeside}, BoundFrom.{IsRow}, Covers.{offset_more}, ExchangeFrom.{ExchangeFrom, exchange_from, IsSame}, Fills.{Fills, fills, IsPiece, brings, length_same}, FirstKeeps.{is_new}, LossBy.{IsReal}, MeasuresKeep.{piece_taken}, Once.{delivers_once}, OwnFrom.{OwnFrom, own_from}, OwnersKeep.{new_number}, ExclusiveWriters.{one_exclusive_writer}, RepFrom.{IsKept}, Stops.{writer_about}, Survives.{goes_on}, Step.{Step}}
 use Rattle.hc_effects.proofs.ExchangeFrom as exchange

@@ -1,7 +1,7 @@
 -- Whose exchange is written together from now on had its head come: that joined what it is bound to.
 use Rattle.std.proofs.Common.{◌≡◌, ◌⊎◌, inl, inr, ℕ, true, Option, Some, None, ap, sym, ◌∙◌}
 use Rattle.hc_text.proofs.Basics.{same_some as same_row}
-use Rattle.hc_effects.proofs.Vocabulary.{Event, route_of, Limits, BoundBy, case_at, is_joining, denial, Entry, Flaw, entry_of, Owners, Tables, Exchange, Consumer, Sound, route, place}
+use Rattle.hc_effects.proofs.Vocabulary.{route_of, BoundBy, case_at, is_joining, Entry, entry_of, Exchange, Consumer, route, place}
 use Rattle.hc_effects.proofs.{BoundFrom.{IsRow}, ExchangeFrom.{IsHeaded, IsSame}, FirstKeeps.{IsNew, is_new}, Forward.{IsOn, is_on}, HeadKeeps.{IsJoin}, Waiters.{IsWaiter, waiter_of}, Step.{Step}}
 use Rattle.hc_effects.proofs.HeadTo as to
 use Rattle.hc_laws.proofs.OwnNone.{IsShared}

@@ -1,7 +1,7 @@
 -- Nothing is due for whoever reads what is being written for several.
 use Rattle.std.{proofs.Common.{◌≡◌, inl, inr, ℕ, Bool, true, false, Option, Some, None, refl, ap, sym, ◌∙◌, subst}, specs.Prelude.{if◌then◌else◌, is_some, ◌||◌}}
 use Rattle.hc_text.proofs.Basics.{or_right, or_left, and_left, and_right, not_some as none_some, never_true as not_so, not_true, same_some as same_row, some_inj}
-use Rattle.hc_effects.proofs.Vocabulary.{Opening, opening_in, Event, Response, HeadCase, Limits, head_case, is_same_number, route_of, BoundBy, has_loss, loses_in, case_at, head_view, is_founding, is_joining, consumer_heard, consumer_acted, is_number, denial, Entry, exchange_in, is_for, is_open, becomes_due, cause_of_stop, cause_of_loss, cause_of_head, cause_by_case, stop_cause, Flaw, entry_of, Owners, IsAwaiting, is_written, source, reads, Tables, Exchange, Representation, Consumer, may_stand, Sound, IsBound, IsFirst, IsExclusiveWriter, after_accepted, loses_writing, event, case, route, place}
+use Rattle.hc_effects.proofs.Vocabulary.{Opening, opening_in, Event, Response, HeadCase, head_case, is_same_number, route_of, BoundBy, has_loss, loses_in, case_at, head_view, is_founding, is_joining, consumer_heard, consumer_acted, is_number, Entry, exchange_in, is_for, is_open, becomes_due, cause_of_stop, cause_of_loss, cause_of_head, cause_by_case, stop_cause, entry_of, IsAwaiting, is_written, source, reads, Tables, Exchange, Representation, Consumer, may_stand, IsBound, IsFirst, IsExclusiveWriter, after_accepted, loses_writing, event, case, route, place}
 use Rattle.hc_model.specs.Owners as owners
 use Rattle.hc_model.specs.Sound as sound
 use Rattle.hc_effects.proofs.{ApartKeeps.{IsOn, is_on, was_written}, Basics.{number_is, false_true, or_false}, BoundFrom.{BoundFrom, bound_from}, BoundKeeps.{founding_is}, Dues.{undue_of, stop_none, loss_at, loss_free, due_none}, ExchangeFrom.{ExchangeFrom, exchange_from}, FirstKeeps.{case_is, is_new, open_free}, FoundBy.{case_by, founding_by, founds_way}, MemberStays.{head_not}, OwnersKeep.{is_opened}, PieceKeeps.{eq_cases}, ExclusiveWriters.{writer_some}, RepFrom.{RepFrom, rep_from, IsKept, IsResumed}, Stops.{source_is}, HasBound.{joins_way}, Waiters.{IsWaiter, waiter_of, unwritten, waits_undue}, Step.{Step}}

@@ -1,7 +1,7 @@
 -- The detached reader of what has no known end reads from the exchange that founded it, which is still open: in every run.
 use Rattle.std.{proofs.{Common.{◌≡◌, ◌⊎◌, inl, inr, ℕ, List, length, Bool, true, false, Option, Some, None, refl, ap, sym, ◌∙◌, subst, arith}, lemmas.Bool.Decides.{nat_tests}}, specs.{Prelude.{◌&&◌, ◌++◌, is_some, is_none, nat_eq, unwrap_or, if◌then◌else◌}, Option.{option_or}}}
 use Rattle.hc_text.proofs.Basics.{and_left, and_right, not_some as none_some, never_true as not_so, or_cases, same_some as same_row, some_inj}
-use Rattle.hc_effects.proofs.Vocabulary.{Opening, closes_in, opening_in, Event, Response, is_same_number, Limits, BoundBy, case_at, must_close, is_refused, brings_head, is_doomed, has_no_survivor, is_left, leaver, leaver_by, consumer_heard, consumer_acted, is_number, denial, Unended, Entry, exchange_acted, exchange_heard, with_piece, exchange_in, family, is_open, is_reached, promised_bytes, becomes_due, stop_cause, Flaw, entry_of, OfRuns, Measures, IsMeasured, Owners, is_written, own_open, shared_exchange, source, reads, Tables, Exchange, Representation, Consumer, Sound, IsBound, IsFirst, IsGrowing, after_accepted, brings_body, came_alone, loses_writing, survivor, cause, event, place}
+use Rattle.hc_effects.proofs.Vocabulary.{Opening, closes_in, opening_in, Event, Response, is_same_number, BoundBy, case_at, must_close, is_refused, brings_head, is_doomed, has_no_survivor, is_left, leaver, leaver_by, consumer_heard, consumer_acted, is_number, Unended, Entry, exchange_acted, exchange_heard, with_piece, exchange_in, family, is_open, is_reached, promised_bytes, becomes_due, stop_cause, entry_of, OfRuns, Measures, IsMeasured, is_written, own_open, shared_exchange, source, reads, Tables, Exchange, Representation, Consumer, IsBound, IsFirst, IsGrowing, after_accepted, brings_body, came_alone, loses_writing, survivor, cause, event, place}
 use Rattle.hc_model.specs.Measures as measures
 use Rattle.hc_model.specs.Sound as sound
 use Rattle.hc_effects.proofs.{AboutKeeps.{IsOwn, own_open_of, own_open_is}, ApartKeeps.{is_on}, Basics.{false_true}, Beside.{IsBeside}, BoundFrom.{IsRow}, Closed.{before}, Dues.{due_before, undue_parts}, FirstKeeps.{is_new}, Forward.{after_is}, LossBy.{IsReal}, OwnFrom.{OwnFrom, own_from}, ExclusiveWriters.{writer_some}, PieceKeeps.{eq_cases}, RepFrom.{IsKept, IsEnded}, Said.{leaving_by}, SaidActs.{leaver_leaves}, Stops.{source_is}, Survives.{goes_on}, ToBeShown.{heard_place}, Unclosed.{had_to}, Waiters.{unleft, waiter_as}, WritingStops.{ended_total}, WriterEnds.{none_of}, Step.{Step, step_of}}

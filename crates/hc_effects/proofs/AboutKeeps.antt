@@ -1,4 +1,9 @@
 -- The open exchange of who is bound is about what that is bound to.
+--
+-- Without a head its consumer waits for it, bound to what it asks about (`by_waiting`). With one, by where the own
+-- exchange comes from (`by_from`): it was its own and still is of what it was, as its reader stays there
+-- (`kept_about`); its head comes now and leaves its consumer at what it founds or joins (`by_head`); or a writing is
+-- left to it, of what it reads (`left_about`). `own_about_kept` joins these.
 use Rattle.std.{proofs.{lemmas.Bool.Decides.{nat_tests}, Common.{arith, ◌≡◌, ◌⊎◌, inl, inr, ℕ, Bool, true, Option, Some, None, refl, ap, sym, ◌∙◌}}, specs.{Prelude.{if◌then◌else◌, is_some, unwrap_or}, Option.{option_and_then}}}
 use Rattle.hc_text.proofs.Basics.{not_some as none_some, same_some as same_row}
 use Rattle.hc_effects.proofs.Vocabulary.{Response, BoundBy, consumer_heard, Entry, is_open, family, entry_of, IsAwaiting, Awaits, own_open, if_open, Tables, Exchange, Consumer, may_stand, IsBound, IsAbout, after_accepted, event, place}

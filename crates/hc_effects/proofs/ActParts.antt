@@ -1,4 +1,9 @@
--- What the parts of an answer say: what makes room, what is lost, what is closed, and what is said to the consumer of a poll.
+-- What the parts of an answer say: what makes room, what is lost or closed, and what the consumer of a poll is told.
+--
+-- `IsAnswer` takes the acts of an accepted event apart, by its kind: what makes room, what is said, a loss, closings. A
+-- part says nothing of most matters, so it is left out there: what asks goes by `asks_evicted` and its like, closings
+-- by `closes_lost`, losses by `loses_closed`. What is said to a poll's consumer is by `said_is`, and isn't about others
+-- (`far_other`). All are short inductions; most files on acts use them.
 use Rattle.std.{proofs.{lemmas.Bool.Decides.{nat_tests}, Common.{arith, ◌≡◌, inl, inr, ℕ, List, [], ◌∷◌, ◌++◌, Bool, true, false, Option, Some, None, refl, ap, sym, ◌∙◌}}, specs.Prelude.{map, filter, ◌==◌, ◌||◌, nat_eq}}
 use Rattle.hc_text.proofs.Basics.{bool_cases, some_inj as some_is}
 use Rattle.hc_effects.proofs.Vocabulary.{Opening, opening_in, asks_in, closes_in, shows_in, given_in, leaves_in, evicts_in, Act, Event, Limits, loses_in, misreads_in, fails_in, leaver_in, wait_in, Showing, showing_in, accepted_acts, answer_acts, poll_acts, loss_acts, close_acts, Flaw, NoFlaw, Loses, Misreads, Move, Nothing, Opens, Shows, Gives, Ends, Fails, acts_of, poll_move, Tables, Consumer, evicted, act, event}

@@ -1,4 +1,9 @@
 -- Two entries of one event whose acts say the same but for what makes room do the same but for that.
+--
+-- `AreAlike` lists what acts say, but for evictions; acts with and without these are alike (`alike_evicted`). Each part
+-- of what an entry does looks at just that: what goes by itself (`itself_same`), exchanges (`exchange_same`),
+-- representations (`heard_same`), consumers (`acted_same`, `due_same`), and what is written (`written_same`). All go by
+-- the event and by the cases of a head. That evictions come last is built on these.
 use Rattle.std.{proofs.{lemmas.Bool.Decides.{nat_tests}, Common.{arith, ◌≡◌, ℕ, List, [], ◌∷◌, ◌++◌, Bool, Option, Some, None, refl, ap, ◌∙◌}}, specs.Prelude.{map, ◌==◌, ◌||◌, ◌&&◌, not, if◌then◌else◌}}
 use Rattle.hc_effects.proofs.Vocabulary.{Opening, opening_in, asks_in, closes_in, shows_in, given_in, leaves_in, Act, Event, Response, HeadCase, Place, loses_in, has_loss, misreads_in, fails_in, wait_in, showing_in, case_at, case_of, consumer_heard, by_head, consumer_acted, is_current, doomed_key_of, doomed_in, bypass_key, bypassed_by, is_key, Entry, exchange_after, exchange_heard, exchange_acted, exchange_made, exchange_at, family, becomes_due, cause_of_loss, cause_of_head, goes_by_case, goes_by_exchange, ends_founding, is_keepable, goes_itself, representation_heard, founded_at, Tables, Exchange, Representation, Consumer, founds, binds, written_in, head_writes, first_found, sealed_representation, seals_at, sealed_by, is_sealed, stops, act, case}
 use Rattle.hc_event.specs.declared.event.Event.TheVariants as event

@@ -1,4 +1,9 @@
 -- The exchange of a writing that is on is nobody's own.
+--
+-- By where the writing comes from (`apart_from`). One that was on was nobody's own, and becomes nobody's (`from_was`).
+-- At a head nothing is opened or left to anybody, so an own exchange was so before (`own_before`). What founds or joins
+-- so that several may write gives its consumer's exchange up (`shared_by`, `founded_shared`); so it isn't its own then
+-- (`from_head`, `from_resumed`). Many files use `is_on` and `written_by`.
 use Rattle.std.{proofs.{Common.{◌≡◌, inl, inr, ℕ, Bool, true, false, Option, Some, None, refl, ap, sym, ◌∙◌, subst, arith}, lemmas.Bool.Decides.{nat_tests}}, specs.Prelude.{is_some, ◌&&◌, ◌||◌, ◌==◌, not, nat_eq}}
 use Rattle.hc_text.proofs.Basics.{both_true as both, and_left, and_right, not_some as none_some, not_true, same_some as same_row, some_inj}
 use Rattle.hc_effects.proofs.Vocabulary.{Response, HeadCase, has_loss, loses_in, case_at, head_view, is_founding, is_joining, consumer_heard, by_head, becomes_shared, is_resumed, is_number, row_of, Entry, family, is_open, entry_of, is_written, is_open_writer, resumes, writer_at, Tables, Exchange, Representation, Consumer, may_stand, after_accepted, event, case}

@@ -1,4 +1,9 @@
--- How a consumer that is bound after an entry became bound: it was, its head founds, its first hole is opened, or its plan shows it what is current.
+-- How who is bound after an entry became so: it was, it founds, its first hole is opened, or it is shown what is there.
+--
+-- The place is followed back through the entry. It is bound since it was shown a head there (`shown`), since a first
+-- hole was opened (`opened`), or by the event (`heard`); or it was before. The cases of a head have most work
+-- (`placed`): those that found bind, and all others leave the place or lead elsewhere. `bound_from` joins these. Most
+-- lemmas on readers begin with it and go by its four ways.
 use Rattle.std.{proofs.{lemmas.Bool.Decides.{nat_tests}, Common.{arith, ◌≡◌, ◌⊎◌, inl, inr, ℕ, Bool, true, false, Option, Some, None, refl, ap, sym, ◌∙◌}}, specs.Prelude.{if◌then◌else◌, ◌==◌}}
 use Rattle.hc_text.proofs.Basics.{bool_cases, some_inj}
 use Rattle.hc_effects.proofs.Vocabulary.{Opening, opening_in, leaves_in, Event, Response, Cause, Wait, HeadCase, Route, Wanted, route_of, range_of, wanted_of, Place, BoundBy, Showing, showing_in, wait_in, case_at, bound_to_wanted, place_by_case, passed_on, consumer_heard, by_head, by_fault, waiting_place, waiting, opened_place, unless_bound, by_opening, shown_place, consumer_acted, consumer_settled, consumer_made, consumer_after, due_after, current, Entry, promise_in, founded_total, bound_to, reads, Tables, Exchange, Representation, Consumer, starts_over, event, case, route, wanted, place, by}

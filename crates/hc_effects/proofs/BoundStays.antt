@@ -1,4 +1,9 @@
 -- Whoever is bound and waits for no head goes on reading until it leaves.
+--
+-- Each event is looked at: a head for it would be one for which it waits, so none of them is for it (`heard_same`). It
+-- doesn't start over, since it waits for no head (`waits_not`) and is sent back by none (`back_by`). Of the acts none
+-- tells it to wait for others (`told_not`), and an opening or a showing leaves who is bound where it is (`shows_on`).
+-- `bound_stays` joins these, unless it is cancelled or leaves.
 use Rattle.std.{proofs.{Common.{◌≡◌, inl, inr, ℕ, Bool, true, false, Option, Some, None, refl, ap, sym, ◌∙◌, arith}, lemmas.Bool.Decides.{nat_tests}}, specs.Prelude.{if◌then◌else◌, is_none, ◌&&◌, ◌==◌, not, nat_eq}}
 use Rattle.hc_text.proofs.Basics.{and_left, and_right, bool_cases, not_some as none_some, same_some as same_row}
 use Rattle.hc_effects.proofs.Vocabulary.{Opening, opening_in, leaves_in, Event, Response, Wait, Place, BoundBy, Showing, showing_in, wait_in, case_of, consumer_heard, consumer_acted, by_head, by_fault, by_opening, shown_place, waiting, due_after, denial, Entry, exchange_at, is_for, is_headless, entry_of, bound_to, Tables, Exchange, Consumer, starts_over, waits_at, sends_back, loses_what_it_waits_for, after_accepted, event, place, by}

@@ -1,4 +1,9 @@
 -- Where a reader stands is within where it stops reading, and no exchange brings more than it promised.
+--
+-- An interval is in order since each range that is read is (`range_order`, `wanted_proper`). A reader was given nothing
+-- when it is shown a head (`fresh_by`). Later it is given what comes next, within its end; `given_within` goes by what
+-- a poll says to it. A piece is taken only within what its exchange promised (`brought`). `bounded_kept` joins these; a
+-- beginning and a denied entry are short.
 use Rattle.std.{proofs.{Common.{◌≡◌, ◌⊎◌, inl, inr, ℕ, ◌+◌, ◌≤◌, List, [], ◌∷◌, length, Bool, true, false, Option, Some, None, refl, ap, sym, ◌∙◌, subst, arith, length-append}, lemmas.Bool.Decides.{nat_tests}}, specs.{Str.{str_to_ascii_lowercase}, Prelude.{bytes_eq, codes, take, drop, IfSome, unwrap_or, if◌then◌else◌}, Option.{option_map}}}
 use Rattle.hc_text.proofs.Basics.{not_some as none_some, or_off_right as or_false, same_some as same_row, some_inj}
 use Rattle.hc_range.specs.{Spans.{resolved_span, IsInOrder}, declared.range.{Asked.{Asked, TheVariants.{From, Last}}, Span.{Span}}}

@@ -1,4 +1,9 @@
 -- The columns of consumers are filters of the list of entries.
+--
+-- Events and openings keep request, start, and what was shown and given (`heard_same`); acts add what they say
+-- (`acted`). Settling changes none but the start, where it starts over (`request_by`, `given_by`, `shown_by`,
+-- `since_by`). So by induction over entries a request and a start are filters (`requests_are`, `starts_are`). What was
+-- shown and given is read off the same lemmas in ReadFilters.
 use Rattle.std.{proofs.{lemmas.Bool.Decides.{nat_tests}, Common.{arith, ◌≡◌, ℕ, ◌+◌, List, [], ◌∷◌, ◌++◌, length, Bool, true, false, cond, Option, Some, None, refl, ap, sym, ◌∙◌}}, specs.{Prelude.{if◌then◌else◌, ◌==◌, ◌||◌, option_map}, Option.{option_or}}}
 use Rattle.hc_text.proofs.Basics.{or_none}
 use Rattle.hc_effects.proofs.Vocabulary.{Opening, opening_in, is_denied, given_in, shows_in, Event, Entry, History, Contents, Tables, Exchange, Consumer, starts_over, consumer_after, consumer_made, consumer_heard, consumer_acted, consumer_settled, by_head, by_fault, by_opening, waiting, back_in_line, due_after, tables, after, each, each_after, first, if_accepted, request_in, request_of, event}

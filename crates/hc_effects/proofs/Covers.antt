@@ -1,4 +1,9 @@
 -- The exclusive writer has all up to where its exchange goes on.
+--
+-- An exchange without a head goes on at its hole, and with one at its front (`bare_at`, `headed_at`). What came stays,
+-- and a reader only moves on. If its exchange brings nothing all is as before (`further`, `still_bare`). If it brings a
+-- piece, that is written at its front (`piece_body`, `by_brings`); if its head comes, it begins no later than the hole
+-- (`comes`). `own_covers` joins these. A later hole begins where it stands (`later_start`).
 use Rattle.std.{proofs.Common.{◌≡◌, ◌⊎◌, inl, inr, ℕ, ◌+◌, ◌<◌, ◌≤◌, List, length, true, Option, Some, None, refl, ap, sym, ◌∙◌, subst, arith, length-append}, specs.Prelude.{is_some}}
 use Rattle.hc_text.proofs.Basics.{same_some as same_row, some_inj, lt_or as split}
 use Rattle.hc_sparse.specs.Cells.{Cells, Cell, Covers, cells_with}

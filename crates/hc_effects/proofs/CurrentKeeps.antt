@@ -1,4 +1,9 @@
 -- Of each key one representation at most isn't gone: what founds replaces what is current.
+--
+-- A row after an entry was there, and didn't become gone if it isn't gone; or it is founded (`was_or_founded`). What
+-- founds replaces what is current for its key (`goes_too`), and what isn't gone is current (`current_is`). So what is
+-- founded and what was there are of different keys, unless that is gone (`apart`). `one` goes by each pair; an entry
+-- founds one at most. `one_current_is_kept` is the law.
 use Rattle.std.{proofs.{Common.{◌≡◌, inl, inr, ℕ, List, [], ◌∷◌, Bool, true, false, cond, Option, Some, None, refl, ap, sym, ◌∙◌, arith}, lemmas.Bool.Decides.{nat_tests}}, specs.Prelude.{◌&&◌, ◌||◌, not, ◌==◌, nat_eq, bytes_eq, find, is_some, if◌then◌else◌, option_map}}
 use Rattle.hc_text.proofs.Basics.{and_both, bool_cases, eq_itself as eq-refl, not_true as not_gone, or_left, or_right, some_inj}
 use Rattle.hc_effects.proofs.Vocabulary.{Event, Response, HeadCase, accepted_acts, case_at, is_founding, current, is_usable, is_number, Entry, becomes_gone, goes_by_head, goes_by_exchange, goes_by_case, is_current_of, representation_after, representation_heard, representation_acted, founded_at, new_representation, representation_after_head, with_renewed_head, updates, representation_after_piece, with_total_if_none, length_in, family, exchange_at, Tables, Exchange, Representation, Sound, Among, OneCurrent, after_accepted}

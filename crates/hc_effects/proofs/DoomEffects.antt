@@ -1,4 +1,9 @@
--- What a doom does: whoever waits for the key starts over, the exchanges that they wait for are closed, and what is current is let go.
+-- What a doom does: who waits for the key starts over, what they wait for is closed, and what is current is let go.
+--
+-- An exchange is closed exactly where it is awaited for the key (`closes_as_awaited`). What is current for the key
+-- goes, and nothing else (`current_is`, `goes`); no other row changes (`rows`). A consumer starts over where it waits
+-- for the key, or for what goes (`consumers`). `tables_are` joins these rows, and `doom_does` adds the acts. The
+-- handler of a doom is proved by it.
 use Rattle.std.{proofs.Common.{◌≡◌, inl, inr, ℕ, List, [], Bool, true, false, Option, Some, None, refl, ap, ap₂, sym, ◌∙◌}, specs.Prelude.{◌&&◌, ◌||◌, ◌==◌, is_none, bytes_eq, if◌then◌else◌, map, filter, reverse, option_map}}
 use mathlib.Core.Path.{fun_ext}
 use Rattle.hc_text.proofs.Basics.{and_left, and_right, bool_cases, not_some as none_some, never_true as not_so, and_off as then_false}

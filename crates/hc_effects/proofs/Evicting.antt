@@ -1,4 +1,9 @@
 -- What one eviction leaves: who is bound and who is live, and all that is current but what is evicted.
+--
+-- An eviction sends back who waits for what goes, and such a consumer was neither bound nor over; so who is bound and
+-- who is live stays (`bound_same`, `live_same`). The list of what is founded is searched as before, but for what goes:
+-- of a key just one is usable, so another stays found (`find_same`), and else none is (`find_none`). `evicts_one` joins
+-- these; `one_after_all` is for several.
 use Rattle.std.{proofs.{Common.{◌≡◌, inl, inr, ℕ, List, [], ◌∷◌, length, Bool, true, false, Option, Some, None, refl, ap, sym, ◌∙◌, arith}, lemmas.Bool.Decides.{nat_tests}}, specs.Prelude.{find, filter, nat_eq, ◌==◌, if◌then◌else◌, option_map}}
 use Rattle.hc_text.proofs.Basics.{bool_cases, not_some as none_some, eq_itself as self_is}
 use Rattle.hc_effects.proofs.Vocabulary.{Place, back_in_line, current, is_usable, live, is_live, is_live_place, back_from, as_gone, evict, evict_all, unless_it, bound, is_bound, is_bound_place, Tables, Representation, Consumer, OneCurrent, place}

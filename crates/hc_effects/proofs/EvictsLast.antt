@@ -1,4 +1,9 @@
 -- What makes room comes last: an accepted event does what it does without it, and then each of those goes.
+--
+-- What makes room is there and idle (`there_idle`), and shows no flaw (`flaw_same`). So the event does the same without
+-- it, and nobody stands where an eviction would move it first: who waits for a head waits for no representation
+-- (`awaiting_waits`, `head_moves`, `heard_moves`). A consumer's own event makes no room (`asked_last`).
+-- `evictions_come_last` says so of any accepted event; effects are proved without evictions by it.
 use Rattle.std.{proofs.{lemmas.Bool.Decides.{nat_tests}, Common.{arith, ◌≡◌, inl, inr, ℕ, zero, suc, List, [], ◌∷◌, ◌++◌, Bool, true, false, Option, Some, None, refl, ap, sym, ◌∙◌}}, specs.Prelude.{map, filter, take, reverse, is_some, ◌==◌}}
 use Rattle.hc_text.proofs.Basics.{bool_cases, same_some as same_row}
 use Rattle.hc_effects.proofs.Vocabulary.{evicts_in, Act, Event, Response, HeadCase, Limits, Room, Place, has_loss, fails_in, without_losses, accepted_acts, answer_acts, loss_acts, close_acts, case_at, case_of, head_view, consumer_heard, consumer_acted, by_head, place_by_case, closing, denial, Entry, entry_without_acts, evict_all, unevicting, Flaw, Loses, flaw_in, entry_of, Owners, IsAwaiting, Tables, Exchange, Representation, Consumer, may_be, Sound, starts_over, after_accepted, is_idle, idle, evicted, first_idle, room_for, write_in, written_representation, written_in, act, case, room}

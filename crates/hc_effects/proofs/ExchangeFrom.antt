@@ -1,4 +1,9 @@
 -- Where the row of an exchange after an entry is from: it was there, or it is opened.
+--
+-- `IsSame` has what stays of a row, and what may change: its head comes, a piece comes, it ends or is closed. An event
+-- that isn't about it leaves it as it was but for its acts (`plain`), and one that ends it makes it over (`over`). So
+-- each event is looked at (`same`). A row that wasn't there is that of an opening (`made`). `exchange_from` joins both;
+-- most laws on exchanges begin with it.
 use Rattle.std.{proofs.{lemmas.Bool.Decides.{nat_tests}, Common.{arith, ◌≡◌, ◌⊎◌, inl, inr, ℕ, Bool, true, false, Option, Some, None, refl, ap, sym, ◌∙◌, subst}}, specs.Prelude.{◌&&◌, not, is_some}}
 use Rattle.hc_text.proofs.Basics.{and_right, not_some as none_some, some_inj}
 use Rattle.hc_effects.proofs.Vocabulary.{Opening, opening_in, closes_in, Event, Response, Entry, exchange_after, exchange_heard, exchange_acted, exchange_made, exchange_opened, joined_at, Tables, Exchange, event}

@@ -1,4 +1,9 @@
 -- Few give way: a piece has at most twice what a slot weighs.
+--
+-- All that is idle weighs a slot at least (`heavy_all`). Where all fitted before, a write passes the limit by what it
+-- adds: one slot, or two for a piece. Each that gives way takes one slot from that, so one or two are enough
+-- (`one_gives`, `two_give`). An event writes no more (`few_of`), and the acts have as many evictions as give way
+-- (`few_acts`). `few_give_way` joins these.
 use Rattle.std.{proofs.{Common.{◌≡◌, inl, inr, ℕ, zero, suc, ◌+◌, ◌-◌, ◌≤◌, List, [], ◌∷◌, ◌++◌, length, Bool, true, false, Option, Some, None, refl, sym, ◌∙◌, subst, arith}, lemmas.Bool.Decides.{nat_tests}}, specs.{Prelude.{nat_le, map, filter, reverse, take, if◌then◌else◌}, Option.{option_map}}}
 use Rattle.hc_text.proofs.Basics.{and_left, bool_cases, not_some as none_some, some_inj}
 use Rattle.hc_effects.proofs.Vocabulary.{Act, Event, gives_way, room_of, grown_by, is_too_large, Limits, Room, Write, answer_acts, loss_acts, closing, Entry, entry_without_acts, Flaw, NoFlaw, count_evicted, IsSmallPiece, Move, acts_of, Tables, Representation, weight, weight_in, weights, idle, is_idle, stays_current, evicted, first_idle, room_for, room_by, write_in, act, room}

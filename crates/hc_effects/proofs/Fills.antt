@@ -1,4 +1,9 @@
 -- What an entry brings: bytes of a body and of an exchange, at a piece alone.
+--
+-- A body changes by a piece alone, of the exchange that brings it: this one's body is longer by it (`heard_body`,
+-- `brings`), and a representation of its family has the bytes at its front (`pieced_by`, `heard`, `fills`). Each other
+-- event is looked at and leaves both. What was told of a length stays, where the head does (`length_same`). Laws on
+-- bytes compare the two, since one piece comes at a time.
 use Rattle.std.{proofs.{lemmas.Bool.Decides.{nat_tests}, Common.{arith, ◌≡◌, inl, inr, ℕ, ◌+◌, List, length, ◌++◌, Bool, true, false, Option, Some, None, refl, ap, sym, ◌∙◌, subst, max}}, specs.Prelude.{if◌then◌else◌, ◌==◌, ◌||◌, not}}
 use Rattle.hc_text.proofs.Basics.{same_some as same_row, some_inj}
 use Rattle.hc_sparse.specs.Cells.{cells_with}

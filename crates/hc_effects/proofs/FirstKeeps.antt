@@ -1,4 +1,9 @@
 -- One consumer at most became bound to a representation as the only one, and it knows its end.
+--
+-- That somebody came alone goes by the status of what it reads, which an entry keeps (`came_kept`). By how it became so
+-- (`first_from`): it was, it founds with a part, or its first hole is opened where nobody is bound (`open_free`). Of
+-- two, each pair of these ways is one consumer or can't be (`one`). Whoever did knows its end (`end_known`). `case_is`,
+-- `is_new` and `is_opener` are used by many files.
 use Rattle.std.{proofs.{Common.{◌≡◌, ℕ, [], Bool, true, false, Option, Some, None, refl, ap, sym, ◌∙◌, subst, arith}, lemmas.Bool.Decides.{nat_tests}}, specs.Prelude.{is_some, ◌==◌, nat_eq}}
 use Rattle.hc_text.proofs.Basics.{same_some as same_row, some_inj}
 use Rattle.hc_effects.proofs.Vocabulary.{Opening, opening_in, Event, Response, HeadCase, Limits, head_case, BoundBy, has_loss, wait_in, case_at, case_of, head_view, denial, as_open, Entry, Flaw, entry_of, bound, bound_to, Tables, Exchange, Representation, Consumer, Sound, IsFirst, after_accepted, came_alone, status_in, Wait, Move, move_of, head_refusal, route_of, consumer_heard, waiting, waiting_place, current, event, case, place, by, wait, route}

@@ -1,4 +1,9 @@
 -- What a head that founds is.
+--
+-- `CaseBy` has a constructor for each case of a head, with what holds where the table comes to it. The table is gone
+-- through by route: with the turn (`turn`), at a first hole (`first`), at a later one, or past the store. `case_by`
+-- joins these. `FoundingBy` is the same of those cases that found (`founding_by`). Nearly all lemmas on heads go by
+-- these cases, and so need not look at the table.
 use Rattle.std.{proofs.{Common.{◌≡◌, Bool, true, false, Some, refl, sym, ◌∙◌, subst, arith}, lemmas.Bool.Decides.{nat_tests}}, specs.Prelude.{◌&&◌, ◌||◌, ◌==◌, not, nat_eq, nat_le, if◌then◌else◌}}
 use Rattle.hc_text.proofs.Basics.{either, eq_is as is_number, and_left as left, never_true as not_so, not_true, and_right as right}
 use Rattle.hc_effects.proofs.Vocabulary.{Route, HeadCase, HeadView, head_case, case_on, direct_case, turn_case, first_case, later_case, route_of, is_founding, route, case}

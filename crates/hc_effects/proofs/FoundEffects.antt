@@ -1,4 +1,9 @@
 -- What heads do that found: with the turn, and in place of what had a first hole. And where that is lost.
+--
+-- One lemma is for heads that found (`founding`): what goes beside what makes room, and what becomes of its consumer. A
+-- 200 with the turn, a 206 for who wants a part, and a 200 in place of what had a first hole are uses (`founds_whole`,
+-- `founds_range`, `first_replaced`). Where that is lost nothing is founded, but the same is let go (`losing`);
+-- `passes_by_lost` and `first_replaced_lost` are uses of that.
 use Rattle.std.{proofs.{lemmas.Bool.Decides.{nat_tests}, Common.{arith, ◌≡◌, inl, inr, ℕ, List, [], ◌∷◌, ◌++◌, Bool, true, false, Option, Some, None, refl, ap, sym, ◌∙◌, subst}}, specs.Prelude.{◌&&◌, ◌||◌, not, nat_eq, if◌then◌else◌, map, option_map}}
 use Rattle.hc_text.proofs.Basics.{not_some as none_some, never_true as not_so, and_off as then_false}
 use Rattle.hc_effects.proofs.Vocabulary.{act, event, case, by, LostKind, Event, Response, HeadCase, Wanted, Limits, head_case, range_of, wanted_of, head_view, is_founding, case_at, is_updating, is_joining, bound_by_total, bound_to_wanted, current, is_number, denial, Does, with_event, let_all_go, let_some_go, with_consumer, with_answer, with_founding, just_founded, as_gone, promise_in, NoFlaw, Loses, goes_by_case, founded_total, Lawful, is_written, representation_after, Tables, Exchange, Representation, Consumer, with_item_first, to_front, evicted, is_refused, doomed_by_case, is_reached, sends_back, cause_by_case, loses_in, loss_acts}

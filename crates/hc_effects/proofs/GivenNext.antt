@@ -1,4 +1,9 @@
 -- What a poll gives: the next bytes of the body that its consumer reads, and none past its end.
+--
+-- A poll gives what is stored, or what is held for its consumer (`comes`). What is stored is a stretch of the body from
+-- where it stands, cut at its end (`stored_given`). What is held came past the store (`held_direct`), or of what is
+-- lost (`held_lost`); both are runs of an answer. `IsGiven` says of each that it is next, not empty, no more than is
+-- wanted, and within the end. `given_next` joins them.
 use Rattle.std.{proofs.{Common.{◌≡◌, inl, inr, ℕ, ◌+◌, ◌-◌, ◌<◌, ◌≤◌, List, [], ◌∷◌, length, Bool, true, false, cond, Option, Some, None, refl, ap, sym, ◌∙◌, subst, arith}, Math.Nat.{min-le_left}, lemmas.{List.{get_or-drop, get_or-take, length-take, length-drop}, Bool.Decides.{nat_tests}}}, specs.{Prelude.{IfSome, slice_index, is_some, min, take, drop, ◌&&◌, if◌then◌else◌}, Option.{option_and_then, option_map}}}
 use Rattle.hc_text.proofs.Basics.{bool_cases, min_few, not_some as none_some, some_inj}
 use Rattle.hc_range.specs.declared.range.Span.{Span}

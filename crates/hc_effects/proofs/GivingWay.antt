@@ -1,4 +1,9 @@
 -- What gives way, told by a loop: while there is no room, the first idle one goes.
+--
+-- The loop takes the first idle one as long as the sum is too large. It takes as many as the definitions count
+-- (`counts`), from the front (`takes`). Where all of them aren't enough none gives way (`never`), and else some do, by
+-- induction over the list (`enough`). At an event that gives each kind of room: `makes_room`, `has_no_room`,
+-- `has_too_large` and `writes_nothing`.
 use Rattle.std.{proofs.{Common.{◌≡◌, inl, inr, ℕ, suc, ◌+◌, ◌-◌, ◌<◌, ◌≤◌, List, [], ◌∷◌, ◌++◌, length, true, false, Option, Some, None, refl, ap, sym, ◌∙◌, subst, arith}, lemmas.{Bool.Decides.{nat_tests}, List.Sums.{sum_by-cons}}}, specs.{Prelude.{nat_le, map, take}, List.{sum_by}, Option.{option_map}}}
 use Rattle.hc_text.proofs.Basics.{bool_cases}
 use Rattle.hc_effects.proofs.Vocabulary.{Event, gives_way, room_of, grown_by, is_too_large, Limits, Write, Entry, entry_without_acts, Tables, weight, weights, idle, write_in, room_by, room_for, first_idle, room}

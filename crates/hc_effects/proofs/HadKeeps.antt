@@ -1,4 +1,9 @@
 -- Whose an open exchange is that is about a representation: the writing's, or the exclusive writer's.
+--
+-- By what the exchange was before the entry. An own one with a head stays with its consumer, which opens no other and
+-- has nothing due (`headed_had`). One without a head is that of who waits for it (`bare_had`). That of a writing stays
+-- so unless the write is lost: then it is left to the survivor (`survived`), and without one it is closed
+-- (`none_left`). `was_headed` joins those that had a head.
 use Rattle.std.{proofs.{Common.{◌≡◌, ◌⊎◌, inl, inr, ℕ, List, [], ◌∷◌, Bool, true, false, cond, Option, Some, None, refl, ap, sym, ◌∙◌, subst, arith}, lemmas.Bool.Decides.{nat_tests}}, specs.{Prelude.{is_some, is_none, map, filter}, Option.{option_or}}}
 use Rattle.hc_text.proofs.Basics.{both_true as and_both, and_left, and_right, bool_cases, not_some as none_some, never_true as not_so, or_left, or_right, same_some as same_row, some_inj}
 use Rattle.hc_effects.proofs.Vocabulary.{Opening, opening_in, leaves_in, Event, Response, Member, least, lesser, route_of, stands_at, BoundBy, loses_in, has_loss, is_joining, is_left, is_left_by, has_no_survivor, leaver, leaver_by, consumer_heard, consumer_acted, by_opening, own_after, left_to, waiting, due_after, back_in_line, is_number, Entry, aim_from, exchange_in, is_open, family, becomes_due, cause_of_stop, cause_of_loss, cause_by_loss, cause_of_head, stop_cause, entry_of, Measures, IsAwaiting, move_of, is_written, bound, bound_to, own_open, reads, source, shared_exchange, Tables, Exchange, Representation, Consumer, Among, IsBound, IsAbout, IsHad, IsExclusiveWriter, IsFirst, starts_over, after_accepted, brings_body, came_alone, loses_writing, survivor, member, may_write, event, route, place}

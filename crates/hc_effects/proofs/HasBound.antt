@@ -1,4 +1,9 @@
 -- What is being written for several has a reader.
+--
+-- By where the writing comes from (`reader_from`). One that was on had a reader. If that leaves, another reads on, or
+-- it was the last: then the exchange is closed and the writing over (`last_closes`, `by_leaver`). A head that resumes
+-- or founds dooms nothing and sends nobody back (`binding`). So its consumer stands where the head puts it, and is
+-- bound there (`head_stands`). `has_bound_kept` joins the three.
 use Rattle.std.{proofs.{Common.{◌≡◌, ◌≢◌, ◌⊎◌, inl, inr, ℕ, List, [], ◌∷◌, Bool, true, false, Option, Some, None, refl, ap, sym, ◌∙◌, subst, arith}, lemmas.Bool.Decides.{nat_tests}}, specs.{Prelude.{◌&&◌, ◌||◌, ◌==◌, not, nat_eq, filter}, List.{list_all}}}
 use Rattle.hc_text.proofs.Basics.{or_left, some_same as number_of, and_left, and_right, bool_cases, not_some as none_some, never_true as not_so, or_right}
 use Rattle.hc_effects.proofs.Vocabulary.{leaves_in, closes_in, Event, Response, HeadCase, Place, BoundBy, case_at, head_view, is_founding, is_joining, must_close, is_left, is_left_by, leaver, leaver_by, consumer_heard, consumer_acted, becomes_shared, by_head, place_by_case, due_after, is_number, doomed_key_of, doomed_in, doomed_by_head, doomed_by_case, is_key, Entry, exchange_heard, exchange_acted, promise_in, is_open, entry_of, IsAwaiting, is_written, is_bound, is_bound_place, bound, shared_exchange, Tables, Exchange, Representation, Consumer, may_stand, Numbered, Among, IsBound, starts_over, sends_back, after_accepted, route_of, head_case, has_loss, writer_at, event, case, place, by, route}

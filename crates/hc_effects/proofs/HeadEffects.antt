@@ -1,4 +1,9 @@
 -- What heads do that write nothing: past the store, and with the turn where nothing is validated or founded.
+--
+-- One lemma is for all heads that write nothing (`mild`): what goes, which exchange is closed, and what becomes of the
+-- consumer. Each case is a use of it. Past the store the exchange has the head, or a bad one puts its consumer down
+-- (`put_down`, `direct_bad`). With the turn and at a first hole its consumer reads past the store, or starts over. At a
+-- later hole a failure is due (`later_bad`, `later_changed`).
 use Rattle.std.{proofs.{lemmas.Bool.Decides.{nat_tests}, Common.{arith, ◌≡◌, ℕ, List, [], ◌∷◌, Bool, true, false, Option, Some, None, refl, ap, sym, ◌∙◌, subst}}, specs.Prelude.{◌&&◌, ◌||◌, not, nat_lt, if◌then◌else◌, map}}
 use Rattle.hc_text.proofs.Basics.{and_true, or_false as or_off, and_off as then_false}
 use Rattle.hc_effects.proofs.Vocabulary.{act, cause, event, case, route, Cause, Event, Response, HeadCase, HeadView, Limits, head_case, length_of, is_bad, route_of, head_view, is_founding, is_updating, is_joining, is_refused, consumer_after, back_in_line, current, is_number, denial, doomed_by_case, changes, Does, with_event, let_all_go, let_some_go, tables_after_close, all_closed, with_consumer, with_answer, unless_ended, promise_in, is_reached, cause_by_case, NoFlaw, goes_by_case, Lawful, IsAwaiting, is_written, reads, Tables, Exchange, Representation, Consumer, sends_back, with_item_first, evicted}

@@ -1,4 +1,9 @@
 -- What is known of an accepted head: its exchange is new, and its consumer waits for it; and what is answered to it.
+--
+-- The exchange of an accepted head is open and has none yet (`new`), and its consumer waits for it with nothing due
+-- (`undue`). Where no writing for several is lost and nothing is doomed, just the exchange of a refused head is closed
+-- (`closing_is`). So its consumer goes on, starts over or fails (`goes_on`, `goes_back`, `fails`), and other rows stay
+-- (`rows_stay`). `head_does` joins this for the effects of each case.
 use Rattle.std.{proofs.{lemmas.Bool.Decides.{nat_tests}, Common.{arith, ◌≡◌, inl, inr, ℕ, ◌+◌, List, [], ◌++◌, Bool, true, false, Option, Some, None, refl, ap, sym, ◌∙◌, subst}}, specs.Prelude.{◌&&◌, ◌||◌, ◌==◌, not, nat_eq, if◌then◌else◌, option_map, map, filter, reverse, is_some}}
 use mathlib.Core.Path.{fun_ext}
 use Rattle.hc_text.proofs.Basics.{eqb-same, not_some as none_some, or_false as or_off, same_some as same_row, some_inj}

@@ -1,4 +1,9 @@
 -- What the head of an exchange comes to: the exchange itself, its consumer, and who and what stays or is let go.
+--
+-- The acts are closings, evictions and a loss, and no consumer is told any of them (`far`). What goes does so by a
+-- doom, by the case of the head, by a loss, or to make room (`goes_as`). A row stays, is updated, lost or founded;
+-- there is a lemma for each (`row_by`, `row_loses`). Its consumer goes on, starts over or fails (`after_is`).
+-- `after_head` joins the rows into tables; the effects of each case are read off it.
 use Rattle.std.{proofs.{lemmas.Bool.Decides.{nat_tests}, Common.{arith, ◌≡◌, inl, inr, ℕ, List, ◌++◌, Bool, true, false, Option, Some, None, refl, ap, sym, ◌∙◌, subst}}, specs.{Prelude.{◌&&◌, ◌||◌, ◌==◌, not, nat_eq, if◌then◌else◌, map, option_map}, Option.{option_or}}}
 use Rattle.hc_text.proofs.Basics.{eqb-same, not_some as none_some, or_left, or_false as or_off, or_right, and_off as then_false}
 use Rattle.hc_effects.proofs.Vocabulary.{opening_in, asks_in, closes_in, evicts_in, Act, Cause, Response, HeadCase, Place, loses_in, has_loss, misreads_in, loss_acts, case_at, is_founding, is_joining, is_updating, consumer_after, consumer_heard, consumer_settled, consumer_acted, place_by_case, becomes_shared, back_in_line, is_current, is_number, doomed_key_of, doomed_by_case, is_key, with_event, as_gone, let_all_go, over, all_closed, with_consumer, with_answer, exchange_with_head, with_refreshed_head, just_founded, lost_to, Entry, exchange_after, joined_at, becomes_due, cause_by_case, Flaw, becomes_gone, goes_by_case, ends_early, ends_founding, Lawful, IsAwaiting, reads, is_written, representation_after, updates, representation_heard, representation_acted, with_renewed_head, resumes, Tables, Exchange, Representation, Consumer, starts_over, sends_back, waits_at, after_accepted, with_item_first, founds, binds, to_front, opened_after, openings_after, loses_writing, goes_on_with, act}

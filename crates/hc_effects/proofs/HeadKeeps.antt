@@ -1,4 +1,9 @@
 -- A head keeps what open exchanges are still to bring absent, and one of them at most about each representation.
+--
+-- A head that joins fills a hole (`is_join`), and what a hole names is absent. After a head each body is as before, or
+-- founded and empty (`rep_row`). So only its own exchange has work (`front_here`): what it is to bring is in its hole
+-- (`in_hole`), or of what is founded. `head_waits` joins this. Two that are about one representation after it were so
+-- before (`one_of`), and one alone was: `head_one_about`.
 use Rattle.std.{proofs.{Common.{◌≡◌, ◌≢◌, ◌⊎◌, inl, inr, ℕ, ◌<◌, ◌≤◌, List, [], Bool, true, false, cond, Option, Some, None, refl, ap, sym, ◌∙◌, subst, arith}, lemmas.Bool.Decides.{nat_tests}}, specs.Prelude.{is_some, nat_eq, option_map, unwrap_or}}
 use Rattle.hc_text.proofs.Basics.{and_right, same_some as same_row, some_inj, not_some as some_none}
 use Rattle.hc_effects.proofs.Vocabulary.{opening_in, Response, Act, Need, has_loss, is_joining, case_of, case_at, head_view, Entry, joined_at, exchange_after, exchange_heard, exchange_acted, base, promised_bytes, front, family, length_by, row_of, representation_after_head, representation_after, representation_heard, representation_acted, with_renewed_head, new_representation, Tables, Exchange, Representation, Waits, Sound, OneAbout, IsAbout, IsPromised, InHole, after_accepted, HeadCase, head_case, Length, length_of, is_bad, need}

@@ -1,4 +1,9 @@
--- Where the head of its own exchange leaves a consumer, if that stays open: past the store, bound to what it founds, or bound to what it joins.
+-- Where its head leaves a consumer, if its exchange stays open: past the store, or bound to what it founds or joins.
+--
+-- Since its exchange stays open, its head wasn't refused (`not_refused`), and promises bytes (`unmet`); so it was no
+-- 304. That leaves few cases (`by_case`): it is past the store, it founds, or it joins where its consumer stays. It
+-- isn't sent back either (`unsent`). As no poll came, the acts don't move it from where the event leaves it
+-- (`heard_at`). `headed_as` joins these.
 use Rattle.std.{proofs.{Common.{◌≡◌, ◌⊎◌, inl, inr, ℕ, true, false, Option, Some, None, refl, ap, sym, ◌∙◌, subst, arith}, lemmas.Bool.Decides.{nat_tests}}, specs.Prelude.{◌&&◌, not, nat_eq}}
 use Rattle.hc_text.proofs.Basics.{both_true as and_both, and_right, not_some as none_some, never_true as not_so, or_left, same_some as same_row, some_inj}
 use Rattle.hc_effects.proofs.Vocabulary.{leaves_in, closes_in, Request, Response, Need, HeadCase, Wanted, head_case, length_of, promise_of, route_of, range_of, wanted_of, Place, BoundBy, has_loss, case_at, head_view, is_founding, is_joining, must_close, is_refused, brings_head, consumer_heard, by_head, place_by_case, bound_to_wanted, Entry, exchange_heard, exchange_acted, promise_in, exchange_at, is_for, is_reached, founded_total, entry_of, IsAwaiting, Tables, Exchange, Consumer, starts_over, sends_back, after_accepted, event, route, wanted, place, by}

@@ -1,4 +1,9 @@
 -- What is idle at an event: those that are idle before it, but for what the event itself makes gone.
+--
+-- A representation that the event doesn't let go keeps who is bound to it: only a head moves a reader, and then what
+-- that read goes (`moved_head`, `stays_there`). So somebody is bound to it after as before (`bound_is`), and it is idle
+-- just where it was and outlasts the event (`idle_row`). A list that is filtered by two tests at once is filtered by
+-- one after the other (`filter_both`). `idle_but_gone` joins these.
 use Rattle.std.{proofs.{Common.{◌≡◌, inl, inr, ℕ, List, [], ◌∷◌, length, Bool, true, false, Option, Some, None, refl, ap, sym, ◌∙◌, arith}, lemmas.Bool.Decides.{nat_tests}}, specs.{Prelude.{filter, reverse, nat_eq, ◌==◌, ◌&&◌, not}, List.{list_any}}}
 use Rattle.hc_text.proofs.Basics.{and_left, and_right, bool_cases, not_some as none_some, same_some as same_row}
 use Rattle.hc_effects.proofs.Vocabulary.{Event, Response, HeadCase, route_of, Limits, Place, case_at, head_view, is_current, denial, Entry, entry_without_acts, outlasts, outlasts_row, exchange_at, is_for, NoFlaw, goes_itself, Owners, IsAwaiting, bound, is_bound_place, Tables, Exchange, Representation, Consumer, Sound, Among, IsBound, idle, is_idle, stays_bound, moves_on, is_replacing, event, case, route}

@@ -1,4 +1,9 @@
 -- What is of one key stays so: rows of exchanges and representations.
+--
+-- A row keeps what it says of its key: an exchange its consumer, need and request, and what it is about
+-- (`same_exchange`). A new exchange is opened by a poll, for the key of its consumer (`opened_is`, `opened_by`). What
+-- is current for a key has a row of that key (`current_row`). So an exchange after an entry was there, or is such a new
+-- one (`exchange_was`). The law of one key is kept by these.
 use Rattle.std.{proofs.{lemmas.Bool.Decides.{nat_tests}, Common.{arith, ◌≡◌, ◌⊎◌, inl, inr, ℕ, List, ◌++◌, Bool, true, false, Option, Some, None, refl, ap, sym, ◌∙◌, subst}}, specs.{Prelude.{◌&&◌, ◌==◌, if◌then◌else◌}, Option.{option_map}}}
 use Rattle.hc_text.proofs.Basics.{and_left, and_right as and_then, bool_cases, eq_itself as eq-refl, eq_tells as eq_is, not_some as none_some, some_inj}
 use Rattle.hc_effects.proofs.Vocabulary.{family, Opening, opening_in, Act, Event, Request, Response, Limits, accepted_acts, answer_acts, loss_acts, case_at, is_founding, is_joining, closing, current, is_usable, Entry, exchange_after, exchange_heard, exchange_acted, exchange_made, exchange_opened, Flaw, HasRow, Move, acts_of, representation_after, representation_heard, representation_acted, founded_at, new_representation, representation_after_head, with_renewed_head, updates, resumes, representation_after_piece, with_total_if_none, length_in, writer_at, Tables, Exchange, Representation, Consumer, after_accepted, evicted}

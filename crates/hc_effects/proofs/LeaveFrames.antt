@@ -1,4 +1,9 @@
 -- What each leave closes, and what goes with it: that of who ends, fails or is cancelled.
+--
+-- `IsFront` is what is said to who leaves, by which event, so all leaves are proved at once. Then come the closings and
+-- a loss. What goes does so by a loss, by a failed read, or with the exchange that founded it, where it can't be
+-- completed later (`goes_by`, `ends_as`). Who leaves is over and doesn't start over (`itself`); to others nothing is
+-- said (`far`). `leaves` joins this into the tables.
 use Rattle.std.{proofs.{lemmas.Bool.Decides.{nat_tests}, Common.{arith, ◌≡◌, inl, inr, ℕ, List, [], ◌∷◌, ◌++◌, Bool, true, false, Option, Some, None, refl, ap, sym, ◌∙◌}}, specs.Prelude.{◌&&◌, ◌||◌, ◌==◌, not, nat_eq, if◌then◌else◌, map, option_map}}
 use Rattle.hc_text.proofs.Basics.{bool_cases, eqb-same, not_some as none_some, or_false as or_off, or_rest, plus_none, and_off as then_false}
 use Rattle.hc_effects.proofs.Vocabulary.{Opening, opening_in, asks_in, closes_in, evicts_in, leaves_in, shows_in, given_in, Act, Cause, Event, Limits, loses_in, misreads_in, showing_in, wait_in, accepted_acts, answer_acts, loss_acts, is_asked, closing, leaver_by, consumer_after, consumer_acted, consumer_heard, is_current, is_number, with_event, with_consumer, let_all_go, over, as_gone, as_over, left_by, is_unkeepable, going_with, Entry, exchange_after, is_open, Flaw, NoFlaw, becomes_gone, ends_early, ends_founding, is_keepable, Lawful, is_failed_read, representation_after, Tables, Exchange, Representation, Consumer, loses_what_it_waits_for, after_accepted, with_item_first, starts_after, last_start_after, opened_after, openings_after, act, cause}

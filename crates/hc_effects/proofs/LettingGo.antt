@@ -1,4 +1,9 @@
 -- What letting a representation go leaves: who is bound and who is live, and all that is current but what goes.
+--
+-- To let go is to evict at a moment (`let_go_is`). So who is bound and who is live stays, and all is current that was,
+-- but what goes (`bound_let_go`, `live_let_go`, `current_let_go`). Others may be let go then (`keeps_may`), one after
+-- another (`keeps_may_all`). What is gone or isn't there changes nothing (`let_go_nothing`). What was idle is so still,
+-- but for it (`idle_let_go`).
 use Rattle.std.{proofs.{Common.{◌≡◌, inl, inr, ℕ, List, [], ◌∷◌, ◌++◌, length, Bool, true, false, Option, Some, None, refl, ap, sym, ◌∙◌, subst, arith}, lemmas.Bool.Decides.{nat_tests}}, specs.Prelude.{nat_eq, option_map, is_some, filter, reverse, ◌&&◌, ◌||◌, not, ◌==◌, if◌then◌else◌}}
 use Rattle.hc_text.proofs.Basics.{mapped, not_some as none_some, some_inj}
 use Rattle.hc_effects.proofs.Vocabulary.{Place, back_in_line, idle_now, current, is_usable, is_number, live, back_from, as_gone, let_go, let_all_go, evict, unless_it, Lawful, WaitsOn, MayLetGo, AreOnce, bound, Tables, Representation, Consumer, Among, OneCurrent, place}

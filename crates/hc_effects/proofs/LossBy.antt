@@ -1,4 +1,9 @@
--- What is lost by an entry of a run: what its head or piece writes, or what is sealed since an exchange of its family ends without a piece.
+-- What is lost by an entry of a run: what its head or piece writes, or what is sealed as its exchange ends.
+--
+-- An entry of a run says a loss only where it may be (`IsReal`), so what is lost is what is written by it, and wasn't
+-- lost before (`lost_is`, `fresh`). At a piece or a head that is of its exchange. Else it is sealed: an exchange that
+-- was open stops or is closed (`stop_open`), which has its head and is of that family (`sealing_row`). `sealing` tells
+-- which one; laws on what is lost begin with these.
 use Rattle.std.{proofs.{Common.{◌≡◌, ◌⊎◌, inl, inr, ℕ, true, false, Option, Some, None, refl, ap, sym, ◌∙◌, arith}, lemmas.Bool.Decides.{nat_tests}}, specs.Prelude.{is_some, ◌||◌}}
 use Rattle.hc_text.proofs.Basics.{eq_is, and_left, and_right, not_some as none_some, not_true, or_cases, same_some as same_row, some_inj}
 use Rattle.hc_effects.proofs.Vocabulary.{closes_in, is_denied, LostKind, Event, Limits, loses_in, without_losses, loss_acts, answer_acts, accepted_acts, closing, is_number, denial, Entry, exchange_heard, family, Flaw, Loses, flaw_in, entry_of, Measures, Tables, Exchange, Representation, may_stand, may_be, is_kept, IsAbout, evicted, brings_body, written_representation, written_in, lossless, seals_at, sealed_by, is_sealed, stops, event}

@@ -1,5 +1,9 @@
--- What it comes to that a shared writing is lost: one of those who read it goes on, to the others a failure is due, and where nobody
--- goes on its exchange is closed.
+-- What it comes to that a shared writing is lost: one reader goes on, to the others a failure is due, or it is closed.
+--
+-- A writing has an open exchange with its head (`writer_of`). Whoever is bound to it goes on with that exchange, if it
+-- is the survivor, and else has the failure due; nothing else changes of it (`member_as`). Where nobody survives just
+-- that exchange is closed by the loss, since no other representation loses its writing (`no_survivor_as`,
+-- `closed_row`). A 304 whose update is refused is proved by these.
 use Rattle.std.{proofs.{lemmas.Bool.Decides.{nat_tests}, Common.{arith, ◌≡◌, inl, inr, ℕ, Bool, true, false, Option, Some, None, refl, ap, sym, ◌∙◌}}, specs.{Prelude.{nat_eq, if◌then◌else◌, is_none, is_some}, Option.{option_or}}}
 use Rattle.hc_text.proofs.Basics.{and_right, eqb-same, or_none as or_nothing, same_some as same_row, some_inj}
 use Rattle.hc_effects.proofs.Vocabulary.{Cause, BoundBy, fails_in, has_no_survivor, consumer_after, consumer_acted, consumer_settled, own_after, is_number, doomed_key_of, left_with, Entry, family, is_open, becomes_due, Lawful, is_written, reads, Tables, Exchange, Representation, Consumer, starts_over, loses_writing, survivor, goes_on_with, cause, place}

@@ -1,4 +1,9 @@
 -- An open exchange brings no more of a body than there is to come, and what came ends at its reach, within its length.
+--
+-- The rows of an exchange and of its body are compared before and after an entry. One exchange is about a body
+-- (`about`), so what it brings is what fills the body (`one_piece`): front and reach move together. A head that comes
+-- joins a body or founds one; there the measure is read off the head (`founded_measured`). `brings_kept` joins this;
+-- `tight_kept` and `within_kept` are of the body alone.
 use Rattle.std.{proofs.{Common.{◌≡◌, ◌⊎◌, inl, inr, ℕ, ◌+◌, ◌<◌, ◌≤◌, List, [], length, true, false, Option, Some, None, refl, ap, sym, ◌∙◌, subst, arith, max, length-append}, lemmas.Bool.Decides.{nat_tests}}, specs.{Prelude.{if◌then◌else◌, is_some, nat_eq, unwrap_or}, Option.{option_or}}}
 use Rattle.hc_text.proofs.Basics.{and_right, bool_cases, not_some as none_some, number_not, same_some as same_row}
 use Rattle.hc_sparse.specs.Cells.{cells_with}

@@ -1,4 +1,9 @@
 -- What exchanges name is there, and none without a head is a representation.
+--
+-- A row names its aim and what it joined: these stay, or it joins its aim at its head (`naming`), and a row that is new
+-- is an opening's (`made`). What an opening is about is current or bound to, so it is there (`current_there`,
+-- `opening_there`). What stands stays. A representation is founded by the head of its exchange, so one without a head
+-- has none (`unfounded`). `names_are_kept` joins these.
 use Rattle.std.{proofs.{lemmas.Bool.Decides.{nat_tests}, Common.{◌≡◌, ◌⊎◌, inl, inr, ℕ, ◌+◌, ◌<◌, List, Bool, true, Option, Some, None, refl, ap, sym, ◌∙◌, subst, arith}}, specs.Prelude.{is_some, if◌then◌else◌}}
 use Rattle.hc_text.proofs.Basics.{some_inj}
 use Rattle.hc_effects.proofs.Vocabulary.{Opening, opening_in, Event, Response, Limits, Place, accepted_acts, case_at, is_joining, current, is_usable, denial, Entry, exchange_after, exchange_heard, exchange_acted, exchange_made, exchange_opened, aim_of, aim_from, Flaw, representation_after, founded_at, Tables, Exchange, Representation, Consumer, Sound, after_accepted, place}

@@ -1,4 +1,9 @@
 -- Each row has a number that was given out, and stands in its list.
+--
+-- What is opened has the next number (`opens_next`), and who starts a number above the last (`starts_later`). So a
+-- number above all has no row after an entry (`above`, `exchange_none`), and a new row is put into its list
+-- (`opening_among`, `consumer_among`). A representation is founded under the number of an exchange that was opened
+-- (`founded_none`, `founded_among`). `numbers_are_kept` joins the three kinds.
 use Rattle.std.{proofs.{Common.{◌≡◌, inl, inr, ℕ, ◌+◌, ◌<◌, List, Bool, true, false, Option, Some, None, refl, ap, sym, ◌∙◌, arith}, lemmas.Bool.Decides.{nat_tests}}, specs.Prelude.{◌&&◌, nat_eq, is_some, if◌then◌else◌, option_map}}
 use Rattle.hc_effects.proofs.Vocabulary.{Opening, opening_in, Event, Request, Limits, accepted_acts, case_at, is_founding, consumer_after, consumer_made, denial, is_live, Entry, exchange_after, exchange_made, exchange_in, Flaw, representation_after, founded_at, new_representation, Tables, Exchange, Representation, Consumer, Sound, Among, IsListed, last_start_after, starts_after, opened_after, openings_after, founds, with_item_first}
 use Rattle.hc_event.specs.declared.event.Event.TheVariants as event

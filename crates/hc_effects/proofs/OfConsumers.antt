@@ -1,4 +1,9 @@
--- A start, a poll and a cancel bring nothing of an exchange and doom nothing: what they leave as it was, and what they close.
+-- What a start, a poll and a cancel leave as it was, and what they close: they bring and doom nothing.
+--
+-- `BringsNothing` lists what such an event leaves to its acts, and all else is read off it. Nothing becomes due
+-- (`undue`), a row changes by the acts alone (`row_acted`), and nothing goes by the event (`goes_nothing`). It closes
+-- an exchange only by a leave. Who leaves reads from one exchange, which is open (`left_test`, `left_open`); that
+-- stands once in the list of openings, so it alone passes (`one_of`).
 use Rattle.std.{proofs.{lemmas.Bool.Decides.{nat_tests}, Common.{◌≡◌, ◌≢◌, inl, inr, ℕ, ◌+◌, ◌<◌, List, [], ◌∷◌, Bool, true, false, Option, Some, None, refl, ap, ap₂, sym, ◌∙◌, subst, arith}}, specs.{Prelude.{◌&&◌, ◌||◌, not, nat_eq, if◌then◌else◌, filter, reverse, is_some}, Option.{option_or}}}
 use mathlib.Core.Path.{fun_ext}
 use Rattle.hc_text.proofs.Basics.{and_true, not_some as none_some, or_none as or_nothing, or_false as or_off, some_inj, and_off as then_false}

@@ -1,4 +1,9 @@
 -- A poll that opens an exchange closes, loses and evicts nothing, and nobody leaves by it.
+--
+-- The acts are those of the opening and what stands behind them (`acts_are`); a read that fails opens nothing
+-- (`not_misread`). So nobody leaves or is shown anything, and nothing is evicted (`leaves_none`, `evicts_none`). There
+-- is no cause to close an exchange (`must_not`), so none is closed (`closes_none`). So nothing is written either, and a
+-- loss that may be needs a write (`loses_not`).
 use Rattle.std.{proofs.Common.{◌≡◌, inl, inr, ℕ, List, [], ◌∷◌, ◌++◌, Bool, true, false, cond, Option, Some, None, refl, ap, sym, ◌∙◌, subst}, specs.{Prelude.{map, ◌&&◌}, Option.{option_or}}}
 use Rattle.hc_text.proofs.Basics.{and_left, and_right, not_some as none_some, never_true as not_so, or_cases}
 use Rattle.hc_effects.proofs.Vocabulary.{Opening, opening_in, leaves_in, closes_in, evicts_in, is_denied, Event, Act, LostKind, Limits, showing_in, loses_in, misreads_in, leaver_in, without_losses, poll_acts, loss_acts, case_at, case_of, closing, must_close, is_refused, is_doomed, brings_head, has_no_survivor, is_left, leaver, is_number, doomed_key_of, is_key, Entry, family, Flaw, NoFlaw, Loses, Misreads, flaw_in, entry_of, Opens, acts_of, poll_move, Tables, Exchange, Representation, may_stand, may_be, Sound, loses_writing, written_representation, seals_at, first_found, lossless, sealed_by, event, act}

@@ -1,4 +1,9 @@
--- Where the own exchange of a consumer after an entry is from: it was its own, it is opened for it, or a lost writing is left to it.
+-- Where an own exchange after an entry is from: it was its own, it is opened, or a lost writing is left to its consumer.
+--
+-- The row is followed back through the entry. First what the loss leaves to it: a writing, where it is the survivor of
+-- it, or what it had (`left_by`, `after_by`). Before that an opening may have given it a new one (`opened_by`). The
+-- event itself gives none, and who starts over has none. `from_row` joins these, and `own_from` is for any row. Laws on
+-- own exchanges begin with it.
 use Rattle.std.{proofs.{Common.{◌≡◌, ◌⊎◌, inl, inr, ℕ, Bool, true, false, Option, Some, None, refl, ap, ◌∙◌, arith}, lemmas.Bool.Decides.{nat_tests}}, specs.Prelude.{◌==◌, ◌&&◌}}
 use Rattle.hc_text.proofs.Basics.{and_right as right, and_left, not_some as none_some, bool_cases, some_inj}
 use Rattle.hc_effects.proofs.{Basics.{number_is}, PieceKeeps.{eq_cases}}

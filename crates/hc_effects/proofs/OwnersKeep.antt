@@ -1,4 +1,9 @@
--- Whose an exchange is stays told: what is opened is of its consumer's key, and an own exchange is of one consumer alone.
+-- Whose an exchange is stays told: what is opened is of its consumer's key, and an own one is of one consumer alone.
+--
+-- An exchange was there, or is opened by its consumer's move, which tells whose it is (`is_opened`, `openers_kept`). An
+-- own exchange was kept, is opened now, or was that of a writing that is lost (`left_writing`). A new number is that of
+-- no exchange (`new_number`), and a writing is left to one alone (`both_left`). So of each pair of these ways both are
+-- one consumer (`one_from`). `first_kept` and `writers_kept` go alike.
 use Rattle.std.{proofs.{lemmas.Bool.Decides.{nat_tests}, Common.{◌≡◌, ℕ, ◌+◌, true, false, Option, Some, None, refl, ap, sym, ◌∙◌, subst, arith}}, specs.Prelude.{is_some}}
 use Rattle.hc_text.proofs.Basics.{not_some as none_some, and_left, and_right, same_some as same_row}
 use Rattle.hc_effects.proofs.Vocabulary.{Opening, opening_in, Request, is_bypassing, Place, loses_in, Entry, exchange_opened, family, entry_of, IsFor, is_written, Tables, Exchange, Representation, Consumer, after_accepted, loses_writing, survivor, event, place, by}

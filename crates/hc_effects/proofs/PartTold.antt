@@ -1,4 +1,9 @@
 -- What a part tells: its last position is before the length of the whole, and it promises no more.
+--
+-- By how Content-Range is read: its positions are a range in order (`in_order`), and the last one is below the total
+-- (`with_order`). So a part that a head tells is in order (`part_order`). Where its length isn't bad the head promises
+-- as many bytes as the part has, or it has no body (`part_told`); so it ends by the total (`part_within`). A whole
+-- answer begins at the first position (`whole_base`).
 use Rattle.std.{proofs.{Common.{◌≡◌, inl, inr, ℕ, ◌+◌, ◌-◌, ◌<◌, ◌≤◌, List, [], ◌∷◌, Bool, true, false, cond, Option, Some, None, refl, arith}, lemmas.Bool.Decides.{nat_tests}}, specs.{Prelude.{nat_eq, nat_lt, codes, bytes_eq, if◌then◌else◌, option_map, take, drop}, Option.{option_and_then}, Str.{str_to_ascii_lowercase}}}
 use Rattle.hc_text.proofs.Basics.{bool_cases, not_some as none_some, some_inj}
 use Rattle.hc_fields.specs.{FieldElements.{elements_in}, FieldList.{values_of}, FirstValues.{only_of}}

@@ -1,4 +1,9 @@
--- What a piece does that is brought past the store, that is stored, or whose write is refused where it isn't written for several.
+-- What a piece does that is brought past the store or stored, or whose write is refused where it isn't for several.
+--
+-- Its exchange has the piece, and what is of its family has it too (`piece_heard`); what is lost goes, and what closes
+-- early (`piece_goes`). Where no writing for several is lost, all consumers stay (`all_stay`), so `piece_tables` joins
+-- the tables. Its ways are: what is stored (`stored`), what was lost before (`unstored`), and a write that is refused,
+-- after which who writes alone goes on (`loses_alone`).
 use Rattle.std.{proofs.{lemmas.Bool.Decides.{nat_tests}, Common.{arith, ◌≡◌, inl, inr, ℕ, List, [], ◌∷◌, ◌++◌, Bool, true, false, Option, Some, None, refl, ap, sym, ◌∙◌, subst}}, specs.Prelude.{◌&&◌, ◌||◌, ◌==◌, not, nat_eq, if◌then◌else◌, map, option_map}}
 use Rattle.hc_text.proofs.Basics.{eqb-same, not_some as none_some, and_off as then_false}
 use Rattle.hc_effects.proofs.Vocabulary.{act, LostKind, Event, Limits, Place, loses_in, loss_acts, closing, is_current, denial, Does, with_event, with_exchange, with_representation, let_go, let_all_go, as_gone, over, lost_to, Entry, entry_without_acts, exchange_after, with_piece, family, front, Flaw, NoFlaw, Loses, beside, becomes_gone, ends_early, ends_founding, is_keepable, Lawful, is_written, representation_after, representation_heard, representation_after_piece, with_stored_bytes, Tables, Exchange, Representation, Consumer, after_accepted, evicted, write_in, exclusive, goes_on_with}

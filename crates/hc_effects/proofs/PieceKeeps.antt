@@ -1,4 +1,9 @@
 -- A piece keeps what open exchanges are still to bring absent.
+--
+-- The rows before the piece are read back (`was_exchange`, `was_representation`). What an exchange is still to bring
+-- was so before (`was_ahead`). Of two open exchanges about one body both are the same, so a piece of it is its own:
+-- what is still to come is past that (`past`, `front_absent`). `fronts_kept` is of exchanges with a head and
+-- `holes_kept` of those for a hole; `piece_one_about` keeps that one is about each body.
 use Rattle.std.{proofs.{Common.{◌≡◌, ◌≢◌, ◌⊎◌, inl, inr, ℕ, ◌+◌, ◌≤◌, List, [], ◌++◌, length, Bool, true, false, cond, Option, Some, None, refl, ap, sym, ◌∙◌, arith, subst, length-append}, lemmas.Bool.Decides.{nat_tests}}, specs.Prelude.{is_some, nat_eq}}
 use Rattle.hc_text.proofs.Basics.{and_right, same_some as same_row, some_inj}
 use Rattle.hc_effects.proofs.Vocabulary.{opening_in, Act, Need, Entry, exchange_after, exchange_heard, exchange_acted, base, promised_bytes, front, family, representation_after, Tables, Exchange, Representation, Waits, Sound, OneAbout, IsAbout, IsPromised, InHole, after_accepted, need}

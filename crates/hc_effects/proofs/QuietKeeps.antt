@@ -1,5 +1,9 @@
--- Events that bring neither a head nor a piece keep what open exchanges are still to bring absent, and one exchange at most about each
--- representation, if the exchange that they open is alone about its hole, which is absent.
+-- Events without a head or a piece keep what is to come absent, and one exchange about each body, if they open so.
+--
+-- Such an event leaves an exchange as it was, but that it may end (`IsSame`, `quiet_exchange`), and no body changes
+-- (`is_kept`). So an exchange after it was there, or is the one that is opened (`was_or_new`). If that is alone about
+-- its hole, and the hole is absent (`OpensWell`), both laws are kept: `waits_kept`, and `one_about_kept` by each pair
+-- (`one`). What polls open is so by another file.
 use Rattle.std.{proofs.{lemmas.Bool.Decides.{nat_tests}, Common.{arith, ◌≡◌, inl, inr, ℕ, ◌≤◌, List, [], Bool, true, false, Option, Some, None, refl, ap, sym, ◌∙◌, subst}}, specs.Prelude.{is_some, not}}
 use Rattle.hc_text.proofs.Basics.{and_right, same_some as same_row, some_inj}
 use Rattle.hc_effects.proofs.Vocabulary.{Opening, opening_in, closes_in, Event, Act, Entry, exchange_after, exchange_heard, exchange_acted, exchange_made, aim_of, base, promised_bytes, front, family, representation_after, representation_heard, founded_at, Tables, Exchange, Representation, Waits, Sound, OneAbout, IsAbout, IsPromised, InHole, after_accepted}

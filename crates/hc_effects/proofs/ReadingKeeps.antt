@@ -1,4 +1,9 @@
 -- Whose open exchange has a head reads it, or what it is bound to, and stands there until it leaves.
+--
+-- A reader stays there: its exchange needn't be closed (`not_must`), so it doesn't leave (`left_by`). Neither an event
+-- nor an opening is for it (`heard_same`, `no_opening`), and what it is shown leaves it (`shows_on`). Hence
+-- `reader_stays`. If the head comes now, each case that leaves its exchange open puts it where it reads that.
+-- `kept_reading` joins both, and `by_from` adds an exchange that is opened or left to it.
 use Rattle.std.{proofs.{Common.{◌≡◌, ◌⊎◌, inl, inr, ℕ, Bool, true, false, Option, Some, None, refl, ap, sym, ◌∙◌, subst, arith}, lemmas.Bool.Decides.{nat_tests}}, specs.{Prelude.{if◌then◌else◌, is_some, is_none, ◌&&◌, ◌==◌, not, nat_eq}, Option.{option_and_then}}}
 use Rattle.hc_text.proofs.Basics.{and_left, and_right, bool_cases, not_some as none_some, never_true as not_so, or_left, or_right, same_some as same_row, some_inj}
 use Rattle.hc_effects.proofs.Vocabulary.{Opening, opening_in, leaves_in, Event, Response, Wait, Place, Showing, showing_in, wait_in, must_close, is_left, is_left_by, leaver, leaver_by, consumer_heard, consumer_acted, by_head, by_fault, by_opening, own_after, shown_place, waiting, denial, Entry, exchange_heard, is_open, entry_of, IsReading, shows_at, move_of, own_open, if_open, bound_to, Tables, Exchange, Consumer, after_accepted, brings_body, event}

@@ -1,4 +1,9 @@
 -- Where the row of a representation after an entry is from: it was there, or it is founded.
+--
+-- `IsHeard` has what an event leaves of a row and what it may change: a head may renew it and begin its writing again
+-- (`renewed_by`, `headed_by`), a piece adds bytes, and an end tells its length. So each event is looked at (`heard`),
+-- then the acts. A row that wasn't there is founded, by the head of an exchange of its number (`founded_by`).
+-- `rep_from` joins both; most laws on representations begin with it.
 use Rattle.std.{proofs.{Common.{◌≡◌, ◌⊎◌, inl, inr, ℕ, List, Bool, true, false, Option, Some, None, refl, ap, sym, ◌∙◌, subst, arith}, lemmas.Bool.Decides.{nat_tests}}, specs.{Prelude.{if◌then◌else◌, ◌==◌, ◌||◌, ◌&&◌, option_map, is_some}, Option.{option_or}}}
 use Rattle.hc_text.proofs.Basics.{not_some as none_some, and_right as right, and_left as left, bool_cases, some_inj}
 use Rattle.hc_effects.proofs.Vocabulary.{Event, Response, loses_in, case_at, is_founding, is_joining, Entry, representation_after, representation_heard, representation_acted, founded_at, new_representation, representation_after_head, with_renewed_head, updates, resumes, representation_after_piece, with_total_if_none, length_in, Tables, Exchange, Representation, event}

@@ -1,4 +1,9 @@
 -- Whatever the acts of an accepted event say of a consumer, its poll says, by its move.
+--
+-- The acts of a poll are those of its move, and all others say nothing to a consumer (`is_said`). So what is opened,
+-- shown, waited for or left is told by a move, and to the consumer of that (`showing_said`, `wait_said`). `opening_by`,
+-- `showing_by`, `waiting_by` and `leaving_by` give the poll and its move for each. Most files that follow a consumer
+-- through an entry use them.
 use Rattle.std.{proofs.{lemmas.Bool.Decides.{nat_tests}, Common.{arith, ◌≡◌, inl, inr, ℕ, List, [], ◌∷◌, ◌++◌, true, Option, Some, None, refl, ap, sym, ◌∙◌, subst}}, specs.Prelude.{map, ◌||◌, nat_eq}}
 use Rattle.hc_text.proofs.Basics.{not_some as none_some, some_inj}
 use Rattle.hc_effects.proofs.Vocabulary.{Opening, opening_in, leaves_in, shows_in, Event, Request, Response, Act, Cause, Need, Wait, Why, Limits, Showing, showing_in, wait_in, accepted_acts, poll_acts, loss_acts, closing, denial, is_live, Flaw, Loses, Misreads, Move, Asks, Opens, Shows, Ends, Fails, acts_of, move_of, Tables, Consumer, Sound, evicted, act}

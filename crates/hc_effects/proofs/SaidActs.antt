@@ -1,4 +1,9 @@
 -- The acts that the closings see, beside all the acts of an entry: who leaves, and whether something is lost.
+--
+-- Before closings the acts are what is answered, and then what is lost; closings and evictions say neither a loss nor a
+-- leave (`closes_lose`, `evicted_lose`, `closes_leave`). So the closings see the same losses as the entry has
+-- (`loss_is`), by induction over lists. Who leaves does so by the move of a poll, which stands before (`one_leaves`),
+-- or is cancelled: so they see that too (`leaves_leaver`).
 use Rattle.std.{proofs.{Common.{◌≡◌, ℕ, List, [], ◌∷◌, ◌++◌, Bool, true, false, Some, None, refl, ap, sym, ◌∙◌, arith}, lemmas.Bool.Decides.{nat_tests}}, specs.Prelude.{map, ◌||◌, nat_eq}}
 use Rattle.hc_effects.proofs.{Basics.{false_true}, Closed.{before}, PieceServes.{quiet_acts}}
 use Rattle.hc_text.proofs.Basics.{or_false}

@@ -1,4 +1,9 @@
--- What a piece does whose write is refused while it is written for several: one goes on alone, if one can, and the others fail.
+-- What a piece does whose write is refused for several: one goes on alone, if one can, and the others fail.
+--
+-- The loss takes what is written with it, and nothing else goes (`goes`). Whoever is bound to it goes on or fails, and
+-- all others stay (`bound_by`, `unbound`). `loses_shared` joins this into the tables, whatever is closed. Where one
+-- survives it gets the exchange for its own, and nothing is closed (`goes_on`). Where nobody can, the exchange is
+-- closed unless the piece has reached its end (`closing_is`, `all_fail`).
 use Rattle.std.{proofs.{lemmas.Bool.Decides.{nat_tests}, Common.{arith, ◌≡◌, inl, inr, ℕ, ◌+◌, List, [], ◌∷◌, ◌++◌, Bool, true, false, Option, Some, None, refl, ap, sym, ◌∙◌, subst}}, specs.{Prelude.{◌&&◌, ◌||◌, ◌==◌, not, nat_eq, length, is_some, is_none, if◌then◌else◌, map, filter, reverse, option_map}, Option.{option_or}}}
 use mathlib.Core.Path.{fun_ext}
 use Rattle.hc_text.proofs.Basics.{both_true as and_both, eqb-same, not_some as none_some, or_none as or_nothing, same_some as same_row, some_inj, and_off as then_false}

@@ -1,4 +1,9 @@
 -- A consumer is shown one head at most, and given nothing before that.
+--
+-- A step of a reader shows nothing (`step_shows`), and a plan gives nothing (`plan_gives`). So by where its consumer
+-- stands who was shown a head is shown no other (`shown_shows`), and who was shown none is given nothing
+-- (`unshown_gives`). The acts tell what the move is, to its consumer, and others are told nothing (`well_move`).
+-- `by_event` joins these for any event; the law of one head is its induction.
 use Rattle.std.{proofs.{lemmas.Bool.Decides.{nat_tests}, Common.{◌≡◌, inl, inr, ℕ, ◌≤◌, List, [], ◌++◌, length, Bool, true, false, Option, Some, None, refl, ap, sym, ◌∙◌, subst, arith}}, specs.{Prelude.{map, not, is_none}, Option.{option_and_then}}}
 use Rattle.hc_text.proofs.Basics.{cond_true, same_some as same_row}
 use Rattle.hc_range.specs.declared.range.Span.{Span}

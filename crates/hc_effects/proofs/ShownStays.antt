@@ -1,4 +1,9 @@
--- Whoever was shown a head stays where it stands, or stands nowhere where anything is read; and where a consumer stands that is shown one.
+-- Whoever was shown a head stays where it stands or is idle; and where who is shown one comes to stand.
+--
+-- Who was shown one is followed through an entry. A head of its exchange leaves it or makes it idle (`by_case`): those
+-- cases that would move a reader are of the turn, or of who wasn't shown one. A wait and an opening leave it too
+-- (`waits_stays`, `opens_stays`), and no other head is shown to it (`shows_not`). Hence `shown_stays`. Who is shown one
+-- by its poll gets no other act (`acted_lands`, `shown_at`).
 use Rattle.std.{proofs.{Common.{◌≡◌, inl, inr, ℕ, Bool, true, false, cond, Option, Some, None, refl, ap, sym, ◌∙◌, subst, arith}, lemmas.Bool.Decides.{nat_tests}}, specs.Prelude.{if◌then◌else◌, ◌==◌}}
 use Rattle.hc_text.proofs.Basics.{bool_cases, same_some as same_row}
 use Rattle.hc_effects.proofs.Vocabulary.{Opening, opening_in, leaves_in, Event, Response, Wait, Why, HeadCase, head_case, route_of, Place, Showing, showing_in, wait_in, has_loss, case_at, head_view, was_shown, consumer_heard, consumer_acted, by_head, by_fault, by_opening, place_by_case, passed_on, passed_by, kept_by, waiting, waiting_place, unless_bound, shown_place, due_after, back_in_line, current, Entry, entry_of, Move, Shows, IsAwaiting, move_of, bound_to, reads, Tables, Exchange, Consumer, starts_over, after_accepted, event, wait, route, by, place}

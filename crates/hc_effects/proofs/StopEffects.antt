@@ -1,4 +1,9 @@
 -- What an end or a fault does of an exchange that is read past the store, and a fault before the head of one.
+--
+-- Nothing was founded, so no representation changes (`rows_stay`), and just one consumer does (`waiter_is`). Who reads
+-- past the store fails where too little came, or at a fault (`faults_past`). Before its head the exchange has who waits
+-- for it: if that was shown a head, it fails by it (`faults_later`), and else it is put down (`becomes`,
+-- `faults_first`). All are uses of the lemmas on what stops.
 use Rattle.std.{proofs.{lemmas.Bool.Decides.{nat_tests}, Common.{arith, ◌≡◌, inl, inr, ℕ, [], Bool, true, false, Option, Some, None, refl, ap, sym, ◌∙◌, subst}}, specs.Prelude.{◌&&◌, ◌==◌, not, nat_eq, is_some, is_none, if◌then◌else◌, option_map}}
 use Rattle.hc_text.proofs.Basics.{eqb-same, same_some as same_row}
 use Rattle.hc_effects.proofs.Vocabulary.{cause, event, Event, Response, Limits, consumer_after, consumer_heard, consumer_acted, consumer_settled, by_fault, is_number, denial, Does, with_event, with_consumer, with_exchange, with_due, put_down, over, at_end, going_with, Entry, family, promised_bytes, short_of, NoFlaw, beside, becomes_gone, Lawful, Awaits, IsAwaiting, reads, representation_after, Tables, Exchange, Representation, Consumer, starts_over}

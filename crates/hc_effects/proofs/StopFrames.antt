@@ -1,4 +1,9 @@
 -- What an end or a fault comes to: who reads from the exchange, what is sealed, lost or let go with it.
+--
+-- `Stops` says what an end and a fault have in common (`end_stops`, `fault_stops`), so all else is proved once for
+-- both. Its reader is the one that owns it (`reads_own`), or whoever is bound to what is written from it
+-- (`reads_shared`). A representation goes if it is lost or let go (`goes_with`), and else is as long as is heard
+-- (`row_by`). Who reads from it fails, and nobody else (`unhit`). `stop_does` joins this into the tables.
 use Rattle.std.{proofs.{lemmas.Bool.Decides.{nat_tests}, Common.{arith, ◌≡◌, inl, inr, ℕ, List, [], ◌++◌, Bool, true, false, Option, Some, None, refl, ap, sym, ◌∙◌}}, specs.{Prelude.{◌&&◌, ◌||◌, ◌==◌, not, nat_eq, length, is_some, if◌then◌else◌, option_map}, Option.{option_or}}}
 use Rattle.hc_text.proofs.Basics.{bool_cases, eqb-same, not_some as none_some, or_none as or_nothing, same_some as same_row, and_off as then_false}
 use Rattle.hc_effects.proofs.Vocabulary.{Act, Cause, Event, is_same_number, Limits, Place, loses_in, loss_acts, closing, leaver, consumer_after, consumer_heard, own_after, is_current, is_number, denial, doomed_key_of, Does, with_event, with_exchange, failing, let_all_go, as_gone, over, at_end, going_with, Entry, entry_without_acts, exchange_heard, family, exchange_in, becomes_due, cause_of_stop, cause_of_head, stop_cause, short_cause, Flaw, beside, becomes_gone, ends_early, ends_founding, stops_early, is_short, is_keepable, Lawful, is_bound_place, is_written, own_open, shared_exchange, source, writing_in, reads, representation_after, representation_heard, with_total_if_none, length_in, Tables, Exchange, Representation, Consumer, write_in, brings_body, cause, place}

@@ -1,4 +1,9 @@
--- What an end or a fault does of what brings a representation: who reads from it fails or knows its end, and it is sealed, let go or lost.
+-- What an end or a fault does of what brings a representation: its readers fail or know its end, and that is sealed.
+--
+-- Both are proved once, for any event that stops it (`Stops`) and any list of readers: what is brought is sealed or let
+-- go (`seals`), or its seal fails and it is lost (`seal_loses`). Then come who reads it: the members of a writing
+-- (`members_read`), or the one whose own the exchange is (`reader_reads`). `faults_shared`, `ends_own` and the others
+-- are the uses, with a seal that fails and without.
 use Rattle.std.{proofs.{lemmas.Bool.Decides.{nat_tests}, Common.{arith, ◌≡◌, inl, inr, ℕ, [], ◌∷◌, Bool, true, false, Option, Some, None, refl, ap, sym, ◌∙◌, subst}}, specs.Prelude.{◌||◌, ◌==◌, nat_eq, length, is_some, if◌then◌else◌, option_map}}
 use Rattle.hc_text.proofs.Basics.{eqb-same}
 use Rattle.hc_effects.proofs.Vocabulary.{act, cause, event, Cause, LostKind, Event, is_same_number, Limits, consumer_heard, by_fault, is_number, denial, Does, with_event, with_exchange, with_due, with_dues, with_length, with_loss, if_bound, failing, let_go, let_some_go, as_gone, over, at_end, lost_to, going_with, family, promised_bytes, short_of, Flaw, NoFlaw, Loses, becomes_gone, is_short, Lawful, is_bound, is_written, reads, source, representation_after, representation_heard, Tables, Exchange, Representation, Consumer, with_item_first, exclusive}

@@ -1,4 +1,9 @@
 -- Sums over lists of numbers.
+--
+-- All go by induction over a list. First come bounds and sums of two functions (`sum_le`, `sum_two`, `sum_plus`), then
+-- lists in which each number stands once. In such a list a number adds its weight once (`only_once`). The most work is
+-- that what some of them weigh is within what all weigh (`sum_some`). `gives_enough` is for making room: without what
+-- gives way the sum is within the limit.
 use Rattle.std.{proofs.{Common.{◌≡◌, ◌⊎◌, inl, inr, ℕ, zero, suc, ◌+◌, ◌-◌, ◌≤◌, List, [], ◌∷◌, ◌++◌, Bool, true, Option, Some, None, refl, ap, sym, ◌∙◌, subst, arith}, lemmas.{Bool.Decides.{nat_tests}, List.Sums.{sum_by-cons, sum_by-append}}}, specs.{Prelude.{if◌then◌else◌, ◌==◌, nat_le, map, filter, take, reverse}, List.{sum_by, list_any}, Option.{option_map}}}
 use Rattle.hc_text.proofs.Basics.{bool_cases, not_some as none_some, reverse_is, some_inj}
 use Rattle.hc_effects.proofs.Vocabulary.{gives_way, AreOnce, Among}

@@ -1,4 +1,9 @@
 -- Who survives the loss of a shared writing goes on alone: it stands where its exchange goes on, and nothing past that came.
+--
+-- The survivor is one whose position is where what is stored ends (`survivor_offset`). It goes on reading, and the
+-- exchange of the writing is left to it, which has its head and feeds what it reads. While the writing was on its front
+-- was where what is stored ends, and the event moves it by the piece alone that is lost (`fronts`). So nothing past
+-- that came. `survivor_alone` joins these, and `goes_on` takes it to any survivor.
 use Rattle.std.{proofs.{Common.{◌≡◌, ◌⊎◌, inl, inr, ℕ, ◌+◌, ◌<◌, ◌≤◌, List, [], ◌∷◌, length, true, Option, Some, None, refl, ap, sym, ◌∙◌, subst, arith, length-append}, lemmas.Bool.Decides.{nat_tests}}, specs.Prelude.{if◌then◌else◌, is_some, ◌||◌, not, nat_eq, map, filter}}
 use Rattle.hc_text.proofs.Basics.{both_true as and_both, and_left, and_right, bool_cases, not_some as none_some, never_true as not_so, same_some as same_row}
 use Rattle.hc_sparse.specs.Cells.{Cells, Covers, cells_with}

@@ -1,4 +1,9 @@
--- What a piece, an end, a fault or a doom comes to but for what makes room: what is lost and closed, and who and what stays or is let go.
+-- What a piece, an end, a fault or a doom comes to but for what makes room: what is lost and closed, and what stays.
+--
+-- Such an event (`IsTold`) asks, opens and founds nothing (`says_little`), so its acts are a loss and closings, and are
+-- told to nobody (`far`). The exchange of the event is as it is heard, and others stay (`exchange_one`,
+-- `exchange_other`). What goes does so by a doom, a loss or an early end (`goes_as`). `told_by` joins the rows into
+-- tables, and `told_does` adds what makes room, which goes last.
 use Rattle.std.{proofs.{lemmas.Bool.Decides.{nat_tests}, Common.{arith, ◌≡◌, inl, inr, ℕ, List, [], ◌++◌, Bool, true, false, Option, Some, None, refl, ap, sym, ◌∙◌, subst}}, specs.Prelude.{◌&&◌, ◌||◌, ◌==◌, not, nat_eq, if◌then◌else◌, map, option_map}}
 use Rattle.hc_text.proofs.Basics.{not_some as none_some, or_false as or_off}
 use Rattle.hc_effects.proofs.Vocabulary.{opening_in, asks_in, closes_in, evicts_in, Act, Event, Limits, loses_in, misreads_in, loss_acts, answer_acts, is_asked, case_at, case_of, is_founding, closing, consumer_after, consumer_heard, consumer_made, due_after, back_in_line, is_current, denial, doomed_key_of, is_key, Does, with_event, as_gone, let_all_go, over, lost_to, Entry, entry_without_acts, evict_all, unevicting, exchange_after, exchange_heard, exchange_acted, exchange_at, exchange_in, becomes_due, Flaw, beside, becomes_gone, goes_by_exchange, ends_early, is_keepable, Lawful, reads, representation_after, representation_heard, representation_acted, founded_at, Tables, Exchange, Representation, Consumer, starts_over, waits_at, after_accepted, with_item_first, starts_after, last_start_after, opened_after, openings_after, to_front, founds, evicted, write_in, goes_on_with, act}

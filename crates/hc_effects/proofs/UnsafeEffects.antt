@@ -1,4 +1,9 @@
 -- What the head of an unsafe request does that may have changed something: what is current for its key is doomed.
+--
+-- Its consumer reads past the store (`direct_place`), so the answer is taken, or the head is bad. A doom closes all
+-- that is awaited for the key, and its own exchange where the head is refused (`closes_as`). Just what is current goes
+-- (`goes_as_it`), and who waits for the key starts over. `dooms_key` joins the rows into tables, for both cases:
+-- `dooms_taken` and `dooms_bad`.
 use Rattle.std.{proofs.{lemmas.Bool.Decides.{nat_tests}, Common.{arith, ◌≡◌, inl, inr, ℕ, List, [], ◌++◌, Bool, true, false, Option, Some, None, refl, ap, sym, ◌∙◌, subst}}, specs.Prelude.{bytes_eq, ◌&&◌, ◌||◌, not, nat_eq, if◌then◌else◌, is_none, option_map, map, filter, reverse}}
 use Rattle.hc_text.proofs.Basics.{eqb-same, not_some as none_some, some_inj, and_off as then_false}
 use mathlib.Core.Path.{fun_ext}

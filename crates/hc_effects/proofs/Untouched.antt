@@ -1,4 +1,9 @@
 -- Whoever and whatever an entry does not speak of stays as it was, but for what becomes gone, and who waits for that.
+--
+-- An exchange, a representation or a consumer of which neither event nor acts speak stays (`exchange_stays`,
+-- `representation_stays`, `consumer_stays`). Such a consumer starts over just where its key is doomed while it waits,
+-- or what it waits for goes (`starts_as`). Nothing becomes due for it, if it reads no writing that is lost
+-- (`undue_apart`). `consumer_apart` joins these. The effects of all events are built on this file.
 use Rattle.std.{proofs.{lemmas.Bool.Decides.{nat_tests}, Common.{arith, ◌≡◌, ℕ, ◌+◌, List, length, Bool, true, false, Option, Some, None, refl, ap, ◌∙◌}}, specs.Prelude.{◌&&◌, ◌||◌, not, nat_eq, if◌then◌else◌}}
 use Rattle.hc_text.proofs.Basics.{plus_none}
 use Rattle.hc_effects.proofs.Vocabulary.{Opening, opening_in, asks_in, closes_in, leaves_in, shows_in, given_in, Act, Event, Place, BoundBy, loses_in, fails_in, Showing, showing_in, case_at, case_of, is_founding, consumer_after, consumer_settled, consumer_acted, consumer_heard, consumer_made, by_opening, waiting, waiting_place, shown_place, own_after, due_after, back_in_line, doomed_key_of, is_key, as_gone, Entry, exchange_after, exchange_heard, exchange_acted, family, exchange_in, exchange_at, is_for, becomes_due, cause_of_stop, cause_of_loss, cause_of_head, becomes_gone, goes_in, reads, is_written, representation_after, representation_heard, founded_at, updates, Tables, Exchange, Representation, Consumer, starts_over, sends_back, waits_at, loses_what_it_waits_for, binds, loses_writing, brings_body}

@@ -1,4 +1,9 @@
 -- What heads do that update what is stored: a 304 that validates it, and a 206 that joins it. And where that is lost.
+--
+-- What is stored gets the fields of the head (`updated`), and what is lost gets nothing (`past`). So a 304 validates it
+-- (`validated`), and a 206 joins it, or only its exchange has the head (`joins`, `joins_past`). Where the write is
+-- refused it is lost and let go, and who writes it alone goes on (`loses`). A 304 validates nothing then
+-- (`validated_lost`); of a 206 that writer is its own consumer (`joins_alone`, `joins_lost`).
 use Rattle.std.{proofs.{lemmas.Bool.Decides.{nat_tests}, Common.{arith, ◌≡◌, inl, inr, ℕ, List, [], ◌∷◌, Bool, true, false, Option, Some, None, refl, ap, sym, ◌∙◌, subst}}, specs.Prelude.{◌&&◌, ◌||◌, ◌==◌, not, nat_eq, if◌then◌else◌, option_map}}
 use Rattle.hc_text.proofs.Basics.{and_left, and_true, eqb-same, never_true as not_so, same_some as same_row, some_inj, and_off as then_false}
 use Rattle.hc_effects.proofs.Vocabulary.{act, event, case, route, LostKind, Event, Response, HeadCase, HeadView, Limits, head_case, route_of, loses_in, has_loss, loss_acts, case_at, head_view, is_founding, is_updating, is_joining, is_refused, becomes_shared, back_in_line, consumer_after, current, is_number, denial, doomed_by_case, Does, with_event, let_go, with_consumer, with_representation, with_answer, with_refreshed_head, lost_to, as_gone, promise_in, is_reached, cause_by_case, Flaw, NoFlaw, Loses, goes_by_case, Lawful, IsAwaiting, is_written, representation_after, updates, resumes, Tables, Exchange, Representation, Consumer, sends_back, with_item_first, evicted, exclusive, goes_on_with, BoundBy, IsFirst, IsExclusiveWriter}

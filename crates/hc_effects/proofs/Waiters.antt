@@ -1,4 +1,9 @@
--- Whoever waits for the head of an exchange keeps it as its own, and it isn't closed, until the consumer leaves or starts over.
+-- Who waits for a head keeps its own exchange, and this isn't closed, until its consumer leaves or starts over.
+--
+-- A headless exchange has a waiter, its consumer (`waiter_of`). A head or a fault for that is of this exchange
+-- (`head_is_own`, `fault_is_own`), so any other event says nothing to it (`heard_same`). The acts leave it its own
+-- exchange (`own_acted`). This isn't closed either (`unclosed_unless`): nobody else can leave it, and a doom or a loss
+-- of what it is about makes its consumer start over. Many files use this.
 use Rattle.std.{proofs.{Common.{◌≡◌, ◌⊎◌, inl, inr, ℕ, Bool, true, false, Option, Some, None, refl, ap, sym, ◌∙◌, subst, arith}, lemmas.Bool.Decides.{nat_tests}}, specs.{Prelude.{if◌then◌else◌, is_some, is_none, ◌&&◌, ◌==◌, not, nat_eq, unwrap_or}, Option.{option_and_then}}}
 use Rattle.hc_text.proofs.Basics.{both_true as and_both, and_left, and_right, bool_cases, not_some as none_some, never_true as not_so, or_cases, or_left, same_some as same_row, some_inj}
 use Rattle.hc_effects.proofs.Vocabulary.{Opening, opening_in, leaves_in, closes_in, Event, Response, Place, BoundBy, case_at, case_of, must_close, is_refused, brings_head, is_doomed, awaits, has_no_survivor, is_left, is_left_by, is_last_reader, leaver, leaver_by, consumer_heard, by_head, by_fault, by_opening, own_after, left_to, waiting, is_number, denial, doomed_key_of, doomed_in, doomed_by_head, doomed_by_case, is_key, Entry, family, exchange_in, is_headless, is_open, entry_of, IsAwaiting, own_open, if_open, is_written, shared_exchange, writing_in, Tables, Exchange, Representation, Consumer, IsAbout, IsExclusiveWriter, starts_over, waits_at, awaited_exchange, loses_writing, survivor, event, place}

@@ -1,4 +1,9 @@
 -- Whoever waits for the head of its own exchange goes on waiting as long as that is open.
+--
+-- Since its exchange needn't be closed, its consumer doesn't leave (`left_by`, `stays_in`), nor does it start over: a
+-- doom of its key would close the exchange (`doomed_must`, `stays_on`). No act moves it: it is told no wait for others,
+-- and shown nothing where it reads nothing (`told_not`, `shows_on`). So it stands as it stood (`stands`). An exchange
+-- without a head was so (`was_waiting`), or is new (`new_waiting`).
 use Rattle.std.{proofs.{Common.{◌≡◌, inl, inr, ℕ, List, Bool, true, false, Option, Some, None, refl, ap, sym, ◌∙◌, subst, arith}, lemmas.Bool.Decides.{nat_tests}}, specs.Prelude.{nat_eq}}
 use Rattle.hc_text.proofs.Basics.{both_true as and_both, bool_cases, not_some as none_some, never_true as not_so, or_left, or_right, same_some as same_row, some_inj}
 use Rattle.hc_effects.proofs.Vocabulary.{Opening, opening_in, leaves_in, closes_in, Event, Response, Wait, route_of, Place, BoundBy, Showing, showing_in, wait_in, case_of, must_close, is_doomed, awaits, is_left, is_left_by, leaver, leaver_by, consumer_heard, consumer_acted, shown_place, waiting, due_after, denial, doomed_key_of, is_key, Entry, exchange_heard, exchange_opened, exchange_in, exchange_at, is_for, is_headless, entry_of, IsAwaiting, Awaits, poll_move, move_of, own_open, reads, Tables, Exchange, Consumer, starts_over, waits_at, awaited_exchange, sends_back, after_accepted, Opens, may_stand, event, place, by}

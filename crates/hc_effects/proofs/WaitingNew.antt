@@ -1,4 +1,9 @@
 -- For whom an exchange is opened waits for its head: past the store, with the turn, or bound to what it asks a hole of.
+--
+-- A poll that opens closes, loses and evicts nothing, so nothing that its consumer waited for goes (`doom_not`,
+-- `itself_not`, `gone_not`). So it doesn't start over (`stays_on`), and stands where the opening puts it (`placed`,
+-- `acted_place`). By what is opened that is past the store, with the turn, or bound to what the exchange is about
+-- (`free_place`, `bound_place`). `awaits` joins these.
 use Rattle.std.{proofs.{Common.{◌≡◌, inl, inr, ℕ, List, Bool, true, false, Option, Some, None, refl, ap, sym, ◌∙◌, subst, arith}, lemmas.Bool.Decides.{nat_tests}}, specs.Prelude.{if◌then◌else◌, ◌&&◌, ◌||◌, ◌==◌, not, nat_eq}}
 use Rattle.hc_text.proofs.Basics.{and_left, and_right, or_cases}
 use Rattle.hc_range.specs.declared.range.Span.{Span}

@@ -1,4 +1,9 @@
 -- What weighs in the store: what isn't gone, and what somebody reads.
+--
+-- `held` is what a row weighs, `total` what all do, and `IsHeld` has the reasons; `held_is` and `held_most` count by
+-- these. What an entry leaves to weigh is within that (`weights_most`). A size changes by a stored piece alone
+-- (`sized`). Where nothing is lost, what goes before the answer goes with it too (`goes_more`): the case of a head is
+-- the same then (`case_same`). That what is stored fits is counted by these.
 use Rattle.std.{proofs.{lemmas.Bool.Decides.{nat_tests}, Common.{◌≡◌, ◌⊎◌, inl, inr, ℕ, ◌+◌, ◌≤◌, List, [], ◌∷◌, length, Bool, true, false, Option, Some, None, refl, ap, sym, ◌∙◌, subst, arith}}, specs.{Prelude.{if◌then◌else◌, ◌&&◌, ◌||◌, ◌==◌, not}, List.{list_any, sum_by}}}
 use Rattle.hc_text.proofs.Basics.{and_left, bool_cases, or_cases, or_left, or_right}
 use Rattle.hc_effects.proofs.Vocabulary.{Event, Response, HeadCase, weight_of, loses_in, has_loss, case_at, current, is_current, is_number, doomed_key_of, doomed_in, is_key, Entry, entry_without_acts, front, family, exchange_at, goes_by_case, goes_by_exchange, goes_by_head, goes_itself, ends_early, is_keepable, bound, representation_heard, representation_acted, representation_after_head, with_renewed_head, updates, representation_after_piece, with_stored_bytes, with_total_if_none, length_in, Tables, Exchange, Representation, Consumer, Sound, Among, IsBound, weight, weight_in, weights, moves_on, stays_current, stays_bound, event, case}

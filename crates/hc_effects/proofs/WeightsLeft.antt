@@ -1,4 +1,9 @@
 -- What all weighs once some were let go, or a consumer isn't bound any more, and how few give way to a write.
+--
+-- Where some are let go the other rows weigh what they did (`weight_left`). So all weigh less (`all_weigh_less`), and
+-- where those were idle, by just what they weighed (`weigh_less`). Hence the write fits once what gives way went
+-- (`fits_after`). One gives way to a slot, and two to a piece, since all that is idle is heavy (`one_gives_way`,
+-- `two_give_way`). Who isn't bound any more adds nothing (`all_weigh_apart`).
 use Rattle.std.{proofs.{Common.{◌≡◌, inl, inr, ℕ, ◌+◌, ◌≤◌, List, [], ◌∷◌, length, take, Bool, true, false, Option, Some, None, refl, ap, sym, ◌∙◌, subst, arith}, lemmas.Bool.Decides.{nat_tests}}, specs.{Prelude.{is_some, ◌&&◌, ◌||◌, ◌==◌, not, nat_eq, if◌then◌else◌, option_map, map, filter, reverse}, List.{sum_by}}}
 use Rattle.hc_text.proofs.Basics.{and_right, bool_cases}
 use Rattle.hc_effects.proofs.Vocabulary.{Limits, Write, room_of, gives_way, grown_by, weight_of, idle_now, current, is_current, as_gone, let_all_go, with_consumer, MayLetGo, MayMakeRoom, weight_now, weights_now, room_now, giving_way, AreOnce, bound, is_bound, is_bound_place, Tables, Representation, Consumer, Among, room}

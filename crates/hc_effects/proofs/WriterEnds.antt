@@ -1,4 +1,9 @@
 -- Where a shared writing ends while somebody reads it to whom nothing becomes due, all of it is stored.
+--
+-- Its reader doesn't leave (`leaver_not`), and what is written isn't lost, as that reader has nothing due
+-- (`losing_not`). So the exchange needn't be closed: its last reader doesn't leave, no head of it comes, and no doom is
+-- for it (`left_not`, `not_must`). So its event ended it, and not by a fault; where less came than was promised a
+-- failure would be due (`enough`, `ends_with_all`). Hence `all_stored`.
 use Rattle.std.{proofs.{Common.{◌≡◌, ◌⊎◌, inl, inr, ℕ, ◌≤◌, List, [], ◌∷◌, length, Bool, true, false, Option, Some, None, refl, ap, sym, ◌∙◌, arith}, lemmas.Bool.Decides.{nat_tests}}, specs.{Prelude.{if◌then◌else◌, is_some, is_none, ◌==◌, ◌&&◌, nat_eq, nat_lt}, List.{list_all}, Option.{option_and_then}}}
 use Rattle.hc_text.proofs.Basics.{and_left, and_right, bool_cases, not_some as none_some, or_cases, same_some as same_row, some_inj}
 use Rattle.hc_effects.proofs.Vocabulary.{leaves_in, closes_in, Event, Response, is_same_number, Place, BoundBy, loses_in, answer_acts, loss_acts, must_close, is_refused, brings_head, is_doomed, has_no_survivor, is_left, is_left_by, is_last_reader, leaver, leaver_by, case_at, consumer_heard, is_number, Entry, exchange_in, is_open, family, promised_bytes, becomes_due, stop_cause, short_cause, short_of, entry_of, Measures, is_written, bound, is_bound, own_open, if_open, shared_exchange, writing_in, source, Tables, Exchange, Representation, Consumer, Among, IsBound, IsGrowing, after_accepted, brings_body, loses_writing, event, cause, place}

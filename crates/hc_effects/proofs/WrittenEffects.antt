@@ -1,4 +1,9 @@
 -- What a 304 does whose update is refused while what it validates is written for several: that writing is lost.
+--
+-- Just the exchange of the writing is closed, where nobody survives (`closing_row`, `closing_is`), and what is lost
+-- goes (`goes_it`). Whoever reads it fails or goes on with that exchange (`member`), and all others stay (`others`).
+-- The consumer of the 304 has the turn and isn't bound to it (`turned_from`), so it stands in the line again.
+-- `validated_lost_written` joins this into the tables.
 use Rattle.std.{proofs.{lemmas.Bool.Decides.{nat_tests}, Common.{arith, ◌≡◌, inl, inr, ℕ, ◌+◌, List, [], ◌∷◌, ◌++◌, Bool, true, false, Option, Some, None, refl, ap, sym, ◌∙◌, subst}}, specs.{Prelude.{◌&&◌, ◌==◌, not, nat_eq, if◌then◌else◌, is_some, option_map, map, filter, reverse}, Option.{option_or}}}
 use mathlib.Core.Path.{fun_ext}
 use Rattle.hc_text.proofs.Basics.{and_left, bool_cases, eqb-same, not_some as none_some, never_true as not_so, not_true, or_false as or_off, same_some as same_row}

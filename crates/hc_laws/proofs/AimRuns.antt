@@ -1,4 +1,9 @@
 -- What is asked about what is stored names it, and what joined it joined that, in every run.
+--
+-- What needs something stored is asked only where something is current, and that becomes its aim (`some_asked`,
+-- `about_from`). What is asked since nothing is there has none (`none_current`, `missed_from`). Both are kept at each
+-- entry, as an exchange keeps its need and its aim (`about_by`, `missed_by`), and carried as `Names`. With the laws of
+-- keys this gives `aims_in_runs`. Without an aim each case of a head is the same (`by_need`).
 use Rattle.std.{proofs.Common.{◌≡◌, ℕ, Bool, true, false, Option, Some, None, refl, ap, sym, ◌∙◌, subst}, specs.{Prelude.{is_some, ◌==◌, ◌&&◌, not}, Option.{option_map, option_and_then}}}
 use Rattle.hc_text.proofs.Basics.{not_some as none_some}
 use Rattle.hc_effects.proofs.Vocabulary.{Event, Need, Response, head_case, is_conditional, Limits, route_of, Place, Aims, head_view, validates, joins_row, current, denial, Entry, aim_of, aim_from, Flaw, IsOfOneKey, entry_of, OfRuns, OfRunsIn, plan_view, candidate, candidate_at, bound_to, Tables, Exchange, Representation, Consumer, Sound, tables, after_accepted, need, route, place}

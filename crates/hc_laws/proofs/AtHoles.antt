@@ -1,7 +1,8 @@
 -- Who was shown a head, and waits for that of an exchange for a hole, stands in that hole, in every run.
 --
--- Such an exchange was opened where its consumer stood, which is where the hole begins, and isn't empty. Until its head comes
--- the consumer is given nothing, and the exchange asks for the same hole.
+-- Such an exchange was opened where its consumer stood, which is where the hole begins, and isn't empty. Until its head
+-- comes the consumer is given nothing, and the exchange asks for the same hole. `waited` and `opened` are the two, and
+-- `at_holes_in_runs` carries them.
 use Rattle.std.proofs.Common.{◌≡◌, ℕ, ◌+◌, ◌<◌, ◌≤◌, true, Option, Some, refl, ap, sym, ◌∙◌, subst, arith}
 use Rattle.hc_text.proofs.Basics.{not_some as none_some, same_some as same_row, some_inj}
 use Rattle.hc_effects.proofs.Vocabulary.{Opening, opening_in, Need, Limits, route_of, BoundBy, opened_place, unless_bound, Entry, aim_from, exchange_opened, exchange_acted, exchange_heard, is_headless, entry_of, flaw_in, hole_at, IsOfOneKey, OfRuns, Turns, bound, bound_to, lo_of, offset, Tables, Exchange, Consumer, Sound, InHole, after_accepted, after_denied, need, route, place}

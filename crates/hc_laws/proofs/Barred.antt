@@ -1,4 +1,9 @@
 -- What isn't gone, and what may still found, was opened after the last doom of its key.
+--
+-- A doom moves the barrier of its key up to the last exchange; that of other keys is as before (`bar_same`). What was
+-- there and isn't gone wasn't doomed (`was_there`). A case that founds dooms nothing (`no_doom`), and its exchange was
+-- behind the barrier while it waited (`new_behind`). What a consumer becomes bound to was founded, shown or current
+-- (`becomes_behind`). `bars_kept` joins this; a denied entry moves no barrier.
 use Rattle.std.{proofs.Common.{◌≡◌, ◌≢◌, ◌⊎◌, inl, inr, ℕ, ◌+◌, ◌<◌, ◌≤◌, List, ◌∷◌, Bool, true, false, Option, Some, None, refl, ap, sym, ◌∙◌, subst, arith}, specs.{Prelude.{◌||◌, if◌then◌else◌}, Option.{option_map}}}
 use Rattle.hc_text.proofs.Basics.{eq_itself, bool_cases, not_some as none_some, never_true as not_true, same_some as same_row}
 use Rattle.hc_effects.proofs.Vocabulary.{Opening, opening_in, is_denied, Request, Response, route_of, head_refusal, head_case, case_on, first_case, later_case, HeadCase, HeadView, Route, Limits, BoundBy, has_loss, Showing, showing_in, case_at, case_of, head_view, is_founding, was_shown, consumer_heard, by_opening, waiting, is_current, is_number, denial, as_open, doomed_key_of, doomed_in, doomed_by_head, doomed_by_case, is_key, Entry, History, Content, Contents, exchange_heard, is_headless, Flaw, flaw_in, becomes_gone, IsOfOneKey, Turns, StandsFor, IsBarred, AreNumbered, IsBoundBehindDooms, item_of, reads, Tables, Exchange, Representation, Consumer, IsOwed, Sound, IsBound, tables, after, after_accepted, after_denied, representation_of_content, opened_after, awaited_exchange, event, case, route}

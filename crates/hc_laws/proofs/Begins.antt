@@ -1,4 +1,9 @@
 -- The tables of a store that begins with contents are sound.
+--
+-- The first tables have representations alone, and each is an item of the contents (`is_loaded`). There is no exchange,
+-- so nothing is written and nothing is about anything (`none_about`, `not_written`), and no consumer. What an item
+-- stores is all that came of it, and ends where its runs end (`ends_all`, `sound_row`). So most fields of `begun_sound`
+-- speak of rows that aren't there.
 use Rattle.std.{proofs.Common.{◌≡◌, inl, inr, ℕ, ◌-◌, ◌<◌, ◌≤◌, List, [], ◌∷◌, length, true, Option, Some, None, refl, ap, sym, ◌∙◌, subst, arith}, specs.Prelude.{is_some, find, map, option_map, nat_eq}}
 use Rattle.hc_text.proofs.Basics.{eq_tells, bool_cases, not_some as none_some, some_inj}
 use Rattle.hc_sparse.specs.{Cells.{EndsBy}, Runs.{cells_of, end_of}, declared.run.Run.{Run}}

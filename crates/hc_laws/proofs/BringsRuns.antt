@@ -1,4 +1,9 @@
 -- What an exchange brought stands in its body, and nothing else there is from it, in every run.
+--
+-- A byte from an exchange was there, or comes with this piece, and lies in what the exchange has brought by then
+-- (`new_cell`, `by_fills`). What it brought stays: no piece comes over it (`not_over`, `kept_there`), and where its
+-- body begins stays too, once it has a head (`base_same`). What it brings now is the piece. `brings_kept` joins both
+-- ways for an entry, and `brings_in_runs` carries them.
 use Rattle.std.{proofs.{Common.{◌≡◌, ◌≤◌, ◌<◌, ◌⊎◌, inl, inr, ℕ, ◌+◌, ◌-◌, List, ◌++◌, length, length-append, true, Option, Some, None, refl, ap, sym, ◌∙◌, subst, arith}, Math.{ListN.{get_or-append}, Seq.{get_or-append_right}}}, specs.Prelude.{is_some, slice_index, unwrap_or}}
 use Rattle.hc_text.proofs.Basics.{not_some as none_some, same_some as same_row, some_inj}
 use Rattle.hc_sparse.specs.Cells.{Cell, inside, cells_with}

@@ -1,4 +1,9 @@
 -- A denied entry changes nothing that soundness speaks of.
+--
+-- Its rows are as before: only the moment and what is counted changes. So each word that soundness is made of says the
+-- same of both tables: what is written, who is bound, what is about what, who writes alone (`written_same`,
+-- `was_bound`, `was_exclusive_writer`). `denied_sound` puts all fields together by these; `denied_owners` and
+-- `denied_measures` are short. Each law of runs has this half.
 use Rattle.std.proofs.Common.{◌≡◌, ℕ, refl, sym, ◌∙◌}
 use Rattle.hc_effects.proofs.Vocabulary.{Entry, Measures, Owners, IsPast, is_written, bound, Tables, Exchange, Representation, Consumer, Sound, IsBound, IsAbout, IsFirst, IsExclusiveWriter, IsServed, IsHad, IsGrowing, IsAlone, IsToBeShown, after_denied, BoundBy}
 use Rattle.hc_model.specs.Owners as owners

@@ -1,4 +1,9 @@
--- The detached reader has all that its own exchange goes on behind, or that brought nothing: also where a failure is due.
+-- Up to where its own exchange goes on the detached reader has all, or that brought nothing: also with a failure due.
+--
+-- As long as nothing is due this is known (`undue_ahead`). Where a failure was due already, an exclusive writer has no
+-- open exchange of its own (`closed`). Where it becomes due now, no piece came of that exchange (`unpieced`), and what
+-- was there still is (`covers`); so what was ahead is so still (`step`). Who wrote alone what is lost now had all
+-- (`wrote_ahead`). `ahead_kept` joins these.
 use Rattle.std.{proofs.Common.{◌≡◌, ◌⊎◌, inl, inr, ℕ, ◌≤◌, List, [], length, Bool, true, false, Option, Some, None, refl, ap, sym, ◌∙◌, subst, arith}, specs.Prelude.{if◌then◌else◌}}
 use Rattle.hc_text.proofs.Basics.{and_off, not_some as none_some, same_some as same_row, some_inj}
 use Rattle.hc_sparse.specs.Cells.{Covers}

@@ -1,4 +1,9 @@
 -- The columns of exchanges are filters of the list of entries.
+--
+-- Openings, heads, bodies and ends each go by induction over a run, in one way: what a new row has, what an event adds
+-- to a row that is there, and that events of an exchange without a row are denied. Heads have more work: an exchange
+-- that has one gets no other (`heard_answered`). The results are `openings_are`, `heads_are`, `bodies_are` and
+-- `ends_are`; the law of columns joins them.
 use Rattle.std.{proofs.{Common.{◌≡◌, inl, inr, ℕ, List, [], ◌∷◌, ◌++◌, length, Bool, true, false, cond, Option, Some, None, refl, ap, sym, ◌∙◌, arith}, lemmas.{List.{append-nil}, Bool.Decides.{nat_tests}}}, specs.{Prelude.{if◌then◌else◌, ◌==◌, ◌||◌, ◌&&◌, not, option_map, option_and_then, is_some}, Option.{option_map_or, option_or}}}
 use Rattle.hc_text.proofs.Basics.{bool_cases, or_false, or_none}
 use Rattle.hc_effects.proofs.Vocabulary.{Opening, opening_in, is_denied, Event, Response, Limits, head_refusal, piece_refusal, end_refusal, denial, as_open, Entry, History, Contents, promised_bytes, exchange_after, exchange_heard, exchange_made, with_head, with_piece, Tables, Exchange, IsRun, IsOwed, tables, after, each, first, if_accepted, opening_of, opened_in, event}

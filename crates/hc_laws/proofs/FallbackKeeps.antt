@@ -1,4 +1,9 @@
--- An answer past the store stays apart, who was shown a head doesn't have the turn, and what ended isn't open: in every run.
+-- An answer past the store stays apart, who was shown a head hasn't the turn, and what ended isn't open: in every run.
+--
+-- The three are carried together, as `IsFallback`. No event opens again what ended (`heard_shut`, `shut_after`). Who
+-- was shown a head stays or is idle, and who is shown one now comes to stand where it reads (`landing`); so neither has
+-- the turn (`unturned_by`). The most work: who stands at an answer past the store is shown the head of just that, so
+-- that is there (`shown_headed`). `fallback_kept` joins these.
 use Rattle.std.{proofs.Common.{◌≡◌, ◌⊎◌, inl, inr, ℕ, [], ◌∷◌, Bool, true, false, cond, Option, Some, None, refl, ap, sym, ◌∙◌, subst}, specs.{Prelude.{is_some, not}, Option.{option_and_then}}}
 use Rattle.hc_text.proofs.Basics.{and_off as and_none, not_some as none_some, or_rest as or_right, same_some as same_row, some_inj}
 use Rattle.hc_effects.proofs.Vocabulary.{opening_in, shows_in, closes_in, Event, Response, Why, Place, consumer_made, consumer_after, Entry, exchange_after, exchange_heard, exchange_acted, exchange_made, is_headless, shown_in, entry_of, Move, Shows, IsPast, move_of, if_headless, shows_at, shows_direct, shows_answer, reads, own_open, Tables, Exchange, Consumer, may_stand, after_accepted, after_denied, first_tables, Contents, event, by, place}

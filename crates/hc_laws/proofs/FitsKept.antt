@@ -1,4 +1,9 @@
 -- What is stored fits the limit, after each entry of a run.
+--
+-- What was there and isn't written weighs no more than before (`still_held`), so then the sum can't grow (`unwritten`).
+-- Else nothing was lost, and room was made first. What gives way weighs nothing any more (`gone_not`), and all else
+-- grows by what was written at most (`roomy`). A head that founds adds a slot (`by_founding`), a stored piece its bytes
+-- (`by_stored`). `within_kept` joins the events.
 use Rattle.std.{proofs.{Common.{◌≡◌, ◌⊎◌, inl, inr, ℕ, ◌+◌, ◌≤◌, List, [], ◌∷◌, ◌++◌, length, Bool, true, false, Option, Some, None, refl, ap, sym, ◌∙◌, subst, arith}, lemmas.{Bool.Decides.{nat_tests}, List.Sums.{sum_by-cons}}}, specs.{Prelude.{if◌then◌else◌, is_some, ◌||◌, ◌==◌, not, nat_eq, nat_lt, map, take, reverse}, List.{list_any, sum_by}, Option.{option_and_then}}}
 use Rattle.hc_text.proofs.Basics.{and_left, and_right, bool_cases, not_some as none_some, never_true, not_true, not_false, or_cases, or_right, same_some as same_row, some_inj}
 use Rattle.hc_effects.proofs.Vocabulary.{opening_in, evicts_in, is_denied, Act, Event, Response, HeadCase, Limits, Room, Write, head_case, weight_of, gives_way, grown_by, is_too_large, room_of, AreOnce, BoundBy, loses_in, has_loss, answer_acts, loss_acts, close_acts, case_at, case_of, head_view, is_founding, consumer_heard, by_head, place_by_case, by_opening, waiting, is_current, Entry, entry_without_acts, promise_in, family, exchange_at, is_for, Flaw, NoFlaw, Loses, Misreads, flaw_in, becomes_gone, goes_itself, entry_of, Measures, bound, reads, Tables, Exchange, Representation, Consumer, may_stand, may_be, may_misread, has_room, Sound, Among, IsBound, founds, with_item_first, after_accepted, weight, weight_in, weights, idle, is_idle, is_replacing, moves_on, stays_bound, stays_current, room_by, room_for, write_in, write_of_piece, piece_write, first_idle, evicted, act, event, case, write, place, by}

@@ -1,4 +1,9 @@
 -- What is stored fits the limit in every run, and few give way.
+--
+-- That the sum fits is kept by `within_kept`; here the lists are added. What founds has a new number and a row, and
+-- what is bound comes to the front of what was used (`still_used`). A denied entry leaves all of it (`fits_denied`). At
+-- the beginning items are counted once, since no number is said twice (`once_items`), so the sum is that of their
+-- weights (`sum_items`). `fits` is the law; by it few give way (`few_in_runs`).
 use Rattle.std.{proofs.{Common.{◌≡◌, ◌⊎◌, inl, inr, ℕ, ◌+◌, ◌≤◌, List, [], ◌∷◌, Bool, true, false, Option, Some, None, refl, ap, sym, ◌∙◌, subst, arith}, lemmas.{Bool.Decides.{nat_tests}, List.Sums.{sum_by-cons}}}, specs.{Prelude.{if◌then◌else◌, is_some, ◌&&◌, ◌||◌, ◌==◌, not, nat_eq, nat_le, filter, find, option_map}, List.{list_any, sum_by}, Option.{option_or}}}
 use Rattle.hc_text.proofs.Basics.{not_true, or_right, and_left, and_right, bool_cases, not_some as none_some, some_inj}
 use Rattle.hc_effects.proofs.Vocabulary.{Opening, opening_in, is_denied, Event, Response, Act, Limits, head_case, route_of, weight_of, Showing, showing_in, has_loss, accepted_acts, may_begin, are_good, is_good, says, weights_of, case_at, case_of, head_view, is_founding, was_shown, current, is_usable, Entry, Content, Contents, entry_without_acts, exchange_in, flaw_in, entry_of, OfRunsIn, IsSmallPiece, count_evicted, Measures, AreOnce, bound, reads, Tables, Exchange, Representation, Consumer, IsOwed, Among, tables, first_tables, representation_of_content, numbers, bytes_in, founds, with_item_first, is_hole, binds, binds_by_opening, binds_by_showing, to_front, after_accepted, after_denied, weights, event}

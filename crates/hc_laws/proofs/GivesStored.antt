@@ -1,7 +1,8 @@
 -- Who was shown a head, and whose next byte is stored, is given some of it by a poll, in every run.
 --
--- It waits for no head: the hole for which its exchange asks is where it stands, and there nothing is stored. So it reads, and
--- what is stored comes first.
+-- It waits for no head: the hole for which its exchange asks is where it stands, and there nothing is stored. So it
+-- reads, and what is stored comes first. `asks_not` has the work of the first, `reading_is` is the second, and
+-- `by_poll` takes both to the acts of a poll.
 use Rattle.std.{proofs.{Common.{◌≡◌, inl, inr, ℕ, ◌+◌, ◌-◌, ◌<◌, List, [], ◌∷◌, ◌++◌, length, true, false, Option, Some, None, refl, ap, sym, ◌∙◌, subst, arith, length-append}, lemmas.Bool.Decides.{nat_tests}}, specs.{Prelude.{is_some, if◌then◌else◌, IfSome, nat_eq}, Option.{option_and_then, option_map}}}
 use Rattle.hc_text.proofs.Basics.{bool_cases, not_some as none_some, same_some as same_row}
 use Rattle.hc_sparse.specs.{Cells.{Cells, Cell}, Runs.{end_of}, Stretch.{stretch, stretch_of}, declared.run.Run.{Run}}

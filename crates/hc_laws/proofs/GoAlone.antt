@@ -1,4 +1,9 @@
 -- After an entry the detached reader reads on soundly.
+--
+-- It was bound before (`was_there`): it went on alone then, or what it wrote alone is lost now (`by_exclusive_writer`).
+-- Up to the front of its exchange the body must be there, and past it all must be stored (`made`). An exchange that it
+-- keeps leaves that so, as nothing lost is written any more (`kept_ahead`, `stored_same`). It opens one only where an
+-- earlier one has nothing more ahead of it (`past_hole`). `go_alone` joins this.
 use Rattle.std.{proofs.Common.{◌≡◌, ◌⊎◌, inl, inr, ℕ, ◌+◌, ◌≤◌, List, [], ◌∷◌, length, true, false, Option, Some, None, refl, ap, sym, ◌∙◌, subst, arith, length-append}, specs.{Prelude.{if◌then◌else◌, is_some, ◌||◌, not}, Option.{option_and_then}}}
 use Rattle.hc_text.proofs.Basics.{bool_cases, not_true, or_cases, and_left, and_right, not_some as none_some, same_some as same_row, some_inj, lt_or as split}
 use Rattle.hc_sparse.specs.Cells.{Cells, Covers, cells_with}

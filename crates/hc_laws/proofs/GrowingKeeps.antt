@@ -1,4 +1,9 @@
 -- While a writing is on, just what its exchange has brought is stored, and it promises all that is missing.
+--
+-- A writing was on before the entry, is resumed by a head that joins, or is founded (`growing_by`). One that was on
+-- grows with what its exchange brings (`grown`). What is founded begins with nothing (`now_founded`). The most work is
+-- a resumed one (`resumes_told`): all before the part is stored, so it begins at the reach (`reach_is`), and it is the
+-- last one, so it ends by the total. `growing_kept` joins the three.
 use Rattle.std.{proofs.{Common.{◌≡◌, ◌⊎◌, inl, inr, ℕ, zero, suc, ◌+◌, ◌-◌, ◌<◌, ◌≤◌, List, length, Bool, true, false, Option, Some, None, refl, ap, sym, ◌∙◌, subst, arith, min, length-append}, lemmas.Bool.Decides.{nat_tests}}, specs.Prelude.{if◌then◌else◌, is_some, is_none, ◌==◌, ◌&&◌, ◌||◌, not, nat_eq, nat_le, unwrap_or}}
 use Rattle.hc_text.proofs.Basics.{both_false, and_left, and_right, bool_cases, not_some as none_some, same_some as same_row, some_inj}
 use Rattle.hc_sparse.specs.Cells.{cells_with, Cells, Covers}

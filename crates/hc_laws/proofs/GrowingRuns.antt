@@ -1,4 +1,9 @@
 -- One exchange at most brings a representation, and where it stops nothing brings it any more, in every run.
+--
+-- Whatever exchange brings a representation is about it (`grows_of`, `about_of`), and one at most is. So where one
+-- brings it the tables say that it grows (`grows_by`), and else its length is known or it is all there (`known_by`);
+-- `growing_by` joins these. At an entry, what brings it afterwards was about it before (`by_headed`, `was_about`), so
+-- where that stops nothing else goes on with it (`stops_by`).
 use Rattle.std.{proofs.{Common.{◌≡◌, inl, inr, ℕ, List, [], ◌∷◌, Bool, true, false, Option, Some, None, refl, ap, sym, ◌∙◌, subst, arith}, lemmas.Bool.Decides.{nat_tests}}, specs.{Prelude.{if◌then◌else◌, is_some, ◌==◌, unwrap_or, nat_eq}, List.{list_any}}}
 use Rattle.hc_text.proofs.Basics.{none_of, and_left, bool_cases, not_some as none_some}
 use Rattle.hc_effects.proofs.Vocabulary.{is_denied, Event, Response, Limits, has_loss, case_at, is_joining, denial, Entry, family, is_open, Flaw, flaw_in, Grows, IsComing, entry_of, is_growing, brings_to, OfRuns, Measures, IsMeasured, is_written, Tables, Exchange, Representation, Sound, IsAbout, tables, after_accepted, after_denied}

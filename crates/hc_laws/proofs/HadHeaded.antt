@@ -1,4 +1,9 @@
 -- Whose an exchange is when its head comes, and so after each entry.
+--
+-- An exchange with a head had it before (`was_headed`) or gets it now (`now_headed`); one without is `bare_had`. A head
+-- that comes joins or founds. Unless it is written for several, the exchange stays its consumer's own, and nothing is
+-- due (`own_had`). So its consumer has to be the exclusive writer: as who waited for the hole (`kept_had`), or as who
+-- came alone (`whole_had`, `part_had`). `had_kept` joins these.
 use Rattle.std.{proofs.{Common.{◌≡◌, ◌⊎◌, inl, inr, ℕ, List, [], ◌∷◌, Bool, true, false, Option, Some, None, refl, ap, sym, ◌∙◌, subst, arith}, lemmas.Bool.Decides.{nat_tests}}, specs.Prelude.{if◌then◌else◌, is_some, ◌==◌, ◌&&◌, ◌||◌, not, nat_eq, unwrap_or}}
 use Rattle.hc_text.proofs.Basics.{both_false, both_true as and_both, and_left, and_right, bool_cases, not_some as none_some, never_true as not_so, not_true, number_not, or_left, or_right, same_some as same_row}
 use Rattle.hc_range.specs.{declared.range.{Asked.{Asked}, ContentRange.{ContentRange}, Span.{Span}}, Spans.{resolved_span}}

@@ -1,4 +1,9 @@
 -- What an exchange joined is a filter of the list of entries.
+--
+-- An exchange without a head has joined nothing (`joins_late`), which is an induction over entries. So when its head
+-- comes that alone tells what it joins (`own_head`, `heard_joined`); any other event leaves it, and one of an exchange
+-- without a row is denied. By induction over a run `joins_are` follows. `exchanges_are_filtered` puts it together with
+-- openings, heads, bodies and ends.
 use Rattle.std.{proofs.{Common.{◌≡◌, inl, inr, ℕ, List, [], ◌∷◌, Bool, true, false, cond, Option, Some, None, refl, ap, sym, ◌∙◌, arith}, lemmas.Bool.Decides.{nat_tests}}, specs.{Prelude.{if◌then◌else◌, ◌==◌, option_and_then}, Option.{option_map_or, option_or}}}
 use Rattle.hc_text.proofs.Basics.{bool_cases, or_none}
 use Rattle.hc_effects.proofs.Vocabulary.{Opening, opening_in, is_denied, Event, Limits, head_refusal, case_at, is_joining, denial, as_open, Entry, History, Contents, exchange_after, exchange_heard, exchange_made, Tables, Exchange, IsRun, IsOwed, tables, after, each_after, first, if_accepted, joined_of, event}

@@ -1,4 +1,9 @@
 -- What is of one key stays so: what consumers read, wait for and have of their own.
+--
+-- `PlaceIs` and `OwnIs` say what a place and an own exchange name. A consumer is followed through an entry: what the
+-- event makes of it, what the acts make of that, and whether it starts over. Both name only its own exchange, what that
+-- was opened about, or what is current for its key (`shown_is`). The acts have most work (`acted_keyed`).
+-- `keys_are_kept` adds the exchanges; at the beginning there are neither (`keys_begin`).
 use Rattle.std.{proofs.Common.{◌≡◌, ◌⊎◌, inl, inr, ℕ, List, [], ◌∷◌, ◌++◌, Bool, true, false, Option, Some, None, refl, ap, sym, ◌∙◌, subst, arith}, specs.{Prelude.{◌&&◌, ◌==◌, not, if◌then◌else◌, map, find, is_none}, Option.{option_or, option_map}}}
 use Rattle.hc_text.proofs.Basics.{eq_itself as eq-refl, eq_tells as eq_is, not_some as none_some, same_some as same_row, some_inj}
 use Rattle.hc_effects.proofs.Vocabulary.{Opening, opening_in, leaves_in, Act, Cause, Wait, Event, Request, Response, HeadCase, Route, Wanted, Limits, route_of, wanted_of, range_of, BoundBy, Place, wait_in, Showing, showing_in, accepted_acts, answer_acts, loss_acts, case_at, is_founding, closing, bound_to_wanted, place_by_case, passed_on, by_head, by_fault, by_opening, becomes_shared, consumer_after, consumer_settled, consumer_acted, consumer_heard, consumer_made, waiting, waiting_place, passed_by, kept_by, opened_place, place_for_hole, unless_bound, shown_place, own_after, left_to, due_after, back_in_line, new_consumer, current, row_of, is_number, denial, Entry, Content, aim_of, aim_from, becomes_due, Flaw, NoFlaw, Loses, founded_total, HasRow, IsOfOneKey, ExchangeKeys, ConsumerKeys, entry_of, Move, acts_of, reads, bound_to, representation_after, founded_at, new_representation, Tables, Exchange, Representation, Consumer, Sound, IsBound, starts_over, after_accepted, representation_of_content, evicted, loses_writing, survivor, act, wait, case, route, wanted, by}

@@ -1,4 +1,9 @@
 -- A live consumer's poll does something, or waits: for no exchange but one that is open, and has no head or was asked.
+--
+-- Each way to answer a poll does something, or waits for what is open (`goes_by`). Plans and heads are short, as what
+-- they name is there (`plan_goes`, `shown_goes`). The most work is a reader without a source that isn't at its end. Who
+-- is bound knows the end then (`unknown_not`), so it opens an exchange for the hole. For who reads past the store all
+-- up to the end came, so bytes are held (`holds`).
 use Rattle.std.{proofs.{Common.{◌≡◌, inl, inr, ℕ, ◌+◌, ◌-◌, ◌<◌, List, [], ◌∷◌, length, take, drop, Bool, true, false, cond, Option, Some, None, refl, ap, sym, ◌∙◌, subst, arith}, lemmas.{Bool.Decides.{nat_tests}, List.{length-drop, length-take}}}, specs.{Prelude.{is_some, is_none, min, ◌&&◌, ◌||◌}, Option.{option_and_then, option_map, option_or}}}
 use Rattle.hc_text.proofs.Basics.{and_left, and_right, bool_cases, either, not_some as none_some, never_true as not_so, same_some as same_row, some_inj}
 use Rattle.hc_range.specs.declared.range.Span.{Span}

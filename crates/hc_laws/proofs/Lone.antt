@@ -1,4 +1,9 @@
--- Beside who came alone others are bound only where that has neither an open exchange of its own nor a hole ahead: at each entry.
+-- Others are bound beside who came alone only where it has no open exchange of its own and no hole: at each entry.
+--
+-- Where both were bound before, the first rested already (`by_rest`), or a writing that was on is over (`by_writing`).
+-- It opens nothing then (`unowned_now`), and no writing is left to it (`left_not`). Where the other is shown what is
+-- current now, nobody writes that alone, so the first rests (`shown_lone`, `resting_is`). No other way leads beside
+-- somebody: what is founded is new (`unfounded`). `by_ways` joins them.
 use Rattle.std.{proofs.Common.{◌≡◌, ◌⊎◌, inl, inr, ℕ, Bool, true, false, Option, Some, None, refl, ap, sym, ◌∙◌, subst, arith}, specs.Prelude.{is_some, is_none}}
 use Rattle.hc_text.proofs.Basics.{or_off_left, all_three, and_left, and_right, bool_cases, not_some as none_some, or_off_right as or_right, same_some as same_row}
 use Rattle.hc_effects.proofs.Vocabulary.{Opening, opening_in, Response, route_of, BoundBy, loses_in, Showing, showing_in, consumer_heard, consumer_acted, by_opening, waiting, current, Entry, is_open, becomes_due, entry_of, Measures, move_of, is_written, own_open, offset, hi_of, bound_to, reads, Tables, Exchange, Representation, Consumer, Sound, IsBound, IsFirst, after_accepted, came_alone, may_write, has_more, lacks_some, exclusive, brings_body, event, route, place}

@@ -1,4 +1,9 @@
 -- What is held for the detached reader came of its own exchange, in every run.
+--
+-- That there is a tail, and that all ahead is there, is carried through runs (`tails_in_runs`, `ahead_in_runs`). From
+-- the tail on the bytes are those that the exchange brought (`bytes_are`). A position that isn't stored is in the tail
+-- where it is before the front, and then the stretch from it is held (`inside`). Past the front, and where no body
+-- came, nothing is (`empty`). `next` joins these for `losses_in_runs`.
 use Rattle.std.{proofs.{Common.{◌≡◌, ◌⊎◌, inl, inr, ℕ, zero, suc, ◌+◌, ◌-◌, ◌≤◌, ◌<◌, List, [], ◌∷◌, length, take, drop, true, Option, Some, None, refl, ap, sym, ◌∙◌, subst, arith}, Math.{ListN.{drop_of_length-le}, Seq.{drop-cons}}, lemmas.{List.{length-drop, length-take, take_all}, Bool.Decides.{nat_tests}}}, specs.Prelude.{◌==◌, is_some, slice_index, min, nat_eq, nat_lt}}
 use Rattle.hc_text.proofs.Basics.{bool_cases, not_some as none_some, same_some as same_row, some_inj}
 use Rattle.hc_sparse.specs.{Cells.{Cell, Cells, Covers}, Stretch.{bytes_from, goes_on, stretch, stretch_of}}

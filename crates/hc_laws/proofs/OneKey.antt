@@ -1,4 +1,9 @@
 -- The law of one key: an entry of a run changes what is said of its own key, and else only how much is idle.
+--
+-- Of another key an entry says nothing but who gives way (`far_entry`), so rows of that key stay. What is new is of the
+-- entry's key: an exchange that is opened (`new_exchange`), what is founded (`founded_key`), and a consumer that starts
+-- (`started_key`). Whether a row concerns the key of the event is told by its own key (`other_exchange`).
+-- `law_of_one_key` joins these.
 use Rattle.std.{proofs.Common.{◌≡◌, Bool, ℕ, length, true, false, Option, Some, None, refl, ap, sym, ◌∙◌}, specs.{Prelude.{if◌then◌else◌, ◌==◌, ◌&&◌}, Option.{option_map}}}
 use Rattle.hc_text.proofs.Basics.{not_some as none_some, some_inj}
 use Rattle.hc_effects.proofs.Vocabulary.{Opening, opening_in, evicts_in, is_denied, Event, Response, head_refusal, piece_refusal, end_refusal, fault_refusal, Limits, denial, as_open, Entry, exchange_in, flaw_in, key_of, is_of_key, ExchangeKeys, ConsumerKeys, exchange_after, exchange_made, exchange_opened, consumer_after, consumer_made, new_consumer, case_at, is_founding, new_representation, founded_at, representation_after, Tables, Exchange, Representation, Consumer, IsOwed, may_stand, may_be, event}

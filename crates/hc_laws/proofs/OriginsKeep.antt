@@ -1,4 +1,9 @@
 -- A number goes on naming the bytes of one body alone.
+--
+-- A byte was there before, or comes with a piece (`by_fill`, `from_before`), and a piece comes of an exchange that may
+-- deliver it. An exchange that may deliver a byte after the entry might before, or is new (`still`, `none_still`). So
+-- each part of the law is read back to the tables before (`one_by`, `own_by`, `founded_by`, `opened_by`).
+-- `origins_kept` joins these; a denied entry changes no row (`denied_origins`).
 use Rattle.std.{proofs.{Common.{◌≡◌, ◌⊎◌, inl, inr, ℕ, ◌+◌, ◌<◌, ◌≤◌, List, length, true, Option, Some, None, refl, ap, sym, ◌∙◌, arith}, lemmas.Bool.Decides.{nat_tests}}, specs.Prelude.{is_some, nat_lt, unwrap_or}}
 use Rattle.hc_text.proofs.Basics.{bool_cases, not_some as none_some, same_some as same_row, some_inj}
 use Rattle.hc_effects.proofs.Vocabulary.{Opening, opening_in, Entry, family, front, entry_of, Measures, HasByte, MayDeliver, Origins, Tables, Exchange, Representation, after_accepted, after_denied, opened_after}

@@ -1,4 +1,9 @@
--- Whose own an exchange may be: that of its consumer, or of the detached reader of what it wrote for several, in every run.
+-- Whose own an exchange may be: its consumer's, or the detached reader's of what it wrote for several, in every run.
+--
+-- An own exchange that was so keeps whose it is: it is its consumer's still, or its reader is still the detached one of
+-- its family, which a later head doesn't change (`kept_owner`, `stays_alone`). An opened one is its consumer's. One
+-- that is left was that of a lost writing, whose survivor goes on with it (`left_owner`). `by_from` joins the three,
+-- and `owners_for` carries this.
 use Rattle.std.{proofs.Common.{◌≡◌, inl, inr, ℕ, true, Option, Some, refl, ap, sym, ◌∙◌, subst}, specs.Prelude.{is_some, unwrap_or, ◌&&◌}}
 use Rattle.hc_text.proofs.Basics.{and_left, and_right, bool_cases, not_some as none_some, same_some as same_row}
 use Rattle.hc_effects.proofs.Vocabulary.{Opening, opening_in, Response, Limits, loses_in, Entry, family, entry_of, OfRunsIn, Measures, is_written, Tables, Exchange, Representation, Consumer, after_accepted, after_denied, IsOwner, loses_writing, brings_body, event}

@@ -1,4 +1,9 @@
 -- Where it comes from that a consumer waits for a body, and keeps a 304: it did, its 304 came, or it was told to wait.
+--
+-- The place is followed back through the entry. Of a head only the case of a 304 that validates leads there (`placed`,
+-- `validated`), of the acts only a wait. All else leaves a consumer there, or puts it elsewhere (`headed`, `faulted`,
+-- `opened`, `shown`). `passed_before` joins these for who was there before; who has just started doesn't wait
+-- (`started`). `passed_from` is for any row.
 use Rattle.std.{proofs.Common.{◌≡◌, inl, inr, ℕ, Bool, true, false, cond, Option, Some, None, refl, ap, sym, ◌∙◌}, specs.Prelude.{if◌then◌else◌, ◌==◌, ◌&&◌, not, is_none}}
 use Rattle.hc_text.proofs.Basics.{bool_cases, some_inj}
 use Rattle.hc_effects.proofs.Vocabulary.{Opening, opening_in, leaves_in, Event, Request, Response, Cause, Wait, HeadCase, Route, Wanted, route_of, range_of, wanted_of, Place, BoundBy, Showing, showing_in, wait_in, case_at, bound_to_wanted, place_by_case, passed_on, passed_by, kept_by, consumer_heard, by_head, by_fault, waiting_place, waiting, place_for_hole, opened_place, unless_bound, by_opening, shown_place, consumer_acted, consumer_settled, consumer_made, consumer_after, due_after, back_in_line, current, row_of, Entry, founded_total, entry_of, bound_to, reads, Tables, Exchange, Representation, Consumer, starts_over, after_accepted, event, cause, wait, case, route, wanted, place, by}

@@ -1,4 +1,9 @@
 -- What holds of a consumer by its place holds in every run.
+--
+-- `IsKnown` joins what the files of places keep at an entry, and `known_in_runs` carries it through a run, with what
+-- each run has anyway (`IsBefore`). `places_by` reads `Places` off that, place by place. The work is in whose exchange
+-- is open: who neither waits nor reads has none (`away_own`). Who has the turn waits for the head of one
+-- (`awaits_turn`), and of one without a head it was shown none (`unheard`).
 use Rattle.std.{proofs.Common.{◌≡◌, ℕ, Bool, true, false, Option, Some, None, refl, ap, sym, ◌∙◌, subst}, specs.Prelude.{is_some}}
 use Rattle.hc_text.proofs.Basics.{never_true, not_some as none_some, same_some as same_row}
 use Rattle.hc_effects.proofs.Vocabulary.{Response, route_of, Place, Endings, Entry, Contents, is_open, entry_of, OfRuns, Turns, Owners, IsAwaiting, IsPast, IsReading, Places, IsAway, ReadsPast, own_open, reads, hi_of, end_in, Tables, Exchange, Consumer, Sound, tables, first_tables, after_denied, route, place, by}

@@ -1,4 +1,9 @@
 -- Of an answer past the store that is over without a failure all came, at each entry.
+--
+-- Its consumer stood there before, or came there by its head (`IsFrom`). The cache doesn't close the exchange itself,
+-- since this consumer reads it (`past_unclosed`, `unclosed`). So an event ended it, and each is looked at (`all_come`):
+-- a head or a piece with which all came that was promised, or a clean end. A fault or a short end would be a failure
+-- that is due. The acts change nothing of that (`acted_come`).
 use Rattle.std.{proofs.{Common.{◌≡◌, inl, inr, ℕ, ◌+◌, ◌≤◌, List, ◌++◌, length, Bool, true, false, Option, Some, None, refl, ap, sym, ◌∙◌, subst, arith}, lemmas.Bool.Decides.{nat_tests}}, specs.{Prelude.{if◌then◌else◌, ◌==◌, ◌&&◌, not, nat_eq, nat_lt, unwrap_or}, Option.{option_or}}}
 use Rattle.hc_text.proofs.Basics.{and_left, and_right, bool_cases, not_some as none_some, never_true as not_so, or_cases, same_some as same_row, some_inj}
 use Rattle.hc_effects.proofs.Vocabulary.{closes_in, Act, Event, Response, case_at, must_close, is_refused, brings_head, is_doomed, awaits, has_no_survivor, is_left, leaver, consumer_heard, consumer_acted, by_head, is_number, denial, Entry, exchange_in, base, front, promised_bytes, family, is_reached, exchange_heard, exchange_acted, with_head, with_piece, promise_in, stop_cause, short_of, short_cause, entry_of, Measures, end_of_direct, own_open, source, shared_exchange, reads, Tables, Exchange, Consumer, awaited_exchange, after_accepted, event, place, by}

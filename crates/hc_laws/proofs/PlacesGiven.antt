@@ -1,4 +1,9 @@
 -- Who reads past the store was given no more than came, and has nothing due while its exchange is open: at each entry.
+--
+-- A poll gives what is next of the answer, and that came (`given_most`); a body only grows (`grown`). For what is due
+-- it counts how the consumer came there (`PlaceFrom`). Before that nothing was due to it (`IsBefore`). Its source is
+-- its own exchange (`source_is`), so just the stop of that could make a failure due, and a stop closes it. A new
+-- exchange is short (`new_undue`). `past_kept` joins both.
 use Rattle.std.{proofs.{Common.{◌≡◌, inl, inr, ℕ, ◌+◌, ◌-◌, ◌<◌, ◌≤◌, List, length, length-append, Bool, true, false, Option, Some, None, refl, ap, sym, ◌∙◌, subst, arith}, lemmas.Bool.Decides.{nat_tests}}, specs.{Prelude.{if◌then◌else◌, is_some, ◌&&◌, nat_le, nat_lt}, Option.{option_or}}}
 use Rattle.hc_text.proofs.Basics.{and_right, bool_cases, not_some as none_some, never_true as not_so, same_some as same_row, some_inj}
 use Rattle.hc_sparse.specs.{Cells.{Cell}, declared.run.Run.{Run}}

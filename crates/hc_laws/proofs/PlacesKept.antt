@@ -1,4 +1,9 @@
 -- Who has the turn or reads past the store has the exchange for that as its own, at each entry.
+--
+-- A consumer is followed through an entry: the event first (`heard_past`, `heard_turn`), then what the acts say to it.
+-- Only a poll opens, and who waits for a head is told nothing else. So only what comes of its own exchange moves it. A
+-- head that leaves it past the store neither joins nor fails (`left_past`), and none leaves it the turn (`turn_left`).
+-- `own_kept` joins both.
 use Rattle.std.{proofs.Common.{◌≡◌, ◌⊎◌, inl, inr, ℕ, List, length, Bool, true, false, cond, Option, Some, None, refl, ap, sym, ◌∙◌, subst}, specs.{Prelude.{if◌then◌else◌, is_some, is_none, ◌==◌, ◌&&◌, not}, Option.{option_and_then}}}
 use Rattle.hc_text.proofs.Basics.{never_true, both_true as and_both, bool_cases, not_some as none_some, same_some as same_row, some_inj}
 use Rattle.hc_effects.proofs.Vocabulary.{Opening, opening_in, Cause, Event, Request, Response, HeadCase, head_case, Wanted, route_of, piece_refusal, range_of, wanted_of, Place, BoundBy, has_loss, loses_in, case_at, head_view, is_joining, is_refused, consumer_after, consumer_made, new_consumer, consumer_heard, consumer_acted, consumer_settled, by_head, by_fault, by_opening, becomes_shared, own_after, left_to, waiting, due_after, place_by_case, passed_on, bound_to_wanted, denial, as_open, Entry, exchange_at, exchange_in, is_for, is_headless, exchange_opened, cause_by_case, founded_total, entry_of, IsAwaiting, IsPast, IsReading, if_headless, shows_at, shows_direct, bound_to, is_written, own_open, Tables, Exchange, Representation, Consumer, starts_over, sends_back, after_accepted, brings_body, loses_writing, event, route, wanted, place, by}

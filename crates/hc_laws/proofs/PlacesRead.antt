@@ -1,4 +1,9 @@
 -- What an open exchange brings that is of no representation is read past the store, at each entry.
+--
+-- Its reader stands there already, or its head comes now. One that stands there doesn't start over (`stays`), and no
+-- head for it comes any more (`heard_own`); so it reads on (`goes_on`). Of a head that comes each case is known: what
+-- founds or joins is of a representation, and all else that stays open puts its consumer past the store (`reads_it`). A
+-- doom is of a reader past the store (`dooms_by`). `read_kept` joins both.
 use Rattle.std.{proofs.Common.{◌≡◌, ◌⊎◌, inl, inr, ℕ, true, false, Option, Some, None, refl, ap, sym, ◌∙◌}, specs.Prelude.{is_some, is_none, ◌==◌, ◌&&◌, not, unwrap_or}}
 use Rattle.hc_text.proofs.Basics.{none_or, all_false, and_left, and_off, and_right, bool_cases, never_true as not_so, same_some as same_row, some_inj}
 use Rattle.hc_effects.proofs.Vocabulary.{opening_in, Event, Response, HeadCase, head_case, route_of, has_loss, case_at, case_of, head_view, consumer_heard, by_head, by_fault, waiting, own_after, doomed_key_of, doomed_in, doomed_by_head, doomed_by_case, is_key, Entry, exchange_at, is_for, family, entry_of, IsAwaiting, bound_to, Tables, Exchange, Representation, Consumer, Sound, starts_over, sends_back, waits_at, loses_what_it_waits_for, after_accepted, event, route, place}

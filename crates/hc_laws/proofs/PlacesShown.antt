@@ -1,4 +1,9 @@
 -- Who was shown a head reads, or is over, at each entry.
+--
+-- Who was shown a head before stays: the head of its exchange leaves it where it is (`head_same`), it doesn't start
+-- over (`not_over`), and no wait for others is told (`told_not`). So event and acts leave it where it reads
+-- (`heard_reader`, `opens_reader`, `shows_reader`). Who is shown one now has just polled, and is put where it reads
+-- (`landed`). `readers_kept` joins both.
 use Rattle.std.{proofs.Common.{◌≡◌, inl, inr, ℕ, ◌++◌, Bool, true, false, Option, Some, None, refl, ap, sym, ◌∙◌, subst}, specs.Prelude.{if◌then◌else◌, is_none, is_some, ◌==◌, ◌&&◌, not}}
 use Rattle.hc_text.proofs.Basics.{all_false, and_left, and_off, and_right, bool_cases, never_true as not_so, or_cases, same_some as same_row}
 use Rattle.hc_effects.proofs.Vocabulary.{Opening, opening_in, leaves_in, shows_in, Event, Response, Wait, Why, HeadCase, head_case, route_of, Route, case_on, first_case, later_case, Place, has_loss, fails_in, misreads_in, leaver_in, Showing, showing_in, wait_in, loss_acts, case_at, case_of, head_view, was_shown, consumer_heard, by_head, by_fault, by_opening, shown_place, waiting, waiting_place, place_by_case, doomed_key_of, bypassed_by, is_key, Entry, exchange_at, is_for, is_headless, flaw_in, becomes_gone, goes_in, entry_of, Turns, Shows, acts_of, IsAwaiting, move_of, bound_to, reads, Tables, Exchange, Representation, Consumer, starts_over, sends_back, waits_at, loses_what_it_waits_for, after_accepted, event, wait, route, place, by}

@@ -1,4 +1,9 @@
 -- Who stands in the line owns nothing, and who asks, or fails for what it asked, may ask the origin: at each entry.
+--
+-- `Stands` says what holds at each place. The head or the fault of its exchange moves a consumer (`head_stands`,
+-- `fault_stands`), and each case of a head is looked at (`by_case`). A poll moves it by what it waits for, opens or is
+-- shown (`waits_stands`, `opens_stands`, `shows_stands`); why it opened tells that it may ask (`OpensFor`). Who starts
+-- over owns nothing. `kept_stands` joins these, and `standing_kept` is of all consumers.
 use Rattle.std.{proofs.{Common.{◌≡◌, ◌⊎◌, inl, inr, ℕ, Bool, true, false, Option, Some, None, refl, ap, sym, ◌∙◌, subst, arith}, lemmas.Bool.Decides.{nat_tests}}, specs.Prelude.{if◌then◌else◌, is_some, is_none, ◌==◌, ◌&&◌, not}}
 use Rattle.hc_text.proofs.Basics.{none_by, and_left, and_right, bool_cases, not_some as none_some, same_some as same_row}
 use Rattle.hc_effects.proofs.Vocabulary.{Opening, opening_in, leaves_in, Wait, Event, Request, Response, HeadCase, Route, Wanted, head_case, route_of, is_only, range_of, wanted_of, Place, BoundBy, has_loss, wait_in, Showing, showing_in, case_at, head_view, consumer_heard, consumer_acted, consumer_settled, by_head, by_fault, by_opening, becomes_shared, own_after, waiting, waiting_place, passed_by, kept_by, opened_place, unless_bound, shown_place, due_after, place_by_case, passed_on, bound_to_wanted, current, denial, Entry, is_headless, founded_total, entry_of, Turns, StandsFor, Move, move_of, bound_to, reads, Tables, Exchange, Consumer, starts_over, after_accepted, wait, event, case, route, wanted, place, by}

@@ -1,4 +1,9 @@
 -- Nobody is due a failed read, and no body is longer than all that was received: at each entry.
+--
+-- A read that fails is told at once, so each cause that becomes due is another (`becomes_told`). Nor does a consumer
+-- come to stand where it is to be told one: the cases of a head are looked at (`case_place`), then the other events
+-- (`heard_told`) and the acts (`acted_told`). A body grows by the bytes of a piece, which are counted as received
+-- (`received_by`). `told_kept` joins both; a denied entry is `told_denied`.
 use Rattle.std.{proofs.Common.{◌≡◌, inl, inr, ℕ, ◌+◌, ◌≤◌, List, length, length-append, Bool, true, false, Option, Some, None, refl, ap, sym, ◌∙◌, subst, arith}, specs.{Prelude.{if◌then◌else◌, is_none, ◌==◌, ◌&&◌, not, nat_lt}, Option.{option_or}}}
 use Rattle.hc_text.proofs.Basics.{not_some as none_some, some_inj}
 use Rattle.hc_effects.proofs.Vocabulary.{Opening, opening_in, leaves_in, Cause, Wait, Event, Request, Response, HeadCase, Route, Wanted, is_same_number, route_of, range_of, wanted_of, Place, BoundBy, Showing, showing_in, wait_in, case_at, consumer_heard, consumer_acted, consumer_made, consumer_after, by_head, by_fault, by_opening, shown_place, waiting, waiting_place, due_after, back_in_line, place_by_case, passed_on, passed_by, kept_by, bound_to_wanted, opened_place, place_for_hole, unless_bound, current, row_of, is_number, Entry, exchange_in, is_for, promised_bytes, becomes_due, cause_of_stop, cause_of_loss, cause_by_loss, cause_of_head, cause_by_case, stop_cause, short_cause, short_of, founded_total, is_failed_read, reads, bound_to, source, Tables, Exchange, Representation, Consumer, starts_over, after_accepted, after_denied, received_in, loses_writing, survivor, wait, event, case, route, wanted, place, by}

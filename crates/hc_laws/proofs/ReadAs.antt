@@ -1,4 +1,9 @@
--- Whoever was shown a head reads what it was shown, from where and to where it was shown: where it is shown it, and as long as it reads.
+-- Whoever was shown a head reads what it was shown, from where and to where: at first, and as long as it reads.
+--
+-- It goes on so since where its place begins and ends stays (`lo_stays`, `hi_stays`): a total that is known stays so,
+-- and an answer past the store keeps its head and its end. Hence `read_kept`. At first a poll shows what stands at its
+-- place (`read_by`) or what is current, and its consumer comes to stand at just that (`by_lands`); `landed_read` says
+-- so. What was given over a run is read off both.
 use Rattle.std.{proofs.Common.{◌≡◌, ◌⊎◌, inl, inr, ℕ, ◌+◌, List, length, Bool, true, false, Option, Some, None, refl, ap, sym, ◌∙◌}, specs.{Prelude.{is_some}, Option.{option_or}}}
 use Rattle.hc_text.proofs.Basics.{bool_cases, not_some as none_some, same_some as same_row, some_inj}
 use Rattle.hc_effects.proofs.Vocabulary.{Event, Response, Why, Limits, base_of, promise_of, piece_refusal, BoundBy, Place, total_in, denial, as_open, Entry, exchange_heard, base, promised_bytes, length_by, Flaw, Shown, entry_of, Move, Nothing, Shows, shows_stored, move_of, shows_at, shows_bound, shows_direct, shows_answer, has_joined, bound_to, reads, lo_of, hi_of, base_in, end_in, end_of_direct, Tables, Exchange, Representation, Consumer, Sound, after_accepted, event, by, place}

@@ -1,4 +1,8 @@
 -- Who is told the end was given all up to it.
+--
+-- Only a poll tells the end, and to who reads up to it (`ender`, `at_end`). So its reader is at least as far as the end
+-- that it knows. It isn't further: what is stored lies within its length, and what came past the store within what its
+-- exchange promised (`direct_end`). So it was given just as much as there is (`is_end`). `by_ender` says that of a run.
 use Rattle.std.{proofs.{Common.{◌≡◌, inl, inr, ℕ, ◌+◌, ◌-◌, ◌<◌, ◌≤◌, List, [], ◌∷◌, length, Bool, true, false, Option, Some, None, refl, ap, sym, ◌∙◌, subst, arith}, lemmas.Bool.Decides.{nat_tests}}, specs.{Prelude.{is_some, nat_le, nat_lt, ◌&&◌, if◌then◌else◌}, Option.{option_or}}}
 use Rattle.hc_text.proofs.Basics.{and_right, bool_cases, not_some as none_some, some_inj}
 use Rattle.hc_range.specs.declared.range.Span.{Span}

@@ -1,4 +1,9 @@
 -- What a consumer was given over a run, joined, is the body of what it was shown, from where it was shown it.
+--
+-- `IsJoined` is carried over a run: who reads reads what it was shown, and what it was given is held there. What a poll
+-- gives is next of what was shown (`next_of`), and bytes behind bytes are held together (`holds_more`); they stay so as
+-- bodies grow (`holds_grow`). What a consumer was shown and given is told by filters (`is_told`). `joined_in_runs` is
+-- the induction, from which `bodies_are_read` is read off.
 use Rattle.std.{proofs.{Common.{◌≡◌, inl, inr, ℕ, zero, suc, ◌+◌, ◌-◌, ◌<◌, ◌≤◌, List, [], ◌∷◌, ◌++◌, length, Bool, true, false, Option, Some, None, refl, ap, sym, ◌∙◌, subst, arith, length-append}, Math.{ListN.{get_or-append}, Seq.{get_or-append_right}}, lemmas.Bool.Decides.{nat_tests}}, specs.{Prelude.{IfSome, slice_index, nat_lt, not}, Option.{option_map_or}}}
 use Rattle.hc_text.proofs.Basics.{nil_cons, not_some as none_some, bool_cases, some_inj}
 use Rattle.hc_sparse.specs.declared.run.Run.{Run}

@@ -1,4 +1,9 @@
 -- What a consumer is given is next in the body that it was shown, and within its end.
+--
+-- What only a reader is told is none of evictions, losses and closings (`by_said`). So it is told by the move of a
+-- poll, to its consumer (`giver`). Who is given something was shown one head (`shown_giver`, `one_shown`), and the
+-- bytes are next of what that shows, within its end (`next_of`). `by_giver` says that of an accepted entry, and
+-- `gives_next` of every run: a denied entry gives nothing.
 use Rattle.std.{proofs.Common.{◌≡◌, ◌≢◌, ◌⊎◌, inl, inr, ℕ, ◌+◌, ◌<◌, ◌≤◌, List, [], ◌∷◌, ◌++◌, length, Bool, true, false, Option, Some, refl, ap, sym, ◌∙◌, subst, arith}, specs.{Prelude.{map, not, is_none}, Option.{option_map_or}}}
 use Rattle.hc_sparse.specs.declared.run.Run.{Run}
 use Rattle.hc_effects.proofs.Vocabulary.{is_denied, Event, Act, Why, Limits, accepted_acts, answer_acts, loss_acts, close_acts, may_begin, Entry, History, Contents, Flaw, Loses, flaw_in, Shown, first, shown_of, given_of, Move, Nothing, Asks, Opens, Gives, acts_of, move_of, ReadsAct, Says, Tables, Consumer, IsRun, tables, evicted, event, act, cause}

@@ -1,4 +1,9 @@
--- Every run reads whole: each consumer is shown one head at most, for a reason that holds, and reads one interval of the body of that.
+-- Every run reads whole: each consumer is shown one head at most, for a reason that holds, and reads its body.
+--
+-- Of all acts only heads, bytes and ends are read, so all others say nothing here (`acts_unread`). A poll tells one of
+-- these at most, by its move (`by_move`). A head is shown to who was shown none, for its reason; bytes are next, and an
+-- end is where they end: each is a law of its own. `by_denial` adds denied entries. `runs_read_whole` is the induction
+-- over the run, which the programs cite.
 use Rattle.std.{proofs.Common.{◌≡◌, inl, ℕ, List, [], ◌∷◌, ◌++◌, Bool, true, false, Some, refl, ap, sym, ◌∙◌, subst}, specs.Prelude.{map}}
 use Rattle.hc_effects.proofs.Vocabulary.{is_denied, Act, Limits, accepted_acts, answer_acts, loss_acts, close_acts, may_begin, Entry, History, Contents, Flaw, Loses, flaw_in, shown_of, given_of, Move, Nothing, Asks, Opens, Shows, Gives, Ends, Fails, acts_of, move_of, ReadsAct, ReadsActs, Says, Tables, Consumer, IsRun, tables, evicted, act, cause, wait}
 use Rattle.hc_model.specs.Moves as moves

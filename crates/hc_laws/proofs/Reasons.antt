@@ -1,4 +1,9 @@
 -- The reason for which a consumer is shown a head holds, in every run.
+--
+-- By the reasons (`reason_holds`). What was fetched was opened for it. At a first hole its exchange has joined
+-- (`first_joins`), which the filters tell. By age the stored head is allowed (`by_age`). The most work is who keeps a
+-- 304: what it waits for was selected by the head of its exchange. That is carried through a run (`IsKeeping`), by
+-- where such a wait comes from (`keeping_on`, `chosen_by`).
 use Rattle.std.{proofs.Common.{◌≡◌, ℕ, ◌-◌, [], ◌∷◌, Bool, true, false, Option, Some, None, refl, ap, sym, ◌∙◌, subst}, specs.{Prelude.{is_some, nat_eq, nat_lt, ◌||◌}, Option.{option_map, option_and_then}}}
 use Rattle.hc_text.proofs.Basics.{not_some as none_some, or_left, or_right, eq_itself as same_number, some_inj}
 use Rattle.hc_effects.proofs.Vocabulary.{is_denied, Why, Request, Limits, Place, may_begin, consumer_heard, kept_by, current, is_number, Entry, History, Contents, exchange_in, flaw_in, opening_of, joined_of, request_of, opened_in, entry_of, OfRuns, Turns, IsFor, has_joined, Tables, Exchange, Representation, Consumer, IsRun, IsOwed, tables, after_accepted, after_denied, wait, place}

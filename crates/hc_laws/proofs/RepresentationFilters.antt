@@ -1,4 +1,9 @@
 -- What a representation has is a filter of the list of entries.
+--
+-- An event adds a piece at most to a row, and stores it where nothing was lost (`IsHeard`, `heard_row`). The rest is an
+-- induction over the run. An accepted entry lays its piece over what was there (`accepted_filtered`), a denied one
+-- nothing (`denied_filtered`). Of what isn't founded nothing came, so what is founded begins empty (`unfounded_still`,
+-- `founded_filtered`). `runs_are_filtered` adds the other columns.
 use Rattle.std.{proofs.{Common.{◌≡◌, inl, inr, ℕ, List, [], ◌∷◌, ◌++◌, length, Bool, true, false, cond, Option, Some, None, refl, ap, sym, ◌∙◌, subst}, lemmas.List.{append-nil}}, specs.Prelude.{if◌then◌else◌, ◌==◌, ◌||◌, ◌&&◌, not, is_some, option_map, find}}
 use Rattle.hc_text.proofs.Basics.{bool_cases, some_inj}
 use Rattle.hc_effects.proofs.Vocabulary.{is_denied, Event, Response, loses_in, Entry, History, Content, Contents, family, Tables, Exchange, Representation, representation_after, representation_heard, representation_acted, founded_at, new_representation, representation_after_head, with_renewed_head, updates, representation_after_piece, with_total_if_none, length_in, tables, after, first_tables, representation_of_content, if_accepted, event}

@@ -1,4 +1,9 @@
 -- Who became bound as the only one and has no exchange of its own has all that is left, where nobody writes it.
+--
+-- By how it became bound (`by_way`). Who was bound had the rest already (`unowned_was`), or a writing that was on is
+-- over (`by_writing`). Its exchange can't have become that of a writing: it would promise bytes and go on
+-- (`shared_not`, `promises_some`). Who founds a part or opens a first hole has an exchange (`founded_not`,
+-- `opens_not`). An open exchange about it would be its own (`about_not`). `rested_kept` joins these.
 use Rattle.std.{proofs.{Common.{◌≡◌, ◌⊎◌, inl, inr, ℕ, ◌+◌, ◌-◌, ◌≤◌, List, Bool, true, false, Option, Some, None, refl, ap, sym, ◌∙◌, subst, arith}, lemmas.{Bool.Decides.{nat_tests}, Slice.Eq.{bytes_eq-Decides}}}, specs.Prelude.{if◌then◌else◌, is_some, ◌==◌, nat_eq, bytes_eq, codes, unwrap_or}}
 use Rattle.hc_text.proofs.Basics.{bool_cases, not_some as none_some, same_some as same_row, some_inj}
 use Rattle.hc_effects.proofs.Vocabulary.{range, event, case, route, place, by, Opening, opening_in, Need, Request, Response, HeadCase, length_of, promise_of, is_bad, is_head, agrees, content_length_of, route_of, content_range_of, is_disabled, is_get, BoundBy, loses_in, case_at, is_joining, is_refused, consumer_heard, consumer_acted, by_opening, waiting, becomes_shared, doomed_by_case, Entry, promise_in, is_open, family, becomes_due, entry_of, Measures, is_written, own_open, reads, Tables, Exchange, Representation, Consumer, IsBound, IsFirst, IsExclusiveWriter, IsHad, after_accepted, came_alone, status_in}

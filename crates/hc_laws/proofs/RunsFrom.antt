@@ -1,4 +1,9 @@
 -- What is stored as runs: as many bytes as positions, up to the last one, ascending, each of a number that delivered.
+--
+-- All go by induction over positions: a byte begins a run, or makes the first one longer (`with_cell`). So bytes add up
+-- (`bytes_from`), and the last run ends just behind the last byte (`end_most`, `end_past`, `end_is`). Each run stands
+-- behind those before it (`laid_from`, `ascends`). A run of a number has a byte of that number (`of_cell`), so what
+-- holds of such numbers holds of all runs (`all_of`).
 use Rattle.std.{proofs.{Common.{◌≡◌, inl, inr, ℕ, zero, suc, ◌+◌, ◌<◌, ◌≤◌, List, [], ◌∷◌, length, Bool, true, false, cond, Option, Some, None, refl, ap, sym, ◌∙◌, arith, max}, lemmas.{Bool.Decides.{nat_tests}, List.Sums.{sum_by-cons}}}, specs.{Prelude.{is_some, nat_eq, nat_le, nat_lt, ◌==◌, ◌&&◌, ◌||◌, not, if◌then◌else◌}, List.{list_any, list_all}}}
 use Rattle.hc_text.proofs.Basics.{bool_cases, or_right}
 use Rattle.hc_sparse.specs.{Cells.{Cells, Cell, size_below}, Runs.{end_of}, declared.run.Run.{Run}}

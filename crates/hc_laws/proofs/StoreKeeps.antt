@@ -1,4 +1,9 @@
 -- All that came of a representation is stored until it is lost, and what is stored came.
+--
+-- An event leaves a row as it is, or adds a piece of its family (`heard`). A piece comes where nothing was, and is
+-- stored too where nothing is lost; so body and store agree (`piece_kept`, `written_beside`). Where a write is lost
+-- nothing is stored any more, and the row goes (`acted_stored`, `loss_goes`). What is founded has nothing yet
+-- (`founded_stored`). `after_stored` joins these.
 use Rattle.std.{proofs.{Common.{◌≡◌, inl, inr, ℕ, ◌+◌, ◌≤◌, List, length, Bool, true, false, cond, Option, Some, None, refl, ap, sym, ◌∙◌, subst, arith, max}, lemmas.Bool.Decides.{nat_tests}}, specs.Prelude.{◌&&◌, ◌||◌, not, ◌==◌, nat_eq, is_some, if◌then◌else◌, option_map}}
 use Rattle.hc_text.proofs.Basics.{bool_cases, or_cases as lost_or, or_left, or_right, some_inj}
 use Rattle.hc_effects.proofs.Vocabulary.{Event, loses_in, accepted_acts, denial, Entry, family, front, becomes_gone, representation_after, representation_heard, representation_acted, founded_at, new_representation, representation_after_head, with_renewed_head, updates, representation_after_piece, with_stored_bytes, with_total_if_none, length_in, Tables, Exchange, Representation, Sound, IsStored}

@@ -1,4 +1,9 @@
 -- The moments of stored heads stay in order, and no length stands among their fields.
+--
+-- A stored head stays, is renewed, or is that of an answer (`HeadFrom`). Exchanges are opened in the past
+-- (`opened_by`), so the moments of a head stay in order (`dated_from`). No length or range stands among its fields,
+-- since each way leaves them out (`heads_kept`). That heads stay within limits goes alike. At the beginning each item
+-- has a right head (`dated_item`). `heads_in_runs` carries this.
 use Rattle.std.{proofs.{Common.{◌≡◌, inl, inr, ℕ, ◌≤◌, List, [], ◌∷◌, Bool, true, false, None, Option, Some, refl, ap, sym, ◌∙◌, subst, arith}, lemmas.Bool.Decides.{nat_tests}}, specs.Prelude.{◌==◌, nat_le, find, option_map, codes}}
 use Rattle.hc_text.proofs.Basics.{and_left, and_right, not_some as none_some, not_true as not_yes, some_inj}
 use Rattle.hc_effects.proofs.Vocabulary.{is_denied, Event, Response, Limits, may_begin, are_good, has_right_head, Entry, History, Content, Contents, exchange_heard, OfRuns, Tables, Exchange, Representation, StoredHeads, IsHeadWithinLimits, AreWithinLimits, tables, first_tables, representation_of_content, after, after_accepted, after_denied, event}

@@ -1,4 +1,9 @@
 -- What has no tag by which others could join it comes from its one exchange, or is all there.
+--
+-- A part founds by a strong tag only, and that is one by which parts join (`strong_joins`); what is joined has a tag
+-- (`joins_tagged`). So what has none was no 206 (`parts_by`), and all its bytes are of the exchange that founded it
+-- (`own_row`). As long as that writes, it comes from there. Once it is over all is there, or what is unkeepable goes
+-- (`one_row`). `tags_kept` joins these.
 use Rattle.std.{proofs.Common.{◌≡◌, ◌≢◌, ◌⊎◌, inl, inr, ℕ, List, [], ◌∷◌, length, Bool, true, false, Option, Some, None, refl, ap, sym, ◌∙◌, arith}, specs.{Prelude.{is_some, ◌||◌, not, unwrap_or, if◌then◌else◌, codes}, Option.{option_and_then}}}
 use Rattle.hc_text.proofs.Basics.{and_left, and_right, not_some as none_some, some_inj}
 use Rattle.hc_etag.specs.TagTexts.{strong_in}

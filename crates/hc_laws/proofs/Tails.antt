@@ -1,4 +1,9 @@
--- What the own exchange of the detached reader brought since the loss is held, and all else ahead of it is stored: at each entry.
+-- What the detached reader's own exchange brought since the loss is held, and all else ahead is stored: at each entry.
+--
+-- As long as nothing is lost all that came is stored, so at the loss the tail begins at the front (`fresh_tail`). Later
+-- a piece of the body is of that exchange alone (`own_piece`), and isn't stored; so the tail grows with it
+-- (`by_brings`). The reader's own exchange is the one it had (`kept_tail`), one that is opened now (`opened_tail`), or
+-- that of the writing (`written_tail`). `by_own` joins these for `tails_kept`.
 use Rattle.std.{proofs.Common.{◌≡◌, ◌⊎◌, inl, inr, ℕ, ◌+◌, ◌≤◌, ◌<◌, List, [], length, length-append, Bool, true, false, Option, Some, None, refl, ap, sym, ◌∙◌, arith}, specs.Prelude.{is_some, ◌||◌, unwrap_or}}
 use Rattle.hc_text.proofs.Basics.{and_right, not_some as none_some, same_some as same_row, some_inj}
 use Rattle.hc_sparse.specs.Cells.{Cells, inside, cells_with}

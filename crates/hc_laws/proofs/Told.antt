@@ -1,7 +1,8 @@
 -- A poll tells its consumer one thing at most, and last what it is to wait for; another event tells nobody anything.
 --
--- The acts of an accepted poll are those of its move, then what is closed and what is lost, which tell nobody. Where the move
--- is to wait, nobody leaves: so nothing is closed, nothing is written, and nothing is lost.
+-- The acts of an accepted poll are those of its move, then what is closed and what is lost, which tell nobody. Where
+-- the move is to wait, nobody leaves: so nothing is closed, nothing is written, and nothing is lost. `one_by` and
+-- `last_by` go by the moves, `by_poll` joins them, and `told_in_runs` is for every run.
 use Rattle.std.{proofs.Common.{◌≡◌, ℕ, List, [], ◌∷◌, ◌++◌, Bool, true, false, Option, Some, None, refl, ap, sym, ◌∙◌, subst}, specs.Prelude.{map, ◌||◌}}
 use Rattle.hc_effects.proofs.Vocabulary.{is_denied, closes_in, Act, Event, Limits, leaver_in, loses_in, answer_acts, loss_acts, close_acts, closing, denial, is_live, Entry, Flaw, NoFlaw, Loses, flaw_in, OfHistories, Turns, Move, Nothing, Asks, Opens, Shows, Gives, Ends, Fails, acts_of, Tables, Consumer, IsOwed, Sound, tables, tellings, IsOneTo, TellsOne, TellsBy, evicted, act, cause, wait}
 use Rattle.hc_event.specs.declared.event.Event.TheVariants as event

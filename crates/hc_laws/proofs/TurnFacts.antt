@@ -1,5 +1,9 @@
--- What an entry of a run says: which exchanges it closes, what it says to the consumer of a poll, and that a poll
--- after which nobody leaves closes and loses nothing.
+-- What an entry of a run says: which exchanges it closes, what is lost or evicted, and what a poll tells its consumer.
+--
+-- The acts of an owed entry that isn't denied (`IsTaken`) have parts, and each part is looked at by itself. What must
+-- be closed is, and nothing else (`is_closed`, `stays_open`). What is lost is what the flaw says (`loses_as`). Closings
+-- see the same case and the same doom as the entry (`same_case`, `same_doom`). A poll tells its consumer what its move
+-- is, or that a read fails (`at_poll`). To others nothing is told (`far_from`).
 use Rattle.std.{proofs.Common.{◌≡◌, ◌⊎◌, inl, inr, ℕ, List, [], ◌∷◌, ◌++◌, Bool, true, false, Option, Some, None, refl, ap, sym, ◌∙◌, subst}, specs.Prelude.{◌&&◌, not, ◌||◌, ◌==◌, nat_eq, map, filter, reverse}}
 use Rattle.hc_text.proofs.Basics.{bool_cases, or_cases, or_right as or_yes}
 use mathlib.Core.List.{reverse_aux}

@@ -1,4 +1,9 @@
 -- A 304 that validates lets its consumer through: what is current stays so.
+--
+-- The table of cases leads to this one in one way (`validated_on`). So the request was conditional and had the turn,
+-- what it is about is still current, and nothing is lost (`valid_is`). Hence no writing goes by it and no exchange
+-- needs to be closed (`keeps_writing`, `free`), and as nothing is written nothing is evicted either (`write_none`). So
+-- nothing goes (`goes_none`). The law of turns needs that.
 use Rattle.std.{proofs.Common.{◌≡◌, ℕ, [], ◌++◌, Bool, true, false, Option, Some, None, refl, ap, sym, ◌∙◌}, specs.{Prelude.{◌&&◌, ◌||◌, ◌==◌, not, is_none, is_some, if◌then◌else◌, nat_le}, Option.{option_map}}}
 use Rattle.hc_text.proofs.Basics.{and_left, and_none, and_right as and_then, not_true as not_yes, some_inj}
 use Rattle.hc_effects.proofs.Vocabulary.{opening_in, Response, HeadCase, HeadView, Route, Limits, Write, head_case, case_on, direct_case, first_case, later_case, is_conditional, is_same_number, route_of, has_loss, misreads_in, leaver_in, answer_acts, loss_acts, case_at, case_of, head_view, validates, is_founding, must_close, is_doomed, is_left, leaver, leaver_by, is_refused, brings_head, has_no_survivor, awaits, current, is_current, is_number, doomed_key_of, doomed_in, doomed_by_head, doomed_by_case, bypass_key, bypassed_by, is_key, Entry, entry_without_acts, exchange_at, is_headless, family, flaw_in, becomes_gone, goes_by_head, goes_by_exchange, goes_by_case, ends_early, ends_founding, stops_early, is_written, Tables, Exchange, Representation, evicted, first_idle, room_for, room_by, write_in, brings_body, loses_writing, survivor, need, event, case, route, write}

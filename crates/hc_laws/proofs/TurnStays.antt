@@ -1,4 +1,9 @@
 -- Who waits for a head goes on waiting, as long as no head comes.
+--
+-- Its exchange has no head before the entry and none after it. So neither its head nor its fault came (`not_headed`,
+-- `not_faulted`), and its consumer doesn't leave (`not_leaving`). A poll of that says only that it waits
+-- (`polls_head`); other acts aren't told to it. The most work is that it doesn't start over (`not_over`): nothing of
+-- what it waits for is doomed or lost (`dooms`, `loses_none`). `after_same` joins this.
 use Rattle.std.{proofs.Common.{◌≡◌, inl, inr, ℕ, ◌+◌, List, [], ◌∷◌, ◌++◌, Bool, true, false, cond, Option, Some, None, refl, ap, sym, ◌∙◌, subst}, specs.{Prelude.{length, ◌&&◌, ◌||◌, ◌==◌, nat_eq, not, is_none, is_some, if◌then◌else◌}, Option.{option_and_then}}}
 use Rattle.hc_text.proofs.Basics.{or_right, or_left, and_left, and_right as and_then, bool_cases, eq_itself as eq-refl, eq_tells as eq_is, never_true as not_true, plus_none, same_some as same_row, some_inj}
 use Rattle.hc_effects.proofs.Vocabulary.{Opening, opening_in, closes_in, leaves_in, shows_in, given_in, Act, Event, Response, head_refusal, fault_refusal, Route, Limits, route_of, BoundBy, Place, has_loss, wait_in, leaver_in, Showing, showing_in, case_at, case_of, must_close, is_doomed, is_left, is_left_by, awaits, leaver, leaver_by, is_refused, brings_head, consumer_after, consumer_settled, consumer_acted, consumer_heard, by_head, by_fault, by_opening, waiting, waiting_place, shown_place, own_after, left_to, due_after, back_in_line, is_number, denial, as_open, doomed_key_of, is_key, Entry, exchange_heard, exchange_acted, promised_bytes, exchange_at, is_for, is_headless, is_open, IsOfOneKey, Turns, StandsFor, IsAwaited, Move, acts_of, poll_move, shows_head, shows_at, shows_direct, shows_answer, if_headless, waits_for_head, or_else, by_place, has_joined, own_open, if_open, is_written, is_open_writer, Tables, Exchange, Representation, Consumer, Sound, IsAbout, starts_over, sends_back, waits_at, awaited_exchange, loses_what_it_waits_for, loses_writing, act, wait, event, by}

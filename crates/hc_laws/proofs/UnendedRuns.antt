@@ -1,4 +1,9 @@
--- The detached reader of what has no known end reads from the exchange that founded it, which is still open: in every run.
+-- The detached reader of what has no known end reads from the open exchange that founded it: in every run.
+--
+-- Such an exchange brings all of the body, and nothing tells its length (`IsEndless`). It needn't be closed, as its
+-- reader is there (`not_must`). Its end would tell the length, and its fault would be a failure that is due; so it
+-- stays open at each event (`heard_on`). Either the reader went on alone before (`went_on`), or it survives the loss
+-- and gets the exchange of the writing (`survives`). `unended_kept` joins the two.
 use Rattle.std.{proofs.{Common.{◌≡◌, ◌⊎◌, inl, inr, ℕ, List, length, Bool, true, false, Option, Some, None, refl, ap, sym, ◌∙◌, subst, arith}, lemmas.Bool.Decides.{nat_tests}}, specs.{Prelude.{◌&&◌, ◌++◌, is_some, is_none, nat_eq, unwrap_or, if◌then◌else◌}, Option.{option_or}}}
 use Rattle.hc_text.proofs.Basics.{and_left, and_right, not_some as none_some, never_true as not_so, or_cases, same_some as same_row, some_inj}
 use Rattle.hc_effects.proofs.Vocabulary.{Opening, closes_in, opening_in, Event, Response, is_same_number, BoundBy, case_at, must_close, is_refused, brings_head, is_doomed, has_no_survivor, is_left, leaver, leaver_by, consumer_heard, consumer_acted, is_number, Unended, Entry, exchange_acted, exchange_heard, with_piece, exchange_in, family, is_open, is_reached, promised_bytes, becomes_due, stop_cause, entry_of, OfRuns, Measures, IsMeasured, is_written, own_open, shared_exchange, source, reads, Tables, Exchange, Representation, Consumer, IsBound, IsFirst, IsGrowing, after_accepted, brings_body, came_alone, loses_writing, survivor, cause, event, place}

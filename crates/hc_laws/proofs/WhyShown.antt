@@ -1,4 +1,9 @@
 -- Why a consumer is shown a head: it came for it, its first hole joined, freshness allows it, or it kept a 304.
+--
+-- A plan that binds does so for a reason: each plan is gone through (`bare_why`, `plan_why`), and the reason is
+-- freshness, or the 304 that is kept (`by_kept`). Who stands where it is shown a head was brought it by its own
+-- exchange, or by its first hole that joined (`bound_shown`, `answer_shown`). A poll shows by where its consumer stands
+-- or by its plan (`by_moves`). `shown_why` says so of the move of a poll.
 use Rattle.std.{proofs.Common.{◌≡◌, inl, inr, ℕ, ◌+◌, Bool, true, false, Option, Some, None, refl, ap, sym, ◌∙◌}, specs.{Prelude.{is_none, ◌&&◌, nat_le}, Option.{option_map}}}
 use Rattle.hc_text.proofs.Basics.{bool_cases, not_some as none_some, some_inj}
 use Rattle.hc_range.specs.declared.range.Span.{Span}

@@ -1,4 +1,9 @@
 -- How an address is read: what a text begins with is found by its first dot or colon, since no number has one.
+--
+-- A number has digits alone, so neither of the two stands in it (`lacks_end`), and the first one ends it. What is cut
+-- off there is such a number, in one way (`begins_so`), or none (`never_cut`, `never_plain`, `never_more`). An address
+-- is four of these and a port. Where a part fails there is none, since any address would begin with the parts before it
+-- (`off_three`, `off_port`). Where all are there it is this one (`address_is`).
 use Rattle.std.{proofs.{Common.{◌≡◌, ◌⊎◌, inl, inr, ℕ, ◌+◌, ◌<◌, ◌≤◌, ◌^◌, true, List, [], ◌∷◌, ◌++◌, Option, Some, None, refl, ap, sym, ◌∙◌, arith}, lemmas.{Bool.{and_from, not_from_false, ne_eqb}, Fmt.{decimal_is_IsNumeral, decimal_injective}, Str.Parse.{digit_from_value}}}, specs.{Prelude.{◌==◌, IfNone}, Fmt.{decimal}, Str.Parse.{AllDigits}}}
 use Rattle.hc_text.specs.{Cuts.{cut}, Numbers.{IsPlain}, Texts.{lacks}}
 use Rattle.hc_text.proofs.{Cuts.{lacks-decimal}, Cutting.{cut-first, append-cut}}

@@ -1,4 +1,9 @@
 -- Which words are a command.
+--
+-- A command has one word, three or four (`other_count`). The first word tells which command it may be, by its text
+-- (`is_replay`, `is_save`). The others must be its numbers and addresses (`is_generation`, `is_origin`, `is_serving`).
+-- For each word that isn't what it should be there is a lemma that this is no such command. Three words are none where
+-- they are neither a generation nor an origin (`neither`).
 use Rattle.std.{proofs.{Common.{◌≡◌, ℕ, ◌<◌, ◌≤◌, List, [], ◌∷◌, length, get_or, Global, true, false, refl, ap, sym, ◌∙◌, subst, arith}, lemmas.{Fmt.{decimal_injective}, Slice.Eq.{bytes_eq-Decides}}}, specs.{Prelude.{codes, bytes_eq}, declared.string.String.{String}}}
 use Rattle.hc_text.specs.Numbers.{IsPlain}
 use Rattle.hc_app.specs.declared.command.Command.TheVariants as command

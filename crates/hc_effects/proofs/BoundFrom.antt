@@ -1,7 +1,7 @@
 -- How who is bound after an entry became so: it was, it founds, its first hole is opened, or it is shown what is there.
 --
 -- The place is followed back through the entry. It is bound since it was shown a head there (`shown`), since a first
--- hole was opened (`opened`), or by the event (`heard`); or it was before. The cases of a head have most work
+-- hole was opened (`opened`), or by the event (`heard`); or it was before. The cases of a head have the most work
 -- (`placed`): those that found bind, and all others leave the place or lead elsewhere. `bound_from` joins these. Most
 -- lemmas on readers begin with it and go by its four ways.
 use Rattle.std.{proofs.{lemmas.Bool.Decides.{nat_tests}, Common.{arith, ◌≡◌, ◌⊎◌, inl, inr, ℕ, Bool, true, false, Option, Some, None, refl, ap, sym, ◌∙◌}}, specs.Prelude.{if◌then◌else◌, ◌==◌}}

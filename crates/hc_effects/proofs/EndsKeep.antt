@@ -3,7 +3,7 @@
 -- A wanted interval ends within the length of the body of which it is one (`wanted_within`). By how a reader became
 -- bound (`ends_by`): where it was, the length stays known, and so its end is within; what it founds has the length of
 -- its head (`founded_by`, `founds_by`). What it is shown has the length by which its plan took the interval
--- (`shown_by`), which has most work. `measures_kept` adds the other measures.
+-- (`shown_by`), which has the most work. `measures_kept` adds the other measures.
 use Rattle.std.{proofs.{lemmas.Bool.Decides.{nat_tests}, Common.{◌≡◌, ℕ, ◌≤◌, false, Option, Some, refl, ap, sym, ◌∙◌, subst, arith}}, specs.Prelude.{is_some, nat_eq}}
 use Rattle.hc_text.proofs.Basics.{not_some as none_some, number_not, same_some as same_row, some_inj}
 use Rattle.hc_range.specs.declared.range.{Asked.{Asked}, Span.{Span}}

@@ -1,9 +1,9 @@
 -- The rows after an entry that makes room are those after it without that, once what makes room is evicted.
 --
--- The acts differ in evictions alone, so all that an entry does by itself is the same (`like`), and what goes is what
--- went and what is evicted (`gone_before`). So each representation is as it was without, and gone where it is evicted
--- (`representation_row`). A consumer starts over where it did, or waits for what is evicted (`starts_before`); the
--- event mustn't have moved it there (`settled_row`). `tables_last` joins the rows.
+-- The acts differ in evictions alone, so what an entry does by itself is the same (`like`). What goes is what went, and
+-- what is evicted (`gone_before`). So each representation is as it was without, and gone where it is evicted
+-- (`representation_row`). A consumer starts over where it did, or where it waits for what is evicted (`starts_before`);
+-- the event mustn't have moved it there (`settled_row`). `tables_last` joins the rows.
 use Rattle.std.{proofs.{lemmas.Bool.Decides.{nat_tests}, Common.{arith, ◌≡◌, inl, inr, ℕ, List, [], ◌∷◌, ◌++◌, Bool, true, false, Option, Some, None, refl, ap, sym, ◌∙◌}}, specs.Prelude.{map, ◌==◌, ◌||◌, ◌&&◌, not, is_some, if◌then◌else◌, option_map}}
 use Rattle.hc_text.proofs.Basics.{never_true, bool_cases, or_false as or_off}
 use Rattle.hc_effects.proofs.Vocabulary.{evicts_in, Act, Event, Place, fails_in, case_at, consumer_heard, consumer_acted, consumer_settled, consumer_made, consumer_after, doomed_key_of, is_key, as_gone, Entry, evict_all, exchange_at, is_for, goes_itself, becomes_gone, goes_in, representation_after, representation_heard, representation_acted, Tables, Representation, Consumer, starts_over, waits_at, sends_back, loses_what_it_waits_for, after_accepted, with_item_first, to_front, opened_after, openings_after, act, place}

@@ -2,8 +2,8 @@
 --
 -- An update leaves out the names that are fixed (`taken_free`). So of such a name no value is taken, and none of the
 -- old ones goes (`left_of`): its values stay (`values_kept`). Length and range are such names (`length_kept`,
--- `range_kept`), and what is founded leaves them out at first (`length_none`, `range_none`), but keeps its tag
--- (`etag_kept`). That fields stay within limits is by induction over them.
+-- `range_kept`). What is founded has neither (`length_none`, `range_none`), but keeps its tag (`etag_kept`). That
+-- fields stay within limits is by induction over them.
 use Rattle.std.{proofs.{Common.{◌≡◌, ◌≢◌, inl, inr, ℕ, ◌≤◌, List, [], ◌∷◌, length, Bool, true, false, refl, ap, sym, ◌∙◌, arith}, lemmas.Bool.Decides.{nat_tests}}, specs.{Prelude.{bytes_eq, nat_lt, if◌then◌else◌, codes}, List.{list_any}}}
 use Rattle.hc_text.proofs.Basics.{bool_cases, never_true as not_true}
 use Rattle.hc_fields.specs.{FieldList.{values_of, has_name, field_list_with, without, size_of}, FirstValues.{has_field}}

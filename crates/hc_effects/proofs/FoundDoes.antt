@@ -3,7 +3,7 @@
 -- Three cases found (`Founds`): with all of a body, with a part, and in place of another. The effects of each are put
 -- into one form, for what is founded and for what is lost at once (`founds_does`, `lost_does`), with what goes
 -- (`replaces`). Then what is told of it: whether it is a part (`status_is`), what its consumer wants of that
--- (`part_wanted`), and that nobody was shown a head yet (`founder_unshown`).
+-- (`part_wanted`), and that this one was shown no head yet (`founder_unshown`).
 use Rattle.std.{proofs.Common.{◌≡◌, ◌≢◌, ℕ, ◌+◌, ◌-◌, ◌≤◌, List, [], ◌∷◌, ◌++◌, Bool, true, false, Option, Some, None, refl, ap, sym, ◌∙◌, subst, arith}, specs.Prelude.{◌==◌, ◌||◌, bytes_eq, codes, is_some, map, if◌then◌else◌}}
 use Rattle.hc_text.proofs.Basics.{and_left, and_right, not_some as none_some}
 use Rattle.hc_range.specs.{declared.range.{Asked.{Asked}, Span.{Span}, ContentRange.{ContentRange}}, Spans.{resolved_span}}

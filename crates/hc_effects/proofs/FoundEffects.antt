@@ -1,7 +1,7 @@
 -- What heads do that found: with the turn, and in place of what had a first hole. And where that is lost.
 --
--- One lemma is for heads that found (`founding`): what goes beside what makes room, and what becomes of its consumer. A
--- 200 with the turn, a 206 for who wants a part, and a 200 in place of what had a first hole are uses (`founds_whole`,
+-- One lemma is for heads that found (`founding`): what goes beside what makes room, and what becomes of its consumer.
+-- Its uses are a 200 with the turn, a 206, and a 200 that replaces what had a first hole (`founds_whole`,
 -- `founds_range`, `first_replaced`). Where that is lost nothing is founded, but the same is let go (`losing`);
 -- `passes_by_lost` and `first_replaced_lost` are uses of that.
 use Rattle.std.{proofs.{lemmas.Bool.Decides.{nat_tests}, Common.{arith, ◌≡◌, inl, inr, ℕ, List, [], ◌∷◌, ◌++◌, Bool, true, false, Option, Some, None, refl, ap, sym, ◌∙◌, subst}}, specs.Prelude.{◌&&◌, ◌||◌, not, nat_eq, if◌then◌else◌, map, option_map}}

@@ -3,7 +3,7 @@
 -- Room is told by the entry before its answer; the code counts it in tables in which all that was done already. In both
 -- the same goes (`goes_same`), and the same consumers stay bound (`still_bound`). So each row weighs the same
 -- (`weight_same`), and the same is idle (`idle_same`). Hence there is the same room, and the same gives way
--- (`room_same`, `gives_same`). Handlers of heads that found use these.
+-- (`room_same`, `gives_same`). The handler of heads that found uses these.
 use Rattle.std.{proofs.{Common.{◌≡◌, inl, inr, ℕ, List, [], ◌∷◌, length, take, Bool, true, false, Option, Some, None, refl, ap, sym, ◌∙◌, subst, arith}, lemmas.Bool.Decides.{nat_tests}}, specs.{Prelude.{◌&&◌, ◌||◌, ◌==◌, not, nat_eq, if◌then◌else◌, option_map, map, filter, reverse}, List.{list_any, sum_by}}}
 use Rattle.hc_text.proofs.Basics.{and_true as and_on, and_none as and_off, or_false as or_off}
 use mathlib.Core.Path.{fun_ext}

@@ -3,7 +3,7 @@
 -- Its consumer waits for it, is bound, and so for a hole of what it reads (`way`). As it stays bound and nothing
 -- becomes due, its case has no cause and doesn't send it back (`no_cause`, `stays_back`), and it founds nothing
 -- (`founded_not`). Of all cases only those that join are left (`by_case`). So its head tells a part that fills the hole
--- (`joined`, `told_is`), and begins no earlier than that (`front_within`).
+-- (`joined`, `told_is`), and its front isn't past where that begins (`front_within`).
 use Rattle.std.{proofs.{Common.{◌≡◌, ℕ, ◌≤◌, List, [], length, Bool, true, false, Option, Some, None, refl, ap, sym, ◌∙◌, subst, arith}, lemmas.Bool.Decides.{nat_tests}}, specs.Prelude.{if◌then◌else◌, is_some, ◌&&◌, ◌||◌, nat_eq}}
 use Rattle.hc_text.proofs.Basics.{same_some as same_row}
 use Rattle.hc_effects.proofs.Vocabulary.{cause, event, case, route, place, by, Need, Request, HeadCase, Length, head_case, length_of, base_of, route_of, BoundBy, has_loss, case_at, head_view, is_joining, consumer_heard, consumer_acted, by_head, place_by_case, doomed_key_of, is_key, Entry, promise_in, base, front, exchange_at, is_for, length_by, cause_of_head, cause_by_case, entry_of, IsAwaiting, reads, hole_start, Tables, Exchange, Representation, Consumer, starts_over, waits_at, sends_back, loses_what_it_waits_for, after_accepted}

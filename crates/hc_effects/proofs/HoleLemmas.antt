@@ -1,9 +1,9 @@
 -- Holes are absent, and what has none is covered.
 --
--- The first place of some positions that passes a test is within these or behind them (`first_to`), none before it
+-- The first of some positions that passes a test is found within these, or behind them (`first_to`). None before it
 -- passes (`first_before`), and it passes where it is within (`first_passes`). So what covers an interval has something
--- everywhere, and the other way (`covers_all`, `covers_yes`). A hole ends at the next such place (`end_cases`): so it
--- is absent (`hole_absent`), and not empty (`hole_some`).
+-- everywhere, and the other way round (`covers_all`, `covers_yes`). A hole ends at the next such place (`end_cases`):
+-- so it is absent (`hole_absent`), and not empty (`hole_some`).
 use Rattle.std.{proofs.{Common.{◌≡◌, ◌⊎◌, inl, inr, ℕ, zero, suc, ◌+◌, ◌-◌, ◌<◌, ◌≤◌, Bool, true, false, Option, None, sym, arith, min}, lemmas.Bool.Decides.{nat_tests}}, specs.Prelude.{is_some, is_none}}
 use Rattle.hc_text.proofs.Basics.{bool_cases, lt_cases}
 use Rattle.hc_sparse.specs.Cells.{Cells, Cell, EndsBy, Covers}

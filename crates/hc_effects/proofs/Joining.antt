@@ -1,9 +1,9 @@
 -- A head that joins brings positions of its hole.
 --
 -- Each route of the table of cases is gone through: only at a hole there are cases that join (`by_turn`, `by_first`,
--- `may_join`). Then the test of joining says that the head is a 206 for the hole, of what is stored there, with its tag
--- and its total (`IsFilling`, `filling`). Its length is then a part that lies in the hole, or it has no body
--- (`lies_hole`, `lies`). HeadKeeps builds on these.
+-- `may_join`). The test of joining says that the head is a 206 for the hole, with the tag and the total of what is
+-- stored (`IsFilling`, `filling`). Its length is then a part that lies in the hole, or it has no body (`lies_hole`,
+-- `lies`). HeadKeeps builds on these.
 use Rattle.std.{proofs.{Common.{◌≡◌, ◌≢◌, ℕ, ◌+◌, ◌-◌, ◌<◌, ◌≤◌, Bool, true, false, cond, List, Option, Some, None, refl, sym, ◌∙◌, subst, arith}, lemmas.Bool.Decides.{nat_tests}}, specs.Prelude.{codes, ◌==◌}}
 use Rattle.hc_text.proofs.Basics.{either}
 use Rattle.hc_effects.proofs.Vocabulary.{range, need, route, case, Response, Request, Need, Route, HeadCase, HeadView, Length, head_case, case_on, direct_case, turn_case, first_case, later_case, length_of, content_length_of, part_length, has_no_body, route_of, content_range_of, Representation, is_joining, joins_row, joins_by}

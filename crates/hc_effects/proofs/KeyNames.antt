@@ -1,8 +1,8 @@
 -- What an event names is of its key: the representation of an exchange, and what a consumer reads from.
 --
 -- The law of keys says it of rows; here it is said of what an event reaches by these. A doom is of the key of its event
--- (`doomed_key`). The representation of an exchange has the key of its request (`family_key`), what is current has its
--- key (`current_key`). What a consumer reads from is its own or that of a writing, so it is of its key (`source_key`),
+-- (`doomed_key`). The representation of an exchange has the key of its request (`family_key`), and what is current has
+-- its key (`current_key`). A consumer reads from its own exchange or a writing's, so that is of its key (`source_key`),
 -- and so is what is near (`near_key`). Laws of keys use these.
 use Rattle.std.{proofs.{lemmas.Bool.Decides.{nat_tests}, Common.{arith, ◌≡◌, inl, inr, ℕ, List, Bool, true, false, Option, Some, None, refl, ap, sym, ◌∙◌}}, specs.{Prelude.{bytes_eq, ◌&&◌, ◌||◌, if◌then◌else◌, unwrap_or}, Option.{option_or}}}
 use Rattle.hc_text.proofs.Basics.{and_none as with_false, and_true as with_true, and_left, bool_cases, eq_tells as eq_is, never_true as not_so, or_cases, same_some as same_row}

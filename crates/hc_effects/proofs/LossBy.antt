@@ -1,8 +1,8 @@
 -- What is lost by an entry of a run: what its head or piece writes, or what is sealed as its exchange ends.
 --
--- An entry of a run says a loss only where it may be (`IsReal`), so what is lost is what is written by it, and wasn't
--- lost before (`lost_is`, `fresh`). At a piece or a head that is of its exchange. Else it is sealed: an exchange that
--- was open stops or is closed (`stop_open`), which has its head and is of that family (`sealing_row`). `sealing` tells
+-- An entry of a run says a loss only where it may be (`IsReal`). So what is lost is what is written by it, and it
+-- wasn't lost before (`lost_is`, `fresh`). At a piece or a head that is of its exchange. Else it is sealed: an exchange
+-- of its family, which was open and has its head, stops or is closed (`stop_open`, `sealing_row`). `sealing` tells
 -- which one; laws on what is lost begin with these.
 use Rattle.std.{proofs.{Common.{◌≡◌, ◌⊎◌, inl, inr, ℕ, true, false, Option, Some, None, refl, ap, sym, ◌∙◌, arith}, lemmas.Bool.Decides.{nat_tests}}, specs.Prelude.{is_some, ◌||◌}}
 use Rattle.hc_text.proofs.Basics.{eq_is, and_left, and_right, not_some as none_some, not_true, or_cases, same_some as same_row, some_inj}

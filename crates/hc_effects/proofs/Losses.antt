@@ -1,9 +1,9 @@
 -- Who goes on when a representation is lost: whoever may go on writing does, and the others have all they need.
 --
--- Who survives is the least of those that may write alone. Where one number is all there is, it is the least
+-- The exclusive writer is the least of those that may write alone. Where one number is all there is, it is the least
 -- (`least_all`, `writers_all`), and there is one where somebody may write (`writers_among`). Who came alone is the only
 -- one (`first_by`), so who may write is exclusive (`exclusive_is`). Who came alone and may not write has all that it
--- needs (`no_more`). Hence `goes_on_or_rests`.
+-- needs (`no_more`). Hence `goes_on_or_rests`; laws on who goes on use it.
 use Rattle.std.{proofs.{Common.{◌≡◌, ◌≢◌, ◌⊎◌, inl, inr, ℕ, List, [], ◌∷◌, Bool, true, false, Option, Some, None, refl, ap, sym, ◌∙◌, subst, arith}, lemmas.Bool.Decides.{nat_tests}}, specs.{Prelude.{is_some, is_none, ◌&&◌, filter, map}, Option.{option_or}}}
 use Rattle.hc_text.proofs.Basics.{all_three, not_false, bool_cases, or_off_right as or_right, same_some as same_row}
 use Rattle.hc_sparse.specs.Cells.{Covers}

@@ -3,7 +3,7 @@
 -- By the move of the poll (`by_move`). A plan opens past the store, with the turn, or for a first hole (`by_plan`,
 -- `first_by`), and a reader for a later one (`later_by`, `step_opens`). Moves of other kinds open nothing. `OpenedAs`
 -- has what each tells of its need and its request: the key and the method are those of its consumer, and where that
--- stands. `opening_is` is for what the acts say.
+-- stands. `opened_as` says so of the move of any poll.
 use Rattle.std.proofs.{lemmas.Bool.Decides.{nat_tests}, Common.{arith, ◌≡◌, ℕ, ◌+◌, true, false, Option, Some, None, refl, ap, sym, ◌∙◌, subst}}
 use Rattle.hc_range.specs.declared.range.Span.{Span}
 use Rattle.hc_effects.proofs.Vocabulary.{Opening, Request, Need, Why, Plan, ReadStep, route_of, plan_of, read_step, class_of, is_bypassing, is_disabled, range_of, wanted_of, Place, BoundBy, current, row_of, first_hole, Move, Nothing, Fails, Opens, opens_hole, plan_view, plan_move, origin_request, current_row, binds_current, hole_of, shows_at, move_of, bound_to, Tables, Representation, Consumer, Sound, read_view, step_move, later_hole, bound_row, cause, need, wait, route, wanted, place}

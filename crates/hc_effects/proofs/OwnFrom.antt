@@ -1,4 +1,4 @@
--- Where an own exchange after an entry is from: it was its own, it is opened, or a lost writing is left to its consumer.
+-- Where an own exchange after an entry is from: it was its own, it is opened, or a lost writing is left to its owner.
 --
 -- The row is followed back through the entry. First what the loss leaves to it: a writing, where it is the survivor of
 -- it, or what it had (`left_by`, `after_by`). Before that an opening may have given it a new one (`opened_by`). The

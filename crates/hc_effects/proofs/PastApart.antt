@@ -1,9 +1,9 @@
 -- An answer past the store that somebody reads is no representation, and has its head where its reader was shown one.
 --
 -- It stood there before, its head put it there, or its exchange is opened now. In each no representation of that number
--- was there (`rep_before`). None is founded either: a head that founds leads elsewhere, where a whole body is read or
--- an interval is wanted (`fits_wanted`, `placed_not`), and who stood there was shown its head or waits for one past the
--- store (`stood_past`). `unfounded_kept` joins these.
+-- was there (`rep_before`). None is founded either. A head that founds puts its consumer elsewhere, since of a part
+-- that founds an interval is wanted (`fits_wanted`, `placed_not`). Who stood there was shown its head, or waits for it
+-- past the store (`stood_past`). `unfounded_kept` joins these.
 use Rattle.std.{proofs.{Common.{◌≡◌, inl, inr, ℕ, ◌+◌, Bool, true, false, Option, Some, None, refl, ap, sym, ◌∙◌, subst, arith}, lemmas.Bool.Decides.{nat_tests}}, specs.Prelude.{is_some, nat_eq}}
 use Rattle.hc_text.proofs.Basics.{and_right, not_some as none_some, same_some as same_row}
 use Rattle.hc_range.specs.{declared.range.{ContentRange.{ContentRange}, Span.{Span}, Asked.{Asked}}, Spans.{resolved_span}}

@@ -2,8 +2,8 @@
 --
 -- It stood there before, its head put it there, or the exchange is opened now (`PlaceFrom`, `direct_from`). No other
 -- head can put it there, as each case shows (`case_place`). Who stood there keeps what it had (`was_past`). Who waited
--- for the head waits on, or the head came (`still_waits`): a cancel would end it, and all else that comes of the
--- exchange is denied (`unmet`). `by_place` joins these for `past_kept`.
+-- for the head waits on, or the head came (`still_waits`): a cancel or a fault would have moved it, and a piece or an
+-- end without a head is denied (`unmet`). `by_place` joins these for `past_kept`.
 use Rattle.std.{proofs.{Common.{◌≡◌, ◌⊎◌, inl, inr, ℕ, Bool, true, false, Option, Some, None, refl, ap, sym, ◌∙◌, subst, arith}, lemmas.Bool.Decides.{nat_tests}}, specs.Prelude.{if◌then◌else◌, is_some, is_none, ◌==◌, ◌&&◌, ◌||◌, not, nat_eq}}
 use Rattle.hc_text.proofs.Basics.{bool_cases, not_some as none_some, same_some as same_row, some_inj}
 use Rattle.hc_effects.proofs.Vocabulary.{Opening, opening_in, leaves_in, shows_in, Event, Response, Wait, HeadCase, Route, Wanted, route_of, range_of, wanted_of, Place, BoundBy, Showing, showing_in, wait_in, case_at, consumer_heard, consumer_acted, consumer_settled, consumer_made, consumer_after, by_head, by_fault, by_opening, shown_place, waiting, waiting_place, due_after, place_by_case, passed_on, bound_to_wanted, opened_place, unless_bound, denial, Entry, exchange_opened, exchange_in, founded_total, entry_of, IsPast, bound_to, Tables, Exchange, Consumer, may_stand, starts_over, after_accepted, event, cause, case, wanted, place, by}

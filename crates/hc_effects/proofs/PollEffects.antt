@@ -1,4 +1,9 @@
 -- What a poll does after which its consumer stays: its acts, what it leaves as it was, and its consumer.
+--
+-- A poll whose consumer stays closes nothing (`closes_none`), and the acts are just those of its move (`said_is`). To
+-- others nothing is said, so they stay, or start over where they wait for what goes. So the tables are told by three
+-- things: what the move makes of the consumer, of exchanges, and of what was used. `poll_does` joins these; effects of
+-- a wait, an opening, a head and bytes are uses of it.
 use Rattle.std.{proofs.{lemmas.Bool.Decides.{nat_tests}, Common.{arith, ◌≡◌, ℕ, List, [], ◌++◌, false, Option, Some, None, refl, ap, ◌∙◌, subst}}, specs.Prelude.{nat_eq, if◌then◌else◌, map}}
 use Rattle.hc_sparse.specs.declared.run.Run.{Run}
 use Rattle.hc_effects.proofs.Vocabulary.{opening_in, closes_in, evicts_in, Act, Need, Wait, Why, Event, Request, Response, Limits, Place, loses_in, misreads_in, leaver_in, accepted_acts, answer_acts, closing, consumer_after, consumer_acted, bypass_key, Does, with_event, with_consumer, let_all_go, Entry, exchange_after, NoFlaw, becomes_gone, goes_in, Lawful, Move, Asks, Opens, Shows, Gives, acts_of, move_of, poll_move, reads, Tables, Exchange, Representation, Consumer, loses_what_it_waits_for, after_accepted, opened_after, openings_after, to_front, binds, act, place}

@@ -1,9 +1,9 @@
 -- A poll opens a hole only where it is absent and no other exchange is about it.
 --
--- A poll opens a hole for who is bound, where it stands, or for one that reads alone; by its plan the first hole of
--- what it wants isn't there. So the positions of the hole are absent (`hole_absent_at`): none is stored, and of what is
--- lost nothing is held (`not_come`). And no other exchange is about it (`hole_alone_at`). `poll_well` says so of a
--- poll, from which `poll_one_about` follows.
+-- A poll opens a hole by a plan, where nobody is bound, for the first one of what is wanted; or for a reader, where it
+-- stands. So the positions of the hole are absent (`hole_absent_at`): none is stored, and of what is lost nothing is
+-- held (`not_come`). And no other exchange is about it (`hole_alone_at`). `poll_well` says so of a poll, from which
+-- `poll_one_about` follows by the lemmas on quiet events.
 use Rattle.std.{proofs.{lemmas.Bool.Decides.{nat_tests}, Common.{◌≡◌, inl, inr, ℕ, ◌+◌, ◌<◌, ◌≤◌, List, [], ◌∷◌, ◌++◌, Bool, true, false, cond, Option, Some, None, refl, ap, sym, ◌∙◌, subst, arith}}, specs.Prelude.{find, map, ◌&&◌}}
 use Rattle.hc_text.proofs.Basics.{and_right, both_true as and_true, bool_cases, not_true, same_some as same_row, some_inj}
 use Rattle.hc_sparse.specs.{Cells.{Cells, Cell}, Stretch.{stretch}}

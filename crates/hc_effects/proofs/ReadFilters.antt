@@ -1,4 +1,9 @@
 -- What a consumer was shown and given is a filter of the list of entries.
+--
+-- Of who hasn't started an entry says nothing (`far_owed`). So what a consumer was given grows by what each entry gives
+-- it (`given_after`, `given_step`). Whether it was shown a head is told by those entries that show it one
+-- (`shown_after`, `shows_are`). A denied entry does neither. By induction over a run `offsets_are` and `shown_are`
+-- follow, and `consumers_are_filtered` adds request and start.
 use Rattle.std.{proofs.{lemmas.Bool.Decides.{nat_tests}, Common.{◌≡◌, inl, inr, ℕ, ◌+◌, List, [], ◌∷◌, ◌++◌, length, Bool, true, false, Option, Some, None, refl, ap, sym, ◌∙◌, length-append, arith}}, specs.{Prelude.{◌==◌, ◌||◌, ◌&&◌, not, is_none}, Option.{option_map_or}}}
 use Rattle.hc_text.proofs.Basics.{bool_cases}
 use Rattle.hc_effects.proofs.Vocabulary.{is_denied, given_in, shows_in, Event, Act, Limits, Entry, History, Contents, flaw_in, Tables, Consumer, starts_over, consumer_after, consumer_made, consumer_heard, consumer_acted, tables, after, IsRun, IsOwed, Shown, first, given_of, shown_of, shown_in, act}

@@ -1,8 +1,8 @@
 -- Whoever is shown a head by its plan is shown what is current: all that its writing brings, or what is stored.
 --
--- What a plan sees is what is current for the key (`IsCandidate`, `candidate_is`). A plan that shows a head joins a
--- writing, where all of that is wanted (`joined`), or reads an interval that is stored, where nobody writes it alone
--- (`read`). No other plan does (`by_plan`). Who reads nothing yet is shown a head by its plan alone (`by_move`).
+-- What a plan sees is what is current for the key (`IsCandidate`, `candidate_is`). Two plans show a head: one joins a
+-- writing, where all of that is wanted (`joined`). The other reads an interval that is stored, where nobody writes it
+-- alone (`read`). No other plan does (`by_plan`). Who reads nothing yet is shown a head by its plan alone (`by_move`).
 -- `shown_from` says that of the move; laws of readers use it.
 use Rattle.std.{proofs.{lemmas.Bool.Decides.{nat_tests}, Common.{arith, ◌≡◌, ℕ, ◌+◌, Bool, true, false, Option, Some, None, refl, ap, sym, ◌∙◌}}, specs.Option.{option_map}}
 use Rattle.hc_text.proofs.Basics.{not_some as none_some, same_some as same_row, some_inj}

@@ -1,4 +1,4 @@
--- Who survives the loss of a shared writing goes on alone: it stands where its exchange goes on, and nothing past that came.
+-- Who survives the loss of a shared writing goes on alone, from where its exchange goes on; nothing past that came.
 --
 -- The survivor is one whose position is where what is stored ends (`survivor_offset`). It goes on reading, and the
 -- exchange of the writing is left to it, which has its head and feeds what it reads. While the writing was on its front

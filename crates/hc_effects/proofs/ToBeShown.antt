@@ -1,9 +1,9 @@
 -- Whoever is bound and wasn't shown a head is to be shown one: it founded, its first hole joined, or it waits for that.
 --
--- By how it became bound. Who waits for the head of its first hole has most work. Few cases of a head are possible then
--- (`first_case`), and by each it is shown the head, sent back or no longer bound there (`by_case`). Any other event
--- leaves it waiting (`others`), and the acts don't move it (`heard_place`). Who opens for a first hole now waits for it
--- (`opened_waits`). `unshown_kept` joins these.
+-- By how it became bound. Who waits for the head of its first hole has the most work. Few cases of a head are possible
+-- then (`first_case`), and by each it is shown the head, sent back or no longer bound there (`by_case`). Any other
+-- event leaves it waiting (`others`), and the acts don't move it (`heard_place`). Who opens for a first hole now waits
+-- for it (`opened_waits`). `unshown_kept` joins these.
 use Rattle.std.{proofs.{Common.{◌≡◌, ◌⊎◌, inl, inr, ℕ, List, length, Bool, true, false, Option, Some, None, refl, ap, sym, ◌∙◌, subst, arith}, lemmas.Bool.Decides.{nat_tests}}, specs.{Prelude.{if◌then◌else◌, is_some, is_none, ◌&&◌, ◌==◌, not, nat_eq}, Option.{option_and_then}}}
 use Rattle.hc_text.proofs.Basics.{not_some as none_some, same_some as same_row, some_inj}
 use Rattle.hc_effects.proofs.Vocabulary.{Opening, opening_in, leaves_in, shows_in, Event, Response, Wait, HeadCase, head_case, route_of, Place, BoundBy, Showing, has_loss, showing_in, wait_in, case_at, head_view, was_shown, is_joining, consumer_heard, by_head, by_fault, place_by_case, by_opening, shown_place, waiting, waiting_place, own_after, denial, as_open, Entry, exchange_opened, exchange_in, exchange_at, is_for, is_headless, is_open, entry_of, IsAwaiting, has_joined, own_open, if_open, bound_to, Tables, Exchange, Consumer, IsToBeShown, starts_over, sends_back, after_accepted, piece_refusal, event, cause, case, route, by}

@@ -1,8 +1,8 @@
 -- What heads tell is below 2^62: positions and lengths. So what is promised ends by 2^62.
 --
--- A number of a header has as many digits as its grammar allows, so it is small; a part that a text spells has such
--- positions (`spelled_early`, `range_early`). A length is told by Content-Length, by a part, or by neither, and ends
--- early in each (`length_early`). So does what an exchange promises (`promise_early`). What founds tells its total by a
+-- A number is read only if it is below 2^62; so positions and totals of a part that a text spells are (`spelled_early`,
+-- `range_early`), and a Content-Length (`told_early`). A length is told by one of these or by none, and ends early in
+-- each case (`length_early`). So does what an exchange promises (`promise_early`). What founds tells its total by a
 -- whole body or by a part (`founded_early`).
 use Rattle.std.{proofs.{lemmas.Bool.Decides.{nat_tests}, Common.{◌≡◌, ◌≤◌, ◌<◌, inl, inr, ℕ, ◌+◌, ◌-◌, ◌^◌, List, [], ◌∷◌, codes, Bool, false, Option, Some, None, refl, arith}}, specs.Prelude.{if◌then◌else◌, ◌==◌, option_and_then}}
 use Rattle.hc_text.proofs.Basics.{bool_cases, not_some as none_some, some_inj}

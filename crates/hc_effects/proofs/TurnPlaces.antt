@@ -1,9 +1,9 @@
 -- Where a consumer's place comes from, as far as it waits.
 --
 -- `ComesFrom` tells why a consumer stands at a place: it stood there, the place is plain, or what brought it there. A
--- consumer is followed through an entry: the cases of a head (`by_case`), the other events (`heard_from`), then what it
--- is told to wait for (`waits_from`), what is opened for it, and what it is shown (`shown_from`). `acted_from` joins
--- these, and `is_after` adds who starts over.
+-- consumer is followed through an entry: by the cases of a head (`by_case`) and the other events (`heard_from`). Then
+-- come what it is told to wait for (`waits_from`), what is opened for it, and what it is shown (`shown_from`).
+-- `acted_from` joins these, and `is_after` adds who starts over.
 use Rattle.std.{proofs.{lemmas.Bool.Decides.{nat_tests}, Common.{arith, ◌≡◌, ℕ, Bool, true, false, Option, Some, None, refl, ap, sym, ◌∙◌, subst}}, specs.Prelude.{◌&&◌, ◌||◌, ◌==◌, not, is_none, if◌then◌else◌}}
 use Rattle.hc_text.proofs.Basics.{eq_tells as eq_is, some_inj}
 use Rattle.hc_effects.proofs.Vocabulary.{Opening, opening_in, leaves_in, shows_in, Wait, Event, Response, Request, HeadCase, Route, Wanted, route_of, wanted_of, range_of, Place, wait_in, Showing, showing_in, case_at, bound_to_wanted, place_by_case, passed_on, by_head, by_fault, by_opening, consumer_after, consumer_acted, consumer_heard, waiting, waiting_place, passed_by, kept_by, opened_place, place_for_hole, unless_bound, shown_place, due_after, back_in_line, current, row_of, Entry, founded_total, reads, bound_to, Tables, Exchange, Representation, Consumer, starts_over, wait, event, case, route, wanted, by}

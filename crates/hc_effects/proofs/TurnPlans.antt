@@ -1,9 +1,9 @@
 -- What a plan comes to, and why: who fetches has the turn, and who waits for a body may read what is current.
 --
 -- `Planned` has a constructor for each plan, with what is known by it. A plan is gone through as it is made: past the
--- store, from the store alone, and else in the line (`by_queue`), where what is current is looked at by whether it
+-- store, from the store alone, and else in the line (`by_queue`). There what is current is looked at, by whether it
 -- answers the request too (`by_vary`). Who isn't let through has the turn (`turn_by`), and who was let through and goes
--- back kept no 304 (`kept_none`). `plan_is` joins these; moves are told by it.
+-- back kept no 304 (`kept_none`). `plan_is` joins these.
 use Rattle.std.{proofs.{lemmas.Bool.Decides.{nat_tests}, Common.{arith, ◌≡◌, ℕ, Bool, true, false, Option, Some, None, refl, ap, sym, ◌∙◌}}, specs.Prelude.{◌&&◌, ◌||◌, ◌==◌, not, is_none, if◌then◌else◌}}
 use Rattle.hc_text.proofs.Basics.{and_left, and_right as and_then, eq_tells as eq_is, not_true as not_same}
 use Rattle.hc_effects.proofs.Vocabulary.{Need, Why, Candidate, Plan, PlanView, Wanted, route_of, plan_of, bare_plan, queues, is_back, by_current, by_why, why_by, by_wanted, by_exclusive, by_hole, by_bound, in_time, from_store, need, route, plan, wanted}

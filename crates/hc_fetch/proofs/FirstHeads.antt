@@ -1,7 +1,8 @@
 -- The first consumer is alone before its first head, and what that tells.
 --
--- At the beginning it starts alone (`begun`), and each event of the input keeps it so (`lone_before`). The head that it is shown first is
--- that of a poll (`shower`), so what is known of what is shown first holds of it (`first_told`).
+-- At the beginning it starts alone (`begun`), and each event of the input keeps it so (`lone_before`). The head that it
+-- is shown first is that of a poll (`shower`), so what is known of what is shown first holds of it (`first_told`). A
+-- poll shows a head to its own consumer alone, by its move (`shower_of`); what other acts tell is no head.
 use Rattle.std.{proofs.Common.{◌≡◌, inl, inr, ℕ, List, [], ◌∷◌, ◌++◌, Bool, true, false, Option, Some, None, refl, ap, sym, ◌∙◌, subst}, specs.{Prelude.{◌==◌, ◌&&◌, is_none, if◌then◌else◌}, Option.{option_or}}}
 use Rattle.hc_text.proofs.Basics.{bool_cases, not_some as none_some, some_inj}
 use Rattle.hc_effects.proofs.Vocabulary.{is_denied, shows_in, Act, Why, Event, Response, Limits, answer_acts, may_begin, case_of, consumer_after, new_consumer, current, Entry, History, no_contents, entry_without_acts, exchange_after, Flaw, flaw_in, Shown, shown_in, Move, Nothing, Asks, Opens, Shows, Gives, Ends, Fails, acts_of, move_of, Says, representation_after, Tables, Consumer, IsRun, tables, after_accepted, act, cause, wait, event, place}

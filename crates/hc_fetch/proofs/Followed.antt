@@ -1,7 +1,8 @@
 -- What the course of a fetch leads to.
 --
--- By induction on its events: where nothing was decided, the fetch stands for them (`at_open`); else the last one decided
--- (`at_decision`), or is foreign and wasn't stepped (`at_foreign`). What was told is what is written of them.
+-- By induction on its events: where nothing was decided, the fetch stands for them (`at_open`); else the last one
+-- decided (`at_decision`), or is foreign and wasn't stepped (`at_foreign`). What was told is what is written of them.
+-- `one_more` is the step of that induction, and `followed` is for the whole course.
 use Rattle.std.{proofs.Common.{◌≡◌, ℕ, ◌+◌, List, [], ◌∷◌, ◌++◌, length, drop, Bool, true, false, Option, Some, None, refl, ap, sym, ◌∙◌, subst}, specs.Prelude.{is_some}}
 use Rattle.hc_text.proofs.Basics.{drop-whole as drop_front}
 use Rattle.hc_sched.specs.declared.schedule.Timed.{Timed}

@@ -1,7 +1,8 @@
 -- The fetch's own consumers start in its cache.
 --
--- A start of the next consumer, where fewer than 1,024 started, is answered by nothing (`own_start`): so the first one starts where nothing
--- happened yet (`begins_first`), and the others one after another (`StartsOn`).
+-- A start of the next consumer, where fewer than 1,024 started, is answered by nothing (`own_start`): so the first one
+-- starts where nothing happened yet (`begins_first`), and the others one after another (`StartsOn`). `all_starts` says
+-- that all others started, `begins_none` and `begins_one` what starts before an event.
 use Rattle.std.{proofs.{Common.{◌≡◌, ℕ, zero, suc, ◌+◌, ◌-◌, ◌*◌, ◌<◌, ◌≤◌, List, [], ◌∷◌, ◌++◌, length, Bool, true, false, Option, Some, None, refl, ap, sym, ◌∙◌, subst, arith, min, max, ◌/◌}, lemmas.Bool.Decides.{nat_tests}}, specs.Prelude.{if◌then◌else◌, ◌==◌}}
 use Rattle.hc_effects.proofs.Vocabulary.{Act, Request, Limits, Entry, History, no_contents, entry_without_acts, failures_in, IsOwed, tables}
 use Rattle.hc_event.specs.declared.event.Event.TheVariants as event

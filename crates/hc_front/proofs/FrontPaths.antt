@@ -1,7 +1,8 @@
 -- A step of the front, by what its code did: the acts that its cache appended, what it keeps, and what is counted.
 --
--- Each way is one of FrontAnswered, with the acts that the cache appended as what was heard. What the cache says of the key of a
--- request is what the definitions ask (`watched_by_kind`).
+-- Each way is one of FrontAnswered, with the acts that the cache appended as what was heard. What the cache says of the
+-- key of a request is what the definitions ask (`watched_none`, `watched_some`). `has_passed`, `has_watched` and
+-- `has_told` are such ways; `started_at`, `polled_at` and `told_at` are the same for the code.
 use Rattle.std.{proofs.{Common.{◌≡◌, ℕ, ◌+◌, ◌-◌, ◌≤◌, Bool, true, false, List, [], ◌∷◌, ◌++◌, length, take, drop, map, Option, Some, None, refl, sym, ap, ◌∙◌, subst, arith}, lemmas.List.{append_assoc, length-append}, Math.Seq.{take-append_seam, drop-append_seam, take-length}}, specs.{Prelude.{◌&&◌, not, codes, is_some, is_none, option_map, Result, Ok, Err, OnOk, OnErr, IfOk}, List.{list_any}}}
 use Rattle.hc_fields.specs.FieldList.{without}
 use Rattle.hc_validate.proofs.Settings.{length-without, size_of-without}

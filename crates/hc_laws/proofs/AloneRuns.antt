@@ -1,4 +1,9 @@
 -- Who writes alone is the only one that is bound, in every run.
+--
+-- That others are bound beside who came alone only where it rests is kept by another file, and carried here
+-- (`lone_in_runs`). Who writes alone has more to come, so it doesn't rest: nobody else is bound (`others_not`). So of
+-- the consumers in order it alone passes the test (`one_passes`), and the list of who is bound is that one (`only_by`).
+-- Who is exclusive lacks something, and the other way (`writes_by`).
 use Rattle.std.{proofs.Common.{◌≡◌, ◌<◌, inl, inr, ℕ, ◌+◌, List, [], ◌∷◌, Bool, true, false, Option, Some, None, refl, ap, sym, ◌∙◌, arith}, specs.Prelude.{◌↔◌, filter, is_some, is_none}}
 use Rattle.hc_text.proofs.Basics.{all_three, bool_cases, not_some as none_some, same_some as same_row}
 use Rattle.hc_effects.proofs.Vocabulary.{Cause, Entry, covers, OfRuns, Descends, InOrder, is_written, is_bound, is_bound_place, bound, offset, Tables, Representation, Consumer, Sound, Among, IsBound, IsFirst, tables, after_denied, came_alone, exclusive, has_more, place}

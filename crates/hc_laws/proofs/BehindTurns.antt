@@ -3,7 +3,7 @@
 -- Of plans only that of a wait names somebody, and that is another who has the turn (`bound_fine`, `bare_fine`,
 -- `behind_turn`). Who has the turn is who holds it, or the least in line, so it stands in the line of its key
 -- (`turn_stands`). With one more in the line the least may be that one; if it isn't, it was the least without it
--- (`another`, `turn_without`). The law that waits end uses these.
+-- (`another`, `turn_without`). ChainRuns follows waits by these.
 use Rattle.std.{proofs.Common.{◌≡◌, inl, inr, ℕ, List, Bool, true, false, Option, Some, None, refl, ap, sym, ◌∙◌, arith}, specs.{Prelude.{◌+◌, is_none, min, nat_le, nat_eq, not, unwrap_or, ◌&&◌}, Option.{option_or}}}
 use Rattle.hc_text.proofs.Basics.{and_left, and_right, either, not_true}
 use Rattle.hc_effects.proofs.Vocabulary.{need, plan, wanted, place, Why, Candidate, Plan, PlanView, Wanted, least, lesser, plan_of, bare_plan, in_time, from_store, queues, by_current, by_why, by_wanted, by_exclusive, by_hole, by_bound, why_by, is_disabled, is_only, Place, is_live_place, turn, turn_with, holder, holds_turn, line, is_in_line, stands_in_line, Tables, Consumer, Among}

@@ -1,4 +1,9 @@
 -- Who waits for its head with the turn, or is bound, isn't past the store.
+--
+-- Who starts stands in the line (`starts_line`). An exchange with another route than past the store is opened for a
+-- request that isn't disabled (`by_way`, `opens_cached`); so that of who has the turn isn't (`turn_from`). By how it
+-- became bound: it was, it founds and waited so before (`founds_cached`), its first hole is opened, or a plan shows it
+-- what is current. `bound_cached` goes by these, and `cached_kept` joins both.
 use Rattle.std.proofs.Common.{◌≡◌, inl, inr, ℕ, true, false, Option, Some, None, refl, ap, sym, ◌∙◌, subst}
 use Rattle.hc_text.proofs.Basics.{not_some as none_some, same_some as same_row, some_inj}
 use Rattle.hc_effects.proofs.Vocabulary.{Opening, opening_in, Event, Response, head_case, route_of, is_disabled, Place, BoundBy, has_loss, case_at, head_view, is_founding, consumer_after, consumer_made, Entry, entry_of, IsAwaiting, reads, Tables, Exchange, Consumer, after_accepted, event, route, place}

@@ -3,7 +3,7 @@
 -- By how the exclusive writer became bound (`by_way`). Who was bound keeps its exchange (`kept_own`), opens one
 -- (`opened_own`), or is left that of a writing, to whose front it was given all (`left_own`, `survived`). Who founds
 -- has the exchange of the head, which begins no later than it reads (`founded`). Before a first hole all is stored
--- (`opens_first`). Who is shown what is current is short (`shown`). `covered_kept` joins these.
+-- (`opens_first`). Who is shown what is current doesn't write alone (`shown`). `covered_kept` joins these.
 use Rattle.std.{proofs.Common.{◌≡◌, ◌⊎◌, inl, inr, ℕ, ◌+◌, ◌≤◌, true, false, Option, Some, None, refl, ap, sym, ◌∙◌, subst, arith}, specs.Prelude.{is_some, nat_eq}}
 use Rattle.hc_text.proofs.Basics.{and_left, not_some as none_some, same_some as same_row, some_inj}
 use Rattle.hc_sparse.specs.Cells.{Covers}

@@ -1,9 +1,9 @@
 -- Who becomes bound as the only one has all up to where its exchange goes on: nothing, or what is before its hole.
 --
 -- A part that founds begins where its consumer reads (`IsPartFrom`, `begins_by`), and a whole body at its first
--- position. So what its head founds goes on from there at most (`whole`, `part`, `founds_within`). For a first hole an
--- exchange is opened where the hole begins, and all that is wanted before it is stored (`hole_begins`). CoversKept
--- takes these for who becomes bound now.
+-- position. So the front of what its head founds is at most there (`whole`, `part`, `founds_within`). A first hole
+-- begins no earlier than its consumer reads (`hole_begins`), and all of the span before it is stored. CoversKept takes
+-- these for who becomes bound now; the law of fronts uses `founds_from`.
 use Rattle.std.{proofs.{Common.{◌≡◌, ℕ, ◌-◌, ◌≤◌, List, [], length, Bool, true, false, Option, Some, None, refl, ap, sym, ◌∙◌, subst, arith, min}, lemmas.Bool.Decides.{nat_tests}}, specs.Prelude.{is_some, is_none, nat_eq}}
 use Rattle.hc_text.proofs.Basics.{and_left, and_right, not_some as none_some, number_not, same_some as same_row, some_inj}
 use Rattle.hc_sparse.specs.Cells.{Cell, Covers}

@@ -1,9 +1,9 @@
 -- As long as nothing is due for the one that became bound alone, nothing is due for whoever reads beside it.
 --
 -- Who isn't bound and reads nothing has nothing due (`idle_kept`), and a poll makes nothing due (`poll_undue`). Beside
--- who came alone another has no open exchange of its own (`no_own`), and waits for no head (`no_waiter`). So nothing
--- that stops is its source, but what is the source of the first too, where that would have a failure due (`stop_by`).
--- Nothing is lost either. `beside` joins these.
+-- who came alone another has no open exchange of its own (`no_own`), and waits for no head (`no_waiter`). So it reads
+-- from the writing, as the first one does, to which nothing becomes due; or from nothing (`stop_by`). Nothing is lost
+-- either. `beside` joins these.
 use Rattle.std.{proofs.Common.{◌≡◌, inl, inr, ℕ, Bool, true, false, cond, Option, Some, None, refl, ap, sym, ◌∙◌}, specs.{Prelude.{if◌then◌else◌, ◌&&◌}, Option.{option_or}}}
 use Rattle.hc_text.proofs.Basics.{and_left, and_right, not_some as none_some, never_true as not_so, same_some as same_row, some_inj}
 use Rattle.hc_effects.proofs.Vocabulary.{Event, Response, Cause, is_same_number, Place, loses_in, case_at, consumer_heard, consumer_acted, consumer_made, consumer_after, back_in_line, Entry, exchange_in, is_for, is_open, becomes_due, cause_of_stop, cause_of_loss, cause_by_loss, cause_of_head, cause_by_case, stop_cause, entry_of, is_written, own_open, source, shared_exchange, writing_in, reads, Tables, Exchange, Representation, Consumer, IsBound, IsFirst, IsExclusiveWriter, starts_over, after_accepted, loses_writing, brings_body, event, place}

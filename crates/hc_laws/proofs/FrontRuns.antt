@@ -2,8 +2,8 @@
 --
 -- By how it is bound now (`begins_by`). Who was bound keeps an exchange that goes on from where it did (`kept_own`), or
 -- opens one for a hole ahead (`later_opened`). The most work is a writing that is left to it, at whose front it stands
--- (`survived`). Who founds, or has its first hole opened, begins there (`founded`, `opens_first`); who is shown what is
--- current has no exchange (`not_mine`). `fronts_kept` joins these.
+-- (`survived`). Who founds, or has its first hole opened, reads from there or before (`founded`, `opens_first`). Who is
+-- shown what is current has no open exchange (`not_mine`). `fronts_kept` joins these.
 use Rattle.std.{proofs.Common.{◌≡◌, ◌⊎◌, inl, inr, ℕ, ◌+◌, ◌≤◌, List, length, true, false, Option, Some, None, refl, ap, sym, ◌∙◌, subst, arith, length-append}, specs.{Prelude.{is_some}, Option.{option_and_then}}}
 use Rattle.hc_text.proofs.Basics.{and_left, and_right, not_some as none_some, same_some as same_row, some_inj}
 use Rattle.hc_effects.proofs.Vocabulary.{Opening, opening_in, Response, Limits, base_of, route_of, BoundBy, Showing, showing_in, case_at, consumer_heard, waiting, by_opening, Entry, base, front, is_headless, goes_on_at, if_headless, entry_of, OfRuns, OfRunsIn, Measures, IsReading, reads, offset, lo_of, bound_to, hole_start, Tables, Exchange, Representation, Consumer, after_accepted, brings_body, event, route, place}

@@ -1,7 +1,7 @@
 -- One exchange at most brings a representation, and where it stops nothing brings it any more, in every run.
 --
 -- Whatever exchange brings a representation is about it (`grows_of`, `about_of`), and one at most is. So where one
--- brings it the tables say that it grows (`grows_by`), and else its length is known or it is all there (`known_by`);
+-- brings it the tables say that it grows (`grows_by`), and where they don't its length is known (`known_by`);
 -- `growing_by` joins these. At an entry, what brings it afterwards was about it before (`by_headed`, `was_about`), so
 -- where that stops nothing else goes on with it (`stops_by`).
 use Rattle.std.{proofs.{Common.{◌≡◌, inl, inr, ℕ, List, [], ◌∷◌, Bool, true, false, Option, Some, None, refl, ap, sym, ◌∙◌, subst, arith}, lemmas.Bool.Decides.{nat_tests}}, specs.{Prelude.{if◌then◌else◌, is_some, ◌==◌, unwrap_or, nat_eq}, List.{list_any}}}

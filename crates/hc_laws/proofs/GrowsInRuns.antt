@@ -1,9 +1,9 @@
 -- What a body has stays, at each entry of a run: that of a representation, and that of an answer past the store.
 --
--- A representation keeps its bytes, as a piece comes where nothing was (`kept_grows`). An answer past the store has its
--- bytes in its exchange (`byte_of`), which keeps its base once it has a head, and whose body only grows (`by_brings`).
--- No representation of that number is founded later, which would hide it (`none_founded`). `grows` joins both for an
--- entry, and `bodies_grow_in_runs` for a run.
+-- A representation keeps its bytes, as a piece comes where nothing was (`kept_grows`). The bytes of an answer past the
+-- store are those of its exchange (`byte_of`). This keeps its base once it has a head, and its body only grows
+-- (`by_brings`). No representation of that number, which would hide it, is founded later (`none_founded`). `grows`
+-- joins both for an entry, and `bodies_grow_in_runs` for a run.
 use Rattle.std.{proofs.{Common.{◌≡◌, ◌⊎◌, inl, inr, ℕ, ◌+◌, ◌-◌, ◌<◌, ◌≤◌, List, ◌∷◌, ◌++◌, length, Bool, true, false, Option, Some, None, refl, ap, sym, ◌∙◌, subst, arith, length-append}, Math.ListN.{get_or-append}, lemmas.Bool.Decides.{nat_tests}}, specs.Prelude.{is_some, slice_index, ◌&&◌, nat_le, nat_lt}}
 use Rattle.hc_text.proofs.Basics.{bool_cases, not_some as none_some, same_some as same_row, some_inj}
 use Rattle.hc_sparse.specs.Cells.{Cell}

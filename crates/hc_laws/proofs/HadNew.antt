@@ -1,9 +1,9 @@
 -- Whose an exchange is that is opened for a hole, or whose head comes.
 --
--- Nothing becomes due at a poll, and who opens for a later hole was bound, so it is the exclusive writer of what it
--- reads (`later`, `exclusive_writer_quiet`). Who opens for a first hole was bound to nothing, and now reads alone
--- (`first`); it read nothing past the store either (`by_past`). `opened_had` joins the two by how the consumer is
--- bound, and `new_had` takes them for any exchange that is opened for a hole.
+-- At a poll nothing becomes due. Who opens for a later hole is the exclusive writer of what it reads already, and stays
+-- so (`later`, `exclusive_writer_quiet`). Who opens for a first hole opens it where nobody is bound, so it becomes the
+-- only one (`first`); it had nothing due, and didn't read past the store (`idle`, `by_past`). `opened_had` joins the
+-- two by how it is bound, and `new_had` is of any exchange that is opened for a hole.
 use Rattle.std.{proofs.Common.{◌≡◌, ℕ, Bool, true, false, Option, Some, None, refl, ap, sym, ◌∙◌, subst}, specs.Prelude.{is_some}}
 use Rattle.hc_text.proofs.Basics.{never_true, not_some as none_some, same_some as same_row, some_inj}
 use Rattle.hc_effects.proofs.Vocabulary.{Opening, opening_in, route_of, Place, BoundBy, loses_in, consumer_heard, consumer_acted, waiting, due_after, Entry, exchange_opened, aim_from, is_headless, becomes_due, entry_of, Measures, IsAwaiting, Awaits, IsPast, shows_at, shows_direct, move_of, if_headless, bound, bound_to, own_open, reads, Tables, Exchange, Representation, Consumer, IsBound, IsAbout, IsHad, IsExclusiveWriter, IsFirst, after_accepted, brings_body, came_alone, event, route, place}

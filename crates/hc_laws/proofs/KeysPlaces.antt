@@ -2,7 +2,7 @@
 --
 -- `PlaceIs` and `OwnIs` say what a place and an own exchange name. A consumer is followed through an entry: what the
 -- event makes of it, what the acts make of that, and whether it starts over. Both name only its own exchange, what that
--- was opened about, or what is current for its key (`shown_is`). The acts have most work (`acted_keyed`).
+-- was opened about, or what is current for its key (`shown_is`). The acts have the most work (`acted_keyed`).
 -- `keys_are_kept` adds the exchanges; at the beginning there are neither (`keys_begin`).
 use Rattle.std.{proofs.Common.{◌≡◌, ◌⊎◌, inl, inr, ℕ, List, [], ◌∷◌, ◌++◌, Bool, true, false, Option, Some, None, refl, ap, sym, ◌∙◌, subst, arith}, specs.{Prelude.{◌&&◌, ◌==◌, not, if◌then◌else◌, map, find, is_none}, Option.{option_or, option_map}}}
 use Rattle.hc_text.proofs.Basics.{eq_itself as eq-refl, eq_tells as eq_is, not_some as none_some, same_some as same_row, some_inj}

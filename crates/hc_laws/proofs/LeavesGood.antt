@@ -2,8 +2,8 @@
 --
 -- What makes it good is known of every run, and stands together in `IsSettled`. An item is what an idle representation
 -- comes to. Each condition on it follows from one of those laws: on its kind, its numbers and its head (`good_item`).
--- That no other item says its number has most work (`own_numbers`). All items together weigh no more than what fitted
--- (`weights_fit`). `leaves_good` takes the laws of a run.
+-- That no other item says its number has the most work (`own_numbers`). All items together weigh no more than what
+-- fitted (`weights_fit`). `leaves_good` takes the laws of a run.
 use Rattle.std.{proofs.{Common.{◌≡◌, ◌≢◌, inl, inr, ℕ, ◌+◌, ◌<◌, ◌≤◌, ◌^◌, List, [], ◌∷◌, length, Bool, true, false, Option, Some, None, refl, ap, sym, ◌∙◌, subst, arith}, lemmas.{Bool.Decides.{nat_tests}, List.Sums.{sum_by-cons}}}, specs.{Prelude.{is_some, nat_eq, nat_le, nat_lt, bytes_eq, ◌==◌, ◌&&◌, ◌||◌, not, filter, filter_map, reverse, option_map, if◌then◌else◌}, List.{list_any, sum_by}}}
 use Rattle.hc_text.proofs.Basics.{or_right, both_true as and_both, and_left, and_right, bool_cases, not_some as none_some, some_inj}
 use Rattle.hc_record.specs.declared.kind.Kind.TheVariants as kind

@@ -1,9 +1,9 @@
 -- Who is over stays so. So no more are live than may start, in every run.
 --
--- Of who is over each event is looked at. No exchange waits for it (`unawaited`), its own events are denied (`own`),
--- and a fault of what was opened for it doesn't make it start over (`unsent`). So it stays over (`stays_over`), and who
--- is live was so, or has just started (`was_live`). A start is denied where 1,024 are live (`starts_few`). So the count
--- stays within that (`few_kept`), in every run (`few_in_runs`).
+-- Of who is over each event is looked at. No exchange waits for it (`unawaited`), and its own events are denied
+-- (`own`). A fault of what was opened for it doesn't make it start over (`unsent`). So it stays over (`stays_over`),
+-- and who is live was so, or has just started (`was_live`). A start is denied where 1,024 are live (`starts_few`). So
+-- the count stays within that (`few_kept`), in every run (`few_in_runs`).
 use Rattle.std.{proofs.{Common.{◌≡◌, inl, inr, ℕ, ◌+◌, ◌<◌, ◌≤◌, List, [], ◌∷◌, length, Bool, true, false, Option, Some, None, refl, ap, sym, ◌∙◌, arith}, lemmas.Bool.Decides.{nat_tests}}, specs.Prelude.{filter, nat_eq, nat_lt, is_none, ◌||◌, not, if◌then◌else◌}}
 use Rattle.hc_text.proofs.Basics.{bool_cases, not_some as none_some, never_true as not_so, and_off as right_off}
 use Rattle.hc_event.specs.declared.act.Refusal.TheVariants as refusal

@@ -1,4 +1,9 @@
 -- What a store may begin with is measured: what came of a body ends at its reach, within its length.
+--
+-- There is no exchange yet, so only what is of a body is to be shown. Each item is good, so its runs rise, and its kind
+-- fits its length (`laid`). Where its runs end their last byte is there (`ends_tight`, `tight_of`), and that is within
+-- the length by its kind (`kind_within`, `within_of`). `measures_begin` joins these. That lengths are known, and that
+-- runs rise, is used by the laws of runs too.
 use Rattle.std.{proofs.{Common.{◌≡◌, ◌⊎◌, inl, inr, ℕ, ◌+◌, ◌<◌, ◌≤◌, List, [], ◌∷◌, length, Bool, true, Option, Some, None, refl, ap, sym, ◌∙◌, arith, max}, lemmas.Bool.Decides.{nat_tests}}, specs.Prelude.{is_some, find, nat_le, option_map, ◌==◌}}
 use Rattle.hc_text.proofs.Basics.{and_left, and_right, bool_cases, not_some as none_some, some_inj}
 use Rattle.hc_sparse.proofs.CellLemmas.{inside-cases}

@@ -1,9 +1,9 @@
 -- How large numbers become, in every run from contents whose lengths heads can tell.
 --
 -- What came of an exchange was received or promised, so its front is bounded (`front_by`). A reach grows by a piece,
--- which ends at such a front (`piece_ends`, `reach_by`), and a length is told by a head, or by an end there
--- (`total_by`, `ended_total`). `AreShortRows` is carried from contents with such lengths (`begun_short`, `short_kept`).
--- Where a consumer reads is within a length (`starts_by`). `numbers_by` joins these.
+-- which ends at such a front (`piece_ends`, `reach_by`). A length is told by a head, or by an end there (`total_by`,
+-- `ended_total`). `AreShortRows` is carried from contents with such lengths (`begun_short`, `short_kept`). Where a
+-- consumer reads is within a length (`starts_by`). `numbers_by` joins these.
 use Rattle.std.{proofs.Common.{◌≡◌, ◌<◌, ◌≤◌, ◌⊎◌, inl, inr, ℕ, ◌+◌, ◌^◌, List, [], ◌∷◌, length, length-append, Bool, true, false, Option, Some, None, refl, ap, sym, ◌∙◌, subst, arith}, specs.{Prelude.{option_map}, Option.{option_or}}}
 use Rattle.hc_text.proofs.Basics.{not_some as none_some, some_inj}
 use Rattle.hc_effects.proofs.Vocabulary.{is_denied, Event, base_of, Limits, BoundBy, may_begin, is_kind_right, Entry, History, Content, Contents, base, promised_bytes, front, item_of, Measures, Numbers, AreShort, Places, length_in, Tables, Exchange, Representation, Consumer, IsRun, Sound, tables, after_accepted, first_tables, representation_of_content, event, place}

@@ -1,9 +1,9 @@
 -- With what a store may begin, a number names the bytes of one body alone.
 --
--- Each item is good after those before it, so a number that it says is said by none of them (`not_before`). By
--- induction over the list two items with bytes of one number are one (`one_item`), and the item of that number is it
--- (`own_item`). Each byte of the first tables is one of an item (`byte_of`), and its number was given out (`range`).
--- `origins_begin` joins these.
+-- Each item is good after those before it, so a number that it says is said by none of them (`not_before`). So, by
+-- induction over the list, two items with bytes of one number are one (`one_item`). If there is an item of that number,
+-- it is this one (`own_item`). Each byte of the first tables is one of an item (`byte_of`), and its number was given
+-- out (`range`). `origins_begin` joins these.
 use Rattle.std.{proofs.{Common.{◌≡◌, inl, inr, ℕ, ◌-◌, ◌<◌, ◌≤◌, List, [], ◌∷◌, length, Bool, true, false, Option, Some, None, refl, ap, sym, ◌∙◌, arith}, lemmas.Bool.Decides.{nat_tests}}, specs.{Prelude.{is_some, find, nat_eq, nat_lt, option_map, ◌==◌}, List.{list_any, list_all}}}
 use Rattle.hc_text.proofs.Basics.{and_left, and_right, bool_cases, not_some as none_some, not_true, or_right, some_inj}
 use Rattle.hc_effects.proofs.Vocabulary.{Limits, may_begin, are_good, is_good, is_given_out, is_own_run, says, Content, Contents, HasByte, Origins, Representation, first_tables, representation_of_content}

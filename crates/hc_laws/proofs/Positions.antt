@@ -1,4 +1,9 @@
 -- At how many positions below a place something is.
+--
+-- All go by induction over positions. Past the end of what is there none is counted (`below_past`). Bytes that are
+-- written where nothing is add as many as they are (`below_written`, `below_put`); so runs that rise count as many
+-- positions as they have bytes (`bytes_below`). No more are counted than there are (`below_most`). All are exactly
+-- where each is there (`full_below`, `below_full`), and then no other is (`no_other_below`).
 use Rattle.std.{proofs.{Common.{◌≡◌, inl, inr, ℕ, zero, suc, ◌+◌, ◌-◌, ◌<◌, ◌≤◌, List, [], ◌∷◌, length, true, false, cond, None, refl, ap, sym, ◌∙◌, arith, min, max}, lemmas.{Bool.Decides.{nat_tests}, List.Sums.{sum_by-cons}}}, specs.Prelude.{is_some, nat_le, nat_lt}}
 use Rattle.hc_text.proofs.Basics.{and_left, and_right, bool_cases}
 use Rattle.hc_sparse.specs.{Cells.{Cells, Covers, EndsBy, AreAbsent, cells_with, size_below}, Runs.{cells_of, end_of}, declared.run.Run.{Run}}

@@ -1,9 +1,9 @@
 -- In every run what has no tag by which others could join it comes from its one exchange, or is all there.
 --
--- At an entry it is kept by `tags_kept`. At the beginning an item without a tag is good only if all its runs are of its
--- own number (`own_runs`), and if it is whole (`untagged`). A whole item has every position below its length: its runs
--- end where their bytes add up (`whole_by`, `all_there`). `tags_begin` joins these for the first tables, and
--- `tags_in_runs` carries it.
+-- At an entry it is kept by `tags_kept`. At the beginning a good item without a tag is whole, no 206, and all its runs
+-- are of its own number (`untagged`, `own_runs`). A whole item has every position below its length: its runs end where
+-- their bytes add up (`whole_by`, `all_there`). `tags_begin` joins these for the first tables, and `tags_in_runs`
+-- carries it.
 use Rattle.std.{proofs.{Common.{◌≡◌, ◌≢◌, inl, inr, ℕ, List, [], ◌∷◌, Bool, true, false, Option, Some, None, refl, ap, sym, ◌∙◌, arith}, lemmas.Bool.Decides.{nat_tests}}, specs.{Prelude.{is_some, ◌||◌, ◌==◌, not, nat_eq, find, option_map, if◌then◌else◌}, List.{list_any}}}
 use Rattle.hc_text.proofs.Basics.{and_left, and_right, not_some as none_some, not_false as not_no, some_inj}
 use Rattle.hc_record.specs.declared.kind.Kind.{Kind}

@@ -1,6 +1,6 @@
 -- A 304 that validates lets its consumer through: what is current stays so.
 --
--- The table of cases leads to this one in one way (`validated_on`). So the request was conditional and had the turn,
+-- Of the table of cases one test leads to this case (`validated_on`). So the request was conditional and had the turn,
 -- what it is about is still current, and nothing is lost (`valid_is`). Hence no writing goes by it and no exchange
 -- needs to be closed (`keeps_writing`, `free`), and as nothing is written nothing is evicted either (`write_none`). So
 -- nothing goes (`goes_none`). The law of turns needs that.

@@ -2,8 +2,8 @@
 --
 -- At most one exchange is of the turn, as two of one key have one consumer, which waits for one alone
 -- (`turns_are_one`). The parts of `Turns` are kept entry by entry. A headless exchange was headless or is new
--- (`was_headless`), and its consumer waits on (`stands_on`) or has just opened it. Who may pass has most work: it has
--- passed, waits for a busy one, or is let through by a 304 (`let_through`). `turns_kept` joins the parts.
+-- (`was_headless`), and its consumer waits on (`stands_on`) or has just opened it. Who may pass has the most work: it
+-- has passed, waits for a busy one, or is let through by a 304 (`let_through`). `turns_kept` joins the parts.
 use Rattle.std.{proofs.Common.{◌≡◌, ◌⊎◌, inl, inr, ℕ, List, [], ◌∷◌, ◌++◌, Bool, true, false, Option, Some, None, refl, ap, sym, ◌∙◌, subst}, specs.{Prelude.{length, ◌&&◌, ◌||◌, ◌==◌, not, is_none, is_some, if◌then◌else◌, filter, find, unwrap_or, bytes_eq}, Option.{option_or}}}
 use Rattle.hc_text.proofs.Basics.{and_left, and_right as and_then, bool_cases, eq_itself as eq-refl, not_some as none_some, never_true as not_true, or_cases, or_off_right as or_last, same_some as same_row, some_inj}
 use Rattle.hc_effects.proofs.Vocabulary.{Opening, opening_in, closes_in, leaves_in, shows_in, Act, Need, Wait, Event, Request, Response, least, route_of, head_refusal, is_bypassing, is_disabled, is_only, Route, Limits, Place, wait_in, fails_in, leaver_in, misreads_in, loss_acts, case_at, consumer_after, consumer_made, new_consumer, unless_bound, opened_place, current, is_usable, denial, as_open, bypassed_by, doomed_key_of, is_key, Entry, exchange_after, exchange_heard, exchange_acted, exchange_opened, aim_of, aim_from, is_headless, exchange_at, is_for, promised_bytes, is_reached, flaw_in, becomes_gone, goes_in, IsOfOneKey, entry_of, Turns, IsAwaited, StandsFor, HasPassed, HasOneTurn, turn, turn_with, holder, holds_turn, holds_place, line, is_in_line, stands_in_line, Move, acts_of, has_joined, bound_to, representation_after, representation_heard, representation_acted, Tables, Exchange, Representation, Consumer, Sound, Among, IsListed, OneCurrent, starts_over, loses_what_it_waits_for, sends_back, waits_at, after_accepted, need, wait, route, case, by, place}

@@ -2,8 +2,8 @@
 --
 -- By where the writing comes from (`by_rep`). While one is on its exchange neither ends nor faults, and nothing of it
 -- is lost; so nothing becomes due (`member_undue`). A head that founds or joins makes nothing due either (`no_cause`,
--- `head_undue`). Who reads what is resumed has waited for it alone (`resumed_undue`), and who founds has waited with
--- nothing due (`founder_undue`). `undue_kept` joins the three.
+-- `head_undue`). Who waited for a head that resumes had nothing due, and so nobody beside it (`resumed_undue`); who
+-- founds had nothing due too (`founder_undue`). `undue_kept` joins the three.
 use Rattle.std.{proofs.Common.{◌≡◌, inl, inr, ℕ, Bool, true, false, Option, Some, None, refl, ap, sym, ◌∙◌, subst}, specs.Prelude.{if◌then◌else◌, is_some, ◌||◌}}
 use Rattle.hc_text.proofs.Basics.{or_right, or_left, and_left, and_right, not_some as none_some, never_true as not_so, not_true, same_some as same_row, some_inj}
 use Rattle.hc_effects.proofs.Vocabulary.{Opening, opening_in, Event, Response, HeadCase, head_case, is_same_number, route_of, BoundBy, has_loss, loses_in, case_at, head_view, is_founding, is_joining, consumer_heard, consumer_acted, is_number, Entry, exchange_in, is_for, is_open, becomes_due, cause_of_stop, cause_of_loss, cause_of_head, cause_by_case, stop_cause, entry_of, IsAwaiting, is_written, source, reads, Tables, Exchange, Representation, Consumer, may_stand, IsBound, IsFirst, IsExclusiveWriter, after_accepted, loses_writing, event, case, route, place}

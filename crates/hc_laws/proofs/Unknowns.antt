@@ -1,9 +1,9 @@
 -- What isn't gone and has no known length is being written for several.
 --
--- At the beginning each item has a length or is of a kind that needs none (`unknown_begun`). What was there had no
--- known length before, and was being written. As it isn't gone and can't be completed later (`unkeepable`), its
--- exchange is the one that founded it (`mine`) and stays open (`still`): an end would tell the length, and else it
--- would go. What is founded without a length is written by its own exchange. `unknown_kept` joins both.
+-- At the beginning each item has a known length (`begun_known`). What was there had none before either, so it was being
+-- written. As it isn't gone and can't be completed later (`unkeepable`), its exchange is the one that founded it
+-- (`mine`). That stays open, since what is over and isn't gone is all there, and its length is known (`still`). What is
+-- founded without a length is written by its own exchange. `unknown_kept` joins both.
 use Rattle.std.{proofs.Common.{◌≡◌, ◌⊎◌, inl, inr, ℕ, ◌+◌, Bool, true, false, Option, Some, None, refl, ap, sym, ◌∙◌}, specs.Prelude.{is_some, ◌&&◌, ◌==◌, not, nat_lt, unwrap_or, option_map}}
 use Rattle.hc_text.proofs.Basics.{not_some as none_some, some_inj}
 use Rattle.hc_effects.proofs.Vocabulary.{Response, Limits, may_begin, is_kind_right, case_at, is_founding, Entry, Content, Contents, is_open, is_keepable, entry_of, item_of, AfterDenials, Measures, IsMeasured, is_written, covers, new_representation, asks_whole, hole_start, resumes, Tables, Exchange, Representation, IsGrowing, end_from, representation_of_content, first_tables, after_accepted, event}

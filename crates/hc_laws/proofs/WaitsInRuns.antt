@@ -1,9 +1,9 @@
--- No wait goes in a circle, in any run: what a wait is for waits for nobody, or is read by somebody.
+-- No wait goes in a circle, in any run: a reader past the store waits for nobody, and a busy one for a reader.
 --
--- Who reads past the store waits for nobody: its exchange is open or has all that it wants (`by_past`, `direct_goes`).
--- Who waits for a busy one waits for the exclusive writer or the least reader of what is current (`by_busy`). There is
--- such a reader: what is busy is written for several, or has no known length, and then it is read (`unknown_in_runs`).
--- `waits_end` joins these for `waits_in_runs`.
+-- Who reads past the store waits for no other consumer: it is shown its head, or waits for that (`by_past`,
+-- `direct_goes`). Who waits for a busy one waits for the exclusive writer or the least reader of what is current
+-- (`by_busy`). There is such a reader: what is busy is written for several, or has no known length, so that it is being
+-- written (`unknown_in_runs`). `waits_end` joins these for `waits_in_runs`.
 use Rattle.std.{proofs.Common.{◌≡◌, ◌≢◌, ◌⊎◌, inl, inr, ℕ, List, [], ◌∷◌, true, Option, Some, None, refl, ap, sym, ◌∙◌, subst}, specs.{Prelude.{is_some}, Option.{option_and_then}}}
 use Rattle.hc_effects.proofs.Vocabulary.{Wait, Response, Candidate, least, range_of, wanted_of, current, is_headless, OfRuns, WaitsEnd, WaitsForNobody, Owners, IsPast, plan_view, move_of, shows_at, shows_answer, shows_direct, if_headless, is_written, bound, own_open, Tables, Exchange, Representation, Consumer, Sound, IsBound, tables, wait, wanted, place}
 use Rattle.hc_model.specs.Moves as moves

@@ -1,7 +1,9 @@
--- Two states of the loop that are alike in some parts: what stands for the tables by these parts alone stays.
+-- Two states of the loop that are alike in some parts: what they represent by these parts alone stays.
 --
--- Each part of what is kept looks at a few fields: the cache at what was stepped and recorded, the clients at their table, the
--- connections to the origin at theirs, the wire at both and at what is to be closed. Where these fields are the same, so is that part.
+-- Each part of what is kept looks at a few fields. The cache looks at what was stepped and recorded, and the clients at
+-- their table. The connections to the origin look at theirs, and the wire at both and at what is to be closed. Where
+-- these fields are the same, so is that part. There is a lemma for each: `cache_moves`, `clients_move`,
+-- `upstreams_move` and `wire_moves`.
 use Rattle.std.{proofs.Common.{◌≡◌, ◌⊎◌, inl, inr, ◌≤◌, ◌<◌, ℕ, List, ◌+◌, ◌++◌, Option, Some, None, ap, sym, ◌∙◌, subst}, specs.Prelude.{Contains, IsSome}}
 use Rattle.hc_core.specs.Steps.{StandsFor, last_moment, limits_in, bytes_received}
 use Rattle.hc_effects.proofs.Vocabulary.{Act, no_contents}

@@ -1,7 +1,8 @@
 -- What stands before the last act or error answer of a client was taken at the call, or was so before the turn.
 --
--- In a turn a client is owed something more in three ways: a request of it is refused, which asks that it was sent all; or an act is
--- sent to it, by a poll that asked that too. All other changes leave what stands before as it is.
+-- In a turn a client is owed something more in three ways: a request of it is refused, which asks that it was sent all;
+-- or an act is sent to it, by a poll that asked that too. All other changes leave what stands before as it is. The
+-- steps of a turn follow one another: `handled_before`, `started_before`, `polled_before` and `carried_before`.
 use Rattle.std.{proofs.{Common.{◌≡◌, ◌≤◌, ◌⊎◌, inl, inr, ℕ, ◌+◌, List, [], ◌∷◌, ◌++◌, Bool, true, false, Option, Some, None, refl, ap, sym, ◌∙◌, subst, arith}, lemmas.Bool.Decides.{nat_tests}}, specs.Prelude.{◌&&◌, ◌||◌, not, nat_eq, nat_lt, length, is_none, if◌then◌else◌, option_map}}
 use Rattle.hc_effects.proofs.Vocabulary.{Act, Event, is_open, Limits, act, event}
 use Rattle.hc_head.specs.declared.message.WireRequest.{WireRequest}

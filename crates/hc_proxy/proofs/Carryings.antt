@@ -1,7 +1,8 @@
 -- An act is carried out: what the loop keeps before it and behind it.
 --
--- Tables, history and moment stay as they are. An act that is sent to a consumer changes one client, on both sides the same one.
--- One that asks for more puts the exchange into the lists. All that isn't carried out changes nothing.
+-- Tables, history and moment stay as they are. An act that is sent to a consumer changes one client, on both sides the
+-- same one. One that asks for more puts the exchange into the lists. All that isn't carried out changes nothing.
+-- `answer_goes` and `ask_goes` say that; `fails_before` is of an act that fails before anything is dialled.
 use Rattle.std.{proofs.{Common.{◌≡◌, inl, inr, ℕ, ◌+◌, List, [], ◌∷◌, Bool, true, false, Option, Some, None, refl, ap, sym, ◌∙◌, subst, arith, length, length-append}, lemmas.List.{append-nil}}, specs.{Prelude.{IsSome, Result, Ok, Err, OnErr}, Option.{is_some}}}
 use mathlib.Core.Path.{fun_ext}
 use Rattle.hc_effects.proofs.Vocabulary.{Act, Need, Request, act}

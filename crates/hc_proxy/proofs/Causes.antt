@@ -1,7 +1,8 @@
 -- Why a turn stops: the wire and the sink failed only where they counted that.
 --
--- Each step calls the wire alone, the sink alone, or neither. Where one of them fails it counts that, and where it doesn't nothing is
--- counted (their contracts). So the cause of a turn is that of the step that stopped it, and the loop ends by it.
+-- Each step calls the wire alone, the sink alone, or neither. Where one of them fails it counts that, and where it
+-- doesn't nothing is counted (their contracts). So the cause of a turn is that of the step that stopped it, and the
+-- loop ends by it. `by_wire`, `by_next` and `by_sink` are of such steps, `ends_sink` and `ends_wire_calm` of the loop.
 use Rattle.std.{proofs.Common.{◌≡◌, ℕ, Ok, Err, refl, ap, sym, ◌∙◌, subst}, specs.Prelude.{Result, IsErrAnd}}
 use Rattle.hc_io.specs.Faults as sink
 use Rattle.hc_io.specs.{Sink.{HasSinkCause}, declared.sink.SinkError.{SinkError}}

@@ -1,7 +1,8 @@
 -- Connections are closed, one after another: what the wire tells, if it tells anything.
 --
--- A connection that is closed has its taker shut, and its stage is that of a closed one; all others stand as before, and nothing is sent.
--- So what is said of some closes holds of one more, in any order, and of each first part of a list.
+-- A connection that is closed has its taker shut, and its stage is that of a closed one; all others stand as before,
+-- and nothing is sent. So what is said of some closes holds of one more, in any order, and of each first part of a
+-- list. `closes_none` and `closes_one` begin and go on; `closes_next` and `closes_all` are the same along a list.
 use Rattle.std.{proofs.{Common.{◌≡◌, ◌⊎◌, ℕ, List, [], ◌∷◌, ◌++◌, Bool, true, false, Option, Some, None, eqb, refl, sym, ap, ◌∙◌, inl, inr, subst, arith, get_or, take, length, ◌+◌, ◌<◌}, lemmas.{Bool.{cases_Bool, eqb-true}, List.{append-nil, take_more}}, Math.Seq.{take-length}}, specs.{Prelude.{nat_eq, ◌||◌, if◌then◌else◌}, List.{list_any}}}
 use Rattle.hc_wire.specs.{Events.{Stage, Unseen, Open, Closed, with_stage, closed_of}, Logs.{Log, Taker, Tells, stage_in, changed_at, shut, with_closed}}
 use Rattle.hc_wire.proofs.LogLemmas.{stages-changed, stage_shut}

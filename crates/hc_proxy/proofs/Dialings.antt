@@ -1,7 +1,9 @@
 -- An exchange is opened: a connection is dialled for it, whose number is new.
 --
--- The connection stands at the next place of those that were dialled, and its number names no other. It has taken nothing, and is
--- owed the request on both sides. All other connections stay as they are, and so do the clients and the tables.
+-- The connection stands at the next place of those that were dialled, and its number names no other. It has taken
+-- nothing, and is owed the request on both sides. All other connections stay as they are, and so do the clients and the
+-- tables. Whose number was handed out has another one (`other`), so each row of the tables is as it was; `opens_goes`
+-- joins them.
 use Rattle.std.{proofs.{Common.{◌≡◌, ◌⊎◌, inl, inr, ℕ, zero, suc, ◌+◌, ◌-◌, ◌≤◌, List, [], ◌∷◌, ◌++◌, Bool, true, false, Option, Some, None, refl, ap, sym, ◌∙◌, subst, arith, length, drop, eqb, length-append}, Math.Logic.{∥∥₁_elim}, lemmas.{List.Sums.{sum_by-cons}, Bool.{cases_Bool, Decides.{nat_tests}}}}, specs.{Prelude.{nat_eq, find, ◌&&◌, Ok, Err, IsSome, Contains, if◌then◌else◌}, List.{sum_by}, Str.{is_utf8}}}
 use Rattle.hc_effects.proofs.Vocabulary.{asks_in, closes_in, Act, Need, Request, is_open, is_wanted, act}
 use Rattle.hc_target.specs.Targets.{is_short_word, is_target}

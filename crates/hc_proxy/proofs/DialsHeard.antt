@@ -1,7 +1,9 @@
 -- Where a connection stands among the dials, what came of it, and whether it had ended.
 --
--- A connection has the place at which its number stands first. So it has that among fewer dials that reach so far, and among more. The
--- bytes of a call stand behind those of the calls before it, and what had ended before a call has ended behind it.
+-- A connection has the place at which its number stands first. So it has that among fewer dials that reach so far, and
+-- among more. The bytes of a call stand behind those of the calls before it, and what had ended before a call has ended
+-- behind it. `IsCutBy` is what is carried for an answer that ends by a close; no row comes before acts are carried out
+-- (`no_row`).
 use Rattle.std.{proofs.{Common.{◌≡◌, ◌≤◌, ◌<◌, ℕ, zero, suc, ◌+◌, ◌-◌, List, [], ◌∷◌, ◌++◌, Bool, true, false, Option, Some, None, refl, ap, ◌∙◌, arith}, lemmas.Bool.Decides.{nat_tests}}, specs.Prelude.{◌||◌, nat_eq, length, take, drop, Ok, Err, Contains, if◌then◌else◌, option_map}}
 use Rattle.hc_effects.proofs.Vocabulary.{Act, Event, Limits, event}
 use Rattle.hc_head.specs.declared.message.MsgError.TheVariants as error

@@ -1,7 +1,9 @@
 -- While something is done for one exchange: from a turn to that, and back.
 --
--- What is kept says nothing of this exchange beside what it has. An event of it, or one of no exchange, opens nothing and asks for
--- nothing. Of the other exchanges it closes some, which the acts tell, and all that are still open are wanted as they were.
+-- What is kept says nothing of this exchange beside what it has. An event of it, or one of no exchange, opens nothing
+-- and asks for nothing. Of the other exchanges it closes some, which the acts tell, and all that are still open are
+-- wanted as they were. `but_it` leads into it, `but_stepped` is a step there, and `done_all` leads back where the
+-- exchange has what is kept too (`IsDone`).
 use Rattle.std.{proofs.Common.{◌≡◌, ◌⊎◌, inl, inr, ◌≤◌, ℕ, ◌+◌, List, [], ◌++◌, length, Bool, true, false, Some, None, refl, ap, sym, ◌∙◌, subst, arith}, specs.{Prelude.{◌||◌, ◌&&◌, if◌then◌else◌, nat_eq, not, IsSome, Contains}, List.{list_all}}}
 use Rattle.hc_text.proofs.Basics.{or_right, true_false}
 use Rattle.hc_core.specs.Steps.{steps}

@@ -1,6 +1,9 @@
 -- An event comes of an open connection: what was kept before it is kept behind it.
 --
--- It says that an end was handed out, or changes no stage. So who was open is open, reading on as before, and no number is new.
+-- It says that an end was handed out, or changes no stage. So who was open is open, reading on as before, and no number
+-- is new. `Stays` says that of the stages (`stays_same`, `stays_ended`), and what is kept is read off it
+-- (`event_quiet`). The connection of the event is open, so what is to be done for it may be done (`event_at`). Room and
+-- quiet change nothing else (`room_goes`, `quiet_goes`).
 use Rattle.std.{proofs.{Common.{◌≡◌, ◌⊎◌, inl, inr, ◌≤◌, ℕ, ◌+◌, List, Bool, true, Option, Some, None, refl, ap, sym, ◌∙◌, subst, arith}, lemmas.Bool.Decides.{nat_tests}, Math.Logic.{∥∥₁_map, ∥∥₁_elim}}, specs.{Prelude.{nat_eq, not, if◌then◌else◌}, List.{list_all}}}
 use Rattle.hc_effects.proofs.Vocabulary.{Event, received_in}
 use Rattle.hc_effects.proofs.PieceKeeps.{eq_cases}

@@ -1,7 +1,9 @@
 -- What happened is written, carried out and sent, one behind another.
 --
--- What is written changes nothing of what is kept but how much of the record is left. The dials and closes of the acts send nothing, and
--- what is sent then is a first part of what is owed. So the turn may be cut short anywhere.
+-- What is written changes nothing of what is kept but how much of the record is left. The dials and closes of the acts
+-- send nothing, and what is sent then is a first part of what is owed. So the turn may be cut short anywhere.
+-- `written_keeps` is of the record, `cut_sending` of a turn that is cut short while it sends, and `finishes` of one
+-- that is made.
 use Rattle.std.{proofs.Common.{◌≡◌, ◌≤◌, ℕ, List, [], ◌∷◌, ◌++◌, Bool, true, false, Option, None, refl, ap, sym, ◌∙◌, arith, append-nil, length-append}, specs.Prelude.{nat_eq, length, map, reverse, option_map, if◌then◌else◌}}
 use Rattle.hc_io.specs.Sink.{Takes, TakesFront}
 use Rattle.hc_effects.proofs.Vocabulary.{History}

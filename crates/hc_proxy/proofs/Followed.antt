@@ -1,7 +1,8 @@
 -- A log follows its wire through each call.
 --
--- A change of one connection keeps its number, so the others are found as before, and no two have one number. A new connection has a
--- number that no other has, since the wire hands out such alone.
+-- A change of one connection keeps its number, so the others are found as before, and no two have one number. A new
+-- connection has a number that no other has, since the wire hands out such alone. So stage and bytes change at one
+-- number alone (`stage_changed`, `stage_new`, `sent_changed`); each kind of call is read off that.
 use Rattle.std.{proofs.{Common.{◌≡◌, ◌⊎◌, ℕ, List, [], ◌∷◌, ◌++◌, Bool, true, false, Option, Some, None, refl, ap, sym, ◌∙◌, subst, arith}, lemmas.Bool.Decides.{nat_tests}}, specs.{Prelude.{nat_eq, find, length, if◌then◌else◌, option_map}, Option.{option_or}}}
 use Rattle.hc_wire.specs.{Events.{Stage, Unseen, Open, Closed, Fresh, with_stage, closed_of, reading_of, ended_of, stages_after, IsOfOpen}, Logs.{Log, Taker, Tells, fresh, stage_of, is_numbered, stage_from, sent_from, stage_in, sent_in, changed_at, over, taking, reading, shut, with_call, with_dialled, with_sent, with_reading, with_closed}, declared.event.WireEvent.{WireEvent}}
 use Rattle.hc_wire.specs.declared.event.WireEvent.TheVariants as event

@@ -1,7 +1,8 @@
 -- Each act of a turn that is sent to a consumer finds its client, behind the acts before it.
 --
--- Before the polls nothing is sent. A poll tells one thing at most, and its consumer alone. The acts of the polls before are sent to
--- others, whose clients are others: so its client still waits for it when its own act is carried out.
+-- Before the polls nothing is sent. A poll tells one thing at most, and its consumer alone. The acts of the polls
+-- before are sent to others, whose clients are others: so its client still waits for it when its own act is carried
+-- out. `waits_on` is of the acts for others, `one_found` of those of one poll, `quiet_found` of those before the polls.
 use Rattle.std.{proofs.Common.{◌≡◌, ℕ, List, [], ◌∷◌, ◌++◌, true, false, Option, Some, None, refl, ap, sym, ◌∙◌, subst}, specs.Prelude.{is_some, if◌then◌else◌}}
 use Rattle.hc_effects.proofs.Vocabulary.{Act, told_to, tellings, IsOneTo, act}
 use Rattle.hc_proxy.specs.{Carrying.{answered, answers, carried_out, all_carried_out}, Invariants.{IsHolder}, Rows.{Client, Proxy, changed}}

@@ -1,7 +1,8 @@
--- Before the first turn nothing was handed out, nobody is connected, and nothing happened: so the loop rests at its unused tables.
+-- Before the first turn nothing was handed out and nothing happened: so the loop rests at its unused tables.
 --
--- The tables of the empty history have no exchange and no consumer, and count nothing. The tables of the code are empty too, and so is
--- the log. Most fields speak of a row that is there, of which there is none. The counts are 0.
+-- The tables of the empty history have no exchange and no consumer, and count nothing. The tables of the code are empty
+-- too, and so is the log. Most fields speak of a row that is there, of which there is none. The counts are 0.
+-- `rests_first` joins the cache, the connections and the wire.
 use Rattle.std.{proofs.Common.{◌≡◌, ℕ, zero, suc, ◌-◌, List, [], ◌++◌, length, drop, Bool, true, false, Some, None, refl, ap, sym, ◌∙◌, subst, arith}, specs.Prelude.{nat_eq, if◌then◌else◌, IsSome, Contains}}
 use Rattle.hc_text.proofs.Basics.{false_true, none_some}
 use Rattle.hc_core.specs.Steps.{last_moment, bytes_received}

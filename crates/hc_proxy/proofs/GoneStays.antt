@@ -1,7 +1,8 @@
 -- The row of a client that is gone stays as it is, whatever a turn does.
 --
--- What comes of its connection is dropped, and it isn't let go again. It isn't among the clients whose requests are read, and what is
--- read of others changes no row of it. What is sent to a consumer of it changes nothing.
+-- What comes of its connection is dropped, and it isn't let go again. It isn't among the clients whose requests are
+-- read, and what is read of others changes no row of it. What is sent to a consumer of it changes nothing. The steps of
+-- a turn are looked at one by one; `happened_has` and `carried_has` join them.
 use Rattle.std.{proofs.{Common.{◌≡◌, ℕ, List, [], ◌∷◌, Bool, true, false, Option, Some, None, refl, ap, sym, ◌∙◌, arith}, lemmas.Bool.Decides.{nat_tests}}, specs.Prelude.{◌&&◌, ◌||◌, not, nat_eq, nat_lt, length, filter, is_none, if◌then◌else◌, option_map}}
 use Rattle.hc_effects.proofs.Vocabulary.{Act, Event, is_open, Limits, act, event}
 use Rattle.hc_wire.specs.{Logs.{Called}, declared.event.WireEvent.{WireEvent}}

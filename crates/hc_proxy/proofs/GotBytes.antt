@@ -1,7 +1,8 @@
 -- Bytes came of a connection: of a client, where no exchange has it, or of an exchange.
 --
--- A connection that is open is a client's or an exchange's, and none is to be closed yet. So where no exchange has it, it is a client's,
--- whose number is that of none that was dialled.
+-- A connection that is open is a client's or an exchange's, and none is to be closed yet. So where no exchange has it,
+-- it is a client's, whose number is that of none that was dialled. `sent_goes` is of a client and `got_goes` of an
+-- exchange; `end_goes` and `break_goes` are of its end and its break.
 use Rattle.std.{proofs.{Common.{◌≡◌, inl, inr, ◌≤◌, ◌<◌, ℕ, ◌+◌, List, [], ◌++◌, length, Bool, true, false, Option, Some, None, refl, ap, sym, ◌∙◌, subst, arith}, Math.{Bridge.{le_prop}, Logic.{∥∥₁_map, ∥∥₁_elim}}, lemmas.{Bool.Decides.{nat_tests}, List.{length-append}}}, specs.{Prelude.{◌^◌, nat_lt, not, option_map, if◌then◌else◌, IsSome, Contains}, Option.{is_some}}}
 use Rattle.hc_text.proofs.Basics.{none_some, eq_itself as same_number, some_inj, true_false}
 use Rattle.hc_core.specs.Steps.{faults_in, steps, bytes_received}

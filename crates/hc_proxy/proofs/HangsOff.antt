@@ -1,7 +1,8 @@
 -- The connection of one exchange is hung up, which is over: the rows behind it, and the wire.
 --
--- The exchange has no row behind it, and all others keep theirs. The number of its connection is that of no client, since a client's
--- number is no exchange's, and that of no other exchange, since each number names one. So it is closed alone.
+-- The exchange has no row behind it, and all others keep theirs. The number of its connection is no client's, since a
+-- client's number is no exchange's. It is no other exchange's, since each number names one. So it is closed alone.
+-- `rows_left` is of the rows, `wire_left` of the wire.
 use Rattle.std.{proofs.{Common.{◌≡◌, ◌≢◌, ◌⊎◌, inl, inr, ◌≤◌, ℕ, zero, suc, [], ◌∷◌, length, true, false, Option, Some, None, refl, ap, sym, ◌∙◌, subst, arith}, lemmas.List.Elements.{Contains-append_left, Contains-append_right, Contains-append_cases}}, specs.Prelude.{nat_eq, Contains, IsSome}}
 use Rattle.hc_text.proofs.Basics.{none_some, eq_itself as same_number, some_inj, true_false}
 use Rattle.hc_effects.proofs.Vocabulary.{is_open}

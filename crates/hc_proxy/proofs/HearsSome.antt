@@ -1,7 +1,8 @@
 -- Whether one of the news brings something: then the step *network* would hand it to the cache, and else nothing.
 --
--- The code looks at the news alone. Where a part of an exchange is wanted it is open, and so it has a row of the code that is alike:
--- what the code tells of it is what the definitions say. Whoever is open and isn't among the news has nothing due, so it brings nothing.
+-- The code looks at the news alone. Where a part of an exchange is wanted it is open, and so it has a row of the code
+-- that is alike: what the code tells of it is what the definitions say. Whoever is open and isn't among the news has
+-- nothing due, so it brings nothing. `some_heard` is where one brings something, `none_heard` where none does.
 use Rattle.std.{proofs.{Common.{◌≡◌, ◌≤◌, ℕ, List, [], ◌∷◌, ◌++◌, length, Bool, true, false, Option, Some, None, refl, ap, sym, ◌∙◌, arith}, lemmas.Bool.Decides.{nat_tests}}, specs.{Prelude.{◌&&◌, ◌||◌, not, nat_eq, nat_lt}, List.{list_any}}}
 use Rattle.hc_text.proofs.Basics.{true_false}
 use Rattle.hc_effects.proofs.Vocabulary.{is_open, is_wanted, Lawful}

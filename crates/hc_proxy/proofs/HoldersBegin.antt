@@ -1,7 +1,8 @@
 -- Who waits at whom is kept where clients stay as they are, where one comes, and where a turn begins.
 --
--- A turn begins with no acts, so whoever is waited for must be live: so it is behind the acts of the turn before. A client whose
--- connection doesn't stand any more was to be closed, and waits for nobody.
+-- A turn begins with no acts, so whoever is waited for must be live: so it is behind the acts of the turn before. A
+-- client whose connection doesn't stand any more was to be closed, and waits for nobody. The three are `alike_keeps`,
+-- `comes_keeps` and `begin_keeps`.
 use Rattle.std.{proofs.Common.{◌≡◌, inl, inr, ℕ, zero, suc, List, [], ◌∷◌, Bool, true, false, Option, Some, None, refl, ap, sym, ◌∙◌, arith}, specs.{Prelude.{◌||◌, Contains, option_map, if◌then◌else◌}, List.{list_all}}}
 use Rattle.hc_text.proofs.Basics.{and_left, and_right, some_inj}
 use Rattle.hc_effects.proofs.Vocabulary.{Act, is_live, Tables}

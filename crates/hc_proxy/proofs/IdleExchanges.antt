@@ -1,7 +1,8 @@
 -- The step *network* goes through those exchanges alone of which something is to be handed to the cache.
 --
--- An exchange is idle that isn't open, or of which the step does nothing by its row. What is done for another one changes its row
--- in no way, and steps events that are no polls: these open nothing and ask for nothing. So who is idle stays idle.
+-- An exchange is idle that isn't open, or of which the step does nothing by its row. What is done for another one
+-- changes its row in no way, and steps events that are no polls: these open nothing and ask for nothing. So who is idle
+-- stays idle. So those that the code doesn't go through may be skipped in the definitions (`idle_skips`, `is_skipped`).
 use Rattle.std.{proofs.{Common.{◌≡◌, ◌⊎◌, inl, inr, ℕ, ◌+◌, List, [], ◌∷◌, Bool, true, false, Option, Some, None, refl, ap, sym, ◌∙◌, subst, arith}, lemmas.Bool.Decides.{nat_tests}}, specs.Prelude.{◌&&◌, ◌||◌, not, nat_eq, if◌then◌else◌, Result, Ok, Err}}
 use Rattle.hc_text.proofs.Basics.{bool_cases, true_false}
 use Rattle.hc_effects.proofs.Vocabulary.{opening_in, Event, Entry, is_open, is_wanted, Exchange, owed, Limits, event}

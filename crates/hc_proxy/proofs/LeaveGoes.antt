@@ -1,6 +1,9 @@
--- A client leaves: its row is gone, its connection is to be closed, and its consumer is cancelled, where it waits for something.
+-- A client leaves: its row is gone, its connection is to be closed, and its consumer is cancelled, where it waits.
 --
--- A cancel says something of no exchange. So of each exchange all is kept that is kept beside any other one.
+-- A cancel says something of no exchange. So of each exchange all is kept that is kept beside any other one. Where it
+-- waits, the cancel is a step of the cache (`left_keeps`), and else just its row goes (`idle_keeps`). No exchange has
+-- the number of its connection, so no other row changes (`gone_wire`). `leave_by` and `idle_by` say so by what the
+-- code's steps tell.
 use Rattle.std.{proofs.{Common.{◌≡◌, ◌≢◌, ◌⊎◌, inl, inr, ◌≤◌, ℕ, zero, suc, ◌+◌, List, [], ◌∷◌, ◌++◌, Bool, true, false, Option, Some, None, refl, ap, sym, ◌∙◌, subst, arith}, lemmas.{Bool.Decides.{nat_tests}, List.Elements.{Contains-append_left, Contains-append_right, Contains-append_cases}}}, specs.{Prelude.{◌&&◌, nat_eq, not, option_map, if◌then◌else◌, IsSome, Contains}, List.{list_all}}}
 use Rattle.hc_text.proofs.Basics.{none_some, some_inj, true_false}
 use Rattle.hc_core.specs.Steps.{faults_in, steps, bytes_received}

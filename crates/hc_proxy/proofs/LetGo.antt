@@ -1,7 +1,8 @@
 -- Who was let go is gone, and nobody is let go but where a turn begins.
 --
--- No change of a client's row within a turn says that it was let go, and none brings back who is gone. Where a turn begins, who is
--- let go is gone from then on.
+-- No change of a client's row within a turn says that it was let go, and none brings back who is gone. Where a turn
+-- begins, who is let go is gone from then on. `turn_lets_go` says that of a turn, and `turns_gone` of turns one behind
+-- another.
 use Rattle.std.{proofs.Common.{◌≡◌, ℕ, Bool, true, false, List, [], ◌∷◌, ◌++◌, length, Option, Some, None, refl, ap, sym, ◌∙◌}, specs.Prelude.{nat_eq, ◌||◌, if◌then◌else◌, option_map}}
 use Rattle.hc_text.proofs.Basics.{some_inj as some_is}
 use Rattle.hc_effects.proofs.Vocabulary.{Act, Entry, Limits}

@@ -1,7 +1,9 @@
 -- Turns one behind another, and what comes of the loop by how it ends.
 --
--- Between turns the log is one of the loop's, and what was written is the record so far (`IsTurning`). A turn that is made goes on so. One
--- that is cut short ends the loop; so does the closing of all connections behind the last turn, which sends nothing.
+-- Between turns the log is one of the loop's, and what was written is the record so far (`IsTurning`). A turn that is
+-- made goes on so. One that is cut short ends the loop; so does the closing of all connections behind the last turn,
+-- which sends nothing. That all was sent then is read off what rests behind the last turn (`client_sent`,
+-- `exchange_sent`).
 use Rattle.std.{proofs.{Common.{◌≡◌, ◌⊎◌, inl, inr, ◌≤◌, ◌<◌, ℕ, ◌+◌, ◌-◌, List, [], ◌∷◌, ◌++◌, Bool, true, false, Option, Some, None, Ok, Err, refl, ap, sym, ◌∙◌, subst, arith, append_assoc, append-nil}, lemmas.{Bool.Decides.{nat_tests}, List.{length-drop}}}, specs.{Prelude.{◌&&◌, ◌||◌, not, nat_eq, nat_lt, find, filter, map, drop, length, option_map, IfSome, Result, IsErrAnd, if◌then◌else◌}, List.{list_all}}}
 use Rattle.hc_text.proofs.Basics.{both_true as both_hold, or_left, or_right}
 use Rattle.hc_core.specs.Steps.{steps, faults_in}

@@ -1,7 +1,8 @@
 -- The lists of the tables of clients, as lists of numbers that ascend: who stands there.
 --
--- Std's order on a list is that it ascends, by recursion. A list has a number exactly where the test of one element after another finds it;
--- of those that pass a test, just those that are there and pass. The tables' own tests are the same.
+-- Std's order on a list is that it ascends, by recursion. A list has a number exactly where the test of one element
+-- after another finds it; of those that pass a test, just those that are there and pass. The tables' own tests are the
+-- same. `sorted_ascends` takes std's order to this one, and `among_passes` and `passed_among` are of those that pass.
 use Rattle.std.{proofs.{Common.{◌≡◌, ◌≤◌, ◌<◌, ℕ, zero, suc, ◌+◌, Bool, true, false, List, [], ◌∷◌, get_or, refl, ap, sym, ◌∙◌, arith}, lemmas.{Bool.Decides.{nat_tests}, Map.{Keys.{sorted_tail, below_from_sorted}, Made.{is_some-lookup}}}}, specs.{Prelude.{◌||◌, nat_eq, length, filter, Contains, is_some, if◌then◌else◌}, List.{list_any, Sorted.{IsStrictlySortedBy}}, Ordering.{nat_cmp}, BTreeMap.{is_at}}}
 use Rattle.std.specs.BTreeMap as tree
 use Rattle.hc_peers.specs.{Agreement.{ready_at}, Clients.{client_of, consumers_of, ready_of}, declared.clients.Clients.{Clients}}

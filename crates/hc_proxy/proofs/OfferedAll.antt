@@ -1,7 +1,9 @@
 -- All that are touched are offered what they are owed, one after another.
 --
--- Who isn't touched lacks nothing and is read as it is to be. Each offer settles one more, and leaves all others as they were. So behind
--- the last one nobody lacks anything but where the wire took less than it was offered. An offer that fails has sent some first part.
+-- Who isn't touched lacks nothing and is read as it is to be. Each offer settles one more, and leaves all others as
+-- they were. So behind the last one nobody lacks anything but where the wire took less than it was offered. An offer
+-- that fails has sent some first part. Clients and connections to the origin are done alike; what two offers send is
+-- one sending (`sends_both`).
 use Rattle.std.{proofs.{Common.{◌≡◌, ◌⊎◌, inl, ℕ, ◌+◌, ◌<◌, List, [], ◌∷◌, Bool, true, false, Option, Some, None, refl, sym, ◌∙◌, subst, arith, length, drop, get_or, drop-cons, add-one}, lemmas.{Bool.Decides.{nat_tests}, List.{nil_from_length}}}, specs.{Prelude.{nat_eq, nat_lt, ◌&&◌, ◌||◌, ◌==◌, not, cond}, List.{list_any}, BTreeMap.{is_at}, Ordering.{is_eq, nat_cmp}, declared.cmp.Ordering.TheVariants.{Less, Equal, Greater}}}
 use Rattle.hc_effects.proofs.Vocabulary.{is_wanted}
 use Rattle.hc_wire.specs.{Events.{Stage}, Logs.{Log}}

@@ -1,7 +1,9 @@
 -- A client is offered what it is owed: how the tables of connections stand behind that.
 --
--- What it takes are the first of the bytes that it lacks, so the rest is what is owed and wasn't taken. Where it is to be closed and has
--- taken all it leaves the table, else the wire is told whether it is read. No other connection has its number, so all others stay.
+-- What it takes are the first of the bytes that it lacks, so the rest is what is owed and wasn't taken. Where it is to
+-- be closed and has taken all it leaves the table, else the wire is told whether it is read. No other connection has
+-- its number, so all others stay. `client_goes` joins these; an offer that fails has sent some first part
+-- (`client_fails`).
 use Rattle.std.{proofs.{Common.{◌≡◌, ◌⊎◌, inl, inr, ℕ, zero, suc, ◌+◌, ◌-◌, ◌≤◌, List, [], ◌∷◌, Bool, true, false, Option, Some, None, refl, ap, sym, ◌∙◌, subst, arith, length, take, drop, length-append, length-drop}, lemmas.{Bool.Decides.{nat_tests}, List.{length-take-le, drop_all}}, Math.Seq.{drop-nil}}, specs.Prelude.{nat_eq, nat_lt, ◌&&◌, ◌==◌, find, IsSome}}
 use Rattle.hc_text.proofs.Basics.{eq_itself as same_number, some_inj as some_is}
 use Rattle.hc_wire.specs.{Events.{Stage, Open, Closed, with_stage, closed_of, reading_of, IsOpen}, Logs.{Log, Taker, is_numbered, is_at_end, stage_from, sent_from, stage_in, sent_in, with_sent, with_reading, with_closed}}

@@ -1,7 +1,8 @@
 -- A connection to the origin is offered what it is owed: how the tables of connections stand behind that.
 --
--- What it takes are the first of the bytes that it lacks, so the rest is what is owed and wasn't taken. Then the wire is told to read
--- it while its exchange is wanted. Each exchange has a connection of its own, and no client has that number, so all others stay.
+-- What it takes are the first of the bytes that it lacks, so the rest is what is owed and wasn't taken. Then the wire
+-- is told to read it while its exchange is wanted. Each exchange has a connection of its own, and no client has that
+-- number, so all others stay. `origin_goes` joins these; an offer that fails has sent some first part (`origin_fails`).
 use Rattle.std.{proofs.{Common.{◌≡◌, ◌⊎◌, inl, inr, ℕ, ◌+◌, ◌-◌, ◌≤◌, List, [], Bool, true, false, Option, Some, None, refl, ap, sym, ◌∙◌, subst, arith, length, take, drop, length-append, length-drop}, lemmas.{Bool.Decides.{nat_tests}, List.{length-take-le, drop_all, nil_from_length}}, Math.Seq.{drop-nil}}, specs.Prelude.{nat_eq, nat_lt, ◌&&◌, ◌==◌, not, IsSome}}
 use Rattle.hc_text.proofs.Basics.{eq_itself as same_number, some_inj as some_is}
 use Rattle.hc_effects.proofs.Vocabulary.{is_open, is_wanted}

@@ -1,6 +1,9 @@
--- The acts of a turn open exchanges one after another: those behind the last one before it, up to the last one that is counted.
+-- The acts of a turn open exchanges one after another: from the last one before it up to the last one that is counted.
 --
--- An entry that is owed opens one exchange at most, the next, and counts it. So acts that open one after another are followed by such.
+-- An entry that is owed opens one exchange at most, the next, and counts it. So acts that open one after another are
+-- followed by such. In an answer only the move of a poll opens; what makes room, closings and losses open nothing
+-- (`accepted_once`). Lists of acts that open up to a number, and from there on, do so joined (`up_both`), and never
+-- count fewer (`up_grows`). `entry_opens` says that of an entry, from which turns are joined.
 use Rattle.std.{proofs.Common.{◌≡◌, ◌≤◌, ℕ, ◌+◌, Bool, true, false, List, [], ◌∷◌, ◌++◌, Some, refl, sym, subst, arith}, specs.Prelude.{map}}
 use Rattle.hc_effects.proofs.Vocabulary.{Opening, opening_in, is_denied, Act, Event, Limits, accepted_acts, answer_acts, poll_acts, loss_acts, close_acts, closing, Entry, Flaw, NoFlaw, Loses, Misreads, flaw_in, Move, Nothing, Asks, Opens, Shows, Gives, Ends, Fails, acts_of, poll_move, Tables, IsOwed, after, opened_after, evicted, act}
 use Rattle.hc_event.specs.declared.event.Event.TheVariants as event

@@ -1,7 +1,8 @@
 -- A change of the row of one connection to the origin, in the code and in the definitions: all others have theirs.
 --
--- Where both rows are changed alike, what is kept stays kept. The exchange keeps its connection, so the numbers stay, and the wire reads
--- on as it was told. No more bytes are unread than there is room for. Its answer is read behind its head only where it has that.
+-- Where both rows are changed alike, what is kept stays kept. The exchange keeps its connection, so the numbers stay,
+-- and the wire reads on as it was told. No more bytes are unread than there is room for. Its answer is read behind its
+-- head only where it has that. `changed_upstreams` is of the rows, `wire` of the wire, and `row_changed` joins them.
 use Rattle.std.{proofs.Common.{◌≡◌, ◌⊎◌, inl, inr, ◌≤◌, ◌<◌, ℕ, ◌+◌, length, true, false, Option, Some, None, refl, ap, sym, ◌∙◌, subst}, specs.Prelude.{nat_eq, option_map, IsSome, Contains}}
 use Rattle.hc_text.proofs.Basics.{none_some, eq_itself as same_number, some_inj}
 use Rattle.hc_core.specs.Steps.{bytes_received}

@@ -1,7 +1,8 @@
 -- What polls tell: each its own consumer, one thing at most.
 --
--- Polls are made in ascending order, over a store that may fail. Each adds its acts behind those before, and tells one consumer at
--- most, its own (a law of the cache). So the acts that are sent to consumers stand in ascending order.
+-- Polls are made in ascending order, over a store that may fail. Each adds its acts behind those before, and tells one
+-- consumer at most, its own (a law of the cache). So the acts that are sent to consumers stand in ascending order.
+-- `one_up` is of the acts of one poll, `tells_both` joins lists, and `polls_add` is the induction.
 use Rattle.std.{proofs.{Common.{◌≡◌, ◌⊎◌, inl, inr, ◌≤◌, ℕ, ◌+◌, List, [], ◌∷◌, ◌++◌, Bool, true, false, Option, Some, None, refl, ap, sym, ◌∙◌, subst, arith, append_assoc, append-nil}, lemmas.Bool.Decides.{nat_tests}}, specs.Prelude.{is_some, nat_eq, ◌||◌, if◌then◌else◌}}
 use Rattle.hc_effects.proofs.Vocabulary.{is_denied, Act, Limits, Entry, no_contents, IsRun, IsOwed, tables, after, told_to, tellings, IsOneTo, TellsBy, act, event}
 use Rattle.hc_model.specs.Tellings as tells

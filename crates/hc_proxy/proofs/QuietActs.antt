@@ -1,7 +1,8 @@
 -- An event that is no poll opens nothing, asks for nothing and tells nobody anything.
 --
--- By the cases of the event: what comes from outside evicts, loses and closes, a cancel closes and loses, and a denied event is told by
--- one act alone. None of these acts opens, asks for, or tells anything.
+-- By the cases of the event: what comes from outside evicts, loses and closes, a cancel closes and loses, and a denied
+-- event is told by one act alone. None of these acts opens, asks for, or tells anything. `is_quiet_entry` is of an
+-- entry, and what such acts don't say is by induction over the list.
 use Rattle.std.{proofs.{Common.{◌≡◌, ℕ, List, [], ◌∷◌, ◌++◌, Bool, true, false, Option, Some, None, refl, ap, sym, ◌∙◌, subst}, lemmas.List.Folds.{list_all-append}}, specs.{Prelude.{map, ◌&&◌}, List.{list_all}}}
 use Rattle.hc_effects.proofs.Vocabulary.{opening_in, asks_in, leaves_in, Act, Refusal, Event, Limits, answer, accepted_acts, answer_acts, loss_acts, close_acts, denied_or, closing, denial, Entry, Flaw, NoFlaw, Loses, Misreads, flaw_in, Tables, IsOwed, evicted, act}
 use Rattle.hc_event.specs.declared.event.Event.TheVariants as event

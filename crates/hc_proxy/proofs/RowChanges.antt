@@ -1,7 +1,9 @@
 -- A change of the row of one client, and of one connection to the origin, in the code and in the definitions.
 --
--- Where both rows are changed alike, what is kept stays kept: the others have theirs. A client that sends, or that leaves, keeps its
--- place among those that were accepted, and no more are here than before. Of an exchange so many bytes more are unread at most.
+-- Where both rows are changed alike, what is kept stays kept: the others have theirs. A client that sends, or that
+-- leaves, keeps its place among those that were accepted, and no more are here than before. Of an exchange so many
+-- bytes more are unread at most. `changed_clients` is of the clients, `wire_same` of the wire; nobody comes by such a
+-- change (`row_was`).
 use Rattle.std.{proofs.Common.{◌≡◌, ◌⊎◌, inl, inr, ◌≤◌, ℕ, List, [], ◌∷◌, length, Bool, true, false, Option, Some, None, refl, ap, sym, ◌∙◌, subst, arith}, specs.Prelude.{nat_eq, filter, option_map, if◌then◌else◌, IsSome, Contains}}
 use Rattle.hc_text.proofs.Basics.{none_some, eq_itself as same_number}
 use Rattle.hc_effects.proofs.PieceKeeps.{eq_cases}

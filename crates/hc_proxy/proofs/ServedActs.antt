@@ -1,7 +1,9 @@
 -- Acts that are sent to different consumers each find their client.
 --
--- An act that is sent to a consumer changes the row of its client alone, and no other act. The client of another consumer is another
--- one, since a client has one live consumer. So who is served before an act is served behind it, if the act isn't for it.
+-- An act that is sent to a consumer changes the row of its client alone, and no other act. The client of another
+-- consumer is another one, since a client has one live consumer. So who is served before an act is served behind it, if
+-- the act isn't for it. `act_keeps` goes by the acts, and `are_served` is the induction over those that tell in
+-- ascending order.
 use Rattle.std.{proofs.{Common.{◌≡◌, ◌⊎◌, inl, inr, ◌≤◌, ℕ, ◌+◌, List, [], ◌∷◌, Bool, true, false, Option, Some, None, refl, ap, sym, ◌∙◌, subst, arith}, lemmas.Bool.Decides.{nat_tests}}, specs.Prelude.{nat_eq}}
 use Rattle.hc_text.proofs.Basics.{some_inj as some_is}
 use Rattle.hc_effects.proofs.Vocabulary.{Act, act}

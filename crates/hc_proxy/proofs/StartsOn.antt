@@ -1,7 +1,8 @@
 -- The step *starts*, in the code and in the definitions.
 --
--- The code goes through those clients alone whose next request is to be read, in ascending order. The others of the definitions are
--- passed over there. What is done for one changes no other, so the list of the code has just those that are left.
+-- The code goes through those clients alone whose next request is to be read, in ascending order. The others of the
+-- definitions are passed over there. What is done for one changes no other, so the list of the code has just those that
+-- are left. `starts_next` and `starts_end` are the loop of the code, `starts_stop` is where nobody is left.
 use Rattle.std.{proofs.{Common.{◌≡◌, ◌≤◌, ℕ, Bool, true, false, List, [], ◌∷◌, Option, Some, None, refl, ap, sym, ◌∙◌, subst, arith}, lemmas.List.Kept.{IsStrictlySortedBy-filter}, Math.{Bridge.{le_prop}, Logic.{∥∥₁_elim}}}, specs.{Prelude.{not, length, Contains, IsSome, ◌↔◌}, List.Sorted.{IsStrictlySortedBy}, Ordering.{nat_cmp}}}
 use Rattle.hc_core.specs.Steps.{faults_in}
 use Rattle.hc_peers.specs.{Agreement.{ready_at}, Clients.{client_of, ready_of}}

@@ -1,7 +1,8 @@
 -- How the open connections stand at a call, by the takers of the log.
 --
--- No two takers have one number. So each is the one that is found by its number, and what holds of each that is found holds of all.
--- A call tells of each taker that is open; so whose number is found in it, and what that has taken, are the taker's.
+-- No two takers have one number. So each is the one that is found by its number, and what holds of each that is found
+-- holds of all. A call tells of each taker that is open; so whose number is found in it, and what that has taken, are
+-- the taker's. `stands_found` and `taken_found` are of one taker, `standings_all` of all that a call tells.
 use Rattle.std.{proofs.{Common.{◌≡◌, ◌≤◌, ℕ, List, [], ◌∷◌, Bool, true, false, Option, Some, None, refl, ap, sym, ◌∙◌, arith}, lemmas.Bool.Decides.{nat_tests}}, specs.{Prelude.{◌&&◌, ◌||◌, nat_eq, find, filter, map, length, is_some, if◌then◌else◌}, List.{list_all, list_any}}}
 use Rattle.hc_text.proofs.Basics.{both_true as both_hold, eq_itself as same_test, some_inj as some_is}
 use Rattle.hc_wire.specs.{Events.{Stage, Unseen, Open, Closed}, Logs.{Log, Taker, Called, is_numbered, is_taking, standing_of, standings_in, stage_from, stage_in, sent_from, sent_in}, declared.connection.Standing.{Standing}}

@@ -1,7 +1,8 @@
--- A call of `next` answered: the turn begins with what rested before it.
+-- The next call of the wire was answered: the turn begins with what rested before it.
 --
--- Whose connection doesn't stand any more was let go: it isn't kept, and is gone from now on. All others are as they were, and have
--- taken what the call tells. The log goes on by the call, and each connection stands as the wire says behind it.
+-- Whose connection doesn't stand any more was let go: it isn't kept, and is gone from now on. All others are as they
+-- were, and have taken what the call tells. The log goes on by the call, and each connection stands as the wire says
+-- behind it. `begins` joins the tables behind the call, and `on_wire` says how the log stands.
 use Rattle.std.{proofs.{Common.{◌≡◌, ◌⊎◌, inl, inr, ◌≤◌, ◌<◌, ◌^◌, ℕ, ◌+◌, ◌*◌, List, [], Bool, true, false, Option, Some, None, refl, ap, sym, ◌∙◌, subst, arith}, lemmas.{Bool.Decides.{nat_tests}, List.{length-take}}}, specs.Prelude.{◌||◌, not, nat_eq, is_some, max, find, length, option_map, Contains, IsSome, if◌then◌else◌}}
 use Rattle.hc_peers.specs.Clients.{client_of}
 use Rattle.hc_peers.specs.declared.client.Client as peer

@@ -1,7 +1,8 @@
--- How many bytes of the origin weren't read: what a change of one exchange makes of that, and an exchange that is opened.
+-- How many bytes of the origin weren't read: what a change of one exchange makes of that, and one that is opened.
 --
--- It is a sum over the exchanges, whose numbers fall, so each stands once. Where one row has more or less, the sum has no more than so much
--- more, or so much less. What an entry opens has a row of which nothing came.
+-- It is a sum over the exchanges, whose numbers fall, so each stands once. Where one row has more or less, the sum has
+-- no more than so much more, or so much less. What an entry opens has a row of which nothing came. `sum_grows` and
+-- `sum_falls` are of any sum, `unread_entry` of an entry.
 use Rattle.std.{proofs.{Common.{◌≡◌, ◌≤◌, ◌<◌, ℕ, ◌+◌, List, [], ◌∷◌, Bool, true, false, Option, Some, None, refl, ap, sym, subst, arith}, lemmas.{Bool.Decides.{nat_tests}, List.Sums.{sum_by-cons}}}, specs.{Prelude.{nat_eq, ◌||◌, if◌then◌else◌, option_map}, List.{sum_by}}}
 use Rattle.hc_effects.proofs.Vocabulary.{Opening, opening_in, is_denied, Entry, Descends, after, after_accepted, after_denied, openings_after}
 use Rattle.hc_proxy.specs.{Invariants.{unread_of, unread}, Rows.{Upstream, Proxy, with_upstream}, Steps.{with_entry}}

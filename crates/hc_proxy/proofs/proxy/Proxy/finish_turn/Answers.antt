@@ -1,3 +1,9 @@
+-- What `finish_turn` needs of its calls, and what it answers where each of them fails, or none does.
+--
+-- The record is written, acts are carried out, and what is owed is sent. What is kept is so behind each call
+-- (`written_keeps`, `written_wire`), so the next one may be made. Where one fails the turn is cut short there
+-- (`cut_writing`, `cut_carrying`, `cut_sending`). The cause of the first is the sink's, that of the others the wire's
+-- (`by_sink`, `by_wire`). Where none fails the turn is made (`finishes`).
 use Rattle.std.proofs.{Common.{Bool, Err, ap, sym, subst}, Math.Logic.{∥∥₁_map}}
 use Rattle.hc_proxy.specs.{Carrying.{carried}, Records.{text_of}, Serving.{HasCauses}, Stops.{of_sink}}
 use Rattle.hc_proxy.proofs.{Causes.{err_is, by_sink, by_wire}, FinishGoes.{writing, behind, written_keeps, written_wire, cut_writing, cut_carrying, cut_sending, cut_waiting, finishes}}

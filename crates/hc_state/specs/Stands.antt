@@ -43,8 +43,8 @@ use Rattle.hc_state.specs.Kept.{KeepsConsumer, KeepsExchange}
 use Rattle.hc_state.specs.Lines.{KeepsKey}
 use Rattle.hc_state.specs.Stored.{KeepsEntries}
 
-pub record RowsStand {B : Type 0} {g : Ghosts B} (limits : Limits) (r : Rows B g) (t : Tables) : Type 0 where
-  pub limits : (shelf_of r.entries).limits ≡ limits
+pub record RowsStand {B : Type 0} {g : Ghosts B} (within : Limits) (r : Rows B g) (t : Tables) : Type 0 where
+  pub limits : (shelf_of r.entries).limits ≡ within
   pub last_start : r.last_start ≡ t.last_start
   pub next : next_of r.exchanges ≡ t.opened + 1
   pub count : hash_map_len r.consumers ≡ live t

@@ -299,7 +299,7 @@ module _ (t : Tables) (now x q : ℕ) (response : Response) (w : Exchange) (v : 
   -- ALL OF IT
 
   module _ {B : Type 0} {g : Ghosts B} {limits : Limits} (r u : Rows B g) (k : Consumer) (o : Open) (stands : RowsStand limits r t) (there : get nat_eq r.consumers w.c ≡ Some k) (running : (table_of r.exchanges x).running ≡ Some o) (on : is_reached (promise_in w response) 0 ≡ false)
-      (limits : (shelf_of u.entries).limits ≡ limits) (last : u.last_start ≡ r.last_start) (becomes : BecomesAt r.consumers u.consumers w.c (Some (record k { own = own }))) (line : LeavesKey w.c k.request.key r.keys u.keys)
+      (bounded : (shelf_of u.entries).limits ≡ limits) (last : u.last_start ≡ r.last_start) (becomes : BecomesAt r.consumers u.consumers w.c (Some (record k { own = own }))) (line : LeavesKey w.c k.request.key r.keys u.keys)
       (brings : exch.Becomes (bringing q response) x r.exchanges u.exchanges) (entries : KeepsEntries s (shelf_of u.entries)) where
     is : IsKept t k v
     is = kept_as r t w.c v k stands j.asker there
@@ -330,7 +330,7 @@ module _ (t : Tables) (now x q : ℕ) (response : Response) (w : Exchange) (v : 
 
     pub stands_joined : RowsStand limits u s
     stands_joined = record {
-      limits = limits;
+      limits = bounded;
       last_start = last ∙ stands.last_start;
       next = brings.next ∙ stands.next;
       count = length_same r u t w.c v (record k { own = own }) stands j.asker lives becomes ∙ (stands.count ∙ sym (live_same t s refl (told_consumer is_live refl)));

@@ -1,14 +1,14 @@
 -- What is asked about what is stored names it, and what joined it joined that, in every run.
 --
--- What needs something stored is asked only where something is current, and that becomes its aim (`some_asked`,
--- `about_from`). What is asked since nothing is there has none (`none_current`, `missed_from`). Both are kept at each
+-- What needs something stored is asked only where something is current, and that becomes its aim
+-- (`about_by`). What is asked since nothing is there has none (`none_current`, `missed_from`). Both are kept at each
 -- entry, as an exchange keeps its need and its aim (`about_by`, `missed_by`), and carried as `Names`. With the laws of
 -- keys this gives `aims_in_runs`. Without an aim each case of a head is the same (`by_need`).
-use Rattle.std.{proofs.Common.{◌≡◌, ℕ, Bool, true, false, Option, Some, None, refl, ap, sym, ◌∙◌, subst}, specs.{Prelude.{is_some, ◌==◌, ◌&&◌, not}, Option.{option_map, option_and_then}}}
+use Rattle.std.{proofs.{lemmas.Bool.Decides.{nat_tests}, Common.{arith, ◌≡◌, ℕ, Bool, true, false, Option, Some, None, refl, ap, sym, ◌∙◌}}, specs.{Prelude.{is_some, ◌==◌, ◌&&◌, not}, Option.{option_map, option_and_then}}}
 use Rattle.hc_text.proofs.Basics.{not_some as none_some}
-use Rattle.hc_effects.proofs.Vocabulary.{Event, Need, Response, head_case, is_conditional, Limits, route_of, Place, Aims, head_view, validates, joins_row, current, denial, Entry, aim_of, aim_from, Flaw, IsOfOneKey, entry_of, OfRuns, OfRunsIn, plan_view, candidate, candidate_at, bound_to, Tables, Exchange, Representation, Consumer, Sound, tables, after_accepted, need, route, place}
+use Rattle.hc_effects.proofs.Vocabulary.{Event, Need, Response, head_case, is_conditional, Limits, route_of, Place, Aims, head_view, validates, joins_row, current, denial, Entry, aim_of, aim_from, Flaw, IsOfOneKey, entry_of, OfRuns, OfRunsIn, plan_view, candidate, candidate_at, bound_to, Tables, Exchange, Representation, Consumer, Sound, tables, after_accepted, need, route}
 use Rattle.hc_model.specs.Aims.{HasAim, CaseWithoutAim, is_about_some, needs_aim}
-use Rattle.hc_effects.proofs.{Asked.{Asked, HasCandidate}, Basics.{some_none, some_row, false_true}, ExchangeFrom.{ExchangeFrom, exchange_from}, NamesKeep.{current_there}, OpenedAs.{passes_by, goes_on, fills, fetches, Way, opened_as}, Said.{opening_by}, ShownFrom.{candidate_is}, WaitingNew.{aim_free}}
+use Rattle.hc_effects.proofs.{Asked.{Asked, HasCandidate}, Basics.{some_none, some_row}, ExchangeFrom.{ExchangeFrom, exchange_from}, NamesKeep.{current_there}, OpenedAs.{Way, opened_as}, Said.{opening_by}, ShownFrom.{candidate_is}, WaitingNew.{aim_free}}
 use Rattle.hc_effects.proofs.ExchangeFrom as exchange
 use Rattle.hc_laws.proofs.{InRuns.{one_key_in_runs}, Reasons.{aimed}, RunFacts.{in_runs}}
 
@@ -20,29 +20,8 @@ record Names (limits : Limits) (t : Tables) : Type 0 where
 -- AN EXCHANGE THAT IS OPENED
 
 module _ (t : Tables) (now c : ℕ) (k : Consumer) where
-  current_some : HasCandidate (plan_view t now c k) → is_some (current t k.request.key) ≡ true
-  current_some is = ap is_some (candidate_is t now c k is.0 is.1).current_is
-
-  some_asked : (n : Need) → is_about_some n ≡ true → Asked (plan_view t now c k) n → is_some (current t k.request.key) ≡ true
-  some_asked need.Vary about is = current_some is
-  some_asked need.Validate about is = current_some is
-  some_asked (need.Hole from to) about is = current_some is
-  some_asked need.Unsatisfied about is = current_some is
-  some_asked _ about is = absurd (false_true about)
-
-  about_from : (n : Need) (p : Place) → k.place ≡ p → is_about_some n ≡ true → (bound_to k.place ≡ None → Asked (plan_view t now c k) n) → is_some (aim_from t k.request.key p) ≡ true
-  about_from n (place.Bound r lo hi how) at about asked = refl
-  about_from n _ at about asked = some_asked n about (asked (ap bound_to at))
-
-  -- what is asked since nothing was current is about nothing
-  miss_hole : (n : Need) → n ≡ need.Miss → route_of n ≡ route.Hole → ⊥
-  miss_hole n is way = let never : route.Turn ≡ route.Hole = sym (ap route_of is) ∙ way in cc
-
   unbound : (n : Need) → n ≡ need.Miss → Way t now c k n → bound_to k.place ≡ None
-  unbound n is (passes_by free way) = free
-  unbound n is (fetches free way cached) = free
-  unbound n is (fills r v span hole free way now_is row wants found hole_is cached) = free
-  unbound n is (goes_on r lo hi how at way) = absurd (miss_hole n is way)
+  unbound n is it2 = grind (arith, nat_tests)
 
   none_current : (o : Option ℕ) → current t k.request.key ≡ o → option_and_then (candidate_at t now k.request) o ≡ None → o ≡ None
   none_current None is none = refl
@@ -51,9 +30,7 @@ module _ (t : Tables) (now c : ℕ) (k : Consumer) where
       absurd (some_none (candidate t now r k.request there.0) (sym (ap (option_map (λ v. candidate t now r k.request v)) there.1) ∙ none))
 
   missed_from : (n : Need) → n ≡ need.Miss → Way t now c k n → (bound_to k.place ≡ None → Asked (plan_view t now c k) n) → aim_from t k.request.key k.place ≡ None
-  missed_from n is way asked =
-      let free = unbound n is way in
-      aim_free t k.request.key k.place free ∙ none_current (current t k.request.key) refl (subst (Asked (plan_view t now c k)) is (asked free))
+  missed_from n is way asked = grind (arith, nat_tests, unbound, aim_free, none_current, current)
 
 -- EACH ENTRY
 
@@ -66,8 +43,7 @@ module _ (limits : Limits) (t : Tables) (now : ℕ) (flaw : Flaw) (s : Sound t) 
   about_by x z about (exchange.new o none opens here made) =
       let by = opening_by limits t now flaw s ev goes o opens in
       let op = opened_as t now o.c by.k by.want o s by.poll.row by.move in
-      let asks : is_about_some o.need ≡ true = ap (λ (q : Exchange). is_about_some q.need) made ∙ about in
-      sym (ap (λ (q : Exchange). is_some q.aim) made) ∙ (ap (λ q. is_some (aim_of t q)) by.poll.row ∙ about_from t now o.c by.k o.need by.k.place refl asks op.asked)
+      grind (arith, nat_tests)
 
   missed_by : (x : ℕ) (z : Exchange) → z.need ≡ need.Miss → ExchangeFrom t e x z → z.aim ≡ None
   missed_by x z is (exchange.was w row same) = same.aim_is ∙ a.missed x w row (sym same.need_is ∙ is)
@@ -110,23 +86,9 @@ module _ (t : Tables) (lost : Bool) (w : Exchange) (response : Response) (aim : 
   abbrev other : Exchange
   other = record w { aim = aim }
 
-  -- what asks nothing conditionally
-  by_status : (b : Bool) → (b && false && validates t other response && not lost) ≡ (b && false && validates t w response && not lost)
-  by_status true = refl
-  by_status false = refl
-
-  by_turn : (n : Need) → route_of n ≡ route.Turn → w.need ≡ n → is_conditional n w.request ≡ false → ((v : Option Representation) → joins_row n v response ≡ false) → head_case (head_view t lost other response) ≡ head_case (head_view t lost w response)
-  unfolding head_case
-  by_turn n way is plain unjoined = rw (is, way, plain) (rw (by_status (response.status == 304)) refl)
-
   by_need : (n : Need) → w.need ≡ n → needs_aim n ≡ false → head_case (head_view t lost other response) ≡ head_case (head_view t lost w response)
   unfolding head_case
-  by_need need.Bypass is free = by_turn need.Bypass refl is refl (λ v. refl)
-  by_need need.Miss is free = by_turn need.Miss refl is refl (λ v. refl)
-  by_need need.Vary is free = by_turn need.Vary refl is refl (λ v. refl)
-  by_need need.Validate is free = absurd (false_true (sym free))
-  by_need (need.Hole from to) is free = absurd (false_true (sym free))
-  by_need _ is free = rw is refl
+  by_need n is free = grind (arith, nat_tests)
 
 pub case_without_aim : CaseWithoutAim
 case_without_aim t lost w response aim free = by_need t lost w response aim w.need refl free

@@ -3,14 +3,13 @@
 -- Such an exchange was opened where its consumer stood, which is where the hole begins, and isn't empty. Until its head
 -- comes the consumer is given nothing, and the exchange asks for the same hole. `waited` and `opened` are the two, and
 -- `at_holes_in_runs` carries them.
-use Rattle.std.proofs.Common.{◌≡◌, ℕ, ◌+◌, ◌<◌, ◌≤◌, true, Option, Some, refl, ap, sym, ◌∙◌, subst, arith}
+use Rattle.std.proofs.{lemmas.Bool.Decides.{nat_tests}, Common.{◌≡◌, ℕ, ◌+◌, ◌<◌, ◌≤◌, true, Option, Some, refl, ap, sym, ◌∙◌, subst, arith}}
 use Rattle.hc_text.proofs.Basics.{not_some as none_some, same_some as same_row, some_inj}
-use Rattle.hc_effects.proofs.Vocabulary.{Opening, opening_in, Need, Limits, route_of, BoundBy, opened_place, unless_bound, Entry, aim_from, exchange_opened, exchange_acted, exchange_heard, is_headless, entry_of, flaw_in, hole_at, IsOfOneKey, OfRuns, Turns, bound, bound_to, lo_of, offset, Tables, Exchange, Consumer, Sound, InHole, after_accepted, after_denied, need, route, place}
+use Rattle.hc_effects.proofs.Vocabulary.{Opening, opening_in, Need, Limits, route_of, BoundBy, opened_place, unless_bound, Entry, aim_from, exchange_opened, exchange_acted, exchange_heard, is_headless, entry_of, flaw_in, IsOfOneKey, OfRuns, Turns, bound, bound_to, lo_of, offset, Tables, Exchange, Consumer, Sound, InHole, after_accepted, after_denied, need, route, place}
 use Rattle.hc_model.specs.Sound as sound
 use Rattle.hc_laws.proofs.{InRuns.{IsTurned, turned_in_runs}, RunFacts.{in_runs_with}, TurnFacts.{IsTaken}, TurnOpens.{OpensFor, opened_at, opener_after}, TurnStays.{after_same}, TurnsKeep.{WasHeadless, was_headless, same_entry}}
-use Rattle.hc_effects.proofs.{Basics.{true_false}, ExclusiveWriters.{bound_some}, HoleLemmas.{hole_some}, KeysKeep.{same_exchange}, OpensFrom.{IsHole, hole_is, opens_hole}, Owed.{goes}, PollTree.{OpensHole}, Said.{OpensBy, opening_by}}
+use Rattle.hc_effects.proofs.{ExclusiveWriters.{bound_some}, HoleLemmas.{hole_some}, KeysKeep.{same_exchange}, OpensFrom.{IsHole, hole_is, opens_hole}, Owed.{goes}, PollTree.{OpensHole}, Said.{OpensBy, opening_by}}
 use Rattle.hc_effects.proofs.PollTree as tree
-use Rattle.hc_laws.proofs.TurnOpens as opens
 use Rattle.hc_laws.proofs.TurnsKeep as keeps
 
 -- c waits so with this exchange
@@ -64,16 +63,10 @@ module _ (limits : Limits) (t : Tables) (e : Entry) (taken : IsTaken limits t e)
   ahead : (c r lo : ℕ) (hi : Option ℕ) (how : BoundBy) (k : Consumer) (n : Need) (hole : IsHole n) → t.consumer c ≡ Some k → k.place ≡ place.Bound r lo hi how → OpensHole t c k hole.from hole.to → InHole n (offset t k)
   ahead c r lo hi how k n hole row at (tree.first q v span gap is aims there nobody found from_is to_is) =
       absurd (bound_some t r c k s.numbered (sound.is_bound lo hi how row at) (ap (bound t) (some_inj r q (sym (ap (aim_from t k.request.key) at) ∙ aims)) ∙ nobody))
-  ahead c r lo hi how k n hole row at (tree.later q end most v stands none from_is to_is) =
-      let some : offset t k < (hole_at v.stored v.reach (offset t k) end).hi = hole_some v.stored v.reach (offset t k) end stands.missing stands.before in
-      in_hole n hole.from hole.to (offset t k) hole.is (omega arith) (omega arith)
+  ahead c r lo hi how k n hole row at (tree.later q end most v stands none from_is to_is) = grind (arith, nat_tests, hole_some, in_hole)
 
   later_bound : (c r lo x : ℕ) (hi : Option ℕ) (how : BoundBy) (k : Consumer) (n : Need) → k.shown ≡ true → unless_bound (bound_to k.place) k.place (opened_place t x k (route_of n)) ≡ place.Bound r lo hi how → OpensFor t c k x n → (route_of n ≡ route.Hole) × (k.place ≡ place.Bound r lo hi how)
-  later_bound c r lo x hi how k n shown at (opens.past way is_new) = absurd (true_false (sym shown ∙ is_new.shown))
-  later_bound c r lo x hi how k n shown at (opens.fetches way is_new queues turn_is varied bypass) = absurd (true_false (sym shown ∙ is_new.shown))
-  later_bound c r lo x hi how k n shown at (opens.first q a b way is_new bound) = absurd (true_false (sym shown ∙ is_new.shown))
-  later_bound c r lo x hi how k n shown at (opens.later q a b by way also was) =
-      (way, was ∙ (sym (ap (λ p. unless_bound (bound_to p) p (opened_place t x k (route_of n))) was) ∙ at))
+  later_bound c r lo x hi how k n shown at it10 = grind (arith, nat_tests)
 
   opened : (x r lo : ℕ) (z : Exchange) (q : Consumer) (o : Opening) → WaitsShown u x r lo z q → opening_in e.acts ≡ Some o → z ≡ exchange_opened t e o → InHole z.need (lo + q.given)
   opened x r lo z q o waits is made =

@@ -4,8 +4,8 @@
 -- so nothing is written and nothing is about anything (`none_about`, `not_written`), and no consumer. What an item
 -- stores is all that came of it, and ends where its runs end (`ends_all`, `sound_row`). So most fields of `begun_sound`
 -- speak of rows that aren't there.
-use Rattle.std.{proofs.Common.{◌≡◌, inl, inr, ℕ, ◌-◌, ◌<◌, ◌≤◌, List, [], ◌∷◌, length, true, Option, Some, None, refl, ap, sym, ◌∙◌, subst, arith}, specs.Prelude.{is_some, find, map, option_map, nat_eq}}
-use Rattle.hc_text.proofs.Basics.{eq_tells, bool_cases, not_some as none_some, some_inj}
+use Rattle.std.{proofs.{lemmas.Bool.Decides.{nat_tests}, Common.{◌≡◌, inl, inr, ℕ, ◌-◌, ◌<◌, ◌≤◌, List, [], ◌∷◌, length, true, Option, Some, None, refl, ap, sym, ◌∙◌, arith}}, specs.Prelude.{is_some, find, map, option_map, nat_eq}}
+use Rattle.hc_text.proofs.Basics.{eq_tells, bool_cases, not_some as none_some}
 use Rattle.hc_sparse.specs.{Cells.{EndsBy}, Runs.{cells_of, end_of}, declared.run.Run.{Run}}
 use Rattle.hc_sparse.proofs.CellLemmas.{inside-past}
 use Rattle.hc_effects.proofs.Vocabulary.{Content, Contents, IsStart, item_of, is_written, Representation, Among, IsAbout, IsFirst, IsSoundRepresentation, first_tables, representation_of_content, last_end, numbers}
@@ -21,8 +21,7 @@ record IsLoaded (contents : Contents) (r : ℕ) (v : Representation) : Type 0 wh
   row : representation_of_content item ≡ v
 
 is_loaded : (contents : Contents) (r : ℕ) (o : Option Content) (v : Representation) → item_of contents r ≡ o → option_map representation_of_content o ≡ Some v → IsLoaded contents r v
-is_loaded contents r None v found is = absurd (let never : None ≡ Some v = is in cc)
-is_loaded contents r (Some item) v found is = record { item = item; found = found; row = some_inj (representation_of_content item) v is }
+is_loaded contents r o v found is = grind (arith, nat_tests)
 
 -- nothing is behind the last of some runs
 pub ends_all : (runs : List Run) → EndsBy (last_end runs) (cells_of runs)
@@ -44,31 +43,20 @@ some_among contents r None found some = absurd (false_true some)
 some_among contents r (Some item) found some = found_among contents.items r item found
 
 new_none : (contents : Contents) → IsStart contents → (r : ℕ) (o : Option Content) → item_of contents r ≡ o → contents.next_exchange - 1 < r → option_map representation_of_content o ≡ None
-new_none contents start r None found past = refl
-new_none contents start r (Some item) found past = absurd (let below = start.numbered r item found in omega arith)
+new_none contents start r o found past = grind (arith, nat_tests)
 
 no_first : (contents : Contents) (r c : ℕ) → IsFirst (first_tables contents) r c → ⊥
 no_first contents r c (sound.first k lo hi how row place alone) = none_some k row
 
 none_about : (contents : Contents) (r x : ℕ) → IsAbout (first_tables contents) r x → ⊥
-none_about contents r x (sound.headed w row is_open headed fam there) = none_some w row
-none_about contents r x (sound.asks w from to row is_open bare hole aim) = none_some w row
+none_about contents r x it3 = grind (arith, nat_tests)
 
 not_written : (contents : Contents) (r : ℕ) (v : Representation) → IsLoaded contents r v → is_written (first_tables contents) v ≡ true → ⊥
 unfolding is_written
 not_written contents r v l on = let never : is_written (first_tables contents) (representation_of_content l.item) ≡ true = ap (is_written (first_tables contents)) l.row ∙ on in false_true never
 
 sound_row : (contents : Contents) (r : ℕ) (v : Representation) → IsLoaded contents r v → IsSoundRepresentation (first_tables contents) r v
-sound_row contents r v l = subst (IsSoundRepresentation (first_tables contents) r) l.row (record {
-  store = record {
-    ends = ends_all l.item.runs;
-    lost_is_gone = λ h. absurd (false_true h);
-    all_stored = λ h p. refl;
-    some_stored = λ p h. refl;
-    nobody_alone = λ h. refl;
-  };
-  growing = λ x on writer. absurd (none_some x writer);
-})
+sound_row contents r v l = grind (arith, nat_tests, ends_all, none_some)
 
 -- What a store may begin with is sound.
 pub begun_sound : StartsAreSound

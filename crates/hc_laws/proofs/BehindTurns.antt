@@ -1,15 +1,15 @@
 -- Behind whom a plan waits for its turn: behind another who has it.
 --
--- Of plans only that of a wait names somebody, and that is another who has the turn (`bound_fine`, `bare_fine`,
--- `behind_turn`). Who has the turn is who holds it, or the least in line, so it stands in the line of its key
+-- Of plans only that of a wait names somebody, and that is another who has the turn (`bare_fine`, `behind_turn`).
+-- Who has the turn is who holds it, or the least in line, so it stands in the line of its key
 -- (`turn_stands`). With one more in the line the least may be that one; if it isn't, it was the least without it
 -- (`another`, `turn_without`). ChainRuns follows waits by these.
-use Rattle.std.{proofs.Common.{◌≡◌, inl, inr, ℕ, List, Bool, true, false, Option, Some, None, refl, ap, sym, ◌∙◌, arith}, specs.{Prelude.{◌+◌, is_none, min, nat_le, nat_eq, not, unwrap_or, ◌&&◌}, Option.{option_or}}}
+use Rattle.std.{proofs.{lemmas.Bool.Decides.{nat_tests}, Common.{◌≡◌, ℕ, List, Bool, true, false, Option, Some, None, refl, ap, sym, ◌∙◌, arith}}, specs.{Prelude.{is_none, nat_eq, not, unwrap_or, ◌&&◌}, Option.{option_or}}}
 use Rattle.hc_text.proofs.Basics.{and_left, and_right, either, not_true}
-use Rattle.hc_effects.proofs.Vocabulary.{need, plan, wanted, place, Why, Candidate, Plan, PlanView, Wanted, least, lesser, plan_of, bare_plan, in_time, from_store, queues, by_current, by_why, by_wanted, by_exclusive, by_hole, by_bound, why_by, is_disabled, is_only, Place, is_live_place, turn, turn_with, holder, holds_turn, line, is_in_line, stands_in_line, Tables, Consumer, Among}
+use Rattle.hc_effects.proofs.Vocabulary.{need, plan, Why, Candidate, Plan, PlanView, Wanted, least, lesser, plan_of, bare_plan, in_time, from_store, queues, by_current, by_why, by_wanted, by_exclusive, by_hole, by_bound, why_by, Place, is_live_place, turn, turn_with, holder, holds_turn, line, is_in_line, stands_in_line, Tables, Consumer, Among}
 use Rattle.hc_range.specs.declared.range.Span.{Span}
 use Rattle.hc_rules.proofs.RangeReads.{same_bytes}
-use Rattle.hc_effects.proofs.{Basics.{false_true}, HadKeeps.{among_least}, Joining.{mix}, PieceKeeps.{eq_cases}, Sums.{filter_among}}
+use Rattle.hc_effects.proofs.{Basics.{false_true}, HadKeeps.{among_least}, Joining.{mix}, Sums.{filter_among}}
 use Rattle.hc_laws.proofs.FitsRuns.{find_among}
 
 -- PLANS
@@ -30,22 +30,9 @@ module _ (v : PlanView) where
   other_fine : (p : Plan) → is_turn p ≡ false → Fine p
   other_fine p off d is = absurd (false_true (sym off ∙ ap is_turn is))
 
-  bound_fine : (span hole : Span) (o : Option ℕ) → Fine (by_bound v span hole o)
-  bound_fine span hole None = other_fine _ refl
-  bound_fine span hole (Some d) = other_fine _ refl
-
   module _ (s : Candidate) (why : Why) where
-    hole_fine : (span : Span) (o : Option Span) → Fine (by_hole v s why span o)
-    hole_fine span None = other_fine _ refl
-    hole_fine span (Some hole) = bound_fine span hole s.least_bound
-
-    exclusive_fine : (span : Span) (o : Option ℕ) → Fine (by_exclusive v s why span o)
-    exclusive_fine span None = hole_fine span s.hole
-    exclusive_fine span (Some d) = other_fine _ refl
-
     wanted_fine : (w : Wanted) → Fine (by_wanted v s why w)
-    wanted_fine (wanted.Interval span) = mix Fine s.writing _ _ (other_fine _ refl) (exclusive_fine span s.exclusive)
-    wanted_fine _ = other_fine _ refl
+    wanted_fine w = grind (arith, nat_tests)
 
   why_fine : (s : Candidate) (o : Option Why) → Fine (by_why v s o)
   why_fine s None = other_fine _ refl
@@ -66,13 +53,10 @@ module _ (v : PlanView) where
   past = plan.Direct need.TimedOut
 
   in_time_fine : (p : Plan) → Fine p → Fine (in_time v p)
-  in_time_fine (plan.Turn d) fine = mix Fine (nat_le (v.since + 20) v.moment) past (plan.Turn d) (other_fine past refl) fine
-  in_time_fine (plan.Busy d kept) fine = mix Fine (nat_le (v.since + 20) v.moment) past (plan.Busy d kept) (other_fine past refl) fine
-  in_time_fine _ fine = fine
+  in_time_fine p fine = grind (arith, nat_tests)
 
   from_store_fine : (p : Plan) → Fine (from_store p)
-  from_store_fine (plan.Turn d) = other_fine _ refl
-  from_store_fine _ = other_fine _ refl
+  from_store_fine p = grind (arith, nat_tests)
 
   pub behind_turn : (d : ℕ) → plan_of v ≡ plan.Turn d → IsBehind v d
   unfolding plan_of
@@ -88,20 +72,10 @@ pub record StandsInLine (t : Tables) (key : List ℕ) (d : ℕ) : Type 0 where
   pub live : is_live_place k.place ≡ true
 
 live_there : (p : Place) → stands_in_line p ≡ true → is_live_place p ≡ true
-live_there place.Line stands = refl
-live_there (place.Turn x) stands = refl
-live_there _ stands = absurd (false_true stands)
+live_there p stands = grind (arith, nat_tests)
 
 stands_at : (t : Tables) (key : List ℕ) (d : ℕ) (o : Option Consumer) → t.consumer d ≡ o → is_in_line key o ≡ true → StandsInLine t key d
-stands_at t key d None row stands = absurd (false_true stands)
-stands_at t key d (Some k) row stands =
-    let both = and_left _ (not (is_disabled k.request)) (and_left _ (not (is_only k.request)) stands) in
-    record {
-      k = k;
-      row = row;
-      of_key = same_bytes k.request.key key (and_left _ (stands_in_line k.place) both);
-      live = live_there k.place (and_right _ (stands_in_line k.place) both);
-    }
+stands_at t key d o row stands = grind (arith, nat_tests, and_left, same_bytes, live_there, and_right)
 
 in_line : (t : Tables) (key : List ℕ) (d : ℕ) → Among d (line t key) → StandsInLine t key d
 unfolding line
@@ -121,17 +95,8 @@ another (Some h) least_one c d is other = ap Some is
 another None None c d is other = absurd (same_not c d is other)
   where
     same_not : (a b : ℕ) → a ≡ b → nat_eq b a ≡ false → ⊥
-    same_not a b is other = elim (eq_cases b a) [
-      | inl same ↦ false_true (sym other ∙ same.0)
-      | inr apart ↦ apart.1 (sym is)
-    ]
-another None (Some m) c d is other = elim (eq_cases d c) [
-  | inl same ↦ absurd (false_true (sym other ∙ same.0))
-  | inr apart ↦ ap Some (least_is m c d is apart.1)
-]
-  where
-    least_is : (m c d : ℕ) → min m c ≡ d → (d ≡ c → ⊥) → m ≡ d
-    least_is m c d is apart = omega arith
+    same_not a b is other = grind (arith, nat_tests)
+another None (Some m) c d is other = grind (arith, nat_tests)
 
 -- if it isn't one's own with one in the line, it is another's without
 pub turn_without : (t : Tables) (key : List ℕ) (c d : ℕ) → turn_with t key c ≡ d → nat_eq d c ≡ false → turn t key ≡ Some d

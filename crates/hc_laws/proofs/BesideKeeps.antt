@@ -1,5 +1,5 @@
 -- What is beside soundness holds from the beginning, and stays so at each entry.
-use Rattle.std.proofs.Common.{◌≡◌, ℕ, None, sym, ◌∙◌}
+use Rattle.std.proofs.{lemmas.Bool.Decides.{nat_tests}, Common.{arith, ◌≡◌, ℕ, None, sym, ◌∙◌}}
 use Rattle.hc_text.proofs.Basics.{not_some as none_some}
 use Rattle.hc_effects.proofs.Vocabulary.{Event, Limits, denial, Entry, Contents, Flaw, entry_of, AfterDenials, Measures, Owners, Tables, Representation, Consumer, Sound, IsBound, first_tables, after_accepted, after_denied}
 use Rattle.hc_model.specs.Sound as sound
@@ -11,11 +11,7 @@ pub nobody : (contents : Contents) (r c : ℕ) (k : Consumer) → IsBound (first
 nobody contents r c k (sound.is_bound lo hi how row at) = none_some k row
 
 pub beside_begun : (contents : Contents) → IsBeside (first_tables contents)
-beside_begun contents = record {
-  covered = λ r c x v k w there exclusive_writer reader none own row. absurd (nobody contents r c k reader);
-  rested = λ r c v k there fresh first reader none own off. absurd (nobody contents r c k reader);
-  cached = λ c k row at. absurd (none_some k row);
-}
+beside_begun contents = grind (arith, nat_tests)
 
 still_rests : (t : Tables) (e : Entry) (v : Representation) (k : Consumer) → HasRest t v k → HasRest (after_denied t e) v k
 still_rests t e v k rest = record { hi = rest.hi; end = rest.end; covered = rest.covered }

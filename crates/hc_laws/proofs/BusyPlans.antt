@@ -1,5 +1,5 @@
 -- Behind whom a plan waits: behind who is bound to what is current, or behind the one who writes it.
-use Rattle.std.{proofs.Common.{◌≡◌, ◌⊎◌, inl, inr, ℕ, true, Option, Some, None, refl, ap, ◌∙◌}, specs.Prelude.{is_none, ◌&&◌, unwrap_or}}
+use Rattle.std.{proofs.{lemmas.Bool.Decides.{nat_tests}, Common.{arith, ◌≡◌, ◌⊎◌, inl, inr, ℕ, true, Option, Some, None, refl, ap, ◌∙◌}}, specs.Prelude.{is_none, ◌&&◌, unwrap_or}}
 use Rattle.hc_text.proofs.Basics.{either}
 use Rattle.hc_effects.proofs.Vocabulary.{Why, Candidate, Plan, PlanView, Wanted, plan_of, bare_plan, in_time, from_store, by_current, by_why, by_wanted, by_exclusive, by_hole, by_bound, plan_on, why_by, plan, wanted}
 use Rattle.hc_range.specs.declared.range.Span.{Span}
@@ -63,8 +63,7 @@ module _ (v : PlanView) where
   in_time_fine _ f = f
 
   from_store_fine : (p : Plan) → Fine (from_store p)
-  from_store_fine (plan.Bind why span) d kept is = absurd (let never : plan.Bind why span ≡ plan.Busy d kept = is in cc)
-  from_store_fine _ d kept is = absurd (let never : plan.Miss ≡ plan.Busy d kept = is in cc)
+  from_store_fine p d kept is = grind (arith, nat_tests)
 
   pub busy_by : (d : ℕ) (kept : Option ℕ) → plan_of v ≡ plan.Busy d kept → BusyBy v d
   unfolding plan_of

@@ -1,25 +1,20 @@
 -- Who waits for its head with the turn, or is bound, isn't past the store.
 --
 -- Who starts stands in the line (`starts_line`). An exchange with another route than past the store is opened for a
--- request that isn't disabled (`by_way`, `opens_cached`); so that of who has the turn isn't (`turn_from`). By how it
+-- request that isn't disabled (`opens_cached`); so that of who has the turn isn't (`turn_from`). By how it
 -- became bound: it was, it founds and waited so before (`founds_cached`), its first hole is opened, or a plan shows it
 -- what is current. `bound_cached` goes by these, and `cached_kept` joins both.
-use Rattle.std.proofs.Common.{◌≡◌, inl, inr, ℕ, true, false, Option, Some, None, refl, ap, sym, ◌∙◌, subst}
-use Rattle.hc_text.proofs.Basics.{not_some as none_some, same_some as same_row, some_inj}
+use Rattle.std.proofs.{lemmas.Bool.Decides.{nat_tests}, Common.{arith, ◌≡◌, ℕ, true, false, Option, Some, None, refl, ap, sym, ◌∙◌, subst}}
+use Rattle.hc_text.proofs.Basics.{same_some as same_row}
 use Rattle.hc_effects.proofs.Vocabulary.{Opening, opening_in, Event, Response, head_case, route_of, is_disabled, Place, BoundBy, has_loss, case_at, head_view, is_founding, consumer_after, consumer_made, Entry, entry_of, IsAwaiting, reads, Tables, Exchange, Consumer, after_accepted, event, route, place}
-use Rattle.hc_model.specs.Owners as owners
-use Rattle.hc_effects.proofs.{Forward.{is_kept}, Basics.{false_true}, Beside.{IsBeside, is_cached_place}, BoundFrom.{BoundFrom, bound_from}, BoundKeeps.{planned_at, founding_is}, FirstKeeps.{case_is, is_new}, FoundBy.{founding_by, founds_way}, OwnersKeep.{is_opened}, PieceKeeps.{eq_cases}, TurnPlaces.{ComesFrom, IsPlain, is_after}, Waiters.{waiter_of}, Step.{Step}}
+use Rattle.hc_effects.proofs.{Forward.{is_kept}, Basics.{false_true}, Beside.{IsBeside, is_cached_place}, BoundFrom.{BoundFrom, bound_from}, BoundKeeps.{planned_at, founding_is}, FirstKeeps.{case_is, is_new}, FoundBy.{founding_by, founds_way}, OwnersKeep.{is_opened}, TurnPlaces.{ComesFrom, IsPlain, is_after}, Waiters.{waiter_of}, Step.{Step}}
 use Rattle.hc_effects.proofs.BoundFrom as from
 use Rattle.hc_effects.proofs.OpenedAs as opened
 use Rattle.hc_effects.proofs.TurnPlaces as turn
 
 -- who starts stands in the line
 starts_line : (c now : ℕ) (ev : Event) (u : Consumer) → consumer_made c now ev ≡ Some u → u.place ≡ place.Line
-starts_line c now (event.Start d request) u is = elim (eq_cases d c) [
-  | inl here ↦ sym (ap (λ (z : Consumer). z.place) (some_inj _ u (rw here.0 at is)))
-  | inr other ↦ absurd (none_some u (rw other.0 at is))
-]
-starts_line c now _ u is = absurd (none_some u is)
+starts_line c now ev u is = grind (arith, nat_tests)
 
 module _ (step : Step) (i : IsBeside step.tables) where
   open step use {limits, tables as t, now, flaw, sound as s, event as ev, accepted as goes}
@@ -35,17 +30,10 @@ module _ (step : Step) (i : IsBeside step.tables) where
 
   -- WHAT IS OPENED
 
-  by_way : (p : Opening) (k : Consumer) → t.consumer p.c ≡ Some k → (route_of p.need ≡ route.Direct → ⊥) → opened.Way t now p.c k p.need → is_disabled k.request ≡ false
-  by_way p k row past (opened.passes_by free way) = absurd (past way)
-  by_way p k row past (opened.fetches free way cached) = cached
-  by_way p k row past (opened.fills r v span hole free way is there wanted found need_is cached) = cached
-  by_way p k row past (opened.goes_on r lo hi how at way) = at_place p.c k (place.Bound r lo hi how) row at refl
-
   opens_cached : (p : Opening) (c : ℕ) (k : Consumer) → opening_in e.acts ≡ Some p → p.c ≡ c → t.consumer c ≡ Some k → (route_of p.need ≡ route.Direct → ⊥) → is_disabled k.request ≡ false
   opens_cached p c k is mine row past =
       let by_poll = is_opened step p is in
-      let one : by_poll.k ≡ k = same_row (t.consumer c) by_poll.k k (sym (ap t.consumer mine) ∙ by_poll.row) row in
-      sym (ap (λ (z : Consumer). is_disabled z.request) one) ∙ by_way p by_poll.k by_poll.row past by_poll.way.way
+      grind (arith, nat_tests)
 
   -- WITH THE TURN
 
@@ -58,9 +46,7 @@ module _ (step : Step) (i : IsBeside step.tables) where
   -- BOUND
 
   awaits_cached : (c x : ℕ) (k : Consumer) (w : Exchange) → t.consumer c ≡ Some k → (route_of w.need ≡ route.Direct → ⊥) → IsAwaiting x w k.place → is_disabled k.request ≡ false
-  awaits_cached c x k w row past (owners.direct way at) = absurd (past way)
-  awaits_cached c x k w row past (owners.turn way at) = at_place c k (place.Turn x) row at refl
-  awaits_cached c x k w row past (owners.hole r lo hi how way aim at) = at_place c k (place.Bound r lo hi how) row at refl
+  awaits_cached c x k w row past it6 = grind (arith, nat_tests)
 
   founds_cached : (c x : ℕ) (response : Response) (w : Exchange) (k : Consumer) → ev ≡ event.Head x response → t.exchange x ≡ Some w → w.c ≡ c → t.consumer c ≡ Some k → is_founding (case_at t e) ≡ true → is_disabled k.request ≡ false
   founds_cached c x response w k here exchange_row mine row founding =
@@ -71,17 +57,12 @@ module _ (step : Step) (i : IsBeside step.tables) where
       awaits_cached c x k w row (founds_way view (head_case view) (founding_by view (sym (ap is_founding (case_is t e x response w here exchange_row)) ∙ founding))) (subst (λ (z : Consumer). IsAwaiting x w z.place) one got.1.at)
 
   bound_cached : (c r lo : ℕ) (hi : Option ℕ) (how : BoundBy) (u k : Consumer) → t.consumer c ≡ Some k → BoundFrom t e c r lo hi how u → is_disabled k.request ≡ false
-  bound_cached c r lo hi how u k there (from.stays z row at) = by_row z row.row (at_place c z (place.Bound r lo hi how) row.row at refl)
-    where
-      by_row : (z : Consumer) → t.consumer c ≡ Some z → is_disabled z.request ≡ false → is_disabled k.request ≡ false
-      by_row z row is = sym (ap (λ (q : Consumer). is_disabled q.request) (same_row (t.consumer c) z k row there)) ∙ is
+  bound_cached c r lo hi how u k there (from.stays z row at) = grind (arith, nat_tests)
   bound_cached c r lo hi how u k there (from.founds z x response w row here exchange_row mine of_r by_is all) =
       founds_cached c x response w k here exchange_row mine there (founding_is t e c r lo hi how x response w z (case_at t e) all)
   bound_cached c r lo hi how u k there (from.opens z p row opens mine free way hole) =
       opens_cached p c k opens mine there (λ past. let no : route.Hole ≡ route.Direct = sym way ∙ past in cc)
-  bound_cached c r lo hi how u k there (from.shows z p row is all) =
-      let planned = planned_at limits t now flaw s ev goes p z (ap t.consumer all.at ∙ row.row) is (subst (λ d. reads (Rattle.hc_model.specs.ConsumerRows.by_opening t d (opening_in e.acts) (Rattle.hc_model.specs.ConsumerRows.waiting t e d (Rattle.hc_model.specs.ConsumerRows.consumer_heard t e d ev z))).place ≡ false) (sym all.at) all.free) in
-      sym (ap (λ (q : Consumer). is_disabled q.request) (same_row (t.consumer c) z k row.row there)) ∙ planned.cached
+  bound_cached c r lo hi how u k there (from.shows z p row is all) = grind (arith, nat_tests, planned_at, reads, same_row)
 
   -- EITHER
 

@@ -1,5 +1,5 @@
 -- Waits end, in every run: a chain of them goes on over two more consumers at most.
-use Rattle.std.{proofs.Common.{◌≡◌, ℕ, ◌<◌, true, false, Option, Some, None, refl, ap, sym, ◌∙◌, subst}, specs.Prelude.{nat_eq}}
+use Rattle.std.{proofs.{lemmas.Bool.Decides.{nat_tests}, Common.{arith, ◌≡◌, ℕ, ◌<◌, true, false, Option, Some, None, refl, ap, sym, ◌∙◌, subst}}, specs.Prelude.{nat_eq}}
 use Rattle.hc_effects.proofs.Vocabulary.{wait, MoveEnds, is_live, is_live_place, Endings, Unended, OfRuns, WaitsEnd, WaitsForNobody, turn, Move, Places, plan_view, move_of, poll_move, Tables, Consumer, Sound, IsBound, tables}
 use Rattle.hc_model.specs.Chains.{PollsEnd, ChainEnds, ChainsEnd}
 use Rattle.hc_model.specs.Moves as moves
@@ -12,19 +12,12 @@ use Rattle.hc_effects.proofs.WaitedAs as waited
 module _ (t : Tables) (s : Sound t) (places : Places t) (endings : Endings t) (unended : Unended t) (w : WaitsEnd t) where
   -- it ends where the chain goes on from each consumer that it waits for
   goes_on : (GoesOn : ℕ → Type 0) (m : Move) → Goes t m → ((d : ℕ) → m ≡ moves.Waits (wait.Turn d) → GoesOn d) → ((d : ℕ) → m ≡ moves.Waits (wait.Busy d) → GoesOn d) → MoveEnds GoesOn t m
-  goes_on GoesOn moves.Nothing goes turn busy = goes
-  goes_on GoesOn (moves.Waits (wait.Turn d)) goes turn busy = turn d refl
-  goes_on GoesOn (moves.Waits (wait.Busy d)) goes turn busy = busy d refl
-  goes_on GoesOn (moves.Waits _) goes turn busy = goes
-  goes_on GoesOn _ goes turn busy = tt
+  goes_on GoesOn m goes turn busy = grind (arith, nat_tests)
 
   module _ (now : ℕ) where
     -- whatever its polls are, by its row
     polls_by : (ends : Move → Type 0) (d : ℕ) (u : Consumer) → t.consumer d ≡ Some u → is_live_place u.place ≡ true → ((want : ℕ) → 0 < want → ends (move_of t now want d u)) → PollsEnd ends t now d
-    polls_by ends d u row live polls = record {
-      live = ap is_live row ∙ live;
-      polls = λ want many. subst (λ (o : Option Consumer). ends (poll_move t now want d o)) (sym row) (polls want many);
-    }
+    polls_by ends d u row live polls = grind (arith, nat_tests)
 
     -- WHO READS
 

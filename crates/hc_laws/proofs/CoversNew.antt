@@ -4,15 +4,14 @@
 -- position. So the front of what its head founds is at most there (`whole`, `part`, `founds_within`). A first hole
 -- begins no earlier than its consumer reads (`hole_begins`), and all of the span before it is stored. CoversKept takes
 -- these for who becomes bound now; the law of fronts uses `founds_from`.
-use Rattle.std.{proofs.{Common.{◌≡◌, ℕ, ◌-◌, ◌≤◌, List, [], length, Bool, true, false, Option, Some, None, refl, ap, sym, ◌∙◌, subst, arith, min}, lemmas.Bool.Decides.{nat_tests}}, specs.Prelude.{is_some, is_none, nat_eq}}
-use Rattle.hc_text.proofs.Basics.{and_left, and_right, not_some as none_some, number_not, same_some as same_row, some_inj}
-use Rattle.hc_sparse.specs.Cells.{Cell, Covers}
+use Rattle.std.{proofs.{Common.{◌≡◌, ℕ, ◌-◌, ◌≤◌, [], Bool, true, false, Option, Some, None, refl, ap, sym, ◌∙◌, subst, arith, min}, lemmas.Bool.Decides.{nat_tests}}, specs.Prelude.{is_some, is_none, nat_eq}}
+use Rattle.hc_text.proofs.Basics.{and_right, not_some as none_some, number_not, same_some as same_row, some_inj}
+use Rattle.hc_sparse.specs.Cells.{Covers}
 use Rattle.hc_range.specs.{declared.range.{Asked.{Asked}, ContentRange.{ContentRange}, Span.{Span}}, Spans.{resolved_span}}
 use Rattle.hc_effects.proofs.Vocabulary.{range, need, event, case, route, wanted, Opening, opening_in, Need, Request, Response, HeadCase, Length, fits_to_found, fits_part, begins_at, length_of, base_of, promise_of, route_of, content_range_of, range_of, wanted_of, wanted_part, BoundBy, has_loss, case_at, head_view, fits_asker, consumer_heard, waiting, current, Entry, base, front, length_by, founded_total, first_hole, absent_from, entry_of, bound_to, hole_start, Tables, Exchange, Representation, Consumer, after_accepted}
 use Rattle.hc_effects.proofs.{Basics.{false_true}, BoundFrom.{IsRow, IsInterval, IsFounded, IsFirstHole}, ExchangeFrom.{IsSame, IsHeaded}, FirstKeeps.{case_of_head, whole_200, replaced_200, is_new, is_opener}, FoundBy.{founds_range, CaseBy}, HoleLemmas.{first_before, first_from, some_of}, HolesOpened.{first_hole_is}, OwnersKeep.{is_opened}, PartTold.{IsTold, part_told, whole_base}, PollKeeps.{current_stays}, EndsKeep.{interval_inj}, Step.{Step}}
 use Rattle.hc_effects.proofs.BoundFrom as from
 use Rattle.hc_effects.proofs.OpenedAs as opened
-use Rattle.hc_effects.proofs.PartTold as told
 
 pub head_inj : (a d : ℕ) (f g : Response) → event.Head a f ≡ event.Head d g → f ≡ g
 head_inj a d f g is = cc
@@ -27,12 +26,7 @@ pub record IsPartFrom (response : Response) (lo : ℕ) : Type 0 where
   pub starts : first ≡ lo
 
 begins_by : (first last : ℕ) (span : Span) (q : Option Span) → begins_at q first last ≡ true → wanted_part q ≡ wanted.Interval span → first ≡ span.lo
-begins_by first last span None h is = absurd (false_true h)
-begins_by first last span (Some z) h is =
-    let test : nat_eq first z.lo ≡ true = and_left _ _ h in
-    let number : first ≡ z.lo = grind (arith, nat_tests) in
-    let same : z.lo ≡ span.lo = ap (λ (a : Span). a.lo) (interval_inj z span is) in
-    omega arith
+begins_by first last span q h is = grind (arith, nat_tests)
 
 module _ (k : Consumer) (w : Exchange) (response : Response) (lo : ℕ) (hi : Option ℕ) (status : response.status ≡ 206) (i : IsInterval (wanted_of (range_of k.request) (founded_total w response)) lo hi) where
   part_by : (asked : Asked) (z : Option ContentRange) → range_of k.request ≡ Some asked → content_range_of response.fields ≡ z → fits_part asked z ≡ true → IsPartFrom response lo
@@ -48,8 +42,7 @@ module _ (k : Consumer) (w : Exchange) (response : Response) (lo : ℕ) (hi : Op
   fits_by (Some asked) is h = part_by asked (content_range_of response.fields) is refl (and_right _ _ h)
 
 base_by : (first last : ℕ) (l : Length) → IsTold first last l → base_of l ≤ first
-base_by first last l (told.none is) = let none_is : base_of l ≡ 0 = ap base_of is in omega arith
-base_by first last l (told.part is) = let first_is : base_of l ≡ first = ap base_of is in omega arith
+base_by first last l it3 = grind (arith, nat_tests)
 
 module _ (step : Step) where
   open step use {limits, tables as t, now, flaw, sound as s, event as ev, accepted as goes}
@@ -72,14 +65,10 @@ module _ (step : Step) where
         let told_is : length_by z z.head ≡ length_of w.need w.request response = ap (length_by z) got.head_is ∙ (ap (λ (n : Need). length_of n z.request got.response) same.need_is ∙ (ap (λ (q : Request). length_of w.need q got.response) same.request_is ∙ ap (length_of w.need w.request) answer)) in
         let first : base z ≡ base_of (length_of w.need w.request response) = ap base_of told_is in
         let empty : z.body ≡ [] = got.body_is ∙ (s.waits.headless x w exchange_row (is_new limits t now flaw s ev goes x response w here exchange_row).bare).0 in
-        let none_yet : length z.body ≡ 0 = ap (λ (b : List ℕ). length b) empty in
-        omega arith
+        grind (arith, nat_tests)
 
     whole : response.status ≡ 200 → front z ≤ lo
-    whole status =
-        let off : nat_eq response.status 206 ≡ false = number_not response.status 206 (λ is. let no : 200 ≡ 206 = sym status ∙ is in absurd (omega arith)) in
-        let none_is : base_of (length_of w.need w.request response) ≡ 0 = whole_base w.need w.request response off in
-        from_base (omega arith)
+    whole status = grind (arith, nat_tests, number_not, whole_base, from_base)
 
     part : CaseBy view case.FoundsRange → IsInterval (wanted_of (range_of k.request) (founded_total w response)) lo hi → front z ≤ lo
     part (founds_range way status fits kept good) i =
@@ -94,20 +83,13 @@ module _ (step : Step) where
 
     -- and no later, where it is open then
     from_part : (first last : ℕ) (l : Length) → first ≡ lo → (promise_of l ≡ Some 0 → ⊥) → IsTold first last l → lo ≤ base_of l
-    from_part first last l starts unmet (told.none is) = absurd (unmet (ap promise_of is))
-    from_part first last l starts unmet (told.part is) = let first_is : base_of l ≡ first = ap base_of is in omega (arith, starts, first_is)
-
-    base_then : base z ≡ base_of (length_of w.need w.request response)
-    base_then =
-        let answer : got.response ≡ response = head_inj x x got.response response (sym got.at ∙ here) in
-        ap base_of (ap (length_by z) got.head_is ∙ (ap (λ (n : Need). length_of n z.request got.response) same.need_is ∙ (ap (λ (q : Request). length_of w.need q got.response) same.request_is ∙ ap (length_of w.need w.request) answer)))
+    from_part first last l starts unmet it5 = grind (arith, nat_tests)
 
     part_from : (promise_of (length_of w.need w.request response) ≡ Some 0 → ⊥) → CaseBy view case.FoundsRange → IsInterval (wanted_of (range_of k.request) (founded_total w response)) lo hi → lo ≤ front z
     part_from unmet (founds_range way status fits kept good) i =
         let p = fits_by k w response lo hi status i (range_of k.request) refl (sym (ap (λ q. fits_asker q response) (ap t.consumer mine ∙ row)) ∙ fits) in
         let le : lo ≤ base_of (length_of w.need w.request response) = from_part p.first p.last _ p.starts unmet (part_told w.need w.request response p.first p.last p.total (λ past. let no : route.Turn ≡ route.Direct = sym way ∙ past in cc) status p.told good) in
-        let first : base z ≡ base_of (length_of w.need w.request response) = base_then in
-        omega arith
+        grind (arith, nat_tests)
 
     begins_by_case : (promise_of (length_of w.need w.request response) ≡ Some 0 → ⊥) → (g : Option HeadCase) → case_at t e ≡ g → IsFounded t e c r lo hi how x response w k g → lo ≤ front z
     begins_by_case unmet _ is (from.whole a b) = let zero_is : lo ≡ 0 = a in omega arith
@@ -132,12 +114,8 @@ module _ (step : Step) where
     stored_body : (v : Representation) (a b : ℕ) → t.representation r ≡ Some v → v.is_gone ≡ false → Covers v.stored a b → Covers v.body a b
     stored_body v a b there not_gone all d from_a lt = by_test v.is_lost refl
       where
-        store : Rattle.hc_model.specs.Sound.IsStored v
-        store = (s.rows r v there).store
-
         by_test : (z : Bool) → v.is_lost ≡ z → is_some (v.body d) ≡ true
-        by_test true lost = absurd (false_true (sym not_gone ∙ store.lost_is_gone lost))
-        by_test false kept = ap (λ (z : Option Cell). is_some z) (sym (store.all_stored kept d)) ∙ all d from_a lt
+        by_test z lost = grind (arith, nat_tests)
 
     -- it is a hole of what its consumer reads, and all before it is there
     abbrev FillsFrom : Representation → Type 0

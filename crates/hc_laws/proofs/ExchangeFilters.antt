@@ -6,10 +6,10 @@
 -- `ends_are`; the law of columns joins them.
 use Rattle.std.{proofs.{Common.{◌≡◌, inl, inr, ℕ, List, [], ◌∷◌, ◌++◌, length, Bool, true, false, cond, Option, Some, None, refl, ap, sym, ◌∙◌, arith}, lemmas.{List.{append-nil}, Bool.Decides.{nat_tests}}}, specs.{Prelude.{if◌then◌else◌, ◌==◌, ◌||◌, ◌&&◌, not, option_map, option_and_then, is_some}, Option.{option_map_or, option_or}}}
 use Rattle.hc_text.proofs.Basics.{bool_cases, or_false, or_none}
-use Rattle.hc_effects.proofs.Vocabulary.{Opening, opening_in, is_denied, Event, Response, Limits, head_refusal, piece_refusal, end_refusal, denial, as_open, Entry, History, Contents, promised_bytes, exchange_after, exchange_heard, exchange_made, with_head, with_piece, Tables, Exchange, IsRun, IsOwed, tables, after, each, first, if_accepted, opening_of, opened_in, event}
+use Rattle.hc_effects.proofs.Vocabulary.{Opening, opening_in, is_denied, Event, Response, Limits, head_refusal, denial, as_open, Entry, History, Contents, promised_bytes, exchange_after, exchange_heard, exchange_made, Tables, Exchange, IsRun, IsOwed, tables, after, each, first, if_accepted, opening_of, opened_in, event}
 use Rattle.hc_rules.specs.Refusals as refusals
 use Rattle.hc_model.specs.Histories.{Answered, opening_at, head_in, head_of, bytes_in, delivered_of, ends_in, has_ended, answered_in}
-use Rattle.hc_effects.proofs.{Once.{never}, Owed.{goes, denied_opens}, ConsumerFilters.{first_more}}
+use Rattle.hc_effects.proofs.{Owed.{goes, denied_opens}, ConsumerFilters.{first_more}}
 
 -- WHAT AN EVENT LEAVES OF A ROW
 
@@ -19,36 +19,11 @@ record IsOpened (w u : Exchange) : Type 0 where
   request_is : u.request ≡ w.request
   opened_is : u.opened ≡ w.opened
 
-opened_same : (w : Exchange) → IsOpened w w
-opened_same w = record { c_is = refl; need_is = refl; request_is = refl; opened_is = refl }
-
-opened_if : (b : Bool) (w u : Exchange) → IsOpened w u → IsOpened w (cond b u w)
-opened_if true w u is = is
-opened_if false w u is = opened_same w
-
-heard_opened : (t : Tables) (e : Entry) (x : ℕ) (ev : Event) (w : Exchange) → IsOpened w (exchange_heard t e x ev w)
-heard_opened t e x (event.Head y response) w = opened_if (y == x) w (with_head t e response w) (record { c_is = refl; need_is = refl; request_is = refl; opened_is = refl })
-heard_opened t e x (event.Piece y bytes) w = opened_if (y == x) w (with_piece bytes w) (record { c_is = refl; need_is = refl; request_is = refl; opened_is = refl })
-heard_opened t e x (event.End y) w = opened_if (y == x) w _ (record { c_is = refl; need_is = refl; request_is = refl; opened_is = refl })
-heard_opened t e x (event.Fault y) w = opened_if (y == x) w _ (record { c_is = refl; need_is = refl; request_is = refl; opened_is = refl })
-heard_opened t e x _ w = opened_same w
-
 -- OPENINGS
-
-same_opened : (w u : Exchange) → IsOpened w u → opened_in u ≡ opened_in w
-same_opened w u is = rw (is.c_is, is.need_is, is.request_is, is.opened_is) refl
-
-made_opened : (t : Tables) (e : Entry) (x : ℕ) (o : Option Opening) → option_map opened_in (exchange_made t e x o) ≡ first (opening_at x e.now o)
-made_opened t e x None = refl
-made_opened t e x (Some o) = elim (bool_cases (o.x == x)) [
-  | inl here ↦ rw here refl
-  | inr other ↦ rw other refl
-]
 
 opening_after : (t : Tables) (e : Entry) (x : ℕ) (o : Option Exchange) → option_map opened_in (exchange_after t e x o) ≡ option_or (option_map opened_in o) (first (opening_at x e.now (opening_in e.acts)))
 unfolding exchange_after
-opening_after t e x None = made_opened t e x (opening_in e.acts)
-opening_after t e x (Some w) = ap Some (same_opened w (exchange_heard t e x e.event w) (heard_opened t e x e.event w))
+opening_after t e x o = grind (arith, nat_tests)
 
 opening_step : (t : Tables) (e : Entry) (x : ℕ) (b : Bool) → is_denied e.acts ≡ b → option_map opened_in ((after t e).exchange x) ≡ option_or (option_map opened_in (t.exchange x)) (first (opening_at x e.now (opening_in e.acts)))
 unfolding after
@@ -64,9 +39,7 @@ openings_are contents (e ∷ h) x =
 -- HEADS
 
 no_head : (is_open : Bool) (o : Option Response) (asked : Bool) (n : ℕ) (p : Option ℕ) → head_refusal (if is_open then Some (record { headed = is_some o; asked = asked; delivered = n; promised = p }) else None) ≡ None → o ≡ None
-no_head false o asked n p h = absurd (never _ h)
-no_head true (Some response) asked n p h = absurd (never _ h)
-no_head true None asked n p h = refl
+no_head is_open o asked n p h = grind (arith, nat_tests)
 
 pub headless : (w : Exchange) → head_refusal (as_open (Some w)) ≡ None → w.head ≡ None
 headless w h = no_head w.is_open w.head w.asked (length w.body) (promised_bytes w) h
@@ -75,44 +48,21 @@ abbrev answered : Option Exchange → Option Answered
 answered o = option_and_then answered_in o
 
 made_answered : (t : Tables) (e : Entry) (x : ℕ) (o : Option Opening) → answered (exchange_made t e x o) ≡ None
-made_answered t e x None = refl
-made_answered t e x (Some o) = elim (bool_cases (o.x == x)) [
-  | inl here ↦ rw here refl
-  | inr other ↦ rw other refl
-]
+made_answered t e x o = grind (arith, nat_tests)
 
 -- a row that isn't there has no head, and one that has a head gets no other
 heard_answered : (t : Tables) (e : Entry) (x : ℕ) (w : Exchange) (ev : Event) → t.exchange x ≡ Some w → denial t ev ≡ None → answered_in (exchange_heard t e x ev w) ≡ option_or (answered_in w) (first (head_in x e.now ev))
 unfolding refusals.refusal_of
-heard_answered t e x w (event.Head y response) row h = elim (bool_cases (y == x)) [
-  | inr other ↦ rw other (sym (or_none _))
-  | inl here ↦
-      let bare : w.head ≡ None = headless w (sym (ap (λ n. head_refusal (as_open (t.exchange n))) (grind (arith, nat_tests)) ∙ ap (λ o. head_refusal (as_open o)) row) ∙ h) in
-      rw (here, bare) refl
-]
-heard_answered t e x w (event.Piece y bytes) row h = elim (bool_cases (y == x)) [
-  | inl here ↦ rw here (sym (or_none _))
-  | inr other ↦ rw other (sym (or_none _))
-]
-heard_answered t e x w (event.End y) row h = elim (bool_cases (y == x)) [
-  | inl here ↦ rw here (sym (or_none _))
-  | inr other ↦ rw other (sym (or_none _))
-]
-heard_answered t e x w (event.Fault y) row h = elim (bool_cases (y == x)) [
-  | inl here ↦ rw here (sym (or_none _))
-  | inr other ↦ rw other (sym (or_none _))
-]
+heard_answered t e x w (event.Head y response) row h = grind (arith, nat_tests)
+heard_answered t e x w (event.Piece y bytes) row h = grind (arith, nat_tests)
+heard_answered t e x w (event.End y) row h = grind (arith, nat_tests)
+heard_answered t e x w (event.Fault y) row h = grind (arith, nat_tests)
 heard_answered t e x w _ row h = sym (or_none _)
 
 -- an event of an exchange that isn't there is denied
 no_head_in : (t : Tables) (x now : ℕ) (ev : Event) → t.exchange x ≡ None → denial t ev ≡ None → first (head_in x now ev) ≡ None
 unfolding refusals.refusal_of
-no_head_in t x now (event.Head y response) row h = elim (bool_cases (y == x)) [
-  | inr other ↦ rw other refl
-  | inl here ↦
-      absurd (never _ (sym (ap (λ n. head_refusal (as_open (t.exchange n))) (grind (arith, nat_tests)) ∙ ap (λ o. head_refusal (as_open o)) row) ∙ h))
-]
-no_head_in t x now _ row h = refl
+no_head_in t x now ev row h = grind (arith, nat_tests)
 
 head_after : (t : Tables) (e : Entry) (x : ℕ) (o : Option Exchange) → t.exchange x ≡ o → denial t e.event ≡ None → answered (exchange_after t e x o) ≡ option_or (answered o) (first (head_in x e.now e.event))
 unfolding exchange_after
@@ -136,11 +86,7 @@ abbrev body : Option Exchange → List ℕ
 body o = option_map_or (λ (w : Exchange). w.body) o []
 
 made_body : (t : Tables) (e : Entry) (x : ℕ) (o : Option Opening) → body (exchange_made t e x o) ≡ []
-made_body t e x None = refl
-made_body t e x (Some o) = elim (bool_cases (o.x == x)) [
-  | inl here ↦ rw here refl
-  | inr other ↦ rw other refl
-]
+made_body t e x o = grind (arith, nat_tests)
 
 heard_body : (t : Tables) (e : Entry) (x : ℕ) (w : Exchange) (ev : Event) → (exchange_heard t e x ev w).body ≡ w.body ++ bytes_in x ev
 heard_body t e x w (event.Head y response) = elim (bool_cases (y == x)) [
@@ -163,13 +109,7 @@ heard_body t e x w _ = sym (append-nil w.body)
 
 no_bytes_in : (t : Tables) (x : ℕ) (ev : Event) → t.exchange x ≡ None → denial t ev ≡ None → bytes_in x ev ≡ []
 unfolding refusals.refusal_of
-no_bytes_in t x (event.Piece y bytes) row h = elim (bool_cases (y == x)) [
-  | inr other ↦ rw other refl
-  | inl here ↦
-      let same : y ≡ x = grind (arith, nat_tests) in
-      absurd (never _ (sym (ap (λ n. piece_refusal (as_open (t.exchange n)) (length bytes)) same ∙ ap (λ o. piece_refusal (as_open o) (length bytes)) row) ∙ h))
-]
-no_bytes_in t x _ row h = refl
+no_bytes_in t x ev row h = grind (arith, nat_tests)
 
 body_after : (t : Tables) (e : Entry) (x : ℕ) (o : Option Exchange) → t.exchange x ≡ o → denial t e.event ≡ None → body (exchange_after t e x o) ≡ body o ++ bytes_in x e.event
 unfolding exchange_after
@@ -194,39 +134,18 @@ abbrev ended : Option Exchange → Bool
 ended o = option_map_or (λ (w : Exchange). w.is_ended) o false
 
 made_ended : (t : Tables) (e : Entry) (x : ℕ) (o : Option Opening) → ended (exchange_made t e x o) ≡ false
-made_ended t e x None = refl
-made_ended t e x (Some o) = elim (bool_cases (o.x == x)) [
-  | inl here ↦ rw here refl
-  | inr other ↦ rw other refl
-]
+made_ended t e x o = grind (arith, nat_tests)
 
 heard_ended : (t : Tables) (e : Entry) (x : ℕ) (w : Exchange) (ev : Event) → (exchange_heard t e x ev w).is_ended ≡ (ends_in x ev || w.is_ended)
-heard_ended t e x w (event.Head y response) = elim (bool_cases (y == x)) [
-  | inl here ↦ rw here refl
-  | inr other ↦ rw other refl
-]
-heard_ended t e x w (event.Piece y bytes) = elim (bool_cases (y == x)) [
-  | inl here ↦ rw here refl
-  | inr other ↦ rw other refl
-]
-heard_ended t e x w (event.End y) = elim (bool_cases (y == x)) [
-  | inl here ↦ rw here refl
-  | inr other ↦ rw other refl
-]
-heard_ended t e x w (event.Fault y) = elim (bool_cases (y == x)) [
-  | inl here ↦ rw here refl
-  | inr other ↦ rw other refl
-]
+heard_ended t e x w (event.Head y response) = grind (arith, nat_tests)
+heard_ended t e x w (event.Piece y bytes) = grind (arith, nat_tests)
+heard_ended t e x w (event.End y) = grind (arith, nat_tests)
+heard_ended t e x w (event.Fault y) = grind (arith, nat_tests)
 heard_ended t e x w _ = refl
 
 no_end_in : (t : Tables) (x : ℕ) (ev : Event) → t.exchange x ≡ None → denial t ev ≡ None → ends_in x ev ≡ false
 unfolding refusals.refusal_of
-no_end_in t x (event.End y) row h = elim (bool_cases (y == x)) [
-  | inr other ↦ other
-  | inl here ↦
-      absurd (never _ (sym (ap (λ n. end_refusal (as_open (t.exchange n))) (grind (arith, nat_tests)) ∙ ap (λ o. end_refusal (as_open o)) row) ∙ h))
-]
-no_end_in t x _ row h = refl
+no_end_in t x ev row h = grind (arith, nat_tests)
 
 end_after : (t : Tables) (e : Entry) (x : ℕ) (o : Option Exchange) → t.exchange x ≡ o → denial t e.event ≡ None → ended (exchange_after t e x o) ≡ (ends_in x e.event || ended o)
 unfolding exchange_after

@@ -1,5 +1,5 @@
 -- As long as nothing is due for the one that became bound alone, nothing is due for whoever reads beside it: after each accepted event too.
-use Rattle.std.{proofs.Common.{◌≡◌, inl, inr, ℕ, true, false, Option, Some, None, refl, ap, sym, ◌∙◌, subst}, specs.Prelude.{is_some}}
+use Rattle.std.{proofs.{lemmas.Bool.Decides.{nat_tests}, Common.{arith, ◌≡◌, inl, inr, ℕ, true, false, Option, Some, None, refl, ap, sym, ◌∙◌, subst}}, specs.Prelude.{is_some}}
 use Rattle.hc_text.proofs.Basics.{same_some as same_row}
 use Rattle.hc_effects.proofs.Vocabulary.{Opening, opening_in, Response, BoundBy, Showing, showing_in, consumer_heard, consumer_acted, by_opening, waiting, route_of, current, Entry, entry_of, bound_to, reads, Tables, Exchange, Representation, Consumer, IsBound, IsFirst, after_accepted, came_alone, event, place, route}
 use Rattle.hc_model.specs.Sound as sound
@@ -31,8 +31,7 @@ module _ (step : Step) where
   module _ (r : ℕ) (new : Representation) (after : now_on.representation r ≡ Some new) (kept : new.is_lost ≡ false) where
     -- a representation that was there has its row
     row_by : (z : Option Representation) → t.representation r ≡ z → is_some z ≡ true → (v : Representation) × (t.representation r ≡ Some v)
-    row_by None row there = absurd (false_true there)
-    row_by (Some v) row there = (v, row)
+    row_by z row there = grind (arith, nat_tests)
 
     unfounded : (x c : ℕ) (response : Response) (w : Exchange) (k : Consumer) → ev ≡ event.Head x response → t.exchange x ≡ Some w → x ≡ r → IsBound t r c k → ⊥
     unfounded x c response w k here row of_r reader =
@@ -69,8 +68,7 @@ module _ (step : Step) where
       by_ways (from.founds a x response w row here exchange mine of_r by_is all) (from.opens b p also opens mine_too free way hole) = absurd (head_opens x response p here opens)
       by_ways (from.opens a p row opens mine free way hole) (from.stays b also at_too) = absurd (nobody a p c b row.row opens mine free way hole.current_is d (sound.is_bound lo_d hi_d how_d also.row at_too))
       by_ways (from.opens a p row opens mine free way hole) (from.founds b x response w also here exchange mine_too of_r by_is all) = absurd (head_opens x response p here opens)
-      by_ways (from.opens a p row opens mine free way hole) (from.opens b q also opens_too mine_too free_too way_too hole_too) =
-          absurd (apart (sym mine_too ∙ (ap (λ (z : Opening). z.c) (same_row (opening_in e.acts) q p opens_too opens) ∙ mine)))
+      by_ways (from.opens a p row opens mine free way hole) (from.opens b q also opens_too mine_too free_too way_too hole_too) = grind (arith, nat_tests)
 
     by_number : (c d : ℕ) (k u : Consumer) → IsFirst now_on r c → now_on.consumer c ≡ Some k → k.due ≡ None → IsBound now_on r d u → u.due ≡ None
     by_number c d k u (sound.first q lo hi how row at alone) row_k none_c (sound.is_bound lo_d hi_d how_d row_d at_d) =

@@ -160,9 +160,6 @@ module _ (step : Step) (m : Measures step.tables) (f : Fits step.limits step.tab
       replaced (Some case.FirstReplaced) h = refl
       replaced _ h = absurd (false_true h)
 
-      none_for : is_for None c ≡ true → ⊥
-      none_for h = false_true h
-
       by_event : (z : Event) → ev ≡ z → is_replacing (case_at t e0) ≡ true → is_for (exchange_at t ev) c ≡ true → ⊥
       by_event (event.Head x response) here is mine = head_moves x response (t.exchange x) here refl (sym (case_same t e r lossless) ∙ replaced (case_at t e0) is) (sym (ap (λ q. is_for (exchange_at t q) c) here) ∙ mine)
       by_event v here is mine = false_true (sym (ap is_replacing (ap (case_of t false) here)) ∙ is)

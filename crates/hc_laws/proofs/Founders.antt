@@ -1,8 +1,8 @@
 -- The exchange that founded a representation joined no other.
-use Rattle.std.{proofs.Common.{◌≡◌, ◌⊎◌, inl, inr, ℕ, Bool, true, false, Some, None, refl, ap, sym, ◌∙◌}, specs.Prelude.{if◌then◌else◌}}
-use Rattle.hc_text.proofs.Basics.{bool_cases, not_some as none_some}
-use Rattle.hc_effects.proofs.Vocabulary.{Response, head_case, has_loss, case_at, head_view, is_founding, is_joining, Entry, entry_of, Tables, Exchange, Representation, after_accepted, event}
-use Rattle.hc_effects.proofs.{Basics.{false_true}, ExchangeFrom.{ExchangeFrom, IsHeaded, exchange_from}, FirstKeeps.{case_is, is_new}, LossStands.{not_founding}, RepFrom.{RepFrom, rep_from}, Step.{Step}}
+use Rattle.std.{proofs.{lemmas.Bool.Decides.{nat_tests}, Common.{arith, ◌≡◌, ◌⊎◌, inl, inr, ℕ, Bool, true, false, Some, None, refl, ap, sym, ◌∙◌}}, specs.Prelude.{if◌then◌else◌}}
+use Rattle.hc_text.proofs.Basics.{not_some as none_some}
+use Rattle.hc_effects.proofs.Vocabulary.{Response, case_at, is_founding, is_joining, Entry, entry_of, Tables, Exchange, Representation, after_accepted, event}
+use Rattle.hc_effects.proofs.{ExchangeFrom.{ExchangeFrom, IsHeaded, exchange_from}, FirstKeeps.{is_new}, RepFrom.{RepFrom, rep_from}, Step.{Step}}
 use Rattle.hc_effects.proofs.ExchangeFrom as exchange
 use Rattle.hc_effects.proofs.RepFrom as rep
 
@@ -17,13 +17,7 @@ module _ (step : Step) where
 
   -- what founds doesn't join
   founds_alone : (r : ℕ) (response : Response) (w : Exchange) → ev ≡ event.Head r response → t.exchange r ≡ Some w → is_founding (case_at t e) ≡ true → is_joining (case_at t e) ≡ false
-  founds_alone r response w here row on = elim (bool_cases (is_joining (case_at t e))) [
-    | inr off ↦ off
-    | inl joins ↦
-        let g = head_case (head_view t (has_loss e.acts) w response) in
-        let is : case_at t e ≡ Some g = case_is t e r response w here row in
-        absurd (false_true (sym (not_founding g (sym (ap is_joining is) ∙ joins)) ∙ (sym (ap is_founding is) ∙ on)))
-  ]
+  founds_alone r response w here row on = grind (arith, nat_tests)
 
   -- an exchange without a head joined nothing
   bare_joined : (r : ℕ) (response : Response) (w : Exchange) → ev ≡ event.Head r response → t.exchange r ≡ Some w → w.joined ≡ None

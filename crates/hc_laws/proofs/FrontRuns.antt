@@ -29,10 +29,6 @@ module _ (step : Step) (m : Measures step.tables) (i : IsBeside step.tables) (f 
   abbrev now_on : Tables
   now_on = after_accepted t e
 
-  -- an exchange that is opened wasn't there
-  new_one : {P : Type 0} (x : ℕ) (q : Opening) (w : Exchange) → opening_in e.acts ≡ Some q → q.x ≡ x → t.exchange x ≡ Some w → P
-  new_one x q w opens this row = absurd (none_some w (sym (new_number step q x opens this) ∙ row))
-
   module _ (r c x lo : ℕ) (hi : Option ℕ) (how : BoundBy) (u : Consumer) (z : Exchange) (after_row : now_on.consumer c ≡ Some u) (stands : u.place ≡ place.Bound r lo hi how) (none : u.due ≡ None) (owned : u.own ≡ Some x) (after_x : now_on.exchange x ≡ Some z) (opened : z.is_open ≡ true) where
     abbrev Begins : Type 0
     Begins = lo ≤ goes_on_at z z.head

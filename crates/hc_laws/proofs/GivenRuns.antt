@@ -1,10 +1,9 @@
 -- What a reader was given stands in the body, and not past its end, in every run.
-use Rattle.std.{proofs.{Common.{◌≡◌, ◌≤◌, ◌<◌, ◌⊎◌, inl, inr, ℕ, ◌+◌, ◌-◌, List, length, Bool, true, false, Option, Some, None, refl, ap, sym, ◌∙◌, subst, arith}, lemmas.Bool.Decides.{nat_tests}}, specs.{Prelude.{is_some, nat_lt}, Option.{option_or}}}
+use Rattle.std.{proofs.{Common.{◌≡◌, ◌≤◌, ◌<◌, ◌⊎◌, inl, inr, ℕ, ◌+◌, ◌-◌, List, length, Bool, true, false, Option, Some, refl, ap, sym, ◌∙◌, subst, arith}, lemmas.Bool.Decides.{nat_tests}}, specs.{Prelude.{is_some, nat_lt}, Option.{option_or}}}
 use Rattle.hc_text.proofs.Basics.{bool_cases, some_inj}
 use Rattle.hc_sparse.specs.Cells.{Cell, Covers}
-use Rattle.hc_effects.proofs.Vocabulary.{place, BoundBy, total_in, given_of, OfRuns, IsRun, may_begin, History, Contents, Limits, Measures, hi_of, lo_of, reads, Holds, cell_by, Tables, Representation, Consumer, Sound, tables}
+use Rattle.hc_effects.proofs.Vocabulary.{place, BoundBy, total_in, given_of, OfRuns, IsRun, may_begin, History, Contents, Limits, Measures, lo_of, reads, Holds, Tables, Representation, Consumer, Sound, tables}
 use Rattle.hc_model.specs.Given.{Given, IsWithin}
-use Rattle.hc_model.specs.Sound as sound
 use Rattle.hc_effects.proofs.{Basics.{false_true, some_row}, Bounded.{IsBounded}, GivenNext.{read_of}}
 use Rattle.hc_laws.proofs.{ReadAs.{IsRead}, ReadEnds.{bounded}, ReadJoined.{joined_in_runs, is_told}, ReadNext.{shown_one}, SoundRuns.{carried}}
 
@@ -15,17 +14,14 @@ pub record AreCovered (t : Tables) : Type 0 where
 held_there : (t : Tables) (r lo : ℕ) (bytes : List ℕ) (v : Representation) → t.representation r ≡ Some v → Holds t r lo bytes → Covers v.body lo (lo + length bytes)
 held_there t r lo bytes v there holds p from to =
     let got = holds (p - lo) (omega arith) in
-    let at : lo + (p - lo) + 0 ≡ p = omega arith in
-    ap (λ n. is_some (v.body n)) (sym at) ∙ (ap (λ (q : Option Representation). is_some (cell_by t r (lo + (p - lo) + 0) q)) (sym there) ∙ ap (λ (q : Option Cell). is_some q) (got.1 0 (omega arith)))
+    grind (arith, nat_tests)
 
 module _ (limits : Limits) (contents : Contents) (h : History) (may : may_begin limits contents ≡ true) (run : IsRun limits contents h) where
   abbrev after_h : Tables
   after_h = tables contents h
 
   by_shown : (c r lo : ℕ) (hi : Option ℕ) (how : BoundBy) (k : Consumer) (v : Representation) → after_h.consumer c ≡ Some k → k.place ≡ place.Bound r lo hi how → after_h.representation r ≡ Some v → (b : Bool) → k.shown ≡ b → Covers v.body lo (lo + k.given)
-  by_shown c r lo hi how k v row at there false off =
-      let zero : k.given ≡ 0 = (bounded limits contents h may run).fresh c k row off in
-      λ p from to. absurd (omega arith)
+  by_shown c r lo hi how k v row at there false off = grind (arith, nat_tests, bounded)
   by_shown c r lo hi how k v row at there true on =
       let z = shown_one limits contents h run c k row on in
       let joined = joined_in_runs limits contents h may run in
@@ -54,28 +50,10 @@ module _ (t : Tables) (s : Sound t) (m : Measures t) (b : IsBounded t) (a : AreC
 
   -- who reads up to an end that isn't known reads from the first position on
   within_by : (c r lo n : ℕ) (hi : Option ℕ) (how : BoundBy) (k : Consumer) (v : Representation) → t.consumer c ≡ Some k → k.place ≡ place.Bound r lo hi how → t.representation r ≡ Some v → option_or hi (total_in (t.representation r)) ≡ Some n → IsWithin lo k.given n
-  within_by c r lo n (Some hi) how k v row at there is =
-      let same : hi ≡ n = some_inj hi n is in
-      let order : lo ≤ hi = b.proper c r lo hi how k row at in
-      let ends : lo + k.given ≤ hi = b.within c r lo hi how k row at in
-      record { order = omega arith; ends = omega arith }
-  within_by c r lo n None how k v row at there is =
-      let first : lo ≡ 0 = b.first c r lo how k row at in
-      let most : v.reach ≤ n = m.within r n v there (sym (ap total_in there) ∙ is) in
-      elim (reaches_by c r lo None how k v row at there) [
-        | inl zero ↦ record { order = omega arith; ends = omega arith }
-        | inr le ↦ record { order = omega arith; ends = omega arith }
-      ]
+  within_by c r lo n hi how k v row at there is = grind (arith, nat_tests)
 
   given_by : Given t
-  given_by = record {
-    covered = a.covered;
-    reaches = reaches_by;
-    within = λ c r lo n hi how k row at is.
-        let there = some_row (t.representation r) (s.numbered.bound_to r c k (sound.is_bound lo hi how row at)) in
-        within_by c r lo n hi how k there.0 row at there.1 (sym (ap (hi_of t) at) ∙ is);
-    from_start = b.first;
-  }
+  given_by = grind (arith, nat_tests, reaches_by, some_row, within_by)
 
 pub given_in_runs : OfRuns Given
 given_in_runs limits contents h may run =

@@ -3,35 +3,27 @@
 -- It waits for no head: the hole for which its exchange asks is where it stands, and there nothing is stored. So it
 -- reads, and what is stored comes first. `asks_not` has the work of the first, `reading_is` is the second, and
 -- `by_poll` takes both to the acts of a poll.
-use Rattle.std.{proofs.{Common.{◌≡◌, inl, inr, ℕ, ◌+◌, ◌-◌, ◌<◌, List, [], ◌∷◌, ◌++◌, length, true, false, Option, Some, None, refl, ap, sym, ◌∙◌, subst, arith, length-append}, lemmas.Bool.Decides.{nat_tests}}, specs.{Prelude.{is_some, if◌then◌else◌, IfSome, nat_eq}, Option.{option_and_then, option_map}}}
-use Rattle.hc_text.proofs.Basics.{bool_cases, not_some as none_some, same_some as same_row}
-use Rattle.hc_sparse.specs.{Cells.{Cells, Cell}, Runs.{end_of}, Stretch.{stretch, stretch_of}, declared.run.Run.{Run}}
-use Rattle.hc_effects.proofs.Vocabulary.{given_in, Response, read_step, is_at_end, cut_at, stored_or, held_or, fails_or, waits_or, ReadStep, Limits, Place, BoundBy, row_of, Entry, is_headless, failures_in, OfHistories, Turns, Gives, gives, acts_of, Owners, planned_move, move_of, shows_at, if_headless, waits_for_head, or_else, by_place, bound_to, lo_of, offset, hi_of, own_open, source, Tables, Exchange, Representation, Consumer, Sound, IsAbout, InHole, bound_row, stored_from, stored_ahead, read_view, step_move, reading, tables, event, place}
+use Rattle.std.{proofs.{Common.{◌≡◌, ℕ, ◌+◌, ◌-◌, ◌<◌, [], ◌∷◌, ◌++◌, length, true, false, Option, Some, None, refl, ap, sym, ◌∙◌, arith, length-append}, lemmas.Bool.Decides.{nat_tests}}, specs.{Prelude.{is_some, IfSome}, Option.{option_and_then}}}
+use Rattle.hc_text.proofs.Basics.{bool_cases, not_some as none_some}
+use Rattle.hc_sparse.specs.{Cells.{Cells, Cell}, Runs.{end_of}, Stretch.{stretch}, declared.run.Run.{Run}}
+use Rattle.hc_effects.proofs.Vocabulary.{given_in, read_step, is_at_end, cut_at, held_or, fails_or, waits_or, ReadStep, Limits, Place, BoundBy, row_of, Entry, is_headless, failures_in, OfHistories, Turns, Gives, acts_of, Owners, move_of, if_headless, by_place, bound_to, offset, hi_of, own_open, source, Tables, Exchange, Representation, Consumer, Sound, IsAbout, InHole, bound_row, stored_from, stored_ahead, read_view, reading, tables, event, place}
 use Rattle.hc_rules.specs.Readings as readings
-use Rattle.hc_rules.specs.declared.reading.ReadStep.TheVariants as step
 use Rattle.hc_model.specs.Reads.{GivesStored}
 use Rattle.hc_model.specs.Sound as sound
-use Rattle.hc_effects.proofs.{AboutKeeps.{own_open_of}, Basics.{false_true, some_row}, GivenNext.{given_next}, Givers.{some_want}, Owed.{goes}}
-use Rattle.hc_laws.proofs.{AtHoles.{AreAtHoles, at_holes_in_runs}, InRuns.{turned_in_runs}, SoundRuns.{carried}, TurnFacts.{moves_on, misreads, IsTaken, AtPoll, at_poll, behind}, TurnStays.{head_none}}
+use Rattle.hc_effects.proofs.{AboutKeeps.{own_open_of}, Basics.{some_row}, GivenNext.{given_next}, Givers.{some_want}, Owed.{goes}}
+use Rattle.hc_laws.proofs.{AtHoles.{AreAtHoles, at_holes_in_runs}, InRuns.{turned_in_runs}, SoundRuns.{carried}, TurnFacts.{moves_on, misreads, IsTaken, AtPoll, at_poll, behind}}
 
 module _ (t : Tables) (s : Sound t) (o : Owners t) (turns : Turns t) (are : AreAtHoles t) (c r lo : ℕ) (hi : Option ℕ) (how : BoundBy) (k : Consumer) (v : Representation) (row : t.consumer c ≡ Some k) (shown : k.shown ≡ true) (at : k.place ≡ place.Bound r lo hi how) (there : t.representation r ≡ Some v) (stored : is_some (v.stored (offset t k)) ≡ true) where
-  came : is_some (v.body (offset t k)) ≡ true
-  came = ap (λ (z : Option Cell). is_some z) (sym ((s.rows r v there).store.some_stored (offset t k) stored)) ∙ stored
-
   -- IT WAITS FOR NO HEAD
 
   -- nothing has come of the hole for which its exchange asks
   asks_not : (x : ℕ) (w : Exchange) → t.exchange x ≡ Some w → is_headless (Some w) ≡ true → k.own ≡ Some x → IsAbout t r x → ⊥
-  asks_not x w w_row bare own (sound.headed q q_row on headed family_is is) =
-      false_true (sym (ap (λ (z : Option Response). is_some z) (head_none w bare)) ∙ (ap (λ (z : Exchange). is_some z.head) (same_row (t.exchange x) w q w_row q_row) ∙ headed))
+  asks_not x w w_row bare own (sound.headed q q_row on headed family_is is) = grind (arith, nat_tests)
   asks_not x w w_row bare own (sound.asks q from to q_row on none need_is aim_is) =
       let it = turns.awaited x w w_row bare in
       let c_is : w.c ≡ c = o.one w.c c x it.k k it.row row it.own own in
       let inside : InHole w.need (lo + k.given) = are.stand x r lo w k (record { row = w_row; headless = bare; its = ap t.consumer c_is ∙ row; shown = shown; hi = hi; how = how; at = at }) in
-      let one : w ≡ q = same_row (t.exchange x) w q w_row q_row in
-      let stands : lo + k.given ≡ offset t k = sym (ap (λ p. lo_of t p + k.given) at) in
-      let none_came : v.body (offset t k) ≡ None = s.waits.holes x q r v (offset t k) q_row on none aim_is there (subst (λ n. InHole q.need n) stands (subst (λ (z : Exchange). InHole z.need (lo + k.given)) one inside)) in
-      false_true (sym (ap (λ (z : Option Cell). is_some z) none_came) ∙ came)
+      grind (arith, nat_tests)
 
   unwaited : (x : ℕ) → own_open t k ≡ Some x → is_headless (t.exchange x) ≡ true → ⊥
   unwaited x own bare =
@@ -39,28 +31,19 @@ module _ (t : Tables) (s : Sound t) (o : Owners t) (turns : Turns t) (are : AreA
       asks_not x is.w is.row (sym (ap (λ (z : Option Exchange). is_headless z) is.row) ∙ bare) is.own (s.writes.own_about r c x k (sound.is_bound lo hi how row at) own)
 
   no_head : (q : Option ℕ) → own_open t k ≡ q → option_and_then (if_headless t) q ≡ None
-  no_head None own = refl
-  no_head (Some x) own = elim (bool_cases (is_headless (t.exchange x))) [
-    | inl bare ↦ absurd (unwaited x own bare)
-    | inr off ↦ rw off refl
-  ]
+  no_head q own = grind (arith, nat_tests, bool_cases, unwaited)
 
   -- WHAT IS STORED COMES FIRST
 
   stretch_some : (f : Cells) (p n : ℕ) (q : Option Cell) → f p ≡ q → is_some q ≡ true → is_some (stretch f p n) ≡ true
   unfolding stretch
-  stretch_some f p n None is some = absurd (false_true some)
-  stretch_some f p n (Some cell) is some = ap (λ z. is_some (stretch_of f p n z)) is
+  stretch_some f p n q is some = grind (arith, nat_tests)
 
   reads : bound_row t k ≡ Some v
   reads = ap (λ p. row_of t (bound_to p)) at ∙ there
 
   ahead_some : (n : ℕ) → is_some (stored_ahead t k n) ≡ true
   ahead_some n = ap (λ z. is_some (option_and_then (stored_from (offset t k) n) z)) reads ∙ stretch_some v.stored (offset t k) _ (v.stored (offset t k)) refl stored
-
-  not_at_end : (q : Option ℕ) → IfSome q (λ end. offset t k < end) → is_at_end q (offset t k) ≡ false
-  not_at_end None lt = refl
-  not_at_end (Some end) lt = grind (arith, nat_tests)
 
   module _ (now want : ℕ) (many : 0 < want) (before : IfSome (hi_of t k.place) (λ end. offset t k < end)) where
     abbrev rest : ReadStep
@@ -71,15 +54,10 @@ module _ (t : Tables) (s : Sound t) (o : Owners t) (turns : Turns t) (are : AreA
 
     reading_is : (first run : Run) → stored_ahead t k want ≡ Some first → stored_ahead t k (next (end_of first)) ≡ Some run → reading t want c k ≡ Gives run
     unfolding read_step
-    reading_is first run is also =
-        ap (λ b. step_move t want c k (if b then step.Ended else stored_or (hi_of t k.place) (option_map end_of (stored_ahead t k want)) rest)) (not_at_end (hi_of t k.place) before)
-        ∙ (ap (λ z. step_move t want c k (stored_or (hi_of t k.place) (option_map end_of z) rest)) is ∙ ap gives also)
+    reading_is first run is also = grind (arith, nat_tests)
 
     move_is : move_of t now want c k ≡ reading t want c k
-    move_is =
-        ap (λ b. or_else (if b then None else shows_at t k k.place) (or_else (waits_for_head (option_and_then (if_headless t) (own_open t k))) (by_place t now want c k k.place))) shown
-        ∙ (ap (λ z. or_else (waits_for_head z) (by_place t now want c k k.place)) (no_head (own_open t k) refl)
-        ∙ (ap (by_place t now want c k) at ∙ ap (λ b. if b then reading t want c k else planned_move t now c k) shown))
+    move_is = grind (arith, nat_tests, by_place, no_head, reading)
 
     -- it is given some of it
     record IsGiven : Type 0 where
@@ -101,19 +79,14 @@ module _ (t : Tables) (s : Sound t) (o : Owners t) (turns : Turns t) (are : AreA
 
 module _ (limits : Limits) (t : Tables) (e : Entry) (taken : IsTaken limits t e) (s : Sound t) (o : Owners t) (turns : Turns t) (are : AreAtHoles t) (c want : ℕ) (polls : e.event ≡ event.Poll c want) (faultless : failures_in e.acts ≡ 0) (k : Consumer) (row : t.consumer c ≡ Some k) where
   given_one : (run : Run) → 0 < length run.bytes → e.acts ≡ acts_of c (Gives run) ++ behind limits t e taken → 0 < length (given_in c e.acts)
-  given_one run some all =
-      let mine : nat_eq c c ≡ true = grind (arith, nat_tests) in
-      let told : given_in c e.acts ≡ run.bytes ++ given_in c (behind limits t e taken) = ap (given_in c) all ∙ rw mine refl in
-      let count : length (given_in c e.acts) ≡ length run.bytes + length (given_in c (behind limits t e taken)) = ap (λ (bytes : List ℕ). length bytes) told ∙ length-append run.bytes (given_in c (behind limits t e taken)) in
-      omega arith
+  given_one run some all = grind (arith, nat_tests, behind, length, length-append)
 
   by_poll : (v : Representation) (r lo : ℕ) (hi : Option ℕ) (how : BoundBy) → k.shown ≡ true → k.place ≡ place.Bound r lo hi how → t.representation r ≡ Some v → is_some (v.stored (offset t k)) ≡ true → IfSome (hi_of t k.place) (λ end. offset t k < end) → AtPoll limits t e taken c k → 0 < length (given_in c e.acts)
   by_poll v r lo hi how shown at there stored before (moves_on more m also m_is does all saw) =
       let many : 0 < more = some_want t c more e.event (goes limits t e taken.owed taken.not_denied) also in
       let given = is_given t s o turns are c r lo hi how k v row shown at there stored e.now more many before in
       given_one given.run given.some (all ∙ ap (λ z. acts_of c z ++ behind limits t e taken) (m_is ∙ given.move))
-  by_poll v r lo hi how shown at there stored before (misreads more q also all saw) =
-      absurd (let no_one : ◌≡◌ {A = ℕ} 1 0 = sym (ap failures_in all) ∙ faultless in cc)
+  by_poll v r lo hi how shown at there stored before (misreads more q also all saw) = grind (arith, nat_tests)
 
   by_place_of : (v : Representation) (p : Place) → k.place ≡ p → k.shown ≡ true → row_of t (bound_to p) ≡ Some v → is_some (v.stored (offset t k)) ≡ true → IfSome (hi_of t k.place) (λ end. offset t k < end) → 0 < length (given_in c e.acts)
   by_place_of v (place.Bound r lo hi how) at shown there stored before = by_poll v r lo hi how shown at there stored before (at_poll limits t e taken c want k s turns row polls)

@@ -1,12 +1,10 @@
 -- Who has the turn doesn't wait for it, and who is bound waits for nobody.
-use Rattle.std.{proofs.Common.{◌≡◌, ℕ, List, Bool, true, false, Option, Some, None, refl, ap, sym, ◌∙◌, arith}, specs.{Prelude.{nat_eq, unwrap_or}, Option.{option_or}}}
-use Rattle.hc_text.proofs.Basics.{eq_itself as eq-refl, some_inj}
+use Rattle.std.{proofs.{lemmas.Bool.Decides.{nat_tests}, Common.{◌≡◌, ℕ, List, Bool, true, false, Option, Some, refl, ap, sym, ◌∙◌, arith}}, specs.{Prelude.{unwrap_or}, Option.{option_or}}}
 use Rattle.hc_effects.proofs.Vocabulary.{wait, least, lesser, Turns, WaitsForNobody, turn, turn_with, holder, line, Move, bound_to, Tables, Consumer, Sound}
 use Rattle.hc_model.specs.Laws.{TurnsGo, ReadersGo}
 use Rattle.hc_model.specs.Moves as moves
 use Rattle.hc_model.specs.Sound as sound
 use Rattle.hc_effects.proofs.TurnMoves.{Does, does_polled}
-use Rattle.hc_effects.proofs.TurnMoves as does
 
 -- what a move waits for beside an exchange: the turn, or a busy one
 abbrev waits_for : Move → Bool
@@ -24,18 +22,14 @@ not_it test m n passes fails is = absurd (let no_one : true ≡ false = sym pass
 -- WHO HAS THE TURN
 
 with_it : (o least_one : Option ℕ) (c : ℕ) → option_or o least_one ≡ Some c → unwrap_or (option_or o (lesser least_one c)) c ≡ c
-with_it (Some h) least_one c is = some_inj h c is
-with_it None None c is = refl
-with_it None (Some n) c is = let same : n ≡ c = some_inj n c is in omega arith
+with_it o least_one c is = grind (arith, nat_tests)
 
 has_it : (t : Tables) (key : List ℕ) (c : ℕ) → turn t key ≡ Some c → turn_with t key c ≡ c
 unfolding turn
 has_it t key c is = with_it (holder t key) (least (line t key)) c is
 
 turn_goes : (t : Tables) (c d : ℕ) (k : Consumer) (m : Move) → Does t c k m → turn_with t k.request.key c ≡ c → m ≡ moves.Waits (wait.Turn d) → ⊥
-turn_goes t c d k _ (does.waits_turn d' is_new other back) has is =
-    let no_one : false ≡ true = sym other ∙ (ap (λ n. nat_eq n c) has ∙ eq-refl c) in cc
-turn_goes t c d k _ _ has is = not_it is_turn _ _ refl refl is
+turn_goes t c d k m it5 has is = grind (arith, nat_tests)
 
 pub turns_go : TurnsGo
 turns_go t s turns now c want d k row has is = turn_goes t c d k _ (does_polled t c k s turns row now want) (has_it t k.request.key c has) is
@@ -43,9 +37,7 @@ turns_go t s turns now c want d k row has is = turn_goes t c d k _ (does_polled 
 -- WHO IS BOUND
 
 bound_goes : (t : Tables) (c r : ℕ) (k : Consumer) (m : Move) → Does t c k m → bound_to k.place ≡ Some r → waits_for m ≡ false
-bound_goes t c r k _ (does.waits_turn d is_new other back) bound = absurd (let no_one : None ≡ Some r = sym is_new.bound ∙ bound in cc)
-bound_goes t c r k _ (does.passes d q is_new queues may) bound = absurd (let no_one : None ≡ Some r = sym is_new.bound ∙ bound in cc)
-bound_goes t c r k _ _ bound = refl
+bound_goes t c r k m it5 bound = grind (arith, nat_tests)
 
 readers_by : (t : Tables) (s : Sound t) (turns : Turns t) (now c want r : ℕ) (k : Consumer) → t.consumer c ≡ Some k → bound_to k.place ≡ Some r → WaitsForNobody t now want c k
 readers_by t s turns now c want r k row bound =

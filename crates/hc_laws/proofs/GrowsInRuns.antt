@@ -4,8 +4,8 @@
 -- store are those of its exchange (`byte_of`). This keeps its base once it has a head, and its body only grows
 -- (`by_brings`). No representation of that number, which would hide it, is founded later (`none_founded`). `grows`
 -- joins both for an entry, and `bodies_grow_in_runs` for a run.
-use Rattle.std.{proofs.{Common.{◌≡◌, ◌⊎◌, inl, inr, ℕ, ◌+◌, ◌-◌, ◌<◌, ◌≤◌, List, ◌∷◌, ◌++◌, length, Bool, true, false, Option, Some, None, refl, ap, sym, ◌∙◌, subst, arith, length-append}, Math.ListN.{get_or-append}, lemmas.Bool.Decides.{nat_tests}}, specs.Prelude.{is_some, slice_index, ◌&&◌, nat_le, nat_lt}}
-use Rattle.hc_text.proofs.Basics.{bool_cases, not_some as none_some, same_some as same_row, some_inj}
+use Rattle.std.{proofs.{Common.{◌≡◌, ◌⊎◌, inl, inr, ℕ, ◌+◌, ◌-◌, ◌<◌, ◌≤◌, List, ◌∷◌, ◌++◌, length, Bool, true, false, Option, Some, None, refl, ap, sym, ◌∙◌, subst, arith, length-append}, Math.ListN.{get_or-append}, lemmas.Bool.Decides.{nat_tests}}, specs.Prelude.{is_some, slice_index}}
+use Rattle.hc_text.proofs.Basics.{not_some as none_some, same_some as same_row}
 use Rattle.hc_sparse.specs.Cells.{Cell}
 use Rattle.hc_effects.proofs.Vocabulary.{is_denied, Event, Limits, base_of, denial, Entry, History, Contents, base, front, Flaw, entry_of, answer_cell, direct_cell, cell_by, body_of, Tables, Exchange, Representation, IsOwed, Sound, tables, after_accepted, after_denied}
 use Rattle.hc_model.specs.Laws.{Grows, BodiesGrowInRuns}
@@ -23,16 +23,10 @@ record IsByte (x p : ℕ) (w : Exchange) (cell : Cell) : Type 0 where
   is : cell ≡ record { byte = slice_index w.body (p - base w); x = x }
 
 byte_of : (x p : ℕ) (w : Exchange) (cell : Cell) → answer_cell x p w ≡ Some cell → IsByte x p w cell
-byte_of x p w cell h = elim (bool_cases (nat_le (base w) p && nat_lt p (front w))) [
-  | inr off ↦ absurd (none_some cell (rw off at h))
-  | inl on ↦ record { from = grind (arith, nat_tests); below = grind (arith, nat_tests); is = sym (some_inj _ cell (rw on at h)) }
-]
+byte_of x p w cell h = grind (arith, nat_tests)
 
 cell_of : (x p : ℕ) (w : Exchange) → base w ≤ p → p < front w → answer_cell x p w ≡ Some (record { byte = slice_index w.body (p - base w); x = x })
-cell_of x p w from below =
-    let a : nat_le (base w) p ≡ true = grind (arith, nat_tests) in
-    let b : nat_lt p (front w) ≡ true = grind (arith, nat_tests) in
-    rw (a, b) refl
+cell_of x p w from below = grind (arith, nat_tests)
 
 module _ (limits : Limits) (t : Tables) (now : ℕ) (flaw : Flaw) (s : Sound t) (ev : Event) (goes : denial t ev ≡ None) where
   abbrev e : Entry
@@ -44,20 +38,14 @@ module _ (limits : Limits) (t : Tables) (now : ℕ) (flaw : Flaw) (s : Sound t) 
   module _ (x p : ℕ) (w z : Exchange) (cell : Cell) (row : t.exchange x ≡ Some w) (same : IsSame t e x w z) (after_x : now_on.exchange x ≡ Some z) (b : IsByte x p w cell) where
     -- it has its head
     headed : w.head ≡ None → ⊥
-    headed bare =
-        let first : base w ≡ 0 = ap (λ l. base_of l) (ap (Rattle.hc_model.specs.Exchanges.length_by w) bare) in
-        let none_yet : length w.body ≡ 0 = ap (λ (a : List ℕ). length a) (s.waits.headless x w row bare).0 in
-        absurd (omega arith)
+    headed bare = grind (arith, nat_tests)
 
     base_same : ((z.head ≡ w.head) × (z.joined ≡ w.joined)) ⊎ IsHeaded t e x w z → base z ≡ base w
     base_same (inl still) = ap base_of (length_same w z same.need_is same.request_is still.0)
     base_same (inr got) = absurd (headed (is_new limits t now flaw s ev goes x got.response w got.at row).bare)
 
     by_brings : base z ≡ base w → Brings t e x w z → answer_cell x p z ≡ Some cell
-    by_brings first (fills_by.still none_of body_is) =
-        let count : length z.body ≡ length w.body = ap (λ (a : List ℕ). length a) body_is in
-        let byte : slice_index z.body (p - base z) ≡ slice_index w.body (p - base w) = ap (λ (a : List ℕ). slice_index a (p - base z)) body_is ∙ ap (λ n. slice_index w.body (p - n)) first in
-        cell_of x p z (omega arith) (omega arith) ∙ (ap (λ n. Some (record { byte = n; x = x })) byte ∙ ap Some (sym b.is))
+    by_brings first (fills_by.still none_of body_is) = grind (arith, nat_tests)
     by_brings first (fills_by.more bytes here body_is) =
         let longer : length z.body ≡ length w.body + length bytes = ap (λ (a : List ℕ). length a) body_is ∙ length-append w.body bytes in
         let inside : p - base w < length w.body = omega arith in

@@ -128,9 +128,6 @@ module _ (step : Step) (m : Measures step.tables) (real : IsReal step.limits ste
       stood : (lo : ℕ) × (hi : Option ℕ) × (how : BoundBy) × (k.place ≡ place.Bound r lo hi how)
       stood = awaiting_bound step real.stand x r w k.place hole aim waiter.at
 
-      renews : Bool
-      renews = resumes t got.response w v && not (v.is_lost || loses_in r e.acts)
-
       updating : (g : Option HeadCase) → is_joining g ≡ true → is_updating g ≡ true
       updating (Some case.FirstJoins) h = refl
       updating (Some case.LaterJoins) h = refl

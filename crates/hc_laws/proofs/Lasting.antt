@@ -1,5 +1,5 @@
 -- What is written for several and can't be completed later goes on being written, or is all there, as long as it isn't gone.
-use Rattle.std.{proofs.{Common.{◌≡◌, ◌⊎◌, inl, inr, ℕ, ◌≤◌, length, Bool, true, false, Some, refl, ap, sym, ◌∙◌, arith}, lemmas.Bool.Decides.{nat_tests}}, specs.Prelude.{◌&&◌, ◌==◌, not, nat_eq, nat_lt}}
+use Rattle.std.{proofs.{Common.{◌≡◌, ◌⊎◌, inl, inr, ℕ, ◌≤◌, length, Bool, true, false, Some, refl, ap, sym, ◌∙◌, arith}, lemmas.Bool.Decides.{nat_tests}}, specs.Prelude.{◌&&◌, ◌==◌, not, nat_eq}}
 use Rattle.hc_text.proofs.Basics.{bool_cases}
 use Rattle.hc_effects.proofs.Vocabulary.{closes_in, loses_in, Entry, promised_bytes, is_open, becomes_gone, goes_itself, ends_early, ends_founding, stops_early, is_keepable, is_below, entry_of, Measures, is_written, Tables, Exchange, Representation, IsGrowing, after_accepted, event}
 use Rattle.hc_effects.proofs.{ApartKeeps.{is_on}, Basics.{false_true, or_false}, RepFrom.{heard, IsKept}, WritingStops.{IsAll, ends_all}, Step.{Step}}
@@ -15,9 +15,7 @@ module _ (step : Step) (m : Measures step.tables) where
 
   module _ (r : ℕ) (v p : Representation) (there : t.representation r ≡ Some v) (kept : IsKept t e r v p) (not_gone : p.is_gone ≡ false) where
     goes_parts : (becomes_gone t e r v ≡ false) × (v.is_gone ≡ false)
-    goes_parts =
-        let both = or_false (becomes_gone t e r v) _ (ap (λ (q : Representation). q.is_gone) kept.is ∙ not_gone) in
-        (both.0, sym (heard t e r v ev refl).gone_is ∙ both.1)
+    goes_parts = grind (arith, nat_tests, or_false, heard)
 
     pub was_not_gone : v.is_gone ≡ false
     was_not_gone = goes_parts.1
@@ -25,9 +23,7 @@ module _ (step : Step) (m : Measures step.tables) where
     -- why it would go
     pub not_lost : loses_in r e.acts ≡ false
     unfolding becomes_gone
-    not_lost =
-        let a = (or_false _ (ends_early t e r v && not (is_keepable v)) ((or_false (goes_itself t e r v) _ goes_parts.0).0)).0 in
-        (or_false _ (loses_in r e.acts) ((or_false _ (Rattle.hc_model.specs.ActFilters.misreads_in r e.acts) a).0)).1
+    not_lost = grind (arith, nat_tests, or_false)
 
     not_early : (ends_early t e r v && not (is_keepable v)) ≡ false
     unfolding becomes_gone
@@ -38,15 +34,13 @@ module _ (step : Step) (m : Measures step.tables) where
       lasts = by_test (ends_early t e r v) (is_keepable v) not_early unkeepable
         where
           by_test : (a b : Bool) → (a && not b) ≡ false → b ≡ false → a ≡ false
-          by_test false b h off = refl
-          by_test _ _ h off = cc
+          by_test a b h off = grind (arith, nat_tests)
 
       not_founding_end : ends_founding e r (t.exchange r) ≡ false
       not_founding_end = by_test (v.head.status == 200) (ends_founding e r (t.exchange r)) lasts (let st : v.head.status ≡ 200 = whole in let test : nat_eq v.head.status 200 ≡ true = grind (arith, nat_tests) in test)
         where
           by_test : (a b : Bool) → (a && b) ≡ false → a ≡ true → b ≡ false
-          by_test true b h on = h
-          by_test false b h on = absurd (false_true on)
+          by_test a b h on = grind (arith, nat_tests)
 
       grows : (w : Exchange) × IsGrowing t r v r w
       grows = (s.rows r v there).growing r on writer
@@ -65,8 +59,7 @@ module _ (step : Step) (m : Measures step.tables) where
       unended = or_false (stops_early w r ev) (closes_in r e.acts) (by_open w.is_open _ was_open (sym (ap (ends_founding e r) g.row) ∙ not_founding_end))
         where
           by_open : (a b : Bool) → a ≡ true → (a && b) ≡ false → b ≡ false
-          by_open true b on h = h
-          by_open false b on h = absurd (false_true on)
+          by_open a b on h = grind (arith, nat_tests)
 
       self : nat_eq r r ≡ true
       self = grind (arith, nat_tests)
@@ -80,7 +73,6 @@ module _ (step : Step) (m : Measures step.tables) where
       enough : ev ≡ event.End r → (n : ℕ) → promised_bytes w ≡ Some n → n ≤ length w.body
       enough here n is =
           let short : ((r == r) && is_below (length w.body) (Some n)) ≡ false = sym (ap (λ q. (r == r) && is_below (length w.body) q) is) ∙ (sym (ap (stops_early w r) here) ∙ unended.0) in
-          let test : nat_lt (length w.body) n ≡ false = rw self at short in
           grind (arith, nat_tests)
 
       pub lasting : (is_open (now_on.exchange r) ≡ true) ⊎ IsAll p

@@ -1,7 +1,7 @@
 -- Who is live behind an entry.
 --
 -- Who is over stays so, in every run (`stays_over` of hc_laws). So who is live behind an entry was live before it, or starts by it.
-use Rattle.std.{proofs.{Common.{◌≡◌, ◌⊎◌, inl, inr, ℕ, Bool, true, false, Option, Some, None, refl, ap, sym, ◌∙◌, arith}, lemmas.Bool.Decides.{nat_tests}}, specs.Prelude.{nat_eq, if◌then◌else◌}}
+use Rattle.std.{proofs.{Common.{◌≡◌, ◌⊎◌, ℕ, Bool, true, false, Option, Some, None, refl, ap, ◌∙◌, arith}, lemmas.Bool.Decides.{nat_tests}}, specs.Prelude.{nat_eq, if◌then◌else◌}}
 use Rattle.hc_effects.proofs.Vocabulary.{is_denied, Event, Place, Limits, accepted_acts, consumer_after, consumer_made, new_consumer, is_live, is_live_place, Entry, flaw_in, Lawful, Tables, Consumer, IsOwed, after, after_accepted, after_denied, place}
 use Rattle.hc_event.specs.declared.event.Event.TheVariants as event
 use Rattle.hc_effects.proofs.{Owed.{goes, acts_are}, Step.{step_of}}
@@ -18,20 +18,17 @@ unfolding after
 consumer_behind t e c = by_test (is_denied e.acts) refl
   where
     by_test : (b : Bool) → is_denied e.acts ≡ b → ((if b then after_denied t e else after_accepted t e).consumer c ≡ t.consumer c) ⊎ ((is_denied e.acts ≡ false) × ((if b then after_denied t e else after_accepted t e).consumer c ≡ consumer_after t e c (t.consumer c)))
-    by_test true is = inl refl
-    by_test false is = inr (is, refl)
+    by_test b is = grind (arith, nat_tests)
 
 made_live : (c now : ℕ) (ev : Event) → is_live (consumer_made c now ev) ≡ true → Starts c ev
 made_live c now (event.Start d request) h = by_test (nat_eq d c) refl h
   where
     by_test : (b : Bool) → nat_eq d c ≡ b → is_live (if b then Some (new_consumer now request) else None) ≡ true → d ≡ c
-    by_test true is g = grind (arith, nat_tests)
-    by_test false is g = absurd (let never : false ≡ true = g in cc)
+    by_test b is g = grind (arith, nat_tests)
 made_live c now _ h = absurd (let never : false ≡ true = h in cc)
 
 over_or_live : (p : Place) → (p ≡ place.Over) ⊎ (is_live_place p ≡ true)
-over_or_live place.Over = inl refl
-over_or_live _ = inr refl
+over_or_live p = grind (arith, nat_tests)
 
 module _ (limits : Limits) (t : Tables) (e : Entry) (law : Lawful t) (is : IsOwed limits t e) where
   -- an accepted entry is that of its event
@@ -45,17 +42,8 @@ module _ (limits : Limits) (t : Tables) (e : Entry) (law : Lawful t) (is : IsOwe
 
   by_row : (c : ℕ) (o : Option Consumer) → is_denied e.acts ≡ false → t.consumer c ≡ o → is_live (consumer_after t e c (t.consumer c)) ≡ true → (is_live (t.consumer c) ≡ true) ⊎ Starts c e.event
   unfolding consumer_after
-  by_row c None on row live = inr (made_live c e.now e.event (sym (ap (λ (o : Option Consumer). is_live (consumer_after t e c o)) row) ∙ live))
-  by_row c (Some k) on row live =
-      elim (over_or_live k.place) as (λ _. (is_live (t.consumer c) ≡ true) ⊎ Starts c e.event) [
-        | inl over ↦ absurd (let never : false ≡ true = sym (dead_stays c k on row over) ∙ live in cc)
-        | inr was ↦ inl (ap is_live row ∙ was)
-      ]
+  by_row c o on row live = grind (arith, nat_tests, made_live, over_or_live, dead_stays)
 
   -- who is live behind an entry was live before it, or starts by it
   pub was_live : (c : ℕ) → is_live ((after t e).consumer c) ≡ true → (is_live (t.consumer c) ≡ true) ⊎ Starts c e.event
-  was_live c live =
-      elim (consumer_behind t e c) as (λ _. (is_live (t.consumer c) ≡ true) ⊎ Starts c e.event) [
-        | inl same ↦ inl (sym (ap is_live same) ∙ live)
-        | inr on ↦ by_row c (t.consumer c) on.0 refl (sym (ap is_live on.1) ∙ live)
-      ]
+  was_live c live = grind (arith, nat_tests, consumer_behind, by_row)

@@ -4,11 +4,11 @@
 -- they name is there (`plan_goes`, `shown_goes`). The most work is a reader without a source that isn't at its end. Who
 -- is bound knows the end then (`unknown_not`), so it opens an exchange for the hole. For who reads past the store all
 -- up to the end came, so bytes are held (`holds`).
-use Rattle.std.{proofs.{Common.{◌≡◌, inl, inr, ℕ, ◌+◌, ◌-◌, ◌<◌, List, [], ◌∷◌, length, take, drop, Bool, true, false, cond, Option, Some, None, refl, ap, sym, ◌∙◌, subst, arith}, lemmas.{Bool.Decides.{nat_tests}, List.{length-drop, length-take}}}, specs.{Prelude.{is_some, is_none, min, ◌&&◌, ◌||◌}, Option.{option_and_then, option_map, option_or}}}
-use Rattle.hc_text.proofs.Basics.{and_left, and_right, bool_cases, either, not_some as none_some, never_true as not_so, same_some as same_row, some_inj}
+use Rattle.std.{proofs.{Common.{◌≡◌, ℕ, ◌+◌, ◌-◌, ◌<◌, List, length, take, drop, Bool, true, false, cond, Option, Some, None, refl, ap, sym, ◌∙◌, subst, arith}, lemmas.{Bool.Decides.{nat_tests}, List.{length-drop, length-take}}}, specs.{Prelude.{is_some, min, ◌&&◌, ◌||◌}, Option.{option_and_then, option_map, option_or}}}
+use Rattle.hc_text.proofs.Basics.{and_right, bool_cases, either, not_some as none_some, never_true as not_so, same_some as same_row}
 use Rattle.hc_range.specs.declared.range.Span.{Span}
 use Rattle.hc_sparse.specs.{Cells.{Cells, Cell}, Runs.{end_of}, Stretch.{stretch, stretch_of}, declared.run.Run.{Run}}
-use Rattle.hc_effects.proofs.Vocabulary.{Cause, Why, Request, Response, Candidate, Plan, ReadStep, ReadView, plan_of, read_step, is_at_end, stored_or, held_or, fails_or, waits_or, Place, BoundBy, MoveEnds, current, is_number, row_of, is_live_place, Endings, Unended, base, front, is_open, is_headless, is_wanted, stretch_to, Move, gives, waits_for, opens_hole, shows_stored, Places, ReadsPast, plan_view, plan_move, binds_current, current_row, shows_at, shows_bound, shows_direct, shows_answer, has_joined, move_of, bound_to, offset, lo_of, hi_of, own_open, source, shared_exchange, writing_in, is_written, is_open_writer, base_in, Tables, Exchange, Representation, Consumer, Sound, IsBound, IsServed, bound_row, stored_ahead, stored_from, run_held_for, held_at, held_of_exchange, run_of, read_view, later_hole, step_move, reading, most, came_alone, place, by as how}
+use Rattle.hc_effects.proofs.Vocabulary.{Cause, Why, Request, Response, Candidate, Plan, ReadStep, ReadView, plan_of, read_step, is_at_end, stored_or, held_or, fails_or, waits_or, Place, BoundBy, MoveEnds, current, is_number, row_of, is_live_place, Endings, Unended, base, front, is_open, is_headless, is_wanted, stretch_to, Move, gives, waits_for, opens_hole, shows_stored, Places, ReadsPast, plan_view, plan_move, binds_current, current_row, shows_at, shows_bound, shows_direct, shows_answer, move_of, bound_to, offset, lo_of, hi_of, own_open, source, shared_exchange, writing_in, is_written, is_open_writer, base_in, Tables, Exchange, Representation, Consumer, Sound, IsBound, IsServed, bound_row, stored_ahead, stored_from, run_held_for, held_at, held_of_exchange, run_of, read_view, later_hole, step_move, reading, most, came_alone, place}
 use Rattle.hc_rules.specs.Readings as readings
 use Rattle.hc_model.specs.Sound as sound
 use Rattle.hc_effects.proofs.{AboutKeeps.{own_open_of, own_open_is}, Basics.{false_true, some_none, some_row}, GivenNext.{some_ahead}, MoveBy.{MoveBy, move_by}, ExclusiveWriters.{shares_source}, PlanBy.{PlanBy, plan_by}, ShownFrom.{candidate_is}}
@@ -26,23 +26,13 @@ unfolding stretch
 stretch_same f p n m = by_cell (f p)
   where
     by_cell : (o : Option Cell) → is_some (stretch_of f p n o) ≡ is_some (stretch_of f p m o)
-    by_cell None = refl
-    by_cell (Some cell) = refl
-
-run_count : (x o : ℕ) (bytes : List ℕ) → is_some (run_of x o bytes) ≡ true → 0 < length bytes
-run_count x o [] some = absurd (false_true some)
-run_count x o (b ∷ bytes) some = omega arith
+    by_cell o = grind (arith, nat_tests)
 
 run_some : (x o : ℕ) (bytes : List ℕ) → 0 < length bytes → is_some (run_of x o bytes) ≡ true
-run_some x o [] many = absurd (let no : 0 < 0 = many in omega arith)
-run_some x o (b ∷ bytes) many = refl
+run_some x o bytes many = grind (arith, nat_tests)
 
 run_same : (x o n m : ℕ) (bytes : List ℕ) → 0 < m → is_some (run_of x o (take n bytes)) ≡ true → is_some (run_of x o (take m bytes)) ≡ true
-run_same x o n m bytes many some =
-    let first : 0 < length (take n bytes) = run_count x o (take n bytes) some in
-    let count : length (take n bytes) ≡ min n (length bytes) = length-take n bytes in
-    let again : length (take m bytes) ≡ min m (length bytes) = length-take m bytes in
-    run_some x o (take m bytes) (omega arith)
+run_same x o n m bytes many some = grind (arith, nat_tests)
 
 module _ (t : Tables) (s : Sound t) (places : Places t) (endings : Endings t) (unended : Unended t) (c : ℕ) (k : Consumer) (row : t.consumer c ≡ Some k) where
   abbrev Fine : Move → Type 0
@@ -50,25 +40,11 @@ module _ (t : Tables) (s : Sound t) (places : Places t) (endings : Endings t) (u
 
   -- SHOWING
 
-  stored_goes : (r : ℕ) (why : Why) (ranged : Bool) (lo : ℕ) (hi : Option ℕ) (o : Option Representation) → is_some o ≡ true → Fine (shows_stored r why ranged lo hi o)
-  stored_goes r why ranged lo hi None there = absurd (false_true there)
-  stored_goes r why ranged lo hi (Some v) there = tt
-
-  answer_goes : (x : ℕ) (w : Exchange) (o : Option Response) (m : Move) → shows_answer t x w o ≡ Some m → Fine m
-  answer_goes x w None m is = absurd (none_some m is)
-  answer_goes x w (Some response) m is = subst Fine (some_inj _ m is) tt
-
   direct_goes : (x : ℕ) (o : Option Exchange) (m : Move) → shows_direct t x o ≡ Some m → Fine m
-  direct_goes x None m is = absurd (none_some m is)
-  direct_goes x (Some w) m is = answer_goes x w w.head m is
+  direct_goes x o m is = grind (arith, nat_tests)
 
   bound_goes : (r lo : ℕ) (hi : Option ℕ) (z : BoundBy) (m : Move) → is_some (t.representation r) ≡ true → shows_bound t k r lo hi z ≡ Some m → Fine m
-  bound_goes r lo hi how.Founding m there is = subst Fine (some_inj _ m is) (stored_goes r _ _ lo hi (t.representation r) there)
-  bound_goes r lo hi (how.FirstHole y) m there is = elim (bool_cases (has_joined (t.exchange y))) [
-    | inl joined ↦ subst Fine (some_inj _ m (rw joined at is)) (stored_goes r _ _ lo hi (t.representation r) there)
-    | inr not_joined ↦ absurd (none_some m (rw not_joined at is))
-  ]
-  bound_goes r lo hi how.Plan m there is = absurd (none_some m is)
+  bound_goes r lo hi z m there is = grind (arith, nat_tests)
 
   shown_goes : (p : Place) (m : Move) → k.place ≡ p → shows_at t k p ≡ Some m → Fine m
   shown_goes (place.Bound r lo hi z) m at is = bound_goes r lo (hi_of t k.place) z m (s.numbered.bound_to r c k (sound.is_bound lo hi z row at)) is
@@ -78,16 +54,10 @@ module _ (t : Tables) (s : Sound t) (places : Places t) (endings : Endings t) (u
   -- WAITING FOR AN EXCHANGE
 
   headless_wanted : (o : Option Exchange) → is_headless o ≡ true → is_wanted o ≡ true
-  headless_wanted None bare = absurd (false_true bare)
-  headless_wanted (Some w) bare = rw (and_left w.is_open (is_none w.head) bare, and_right w.is_open (is_none w.head) bare) refl
-
-  asked_wanted : (opened bare asked : Bool) → opened ≡ true → asked ≡ true → (opened && (bare || asked)) ≡ true
-  asked_wanted opened true asked on is = rw on refl
-  asked_wanted opened false asked on is = rw (on, is) refl
+  headless_wanted o bare = grind (arith, nat_tests)
 
   asks_goes : (x : ℕ) (o : Option Exchange) → t.exchange x ≡ o → is_open o ≡ true → Fine (waits_for x o)
-  asks_goes x None there on = absurd (false_true on)
-  asks_goes x (Some w) there on = either Fine w.asked _ _ (λ asked. ap is_wanted there ∙ asked_wanted w.is_open (is_none w.head) w.asked on asked) (λ unasked. tt)
+  asks_goes x o there on = grind (arith, nat_tests)
 
   own_opened : (x : ℕ) → own_open t k ≡ Some x → is_open (t.exchange x) ≡ true
   own_opened x is = let own = own_open_of t k x is in ap is_open own.row ∙ own.opened
@@ -97,11 +67,7 @@ module _ (t : Tables) (s : Sound t) (places : Places t) (endings : Endings t) (u
   writer_opened x v on writer = sym (ap (is_open_writer t) writer) ∙ and_right _ _ on
 
   shared_opened : (x : ℕ) (o : Option Representation) → writing_in t o ≡ Some x → is_open (t.exchange x) ≡ true
-  shared_opened x None is = absurd (none_some x is)
-  shared_opened x (Some v) is = elim (bool_cases (is_written t v)) [
-    | inl on ↦ writer_opened x v on (rw on at is)
-    | inr off ↦ absurd (none_some x (rw off at is))
-  ]
+  shared_opened x o is = grind (arith, nat_tests, none_some, bool_cases, writer_opened)
 
   shared_by : (x : ℕ) (p : Place) → shared_exchange t p ≡ Some x → is_open (t.exchange x) ≡ true
   shared_by x (place.Bound r lo hi z) is = shared_opened x (t.representation r) is
@@ -118,8 +84,7 @@ module _ (t : Tables) (s : Sound t) (places : Places t) (endings : Endings t) (u
   -- PLANS
 
   opens_goes : (request : Request) (o : Option Representation) (hole : Span) → is_some o ≡ true → Fine (opens_hole t request o hole)
-  opens_goes request None hole there = absurd (false_true there)
-  opens_goes request (Some v) hole there = tt
+  opens_goes request o hole there = grind (arith, nat_tests)
 
   module _ (now : ℕ) where
     -- what is current is there
@@ -127,8 +92,7 @@ module _ (t : Tables) (s : Sound t) (places : Places t) (endings : Endings t) (u
     current_there z is = let a = candidate_is t now c k z is in (a.r, a.current_is, ap (λ (o : Option Representation). is_some o) a.row)
 
     binds_goes : (z : Candidate) → (plan_view t now c k).current ≡ Some z → (why : Why) (span : Option Span) → Fine (binds_current t k why span (current t k.request.key))
-    binds_goes z is why None = let a = current_there z is in rw a.1 (stored_goes a.0 why _ 0 _ (t.representation a.0) a.2)
-    binds_goes z is why (Some span) = let a = current_there z is in rw a.1 (stored_goes a.0 why _ span.lo (Some span.hi) (t.representation a.0) a.2)
+    binds_goes z is why span = grind (arith, nat_tests)
 
     fills_goes : (z : Candidate) → (plan_view t now c k).current ≡ Some z → (hole : Span) → Fine (opens_hole t k.request (current_row t k) hole)
     fills_goes z is hole = let a = current_there z is in opens_goes k.request (current_row t k) hole (ap (λ (o : Option ℕ). is_some (row_of t o)) a.1 ∙ a.2)
@@ -142,8 +106,7 @@ module _ (t : Tables) (s : Sound t) (places : Places t) (endings : Endings t) (u
   -- READING
 
   gives_goes : (o : Option Run) → is_some o ≡ true → Fine (gives o)
-  gives_goes None there = absurd (false_true there)
-  gives_goes (Some run) there = tt
+  gives_goes o there = grind (arith, nat_tests)
 
   -- whatever is wanted of what is stored, there is some of it or none
   stored_same : (n m : ℕ) (o : Option Representation) → is_some (option_and_then (stored_from (offset t k) n) o) ≡ is_some (option_and_then (stored_from (offset t k) m) o)
@@ -163,9 +126,7 @@ module _ (t : Tables) (s : Sound t) (places : Places t) (endings : Endings t) (u
   held_past x n m (Some w) many some = run_same x (offset t k) n m (drop (offset t k - base w) w.body) many some
 
   held_same : (n m : ℕ) (p : Place) → 0 < m → is_some (held_at t c (offset t k) n p) ≡ true → is_some (held_at t c (offset t k) m p) ≡ true
-  held_same n m (place.Direct x) many some = held_past x n m (t.exchange x) many some
-  held_same n m (place.Bound r lo hi z) many some = sym (held_lost n m (t.representation r)) ∙ some
-  held_same n m _ many some = some
+  held_same n m p many some = grind (arith, nat_tests, held_past, held_lost)
 
   module _ (want : ℕ) (many : 0 < want) (shown : k.shown ≡ true) (live : is_live_place k.place ≡ true) where
     abbrev v : ReadView
@@ -209,8 +170,7 @@ module _ (t : Tables) (s : Sound t) (places : Places t) (endings : Endings t) (u
         no_end u has unknown = by_hi hi (sym (ap (λ (p : Place). hi_of t p) at) ∙ unknown)
           where
             by_hi : (o : Option ℕ) → option_or o (Rattle.hc_model.specs.Currents.total_in (t.representation r)) ≡ None → (o ≡ None) × (u.head.total ≡ None)
-            by_hi None is = (refl, sym (ap Rattle.hc_model.specs.Currents.total_in has) ∙ is)
-            by_hi (Some n) is = absurd (some_none n is)
+            by_hi o is = grind (arith, nat_tests)
 
         unknown_not : (u : Representation) → t.representation r ≡ Some u → hi_of t k.place ≡ None → IsServed t r u c k → ⊥
         unknown_not u has unknown (sound.shares on) = shares_source t r c u k u.writer has reader on refl none
@@ -239,8 +199,7 @@ module _ (t : Tables) (s : Sound t) (places : Places t) (endings : Endings t) (u
         lo_is = ap (λ (p : Place). lo_of t p) at ∙ ap base_in past.row
 
         below : (o : Option ℕ) (p n : ℕ) → o ≡ Some n → is_at_end o p ≡ false → p < n
-        below None p n is off = absurd (none_some n is)
-        below (Some m) p n is off = let same : m ≡ n = some_inj m n is in let less : p < m = grind (arith, nat_tests) in omega arith
+        below o p n is off = grind (arith, nat_tests)
 
         ahead : offset t k < front past.w
         ahead = below (hi_of t k.place) (offset t k) (front past.w) (endings.past c x k past.w row at past.row over undue) before
@@ -285,8 +244,7 @@ module _ (t : Tables) (s : Sound t) (places : Places t) (endings : Endings t) (u
       stored_goes_on (Some end) some = gives_goes _ (stored_same _ want (bound_row t k) ∙ run_there (stored_ahead t k want) some)
         where
           run_there : (o : Option Run) → option_map end_of o ≡ Some end → is_some o ≡ true
-          run_there None is = absurd (none_some end is)
-          run_there (Some run) is = refl
+          run_there o is = grind (arith, nat_tests)
 
     reading_goes : Fine (reading t want c k)
     unfolding read_step

@@ -38,10 +38,6 @@ one_more f x xs = elim (bool_cases (f x)) [
 
 -- REFUSED
 
-few_by : (late many : Bool) (n : ℕ) → (if late then Some (refusal.NotRising n) else if many then Some refusal.TooManyConsumers else None) ≡ None → many ≡ false
-few_by false false n h = refl
-few_by _ _ n h = cc
-
 -- a consumer starts only where fewer are live
 pub starts_few : (t : Tables) (c : ℕ) (request : Request) → denial t (event.Start c request) ≡ None → live t < 1024
 unfolding refusals.refusal_of

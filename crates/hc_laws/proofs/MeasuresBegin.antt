@@ -2,26 +2,19 @@
 --
 -- There is no exchange yet, so only what is of a body is to be shown. Each item is good, so its runs rise, and its kind
 -- fits its length (`laid`). Where its runs end their last byte is there (`ends_tight`, `tight_of`), and that is within
--- the length by its kind (`kind_within`, `within_of`). `measures_begin` joins these. That lengths are known, and that
+-- the length by its kind (`within_of`). `measures_begin` joins these. That lengths are known, and that
 -- runs rise, is used by the laws of runs too.
-use Rattle.std.{proofs.{Common.{◌≡◌, ◌⊎◌, inl, inr, ℕ, ◌+◌, ◌<◌, ◌≤◌, List, [], ◌∷◌, length, Bool, true, Option, Some, None, refl, ap, sym, ◌∙◌, arith, max}, lemmas.Bool.Decides.{nat_tests}}, specs.Prelude.{is_some, find, nat_le, option_map, ◌==◌}}
-use Rattle.hc_text.proofs.Basics.{and_left, and_right, bool_cases, not_some as none_some, some_inj}
-use Rattle.hc_sparse.proofs.CellLemmas.{inside-cases}
+use Rattle.std.{proofs.{Common.{◌≡◌, ◌⊎◌, inl, inr, ℕ, ◌+◌, ◌<◌, ◌≤◌, List, [], ◌∷◌, length, Bool, true, Option, Some, None, refl, ap, sym, ◌∙◌, arith, max}, lemmas.Bool.Decides.{nat_tests}}, specs.Prelude.{is_some, find, option_map, ◌==◌}}
+use Rattle.hc_text.proofs.Basics.{and_left, and_right, not_some as none_some, some_inj}
 use Rattle.hc_sparse.specs.{Cells.{cells_with, Cells}, Runs.{cells_of, end_of}, declared.run.Run.{Run}}
 use Rattle.hc_effects.proofs.Vocabulary.{Limits, may_begin, are_good, is_good, ascend_from, is_kind_right, Content, Contents, Measures, Representation, first_tables, representation_of_content, last_end}
 use Rattle.hc_effects.proofs.PieceKeeps.{eq_cases}
 
 written_some : (at x p : ℕ) (bytes : List ℕ) (f : Cells) → ((p < at) ⊎ (at + length bytes ≤ p) → is_some (f p) ≡ true) → is_some (cells_with at x bytes f p) ≡ true
-written_some at x p bytes f old = elim (inside-cases at (length bytes) p) [
-  | inl here ↦ rw here.0 refl
-  | inr off ↦ rw off.0 (old off.1)
-]
+written_some at x p bytes f old = grind (arith, nat_tests)
 
 which : (a b n : ℕ) → max a b ≡ n + 1 → (b ≡ n + 1) ⊎ (a ≡ n + 1)
-which a b n h = elim (bool_cases (nat_le a b)) [
-  | inl less ↦ let le : a ≤ b = grind (arith, nat_tests) in inl (omega arith)
-  | inr more ↦ let le : b < a = grind (arith, nat_tests) in inr (omega arith)
-]
+which a b n h = grind (arith, nat_tests)
 
 -- the last position of some runs is there
 ends_tight : (n a x : ℕ) (runs : List Run) → ascend_from a x runs ≡ true → last_end runs ≡ n + 1 → is_some (cells_of runs n) ≡ true
@@ -32,9 +25,7 @@ ends_tight n a x (run ∷ runs) good ends =
     written_some run.at run.x n run.bytes (cells_of runs) (λ off. by_side run off bytes (which (end_of run) (last_end runs) n ends) (ends_tight n (end_of run) run.x runs rest))
   where
     by_side : (run : Run) → (n < run.at) ⊎ (run.at + length run.bytes ≤ n) → 0 < length run.bytes → (last_end runs ≡ n + 1) ⊎ (end_of run ≡ n + 1) → (last_end runs ≡ n + 1 → is_some (cells_of runs n) ≡ true) → is_some (cells_of runs n) ≡ true
-    by_side run off bytes (inl later) again = again later
-    by_side run (inl before) bytes (inr here) again = absurd (omega arith)
-    by_side run (inr past) bytes (inr here) again = absurd (omega arith)
+    by_side run off bytes it3 again = grind (arith, nat_tests)
 
 abbrev pub of_number : ℕ → Content → Bool
 of_number r item = item.r == r
@@ -46,9 +37,7 @@ record IsLaid (item : Content) : Type 0 where
 
 module _ (limits : Limits) (contents : Contents) where
   laid_parts : (earlier : List Content) (item : Content) (later : List Content) → is_good limits contents earlier item later ≡ true → IsLaid item
-  laid_parts earlier item later good =
-      let four = and_left _ _ (and_left _ _ good) in
-      record { rise = and_right _ _ (and_left _ _ four); right = and_right _ _ four }
+  laid_parts earlier item later good = grind (arith, nat_tests, and_left, and_right)
 
   laid : (r : ℕ) (a : Content) (earlier items : List Content) → are_good limits contents earlier items ≡ true → find (of_number r) items ≡ Some a → IsLaid a
   laid r a earlier [] good is = absurd (none_some a is)
@@ -72,22 +61,12 @@ module _ (limits : Limits) (contents : Contents) where
         let l = laid r item [] contents.items good found in
         ap (λ (q : Representation). is_some (q.body n)) (sym same) ∙ ends_tight n 0 0 item.runs l.rise (ap (λ (q : Representation). q.reach) same ∙ ends)
 
-    kind_within : (item : Content) (total : ℕ) (z : Option ℕ) → z ≡ Some total → is_kind_right item z ≡ true → last_end item.runs ≤ total
-    kind_within item total None is right = absurd (none_some total is)
-    kind_within item total (Some n) is right =
-        let same : n ≡ total = some_inj n total is in
-        let test : nat_le (last_end item.runs) n ≡ true = and_left _ _ right in
-        let le : last_end item.runs ≤ n = grind (arith, nat_tests) in
-        omega arith
-
     within_of : (r total : ℕ) (z : Option Content) (v : Representation) → find (of_number r) contents.items ≡ z → option_map representation_of_content z ≡ Some v → v.head.total ≡ Some total → v.reach ≤ total
     within_of r total None v found is known = absurd (none_some v is)
     within_of r total (Some item) v found is known =
         let same : representation_of_content item ≡ v = some_inj (representation_of_content item) v is in
         let l = laid r item [] contents.items good found in
-        let at : last_end item.runs ≡ v.reach = ap (λ (q : Representation). q.reach) same in
-        let most : last_end item.runs ≤ total = kind_within item total item.head.total (ap (λ (q : Representation). q.head.total) same ∙ known) l.right in
-        omega arith
+        grind (arith, nat_tests)
 
     -- its length is known, and its kind is that of its runs
     pub known_item : (r : ℕ) (item : Content) → find (of_number r) contents.items ≡ Some item → is_kind_right item item.head.total ≡ true

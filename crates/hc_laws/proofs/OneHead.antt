@@ -1,5 +1,5 @@
 -- Over a whole run, a consumer is shown one head at most, and given nothing before that.
-use Rattle.std.{proofs.Common.{◌≡◌, ℕ, ◌≤◌, List, [], ◌∷◌, ◌++◌, length, Bool, true, false, Option, Some, None, refl, ap, sym, ◌∙◌, subst, arith, length-append}, specs.{Prelude.{not, is_none}, Option.{option_map_or}}}
+use Rattle.std.{proofs.{lemmas.Bool.Decides.{nat_tests}, Common.{◌≡◌, ℕ, ◌≤◌, List, [], ◌∷◌, ◌++◌, length, Bool, true, false, Option, Some, None, refl, ap, sym, ◌∙◌, subst, arith, length-append}}, specs.{Prelude.{not, is_none}, Option.{option_map_or}}}
 use Rattle.hc_effects.proofs.Vocabulary.{is_denied, given_in, Limits, Entry, History, Contents, flaw_in, Shown, first, shown_in, shown_of, given_of, Tables, Consumer, IsRun, IsOwed, tables}
 use Rattle.hc_model.specs.Reads.{OneHeadIsShown}
 use Rattle.hc_effects.proofs.{Owed.{acts_are, denied_gives, denied_shows}, ReadFilters.{consumers_are_filtered, far_owed}, ShownOnce.{IsShownWell, by_event, no_first, unshown_of}}
@@ -18,24 +18,11 @@ both_none xs ys a b = rw (a, b) refl
 
 -- an entry that shows nothing more, and gives nothing where none was shown
 well_quiet : (shown more : List Shown) (given bytes : List ℕ) → IsWell shown given → more ≡ [] → (shown ≡ [] → bytes ≡ []) → IsWell (shown ++ more) (given ++ bytes)
-well_quiet shown more given bytes w none quiet =
-    let all = length-append shown more in
-    let few : length more ≡ 0 = ap length none in
-    let one : length shown ≤ 1 = w.one in
-    record {
-      one = omega arith;
-      before = λ h. let parts = append_none shown more h in both_none given bytes (w.before parts.0) (quiet parts.0);
-    }
+well_quiet shown more given bytes w none quiet = grind (arith, nat_tests, length-append, length, append_none, both_none)
 
 -- one where none was shown before, and that gives nothing
 well_first : (shown more : List Shown) (given bytes : List ℕ) → IsWell shown given → shown ≡ [] → length more ≤ 1 → bytes ≡ [] → IsWell (shown ++ more) (given ++ bytes)
-well_first shown more given bytes w none few quiet =
-    let all = length-append shown more in
-    let no : length shown ≡ 0 = ap length none in
-    record {
-      one = omega arith;
-      before = λ h. both_none given bytes (w.before none) quiet;
-    }
+well_first shown more given bytes w none few quiet = grind (arith, nat_tests)
 
 module _ (limits : Limits) (contents : Contents) (h : History) (e : Entry) (c : ℕ) (run : IsRun limits contents h) (owed : IsOwed limits (tables contents h) e) where
   abbrev t : Tables

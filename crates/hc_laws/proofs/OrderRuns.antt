@@ -1,6 +1,6 @@
 -- The lists stand in order in every run.
-use Rattle.std.proofs.Common.{◌≡◌, ℕ, ◌+◌, ◌<◌, ◌≤◌, List, [], ◌∷◌, Option, Some, None, refl, arith}
-use Rattle.hc_effects.proofs.Vocabulary.{Opening, opening_in, Event, Limits, denial, Flaw, entry_of, OfRuns, OfRunsIn, Descends, InOrder, Tables, Sound, after_accepted, last_start_after, starts_after, opened_after, openings_after, event}
+use Rattle.std.proofs.{lemmas.Bool.Decides.{nat_tests}, Common.{◌≡◌, ℕ, ◌+◌, ◌<◌, ◌≤◌, List, [], ◌∷◌, Option, Some, None, arith}}
+use Rattle.hc_effects.proofs.Vocabulary.{Opening, Event, Limits, denial, Flaw, entry_of, OfRuns, OfRunsIn, Descends, InOrder, Tables, Sound, after_accepted, last_start_after, starts_after, opened_after, openings_after, event}
 use Rattle.hc_laws.proofs.{FitsRuns.{fits}, RunFacts.{in_runs}}
 use Rattle.hc_effects.proofs.NumbersKeep.{opens_next, starts_later}
 
@@ -18,14 +18,10 @@ starts_on t (event.Start c request) goes d = let lt : t.last_start < c = starts_
 starts_on t _ goes d = d
 
 openings_on : (t : Tables) (z : Option Opening) → ((o : Opening) → z ≡ Some o → o.x ≡ t.opened + 1) → Descends (t.opened + 1) t.openings → Descends (opened_after z t.opened + 1) (openings_after z t.openings)
-openings_on t None next d = d
-openings_on t (Some o) next d = let number : o.x ≡ t.opened + 1 = next o refl in (omega arith, descends_more (t.opened + 1) o.x t.openings (omega arith) d)
+openings_on t z next d = grind (arith, nat_tests)
 
 ascends_kept : (limits : Limits) (t : Tables) (now : ℕ) (flaw : Flaw) → Sound t → Ascends limits t → (ev : Event) → denial t ev ≡ None → Ascends limits (after_accepted t (entry_of limits t now ev flaw))
-ascends_kept limits t now flaw s d ev goes = record {
-  starts = starts_on t ev goes d.starts;
-  openings = openings_on t (opening_in (entry_of limits t now ev flaw).acts) (λ o is. opens_next limits t now flaw s ev o goes is) d.openings;
-}
+ascends_kept limits t now flaw s d ev goes = grind (arith, nat_tests, starts_on, openings_on, opens_next)
 
 is_sorted : OfRunsIn Ascends
 is_sorted = in_runs Ascends (λ limits contents may. record { starts = tt; openings = tt }) (λ limits t e later d. record { starts = d.starts; openings = d.openings }) (λ limits t now flaw later c d ev goes real. ascends_kept limits t now flaw c.is_sound d ev goes)

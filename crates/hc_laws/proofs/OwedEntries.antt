@@ -4,10 +4,9 @@
 -- is evicted, closed and told shows none, since no consumer is told of a failed read where none failed. And
 -- the flaw may be: where a head or a piece lacks room, what it writes is there to be lost. What a head founds wasn't
 -- there before, and what a piece is written to isn't lost.
-use Rattle.std.{proofs.Common.{◌≡◌, ◌≤◌, ℕ, List, [], ◌∷◌, ◌++◌, length, Bool, true, false, Option, Some, None, refl, ap, sym, ◌∙◌, subst}, specs.{Prelude.{if◌then◌else◌, ◌||◌, not, map}, Option.{option_and_then}}}
-use Rattle.hc_text.proofs.Basics.{both_true as and_both, or_left, or_right}
-use Rattle.hc_effects.proofs.Vocabulary.{is_denied, Act, Cause, LostKind, Refusal, Event, Response, head_refusal, Limits, Room, has_loss, without_losses, answer, accepted_acts, answer_acts, loss_acts, close_acts, denied_or, case_of, is_founding, is_joining, closing, denial, as_open, Entry, entry_without_acts, family, Flaw, NoFlaw, Loses, Misreads, flaw_in, Move, Nothing, Fails, acts_of, Places, poll_move, Tables, Exchange, Representation, Consumer, IsOwed, may_stand, may_be, may_lose, is_kept, flaw_by_room, size_flaw, owed, has_room, Sound, room_for, room_by, write_of_piece, piece_write, evicted, written_representation, head_writes, may_validate, piece_writes, unless_lost, lossless, act, cause, room, write}
-use Rattle.hc_event.specs.declared.act.LostKind.TheVariants as kind
+use Rattle.std.{proofs.{lemmas.Bool.Decides.{nat_tests}, Common.{arith, ◌≡◌, ◌≤◌, ℕ, List, [], ◌∷◌, ◌++◌, length, Bool, true, false, Option, Some, None, refl, ap, ◌∙◌}}, specs.{Prelude.{if◌then◌else◌, not, map}, Option.{option_and_then}}}
+use Rattle.hc_text.proofs.Basics.{both_true as and_both, or_right}
+use Rattle.hc_effects.proofs.Vocabulary.{Act, Cause, LostKind, Refusal, Event, Response, head_refusal, Limits, Room, answer, accepted_acts, loss_acts, close_acts, case_of, is_founding, closing, denial, as_open, Entry, entry_without_acts, family, Flaw, NoFlaw, Loses, Misreads, flaw_in, Move, Nothing, Fails, acts_of, Places, poll_move, Tables, Exchange, Representation, Consumer, IsOwed, may_stand, may_be, may_lose, is_kept, flaw_by_room, size_flaw, owed, Sound, room_for, room_by, write_of_piece, piece_write, evicted, written_representation, head_writes, piece_writes, unless_lost, lossless, act, cause, room, write}
 use Rattle.hc_event.specs.declared.act.Refusal.TheVariants as refusal
 use Rattle.hc_event.specs.declared.event.Event.TheVariants as event
 use Rattle.hc_rules.specs.Refusals as refusals
@@ -30,23 +29,13 @@ IsOfSize (Misreads r) = ⊥
 IsOfSize _ = Unit {0}
 
 room_flaw : (z : Room) (o : Option ℕ) → IsOfSize (flaw_by_room z o)
-room_flaw (room.After count) o = tt
-room_flaw room.TooLarge (Some r) = tt
-room_flaw room.Full (Some r) = tt
-room_flaw _ None = tt
+room_flaw z o = grind (arith, nat_tests)
 
 lost_flaw : (flaw : Flaw) (xs : List ℕ) → IsOfSize flaw → flaw_in (loss_acts flaw ++ map act.Close xs) ≡ flaw
-lost_flaw NoFlaw xs of_size = closes_flaw xs
-lost_flaw (Loses r kind) xs of_size = refl
-lost_flaw (Misreads r) xs of_size = absurd of_size
-
-cause_flaw : (c : ℕ) (why : Cause) (rest : List Act) → ((r : ℕ) → why ≡ cause.StoreRead r → ⊥) → flaw_in rest ≡ NoFlaw → flaw_in (act.Failed c why ∷ rest) ≡ NoFlaw
-cause_flaw c (cause.StoreRead r) rest other none = absurd (other r refl)
-cause_flaw c _ rest other none = none
+lost_flaw flaw xs of_size = grind (arith, nat_tests, closes_flaw)
 
 move_flaw : (c : ℕ) (m : Move) (rest : List Act) → ((r : ℕ) → m ≡ Fails (cause.StoreRead r) → ⊥) → flaw_in rest ≡ NoFlaw → flaw_in (acts_of c m ++ rest) ≡ NoFlaw
-move_flaw c (Fails why) rest other none = cause_flaw c why rest (λ r is. other r (ap Fails is)) none
-move_flaw c _ rest other none = none
+move_flaw c m rest other none = grind (arith, nat_tests)
 
 module _ (limits : Limits) (t : Tables) (now : ℕ) (s : Sound t) (places : Places t) where
   abbrev sizes : Event → Flaw
@@ -58,9 +47,7 @@ module _ (limits : Limits) (t : Tables) (now : ℕ) (s : Sound t) (places : Plac
   reads_well want c (Some k) row r is = let never : true ≡ false = fails_told t now want c k (cause.StoreRead r) s places row is in cc
 
   outside_flaw : (ev : Event) → flaw_in (map act.Evicted (evicted limits t now ev) ++ (loss_acts (sizes ev) ++ close_acts t now ev (sizes ev))) ≡ sizes ev
-  outside_flaw ev =
-      flaw_same (evicted limits t now ev) _
-      ∙ lost_flaw (sizes ev) (closing t (record { now = now; event = ev; acts = answer_acts t now ev (sizes ev) ++ loss_acts (sizes ev) })) (room_flaw (room_for limits t now ev) (written_representation t (entry_without_acts now ev)))
+  outside_flaw ev = grind (arith, nat_tests, flaw_same, evicted, lost_flaw, sizes, closing, room_flaw)
 
   -- the acts of an accepted event show the flaw of the sizes
   shows_flaw : (ev : Event) → flaw_in (accepted_acts limits t now ev (sizes ev)) ≡ sizes ev
@@ -89,25 +76,13 @@ module _ (limits : Limits) (t : Tables) (now : ℕ) (acts : List Act) where
     beside : written_representation t (entry ev) ≡ Some r
     kept : is_kept (t.representation r) ≡ true
 
-  lost_by : (ev : Event) (k : LostKind) (l : IsLosable ev) → may_lose (room_for limits t now ev) k ≡ true → may_be limits t (entry ev) (Loses l.r k) ≡ true
-  lost_by ev k l lose = and_both _ _ (and_both _ _ (number_yes (written_representation t (entry ev)) l.r l.beside) l.kept) lose
-
   may_by : (ev : Event) (z : Room) → room_for limits t now ev ≡ z → (lacks z ≡ true → IsLosable ev) → may_be limits t (entry ev) (flaw_by_room z (written_representation t (entry_without_acts now ev))) ≡ true
-  may_by ev (room.After count) is losable = ap has_room is
-  may_by ev room.TooLarge is losable =
-      let l = losable refl in
-      subst (λ o. may_be limits t (entry ev) (flaw_by_room room.TooLarge o) ≡ true) (sym l.without) (lost_by ev kind.TooLarge l (ap (λ z. may_lose z kind.TooLarge) is))
-  may_by ev room.Full is losable =
-      let l = losable refl in
-      subst (λ o. may_be limits t (entry ev) (flaw_by_room room.Full o) ≡ true) (sym l.without) (lost_by ev kind.Full l (ap (λ z. may_lose z kind.Full) is))
+  may_by ev z is losable = grind (arith, nat_tests)
 
 -- A HEAD THAT FOUNDS
 
 founding_writes : (t : Tables) (e : Entry) (x : ℕ) (response : Response) (w : Exchange) → e.event ≡ event.Head x response → t.exchange x ≡ Some w → is_founding (case_of t false e.event) ≡ true → head_writes t (lossless e) x response (t.exchange x) ≡ Some x
-founding_writes t e x response w at row founds =
-    ap (head_writes t (lossless e) x response) row
-    ∙ ap (λ b. if b then Some x else (if may_validate t w response || is_joining (case_of t (has_loss (without_losses e.acts)) e.event) then w.aim else None))
-    (ap (λ b. is_founding (case_of t b e.event)) (no_loss e.acts) ∙ founds)
+founding_writes t e x response w at row founds = grind (arith, nat_tests, lossless, no_loss)
 
 module _ (limits : Limits) (t : Tables) (now : ℕ) (acts : List Act) (s : Sound t) where
   abbrev bare : Event → Entry
@@ -147,9 +122,7 @@ module _ (limits : Limits) (t : Tables) (now : ℕ) (acts : List Act) (s : Sound
 
   losable : (ev : Event) → denial t ev ≡ None → lacks (room_for limits t now ev) ≡ true → IsLosable limits t now acts ev
   unfolding room_for refusals.refusal_of
-  losable (event.Head x response) goes lacking = by_head x response (t.exchange x) refl goes lacking
-  losable (event.Piece x bytes) goes lacking = by_piece x bytes (t.exchange x) refl lacking
-  losable _ goes lacking = absurd (false_true lacking)
+  losable ev goes lacking = grind (arith, nat_tests, by_head, by_piece)
 
   may_be_so : (ev : Event) → denial t ev ≡ None → may_be limits t (entry limits t now acts ev) (size_flaw limits t now ev) ≡ true
   may_be_so ev goes = may_by limits t now acts ev (room_for limits t now ev) refl (losable ev goes)
@@ -162,22 +135,8 @@ module _ (limits : Limits) (t : Tables) (now : ℕ) (s : Sound t) (places : Plac
 
   by_denial : (q : Option Refusal) → denial t ev ≡ q → IsOwed limits t (owed limits t now ev)
   unfolding owed answer may_stand
-  by_denial (Some refusal) denied = record {
-    later = later;
-    acts =
-        ap (λ z. denied_or z (accepted_acts limits t now ev of_sizes)) denied
-        ∙ sym (ap (λ z. denied_or z (accepted_acts limits t now ev (flaw_in (answer limits t now ev of_sizes)))) denied);
-    flaw = or_left _ _ (ap (λ z. is_denied (denied_or z (accepted_acts limits t now ev of_sizes))) denied);
-  }
-  by_denial None goes =
-      let flaw : flaw_in (answer limits t now ev of_sizes) ≡ of_sizes =
-      ap (λ z. flaw_in (denied_or z (accepted_acts limits t now ev of_sizes))) goes ∙ shows_flaw limits t now s places ev in
-      record {
-        later = later;
-        acts = ap (answer limits t now ev) (sym flaw);
-        flaw = or_right (is_denied (answer limits t now ev of_sizes)) _
-            (subst (λ f. may_be limits t (entry limits t now (answer limits t now ev of_sizes) ev) f ≡ true) (sym flaw) (may_be_so limits t now (answer limits t now ev of_sizes) s ev goes));
-      }
+  by_denial (Some refusal) denied = grind (arith, nat_tests)
+  by_denial None goes = grind (arith, nat_tests, answer, shows_flaw, or_right, may_be_so)
 
   -- A run may go on with the entry that is owed.
   pub owed_is_owed : IsOwed limits t (owed limits t now ev)

@@ -4,9 +4,9 @@
 -- `validated`), of the acts only a wait. All else leaves a consumer there, or puts it elsewhere (`headed`, `faulted`,
 -- `opened`, `shown`). `passed_before` joins these for who was there before; who has just started doesn't wait
 -- (`started`). `passed_from` is for any row.
-use Rattle.std.{proofs.Common.{◌≡◌, inl, inr, ℕ, Bool, true, false, cond, Option, Some, None, refl, ap, sym, ◌∙◌}, specs.Prelude.{if◌then◌else◌, ◌==◌, ◌&&◌, not, is_none}}
-use Rattle.hc_text.proofs.Basics.{bool_cases, some_inj}
-use Rattle.hc_effects.proofs.Vocabulary.{Opening, opening_in, leaves_in, Event, Request, Response, Cause, Wait, HeadCase, Route, Wanted, route_of, range_of, wanted_of, Place, BoundBy, Showing, showing_in, wait_in, case_at, bound_to_wanted, place_by_case, passed_on, passed_by, kept_by, consumer_heard, by_head, by_fault, waiting_place, waiting, place_for_hole, opened_place, unless_bound, by_opening, shown_place, consumer_acted, consumer_settled, consumer_made, consumer_after, due_after, back_in_line, current, row_of, Entry, founded_total, entry_of, bound_to, reads, Tables, Exchange, Representation, Consumer, starts_over, after_accepted, event, cause, wait, case, route, wanted, place, by}
+use Rattle.std.{proofs.{lemmas.Bool.Decides.{nat_tests}, Common.{arith, ◌≡◌, inl, inr, ℕ, Bool, cond, Option, Some, None, refl, ap, sym, ◌∙◌}}, specs.Prelude.{if◌then◌else◌}}
+use Rattle.hc_text.proofs.Basics.{some_inj}
+use Rattle.hc_effects.proofs.Vocabulary.{Opening, opening_in, leaves_in, Event, Request, Response, Cause, Wait, HeadCase, Route, Wanted, route_of, range_of, wanted_of, Place, BoundBy, Showing, showing_in, wait_in, case_at, bound_to_wanted, place_by_case, passed_on, passed_by, kept_by, consumer_heard, by_head, by_fault, waiting_place, waiting, place_for_hole, opened_place, unless_bound, by_opening, shown_place, consumer_acted, consumer_settled, consumer_made, consumer_after, due_after, back_in_line, current, Entry, founded_total, entry_of, Tables, Exchange, Representation, Consumer, starts_over, after_accepted, event, wait, case, place, by}
 use Rattle.hc_effects.proofs.{PieceKeeps.{eq_cases}, Step.{Step}}
 
 -- only what validates is conditional
@@ -39,18 +39,8 @@ module _ (step : Step) (c q : ℕ) (kept : Option ℕ) (k : Consumer) (row : ste
   direct_passed : (x : ℕ) → place.Direct x ≡ at → ⊥
   direct_passed x is = cc
 
-  down_passed : (why : Cause) → place.Down why ≡ at → ⊥
-  down_passed why is = cc
-
-  over_passed : place.Over ≡ at → ⊥
-  over_passed is = cc
-
-  bound_passed : (r lo : ℕ) (hi : Option ℕ) (how : BoundBy) → place.Bound r lo hi how ≡ at → ⊥
-  bound_passed r lo hi how is = cc
-
   wanted_passed : (r : ℕ) (how : BoundBy) (other : Place) (w : Wanted) → bound_to_wanted r how other w ≡ at → other ≡ at
-  wanted_passed r how other (wanted.Interval span) is = absurd (bound_passed r span.lo (Some span.hi) how is)
-  wanted_passed r how other _ is = is
+  wanted_passed r how other w is = grind (arith, nat_tests)
 
   before : k.place ≡ at → PassedFrom
   before is = stood is
@@ -82,19 +72,12 @@ module _ (step : Step) (c q : ℕ) (kept : Option ℕ) (k : Consumer) (row : ste
   ]
 
   faulted : (x : ℕ) (z : Option Exchange) → (by_fault c x z k).place ≡ at → PassedFrom
-  faulted x None is = before is
-  faulted x (Some w) is = elim (bool_cases (w.c == c && is_none w.head && not k.shown)) [
-    | inl here ↦ absurd (down_passed (cause.Net x) (rw here at is))
-    | inr other ↦ before (rw other at is)
-  ]
+  faulted x z is = grind (arith, nat_tests)
 
   heard : (v : Event) → ev ≡ v → (consumer_heard t e c v k).place ≡ at → PassedFrom
   heard (event.Head x response) here is = headed x response (t.exchange x) here refl is
   heard (event.Fault x) here is = faulted x (t.exchange x) is
-  heard (event.Cancel d) here is = elim (bool_cases (d == c)) [
-    | inl mine ↦ absurd (over_passed (rw mine at is))
-    | inr other ↦ before (rw other at is)
-  ]
+  heard (event.Cancel d) here is = grind (arith, nat_tests)
   heard _ here is = before is
 
   -- THE ACTS
@@ -108,39 +91,20 @@ module _ (step : Step) (c q : ℕ) (kept : Option ℕ) (k : Consumer) (row : ste
   waits (Some (wait.Busy d)) here is = busy d (current t h.request.key) here refl is
   waits _ here is = heard ev refl is
 
-  hole_passed : (x : ℕ) (request : Request) (r : Option ℕ) (v : Option Representation) → place_for_hole x request r v ≡ at → ⊥
-  hole_passed x request (Some r) (Some v) is = line_passed (wanted_passed r (by.FirstHole x) place.Line (wanted_of (range_of request) v.head.total) is)
-  hole_passed x request _ _ is = cc
-
-  opened_passed : (x : ℕ) (z : Consumer) (way : Route) → opened_place t x z way ≡ at → ⊥
-  opened_passed x z route.Hole is = hole_passed x z.request (current t z.request.key) (row_of t (current t z.request.key)) is
-  opened_passed x z _ is = cc
-
   unless : (p : Opening) (z : Consumer) (r : Option ℕ) → unless_bound r z.place (opened_place t p.x z (route_of p.need)) ≡ at → z.place ≡ at
-  unless p z None is = absurd (opened_passed p.x z (route_of p.need) is)
-  unless p z (Some r) is = is
+  unless p z r is = grind (arith, nat_tests)
 
   opened : (z : Consumer) (p : Option Opening) → (by_opening t c p z).place ≡ at → z.place ≡ at
-  opened z None is = is
-  opened z (Some p) is = elim (eq_cases p.c c) [
-    | inr other ↦ rw other.0 at is
-    | inl mine ↦ unless p z (bound_to z.place) (rw mine.0 at is)
-  ]
+  opened z p is = grind (arith, nat_tests, eq_cases, unless)
 
   shown : (p : Place) (z : Option Showing) → shown_place c z p ≡ at → p ≡ at
-  shown p None is = is
-  shown p (Some z) is = elim (bool_cases ((z.c == c) && not (reads p))) [
-    | inl here ↦ absurd (bound_passed z.r z.lo z.hi by.Plan (rw here at is))
-    | inr other ↦ rw other at is
-  ]
+  shown p z is = grind (arith, nat_tests)
 
   stays : (p : Place) (leaves : Bool) → (if leaves then place.Over else p) ≡ at → p ≡ at
-  stays p true is = absurd (over_passed is)
-  stays p false is = is
+  stays p leaves is = grind (arith, nat_tests)
 
   settled : (z u : Consumer) (over : Bool) → (cond over (back_in_line e.now z) (due_after t e c k z)) ≡ u → u.place ≡ at → z.place ≡ at
-  settled z u true is stands = absurd (line_passed (ap (λ (w : Consumer). w.place) is ∙ stands))
-  settled z u false is stands = ap (λ (w : Consumer). w.place) is ∙ stands
+  settled z u over is stands = grind (arith, nat_tests)
 
   pub passed_before : (u : Consumer) → consumer_settled t e c k (consumer_acted t e c h) ≡ u → u.place ≡ at → PassedFrom
   passed_before u is stands =
@@ -155,11 +119,7 @@ module _ (step : Step) where
   made_e = entry_of limits t now ev flaw
 
   started : (c q : ℕ) (kept : Option ℕ) (v : Event) (u : Consumer) → consumer_made c made_e.now v ≡ Some u → u.place ≡ place.Passed q kept → ⊥
-  started c q kept (event.Start d request) u is stands = elim (eq_cases d c) [
-    | inl here ↦ let no : place.Line ≡ place.Passed q kept = ap (λ (z : Consumer). z.place) (some_inj _ u (rw here.0 at is)) ∙ stands in cc
-    | inr other ↦ let no : None ≡ Some u = rw other.0 at is in cc
-  ]
-  started c q kept _ u is stands = let no : None ≡ Some u = is in cc
+  started c q kept v u is stands = grind (arith, nat_tests)
 
   pub record IsPassedRow (c q : ℕ) (kept : Option ℕ) : Type 0 where
     pub k : Consumer

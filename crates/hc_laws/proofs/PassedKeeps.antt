@@ -1,17 +1,15 @@
 -- Whoever waits for a body asks for what is stored: its request isn't a bypassing one.
-use Rattle.std.proofs.Common.{◌≡◌, ℕ, Bool, true, false, Option, Some, refl, ap, sym, ◌∙◌}
+use Rattle.std.proofs.{lemmas.Bool.Decides.{nat_tests}, Common.{arith, ◌≡◌, ℕ, Bool, true, false, Option, Some, refl, ap, sym, ◌∙◌}}
 use Rattle.hc_text.proofs.Basics.{same_some as same_row}
 use Rattle.hc_effects.proofs.Vocabulary.{Request, Response, Need, is_conditional, is_bypassing, wait_in, has_loss, case_at, head_view, Entry, entry_of, Tables, Exchange, Consumer, after_accepted, event, need, wait, case, place}
-use Rattle.hc_effects.proofs.{Basics.{false_true}, FirstKeeps.{case_of_head}, FoundBy.{CaseBy}, Forward.{is_kept}, Said.{waiting_by}, WaitedAs.{waited_as}, Step.{Step}}
+use Rattle.hc_effects.proofs.{FirstKeeps.{case_of_head}, FoundBy.{CaseBy}, Forward.{is_kept}, Said.{waiting_by}, WaitedAs.{waited_as}, Step.{Step}}
 use Rattle.hc_effects.proofs.FoundBy as cases
 use Rattle.hc_laws.proofs.PassedFrom.{PassedFrom, passed_from}
-use Rattle.hc_laws.proofs.PassedFrom as passed
 use Rattle.hc_effects.proofs.WaitedAs as waited
 
 -- only what validates is conditional
 pub conditional_need : (n : Need) (request : Request) → is_conditional n request ≡ true → n ≡ need.Validate
-conditional_need need.Validate request h = refl
-conditional_need _ request h = absurd (false_true h)
+conditional_need n request h = grind (arith, nat_tests)
 
 validated_need : (t : Tables) (lost : Bool) (w : Exchange) (response : Response) → CaseBy (head_view t lost w response) case.Validated → w.need ≡ need.Validate
 validated_need t lost w response (cases.validated way status conditional kept) = conditional_need w.need w.request conditional
@@ -38,9 +36,7 @@ module _ (step : Step) where
       plain_as c by_poll.k k by_poll.poll.row row ((waited_as t now c by_poll.k (wait.Busy d) (waited.busy d) by_poll.want s by_poll.poll.row by_poll.move).plain d refl)
 
   plain_before : (c q : ℕ) (kept : Option ℕ) (k : Consumer) (row : t.consumer c ≡ Some k) → PassedFrom step c q kept k row → is_bypassing k.request ≡ false
-  plain_before c q kept k row (passed.stood is) = o.passed c q kept k row is
-  plain_before c q kept k row (passed.validates x response w here there mine is aim held) = validated c x response w k row here there mine is
-  plain_before c q kept k row (passed.busies d is held stands) = busy c d k row is
+  plain_before c q kept k row it5 = grind (arith, nat_tests, validated, busy)
 
   pub passed_kept : (c q : ℕ) (kept : Option ℕ) (u : Consumer) → (after_accepted t e).consumer c ≡ Some u → u.place ≡ place.Passed q kept → is_bypassing u.request ≡ false
   passed_kept c q kept u row stands =

@@ -1,8 +1,8 @@
 -- Who was let through waits for what is current, and its 304 came from its own exchange, in every run.
-use Rattle.std.proofs.Common.{◌≡◌, ℕ, Bool, true, false, Option, Some, None, refl, subst}
+use Rattle.std.proofs.{lemmas.Bool.Decides.{nat_tests}, Common.{arith, ◌≡◌, ℕ, Bool, false, Option, Some, None, refl, subst}}
 use Rattle.hc_effects.proofs.Vocabulary.{place, OfRuns, Turns, Owners, Passed, Places, own_open, Tables, Exchange, Consumer, tables}
 use Rattle.hc_model.specs.Passed.{WaitsForCurrent, OwnsOver}
-use Rattle.hc_effects.proofs.{Basics.{some_none, some_row}, KeyNames.{current_key}, PollKeeps.{current_stays}}
+use Rattle.hc_effects.proofs.{Basics.{some_row}, KeyNames.{current_key}, PollKeeps.{current_stays}}
 use Rattle.hc_laws.proofs.{InRuns.{turned_in_runs}, PlacesStand.{Stands, AreStanding}, PlaceRuns.{known_in_runs, places_in_runs}, SoundRuns.{owners_in_runs}}
 
 module _ (t : Tables) (o : Owners t) (turns : Turns t) (places : Places t) (stands : AreStanding t) where
@@ -13,8 +13,7 @@ module _ (t : Tables) (o : Owners t) (turns : Turns t) (places : Places t) (stan
 
   -- what is its own and not open is over
   over_by : (x : ℕ) (w : Exchange) (k : Consumer) (b : Bool) → k.own ≡ Some x → t.exchange x ≡ Some w → own_open t k ≡ None → w.is_open ≡ b → b ≡ false
-  over_by x w k true own row none on = absurd (some_none x (rw (own, row, on) at none))
-  over_by x w k false own row none off = refl
+  over_by x w k b own row none on = grind (arith, nat_tests)
 
   kept_by : (c r x : ℕ) (k : Consumer) → t.consumer c ≡ Some k → k.place ≡ place.Passed r (Some x) → OwnsOver t x k
   kept_by c r x k row at =

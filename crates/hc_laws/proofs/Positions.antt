@@ -37,10 +37,7 @@ below_written f from x bytes (suc n) absent =
 
 -- written where nothing was, up to the farther of both ends
 pub below_put : (f : Cells) (from x n : ℕ) (bytes : List ℕ) → EndsBy n f → AreAbsent f from (from + length bytes) → size_below (cells_with from x bytes f) (max n (from + length bytes)) ≡ size_below f n + length bytes
-below_put f from x n bytes ends absent =
-    let all = below_written f from x bytes (max n (from + length bytes)) absent in
-    let past : size_below f (max n (from + length bytes)) ≡ size_below f n = below_past f n (max n (from + length bytes)) ends (omega arith) in
-    omega (arith, all)
+below_put f from x n bytes ends absent = grind (arith, nat_tests, below_written, length, below_past)
 
 -- RUNS THAT RISE
 
@@ -114,5 +111,4 @@ no_other_below f n p m all count le lt there =
     let first : size_below f n ≡ n = full_below f n all in
     let upto : size_below f n ≤ size_below f p = below_more f n p le in
     let next : size_below f (suc p) ≤ size_below f m = below_more f (suc p) m (omega arith) in
-    let one : size_below f (suc p) ≡ 1 + size_below f p = rw there refl in
-    omega (arith, count)
+    grind (arith, nat_tests)

@@ -3,20 +3,18 @@
 -- Only a poll tells the end, and to who reads up to it (`ender`, `at_end`). So its reader is at least as far as the end
 -- that it knows. It isn't further: what is stored lies within its length, and what came past the store within what its
 -- exchange promised (`direct_end`). So it was given just as much as there is (`is_end`). `by_ender` says that of a run.
-use Rattle.std.{proofs.{Common.{◌≡◌, inl, inr, ℕ, ◌+◌, ◌-◌, ◌<◌, ◌≤◌, List, [], ◌∷◌, length, Bool, true, false, Option, Some, None, refl, ap, sym, ◌∙◌, subst, arith}, lemmas.Bool.Decides.{nat_tests}}, specs.{Prelude.{is_some, nat_le, nat_lt, ◌&&◌, if◌then◌else◌}, Option.{option_or}}}
-use Rattle.hc_text.proofs.Basics.{and_right, bool_cases, not_some as none_some, some_inj}
+use Rattle.std.{proofs.{Common.{◌≡◌, inl, inr, ℕ, ◌+◌, ◌-◌, ◌<◌, ◌≤◌, List, [], ◌∷◌, length, Bool, true, false, Option, Some, None, refl, ap, sym, ◌∙◌, subst, arith}, lemmas.Bool.Decides.{nat_tests}}, specs.Prelude.{is_some, if◌then◌else◌}}
+use Rattle.hc_text.proofs.Basics.{bool_cases, not_some as none_some, some_inj}
 use Rattle.hc_range.specs.declared.range.Span.{Span}
 use Rattle.hc_sparse.specs.{Cells.{Cell}, declared.run.Run.{Run}}
-use Rattle.hc_effects.proofs.Vocabulary.{is_denied, Event, Request, Response, Act, Cause, Why, Length, Plan, ReadView, Limits, base_of, promise_of, plan_of, read_step, is_at_end, stored_or, held_or, fails_or, waits_or, opens, BoundBy, Place, accepted_acts, answer_acts, may_begin, total_in, Entry, History, Contents, base, promised_bytes, length_by, Flaw, flaw_in, Shown, shown_of, given_of, OfRuns, Measures, Move, Nothing, Asks, Opens, Ends, Fails, acts_of, gives, waits_for, opens_hole, shows_stored, plan_move, plan_view, binds_current, move_of, shows_at, shows_bound, shows_direct, shows_answer, has_joined, reads, lo_of, hi_of, offset, base_in, end_in, end_of_direct, ReadsAct, Says, Holds, IsEnd, body_of, cell_by, direct_cell, answer_cell, end_by, Tables, Exchange, Representation, Consumer, IsRun, Sound, step_move, reading, read_view, later_hole, tables, act, cause, wait, plan, by, place}
-use Rattle.hc_rules.specs.declared.length.Length.TheVariants as told
+use Rattle.hc_effects.proofs.Vocabulary.{is_denied, Event, Request, Response, Act, Cause, Why, Length, Plan, ReadView, Limits, base_of, promise_of, plan_of, read_step, is_at_end, stored_or, held_or, fails_or, waits_or, opens, BoundBy, Place, accepted_acts, answer_acts, may_begin, total_in, Entry, History, Contents, base, promised_bytes, Flaw, flaw_in, Shown, shown_of, given_of, OfRuns, Measures, Move, Nothing, Asks, Opens, Ends, Fails, acts_of, gives, waits_for, opens_hole, shows_stored, plan_move, plan_view, binds_current, move_of, shows_at, shows_bound, shows_direct, shows_answer, reads, hi_of, offset, end_in, end_of_direct, ReadsAct, Says, Holds, IsEnd, body_of, answer_cell, end_by, Tables, Exchange, Representation, Consumer, IsRun, Sound, step_move, reading, read_view, later_hole, tables, act, cause, wait, place}
 use Rattle.hc_model.specs.Exchanges as exchanges
 use Rattle.hc_model.specs.Moves as moves
 use Rattle.hc_model.specs.Reads.{EndsWell}
 use Rattle.hc_model.specs.Reads as spec
-use Rattle.hc_effects.proofs.{ActParts.{silent, misreads, does, IsSaid, said_is}, Basics.{false_true, append_none}, Bounded.{IsBounded, bounded_begun, bounded_denied, bounded_kept}, GivenNext.{read_of}, MoveBy.{MoveBy, move_by}, Owed.{IsDenied, is_denial, acts_are}, ShownStays.{IsFallback}, Step.{step_of}}
+use Rattle.hc_effects.proofs.{ActParts.{silent, misreads, does, IsSaid, said_is}, Basics.{append_none}, Bounded.{IsBounded, bounded_begun, bounded_denied, bounded_kept}, MoveBy.{MoveBy, move_by}, Owed.{IsDenied, is_denial, acts_are}, ShownStays.{IsFallback}, Step.{step_of}}
 use Rattle.hc_laws.proofs.{ReadAs.{IsRead}, ReadJoined.{joined_in_runs, is_told, fallback}, ReadNext.{by_said, shown_one}, RunFacts.{in_runs_with}, SoundRuns.{carried}}
 use Rattle.hc_effects.proofs.MoveBy as by_move
-use Rattle.hc_effects.proofs.Owed as owed_acts
 use Rattle.hc_laws.proofs.ReadNext as next
 
 -- BOUNDED IN RUNS
@@ -31,51 +29,14 @@ bounded = in_runs_with (λ limits t. IsBounded t) (λ limits t. IsFallback t) fa
 
 -- what promises nothing begins at the first position
 pub no_base : (l : Length) → promise_of l ≡ None → base_of l ≡ 0
-no_base (told.Part first n) is = absurd (none_some n (sym is))
-no_base _ is = refl
+no_base l is = grind (arith, nat_tests)
 
 module _ (t : Tables) (now c want : ℕ) (k : Consumer) where
-  nothing_ends : Nothing ≡ Ends → ⊥
-  nothing_ends is = cc
-
-  stored_ends : (r : ℕ) (why : Why) (ranged : Bool) (lo : ℕ) (hi : Option ℕ) (o : Option Representation) → shows_stored r why ranged lo hi o ≡ Ends → ⊥
-  stored_ends r why ranged lo hi None is = nothing_ends is
-  stored_ends r why ranged lo hi (Some v) is = cc
-
-  answer_ends : (x : ℕ) (w : Exchange) (o : Option Response) → shows_answer t x w o ≡ Some Ends → ⊥
-  answer_ends x w None is = none_some Ends is
-  answer_ends x w (Some response) is = cc
-
-  direct_ends : (x : ℕ) (o : Option Exchange) → shows_direct t x o ≡ Some Ends → ⊥
-  direct_ends x None is = none_some Ends is
-  direct_ends x (Some w) is = answer_ends x w w.head is
-
-  bound_ends : (r lo : ℕ) (hi : Option ℕ) (how : BoundBy) → shows_bound t k r lo hi how ≡ Some Ends → ⊥
-  bound_ends r lo hi by.Founding is = stored_ends r _ _ lo hi (t.representation r) (some_inj _ Ends is)
-  bound_ends r lo hi (by.FirstHole y) is = elim (bool_cases (has_joined (t.exchange y))) [
-    | inl joined ↦ stored_ends r _ _ lo hi (t.representation r) (some_inj _ Ends (rw joined at is))
-    | inr off ↦ none_some Ends (rw off at is)
-  ]
-  bound_ends r lo hi by.Plan is = none_some Ends is
-
   at_ends : (p : Place) → shows_at t k p ≡ Some Ends → ⊥
-  at_ends (place.Bound r lo hi how) is = bound_ends r lo _ how is
-  at_ends (place.Direct x) is = direct_ends x (t.exchange x) is
-  at_ends _ is = none_some Ends is
-
-  hole_ends : (request : Request) (o : Option Representation) (hole : Span) → opens_hole t request o hole ≡ Ends → ⊥
-  hole_ends request None hole is = nothing_ends is
-  hole_ends request (Some v) hole is = cc
-
-  binds_ends : (why : Why) (span : Option Span) (o : Option ℕ) → binds_current t k why span o ≡ Ends → ⊥
-  binds_ends why span None is = nothing_ends is
-  binds_ends why None (Some r) is = stored_ends r why _ 0 _ (t.representation r) is
-  binds_ends why (Some span) (Some r) is = stored_ends r why _ span.lo (Some span.hi) (t.representation r) is
+  at_ends p is = grind (arith, nat_tests)
 
   plan_ends : (p : Plan) → plan_move t k p ≡ Ends → ⊥
-  plan_ends (plan.Bind why span) is = binds_ends why span _ is
-  plan_ends (plan.FirstHole span hole) is = hole_ends k.request _ hole is
-  plan_ends _ is = cc
+  plan_ends p is = grind (arith, nat_tests)
 
   record IsEnding : Type 0 where
     shown : k.shown ≡ true
@@ -90,27 +51,13 @@ module _ (t : Tables) (now c want : ℕ) (k : Consumer) where
   -- THE STEP
 
   gives_ends : (o : Option Run) → gives o ≡ Ends → ⊥
-  gives_ends None is = nothing_ends is
-  gives_ends (Some z) is = cc
-
-  later_ends : (hole : Span) (hi : Option ℕ) → later_hole t k hole hi ≡ Ends → ⊥
-  later_ends hole None is = nothing_ends is
-  later_ends hole (Some hi) is = hole_ends k.request _ hole is
-
-  asks_ends : (x : ℕ) (b : Bool) → (if b then moves.Waits (wait.Body x) else Asks x) ≡ Ends → ⊥
-  asks_ends x true is = cc
-  asks_ends x false is = cc
-
-  waits_ends : (x : ℕ) (o : Option Exchange) → waits_for x o ≡ Ends → ⊥
-  waits_ends x None is = nothing_ends is
-  waits_ends x (Some w) is = asks_ends x w.asked is
+  gives_ends o is = grind (arith, nat_tests)
 
   abbrev view : ReadView
   view = read_view t want c k
 
   by_source : (o : Option ℕ) → step_move t want c k (waits_or o (opens view)) ≡ Ends → ⊥
-  by_source None is = later_ends _ (hi_of t k.place) is
-  by_source (Some x) is = waits_ends x (t.exchange x) is
+  by_source o is = grind (arith, nat_tests)
 
   by_due : (o : Option Cause) → step_move t want c k (fails_or o (waits_or view.source (opens view))) ≡ Ends → ⊥
   by_due None is = by_source view.source is
@@ -126,14 +73,10 @@ module _ (t : Tables) (now c want : ℕ) (k : Consumer) where
 
   at_end : reading t want c k ≡ Ends → is_at_end (hi_of t k.place) (offset t k) ≡ true
   unfolding read_step
-  at_end is = elim (bool_cases (is_at_end (hi_of t k.place) (offset t k))) [
-    | inl past ↦ past
-    | inr before ↦ absurd (by_stored view.stored (rw before at is))
-  ]
+  at_end is = grind (arith, nat_tests, bool_cases, by_stored)
 
   known_end : (o : Option ℕ) (n : ℕ) → is_at_end o n ≡ true → (hi : ℕ) × (o ≡ Some hi) × (hi ≤ n)
-  known_end None n is = absurd (false_true is)
-  known_end (Some hi) n is = (hi, refl, grind (arith, nat_tests))
+  known_end o n is = grind (arith, nat_tests)
 
 -- WHERE IT STANDS
 
@@ -143,103 +86,36 @@ module _ (t : Tables) (c : ℕ) (k : Consumer) (s : Sound t) (m : Measures t) (b
   last_there some = ap (λ p. is_some (body_of t z.r p)) (sym (omega arith)) ∙ ap (λ (q : Option Cell). is_some q) ((holds (k.given - 1) (omega arith)).1 0 (omega arith))
 
   below_reach : (r n p : ℕ) (v : Representation) → t.representation r ≡ Some v → v.head.total ≡ Some n → is_some (body_of t r p) ≡ true → p < n
-  below_reach r n p v there known some =
-      let le : v.reach ≤ n = m.within r n v there known in
-      let cell : is_some (v.body p) ≡ true = sym (ap (λ (q : Option Representation). is_some (cell_by t r p q)) there) ∙ some in
-      elim (bool_cases (nat_lt p v.reach)) [
-        | inl under ↦ let lt : p < v.reach = grind (arith, nat_tests) in omega arith
-        | inr past ↦ let over : v.reach ≤ p = grind (arith, nat_tests) in absurd (false_true (sym (ap (λ (q : Option Cell). is_some q) ((s.rows r v there).store.ends p over)) ∙ cell))
-      ]
+  below_reach r n p v there known some = grind (arith, nat_tests)
 
   bound_by : (r n : ℕ) (q : Option Representation) → z.r ≡ r → z.lo ≡ 0 → t.representation r ≡ q → total_in q ≡ Some n → k.given ≤ n
-  bound_by r n None same first there known = absurd (none_some n known)
-  bound_by r n (Some v) same first there known = elim (bool_cases (nat_lt 0 k.given)) [
-    | inr none ↦ let zero : k.given ≤ 0 = grind (arith, nat_tests) in omega arith
-    | inl some ↦
-        let more : 0 < k.given = grind (arith, nat_tests) in
-        let last : is_some (body_of t r (z.lo + (k.given - 1))) ≡ true = subst (λ q1. is_some (body_of t q1 (z.lo + (k.given - 1))) ≡ true) same (last_there more) in
-        let lt : z.lo + (k.given - 1) < n = below_reach r n (z.lo + (k.given - 1)) v there known last in
-        omega arith
-  ]
+  bound_by r n q same first there known = grind (arith, nat_tests, none_some, bool_cases, last_there, below_reach)
 
   cell_below : (y p : ℕ) (w : Exchange) → is_some (answer_cell y p w) ≡ true → p < exchanges.front w
-  cell_below y p w some = elim (bool_cases (nat_le (base w) p && nat_lt p (exchanges.front w))) [
-    | inl on ↦ let under : nat_lt p (exchanges.front w) ≡ true = and_right (nat_le (base w) p) _ on in grind (arith, nat_tests)
-    | inr off ↦ absurd (false_true (rw off at some))
-  ]
+  cell_below y p w some = grind (arith, nat_tests)
 
   came_of : (y : ℕ) (w : Exchange) → z.r ≡ y → z.lo ≡ base w → t.representation y ≡ None → t.exchange y ≡ Some w → k.given ≤ length w.body
-  came_of y w same first none there = elim (bool_cases (nat_lt 0 k.given)) [
-    | inr few ↦ let zero : k.given ≤ 0 = grind (arith, nat_tests) in omega arith
-    | inl some ↦
-        let more : 0 < k.given = grind (arith, nat_tests) in
-        let last : is_some (body_of t y (z.lo + (k.given - 1))) ≡ true = subst (λ q1. is_some (body_of t q1 (z.lo + (k.given - 1))) ≡ true) same (last_there more) in
-        let cell : is_some (answer_cell y (z.lo + (k.given - 1)) w) ≡ true = sym (ap (λ (q : Option Representation). is_some (cell_by t y (z.lo + (k.given - 1)) q)) none ∙ ap (λ (q : Option Exchange). is_some (direct_cell y (z.lo + (k.given - 1)) q)) there) ∙ last in
-        let lt : z.lo + (k.given - 1) < exchanges.front w = cell_below y _ w cell in
-        omega arith
-  ]
+  came_of y w same first none there = grind (arith, nat_tests, bool_cases, last_there, cell_below)
 
   direct_end : (y n : ℕ) (w : Exchange) (q : Option ℕ) → t.exchange y ≡ Some w → promised_bytes w ≡ q → k.given ≤ length w.body → end_of_direct q w ≡ Some n → base w + k.given ≤ n
-  direct_end y n w (Some p) there promise few is =
-      let most : length w.body ≤ p = b.promise y p w there promise in
-      let same : base w + p ≡ n = some_inj (base w + p) n is in
-      omega arith
-  direct_end y n w None there promise few is = elim (bool_cases w.is_ended) [
-    | inr off ↦ absurd (none_some n (rw off at is))
-    | inl over ↦
-        let same : length w.body ≡ n = some_inj (length w.body) n (rw over at is) in
-        let first : base w ≡ 0 = no_base (length_by w w.head) promise in
-        omega arith
-  ]
+  direct_end y n w q there promise few is = grind (arith, nat_tests)
 
   direct_by : (y n : ℕ) (q : Option Exchange) → k.place ≡ place.Direct y → t.exchange y ≡ q → end_in q ≡ Some n → offset t k ≤ n
-  direct_by y n None at there is = absurd (none_some n is)
-  direct_by y n (Some w) at there is =
-      let first : lo_of t k.place ≡ base w = ap (lo_of t) at ∙ ap base_in there in
-      let few : k.given ≤ length w.body = came_of y w (some_inj z.r y (sym read.number ∙ ap read_of at)) (sym read.from ∙ first) (apart y at) there in
-      let le : base w + k.given ≤ n = direct_end y n w (promised_bytes w) there refl few is in
-      omega arith
+  direct_by y n q at there is = grind (arith, nat_tests, none_some, length, came_of, some_inj, direct_end)
 
   offset_by : (p : Place) (n : ℕ) → k.place ≡ p → hi_of t p ≡ Some n → offset t k ≤ n
-  offset_by (place.Bound r lo (Some hi) how) n at is =
-      let same : hi ≡ n = some_inj hi n is in
-      let le : lo + k.given ≤ hi = b.within c r lo hi how k row at in
-      let first : lo_of t k.place ≡ lo = ap (lo_of t) at in
-      omega arith
-  offset_by (place.Bound r lo None how) n at is =
-      let start : z.lo ≡ 0 = sym read.from ∙ (ap (lo_of t) at ∙ b.first c r lo how k row at) in
-      let le : k.given ≤ n = bound_by r n (t.representation r) (some_inj z.r r (sym read.number ∙ ap read_of at)) start refl is in
-      omega arith
-  offset_by (place.Direct y) n at is = direct_by y n (t.exchange y) at refl is
-  offset_by _ n at is = absurd (none_some n is)
+  offset_by p n at is = grind (arith, nat_tests, some_inj, bound_by, direct_by, none_some)
 
   -- THE END
 
-  total_end : (r n : ℕ) (q : Option Representation) → total_in q ≡ Some n → end_by t r q ≡ Some n
-  total_end r n None is = absurd (none_some n is)
-  total_end r n (Some v) is = is
-
-  body_end : (p : Place) (n : ℕ) → k.place ≡ p → z.hi ≡ None → hi_of t p ≡ Some n → spec.end_of t z.r ≡ Some n
-  body_end (place.Bound r lo hi how) n at none is =
-      let same : z.r ≡ r = some_inj z.r r (sym read.number ∙ ap read_of at) in
-      ap (spec.end_of t) same ∙ total_end r n (t.representation r) (sym (ap (λ q. option_or q (total_in (t.representation r))) (read.open_end none r lo hi how at)) ∙ is)
-  body_end (place.Direct y) n at none is = ap (spec.end_of t) (some_inj z.r y (sym read.number ∙ ap read_of at)) ∙ (ap (end_by t y) (apart y at) ∙ is)
-  body_end _ n at none is = absurd (none_some n is)
-
   end_from : (q : Option ℕ) (n : ℕ) → z.hi ≡ q → hi_of t k.place ≡ Some n → IsEnd t z.r q n
-  end_from None n none is = body_end k.place n refl none is
-  end_from (Some hi) n some is = some_inj n hi (sym is ∙ read.to hi some)
+  end_from q n none is = grind (arith, nat_tests)
 
   is_end : is_at_end (hi_of t k.place) (offset t k) ≡ true → IsEnd t z.r z.hi (z.lo + length given)
-  is_end past =
-      let known = known_end t 0 c 0 k (hi_of t k.place) (offset t k) past in
-      let most : offset t k ≤ known.0 = offset_by k.place known.0 refl known.1 in
-      subst (IsEnd t z.r z.hi) (omega arith) (end_from z.hi known.0 refl known.1)
+  is_end past = grind (arith, nat_tests, known_end, offset_by, end_from)
 
 hi_reads : (t : Tables) (p : Place) (n : ℕ) → hi_of t p ≡ Some n → reads p ≡ true
-hi_reads t (place.Bound r lo hi how) n is = refl
-hi_reads t (place.Direct y) n is = refl
-hi_reads t _ n is = absurd (none_some n is)
+hi_reads t p n is = grind (arith, nat_tests)
 
 -- WHO IS TOLD
 
@@ -301,8 +177,7 @@ module _ (limits : Limits) (contents : Contents) (h : History) (e : Entry) (may 
       (one.0, append_none (shown_of c h) ∙ one.1, subst (λ (xs : List ℕ). IsEnd t one.0.r one.0.hi (one.0.lo + length xs)) (sym (append_none (given_of c h))) there)
 
   denied_not : (acts : List Act) → IsDenied acts → Says (act.Ended c) acts → ⊥
-  denied_not _ (owed_acts.denied refusal) (inl is) = cc
-  denied_not _ (owed_acts.denied refusal) (inr later) = later
+  denied_not acts it1 it2 = grind (arith, nat_tests)
 
   by_taken : (b : Bool) → is_denied e.acts ≡ b → Says (act.Ended c) e.acts → ReadsAct contents h e.now [] (act.Ended c)
   by_taken true denied says = absurd (denied_not e.acts (is_denial e.acts denied) says)

@@ -4,14 +4,13 @@
 -- poll, to its consumer (`giver`). Who is given something was shown one head (`shown_giver`, `one_shown`), and the
 -- bytes are next of what that shows, within its end (`next_of`). `by_giver` says that of an accepted entry, and
 -- `gives_next` of every run: a denied entry gives nothing.
-use Rattle.std.{proofs.Common.{◌≡◌, ◌≢◌, ◌⊎◌, inl, inr, ℕ, ◌+◌, ◌<◌, ◌≤◌, List, [], ◌∷◌, ◌++◌, length, Bool, true, false, Option, Some, refl, ap, sym, ◌∙◌, subst, arith}, specs.{Prelude.{map, not, is_none}, Option.{option_map_or}}}
+use Rattle.std.{proofs.{lemmas.Bool.Decides.{nat_tests}, Common.{◌≡◌, ◌≢◌, ◌⊎◌, inl, inr, ℕ, ◌+◌, ◌<◌, ◌≤◌, List, [], ◌∷◌, ◌++◌, length, Bool, true, false, Option, Some, refl, ap, sym, ◌∙◌, subst, arith}}, specs.{Prelude.{map, not, is_none}, Option.{option_map_or}}}
 use Rattle.hc_sparse.specs.declared.run.Run.{Run}
-use Rattle.hc_effects.proofs.Vocabulary.{is_denied, Event, Act, Why, Limits, accepted_acts, answer_acts, loss_acts, close_acts, may_begin, Entry, History, Contents, Flaw, Loses, flaw_in, Shown, first, shown_of, given_of, Move, Nothing, Asks, Opens, Gives, acts_of, move_of, ReadsAct, Says, Tables, Consumer, IsRun, tables, evicted, event, act, cause}
+use Rattle.hc_effects.proofs.Vocabulary.{is_denied, Event, Act, Why, Limits, accepted_acts, answer_acts, loss_acts, close_acts, may_begin, Entry, History, Contents, Flaw, flaw_in, Shown, first, shown_of, given_of, Move, Nothing, Asks, Opens, Gives, acts_of, move_of, ReadsAct, Says, Tables, Consumer, IsRun, tables, evicted, event, act, cause}
 use Rattle.hc_model.specs.Reads.{GivesNext}
 use Rattle.hc_effects.proofs.{ActParts.{IsAnswer, IsSaid, answer_is, said_is}, Basics.{append_none}, Owed.{IsDenied, is_denial, acts_are, goes}, ReadFilters.{consumers_are_filtered}, ShownOnce.{is_giving, unshown_gives}, Step.{step_of}}
 use Rattle.hc_effects.proofs.ActParts as parts
 use Rattle.hc_laws.proofs.{OneHead.{one_head_is_shown}, ReadJoined.{next_of, joined_in_runs, is_told, fallback}, SoundRuns.{carried}}
-use Rattle.hc_effects.proofs.Owed as owed_acts
 
 -- WHO SAYS IT
 
@@ -30,20 +29,13 @@ pub data IsTold : Act → Type 0 where
   shows : (c r : ℕ) (why : Why) (status : ℕ) (fields : List (List ℕ × List ℕ)) (lo : ℕ) (hi : Option ℕ) → IsTold (act.Shown c r why status fields lo hi)
 
 close_not : (a : Act) (x : ℕ) → IsTold a → act.Close x ≡ a → ⊥
-close_not _ x (gives c y at bytes) is = cc
-close_not _ x _ is = cc
+close_not a x it2 is = grind (arith, nat_tests)
 
 evict_not : (a : Act) (r : ℕ) → IsTold a → act.Evicted r ≡ a → ⊥
-evict_not _ r (gives c y at bytes) is = cc
-evict_not _ r _ is = cc
+evict_not a r it2 is = grind (arith, nat_tests)
 
 lost_not : (a : Act) (flaw : Flaw) → IsTold a → Says a (loss_acts flaw) → ⊥
-lost_not _ (Loses r kind) (gives c y at bytes) (inl is) = cc
-lost_not _ (Loses r kind) _ (inl is) = cc
-lost_not _ (Loses r kind) (shows c q why status fields lo hi) (inr h) = h
-lost_not _ (Loses r kind) (gives c y at bytes) (inr h) = h
-lost_not _ (Loses r kind) (ends c) (inr h) = h
-lost_not a _ told h = h
+lost_not a flaw told h = grind (arith, nat_tests)
 
 closes_not : (a : Act) (xs : List ℕ) → IsTold a → Says a (map act.Close xs) → ⊥
 closes_not a [] told h = h
@@ -92,11 +84,7 @@ module _ (t : Tables) (now c x at : ℕ) (bytes : List ℕ) where
     gives_it : d ≡ c → GivesAs d (Gives (record { x = x; at = at; bytes = bytes }))
 
   given_inj : (d : ℕ) (run : Run) → act.Given d run.x run.at run.bytes ≡ it → (d ≡ c) × (run ≡ record { x = x; at = at; bytes = bytes })
-  given_inj d run is =
-      let number : run.x ≡ x = cc in
-      let place : run.at ≡ at = cc in
-      let same : run.bytes ≡ bytes = cc in
-      (cc, rw (← number, ← place, ← same) refl)
+  given_inj d run is = grind (arith, nat_tests)
 
   of_move : (d : ℕ) (m : Move) → Says it (acts_of d m) → GivesAs d m
   of_move d Nothing h = absurd h
@@ -167,8 +155,7 @@ module _ (limits : Limits) (contents : Contents) (h : History) (e : Entry) (may 
       )
 
   denied_not : (acts : List Act) → IsDenied acts → Says (act.Given c x at bytes) acts → ⊥
-  denied_not _ (owed_acts.denied refusal) (inl is) = cc
-  denied_not _ (owed_acts.denied refusal) (inr later) = later
+  denied_not acts it1 it2 = grind (arith, nat_tests)
 
   by_denial : (b : Bool) → is_denied e.acts ≡ b → Says (act.Given c x at bytes) e.acts → ReadsAct contents h e.now [] (act.Given c x at bytes)
   by_denial true denied says = absurd (denied_not e.acts (is_denial e.acts denied) says)

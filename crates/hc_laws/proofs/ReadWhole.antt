@@ -4,8 +4,8 @@
 -- these at most, by its move (`by_move`). A head is shown to who was shown none, for its reason; bytes are next, and an
 -- end is where they end: each is a law of its own. `by_denial` adds denied entries. `runs_read_whole` is the induction
 -- over the run, which the programs cite.
-use Rattle.std.{proofs.Common.{◌≡◌, inl, ℕ, List, [], ◌∷◌, ◌++◌, Bool, true, false, Some, refl, ap, sym, ◌∙◌, subst}, specs.Prelude.{map}}
-use Rattle.hc_effects.proofs.Vocabulary.{is_denied, Act, Limits, accepted_acts, answer_acts, loss_acts, close_acts, may_begin, Entry, History, Contents, Flaw, Loses, flaw_in, shown_of, given_of, Move, Nothing, Asks, Opens, Shows, Gives, Ends, Fails, acts_of, move_of, ReadsAct, ReadsActs, Says, Tables, Consumer, IsRun, tables, evicted, act, cause, wait}
+use Rattle.std.{proofs.{lemmas.Bool.Decides.{nat_tests}, Common.{arith, ◌≡◌, inl, ℕ, List, [], ◌∷◌, ◌++◌, Bool, true, false, Some, refl, ap, sym, ◌∙◌, subst}}, specs.Prelude.{map}}
+use Rattle.hc_effects.proofs.Vocabulary.{is_denied, Act, Limits, accepted_acts, answer_acts, loss_acts, close_acts, may_begin, Entry, History, Contents, Flaw, flaw_in, shown_of, given_of, Move, Nothing, Asks, Opens, Shows, Gives, Ends, Fails, acts_of, move_of, ReadsAct, ReadsActs, Says, Tables, Consumer, IsRun, tables, evicted, act, cause, wait}
 use Rattle.hc_model.specs.Moves as moves
 use Rattle.hc_model.specs.Reads.{ReadsEach, RunsReadWhole}
 use Rattle.hc_effects.proofs.{ActParts.{IsAnswer, IsSaid, answer_is, said_is}, Basics.{false_true, append_none}, Owed.{IsDenied, is_denial, acts_are}, ShownOnce.{is_showing, shown_shows}}
@@ -34,8 +34,7 @@ evicts_unread [] = tt
 evicts_unread (r ∷ rs) = (tt, evicts_unread rs)
 
 lost_unread : (flaw : Flaw) → AreUnread (loss_acts flaw)
-lost_unread (Loses r kind) = (tt, tt)
-lost_unread _ = tt
+lost_unread flaw = grind (arith, nat_tests)
 
 both_unread : (xs ys : List Act) → AreUnread xs → AreUnread ys → AreUnread (xs ++ ys)
 both_unread [] ys a b = b
@@ -43,10 +42,7 @@ both_unread (x ∷ xs) ys a b = (a.0, both_unread xs ys a.1 b)
 
 module _ (contents : Contents) (h : History) (now : ℕ) where
   act_unread : (before : List Act) (a : Act) → IsUnread a → ReadsAct contents h now before a
-  act_unread before (act.Shown c r why status fields lo hi) is = absurd is
-  act_unread before (act.Given c x at bytes) is = absurd is
-  act_unread before (act.Ended c) is = absurd is
-  act_unread before _ is = tt
+  act_unread before a is = grind (arith, nat_tests)
 
   acts_unread : (before acts : List Act) → AreUnread acts → ReadsActs contents h now before acts
   acts_unread before [] is = tt

@@ -4,17 +4,17 @@
 -- (`first_joins`), which the filters tell. By age the stored head is allowed (`by_age`). The most work is who keeps a
 -- 304: what it waits for was selected by the head of its exchange. That is carried through a run (`IsKeeping`), by
 -- where such a wait comes from (`keeping_on`, `chosen_by`).
-use Rattle.std.{proofs.Common.{◌≡◌, ℕ, ◌-◌, [], ◌∷◌, Bool, true, false, Option, Some, None, refl, ap, sym, ◌∙◌, subst}, specs.{Prelude.{is_some, nat_eq, nat_lt, ◌||◌}, Option.{option_map, option_and_then}}}
+use Rattle.std.{proofs.{lemmas.Bool.Decides.{nat_tests}, Common.{arith, ◌≡◌, ℕ, ◌-◌, [], ◌∷◌, Bool, true, false, Option, Some, None, refl, ap, sym, ◌∙◌, subst}}, specs.{Prelude.{is_some, nat_lt, ◌||◌}, Option.{option_map, option_and_then}}}
 use Rattle.hc_text.proofs.Basics.{not_some as none_some, or_left, or_right, eq_itself as same_number, some_inj}
-use Rattle.hc_effects.proofs.Vocabulary.{is_denied, Why, Request, Limits, Place, may_begin, consumer_heard, kept_by, current, is_number, Entry, History, Contents, exchange_in, flaw_in, opening_of, joined_of, request_of, opened_in, entry_of, OfRuns, Turns, IsFor, has_joined, Tables, Exchange, Representation, Consumer, IsRun, IsOwed, tables, after_accepted, after_denied, wait, place}
+use Rattle.hc_effects.proofs.Vocabulary.{is_denied, Why, Request, Limits, Place, may_begin, consumer_heard, kept_by, current, is_number, Entry, History, Contents, flaw_in, opening_of, joined_of, request_of, opened_in, entry_of, OfRuns, Turns, IsFor, has_joined, Tables, Exchange, Representation, Consumer, IsRun, IsOwed, tables, after_accepted, after_denied, wait, place}
 use Rattle.hc_event.specs.declared.act.Why.TheVariants as why_is
 use Rattle.hc_cachectl.specs.{declared.directives.Directives.{Directives}, Directives.{of_request, of_response}}
 use Rattle.hc_event.specs.declared.event.Load.{Load}
 use Rattle.hc_fresh.specs.{Allowed.{allowed_by, is_validate, is_zero, is_older, lacks, is_skip, accepts}, Ages.{age}, Facts.{allowed}, Lifetimes.{lifetime}}
 use Rattle.hc_record.specs.Head.{Head}
-use Rattle.hc_model.specs.{Histories.{Opened}, Reads.{IsReason, has_selected, selects_at, aims_at, allowed_on}}
+use Rattle.hc_model.specs.{Histories.{Opened}, Reads.{IsReason, has_selected, selects_at}}
 use Rattle.hc_laws.proofs.{Aimed.{IsAimed, aimed_begun, aimed_denied, aimed_kept}, Barred.{next_tables, denied_tables}, InRuns.{turned_in_runs}, JoinFilters.{exchanges_are_filtered}, PassedFrom.{validates, stood, busies, PassedFrom, passed_from}, RunFacts.{in_runs}, SoundRuns.{carried}, WhyShown.{ShownWhy}}
-use Rattle.hc_effects.proofs.{Basics.{false_true}, Forward.{is_on}, Joining.{mix}, OfEntries.{of_real}, ReadFilters.{consumers_are_filtered}, Said.{waiting_by}, Step.{Step, step_of}}
+use Rattle.hc_effects.proofs.{Forward.{is_on}, Joining.{mix}, OfEntries.{of_real}, ReadFilters.{consumers_are_filtered}, Said.{waiting_by}, Step.{Step, step_of}}
 use Rattle.hc_laws.proofs.WhyShown as shown_for
 
 -- WHAT FRESHNESS ALLOWS
@@ -72,8 +72,7 @@ module _ (step : Step) (turns : Turns step.tables) (selected : ℕ → ℕ → B
   for_on x c f = let on = is_on t e x f.w f.row in record { w = on.u; row = on.row; for_it = on.same.c_is ∙ f.for_it }
 
   kept_place : (p : Place) (x : ℕ) → kept_by p ≡ Some x → (r : ℕ) × (p ≡ place.Passed r (Some x))
-  kept_place (place.Passed r kept) x is = (r, ap (place.Passed r) is)
-  kept_place _ x is = absurd (none_some x is)
+  kept_place p x is = grind (arith, nat_tests)
 
   -- it kept it where it stands, as what it waits for is current
   stood_busy : (c r x d : ℕ) (k : Consumer) → t.consumer c ≡ Some k → Rattle.hc_model.specs.ActFilters.wait_in c e.acts ≡ Some (wait.Busy d) → Some x ≡ kept_by (consumer_heard t e c ev k).place → current t (consumer_heard t e c ev k).request.key ≡ Some r → k.place ≡ place.Passed r (Some x)
@@ -85,11 +84,7 @@ module _ (step : Step) (turns : Turns step.tables) (selected : ℕ → ℕ → B
 
   chosen_by : (c r x : ℕ) (k : Consumer) (row : t.consumer c ≡ Some k) → is_denied e.acts ≡ false → PassedFrom step c r (Some x) k row → (selects_at t e x r || selected x r) ≡ true
   chosen_by c r x k row taken (stood at) = or_right (selects_at t e x r) (selected x r) (g.chosen c r x k row at)
-  chosen_by c r x k row taken (validates y response w here there mine is aim kept) =
-      let same : y ≡ x = sym (some_inj x y kept) in
-      let number : is_number (exchange_in ev) x ≡ true = ap (λ v. is_number (exchange_in v) x) here ∙ (ap (λ n. nat_eq n x) same ∙ same_number x) in
-      let its : aims_at (t.exchange x) r ≡ true = ap (λ n. aims_at (t.exchange n) r) (sym same) ∙ (ap (λ (q : Option Exchange). aims_at q r) there ∙ (ap (λ (q : Option ℕ). is_number q r) aim ∙ same_number r)) in
-      or_left (selects_at t e x r) (selected x r) (rw (taken, is, number, its) refl)
+  chosen_by c r x k row taken (validates y response w here there mine is aim kept) = grind (arith, nat_tests)
   chosen_by c r x k row taken (busies d told kept is) = or_right (selects_at t e x r) (selected x r) (g.chosen c r x k row (stood_busy c r x d k row told kept is))
 
   asker_by : (c r x : ℕ) (k : Consumer) (row : t.consumer c ≡ Some k) → PassedFrom step c r (Some x) k row → IsFor now_on x c
@@ -147,19 +142,13 @@ module _ (limits : Limits) (contents : Contents) (h : History) (may : may_begin 
   request_is = sym ((consumers_are_filtered limits contents h run).requests c) ∙ ap (option_map (λ (q : Consumer). q.request)) row
 
   first_joins : (y q : ℕ) (w : Exchange) (z : Option ℕ) → t.exchange y ≡ Some w → w.joined ≡ z → is_some z ≡ true → w.aim ≡ Some r → is_number (joined_of contents y h) r ≡ true
-  first_joins y q w None there is joined aim = absurd (false_true joined)
-  first_joins y q w (Some n) there is joined aim =
-      let same : n ≡ r = some_inj n r (sym ((aimed limits contents h may run).joins y n w there is) ∙ aim) in
-      ap (λ (z : Option ℕ). is_number z r) (joined_is y n w there is) ∙ (ap (λ m. nat_eq m r) same ∙ same_number r)
+  first_joins y q w z there is joined aim = grind (arith, nat_tests, some_inj, aimed, joined_is, same_number)
 
   allows_by : (v : Representation) (y : Why) → t.representation r ≡ Some v → allowed v.head k.request now ≡ Some y → IsByAge y → IsReason contents h now c r y
-  allows_by v (why_is.Fetched x) there is by = absurd by
-  allows_by v (why_is.Validated x) there is by = absurd by
-  allows_by v _ there is by = ap (λ (q : Option Representation). allowed_on q (request_of c h) now) there ∙ (ap (λ (q : Option Request). allowed_on (Some v) q now) request_is ∙ is)
+  allows_by v y there is by = grind (arith, nat_tests, request_of, request_is)
 
   kept_place_of : (p : Place) (x : ℕ) → kept_by p ≡ Some x → (q : ℕ) × (p ≡ place.Passed q (Some x))
-  kept_place_of (place.Passed q kept) x is = (q, ap (place.Passed q) is)
-  kept_place_of _ x is = absurd (none_some x is)
+  kept_place_of p x is = grind (arith, nat_tests)
 
   pub reason_holds : ShownWhy t now c k r lo hi why head → IsReason contents h now c r why
   reason_holds (shown_for.fetched is) = subst (IsReason contents h now c r) (sym is) refl

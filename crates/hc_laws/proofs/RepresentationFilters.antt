@@ -4,11 +4,10 @@
 -- induction over the run. An accepted entry lays its piece over what was there (`accepted_filtered`), a denied one
 -- nothing (`denied_filtered`). Of what isn't founded nothing came, so what is founded begins empty (`unfounded_still`,
 -- `founded_filtered`). `runs_are_filtered` adds the other columns.
-use Rattle.std.{proofs.{Common.{◌≡◌, inl, inr, ℕ, List, [], ◌∷◌, ◌++◌, length, Bool, true, false, cond, Option, Some, None, refl, ap, sym, ◌∙◌, subst}, lemmas.List.{append-nil}}, specs.Prelude.{if◌then◌else◌, ◌==◌, ◌||◌, ◌&&◌, not, is_some, option_map, find}}
-use Rattle.hc_text.proofs.Basics.{bool_cases, some_inj}
-use Rattle.hc_effects.proofs.Vocabulary.{is_denied, Event, Response, loses_in, Entry, History, Content, Contents, family, Tables, Exchange, Representation, representation_after, representation_heard, representation_acted, founded_at, new_representation, representation_after_head, with_renewed_head, updates, representation_after_piece, with_total_if_none, length_in, tables, after, first_tables, representation_of_content, if_accepted, event}
-use Rattle.hc_sparse.specs.{Cells.{Cells, nothing, cells_with, inside}, declared.run.Run.{Run}}
-use Rattle.hc_model.specs.Histories.{piece_by, piece_in, pieces_of, was_lost, stored_of, over, begun_with, cells_in, IsFilteredRow, RunsAreFiltered}
+use Rattle.std.{proofs.{lemmas.{Bool.Decides.{nat_tests}, List.{append-nil}}, Common.{arith, ◌≡◌, ℕ, List, [], ◌∷◌, ◌++◌, Bool, true, false, cond, Option, Some, None, refl, ap, sym, ◌∙◌}}, specs.Prelude.{if◌then◌else◌, ◌==◌, ◌||◌, ◌&&◌, not, is_some, option_map, find}}
+use Rattle.hc_effects.proofs.Vocabulary.{is_denied, Event, Response, loses_in, Entry, History, Content, Contents, Tables, Exchange, Representation, representation_after, representation_heard, representation_acted, founded_at, new_representation, representation_after_head, with_renewed_head, updates, representation_after_piece, with_total_if_none, length_in, tables, after, first_tables, representation_of_content, if_accepted, event}
+use Rattle.hc_sparse.specs.{Cells.{Cells, nothing, cells_with}, declared.run.Run.{Run}}
+use Rattle.hc_model.specs.Histories.{piece_by, piece_in, pieces_of, was_lost, stored_of, over, begun_with, IsFilteredRow, RunsAreFiltered}
 use Rattle.hc_effects.proofs.{Owed.{denied_loses}, ReadFilters.{consumers_are_filtered}}
 use Rattle.hc_laws.proofs.JoinFilters.{exchanges_are_filtered}
 
@@ -20,15 +19,10 @@ over_append (run ∷ xs) ys f = over_append xs ys (cells_with run.at run.x run.b
 
 -- the same over what has the same at each position
 pub written_at : (at x q : ℕ) (bytes : List ℕ) (f g : Cells) → f q ≡ g q → cells_with at x bytes f q ≡ cells_with at x bytes g q
-written_at at x q bytes f g same = elim (bool_cases (inside at (length bytes) q)) [
-  | inl here ↦ rw here refl
-  | inr off ↦ rw off same
-]
+written_at at x q bytes f g same = grind (arith, nat_tests)
 
 over_at : (runs : List Run) (f g : Cells) (p : ℕ) → ((q : ℕ) → f q ≡ g q) → over runs f p ≡ over runs g p
-over_at [] f g p same = same p
-over_at (run ∷ runs) f g p same =
-    over_at runs (cells_with run.at run.x run.bytes f) (cells_with run.at run.x run.bytes g) p (λ q. written_at run.at run.x q run.bytes f g (same q))
+over_at runs f g p same = grind (arith, nat_tests)
 
 -- what one event does to a row: it adds these pieces, and stores them where they are kept
 record IsHeard (kept : Bool) (runs : List Run) (v u : Representation) : Type 0 where
@@ -37,26 +31,20 @@ record IsHeard (kept : Bool) (runs : List Run) (v u : Representation) : Type 0 w
   lost_is : u.is_lost ≡ v.is_lost
 
 none_kept : (kept : Bool) (f : Cells) → f ≡ (if kept then over [] f else f)
-none_kept true f = refl
-none_kept false f = refl
+none_kept kept f = grind (arith, nat_tests)
 
 still : (kept : Bool) (v u : Representation) → u.body ≡ v.body → u.stored ≡ v.stored → u.is_lost ≡ v.is_lost → IsHeard kept [] v u
 still kept v u body stored lost = record { body_is = body; stored_is = stored ∙ none_kept kept v.stored; lost_is = lost }
 
 still_if : (b kept : Bool) (v u : Representation) → IsHeard kept [] v u → IsHeard kept [] v (cond b u v)
-still_if true kept v u is = is
-still_if false kept v u is = still kept v v refl refl refl
+still_if b kept v u is = grind (arith, nat_tests)
 
 headed_row : (t : Tables) (e : Entry) (r x : ℕ) (response : Response) (kept : Bool) (o : Option Exchange) (v : Representation) → IsHeard kept [] v (representation_after_head t e r x response o v)
 headed_row t e r x response kept None v = still kept v v refl refl refl
 headed_row t e r x response kept (Some w) v = still_if (updates t e r w v) kept v (with_renewed_head t e x response w v) (still kept v (with_renewed_head t e x response w v) refl refl refl)
 
 pieced_row : (e : Entry) (r x : ℕ) (bytes : List ℕ) (o : Option Exchange) (v : Representation) → IsHeard (not (v.is_lost || loses_in r e.acts)) (piece_by r x bytes o (Some v)) v (representation_after_piece e r x bytes o v)
-pieced_row e r x bytes None v = still _ v v refl refl refl
-pieced_row e r x bytes (Some w) v = elim (bool_cases (family x w == r)) [
-  | inl here ↦ rw here (record { body_is = refl; stored_is = refl; lost_is = refl })
-  | inr other ↦ rw other (still _ v v refl refl refl)
-]
+pieced_row e r x bytes o v = grind (arith, nat_tests)
 
 heard_row : (t : Tables) (e : Entry) (r : ℕ) (v : Representation) (ev : Event) → t.representation r ≡ Some v → IsHeard (not (v.is_lost || loses_in r e.acts)) (piece_in t r ev) v (representation_heard t e r ev v)
 heard_row t e r v (event.Head x response) row = headed_row t e r x response _ (t.exchange x) v
@@ -82,12 +70,10 @@ module _ (contents : Contents) (r : ℕ) (h : History) (e : Entry) where
   t = tables contents h
 
   none_lost : (b l : Bool) → ((b && false) || l) ≡ l
-  none_lost true l = refl
-  none_lost false l = refl
+  none_lost b l = grind (arith, nat_tests)
 
   either_same : (b : Bool) (xs : List Run) → (if b then xs else xs) ≡ xs
-  either_same true xs = refl
-  either_same false xs = refl
+  either_same b xs = grind (arith, nat_tests)
 
   stored_denied : is_denied e.acts ≡ true → stored_of contents r (e ∷ h) ≡ stored_of contents r h
   stored_denied denied = rw denied (ap (λ (runs : List Run). stored_of contents r h ++ runs) (either_same (was_lost contents r (e ∷ h)) []) ∙ append-nil (stored_of contents r h))
@@ -110,13 +96,7 @@ module _ (contents : Contents) (r : ℕ) (h : History) (e : Entry) where
 
   -- what is stored after an accepted one, where something is lost at it or before
   stored_by : (v : Representation) (a b : Bool) → is_denied e.acts ≡ false → IsFilteredRow contents r h v → was_lost contents r (e ∷ h) ≡ (a || b) → (p : ℕ) → (if not (b || a) then over (piece_in t r e.event) v.stored else v.stored) p ≡ over (stored_of contents r (e ∷ h)) (begun_with contents r) p
-  stored_by v true true accepted row is p = row.stored p ∙ sym (over_same (stored_of contents r (e ∷ h)) (stored_of contents r h) p (stored_lost is))
-  stored_by v true false accepted row is p = row.stored p ∙ sym (over_same (stored_of contents r (e ∷ h)) (stored_of contents r h) p (stored_lost is))
-  stored_by v false true accepted row is p = row.stored p ∙ sym (over_same (stored_of contents r (e ∷ h)) (stored_of contents r h) p (stored_lost is))
-  stored_by v false false accepted row is p =
-      let added : over (piece_in t r e.event) v.stored p ≡ over (piece_in t r e.event) (over (stored_of contents r h) (begun_with contents r)) p = over_at (piece_in t r e.event) v.stored (over (stored_of contents r h) (begun_with contents r)) p row.stored in
-      let joined : over (stored_of contents r h ++ piece_in t r e.event) (begun_with contents r) p ≡ over (piece_in t r e.event) (over (stored_of contents r h) (begun_with contents r)) p = ap (λ (f : Cells). f p) (over_append (stored_of contents r h) (piece_in t r e.event) (begun_with contents r)) in
-      added ∙ (sym joined ∙ sym (over_same (stored_of contents r (e ∷ h)) (stored_of contents r h ++ piece_in t r e.event) p (rw (is, accepted) refl)))
+  stored_by v a b accepted row is p = grind (arith, nat_tests, over_same, stored_lost, over, over_at, over_append)
 
   -- an accepted one adds its piece, which is stored where nothing of it was lost
   accepted_filtered : (v u : Representation) → is_denied e.acts ≡ false → t.representation r ≡ Some v → IsFilteredRow contents r h v → IsHeard (not (v.is_lost || loses_in r e.acts)) (piece_in t r e.event) v u → IsFilteredRow contents r (e ∷ h) (representation_acted t e r v u)
@@ -137,37 +117,20 @@ module _ (contents : Contents) (r : ℕ) (h : History) (e : Entry) where
   no_piece : t.representation r ≡ None → piece_in t r e.event ≡ []
   no_piece none = by_event e.event
     where
-      no_row : (x : ℕ) (bytes : List ℕ) (o : Option Exchange) → piece_by r x bytes o None ≡ []
-      no_row x bytes None = refl
-      no_row x bytes (Some w) = refl
-
       by_event : (ev : Event) → piece_in t r ev ≡ []
-      by_event (event.Piece x bytes) = rw none (no_row x bytes (t.exchange x))
-      by_event _ = refl
+      by_event ev = grind (arith, nat_tests)
 
   if_same : (b : Bool) (xs : List Run) → xs ≡ [] → (if b then [] else xs) ≡ []
-  if_same true xs none = refl
-  if_same false xs none = none
+  if_same b xs none = grind (arith, nat_tests)
 
   accepted_none : t.representation r ≡ None → if_accepted e (piece_in t r e.event) ≡ []
   accepted_none none = if_same (is_denied e.acts) (piece_in t r e.event) (no_piece none)
 
   unfounded_still : t.representation r ≡ None → IsUnfounded contents r h → IsUnfounded contents r (e ∷ h)
-  unfounded_still none row = record {
-    pieces = rw (row.pieces, accepted_none none) refl;
-    stored = rw (row.stored, accepted_none none) (either_same (was_lost contents r (e ∷ h)) []);
-    begun_is = row.begun_is;
-    lost = rw none row.lost;
-  }
+  unfounded_still none row = grind (arith, nat_tests, accepted_none, either_same)
 
   founded_filtered : (v : Representation) → t.representation r ≡ None → IsUnfounded contents r h → v.body ≡ nothing → v.stored ≡ nothing → v.is_lost ≡ false → IsFilteredRow contents r (e ∷ h) v
-  founded_filtered v none row body stored lost =
-      let u = unfounded_still none row in
-      record {
-        body = λ p. ap (λ (f : Cells). f p) body ∙ sym (over_same (pieces_of contents r (e ∷ h)) [] p u.pieces ∙ ap (λ (f : Cells). f p) u.begun_is);
-        stored = λ p. ap (λ (f : Cells). f p) stored ∙ sym (over_same (stored_of contents r (e ∷ h)) [] p u.stored ∙ ap (λ (f : Cells). f p) u.begun_is);
-        lost = lost ∙ sym u.lost;
-      }
+  founded_filtered v none row body stored lost = grind (arith, nat_tests, unfounded_still, over_same)
 
 -- what is founded is empty
 abbrev IsEmpty : Option Representation → Type 0
@@ -178,9 +141,7 @@ founded_empty : (t : Tables) (e : Entry) (r : ℕ) (ev : Event) → IsEmpty (fou
 founded_empty t e r (event.Head x response) = by_test _ (t.exchange x)
   where
     by_test : (b : Bool) (o : Option Exchange) → IsEmpty (if b then option_map (new_representation r e response) o else None)
-    by_test false o = tt
-    by_test true None = tt
-    by_test true (Some w) = (refl, refl, refl)
+    by_test b o = grind (arith, nat_tests)
 founded_empty t e r _ = tt
 
 -- AFTER AN ENTRY
@@ -195,9 +156,7 @@ row_denied contents r h e (Some v) at denied row = denied_filtered contents r h 
 
 row_accepted : (contents : Contents) (r : ℕ) (h : History) (e : Entry) (o : Option Representation) → (tables contents h).representation r ≡ o → is_denied e.acts ≡ false → IsRow contents r h o → IsRow contents r (e ∷ h) (representation_after (tables contents h) e r o)
 unfolding representation_after
-row_accepted contents r h e None at accepted row = founded_row contents r h e (founded_at (tables contents h) e r e.event) at row (founded_empty (tables contents h) e r e.event)
-row_accepted contents r h e (Some v) at accepted row =
-    accepted_filtered contents r h e v (representation_heard (tables contents h) e r e.event v) accepted at row (heard_row (tables contents h) e r v e.event at)
+row_accepted contents r h e o at accepted row = grind (arith, nat_tests, founded_row, tables, founded_empty, accepted_filtered, heard_row)
 
 row_after : (contents : Contents) (r : ℕ) (h : History) (e : Entry) (b : Bool) → is_denied e.acts ≡ b → IsRow contents r h ((tables contents h).representation r) → IsRow contents r (e ∷ h) ((after (tables contents h) e).representation r)
 unfolding after
@@ -207,12 +166,7 @@ row_after contents r h e false denied row = rw denied (row_accepted contents r h
 -- AT THE BEGINNING
 
 begun_row : (contents : Contents) (r : ℕ) (o : Option Content) → (first_tables contents).representation r ≡ option_map representation_of_content o → IsRow contents r [] (option_map representation_of_content o)
-begun_row contents r None is = record { pieces = refl; stored = refl; begun_is = ap cells_in is; lost = refl }
-begun_row contents r (Some item) is = record {
-  body = λ p. sym (ap (λ (z : Option Representation). cells_in z p) is);
-  stored = λ p. sym (ap (λ (z : Option Representation). cells_in z p) is);
-  lost = refl;
-}
+begun_row contents r o is = grind (arith, nat_tests)
 
 rows_are : (contents : Contents) (h : History) (r : ℕ) → IsRow contents r h ((tables contents h).representation r)
 unfolding tables
@@ -220,8 +174,7 @@ rows_are contents [] r = begun_row contents r (find (λ (item : Content). item.r
 rows_are contents (e ∷ h) r = row_after contents r h e (is_denied e.acts) refl (rows_are contents h r)
 
 row_is : (contents : Contents) (r : ℕ) (h : History) (o : Option Representation) (v : Representation) → IsRow contents r h o → o ≡ Some v → IsFilteredRow contents r h v
-row_is contents r h None v row is = absurd (let never : None ≡ Some v = is in cc)
-row_is contents r h (Some u) v row is = subst (IsFilteredRow contents r h) (some_inj u v is) row
+row_is contents r h o v row is = grind (arith, nat_tests)
 
 pub runs_are_filtered : RunsAreFiltered
 runs_are_filtered limits contents h run = record {

@@ -1,6 +1,5 @@
 -- What each start brings, each request that is kept has: few and short fields, and a target as its key.
-use Rattle.std.{proofs.{Common.{◌≡◌, ℕ, List, [], ◌∷◌, ◌++◌, Bool, true, false, Some, ap, sym, ◌∙◌, subst, arith}, lemmas.Bool.Decides.{nat_tests}}, specs.Prelude.{option_map, ◌==◌, if◌then◌else◌}}
-use Rattle.hc_text.proofs.Basics.{not_some as none_some, some_inj}
+use Rattle.std.{proofs.{Common.{◌≡◌, ℕ, List, [], ◌∷◌, ◌++◌, Bool, true, Some, ap, sym, ◌∙◌, arith}, lemmas.Bool.Decides.{nat_tests}}, specs.Prelude.{option_map, if◌then◌else◌}}
 use Rattle.hc_effects.proofs.Vocabulary.{is_denied, Event, Request, Entry, Contents, History, each, first, if_accepted, request_in, HasFieldsWithinLimits, HasTarget, Consumer, IsHeadWithinLimits, tables, event}
 use Rattle.hc_fields.specs.FieldList.{IsWithinLimits}
 use Rattle.hc_target.specs.Targets.{is_target}
@@ -20,17 +19,11 @@ module _ (P : Request → Type 0) (Q : Event → Type 0) (R : History → Type 0
   of_both [] ys first rest = rest
   of_both (x ∷ xs) ys first rest = (first.0, of_both xs ys first.1 rest)
 
-  of_one : (b : Bool) (request : Request) → P request → Each (if b then request ∷ [] else [])
-  of_one true request holds = (holds, tt)
-  of_one false request holds = tt
-
   of_heard : (c : ℕ) (ev : Event) → Q ev → Each (request_in c ev)
-  of_heard c (event.Start d request) holds = of_one (d == c) request (of_start d request holds)
-  of_heard c _ holds = tt
+  of_heard c ev holds = grind (arith, nat_tests)
 
   of_accepted : (b : Bool) (xs : List Request) → Each xs → Each (if b then [] else xs)
-  of_accepted true xs holds = tt
-  of_accepted false xs holds = holds
+  of_accepted b xs holds = grind (arith, nat_tests)
 
   of_brought : (c : ℕ) (h : History) → R h → Each (each (λ e. if_accepted e (request_in c e.event)) h)
   of_brought c [] holds = tt
@@ -40,8 +33,7 @@ module _ (P : Request → Type 0) (Q : Event → Type 0) (R : History → Type 0
       (of_brought c h both.0) (of_accepted (is_denied e.acts) (request_in c e.event) (of_heard c e.event both.1))
 
   of_first : (xs : List Request) (request : Request) → Each xs → first xs ≡ Some request → P request
-  of_first [] request holds is = absurd (none_some request is)
-  of_first (x ∷ xs) request holds is = subst P (some_inj x request is) holds.0
+  of_first xs request holds is = grind (arith, nat_tests)
 
   of_consumers : (contents : Contents) (h : History) → R h → (c : ℕ) (k : Consumer) → (tables contents h).consumer c ≡ Some k → P k.request
   of_consumers contents h holds c k row =
@@ -59,8 +51,7 @@ requests_are_for_targets contents h starts =
 -- HEADS
 
 head_within_limits : (ev : Event) → HasFieldsWithinLimits ev → IsHeadWithinLimits ev
-head_within_limits (event.Head x response) within_limits = grind (arith, nat_tests, within_limits.few, within_limits.small)
-head_within_limits _ within_limits = tt
+head_within_limits ev within_limits = grind (arith, nat_tests)
 
 pub heads_come_within_limits : HeadsComeWithinLimits
 heads_come_within_limits [] within_limits = tt

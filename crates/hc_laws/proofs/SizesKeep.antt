@@ -6,9 +6,9 @@
 -- count is that of its bytes (`counts_of`). `sized_runs` is the law.
 use Rattle.std.{proofs.{Common.{◌≡◌, inl, inr, ℕ, ◌+◌, ◌≤◌, List, [], ◌∷◌, length, Bool, true, false, Option, Some, None, refl, ap, sym, ◌∙◌, subst, arith, max}, lemmas.Bool.Decides.{nat_tests}}, specs.Prelude.{◌||◌, ◌==◌, not, nat_le, find, if◌then◌else◌, option_map}}
 use Rattle.hc_text.proofs.Basics.{and_left, and_right, eq_tells as eq_is, not_some as none_some, some_inj}
-use Rattle.hc_effects.proofs.Vocabulary.{Event, Response, Limits, loses_in, may_begin, are_good, denial, Entry, Content, Contents, front, family, Flaw, entry_of, OfRunsIn, representation_heard, representation_after_head, with_renewed_head, updates, representation_after_piece, with_stored_bytes, with_total_if_none, length_in, Tables, Exchange, Representation, Sizes, Sound, IsStored, first_tables, representation_of_content, bytes_in, after_accepted, after_denied, event}
+use Rattle.hc_effects.proofs.Vocabulary.{Event, Response, Limits, loses_in, may_begin, are_good, denial, Entry, Content, Contents, front, family, Flaw, entry_of, OfRunsIn, representation_heard, representation_after_head, with_renewed_head, updates, representation_after_piece, with_stored_bytes, Tables, Exchange, Representation, Sizes, Sound, IsStored, first_tables, representation_of_content, bytes_in, after_accepted, after_denied, event}
 use Rattle.hc_sparse.specs.Cells.{AreAbsent, nothing, size_below}
-use Rattle.hc_effects.proofs.{Basics.{false_true}, LossBy.{IsReal}, Once.{delivers_once}, PieceKeeps.{eq_cases}, RepFrom.{was, founded, RepFrom, rep_from}, Weighed.{sized}, GivenNext.{stored_ends}, Step.{step_of}}
+use Rattle.hc_effects.proofs.{LossBy.{IsReal}, Once.{delivers_once}, PieceKeeps.{eq_cases}, RepFrom.{was, founded, RepFrom, rep_from}, Weighed.{sized}, GivenNext.{stored_ends}, Step.{step_of}}
 use Rattle.hc_laws.proofs.{FitsKept.{Fits, stored_small}, FitsRuns.{fits_begin, fits_denied, fits_kept}, MeasuresBegin.{ascending_item}, Positions.{below_none, below_past, below_put, bytes_below}, RunFacts.{in_runs}, SoundRuns.{IsCarried}}
 
 -- THE COUNT
@@ -17,12 +17,10 @@ abbrev Counts : Representation → Type 0
 Counts v = v.size ≡ size_below v.stored v.reach
 
 counts_if : (b : Bool) (v u : Representation) → Counts v → (b ≡ true → Counts u) → Counts (if b then u else v)
-counts_if true v u old new = new refl
-counts_if false v u old new = old
+counts_if b v u old new = grind (arith, nat_tests)
 
 kept_parts : (lost loses : Bool) → not (lost || loses) ≡ true → lost ≡ false
-kept_parts true loses h = absurd (false_true h)
-kept_parts false loses h = refl
+kept_parts lost loses h = grind (arith, nat_tests)
 
 filled_counts : (b : Bool) (at x : ℕ) (bytes : List ℕ) (v : Representation) → IsStored v → Counts v → (b ≡ true → AreAbsent v.stored at (at + length bytes)) → Counts (with_stored_bytes b at x bytes v)
 filled_counts true at x bytes v store old absent = ap (λ n. n + length bytes) old ∙ sym (below_put v.stored at x v.reach bytes (stored_ends v store) (absent refl))
@@ -30,9 +28,7 @@ filled_counts false at x bytes v store old absent = old ∙ sym (below_past v.st
 
 module _ (t : Tables) (e : Entry) (s : Sound t) (goes : denial t e.event ≡ None) where
   absent_at : (r x : ℕ) (bytes : List ℕ) (w : Exchange) (v : Representation) → e.event ≡ event.Piece x bytes → t.exchange x ≡ Some w → family x w ≡ r → t.representation r ≡ Some v → v.is_lost ≡ false → AreAbsent v.stored (front w) (front w + length bytes)
-  absent_at r x bytes w v at row of_r there kept p lo hi =
-      (s.rows r v there).store.all_stored kept p
-      ∙ delivers_once t s x bytes w v (sym (ap (denial t) at) ∙ goes) row (ap t.representation of_r ∙ there) p lo hi
+  absent_at r x bytes w v at row of_r there kept p lo hi = grind (arith, nat_tests, delivers_once)
 
   piece_counts : (r x : ℕ) (bytes : List ℕ) (o : Option Exchange) (v : Representation) → e.event ≡ event.Piece x bytes → t.exchange x ≡ o → t.representation r ≡ Some v → Counts v → Counts (representation_after_piece e r x bytes o v)
   piece_counts r x bytes None v at row there old = old
@@ -45,10 +41,7 @@ module _ (t : Tables) (e : Entry) (s : Sound t) (goes : denial t e.event ≡ Non
   head_counts r x response (Some w) v old = counts_if (updates t e r w v) v (with_renewed_head t e x response w v) old (λ _. old)
 
   heard_counts : (r : ℕ) (ev : Event) (v : Representation) → e.event ≡ ev → t.representation r ≡ Some v → Counts v → Counts (representation_heard t e r ev v)
-  heard_counts r (event.Head x response) v at there old = head_counts r x response (t.exchange x) v old
-  heard_counts r (event.Piece x bytes) v at there old = piece_counts r x bytes (t.exchange x) v at refl there old
-  heard_counts r (event.End x) v at there old = counts_if (x == r) v (with_total_if_none (length_in (t.exchange x)) v) old (λ _. old)
-  heard_counts r _ v at there old = old
+  heard_counts r ev v at there old = grind (arith, nat_tests, head_counts, piece_counts, counts_if)
 
   after_counts : (r : ℕ) (u : Representation) → ((v : Representation) → t.representation r ≡ Some v → Counts v) → RepFrom t e r u → Counts u
   after_counts r u old (was v kept) = subst Counts kept.is (heard_counts r e.event v refl kept.row (old v kept.row))
@@ -112,11 +105,7 @@ module _ (limits : Limits) (contents : Contents) where
     counts_of r (Some item) v found row = subst Counts (some_inj (representation_of_content item) v row) (bytes_below 0 0 item.runs (ascending_item limits contents may r item found))
 
     small_of : (r : ℕ) (z : Option Content) (v : Representation) → find (of_number r) contents.items ≡ z → option_map representation_of_content z ≡ Some v → v.size ≤ limits.max_entry
-    small_of r None v found row = absurd (none_some v row)
-    small_of r (Some item) v found row =
-        let same : bytes_in item.runs ≡ v.size = ap (λ (q : Representation). q.size) (some_inj (representation_of_content item) v row) in
-        let most : bytes_in item.runs ≤ limits.max_entry = small_item r item [] contents.items good found in
-        omega arith
+    small_of r z v found row = grind (arith, nat_tests, none_some, some_inj, small_item, good)
 
     begun_sized : IsSized limits (first_tables contents)
     begun_sized = record {

@@ -1,5 +1,5 @@
 -- Contents by which a store may begin have numbers that were given out, and each has a key of its own.
-use Rattle.std.{proofs.{Common.{◌≡◌, inl, inr, ℕ, ◌-◌, ◌<◌, ◌≤◌, List, [], ◌∷◌, Bool, true, false, Some, ap, sym, ◌∙◌, arith}, lemmas.Bool.Decides.{nat_tests}}, specs.{Prelude.{◌==◌, bytes_eq, find, nat_lt}, List.{list_any}}}
+use Rattle.std.{proofs.{Common.{◌≡◌, inl, inr, ℕ, ◌-◌, ◌≤◌, List, [], ◌∷◌, Bool, true, false, Some, ap, sym, ◌∙◌, arith}, lemmas.Bool.Decides.{nat_tests}}, specs.{Prelude.{◌==◌, bytes_eq, find}, List.{list_any}}}
 use Rattle.hc_text.proofs.Basics.{and_left, and_right, not_some as none_some, not_true, some_inj}
 use Rattle.hc_effects.proofs.Vocabulary.{Limits, may_begin, are_good, is_good, is_given_out, Content, Contents, AreNumbered, IsStart}
 use Rattle.hc_rules.proofs.RangeReads.{bytes_eq-same}
@@ -56,19 +56,14 @@ module _ (limits : Limits) (contents : Contents) where
   ]
 
   given_below : (n r : ℕ) → is_given_out contents n ≡ true → n ≡ r → r ≤ contents.next_exchange - 1
-  given_below n r given same =
-      let test : nat_lt n contents.next_exchange ≡ true = and_right (nat_lt 0 n) (nat_lt n contents.next_exchange) given in
-      let under : n < contents.next_exchange = grind (arith, nat_tests) in
-      omega arith
+  given_below n r given same = grind (arith, nat_tests)
 
   -- numbers begin with 1
   pub numbers_begin : may_begin limits contents ≡ true → AreNumbered contents
   unfolding may_begin
   numbers_begin may r item is =
       let all = numbered r item [] contents.items (and_left _ _ (and_left _ _ (and_left _ _ (and_left _ _ (and_left _ _ may))))) is in
-      let test : nat_lt 0 item.r ≡ true = and_left (nat_lt 0 item.r) (nat_lt item.r contents.next_exchange) all.0 in
-      let some : 0 < item.r = grind (arith, nat_tests) in
-      omega arith
+      grind (arith, nat_tests)
 
   pub starts : may_begin limits contents ≡ true → IsStart contents
   unfolding may_begin

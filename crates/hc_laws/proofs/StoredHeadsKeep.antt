@@ -4,24 +4,20 @@
 -- (`opened_by`), so the moments of a head stay in order (`dated_from`). No length or range stands among its fields,
 -- since each way leaves them out (`heads_kept`). That heads stay within limits goes alike. At the beginning each item
 -- has a right head (`dated_item`). `heads_in_runs` carries this.
-use Rattle.std.{proofs.{Common.{◌≡◌, inl, inr, ℕ, ◌≤◌, List, [], ◌∷◌, Bool, true, false, None, Option, Some, refl, ap, sym, ◌∙◌, subst, arith}, lemmas.Bool.Decides.{nat_tests}}, specs.Prelude.{◌==◌, nat_le, find, option_map, codes}}
+use Rattle.std.{proofs.{Common.{◌≡◌, inl, inr, ℕ, ◌≤◌, List, [], ◌∷◌, Bool, true, false, None, Option, Some, refl, ap, sym, ◌∙◌, subst, arith}, lemmas.Bool.Decides.{nat_tests}}, specs.Prelude.{◌==◌, find, option_map, codes}}
 use Rattle.hc_text.proofs.Basics.{and_left, and_right, not_some as none_some, not_true as not_yes, some_inj}
 use Rattle.hc_effects.proofs.Vocabulary.{is_denied, Event, Response, Limits, may_begin, are_good, has_right_head, Entry, History, Content, Contents, exchange_heard, OfRuns, Tables, Exchange, Representation, StoredHeads, IsHeadWithinLimits, AreWithinLimits, tables, first_tables, representation_of_content, after, after_accepted, after_denied, event}
 use Rattle.hc_fields.specs.FirstValues.{has_field}
 use Rattle.hc_record.specs.Head.{Head}
 use Rattle.hc_validate.specs.Updates.{is_within_limits}
 use Rattle.hc_model.specs.StoredHeads.{HeadsAreWithinLimits}
-use Rattle.hc_effects.proofs.{ExchangeFrom.{was, new, ExchangeFrom, exchange_from}, FieldsKeep.{length_kept, range_kept, length_none, range_none, within_limits_kept, within_limits_founded}, Forward.{after_is}, PieceKeeps.{eq_cases}, RepFrom.{RepFrom, rep_from}}
+use Rattle.hc_effects.proofs.{ExchangeFrom.{was, new, ExchangeFrom, exchange_from}, FieldsKeep.{length_kept, range_kept, length_none, range_none, within_limits_founded}, Forward.{after_is}, PieceKeeps.{eq_cases}, RepFrom.{RepFrom, rep_from}}
 use Rattle.hc_laws.proofs.{HeadFrom.{updated, told, still, HeadFrom, head_from}, RunFacts.{in_runs}}
 use Rattle.hc_effects.proofs.RepFrom as rep
 
 -- the moment of its opening stays
 opened_heard : (t : Tables) (e : Entry) (x : ℕ) (ev : Event) (w : Exchange) → (exchange_heard t e x ev w).opened ≡ w.opened
-opened_heard t e x (event.Head y response) w = elim (eq_cases y x) [ inl here ↦ rw here.0 refl | inr off ↦ rw off.0 refl ]
-opened_heard t e x (event.Piece y bytes) w = elim (eq_cases y x) [ inl here ↦ rw here.0 refl | inr off ↦ rw off.0 refl ]
-opened_heard t e x (event.End y) w = elim (eq_cases y x) [ inl here ↦ rw here.0 refl | inr off ↦ rw off.0 refl ]
-opened_heard t e x (event.Fault y) w = elim (eq_cases y x) [ inl here ↦ rw here.0 refl | inr off ↦ rw off.0 refl ]
-opened_heard t e x _ w = refl
+opened_heard t e x ev w = grind (arith, nat_tests)
 
 -- of a head
 pub record IsDated (moment : ℕ) (head : Head) : Type 0 where
@@ -37,39 +33,18 @@ module _ (t : Tables) (e : Entry) (later : t.moment ≤ e.now) (g : StoredHeads 
   opened_by : (x : ℕ) (u : Exchange) → now_on.exchange x ≡ Some u → ExchangeFrom t e x u → u.opened ≤ e.now
   opened_by x u row (was w at same) =
       let is : w.opened ≡ u.opened = sym (opened_heard t e x e.event w) ∙ ap (λ (z : Exchange). z.opened) (some_inj _ u (sym (after_is t e x w (t.exchange x) at) ∙ row)) in
-      let old : w.opened ≤ t.moment = g.opened x w at in
-      omega arith
+      grind (arith, nat_tests)
   opened_by x u row (new o none opening here is) = let now_is : e.now ≡ u.opened = ap (λ (z : Exchange). z.opened) is in omega arith
 
   dated : (r : ℕ) (v : Representation) → t.representation r ≡ Some v → IsDated e.now v.head
-  dated r v row =
-      let old = g.moments r v row in
-      let came : v.head.answered ≤ t.moment = old.1 in
-      record { asked = old.0; came = omega arith; no_length = g.lengths r v row; no_range = g.ranges r v row }
+  dated r v row = grind (arith, nat_tests)
 
   dated_from : (r : ℕ) (v u : Representation) → t.representation r ≡ Some v → HeadFrom t e r v u → IsDated e.now u.head
-  dated_from r v u row (still same) = subst (IsDated e.now) (sym same) (dated r v row)
-  dated_from r v u row (told n is) = subst (IsDated e.now) (sym is) (let old = dated r v row in record { asked = old.asked; came = old.came; no_length = old.no_length; no_range = old.no_range })
-  dated_from r v u row (updated x response w here at is) =
-      let old = dated r v row in
-      let opened : w.opened ≤ t.moment = g.opened x w at in
-      subst (IsDated e.now) (sym is) (record {
-        asked = (let le : w.opened ≤ e.now = omega arith in le);
-        came = omega arith;
-        no_length = length_kept v.head.fields response.fields ∙ old.no_length;
-        no_range = range_kept v.head.fields response.fields ∙ old.no_range;
-      })
+  dated_from r v u row it4 = grind (arith, nat_tests, still, dated, told, updated, length_kept, range_kept)
 
   dated_by : (r : ℕ) (u : Representation) → RepFrom t e r u → IsDated e.now u.head
   dated_by r u (rep.was v kept) = dated_from r v u kept.row (head_from t e r v u kept)
-  dated_by r u (rep.founded response w none here row on is) =
-      let opened : w.opened ≤ t.moment = g.opened r w row in
-      subst (λ (z : Representation). IsDated e.now z.head) is (record {
-        asked = (let le : w.opened ≤ e.now = omega arith in le);
-        came = omega arith;
-        no_length = length_none response.fields;
-        no_range = range_none response.fields;
-      })
+  dated_by r u (rep.founded response w none here row on is) = grind (arith, nat_tests, length_none, range_none)
 
   dated_row : (r : ℕ) (u : Representation) → now_on.representation r ≡ Some u → IsDated e.now u.head
   dated_row r u row = dated_by r u (rep_from t e r (t.representation r) u refl row)
@@ -83,12 +58,7 @@ module _ (t : Tables) (e : Entry) (later : t.moment ≤ e.now) (g : StoredHeads 
   }
 
 heads_denied : (t : Tables) (e : Entry) → t.moment ≤ e.now → StoredHeads t → StoredHeads (after_denied t e)
-heads_denied t e later g = record {
-  opened = λ x w row. let old : w.opened ≤ t.moment = g.opened x w row in omega arith;
-  moments = λ r v row. let old = g.moments r v row in let came : v.head.answered ≤ t.moment = old.1 in (old.0, omega arith);
-  lengths = g.lengths;
-  ranges = g.ranges;
-}
+heads_denied t e later g = grind (arith, nat_tests)
 
 -- MODEST HEADS
 
@@ -96,9 +66,7 @@ within_limits_head : (e : Entry) (x : ℕ) (response : Response) → e.event ≡
 within_limits_head e x response here within_limits = subst IsHeadWithinLimits here within_limits
 
 within_limits_from : (t : Tables) (e : Entry) (r : ℕ) (v u : Representation) → is_within_limits v.head.fields ≡ true → HeadFrom t e r v u → is_within_limits u.head.fields ≡ true
-within_limits_from t e r v u old (still same) = ap (λ (h : Head). is_within_limits h.fields) same ∙ old
-within_limits_from t e r v u old (told n is) = ap (λ (h : Head). is_within_limits h.fields) is ∙ old
-within_limits_from t e r v u old (updated x response w here at is) = ap (λ (h : Head). is_within_limits h.fields) is ∙ within_limits_kept v.head.fields response.fields old
+within_limits_from t e r v u old it6 = grind (arith, nat_tests)
 
 within_limits_by : (t : Tables) (e : Entry) (r : ℕ) (u : Representation) → IsHeadWithinLimits e.event → AreWithinLimits t → RepFrom t e r u → is_within_limits u.head.fields ≡ true
 within_limits_by t e r u within_limits old (rep.was v kept) = within_limits_from t e r v u (old r v kept.row) (head_from t e r v u kept)
@@ -131,18 +99,7 @@ module _ (limits : Limits) (contents : Contents) where
     right_head r item found = right_item r item [] contents.items good found
 
     dated_item : (item : Content) → has_right_head contents item ≡ true → IsDated contents.now (representation_of_content item).head
-    dated_item item right =
-        let five = and_left _ _ right in
-        let four = and_left _ _ five in
-        let three = and_left _ _ four in
-        let asked : nat_le item.head.requested item.head.answered ≡ true = and_right _ _ (and_left _ _ three) in
-        let came : nat_le item.head.answered contents.now ≡ true = and_right _ _ three in
-        record {
-          asked = grind (arith, nat_tests);
-          came = grind (arith, nat_tests);
-          no_length = not_yes _ (and_right _ _ four);
-          no_range = not_yes _ (and_right _ _ five);
-        }
+    dated_item item right = grind (arith, nat_tests, and_left, and_right, not_yes)
 
     by_item : (P : Representation → Type 0) → ((item : Content) → has_right_head contents item ≡ true → P (representation_of_content item)) → (r : ℕ) (v : Representation) (z : Option Content) → find (of_number r) contents.items ≡ z → option_map representation_of_content z ≡ Some v → P v
     by_item P holds r v None found row = absurd (none_some v row)
@@ -152,12 +109,7 @@ module _ (limits : Limits) (contents : Contents) where
     dated_begun r v row = by_item (λ (z : Representation). IsDated contents.now z.head) dated_item r v (find (of_number r) contents.items) refl row
 
     heads_begin : StoredHeads (first_tables contents)
-    heads_begin = record {
-      opened = λ x w row. absurd (none_some w row);
-      moments = λ r v row. let d = dated_begun r v row in (d.asked, d.came);
-      lengths = λ r v row. (dated_begun r v row).no_length;
-      ranges = λ r v row. (dated_begun r v row).no_range;
-    }
+    heads_begin = grind (arith, nat_tests, none_some, dated_begun)
 
     within_limits_begin : AreWithinLimits (first_tables contents)
     within_limits_begin r v row = by_item (λ (z : Representation). is_within_limits z.head.fields ≡ true) (λ item right. and_right _ _ right) r v (find (of_number r) contents.items) refl row

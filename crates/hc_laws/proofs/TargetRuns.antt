@@ -1,19 +1,15 @@
 -- Where each start asks for a target, each representation has one as its key.
-use Rattle.std.{proofs.Common.{◌≡◌, inl, inr, ℕ, List, [], ◌∷◌, Bool, true, false, None, Option, Some, refl, ap, sym, ◌∙◌}, specs.Prelude.{◌==◌, find, option_map}}
+use Rattle.std.{proofs.{lemmas.Bool.Decides.{nat_tests}, Common.{arith, ◌≡◌, inl, inr, ℕ, List, [], ◌∷◌, Bool, true, false, None, Option, Some, refl, ap, sym, ◌∙◌}}, specs.Prelude.{◌==◌, find, option_map}}
 use Rattle.hc_text.proofs.Basics.{and_left, and_right, not_some as none_some, some_inj}
 use Rattle.hc_effects.proofs.Vocabulary.{is_denied, Limits, may_begin, is_good, are_good, Entry, Content, Contents, ExchangeKeys, Tables, Representation, tables, first_tables, representation_of_content, after, RequestsAreForTargets, KeysAreTargets}
 use Rattle.hc_target.specs.Targets.{is_target}
 use Rattle.hc_model.specs.WithinLimits.{KeysStayTargets}
 use Rattle.hc_effects.proofs.{PieceKeeps.{eq_cases}, RepFrom.{RepFrom, rep_from}}
-use Rattle.hc_effects.proofs.RepFrom as rep
 use Rattle.hc_laws.proofs.{RunsWithinLimits.{requests_are_for_targets}, InRuns.{one_key_in_runs}}
 
 -- the key of what is founded is that of its exchange, and so of a consumer
 target_by : (t : Tables) (e : Entry) (r : ℕ) (u : Representation) → ExchangeKeys t → RequestsAreForTargets t → KeysAreTargets t → RepFrom t e r u → is_target u.key ≡ true
-target_by t e r u keys asked old (rep.was v kept) = ap is_target kept.key_is ∙ old r v kept.row
-target_by t e r u keys asked old (rep.founded response w none here row on is) =
-    let opener = keys.opener r w row in
-    ap is_target (sym (ap (λ (z : Representation). z.key) is) ∙ opener.2) ∙ asked w.c opener.0 opener.1
+target_by t e r u keys asked old it7 = grind (arith, nat_tests)
 
 targets_step : (t : Tables) (e : Entry) (b : Bool) → is_denied e.acts ≡ b → ExchangeKeys t → RequestsAreForTargets t → KeysAreTargets t → KeysAreTargets (after t e)
 unfolding after

@@ -3,7 +3,7 @@
 -- The acts of an accepted poll are those of its move, then what is closed and what is lost, which tell nobody. Where
 -- the move is to wait, nobody leaves: so nothing is closed, nothing is written, and nothing is lost. `one_by` and
 -- `last_by` go by the moves, `by_poll` joins them, and `told_in_runs` is for every run.
-use Rattle.std.{proofs.Common.{◌≡◌, ℕ, List, [], ◌∷◌, ◌++◌, Bool, true, false, Option, Some, None, refl, ap, sym, ◌∙◌, subst}, specs.Prelude.{map, ◌||◌}}
+use Rattle.std.{proofs.{lemmas.Bool.Decides.{nat_tests}, Common.{arith, ◌≡◌, ℕ, List, [], ◌∷◌, ◌++◌, Bool, true, false, Option, Some, None, refl, ap, sym, ◌∙◌, subst}}, specs.Prelude.{map, ◌||◌}}
 use Rattle.hc_effects.proofs.Vocabulary.{is_denied, closes_in, Act, Event, Limits, leaver_in, loses_in, answer_acts, loss_acts, close_acts, closing, denial, is_live, Entry, Flaw, NoFlaw, Loses, flaw_in, OfHistories, Turns, Move, Nothing, Asks, Opens, Shows, Gives, Ends, Fails, acts_of, Tables, Consumer, IsOwed, Sound, tables, tellings, IsOneTo, TellsOne, TellsBy, evicted, act, cause, wait}
 use Rattle.hc_event.specs.declared.event.Event.TheVariants as event
 use Rattle.hc_rules.specs.Refusals as refusals
@@ -19,8 +19,7 @@ use Rattle.hc_text.proofs.Basics.{eq_itself}
 -- WHAT TELLS NOBODY
 
 loss_tells : (f : Flaw) → tellings (loss_acts f) ≡ []
-loss_tells NoFlaw = refl
-loss_tells _ = refl
+loss_tells f = grind (arith, nat_tests)
 
 closes_tell : (ys : List ℕ) (rest : List Act) → tellings rest ≡ [] → tellings (map act.Close ys ++ rest) ≡ []
 closes_tell [] rest none = none
@@ -40,8 +39,7 @@ evicted_tell (r ∷ rs) rest none = evicted_tell rs rest none
 
 -- nothing is waited for there
 lost_waits : (f : Flaw) → WaitsLast (loss_acts f)
-lost_waits NoFlaw = tt
-lost_waits _ = tt
+lost_waits f = grind (arith, nat_tests)
 
 closed_waits : (ys : List ℕ) (rest : List Act) → WaitsLast rest → WaitsLast (map act.Close ys ++ rest)
 closed_waits [] rest last = last
@@ -61,10 +59,7 @@ one_by c (Fails why) rest none = subst (λ z. IsOneTo c (act.Failed c why ∷ z)
 
 -- a move is to wait, or isn't
 last_by : (c : ℕ) (m : Move) (f : Flaw) (rest : List Act) → WaitsLast rest → (leaver_in (acts_of c m ++ loss_acts f) ≡ None → rest ≡ []) → WaitsLast (acts_of c m ++ rest)
-last_by c (moves.Waits w) f rest last calm = calm (leaver_lost f)
-last_by c (Asks x) f rest last calm = calm (leaver_lost f)
-last_by c (Opens x need request) f rest last calm = calm (leaver_lost f)
-last_by c _ f rest last calm = last
+last_by c m f rest last calm = grind (arith, nat_tests)
 
 module _ (limits : Limits) (t : Tables) (e : Entry) (taken : IsTaken limits t e) where
   abbrev flaw : Flaw

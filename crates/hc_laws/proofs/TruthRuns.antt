@@ -1,5 +1,5 @@
 -- What is called truncated is some first bytes, since as many bytes are stored as positions: records are truthful in every run.
-use Rattle.std.{proofs.{Common.{◌≡◌, inl, inr, ℕ, ◌≤◌, true, false, Bool, cond, Option, Some, None, refl, ap, sym, ◌∙◌, arith}, lemmas.Bool.Decides.{nat_tests}}, specs.Prelude.{is_some, nat_lt}}
+use Rattle.std.{proofs.{Common.{◌≡◌, inl, inr, ℕ, ◌≤◌, true, Bool, cond, Option, None, sym, arith}, lemmas.Bool.Decides.{nat_tests}}, specs.Prelude.{is_some, nat_lt}}
 use Rattle.hc_text.proofs.Basics.{and_left, and_right as and_then, bool_cases}
 use Rattle.hc_record.specs.declared.kind.Kind.TheVariants as kind
 use Rattle.hc_sparse.specs.Cells.{Cell, Covers, size_below}
@@ -9,20 +9,14 @@ use Rattle.hc_effects.proofs.HoleLemmas.{covers_all}
 use Rattle.hc_laws.proofs.{Positions.{no_other_below}, SizesKeep.{sizes_in_runs}, SoundRuns.{runs_are_sound}, Truthful.{whole_is}}
 
 front_by : (growing complete front : Bool) → (cond growing kind.Growing (cond complete kind.Whole (cond front kind.Truncated kind.Ranges))) ≡ kind.Truncated → front ≡ true
-front_by growing complete true h = refl
-front_by true complete false h = absurd (let never : kind.Growing ≡ kind.Truncated = h in cc)
-front_by false true false h = absurd (let never : kind.Whole ≡ kind.Truncated = h in cc)
-front_by false false false h = absurd (let never : kind.Ranges ≡ kind.Truncated = h in cc)
+front_by growing complete front h = grind (arith, nat_tests)
 
 none_by : (o : Option Cell) → (is_some o ≡ true → ⊥) → o ≡ None
-none_by None h = refl
-none_by (Some cell) h = absurd (h refl)
+none_by o h = grind (arith, nat_tests)
 
 -- behind the reach nothing is stored
 behind_reach : (v : Representation) (p : ℕ) → IsStored v → v.reach ≤ p → is_some (v.stored p) ≡ true → ⊥
-behind_reach v p store le there =
-    let never : false ≡ true = ap is_some (sym (store.some_stored p there ∙ store.ends p le)) ∙ there in
-    cc
+behind_reach v p store le there = grind (arith, nat_tests)
 
 front_of : (v : Representation) → IsStored v → v.size ≡ size_below v.stored v.reach → is_front v ≡ true → IsFront v
 front_of v store count h =

@@ -1,5 +1,5 @@
 -- What is called whole is whole.
-use Rattle.std.proofs.Common.{◌≡◌, ℕ, List, Bool, true, false, cond, Option, Some, None, refl}
+use Rattle.std.proofs.{lemmas.Bool.Decides.{nat_tests}, Common.{arith, ◌≡◌, ℕ, List, Bool, true, false, cond, Option, Some, None, refl}}
 use Rattle.hc_record.specs.declared.kind.Kind.TheVariants as kind
 use Rattle.hc_effects.proofs.Vocabulary.{current, kind_of, kind_for, is_growing, is_complete, is_front, covers_all, Tables, Representation}
 use Rattle.hc_model.specs.Laws.{IsWhole}
@@ -7,10 +7,7 @@ use Rattle.hc_effects.proofs.HoleLemmas as holes
 
 -- of these words only the second is Whole
 complete_by : (growing complete front : Bool) → (cond growing kind.Growing (cond complete kind.Whole (cond front kind.Truncated kind.Ranges))) ≡ kind.Whole → complete ≡ true
-complete_by growing true front h = refl
-complete_by true false front h = absurd (let never : kind.Growing ≡ kind.Whole = h in cc)
-complete_by false false true h = absurd (let never : kind.Truncated ≡ kind.Whole = h in cc)
-complete_by false false false h = absurd (let never : kind.Ranges ≡ kind.Whole = h in cc)
+complete_by growing complete front h = grind (arith, nat_tests)
 
 whole_by : (v : Representation) (o : Option ℕ) → v.head.total ≡ o → covers_all v o ≡ true → IsWhole v
 whole_by v None is h = absurd (let never : false ≡ true = h in cc)

@@ -4,13 +4,12 @@
 -- be closed is, and nothing else (`is_closed`, `stays_open`). What is lost is what the flaw says (`loses_as`). Closings
 -- see the same case and the same doom as the entry (`same_case`, `same_doom`). A poll tells its consumer what its move
 -- is, or that a read fails (`at_poll`). To others nothing is told (`far_from`).
-use Rattle.std.{proofs.Common.{◌≡◌, ◌⊎◌, inl, inr, ℕ, List, [], ◌∷◌, ◌++◌, Bool, true, false, Option, Some, None, refl, ap, sym, ◌∙◌, subst}, specs.Prelude.{◌&&◌, not, ◌||◌, ◌==◌, nat_eq, map, filter, reverse}}
+use Rattle.std.{proofs.{lemmas.Bool.Decides.{nat_tests}, Common.{arith, ◌≡◌, ◌⊎◌, inl, inr, ℕ, List, [], ◌∷◌, ◌++◌, Bool, true, false, Option, Some, None, refl, ap, sym, ◌∙◌, subst}}, specs.Prelude.{◌&&◌, not, ◌||◌, ◌==◌, nat_eq, map, filter, reverse}}
 use Rattle.hc_text.proofs.Basics.{bool_cases, or_cases, or_right as or_yes}
 use mathlib.Core.List.{reverse_aux}
 use Rattle.hc_effects.proofs.Vocabulary.{is_denied, closes_in, evicts_in, opening_in, leaves_in, Act, Event, Response, Limits, loses_in, has_loss, misreads_in, fails_in, accepted_acts, answer_acts, loss_acts, close_acts, case_at, case_of, closing, closes_row, must_close, doomed_key_of, doomed_in, doomed_by_head, doomed_by_case, Entry, exchange_heard, Flaw, NoFlaw, Loses, Misreads, flaw_in, Turns, Move, acts_of, poll_move, Tables, Exchange, Representation, is_keepable, Consumer, IsOwed, may_stand, may_be, Sound, Among, evicted, act}
 use Rattle.hc_event.specs.declared.act.Cause.TheVariants as cause
 use Rattle.hc_event.specs.declared.event.Event.TheVariants as event
-use Rattle.hc_model.specs.Moves as moves
 use Rattle.hc_effects.proofs.{ActParts.{IsAnswer, IsSaid, IsFarFrom, answer_is, said_is, asks_evicted, asks_closed, asks_closes, asks_lost, asks_loss, closes_evicted, closes_lost, closes_before, loses_evicted, loses_closed, loses_before, evicts_closed, said_closes, far_loss, far_lost_only, far_closing, far_closed, far_evicted, far_said}, Owed.{acts_are}, PieceKeeps.{eq_cases}, TurnMoves.{Does, does_polled}, SaidActs.{closes_lose, all_lose, evicted_lose}}
 use Rattle.hc_effects.proofs.ActParts as parts
 
@@ -29,9 +28,7 @@ eq-refl x = elim (eq_cases x x) [ inl same ↦ same.0 | inr other ↦ absurd (ot
 -- what passes the test and is in the list is closed
 closes_passing : (x : ℕ) (test : ℕ → Bool) (ys : List ℕ) → Among x ys → test x ≡ true → closes_in x (map act.Close (filter test ys)) ≡ true
 closes_passing x test [] among passes = absurd among
-closes_passing x test (y ∷ ys) (inl here) passes =
-    let also : test y ≡ true = ap test here ∙ passes in
-    rw also (ap (λ b. b || closes_in x (map act.Close (filter test ys))) (ap (λ n. n == x) here ∙ eq-refl x))
+closes_passing x test (y ∷ ys) (inl here) passes = grind (arith, nat_tests)
 closes_passing x test (y ∷ ys) (inr there) passes = elim (bool_cases (test y)) [
   | inl also ↦ rw also (or_yes (y == x) _ (closes_passing x test ys there passes))
   | inr fails ↦ rw fails (closes_passing x test ys there passes)
@@ -43,13 +40,8 @@ loss_before : (flaw : Flaw) (ys : List ℕ) → has_loss (loss_acts flaw ++ map 
 loss_before (Loses r kind) ys = refl
 loss_before _ ys = all_lose ys
 
-loss_move : (c : ℕ) (m : Move) (rest : List Act) → has_loss (acts_of c m ++ rest) ≡ has_loss rest
-loss_move c moves.Nothing rest = refl
-loss_move c _ rest = refl
-
 loss_said : (t : Tables) (now : ℕ) (ev : Event) (flaw : Flaw) (acts rest : List Act) → IsSaid t now ev flaw acts → has_loss (acts ++ rest) ≡ has_loss rest
-loss_said t now ev flaw _ rest (parts.does c want k m at row is near) = loss_move c m rest
-loss_said t now ev flaw _ rest _ = refl
+loss_said t now ev flaw acts rest it6 = grind (arith, nat_tests)
 
 -- who fails leaves
 pub fails_leaves : (c : ℕ) (acts : List Act) → fails_in c acts ≡ true → leaves_in c acts ≡ true
@@ -73,8 +65,7 @@ is_asking _ = false
 
 -- where there is no cause to go, nothing goes
 pub none_goes : (v : Representation) (b : Bool) → (b && (false || false) || false || false || false || (false && not (is_keepable v)) || false) ≡ false
-none_goes v true = refl
-none_goes v false = refl
+none_goes v b = grind (arith, nat_tests)
 
 -- an owed entry that isn't denied
 pub record IsTaken (limits : Limits) (t : Tables) (e : Entry) : Type 0 where
@@ -119,9 +110,7 @@ module _ (limits : Limits) (t : Tables) (e : Entry) (taken : IsTaken limits t e)
   -- what must be closed is
   pub is_closed : (x : ℕ) (w : Exchange) → Among x t.openings → t.exchange x ≡ Some w → must_close t seen x w ≡ true → (exchange_heard t seen x e.event w).is_open ≡ true → closes_in x e.acts ≡ true
   unfolding closing
-  is_closed x w among row must open_yet =
-      let passes : closes_row t seen x (t.exchange x) ≡ true = ap (closes_row t seen x) row ∙ rw (must, open_yet) refl in
-      closes_as x ∙ closes_passing x (λ y. closes_row t seen y (t.exchange y)) (reverse t.openings) (among_aux x t.openings [] (inl among)) passes
+  is_closed x w among row must open_yet = grind (arith, nat_tests, seen, closes_as, closes_passing, among_aux)
 
   -- and what needn't isn't
   pub stays_open : (x : ℕ) → ((w : Exchange) → t.exchange x ≡ Some w → must_close t seen x w ≡ false) → closes_in x e.acts ≡ false
@@ -129,8 +118,7 @@ module _ (limits : Limits) (t : Tables) (e : Entry) (taken : IsTaken limits t e)
   stays_open x free = closes_as x ∙ parts.closes_filter x (λ y. closes_row t seen y (t.exchange y)) (reverse t.openings) (by_row (t.exchange x) refl)
     where
       by_row : (o : Option Exchange) → t.exchange x ≡ o → closes_row t seen x o ≡ false
-      by_row None row = refl
-      by_row (Some w) row = rw (free w row) refl
+      by_row o row = grind (arith, nat_tests)
 
   -- THE CASE OF A HEAD
 
@@ -172,15 +160,10 @@ module _ (limits : Limits) (t : Tables) (e : Entry) (taken : IsTaken limits t e)
   may_be_so = may_of limits t e taken.not_denied taken.owed.flaw
 
   evicts_poll : (r : ℕ) (ev : Event) → is_asking ev ≡ true → evicts_in r (accepted_acts limits t e.now ev flaw) ≡ false
-  evicts_poll r (event.Poll c want) h =
-      (said_closes 0 r t e.now (event.Poll c want) flaw _ _ (said_is t e.now (event.Poll c want) flaw)).evicts ∙ evicts_closed r (closing t (record { now = e.now; event = event.Poll c want; acts = answer_acts t e.now (event.Poll c want) flaw ++ loss_acts flaw })) flaw
-  evicts_poll r (event.Cancel c) h = evicts_closed r (closing t (record { now = e.now; event = event.Cancel c; acts = loss_acts flaw })) flaw
-  evicts_poll r _ h = absurd (let no_one : false ≡ true = h in cc)
+  evicts_poll r ev h = grind (arith, nat_tests, said_closes, said_is, evicts_closed, closing)
 
   asked_by : (r : ℕ) (ev : Event) → e.event ≡ ev → is_asking ev ≡ true → evicts_in r e.acts ≡ false
-  asked_by r (event.Poll c want) at h = ap (evicts_in r) acts_is ∙ (ap (λ z. evicts_in r (accepted_acts limits t e.now z flaw)) at ∙ evicts_poll r (event.Poll c want) refl)
-  asked_by r (event.Cancel c) at h = ap (evicts_in r) acts_is ∙ (ap (λ z. evicts_in r (accepted_acts limits t e.now z flaw)) at ∙ evicts_poll r (event.Cancel c) refl)
-  asked_by r _ at h = absurd (let no_one : false ≡ true = h in cc)
+  asked_by r ev at h = grind (arith, nat_tests, acts_is, evicts_poll)
 
   pub evicts_asked : (r : ℕ) → is_asking e.event ≡ true → evicts_in r e.acts ≡ false
   evicts_asked r h = asked_by r e.event refl h
@@ -191,10 +174,7 @@ module _ (limits : Limits) (t : Tables) (e : Entry) (taken : IsTaken limits t e)
   far_from c other = subst (IsFarFrom c) (sym acts_is) (by_answer _ is_answer)
     where
       apart : (d want : ℕ) → e.event ≡ event.Poll d want → nat_eq d c ≡ false
-      apart d want at = elim (eq_cases d c) [
-        | inr not_it ↦ not_it.0
-        | inl here ↦ absurd (other want (at ∙ ap (λ n. event.Poll n want) here.1))
-      ]
+      apart d want at = grind (arith, nat_tests)
 
       by_answer : (acts : List Act) → answered acts → IsFarFrom c acts
       by_answer _ (parts.told silent) = far_evicted c (evicted limits t e.now e.event) _ (far_loss c flaw _ (far_closed c closings))
@@ -210,9 +190,7 @@ module _ (limits : Limits) (t : Tables) (e : Entry) (taken : IsTaken limits t e)
       record { asks = a.asks ∙ (b.asks ∙ d.asks); misreads = a.misreads ∙ (b.misreads ∙ d.misreads); opens = a.opens ∙ (b.opens ∙ d.opens) }
   told_by x r _ parts.asked none asks =
       let a = asks_closed x r closings (loss_acts flaw) in
-      let b = asks_loss x r flaw in
-      subst (λ acts. parts.AsksAs x r (acts ++ (map act.Close closings ++ loss_acts flaw)) []) (sym none)
-      (record { asks = a.asks ∙ b.asks; misreads = a.misreads ∙ b.misreads; opens = a.opens ∙ b.opens })
+      grind (arith, nat_tests)
 
   -- an event from outside asks, opens and misreads nothing
   pub told_quiet : (x r : ℕ) → answer_acts t e.now e.event (flaw_in e.acts) ≡ [] → is_asking e.event ≡ false → parts.AsksAs x r e.acts []

@@ -4,9 +4,9 @@
 -- what it is about is still current, and nothing is lost (`valid_is`). Hence no writing goes by it and no exchange
 -- needs to be closed (`keeps_writing`, `free`), and as nothing is written nothing is evicted either (`write_none`). So
 -- nothing goes (`goes_none`). The law of turns needs that.
-use Rattle.std.{proofs.Common.{◌≡◌, ℕ, [], ◌++◌, Bool, true, false, Option, Some, None, refl, ap, sym, ◌∙◌}, specs.{Prelude.{◌&&◌, ◌||◌, ◌==◌, not, is_none, is_some, if◌then◌else◌, nat_le}, Option.{option_map}}}
-use Rattle.hc_text.proofs.Basics.{and_left, and_none, and_right as and_then, not_true as not_yes, some_inj}
-use Rattle.hc_effects.proofs.Vocabulary.{opening_in, Response, HeadCase, HeadView, Route, Limits, Write, head_case, case_on, direct_case, first_case, later_case, is_conditional, is_same_number, route_of, has_loss, misreads_in, leaver_in, answer_acts, loss_acts, case_at, case_of, head_view, validates, is_founding, must_close, is_doomed, is_left, leaver, leaver_by, is_refused, brings_head, has_no_survivor, awaits, current, is_current, is_number, doomed_key_of, doomed_in, doomed_by_head, doomed_by_case, bypass_key, bypassed_by, is_key, Entry, entry_without_acts, exchange_at, is_headless, family, flaw_in, becomes_gone, goes_by_head, goes_by_exchange, goes_by_case, ends_early, ends_founding, stops_early, is_written, Tables, Exchange, Representation, evicted, first_idle, room_for, room_by, write_in, brings_body, loses_writing, survivor, need, event, case, route, write}
+use Rattle.std.{proofs.{lemmas.Bool.Decides.{nat_tests}, Common.{arith, ◌≡◌, ℕ, [], Bool, true, false, Option, Some, None, refl, ap, sym, ◌∙◌}}, specs.Prelude.{◌&&◌, ◌||◌, ◌==◌, not, is_some, if◌then◌else◌, nat_le}}
+use Rattle.hc_text.proofs.Basics.{and_left, and_none, and_right as and_then, not_true as not_yes}
+use Rattle.hc_effects.proofs.Vocabulary.{opening_in, Response, HeadCase, HeadView, Route, Limits, head_case, case_on, direct_case, first_case, later_case, is_conditional, is_same_number, route_of, has_loss, misreads_in, answer_acts, case_at, case_of, head_view, validates, must_close, is_refused, has_no_survivor, awaits, current, is_current, doomed_key_of, doomed_in, doomed_by_head, doomed_by_case, bypass_key, bypassed_by, Entry, entry_without_acts, exchange_at, flaw_in, becomes_gone, goes_by_head, goes_by_exchange, goes_by_case, ends_early, ends_founding, stops_early, Tables, Exchange, Representation, evicted, first_idle, room_for, room_by, write_in, need, event, case, route}
 use Rattle.hc_effects.proofs.{ActParts.{leaver_lost}, Joining.{mix}, KeyRows.{same_number}}
 use Rattle.hc_laws.proofs.{TurnFacts.{none_goes, loss_seen, is_asking, IsTaken, seen, stays_open, told_quiet, evicts_none, same_case, same_doom}, PassedKeeps.{conditional_need}, HadHeaded.{lossless_none as no_loss}}
 
@@ -27,19 +27,13 @@ module _ (v : HeadView) where
   passes = v.status == 304 && v.conditional && v.selects && not v.lost
 
   turn_rest : Other (if v.status == 304 && v.conditional then case.NotValidated else if nat_le 500 v.status then case.TurnServerError else if v.status == 200 && v.storable && not v.lost then case.FoundsWhole else if v.status == 206 && v.storable && v.fits && not v.lost then case.FoundsRange else case.PassesBy)
-  turn_rest =
-      mix Other (v.status == 304 && v.conditional) case.NotValidated _ refl
-      (mix Other (nat_le 500 v.status) case.TurnServerError _ refl
-      (mix Other (v.status == 200 && v.storable && not v.lost) case.FoundsWhole _ refl
-      (mix Other (v.status == 206 && v.storable && v.fits && not v.lost) case.FoundsRange case.PassesBy refl refl)))
+  turn_rest = grind (arith, nat_tests)
 
   by_passing : (b : Bool) (rest : HeadCase) → Other rest → (if b then case.Validated else rest) ≡ case.Validated → b ≡ true
-  by_passing true rest other is = refl
-  by_passing false rest other is = never_validated rest other is
+  by_passing b rest other is = grind (arith, nat_tests)
 
   by_bad : (b : Bool) (rest : HeadCase) → (if b then case.TurnBad else rest) ≡ case.Validated → rest ≡ case.Validated
-  by_bad true rest is = never_validated case.TurnBad refl is
-  by_bad false rest is = is
+  by_bad b rest is = grind (arith, nat_tests)
 
   first_other : Other (first_case v)
   first_other =
@@ -66,8 +60,7 @@ pub record IsValid (t : Tables) (e : Entry) (x r : ℕ) (w : Exchange) : Type 0 
 
 case_is : (t : Tables) (b : Bool) (x : ℕ) (response : Response) (w : Exchange) (c : HeadCase) → t.exchange x ≡ Some w → case_of t b (event.Head x response) ≡ Some c → head_case (head_view t b w response) ≡ c
 unfolding case_of
-case_is t b x response w c row is =
-    some_inj _ c (sym (ap (option_map (λ w. head_case (head_view t b w response))) row) ∙ is)
+case_is t b x response w c row is = grind (arith, nat_tests)
 
 pub valid_is : (t : Tables) (e : Entry) (x r : ℕ) (response : Response) (w : Exchange) → e.event ≡ event.Head x response → t.exchange x ≡ Some w → case_at t e ≡ Some case.Validated → w.aim ≡ Some r → IsValid t e x r w
 unfolding head_case
@@ -93,9 +86,7 @@ valid_aim t e x response w at row found =
     same_some (current t w.request.key) w.aim (and_left _ _ (and_then (response.status == 304 && is_conditional w.need w.request) (validates t w response) b))
   where
     same_some : (p q : Option ℕ) → is_same_number p q ≡ true → is_some q ≡ true
-    same_some p (Some n) h = refl
-    same_some None None h = absurd (let no_one : false ≡ true = h in cc)
-    same_some (Some m) None h = absurd (let no_one : false ≡ true = h in cc)
+    same_some p q h = grind (arith, nat_tests)
 
 -- IT LEAVES WHAT IS STORED
 
@@ -114,20 +105,10 @@ module _ (limits : Limits) (t : Tables) (e : Entry) (taken : IsTaken limits t e)
   silent = ap (λ ev. answer_acts t e.now ev (flaw_in e.acts)) at
 
   keeps_writing : (y r : ℕ) (o : Option Representation) → has_no_survivor t saw y r o ≡ false
-  keeps_writing y r None = refl
-  keeps_writing y r (Some v) =
-      let none : loses_writing t saw r v ≡ false = ap (λ b. brings_body e.event && b && is_written t v) (no_loss r saw.acts saw_lossless) ∙ ap (λ b. b && is_written t v) (and_none (brings_body e.event)) in
-      ap (λ b. is_number v.writer y && b && is_none (survivor t r v)) none ∙ ap (λ b. b && is_none (survivor t r v)) (and_none (is_number v.writer y))
+  keeps_writing y r o = grind (arith, nat_tests, saw, no_loss, saw_lossless, and_none)
 
   free : (y : ℕ) (u : Exchange) → must_close t saw y u ≡ false
-  free y u = all_false (is_refused (case_at t saw) && brings_head y e.event) (is_doomed t saw y u) (has_no_survivor t saw y (family y u) (t.representation (family y u))) (is_left t y (leaver saw))
-      (ap (λ c. is_refused c && brings_head y e.event) (sym (same_case limits t e taken) ∙ found))
-      (ap (λ o. is_key o u.request.key && is_headless (Some u) && awaits (t.consumer u.c) y) (sym (same_doom limits t e taken) ∙ doom_at))
-      (keeps_writing y (family y u) (t.representation (family y u)))
-      (ap (is_left t y) (ap (λ ev. leaver_by ev saw.acts) at ∙ (ap (λ acts. leaver_in (acts ++ loss_acts (flaw_in e.acts))) silent ∙ leaver_lost (flaw_in e.acts))))
-    where
-      all_false : (a b d f : Bool) → a ≡ false → b ≡ false → d ≡ false → f ≡ false → (a || b || d || f) ≡ false
-      all_false a b d f p q y z = rw (p, q, y, z) refl
+  free y u = grind (arith, nat_tests, is_refused, saw, same_case, awaits, same_doom, doom_at, keeps_writing, silent, leaver_lost)
 
   ends_none : (r : ℕ) (o : Option Exchange) → ends_founding e r o ≡ false
   ends_none r None = refl
@@ -137,10 +118,7 @@ module _ (limits : Limits) (t : Tables) (e : Entry) (taken : IsTaken limits t e)
   opens_none = (told_quiet limits t e taken 0 0 silent (ap is_asking at)).opens
 
   write_none : write_in t (entry_without_acts e.now e.event) e.event ≡ None
-  write_none = ap (write_in t (entry_without_acts e.now e.event)) at ∙ ap (λ c. write_by c) (ap (λ b. case_of t b e.event) (sym lossless) ∙ found)
-    where
-      write_by : Option HeadCase → Option Write
-      write_by c = if is_founding c then Some write.Slot else None
+  write_none = grind (arith, nat_tests)
 
   evicted_none : evicted limits t e.now e.event ≡ []
   unfolding room_for

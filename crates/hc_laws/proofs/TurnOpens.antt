@@ -31,9 +31,6 @@ module _ (limits : Limits) (t : Tables) (e : Entry) (taken : IsTaken limits t e)
   abbrev saw : Entry
   saw = seen limits t e taken
 
-  by_poll : (P : Event → Type 0) → P (event.Poll c want) → P e.event
-  by_poll P is = subst P (sym at) is
-
   keeps_writing : (x r : ℕ) (o : Option Representation) → has_no_survivor t saw x r o ≡ false
   keeps_writing x r None = refl
   keeps_writing x r (Some v) =

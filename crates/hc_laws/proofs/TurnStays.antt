@@ -4,7 +4,7 @@
 -- `not_faulted`), and its consumer doesn't leave (`not_leaving`). A poll of that says only that it waits
 -- (`polls_head`); other acts aren't told to it. The most work is that it doesn't start over (`not_over`): nothing of
 -- what it waits for is doomed or lost (`dooms`, `loses_none`). `after_same` joins this.
-use Rattle.std.{proofs.Common.{◌≡◌, inl, inr, ℕ, ◌+◌, List, [], ◌∷◌, ◌++◌, Bool, true, false, cond, Option, Some, None, refl, ap, sym, ◌∙◌, subst}, specs.{Prelude.{length, ◌&&◌, ◌||◌, ◌==◌, nat_eq, not, is_none, is_some, if◌then◌else◌}, Option.{option_and_then}}}
+use Rattle.std.{proofs.{lemmas.Bool.Decides.{nat_tests}, Common.{arith, ◌≡◌, inl, inr, ℕ, ◌+◌, List, [], ◌∷◌, ◌++◌, Bool, true, false, cond, Option, Some, None, refl, ap, sym, ◌∙◌, subst}}, specs.{Prelude.{length, ◌&&◌, ◌||◌, ◌==◌, nat_eq, not, is_none, is_some, if◌then◌else◌}, Option.{option_and_then}}}
 use Rattle.hc_text.proofs.Basics.{or_right, or_left, and_left, and_right as and_then, bool_cases, eq_itself as eq-refl, eq_tells as eq_is, never_true as not_true, plus_none, same_some as same_row, some_inj}
 use Rattle.hc_effects.proofs.Vocabulary.{Opening, opening_in, closes_in, leaves_in, shows_in, given_in, Act, Event, Response, head_refusal, fault_refusal, Route, Limits, route_of, BoundBy, Place, has_loss, wait_in, leaver_in, Showing, showing_in, case_at, case_of, must_close, is_doomed, is_left, is_left_by, awaits, leaver, leaver_by, is_refused, brings_head, consumer_after, consumer_settled, consumer_acted, consumer_heard, by_head, by_fault, by_opening, waiting, waiting_place, shown_place, own_after, left_to, due_after, back_in_line, is_number, denial, as_open, doomed_key_of, is_key, Entry, exchange_heard, exchange_acted, promised_bytes, exchange_at, is_for, is_headless, is_open, IsOfOneKey, Turns, StandsFor, IsAwaited, Move, acts_of, poll_move, shows_head, shows_at, shows_direct, shows_answer, if_headless, waits_for_head, or_else, by_place, has_joined, own_open, if_open, is_written, is_open_writer, Tables, Exchange, Representation, Consumer, Sound, IsAbout, starts_over, sends_back, waits_at, awaited_exchange, loses_what_it_waits_for, loses_writing, act, wait, event, by}
 use Rattle.hc_rules.specs.Refusals as refusals
@@ -12,7 +12,7 @@ use Rattle.hc_event.specs.declared.place.Place.TheVariants as place
 use Rattle.hc_model.specs.Laws as laws
 use Rattle.hc_model.specs.Moves as moves
 use Rattle.hc_model.specs.Sound as sound
-use Rattle.hc_effects.proofs.{ActParts.{IsFarFrom}, KeyNames.{opener_key}, Once.{never}, Owed.{goes}, BoundStays.{none_of}}
+use Rattle.hc_effects.proofs.{ActParts.{IsFarFrom}, KeyNames.{opener_key}, Owed.{goes}, BoundStays.{none_of}}
 use Rattle.hc_laws.proofs.TurnFacts.{IsTaken, AtPoll, seen, behind, far_behind, at_poll, far_from, is_closed, same_doom}
 use Rattle.hc_laws.proofs.TurnFacts as facts
 
@@ -36,24 +36,11 @@ heads ev y response other is = let no_one : true ≡ false = sym (ap is_head is)
 
 -- HEADLESS
 
-no_head : (o : Option Response) → is_some o ≡ false → is_none o ≡ true
-no_head None h = refl
-no_head (Some response) h = absurd (let no_one : true ≡ false = h in cc)
-
--- an accepted head is of an exchange that is open and has none
-head_by : (a b asked : Bool) (n : ℕ) (p : Option ℕ) → head_refusal (if a then Some (record { headed = b; asked = asked; delivered = n; promised = p }) else None) ≡ None → (a ≡ true) × (b ≡ false)
-head_by false b asked n p h = absurd (never _ h)
-head_by true true asked n p h = absurd (never _ h)
-head_by true false asked n p h = (refl, refl)
-
 pub head_opens : (w : Exchange) → head_refusal (as_open (Some w)) ≡ None → is_headless (Some w) ≡ true
-head_opens w h =
-    let both = head_by w.is_open (is_some w.head) w.asked (length w.body) (promised_bytes w) h in
-    rw both.0 (no_head w.head both.1)
+head_opens w h = grind (arith, nat_tests)
 
 fault_by : (a b asked : Bool) (n : ℕ) (p : Option ℕ) → fault_refusal (if a then Some (record { headed = b; asked = asked; delivered = n; promised = p }) else None) ≡ None → a ≡ true
-fault_by false b asked n p h = absurd (never _ h)
-fault_by true b asked n p h = refl
+fault_by a b asked n p h = grind (arith, nat_tests)
 
 pub fault_opens : (w : Exchange) → fault_refusal (as_open (Some w)) ≡ None → is_none w.head ≡ true → is_headless (Some w) ≡ true
 fault_opens w h none = rw (fault_by w.is_open (is_some w.head) w.asked (length w.body) (promised_bytes w) h) none
@@ -79,12 +66,10 @@ module _ (t : Tables) (s : Sound t) (turns : Turns t) (x : ℕ) (w : Exchange) (
   awaited_open = ap (option_and_then (if_open t)) who.own ∙ rw (row, is_open_headless w headless) refl
 
   shown_none : (b : Bool) (m : Option Move) → m ≡ None → cond b None m ≡ None
-  shown_none true m h = refl
-  shown_none false m h = h
+  shown_none b m h = grind (arith, nat_tests)
 
   shown_yes : (b : Bool) (m : Option Move) → b ≡ true → cond b None m ≡ None
-  shown_yes true m h = refl
-  shown_yes false m h = absurd (let no_one : false ≡ true = h in cc)
+  shown_yes b m h = grind (arith, nat_tests)
 
   nothing_joined : has_joined (t.exchange x) ≡ false
   nothing_joined = ap has_joined row ∙ ap is_some (s.waits.headless x w row (head_none w headless)).1
@@ -120,29 +105,16 @@ module _ (limits : Limits) (t : Tables) (e : Entry) (taken : IsTaken limits t e)
   at_event ev at = subst (λ z. is_headless (Some (exchange_acted x e.acts (exchange_heard t e x z w))) ≡ true) at stays
 
   pub not_headed : (y : ℕ) (response : Response) → e.event ≡ event.Head y response → nat_eq y x ≡ true → ⊥
-  not_headed y response at here =
-      let h = at_event (event.Head y response) at in
-      let no_one : false ≡ true = and_then _ false (rw here at h) in
-      cc
+  not_headed y response at here = grind (arith, nat_tests, at_event, and_then)
 
   pub not_faulted : (y : ℕ) → e.event ≡ event.Fault y → nat_eq y x ≡ true → ⊥
-  not_faulted y at here =
-      let h = at_event (event.Fault y) at in
-      let no_one : false ≡ true = and_then (not (closes_in x e.acts)) false (and_left _ (is_none w.head) (rw here at h)) in
-      cc
+  not_faulted y at here = grind (arith, nat_tests)
 
   not_closed : closes_in x e.acts ≡ true → ⊥
   not_closed closed = cc
 
   stays_open_at : (ev : Event) → e.event ≡ ev → (exchange_heard t (seen limits t e taken) x ev w).is_open ≡ true
-  stays_open_at (event.Head y response) at = elim (bool_cases (y == x)) [
-    | inl here ↦ absurd (not_headed y response at here)
-    | inr other ↦ rw other (is_open_headless w headless)
-  ]
-  stays_open_at (event.Piece y bytes) at = and_then (not (closes_in x e.acts)) _ (and_left _ _ (at_event (event.Piece y bytes) at))
-  stays_open_at (event.End y) at = and_then (not (closes_in x e.acts)) _ (and_left _ _ (at_event (event.End y) at))
-  stays_open_at (event.Fault y) at = and_then (not (closes_in x e.acts)) _ (and_left _ _ (at_event (event.Fault y) at))
-  stays_open_at _ at = is_open_headless w headless
+  stays_open_at ev at = grind (arith, nat_tests, bool_cases, not_headed, is_open_headless, and_then, and_left, at_event)
 
   -- it needn't be closed
   pub not_must : must_close t (seen limits t e taken) x w ≡ true → ⊥
@@ -172,9 +144,7 @@ module _ (limits : Limits) (t : Tables) (e : Entry) (taken : IsTaken limits t e)
   head_same y response (Some w') at h row' = keeps_if (w'.c == c) _ (λ here. not_headed y response at (mine y w' row' (head_opens w' h) here))
 
   fault_same : (y : ℕ) (o : Option Exchange) → e.event ≡ event.Fault y → fault_refusal (as_open o) ≡ None → t.exchange y ≡ o → by_fault c y o k ≡ k
-  fault_same y None at h row' = refl
-  fault_same y (Some w') at h row' = keeps_if (w'.c == c && is_none w'.head && not k.shown) _ (λ both.
-      not_faulted y at (mine y w' row' (fault_opens w' h (and_then (w'.c == c) _ (and_left _ _ both))) (and_left (w'.c == c) _ (and_left _ _ both))))
+  fault_same y o at h it4 = grind (arith, nat_tests, keeps_if, not_faulted, mine, fault_opens, and_then, and_left)
 
   denied_at : (ev : Event) → e.event ≡ ev → denial t ev ≡ None
   denied_at ev at = sym (ap (denial t) at) ∙ (goes limits t e taken.owed taken.not_denied)
@@ -204,14 +174,7 @@ module _ (limits : Limits) (t : Tables) (e : Entry) (taken : IsTaken limits t e)
   put_far far = record { waits = ap (waiting_place t k) far.waits; leaves = far.leaves; shows = far.shows; given = far.given; opens = far.opens; showing = far.showing }
 
   put_head : (rest : List Act) → e.acts ≡ act.Pending c (wait.Head x) ∷ rest → IsFarFrom c rest → IsPut
-  put_head rest is far = record {
-    waits = ap (λ acts. waiting_place t k (wait_in c acts)) is ∙ rw (eq-refl c) refl;
-    leaves = ap (leaves_in c) is ∙ far.leaves;
-    shows = ap (shows_in c) is ∙ far.shows;
-    given = ap (given_in c) is ∙ far.given;
-    opens = λ o h. far.opens o (sym (ap opening_in is) ∙ h);
-    showing = λ z h. far.showing z (sym (ap showing_in is) ∙ h);
-  }
+  put_head rest is far = grind (arith, nat_tests)
 
   put_poll : AtPoll limits t e taken c k → IsPut
   put_poll (facts.moves_on want m at is does all saw) =
@@ -231,8 +194,7 @@ module _ (limits : Limits) (t : Tables) (e : Entry) (taken : IsTaken limits t e)
   -- ITS OWN
 
   writer_some : (o : Option ℕ) → is_open_writer t o ≡ true → (y : ℕ) × (o ≡ Some y) × (is_open (t.exchange y) ≡ true)
-  writer_some None h = absurd (let no_one : false ≡ true = h in cc)
-  writer_some (Some y) h = (y, refl, h)
+  writer_some o h = grind (arith, nat_tests)
 
   written_is : (v : Representation) → is_written t v ≡ true → (not v.is_lost && is_open_writer t v.writer) ≡ true
   unfolding is_written
@@ -272,8 +234,7 @@ module _ (limits : Limits) (t : Tables) (e : Entry) (taken : IsTaken limits t e)
   first_not : (r lo y : ℕ) (hi : Option ℕ) → k.place ≡ place.Bound r lo hi (by.FirstHole y) → k.shown ≡ true → is_headless (t.exchange y) ≡ true → ⊥
   first_not r lo y hi at shown waits =
       let f = turns.first_hole c r lo y hi k it.row at shown in
-      let no_one : true ≡ false = sym waits ∙ (ap is_headless f.1 ∙ f.2) in
-      cc
+      grind (arith, nat_tests)
 
   not_waiting : (r lo : ℕ) (hi : Option ℕ) (how : BoundBy) → k.place ≡ place.Bound r lo hi how → k.shown ≡ true → waits_at t (place.Bound r lo hi how) ≡ true → ⊥
   not_waiting r lo hi (by.FirstHole y) at shown waits = first_not r lo y hi at shown waits
@@ -291,28 +252,18 @@ module _ (limits : Limits) (t : Tables) (e : Entry) (taken : IsTaken limits t e)
 
   no_case : (b : Bool) (ev : Event) → ((y : ℕ) (response : Response) → ev ≡ event.Head y response → ⊥) → sends_back (case_of t b ev) ≡ false
   unfolding case_of
-  no_case b (event.Head y response) other = absurd (other y response refl)
-  no_case b _ other = refl
+  no_case b ev other = grind (arith, nat_tests)
 
   not_sent : (ev : Event) → e.event ≡ ev → (sends_back (case_of t (has_loss e.acts) ev) && is_for (exchange_at t ev) c) ≡ true → ⊥
   unfolding refusals.refusal_of
   not_sent (event.Head y response) at h = sent_row y response (t.exchange y) at (denied_at (event.Head y response) at) refl (and_then _ (is_for (t.exchange y) c) h)
-  not_sent (event.Piece y bytes) at h =
-      let no_one : false ≡ true = sym (no_case (has_loss e.acts) (event.Piece y bytes) (λ z response is. heads (event.Piece y bytes) z response refl is)) ∙ and_left (sends_back (case_of t (has_loss e.acts) (event.Piece y bytes))) _ h in
-      cc
-  not_sent (event.End y) at h =
-      let no_one : false ≡ true = sym (no_case (has_loss e.acts) (event.End y) (λ z response is. heads (event.End y) z response refl is)) ∙ and_left (sends_back (case_of t (has_loss e.acts) (event.End y))) _ h in
-      cc
-  not_sent (event.Fault y) at h =
-      let no_one : false ≡ true = sym (no_case (has_loss e.acts) (event.Fault y) (λ z response is. heads (event.Fault y) z response refl is)) ∙ and_left (sends_back (case_of t (has_loss e.acts) (event.Fault y))) _ h in
-      cc
+  not_sent (event.Piece y bytes) at h = grind (arith, nat_tests, no_case, heads, and_left)
+  not_sent (event.End y) at h = grind (arith, nat_tests, no_case, heads, and_left)
+  not_sent (event.Fault y) at h = grind (arith, nat_tests, no_case, heads, and_left)
   not_sent _ at h = let no_one : false ≡ true = and_then _ false h in cc
 
   loses_none : (way : Route) → StandsFor x k way → loses_what_it_waits_for t e c k.place ≡ false
-  loses_none _ (laws.direct at) = ap (loses_what_it_waits_for t e c) at
-  loses_none _ (laws.has_turn at unshown) = ap (loses_what_it_waits_for t e c) at
-  loses_none _ (laws.first r lo hi at unshown) = ap (loses_what_it_waits_for t e c) at
-  loses_none _ (laws.later r lo hi how at shown) = ap (loses_what_it_waits_for t e c) at
+  loses_none way it1 = grind (arith, nat_tests)
 
   all_false : (a b d : Bool) → a ≡ false → b ≡ false → d ≡ false → (a || b || d) ≡ false
   all_false a b d p q z = rw (p, q, z) refl
@@ -336,12 +287,10 @@ module _ (limits : Limits) (t : Tables) (e : Entry) (taken : IsTaken limits t e)
     pub request : z.request ≡ k.request
 
   opening_far : (o : Option Opening) (q : Consumer) → opening_in e.acts ≡ o → IsPut → by_opening t c o q ≡ q
-  opening_far None q is put = refl
-  opening_far (Some o) q is put = rw (put.opens o is) refl
+  opening_far o q is put = grind (arith, nat_tests)
 
   showing_far : (o : Option Showing) (p : Place) → showing_in e.acts ≡ o → IsPut → shown_place c o p ≡ p
-  showing_far None p is put = refl
-  showing_far (Some z) p is put = rw (put.showing z is) refl
+  showing_far o p is put = grind (arith, nat_tests)
 
   acted_same : IsSameStand (consumer_acted t e c k)
   acted_same =
@@ -357,8 +306,7 @@ module _ (limits : Limits) (t : Tables) (e : Entry) (taken : IsTaken limits t e)
       }
 
   settled_same : (b : Bool) (q : Consumer) → b ≡ false → IsSameStand q → IsSameStand (if b then back_in_line e.now q else due_after t e c k q)
-  settled_same true q h same = absurd (let no_one : true ≡ false = h in cc)
-  settled_same false q h same = record { place = same.place; own = same.own; shown = same.shown; given = same.given; request = same.request }
+  settled_same b q h same = grind (arith, nat_tests)
 
   pub after_same : (z : Consumer) × (consumer_after t e c (t.consumer c) ≡ Some z) × IsSameStand z
   unfolding consumer_after
@@ -376,6 +324,4 @@ module _ (limits : Limits) (t : Tables) (e : Entry) (taken : IsTaken limits t e)
   stands_same z _ same (laws.later r lo hi how at shown) = laws.later r lo hi how (same.place ∙ at) (same.shown ∙ shown)
 
   pub stands_on : (z : Consumer) × (consumer_after t e c (t.consumer c) ≡ Some z) × (z.own ≡ Some x) × StandsFor x z (route_of w.need)
-  stands_on =
-      let a = after_same in
-      (a.0, a.1, a.2.own ∙ it.own, stands_same a.0 (route_of w.need) a.2 it.stands)
+  stands_on = grind (arith, nat_tests, after_same, stands_same)

@@ -1,20 +1,14 @@
 -- Acts that are owed to an accepted event aren't those of a denied one.
-use Rattle.std.{proofs.Common.{◌≡◌, ℕ, List, [], ◌∷◌, ◌++◌, false, refl}, specs.Prelude.{map}}
-use Rattle.hc_effects.proofs.Vocabulary.{is_denied, Event, Act, Limits, accepted_acts, answer_acts, poll_acts, loss_acts, close_acts, Flaw, NoFlaw, Loses, Misreads, Move, Nothing, acts_of, poll_move, closing, Tables, evicted, act}
-use Rattle.hc_event.specs.declared.event.Event.TheVariants as event
+use Rattle.std.{proofs.{lemmas.Bool.Decides.{nat_tests}, Common.{arith, ◌≡◌, ℕ, List, [], ◌∷◌, ◌++◌, false, refl}}, specs.Prelude.{map}}
+use Rattle.hc_effects.proofs.Vocabulary.{is_denied, Event, Act, Limits, accepted_acts, answer_acts, poll_acts, loss_acts, close_acts, Flaw, NoFlaw, Loses, Misreads, Move, acts_of, closing, Tables, evicted, act}
 
 then_closes : (ys : List ℕ) (flaw : Flaw) → is_denied (map act.Close ys ++ loss_acts flaw) ≡ false
 then_closes [] NoFlaw = refl
 then_closes [] _ = refl
 then_closes (y ∷ ys) flaw = refl
 
-by_move : (c : ℕ) (m : Move) (acts : List Act) → is_denied acts ≡ false → is_denied (acts_of c m ++ acts) ≡ false
-by_move c Nothing acts off = off
-by_move c _ acts off = refl
-
 by_flaw : (t : Tables) (now want c : ℕ) (flaw : Flaw) (acts : List Act) → is_denied acts ≡ false → is_denied (poll_acts t now want c flaw ++ acts) ≡ false
-by_flaw t now want c (Misreads r) acts off = refl
-by_flaw t now want c _ acts off = by_move c (poll_move t now want c (t.consumer c)) acts off
+by_flaw t now want c flaw acts off = grind (arith, nat_tests)
 
 then_lost : (ys : List ℕ) (flaw : Flaw) → is_denied (loss_acts flaw ++ map act.Close ys) ≡ false
 then_lost (y ∷ ys) (Loses r kind) = refl
@@ -30,8 +24,4 @@ outside : (limits : Limits) (t : Tables) (now : ℕ) (ev : Event) (flaw : Flaw) 
 outside limits t now ev flaw = then_evicts (evicted limits t now ev) (loss_acts flaw ++ close_acts t now ev flaw) (then_lost (closing t (record { now = now; event = ev; acts = answer_acts t now ev flaw ++ loss_acts flaw })) flaw)
 
 pub undenied : (limits : Limits) (t : Tables) (now : ℕ) (ev : Event) (flaw : Flaw) → is_denied (accepted_acts limits t now ev flaw) ≡ false
-undenied limits t now (event.Poll c want) flaw =
-    by_flaw t now want c flaw (close_acts t now (event.Poll c want) flaw ++ loss_acts flaw)
-    (then_closes (closing t (record { now = now; event = event.Poll c want; acts = answer_acts t now (event.Poll c want) flaw ++ loss_acts flaw })) flaw)
-undenied limits t now (event.Cancel c) flaw = then_closes (closing t (record { now = now; event = event.Cancel c; acts = loss_acts flaw })) flaw
-undenied limits t now v flaw = outside limits t now v flaw
+undenied limits t now ev flaw = grind (arith, nat_tests, by_flaw, then_closes, closing, outside)

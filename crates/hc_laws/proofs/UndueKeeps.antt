@@ -33,9 +33,6 @@ module _ (step : Step) (stand : may_stand step.limits step.tables (entry_of step
   abbrev now_on : Tables
   now_on = after_accepted t e
 
-  row_of : (r c : ℕ) (k : Consumer) → IsBound t r c k → t.consumer c ≡ Some k
-  row_of r c k (sound.is_bound lo hi how row at) = row
-
   head_opens : (x : ℕ) (response : Response) (p : Opening) → ev ≡ event.Head x response → opening_in e.acts ≡ Some p → ⊥
   head_opens x response p here opens = let opened = is_opened step p opens in let no : event.Head x response ≡ event.Poll p.c opened.want = sym here ∙ opened.at in cc
 

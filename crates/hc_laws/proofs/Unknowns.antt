@@ -13,10 +13,6 @@ use Rattle.hc_effects.proofs.{ApartKeeps.{written_by, is_on}, Basics.{false_true
 use Rattle.hc_laws.proofs.{DeniedKeeps.{written_same}, MeasuresBegin.{known_item}, Lasting.{was_not_gone, not_lost, lasting}, FoundedAs.{part, empty, comes, FoundedAs, founded_as}, UnendedRuns.{or_none}}
 use Rattle.hc_effects.proofs.RepFrom as rep
 
-ends_none : (n : ℕ) (q : Option ℕ) → end_from n q ≡ None → q ≡ None
-ends_none n None h = refl
-ends_none n (Some a) h = absurd (some_none (n + a) h)
-
 pub record IsOnlyWritten (t : Tables) (v : Representation) : Type 0 where
   pub written : is_written t v ≡ true
   pub whole : v.head.status ≡ 200

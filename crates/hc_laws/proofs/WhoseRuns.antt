@@ -1,8 +1,6 @@
 -- Each open exchange is somebody's, in every run.
-use Rattle.std.{proofs.Common.{◌≡◌, ℕ, true, Option, Some, None, refl, ap, sym, ◌∙◌}, specs.Prelude.{is_some}}
-use Rattle.hc_text.proofs.Basics.{not_some as none_some}
-use Rattle.hc_effects.proofs.Vocabulary.{Response, Place, family, IsOfOneKey, OfRuns, Owners, IsAwaiting, Places, own_open, Tables, Exchange, Representation, Consumer, Sound, IsHad, tables, Whose, IsSomebodys, IsOwner, may_own, place}
-use Rattle.hc_model.specs.Owners as owners
+use Rattle.std.{proofs.{lemmas.Bool.Decides.{nat_tests}, Common.{arith, ◌≡◌, ℕ, true, Option, Some, None, refl, ap}}, specs.Prelude.{is_some}}
+use Rattle.hc_effects.proofs.Vocabulary.{Response, Place, family, IsOfOneKey, OfRuns, Owners, IsAwaiting, Places, own_open, Tables, Exchange, Representation, Consumer, Sound, IsHad, tables, Whose, IsSomebodys, IsOwner, may_own}
 use Rattle.hc_model.specs.Sound as sound
 use Rattle.hc_model.specs.Whose.{IsOfKey}
 use Rattle.hc_model.specs.Whose as whose
@@ -11,9 +9,7 @@ use Rattle.hc_laws.proofs.{GrowingRuns.{brings_headed}, InRuns.{turned_in_runs},
 
 module _ (t : Tables) (s : Sound t) (o : Owners t) (one : IsOfOneKey t) (places : Places t) (owner : (c x : ℕ) (k : Consumer) (w : Exchange) → t.consumer c ≡ Some k → k.own ≡ Some x → t.exchange x ≡ Some w → IsOwner t x w c) where
   awaiting_owns : (x : ℕ) (w : Exchange) (p : Place) → IsAwaiting x w p → may_own p ≡ true
-  awaiting_owns x w p (owners.direct way at) = ap may_own at
-  awaiting_owns x w p (owners.turn way at) = ap may_own at
-  awaiting_owns x w p (owners.hole r lo hi how way aim at) = ap may_own at
+  awaiting_owns x w p it3 = grind (arith, nat_tests)
 
   module _ (x : ℕ) (w : Exchange) (row : t.exchange x ≡ Some w) (on : w.is_open ≡ true) where
     -- of no representation
@@ -42,17 +38,12 @@ module _ (t : Tables) (s : Sound t) (o : Owners t) (one : IsOfOneKey t) (places 
 
   -- who owns an open one
   stands_by : (c x : ℕ) (k : Consumer) → t.consumer c ≡ Some k → own_open t k ≡ Some x → (p : Place) → k.place ≡ p → may_own p ≡ true
-  stands_by c x k row own place.Line at = absurd (none_some x (sym (places.line c k row at).unowned ∙ own))
-  stands_by c x k row own (place.Passed r kept) at = absurd (none_some x (sym (places.passed c r kept k row at).unowned ∙ own))
-  stands_by c x k row own (place.Down why) at = absurd (none_some x (sym (places.down c why k row at).unowned ∙ own))
-  stands_by c x k row own place.Over at = absurd (none_some x (sym (places.over c k row at) ∙ own))
-  stands_by c x k row own _ at = refl
+  stands_by c x k row own p at = grind (arith, nat_tests)
 
   writer_of_key : (r x : ℕ) (v : Representation) → t.representation r ≡ Some v → v.writer ≡ Some x → IsOfKey t x v.key
   writer_of_key r x v there writer =
       let its = one.exchanges.writers r x v there writer in
-      let opener = one.exchanges.opener x its.0 its.1 in
-      record { w = its.0; row = its.1; k = opener.0; opener = opener.1; key_is = sym opener.2 ∙ sym its.2 }
+      grind (arith, nat_tests)
 
   pub whose_by : Whose t
   whose_by = record {

@@ -2,12 +2,12 @@
 --
 -- A plan that binds does so for a reason: each plan is gone through (`bare_why`, `plan_why`), and the reason is
 -- freshness, or the 304 that is kept (`by_kept`). Who stands where it is shown a head was brought it by its own
--- exchange, or by its first hole that joined (`bound_shown`, `answer_shown`). A poll shows by where its consumer stands
+-- exchange, or by its first hole that joined (`bound_shown`). A poll shows by where its consumer stands
 -- or by its plan (`by_moves`). `shown_why` says so of the move of a poll.
-use Rattle.std.{proofs.Common.{◌≡◌, inl, inr, ℕ, ◌+◌, Bool, true, false, Option, Some, None, refl, ap, sym, ◌∙◌}, specs.{Prelude.{is_none, ◌&&◌, nat_le}, Option.{option_map}}}
+use Rattle.std.{proofs.{lemmas.Bool.Decides.{nat_tests}, Common.{arith, ◌≡◌, inl, inr, ℕ, Bool, true, false, Option, Some, None, refl, ap, sym, ◌∙◌}}, specs.{Prelude.{is_none, ◌&&◌}, Option.{option_map}}}
 use Rattle.hc_text.proofs.Basics.{bool_cases, not_some as none_some, some_inj}
 use Rattle.hc_range.specs.declared.range.Span.{Span}
-use Rattle.hc_effects.proofs.Vocabulary.{Request, Response, Why, Candidate, Plan, PlanView, Wanted, plan_of, bare_plan, in_time, from_store, by_current, by_why, by_wanted, by_exclusive, by_hole, by_bound, plan_on, why_by, queues, BoundBy, Place, kept_by, current, total_in, Move, Nothing, Shows, shows_stored, opens_hole, plan_view, plan_move, candidate, binds_current, move_of, shows_at, shows_bound, shows_direct, shows_answer, has_joined, hi_of, Tables, Exchange, Representation, Consumer, Sound, need, plan, wanted, by, place}
+use Rattle.hc_effects.proofs.Vocabulary.{Request, Response, Why, Candidate, Plan, PlanView, Wanted, plan_of, bare_plan, in_time, from_store, by_current, by_why, by_wanted, by_exclusive, by_hole, by_bound, plan_on, why_by, queues, BoundBy, Place, kept_by, current, total_in, Move, Nothing, Shows, shows_stored, opens_hole, plan_view, plan_move, candidate, binds_current, move_of, shows_at, shows_bound, shows_direct, shows_answer, has_joined, hi_of, Tables, Exchange, Representation, Consumer, Sound, need, plan, by, place}
 use Rattle.hc_event.specs.declared.act.Why.TheVariants as why_is
 use Rattle.hc_fresh.specs.Facts.{allowed}
 use Rattle.hc_effects.proofs.{Joining.{mix}, MoveBy.{shows, reads, plans, MoveBy, move_by}, ShownOnce.{is_showing, shown_shows}}
@@ -20,34 +20,8 @@ IsWhy v (plan.Bind why span) = (s : Candidate) × (v.current ≡ Some s) × (why
 IsWhy v _ = Unit {0}
 
 module _ (v : PlanView) where
-  module _ (s : Candidate) (at : v.current ≡ Some s) where
-    bound_why : (span hole : Span) (o : Option ℕ) → IsWhy v (by_bound v span hole o)
-    bound_why span hole None = tt
-    bound_why span hole (Some d) = tt
-
-    module _ (why : Why) (is : why_by v.kept s.allowed ≡ Some why) where
-      hole_why : (span : Span) (o : Option Span) → IsWhy v (by_hole v s why span o)
-      hole_why span None = (s, at, is)
-      hole_why span (Some hole) = bound_why span hole s.least_bound
-
-      exclusive_why : (span : Span) (o : Option ℕ) → IsWhy v (by_exclusive v s why span o)
-      exclusive_why span None = hole_why span s.hole
-      exclusive_why span (Some d) = tt
-
-      wanted_why : (w : Wanted) → IsWhy v (by_wanted v s why w)
-      wanted_why (wanted.Interval span) = mix (IsWhy v) s.writing _ _ tt (exclusive_why span s.exclusive)
-      wanted_why _ = tt
-
-      on_why : IsWhy v (plan_on v s why)
-      on_why = mix (IsWhy v) (is_none v.class.range && s.writing) (plan.Bind why None) (by_wanted v s why s.span) (s, at, is) (wanted_why s.span)
-
-    why_why : (o : Option Why) → why_by v.kept s.allowed ≡ o → IsWhy v (by_why v s o)
-    why_why None is = tt
-    why_why (Some why) is = on_why why is
-
   current_why : (o : Option Candidate) → v.current ≡ o → IsWhy v (by_current v o)
-  current_why None is = tt
-  current_why (Some s) is = mix (IsWhy v) s.vary (by_why v s (why_by v.kept s.allowed)) _ (why_why s is (why_by v.kept s.allowed) refl) tt
+  current_why o is = grind (arith, nat_tests)
 
   bare_why : IsWhy v (bare_plan v)
   bare_why =
@@ -56,13 +30,10 @@ module _ (v : PlanView) where
       (mix (IsWhy v) v.class.bypassing (plan.Fetch need.Bypass) (by_current v v.current) tt (current_why v.current refl)))
 
   in_time_why : (p : Plan) → IsWhy v p → IsWhy v (in_time v p)
-  in_time_why (plan.Turn d) is = mix (IsWhy v) (nat_le (v.since + 20) v.moment) (plan.Direct need.TimedOut) (plan.Turn d) tt tt
-  in_time_why (plan.Busy d kept) is = mix (IsWhy v) (nat_le (v.since + 20) v.moment) (plan.Direct need.TimedOut) (plan.Busy d kept) tt tt
-  in_time_why _ is = is
+  in_time_why p is = grind (arith, nat_tests)
 
   from_store_why : (p : Plan) → IsWhy v p → IsWhy v (from_store p)
-  from_store_why (plan.Bind why span) is = is
-  from_store_why _ is = tt
+  from_store_why p is = grind (arith, nat_tests)
 
   plan_why : IsWhy v (plan_of v)
   unfolding plan_of
@@ -81,13 +52,10 @@ module _ (t : Tables) (now c : ℕ) (k : Consumer) (r lo : ℕ) (hi : Option ℕ
     keeps : (x : ℕ) → kept_by k.place ≡ Some x → current t k.request.key ≡ Some r → why ≡ why_is.Validated x → ShownWhy
 
   stored_why : (q : ℕ) (y : Why) (ranged : Bool) (a : ℕ) (b : Option ℕ) (z : Option Representation) → shows_stored q y ranged a b z ≡ show → (q ≡ r) × (y ≡ why)
-  stored_why q y ranged a b None is = absurd (let no : Nothing ≡ show = is in cc)
-  stored_why q y ranged a b (Some v) is = (cc, cc)
+  stored_why q y ranged a b z is = grind (arith, nat_tests)
 
   bound_shown : (q a : ℕ) (b d : Option ℕ) (how : BoundBy) → k.place ≡ place.Bound q a b how → shows_bound t k q a d how ≡ Some show → ShownWhy
-  bound_shown q a b d by.Founding at is =
-      let got = stored_why q _ _ a d (t.representation q) (some_inj _ show is) in
-      fetched (sym got.1 ∙ ap why_is.Fetched got.0)
+  bound_shown q a b d by.Founding at is = grind (arith, nat_tests)
   bound_shown q a b d (by.FirstHole y) at is = elim (bool_cases (has_joined (t.exchange y))) [
     | inr off ↦ absurd (none_some show (rw off at is))
     | inl joined ↦
@@ -96,16 +64,8 @@ module _ (t : Tables) (now c : ℕ) (k : Consumer) (r lo : ℕ) (hi : Option ℕ
   ]
   bound_shown q a b d by.Plan at is = absurd (none_some show is)
 
-  answer_shown : (x : ℕ) (w : Exchange) (z : Option Response) → shows_answer t x w z ≡ Some show → ShownWhy
-  answer_shown x w None is = absurd (none_some show is)
-  answer_shown x w (Some response) is =
-      let number : x ≡ r = cc in
-      let its : why_is.Fetched x ≡ why = cc in
-      fetched (sym its ∙ ap why_is.Fetched number)
-
   direct_shown : (x : ℕ) (z : Option Exchange) → shows_direct t x z ≡ Some show → ShownWhy
-  direct_shown x None is = absurd (none_some show is)
-  direct_shown x (Some w) is = answer_shown x w w.head is
+  direct_shown x z is = grind (arith, nat_tests)
 
   at_shown : (p : Place) → k.place ≡ p → shows_at t k p ≡ Some show → ShownWhy
   at_shown (place.Bound q a b how) at is = bound_shown q a b (hi_of t k.place) how at is
@@ -115,8 +75,7 @@ module _ (t : Tables) (now c : ℕ) (k : Consumer) (r lo : ℕ) (hi : Option ℕ
   -- BY ITS PLAN
 
   candidate_allows : (q : ℕ) (o : Option Representation) (s : Candidate) → t.representation q ≡ o → option_map (λ v. candidate t now q k.request v) o ≡ Some s → (v : Representation) × (t.representation q ≡ Some v) × (s.allowed ≡ allowed v.head k.request now)
-  candidate_allows q None s row is = absurd (none_some s is)
-  candidate_allows q (Some v) s row is = (v, row, sym (ap (λ (z : Candidate). z.allowed) (some_inj (candidate t now q k.request v) s is)))
+  candidate_allows q o s row is = grind (arith, nat_tests)
 
   by_kept : (s : Candidate) (y : Why) (o : Option ℕ) → kept_by k.place ≡ o → (plan_view t now c k).current ≡ Some s → why_by o s.allowed ≡ Some y → y ≡ why → current t k.request.key ≡ Some r → ShownWhy
   by_kept s y (Some x) kept at is same number = keeps x kept number (sym same ∙ sym (some_inj (why_is.Validated x) y is))
@@ -134,8 +93,7 @@ module _ (t : Tables) (now c : ℕ) (k : Consumer) (r lo : ℕ) (hi : Option ℕ
       by_kept reason.0 y (kept_by k.place) refl reason.1 reason.2 got.1 (at ∙ ap Some got.0)
 
   hole_shows : (request : Request) (o : Option Representation) (hole : Span) → opens_hole t request o hole ≡ show → ⊥
-  hole_shows request None hole is = cc
-  hole_shows request (Some v) hole is = cc
+  hole_shows request o hole is = grind (arith, nat_tests)
 
   by_plan : (p : Plan) → IsWhy (plan_view t now c k) p → plan_move t k p ≡ show → ShownWhy
   by_plan (plan.Bind y span) reason is = bind_by y span (current t k.request.key) refl reason is

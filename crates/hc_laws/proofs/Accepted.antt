@@ -44,7 +44,8 @@ module _ (limits : Limits) (t : Tables) (e : Entry) (is : IsOwed limits t e) (x 
 
   -- behind a head it has one
   head_of : Option Exchange → Bool
-  head_of it0 = grind (arith, nat_tests)
+  head_of None = true
+  head_of (Some u) = is_some u.head
 
   pub has_head : (response : Response) → e.event ≡ event.Head x response → (u : Exchange) → (after t e).exchange x ≡ Some u → is_some u.head ≡ true
   unfolding after exchange_after refusals.refusal_of head_of

@@ -1,9 +1,9 @@
 -- How a run ends over streams that never fail, by its words and its input.
 --
 -- Streams that never fail count no fault, so status 3 and 4 don't come (`faultless`). What is left says what was owed
--- (`by_owed`). The first word tells what was done (`asked`). What was refused is the text that was left
--- (`refusal_is`), and a text that spells items isn't refused. A text begins with one image at most, which is refused
--- or not (`image_apart`). So the status is the one that is due, or that of want of memory, and the other cases contradict the
+-- (`by_owed`). The first word tells what was done (`asked`). What was refused is the text that was left (`refusal_is`),
+-- and a text that spells items isn't refused. A text begins with one image at most, which is refused or not
+-- (`image_apart`). So the status is the one that is due, or that of want of memory, and the other cases contradict the
 -- words or the input.
 use Rattle.std.{proofs.{Common.{◌≡◌, ◌⊎◌, ℕ, List, Option, Some, None, [], ◌∷◌, true, false, refl, ap, sym, ◌∙◌, subst, inl, inr, arith}, lemmas.Slice.Eq.{bytes_eq-Decides}}, specs.Prelude.{codes, bytes_eq}}
 use Rattle.hc_io.specs.{Faults.{HasRisen}, Source.{Gives}}

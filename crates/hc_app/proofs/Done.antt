@@ -1,9 +1,9 @@
 -- What the program did, by how a replay or a generation ended.
 --
 -- A store in memory counts no failure, so a run over it tells none (`whole`), and how far events were replayed tells
--- the report that is owed or begun (`reported`, `begun`). An ending and what was told of it have the ending in common, so at each there
--- are one or three cases (`does_replay`, `does_generate`). What the streams counted is handed on as the calls
--- below told it.
+-- the report that is owed or begun (`reported`, `begun`). An ending and what was told of it have the ending in common,
+-- so at each there are one or three cases (`does_replay`, `does_generate`). What the streams counted is handed on as
+-- the calls below told it.
 use Rattle.std.{proofs.{Common.{◌≡◌, ◌≢◌, ℕ, List, [], ◌∷◌, Option, Err, refl, sym, subst, arith}, lemmas.List.{append-nil}}, specs.Result.{IsErrOf}}
 use Rattle.hc_io.specs.{Faults.{HasRisen}, declared.sink.SinkError.{SinkError}, Sink.{Takes, TakesFront}}
 use Rattle.hc_io.specs.declared.sink.SinkError.TheVariants as sink

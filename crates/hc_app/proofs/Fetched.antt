@@ -1,8 +1,8 @@
 -- What the program did, by how a fetch ended.
 --
--- What the words spell is a plan, or none (`is_plan`, `no_plan`, `no_parts`, `no_size`, `no_target`). A fetch ends as schedules do, or what
--- ended it early is told (`stopped_told`, `stopped_untold`). Each ending of a fetch is one of what is owed, or begun
--- (`does_fetch`). What a status says of faults it says of the ending that it comes from.
+-- What the words spell is a plan, or none (`is_plan`, `no_plan`, `no_parts`, `no_size`, `no_target`). A fetch ends as
+-- schedules do, or what ended it early is told (`stopped_told`, `stopped_untold`). Each ending of a fetch is one of
+-- what is owed, or begun (`does_fetch`). What a status says of faults it says of the ending that it comes from.
 use Rattle.std.{proofs.{Common.{◌≡◌, ◌≢◌, ℕ, ◌+◌, ◌≤◌, ◌^◌, List, [], ◌∷◌, length, Bool, true, false, Option, Some, None, Err, refl, sym, ap, ◌∙◌, subst, arith}, lemmas.Fmt.{decimal_injective}}, specs.{Prelude.{codes, bytes_eq, ◌==◌, if◌then◌else◌}, Option.{option_or}, Result.{IsErrOf}}}
 use Rattle.hc_text.proofs.Basics.{not_some as none_some, some_inj}
 use Rattle.hc_io.specs.{Faults.{HasRisen}, Sink.{Takes, TakesFront}, Source.{GivesAll}, declared.sink.SinkError.{SinkError}}

@@ -1,8 +1,8 @@
 -- What the program did, by how a replay behind a front ended.
 --
--- As at a replay: a store in memory counts no failure, so what the front told tells none (`fronted`), and how far events were
--- replayed tells the report that is owed or begun (`reported`, `begun`). An ending and what was told of it have the ending in
--- common, so at each there are one or three cases (`does_front`).
+-- As at a replay: a store in memory counts no failure, so what the front told tells none (`fronted`), and how far
+-- events were replayed tells the report that is owed or begun (`reported`, `begun`). An ending and what was told of it
+-- have the ending in common, so at each there are one or three cases (`does_front`).
 use Rattle.std.proofs.{Common.{◌≡◌, ◌≢◌, ℕ, List, [], ◌∷◌, Option, refl, sym, ap, ◌∙◌, subst, arith}, lemmas.List.{append-nil}}
 use Rattle.hc_io.specs.Faults.{HasRisen}
 use Rattle.hc_rules.specs.declared.room.Limits.{Limits}

@@ -1,5 +1,5 @@
--- What the program does. Read `Owing` first: what any command does with its streams, by its status. Then what each owes:
--- `Replaying`, `Generating`, `Saving`, `Opening`, `Fronting` and `Fetching`.
+-- What the program does. Read `Owing` first: what any command does with its streams, by its status. Then what each
+-- owes: `Replaying`, `Generating`, `Saving`, `Opening`, `Fronting` and `Fetching`.
 use Rattle.std.specs.Prelude.{◌≡◌, ◌⊎◌, ℕ, List, [], Option, Some}
 use Rattle.hc_sched.specs.declared.schedule.Refused.{Refused}
 use Rattle.hc_sched.specs.Laws.{refusal_of}

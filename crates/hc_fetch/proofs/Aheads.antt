@@ -1,9 +1,10 @@
 -- How the code keeps what is gathered.
 --
 -- Bytes are given at or before the end of what was written, or ahead of it. Over what they agree with, what stands
--- stands again (`over`). The former are written at once (`given_here`), the latter are kept, unless longer ones are (`kept`).
--- To write bytes is to append those from the end on (`written_on`): they are the gathered ones (`bytes_from`). Then the first that is
--- ahead is taken while it begins no later (`taken`); where none does, nothing is gathered at the end (`none_left`).
+-- stands again (`over`). The former are written at once (`given_here`), the latter are kept, unless longer ones are
+-- (`kept`). To write bytes is to append those from the end on (`written_on`): they are the gathered ones
+-- (`bytes_from`). Then the first that is ahead is taken while it begins no later (`taken`); where none does, nothing is
+-- gathered at the end (`none_left`).
 use Rattle.std.{proofs.{Common.{◌≡◌, ◌⊎◌, inl, inr, ℕ, zero, suc, ◌+◌, ◌-◌, ◌<◌, ◌≤◌, ◌^◌, min, List, ◌∷◌, ◌++◌, length, drop, Bool, true, false, Result, Ok, Err, Option, Some, None, refl, ap, sym, ◌∙◌, subst, arith, append_assoc}, Math.Seq.{drop-cons}, lemmas.{Bool.{cases_lt}, List.{append-nil, drop_all}, Map.Keys.{le_from_not_gt}}}, specs.{Prelude.{if◌then◌else◌, is_some, IsSome, IfSome, OnOk, slice_index}, Ordering.{nat_cmp}, BTreeMap.{Updates, IsLowerBound, btree_map_len, get}}}
 use Rattle.hc_text.proofs.Basics.{none_or, not_some as none_some, some_inj}
 use Rattle.hc_sparse.specs.Cells.{Cells, Cell, Covers, nothing, inside, cells_with}

@@ -1,8 +1,8 @@
 -- What a fetch writes is the body that its first consumer was shown.
 --
--- What an event gives is next in what its consumer was shown before, which is of the representation that was shown first
--- (`gives_first`). Bodies only grow, also by the fetch's own starts (`grows_behind`). So all that is gathered
--- stands in that body, by induction over the events (`gathered_there`); nothing is gathered before the first head.
+-- What an event gives is next in what its consumer was shown before, which is of the representation that was shown
+-- first (`gives_of`). Bodies only grow, also by the fetch's own starts (`goes_behind`). So all that is gathered stands
+-- in that body, by induction over the events (`gathered_there`); nothing is gathered before the first head.
 use Rattle.std.{proofs.Common.{◌≡◌, ℕ, zero, suc, ◌+◌, ◌<◌, List, [], ◌∷◌, ◌++◌, length, true, Option, Some, None, refl, ap, sym, ◌∙◌, subst, arith}, specs.{Prelude.{slice_index}, Option.{option_or}}}
 use Rattle.hc_text.proofs.Basics.{not_some as none_some, some_inj}
 use Rattle.hc_sparse.specs.Cells.{Cells, Cell}

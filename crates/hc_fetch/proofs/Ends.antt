@@ -1,8 +1,8 @@
 -- Where a body ends: no byte of it is past that, and it stays known.
 --
--- Of what is stored the end is its length, of an answer past the store what was promised, or what came. So no byte is past it
--- (`before_end`), and it stays by the law that the end of what is read stays (`end_kept`), which asks that an answer past the store has
--- its head: so that is kept beside (`KnownEnd`).
+-- Of what is stored the end is its length, of an answer past the store what was promised, or what came. So no byte is
+-- past it (`before_end`), and it stays by the law that the end of what is read stays (`end_kept`), which asks that an
+-- answer past the store has its head: so that is kept beside (`KnownEnd`).
 use Rattle.std.{proofs.{Common.{◌≡◌, inl, inr, ℕ, ◌+◌, ◌<◌, ◌≤◌, ◌∷◌, length, Bool, true, false, Option, Some, None, refl, ap, sym, ◌∙◌, subst, arith}, lemmas.Bool.Decides.{nat_tests}}, specs.Prelude.{◌&&◌, nat_le, nat_lt, is_some}}
 use Rattle.hc_text.proofs.Basics.{and_right, bool_cases, not_some as none_some, some_inj}
 use Rattle.hc_sparse.specs.Cells.{Cell}

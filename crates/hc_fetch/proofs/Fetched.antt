@@ -1,9 +1,10 @@
 -- What came of a fetch.
 --
--- Where the course led, the fetch is open behind the events, or the last one decided, or was foreign (`IsAt`). Where it isn't
--- over it is open, so all is written (`all_written`). Where it is over, the last event decided or was foreign (`over_ends`).
--- Where the sink or memory failed it is one of the three, and all was taken but a last part of what the last event
--- brought (`some_written`). What decides is no failure of the input or the output (`own_decided`), so their causes are the course's.
+-- Where the course led, the fetch is open behind the events, or the last one decided, or was foreign (`IsAt`). Where it
+-- isn't over it is open, so all is written (`all_written`). Where it is over, the last event decided or was foreign
+-- (`over_ends`). Where the sink or memory failed it is one of the three, and all was taken but a last part of what the
+-- last event brought (`some_written`). What decides is no failure of the input or the output (`own_decided`), so their
+-- causes are the course's.
 use Rattle.std.{proofs.{Common.{◌≡◌, ◌≢◌, ℕ, ◌+◌, List, [], ◌∷◌, ◌++◌, length, Bool, true, false, Option, Some, None, refl, ap, sym, ◌∙◌, subst}, lemmas.List.{append-nil}}, specs.{Prelude.{is_some, if◌then◌else◌}, Option.{option_or}}}
 use Rattle.hc_text.proofs.Basics.{nothing_first as nothing_more}
 use Rattle.hc_effects.proofs.Vocabulary.{Act, Limits, History, act}

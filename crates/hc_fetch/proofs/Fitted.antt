@@ -1,4 +1,5 @@
--- Where nothing was decided the first consumer was shown the whole, or a part of a known whole. So it is done just where the code says so.
+-- Where nothing was decided the first consumer was shown the whole, or a part of a known whole. So it is done just
+-- where the code says so.
 use Rattle.std.{proofs.{Common.{◌≡◌, ℕ, ◌==◌, List, [], ◌∷◌, length, Bool, true, false, Option, Some, None, refl, ap, sym, ◌∙◌, subst, arith}, lemmas.Bool.Decides.{nat_tests}}, specs.{Prelude.{if◌then◌else◌, is_some, is_none, not, ◌&&◌, ◌||◌}, Option.{option_or}}}
 use Rattle.hc_text.proofs.Basics.{and_right, not_some as none_some}
 use Rattle.hc_effects.proofs.Vocabulary.{History}

@@ -1,8 +1,8 @@
 -- What a consumer was given is gathered.
 --
--- By the law that runs read whole each act that gives bytes gives those behind what was given before. So along the acts of an entry what
--- was given, from where the consumer began, is gathered (`acts_cover`); and along the events, since the fetch's own starts give
--- nothing (`given_covered`).
+-- By the law that runs read whole each act that gives bytes gives those behind what was given before. So along the acts
+-- of an entry what was given, from where the consumer began, is gathered (`acts_cover`); and along the events, since
+-- the fetch's own starts give nothing (`given_covered`).
 use Rattle.std.{proofs.{Common.{◌≡◌, inl, inr, ℕ, ◌+◌, ◌<◌, ◌≤◌, List, [], ◌∷◌, ◌++◌, length, true, false, refl, ap, sym, ◌∙◌, subst, arith, append_assoc, length-append}, lemmas.Bool.{cases_lt}}, specs.Prelude.{◌==◌, is_some}}
 use Rattle.hc_text.proofs.Basics.{bool_cases, eqb-same}
 use Rattle.hc_sparse.specs.Cells.{Cells, cells_with}

@@ -1,9 +1,10 @@
 -- What is answered to one event, and what the fetch then stands for.
 --
--- The cache's acts are taken behind events that were heard (`decides_is`, `first_is`, `ended_is`). The cache stands for the run with
--- one event more, and with the starts behind it. So what is given agrees with what was gathered (`fit`), and all of it is
--- heard (`hears_more`). The others start in the code just where the run has their starts (`starts_as`). What stands in the fields
--- around the event, as the count, is no part of what was heard (`SameHeard`): so the step tells it of the whole fetch (`tells_so`).
+-- The cache's acts are taken behind events that were heard (`decides_is`, `first_is`, `ended_is`). The cache stands for
+-- the run with one event more, and with the starts behind it. So what is given agrees with what was gathered (`fit`),
+-- and all of it is heard (`hears_more`). The others start in the code just where the run has their starts
+-- (`starts_as`). What stands in the fields around the event, as the count, is no part of what was heard (`SameHeard`):
+-- so the step tells it of the whole fetch (`tells_so`).
 use Rattle.std.{proofs.Common.{◌≡◌, ℕ, ◌+◌, ◌<◌, ◌≤◌, ◌^◌, List, [], ◌∷◌, ◌++◌, length, Bool, true, false, Option, Some, None, refl, ap, sym, ◌∙◌, subst, arith}, specs.{Prelude.{if◌then◌else◌, is_some, is_none, ◌&&◌, ◌||◌}, Option.{option_or}}}
 use Rattle.hc_text.proofs.Basics.{both_true as and_both, not_some as none_some}
 use Rattle.hc_sparse.specs.Cells.{nothing}

@@ -1,9 +1,10 @@
 -- What is taken of acts, one after another.
 --
--- What is taken of one act, and then of the others behind it, is taken of all of them (`takes_then`): what decides first stays,
--- as does what was shown first, and what one act gives is kept over what was there. The loop goes from the first act on, so it
--- keeps that whatever is taken of the acts that are left makes what is taken of all. A head is seen (`takes_shown`), bytes are given
--- (`takes_given`), an end is told (`takes_ended`), and nothing is taken of an act of another kind.
+-- What is taken of one act, and then of the others behind it, is taken of all of them (`takes_then`): what decides
+-- first stays, as does what was shown first, and what one act gives is kept over what was there. The loop goes from the
+-- first act on, so it keeps that whatever is taken of the acts that are left makes what is taken of all. A head is seen
+-- (`takes_shown`), bytes are given (`takes_given`), an end is told (`takes_ended`), and nothing is taken of an act of
+-- another kind.
 use Rattle.std.{proofs.{Common.{◌≡◌, ℕ, suc, ◌+◌, ◌<◌, ◌≤◌, ◌==◌, get_or, drop, length, List, [], ◌∷◌, Bool, true, false, Option, Some, None, refl, ap, sym, ◌∙◌, subst, arith}, Math.Seq.{drop-cons}, lemmas.{Bool.Decides.{nat_tests}, List.{drop_all}}}, specs.{Prelude.{◌||◌, if◌then◌else◌, is_some}, Option.{option_or}}}
 use Rattle.hc_text.proofs.Basics.{not_some as none_some, or_false, or_none}
 use Rattle.hc_sparse.specs.Cells.{Cells, cells_with}

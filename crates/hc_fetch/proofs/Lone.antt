@@ -1,9 +1,9 @@
--- The first consumer is alone until it is shown a head, and asks the origin by its turn.
+-- The first consumer has the turn as long as it is alone, and asks the origin for what is missed.
 --
--- While no other consumer starts, the turn is its own (`turn_is`). Where it reads nothing yet, nothing is current for its key, so its
--- plan is to fetch what is missed (`planned`): each exchange is opened for that (`misses`), and none goes past the store from the
--- beginning. What a head founds binds the first consumer, and what it is bound to it leaves by a doom alone, by
--- which that goes: so where it is free again, nothing is current (`free_before`). It goes past the store by a head that isn't bad.
+-- While no other consumer starts, the line of the key has the first one alone, so the turn is its own (`turn_is`). Its
+-- request is a plain one. Where nothing is current for its key, no row of the plan before that of a miss applies
+-- (`bare`). So its plan is to fetch what is missed (`planned`). It asks for a first part or for all (`first_range`), so
+-- what it wants begins at the first position (`wanted_first`). By these it is followed over a run.
 use Rattle.std.{proofs.Common.{◌≡◌, inl, inr, ℕ, ◌-◌, ◌<◌, ◌^◌, List, [], ◌∷◌, ◌++◌, Bool, true, false, Option, Some, None, refl, ap, sym, ◌∙◌, arith}, specs.{Prelude.{◌==◌, ◌&&◌, ◌||◌, not, codes, nat_lt, filter, find, unwrap_or, if◌then◌else◌}, Option.{option_or}, Fmt.{decimal}}}
 use Rattle.hc_text.proofs.{Basics.{bool_cases}, NumberLemmas.{IsNumber-decimal}}
 use Rattle.hc_effects.proofs.Vocabulary.{need, wanted, plan as plans, Wanted, Plan, PlanView, least, lesser, plan_of, bare_plan, in_time, from_store, queues, is_back, asked_in, class_of, is_disabled, is_only, is_bypassing, range_of, wanted_of, current, line, holder, turn_with, is_in_line, holds_turn, plan_view, planned_move, Tables, Consumer}

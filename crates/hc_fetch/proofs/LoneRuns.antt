@@ -1,8 +1,9 @@
 -- The first consumer stays alone, and where it is free nothing is current, until it is shown a head.
 --
--- By a poll it is shown a head, waits for one, or opens an exchange for what is missed (`lone_move`). By an entry it stands where it
--- stood, or the head of its exchange binds it or puts it past the store, or it starts over, which it does where it was free (`place_after`).
--- So where it is free after an entry it was before, and nothing was founded (`free_before`): what is current stays or goes.
+-- By a poll it is shown a head, waits for one, or opens an exchange for what is missed (`lone_move`). By an entry it
+-- stands where it stood, or the head of its exchange binds it or puts it past the store, or it starts over, which it
+-- does where it was free (`place_after`). So where it is free after an entry it was before, and nothing was founded
+-- (`free_before`): what is current stays or goes.
 use Rattle.std.{proofs.Common.{◌≡◌, ◌⊎◌, inl, inr, ℕ, ◌+◌, ◌<◌, ◌^◌, List, Bool, true, false, Option, Some, None, refl, ap, sym, ◌∙◌, subst, arith}, specs.{Prelude.{◌==◌, ◌&&◌, ◌||◌, not, nat_eq, nat_le, is_none, is_some, if◌then◌else◌}, Option.{option_and_then, option_or}}}
 use Rattle.hc_text.proofs.Basics.{and_left, and_right, bool_cases, either, not_some as none_some, or_cases, some_inj, eq_is as status_is}
 use Rattle.hc_effects.proofs.Vocabulary.{Opening, opening_in, leaves_in, shows_in, Cause, Need, Wait, Why, Event, Request, Response, BoundBy, Place, content_range_of, HeadCase, HeadView, Wanted, Limits, head_case, turn_case, case_on, fits_to_found, fits_part, length_of, is_bad, route_of, is_disabled, is_only, is_bypassing, range_of, wanted_of, Showing, showing_in, wait_in, has_loss, Aims, case_at, case_of, head_view, is_founding, fits_asker, bound_to_wanted, place_by_case, consumer_heard, by_head, by_fault, waiting_place, waiting, opened_place, unless_bound, by_opening, shown_place, consumer_acted, consumer_settled, consumer_made, consumer_after, current, denial, doomed_key_of, doomed_in, is_key, Entry, is_headless, exchange_at, is_for, flaw_in, founded_total, total_of_part, Move, Nothing, Opens, Shows, Fails, shows_stored, IsPast, IsAwaiting, Passed, move_of, shows_head, shows_at, shows_bound, shows_direct, shows_answer, has_joined, or_else, waits_for_head, if_headless, by_place, own_open, bound_to, Tables, Exchange, Representation, Consumer, new_representation, length_in, starts_over, waits_at, sends_back, loses_what_it_waits_for, after_accepted, after_denied, cause, need, wait, event, place, range, case, wanted}

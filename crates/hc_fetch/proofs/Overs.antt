@@ -1,8 +1,8 @@
 -- What was gathered stays where more that agrees with it is gathered, and what is written is read off from it.
 --
--- A byte that was gathered is the same in all that is gathered over it (`over_all`), so bytes without a gap are the same
--- there (`bytes_same`). No byte is gathered at or behind `given_end` (`given_below`). So where all up to some position
--- is gathered, and nothing there, what is written are the bytes up to it (`written_is`).
+-- A byte that was gathered is the same in all that is gathered over it (`over_all`), so bytes without a gap are the
+-- same there (`bytes_same`). No byte is gathered at or behind `given_end` (`given_below`). So where all up to some
+-- position is gathered, and nothing there, what is written are the bytes up to it (`written_is`).
 use Rattle.std.{proofs.{Common.{◌≡◌, inl, inr, ℕ, zero, suc, ◌+◌, ◌-◌, ◌<◌, ◌≤◌, max, List, [], ◌∷◌, ◌++◌, length, Bool, Option, Some, None, refl, ap, sym, ◌∙◌, subst, arith}, lemmas.List.{append-nil}}, specs.Prelude.{is_some, if◌then◌else◌, slice_index}}
 use Rattle.hc_text.proofs.Basics.{not_some as none_some}
 use Rattle.hc_sparse.specs.Cells.{Cells, Cell, Covers, cells_with}

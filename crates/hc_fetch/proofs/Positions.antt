@@ -1,7 +1,7 @@
 -- What is given agrees with what was gathered, and no byte of it is past 2^62.
 --
--- A body has no byte at or past 2^62 where fewer were received (`below_most`). What an event gives is some bytes of the body that
--- was shown first, and so is what was gathered before: so both agree (`all_fit`).
+-- A body has no byte at or past 2^62 where fewer were received (`below_most`). What an event gives is some bytes of the
+-- body that was shown first, and so is what was gathered before: so both agree (`all_fit`).
 use Rattle.std.{proofs.{Common.{◌≡◌, ◌≢◌, inl, inr, ℕ, ◌+◌, ◌-◌, ◌<◌, ◌≤◌, ◌^◌, List, [], ◌∷◌, length, true, Option, Some, None, refl, ap, sym, ◌∙◌, arith}, lemmas.Bool.{cases_lt}}, specs.Prelude.{if◌then◌else◌, ◌&&◌}}
 use Rattle.hc_text.proofs.Basics.{not_some as none_some, some_inj}
 use Rattle.hc_sparse.specs.Cells.{Cells, Cell, EndsBy, cells_with}

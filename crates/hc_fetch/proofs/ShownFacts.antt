@@ -1,8 +1,9 @@
 -- What the first consumer is shown tells where the body ends.
 --
--- It is shown what its head founded, or its answer past the store (`LoneMove`). A 206 of what is stored tells the length that is
--- stored; one past the store brings a part of its whole, and isn't bad: so the end is known, and no later than what is told
--- (`part`). A 200 begins at the first position, and where an end is shown that is the end of the body (`whole`).
+-- It is shown what its head founded (`stored_shown`), or its answer past the store (`direct_shown`). A 206 of what is
+-- stored tells the length that is stored. One past the store brings a part of its whole, and isn't bad. So the end is
+-- known, and no later than what is told (`part`). A 200 begins at the first position, and where an end is shown that is
+-- the end of the body (`whole`).
 use Rattle.std.{proofs.{Common.{◌≡◌, ℕ, ◌+◌, ◌-◌, ◌<◌, ◌≤◌, List, [], ◌∷◌, Bool, true, false, inl, inr, Option, Some, None, refl, ap, sym, ◌∙◌, subst, arith}, lemmas.Bool.Decides.{nat_tests}}, specs.{Prelude.{◌==◌, ◌&&◌, codes, map, filter, nat_eq, is_some}, Option.{option_or, option_and_then}, Fmt.{decimal}}}
 use Rattle.hc_text.proofs.Basics.{bool_cases, not_some as none_some, same_bytes as same_name, some_inj, and_right, and_left}
 use Rattle.hc_fields.specs.{FieldList.{comes_before, field_list_with, has_name, values_of, without}, FirstValues.{only_of}}

@@ -1,8 +1,8 @@
 -- Whoever was shown a head was shown the representation of the first one, where nothing was decided.
 --
--- An entry that decides nothing shows the first head, or heads of the representation that was shown first (`all_first`).
--- The fetch's own starts have no acts (`starts_silent`), so what was shown in the history of the cache was shown
--- by the events of the input (`shown_first`, by induction over these).
+-- An entry that decides nothing shows the first head, or heads of the representation that was shown first
+-- (`all_first`). The fetch's own starts have no acts (`starts_silent`), so what was shown in the history of the cache
+-- was shown by the events of the input (`shown_first`, by induction over these).
 use Rattle.std.{proofs.Common.{◌≡◌, ℕ, zero, suc, ◌+◌, ◌==◌, List, [], ◌∷◌, ◌++◌, Bool, true, false, Option, Some, None, refl, ap, sym, ◌∙◌, subst, arith}, specs.{Prelude.{if◌then◌else◌, is_none, ◌&&◌}, Option.{option_or}}}
 use Rattle.hc_text.proofs.Basics.{and_left, and_right, not_some as none_some}
 use Rattle.hc_effects.proofs.Vocabulary.{Act, Entry, History, entry_without_acts, Shown, shown_in, shown_of, act}

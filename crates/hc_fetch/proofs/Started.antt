@@ -1,9 +1,9 @@
 -- Which consumers started, and how many bytes came.
 --
--- Only starts change who started (`started_on`, `started_more`), and no more are live than started (`few_live`). Before the first
--- head nobody starts behind an event (`none_behind`). So where no event is foreign, at most the first consumer started
--- then (`one_started`). An entry brings the bytes of its event, denied or not (`brings`), and the fetch's own starts bring none
--- (`starts_bring`).
+-- Only starts change who started (`started_on`, `started_more`), and no more are live than started (`few_live`). Before
+-- the first head nobody starts behind an event (`none_behind`). So where no event is foreign, at most the first
+-- consumer started then (`one_started`). An entry brings the bytes of its event, denied or not (`brings`), and the
+-- fetch's own starts bring none (`starts_bring`).
 use Rattle.std.{proofs.Common.{◌≡◌, ℕ, zero, suc, ◌+◌, ◌≤◌, List, [], ◌∷◌, ◌++◌, length, Bool, true, false, Option, Some, None, refl, ap, sym, ◌∙◌, subst, arith}, specs.Prelude.{if◌then◌else◌, ◌&&◌, ◌==◌}}
 use Rattle.hc_text.proofs.Basics.{filter_short as few_pass}
 use Rattle.hc_effects.proofs.Vocabulary.{is_denied, Event, Request, live, is_live, Entry, History, no_contents, entry_without_acts, Tables, tables, after, after_accepted, after_denied, last_start_after, starts_after, received_in}

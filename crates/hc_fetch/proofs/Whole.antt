@@ -1,9 +1,10 @@
 -- At Done all of the body was written.
 --
--- Until it is shown a head the first consumer is alone (`lone_before`). What that head tells of the end is known from then on, and so is
--- the end where the consumer is told it (`FirstKnown`, by induction over the events in `first_known`). What is written is the front of what is
--- gathered, none of which is past the end. After a part as much was written as the whole has, which is no less than the end; after the
--- whole the consumer was given all up to the end, and that is gathered: so what is written ends where the body does.
+-- Until it is shown a head the first consumer is alone (`lone_before`). What that head tells of the end is known from
+-- then on, and so is the end where the consumer is told it (`FirstKnown`, by induction over the events in
+-- `first_known`). What is written is the front of what is gathered, none of which is past the end. After a part as much
+-- was written as the whole has, which is no less than the end; after the whole the consumer was given all up to the
+-- end, and that is gathered: so what is written ends where the body does.
 use Rattle.std.{proofs.Common.{◌≡◌, ◌⊎◌, inl, inr, ℕ, zero, suc, ◌+◌, ◌<◌, ◌≤◌, List, [], ◌∷◌, ◌++◌, length, true, false, Option, Some, None, refl, ap, sym, ◌∙◌, subst, arith, length-append}, specs.{Prelude.{◌==◌, ◌||◌, is_some, if◌then◌else◌}, Option.{option_or}}}
 use Rattle.hc_text.proofs.Basics.{bool_cases, nil_cons, not_some as none_some, some_inj}
 use Rattle.hc_sparse.specs.Cells.{Cells, Cell, cells_with}

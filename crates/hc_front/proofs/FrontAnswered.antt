@@ -1,9 +1,10 @@
 -- How the front answers, from how its cache did.
 --
--- The cache answers what is handed on, and stands for its history with that entry more: that is the history of the cache behind
--- the front's event, by definition. What is kept of each consumer is as it is to be (Watchings). So the front stands for one
--- event more (`answers`), whichever way the event was answered: as it came (`passes`, `starts_unwatched`, `polls_unwatched`,
--- `cancels`), without its condition (`starts_denied`, `starts_on`), by an end (`polls_end`), or by a 304 (`polls_on`).
+-- The cache answers what is handed on, and stands for its history with that entry more: that is the history of the
+-- cache behind the front's event, by definition. What is kept of each consumer is as it is to be (Watchings). So the
+-- front stands for one event more (`answers`), whichever way the event was answered: as it came (`passes`,
+-- `starts_unwatched`, `polls_unwatched`, `cancels`), without its condition (`starts_denied`, `starts_on`), by an end
+-- (`polls_end`), or by a 304 (`polls_on`).
 use Rattle.std.{proofs.Common.{◌≡◌, ℕ, Bool, true, false, List, [], ◌∷◌, ◌++◌, map, Option, Some, None, refl, sym, ap, ◌∙◌, subst, arith}, specs.{Prelude.{nat_eq, if◌then◌else◌}, List.{list_any}}}
 use Rattle.hc_store.specs.declared.backend.Backend.{Ghosts}
 use Rattle.hc_effects.proofs.Vocabulary.{is_denied, leaves_in, Act, Event, Request, Contents, Flaw, flaw_in, failures_in, is_fault, Lawful, Tables, IsOwed, act}

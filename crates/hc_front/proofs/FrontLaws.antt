@@ -1,7 +1,7 @@
 -- Where nobody asks on condition of a copy, the front changes nothing.
 --
--- Nobody is under watch then (`nobody_watched`): only a start of an external request puts somebody there. So what is handed on is
--- what came, and what is told is what was heard (`plain_else`).
+-- Nobody is under watch then (`nobody_watched`): only a start of an external request puts somebody there. So what is
+-- handed on is what came, and what is told is what was heard (`plain_else`).
 use Rattle.std.{proofs.Common.{◌≡◌, ℕ, Bool, true, false, List, [], ◌∷◌, Option, Some, None, refl, sym, ap, ◌∙◌}, specs.Prelude.{◌&&◌, not, nat_eq, if◌then◌else◌}}
 use Rattle.hc_effects.proofs.Vocabulary.{is_denied, Act, Event, Request, is_live, Entry, History, Contents, Tables, Consumer, after}
 use Rattle.hc_event.specs.declared.event.Event.TheVariants as event

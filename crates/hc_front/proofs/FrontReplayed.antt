@@ -1,8 +1,8 @@
 -- What was stepped behind a front and reported goes on with a front history, and is its report.
 --
--- A step takes each front history that the front stands for to that with one event more. What was heard at the steps is put
--- together behind what the front stood for (`led`): so it stands for that, and what it told is what was reported. The history of
--- the cache is a run then, in which consumers read whole, by a law (`goes_on`).
+-- A step takes each front history that the front stands for to that with one event more. What was heard at the steps is
+-- put together behind what the front stood for (`led`): so it stands for that, and what it told is what was reported.
+-- The history of the cache is a run then, in which consumers read whole, by a law (`goes_on`).
 use Rattle.std.proofs.Common.{◌≡◌, ℕ, ◌+◌, ◌≤◌, List, [], ◌∷◌, ◌++◌, length, true, Option, refl, ap, sym, ◌∙◌, subst, arith}
 use Rattle.hc_store.specs.declared.backend.Backend.{Ghosts}
 use Rattle.hc_effects.proofs.Vocabulary.{Act, Event, Limits, Contents, IsRun}

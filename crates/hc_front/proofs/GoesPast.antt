@@ -1,8 +1,9 @@
 -- A request on condition of a copy that isn't under watch goes to the origin as it is.
 --
--- Such a request goes past the cache (`past`): it has a condition of the caller's own. Its consumer has only started, so no head
--- is there for it and none comes. Its poll does its plan, which opens an exchange with its request (`opens`). A store that doesn't
--- fail loses nothing by a poll, so this is all that is answered. The front hands the poll on, and tells the same.
+-- Such a request goes past the cache (`past`): it has a condition of the caller's own. Its consumer has only started,
+-- so no head is there for it and none comes. Its poll does its plan, which opens an exchange with its request
+-- (`opens`). A store that doesn't fail loses nothing by a poll, so this is all that is answered. The front hands the
+-- poll on, and tells the same.
 use Rattle.std.{proofs.Common.{◌≡◌, ℕ, ◌+◌, Bool, true, false, List, [], ◌∷◌, Option, Some, None, refl, ap, sym, ◌∙◌, subst}, specs.Prelude.{◌&&◌, ◌||◌, not, codes, is_none, if◌then◌else◌}}
 use Rattle.hc_fields.specs.FirstValues.{has_field}
 use Rattle.hc_cachectl.specs.Directives.{of_request}

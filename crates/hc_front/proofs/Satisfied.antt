@@ -1,9 +1,9 @@
 -- Who is told that its copy holds is given nothing, before and later.
 --
--- What the front tells of bytes is what the cache gives (`given_told`). A consumer becomes satisfied by a poll of its own that
--- shows it a head. By that poll it is given nothing (`shows_alone`), and before its one head nothing was: a law of hc_model. From
--- then on its polls that want bytes are cancels, and those that want none are denied (`quiet`). So it stays satisfied until it is
--- over, and is over then (`stays`).
+-- What the front tells of bytes is what the cache gives (`given_told`). A consumer becomes satisfied by a poll of its
+-- own that shows it a head. By that poll it is given nothing (`shows_alone`), and before its one head nothing was: a
+-- law of hc_model. From then on its polls that want bytes are cancels, and those that want none are denied (`quiet`).
+-- So it stays satisfied until it is over, and is over then (`stays`).
 use Rattle.std.{proofs.{Common.{◌≡◌, ◌⊎◌, inl, inr, ℕ, ◌+◌, ◌≤◌, Bool, true, false, List, [], ◌∷◌, ◌++◌, length, map, Option, Some, None, refl, sym, ap, ◌∙◌, subst, arith, length-append}, lemmas.Bool.Decides.{nat_tests}}, specs.{Prelude.{◌&&◌, ◌||◌, not, nat_eq, nat_lt, if◌then◌else◌}, List.{list_any}}}
 use Rattle.hc_text.proofs.Basics.{bool_cases}
 use Rattle.hc_effects.proofs.Vocabulary.{is_denied, given_in, Act, Event, Request, Limits, accepted_acts, poll_acts, loss_acts, may_begin, closing, consumer_after, denial, is_live, is_live_place, Entry, History, Contents, Flaw, NoFlaw, Loses, Misreads, flaw_in, Shown, shown_in, shown_of, given_of, Lawful, Move, acts_of, poll_move, Tables, Consumer, IsRun, IsOwed, after, act, place}

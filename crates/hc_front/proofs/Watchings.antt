@@ -1,9 +1,9 @@
 -- What is kept of each consumer behind an entry, by what the front was asked.
 --
--- Whoever is kept is live, by definition. Who is live stays so, unless it is cancelled, or told its end or a failure by its own
--- poll (`stays`): laws of hc_laws. So all but the consumer of the event keep what they had (`keeps`). What is kept of that one
--- is new where it starts (`starts_watched`), gone where it leaves (`gone`), and told that its copy holds by a poll that shows
--- so (`polls_on`).
+-- Whoever is kept is live, by definition. Who is live stays so, unless it is cancelled, or told its end or a failure by
+-- its own poll (`stays`): laws of hc_laws. So all but the consumer of the event keep what they had (`keeps`). What is
+-- kept of that one is new where it starts (`starts_watched`), gone where it leaves (`gone`), and told that its copy
+-- holds by a poll that shows so (`poll_satisfies`).
 use Rattle.std.{proofs.{Common.{◌≡◌, ℕ, Bool, true, false, List, [], ◌∷◌, Option, Some, None, refl, sym, ap, ◌∙◌, subst, arith}, lemmas.Bool.{eqb-true, both_ways, Decides.{nat_tests}}}, specs.{Prelude.{◌&&◌, ◌||◌, not, nat_eq, nat_le, if◌then◌else◌}, List.{list_any}}}
 use Rattle.hc_text.proofs.Basics.{eq_itself as itself}
 use Rattle.hc_effects.proofs.Vocabulary.{is_denied, leaves_in, Act, Event, Request, Limits, consumer_after, denial, is_live, live, Entry, Contents, Lawful, Tables, Consumer, IsOwed, tables, after}

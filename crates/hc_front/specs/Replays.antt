@@ -1,5 +1,5 @@
--- What came of a schedule that was replayed behind a front: its events go on with a front history, and the report of what
--- the front told was taken.
+-- What came of a schedule that was replayed behind a front: its events go on with a front history, and the report of
+-- what the front told was taken.
 use Rattle.std.specs.Prelude.{◌≡◌, ℕ, ◌+◌, ◌≤◌, List, ◌++◌, length, true, Option}
 use Rattle.hc_store.specs.declared.backend.Backend.{Ghosts}
 use Rattle.hc_io.specs.Sink.{Takes}

@@ -1,4 +1,5 @@
--- Events that are accepted: a fault of an open exchange, the end of one that has its head, a start; and what becomes of whom they name.
+-- Events that are accepted: a fault of an open exchange, the end of one that has its head, a start; and what becomes of
+-- whom they name.
 use Rattle.std.{proofs.{Common.{◌≡◌, ◌<◌, ℕ, Bool, true, false, Option, Some, None, refl, ap, ◌∙◌, arith}, lemmas.Bool.Decides.{nat_tests}}, specs.Prelude.{is_some, if◌then◌else◌}}
 use Rattle.hc_text.proofs.Basics.{eq_itself as itself, and_off as shut_by}
 use Rattle.hc_effects.proofs.Vocabulary.{is_denied, Request, Response, Limits, answer, consumer_after, denial, is_live, live, as_open, Entry, exchange_after, exchange_heard, exchange_acted, with_head, is_open, Tables, Exchange, IsOwed, after, after_accepted, after_denied, event}

@@ -1,8 +1,9 @@
 -- An exchange isn't asked before its head has come, and not yet behind that or a piece of it, in every run.
 --
--- Only a poll asks, and for the exchange from which its consumer reads. Where that has no head it isn't written for several,
--- so it is the consumer's own. But who waits for the head of its own is told so, and asks nothing. So what has no head wasn't
--- asked, at the beginning and after each entry. A piece takes the asking away, and the acts of a head or a piece ask nothing.
+-- Only a poll asks, and for the exchange from which its consumer reads. Where that has no head it isn't written for
+-- several, so it is the consumer's own. But who waits for the head of its own is told so, and asks nothing. So what has
+-- no head wasn't asked, at the beginning and after each entry. A piece takes the asking away, and the acts of a head or
+-- a piece ask nothing.
 use Rattle.std.{proofs.Common.{◌≡◌, inl, inr, ℕ, [], ◌∷◌, ◌++◌, Bool, true, false, Option, Some, None, refl, ap, sym, ◌∙◌, subst}, specs.{Prelude.{is_some, if◌then◌else◌, ◌==◌, ◌||◌}, Option.{option_or}}}
 use Rattle.hc_text.proofs.Basics.{bool_cases, not_some as none_some, same_some as same_row, some_inj}
 use Rattle.hc_effects.proofs.Vocabulary.{Opening, opening_in, asks_in, Event, Response, head_refusal, Limits, Place, accepted_acts, answer_acts, loss_acts, closing, denial, as_open, is_live, Entry, exchange_after, exchange_acted, exchange_heard, exchange_made, exchange_opened, with_head, with_piece, exchange_in, is_headless, flaw_in, entry_of, OfRuns, OfHistories, Turns, Move, Asks, acts_of, Owners, poll_move, is_written, own_open, shared_exchange, writing_in, source, Tables, Exchange, Representation, Consumer, Sound, tables, after_accepted, brings_body, wait, place}

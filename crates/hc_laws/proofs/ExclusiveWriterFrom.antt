@@ -1,4 +1,5 @@
--- Whoever is bound before and after an entry and is the exclusive writer after it was so before, survives the loss of a shared writing, or wrote alone what is lost.
+-- Whoever is bound before and after an entry and is the exclusive writer after it was so before, survives the loss of a
+-- shared writing, or wrote alone what is lost.
 use Rattle.std.{proofs.Common.{◌≡◌, ◌⊎◌, inl, inr, ℕ, true, false, Option, Some, ap, sym, ◌∙◌, subst}, specs.Prelude.{is_some}}
 use Rattle.hc_text.proofs.Basics.{bool_cases, same_some as same_row}
 use Rattle.hc_effects.proofs.Vocabulary.{BoundBy, loses_in, Entry, entry_of, Measures, Tables, Representation, Consumer, IsFirst, IsExclusiveWriter, after_accepted, came_alone, loses_writing, survivor, goes_on_with, place}

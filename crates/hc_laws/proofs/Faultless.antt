@@ -1,8 +1,10 @@
--- What is owed by a store that doesn't fail is told by the tables and the event: what it refuses, it refuses for its size.
+-- What is owed by a store that doesn't fail is told by the tables and the event: what it refuses, it refuses for its
+-- size.
 --
--- A denied event is answered alike whatever fails. Else the flaw that the acts show is one that may be: none where there is
--- room, and a loss of what is written, by the size that is passed. Only a head and a piece need room, and each writes the
--- same whatever else the acts say. So the flaw is the one of the sizes, and the acts are those that are owed with it.
+-- A denied event is answered alike whatever fails. Else the flaw that the acts show is one that may be: none where
+-- there is room, and a loss of what is written, by the size that is passed. Only a head and a piece need room, and each
+-- writes the same whatever else the acts say. So the flaw is the one of the sizes, and the acts are those that are owed
+-- with it.
 use Rattle.std.{proofs.Common.{◌≡◌, inl, inr, ℕ, List, Bool, true, false, Option, Some, None, refl, ap, sym, ◌∙◌}, specs.Prelude.{if◌then◌else◌, ◌||◌}}
 use Rattle.hc_text.proofs.Basics.{and_left, and_right, or_cases}
 use Rattle.hc_effects.proofs.Vocabulary.{is_denied, Act, LostKind, Refusal, Event, Response, Limits, Room, answer, accepted_acts, denied_or, case_of, is_founding, is_joining, denial, Entry, entry_without_acts, Flaw, NoFlaw, Loses, Misreads, flaw_in, is_fault, failures_in, Tables, Exchange, IsOwed, may_stand, may_be, may_lose, has_room, flaw_by_room, size_flaw, owed, room_for, written_representation, written_in, head_writes, may_validate, lossless, kind, event, room}

@@ -1,4 +1,5 @@
--- As long as nothing is due for the one that became bound alone, nothing is due for whoever reads beside it: after each accepted event too.
+-- As long as nothing is due for the one that became bound alone, nothing is due for whoever reads beside it: after each
+-- accepted event too.
 use Rattle.std.{proofs.{lemmas.Bool.Decides.{nat_tests}, Common.{arith, ◌≡◌, inl, inr, ℕ, true, false, Option, Some, None, refl, ap, sym, ◌∙◌, subst}}, specs.Prelude.{is_some}}
 use Rattle.hc_text.proofs.Basics.{same_some as same_row}
 use Rattle.hc_effects.proofs.Vocabulary.{Opening, opening_in, Response, BoundBy, Showing, showing_in, consumer_heard, consumer_acted, by_opening, waiting, route_of, current, Entry, entry_of, bound_to, reads, Tables, Exchange, Representation, Consumer, IsBound, IsFirst, after_accepted, came_alone, event, place, route}

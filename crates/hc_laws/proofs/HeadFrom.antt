@@ -1,4 +1,5 @@
--- Where the head of a representation after an entry is from: it stays, a head that came updates it, or its length is told.
+-- Where the head of a representation after an entry is from: it stays, a head that came updates it, or its length is
+-- told.
 use Rattle.std.{proofs.Common.{◌≡◌, ℕ, List, Bool, true, false, Option, Some, None, refl, ap, subst}, specs.{Prelude.{if◌then◌else◌, ◌||◌, ◌==◌, not}, Option.{option_or}}}
 use Rattle.hc_effects.proofs.Vocabulary.{Event, Response, loses_in, Entry, family, front, updated_head, representation_heard, representation_acted, representation_after_head, with_renewed_head, updates, representation_after_piece, with_stored_bytes, with_total_if_none, length_in, Tables, Exchange, Representation, event}
 use Rattle.hc_effects.proofs.RepFrom.{IsKept}

@@ -1,4 +1,5 @@
--- What is written for several and can't be completed later goes on being written, or is all there, as long as it isn't gone.
+-- What is written for several and can't be completed later goes on being written, or is all there, as long as it isn't
+-- gone.
 use Rattle.std.{proofs.{Common.{◌≡◌, ◌⊎◌, inl, inr, ℕ, ◌≤◌, length, Bool, true, false, Some, refl, ap, sym, ◌∙◌, arith}, lemmas.Bool.Decides.{nat_tests}}, specs.Prelude.{◌&&◌, ◌==◌, not, nat_eq}}
 use Rattle.hc_text.proofs.Basics.{bool_cases}
 use Rattle.hc_effects.proofs.Vocabulary.{closes_in, loses_in, Entry, promised_bytes, is_open, becomes_gone, goes_itself, ends_early, ends_founding, stops_early, is_keepable, is_below, entry_of, Measures, is_written, Tables, Exchange, Representation, IsGrowing, after_accepted, event}

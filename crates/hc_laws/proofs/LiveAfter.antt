@@ -1,6 +1,7 @@
 -- Who is live behind an entry.
 --
--- Who is over stays so, in every run (`stays_over` of hc_laws). So who is live behind an entry was live before it, or starts by it.
+-- Who is over stays so, in every run (`stays_over` of hc_laws). So who is live behind an entry was live before it, or
+-- starts by it.
 use Rattle.std.{proofs.{Common.{◌≡◌, ◌⊎◌, ℕ, Bool, true, false, Option, Some, None, refl, ap, ◌∙◌, arith}, lemmas.Bool.Decides.{nat_tests}}, specs.Prelude.{nat_eq, if◌then◌else◌}}
 use Rattle.hc_effects.proofs.Vocabulary.{is_denied, Event, Place, Limits, accepted_acts, consumer_after, consumer_made, new_consumer, is_live, is_live_place, Entry, flaw_in, Lawful, Tables, Consumer, IsOwed, after, after_accepted, after_denied, place}
 use Rattle.hc_event.specs.declared.event.Event.TheVariants as event

@@ -1,9 +1,9 @@
 -- No more exchanges are open than consumers are live, in every run: each open one is read from by a live consumer.
 --
--- An open exchange is somebody's: its consumer's own, its reader's own, or that of a writing for several, which somebody reads.
--- A member of such a writing has no other of its own, since one at most is open about what it reads. So from each live
--- consumer goes one exchange at most, and all open ones are among these. Their numbers fall, so each stands once: and what
--- falls is no longer than a list that has each of it.
+-- An open exchange is somebody's: its consumer's own, its reader's own, or that of a writing for several, which
+-- somebody reads. A member of such a writing has no other of its own, since one at most is open about what it reads. So
+-- from each live consumer goes one exchange at most, and all open ones are among these. Their numbers fall, so each
+-- stands once: and what falls is no longer than a list that has each of it.
 use Rattle.std.{proofs.Common.{◌≡◌, ◌⊎◌, inl, inr, ℕ, suc, ◌+◌, ◌<◌, ◌≤◌, List, [], ◌∷◌, length, map, Bool, true, Option, Some, None, refl, ap, sym, ◌∙◌, arith}, specs.{Prelude.{filter, is_some, if◌then◌else◌, ◌==◌, unwrap_or}, Option.{option_or}}}
 use Rattle.hc_text.proofs.Basics.{bool_cases, map_long, same_some as same_row}
 use Rattle.hc_effects.proofs.Vocabulary.{Place, live, is_live, is_live_place, family, is_open, OfRuns, open_now, Descends, InOrder, is_written, bound, own_open, shared_exchange, source, Tables, Exchange, Representation, Consumer, Sound, Among, IsBound, IsAbout, tables, Whose, IsSomebodys, may_own, place}

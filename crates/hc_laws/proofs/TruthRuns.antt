@@ -1,4 +1,5 @@
--- What is called truncated is some first bytes, since as many bytes are stored as positions: records are truthful in every run.
+-- What is called truncated is some first bytes, since as many bytes are stored as positions: records are truthful in
+-- every run.
 use Rattle.std.{proofs.{Common.{◌≡◌, inl, inr, ℕ, ◌≤◌, true, Bool, cond, Option, None, sym, arith}, lemmas.Bool.Decides.{nat_tests}}, specs.Prelude.{is_some, nat_lt}}
 use Rattle.hc_text.proofs.Basics.{and_left, and_right as and_then, bool_cases}
 use Rattle.hc_record.specs.declared.kind.Kind.TheVariants as kind

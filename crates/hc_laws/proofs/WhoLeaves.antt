@@ -1,8 +1,9 @@
 -- Who leaves is over, and who doesn't stays live.
 --
--- The acts of a leave are what is said to the leaver, what is closed, and what is lost: a seal of what is closed may fail. Its row
--- behind them is over, unless it starts over: at a leave only who waits for what goes could. Who waits so owns nothing, so nothing
--- is closed, and nothing is lost. By any other entry the place of a live consumer becomes none but one at which it is live.
+-- The acts of a leave are what is said to the leaver, what is closed, and what is lost: a seal of what is closed may
+-- fail. Its row behind them is over, unless it starts over: at a leave only who waits for what goes could. Who waits so
+-- owns nothing, so nothing is closed, and nothing is lost. By any other entry the place of a live consumer becomes none
+-- but one at which it is live.
 use Rattle.std.{proofs.{Common.{◌≡◌, ◌⊎◌, inl, inr, ℕ, List, [], ◌∷◌, ◌++◌, Bool, true, false, Option, Some, None, refl, ap, sym, ◌∙◌, subst, arith}, lemmas.Bool.Decides.{nat_tests}}, specs.Prelude.{map, nat_eq, nat_lt}}
 use Rattle.hc_text.proofs.Basics.{and_none, and_left, bool_cases, false_true, not_some as none_some, eq_itself as same_number}
 use Rattle.hc_effects.proofs.Vocabulary.{closes_in, is_denied, leaves_in, Act, Event, Place, Limits, fails_in, loses_in, without_losses, accepted_acts, answer_acts, loss_acts, closing, consumer_after, denial, is_live, left_by, Entry, Flaw, NoFlaw, Loses, Misreads, flaw_in, becomes_gone, goes_in, Lawful, Move, acts_of, move_of, poll_move, Tables, Representation, Consumer, IsOwed, may_be, loses_what_it_waits_for, after, with_item_first, written_representation, written_in, seals_at, stops, first_found, lossless, act, cause, place}

@@ -1,8 +1,8 @@
 -- All connections are closed: those of the clients and of the exchanges are all that are open.
 --
--- Whoever is open between turns is a client's or an exchange's, since nothing is left to be closed. So each taker that is live is among
--- the connections that are closed. The close of one shuts its taker, whose number no other has, and leaves the others. Behind all of them
--- none is live: so the takers are those of before, all shut.
+-- Whoever is open between turns is a client's or an exchange's, since nothing is left to be closed. So each taker that
+-- is live is among the connections that are closed. The close of one shuts its taker, whose number no other has, and
+-- leaves the others. Behind all of them none is live: so the takers are those of before, all shut.
 use Rattle.std.{proofs.{Common.{◌≡◌, ◌⊎◌, inl, inr, ℕ, List, [], ◌∷◌, Bool, true, false, Option, Some, None, refl, ap, sym, ◌∙◌, subst, arith, append-nil}, lemmas.Bool.Decides.{nat_tests}}, specs.{Prelude.{◌&&◌, ◌||◌, nat_eq, find, map, Contains, IsSome, if◌then◌else◌}, List.{list_all}}}
 use Rattle.hc_text.proofs.Basics.{and_left, and_right, both_true as both_hold}
 use Rattle.hc_peers.specs.{Clients.{client_of}, Upstreams.{upstream_of}}

@@ -1,8 +1,10 @@
--- What stands next of an answer: a head of an answer, bytes, an end, an error or nothing yet; and an answer is read on behind it.
+-- What stands next of an answer: a head of an answer, bytes, an end, an error or nothing yet; and an answer is read on
+-- behind it.
 --
--- A byte of a head tells nothing or the head of an answer, and a byte of a chunk line, of the bytes behind a chunk or of a trailer section
--- tells nothing. Behind each of them an answer is read on: what is to come of a body or of a chunk is never nothing, since behind its last
--- byte the reading stands elsewhere. So each byte of a body is brought, and none is told alone. The bytes are gone through one by one.
+-- A byte of a head tells nothing or the head of an answer, and a byte of a chunk line, of the bytes behind a chunk or
+-- of a trailer section tells nothing. Behind each of them an answer is read on: what is to come of a body or of a chunk
+-- is never nothing, since behind its last byte the reading stands elsewhere. So each byte of a body is brought, and
+-- none is told alone. The bytes are gone through one by one.
 use Rattle.std.{proofs.{Common.{◌≡◌, ℕ, ◌+◌, ◌-◌, ◌++◌, List, [], ◌∷◌, length, Bool, true, false, Option, Some, None, refl, sym, arith}, lemmas.Bool.Decides.{nat_tests}}, specs.Prelude.{◌==◌, nat_le, nat_lt, min, if◌then◌else◌}}
 use Rattle.hc_text.proofs.Basics.{true_false}
 use Rattle.hc_head.specs.{Decoding.{heard_in}, Responses.{Heard, Skips, Shows, Refuses}, Scans.{scan_byte, is_open}, declared.{framing.Framing.{Framing}, scan.Scan.{Scan}}}

@@ -1,9 +1,10 @@
 -- The requests of a client are the first that came of it.
 --
--- One client is followed over the calls. Its first bytes were read, and asked for just what its consumers were started for. Behind them
--- stand those that wait, and no others, unless the client is gone or its number is one of a dial. A call adds its bytes
--- to those that wait. What stands next is read as its bytes lead, so a request that is told is the next of what the first bytes ask for.
--- A start has the next number, so who held the consumers before it holds them behind it.
+-- One client is followed over the calls. Its first bytes were read, and asked for just what its consumers were started
+-- for. Behind them stand those that wait, and no others, unless the client is gone or its number is one of a dial. A
+-- call adds its bytes to those that wait. What stands next is read as its bytes lead, so a request that is told is the
+-- next of what the first bytes ask for. A start has the next number, so who held the consumers before it holds them
+-- behind it.
 use Rattle.std.{proofs.{Common.{◌≡◌, ◌≤◌, ◌<◌, inl, inr, ℕ, zero, suc, ◌+◌, List, [], ◌∷◌, ◌++◌, Bool, true, false, Option, Some, None, refl, ap, sym, ◌∙◌, subst, arith, append_assoc, append-nil}, lemmas.{Bool.Decides.{nat_tests}, List.{map-append}}}, specs.Prelude.{nat_eq, map, take, if◌then◌else◌, IsSome}}
 use Rattle.hc_effects.proofs.Vocabulary.{Event, Request, History, event}
 use Rattle.hc_head.specs.declared.message.WireRequest.{WireRequest}

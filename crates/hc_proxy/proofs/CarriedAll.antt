@@ -1,8 +1,8 @@
 -- All acts of a turn are carried out, one behind another, and the connections that are over are closed.
 --
--- What was carried out so far leads to tables behind which the acts that are left lead to the same. Where something fails, as many
--- connections were dialled as exchanges were opened at most. Behind the last act, each exchange has its connection. Those that are
--- closed then are of nobody who is kept, so closing them changes nothing of what is kept.
+-- What was carried out so far leads to tables behind which the acts that are left lead to the same. Where something
+-- fails, as many connections were dialled as exchanges were opened at most. Behind the last act, each exchange has its
+-- connection. Those that are closed then are of nobody who is kept, so closing them changes nothing of what is kept.
 use Rattle.std.{proofs.{Common.{◌≡◌, ◌⊎◌, inl, inr, ℕ, List, [], ◌∷◌, ◌++◌, Bool, true, false, Option, Some, None, refl, ap, sym, ◌∙◌, subst, arith, length, append_assoc}, lemmas.{List.{append-nil, Elements.{Contains-append_cases}}, Map.Views.{Contains-from_any, list_any-from_Contains}}, Math.Logic.{∥∥₁_map}}, specs.{Prelude.{nat_eq, Contains, if◌then◌else◌}, List.{list_any}, Cmp.{nat_eq_equiv}}}
 use Rattle.hc_text.proofs.Basics.{eq_tells as same_of}
 use Rattle.hc_effects.proofs.Vocabulary.{act_list, Act, Tables}

@@ -1,8 +1,9 @@
 -- Who waits at whom, while the acts of a turn are carried out.
 --
--- Tables stay as they are then. An act that is sent to a consumer changes its client alone. If it is the last, that client waits for
--- nobody from then on, and the consumer is over: so nobody is missed. An act that is not the last leaves its client to wait. Behind
--- all acts each consumer that a client waits for is live: who was told that it is over isn't waited for any more.
+-- Tables stay as they are then. An act that is sent to a consumer changes its client alone. If it is the last, that
+-- client waits for nobody from then on, and the consumer is over: so nobody is missed. An act that is not the last
+-- leaves its client to wait. Behind all acts each consumer that a client waits for is live: who was told that it is
+-- over isn't waited for any more.
 use Rattle.std.{proofs.{Common.{◌≡◌, ◌⊎◌, inl, inr, ℕ, List, [], ◌∷◌, ◌++◌, Bool, true, false, Option, Some, None, refl, ap, sym, ◌∙◌, subst, arith}, lemmas.Bool.Decides.{nat_tests}}, specs.Prelude.{◌||◌, nat_eq, length, if◌then◌else◌}}
 use Rattle.hc_text.proofs.Basics.{or_cases, eq_itself as same_number, some_inj}
 use Rattle.hc_effects.proofs.Vocabulary.{leaves_in, Act, is_live, Tables, act}

@@ -1,8 +1,8 @@
 -- A client comes: it has a new number, and nothing was sent to it.
 --
--- Its number was never handed out, so it is that of no client and of no connection to the origin, and it doesn't stand among those that
--- were accepted. Where fewer than 512 clients are here it is one of them from now on. Else its connection is to be closed, and the tables
--- stay as they are.
+-- Its number was never handed out, so it is that of no client and of no connection to the origin, and it doesn't stand
+-- among those that were accepted. Where fewer than 512 clients are here it is one of them from now on. Else its
+-- connection is to be closed, and the tables stay as they are.
 use Rattle.std.{proofs.{Common.{◌≡◌, ◌≢◌, ◌⊎◌, inl, inr, ◌≤◌, ◌<◌, ℕ, ◌+◌, List, [], ◌∷◌, ◌++◌, length, Bool, true, false, Option, Some, None, refl, ap, sym, ◌∙◌, subst, arith}, lemmas.{Bool.Decides.{nat_tests}, List.Elements.{Contains-append_right, Contains-append_cases}}}, specs.{Prelude.{◌&&◌, nat_eq, nat_lt, not, is_none, if◌then◌else◌, IsSome, Contains, ◌↔◌}, List.{list_all, Sorted.{IsStrictlySortedBy}}, Ordering.{nat_cmp}}}
 use Rattle.hc_text.proofs.Basics.{eq_itself as same_number, some_inj}
 use Rattle.hc_core.specs.Steps.{faults_in}

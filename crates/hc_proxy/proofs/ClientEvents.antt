@@ -1,10 +1,10 @@
--- One client is followed over a turn until its polls: the beginning of the turn, the event of the call, and what the network tells.
+-- One client is followed over a turn until its polls: the turn's beginning, the event of the call, and the network.
 --
--- A client that leaves, or stands no more, asks for nothing and is owed nothing from then on: its row says so, and all else that is said
--- of it stays. Bytes of a call wait, or stand behind what the client has where it is gone or they are a dial's. A new client has no row
--- before, so nothing was started for it and no live consumer is its own. The network changes connections to the origin alone, and steps
--- events of exchanges, which start nobody (`other_on`). So the client is followed by all of these up to the starts (`starts_on`), and what
--- was carried out before the turn is the measure of what it is owed until then.
+-- A client that leaves, or stands no more, asks for nothing and is owed nothing from then on, and all else that is said
+-- of it stays. Bytes of a call wait, or stand behind what the client has where it is gone or they are a dial's. A new
+-- client has no row before, so no live consumer is its own. The network changes connections to the origin alone, and
+-- steps events of exchanges, which start nobody (`other_on`). So the client is followed up to the starts (`starts_on`),
+-- and what was carried out before the turn is the measure of what it is owed until then.
 use Rattle.std.{proofs.{Common.{◌≡◌, ℕ, List, [], ◌++◌, Bool, true, false, Option, Some, None, refl, ap, sym, ◌∙◌, subst, arith}, lemmas.Bool.Decides.{nat_tests}}, specs.Prelude.{◌&&◌, ◌||◌, nat_eq, nat_lt, length, is_none, option_map, if◌then◌else◌}}
 use Rattle.hc_effects.proofs.Vocabulary.{Event, Request, History, is_open, Limits, event}
 use Rattle.hc_wire.specs.{Logs.{Called}, declared.event.WireEvent.{WireEvent}}

@@ -1,9 +1,10 @@
 -- One client is followed over the polls of a turn, and where its acts are carried out.
 --
--- No poll changes a row. Whoever is sent something by the acts of the turn was live before the polls and could be polled, since no act
--- before them is sent to anybody and a poll tells its own consumer alone. So what is sent to a consumer of this client is sent to the one
--- that it waits for, while it is here, and its answer goes on by that (`owes_last`). Who is live behind the turn was live before the
--- polls and isn't told that it is over: so it is still waited for.
+-- No poll changes a row. Whoever is sent something by the acts of the turn was live before the polls and could be
+-- polled, since no act before them is sent to anybody and a poll tells its own consumer alone. So what is sent to a
+-- consumer of this client is sent to the one that it waits for, while it is here, and its answer goes on by that
+-- (`owes_last`). Who is live behind the turn was live before the polls and isn't told that it is over: so it is still
+-- waited for.
 use Rattle.std.{proofs.{Common.{◌≡◌, ◌⊎◌, inl, inr, ◌≤◌, ◌<◌, ℕ, List, [], ◌∷◌, ◌++◌, Bool, true, false, Option, Some, None, refl, ap, sym, ◌∙◌, subst, arith, append_assoc, append-nil}, lemmas.{Bool.Decides.{nat_tests}, List.Elements.{filter-append}}}, specs.Prelude.{◌&&◌, ◌||◌, not, nat_eq, filter, option_map, if◌then◌else◌}}
 use Rattle.hc_text.proofs.Basics.{some_inj as some_is}
 use Rattle.hc_effects.proofs.Vocabulary.{leaves_in, Act, Request, is_live, Entry, History, Tables, IsOwed, owed, Limits, event}

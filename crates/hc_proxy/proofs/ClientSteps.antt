@@ -1,9 +1,10 @@
 -- One client is followed over the steps of a turn until the polls.
 --
--- Its requests are the first that came of it (`IsRead`), it is owed the answers to them so far (`Owes`), and a consumer of it that is live
--- is the one it waits for. Nothing is told to a consumer before the polls, so what was carried out before the turn stays the measure of
--- what is owed. An event that starts nobody makes nobody live. A client asks for more only where it waits for nothing and isn't to be
--- closed: so its new consumer is the only live one, and no error answer is behind.
+-- Its requests are the first that came of it (`IsRead`), it is owed the answers to them so far (`Owes`), and a consumer
+-- of it that is live is the one it waits for. Nothing is told to a consumer before the polls, so what was carried out
+-- before the turn stays the measure of what is owed. An event that starts nobody makes nobody live. A client asks for
+-- more only where it waits for nothing and isn't to be closed: so its new consumer is the only live one, and no error
+-- answer is behind.
 use Rattle.std.{proofs.{Common.{◌≡◌, ◌⊎◌, inl, inr, ◌≤◌, ◌<◌, ℕ, ◌+◌, List, [], ◌∷◌, ◌++◌, Bool, true, false, Option, Some, None, refl, ap, sym, ◌∙◌, subst, arith, append-nil}, lemmas.Bool.Decides.{nat_tests}}, specs.Prelude.{nat_eq, IsSome, option_map, if◌then◌else◌}}
 use Rattle.hc_text.proofs.Basics.{some_inj as some_is}
 use Rattle.hc_effects.proofs.Vocabulary.{Event, Request, is_live, Entry, History, owed, Limits, event}

@@ -1,9 +1,10 @@
 -- What each client asked for, and what it is owed, behind all calls of a log.
 --
--- Each client is followed over the calls: from a turn's beginning to its polls (`before_polls`), over these (`polls_on`), and where the acts
--- are carried out (`carries_on`). The events of a turn stand before the history that was carried out before it (`turn_part`). Behind the
--- last call its row says which requests its first bytes asked for, that its consumers were started for just these, and that it is owed
--- the answers to them, and an error answer behind them where the reading failed.
+-- Each client is followed over the calls: from a turn's beginning to its polls (`before_polls`), over these
+-- (`polls_on`), and where the acts are carried out (`carries_on`). The events of a turn stand before the history that
+-- was carried out before it (`turn_part`). Behind the last call its row says which requests its first bytes asked for,
+-- that its consumers were started for just these, and that it is owed the answers to them, and an error answer behind
+-- them where the reading failed.
 use Rattle.std.proofs.Common.{◌≡◌, ℕ, List, [], ◌∷◌, ◌++◌, false, true, Option, Some, None, refl, ap, sym, ◌∙◌, subst, append_assoc, append-nil}
 use Rattle.hc_effects.proofs.Vocabulary.{Request, Entry, Limits}
 use Rattle.hc_wire.specs.Logs.{Called, Log}

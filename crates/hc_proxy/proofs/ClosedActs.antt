@@ -1,7 +1,7 @@
 -- What the acts of a turn close isn't open behind them.
 --
--- An accepted entry closes what had a row, and the row is shut behind it. No entry opens it again: what an entry opens is the next
--- exchange, whose number wasn't given out.
+-- An accepted entry closes what had a row, and the row is shut behind it. No entry opens it again: what an entry opens
+-- is the next exchange, whose number wasn't given out.
 use Rattle.std.{proofs.{Common.{◌≡◌, inl, inr, ◌≤◌, ℕ, ◌+◌, List, [], ◌∷◌, ◌++◌, Bool, true, false, Option, Some, None, refl, ap, sym, ◌∙◌, arith}, lemmas.Bool.Decides.{nat_tests}}, specs.Prelude.{◌||◌, nat_eq, nat_lt}}
 use Rattle.hc_text.proofs.Basics.{or_cases, true_false}
 use Rattle.hc_effects.proofs.Vocabulary.{closes_in, is_denied, Act, Limits, Entry, exchange_after, is_open, flaw_in, Exchange, IsOwed, after, act}

@@ -1,8 +1,9 @@
 -- The calls by which what came of one exchange is read to its end: what they come to.
 --
--- More is waited for, so `take` answered no part, and the row is read to the end of its bytes. Then `finish` tells whether the answer is
--- whole by the close. What was handed before, the close and the lists behind it are one step of the definitions: two steps of the cache
--- are made at most, since behind two the exchange isn't open, and the close makes one only of an open exchange.
+-- More is waited for, so `take` answered no part, and the row is read to the end of its bytes. Then `finish` tells
+-- whether the answer is whole by the close. What was handed before, the close and the lists behind it are one step of
+-- the definitions: two steps of the cache are made at most, since behind two the exchange isn't open, and the close
+-- makes one only of an open exchange.
 use Rattle.std.{proofs.{Common.{◌≡◌, inl, inr, ℕ, ◌+◌, ◌≤◌, Bool, true, false, Option, Some, None, refl, ap, sym, ◌∙◌, subst, arith}, Math.Logic.{∥∥₁_map}}, specs.{Prelude.{◌^◌, Result, Ok, Err}, Result.{is_ok, is_err}}}
 use Rattle.hc_text.proofs.Basics.{eq_itself as same_number}
 use Rattle.hc_core.specs.Steps.{steps, faults_in, bytes_received}

@@ -1,7 +1,7 @@
 -- Who was sent a first part of what is owed has one still, where more connections were dialled and some closed.
 --
--- What a connection has taken is as before. Whose it is stays so too, since a number that is dialled was handed out to nobody. A new
--- connection has taken nothing.
+-- What a connection has taken is as before. Whose it is stays so too, since a number that is dialled was handed out to
+-- nobody. A new connection has taken nothing.
 use Rattle.std.{proofs.{Common.{◌≡◌, ℕ, zero, suc, ◌+◌, List, [], ◌∷◌, ◌++◌, Bool, true, false, Option, Some, None, refl, ap, sym, ◌∙◌, arith}, lemmas.Bool.Decides.{nat_tests}}, specs.{Prelude.{nat_eq, find, length, Contains, if◌then◌else◌}, List.{list_all}}}
 use Rattle.hc_text.proofs.Basics.{and_left, and_right}
 use Rattle.hc_wire.specs.{Events.{Unseen, Open, Closed}, Logs.{Log, Taker, is_numbered, stage_from, stage_in, sent_in, sent_from}}

@@ -1,8 +1,9 @@
--- No more consumers are live than clients are here, and so no more exchanges are open: each live consumer is that of a client of its own.
+-- No more consumers are live than clients are here, and so no more exchanges are open: each live consumer is that of a
+-- client of its own.
 --
--- Each live consumer is that of a client which is here. So it is among the consumers of these clients, and there are no more of those
--- than clients. The numbers of who is live fall, so each stands once: and what falls is no longer than a list that has each of it.
--- In every run no more exchanges are open than consumers are live.
+-- Each live consumer is that of a client which is here. So it is among the consumers of these clients, and there are no
+-- more of those than clients. The numbers of who is live fall, so each stands once: and what falls is no longer than a
+-- list that has each of it. In every run no more exchanges are open than consumers are live.
 use Rattle.std.{proofs.Common.{◌≡◌, ◌⊎◌, inl, inr, ◌≤◌, ◌<◌, ℕ, zero, suc, ◌+◌, List, [], ◌∷◌, length, map, true, Option, Some, None, refl, ap, ◌∙◌, arith}, specs.Prelude.{Contains, IsSome, filter, unwrap_or, if◌then◌else◌}}
 use Rattle.hc_text.proofs.Basics.{map_long}
 use Rattle.hc_effects.proofs.Vocabulary.{Limits, is_live, live, History, no_contents, Lawful, open_now, IsRun, Among, tables}

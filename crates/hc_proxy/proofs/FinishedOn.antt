@@ -1,8 +1,8 @@
 -- The connection of an exchange has ended: what its close comes to.
 --
--- Where a part stands next, nothing is done. An error is a fault. Where all was read, the row is read to the end of the connection, and
--- the end is stepped, or a fault. Either shuts the exchange: an end since whoever reads behind a head has that. So the row of the code
--- need not be that of the definitions, which stays: behind the step it is let go.
+-- Where a part stands next, nothing is done. An error is a fault. Where all was read, the row is read to the end of the
+-- connection, and the end is stepped, or a fault. Either shuts the exchange: an end since whoever reads behind a head
+-- has that. So the row of the code need not be that of the definitions, which stays: behind the step it is let go.
 use Rattle.std.{proofs.Common.{◌≡◌, inl, inr, ◌≤◌, ◌<◌, ℕ, ◌+◌, [], Bool, true, false, Option, Some, None, refl, ap, sym, ◌∙◌, subst, arith}, specs.{Prelude.{◌&&◌, nat_eq, option_map, if◌then◌else◌, Result, Ok, Err}, Result.{is_ok}}}
 use Rattle.hc_text.proofs.Basics.{some_inj, true_false}
 use Rattle.hc_core.specs.Steps.{faults_in, steps, bytes_received}

@@ -1,8 +1,9 @@
 -- The calls by which a part of one exchange is handed to the cache: what they ask for, and what they come to.
 --
--- The cache wants a part of the exchange, and one may stand next. So the exchange is open, and has its row on both sides. What `take`
--- answered is what stands next of that row: an error, nothing, or a part. A part has room in some tables: a head and an end bring no
--- bytes, so in those before, and a piece in those behind the read. By what was taken the call goes as the definitions go.
+-- The cache wants a part of the exchange, and one may stand next. So the exchange is open, and has its row on both
+-- sides. What `take` answered is what stands next of that row: an error, nothing, or a part. A part has room in some
+-- tables: a head and an end bring no bytes, so in those before, and a piece in those behind the read. By what was taken
+-- the call goes as the definitions go.
 use Rattle.std.{proofs.{Common.{◌≡◌, ◌≤◌, ◌<◌, ℕ, ◌+◌, true, Option, Some, None, refl, sym, ◌∙◌, arith}, Math.Logic.{∥∥₁_map}}, specs.Prelude.{◌&&◌, ◌^◌, Result, Ok, Err}}
 use Rattle.hc_core.specs.Steps.{steps, faults_in, bytes_received}
 use Rattle.hc_effects.proofs.Vocabulary.{event, is_open, is_wanted}

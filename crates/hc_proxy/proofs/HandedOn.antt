@@ -1,9 +1,10 @@
 -- A part is handed to the cache of one exchange: from what the table took to the tables of the definitions.
 --
--- An open exchange has its row on both sides, since all that were opened are dialled while the acts are quiet. So what the table took is
--- what stands next. A head is stepped before the row is read on: behind it the exchange has its head, as reading on asks for. All else
--- is read first. A piece takes as many bytes from what wasn't read as the cache receives. Behind a piece that was denied a fault shuts
--- the exchange; so two steps are made only where it isn't open any more.
+-- An open exchange has its row on both sides, since all that were opened are dialled while the acts are quiet. So what
+-- the table took is what stands next. A head is stepped before the row is read on: behind it the exchange has its head,
+-- as reading on asks for. All else is read first. A piece takes as many bytes from what wasn't read as the cache
+-- receives. Behind a piece that was denied a fault shuts the exchange; so two steps are made only where it isn't open
+-- any more.
 use Rattle.std.{proofs.{Common.{◌≡◌, ◌⊎◌, inl, inr, ◌≤◌, ℕ, ◌+◌, List, [], ◌∷◌, length, Bool, true, false, Option, Some, None, refl, ap, sym, ◌∙◌, subst, arith}, lemmas.Bool.Decides.{nat_tests}}, specs.Prelude.{◌&&◌, ◌||◌, nat_eq, nat_lt, option_map}}
 use Rattle.hc_text.proofs.Basics.{some_inj, true_false}
 use Rattle.hc_core.specs.Steps.{faults_in, steps, bytes_received}

@@ -1,6 +1,7 @@
 -- An act closes an exchange: its connection is hung up.
 --
--- The exchange is over behind the turn. No act behind this one closes it again, and it holds for the others what held before.
+-- The exchange is over behind the turn. No act behind this one closes it again, and it holds for the others what held
+-- before.
 use Rattle.std.{proofs.{Common.{◌≡◌, ◌⊎◌, inl, inr, ◌≤◌, ℕ, List, ◌∷◌, Bool, true, false, Some, None, refl, sym, ◌∙◌, subst, arith}, lemmas.Bool.Decides.{nat_tests}}, specs.Prelude.{nat_eq, ◌||◌, IsSome}}
 use Rattle.hc_text.proofs.Basics.{eq_itself as same_number}
 use Rattle.hc_core.specs.Steps.{steps}

@@ -1,4 +1,5 @@
--- An exchange keeps its head. So where the answers were read behind their heads, the exchanges have these behind an entry too.
+-- An exchange keeps its head. So where the answers were read behind their heads, the exchanges have these behind an
+-- entry too.
 use Rattle.std.{proofs.Common.{◌≡◌, ◌⊎◌, inl, inr, ℕ, Bool, true, false, Option, Some, None, refl, ap, sym, ◌∙◌}, specs.Prelude.{nat_eq, is_some, if◌then◌else◌}}
 use Rattle.hc_effects.proofs.Vocabulary.{opening_in, Event, Entry, exchange_after, exchange_heard, with_head, with_piece, Tables, Exchange, after, event}
 use Rattle.hc_proxy.specs.{Headed.{has_head, IsReadAs, AreHeaded}, Rows.{Proxy}, Steps.{with_entry}}

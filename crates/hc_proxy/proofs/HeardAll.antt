@@ -1,9 +1,10 @@
 -- The step *network* as a loop over the news.
 --
--- Each is gone through once, in ascending order. What is open behind a step was open before; so no more of them take steps than were
--- open at first, and each takes two at most. No more exchanges are open than clients are here. Whoever is open and isn't among the news
--- has nothing due, so the definitions come to the same over all open exchanges. Of each whose connection has ended a part stands next:
--- of those gone through by their step, of the others since nothing is due.
+-- Each is gone through once, in ascending order. What is open behind a step was open before; so no more of them take
+-- steps than were open at first, and each takes two at most. No more exchanges are open than clients are here. Whoever
+-- is open and isn't among the news has nothing due, so the definitions come to the same over all open exchanges. Of
+-- each whose connection has ended a part stands next: of those gone through by their step, of the others since nothing
+-- is due.
 use Rattle.std.{proofs.{Common.{◌≡◌, ◌⊎◌, inl, inr, ◌≤◌, ℕ, ◌+◌, ◌*◌, List, [], ◌∷◌, ◌++◌, length, Bool, true, false, Some, refl, ap, sym, ◌∙◌, arith}, lemmas.List.{length-reverse}}, specs.{Prelude.{◌^◌, ◌&&◌, ◌||◌, not, filter}, List.Sorted.{IsStrictlySortedBy}, Ordering.{nat_cmp}}}
 use Rattle.hc_text.proofs.Basics.{true_false}
 use Rattle.hc_core.specs.Steps.{faults_in, steps}

@@ -1,9 +1,9 @@
 -- What the functions of the step *network* ask for, and what their calls come to.
 --
--- Some tables stand for the cache while something is done for an exchange. Where the code says that the exchange is open, it is so in
--- them: so its number was given out, and some steps are left for it. A piece has room where tables have it. Its acts begin behind those
--- before, so whether it was denied is told by the acts from there on; and a fault behind a denied piece is stepped over the tables
--- behind that piece.
+-- Some tables stand for the cache while something is done for an exchange. Where the code says that the exchange is
+-- open, it is so in them: so its number was given out, and some steps are left for it. A piece has room where tables
+-- have it. Its acts begin behind those before, so whether it was denied is told by the acts from there on; and a fault
+-- behind a denied piece is stepped over the tables behind that piece.
 use Rattle.std.{proofs.{Common.{◌≡◌, inl, inr, ◌≤◌, ◌<◌, ℕ, ◌+◌, List, length, length-append, drop, Bool, true, false, refl, ap, sym, ◌∙◌, subst, arith}, Math.{Bridge.{le_prop}, Logic.{∥∥₁_elim, ∥∥₁_map}}}, specs.Prelude.{◌^◌, nat_lt}}
 use Rattle.hc_core.specs.Steps.{StandsFor, steps, bytes_received}
 use Rattle.hc_effects.proofs.Vocabulary.{act_list, is_denied, History, Contents, no_contents, is_open, Tables, tables, event}

@@ -1,10 +1,10 @@
--- What is told of the answer of an exchange is what the first bytes of its connection tell: its row, followed over the calls.
+-- What is told of the answer of an exchange is what the first bytes of its connection tell: its row, over the calls.
 --
--- One exchange is followed over the calls. It is opened in a turn, once, and its row is new then. From there on its first bytes were
--- read, and told just what its events tell. Behind them stand those that wait, and no others unless its number was dialled twice. What
--- stands next is read as its bytes lead: a head or bytes of a body, which are the next event, or nothing that is told. Behind the end of
--- the answer nothing is read. An end is told where the first bytes lead to the end of the answer, or where the connection has ended and
--- all that came was read.
+-- One exchange is followed over the calls. It is opened in a turn, once, and its row is new then. From there on its
+-- first bytes were read, and told just what its events tell. Behind them stand those that wait, and no others unless
+-- its number was dialled twice. What stands next is read as its bytes lead: a head or bytes of a body, which are the
+-- next event, or nothing that is told. An end is told where the first bytes lead to the end of the answer, or where the
+-- connection has ended and all that came was read.
 use Rattle.std.{proofs.{Common.{◌≡◌, ◌≤◌, ◌<◌, ◌⊎◌, inl, inr, ℕ, ◌+◌, List, [], ◌∷◌, ◌++◌, Bool, true, false, Option, Some, None, refl, ap, sym, ◌∙◌, subst, arith, append_assoc, append-nil}, lemmas.Bool.Decides.{nat_tests}}, specs.Prelude.{◌&&◌, nat_eq, nat_lt, length, take, is_none, Result, Ok, Err, if◌then◌else◌, option_map, Contains}}
 use Rattle.hc_text.proofs.Basics.{false_true as never_true}
 use Rattle.hc_effects.proofs.Vocabulary.{Act, Need, Event, Request, History, is_open, is_wanted, Tables, owed, Limits, act, event}

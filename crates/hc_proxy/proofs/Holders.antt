@@ -1,9 +1,9 @@
 -- Each live consumer is that of a client: what entries and changes of clients keep of it.
 --
--- An entry changes no client. Who is live behind it was live before, or starts by it. Who was live before is live behind it, or is
--- told by its acts that it is over, unless it is cancelled. So an entry keeps who holds whom, but for a start and a cancel. A start
--- goes with the client that asks for it: its number is new, so no other client holds it. A cancel goes with the client that leaves:
--- its consumer is over, and nobody else holds that.
+-- An entry changes no client. Who is live behind it was live before, or starts by it. Who was live before is live
+-- behind it, or is told by its acts that it is over, unless it is cancelled. So an entry keeps who holds whom, but for
+-- a start and a cancel. A start goes with the client that asks for it: its number is new, so no other client holds it.
+-- A cancel goes with the client that leaves: its consumer is over, and nobody else holds that.
 use Rattle.std.{proofs.{Common.{◌≡◌, ◌⊎◌, inl, inr, ◌≤◌, ◌<◌, ℕ, ◌+◌, List, [], ◌∷◌, ◌++◌, Bool, true, false, Option, Some, None, refl, ap, sym, ◌∙◌, subst, arith}, lemmas.Bool.Decides.{nat_tests}}, specs.Prelude.{◌||◌, nat_eq, option_map, if◌then◌else◌}}
 use Rattle.hc_text.proofs.Basics.{number_not as apart, or_left, or_right, eq_itself as same_number, some_inj}
 use Rattle.hc_effects.proofs.Vocabulary.{leaves_in, Act, Event, Limits, is_live, live, Entry, Lawful, IsOwed, after, act, event}

@@ -1,8 +1,9 @@
--- The step *starts* goes through those clients alone whose next request is to be read, and the step *polls* through those consumers
--- alone whose clients were sent all. What is done for one changes no other client, and a poll changes none.
+-- The step *starts* goes through those clients alone whose next request is to be read, and the step *polls* through
+-- those consumers alone whose clients were sent all. What is done for one changes no other client, and a poll changes
+-- none.
 --
--- An unready client is passed over, and stays unready while others are read: so the ready ones are gone through alone. A poll changes
--- no row of a client and no holder, so who may be polled is the same before and behind it.
+-- An unready client is passed over, and stays unready while others are read: so the ready ones are gone through alone.
+-- A poll changes no row of a client and no holder, so who may be polled is the same before and behind it.
 use Rattle.std.{proofs.Common.{◌≡◌, ℕ, List, [], ◌∷◌, Bool, true, false, Option, Some, None, refl, ap, ◌∙◌}, specs.Prelude.{nat_eq, ◌+◌, if◌then◌else◌}}
 use Rattle.hc_effects.proofs.Vocabulary.{Event, Limits, event}
 use Rattle.hc_head.specs.declared.message.WireRequest.{WireRequest}

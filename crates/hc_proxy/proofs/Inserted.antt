@@ -1,8 +1,8 @@
 -- A number that is put at its place in an ascending list.
 --
--- The place is before the first greater one. A list ascends from a number on if its first element is no less than that, and the rest
--- ascends from behind it: so the order is kept by recursion, and std's order is that one. Who stands there is the new number or stood
--- there. Of those that pass a test, one more does at most.
+-- The place is before the first greater one. A list ascends from a number on if its first element is no less than that,
+-- and the rest ascends from behind it: so the order is kept by recursion, and std's order is that one. Who stands there
+-- is the new number or stood there. Of those that pass a test, one more does at most.
 use Rattle.std.{proofs.{Common.{◌≡◌, ◌≤◌, ◌<◌, ℕ, ◌+◌, List, [], ◌∷◌, Bool, true, false, refl, ap, sym, ◌∙◌, arith}, lemmas.Bool.Decides.{nat_tests}}, specs.{Prelude.{◌||◌, nat_eq, nat_lt, length, filter, if◌then◌else◌}, List.{AllByRecursion, Sorted.{IsStrictlySortedBy}}, Ordering.{nat_cmp}, Cmp.{nat_cmp_is}, declared.cmp.Ordering.TheVariants.{Less}}}
 use Rattle.hc_text.proofs.Basics.{or_off_left as or_first, or_right as or_later, or_off_right as or_second, eq_itself as same_here}
 use Rattle.hc_proxy.specs.Handling.{inserted}

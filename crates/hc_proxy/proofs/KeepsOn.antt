@@ -1,8 +1,9 @@
 -- What the loop keeps, behind an entry whose event stops no exchange: a start, a poll, a cancel.
 --
--- No row changes in the code. What is open behind the entry was open before, or is opened by it: then it is the next exchange, which
--- isn't dialled yet. What was open stays so, unless the acts close it. What is wanted behind the entry was wanted before, or the acts
--- ask for it, or it is that next one. So the lists of the code still have whoever is to be looked at.
+-- No row changes in the code. What is open behind the entry was open before, or is opened by it: then it is the next
+-- exchange, which isn't dialled yet. What was open stays so, unless the acts close it. What is wanted behind the entry
+-- was wanted before, or the acts ask for it, or it is that next one. So the lists of the code still have whoever is to
+-- be looked at.
 use Rattle.std.{proofs.Common.{◌≡◌, ◌⊎◌, inl, inr, ◌≤◌, ◌<◌, ℕ, zero, suc, ◌+◌, ◌-◌, Bool, true, false, List, [], ◌∷◌, ◌++◌, Option, Some, None, refl, ap, sym, ◌∙◌, subst, arith}, specs.Prelude.{◌||◌, nat_eq, length, drop, Contains, if◌then◌else◌}}
 use Rattle.hc_text.proofs.Basics.{or_off_left as or_first, or_left, or_right, or_off_right as or_second}
 use Rattle.hc_core.specs.Steps.{steps}

@@ -1,8 +1,9 @@
--- Whose the connections are, where more are dialled: those before keep their exchanges, and one whose number is new is that of the next.
+-- Whose the connections are, where more are dialled: those before keep their exchanges, and one whose number is new is
+-- that of the next.
 --
--- The exchange of a connection is the place at which that first stands in the list, and the connection of an exchange is what stands
--- there. What is appended changes no place before it. One more connection stands at the next place, and nowhere before, since its
--- number is new: so each number still names one exchange.
+-- The exchange of a connection is the place at which that first stands in the list, and the connection of an exchange
+-- is what stands there. What is appended changes no place before it. One more connection stands at the next place, and
+-- nowhere before, since its number is new: so each number still names one exchange.
 use Rattle.std.{proofs.{Common.{◌≡◌, ◌⊎◌, inl, inr, ℕ, zero, suc, ◌+◌, ◌-◌, List, [], ◌∷◌, ◌++◌, length, drop, Bool, true, false, Some, None, refl, ap, sym, ◌∙◌, subst, arith}, lemmas.Bool.Decides.{nat_tests}}, specs.Prelude.{nat_eq, if◌then◌else◌}}
 use Rattle.hc_text.proofs.Basics.{eq_itself as same_number, some_same}
 use Rattle.hc_proxy.specs.{Connections.{place_from, exchange_of, first_of, connection_of}, Invariants.{NamesOne}}

@@ -1,5 +1,5 @@
--- What each change keeps of which the step *network* is made, that step keeps: the rows of connections to the origin, and events that
--- are of an exchange.
+-- What each change keeps of which the step *network* is made, that step keeps: the rows of connections to the origin,
+-- and events that are of an exchange.
 use Rattle.std.{proofs.Common.{◌≡◌, ℕ, List, [], ◌∷◌, Bool, true, false, Option, Some, None, refl, ◌∙◌}, specs.Prelude.{◌&&◌, if◌then◌else◌, Result, Ok, Err}}
 use Rattle.hc_effects.proofs.Vocabulary.{Event, is_open, is_wanted, Limits, event}
 use Rattle.hc_head.specs.declared.message.MsgError.{MsgError}

@@ -1,7 +1,8 @@
 -- The loop over the news, by its index: those gone through, the one that is next, and those behind it.
 --
--- A list is what was gone through, the next one, and those behind it. It ascends, so those behind the next one are others: they are still
--- among the news. So what HeardAll says of one step holds at each index. The bound on the steps is shown of some tables.
+-- A list is what was gone through, the next one, and those behind it. It ascends, so those behind the next one are
+-- others: they are still among the news. So what HeardAll says of one step holds at each index. The bound on the steps
+-- is shown of some tables.
 use Rattle.std.{proofs.{Common.{◌≡◌, ◌≤◌, ◌<◌, ℕ, ◌+◌, suc, List, [], ◌∷◌, ◌++◌, length, get_or, Bool, true, false, refl, ap, sym, ◌∙◌, subst, arith}, Math.{Bridge.{le_prop}, Logic.{∥∥₁_elim, ∥∥₁_map}, Seq.{drop-cons}}, lemmas.{Bool.Decides.{nat_tests}, List.{take_more, take_all, drop_all, take-append-drop}}}, specs.{Prelude.{◌||◌, ◌^◌, nat_eq, take, drop}, List.Sorted.{IsStrictlySortedBy}, Ordering.{nat_cmp}}}
 use Rattle.hc_text.proofs.Basics.{eq_itself as same_number, true_false}
 use Rattle.hc_core.specs.Steps.{faults_in, steps}

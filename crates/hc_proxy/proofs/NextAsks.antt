@@ -1,4 +1,5 @@
--- What stands next of a client is a request, an error, or nothing yet: of requests no other part is told. And who is ready to be read.
+-- What stands next of a client is a request, an error, or nothing yet: of requests no other part is told. And who is
+-- ready to be read.
 use Rattle.std.{proofs.Common.{◌≡◌, ℕ, List, [], ◌∷◌, ◌++◌, Bool, true, false, Option, Some, None, refl, length}, specs.Prelude.{◌&&◌, not, nat_lt, is_none, if◌then◌else◌}}
 use Rattle.hc_head.specs.{Decoding.{asked_in}, Requests.{Asked, Grants, Denies}, Scans.{scan_byte, is_open}, Starts.{begins_request}, declared.scan.Scan.{Scan}}
 use Rattle.hc_head.specs.declared.message.MsgError.TheVariants as error

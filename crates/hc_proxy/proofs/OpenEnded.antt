@@ -1,8 +1,8 @@
 -- No bytes lead behind an end that was told.
 --
--- Behind each byte the reading stands within a head, a body, a chunk line, a chunk, a trailer section, at the end of the message or at an
--- error, by the cases of where it stood before. At the end of a message no byte is read. So where it doesn't stand behind a told end
--- before some bytes, it doesn't behind them.
+-- Behind each byte the reading stands within a head, a body, a chunk line, a chunk, a trailer section, at the end of
+-- the message or at an error, by the cases of where it stood before. At the end of a message no byte is read. So where
+-- it doesn't stand behind a told end before some bytes, it doesn't behind them.
 use Rattle.std.{proofs.Common.{◌≡◌, ℕ, ◌+◌, ◌-◌, ◌++◌, List, [], ◌∷◌, length, Bool, true, false, Option, Some, None, refl, ap, sym, ◌∙◌}, specs.Prelude.{◌==◌, not, nat_lt, nat_le, if◌then◌else◌}}
 use Rattle.hc_head.specs.{Requests.{Asked, Grants, Denies}, Responses.{Heard, Skips, Shows, Refuses}, Scans.{scan_byte, is_open}, declared.framing.Framing.{Framing}}
 use Rattle.hc_head.specs.declared.framing.Framing.TheVariants as framing

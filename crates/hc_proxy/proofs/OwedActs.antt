@@ -1,9 +1,10 @@
 -- Acts are carried out one behind another: what they put behind what a client is owed.
 --
--- An act that is sent to no consumer of the client changes neither its row nor the answers of its consumers. If none is sent to it, all
--- stays. Else each that is sent to it goes to its last consumer, whose answer goes on by the rendering of the act; the error answer
--- isn't there yet. The row says how far that answer is, so it renders the act as the whole answer does. Only a last act ends the wait,
--- and who is told that is over: so a consumer that is live behind all of them is still waited for.
+-- An act that is sent to no consumer of the client changes neither its row nor the answers of its consumers. If none is
+-- sent to it, all stays. Else each that is sent to it goes to its last consumer, whose answer goes on by the rendering
+-- of the act; the error answer isn't there yet. The row says how far that answer is, so it renders the act as the whole
+-- answer does. Only a last act ends the wait, and who is told that is over: so a consumer that is live behind all of
+-- them is still waited for.
 use Rattle.std.{proofs.{Common.{◌≡◌, ◌⊎◌, inl, inr, ℕ, List, [], ◌∷◌, ◌++◌, Bool, true, false, Option, Some, None, refl, ap, sym, ◌∙◌, subst, arith, length, append_assoc, append-nil}, lemmas.Bool.Decides.{nat_tests}}, specs.Prelude.{◌||◌, nat_eq, option_map, if◌then◌else◌}}
 use Rattle.hc_effects.proofs.Vocabulary.{leaves_in, Act, History, act}
 use Rattle.hc_head.specs.declared.message.WireRequest.{WireRequest}

@@ -1,9 +1,10 @@
 -- What a client is owed, by its requests and its consumers, where these acts were carried out.
 --
--- The bytes are the answers to its requests so far, and behind them an error answer or nothing. The last answer goes on, as far as
--- `reply` says. An act to another consumer changes no answer of this client. One to its last consumer puts its
--- rendering behind the last answer. A request that is asked next has an empty answer at first, since nothing was told to a consumer
--- that has not started. Each act is taken as an entry of its own, behind the history before the turn.
+-- The bytes are the answers to its requests so far, and behind them an error answer or nothing. The last answer goes
+-- on, as far as `reply` says. An act to another consumer changes no answer of this client. One to its last consumer
+-- puts its rendering behind the last answer. A request that is asked next has an empty answer at first, since nothing
+-- was told to a consumer that has not started. Each act is taken as an entry of its own, behind the history before the
+-- turn.
 use Rattle.std.{proofs.{Common.{◌≡◌, ◌⊎◌, inl, inr, ◌<◌, ℕ, suc, List, [], ◌∷◌, ◌++◌, Bool, true, false, Option, Some, None, refl, ap, sym, ◌∙◌, subst, arith, length, append_assoc, append-nil}, lemmas.Bool.Decides.{nat_tests}}, specs.Prelude.{nat_eq, filter, if◌then◌else◌}}
 use Rattle.hc_text.proofs.Basics.{eq_itself as itself}
 use Rattle.hc_effects.proofs.Vocabulary.{Act, Entry, History, act}

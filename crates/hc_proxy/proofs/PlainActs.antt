@@ -1,8 +1,8 @@
 -- What the acts of a turn open: each has a target, and is open behind the turn, unless a later act closes it.
 --
--- An entry opens one exchange at most, which has no row before it, and an open one behind it. The exchange asks for what its consumer
--- asks for, and each consumer asks for a target. What was open stays so, unless the acts of a later entry close it: so it is where no
--- event says anything of it.
+-- An entry opens one exchange at most, which has no row before it, and an open one behind it. The exchange asks for
+-- what its consumer asks for, and each consumer asks for a target. What was open stays so, unless the acts of a later
+-- entry close it: so it is where no event says anything of it.
 use Rattle.std.proofs.Common.{◌≡◌, ◌⊎◌, inl, inr, ℕ, ◌+◌, List, [], ◌∷◌, ◌++◌, Bool, true, false, Option, Some, None, refl, ap, sym, ◌∙◌, subst, arith}
 use Rattle.hc_text.proofs.Basics.{false_true, eq_itself as itself, or_left, or_right}
 use Rattle.hc_effects.proofs.Vocabulary.{Opening, opening_in, closes_in, is_denied, Act, Limits, Entry, exchange_after, exchange_opened, is_open, flaw_in, Lawful, Tables, IsOwed, after, RequestsAreForTargets, act}

@@ -1,8 +1,9 @@
--- Behind a turn: what is kept when all acts are carried out, and the wire, give what the offers need; and what these leave is what
--- rests between turns.
+-- Behind a turn: what is kept when all acts are carried out, and the wire, give what the offers need; and what these
+-- leave is what rests between turns.
 --
--- What was taken at the call of the turn is what was taken by now of each connection that is open, since nothing was sent since then.
--- Offers change the tables of connections and the log alone. Of an open connection the log and its standings say the same.
+-- What was taken at the call of the turn is what was taken by now of each connection that is open, since nothing was
+-- sent since then. Offers change the tables of connections and the log alone. Of an open connection the log and its
+-- standings say the same.
 use Rattle.std.{proofs.{Common.{◌≡◌, ◌⊎◌, inl, inr, ℕ, zero, suc, ◌-◌, ◌≤◌, ◌<◌, List, [], ◌∷◌, Bool, true, false, Option, Some, None, refl, ap, sym, ◌∙◌, subst, arith, length, drop, eqb}, lemmas.Bool.{cases_Bool}}, specs.Prelude.{nat_eq, map, filter, find, IsSome, Contains, if◌then◌else◌}}
 use Rattle.hc_effects.proofs.Vocabulary.{is_open, is_wanted}
 use Rattle.hc_store.specs.declared.backend.Backend.{Ghosts}

@@ -1,7 +1,7 @@
 -- The rows of the code and those of the definitions say the same of who is read and who is polled.
 --
--- A client has the same reader, input, consumer and reply in both, and is owed what is unsent behind what it took: so nothing is unsent
--- exactly where it took all. The table of the live consumers names the client that waits for each.
+-- A client has the same reader, input, consumer and reply in both, and is owed what is unsent behind what it took: so
+-- nothing is unsent exactly where it took all. The table of the live consumers names the client that waits for each.
 use Rattle.std.{proofs.{Common.{◌≡◌, ◌≤◌, ℕ, ◌-◌, Bool, true, false, List, Option, Some, None, refl, ap, sym, ◌∙◌, subst, arith}, lemmas.{Bool.Decides.{nat_tests}, List.{length-drop}}}, specs.{Prelude.{◌&&◌, not, is_none, nat_eq, nat_lt, length, drop}, Ordering.{nat_cmp}}}
 use Rattle.std.specs.BTreeMap as tree
 use Rattle.hc_text.proofs.Basics.{some_inj as some_is}

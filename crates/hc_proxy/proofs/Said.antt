@@ -1,8 +1,8 @@
 -- The sentences of a log of the loop follow from what is proved of it.
 --
--- Each call fits the tables before it, so a test over all of its standings, clients or open exchanges holds of each one of them. The
--- record: a turn adds its events to the history, so those of all turns are joined turn by turn. The dials: an entry opens the next
--- exchange or none, so the number of the last exchange counts the Opened acts of the run.
+-- Each call fits the tables before it, so a test over all of its standings, clients or open exchanges holds of each one
+-- of them. The record: a turn adds its events to the history, so those of all turns are joined turn by turn. The dials:
+-- an entry opens the next exchange or none, so the number of the last exchange counts the Opened acts of the run.
 use Rattle.std.{proofs.{Common.{◌≡◌, ◌≤◌, ◌<◌, ℕ, zero, suc, ◌+◌, List, [], ◌∷◌, ◌++◌, Bool, true, false, Option, Some, None, refl, ap, sym, ◌∙◌, subst, arith}, lemmas.{Bool.Decides.{nat_tests}, List.{take_all, map-append, reverse-append}}}, specs.{Prelude.{◌&&◌, ◌||◌, nat_lt, not, length, take, map, reverse, find, Contains}, List.{list_all}}}
 use Rattle.hc_text.proofs.Basics.{and_left, and_right, both_false as both_off, not_true as not_false}
 use Rattle.hc_effects.proofs.Vocabulary.{Act, Limits, History, no_contents, Tables, IsRun, tables, after, act}

@@ -1,7 +1,8 @@
 -- Behind the polls of a turn each act that is sent to a consumer finds its client, which was sent all.
 --
--- Before the polls the acts are quiet, and tell nobody anything. Who is polled is live, and its client was sent all. A poll tells its own
--- consumer alone, and each is polled once. So no act of a turn goes to a client that was told something by an act before it.
+-- Before the polls the acts are quiet, and tell nobody anything. Who is polled is live, and its client was sent all. A
+-- poll tells its own consumer alone, and each is polled once. So no act of a turn goes to a client that was told
+-- something by an act before it.
 use Rattle.std.{proofs.Common.{◌≡◌, ◌⊎◌, inl, inr, ℕ, List, [], ◌∷◌, Bool, true, false, Option, Some, None, refl, ap, sym, ◌∙◌, subst, arith}, specs.Prelude.{◌&&◌, not, nat_lt, length, if◌then◌else◌}}
 use Rattle.hc_effects.proofs.Vocabulary.{Act, Limits, is_live, owed, act, event}
 use Rattle.hc_wire.specs.Logs.{Called}

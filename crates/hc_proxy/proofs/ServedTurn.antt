@@ -1,9 +1,9 @@
 -- By the definitions alone: each act of a turn that is sent to a consumer finds its client, which was sent all.
 --
--- So it is behind the polls, if each live consumer is that of one client then, and no act before them is sent to anybody
--- (`served_behind`). That holds where the turn begins, and each change until the polls keeps it (`WellHeld`): an event of the wire, the
--- events of exchanges, and the starts, each of a client that waits for nothing. Nobody goes while the starts are made, so whoever was
--- here at first is here when its request is read.
+-- So it is behind the polls, if each live consumer is that of one client then, and no act before them is sent to
+-- anybody (`served_behind`). That holds where the turn begins, and each change until the polls keeps it (`WellHeld`):
+-- an event of the wire, the events of exchanges, and the starts, each of a client that waits for nothing. Nobody goes
+-- while the starts are made, so whoever was here at first is here when its request is read.
 use Rattle.std.{proofs.{Common.{◌≡◌, inl, inr, ◌≤◌, ◌<◌, ℕ, ◌+◌, List, [], ◌∷◌, ◌++◌, Bool, true, false, Option, Some, None, refl, ap, sym, ◌∙◌, subst, arith}, lemmas.Bool.Decides.{nat_tests}}, specs.Prelude.{◌&&◌, not, nat_eq, nat_lt, is_none, length, filter, option_map, Contains, IsSome, if◌then◌else◌}}
 use Rattle.hc_text.proofs.Basics.{some_inj as some_is}
 use Rattle.hc_effects.proofs.Vocabulary.{is_denied, Event, live, Entry, is_open, IsOwed, owed, Limits, event}

@@ -1,8 +1,10 @@
--- An exchange of which a part was handed, and whose close was read: it is hung up, or it stands in the lists that it belongs to.
+-- An exchange of which a part was handed, and whose close was read: it is hung up, or it stands in the lists that it
+-- belongs to.
 --
--- The lists tell nothing of the rows, so a change of them alone keeps all that is kept while something is done for the exchange. What is
--- open stands among those that are looked at when all is sent. It leaves the list of the news only where no part is wanted, or none may
--- stand next: there nothing is due, since of a connection that has ended a part stands next.
+-- The lists tell nothing of the rows, so a change of them alone keeps all that is kept while something is done for the
+-- exchange. What is open stands among those that are looked at when all is sent. It leaves the list of the news only
+-- where no part is wanted, or none may stand next: there nothing is due, since of a connection that has ended a part
+-- stands next.
 use Rattle.std.{proofs.Common.{◌≡◌, ◌⊎◌, inl, inr, ℕ, Bool, true, false, Option, Some, None, refl, sym, ◌∙◌, subst}, specs.Prelude.{◌&&◌, nat_eq, not, IsSome, Contains}}
 use Rattle.hc_text.proofs.Basics.{eq_itself as same_number, true_false}
 use Rattle.hc_effects.proofs.Vocabulary.{is_open, is_wanted}

@@ -1,8 +1,8 @@
 -- Steps over ascending lists, of which some change nothing.
 --
--- An element that is idle is passed over, and stays idle while others are gone through. So two lists come to the same that
--- differ in idle ones alone: where their first elements are one, both take its step; else the less of them isn't in the
--- other list, so it is idle.
+-- An element that is idle is passed over, and stays idle while others are gone through. So two lists come to the same
+-- that differ in idle ones alone: where their first elements are one, both take its step; else the less of them isn't
+-- in the other list, so it is idle.
 use Rattle.std.{proofs.{Common.{◌≡◌, ◌⊎◌, inl, inr, ◌≤◌, ℕ, ◌+◌, List, [], ◌∷◌, Bool, true, false, refl, ap, sym, ◌∙◌, subst, arith}, lemmas.Bool.Decides.{nat_tests}}, specs.Prelude.{nat_eq, nat_lt, ◌||◌}}
 
 abbrev pub among : ℕ → List ℕ → Bool

@@ -1,8 +1,8 @@
 -- What came of reading the next request: the definitions' step, over a store that may fail.
 --
--- The table tells by what stands next what it did: nobody's was to be read, nothing is asked for, or a request. Of requests no other
--- part stands next (NextAsks), so each case is one of those that StartOne proves. The tables may be any that the cache stands for: what
--- a call asks for is shown of some of them, since it is a bound.
+-- The table tells by what stands next what it did: nobody's was to be read, nothing is asked for, or a request. Of
+-- requests no other part stands next (NextAsks), so each case is one of those that StartOne proves. The tables may be
+-- any that the cache stands for: what a call asks for is shown of some of them, since it is a bound.
 use Rattle.std.proofs.{Common.{◌≡◌, ◌≢◌, ◌≤◌, ◌<◌, ◌^◌, ℕ, ◌+◌, List, [], ◌∷◌, true, Some, refl, ap, sym, ◌∙◌, subst, arith}, Math.{Bridge.{le_prop}, Logic.{∥∥₁_map, ∥∥₁_elim}}}
 use Rattle.hc_core.specs.Steps.{faults_in, steps, bytes_received}
 use Rattle.hc_effects.proofs.Vocabulary.{event, Request}

@@ -1,9 +1,9 @@
 -- One client's next request is read, in the code and in the definitions.
 --
--- The code reads that of the first client whose is to be read: it waits for nothing, was sent all, and isn't to be closed. What stands
--- next is nothing yet, an error or a request. In each case its row is changed alike in the code and in the definitions, and all others
--- stay. A request starts a consumer with the next number, whose holder is this client: no other one has that number. A start stops no
--- exchange, and its acts are quiet.
+-- The code reads that of the first client whose is to be read: it waits for nothing, was sent all, and isn't to be
+-- closed. What stands next is nothing yet, an error or a request. In each case its row is changed alike in the code and
+-- in the definitions, and all others stay. A request starts a consumer with the next number, whose holder is this
+-- client: no other one has that number. A start stops no exchange, and its acts are quiet.
 use Rattle.std.{proofs.{Common.{◌≡◌, ◌⊎◌, inl, inr, ◌≤◌, ◌<◌, ℕ, ◌+◌, List, [], ◌∷◌, ◌++◌, length, Bool, true, false, Option, Some, None, refl, ap, sym, ◌∙◌, subst, arith}, Math.Path.{fun_ext}, lemmas.List.{length-append, drop-append-le}}, specs.{Prelude.{◌&&◌, nat_eq, nat_lt, not, is_none, option_map, if◌then◌else◌, IsSome, Contains}, List.{list_all}}}
 use Rattle.hc_text.proofs.Basics.{none_some, not_true as not_so, eq_itself as same_number}
 use Rattle.hc_core.specs.Steps.{faults_in, steps}

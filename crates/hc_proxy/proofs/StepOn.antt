@@ -1,8 +1,9 @@
 -- A step of the cache, for the tables of the definitions.
 --
--- The cache says that it stands for one entry more. So the entry is owed by the tables, and these are those of the run behind it. An
--- entry opens the next exchange or none, of which nothing came: so no more bytes are unread than before. A start has a number that
--- was given out. The record is that of the run, since the code writes the text of the event behind that of those before.
+-- The cache says that it stands for one entry more. So the entry is owed by the tables, and these are those of the run
+-- behind it. An entry opens the next exchange or none, of which nothing came: so no more bytes are unread than before.
+-- A start has a number that was given out. The record is that of the run, since the code writes the text of the event
+-- behind that of those before.
 use Rattle.std.{proofs.Common.{◌≡◌, ◌≤◌, ℕ, ◌+◌, Bool, true, false, List, ◌∷◌, ◌++◌, Option, Some, None, refl, ap, sym, ◌∙◌, subst, arith, append_assoc}, specs.Prelude.{if◌then◌else◌}}
 use Rattle.hc_core.specs.Steps.{StandsFor, Steps, faults_in, last_moment, limits_in, bytes_received}
 use Rattle.hc_effects.proofs.Vocabulary.{act_list, Opening, opening_in, is_denied, IsEventWithinLimits, Event, Entry, no_contents, flaw_in, failures_in, Lawful, Tables, IsRun, IsOwed, owed, tables, after, after_accepted, after_denied, opened_after, last_start_after, received_in, HasTarget, Limits}

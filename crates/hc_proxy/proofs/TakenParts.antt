@@ -1,9 +1,10 @@
 -- What was taken of the connection to the origin is what stands next in the definitions.
 --
--- A row of the code and its row have the same reading and the same bytes, so the same stands next. What was answered tells which of the
--- cases that is: no part where more is waited for, a head, a piece or an end as it stands next, an error where the reading is at one. In
--- each case the row is read on as far as the definitions read it. A piece and what is left behind it are no longer than what wasn't read,
--- and a piece has at most 16,384 bytes. A head that is told has a spelling. So each part fits a schedule.
+-- A row of the code and its row have the same reading and the same bytes, so the same stands next. What was answered
+-- tells which of the cases that is: no part where more is waited for, a head, a piece or an end as it stands next, an
+-- error where the reading is at one. In each case the row is read on as far as the definitions read it. A piece and
+-- what is left behind it are no longer than what wasn't read, and a piece has at most 16,384 bytes. A head that is told
+-- has a spelling. So each part fits a schedule.
 use Rattle.std.{proofs.{Common.{◌≡◌, inl, inr, ◌≤◌, ℕ, ◌+◌, ◌++◌, List, [], ◌∷◌, length, Bool, true, false, Option, Some, None, refl, ap, sym, ◌∙◌, subst, arith}, lemmas.{Bool.Decides.{nat_tests}, List.{length-append}}}, specs.{Prelude.{Result, Ok, Err, ◌||◌, ◌==◌, nat_lt, not}, Result.{is_err}}}
 use Rattle.hc_head.specs.declared.message.MsgError.{MsgError}
 use Rattle.hc_head.specs.declared.message.MsgError.TheVariants as error

@@ -1,4 +1,5 @@
--- What is told of the answer of an exchange is what the first bytes of its connection tell, and an end is told behind a whole answer.
+-- What is told of the answer of an exchange is what the first bytes of its connection tell, and an end is told behind a
+-- whole answer.
 use Rattle.std.{proofs.{Common.{◌≡◌, ◌⊎◌, inl, inr, ℕ, List, [], ◌∷◌, ◌++◌, Bool, true, Option, Some, None, refl, ap, sym, ◌∙◌, subst, arith}, lemmas.Bool.Decides.{nat_tests}}, specs.Prelude.{nat_eq}}
 use Rattle.hc_text.proofs.Basics.{nothing_first as front_nil, false_true as never_true}
 use Rattle.hc_effects.proofs.Vocabulary.{Entry, History, Limits}

@@ -1,8 +1,9 @@
 -- What comes of a turn, by how far it came.
 --
--- The call fits what rested before it, so the log with it is one of the loop's, whose last turn is taken as whole. Where the turn is cut
--- short, each connection has taken a first part of what it is owed behind the whole turn, and what was written is a first part of its
--- record. Where it isn't, the tables behind it are those that the definitions owe, if the store counted no failure.
+-- The call fits what rested before it, so the log with it is one of the loop's, whose last turn is taken as whole.
+-- Where the turn is cut short, each connection has taken a first part of what it is owed behind the whole turn, and
+-- what was written is a first part of its record. Where it isn't, the tables behind it are those that the definitions
+-- owe, if the store counted no failure.
 use Rattle.std.{proofs.{Common.{◌≡◌, ◌≤◌, ◌<◌, ◌^◌, ℕ, ◌+◌, List, [], ◌∷◌, ◌++◌, Bool, true, false, Option, refl, ap, sym, ◌∙◌, subst, arith, append_assoc, append-nil}, lemmas.List.{length-append}}, specs.{Prelude.{length, map, max, reverse, find, Result, IfOk, OnErr}, List.{list_all}}}
 use Rattle.hc_core.specs.Steps.{steps, faults_in}
 use Rattle.hc_io.proofs.Takings.{takes_none}

@@ -1,9 +1,10 @@
 -- Whether something would be handed to the cache now.
 --
--- Of the open exchanges in their order, one brings something where its part is wanted, and a part or an error stands next. As long as
--- none does, the tables stay, and the rows of those that follow; a row of which nothing whole stands next is read to its end, which is no
--- event. The close of a connection brings nothing, since of one that has ended a part stands next. From the first that brings something
--- on there is an event. Whoever is open and isn't among the news brings nothing.
+-- Of the open exchanges in their order, one brings something where its part is wanted, and a part or an error stands
+-- next. As long as none does, the tables stay, and the rows of those that follow; a row of which nothing whole stands
+-- next is read to its end, which is no event. The close of a connection brings nothing, since of one that has ended a
+-- part stands next. From the first that brings something on there is an event. Whoever is open and isn't among the news
+-- brings nothing.
 use Rattle.std.{proofs.{Common.{◌≡◌, inl, inr, ◌≤◌, ℕ, ◌+◌, List, [], ◌∷◌, length, Bool, true, false, Option, Some, None, refl, ap, sym, ◌∙◌, subst, arith}, lemmas.Bool.Decides.{nat_tests}}, specs.{Prelude.{◌&&◌, ◌||◌, ◌==◌, nat_eq, not, if◌then◌else◌}, List.{list_any}}}
 use Rattle.hc_text.proofs.Basics.{true_false}
 use Rattle.hc_effects.proofs.Vocabulary.{event, is_open, is_wanted, Limits}

@@ -1,7 +1,7 @@
 -- How what the loop keeps stands for the tables of the definitions, within a turn.
 --
--- The tables are those of a run that the cache stands for. Its store may have failed, and theirs doesn't: so each step goes
--- from tables to some tables, which are those of the definitions where no failure was counted.
+-- The tables are those of a run that the cache stands for. Its store may have failed, and theirs doesn't: so each step
+-- goes from tables to some tables, which are those of the definitions where no failure was counted.
 use Rattle.std.specs.Prelude.{◌≡◌, ◌≢◌, ◌⊎◌, ◌≤◌, ◌<◌, ◌^◌, ◌+◌, ◌||◌, ℕ, List, [], ◌∷◌, ◌++◌, length, drop, Bool, true, false, Option, Some, None, not, Contains, IsSome, nat_eq}
 use Rattle.std.specs.List.{list_all}
 use Rattle.std.specs.List.Sorted.{IsStrictlySortedBy}

@@ -1,4 +1,5 @@
--- Which of the open connections are read: that of an exchange that is wanted, and that of a client which waits for nothing.
+-- Which of the open connections are read: that of an exchange that is wanted, and that of a client which waits for
+-- nothing.
 use Rattle.std.specs.Prelude.{ℕ, ◌&&◌, not, List, is_none, Bool, false}
 use Rattle.std.specs.List.{list_all}
 use Rattle.hc_wire.specs.declared.connection.Standing.{Standing}

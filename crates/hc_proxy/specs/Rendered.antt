@@ -1,4 +1,5 @@
--- What a client is owed: the answers to its own requests, as bytes, one after another; and an error answer where no request follows.
+-- What a client is owed: the answers to its own requests, as bytes, one after another; and an error answer where no
+-- request follows.
 use Rattle.std.specs.Prelude.{◌≡◌, ℕ, ◌==◌, List, [], ◌∷◌, ◌++◌, filter, Bool, false, Option, Some, if◌then◌else◌}
 use Rattle.hc_event.specs.declared.act.Act.{Act}
 use Rattle.hc_event.specs.declared.act.Act.TheVariants as act

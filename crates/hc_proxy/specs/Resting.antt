@@ -1,5 +1,5 @@
--- How what the loop keeps, and the wire, stand for the tables and the log of the definitions: when the acts of a turn are carried
--- out, and between turns.
+-- How what the loop keeps, and the wire, stand for the tables and the log of the definitions: when the acts of a turn
+-- are carried out, and between turns.
 use Rattle.std.specs.Prelude.{◌≡◌, ◌⊎◌, ◌≤◌, ◌*◌, ℕ, [], length, Bool, true, false, Option, Some, None, Contains, IsSome}
 use Rattle.std.specs.List.Sorted.{IsStrictlySortedBy}
 use Rattle.std.specs.Ordering.{nat_cmp}

@@ -1,4 +1,5 @@
--- What a log of the loop says, one sentence after another: at each call of `next`, of the whole log, and behind the last turn.
+-- What a log of the loop says, one sentence after another: at each call of `next`, of the whole log, and behind the
+-- last turn.
 use Rattle.std.specs.Prelude.{◌≡◌, ◌≤◌, ◌<◌, ◌+◌, ◌++◌, ℕ, zero, suc, List, [], ◌∷◌, length, find, true, false, Some, Contains}
 use Rattle.hc_event.specs.declared.act.Act.{Act}
 use Rattle.hc_event.specs.declared.act.Act.TheVariants as act

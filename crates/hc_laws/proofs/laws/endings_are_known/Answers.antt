@@ -1,4 +1,5 @@
--- Where an answer past the store ends is known once it is over without a failure, and the detached reader is still fed until its end is known.
+-- Where an answer past the store ends is known once it is over without a failure, and the detached reader is still fed
+-- until its end is known.
 use Rattle.hc_laws.proofs.{PlaceRuns.{endings_in_runs}, UnendedRuns.{unended_in_runs}}
 use Rattle.hc_laws.proofs.laws.endings_are_known.Goals as goal
 

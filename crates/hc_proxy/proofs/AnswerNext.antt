@@ -14,7 +14,6 @@ use Rattle.hc_msg.specs.{Chunks.{trailer_place, trail_on, trail}, declared.trail
 use Rattle.hc_msg.specs.declared.trailer.Trailer.TheVariants as trailer
 use Rattle.hc_msg.specs.Inputs as inputs
 use Rattle.hc_proxy.specs.Headed.{is_answer}
-use Rattle.hc_effects.proofs.Step.{step_of}
 
 abbrev pub IsAnswerNext : Next → Type 0
 IsAnswerNext (Waits t) = is_answer t ≡ true

@@ -6,7 +6,6 @@ use Rattle.hc_head.specs.declared.message.MsgError.TheVariants as error
 use Rattle.hc_msg.specs.{Inputs.{Next, Waits, Tells, Fails, step_of, told_or, next_in}, Reading.{Reading, Heading, Requests, Failed, Token, Asks, Answers, Byte, Step, Move, Goes, EndsHead, quiet, fails, after_asked, head_move, move_of}}
 use Rattle.hc_wire.specs.Logs.{Called}
 use Rattle.hc_proxy.specs.{Connections.{has_unsent}, Invariants.{IsOfRequests}, Rows.{Client}, Starts.{is_ready}}
-use Rattle.hc_effects.proofs.Step.{step_of}
 
 -- within the head of a request
 abbrev pub IsHead : Reading → Type 0

@@ -5,7 +5,6 @@ use Rattle.hc_head.specs.{Decoding.{asked_in, heard_in}, Requests.{Asked, Grants
 use Rattle.hc_head.specs.declared.message.MsgError.TheVariants as error
 use Rattle.hc_msg.specs.{Inputs.{Next, Waits, Tells, Brings, Ends, Fails, next_in, told_or, step_of}, Reading.{Kind, Requests, Responses, Reading, Heading, Counts, Runs, Sizing, Chunk, ChunkEnd, ChunkReturn, Trailing, Whole, Done, Failed, Token, Answers, Step, Goes, EndsHead, quiet, fails, after_asked, after_heard, begins_head, head_move, move_of}}
 use Rattle.hc_proxy.specs.Headed.{is_begun}
-use Rattle.hc_effects.proofs.Step.{step_of}
 
 -- neither a body, nor an end, nor a wait behind a head
 abbrev pub IsUnbegun : Next → Type 0

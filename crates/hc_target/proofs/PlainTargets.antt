@@ -1,5 +1,5 @@
 -- A plain target is a target.
-use Rattle.std.{proofs.{Common.{◌≡◌, ℕ, ◌≤◌, ◌==◌, ◌&&◌, ◌||◌, not, Bool, true, false, List, [], ◌∷◌, ◌++◌, length, Option, Some, None, refl, sym, ap, subst, ◌∙◌, inl, inr, arith, leb-true}, lemmas.{Bool.{cases_Bool, and_parts, and_from, eqb-true, ne_eqb, Decides.{nat_tests}}, List.{append-nil, Elements.{All-nil, All-cons}}, Str.{IsUtf8-from_ascii}, Slice.Eq.{bytes_eq-Decides}}}, specs.{Prelude.{codes, All, IfSome, IsUtf8, IsAscii, Ok, nat_le, if◌then◌else◌}, List.{list_all}, Char.{is_ascii_digit, is_digit, to_ascii_lowercase}}}
+use Rattle.std.{proofs.{Common.{◌≡◌, ℕ, ◌≤◌, ◌==◌, ◌&&◌, ◌||◌, not, Bool, true, false, List, [], ◌∷◌, ◌++◌, length, Option, Some, None, refl, sym, ap, subst, ◌∙◌, inl, inr, arith, leb-true, le-leb}, lemmas.{Bool.{cases_Bool, and_parts, and_from, eqb-true, ne_eqb, Decides.{nat_tests}}, List.{append-nil, Elements.{All-nil, All-cons}}, Str.{IsUtf8-from_ascii}, Slice.Eq.{bytes_eq-Decides}}}, specs.{Prelude.{codes, All, IfSome, IsUtf8, IsAscii, Ok, nat_le, if◌then◌else◌}, List.{list_all}, Char.{is_ascii_digit, is_digit, to_ascii_lowercase}}}
 use Rattle.percent_encoding.specs.Percent.{IsKept}
 use Rattle.url.proofs.{SetLemmas.{kept_from_passes}, Theorems.{parse_url-serialize_special}, ValidLemmas.{IsAscii-serialize}}
 use Rattle.url.specs.{Parser.{parse_url}, declared.{sets.TheConstants.{FORBIDDEN_DOMAIN, PATH, SPECIAL_QUERY, USERINFO}, scheme.SchemeType.TheVariants.{SpecialNotFile}}, Input.{rsplit_once, rsplit_step, lowercase, is_empty}, Ipv4.{ends_in_a_number, last_label, last_label_of, parse_number, is_number}, Host.{IsDomain}, Path.{IsSegment, IsSegmentList, join_segments, dot_count}, Scheme.{default_port, scheme_type, is_slash, scheme_len}, Parts.{IsValid, IsValidHead, serialize, kind_of}}
@@ -300,6 +300,67 @@ plain_parts text h =
                 }
           ]
     ]
+
+-- any byte of a plain text
+abbrev is_plain_byte : ℕ → Bool
+is_plain_byte b = is_path_byte b || b == 63
+
+host_plain : (b : ℕ) → is_host_byte b ≡ true → is_plain_byte b ≡ true
+host_plain b h = grind (arith, nat_tests)
+
+path_plain : (b : ℕ) → is_path_byte b ≡ true → is_plain_byte b ≡ true
+path_plain b h = rw h refl
+
+query_plain : (b : ℕ) → is_query_byte b ≡ true → is_plain_byte b ≡ true
+query_plain b h = (and_parts (is_plain_byte b) (not (b == 39)) h).0
+
+no_space : (b : ℕ) → is_plain_byte b ≡ true → not (b == 32) ≡ true
+no_space b h = grind (arith, nat_tests)
+
+no_line_feed : (b : ℕ) → is_plain_byte b ≡ true → not (b == 10) ≡ true
+no_line_feed b h = grind (arith, nat_tests)
+
+all_pass : (p q : ℕ → Bool) → ((b : ℕ) → p b ≡ true → q b ≡ true) → (text : List ℕ) → list_all p text ≡ true → list_all q text ≡ true
+all_pass p q more [] h = refl
+all_pass p q more (b ∷ text) h =
+    let both = and_parts (p b) (list_all p text) h in
+    and_from (q b) (list_all q text) (more b both.0) (all_pass p q more text both.1)
+
+append_pass : (p : ℕ → Bool) (xs ys : List ℕ) → list_all p xs ≡ true → list_all p ys ≡ true → list_all p (xs ++ ys) ≡ true
+append_pass p [] ys hx hy = hy
+append_pass p (x ∷ xs) ys hx hy =
+    let both = and_parts (p x) (list_all p xs) hx in
+    and_from (p x) (list_all p (xs ++ ys)) both.0 (append_pass p xs ys both.1 hy)
+
+path_bytes : (begins : Bool) (path : List ℕ) → is_plain_path begins path ≡ true → list_all is_plain_byte path ≡ true
+path_bytes begins [] h = refl
+path_bytes begins (b ∷ path) h =
+    let outer = and_parts (is_path_byte b && not (begins && begins_dots b)) (is_plain_path (b == 47) path) h in
+    let byte = and_parts (is_path_byte b) (not (begins && begins_dots b)) outer.0 in
+    and_from (is_plain_byte b) (list_all is_plain_byte path) (path_plain b byte.0) (path_bytes (b == 47) path outer.1)
+
+rest_bytes : (path : List ℕ) (query : Option (List ℕ)) → is_plain_path true path ≡ true → QueryPasses query → list_all is_plain_byte (with_query path query) ≡ true
+rest_bytes path None h q = path_bytes true path h
+rest_bytes path (Some query) h q =
+    append_pass is_plain_byte path (63 ∷ query) (path_bytes true path h) (all_pass is_query_byte is_plain_byte query_plain query q)
+
+plain_bytes : (text : List ℕ) → IsPlain text → list_all is_plain_byte text ≡ true
+plain_bytes text p =
+    let q = p.behind_host in
+    let rest : list_all is_plain_byte p.rest ≡ true = subst (λ (t : List ℕ). list_all is_plain_byte t ≡ true) q.whole (rest_bytes q.path q.query q.path_passes q.query_passes) in
+    let host : list_all is_plain_byte p.host ≡ true = all_pass is_host_byte is_plain_byte host_plain p.host p.host_passes in
+    subst (λ (t : List ℕ). list_all is_plain_byte t ≡ true) p.whole
+    (append_pass is_plain_byte (codes "http://") (p.host ++ 47 ∷ p.rest) refl (append_pass is_plain_byte p.host (47 ∷ p.rest) host rest))
+
+-- a plain text has neither spaces nor line feeds
+pub plain_word : (text : List ℕ) → length text ≤ 8192 → is_plain_target text ≡ true → is_short_word text ≡ true
+unfolding is_short_word
+plain_word text short plain =
+    let p = plain_parts text plain in
+    let bytes = plain_bytes text p in
+    let some : nat_le 1 (length text) ≡ true = le-leb 1 (length text) (omega (arith, ap length p.whole)) in
+    let few : nat_le (length text) 8192 ≡ true = le-leb (length text) 8192 short in
+    rw (some, few, all_pass is_plain_byte _ no_space text bytes, all_pass is_plain_byte _ no_line_feed text bytes) refl
 
 -- a plain text is a target, and its URL is valid
 pub plain_target : (text : List ℕ) → is_short_word text ≡ true → is_plain_target text ≡ true → (is_target text ≡ true) × ReadsTarget text

@@ -97,11 +97,11 @@ pub fn is_target(alloc: Global, text: &[u8]) -> Result<bool, NoMemory>
     ensures read { IfOk result (λ is. IsTrue is → ReadsTarget text.now) }
     ensures short { IfOk result (λ is. IsTrue is → length text.now ≤ 8192) }
 {
+    if text.len() <= MOST_TARGET && is_plain_target(text) {
+        return Ok(true);
+    }
     if !is_short_word(text) {
         return Ok(false);
-    }
-    if is_plain_target(text) {
-        return Ok(true);
     }
     let Ok(text) = str::from_utf8(text) else {
         return Ok(false);

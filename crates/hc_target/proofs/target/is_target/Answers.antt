@@ -1,5 +1,5 @@
 use Rattle.std.proofs.Common.{sym, rules}
-use Rattle.hc_target.proofs.{TargetLemmas.{is_target-not_utf8, is_target-own}, PlainTargets.{plain_target}}
+use Rattle.hc_target.proofs.{TargetLemmas.{is_target-not_utf8, is_target-own}, PlainTargets.{plain_word, plain_target}}
 use Rattle.hc_target.proofs.target.is_target.Goals as goal
 
 pub returns-in_default-clause-value : goal.returns-in_default-clause-value
@@ -11,7 +11,11 @@ returns-in-Ok-parse-clause-value c =
     is_target-own c.args.text.now c.in-Ok.text.now c.in-Ok-parse.url c.has_own_text.result (search rules) told.0 told.1 c.in-Ok-parse.ensures c.has_own_text.ensures
 
 pub returns-then-is_plain_target-clause-value : goal.returns-then-is_plain_target-clause-value
-returns-then-is_plain_target-clause-value c = sym (plain_target c.args.text.now (search rules) (search rules)).0
+returns-then-is_plain_target-clause-value c =
+    let text = c.args.text.now in
+    sym (plain_target text (plain_word text (search rules) (search rules)) (search rules)).0
 
 pub returns-then-is_plain_target-clause-read : goal.returns-then-is_plain_target-clause-read
-returns-then-is_plain_target-clause-read c = λ is. (plain_target c.args.text.now (search rules) (search rules)).1
+returns-then-is_plain_target-clause-read c =
+    let text = c.args.text.now in
+    λ is. (plain_target text (plain_word text (search rules) (search rules)) (search rules)).1

@@ -1,4 +1,9 @@
 -- How many items are good, told item by item, and why contents don't fit.
+--
+-- An item is good by a test of its key and one of the rest (`good_is`). The loop keeps that so many are good, and that
+-- the count goes on with those behind (`IsCounted`). An item that isn't good stops it (`stops`), a good one makes it
+-- one more (`goes_on`). All are good where nothing stopped it (`good_to_end`). So the count tells which item doesn't
+-- fit (`bad_item`), the tests behind it the other causes (`bad_number`); where none applies they fit (`begins_by`).
 use Rattle.std.{proofs.{Common.{◌≡◌, ℕ, zero, suc, ◌+◌, ◌<◌, ◌≤◌, map, reverse, List, [], ◌∷◌, length, take, drop, get_or, Bool, true, false, cond, Option, Some, None, refl, ap, sym, ◌∙◌, arith}, lemmas.{Bool.Decides.{nat_tests}, List.{length-map, reverse-append}}}, specs.Prelude.{◌^◌, nat_le, nat_lt, not, is_none, ◌&&◌, if◌then◌else◌}}
 use Rattle.hc_target.specs.Targets.{is_target}
 use Rattle.hc_rules.specs.declared.room.Limits.{Limits}

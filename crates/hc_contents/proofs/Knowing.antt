@@ -1,4 +1,9 @@
 -- Where numbers stand last, item by item.
+--
+-- A table tells of each number where it stands last, so whether it stands from a place on. With one more item, whose
+-- number is updated, it tells so of the longer list (`tells_more`): before the end by the old table and the item, and
+-- at the end of nothing, since no place is behind the last (`below`). The list of the code is that of plain items
+-- (`take_told`), so the loop keeps this (`tells_next`) up to its end (`tells_all`). A set of keys grows by one too.
 use Rattle.std.{proofs.{Common.{◌≡◌, ◌⊎◌, inl, inr, ℕ, zero, suc, ◌+◌, ◌<◌, ◌≤◌, min, map, List, [], ◌∷◌, ◌++◌, length, take, drop, get_or, Bool, true, false, cond, Option, Some, None, refl, ap, sym, ◌∙◌, subst, arith, length-append, take_all}, lemmas.{Bool.Decides.{nat_tests}, List.{drop_all, length-take, length-map, Folds.{list_any-append}, Sorted.{list_any-IsPermutation}}, Cmp.{nat_list_eq_equiv}, Slice.Eq.{bytes_eq-Decides}}}, specs.{Prelude.{nat_eq, nat_le, ◌==◌, ◌||◌, Vec, bytes_eq, not}, List.{list_any}, Global.{Global}, Cmp.Lexicographic.{pointwise}, HashSet.{HashSet, contains, contains_by, PutsKey}}}
 use Rattle.hc_text.proofs.Basics.{or_false as or_none}
 use Rattle.hc_sparse.specs.declared.run.Run.{Run}

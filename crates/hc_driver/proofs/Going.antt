@@ -1,10 +1,9 @@
 -- Events are answered one after another.
 --
--- The loop keeps that the first i events went wholly (`IsWritten`). What went wholly, and behind that so far as it went,
--- went so far as a whole (`goes_more`): the histories join, and with them their events and their texts.
--- One event more went wholly or was the last one (`one_wholly`, `one_end`, `one_last`). Where the loop stops, the
--- next event ended it (`written_end`), some first part of its text was taken (`written_last`), or it
--- was refused memory (`written_lacking`).
+-- The loop keeps that the first events went wholly (`IsWritten`). What went wholly, and behind that so far as it went,
+-- went so far as a whole (`goes_more`): the histories join, and with them their events and their texts. So with one
+-- event more the loop keeps it (`written_more`). Where the loop stops, the next event ended it (`written_end`), some
+-- first part of its text was taken (`written_last`), or it was refused memory (`written_lacking`).
 use Rattle.std.{proofs.{Common.{◌≡◌, ℕ, suc, ◌+◌, ◌<◌, ◌≤◌, List, [], ◌∷◌, ◌++◌, length, take, drop, get_or, Option, Result, Ok, Err, ◌⊎◌, Bool, true, false, refl, sym, ap, subst, ◌∙◌, inl, inr, arith, append_assoc, length-append}, lemmas.List.{append-nil, take-append-drop, take_more, length-take}, Math.Seq.{drop-cons}}, specs.Result.{IsErrAnd}}
 use Rattle.hc_text.proofs.Basics.{nothing_first}
 use Rattle.hc_event.specs.{declared.event.Event.{Event}, Counting.{received_in}}

@@ -1,4 +1,5 @@
--- Facts beside soundness, by which the detached reader stays sound: the exclusive writer has all up to where its exchange goes on, and all the rest where it has none; and who waits with the turn or is bound isn't past the store.
+-- Facts beside soundness, by which the detached reader stays sound: the exclusive writer has all up to where its
+-- exchange goes on, and all the rest where it has none; and who waits with the turn or is bound isn't past the store.
 use Rattle.std.proofs.Common.{◌≡◌, ℕ, Bool, true, false, Some, None}
 use Rattle.hc_sparse.specs.Cells.{Covers}
 use Rattle.hc_effects.proofs.Vocabulary.{is_disabled, Place, is_written, offset, Tables, Exchange, Representation, Consumer, IsBound, IsFirst, IsExclusiveWriter, place}

@@ -1,4 +1,5 @@
--- What a doom of a key comes to: who waits for it starts over, what they await is closed, and what is current is let go.
+-- What a doom of a key comes to: who waits for it starts over, what they await is closed, and what is current is let
+-- go.
 use Rattle.std.{proofs.{lemmas.Bool.Decides.{nat_tests}, Common.{arith, ◌≡◌, inl, inr, ℕ, List, [], ◌∷◌, Bool, true, false, Option, Some, None, refl, ap, sym, ◌∙◌}}, specs.Prelude.{bytes_eq, ◌&&◌, ◌||◌, if◌then◌else◌, option_map, filter, reverse}}
 use Rattle.hc_text.proofs.Basics.{and_left, and_right, bool_cases, not_some as none_some, never_true as not_so, or_cases}
 use Rattle.hc_effects.proofs.Vocabulary.{back_in_line, is_number, sent_back, is_awaited, awaited_and, Tables, Exchange, Representation, Consumer, Sound, waits_at, awaits}

@@ -1,4 +1,5 @@
--- Every owed entry keeps what open exchanges are still to bring absent, and one of them at most about each representation.
+-- Every owed entry keeps what open exchanges are still to bring absent, and one of them at most about each
+-- representation.
 use Rattle.std.{proofs.{lemmas.Bool.Decides.{nat_tests}, Common.{arith, ◌≡◌, ℕ, List, [], ◌∷◌, ◌++◌, length, Bool, true, false, Option, Some, None, refl}}, specs.Prelude.{is_some, map, nat_lt, ◌==◌, if◌then◌else◌}}
 use Rattle.hc_effects.proofs.Vocabulary.{opening_in, Event, Response, Act, accepted_acts, loss_acts, closing, is_live, denial, as_open, gate, Entry, promised_bytes, Flaw, NoFlaw, Loses, Misreads, Tables, Exchange, Consumer, Sound, after_accepted, evicted, head_refusal, piece_refusal, poll_refusal, Limits, act}
 use Rattle.hc_event.specs.declared.event.Event.TheVariants as event

@@ -1,5 +1,5 @@
--- Where no head is refused, nothing doomed and no writing lost, just what somebody leaves is closed; and nothing makes room where
--- nothing is written.
+-- Where no head is refused, nothing doomed and no writing lost, just what somebody leaves is closed; and nothing makes
+-- room where nothing is written.
 use Rattle.std.{proofs.{lemmas.Bool.Decides.{nat_tests}, Common.{arith, ◌≡◌, ℕ, List, [], ◌∷◌, Bool, false, Option, Some, None, refl, ap, ◌∙◌}}, specs.Prelude.{◌&&◌, ◌||◌, filter, reverse}}
 use mathlib.Core.Path.{fun_ext}
 use Rattle.hc_effects.proofs.Vocabulary.{Event, Limits, Write, case_at, closing, closes_row, must_close, is_refused, is_doomed, has_no_survivor, is_left, leaver, brings_head, doomed_key_of, Entry, entry_without_acts, exchange_heard, family, Tables, Exchange, Representation, evicted, first_idle, room_by, room_for, write_in, brings_body, loses_writing}

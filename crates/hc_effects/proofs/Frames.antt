@@ -1,8 +1,9 @@
 -- What an entry doesn't speak of stays.
--- First what the event says of each part of a representation: a head, a piece or an end of its own exchange, and else nothing.
--- With the acts that gives `parts_are_kept`. Why a representation goes is read off the tests of `becomes_gone`, one by one.
--- Where neither event nor acts speak of a representation, none of those reasons holds, so its row stays as it was.
--- The same for exchanges: an event and acts that do not speak of one leave its row.
+--
+-- First what the event says of each part of a representation: a head, a piece or an end of its own exchange, and else
+-- nothing. With the acts that gives `parts_are_kept`. Why a representation goes is read off the tests of
+-- `becomes_gone`, one by one. Where neither event nor acts speak of a representation, none of those reasons holds, so
+-- its row stays as it was. The same for exchanges: an event and acts that do not speak of one leave its row.
 use Rattle.std.{proofs.{Common.{◌≡◌, inl, inr, ℕ, List, Bool, true, false, Option, Some, None, refl, ap, sym, ◌∙◌, arith}, lemmas.Bool.Decides.{nat_tests}}, specs.Prelude.{nat_eq, ◌==◌, ◌||◌, ◌&&◌, not, if◌then◌else◌}}
 use Rattle.hc_text.proofs.Basics.{and_left, and_right, bool_cases, not_true as not_keepable, never_true as not_so, or_cases, some_inj}
 use Rattle.hc_effects.proofs.Vocabulary.{Opening, opening_in, asks_in, closes_in, evicts_in, Event, Response, HeadCase, loses_in, misreads_in, has_loss, case_at, case_of, is_updating, current, is_current, is_number, doomed_key_of, bypass_key, is_key, Entry, entry_without_acts, exchange_after, exchange_heard, exchange_acted, exchange_made, family, exchange_at, exchange_in, becomes_gone, goes_itself, goes_by_case, goes_by_exchange, goes_by_head, is_current_of, ends_early, ends_founding, stops_early, is_keepable, representation_after, representation_heard, representation_acted, representation_after_head, updates, representation_after_piece, with_total_if_none, length_in, founded_at, Tables, Exchange, Representation, event, case}

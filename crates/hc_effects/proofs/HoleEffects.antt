@@ -1,4 +1,5 @@
--- What a poll does that opens an exchange for a hole: a first one binds its consumer, and a later one is that of a reader.
+-- What a poll does that opens an exchange for a hole: a first one binds its consumer, and a later one is that of a
+-- reader.
 use Rattle.std.proofs.{lemmas.Bool.Decides.{nat_tests}, Common.{arith, ◌≡◌, ℕ, [], true, Option, Some, None, refl, ap, sym, ◌∙◌, subst}}
 use Rattle.hc_range.specs.declared.range.Span.{Span}
 use Rattle.hc_effects.proofs.Vocabulary.{Need, Request, Limits, range_of, wanted_of, BoundBy, opened_place, unless_bound, current, Does, with_event, used_last, with_consumer, with_opening, just_opened, Entry, aim_from, NoFlaw, Lawful, Opens, acts_of, move_of, bound_to, Tables, Representation, Consumer, to_front, binds, need, event, wanted, by, route}

@@ -1,8 +1,10 @@
 -- The acts of an entry say nothing of exchanges, representations and consumers of another key, but for what makes room.
--- Acts come from the move of a poll, from closings, from a loss and from what makes room; each part is looked at by itself.
--- A move is near: it asks for what its consumer reads from, and opens for its key. So an exchange of another key is not asked.
--- It is not closed: it was not refused, doomed, or left, and its writing was not lost, each of which is of the key of the event.
--- A representation of another key is not written, so not lost, and is not read by the poll, so not misread.
+--
+-- Acts come from the move of a poll, from closings, from a loss and from what makes room; each part is looked at by
+-- itself. A move is near: it asks for what its consumer reads from, and opens for its key. So an exchange of another
+-- key is not asked. It is not closed: it was not refused, doomed, or left, and its writing was not lost, each of which
+-- is of the key of the event. A representation of another key is not written, so not lost, and is not read by the poll,
+-- so not misread.
 use Rattle.std.{proofs.{lemmas.Bool.Decides.{nat_tests}, Common.{arith, ◌≡◌, ◌⊎◌, inl, inr, ℕ, List, [], ◌∷◌, ◌++◌, Bool, true, false, Option, Some, None, refl, ap, sym, ◌∙◌, subst}}, specs.{Prelude.{◌||◌, ◌==◌, nat_eq, if◌then◌else◌, map, filter, reverse, take, zero, suc}, Option.{option_or, option_map}}}
 use Rattle.hc_text.proofs.Basics.{and_left, and_right as and_then, bool_cases, eq_tells as eq_is, not_some as none_some, never_true as not_true, or_cases, some_inj}
 use Rattle.hc_effects.proofs.Vocabulary.{Opening, opening_in, asks_in, closes_in, evicts_in, Act, Cause, Need, Event, Response, Limits, Room, loses_in, misreads_in, leaver_in, without_losses, accepted_acts, answer_acts, loss_acts, case_at, is_founding, is_joining, must_close, closes_row, closing, brings_head, is_doomed, has_no_survivor, is_left, is_left_by, leaver_by, is_number, bypass_key, bypassed_by, bypassed_for, Entry, entry_without_acts, family, Flaw, Misreads, flaw_in, key_of, key_of_exchange, is_of_key, ExchangeKeys, ConsumerKeys, Move, Fails, acts_of, source, Tables, Exchange, Representation, Consumer, may_be, may_misread, evicted, first_idle, idle, is_idle, room_for, brings_body, loses_writing, written_representation, written_in, head_writes, may_validate, piece_writes, unless_lost, sealed_representation, seals_at, sealed_by, stops, first_found, lossless, act, need, room}

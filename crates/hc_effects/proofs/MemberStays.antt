@@ -1,4 +1,5 @@
--- Whoever reads what is being written for several goes on reading it until it leaves: it waits for no head, and so stays where it is bound.
+-- Whoever reads what is being written for several goes on reading it until it leaves: it waits for no head, and so
+-- stays where it is bound.
 use Rattle.std.proofs.Common.{◌≡◌, ℕ, true, false, Option, Some, None, ap, sym, ◌∙◌, refl}
 use Rattle.hc_text.proofs.Basics.{same_some as same_row}
 use Rattle.hc_effects.proofs.Vocabulary.{leaves_in, Response, BoundBy, Entry, entry_of, is_written, Exchange, Representation, Consumer, IsBound, after_accepted, event, place}

@@ -1,4 +1,5 @@
--- Why a poll does what it does: it shows a head that is there, waits for one, reads, or carries out the plan of a consumer that is bound to nothing.
+-- Why a poll does what it does: it shows a head that is there, waits for one, reads, or carries out the plan of a
+-- consumer that is bound to nothing.
 use Rattle.std.{proofs.{lemmas.Bool.Decides.{nat_tests}, Common.{arith, ◌≡◌, ℕ, Bool, true, false, Option, Some, None, refl, ap, sym, ◌∙◌}}, specs.{Prelude.{if◌then◌else◌}, Option.{option_and_then}}}
 use Rattle.hc_text.proofs.Basics.{cond_false}
 use Rattle.hc_effects.proofs.Vocabulary.{Cause, Place, is_headless, Move, Nothing, Fails, planned_move, shows_at, shows_head, if_headless, waits_for_head, or_else, by_place, move_of, bound_to, own_open, Tables, Consumer, Sound, reading, wait, place}

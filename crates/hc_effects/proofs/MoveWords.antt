@@ -1,6 +1,6 @@
--- What the words of a move come to: a property of the moves that a word may give, and of nothing, is one of the word.
--- A head is shown where it is there (`at_as`); a read comes to bytes, an end, a failure that is due, a wait for its source
--- or a later hole (`reading_as`); and a poll to a head, a wait for one, or what its place says (`move_as`).
+-- What the words of a move come to: a property of the moves that a word may give, and of nothing, is one of the word. A
+-- head is shown where it is there (`at_as`); a read comes to bytes, an end, a failure that is due, a wait for its
+-- source or a later hole (`reading_as`); and a poll to a head, a wait for one, or what its place says (`move_as`).
 use Rattle.std.{proofs.{lemmas.Bool.Decides.{nat_tests}, Common.{arith, ◌≡◌, ℕ, true, false, Option, Some, None, refl, ap, sym, ◌∙◌}}, specs.Option.{option_and_then}}
 use Rattle.hc_text.proofs.Basics.{cond_false, none_some}
 use Rattle.hc_range.specs.declared.range.Span.{Span}

@@ -1,4 +1,5 @@
--- An exchange for a hole is opened for a consumer that is bound to nothing only where nobody is bound to what is current.
+-- An exchange for a hole is opened for a consumer that is bound to nothing only where nobody is bound to what is
+-- current.
 use Rattle.std.proofs.{lemmas.Bool.Decides.{nat_tests}, Common.{arith, ◌≡◌, ℕ, [], Some, None}}
 use Rattle.hc_effects.proofs.Vocabulary.{Opening, Need, route_of, current, Move, move_of, bound, bound_to, Tables, Consumer, Sound, need, route}
 use Rattle.hc_effects.proofs.{PollTree.{OpensHole, FineMove, fine_polled}, Said.{IsOpening}}

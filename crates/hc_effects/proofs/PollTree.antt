@@ -1,8 +1,9 @@
 -- What a poll may open: a first hole where nobody reads, or a later hole where it is the exclusive writer.
--- A poll shows a head, waits for one, reads or plans (`move_as`); only reading and planning open an exchange for a hole.
--- Who reads opens a later hole where nothing is stored or held there, nothing is due and it has no source (`later_by`).
--- Who plans opens a first hole of what is current, which nobody reads (`fine_first_hole`).
--- Who is bound and was shown no head does not plan (`never_plans`).
+--
+-- A poll shows a head, waits for one, reads or plans (`move_as`); only reading and planning open an exchange for a
+-- hole. Who reads opens a later hole where nothing is stored or held there, nothing is due and it has no source
+-- (`later_by`). Who plans opens a first hole of what is current, which nobody reads (`fine_first_hole`). Who is bound
+-- and was shown no head does not plan (`never_plans`).
 use Rattle.std.{proofs.{Common.{◌≡◌, ◌≢◌, ℕ, ◌+◌, ◌<◌, List, [], ◌∷◌, Bool, true, false, cond, Option, Some, None, refl, ap, sym, ◌∙◌, subst, arith}, lemmas.Bool.Decides.{nat_tests}}, specs.{Prelude.{if◌then◌else◌, is_some}, Option.{option_and_then, option_map}}}
 use Rattle.hc_text.proofs.Basics.{none_of as not_some, some_inj}
 use Rattle.hc_range.specs.declared.range.Span.{Span}

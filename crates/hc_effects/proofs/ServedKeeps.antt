@@ -1,8 +1,9 @@
 -- Whoever is bound and has nothing due reads with others, is the exclusive writer, or has all that it needs.
--- First what a loss leaves: who goes on alone, and that what is stored stays. Then the cases of who is bound after the entry.
--- Who was bound before was served in one of three ways: it shares a writing, writes alone, or reads what is stored (`by_served`).
--- Each way goes on, or the writing ends and all that is wanted is stored, or who is left goes on alone.
--- Who is bound by this entry opened a first hole, was shown a head by its plan, or founded the representation.
+--
+-- First what a loss leaves: who goes on alone, and that what is stored stays. Then the cases of who is bound after the
+-- entry. Who was bound before was served in one of three ways: it shares a writing, writes alone, or reads what is
+-- stored (`by_served`). Each way goes on, or the writing ends and all that is wanted is stored, or who is left goes on
+-- alone. Who is bound by this entry opened a first hole, was shown a head by its plan, or founded the representation.
 use Rattle.std.{proofs.{Common.{◌≡◌, ◌⊎◌, inl, inr, ℕ, ◌+◌, ◌≤◌, List, [], length, Bool, true, false, Option, Some, None, refl, ap, sym, ◌∙◌, subst, arith}, lemmas.Bool.Decides.{nat_tests}}, specs.{Prelude.{if◌then◌else◌, is_some, is_none, ◌==◌, ◌&&◌, ◌||◌, not, nat_eq, unwrap_or}, Option.{option_or}}}
 use Rattle.hc_text.proofs.Basics.{never_true, or_cases, and_none as and_off, eq_is, both_true as and_both, and_left, and_right, bool_cases, not_some as none_some, same_some as same_row, some_inj}
 use Rattle.hc_sparse.specs.Cells.{Cells, Covers, cells_with}

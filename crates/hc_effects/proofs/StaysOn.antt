@@ -1,4 +1,5 @@
--- Who has no reason to start over stays on: nothing that it waits for is lost, its key isn't doomed while it waits, and no head sends it back.
+-- Who has no reason to start over stays on: nothing that it waits for is lost, its key isn't doomed while it waits, and
+-- no head sends it back.
 use Rattle.std.{proofs.{lemmas.Bool.Decides.{nat_tests}, Common.{arith, ◌≡◌, inl, inr, ℕ, Bool, true, false, Option, Some, refl}}, specs.Prelude.{◌&&◌, if◌then◌else◌}}
 use Rattle.hc_text.proofs.Basics.{and_left, and_right, never_true, or_cases}
 use Rattle.hc_effects.proofs.Vocabulary.{Opening, Showing, Wait, Place, by_opening, shown_place, case_at, consumer_settled, waiting_place, due_after, doomed_key_of, is_key, Entry, exchange_at, is_for, IsAwaiting, Tables, Exchange, Consumer, starts_over, waits_at, sends_back, loses_what_it_waits_for, wait}

@@ -1,7 +1,8 @@
 -- What a poll does, and why: who opens for the turn has it, who waits for a body may read what is current.
--- A poll shows a head, waits for one, reads or plans (`move_as`). Who reads was shown a head and is bound where it opens a hole.
--- Who plans is bound to nothing and was shown nothing; the plan says what it found, and each plan is one case of `Does`.
--- What is current, as the plan sees it, has its row, and answers the request where the plan says so.
+--
+-- A poll shows a head, waits for one, reads or plans (`move_as`). Who reads was shown a head and is bound where it
+-- opens a hole. Who plans is bound to nothing and was shown nothing; the plan says what it found, and each plan is one
+-- case of `Does`. What is current, as the plan sees it, has its row, and answers the request where the plan says so.
 -- Who was let through may read what is current, by `Turns`.
 use Rattle.std.{proofs.{lemmas.Bool.Decides.{nat_tests}, Common.{arith, ◌≡◌, ℕ, ◌+◌, Bool, true, false, Option, Some, None, refl, ap, sym, ◌∙◌, subst}}, specs.{Prelude.{◌==◌, if◌then◌else◌}, Option.{option_and_then, option_map}}}
 use Rattle.hc_text.proofs.Basics.{not_some as none_some, some_inj}

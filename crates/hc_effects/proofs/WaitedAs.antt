@@ -1,4 +1,5 @@
--- Whoever waits for its turn, or for one who reads, is bound to nothing, and has no open exchange that waits for its head.
+-- Whoever waits for its turn, or for one who reads, is bound to nothing, and has no open exchange that waits for its
+-- head.
 use Rattle.std.proofs.{lemmas.Bool.Decides.{nat_tests}, Common.{arith, ◌≡◌, ℕ, false, Option, Some, None, sym, ◌∙◌}}
 use Rattle.hc_range.specs.declared.range.Span.{Span}
 use Rattle.hc_effects.proofs.Vocabulary.{Request, Wait, Why, Plan, ReadStep, plan_of, read_step, is_bypassing, current, Move, Nothing, Fails, opens_hole, plan_view, plan_move, origin_request, binds_current, current_row, shows_at, move_of, bound_to, Tables, Representation, Consumer, Sound, read_view, step_move, later_hole, bound_row, wait, plan}

@@ -1,4 +1,9 @@
 -- A line whose consumers come back, seat by seat: all of them, or those that passed.
+--
+-- Two loops over the places of a line, each with what it keeps below a place. In the first everybody comes back:
+-- members and places stay, and nobody below is passed or away (`AreBackBelow`). At the end nobody at all is, so the
+-- line has all of them, in order (`back-all`). In the second only those come back that passed; who is away stays away,
+-- and the turn is held as before (`ArePassedBackBelow`). An empty place changes nothing in the first (`back-empty`).
 use Rattle.std.{proofs.{Common.{◌≡◌, ℕ, ◌+◌, ◌<◌, List, [], Bool, true, false, not, eqb, Option, Some, None, refl, sym, ap, ◌∙◌, inl, inr, arith}, lemmas.Bool.{cases_Bool, cases_eq, eqb-true, eqb-false}}, specs.Prelude.{◌||◌}}
 use Rattle.hc_text.proofs.Basics.{turned-false}
 use Rattle.hc_sorted.specs.Sorted.{is_sorted, is_at as numbered, without}

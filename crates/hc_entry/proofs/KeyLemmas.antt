@@ -1,4 +1,9 @@
 -- What a change of one row does to all that is kept by key.
+--
+-- A change of one row leaves the rows of other keys (`row-others`). So what is kept of that key changes by the function
+-- that is named, and of others nothing (`row-changes`, `line-changes`). With it rows stay tidy, where something is kept
+-- still or the row goes (`tidy-changes`), and lines stay orderly (`orderly-changes`). Where a line waits, something is
+-- kept (`awaited-some`). The functions over rows in hc_entry answer by these.
 use Rattle.std.{proofs.{Common.{◌≡◌, ℕ, List, Bool, true, false, not, Option, Some, Ok, Err, refl, sym, ap, subst, ◌∙◌, inl, inr}, lemmas.{Bool.{cases_Bool}, Cmp.{nat_list_eq_equiv}, Slice.Eq.{bytes_eq-Decides}}}, specs.{Prelude.{Vec, Result, OnOk, OnErr, bytes_eq, nat_eq, is_some, ◌&&◌}, Global.{Global}, Cmp.Lexicographic.{pointwise}, Map.{lookup, KeepsOthers, IsKeyTest, AreApart}, HashMap.{UpdatesBy}}}
 use Rattle.hc_entry.specs.{declared.{rows.KeyRow.{KeyRow}, seat.Stand.{Stand}}, Seats.{moved_to}, Lines.{Line, is_in, is_empty, line_with, all_back, passed_back, IsOrderly}, Kept.{Kept, line_in, kept_in, on_line, with_current, is_nothing}, KeyRows.{Rows, row_at, rows_of, kept_by, RowChanges, RowsStay, IsTidyAt, IsTidy, AreOrderly}}
 use Rattle.hc_entry.specs.declared.seat.Stand.TheVariants as stand

@@ -1,4 +1,9 @@
 -- Lists of a line that rise, and in no two of which one stands.
+--
+-- A line is orderly where its three lists ascend and nobody stands in two. To take somebody out keeps that
+-- (`orderly-apart`), and so does one more in a list, who was in none (`orderly-queued`, `orderly-passed`,
+-- `orderly-away`). Of two lists that are merged, the members are those of both (`among-merged`). They share nobody, so
+-- the merged list ascends (`is_sorted-merged`). `orderly-all` and `orderly-passed-back` stand on that.
 use Rattle.std.{proofs.{Common.{◌≡◌, ℕ, suc, ◌+◌, List, [], ◌∷◌, length, Bool, true, false, not, eqb, Option, Some, None, refl, sym, ap, ◌∙◌, inl, inr, arith}, lemmas.Bool.{cases_Bool, eqb-true, eq-eqb, ne_eqb}}, specs.Prelude.{◌||◌, nat_le}}
 use Rattle.hc_text.proofs.Basics.{turned-false as flip}
 use Rattle.hc_sorted.specs.Sorted.{is_sorted, is_at as numbered, with_item, without}

@@ -1,4 +1,9 @@
 -- What a change of one consumer's seat does to the lists of a line, its places and its tournament.
+--
+-- Who stands somewhere in a line is who is seated so (`among-standing`), in ascending order. Two ascending lists with
+-- the same members are equal (`same_members`), so a change of one seat changes the lists by that consumer. Places and
+-- seats name one another, and a place plays where its consumer is in line. The work is to keep that where one moves
+-- (`seated-moved`), leaves (`seated-left`) or enters. The turn of the tournament is the least in line (`turn-least`).
 use Rattle.std.{proofs.{Common.{◌≡◌, ℕ, zero, suc, ◌<◌, ◌≤◌, ◌⊎◌, List, [], ◌∷◌, length, map, set, Bool, true, false, not, eqb, Option, Some, None, refl, sym, ap, ◌∙◌, inl, inr, arith, get_or-set_same, get_or-set_other, length-set}, lemmas.{Bool.{cases_Bool, cases_eq, cases_lt, eqb-true, eqb-false, eq-eqb, ne_eqb}, List.{get_or_past}}}, specs.{Prelude.{◌||◌, is_some, if◌then◌else◌, nat_eq}, Map.{keys_of}, List.{AllByRecursion, IsDistinct}}}
 use Rattle.hc_text.proofs.Basics.{same_consumer}
 use Rattle.hc_sorted.specs.Sorted.{above, is_sorted, is_at as numbered, with_item, without}

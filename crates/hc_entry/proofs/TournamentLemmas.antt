@@ -1,4 +1,9 @@
 -- A tournament's winner is the least, and who comes to a place plays its way up.
+--
+-- A node has the lesser of the two below it. So by induction upwards the winner isn't above what any node has
+-- (`reaches`), and downwards what a node has comes from a place (`comes`): hence the winner is the least of the places
+-- (`wins`). Who comes to a place plays one round after another; each is played then, and only the one above it is open
+-- (`round-open`). What is played above the places leaves the others as they were (`places-set`).
 use Rattle.std.{proofs.{Common.{◌≡◌, ℕ, zero, suc, ◌+◌, ◌-◌, ◌*◌, ◌/◌, ◌<◌, ◌≤◌, ◌⊎◌, List, length, drop, set, Option, Some, None, refl, sym, ap, ◌∙◌, inl, inr, arith, length-set, get_or-set_same, get_or-set_other, get_or-drop, length-drop, [], ◌∷◌}, Math.Nat.{min-eq_left, min-eq_right, min-le_left, min-le_right}, lemmas.{Bool.{cases_eq, cases_lt}, List.{get_or_past, drop-set-add}}}, specs.Prelude.{min}}
 use Rattle.hc_entry.specs.Tournaments.{at, lesser_of, IsLeastAt, IsPlayed, IsPlayedBut}
 

@@ -1,4 +1,9 @@
 -- Consumers that are all bound in one way.
+--
+-- Where all are bound in one way, the list of who is bound is a map over their numbers. So each question to that list
+-- is one to the numbers: who has it, who is left, who is the least (`has-map`, `without-map`, `least_bound-map`).
+-- Numbers ascend, so the least is the first. How one more may be bound depends on the way alone (`admission-map`), and
+-- what is admitted is as the others are, or alone (`are_all-admitted`, `alone-admitted`).
 use Rattle.std.{proofs.{Common.{◌≡◌, ◌⊎◌, ℕ, ◌≤◌, List, [], ◌∷◌, length, map, Bool, true, false, eqb, leb, ltb, Option, Some, None, refl, sym, ap, ◌∙◌, inl, inr, arith}, lemmas.Bool.{cases_Bool, and_parts, ltb-true, eqb-true}}, specs.{Prelude.{◌&&◌, ◌||◌, filter, min, IfSome}, List.{list_any}}}
 use Rattle.hc_text.proofs.Basics.{and_false}
 use Rattle.hc_sorted.specs.Sorted.{above, is_sorted, has, with_item, without, with_replacement}

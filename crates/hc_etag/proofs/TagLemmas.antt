@@ -1,4 +1,9 @@
 -- A list of tags is read from its front.
+--
+-- Up to a place some tags were read, and the rest may be anything that goes on (`IsReadUpTo`): the lists of the text
+-- are those of the rest behind these tags, both ways. The rest begins with a blank, a comma or a tag, by its first byte
+-- (`begins`). A step of the reader takes one of these (`read_blank`, `read_comma`, `read_tag`); the tag there is one,
+-- since a text begins with one at most (`one_first`). At the end of the text all are read (`all_read`).
 use Rattle.std.proofs.{Common.{◌≡◌, ◌≢◌, ◌⊎◌, ℕ, Bool, true, false, eqb, List, [], ◌∷◌, ◌++◌, length, get_or, refl, sym, ap, ◌∙◌, subst, inl, inr}, lemmas.{Bool.{both_ways}, List.{append_assoc, append-nil, nil_from_length}}}
 use Rattle.hc_etag.specs.{Etags.{IsOpaque, tag_text}, Tags.{SpellsTags, ends, blank, separator, tag}}
 use Rattle.hc_text.specs.Elements.{comma, is_blank}

@@ -1,4 +1,9 @@
 -- What adding and removing fields does to a list, and what it keeps.
+--
+-- All goes by induction over the list. To put a field is to insert it behind those of its name (`put-insert`), so
+-- length, size and order follow field by field. The work is in `put-without`, where one field takes the place of those
+-- of its name. The first field comes before the name, has it, or comes after it. `IsFieldList-put` and
+-- `IsFieldList-without` join what is kept. The last lemmas say which values a name has then.
 use Rattle.std.{proofs.{Common.{◌≡◌, ◌≢◌, ℕ, ◌+◌, ◌<◌, ◌≤◌, Bool, true, false, not, List, [], ◌∷◌, ◌++◌, length, take, drop, refl, sym, ap, inl, inr, arith, one-add}, lemmas.{Bool.{cases_Bool, and_from, false_from_ne_true}, List.{Elements.{All-cons, All-head, All-tail, All-filter}, Filters.{sum_by-filter_both, length-filter_both}, Sums.{sum_by-cons}}, Slice.Eq.{bytes_eq-Decides}}}, specs.{Prelude.{filter}, List.{All, insert}}}
 use Rattle.hc_fields.specs.FieldList.{comes_before, field_list_with, has_name, values_of, without, size_of, is_sorted, start_of, end_of, IsField, IsFieldList}
 use Rattle.hc_fields.proofs.{Names.{one_way, cases_names}, Sorted.{Pair, list_all-weaker, list_all-filter, list_all-put, to_not, sorted_rest, after_rest, filter-after, without-after, start_of-before, start_of-stop, end_of-more, end_of-stop, NoneBefore, start_of-none}}

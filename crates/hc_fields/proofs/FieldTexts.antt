@@ -1,4 +1,9 @@
 -- Field lines: a text begins with one of them at most, and spells one list of a length.
+--
+-- A name has no colon and a value has no line feed, so a line is cut in one way only (`field_once`). Two lists of lines
+-- that begin one text agree line by line: `rest_of` goes by induction and says what is left of the longer one behind
+-- the shorter. Of lists of one length nothing is left (`fields_once`). Behind some of a list's own fields stands its
+-- next field (`next`). So where no field follows that makes a list, the text spells none of that length (`no_next`).
 use Rattle.std.{proofs.{Common.{◌≡◌, ◌≢◌, ℕ, ◌<◌, ◌≤◌, true, List, [], ◌∷◌, ◌++◌, length, IsTrue, refl, sym, ap, ◌∙◌, inl, inr, arith, length-append}, lemmas.{Bool.{cases_eq, and_parts, and_from, both_ways, ne_eqb, not_from_false}, List.{append_assoc, append-nil, nil_from_length, get_or_at, Elements.{All-head, All-tail}}}}, specs.List.{All, list_all}}
 use Rattle.http_header.specs.Token.{AllPass, is_token_byte, is_value_byte}
 use Rattle.hc_fields.specs.{FieldList.{IsField, IsFieldList, IsListOf}, Lines.{field_text, fields_text}}

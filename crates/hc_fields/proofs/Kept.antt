@@ -1,4 +1,9 @@
--- What a text and its marks stand for once a line was put or some went.
+-- What a text and its marks represent once a line was put or some went.
+--
+-- The line is put at the end of the text, and its mark in the place of those of its name. The fields are then the list
+-- with this one in that place (`fields-put`), which is the list of the definitions (`put_is`, `set_is`). Where fields
+-- go, those of all other names are left (`left_is`). The work is in `IsKept-put`, `IsKept-set` and `IsKept-left`: the
+-- list keeps its limits, and the size is what was counted. The text is that of its fields as long as it is in order.
 use Rattle.std.{specs.{Prelude.{filter, slice_get, Some}, List.{All, remove_range}, Char.{to_ascii_lowercase}}, proofs.{lemmas.{Option.{slice_get-map, slice_get-get_or}, List.{length-map, get_or-map, take-map, drop-map, map-append, take_at, take_all, drop_all, take-append-drop, Elements.{All-append, All-take, All-drop}, Sums.{sum_by_more}}}, Common.{◌≡◌, ℕ, Bool, true, get_or, ◌+◌, ◌-◌, ◌<◌, ◌≤◌, List, [], ◌∷◌, ◌++◌, length, take, drop, map, refl, sym, ◌∙◌, ap, arith, add-zero}}}
 use Rattle.http_header.specs.Token.{lowercase}
 use Rattle.http_header.proofs.TokenLemmas.{IsHeaderName-lowercase}

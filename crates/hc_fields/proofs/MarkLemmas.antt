@@ -1,4 +1,9 @@
 -- Lines that stand in a text, and what a text that grows keeps of them.
+--
+-- A mark names ranges of a text, and a range stays where the text grows (`range-grown`); so do the fields at marks
+-- (`fields_at-grown`). A line that is put at the end stands behind all else, so its mark names its own name and value
+-- (`field_at-new`). With that mark in the place of some others the fields are the old ones with the new one there
+-- (`fields_at-with`). `packed_more` copies lines to another text, one by one.
 use Rattle.std.{proofs.{Common.{◌≡◌, ℕ, ◌+◌, ◌-◌, ◌<◌, ◌≤◌, List, [], ◌∷◌, ◌++◌, length, take, drop, get_or, refl, sym, ap, ◌∙◌, arith, length-append}, lemmas.List.{append_assoc, append-nil, map_more, map-append, take-map, drop-map, take_at, drop_at, take-append-le, drop-append-le, length-drop, Elements.{All-head, All-tail, All-append, All-cons, All-nil, All-take, All-drop}}}, specs.{Prelude.{slice_range, codes}, List.{All}}}
 use Rattle.hc_fields.specs.{declared.mark.Mark.{Mark}, Lines.{field_text}, Marks.{field_at, fields_at, mark_of, IsLineAt, IsPacked}}
 use Rattle.hc_fields.proofs.LineLemmas.{fields_text-push}

@@ -1,4 +1,9 @@
 -- What a binary search over marks finds, as a place in the list of their fields.
+--
+-- Names of a sorted list ascend, so what fails a test stands before what passes it (`ascending_start`,
+-- `ascending_end`). A step of the search moves one end of the range that is left (`searched_right`, `searched_left`).
+-- An empty range is the place (`searched`). The search for a name also knows whether the field at the upper end has it.
+-- `narrowed_left` has the work: the new field there has the name, or comes after it, and so do all behind.
 use Rattle.std.{proofs.{Common.{◌≡◌, ℕ, ◌+◌, ◌<◌, ◌≤◌, Bool, true, false, not, List, [], length, get_or, Ordering, ap, inl, inr, refl, sym, ◌∙◌, arith}, lemmas.{Cmp.{nat_list_cmp_total}, Bool.{not-false, both_ways, true_from_ne_false, cases_lt}, List.{get_or-map, Sums.{position_or_len_is, fails_before_first, passes_at_first}}}}, specs.{List.{position_or_len}, Ordering.{nat_cmp, is_lt, is_eq, is_gt, ordering_reverse}, Cmp.Lexicographic.{slice_cmp}, declared.cmp.Ordering.TheVariants.{Less, Equal, Greater}}}
 use Rattle.hc_fields.specs.{declared.mark.Mark.{Mark}, FieldList.{comes_before, is_sorted, start_of, end_of}, Marks.{field_at, fields_at}}
 use Rattle.hc_fields.proofs.{Names.{one_way, chain, upto_before}, Sorted.{Pair, sorted_at}}

@@ -1,4 +1,9 @@
 -- A field line at the front of a text, byte by byte.
+--
+-- A name goes on to the first byte that isn't of lower case, a value to the first that no value has. For either kind
+-- the first module says where that byte is (`position-other`) and what stands behind (`behind-kind`). A text without
+-- one begins with no line (`no_other`). Name and value make a line (`begins_with_line`). A text begins with one line at
+-- most, so what was cut is a field where the text has one (`same_line`). The reading of lines in hc_fields uses these.
 use Rattle.std.{proofs.{Common.{◌≡◌, ◌≢◌, ℕ, zero, suc, ◌<◌, ◌≤◌, Bool, true, false, not, List, [], ◌∷◌, ◌++◌, length, take, drop, get_or, Some, None, IsTrue, refl, sym, ◌∙◌, inl, inr, arith, one-add, length-append}, lemmas.{Bool.{cases_eq, and_parts, and_from, both_ways, not-false, not-true, lt-ltb, ne_eqb, not_from_false, Decides.{nat_tests}}, Option.{none-some, same_Some}, List.{drop_at, Elements.{All-head, All-tail, All-cons, All-nil}, Quantifiers.{position-Some}}}}, specs.{Prelude.{position}, List.{list_all, position_or_len}, Char.{to_ascii_lowercase, is_ascii_uppercase}}}
 use Rattle.http_header.specs.Token.{AllPass, lowercase, is_token_byte, is_value_byte}
 use Rattle.hc_text.specs.Texts.{lacks}

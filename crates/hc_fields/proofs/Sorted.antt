@@ -1,4 +1,9 @@
 -- Sorted lists of fields: where a name stands, and what keeps the order.
+--
+-- By induction over a list, where the fields of a name start and end is counted field by field. `is_parted` has the
+-- work: a first field comes before the name, has it, or comes after it. If it has it, no later one comes before; if it
+-- comes after, all do (`after_rest`). So the fields of a name stand together, with all others round them.
+-- `list_all-put` and `list_all-filter` say that a test of all fields still holds. Edits of a list use these.
 use Rattle.std.{proofs.{Common.{◌≡◌, ℕ, zero, suc, ◌+◌, ◌<◌, ◌≤◌, Bool, true, false, not, List, [], ◌∷◌, ◌++◌, length, take, drop, get_or, refl, ap, inl, inr, arith, one-add}, lemmas.Bool.{cases_Bool, and_parts, and_from, both_ways}}, specs.{Prelude.{filter, ◌&&◌}, List.{list_all}}}
 use Rattle.hc_fields.specs.FieldList.{comes_before, field_list_with, has_name, without, is_sorted, start_of, end_of}
 use Rattle.hc_fields.proofs.Names.{irreflexive, before_upto, differs_from_before, bytes_eq-swap, cases_names}

@@ -1,4 +1,9 @@
--- A round more of the generator.
+-- A round more of the generator: time doesn't go back, and what is made is small.
+--
+-- Each round has an action and each action a move, and `Fine` says this of a move. A start has a drawn request, and an
+-- answer is that of the test origin, both within limits; the other moves make no fields (`action_fine`). An answer that
+-- is brought, or a part of it, is short (`brought_short`). `made_fine` takes it from the move to what was made, and
+-- `goes_on` joins both for a round. The contract of the generator's step reads off its parts.
 use Rattle.std.{proofs.Common.{◌≡◌, ℕ, zero, suc, ◌+◌, ◌^◌, ◌<◌, ◌≤◌, List, length, Bool, true, false, Option, Some, None, refl, ap, sym, ◌∙◌, subst, arith}, specs.Prelude.{nat_lt, Result, Ok, Err, IfOk, is_err}}
 use Rattle.hc_event.specs.{declared.event.Event.{Event}, WithinLimits.{IsEventWithinLimits}}
 use Rattle.hc_sorted.specs.Sorted.{item_with}

@@ -1,4 +1,9 @@
 -- What is made is no larger than what a schedule can spell.
+--
+-- A representation has at most 1,048,576 bytes (`in_small`), so the texts of its length and of its parts are short. The
+-- answer of the test origin has its common fields, and a case adds a few; each field more adds its count and its size
+-- (`one_more`). So a part, and what no range fits, are within limits (`within_limits_part`,
+-- `within_limits_unsatisfied`). `within_limits_by` joins the cases. A drawn request has a short range, or no fields.
 use Rattle.std.{proofs.{Common.{◌≡◌, ℕ, ◌+◌, ◌-◌, ◌/◌, ◌^◌, ◌<◌, ◌≤◌, List, [], ◌++◌, length, Bool, true, false, Option, Some, None, refl, sym, subst, arith, length-append, min}, Math.Nat.{mod-lt}, lemmas.Bool.Decides.{nat_tests}}, specs.{Prelude.{codes, bytes_eq, nat_le, nat_lt, ◌==◌, ◌&&◌, if◌then◌else◌, drop, take}, Fmt.{decimal}, Str.Parse.{digits_value}}}
 use Rattle.hc_text.proofs.Basics.{and_right as both, some_same as some_is}
 use Rattle.hc_event.specs.declared.event.Request.{Request}

@@ -1,7 +1,9 @@
--- What a text comes to is what the equations say. A head that is printed is read as that head (`request_reads`,
--- `response_reads`), and a head that is read prints as the text (`request_prints`, `response_prints`). Since the grammar
--- reads one head at most, the head that the equations find is the one that counts; and where they find none, there is
--- none.
+-- What a text comes to is what the equations say.
+--
+-- A head that is printed is read as that head (`request_reads`, `response_reads`), and a head that is read prints as
+-- the text (`request_prints`, `response_prints`): its lines and the parts of its first line make the text again. The
+-- grammar reads one head at most, so the head that the equations find is the one that counts. Where they find none,
+-- there is none. `asked_in_is` and `heard_in_is` join this.
 use Rattle.std.{proofs.{Common.{◌≡◌, ℕ, zero, suc, ◌<◌, ◌≤◌, ◌==◌, Bool, true, false, List, [], ◌∷◌, ◌++◌, length, take, drop, refl, sym, ap, subst, ◌∙◌, inl, inr, arith, append_assoc, length-append}, lemmas.{Bool.{cases_Bool, and_parts, eqb-true, ne_eqb, ltb-true, ltb-false, lt-ltb}, Str.{IsUtf8-from_is_utf8, is_utf8-from_IsUtf8}, List.{append-nil, take-append-drop, drop-drop, Sums.{AllPass-from_list_all, list_all-from_AllPass}}, Slice.Eq.{bytes_eq-Decides}}}, specs.{Prelude.{◌&&◌, nat_lt, map, All, bytes_eq, codes, Option, Some, None, option_map, option_and_then, if◌then◌else◌}, List.{list_all, flat_map}, Char.{is_ascii_digit}, Str.{is_utf8}}}
 use Rattle.hc_text.proofs.Basics.{mapped_from, not_some, some_inj as some_same}
 use Rattle.httparse.specs.Grammar.{LineEnd, print_end, print_blank, print_version, Field, IsField, print_section, RequestHead, IsRequestHead, print_request, ReadsRequest, ResponseHead, IsResponseHead, print_response, print_reason, reason_phrase, AllPass, ReadsResponse, is_token, is_token_byte, is_uri_byte, is_value_byte}

@@ -1,4 +1,9 @@
 -- What the grammar of a head says of its fields.
+--
+-- Classes of bytes of the grammar are those of the code (`is_token`). A value without the blanks at its ends is no
+-- longer than it was, and begins and ends with no blank (`own_value`). So each field that the grammar has is good for
+-- the code (`good_at`), and there are as many. Names and values have no more bytes than the lines that print them
+-- (`size_fields`). So they have no more than the text of the head (`small_headers`, `small_asked`).
 use Rattle.std.{proofs.{Common.{◌≡◌, ℕ, zero, suc, ◌+◌, ◌-◌, ◌<◌, ◌≤◌, ◌==◌, true, false, List, [], ◌∷◌, ◌++◌, length, reverse, get_or, refl, sym, ap, subst, ◌∙◌, inl, inr, arith, length-append}, lemmas.{Bool.{cases_Bool, ne_eqb}, List.{length-reverse, reverse-append, reverse-reverse, get_or_append_left, Sums.{list_all-from_AllPass, sum_by-cons}}}, Math.Seq.{get_or-append_seam}}, specs.{Prelude.{◌⊎◌, ◌||◌, map, All, IsTrue}, List.{list_all, flat_map}}}
 use Rattle.hc_text.proofs.Basics.{cond_either}
 use Rattle.http_header.specs.Token as header

@@ -1,8 +1,9 @@
--- A head that is printed is read as that head, and a head that is read prints as the text. Each way goes part by part:
--- fields and the section behind them (`section_read`, `section_make`), empty lines (`blank_read`, `blank_make`), and the
--- first line (`request_read`, `request_make`, `response_read`, `response_make`). So the equations read what the grammar
--- reads and nothing else, and a text comes to what they say (`asked_in_is`, `heard_in_is`): since the grammar reads one
--- head at most, the head that the equations find is the one that counts.
+-- The parts of a head that is printed are read as these parts, and parts that are read print as the text.
+--
+-- Each goes both ways: fields and the section behind them (`section_read`, `section_make`), empty lines (`blank_read`,
+-- `blank_make`), and the version (`minor_read`, `minor_make`). A name is a token, so it has no colon and no space, and
+-- a field line is cut behind it (`field_read`). An empty line ends the section, and none of its fields is one. What a
+-- whole head comes to is put together of these, request and answer.
 use Rattle.std.{proofs.{Common.{◌≡◌, ℕ, zero, suc, ◌<◌, ◌≤◌, true, false, List, [], ◌∷◌, ◌++◌, length, refl, sym, ap, subst, ◌∙◌, inl, inr, arith, append_assoc}, lemmas.{Bool.{cases_Bool, and_parts, eqb-true, ltb-true, lt-ltb}, List.{append-nil, Elements.{All-cons, All-head, All-tail}, Sums.{AllPass-from_list_all, list_all-from_AllPass}}, Slice.Eq.{bytes_eq-Decides}}}, specs.{Prelude.{nat_lt, map, All, bytes_eq, codes, Option, Some, None, option_map, option_and_then}, List.{list_all, flat_map}}}
 use Rattle.hc_text.proofs.Basics.{mapped_from, not_some, some_inj as some_same}
 use Rattle.httparse.specs.Grammar.{LineEnd, print_end, print_blank, print_version, Field, print_field, IsField, print_section, is_token, is_token_byte, is_value_byte}

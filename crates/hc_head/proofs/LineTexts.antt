@@ -1,7 +1,9 @@
--- A text as lines, and lines as a text. Each line that the grammar has is plain: no byte of it is a line feed or a
--- carriage return, since no class of its bytes has them. So a plain line and its end are read as that line and that end
--- (`line_printed`), and a word before the first byte of a kind is found as that word (`cut_word`). The other way, lines
--- that were read make the text again (`lines_make`), and so does a word, the byte behind it and the rest (`cut_makes`).
+-- A text as lines, and lines as a text.
+--
+-- Each line that the grammar has is plain: no byte of it is a line feed or a carriage return, since no class of its
+-- bytes has them (`all_plain`). So a plain line and its end are read as that line and that end (`line_printed`). A word
+-- before the first byte of a kind is found as that word (`cut_before`, `cut_behind`). The other way, lines that were
+-- read make the text again (`lines_make`), and so does a word, the byte behind it and the rest (`cut_makes`).
 use Rattle.std.{proofs.{Common.{◌≡◌, ℕ, suc, ◌+◌, ◌-◌, ◌<◌, ◌==◌, Bool, true, false, true≢false, List, [], ◌∷◌, ◌++◌, length, drop, refl, sym, ap, ◌∙◌, inl, inr, arith, append_assoc, length-append, length-drop}, lemmas.{Bool.{cases_Bool, and_parts, eqb-true, eq-eqb, false_from_ne_true, ne_eqb, lt-ltb}, List.{append-nil, take_at, drop_at, take-append-drop}, Slice.Eq.{bytes_eq-Decides}}}, specs.{Prelude.{◌&&◌, not, bytes_eq, Some, option_map}, List.{list_all, prefix_len, flat_map}}}
 use Rattle.hc_text.proofs.Basics.{mapped_from, not_some, some_inj as some_same}
 use Rattle.httparse.specs.Grammar.{LineEnd, crlf, lf, print_end}

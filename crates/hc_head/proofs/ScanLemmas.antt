@@ -1,4 +1,9 @@
 -- The search for the end of a head, over bytes that are put together.
+--
+-- The search is a fold, so it goes on over bytes that are put together (`scan_all-append`). Two bytes of a line without
+-- a line feed lead within it, and so do more (`long_line`): so a line is searched as a whole. `Passed` says what was
+-- passed and where it leads. A line more keeps it (`Passed-line`), the line that ends the head gives its length
+-- (`Passed-ends`), and in the rest no line ends (`Passed-rest`). The loop that seeks the end answers by these.
 use Rattle.std.{proofs.{Common.{◌≡◌, ℕ, ◌+◌, ◌≤◌, ◌==◌, true, false, List, [], ◌∷◌, ◌++◌, length, take, drop, refl, sym, ap, ◌∙◌, inl, inr, arith, append_assoc, length-append}, lemmas.{Bool.{and_parts, cases_Bool}, List.{take_at, drop_at}}}, specs.Prelude.{not}}
 use Rattle.hc_text.specs.Texts.{lacks}
 use Rattle.hc_head.specs.{declared.scan.Scan.{Scan, TheVariants.{Before, BeforeReturn, Within, Beginning, BeginningReturn, Ended}}, Scans.{scan_byte, scan_all, is_open, IsHeadEnd, StaysOpen, IsLineBefore}}

@@ -1,7 +1,9 @@
--- What is granted or shown has a spelling. The grammar gives tokens as names and values with their own ends, so each
--- field that is passed on is one of a list (`own_fields`). Put one behind another they stay a list, as few and as small
--- as the head (`put_spelled`), and leaving some out keeps that. The tests that come before a head is granted or shown
--- say the rest: each is met by the cases of the definition.
+-- What is granted or shown has a spelling.
+--
+-- The grammar gives tokens as names and values with their own ends, so each field that is passed on is one of a list
+-- (`own_fields`). Put one behind another they stay a list, as few and as small as the head (`put_spelled`), and leaving
+-- some out keeps that (`kept_spelled`). The tests that come before a head is granted or shown say the rest: each is met
+-- by the cases of the definition (`granted_by`, `shown_by`). `granted_spelled` and `shown_spelled` join these.
 use Rattle.std.{proofs.{Common.{◌≡◌, ℕ, suc, ◌+◌, ◌≤◌, Bool, true, false, List, [], ◌∷◌, length, refl, sym, ap, subst, ◌∙◌, inl, inr, arith, length-append}, lemmas.{Bool.{cases_Bool, and_parts, or_parts, leb-true, leb-false, ltb-false}, List.{Elements.{All-cons, All-head, All-tail, All-filter}, Sums.{list_all-from_AllPass, sum_by-cons}, Filters.{length-filter_both, sum_by-filter_both}}}}, specs.{Prelude.{◌||◌, not, nat_le, nat_lt, filter, All, codes, bytes_eq, Option, Some, None, Ok, Err}, Option.{option_and_then}, Str.{is_utf8}}}
 use Rattle.http_header.specs.Token as header
 use Rattle.httparse.specs.Grammar as grammar

@@ -1,4 +1,9 @@
 -- Where bytes lead within heads, chunk lines and bodies.
+--
+-- Each part goes byte by byte. Within a head bytes tell nothing while its end is open (`heading_on`), and the last one
+-- tells it (`heading_ends`); `heading_cut` takes a head apart into these. A head that is too long, or with which none
+-- begins, leads to its error. Chunk lines go the same way up to a line feed (`line_on`, `line_ends`). Bytes of a body
+-- are told as they are (`counts_on`, `chunk_on`, `runs_on`). What the code makes of a piece is compared with these.
 use Rattle.std.{proofs.{Common.{◌≡◌, ℕ, suc, ◌+◌, ◌-◌, ◌<◌, ◌≤◌, ◌==◌, true, false, true≢false, inl, inr, List, [], ◌∷◌, ◌++◌, length, take, refl, sym, ap, subst, ◌∙◌, arith, append_assoc, length-append, lt-ltb}, lemmas.{Bool.{cases_Bool, and_parts, ne_eqb, le-ltb}, List.{append-nil, take_at}}}, specs.Prelude.{not, nat_lt, map}}
 use Rattle.hc_text.specs.Texts.{lacks}
 use Rattle.hc_head.specs.declared.message.MsgError.TheVariants as error

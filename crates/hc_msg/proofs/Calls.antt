@@ -1,7 +1,9 @@
--- Where the bytes of a request lead. A whole head leads where it says, and one that is too long to its error. What is
--- kept of the beginning of a head is what may follow it (`GoesOn`), so behind further bytes it says whether a request
--- can begin with all of them (`begun`, `not_begun`). Where it can't, the first byte that shows it leads to BadHead:
--- before that byte the search for the end of the head is open (`AreOfHead`), so the reading was still within the head.
+-- Where the bytes of a request lead.
+--
+-- A whole head leads where it says, and one that is too long to its error. What is kept of the beginning of a head is
+-- what may follow it (`GoesOn`). So behind further bytes it says whether a request can begin with all of them (`begun`,
+-- `not_begun`). Where it can't, the first byte that shows it leads to BadHead. Before that byte the search for the end
+-- of the head is open (`AreOfHead`), so the reading was still within the head (`call_refused`).
 use Rattle.std.{proofs.{Common.{◌≡◌, ℕ, ◌+◌, ◌-◌, ◌<◌, ◌≤◌, true, false, List, [], ◌∷◌, ◌++◌, length, take, drop, refl, sym, ap, subst, ◌∙◌, inl, inr, arith, append_assoc, length-append, length-take}, lemmas.List.{append-nil, take_at, take-append-le, take-append-drop}}, specs.Prelude.{◌⊎◌, Result, Ok, Err}}
 use Rattle.hc_head.specs.{declared.{message.{MsgError.{MsgError}, WireRequest.{WireRequest}}, scan.{Scan.{Scan}, Sought.{Sought}}, start.Start.{Start, TheVariants.{Before, BeforeReturn, Method, Past}}}, Scans.{scan_all, is_open, IsHeadEnd, StaysOpen}, Starts.{begins_request, goes_on_from}, Finding.{IsLong, Finds}, Requests.{Asked, Grants, IsAskedBy}, Calls.{Gives}}
 use Rattle.hc_head.specs.declared.message.MsgError.TheVariants as error

@@ -1,7 +1,9 @@
--- What the readers take is what stands next. A byte has one step, and the equations name it (`makes_is`), so bytes that
--- tell nothing are passed (`passes_next`). What is left then is a head that is told at its last byte (`tells_next`), bytes
--- of a body that stand together (`brings_next`), an end or an error. That a byte tells nothing shows that it isn't one of a
--- body, and that a token is no byte shows the same of the last byte of a head.
+-- What the readers take is what stands next.
+--
+-- A byte has one step, and the equations name it (`makes_is`), so bytes that tell nothing are passed (`passes_next`).
+-- Left is a head that is told at its last byte (`tells_next`), bytes of a body that stand together (`brings_next`), an
+-- end or an error. A byte that tells nothing isn't one of a body; and where a token is no byte, the last byte of its
+-- head isn't one either. `takes_next` joins the cases for an answer, and `takes_next_request` for a request.
 use Rattle.std.{proofs.{Common.{◌≡◌, ℕ, ◌-◌, ◌<◌, true, List, [], ◌∷◌, ◌++◌, length, take, drop, refl, sym, ap, subst, ◌∙◌, inl, inr, arith, append_assoc, length-take, lt-ltb}, lemmas.List.{append-nil, drop_all, take-append-drop, drop-drop}}, specs.Prelude.{◌⊎◌, nat_lt, min, Option, Some, None, Result, Ok, Err}}
 use Rattle.hc_head.specs.{declared.message.{MsgError.{MsgError}, WireRequest.{WireRequest}}, Decoding.{asked_in, heard_in}}
 use Rattle.hc_head.specs.declared.message.MsgError.TheVariants as error

@@ -1,4 +1,9 @@
 -- What bytes lead to has one answer, and bytes that are put together lead on.
+--
+-- Each byte has one step, since a head, a chunk line and what they say have one answer (`makes_one`). So by induction
+-- over the bytes what they lead to is one (`leads_one`). Bytes that are put together lead where the second lead from
+-- the first (`leads_on`), and what both lead to may be taken apart (`leads_apart`). An error stays. A token that is
+-- told at the last byte is told alone, behind bytes that tell nothing (`tells_on`).
 use Rattle.std.proofs.{Common.{◌≡◌, ℕ, Bool, List, [], ◌∷◌, ◌++◌, Option, Some, None, refl, sym, ap, subst, ◌∙◌, append_assoc}, lemmas.List.{append-nil}}
 use Rattle.httparse.specs.Grammar.{ChunkLine, chunk_size}
 use Rattle.httparse.proofs.ChunkLemmas.{chunk_line_unique}

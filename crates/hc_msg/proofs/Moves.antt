@@ -1,4 +1,9 @@
 -- What the code makes of the first bytes of a piece is where they lead.
+--
+-- Where the first bytes of a piece lead is known; here what the code answers is put beside that, case by case. A head
+-- is whole, refused, too long or open (`head_moves`, `head_fails`, `head_long`, `head_open`); a chunk line the same. Of
+-- a body some bytes are given. A head that is skipped tells nothing, and one that is shown is told at its last byte
+-- (`shown_moves`). `gives_on` has the work of calls that follow: first what was passed, then what this one gives.
 use Rattle.std.{proofs.{Common.{◌≡◌, ℕ, ◌+◌, ◌-◌, ◌<◌, ◌≤◌, ◌==◌, Bool, true, List, [], ◌∷◌, ◌++◌, length, take, drop, get_or, refl, sym, ap, subst, ◌∙◌, inl, inr, arith, length-take, length-drop, take-add}, lemmas.List.{take_all, take-append-drop}}, specs.Prelude.{◌⊎◌, map, min, OnOk, Option, Some, None, Result, Ok, Err}}
 use Rattle.hc_msg.specs.{declared.{answer.{Moved.{Moved}, State.{State}}, trailer.Trailer.{Trailer}, message.WirePart.{WirePart}}, Chunks.{LineSays, IsLongLine, trail}, Reading.{Reading, Responses, Heading, Failed, Counts, Runs, Sizing, Chunk, ChunkEnd, ChunkReturn, Trailing, Byte, counts, chunk, reading_of_chunk, after_line, Answers, after_heard, heading, body, quiet, fails, Makes, move_of, Leads, TellsAtLast}, Taking.{reading_by, Moves, Takes, Completes, Replied, Enters, IsPieceOf, Expects, TrailMoves}}
 use Rattle.hc_msg.specs.declared.answer.Moved.TheVariants as moved

@@ -1,6 +1,9 @@
--- A chunk line says what the equations say. A printed line is cut into its digits, its blanks and its extension again,
--- since what follows each of these begins with another byte (`run_cut`). The other way, what was cut is a line that
--- prints as the text (`size_makes`).
+-- A chunk line says what the equations say.
+--
+-- A printed line is cut into its digits, its blanks and its extension again (`size_reads`). What follows each of these
+-- begins with another byte, so each run ends where it was put (`run_len`). The other way, what was cut is a line that
+-- prints as the text (`size_makes`), which is the longer half: the test of the line is taken apart, and its parts are
+-- put together again. `size_in_is` joins both.
 use Rattle.std.{proofs.{Common.{◌≡◌, ℕ, suc, ◌+◌, ◌-◌, ◌^◌, ◌<◌, ◌==◌, Bool, true, false, List, [], ◌∷◌, ◌++◌, length, take, drop, refl, sym, ap, subst, ◌∙◌, inl, inr, arith, append_assoc, length-append}, lemmas.{Bool.{cases_Bool, and_parts, eqb-true, ltb-true, lt-ltb, leb-true, le-leb}, List.{append-nil, take_at, drop_at, take-append-drop, Sums.{AllPass-from_list_all, list_all-from_AllPass}}, Slice.Eq.{bytes_eq-Decides}}}, specs.{Prelude.{◌&&◌, nat_lt, nat_le, bytes_eq, Option, Some, None, if◌then◌else◌}, List.{list_all, prefix_len}, Char.{is_ascii_hexdigit}, Str.Parse.{digits_value}}}
 use Rattle.hc_text.proofs.Basics.{not_some, some_inj as some_same}
 use Rattle.httparse.specs.Grammar.{ChunkLine, IsChunkLine, print_chunk_line, print_extension, IsExtension, chunk_size, is_ows, is_extension_byte}

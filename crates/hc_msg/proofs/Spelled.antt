@@ -1,4 +1,9 @@
 -- What bytes tell has a spelling: only a whole head tells something that needs one, and its text is short.
+--
+-- Of each step it is shown that its tokens have a spelling (`step_spelled`). Bytes of bodies, chunk lines and trailers
+-- tell no request and no head. In `heading_spelled` a byte goes on, ends the head or refuses it. A head that ends has
+-- at most 32,768 bytes, and what such a text asks or answers has a spelling (`asked_spelled`). By induction it holds of
+-- all tokens (`tokens_spelled`), and so of what a reader gives.
 use Rattle.std.{proofs.{Common.{◌≡◌, ℕ, ◌≤◌, ◌==◌, Bool, List, [], ◌∷◌, ◌++◌, length, sym, subst, inl, inr, arith, length-append}, lemmas.{Bool.{cases_Bool, ltb-true}, List.Elements.{All-cons, All-head, All-append}}}, specs.Prelude.{nat_lt, All, IfSome, if◌then◌else◌, Option, Some, None, Result, Ok, Err}}
 use Rattle.hc_head.specs.{declared.{message.{MsgError.{MsgError}, WireRequest.{WireRequest}}, scan.Scan.{Scan}}, Scans.{scan_byte, is_open}, Requests.{Asked, Grants, Denies, IsAskedBy}, Responses.{Heard, Skips, Shows, Refuses, IsHeardIn}}
 use Rattle.hc_head.proofs.Spellings.{granted_spelled, shown_spelled}

@@ -1,8 +1,8 @@
 -- What one more call brings of a connection, and what more bytes make of its first request.
 --
 -- A call brings to what came of a connection what its event says, and to the others nothing. Bytes behind a whole
--- request, and behind a refused one, change nothing of it; where it isn't whole, they are read from where its
--- reading stands (`next_more`). So what a connection is answered stays.
+-- request, and behind a refused one, change nothing of it (`next_on`); where it isn't whole, they are read from where
+-- its reading stands (`waits-more`). So what a connection is answered stays (`answer-more`).
 use Rattle.std.{proofs.{Common.{◌≡◌, ℕ, List, [], ◌∷◌, ◌++◌, Bool, true, false, not, Option, Some, None, refl, sym, ap, subst, ◌∙◌, inl, inr, append_assoc}, lemmas.{List.{append-nil}, Bool.{cases_Bool}}}, specs.Prelude.{if◌then◌else◌, ◌||◌, ◌&&◌, is_some}}
 use Rattle.hc_text.proofs.Basics.{cond_either as or_all, or_false as or_none}
 use Rattle.hc_event.specs.declared.event.Request.{Request}

@@ -1,8 +1,9 @@
 -- What is kept of each connection goes on fitting the log.
 --
 -- A step is about one connection. What is kept of the others stays, since their bytes, their taker and what they are
--- owed stay (`place-other`, `others-moved`). Of the one in hand it is shown by what is kept of it: it is accepted, its
--- request is read on, is whole or is refused, it was cut off, it took bytes, or it took all.
+-- owed stay (`place-other`, `others-call`). Of the one in hand it is shown by what is kept of it: it is accepted, its
+-- request is read on, is whole or is refused, it was cut off, it took bytes, or it took all. `heard` joins the events
+-- of a call, and `heard-log` says that the same is a log already.
 use Rattle.std.{proofs.{Common.{◌≡◌, ℕ, List, [], ◌++◌, Bool, true, false, eqb, Option, Some, None, refl, sym, ap, subst, ◌∙◌, inl, inr}, lemmas.{List.{append-nil}, Bool.{cases_Bool, eqb-true, eq-eqb}}}, specs.{Prelude.{find, IfSome}, Option.{option_map}}}
 use Rattle.hc_wire.specs.{declared.event.WireEvent.{WireEvent}, Events.{Stage, Unseen, Open, Closed, IsOfOpen, IsOpen, IsUnended}, Following.{live_from}, Logs.{Called, Log, Taker, fresh, is_numbered, over, standings_in, takers_with, with_call}, Scripts.{is_got_by}}
 use Rattle.hc_wire.specs.declared.event.WireEvent.TheVariants as event

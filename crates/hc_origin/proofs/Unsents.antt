@@ -1,7 +1,9 @@
 -- What is to be sent, by connection.
 --
--- One in the middle of a list is taken out, and one is put behind it. No connection stands twice, so behind that
--- nothing of it is left.
+-- No connection stands twice, so in front of one and behind it nothing of it is left. Each lemma goes by induction over
+-- the ones before: the first is of the connection that is asked for, or of another. Taken out of the middle, it is
+-- nowhere, and the others stay (`own-without`, `others-without`). Put behind, it is found, and the others stay
+-- (`own-with`, `others-with`). `moved` joins both, and `once-moved` says that none stands twice then.
 use Rattle.std.proofs.{Common.{◌≡◌, ℕ, List, [], ◌∷◌, ◌++◌, true, false, eqb, Some, None, refl, sym, ap, subst, ◌∙◌, inl, inr, append_assoc}, lemmas.Bool.{cases_Bool, eqb-true, eq-eqb}}
 use Rattle.hc_origin.specs.Replies.{Unsent, StandOnce, unsent_in}
 use Rattle.hc_origin.proofs.Takers.{apart_sym}

@@ -1,6 +1,9 @@
--- No more consumers are live than there are clients, and the next request of no more is to be read. Each list has no
--- number twice. Those to be read are among the connections. The connections of the live consumers are too, and none
--- of them stands there twice, since a row has one consumer.
+-- No more consumers are live than there are clients, and the next request of no more is to be read.
+--
+-- Each list has no number twice. Where each of its numbers leads to a client, it is no longer than the keys of the
+-- table (`set-fits`). Those to be read are among the connections (`ready-fits`). The connections of the live consumers
+-- are too; none of them stands there twice, since a row has one consumer (`apart-values`). `live-fits` joins that, and
+-- by `all-fits` a list of all keys is as long as the table. By these the clients count what they list.
 use Rattle.std.{proofs.{Common.{◌≡◌, ℕ, suc, ◌≤◌, List, [], ◌∷◌, length, true, false, Option, Some, None, inl, inr, eqb, refl, sym, ap, ◌∙◌, arith, rules}, lemmas.{Bool.{cases_Bool, eqb-true, eqb-false, Decides.{nat_tests}}, Map.{Entries.{length-keys_of, length-values_of, btree_map_get_place}, Keys.{IsDistinct-from_sorted}, Made.{length-le_from_is_member, length-from_same_keys, is_some-lookup, is_member-Decides}}}}, specs.{Prelude.{nat_eq, is_some, Contains, IsSome, ◌↔◌}, Cmp.{nat_eq_equiv, nat_cmp_total, unsigned_Decides, eq_by_cmp_equiv}, HashMap.{HashMap}, BTreeMap.{BTreeMap}, BTreeSet.{BTreeSet}, List.{IsDistinct, AllByRecursion, list_any, slice_get, Sorted.{IsStrictlySortedBy}}, Map.{keys_of, values_of}, Set.{is_member}, Ordering.{nat_cmp, eq_by_cmp}}}
 use Rattle.std.specs.HashMap as hash
 use Rattle.std.specs.BTreeMap as tree

@@ -1,4 +1,9 @@
 -- A text spells one range at most.
+--
+-- A text is cut in one way at the first byte of a kind (`split_unique`), and digits are no hyphen and no slash. So what
+-- spells a range is cut where the reader cuts it: at the unit, at the hyphen, or at the slash (`range_at`, `spec_at`,
+-- `response_at`). Which form it is shows by what is empty there (`asks_last`, `asks_from`), or by an asterisk, which is
+-- no positions (`star_positions`). Numbers have one reading, so the answers agree.
 use Rattle.std.{proofs.{Common.{◌≡◌, ◌≢◌, ℕ, ◌+◌, ◌<◌, ◌≤◌, Bool, true, false, eqb, not, List, [], ◌∷◌, ◌++◌, length, take, drop, map, Option, Some, refl, sym, ap, ◌∙◌, subst, inl, inr, arith, lit≤}, lemmas.{Bool.{cases_Bool, and_parts, and_from, eqb-true, eq-eqb, both_ways, not_from_false, not_from_true}, List.{append_assoc, length-append, length-map, take_at, drop_at}}}, specs.{Char.{digit_value, to_ascii_lowercase}, List.{list_all}, Str.Parse.{AllDigits}}}
 use Rattle.hc_text.specs.Numbers.{IsNumber}
 use Rattle.hc_range.specs.{Bytes.{LacksByte}, declared.range.{Asked.{Asked, TheVariants.{From, FromTo, Last}}, ContentRange.{ContentRange, TheVariants.{Part, Unsatisfied}}}, Ranges.{SpellsPositions, SpellsSpec, SpellsRange, SpellsTotal, SpellsResponse, SpellsContentRange}}

@@ -1,4 +1,9 @@
 -- A text begins with one part of each form at most.
+--
+-- A number ends at the byte behind its digits, so two such texts are cut alike (`ended_once`). A byte tells the kind,
+-- and a total has a fixed length, with hyphens where it isn't known; 20 hyphens are no number (`no_hyphens`). So a seal
+-- is one (`seal_once`), and each of the numbers in a row (`numbers_once`). The other way, a text that goes on otherwise
+-- behind some parts begins with no such line (`no_line_end`, `no_second` to `no_fifth`).
 use Rattle.std.{proofs.{Common.{◌≡◌, ◌≢◌, ℕ, ◌<◌, List, [], ◌∷◌, ◌++◌, take, drop, Option, Some, None, refl, sym, ap, ◌∙◌, arith}, lemmas.{Fmt.{decimal_injective}, List.{append_assoc, take_at, drop_at}}}, specs.{Prelude.{if◌then◌else◌, ◌==◌, replicate}, Fmt.{decimal}}}
 use Rattle.hc_text.specs.Numbers.{IsNumber}
 use Rattle.hc_record.specs.{declared.{kind.Kind.{Kind, TheVariants.{Growing, Whole, Truncated, Ranges}}, parts.Numbers.{Numbers}}, Lines.{kind_byte, total_text, seal_line, numbers_line, number_and_end, IsSmall, IsSmallTotal}, Parts.{numbers_text, AreSmall}}

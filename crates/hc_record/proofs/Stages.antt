@@ -1,4 +1,9 @@
 -- A record read from its front: what is left behind each of its parts.
+--
+-- A record begins with its first lines: version, seal and numbers. A text begins with one of each (`first_once`), so
+-- lines that were read are those of the head that it spells (`same_first`). Behind them stands the tag (`tag_first`),
+-- then the fields for Vary and those of the head, of which the numbers say how many (`vary_of`, `fields_of`). The parts
+-- that were read make the record again (`assembled`). Where one is missing no head spells the text.
 use Rattle.std.{proofs.{Common.{◌≡◌, ◌≢◌, ℕ, true, List, [], ◌∷◌, ◌++◌, length, take, drop, get_or, IsTrue, refl, sym, ap, ◌∙◌, inl, inr, arith}, lemmas.{Bool.{or_cases, eqb-true}, List.{append_assoc, append-nil, take_at, drop_at}}}, specs.Prelude.{◌==◌, ◌||◌, codes}}
 use Rattle.hc_text.specs.Texts.{lacks}
 use Rattle.hc_fields.specs.{FieldList.{values_of, IsListOf}, Lines.{fields_text}}

@@ -1,4 +1,9 @@
 -- A denied event names the least refusal that applies.
+--
+-- For each event the tests are gone through in their order. The first that applies is the answer: it stops the event,
+-- and each refusal of a lower rank doesn't, since the tests before it failed. Where none applies, nothing stops the
+-- event. Each test has a lemma for the bound on the rank. A piece has most of them (`piece-least`): no head, nothing
+-- asked, no bytes, or more than was promised (`promise-least`). `denials-least` joins the events.
 use Rattle.std.{proofs.{Common.{◌≡◌, ◌≢◌, ℕ, ◌+◌, ◌<◌, ◌≤◌, true, false, eqb, leb, ltb, length, Option, Some, None, refl, sym, ◌∙◌, arith, lit≤}, lemmas.Bool.{eqb-true, Decides.{nat_tests}}}, specs.Prelude.{not}}
 use Rattle.hc_text.proofs.Basics.{not_true as denied, either, not_false as granted, leb-le, leb-lt, ltb-le, ltb-lt}
 use Rattle.hc_event.specs.declared.{event.Event.TheVariants.{Start, Poll, Head, Piece, End, Fault, Cancel, Doom}, act.Refusal.{Refusal, TheVariants.{NotRising, TooManyConsumers, NoConsumer, Finished, WantZero, NoExchange, HeadTwice, NoHeadYet, NotAsked, EmptyPiece, Overlong}}}

@@ -1,4 +1,9 @@
 -- What plans say of their views.
+--
+-- A plan is the first row of the table that applies, and then has exceptions. From the first row on it is said what the
+-- view has where it applies: what is current, why it may be used, who has the turn (`IsBare`, `bare-right`). Whoever
+-- doesn't wait has the turn, or was let through and may still read (`turn_held`). Then the exceptions: a wait that took
+-- too long (`timed-right`), and a request for what is stored alone (`stored-right`). `plans-right` joins both.
 use Rattle.std.{proofs.{Common.{◌≡◌, ◌≢◌, ℕ, ◌+◌, ◌<◌, ◌⊎◌, Bool, true, false, eqb, leb, Option, Some, None, refl, ap, inl, inr, arith}, lemmas.Bool.{cases_Bool, eqb-true, and_parts, Decides.{nat_tests}}}, specs.Prelude.{IsSome, ◌&&◌, ◌||◌, not, is_none}}
 use Rattle.hc_text.proofs.Basics.{either, leb-lt}
 use Rattle.hc_range.specs.declared.range.Span.{Span}

@@ -1,4 +1,9 @@
 -- What is read of Range and Content-Range is what their grammar spells.
+--
+-- Both ways, for each part of the grammar. A text is cut at the first byte of a kind (`split_at-cut`), and is two parts
+-- with that byte between (`split_at-some`). Numbers have no hyphen and positions no slash. So what is spelled is cut
+-- where it was joined, and read (`spec_in-spelled`, `content_range_in-spelled`). What is read passed the tests, so it
+-- is spelled (`spec_in-some`). What a reader by the grammar gives is thus what is defined (`asked_in-read`).
 use Rattle.std.{proofs.{Common.{◌≡◌, ℕ, ◌<◌, ◌≤◌, ◌⊎◌, Bool, true, false, eqb, leb, ltb, not, List, [], ◌∷◌, ◌++◌, take, drop, map, Option, Some, None, refl, sym, ap, ◌∙◌, subst, inl, inr, arith, lit≤, lt-ltb}, lemmas.{Bool.{cases_Bool, and_parts, and_from, eqb-true, not_from_false, not_from_true, both_ways}, List.{append_assoc, take-append-drop}, Slice.Eq.{bytes_eq-Decides}}}, specs.{Prelude.{bytes_eq, option_map, IfSome}, Char.{digit_value, to_ascii_lowercase}, List.{list_all}, Str.Parse.{AllDigits}}}
 use Rattle.hc_text.proofs.Basics.{eqb-same, le-leb, leb-le, ltb-lt}
 use Rattle.hc_text.specs.Numbers.{IsNumber}

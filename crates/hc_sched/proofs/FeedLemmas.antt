@@ -1,4 +1,9 @@
 -- A text is read piece by piece.
+--
+-- Text that goes on is read on from where it stood (`after-append`, `events_in-append`). A whole line comes to what its
+-- bytes come to one by one (`line_passes`): it grows until it is too long, which stops both alike. The same is shown of
+-- the end of a piece without a line feed (`line_grows`, `line_too_long`). By these a loop over lines keeps what is read
+-- (`Still-next`). It ends where a line is refused (`Still-refused`), or for want of memory (`Still-spent`).
 use Rattle.std.proofs.{Common.{◌≡◌, ℕ, ◌+◌, ◌<◌, ◌≤◌, ◌==◌, true, not, List, [], ◌∷◌, ◌++◌, length, Some, Result, Err, refl, sym, ap, ◌∙◌, inl, inr, arith, append_assoc, length-append, lt-ltb}, lemmas.{Bool.{cases_lt, and_parts, le-ltb, not-true}, List.{append-nil}}}
 use Rattle.hc_text.specs.Texts.{lacks}
 use Rattle.hc_sched.specs.{declared.{place.Place.{Place}, reader.Reader.{Reader}, schedule.{FeedError.{FeedError}, Refused.{Refused}, Timed.{Timed}}}, Reading.{Progress, Reads, Stopped, Step, refuse, quiet, take_line, take_byte, after, events_in}, Feeding.{join_line, AddsFirst, ReadsOn, Feeds, AnswersAgain, progress_of}, Taking.{Does, Takes}}

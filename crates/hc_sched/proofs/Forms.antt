@@ -1,4 +1,9 @@
 -- The first line of an item that is spelled is read.
+--
+-- Each word is read back by its own test: the word of a load (`load_of-word`), numbers, and the text of a piece. No
+-- keyword begins as another does, so it tells the form (`first_of-poll` to `first_of-doom`). `first_of-line` joins this
+-- by the kinds of items. That a line has no line feed and is short goes word by word (`line-short`), with most words
+-- for a start. A method, a target and a load are brief, a number has few digits, and a piece has the longest text.
 use Rattle.std.{proofs.{Common.{◌≡◌, ℕ, ◌≤◌, true, false, List, ◌∷◌, ◌++◌, length, Some, refl, ap, ◌∙◌, arith, length-append, le-leb, leb-true}, lemmas.Bool.{and_parts}}, specs.{Prelude.{codes, option_map}, Fmt.{decimal}}}
 use Rattle.http_header.specs.Token.{is_token_byte}
 use Rattle.hc_text.specs.{Texts.{lacks, IsSmall}, Cuts.{behind}}

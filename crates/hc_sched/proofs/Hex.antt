@@ -1,4 +1,9 @@
 -- Lower-case hexadecimal.
+--
+-- A table is looked through once: each lower-case digit stands at the place of its value (`all_back-at`). So what was
+-- decoded is encoded as it was (`encode-decode_lower`): of two digits the value has the one as its quotient by 16, the
+-- other as its remainder. The other way a text of bytes has lower-case digits, two for each byte. The test of such a
+-- text is taken apart (`IsHexText-from_test`). `IsPiece-text` and `bytes_of-piece_text` join both ways.
 use Rattle.std.{proofs.{Common.{◌≡◌, ℕ, zero, suc, ◌+◌, ◌*◌, ◌/◌, ◌%◌, ◌<◌, ◌≤◌, ◌==◌, Bool, true, false, not, ◌&&◌, ◌||◌, List, [], ◌∷◌, length, slice_index, Option, Some, None, unwrap_or, Result, Ok, Err, refl, sym, ap, ◌∙◌, arith, inl, inr}, lemmas.{Bool.{and_parts, cases_Bool, cases_lt, eqb-true, eq-eqb, leb-true, le-leb, false_from_ne_true, agree_below_at, Decides.{nat_tests}}, Slice.Eq.{bytes_eq-Decides}, List.{get_or_past, Elements.{All-weaker, All-head, All-tail, All-nil, All-from_get_or}, Sums.{AllPass-from_list_all}}}}, specs.{Prelude.{All, bytes_eq, codes}, List.{AllPass, list_all}, Result.{result_unwrap_or}}}
 use Rattle.hc_text.specs.Texts.{lacks}
 use Rattle.hex.proofs.HexLemmas.{decode_of-digits, decode_of-even, decode_of-ok, decode_of-encode_lower, length-encode_with}

@@ -1,4 +1,9 @@
 -- A text has one reading.
+--
+-- What is spelled is read (`is_read`). The other way, where the reading of a text ends with no refusal, nothing is left
+-- behind its items (`spelled_at`). What it brings is the events of these, also where it was refused (`has_read`). Two
+-- items that a text begins with are one (`item_once`): their lines are cut alike, their first lines read alike, and so
+-- are as many fields. So a text has one spelling (`one_spelling`), and what refuses it refuses more text too.
 use Rattle.std.{proofs.{Common.{◌≡◌, ◌≢◌, ℕ, ◌+◌, ◌≤◌, ◌==◌, ◌&&◌, true, List, [], ◌∷◌, ◌++◌, length, Option, Some, None, refl, sym, ap, subst, ◌∙◌, inl, inr, arith, append_assoc, length-append}, lemmas.{Bool.{cases_Bool, eqb-true}, List.{append-nil}}}, specs.Prelude.{is_none}}
 use Rattle.hc_event.specs.declared.event.Event.TheVariants as event
 use Rattle.hc_fields.specs.Lines.{fields_text}

@@ -1,4 +1,9 @@
--- A text that is read is spelled: what stands for each place of the reading.
+-- A text that is read is spelled: what the first line of an item says.
+--
+-- Each form is taken apart: the tests that it passed say that its words are numbers, a method, a target or a piece, and
+-- that they make the line again. `start_of-parts` is the longest, since a start has most words. Which form it was is
+-- found by the keyword: behind its own keyword a form was read, else the forms after it are tried (`says_form`,
+-- `says_number`). `first_of-says` joins them all; the proof of what the reading represents uses it.
 use Rattle.std.{proofs.{Common.{◌≡◌, ◌⊎◌, ℕ, ◌≤◌, ◌&&◌, Bool, true, false, List, [], ◌∷◌, ◌++◌, Option, Some, None, refl, sym, ap, subst, ◌∙◌, inl, inr, leb-true}, lemmas.{Bool.{cases_Bool, and_parts}, Slice.Eq.{bytes_eq-Decides}}}, specs.{Prelude.{codes, nat_le, bytes_eq, option_map, if◌then◌else◌}, Fmt.{decimal}}}
 use Rattle.hc_text.proofs.{Basics.{mapped_from as option_map-parts}, Cutting.{append-cut, append-behind}}
 use Rattle.hc_text.specs.{Texts.{IsSmall}, Cuts.{cut, behind}}

@@ -1,4 +1,9 @@
 -- A text that is spelled is read: as its events, and to the end of an item.
+--
+-- A line that ends is one step of the reading (`one_line`), and texts one after another are read on (`Gives-append`).
+-- An item of one line is one step (`closed`). For an item with fields, its first line opens it (`opened`), and
+-- `fields_read` goes by induction over its field lines: each but the last leaves one less to come. `item_read` joins
+-- the kinds of items, `items_read` goes over the schedule. `read_back` is for the text that is written for an event.
 use Rattle.std.proofs.{Common.{◌≡◌, ℕ, ◌+◌, ◌-◌, ◌<◌, ◌≤◌, ◌==◌, true, false, List, [], ◌∷◌, ◌++◌, length, Option, Some, None, refl, sym, ap, subst, ◌∙◌, arith, inl, inr, append_assoc}, lemmas.{Bool.{le-ltb, ne_eqb, eq-eqb, cases_eq}, List.{append-nil}}}
 use Rattle.hc_text.specs.Texts.{lacks}
 use Rattle.hc_event.specs.declared.event.Event.{Event}

@@ -1,4 +1,9 @@
--- A text that is read is spelled: what a place of the reading stands for, byte by byte.
+-- A text that is read is spelled: what a place of the reading represents, byte by byte.
+--
+-- A place represents whole items, what was begun of one, and the bytes of its line. What a first line says is known
+-- (`says_step`): it is an item (`one_item`), or begins one with fields (`begins_item`). `next_step` has most of the
+-- work: a field line ends the item where it is the last one missing, else it is counted down. `line_step` joins both
+-- kinds of lines. A byte grows the line, ends it or is refused (`byte_step`); `text_step` goes on by induction.
 use Rattle.std.{proofs.{Common.{◌≡◌, ℕ, ◌+◌, ◌-◌, ◌<◌, ◌≤◌, ◌==◌, true, List, [], ◌∷◌, ◌++◌, length, Option, Some, None, refl, sym, ap, subst, ◌∙◌, inl, inr, arith, append_assoc, lt-ltb}, lemmas.{Bool.{cases_Bool, cases_lt, cases_eq, eq-eqb, ne_eqb, eqb-true, le-ltb}, List.{append-nil}}}, specs.{Prelude.{codes}, Fmt.{decimal}}}
 use Rattle.hc_text.specs.{Texts.{IsSmall}, Cuts.{cut, behind}}
 use Rattle.hc_event.specs.declared.event.Event.TheVariants as event

@@ -1,4 +1,9 @@
 -- What blocks and the list of all bytes have, by the position.
+--
+-- A position is an offset in its block of 4,096. What a block marks there is what all blocks mark at the position
+-- (`marks-here`, `extent-here`). Bytes that are put come behind all others, and their positions are marked with these
+-- places, so they stand where they were put (`put-cells`). A whole extent gives the longest stretch (`whole-longest`).
+-- `put-kept` joins what a put leaves: every mark has a byte, and there are as many bytes as positions.
 use Rattle.std.{proofs.{Common.{◌≡◌, ◌≢◌, inl, inr, ℕ, ◌+◌, ◌-◌, ◌/◌, ◌%◌, ◌<◌, ◌≤◌, ◌^◌, List, ◌++◌, length, get_or, take, drop, get_or-take, get_or-drop, length-drop, true, false, Option, Some, None, refl, sym, ap, ◌∙◌, arith, length-append}, lemmas.{Bool.{lt-ltb}, List.{get_or_append_left, get_or-append-add, length-take-le}}}, specs.{Prelude.{Result, Ok, Err, OnOk, OnErr}, Ordering.{nat_cmp}, BTreeMap.{BTreeMap, get}}}
 use borrow.Author.Tests.{ltb-true}
 use Rattle.hc_sparse.proofs.{SizeLemmas.{size-put, size-same, size-le}, CellLemmas.{inside-cases}}

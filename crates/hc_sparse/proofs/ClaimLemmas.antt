@@ -1,4 +1,9 @@
 -- Offsets made an exchange's.
+--
+-- Offsets are claimed where none is taken. A new extent goes to the place of its offset: by induction the extents
+-- before it stay, and those behind it begin past its end (`ascend-inserted`). Claims of other offsets may change
+-- places, so the marks are those with the new ones (`claim-inserted`). Where an extent of the same exchange ends there,
+-- and its bytes too, it is made longer: two such claims are one (`claimed-append`, `claim-lengthened`).
 use Rattle.std.{proofs.{Common.{◌≡◌, inl, inr, ℕ, zero, suc, ◌+◌, ◌-◌, ◌<◌, ◌≤◌, List, [], ◌∷◌, length, Bool, true, false, cond, Option, Some, None, refl, sym, ap, ◌∙◌, arith, add-one, get_or, set}, lemmas.Bool.Decides.{nat_tests}}, specs.{Prelude.{Result, Ok, Err, IsOk, is_ok}, List.{insert}}}
 use Rattle.hc_text.proofs.Basics.{le_or as le_cases}
 use Rattle.hc_sparse.specs.{Cells.{inside}, Extents.{Mark, Marks, mark, marks_of, ascend, place_of, end_of, longer_extent, claimed_marks, AreFree}, declared.extents.Extent.{Extent}}

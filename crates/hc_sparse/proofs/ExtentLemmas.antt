@@ -1,4 +1,9 @@
 -- Extents one after another, and whose they make offsets.
+--
+-- As for runs of bytes, within one block. Extents ascend, so none has an offset before where the first begins, or past
+-- the block (`marks-before`, `marks-past`). `at-place` has the work, by induction: a first extent that ends past the
+-- offset is the one, and what ends by it is passed. Whether an extent ends by an offset turns once along the list
+-- (`partitioned`), so a binary search finds that place (`place-is`).
 use Rattle.std.{specs.{List.Sorted.{IsPartitionedBy, IsPartitionPoint}, Prelude.{nat_le}}, proofs.{Common.{◌≡◌, inl, inr, ℕ, zero, suc, ◌<◌, ◌≤◌, List, [], ◌∷◌, length, true, false, None, refl, arith, add-one, get_or}, lemmas.Bool.{leb-true, le-leb, Decides.{nat_tests}}}}
 use Rattle.hc_text.proofs.Basics.{le_or as le_cases}
 use Rattle.hc_sparse.specs.{Extents.{marks_of, ascend, place_of, end_of, IsExtentFrom}, declared.extents.Extent.{Extent}}

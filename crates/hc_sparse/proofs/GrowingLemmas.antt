@@ -1,4 +1,9 @@
 -- Bytes that are kept in segments.
+--
+-- All segments but the last have 16,384 bytes (`whole-length`). So a place is one in a segment, by quotient and
+-- remainder, or one in the last bytes (`last-place`). What stands from there on begins with the rest of that segment
+-- (`begin-whole`) or of the last bytes (`begin-last`). So a part of a segment is a part of all bytes (`part-whole`).
+-- `filled` is for bytes that are put: the last segment is completed, whole ones follow, and the rest is the last one.
 use Rattle.std.{proofs.{Common.{◌≡◌, inl, inr, ℕ, zero, suc, ◌+◌, ◌-◌, ◌*◌, ◌/◌, ◌%◌, ◌<◌, ◌≤◌, List, [], ◌∷◌, ◌++◌, length, true, refl, sym, ap, ◌∙◌, arith, get_or, take, drop, append_assoc, append-nil, length-append, length-take, length-drop}, lemmas.{Bool.{cases_Bool, eqb-true}, List.{drop-append-le, take-append-drop, drop-drop, take_all, take_min, take-take, Folds.{concat-append}}}, Math.Seq.{drop-append-add, take-append_seam, take-add}}, specs.{Prelude.{nat_eq, slice_range, Result, Ok, Err, IfOk}, List.{concat}}}
 use Rattle.hc_sparse.specs.Growing.{are_whole, Begin}
 

@@ -1,4 +1,9 @@
 -- Bytes put among runs.
+--
+-- Bytes are put where nothing is. A new run goes to the place of its position: by induction the runs before it stay,
+-- and those behind it begin past its end (`ascend-inserted`). The bytes are those with the new ones, since writes at
+-- other positions may change places (`written-written`). A run that ends where the bytes begin is made longer instead
+-- (`ascend-lengthened`, `cells-lengthened`). `put-inserted` and `put-lengthened` say each of the function that puts.
 use Rattle.std.{proofs.{Common.{◌≡◌, inl, inr, ℕ, zero, suc, ◌+◌, ◌-◌, ◌<◌, ◌≤◌, ◌^◌, List, [], ◌∷◌, length, Bool, true, false, cond, Option, Some, None, refl, sym, ap, ◌∙◌, arith, add-one, get_or, length-append, set}, lemmas.Bool.Decides.{nat_tests}}, specs.List.{insert}}
 use Rattle.hc_text.proofs.Basics.{le_or as le_cases}
 use Rattle.hc_sparse.specs.{Cells.{Cells, Cell, cells_with, inside, AreAbsent}, Runs.{cells_of, cell_in, ascend, place_of, end_of, longer_run}, declared.run.Run.{Run}}

@@ -1,4 +1,9 @@
 -- Runs one after another, and what they have.
+--
+-- Runs ascend, so none has a byte before where the first begins (`cells-before`), or past the greatest position
+-- (`cells-past`). `at-place` has the work, by induction: a first run that ends past the position is the one, and what
+-- ends by it is passed. Whether a run ends by a position turns once along the list (`partitioned`), so a binary search
+-- finds that place (`place-is`). The first position of that run from there on is the next that is present (`next-is`).
 use Rattle.std.{specs.{List.Sorted.{IsPartitionedBy, IsPartitionPoint}, Prelude.{nat_le}}, proofs.{Common.{◌≡◌, inl, inr, ℕ, zero, suc, ◌<◌, ◌≤◌, ◌^◌, List, [], ◌∷◌, length, true, false, Some, None, refl, arith, add-one, get_or, max}, lemmas.Bool.{leb-true, le-leb, Decides.{nat_tests}}}}
 use Rattle.hc_text.proofs.Basics.{le_or as le_cases}
 use Rattle.hc_sparse.specs.{Cells.{EndsBy, IsNext}, Runs.{cells_of, ascend, place_of, end_of, IsRunFrom}, declared.run.Run.{Run}}

@@ -1,4 +1,9 @@
 -- Stretches of bytes of one exchange.
+--
+-- What an exchange has from a position on are its bytes there, behind which none of it stands (`front`); there is one
+-- such list (`front-unique`). So the first stretch is the longest (`stretch-longest`, `stretch-only`). A put changes no
+-- stretch that begins behind it, or is of another exchange (`stretch-behind`, `stretch-of_other`). A stretch that
+-- reaches the bytes put has the work: it goes on through those to what stands behind (`bytes-reaching`).
 use Rattle.std.{proofs.{Common.{◌≡◌, ◌≢◌, inl, inr, ℕ, zero, suc, ◌+◌, ◌-◌, ◌<◌, ◌≤◌, List, [], ◌∷◌, ◌++◌, length, true, false, eqb, Option, Some, None, refl, sym, ap, ◌∙◌, arith, get_or, take, zero-add, append_assoc}, lemmas.Bool.Decides.{nat_tests, eqb_tells}}, specs.Prelude.{◌↔◌, IfSome}}
 use Rattle.hc_text.proofs.Basics.{lt_or as split}
 use Rattle.hc_sparse.specs.{Cells.{Cells, Cell, AreOf, AreAbsent, cells_with}, Stretch.{bytes_from, goes_on, stretch, stretch_of, IsLongest}, declared.run.Run.{Run}}

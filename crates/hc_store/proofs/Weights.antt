@@ -1,4 +1,9 @@
 -- What slots hold, and what they weigh.
+--
+-- The sum goes over all slots by their numbers. Where one slot changes, the sums below its number are the same, and
+-- from there on they differ by that slot (`below-with`, `weight-slot`). So bytes that are put weigh what they are
+-- (`weight-put`), a new slot weighs 32,768 (`weight-new`), and one that goes weighs no more (`weight-gone`). What keeps
+-- the bytes of a slot keeps the sum (`weight-kept`). A write to an entry changes its slot (`changed-entry`).
 use Rattle.std.{proofs.{Common.{◌≡◌, ◌≢◌, inl, inr, ℕ, zero, suc, ◌+◌, ◌<◌, ◌≤◌, ◌^◌, List, length, eqb, true, false, Option, Some, None, refl, sym, ap, ◌∙◌, subst, arith}, lemmas.Bool.Decides.{nat_tests, eqb_tells}}, specs.Prelude.{is_some, option_map, Result, Ok, Err, OnOk, OnErr}}
 use mathlib.Core.Path.{fun_ext}
 use Rattle.slab.specs.Slab.{Slab, get, with_value, Updates}

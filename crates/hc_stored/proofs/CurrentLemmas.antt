@@ -1,4 +1,9 @@
 -- The order has the rows that aren't gone, after a change of one row too.
+--
+-- The order has a number just where its row isn't gone. After a change of one row it is asked of that row, and of
+-- another one; the others stand in it as before (`others`). So the order stays, gets the row first, or loses it
+-- (`ordered-same`, `ordered-first`, `ordered-out`). Then what a row admits, and what is left where somebody leaves: a
+-- row that isn't over has somebody or isn't gone (`kept-left`), and one that is over was gone (`gone-left`).
 use Rattle.std.{proofs.{Common.{◌≡◌, ℕ, List, ◌∷◌, Bool, true, false, not, eqb, Option, Some, None, refl, sym, ap, ◌∙◌, inl, inr, arith}, lemmas.Bool.{cases_Bool, and_parts, eqb-true, Decides.{nat_tests}}}, specs.Prelude.{is_some, is_none, option_map, ◌&&◌}}
 use Rattle.hc_sorted.specs.Sorted.{is_sorted, has, without}
 use Rattle.hc_sorted.proofs.SortedLemmas.{has-without}

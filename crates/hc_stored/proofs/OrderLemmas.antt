@@ -1,4 +1,9 @@
 -- Numbers that stand once each, as the keys of a cache, and what a step of the cache leaves of them.
+--
+-- Each lemma goes by induction over the list. Where numbers stand once, one that is taken out stands nowhere in the
+-- rest (`distinct-without`), so it may stand first again (`distinct-promoted`). A cache in order of use keeps its
+-- entries in a list, and its keys are such numbers. To remove an entry takes its key out (`keys-removed`), to use one
+-- moves it to the front (`keys-promoted`), and a new one stands first (`keys-put`).
 use Rattle.std.{proofs.{Common.{◌≡◌, ℕ, ◌-◌, ◌≤◌, List, [], ◌∷◌, length, true, false, cond, eqb, Some, None, refl, sym, ap, ◌∙◌, inl, inr, arith}, lemmas.{Bool.{cases_Bool, eqb-true, Decides.{nat_tests}}, List.{take_all}, Map.Keys.{IsDistinct-head, IsDistinct-tail, IsDistinct-cons}}}, specs.{Prelude.{nat_eq}, List.{AllByRecursion, IsDistinct}, Map.{keys_of, lookup_entry, remove_entry}}}
 use Rattle.lru.specs.LruCache.{LruCache, promoted, put_entries}
 use Rattle.hc_sorted.specs.Sorted.{has, without}

@@ -1,4 +1,9 @@
--- A row agrees with what its slot holds after each change, and the order with the rows.
+-- A row agrees with what its slot holds after each change.
+--
+-- To agree has several parts, and each change touches few of them; the others are taken over. Bytes and seals change
+-- the summary and the reach (`shelved-filled`, `shelved-sealed`). Neither kind nor total tells how fresh a head is
+-- (`lifetime-sealed`), so the summary still follows. Consumers change who is bound: that still ascends, and where the
+-- row is gone somebody is left (`shelved-bound`, `shelved-left`). A founded row has its consumer.
 use Rattle.std.{proofs.{Common.{◌≡◌, ℕ, ◌+◌, ◌<◌, ◌^◌, List, [], ◌∷◌, length, Bool, true, false, not, eqb, cond, Option, Some, None, refl, sym, ap, ◌∙◌, inl, inr, arith}, lemmas.Bool.{cases_Bool, Decides.{nat_tests}}}, specs.Prelude.{option_map, ◌&&◌, ◌||◌, nat_le}}
 use Rattle.hc_sorted.specs.Sorted.{has, with_item, without}
 use Rattle.hc_sorted.proofs.SortedLemmas.{is_sorted-with, is_sorted-filter, has-with, has-without}

@@ -1,4 +1,9 @@
 -- Rows, order and slots agree after a change of one row and its slot.
+--
+-- Rows agree with slots where each row has a live slot with the summary that it says. No two rows share one, and each
+-- live slot has its row. Of a change, a row more and a row that goes, this is shown again: of the row itself it is
+-- known, and another row is of another slot (`apart-from`, `off-new`), so it stays. `updated-shelved`,
+-- `dropped-shelved` and `added-shelved` join that. Beside them stands what is kept then (`updated-kept`, `added-kept`).
 use Rattle.std.{proofs.{Common.{◌≡◌, ℕ, ◌<◌, ◌^◌, List, true, false, eqb, cond, Option, Some, None, refl, sym, ap, ◌∙◌, subst, inl, inr, arith}, Math.Logic.{∥∥₁_map}, lemmas.{Bool.{cases_Bool, eqb-true, Decides.{nat_tests}}, Grind.{merely}, Iterator.Adapters.{option_map_id}}}, specs.Prelude.{is_some, option_map}}
 use mathlib.Core.Path.{fun_ext}
 use Rattle.hc_sorted.specs.Sorted.{has}

@@ -1,4 +1,9 @@
 -- What all slots weigh is what those who own them weigh.
+--
+-- Each live slot has one owner in a list of numbers (`Owns`). By induction over that list, who owns nothing may be left
+-- out (`skips`). With one owner more its slot is added, while the others own the rest (`one-more`), which has the work:
+-- without it the others weigh what they did (`sums-other`). What is kept owns the slots of its rows (`owners`), so the
+-- sum of all slots is that of what is kept (`weight-kept`).
 use Rattle.std.{proofs.{Common.{◌≡◌, ℕ, ◌+◌, ◌<◌, ◌^◌, List, [], ◌∷◌, true, false, eqb, Option, Some, None, refl, sym, ap, ◌∙◌, inl, inr, arith}, Math.Logic.{∥∥₁_map}, lemmas.{Bool.{cases_Bool, eqb-true, Decides.{nat_tests}}, Grind.{not_there}, List.Sums.{sum_by-cons}, Map.Keys.{IsDistinct-head, IsDistinct-tail}}}, specs.{Prelude.{is_some, option_map, nat_eq, if◌then◌else◌}, List.{AllByRecursion, IsDistinct, sum_by}}}
 use Rattle.hc_sorted.specs.Sorted.{has}
 use Rattle.hc_store.specs.Slots.{Held, Slots, with_slot, is_live, weigh, weight}

@@ -1,4 +1,9 @@
 -- A plain target is a target.
+--
+-- A plain text is cut into its host, its path and its query (`plain_parts`). From these a URL is made, and each part
+-- passes its test by its bytes. The host is a name and no number (`no_number`). No segment of the path begins as dots
+-- do (`parts_plain`), and what is kept needs no escape. So the URL is valid (`url_is`), and its text is the one that
+-- was cut (`text_is`). What a valid URL prints is parsed as it, so the text is a target (`plain_target`).
 use Rattle.std.{proofs.{Common.{◌≡◌, ℕ, ◌≤◌, ◌==◌, ◌&&◌, ◌||◌, not, Bool, true, false, List, [], ◌∷◌, ◌++◌, length, Option, Some, None, refl, sym, ap, subst, ◌∙◌, inl, inr, arith, leb-true, le-leb}, lemmas.{Bool.{cases_Bool, and_parts, and_from, eqb-true, ne_eqb, Decides.{nat_tests}}, List.{append-nil, Elements.{All-nil, All-cons}}, Str.{IsUtf8-from_ascii}, Slice.Eq.{bytes_eq-Decides}}}, specs.{Prelude.{codes, All, IfSome, IsUtf8, IsAscii, Ok, nat_le, if◌then◌else◌}, List.{list_all}, Char.{is_ascii_digit, is_digit, to_ascii_lowercase}}}
 use Rattle.percent_encoding.specs.Percent.{IsKept}
 use Rattle.url.proofs.{SetLemmas.{kept_from_passes}, Theorems.{parse_url-serialize_special}, ValidLemmas.{IsAscii-serialize}}

@@ -1,4 +1,9 @@
 -- Tests, options and lists: what std lacks, each once.
+--
+-- Lemmas about truth values and options go by their cases: in each of these both sides compute to the same. Tests of
+-- numbers are turned into orders and back by what std proves of them (`leb-le`, `ltb-lt`). The cases of a comparison
+-- come with both (`lt_cases`, `le_or`). Lemmas about lists go by induction or by one lemma of std. No proof here has
+-- more than a few lines. All crates use them, mostly by another name.
 use Rattle.std.{proofs.{Common.{Bool, List, None, Option, Some, [], arith, cond, drop, eqb, false, inl, inr, leb, length, ltb, map, refl, suc, sym, take, true, ℕ, ◌++◌, ◌+◌, ◌-◌, ◌<◌, ◌^◌, ◌∷◌, ◌≡◌, ◌≢◌, ◌≤◌, ◌⊎◌}, Math.Seq.{drop-append_seam}, lemmas.{Bool.Decides.{eqb_tells, nat_tests}, Fmt.{decimal_is_IsNumeral}, List.{length-drop, reverse-append, take_all}, Slice.Eq.{bytes_eq-Decides}, Str.Parse.{digit_from_value}}}, specs.{BTreeMap.{is_at}, Fmt.{decimal}, Int.{IsInRange}, List.{list_all, list_any}, Map.{lookup}, Option.{option_or}, Ordering.{nat_cmp}, Prelude.{bytes_eq, filter, find, if◌then◌else◌, is_none, is_some, min, nat_eq, nat_le, nat_lt, not, option_map, reverse, ◌&&◌, ◌==◌, ◌||◌}, Str.Parse.{AllDigits}}}
 
 pub eq_itself : (d : ℕ) → nat_eq d d ≡ true

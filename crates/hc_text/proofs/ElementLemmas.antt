@@ -1,4 +1,9 @@
 -- How a text is cut, one byte after another, and what is left of it without the elements in front.
+--
+-- A list is cut at its commas, and a piece without the blanks round it is an element. What was read of the first piece
+-- goes on by a byte or a stretch (`cut_more`, `cut_on`), outside of quoted strings and within (`cut_plain`,
+-- `cut_within`). Blanks and commas in front are skipped (`elements_skip_blank`). Blanks at the end go one by one
+-- (`trim_end_less`). At last `first_element` joins these: the first element, and those of the text behind its comma.
 use Rattle.std.{proofs.{Common.{◌≡◌, ◌≢◌, ℕ, ◌+◌, ◌-◌, ◌<◌, ◌≤◌, Bool, true, false, cond, eqb, not, List, [], ◌∷◌, ◌++◌, length, get_or, take, drop, refl, sym, ap, ◌∙◌, subst, inl, inr, arith}, Math.Seq.{take-add}, lemmas.{Bool.{cases_lt, or_cases, eqb-true, cond-false, cond-true, not_from_false, ne_eqb, both_ways, true≢false, false≢true}, List.{append_assoc, append-nil, at_drop_more, at_drop_all, drop-drop, reverse-append, reverse-reverse, Edits.{between_none, between_more, length-between, get_or-between}}}}, specs.Prelude.{slice_range, reverse, min}}
 use Rattle.hc_text.specs.Elements.{comma, is_blank, Place, Outside, Within, Taken, after, separates, begin_with, cut_pieces, skip_blanks, trim_end, trimmed_text, elements_of, elements}
 

@@ -1,4 +1,9 @@
 -- Numbers as values of fields.
+--
+-- Digits are bytes that a value may have, and none is a blank. So a number is a value of a field (`own-decimal`), of at
+-- most 20 bytes. A text that begins with no blank and ends with a number is one too (`own-ends`): its last byte is the
+-- number's (`last-decimal`). So is one that ends with another byte that is no blank (`own-last`). By these the texts of
+-- parts, of ranges and of quoted numbers are values (`own-content_range`, `own-range`, `own-quoted`).
 use Rattle.std.{proofs.{Common.{◌≡◌, ℕ, ◌-◌, ◌^◌, ◌<◌, ◌≤◌, Bool, true, false, not, ◌||◌, ◌==◌, List, [], ◌∷◌, ◌++◌, length, refl, ap, sym, ◌∙◌, subst, arith, length-append}, lemmas.{Bool.{or_right, Decides.{nat_tests}}, Fmt.{decimal_is_IsNumeral, length-decimal-le}, List.{append-nil, get_or-append_right, get_or_append_left, Folds.{list_all-append}}, Str.Parse.{digit_at}}}, specs.{Prelude.{codes, slice_index, if◌then◌else◌}, List.{list_all}, Fmt.{decimal}, Int.{IsInRange}, Str.Parse.{AllDigits}}}
 use Rattle.hc_text.proofs.Basics.{list_all-digits, some-decimal}
 use Rattle.http_header.specs.Token.{is_value_byte}

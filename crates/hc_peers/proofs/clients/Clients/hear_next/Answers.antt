@@ -1,3 +1,9 @@
+-- That the clients still agree where `hear_next` ends, and what it answers for a request or for bad bytes.
+--
+-- One client is read, and leaves those that are to be read. Each case says that the lists agree with the rows again:
+-- who is live, whose next request is due, and who isn't settled. Where nothing stands next, or memory is refused,
+-- nothing is left of what came, so nothing is due (`empty-not-ready`). Where a request is asked for, its consumer is
+-- new (`live-new`), since no client had it. The client whose bytes are bad is touched before it is refused.
 use Rattle.std.{proofs.Common.{◌≡◌, true, false, Some, refl, sym, ap, ◌∙◌, rules}, specs.{Prelude.{nat_eq}, Ordering.{nat_cmp}}}
 use Rattle.std.specs.HashMap as hash
 use Rattle.std.specs.BTreeSet as set

@@ -1,3 +1,9 @@
+-- What `offer` answers, and that the clients still agree, in each of its cases.
+--
+-- One client is offered what it is owed, so its row changes and no other. Where the wire fails, something is still
+-- owed, so it is neither to be read nor settled (`owed-not-ready`, `owed-not-settled`). Where it is over it is to be
+-- closed, and leaves (`offered-over`). Else it is listed if its next request is due, and the wire is told whether it is
+-- read. Whoever is settled then isn't touched any more. The answers join what the calls said.
 use Rattle.std.proofs.Common.{◌≡◌, List, Bool, true, false, None, Some, ℕ, refl, sym, ap, ◌∙◌, rules}
 use Rattle.hc_peers.specs.{declared.client.Client.{Client}, Offering.{sent_more}, Agreement.{consumer_at, ready_at, settled_at}, Peers.{is_settled, is_idle}}
 use Rattle.hc_peers.proofs.{Changes.{changed-hash, changed-set, changed-by, changed-none, by-changed}, ClientTables.{live-kept, ready-now, touched-now}, Offered.{offered-over, offered-stays}, Rows.{owed-not-ready, owed-not-settled, closing-not-ready, closing-not-settled, over-closing, settled-still, settled-sent}}

@@ -1,5 +1,5 @@
 -- A name that is lowered and compared byte by byte.
-use Rattle.std.{proofs.{Common.{◌≡◌, ℕ, zero, suc, ◌+◌, ◌<◌, ap, ◌∙◌, true, false, List, Ordering, [], ◌∷◌, length, drop, get_or, refl, arith}, lemmas.{Bool.Decides.{nat_tests}, List.{length-map, get_or-map}}, Math.Seq.{drop-cons}}, specs.{Prelude.{min}, Ordering.{nat_cmp, ordering_then, is_ne}, declared.cmp.Ordering.TheVariants.{Less, Equal, Greater}, Cmp.Lexicographic.{slice_cmp}, Char.{to_ascii_lowercase}}}
+use Rattle.std.{proofs.{Common.{◌≡◌, ◌≢◌, ℕ, zero, suc, ◌+◌, ◌<◌, ap, sym, ◌∙◌, true, false, List, Ordering, [], ◌∷◌, length, drop, get_or, refl, arith}, lemmas.{Bool.{false_from_ne_true, Decides.{nat_tests}}, List.{length-map, get_or-map, ext_get_or}, Slice.Eq.{bytes_eq-Decides}}, Math.Seq.{drop-cons}}, specs.{Prelude.{min, bytes_eq}, Ordering.{nat_cmp, ordering_then, is_ne}, declared.cmp.Ordering.TheVariants.{Less, Equal, Greater}, Cmp.Lexicographic.{slice_cmp}, Char.{to_ascii_lowercase}}}
 use Rattle.http_header.specs.Token.{lowercase}
 
 -- where the bytes at a place differ they decide
@@ -39,3 +39,26 @@ pub lowered_end : (name bytes : List ℕ) (i : ℕ) → i ≡ min (length name) 
 lowered_end name bytes i is =
     let len = length-map name to_ascii_lowercase in
     compared_end (lowercase name) bytes i (omega (arith, len, is)) ∙ ap (λ (n : ℕ). nat_cmp n (length bytes)) len
+
+-- bytes that are each that of the lowered name are the name
+pub lowered_same : (name bytes : List ℕ) → length name ≡ length bytes → ((k : ℕ) → k < length name → to_ascii_lowercase (get_or name k 0) ≡ get_or bytes k 0) → bytes_eq bytes (lowercase name) ≡ true
+lowered_same name bytes len same =
+    let lower = length-map name to_ascii_lowercase in
+    (bytes_eq-Decides bytes (lowercase name)).1
+    (ext_get_or 0 bytes (lowercase name) (omega (arith, lower, len))
+    (λ k lt. let within : k < length name = omega (arith, lt, len) in
+    sym (get_or-map to_ascii_lowercase name k 0 0 within ∙ same k within)))
+
+-- bytes with another one aren't
+pub lowered_other : (name bytes : List ℕ) (k : ℕ) → k < length name → to_ascii_lowercase (get_or name k 0) ≢ get_or bytes k 0 → bytes_eq bytes (lowercase name) ≡ false
+lowered_other name bytes k lt other =
+    false_from_ne_true _ (λ e.
+    let same : bytes ≡ lowercase name = (bytes_eq-Decides bytes (lowercase name)).0 e in
+    other (sym (get_or-map to_ascii_lowercase name k 0 0 lt) ∙ ap (λ (l : List ℕ). get_or l k 0) (sym same)))
+
+-- and neither are so many more or fewer
+pub lowered_apart : (name bytes : List ℕ) → length name ≢ length bytes → bytes_eq bytes (lowercase name) ≡ false
+lowered_apart name bytes other =
+    false_from_ne_true _ (λ e.
+    let same : bytes ≡ lowercase name = (bytes_eq-Decides bytes (lowercase name)).0 e in
+    other (sym (length-map name to_ascii_lowercase) ∙ ap length (sym same)))

@@ -4,9 +4,9 @@
 -- `ascending_end`). A step of the search moves one end of the range that is left (`searched_right`, `searched_left`).
 -- An empty range is the place (`searched`). The search for a name also knows whether the field at the upper end has it.
 -- `narrowed_left` has the work: the new field there has the name, or comes after it, and so do all behind.
-use Rattle.std.{proofs.{Common.{◌≡◌, ℕ, ◌+◌, ◌<◌, ◌≤◌, Bool, true, false, not, List, [], length, get_or, Ordering, ap, inl, inr, refl, sym, ◌∙◌, arith}, lemmas.{Cmp.{nat_list_cmp_total}, Bool.{not-false, both_ways, true_from_ne_false, cases_lt}, List.{get_or-map, Sums.{position_or_len_is, fails_before_first, passes_at_first}}}}, specs.{List.{position_or_len}, Ordering.{nat_cmp, is_lt, is_eq, is_gt, ordering_reverse}, Cmp.Lexicographic.{slice_cmp}, declared.cmp.Ordering.TheVariants.{Less, Equal, Greater}}}
-use Rattle.hc_fields.specs.{declared.mark.Mark.{Mark}, FieldList.{comes_before, is_sorted, start_of, end_of}, Marks.{field_at, fields_at}}
-use Rattle.hc_fields.proofs.{Names.{one_way, chain, upto_before}, Sorted.{Pair, sorted_at}}
+use Rattle.std.{proofs.{Common.{◌≡◌, ℕ, ◌+◌, ◌<◌, ◌≤◌, Bool, true, false, not, List, [], ◌∷◌, length, get_or, Ordering, ap, inl, inr, refl, sym, ◌∙◌, arith}, lemmas.{Cmp.{nat_list_cmp_total}, Bool.{not-false, both_ways, true_from_ne_false, cases_Bool, cases_lt}, List.{get_or-map, Sums.{position_or_len_is, fails_before_first, passes_at_first}}, Slice.Eq.{bytes_eq-Decides}}}, specs.{Prelude.{filter}, List.{position_or_len}, Ordering.{nat_cmp, is_lt, is_eq, is_gt, ordering_reverse}, Cmp.Lexicographic.{slice_cmp}, declared.cmp.Ordering.TheVariants.{Less, Equal, Greater}}}
+use Rattle.hc_fields.specs.{declared.mark.Mark.{Mark}, FieldList.{comes_before, has_name, is_sorted, start_of, end_of}, Marks.{field_at, fields_at}}
+use Rattle.hc_fields.proofs.{Names.{one_way, chain, irreflexive, upto_before, cases_names}, Sorted.{Pair, sorted_at}}
 
 -- any mark, for reads past the end of a list
 abbrev pub no_mark : Mark
@@ -149,4 +149,61 @@ narrowed_present name fs low high found sorted n le on =
       | inr after ↦
           let inside : end_of name fs < length fs = omega (arith, after, order, le, lt) in
           absurd (both_ways _ (ascending_end name fs sorted (end_of name fs) high (omega (arith, after, order, le)) lt both.1) (passes_at_first (is_behind name) fs ([], []) inside))
+    ]
+
+-- a field of a name doesn't come after it
+pub named-not_behind : (name : List ℕ) (f : Pair) → has_name name f ≡ true → is_behind name f ≡ false
+named-not_behind name f h =
+    let same : f.0 ≡ name = (bytes_eq-Decides f.0 name).0 h in
+    rw same (irreflexive name)
+
+-- behind the first field of a name, one of another name comes after it
+pub other-behind : (name : List ℕ) (fs : List Pair) (k : ℕ) → is_sorted fs ≡ true → start_of name fs < k → k < length fs
+    → has_name name (get_or fs k ([], [])) ≡ false → is_behind name (get_or fs k ([], [])) ≡ true
+other-behind name fs k sorted past lt other =
+    elim (cases_names (get_or fs k ([], [])).0 name) [
+      | inl before ↦
+          let fails : not_before name (get_or fs k ([], [])) ≡ false = rw before.lt refl in
+          absurd (both_ways _ (ascending_start name fs sorted (start_of name fs) k (omega (arith, past)) lt fails) (passes_at_first (not_before name) fs ([], []) (omega (arith, past, lt))))
+      | inr more ↦ elim more [ inl same ↦ absurd (both_ways _ other same.equal) | inr after ↦ after.gt ]
+    ]
+
+-- the first field that has the name
+pub first-named : (name : List ℕ) (fs : List Pair) (i : ℕ) → i ≡ position_or_len (has_name name) fs → i < length fs → has_name name (get_or fs i ([], [])) ≡ true
+first-named name fs i is lt = rw is (passes_at_first (has_name name) fs ([], []) (rw is at lt))
+
+-- the fields of a name end behind it
+pub before_end : (name : List ℕ) (fs : List Pair) (k : ℕ) → is_sorted fs ≡ true → k ≡ position_or_len (has_name name) fs → k < length fs → k < end_of name fs
+before_end name fs k sorted is lt =
+    let here = first-named name fs k is lt in
+    elim (cases_lt k (end_of name fs)) [
+      | inl before ↦ before
+      | inr after ↦
+          absurd (both_ways _ (ascending_end name fs sorted (end_of name fs) k after lt (named-not_behind name (get_or fs k ([], [])) here)) (passes_at_first (is_behind name) fs ([], []) (omega (arith, after, lt))))
+    ]
+
+-- and it is the first that doesn't come before the name
+pub first_is_start : (name : List ℕ) (fs : List Pair) (i : ℕ) → is_sorted fs ≡ true → i ≡ position_or_len (has_name name) fs → i < length fs → i ≡ start_of name fs
+first_is_start name fs i sorted is lt =
+    let same : (get_or fs i ([], [])).0 ≡ name = (bytes_eq-Decides (get_or fs i ([], [])).0 name).0 (first-named name fs i is lt) in
+    sym (position_or_len_is (not_before name) fs i ([], []) (omega (arith, lt))
+    (λ k below.
+    let other : has_name name (get_or fs k ([], [])) ≡ false = fails_before_first (has_name name) fs k ([], []) (rw is at below) in
+    elim (cases_names (get_or fs k ([], [])).0 name) [
+      | inl before ↦ rw before.lt refl
+      | inr more ↦
+          elim more [
+            | inl equal ↦ absurd (both_ways _ other equal.equal)
+            | inr after ↦ absurd (both_ways _ (rw same at (sorted_at fs k i ([], []) sorted (omega (arith, below)) lt)) after.gt)
+          ]
+    ])
+    (λ _. rw (same, irreflexive name) refl))
+
+-- where no field is found to pass, none is kept
+pub none-found : (test : Pair → Bool) (fs : List Pair) → position_or_len test fs ≡ length fs → filter test fs ≡ []
+none-found test [] e = refl
+none-found test (f ∷ fs) e =
+    elim (cases_Bool (test f)) [
+      | inl passes ↦ absurd (omega (arith, rw passes at e))
+      | inr fails ↦ rw fails (none-found test fs (omega (arith, rw fails at e)))
     ]

@@ -74,21 +74,6 @@ fn excess(count: usize, size: usize, name: &[u8], value: &[u8]) -> Option<FieldE
     None
 }
 
-/// The first reason why a field is refused beside `count` fields of `size` bytes.
-fn refusal(count: usize, size: usize, name: &[u8], value: &[u8]) -> Option<FieldError>
-    requires { size ≤ 49152 }
-    ensures { MatchOption result (HasPlace count size name.now value.now)
-        (λ e. LacksPlace e count size name.now value.now) }
-{
-    if !is_token(name) {
-        return Some(FieldError::BadName);
-    }
-    if !is_own_value(value) {
-        return Some(FieldError::BadValue);
-    }
-    excess(count, size, name, value)
-}
-
 impl Fields {
     /// No field.
     pub fn new(alloc: Global) -> Result<Fields, NoMemory>
@@ -225,10 +210,13 @@ impl Fields {
             ≡ values_of (lowercase name.now) self.old ++ value.now ∷ []) }
         ensures others { OnOk result (KeepsOthers (lowercase name.now) self.old self.new) }
     {
-        if let Some(e) = refusal(self.marks.len(), self.size, name, value) {
-            return Err(e);
+        if !is_token(name) {
+            return Err(FieldError::BadName);
         }
-        self.put_last(name, value)
+        if !is_own_value(value) {
+            return Err(FieldError::BadValue);
+        }
+        self.append_checked(name, value)
     }
 
     /// Adds the field as `append` does, where its name is known to be a token and its value one. Only
@@ -267,15 +255,17 @@ impl Fields {
         Ok(())
     }
 
-    /// The first reason why a field is refused in place of those of its name.
-    fn refusal_in_place(&self, place: Place, name: &[u8], value: &[u8]) -> Option<FieldError>
-        requires { IsPlace (lowercase name.now) self.now place }
+    /// Why a field that is a token and a value is refused in place of those of its name.
+    fn excess_in_place(&self, place: Place, name: &[u8], value: &[u8]) -> Option<FieldError>
+        requires place { IsPlace (lowercase name.now) self.now place }
+        requires is_name { IsToken name.now }
+        requires is_value { is_own_value value.now ≡ true }
         ensures { MatchOption result
             (IsAllowed (without (lowercase name.now) self.now) name.now value.now)
             (λ e. Refuses e (without (lowercase name.now) self.now) name.now value.now) }
     {
         let count = self.marks.len() - place.count;
-        refusal(count, self.size - place.size, name, value)
+        excess(count, self.size - place.size, name, value)
     }
 
     /// One field takes the place of all of its name, which is lowered.
@@ -294,8 +284,33 @@ impl Fields {
         ensures values { OnOk result (values_of (lowercase name.now) self.new ≡ value.now ∷ []) }
         ensures others { OnOk result (KeepsOthers (lowercase name.now) self.old self.new) }
     {
+        if !is_token(name) {
+            return Err(FieldError::BadName);
+        }
+        if !is_own_value(value) {
+            return Err(FieldError::BadValue);
+        }
+        self.set_checked(name, value)
+    }
+
+    /// Sets the field as `set` does, where its name is known to be a token and its value one. Only
+    /// TooMany, TooLong and NoMemory are left.
+    pub fn set_checked(&mut self, name: &[u8], value: &[u8]) -> Result<(), FieldError>
+        requires is_name { IsToken name.now }
+        requires is_value { is_own_value value.now ≡ true }
+        ensures ok { OnOk result (self.new
+            ≡ field_list_with (lowercase name.now) value.now
+            (without (lowercase name.now) self.old)) }
+        ensures refused { OnErr result (self.new ≡ self.old) }
+        ensures answer { MatchResult result
+            (λ _. IsAllowed (without (lowercase name.now) self.old) name.now value.now)
+            (λ e. ((e ≡ FieldError.NoMemory)
+            × IsAllowed (without (lowercase name.now) self.old) name.now value.now)
+            ⊎ Refuses e (without (lowercase name.now) self.old) name.now value.now) }
+        ensures list { is_sorted self.old ≡ true }
+    {
         let place = place_of(&self.text, &self.marks, name);
-        if let Some(e) = self.refusal_in_place(place, name, value) {
+        if let Some(e) = self.excess_in_place(place, name, value) {
             return Err(e);
         }
         let end = place.start + place.count;

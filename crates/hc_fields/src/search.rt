@@ -1,5 +1,6 @@
 //! Where the fields of a name stand in a list sorted by name, by binary search.
-ghost use Rattle.std.specs.Prelude.{◌≡◌, ◌≤◌, ◌+◌, ◌<◌, length, true, filter, All, MatchBool};
+ghost use Rattle.std.specs.Prelude.{◌≡◌, ◌≤◌, ◌<◌, length, filter, All, bytes_eq};
+ghost use Rattle.std.specs.List.{position_or_len};
 ghost use Rattle.std.specs.Bool.{OnTrue, OnFalse};
 ghost use Rattle.std.specs.Ordering.{nat_cmp};
 ghost use Rattle.std.specs.Cmp.Lexicographic.{slice_cmp};
@@ -87,16 +88,58 @@ pub(crate) fn end_place(text: &[u8], marks: &[Mark], name: &[u8]) -> usize
     low
 }
 
-/// Where the fields of a name end, which isn't before `start`.
+/// Whether a name, once lowered, is these bytes.
+// The lengths are compared first, since most names of a head have another one.
+fn is_lowered(name: &[u8], bytes: &[u8]) -> bool
+    ensures { result ≡ bytes_eq bytes.now (lowercase name.now) }
+{
+    if name.len() != bytes.len() {
+        return false;
+    }
+    for i in 0..name.len() {
+        if name[i].to_ascii_lowercase() != bytes[i] {
+            return false;
+        }
+    }
+    true
+}
+
+/// Whether the field at the mark has this name, in any case of it.
+fn is_named(text: &[u8], mark: Mark, name: &[u8]) -> bool
+    requires { IsLineAt text.now mark }
+    ensures { result ≡ has_name (lowercase name.now) (field_at text.now mark) }
+{
+    is_lowered(name, mark.name(text))
+}
+
+/// Where the first field of a name stands, or past all fields.
+// They are walked, since names of other lengths cost little, and a head has few fields.
+fn first_named(text: &[u8], marks: &[Mark], name: &[u8]) -> usize
+    requires { All (IsLineAt text.now) marks.now }
+    ensures place { result ≡ position_or_len (has_name (lowercase name.now))
+        (fields_at text.now marks.now) }
+    ensures within { result ≤ length marks.now }
+{
+    for start in 0..marks.len() {
+        if is_named(text, marks[start], name) {
+            return start;
+        }
+    }
+    marks.len()
+}
+
+/// Where the fields of a name end, of which one stands just before `start`.
 // They are walked, since mostly a name has one field.
 fn end_from(text: &[u8], marks: &[Mark], name: &[u8], start: usize) -> usize
     requires marks { AreMarked text.now marks.now }
+    requires behind { start_of (lowercase name.now) (fields_at text.now marks.now) < start }
     requires start { start ≤ end_of (lowercase name.now) (fields_at text.now marks.now) }
     ensures place { result ≡ end_of (lowercase name.now) (fields_at text.now marks.now) }
+    ensures order { start ≤ result }
     ensures within { result ≤ length marks.now }
 {
     for end in start..marks.len() {
-        if is_after(text, marks[end], name) {
+        if !is_named(text, marks[end], name) {
             return end;
         }
     }
@@ -125,8 +168,11 @@ pub(crate) fn named<'a>(text: &[u8], marks: &'a [Mark], name: &[u8]) -> &'a [Mar
         ≡ filter (has_name (lowercase name.now)) (fields_at text.now marks.now) }
     ensures lines { All (IsLineAt text.now) result.now }
 {
-    let (start, end) = places(text, marks, name);
-    &marks[start..end]
+    let start = first_named(text, marks, name);
+    if start == marks.len() {
+        return &marks[start..];
+    }
+    &marks[start..end_from(text, marks, name, start + 1)]
 }
 
 /// How many bytes the names and values of these fields have.

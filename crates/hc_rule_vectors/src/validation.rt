@@ -64,7 +64,7 @@ fn tell_shown(v: &Vector, to: &mut String) -> Result<(), Fault> {
         return Err(Fault::NoSuchCall);
     }
     let head = head_at(v, 0)?;
-    let response = shown(&head, why, span, ranged)?;
+    let response = shown(head, why, span, ranged)?;
     tell_response(&response, to)
 }
 

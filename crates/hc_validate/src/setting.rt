@@ -20,7 +20,7 @@ pub fn set_field(fields: &mut Fields, name: &[u8], value: &[u8]) -> Result<(), N
     ensures size { OnOk result (size_of fields.new ≤ size_of fields.old
         + (length name.now + length value.now)) }
 {
-    match fields.set(name, value) {
+    match fields.set_checked(name, value) {
         Ok(()) => Ok(()),
         Err(e) => match e {
             FieldError::NoMemory => Err(NoMemory),

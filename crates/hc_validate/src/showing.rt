@@ -21,15 +21,15 @@ use itoa::Buffer;
 /// span where the consumer is `ranged` and has one, and else a 200, with `content-length` where the
 /// total is known. An answer that isn't validated has its age (RFC 9111 section 5.1).
 pub fn shown(
-    head: &StoredHead,
+    head: StoredHead,
     why: Why,
     span: Option<Span>,
     ranged: bool,
 ) -> Result<Response, NoMemory>
-    requires { ranged ≡ true → ForSome span (λ s. IsSomeAnd head.now.total (IsWithin s)) }
-    ensures { IfOk result (λ response. response ≡ shown_response (plain head.now) why span ranged) }
+    requires { ranged ≡ true → ForSome span (λ s. IsSomeAnd head.total (IsWithin s)) }
+    ensures { IfOk result (λ response. response ≡ shown_response (plain head) why span ranged) }
 {
-    let mut fields = head.fields.copy()?;
+    let mut fields = head.fields;
     add_age(&mut fields, why)?;
     match (span, head.total) {
         (Some(span), Some(total)) if ranged => {

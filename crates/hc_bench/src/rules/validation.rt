@@ -50,7 +50,7 @@ pub(super) fn show(heads: &TwoHeads, times: u64) -> Result<(), BenchError> {
             age: 100,
             lifetime: 3600,
         };
-        let response = shown(heads.at(round), why, None, false)?;
+        let response = shown(heads.at(round).copy()?, why, None, false)?;
         if response.status != 200 {
             return Err(BenchError::Wrong);
         }

@@ -4,8 +4,8 @@
 -- that is named, and of others nothing (`row-changes`, `line-changes`). With it rows stay tidy, where something is kept
 -- still or the row goes (`tidy-changes`), and lines stay orderly (`orderly-changes`). Where a line waits, something is
 -- kept (`awaited-some`). The functions over rows in hc_entry answer by these.
-use Rattle.std.{proofs.{Common.{◌≡◌, ℕ, List, Bool, true, false, not, Option, Some, Ok, Err, refl, sym, ap, subst, ◌∙◌, inl, inr}, lemmas.{Bool.{cases_Bool}, Cmp.{nat_list_eq_equiv}, Slice.Eq.{bytes_eq-Decides}}}, specs.{Prelude.{Vec, Result, OnOk, OnErr, bytes_eq, nat_eq, is_some, ◌&&◌}, Global.{Global}, Cmp.Lexicographic.{pointwise}, Map.{lookup, KeepsOthers, IsKeyTest, AreApart}, HashMap.{UpdatesBy}}}
-use Rattle.hc_entry.specs.{declared.{rows.KeyRow.{KeyRow}, seat.Stand.{Stand}}, Seats.{moved_to}, Lines.{Line, is_in, is_empty, line_with, all_back, passed_back, IsOrderly}, Kept.{Kept, line_in, kept_in, on_line, with_current, is_nothing}, KeyRows.{Rows, row_at, rows_of, kept_by, RowChanges, RowsStay, IsTidyAt, IsTidy, AreOrderly}}
+use Rattle.std.{proofs.{Common.{◌≡◌, ℕ, List, Bool, true, false, not, Option, Some, None, Ok, Err, refl, sym, ap, subst, ◌∙◌, inl, inr}, lemmas.{Bool.{cases_Bool, both_ways}, Cmp.{nat_list_eq_equiv}, Slice.Eq.{bytes_eq-Decides}}}, specs.{Prelude.{Vec, Result, OnOk, OnErr, bytes_eq, nat_eq, is_some, ◌&&◌}, Global.{Global}, Cmp.Lexicographic.{pointwise}, Map.{lookup, KeepsOthers, IsKeyTest, AreApart}, HashMap.{UpdatesBy}}}
+use Rattle.hc_entry.specs.{declared.{rows.KeyRow.{KeyRow}, seat.Stand.{Stand}}, Seats.{moved_to}, Lines.{Line, is_in, is_empty, line_with, all_back, passed_back, IsOrderly}, Kept.{Kept, nothing, line_in, kept_in, on_line, with_current, is_nothing}, KeyRows.{Rows, row_at, rows_of, kept_by, RowChanges, RowsStay, IsTidyAt, IsTidy, AreOrderly}}
 use Rattle.hc_entry.specs.declared.seat.Stand.TheVariants as stand
 use Rattle.hc_entry.proofs.OrderLemmas.{in-some, in-queued, orderly-queued, empty-all, empty-passed-back}
 
@@ -70,6 +70,18 @@ module _ (f : Kept → Kept) (key : List ℕ) (old new : Rows) (change : RowChan
   pub kept-here : rows_of new key ≡ f (rows_of old key)
   kept-here = change.changes key ∙ rw ((bytes_eq-Decides key key).1 refl) refl
 
+  -- where nothing is kept then, its row may go
+  pub changes-gone : (gone : Rows) → rows_of new key ≡ nothing → row_at gone key ≡ None → ((k : List ℕ) → bytes_eq key k ≡ false → row_at gone k ≡ row_at new k) → RowChanges f key old gone
+  changes-gone gone none absent others = record {
+    changes = λ k. elim (cases_Bool (bytes_eq key k)) [
+      | inl on ↦
+          let same = (bytes_eq-Decides key k).0 on in
+          rw on (ap (rows_of gone) (sym same) ∙ (ap kept_by absent ∙ (sym none ∙ kept-here)))
+      | inr off ↦ rw off (ap kept_by (others k off ∙ change.others k off))
+    ];
+    others = λ k off. others k off ∙ change.others k off;
+  }
+
   pub tidy-changes : ((k : List ℕ) → bytes_eq key k ≡ false → IsTidyAt old k) → IsTidyAt new key → IsTidy new
   tidy-changes was here k none = elim (cases_Bool (bytes_eq key k)) [
     | inl on ↦
@@ -96,6 +108,23 @@ module _ (f : Kept → Kept) (key : List ℕ) (old new : Rows) (change : RowChan
         subst (λ (q : List ℕ). IsOrderly (line_in (rows_of new q))) same (subst (λ (x : Kept). IsOrderly (line_in x)) (sym kept-here) here)
     | inr off ↦ subst (λ (o : Option KeyRow). IsOrderly (line_in (kept_by o))) (sym (change.others k off)) (was k)
   ]
+
+-- a row that says something stays, and is tidy
+pub tidy-row : (bytes key : List ℕ) (old new : Rows) (row : KeyRow) → bytes ≡ key → UpdatesBy is_same (has_bytes bytes) old new (Some row)
+    → is_nothing (kept_in row.line row.current) ≡ false → IsTidyAt new key
+tidy-row bytes key old new row same change some none =
+    let there = row-there bytes key new (Some row) same (sym (row-here bytes old new (Some row) change)) in
+    absurd (both_ways _ (ap (λ (o : Option KeyRow). is_nothing (kept_by o)) there ∙ some) none)
+
+-- one that says nothing goes
+pub row-gone : (f : Kept → Kept) (bytes key : List ℕ) (old mid new : Rows) (row : KeyRow) → bytes ≡ key
+    → UpdatesBy is_same (has_bytes bytes) old mid (Some row) → UpdatesBy is_same (has_bytes bytes) mid new None
+    → RowChanges f key old mid → kept_in row.line row.current ≡ nothing → RowChanges f key old new
+row-gone f bytes key old mid new row same put gone change none =
+    let there = row-there bytes key mid (Some row) same (sym (row-here bytes old mid (Some row) put)) in
+    changes-gone f key old mid change new (ap kept_by there ∙ none)
+    (row-there bytes key new None same (sym (row-here bytes mid new None gone)))
+    (λ k off. row-others bytes mid new None gone k (ap (λ (b : List ℕ). bytes_eq b k) same ∙ off))
 
 -- something is kept of a key for which one waits
 pub awaited-some : (c : ℕ) (k : Kept) → is_in c (line_in k) ≡ true → is_nothing k ≡ false

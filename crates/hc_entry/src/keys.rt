@@ -6,7 +6,7 @@ ghost use Rattle.hc_entry.specs.KeyRows.{IsTidy, AreOrderly};
 
 use crate::rows::{
     KeyRow, all_back_in, clear_current_in, enter_in, hold_in, leave_in, make_current_in,
-    passed_back_in, reseat_in, row_in, tidy_in,
+    passed_back_in, reseat_in, row_in,
 };
 use crate::seat::Stand;
 use hc_text::{Key, NoMemory};
@@ -151,7 +151,6 @@ impl KeyTable {
         ensures { Becomes (on_line (left_by c)) key.now self.old self.new }
     {
         leave_in(&mut self.rows, key, c);
-        tidy_in(&mut self.rows, key);
     }
 
     /// The representation is current.
@@ -167,6 +166,5 @@ impl KeyTable {
         ensures { Becomes (with_current None) key.now self.old self.new }
     {
         clear_current_in(&mut self.rows, key);
-        tidy_in(&mut self.rows, key);
     }
 }

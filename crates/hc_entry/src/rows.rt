@@ -21,6 +21,18 @@ pub(crate) struct KeyRow {
     pub(crate) current: Option<u64>,
 }
 
+impl KeyRow {
+    ghost use Rattle.hc_entry.specs.Kept.{kept_in, nothing, is_nothing};
+
+    /// Whether nothing is kept: nobody waits, and none is current.
+    fn says_nothing(&self) -> bool
+        ensures value { result ≡ is_nothing (kept_in self.now.line self.now.current) }
+        ensures nothing { OnTrue result (kept_in self.now.line self.now.current ≡ nothing) }
+    {
+        self.line.is_empty() && self.current.is_none()
+    }
+}
+
 /// The row of the key.
 pub(crate) fn row_in<'a>(rows: &'a HashMap<Vec<u8>, KeyRow>, key: &Key) -> Option<&'a KeyRow>
     ensures { option_copied result ≡ row_at rows.now key.now }
@@ -111,23 +123,34 @@ pub(crate) fn passed_back_in(rows: &mut HashMap<Vec<u8>, KeyRow>, key: &Key)
     }
 }
 
-/// The consumer waits no more.
+/// The consumer waits no more. A row that says nothing then goes.
 pub(crate) fn leave_in(rows: &mut HashMap<Vec<u8>, KeyRow>, key: &Key, c: u64)
     requires { is_in c (line_in (rows_of rows.old key.now)) ≡ true }
-    ensures { RowChanges (on_line (left_by c)) key.now rows.old rows.new }
+    ensures changes { RowChanges (on_line (left_by c)) key.now rows.old rows.new }
+    ensures tidy { IsTidyAt rows.new key.now }
 {
-    let Some(row) = rows.get_mut(key.bytes.as_slice()) else {
+    let bytes = key.bytes.as_slice();
+    let Some(row) = rows.get_mut(bytes) else {
         unreachable!()
     };
     row.line.leave(c);
+    if row.says_nothing() {
+        rows.remove(bytes);
+    }
 }
 
-/// None is current.
+/// None is current. A row that says nothing then goes.
 pub(crate) fn clear_current_in(rows: &mut HashMap<Vec<u8>, KeyRow>, key: &Key)
-    ensures { RowChanges (with_current None) key.now rows.old rows.new }
+    ensures changes { RowChanges (with_current None) key.now rows.old rows.new }
+    ensures tidy { IsTidyAt rows.new key.now }
 {
-    if let Some(row) = rows.get_mut(key.bytes.as_slice()) {
-        row.current = None;
+    let bytes = key.bytes.as_slice();
+    let Some(row) = rows.get_mut(bytes) else {
+        return;
+    };
+    row.current = None;
+    if row.says_nothing() {
+        rows.remove(bytes);
     }
 }
 
@@ -152,25 +175,4 @@ pub(crate) fn make_current_in(
     };
     rows.insert(bytes, row)?;
     Ok(())
-}
-
-/// Whether nothing is kept.
-fn says_nothing(rows: &HashMap<Vec<u8>, KeyRow>, key: &Key) -> bool
-    ensures value { result ≡ is_nothing (rows_of rows.now key.now) }
-    ensures nothing { OnTrue result (rows_of rows.now key.now ≡ nothing) }
-{
-    match row_in(rows, key) {
-        Some(row) => row.line.is_empty() && row.current.is_none(),
-        None => true,
-    }
-}
-
-/// A row that says nothing goes. The others stay.
-pub(crate) fn tidy_in(rows: &mut HashMap<Vec<u8>, KeyRow>, key: &Key)
-    ensures changes { RowChanges (λ kept. kept) key.now rows.old rows.new }
-    ensures tidy { IsTidyAt rows.new key.now }
-{
-    if says_nothing(rows, key) {
-        rows.remove(key.bytes.as_slice());
-    }
 }
